@@ -1,0 +1,39 @@
+-- What a device tells.
+use Rattle.std.specs.Prelude.{ℕ, ◌+◌, Bool, false, List, ◌++◌, Option, option_map}
+use Rattle.device_port.specs.declared.device.Mode.{Mode}
+
+-- a path and what is done there
+pub record Place : Type 0 where
+  pub path : List ℕ
+  pub mode : Mode
+
+-- `present` says whether the path was there when the device was made; `at` is where it reads on
+pub record DeviceTold : Type 0 where
+  pub number : ℕ
+  pub place : Place
+  pub present : Option Bool
+  pub content : Option (List ℕ)
+  pub at : ℕ
+  pub written : Option (List ℕ)
+  pub is_open : Bool
+  pub opens : ℕ
+  pub closes : ℕ
+  pub open_faults : ℕ
+  pub read_faults : ℕ
+  pub write_faults : ℕ
+  pub close_faults : ℕ
+
+abbrev pub faults_of : DeviceTold → ℕ
+faults_of d = d.open_faults + d.read_faults + d.write_faults + d.close_faults
+
+-- n bytes further
+abbrev pub moved : ℕ → DeviceTold → DeviceTold
+moved n d = record d { at = d.at + n }
+
+-- these bytes behind what was written
+abbrev pub with_written : DeviceTold → List ℕ → DeviceTold
+with_written d bytes = record d { written = option_map (λ w. w ++ bytes) d.written }
+
+-- closed once more
+abbrev pub shut : DeviceTold → DeviceTold
+shut d = record d { is_open = false; closes = d.closes + 1 }

@@ -1,0 +1,21 @@
+//! The outside of a run as traits: what is read, what is written, where devices come from.
+//!
+//! Contracts see each object by one record of what it tells: counts of its faults, which never
+//! fall, and contents where it tells them. A real file tells no content.
+#![tactic(auto)]
+
+pub mod depot;
+pub mod device;
+pub mod gate;
+pub mod sink;
+pub mod source;
+
+pub use depot::Depot;
+pub use device::{Device, Mode};
+pub use gate::{Gate, OpenGate};
+pub use sink::Sink;
+pub use source::Source;
+
+/// A call on the outside failed.
+#[derive(Clone, Copy, Debug, PartialEq, Eq)]
+pub struct Failed;

@@ -1,0 +1,8 @@
+//! The ledger: what the streams of a run did with their scopes, rows and leases, event by event.
+#![tactic(auto)]
+
+pub mod event;
+pub mod ledger;
+
+pub use event::{Event, StreamNo, What};
+pub use ledger::Ledger;
