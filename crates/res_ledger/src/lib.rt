@@ -3,6 +3,8 @@
 
 pub mod event;
 pub mod ledger;
+mod texts;
 
 pub use event::{Event, StreamNo, What};
 pub use ledger::Ledger;
+pub use texts::text;
