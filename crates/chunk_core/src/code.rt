@@ -1,4 +1,5 @@
 //! Why a stream ended, and spans of rows.
+use std::fmt;
 
 /// What went wrong in a stream.
 #[derive(Clone, Copy, Debug, PartialEq, Eq)]
@@ -29,6 +30,30 @@ pub enum Code {
     Raised(u16),
 }
 
+impl fmt::Display for Code {
+    ghost use Rattle.std.specs.Prelude.{Some};
+    ghost use Rattle.chunk_core.specs.Texts.{code_text};
+
+    ghost output = { λ c. Some (code_text c) };
+
+    fn fmt<W: fmt::Write>(&self, f: &mut fmt::Formatter<W>) -> fmt::Result {
+        match *self {
+            Code::Open => f.write_str("open"),
+            Code::Read => f.write_str("read"),
+            Code::Write => f.write_str("write"),
+            Code::Endless => f.write_str("endless"),
+            Code::Malformed => f.write_str("malformed"),
+            Code::Truncated => f.write_str("truncated"),
+            Code::LongLine => f.write_str("longline"),
+            Code::Uneven => f.write_str("uneven"),
+            Code::NotUtf8 => f.write_str("notutf8"),
+            Code::NoField => f.write_str("nofield"),
+            Code::TooLarge => f.write_str("toolarge"),
+            Code::Raised(c) => write!(f, "raised {c}"),
+        }
+    }
+}
+
 /// How a stream ended.
 #[derive(Clone, Copy, Debug, PartialEq, Eq)]
 pub enum How {
@@ -40,6 +65,22 @@ pub enum How {
     Fault(Code),
     /// Memory was wanting.
     Memory,
+}
+
+impl fmt::Display for How {
+    ghost use Rattle.std.specs.Prelude.{Some};
+    ghost use Rattle.chunk_core.specs.Texts.{how_text};
+
+    ghost output = { λ how. Some (how_text how) };
+
+    fn fmt<W: fmt::Write>(&self, f: &mut fmt::Formatter<W>) -> fmt::Result {
+        match *self {
+            How::Done => f.write_str("done"),
+            How::Halted => f.write_str("halted"),
+            How::Fault(c) => write!(f, "fault {c}"),
+            How::Memory => f.write_str("memory"),
+        }
+    }
 }
 
 /// The rows from `from` to `to - 1`.
