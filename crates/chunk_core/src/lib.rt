@@ -1,10 +1,12 @@
 //! Values that everything above speaks of: lists, words, and the codes and ends of streams.
 #![tactic(auto)]
 
+pub mod chunk;
 pub mod code;
 pub mod list;
 pub mod word;
 
+pub use chunk::{Chunk, ChunkIter};
 pub use code::{Code, How, Span};
 pub use list::{Line, List, Row};
 pub use word::Word;

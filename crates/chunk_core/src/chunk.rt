@@ -1,0 +1,106 @@
+//! Windows on shared vectors.
+ghost use Rattle.std.specs.Prelude.{◌≡◌, ◌==◌, length, IfOk, slice_get};
+ghost use Rattle.std.specs.Iterator.{YieldsFirstRef, item_count};
+ghost use Rattle.std.specs.Option.{option_copied};
+
+use std::alloc::{AllocError, Global};
+use std::iter::FusedIterator;
+use std::marker::Model;
+use std::sync::Arc;
+
+/// A window on a vector that other chunks may share. Contracts see the list of its elements.
+#[derive(Drop)]
+pub struct Chunk<T> {
+    items: Arc<Vec<T>, Global>,
+    from: usize,
+    to: usize,
+}
+
+impl<T> Model for Chunk<T> {
+    ghost use Rattle.std.specs.Prelude.{List, length, slice_range, ◌≤◌};
+    ghost use Rattle.std.specs.Arc.{arc_value};
+
+    ghost Value = { List T };
+
+    ghost view = { λ chunk. slice_range (arc_value chunk.items).items chunk.from chunk.to };
+
+    ghost invariant = { λ chunk. (chunk.from ≤ chunk.to) × (chunk.to ≤ length (arc_value chunk.items).items) };
+}
+
+/// The elements of a chunk in order. Contracts see the list of those still to come.
+#[derive(Drop)]
+pub struct ChunkIter<'a, T> {
+    left: &'a [T],
+}
+
+impl<'a, T> Model for ChunkIter<'a, T> {
+    ghost use Rattle.std.specs.Prelude.{List};
+
+    ghost Value = { List T };
+
+    ghost view = { λ it. it.left.now };
+}
+
+impl<T> Chunk<T> {
+    /// The whole vector, without a copy. At want of memory the vector is dropped.
+    pub fn of_vec(alloc: Global, v: Vec<T>) -> Result<Chunk<T>, AllocError>
+    where
+        T: Drop,
+        ensures { IfOk result (λ chunk. chunk ≡ v.items) }
+    {
+        let to = v.len();
+        let items = Arc::new(alloc, v)?;
+        Ok(Chunk { items, from: 0, to })
+    }
+
+    pub fn len(&self) -> usize
+        ensures { result ≡ length self.now }
+    {
+        self.to - self.from
+    }
+
+    pub fn is_empty(&self) -> bool
+        ensures { result ≡ (length self.now == 0) }
+    {
+        self.from == self.to
+    }
+
+    /// The element at a place, from 0.
+    pub fn get(&self, i: usize) -> Option<&T>
+        ensures { option_copied result ≡ slice_get self.now i }
+    {
+        self.as_slice().get(i)
+    }
+
+    pub fn as_slice(&self) -> &[T]
+        ensures { result.now ≡ self.now }
+    {
+        let items: &Vec<T> = &self.items;
+        &items.as_slice()[self.from..self.to]
+    }
+
+    /// Each element in order.
+    pub fn iter(&self) -> ChunkIter<'_, T>
+        ensures { result ≡ self.now }
+    {
+        ChunkIter {
+            left: self.as_slice(),
+        }
+    }
+}
+
+impl<'a, T> Iterator for ChunkIter<'a, T> {
+    type Item = &'a T;
+
+    ghost next_gives = { YieldsFirstRef (λ left. left) };
+
+    ghost remaining = { item_count (λ left. left) };
+
+    fn next(&mut self) -> Option<&'a T> {
+        let (first, others) = self.left.split_first()?;
+        self.left = others;
+        Some(first)
+    }
+}
+
+impl<'a, T> FusedIterator for ChunkIter<'a, T> {}
