@@ -13,7 +13,7 @@ pub mod source;
 pub use depot::Depot;
 pub use device::{Device, Mode};
 pub use gate::{Gate, OpenGate};
-pub use sink::Sink;
+pub use sink::{Sink, put};
 pub use source::Source;
 
 /// A call on the outside failed.
