@@ -1,0 +1,6 @@
+//! The top call: what the words of a command line mean, the commands, and how a call ended.
+#![tactic(auto)]
+
+pub mod frame;
+
+pub use frame::put_frame;

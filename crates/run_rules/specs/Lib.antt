@@ -1,0 +1,5 @@
+pub mod Facts
+pub mod Work
+pub mod Devices
+pub mod Run
+pub mod Texts

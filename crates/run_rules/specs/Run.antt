@@ -1,0 +1,180 @@
+-- What the work below the top call promises: what its streams gave, how they ended, and that nothing is missing where nothing failed.
+use Rattle.std.specs.Prelude.{◌≡◌, ◌⊎◌, ℕ, ◌+◌, ◌<◌, Bool, true, false, ◌&&◌, ◌||◌, not, nat_eq, nat_lt, List, [], ◌∷◌, ◌++◌, map, length, Option, Some, None, IfSome}
+use Rattle.chunk_core.specs.Lists.{Each, One, any, all}
+use Rattle.chunk_core.specs.Texts.{Frame, frame_text, payloads_of}
+use Rattle.chunk_core.specs.Elements.{Element, rendering_of}
+use Rattle.chunk_core.specs.Outcomes.{End, Done, Fault, Cut}
+use Rattle.chunk_core.specs.declared.code.Code.{Code}
+use Rattle.chunk_core.specs.declared.code.Code.TheVariants as code
+use Rattle.chunk_core.specs.declared.code.How.{How}
+use Rattle.chunk_core.specs.declared.code.How.TheVariants as how
+use Rattle.res_ledger.specs.declared.event.StreamNo.{StreamNo}
+use Rattle.res_ledger.specs.declared.event.StreamNo.TheVariants.{Outer, Inner}
+use Rattle.res_ledger.specs.declared.event.What.{What}
+use Rattle.res_ledger.specs.declared.event.What.TheVariants.{Open, Acquire, Lease, Cancel, Close, Final}
+use Rattle.res_ledger.specs.declared.event.Event.{Event}
+use Rattle.device_port.specs.Device.{Place, DeviceTold, faults_of}
+use Rattle.device_port.specs.Depot.{content_at}
+use Rattle.run_rules.specs.declared.end.EndOf.{EndOf}
+use Rattle.run_rules.specs.Facts.{is_stream, is_place, at, below, is_fault, is_halted, is_memory, is_over, is_failed, is_root_close, acquired_row, leased_stream, has, events_of}
+use Rattle.run_rules.specs.Work.{Work, Stream, Deed, places_of, names_of, owners_of}
+use Rattle.run_rules.specs.Devices.{DevicesAccounted, came_back}
+
+-- The rows: each has one device, its home.
+
+-- the device came back in the run
+abbrev pub IsBack : Deed → DeviceTold → Type 0
+IsBack c d = One (λ x. x ≡ d) (came_back c.depot_old c.depot_new)
+
+-- no device was made for the row, and nothing was done on it
+pub record IsBlank (d : DeviceTold) : Type 0 where
+  pub opens : d.opens ≡ 0
+  pub at : d.at ≡ 0
+  pub written : IfSome d.written (λ w. w ≡ [])
+  pub faults : faults_of d ≡ 0
+
+-- the rows from r on have these places, and their contents are those of the files at the start
+abbrev pub AreAtHome : Deed → (ℕ → DeviceTold) → ℕ → List Place → Type 0
+AreAtHome c w r [] = Unit {0}
+AreAtHome c w r (p ∷ ps) =
+    ((w r).place ≡ p) × ((w r).content ≡ content_at c.depot_old.files p.path) × (IsBack c (w r) ⊎ IsBlank (w r)) × AreAtHome c w (r + 1) ps
+
+-- something was tried on the device
+abbrev pub is_tried : DeviceTold → Bool
+is_tried d = nat_lt 0 (d.opens + d.open_faults)
+
+-- no device that was tried stands twice
+abbrev pub are_apart : List DeviceTold → Bool
+are_apart [] = true
+are_apart (d ∷ ds) = (not (is_tried d) || all (λ x. not (is_tried x && nat_eq x.number d.number)) ds) && are_apart ds
+
+-- a row that is acquired is one whose device was opened, and its Final is ok where no close of its device failed
+abbrev pub IsTied : (ℕ → DeviceTold) → What → Type 0
+IsTied w (Acquire r s) = (w r).opens ≡ 1
+IsTied w (Final r ok) = ok ≡ nat_eq (w r).close_faults 0
+IsTied w (Open s p) = Unit {0}
+IsTied w (Lease j s) = Unit {0}
+IsTied w (Cancel j) = Unit {0}
+IsTied w (Close s) = Unit {0}
+
+pub record HaveHomes (work : Work) (c : Deed) (w : ℕ → DeviceTold) : Type 0 where
+  pub at_home : AreAtHome c w 0 (places_of work)
+  pub apart : are_apart (map w (below (length (places_of work)))) ≡ true
+  pub tied : Each (λ e. IsTied w e.what) c.events
+
+-- The outputs.
+
+-- the end of a run, as it is reported
+abbrev pub IsReported : End → How → Type 0
+IsReported Done h = h ≡ how.Done
+IsReported (Fault c) h = h ≡ how.Fault c
+IsReported Cut h = (h ≡ how.Halted) ⊎ (h ≡ how.Memory)
+
+-- what was printed of stream k renders a run with the end that is reported
+pub record IsOutput (work : Work) (w : ℕ → DeviceTold) (F : List Frame) (k : ℕ) (h : How) : Type 0 where
+  pub elements : List Element
+  pub end : End
+  pub run : work.runs k w elements end
+  pub printed : payloads_of k F ≡ rendering_of elements
+  pub reported : IsReported end h
+
+-- each stream from k on has its output
+abbrev pub AreOutputs : Work → (ℕ → DeviceTold) → List Frame → ℕ → List Stream → List EndOf → Type 0
+AreOutputs work w F k [] es = es ≡ []
+AreOutputs work w F k (s ∷ ss) [] = ⊥
+AreOutputs work w F k (s ∷ ss) (e ∷ es) = IsOutput work w F k e.how × AreOutputs work w F (k + 1) ss es
+
+-- the payload b goes on with a run of stream k
+abbrev pub Continues : Work → (ℕ → DeviceTold) → List Frame → ℕ → List ℕ → Type 0
+Continues work w F k b = (k < length work.streams) × (elements : List Element) × work.runs k w elements Cut × (payloads_of k F ++ b ≡ rendering_of elements)
+
+-- a proper front of one further frame, whose payload goes on with a run
+abbrev pub IsCutFrame : Work → (ℕ → DeviceTold) → List Frame → List ℕ → Type 0
+IsCutFrame work w F rest =
+    (k : ℕ) × (b more : List ℕ) × (rest ++ more ≡ frame_text k b) × (0 < length more) × (0 < length b) × Continues work w F k b
+
+pub record HaveOutputs (work : Work) (c : Deed) (w : ℕ → DeviceTold) : Type 0 where
+  pub numbers : Each (λ f. (f.stream < length work.streams) × (0 < length f.payload)) c.frames
+  pub outputs : AreOutputs work w c.frames 0 work.streams c.ends
+  pub cut : (c.rest ≡ []) ⊎ ((c.unwritten ≡ true) × IsCutFrame work w c.frames c.rest)
+
+-- The ends.
+
+-- why a stream may be halted: a write failed, memory was wanting, or a stream failed
+abbrev pub HasCauseToHalt : Deed → Type 0
+HasCauseToHalt c = (c.unwritten ≡ true) ⊎ (c.memory ≡ true) ⊎ (any (λ e. is_fault e.how) c.ends ≡ true)
+
+-- the count of the act that a fault names; a fault of another kind has no count
+abbrev pub count_of : Code → DeviceTold → ℕ
+count_of code.Open d = d.open_faults
+count_of code.Read d = d.read_faults
+count_of code.Write d = d.write_faults
+count_of _ d = 1
+
+-- a fault of an act is shown by a device that was made in the run for one of the places
+abbrev pub is_shown : List DeviceTold → List Place → How → Bool
+is_shown ds ps (how.Fault c) = any (λ d. any (is_place d.place) ps && nat_lt 0 (count_of c d)) ds
+is_shown ds ps how.Done = true
+is_shown ds ps how.Halted = true
+is_shown ds ps how.Memory = true
+
+-- the places of one stream's rows
+abbrev pub places_by : Work → StreamNo → List Place
+places_by work Outer = []
+places_by work (Inner k) = elim (at work.streams k) [ Some s ↦ s.places | None ↦ [] ]
+
+-- the end comes by its cause, and a stream that ended by itself closed its root
+pub record IsCaused (work : Work) (c : Deed) (e : EndOf) : Type 0 where
+  pub halted : is_halted e.how ≡ true → HasCauseToHalt c
+  pub fault : is_shown (came_back c.depot_old c.depot_new) (places_by work e.who) e.how ≡ true
+  pub root : is_over e.how ≡ true → has is_root_close (events_of e.who c.events) ≡ true
+
+pub record HaveEnds (work : Work) (c : Deed) : Type 0 where
+  pub named : map (λ e. e.who) c.ends ≡ names_of work
+  pub caused : Each (IsCaused work c) c.ends
+  pub memory : any (λ e. is_memory e.how) c.ends ≡ true → c.memory ≡ true
+
+-- Completeness.
+
+-- no write failed, no device failed, and over these contents each stream's ideal runs end by themselves without a fault
+pub record NothingFailed (work : Work) (c : Deed) (w : ℕ → DeviceTold) : Type 0 where
+  pub written : c.unwritten ≡ false
+  pub devices : Each (λ d. faults_of d ≡ 0) (came_back c.depot_old c.depot_new)
+  pub ideal : Each
+    (λ k. (v : ℕ → DeviceTold) (ys : List Element) (e : End) → ((r : ℕ) → (faults_of (v r) ≡ 0) × ((v r).content ≡ (w r).content)) → work.ideal_runs k v ys e → e ≡ Done)
+    (below (length work.streams))
+
+-- each stream is done, no finalizer failed, and what was printed of each stream renders an ideal run
+pub record IsWhole (work : Work) (c : Deed) (w : ℕ → DeviceTold) : Type 0 where
+  pub done : Each (λ e. e.how ≡ how.Done) c.ends
+  pub clean : has is_failed c.events ≡ false
+  pub output : Each (λ k. (ys : List Element) × work.ideal_runs k w ys Done × (payloads_of k c.frames ≡ rendering_of ys)) (below (length work.streams))
+
+-- The run.
+
+-- no seat could be made
+pub record IsUnmade (c : Deed) : Type 0 where
+  pub memory : c.memory ≡ true
+  pub ends : c.ends ≡ []
+  pub events : c.events ≡ []
+  pub frames : c.frames ≡ []
+  pub rest : c.rest ≡ []
+
+pub record Ran (work : Work) (c : Deed) : Type 0 where
+  pub home : ℕ → DeviceTold
+  pub rows : HaveHomes work c home
+  pub outputs : HaveOutputs work c home
+  pub ends : HaveEnds work c
+  pub completeness : c.memory ≡ false → NothingFailed work c home → IsWhole work c home
+
+-- an event is by a stream of the work, leases for one of them, and acquires a row of its own stream
+abbrev pub is_named : List StreamNo → Option ℕ → Bool
+is_named names None = true
+is_named names (Some j) = any (is_stream (Inner j)) names
+
+abbrev pub is_owned : List StreamNo → StreamNo → Option ℕ → Bool
+is_owned owners k None = true
+is_owned owners k (Some r) = elim (at owners r) [ Some q ↦ is_stream q k | None ↦ false ]
+
+abbrev pub is_ours : Work → Event → Bool
+is_ours work e = any (is_stream e.by) (names_of work) && (is_named (names_of work) (leased_stream e.what) && is_owned (owners_of work) e.by (acquired_row e.what))
