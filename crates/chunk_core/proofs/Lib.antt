@@ -1,1 +1,4 @@
 pub mod Members
+pub mod Cuts
+pub mod Filters
+pub mod Places
