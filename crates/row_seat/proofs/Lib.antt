@@ -1,0 +1,16 @@
+pub mod Members
+pub mod Hands
+pub mod Totals
+pub mod Times
+pub mod Changes
+pub mod Pigeonholes
+pub mod Rows
+pub mod Parts
+pub mod Tick
+pub mod Ticked
+pub mod Moves
+pub mod Splits
+pub mod Joins
+pub mod Ends
+mod Sitting
+mod Starts

@@ -1,0 +1,215 @@
+-- The whole rule under a tick.
+use Rattle.std.proofs.Common.{◌≡◌, ◌≢◌, ℕ, ◌-◌, ◌≤◌, Bool, true, false, map, List, [], ◌∷◌, ◌++◌, length, slice_set, inl, inr, refl, sym, ap, ◌∙◌, subst, ⊎_elim, arith}
+use Rattle.std.specs.Prelude.{Option}
+use Rattle.res_ledger.specs.declared.event.What.TheVariants.{Acquire, Cancel, Close, Final, Lease, Open}
+use Rattle.row_seat.specs.Totals.{At, row_times, times}
+use Rattle.row_seat.specs.Rule.{Book, Books, Deed, Deeds, Hold, Leases, Pays, Rows, Rule, Seats, Work, book, deed, hold, leases, purse, seen, who, work}
+use Rattle.res_ledger.specs.declared.event.Event.{Event}
+use Rattle.chunk_core.specs.Lists.{IsAmong}
+use Rattle.res_ledger.specs.Ledger.{IsClosed, IsHanded, IsUsable, MayFollow, Notes}
+use Rattle.row_seat.specs.Views.{MayNote}
+use Rattle.row_seat.specs.declared.token.Token.{Token}
+use Rattle.res_ledger.specs.declared.event.What.{What}
+use Rattle.res_ledger.proofs.Ledgers.{acquire_row, closed_map, covered_map, inner_is, lease_other, noted_own, usable_map}
+use Rattle.row_seat.proofs.Members.{among_without}
+use Rattle.chunk_core.proofs.Places.{at_map, set_again}
+use Rattle.res_ledger.specs.Streams.{by_stream}
+use Rattle.row_seat.proofs.Tick.{cancel_leases, final_pays, final_rows, is_handed, is_inside, lease_leases, one_empty, tick_books, tick_deeds, tick_leases, tick_pays, tick_rows, tick_seats}
+use Rattle.row_seat.proofs.Totals.{each, map_back, map_put, total_at, total_one}
+use Rattle.row_seat.specs.Steps.{noted}
+use Rattle.row_seat.proofs.Times.{row_some, times_some}
+
+pub keep : {W : Type 0} (X : List W → Type 0) (ws : List W) (id : ℕ) (b : W) → At ws id b → X ws → X (slice_set ws id b)
+keep X ws id b at x = subst X (sym (set_again ws id b at)) x
+
+open_acquire : (s p r t : ℕ) → Open s p ≢ Acquire r t
+open_acquire s p r t h = cc
+
+close_acquire : (s r t : ℕ) → Close s ≢ Acquire r t
+close_acquire s r t h = cc
+
+lease_acquire : (j s r t : ℕ) → Lease j s ≢ Acquire r t
+lease_acquire j s r t h = cc
+
+cancel_acquire : (j r t : ℕ) → Cancel j ≢ Acquire r t
+cancel_acquire j r t h = cc
+
+final_acquire : (q : ℕ) (ok : Bool) (r t : ℕ) → Final q ok ≢ Acquire r t
+final_acquire q ok r t h = cc
+
+pub live_not : {b : Bool} → b ≡ true → b ≡ false → ⊥
+live_not t f = let e = sym t ∙ f in cc
+
+module _ {P : Type 0} (rows room : ℕ) (word : ℕ → ℕ) (slot : ℕ → Option P) (log : List Event) (views : List (Token P)) (id : ℕ) (w : Token P) where
+  -- the rule from its parts, where one view is new
+  pub rule_put : Seats log (slice_set (map who views) id (who w)) → Books room log (slice_set (map book views) id (book w)) → Rows rows word log (slice_set (map work views) id (work w))
+      → Deeds log (slice_set (map deed views) id (deed w)) → Leases log (slice_set (map hold views) id (hold w)) → Pays word slot log (slice_set (map purse views) id (purse w))
+      → ((i : ℕ) (v : Token P) → At (slice_set views id w) i v → v.live ≡ false → (v.empty ≡ []) × (v.opened ≡ []) × (v.pairs ≡ []) × (v.kept ≡ []) × (v.handed ≡ []) × (v.given ≡ []) × (v.left ≡ []) × (v.events ≡ []))
+      → Rule rows room word slot log (slice_set views id w)
+  rule_put a b c d e f g = record {
+    seats = subst (λ l. Seats log l) (sym (map_put who views id w)) a;
+    books = subst (λ l. Books room log l) (sym (map_put book views id w)) b;
+    words = subst (λ l. Rows rows word log l) (sym (map_put work views id w)) c;
+    deeds = subst (λ l. Deeds log l) (sym (map_put deed views id w)) d;
+    leases = subst (λ l. Leases log l) (sym (map_put hold views id w)) e;
+    pays = subst (λ l. Pays word slot log l) (sym (map_put purse views id w)) f;
+    spent = g;
+  }
+
+module _ {P : Type 0} (rows room : ℕ) (word : ℕ → ℕ) (slot : ℕ → Option P) (log : List Event) (views : List (Token P)) (rule : Rule rows room word slot log views) (id : ℕ) (v : Token P) (at : At views id v) (live : v.live ≡ true) where
+  pub spent_put : (w : Token P) → w.live ≡ true → (i : ℕ) (u : Token P) → At (slice_set views id w) i u → u.live ≡ false → (u.empty ≡ []) × (u.opened ≡ []) × (u.pairs ≡ []) × (u.kept ≡ []) × (u.handed ≡ []) × (u.given ≡ []) × (u.left ≡ []) × (u.events ≡ [])
+  spent_put w l = each views id w (λ i u. u.live ≡ false → (u.empty ≡ []) × (u.opened ≡ []) × (u.pairs ≡ []) × (u.kept ≡ []) × (u.handed ≡ []) × (u.given ≡ []) × (u.left ≡ []) × (u.events ≡ [])) (λ d. absurd (live_not l d)) (λ i u ne g. rule.spent i u g)
+
+  pub at_who : At (map who views) id (who v)
+  at_who = at_map who views id v at
+
+  pub at_book : At (map book views) id (book v)
+  at_book = at_map book views id v at
+
+  pub at_work : At (map work views) id (work v)
+  at_work = at_map work views id v at
+
+  pub at_deed : At (map deed views) id (deed v)
+  at_deed = at_map deed views id v at
+
+  pub at_hold : At (map hold views) id (hold v)
+  at_hold = at_map hold views id v at
+
+  pub at_purse : At (map purse views) id (purse v)
+  at_purse = at_map purse views id v at
+
+  pub own_is : by_stream v.by v.events ≡ by_stream v.by log
+  own_is = rule.books.own id (book v) at_book live
+
+  -- this stream's events are this view's
+  pub back : (w : What) → Notes log v.by w → Notes v.events v.by w
+  back = noted_own v.by log v.events (sym own_is)
+
+  pub forth : (w : What) → Notes v.events v.by w → Notes log v.by w
+  forth = noted_own v.by v.events log own_is
+
+  pub closed_back : (s : ℕ) → IsClosed log v.by s → IsClosed v.events v.by s
+  closed_back = closed_map log v.events v.by back
+
+  pub closed_forth : (s : ℕ) → IsClosed v.events v.by s → IsClosed log v.by s
+  closed_forth = closed_map v.events log v.by forth
+
+  pub usable : (s : ℕ) → IsUsable v.events v.by s → IsUsable log v.by s
+  usable s u = usable_map v.events log v.by forth s closed_back u
+
+  -- the row has no pair where it is handed
+  no_pair : (j r i : ℕ) (h : Hold) → At (map hold views) i h → IsAmong (j, r) h.pairs → leases r (map work views) ≡ 0 → ⊥
+  no_pair j r i h g m none =
+      let t = map_back hold views i h g in
+      let l = total_at (λ (u : Work). row_times r u.pairs) (map work views) i (work t.0) (at_map work views i t.0 t.1) in
+      let s = row_some j r t.0.pairs (subst (λ (x : Hold). IsAmong (j, r) x.pairs) (sym t.2) m) in omega arith
+
+  pub handed_log : (r : ℕ) → IsAmong r v.handed → IsHanded log r
+  handed_log r m =
+      let l = total_at (λ (u : Work). times r u.handed) (map work views) id (work v) at_work in
+      let s = times_some r v.handed m in
+      let t = is_handed (rule.words r) (omega arith) in
+      (t.1, (λ j k c. ⊎_elim (λ x. x) (λ x. absurd (no_pair j r x.0 x.1 x.2 x.3 t.0)) (rule.leases.stand j r k c)), t.2)
+
+  pub one_right : (r i : ℕ) (u : Token P) → At views i u → IsAmong r v.empty → IsAmong r u.empty → i ≡ id
+  one_right r i u g m n = total_one (λ (u : Work). times r u.empty) (map work views) i id (work u) (work v) (one_empty (rule.words r)) (at_map work views i u g) at_work (times_some r u.empty n) (times_some r v.empty m)
+
+  module _ (hands : List (ℕ × P)) where
+    -- each event meets its condition on all events
+    pub meets : (w : What) → MayNote (seen v hands) w → MayFollow log v.by w
+    meets (Open s p) m = (m.0, (λ o. m.1 (o.0, back (Open s o.0) o.1)), usable p m.2)
+    meets (Acquire r s) m = ((λ a. m.1 (a.0, a.1, rule.deeds.fresh id r a.1 a.0 (deed v) at_deed m.0 a.2)), usable s m.2)
+    meets (Lease j s) m = (
+      (λ l. m.3 (v.by, l.1, back (Lease j l.1) (subst (λ k. Notes log k (Lease j l.1)) (rule.leases.by_main id j l.1 l.0 (hold v) at_hold m.0 l.2) l.2))),
+      m.1,
+      usable s m.4,
+    )
+    meets (Cancel j) m =
+        let k = rule.leases.kept id j (hold v) at_hold m.0 in (
+          k.0,
+          k.1,
+          ⊎_elim
+              (λ a. let by = rule.leases.by_main id j k.0.1 k.0.0 (hold v) at_hold a.0 k.0.2 in
+              let n : Notes log v.by (Lease j k.0.1) = subst (λ q. Notes log q (Lease j k.0.1)) by k.0.2 in
+              inr ((k.0.1, n), λ e h is. let t = rule.seats.noted id (who v) e at_who a.0 h (λ s. lease_other log j k.0.1 v.by rule.books.legal n (sym s ∙ is)) in a.1 (subst (λ x. IsAmong x v.had) (inner_is t.0 j (sym t.1 ∙ is)) t.2)))
+              (λ b. inl (b, λ r s n. let f = m.1 b r s (back (Acquire r s) n) in (f.0, f.1, (f.2.0, rule.books.inside id (book v) f.2.0 at_book f.2.1, f.2.2, f.2.3))))
+              k.2,
+        )
+    meets (Close s) m = usable s m
+    meets (Final r ok) m = (handed_log r m.1, rule.deeds.handed id r (deed v) at_deed m.1)
+
+module _ {P : Type 0} (rows room : ℕ) (word : ℕ → ℕ) (slot : ℕ → Option P) (log : List Event) (views : List (Token P)) (rule : Rule rows room word slot log views) (id : ℕ) (v : Token P) (at : At views id v) (live : v.live ≡ true)
+    (sp : 1 ≤ v.spare) (hands : List (ℕ × P)) where
+  apart : (i : ℕ) (u : Book) → i ≢ id → At (map book views) i u → u.live ≡ true → u.by ≢ v.by
+  apart i u ne g l e =
+      let t = map_back book views i u g in
+      ne (rule.seats.names i id (who t.0) (who v) (at_map who views i t.0 t.1) (at_who rows room word slot log views rule id v at live) (ap (λ (x : Book). x.live) t.2 ∙ l) live (ap (λ (x : Book). x.by) t.2 ∙ e))
+
+  only_main : v.main ≡ true → (i : ℕ) (u : Hold) → At (map hold views) i u → u.main ≡ true → i ≡ id
+  only_main m i u g n =
+      let t = map_back hold views i u g in
+      rule.seats.one i id (who t.0) (who v) (at_map who views i t.0 t.1) (at_who rows room word slot log views rule id v at live) (ap (λ (x : Hold). x.main) t.2 ∙ n) m
+
+  new_books : (x : What) → MayNote (seen v hands) x → let e : Event = record { stamp = length log; by = v.by; what = x } in let b : Book = record { live = v.live; main = v.main; by = v.by; events = v.events ++ e ∷ []; floor = v.floor; spare = v.spare - 1 } in Books room (log ++ e ∷ []) (slice_set (map book views) id b)
+  new_books x may = let e : Event = record { stamp = length log; by = v.by; what = x } in
+      tick_books log e room (map book views) rule.books id (book v) (at_book rows room word slot log views rule id v at live) live sp refl refl (meets rows room word slot log views rule id v at live hands x may) apart
+
+  new_seats : (x : What) → let e : Event = record { stamp = length log; by = v.by; what = x } in Seats (log ++ e ∷ []) (slice_set (map who views) id (who v))
+  new_seats x = let e : Event = record { stamp = length log; by = v.by; what = x } in let g = at_who rows room word slot log views rule id v at live in
+      keep (λ l. Seats (log ++ e ∷ []) l) (map who views) id (who v) g (tick_seats log e (map who views) rule.seats id (who v) g live refl)
+
+  -- an event of no row is nobody's Acquire
+  new_deeds : (x : What) (d : Deed) → d.by ≡ v.by → d.events ≡ v.events ++ record { stamp = length log; by = v.by; what = x } ∷ [] → d.empty ≡ v.empty → d.opened ≡ v.opened → ((r : ℕ) → IsAmong r d.handed → IsAmong r v.handed) → ((r s : ℕ) → x ≡ Acquire r s → IsAmong r v.empty)
+      → Deeds (log ++ record { stamp = length log; by = v.by; what = x } ∷ []) (slice_set (map deed views) id d)
+  new_deeds x d by events empty opened handed mine = let e : Event = record { stamp = length log; by = v.by; what = x } in
+      tick_deeds log e (map deed views) rule.deeds id (deed v) d (at_deed rows room word slot log views rule id v at live) by events empty opened handed
+      (λ i r s u ne g m is. let t = map_back deed views i u g in ne (one_right rows room word slot log views rule id v at live r i t.0 t.1 (mine r s is) (subst (λ (y : Deed). IsAmong r y.empty) (sym t.2) m)))
+
+  new_rows : (x : What) → ((r : ℕ) (ok : Bool) → x ≢ Final r ok) → ((r s : ℕ) → x ≡ Acquire r s → IsAmong r v.empty) → Rows rows word (log ++ record { stamp = length log; by = v.by; what = x } ∷ []) (slice_set (map work views) id (work v))
+  new_rows x no_final mine = let e : Event = record { stamp = length log; by = v.by; what = x } in let g = at_work rows room word slot log views rule id v at live in
+      keep (λ l. Rows rows word (log ++ e ∷ []) l) (map work views) id (work v) g
+      (tick_rows log e rows word (map work views) rule.words no_final (λ r s is. let l = total_at (λ (u : Work). times r u.empty) (map work views) id (work v) g in let t = times_some r v.empty (mine r s is) in is_inside (rule.words r) (omega arith)))
+
+  new_pays : (x : What) → ((r : ℕ) (ok : Bool) → x ≢ Final r ok) → Pays word slot (log ++ record { stamp = length log; by = v.by; what = x } ∷ []) (slice_set (map purse views) id (purse v))
+  new_pays x no_final = let e : Event = record { stamp = length log; by = v.by; what = x } in
+      keep (λ l. Pays word slot (log ++ e ∷ []) l) (map purse views) id (purse v) (at_purse rows room word slot log views rule id v at live) (tick_pays log e word slot (map purse views) rule.pays no_final)
+
+  new_leases : (x : What) → ((j s : ℕ) → x ≢ Lease j s) → ((j : ℕ) → x ≢ Cancel j) → Leases (log ++ record { stamp = length log; by = v.by; what = x } ∷ []) (slice_set (map hold views) id (hold v))
+  new_leases x no_lease no_cancel = let e : Event = record { stamp = length log; by = v.by; what = x } in
+      keep (λ l. Leases (log ++ e ∷ []) l) (map hold views) id (hold v) (at_hold rows room word slot log views rule id v at live) (tick_leases log e (map hold views) rule.leases no_lease no_cancel)
+
+  -- an event that changes no row and no lease
+  plain_tick : (x : What) → MayNote (seen v hands) x → ((r : ℕ) (ok : Bool) → x ≢ Final r ok) → ((r s : ℕ) → x ≡ Acquire r s → IsAmong r v.empty) → ((j s : ℕ) → x ≢ Lease j s) → ((j : ℕ) → x ≢ Cancel j)
+      → let e : Event = record { stamp = length log; by = v.by; what = x } in let w : Token P = record v { events = v.events ++ e ∷ []; spare = v.spare - 1 } in Rule rows room word slot (log ++ e ∷ []) (slice_set views id w)
+  plain_tick x may no_final mine no_lease no_cancel = let e : Event = record { stamp = length log; by = v.by; what = x } in let w : Token P = record v { events = v.events ++ e ∷ []; spare = v.spare - 1 } in
+      rule_put rows room word slot (log ++ e ∷ []) views id w (new_seats x) (new_books x may) (new_rows x no_final mine) (new_deeds x (deed w) refl refl refl refl (λ r m. m) mine) (new_leases x no_lease no_cancel) (new_pays x no_final)
+      (spent_put rows room word slot log views rule id v at live w live)
+
+  -- every tick keeps the rule
+  pub tick_keeps : (x : What) → MayNote (seen v hands) x → let e : Event = record { stamp = length log; by = v.by; what = x } in Rule rows room word slot (log ++ e ∷ []) (slice_set views id (noted v e))
+  tick_keeps (Open s p) may = plain_tick (Open s p) may (λ r ok h. cc) (λ r t h. absurd (open_acquire s p r t h)) (λ j t h. cc) (λ j h. cc)
+  tick_keeps (Acquire r s) may = plain_tick (Acquire r s) may (λ q ok h. cc) (λ q t h. subst (λ n. IsAmong n v.empty) (acquire_row r s q t h) may.0) (λ j t h. cc) (λ j h. cc)
+  tick_keeps (Close s) may = plain_tick (Close s) may (λ q ok h. cc) (λ q t h. absurd (close_acquire s q t h)) (λ j t h. cc) (λ j h. cc)
+  tick_keeps (Lease j s) may =
+      let x = Lease j s in let e : Event = record { stamp = length log; by = v.by; what = x } in let w : Token P = noted v e in
+      let m = meets rows room word slot log views rule id v at live hands x may in
+      rule_put rows room word slot (log ++ e ∷ []) views id w (new_seats x) (new_books x may) (new_rows x (λ q ok h. cc) (λ q t h. absurd (lease_acquire j s q t h))) (new_deeds x (deed w) refl refl refl refl (λ r m. m) (λ q t h. absurd (lease_acquire j s q t h)))
+      (lease_leases log e (map hold views) rule.leases id j s (hold v) (at_hold rows room word slot log views rule id v at live) may.0 (only_main may.0) rule.books.legal refl refl m.0 may.2
+      (λ r. (
+        (λ a. covered_map v.events log v.by (forth rows room word slot log views rule id v at live) s r (closed_back rows room word slot log views rule id v at live) ((may.5 r).0 a)),
+        (λ c. (may.5 r).1 (covered_map log v.events v.by (back rows room word slot log views rule id v at live) s r (closed_forth rows room word slot log views rule id v at live) c)),
+      )))
+      (new_pays x (λ q ok h. cc)) (spent_put rows room word slot log views rule id v at live w live)
+  tick_keeps (Cancel j) may =
+      let x = Cancel j in let e : Event = record { stamp = length log; by = v.by; what = x } in let w : Token P = noted v e in
+      rule_put rows room word slot (log ++ e ∷ []) views id w (new_seats x) (new_books x may) (new_rows x (λ q ok h. cc) (λ q t h. absurd (cancel_acquire j q t h))) (new_deeds x (deed w) refl refl refl refl (λ r m. m) (λ q t h. absurd (cancel_acquire j q t h)))
+      (cancel_leases log e (map hold views) rule.leases id j (hold v) (at_hold rows room word slot log views rule id v at live) refl may.0)
+      (new_pays x (λ q ok h. cc)) (spent_put rows room word slot log views rule id v at live w live)
+  tick_keeps (Final r ok) may =
+      let x = Final r ok in let e : Event = record { stamp = length log; by = v.by; what = x } in let w : Token P = noted v e in
+      rule_put rows room word slot (log ++ e ∷ []) views id w (new_seats x) (new_books x may)
+      (final_rows log e rows word (map work views) rule.words id r ok (work v) (at_work rows room word slot log views rule id v at live) refl may.1)
+      (new_deeds x (deed w) refl refl refl refl (λ q m. (among_without r v.handed q m).0) (λ q t h. absurd (final_acquire r ok q t h)))
+      (new_leases x (λ j t h. cc) (λ j h. cc))
+      (final_pays log e word slot (map purse views) rule.pays id r ok (purse v) (at_purse rows room word slot log views rule id v at live) refl may.1)
+      (spent_put rows room word slot log views rule id v at live w live)

@@ -1,0 +1,17 @@
+use Rattle.std.proofs.Common.{◌≡◌, slice_set, refl, sym, ap, ◌∙◌}
+use Rattle.row_seat.proofs.Sitting.{join_others, join_sits}
+use Rattle.row_seat.specs.Steps.{joined, spent}
+use Rattle.row_seat.specs.PlainSeats.{rows_of}
+use Rattle.row_seat.proofs.plain.PlainSeatRowSeat.join.Goals as goal
+
+pub returns-clause-fits : goal.returns-clause-fits
+returns-clause-fits g c = let s = c.args.self.now in let o = c.args.other in let d = c.args.desk.now in let f = c.requires.fits in let can = c.requires.can in
+    let rest = can.2 in
+    let views : c.put.result.inner.ask ≡ slice_set (slice_set d.views.inner.ask s.id.inner.ask (joined s.token.inner.ask o.token.inner.ask)) o.id.inner.ask (spent o.token.inner.ask) = rw (c.put.ensures, c.put-views.ensures, c.step.ensures, c.know-spent.ensures) refl in
+    join_sits s o d f.0 f.1 can.0 can.1.0 can.1.1 can.1.2 (sym f.1.held ∙ ap rows_of rest.0) rest.2 rest.3 rest.4 _ views refl refl refl c.step.result c.step.ensures
+
+pub returns-clause-others : goal.returns-clause-others
+returns-clause-others g c = let s = c.args.self.now in let o = c.args.other in let d = c.args.desk.now in let f = c.requires.fits in let can = c.requires.can in
+    let rest = can.2 in
+    let views : c.put.result.inner.ask ≡ slice_set (slice_set d.views.inner.ask s.id.inner.ask (joined s.token.inner.ask o.token.inner.ask)) o.id.inner.ask (spent o.token.inner.ask) = rw (c.put.ensures, c.put-views.ensures, c.step.ensures, c.know-spent.ensures) refl in
+    join_others s o d f.0 f.1 can.0 can.1.0 can.1.1 can.1.2 (sym f.1.held ∙ ap rows_of rest.0) rest.2 rest.3 rest.4 _ views refl refl refl

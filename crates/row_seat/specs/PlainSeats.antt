@@ -1,0 +1,60 @@
+-- What contracts see of a plain seat and its table.
+use Rattle.std.specs.Prelude.{◌≡◌, ℕ, ◌+◌, ◌-◌, ◌<◌, ◌≤◌, ◌^◌, true, false, eqb, cond, map, List, [], ◌∷◌, length, None, Option, vec_capacity, vec_len, slice_index, slice_index_or}
+use Rattle.std.proofs.Common.{◌∙◌, ap, refl}
+use Rattle.std.specs.Vec.{with_item}
+use Rattle.row_seat.specs.Totals.{At, total}
+use Rattle.res_ledger.specs.declared.event.Event.{Event}
+use Rattle.chunk_core.specs.Lists.{IsAmong}
+use Rattle.row_seat.specs.declared.plain.PlainSeat.{PlainSeat}
+use Rattle.row_seat.specs.declared.plain.PlainTable.{PlainTable}
+use Rattle.row_seat.specs.Rule.{Rule, seen}
+use Rattle.res_ledger.specs.declared.event.StreamNo.{StreamNo}
+use Rattle.row_seat.specs.declared.token.Token.{Token}
+use Rattle.row_seat.specs.declared.view.View.{View}
+use Rattle.row_seat.specs.Views.{paid, run, with_row}
+use Rattle.row_seat.specs.Hands.{set_spot, spot}
+
+module _ {P : Type 0} where
+  abbrev pub rows_of : List (ℕ × P) → List ℕ
+  rows_of xs = map (λ (x : ℕ × P). x.0) xs
+
+  abbrev pub shown : PlainSeat P → View P
+  shown s = seen s.token.inner.ask s.hands.items
+
+  abbrev pub lent : PlainSeat P → ℕ → P → PlainSeat P
+  lent s r w = record s { hands = with_item s.hands (spot r s.hands.items) (r, w) }
+
+  -- what stands at the table between two calls
+  pub record IsTable (slots : List (Option P)) (words : List ℕ) (events : List Event) (most : ℕ) (views : List (Token P)) : Type 0 where
+    pub room : ℕ
+    pub enough : room ≤ most
+    pub words_are : length words ≡ length slots
+    pub rule : Rule (length slots) room (λ r. slice_index words r) (λ r. slice_index_or slots r None) events views
+    pub load : total (λ (v : Token P). length v.empty + length v.opened) views ≤ length slots
+    pub small : (i j r : ℕ) (v : Token P) → At views i v → IsAmong (j, r) v.pairs → j < 2 ^ 32
+
+  pub record Sits (s : PlainSeat P) (d : PlainTable P) : Type 0 where
+    pub table : IsTable d.slots.items d.words.items d.events.items (vec_capacity d.events) d.views.inner.ask
+    pub mine : At d.views.inner.ask s.id.inner.ask s.token.inner.ask
+    pub live : s.token.inner.ask.live ≡ true
+    pub by : s.by ≡ s.token.inner.ask.by
+    pub held : rows_of s.hands.items ≡ s.token.inner.ask.opened
+    pub hold : length s.token.inner.ask.empty + vec_len s.hands ≤ vec_capacity s.hands
+    pub whole : s.token.inner.ask.main ≡ true → length d.slots.items ≤ vec_capacity s.hands
+
+  rows_with : (r : ℕ) (w : P) (xs : List (ℕ × P)) → rows_of (with_row r w xs) ≡ rows_of xs
+  rows_with r w [] = refl
+  rows_with r w (x ∷ xs) = elim (eqb x.0 r) as (λ b. rows_of (cond b ((x.0, w) ∷ xs) (x ∷ with_row r w xs)) ≡ x.0 ∷ rows_of xs) [ true ↦ refl | false ↦ ap (λ l. x.0 ∷ l) (rows_with r w xs) ]
+
+  pub shown_lent : (s : PlainSeat P) (r : ℕ) (w : P) → shown (lent s r w) ≡ paid (shown s) r w
+  shown_lent s r w = ap (λ xs. seen s.token.inner.ask xs) (set_spot r w s.hands.items)
+
+  pub fitting_lent : (s : PlainSeat P) (r : ℕ) (w : P) (d : PlainTable P) → Sits s d → Sits (lent s r w) d
+  fitting_lent s r w d h = record { table = h.table; mine = h.mine; live = h.live; by = h.by; held = ap rows_of (set_spot r w s.hands.items) ∙ (rows_with r w s.hands.items ∙ h.held); hold = h.hold; whole = h.whole }
+
+  -- the view of the first seat
+  abbrev pub start : StreamNo → ℕ → ℕ → View P
+  start by rows events = record { by = by; main = true; empty = run 0 rows; opened = []; pairs = []; kept = []; handed = []; taken = []; given = []; left = []; events = []; floor = 0; spare = events; had = []; out = []; splits = 2 ^ 32 - 1 }
+
+  abbrev pub first_token : StreamNo × ℕ × ℕ → Token P
+  first_token x = record { live = true; main = true; by = x.0; empty = run 0 x.1; opened = []; pairs = []; kept = []; handed = []; taken = []; given = []; left = []; events = []; floor = 0; spare = x.2; had = []; out = []; splits = 2 ^ 32 - 1 }

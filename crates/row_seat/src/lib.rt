@@ -1,0 +1,11 @@
+//! Rows and seats: the right of one stream to act on rows, the contract of such a seat, and seats on one thread.
+#![tactic(auto)]
+
+pub mod plain;
+pub mod seat;
+pub mod token;
+pub mod view;
+
+pub use plain::{PlainSeat, PlainTable};
+pub use seat::RowSeat;
+pub use view::{Left, View};

@@ -1,0 +1,106 @@
+//! The contract of a seat.
+ghost use Rattle.std.specs.Prelude.{◌≡◌, ◌≢◌, ℕ, ◌≤◌, IfOk, IfErr};
+ghost use Rattle.std.specs.Borrow.{Lends, sem};
+
+use crate::view::Left;
+use chunk_core::Span;
+use res_ledger::{Ledger, What};
+use std::alloc::{AllocError, Global};
+
+pub trait RowSeat: Sized {
+    ghost use Rattle.row_seat.specs.declared.view.View.{View};
+    ghost use Rattle.row_seat.specs.Views.{CanPlace, placed, has_row, paid, CanLease, leased, CanLeave, Leaves, CanClose, Closes, CanTake, took, MayNote, noted, IsFresh, OthersFit, CanSplit, split_main, split_off, CanJoin, joined, CanFinish, IsLedgerOf};
+    ghost use Rattle.chunk_core.specs.Lists.{IsAmong};
+
+    type Pay;
+
+    type Desk;
+
+    // What the seat knows and has the right to.
+    ghost view: { Self → View Self.Pay };
+    // The seat and the desk come from one maker.
+    ghost fits: { Self → Self.Desk → Type 0 };
+    // The seat with another payload in an open row.
+    ghost with_pay: { Self → ℕ → Self.Pay → Self };
+
+    fn place(&mut self, desk: &mut Self::Desk, row: u32, pay: Self::Pay)
+        requires fits { fits self.old desk.old }
+        requires row { CanPlace (view self.old) row }
+        ensures view { view self.new ≡ placed (view self.old) row pay }
+        ensures fits { fits self.new desk.new }
+        ensures others { OthersFit view fits (view self.old).by desk.old desk.new };
+
+    fn pay_mut(&mut self, row: u32) -> &mut Self::Pay
+        requires row { has_row (view self.old).opened row }
+        ensures* back { sem 𝓛 (Lends Self.row Self.Pay.row self.entry result (λ w. with_pay self.old row w)) }
+        ensures value { IsAmong (row, result.now) (view self.old).opened };
+
+    fn lease(&mut self, desk: &mut Self::Desk, stream: u32, row: u32)
+        requires fits { fits self.old desk.old }
+        requires row { CanLease (view self.old) stream row }
+        ensures view { view self.new ≡ leased (view self.old) stream row }
+        ensures fits { fits self.new desk.new }
+        ensures others { OthersFit view fits (view self.old).by desk.old desk.new };
+
+    fn leave(&mut self, desk: &mut Self::Desk, stream: u32, row: u32) -> Left
+        requires fits { fits self.old desk.old }
+        requires row { CanLeave (view self.old) stream row }
+        ensures view { Leaves (view self.old) stream row result (view self.new) }
+        ensures fits { fits self.new desk.new }
+        ensures others { OthersFit view fits (view self.old).by desk.old desk.new };
+
+    fn close(&mut self, desk: &mut Self::Desk, row: u32) -> Left
+        requires fits { fits self.old desk.old }
+        requires row { CanClose (view self.old) row }
+        ensures view { Closes (view self.old) row result (view self.new) }
+        ensures fits { fits self.new desk.new }
+        ensures others { OthersFit view fits (view self.old).by desk.old desk.new };
+
+    fn take(&mut self, desk: &mut Self::Desk, row: u32) -> Self::Pay
+        requires fits { fits self.old desk.old }
+        requires row { CanTake (view self.old) row }
+        ensures view { view self.new ≡ took (view self.old) row }
+        ensures pay { IsAmong (row, result) (view self.old).given }
+        ensures fits { fits self.new desk.new }
+        ensures others { OthersFit view fits (view self.old).by desk.old desk.new };
+
+    fn note(&mut self, desk: &mut Self::Desk, what: What) -> u64
+        requires fits { fits self.old desk.old }
+        requires room { 1 ≤ (view self.old).spare }
+        requires event { MayNote (view self.old) what }
+        ensures view { view self.new ≡ noted (view self.old) (record { stamp = result; by = (view self.old).by; what = what }) }
+        ensures stamp { IsFresh (view self.old) result }
+        ensures fits { fits self.new desk.new }
+        ensures others { OthersFit view fits (view self.old).by desk.old desk.new };
+
+    fn split(
+        &mut self,
+        alloc: Global,
+        desk: &mut Self::Desk,
+        stream: u32,
+        rows: Span,
+        events: u64,
+    ) -> Result<Self, AllocError>
+        requires fits { fits self.old desk.old }
+        requires can { CanSplit (view self.old) stream rows.from rows.to events }
+        ensures ok { IfOk result (λ s. (view self.new ≡ split_main (view self.old) stream rows.from rows.to events) × (view s ≡ split_off (view self.old) stream rows.from rows.to events) × fits s desk.new) }
+        ensures err { IfErr result (λ _. view self.new ≡ view self.old) }
+        ensures fits { fits self.new desk.new }
+        ensures others { OthersFit view fits (view self.old).by desk.old desk.new };
+
+    fn join(&mut self, desk: &mut Self::Desk, other: Self)
+        requires fits { fits self.old desk.old × fits other desk.old }
+        requires can { CanJoin (view self.old) (view other) }
+        ensures view { view self.new ≡ joined (view self.old) (view other) }
+        ensures fits { fits self.new desk.new }
+        ensures others { (o : Self) → (view o).by ≢ (view self.old).by → (view o).by ≢ (view other).by → fits o desk.old → fits o desk.new };
+
+    fn finish(self, desk: &mut Self::Desk) -> Ledger
+        requires fits { fits self desk.old }
+        requires can { CanFinish (view self) }
+        ensures { IsLedgerOf (view self) result };
+
+    ghost pay_view: { (s : Self) (r : ℕ) (w : Self.Pay) → view (with_pay s r w) ≡ paid (view s) r w };
+
+    ghost pay_fits: { (s : Self) (r : ℕ) (w : Self.Pay) (d : Self.Desk) → fits s d → fits (with_pay s r w) d };
+}
