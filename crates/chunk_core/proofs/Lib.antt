@@ -2,3 +2,4 @@ pub mod Members
 pub mod Cuts
 pub mod Filters
 pub mod Places
+pub mod Rendering

@@ -1,0 +1,86 @@
+//! What streams are made of, piece by piece, and the text of a piece.
+ghost use Rattle.std.specs.Prelude.{◌≡◌, ◌++◌, ◌∷◌, [], IfOk, OnOk, map};
+ghost use Rattle.std.specs.List.{flat_map};
+ghost use Rattle.std.specs.Io.KnownBytes.{Appends};
+ghost use Rattle.csv.specs.Writing.{default_writer, row_text};
+ghost use Rattle.chunk_core.specs.Elements.{elements, rendering_of};
+ghost use Rattle.chunk_core.specs.Writing.{IsBetween, flexible_writer, written};
+
+use crate::chunk::Chunk;
+use crate::list::{Line, Row};
+use csv::{Error, Writer, WriterBuilder};
+use std::alloc::{AllocError, Global};
+
+/// A piece of a stream: elements of one kind.
+#[derive(Drop)]
+pub enum Load {
+    Bytes(Chunk<u8>),
+    Lines(Chunk<Line>),
+    Rows(Chunk<Row>),
+}
+
+/// The text of a load: bytes as they are, each line with a line feed behind it, each row as
+/// comma-separated values with a line feed behind it.
+pub fn render(alloc: Global, load: &Load) -> Result<Line, AllocError>
+    ensures { IfOk result (λ text. text ≡ rendering_of (elements load.now)) }
+{
+    match load {
+        Load::Bytes(bytes) => bytes_text(alloc, bytes.as_slice()),
+        Load::Lines(lines) => lines_text(alloc, lines.as_slice()),
+        Load::Rows(rows) => rows_text(alloc, rows.as_slice()),
+    }
+}
+
+fn bytes_text(alloc: Global, bytes: &[u8]) -> Result<Line, AllocError>
+    ensures { IfOk result (λ text. text ≡ bytes.now) }
+{
+    Ok(Line::of_vec(Vec::from_slice(alloc, bytes)?))
+}
+
+fn lines_text(alloc: Global, lines: &[Line]) -> Result<Line, AllocError>
+    ensures { IfOk result (λ text. text ≡ flat_map (λ line. line ++ 10 ∷ []) lines.now) }
+{
+    let mut text = Vec::new(alloc);
+    for line in lines {
+        text.extend_from_slice(line.as_slice())?;
+        text.push(b'\n')?;
+    }
+    Ok(Line::of_vec(text))
+}
+
+fn rows_text(alloc: Global, rows: &[Row]) -> Result<Line, AllocError>
+    ensures { IfOk result (λ text. text ≡ flat_map (row_text default_writer) rows.now) }
+{
+    let mut writer = WriterBuilder::new()
+        .flexible(true)
+        .from_writer(Vec::new(alloc));
+    for row in rows {
+        let fields = fields_of(alloc, row.as_slice())?;
+        if put_row(&mut writer, fields.as_slice()).is_err() {
+            return Err(AllocError);
+        }
+    }
+    match writer.into_inner() {
+        Ok(text) => Ok(Line::of_vec(text)),
+        Err(_) => Err(AllocError),
+    }
+}
+
+fn fields_of<'a>(alloc: Global, row: &'a [Line]) -> Result<Vec<&'a [u8]>, AllocError>
+    ensures { IfOk result (λ fields. map (λ f. f.now) fields.items ≡ row.entry.now) }
+{
+    let mut fields = Vec::new(alloc);
+    for field in row {
+        fields.push(field.as_slice())?;
+    }
+    Ok(fields)
+}
+
+// Writing to a `Vec` fails only at want of memory.
+fn put_row(writer: &mut Writer<Vec<u8>>, fields: &[&[u8]]) -> Result<(), Error>
+    requires { IsBetween writer.old }
+    ensures between { OnOk result (IsBetween writer.new) }
+    ensures text { OnOk result (Appends (written writer.old) (written writer.new) (row_text flexible_writer (map (λ f. f.now) fields.now))) }
+{
+    writer.write_fields(fields)
+}
