@@ -11,6 +11,18 @@ pub data Element : Type 0 where
   Line : List ℕ → Element
   Row : List (List ℕ) → Element
 
+-- the kinds of loads
+pub data LoadKind : Type 0 where
+  Bytes : LoadKind
+  Lines : LoadKind
+  Rows : LoadKind
+
+-- the kind of a load, which an empty one has too
+abbrev pub kind_of : Load → LoadKind
+kind_of (load.Bytes bytes) = Bytes
+kind_of (load.Lines lines) = Lines
+kind_of (load.Rows rows) = Rows
+
 -- the elements of a load in order
 abbrev pub elements : Load → List Element
 elements (load.Bytes bytes) = map Byte bytes

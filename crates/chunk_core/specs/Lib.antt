@@ -1,4 +1,5 @@
 pub mod Elements
+pub mod Feed
 pub mod Lists
 pub mod Outcomes
 pub mod Texts

@@ -3,12 +3,14 @@
 
 pub mod chunk;
 pub mod code;
+pub mod feed;
 pub mod list;
 pub mod load;
 pub mod word;
 
 pub use chunk::{Chunk, ChunkIter};
 pub use code::{Code, How, Span};
+pub use feed::{Fed, Feed};
 pub use list::{Line, List, Row};
 pub use load::{Load, render};
 pub use word::Word;
