@@ -7,12 +7,14 @@
 pub mod depot;
 pub mod device;
 pub mod gate;
+pub mod mem;
 pub mod sink;
 pub mod source;
 
 pub use depot::Depot;
 pub use device::{Device, Mode};
 pub use gate::{Gate, OpenGate};
+pub use mem::{MemSink, MemSource};
 pub use sink::{Sink, put};
 pub use source::Source;
 
