@@ -1,2 +1,5 @@
 pub mod Growth
 pub mod Ledgers
+pub mod Tests
+pub mod Blocks
+pub mod Ordering

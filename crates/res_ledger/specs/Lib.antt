@@ -1,3 +1,5 @@
 pub mod Ledger
 pub mod Texts
 pub mod Streams
+pub mod Own
+pub mod Order

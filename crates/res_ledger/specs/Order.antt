@@ -1,0 +1,120 @@
+-- In which order a stream notes the ends of its rows.
+use Rattle.std.specs.Prelude.{◌≡◌, ℕ, Bool, true, false, nat_eq, ◌&&◌, if◌then◌else◌, List, [], ◌∷◌, ◌++◌, reverse}
+use Rattle.chunk_core.specs.Lists.{all}
+use Rattle.res_ledger.specs.declared.event.StreamNo.{StreamNo}
+use Rattle.res_ledger.specs.declared.event.What.{What}
+use Rattle.res_ledger.specs.declared.event.What.TheVariants.{Open, Acquire, Lease, Cancel, Close, Final}
+use Rattle.res_ledger.specs.declared.event.Event.{Event}
+use Rattle.res_ledger.specs.Own.{own, teardown, leased_rows, has}
+
+-- xs stands in ys in that order, and what is left out may be
+pub data Picks (may : ℕ → Type 0) : List ℕ → List ℕ → Type 0 where
+  none : Picks may [] []
+  pick : {xs ys : List ℕ} (x : ℕ) → Picks may xs ys → Picks may (x ∷ xs) (x ∷ ys)
+  pass : {xs ys : List ℕ} (y : ℕ) → may y → Picks may xs ys → Picks may xs (y ∷ ys)
+
+-- the rows of a run of Finals
+abbrev pub firsts : List (ℕ × Bool) → List ℕ
+firsts [] = []
+firsts (f ∷ fs) = f.0 ∷ firsts fs
+
+-- a run of Finals
+abbrev pub finals : List (ℕ × Bool) → List What
+finals [] = []
+finals (f ∷ fs) = Final f.0 f.1 ∷ finals fs
+
+-- an Open, an Acquire or a Lease
+abbrev pub is_plain : What → Bool
+is_plain (Open s p) = true
+is_plain (Acquire r s) = true
+is_plain (Lease j s) = true
+is_plain (Cancel j) = false
+is_plain (Close s) = false
+is_plain (Final r ok) = false
+
+-- any row
+abbrev pub IsAny : ℕ → Type 0
+IsAny r = Unit {0}
+
+-- E, standing after A, is made of plain events, of Closes each with a run of Finals in the order of its teardown, and of Cancels each with a run of Finals in the order of what is due there; a Close may leave out the rows that may wait
+pub data IsInBlocks (may : ℕ → Type 0) (due : ℕ → List ℕ) : List What → List What → Type 0 where
+  none : (A : List What) → IsInBlocks may due A []
+  plain : (A E : List What) (w : What) → is_plain w ≡ true → IsInBlocks may due (A ++ w ∷ []) E → IsInBlocks may due A (w ∷ E)
+  close : (A E : List What) (s : ℕ) (fs : List (ℕ × Bool)) → Picks may (firsts fs) (teardown A s) → IsInBlocks may due (A ++ Close s ∷ finals fs) E → IsInBlocks may due A (Close s ∷ (finals fs ++ E))
+  cancel : (A E : List What) (j : ℕ) (fs : List (ℕ × Bool)) → Picks IsAny (firsts fs) (due j) → IsInBlocks may due (A ++ Cancel j ∷ finals fs) E → IsInBlocks may due A (Cancel j ∷ (finals fs ++ E))
+
+-- the scope that an event leases for j
+abbrev pub lease_of : What → ℕ → List ℕ
+lease_of (Open s p) j = []
+lease_of (Acquire r s) j = []
+lease_of (Lease i s) j = if nat_eq i j then s ∷ [] else []
+lease_of (Cancel i) j = []
+lease_of (Close s) j = []
+lease_of (Final r ok) j = []
+
+-- the scope that an event leases
+abbrev pub leases_of : What → List ℕ
+leases_of (Open s p) = []
+leases_of (Acquire r s) = []
+leases_of (Lease i s) = s ∷ []
+leases_of (Cancel i) = []
+leases_of (Close s) = []
+leases_of (Final r ok) = []
+
+-- the rows that a Lease on each of the scopes after E covers
+abbrev pub each_lease : List What → List ℕ → List ℕ
+each_lease E [] = []
+each_lease E (s ∷ ss) = leased_rows E s ++ each_lease E ss
+
+-- the rows that the Lease for j in L covers, where P stands before L
+abbrev pub covered_by_from : List Event → List Event → ℕ → List ℕ
+covered_by_from P [] j = []
+covered_by_from P (e ∷ L) j = each_lease (own e.by P) (lease_of e.what j) ++ covered_by_from (P ++ e ∷ []) L j
+
+-- the rows that the Lease for j covers, in the order of acquisition
+abbrev pub covered_by : List Event → ℕ → List ℕ
+covered_by L j = covered_by_from [] L j
+
+-- the rows that some Lease in L covers, where P stands before L
+abbrev pub covered_from : List Event → List Event → List ℕ
+covered_from P [] = []
+covered_from P (e ∷ L) = each_lease (own e.by P) (leases_of e.what) ++ covered_from (P ++ e ∷ []) L
+
+-- the rows that some Lease covers
+abbrev pub covered : List Event → List ℕ
+covered L = covered_from [] L
+
+-- what k noted stands in blocks: at a Close rows that a Lease covers may wait, and a Cancel is followed by rows of its Lease, latest acquired first
+abbrev pub IsInOrder : List Event → StreamNo → Type 0
+IsInOrder L k = IsInBlocks (λ r. has r (covered L) ≡ true) (λ j. reverse (covered_by L j)) [] (own k L)
+
+-- what each stream noted stands in blocks
+abbrev pub IsOrdered : List Event → Type 0
+IsOrdered L = (k : StreamNo) → IsInOrder L k
+
+-- what is left of ys behind r passes, where all before r may be left out
+abbrev pub passes_after : (ℕ → Bool) → ℕ → List ℕ → (List ℕ → Bool) → Bool
+passes_after may r [] go = false
+passes_after may r (y ∷ ys) go = if nat_eq y r then go ys else (may y && passes_after may r ys go)
+
+-- any row passes
+abbrev pub any_row : ℕ → Bool
+any_row r = true
+
+-- E, standing after A, is in blocks, where Finals of the rows xs may come first and those that pass m may be left out
+abbrev pub is_in_blocks : (ℕ → Bool) → (ℕ → List ℕ) → List What → (ℕ → Bool) → List ℕ → List What → Bool
+is_in_blocks may due A m xs [] = all m xs
+is_in_blocks may due A m xs (Open s p ∷ E) = all m xs && is_in_blocks may due (A ++ Open s p ∷ []) any_row [] E
+is_in_blocks may due A m xs (Acquire r s ∷ E) = all m xs && is_in_blocks may due (A ++ Acquire r s ∷ []) any_row [] E
+is_in_blocks may due A m xs (Lease j s ∷ E) = all m xs && is_in_blocks may due (A ++ Lease j s ∷ []) any_row [] E
+is_in_blocks may due A m xs (Cancel j ∷ E) = all m xs && is_in_blocks may due (A ++ Cancel j ∷ []) any_row (due j) E
+is_in_blocks may due A m xs (Close s ∷ E) = all m xs && is_in_blocks may due (A ++ Close s ∷ []) may (teardown A s) E
+is_in_blocks may due A m xs (Final r ok ∷ E) = passes_after m r xs (λ ys. is_in_blocks may due (A ++ Final r ok ∷ []) m ys E)
+
+-- a test of IsInOrder
+abbrev pub is_in_order : List Event → StreamNo → Bool
+is_in_order L k = is_in_blocks (λ r. has r (covered L)) (λ j. reverse (covered_by L j)) [] any_row [] (own k L)
+
+-- a test of IsOrdered, by the streams that noted something
+abbrev pub is_ordered : List Event → Bool
+is_ordered L = all (λ e. is_in_order L e.by) L

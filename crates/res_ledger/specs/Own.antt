@@ -1,0 +1,116 @@
+-- What one stream noted, in order, and what its scopes and rows are by it.
+use Rattle.std.specs.Prelude.{ℕ, Bool, true, false, nat_eq, ◌&&◌, ◌||◌, not, if◌then◌else◌, List, [], ◌∷◌, ◌++◌}
+use Rattle.chunk_core.specs.Lists.{any}
+use Rattle.res_ledger.specs.declared.event.StreamNo.{StreamNo}
+use Rattle.res_ledger.specs.declared.event.StreamNo.TheVariants.{Outer, Inner}
+use Rattle.res_ledger.specs.declared.event.What.{What}
+use Rattle.res_ledger.specs.declared.event.What.TheVariants.{Open, Acquire, Lease, Cancel, Close, Final}
+use Rattle.res_ledger.specs.declared.event.Event.{Event}
+
+-- the two names are one
+abbrev pub same_name : StreamNo → StreamNo → Bool
+same_name Outer Outer = true
+same_name Outer (Inner j) = false
+same_name (Inner i) Outer = false
+same_name (Inner i) (Inner j) = nat_eq i j
+
+-- what k noted, in order
+abbrev pub own : StreamNo → List Event → List What
+own k [] = []
+own k (e ∷ L) = if same_name e.by k then e.what ∷ own k L else own k L
+
+-- the scope that an event opens, with its parent
+abbrev pub opens_of : What → List (ℕ × ℕ)
+opens_of (Open s p) = (s, p) ∷ []
+opens_of (Acquire r s) = []
+opens_of (Lease j s) = []
+opens_of (Cancel j) = []
+opens_of (Close s) = []
+opens_of (Final r ok) = []
+
+-- the row that an event acquires, with its scope
+abbrev pub rows_of : What → List (ℕ × ℕ)
+rows_of (Open s p) = []
+rows_of (Acquire r s) = (r, s) ∷ []
+rows_of (Lease j s) = []
+rows_of (Cancel j) = []
+rows_of (Close s) = []
+rows_of (Final r ok) = []
+
+-- the scope that an event closes
+abbrev pub closes_of : What → List ℕ
+closes_of (Open s p) = []
+closes_of (Acquire r s) = []
+closes_of (Lease j s) = []
+closes_of (Cancel j) = []
+closes_of (Close s) = s ∷ []
+closes_of (Final r ok) = []
+
+-- the scopes that were opened, each with its parent, in order
+abbrev pub opens : List What → List (ℕ × ℕ)
+opens [] = []
+opens (w ∷ E) = opens_of w ++ opens E
+
+-- the rows that were acquired, each with its scope, in order
+abbrev pub rows : List What → List (ℕ × ℕ)
+rows [] = []
+rows (w ∷ E) = rows_of w ++ rows E
+
+-- the scopes that have a Close of their own
+abbrev pub closes : List What → List ℕ
+closes [] = []
+closes (w ∷ E) = closes_of w ++ closes E
+
+-- the number stands in the list
+abbrev pub has : ℕ → List ℕ → Bool
+has x ys = any (λ y. nat_eq x y) ys
+
+-- the rows of the scope s, latest acquired first
+abbrev pub latest : List (ℕ × ℕ) → ℕ → List ℕ
+latest [] s = []
+latest (x ∷ xs) s = latest xs s ++ (if nat_eq x.1 s then x.0 ∷ [] else [])
+
+-- the rows of the scopes below s that were opened in os and are open, latest opened first; a scope below another is opened after it
+abbrev pub below : List (ℕ × ℕ) → (ℕ → Bool) → List (ℕ × ℕ) → ℕ → List ℕ
+below [] shut xs s = []
+below (o ∷ os) shut xs s = below os shut xs s ++ (if nat_eq o.1 s && not (shut o.0) then below os shut xs o.0 ++ latest xs o.0 else [])
+
+-- what a Close of s after E takes down: the open children of s, latest opened first, and then the rows of s, latest acquired first
+abbrev pub teardown : List What → ℕ → List ℕ
+teardown E s = below (opens E) (λ c. has c (closes E)) (rows E) s ++ latest (rows E) s
+
+-- s and the scopes above it, by the scopes os that were opened, the latest first
+abbrev pub up : List (ℕ × ℕ) → ℕ → List ℕ
+up [] s = s ∷ []
+up (o ∷ os) s = if nat_eq o.0 s then s ∷ up os o.1 else up os s
+
+-- the list from its end
+abbrev pub turned : List (ℕ × ℕ) → List (ℕ × ℕ)
+turned [] = []
+turned (x ∷ xs) = turned xs ++ x ∷ []
+
+-- s and the scopes above it
+abbrev pub above : List What → ℕ → List ℕ
+above E s = up (turned (opens E)) s
+
+-- s or a scope above it has a Close
+abbrev pub is_closed : List What → ℕ → Bool
+is_closed E s = any (λ a. has a (closes E)) (above E s)
+
+-- c was opened as a child of s
+abbrev pub is_child : List (ℕ × ℕ) → ℕ → ℕ → Bool
+is_child [] c s = false
+is_child (o ∷ os) c s = if nat_eq o.0 c then nat_eq o.1 s else is_child os c s
+
+-- a Lease on s after E covers rows of the scope t: t is s, a child of s or above s, and isn't closed
+abbrev pub reaches : List What → ℕ → ℕ → Bool
+reaches E s t = not (is_closed E t) && (has t (above E s) || is_child (opens E) t s)
+
+-- the rows in the scopes that pass
+abbrev pub picked : (ℕ → Bool) → List (ℕ × ℕ) → List ℕ
+picked f [] = []
+picked f (x ∷ xs) = if f x.1 then x.0 ∷ picked f xs else picked f xs
+
+-- the rows that a Lease on s after E covers, in the order of acquisition
+abbrev pub leased_rows : List What → ℕ → List ℕ
+leased_rows E s = picked (reaches E s) (rows E)
