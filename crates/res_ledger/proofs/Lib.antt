@@ -3,3 +3,4 @@ pub mod Ledgers
 pub mod Tests
 pub mod Blocks
 pub mod Ordering
+pub mod Orders

@@ -72,6 +72,10 @@ module _ {P : Type 0} (rows room : ℕ) (word : ℕ → ℕ) (slot : ℕ → Opt
         ),
       )
 
+  -- a row is given with one payload
+  pub given_one : (r : ℕ) (x y : P) → IsAmong (r, x) v.given → IsAmong (r, y) v.given → x ≡ y
+  given_one r x y a b = let k = rule.pays in let g = at_purse rows room word slot log views rule id v at live in k.left_one r x y (k.given_is r x (id, purse v, g, a)) (k.given_is r y (id, purse v, g, b))
+
   module _ (main : v.main ≡ true) (no_out : v.out ≡ []) where
     -- every other seat is spent
     alone : (i : ℕ) (u : Token P) → At views i u → (u ≡ v) ⊎ ((u.empty ≡ []) × (u.opened ≡ []) × (u.pairs ≡ []) × (u.kept ≡ []) × (u.handed ≡ []) × (u.given ≡ []) × (u.left ≡ []) × (u.events ≡ []))

@@ -14,3 +14,4 @@ pub mod Joins
 pub mod Ends
 mod Sitting
 mod Starts
+mod Life

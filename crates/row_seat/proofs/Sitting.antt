@@ -32,6 +32,7 @@ use Rattle.row_seat.proofs.Times.{pair_among, pair_kept, pair_some, row_less, ro
 use Rattle.row_seat.proofs.Pigeonholes.{pairs_below}
 use Rattle.row_seat.proofs.Splits.{split_keeps, within_in}
 use Rattle.res_ledger.proofs.Ledgers.{stamp_below}
+use Rattle.row_seat.proofs.Ends.{given_one}
 use Rattle.row_seat.proofs.Ticked.{tick_keeps}
 use Rattle.row_seat.proofs.Hands.{without_row_at}
 
@@ -213,6 +214,9 @@ module _ {P : Type 0} (s : PlainSeat P) (d : PlainTable P) (h : Sits s d) where
   pub fresh_stamp : (s.token.inner.ask.floor ≤ length d.events.items) × ((e : Event) → IsAmong e s.token.inner.ask.events → e.stamp < length d.events.items)
   fresh_stamp = let k = h.table.rule.books in let at = at_map book d.views.inner.ask s.id.inner.ask s.token.inner.ask h.mine in
       (k.floor s.id.inner.ask (book s.token.inner.ask) at, λ e m. stamp_below d.events.items e k.stamped (k.inside s.id.inner.ask (book s.token.inner.ask) e at m))
+
+  pub given_once : (r : ℕ) (x y : P) → IsAmong (r, x) s.token.inner.ask.given → IsAmong (r, y) s.token.inner.ask.given → x ≡ y
+  given_once r x y a b = given_one (length d.slots.items) h.table.room (λ r. slice_index d.words.items r) (λ r. slice_index_or d.slots.items r None) d.events.items d.views.inner.ask h.table.rule s.id.inner.ask s.token.inner.ask h.mine h.live r x y a b
 
   pub inside_empty : (r : ℕ) → IsAmong r s.token.inner.ask.empty → r < length d.slots.items
   inside_empty r m = (row_empty (length d.slots.items) h.table.room (λ r. slice_index d.words.items r) (λ r. slice_index_or d.slots.items r None) d.events.items d.views.inner.ask h.table.rule s.id.inner.ask s.token.inner.ask h.mine h.live r m).0

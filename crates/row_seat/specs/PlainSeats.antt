@@ -52,9 +52,6 @@ module _ {P : Type 0} where
   pub fitting_lent : (s : PlainSeat P) (r : ℕ) (w : P) (d : PlainTable P) → Sits s d → Sits (lent s r w) d
   fitting_lent s r w d h = record { table = h.table; mine = h.mine; live = h.live; by = h.by; held = ap rows_of (set_spot r w s.hands.items) ∙ (rows_with r w s.hands.items ∙ h.held); hold = h.hold; whole = h.whole }
 
-  -- the view of the first seat
-  abbrev pub start : StreamNo → ℕ → ℕ → View P
-  start by rows events = record { by = by; main = true; empty = run 0 rows; opened = []; pairs = []; kept = []; handed = []; taken = []; given = []; left = []; events = []; floor = 0; spare = events; had = []; out = []; splits = 2 ^ 32 - 1 }
-
+  -- what the first seat knows
   abbrev pub first_token : StreamNo × ℕ × ℕ → Token P
   first_token x = record { live = true; main = true; by = x.0; empty = run 0 x.1; opened = []; pairs = []; kept = []; handed = []; taken = []; given = []; left = []; events = []; floor = 0; spare = x.2; had = []; out = []; splits = 2 ^ 32 - 1 }

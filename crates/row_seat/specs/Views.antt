@@ -1,5 +1,5 @@
 -- What the calls of a seat ask of its view, and what they leave.
-use Rattle.std.specs.Prelude.{◌≡◌, ◌≢◌, ℕ, zero, suc, ◌+◌, ◌-◌, ◌<◌, ◌≤◌, ◌⊎◌, ◌↔◌, Bool, true, false, not, eqb, leb, ltb, cond, List, [], ◌∷◌, ◌++◌, length, map, filter, Some, Option, ⊤}
+use Rattle.std.specs.Prelude.{◌≡◌, ◌≢◌, ℕ, zero, suc, ◌+◌, ◌-◌, ◌^◌, ◌<◌, ◌≤◌, ◌⊎◌, ◌↔◌, Bool, true, false, not, eqb, leb, ltb, cond, List, [], ◌∷◌, ◌++◌, length, map, filter, Some, Option, ⊤}
 use Rattle.res_ledger.specs.declared.event.What.TheVariants.{Acquire, Cancel, Close, Final, Lease, Open}
 use Rattle.res_ledger.specs.Ledger.{Covers, IsAcquired, IsClosed, IsCoveredBy, IsFinalized, IsLeased, IsLegal, IsOpened, IsStamped, IsUsable, Notes}
 use Rattle.res_ledger.specs.declared.event.Event.{Event}
@@ -76,6 +76,10 @@ module _ {P : Type 0} where
   abbrev pub has_pair : View P → ℕ → Type 0
   has_pair v r = (j : ℕ) × IsAmong (j, r) v.pairs
 
+  -- the view of the first seat
+  abbrev pub start : StreamNo → ℕ → ℕ → View P
+  start by rows events = record { by = by; main = true; empty = run 0 rows; opened = []; pairs = []; kept = []; handed = []; taken = []; given = []; left = []; events = []; floor = 0; spare = events; had = []; out = []; splits = 2 ^ 32 - 1 }
+
   -- place
   abbrev pub CanPlace : View P → ℕ → Type 0
   CanPlace v r = IsAmong r v.empty × ((s : ℕ) × Notes v.events v.by (Acquire r s))
@@ -125,6 +129,10 @@ module _ {P : Type 0} where
 
   abbrev pub took : View P → ℕ → View P
   took v r = record v { taken = v.taken ++ r ∷ [] }
+
+  -- where r stands last in the list, it stands there with p
+  abbrev pub IsLast : List (ℕ × P) → ℕ → P → Type 0
+  IsLast xs r p = (ys : List (ℕ × P)) (q : P) → xs ≡ ys ++ (r, q) ∷ [] → p ≡ q
 
   -- note
   abbrev pub MayNote : View P → What → Type 0

@@ -4,6 +4,8 @@
 pub mod plain;
 pub mod seat;
 pub mod token;
+#[cfg(test)]
+mod uses;
 pub mod view;
 
 pub use plain::{PlainSeat, PlainTable};

@@ -12,6 +12,8 @@ use res_ledger::{Event, Ledger, StreamNo, What};
 use std::alloc::{AllocError, Global};
 use std::collections::LinkedList;
 
+/// A seat of one thread.
+#[derive(Drop)]
 pub struct PlainSeat<P> {
     by: StreamNo,
     id: Known<u64>,
@@ -19,6 +21,8 @@ pub struct PlainSeat<P> {
     token: Known<Token<P>>,
 }
 
+/// The rows of the seats of one thread, and the events that they noted.
+#[derive(Drop)]
 pub struct PlainTable<P> {
     alloc: Global,
     words: Vec<u64>,
@@ -397,7 +401,8 @@ fn zeros(alloc: Global, rows: u32) -> Result<Vec<u64>, AllocError>
 }
 
 impl<P: Drop> PlainSeat<P> {
-    ghost use Rattle.row_seat.specs.PlainSeats.{shown, Sits, start};
+    ghost use Rattle.row_seat.specs.PlainSeats.{shown, Sits};
+    ghost use Rattle.row_seat.specs.Views.{start};
 
     pub fn new(
         alloc: Global,

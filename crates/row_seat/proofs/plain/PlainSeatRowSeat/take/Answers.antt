@@ -2,8 +2,9 @@ use Rattle.std.proofs.Common.{slice_set, refl, sym, ap, ◌∙◌, subst, arith}
 use Rattle.std.specs.Prelude.{vec_capacity, None}
 use Rattle.std.proofs.lemmas.List.{get_or_default, length-set}
 use Rattle.chunk_core.specs.Lists.{IsAmong}
-use Rattle.row_seat.proofs.Sitting.{inside_handed, others_put, sits_put, some_none, take_table, taken_slot}
+use Rattle.row_seat.proofs.Sitting.{given_once, inside_handed, others_put, sits_put, some_none, take_table, taken_slot}
 use Rattle.row_seat.proofs.Moves.{some_is}
+use Rattle.chunk_core.proofs.Members.{among_last}
 use Rattle.row_seat.specs.Steps.{took}
 use Rattle.row_seat.proofs.plain.PlainSeatRowSeat.take.Goals as goal
 
@@ -23,6 +24,12 @@ returns-clause-pay g c = let s = c.args.self.now in let d = c.args.desk.now in l
     let b = inside_handed s d h row c.requires.row.0 in
     let e = some_is x.0 c.in-Some.pay (sym x.2 ∙ (sym (get_or_default d.slots.items row c.index_mut.result.now None b) ∙ (sym c.index_mut.ensures.value ∙ (sym c.take.ensures.value ∙ c.in-Some.is)))) in
     subst (λ p. IsAmong (row, p) s.token.inner.ask.given) e x.1
+
+pub returns-clause-only : goal.returns-clause-only
+returns-clause-only g c = let s = c.args.self.now in let d = c.args.desk.now in λ q m. given_once s d c.requires.fits c.args.row q c.in-Some.pay m (returns-clause-pay g c)
+
+pub returns-clause-last : goal.returns-clause-last
+returns-clause-last g c = let s = c.args.self.now in let d = c.args.desk.now in λ ys q e. given_once s d c.requires.fits c.args.row c.in-Some.pay q (returns-clause-pay g c) (subst (λ l. IsAmong (c.args.row, q) l) (sym e) (among_last ys (c.args.row, q)))
 
 pub returns-clause-fits : goal.returns-clause-fits
 returns-clause-fits g c = let s = c.args.self.now in let d = c.args.desk.now in let h = c.requires.fits in let row = c.args.row in let v = s.token.inner.ask in let w = took v row in
