@@ -3,14 +3,29 @@ ghost use Rattle.std.specs.Prelude.{◌≡◌, ◌≢◌, ℕ, ◌+◌, ◌-◌,
 ghost use Rattle.row_seat.specs.Views.{has_row};
 ghost use Rattle.chunk_core.specs.Lists.{IsAmong};
 
+use crate::knowledge::{
+    Alone, Counts, Halving, Handing, HandingOver, Joining, Leasing, Leaving, Noting, Placing,
+    Shutting, Spending, Splitting, Starting, Taking, Zero, add, put,
+};
 use crate::seat::RowSeat;
 use crate::token::Token;
 use crate::view::Left;
 use chunk_core::Span;
-use known::{Known, Says, Steps, know, step};
+use known::{Known, know, step};
 use res_ledger::{Event, Ledger, StreamNo, What};
 use std::alloc::{AllocError, Global};
 use std::collections::LinkedList;
+
+// The word of a row: 0 while it is empty, OPEN from its place on, with LEASE for each lease that
+// stands on it; CLOSE is added when it is closed. So it is HANDED where it is closed and no lease
+// stands on it.
+const OPEN: u64 = 1;
+
+const CLOSE: u64 = 2;
+
+const LEASE: u64 = 4;
+
+const HANDED: u64 = 3;
 
 /// A seat of one thread.
 #[derive(Drop)]
@@ -45,160 +60,6 @@ fn find<P>(hands: &[(u32, P)], row: u32) -> usize
     unreachable!()
 }
 
-pub struct Puts;
-
-impl<'a, 'b, 'c, P> Says<
-    (
-        &'a Known<LinkedList<Token<P>>>,
-        &'b Known<u64>,
-        &'c Known<Token<P>>,
-    ),
-    LinkedList<Token<P>>,
-> for Puts {
-    ghost use Rattle.std.specs.Prelude.{slice_set};
-
-    ghost says = { λ x. slice_set x.0.now.inner.ask x.1.now.inner.ask x.2.now.inner.ask };
-}
-
-/// The view with the number `id` is `token`.
-fn put<P>(
-    views: &Known<LinkedList<Token<P>>>,
-    id: &Known<u64>,
-    token: &Known<Token<P>>,
-) -> Known<LinkedList<Token<P>>>
-    ensures { result.inner.ask ≡ slice_set views.now.inner.ask id.now.inner.ask token.now.inner.ask }
-{
-    know::<
-        (&Known<LinkedList<Token<P>>>, &Known<u64>, &Known<Token<P>>),
-        LinkedList<Token<P>>,
-        Puts,
-    >(&(views, id, token))
-}
-
-pub struct Adds;
-
-impl<'a, 'b, P> Says<(&'a Known<LinkedList<Token<P>>>, &'b Known<Token<P>>), LinkedList<Token<P>>>
-    for Adds {
-    ghost use Rattle.std.specs.Prelude.{◌++◌, ◌∷◌, []};
-
-    ghost says = { λ x. x.0.now.inner.ask ++ x.1.now.inner.ask ∷ [] };
-}
-
-fn add<P>(
-    views: &Known<LinkedList<Token<P>>>,
-    token: &Known<Token<P>>,
-) -> Known<LinkedList<Token<P>>>
-    ensures { result.inner.ask ≡ views.now.inner.ask ++ token.now.inner.ask ∷ [] }
-{
-    know::<(&Known<LinkedList<Token<P>>>, &Known<Token<P>>), LinkedList<Token<P>>, Adds>(&(
-        views, token,
-    ))
-}
-
-pub struct Counts;
-
-impl<P> Says<Known<LinkedList<Token<P>>>, u64> for Counts {
-    ghost use Rattle.std.specs.Prelude.{length};
-
-    ghost says = { λ x. length x.inner.ask };
-}
-
-pub struct Noting;
-
-impl<P> Steps<Event, Token<P>> for Noting {
-    ghost use Rattle.row_seat.specs.Steps.{noted};
-
-    ghost next = { noted };
-}
-
-pub struct Placing;
-
-impl<P> Steps<u32, Token<P>> for Placing {
-    ghost use Rattle.row_seat.specs.Steps.{placed};
-
-    ghost next = { placed };
-}
-
-pub struct Taking;
-
-impl<P> Steps<u32, Token<P>> for Taking {
-    ghost use Rattle.row_seat.specs.Steps.{took};
-
-    ghost next = { took };
-}
-
-pub struct Leasing;
-
-impl<P> Steps<(u32, u32), Token<P>> for Leasing {
-    ghost use Rattle.row_seat.specs.Steps.{leased};
-
-    ghost next = { λ t x. leased t x.0 x.1 };
-}
-
-pub struct Leaving;
-
-impl<P> Steps<(u32, u32), Token<P>> for Leaving {
-    ghost use Rattle.row_seat.specs.Steps.{gone};
-
-    ghost next = { λ t x. gone t x.0 x.1 };
-}
-
-pub struct Handing;
-
-impl<'a, P> Steps<(u32, &'a Option<P>), Token<P>> for Handing {
-    ghost use Rattle.row_seat.specs.Steps.{handed_from};
-
-    ghost next = { λ t x. handed_from t x.0 x.1.now };
-}
-
-pub struct Shutting;
-
-impl<P> Steps<(u32, P), Token<P>> for Shutting {
-    ghost use Rattle.row_seat.specs.Steps.{shut};
-
-    ghost next = { λ t x. shut t x.0 x.1 };
-}
-
-pub struct HandingOver;
-
-impl<P> Steps<(u32, P), Token<P>> for HandingOver {
-    ghost use Rattle.row_seat.specs.Steps.{handed_over};
-
-    ghost next = { λ t x. handed_over t x.0 x.1 };
-}
-
-pub struct Halving;
-
-impl<P> Steps<(u32, Span, u64), Token<P>> for Halving {
-    ghost use Rattle.row_seat.specs.Steps.{split_main};
-
-    ghost next = { λ t x. split_main t x.0 x.1.from x.1.to x.2 };
-}
-
-pub struct Splitting;
-
-impl<P> Steps<(u32, Span, u64), Token<P>> for Splitting {
-    ghost use Rattle.row_seat.specs.Steps.{split_off};
-
-    ghost next = { λ t x. split_off t x.0 x.1.from x.1.to x.2 };
-}
-
-pub struct Joining;
-
-impl<P> Steps<Known<Token<P>>, Token<P>> for Joining {
-    ghost use Rattle.row_seat.specs.Steps.{joined};
-
-    ghost next = { λ t x. joined t x.inner.ask };
-}
-
-pub struct Spending;
-
-impl<P> Says<Known<Token<P>>, Token<P>> for Spending {
-    ghost use Rattle.row_seat.specs.Steps.{spent};
-
-    ghost says = { λ x. spent x.inner.ask };
-}
-
 impl<P: Drop> RowSeat for PlainSeat<P> {
     ghost use Rattle.row_seat.specs.PlainSeats.{shown, Sits, lent, shown_lent, fitting_lent};
 
@@ -223,7 +84,7 @@ impl<P: Drop> RowSeat for PlainSeat<P> {
         }
         self.token = step::<u32, Token<P>, Placing>(&self.token, &row);
         desk.views = put(&desk.views, &self.id, &self.token);
-        desk.words[row as usize] = 1;
+        desk.words[row as usize] = OPEN;
     }
 
     fn pay_mut(&mut self, row: u32) -> &mut P {
@@ -235,14 +96,14 @@ impl<P: Drop> RowSeat for PlainSeat<P> {
     fn lease(&mut self, desk: &mut PlainTable<P>, stream: u32, row: u32) {
         self.token = step::<(u32, u32), Token<P>, Leasing>(&self.token, &(stream, row));
         desk.views = put(&desk.views, &self.id, &self.token);
-        desk.words[row as usize] += 4;
+        desk.words[row as usize] += LEASE;
     }
 
     fn leave(&mut self, desk: &mut PlainTable<P>, stream: u32, row: u32) -> Left {
         self.token = step::<(u32, u32), Token<P>, Leaving>(&self.token, &(stream, row));
-        let word = desk.words[row as usize] - 4;
-        desk.words[row as usize] = word;
-        if word == 3 {
+        let rest = desk.words[row as usize] - LEASE;
+        desk.words[row as usize] = rest;
+        if rest == HANDED {
             self.token = step::<(u32, &Option<P>), Token<P>, Handing>(
                 &self.token,
                 &(row, &desk.slots[row as usize]),
@@ -259,9 +120,9 @@ impl<P: Drop> RowSeat for PlainSeat<P> {
         let i = find(&self.hands, row);
         let hand = self.hands.remove(i);
         self.token = step::<(u32, P), Token<P>, Shutting>(&self.token, &hand);
-        let word = desk.words[row as usize] + 2;
+        let word = desk.words[row as usize] + CLOSE;
         desk.words[row as usize] = word;
-        if word == 3 {
+        if word == HANDED {
             self.token = step::<(u32, P), Token<P>, HandingOver>(&self.token, &hand);
             desk.views = put(&desk.views, &self.id, &self.token);
             desk.slots[row as usize] = Some(hand.1);
@@ -356,28 +217,6 @@ impl<P: Drop> RowSeat for PlainSeat<P> {
         let events = std::mem::replace(&mut desk.events, Vec::new(desk.alloc));
         Ledger::of_events(events)
     }
-}
-
-pub struct Starting;
-
-impl<P> Says<(StreamNo, u32, u64), Token<P>> for Starting {
-    ghost use Rattle.row_seat.specs.PlainSeats.{first_token};
-
-    ghost says = { first_token };
-}
-
-pub struct Alone;
-
-impl<P> Says<Known<Token<P>>, LinkedList<Token<P>>> for Alone {
-    ghost use Rattle.std.specs.Prelude.{[], ◌∷◌};
-
-    ghost says = { λ t. t.inner.ask ∷ [] };
-}
-
-pub struct Zero;
-
-impl<P> Says<Known<LinkedList<Token<P>>>, u64> for Zero {
-    ghost says = { λ t. 0 };
 }
 
 fn vacant<P: Drop>(alloc: Global, rows: u32) -> Result<Vec<Option<P>>, AllocError>
