@@ -1,3 +1,4 @@
+pub mod Gathering
 pub mod Members
 pub mod Cuts
 pub mod Filters

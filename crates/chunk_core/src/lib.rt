@@ -14,3 +14,6 @@ pub use feed::{Fed, Feed};
 pub use list::{Line, List, Row};
 pub use load::{Load, render};
 pub use word::Word;
+
+#[cfg(test)]
+mod tests;
