@@ -4,3 +4,4 @@ pub mod Cuts
 pub mod Filters
 pub mod Places
 pub mod Rendering
+pub mod Windows

@@ -1,5 +1,5 @@
 //! Windows on shared vectors.
-ghost use Rattle.std.specs.Prelude.{◌≡◌, ◌==◌, length, IfOk, slice_get};
+ghost use Rattle.std.specs.Prelude.{◌≡◌, ◌==◌, length, take, drop, IfOk, OnOk, OnErr, slice_get};
 ghost use Rattle.std.specs.Iterator.{YieldsFirstRef, item_count};
 ghost use Rattle.std.specs.Option.{option_copied};
 
@@ -77,6 +77,27 @@ impl<T> Chunk<T> {
     {
         let items: &Vec<T> = &self.items;
         &items.as_slice()[self.from..self.to]
+    }
+
+    /// Takes off the first `n` elements, or all where there are no more, without a copy.
+    pub fn split(&mut self, n: usize) -> Result<Chunk<T>, AllocError>
+        ensures front { IfOk result (λ front. front ≡ take n self.old) }
+        ensures rest { OnOk result (self.new ≡ drop n self.old) }
+        ensures err { OnErr result (self.new ≡ self.old) }
+    {
+        let items = Arc::try_clone(&self.items)?;
+        let middle = if n < self.to - self.from {
+            self.from + n
+        } else {
+            self.to
+        };
+        let front = Chunk {
+            items,
+            from: self.from,
+            to: middle,
+        };
+        self.from = middle;
+        Ok(front)
     }
 
     /// Each element in order.

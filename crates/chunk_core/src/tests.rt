@@ -100,6 +100,28 @@ fn chunk_shows_the_vector(rt: HostRuntime) -> Result<(), Fail> {
 }
 
 #[test]
+fn split_takes_off_the_front(rt: HostRuntime) -> Result<(), Fail> {
+    let mut chunk = bytes_of(rt.alloc(), [1, 2, 3].as_slice())?;
+    let front = chunk.split(2)?;
+    assert_eq!(rt; front.as_slice(), [1, 2].as_slice());
+    assert_eq!(rt; chunk.as_slice(), [3].as_slice());
+    let rest = chunk.split(2)?;
+    assert_eq!(rt; rest.as_slice(), [3].as_slice());
+    assert!(rt; chunk.is_empty());
+    Ok(())
+}
+
+/// What may be passed to another thread.
+fn is_sendable<T: Send>(_value: &T) {}
+
+#[test]
+fn loads_go_to_other_threads(rt: HostRuntime) -> Result<(), Fail> {
+    let load = Load::Bytes(bytes_of(rt.alloc(), [1].as_slice())?);
+    is_sendable(&load);
+    Ok(())
+}
+
+#[test]
 fn codes_and_ends_have_their_names(rt: HostRuntime) -> Result<(), Fail> {
     let how = How::Fault(Code::Raised(7));
     let text = format!(in rt.alloc(); "{how}")?;
