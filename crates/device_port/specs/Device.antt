@@ -1,6 +1,17 @@
 -- What a device tells.
-use Rattle.std.specs.Prelude.{ℕ, ◌+◌, Bool, false, List, ◌++◌, Option, option_map}
+use Rattle.std.specs.Prelude.{ℕ, ◌+◌, Bool, true, false, List, ◌++◌, Option, option_map}
 use Rattle.device_port.specs.declared.device.Mode.{Mode}
+use Rattle.device_port.specs.declared.device.Mode.TheVariants as mode
+
+-- for reading
+abbrev pub is_read : Mode → Bool
+is_read mode.Read = true
+is_read mode.Write = false
+
+-- for writing
+abbrev pub is_write : Mode → Bool
+is_write mode.Read = false
+is_write mode.Write = true
 
 -- a path and what is done there
 pub record Place : Type 0 where

@@ -4,19 +4,26 @@
 //! fall, and contents where it tells them. A real file tells no content.
 #![tactic(auto)]
 
+pub(crate) mod calls;
 pub mod depot;
 pub mod device;
 pub mod gate;
 pub mod mem;
+pub mod mem_device;
+pub mod record;
 pub mod sink;
 pub mod source;
+pub mod trip;
 
 pub use depot::Depot;
 pub use device::{Device, Mode};
 pub use gate::{Gate, OpenGate};
 pub use mem::{MemSink, MemSource};
+pub use mem_device::MemDevice;
+pub use record::{Record, Stage};
 pub use sink::{Sink, put};
 pub use source::Source;
+pub use trip::{Act, Trip};
 
 /// A call on the outside failed.
 #[derive(Clone, Copy, Debug, PartialEq, Eq)]

@@ -1,20 +1,11 @@
 //! A source and a sink in memory, of which named calls fail.
 ghost use Rattle.std.specs.Prelude.{◌≡◌, ◌+◌, ◌-◌, ◌^◌, ◌<◌, ◌≤◌, ◌↔◌, ◌++◌, [], min, length, take, drop, Some, true, false, IfOk, OnOk, OnErr, IsErr, IsOk, IfSome, IsTrue, vec_len};
-ghost use Rattle.device_port.specs.Trips.{next_call, is_named};
+ghost use Rattle.device_port.specs.Trips.{is_next_named, counted};
 
+use crate::calls::Calls;
 use crate::{Failed, Sink, Source};
 use chunk_core::List;
 use std::alloc::{AllocError, Global};
-
-/// Counts one more call, and tells whether it is named.
-pub(crate) fn fails_next(calls: &mut u64, fail: &[u32]) -> bool
-    ensures named { result ≡ is_named calls.new fail.now }
-    ensures counted { calls.new ≡ next_call calls.old }
-{
-    *calls = calls.saturating_add(1);
-    let call = *calls;
-    fail.iter().any(|nth| u64::from(*nth) == call)
-}
 
 /// Copies as much of the front as there is room for, and tells its length.
 pub(crate) fn copy_front(from: &[u8], to: &mut [u8]) -> usize
@@ -31,8 +22,7 @@ pub(crate) fn copy_front(from: &[u8], to: &mut [u8]) -> usize
 pub struct MemSource {
     bytes: Vec<u8>,
     at: usize,
-    fail: List<u32>,
-    reads: u64,
+    reads: Calls,
     faults: u64,
     ghost within: { at ≤ vec_len bytes },
 }
@@ -43,14 +33,12 @@ impl MemSource {
     /// A source of these bytes. The reads whose numbers, from 1, stand in `fail` fail.
     pub fn new(alloc: Global, bytes: &[u8], fail: List<u32>) -> Result<MemSource, AllocError>
         ensures told { IfOk result (λ s. source_told s ≡ record { left = Some bytes.now; faults = 0 }) }
-        ensures fail { IfOk result (λ s. s.fail ≡ fail) }
-        ensures reads { IfOk result (λ s. s.reads ≡ 0) }
+        ensures reads { IfOk result (λ s. s.reads ≡ record { fail = fail; made = 0 }) }
     {
         Ok(MemSource {
             bytes: Vec::from_slice(alloc, bytes)?,
             at: 0,
-            fail,
-            reads: 0,
+            reads: Calls::new(fail),
             faults: 0,
         })
     }
@@ -72,11 +60,11 @@ impl Source for MemSource {
         ensures end { IfOk result (λ n. n ≡ 0 → IfSome (source_told self.old).left (λ left. left ≡ [])) }
         ensures failed { OnErr result (source_told self.new ≡ record (source_told self.old) { faults = (source_told self.old).faults + 1 }) }
         ensures most { IfOk result (λ n. n ≡ min (vec_len self.old.bytes - self.old.at) (length buf.new)) }
-        ensures named { IsErr result ↔ IsTrue (is_named self.new.reads self.old.fail) }
-        ensures counted { self.new.reads ≡ next_call self.old.reads }
-        ensures same { (self.new.bytes ≡ self.old.bytes) × (self.new.fail ≡ self.old.fail) }
+        ensures named { IsErr result ↔ IsTrue (is_next_named self.old.reads) }
+        ensures counted { self.new.reads ≡ counted self.old.reads }
+        ensures same { self.new.bytes ≡ self.old.bytes }
     {
-        if fails_next(&mut self.reads, self.fail.as_slice()) {
+        if self.reads.fails_next() {
             self.faults += 1;
             return Err(Failed);
         }
@@ -90,8 +78,7 @@ impl Source for MemSource {
 #[derive(Drop)]
 pub struct MemSink {
     bytes: Vec<u8>,
-    fail: List<u32>,
-    writes: u64,
+    writes: Calls,
     faults: u64,
     starved: u64,
     ghost few: { starved ≤ faults },
@@ -104,14 +91,12 @@ impl MemSink {
     pub fn new(alloc: Global, fail: List<u32>) -> Result<MemSink, AllocError>
         ensures ok { IsOk result }
         ensures told { IfOk result (λ s. sink_told s ≡ record { written = Some []; faults = 0 }) }
-        ensures fail { IfOk result (λ s. s.fail ≡ fail) }
-        ensures writes { IfOk result (λ s. s.writes ≡ 0) }
+        ensures writes { IfOk result (λ s. s.writes ≡ record { fail = fail; made = 0 }) }
         ensures starved { IfOk result (λ s. s.starved ≡ 0) }
     {
         Ok(MemSink {
             bytes: Vec::new(alloc),
-            fail,
-            writes: 0,
+            writes: Calls::new(fail),
             faults: 0,
             starved: 0,
         })
@@ -150,13 +135,12 @@ impl Sink for MemSink {
         ensures count { IfOk result (λ n. n ≡ length bytes.now) }
         ensures ok { OnOk result (sink_told self.new ≡ with_bytes (sink_told self.old) bytes.now) }
         ensures failed { OnErr result (sink_told self.new ≡ record (sink_told self.old) { faults = (sink_told self.old).faults + 1 }) }
-        ensures named { is_named self.new.writes self.old.fail ≡ true → IsErr result × (self.new.starved ≡ self.old.starved) }
-        ensures unnamed { is_named self.new.writes self.old.fail ≡ false → OnErr result (self.new.starved ≡ self.old.starved + 1) }
+        ensures named { is_next_named self.old.writes ≡ true → IsErr result × (self.new.starved ≡ self.old.starved) }
+        ensures unnamed { is_next_named self.old.writes ≡ false → OnErr result (self.new.starved ≡ self.old.starved + 1) }
         ensures fed { OnOk result (self.new.starved ≡ self.old.starved) }
-        ensures counted { self.new.writes ≡ next_call self.old.writes }
-        ensures same { self.new.fail ≡ self.old.fail }
+        ensures counted { self.new.writes ≡ counted self.old.writes }
     {
-        if fails_next(&mut self.writes, self.fail.as_slice()) {
+        if self.writes.fails_next() {
             self.faults += 1;
             return Err(Failed);
         }

@@ -1,0 +1,23 @@
+-- What a record of a memory device tells.
+use Rattle.std.specs.Prelude.{ℕ, Some}
+use Rattle.device_port.specs.Device.{DeviceTold}
+use Rattle.device_port.specs.Stage.{is_open_at, opens_of, closes_of, close_faults_of}
+use Rattle.device_port.specs.declared.record.Record.{Record}
+
+-- its number, place, contents, state and counts
+abbrev pub record_told : Record → DeviceTold
+record_told r = record {
+  number = r.number;
+  place = record { path = r.path; mode = r.mode };
+  present = Some r.present;
+  content = Some r.content.items;
+  at = r.at;
+  written = Some r.written.items;
+  is_open = is_open_at r.stage;
+  opens = opens_of r.stage;
+  closes = closes_of r.stage;
+  open_faults = r.open_faults;
+  read_faults = r.read_faults;
+  write_faults = r.write_faults;
+  close_faults = close_faults_of r.stage;
+}

@@ -1,0 +1,79 @@
+//! What a device has come to.
+ghost use Rattle.std.specs.Prelude.{◌≡◌, ◌≤◌};
+ghost use Rattle.device_port.specs.Stage.{opens_of, closes_of, close_faults_of, is_open_at};
+
+use crate::Mode;
+use chunk_core::Word;
+
+/// How far a device has come.
+#[derive(Clone, Copy, Debug, PartialEq, Eq)]
+pub enum Stage {
+    Unopened,
+    Open,
+    Closed,
+    /// It was closed, and the close failed.
+    ClosedBadly,
+}
+
+impl Stage {
+    pub fn is_open(self) -> bool
+        ensures { result ≡ is_open_at self }
+    {
+        match self {
+            Stage::Open => true,
+            _ => false,
+        }
+    }
+
+    /// How often the device was opened.
+    pub fn opens(self) -> u64
+        ensures { result ≡ opens_of self }
+    {
+        match self {
+            Stage::Unopened => 0,
+            _ => 1,
+        }
+    }
+
+    /// How often the device was closed.
+    pub fn closes(self) -> u64
+        ensures { result ≡ closes_of self }
+    {
+        match self {
+            Stage::Unopened | Stage::Open => 0,
+            _ => 1,
+        }
+    }
+
+    /// How often closing it failed.
+    pub fn close_faults(self) -> u64
+        ensures { result ≡ close_faults_of self }
+    {
+        match self {
+            Stage::ClosedBadly => 1,
+            _ => 0,
+        }
+    }
+}
+
+/// All that a memory device tells.
+#[derive(Drop)]
+pub struct Record {
+    pub number: u64,
+    pub path: Word,
+    pub mode: Mode,
+    /// Whether the path was there when the device was made.
+    pub present: bool,
+    /// The bytes of the path when the device was made.
+    pub content: Vec<u8>,
+    /// How many bytes of the content were read.
+    pub at: usize,
+    pub written: Vec<u8>,
+    pub stage: Stage,
+    pub open_faults: u64,
+    pub read_faults: u64,
+    pub write_faults: u64,
+    /// How often a write failed since there was no memory for its bytes.
+    pub starved: u64,
+    ghost few: { starved ≤ write_faults },
+}
