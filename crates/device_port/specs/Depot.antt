@@ -1,5 +1,6 @@
 -- What a depot tells.
-use Rattle.std.specs.Prelude.{◌≡◌, ◌≢◌, ◌⊎◌, ℕ, ◌<◌, Bool, false, List, [], ◌∷◌, ◌++◌, length, Option, Some, None, option_map, unwrap_or, is_some}
+use Rattle.std.specs.Prelude.{◌≡◌, ◌≢◌, ◌⊎◌, ℕ, ◌<◌, Bool, false, List, [], ◌∷◌, ◌++◌, length, Option, Some, None, option_map, unwrap_or, is_some, map, nat_eq, true}
+use Rattle.std.specs.List.{IsDistinct, list_any}
 use Rattle.chunk_core.specs.Lists.{Each}
 use Rattle.device_port.specs.declared.device.Mode.{Mode}
 use Rattle.device_port.specs.declared.device.Mode.TheVariants as mode
@@ -63,3 +64,15 @@ KeepsFilesBut IsWritten (Some f) None = ⊥
 -- the files are as before, but for the path of a device that was opened for writing
 abbrev pub KeepsOtherFiles : DepotTold → DepotTold → DeviceTold → Type 0
 KeepsOtherFiles old new dev = KeepsFilesBut (λ path. (dev.place.mode ≡ mode.Write) × (dev.opens ≡ 1) × (path ≡ dev.place.path)) old.files new.files
+
+-- the numbers of these devices
+abbrev pub numbers : List DeviceTold → List ℕ
+numbers ds = map (λ d. d.number) ds
+
+-- no two of these devices have one number
+abbrev pub AreApart : List DeviceTold → Type 0
+AreApart ds = IsDistinct nat_eq (numbers ds)
+
+-- each of these devices has a number below n
+abbrev pub AreBelow : ℕ → List DeviceTold → Type 0
+AreBelow n ds = (q : ℕ) → list_any (nat_eq q) (numbers ds) ≡ true → q < n

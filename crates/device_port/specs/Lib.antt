@@ -4,5 +4,7 @@ pub mod Device
 pub mod Depot
 pub mod Stage
 pub mod Records
+pub mod Files
 pub mod Trips
 pub mod Memory
+pub mod MemDepot

@@ -1,8 +1,9 @@
 -- Which calls of a memory object are to fail.
-use Rattle.std.specs.Prelude.{ℕ, ◌+◌, ◌-◌, ◌^◌, min, Bool, true, false, ◌&&◌, List, [], ◌∷◌, cond, nat_eq}
+use Rattle.std.specs.Prelude.{ℕ, ◌+◌, ◌-◌, ◌^◌, min, Bool, true, false, ◌&&◌, List, map, filter, nat_eq}
 use Rattle.std.specs.List.{list_any}
 use Rattle.std.specs.Str.{bytes_eq}
 use Rattle.device_port.specs.declared.calls.Calls.{Calls}
+use Rattle.device_port.specs.declared.calls.ActCalls.{ActCalls}
 use Rattle.device_port.specs.declared.trip.Trip.{Trip}
 use Rattle.device_port.specs.declared.trip.Act.{Act}
 use Rattle.device_port.specs.declared.trip.Act.TheVariants as act
@@ -29,5 +30,13 @@ is_same_act _ _ = false
 
 -- the numbers of the calls of this act that are to fail at the path
 abbrev pub nths_of : List ℕ → Act → List Trip → List ℕ
-nths_of path a [] = []
-nths_of path a (t ∷ ts) = cond (is_same_act t.act a && bytes_eq t.path path) (t.nth ∷ nths_of path a ts) (nths_of path a ts)
+nths_of path a trips = map (λ t. t.nth) (filter (λ t. is_same_act t.act a && bytes_eq t.path path) trips)
+
+-- no call was made yet, and those that are named for the path are to fail
+abbrev pub calls_at : List ℕ → List Trip → ActCalls
+calls_at path trips = record {
+  opens = record { fail = nths_of path act.Open trips; made = 0 };
+  reads = record { fail = nths_of path act.Read trips; made = 0 };
+  writes = record { fail = nths_of path act.Write trips; made = 0 };
+  closes = record { fail = nths_of path act.Close trips; made = 0 };
+}

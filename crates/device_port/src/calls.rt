@@ -1,9 +1,9 @@
 //! Which calls of a memory object are to fail.
 ghost use Rattle.std.specs.Prelude.{◌≡◌, IfOk};
-ghost use Rattle.device_port.specs.Trips.{next_call, is_next_named, counted, nths_of};
+ghost use Rattle.std.specs.Str.{bytes_eq};
+ghost use Rattle.device_port.specs.Trips.{is_next_named, counted, is_same_act, nths_of, calls_at};
 
-use crate::Trip;
-use crate::trip::Act;
+use crate::{Act, Trip};
 use chunk_core::List;
 use std::alloc::{AllocError, Global};
 
@@ -42,4 +42,31 @@ pub(crate) struct ActCalls {
     pub(crate) reads: Calls,
     pub(crate) writes: Calls,
     pub(crate) closes: Calls,
+}
+
+impl ActCalls {
+    /// The calls on a device of this path, of which none was made yet.
+    pub(crate) fn at(alloc: Global, trips: &[Trip], path: &str) -> Result<ActCalls, AllocError>
+        ensures { IfOk result (λ calls. calls ≡ calls_at path.now trips.now) }
+    {
+        Ok(ActCalls {
+            opens: Calls::new(nths_of(alloc, trips, path, Act::Open)?),
+            reads: Calls::new(nths_of(alloc, trips, path, Act::Read)?),
+            writes: Calls::new(nths_of(alloc, trips, path, Act::Write)?),
+            closes: Calls::new(nths_of(alloc, trips, path, Act::Close)?),
+        })
+    }
+}
+
+/// The numbers of the calls of this act that are to fail at the path.
+fn nths_of(alloc: Global, trips: &[Trip], path: &str, act: Act) -> Result<List<u32>, AllocError>
+    ensures { IfOk result (λ nths. nths ≡ nths_of path.now act trips.now) }
+{
+    let mut nths = List::new(alloc);
+    for trip in trips {
+        if trip.act == act && trip.path.as_str() == path {
+            nths.push(trip.nth)?;
+        }
+    }
+    Ok(nths)
 }

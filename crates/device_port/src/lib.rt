@@ -7,8 +7,10 @@
 pub(crate) mod calls;
 pub mod depot;
 pub mod device;
+pub mod files;
 pub mod gate;
 pub mod mem;
+pub mod mem_depot;
 pub mod mem_device;
 pub mod record;
 pub mod sink;
@@ -17,8 +19,10 @@ pub mod trip;
 
 pub use depot::Depot;
 pub use device::{Device, Mode};
+pub use files::{FileOf, PlaceOf};
 pub use gate::{Gate, OpenGate};
 pub use mem::{MemSink, MemSource};
+pub use mem_depot::MemDepot;
 pub use mem_device::MemDevice;
 pub use record::{Record, Stage};
 pub use sink::{Sink, put};

@@ -18,6 +18,20 @@ pub struct MemDevice {
 }
 
 impl MemDevice {
+    pub(crate) fn new(facts: Record, calls: ActCalls) -> MemDevice
+        requires { facts.at ≡ 0 }
+        ensures facts { result.facts ≡ facts }
+        ensures calls { result.calls ≡ calls }
+    {
+        MemDevice { facts, calls }
+    }
+
+    pub(crate) fn into_facts(self) -> Record
+        ensures { result ≡ self.facts }
+    {
+        self.facts
+    }
+
     /// What it has come to.
     pub fn facts(&self) -> &Record
         ensures { result.now ≡ self.now.facts }

@@ -77,3 +77,16 @@ pub struct Record {
     pub starved: u64,
     ghost few: { starved ≤ write_faults },
 }
+
+impl Record {
+    ghost use Rattle.device_port.specs.Files.{wrote};
+    ghost use Rattle.device_port.specs.Device.{faults_of};
+    ghost use Rattle.device_port.specs.Records.{record_told};
+
+    /// Whether it was opened for writing at this path.
+    pub fn wrote(&self, path: &str) -> bool
+        ensures { result ≡ wrote path.now self.now }
+    {
+        self.mode == Mode::Write && self.stage.opens() == 1 && self.path.as_str() == path
+    }
+}
