@@ -4,3 +4,5 @@ pub mod Tests
 pub mod Blocks
 pub mod Ordering
 pub mod Orders
+pub mod Noted
+pub mod Judged

@@ -3,3 +3,5 @@ pub mod Texts
 pub mod Streams
 pub mod Own
 pub mod Order
+pub mod Whole
+pub mod Judge

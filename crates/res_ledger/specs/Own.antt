@@ -1,5 +1,5 @@
 -- What one stream noted, in order, and what its scopes and rows are by it.
-use Rattle.std.specs.Prelude.{ℕ, Bool, true, false, nat_eq, ◌&&◌, ◌||◌, not, if◌then◌else◌, List, [], ◌∷◌, ◌++◌}
+use Rattle.std.specs.Prelude.{ℕ, Bool, true, false, nat_eq, ◌&&◌, ◌||◌, not, if◌then◌else◌, List, [], ◌∷◌, ◌++◌, flat_map}
 use Rattle.chunk_core.specs.Lists.{any}
 use Rattle.res_ledger.specs.declared.event.StreamNo.{StreamNo}
 use Rattle.res_ledger.specs.declared.event.StreamNo.TheVariants.{Outer, Inner}
@@ -48,18 +48,15 @@ closes_of (Final r ok) = []
 
 -- the scopes that were opened, each with its parent, in order
 abbrev pub opens : List What → List (ℕ × ℕ)
-opens [] = []
-opens (w ∷ E) = opens_of w ++ opens E
+opens E = flat_map opens_of E
 
 -- the rows that were acquired, each with its scope, in order
 abbrev pub rows : List What → List (ℕ × ℕ)
-rows [] = []
-rows (w ∷ E) = rows_of w ++ rows E
+rows E = flat_map rows_of E
 
 -- the scopes that have a Close of their own
 abbrev pub closes : List What → List ℕ
-closes [] = []
-closes (w ∷ E) = closes_of w ++ closes E
+closes E = flat_map closes_of E
 
 -- the number stands in the list
 abbrev pub has : ℕ → List ℕ → Bool
