@@ -6,3 +6,5 @@ pub mod Ordering
 pub mod Orders
 pub mod Noted
 pub mod Judged
+pub mod Prefixes
+pub mod Forward

@@ -5,3 +5,4 @@ pub mod Own
 pub mod Order
 pub mod Whole
 pub mod Judge
+pub mod Standing
