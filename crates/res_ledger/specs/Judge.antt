@@ -1,5 +1,5 @@
 -- Tests of the rules of a ledger. What passes one meets the rule.
-use Rattle.std.specs.Prelude.{ℕ, Bool, true, false, ◌&&◌, ◌||◌, not, nat_eq, List, [], ◌∷◌, ◌++◌, flat_map}
+use Rattle.std.specs.Prelude.{◌≡◌, ℕ, Bool, true, false, ◌&&◌, ◌||◌, not, nat_eq, List, [], ◌∷◌, ◌++◌, flat_map}
 use Rattle.chunk_core.specs.Lists.{any, all}
 use Rattle.res_ledger.specs.declared.event.StreamNo.{StreamNo}
 use Rattle.res_ledger.specs.declared.event.StreamNo.TheVariants.{Outer, Inner}
@@ -7,7 +7,8 @@ use Rattle.res_ledger.specs.declared.event.What.{What}
 use Rattle.res_ledger.specs.declared.event.What.TheVariants.{Open, Acquire, Lease, Cancel, Close, Final}
 use Rattle.res_ledger.specs.declared.event.Event.{Event}
 use Rattle.res_ledger.specs.Own.{same_name, own, opens, rows, rows_of, closes, has, above, is_closed}
-use Rattle.res_ledger.specs.Whole.{is_final, is_cancel, final_count, cancel_count}
+use Rattle.res_ledger.specs.Ledger.{IsLegal}
+use Rattle.res_ledger.specs.Whole.{is_final, is_cancel, final_count, cancel_count, IsComplete}
 
 -- the stream that an event leases a scope for, with the scope
 abbrev pub leased_of : What → List (ℕ × ℕ)
@@ -127,3 +128,11 @@ is_late L P (Final r ok) = is_row_closed P r && is_released L P r
 -- a test of IsComplete
 abbrev pub is_complete : List Event → Bool
 is_complete L = all (λ e. is_answered L e.by e.what) L && each_after (λ P e. is_late L P e.what) [] L
+
+-- what passes the test of legality is legal
+abbrev pub LegalTestIsSound : Type 0
+LegalTestIsSound = (L : List Event) → is_legal L ≡ true → IsLegal L
+
+-- what passes the test of completeness is complete
+abbrev pub CompleteTestIsSound : Type 0
+CompleteTestIsSound = (L : List Event) → is_complete L ≡ true → IsComplete L

@@ -1,5 +1,5 @@
 -- In which order a stream notes the ends of its rows.
-use Rattle.std.specs.Prelude.{◌≡◌, ℕ, Bool, true, false, nat_eq, ◌&&◌, if◌then◌else◌, List, [], ◌∷◌, ◌++◌, reverse}
+use Rattle.std.specs.Prelude.{◌≡◌, ◌↔◌, ℕ, Bool, true, false, nat_eq, ◌&&◌, if◌then◌else◌, List, [], ◌∷◌, ◌++◌, reverse}
 use Rattle.chunk_core.specs.Lists.{all}
 use Rattle.res_ledger.specs.declared.event.StreamNo.{StreamNo}
 use Rattle.res_ledger.specs.declared.event.What.{What}
@@ -118,3 +118,7 @@ is_in_order L k = is_in_blocks (λ r. has r (covered L)) (λ j. reverse (covered
 -- a test of IsOrdered, by the streams that noted something
 abbrev pub is_ordered : List Event → Bool
 is_ordered L = all (λ e. is_in_order L e.by) L
+
+-- the test passes exactly the ordered ledgers
+abbrev pub OrderTestIsExact : Type 0
+OrderTestIsExact = (L : List Event) → (is_ordered L ≡ true) ↔ IsOrdered L
