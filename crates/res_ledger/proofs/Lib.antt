@@ -8,3 +8,4 @@ pub mod Noted
 pub mod Judged
 pub mod Prefixes
 pub mod Forward
+pub mod Stamps

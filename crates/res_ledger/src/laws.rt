@@ -8,13 +8,11 @@ pub fn standing_goes_forward()
     ensures forward { StandingGoesForward }
     ensures never_back { StandingNeverGoesBack }
     ensures one { StandingIsOne }
-{
-}
+{}
 
 /// The tests of a ledger that is written out.
 pub fn tests_are_right()
     ensures ordered { OrderTestIsExact }
     ensures legal { LegalTestIsSound }
     ensures complete { CompleteTestIsSound }
-{
-}
+{}
