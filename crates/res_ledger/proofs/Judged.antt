@@ -70,7 +70,7 @@ unclosed_sound P k s h c =
     let d = both (is_upward S (own k P)) (all (λ c. not (has c S)) (closes (own k P))) b.1 in
     no (has c.0 S) (all_at (λ c. not (has c S)) c.0 (closes (own k P)) (notes_closes P k c.0 c.2) d.1) (upward_kept S P k d.0 c.1 b.0)
 
-opened_in : (P : List Event) (k : StreamNo) (s : ℕ) → any (is_of s) (opens (own k P)) ≡ true → IsOpened P k s
+pub opened_in : (P : List Event) (k : StreamNo) (s : ℕ) → any (is_of s) (opens (own k P)) ≡ true → IsOpened P k s
 opened_in P k s h = let f = any_found (is_of s) (opens (own k P)) h in (f.0.1, subst (λ x. Notes P k (Open x f.0.1)) (number f.0.0 s f.2) (opens_notes P k f.0 f.1))
 
 pub usable_sound : (P : List Event) (k : StreamNo) (s : ℕ) → is_usable (own k P) s ≡ true → IsUsable P k s
@@ -116,10 +116,10 @@ covered_by_sound L j r h =
     let n = subst (λ y. Notes A e.by (Acquire y x.0.1)) (number x.0.0 r d.0) (rows_notes A e.by x.0 x.1) in
     (e.by, (A, f.1, e, l.0.1, f.3, refl, leased_shape e.what l.0 l.1 ∙ ap (λ y. Lease y l.0.1) (number l.0.0 j b.0), reached_sound A e.by l.0.1 x.0.1 r n d.1))
 
-canceled_in : (P : List Event) (j : ℕ) → is_noted (is_cancel j) P ≡ true → IsCanceled P j
+pub canceled_in : (P : List Event) (j : ℕ) → is_noted (is_cancel j) P ≡ true → IsCanceled P j
 canceled_in P j h = let f = noted_found (is_cancel j) P h in (f.0, (f.2.0, f.2.1, f.2.2, f.2.3 ∙ is_cancel_shape j f.1 f.3))
 
-final_in : (P : List Event) (r : ℕ) → is_noted (is_final r) P ≡ true → IsFinalized P r
+pub final_in : (P : List Event) (r : ℕ) → is_noted (is_final r) P ≡ true → IsFinalized P r
 final_in P r h = let f = noted_found (is_final r) P h in let g = is_final_shape r f.1 f.3 in (f.0, g.0, (f.2.0, f.2.1, f.2.2, f.2.3 ∙ g.1))
 
 -- each lease that covers a released row was canceled
@@ -167,10 +167,22 @@ inherited_sound P k r h =
 pub acquired_found : (P : List Event) (r : ℕ) → IsAcquired P r → is_acquired P r ≡ true
 acquired_found P r o = noted_at (λ w. any (is_of r) (rows_of w)) P o.0 (Acquire r o.1) o.2 (or_left (nat_eq r r) false (itself r))
 
+pub acquired_in : (P : List Event) (r : ℕ) → is_acquired P r ≡ true → IsAcquired P r
+acquired_in P r h =
+    let f = noted_found (λ w. any (is_of r) (rows_of w)) P h in
+    let x = any_found (is_of r) (rows_of f.1) f.3 in
+    (f.0, x.0.1, (f.2.0, f.2.1, f.2.2, f.2.3 ∙ rows_shape f.1 x.0 x.1 ∙ ap (λ y. Acquire y x.0.1) (number x.0.0 r x.2)))
+
+pub canceled_found : (P : List Event) (j : ℕ) → IsCanceled P j → is_noted (is_cancel j) P ≡ true
+canceled_found P j c = noted_at (is_cancel j) P c.0 (Cancel j) c.1 (itself j)
+
+pub final_found : (P : List Event) (r : ℕ) → IsFinalized P r → is_noted (is_final r) P ≡ true
+final_found P r f = noted_at (is_final r) P f.0 (Final r f.1) f.2 (itself r)
+
 pub leased_found : (P : List Event) (j : ℕ) → IsLeased P j → is_leased P j ≡ true
 leased_found P j o = noted_at (λ w. any (is_of j) (leased_of w)) P o.0 (Lease j o.1) o.2 (or_left (nat_eq j j) false (itself j))
 
-leased_in : (P : List Event) (j : ℕ) → is_leased P j ≡ true → IsLeased P j
+pub leased_in : (P : List Event) (j : ℕ) → is_leased P j ≡ true → IsLeased P j
 leased_in P j h =
     let f = noted_found (λ w. any (is_of j) (leased_of w)) P h in
     let l = any_found (is_of j) (leased_of f.1) f.3 in

@@ -9,3 +9,4 @@ pub mod Judged
 pub mod Prefixes
 pub mod Forward
 pub mod Stamps
+pub mod Refuted
