@@ -1,5 +1,5 @@
 -- A seat is taken in.
-use Rattle.std.proofs.Common.{◌≡◌, ◌≢◌, ℕ, ◌≤◌, ◌⊎◌, true, false, map, List, [], ◌++◌, length, slice_set, inl, inr, refl, sym, ap, ◌∙◌, subst, ⊎_elim, arith}
+use Rattle.std.proofs.Common.{◌≡◌, ◌≢◌, ℕ, ◌^◌, ◌<◌, ◌≤◌, ◌⊎◌, true, false, map, List, [], ◌++◌, length, slice_set, inl, inr, refl, sym, ap, ◌∙◌, subst, ⊎_elim, arith}
 use Rattle.std.specs.Prelude.{Some, Option}
 use Rattle.res_ledger.specs.declared.event.What.TheVariants.{Acquire, Lease}
 use Rattle.row_seat.specs.Totals.{At, pair_times, row_times, times}
@@ -147,4 +147,5 @@ module _ {P : Type 0} (rows room : ℕ) (word : ℕ → ℕ) (slot : ℕ → Opt
     leases = subst (λ l. Leases log l) (sym (map_two hold views id jd ma nb)) leases';
     pays = subst (λ l. Pays word slot log l) (sym (map_two purse views id jd ma nb)) pays';
     spent = each_two views id jd v w ma nb at at' apart (λ i u. u.live ≡ false → (u.empty ≡ []) × (u.opened ≡ []) × (u.pairs ≡ []) × (u.kept ≡ []) × (u.handed ≡ []) × (u.given ≡ []) × (u.left ≡ []) × (u.events ≡ [])) (λ f. absurd (live_not live f)) (λ f. (refl, refl, refl, refl, refl, refl, refl, refl)) (λ i u ne me g. rule.spent i u g);
+    small = λ i j r u. each_two views id jd v w ma nb at at' apart (λ i u. IsAmong (j, r) u.pairs → j < 2 ^ 32) (rule.small id j r v at) (λ m. absurd (among_nil m)) (λ i u ne me g. rule.small i j r u g) i u;
   }

@@ -1,5 +1,5 @@
 -- The rule under each step on one row.
-use Rattle.std.proofs.Common.{◌≡◌, ◌≢◌, ℕ, zero, suc, ◌+◌, ◌-◌, ◌*◌, ◌<◌, ◌≤◌, ◌⊎◌, true, map, List, [], ◌∷◌, ◌++◌, slice_set, inl, inr, refl, sym, ap, ◌∙◌, subst, ⊎_elim, arith}
+use Rattle.std.proofs.Common.{◌≡◌, ◌≢◌, ℕ, zero, suc, ◌+◌, ◌-◌, ◌*◌, ◌<◌, ◌^◌, ◌≤◌, ◌⊎◌, true, map, List, [], ◌∷◌, ◌++◌, slice_set, inl, inr, refl, sym, ap, ◌∙◌, subst, ⊎_elim, arith}
 use Rattle.std.specs.Prelude.{Some, Option}
 use Rattle.std.proofs.lemmas.Bool.{cases_eq}
 use Rattle.res_ledger.specs.declared.event.What.TheVariants.{Acquire, Cancel, Lease}
@@ -14,7 +14,7 @@ use Rattle.row_seat.specs.declared.token.Token.{Token}
 use Rattle.res_ledger.specs.declared.event.What.{What}
 use Rattle.chunk_core.proofs.Members.{among_last, among_left, among_snoc}
 use Rattle.row_seat.proofs.Members.{among_without}
-use Rattle.row_seat.proofs.Ticked.{at_book, at_deed, at_hold, at_purse, at_who, at_work, back, closed_forth, forth, keep, rule_put, spent_put}
+use Rattle.row_seat.proofs.Ticked.{at_book, at_deed, at_hold, at_purse, at_who, at_work, back, closed_forth, forth, keep, rule_put, small_put, spent_put}
 use Rattle.chunk_core.proofs.Places.{at_map}
 use Rattle.row_seat.specs.Rule.Stands.{awaits, final, handed, opened}
 use Rattle.res_ledger.proofs.Ledgers.{canceled_leased}
@@ -109,10 +109,10 @@ module _ {P : Type 0} (rows room : ℕ) (word : ℕ → ℕ) (slot : ℕ → Opt
         (λ j q m. ⊎_elim (λ o. inl o) (λ o. inr (o.0, o.1, among_left (r ∷ []) o.2)) (rule.leases.paired id j q (hold v) ah m)) (λ j q m. rule.leases.holder id j q (hold v) ah m)
         (λ j q. let x = total_set (λ (u : Hold). pair_times j q u.pairs) (map hold views) id (hold v) (hold w) ah in let o = rule.leases.pair_once j q in omega arith))
         (same_pays word' (pay_word word word' slot log (map purse views) rule.pays r other (λ n e. absurd (omega arith)) (λ e. absurd (omega arith)) (λ n e le. absurd (omega arith))))
-        (spent_put rows room word slot log views rule id v at live w live)
+        (spent_put rows room word slot log views rule id v at live w live) (small_put rows room word slot log views rule id v at live w (λ i q m. rule.small id i q v at m))
 
-    pub lease_keeps : word' r ≡ word r + 4 → (j : ℕ) → v.main ≡ true → IsAmong r v.opened → ¬ (IsAmong (j, r) v.pairs) → ¬ (IsLeased v.events j) → ¬ (IsAmong j v.had) → Rule rows room word' slot log (slice_set views id (leased v j r))
-    lease_keeps now j main is_mine no_pair no_lease no_seat =
+    pub lease_keeps : word' r ≡ word r + 4 → (j : ℕ) → j < 2 ^ 32 → v.main ≡ true → IsAmong r v.opened → ¬ (IsAmong (j, r) v.pairs) → ¬ (IsLeased v.events j) → ¬ (IsAmong j v.had) → Rule rows room word' slot log (slice_set views id (leased v j r))
+    lease_keeps now j small main is_mine no_pair no_lease no_seat =
         let w = leased v j r in let ws = map work views in let hs = map hold views in
         let a = total_set (λ (u : Work). times r u.empty) ws id (work v) (work w) ak in
         let b = total_set (λ (u : Work). times r u.opened) ws id (work v) (work w) ak in
@@ -143,7 +143,7 @@ module _ {P : Type 0} (rows room : ℕ) (word : ℕ → ℕ) (slot : ℕ → Opt
         let f = pair_push_same i q j r v.pairs e.2 in let g = total_at (λ (u : Hold). pair_times i q u.pairs) hs id (hold v) ah in omega arith)
         (λ e. let f = pair_push_other i q j r v.pairs e.1 in omega arith) (pair_is j r i q)))
         (same_pays word' (pay_word word word' slot log (map purse views) rule.pays r other (λ n e. absurd (omega arith)) (λ e. absurd (omega arith)) (λ n e le. absurd (omega arith))))
-        (spent_put rows room word slot log views rule id v at live w live)
+        (spent_put rows room word slot log views rule id v at live w live) (small_put rows room word slot log views rule id v at live w (λ i q m. ⊎_elim (rule.small id i q v at) (λ e. let f : i ≡ j = ap (λ (y : ℕ × ℕ). y.0) e in omega arith) (among_snoc v.pairs (i, q) (j, r) m)))
 
     -- a pair goes, and others stay on the row, or the row stays open
     pub leave_keeps : (j : ℕ) → IsAmong (j, r) v.pairs → Notes v.events v.by (Cancel j) → word' r + 4 ≡ word r → word' r ≢ 3 → Rule rows room word' slot log (slice_set views id (gone v j r))
@@ -168,7 +168,7 @@ module _ {P : Type 0} (rows room : ℕ) (word : ℕ → ℕ) (slot : ℕ → Opt
         (λ s. let s0 = s.0 in pay_word word word' slot log (map purse views) rule.pays r other (λ n e. absurd (omega arith)) (λ e. absurd (omega arith)) (λ n e le. absurd (omega arith)))
         (λ s. let s0 = s.0 in pay_word word word' slot log (map purse views) rule.pays r other (λ n e. (leases r ws - 1, omega arith)) (λ e. absurd (omega arith)) (λ n e le. (n + 1, omega arith, omega arith)))
         was.4))
-        (spent_put rows room word slot log views rule id v at live w live)
+        (spent_put rows room word slot log views rule id v at live w live) (small_put rows room word slot log views rule id v at live w (λ i q m. rule.small id i q v at (pair_among j r i q v.pairs m).0))
 
     -- the last pair goes from a closed row
     pub leave_last : (j : ℕ) (p : P) → IsAmong (j, r) v.pairs → Notes v.events v.by (Cancel j) → word' r + 4 ≡ word r → word' r ≡ 3 → slot r ≡ Some p → Rule rows room word' slot log (slice_set views id (handed_over (gone v j r) r p))
@@ -196,7 +196,7 @@ module _ {P : Type 0} (rows room : ℕ) (word : ℕ → ℕ) (slot : ℕ → Opt
         (λ q m. ⊎_elim (rule.deeds.handed id q (deed v) ad) (λ e. subst (λ n. HasRight log v.by n) (sym e) (inr (j, covers.0, covers.1, log_of (Cancel j) cancel))) (among_snoc v.handed q r m)))
         (gone_leases j r lost)
         (give_pays word word' slot log ps rule.pays r other id (purse v) p ap' last left_here there old_given)
-        (spent_put rows room word slot log views rule id v at live w live)
+        (spent_put rows room word slot log views rule id v at live w live) (small_put rows room word slot log views rule id v at live w (λ i q m. rule.small id i q v at (pair_among j r i q v.pairs m).0))
 
     -- what a close leaves in the leases, whether it hands the row over or not
     shut_leases : word r ≡ 1 + 4 * leases r (map work views) → ((j : ℕ) → IsAmong (j, r) v.pairs → (s : ℕ) × Notes v.events v.by (Lease j s))
@@ -240,7 +240,7 @@ module _ {P : Type 0} (rows room : ℕ) (word : ℕ → ℕ) (slot : ℕ → Opt
           (deed_step log (map deed views) rule.deeds id (deed v) (deed w) ad refl refl (λ q m. m) (λ q m. rule.deeds.opened id q (deed v) ad (one_among r q v.opened m)) (λ q m. rule.deeds.handed id q (deed v) ad m))
           (shut_leases was.1 named)
           (shut_pays word word' slot log (map purse views) rule.pays r other slot' elsewhere id (purse v) p ap' (leases r ws) (omega arith) there (λ n e. omega arith) (λ i u g m. no_hand i u g m))
-          (spent_put rows room word slot log views rule id v at live w live)
+          (spent_put rows room word slot log views rule id v at live w live) (small_put rows room word slot log views rule id v at live w (λ i q m. rule.small id i q v at m))
 
       -- no lease stands
       pub close_yours : word' r ≡ 3 → Rule rows room word' slot' log (slice_set views id (handed_over (shut v r p) r p))
@@ -260,7 +260,7 @@ module _ {P : Type 0} (rows room : ℕ) (word : ℕ → ℕ) (slot : ℕ → Opt
           (λ q m. ⊎_elim (rule.deeds.handed id q (deed v) ad) (λ e. subst (λ n. HasRight log v.by n) (sym e) (inl (s, log_of (Acquire r s) noted))) (among_snoc v.handed q r m)))
           (shut_leases was.1 named)
           (close_pays word word' slot log ps rule.pays r other slot' elsewhere id (purse v) p ap' last there (λ n e. omega arith) (λ i u g m. no_hand i u g m))
-          (spent_put rows room word slot log views rule id v at live w live)
+          (spent_put rows room word slot log views rule id v at live w live) (small_put rows room word slot log views rule id v at live w (λ i q m. rule.small id i q v at m))
 
   -- the payload is lifted out of the slot
   pub take_keeps : (slot' : ℕ → Option P) (r : ℕ) → ((q : ℕ) → q ≢ r → slot' q ≡ slot q) → IsAmong r v.handed → Rule rows room word slot' log (slice_set views id (took v r))
@@ -282,4 +282,4 @@ module _ {P : Type 0} (rows room : ℕ) (word : ℕ → ℕ) (slot : ℕ → Opt
             (λ i u ne g m. let t = k.handed i q u g m in (t.0, t.1, λ f. elsewhere q (λ s. ne (one_hand r i u g mine (subst (λ n. IsAmong n u.handed) s m))) ∙ t.2 f)) i u;
         final = λ q f. let t = k.final q f in (t.0, given' q t.0 t.1);
       })
-      (spent_put rows room word slot log views rule id v at live w live)
+      (spent_put rows room word slot log views rule id v at live w live) (small_put rows room word slot log views rule id v at live w (λ i q m. rule.small id i q v at m))

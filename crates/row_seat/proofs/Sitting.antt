@@ -80,14 +80,13 @@ two_pairs i j r xs ne a b = let k = row_less i r xs in let p = pair_some i r xs 
 module _ {P : Type 0} (slots : List (Option P)) (words : List ℕ) (events : List Event) (most : ℕ) (views : List (Token P)) (t : IsTable slots words events most views) (id : ℕ) (v : Token P) (at : At views id v) (live : v.live ≡ true) where
   table_put : (slots' : List (Option P)) (words' : List ℕ) (events' : List Event) (most' : ℕ) (w : Token P) → length words' ≡ length words → length slots' ≡ length slots
       → Rule (length slots) t.room (λ r. slice_index words' r) (λ r. slice_index_or slots' r None) events' (slice_set views id w)
-      → length w.empty + length w.opened ≤ length v.empty + length v.opened → ((j r : ℕ) → IsAmong (j, r) w.pairs → j < 2 ^ 32) → most ≤ most' → IsTable slots' words' events' most' (slice_set views id w)
-  table_put slots' words' events' most' w lw ls rule load small more = record {
+      → length w.empty + length w.opened ≤ length v.empty + length v.opened → most ≤ most' → IsTable slots' words' events' most' (slice_set views id w)
+  table_put slots' words' events' most' w lw ls rule load more = record {
     room = t.room;
     enough = let e = t.enough in omega arith;
     words_are = lw ∙ (t.words_are ∙ sym ls);
     rule = subst (λ n. Rule n t.room (λ r. slice_index words' r) (λ r. slice_index_or slots' r None) events' (slice_set views id w)) (sym ls) rule;
     load = let a = total_set (λ (u : Token P). length u.empty + length u.opened) views id v w at in let b = t.load in omega arith;
-    small = λ i j r u. each views id w (λ i u. IsAmong (j, r) u.pairs → j < 2 ^ 32) (small j r) (λ i u ne g. t.small i j r u g) i u;
   }
 
   word_now : (r x : ℕ) → r < length slots → slice_index (slice_set words r x) r ≡ x
@@ -107,14 +106,14 @@ module _ {P : Type 0} (slots : List (Option P)) (words : List ℕ) (events : Lis
       let b = row_empty (length slots) t.room (λ r. slice_index words r) (λ r. slice_index_or slots r None) events views t.rule id v at live r can in
       table_put slots (slice_set words r 1) events most (placed v r) (length-set words r 1) refl
       (place_keeps (length slots) t.room (λ r. slice_index words r) (λ r. slice_index_or slots r None) events views t.rule id v at live (λ q. slice_index (slice_set words r 1) q) r (word_else r 1) (word_now r 1 b.0) can s noted)
-      (let l = length_without r v.empty can in let p = length_push v.opened r in omega arith) (λ j q m. t.small id j q v at m) (omega arith)
+      (let l = length_without r v.empty can in let p = length_push v.opened r in omega arith) (omega arith)
 
   pub lease_table : (j r : ℕ) → j < 2 ^ 32 → v.main ≡ true → IsAmong r v.opened → ¬ (IsAmong (j, r) v.pairs) → ¬ ((k : _) × (s : ℕ) × Notes v.events k (Lease j s)) → ¬ (IsAmong j v.had) → (n : ℕ) → n ≡ slice_index words r → IsTable slots (slice_set words r (n + 4)) events most (slice_set views id (leased v j r))
   lease_table j r small main mine no_pair no_lease no_seat n is =
       let b = row_open (length slots) t.room (λ r. slice_index words r) (λ r. slice_index_or slots r None) events views t.rule id v at live r mine in let x = n + 4 in
       table_put slots (slice_set words r x) events most (leased v j r) (length-set words r x) refl
-      (lease_keeps (length slots) t.room (λ r. slice_index words r) (λ r. slice_index_or slots r None) events views t.rule id v at live (λ q. slice_index (slice_set words r x) q) r (word_else r x) (word_now r x b.0 ∙ ap (λ n. n + 4) is) j main mine no_pair no_lease no_seat)
-      (omega arith) (λ i q m. ⊎_elim (t.small id i q v at) (λ e. let f : i ≡ j = ap (λ (y : ℕ × ℕ). y.0) e in omega arith) (among_snoc v.pairs (i, q) (j, r) m)) (omega arith)
+      (lease_keeps (length slots) t.room (λ r. slice_index words r) (λ r. slice_index_or slots r None) events views t.rule id v at live (λ q. slice_index (slice_set words r x) q) r (word_else r x) (word_now r x b.0 ∙ ap (λ n. n + 4) is) j small main mine no_pair no_lease no_seat)
+      (omega arith) (omega arith)
 
   few : (b r : ℕ) → ((i j : ℕ) (u : Token P) → At views i u → IsAmong (j, r) u.pairs → j < b) → ((j q : ℕ) → total (λ (h : Hold). pair_times j q h.pairs) (map hold views) ≤ 1) → leases r (map work views) ≤ b
   few b r below once =
@@ -125,13 +124,13 @@ module _ {P : Type 0} (slots : List (Option P)) (words : List ℕ) (events : Lis
   pub word_small : (r : ℕ) → IsAmong r v.opened → slice_index words r + 4 < 2 ^ 64
   word_small r mine =
       let b = row_open (length slots) t.room (λ r. slice_index words r) (λ r. slice_index_or slots r None) events views t.rule id v at live r mine in
-      let w = few (2 ^ 32) r (λ i j u g m. t.small i j r u g m) t.rule.leases.pair_once in let b1 = b.1 in omega arith
+      let w = few (2 ^ 32) r (λ i j u g m. t.rule.small i j r u g m) t.rule.leases.pair_once in let b1 = b.1 in omega arith
 
   pub tick_table : (most' : ℕ) → most ≤ most' → (hands : List (ℕ × P)) (x : What) → MayNote (seen v hands) x → 1 ≤ v.spare → IsTable slots words (events ++ record { stamp = length events; by = v.by; what = x } ∷ []) most' (slice_set views id (noted v (record { stamp = length events; by = v.by; what = x })))
   tick_table most' more hands x may sp = let e : Event = record { stamp = length events; by = v.by; what = x } in
       table_put slots words (events ++ e ∷ []) most' (noted v e) refl refl
       (tick_keeps (length slots) t.room (λ r. slice_index words r) (λ r. slice_index_or slots r None) events views t.rule id v at live sp hands x may)
-      (omega arith) (λ j q m. t.small id j q v at m) more
+      (omega arith) more
 
   pub leased_word : (j r : ℕ) → IsAmong (j, r) v.pairs → (r < length slots) × (4 ≤ slice_index words r)
   leased_word j r m =
@@ -146,14 +145,14 @@ module _ {P : Type 0} (slots : List (Option P)) (words : List ℕ) (events : Lis
       let b = leased_word j r pair in let b1 = b.1 in let now = word_now r (n - 4) b.0 in
       table_put slots (slice_set words r (n - 4)) events most (gone v j r) (length-set words r (n - 4)) refl
       (leave_keeps (length slots) t.room (λ r. slice_index words r) (λ r. slice_index_or slots r None) events views t.rule id v at live (λ q. slice_index (slice_set words r (n - 4)) q) r (word_else r (n - 4)) j pair cancel (omega arith) (λ e. stays (sym now ∙ e)))
-      (omega arith) (λ i q m. t.small id i q v at (pair_among j r i q v.pairs m).0) (omega arith)
+      (omega arith) (omega arith)
 
   pub last_table : (j r n : ℕ) (p : P) → IsAmong (j, r) v.pairs → Notes v.events v.by (Cancel j) → n ≡ slice_index words r → n - 4 ≡ 3 → slice_index_or slots r None ≡ Some p → IsTable slots (slice_set words r (n - 4)) events most (slice_set views id (handed_over (gone v j r) r p))
   last_table j r n p pair cancel is last lies =
       let b = leased_word j r pair in let b1 = b.1 in let now = word_now r (n - 4) b.0 in
       table_put slots (slice_set words r (n - 4)) events most (handed_over (gone v j r) r p) (length-set words r (n - 4)) refl
       (leave_last (length slots) t.room (λ r. slice_index words r) (λ r. slice_index_or slots r None) events views t.rule id v at live (λ q. slice_index (slice_set words r (n - 4)) q) r (word_else r (n - 4)) j p pair cancel (omega arith) (now ∙ last) lies)
-      (omega arith) (λ i q m. t.small id i q v at (pair_among j r i q v.pairs m).0) (omega arith)
+      (omega arith) (omega arith)
 
   module _ (r n s : ℕ) (p : P) (noted' : Notes v.events v.by (Acquire r s)) (closed : IsClosed v.events v.by s) (mine : IsAmong r v.opened) (named : (j : ℕ) → IsAmong (j, r) v.pairs → (t : ℕ) × Notes v.events v.by (Lease j t)) (is : n ≡ slice_index words r) where
     pub stays_table : n + 2 ≢ 3 → IsTable (slice_set slots r (Some p)) (slice_set words r (n + 2)) events most (slice_set views id (shut v r p))
@@ -162,7 +161,7 @@ module _ {P : Type 0} (slots : List (Option P)) (words : List ℕ) (events : Lis
         let now = word_now r (n + 2) b.0 in
         table_put (slice_set slots r (Some p)) (slice_set words r (n + 2)) events most (shut v r p) (length-set words r (n + 2)) (length-set slots r (Some p))
         (close_stays (length slots) t.room (λ r. slice_index words r) (λ r. slice_index_or slots r None) events views t.rule id v at live (λ q. slice_index (slice_set words r (n + 2)) q) r (word_else r (n + 2)) (λ q. slice_index_or (slice_set slots r (Some p)) q None) p (slot_else r (Some p)) (slot_now r (Some p) b.0) s noted' closed mine named (now ∙ ap (λ k. k + 2) is) (λ e. stays (sym now ∙ e)))
-        (let l = one_shorter r v.opened in omega arith) (λ i q m. t.small id i q v at m) (omega arith)
+        (let l = one_shorter r v.opened in omega arith) (omega arith)
 
     pub yours_table : n + 2 ≡ 3 → IsTable (slice_set slots r (Some p)) (slice_set words r (n + 2)) events most (slice_set views id (handed_over (shut v r p) r p))
     yours_table last =
@@ -170,13 +169,13 @@ module _ {P : Type 0} (slots : List (Option P)) (words : List ℕ) (events : Lis
         let now = word_now r (n + 2) b.0 in
         table_put (slice_set slots r (Some p)) (slice_set words r (n + 2)) events most (handed_over (shut v r p) r p) (length-set words r (n + 2)) (length-set slots r (Some p))
         (close_yours (length slots) t.room (λ r. slice_index words r) (λ r. slice_index_or slots r None) events views t.rule id v at live (λ q. slice_index (slice_set words r (n + 2)) q) r (word_else r (n + 2)) (λ q. slice_index_or (slice_set slots r (Some p)) q None) p (slot_else r (Some p)) (slot_now r (Some p) b.0) s noted' closed mine named (now ∙ ap (λ k. k + 2) is) (now ∙ last))
-        (let l = one_shorter r v.opened in omega arith) (λ i q m. t.small id i q v at m) (omega arith)
+        (let l = one_shorter r v.opened in omega arith) (omega arith)
 
   pub take_table : (r : ℕ) → IsAmong r v.handed → IsTable (slice_set slots r None) words events most (slice_set views id (took v r))
   take_table r mine =
       table_put (slice_set slots r None) words events most (took v r) refl (length-set slots r None)
       (take_keeps (length slots) t.room (λ r. slice_index words r) (λ r. slice_index_or slots r None) events views t.rule id v at live (λ q. slice_index_or (slice_set slots r None) q None) r (slot_else r None) mine)
-      (omega arith) (λ i q m. t.small id i q v at m) (omega arith)
+      (omega arith) (omega arith)
 
   -- what a handed row's slot holds
   pub taken_slot : (r : ℕ) → IsAmong r v.handed → ¬ (IsAmong r v.taken) → (p : P) × IsAmong (r, p) v.given × (slice_index_or slots r None ≡ Some p)
@@ -257,7 +256,6 @@ module _ {P : Type 0} (s o : PlainSeat P) (d : PlainTable P) (h : Sits s d) (k :
     words_are = h.table.words_are;
     rule = join_keeps (length d.slots.items) h.table.room (λ r. slice_index d.words.items r) (λ r. slice_index_or d.slots.items r None) d.events.items vs h.table.rule id v h.mine h.live jd w k.mine k.live main n by out no_open no_pair no_kept no_hand;
     load = let a = total_both vs id jd v w (joined v w) (spent w) h.mine k.mine two (λ (u : Token P). length u.empty + length u.opened) in let b = h.table.load in let c = length-append v.empty w.empty in omega arith;
-    small = λ i j r u. each_two vs id jd v w (joined v w) (spent w) h.mine k.mine two (λ i u. IsAmong (j, r) u.pairs → j < 2 ^ 32) (h.table.small id j r v h.mine) (λ m. absurd (among_nil m)) (λ i u ne me g. h.table.small i j r u g) i u;
   }
 
   module _ (d' : PlainTable P) (views : d'.views.inner.ask ≡ after) (slots : d'.slots ≡ d.slots) (words : d'.words ≡ d.words) (events : d'.events ≡ d.events) where
@@ -317,7 +315,6 @@ module _ {P : Type 0} (s : PlainSeat P) (d : PlainTable P) (h : Sits s d) (j fro
     words_are = h.table.words_are;
     rule = split_keeps (length d.slots.items) h.table.room (λ r. slice_index d.words.items r) (λ r. slice_index_or d.slots.items r None) d.events.items vs h.table.rule id v h.mine h.live j from to n main foreign no_seat span' enough named;
     load = let t = total_more vs id v a b h.mine (λ (u : Token P). length u.empty + length u.opened) in let l = h.table.load in let c = cut_fits in let e = run_length from (to - from) in omega arith;
-    small = λ i q r u. each_more vs id v a b h.mine (λ i u. IsAmong (q, r) u.pairs → q < 2 ^ 32) (λ m. h.table.small id q r v h.mine (among_filter (λ (x : ℕ × ℕ). not (eqb x.0 j)) (q, r) v.pairs m).0) (λ i u ne g. h.table.small i q r u g) (λ m. h.table.small id q r v h.mine (among_filter (λ (x : ℕ × ℕ). eqb x.0 j) (q, r) v.pairs m).0) i u;
   }
 
   module _ (d' : PlainTable P) (views : d'.views.inner.ask ≡ parted) (slots : d'.slots ≡ d.slots) (words : d'.words ≡ d.words) (events : d'.events ≡ d.events) where

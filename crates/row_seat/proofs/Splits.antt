@@ -1,5 +1,5 @@
 -- A seat is split off.
-use Rattle.std.proofs.Common.{◌≡◌, ◌≢◌, ℕ, suc, ◌+◌, ◌-◌, ◌<◌, ◌≤◌, ◌⊎◌, Bool, true, false, not, cond, eqb, leb, ltb, filter, map, List, [], ◌∷◌, ◌++◌, length, slice_set, inl, inr, refl, sym, ap, ◌∙◌, subst, ⊎_elim, arith, ne_eqb, eq-eqb}
+use Rattle.std.proofs.Common.{◌≡◌, ◌≢◌, ℕ, suc, ◌+◌, ◌-◌, ◌^◌, ◌<◌, ◌≤◌, ◌⊎◌, Bool, true, false, not, cond, eqb, leb, ltb, filter, map, List, [], ◌∷◌, ◌++◌, length, slice_set, inl, inr, refl, sym, ap, ◌∙◌, subst, ⊎_elim, arith, ne_eqb, eq-eqb}
 use Rattle.std.specs.Prelude.{Some, Option}
 use Rattle.std.proofs.lemmas.Bool.{cases_eq, le-leb, lt-leb, lt-ltb, le-ltb, leb-true, leb-false}
 use Rattle.res_ledger.specs.declared.event.What.TheVariants.{Acquire, Lease}
@@ -213,4 +213,5 @@ module _ {P : Type 0} (rows room : ℕ) (word : ℕ → ℕ) (slot : ℕ → Opt
     leases = subst (λ l. Leases log l) (sym (map_more hold views id ma nb)) leases';
     pays = subst (λ l. Pays word slot log l) (sym (map_more purse views id ma nb)) pays';
     spent = each_more views id v ma nb at (λ i u. u.live ≡ false → (u.empty ≡ []) × (u.opened ≡ []) × (u.pairs ≡ []) × (u.kept ≡ []) × (u.handed ≡ []) × (u.given ≡ []) × (u.left ≡ []) × (u.events ≡ [])) (λ f. absurd (live_not live f)) (λ i u ne g. rule.spent i u g) (λ f. absurd (bool_not f));
+    small = λ i q r u. each_more views id v ma nb at (λ i u. IsAmong (q, r) u.pairs → q < 2 ^ 32) (λ m. rule.small id q r v at (among_filter (λ (x : ℕ × ℕ). not (eqb x.0 j)) (q, r) v.pairs m).0) (λ i u ne g. rule.small i q r u g) (λ m. rule.small id q r v at (among_filter (λ (x : ℕ × ℕ). eqb x.0 j) (q, r) v.pairs m).0) i u;
   }

@@ -92,6 +92,7 @@ module _ {P : Type 0} (by : StreamNo) (rows events : ℕ) (word : ℕ → ℕ) (
       final = λ r x. absurd (none_noted x.0 _ x.2);
     };
     spent = one_view f (λ i v. v.live ≡ false → _) (λ l. absurd (bool_not l));
+    small = λ i j r v g m. absurd (among_nil (subst (λ (z : Token P). IsAmong (j, r) z.pairs) (sym (only_one f v i g).1) m));
   }
 
 module _ {P : Type 0} (s : PlainSeat P) (d : PlainTable P) (by : StreamNo) (rows events : ℕ) (token : s.token.inner.ask ≡ first_token (by, rows, events)) (views : d.views.inner.ask ≡ first_token (by, rows, events) ∷ []) (id : s.id.inner.ask ≡ 0) (name : s.by ≡ by)
@@ -103,7 +104,6 @@ module _ {P : Type 0} (s : PlainSeat P) (d : PlainTable P) (by : StreamNo) (rows
     words_are = words ∙ sym slots;
     rule = subst (λ n. Rule n events (λ r. slice_index d.words.items r) (λ r. slice_index_or d.slots.items r None) [] (first_token (by, rows, events) ∷ [])) (sym slots) (starts by rows events (λ r. slice_index d.words.items r) (λ r. slice_index_or d.slots.items r None) zero');
     load = let e = run_length 0 rows in let f = slots in omega arith;
-    small = λ i j r v g m. absurd (among_nil (subst (λ (z : Token P). IsAmong (j, r) z.pairs) (sym (only_one (first_token (by, rows, events)) v i g).1) m));
   }
 
   pub start_sits : Sits s d

@@ -1,5 +1,5 @@
 -- The whole rule under a tick.
-use Rattle.std.proofs.Common.{◌≡◌, ◌≢◌, ℕ, ◌-◌, ◌≤◌, Bool, true, false, map, List, [], ◌∷◌, ◌++◌, length, slice_set, inl, inr, refl, sym, ap, ◌∙◌, subst, ⊎_elim, arith}
+use Rattle.std.proofs.Common.{◌≡◌, ◌≢◌, ℕ, ◌-◌, ◌^◌, ◌<◌, ◌≤◌, Bool, true, false, map, List, [], ◌∷◌, ◌++◌, length, slice_set, inl, inr, refl, sym, ap, ◌∙◌, subst, ⊎_elim, arith}
 use Rattle.std.specs.Prelude.{Option}
 use Rattle.res_ledger.specs.declared.event.What.TheVariants.{Acquire, Cancel, Close, Final, Lease, Open}
 use Rattle.row_seat.specs.Totals.{At, row_times, times}
@@ -45,8 +45,9 @@ module _ {P : Type 0} (rows room : ℕ) (word : ℕ → ℕ) (slot : ℕ → Opt
   pub rule_put : Seats log (slice_set (map who views) id (who w)) → Books room log (slice_set (map book views) id (book w)) → Rows rows word log (slice_set (map work views) id (work w))
       → Deeds log (slice_set (map deed views) id (deed w)) → Leases log (slice_set (map hold views) id (hold w)) → Pays word slot log (slice_set (map purse views) id (purse w))
       → ((i : ℕ) (v : Token P) → At (slice_set views id w) i v → v.live ≡ false → (v.empty ≡ []) × (v.opened ≡ []) × (v.pairs ≡ []) × (v.kept ≡ []) × (v.handed ≡ []) × (v.given ≡ []) × (v.left ≡ []) × (v.events ≡ []))
+      → ((i j r : ℕ) (v : Token P) → At (slice_set views id w) i v → IsAmong (j, r) v.pairs → j < 2 ^ 32)
       → Rule rows room word slot log (slice_set views id w)
-  rule_put a b c d e f g = record {
+  rule_put a b c d e f g h = record {
     seats = subst (λ l. Seats log l) (sym (map_put who views id w)) a;
     books = subst (λ l. Books room log l) (sym (map_put book views id w)) b;
     words = subst (λ l. Rows rows word log l) (sym (map_put work views id w)) c;
@@ -54,11 +55,15 @@ module _ {P : Type 0} (rows room : ℕ) (word : ℕ → ℕ) (slot : ℕ → Opt
     leases = subst (λ l. Leases log l) (sym (map_put hold views id w)) e;
     pays = subst (λ l. Pays word slot log l) (sym (map_put purse views id w)) f;
     spent = g;
+    small = h;
   }
 
 module _ {P : Type 0} (rows room : ℕ) (word : ℕ → ℕ) (slot : ℕ → Option P) (log : List Event) (views : List (Token P)) (rule : Rule rows room word slot log views) (id : ℕ) (v : Token P) (at : At views id v) (live : v.live ≡ true) where
   pub spent_put : (w : Token P) → w.live ≡ true → (i : ℕ) (u : Token P) → At (slice_set views id w) i u → u.live ≡ false → (u.empty ≡ []) × (u.opened ≡ []) × (u.pairs ≡ []) × (u.kept ≡ []) × (u.handed ≡ []) × (u.given ≡ []) × (u.left ≡ []) × (u.events ≡ [])
   spent_put w l = each views id w (λ i u. u.live ≡ false → (u.empty ≡ []) × (u.opened ≡ []) × (u.pairs ≡ []) × (u.kept ≡ []) × (u.handed ≡ []) × (u.given ≡ []) × (u.left ≡ []) × (u.events ≡ [])) (λ d. absurd (live_not l d)) (λ i u ne g. rule.spent i u g)
+
+  pub small_put : (w : Token P) → ((j r : ℕ) → IsAmong (j, r) w.pairs → j < 2 ^ 32) → (i j r : ℕ) (u : Token P) → At (slice_set views id w) i u → IsAmong (j, r) u.pairs → j < 2 ^ 32
+  small_put w h i j r u = each views id w (λ i u. IsAmong (j, r) u.pairs → j < 2 ^ 32) (h j r) (λ i u ne g. rule.small i j r u g) i u
 
   pub at_who : At (map who views) id (who v)
   at_who = at_map who views id v at
@@ -183,7 +188,7 @@ module _ {P : Type 0} (rows room : ℕ) (word : ℕ → ℕ) (slot : ℕ → Opt
       → let e : Event = record { stamp = length log; by = v.by; what = x } in let w : Token P = record v { events = v.events ++ e ∷ []; spare = v.spare - 1 } in Rule rows room word slot (log ++ e ∷ []) (slice_set views id w)
   plain_tick x may no_final mine no_lease no_cancel = let e : Event = record { stamp = length log; by = v.by; what = x } in let w : Token P = record v { events = v.events ++ e ∷ []; spare = v.spare - 1 } in
       rule_put rows room word slot (log ++ e ∷ []) views id w (new_seats x) (new_books x may) (new_rows x no_final mine) (new_deeds x (deed w) refl refl refl refl (λ r m. m) mine) (new_leases x no_lease no_cancel) (new_pays x no_final)
-      (spent_put rows room word slot log views rule id v at live w live)
+      (spent_put rows room word slot log views rule id v at live w live) (small_put rows room word slot log views rule id v at live w (λ i q m. rule.small id i q v at m))
 
   -- every tick keeps the rule
   pub tick_keeps : (x : What) → MayNote (seen v hands) x → let e : Event = record { stamp = length log; by = v.by; what = x } in Rule rows room word slot (log ++ e ∷ []) (slice_set views id (noted v e))
@@ -199,12 +204,12 @@ module _ {P : Type 0} (rows room : ℕ) (word : ℕ → ℕ) (slot : ℕ → Opt
         (λ a. covered_map v.events log v.by (forth rows room word slot log views rule id v at live) s r (closed_back rows room word slot log views rule id v at live) ((may.5 r).0 a)),
         (λ c. (may.5 r).1 (covered_map log v.events v.by (back rows room word slot log views rule id v at live) s r (closed_forth rows room word slot log views rule id v at live) c)),
       )))
-      (new_pays x (λ q ok h. cc)) (spent_put rows room word slot log views rule id v at live w live)
+      (new_pays x (λ q ok h. cc)) (spent_put rows room word slot log views rule id v at live w live) (small_put rows room word slot log views rule id v at live w (λ i q m. rule.small id i q v at m))
   tick_keeps (Cancel j) may =
       let x = Cancel j in let e : Event = record { stamp = length log; by = v.by; what = x } in let w : Token P = noted v e in
       rule_put rows room word slot (log ++ e ∷ []) views id w (new_seats x) (new_books x may) (new_rows x (λ q ok h. cc) (λ q t h. absurd (cancel_acquire j q t h))) (new_deeds x (deed w) refl refl refl refl (λ r m. m) (λ q t h. absurd (cancel_acquire j q t h)))
       (cancel_leases log e (map hold views) rule.leases id j (hold v) (at_hold rows room word slot log views rule id v at live) refl may.0)
-      (new_pays x (λ q ok h. cc)) (spent_put rows room word slot log views rule id v at live w live)
+      (new_pays x (λ q ok h. cc)) (spent_put rows room word slot log views rule id v at live w live) (small_put rows room word slot log views rule id v at live w (λ i q m. rule.small id i q v at m))
   tick_keeps (Final r ok) may =
       let x = Final r ok in let e : Event = record { stamp = length log; by = v.by; what = x } in let w : Token P = noted v e in
       rule_put rows room word slot (log ++ e ∷ []) views id w (new_seats x) (new_books x may)
@@ -212,4 +217,4 @@ module _ {P : Type 0} (rows room : ℕ) (word : ℕ → ℕ) (slot : ℕ → Opt
       (new_deeds x (deed w) refl refl refl refl (λ q m. (among_without r v.handed q m).0) (λ q t h. absurd (final_acquire r ok q t h)))
       (new_leases x (λ j t h. cc) (λ j h. cc))
       (final_pays log e word slot (map purse views) rule.pays id r ok (purse v) (at_purse rows room word slot log views rule id v at live) refl may.1)
-      (spent_put rows room word slot log views rule id v at live w live)
+      (spent_put rows room word slot log views rule id v at live w live) (small_put rows room word slot log views rule id v at live w (λ i q m. rule.small id i q v at m))

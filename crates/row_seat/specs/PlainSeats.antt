@@ -31,7 +31,6 @@ module _ {P : Type 0} where
     pub words_are : length words ≡ length slots
     pub rule : Rule (length slots) room (λ r. slice_index words r) (λ r. slice_index_or slots r None) events views
     pub load : total (λ (v : Token P). length v.empty + length v.opened) views ≤ length slots
-    pub small : (i j r : ℕ) (v : Token P) → At views i v → IsAmong (j, r) v.pairs → j < 2 ^ 32
 
   pub record Sits (s : PlainSeat P) (d : PlainTable P) : Type 0 where
     pub table : IsTable d.slots.items d.words.items d.events.items (vec_capacity d.events) d.views.inner.ask

@@ -1,5 +1,5 @@
 -- The rule of rows and seats: each part speaks of what it reads alone.
-use Rattle.std.specs.Prelude.{◌≡◌, ◌≢◌, ℕ, ◌+◌, ◌*◌, ◌<◌, ◌≤◌, ◌⊎◌, Bool, true, false, eqb, cond, filter, map, List, [], ◌∷◌, length, Some, Option}
+use Rattle.std.specs.Prelude.{◌≡◌, ◌≢◌, ℕ, ◌+◌, ◌*◌, ◌^◌, ◌<◌, ◌≤◌, ◌⊎◌, Bool, true, false, eqb, cond, filter, map, List, [], ◌∷◌, length, Some, Option}
 use lib.ListN.{get_elem?}
 use mathlib.Core.Option.{some}
 use Rattle.res_ledger.specs.declared.event.What.TheVariants.{Acquire, Lease}
@@ -165,5 +165,7 @@ module _ {P : Type 0} where
     pub deeds : Deeds log (map deed views)
     pub leases : Leases log (map hold views)
     pub pays : Pays word slot log (map purse views)
+    -- streams are numbered in 32 bits
+    pub small : (i j r : ℕ) (v : Token P) → At views i v → IsAmong (j, r) v.pairs → j < 2 ^ 32
     -- a spent seat's view is empty
     pub spent : (i : ℕ) (v : Token P) → At views i v → v.live ≡ false → (v.empty ≡ []) × (v.opened ≡ []) × (v.pairs ≡ []) × (v.kept ≡ []) × (v.handed ≡ []) × (v.given ≡ []) × (v.left ≡ []) × (v.events ≡ [])
