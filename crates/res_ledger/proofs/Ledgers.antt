@@ -1,5 +1,5 @@
 -- Ledgers that grow, and the events of one stream.
-use Rattle.std.proofs.Common.{◌≡◌, ◌≢◌, ℕ, ◌<◌, ◌⊎◌, Bool, true, false, cond, List, [], ◌∷◌, ◌++◌, length, drop, get_or, inl, inr, refl, sym, ap, ◌∙◌, subst, ⊎_elim, arith, ne_eqb, eq-eqb, length-append}
+use Rattle.std.proofs.Common.{◌≡◌, ◌≢◌, ℕ, ◌<◌, ◌⊎◌, Bool, true, false, cond, List, [], ◌∷◌, ◌++◌, length, inl, inr, refl, sym, ap, ◌∙◌, subst, ⊎_elim, arith, ne_eqb, eq-eqb, length-append}
 use Rattle.std.proofs.lemmas.Bool.{cases_eq}
 use Rattle.res_ledger.specs.declared.event.What.TheVariants.{Acquire, Cancel, Close, Final, Lease, Open}
 use Rattle.res_ledger.specs.Ledger.{Covers, IsAcquired, IsCanceled, IsClosed, IsCoveredBy, IsLeased, IsLegal, IsStamped, IsUsable, LiesWithin, MayFollow, Notes}

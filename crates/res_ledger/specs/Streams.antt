@@ -1,7 +1,5 @@
 -- The events of one stream, and who has the right to finalize a row.
-use Rattle.std.specs.Prelude.{◌≡◌, ◌≢◌, ℕ, ◌+◌, ◌*◌, ◌<◌, ◌≤◌, ◌⊎◌, Bool, true, false, eqb, cond, filter, map, List, [], ◌∷◌, length, Some, Option}
-use lib.ListN.{get_elem?}
-use mathlib.Core.Option.{some}
+use Rattle.std.specs.Prelude.{ℕ, ◌⊎◌, Bool, true, false, eqb, filter, List}
 use Rattle.res_ledger.specs.declared.event.What.TheVariants.{Acquire, Cancel}
 use Rattle.res_ledger.specs.Ledger.{Covers, Notes}
 use Rattle.res_ledger.specs.declared.event.Event.{Event}

@@ -1,6 +1,5 @@
 -- The payloads that a seat holds, by row.
-use Rattle.std.proofs.Common.{◌≡◌, ◌≢◌, ℕ, ◌<◌, ◌+◌, zero, suc, Bool, true, false, not, cond, eqb, List, [], ◌∷◌, ◌++◌, ◌⊎◌, length, slice_index_or, slice_set, remove, inl, inr, refl, sym, ap, ◌∙◌, subst, ⊎_elim, arith, ne_eqb, eq-eqb}
-use Rattle.std.proofs.lemmas.Bool.{cases_eq}
+use Rattle.std.proofs.Common.{◌≡◌, ◌≢◌, ℕ, ◌<◌, zero, suc, cond, List, [], ◌∷◌, ◌⊎◌, length, slice_index_or, remove, inl, inr, refl, sym, ap, subst, ⊎_elim, arith, ne_eqb, eq-eqb}
 use Rattle.chunk_core.proofs.Members.{among_cons, among_nil}
 use Rattle.row_seat.specs.Views.{has_row, without_row}
 use Rattle.row_seat.specs.Hands.{spot}

@@ -7,7 +7,7 @@ use Rattle.res_ledger.specs.declared.event.Event.{Event}
 use Rattle.res_ledger.specs.declared.event.StreamNo.TheVariants.{Outer}
 use Rattle.res_ledger.specs.declared.event.What.{What}
 use Rattle.res_ledger.specs.declared.event.What.TheVariants.{Acquire, Lease, Close, Final}
-use Rattle.res_ledger.specs.Ledger.{Notes, IsClosed, Covers, IsStamped}
+use Rattle.res_ledger.specs.Ledger.{Notes, IsStamped}
 use Rattle.res_ledger.specs.Ledger.LiesWithin.{same}
 use Rattle.res_ledger.proofs.Ledgers.{covers_leased}
 use Rattle.res_ledger.proofs.Orders.{Rises, rising_is}

@@ -1,5 +1,5 @@
 -- Lists without a number.
-use Rattle.std.proofs.Common.{◌+◌, ◌≤◌, length, suc, arith, ◌≡◌, ◌≢◌, ℕ, Bool, true, false, not, cond, eqb, filter, List, [], ◌∷◌, ◌++◌, ◌⊎◌, inl, inr, refl, sym, ap, ◌∙◌, subst, ⊎_elim, ne_eqb, eq-eqb}
+use Rattle.std.proofs.Common.{◌+◌, ◌≤◌, length, suc, arith, ◌≢◌, ℕ, true, false, not, cond, eqb, List, [], ◌∷◌, sym, ◌∙◌, subst, ⊎_elim, ne_eqb, eq-eqb}
 use Rattle.std.proofs.lemmas.Bool.{cases_eq}
 use Rattle.chunk_core.specs.Lists.{IsAmong}
 use Rattle.chunk_core.proofs.Members.{among_cons, among_nil}

@@ -1,5 +1,5 @@
 -- The rule under each step on one row.
-use Rattle.std.proofs.Common.{◌≡◌, ◌≢◌, ℕ, zero, suc, ◌+◌, ◌-◌, ◌*◌, ◌<◌, ◌^◌, ◌≤◌, ◌⊎◌, true, map, List, [], ◌∷◌, ◌++◌, slice_set, inl, inr, refl, sym, ap, ◌∙◌, subst, ⊎_elim, arith}
+use Rattle.std.proofs.Common.{◌≡◌, ◌≢◌, ℕ, ◌+◌, ◌-◌, ◌*◌, ◌<◌, ◌^◌, true, map, List, [], ◌∷◌, ◌++◌, slice_set, inl, inr, refl, sym, ap, ◌∙◌, subst, ⊎_elim, arith}
 use Rattle.std.specs.Prelude.{Some, Option}
 use Rattle.std.proofs.lemmas.Bool.{cases_eq}
 use Rattle.res_ledger.specs.declared.event.What.TheVariants.{Acquire, Cancel, Lease}
@@ -16,7 +16,7 @@ use Rattle.chunk_core.proofs.Members.{among_last, among_left, among_snoc}
 use Rattle.row_seat.proofs.Members.{among_without}
 use Rattle.row_seat.proofs.Ticked.{at_book, at_deed, at_hold, at_purse, at_who, at_work, back, closed_forth, forth, keep, rule_put, small_put, spent_put}
 use Rattle.chunk_core.proofs.Places.{at_map}
-use Rattle.row_seat.specs.Rule.Stands.{awaits, final, handed, opened}
+use Rattle.row_seat.specs.Rule.Stands.{awaits, handed, opened}
 use Rattle.res_ledger.proofs.Ledgers.{canceled_leased}
 use Rattle.row_seat.proofs.Parts.{close_pays, covered_leased, deed_step, give_pays, hold_step, pay_word, shut_pays}
 use Rattle.row_seat.proofs.Totals.{total_one, each, map_back, one_at, some_back, some_put, total_at, total_set, total_some}

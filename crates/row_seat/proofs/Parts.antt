@@ -1,5 +1,5 @@
 -- The parts of the rule under a step on one row.
-use Rattle.std.proofs.Common.{◌≡◌, ◌≢◌, ℕ, zero, suc, ◌+◌, ◌-◌, ◌*◌, ◌<◌, ◌≤◌, ◌⊎◌, true, map, List, [], ◌∷◌, ◌++◌, slice_set, inl, inr, refl, sym, ap, ◌∙◌, subst, ⊎_elim, arith}
+use Rattle.std.proofs.Common.{◌≡◌, ◌≢◌, ℕ, zero, suc, ◌+◌, ◌*◌, ◌≤◌, ◌⊎◌, true, List, [], ◌∷◌, ◌++◌, slice_set, inl, inr, refl, sym, ap, ◌∙◌, subst, ⊎_elim, arith}
 use Rattle.std.specs.Prelude.{Some, Option}
 use Rattle.std.proofs.lemmas.Bool.{cases_eq}
 use Rattle.res_ledger.specs.declared.event.What.TheVariants.{Acquire, Lease}
@@ -14,7 +14,6 @@ use Rattle.res_ledger.specs.declared.event.StreamNo.{StreamNo}
 use Rattle.chunk_core.proofs.Members.{among_last, among_left, among_snoc}
 use Rattle.res_ledger.proofs.Ledgers.{covers_leased}
 use Rattle.row_seat.proofs.Totals.{each, one_at, put_else, put_here, some_back, some_put, total_set}
-use Rattle.row_seat.specs.Rule.Stands.{final, handed, opened}
 
 set_twice : {A : Type 0} (xs : List A) (i : ℕ) (a b : A) → slice_set (slice_set xs i a) i b ≡ slice_set xs i b
 set_twice [] i a b = refl

@@ -17,18 +17,17 @@ use Rattle.row_seat.specs.declared.plain.PlainSeat.{PlainSeat}
 use Rattle.row_seat.specs.declared.plain.PlainTable.{PlainTable}
 use Rattle.row_seat.specs.declared.token.Token.{Token}
 use Rattle.res_ledger.specs.declared.event.What.{What}
-use Rattle.chunk_core.proofs.Filters.{among_at, among_filter, bool_not, filter_among}
+use Rattle.chunk_core.proofs.Filters.{among_at, bool_not, filter_among}
 use Rattle.row_seat.proofs.Members.{among_kept, length_without}
-use Rattle.chunk_core.proofs.Members.{among_nil, among_snoc}
 use Rattle.row_seat.proofs.Joins.{apart, join_keeps}
 use Rattle.chunk_core.proofs.Places.{at_map}
 use Rattle.row_seat.proofs.Moves.{close_stays, close_yours, lease_keeps, leave_keeps, leave_last, place_keeps, row_empty, row_handed, row_open, some_is, take_keeps}
-use Rattle.row_seat.proofs.Totals.{each, one_at, put_else, put_here, total_at, total_set, total_two}
-use Rattle.row_seat.proofs.Changes.{each_more, each_two, more_else, more_here, more_last, total_both, total_more, two_else, two_first}
+use Rattle.row_seat.proofs.Totals.{one_at, put_else, put_here, total_at, total_set, total_two}
+use Rattle.row_seat.proofs.Changes.{more_else, more_here, more_last, total_both, total_more, two_else, two_first}
 use Rattle.row_seat.specs.Steps.{gone, handed_over, joined, leased, noted, placed, shut, spent, split_main, split_off, took, without_one}
 use Rattle.chunk_core.specs.Lists.IsAmong.{here, there}
 use Rattle.row_seat.proofs.Rows.{is_leased}
-use Rattle.row_seat.proofs.Times.{pair_among, pair_kept, pair_some, row_less, row_some, run_length, times_some}
+use Rattle.row_seat.proofs.Times.{pair_kept, pair_some, row_less, row_some, run_length, times_some}
 use Rattle.row_seat.proofs.Pigeonholes.{pairs_below}
 use Rattle.row_seat.proofs.Splits.{split_keeps, within_in}
 use Rattle.res_ledger.proofs.Ledgers.{stamp_below}

@@ -1,10 +1,9 @@
 -- What contracts see of a plain seat and its table.
-use Rattle.std.specs.Prelude.{◌≡◌, ℕ, ◌+◌, ◌-◌, ◌<◌, ◌≤◌, ◌^◌, true, false, eqb, cond, map, List, [], ◌∷◌, length, None, Option, vec_capacity, vec_len, slice_index, slice_index_or}
+use Rattle.std.specs.Prelude.{◌≡◌, ℕ, ◌+◌, ◌-◌, ◌≤◌, ◌^◌, true, false, eqb, cond, map, List, [], ◌∷◌, length, None, Option, vec_capacity, vec_len, slice_index, slice_index_or}
 use Rattle.std.proofs.Common.{◌∙◌, ap, refl}
 use Rattle.std.specs.Vec.{with_item}
 use Rattle.row_seat.specs.Totals.{At, total}
 use Rattle.res_ledger.specs.declared.event.Event.{Event}
-use Rattle.chunk_core.specs.Lists.{IsAmong}
 use Rattle.row_seat.specs.declared.plain.PlainSeat.{PlainSeat}
 use Rattle.row_seat.specs.declared.plain.PlainTable.{PlainTable}
 use Rattle.row_seat.specs.Rule.{Rule, seen}

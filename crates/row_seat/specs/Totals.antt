@@ -1,5 +1,5 @@
 -- Lists of views: a place, sums over all, and how often something stands in a list.
-use Rattle.std.specs.Prelude.{◌≡◌, ◌≢◌, ℕ, ◌+◌, ◌*◌, ◌<◌, ◌≤◌, ◌⊎◌, Bool, true, false, eqb, cond, filter, map, List, [], ◌∷◌, length, Some, Option}
+use Rattle.std.specs.Prelude.{◌≡◌, ℕ, ◌+◌, false, eqb, cond, List, [], ◌∷◌}
 use lib.ListN.{get_elem?}
 use mathlib.Core.Option.{some}
 

@@ -1,11 +1,10 @@
-use Rattle.std.proofs.Common.{◌≡◌, ◌↔◌, ℕ, true, refl, sym, ap, ◌∙◌, subst}
+use Rattle.std.proofs.Common.{◌↔◌, ℕ, true, sym, ap, ◌∙◌, subst}
 use Rattle.chunk_core.specs.Lists.{IsAmong}
-use Rattle.res_ledger.specs.declared.event.Event.{Event}
 use Rattle.res_ledger.specs.declared.event.What.TheVariants.{Acquire, Close, Final}
 use Rattle.row_seat.specs.declared.view.View.{View}
 use Rattle.row_seat.specs.Views.{MayNote, CanPlace, CanClose, CanTake, CanFinish, IsFresh, took}
 use Rattle.row_seat.specs.PlainSeats.{shown_lent}
-use Rattle.row_seat.proofs.Life.{first, acquired, written, closed, mine, was_noted, was_written, was_mine, may_acquire, may_place, may_write, may_close, can_close, can_take, may_final, can_finish, given_eight, life, is_life}
+use Rattle.row_seat.proofs.Life.{first, written, mine, was_noted, was_written, was_mine, may_acquire, may_place, may_write, may_close, can_close, can_take, may_final, can_finish, given_eight, is_life}
 use Rattle.row_seat.proofs.uses.whole_life.Goals as goal
 
 pub note-requires-clause-event : goal.note-requires-clause-event
