@@ -1,8 +1,8 @@
 -- What a step tells of the other seats, and what stands at the end.
 use Rattle.std.proofs.Common.{◌≡◌, ◌≢◌, ℕ, ◌≤◌, ◌⊎◌, ◌↔◌, true, map, List, [], inl, inr, sym, ap, ◌∙◌, subst, ⊎_elim, arith}
 use Rattle.std.specs.Prelude.{Option}
-use Rattle.row_seat.specs.Totals.{At, row_times, times}
-use Rattle.row_seat.specs.Rule.{Book, GivenIn, LeftIn, Purse, Rule, Stands, Who, Work, book, deed, hold, purse, who, work}
+use Rattle.row_seat.specs.Totals.{IsAt, row_times, times}
+use Rattle.row_seat.specs.Rule.{Book, GivenIn, LeftIn, Purse, RuleHolds, Stands, Who, Work, book, deed, hold, purse, who, work}
 use Rattle.res_ledger.specs.Ledger.{Covers, IsAcquired, IsFinalized, Notes}
 use Rattle.res_ledger.specs.declared.event.Event.{Event}
 use Rattle.chunk_core.specs.Lists.{IsAmong}
@@ -27,7 +27,7 @@ ends (handed a b c d i j k m) ve vo vn vh x = absurd (vh (omega arith))
 ends (final a b c d i j k m) ve vo vn vh x = m
 ends (beyond a b c d i j) ve vo vn vh x = absurd (j x)
 
-module _ {P : Type 0} (rows room : ℕ) (word : ℕ → ℕ) (slot : ℕ → Option P) (log : List Event) (views : List (Token P)) (rule : Rule rows room word slot log views) (id : ℕ) (v : Token P) (at : At views id v) (live : v.live ≡ true) where
+module _ {P : Type 0} (rows room : ℕ) (word : ℕ → ℕ) (slot : ℕ → Option P) (log : List Event) (views : List (Token P)) (rule : RuleHolds rows room word slot log views) (id : ℕ) (v : Token P) (at : IsAt views id v) (live : v.live ≡ true) where
   -- a close leaves the row to a lease: the seat is the main one, and a Lease of its own covers the row, which it has a pair of or whose stream's seat is out
   pub close_cause : (r : ℕ) → IsAmong r v.opened → word r ≢ 1 → ((j : ℕ) → IsAmong (j, r) v.pairs → (t : ℕ) × Notes v.events v.by (Lease j t)) → (v.main ≡ true) × ((j : ℕ) × Covers v.events j v.by r × (IsAmong (j, r) v.pairs ⊎ IsAmong j v.out))
   close_cause r mine more named =
@@ -39,9 +39,9 @@ module _ {P : Type 0} (rows room : ℕ) (word : ℕ → ℕ) (slot : ℕ → Opt
       let p = row_in r x.1.pairs x.3 in let j = p.0 in
       let m : IsAmong (j, r) u.pairs = subst (λ (z : Work). IsAmong (j, r) z.pairs) (sym y.2) p.1 in
       let gh = at_map hold views x.0 u y.1 in
-      let here_main : (i : ℕ) (z : Token P) → At views i z → z.main ≡ true → v.by ≡ z.by → v.main ≡ true = λ i z g mz s.
+      let here_main : (i : ℕ) (z : Token P) → IsAt views i z → z.main ≡ true → v.by ≡ z.by → v.main ≡ true = λ i z g mz s.
       let e = rule.seats.names id i (who v) (who z) (at_who rows room word slot log views rule id v at live) (at_map who views i z g) live (rule.seats.alive i (who z) (at_map who views i z g) mz) s in
-      subst (λ (a : Token P). a.main ≡ true) (one_at views i z v g (subst (λ n. At views n v) e at)) mz in
+      subst (λ (a : Token P). a.main ≡ true) (one_at views i z v g (subst (λ n. IsAt views n v) e at)) mz in
       let acquired = rule.deeds.opened id r (deed v) (at_deed rows room word slot log views rule id v at live) mine in
       let both : (v.main ≡ true) × Covers log j v.by r = ⊎_elim
       (λ o. let a = covers_acquired log j r o.0 o.1 in let b = covers_leased log j r o.0 o.1 in
@@ -51,12 +51,12 @@ module _ {P : Type 0} (rows room : ℕ) (word : ℕ → ℕ) (slot : ℕ → Opt
       let bm = rule.leases.by_main mm.0 j b.0 o.0 (hold mz.0) (at_map hold views mm.0 mz.0 mz.1) mt b.1 in
       (here_main mm.0 mz.0 mz.1 mt (sym same ∙ bm), subst (λ k. Covers log j k r) same o.1))
       (λ o. let e = total_one (λ (z : Work). times r z.opened) ws x.0 id (work u) (work v) (omega arith) (at_map work views x.0 u y.1) ak (times_some r u.opened o.2) (times_some r v.opened mine) in
-      let same : u ≡ v = one_at views id u v (subst (λ n. At views n u) e y.1) at in
+      let same : u ≡ v = one_at views id u v (subst (λ n. IsAt views n u) e y.1) at in
       let n = named j (subst (λ (z : Token P). IsAmong (j, r) z.pairs) same m) in
       absurd (o.0 (v.by, n.0, (n.1.0, rule.books.inside id (book v) n.1.0 (at_book rows room word slot log views rule id v at live) n.1.1, n.1.2, n.1.3))))
       (rule.leases.paired x.0 j r (hold u) gh m) in
       let mine' : u.main ≡ true → IsAmong (j, r) v.pairs = λ mu. let e = rule.seats.one x.0 id (who u) (who v) (at_map who views x.0 u y.1) (at_who rows room word slot log views rule id v at live) mu both.0 in
-      subst (λ (z : Token P). IsAmong (j, r) z.pairs) (one_at views id u v (subst (λ n. At views n u) e y.1) at) m in (
+      subst (λ (z : Token P). IsAmong (j, r) z.pairs) (one_at views id u v (subst (λ n. IsAt views n u) e y.1) at) m in (
         both.0,
         (
           j,
@@ -78,10 +78,10 @@ module _ {P : Type 0} (rows room : ℕ) (word : ℕ → ℕ) (slot : ℕ → Opt
 
   module _ (main : v.main ≡ true) (no_out : v.out ≡ []) where
     -- every other seat is spent
-    alone : (i : ℕ) (u : Token P) → At views i u → (u ≡ v) ⊎ ((u.empty ≡ []) × (u.opened ≡ []) × (u.pairs ≡ []) × (u.kept ≡ []) × (u.handed ≡ []) × (u.given ≡ []) × (u.left ≡ []) × (u.events ≡ []))
+    alone : (i : ℕ) (u : Token P) → IsAt views i u → (u ≡ v) ⊎ ((u.empty ≡ []) × (u.opened ≡ []) × (u.pairs ≡ []) × (u.kept ≡ []) × (u.handed ≡ []) × (u.given ≡ []) × (u.left ≡ []) × (u.events ≡ []))
     alone i u g = ⊎_elim
         (λ l. ⊎_elim
-        (λ m. let e = rule.seats.one i id (who u) (who v) (at_map who views i u g) (at_who rows room word slot log views rule id v at live) m main in inl (one_at views id u v (subst (λ n. At views n u) e g) at))
+        (λ m. let e = rule.seats.one i id (who u) (who v) (at_map who views i u g) (at_who rows room word slot log views rule id v at live) m main in inl (one_at views id u v (subst (λ n. IsAt views n u) e g) at))
         (λ f. let o = rule.seats.out id i (who v) (who u) (at_who rows room word slot log views rule id v at live) (at_map who views i u g) main l f in absurd (among_nil (subst (λ z. IsAmong o.0 z) no_out o.2)))
         (true_or u.main))
         (λ d. inr (rule.spent i u g d))
@@ -95,7 +95,7 @@ module _ {P : Type 0} (rows room : ℕ) (word : ℕ → ℕ) (slot : ℕ → Opt
     )
 
     module _ (no_open : v.opened ≡ []) (no_pair : v.pairs ≡ []) (no_hand : v.handed ≡ []) (unused : (r : ℕ) → IsAmong r v.empty → ¬ (IsAcquired v.events r)) where
-      none_in : (f : Token P → List ℕ) (r : ℕ) (i : ℕ) (u : Token P) → At views i u → (u ≡ v → f u ≡ []) → (((u.empty ≡ []) × (u.opened ≡ []) × (u.pairs ≡ []) × (u.kept ≡ []) × (u.handed ≡ []) × (u.given ≡ []) × (u.left ≡ []) × (u.events ≡ [])) → f u ≡ []) → 1 ≤ times r (f u) → ⊥
+      none_in : (f : Token P → List ℕ) (r : ℕ) (i : ℕ) (u : Token P) → IsAt views i u → (u ≡ v → f u ≡ []) → (((u.empty ≡ []) × (u.opened ≡ []) × (u.pairs ≡ []) × (u.kept ≡ []) × (u.handed ≡ []) × (u.given ≡ []) × (u.left ≡ []) × (u.events ≡ [])) → f u ≡ []) → 1 ≤ times r (f u) → ⊥
       none_in f r i u g a b l = let e = ⊎_elim a b (alone i u g) in let z : times r (f u) ≡ 0 = ap (λ l. times r l) e in omega arith
 
       -- each acquired row is final

@@ -1,18 +1,18 @@
 -- The payloads that a seat holds, by row.
 use Rattle.std.proofs.Common.{◌≡◌, ◌≢◌, ℕ, ◌<◌, zero, suc, cond, List, [], ◌∷◌, ◌⊎◌, length, slice_index_or, remove, inl, inr, refl, sym, ap, subst, ⊎_elim, arith, ne_eqb, eq-eqb}
 use Rattle.chunk_core.proofs.Members.{among_cons, among_nil}
-use Rattle.row_seat.specs.Views.{has_row, without_row}
+use Rattle.row_seat.specs.Views.{HasRow, without_row}
 use Rattle.row_seat.specs.Hands.{spot}
 
 module _ {P : Type 0} where
-  pub has_nil : (r : ℕ) → ¬ (has_row {P = P} [] r)
+  pub has_nil : (r : ℕ) → ¬ (HasRow {P = P} [] r)
   has_nil r h = among_nil h.1
 
-  pub has_cons : (x : ℕ × P) (xs : List (ℕ × P)) (r : ℕ) → has_row (x ∷ xs) r → (x.0 ≡ r) ⊎ has_row xs r
+  pub has_cons : (x : ℕ × P) (xs : List (ℕ × P)) (r : ℕ) → HasRow (x ∷ xs) r → (x.0 ≡ r) ⊎ HasRow xs r
   has_cons x xs r h = ⊎_elim (λ e. inl (ap (λ y. y.0) (sym e))) (λ m. inr (h.0, m)) (among_cons h.1)
 
   -- no row of the list is r
-  pub absent : (xs : List (ℕ × P)) (r : ℕ) → ((k : ℕ) (d : ℕ × P) → k < length xs → (slice_index_or xs k d).0 ≢ r) → ¬ (has_row xs r)
+  pub absent : (xs : List (ℕ × P)) (r : ℕ) → ((k : ℕ) (d : ℕ × P) → k < length xs → (slice_index_or xs k d).0 ≢ r) → ¬ (HasRow xs r)
   absent [] r f h = has_nil r h
   absent (x ∷ xs) r f h = ⊎_elim (f 0 x (omega arith)) (absent xs r (λ k d l. f (suc k) d (omega arith))) (has_cons x xs r h)
 

@@ -2,8 +2,8 @@
 use Rattle.std.proofs.Common.{◌≡◌, ◌≢◌, ℕ, ◌^◌, ◌<◌, ◌≤◌, ◌⊎◌, true, false, map, List, [], ◌++◌, length, slice_set, inl, inr, refl, sym, ap, ◌∙◌, subst, ⊎_elim, arith}
 use Rattle.std.specs.Prelude.{Some, Option}
 use Rattle.res_ledger.specs.declared.event.What.TheVariants.{Acquire, Lease}
-use Rattle.row_seat.specs.Totals.{At, pair_times, row_times, times}
-use Rattle.row_seat.specs.Rule.{Book, Books, Deeds, GivenIn, Hold, Leases, LeftIn, Pays, Purse, Rows, Rule, Seats, Who, Work, book, deed, empties, hands, hold, leases, opens, purse, who, work}
+use Rattle.row_seat.specs.Totals.{IsAt, pair_times, row_times, times}
+use Rattle.row_seat.specs.Rule.{Book, BooksAgree, DeedsAgree, GivenIn, Hold, LeasesAgree, LeftIn, PaysAgree, Purse, RowsAgree, RuleHolds, SeatsAgree, Who, Work, book, deed, empties, hands, hold, leases, opens, purse, who, work}
 use Rattle.res_ledger.specs.Ledger.{Covers, IsCanceled, IsLeased, Notes}
 use Rattle.res_ledger.specs.declared.event.Event.{Event}
 use Rattle.res_ledger.specs.Streams.{HasRight, by_stream}
@@ -26,19 +26,19 @@ use Rattle.row_seat.proofs.Tick.{stands_is}
 use Rattle.row_seat.proofs.Times.{times_both}
 use Rattle.row_seat.proofs.Splits.{true_or}
 
-module _ {P : Type 0} (rows room : ℕ) (word : ℕ → ℕ) (slot : ℕ → Option P) (log : List Event) (views : List (Token P)) (rule : Rule rows room word slot log views) (id : ℕ) (v : Token P) (at : At views id v) (live : v.live ≡ true)
-    (jd : ℕ) (w : Token P) (at' : At views jd w) (live' : w.live ≡ true) (main : v.main ≡ true) (n : ℕ) (by : w.by ≡ Inner n) (out : IsAmong n v.out) (no_open : w.opened ≡ []) (no_pair : w.pairs ≡ []) (no_kept : w.kept ≡ []) (no_hand : w.handed ≡ []) where
-  aw : At (map who views) id (who v)
+module _ {P : Type 0} (rows room : ℕ) (word : ℕ → ℕ) (slot : ℕ → Option P) (log : List Event) (views : List (Token P)) (rule : RuleHolds rows room word slot log views) (id : ℕ) (v : Token P) (at : IsAt views id v) (live : v.live ≡ true)
+    (jd : ℕ) (w : Token P) (at' : IsAt views jd w) (live' : w.live ≡ true) (main : v.main ≡ true) (n : ℕ) (by : w.by ≡ Inner n) (out : IsAmong n v.out) (no_open : w.opened ≡ []) (no_pair : w.pairs ≡ []) (no_kept : w.kept ≡ []) (no_hand : w.handed ≡ []) where
+  aw : IsAt (map who views) id (who v)
   aw = at_map who views id v at
 
-  aw' : At (map who views) jd (who w)
+  aw' : IsAt (map who views) jd (who w)
   aw' = at_map who views jd w at'
 
   foreign : v.by ≢ Inner n
   foreign = rule.seats.apart id n (who v) aw main (rule.seats.had id n (who v) aw main out)
 
   pub apart : id ≢ jd
-  apart e = foreign (ap (λ (x : Token P). x.by) (one_at views jd v w (subst (λ k. At views k v) e at) at') ∙ by)
+  apart e = foreign (ap (λ (x : Token P). x.by) (one_at views jd v w (subst (λ k. IsAt views k v) e at) at') ∙ by)
 
   side : w.main ≡ false
   side = ⊎_elim (λ m. absurd (apart (rule.seats.one id jd (who v) (who w) aw aw' main m))) (λ f. f) (true_or w.main)
@@ -49,9 +49,9 @@ module _ {P : Type 0} (rows room : ℕ) (word : ℕ → ℕ) (slot : ℕ → Opt
   abbrev nb : Token P
   nb = spent w
 
-  seats' : Seats log (slice_set (slice_set (map who views) id (who ma)) jd (who nb))
+  seats' : SeatsAgree log (slice_set (slice_set (map who views) id (who ma)) jd (who nb))
   seats' = let ws = map who views in let k = rule.seats in let is : name_of w.by ≡ n = ap name_of by in
-      let only : (i : ℕ) (u : Who) → At (slice_set (slice_set ws id (who ma)) jd (who nb)) i u → u.main ≡ true → (i ≡ id) × (who ma ≡ u) = λ i u g m.
+      let only : (i : ℕ) (u : Who) → IsAt (slice_set (slice_set ws id (who ma)) jd (who nb)) i u → u.main ≡ true → (i ≡ id) × (who ma ≡ u) = λ i u g m.
       ⊎_elim (λ t. t) (λ o. ⊎_elim (λ t. absurd (live_not m (ap (λ (z : Who). z.main) (sym t.1)))) (λ t. absurd (t.0 (k.one i id u (who v) t.2 aw m main))) o) (sorted_two ws id jd (who v) (who w) (who ma) (who nb) aw aw' apart i u g) in record {
         main = (id, who ma, two_first ws id jd (who v) (who w) (who ma) (who nb) aw aw' apart, main);
         one = λ i l u z g g' m m'. (only i u g m).0 ∙ sym (only l z g' m').0;
@@ -71,7 +71,7 @@ module _ {P : Type 0} (rows room : ℕ) (word : ℕ → ℕ) (slot : ℕ → Opt
         noted = λ i u e g m a ne. subst (λ (y : Who). (x : ℕ) × (e.by ≡ Inner x) × IsAmong x y.had) (only i u g m).1 (k.noted id (who v) e aw main a (λ s. ne (s ∙ ap (λ (y : Who). y.by) (only i u g m).1)));
       }
 
-  books' : Books room log (slice_set (slice_set (map book views) id (book ma)) jd (book nb))
+  books' : BooksAgree room log (slice_set (slice_set (map book views) id (book ma)) jd (book nb))
   books' = let bs = map book views in let k = rule.books in let ab = at_map book views id v at in let ab' = at_map book views jd w at' in
       let E = each_two bs id jd (book v) (book w) (book ma) (book nb) ab ab' apart in record {
         stamped = k.stamped;
@@ -86,7 +86,7 @@ module _ {P : Type 0} (rows room : ℕ) (word : ℕ → ℕ) (slot : ℕ → Opt
         floor = E (λ i u. u.floor ≤ length log) (k.floor id (book v) ab) (omega arith) (λ i u ne me g. k.floor i u g);
       }
 
-  words' : Rows rows word log (slice_set (slice_set (map work views) id (work ma)) jd (work nb))
+  words' : RowsAgree rows word log (slice_set (slice_set (map work views) id (work ma)) jd (work nb))
   words' r = let ws = map work views in let ak = at_map work views id v at in let ak' = at_map work views jd w at' in
       let T = total_both ws id jd (work v) (work w) (work ma) (work nb) ak ak' apart in
       let a = T (λ (u : Work). times r u.empty) in let b = T (λ (u : Work). times r u.opened) in let c = T (λ (u : Work). row_times r u.pairs) in let d = T (λ (u : Work). times r u.handed) in
@@ -99,7 +99,7 @@ module _ {P : Type 0} (rows room : ℕ) (word : ℕ → ℕ) (slot : ℕ → Opt
       let ed : hands r ws ≡ hands r new = omega arith in
       stands_is (rule.words r) refl ea eb ec ed
 
-  deeds' : Deeds log (slice_set (slice_set (map deed views) id (deed ma)) jd (deed nb))
+  deeds' : DeedsAgree log (slice_set (slice_set (map deed views) id (deed ma)) jd (deed nb))
   deeds' = let ds = map deed views in let k = rule.deeds in let ad = at_map deed views id v at in let ad' = at_map deed views jd w at' in
       let E = each_two ds id jd (deed v) (deed w) (deed ma) (deed nb) ad ad' apart in record {
         fresh = λ i r t q u. E (λ i u. IsAmong r u.empty → Notes log q (Acquire r t) → Notes u.events q (Acquire r t))
@@ -109,7 +109,7 @@ module _ {P : Type 0} (rows room : ℕ) (word : ℕ → ℕ) (slot : ℕ → Opt
         handed = λ i r u. E (λ i u. IsAmong r u.handed → HasRight log u.by r) (k.handed id r (deed v) ad) (λ m. absurd (among_nil m)) (λ i u ne me g. k.handed i r u g) i u;
       }
 
-  leases' : Leases log (slice_set (slice_set (map hold views) id (hold ma)) jd (hold nb))
+  leases' : LeasesAgree log (slice_set (slice_set (map hold views) id (hold ma)) jd (hold nb))
   leases' = let hs = map hold views in let k = rule.leases in let ah = at_map hold views id v at in let ah' = at_map hold views jd w at' in
       let E = each_two hs id jd (hold v) (hold w) (hold ma) (hold nb) ah ah' apart in let S = some_two hs id jd (hold v) (hold w) (hold ma) (hold nb) ah ah' apart in let T = total_both hs id jd (hold v) (hold w) (hold ma) (hold nb) ah ah' apart in record {
         by_main = λ i a b q u. E (λ i u. u.main ≡ true → Notes log q (Lease a b) → q ≡ u.by) (k.by_main id a b q (hold v) ah) (λ m. absurd (bool_not (sym m))) (λ i u ne me g. k.by_main i a b q u g) i u;
@@ -122,7 +122,7 @@ module _ {P : Type 0} (rows room : ℕ) (word : ℕ → ℕ) (slot : ℕ → Opt
         pair_once = λ a r. let t = T (λ (u : Hold). pair_times a r u.pairs) in let o = k.pair_once a r in let z : pair_times a r w.pairs ≡ 0 = ap (λ l. pair_times a r l) no_pair in omega arith;
       }
 
-  pays' : Pays word slot log (slice_set (slice_set (map purse views) id (purse ma)) jd (purse nb))
+  pays' : PaysAgree word slot log (slice_set (slice_set (map purse views) id (purse ma)) jd (purse nb))
   pays' = let ps = map purse views in let k = rule.pays in let ap' = at_map purse views id v at in let aq = at_map purse views jd w at' in let qs = slice_set (slice_set ps id (purse ma)) jd (purse nb) in
       let left : (q : ℕ) (y : P) → LeftIn qs q y → LeftIn ps q y = λ q y. two_back ps id jd (purse v) (purse w) (purse ma) (purse nb) ap' aq apart (λ (u : Purse P). IsAmong (q, y) u.left) (λ m. among_append (q, y) v.left w.left m) (λ m. among_nil m) in
       let left' : (q : ℕ) (y : P) → LeftIn ps q y → LeftIn qs q y = λ q y. some_two ps id jd (purse v) (purse w) (purse ma) (purse nb) ap' aq apart (λ (u : Purse P). IsAmong (q, y) u.left) (λ m. among_left w.left m) (λ m. among_right (q, y) v.left w.left m) in
@@ -138,14 +138,14 @@ module _ {P : Type 0} (rows room : ℕ) (word : ℕ → ℕ) (slot : ℕ → Opt
         final = λ q f. let t = k.final q f in (t.0, given' q t.0 t.1);
       }
 
-  pub join_keeps : Rule rows room word slot log (slice_set (slice_set views id (joined v w)) jd (spent w))
+  pub join_keeps : RuleHolds rows room word slot log (slice_set (slice_set views id (joined v w)) jd (spent w))
   join_keeps = record {
-    seats = subst (λ l. Seats log l) (sym (map_two who views id jd ma nb)) seats';
-    books = subst (λ l. Books room log l) (sym (map_two book views id jd ma nb)) books';
-    words = subst (λ l. Rows rows word log l) (sym (map_two work views id jd ma nb)) words';
-    deeds = subst (λ l. Deeds log l) (sym (map_two deed views id jd ma nb)) deeds';
-    leases = subst (λ l. Leases log l) (sym (map_two hold views id jd ma nb)) leases';
-    pays = subst (λ l. Pays word slot log l) (sym (map_two purse views id jd ma nb)) pays';
+    seats = subst (λ l. SeatsAgree log l) (sym (map_two who views id jd ma nb)) seats';
+    books = subst (λ l. BooksAgree room log l) (sym (map_two book views id jd ma nb)) books';
+    words = subst (λ l. RowsAgree rows word log l) (sym (map_two work views id jd ma nb)) words';
+    deeds = subst (λ l. DeedsAgree log l) (sym (map_two deed views id jd ma nb)) deeds';
+    leases = subst (λ l. LeasesAgree log l) (sym (map_two hold views id jd ma nb)) leases';
+    pays = subst (λ l. PaysAgree word slot log l) (sym (map_two purse views id jd ma nb)) pays';
     spent = each_two views id jd v w ma nb at at' apart (λ i u. u.live ≡ false → (u.empty ≡ []) × (u.opened ≡ []) × (u.pairs ≡ []) × (u.kept ≡ []) × (u.handed ≡ []) × (u.given ≡ []) × (u.left ≡ []) × (u.events ≡ [])) (λ f. absurd (live_not live f)) (λ f. (refl, refl, refl, refl, refl, refl, refl, refl)) (λ i u ne me g. rule.spent i u g);
     small = λ i j r u. each_two views id jd v w ma nb at at' apart (λ i u. IsAmong (j, r) u.pairs → j < 2 ^ 32) (rule.small id j r v at) (λ m. absurd (among_nil m)) (λ i u ne me g. rule.small i j r u g) i u;
   }

@@ -14,7 +14,7 @@ use Rattle.res_ledger.proofs.Orders.{Rises, rising_is}
 use Rattle.row_seat.specs.declared.view.View.{View}
 use Rattle.row_seat.specs.declared.view.Left.{Left}
 use Rattle.row_seat.specs.declared.view.Left.TheVariants.{Stays, Yours}
-use Rattle.row_seat.specs.Views.{start, noted, placed, paid, shut, handed_over, took, Closes, IsFresh, has_row, MayNote, CanPlace, CanClose, CanTake, CanFinish}
+use Rattle.row_seat.specs.Views.{start, noted, placed, paid, shut, handed_over, took, Closes, IsFresh, HasRow, MayNote, CanPlace, CanClose, CanTake, CanFinish}
 
 abbrev pub event : ℕ → What → Event
 event n w = record { stamp = n; by = Outer; what = w }
@@ -68,8 +68,8 @@ may_acquire = (here [], (λ h. among_nil h.2.1), (inl refl, (λ h. among_nil h.2
 pub may_place : (a : ℕ) → CanPlace (acquired a) 0
 may_place a = (here [], (0, (event a (Acquire 0 0), here [], refl, refl)))
 
-pub may_write : (a : ℕ) (v w : View ℕ) → v ≡ acquired a → w ≡ placed v 0 7 → has_row w.opened 0
-may_write a v w is e = subst (λ (x : View ℕ). has_row x.opened 0) (sym (e ∙ ap (λ (x : View ℕ). placed x 0 7) is)) (7, here [])
+pub may_write : (a : ℕ) (v w : View ℕ) → v ≡ acquired a → w ≡ placed v 0 7 → HasRow w.opened 0
+may_write a v w is e = subst (λ (x : View ℕ). HasRow x.opened 0) (sym (e ∙ ap (λ (x : View ℕ). placed x 0 7) is)) (7, here [])
 
 acquire_close : (r s t : ℕ) → Acquire r s ≢ Close t
 acquire_close r s t e = cc

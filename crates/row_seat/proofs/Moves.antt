@@ -3,8 +3,8 @@ use Rattle.std.proofs.Common.{◌≡◌, ◌≢◌, ℕ, ◌+◌, ◌-◌, ◌*�
 use Rattle.std.specs.Prelude.{Some, Option}
 use Rattle.std.proofs.lemmas.Bool.{cases_eq}
 use Rattle.res_ledger.specs.declared.event.What.TheVariants.{Acquire, Cancel, Lease}
-use Rattle.row_seat.specs.Totals.{At, pair_times, row_times, times, total}
-use Rattle.row_seat.specs.Rule.{Books, Deeds, GivenIn, Hold, Leases, LeftIn, Pays, Purse, Rows, Rule, Seats, Work, book, deed, hold, leases, purse, who, work}
+use Rattle.row_seat.specs.Totals.{IsAt, pair_times, row_times, times, total}
+use Rattle.row_seat.specs.Rule.{BooksAgree, DeedsAgree, GivenIn, Hold, LeasesAgree, LeftIn, PaysAgree, Purse, RowsAgree, RuleHolds, SeatsAgree, Work, book, deed, hold, leases, purse, who, work}
 use Rattle.res_ledger.specs.Ledger.{Covers, IsCanceled, IsClosed, IsLeased, IsRowClosed, Notes}
 use Rattle.res_ledger.specs.declared.event.Event.{Event}
 use Rattle.res_ledger.specs.Streams.{HasRight}
@@ -28,39 +28,39 @@ use Rattle.row_seat.specs.Views.{without_pair}
 pub some_is : {A : Type 0} (x y : A) → (let a : Option A = Some x in let b : Option A = Some y in a ≡ b) → x ≡ y
 some_is x y e = cc
 
-module _ {P : Type 0} (rows room : ℕ) (word : ℕ → ℕ) (slot : ℕ → Option P) (log : List Event) (views : List (Token P)) (rule : Rule rows room word slot log views) (id : ℕ) (v : Token P) (at : At views id v) (live : v.live ≡ true) where
-  aw : At (map who views) id (who v)
+module _ {P : Type 0} (rows room : ℕ) (word : ℕ → ℕ) (slot : ℕ → Option P) (log : List Event) (views : List (Token P)) (rule : RuleHolds rows room word slot log views) (id : ℕ) (v : Token P) (at : IsAt views id v) (live : v.live ≡ true) where
+  aw : IsAt (map who views) id (who v)
   aw = at_who rows room word slot log views rule id v at live
 
-  ab : At (map book views) id (book v)
+  ab : IsAt (map book views) id (book v)
   ab = at_book rows room word slot log views rule id v at live
 
-  ak : At (map work views) id (work v)
+  ak : IsAt (map work views) id (work v)
   ak = at_work rows room word slot log views rule id v at live
 
-  ad : At (map deed views) id (deed v)
+  ad : IsAt (map deed views) id (deed v)
   ad = at_deed rows room word slot log views rule id v at live
 
-  ah : At (map hold views) id (hold v)
+  ah : IsAt (map hold views) id (hold v)
   ah = at_hold rows room word slot log views rule id v at live
 
-  ap' : At (map purse views) id (purse v)
+  ap' : IsAt (map purse views) id (purse v)
   ap' = at_purse rows room word slot log views rule id v at live
 
   log_of : (w : What) → Notes v.events v.by w → Notes log v.by w
   log_of = forth rows room word slot log views rule id v at live
 
-  same_seats : Seats log (slice_set (map who views) id (who v))
-  same_seats = keep (λ l. Seats log l) (map who views) id (who v) aw rule.seats
+  same_seats : SeatsAgree log (slice_set (map who views) id (who v))
+  same_seats = keep (λ l. SeatsAgree log l) (map who views) id (who v) aw rule.seats
 
-  same_books : Books room log (slice_set (map book views) id (book v))
-  same_books = keep (λ l. Books room log l) (map book views) id (book v) ab rule.books
+  same_books : BooksAgree room log (slice_set (map book views) id (book v))
+  same_books = keep (λ l. BooksAgree room log l) (map book views) id (book v) ab rule.books
 
-  same_deeds : Deeds log (slice_set (map deed views) id (deed v))
-  same_deeds = keep (λ l. Deeds log l) (map deed views) id (deed v) ad rule.deeds
+  same_deeds : DeedsAgree log (slice_set (map deed views) id (deed v))
+  same_deeds = keep (λ l. DeedsAgree log l) (map deed views) id (deed v) ad rule.deeds
 
-  same_pays : (word' : ℕ → ℕ) → Pays word' slot log (map purse views) → Pays word' slot log (slice_set (map purse views) id (purse v))
-  same_pays word' = keep (λ l. Pays word' slot log l) (map purse views) id (purse v) ap'
+  same_pays : (word' : ℕ → ℕ) → PaysAgree word' slot log (map purse views) → PaysAgree word' slot log (slice_set (map purse views) id (purse v))
+  same_pays word' = keep (λ l. PaysAgree word' slot log l) (map purse views) id (purse v) ap'
 
   pub row_empty : (r : ℕ) → IsAmong r v.empty → (r < rows) × (word r ≡ 0)
   row_empty r m = let l = total_at (λ (u : Work). times r u.empty) (map work views) id (work v) ak in let t = times_some r v.empty m in let s = is_vacant (rule.words r) (omega arith) in (s.0, s.1)
@@ -71,14 +71,14 @@ module _ {P : Type 0} (rows room : ℕ) (word : ℕ → ℕ) (slot : ℕ → Opt
   pub row_handed : (r : ℕ) → IsAmong r v.handed → (r < rows) × (word r ≡ 3)
   row_handed r m = let l = total_at (λ (u : Work). times r u.handed) (map work views) id (work v) ak in let t = times_some r v.handed m in let s = handed_word (rule.words r) (omega arith) in (s.0, s.1)
 
-  one_hand : (r i : ℕ) (u : Purse P) → At (map purse views) i u → IsAmong r v.handed → IsAmong r u.handed → i ≡ id
+  one_hand : (r i : ℕ) (u : Purse P) → IsAt (map purse views) i u → IsAmong r v.handed → IsAmong r u.handed → i ≡ id
   one_hand r i u g m n =
       let y = map_back purse views i u g in let ws = map work views in
       let l = total_at (λ (u : Work). times r u.handed) ws id (work v) ak in let t = times_some r v.handed m in
       let s = handed_word (rule.words r) (omega arith) in let s3 = s.3 in
       total_one (λ (u : Work). times r u.handed) ws i id (work y.0) (work v) (omega arith) (at_map work views i y.0 y.1) ak (times_some r y.0.handed (subst (λ (z : Purse P). IsAmong r z.handed) (sym y.2) n)) (times_some r v.handed m)
 
-  gone_leases : (j r : ℕ) → IsCanceled log j → let h : Hold = record { main = v.main; by = v.by; had = v.had; pairs = without_pair j r v.pairs; kept = v.kept; opened = v.opened } in Leases log (slice_set (map hold views) id h)
+  gone_leases : (j r : ℕ) → IsCanceled log j → let h : Hold = record { main = v.main; by = v.by; had = v.had; pairs = without_pair j r v.pairs; kept = v.kept; opened = v.opened } in LeasesAgree log (slice_set (map hold views) id h)
   gone_leases j r lost = let hs = map hold views in let h : Hold = record { main = v.main; by = v.by; had = v.had; pairs = without_pair j r v.pairs; kept = v.kept; opened = v.opened } in
       hold_step log hs rule.leases id (hold v) h ah refl refl refl refl
       (λ i q m. ⊎_elim (λ e. inl (subst (λ n. IsCanceled log n) (sym e.0) lost)) (λ e. inr (pair_kept j r i q v.pairs m e.0)) (pair_is i q j r))
@@ -89,7 +89,7 @@ module _ {P : Type 0} (rows room : ℕ) (word : ℕ → ℕ) (slot : ℕ → Opt
       (λ e. let g = other_pair j r i q v.pairs e.0 in omega arith) (pair_is i q j r))
 
   module _ (word' : ℕ → ℕ) (r : ℕ) (other : (q : ℕ) → q ≢ r → word' q ≡ word q) where
-    pub place_keeps : word' r ≡ 1 → IsAmong r v.empty → (s : ℕ) → Notes v.events v.by (Acquire r s) → Rule rows room word' slot log (slice_set views id (placed v r))
+    pub place_keeps : word' r ≡ 1 → IsAmong r v.empty → (s : ℕ) → Notes v.events v.by (Acquire r s) → RuleHolds rows room word' slot log (slice_set views id (placed v r))
     place_keeps now can s noted =
         let w = placed v r in let ws = map work views in
         let a = total_set (λ (u : Work). times r u.empty) ws id (work v) (work w) ak in
@@ -111,7 +111,7 @@ module _ {P : Type 0} (rows room : ℕ) (word : ℕ → ℕ) (slot : ℕ → Opt
         (same_pays word' (pay_word word word' slot log (map purse views) rule.pays r other (λ n e. absurd (omega arith)) (λ e. absurd (omega arith)) (λ n e le. absurd (omega arith))))
         (spent_put rows room word slot log views rule id v at live w live) (small_put rows room word slot log views rule id v at live w (λ i q m. rule.small id i q v at m))
 
-    pub lease_keeps : word' r ≡ word r + 4 → (j : ℕ) → j < 2 ^ 32 → v.main ≡ true → IsAmong r v.opened → ¬ (IsAmong (j, r) v.pairs) → ¬ (IsLeased v.events j) → ¬ (IsAmong j v.had) → Rule rows room word' slot log (slice_set views id (leased v j r))
+    pub lease_keeps : word' r ≡ word r + 4 → (j : ℕ) → j < 2 ^ 32 → v.main ≡ true → IsAmong r v.opened → ¬ (IsAmong (j, r) v.pairs) → ¬ (IsLeased v.events j) → ¬ (IsAmong j v.had) → RuleHolds rows room word' slot log (slice_set views id (leased v j r))
     lease_keeps now j small main is_mine no_pair no_lease no_seat =
         let w = leased v j r in let ws = map work views in let hs = map hold views in
         let a = total_set (λ (u : Work). times r u.empty) ws id (work v) (work w) ak in
@@ -128,7 +128,7 @@ module _ {P : Type 0} (rows room : ℕ) (word : ℕ → ℕ) (slot : ℕ → Opt
         ⊎_elim (λ o. absurd (new (covered_leased log j r o.0 o.1))) (λ o.
         let y = map_back hold views x.0 x.1 x.2 in
         let i = rule.seats.one x.0 id (who y.0) (who v) (at_map who views x.0 y.0 y.1) aw (ap (λ (z : Hold). z.main) y.2 ∙ o.1) main in
-        absurd (no_pair (subst (λ (z : Hold). IsAmong (j, r) z.pairs) (one_at hs id x.1 (hold v) (subst (λ n. At hs n x.1) i x.2) ah) m))) (rule.leases.paired x.0 j r x.1 x.2 m))
+        absurd (no_pair (subst (λ (z : Hold). IsAmong (j, r) z.pairs) (one_at hs id x.1 (hold v) (subst (λ n. IsAt hs n x.1) i x.2) ah) m))) (rule.leases.paired x.0 j r x.1 x.2 m))
         (zero_or (total (λ (u : Hold). pair_times j r u.pairs) hs)) in
         rule_put rows room word' slot log views id w same_seats same_books
         (row_step rows word word' log ws rule.words id r (work v) (work w) ak other (λ q ne. (refl, refl, row_push_other q j r v.pairs ne, refl))
@@ -146,7 +146,7 @@ module _ {P : Type 0} (rows room : ℕ) (word : ℕ → ℕ) (slot : ℕ → Opt
         (spent_put rows room word slot log views rule id v at live w live) (small_put rows room word slot log views rule id v at live w (λ i q m. ⊎_elim (rule.small id i q v at) (λ e. let f : i ≡ j = ap (λ (y : ℕ × ℕ). y.0) e in omega arith) (among_snoc v.pairs (i, q) (j, r) m)))
 
     -- a pair goes, and others stay on the row, or the row stays open
-    pub leave_keeps : (j : ℕ) → IsAmong (j, r) v.pairs → Notes v.events v.by (Cancel j) → word' r + 4 ≡ word r → word' r ≢ 3 → Rule rows room word' slot log (slice_set views id (gone v j r))
+    pub leave_keeps : (j : ℕ) → IsAmong (j, r) v.pairs → Notes v.events v.by (Cancel j) → word' r + 4 ≡ word r → word' r ≢ 3 → RuleHolds rows room word' slot log (slice_set views id (gone v j r))
     leave_keeps j pair cancel now stays =
         let w = gone v j r in let ws = map work views in let hs = map hold views in
         let a = total_set (λ (u : Work). times r u.empty) ws id (work v) (work w) ak in
@@ -171,7 +171,7 @@ module _ {P : Type 0} (rows room : ℕ) (word : ℕ → ℕ) (slot : ℕ → Opt
         (spent_put rows room word slot log views rule id v at live w live) (small_put rows room word slot log views rule id v at live w (λ i q m. rule.small id i q v at (pair_among j r i q v.pairs m).0))
 
     -- the last pair goes from a closed row
-    pub leave_last : (j : ℕ) (p : P) → IsAmong (j, r) v.pairs → Notes v.events v.by (Cancel j) → word' r + 4 ≡ word r → word' r ≡ 3 → slot r ≡ Some p → Rule rows room word' slot log (slice_set views id (handed_over (gone v j r) r p))
+    pub leave_last : (j : ℕ) (p : P) → IsAmong (j, r) v.pairs → Notes v.events v.by (Cancel j) → word' r + 4 ≡ word r → word' r ≡ 3 → slot r ≡ Some p → RuleHolds rows room word' slot log (slice_set views id (handed_over (gone v j r) r p))
     leave_last j p pair cancel now last there =
         let w = handed_over (gone v j r) r p in let ws = map work views in let hs = map hold views in let ps = map purse views in
         let a = total_set (λ (u : Work). times r u.empty) ws id (work v) (work w) ak in
@@ -200,7 +200,7 @@ module _ {P : Type 0} (rows room : ℕ) (word : ℕ → ℕ) (slot : ℕ → Opt
 
     -- what a close leaves in the leases, whether it hands the row over or not
     shut_leases : word r ≡ 1 + 4 * leases r (map work views) → ((j : ℕ) → IsAmong (j, r) v.pairs → (s : ℕ) × Notes v.events v.by (Lease j s))
-        → let h : Hold = record { main = v.main; by = v.by; had = v.had; pairs = v.pairs; kept = v.kept; opened = without_one r v.opened } in Leases log (slice_set (map hold views) id h)
+        → let h : Hold = record { main = v.main; by = v.by; had = v.had; pairs = v.pairs; kept = v.kept; opened = without_one r v.opened } in LeasesAgree log (slice_set (map hold views) id h)
     shut_leases is named = let hs = map hold views in let h : Hold = record { main = v.main; by = v.by; had = v.had; pairs = v.pairs; kept = v.kept; opened = without_one r v.opened } in
         hold_step log hs rule.leases id (hold v) h ah refl refl refl refl (λ j q m. inr m)
         (λ j q m. ⊎_elim (λ o. inl o)
@@ -215,7 +215,7 @@ module _ {P : Type 0} (rows room : ℕ) (word : ℕ → ℕ) (slot : ℕ → Opt
       row_closed = (v.by, s, log_of (Acquire r s) noted, closed_forth rows room word slot log views rule id v at live s closed)
 
       -- while the row is open it is handed to nobody
-      no_hand : (i : ℕ) (u : Purse P) → At (map purse views) i u → ¬ (IsAmong r u.handed)
+      no_hand : (i : ℕ) (u : Purse P) → IsAt (map purse views) i u → ¬ (IsAmong r u.handed)
       no_hand i u g m =
           let ws = map work views in let y = map_back purse views i u g in
           let l = total_at (λ (u : Work). times r u.opened) ws id (work v) ak in let t = times_some r v.opened mine in
@@ -224,7 +224,7 @@ module _ {P : Type 0} (rows room : ℕ) (word : ℕ → ℕ) (slot : ℕ → Opt
           let g' = times_some r y.0.handed (subst (λ (z : Purse P). IsAmong r z.handed) (sym y.2) m) in omega arith
 
       -- leases stand
-      pub close_stays : word' r ≢ 3 → Rule rows room word' slot' log (slice_set views id (shut v r p))
+      pub close_stays : word' r ≢ 3 → RuleHolds rows room word' slot' log (slice_set views id (shut v r p))
       close_stays stays =
           let w = shut v r p in let ws = map work views in
           let a = total_set (λ (u : Work). times r u.empty) ws id (work v) (work w) ak in
@@ -243,7 +243,7 @@ module _ {P : Type 0} (rows room : ℕ) (word : ℕ → ℕ) (slot : ℕ → Opt
           (spent_put rows room word slot log views rule id v at live w live) (small_put rows room word slot log views rule id v at live w (λ i q m. rule.small id i q v at m))
 
       -- no lease stands
-      pub close_yours : word' r ≡ 3 → Rule rows room word' slot' log (slice_set views id (handed_over (shut v r p) r p))
+      pub close_yours : word' r ≡ 3 → RuleHolds rows room word' slot' log (slice_set views id (handed_over (shut v r p) r p))
       close_yours last =
           let u' = shut v r p in let w = handed_over u' r p in let ws = map work views in let ps = map purse views in
           let a = total_set (λ (u : Work). times r u.empty) ws id (work v) (work w) ak in
@@ -263,14 +263,14 @@ module _ {P : Type 0} (rows room : ℕ) (word : ℕ → ℕ) (slot : ℕ → Opt
           (spent_put rows room word slot log views rule id v at live w live) (small_put rows room word slot log views rule id v at live w (λ i q m. rule.small id i q v at m))
 
   -- the payload is lifted out of the slot
-  pub take_keeps : (slot' : ℕ → Option P) (r : ℕ) → ((q : ℕ) → q ≢ r → slot' q ≡ slot q) → IsAmong r v.handed → Rule rows room word slot' log (slice_set views id (took v r))
+  pub take_keeps : (slot' : ℕ → Option P) (r : ℕ) → ((q : ℕ) → q ≢ r → slot' q ≡ slot q) → IsAmong r v.handed → RuleHolds rows room word slot' log (slice_set views id (took v r))
   take_keeps slot' r elsewhere mine =
       let w = took v r in let ps = map purse views in let p' : Purse P = purse w in let is = row_handed r mine in let i1 = is.1 in let k = rule.pays in
       let left : (q : ℕ) (y : P) → LeftIn (slice_set ps id p') q y → LeftIn ps q y = λ q y. some_back ps id (purse v) p' ap' (λ (u : Purse P). IsAmong (q, y) u.left) (λ m. m) in
       let left' : (q : ℕ) (y : P) → LeftIn ps q y → LeftIn (slice_set ps id p') q y = λ q y. some_put ps id (purse v) p' ap' (λ (u : Purse P). IsAmong (q, y) u.left) (λ m. m) in
       let given : (q : ℕ) (y : P) → GivenIn (slice_set ps id p') q y → GivenIn ps q y = λ q y. some_back ps id (purse v) p' ap' (λ (u : Purse P). IsAmong (q, y) u.given) (λ m. m) in
       let given' : (q : ℕ) (y : P) → GivenIn ps q y → GivenIn (slice_set ps id p') q y = λ q y. some_put ps id (purse v) p' ap' (λ (u : Purse P). IsAmong (q, y) u.given) (λ m. m) in
-      rule_put rows room word slot' log views id w same_seats same_books (keep (λ l. Rows rows word log l) (map work views) id (work v) ak rule.words) same_deeds (keep (λ l. Leases log l) (map hold views) id (hold v) ah rule.leases)
+      rule_put rows room word slot' log views id w same_seats same_books (keep (λ l. RowsAgree rows word log l) (map work views) id (work v) ak rule.words) same_deeds (keep (λ l. LeasesAgree log l) (map hold views) id (hold v) ah rule.leases)
       (record {
         left_when = λ q y l. k.left_when q y (left q y l);
         given_when = λ q y g. k.given_when q y (given q y g);

@@ -3,9 +3,9 @@ use Rattle.std.proofs.Common.{◌≡◌, ◌≢◌, ℕ, zero, suc, ◌+◌, ◌
 use Rattle.std.specs.Prelude.{Some, Option}
 use Rattle.std.proofs.lemmas.Bool.{cases_eq}
 use Rattle.res_ledger.specs.declared.event.What.TheVariants.{Acquire, Lease}
-use Rattle.row_seat.specs.Totals.{At, pair_times, times, total}
+use Rattle.row_seat.specs.Totals.{IsAt, pair_times, times, total}
 use Rattle.res_ledger.specs.Ledger.{Covers, IsCanceled, IsLeased, Notes}
-use Rattle.row_seat.specs.Rule.{Deed, Deeds, GivenIn, Hold, Leases, LeftIn, Pays, Purse}
+use Rattle.row_seat.specs.Rule.{Deed, DeedsAgree, GivenIn, Hold, LeasesAgree, LeftIn, PaysAgree, Purse}
 use Rattle.res_ledger.specs.declared.event.Event.{Event}
 use Rattle.res_ledger.specs.Streams.{HasRight}
 use Rattle.res_ledger.specs.declared.event.StreamNo.TheVariants.{Inner}
@@ -25,8 +25,8 @@ covered_leased L j r k c = let t = covers_leased L j r k c in (k, t.0, t.1)
 
 -- what is read of the row's counts
 
-module _ (log : List Event) (ds : List Deed) (k : Deeds log ds) (id : ℕ) (d d' : Deed) (at : At ds id d) where
-  pub deed_step : d'.by ≡ d.by → d'.events ≡ d.events → ((r : ℕ) → IsAmong r d'.empty → IsAmong r d.empty) → ((r : ℕ) → IsAmong r d'.opened → (s : ℕ) × Notes log d.by (Acquire r s)) → ((r : ℕ) → IsAmong r d'.handed → HasRight log d.by r) → Deeds log (slice_set ds id d')
+module _ (log : List Event) (ds : List Deed) (k : DeedsAgree log ds) (id : ℕ) (d d' : Deed) (at : IsAt ds id d) where
+  pub deed_step : d'.by ≡ d.by → d'.events ≡ d.events → ((r : ℕ) → IsAmong r d'.empty → IsAmong r d.empty) → ((r : ℕ) → IsAmong r d'.opened → (s : ℕ) × Notes log d.by (Acquire r s)) → ((r : ℕ) → IsAmong r d'.handed → HasRight log d.by r) → DeedsAgree log (slice_set ds id d')
   deed_step by events empty opens' hands' = record {
     fresh = λ i r t q u. each ds id d' (λ i u. IsAmong r u.empty → Notes log q (Acquire r t) → Notes u.events q (Acquire r t))
         (λ a n. subst (λ l. Notes l q (Acquire r t)) (sym events) (k.fresh id r t q d at (empty r a) n)) (λ i u ne g. k.fresh i r t q u g) i u;
@@ -34,17 +34,17 @@ module _ (log : List Event) (ds : List Deed) (k : Deeds log ds) (id : ℕ) (d d'
     handed = λ i r u. each ds id d' (λ i u. IsAmong r u.handed → HasRight log u.by r) (λ a. subst (λ b. HasRight log b r) (sym by) (hands' r a)) (λ i u ne g. k.handed i r u g) i u;
   }
 
-module _ (log : List Event) (hs : List Hold) (k : Leases log hs) (id : ℕ) (h h' : Hold) (at : At hs id h) where
+module _ (log : List Event) (hs : List Hold) (k : LeasesAgree log hs) (id : ℕ) (h h' : Hold) (at : IsAt hs id h) where
   -- where the pairs stay, all of them in order
   pub hold_step : h'.main ≡ h.main → h'.by ≡ h.by → h'.had ≡ h.had → h'.kept ≡ h.kept
       → ((j r : ℕ) → IsAmong (j, r) h.pairs → IsCanceled log j ⊎ IsAmong (j, r) h'.pairs)
       → ((j r : ℕ) → IsAmong (j, r) h'.pairs → ((q : StreamNo) × Covers log j q r) ⊎ (¬ (IsLeased log j) × (h.main ≡ true) × IsAmong r h'.opened))
       → ((j r : ℕ) → IsAmong (j, r) h'.pairs → ((h.main ≡ true) × ¬ (IsAmong j h.had)) ⊎ (h.by ≡ Inner j))
-      → ((j r : ℕ) → total (λ (u : Hold). pair_times j r u.pairs) (slice_set hs id h') ≤ 1) → Leases log (slice_set hs id h')
+      → ((j r : ℕ) → total (λ (u : Hold). pair_times j r u.pairs) (slice_set hs id h') ≤ 1) → LeasesAgree log (slice_set hs id h')
   hold_step main by had kept stay paired holder once = record {
     by_main = λ i a b q u. each hs id h' (λ i u. u.main ≡ true → Notes log q (Lease a b) → q ≡ u.by) (λ m n. k.by_main id a b q h at (sym main ∙ m) n ∙ sym by) (λ i u ne g. k.by_main i a b q u g) i u;
     stand = λ j r q c. ⊎_elim (λ x. inl x) (λ x. ⊎_elim
-        (λ s. ⊎_elim (λ c. inl c) (λ m. inr (id, h', put_here hs id h h' at, m)) (stay j r (subst (λ (u : Hold). IsAmong (j, r) u.pairs) (one_at hs id x.1 h (subst (λ n. At hs n x.1) s x.2) at) x.3)))
+        (λ s. ⊎_elim (λ c. inl c) (λ m. inr (id, h', put_here hs id h h' at, m)) (stay j r (subst (λ (u : Hold). IsAmong (j, r) u.pairs) (one_at hs id x.1 h (subst (λ n. IsAt hs n x.1) s x.2) at) x.3)))
         (λ ne. inr (x.0, x.1, put_else hs id x.0 x.1 h' ne x.2, x.3)) (cases_eq x.0 id)) (k.stand j r q c);
     paired = λ i j r u. each hs id h' (λ i u. IsAmong (j, r) u.pairs → ((q : StreamNo) × Covers log j q r) ⊎ (¬ (IsLeased log j) × (u.main ≡ true) × IsAmong r u.opened))
         (λ m. ⊎_elim (λ o. inl o) (λ o. inr (o.0, main ∙ o.1, o.2)) (paired j r m)) (λ i u ne g. k.paired i j r u g) i u;
@@ -56,9 +56,9 @@ module _ (log : List Event) (hs : List Hold) (k : Leases log hs) (id : ℕ) (h h
     pair_once = once;
   }
 
-module _ {P : Type 0} (word word' : ℕ → ℕ) (slot : ℕ → Option P) (log : List Event) (ps : List (Purse P)) (k : Pays word slot log ps) (r : ℕ) (other : (q : ℕ) → q ≢ r → word' q ≡ word q) where
+module _ {P : Type 0} (word word' : ℕ → ℕ) (slot : ℕ → Option P) (log : List Event) (ps : List (Purse P)) (k : PaysAgree word slot log ps) (r : ℕ) (other : (q : ℕ) → q ≢ r → word' q ≡ word q) where
   -- no payload moves, and the row stays closed or stays open
-  pub pay_word : ((n : ℕ) → word r ≡ 3 + 4 * n → (m : ℕ) × (word' r ≡ 3 + 4 * m)) → (word r ≡ 3 → word' r ≡ 3) → ((n : ℕ) → word' r ≡ 3 + 4 * n → 1 ≤ n → (m : ℕ) × (word r ≡ 3 + 4 * m) × (1 ≤ m)) → Pays word' slot log ps
+  pub pay_word : ((n : ℕ) → word r ≡ 3 + 4 * n → (m : ℕ) × (word' r ≡ 3 + 4 * m)) → (word r ≡ 3 → word' r ≡ 3) → ((n : ℕ) → word' r ≡ 3 + 4 * n → 1 ≤ n → (m : ℕ) × (word r ≡ 3 + 4 * m) × (1 ≤ m)) → PaysAgree word' slot log ps
   pay_word closed over waits = record {
     left_when = λ q x l. let t = k.left_when q x l in ⊎_elim (λ e. subst (λ a. (n : ℕ) × (word' a ≡ 3 + 4 * n)) (sym e) (closed t.0 (subst (λ a. word a ≡ 3 + 4 * t.0) e t.1))) (λ ne. (t.0, other q ne ∙ t.1)) (cases_eq q r);
     given_when = λ q x g. let t = k.given_when q x g in ⊎_elim (λ e. subst (λ a. word' a ≡ 3) (sym e) (over (subst (λ a. word a ≡ 3) e t))) (λ ne. other q ne ∙ t) (cases_eq q r);
@@ -70,7 +70,7 @@ module _ {P : Type 0} (word word' : ℕ → ℕ) (slot : ℕ → Option P) (log 
   }
 
   -- the row is handed over with the payload that its owner left
-  pub give_pays : (id : ℕ) (p : Purse P) (x : P) → At ps id p → word' r ≡ 3 → LeftIn ps r x → slot r ≡ Some x → ((y : P) → ¬ (GivenIn ps r y)) → Pays word' slot log (slice_set ps id (record p { handed = p.handed ++ r ∷ []; given = p.given ++ (r, x) ∷ [] }))
+  pub give_pays : (id : ℕ) (p : Purse P) (x : P) → IsAt ps id p → word' r ≡ 3 → LeftIn ps r x → slot r ≡ Some x → ((y : P) → ¬ (GivenIn ps r y)) → PaysAgree word' slot log (slice_set ps id (record p { handed = p.handed ++ r ∷ []; given = p.given ++ (r, x) ∷ [] }))
   give_pays id p x at now here there none =
       let p' : Purse P = record p { handed = p.handed ++ r ∷ []; given = p.given ++ (r, x) ∷ [] } in
       let left : (q : ℕ) (y : P) → LeftIn (slice_set ps id p') q y → LeftIn ps q y = λ q y. some_back ps id p p' at (λ (u : Purse P). IsAmong (q, y) u.left) (λ m. m) in
@@ -90,9 +90,9 @@ module _ {P : Type 0} (word word' : ℕ → ℕ) (slot : ℕ → Option P) (log 
         final = λ q f. let t = k.final q f in (t.0, given' q t.0 t.1);
       }
 
-  module _ (slot' : ℕ → Option P) (elsewhere : (q : ℕ) → q ≢ r → slot' q ≡ slot q) (id : ℕ) (p : Purse P) (x : P) (at : At ps id p) where
+  module _ (slot' : ℕ → Option P) (elsewhere : (q : ℕ) → q ≢ r → slot' q ≡ slot q) (id : ℕ) (p : Purse P) (x : P) (at : IsAt ps id p) where
     -- the payload is left in the slot
-    pub shut_pays : (m : ℕ) → word' r ≡ 3 + 4 * m → slot' r ≡ Some x → ((n : ℕ) → word r ≢ 3 + 4 * n) → ((i : ℕ) (u : Purse P) → At ps i u → ¬ (IsAmong r u.handed)) → Pays word' slot' log (slice_set ps id (record p { left = p.left ++ (r, x) ∷ [] }))
+    pub shut_pays : (m : ℕ) → word' r ≡ 3 + 4 * m → slot' r ≡ Some x → ((n : ℕ) → word r ≢ 3 + 4 * n) → ((i : ℕ) (u : Purse P) → IsAt ps i u → ¬ (IsAmong r u.handed)) → PaysAgree word' slot' log (slice_set ps id (record p { left = p.left ++ (r, x) ∷ [] }))
     shut_pays m now there was none =
         let p' : Purse P = record p { left = p.left ++ (r, x) ∷ [] } in
         let no_left : (y : P) → ¬ (LeftIn ps r y) = λ y l. let t = k.left_when r y l in was t.0 t.1 in
@@ -118,13 +118,13 @@ module _ {P : Type 0} (word word' : ℕ → ℕ) (slot : ℕ → Option P) (log 
           final = λ q f. let t = k.final q f in (t.0, given' q t.0 t.1);
         }
 
-module _ {P : Type 0} (word word' : ℕ → ℕ) (slot : ℕ → Option P) (log : List Event) (ps : List (Purse P)) (k : Pays word slot log ps) (r : ℕ) (other : (q : ℕ) → q ≢ r → word' q ≡ word q) (slot' : ℕ → Option P) (elsewhere : (q : ℕ) → q ≢ r → slot' q ≡ slot q) (id : ℕ) (p : Purse P) (x : P) (at : At ps id p) where
+module _ {P : Type 0} (word word' : ℕ → ℕ) (slot : ℕ → Option P) (log : List Event) (ps : List (Purse P)) (k : PaysAgree word slot log ps) (r : ℕ) (other : (q : ℕ) → q ≢ r → word' q ≡ word q) (slot' : ℕ → Option P) (elsewhere : (q : ℕ) → q ≢ r → slot' q ≡ slot q) (id : ℕ) (p : Purse P) (x : P) (at : IsAt ps id p) where
   -- and is handed to the closer at once
-  pub close_pays : word' r ≡ 3 → slot' r ≡ Some x → ((n : ℕ) → word r ≢ 3 + 4 * n) → ((i : ℕ) (u : Purse P) → At ps i u → ¬ (IsAmong r u.handed)) → Pays word' slot' log (slice_set ps id (record p { left = p.left ++ (r, x) ∷ []; handed = p.handed ++ r ∷ []; given = p.given ++ (r, x) ∷ [] }))
+  pub close_pays : word' r ≡ 3 → slot' r ≡ Some x → ((n : ℕ) → word r ≢ 3 + 4 * n) → ((i : ℕ) (u : Purse P) → IsAt ps i u → ¬ (IsAmong r u.handed)) → PaysAgree word' slot' log (slice_set ps id (record p { left = p.left ++ (r, x) ∷ []; handed = p.handed ++ r ∷ []; given = p.given ++ (r, x) ∷ [] }))
   close_pays now there was none =
       let p' : Purse P = record p { left = p.left ++ (r, x) ∷ [] } in
       let first = shut_pays word word' slot log ps k r other slot' elsewhere id p x at 0 (now ∙ omega arith) there was none in
       let none' : (y : P) → ¬ (GivenIn (slice_set ps id p') r y) = λ y g. was 0 (k.given_when r y (some_back ps id p p' at (λ (u : Purse P). IsAmong (r, y) u.given) (λ m. m) g) ∙ omega arith) in
       let at' = put_here ps id p p' at in
-      subst (λ l. Pays word' slot' log l) (set_twice ps id p' (record p' { handed = p.handed ++ r ∷ []; given = p.given ++ (r, x) ∷ [] }))
+      subst (λ l. PaysAgree word' slot' log l) (set_twice ps id p' (record p' { handed = p.handed ++ r ∷ []; given = p.given ++ (r, x) ∷ [] }))
       (give_pays word' word' slot' log (slice_set ps id p') first r (λ q ne. refl) id p' x at' now (id, p', at', among_last p.left (r, x)) there none')

@@ -1,7 +1,7 @@
 -- At most b pairs on a row, where no pair stands twice and the streams are below b.
 use Rattle.std.proofs.Common.{◌≡◌, ◌≢◌, ℕ, zero, suc, ◌+◌, ◌<◌, ◌≤◌, Bool, false, cond, eqb, List, [], ◌∷◌, refl, sym, ap, subst, ⊎_elim, arith, ne_eqb, eq-eqb}
 use Rattle.std.proofs.lemmas.Bool.{cases_eq}
-use Rattle.row_seat.specs.Totals.{At, pair_times, row_times, total}
+use Rattle.row_seat.specs.Totals.{IsAt, pair_times, row_times, total}
 use Rattle.chunk_core.specs.Lists.{IsAmong}
 use Rattle.chunk_core.specs.Lists.IsAmong.{here, there}
 use Rattle.row_seat.proofs.Times.{pair_is}
@@ -44,10 +44,10 @@ row_sum r b (x ∷ xs) h =
     (λ ne. subst (λ c. bit c + row_times r xs ≤ sum_to (λ j. pair_times j r (x ∷ xs)) b) (sym (ne_eqb x.1 r ne)) (omega arith))
     (cases_eq x.1 r)
 
-pub few_pairs : {V : Type 0} (f : V → List (ℕ × ℕ)) (r b : ℕ) (vs : List V) → ((i j : ℕ) (v : V) → At vs i v → IsAmong (j, r) (f v) → j < b) → total (λ (v : V). row_times r (f v)) vs ≤ sum_to (λ j. total (λ (v : V). pair_times j r (f v)) vs) b
+pub few_pairs : {V : Type 0} (f : V → List (ℕ × ℕ)) (r b : ℕ) (vs : List V) → ((i j : ℕ) (v : V) → IsAt vs i v → IsAmong (j, r) (f v) → j < b) → total (λ (v : V). row_times r (f v)) vs ≤ sum_to (λ j. total (λ (v : V). pair_times j r (f v)) vs) b
 few_pairs f r b [] h = omega arith
 few_pairs f r b (v ∷ vs) h = let t = few_pairs f r b vs (λ i j u g m. h (suc i) j u g m) in let s = row_sum r b (f v) (λ j m. h 0 j v refl m) in
     let a = sum_add (λ j. pair_times j r (f v)) (λ j. total (λ v. pair_times j r (f v)) vs) b in omega arith
 
-pub pairs_below : {V : Type 0} (f : V → List (ℕ × ℕ)) (r b : ℕ) (vs : List V) → ((i j : ℕ) (v : V) → At vs i v → IsAmong (j, r) (f v) → j < b) → ((j : ℕ) → total (λ (v : V). pair_times j r (f v)) vs ≤ 1) → total (λ (v : V). row_times r (f v)) vs ≤ b
+pub pairs_below : {V : Type 0} (f : V → List (ℕ × ℕ)) (r b : ℕ) (vs : List V) → ((i j : ℕ) (v : V) → IsAt vs i v → IsAmong (j, r) (f v) → j < b) → ((j : ℕ) → total (λ (v : V). pair_times j r (f v)) vs ≤ 1) → total (λ (v : V). row_times r (f v)) vs ≤ b
 pairs_below f r b vs h once = let a = few_pairs f r b vs h in let s = sum_le (λ j. total (λ v. pair_times j r (f v)) vs) b once in omega arith

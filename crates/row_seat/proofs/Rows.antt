@@ -1,10 +1,10 @@
 -- What a row's word tells, and a step on one row.
 use Rattle.std.proofs.Common.{◌≡◌, ◌≢◌, ℕ, ◌+◌, ◌*◌, ◌<◌, ◌≤◌, ◌⊎◌, List, slice_set, inl, inr, sym, subst, ⊎_elim, arith}
 use Rattle.std.proofs.lemmas.Bool.{cases_eq}
-use Rattle.row_seat.specs.Totals.{At, row_times, times}
+use Rattle.row_seat.specs.Totals.{IsAt, row_times, times}
 use Rattle.res_ledger.specs.declared.event.Event.{Event}
 use Rattle.res_ledger.specs.Ledger.{IsAcquired, IsFinalized, IsRowClosed}
-use Rattle.row_seat.specs.Rule.{Rows, Stands, Work, empties, hands, leases, opens}
+use Rattle.row_seat.specs.Rule.{RowsAgree, Stands, Work, empties, hands, leases, opens}
 use Rattle.row_seat.specs.Rule.Stands.{awaits, beyond, final, handed, opened, vacant}
 use Rattle.row_seat.proofs.Tick.{stands_is}
 use Rattle.row_seat.proofs.Totals.{total_set}
@@ -44,10 +44,10 @@ module _ {rows r word e o n h : ℕ} {A C F : Type 0} where
   is_leased (beyond a b c d i j) l = absurd (omega arith)
 
 -- a step on the row r alone
-module _ (rows : ℕ) (word word' : ℕ → ℕ) (log : List Event) (ws : List Work) (k : Rows rows word log ws) (id r : ℕ) (v w : Work) (at : At ws id v) where
+module _ (rows : ℕ) (word word' : ℕ → ℕ) (log : List Event) (ws : List Work) (k : RowsAgree rows word log ws) (id r : ℕ) (v w : Work) (at : IsAt ws id v) where
   pub row_step : ((q : ℕ) → q ≢ r → word' q ≡ word q) → ((q : ℕ) → q ≢ r → (times q w.empty ≡ times q v.empty) × (times q w.opened ≡ times q v.opened) × (row_times q w.pairs ≡ row_times q v.pairs) × (times q w.handed ≡ times q v.handed))
       → Stands rows r (word' r) (empties r (slice_set ws id w)) (opens r (slice_set ws id w)) (leases r (slice_set ws id w)) (hands r (slice_set ws id w)) (IsAcquired log r) (IsRowClosed log r) (IsFinalized log r)
-      → Rows rows word' log (slice_set ws id w)
+      → RowsAgree rows word' log (slice_set ws id w)
   row_step words same now q =
       ⊎_elim
       (λ e. subst (λ n. Stands rows n (word' n) (empties n (slice_set ws id w)) (opens n (slice_set ws id w)) (leases n (slice_set ws id w)) (hands n (slice_set ws id w)) (IsAcquired log n) (IsRowClosed log n) (IsFinalized log n)) (sym e) now)

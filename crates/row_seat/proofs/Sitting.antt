@@ -4,15 +4,15 @@ use Rattle.std.specs.Prelude.{Some, None, Option, slice_index, slice_index_or, v
 use Rattle.std.proofs.lemmas.List.{get_or-set_same, get_or-set_other, length-set, length_push, length-map}
 use Rattle.std.proofs.lemmas.Bool.{cases_eq}
 use Rattle.res_ledger.specs.declared.event.What.TheVariants.{Acquire, Cancel, Lease}
-use Rattle.row_seat.specs.Totals.{At, pair_times, row_times, times, total}
-use Rattle.row_seat.specs.Rule.{Book, Hold, Rule, Work, book, hold, leases, purse, seen, work}
+use Rattle.row_seat.specs.Totals.{IsAt, pair_times, row_times, times, total}
+use Rattle.row_seat.specs.Rule.{Book, Hold, RuleHolds, Work, book, hold, leases, purse, seen, work}
 use Rattle.res_ledger.specs.declared.event.Event.{Event}
 use Rattle.res_ledger.specs.declared.event.StreamNo.TheVariants.{Inner}
 use Rattle.res_ledger.specs.Ledger.{IsAcquired, IsClosed, IsLeased, Notes}
 use Rattle.chunk_core.specs.Lists.{IsAmong}
 use Rattle.row_seat.specs.PlainSeats.{IsTable, Sits, rows_of}
 use Rattle.known.specs.declared.Known.{Known}
-use Rattle.row_seat.specs.Views.{MayNote, has_row, within, without, without_pair, without_row}
+use Rattle.row_seat.specs.Views.{MayNote, HasRow, within, without, without_pair, without_row}
 use Rattle.row_seat.specs.declared.plain.PlainSeat.{PlainSeat}
 use Rattle.row_seat.specs.declared.plain.PlainTable.{PlainTable}
 use Rattle.row_seat.specs.declared.token.Token.{Token}
@@ -40,7 +40,7 @@ module _ {P : Type 0} {s' : PlainSeat P} {d' : PlainTable P} (s : PlainSeat P) (
   pub sits_put : s'.id.inner.ask ≡ s.id.inner.ask → s'.token.inner.ask ≡ w → w.live ≡ true → s'.by ≡ w.by → rows_of s'.hands.items ≡ w.opened → length w.empty + vec_len s'.hands ≤ vec_capacity s'.hands → (w.main ≡ true → length d'.slots.items ≤ vec_capacity s'.hands) → Sits s' d'
   sits_put id is live by held hold whole = record {
     table = subst (λ l. IsTable d'.slots.items d'.words.items d'.events.items (vec_capacity d'.events) l) (sym views) table;
-    mine = subst (λ l. At l s'.id.inner.ask s'.token.inner.ask) (sym views) (subst (λ n. At (slice_set d.views.inner.ask s.id.inner.ask w) n s'.token.inner.ask) (sym id) (subst (λ t. At (slice_set d.views.inner.ask s.id.inner.ask w) s.id.inner.ask t) (sym is) (put_here d.views.inner.ask s.id.inner.ask s.token.inner.ask w h.mine)));
+    mine = subst (λ l. IsAt l s'.id.inner.ask s'.token.inner.ask) (sym views) (subst (λ n. IsAt (slice_set d.views.inner.ask s.id.inner.ask w) n s'.token.inner.ask) (sym id) (subst (λ t. IsAt (slice_set d.views.inner.ask s.id.inner.ask w) s.id.inner.ask t) (sym is) (put_here d.views.inner.ask s.id.inner.ask s.token.inner.ask w h.mine)));
     live = ap (λ (t : Token P). t.live) is ∙ live;
     by = by ∙ ap (λ (t : Token P). t.by) (sym is);
     held = held ∙ ap (λ (t : Token P). t.opened) (sym is);
@@ -54,7 +54,7 @@ module _ {P : Type 0} {d' : PlainTable P} (s : PlainSeat P) (d : PlainTable P) (
   pub others_put : (o : PlainSeat P) → o.token.inner.ask.by ≢ s.token.inner.ask.by → Sits o d → Sits o d'
   others_put o ne k = record {
     table = subst (λ l. IsTable d'.slots.items d'.words.items d'.events.items (vec_capacity d'.events) l) (sym views) table;
-    mine = subst (λ l. At l o.id.inner.ask o.token.inner.ask) (sym views) (put_else d.views.inner.ask s.id.inner.ask o.id.inner.ask o.token.inner.ask w (λ e. ne (ap (λ (t : Token P). t.by) (one_at d.views.inner.ask s.id.inner.ask o.token.inner.ask s.token.inner.ask (subst (λ n. At d.views.inner.ask n o.token.inner.ask) e k.mine) h.mine))) k.mine);
+    mine = subst (λ l. IsAt l o.id.inner.ask o.token.inner.ask) (sym views) (put_else d.views.inner.ask s.id.inner.ask o.id.inner.ask o.token.inner.ask w (λ e. ne (ap (λ (t : Token P). t.by) (one_at d.views.inner.ask s.id.inner.ask o.token.inner.ask s.token.inner.ask (subst (λ n. IsAt d.views.inner.ask n o.token.inner.ask) e k.mine) h.mine))) k.mine);
     live = k.live;
     by = k.by;
     held = k.held;
@@ -76,15 +76,15 @@ one_shorter r (x ∷ xs) = let t = one_shorter r xs in elim (eqb x r) as (λ b. 
 two_pairs : (i j r : ℕ) (xs : List (ℕ × ℕ)) → i ≢ j → IsAmong (i, r) xs → IsAmong (j, r) xs → 2 ≤ row_times r xs
 two_pairs i j r xs ne a b = let k = row_less i r xs in let p = pair_some i r xs a in let q = row_some j r (without_pair i r xs) (pair_kept i r j r xs b (λ e f. ne (sym e))) in omega arith
 
-module _ {P : Type 0} (slots : List (Option P)) (words : List ℕ) (events : List Event) (most : ℕ) (views : List (Token P)) (t : IsTable slots words events most views) (id : ℕ) (v : Token P) (at : At views id v) (live : v.live ≡ true) where
+module _ {P : Type 0} (slots : List (Option P)) (words : List ℕ) (events : List Event) (most : ℕ) (views : List (Token P)) (t : IsTable slots words events most views) (id : ℕ) (v : Token P) (at : IsAt views id v) (live : v.live ≡ true) where
   table_put : (slots' : List (Option P)) (words' : List ℕ) (events' : List Event) (most' : ℕ) (w : Token P) → length words' ≡ length words → length slots' ≡ length slots
-      → Rule (length slots) t.room (λ r. slice_index words' r) (λ r. slice_index_or slots' r None) events' (slice_set views id w)
+      → RuleHolds (length slots) t.room (λ r. slice_index words' r) (λ r. slice_index_or slots' r None) events' (slice_set views id w)
       → length w.empty + length w.opened ≤ length v.empty + length v.opened → most ≤ most' → IsTable slots' words' events' most' (slice_set views id w)
   table_put slots' words' events' most' w lw ls rule load more = record {
     room = t.room;
     enough = let e = t.enough in omega arith;
     words_are = lw ∙ (t.words_are ∙ sym ls);
-    rule = subst (λ n. Rule n t.room (λ r. slice_index words' r) (λ r. slice_index_or slots' r None) events' (slice_set views id w)) (sym ls) rule;
+    rule = subst (λ n. RuleHolds n t.room (λ r. slice_index words' r) (λ r. slice_index_or slots' r None) events' (slice_set views id w)) (sym ls) rule;
     load = let a = total_set (λ (u : Token P). length u.empty + length u.opened) views id v w at in let b = t.load in omega arith;
   }
 
@@ -114,7 +114,7 @@ module _ {P : Type 0} (slots : List (Option P)) (words : List ℕ) (events : Lis
       (lease_keeps (length slots) t.room (λ r. slice_index words r) (λ r. slice_index_or slots r None) events views t.rule id v at live (λ q. slice_index (slice_set words r x) q) r (word_else r x) (word_now r x b.0 ∙ ap (λ n. n + 4) is) j small main mine no_pair no_lease no_seat)
       (omega arith) (omega arith)
 
-  few : (b r : ℕ) → ((i j : ℕ) (u : Token P) → At views i u → IsAmong (j, r) u.pairs → j < b) → ((j q : ℕ) → total (λ (h : Hold). pair_times j q h.pairs) (map hold views) ≤ 1) → leases r (map work views) ≤ b
+  few : (b r : ℕ) → ((i j : ℕ) (u : Token P) → IsAt views i u → IsAmong (j, r) u.pairs → j < b) → ((j q : ℕ) → total (λ (h : Hold). pair_times j q h.pairs) (map hold views) ≤ 1) → leases r (map work views) ≤ b
   few b r below once =
       let a = pairs_below (λ (u : Token P). u.pairs) r b views below (λ j. subst (λ n. n ≤ 1) (total_map hold (λ (h : Hold). pair_times j r h.pairs) views) (once j r)) in
       subst (λ n. n ≤ b) (sym (total_map work (λ (u : Work). row_times r u.pairs) views)) a
@@ -197,7 +197,7 @@ among_map x xs (here ys) = here (rows_of ys)
 among_map x xs (there y m) = there y.0 (among_map x _ m)
 
 -- rows in hand
-pub in_hand : {P : Type 0} (s : PlainSeat P) (d : PlainTable P) → Sits s d → (r : ℕ) → has_row s.hands.items r → IsAmong r s.token.inner.ask.opened
+pub in_hand : {P : Type 0} (s : PlainSeat P) (d : PlainTable P) → Sits s d → (r : ℕ) → HasRow s.hands.items r → IsAmong r s.token.inner.ask.opened
 in_hand s d h r m = subst (λ l. IsAmong r l) h.held (among_map (r, m.0) s.hands.items m.1)
 
 pub inside_open : {P : Type 0} (s : PlainSeat P) (d : PlainTable P) → Sits s d → (r : ℕ) → IsAmong r s.token.inner.ask.opened → r < length d.slots.items
@@ -264,7 +264,7 @@ module _ {P : Type 0} (s o : PlainSeat P) (d : PlainTable P) (h : Sits s d) (k :
     pub join_sits : (t : Known (Token P)) → t.inner.ask ≡ joined s.token.inner.ask o.token.inner.ask → let s' : PlainSeat P = record s { token = t } in Sits s' d'
     join_sits t is = let v = s.token.inner.ask in let w = o.token.inner.ask in let id = s.id.inner.ask in let jd = o.id.inner.ask in let vs = d.views.inner.ask in record {
       table = table_after;
-      mine = subst (λ l. At l id t.inner.ask) (sym views) (subst (λ u. At after id u) (sym is) (two_first vs id jd v w (joined v w) (spent w) h.mine k.mine two));
+      mine = subst (λ l. IsAt l id t.inner.ask) (sym views) (subst (λ u. IsAt after id u) (sym is) (two_first vs id jd v w (joined v w) (spent w) h.mine k.mine two));
       live = ap (λ (u : Token P). u.live) is ∙ h.live;
       by = h.by ∙ ap (λ (u : Token P). u.by) (sym is);
       held = h.held ∙ ap (λ (u : Token P). u.opened) (sym is);
@@ -276,9 +276,9 @@ module _ {P : Type 0} (s o : PlainSeat P) (d : PlainTable P) (h : Sits s d) (k :
     pub join_others : (x : PlainSeat P) → x.token.inner.ask.by ≢ s.token.inner.ask.by → x.token.inner.ask.by ≢ o.token.inner.ask.by → Sits x d → Sits x d'
     join_others x ne me y = let v = s.token.inner.ask in let w = o.token.inner.ask in let id = s.id.inner.ask in let jd = o.id.inner.ask in let vs = d.views.inner.ask in record {
       table = table_after;
-      mine = subst (λ l. At l x.id.inner.ask x.token.inner.ask) (sym views) (two_else vs id jd v w (joined v w) (spent w) h.mine k.mine two x.id.inner.ask x.token.inner.ask
-          (λ e. ne (ap (λ (u : Token P). u.by) (one_at vs id x.token.inner.ask v (subst (λ n. At vs n x.token.inner.ask) e y.mine) h.mine)))
-          (λ e. me (ap (λ (u : Token P). u.by) (one_at vs jd x.token.inner.ask w (subst (λ n. At vs n x.token.inner.ask) e y.mine) k.mine))) y.mine);
+      mine = subst (λ l. IsAt l x.id.inner.ask x.token.inner.ask) (sym views) (two_else vs id jd v w (joined v w) (spent w) h.mine k.mine two x.id.inner.ask x.token.inner.ask
+          (λ e. ne (ap (λ (u : Token P). u.by) (one_at vs id x.token.inner.ask v (subst (λ n. IsAt vs n x.token.inner.ask) e y.mine) h.mine)))
+          (λ e. me (ap (λ (u : Token P). u.by) (one_at vs jd x.token.inner.ask w (subst (λ n. IsAt vs n x.token.inner.ask) e y.mine) k.mine))) y.mine);
       live = y.live;
       by = y.by;
       held = y.held;
@@ -323,7 +323,7 @@ module _ {P : Type 0} (s : PlainSeat P) (d : PlainTable P) (h : Sits s d) (j fro
     pub split_sits : (t : Known (Token P)) → t.inner.ask ≡ split_main s.token.inner.ask j from to n → let s' : PlainSeat P = record s { token = t } in Sits s' d'
     split_sits t is = let v = s.token.inner.ask in let id = s.id.inner.ask in let vs = d.views.inner.ask in let a = split_main v j from to n in let b = split_off v j from to n in record {
       table = parted_table;
-      mine = subst (λ l. At l id t.inner.ask) (sym views) (subst (λ u. At parted id u) (sym is) (more_here vs id v a b h.mine));
+      mine = subst (λ l. IsAt l id t.inner.ask) (sym views) (subst (λ u. IsAt parted id u) (sym is) (more_here vs id v a b h.mine));
       live = ap (λ (u : Token P). u.live) is ∙ h.live;
       by = h.by ∙ ap (λ (u : Token P). u.by) (sym is);
       held = h.held ∙ ap (λ (u : Token P). u.opened) (sym is);
@@ -334,7 +334,7 @@ module _ {P : Type 0} (s : PlainSeat P) (d : PlainTable P) (h : Sits s d) (j fro
     pub split_new : (o : PlainSeat P) → o.id.inner.ask ≡ length d.views.inner.ask → o.token.inner.ask ≡ split_off s.token.inner.ask j from to n → o.by ≡ Inner j → o.hands.items ≡ [] → vec_len o.hands ≡ 0 → to - from ≤ vec_capacity o.hands → Sits o d'
     split_new o id' is by items none room = let v = s.token.inner.ask in let id = s.id.inner.ask in let vs = d.views.inner.ask in let a = split_main v j from to n in let b = split_off v j from to n in record {
       table = parted_table;
-      mine = subst (λ l. At l o.id.inner.ask o.token.inner.ask) (sym views) (subst (λ u. At parted o.id.inner.ask u) (sym is) (subst (λ k. At parted k b) (sym id') (more_last vs id v a b h.mine)));
+      mine = subst (λ l. IsAt l o.id.inner.ask o.token.inner.ask) (sym views) (subst (λ u. IsAt parted o.id.inner.ask u) (sym is) (subst (λ k. IsAt parted k b) (sym id') (more_last vs id v a b h.mine)));
       live = ap (λ (u : Token P). u.live) is;
       by = by ∙ ap (λ (u : Token P). u.by) (sym is);
       held = ap rows_of items ∙ ap (λ (u : Token P). u.opened) (sym is);
@@ -345,7 +345,7 @@ module _ {P : Type 0} (s : PlainSeat P) (d : PlainTable P) (h : Sits s d) (j fro
     pub split_others : (x : PlainSeat P) → x.token.inner.ask.by ≢ s.token.inner.ask.by → Sits x d → Sits x d'
     split_others x ne y = let v = s.token.inner.ask in let id = s.id.inner.ask in let vs = d.views.inner.ask in let a = split_main v j from to n in let b = split_off v j from to n in record {
       table = parted_table;
-      mine = subst (λ l. At l x.id.inner.ask x.token.inner.ask) (sym views) (more_else vs id v a b h.mine x.id.inner.ask x.token.inner.ask (λ e. ne (ap (λ (u : Token P). u.by) (one_at vs id x.token.inner.ask v (subst (λ n. At vs n x.token.inner.ask) e y.mine) h.mine))) y.mine);
+      mine = subst (λ l. IsAt l x.id.inner.ask x.token.inner.ask) (sym views) (more_else vs id v a b h.mine x.id.inner.ask x.token.inner.ask (λ e. ne (ap (λ (u : Token P). u.by) (one_at vs id x.token.inner.ask v (subst (λ n. IsAt vs n x.token.inner.ask) e y.mine) h.mine))) y.mine);
       live = y.live;
       by = y.by;
       held = y.held;

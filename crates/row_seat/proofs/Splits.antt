@@ -3,8 +3,8 @@ use Rattle.std.proofs.Common.{◌≡◌, ◌≢◌, ℕ, suc, ◌+◌, ◌-◌, 
 use Rattle.std.specs.Prelude.{Some, Option}
 use Rattle.std.proofs.lemmas.Bool.{cases_eq, le-leb, lt-leb, lt-ltb, le-ltb, leb-true, leb-false}
 use Rattle.res_ledger.specs.declared.event.What.TheVariants.{Acquire, Lease}
-use Rattle.row_seat.specs.Totals.{At, pair_times, row_times, times}
-use Rattle.row_seat.specs.Rule.{Book, Books, Deeds, GivenIn, Hold, Leases, LeftIn, Pays, Purse, Rows, Rule, Seats, Who, Work, book, deed, empties, hands, hold, leases, opens, purse, who, work}
+use Rattle.row_seat.specs.Totals.{IsAt, pair_times, row_times, times}
+use Rattle.row_seat.specs.Rule.{Book, BooksAgree, DeedsAgree, GivenIn, Hold, LeasesAgree, LeftIn, PaysAgree, Purse, RowsAgree, RuleHolds, SeatsAgree, Who, Work, book, deed, empties, hands, hold, leases, opens, purse, who, work}
 use Rattle.res_ledger.specs.Ledger.{Covers, IsAcquired, IsCanceled, IsLeased, Notes}
 use Rattle.res_ledger.specs.declared.event.Event.{Event}
 use Rattle.res_ledger.specs.Streams.{HasRight, by_stream}
@@ -59,24 +59,24 @@ pub true_or : (b : Bool) → (b ≡ true) ⊎ (b ≡ false)
 true_or true = inl refl
 true_or false = inr refl
 
-module _ {P : Type 0} (rows room : ℕ) (word : ℕ → ℕ) (slot : ℕ → Option P) (log : List Event) (views : List (Token P)) (rule : Rule rows room word slot log views) (id : ℕ) (v : Token P) (at : At views id v) (live : v.live ≡ true)
-    (j from to n : ℕ) (main : v.main ≡ true) (foreign : v.by ≢ Inner j) (no_seat : ¬ (IsAmong j v.had)) (span : (r : ℕ) → (from ≤ r) × (r < to) → IsAmong r v.empty × ¬ (IsAcquired v.events r)) (enough : n ≤ v.spare) (named : (r : ℕ) → IsAmong (j, r) v.pairs → IsLeased v.events j) where
-  aw : At (map who views) id (who v)
+module _ {P : Type 0} (rows room : ℕ) (word : ℕ → ℕ) (slot : ℕ → Option P) (log : List Event) (views : List (Token P)) (rule : RuleHolds rows room word slot log views) (id : ℕ) (v : Token P) (at : IsAt views id v) (live : v.live ≡ true)
+    (j from to n : ℕ) (main : v.main ≡ true) (foreign : v.by ≢ Inner j) (no_seat : ¬ (IsAmong j v.had)) (IsWithin : (r : ℕ) → (from ≤ r) × (r < to) → IsAmong r v.empty × ¬ (IsAcquired v.events r)) (enough : n ≤ v.spare) (named : (r : ℕ) → IsAmong (j, r) v.pairs → IsLeased v.events j) where
+  aw : IsAt (map who views) id (who v)
   aw = at_who rows room word slot log views rule id v at live
 
-  ab : At (map book views) id (book v)
+  ab : IsAt (map book views) id (book v)
   ab = at_book rows room word slot log views rule id v at live
 
-  ak : At (map work views) id (work v)
+  ak : IsAt (map work views) id (work v)
   ak = at_work rows room word slot log views rule id v at live
 
-  ad : At (map deed views) id (deed v)
+  ad : IsAt (map deed views) id (deed v)
   ad = at_deed rows room word slot log views rule id v at live
 
-  ah : At (map hold views) id (hold v)
+  ah : IsAt (map hold views) id (hold v)
   ah = at_hold rows room word slot log views rule id v at live
 
-  ap' : At (map purse views) id (purse v)
+  ap' : IsAt (map purse views) id (purse v)
   ap' = at_purse rows room word slot log views rule id v at live
 
   abbrev ma : Token P
@@ -89,15 +89,15 @@ module _ {P : Type 0} (rows room : ℕ) (word : ℕ → ℕ) (slot : ℕ → Opt
   no_event e m is = let t = rule.seats.noted id (who v) e aw main m (λ s. foreign (sym s ∙ is)) in no_seat (subst (λ x. IsAmong x v.had) (inner_is t.0 j (sym t.1 ∙ is)) t.2)
 
   -- a live seat has another name
-  other_name : (i : ℕ) (u : Who) → i ≢ id → At (map who views) i u → u.live ≡ true → u.by ≢ Inner j
+  other_name : (i : ℕ) (u : Who) → i ≢ id → IsAt (map who views) i u → u.live ≡ true → u.by ≢ Inner j
   other_name i u ne g l is = ⊎_elim
       (λ m. ne (rule.seats.one i id u (who v) g aw m main))
       (λ f. let t = rule.seats.out id i (who v) u aw g main l f in no_seat (subst (λ x. IsAmong x v.had) (inner_is t.0 j (sym t.1 ∙ is)) (rule.seats.had id t.0 (who v) aw main t.2)))
       (true_or u.main)
 
-  seats' : Seats log (slice_set (map who views) id (who ma) ++ who nb ∷ [])
+  seats' : SeatsAgree log (slice_set (map who views) id (who ma) ++ who nb ∷ [])
   seats' = let ws = map who views in let k = rule.seats in
-      let only : (i : ℕ) (u : Who) → At (slice_set ws id (who ma) ++ who nb ∷ []) i u → u.main ≡ true → (i ≡ id) × (who ma ≡ u) = λ i u g m.
+      let only : (i : ℕ) (u : Who) → IsAt (slice_set ws id (who ma) ++ who nb ∷ []) i u → u.main ≡ true → (i ≡ id) × (who ma ≡ u) = λ i u g m.
       ⊎_elim (λ t. t) (λ o. ⊎_elim (λ t. absurd (t.0 (k.one i id u (who v) t.1 aw m main))) (λ t. absurd (live_not m (ap (λ (z : Who). z.main) (sym t.1)))) o) (sorted ws id (who v) (who ma) (who nb) aw i u g) in record {
         main = (id, who ma, more_here ws id (who v) (who ma) (who nb) aw, main);
         one = λ i l u z g g' m m'. (only i u g m).0 ∙ sym (only l z g' m').0;
@@ -119,7 +119,7 @@ module _ {P : Type 0} (rows room : ℕ) (word : ℕ → ℕ) (slot : ℕ → Opt
             (let t = k.noted id (who v) e aw main a (λ s. ne (s ∙ ap (λ (y : Who). y.by) (only i u g m).1)) in (t.0, t.1, among_left (j ∷ []) t.2));
       }
 
-  books' : Books room log (slice_set (map book views) id (book ma) ++ book nb ∷ [])
+  books' : BooksAgree room log (slice_set (map book views) id (book ma) ++ book nb ∷ [])
   books' = let bs = map book views in let k = rule.books in let E = each_more bs id (book v) (book ma) (book nb) ab in record {
     stamped = k.stamped;
     legal = k.legal;
@@ -135,13 +135,13 @@ module _ {P : Type 0} (rows room : ℕ) (word : ℕ → ℕ) (slot : ℕ → Opt
   cut_rows : (r : ℕ) → times r (filter (λ x. not (within from to x)) v.empty) + times r (run from (to - from)) ≡ times r v.empty
   cut_rows r = let f = times_filter (λ x. not (within from to x)) r v.empty in ⊎_elim
       (λ s. let w = ap (λ b. if_so (not b) (times r v.empty)) (within_in from to r s.0 s.1) in let s0 = s.0 in let s1 = s.1 in
-      let i = run_in r from (to - from) s.0 (omega arith) in let o = times_some r v.empty (span r s).0 in
+      let i = run_in r from (to - from) s.0 (omega arith) in let o = times_some r v.empty (IsWithin r s).0 in
       let l = total_at (λ (u : Work). times r u.empty) (map work views) id (work v) ak in let m = one_empty (rule.words r) in omega arith)
       (λ s. let w = ap (λ b. if_so (not b) (times r v.empty)) (within_out from to r s) in
       let i = run_out r from (to - from) (⊎_elim (λ a. inl a) (λ b. far_or from to r b) s) in omega arith)
       (span_cases from to r)
 
-  words' : Rows rows word log (slice_set (map work views) id (work ma) ++ work nb ∷ [])
+  words' : RowsAgree rows word log (slice_set (map work views) id (work ma) ++ work nb ∷ [])
   words' r = let ws = map work views in let T = total_more ws id (work v) (work ma) (work nb) ak in
       let a = T (λ (u : Work). times r u.empty) in let b = T (λ (u : Work). times r u.opened) in let c = T (λ (u : Work). row_times r u.pairs) in let d = T (λ (u : Work). times r u.handed) in
       let ca = cut_rows r in let cc' = row_cut (λ x. eqb x.0 j) r v.pairs in
@@ -154,11 +154,11 @@ module _ {P : Type 0} (rows room : ℕ) (word : ℕ → ℕ) (slot : ℕ → Opt
   in_span : (r : ℕ) → IsAmong r (run from (to - from)) → (from ≤ r) × (r < to)
   in_span r m = let t = times_some r (run from (to - from)) m in ⊎_elim (λ s. s) (λ s. let i = run_out r from (to - from) (⊎_elim (λ a. inl a) (λ b. far_or from to r b) s) in absurd (omega arith)) (span_cases from to r)
 
-  deeds' : Deeds log (slice_set (map deed views) id (deed ma) ++ deed nb ∷ [])
+  deeds' : DeedsAgree log (slice_set (map deed views) id (deed ma) ++ deed nb ∷ [])
   deeds' = let ds = map deed views in let k = rule.deeds in let E = each_more ds id (deed v) (deed ma) (deed nb) ad in record {
     fresh = λ i r t q u. E (λ i u. IsAmong r u.empty → Notes log q (Acquire r t) → Notes u.events q (Acquire r t))
         (λ m. k.fresh id r t q (deed v) ad (among_filter (λ x. not (within from to x)) r v.empty m).0) (λ i u ne g. k.fresh i r t q u g)
-        (λ m x. let s = span r (in_span r m) in absurd (s.1 (q, t, k.fresh id r t q (deed v) ad s.0 x))) i u;
+        (λ m x. let s = IsWithin r (in_span r m) in absurd (s.1 (q, t, k.fresh id r t q (deed v) ad s.0 x))) i u;
     opened = λ i r u. E (λ i u. IsAmong r u.opened → (s : ℕ) × Notes log u.by (Acquire r s)) (k.opened id r (deed v) ad) (λ i u ne g. k.opened i r u g) (λ m. absurd (among_nil m)) i u;
     handed = λ i r u. E (λ i u. IsAmong r u.handed → HasRight log u.by r) (k.handed id r (deed v) ad) (λ i u ne g. k.handed i r u g) (λ m. absurd (among_nil m)) i u;
   }
@@ -166,7 +166,7 @@ module _ {P : Type 0} (rows room : ℕ) (word : ℕ → ℕ) (slot : ℕ → Opt
   leased_log : IsLeased v.events j → IsLeased log j
   leased_log l = (l.0, l.1, (l.2.0, rule.books.inside id (book v) l.2.0 ab l.2.1, l.2.2, l.2.3))
 
-  leases' : Leases log (slice_set (map hold views) id (hold ma) ++ hold nb ∷ [])
+  leases' : LeasesAgree log (slice_set (map hold views) id (hold ma) ++ hold nb ∷ [])
   leases' = let hs = map hold views in let k = rule.leases in let E = each_more hs id (hold v) (hold ma) (hold nb) ah in
       let S = some_more hs id (hold v) (hold ma) (hold nb) ah in let T = total_more hs id (hold v) (hold ma) (hold nb) ah in record {
         by_main = λ i a b q u. E (λ i u. u.main ≡ true → Notes log q (Lease a b) → q ≡ u.by) (k.by_main id a b q (hold v) ah) (λ i u ne g. k.by_main i a b q u g) (λ m. absurd (bool_not (sym m))) i u;
@@ -189,7 +189,7 @@ module _ {P : Type 0} (rows room : ℕ) (word : ℕ → ℕ) (slot : ℕ → Opt
         pair_once = λ a r. let t = T (λ (u : Hold). pair_times a r u.pairs) in let o = k.pair_once a r in let c = pair_cut (λ x. eqb x.0 j) a r v.pairs in omega arith;
       }
 
-  pays' : Pays word slot log (slice_set (map purse views) id (purse ma) ++ purse nb ∷ [])
+  pays' : PaysAgree word slot log (slice_set (map purse views) id (purse ma) ++ purse nb ∷ [])
   pays' = let ps = map purse views in let k = rule.pays in let qs = slice_set ps id (purse ma) ++ purse nb ∷ [] in
       let left : (q : ℕ) (y : P) → LeftIn qs q y → LeftIn ps q y = λ q y. some_less ps id (purse v) (purse ma) (purse nb) ap' (λ (u : Purse P). IsAmong (q, y) u.left) (λ m. m) (λ m. among_nil m) in
       let left' : (q : ℕ) (y : P) → LeftIn ps q y → LeftIn qs q y = λ q y. some_more ps id (purse v) (purse ma) (purse nb) ap' (λ (u : Purse P). IsAmong (q, y) u.left) (λ m. inl m) in
@@ -204,14 +204,14 @@ module _ {P : Type 0} (rows room : ℕ) (word : ℕ → ℕ) (slot : ℕ → Opt
         final = λ q f. let t = k.final q f in (t.0, given' q t.0 t.1);
       }
 
-  pub split_keeps : Rule rows room word slot log (slice_set views id (split_main v j from to n) ++ split_off v j from to n ∷ [])
+  pub split_keeps : RuleHolds rows room word slot log (slice_set views id (split_main v j from to n) ++ split_off v j from to n ∷ [])
   split_keeps = record {
-    seats = subst (λ l. Seats log l) (sym (map_more who views id ma nb)) seats';
-    books = subst (λ l. Books room log l) (sym (map_more book views id ma nb)) books';
-    words = subst (λ l. Rows rows word log l) (sym (map_more work views id ma nb)) words';
-    deeds = subst (λ l. Deeds log l) (sym (map_more deed views id ma nb)) deeds';
-    leases = subst (λ l. Leases log l) (sym (map_more hold views id ma nb)) leases';
-    pays = subst (λ l. Pays word slot log l) (sym (map_more purse views id ma nb)) pays';
+    seats = subst (λ l. SeatsAgree log l) (sym (map_more who views id ma nb)) seats';
+    books = subst (λ l. BooksAgree room log l) (sym (map_more book views id ma nb)) books';
+    words = subst (λ l. RowsAgree rows word log l) (sym (map_more work views id ma nb)) words';
+    deeds = subst (λ l. DeedsAgree log l) (sym (map_more deed views id ma nb)) deeds';
+    leases = subst (λ l. LeasesAgree log l) (sym (map_more hold views id ma nb)) leases';
+    pays = subst (λ l. PaysAgree word slot log l) (sym (map_more purse views id ma nb)) pays';
     spent = each_more views id v ma nb at (λ i u. u.live ≡ false → (u.empty ≡ []) × (u.opened ≡ []) × (u.pairs ≡ []) × (u.kept ≡ []) × (u.handed ≡ []) × (u.given ≡ []) × (u.left ≡ []) × (u.events ≡ [])) (λ f. absurd (live_not live f)) (λ i u ne g. rule.spent i u g) (λ f. absurd (bool_not f));
     small = λ i q r u. each_more views id v ma nb at (λ i u. IsAmong (q, r) u.pairs → q < 2 ^ 32) (λ m. rule.small id q r v at (among_filter (λ (x : ℕ × ℕ). not (eqb x.0 j)) (q, r) v.pairs m).0) (λ i u ne g. rule.small i q r u g) (λ m. rule.small id q r v at (among_filter (λ (x : ℕ × ℕ). eqb x.0 j) (q, r) v.pairs m).0) i u;
   }

@@ -2,8 +2,8 @@
 use Rattle.std.proofs.Common.{◌≡◌, ℕ, zero, suc, ◌≤◌, true, false, List, [], ◌∷◌, ◌++◌, length, slice_index_or, inl, inr, refl, sym, ap, ◌∙◌, subst, ⊎_elim, arith, length-append}
 use Rattle.std.specs.Prelude.{None, Option, slice_index, vec_capacity, vec_len}
 use mathlib.Core.Option.{some-ne-none, some-injective}
-use Rattle.row_seat.specs.Totals.{At}
-use Rattle.row_seat.specs.Rule.{Book, Deed, Hold, Purse, Rule, Who, book, deed, hold, purse, who}
+use Rattle.row_seat.specs.Totals.{IsAt}
+use Rattle.row_seat.specs.Rule.{Book, Deed, Hold, Purse, RuleHolds, Who, book, deed, hold, purse, who}
 use Rattle.chunk_core.specs.Lists.{IsAmong}
 use Rattle.row_seat.specs.PlainSeats.{IsTable, Sits, first_token, rows_of}
 use Rattle.res_ledger.specs.Ledger.{Notes}
@@ -24,7 +24,7 @@ zeros_push [] h (suc r) = refl
 zeros_push (x ∷ xs) h zero = h 0
 zeros_push (x ∷ xs) h (suc r) = zeros_push xs (λ q. h (suc q)) r
 
-only_one : {V : Type 0} (a v : V) (i : ℕ) → At (a ∷ []) i v → (i ≡ 0) × (a ≡ v)
+only_one : {V : Type 0} (a v : V) (i : ℕ) → IsAt (a ∷ []) i v → (i ≡ 0) × (a ≡ v)
 only_one a v zero e = (refl, some-injective a v e)
 only_one a v (suc i) e = absurd (some-ne-none v (sym e))
 
@@ -34,14 +34,14 @@ no_parts P Q x e = let l = ap length e in let m = length-append P (x ∷ Q) in o
 none_noted : (k : StreamNo) (w : What) → ¬ (Notes [] k w)
 none_noted k w n = among_nil n.1
 
-one_view : {V : Type 0} (a : V) (Q : ℕ → V → Type 0) → Q 0 a → (i : ℕ) (v : V) → At (a ∷ []) i v → Q i v
+one_view : {V : Type 0} (a : V) (Q : ℕ → V → Type 0) → Q 0 a → (i : ℕ) (v : V) → IsAt (a ∷ []) i v → Q i v
 one_view a Q q i v g = let t = only_one a v i g in subst (λ z. Q i z) t.1 (subst (λ n. Q n a) (sym t.0) q)
 
 module _ {P : Type 0} (by : StreamNo) (rows events : ℕ) (word : ℕ → ℕ) (slot : ℕ → Option P) (zero' : (r : ℕ) → word r ≡ 0) where
   abbrev f : Token P
   f = first_token (by, rows, events)
 
-  pub starts : Rule rows events word slot [] (f ∷ [])
+  pub starts : RuleHolds rows events word slot [] (f ∷ [])
   starts = record {
     seats = record {
       main = (0, who f, refl, refl);
@@ -102,7 +102,7 @@ module _ {P : Type 0} (s : PlainSeat P) (d : PlainTable P) (by : StreamNo) (rows
     room = events;
     enough = room;
     words_are = words ∙ sym slots;
-    rule = subst (λ n. Rule n events (λ r. slice_index d.words.items r) (λ r. slice_index_or d.slots.items r None) [] (first_token (by, rows, events) ∷ [])) (sym slots) (starts by rows events (λ r. slice_index d.words.items r) (λ r. slice_index_or d.slots.items r None) zero');
+    rule = subst (λ n. RuleHolds n events (λ r. slice_index d.words.items r) (λ r. slice_index_or d.slots.items r None) [] (first_token (by, rows, events) ∷ [])) (sym slots) (starts by rows events (λ r. slice_index d.words.items r) (λ r. slice_index_or d.slots.items r None) zero');
     load = let e = run_length 0 rows in let f = slots in omega arith;
   }
 

@@ -4,8 +4,8 @@ use Rattle.std.specs.Prelude.{Some, Option}
 use Rattle.std.proofs.lemmas.List.{length_push}
 use Rattle.std.proofs.lemmas.Bool.{cases_eq}
 use Rattle.res_ledger.specs.declared.event.What.TheVariants.{Acquire, Cancel, Final, Lease}
-use Rattle.row_seat.specs.Totals.{At, pair_times, row_times, times, total}
-use Rattle.row_seat.specs.Rule.{Book, Books, Deed, Deeds, GivenIn, Hold, Leases, LeftIn, Pays, Purse, Rows, Seats, Stands, Who, Work, empties, hands, leases, opens}
+use Rattle.row_seat.specs.Totals.{IsAt, pair_times, row_times, times, total}
+use Rattle.row_seat.specs.Rule.{Book, BooksAgree, Deed, DeedsAgree, GivenIn, Hold, LeasesAgree, LeftIn, PaysAgree, Purse, RowsAgree, SeatsAgree, Stands, Who, Work, empties, hands, leases, opens}
 use Rattle.res_ledger.specs.Ledger.{Covers, IsCanceled, IsCoveredBy, IsLeased, IsLegal, MayFollow, Notes}
 use Rattle.res_ledger.specs.declared.event.Event.{Event}
 use Rattle.res_ledger.specs.Streams.{HasRight, by_stream}
@@ -79,9 +79,9 @@ acquire_final r s q ok h = cc
 
 -- the parts of the rule one by one
 module _ (log : List Event) (e : Event) where
-  pub tick_books : (room : ℕ) (bs : List Book) → Books room log bs → (id : ℕ) (b : Book) → At bs id b → b.live ≡ true → 1 ≤ b.spare → e.stamp ≡ length log → e.by ≡ b.by → MayFollow log e.by e.what
-      → ((i : ℕ) (u : Book) → i ≢ id → At bs i u → u.live ≡ true → u.by ≢ b.by)
-      → Books room (log ++ e ∷ []) (slice_set bs id (record b { events = b.events ++ e ∷ []; spare = b.spare - 1 }))
+  pub tick_books : (room : ℕ) (bs : List Book) → BooksAgree room log bs → (id : ℕ) (b : Book) → IsAt bs id b → b.live ≡ true → 1 ≤ b.spare → e.stamp ≡ length log → e.by ≡ b.by → MayFollow log e.by e.what
+      → ((i : ℕ) (u : Book) → i ≢ id → IsAt bs i u → u.live ≡ true → u.by ≢ b.by)
+      → BooksAgree room (log ++ e ∷ []) (slice_set bs id (record b { events = b.events ++ e ∷ []; spare = b.spare - 1 }))
   tick_books room bs k id b at live left stamp by meets apart = let b' : Book = record b { events = b.events ++ e ∷ []; spare = b.spare - 1 } in record {
     stamped = stamped_snoc log e k.stamped stamp;
     legal = legal_snoc log e k.legal meets;
@@ -91,7 +91,7 @@ module _ (log : List Event) (e : Event) where
         (λ i u ne g a. among_left (e ∷ []) (k.inside i u d g a)) i u;
     whole = λ d m. ⊎_elim
         (λ o. let t = k.whole d o in ⊎_elim
-        (λ q. (id, b', put_here bs id b b' at, among_left (e ∷ []) (subst (λ (u : Book). IsAmong d u.events) (one_at bs id t.1 b (subst (λ n. At bs n t.1) q t.2) at) t.3)))
+        (λ q. (id, b', put_here bs id b b' at, among_left (e ∷ []) (subst (λ (u : Book). IsAmong d u.events) (one_at bs id t.1 b (subst (λ n. IsAt bs n t.1) q t.2) at) t.3)))
         (λ ne. (t.0, t.1, put_else bs id t.0 t.1 b' ne t.2, t.3)) (cases_eq t.0 id))
         (λ q. (id, b', put_here bs id b b' at, subst (λ z. IsAmong z (b.events ++ e ∷ [])) (sym q) (among_last b.events e)))
         (among_snoc log d e m);
@@ -104,7 +104,7 @@ module _ (log : List Event) (e : Event) where
     floor = each bs id b' (λ i u. u.floor ≤ length (log ++ e ∷ [])) (let t = k.floor id b at in let l = length_push log e in omega arith) (λ i u ne g. let t = k.floor i u g in let l = length_push log e in omega arith);
   }
 
-  pub tick_seats : (ws : List Who) → Seats log ws → (id : ℕ) (w : Who) → At ws id w → w.live ≡ true → e.by ≡ w.by → Seats (log ++ e ∷ []) ws
+  pub tick_seats : (ws : List Who) → SeatsAgree log ws → (id : ℕ) (w : Who) → IsAt ws id w → w.live ≡ true → e.by ≡ w.by → SeatsAgree (log ++ e ∷ []) ws
   tick_seats ws k id w at live by = record {
     main = k.main;
     one = k.one;
@@ -115,20 +115,20 @@ module _ (log : List Event) (e : Event) where
     names = k.names;
     noted = λ i v d g m a ne. ⊎_elim (λ o. k.noted i v d g m o ne)
         (λ q. elim w.main as (λ b. w.main ≡ b → (n : ℕ) × (d.by ≡ Inner n) × IsAmong n v.had) [
-          | true ↦ λ is. absurd (ne (ap (λ (z : Event). z.by) q ∙ (by ∙ ap (λ (z : Who). z.by) (one_at ws i w v (subst (λ n. At ws n w) (sym (k.one i id v w g at m is)) at) g))))
+          | true ↦ λ is. absurd (ne (ap (λ (z : Event). z.by) q ∙ (by ∙ ap (λ (z : Who). z.by) (one_at ws i w v (subst (λ n. IsAt ws n w) (sym (k.one i id v w g at m is)) at) g))))
           | false ↦ λ is. let t = k.out i id v w g at m live is in (t.0, ap (λ (z : Event). z.by) q ∙ (by ∙ t.1), k.had i t.0 v g m t.2)
         ] refl)
         (among_snoc log d e a);
   }
 
   -- an event that ends no row
-  pub tick_rows : (rows : ℕ) (word : ℕ → ℕ) (ws : List Work) → Rows rows word log ws → ((r : ℕ) (ok : Bool) → e.what ≢ Final r ok) → ((r s : ℕ) → e.what ≡ Acquire r s → r < rows) → Rows rows word (log ++ e ∷ []) ws
+  pub tick_rows : (rows : ℕ) (word : ℕ → ℕ) (ws : List Work) → RowsAgree rows word log ws → ((r : ℕ) (ok : Bool) → e.what ≢ Final r ok) → ((r s : ℕ) → e.what ≡ Acquire r s → r < rows) → RowsAgree rows word (log ++ e ∷ []) ws
   tick_rows rows word ws k no_final within r =
       stands_more (k r) (acquired_more log e) (row_closed_more log e) (finalized_more log e) (λ f. ⊎_elim (λ o. o) (λ t. absurd (no_final r t.0 t.1)) (finalized_snoc log e r f))
       (λ far a. ⊎_elim (λ o. o) (λ t. let l = within r t.0 t.1 in absurd (omega arith)) (acquired_snoc log e r a))
 
-  pub tick_deeds : (ds : List Deed) → Deeds log ds → (id : ℕ) (d d' : Deed) → At ds id d → d'.by ≡ d.by → d'.events ≡ d.events ++ e ∷ [] → d'.empty ≡ d.empty → d'.opened ≡ d.opened → ((r : ℕ) → IsAmong r d'.handed → IsAmong r d.handed)
-      → ((i r s : ℕ) (u : Deed) → i ≢ id → At ds i u → IsAmong r u.empty → e.what ≢ Acquire r s) → Deeds (log ++ e ∷ []) (slice_set ds id d')
+  pub tick_deeds : (ds : List Deed) → DeedsAgree log ds → (id : ℕ) (d d' : Deed) → IsAt ds id d → d'.by ≡ d.by → d'.events ≡ d.events ++ e ∷ [] → d'.empty ≡ d.empty → d'.opened ≡ d.opened → ((r : ℕ) → IsAmong r d'.handed → IsAmong r d.handed)
+      → ((i r s : ℕ) (u : Deed) → i ≢ id → IsAt ds i u → IsAmong r u.empty → e.what ≢ Acquire r s) → DeedsAgree (log ++ e ∷ []) (slice_set ds id d')
   tick_deeds ds k id d d' at by events empty opens hands apart = record {
     fresh = λ i r t q u. each ds id d' (λ i u. IsAmong r u.empty → Notes (log ++ e ∷ []) q (Acquire r t) → Notes u.events q (Acquire r t))
         (λ a n. subst (λ l. Notes l q (Acquire r t)) (sym events) (⊎_elim (λ o. noted_more d.events e (k.fresh id r t q d at (subst (λ l. IsAmong r l) empty a) o)) (λ x. (e, among_last d.events e, x.0, x.1)) (noted_snoc log e q (Acquire r t) n)))
@@ -141,11 +141,11 @@ module _ (log : List Event) (e : Event) where
         (λ i u ne g a. right_more log e u.by r (k.handed i r u g a)) i u;
   }
 
-  pub tick_pays : {P : Type 0} (word : ℕ → ℕ) (slot : ℕ → Option P) (ps : List (Purse P)) → Pays word slot log ps → ((r : ℕ) (ok : Bool) → e.what ≢ Final r ok) → Pays word slot (log ++ e ∷ []) ps
+  pub tick_pays : {P : Type 0} (word : ℕ → ℕ) (slot : ℕ → Option P) (ps : List (Purse P)) → PaysAgree word slot log ps → ((r : ℕ) (ok : Bool) → e.what ≢ Final r ok) → PaysAgree word slot (log ++ e ∷ []) ps
   tick_pays word slot ps k no_final = record { left_when = k.left_when; given_when = k.given_when; left_one = k.left_one; given_is = k.given_is; waits = k.waits; handed = k.handed; final = λ r f. ⊎_elim (k.final r) (λ t. absurd (no_final r t.0 t.1)) (finalized_snoc log e r f) }
 
   -- an event that makes and ends no lease
-  pub tick_leases : (hs : List Hold) → Leases log hs → ((j s : ℕ) → e.what ≢ Lease j s) → ((j : ℕ) → e.what ≢ Cancel j) → Leases (log ++ e ∷ []) hs
+  pub tick_leases : (hs : List Hold) → LeasesAgree log hs → ((j s : ℕ) → e.what ≢ Lease j s) → ((j : ℕ) → e.what ≢ Cancel j) → LeasesAgree (log ++ e ∷ []) hs
   tick_leases hs k no_lease no_cancel = record {
     by_main = λ i j s q h g m n. ⊎_elim (k.by_main i j s q h g m) (λ t. absurd (no_lease j s t.1)) (noted_snoc log e q (Lease j s) n);
     stand = λ j r q c. ⊎_elim (λ o. ⊎_elim (λ x. inl (canceled_more log e x)) (λ x. inr x) (k.stand j r q o)) (λ t. absurd (no_lease j t.0 t.2)) (covers_snoc log e j r q c);
@@ -157,8 +157,8 @@ module _ (log : List Event) (e : Event) where
     pair_once = k.pair_once;
   }
 
-  pub lease_leases : (hs : List Hold) → Leases log hs → (id j s : ℕ) (h : Hold) → At hs id h → h.main ≡ true → ((i : ℕ) (u : Hold) → At hs i u → u.main ≡ true → i ≡ id) → IsLegal log → e.by ≡ h.by → e.what ≡ Lease j s
-      → ¬ (IsLeased log j) → ¬ (IsAmong j h.had) → ((r : ℕ) → (IsAmong (j, r) h.pairs → IsCoveredBy log h.by s r) × (IsCoveredBy log h.by s r → IsAmong (j, r) h.pairs)) → Leases (log ++ e ∷ []) (slice_set hs id (record h { kept = h.kept ++ j ∷ [] }))
+  pub lease_leases : (hs : List Hold) → LeasesAgree log hs → (id j s : ℕ) (h : Hold) → IsAt hs id h → h.main ≡ true → ((i : ℕ) (u : Hold) → IsAt hs i u → u.main ≡ true → i ≡ id) → IsLegal log → e.by ≡ h.by → e.what ≡ Lease j s
+      → ¬ (IsLeased log j) → ¬ (IsAmong j h.had) → ((r : ℕ) → (IsAmong (j, r) h.pairs → IsCoveredBy log h.by s r) × (IsCoveredBy log h.by s r → IsAmong (j, r) h.pairs)) → LeasesAgree (log ++ e ∷ []) (slice_set hs id (record h { kept = h.kept ++ j ∷ [] }))
   lease_leases hs k id j s h at main only legal by is new no_seat pairs = let h' : Hold = record h { kept = h.kept ++ j ∷ [] } in
       let no_cancel : (i : ℕ) → e.what ≢ Cancel i = λ i c. lease_cancel j s i (sym is ∙ c) in
       let stream : (i t : ℕ) → e.what ≡ Lease i t → (j ≡ i) × (s ≡ t) = λ i t w. lease_stream j i s t (sym is ∙ w) in record {
@@ -199,7 +199,7 @@ module _ (log : List Event) (e : Event) where
         pair_once = λ a r. let t = total_set (λ (u : Hold). pair_times a r u.pairs) hs id h h' at in let o = k.pair_once a r in omega arith;
       }
 
-  pub cancel_leases : (hs : List Hold) → Leases log hs → (id j : ℕ) (h : Hold) → At hs id h → e.what ≡ Cancel j → IsAmong j h.kept → Leases (log ++ e ∷ []) (slice_set hs id (record h { kept = without j h.kept }))
+  pub cancel_leases : (hs : List Hold) → LeasesAgree log hs → (id j : ℕ) (h : Hold) → IsAt hs id h → e.what ≡ Cancel j → IsAmong j h.kept → LeasesAgree (log ++ e ∷ []) (slice_set hs id (record h { kept = without j h.kept }))
   cancel_leases hs k id j h at is mine = let h' : Hold = record h { kept = without j h.kept } in
       let no_lease : (i t : ℕ) → e.what ≢ Lease i t = λ i t c. lease_cancel i t j (sym c ∙ is) in
       let stream : (i : ℕ) → e.what ≡ Cancel i → j ≡ i = λ i w. cancel_stream j i (sym is ∙ w) in record {
@@ -227,7 +227,7 @@ module _ (log : List Event) (e : Event) where
         pair_once = λ a r. let t = total_set (λ (u : Hold). pair_times a r u.pairs) hs id h h' at in let o = k.pair_once a r in omega arith;
       }
 
-  pub final_rows : (rows : ℕ) (word : ℕ → ℕ) (ws : List Work) → Rows rows word log ws → (id r : ℕ) (ok : Bool) (w : Work) → At ws id w → e.what ≡ Final r ok → IsAmong r w.handed → Rows rows word (log ++ e ∷ []) (slice_set ws id (record w { handed = without r w.handed }))
+  pub final_rows : (rows : ℕ) (word : ℕ → ℕ) (ws : List Work) → RowsAgree rows word log ws → (id r : ℕ) (ok : Bool) (w : Work) → IsAt ws id w → e.what ≡ Final r ok → IsAmong r w.handed → RowsAgree rows word (log ++ e ∷ []) (slice_set ws id (record w { handed = without r w.handed }))
   final_rows rows word ws k id r ok w at is mine q =
       let w' : Work = record w { handed = without r w.handed } in
       let a = total_set (λ (u : Work). times q u.empty) ws id w w' at in
@@ -248,8 +248,8 @@ module _ (log : List Event) (e : Event) where
       (λ far x. ⊎_elim (λ o. o) (λ t. absurd (acquire_final q t.0 r ok (sym t.1 ∙ is))) (acquired_snoc log e q x))) refl ea eb ec ed)
       (cases_eq q r)
 
-  pub final_pays : {P : Type 0} (word : ℕ → ℕ) (slot : ℕ → Option P) (ps : List (Purse P)) → Pays word slot log ps → (id r : ℕ) (ok : Bool) (p : Purse P) → At ps id p → e.what ≡ Final r ok → IsAmong r p.handed
-      → Pays word slot (log ++ e ∷ []) (slice_set ps id (record p { handed = without r p.handed; taken = without r p.taken }))
+  pub final_pays : {P : Type 0} (word : ℕ → ℕ) (slot : ℕ → Option P) (ps : List (Purse P)) → PaysAgree word slot log ps → (id r : ℕ) (ok : Bool) (p : Purse P) → IsAt ps id p → e.what ≡ Final r ok → IsAmong r p.handed
+      → PaysAgree word slot (log ++ e ∷ []) (slice_set ps id (record p { handed = without r p.handed; taken = without r p.taken }))
   final_pays {P} word slot ps k id r ok p at is mine =
       let p' : Purse P = record p { handed = without r p.handed; taken = without r p.taken } in
       let left : (q : ℕ) (x : P) → LeftIn (slice_set ps id p') q x → LeftIn ps q x = λ q x. some_back ps id p p' at (λ (u : Purse P). IsAmong (q, x) u.left) (λ m. m) in

@@ -2,8 +2,8 @@
 use Rattle.std.proofs.Common.{◌≡◌, ◌≢◌, ℕ, ◌-◌, ◌^◌, ◌<◌, ◌≤◌, Bool, true, false, map, List, [], ◌∷◌, ◌++◌, length, slice_set, inl, inr, refl, sym, ap, ◌∙◌, subst, ⊎_elim, arith}
 use Rattle.std.specs.Prelude.{Option}
 use Rattle.res_ledger.specs.declared.event.What.TheVariants.{Acquire, Cancel, Close, Final, Lease, Open}
-use Rattle.row_seat.specs.Totals.{At, row_times, times}
-use Rattle.row_seat.specs.Rule.{Book, Books, Deed, Deeds, Hold, Leases, Pays, Rows, Rule, Seats, Work, book, deed, hold, leases, purse, seen, who, work}
+use Rattle.row_seat.specs.Totals.{IsAt, row_times, times}
+use Rattle.row_seat.specs.Rule.{Book, BooksAgree, Deed, DeedsAgree, Hold, LeasesAgree, PaysAgree, RowsAgree, RuleHolds, SeatsAgree, Work, book, deed, hold, leases, purse, seen, who, work}
 use Rattle.res_ledger.specs.declared.event.Event.{Event}
 use Rattle.chunk_core.specs.Lists.{IsAmong}
 use Rattle.res_ledger.specs.Ledger.{IsClosed, IsHanded, IsUsable, MayFollow, Notes}
@@ -19,7 +19,7 @@ use Rattle.row_seat.proofs.Totals.{each, map_back, map_put, total_at, total_one}
 use Rattle.row_seat.specs.Steps.{noted}
 use Rattle.row_seat.proofs.Times.{row_some, times_some}
 
-pub keep : {W : Type 0} (X : List W → Type 0) (ws : List W) (id : ℕ) (b : W) → At ws id b → X ws → X (slice_set ws id b)
+pub keep : {W : Type 0} (X : List W → Type 0) (ws : List W) (id : ℕ) (b : W) → IsAt ws id b → X ws → X (slice_set ws id b)
 keep X ws id b at x = subst X (sym (set_again ws id b at)) x
 
 open_acquire : (s p r t : ℕ) → Open s p ≢ Acquire r t
@@ -42,45 +42,45 @@ live_not t f = let e = sym t ∙ f in cc
 
 module _ {P : Type 0} (rows room : ℕ) (word : ℕ → ℕ) (slot : ℕ → Option P) (log : List Event) (views : List (Token P)) (id : ℕ) (w : Token P) where
   -- the rule from its parts, where one view is new
-  pub rule_put : Seats log (slice_set (map who views) id (who w)) → Books room log (slice_set (map book views) id (book w)) → Rows rows word log (slice_set (map work views) id (work w))
-      → Deeds log (slice_set (map deed views) id (deed w)) → Leases log (slice_set (map hold views) id (hold w)) → Pays word slot log (slice_set (map purse views) id (purse w))
-      → ((i : ℕ) (v : Token P) → At (slice_set views id w) i v → v.live ≡ false → (v.empty ≡ []) × (v.opened ≡ []) × (v.pairs ≡ []) × (v.kept ≡ []) × (v.handed ≡ []) × (v.given ≡ []) × (v.left ≡ []) × (v.events ≡ []))
-      → ((i j r : ℕ) (v : Token P) → At (slice_set views id w) i v → IsAmong (j, r) v.pairs → j < 2 ^ 32)
-      → Rule rows room word slot log (slice_set views id w)
+  pub rule_put : SeatsAgree log (slice_set (map who views) id (who w)) → BooksAgree room log (slice_set (map book views) id (book w)) → RowsAgree rows word log (slice_set (map work views) id (work w))
+      → DeedsAgree log (slice_set (map deed views) id (deed w)) → LeasesAgree log (slice_set (map hold views) id (hold w)) → PaysAgree word slot log (slice_set (map purse views) id (purse w))
+      → ((i : ℕ) (v : Token P) → IsAt (slice_set views id w) i v → v.live ≡ false → (v.empty ≡ []) × (v.opened ≡ []) × (v.pairs ≡ []) × (v.kept ≡ []) × (v.handed ≡ []) × (v.given ≡ []) × (v.left ≡ []) × (v.events ≡ []))
+      → ((i j r : ℕ) (v : Token P) → IsAt (slice_set views id w) i v → IsAmong (j, r) v.pairs → j < 2 ^ 32)
+      → RuleHolds rows room word slot log (slice_set views id w)
   rule_put a b c d e f g h = record {
-    seats = subst (λ l. Seats log l) (sym (map_put who views id w)) a;
-    books = subst (λ l. Books room log l) (sym (map_put book views id w)) b;
-    words = subst (λ l. Rows rows word log l) (sym (map_put work views id w)) c;
-    deeds = subst (λ l. Deeds log l) (sym (map_put deed views id w)) d;
-    leases = subst (λ l. Leases log l) (sym (map_put hold views id w)) e;
-    pays = subst (λ l. Pays word slot log l) (sym (map_put purse views id w)) f;
+    seats = subst (λ l. SeatsAgree log l) (sym (map_put who views id w)) a;
+    books = subst (λ l. BooksAgree room log l) (sym (map_put book views id w)) b;
+    words = subst (λ l. RowsAgree rows word log l) (sym (map_put work views id w)) c;
+    deeds = subst (λ l. DeedsAgree log l) (sym (map_put deed views id w)) d;
+    leases = subst (λ l. LeasesAgree log l) (sym (map_put hold views id w)) e;
+    pays = subst (λ l. PaysAgree word slot log l) (sym (map_put purse views id w)) f;
     spent = g;
     small = h;
   }
 
-module _ {P : Type 0} (rows room : ℕ) (word : ℕ → ℕ) (slot : ℕ → Option P) (log : List Event) (views : List (Token P)) (rule : Rule rows room word slot log views) (id : ℕ) (v : Token P) (at : At views id v) (live : v.live ≡ true) where
-  pub spent_put : (w : Token P) → w.live ≡ true → (i : ℕ) (u : Token P) → At (slice_set views id w) i u → u.live ≡ false → (u.empty ≡ []) × (u.opened ≡ []) × (u.pairs ≡ []) × (u.kept ≡ []) × (u.handed ≡ []) × (u.given ≡ []) × (u.left ≡ []) × (u.events ≡ [])
+module _ {P : Type 0} (rows room : ℕ) (word : ℕ → ℕ) (slot : ℕ → Option P) (log : List Event) (views : List (Token P)) (rule : RuleHolds rows room word slot log views) (id : ℕ) (v : Token P) (at : IsAt views id v) (live : v.live ≡ true) where
+  pub spent_put : (w : Token P) → w.live ≡ true → (i : ℕ) (u : Token P) → IsAt (slice_set views id w) i u → u.live ≡ false → (u.empty ≡ []) × (u.opened ≡ []) × (u.pairs ≡ []) × (u.kept ≡ []) × (u.handed ≡ []) × (u.given ≡ []) × (u.left ≡ []) × (u.events ≡ [])
   spent_put w l = each views id w (λ i u. u.live ≡ false → (u.empty ≡ []) × (u.opened ≡ []) × (u.pairs ≡ []) × (u.kept ≡ []) × (u.handed ≡ []) × (u.given ≡ []) × (u.left ≡ []) × (u.events ≡ [])) (λ d. absurd (live_not l d)) (λ i u ne g. rule.spent i u g)
 
-  pub small_put : (w : Token P) → ((j r : ℕ) → IsAmong (j, r) w.pairs → j < 2 ^ 32) → (i j r : ℕ) (u : Token P) → At (slice_set views id w) i u → IsAmong (j, r) u.pairs → j < 2 ^ 32
+  pub small_put : (w : Token P) → ((j r : ℕ) → IsAmong (j, r) w.pairs → j < 2 ^ 32) → (i j r : ℕ) (u : Token P) → IsAt (slice_set views id w) i u → IsAmong (j, r) u.pairs → j < 2 ^ 32
   small_put w h i j r u = each views id w (λ i u. IsAmong (j, r) u.pairs → j < 2 ^ 32) (h j r) (λ i u ne g. rule.small i j r u g) i u
 
-  pub at_who : At (map who views) id (who v)
+  pub at_who : IsAt (map who views) id (who v)
   at_who = at_map who views id v at
 
-  pub at_book : At (map book views) id (book v)
+  pub at_book : IsAt (map book views) id (book v)
   at_book = at_map book views id v at
 
-  pub at_work : At (map work views) id (work v)
+  pub at_work : IsAt (map work views) id (work v)
   at_work = at_map work views id v at
 
-  pub at_deed : At (map deed views) id (deed v)
+  pub at_deed : IsAt (map deed views) id (deed v)
   at_deed = at_map deed views id v at
 
-  pub at_hold : At (map hold views) id (hold v)
+  pub at_hold : IsAt (map hold views) id (hold v)
   at_hold = at_map hold views id v at
 
-  pub at_purse : At (map purse views) id (purse v)
+  pub at_purse : IsAt (map purse views) id (purse v)
   at_purse = at_map purse views id v at
 
   pub own_is : by_stream v.by v.events ≡ by_stream v.by log
@@ -103,7 +103,7 @@ module _ {P : Type 0} (rows room : ℕ) (word : ℕ → ℕ) (slot : ℕ → Opt
   usable s u = usable_map v.events log v.by forth s closed_back u
 
   -- the row has no pair where it is handed
-  no_pair : (j r i : ℕ) (h : Hold) → At (map hold views) i h → IsAmong (j, r) h.pairs → leases r (map work views) ≡ 0 → ⊥
+  no_pair : (j r i : ℕ) (h : Hold) → IsAt (map hold views) i h → IsAmong (j, r) h.pairs → leases r (map work views) ≡ 0 → ⊥
   no_pair j r i h g m none =
       let t = map_back hold views i h g in
       let l = total_at (λ (u : Work). row_times r u.pairs) (map work views) i (work t.0) (at_map work views i t.0 t.1) in
@@ -116,7 +116,7 @@ module _ {P : Type 0} (rows room : ℕ) (word : ℕ → ℕ) (slot : ℕ → Opt
       let t = is_handed (rule.words r) (omega arith) in
       (t.1, (λ j k c. ⊎_elim (λ x. x) (λ x. absurd (no_pair j r x.0 x.1 x.2 x.3 t.0)) (rule.leases.stand j r k c)), t.2)
 
-  pub one_right : (r i : ℕ) (u : Token P) → At views i u → IsAmong r v.empty → IsAmong r u.empty → i ≡ id
+  pub one_right : (r i : ℕ) (u : Token P) → IsAt views i u → IsAmong r v.empty → IsAmong r u.empty → i ≡ id
   one_right r i u g m n = total_one (λ (u : Work). times r u.empty) (map work views) i id (work u) (work v) (one_empty (rule.words r)) (at_map work views i u g) at_work (times_some r u.empty n) (times_some r v.empty m)
 
   module _ (hands : List (ℕ × P)) where
@@ -143,55 +143,55 @@ module _ {P : Type 0} (rows room : ℕ) (word : ℕ → ℕ) (slot : ℕ → Opt
     meets (Close s) m = usable s m
     meets (Final r ok) m = (handed_log r m.1, rule.deeds.handed id r (deed v) at_deed m.1)
 
-module _ {P : Type 0} (rows room : ℕ) (word : ℕ → ℕ) (slot : ℕ → Option P) (log : List Event) (views : List (Token P)) (rule : Rule rows room word slot log views) (id : ℕ) (v : Token P) (at : At views id v) (live : v.live ≡ true)
+module _ {P : Type 0} (rows room : ℕ) (word : ℕ → ℕ) (slot : ℕ → Option P) (log : List Event) (views : List (Token P)) (rule : RuleHolds rows room word slot log views) (id : ℕ) (v : Token P) (at : IsAt views id v) (live : v.live ≡ true)
     (sp : 1 ≤ v.spare) (hands : List (ℕ × P)) where
-  apart : (i : ℕ) (u : Book) → i ≢ id → At (map book views) i u → u.live ≡ true → u.by ≢ v.by
+  apart : (i : ℕ) (u : Book) → i ≢ id → IsAt (map book views) i u → u.live ≡ true → u.by ≢ v.by
   apart i u ne g l e =
       let t = map_back book views i u g in
       ne (rule.seats.names i id (who t.0) (who v) (at_map who views i t.0 t.1) (at_who rows room word slot log views rule id v at live) (ap (λ (x : Book). x.live) t.2 ∙ l) live (ap (λ (x : Book). x.by) t.2 ∙ e))
 
-  only_main : v.main ≡ true → (i : ℕ) (u : Hold) → At (map hold views) i u → u.main ≡ true → i ≡ id
+  only_main : v.main ≡ true → (i : ℕ) (u : Hold) → IsAt (map hold views) i u → u.main ≡ true → i ≡ id
   only_main m i u g n =
       let t = map_back hold views i u g in
       rule.seats.one i id (who t.0) (who v) (at_map who views i t.0 t.1) (at_who rows room word slot log views rule id v at live) (ap (λ (x : Hold). x.main) t.2 ∙ n) m
 
-  new_books : (x : What) → MayNote (seen v hands) x → let e : Event = record { stamp = length log; by = v.by; what = x } in let b : Book = record { live = v.live; main = v.main; by = v.by; events = v.events ++ e ∷ []; floor = v.floor; spare = v.spare - 1 } in Books room (log ++ e ∷ []) (slice_set (map book views) id b)
+  new_books : (x : What) → MayNote (seen v hands) x → let e : Event = record { stamp = length log; by = v.by; what = x } in let b : Book = record { live = v.live; main = v.main; by = v.by; events = v.events ++ e ∷ []; floor = v.floor; spare = v.spare - 1 } in BooksAgree room (log ++ e ∷ []) (slice_set (map book views) id b)
   new_books x may = let e : Event = record { stamp = length log; by = v.by; what = x } in
       tick_books log e room (map book views) rule.books id (book v) (at_book rows room word slot log views rule id v at live) live sp refl refl (meets rows room word slot log views rule id v at live hands x may) apart
 
-  new_seats : (x : What) → let e : Event = record { stamp = length log; by = v.by; what = x } in Seats (log ++ e ∷ []) (slice_set (map who views) id (who v))
+  new_seats : (x : What) → let e : Event = record { stamp = length log; by = v.by; what = x } in SeatsAgree (log ++ e ∷ []) (slice_set (map who views) id (who v))
   new_seats x = let e : Event = record { stamp = length log; by = v.by; what = x } in let g = at_who rows room word slot log views rule id v at live in
-      keep (λ l. Seats (log ++ e ∷ []) l) (map who views) id (who v) g (tick_seats log e (map who views) rule.seats id (who v) g live refl)
+      keep (λ l. SeatsAgree (log ++ e ∷ []) l) (map who views) id (who v) g (tick_seats log e (map who views) rule.seats id (who v) g live refl)
 
   -- an event of no row is nobody's Acquire
   new_deeds : (x : What) (d : Deed) → d.by ≡ v.by → d.events ≡ v.events ++ record { stamp = length log; by = v.by; what = x } ∷ [] → d.empty ≡ v.empty → d.opened ≡ v.opened → ((r : ℕ) → IsAmong r d.handed → IsAmong r v.handed) → ((r s : ℕ) → x ≡ Acquire r s → IsAmong r v.empty)
-      → Deeds (log ++ record { stamp = length log; by = v.by; what = x } ∷ []) (slice_set (map deed views) id d)
+      → DeedsAgree (log ++ record { stamp = length log; by = v.by; what = x } ∷ []) (slice_set (map deed views) id d)
   new_deeds x d by events empty opened handed mine = let e : Event = record { stamp = length log; by = v.by; what = x } in
       tick_deeds log e (map deed views) rule.deeds id (deed v) d (at_deed rows room word slot log views rule id v at live) by events empty opened handed
       (λ i r s u ne g m is. let t = map_back deed views i u g in ne (one_right rows room word slot log views rule id v at live r i t.0 t.1 (mine r s is) (subst (λ (y : Deed). IsAmong r y.empty) (sym t.2) m)))
 
-  new_rows : (x : What) → ((r : ℕ) (ok : Bool) → x ≢ Final r ok) → ((r s : ℕ) → x ≡ Acquire r s → IsAmong r v.empty) → Rows rows word (log ++ record { stamp = length log; by = v.by; what = x } ∷ []) (slice_set (map work views) id (work v))
+  new_rows : (x : What) → ((r : ℕ) (ok : Bool) → x ≢ Final r ok) → ((r s : ℕ) → x ≡ Acquire r s → IsAmong r v.empty) → RowsAgree rows word (log ++ record { stamp = length log; by = v.by; what = x } ∷ []) (slice_set (map work views) id (work v))
   new_rows x no_final mine = let e : Event = record { stamp = length log; by = v.by; what = x } in let g = at_work rows room word slot log views rule id v at live in
-      keep (λ l. Rows rows word (log ++ e ∷ []) l) (map work views) id (work v) g
+      keep (λ l. RowsAgree rows word (log ++ e ∷ []) l) (map work views) id (work v) g
       (tick_rows log e rows word (map work views) rule.words no_final (λ r s is. let l = total_at (λ (u : Work). times r u.empty) (map work views) id (work v) g in let t = times_some r v.empty (mine r s is) in is_inside (rule.words r) (omega arith)))
 
-  new_pays : (x : What) → ((r : ℕ) (ok : Bool) → x ≢ Final r ok) → Pays word slot (log ++ record { stamp = length log; by = v.by; what = x } ∷ []) (slice_set (map purse views) id (purse v))
+  new_pays : (x : What) → ((r : ℕ) (ok : Bool) → x ≢ Final r ok) → PaysAgree word slot (log ++ record { stamp = length log; by = v.by; what = x } ∷ []) (slice_set (map purse views) id (purse v))
   new_pays x no_final = let e : Event = record { stamp = length log; by = v.by; what = x } in
-      keep (λ l. Pays word slot (log ++ e ∷ []) l) (map purse views) id (purse v) (at_purse rows room word slot log views rule id v at live) (tick_pays log e word slot (map purse views) rule.pays no_final)
+      keep (λ l. PaysAgree word slot (log ++ e ∷ []) l) (map purse views) id (purse v) (at_purse rows room word slot log views rule id v at live) (tick_pays log e word slot (map purse views) rule.pays no_final)
 
-  new_leases : (x : What) → ((j s : ℕ) → x ≢ Lease j s) → ((j : ℕ) → x ≢ Cancel j) → Leases (log ++ record { stamp = length log; by = v.by; what = x } ∷ []) (slice_set (map hold views) id (hold v))
+  new_leases : (x : What) → ((j s : ℕ) → x ≢ Lease j s) → ((j : ℕ) → x ≢ Cancel j) → LeasesAgree (log ++ record { stamp = length log; by = v.by; what = x } ∷ []) (slice_set (map hold views) id (hold v))
   new_leases x no_lease no_cancel = let e : Event = record { stamp = length log; by = v.by; what = x } in
-      keep (λ l. Leases (log ++ e ∷ []) l) (map hold views) id (hold v) (at_hold rows room word slot log views rule id v at live) (tick_leases log e (map hold views) rule.leases no_lease no_cancel)
+      keep (λ l. LeasesAgree (log ++ e ∷ []) l) (map hold views) id (hold v) (at_hold rows room word slot log views rule id v at live) (tick_leases log e (map hold views) rule.leases no_lease no_cancel)
 
   -- an event that changes no row and no lease
   plain_tick : (x : What) → MayNote (seen v hands) x → ((r : ℕ) (ok : Bool) → x ≢ Final r ok) → ((r s : ℕ) → x ≡ Acquire r s → IsAmong r v.empty) → ((j s : ℕ) → x ≢ Lease j s) → ((j : ℕ) → x ≢ Cancel j)
-      → let e : Event = record { stamp = length log; by = v.by; what = x } in let w : Token P = record v { events = v.events ++ e ∷ []; spare = v.spare - 1 } in Rule rows room word slot (log ++ e ∷ []) (slice_set views id w)
+      → let e : Event = record { stamp = length log; by = v.by; what = x } in let w : Token P = record v { events = v.events ++ e ∷ []; spare = v.spare - 1 } in RuleHolds rows room word slot (log ++ e ∷ []) (slice_set views id w)
   plain_tick x may no_final mine no_lease no_cancel = let e : Event = record { stamp = length log; by = v.by; what = x } in let w : Token P = record v { events = v.events ++ e ∷ []; spare = v.spare - 1 } in
       rule_put rows room word slot (log ++ e ∷ []) views id w (new_seats x) (new_books x may) (new_rows x no_final mine) (new_deeds x (deed w) refl refl refl refl (λ r m. m) mine) (new_leases x no_lease no_cancel) (new_pays x no_final)
       (spent_put rows room word slot log views rule id v at live w live) (small_put rows room word slot log views rule id v at live w (λ i q m. rule.small id i q v at m))
 
   -- every tick keeps the rule
-  pub tick_keeps : (x : What) → MayNote (seen v hands) x → let e : Event = record { stamp = length log; by = v.by; what = x } in Rule rows room word slot (log ++ e ∷ []) (slice_set views id (noted v e))
+  pub tick_keeps : (x : What) → MayNote (seen v hands) x → let e : Event = record { stamp = length log; by = v.by; what = x } in RuleHolds rows room word slot (log ++ e ∷ []) (slice_set views id (noted v e))
   tick_keeps (Open s p) may = plain_tick (Open s p) may (λ r ok h. cc) (λ r t h. absurd (open_acquire s p r t h)) (λ j t h. cc) (λ j h. cc)
   tick_keeps (Acquire r s) may = plain_tick (Acquire r s) may (λ q ok h. cc) (λ q t h. subst (λ n. IsAmong n v.empty) (acquire_row r s q t h) may.0) (λ j t h. cc) (λ j h. cc)
   tick_keeps (Close s) may = plain_tick (Close s) may (λ q ok h. cc) (λ q t h. absurd (close_acquire s q t h)) (λ j t h. cc) (λ j h. cc)

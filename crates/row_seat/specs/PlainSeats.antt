@@ -2,11 +2,11 @@
 use Rattle.std.specs.Prelude.{◌≡◌, ℕ, ◌+◌, ◌-◌, ◌≤◌, ◌^◌, true, false, eqb, cond, map, List, [], ◌∷◌, length, None, Option, vec_capacity, vec_len, slice_index, slice_index_or}
 use Rattle.std.proofs.Common.{◌∙◌, ap, refl}
 use Rattle.std.specs.Vec.{with_item}
-use Rattle.row_seat.specs.Totals.{At, total}
+use Rattle.row_seat.specs.Totals.{IsAt, total}
 use Rattle.res_ledger.specs.declared.event.Event.{Event}
 use Rattle.row_seat.specs.declared.plain.PlainSeat.{PlainSeat}
 use Rattle.row_seat.specs.declared.plain.PlainTable.{PlainTable}
-use Rattle.row_seat.specs.Rule.{Rule, seen}
+use Rattle.row_seat.specs.Rule.{RuleHolds, seen}
 use Rattle.res_ledger.specs.declared.event.StreamNo.{StreamNo}
 use Rattle.row_seat.specs.declared.token.Token.{Token}
 use Rattle.row_seat.specs.declared.view.View.{View}
@@ -14,12 +14,15 @@ use Rattle.row_seat.specs.Views.{paid, run, with_row}
 use Rattle.row_seat.specs.Hands.{set_spot, spot}
 
 module _ {P : Type 0} where
+  -- the rows of a hand
   abbrev pub rows_of : List (ℕ × P) → List ℕ
   rows_of xs = map (λ (x : ℕ × P). x.0) xs
 
+  -- the seat's view
   abbrev pub shown : PlainSeat P → View P
   shown s = seen s.token.inner.ask s.hands.items
 
+  -- the seat with another payload in an open row
   abbrev pub lent : PlainSeat P → ℕ → P → PlainSeat P
   lent s r w = record s { hands = with_item s.hands (spot r s.hands.items) (r, w) }
 
@@ -28,12 +31,13 @@ module _ {P : Type 0} where
     pub room : ℕ
     pub enough : room ≤ most
     pub words_are : length words ≡ length slots
-    pub rule : Rule (length slots) room (λ r. slice_index words r) (λ r. slice_index_or slots r None) events views
+    pub rule : RuleHolds (length slots) room (λ r. slice_index words r) (λ r. slice_index_or slots r None) events views
     pub load : total (λ (v : Token P). length v.empty + length v.opened) views ≤ length slots
 
+  -- the seat's view is one of the table's, and its hands have room for the rows that it may open
   pub record Sits (s : PlainSeat P) (d : PlainTable P) : Type 0 where
     pub table : IsTable d.slots.items d.words.items d.events.items (vec_capacity d.events) d.views.inner.ask
-    pub mine : At d.views.inner.ask s.id.inner.ask s.token.inner.ask
+    pub mine : IsAt d.views.inner.ask s.id.inner.ask s.token.inner.ask
     pub live : s.token.inner.ask.live ≡ true
     pub by : s.by ≡ s.token.inner.ask.by
     pub held : rows_of s.hands.items ≡ s.token.inner.ask.opened

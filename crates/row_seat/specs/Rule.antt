@@ -1,7 +1,7 @@
 -- The rule of rows and seats: each part speaks of what it reads alone.
 use Rattle.std.specs.Prelude.{◌≡◌, ◌≢◌, ℕ, ◌+◌, ◌*◌, ◌^◌, ◌<◌, ◌≤◌, ◌⊎◌, Bool, true, false, map, List, [], length, Some, Option}
 use Rattle.res_ledger.specs.declared.event.What.TheVariants.{Acquire, Lease}
-use Rattle.row_seat.specs.Totals.{At, pair_times, row_times, times, total}
+use Rattle.row_seat.specs.Totals.{IsAt, pair_times, row_times, times, total}
 use Rattle.res_ledger.specs.Ledger.{Covers, IsAcquired, IsCanceled, IsFinalized, IsLeased, IsLegal, IsRowClosed, IsStamped, Notes}
 use Rattle.res_ledger.specs.declared.event.Event.{Event}
 use Rattle.res_ledger.specs.Streams.{HasRight, by_stream}
@@ -19,15 +19,16 @@ pub record Who : Type 0 where
   pub had : List ℕ
   pub out : List ℕ
 
-pub record Seats (log : List Event) (ws : List Who) : Type 0 where
-  pub main : (i : ℕ) × (w : Who) × At ws i w × (w.main ≡ true)
-  pub one : (i j : ℕ) (v w : Who) → At ws i v → At ws j w → v.main ≡ true → w.main ≡ true → i ≡ j
-  pub alive : (i : ℕ) (w : Who) → At ws i w → w.main ≡ true → w.live ≡ true
-  pub out : (i j : ℕ) (v w : Who) → At ws i v → At ws j w → v.main ≡ true → w.live ≡ true → w.main ≡ false → (n : ℕ) × (w.by ≡ Inner n) × IsAmong n v.out
-  pub had : (i n : ℕ) (v : Who) → At ws i v → v.main ≡ true → IsAmong n v.out → IsAmong n v.had
-  pub apart : (i n : ℕ) (v : Who) → At ws i v → v.main ≡ true → IsAmong n v.had → v.by ≢ Inner n
-  pub names : (i j : ℕ) (v w : Who) → At ws i v → At ws j w → v.live ≡ true → w.live ≡ true → v.by ≡ w.by → i ≡ j
-  pub noted : (i : ℕ) (v : Who) (e : Event) → At ws i v → v.main ≡ true → IsAmong e log → e.by ≢ v.by → (n : ℕ) × (e.by ≡ Inner n) × IsAmong n v.had
+-- there is one main seat; the seats that are out are its; live seats have different names; an event in another name is of a stream that had a seat
+pub record SeatsAgree (log : List Event) (ws : List Who) : Type 0 where
+  pub main : (i : ℕ) × (w : Who) × IsAt ws i w × (w.main ≡ true)
+  pub one : (i j : ℕ) (v w : Who) → IsAt ws i v → IsAt ws j w → v.main ≡ true → w.main ≡ true → i ≡ j
+  pub alive : (i : ℕ) (w : Who) → IsAt ws i w → w.main ≡ true → w.live ≡ true
+  pub out : (i j : ℕ) (v w : Who) → IsAt ws i v → IsAt ws j w → v.main ≡ true → w.live ≡ true → w.main ≡ false → (n : ℕ) × (w.by ≡ Inner n) × IsAmong n v.out
+  pub had : (i n : ℕ) (v : Who) → IsAt ws i v → v.main ≡ true → IsAmong n v.out → IsAmong n v.had
+  pub apart : (i n : ℕ) (v : Who) → IsAt ws i v → v.main ≡ true → IsAmong n v.had → v.by ≢ Inner n
+  pub names : (i j : ℕ) (v w : Who) → IsAt ws i v → IsAt ws j w → v.live ≡ true → w.live ≡ true → v.by ≡ w.by → i ≡ j
+  pub noted : (i : ℕ) (v : Who) (e : Event) → IsAt ws i v → v.main ≡ true → IsAmong e log → e.by ≢ v.by → (n : ℕ) × (e.by ≡ Inner n) × IsAmong n v.had
 
 -- what was noted: the events and their room
 pub record Book : Type 0 where
@@ -38,16 +39,17 @@ pub record Book : Type 0 where
   pub floor : ℕ
   pub spare : ℕ
 
-pub record Books (room : ℕ) (log : List Event) (bs : List Book) : Type 0 where
+-- the events of all seats are the log, which is legal, and no more may be noted than there is room for
+pub record BooksAgree (room : ℕ) (log : List Event) (bs : List Book) : Type 0 where
   pub stamped : IsStamped log
   pub legal : IsLegal log
   pub sum : total (λ (b : Book). b.spare) bs + length log ≡ room
-  pub inside : (i : ℕ) (b : Book) (e : Event) → At bs i b → IsAmong e b.events → IsAmong e log
-  pub whole : (e : Event) → IsAmong e log → (i : ℕ) × (b : Book) × At bs i b × IsAmong e b.events
+  pub inside : (i : ℕ) (b : Book) (e : Event) → IsAt bs i b → IsAmong e b.events → IsAmong e log
+  pub whole : (e : Event) → IsAmong e log → (i : ℕ) × (b : Book) × IsAt bs i b × IsAmong e b.events
   -- a live seat's view has its stream's events, in their order
-  pub own : (i : ℕ) (b : Book) → At bs i b → b.live ≡ true → by_stream b.by b.events ≡ by_stream b.by log
-  pub pure : (i : ℕ) (b : Book) (e : Event) → At bs i b → b.main ≡ false → IsAmong e b.events → e.by ≡ b.by
-  pub floor : (i : ℕ) (b : Book) → At bs i b → b.floor ≤ length log
+  pub own : (i : ℕ) (b : Book) → IsAt bs i b → b.live ≡ true → by_stream b.by b.events ≡ by_stream b.by log
+  pub pure : (i : ℕ) (b : Book) (e : Event) → IsAt bs i b → b.main ≡ false → IsAmong e b.events → e.by ≡ b.by
+  pub floor : (i : ℕ) (b : Book) → IsAt bs i b → b.floor ≤ length log
 
 -- the rows' words. e, o, n, h: in how many views the row is empty, open, how many pairs are on it, in how many it is handed.
 pub data Stands (rows r word e o n h : ℕ) (A C F : Type 0) : Type 0 where
@@ -58,26 +60,32 @@ pub data Stands (rows r word e o n h : ℕ) (A C F : Type 0) : Type 0 where
   final : r < rows → word ≡ 3 → e ≡ 0 → o ≡ 0 → n ≡ 0 → h ≡ 0 → C → F → Stands rows r word e o n h A C F
   beyond : rows ≤ r → e ≡ 0 → o ≡ 0 → n ≡ 0 → h ≡ 0 → ¬ A → Stands rows r word e o n h A C F
 
+-- what a view has of rows
 pub record Work : Type 0 where
   pub empty : List ℕ
   pub opened : List ℕ
   pub pairs : List (ℕ × ℕ)
   pub handed : List ℕ
 
+-- in how many views the row is empty
 abbrev pub empties : ℕ → List Work → ℕ
 empties r ws = total (λ (w : Work). times r w.empty) ws
 
+-- in how many it is open
 abbrev pub opens : ℕ → List Work → ℕ
 opens r ws = total (λ (w : Work). times r w.opened) ws
 
+-- how many leases stand on it
 abbrev pub leases : ℕ → List Work → ℕ
 leases r ws = total (λ (w : Work). row_times r w.pairs) ws
 
+-- in how many it is handed
 abbrev pub hands : ℕ → List Work → ℕ
 hands r ws = total (λ (w : Work). times r w.handed) ws
 
-abbrev pub Rows : ℕ → (ℕ → ℕ) → List Event → List Work → Type 0
-Rows rows word log ws = (r : ℕ) → Stands rows r (word r) (empties r ws) (opens r ws) (leases r ws) (hands r ws) (IsAcquired log r) (IsRowClosed log r) (IsFinalized log r)
+-- each row stands in at most one way, and its word tells which
+abbrev pub RowsAgree : ℕ → (ℕ → ℕ) → List Event → List Work → Type 0
+RowsAgree rows word log ws = (r : ℕ) → Stands rows r (word r) (empties r ws) (opens r ws) (leases r ws) (hands r ws) (IsAcquired log r) (IsRowClosed log r) (IsFinalized log r)
 
 -- whose the rows are
 pub record Deed : Type 0 where
@@ -87,10 +95,11 @@ pub record Deed : Type 0 where
   pub opened : List ℕ
   pub handed : List ℕ
 
-pub record Deeds (log : List Event) (ds : List Deed) : Type 0 where
-  pub fresh : (i r t : ℕ) (k : StreamNo) (d : Deed) → At ds i d → IsAmong r d.empty → Notes log k (Acquire r t) → Notes d.events k (Acquire r t)
-  pub opened : (i r : ℕ) (d : Deed) → At ds i d → IsAmong r d.opened → (s : ℕ) × Notes log d.by (Acquire r s)
-  pub handed : (i r : ℕ) (d : Deed) → At ds i d → IsAmong r d.handed → HasRight log d.by r
+-- a row is placed by the stream that acquired it, and finalized by who has the right
+pub record DeedsAgree (log : List Event) (ds : List Deed) : Type 0 where
+  pub fresh : (i r t : ℕ) (k : StreamNo) (d : Deed) → IsAt ds i d → IsAmong r d.empty → Notes log k (Acquire r t) → Notes d.events k (Acquire r t)
+  pub opened : (i r : ℕ) (d : Deed) → IsAt ds i d → IsAmong r d.opened → (s : ℕ) × Notes log d.by (Acquire r s)
+  pub handed : (i r : ℕ) (d : Deed) → IsAt ds i d → IsAmong r d.handed → HasRight log d.by r
 
 -- the leases
 pub record Hold : Type 0 where
@@ -101,13 +110,14 @@ pub record Hold : Type 0 where
   pub kept : List ℕ
   pub opened : List ℕ
 
-pub record Leases (log : List Event) (hs : List Hold) : Type 0 where
-  pub by_main : (i j s : ℕ) (k : StreamNo) (h : Hold) → At hs i h → h.main ≡ true → Notes log k (Lease j s) → k ≡ h.by
-  pub stand : (j r : ℕ) (k : StreamNo) → Covers log j k r → IsCanceled log j ⊎ ((i : ℕ) × (h : Hold) × At hs i h × IsAmong (j, r) h.pairs)
-  pub paired : (i j r : ℕ) (h : Hold) → At hs i h → IsAmong (j, r) h.pairs → ((k : StreamNo) × Covers log j k r) ⊎ (¬ (IsLeased log j) × (h.main ≡ true) × IsAmong r h.opened)
-  pub holder : (i j r : ℕ) (h : Hold) → At hs i h → IsAmong (j, r) h.pairs → ((h.main ≡ true) × ¬ (IsAmong j h.had)) ⊎ (h.by ≡ Inner j)
-  pub kept : (i j : ℕ) (h : Hold) → At hs i h → IsAmong j h.kept → IsLeased log j × ¬ (IsCanceled log j) × (((h.main ≡ true) × ¬ (IsAmong j h.had)) ⊎ (h.by ≡ Inner j))
-  pub keeper : (j : ℕ) → IsLeased log j → IsCanceled log j ⊎ ((i : ℕ) × (h : Hold) × At hs i h × IsAmong j h.kept)
+-- a Lease that is not cancelled stands with the main seat until its stream has a seat, and with that seat from then on, and so do its leases on rows
+pub record LeasesAgree (log : List Event) (hs : List Hold) : Type 0 where
+  pub by_main : (i j s : ℕ) (k : StreamNo) (h : Hold) → IsAt hs i h → h.main ≡ true → Notes log k (Lease j s) → k ≡ h.by
+  pub stand : (j r : ℕ) (k : StreamNo) → Covers log j k r → IsCanceled log j ⊎ ((i : ℕ) × (h : Hold) × IsAt hs i h × IsAmong (j, r) h.pairs)
+  pub paired : (i j r : ℕ) (h : Hold) → IsAt hs i h → IsAmong (j, r) h.pairs → ((k : StreamNo) × Covers log j k r) ⊎ (¬ (IsLeased log j) × (h.main ≡ true) × IsAmong r h.opened)
+  pub holder : (i j r : ℕ) (h : Hold) → IsAt hs i h → IsAmong (j, r) h.pairs → ((h.main ≡ true) × ¬ (IsAmong j h.had)) ⊎ (h.by ≡ Inner j)
+  pub kept : (i j : ℕ) (h : Hold) → IsAt hs i h → IsAmong j h.kept → IsLeased log j × ¬ (IsCanceled log j) × (((h.main ≡ true) × ¬ (IsAmong j h.had)) ⊎ (h.by ≡ Inner j))
+  pub keeper : (j : ℕ) → IsLeased log j → IsCanceled log j ⊎ ((i : ℕ) × (h : Hold) × IsAt hs i h × IsAmong j h.kept)
   pub kept_once : (j : ℕ) → total (λ (h : Hold). times j h.kept) hs ≤ 1
   pub pair_once : (j r : ℕ) → total (λ (h : Hold). pair_times j r h.pairs) hs ≤ 1
 
@@ -119,21 +129,25 @@ pub record Purse (P : Type 0) : Type 0 where
   pub given : List (ℕ × P)
 
 module _ {P : Type 0} where
+  -- a view has left x in the row
   abbrev pub LeftIn : List (Purse P) → ℕ → P → Type 0
-  LeftIn ps r x = (i : ℕ) × (p : Purse P) × At ps i p × IsAmong (r, x) p.left
+  LeftIn ps r x = (i : ℕ) × (p : Purse P) × IsAt ps i p × IsAmong (r, x) p.left
 
+  -- a row was handed to a view with x
   abbrev pub GivenIn : List (Purse P) → ℕ → P → Type 0
-  GivenIn ps r x = (i : ℕ) × (p : Purse P) × At ps i p × IsAmong (r, x) p.given
+  GivenIn ps r x = (i : ℕ) × (p : Purse P) × IsAt ps i p × IsAmong (r, x) p.given
 
-  pub record Pays (word : ℕ → ℕ) (slot : ℕ → Option P) (log : List Event) (ps : List (Purse P)) : Type 0 where
+  -- a closed row holds what was left in it until it is taken
+  pub record PaysAgree (word : ℕ → ℕ) (slot : ℕ → Option P) (log : List Event) (ps : List (Purse P)) : Type 0 where
     pub left_when : (r : ℕ) (x : P) → LeftIn ps r x → (n : ℕ) × (word r ≡ 3 + 4 * n)
     pub given_when : (r : ℕ) (x : P) → GivenIn ps r x → word r ≡ 3
     pub left_one : (r : ℕ) (x y : P) → LeftIn ps r x → LeftIn ps r y → x ≡ y
     pub given_is : (r : ℕ) (x : P) → GivenIn ps r x → LeftIn ps r x
     pub waits : (r n : ℕ) → word r ≡ 3 + 4 * n → 1 ≤ n → (x : P) × LeftIn ps r x × (slot r ≡ Some x)
-    pub handed : (i r : ℕ) (p : Purse P) → At ps i p → IsAmong r p.handed → (x : P) × IsAmong (r, x) p.given × (¬ (IsAmong r p.taken) → slot r ≡ Some x)
+    pub handed : (i r : ℕ) (p : Purse P) → IsAt ps i p → IsAmong r p.handed → (x : P) × IsAmong (r, x) p.given × (¬ (IsAmong r p.taken) → slot r ≡ Some x)
     pub final : (r : ℕ) → IsFinalized log r → (x : P) × GivenIn ps r x
 
+  -- what the parts of the rule read of a view
   abbrev pub who : Token P → Who
   who v = record { live = v.live; main = v.main; by = v.by; had = v.had; out = v.out }
 
@@ -156,14 +170,15 @@ module _ {P : Type 0} where
   abbrev pub seen : Token P → List (ℕ × P) → View P
   seen v mine = record { by = v.by; main = v.main; empty = v.empty; opened = mine; pairs = v.pairs; kept = v.kept; handed = v.handed; taken = v.taken; given = v.given; left = v.left; events = v.events; floor = v.floor; spare = v.spare; had = v.had; out = v.out; splits = v.splits }
 
-  pub record Rule (rows room : ℕ) (word : ℕ → ℕ) (slot : ℕ → Option P) (log : List Event) (views : List (Token P)) : Type 0 where
-    pub seats : Seats log (map who views)
-    pub books : Books room log (map book views)
-    pub words : Rows rows word log (map work views)
-    pub deeds : Deeds log (map deed views)
-    pub leases : Leases log (map hold views)
-    pub pays : Pays word slot log (map purse views)
+  -- what stands between two calls
+  pub record RuleHolds (rows room : ℕ) (word : ℕ → ℕ) (slot : ℕ → Option P) (log : List Event) (views : List (Token P)) : Type 0 where
+    pub seats : SeatsAgree log (map who views)
+    pub books : BooksAgree room log (map book views)
+    pub words : RowsAgree rows word log (map work views)
+    pub deeds : DeedsAgree log (map deed views)
+    pub leases : LeasesAgree log (map hold views)
+    pub pays : PaysAgree word slot log (map purse views)
     -- streams are numbered in 32 bits
-    pub small : (i j r : ℕ) (v : Token P) → At views i v → IsAmong (j, r) v.pairs → j < 2 ^ 32
+    pub small : (i j r : ℕ) (v : Token P) → IsAt views i v → IsAmong (j, r) v.pairs → j < 2 ^ 32
     -- a spent seat's view is empty
-    pub spent : (i : ℕ) (v : Token P) → At views i v → v.live ≡ false → (v.empty ≡ []) × (v.opened ≡ []) × (v.pairs ≡ []) × (v.kept ≡ []) × (v.handed ≡ []) × (v.given ≡ []) × (v.left ≡ []) × (v.events ≡ [])
+    pub spent : (i : ℕ) (v : Token P) → IsAt views i v → v.live ≡ false → (v.empty ≡ []) × (v.opened ≡ []) × (v.pairs ≡ []) × (v.kept ≡ []) × (v.handed ≡ []) × (v.given ≡ []) × (v.left ≡ []) × (v.events ≡ [])

@@ -3,23 +3,26 @@ use Rattle.std.specs.Prelude.{◌≡◌, ℕ, ◌+◌, false, eqb, cond, List, [
 use lib.ListN.{get_elem?}
 use mathlib.Core.Option.{some}
 
-abbrev pub At : {V : Type 0} → List V → ℕ → V → Type 0
-At views i v = get_elem? views i ≡ some v
+-- v stands at the place i
+abbrev pub IsAt : {V : Type 0} → List V → ℕ → V → Type 0
+IsAt views i v = get_elem? views i ≡ some v
 
 -- f of each view, added up
 abbrev pub total : {V : Type 0} → (V → ℕ) → List V → ℕ
 total f [] = 0
 total f (v ∷ vs) = f v + total f vs
 
+-- how often r stands in the list
 abbrev pub times : ℕ → List ℕ → ℕ
 times r [] = 0
 times r (x ∷ xs) = cond (eqb x r) 1 0 + times r xs
 
--- how often the row, and how often the pair, stands among pairs
+-- how often the row r stands among pairs
 abbrev pub row_times : ℕ → List (ℕ × ℕ) → ℕ
 row_times r [] = 0
 row_times r (x ∷ xs) = cond (eqb x.1 r) 1 0 + row_times r xs
 
+-- how often the pair (j, r) stands among pairs
 abbrev pub pair_times : ℕ → ℕ → List (ℕ × ℕ) → ℕ
 pair_times j r [] = 0
 pair_times j r (x ∷ xs) = cond (cond (eqb x.0 j) (eqb x.1 r) false) 1 0 + pair_times j r xs

@@ -11,28 +11,32 @@ use Rattle.res_ledger.specs.declared.event.StreamNo.{StreamNo}
 use Rattle.row_seat.specs.declared.view.View.{View}
 use Rattle.res_ledger.specs.declared.event.What.{What}
 
+-- the list without r
 abbrev pub without : ℕ → List ℕ → List ℕ
 without r xs = filter (λ x. not (eqb x r)) xs
 
+-- the pairs without (j, r)
 abbrev pub without_pair : ℕ → ℕ → List (ℕ × ℕ) → List (ℕ × ℕ)
 without_pair j r xs = filter (λ x. not (cond (eqb x.0 j) (eqb x.1 r) false)) xs
 
-abbrev pub span : ℕ → ℕ → ℕ → Type 0
-span from to r = (from ≤ r) × (r < to)
+-- r is one of the rows from `from` to `to` - 1
+abbrev pub IsWithin : ℕ → ℕ → ℕ → Type 0
+IsWithin from to r = (from ≤ r) × (r < to)
 
+-- whether it is
 abbrev pub within : ℕ → ℕ → ℕ → Bool
 within from to r = cond (leb from r) (ltb r to) false
 
-abbrev pub list_if : {A : Type 0} → Bool → A → List A
-list_if b x = cond b (x ∷ []) []
-
+-- the pairs of the stream j
 abbrev pub stream_pairs : ℕ → List (ℕ × ℕ) → List (ℕ × ℕ)
 stream_pairs j xs = filter (λ x. eqb x.0 j) xs
 
+-- the number of an inner stream
 abbrev pub name_of : StreamNo → ℕ
 name_of Outer = 0
 name_of (Inner j) = j
 
+-- the Leases that a seat keeps after an event of its own
 abbrev pub kept_after : What → List ℕ → List ℕ
 kept_after (Open s p) xs = xs
 kept_after (Acquire r s) xs = xs
@@ -41,6 +45,7 @@ kept_after (Cancel j) xs = without j xs
 kept_after (Close s) xs = xs
 kept_after (Final r ok) xs = xs
 
+-- the rows handed to a seat, or taken by it, whose Final is not noted after an event of its own
 abbrev pub handed_after : What → List ℕ → List ℕ
 handed_after (Open s p) xs = xs
 handed_after (Acquire r s) xs = xs
@@ -70,63 +75,73 @@ module _ {P : Type 0} where
   with_row r w [] = []
   with_row r w (x ∷ xs) = cond (eqb x.0 r) ((x.0, w) ∷ xs) (x ∷ with_row r w xs)
 
-  abbrev pub has_row : List (ℕ × P) → ℕ → Type 0
-  has_row xs r = (p : P) × IsAmong (r, p) xs
+  -- the row r is in the list
+  abbrev pub HasRow : List (ℕ × P) → ℕ → Type 0
+  HasRow xs r = (p : P) × IsAmong (r, p) xs
 
-  abbrev pub has_pair : View P → ℕ → Type 0
-  has_pair v r = (j : ℕ) × IsAmong (j, r) v.pairs
+  -- the seat has a lease on the row r
+  abbrev pub HasPair : View P → ℕ → Type 0
+  HasPair v r = (j : ℕ) × IsAmong (j, r) v.pairs
 
   -- the view of the first seat
   abbrev pub start : StreamNo → ℕ → ℕ → View P
   start by rows events = record { by = by; main = true; empty = run 0 rows; opened = []; pairs = []; kept = []; handed = []; taken = []; given = []; left = []; events = []; floor = 0; spare = events; had = []; out = []; splits = 2 ^ 32 - 1 }
 
-  -- place
+  -- the row is empty, the right to it is here, and its Acquire is noted
   abbrev pub CanPlace : View P → ℕ → Type 0
   CanPlace v r = IsAmong r v.empty × ((s : ℕ) × Notes v.events v.by (Acquire r s))
 
+  -- a row is open with a payload
   abbrev pub placed : View P → ℕ → P → View P
   placed v r p = record v { empty = without r v.empty; opened = v.opened ++ (r, p) ∷ [] }
 
-  -- pay_mut
+  -- an open row has another payload
   abbrev pub paid : View P → ℕ → P → View P
   paid v r w = record v { opened = with_row r w v.opened }
 
-  -- lease
+  -- the main seat has the row open, and the stream is one that had no seat, has no Lease and no lease on this row
   abbrev pub CanLease : View P → ℕ → ℕ → Type 0
-  CanLease v j r = (v.main ≡ true) × has_row v.opened r × ¬ (IsAmong (j, r) v.pairs) × (v.by ≢ Inner j) × ¬ (IsAmong j v.had) × ¬ (IsLeased v.events j)
+  CanLease v j r = (v.main ≡ true) × HasRow v.opened r × ¬ (IsAmong (j, r) v.pairs) × (v.by ≢ Inner j) × ¬ (IsAmong j v.had) × ¬ (IsLeased v.events j)
 
+  -- a lease more
   abbrev pub leased : View P → ℕ → ℕ → View P
   leased v j r = record v { pairs = v.pairs ++ (j, r) ∷ [] }
 
-  -- leave
+  -- the lease is here, and the stream's Cancel is noted
   abbrev pub CanLeave : View P → ℕ → ℕ → Type 0
   CanLeave v j r = IsAmong (j, r) v.pairs × Notes v.events v.by (Cancel j)
 
+  -- a lease less
   abbrev pub gone : View P → ℕ → ℕ → View P
   gone v j r = record v { pairs = without_pair j r v.pairs }
 
+  -- a row is handed to the seat with its payload
   abbrev pub handed_over : View P → ℕ → P → View P
   handed_over v r p = record v { handed = v.handed ++ r ∷ []; given = v.given ++ (r, p) ∷ [] }
 
+  -- the lease is gone. Yours: it was the last on a closed row, which is handed over with the payload that was left in it
   abbrev pub Leaves : View P → ℕ → ℕ → Left → View P → Type 0
   Leaves v j r Stays w = w ≡ gone v j r
-  Leaves v j r Yours w = (p : P) × (w ≡ handed_over (gone v j r) r p) × ¬ (has_row v.opened r) × ((i : ℕ) → IsAmong (i, r) v.pairs → i ≡ j) × ((q : P) → IsAmong (r, q) v.left → q ≡ p)
+  Leaves v j r Yours w = (p : P) × (w ≡ handed_over (gone v j r) r p) × ¬ (HasRow v.opened r) × ((i : ℕ) → IsAmong (i, r) v.pairs → i ≡ j) × ((q : P) → IsAmong (r, q) v.left → q ≡ p)
 
-  -- close
+  -- the row is open here, a Close that covers it is noted, and so is the Lease of each of its pairs here
   abbrev pub CanClose : View P → ℕ → Type 0
-  CanClose v r = has_row v.opened r × ((s : ℕ) × Notes v.events v.by (Acquire r s) × IsClosed v.events v.by s) × ((j : ℕ) → IsAmong (j, r) v.pairs → (s : ℕ) × Notes v.events v.by (Lease j s))
+  CanClose v r = HasRow v.opened r × ((s : ℕ) × Notes v.events v.by (Acquire r s) × IsClosed v.events v.by s) × ((j : ℕ) → IsAmong (j, r) v.pairs → (s : ℕ) × Notes v.events v.by (Lease j s))
 
+  -- a row is no longer open, and its payload is left in it
   abbrev pub shut : View P → ℕ → P → View P
   shut v r p = record v { opened = without_row r v.opened; left = v.left ++ (r, p) ∷ [] }
 
+  -- the row is closed. Stays: the main seat closed it, and a Lease of its own covers it whose lease stands here or whose stream has its seat out. Yours: it is handed over
   abbrev pub Closes : View P → ℕ → Left → View P → Type 0
   Closes v r Stays w = (p : P) × IsAmong (r, p) v.opened × (w ≡ shut v r p) × (v.main ≡ true) × ((j : ℕ) × Covers v.events j v.by r × (IsAmong (j, r) v.pairs ⊎ IsAmong j v.out))
-  Closes v r Yours w = (p : P) × IsAmong (r, p) v.opened × (w ≡ handed_over (shut v r p) r p) × ¬ (has_pair v r)
+  Closes v r Yours w = (p : P) × IsAmong (r, p) v.opened × (w ≡ handed_over (shut v r p) r p) × ¬ (HasPair v r)
 
-  -- take
+  -- the row was handed over and is not taken
   abbrev pub CanTake : View P → ℕ → Type 0
   CanTake v r = IsAmong r v.handed × ¬ (IsAmong r v.taken)
 
+  -- a handed row is taken
   abbrev pub took : View P → ℕ → View P
   took v r = record v { taken = v.taken ++ r ∷ [] }
 
@@ -134,7 +149,7 @@ module _ {P : Type 0} where
   abbrev pub IsLast : List (ℕ × P) → ℕ → P → Type 0
   IsLast xs r p = (ys : List (ℕ × P)) (q : P) → xs ≡ ys ++ (r, q) ∷ [] → p ≡ q
 
-  -- note
+  -- what an event asks of the seat that notes it
   abbrev pub MayNote : View P → What → Type 0
   MayNote v (Open s p) = (s ≢ 0) × ¬ (IsOpened v.events v.by s) × IsUsable v.events v.by p
   MayNote v (Acquire r s) = IsAmong r v.empty × ¬ (IsAcquired v.events r) × IsUsable v.events v.by s
@@ -147,15 +162,17 @@ module _ {P : Type 0} where
   abbrev pub touched : View P → What → View P
   touched v w = record v { kept = kept_after w v.kept; handed = handed_after w v.handed; taken = handed_after w v.taken }
 
+  -- an event is noted
   abbrev pub noted : View P → Event → View P
   noted v e = record (touched v e.what) { events = v.events ++ e ∷ []; spare = v.spare - 1 }
 
+  -- the stamp is above those of the seat and not below its floor
   abbrev pub IsFresh : View P → ℕ → Type 0
   IsFresh v n = (v.floor ≤ n) × ((e : Event) → IsAmong e v.events → e.stamp < n)
 
-  -- split
+  -- the main seat has the rows, empty and without an Acquire, and room for the events; the stream had no seat, and its Lease is noted where a lease of it is here
   abbrev pub CanSplit : View P → ℕ → ℕ → ℕ → ℕ → Type 0
-  CanSplit v j from to n = (v.main ≡ true) × (v.by ≢ Inner j) × ¬ (IsAmong j v.had) × ((r : ℕ) → span from to r → IsAmong r v.empty × ¬ (IsAcquired v.events r)) × (n ≤ v.spare) × (1 ≤ v.splits) × ((r : ℕ) → IsAmong (j, r) v.pairs → IsLeased v.events j)
+  CanSplit v j from to n = (v.main ≡ true) × (v.by ≢ Inner j) × ¬ (IsAmong j v.had) × ((r : ℕ) → IsWithin from to r → IsAmong r v.empty × ¬ (IsAcquired v.events r)) × (n ≤ v.spare) × (1 ≤ v.splits) × ((r : ℕ) → IsAmong (j, r) v.pairs → IsLeased v.events j)
 
   -- the seat is at rest: nothing of it is open, leased or handed
   abbrev pub AtRest : View P → Type 0
@@ -165,19 +182,23 @@ module _ {P : Type 0} where
   abbrev pub OthersFit : {S D : Type 0} → (S → View P) → (S → D → Type 0) → StreamNo → D → D → Type 0
   OthersFit {S} view fits k old new = (o : S) → (view o).by ≢ k → fits o old → fits o new
 
-  -- a seat and its kept Lease are split off
+  -- what the main seat keeps where a seat is split off
   abbrev pub split_main : View P → ℕ → ℕ → ℕ → ℕ → View P
   split_main v j from to n = record v { empty = filter (λ r. not (within from to r)) v.empty; pairs = filter (λ x. not (eqb x.0 j)) v.pairs; kept = without j v.kept; spare = v.spare - n; had = v.had ++ j ∷ []; out = v.out ++ j ∷ []; splits = v.splits - 1 }
 
+  -- the seat that is split off: its rows, the leases of its stream with their Lease, and room for its events
   abbrev pub split_off : View P → ℕ → ℕ → ℕ → ℕ → View P
   split_off v j from to n = record { by = Inner j; main = false; empty = run from (to - from); opened = []; pairs = stream_pairs j v.pairs; kept = filter (λ x. eqb x j) v.kept; handed = []; taken = []; given = []; left = []; events = []; floor = above v.events; spare = n; had = []; out = []; splits = 0 }
 
+  -- the other is a seat of this main one that is out, and is at rest
   abbrev pub CanJoin : View P → View P → Type 0
   CanJoin v w = (v.main ≡ true) × ((j : ℕ) × (w.by ≡ Inner j) × IsAmong j v.out) × AtRest w
 
+  -- a seat is taken in
   abbrev pub joined : View P → View P → View P
   joined v w = record v { empty = v.empty ++ w.empty; given = v.given ++ w.given; left = v.left ++ w.left; events = v.events ++ w.events; spare = v.spare + w.spare; out = without (name_of w.by) v.out }
 
+  -- the main seat is at rest, and no seat is out
   abbrev pub CanFinish : View P → Type 0
   CanFinish v = (v.main ≡ true) × AtRest v × (v.out ≡ [])
 

@@ -1,6 +1,6 @@
 //! Seats on one thread, as plain data.
 ghost use Rattle.std.specs.Prelude.{◌≡◌, ◌≢◌, ℕ, ◌+◌, ◌-◌, ◌<◌, ◌^◌, ◌∷◌, ◌++◌, [], IfOk, vec_len, slice_index_or, slice_set, length, ◌↔◌, None};
-ghost use Rattle.row_seat.specs.Views.{has_row};
+ghost use Rattle.row_seat.specs.Views.{HasRow};
 ghost use Rattle.chunk_core.specs.Lists.{IsAmong};
 
 use crate::knowledge::{
@@ -47,7 +47,7 @@ pub struct PlainTable<P> {
 }
 
 fn find<P>(hands: &[(u32, P)], row: u32) -> usize
-    requires { has_row hands.now row }
+    requires { HasRow hands.now row }
     ensures within { result < length hands.now }
     ensures found { (d : _) → (slice_index_or hands.now result d).0 ≡ row }
     ensures first { (k : ℕ) (d : _) → k < result → (slice_index_or hands.now k d).0 ≢ row }

@@ -18,7 +18,7 @@ use std::alloc::{AllocError, Global};
 /// does to the seat's view. It leaves the fit of every other seat as it was.
 pub trait RowSeat: Sized {
     ghost use Rattle.row_seat.specs.declared.view.View.{View};
-    ghost use Rattle.row_seat.specs.Views.{CanPlace, placed, has_row, paid, CanLease, leased, CanLeave, Leaves, CanClose, Closes, CanTake, took, IsLast, MayNote, noted, IsFresh, OthersFit, CanSplit, split_main, split_off, CanJoin, joined, CanFinish, IsLedgerOf};
+    ghost use Rattle.row_seat.specs.Views.{CanPlace, placed, HasRow, paid, CanLease, leased, CanLeave, Leaves, CanClose, Closes, CanTake, took, IsLast, MayNote, noted, IsFresh, OthersFit, CanSplit, split_main, split_off, CanJoin, joined, CanFinish, IsLedgerOf};
     ghost use Rattle.chunk_core.specs.Lists.{IsAmong};
 
     /// What a row holds.
@@ -45,7 +45,7 @@ pub trait RowSeat: Sized {
 
     /// The payload of an open row of this seat, for reading and writing.
     fn pay_mut(&mut self, row: u32) -> &mut Self::Pay
-        requires row { has_row (view self.old).opened row }
+        requires row { HasRow (view self.old).opened row }
         ensures* back { sem 𝓛 (Lends Self.row Self.Pay.row self.entry result (λ w. with_pay self.old row w)) }
         ensures value { IsAmong (row, result.now) (view self.old).opened };
 
