@@ -80,6 +80,7 @@ impl<T> Chunk<T> {
     }
 
     /// Takes off the first `n` elements, or all where there are no more, without a copy.
+    #[tactic(auto, using(crate::proofs::Windows::window_rest, crate::proofs::Windows::window_none))]
     pub fn split(&mut self, n: usize) -> Result<Chunk<T>, AllocError>
         ensures front { IfOk result (λ front. front ≡ take n self.old) }
         ensures rest { OnOk result (self.new ≡ drop n self.old) }
