@@ -1,4 +1,5 @@
-//! Values that everything above speaks of: lists, words, and the codes and ends of streams.
+//! Values that everything above speaks of: lists, words, chunks and loads, the codes and ends of
+//! streams, and the protocol of pipes.
 #![tactic(auto)]
 
 pub mod chunk;
