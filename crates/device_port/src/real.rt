@@ -1,0 +1,97 @@
+//! Standard input, output and error.
+ghost use Rattle.std.specs.Prelude.{◌≡◌, ◌<◌, ◌≤◌, length, IfOk};
+
+use crate::{Failed, Sink, Source};
+use std::io::{ErrorKind, Read, Write};
+
+/// One read that isn't interrupted.
+pub(crate) fn read_some<R: Read>(reader: &mut R, buf: &mut [u8]) -> Result<usize, Failed>
+    ensures { IfOk result (λ n. n ≤ length buf.new) }
+{
+    for _ in 0..u64::MAX {
+        match reader.read(buf) {
+            Ok(count) => return Ok(count),
+            Err(e) if e.kind() == ErrorKind::Interrupted => {}
+            Err(_) => break,
+        }
+    }
+    Err(Failed)
+}
+
+/// One write that isn't interrupted. It is a failure to take nothing.
+pub(crate) fn write_some<W: Write>(writer: &mut W, bytes: &[u8]) -> Result<usize, Failed>
+    ensures { IfOk result (λ n. (1 ≤ n) × (n ≤ length bytes.now)) }
+{
+    for _ in 0..u64::MAX {
+        match writer.write(bytes) {
+            Ok(0) => break,
+            Ok(count) => return Ok(count),
+            Err(e) if e.kind() == ErrorKind::Interrupted => {}
+            Err(_) => break,
+        }
+    }
+    Err(Failed)
+}
+
+/// A real reader, such as standard input. Each read is one of the reader's own.
+#[derive(Drop)]
+pub struct StdSource<R> {
+    reader: R,
+    faults: u64,
+}
+
+impl<R: Read> StdSource<R> {
+    ghost use Rattle.std.specs.Prelude.{None};
+
+    pub fn new(reader: R) -> StdSource<R>
+        ensures { ⟦<StdSource<R> as Source>⟧.told result ≡ record { left = None; faults = 0 } }
+    {
+        StdSource { reader, faults: 0 }
+    }
+}
+
+impl<R: Read> Source for StdSource<R> {
+    ghost use Rattle.std.specs.Prelude.{None};
+
+    ghost told = { λ s. record { left = None; faults = s.faults } };
+
+    fn read(&mut self, buf: &mut [u8]) -> Result<usize, Failed> {
+        let count = read_some(&mut self.reader, buf);
+        if count.is_err() {
+            self.faults += 1;
+        }
+        count
+    }
+}
+
+/// A real writer, such as standard output. Each write is one of the writer's own, so that a
+/// failure is told by the write that met it.
+#[derive(Drop)]
+pub struct StdSink<W> {
+    writer: W,
+    faults: u64,
+}
+
+impl<W: Write> StdSink<W> {
+    ghost use Rattle.std.specs.Prelude.{None};
+
+    pub fn new(writer: W) -> StdSink<W>
+        ensures { ⟦<StdSink<W> as Sink>⟧.told result ≡ record { written = None; faults = 0 } }
+    {
+        StdSink { writer, faults: 0 }
+    }
+}
+
+impl<W: Write> Sink for StdSink<W> {
+    ghost use Rattle.std.specs.Prelude.{None};
+
+    ghost told = { λ s. record { written = None; faults = s.faults } };
+
+    fn write(&mut self, bytes: &[u8]) -> Result<usize, Failed> {
+        let count = write_some(&mut self.writer, bytes);
+        if count.is_err() {
+            self.faults += 1;
+        }
+        count
+    }
+}
