@@ -8,3 +8,4 @@ pub mod Files
 pub mod Trips
 pub mod Memory
 pub mod MemDepot
+pub mod Real

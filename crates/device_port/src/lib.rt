@@ -7,6 +7,7 @@
 pub(crate) mod calls;
 pub mod depot;
 pub mod device;
+pub mod file_device;
 pub mod files;
 pub mod gate;
 pub mod mem;
@@ -20,6 +21,7 @@ pub mod trip;
 
 pub use depot::Depot;
 pub use device::{Device, Mode};
+pub use file_device::FileDevice;
 pub use files::{FileOf, PlaceOf};
 pub use gate::{Gate, OpenGate};
 pub use mem::{MemSink, MemSource};

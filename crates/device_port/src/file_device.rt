@@ -1,0 +1,150 @@
+//! A real file as a device.
+ghost use Rattle.std.specs.Prelude.{◌≡◌, ◌+◌};
+ghost use Rattle.device_port.specs.Real.{file_told};
+
+use crate::real::{read_some, write_some};
+use crate::{Device, Failed, Mode, Stage};
+use chunk_core::Word;
+use known::{Known, Says, Steps, know, step};
+use std::fs::File;
+use std::os::fd::IntoRawFd;
+use std::rt::Files;
+
+/// The file of a device while it is open, and else how far the device has come.
+#[derive(Drop)]
+enum Held {
+    Unopened,
+    Open(File),
+    Closed,
+    ClosedBadly,
+}
+
+/// Where a device begins to read.
+struct Front;
+
+impl Says<Word, u64> for Front {
+    ghost says = { λ path. 0 };
+}
+
+/// So many bytes further.
+struct Further;
+
+impl Steps<usize, u64> for Further {
+    ghost use Rattle.std.specs.Prelude.{◌+◌};
+
+    ghost next = { λ at count. at + count };
+}
+
+/// A real file. It is made by a `FileDepot`.
+#[derive(Drop)]
+pub struct FileDevice {
+    rt: HostRuntime,
+    number: u64,
+    path: Word,
+    mode: Mode,
+    held: Held,
+    at: Known<u64>,
+    open_faults: u64,
+    read_faults: u64,
+    write_faults: u64,
+}
+
+impl FileDevice {
+    ghost use Rattle.std.specs.Prelude.{None, false};
+
+    /// A device that was never opened.
+    pub(crate) fn new(rt: HostRuntime, number: u64, path: Word, mode: Mode) -> FileDevice
+        ensures { file_told result ≡ record { number = number; place = record { path = path; mode = mode }; present = None; content = None; at = 0; written = None; is_open = false; opens = 0; closes = 0; open_faults = 0; read_faults = 0; write_faults = 0; close_faults = 0 } }
+    {
+        let at = know::<Word, u64, Front>(&path);
+        FileDevice {
+            rt,
+            number,
+            path,
+            mode,
+            held: Held::Unopened,
+            at,
+            open_faults: 0,
+            read_faults: 0,
+            write_faults: 0,
+        }
+    }
+}
+
+/// Closes a file, and tells where that fails.
+fn close_file(file: File) -> Result<(), Failed> {
+    if libc::close(file.into_raw_fd()) < 0 {
+        return Err(Failed);
+    }
+    Ok(())
+}
+
+impl Device for FileDevice {
+    ghost use Rattle.device_port.specs.Real.{file_told, stage_of};
+    ghost use Rattle.device_port.specs.Stage.{open_once_at};
+
+    ghost told = { file_told };
+
+    ghost open_once = { λ d. open_once_at (stage_of d.held) };
+
+    fn number(&self) -> u64 {
+        self.number
+    }
+
+    /// For writing, the file is created, or emptied where it is there.
+    fn open(&mut self) -> Result<(), Failed> {
+        let path = self.path.as_str();
+        let opened = match self.mode {
+            Mode::Read => File::open(&self.rt, path),
+            Mode::Write => File::create(&self.rt, path),
+        };
+        match opened {
+            Ok(file) => {
+                self.held = Held::Open(file);
+                Ok(())
+            }
+            Err(_) => {
+                self.open_faults += 1;
+                Err(Failed)
+            }
+        }
+    }
+
+    fn read(&mut self, buf: &mut [u8]) -> Result<usize, Failed> {
+        let Held::Open(file) = &mut self.held else {
+            unreachable!()
+        };
+        match read_some(file, buf) {
+            Ok(count) => {
+                self.at = step::<usize, u64, Further>(&self.at, &count);
+                Ok(count)
+            }
+            Err(failed) => {
+                self.read_faults += 1;
+                Err(failed)
+            }
+        }
+    }
+
+    fn write(&mut self, bytes: &[u8]) -> Result<usize, Failed> {
+        let Held::Open(file) = &mut self.held else {
+            unreachable!()
+        };
+        let count = write_some(file, bytes);
+        if count.is_err() {
+            self.write_faults += 1;
+        }
+        count
+    }
+
+    fn close(&mut self) -> Result<(), Failed> {
+        let Held::Open(file) = std::mem::replace(&mut self.held, Held::Closed) else {
+            unreachable!()
+        };
+        let closed = close_file(file);
+        if closed.is_err() {
+            self.held = Held::ClosedBadly;
+        }
+        closed
+    }
+}
