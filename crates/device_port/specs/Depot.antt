@@ -76,3 +76,11 @@ AreApart ds = IsDistinct nat_eq (numbers ds)
 -- each of these devices has a number below n
 abbrev pub AreBelow : ℕ → List DeviceTold → Type 0
 AreBelow n ds = (q : ℕ) → list_any (nat_eq q) (numbers ds) ≡ true → q < n
+
+-- what a depot that tells no files has come to
+pub record CourseTold : Type 0 where
+  pub made : List Place
+  pub retired : List DeviceTold
+
+abbrev pub depot_of : CourseTold → DepotTold
+depot_of c = record { files = None; made = c.made; retired = c.retired }

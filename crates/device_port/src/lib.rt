@@ -7,6 +7,7 @@
 pub(crate) mod calls;
 pub mod depot;
 pub mod device;
+pub mod file_depot;
 pub mod file_device;
 pub mod files;
 pub mod gate;
@@ -21,6 +22,7 @@ pub mod trip;
 
 pub use depot::Depot;
 pub use device::{Device, Mode};
+pub use file_depot::FileDepot;
 pub use file_device::FileDevice;
 pub use files::{FileOf, PlaceOf};
 pub use gate::{Gate, OpenGate};
