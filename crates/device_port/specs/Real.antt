@@ -22,7 +22,7 @@ file_told d = record {
   place = record { path = d.path; mode = d.mode };
   present = None;
   content = None;
-  at = d.at.inner.ask;
+  at = d.at;
   written = None;
   is_open = is_open_at (stage_of d.held);
   opens = opens_of (stage_of d.held);

@@ -1,11 +1,10 @@
 //! A real file as a device.
-ghost use Rattle.std.specs.Prelude.{◌≡◌, ◌+◌};
+ghost use Rattle.std.specs.Prelude.{◌≡◌};
 ghost use Rattle.device_port.specs.Real.{file_told};
 
 use crate::real::{read_some, write_some};
 use crate::{Device, Failed, Mode, Stage};
 use chunk_core::Word;
-use known::{Known, Says, Steps, know, step};
 use std::fs::File;
 use std::os::fd::IntoRawFd;
 use std::rt::Files;
@@ -19,22 +18,6 @@ enum Held {
     ClosedBadly,
 }
 
-/// Where a device begins to read.
-struct Front;
-
-impl Says<Word, u64> for Front {
-    ghost says = { λ path. 0 };
-}
-
-/// So many bytes further.
-struct Further;
-
-impl Steps<usize, u64> for Further {
-    ghost use Rattle.std.specs.Prelude.{◌+◌};
-
-    ghost next = { λ at count. at + count };
-}
-
 /// A real file. It is made by a `FileDepot`.
 #[derive(Drop)]
 pub struct FileDevice {
@@ -43,7 +26,7 @@ pub struct FileDevice {
     path: Word,
     mode: Mode,
     held: Held,
-    at: Known<u64>,
+    at: u64,
     open_faults: u64,
     read_faults: u64,
     write_faults: u64,
@@ -56,14 +39,13 @@ impl FileDevice {
     pub(crate) fn new(rt: HostRuntime, number: u64, path: Word, mode: Mode) -> FileDevice
         ensures { file_told result ≡ record { number = number; place = record { path = path; mode = mode }; present = None; content = None; at = 0; written = None; is_open = false; opens = 0; closes = 0; open_faults = 0; read_faults = 0; write_faults = 0; close_faults = 0 } }
     {
-        let at = know::<Word, u64, Front>(&path);
         FileDevice {
             rt,
             number,
             path,
             mode,
             held: Held::Unopened,
-            at,
+            at: 0,
             open_faults: 0,
             read_faults: 0,
             write_faults: 0,
@@ -110,18 +92,19 @@ impl Device for FileDevice {
         }
     }
 
+    /// A file that gives more than 2^64 bytes fails.
     fn read(&mut self, buf: &mut [u8]) -> Result<usize, Failed> {
         let Held::Open(file) = &mut self.held else {
             unreachable!()
         };
         match read_some(file, buf) {
-            Ok(count) => {
-                self.at = step::<usize, u64, Further>(&self.at, &count);
+            Ok(count) if count as u64 <= u64::MAX - self.at => {
+                self.at += count as u64;
                 Ok(count)
             }
-            Err(failed) => {
+            _ => {
                 self.read_faults += 1;
-                Err(failed)
+                Err(Failed)
             }
         }
     }
