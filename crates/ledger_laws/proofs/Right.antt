@@ -1,0 +1,15 @@
+-- A ledger that is written out is right where it passes the tests, and not where it fails.
+use Rattle.std.proofs.Common.{◌≡◌, true, false, List, sym, ◌∙◌}
+use Rattle.std.proofs.lemmas.Bool.{false≢true}
+use Rattle.res_ledger.specs.declared.event.Event.{Event}
+use Rattle.res_ledger.specs.Order.{IsOrdered, is_ordered}
+use Rattle.res_ledger.specs.Judge.{is_legal, is_complete}
+use Rattle.res_ledger.proofs.Ordering.{ordered_sound, ordered_complete}
+use Rattle.res_ledger.proofs.Judged.{legal_sound, complete_sound}
+use Rattle.ledger_laws.specs.Written.{IsRight}
+
+pub right : (L : List Event) → is_legal L ≡ true → is_complete L ≡ true → is_ordered L ≡ true → IsRight L
+right L l c o = (legal_sound L l, complete_sound L c, ordered_sound L o)
+
+pub disordered : (L : List Event) → is_ordered L ≡ false → ¬ (IsOrdered L)
+disordered L h o = false≢true (sym h ∙ ordered_complete L o)
