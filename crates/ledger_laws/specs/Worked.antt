@@ -54,3 +54,7 @@ lease_on_the_root = nested ((Outer, Lease 5 0) ∷ (Outer, Close 0) ∷ (Outer, 
 -- one Close takes three scopes down
 abbrev pub three_scopes_at_once : List Event
 three_scopes_at_once = nested ((Outer, Close 0) ∷ (Outer, Final 2 true) ∷ (Outer, Final 1 true) ∷ (Outer, Final 0 true) ∷ [])
+
+-- a stream goes on after it has given its lease back
+abbrev pub stream_goes_on_after_its_cancel : List Event
+stream_goes_on_after_its_cancel = written ((Outer, Lease 0 0) ∷ (Outer, Close 0) ∷ (Inner 0, Cancel 0) ∷ (Inner 0, Acquire 0 0) ∷ (Inner 0, Close 0) ∷ (Inner 0, Final 0 true) ∷ [])

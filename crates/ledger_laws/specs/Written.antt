@@ -19,3 +19,11 @@ written xs = stamped 0 xs
 -- the ledger of a run that went right
 abbrev pub IsRight : List Event → Type 0
 IsRight L = IsLegal L × IsComplete L × IsOrdered L
+
+-- what is wrong with the ledger is that something is left over
+abbrev pub IsOnlyIncomplete : List Event → Type 0
+IsOnlyIncomplete L = IsLegal L × ¬ (IsComplete L)
+
+-- what is wrong with the ledger is the order of its Finals
+abbrev pub IsOnlyDisordered : List Event → Type 0
+IsOnlyDisordered L = IsLegal L × IsComplete L × ¬ (IsOrdered L)

@@ -1,8 +1,7 @@
 //! Ledgers with one mistake each.
 ghost use Rattle.ledger_laws.specs.Broken.{acquire_below_a_closed_scope, acquire_in_a_closed_scope, acquire_twice, cancel_before_the_finals, cancel_of_a_begun_stream, cancel_twice, close_of_no_scope, close_twice, event_between_close_and_finals, final_before_close, final_by_a_stranger, final_despite_a_lease, final_twice, lease_twice, lease_without_a_cancel, leased_rows_in_order_of_acquisition, parent_before_child, root_left_open, row_without_a_final, scope_left_open, siblings_in_order_of_acquisition, uncovered_row_waits};
+ghost use Rattle.ledger_laws.specs.Written.{IsOnlyDisordered, IsOnlyIncomplete};
 ghost use Rattle.res_ledger.specs.Ledger.{IsLegal};
-ghost use Rattle.res_ledger.specs.Order.{IsOrdered};
-ghost use Rattle.res_ledger.specs.Whole.{IsComplete};
 
 /// Ledgers with an event that may not follow those before it.
 pub fn illegal_ledgers()
@@ -21,19 +20,19 @@ pub fn illegal_ledgers()
     ensures is_close_of_no_scope { ¬ (IsLegal close_of_no_scope) }
 {}
 
-/// Ledgers that leave something open, leased or without its end.
+/// Legal ledgers that leave something open, leased or without its end.
 pub fn incomplete_ledgers()
-    ensures is_row_without_a_final { ¬ (IsComplete row_without_a_final) }
-    ensures is_lease_without_a_cancel { ¬ (IsComplete lease_without_a_cancel) }
-    ensures is_scope_left_open { ¬ (IsComplete scope_left_open) }
-    ensures is_root_left_open { ¬ (IsComplete root_left_open) }
+    ensures is_row_without_a_final { IsOnlyIncomplete row_without_a_final }
+    ensures is_lease_without_a_cancel { IsOnlyIncomplete lease_without_a_cancel }
+    ensures is_scope_left_open { IsOnlyIncomplete scope_left_open }
+    ensures is_root_left_open { IsOnlyIncomplete root_left_open }
 {}
 
-/// Ledgers whose rows end in a wrong order.
+/// Legal and complete ledgers whose rows end in a wrong order.
 pub fn disordered_ledgers()
-    ensures is_siblings_in_order_of_acquisition { ¬ (IsOrdered siblings_in_order_of_acquisition) }
-    ensures is_parent_before_child { ¬ (IsOrdered parent_before_child) }
-    ensures is_uncovered_row_waits { ¬ (IsOrdered uncovered_row_waits) }
-    ensures is_leased_rows_in_order_of_acquisition { ¬ (IsOrdered leased_rows_in_order_of_acquisition) }
-    ensures is_event_between_close_and_finals { ¬ (IsOrdered event_between_close_and_finals) }
+    ensures is_siblings_in_order_of_acquisition { IsOnlyDisordered siblings_in_order_of_acquisition }
+    ensures is_parent_before_child { IsOnlyDisordered parent_before_child }
+    ensures is_uncovered_row_waits { IsOnlyDisordered uncovered_row_waits }
+    ensures is_leased_rows_in_order_of_acquisition { IsOnlyDisordered leased_rows_in_order_of_acquisition }
+    ensures is_event_between_close_and_finals { IsOnlyDisordered event_between_close_and_finals }
 {}

@@ -1,5 +1,5 @@
 //! Ledgers that are legal, complete and ordered.
-ghost use Rattle.ledger_laws.specs.Worked.{child_closed_first, failed_finalizer, lease_on_the_middle, lease_on_the_root, nothing_acquired, one_row, row_kept_by_a_lease, rows_of_a_leased_stream, stream_never_started, three_scopes_at_once, two_rows};
+ghost use Rattle.ledger_laws.specs.Worked.{stream_goes_on_after_its_cancel, child_closed_first, failed_finalizer, lease_on_the_middle, lease_on_the_root, nothing_acquired, one_row, row_kept_by_a_lease, rows_of_a_leased_stream, stream_never_started, three_scopes_at_once, two_rows};
 ghost use Rattle.ledger_laws.specs.Written.{IsRight};
 
 /// Ledgers of runs that went right.
@@ -15,4 +15,9 @@ pub fn right_ledgers()
     ensures is_lease_on_the_middle { IsRight lease_on_the_middle }
     ensures is_lease_on_the_root { IsRight lease_on_the_root }
     ensures is_three_scopes_at_once { IsRight three_scopes_at_once }
+{}
+
+/// What the rules don't refuse: no rule says that a stream ends with its Cancel.
+pub fn ledgers_let_through()
+    ensures { IsRight stream_goes_on_after_its_cancel }
 {}
