@@ -4,17 +4,17 @@ use Rattle.chunk_core.specs.Lists.{IsAmong}
 use Rattle.chunk_core.specs.Lists.IsAmong.{here, there}
 use Rattle.chunk_core.proofs.Members.{among_cons, among_nil}
 use Rattle.res_ledger.specs.declared.event.Event.{Event}
-use Rattle.res_ledger.specs.declared.event.StreamNo.TheVariants.{Outer}
+use Rattle.res_ledger.specs.declared.event.StreamNo.TheVariants.{Outer, Inner}
 use Rattle.res_ledger.specs.declared.event.What.{What}
 use Rattle.res_ledger.specs.declared.event.What.TheVariants.{Acquire, Lease, Close, Final}
-use Rattle.res_ledger.specs.Ledger.{Notes, IsStamped}
+use Rattle.res_ledger.specs.Ledger.{IsUsable, Notes, IsStamped}
 use Rattle.res_ledger.specs.Ledger.LiesWithin.{same}
 use Rattle.res_ledger.proofs.Ledgers.{covers_leased}
 use Rattle.res_ledger.proofs.Orders.{Rises, rising_is}
 use Rattle.row_seat.specs.declared.view.View.{View}
 use Rattle.row_seat.specs.declared.view.Left.{Left}
 use Rattle.row_seat.specs.declared.view.Left.TheVariants.{Stays, Yours}
-use Rattle.row_seat.specs.Views.{start, noted, placed, paid, shut, handed_over, took, Closes, IsFresh, HasRow, MayNote, CanPlace, CanClose, CanTake, CanFinish}
+use Rattle.row_seat.specs.Views.{CanSplit, start, noted, placed, paid, shut, handed_over, took, Closes, IsFresh, HasRow, MayNote, CanPlace, CanClose, CanTake, CanFinish}
 
 abbrev pub event : ℕ → What → Event
 event n w = record { stamp = n; by = Outer; what = w }
@@ -110,3 +110,24 @@ is_life L a b d stamped both second third =
     let y : b ≡ 1 = stamped (event a (Acquire 0 0) ∷ []) (event d (Final 0 true) ∷ []) (event b (Close 0)) is in
     let z : d ≡ 2 = stamped (event a (Acquire 0 0) ∷ event b (Close 0) ∷ []) [] (event d (Final 0 true)) is in
     is ∙ (ap (λ n. life n b d) x ∙ (ap (λ n. life 0 n d) y ∙ ap (λ n. life 0 1 n) z))
+
+-- a fresh seat with two rows
+abbrev pub two_rows : View ℕ
+two_rows = start Outer 2 3
+
+outer_inner : (n : ℕ) → Outer ≢ Inner n
+outer_inner n e = cc
+
+pub may_split : CanSplit two_rows 1 1 2 1
+may_split = (
+  refl,
+  outer_inner 1,
+  (λ m. among_nil m),
+  (λ r s. let a = s.0 in let b = s.1 in let e : r ≡ 1 = omega arith in (subst (λ n. IsAmong n two_rows.empty) (sym e) (there 0 (here [])), λ h. among_nil h.2.1)),
+  omega arith,
+  omega arith,
+  (λ r m. absurd (among_nil m)),
+)
+
+pub root_usable : IsUsable two_rows.events two_rows.by 0
+root_usable = (inl refl, λ h. among_nil h.2.1)
