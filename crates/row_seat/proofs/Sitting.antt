@@ -2,17 +2,16 @@
 use Rattle.std.proofs.Common.{◌≡◌, ◌≢◌, ℕ, zero, suc, ◌+◌, ◌-◌, ◌*◌, ◌<◌, ◌≤◌, ◌^◌, Bool, true, false, cond, eqb, map, List, [], ◌∷◌, ◌++◌, length, slice_set, remove, refl, sym, ap, ◌∙◌, subst, ⊎_elim, arith, length-append, filter, not}
 use Rattle.std.specs.Prelude.{Some, None, Option, slice_index, slice_index_or, vec_capacity, vec_len}
 use Rattle.std.proofs.lemmas.List.{get_or-set_same, get_or-set_other, length-set, length_push, length-map}
-use Rattle.std.proofs.lemmas.Bool.{cases_eq}
 use Rattle.res_ledger.specs.declared.event.What.TheVariants.{Acquire, Cancel, Lease}
-use Rattle.row_seat.specs.Totals.{IsAt, pair_times, row_times, times, total}
-use Rattle.row_seat.specs.Rule.{Book, Hold, RuleHolds, Work, book, hold, leases, purse, seen, work}
+use Rattle.row_seat.specs.Totals.{IsAt, row_times}
+use Rattle.row_seat.specs.Rule.{Book, RuleHolds, Work, book, hold, purse, seen, work}
 use Rattle.res_ledger.specs.declared.event.Event.{Event}
 use Rattle.res_ledger.specs.declared.event.StreamNo.TheVariants.{Inner}
 use Rattle.res_ledger.specs.Ledger.{IsAcquired, IsClosed, IsLeased, Notes}
 use Rattle.chunk_core.specs.Lists.{IsAmong}
 use Rattle.row_seat.specs.PlainSeats.{IsTable, Sits, rows_of}
 use Rattle.known.specs.declared.Known.{Known}
-use Rattle.row_seat.specs.Views.{MayNote, HasRow, within, without, without_pair, without_row}
+use Rattle.row_seat.specs.Views.{MayNote, HasRow, within, without, without_row}
 use Rattle.row_seat.specs.declared.plain.PlainSeat.{PlainSeat}
 use Rattle.row_seat.specs.declared.plain.PlainTable.{PlainTable}
 use Rattle.row_seat.specs.declared.token.Token.{Token}
@@ -21,17 +20,17 @@ use Rattle.chunk_core.proofs.Filters.{among_at, bool_not, filter_among}
 use Rattle.row_seat.proofs.Members.{among_kept, length_without}
 use Rattle.row_seat.proofs.Joins.{apart, join_keeps}
 use Rattle.chunk_core.proofs.Places.{at_map}
-use Rattle.row_seat.proofs.Moves.{close_stays, close_yours, lease_keeps, leave_keeps, leave_last, place_keeps, row_empty, row_handed, row_open, some_is, take_keeps}
+use Rattle.row_seat.proofs.Moves.{close_stays, close_yours, lease_keeps, leave_keeps, leave_last, place_keeps, row_empty, row_handed, row_open, take_keeps}
 use Rattle.row_seat.proofs.Totals.{one_at, put_else, put_here, total_at, total_set, total_two}
 use Rattle.row_seat.proofs.Changes.{more_else, more_here, more_last, total_both, total_more, two_else, two_first}
 use Rattle.row_seat.specs.Steps.{gone, handed_over, joined, leased, noted, placed, shut, spent, split_main, split_off, took, without_one}
 use Rattle.chunk_core.specs.Lists.IsAmong.{here, there}
 use Rattle.row_seat.proofs.Rows.{is_leased}
-use Rattle.row_seat.proofs.Times.{pair_kept, pair_some, row_less, row_some, run_length, times_some}
-use Rattle.row_seat.proofs.Pigeonholes.{pairs_below}
+use Rattle.row_seat.proofs.Times.{row_some, run_length}
 use Rattle.row_seat.proofs.Splits.{split_keeps, within_in}
 use Rattle.res_ledger.proofs.Ledgers.{stamp_below}
 use Rattle.row_seat.proofs.Ends.{given_one}
+use Rattle.row_seat.proofs.Tells.{leases_below, told_last}
 use Rattle.row_seat.proofs.Ticked.{tick_keeps}
 use Rattle.row_seat.proofs.Hands.{without_row_at}
 
@@ -62,19 +61,12 @@ module _ {P : Type 0} {d' : PlainTable P} (s : PlainSeat P) (d : PlainTable P) (
     whole = λ m. let l = k.whole m in omega arith;
   }
 
-total_map : {V U : Type 0} (f : V → U) (g : U → ℕ) (vs : List V) → total g (map f vs) ≡ total (λ (v : V). g (f v)) vs
-total_map f g [] = refl
-total_map f g (v ∷ vs) = ap (λ n. g (f v) + n) (total_map f g vs)
-
 pub some_none : {A : Type 0} (x : A) → (let a : Option A = Some x in a ≡ None) → ⊥
 some_none x e = cc
 
 one_shorter : (r : ℕ) (xs : List ℕ) → length (without_one r xs) ≤ length xs
 one_shorter r [] = omega arith
 one_shorter r (x ∷ xs) = let t = one_shorter r xs in elim (eqb x r) as (λ b. length (cond b xs (x ∷ without_one r xs)) ≤ length (x ∷ xs)) [ true ↦ omega arith | false ↦ omega arith ]
-
-two_pairs : (i j r : ℕ) (xs : List (ℕ × ℕ)) → i ≢ j → IsAmong (i, r) xs → IsAmong (j, r) xs → 2 ≤ row_times r xs
-two_pairs i j r xs ne a b = let k = row_less i r xs in let p = pair_some i r xs a in let q = row_some j r (without_pair i r xs) (pair_kept i r j r xs b (λ e f. ne (sym e))) in omega arith
 
 module _ {P : Type 0} (slots : List (Option P)) (words : List ℕ) (events : List Event) (most : ℕ) (views : List (Token P)) (t : IsTable slots words events most views) (id : ℕ) (v : Token P) (at : IsAt views id v) (live : v.live ≡ true) where
   table_put : (slots' : List (Option P)) (words' : List ℕ) (events' : List Event) (most' : ℕ) (w : Token P) → length words' ≡ length words → length slots' ≡ length slots
@@ -114,16 +106,11 @@ module _ {P : Type 0} (slots : List (Option P)) (words : List ℕ) (events : Lis
       (lease_keeps (length slots) t.room (λ r. slice_index words r) (λ r. slice_index_or slots r None) events views t.rule id v at live (λ q. slice_index (slice_set words r x) q) r (word_else r x) (word_now r x b.0 ∙ ap (λ n. n + 4) is) j small main mine no_pair no_lease no_seat)
       (omega arith) (omega arith)
 
-  few : (b r : ℕ) → ((i j : ℕ) (u : Token P) → IsAt views i u → IsAmong (j, r) u.pairs → j < b) → ((j q : ℕ) → total (λ (h : Hold). pair_times j q h.pairs) (map hold views) ≤ 1) → leases r (map work views) ≤ b
-  few b r below once =
-      let a = pairs_below (λ (u : Token P). u.pairs) r b views below (λ j. subst (λ n. n ≤ 1) (total_map hold (λ (h : Hold). pair_times j r h.pairs) views) (once j r)) in
-      subst (λ n. n ≤ b) (sym (total_map work (λ (u : Work). row_times r u.pairs) views)) a
-
   -- no word runs over
   pub word_small : (r : ℕ) → IsAmong r v.opened → slice_index words r + 4 < 2 ^ 64
   word_small r mine =
       let b = row_open (length slots) t.room (λ r. slice_index words r) (λ r. slice_index_or slots r None) events views t.rule id v at live r mine in
-      let w = few (2 ^ 32) r (λ i j u g m. t.rule.small i j r u g m) t.rule.leases.pair_once in let b1 = b.1 in omega arith
+      let w = leases_below (length slots) t.room (λ r. slice_index words r) (λ r. slice_index_or slots r None) events views t.rule r in let b1 = b.1 in omega arith
 
   pub tick_table : (most' : ℕ) → most ≤ most' → (hands : List (ℕ × P)) (x : What) → MayNote (seen v hands) x → 1 ≤ v.spare → IsTable slots words (events ++ record { stamp = length events; by = v.by; what = x } ∷ []) most' (slice_set views id (noted v (record { stamp = length events; by = v.by; what = x })))
   tick_table most' more hands x may sp = let e : Event = record { stamp = length events; by = v.by; what = x } in
@@ -182,15 +169,7 @@ module _ {P : Type 0} (slots : List (Option P)) (words : List ℕ) (events : Lis
 
   -- what Yours tells at a leave
   pub last_tells : (j r : ℕ) (p : P) → IsAmong (j, r) v.pairs → slice_index words r ≡ 7 → slice_index_or slots r None ≡ Some p → ¬ (IsAmong r v.opened) × ((i : ℕ) → IsAmong (i, r) v.pairs → i ≡ j) × ((q : P) → IsAmong (r, q) v.left → q ≡ p)
-  last_tells j r p m seven lies =
-      let ws = map work views in let at' = at_map work views id v at in let l = total_at (λ (u : Work). row_times r u.pairs) ws id (work v) at' in let y = row_some j r v.pairs m in
-      let s = is_leased (t.rule.words r) (omega arith) in
-      let c = ⊎_elim (λ a. let a0 = a.0 in absurd (omega arith)) (λ a. a) s.4 in let c0 = c.0 in let c1 = c.1 in
-      let x = t.rule.pays.waits r 1 (let a : 7 ≡ 3 + 4 * 1 = refl in seven ∙ a) (omega arith) in (
-        (λ o. let k = total_at (λ (u : Work). times r u.opened) ws id (work v) at' in let z = times_some r v.opened o in omega arith),
-        (λ i n. ⊎_elim (λ e. e) (λ ne. let w = two_pairs i j r v.pairs ne n m in absurd (omega arith)) (cases_eq i j)),
-        (λ q n. t.rule.pays.left_one r q x.0 (id, purse v, at_map purse views id v at, n) x.1 ∙ some_is x.0 p (sym x.2 ∙ lies)),
-      )
+  last_tells = told_last (length slots) t.room (λ r. slice_index words r) (λ r. slice_index_or slots r None) events views t.rule id v at live
 
 pub among_map : {A : Type 0} (x : ℕ × A) (xs : List (ℕ × A)) → IsAmong x xs → IsAmong x.0 (rows_of xs)
 among_map x xs (here ys) = here (rows_of ys)
