@@ -1,7 +1,6 @@
 //! Seats on one thread, as plain data.
-ghost use Rattle.std.specs.Prelude.{◌≡◌, ◌≢◌, ℕ, ◌+◌, ◌-◌, ◌<◌, ◌^◌, ◌∷◌, ◌++◌, [], IfOk, vec_len, slice_index_or, slice_set, length, ◌↔◌, None};
+ghost use Rattle.std.specs.Prelude.{◌≡◌, ◌≢◌, ℕ, ◌<◌, ◌^◌, IfOk, slice_index_or, length};
 ghost use Rattle.row_seat.specs.Views.{HasRow};
-ghost use Rattle.chunk_core.specs.Lists.{IsAmong};
 
 use crate::knowledge::{
     Alone, Counts, Halving, Handing, HandingOver, Joining, Leasing, Leaving, Noting, Placing,
@@ -46,6 +45,7 @@ pub struct PlainTable<P> {
     views: Known<LinkedList<Token<P>>>,
 }
 
+// The place of an open row in the hands.
 fn find<P>(hands: &[(u32, P)], row: u32) -> usize
     requires { HasRow hands.now row }
     ensures within { result < length hands.now }
@@ -243,6 +243,8 @@ impl<P: Drop> PlainSeat<P> {
     ghost use Rattle.row_seat.specs.PlainSeats.{shown, Sits};
     ghost use Rattle.row_seat.specs.Views.{start};
 
+    /// A main seat with all `rows`, and its table. The room for all `events` is made here, so that no
+    /// later call but `split` needs memory.
     pub fn new(
         alloc: Global,
         by: StreamNo,
