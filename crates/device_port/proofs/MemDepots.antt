@@ -1,11 +1,11 @@
 -- What a depot in memory tells after a device was made or came back.
-use Rattle.std.proofs.Common.{◌≡◌, ◌≢◌, ℕ, ◌<◌, ◌≤◌, ◌+◌, Bool, true, false, ◌&&◌, cond, List, [], ◌∷◌, ◌++◌, length, map, reverse, find, nat_eq, refl, sym, ap, arith, rules, ⊎_elim, inl, inr, ◌⊎◌, ◌∙◌, subst, Option, Some, None, option_map, length-append}
+use Rattle.std.proofs.Common.{◌≡◌, ℕ, ◌<◌, ◌≤◌, Bool, true, false, ◌&&◌, cond, List, [], ◌∷◌, ◌++◌, length, map, reverse, find, nat_eq, refl, sym, ap, arith, inl, inr, ◌⊎◌, ◌∙◌, Option, Some, option_map, length-append}
 use Rattle.std.proofs.lemmas.Bool.{false≢true, eqb-true}
 use Rattle.std.proofs.lemmas.List.{length-map, map-append, reverse-append}
 use Rattle.std.proofs.lemmas.Slice.Eq.{bytes_eq-Decides}
 use Rattle.std.specs.Str.{bytes_eq}
 use Rattle.device_port.specs.Device.{DeviceTold, Place, is_write}
-use Rattle.device_port.specs.Depot.{DepotTold, numbers, AreApart, AreBelow, IsUnknown}
+use Rattle.device_port.specs.Depot.{DepotTold, AreApart, AreBelow, IsUnknown}
 use Rattle.device_port.specs.Stage.{opens_of}
 use Rattle.device_port.specs.Records.{record_told}
 use Rattle.device_port.specs.Files.{wrote, or_else, bytes_at, place_of}

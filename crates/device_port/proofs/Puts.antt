@@ -1,5 +1,5 @@
 -- Writes one after another.
-use Rattle.std.proofs.Common.{◌≡◌, ℕ, ◌+◌, ◌-◌, ◌≤◌, ◌<◌, List, [], ◌++◌, length, take, drop, zero, suc, ◌∷◌, zero-add, refl, sym, ◌∙◌, ap, arith, append_assoc, append-nil, length-append, Option, None, Some, option_map, Result, Ok, Err}
+use Rattle.std.proofs.Common.{◌≡◌, ℕ, ◌+◌, ◌-◌, ◌≤◌, List, [], ◌++◌, length, take, drop, zero, suc, ◌∷◌, zero-add, refl, sym, ◌∙◌, ap, arith, append_assoc, append-nil, length-append, Option, None, Some, option_map, Result, Ok, Err}
 use Rattle.std.proofs.lemmas.List.{take-append-le, take-take, length-take}
 use Rattle.std.proofs.Math.Nat.{suc-add}
 use Rattle.std.proofs.Math.Seq.{take-append-add}

@@ -1,5 +1,5 @@
 -- What a depot tells.
-use Rattle.std.specs.Prelude.{◌≡◌, ◌≢◌, ◌⊎◌, ℕ, ◌<◌, Bool, false, List, [], ◌∷◌, ◌++◌, length, Option, Some, None, option_map, unwrap_or, is_some, map, nat_eq, true}
+use Rattle.std.specs.Prelude.{◌≡◌, ◌≢◌, ◌⊎◌, ℕ, ◌<◌, false, List, [], ◌∷◌, ◌++◌, length, Option, Some, None, option_map, unwrap_or, is_some, map, nat_eq, true}
 use Rattle.std.specs.List.{IsDistinct, list_any}
 use Rattle.chunk_core.specs.Lists.{Each}
 use Rattle.device_port.specs.declared.device.Mode.{Mode}
@@ -82,5 +82,6 @@ pub record CourseTold : Type 0 where
   pub made : List Place
   pub retired : List DeviceTold
 
+-- the same, where no files are told
 abbrev pub depot_of : CourseTold → DepotTold
 depot_of c = record { files = None; made = c.made; retired = c.retired }

@@ -1,5 +1,5 @@
 -- The files of a depot in memory.
-use Rattle.std.specs.Prelude.{◌≡◌, ℕ, Bool, cond, ◌&&◌, nat_eq, List, map, reverse, find, Option, None, Some, option_map}
+use Rattle.std.specs.Prelude.{◌≡◌, ℕ, Bool, cond, ◌&&◌, nat_eq, List, reverse, find, Option, None, Some, option_map}
 use Rattle.std.specs.Str.{bytes_eq}
 use Rattle.device_port.specs.Device.{Place, is_write}
 use Rattle.device_port.specs.Stage.{opens_of}

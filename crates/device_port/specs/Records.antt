@@ -1,5 +1,5 @@
 -- What a record of a memory device tells.
-use Rattle.std.specs.Prelude.{ℕ, Some}
+use Rattle.std.specs.Prelude.{Some}
 use Rattle.device_port.specs.Device.{DeviceTold}
 use Rattle.device_port.specs.Stage.{is_open_at, opens_of, closes_of, close_faults_of}
 use Rattle.device_port.specs.declared.record.Record.{Record}

@@ -53,7 +53,7 @@ impl FileDevice {
     }
 }
 
-/// Closes a file, and tells where that fails.
+/// Closes a file, and tells where that fails. Dropping the file would lose the failure.
 fn close_file(file: File) -> Result<(), Failed> {
     if libc::close(file.into_raw_fd()) < 0 {
         return Err(Failed);

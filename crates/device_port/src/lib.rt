@@ -1,7 +1,12 @@
 //! The outside of a run as traits: what is read, what is written, where devices come from.
 //!
 //! Contracts see each object by one record of what it tells: counts of its faults, which never
-//! fall, and contents where it tells them. A real file tells no content.
+//! fall, and contents where it tells them. The objects in memory tell everything, and those of
+//! their calls that are named fail. The real ones tell no content: what the system gives and takes
+//! is beyond contracts.
+//!
+//! Reads and writes that a signal interrupts are tried again and are no failures. Nothing is
+//! buffered: each write of a `StdSink` is one of its writer's.
 #![tactic(auto)]
 
 pub(crate) mod calls;

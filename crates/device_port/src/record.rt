@@ -80,10 +80,30 @@ pub struct Record {
 
 impl Record {
     ghost use Rattle.device_port.specs.Files.{wrote};
-    ghost use Rattle.device_port.specs.Device.{faults_of};
     ghost use Rattle.device_port.specs.Records.{record_told};
 
-    /// Whether it was opened for writing at this path.
+    /// How often the device was opened.
+    pub fn opens(&self) -> u64
+        ensures { result ≡ (record_told self.now).opens }
+    {
+        self.stage.opens()
+    }
+
+    /// How often the device was closed.
+    pub fn closes(&self) -> u64
+        ensures { result ≡ (record_told self.now).closes }
+    {
+        self.stage.closes()
+    }
+
+    /// How often closing the device failed.
+    pub fn close_faults(&self) -> u64
+        ensures { result ≡ (record_told self.now).close_faults }
+    {
+        self.stage.close_faults()
+    }
+
+    /// Whether the device was opened for writing at this path.
     pub fn wrote(&self, path: &str) -> bool
         ensures { result ≡ wrote path.now self.now }
     {

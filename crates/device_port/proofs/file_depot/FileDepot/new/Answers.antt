@@ -1,4 +1,4 @@
-use Rattle.std.proofs.Common.{◌≡◌, List, sym, ap, subst, length}
+use Rattle.std.proofs.Common.{sym, ap, subst, length}
 use Rattle.device_port.specs.Depot.{CourseTold, AreApart, AreBelow}
 use Rattle.device_port.proofs.Depots.{apart_none, below_none}
 use Rattle.device_port.proofs.file_depot.FileDepot.new.Goals as goal

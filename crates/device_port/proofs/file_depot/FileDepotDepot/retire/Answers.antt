@@ -1,4 +1,4 @@
-use Rattle.std.proofs.Common.{◌≡◌, ◌<◌, ℕ, ap, sym, ◌∙◌, subst, length, arith}
+use Rattle.std.proofs.Common.{◌<◌, ap, sym, ◌∙◌, subst, length}
 use Rattle.device_port.specs.Depot.{CourseTold, AreApart, AreBelow}
 use Rattle.device_port.specs.Real.{file_told}
 use Rattle.device_port.proofs.Depots.{apart_more, below_more}

@@ -1,4 +1,4 @@
-use Rattle.std.proofs.Common.{◌≡◌, List, map, sym, subst, vec_len}
+use Rattle.std.proofs.Common.{List, map, sym, subst, vec_len}
 use Rattle.device_port.specs.Depot.{AreApart, AreBelow}
 use Rattle.device_port.specs.Records.{record_told}
 use Rattle.device_port.specs.declared.record.Record.{Record}
