@@ -5,8 +5,9 @@ pub mod Blocks
 pub mod Ordering
 pub mod Orders
 pub mod Noted
-pub mod Judged
+pub mod Scopes
 pub mod Prefixes
-pub mod Forward
+pub mod Leases
+pub mod Judged
 pub mod Stamps
-pub mod Refuted
+pub mod Forward

@@ -11,9 +11,9 @@ use Rattle.res_ledger.specs.declared.event.What.{What}
 use Rattle.res_ledger.specs.declared.event.What.TheVariants.{Open, Acquire, Lease, Cancel, Close, Final}
 use Rattle.res_ledger.specs.declared.event.Event.{Event}
 use Rattle.res_ledger.specs.Ledger.{Notes}
-use Rattle.res_ledger.specs.Own.{same_name, own, opens, opens_of, rows, rows_of, closes, closes_of, has}
+use Rattle.res_ledger.specs.Own.{same_name, own, opens, opens_of, rows, rows_of, closes, closes_of, leased_of, canceled_of, has}
 use Rattle.res_ledger.specs.Whole.{is_final, is_cancel}
-use Rattle.res_ledger.specs.Judge.{leased_of, canceled_of, is_noted}
+use Rattle.res_ledger.specs.Judge.{is_noted}
 use Rattle.res_ledger.proofs.Tests.{name, named, number, itself, any_at, any_found}
 
 own_found : (e : Event) (L : List Event) (k : StreamNo) (w : What) (b : Bool) → same_name e.by k ≡ b → IsAmong w (cond b (e.what ∷ own k L) (own k L)) → (IsAmong w (own k L) → Notes L k w) → Notes (e ∷ L) k w

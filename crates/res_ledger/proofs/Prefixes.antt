@@ -61,6 +61,33 @@ split_append (p ∷ ps) qs (a ∷ us) vs x e =
     (λ c. inr (c.0, ap (λ l. a ∷ l) c.1 ∙ ap (λ y. y ∷ (ps ++ c.0)) (sym h.0)))
     (split_append ps qs us vs x h.1)
 
+-- an empty list has no element
+pub nothing_is : {A : Type 0} (x : A) (xs : List A) → [] ≡ x ∷ xs → ⊥
+nothing_is x xs e = cc
+
+nothing_splits : {A : Type 0} (us vs : List A) (x : A) → [] ≡ us ++ x ∷ vs → ⊥
+nothing_splits [] vs x e = nothing_is x vs e
+nothing_splits (u ∷ us) vs x e = nothing_is u (us ++ x ∷ vs) e
+
+-- where a list with a last element is split, the front is, or it is split at the last
+pub split_last : {A : Type 0} (ps us vs : List A) (y x : A) → ps ++ y ∷ [] ≡ us ++ x ∷ vs → ((cs : List A) × (ps ≡ us ++ x ∷ cs)) ⊎ ((us ≡ ps) × (x ≡ y))
+split_last [] [] vs y x e = let h = head_is y x [] vs e in inr (refl, sym h.0)
+split_last [] (u ∷ us) vs y x e = let h = head_is y u [] (us ++ x ∷ vs) e in absurd (nothing_splits us vs x h.1)
+split_last (p ∷ ps) [] vs y x e = let h = head_is p x (ps ++ y ∷ []) vs e in inl (ps, ap (λ z. z ∷ ps) h.0)
+split_last (p ∷ ps) (u ∷ us) vs y x e =
+    let h = head_is p u (ps ++ y ∷ []) (us ++ x ∷ vs) e in
+    ⊎_elim
+    (λ c. inl (c.0, ap (λ l. p ∷ l) c.1 ∙ ap (λ z. z ∷ (us ++ x ∷ c.0)) h.0))
+    (λ c. inr (ap (λ l. u ∷ l) c.0 ∙ ap (λ z. z ∷ ps) (sym h.0), c.1))
+    (split_last ps us vs y x h.1)
+
+-- a legal ledger grows by an event that may follow
+pub legal_more : (P : List Event) (e : Event) → IsLegal P → MayFollow P e.by e.what → IsLegal (P ++ e ∷ [])
+legal_more P e l m A B x q = ⊎_elim
+    (λ c. l A c.0 x c.1)
+    (λ c. subst (λ p. MayFollow p x.by x.what) (sym c.0) (subst (λ y. MayFollow P y.by y.what) (sym c.1) m))
+    (split_last P A B e x q)
+
 acquired_in : (r s t : ℕ) → Acquire r s ≡ Acquire r t → s ≡ t
 acquired_in r s t e = cc
 

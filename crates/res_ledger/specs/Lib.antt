@@ -6,4 +6,3 @@ pub mod Order
 pub mod Whole
 pub mod Judge
 pub mod Standing
-pub mod Refute

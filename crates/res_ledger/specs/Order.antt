@@ -1,11 +1,11 @@
 -- In which order a stream notes the ends of its rows.
-use Rattle.std.specs.Prelude.{◌≡◌, ◌↔◌, ℕ, Bool, true, false, nat_eq, ◌&&◌, if◌then◌else◌, List, [], ◌∷◌, ◌++◌, reverse}
+use Rattle.std.specs.Prelude.{◌≡◌, ◌↔◌, ℕ, Bool, true, false, nat_eq, ◌&&◌, if◌then◌else◌, List, [], ◌∷◌, ◌++◌, reverse, flat_map}
 use Rattle.chunk_core.specs.Lists.{all}
 use Rattle.res_ledger.specs.declared.event.StreamNo.{StreamNo}
 use Rattle.res_ledger.specs.declared.event.What.{What}
 use Rattle.res_ledger.specs.declared.event.What.TheVariants.{Open, Acquire, Lease, Cancel, Close, Final}
 use Rattle.res_ledger.specs.declared.event.Event.{Event}
-use Rattle.res_ledger.specs.Own.{own, teardown, leased_rows, has}
+use Rattle.res_ledger.specs.Own.{own, leased_of, teardown, leased_rows, has}
 
 -- xs stands in ys in that order, and what is left out may be
 pub data Picks (may : ℕ → Type 0) : List ℕ → List ℕ → Type 0 where
@@ -43,46 +43,26 @@ pub data IsInBlocks (may : ℕ → Type 0) (due : ℕ → List ℕ) : List What 
   close : (A E : List What) (s : ℕ) (fs : List (ℕ × Bool)) → Picks may (firsts fs) (teardown A s) → IsInBlocks may due (A ++ Close s ∷ finals fs) E → IsInBlocks may due A (Close s ∷ (finals fs ++ E))
   cancel : (A E : List What) (j : ℕ) (fs : List (ℕ × Bool)) → Picks IsAny (firsts fs) (due j) → IsInBlocks may due (A ++ Cancel j ∷ finals fs) E → IsInBlocks may due A (Cancel j ∷ (finals fs ++ E))
 
--- the scope that an event leases for j
-abbrev pub lease_of : What → ℕ → List ℕ
-lease_of (Open s p) j = []
-lease_of (Acquire r s) j = []
-lease_of (Lease i s) j = if nat_eq i j then s ∷ [] else []
-lease_of (Cancel i) j = []
-lease_of (Close s) j = []
-lease_of (Final r ok) j = []
+-- what is drawn from each event and the list of those before it, which begins with P
+abbrev pub gathered : (List Event → Event → List ℕ) → List Event → List Event → List ℕ
+gathered of P [] = []
+gathered of P (e ∷ L) = of P e ++ gathered of (P ++ e ∷ []) L
 
--- the scope that an event leases
-abbrev pub leases_of : What → List ℕ
-leases_of (Open s p) = []
-leases_of (Acquire r s) = []
-leases_of (Lease i s) = s ∷ []
-leases_of (Cancel i) = []
-leases_of (Close s) = []
-leases_of (Final r ok) = []
+-- the rows that the event covers after P, if it is a Lease for j
+abbrev pub covered_for : ℕ → List Event → Event → List ℕ
+covered_for j P e = flat_map (λ l. if nat_eq l.0 j then leased_rows (own e.by P) l.1 else []) (leased_of e.what)
 
--- the rows that a Lease on each of the scopes after E covers
-abbrev pub each_lease : List What → List ℕ → List ℕ
-each_lease E [] = []
-each_lease E (s ∷ ss) = leased_rows E s ++ each_lease E ss
-
--- the rows that the Lease for j in L covers, where P stands before L
-abbrev pub covered_by_from : List Event → List Event → ℕ → List ℕ
-covered_by_from P [] j = []
-covered_by_from P (e ∷ L) j = each_lease (own e.by P) (lease_of e.what j) ++ covered_by_from (P ++ e ∷ []) L j
+-- the rows that the event covers after P, if it is a Lease
+abbrev pub covered_at : List Event → Event → List ℕ
+covered_at P e = flat_map (λ l. leased_rows (own e.by P) l.1) (leased_of e.what)
 
 -- the rows that the Lease for j covers, in the order of acquisition
 abbrev pub covered_by : List Event → ℕ → List ℕ
-covered_by L j = covered_by_from [] L j
-
--- the rows that some Lease in L covers, where P stands before L
-abbrev pub covered_from : List Event → List Event → List ℕ
-covered_from P [] = []
-covered_from P (e ∷ L) = each_lease (own e.by P) (leases_of e.what) ++ covered_from (P ++ e ∷ []) L
+covered_by L j = gathered (covered_for j) [] L
 
 -- the rows that some Lease covers
 abbrev pub covered : List Event → List ℕ
-covered L = covered_from [] L
+covered L = gathered covered_at [] L
 
 -- what k noted stands in blocks: at a Close rows that a Lease covers may wait, and a Cancel is followed by rows of its Lease, latest acquired first
 abbrev pub IsInOrder : List Event → StreamNo → Type 0

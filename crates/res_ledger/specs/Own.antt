@@ -46,6 +46,24 @@ closes_of (Cancel j) = []
 closes_of (Close s) = s ∷ []
 closes_of (Final r ok) = []
 
+-- the stream that an event leases a scope for, with the scope
+abbrev pub leased_of : What → List (ℕ × ℕ)
+leased_of (Open s p) = []
+leased_of (Acquire r s) = []
+leased_of (Lease j s) = (j, s) ∷ []
+leased_of (Cancel j) = []
+leased_of (Close s) = []
+leased_of (Final r ok) = []
+
+-- the stream whose lease an event cancels
+abbrev pub canceled_of : What → List ℕ
+canceled_of (Open s p) = []
+canceled_of (Acquire r s) = []
+canceled_of (Lease j s) = []
+canceled_of (Cancel j) = j ∷ []
+canceled_of (Close s) = []
+canceled_of (Final r ok) = []
+
 -- the scopes that were opened, each with its parent, in order
 abbrev pub opens : List What → List (ℕ × ℕ)
 opens E = flat_map opens_of E
@@ -96,8 +114,7 @@ is_closed E s = any (λ a. has a (closes E)) (above E s)
 
 -- c was opened as a child of s
 abbrev pub is_child : List (ℕ × ℕ) → ℕ → ℕ → Bool
-is_child [] c s = false
-is_child (o ∷ os) c s = if nat_eq o.0 c then nat_eq o.1 s else is_child os c s
+is_child os c s = any (λ o. nat_eq o.0 c && nat_eq o.1 s) os
 
 -- a Lease on s after E covers rows of the scope t: t is s, a child of s or above s, and isn't closed
 abbrev pub reaches : List What → ℕ → ℕ → Bool

@@ -1,7 +1,6 @@
 //! Laws of the definitions, each the contract of a function that does nothing.
-ghost use Rattle.res_ledger.specs.Judge.{CompleteTestIsSound, LegalTestIsSound};
+ghost use Rattle.res_ledger.specs.Judge.{ClosedTestIsExact, CompleteTestIsExact, CoveredByIsExact, CoveredIsExact, LeasedRowsAreExact, LegalTestIsExact};
 ghost use Rattle.res_ledger.specs.Order.{OrderTestIsExact};
-ghost use Rattle.res_ledger.specs.Refute.{IllegalTestIsSound, IncompleteTestIsSound};
 ghost use Rattle.res_ledger.specs.Standing.{StandingGoesForward, StandingIsOne, StandingNeverGoesBack};
 
 /// A row's standing, event by event.
@@ -9,13 +8,23 @@ pub fn standing_goes_forward()
     ensures forward { StandingGoesForward }
     ensures never_back { StandingNeverGoesBack }
     ensures one { StandingIsOne }
-{}
+{
+}
+
+/// Whether a scope is closed and what a lease covers, by the lists that the order of a ledger is
+/// told by, is what the rules say of it.
+pub fn lists_are_exact()
+    ensures closed { ClosedTestIsExact }
+    ensures leased_rows { LeasedRowsAreExact }
+    ensures covered_by { CoveredByIsExact }
+    ensures covered { CoveredIsExact }
+{
+}
 
 /// The tests of a ledger that is written out.
-pub fn tests_are_right()
+pub fn tests_are_exact()
     ensures ordered { OrderTestIsExact }
-    ensures legal { LegalTestIsSound }
-    ensures complete { CompleteTestIsSound }
-    ensures illegal { IllegalTestIsSound }
-    ensures incomplete { IncompleteTestIsSound }
-{}
+    ensures legal { LegalTestIsExact }
+    ensures complete { CompleteTestIsExact }
+{
+}
