@@ -68,13 +68,13 @@ leased_found P j o = noted_at (λ w. any (is_of j) (leased_of w)) P o.0 (Lease j
 canceled_in : (P : List Event) (j : ℕ) → is_noted (is_cancel j) P ≡ true → IsCanceled P j
 canceled_in P j h = let f = noted_found (is_cancel j) P h in (f.0, (f.2.0, f.2.1, f.2.2, f.2.3 ∙ is_cancel_shape j f.1 f.3))
 
-canceled_found : (P : List Event) (j : ℕ) → IsCanceled P j → is_noted (is_cancel j) P ≡ true
+pub canceled_found : (P : List Event) (j : ℕ) → IsCanceled P j → is_noted (is_cancel j) P ≡ true
 canceled_found P j c = noted_at (is_cancel j) P c.0 (Cancel j) c.1 (itself j)
 
-final_in : (P : List Event) (r : ℕ) → is_noted (is_final r) P ≡ true → IsFinalized P r
+pub final_in : (P : List Event) (r : ℕ) → is_noted (is_final r) P ≡ true → IsFinalized P r
 final_in P r h = let f = noted_found (is_final r) P h in let g = is_final_shape r f.1 f.3 in (f.0, g.0, (f.2.0, f.2.1, f.2.2, f.2.3 ∙ g.1))
 
-final_found : (P : List Event) (r : ℕ) → IsFinalized P r → is_noted (is_final r) P ≡ true
+pub final_found : (P : List Event) (r : ℕ) → IsFinalized P r → is_noted (is_final r) P ≡ true
 final_found P r f = noted_at (is_final r) P f.0 (Final r f.1) f.2 (itself r)
 
 usable_sound : (P : List Event) → IsLegal P → (k : StreamNo) (s : ℕ) → is_usable (own k P) s ≡ true → IsUsable P k s
@@ -89,7 +89,7 @@ known P k s (inr o) = or_right (nat_eq s 0) (any (is_of s) (opens (own k P))) (o
 usable_found : (P : List Event) (k : StreamNo) (s : ℕ) → IsUsable P k s → is_usable (own k P) s ≡ true
 usable_found P k s u = and_true (nat_eq s 0 || any (is_of s) (opens (own k P))) (not (is_closed (own k P) s)) (known P k s u.0) (fails (is_closed (own k P) s) (λ h. u.1 (closed_sound P k s h)))
 
-row_closed_sound : (P : List Event) (r : ℕ) → is_row_closed P r ≡ true → IsRowClosed P r
+pub row_closed_sound : (P : List Event) (r : ℕ) → is_row_closed P r ≡ true → IsRowClosed P r
 row_closed_sound P r h =
     let f = any_found (λ e. any (λ x. nat_eq x.0 r && is_closed (own e.by P) x.1) (rows_of e.what)) P h in
     let e = f.0 in
@@ -97,7 +97,7 @@ row_closed_sound P r h =
     let b = both (nat_eq x.0.0 r) (is_closed (own e.by P) x.0.1) x.2 in
     (e.by, x.0.1, (e, f.1, refl, rows_shape e.what x.0 x.1 ∙ ap (λ y. Acquire y x.0.1) (number x.0.0 r b.0)), closed_sound P e.by x.0.1 b.1)
 
-row_closed_found : (P : List Event) → IsLegal P → (r : ℕ) → IsRowClosed P r → is_row_closed P r ≡ true
+pub row_closed_found : (P : List Event) → IsLegal P → (r : ℕ) → IsRowClosed P r → is_row_closed P r ≡ true
 row_closed_found P l r c =
     let k = c.0 in let s = c.1 in let n = c.2 in
     let q : ℕ × ℕ = (r, s) in
@@ -108,7 +108,7 @@ row_closed_found P l r c =
     any_at (λ e. any (λ x. nat_eq x.0 r && is_closed (own e.by P) x.1) (rows_of e.what)) n.0 P n.1 u
 
 -- each lease that covers a released row was canceled
-released_sound : (L : List Event) → IsLegal L → (P : List Event) (r : ℕ) → is_released L P r ≡ true → (j : ℕ) (k : StreamNo) → Covers L j k r → IsCanceled P j
+pub released_sound : (L : List Event) → IsLegal L → (P : List Event) (r : ℕ) → is_released L P r ≡ true → (j : ℕ) (k : StreamNo) → Covers L j k r → IsCanceled P j
 released_sound L l P r h j k c =
     let A = c.0 in let e = c.2 in let s = c.3 in
     let q : ℕ × ℕ = (j, s) in

@@ -11,3 +11,4 @@ pub mod Leases
 pub mod Judged
 pub mod Stamps
 pub mod Forward
+pub mod Standings

@@ -1,10 +1,12 @@
 -- Where an acquired row stands.
-use Rattle.std.specs.Prelude.{◌≡◌, ◌≢◌, ◌⊎◌, ℕ, ◌≤◌, List, [], ◌∷◌, ◌++◌}
+use Rattle.std.specs.Prelude.{◌≡◌, ◌≢◌, ◌⊎◌, ℕ, ◌≤◌, if◌then◌else◌, List, [], ◌∷◌, ◌++◌}
 use Rattle.res_ledger.specs.declared.event.StreamNo.{StreamNo}
 use Rattle.res_ledger.specs.declared.event.What.{What}
 use Rattle.res_ledger.specs.declared.event.What.TheVariants as what
 use Rattle.res_ledger.specs.declared.event.Event.{Event}
 use Rattle.res_ledger.specs.Ledger.{Notes, LiesWithin, IsAcquired, IsFinalized, IsRowClosed, IsCanceled, Covers, IsLegal}
+use Rattle.res_ledger.specs.Whole.{is_final}
+use Rattle.res_ledger.specs.Judge.{is_noted, is_row_closed, is_released}
 
 -- the four standings, in their order
 pub data Standing : Type 0 where
@@ -31,6 +33,10 @@ Stands L r Finalized = IsFinalized L r
 abbrev pub HasStanding : List Event → ℕ → Standing → Type 0
 HasStanding L r s = IsAcquired L r × Stands L r s
 
+-- the standing of a row, by tests
+abbrev pub standing_of : List Event → ℕ → Standing
+standing_of L r = if is_noted (is_final r) L then Finalized else (if is_row_closed L r then (if is_released L L r then Handed else Awaiting) else Open)
+
 -- one event takes a row that stands at s to t: only forward, and awaiting alone may be left out
 abbrev pub IsNext : Standing → Standing → Type 0
 IsNext Open t = t ≢ Finalized
@@ -49,6 +55,10 @@ StandingNeverGoesBack = (P Q : List Event) (r : ℕ) (s t : Standing) → IsLega
 -- a row has one standing
 abbrev pub StandingIsOne : Type 0
 StandingIsOne = (L : List Event) (r : ℕ) (s t : Standing) → HasStanding L r s → HasStanding L r t → s ≡ t
+
+-- in a legal ledger each acquired row has the standing that the tests tell
+abbrev pub StandingIsExact : Type 0
+StandingIsExact = (L : List Event) → IsLegal L → (r : ℕ) → IsAcquired L r → HasStanding L r (standing_of L r)
 
 -- the event behind P is the first Close by k of s or of a scope above s
 pub record IsCoveringClose (L : List Event) (k : StreamNo) (s : ℕ) (P : List Event) : Type 0 where

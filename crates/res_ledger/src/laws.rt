@@ -1,13 +1,14 @@
 //! Laws of the definitions, each the contract of a function that does nothing.
 ghost use Rattle.res_ledger.specs.Judge.{ClosedTestIsExact, CompleteTestIsExact, CoveredByIsExact, CoveredIsExact, LeasedRowsAreExact, LegalTestIsExact};
 ghost use Rattle.res_ledger.specs.Order.{OrderTestIsExact};
-ghost use Rattle.res_ledger.specs.Standing.{StandingGoesForward, StandingIsOne, StandingNeverGoesBack};
+ghost use Rattle.res_ledger.specs.Standing.{StandingGoesForward, StandingIsExact, StandingIsOne, StandingNeverGoesBack};
 
 /// A row's standing, event by event.
 pub fn standing_goes_forward()
     ensures forward { StandingGoesForward }
     ensures never_back { StandingNeverGoesBack }
     ensures one { StandingIsOne }
+    ensures exact { StandingIsExact }
 {
 }
 

@@ -1,5 +1,6 @@
 use Rattle.res_ledger.proofs.Forward.{goes_forward, never_goes_back, standing_is_one}
+use Rattle.res_ledger.proofs.Standings.{standing_is_exact}
 use Rattle.res_ledger.proofs.laws.standing_goes_forward.Goals as goal
 
 pub returns : goal.returns
-returns c = record { forward = goes_forward; never_back = never_goes_back; one = standing_is_one }
+returns c = record { forward = goes_forward; never_back = never_goes_back; one = standing_is_one; exact = standing_is_exact }
