@@ -1,15 +1,14 @@
 -- A row's standing only goes forward.
-use Rattle.std.proofs.Common.{◌≡◌, ◌≢◌, ℕ, ◌≤◌, List, [], ◌∷◌, ◌++◌, ◌⊎◌, inl, inr, refl, sym, ap, ◌∙◌, subst, ⊎_elim, arith}
+use Rattle.std.proofs.Common.{ℕ, List, [], ◌∷◌, ◌++◌, inl, inr, refl, sym, ap, ◌∙◌, subst, ⊎_elim, arith}
 use Rattle.chunk_core.specs.Lists.{IsAmong}
 use Rattle.chunk_core.proofs.Members.{among_left, among_snoc}
 use Rattle.res_ledger.specs.declared.event.StreamNo.{StreamNo}
-use Rattle.res_ledger.specs.declared.event.What.{What}
 use Rattle.res_ledger.specs.declared.event.What.TheVariants as what
 use Rattle.res_ledger.specs.declared.event.Event.{Event}
-use Rattle.res_ledger.specs.Ledger.{Notes, IsClosed, IsAcquired, IsFinalized, IsRowClosed, IsCanceled, IsHanded, Covers, IsLegal, MayFollow}
-use Rattle.res_ledger.specs.Standing.{Standing, rank, Stands, HasStanding, IsNext, StandingGoesForward, StandingNeverGoesBack, StandingIsOne}
+use Rattle.res_ledger.specs.Ledger.{Notes, IsClosed, IsFinalized, IsRowClosed, IsCanceled, IsHanded, Covers, IsLegal, MayFollow}
+use Rattle.res_ledger.specs.Standing.{StandingGoesForward, StandingNeverGoesBack, StandingIsOne}
 use Rattle.res_ledger.specs.Standing.Standing.{Open, Awaiting, Handed, Finalized}
-use Rattle.res_ledger.proofs.Prefixes.{front_notes, front_closed, front_row_closed, front_finalized, front_canceled, front_legal, split_append, acquired_once}
+use Rattle.res_ledger.proofs.Prefixes.{front_notes, front_closed, front_row_closed, front_finalized, front_canceled, split_append, acquired_once}
 
 -- a lease that covers a row covers it from its note on
 covers_before : (P Q : List Event) (r j : ℕ) (k : StreamNo) → IsLegal (P ++ Q) → IsRowClosed P r → Covers (P ++ Q) j k r → Covers P j k r

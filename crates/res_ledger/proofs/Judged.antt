@@ -1,16 +1,15 @@
 -- The tests of the rules are exact.
-use Rattle.std.proofs.Common.{◌≡◌, ◌≢◌, ℕ, Bool, true, false, cond, ◌&&◌, ◌||◌, not, nat_eq, List, [], ◌∷◌, ◌++◌, ◌⊎◌, inl, inr, refl, sym, ap, ◌∙◌, subst, ⊎_elim, append_assoc, append-nil}
+use Rattle.std.proofs.Common.{◌≡◌, ◌≢◌, ℕ, Bool, true, false, ◌&&◌, ◌||◌, not, nat_eq, List, [], ◌∷◌, ◌++◌, ◌⊎◌, inl, inr, refl, sym, ap, ◌∙◌, subst, ⊎_elim, append_assoc, append-nil}
 use Rattle.std.specs.List.{flat_map}
-use Rattle.std.proofs.lemmas.Bool.{false≢true}
 use Rattle.chunk_core.specs.Lists.{IsAmong, any, all}
-use Rattle.chunk_core.specs.Lists.IsAmong.{here, there}
+use Rattle.chunk_core.specs.Lists.IsAmong.{here}
 use Rattle.chunk_core.proofs.Members.{among_mid}
 use Rattle.res_ledger.specs.declared.event.StreamNo.{StreamNo}
-use Rattle.res_ledger.specs.declared.event.StreamNo.TheVariants.{Outer, Inner}
+use Rattle.res_ledger.specs.declared.event.StreamNo.TheVariants.{Inner}
 use Rattle.res_ledger.specs.declared.event.What.{What}
 use Rattle.res_ledger.specs.declared.event.What.TheVariants.{Open, Acquire, Lease, Cancel, Close, Final}
 use Rattle.res_ledger.specs.declared.event.Event.{Event}
-use Rattle.res_ledger.specs.Ledger.{Notes, IsClosed, IsOpened, IsUsable, IsAcquired, IsFinalized, IsLeased, IsCanceled, Covers, IsRowClosed, IsHanded, MayFollow, IsLegal}
+use Rattle.res_ledger.specs.Ledger.{Notes, IsOpened, IsUsable, IsAcquired, IsFinalized, IsLeased, IsCanceled, Covers, IsRowClosed, IsHanded, MayFollow, IsLegal}
 use Rattle.res_ledger.specs.Own.{same_name, own, opens, rows, rows_of, leased_of, canceled_of, has, is_closed}
 use Rattle.res_ledger.specs.Order.{covered_by}
 use Rattle.res_ledger.specs.Whole.{is_final, is_cancel, final_count, cancel_count, IsComplete}
@@ -102,9 +101,9 @@ row_closed_found P l r c =
     let k = c.0 in let s = c.1 in let n = c.2 in
     let q : ℕ × ℕ = (r, s) in
     let t : any (λ x. nat_eq x.0 r && is_closed (own k P) x.1) (q ∷ []) ≡ true =
-      or_left (nat_eq r r && is_closed (own k P) s) false (and_true (nat_eq r r) (is_closed (own k P) s) (itself r) (closed_found P l k s c.3)) in
+    or_left (nat_eq r r && is_closed (own k P) s) false (and_true (nat_eq r r) (is_closed (own k P) s) (itself r) (closed_found P l k s c.3)) in
     let u : any (λ x. nat_eq x.0 r && is_closed (own n.0.by P) x.1) (rows_of n.0.what) ≡ true =
-      subst (λ j. any (λ x. nat_eq x.0 r && is_closed (own j P) x.1) (rows_of n.0.what) ≡ true) (sym n.2) (subst (λ w. any (λ x. nat_eq x.0 r && is_closed (own k P) x.1) (rows_of w) ≡ true) (sym n.3) t) in
+    subst (λ j. any (λ x. nat_eq x.0 r && is_closed (own j P) x.1) (rows_of n.0.what) ≡ true) (sym n.2) (subst (λ w. any (λ x. nat_eq x.0 r && is_closed (own k P) x.1) (rows_of w) ≡ true) (sym n.3) t) in
     any_at (λ e. any (λ x. nat_eq x.0 r && is_closed (own e.by P) x.1) (rows_of e.what)) n.0 P n.1 u
 
 -- each lease that covers a released row was canceled

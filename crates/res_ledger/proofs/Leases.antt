@@ -1,13 +1,10 @@
 -- The rows that a lease covers, in a legal ledger.
-use Rattle.std.proofs.Common.{◌≡◌, ◌≢◌, ℕ, Bool, true, false, cond, ◌&&◌, ◌||◌, not, nat_eq, List, [], ◌∷◌, ◌++◌, ◌⊎◌, inl, inr, refl, sym, ap, ◌∙◌, subst, ⊎_elim, append_assoc, append-nil}
-use Rattle.std.specs.List.{flat_map}
-use Rattle.std.proofs.lemmas.Bool.{false≢true}
-use Rattle.chunk_core.specs.Lists.{IsAmong, any}
+use Rattle.std.proofs.Common.{◌≡◌, ℕ, Bool, true, false, cond, ◌&&◌, ◌||◌, not, nat_eq, List, [], ◌∷◌, ◌++◌, ◌⊎◌, inl, inr, refl, sym, ap, ◌∙◌, subst, ⊎_elim, append_assoc, append-nil}
+use Rattle.chunk_core.specs.Lists.{IsAmong}
 use Rattle.chunk_core.specs.Lists.IsAmong.{here, there}
 use Rattle.chunk_core.proofs.Members.{among_cons, among_nil, among_left}
 use Rattle.res_ledger.specs.declared.event.StreamNo.{StreamNo}
-use Rattle.res_ledger.specs.declared.event.What.{What}
-use Rattle.res_ledger.specs.declared.event.What.TheVariants.{Open, Acquire, Lease}
+use Rattle.res_ledger.specs.declared.event.What.TheVariants.{Open, Lease}
 use Rattle.res_ledger.specs.declared.event.Event.{Event}
 use Rattle.res_ledger.specs.Ledger.{Notes, LiesWithin, IsClosed, IsCoveredBy, Covers, IsLegal}
 use Rattle.res_ledger.specs.Own.{own, opens, rows, leased_of, has, above, is_closed, is_child, reaches, picked, leased_rows}
@@ -33,10 +30,10 @@ picked_holds : (f : ℕ → Bool) (xs : List (ℕ × ℕ)) (r t : ℕ) → IsAmo
 picked_holds f [] r t m h = absurd (among_nil m)
 picked_holds f (x ∷ xs) r t m h = ⊎_elim
     (λ e.
-      let r_is : r ≡ x.0 = ap (λ (y : ℕ × ℕ). y.0) e in
-      let t_is : t ≡ x.1 = ap (λ (y : ℕ × ℕ). y.1) e in
-      let here_is : f x.1 ≡ true = subst (λ y. f y ≡ true) t_is h in
-      subst (λ b. IsAmong r (cond b (x.0 ∷ picked f xs) (picked f xs))) (sym here_is) (subst (λ y. IsAmong y (x.0 ∷ picked f xs)) (sym r_is) (here (picked f xs))))
+    let r_is : r ≡ x.0 = ap (λ (y : ℕ × ℕ). y.0) e in
+    let t_is : t ≡ x.1 = ap (λ (y : ℕ × ℕ). y.1) e in
+    let here_is : f x.1 ≡ true = subst (λ y. f y ≡ true) t_is h in
+    subst (λ b. IsAmong r (cond b (x.0 ∷ picked f xs) (picked f xs))) (sym here_is) (subst (λ y. IsAmong y (x.0 ∷ picked f xs)) (sym r_is) (here (picked f xs))))
     (λ n. picked_more f x xs r (f x.1) (picked_holds f xs r t n h))
     (among_cons m)
 

@@ -12,3 +12,4 @@ pub mod Judged
 pub mod Stamps
 pub mod Forward
 pub mod Standings
+pub mod Closing

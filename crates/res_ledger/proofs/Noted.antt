@@ -1,12 +1,11 @@
 -- Between a ledger and what one stream noted in it.
-use Rattle.std.proofs.Common.{◌≡◌, ℕ, Bool, true, false, cond, ◌&&◌, ◌||◌, not, nat_eq, List, [], ◌∷◌, ◌++◌, ◌⊎◌, inl, inr, refl, sym, ap, ◌∙◌, subst, ⊎_elim}
+use Rattle.std.proofs.Common.{◌≡◌, ℕ, Bool, true, false, cond, nat_eq, List, [], ◌∷◌, ◌++◌, ◌⊎◌, inl, inr, refl, sym, ap, ◌∙◌, subst, ⊎_elim}
 use Rattle.std.specs.List.{flat_map}
 use Rattle.std.proofs.lemmas.Bool.{false≢true}
-use Rattle.chunk_core.specs.Lists.{IsAmong, any, all}
+use Rattle.chunk_core.specs.Lists.{IsAmong}
 use Rattle.chunk_core.specs.Lists.IsAmong.{here, there}
 use Rattle.chunk_core.proofs.Members.{among_cons, among_nil, among_left}
 use Rattle.res_ledger.specs.declared.event.StreamNo.{StreamNo}
-use Rattle.res_ledger.specs.declared.event.StreamNo.TheVariants.{Outer, Inner}
 use Rattle.res_ledger.specs.declared.event.What.{What}
 use Rattle.res_ledger.specs.declared.event.What.TheVariants.{Open, Acquire, Lease, Cancel, Close, Final}
 use Rattle.res_ledger.specs.declared.event.Event.{Event}

@@ -1,5 +1,5 @@
 -- The test of the order is sound and complete.
-use Rattle.std.proofs.Common.{◌≡◌, ◌≢◌, ℕ, Bool, true, false, cond, ◌&&◌, eqb, List, [], ◌∷◌, ◌++◌, reverse, ◌⊎◌, inl, inr, refl, sym, ap, ◌∙◌, subst, ⊎_elim, append_assoc, append-nil, ne_eqb, eq-eqb}
+use Rattle.std.proofs.Common.{◌≡◌, ◌≢◌, ℕ, Bool, true, false, cond, ◌&&◌, List, [], ◌∷◌, ◌++◌, reverse, ◌⊎◌, inl, inr, refl, sym, ap, ◌∙◌, subst, ⊎_elim, append_assoc, append-nil, ne_eqb, eq-eqb}
 use Rattle.std.proofs.lemmas.Bool.{cases_eq, false≢true}
 use Rattle.chunk_core.specs.Lists.{IsAmong, all}
 use Rattle.chunk_core.specs.Lists.IsAmong.{here, there}
@@ -8,7 +8,7 @@ use Rattle.res_ledger.specs.declared.event.What.{What}
 use Rattle.res_ledger.specs.declared.event.What.TheVariants.{Open, Acquire, Lease, Cancel, Close, Final}
 use Rattle.res_ledger.specs.declared.event.Event.{Event}
 use Rattle.res_ledger.specs.Own.{own, teardown, has, same_name}
-use Rattle.res_ledger.specs.Order.{Picks, IsInBlocks, finals, firsts, is_plain, IsAny, covered, covered_by, passes_after, any_row, is_in_blocks, is_in_order, is_ordered, IsInOrder, IsOrdered}
+use Rattle.res_ledger.specs.Order.{Picks, IsInBlocks, finals, firsts, is_plain, covered, covered_by, passes_after, any_row, is_in_blocks, is_in_order, is_ordered, IsInOrder, IsOrdered}
 use Rattle.res_ledger.specs.Order.Picks.{none as nothing, pick, pass}
 use Rattle.res_ledger.specs.Order.IsInBlocks.{none, plain, close, cancel}
 use Rattle.res_ledger.proofs.Blocks.{picks_map}

@@ -1,13 +1,13 @@
 -- What holds of a ledger where it holds of a front of it.
-use Rattle.std.proofs.Common.{◌≡◌, ◌≢◌, ℕ, Bool, List, [], ◌∷◌, ◌++◌, ◌⊎◌, inl, inr, refl, sym, ap, ◌∙◌, subst, ⊎_elim, append_assoc, append-nil}
+use Rattle.std.proofs.Common.{◌≡◌, ℕ, List, [], ◌∷◌, ◌++◌, ◌⊎◌, inl, inr, refl, sym, ap, ◌∙◌, subst, ⊎_elim, append_assoc}
 use Rattle.chunk_core.specs.Lists.{IsAmong}
 use Rattle.chunk_core.specs.Lists.IsAmong.{here, there}
-use Rattle.chunk_core.proofs.Members.{among_cons, among_nil, among_left, among_mid, among_snoc}
+use Rattle.chunk_core.proofs.Members.{among_cons, among_left}
 use Rattle.res_ledger.specs.declared.event.StreamNo.{StreamNo}
 use Rattle.res_ledger.specs.declared.event.What.{What}
-use Rattle.res_ledger.specs.declared.event.What.TheVariants.{Open, Acquire, Lease, Cancel, Close, Final}
+use Rattle.res_ledger.specs.declared.event.What.TheVariants.{Acquire}
 use Rattle.res_ledger.specs.declared.event.Event.{Event}
-use Rattle.res_ledger.specs.Ledger.{Notes, LiesWithin, IsClosed, IsAcquired, IsFinalized, IsCanceled, Covers, IsRowClosed, IsLegal, MayFollow}
+use Rattle.res_ledger.specs.Ledger.{Notes, LiesWithin, IsClosed, IsAcquired, IsFinalized, IsCanceled, IsRowClosed, IsLegal, MayFollow}
 use Rattle.res_ledger.specs.Ledger.LiesWithin.{same, below}
 
 pub front_notes : {P : List Event} {k : StreamNo} {w : What} (Q : List Event) → Notes P k w → Notes (P ++ Q) k w

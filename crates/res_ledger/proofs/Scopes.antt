@@ -1,15 +1,14 @@
 -- The scopes of a stream, and which are closed, in a legal ledger.
-use Rattle.std.proofs.Common.{◌≡◌, ◌≢◌, ℕ, Bool, true, false, cond, ◌&&◌, ◌||◌, not, nat_eq, List, [], ◌∷◌, ◌++◌, ◌⊎◌, inl, inr, refl, sym, ap, ◌∙◌, subst, ⊎_elim, append_assoc, append-nil, ne_eqb}
-use Rattle.std.specs.List.{flat_map}
+use Rattle.std.proofs.Common.{◌≡◌, ◌≢◌, ℕ, Bool, true, false, cond, nat_eq, List, [], ◌∷◌, ◌++◌, ◌⊎◌, inl, inr, refl, sym, ap, ◌∙◌, subst, ⊎_elim, append_assoc, append-nil, ne_eqb}
 use Rattle.std.proofs.lemmas.Grind.{flat_map-append}
-use Rattle.chunk_core.specs.Lists.{IsAmong, any}
+use Rattle.chunk_core.specs.Lists.{IsAmong}
 use Rattle.chunk_core.specs.Lists.IsAmong.{here, there}
 use Rattle.chunk_core.proofs.Members.{among_cons, among_nil, among_left, among_last, among_snoc}
 use Rattle.res_ledger.specs.declared.event.StreamNo.{StreamNo}
 use Rattle.res_ledger.specs.declared.event.What.{What}
 use Rattle.res_ledger.specs.declared.event.What.TheVariants.{Open, Acquire, Lease, Cancel, Close, Final}
 use Rattle.res_ledger.specs.declared.event.Event.{Event}
-use Rattle.res_ledger.specs.Ledger.{Notes, LiesWithin, IsClosed, IsOpened, MayFollow, IsLegal}
+use Rattle.res_ledger.specs.Ledger.{Notes, LiesWithin, IsClosed, MayFollow, IsLegal}
 use Rattle.res_ledger.specs.Ledger.LiesWithin.{same, below}
 use Rattle.res_ledger.specs.Own.{same_name, own, opens, opens_of, closes, has, up, turned, above, is_closed}
 use Rattle.res_ledger.proofs.Tests.{number, itself, name, any_at, any_found}
@@ -78,15 +77,15 @@ up_step : (os : List (ℕ × ℕ)) → IsTree os → (s p a : ℕ) → IsAmong (
 up_step [] t s p a m h = absurd (among_nil m)
 up_step (o ∷ os) t s p a m h = ⊎_elim
     (λ e.
-      let s_is : s ≡ o.0 = ap (λ (x : ℕ × ℕ). x.0) e in
-      let p_is : p ≡ o.1 = ap (λ (x : ℕ × ℕ). x.1) e in
-      let p_not : p ≢ o.0 = λ q. not_new o os t o.1 t.3 (sym p_is ∙ q) in
-      let h' : IsAmong a (up os p) = subst (λ l. IsAmong a l) (up_other o os p p_not) h in
-      subst (λ x. IsAmong a (up (o ∷ os) x)) (sym s_is) (subst (λ l. IsAmong a l) (sym (up_here o os)) (there o.0 (subst (λ x. IsAmong a (up os x)) p_is h'))))
+    let s_is : s ≡ o.0 = ap (λ (x : ℕ × ℕ). x.0) e in
+    let p_is : p ≡ o.1 = ap (λ (x : ℕ × ℕ). x.1) e in
+    let p_not : p ≢ o.0 = λ q. not_new o os t o.1 t.3 (sym p_is ∙ q) in
+    let h' : IsAmong a (up os p) = subst (λ l. IsAmong a l) (up_other o os p p_not) h in
+    subst (λ x. IsAmong a (up (o ∷ os) x)) (sym s_is) (subst (λ l. IsAmong a l) (sym (up_here o os)) (there o.0 (subst (λ x. IsAmong a (up os x)) p_is h'))))
     (λ n.
-      let p_not : p ≢ o.0 = not_new o os t p (parent_known os t.0 s p n) in
-      let s_not : s ≢ o.0 = not_new o os t s (inr (p, n)) in
-      subst (λ l. IsAmong a l) (sym (up_other o os s s_not)) (up_step os t.0 s p a n (subst (λ l. IsAmong a l) (up_other o os p p_not) h)))
+    let p_not : p ≢ o.0 = not_new o os t p (parent_known os t.0 s p n) in
+    let s_not : s ≢ o.0 = not_new o os t s (inr (p, n)) in
+    subst (λ l. IsAmong a l) (sym (up_other o os s s_not)) (up_step os t.0 s p a n (subst (λ l. IsAmong a l) (up_other o os p p_not) h)))
     (among_cons m)
 
 within_up : (P : List Event) (k : StreamNo) (os : List (ℕ × ℕ)) → IsTree os → ((s p : ℕ) → Notes P k (Open s p) → IsAmong (s, p) os) → {s a : ℕ} → LiesWithin P k s a → IsAmong a (up os s)

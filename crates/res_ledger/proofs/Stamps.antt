@@ -1,5 +1,5 @@
 -- A ledger that is written out has its stamps.
-use Rattle.std.proofs.Common.{◌≡◌, ℕ, nat_eq, true, List, [], ◌∷◌, ◌++◌, length, sym, ◌∙◌}
+use Rattle.std.proofs.Common.{◌≡◌, nat_eq, true, List, [], length, sym, ◌∙◌}
 use Rattle.res_ledger.specs.declared.event.Event.{Event}
 use Rattle.res_ledger.specs.Ledger.{IsStamped}
 use Rattle.res_ledger.specs.Judge.{each_after}

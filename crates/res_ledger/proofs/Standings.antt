@@ -10,7 +10,7 @@ use Rattle.res_ledger.specs.Own.{leased_of, has}
 use Rattle.res_ledger.specs.Order.{covered_by}
 use Rattle.res_ledger.specs.Whole.{is_final, is_cancel}
 use Rattle.res_ledger.specs.Judge.{is_noted, is_row_closed, is_released}
-use Rattle.res_ledger.specs.Standing.{Standing, Stands, StandingIsExact}
+use Rattle.res_ledger.specs.Standing.{Stands, StandingIsExact}
 use Rattle.res_ledger.specs.Standing.Standing.{Open, Awaiting, Handed, Finalized}
 use Rattle.res_ledger.proofs.Noted.{has_in}
 use Rattle.res_ledger.proofs.Judged.{canceled_found, final_in, final_found, row_closed_sound, row_closed_found, released_sound}

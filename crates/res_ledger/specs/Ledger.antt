@@ -1,8 +1,8 @@
 -- A ledger is a list of events. Each definition speaks of positions in that list.
-use Rattle.std.specs.Prelude.{◌≡◌, ◌≢◌, ℕ, ◌+◌, ◌<◌, ◌≤◌, ◌⊎◌, Bool, true, false, List, [], ◌∷◌, ◌++◌, length}
+use Rattle.std.specs.Prelude.{◌≡◌, ◌≢◌, ℕ, ◌⊎◌, Bool, List, ◌∷◌, ◌++◌, length}
 use Rattle.chunk_core.specs.Lists.{IsAmong}
 use Rattle.res_ledger.specs.declared.event.StreamNo.{StreamNo}
-use Rattle.res_ledger.specs.declared.event.StreamNo.TheVariants.{Outer, Inner}
+use Rattle.res_ledger.specs.declared.event.StreamNo.TheVariants.{Inner}
 use Rattle.res_ledger.specs.declared.event.What.{What}
 use Rattle.res_ledger.specs.declared.event.What.TheVariants.{Open, Acquire, Lease, Cancel, Close, Final}
 use Rattle.res_ledger.specs.declared.event.Event.{Event}
@@ -20,6 +20,7 @@ pub data LiesWithin (L : List Event) (k : StreamNo) : ℕ → ℕ → Type 0 whe
 abbrev pub IsClosed : List Event → StreamNo → ℕ → Type 0
 IsClosed L k s = (a : ℕ) × LiesWithin L k s a × Notes L k (Close a)
 
+-- k opened the scope s
 abbrev pub IsOpened : List Event → StreamNo → ℕ → Type 0
 IsOpened L k s = (p : ℕ) × Notes L k (Open s p)
 
@@ -27,15 +28,19 @@ IsOpened L k s = (p : ℕ) × Notes L k (Open s p)
 abbrev pub IsUsable : List Event → StreamNo → ℕ → Type 0
 IsUsable L k s = ((s ≡ 0) ⊎ IsOpened L k s) × ¬ (IsClosed L k s)
 
+-- the row r was acquired
 abbrev pub IsAcquired : List Event → ℕ → Type 0
 IsAcquired L r = (k : StreamNo) × (s : ℕ) × Notes L k (Acquire r s)
 
+-- the row r has a Final
 abbrev pub IsFinalized : List Event → ℕ → Type 0
 IsFinalized L r = (k : StreamNo) × (ok : Bool) × Notes L k (Final r ok)
 
+-- there is a lease for the stream j
 abbrev pub IsLeased : List Event → ℕ → Type 0
 IsLeased L j = (k : StreamNo) × (s : ℕ) × Notes L k (Lease j s)
 
+-- the lease for the stream j has a Cancel
 abbrev pub IsCanceled : List Event → ℕ → Type 0
 IsCanceled L j = (k : StreamNo) × Notes L k (Cancel j)
 
@@ -64,6 +69,7 @@ MayFollow P k (Cancel j) = IsLeased P j × ¬ (IsCanceled P j) × (((k ≡ Inner
 MayFollow P k (Close s) = IsUsable P k s
 MayFollow P k (Final r ok) = IsHanded P r × (((s : ℕ) × Notes P k (Acquire r s)) ⊎ ((j : ℕ) × (q : StreamNo) × Covers P j q r × Notes P k (Cancel j)))
 
+-- each event meets its condition on the events before it
 abbrev pub IsLegal : List Event → Type 0
 IsLegal L = (P Q : List Event) (e : Event) → L ≡ P ++ e ∷ Q → MayFollow P e.by e.what
 

@@ -6,3 +6,4 @@ pub mod Order
 pub mod Whole
 pub mod Judge
 pub mod Standing
+pub mod Closing

@@ -1,10 +1,8 @@
 -- Where an acquired row stands.
 use Rattle.std.specs.Prelude.{◌≡◌, ◌≢◌, ◌⊎◌, ℕ, ◌≤◌, if◌then◌else◌, List, [], ◌∷◌, ◌++◌}
 use Rattle.res_ledger.specs.declared.event.StreamNo.{StreamNo}
-use Rattle.res_ledger.specs.declared.event.What.{What}
-use Rattle.res_ledger.specs.declared.event.What.TheVariants as what
 use Rattle.res_ledger.specs.declared.event.Event.{Event}
-use Rattle.res_ledger.specs.Ledger.{Notes, LiesWithin, IsAcquired, IsFinalized, IsRowClosed, IsCanceled, Covers, IsLegal}
+use Rattle.res_ledger.specs.Ledger.{IsAcquired, IsFinalized, IsRowClosed, IsCanceled, Covers, IsLegal}
 use Rattle.res_ledger.specs.Whole.{is_final}
 use Rattle.res_ledger.specs.Judge.{is_noted, is_row_closed, is_released}
 
@@ -59,14 +57,3 @@ StandingIsOne = (L : List Event) (r : ℕ) (s t : Standing) → HasStanding L r 
 -- in a legal ledger each acquired row has the standing that the tests tell
 abbrev pub StandingIsExact : Type 0
 StandingIsExact = (L : List Event) → IsLegal L → (r : ℕ) → IsAcquired L r → HasStanding L r (standing_of L r)
-
--- the event behind P is the first Close by k of s or of a scope above s
-pub record IsCoveringClose (L : List Event) (k : StreamNo) (s : ℕ) (P : List Event) : Type 0 where
-  pub rest : List Event
-  pub event : Event
-  pub scope : ℕ
-  pub stands : L ≡ P ++ event ∷ rest
-  pub by : event.by ≡ k
-  pub closes : event.what ≡ what.Close scope
-  pub above : LiesWithin L k s scope
-  pub first : (a : ℕ) → LiesWithin L k s a → ¬ (Notes P k (what.Close a))

@@ -1,4 +1,5 @@
 //! Laws of the definitions, each the contract of a function that does nothing.
+ghost use Rattle.res_ledger.specs.Closing.{ClosedHasCoveringClose, CoveringCloseIsOne, FinalsFollowCoveringClose};
 ghost use Rattle.res_ledger.specs.Judge.{ClosedTestIsExact, CompleteTestIsExact, CoveredByIsExact, CoveredIsExact, LeasedRowsAreExact, LegalTestIsExact};
 ghost use Rattle.res_ledger.specs.Order.{OrderTestIsExact};
 ghost use Rattle.res_ledger.specs.Standing.{StandingGoesForward, StandingIsExact, StandingIsOne, StandingNeverGoesBack};
@@ -9,8 +10,14 @@ pub fn standing_goes_forward()
     ensures never_back { StandingNeverGoesBack }
     ensures one { StandingIsOne }
     ensures exact { StandingIsExact }
-{
-}
+{}
+
+/// The first Close of a scope or of one above it, which covers the scope and its rows.
+pub fn covering_close_is_first()
+    ensures some { ClosedHasCoveringClose }
+    ensures one { CoveringCloseIsOne }
+    ensures before_finals { FinalsFollowCoveringClose }
+{}
 
 /// Whether a scope is closed and what a lease covers, by the lists that the order of a ledger is
 /// told by, is what the rules say of it.
@@ -19,13 +26,11 @@ pub fn lists_are_exact()
     ensures leased_rows { LeasedRowsAreExact }
     ensures covered_by { CoveredByIsExact }
     ensures covered { CoveredIsExact }
-{
-}
+{}
 
 /// The tests of a ledger that is written out.
 pub fn tests_are_exact()
     ensures ordered { OrderTestIsExact }
     ensures legal { LegalTestIsExact }
     ensures complete { CompleteTestIsExact }
-{
-}
+{}
