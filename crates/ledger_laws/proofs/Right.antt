@@ -3,7 +3,7 @@ use Rattle.std.proofs.Common.{◌≡◌, true, false, List, sym, ◌∙◌}
 use Rattle.std.proofs.lemmas.Bool.{false≢true}
 use Rattle.res_ledger.specs.declared.event.Event.{Event}
 use Rattle.res_ledger.specs.Ledger.{IsLegal}
-use Rattle.res_ledger.specs.Order.{IsOrdered, is_ordered}
+use Rattle.res_ledger.specs.Order.{is_ordered}
 use Rattle.res_ledger.specs.Judge.{is_legal, is_complete}
 use Rattle.res_ledger.proofs.Ordering.{ordered_sound, ordered_complete}
 use Rattle.res_ledger.proofs.Judged.{legal_sound, legal_found, complete_sound, complete_found}

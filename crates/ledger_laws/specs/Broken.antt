@@ -1,8 +1,6 @@
 -- Ledgers that each have one mistake.
-use Rattle.std.specs.Prelude.{true, false, List, [], ◌∷◌}
-use Rattle.res_ledger.specs.declared.event.StreamNo.{StreamNo}
+use Rattle.std.specs.Prelude.{true, List, [], ◌∷◌}
 use Rattle.res_ledger.specs.declared.event.StreamNo.TheVariants.{Outer, Inner}
-use Rattle.res_ledger.specs.declared.event.What.{What}
 use Rattle.res_ledger.specs.declared.event.What.TheVariants.{Open, Acquire, Lease, Cancel, Close, Final}
 use Rattle.res_ledger.specs.declared.event.Event.{Event}
 use Rattle.ledger_laws.specs.Written.{written}

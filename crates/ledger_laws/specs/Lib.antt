@@ -1,3 +1,4 @@
 pub mod Written
 pub mod Worked
 pub mod Broken
+pub mod Stands

@@ -3,4 +3,5 @@
 #![tactic(auto)]
 
 pub mod broken;
+pub mod stands;
 pub mod worked;

@@ -46,7 +46,7 @@ opened_in P k s h = let f = any_found (is_of s) (opens (own k P)) h in (f.0.1, s
 opened_found : (P : List Event) (k : StreamNo) (s : ℕ) → IsOpened P k s → any (is_of s) (opens (own k P)) ≡ true
 opened_found P k s o = let q : ℕ × ℕ = (s, o.0) in any_at (is_of s) q (opens (own k P)) (notes_opens P k s o.0 o.1) (itself s)
 
-acquired_in : (P : List Event) (r : ℕ) → is_acquired P r ≡ true → IsAcquired P r
+pub acquired_in : (P : List Event) (r : ℕ) → is_acquired P r ≡ true → IsAcquired P r
 acquired_in P r h =
     let f = noted_found (λ w. any (is_of r) (rows_of w)) P h in
     let x = any_found (is_of r) (rows_of f.1) f.3 in
