@@ -34,7 +34,7 @@ next_in c at front more h k =
     let back : more ≡ take (length more) (drop (length front) (drop at c)) = rw drop-drop k in
     ap (λ xs. xs ++ more) h ∙ (ap (λ ys. take (length front) (drop at c) ++ ys) back ∙ (sym (take-add (length front) (length more) (drop at c)) ∙ ap (λ n. take n (drop at c)) (sym (length-append front more))))
 
-next_more : (o : Option (List ℕ)) (at : ℕ) (front more : List ℕ) → IfSome o (λ c. front ≡ take (length front) (drop at c)) → IfSome o (λ c. more ≡ take (length more) (drop (at + length front) c))
+pub next_more : (o : Option (List ℕ)) (at : ℕ) (front more : List ℕ) → IfSome o (λ c. front ≡ take (length front) (drop at c)) → IfSome o (λ c. more ≡ take (length more) (drop (at + length front) c))
     → IfSome o (λ c. front ++ more ≡ take (length (front ++ more)) (drop at c))
 next_more None at front more h k = tt
 next_more (Some c) at front more h k = next_in c at front more h k

@@ -1,2 +1,10 @@
 pub mod Copying
 pub mod Living
+pub mod Reading
+pub mod Accounting
+pub mod CatRows
+pub mod CatWork
+pub mod CatShows
+pub mod CatWhole
+pub mod Ledgers
+pub mod Telling

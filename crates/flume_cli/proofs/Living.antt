@@ -14,7 +14,7 @@ use Rattle.res_ledger.proofs.Ledgers.{covers_leased}
 use Rattle.row_seat.specs.declared.view.View.{View}
 use Rattle.row_seat.specs.declared.view.Left.TheVariants.{Stays, Yours}
 use Rattle.row_seat.specs.Views.{MayNote, IsFresh, CanPlace, CanClose, CanTake, Closes, noted, took, handed_over, shut}
-use Rattle.row_seat.specs.PlainSeats.{start}
+use Rattle.row_seat.specs.Views.{start}
 use Rattle.device_port.specs.declared.Failed.{Failed}
 use Rattle.device_port.specs.Device.{DeviceTold, moved, shut as shut_device}
 use Rattle.device_port.specs.Sink.{SinkTold}

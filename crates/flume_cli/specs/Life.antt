@@ -12,7 +12,7 @@ use Rattle.device_port.specs.Device.{DeviceTold, faults_of, shut}
 use Rattle.device_port.specs.Sink.{SinkTold}
 use Rattle.row_seat.specs.declared.view.View.{View}
 use Rattle.row_seat.specs.Views.{noted, placed, handed_over, took, shut as shut_row}
-use Rattle.row_seat.specs.PlainSeats.{start}
+use Rattle.row_seat.specs.Views.{start}
 use Rattle.flume_cli.specs.Copy.{Copies}
 
 -- a device for reading that nothing was done with

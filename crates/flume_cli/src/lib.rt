@@ -1,8 +1,20 @@
 //! The top call: what the words of a command line mean, the commands, and how a call ended.
 #![tactic(auto)]
 
+pub mod cat;
 pub mod copy;
 pub mod frame;
 pub mod life;
+pub mod outcome;
+pub mod report;
+pub mod status;
+pub mod tail;
+pub mod top;
+pub mod words;
 
+pub use cat::run_cat;
+pub use top::flume;
 pub use frame::put_frame;
+pub use outcome::Outcome;
+pub use report::Report;
+pub use status::Status;

@@ -2,7 +2,7 @@
 ghost use Rattle.std.specs.Prelude.{◌≡◌, ℕ, ◌-◌, ◌^◌, ◌<◌, ◌+◌, [], ◌∷◌, true, length};
 ghost use Rattle.res_ledger.specs.declared.event.StreamNo.TheVariants.{Inner};
 ghost use Rattle.row_seat.specs.Views.{paid};
-ghost use Rattle.row_seat.specs.PlainSeats.{start};
+ghost use Rattle.row_seat.specs.Views.{start};
 ghost use Rattle.device_port.specs.declared.device.Mode.TheVariants as mode;
 ghost use Rattle.flume_cli.specs.Copy.{Copies};
 ghost use Rattle.flume_cli.specs.Life.{IsUnused, RunsDevice, acquired, Holds, HoldsOpen, CopiesRow, Finalizes};

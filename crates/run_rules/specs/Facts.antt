@@ -1,5 +1,6 @@
 -- Tests on names, places, ends and events, which compute on a list that is written out.
 use Rattle.std.specs.Prelude.{ℕ, zero, suc, ◌+◌, Bool, true, false, ◌&&◌, not, nat_eq, nat_lt, List, [], ◌∷◌, ◌++◌, filter, Option, Some, None}
+use Rattle.std.specs.Str.{bytes_eq}
 use Rattle.chunk_core.specs.Lists.{any}
 use Rattle.chunk_core.specs.declared.code.How.{How}
 use Rattle.chunk_core.specs.declared.code.How.TheVariants as how
@@ -24,15 +25,9 @@ is_mode mode.Write mode.Write = true
 is_mode mode.Read mode.Write = false
 is_mode mode.Write mode.Read = false
 
-abbrev pub is_path : List ℕ → List ℕ → Bool
-is_path [] [] = true
-is_path (x ∷ xs) (y ∷ ys) = nat_eq x y && is_path xs ys
-is_path [] (y ∷ ys) = false
-is_path (x ∷ xs) [] = false
-
 -- the same path, for the same mode
 abbrev pub is_place : Place → Place → Bool
-is_place p q = is_path p.path q.path && is_mode p.mode q.mode
+is_place p q = bytes_eq p.path q.path && is_mode p.mode q.mode
 
 -- the element at a place, from 0
 abbrev pub at : {A : Type 0} → List A → ℕ → Option A

@@ -13,6 +13,9 @@ use Rattle.res_ledger.specs.declared.event.StreamNo.TheVariants.{Outer, Inner}
 use Rattle.res_ledger.specs.declared.event.What.{What}
 use Rattle.res_ledger.specs.declared.event.What.TheVariants.{Open, Acquire, Lease, Cancel, Close, Final}
 use Rattle.res_ledger.specs.declared.event.Event.{Event}
+use Rattle.res_ledger.specs.Ledger.{IsLegal}
+use Rattle.res_ledger.specs.Whole.{IsComplete}
+use Rattle.res_ledger.specs.Order.{IsOrdered}
 use Rattle.device_port.specs.Device.{Place, DeviceTold, faults_of}
 use Rattle.device_port.specs.Depot.{content_at}
 use Rattle.run_rules.specs.declared.end.EndOf.{EndOf}
@@ -178,3 +181,16 @@ is_owned owners k (Some r) = elim (at owners r) [ Some q ↦ is_stream q k | Non
 
 abbrev pub is_ours : Work → Event → Bool
 is_ours work e = any (is_stream e.by) (names_of work) && (is_named (names_of work) (leased_stream e.what) && is_owned (owners_of work) e.by (acquired_row e.what))
+
+-- the rules of a ledger
+pub record KeepsRules (work : Work) (L : List Event) : Type 0 where
+  pub legal : IsLegal L
+  pub complete : IsComplete L
+  pub ordered : IsOrdered L
+  pub ours : all (is_ours work) L ≡ true
+
+-- The deed did the work: its devices are accounted for, its ledger keeps the rules, and its streams ran, where a seat could be made.
+pub record Performs (work : Work) (c : Deed) : Type 0 where
+  pub devices : DevicesAccounted c.depot_old c.depot_new (places_of work) c.events
+  pub ledger : KeepsRules work c.events
+  pub ran : IsUnmade c ⊎ Ran work c

@@ -1,0 +1,243 @@
+-- A call, from the work that was done and how it was told.
+use Rattle.std.proofs.Common.{◌≡◌, ◌≢◌, ℕ, ◌+◌, ◌<◌, ◌≤◌, Bool, true, false, not, nat_lt, is_some, List, [], ◌∷◌, ◌++◌, ◌⊎◌, inl, inr, length, map, flat_map, take, drop, Option, Some, None, refl, sym, ◌∙◌, ap, subst, ⊎_elim, arith, append-nil, append_assoc, length-append, length-take}
+use Rattle.std.proofs.lemmas.Bool.Decides.{nat_tests}
+use Rattle.std.proofs.lemmas.List.{take-append-drop}
+use Rattle.chunk_core.specs.Lists.{any}
+use Rattle.chunk_core.specs.Texts.{frames_text}
+use Rattle.res_ledger.specs.declared.event.StreamNo.{StreamNo}
+use Rattle.res_ledger.specs.declared.event.StreamNo.TheVariants.{Inner}
+use Rattle.res_ledger.specs.declared.event.Event.{Event}
+use Rattle.device_port.specs.Source.{SourceTold}
+use Rattle.device_port.specs.Depot.{DepotTold}
+use Rattle.device_port.specs.Sink.{SinkTold, with_bytes, BreaksOff}
+use Rattle.device_port.proofs.Puts.{with_bytes_twice}
+use Rattle.run_rules.specs.declared.end.EndOf.{EndOf}
+use Rattle.run_rules.specs.Facts.{is_fault, is_memory, is_failed, has}
+use Rattle.run_rules.specs.Run.{Ran, IsUnmade, IsCutFrame}
+use Rattle.res_ledger.specs.Texts.{ledger_text}
+use Rattle.run_rules.specs.Texts.{end_line, tail_text}
+use Rattle.run_rules.proofs.More.{performs_more}
+use Rattle.flume_cli.specs.declared.status.Status.{Status}
+use Rattle.flume_cli.specs.declared.status.Status.TheVariants as status
+use Rattle.flume_cli.specs.declared.report.Report.{Report}
+use Rattle.flume_cli.specs.declared.outcome.Outcome.{Outcome}
+use Rattle.flume_cli.specs.Words.{cat_path_of, command_by, Cat, Nothing}
+use Rattle.flume_cli.specs.Status.{Causes, status_of, line_of}
+use Rattle.flume_cli.specs.Cat.{cat_work, deed_of, and_one, RunsCat}
+use Rattle.flume_cli.specs.Headline.{Call, Headline, HasStatus, Does, Tells, IsText, IsCutTail, SaysTail, IsIdle, IsToldLine, is_tellable}
+use Rattle.flume_cli.specs.Call.{call_of}
+use Rattle.flume_cli.specs.Finish.{Finishes, PrintsTail, Prints, status_by}
+use Rattle.flume_cli.proofs.CatWork.{true_false, some_end}
+
+rose : (a b : ℕ) → b ≡ a + 1 → nat_lt a b ≡ true
+rose a b e = grind (arith, nat_tests)
+
+kept : (a b : ℕ) → b ≡ a → nat_lt a b ≡ false
+kept a b e = grind (arith, nat_tests)
+
+choice : (b : Bool) → (b ≡ true) ⊎ (b ≡ false)
+choice true = inl refl
+choice false = inr refl
+
+not_both : (b : Bool) → b ≡ true → b ≡ false → ⊥
+not_both b t f = true_false (sym t ∙ f)
+
+none_some : {A : Type 0} (x : A) (xs : List A) → [] ≢ (x ∷ xs)
+none_some x xs e = cc
+
+pub report_is : (r : Report) (s : Status) (es : List EndOf) (L : List Event) → r.status ≡ s → r.ends ≡ es → r.ledger ≡ L → r ≡ record { status = s; ends = es; ledger = L }
+report_is r s es L p q t =
+    ap (λ (x : Status). let y : Report = record { status = x; ends = r.ends; ledger = r.ledger } in y) p
+    ∙ (ap (λ (x : List EndOf). let y : Report = record { status = s; ends = x; ledger = r.ledger } in y) q
+    ∙ ap (λ (x : List Event). let y : Report = record { status = s; ends = es; ledger = x } in y) t)
+
+-- the tail isn't empty
+tail_some : (es : List EndOf) (L : List Event) → 0 < length (tail_text es L)
+tail_some es L =
+    let behind = length-append (flat_map end_line es) (ledger_text L) in
+    let head : 0 < length (ledger_text L) = omega arith in
+    omega (arith, behind)
+
+abbrev by_flags : Bool → Bool → Bool → Bool → Status
+by_flags u m f n = status_of (record { words = true; unwritten = u; memory = m; faulty = f; unclean = n })
+
+failed_is : (u m f n : Bool) → u ≡ true → status.NotWritten ≡ by_flags u m f n
+failed_is u m f n e = ap (λ b. by_flags b m f n) (sym e)
+
+memory_is : (u f n : Bool) → u ≡ false → status.Memory ≡ by_flags u true f n
+memory_is u f n e = ap (λ b. by_flags b true f n) (sym e)
+
+printed_is : (u f n : Bool) → u ≡ false → by_flags false false f n ≡ by_flags u false f n
+printed_is u f n e = ap (λ b. by_flags b false f n) (sym e)
+
+module _ (words : List (List ℕ)) (path : List ℕ) (src : SourceTold) (dold dnew : DepotTold) (so mid sn : SinkTold) (eold enew : SinkTold) (o : Outcome) (known : cat_path_of words ≡ Some path) (runs : RunsCat path dold dnew so mid o) where
+  abbrev tail : List ℕ
+  tail = tail_text o.ends o.ledger
+
+  abbrev front : List ℕ
+  front = frames_text runs.frames ++ runs.rest
+
+  abbrev told : Status → Call
+  told s = call_of words src src dold dnew so sn eold enew (record { status = s; ends = o.ends; ledger = o.ledger })
+
+  abbrev causes : Bool → Causes
+  causes m = record { words = true; unwritten = nat_lt so.faults sn.faults; memory = m; faulty = any (λ (e : EndOf). is_fault e.how) o.ends; unclean = has is_failed o.ledger }
+
+  remembered : any (λ (e : EndOf). is_memory e.how) o.ends ≡ true → o.memory ≡ true
+  remembered h = ⊎_elim (λ (x : IsUnmade (deed_of dold dnew runs.frames runs.rest o)). x.memory) (λ (x : Ran (cat_work path) (deed_of dold dnew runs.frames runs.rest o)). x.ends.memory h) runs.performs.ran
+
+  uncut : o.sink_failed ≡ false → runs.rest ≡ []
+  uncut f =
+      ⊎_elim
+      (λ (x : IsUnmade (deed_of dold dnew runs.frames runs.rest o)). x.rest)
+      (λ (x : Ran (cat_work path) (deed_of dold dnew runs.frames runs.rest o)). ⊎_elim (λ e. e) (λ y. absurd (not_both o.sink_failed y.0 f)) x.outputs.cut)
+      runs.performs.ran
+
+  tellable_ends : (es : List EndOf) → map (λ (e : EndOf). e.who) es ≡ Inner 0 ∷ [] → any (λ (e : EndOf). is_memory e.how) es ≡ false → is_tellable es ≡ true
+  tellable_ends [] n a = absurd (none_some (Inner 0) [] n)
+  tellable_ends (e ∷ es) n a = ap (λ b. not b) a
+
+  tellable : o.memory ≡ false → is_tellable o.ends ≡ true
+  tellable f =
+      ⊎_elim
+      (λ (x : IsUnmade (deed_of dold dnew runs.frames runs.rest o)). absurd (not_both o.memory x.memory f))
+      (λ (x : Ran (cat_work path) (deed_of dold dnew runs.frames runs.rest o)).
+        tellable_ends o.ends x.ends.named (⊎_elim (λ t. absurd (not_both o.memory (remembered t) f)) (λ e. e) (choice (any (λ (e : EndOf). is_memory e.how) o.ends))))
+      runs.performs.ran
+
+  -- the headline, from the parts that differ by how the call was told
+  headline : (s : Status) (m : Bool) → (o.memory ≡ true → m ≡ true) → (o.sink_failed ≡ true → nat_lt so.faults sn.faults ≡ true) → s ≡ status_of (causes m) → IsText (told s) runs.frames runs.rest → IsToldLine eold enew (line_of s) → Headline (told s)
+  headline s m more failed is text line = record {
+    causes = causes m;
+    status = record {
+      words = ap (λ p. is_some p) (sym known);
+      unwritten = refl;
+      memory = λ h. more (remembered h);
+      faulty = refl;
+      unclean = refl;
+      status = is;
+      line = line;
+    };
+    source = refl;
+    does = subst (λ p. Does (told s) (causes m) (command_by p)) (sym known) (record {
+      frames = runs.frames;
+      rest = runs.rest;
+      performs = performs_more (cat_work path) (deed_of dold dnew runs.frames runs.rest o) (nat_lt so.faults sn.faults) m failed more runs.performs;
+      text = text;
+    });
+  }
+
+  mid_faults : mid.faults ≡ and_one o.sink_failed so.faults
+  mid_faults = ap (λ (x : SinkTold). x.faults) runs.wrote
+
+  mid_kept : o.sink_failed ≡ false → mid.faults ≡ so.faults
+  mid_kept f = mid_faults ∙ ap (λ b. and_one b so.faults) f
+
+  mid_rose : o.sink_failed ≡ true → mid.faults ≡ so.faults + 1
+  mid_rose t = mid_faults ∙ ap (λ b. and_one b so.faults) t
+
+  mid_written : mid.written ≡ (with_bytes so front).written
+  mid_written = ap (λ (x : SinkTold). x.written) runs.wrote
+
+  -- nothing was said behind the frames
+  silent : sn ≡ mid → sn.written ≡ (with_bytes so (frames_text runs.frames ++ (runs.rest ++ []))).written
+  silent e = ap (λ (x : SinkTold). x.written) e ∙ (mid_written ∙ ap (λ b. (with_bytes so b).written) (ap (λ b. frames_text runs.frames ++ b) (sym (append-nil runs.rest))))
+
+  -- these bytes were said behind the frames
+  said_behind : (bytes : List ℕ) → sn.written ≡ (with_bytes mid bytes).written → sn.written ≡ (with_bytes so (frames_text runs.frames ++ (runs.rest ++ bytes))).written
+  said_behind bytes e =
+      e ∙ (ap (λ (w : Option (List ℕ)). (with_bytes (record { written = w; faults = so.faults }) bytes).written) mid_written
+      ∙ (ap (λ (x : SinkTold). x.written) (with_bytes_twice so front bytes) ∙ ap (λ b. (with_bytes so b).written) (append_assoc (frames_text runs.frames) runs.rest bytes)))
+
+  never_idle : o.sink_failed ≡ true → o.ends ≡ [] → ⊥
+  never_idle t e = not_both o.sink_failed t (runs.begun e).0
+
+  never_none : o.memory ≡ false → o.ends ≡ [] → ⊥
+  never_none f e = not_both o.memory (runs.begun e).1 f
+
+  tells_failed : o.sink_failed ≡ true → sn ≡ mid → IsToldLine eold enew (line_of status.NotWritten) → Headline (told status.NotWritten)
+  tells_failed t e line =
+      let up : nat_lt so.faults sn.faults ≡ true = rose so.faults sn.faults (ap (λ (x : SinkTold). x.faults) e ∙ mid_rose t) in
+      headline status.NotWritten o.memory (λ h. h) (λ h. up) (failed_is _ _ _ _ up) (record {
+        said = [];
+        written = silent e;
+        tail = (inl refl, tail_some o.ends o.ledger);
+        spoke = λ n. absurd (never_idle t n);
+        once = let same : sn.faults ≡ mid.faults = ap (λ (x : SinkTold). x.faults) e in let m : mid.faults ≡ so.faults + 1 = mid_rose t in omega arith;
+      }) line
+
+  tells_memory : o.sink_failed ≡ false → sn ≡ mid → IsToldLine eold enew (line_of status.Memory) → Headline (told status.Memory)
+  tells_memory f e line =
+      let same : sn.faults ≡ so.faults = ap (λ (x : SinkTold). x.faults) e ∙ mid_kept f in
+      headline status.Memory true (λ h. refl) (λ h. absurd (not_both o.sink_failed h f)) (memory_is (nat_lt so.faults sn.faults) (any (λ (x : EndOf). is_fault x.how) o.ends) (has is_failed o.ledger) (kept so.faults sn.faults same)) (record {
+        said = [];
+        written = silent e;
+        tail = inl refl;
+        spoke = λ n. refl;
+        once = omega arith;
+      }) line
+
+  tells_broken : o.sink_failed ≡ false → o.memory ≡ false → BreaksOff mid sn tail → IsToldLine eold enew (line_of status.NotWritten) → Headline (told status.NotWritten)
+  tells_broken f g b line =
+      let more : sn.faults ≡ so.faults + 1 = ap (λ (x : SinkTold). x.faults) b.told ∙ ap (λ n. n + 1) (mid_kept f) in
+      let up : nat_lt so.faults sn.faults ≡ true = rose so.faults sn.faults more in
+      let short : length (take b.count tail) < length tail = let l : b.count < length tail = b.front in omega (arith, length-take b.count tail) in
+      headline status.NotWritten o.memory (λ h. h) (λ h. up) (failed_is _ _ _ _ up) (record {
+        said = take b.count tail;
+        written = said_behind (take b.count tail) (ap (λ (x : SinkTold). x.written) b.told);
+        tail = (inr (uncut f, tellable g, drop b.count tail, take-append-drop b.count tail), short);
+        spoke = λ n. absurd (never_none g n);
+        once = omega arith;
+      }) line
+
+  told_whole : (s : Status) → o.sink_failed ≡ false → o.memory ≡ false → sn ≡ with_bytes mid tail → s ≡ status_by o.ends o.ledger → SaysTail (told s) runs.rest tail s → IsToldLine eold enew (line_of s) → Headline (told s)
+  told_whole s f g e is says line =
+      let same : sn.faults ≡ so.faults = ap (λ (x : SinkTold). x.faults) e ∙ mid_kept f in
+      headline s false (λ h. absurd (not_both o.memory h g)) (λ h. absurd (not_both o.sink_failed h f)) (is ∙ printed_is _ _ _ (kept so.faults sn.faults same)) (record {
+        said = tail;
+        written = said_behind tail (ap (λ (x : SinkTold). x.written) e);
+        tail = says;
+        spoke = λ n. absurd (never_none g n);
+        once = omega arith;
+      }) line
+
+  tells_printed : (s : Status) → o.sink_failed ≡ false → o.memory ≡ false → Prints o mid sn s → IsToldLine eold enew (line_of s) → Headline (told s)
+  tells_printed status.NotWritten f g p line = tells_broken f g p line
+  tells_printed status.Memory f g p line = tells_memory f p line
+  tells_printed status.BadWords f g p line = absurd p
+  tells_printed status.Good f g p line = told_whole status.Good f g p.0 p.1 (uncut f, refl) line
+  tells_printed status.Faulty f g p line = told_whole status.Faulty f g p.0 p.1 (uncut f, refl) line
+  tells_printed status.Unclean f g p line = told_whole status.Unclean f g p.0 p.1 (uncut f, refl) line
+
+  tells_any : (s : Status) → PrintsTail o mid sn s → IsToldLine eold enew (line_of s) → Headline (told s)
+  tells_any s p line =
+      ⊎_elim
+      (λ t. let q = p.failed t in subst (λ x. Headline (told x)) (sym q.0) (tells_failed t q.1 (subst (λ x. IsToldLine eold enew (line_of x)) q.0 line)))
+      (λ f. ⊎_elim
+        (λ t. let q = p.memory f t in subst (λ x. Headline (told x)) (sym q.0) (tells_memory f q.1 (subst (λ x. IsToldLine eold enew (line_of x)) q.0 line)))
+        (λ g. tells_printed s f g (p.printed f g) line)
+        (choice o.memory))
+      (choice o.sink_failed)
+
+  -- cat was run and told
+  pub cat_told : (s : Status) (r : Report) → PrintsTail o mid sn s → Finishes s o.ends o.ledger eold enew r → Headline (call_of words src src dold dnew so sn eold enew r)
+  cat_told s r p f =
+      subst (λ x. Headline (call_of words src src dold dnew so sn eold enew x)) (sym (report_is r s o.ends o.ledger f.status_is f.ends_are f.ledger_is)) (tells_any s p f.line)
+
+-- the words mean nothing
+pub nothing_told : (words : List (List ℕ)) (src : SourceTold) (depot : DepotTold) (out eold enew : SinkTold) (r : Report) → cat_path_of words ≡ None → Finishes status.BadWords [] [] eold enew r → Headline (call_of words src src depot depot out out eold enew r)
+nothing_told words src depot out eold enew r known f =
+    subst (λ x. Headline (call_of words src src depot depot out out eold enew x)) (sym (report_is r status.BadWords [] [] f.status_is f.ends_are f.ledger_is)) (record {
+      causes = record { words = false; unwritten = false; memory = false; faulty = false; unclean = false };
+      status = record {
+        words = ap (λ p. is_some p) (sym known);
+        unwritten = sym (kept out.faults out.faults refl);
+        memory = λ h. h;
+        faulty = refl;
+        unclean = refl;
+        status = refl;
+        line = f.line;
+      };
+      source = refl;
+      does = subst (λ p. Does (call_of words src src depot depot out out eold enew (record { status = status.BadWords; ends = []; ledger = [] })) (record { words = false; unwritten = false; memory = false; faulty = false; unclean = false }) (command_by p)) (sym known) (record { depot = refl; out = refl; ends = refl; events = refl });
+    })

@@ -1,0 +1,100 @@
+-- The contract of the top call, over all that it reads, writes and reports.
+use Rattle.std.specs.Prelude.{◌≡◌, ◌⊎◌, ℕ, ◌+◌, ◌<◌, ◌≤◌, Bool, true, false, not, nat_lt, is_some, List, [], ◌∷◌, ◌++◌, length}
+use Rattle.chunk_core.specs.Lists.{any}
+use Rattle.chunk_core.specs.Texts.{Frame, frames_text}
+use Rattle.res_ledger.specs.declared.event.Event.{Event}
+use Rattle.device_port.specs.Source.{SourceTold}
+use Rattle.device_port.specs.Sink.{SinkTold, with_bytes, BreaksOff}
+use Rattle.device_port.specs.Depot.{DepotTold}
+use Rattle.run_rules.specs.declared.end.EndOf.{EndOf}
+use Rattle.run_rules.specs.Facts.{is_fault, is_memory, is_failed, has}
+use Rattle.run_rules.specs.Work.{Work, Deed}
+use Rattle.run_rules.specs.Run.{Performs}
+use Rattle.run_rules.specs.Texts.{tail_text}
+use Rattle.flume_cli.specs.declared.status.Status.{Status}
+use Rattle.flume_cli.specs.declared.status.Status.TheVariants as status
+use Rattle.flume_cli.specs.Words.{Command, Cat, Nothing, cat_path_of, command_of}
+use Rattle.flume_cli.specs.Status.{Causes, status_of, line_of}
+use Rattle.flume_cli.specs.Cat.{cat_work}
+
+-- a call: its words, the outside before and after, and its report
+pub record Call : Type 0 where
+  pub words : List (List ℕ)
+  pub source_old : SourceTold
+  pub source_new : SourceTold
+  pub depot_old : DepotTold
+  pub depot_new : DepotTold
+  pub out_old : SinkTold
+  pub out_new : SinkTold
+  pub err_old : SinkTold
+  pub err_new : SinkTold
+  pub status : Status
+  pub ends : List EndOf
+  pub events : List Event
+
+-- the text was written and nothing else, or a proper front of it and then a call failed
+abbrev pub IsToldLine : SinkTold → SinkTold → List ℕ → Type 0
+IsToldLine old new text = (new ≡ with_bytes old text) ⊎ BreaksOff old new text
+
+-- the status is that of the causes, each cause is seen in the call's own data, and standard error was told its line
+pub record HasStatus (c : Call) (k : Causes) : Type 0 where
+  pub words : k.words ≡ is_some (cat_path_of c.words)
+  pub unwritten : k.unwritten ≡ nat_lt c.out_old.faults c.out_new.faults
+  pub memory : any (λ e. is_memory e.how) c.ends ≡ true → k.memory ≡ true
+  pub faulty : k.faulty ≡ any (λ e. is_fault e.how) c.ends
+  pub unclean : k.unclean ≡ has is_failed c.events
+  pub status : c.status ≡ status_of k
+  pub line : IsToldLine c.err_old c.err_new (line_of c.status)
+
+-- nothing was done: no device was made, nothing was written to the output, and the report is empty
+pub record IsIdle (c : Call) : Type 0 where
+  pub depot : c.depot_new ≡ c.depot_old
+  pub out : c.out_new ≡ c.out_old
+  pub ends : c.ends ≡ []
+  pub events : c.events ≡ []
+
+abbrev pub deed_of_call : Call → Causes → List Frame → List ℕ → Deed
+deed_of_call c k frames rest =
+    record { depot_old = c.depot_old; depot_new = c.depot_new; ends = c.ends; events = c.events; frames = frames; rest = rest; unwritten = k.unwritten; memory = k.memory }
+
+-- the ends can be printed: there are some, and none is for want of memory
+abbrev pub is_tellable : List EndOf → Bool
+is_tellable [] = false
+is_tellable (e ∷ es) = not (any (λ x. is_memory x.how) (e ∷ es))
+
+-- a front of the tail, where no frame was cut
+abbrev pub IsCutTail : Call → List ℕ → List ℕ → Type 0
+IsCutTail c rest said = (said ≡ []) ⊎ ((rest ≡ []) × (is_tellable c.ends ≡ true) × (more : List ℕ) × (said ++ more ≡ tail_text c.ends c.events))
+
+-- what was said behind the frames: the tail, or where the call broke off a front of it
+abbrev pub SaysTail : Call → List ℕ → List ℕ → Status → Type 0
+SaysTail c rest said status.NotWritten = IsCutTail c rest said × (length said < length (tail_text c.ends c.events))
+SaysTail c rest said status.Memory = IsCutTail c rest said
+SaysTail c rest said _ = (rest ≡ []) × (said ≡ tail_text c.ends c.events)
+
+-- what was written to the output: the frames, what was written of a further one, and what was said behind them
+pub record IsText (c : Call) (frames : List Frame) (rest : List ℕ) : Type 0 where
+  pub said : List ℕ
+  pub written : c.out_new.written ≡ (with_bytes c.out_old (frames_text frames ++ (rest ++ said))).written
+  pub tail : SaysTail c rest said c.status
+  pub spoke : c.ends ≡ [] → c.status ≡ status.Memory
+  pub once : c.out_new.faults ≤ c.out_old.faults + 1
+
+-- a work was done and told
+pub record Tells (work : Work) (c : Call) (k : Causes) : Type 0 where
+  pub frames : List Frame
+  pub rest : List ℕ
+  pub performs : Performs work (deed_of_call c k frames rest)
+  pub text : IsText c frames rest
+
+-- what was done for a command
+abbrev pub Does : Call → Causes → Command → Type 0
+Does c k (Cat path) = Tells (cat_work path) c k
+Does c k Nothing = IsIdle c
+
+-- The whole contract. What it says of devices, ledger, outputs, ends and completeness stands in `Performs`.
+pub record Headline (c : Call) : Type 0 where
+  pub causes : Causes
+  pub status : HasStatus c causes
+  pub source : c.source_new ≡ c.source_old
+  pub does : Does c causes (command_of c.words)

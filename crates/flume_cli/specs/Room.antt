@@ -1,0 +1,14 @@
+-- The room that is made before a file is opened.
+use Rattle.std.specs.Prelude.{◌≡◌, ◌<◌, ℕ, List, [], length, vec_capacity}
+use Rattle.res_ledger.specs.declared.event.StreamNo.TheVariants.{Inner}
+use Rattle.row_seat.specs.PlainSeats.{shown, Sits}
+use Rattle.row_seat.specs.Views.{start}
+use Rattle.flume_cli.specs.declared.cat.Room.{Room}
+
+-- a fresh seat of stream 0 at its table, a buffer, and room for one end
+pub record IsReady {P : Type 0} (room : Room P) : Type 0 where
+  pub seat : shown room.seat ≡ start (Inner 0) 1 3
+  pub sits : Sits room.seat room.table
+  pub buffer : 0 < length room.buffer.items
+  pub ends : room.ends.items ≡ []
+  pub capacity : vec_capacity room.ends ≡ 1

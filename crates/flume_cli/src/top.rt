@@ -1,0 +1,134 @@
+//! The top call.
+ghost use Rattle.std.specs.Prelude.{◌≡◌, ◌-◌, ◌^◌, ◌<◌, false};
+ghost use Rattle.flume_cli.specs.Call.{call_of};
+ghost use Rattle.flume_cli.specs.Headline.{Headline};
+ghost use Rattle.flume_cli.specs.Finish.{Finishes, PrintsTail, status_by as status_by_of};
+ghost use Rattle.run_rules.specs.Facts.{is_fault as is_fault_end, is_failed as is_failed_final, has};
+ghost use Rattle.chunk_core.specs.Lists.{any};
+
+use crate::cat::run_cat;
+use crate::outcome::Outcome;
+use crate::report::Report;
+use crate::status::Status;
+use crate::tail::tail_of;
+use crate::words::cat_path;
+use chunk_core::{How, List, Word};
+use device_port::{Depot, Failed, Gate, Sink, Source, put};
+use res_ledger::{Ledger, What};
+use run_rules::EndOf;
+use std::alloc::Global;
+use std::sync::Wait;
+use std::thread::Threads;
+
+/// How many bytes of a file one frame has at most.
+const CHUNK: u32 = 4096;
+
+/// Does what the words say: reads from `src` and the depot's devices, prints to `out`, tells
+/// `err` what went wrong, and reports how it ended. Nothing is written to `out` after its first
+/// failure, and a failure of `err` changes nothing.
+pub fn flume<R: Threads + Wait + Sync, S: Source, K: Sink, E: Sink, D: Depot, G: Gate + Sync>(
+    rt: &R,
+    alloc: Global,
+    words: &[Word],
+    src: &mut S,
+    depot: &mut D,
+    out: &mut K,
+    err: &mut E,
+    gate: &G,
+) -> Report
+where
+    D::Dev: Send,
+    requires source { (S.told src.old).faults < 2 ^ 64 - 1 }
+    requires out { (K.told out.old).faults < 2 ^ 64 - 1 }
+    requires err { (E.told err.old).faults < 2 ^ 64 - 1 }
+    ensures { Headline (call_of words.now (S.told src.old) (S.told src.new) (D.told depot.old) (D.told depot.new) (K.told out.old) (K.told out.new) (E.told err.old) (E.told err.new) result) }
+{
+    match cat_path(words) {
+        Some(path) => {
+            let outcome = run_cat(alloc, path, CHUNK, depot, out);
+            let status = print_tail(alloc, &outcome, out);
+            finish(status, outcome.ends, outcome.ledger, err)
+        }
+        None => finish(Status::BadWords, List::new(alloc), Ledger::empty(alloc), err),
+    }
+}
+
+/// Tells standard error the line of the status, and reports.
+fn finish<E: Sink>(status: Status, ends: List<EndOf>, ledger: Ledger, err: &mut E) -> Report
+    requires room { (E.told err.old).faults < 2 ^ 64 - 1 }
+    ensures { Finishes status ends ledger (E.told err.old) (E.told err.new) result }
+{
+    let _ = put(err, status.line().as_bytes());
+    Report {
+        status,
+        ends,
+        ledger,
+    }
+}
+
+/// Prints the tail, unless a write failed or memory was wanting before, and gives the status.
+fn print_tail<K: Sink>(alloc: Global, outcome: &Outcome, out: &mut K) -> Status
+    requires room { outcome.now.sink_failed ≡ false → (K.told out.old).faults < 2 ^ 64 - 1 }
+    ensures { PrintsTail outcome.now (K.told out.old) (K.told out.new) result }
+{
+    if outcome.sink_failed {
+        return Status::NotWritten;
+    }
+    if outcome.memory {
+        return Status::Memory;
+    }
+    match tail_of(alloc, &outcome.ends, &outcome.ledger) {
+        Ok(tail) => match put(out, tail.as_slice()) {
+            Ok(()) => status_by(&outcome.ends, &outcome.ledger),
+            Err(Failed) => Status::NotWritten,
+        },
+        Err(_) => Status::Memory,
+    }
+}
+
+/// The status of a run of which all was printed.
+fn status_by(ends: &List<EndOf>, ledger: &Ledger) -> Status
+    ensures { result ≡ status_by_of ends.now ledger.now }
+{
+    if has_fault(ends) {
+        Status::Faulty
+    } else if has_failed(ledger) {
+        Status::Unclean
+    } else {
+        Status::Good
+    }
+}
+
+fn has_fault(ends: &List<EndOf>) -> bool
+    ensures { result ≡ any (λ e. is_fault_end e.how) ends.now }
+{
+    for end in ends.as_slice() {
+        if is_fault(end.how) {
+            return true;
+        }
+    }
+    false
+}
+
+fn is_fault(how: How) -> bool
+    ensures { result ≡ is_fault_end how }
+{
+    matches!(how, How::Fault(_))
+}
+
+fn has_failed(ledger: &Ledger) -> bool
+    ensures { result ≡ has is_failed_final ledger.now }
+{
+    for event in ledger.as_slice() {
+        if is_failed(event.what) {
+            return true;
+        }
+    }
+    false
+}
+
+fn is_failed(what: What) -> bool
+    ensures { result ≡ is_failed_final what }
+{
+    matches!(what, What::Final { ok: false, .. })
+}
