@@ -1,0 +1,70 @@
+//! The program: hands the real outside to the top call, and ends with its status.
+#![tactic(auto)]
+
+use chunk_core::{List, Word};
+use device_port::{FileDepot, MemSource, OpenGate, StdSink, put};
+use flume_cli::{Status, flume};
+use std::fs::File;
+use std::process::ExitCode;
+use std::sync::Wait;
+use std::thread::Threads;
+use std::{env, fs, io};
+
+fn main(rt: HostRuntime) -> ExitCode {
+    let streams = hold_streams(&rt);
+    let status = match read_words(&rt) {
+        Ok(words) => run(rt, &rt, &words),
+        Err(status) => refuse(&rt, status),
+    };
+    drop(streams);
+    ExitCode::from(status.number())
+}
+
+/// Opens three files, and so fills each standard stream that was closed when the program began:
+/// no device can get its descriptor, and a write to it fails.
+fn hold_streams(rt: &HostRuntime) -> [Option<File>; 3] {
+    [hold(rt), hold(rt), hold(rt)]
+}
+
+fn hold(rt: &HostRuntime) -> Option<File> {
+    fs::open(rt, "/dev/null").ok()
+}
+
+/// The words behind the program's name. Words that are not UTF-8 mean nothing.
+fn read_words(rt: &HostRuntime) -> Result<Vec<Word>, Status> {
+    let mut words = Vec::new(rt.alloc());
+    let args = env::args(rt).map_err(|error| status_of(&error))?;
+    for arg in args.skip(1) {
+        let word = Word::of(rt.alloc(), arg.as_str()).map_err(|_| Status::Memory)?;
+        words.push(word).map_err(|_| Status::Memory)?;
+    }
+    Ok(words)
+}
+
+fn status_of(error: &io::Error) -> Status {
+    match error.kind() {
+        io::ErrorKind::OutOfMemory => Status::Memory,
+        _ => Status::BadWords,
+    }
+}
+
+/// Makes the outside and does what the words say.
+fn run<R: Threads + Wait + Sync>(rt: HostRuntime, workers: &R, words: &[Word]) -> Status {
+    let alloc = rt.alloc();
+    let Ok(mut src) = MemSource::new(alloc, &[], List::new(alloc)) else {
+        return refuse(&rt, Status::Memory);
+    };
+    let mut depot = FileDepot::new(rt);
+    let mut out = StdSink::new(rt.stdout());
+    let mut err = StdSink::new(rt.stderr());
+    let report = flume(
+        workers, alloc, words, &mut src, &mut depot, &mut out, &mut err, &OpenGate,
+    );
+    report.status
+}
+
+/// Tells standard error the line of the status.
+fn refuse(rt: &HostRuntime, status: Status) -> Status {
+    let _ = put(&mut StdSink::new(rt.stderr()), status.line().as_bytes());
+    status
+}
