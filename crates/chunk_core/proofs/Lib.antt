@@ -5,3 +5,5 @@ pub mod Filters
 pub mod Places
 pub mod Rendering
 pub mod Windows
+pub mod Clones
+pub mod Queues

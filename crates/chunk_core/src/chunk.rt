@@ -1,9 +1,10 @@
 //! Windows on shared vectors.
-ghost use Rattle.std.specs.Prelude.{◌≡◌, ◌==◌, length, take, drop, IfOk, OnOk, OnErr, slice_get};
+ghost use Rattle.std.specs.Prelude.{◌≡◌, ◌==◌, ◌++◌, length, take, drop, IfOk, OnOk, OnErr, slice_get};
 ghost use Rattle.std.specs.Iterator.{YieldsFirstRef, item_count};
 ghost use Rattle.std.specs.Option.{option_copied};
 
 use std::alloc::{AllocError, Global};
+use std::cmp;
 use std::iter::FusedIterator;
 use std::marker::Model;
 use std::sync::Arc;
@@ -99,6 +100,40 @@ impl<T> Chunk<T> {
         };
         self.from = middle;
         Ok(front)
+    }
+
+    /// Clones of both, one after the other, in a vector of their own.
+    #[tactic(auto, using(crate::proofs::Clones::appended))]
+    pub fn concat(&self, alloc: Global, other: &Chunk<T>) -> Result<Chunk<T>, AllocError>
+    where
+        T: Clone,
+        requires same { (x y : T) → T.is_clone x y → y ≡ x }
+        ensures { IfOk result (λ both. both ≡ self.now ++ other.now) }
+    {
+        let mut items = Vec::new(alloc);
+        items.extend_with_clones(self.as_slice())?;
+        items.extend_with_clones(other.as_slice())?;
+        Chunk::of_vec(alloc, items)
+    }
+
+    /// The first `n` elements, or all where there are no more.
+    pub(crate) fn front(&self, n: usize) -> &[T]
+        ensures { result.now ≡ take n self.now }
+    {
+        let items = self.as_slice();
+        &items[..cmp::min(n, items.len())]
+    }
+
+    /// Drops the first `n` elements, or all where there are no more.
+    #[tactic(auto, using(crate::proofs::Windows::window_rest, crate::proofs::Windows::window_none))]
+    pub(crate) fn skip(&mut self, n: usize)
+        ensures { self.new ≡ drop n self.old }
+    {
+        self.from = if n < self.to - self.from {
+            self.from + n
+        } else {
+            self.to
+        };
     }
 
     /// Each element in order.

@@ -7,6 +7,7 @@ pub mod code;
 pub mod feed;
 pub mod list;
 pub mod load;
+pub mod queue;
 pub mod word;
 
 pub use chunk::{Chunk, ChunkIter};
@@ -14,6 +15,7 @@ pub use code::{Code, How, Span};
 pub use feed::{Fed, Feed};
 pub use list::{Line, List, Row};
 pub use load::{Load, render};
+pub use queue::ChunkQueue;
 pub use word::Word;
 
 #[cfg(test)]

@@ -6,7 +6,7 @@ use std::alloc::{AllocError, Global};
 use std::marker::Model;
 
 /// A list that grows at its end and keeps the allocator that it was made with.
-#[derive(Drop)]
+#[derive(Clone, Drop)]
 pub struct List<T> {
     items: Vec<T>,
 }

@@ -2,7 +2,7 @@ ghost use Rattle.std.specs.Prelude.{◌≡◌, IfOk};
 ghost use Rattle.chunk_core.specs.Elements.{kind_of};
 ghost use Rattle.chunk_core.specs.Feed.{MayFeed};
 
-use crate::{Chunk, Code, Fed, Feed, How, Line, List, Load, Row, Word, render};
+use crate::{Chunk, ChunkQueue, Code, Fed, Feed, How, Line, List, Load, Row, Word, render};
 use std::alloc::{AllocError, Global};
 use std::mem;
 use std::test::Fail;
@@ -108,6 +108,40 @@ fn split_takes_off_the_front(rt: HostRuntime) -> Result<(), Fail> {
     let rest = chunk.split(2)?;
     assert_eq!(rt; rest.as_slice(), [3].as_slice());
     assert!(rt; chunk.is_empty());
+    Ok(())
+}
+
+#[test]
+fn concat_is_one_after_the_other(rt: HostRuntime) -> Result<(), Fail> {
+    let first = bytes_of(rt.alloc(), [1, 2].as_slice())?;
+    let second = bytes_of(rt.alloc(), [3].as_slice())?;
+    let both = first.concat(rt.alloc(), &second)?;
+    assert_eq!(rt; both.as_slice(), [1, 2, 3].as_slice());
+    Ok(())
+}
+
+#[test]
+fn queue_gives_what_it_was_given(rt: HostRuntime) -> Result<(), Fail> {
+    let mut queue = ChunkQueue::new(rt.alloc());
+    queue.push(bytes_of(rt.alloc(), [1].as_slice())?)?;
+    queue.push(bytes_of(rt.alloc(), [2, 3].as_slice())?)?;
+    assert_eq!(rt; queue.take(2)?.as_slice(), [1, 2].as_slice());
+    assert_eq!(rt; queue.take(2)?.as_slice(), [3].as_slice());
+    assert!(rt; queue.take(1)?.is_empty());
+    Ok(())
+}
+
+#[test]
+fn lines_are_taken_and_joined(rt: HostRuntime) -> Result<(), Fail> {
+    let alloc = rt.alloc();
+    let mut lines = Vec::new(alloc);
+    lines.push(line_of(alloc, b"ab")?)?;
+    lines.push(line_of(alloc, b"c")?)?;
+    let mut queue = ChunkQueue::new(alloc);
+    queue.push(Chunk::of_vec(alloc, lines)?)?;
+    let first = queue.take(1)?;
+    let load = Load::Lines(first.concat(alloc, &queue.take(1)?)?);
+    assert_eq!(rt; render(alloc, &load)?.as_slice(), b"ab\nc\n".as_slice());
     Ok(())
 }
 
