@@ -1,11 +1,11 @@
 -- What a node may give and how it may end, over what the device of each place tells at the end.
 use Rattle.std.specs.Prelude.{◌≡◌, ◌⊎◌, ℕ, ◌<◌, ◌≤◌, ◌^◌, List, [], ◌++◌, map, take, length, Option, Some, None}
 use Rattle.chunk_core.specs.declared.code.Code.TheVariants as code
-use Rattle.chunk_core.specs.Elements.{Element, Byte}
+use Rattle.chunk_core.specs.Elements.{Element, Byte, elements}
 use Rattle.chunk_core.specs.Outcomes.{End, Done, Fault, Cut, Outcomes}
 use Rattle.device_port.specs.Device.{DeviceTold}
 use Rattle.pull_nodes.specs.declared.node.Node.{Node}
-use Rattle.pull_nodes.specs.declared.node.Node.TheVariants.{Read, Weak'}
+use Rattle.pull_nodes.specs.declared.node.Node.TheVariants.{Nil, Emit, Raise, Read, Weak', Scope', Append', OnFault', Take'}
 
 -- or left by whoever ran it: nothing, or a front of what it may give
 abbrev pub OrLeft : Outcomes → Outcomes
@@ -35,15 +35,47 @@ Reads d = ReadsBy d.content d
 abbrev pub Opens : DeviceTold → Outcomes → Type 0 → Outcomes
 Opens d A Idle ys e = ((d.opens ≡ 1) × A ys e) ⊎ ((0 < d.open_faults) × (ys ≡ []) × (e ≡ Fault code.Open) × Idle)
 
+-- the end is a fault
+abbrev pub IsFault : End → Type 0
+IsFault Done = ⊥
+IsFault (Fault c) = Unit {0}
+IsFault Cut = ⊥
+
+-- A runs, and B behind it where A's end is as Begins says; elsewhere B, which never ran, did nothing
+abbrev pub Follows : (End → Type 0) → Outcomes → Outcomes → Type 0 → Outcomes
+Follows Begins A B Idle zs e =
+    (A zs e × (Begins e → ⊥) × Idle)
+    ⊎ ((xs ys : List Element) × (g : End) × A xs g × Begins g × B ys e × (zs ≡ xs ++ ys))
+
+-- the first n elements that A gives, and no more is asked then; or all where there are fewer
+abbrev pub Taken : ℕ → Outcomes → Outcomes
+Taken n A ys e =
+    (xs : List Element) × (g : End) × A xs g
+    × (((n ≤ length xs) × (ys ≡ take n xs) × (e ≡ Done)) ⊎ ((length xs < n) × (ys ≡ xs) × (e ≡ g)))
+
 -- the node never ran: nothing was written at its places
 abbrev pub IsIdle : (ℕ → DeviceTold) → Node → Type 0
+IsIdle w Nil = Unit {0}
+IsIdle w (Emit l) = Unit {0}
+IsIdle w (Raise c) = Unit {0}
 IsIdle w (Read p) = Unit {0}
 IsIdle w (Weak' p _ a) = IsIdle w a
+IsIdle w (Scope' _ a) = IsIdle w a
+IsIdle w (Append' _ a _ b) = IsIdle w a × IsIdle w b
+IsIdle w (OnFault' _ a _ b) = IsIdle w a × IsIdle w b
+IsIdle w (Take' n _ a) = IsIdle w a
 
 -- what the node may give, where each of its parts may be left as Left says
 abbrev pub Gives : (Outcomes → Outcomes) → (ℕ → DeviceTold) → Node → Outcomes
-Gives Left w (Read p) = Reads (w p)
-Gives Left w (Weak' p _ a) = Opens (w p) (Left (Gives Left w a)) (IsIdle w a)
+Gives Left w Nil ys e = (ys ≡ []) × (e ≡ Done)
+Gives Left w (Emit l) ys e = (ys ≡ elements l) × (e ≡ Done)
+Gives Left w (Raise c) ys e = (ys ≡ []) × (e ≡ Fault (code.Raised c))
+Gives Left w (Read p) ys e = Reads (w p) ys e
+Gives Left w (Weak' p _ a) ys e = Opens (w p) (Left (Gives Left w a)) (IsIdle w a) ys e
+Gives Left w (Scope' _ a) ys e = Left (Gives Left w a) ys e
+Gives Left w (Append' _ a _ b) ys e = Follows (λ g. g ≡ Done) (Left (Gives Left w a)) (Left (Gives Left w b)) (IsIdle w b) ys e
+Gives Left w (OnFault' _ a _ b) ys e = Follows IsFault (Left (Gives Left w a)) (Left (Gives Left w b)) (IsIdle w b) ys e
+Gives Left w (Take' n _ a) ys e = Taken n (Left (Gives Left w a)) ys e
 
 -- a run of the node; it and each of its parts may be left at any time
 abbrev pub IsRun : (ℕ → DeviceTold) → Node → Outcomes

@@ -1,0 +1,50 @@
+-- A node has one ideal run over the same contents.
+use Rattle.std.proofs.Common.{◌≡◌, inl, inr, subst, ℕ, List, [], ◌++◌, length, Option, None, Some, sym, ◌∙◌, ap, arith, refl}
+use Rattle.chunk_core.specs.Elements.{Element}
+use Rattle.chunk_core.specs.Outcomes.{End, Done, Fault, Cut, Outcomes}
+use Rattle.device_port.specs.Device.{DeviceTold, faults_of}
+use Rattle.pull_nodes.specs.Runs.{IsIdealRun, Reads, ReadsBy, ReadsContent, Opens, Follows, Taken, IsFault, IsIdle}
+use Rattle.pull_nodes.specs.Laws.{IsClean, TellSame, TellSameOf}
+use Rattle.pull_nodes.specs.declared.node.Node.{Node}
+use Rattle.pull_nodes.specs.declared.node.Node.TheVariants.{Nil, Emit, Raise, Read, Weak', Scope', Append', OnFault', Take'}
+
+-- what the two give is one run
+abbrev OneRun : Outcomes → Outcomes → Type 0
+OneRun A B = (xs ys : List Element) (e g : End) → A xs e → B ys g → (xs ≡ ys) × (e ≡ g)
+
+one_content : (d f : DeviceTold) → faults_of d ≡ 0 → faults_of f ≡ 0 → (c : List ℕ) → OneRun (ReadsContent d c) (ReadsContent f c)
+one_content d f cd cf c xs ys e g r s =
+    let rd : d.read_faults ≡ 0 = omega (arith, cd) in
+    let rf : f.read_faults ≡ 0 = omega (arith, cf) in
+    grind arith
+
+one_read : (d f : DeviceTold) → faults_of d ≡ 0 → faults_of f ≡ 0 → TellSame d f → OneRun (Reads d) (Reads f)
+one_read d f cd cf same xs ys e g r s =
+    one_content d f cd cf same.0 xs ys e g (subst (λ o. ReadsBy o d xs e) same.1 r) (subst (λ o. ReadsBy o f ys g) same.2 s)
+
+one_opens : (d f : DeviceTold) → faults_of d ≡ 0 → faults_of f ≡ 0 → (A B : Outcomes) (P Q : Type 0) → OneRun A B → OneRun (Opens d A P) (Opens f B Q)
+one_opens d f cd cf A B P Q h xs ys e g (inl r) (inl s) = h xs ys e g r.1 s.1
+one_opens d f cd cf A B P Q h xs ys e g (inr r) s = absurd (omega (arith, cd, r.0))
+one_opens d f cd cf A B P Q h xs ys e g (inl r) (inr s) = absurd (omega (arith, cf, s.0))
+
+one_follows : (Begins : End → Type 0) (A B C D : Outcomes) (P Q : Type 0) → OneRun A C → OneRun B D → OneRun (Follows Begins A B P) (Follows Begins C D Q)
+one_follows Begins A B C D P Q f k xs ys e g (inl r) (inl s) = f xs ys e g r.0 s.0
+one_follows Begins A B C D P Q f k xs ys e g (inl r) (inr s) = let h = f xs s.0 e s.2 r.0 s.3 in absurd (r.1 (subst Begins (sym h.1) s.4))
+one_follows Begins A B C D P Q f k xs ys e g (inr r) (inl s) = let h = f r.0 ys r.2 g r.3 s.0 in absurd (s.1 (subst Begins h.1 r.4))
+one_follows Begins A B C D P Q f k xs ys e g (inr r) (inr s) =
+    let h = f r.0 s.0 r.2 s.2 r.3 s.3 in let j = k r.1 s.1 e g r.5 s.5 in (cc, j.1)
+
+one_taken : (n : ℕ) (A B : Outcomes) → OneRun A B → OneRun (Taken n A) (Taken n B)
+one_taken n A B f xs ys e g r s =
+    let h = f r.0 s.0 r.1 s.1 r.2 s.2 in let k = ap length h.0 in let a = r.3 in let b = s.3 in grind arith
+
+pub one : (v w : ℕ → DeviceTold) → IsClean v → IsClean w → (n : Node) → TellSameOf v w n → OneRun (IsIdealRun v n) (IsIdealRun w n)
+one v w cv cw Nil t xs ys e g r s = (cc, cc)
+one v w cv cw (Emit l) t xs ys e g r s = (cc, cc)
+one v w cv cw (Raise c) t xs ys e g r s = (cc, cc)
+one v w cv cw (Read p) t xs ys e g r s = one_read (v p) (w p) (cv p) (cw p) t xs ys e g r s
+one v w cv cw (Weak' p q a) t xs ys e g r s = one_opens (v p) (w p) (cv p) (cw p) _ _ _ _ (one v w cv cw a t) xs ys e g r s
+one v w cv cw (Scope' q a) t xs ys e g r s = one v w cv cw a t xs ys e g r s
+one v w cv cw (Append' p a q b) t xs ys e g r s = one_follows _ _ _ _ _ _ _ (one v w cv cw a t.0) (one v w cv cw b t.1) xs ys e g r s
+one v w cv cw (OnFault' p a q b) t xs ys e g r s = one_follows _ _ _ _ _ _ _ (one v w cv cw a t.0) (one v w cv cw b t.1) xs ys e g r s
+one v w cv cw (Take' n p a) t xs ys e g r s = one_taken n _ _ (one v w cv cw a t) xs ys e g r s

@@ -1,0 +1,14 @@
+-- What may be left may be left earlier.
+use Rattle.std.proofs.Common.{◌≡◌, List, [], ◌∷◌, ◌++◌, inl, inr, refl, ap, subst, append_assoc}
+use Rattle.chunk_core.specs.Elements.{Element}
+use Rattle.chunk_core.specs.Outcomes.{End, Cut, Outcomes}
+use Rattle.pull_nodes.specs.Runs.{OrLeft}
+
+no_front : {A : Type 0} (xs ys : List A) → xs ++ ys ≡ [] → xs ≡ []
+no_front [] ys h = refl
+no_front (x ∷ xs) ys h = cc
+
+pub left : (R : Outcomes) (ys more : List Element) (e : End) → OrLeft R (ys ++ more) e → OrLeft R ys Cut
+left R ys more e (inl r) = inr (refl, inr (more, e, r))
+left R ys more e (inr (is, inl none)) = inr (refl, inl (no_front ys more none))
+left R ys more e (inr (is, inr (rest, g, r))) = inr (refl, inr (more ++ rest, g, rw (← append_assoc) r))

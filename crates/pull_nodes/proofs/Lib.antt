@@ -1,0 +1,4 @@
+pub mod Counts
+pub mod Ideal
+pub mod Left
+pub mod Joins

@@ -1,0 +1,38 @@
+-- What holds of the runs of every node.
+use Rattle.std.specs.Prelude.{◌≡◌, ℕ, List, ◌++◌, Option, Some}
+use Rattle.chunk_core.specs.Elements.{Element}
+use Rattle.chunk_core.specs.Outcomes.{End, Cut}
+use Rattle.device_port.specs.Device.{DeviceTold, faults_of}
+use Rattle.pull_nodes.specs.Runs.{IsRun, IsIdealRun}
+use Rattle.pull_nodes.specs.declared.node.Node.{Node}
+use Rattle.pull_nodes.specs.declared.node.Node.TheVariants.{Nil, Emit, Raise, Read, Weak', Scope', Append', OnFault', Take'}
+
+-- a front of what a run gives is what a run gives that was left
+abbrev pub CanBeLeft : Type 0
+CanBeLeft = (w : ℕ → DeviceTold) (n : Node) (ys more : List Element) (e : End) → IsRun w n (ys ++ more) e → IsRun w n ys Cut
+
+-- no act of a device failed
+abbrev pub IsClean : (ℕ → DeviceTold) → Type 0
+IsClean w = (p : ℕ) → faults_of (w p) ≡ 0
+
+-- both tell this content
+abbrev pub TellSame : DeviceTold → DeviceTold → Type 0
+TellSame d e = (content : List ℕ) × (d.content ≡ Some content) × (e.content ≡ Some content)
+
+-- at each place that the node reads, both tell the same content
+abbrev pub TellSameOf : (ℕ → DeviceTold) → (ℕ → DeviceTold) → Node → Type 0
+TellSameOf v w Nil = Unit {0}
+TellSameOf v w (Emit l) = Unit {0}
+TellSameOf v w (Raise c) = Unit {0}
+TellSameOf v w (Read p) = TellSame (v p) (w p)
+TellSameOf v w (Weak' p _ a) = TellSameOf v w a
+TellSameOf v w (Scope' _ a) = TellSameOf v w a
+TellSameOf v w (Append' _ a _ b) = TellSameOf v w a × TellSameOf v w b
+TellSameOf v w (OnFault' _ a _ b) = TellSameOf v w a × TellSameOf v w b
+TellSameOf v w (Take' n _ a) = TellSameOf v w a
+
+-- two ideal runs of a node, where nothing failed and the contents are the same, are one
+abbrev pub HasOneIdealRun : Type 0
+HasOneIdealRun =
+    (v w : ℕ → DeviceTold) (n : Node) (xs ys : List Element) (e g : End) → IsClean v → IsClean w → TellSameOf v w n
+    → IsIdealRun v n xs e → IsIdealRun w n ys g → (xs ≡ ys) × (e ≡ g)

@@ -1,0 +1,43 @@
+-- Whether each device of a node is acquired in one place and used in one place.
+use Rattle.std.specs.Prelude.{ℕ, Bool, true, false, ◌&&◌, ◌||◌, not, cond, nat_eq, nat_le, nat_lt, List, [], ◌∷◌}
+use Rattle.chunk_core.specs.Lists.{any, all}
+use Rattle.chunk_core.specs.declared.code.Span.{Span}
+use Rattle.pull_nodes.specs.Shape.{places_of, uses_of}
+use Rattle.pull_nodes.specs.declared.node.Node.{Node}
+use Rattle.pull_nodes.specs.declared.node.Node.TheVariants.{Nil, Emit, Raise, Read, Weak', Scope', Append', OnFault', Take'}
+
+-- the span has the row
+abbrev pub is_within : Span → ℕ → Bool
+is_within span p = nat_le span.from p && nat_lt p span.to
+
+-- no number stands in both lists
+abbrev pub are_apart : List ℕ → List ℕ → Bool
+are_apart ps qs = all (λ p. not (any (nat_eq p) qs)) ps
+
+-- no number stands twice
+abbrev pub are_distinct : List ℕ → Bool
+are_distinct [] = true
+are_distinct (p ∷ ps) = not (any (nat_eq p) ps) && are_distinct ps
+
+-- the number stands in the list once
+abbrev pub is_once : List ℕ → ℕ → Bool
+is_once [] p = false
+is_once (q ∷ qs) p = cond (nat_eq p q) (not (any (nat_eq p) qs)) (is_once qs p)
+
+-- a Read of the place stands outside of the part of each Weak of the place
+abbrev pub is_loose : ℕ → Node → Bool
+is_loose p Nil = false
+is_loose p (Emit l) = false
+is_loose p (Raise c) = false
+is_loose p (Read q) = nat_eq p q
+is_loose p (Weak' q _ a) = not (nat_eq p q) && is_loose p a
+is_loose p (Scope' _ a) = is_loose p a
+is_loose p (Append' _ a _ b) = is_loose p a || is_loose p b
+is_loose p (OnFault' _ a _ b) = is_loose p a || is_loose p b
+is_loose p (Take' n _ a) = is_loose p a
+
+-- the places are distinct and within the span, each is read once, and each Read stands in the part of a Weak of its place
+abbrev pub is_placed : Span → Node → Bool
+is_placed span n =
+    all (is_within span) (places_of n)
+    && (are_distinct (places_of n) && (all (is_once (uses_of n)) (places_of n) && all (λ p. not (is_loose p n)) (uses_of n)))
