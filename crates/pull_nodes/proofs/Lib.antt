@@ -2,3 +2,4 @@ pub mod Counts
 pub mod Ideal
 pub mod Left
 pub mod Joins
+pub mod Inside

@@ -36,8 +36,20 @@ is_loose p (Append' _ a _ b) = is_loose p a || is_loose p b
 is_loose p (OnFault' _ a _ b) = is_loose p a || is_loose p b
 is_loose p (Take' n _ a) = is_loose p a
 
--- the places are distinct and within the span, each is read once, and each Read stands in the part of a Weak of its place
+-- each Read stands in the part of a Weak of its place, or its place is among the given ones
+abbrev pub is_inside : List ℕ → Node → Bool
+is_inside ps Nil = true
+is_inside ps (Emit l) = true
+is_inside ps (Raise c) = true
+is_inside ps (Read p) = any (nat_eq p) ps
+is_inside ps (Weak' p _ a) = is_inside (p ∷ ps) a
+is_inside ps (Scope' _ a) = is_inside ps a
+is_inside ps (Append' _ a _ b) = is_inside ps a && is_inside ps b
+is_inside ps (OnFault' _ a _ b) = is_inside ps a && is_inside ps b
+is_inside ps (Take' n _ a) = is_inside ps a
+
+-- the places are within the span and distinct, each is read once, and each Read stands in the part of a Weak of its place
 abbrev pub is_placed : Span → Node → Bool
 is_placed span n =
     all (is_within span) (places_of n)
-    && (are_distinct (places_of n) && (all (is_once (uses_of n)) (places_of n) && all (λ p. not (is_loose p n)) (uses_of n)))
+    && (are_distinct (places_of n) && (all (is_once (uses_of n)) (places_of n) && is_inside [] n))
