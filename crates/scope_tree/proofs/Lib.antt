@@ -1,0 +1,13 @@
+pub mod Once
+pub mod Taking
+pub mod Shapes
+pub mod Parts
+pub mod Bridge
+pub mod Facts
+pub mod Keeps
+pub mod Grows
+pub mod Use
+pub mod Covered
+pub mod Quitting
+pub mod Cancelling
+pub mod Walking

@@ -1,0 +1,41 @@
+-- Lists of open rows, in which no row stands twice.
+use Rattle.std.proofs.Common.{◌≡◌, ℕ, cond, List, [], ◌∷◌, ◌++◌, ◌⊎◌, inl, inr, sym, ap, subst, ⊎_elim, ne_eqb, eq-eqb}
+use Rattle.std.proofs.lemmas.Bool.{cases_eq}
+use Rattle.chunk_core.specs.Lists.{IsAmong}
+use Rattle.chunk_core.specs.Lists.IsAmong.{here, there}
+use Rattle.chunk_core.proofs.Members.{among_snoc}
+use Rattle.row_seat.specs.Views.{HasRow, without_row}
+use Rattle.row_seat.proofs.Hands.{has_cons, has_nil}
+use Rattle.scope_tree.specs.Torn.{Once}
+
+module _ {P : Type 0} (r : ℕ) where
+  pub has_without : (xs : List (ℕ × P)) (q : ℕ) → HasRow (without_row r xs) q → HasRow xs q
+  has_without [] q h = h
+  has_without (x ∷ xs) q h =
+      ⊎_elim
+      (λ e. let m : HasRow xs q = subst (λ b. HasRow (cond b xs (x ∷ without_row r xs)) q) (eq-eqb x.0 r e) h in (m.0, there x m.1))
+      (λ ne. ⊎_elim (λ s. (x.1, subst (λ t. IsAmong (t, x.1) (x ∷ xs)) s (here xs))) (λ m. let t = has_without xs q m in (t.0, there x t.1)) (has_cons x (without_row r xs) q (subst (λ b. HasRow (cond b xs (x ∷ without_row r xs)) q) (ne_eqb x.0 r ne) h)))
+      (cases_eq x.0 r)
+
+  pub gone_without : (xs : List (ℕ × P)) → Once xs → ¬ (HasRow (without_row r xs) r)
+  gone_without [] o h = has_nil r h
+  gone_without (x ∷ xs) o h =
+      ⊎_elim
+      (λ e. let m : HasRow xs r = subst (λ b. HasRow (cond b xs (x ∷ without_row r xs)) r) (eq-eqb x.0 r e) h in o.0 (subst (λ t. HasRow xs t) (sym e) m))
+      (λ ne. ⊎_elim ne (gone_without xs o.1) (has_cons x (without_row r xs) r (subst (λ b. HasRow (cond b xs (x ∷ without_row r xs)) r) (ne_eqb x.0 r ne) h)))
+      (cases_eq x.0 r)
+
+  pub once_without : (xs : List (ℕ × P)) → Once xs → Once (without_row r xs)
+  once_without [] o = o
+  once_without (x ∷ xs) o =
+      ⊎_elim
+      (λ e. subst (λ b. Once (cond b xs (x ∷ without_row r xs))) (sym (eq-eqb x.0 r e)) o.1)
+      (λ ne. subst (λ b. Once (cond b xs (x ∷ without_row r xs))) (sym (ne_eqb x.0 r ne)) ((λ h. o.0 (has_without xs x.0 h)), once_without xs o.1))
+      (cases_eq x.0 r)
+
+  pub has_push : (xs : List (ℕ × P)) (p : P) (q : ℕ) → HasRow (xs ++ (r, p) ∷ []) q → HasRow xs q ⊎ (r ≡ q)
+  has_push xs p q h = ⊎_elim (λ m. inl (h.0, m)) (λ e. inr (ap (λ y. y.0) (sym e))) (among_snoc xs (q, h.0) (r, p) h.1)
+
+  pub once_push : (xs : List (ℕ × P)) (p : P) → Once xs → ¬ (HasRow xs r) → Once (xs ++ (r, p) ∷ [])
+  once_push [] p o n = (has_nil r, tt)
+  once_push (x ∷ xs) p o n = ((λ h. ⊎_elim o.0 (λ e. n (x.1, subst (λ t. IsAmong (t, x.1) (x ∷ xs)) (sym e) (here xs))) (has_push xs p x.0 h)), once_push xs p o.1 (λ h. n (h.0, there x h.1)))

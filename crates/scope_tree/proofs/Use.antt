@@ -1,0 +1,90 @@
+-- What callers read off the clauses of a tree.
+use Rattle.std.proofs.Common.{flat_map, ◌≡◌, ℕ, ◌⊎◌, Bool, List, [], ◌∷◌, ◌++◌, inl, inr, refl, sym, ap, ◌∙◌, subst, ⊎_elim, append_assoc}
+use Rattle.res_ledger.specs.declared.event.StreamNo.{StreamNo}
+use Rattle.res_ledger.specs.declared.event.What.{What}
+use Rattle.res_ledger.specs.declared.event.What.TheVariants.{Open, Acquire, Lease, Cancel, Close}
+use Rattle.res_ledger.specs.declared.event.Event.{Event}
+use Rattle.row_seat.specs.declared.view.View.{View}
+use Rattle.chunk_core.specs.Lists.{IsAmong}
+use Rattle.res_ledger.specs.Ledger.{Notes, IsClosed, IsUsable, Covers}
+use Rattle.chunk_core.proofs.Members.{among_nil, among_mid}
+use Rattle.chunk_core.specs.Lists.IsAmong.{here}
+use Rattle.res_ledger.specs.Own.{own, opens, closes, teardown, leased_of}
+use Rattle.res_ledger.proofs.Noted.{flat_holds}
+use Rattle.res_ledger.specs.Order.{Picks, finals, firsts}
+use Rattle.res_ledger.specs.Order.Picks.{none, pick, pass}
+use Rattle.res_ledger.specs.Order.{IsInBlocks, IsAny}
+use Rattle.res_ledger.proofs.Blocks.{picks_map, blocks_plain, blocks_close, blocks_cancel}
+use Rattle.scope_tree.specs.Walks.{FirstOpen}
+use Rattle.scope_tree.specs.Walks.FirstOpen.{this_one, above_it}
+use Rattle.scope_tree.specs.Torn.{said}
+use Rattle.scope_tree.specs.Leaving.{lifo}
+use Rattle.scope_tree.proofs.Quitting.{quits_by, quits_words, quits_picks}
+use Rattle.scope_tree.specs.Trees.{Seen, words, Opens, Acquires, Closes, Cancels, canceling, opening, acquiring, closing}
+use Rattle.scope_tree.proofs.Bridge.{own_snoc, noted_in, in_noted, closes_in, in_opens}
+use Rattle.scope_tree.proofs.Facts.{torn_words, torn_picks}
+use Rattle.scope_tree.proofs.Taking.{torn_by}
+
+-- with nothing that may be left out, nothing is
+pub all_picked : {may : ℕ → Type 0} {xs ys : List ℕ} → ((r : ℕ) → may r → ⊥) → Picks may xs ys → xs ≡ ys
+all_picked n none = refl
+all_picked n (pick x p) = ap (λ l. x ∷ l) (all_picked n p)
+all_picked n (pass y m p) = absurd (n y m)
+
+-- the leases that were noted
+abbrev pub leases : List What → List (ℕ × ℕ)
+leases E = flat_map leased_of E
+
+lease_in : (j s : ℕ) (E : List What) → IsAmong (Lease j s) E → IsAmong (j, s) (leases E)
+lease_in j s E m = flat_holds leased_of (Lease j s) E (j, s) m (here [])
+
+module _ {P : Type 0} where
+  -- without a lease no row is covered
+  pub no_cover : (v : View P) (k : StreamNo) (j r : ℕ) → v.by ≡ k → leases (words v) ≡ [] → Covers v.events j k r → ⊥
+  no_cover v k j r b e c =
+      let n : Notes v.events v.by (Lease j c.3) = (c.2, subst (λ l. IsAmong c.2 l) (sym c.4) (among_mid c.0 c.1 c.2), c.5 ∙ sym b, c.6) in
+      among_nil (subst (λ l. IsAmong (j, c.3) l) e (lease_in j c.3 (words v) (noted_in v.by (Lease j c.3) v.events n)))
+
+  -- without a close each scope that was opened is open
+  pub all_open : (v : View P) (s : ℕ) → closes (words v) ≡ [] → (s ≡ 0) ⊎ ((p : ℕ) × IsAmong (s, p) (opens (words v))) → IsUsable v.events v.by s
+  all_open v s e o = (
+    ⊎_elim (λ z. inl z) (λ z. inr (z.0, in_noted v.by (Open s z.0) v.events (in_opens s z.0 (words v) z.1))) o,
+    λ c. among_nil (subst (λ l. IsAmong c.0 l) e (closes_in c.0 (words v) (noted_in v.by (Close c.0) v.events c.2))),
+  )
+
+  pub opened_said : {a b : Seen P} {at c : ℕ} (o : Opens a at c b) → words b.seat ≡ words a.seat ++ Open c o.parent ∷ []
+  opened_said {a = a} {c = c} o = ap words o.seat ∙ own_snoc a.seat.by a.seat.events (opening a.seat c o.parent o.stamp) refl
+
+  pub acquired_said : {a b : Seen P} {s r : ℕ} {p : P} → Acquires a s r p b → words b.seat ≡ words a.seat ++ Acquire r s ∷ []
+  acquired_said {a = a} {s = s} {r = r} o = ap words o.seat ∙ own_snoc a.seat.by a.seat.events (acquiring a.seat r s o.stamp) refl
+
+  pub closed_said : {ends : P → Bool → P → Type 0} {a b : Seen P} {s : ℕ} (c : Closes ends a s b) → words b.seat ≡ words a.seat ++ Close s ∷ finals (said c.torn.0)
+  closed_said {a = a} {b = b} {s = s} c = ap (λ k. own k b.seat.events) (torn_by c.torn.2) ∙ torn_words a.seat.by c.torn.2 refl ∙ ap (λ l. l ++ finals (said c.torn.0)) (own_snoc a.seat.by a.seat.events (closing a.seat s c.stamp) refl) ∙ append_assoc (words a.seat) (Close s ∷ []) (finals (said c.torn.0))
+
+  pub closed_picks : {ends : P → Bool → P → Type 0} {a b : Seen P} {s : ℕ} (c : Closes ends a s b) → Picks (λ r. (j : ℕ) × Covers b.seat.events j a.seat.by r) (firsts (said c.torn.0)) (teardown (words a.seat) s)
+  closed_picks {a = a} {b = b} c = torn_picks b.seat.events a.seat.by c.torn.2 refl refl
+
+  pub closed_by : {ends : P → Bool → P → Type 0} {a b : Seen P} {s : ℕ} (c : Closes ends a s b) → b.seat.by ≡ a.seat.by
+  closed_by c = torn_by c.torn.2
+
+  -- each call keeps the order of the stream's own events
+  module _ {may : ℕ → Type 0} {due : ℕ → List ℕ} where
+    pub open_in_order : {a b : Seen P} {p c : ℕ} → Opens a p c b → IsInBlocks may due [] (words a.seat) → IsInBlocks may due [] (words b.seat)
+    open_in_order {a = a} {c = c} o i = subst (λ E. IsInBlocks may due [] E) (sym (opened_said o)) (blocks_plain (words a.seat) (Open c o.parent) refl i)
+
+    pub acquire_in_order : {a b : Seen P} {s r : ℕ} {p : P} → Acquires a s r p b → IsInBlocks may due [] (words a.seat) → IsInBlocks may due [] (words b.seat)
+    acquire_in_order {a = a} {s = s} {r = r} o i = subst (λ E. IsInBlocks may due [] E) (sym (acquired_said o)) (blocks_plain (words a.seat) (Acquire r s) refl i)
+
+    pub close_in_order : {ends : P → Bool → P → Type 0} {a b : Seen P} {s : ℕ} (c : Closes ends a s b) → ((r j : ℕ) → Covers b.seat.events j a.seat.by r → may r) → IsInBlocks may due [] (words a.seat) → IsInBlocks may due [] (words b.seat)
+    close_in_order {a = a} {s = s} c h i = subst (λ E. IsInBlocks may due [] E) (sym (closed_said c)) (blocks_close (words a.seat) s (said c.torn.0) (picks_map (λ r m. h r m.0 m.1) (closed_picks c)) i)
+
+    -- where the rows of the lease, latest first, are those that are due
+    pub cancel_in_order : {ends : P → Bool → P → Type 0} {a b : Seen P} {j : ℕ} {T : List ℕ} (c : Cancels ends a j T b) → due j ≡ lifo T → IsInBlocks may due [] (words a.seat) → IsInBlocks may due [] (words b.seat)
+    cancel_in_order {a = a} {b = b} {j = j} c e i =
+        let w : words b.seat ≡ words a.seat ++ Cancel j ∷ finals (said c.left.0) = ap (λ k. own k b.seat.events) (quits_by c.left.2) ∙ quits_words a.seat.by c.left.2 refl ∙ ap (λ l. l ++ finals (said c.left.0)) (own_snoc a.seat.by a.seat.events (canceling a.seat j c.stamp) refl) ∙ append_assoc (words a.seat) (Cancel j ∷ []) (finals (said c.left.0)) in
+        subst (λ E. IsInBlocks may due [] E) (sym w) (blocks_cancel (words a.seat) j (said c.left.0) (subst (λ l. Picks IsAny (firsts (said c.left.0)) l) (sym e) (quits_picks c.left.2)) i)
+
+-- an open scope is the first open scope from itself
+pub first_is : {L : List Event} {k : StreamNo} {c q : ℕ} → ¬ (IsClosed L k c) → FirstOpen L k c q → q ≡ c
+first_is n (this_one c m) = refl
+first_is n (above_it c p q x o f) = absurd (n x)

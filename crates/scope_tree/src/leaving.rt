@@ -1,0 +1,71 @@
+//! Leaving the rows of a lease.
+ghost use Rattle.std.specs.Prelude.{◌≡◌, ℕ, ◌+◌, ◌<◌, ◌≤◌, length, vec_len, vec_capacity, [], ◌∷◌};
+ghost use Rattle.row_seat.specs.Views.{OthersFit};
+ghost use Rattle.scope_tree.specs.Leaving.{CanLeaveAll, LeavesAll, lifo};
+
+use crate::branch::{Finish, Spent};
+use res_ledger::What;
+use row_seat::{Left, RowSeat};
+
+/// The rows that a lease covers, in the order of acquisition.
+pub struct Lease {
+    pub stream: u32,
+    pub rows: Vec<u32>,
+}
+
+/// Leaves a row, and where it is handed to this seat, ends it.
+fn leave<S: RowSeat>(
+    seat: &mut S,
+    desk: &mut S::Desk,
+    shelf: &mut Vec<Spent<S::Pay>>,
+    stream: u32,
+    row: u32,
+)
+where
+    S::Pay: Finish,
+    requires fits { S.fits seat.old desk.old }
+    requires can { CanLeaveAll (S.view seat.old) stream (row ∷ []) }
+    requires room { vec_len shelf.old + 1 ≤ vec_capacity shelf.old }
+    ensures left { LeavesAll S.Pay.ends stream (row ∷ []) (S.view seat.old) shelf.old.items shelf.new.items (S.view seat.new) }
+    ensures room { vec_capacity shelf.old ≤ vec_capacity shelf.new }
+    ensures fits { S.fits seat.new desk.new }
+    ensures others { OthersFit S.view S.fits (S.view seat.old).by desk.old desk.new }
+{
+    match seat.leave(desk, stream, row) {
+        Left::Stays => {}
+        Left::Yours => {
+            let mut pay = seat.take(desk, row);
+            let ok = pay.finish();
+            seat.note(desk, What::Final { row, ok });
+            match shelf.push(Spent { row, pay, ok }) {
+                Ok(()) => {}
+                Err(_) => unreachable!(),
+            }
+        }
+    }
+}
+
+/// Leaves the rows, the last first.
+pub fn leave_all<S: RowSeat>(
+    seat: &mut S,
+    desk: &mut S::Desk,
+    shelf: &mut Vec<Spent<S::Pay>>,
+    stream: u32,
+    rows: &[u32],
+)
+where
+    S::Pay: Finish,
+    requires fits { S.fits seat.old desk.old }
+    requires can { CanLeaveAll (S.view seat.old) stream (lifo rows.now) }
+    requires room { vec_len shelf.old + length rows.now ≤ vec_capacity shelf.old }
+    ensures left { LeavesAll S.Pay.ends stream (lifo rows.now) (S.view seat.old) shelf.old.items shelf.new.items (S.view seat.new) }
+    ensures room { vec_capacity shelf.old ≤ vec_capacity shelf.new }
+    ensures fits { S.fits seat.new desk.new }
+    ensures others { OthersFit S.view S.fits (S.view seat.old).by desk.old desk.new }
+{
+    let mut at = rows.len();
+    'rows: while at > 0 {
+        at -= 1;
+        leave(seat, desk, shelf, stream, rows[at]);
+    }
+}
