@@ -11,7 +11,7 @@ use Rattle.chunk_core.specs.Lists.IsAmong.{here, there}
 use Rattle.chunk_core.proofs.Members.{among_nil, among_cons}
 use Rattle.res_ledger.specs.Own.{same_name, own, opens, opens_of, rows, rows_of, closes, closes_of}
 use Rattle.scope_tree.specs.declared.branch.Branch.{Branch}
-use Rattle.scope_tree.specs.Trees.{marks}
+use Rattle.scope_tree.specs.Kept.{marks}
 use Rattle.std.proofs.lemmas.Grind.{flat_map-append}
 use Rattle.res_ledger.proofs.Tests.{named}
 use Rattle.res_ledger.proofs.Scopes.{own_append}

@@ -12,12 +12,14 @@ use Rattle.res_ledger.specs.Order.{finals}
 use Rattle.scope_tree.specs.declared.branch.Branch.{Branch}
 use Rattle.scope_tree.specs.declared.branch.Held.{Held}
 use Rattle.scope_tree.specs.declared.branch.Spent.{Spent}
-use Rattle.scope_tree.specs.Torn.{AreDistinct, said}
+use Rattle.scope_tree.specs.Rows.{AreDistinct}
+use Rattle.scope_tree.specs.Torn.{said}
 use Rattle.scope_tree.specs.Leaving.{CanLeaveAll, Quits, away}
-use Rattle.scope_tree.specs.Trees.{words, Kept, owed, open_of, open_scopes, numbers, canceling}
+use Rattle.scope_tree.specs.Words.{words, owed, open_of, open_scopes, numbers, canceling}
+use Rattle.scope_tree.specs.Kept.{Kept}
 use Rattle.scope_tree.proofs.Bridge.{own_snoc, opens_append, rows_append, closes_append}
 use Rattle.scope_tree.proofs.Keeps.{opens_finals, rows_finals, closes_finals, within_map, within_opens, noted_last, open_final, close_final, final_is_none}
-use Rattle.scope_tree.specs.Torn.{Once}
+use Rattle.scope_tree.specs.Rows.{Once}
 use Rattle.scope_tree.proofs.Grows.{closed_same}
 use Rattle.scope_tree.proofs.Quitting.{quits_words, quits_noted, quits_old, quits_pairs, quits_empty, quits_opened, quits_by, quits_spare, quits_away, quits_can}
 

@@ -11,7 +11,8 @@ use Rattle.chunk_core.proofs.Members.{among_nil, among_cons}
 use Rattle.res_ledger.specs.Own.{opens, rows, closes, has, up, above, turned, is_closed, is_child, reaches, picked, leased_rows}
 use Rattle.scope_tree.specs.declared.branch.Branch.{Branch}
 use Rattle.scope_tree.specs.declared.branch.Held.{Held}
-use Rattle.scope_tree.specs.Trees.{marks, words, Kept}
+use Rattle.scope_tree.specs.Kept.{marks, Kept}
+use Rattle.scope_tree.specs.Words.{words}
 use Rattle.scope_tree.proofs.Bridge.{noted_in, in_noted, in_opens, opens_in, in_rows, rows_in, closes_in, within_cases}
 use Rattle.res_ledger.proofs.Noted.{in_has, has_in}
 use Rattle.scope_tree.proofs.Keeps.{any_at, closed_sound, up_within, among_turned, noted_scope, not_true', shut_not, length-drop', at_drop}

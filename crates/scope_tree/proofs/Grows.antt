@@ -15,11 +15,13 @@ use Rattle.res_ledger.specs.Own.{own, opens, rows, closes, has, up, turned, is_c
 use Rattle.chunk_core.specs.Lists.{any}
 use Rattle.scope_tree.specs.declared.branch.Branch.{Branch}
 use Rattle.scope_tree.specs.declared.branch.Held.{Held}
-use Rattle.scope_tree.specs.Torn.{AreDistinct}
-use Rattle.scope_tree.specs.Trees.{marks, held_pairs, held_rows, words, Kept, owed, acquiring, opening, open_of, open_scopes, numbers, AtStart}
+use Rattle.scope_tree.specs.Rows.{AreDistinct}
+use Rattle.scope_tree.specs.Kept.{marks, held_pairs, held_rows, Kept}
+use Rattle.scope_tree.specs.Words.{words, owed, acquiring, opening, open_of, open_scopes, numbers}
+use Rattle.scope_tree.specs.Calls.{AtStart}
 use Rattle.std.proofs.lemmas.Bool.{cases_eq}
 use Rattle.scope_tree.proofs.Keeps.{noted_scope, closed_sound, usable_scope, open_less, not_true', within_opens, noted_last}
-use Rattle.scope_tree.specs.Torn.{Once}
+use Rattle.scope_tree.specs.Rows.{Once}
 use Rattle.scope_tree.proofs.Once.{once_push}
 use Rattle.res_ledger.specs.Ledger.{LiesWithin}
 use Rattle.res_ledger.specs.Ledger.LiesWithin.{same, below}
@@ -27,15 +29,15 @@ use Rattle.scope_tree.proofs.Parts.{distinct_append, row_of_pair}
 use Rattle.scope_tree.proofs.Bridge.{own_snoc, noted_in, in_noted, closes_in, within_cases, in_rows, opens_append, rows_append, closes_append}
 use Rattle.res_ledger.proofs.Noted.{has_in}
 
-pairs_snoc : (hs : List Held) (h : Held) → held_pairs (hs ++ h ∷ []) ≡ held_pairs hs ++ (h.row, h.scope) ∷ []
+pub pairs_snoc : (hs : List Held) (h : Held) → held_pairs (hs ++ h ∷ []) ≡ held_pairs hs ++ (h.row, h.scope) ∷ []
 pairs_snoc [] h = refl
 pairs_snoc (x ∷ hs) h = ap (λ l. let y : ℕ × ℕ = (x.row, x.scope) in y ∷ l) (pairs_snoc hs h)
 
-rows_snoc : (hs : List Held) (h : Held) → held_rows (hs ++ h ∷ []) ≡ held_rows hs ++ h.row ∷ []
+pub rows_snoc : (hs : List Held) (h : Held) → held_rows (hs ++ h ∷ []) ≡ held_rows hs ++ h.row ∷ []
 rows_snoc [] h = refl
 rows_snoc (x ∷ hs) h = ap (λ l. x.row ∷ l) (rows_snoc hs h)
 
-pair_of_row : (r : ℕ) (hs : List Held) → IsAmong r (held_rows hs) → (t : ℕ) × IsAmong (r, t) (held_pairs hs)
+pub pair_of_row : (r : ℕ) (hs : List Held) → IsAmong r (held_rows hs) → (t : ℕ) × IsAmong (r, t) (held_pairs hs)
 pair_of_row r [] m = absurd (among_nil m)
 pair_of_row r (h ∷ hs) m = ⊎_elim (λ e. (h.scope, subst (λ z. IsAmong (z, h.scope) (held_pairs (h ∷ hs))) (sym e) (here (held_pairs hs)))) (λ n. let t = pair_of_row r hs n in let y : ℕ × ℕ = (h.row, h.scope) in (t.0, there y t.1)) (among_cons m)
 

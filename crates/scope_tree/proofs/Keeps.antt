@@ -21,7 +21,8 @@ use Rattle.scope_tree.specs.declared.branch.Held.{Held}
 use Rattle.scope_tree.specs.declared.branch.Spent.{Spent}
 use Rattle.scope_tree.specs.Kids.{lasts, kids, whole}
 use Rattle.scope_tree.specs.Torn.{Ready, Torn, said}
-use Rattle.scope_tree.specs.Trees.{marks, held_pairs, words, Kept, owed, closing, shutting, open_of, open_scopes, numbers}
+use Rattle.scope_tree.specs.Kept.{marks, held_pairs, Kept}
+use Rattle.scope_tree.specs.Words.{words, owed, closing, shutting, open_of, open_scopes, numbers}
 use Rattle.scope_tree.proofs.Parts.{kids_cases, lasts_pair, distinct_whole, below_is, latest_is, kids_up, among_either, among_right, pair_lasts, eqb_eq, one_scope}
 use Rattle.scope_tree.proofs.Bridge.{own_snoc, noted_in, in_noted, in_opens, opens_in, in_rows, closes_in, in_closes, marks_at, marks_in, within_cases, opens_append, rows_append, closes_append}
 use Rattle.res_ledger.proofs.Noted.{in_has, has_in}

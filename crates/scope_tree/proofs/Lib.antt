@@ -11,3 +11,8 @@ pub mod Covered
 pub mod Quitting
 pub mod Cancelling
 pub mod Walking
+pub mod Distinct
+pub mod Shelf
+pub mod Rooms
+pub mod Shelving
+pub mod Leasing

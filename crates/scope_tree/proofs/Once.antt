@@ -6,7 +6,7 @@ use Rattle.chunk_core.specs.Lists.IsAmong.{here, there}
 use Rattle.chunk_core.proofs.Members.{among_snoc}
 use Rattle.row_seat.specs.Views.{HasRow, without_row}
 use Rattle.row_seat.proofs.Hands.{has_cons, has_nil}
-use Rattle.scope_tree.specs.Torn.{Once}
+use Rattle.scope_tree.specs.Rows.{Once}
 
 module _ {P : Type 0} (r : ℕ) where
   pub has_without : (xs : List (ℕ × P)) (q : ℕ) → HasRow (without_row r xs) q → HasRow xs q

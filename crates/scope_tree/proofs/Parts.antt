@@ -8,9 +8,14 @@ use Rattle.res_ledger.specs.Own.{below, latest}
 use Rattle.scope_tree.specs.declared.branch.Branch.{Branch}
 use Rattle.scope_tree.specs.declared.branch.Held.{Held}
 use Rattle.scope_tree.specs.Kids.{lasts, kids, whole}
-use Rattle.scope_tree.specs.Torn.{AreDistinct}
-use Rattle.scope_tree.specs.Trees.{marks, held_rows, held_pairs}
+use Rattle.scope_tree.specs.Rows.{AreDistinct}
+use Rattle.scope_tree.specs.Words.{numbers}
+use Rattle.scope_tree.specs.Kept.{marks, held_rows, held_pairs}
 use Rattle.scope_tree.proofs.Shapes.{kids_other}
+
+pub numbers_held : (hs : List Held) → numbers (held_pairs hs) ≡ held_rows hs
+numbers_held [] = refl
+numbers_held (h ∷ hs) = ap (λ l. h.row ∷ l) (numbers_held hs)
 
 module _ {A : Type 0} where
   pub among_either : {x : A} (xs ys : List A) → IsAmong x (xs ++ ys) → IsAmong x xs ⊎ IsAmong x ys

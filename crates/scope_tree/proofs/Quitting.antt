@@ -15,11 +15,13 @@ use Rattle.scope_tree.specs.Torn.{said}
 use Rattle.scope_tree.proofs.Bridge.{own_snoc}
 use Rattle.scope_tree.proofs.Facts.{one_more}
 use Rattle.chunk_core.specs.Lists.IsAmong.{here, there}
+use Rattle.chunk_core.proofs.Filters.{among_filter}
 use Rattle.chunk_core.proofs.Members.{among_nil, among_cons, among_left}
 use Rattle.row_seat.specs.Views.{HasRow, without_pair, gone}
 use Rattle.res_ledger.proofs.Growth.{noted_more, noted_snoc}
 use Rattle.scope_tree.specs.declared.branch.Spent.{Spent}
-use Rattle.scope_tree.specs.Leaving.{lifo, is_here, away, CanLeaveAll, ended_lease, Quits, LeavesAll}
+use Rattle.scope_tree.specs.Rows.{lifo}
+use Rattle.scope_tree.specs.Leaving.{is_here, away, CanLeaveAll, ended_lease, Quits, LeavesAll}
 use Rattle.scope_tree.specs.Leaving.Quits.{done, stays, ends_so}
 use Rattle.scope_tree.proofs.Taking.{distinct_front, without_self, other}
 use Rattle.scope_tree.proofs.Shapes.{drop_at}
@@ -39,6 +41,13 @@ lose_pair j r y (x ∷ xs) m = elim (cond (eqb x.0 j) (eqb x.1 r) false) as (λ 
   | false ↦ λ n. ⊎_elim (λ e. subst (λ z. IsAmong y (z ∷ xs)) e (here xs)) (λ i. there x (lose_pair j r y xs i)) (among_cons n)
 ] m
 
+-- a lease that was left is no longer there
+pub lost_pair : (j r : ℕ) (xs : List (ℕ × ℕ)) → ¬ (IsAmong (j, r) (without_pair j r xs))
+lost_pair j r xs m =
+    let t = among_filter (λ (x : ℕ × ℕ). not (cond (eqb x.0 j) (eqb x.1 r) false)) (j, r) xs m in
+    let e : cond (eqb j j) (eqb r r) false ≡ true = ap (λ b. cond b (eqb r r) false) (eq-eqb j j refl) ∙ eq-eqb r r refl in
+    let z : false ≡ true = ap not (sym e) ∙ t.1 in cc
+
 pub lifo_here : (xs : List ℕ) (at k d : ℕ) → at ≡ suc k → k < length xs → lifo (drop k xs) ≡ lifo (drop at xs) ++ slice_index_or xs k d ∷ []
 lifo_here xs at k d e l = ap lifo (drop_at xs k d l) ∙ ap (λ n. lifo (drop n xs) ++ slice_index_or xs k d ∷ []) (sym e)
 
@@ -55,11 +64,11 @@ length_lifo [] = refl
 length_lifo (x ∷ xs) = let t = length_lifo xs in let a = length-append (lifo xs) (x ∷ []) in omega arith
 
 module _ {P : Type 0} where
-  here_has : (r : ℕ) (xs : List (ℕ × P)) → is_here r xs ≡ true → HasRow xs r
+  pub here_has : (r : ℕ) (xs : List (ℕ × P)) → is_here r xs ≡ true → HasRow xs r
   here_has r [] h = absurd (let z : false ≡ true = h in cc)
   here_has r (x ∷ xs) h = ⊎_elim (λ e. (x.1, subst (λ n. IsAmong (n, x.1) (x ∷ xs)) e (here xs))) (λ ne. let t = here_has r xs (ap (λ b. cond b true (is_here r xs)) (sym (ne_eqb x.0 r ne)) ∙ h) in (t.0, there x t.1)) (cases_eq x.0 r)
 
-  away_append : (T U : List ℕ) (o : List (ℕ × P)) → away (T ++ U) o ≡ away T o + away U o
+  pub away_append : (T U : List ℕ) (o : List (ℕ × P)) → away (T ++ U) o ≡ away T o + away U o
   away_append [] U o = omega arith
   away_append (r ∷ T) U o = let t = away_append T U o in elim (is_here r o) as (λ b. cond b (away (T ++ U) o) (suc (away (T ++ U) o)) ≡ cond b (away T o) (suc (away T o)) + away U o) [ true ↦ t | false ↦ (omega arith) ]
 
@@ -73,7 +82,7 @@ module _ {P : Type 0} where
   away_le [] o = omega arith
   away_le (r ∷ T) o = let t = away_le T o in elim (is_here r o) as (λ b. cond b (away T o) (suc (away T o)) ≤ suc (length T)) [ true ↦ (omega arith) | false ↦ (omega arith) ]
 
-  can_stays : (v : View P) (j r : ℕ) (T : List ℕ) → CanLeaveAll v j (r ∷ T) → CanLeaveAll (gone v j r) j T
+  pub can_stays : (v : View P) (j r : ℕ) (T : List ℕ) → CanLeaveAll v j (r ∷ T) → CanLeaveAll (gone v j r) j T
   can_stays v j r T y = record {
     distinct = y.distinct.1;
     pairs = λ q m. keep_pair j r q v.pairs (other T r q y.distinct.0 m) (y.pairs q (there r m));
@@ -83,7 +92,7 @@ module _ {P : Type 0} where
     spare = (let s = y.spare in let m = away_more r T v.opened in omega arith);
   }
 
-  can_ends : (v : View P) (j r : ℕ) (p : P) (n : ℕ) (ok : Bool) (T : List ℕ) → ¬ (HasRow v.opened r) → CanLeaveAll v j (r ∷ T) → CanLeaveAll (ended_lease v j r p n ok) j T
+  pub can_ends : (v : View P) (j r : ℕ) (p : P) (n : ℕ) (ok : Bool) (T : List ℕ) → ¬ (HasRow v.opened r) → CanLeaveAll v j (r ∷ T) → CanLeaveAll (ended_lease v j r p n ok) j T
   can_ends v j r p n ok T no' y = let e : Event = record { stamp = n; by = v.by; what = Final r ok } in record {
     distinct = y.distinct.1;
     pairs = λ q m. keep_pair j r q v.pairs (other T r q y.distinct.0 m) (y.pairs q (there r m));
@@ -107,36 +116,40 @@ module _ {P : Type 0} where
     pub quits_can : {T U : List ℕ} {v w : View P} {xs : List (Spent P)} → Quits ends j T v xs w → CanLeaveAll v j (T ++ U) → CanLeaveAll w j U
     quits_can (done v) y = y
     quits_can (stays v r t) y = quits_can t (can_stays v j r _ y)
-    quits_can (ends_so v p n x no' e f t) y = quits_can t (can_ends v j x.row p n x.ok _ no' y)
+    quits_can (ends_so v p n x a e f t) y = quits_can t (can_ends v j x.row p n x.ok _ a.closed y)
 
     pub quits_append : {T U : List ℕ} {v w u : View P} {xs ys : List (Spent P)} → Quits ends j T v xs w → Quits ends j U w ys u → Quits ends j (T ++ U) v (xs ++ ys) u
     quits_append (done v) s = s
     quits_append (stays v r t) s = stays v r (quits_append t s)
-    quits_append (ends_so v p n x no' e f t) s = ends_so v p n x no' e f (quits_append t s)
+    quits_append (ends_so v p n x a e f t) s = ends_so v p n x a e f (quits_append t s)
 
     pub quits_by : {T : List ℕ} {v w : View P} {xs : List (Spent P)} → Quits ends j T v xs w → w.by ≡ v.by
     quits_by (done v) = refl
     quits_by (stays v r t) = quits_by t
-    quits_by (ends_so v p n x no' e f t) = quits_by t
+    quits_by (ends_so v p n x a e f t) = quits_by t
 
     pub quits_opened : {T : List ℕ} {v w : View P} {xs : List (Spent P)} → Quits ends j T v xs w → w.opened ≡ v.opened
     quits_opened (done v) = refl
     quits_opened (stays v r t) = quits_opened t
-    quits_opened (ends_so v p n x no' e f t) = quits_opened t
+    quits_opened (ends_so v p n x a e f t) = quits_opened t
 
     -- only rows that aren't open here end
     pub quits_away : {T : List ℕ} {v w : View P} {xs : List (Spent P)} → Quits ends j T v xs w → length xs ≤ away T v.opened
     quits_away (done v) = omega arith
     quits_away {T = _} (stays {T = T} v r t) = let l = quits_away t in let m = away_more r T v.opened in omega arith
-    quits_away (ends_so {T = T} v p n x no' e f t) = let l = quits_away t in let m = away_one x.row T v.opened no' in omega arith
+    quits_away (ends_so {T = T} v p n x a e f t) = let l = quits_away t in let m = away_one x.row T v.opened a.closed in omega arith
 
     pub quits_spare : {T : List ℕ} {v w : View P} {xs : List (Spent P)} → Quits ends j T v xs w → v.spare ≤ w.spare + length xs
     quits_spare (done v) = omega arith
     quits_spare (stays v r t) = quits_spare t
-    quits_spare (ends_so v p n x no' e f t) = let c = quits_spare t in omega arith
+    quits_spare (ends_so v p n x a e f t) = let c = quits_spare t in omega arith
 
     pub leaves_append : {T U : List ℕ} {v w u : View P} (a b c : List (Spent P)) → LeavesAll ends j T v a b w → LeavesAll ends j U w b c u → LeavesAll ends j (T ++ U) v a c u
     leaves_append a b c t s = (t.0 ++ s.0, s.1 ∙ ap (λ l. l ++ s.0) t.1 ∙ append_assoc a t.0 s.0, quits_append t.2 s.2)
+
+    -- what ended is no more than the rows that are not open here
+    pub leaves_away : {T : List ℕ} {v w : View P} (a b : List (Spent P)) → LeavesAll ends j T v a b w → length b ≤ length a + away T v.opened
+    leaves_away {T = T} {v = v} a b t = let l = quits_away t.2 in let m = ap length t.1 in let k = length-append a t.0 in omega arith
 
     pub leaves_room : {T : List ℕ} {v w : View P} (a b : List (Spent P)) → LeavesAll ends j T v a b w → length b ≤ length a + length T
     leaves_room {T = T} {v = v} a b t = let l = quits_away t.2 in let z = away_le T v.opened in let m = ap length t.1 in let k = length-append a t.0 in omega arith
@@ -144,31 +157,31 @@ module _ {P : Type 0} where
     pub quits_words : (k : StreamNo) {T : List ℕ} {v w : View P} {xs : List (Spent P)} → Quits ends j T v xs w → v.by ≡ k → own k w.events ≡ own k v.events ++ finals (said xs)
     quits_words k (done v) h = sym (append-nil (own k v.events))
     quits_words k (stays v r t) h = quits_words k t h
-    quits_words k (ends_so v p n x no' e f t) h =
+    quits_words k (ends_so v p n x a e f t) h =
         let y : Event = record { stamp = n; by = v.by; what = Final x.row x.ok } in
         one_more (own k v.events) _ _ _ (Final x.row x.ok) (quits_words k t h) (own_snoc k v.events y h)
 
     pub quits_noted : {k : StreamNo} {u : What} {T : List ℕ} {v w : View P} {xs : List (Spent P)} → Quits ends j T v xs w → Notes v.events k u → Notes w.events k u
     quits_noted (done v) h = h
     quits_noted (stays v r t) h = quits_noted t h
-    quits_noted (ends_so v p n x no' e f t) h = quits_noted t (noted_more v.events (record { stamp = n; by = v.by; what = Final x.row x.ok }) h)
+    quits_noted (ends_so v p n x a e f t) h = quits_noted t (noted_more v.events (record { stamp = n; by = v.by; what = Final x.row x.ok }) h)
 
     pub quits_old : {k : StreamNo} {u : What} {T : List ℕ} {v w : View P} {xs : List (Spent P)} → Quits ends j T v xs w → Notes w.events k u → Notes v.events k u ⊎ ((r : ℕ) × (ok : Bool) × (u ≡ Final r ok))
     quits_old (done v) h = inl h
     quits_old (stays v r t) h = quits_old t h
-    quits_old {k = k} {u = u} (ends_so v p n x no' e f t) h = ⊎_elim (λ s. ⊎_elim (λ a. inl a) (λ b. inr (x.row, x.ok, sym b.1)) (noted_snoc v.events (record { stamp = n; by = v.by; what = Final x.row x.ok }) k u s)) (λ s. inr s) (quits_old t h)
+    quits_old {k = k} {u = u} (ends_so v p n x a e f t) h = ⊎_elim (λ s. ⊎_elim (λ a. inl a) (λ b. inr (x.row, x.ok, sym b.1)) (noted_snoc v.events (record { stamp = n; by = v.by; what = Final x.row x.ok }) k u s)) (λ s. inr s) (quits_old t h)
 
     pub quits_pairs : {T : List ℕ} {v w : View P} {xs : List (Spent P)} (y : ℕ × ℕ) → Quits ends j T v xs w → IsAmong y w.pairs → IsAmong y v.pairs
     quits_pairs y (done v) h = h
     quits_pairs y (stays v r t) h = lose_pair j r y v.pairs (quits_pairs y t h)
-    quits_pairs y (ends_so v p n x no' e f t) h = lose_pair j x.row y v.pairs (quits_pairs y t h)
+    quits_pairs y (ends_so v p n x a e f t) h = lose_pair j x.row y v.pairs (quits_pairs y t h)
 
     pub quits_empty : {T : List ℕ} {v w : View P} {xs : List (Spent P)} → Quits ends j T v xs w → w.empty ≡ v.empty
     quits_empty (done v) = refl
     quits_empty (stays v r t) = quits_empty t
-    quits_empty (ends_so v p n x no' e f t) = quits_empty t
+    quits_empty (ends_so v p n x a e f t) = quits_empty t
 
     pub quits_picks : {T : List ℕ} {v w : View P} {xs : List (Spent P)} → Quits ends j T v xs w → Picks IsAny (firsts (said xs)) T
     quits_picks (done v) = none
     quits_picks (stays v r t) = pass r tt (quits_picks t)
-    quits_picks (ends_so v p n x no' e f t) = pick x.row (quits_picks t)
+    quits_picks (ends_so v p n x a e f t) = pick x.row (quits_picks t)

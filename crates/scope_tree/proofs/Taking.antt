@@ -10,7 +10,8 @@ use Rattle.chunk_core.proofs.Members.{among_nil, among_cons, among_left}
 use Rattle.row_seat.specs.Views.{without_row, without, CanClose, shut}
 use Rattle.res_ledger.proofs.Growth.{noted_more, closed_more}
 use Rattle.scope_tree.specs.declared.branch.Spent.{Spent}
-use Rattle.scope_tree.specs.Torn.{AreDistinct, Ready, ended, Torn, Tears}
+use Rattle.scope_tree.specs.Rows.{AreDistinct}
+use Rattle.scope_tree.specs.Torn.{Ready, ended, Torn, Tears}
 use Rattle.scope_tree.specs.Torn.Torn.{done, stays, ends_so}
 
 pub distinct_front : (T T' : List ℕ) → AreDistinct (T ++ T') → AreDistinct T
@@ -79,22 +80,22 @@ module _ {P : Type 0} where
     pub torn_ready : {T T' : List ℕ} {v w : View P} {xs : List (Spent P)} → Torn ends T v xs w → Ready v (T ++ T') → Ready w T'
     torn_ready (done v) y = y
     torn_ready (stays v r p m s t) y = torn_ready t (ready_stays v r p _ y)
-    torn_ready (ends_so v p n x m e f t) y = torn_ready t (ready_ended v x.row p n x.ok _ y)
+    torn_ready (ends_so v p n x m a e f t) y = torn_ready t (ready_ended v x.row p n x.ok _ y)
 
     pub torn_append : {T T' : List ℕ} {v w u : View P} {xs ys : List (Spent P)} → Torn ends T v xs w → Torn ends T' w ys u → Torn ends (T ++ T') v (xs ++ ys) u
     torn_append (done v) s = s
     torn_append (stays v r p m st t) s = stays v r p m st (torn_append t s)
-    torn_append (ends_so v p n x m e f t) s = ends_so v p n x m e f (torn_append t s)
+    torn_append (ends_so v p n x m a e f t) s = ends_so v p n x m a e f (torn_append t s)
 
     pub torn_length : {T : List ℕ} {v w : View P} {xs : List (Spent P)} → Torn ends T v xs w → length xs ≤ length T
     torn_length (done v) = omega arith
     torn_length (stays v r p m st t) = let l = torn_length t in omega arith
-    torn_length (ends_so v p n x m e f t) = let l = torn_length t in omega arith
+    torn_length (ends_so v p n x m a e f t) = let l = torn_length t in omega arith
 
     pub torn_by : {T : List ℕ} {v w : View P} {xs : List (Spent P)} → Torn ends T v xs w → w.by ≡ v.by
     torn_by (done v) = refl
     torn_by (stays v r p m st t) = torn_by t
-    torn_by (ends_so v p n x m e f t) = torn_by t
+    torn_by (ends_so v p n x m a e f t) = torn_by t
 
     pub tears_none : (v : View P) (a : List (Spent P)) → Tears ends [] v a a v
     tears_none v a = ([], sym (append-nil a), done v)

@@ -18,9 +18,10 @@ use Rattle.res_ledger.proofs.Blocks.{picks_map, blocks_plain, blocks_close, bloc
 use Rattle.scope_tree.specs.Walks.{FirstOpen}
 use Rattle.scope_tree.specs.Walks.FirstOpen.{this_one, above_it}
 use Rattle.scope_tree.specs.Torn.{said}
-use Rattle.scope_tree.specs.Leaving.{lifo}
+use Rattle.scope_tree.specs.Rows.{lifo}
 use Rattle.scope_tree.proofs.Quitting.{quits_by, quits_words, quits_picks}
-use Rattle.scope_tree.specs.Trees.{Seen, words, Opens, Acquires, Closes, Cancels, canceling, opening, acquiring, closing}
+use Rattle.scope_tree.specs.Calls.{Seen, Opens, Acquires, Closes, Cancels}
+use Rattle.scope_tree.specs.Words.{words, canceling, opening, acquiring, closing}
 use Rattle.scope_tree.proofs.Bridge.{own_snoc, noted_in, in_noted, closes_in, in_opens}
 use Rattle.scope_tree.proofs.Facts.{torn_words, torn_picks}
 use Rattle.scope_tree.proofs.Taking.{torn_by}

@@ -10,7 +10,8 @@ use Rattle.res_ledger.specs.Ledger.LiesWithin.{same, below as beneath}
 use Rattle.res_ledger.specs.declared.event.What.TheVariants.{Close}
 use Rattle.scope_tree.specs.declared.branch.Branch.{Branch}
 use Rattle.scope_tree.specs.declared.branch.Held.{Held}
-use Rattle.scope_tree.specs.Trees.{Kept, words}
+use Rattle.scope_tree.specs.Kept.{Kept}
+use Rattle.scope_tree.specs.Words.{words}
 use Rattle.res_ledger.specs.Own.{closes}
 use Rattle.scope_tree.specs.Walks.{Clear, Shaded, Nearest, IsRootOpen}
 use Rattle.scope_tree.specs.Walks.Clear.{root, below}

@@ -1,19 +1,14 @@
 //! Leaving the rows of a lease.
 ghost use Rattle.std.specs.Prelude.{◌≡◌, ℕ, ◌+◌, ◌<◌, ◌≤◌, length, vec_len, vec_capacity, [], ◌∷◌};
 ghost use Rattle.row_seat.specs.Views.{OthersFit};
-ghost use Rattle.scope_tree.specs.Leaving.{CanLeaveAll, LeavesAll, lifo};
+ghost use Rattle.scope_tree.specs.Leaving.{CanLeaveAll, LeavesAll, away};
+ghost use Rattle.scope_tree.specs.Rows.{lifo};
 
 use crate::branch::{Finish, Spent};
 use res_ledger::What;
 use row_seat::{Left, RowSeat};
 
-/// The rows that a lease covers, in the order of acquisition.
-pub struct Lease {
-    pub stream: u32,
-    pub rows: Vec<u32>,
-}
-
-/// Leaves a row, and where it is handed to this seat, ends it.
+// Leaves a row, and where it is handed to this seat, ends it.
 fn leave<S: RowSeat>(
     seat: &mut S,
     desk: &mut S::Desk,
@@ -25,7 +20,7 @@ where
     S::Pay: Finish,
     requires fits { S.fits seat.old desk.old }
     requires can { CanLeaveAll (S.view seat.old) stream (row ∷ []) }
-    requires room { vec_len shelf.old + 1 ≤ vec_capacity shelf.old }
+    requires room { vec_len shelf.old + away (row ∷ []) (S.view seat.old).opened ≤ vec_capacity shelf.old }
     ensures left { LeavesAll S.Pay.ends stream (row ∷ []) (S.view seat.old) shelf.old.items shelf.new.items (S.view seat.new) }
     ensures room { vec_capacity shelf.old ≤ vec_capacity shelf.new }
     ensures fits { S.fits seat.new desk.new }
@@ -57,7 +52,7 @@ where
     S::Pay: Finish,
     requires fits { S.fits seat.old desk.old }
     requires can { CanLeaveAll (S.view seat.old) stream (lifo rows.now) }
-    requires room { vec_len shelf.old + length rows.now ≤ vec_capacity shelf.old }
+    requires room { vec_len shelf.old + away (lifo rows.now) (S.view seat.old).opened ≤ vec_capacity shelf.old }
     ensures left { LeavesAll S.Pay.ends stream (lifo rows.now) (S.view seat.old) shelf.old.items shelf.new.items (S.view seat.new) }
     ensures room { vec_capacity shelf.old ≤ vec_capacity shelf.new }
     ensures fits { S.fits seat.new desk.new }

@@ -35,4 +35,8 @@ returns-in-Ok-clause-left g c =
     let e : g.S.RowSeat.view c.note.new.self ≡ ended_lease v j r y.0 n c.finish-ok.result = rw (c.note.ensures.view, c.take-pay.ensures.view, y.1) refl in
     let same : c.take-pay.result ≡ y.0 = c.take-pay.ensures.last v.given y.0 (rw y.1 refl) in
     let fresh : IsFresh v n = rw (c.take-pay.ensures.view, y.1) at c.note.ensures.stamp in
-    (x ∷ [], c.in-Ok.ensures.items, subst (λ w. Quits ends j (r ∷ []) v (x ∷ []) w) (sym e) (ends_so v y.0 n x y.2 (subst (λ p. ends p x.ok x.pay) same c.finish-ok.ensures) fresh (done _)))
+    (x ∷ [], c.in-Ok.ensures.items, subst (λ w. Quits ends j (r ∷ []) v (x ∷ []) w) (sym e) (ends_so v y.0 n x (record { closed = y.2; alone = y.3; left = y.4 }) (subst (λ p. ends p x.ok x.pay) same c.finish-ok.ensures) fresh (done _)))
+
+pub unreachable-requires : goal.unreachable-requires
+unreachable-requires g c =
+    let y = c.in-Yours.ensures.view in let m = away_one c.args.row [] (g.S.RowSeat.view c.args.seat.now).opened y.2 in let a = c.requires.room in let f = c.in-Err.ensures.full in let z = c.args.shelf.now.ok.0 in omega (m, a, f, z, arith)

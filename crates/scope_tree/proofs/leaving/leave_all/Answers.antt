@@ -1,8 +1,9 @@
-use Rattle.std.proofs.Common.{◌≡◌, ◌-◌, ◌<◌, suc, length, drop, ◌++◌, [], ◌∷◌, slice_index_or, sym, ◌∙◌, subst, arith}
-use Rattle.scope_tree.specs.Leaving.{CanLeaveAll, LeavesAll, lifo}
+use Rattle.std.proofs.Common.{◌≡◌, ◌-◌, ◌<◌, suc, length, drop, ◌++◌, [], ◌∷◌, slice_index_or, sym, ap, ◌∙◌, subst, arith}
+use Rattle.scope_tree.specs.Leaving.{CanLeaveAll, LeavesAll, away}
+use Rattle.scope_tree.specs.Rows.{lifo}
 use Rattle.scope_tree.proofs.Shapes.{drop_all}
 use Rattle.scope_tree.proofs.Keeps.{length-drop'}
-use Rattle.scope_tree.proofs.Quitting.{lifo_here, lifo_next, length_lifo, can_front, quits_can, quits_by, leaves_append, leaves_room}
+use Rattle.scope_tree.proofs.Quitting.{lifo_here, lifo_next, can_front, quits_can, quits_by, leaves_append, leaves_away, quits_opened, away_append}
 use Rattle.scope_tree.specs.Leaving.Quits.{done}
 use Rattle.std.proofs.Common.{append-nil}
 use Rattle.scope_tree.proofs.leaving.leave_all.Goals as goal
@@ -26,11 +27,15 @@ leave-requires-clause-can g c =
 
 pub leave-requires-clause-room : goal.leave-requires-clause-room
 leave-requires-clause-room g c =
-    let xs = c.args.rows.now in let k = c.rows.at - 1 in
+    let xs = c.args.rows.now in let k = c.rows.at - 1 in let v = g.S.RowSeat.view c.args.seat.now in let o = v.opened in
     let e : c.rows.at ≡ suc k = let t = c.rows-test.true in omega arith in
     let l : k < length xs = let t = c.rows-test.true in let w = c.rows.invariant.within in omega arith in
-    let r = leaves_room c.args.shelf.now.items c.rows.shelf.items c.rows.invariant.left in let n = length_lifo (drop c.rows.at xs) in let m = length-drop' c.rows.at xs c.rows.invariant.within in
-    let a = c.requires.room in let b = c.rows.invariant.room in let p = c.args.shelf.now.ok.0 in let q = c.rows.shelf.ok.0 in omega arith
+    let x = lifo_next xs c.rows.at k 0 e l in let D = lifo (drop c.rows.at xs) in let N = slice_index_or xs k 0 ∷ [] in
+    let same : away N (g.S.RowSeat.view c.rows.seat).opened ≡ away N o = ap (away N) (quits_opened c.rows.invariant.left.2) in
+    let all : away (lifo xs) o ≡ away ((D ++ N) ++ x.0) o = ap (λ T. away T o) x.1 in
+    let cut1 = away_append (D ++ N) x.0 o in let cut2 = away_append D N o in
+    let r = leaves_away c.args.shelf.now.items c.rows.shelf.items c.rows.invariant.left in
+    let a = c.requires.room in let b = c.rows.invariant.room in let p = c.args.shelf.now.ok.0 in let q = c.rows.shelf.ok.0 in omega (r, same, all, cut1, cut2, a, b, p, q, arith)
 
 pub rows-preserved : goal.rows-preserved
 rows-preserved g c =

@@ -1,6 +1,7 @@
 use Rattle.std.proofs.Common.{◌≤◌, length, vec_capacity, drop}
 use Rattle.row_seat.specs.Views.{OthersFit}
-use Rattle.scope_tree.specs.Leaving.{LeavesAll, lifo}
+use Rattle.scope_tree.specs.Leaving.{LeavesAll}
+use Rattle.scope_tree.specs.Rows.{lifo}
 use Rattle.scope_tree.proofs.leaving.leave_all.Given as goal
 
 abbrev pub invariant-rows : goal.invariant-rows

@@ -30,4 +30,4 @@ returns-in-Ok-clause-torn g c =
     let e : g.S.RowSeat.view c.note.new.self ≡ ended v r y.0 n c.finish-ok.result = rw (c.note.ensures.view, c.take-pay.ensures.view, y.2) refl in
     let same : c.take-pay.result ≡ y.0 = c.take-pay.ensures.last v.given y.0 (rw y.2 refl) in
     let fresh : IsFresh v n = rw (c.take-pay.ensures.view, y.2) at c.note.ensures.stamp in
-    (x ∷ [], c.in-Ok.ensures.items, subst (λ w. Torn ends (r ∷ []) v (x ∷ []) w) (sym e) (ends_so v y.0 n x y.1 (subst (λ p. ends p x.ok x.pay) same c.finish-ok.ensures) fresh (done _)))
+    (x ∷ [], c.in-Ok.ensures.items, subst (λ w. Torn ends (r ∷ []) v (x ∷ []) w) (sym e) (ends_so v y.0 n x y.1 y.3 (subst (λ p. ends p x.ok x.pay) same c.finish-ok.ensures) fresh (done _)))

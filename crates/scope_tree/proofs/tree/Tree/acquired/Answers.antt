@@ -2,8 +2,18 @@ use Rattle.std.proofs.Common.{◌≡◌, ◌+◌, length, [], ◌∷◌, ◌++�
 use Rattle.chunk_core.proofs.Members.{among_last}
 use Rattle.row_seat.specs.Views.{placed, noted}
 use Rattle.res_ledger.specs.Own.{rows}
-use Rattle.scope_tree.specs.Trees.{words, Kept, held_pairs, acquiring}
-use Rattle.scope_tree.proofs.Grows.{acquire_keeps, length_pairs}
+use Rattle.scope_tree.specs.Words.{words, acquiring}
+use Rattle.scope_tree.specs.Kept.{Kept, held_pairs}
+use Rattle.chunk_core.specs.Lists.{IsAmong}
+use Rattle.chunk_core.proofs.Members.{among_left}
+use Rattle.res_ledger.specs.Order.{firsts}
+use Rattle.scope_tree.specs.declared.branch.Held.{Held}
+use Rattle.scope_tree.specs.Torn.{said}
+use Rattle.scope_tree.specs.Kept.{Shelved, held_rows}
+use Rattle.scope_tree.proofs.Distinct.{strangers_less}
+use Rattle.scope_tree.proofs.Rooms.{used_is}
+use Rattle.scope_tree.proofs.Shelving.{acquire_shelved}
+use Rattle.scope_tree.proofs.Grows.{acquire_keeps, rows_snoc}
 use Rattle.scope_tree.proofs.tree.Tree.acquired.Goals as goal
 
 pub place-requires-clause-row : goal.place-requires-clause-row
@@ -11,25 +21,30 @@ place-requires-clause-row g c = rw c.note.ensures.view (c.requires.row, (c.args.
 
 pub unreachable-requires : goal.unreachable-requires
 unreachable-requires g c =
-    let t = c.args.self.now in let a = c.requires.room in let b = c.requires.fits.held in
-    let n : length (rows (words (g.S.RowSeat.view t.seat))) ≡ length (held_pairs t.held.items) = ap length c.requires.fits.kept.rows in let l = length_pairs t.held.items in let z = t.held.ok.0 in let f = c.in-Err.ensures.full in
-    omega arith
+    let t = c.args.self.now in let k = c.requires.fits.sound.kept in let a = c.requires.room in let b = c.requires.fits.sound.held in
+    let u = used_is (g.S.RowSeat.view t.seat) t.branches.items t.held.items k (firsts (said t.shelf.items)) in let z = t.held.ok.0 in let f = c.in-Err.ensures.full in
+    omega (u, a, b, z, f, arith)
 
 pub returns-clause-fits : goal.returns-clause-fits
 returns-clause-fits g c =
-    let t = c.args.self.now in let s = c.args.scope in let r = c.args.row in let hs = t.held.items in let v = g.S.RowSeat.view t.seat in
-    let w = g.S.RowSeat.view c.place.new.self in let w' = placed (noted v (acquiring v r s c.note.result)) r c.args.pay in
-    let k = acquire_keeps v t.branches.items hs r s c.note.result c.args.pay c.requires.fits.kept c.requires.scope c.requires.row c.requires.free in
+    let t = c.args.self.now in let s = c.args.scope in let r = c.args.row in let hs = t.held.items in let bs = t.branches.items in let v = g.S.RowSeat.view t.seat in let n = c.note.result in
+    let w = g.S.RowSeat.view c.place.new.self in let w' = placed (noted v (acquiring v r s n)) r c.args.pay in let h : Held = record { row = r; scope = s } in
+    let z = c.requires.fits.sound in
     let e : w ≡ w' = rw (c.place.ensures.view, c.note.ensures.view) refl in
-    let n : length (rows (words v)) ≡ length (held_pairs hs) = ap length c.requires.fits.kept.rows in let l = length_pairs hs in
-    let o : length w.opened ≡ length v.opened + 1 = ap (λ x. length x.opened) e ∙ length-append v.opened ((r, c.args.pay) ∷ []) in
-    let q = c.in-Ok.ensures.len in let y = c.in-Ok.ensures.capacity in let z = t.held.ok.0 in let a = c.requires.room in let b = c.requires.fits.room in let d = c.requires.fits.held in record {
+    let k : Kept w bs (hs ++ h ∷ []) = subst (λ x. Kept x bs (hs ++ h ∷ [])) (sym e) (acquire_keeps v bs hs r s n c.args.pay z.kept c.requires.scope c.requires.row c.requires.free) in
+    let F = firsts (said t.shelf.items) in
+    let u = used_is v bs hs z.kept F in let u' = used_is w bs (hs ++ h ∷ []) k F in let a = c.requires.room in let l = length-append hs (h ∷ []) in
+    let m = strangers_less (held_rows hs) (held_rows (hs ++ h ∷ [])) F (λ q i. subst (λ l. IsAmong q l) (sym (rows_snoc hs h)) (among_left (r ∷ []) i)) in
+    let cap = c.in-Ok.ensures.capacity in let b = z.held in record {
       seat = c.place.ensures.fits;
-      kept = subst (λ h. Kept w t.branches.items h) (sym c.in-Ok.ensures.items) (subst (λ x. Kept x t.branches.items (hs ++ record { row = r; scope = s } ∷ [])) (sym e) k);
-      room = omega arith;
-      branches = c.requires.fits.branches;
-      held = omega arith;
-      used = omega arith;
-      limit = c.requires.fits.limit;
-      rows_limit = c.requires.fits.rows_limit;
+      sound = record {
+        kept = subst (λ x. Kept w bs x) (sym c.in-Ok.ensures.items) k;
+        shelved = subst (λ x. Shelved w x t.shelf.items) (sym c.in-Ok.ensures.items) (subst (λ x. Shelved x (hs ++ h ∷ []) t.shelf.items) (sym e) (acquire_shelved v bs hs t.shelf.items z.kept z.shelved r s n c.args.pay c.requires.row c.note.ensures.stamp));
+        used = omega (u, u', a, l, m, arith);
+        branches = z.branches;
+        held = omega (cap, b, arith);
+        shelf = z.shelf;
+        limit = z.limit;
+        rows_limit = z.rows_limit;
+      };
     }

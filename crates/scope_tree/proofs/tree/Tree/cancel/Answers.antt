@@ -1,43 +1,58 @@
-use Rattle.std.proofs.Common.{◌≡◌, length, ap, arith}
+use Rattle.std.proofs.Common.{◌≡◌, ℕ, ◌+◌, ◌≤◌, length, [], List, ◌∷◌, ◌++◌, refl, sym, ap, ◌∙◌, subst, arith}
+use Rattle.chunk_core.specs.Lists.{IsAmong}
+use Rattle.res_ledger.specs.Order.{firsts}
 use Rattle.row_seat.specs.Views.{noted}
-use Rattle.res_ledger.specs.Own.{rows}
-use Rattle.scope_tree.specs.Leaving.{lifo, LeavesAll}
-use Rattle.scope_tree.specs.Trees.{words, canceling, held_pairs}
-use Rattle.scope_tree.proofs.Grows.{length_pairs}
-use Rattle.scope_tree.proofs.Quitting.{leaves_room, length_lifo, quits_opened}
+use Rattle.row_seat.specs.declared.view.View.{View}
+use Rattle.scope_tree.specs.Rows.{AreDistinct, lifo, strangers}
+use Rattle.scope_tree.specs.Torn.{said}
+use Rattle.scope_tree.specs.Leaving.{LeavesAll, away}
+use Rattle.scope_tree.specs.Words.{canceling, owed}
+use Rattle.scope_tree.specs.Kept.{Shelved, held_rows}
 use Rattle.scope_tree.proofs.Cancelling.{cancel_can, cancel_keeps}
+use Rattle.scope_tree.proofs.Distinct.{among_lifo, distinct_lifo, firsts_append, picks_strangers, said_append, strangers_append, test_distinct}
+use Rattle.scope_tree.proofs.Quitting.{quits_picks}
+use Rattle.scope_tree.proofs.Rooms.{away_lifo, cancel_count, rows_count, strangers_lifo, used_is}
+use Rattle.scope_tree.proofs.Shelving.{cancel_shelved}
 use Rattle.scope_tree.proofs.tree.Tree.cancel.Goals as goal
+
+free_lifo : {P : Type 0} (v : View P) (T : List ℕ) → owed v + 1 + away T v.opened ≤ v.spare → owed v + 1 + away (lifo T) v.opened ≤ v.spare
+free_lifo v T f = let e = away_lifo T v.opened in omega (e, f, arith)
 
 pub leave_all-requires-clause-can : goal.leave_all-requires-clause-can
 leave_all-requires-clause-can g c =
-    let t = c.args.self.now in let v = g.S.RowSeat.view t.seat in let j = c.args.lease.stream in
-    rw (c.note.ensures.view, c.deref.ensures.value) (cancel_can v t.branches.items t.held.items j c.note.result (lifo c.args.lease.rows.items) c.requires.fits.kept c.requires.distinct c.requires.pairs c.requires.free)
+    let t = c.args.self.now in let v = g.S.RowSeat.view t.seat in let j = c.args.lease.stream in let T = c.args.lease.rows.items in
+    rw (c.note.ensures.view, c.deref.ensures.value) (cancel_can v t.branches.items t.held.items j c.note.result (lifo T) c.requires.fits.sound.kept (distinct_lifo T (test_distinct T c.args.lease.distinct)) (λ r m. c.requires.pairs r (among_lifo r T m)) (free_lifo v T c.requires.free))
 
 pub leave_all-requires-clause-room : goal.leave_all-requires-clause-room
 leave_all-requires-clause-room g c =
-    let t = c.args.self.now in let a = c.requires.room in let b = c.requires.fits.room in let z = t.held.ok.0 in let l = length_pairs t.held.items in
-    let n : length (rows (words (g.S.RowSeat.view t.seat))) ≡ length (held_pairs t.held.items) = ap length c.requires.fits.kept.rows in
-    rw c.deref.ensures.value (omega arith)
-
-pub overflow_cast-self : goal.overflow_cast-self
-overflow_cast-self g c =
-    let t = c.args.self.now in let a = c.requires.room in let b = c.requires.fits.rows_limit in let z = c.args.lease.rows.ok.0 in let l = c.len.ensures in omega arith
+    let t = c.args.self.now in let v = g.S.RowSeat.view t.seat in let bs = t.branches.items in let hs = t.held.items in let z = c.requires.fits.sound in let T = c.args.lease.rows.items in let F = firsts (said t.shelf.items) in
+    let m = cancel_count v bs hs z.kept t.shelf.items z.shelved c.args.lease.stream T (test_distinct T c.args.lease.distinct) c.requires.pairs in
+    let e = away_lifo T v.opened in let n = rows_count v bs hs z.kept in let u = used_is v bs hs z.kept F in let u' = used_is v bs hs z.kept T in let a = c.requires.room in let d = z.shelf in let y = t.shelf.ok.0 in
+    rw (c.note.ensures.view, c.deref.ensures.value) (omega (m, e, n, u, u', a, d, y, arith))
 
 pub returns-clause-fits : goal.returns-clause-fits
 returns-clause-fits g c =
-    let t = c.args.self.now in let v = g.S.RowSeat.view t.seat in let j = c.args.lease.stream in let T = lifo c.args.lease.rows.items in let w = g.S.RowSeat.view c.leave_all.new.seat in
-    let all : LeavesAll g.S.Pay.Finish.ends j T (noted v (canceling v j c.note.result)) t.shelf.items c.leave_all.new.shelf.items w = rw (c.note.ensures.view, c.deref.ensures.value) at c.leave_all.ensures.left in
-    let q = quits_opened all.2 in let o : length w.opened ≡ length v.opened = ap length q in
-    let m = leaves_room t.shelf.items c.leave_all.new.shelf.items all in let k = length_lifo c.args.lease.rows.items in
-    let a = c.requires.room in let b = c.requires.fits.room in let z = t.held.ok.0 in let y = t.shelf.ok.0 in let x = c.leave_all.new.shelf.ok.0 in let l = length_pairs t.held.items in let u = c.leave_all.ensures.room in let i = c.len.ensures in let h = c.args.lease.rows.ok.0 in
-    let n : length (rows (words v)) ≡ length (held_pairs t.held.items) = ap length c.requires.fits.kept.rows in
-    let d = c.requires.fits.held in let f = c.requires.fits.rows_limit in record {
+    let t = c.args.self.now in let v = g.S.RowSeat.view t.seat in let bs = t.branches.items in let hs = t.held.items in let z = c.requires.fits.sound in let n = c.note.result in
+    let j = c.args.lease.stream in let T = c.args.lease.rows.items in let w = g.S.RowSeat.view c.leave_all.new.seat in let shelf = c.leave_all.new.shelf.items in
+    let all : LeavesAll g.S.Pay.Finish.ends j (lifo T) (noted v (canceling v j n)) t.shelf.items shelf w = rw (c.note.ensures.view, c.deref.ensures.value) at c.leave_all.ensures.left in
+    let xs = all.0 in let d : AreDistinct (lifo T) = distinct_lifo T (test_distinct T c.args.lease.distinct) in
+    let p : (r : ℕ) → IsAmong r (lifo T) → IsAmong (j, r) v.pairs = λ r m. c.requires.pairs r (among_lifo r T m) in
+    let f = free_lifo v T c.requires.free in
+    let k = cancel_keeps v bs hs j n (lifo T) z.kept d p f w xs all.2 in
+    let F = firsts (said t.shelf.items) in let F' = firsts (said shelf) in let own = held_rows hs in
+    let F_is : F' ≡ F ++ firsts (said xs) = ap (λ l. firsts (said l)) all.1 ∙ ap firsts (said_append t.shelf.items xs) ∙ firsts_append (said t.shelf.items) (said xs) in
+    let more : strangers own F' ≡ strangers own F + strangers own (firsts (said xs)) = ap (strangers own) F_is ∙ strangers_append own F (firsts (said xs)) in
+    let few = picks_strangers own (quits_picks all.2) in let same = strangers_lifo own T in
+    let i = rows_count v bs hs z.kept in let u = used_is v bs hs z.kept F in let u2 = used_is v bs hs z.kept T in let u' = used_is w bs hs k F' in let a = c.requires.room in let b = z.shelf in let r = c.leave_all.ensures.room in record {
       seat = c.leave_all.ensures.fits;
-      kept = cancel_keeps v t.branches.items t.held.items j c.note.result T c.requires.fits.kept c.requires.distinct c.requires.pairs c.requires.free w all.0 all.2;
-      room = omega arith;
-      branches = c.requires.fits.branches;
-      held = omega arith;
-      used = omega arith;
-      limit = c.requires.fits.limit;
-      rows_limit = omega arith;
+      sound = record {
+        kept = k;
+        shelved = subst (λ l. Shelved w hs l) (sym all.1) (cancel_shelved v bs hs t.shelf.items z.kept z.shelved j n (lifo T) d p f c.note.ensures.stamp all.2);
+        used = omega (more, few, same, i, u, u2, u', a, arith);
+        branches = z.branches;
+        held = z.held;
+        shelf = omega (b, r, arith);
+        limit = z.limit;
+        rows_limit = z.rows_limit;
+      };
     }

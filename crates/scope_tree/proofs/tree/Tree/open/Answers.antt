@@ -2,7 +2,13 @@ use Rattle.std.proofs.Common.{◌≡◌, ℕ, ◌<◌, length, drop, [], List, �
 use Rattle.row_seat.specs.Views.{noted}
 use Rattle.res_ledger.specs.Own.{opens}
 use Rattle.scope_tree.specs.declared.branch.Branch.{Branch}
-use Rattle.scope_tree.specs.Trees.{words, Kept, marks, opening}
+use Rattle.scope_tree.specs.Words.{words, opening}
+use Rattle.scope_tree.specs.Kept.{Kept, marks}
+use Rattle.res_ledger.specs.Order.{firsts}
+use Rattle.scope_tree.specs.Torn.{said}
+use Rattle.scope_tree.specs.Kept.{Shelved}
+use Rattle.scope_tree.proofs.Rooms.{used_is}
+use Rattle.scope_tree.proofs.Shelving.{open_shelved}
 use Rattle.scope_tree.proofs.Grows.{open_keeps, length_marks}
 use Rattle.scope_tree.proofs.Keeps.{noted_scope, no_own_close}
 use Rattle.scope_tree.proofs.Walking.{nearest_first, first_usable}
@@ -15,38 +21,38 @@ use Rattle.scope_tree.proofs.tree.Tree.open.Goals as goal
 
 pub overflow_cast-scope : goal.overflow_cast-scope
 overflow_cast-scope g c =
-    let t = c.args.self.now in let k = c.requires.fits.kept in
+    let t = c.args.self.now in let k = c.requires.fits.sound.kept in
     let n : length (opens (words (g.S.RowSeat.view t.seat))) ≡ length (marks 1 (drop 1 t.branches.items)) = ap length k.opens in let m = length_marks t.branches.items k.size in
-    let l = c.len-scope.ensures in let z = t.branches.ok.0 in let a = c.requires.room in let d = c.requires.fits.limit in omega arith
+    let l = c.len-scope.ensures in let z = t.branches.ok.0 in let a = c.requires.room in let d = c.requires.fits.sound.limit in omega arith
 
 at_in : {P : Type 0} (v : View P) (bs : List Branch) (hs : List Held) (k : Kept v bs hs) (c : ℕ) → (c ≡ 0) ⊎ IsOpened v.events v.by c → c < length bs
 at_in v bs hs k c a = ⊎_elim (λ e. let z = k.size in omega arith) (λ o. (noted_scope v bs hs k c o.0 o.1).1) a
 
 pub first_open-parent-requires-clause-scope : goal.first_open-parent-requires-clause-scope
-first_open-parent-requires-clause-scope g c = let t = c.args.self.now in rw c.deref.ensures.value (at_in (g.S.RowSeat.view t.seat) t.branches.items t.held.items c.requires.fits.kept c.args.at c.requires.at)
+first_open-parent-requires-clause-scope g c = let t = c.args.self.now in rw c.deref.ensures.value (at_in (g.S.RowSeat.view t.seat) t.branches.items t.held.items c.requires.fits.sound.kept c.args.at c.requires.at)
 
 pub first_open-parent-requires-clause-parents : goal.first_open-parent-requires-clause-parents
-first_open-parent-requires-clause-parents g c = rw c.deref.ensures.value c.requires.fits.kept.parents
+first_open-parent-requires-clause-parents g c = rw c.deref.ensures.value c.requires.fits.sound.kept.parents
 
 pub first_open-parent-requires-clause-root : goal.first_open-parent-requires-clause-root
-first_open-parent-requires-clause-root g c = let t = c.args.self.now in let k = c.requires.fits.kept in rw c.deref.ensures.value (λ d. no_own_close (g.S.RowSeat.view t.seat) t.branches.items t.held.items k 0 d k.size (λ n. c.requires.root (0, same 0, n)))
+first_open-parent-requires-clause-root g c = let t = c.args.self.now in let k = c.requires.fits.sound.kept in rw c.deref.ensures.value (λ d. no_own_close (g.S.RowSeat.view t.seat) t.branches.items t.held.items k 0 d k.size (λ n. c.requires.root (0, same 0, n)))
 
 pub note-requires-clause-event : goal.note-requires-clause-event
 note-requires-clause-event g c =
     let bs = c.args.self.now.branches.items in let hs = c.args.self.now.held.items in let v = g.S.RowSeat.view c.args.self.now.seat in
-    let t = c.args.self.now in let k = c.requires.fits.kept in let l = c.len-scope.ensures in let z = t.branches.ok.0 in let s = k.size in
+    let t = c.args.self.now in let k = c.requires.fits.sound.kept in let l = c.len-scope.ensures in let z = t.branches.ok.0 in let s = k.size in
     let f = nearest_first v bs hs k c.args.at c.first_open-parent.result (at_in v bs hs k c.args.at c.requires.at) (rw c.deref.ensures.value at c.first_open-parent.ensures) in
     ((λ e. omega arith), (λ o. let n = noted_scope (g.S.RowSeat.view t.seat) t.branches.items t.held.items k c.len-scope.result o.0 o.1 in let q = n.1 in omega arith), first_usable v bs hs k c.args.at c.first_open-parent.result f.1 f.0)
 
 pub unreachable-requires : goal.unreachable-requires
 unreachable-requires g c =
-    let t = c.args.self.now in let k = c.requires.fits.kept in
+    let t = c.args.self.now in let k = c.requires.fits.sound.kept in
     let n : length (opens (words (g.S.RowSeat.view t.seat))) ≡ length (marks 1 (drop 1 t.branches.items)) = ap length k.opens in let m = length_marks t.branches.items k.size in
-    let z = t.branches.ok.0 in let a = c.requires.room in let b = c.requires.fits.branches in let f = c.in-Err.ensures.full in omega arith
+    let z = t.branches.ok.0 in let a = c.requires.room in let b = c.requires.fits.sound.branches in let f = c.in-Err.ensures.full in omega arith
 
 pub returns-clause-opens : goal.returns-clause-opens
 returns-clause-opens g c =
-    let t = c.args.self.now in let k = c.requires.fits.kept in
+    let t = c.args.self.now in let k = c.requires.fits.sound.kept in
     let n : length (opens (words (g.S.RowSeat.view t.seat))) ≡ length (marks 1 (drop 1 t.branches.items)) = ap length k.opens in let m = length_marks t.branches.items k.size in
     let l = c.len-scope.ensures in let z = t.branches.ok.0 in record {
       stamp = c.note.result;
@@ -62,17 +68,23 @@ returns-clause-opens g c =
 
 pub returns-clause-fits : goal.returns-clause-fits
 returns-clause-fits g c =
-    let t = c.args.self.now in let k = c.requires.fits.kept in let p = c.first_open-parent.result in let hs = c.args.self.now.held.items in let bs = t.branches.items in let v = g.S.RowSeat.view t.seat in let w = g.S.RowSeat.view c.note.new.self in
-    let l = c.len-scope.ensures in let z = t.branches.ok.0 in
+    let t = c.args.self.now in let z = c.requires.fits.sound in let p = c.first_open-parent.result in let hs = t.held.items in let bs = t.branches.items in let v = g.S.RowSeat.view t.seat in let w = g.S.RowSeat.view c.note.new.self in let n = c.note.result in
+    let l = c.len-scope.ensures in let y = t.branches.ok.0 in
     let number : c.len-scope.result ≡ length bs = omega arith in
-    let e : w ≡ noted v (opening v (length bs) p c.note.result) = c.note.ensures.view ∙ ap (λ i. noted v (opening v i p c.note.result)) number in
-    let y = c.in-Ok.ensures.capacity in let b = c.requires.fits.branches in let o : length w.opened ≡ length v.opened = ap (λ x. length x.opened) e in let r = c.requires.fits.room in record {
+    let e : w ≡ noted v (opening v (length bs) p n) = c.note.ensures.view ∙ ap (λ i. noted v (opening v i p n)) number in
+    let bs' = bs ++ record { parent = p; shut = false } ∷ [] in
+    let f = nearest_first v bs hs z.kept c.args.at p (at_in v bs hs z.kept c.args.at c.requires.at) (rw c.deref.ensures.value at c.first_open-parent.ensures) in
+    let k : Kept w bs' hs = subst (λ x. Kept x bs' hs) (sym e) (open_keeps v bs hs p n z.kept (first_usable v bs hs z.kept c.args.at p f.1 f.0) c.requires.free) in
+    let F = firsts (said t.shelf.items) in let u = used_is v bs hs z.kept F in let u' = used_is w bs' hs k F in let a = z.used in let cap = c.in-Ok.ensures.capacity in let b = z.branches in record {
       seat = c.note.ensures.fits;
-      kept = subst (λ x. Kept w x t.held.items) (sym c.in-Ok.ensures.items) (subst (λ x. Kept x (bs ++ record { parent = p; shut = false } ∷ []) t.held.items) (sym e) (let f = nearest_first v bs hs k c.args.at c.first_open-parent.result (at_in v bs hs k c.args.at c.requires.at) (rw c.deref.ensures.value at c.first_open-parent.ensures) in open_keeps v bs t.held.items p c.note.result k (first_usable v bs hs k c.args.at p f.1 f.0) c.requires.free));
-      room = omega arith;
-      branches = omega arith;
-      held = c.requires.fits.held;
-      used = c.requires.fits.used;
-      limit = c.requires.fits.limit;
-      rows_limit = c.requires.fits.rows_limit;
+      sound = record {
+        kept = subst (λ x. Kept w x hs) (sym c.in-Ok.ensures.items) k;
+        shelved = subst (λ x. Shelved x hs t.shelf.items) (sym e) (open_shelved v bs hs t.shelf.items z.kept z.shelved (length bs) p n c.note.ensures.stamp);
+        used = omega (u, u', a, arith);
+        branches = omega (cap, b, arith);
+        held = z.held;
+        shelf = z.shelf;
+        limit = z.limit;
+        rows_limit = z.rows_limit;
+      };
     }

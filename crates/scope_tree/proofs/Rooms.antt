@@ -1,0 +1,94 @@
+-- The room of a tree.
+use Rattle.std.proofs.Common.{◌≡◌, ◌≢◌, ℕ, ◌+◌, ◌≤◌, ◌⊎◌, suc, Bool, true, false, cond, not, filter, List, [], ◌∷◌, ◌++◌, length, inl, inr, refl, sym, ap, ◌∙◌, subst, ⊎_elim, arith, length-append}
+use Rattle.chunk_core.specs.Lists.{IsAmong}
+use Rattle.chunk_core.specs.Lists.IsAmong.{here, there}
+use Rattle.chunk_core.proofs.Members.{among_nil, among_cons, among_left}
+use Rattle.chunk_core.proofs.Filters.{among_append, among_filter}
+use Rattle.res_ledger.specs.declared.event.What.TheVariants.{Acquire}
+use Rattle.res_ledger.specs.Order.{firsts}
+use Rattle.res_ledger.specs.Own.{has, rows}
+use Rattle.res_ledger.proofs.Noted.{in_has}
+use Rattle.row_seat.specs.declared.view.View.{View}
+use Rattle.row_seat.specs.Views.{HasRow}
+use Rattle.scope_tree.specs.declared.branch.Branch.{Branch}
+use Rattle.scope_tree.specs.declared.branch.Held.{Held}
+use Rattle.scope_tree.specs.declared.branch.Spent.{Spent}
+use Rattle.scope_tree.specs.Leaving.{away, is_here}
+use Rattle.scope_tree.specs.Rows.{AreDistinct, lifo, strangers}
+use Rattle.scope_tree.specs.Torn.{said}
+use Rattle.scope_tree.specs.Words.{numbers, own_rows, words}
+use Rattle.scope_tree.specs.Kept.{Kept, Shelved, held_pairs, held_rows}
+use Rattle.scope_tree.proofs.Bridge.{in_noted, in_rows}
+use Rattle.scope_tree.proofs.Distinct.{distinct_filter, kin, kin_among, kin_count, length_open, length_said, once_distinct, open_row, open_rows, strangers_append}
+use Rattle.scope_tree.proofs.Facts.{fit_in}
+use Rattle.scope_tree.proofs.Grows.{length_pairs, pair_of_row}
+use Rattle.scope_tree.proofs.Parts.{distinct_append, numbers_held, row_of_pair}
+use Rattle.scope_tree.proofs.Quitting.{away_append, here_has}
+
+pub strangers_none : (own T : List ℕ) → ((r : ℕ) → IsAmong r T → IsAmong r own) → strangers own T ≡ 0
+strangers_none own [] h = refl
+strangers_none own (r ∷ T) h = ap (λ b. cond b (strangers own T) (suc (strangers own T))) (in_has r own (h r (here T))) ∙ strangers_none own T (λ q m. h q (there r m))
+
+pub strangers_lifo : (own T : List ℕ) → strangers own (lifo T) ≡ strangers own T
+strangers_lifo own [] = refl
+strangers_lifo own (r ∷ T) = let t = strangers_lifo own T in let a = strangers_append own (lifo T) (r ∷ []) in elim (has r own) as (λ b. strangers own (lifo T ++ r ∷ []) ≡ strangers own (lifo T) + cond b 0 1 → strangers own (lifo T ++ r ∷ []) ≡ cond b (strangers own T) (suc (strangers own T))) [ true ↦ λ e. omega (e, t, arith) | false ↦ λ e. omega (e, t, arith) ] a
+
+pub away_lifo : {P : Type 0} (T : List ℕ) (o : List (ℕ × P)) → away (lifo T) o ≡ away T o
+away_lifo [] o = refl
+away_lifo (r ∷ T) o = let t = away_lifo T o in let a = away_append (lifo T) (r ∷ []) o in elim (is_here r o) as (λ b. away (lifo T ++ r ∷ []) o ≡ away (lifo T) o + cond b 0 1 → away (lifo T ++ r ∷ []) o ≡ cond b (away T o) (suc (away T o))) [ true ↦ λ e. omega (e, t, arith) | false ↦ λ e. omega (e, t, arith) ] a
+
+-- rows that are not open here
+abbrev gone_from : {P : Type 0} → List (ℕ × P) → List ℕ → List ℕ
+gone_from o T = filter (λ r. not (is_here r o)) T
+
+gone_count : {P : Type 0} (T : List ℕ) (o : List (ℕ × P)) → length (gone_from o T) ≡ away T o
+gone_count [] o = refl
+gone_count (r ∷ T) o = let t = gone_count T o in elim (is_here r o) as (λ b. length (cond (not b) (r ∷ gone_from o T) (gone_from o T)) ≡ cond b (away T o) (suc (away T o))) [ true ↦ t | false ↦ ap suc t ]
+
+strangers_filter : (own : List ℕ) (f : ℕ → Bool) (T : List ℕ) → strangers own (filter f T) ≤ strangers own T
+strangers_filter own f [] = omega arith
+strangers_filter own f (r ∷ T) =
+    let t = strangers_filter own f T in
+    elim (f r) as (λ b. strangers own (cond b (r ∷ filter f T) (filter f T)) ≤ cond (has r own) (strangers own T) (suc (strangers own T))) [
+      | true ↦ elim (has r own) as (λ b. cond b (strangers own (filter f T)) (suc (strangers own (filter f T))) ≤ cond b (strangers own T) (suc (strangers own T))) [ true ↦ t | false ↦ omega (t, arith) ]
+      | false ↦ elim (has r own) as (λ b. strangers own (filter f T) ≤ cond b (strangers own T) (suc (strangers own T))) [ true ↦ t | false ↦ omega (t, arith) ]
+    ]
+
+module _ {P : Type 0} (v : View P) (bs : List Branch) (hs : List Held) (k : Kept v bs hs) where
+  pub own_is : own_rows v ≡ held_rows hs
+  own_is = ap numbers k.rows ∙ numbers_held hs
+
+  pub rows_count : length (rows (words v)) ≡ length hs
+  rows_count = ap length k.rows ∙ length_pairs hs
+
+  -- the rows that are used, by what the tree keeps
+  pub used_is : (F : List ℕ) → length (rows (words v)) + strangers (own_rows v) F ≡ length hs + strangers (held_rows hs) F
+  used_is F = ap (λ n. n + strangers (own_rows v) F) (ap length k.rows ∙ length_pairs hs) ∙ ap (λ l. length hs + strangers l F) own_is
+
+  pub open_held : (r : ℕ) → HasRow v.opened r → IsAmong r (held_rows hs)
+  open_held r h = let t = k.only r h in row_of_pair r t.0 hs t.1
+
+  -- an open row isn't empty
+  pub open_taken : (r : ℕ) → HasRow v.opened r → ¬ (IsAmong r v.empty)
+  open_taken r h m = let t = k.only r h in k.empty r m (v.by, t.0, in_noted v.by (Acquire r t.0) v.events (in_rows r t.0 (words v) (subst (λ l. IsAmong (r, t.0) l) (sym k.rows) t.1)))
+
+  fits_held : (T : List ℕ) → AreDistinct T → ((r : ℕ) → IsAmong r T → IsAmong r (held_rows hs)) → length T ≤ length hs
+  fits_held T d h = let f = fit_in T (held_pairs hs) d (λ r m. pair_of_row r hs (h r m)) in let l = length_pairs hs in omega arith
+
+  module _ (xs : List (Spent P)) (s : Shelved v hs xs) where
+    -- the shelf and the open rows are no more than the rows that are used
+    pub shelf_count : length xs + length v.opened ≤ length hs + strangers (held_rows hs) (firsts (said xs))
+    shelf_count =
+        let F = firsts (said xs) in let own = held_rows hs in let A = kin own F in let B = open_rows v.opened in
+        let d = distinct_append A B (distinct_filter (λ r. has r own) F s.distinct) (once_distinct v.opened k.once) (λ r m n. s.opened r (open_row v.opened r n) (kin_among own F r m).0) in
+        let f = fits_held (A ++ B) d (λ r m. ⊎_elim (λ a. (kin_among own F r a).1) (λ b. open_held r (open_row v.opened r b)) (among_append r A B m)) in
+        let a = kin_count own F in let b = length_said xs in let c = length_open v.opened in let e = length-append A B in omega (f, a, b, c, e, arith)
+
+    -- the shelf and the rows of a lease that may end are no more than the rows that are used and the foreign rows of the lease
+    pub cancel_count : (j : ℕ) (T : List ℕ) → AreDistinct T → ((r : ℕ) → IsAmong r T → IsAmong (j, r) v.pairs) → length xs + away T v.opened ≤ length hs + strangers (held_rows hs) (firsts (said xs)) + strangers (held_rows hs) T
+    cancel_count j T dt p =
+        let F = firsts (said xs) in let own = held_rows hs in let A = kin own F in let N = gone_from v.opened T in let B = kin own N in
+        let dn = distinct_filter (λ r. not (is_here r v.opened)) T dt in
+        let d = distinct_append A B (distinct_filter (λ r. has r own) F s.distinct) (distinct_filter (λ r. has r own) N dn) (λ r m n. s.pairs j r (p r (among_filter (λ q. not (is_here q v.opened)) r T (kin_among own N r n).0).0) (kin_among own F r m).0) in
+        let f = fits_held (A ++ B) d (λ r m. ⊎_elim (λ a. (kin_among own F r a).1) (λ b. (kin_among own N r b).1) (among_append r A B m)) in
+        let a = kin_count own F in let b = length_said xs in let c = kin_count own N in let g = gone_count T v.opened in let h = strangers_filter own (λ r. not (is_here r v.opened)) T in let e = length-append A B in omega (f, a, b, c, e, g, h, arith)

@@ -1,0 +1,64 @@
+-- What each call keeps of a tree's shelf.
+use Rattle.std.proofs.Common.{◌≡◌, ◌≢◌, ℕ, ◌+◌, ◌≤◌, ◌⊎◌, Bool, true, false, List, [], ◌∷◌, ◌++◌, inl, inr, refl, sym, ap, ◌∙◌, subst, ⊎_elim, append_assoc, append-nil}
+use Rattle.chunk_core.specs.Lists.{IsAmong}
+use Rattle.chunk_core.proofs.Members.{among_nil, among_left, among_last, among_snoc}
+use Rattle.res_ledger.specs.declared.event.What.TheVariants.{Open, Acquire, Lease, Cancel, Close, Final}
+use Rattle.res_ledger.specs.Order.{firsts}
+use Rattle.res_ledger.specs.Own.{own}
+use Rattle.res_ledger.specs.Streams.{by_stream}
+use Rattle.res_ledger.proofs.Orders.{Rises}
+use Rattle.row_seat.specs.declared.view.View.{View}
+use Rattle.row_seat.specs.Views.{HasRow, IsFresh, noted, placed}
+use Rattle.row_seat.proofs.Members.{among_without}
+use Rattle.scope_tree.specs.declared.branch.Branch.{Branch}
+use Rattle.scope_tree.specs.declared.branch.Held.{Held}
+use Rattle.scope_tree.specs.declared.branch.Spent.{Spent}
+use Rattle.scope_tree.specs.Kids.{whole}
+use Rattle.scope_tree.specs.Rows.{AreDistinct}
+use Rattle.scope_tree.specs.Torn.{Torn, said}
+use Rattle.scope_tree.specs.Leaving.{Quits, away}
+use Rattle.scope_tree.specs.Words.{acquiring, canceling, opening, owed, shutting, ended_rows, words}
+use Rattle.scope_tree.specs.Calls.{AtStart}
+use Rattle.scope_tree.specs.Kept.{Kept, Shelved, held_pairs}
+use Rattle.scope_tree.proofs.Cancelling.{cancel_can}
+use Rattle.scope_tree.proofs.Grows.{pairs_snoc}
+use Rattle.scope_tree.proofs.Rooms.{open_taken}
+use Rattle.scope_tree.proofs.Shelf.{note_shelved, quits_shelved, torn_shelved}
+
+pub start_shelved : {P : Type 0} (v : View P) → AtStart v → Shelved v [] []
+start_shelved v a = record {
+  said_are = ap (λ L. ended_rows (own v.by L)) a.events;
+  distinct = tt;
+  opened = λ r h m. among_nil m;
+  pairs = λ j r h m. among_nil m;
+  empty = λ r h m. among_nil m;
+  leased = λ j r m. inl (a.leased j r m);
+  ended = λ f r t m. absurd (among_nil m);
+  rises = subst (λ L. Rises (by_stream v.by L)) (sym a.events) tt;
+}
+
+module _ {P : Type 0} (v : View P) (bs : List Branch) (hs : List Held) (xs : List (Spent P)) (k : Kept v bs hs) (s : Shelved v hs xs) where
+  pub open_shelved : (c p n : ℕ) → IsFresh v n → Shelved (noted v (opening v c p n)) hs xs
+  open_shelved c p n f = note_shelved v hs xs n (Open c p) refl f s
+
+  pub acquire_shelved : (r t n : ℕ) (p : P) → IsAmong r v.empty → IsFresh v n → Shelved (placed (noted v (acquiring v r t n)) r p) (hs ++ record { row = r; scope = t } ∷ []) xs
+  acquire_shelved r t n p m f =
+      let h : Held = record { row = r; scope = t } in let a = note_shelved v hs xs n (Acquire r t) refl f s in record {
+        said_are = a.said_are;
+        distinct = a.distinct;
+        opened = λ q o. ⊎_elim (λ i. s.opened q (o.0, i)) (λ i. subst (λ z. ¬ (IsAmong z (firsts (said xs)))) (sym (ap (λ y. y.0) i)) (s.empty r m)) (among_snoc v.opened (q, o.0) (r, p) o.1);
+        pairs = a.pairs;
+        empty = λ q i. s.empty q (among_without r v.empty q i).0;
+        leased = a.leased;
+        ended = λ b q u i. ⊎_elim
+            (λ o. ⊎_elim (λ z. inl (z.0, among_left ((r, p) ∷ []) z.1)) (λ z. inr z) (s.ended b q u o))
+            (λ o. inl (p, subst (λ z. IsAmong (z, p) (v.opened ++ (r, p) ∷ [])) (sym (ap (λ y. y.0) o)) (among_last v.opened (r, p))))
+            (among_snoc (held_pairs hs) (q, u) (r, t) (subst (λ l. IsAmong (q, u) l) (pairs_snoc hs h) i));
+        rises = a.rises;
+      }
+
+  pub close_shelved : {ends : P → Bool → P → Type 0} {w : View P} {ys : List (Spent P)} (c n : ℕ) → IsFresh v n → Torn ends (whole bs hs c) (shutting v c n) ys w → Shelved w hs (xs ++ ys)
+  close_shelved c n f t = torn_shelved hs xs t k.once (λ r h. open_taken v bs hs k r h) (note_shelved v hs xs n (Close c) refl f s)
+
+  pub cancel_shelved : {ends : P → Bool → P → Type 0} {w : View P} {ys : List (Spent P)} (j n : ℕ) (T : List ℕ) → AreDistinct T → ((r : ℕ) → IsAmong r T → IsAmong (j, r) v.pairs) → owed v + 1 + away T v.opened ≤ v.spare → IsFresh v n → Quits ends j T (noted v (canceling v j n)) ys w → Shelved w hs (xs ++ ys)
+  cancel_shelved j n T d p e f t = quits_shelved hs xs t (cancel_can v bs hs j n T k d p e) k.bare (note_shelved v hs xs n (Cancel j) refl f s)

@@ -1,0 +1,31 @@
+use Rattle.std.proofs.Common.{rules, false, ◌≡◌, ℕ, ◌+◌, ◌≤◌, length, List, [], ◌∷◌, ◌++◌, refl, sym, ap, ◌∙◌, subst, arith}
+use Rattle.scope_tree.specs.declared.branch.Branch.{Branch}
+use Rattle.scope_tree.specs.declared.branch.Held.{Held}
+use Rattle.scope_tree.specs.Kept.{Kept, Shelved}
+use Rattle.scope_tree.proofs.Grows.{start_keeps}
+use Rattle.scope_tree.proofs.Rooms.{used_is}
+use Rattle.scope_tree.proofs.Shelving.{start_shelved}
+use Rattle.scope_tree.proofs.tree.Tree.new.Goals as goal
+
+pub returns-clause-fits : goal.returns-clause-fits
+returns-clause-fits g c = λ d f.
+    let v = g.S.RowSeat.view c.args.seat in let room = c.args.room in let root : Branch = record { parent = 0; shut = false } in
+    let items : c.push.new.self.items ≡ root ∷ [] = c.in-Ok.ensures.items ∙ ap (λ l. l ++ root ∷ []) room.nothing.0 in
+    let k = start_keeps v c.requires.start in let u = used_is v (root ∷ []) [] k [] in
+    let kept : Kept v c.push.new.self.items room.held.items = subst (λ l. Kept v l room.held.items) (sym items) (subst (λ l. Kept v (root ∷ []) l) (sym room.nothing.1) k) in
+    let e = room.enough in let cap = c.in-Ok.ensures.capacity in record {
+      seat = f;
+      sound = record {
+        kept = kept;
+        shelved = subst (λ l. Shelved v l room.shelf.items) (sym room.nothing.1) (subst (λ l. Shelved v [] l) (sym room.nothing.2) (start_shelved v c.requires.start));
+        used = rw room.nothing.2 (omega (u, arith));
+        branches = (let a = e.0 in omega (a, cap, arith));
+        held = e.1;
+        shelf = e.2;
+        limit = search rules;
+        rows_limit = search rules;
+      };
+    }
+
+pub unreachable-requires : goal.unreachable-requires
+unreachable-requires g c = let f = c.in-Err.ensures.full in let e = c.args.room.enough in let o = c.args.room.one in let n = ap length c.args.room.nothing.0 in let z = c.args.room.branches.ok.0 in let a = e.0 in omega (f, o, n, z, a, arith)

@@ -1,0 +1,101 @@
+-- What the calls of a tree do, as callers see it.
+use Rattle.std.specs.Prelude.{◌≡◌, ◌≢◌, ◌⊎◌, ℕ, suc, ◌+◌, ◌<◌, ◌≤◌, ◌^◌, Bool, true, false, cond, flat_map, List, [], ◌∷◌, ◌++◌, length, drop, slice_index_or, vec_capacity, vec_len}
+use Rattle.chunk_core.specs.Lists.{IsAmong}
+use Rattle.res_ledger.specs.declared.event.Event.{Event}
+use Rattle.res_ledger.specs.declared.event.StreamNo.TheVariants.{Inner}
+use Rattle.res_ledger.specs.declared.event.What.{What}
+use Rattle.res_ledger.specs.declared.event.What.TheVariants.{Open, Acquire, Lease, Cancel, Close, Final}
+use Rattle.res_ledger.specs.Ledger.{Notes, IsClosed, IsAcquired, IsOpened, IsUsable}
+use Rattle.res_ledger.specs.Order.{firsts}
+use Rattle.res_ledger.specs.Own.{own, opens, rows, closes, has, is_closed, teardown, leased_rows}
+use Rattle.row_seat.specs.declared.view.View.{View}
+use Rattle.row_seat.specs.Views.{HasRow, noted, placed, IsFresh}
+use Rattle.scope_tree.specs.declared.branch.Branch.{Branch}
+use Rattle.scope_tree.specs.declared.branch.Held.{Held}
+use Rattle.scope_tree.specs.declared.branch.Spent.{Spent}
+use Rattle.scope_tree.specs.Rows.{AreDistinct, Once, lifo, strangers}
+use Rattle.scope_tree.specs.Torn.{Tears, said}
+use Rattle.scope_tree.specs.Leaving.{LeavesAll, leased_all}
+use Rattle.scope_tree.specs.Walks.{FirstOpen}
+use Rattle.scope_tree.specs.Words.{words, own_rows, opening, acquiring, leasing, canceling, shutting}
+
+-- what callers see of a tree: the seat's view, the rows that ended, and the scopes and rows that there is room for
+pub record Seen (P : Type 0) : Type 0 where
+  pub seat : View P
+  pub shelf : List (Spent P)
+  pub scopes : ℕ
+  pub rows : ℕ
+
+module _ {P : Type 0} where
+  -- the seat has noted nothing and has nothing open or handed; its leases are those of its own stream, on rows that are not its
+  pub record AtStart (v : View P) : Type 0 where
+    pub events : v.events ≡ []
+    pub opened : v.opened ≡ []
+    pub handed : v.handed ≡ []
+    pub taken : v.taken ≡ []
+    pub bare : (j r : ℕ) → IsAmong (j, r) v.pairs → ¬ (IsAmong r v.empty)
+    pub leased : (j r : ℕ) → IsAmong (j, r) v.pairs → v.by ≡ Inner j
+    pub spare : 1 ≤ v.spare
+
+  -- the scope s is open
+  abbrev pub IsOpenScope : Seen P → ℕ → Type 0
+  IsOpenScope a s = IsUsable a.seat.events a.seat.by s
+
+  -- the scope s is the root or was opened
+  abbrev pub WasOpened : Seen P → ℕ → Type 0
+  WasOpened a s = (s ≡ 0) ⊎ IsOpened a.seat.events a.seat.by s
+
+  -- the scope s is closed
+  abbrev pub IsClosedScope : Seen P → ℕ → Type 0
+  IsClosedScope a s = IsClosed a.seat.events a.seat.by s
+
+  -- the rows that are used: those that the tree acquired, and each other row on its shelf
+  abbrev pub used : Seen P → ℕ
+  used a = length (rows (words a.seat)) + strangers (own_rows a.seat) (firsts (said a.shelf))
+
+  -- the scope c, the next number, was opened as a child of the first open scope from at upward
+  pub record Opens (a : Seen P) (at c : ℕ) (b : Seen P) : Type 0 where
+    pub stamp : ℕ
+    pub parent : ℕ
+    pub nearest : FirstOpen a.seat.events a.seat.by at parent
+    pub fresh : IsFresh a.seat stamp
+    pub number : c ≡ length (opens (words a.seat)) + 1
+    pub seat : b.seat ≡ noted a.seat (opening a.seat c parent stamp)
+    pub shelf : b.shelf ≡ a.shelf
+    pub scopes : b.scopes ≡ a.scopes
+    pub rows : b.rows ≡ a.rows
+
+  -- the row r was acquired in the scope s with the payload p
+  pub record Acquires (a : Seen P) (s r : ℕ) (p : P) (b : Seen P) : Type 0 where
+    pub stamp : ℕ
+    pub fresh : IsFresh a.seat stamp
+    pub seat : b.seat ≡ placed (noted a.seat (acquiring a.seat r s stamp)) r p
+    pub shelf : b.shelf ≡ a.shelf
+    pub scopes : b.scopes ≡ a.scopes
+    pub rows : b.rows ≡ a.rows
+
+  -- the scope s was leased for the stream j: the rows T that the Lease covers are leased, and then it is noted
+  pub record Leases (a : Seen P) (s j : ℕ) (T : List ℕ) (b : Seen P) : Type 0 where
+    pub covered : T ≡ leased_rows (words a.seat) s
+    pub stamp : ℕ
+    pub fresh : IsFresh a.seat stamp
+    pub seat : b.seat ≡ noted (leased_all a.seat j T) (leasing a.seat j s stamp)
+    pub shelf : b.shelf ≡ a.shelf
+    pub scopes : b.scopes ≡ a.scopes
+    pub rows : b.rows ≡ a.rows
+
+  -- the Lease for j was cancelled: its Cancel is noted, and then its rows are left, latest acquired first
+  pub record Cancels (ends : P → Bool → P → Type 0) (a : Seen P) (j : ℕ) (T : List ℕ) (b : Seen P) : Type 0 where
+    pub stamp : ℕ
+    pub fresh : IsFresh a.seat stamp
+    pub left : LeavesAll ends j (lifo T) (noted a.seat (canceling a.seat j stamp)) a.shelf b.shelf b.seat
+    pub scopes : b.scopes ≡ a.scopes
+    pub rows : b.rows ≡ a.rows
+
+  -- the scope s was closed: its Close is noted, and then its teardown is taken down
+  pub record Closes (ends : P → Bool → P → Type 0) (a : Seen P) (s : ℕ) (b : Seen P) : Type 0 where
+    pub stamp : ℕ
+    pub fresh : IsFresh a.seat stamp
+    pub torn : Tears ends (teardown (words a.seat) s) (shutting a.seat s stamp) a.shelf b.shelf b.seat
+    pub scopes : b.scopes ≡ a.scopes
+    pub rows : b.rows ≡ a.rows

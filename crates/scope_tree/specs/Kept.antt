@@ -1,0 +1,69 @@
+-- How what a tree keeps agrees with the view of its seat.
+use Rattle.std.specs.Prelude.{◌≡◌, ◌≢◌, ◌⊎◌, ℕ, suc, ◌+◌, ◌<◌, ◌≤◌, ◌^◌, Bool, true, false, cond, flat_map, List, [], ◌∷◌, ◌++◌, length, drop, slice_index_or, vec_capacity, vec_len}
+use Rattle.chunk_core.specs.Lists.{IsAmong}
+use Rattle.res_ledger.specs.declared.event.Event.{Event}
+use Rattle.res_ledger.specs.declared.event.StreamNo.TheVariants.{Inner}
+use Rattle.res_ledger.specs.declared.event.What.{What}
+use Rattle.res_ledger.specs.declared.event.What.TheVariants.{Open, Acquire, Lease, Cancel, Close, Final}
+use Rattle.res_ledger.specs.Ledger.{Notes, IsClosed, IsAcquired, IsOpened, IsUsable}
+use Rattle.res_ledger.specs.Order.{firsts}
+use Rattle.res_ledger.specs.Own.{own, opens, rows, closes, has, is_closed, teardown, leased_rows}
+use Rattle.row_seat.specs.declared.view.View.{View}
+use Rattle.row_seat.specs.Views.{HasRow, noted, placed, IsFresh}
+use Rattle.scope_tree.specs.declared.branch.Branch.{Branch}
+use Rattle.scope_tree.specs.declared.branch.Held.{Held}
+use Rattle.scope_tree.specs.declared.branch.Spent.{Spent}
+use Rattle.scope_tree.specs.Rows.{AreDistinct, Once, lifo, strangers}
+use Rattle.res_ledger.proofs.Orders.{Rises}
+use Rattle.res_ledger.specs.Streams.{by_stream}
+use Rattle.scope_tree.specs.Torn.{said}
+use Rattle.scope_tree.specs.Words.{words, owed, ended_rows}
+
+-- the scopes from n on, each with its parent
+abbrev pub marks : ℕ → List Branch → List (ℕ × ℕ)
+marks n [] = []
+marks n (b ∷ bs) = (n, b.parent) ∷ marks (suc n) bs
+
+-- the rows that a tree holds
+abbrev pub held_rows : List Held → List ℕ
+held_rows [] = []
+held_rows (h ∷ hs) = h.row ∷ held_rows hs
+
+-- the same with their scopes
+abbrev pub held_pairs : List Held → List (ℕ × ℕ)
+held_pairs [] = []
+held_pairs (h ∷ hs) = (h.row, h.scope) ∷ held_pairs hs
+
+module _ {P : Type 0} where
+  -- the branches are the scopes that the stream opened, and the held rows those that it acquired
+  pub record Kept (v : View P) (bs : List Branch) (hs : List Held) : Type 0 where
+    pub size : 1 ≤ length bs
+    pub opens : opens (words v) ≡ marks 1 (drop 1 bs)
+    pub shut : (c : ℕ) (d : Branch) → c < length bs → (slice_index_or bs c d).shut ≡ has c (closes (words v))
+    pub ended : (s : ℕ) → IsAmong s (closes (words v)) → s < length bs
+    pub rows : rows (words v) ≡ held_pairs hs
+    pub parents : (c : ℕ) (d : Branch) → 1 ≤ c → c < length bs → (slice_index_or bs c d).parent < c
+    pub distinct : AreDistinct (held_rows hs)
+    pub live : (r t : ℕ) → IsAmong (r, t) (held_pairs hs) → ¬ (IsClosed v.events v.by t) → HasRow v.opened r
+    pub ranged : (r t : ℕ) → IsAmong (r, t) (held_pairs hs) → t < length bs
+    pub only : (r : ℕ) → HasRow v.opened r → (t : ℕ) × IsAmong (r, t) (held_pairs hs) × ¬ (IsClosed v.events v.by t)
+    pub once : Once v.opened
+    pub handed : v.handed ≡ []
+    pub taken : v.taken ≡ []
+    pub pairs : (j r : ℕ) → IsAmong (j, r) v.pairs → HasRow v.opened r → (s : ℕ) × Notes v.events v.by (Lease j s)
+    pub bare : (j r : ℕ) → IsAmong (j, r) v.pairs → ¬ (IsAmong r v.empty)
+    pub empty : (r : ℕ) → IsAmong r v.empty → ¬ (IsAcquired v.events r)
+    pub spare : owed v ≤ v.spare
+
+  -- the shelf has the rows whose Finals the stream noted, and none of them is open, leased or empty here
+  pub record Shelved (v : View P) (hs : List Held) (xs : List (Spent P)) : Type 0 where
+    pub said_are : ended_rows (words v) ≡ said xs
+    pub distinct : AreDistinct (firsts (said xs))
+    pub opened : (r : ℕ) → HasRow v.opened r → ¬ (IsAmong r (firsts (said xs)))
+    pub pairs : (j r : ℕ) → IsAmong (j, r) v.pairs → ¬ (IsAmong r (firsts (said xs)))
+    pub empty : (r : ℕ) → IsAmong r v.empty → ¬ (IsAmong r (firsts (said xs)))
+    -- a lease here is of the seat's own stream, or its Lease was noted
+    pub leased : (j r : ℕ) → IsAmong (j, r) v.pairs → (v.by ≡ Inner j) ⊎ ((s : ℕ) × Notes v.events v.by (Lease j s))
+    -- where no other seat can hold a row back, each row that isn't open has ended
+    pub ended : v.main ≡ false → (r t : ℕ) → IsAmong (r, t) (held_pairs hs) → HasRow v.opened r ⊎ IsAmong r (firsts (said xs))
+    pub rises : Rises (by_stream v.by v.events)

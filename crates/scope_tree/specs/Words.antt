@@ -1,0 +1,76 @@
+-- What the stream of a seat noted, and what it owes.
+use Rattle.std.specs.Prelude.{◌≡◌, ◌≢◌, ◌⊎◌, ℕ, suc, ◌+◌, ◌<◌, ◌≤◌, ◌^◌, Bool, true, false, cond, flat_map, List, [], ◌∷◌, ◌++◌, length, drop, slice_index_or, vec_capacity, vec_len}
+use Rattle.chunk_core.specs.Lists.{IsAmong}
+use Rattle.res_ledger.specs.declared.event.Event.{Event}
+use Rattle.res_ledger.specs.declared.event.StreamNo.TheVariants.{Inner}
+use Rattle.res_ledger.specs.declared.event.What.{What}
+use Rattle.res_ledger.specs.declared.event.What.TheVariants.{Open, Acquire, Lease, Cancel, Close, Final}
+use Rattle.res_ledger.specs.Ledger.{Notes, IsClosed, IsAcquired, IsOpened, IsUsable}
+use Rattle.res_ledger.specs.Order.{firsts}
+use Rattle.res_ledger.specs.Own.{own, opens, rows, closes, has, is_closed, teardown, leased_rows}
+use Rattle.row_seat.specs.declared.view.View.{View}
+use Rattle.row_seat.specs.Views.{HasRow, noted, placed, IsFresh}
+use Rattle.scope_tree.specs.declared.branch.Branch.{Branch}
+use Rattle.scope_tree.specs.declared.branch.Held.{Held}
+use Rattle.scope_tree.specs.declared.branch.Spent.{Spent}
+use Rattle.scope_tree.specs.Rows.{AreDistinct, Once, lifo, strangers}
+
+-- the numbers of scopes or rows
+abbrev pub numbers : List (ℕ × ℕ) → List ℕ
+numbers [] = []
+numbers (o ∷ os) = o.0 ∷ numbers os
+
+-- how many of the scopes are open
+abbrev pub open_of : List What → List ℕ → ℕ
+open_of E [] = 0
+open_of E (s ∷ ss) = cond (is_closed E s) (open_of E ss) (suc (open_of E ss))
+
+-- how many scopes are open, with the root
+abbrev pub open_scopes : List What → ℕ
+open_scopes E = open_of E (0 ∷ numbers (opens E))
+
+-- the row that an event ends, with its outcome
+abbrev pub ends_of : What → List (ℕ × Bool)
+ends_of (Open s p) = []
+ends_of (Acquire r s) = []
+ends_of (Lease j s) = []
+ends_of (Cancel j) = []
+ends_of (Close s) = []
+ends_of (Final r ok) = (r, ok) ∷ []
+
+-- the rows that have a Final, with their outcomes, in order
+abbrev pub ended_rows : List What → List (ℕ × Bool)
+ended_rows E = flat_map ends_of E
+
+module _ {P : Type 0} where
+  -- what the seat's own stream noted
+  abbrev pub words : View P → List What
+  words v = own v.by v.events
+
+  -- the rows that it acquired
+  abbrev pub own_rows : View P → List ℕ
+  own_rows v = numbers (rows (words v))
+
+  -- the events that close all that is open: a Close for each scope, a Final for each row
+  abbrev pub owed : View P → ℕ
+  owed v = open_scopes (words v) + length v.opened
+
+  -- an event of the seat
+  abbrev pub opening : View P → ℕ → ℕ → ℕ → Event
+  opening v c p n = record { stamp = n; by = v.by; what = Open c p }
+
+  abbrev pub acquiring : View P → ℕ → ℕ → ℕ → Event
+  acquiring v r s n = record { stamp = n; by = v.by; what = Acquire r s }
+
+  abbrev pub leasing : View P → ℕ → ℕ → ℕ → Event
+  leasing v j s n = record { stamp = n; by = v.by; what = Lease j s }
+
+  abbrev pub canceling : View P → ℕ → ℕ → Event
+  canceling v j n = record { stamp = n; by = v.by; what = Cancel j }
+
+  abbrev pub closing : View P → ℕ → ℕ → Event
+  closing v s n = record { stamp = n; by = v.by; what = Close s }
+
+  -- the Close of s is noted
+  abbrev pub shutting : View P → ℕ → ℕ → View P
+  shutting v s n = noted v (closing v s n)

@@ -1,0 +1,34 @@
+//! Making leases.
+ghost use Rattle.std.specs.Prelude.{◌≡◌, ◌≢◌, ℕ, true};
+ghost use Rattle.chunk_core.specs.Lists.{IsAmong};
+ghost use Rattle.res_ledger.specs.Ledger.{IsLeased};
+ghost use Rattle.res_ledger.specs.declared.event.StreamNo.TheVariants.{Inner};
+ghost use Rattle.row_seat.specs.Views.{HasRow, OthersFit};
+ghost use Rattle.scope_tree.specs.Rows.{AreDistinct, are_distinct};
+ghost use Rattle.scope_tree.specs.Leaving.{leased_all};
+
+use row_seat::RowSeat;
+
+/// The lease of a scope for a stream. It cannot be dropped: a tree takes it in `cancel`.
+pub struct Lease {
+    pub stream: u32,
+    /// The rows that it covers, in the order in which they were acquired.
+    pub rows: Vec<u32>,
+    ghost distinct: { are_distinct rows.items ≡ true },
+}
+
+/// Leases each of the rows for the stream.
+pub fn lease_rows<S: RowSeat>(seat: &mut S, desk: &mut S::Desk, stream: u32, rows: &[u32])
+    requires fits { S.fits seat.old desk.old }
+    requires main { (S.view seat.old).main ≡ true }
+    requires rows { ((r : ℕ) → IsAmong r rows.now → HasRow (S.view seat.old).opened r) × AreDistinct rows.now }
+    requires stream { ((S.view seat.old).by ≢ Inner stream) × ¬ (IsAmong stream (S.view seat.old).had) × ¬ (IsLeased (S.view seat.old).events stream) }
+    requires none { (r : ℕ) → ¬ (IsAmong (stream, r) (S.view seat.old).pairs) }
+    ensures seat { S.view seat.new ≡ leased_all (S.view seat.old) stream rows.now }
+    ensures fits { S.fits seat.new desk.new }
+    ensures others { OthersFit S.view S.fits (S.view seat.old).by desk.old desk.new }
+{
+    'each: for row in rows {
+        seat.lease(desk, stream, *row);
+    }
+}

@@ -1,0 +1,38 @@
+//! The room of a tree, made before its first call.
+ghost use Rattle.std.specs.Prelude.{◌≡◌, ◌≤◌, [], vec_capacity, IfOk};
+
+use crate::branch::{Branch, Held, Spent};
+use std::alloc::{AllocError, Global};
+
+/// Room for scopes and rows. Each row that a tree acquires uses one, and so does each row of
+/// another stream that ends in it.
+pub struct Room<P> {
+    pub(crate) branches: Vec<Branch>,
+    pub(crate) held: Vec<Held>,
+    pub(crate) shelf: Vec<Spent<P>>,
+    pub(crate) scopes: u32,
+    pub(crate) rows: u32,
+    ghost one: { 1 ≤ scopes },
+    ghost nothing: { (branches.items ≡ []) × (held.items ≡ []) × (shelf.items ≡ []) },
+    ghost enough: { (scopes ≤ vec_capacity branches) × (rows ≤ vec_capacity held) × (rows ≤ vec_capacity shelf) },
+}
+
+impl<P: Drop> Room<P> {
+    /// Needs memory: no later call of the tree does, but the making of leases and seats.
+    pub fn new(alloc: Global, scopes: u32, rows: u32) -> Result<Room<P>, AllocError>
+        requires { 1 ≤ scopes }
+        ensures scopes { IfOk result (λ room. room.scopes ≡ scopes) }
+        ensures rows { IfOk result (λ room. room.rows ≡ rows) }
+    {
+        let branches = Vec::with_capacity(alloc, scopes as usize)?;
+        let held = Vec::with_capacity(alloc, rows as usize)?;
+        let shelf = Vec::with_capacity(alloc, rows as usize)?;
+        Ok(Room {
+            branches,
+            held,
+            shelf,
+            scopes,
+            rows,
+        })
+    }
+}
