@@ -13,7 +13,6 @@ abbrev pub stage_of : Held → Stage
 stage_of held.Unopened = stage.Unopened
 stage_of (held.Open file) = stage.Open
 stage_of held.Closed = stage.Closed
-stage_of held.ClosedBadly = stage.ClosedBadly
 
 -- its numbers, and no content
 abbrev pub file_told : FileDevice → DeviceTold
