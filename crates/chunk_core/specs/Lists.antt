@@ -1,5 +1,5 @@
 -- Words on lists.
-use Rattle.std.specs.Prelude.{◌⊎◌, Bool, true, false, ◌&&◌, ◌||◌, List, [], ◌∷◌, ◌++◌}
+use Rattle.std.specs.Prelude.{◌⊎◌, List, [], ◌∷◌, ◌++◌}
 
 -- x stands in the list
 pub data IsAmong {A : Type 0} (x : A) : List A → Type 0 where
@@ -24,13 +24,3 @@ From R before (x ∷ xs) = R before x × From R (before ++ x ∷ []) xs
 -- R holds of each element and the list of those before it
 abbrev pub Always : {A : Type 0} → (List A → A → Type 0) → List A → Type 0
 Always R xs = From R [] xs
-
--- one element passes the test
-abbrev pub any : {A : Type 0} → (A → Bool) → List A → Bool
-any p [] = false
-any p (x ∷ xs) = p x || any p xs
-
--- each element passes the test
-abbrev pub all : {A : Type 0} → (A → Bool) → List A → Bool
-all p [] = true
-all p (x ∷ xs) = p x && all p xs

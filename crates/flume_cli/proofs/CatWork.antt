@@ -2,7 +2,8 @@
 use Rattle.std.proofs.Common.{◌≡◌, ◌≢◌, ℕ, ◌+◌, ◌-◌, ◌<◌, ◌≤◌, ◌^◌, Bool, true, false, cond, not, ◌&&◌, ◌||◌, nat_eq, nat_lt, List, [], ◌∷◌, ◌++◌, ◌⊎◌, inl, inr, length, map, take, drop, filter, flat_map, Option, Some, None, IfSome, refl, sym, ◌∙◌, ap, subst, ⊎_elim, arith, append-nil, length-append, append_assoc}
 use Rattle.std.proofs.lemmas.Bool.Decides.{nat_tests}
 use Rattle.std.proofs.lemmas.List.{take-append-drop}
-use Rattle.chunk_core.specs.Lists.{Each, One, any, all}
+use Rattle.chunk_core.specs.Lists.{Each, One}
+use Rattle.std.specs.List.{list_any as any, list_all as all}
 use Rattle.chunk_core.specs.Elements.{Element, Byte, rendering_of}
 use Rattle.chunk_core.specs.Outcomes.{End, Done, Fault, Cut}
 use Rattle.chunk_core.specs.Texts.{Frame, frame_text, frames_text, payloads_of}

@@ -1,6 +1,6 @@
 -- How a run is told.
 use Rattle.std.specs.Prelude.{◌≡◌, ◌⊎◌, Bool, true, false, if◌then◌else◌, List}
-use Rattle.chunk_core.specs.Lists.{any}
+use Rattle.std.specs.List.{list_any as any}
 use Rattle.res_ledger.specs.declared.event.Event.{Event}
 use Rattle.device_port.specs.Sink.{SinkTold, with_bytes, BreaksOff}
 use Rattle.run_rules.specs.declared.end.EndOf.{EndOf}

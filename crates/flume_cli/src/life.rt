@@ -46,7 +46,7 @@ where
     }
 }
 
-/// Gives the open device to row 0 of the root scope.
+/// Gives the open device to row 0, in the root scope.
 fn acquire<S: RowSeat>(seat: &mut S, desk: &mut S::Desk, device: S::Pay)
     requires fits { S.fits seat.old desk.old }
     requires fresh { S.view seat.old ≡ start (Inner 0) 1 3 }

@@ -4,7 +4,7 @@ ghost use Rattle.flume_cli.specs.Call.{call_of};
 ghost use Rattle.flume_cli.specs.Headline.{Headline};
 ghost use Rattle.flume_cli.specs.Finish.{Finishes, PrintsTail, status_by as status_by_of};
 ghost use Rattle.run_rules.specs.Facts.{is_fault as is_fault_end, is_failed as is_failed_final, has};
-ghost use Rattle.chunk_core.specs.Lists.{any};
+ghost use Rattle.std.specs.List.{list_any as any};
 
 use crate::cat::run_cat;
 use crate::outcome::Outcome;

@@ -1,6 +1,6 @@
 -- Tests of lists set end to end.
 use Rattle.std.proofs.Common.{◌≡◌, ℕ, Bool, true, false, cond, ◌&&◌, ◌||◌, not, nat_eq, List, [], ◌∷◌, ◌++◌, refl, ap, ◌∙◌}
-use Rattle.chunk_core.specs.Lists.{any, all}
+use Rattle.std.specs.List.{list_any as any, list_all as all}
 use Rattle.pull_nodes.specs.Placed.{are_apart, are_distinct, is_once}
 
 and_assoc : (a b c : Bool) → (a && (b && c)) ≡ ((a && b) && c)

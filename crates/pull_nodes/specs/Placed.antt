@@ -1,6 +1,6 @@
 -- Whether each device of a node is acquired in one place and used in one place.
 use Rattle.std.specs.Prelude.{ℕ, Bool, true, false, ◌&&◌, ◌||◌, not, cond, nat_eq, nat_le, nat_lt, List, [], ◌∷◌}
-use Rattle.chunk_core.specs.Lists.{any, all}
+use Rattle.std.specs.List.{list_any as any, list_all as all}
 use Rattle.chunk_core.specs.declared.code.Span.{Span}
 use Rattle.pull_nodes.specs.Shape.{places_of, uses_of}
 use Rattle.pull_nodes.specs.declared.node.Node.{Node}

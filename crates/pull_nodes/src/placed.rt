@@ -1,6 +1,6 @@
 //! Whether each device of a node is acquired in one place and used in one place.
 ghost use Rattle.std.specs.Prelude.{◌≡◌, not, nat_eq};
-ghost use Rattle.chunk_core.specs.Lists.{any, all};
+ghost use Rattle.std.specs.List.{list_any as any, list_all as all};
 ghost use Rattle.pull_nodes.specs.Shape.{places_of, uses_of};
 ghost use Rattle.pull_nodes.specs.Placed.{is_placed, is_within, are_distinct, are_apart, is_once, is_loose};
 

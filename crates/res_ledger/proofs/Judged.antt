@@ -1,7 +1,8 @@
 -- The tests of the rules are exact.
 use Rattle.std.proofs.Common.{◌≡◌, ◌≢◌, ℕ, Bool, true, false, ◌&&◌, ◌||◌, not, nat_eq, List, [], ◌∷◌, ◌++◌, ◌⊎◌, inl, inr, refl, sym, ap, ◌∙◌, subst, ⊎_elim, append_assoc, append-nil}
 use Rattle.std.specs.List.{flat_map}
-use Rattle.chunk_core.specs.Lists.{IsAmong, any, all}
+use Rattle.chunk_core.specs.Lists.{IsAmong}
+use Rattle.std.specs.List.{list_any as any, list_all as all}
 use Rattle.chunk_core.specs.Lists.IsAmong.{here}
 use Rattle.chunk_core.proofs.Members.{among_mid}
 use Rattle.res_ledger.specs.declared.event.StreamNo.{StreamNo}
@@ -10,7 +11,8 @@ use Rattle.res_ledger.specs.declared.event.What.{What}
 use Rattle.res_ledger.specs.declared.event.What.TheVariants.{Open, Acquire, Lease, Cancel, Close, Final}
 use Rattle.res_ledger.specs.declared.event.Event.{Event}
 use Rattle.res_ledger.specs.Ledger.{Notes, IsOpened, IsUsable, IsAcquired, IsFinalized, IsLeased, IsCanceled, Covers, IsRowClosed, IsHanded, MayFollow, IsLegal}
-use Rattle.res_ledger.specs.Own.{same_name, own, opens, rows, rows_of, leased_of, canceled_of, has, is_closed}
+use Rattle.res_ledger.specs.Own.{own, opens, rows, rows_of, leased_of, canceled_of, has, is_closed}
+use Rattle.res_ledger.specs.Streams.{same_stream}
 use Rattle.res_ledger.specs.Order.{covered_by}
 use Rattle.res_ledger.specs.Whole.{is_final, is_cancel, final_count, cancel_count, IsComplete}
 use Rattle.res_ledger.specs.Judge.{each_after, is_noted, is_of, is_acquired, is_leased, is_usable, is_row_closed, is_released, is_handed, is_inherited, is_finished, is_unstarted, may_follow, is_legal, is_answered, is_late, is_complete}
@@ -155,24 +157,24 @@ Cancels P k j = ((k ≡ Inner j) × ((r s : ℕ) → Notes P k (Acquire r s) →
 cancels_sound : (P : List Event) (k : StreamNo) (j : ℕ) → (is_finished P k j || is_unstarted P k j) ≡ true → Cancels P k j
 cancels_sound P k j h = elim (either (is_finished P k j) (is_unstarted P k j) h) [
   | inl x ↦
-      let c = both (same_name k (Inner j)) (all (λ x. is_noted (is_final x.0) P) (rows (own k P))) x in
+      let c = both (same_stream k (Inner j)) (all (λ x. is_noted (is_final x.0) P) (rows (own k P))) x in
       inl (name k (Inner j) c.0, λ r s n. let y : ℕ × ℕ = (r, s) in final_in P r (all_at (λ x. is_noted (is_final x.0) P) y (rows (own k P)) (notes_rows P k r s n) c.1))
   | inr x ↦
-      let c = both (any (is_of j) (flat_map leased_of (own k P))) (not (any (λ e. same_name e.by (Inner j)) P)) x in
+      let c = both (any (is_of j) (flat_map leased_of (own k P))) (not (any (λ e. same_stream e.by (Inner j)) P)) x in
       let l = any_found (is_of j) (flat_map leased_of (own k P)) c.0 in
-      inr ((l.0.1, subst (λ y. Notes P k (Lease y l.0.1)) (number l.0.0 j l.2) (leased_notes P k l.0 l.1)), λ e m b. no (any (λ e. same_name e.by (Inner j)) P) c.1 (any_at (λ e. same_name e.by (Inner j)) e P m (subst (λ y. same_name y (Inner j) ≡ true) (sym b) (named (Inner j)))))
+      inr ((l.0.1, subst (λ y. Notes P k (Lease y l.0.1)) (number l.0.0 j l.2) (leased_notes P k l.0 l.1)), λ e m b. no (any (λ e. same_stream e.by (Inner j)) P) c.1 (any_at (λ e. same_stream e.by (Inner j)) e P m (subst (λ y. same_stream y (Inner j) ≡ true) (sym b) (named (Inner j)))))
 ]
 
 cancels_found : (P : List Event) (k : StreamNo) (j : ℕ) → Cancels P k j → (is_finished P k j || is_unstarted P k j) ≡ true
 cancels_found P k j (inl a) = or_left (is_finished P k j) (is_unstarted P k j)
-    (and_true (same_name k (Inner j)) (all (λ x. is_noted (is_final x.0) P) (rows (own k P))) (subst (λ x. same_name x (Inner j) ≡ true) (sym a.0) (named (Inner j)))
+    (and_true (same_stream k (Inner j)) (all (λ x. is_noted (is_final x.0) P) (rows (own k P))) (subst (λ x. same_stream x (Inner j) ≡ true) (sym a.0) (named (Inner j)))
     (each_passes (λ x. is_noted (is_final x.0) P) (rows (own k P)) (λ x m. final_found P x.0 (a.1 x.0 x.1 (rows_notes P k x m)))))
 cancels_found P k j (inr a) =
     let q : ℕ × ℕ = (j, a.0.0) in
     or_right (is_finished P k j) (is_unstarted P k j)
-    (and_true (any (is_of j) (flat_map leased_of (own k P))) (not (any (λ e. same_name e.by (Inner j)) P))
+    (and_true (any (is_of j) (flat_map leased_of (own k P))) (not (any (λ e. same_stream e.by (Inner j)) P))
     (any_at (is_of j) q (flat_map leased_of (own k P)) (flat_holds leased_of (Lease j a.0.0) (own k P) q (notes_own P k (Lease j a.0.0) a.0.1) (here [])) (itself j))
-    (fails (any (λ e. same_name e.by (Inner j)) P) (λ h. let f = any_found (λ e. same_name e.by (Inner j)) P h in a.1 f.0 f.1 (name f.0.by (Inner j) f.2))))
+    (fails (any (λ e. same_stream e.by (Inner j)) P) (λ h. let f = any_found (λ e. same_stream e.by (Inner j)) P h in a.1 f.0 f.1 (name f.0.by (Inner j) f.2))))
 
 may_follow_sound : (P : List Event) → IsLegal P → (k : StreamNo) (w : What) → may_follow P k w ≡ true → MayFollow P k w
 may_follow_sound P l k (Open s p) h =
@@ -183,9 +185,9 @@ may_follow_sound P l k (Acquire r s) h =
     let a = both (not (is_acquired P r)) (is_usable (own k P) s) h in
     (λ o. no (is_acquired P r) a.0 (acquired_found P r o), usable_sound P l k s a.1)
 may_follow_sound P l k (Lease j s) h =
-    let a = both (not (is_leased P j)) (not (same_name k (Inner j)) && is_usable (own k P) s) h in
-    let b = both (not (same_name k (Inner j))) (is_usable (own k P) s) a.1 in
-    (λ o. no (is_leased P j) a.0 (leased_found P j o), λ e. no (same_name k (Inner j)) b.0 (subst (λ x. same_name x (Inner j) ≡ true) (sym e) (named (Inner j))), usable_sound P l k s b.1)
+    let a = both (not (is_leased P j)) (not (same_stream k (Inner j)) && is_usable (own k P) s) h in
+    let b = both (not (same_stream k (Inner j))) (is_usable (own k P) s) a.1 in
+    (λ o. no (is_leased P j) a.0 (leased_found P j o), λ e. no (same_stream k (Inner j)) b.0 (subst (λ x. same_stream x (Inner j) ≡ true) (sym e) (named (Inner j))), usable_sound P l k s b.1)
 may_follow_sound P l k (Cancel j) h =
     let a = both (is_leased P j) (not (is_noted (is_cancel j) P) && (is_finished P k j || is_unstarted P k j)) h in
     let b = both (not (is_noted (is_cancel j) P)) (is_finished P k j || is_unstarted P k j) a.1 in
@@ -210,8 +212,8 @@ may_follow_found P l k (Open s p) m =
     (and_true (not (any (is_of s) (opens (own k P)))) (is_usable (own k P) p) (fails (any (is_of s) (opens (own k P))) (λ h. m.1 (opened_in P k s h))) (usable_found P k p m.2))
 may_follow_found P l k (Acquire r s) m = and_true (not (is_acquired P r)) (is_usable (own k P) s) (fails (is_acquired P r) (λ h. m.0 (acquired_in P r h))) (usable_found P k s m.1)
 may_follow_found P l k (Lease j s) m =
-    and_true (not (is_leased P j)) (not (same_name k (Inner j)) && is_usable (own k P) s) (fails (is_leased P j) (λ h. m.0 (leased_in P j h)))
-    (and_true (not (same_name k (Inner j))) (is_usable (own k P) s) (fails (same_name k (Inner j)) (λ h. m.1 (name k (Inner j) h))) (usable_found P k s m.2))
+    and_true (not (is_leased P j)) (not (same_stream k (Inner j)) && is_usable (own k P) s) (fails (is_leased P j) (λ h. m.0 (leased_in P j h)))
+    (and_true (not (same_stream k (Inner j))) (is_usable (own k P) s) (fails (same_stream k (Inner j)) (λ h. m.1 (name k (Inner j) h))) (usable_found P k s m.2))
 may_follow_found P l k (Cancel j) m =
     and_true (is_leased P j) (not (is_noted (is_cancel j) P) && (is_finished P k j || is_unstarted P k j)) (leased_found P j m.0)
     (and_true (not (is_noted (is_cancel j) P)) (is_finished P k j || is_unstarted P k j) (fails (is_noted (is_cancel j) P) (λ h. m.1 (canceled_in P j h))) (cancels_found P k j m.2))

@@ -10,31 +10,32 @@ use Rattle.res_ledger.specs.declared.event.What.{What}
 use Rattle.res_ledger.specs.declared.event.What.TheVariants.{Open, Acquire, Lease, Cancel, Close, Final}
 use Rattle.res_ledger.specs.declared.event.Event.{Event}
 use Rattle.res_ledger.specs.Ledger.{Notes}
-use Rattle.res_ledger.specs.Own.{same_name, own, opens, opens_of, rows, rows_of, closes, closes_of, leased_of, canceled_of, has}
+use Rattle.res_ledger.specs.Own.{own, opens, opens_of, rows, rows_of, closes, closes_of, leased_of, canceled_of, has}
+use Rattle.res_ledger.specs.Streams.{same_stream}
 use Rattle.res_ledger.specs.Whole.{is_final, is_cancel}
 use Rattle.res_ledger.specs.Judge.{is_noted}
 use Rattle.res_ledger.proofs.Tests.{name, named, number, itself, any_at, any_found}
 
-own_found : (e : Event) (L : List Event) (k : StreamNo) (w : What) (b : Bool) → same_name e.by k ≡ b → IsAmong w (cond b (e.what ∷ own k L) (own k L)) → (IsAmong w (own k L) → Notes L k w) → Notes (e ∷ L) k w
+own_found : (e : Event) (L : List Event) (k : StreamNo) (w : What) (b : Bool) → same_stream e.by k ≡ b → IsAmong w (cond b (e.what ∷ own k L) (own k L)) → (IsAmong w (own k L) → Notes L k w) → Notes (e ∷ L) k w
 own_found e L k w true t m rest = ⊎_elim (λ q. (e, here L, name e.by k t, sym q)) (λ n. let x = rest n in (x.0, there e x.1, x.2, x.3)) (among_cons m)
 own_found e L k w false t m rest = let x = rest m in (x.0, there e x.1, x.2, x.3)
 
 -- what is among a stream's own was noted by it
 pub own_notes : (L : List Event) (k : StreamNo) (w : What) → IsAmong w (own k L) → Notes L k w
 own_notes [] k w m = absurd (among_nil m)
-own_notes (e ∷ L) k w m = own_found e L k w (same_name e.by k) refl m (own_notes L k w)
+own_notes (e ∷ L) k w m = own_found e L k w (same_stream e.by k) refl m (own_notes L k w)
 
 own_more : (y : Event) (L : List Event) (k : StreamNo) (w : What) (b : Bool) → IsAmong w (own k L) → IsAmong w (cond b (y.what ∷ own k L) (own k L))
 own_more y L k w true m = there y.what m
 own_more y L k w false m = m
 
-own_holds : (e : Event) (k : StreamNo) (L : List Event) → IsAmong e L → same_name e.by k ≡ true → IsAmong e.what (own k L)
+own_holds : (e : Event) (k : StreamNo) (L : List Event) → IsAmong e L → same_stream e.by k ≡ true → IsAmong e.what (own k L)
 own_holds e k L (here xs) t = subst (λ b. IsAmong e.what (cond b (e.what ∷ own k xs) (own k xs))) (sym t) (here (own k xs))
-own_holds e k L (there {xs = ys} y m) t = own_more y ys k e.what (same_name y.by k) (own_holds e k ys m t)
+own_holds e k L (there {xs = ys} y m) t = own_more y ys k e.what (same_stream y.by k) (own_holds e k ys m t)
 
 -- what a stream noted is among its own
 pub notes_own : (L : List Event) (k : StreamNo) (w : What) → Notes L k w → IsAmong w (own k L)
-notes_own L k w n = subst (λ x. IsAmong x (own k L)) n.3 (own_holds n.0 k L n.1 (subst (λ x. same_name x k ≡ true) (sym n.2) (named k)))
+notes_own L k w n = subst (λ x. IsAmong x (own k L)) n.3 (own_holds n.0 k L n.1 (subst (λ x. same_stream x k ≡ true) (sym n.2) (named k)))
 
 pub among_either : {A : Type 0} (xs ys : List A) (x : A) → IsAmong x (xs ++ ys) → IsAmong x xs ⊎ IsAmong x ys
 among_either [] ys x m = inr m

@@ -1,13 +1,15 @@
 -- The test of the order is sound and complete.
 use Rattle.std.proofs.Common.{◌≡◌, ◌≢◌, ℕ, Bool, true, false, cond, ◌&&◌, List, [], ◌∷◌, ◌++◌, reverse, ◌⊎◌, inl, inr, refl, sym, ap, ◌∙◌, subst, ⊎_elim, append_assoc, append-nil, ne_eqb, eq-eqb}
 use Rattle.std.proofs.lemmas.Bool.{cases_eq, false≢true}
-use Rattle.chunk_core.specs.Lists.{IsAmong, all}
+use Rattle.chunk_core.specs.Lists.{IsAmong}
+use Rattle.std.specs.List.{list_all as all}
 use Rattle.chunk_core.specs.Lists.IsAmong.{here, there}
 use Rattle.res_ledger.specs.declared.event.StreamNo.{StreamNo}
 use Rattle.res_ledger.specs.declared.event.What.{What}
 use Rattle.res_ledger.specs.declared.event.What.TheVariants.{Open, Acquire, Lease, Cancel, Close, Final}
 use Rattle.res_ledger.specs.declared.event.Event.{Event}
-use Rattle.res_ledger.specs.Own.{own, teardown, has, same_name}
+use Rattle.res_ledger.specs.Own.{own, teardown, has}
+use Rattle.res_ledger.specs.Streams.{same_stream}
 use Rattle.res_ledger.specs.Order.{Picks, IsInBlocks, finals, firsts, is_plain, covered, covered_by, passes_after, any_row, is_in_blocks, is_in_order, is_ordered, IsInOrder, IsOrdered}
 use Rattle.res_ledger.specs.Order.Picks.{none as nothing, pick, pass}
 use Rattle.res_ledger.specs.Order.IsInBlocks.{none, plain, close, cancel}
@@ -145,14 +147,14 @@ module _ (may : ℕ → Bool) (due : ℕ → List ℕ) where
 pub in_order_complete : (L : List Event) (k : StreamNo) → IsInOrder L k → is_in_order L k ≡ true
 in_order_complete L k b = runs_complete (λ r. has r (covered L)) (λ j. reverse (covered_by L j)) b any_row [] nothing
 
-own_step : (k : StreamNo) (e : Event) (L : List Event) (b : Bool) → same_name e.by k ≡ b → ((x : Event) × IsAmong x L × (x.by ≡ k)) ⊎ (own k L ≡ []) → ((x : Event) × IsAmong x (e ∷ L) × (x.by ≡ k)) ⊎ (own k (e ∷ L) ≡ [])
+own_step : (k : StreamNo) (e : Event) (L : List Event) (b : Bool) → same_stream e.by k ≡ b → ((x : Event) × IsAmong x L × (x.by ≡ k)) ⊎ (own k L ≡ []) → ((x : Event) × IsAmong x (e ∷ L) × (x.by ≡ k)) ⊎ (own k (e ∷ L) ≡ [])
 own_step k e L true t r = inl (e, here L, name e.by k t)
 own_step k e L false t r = ⊎_elim (λ f. inl (f.0, there e f.1, f.2)) (λ z. inr (ap (λ b. cond b (e.what ∷ own k L) (own k L)) t ∙ z)) r
 
 -- a stream noted something, or its list is empty
 own_none_or : (k : StreamNo) (L : List Event) → ((e : Event) × IsAmong e L × (e.by ≡ k)) ⊎ (own k L ≡ [])
 own_none_or k [] = inr refl
-own_none_or k (e ∷ L) = own_step k e L (same_name e.by k) refl (own_none_or k L)
+own_none_or k (e ∷ L) = own_step k e L (same_stream e.by k) refl (own_none_or k L)
 
 -- the test is sound
 pub ordered_sound : (L : List Event) → is_ordered L ≡ true → IsOrdered L

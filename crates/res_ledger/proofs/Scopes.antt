@@ -10,7 +10,8 @@ use Rattle.res_ledger.specs.declared.event.What.TheVariants.{Open, Acquire, Leas
 use Rattle.res_ledger.specs.declared.event.Event.{Event}
 use Rattle.res_ledger.specs.Ledger.{Notes, LiesWithin, IsClosed, MayFollow, IsLegal}
 use Rattle.res_ledger.specs.Ledger.LiesWithin.{same, below}
-use Rattle.res_ledger.specs.Own.{same_name, own, opens, opens_of, closes, has, up, turned, above, is_closed}
+use Rattle.res_ledger.specs.Own.{own, opens, opens_of, closes, has, up, turned, above, is_closed}
+use Rattle.res_ledger.specs.Streams.{same_stream}
 use Rattle.res_ledger.proofs.Tests.{number, itself, name, any_at, any_found}
 use Rattle.res_ledger.proofs.Noted.{opens_notes, closes_notes, notes_opens, notes_closes, has_in, in_has}
 
@@ -98,7 +99,7 @@ own_cons false w E F G e = e
 
 pub own_append : (k : StreamNo) (P Q : List Event) → own k (P ++ Q) ≡ own k P ++ own k Q
 own_append k [] Q = refl
-own_append k (e ∷ P) Q = own_cons (same_name e.by k) e.what (own k (P ++ Q)) (own k P) (own k Q) (own_append k P Q)
+own_append k (e ∷ P) Q = own_cons (same_stream e.by k) e.what (own k (P ++ Q)) (own k P) (own k Q) (own_append k P Q)
 
 turned_append : (xs ys : List (ℕ × ℕ)) → turned (xs ++ ys) ≡ turned ys ++ turned xs
 turned_append [] ys = sym (append-nil (turned ys))
@@ -119,14 +120,14 @@ tree_what P k (Cancel j) m t = t
 tree_what P k (Close s) m t = t
 tree_what P k (Final r ok) m t = t
 
-tree_event : (P : List Event) (k : StreamNo) (e : Event) (b : Bool) → same_name e.by k ≡ b → MayFollow P e.by e.what → IsTree (scopes P k) → IsTree (turned (opens (cond b (e.what ∷ []) [])) ++ scopes P k)
+tree_event : (P : List Event) (k : StreamNo) (e : Event) (b : Bool) → same_stream e.by k ≡ b → MayFollow P e.by e.what → IsTree (scopes P k) → IsTree (turned (opens (cond b (e.what ∷ []) [])) ++ scopes P k)
 tree_event P k e true h m t = tree_what P k e.what (subst (λ q. MayFollow P q e.what) (name e.by k h) m) t
 tree_event P k e false h m t = t
 
 tree_from : (P Q : List Event) (k : StreamNo) → IsLegal (P ++ Q) → IsTree (scopes P k) → IsTree (scopes (P ++ Q) k)
 tree_from P [] k h t = subst (λ l. IsTree (scopes l k)) (sym (append-nil P)) t
 tree_from P (e ∷ Q) k h t =
-    let next : IsTree (scopes (P ++ e ∷ []) k) = subst IsTree (sym (scopes_append P (e ∷ []) k)) (tree_event P k e (same_name e.by k) refl (h P Q e refl) t) in
+    let next : IsTree (scopes (P ++ e ∷ []) k) = subst IsTree (sym (scopes_append P (e ∷ []) k)) (tree_event P k e (same_stream e.by k) refl (h P Q e refl) t) in
     subst (λ l. IsTree (scopes l k)) (append_assoc P (e ∷ []) Q) (tree_from (P ++ e ∷ []) Q k (subst IsLegal (sym (append_assoc P (e ∷ []) Q)) h) next)
 
 -- what lies above a scope stands above it

@@ -1,7 +1,8 @@
 -- Each acquired row of a legal ledger has a standing.
 use Rattle.std.proofs.Common.{◌≡◌, ℕ, Bool, true, false, cond, ◌&&◌, ◌||◌, not, List, [], ◌∷◌, refl, sym, ◌∙◌}
 use Rattle.std.proofs.lemmas.Bool.{false≢true}
-use Rattle.chunk_core.specs.Lists.{IsAmong, all}
+use Rattle.chunk_core.specs.Lists.{IsAmong}
+use Rattle.std.specs.List.{list_all as all}
 use Rattle.chunk_core.specs.Lists.IsAmong.{here, there}
 use Rattle.res_ledger.specs.declared.event.StreamNo.{StreamNo}
 use Rattle.res_ledger.specs.declared.event.Event.{Event}

@@ -2,11 +2,12 @@
 use Rattle.std.proofs.Common.{◌≡◌, ℕ, Bool, true, false, ◌&&◌, ◌||◌, not, nat_eq, List, [], ◌∷◌, ◌⊎◌, inl, inr, refl, ap}
 use Rattle.std.proofs.lemmas.Bool.{false≢true}
 use Rattle.std.proofs.lemmas.Bool.Decides.{Decides-eqb}
-use Rattle.chunk_core.specs.Lists.{IsAmong, any, all}
+use Rattle.chunk_core.specs.Lists.{IsAmong}
+use Rattle.std.specs.List.{list_any as any, list_all as all}
 use Rattle.chunk_core.specs.Lists.IsAmong.{here, there}
 use Rattle.res_ledger.specs.declared.event.StreamNo.{StreamNo}
 use Rattle.res_ledger.specs.declared.event.StreamNo.TheVariants.{Outer, Inner}
-use Rattle.res_ledger.specs.Own.{same_name}
+use Rattle.res_ledger.specs.Streams.{same_stream}
 
 pub both : (a b : Bool) → (a && b) ≡ true → (a ≡ true) × (b ≡ true)
 both true b h = (refl, h)
@@ -43,13 +44,13 @@ number x y h = (Decides-eqb x y).0 h
 pub itself : (x : ℕ) → nat_eq x x ≡ true
 itself x = (Decides-eqb x x).1 refl
 
-pub name : (j k : StreamNo) → same_name j k ≡ true → j ≡ k
+pub name : (j k : StreamNo) → same_stream j k ≡ true → j ≡ k
 name Outer Outer h = refl
 name Outer (Inner k) h = absurd (false≢true h)
 name (Inner j) Outer h = absurd (false≢true h)
 name (Inner j) (Inner k) h = ap Inner (number j k h)
 
-pub named : (k : StreamNo) → same_name k k ≡ true
+pub named : (k : StreamNo) → same_stream k k ≡ true
 named Outer = refl
 named (Inner k) = itself k
 

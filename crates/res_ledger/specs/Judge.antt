@@ -1,13 +1,14 @@
 -- Tests of the rules of a ledger.
 use Rattle.std.specs.Prelude.{◌≡◌, ◌↔◌, ℕ, Bool, true, ◌&&◌, ◌||◌, not, nat_eq, List, [], ◌∷◌, ◌++◌, flat_map}
-use Rattle.chunk_core.specs.Lists.{any, all}
+use Rattle.std.specs.List.{list_any as any, list_all as all}
 use Rattle.res_ledger.specs.declared.event.StreamNo.{StreamNo}
 use Rattle.res_ledger.specs.declared.event.StreamNo.TheVariants.{Inner}
 use Rattle.res_ledger.specs.declared.event.What.{What}
 use Rattle.res_ledger.specs.declared.event.What.TheVariants.{Open, Acquire, Lease, Cancel, Close, Final}
 use Rattle.res_ledger.specs.declared.event.Event.{Event}
 use Rattle.res_ledger.specs.Ledger.{IsClosed, IsCoveredBy, Covers, IsLegal}
-use Rattle.res_ledger.specs.Own.{same_name, own, opens, rows, rows_of, leased_of, canceled_of, has, is_closed, leased_rows}
+use Rattle.res_ledger.specs.Own.{own, opens, rows, rows_of, leased_of, canceled_of, has, is_closed, leased_rows}
+use Rattle.res_ledger.specs.Streams.{same_stream}
 use Rattle.res_ledger.specs.Order.{covered, covered_by}
 use Rattle.res_ledger.specs.Whole.{is_final, is_cancel, final_count, cancel_count, IsComplete}
 
@@ -54,17 +55,17 @@ is_inherited P k r = any (λ j. has r (covered_by P j)) (flat_map canceled_of (o
 
 -- k is stream j, and each row that it acquired is final
 abbrev pub is_finished : List Event → StreamNo → ℕ → Bool
-is_finished P k j = same_name k (Inner j) && all (λ x. is_noted (is_final x.0) P) (rows (own k P))
+is_finished P k j = same_stream k (Inner j) && all (λ x. is_noted (is_final x.0) P) (rows (own k P))
 
 -- k noted the lease for j, and j noted nothing
 abbrev pub is_unstarted : List Event → StreamNo → ℕ → Bool
-is_unstarted P k j = any (is_of j) (flat_map leased_of (own k P)) && not (any (λ e. same_name e.by (Inner j)) P)
+is_unstarted P k j = any (is_of j) (flat_map leased_of (own k P)) && not (any (λ e. same_stream e.by (Inner j)) P)
 
 -- the event meets its condition on the events before it
 abbrev pub may_follow : List Event → StreamNo → What → Bool
 may_follow P k (Open s p) = not (nat_eq s 0) && (not (any (is_of s) (opens (own k P))) && is_usable (own k P) p)
 may_follow P k (Acquire r s) = not (is_acquired P r) && is_usable (own k P) s
-may_follow P k (Lease j s) = not (is_leased P j) && (not (same_name k (Inner j)) && is_usable (own k P) s)
+may_follow P k (Lease j s) = not (is_leased P j) && (not (same_stream k (Inner j)) && is_usable (own k P) s)
 may_follow P k (Cancel j) = is_leased P j && (not (is_noted (is_cancel j) P) && (is_finished P k j || is_unstarted P k j))
 may_follow P k (Close s) = is_usable (own k P) s
 may_follow P k (Final r ok) = is_handed P r && (any (is_of r) (rows (own k P)) || is_inherited P k r)

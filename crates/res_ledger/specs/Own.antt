@@ -1,23 +1,17 @@
 -- What one stream noted, in order, and what its scopes and rows are by it.
 use Rattle.std.specs.Prelude.{ℕ, Bool, true, false, nat_eq, ◌&&◌, ◌||◌, not, if◌then◌else◌, List, [], ◌∷◌, ◌++◌, flat_map}
-use Rattle.chunk_core.specs.Lists.{any}
+use Rattle.std.specs.List.{list_any as any}
+use Rattle.res_ledger.specs.Streams.{same_stream}
 use Rattle.res_ledger.specs.declared.event.StreamNo.{StreamNo}
 use Rattle.res_ledger.specs.declared.event.StreamNo.TheVariants.{Outer, Inner}
 use Rattle.res_ledger.specs.declared.event.What.{What}
 use Rattle.res_ledger.specs.declared.event.What.TheVariants.{Open, Acquire, Lease, Cancel, Close, Final}
 use Rattle.res_ledger.specs.declared.event.Event.{Event}
 
--- the two names are one
-abbrev pub same_name : StreamNo → StreamNo → Bool
-same_name Outer Outer = true
-same_name Outer (Inner j) = false
-same_name (Inner i) Outer = false
-same_name (Inner i) (Inner j) = nat_eq i j
-
 -- what k noted, in order
 abbrev pub own : StreamNo → List Event → List What
 own k [] = []
-own k (e ∷ L) = if same_name e.by k then e.what ∷ own k L else own k L
+own k (e ∷ L) = if same_stream e.by k then e.what ∷ own k L else own k L
 
 -- the scope that an event opens, with its parent
 abbrev pub opens_of : What → List (ℕ × ℕ)

@@ -1,23 +1,15 @@
 -- Tests on names, places, ends and events, which compute on a list that is written out.
 use Rattle.std.specs.Prelude.{ℕ, zero, suc, ◌+◌, Bool, true, false, ◌&&◌, not, nat_eq, nat_lt, List, [], ◌∷◌, ◌++◌, filter, Option, Some, None}
 use Rattle.std.specs.Str.{bytes_eq}
-use Rattle.chunk_core.specs.Lists.{any}
+use Rattle.std.specs.List.{list_any as any}
 use Rattle.chunk_core.specs.declared.code.How.{How}
 use Rattle.chunk_core.specs.declared.code.How.TheVariants as how
-use Rattle.res_ledger.specs.declared.event.StreamNo.{StreamNo}
-use Rattle.res_ledger.specs.declared.event.StreamNo.TheVariants.{Outer, Inner}
 use Rattle.res_ledger.specs.declared.event.What.{What}
 use Rattle.res_ledger.specs.declared.event.What.TheVariants.{Open, Acquire, Lease, Cancel, Close, Final}
 use Rattle.res_ledger.specs.declared.event.Event.{Event}
 use Rattle.device_port.specs.declared.device.Mode.{Mode}
 use Rattle.device_port.specs.declared.device.Mode.TheVariants as mode
 use Rattle.device_port.specs.Device.{Place}
-
-abbrev pub is_stream : StreamNo → StreamNo → Bool
-is_stream Outer Outer = true
-is_stream (Inner j) (Inner k) = nat_eq j k
-is_stream Outer (Inner k) = false
-is_stream (Inner j) Outer = false
 
 abbrev pub is_mode : Mode → Mode → Bool
 is_mode mode.Read mode.Read = true
@@ -113,7 +105,3 @@ leased_stream (Final r ok) = None
 -- an event says so
 abbrev pub has : (What → Bool) → List Event → Bool
 has p L = any (λ e. p e.what) L
-
--- the events of one stream
-abbrev pub events_of : StreamNo → List Event → List Event
-events_of k L = filter (λ e. is_stream e.by k) L

@@ -1,6 +1,7 @@
 -- What the work below the top call promises: what its streams gave, how they ended, and that nothing is missing where nothing failed.
 use Rattle.std.specs.Prelude.{◌≡◌, ◌⊎◌, ℕ, ◌+◌, ◌<◌, Bool, true, false, ◌&&◌, ◌||◌, not, nat_eq, nat_lt, List, [], ◌∷◌, ◌++◌, map, length, Option, Some, None, IfSome}
-use Rattle.chunk_core.specs.Lists.{Each, One, any, all}
+use Rattle.chunk_core.specs.Lists.{Each, One}
+use Rattle.std.specs.List.{list_any as any, list_all as all}
 use Rattle.chunk_core.specs.Texts.{Frame, frame_text, payloads_of}
 use Rattle.chunk_core.specs.Elements.{Element, rendering_of}
 use Rattle.chunk_core.specs.Outcomes.{End, Done, Fault, Cut}
@@ -13,13 +14,14 @@ use Rattle.res_ledger.specs.declared.event.StreamNo.TheVariants.{Outer, Inner}
 use Rattle.res_ledger.specs.declared.event.What.{What}
 use Rattle.res_ledger.specs.declared.event.What.TheVariants.{Open, Acquire, Lease, Cancel, Close, Final}
 use Rattle.res_ledger.specs.declared.event.Event.{Event}
+use Rattle.res_ledger.specs.Streams.{same_stream, by_stream}
 use Rattle.res_ledger.specs.Ledger.{IsLegal}
 use Rattle.res_ledger.specs.Whole.{IsComplete}
 use Rattle.res_ledger.specs.Order.{IsOrdered}
 use Rattle.device_port.specs.Device.{Place, DeviceTold, faults_of}
 use Rattle.device_port.specs.Depot.{content_at}
 use Rattle.run_rules.specs.declared.end.EndOf.{EndOf}
-use Rattle.run_rules.specs.Facts.{is_stream, is_place, at, below, is_fault, is_halted, is_memory, is_over, is_failed, is_root_close, acquired_row, leased_stream, has, events_of}
+use Rattle.run_rules.specs.Facts.{is_place, at, below, is_fault, is_halted, is_memory, is_over, is_failed, is_root_close, acquired_row, leased_stream, has}
 use Rattle.run_rules.specs.Work.{Work, Stream, Deed, places_of, names_of, owners_of}
 use Rattle.run_rules.specs.Devices.{DevicesAccounted, came_back}
 
@@ -130,7 +132,7 @@ places_by work (Inner k) = elim (at work.streams k) [ Some s ↦ s.places | None
 pub record IsCaused (work : Work) (c : Deed) (e : EndOf) : Type 0 where
   pub halted : is_halted e.how ≡ true → HasCauseToHalt c
   pub fault : is_shown (came_back c.depot_old c.depot_new) (places_by work e.who) e.how ≡ true
-  pub root : is_over e.how ≡ true → has is_root_close (events_of e.who c.events) ≡ true
+  pub root : is_over e.how ≡ true → has is_root_close (by_stream e.who c.events) ≡ true
 
 pub record HaveEnds (work : Work) (c : Deed) : Type 0 where
   pub named : map (λ e. e.who) c.ends ≡ names_of work
@@ -173,14 +175,14 @@ pub record Ran (work : Work) (c : Deed) : Type 0 where
 -- an event is by a stream of the work, leases for one of them, and acquires a row of its own stream
 abbrev pub is_named : List StreamNo → Option ℕ → Bool
 is_named names None = true
-is_named names (Some j) = any (is_stream (Inner j)) names
+is_named names (Some j) = any (same_stream (Inner j)) names
 
 abbrev pub is_owned : List StreamNo → StreamNo → Option ℕ → Bool
 is_owned owners k None = true
-is_owned owners k (Some r) = elim (at owners r) [ Some q ↦ is_stream q k | None ↦ false ]
+is_owned owners k (Some r) = elim (at owners r) [ Some q ↦ same_stream q k | None ↦ false ]
 
 abbrev pub is_ours : Work → Event → Bool
-is_ours work e = any (is_stream e.by) (names_of work) && (is_named (names_of work) (leased_stream e.what) && is_owned (owners_of work) e.by (acquired_row e.what))
+is_ours work e = any (same_stream e.by) (names_of work) && (is_named (names_of work) (leased_stream e.what) && is_owned (owners_of work) e.by (acquired_row e.what))
 
 -- the rules of a ledger
 pub record KeepsRules (work : Work) (L : List Event) : Type 0 where

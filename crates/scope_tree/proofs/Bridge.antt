@@ -9,7 +9,8 @@ use Rattle.res_ledger.specs.Ledger.{Notes, LiesWithin}
 use Rattle.res_ledger.specs.Ledger.LiesWithin.{same, below}
 use Rattle.chunk_core.specs.Lists.IsAmong.{here, there}
 use Rattle.chunk_core.proofs.Members.{among_nil, among_cons}
-use Rattle.res_ledger.specs.Own.{same_name, own, opens, opens_of, rows, rows_of, closes, closes_of}
+use Rattle.res_ledger.specs.Own.{own, opens, opens_of, rows, rows_of, closes, closes_of}
+use Rattle.res_ledger.specs.Streams.{same_stream}
 use Rattle.scope_tree.specs.declared.branch.Branch.{Branch}
 use Rattle.scope_tree.specs.Kept.{marks}
 use Rattle.std.proofs.lemmas.Grind.{flat_map-append}
@@ -18,7 +19,7 @@ use Rattle.res_ledger.proofs.Scopes.{own_append}
 use Rattle.res_ledger.proofs.Noted.{own_notes, notes_own, flat_found, flat_holds, opens_shape, rows_shape, closes_shape}
 
 pub own_snoc : (k : StreamNo) (L : List Event) (e : Event) → e.by ≡ k → own k (L ++ e ∷ []) ≡ own k L ++ e.what ∷ []
-own_snoc k L e h = own_append k L (e ∷ []) ∙ ap (λ b. own k L ++ cond b (e.what ∷ []) []) (ap (λ a. same_name a k) h ∙ named k)
+own_snoc k L e h = own_append k L (e ∷ []) ∙ ap (λ b. own k L ++ cond b (e.what ∷ []) []) (ap (λ a. same_stream a k) h ∙ named k)
 
 pub noted_in : (k : StreamNo) (w : What) (L : List Event) → Notes L k w → IsAmong w (own k L)
 noted_in k w L n = notes_own L k w n

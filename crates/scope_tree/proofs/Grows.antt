@@ -12,7 +12,7 @@ use Rattle.row_seat.proofs.Members.{among_without}
 use Rattle.row_seat.specs.Views.{noted, placed}
 use Rattle.res_ledger.proofs.Growth.{noted_more, noted_snoc, closed_more}
 use Rattle.res_ledger.specs.Own.{own, opens, rows, closes, has, up, turned, is_closed}
-use Rattle.chunk_core.specs.Lists.{any}
+use Rattle.std.specs.List.{list_any as any}
 use Rattle.scope_tree.specs.declared.branch.Branch.{Branch}
 use Rattle.scope_tree.specs.declared.branch.Held.{Held}
 use Rattle.scope_tree.specs.Rows.{AreDistinct}

@@ -13,7 +13,7 @@ use Rattle.chunk_core.proofs.Members.{among_nil, among_cons, among_left, among_l
 use Rattle.row_seat.specs.Views.{HasRow, noted}
 use Rattle.res_ledger.proofs.Growth.{noted_more, noted_new, noted_snoc, within_more}
 use Rattle.res_ledger.specs.Own.{own, opens, rows, closes, has, up, above, is_closed, teardown, latest, turned}
-use Rattle.chunk_core.specs.Lists.{any}
+use Rattle.std.specs.List.{list_any as any}
 use Rattle.res_ledger.specs.Own.{below as beneath}
 use Rattle.res_ledger.specs.Order.{finals}
 use Rattle.scope_tree.specs.declared.branch.Branch.{Branch}

@@ -1,5 +1,5 @@
 use Rattle.std.proofs.Common.{◌≡◌, false, take}
-use Rattle.chunk_core.specs.Lists.{any}
+use Rattle.std.specs.List.{list_any as any}
 use Rattle.run_rules.specs.Facts.{is_fault}
 use Rattle.flume_cli.proofs.top.has_fault.Given as goal
 
