@@ -145,6 +145,20 @@ fn lines_are_taken_and_joined(rt: HostRuntime) -> Result<(), Fail> {
     Ok(())
 }
 
+#[test]
+fn rows_are_joined(rt: HostRuntime) -> Result<(), Fail> {
+    let alloc = rt.alloc();
+    let mut row = Row::new(alloc);
+    row.push(line_of(alloc, b"a")?)?;
+    row.push(line_of(alloc, b"b")?)?;
+    let mut rows = Vec::new(alloc);
+    rows.push(row)?;
+    let chunk = Chunk::of_vec(alloc, rows)?;
+    let load = Load::Rows(chunk.concat(alloc, &chunk)?);
+    assert_eq!(rt; render(alloc, &load)?.as_slice(), b"a,b\na,b\n".as_slice());
+    Ok(())
+}
+
 /// What may be passed to another thread.
 fn is_sendable<T: Send>(_value: &T) {}
 

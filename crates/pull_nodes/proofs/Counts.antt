@@ -1,5 +1,5 @@
 -- A node has at least as many nodes as places and scopes.
-use Rattle.std.proofs.Common.{ℕ, ◌≤◌, length, length-append, arith}
+use Rattle.std.proofs.Common.{◌≤◌, length, length-append, arith}
 use Rattle.pull_nodes.specs.Shape.{node_count, scope_count, places_of}
 use Rattle.pull_nodes.specs.declared.node.Node.{Node}
 use Rattle.pull_nodes.specs.declared.node.Node.TheVariants.{Nil, Emit, Raise, Read, Weak', Scope', Append', OnFault', Take'}

@@ -1,9 +1,9 @@
 -- A node has one ideal run over the same contents.
-use Rattle.std.proofs.Common.{◌≡◌, inl, inr, subst, ℕ, List, [], ◌++◌, length, Option, None, Some, sym, ◌∙◌, ap, arith, refl}
+use Rattle.std.proofs.Common.{◌≡◌, inl, inr, subst, ℕ, List, length, sym, ap, arith}
 use Rattle.chunk_core.specs.Elements.{Element}
-use Rattle.chunk_core.specs.Outcomes.{End, Done, Fault, Cut, Outcomes}
+use Rattle.chunk_core.specs.Outcomes.{End, Outcomes}
 use Rattle.device_port.specs.Device.{DeviceTold, faults_of}
-use Rattle.pull_nodes.specs.Runs.{IsIdealRun, Reads, ReadsBy, ReadsContent, Opens, Follows, Taken, IsFault, IsIdle}
+use Rattle.pull_nodes.specs.Runs.{IsIdealRun, Reads, ReadsBy, ReadsContent, Opens, Follows, Taken}
 use Rattle.pull_nodes.specs.Laws.{IsClean, TellSame, TellSameOf}
 use Rattle.pull_nodes.specs.declared.node.Node.{Node}
 use Rattle.pull_nodes.specs.declared.node.Node.TheVariants.{Nil, Emit, Raise, Read, Weak', Scope', Append', OnFault', Take'}

@@ -1,5 +1,5 @@
 -- What may be left may be left earlier.
-use Rattle.std.proofs.Common.{◌≡◌, List, [], ◌∷◌, ◌++◌, inl, inr, refl, ap, subst, append_assoc}
+use Rattle.std.proofs.Common.{◌≡◌, List, [], ◌∷◌, ◌++◌, inl, inr, refl, append_assoc}
 use Rattle.chunk_core.specs.Elements.{Element}
 use Rattle.chunk_core.specs.Outcomes.{End, Cut, Outcomes}
 use Rattle.pull_nodes.specs.Runs.{OrLeft}

@@ -1,5 +1,5 @@
 -- What holds of the runs of every node.
-use Rattle.std.specs.Prelude.{◌≡◌, ℕ, List, ◌++◌, Option, Some}
+use Rattle.std.specs.Prelude.{◌≡◌, ℕ, List, ◌++◌, Some}
 use Rattle.chunk_core.specs.Elements.{Element}
 use Rattle.chunk_core.specs.Outcomes.{End, Cut}
 use Rattle.device_port.specs.Device.{DeviceTold, faults_of}

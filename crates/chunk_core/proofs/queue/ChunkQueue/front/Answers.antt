@@ -1,7 +1,7 @@
 use Rattle.std.proofs.Common.{refl, rules, ◌∙◌, ap, ◌++◌, ◌-◌, take}
 use Rattle.std.proofs.lemmas.Iterator.Consumers.{YieldsList-from_deque, YieldsList-at, YieldsList-end}
 use Rattle.chunk_core.proofs.Clones.{appended}
-use Rattle.chunk_core.proofs.Queues.{gathered, joined}
+use Rattle.chunk_core.proofs.Queues.{gathered}
 use Rattle.chunk_core.proofs.queue.ChunkQueue.front.Goals as goal
 
 pub loop-chunk-preserved : goal.loop-chunk-preserved

@@ -1,4 +1,4 @@
-use Rattle.std.proofs.Common.{refl, sym, rules}
+use Rattle.std.proofs.Common.{rules}
 use Rattle.pull_nodes.proofs.Inside.{tied_is_inside}
 use Rattle.pull_nodes.proofs.node.Node.placed.Goals as goal
 
