@@ -33,8 +33,8 @@ module _ (work : Work) (c : Deed) (u m : Bool) (unwritten : c.unwritten ≡ true
     };
     ends = record { named = r.ends.named; caused = caused_more c.ends r.ends.caused; memory = λ e. memory (r.ends.memory e) };
     completeness = λ none n.
-      let w = r.completeness (still_false c.memory m memory none) (record { written = still_false c.unwritten u unwritten n.written; devices = n.devices; ideal = n.ideal }) in
-      record { done = w.done; clean = w.clean; output = w.output };
+        let w = r.completeness (still_false c.memory m memory none) (record { written = still_false c.unwritten u unwritten n.written; devices = n.devices; ideal = n.ideal }) in
+        record { done = w.done; clean = w.clean; output = w.output };
   }
 
   -- what a work promised of a deed it promises where more is known to have failed
@@ -43,7 +43,7 @@ module _ (work : Work) (c : Deed) (u m : Bool) (unwritten : c.unwritten ≡ true
     devices = p.devices;
     ledger = p.ledger;
     ran = ⊎_elim
-      (λ (x : IsUnmade c). inl (record { memory = memory x.memory; ends = x.ends; events = x.events; frames = x.frames; rest = x.rest }))
-      (λ (x : Ran work c). inr (ran_more x))
-      p.ran;
+        (λ (x : IsUnmade c). inl (record { memory = memory x.memory; ends = x.ends; events = x.events; frames = x.frames; rest = x.rest }))
+        (λ (x : Ran work c). inr (ran_more x))
+        p.ran;
   }

@@ -146,8 +146,8 @@ pub record NothingFailed (work : Work) (c : Deed) (w : ℕ → DeviceTold) : Typ
   pub written : c.unwritten ≡ false
   pub devices : Each (λ d. faults_of d ≡ 0) (came_back c.depot_old c.depot_new)
   pub ideal : Each
-    (λ k. (v : ℕ → DeviceTold) (ys : List Element) (e : End) → ((r : ℕ) → (faults_of (v r) ≡ 0) × ((v r).content ≡ (w r).content)) → work.ideal_runs k v ys e → e ≡ Done)
-    (below (length work.streams))
+      (λ k. (v : ℕ → DeviceTold) (ys : List Element) (e : End) → ((r : ℕ) → (faults_of (v r) ≡ 0) × ((v r).content ≡ (w r).content)) → work.ideal_runs k v ys e → e ≡ Done)
+      (below (length work.streams))
 
 -- each stream is done, no finalizer failed, and what was printed of each stream renders an ideal run
 pub record IsWhole (work : Work) (c : Deed) (w : ℕ → DeviceTold) : Type 0 where
