@@ -12,6 +12,7 @@ pub mod Moves
 pub mod Splits
 pub mod Joins
 pub mod Ends
+pub mod Apart
 pub mod Tells
 mod Sitting
 pub mod Starts

@@ -18,7 +18,7 @@ use std::alloc::{AllocError, Global};
 /// does to the seat's view. It leaves the fit of every other seat as it was.
 pub trait RowSeat: Sized {
     ghost use Rattle.row_seat.specs.declared.view.View.{View};
-    ghost use Rattle.row_seat.specs.Views.{CanPlace, placed, HasRow, paid, CanLease, leased, CanLeave, Leaves, CanClose, Closes, CanTake, took, IsLast, MayNote, noted, IsFresh, OthersFit, CanSplit, split_main, split_off, CanJoin, joined, CanFinish, IsLedgerOf};
+    ghost use Rattle.row_seat.specs.Views.{CanPlace, placed, HasRow, paid, CanLease, leased, CanLeave, Leaves, CanClose, Closes, CanTake, took, IsLast, MayNote, noted, IsFresh, OthersFit, CanSplit, split_main, split_off, CanJoin, AreApart, joined, CanFinish, IsLedgerOf};
     ghost use Rattle.chunk_core.specs.Lists.{IsAmong};
 
     /// What a row holds.
@@ -119,6 +119,7 @@ pub trait RowSeat: Sized {
         requires fits { fits self.old desk.old × fits other desk.old }
         requires can { CanJoin (view self.old) (view other) }
         ensures view { view self.new ≡ joined (view self.old) (view other) }
+        ensures apart { AreApart (view self.old) (view other) }
         ensures fits { fits self.new desk.new }
         ensures others { (o : Self) → (view o).by ≢ (view self.old).by → (view o).by ≢ (view other).by → fits o desk.old → fits o desk.new };
 

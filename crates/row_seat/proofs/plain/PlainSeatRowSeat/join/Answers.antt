@@ -1,4 +1,6 @@
-use Rattle.std.proofs.Common.{◌≡◌, slice_set, refl, sym, ap, ◌∙◌}
+use Rattle.std.specs.Prelude.{None}
+use Rattle.row_seat.proofs.Apart.{seats_apart}
+use Rattle.std.proofs.Common.{◌≡◌, length, slice_index, slice_index_or, slice_set, refl, sym, ap, ◌∙◌}
 use Rattle.row_seat.proofs.Sitting.{join_others, join_sits}
 use Rattle.row_seat.specs.Steps.{joined, spent}
 use Rattle.row_seat.specs.PlainSeats.{rows_of}
@@ -15,3 +17,7 @@ returns-clause-others g c = let s = c.args.self.now in let o = c.args.other in l
     let rest = can.2 in
     let views : c.put.result.inner.ask ≡ slice_set (slice_set d.views.inner.ask s.id.inner.ask (joined s.token.inner.ask o.token.inner.ask)) o.id.inner.ask (spent o.token.inner.ask) = rw (c.put.ensures, c.put-views.ensures, c.step.ensures, c.know-spent.ensures) refl in
     join_others s o d f.0 f.1 can.0 can.1.0 can.1.1 can.1.2 (sym f.1.held ∙ ap rows_of rest.0) rest.2 rest.3 rest.4 _ views refl refl refl
+
+pub returns-clause-apart : goal.returns-clause-apart
+returns-clause-apart g c = let s = c.args.self.now in let o = c.args.other in let d = c.args.desk.now in let f = c.requires.fits in let can = c.requires.can in
+    seats_apart (length d.slots.items) f.0.table.room (λ r. slice_index d.words.items r) (λ r. slice_index_or d.slots.items r None) d.events.items d.views.inner.ask f.0.table.rule s.id.inner.ask s.token.inner.ask f.0.mine can.0 o.id.inner.ask o.token.inner.ask f.1.mine can.1.0 can.1.1 can.1.2 s.hands.items o.hands.items
