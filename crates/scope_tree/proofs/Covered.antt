@@ -1,11 +1,12 @@
 -- What a lease covers, as a list and as a fact.
-use Rattle.std.proofs.Common.{◌≡◌, ◌≢◌, ℕ, ◌+◌, ◌-◌, ◌<◌, ◌≤◌, ◌⊎◌, ◌↔◌, zero, suc, Bool, true, false, cond, nat_eq, not, ◌&&◌, ◌||◌, List, [], ◌∷◌, ◌++◌, length, drop, slice_index_or, inl, inr, refl, sym, ap, ◌∙◌, subst, ⊎_elim, arith, append_assoc, append-nil, eq-eqb, ne_eqb}
+use Rattle.std.proofs.Common.{◌≡◌, ◌≢◌, ℕ, ◌+◌, ◌-◌, ◌<◌, ◌≤◌, ◌⊎◌, ◌↔◌, zero, suc, Bool, true, false, cond, eqb, nat_eq, not, ◌&&◌, ◌||◌, List, [], ◌∷◌, ◌++◌, length, drop, slice_index_or, inl, inr, refl, sym, ap, ◌∙◌, subst, ⊎_elim, arith, append_assoc, append-nil, eq-eqb, ne_eqb}
 use Rattle.std.proofs.lemmas.Bool.{cases_eq}
+use Rattle.std.proofs.lemmas.List.{get_or_default}
 use Rattle.res_ledger.proofs.Tests.{any_at as any_at', any_found, and_true, both, either, itself, number, or_left, or_right}
 use Rattle.res_ledger.specs.declared.event.What.TheVariants.{Open, Acquire, Close}
 use Rattle.row_seat.specs.declared.view.View.{View}
 use Rattle.chunk_core.specs.Lists.{IsAmong}
-use Rattle.res_ledger.specs.Ledger.{LiesWithin, IsClosed, IsCoveredBy}
+use Rattle.res_ledger.specs.Ledger.{LiesWithin, IsClosed, IsCoveredBy, IsOpened}
 use Rattle.chunk_core.specs.Lists.IsAmong.{here, there}
 use Rattle.chunk_core.proofs.Members.{among_nil, among_cons}
 use Rattle.res_ledger.specs.Own.{opens, rows, closes, has, up, above, turned, is_closed, is_child, reaches, picked, leased_rows}
@@ -15,7 +16,9 @@ use Rattle.scope_tree.specs.Kept.{marks, Kept}
 use Rattle.scope_tree.specs.Words.{words}
 use Rattle.scope_tree.proofs.Bridge.{noted_in, in_noted, in_opens, opens_in, in_rows, rows_in, closes_in, within_cases}
 use Rattle.res_ledger.proofs.Noted.{in_has, has_in}
-use Rattle.scope_tree.proofs.Keeps.{any_at, closed_sound, up_within, among_turned, noted_scope, not_true', shut_not, length-drop', at_drop}
+use Rattle.scope_tree.specs.Walks.{Clear, Shaded, StandsAbove}
+use Rattle.scope_tree.proofs.Walking.{clear_open, shaded_closed, stands_within, within_stands}
+use Rattle.scope_tree.proofs.Keeps.{noted_parent, any_at, closed_sound, up_within, among_turned, noted_scope, not_true', shut_not, length-drop', at_drop}
 
 any_picked : (f : ℕ → Bool) (xs : List (ℕ × ℕ)) (r : ℕ) → IsAmong r (picked f xs) → (t : ℕ) × IsAmong (r, t) xs × (f t ≡ true)
 any_picked f [] r m = absurd (among_nil m)
@@ -123,3 +126,42 @@ module _ {P : Type 0} (v : View P) (bs : List Branch) (hs : List Held) (k : Kept
       (λ w. inl (in_has t (above E s) (above_in s t l w)))
       c.2)) in
       (to, from)
+
+  -- what a lease on s reaches, by what the tree keeps
+  pub reach_closed : (s t : ℕ) → t < length bs → Shaded bs t → reaches (words v) s t ≡ false
+  reach_closed s t l x = ap (λ b. not b && (has t (above (words v) s) || is_child (opens (words v)) t s)) (closed_complete t l (shaded_closed v bs hs k t l x))
+
+  open_is : (t : ℕ) → t < length bs → Clear bs t → is_closed (words v) t ≡ false
+  open_is t l x = not_true' (is_closed (words v) t) (λ h. clear_open v bs hs k t l x (closed_sound v t h))
+
+  pub reach_above : (s t : ℕ) → s < length bs → t < length bs → Clear bs t → StandsAbove bs s t → reaches (words v) s t ≡ true
+  reach_above s t l m x a = reach_to (is_closed (words v) t) (has t (above (words v) s)) (is_child (opens (words v)) t s) (open_is t m x) (inl (in_has t (above (words v) s) (above_in s t l (stands_within v bs hs k s t l a))))
+
+  pub reach_child : (s t : ℕ) → s < length bs → t < length bs → Clear bs t → ¬ (StandsAbove bs s t) → reaches (words v) s t ≡ is_child (opens (words v)) t s
+  reach_child s t l m x n =
+      let E = words v in
+      let none : has t (above E s) ≡ false = not_true' (has t (above E s)) (λ h. n (within_stands v bs hs k (up_within v.events v.by (turned (opens E)) s t (λ c p m. in_noted v.by (Open c p) v.events (in_opens c p E (among_turned (c, p) (opens E) m))) (has_in t (above E s) h)))) in
+      ap (λ b. not b && (has t (above E s) || is_child (opens E) t s)) (open_is t m x) ∙ ap (λ b. b || is_child (opens E) t s) none
+
+  pub child_is : (s t : ℕ) → t < length bs → 1 ≤ t → ((d : Branch) → (slice_index_or bs t d).parent ≡ s) → is_child (opens (words v)) t s ≡ true
+  child_is s t l one h = in_child (opens (words v)) t s (opens_in t s (words v) (noted_in v.by (Open t s) v.events (noted_parent v bs hs k t s one l h)))
+
+  pub not_child : (s t : ℕ) → ¬ ((1 ≤ t) × ((d : Branch) → (slice_index_or bs t d).parent ≡ s)) → is_child (opens (words v)) t s ≡ false
+  not_child s t n = not_true' (is_child (opens (words v)) t s) (λ h. let z = noted_scope v bs hs k t s (in_noted v.by (Open t s) v.events (in_opens t s (words v) (child_in (opens (words v)) t s h))) in n (z.0, z.2))
+
+  -- whether a scope that isn't s nor above it is a child of s
+  pub reach_parent : (s t : ℕ) (b : Branch) → s < length bs → t < length bs → 1 ≤ t → b ≡ slice_index_or bs t b → Clear bs t → ¬ (StandsAbove bs s t) → eqb b.parent s ≡ reaches (words v) s t
+  reach_parent s t b l m one at x n =
+      let all : (d : Branch) → (slice_index_or bs t d).parent ≡ b.parent = λ d. ap (λ (y : Branch). y.parent) (get_or_default bs t d b m ∙ sym at) in
+      ⊎_elim
+      (λ e. eq-eqb b.parent s e ∙ sym (child_is s t m one (λ d. all d ∙ e)))
+      (λ ne. ne_eqb b.parent s ne ∙ sym (not_child s t (λ z. ne (sym (all b) ∙ z.1 b))))
+      (cases_eq b.parent s)
+      ∙ sym (reach_child s t l m x n)
+
+  pub was_opened : (t : ℕ) → t < length bs → (t ≡ 0) ⊎ IsOpened v.events v.by t
+  was_opened zero l = inl refl
+  was_opened (suc t) l = inr ((slice_index_or bs (suc t) root).parent, noted_parent v bs hs k (suc t) (slice_index_or bs (suc t) root).parent (omega arith) l (λ d. ap (λ (y : Branch). y.parent) (get_or_default bs (suc t) d root l)))
+
+  pub opened_range : (t : ℕ) → (t ≡ 0) ⊎ IsOpened v.events v.by t → t < length bs
+  opened_range t o = ⊎_elim (λ e. let z = k.size in omega (e, z, arith)) (λ o. (noted_scope v bs hs k t o.0 o.1).1) o

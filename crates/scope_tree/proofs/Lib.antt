@@ -16,3 +16,6 @@ pub mod Shelf
 pub mod Rooms
 pub mod Shelving
 pub mod Leasing
+pub mod Parting
+pub mod Statuses
+pub mod Leased

@@ -160,3 +160,9 @@ kids_up bs hs s zero d p l m = refl
 kids_up bs hs s (suc j) d p l m =
     let q = p (suc j) d (omega arith) (omega arith) in
     kids_up bs hs s j d p (omega arith) m ∙ kids_other bs hs s (suc (suc j)) (suc j) d refl (omega arith) (λ e. omega arith)
+
+-- a held row stands with its scope
+pub pair_at : (hs : List Held) (i : ℕ) (d : Held) → i < length hs → IsAmong ((slice_index_or hs i d).row, (slice_index_or hs i d).scope) (held_pairs hs)
+pair_at [] i d l = absurd (omega arith)
+pair_at (h ∷ hs) zero d l = here (held_pairs hs)
+pair_at (h ∷ hs) (suc i) d l = let y : ℕ × ℕ = (h.row, h.scope) in there y (pair_at hs i d (omega arith))

@@ -1,5 +1,5 @@
 -- Steps of a walk upward.
-use Rattle.std.proofs.Common.{◌≡◌, ℕ, zero, suc, ◌<◌, ◌≤◌, Bool, true, false, not, List, length, slice_index_or, refl, sym, ap, ◌∙◌, subst, ⊎_elim, inl, inr, arith}
+use Rattle.std.proofs.Common.{◌⊎◌, ◌≡◌, ℕ, zero, suc, ◌<◌, ◌≤◌, Bool, true, false, not, List, length, slice_index_or, refl, sym, ap, ◌∙◌, subst, ⊎_elim, inl, inr, arith}
 use Rattle.std.proofs.lemmas.List.{get_or_default}
 use Rattle.row_seat.specs.declared.view.View.{View}
 use Rattle.res_ledger.specs.Ledger.{IsClosed, Notes, LiesWithin, IsUsable}
@@ -13,7 +13,8 @@ use Rattle.scope_tree.specs.declared.branch.Held.{Held}
 use Rattle.scope_tree.specs.Kept.{Kept}
 use Rattle.scope_tree.specs.Words.{words}
 use Rattle.res_ledger.specs.Own.{closes}
-use Rattle.scope_tree.specs.Walks.{Clear, Shaded, Nearest, IsRootOpen}
+use Rattle.scope_tree.specs.Walks.{Clear, Falls, Shaded, Nearest, IsRootOpen, StandsAbove}
+use Rattle.scope_tree.specs.Walks.StandsAbove.{itself, further}
 use Rattle.scope_tree.specs.Walks.Clear.{root, below}
 use Rattle.scope_tree.specs.Walks.Shaded.{own, under}
 use Rattle.scope_tree.proofs.Bridge.{in_noted, in_closes, within_cases}
@@ -89,3 +90,23 @@ module _ {P : Type 0} (v : View P) (bs : List Branch) (hs : List Held) (k : Kept
   pub first_usable : (c q : ℕ) → q < length bs → FirstOpen v.events v.by c q → IsUsable v.events v.by q
   first_usable c zero l f = (inl refl, first_open_is c zero f)
   first_usable c (suc q) l f = let d : Branch = record { parent = 0; shut = false } in (inr ((slice_index_or bs (suc q) d).parent, noted_parent v bs hs k (suc q) ((slice_index_or bs (suc q) d).parent) (omega arith) l (λ e. parent_any bs (suc q) d l e)), first_open_is c (suc q) f)
+
+pub above_cases : {bs : List Branch} {s a : ℕ} → StandsAbove bs s a → (s ≡ a) ⊎ ((p : ℕ) × (1 ≤ s) × ((d : Branch) → (slice_index_or bs s d).parent ≡ p) × StandsAbove bs p a)
+above_cases (itself s) = inl refl
+above_cases (further s p a one pa x) = inr (p, one, pa, x)
+
+-- a scope above another has no greater number
+pub above_le : (bs : List Branch) (s a : ℕ) → Falls bs → s < length bs → StandsAbove bs s a → a ≤ s
+above_le bs s a f l (itself q) = omega arith
+above_le bs s a f l (further q p b one pa x) = let d : Branch = record { parent = 0; shut = false } in let e = pa d in let g = f q d one l in let i = above_le bs p b f (omega (e, g, l, arith)) x in omega (e, g, i, arith)
+
+module _ {P : Type 0} (v : View P) (bs : List Branch) (hs : List Held) (k : Kept v bs hs) where
+  pub stands_within : (s a : ℕ) → s < length bs → StandsAbove bs s a → LiesWithin v.events v.by s a
+  stands_within s a l (itself q) = same q
+  stands_within s a l (further q p b one pa x) =
+      let d : Branch = record { parent = 0; shut = false } in let e = pa d in let g = k.parents q d one l in
+      beneath q p b (noted_parent v bs hs k q p one l pa) (stands_within p b (omega (e, g, l, arith)) x)
+
+  pub within_stands : {s a : ℕ} → LiesWithin v.events v.by s a → StandsAbove bs s a
+  within_stands (same s) = itself s
+  within_stands (beneath s p a n w) = let z = noted_scope v bs hs k s p n in further s p a z.0 z.2 (within_stands w)

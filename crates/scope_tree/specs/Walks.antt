@@ -31,3 +31,8 @@ pub data Nearest (bs : List Branch) : ℕ → ℕ → Type 0 where
 pub data FirstOpen (L : List Event) (k : StreamNo) : ℕ → ℕ → Type 0 where
   this_one : (c : ℕ) → ¬ (IsClosed L k c) → FirstOpen L k c c
   above_it : (c p q : ℕ) → IsClosed L k c → Notes L k (Open c p) → FirstOpen L k p q → FirstOpen L k c q
+
+-- a is s or a scope above it
+pub data StandsAbove (bs : List Branch) : ℕ → ℕ → Type 0 where
+  itself : (s : ℕ) → StandsAbove bs s s
+  further : (s p a : ℕ) → 1 ≤ s → ((d : Branch) → (slice_index_or bs s d).parent ≡ p) → StandsAbove bs p a → StandsAbove bs s a

@@ -9,6 +9,7 @@ pub mod branch;
 mod leases;
 mod leaving;
 pub mod room;
+mod rows;
 mod tear;
 pub mod tree;
 mod walk;

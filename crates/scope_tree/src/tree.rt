@@ -15,17 +15,19 @@ ghost use Rattle.scope_tree.specs.Words.{owed, own_rows, words};
 ghost use Rattle.scope_tree.specs.Calls.{Acquires, AtStart, Cancels, Closes, IsClosedScope, IsOpenScope, Leases, Opens, WasOpened, used};
 ghost use Rattle.scope_tree.specs.Standings.{standing};
 ghost use Rattle.scope_tree.specs.Trees.{Fits, IsSound, seen};
+ghost use Rattle.scope_tree.specs.Lending.{lends_pay, lent};
 
-use crate::branch::{Branch, Finish, Held, Spent};
-use crate::leases::Lease;
+use crate::branch::{Branch, Finish, Held, Spent, Standing};
+use crate::leases::{Lease, lease_rows};
 use crate::leaving::leave_all;
 use crate::room::Room;
+use crate::rows::{outcome, scope_of};
 use crate::tear::tear;
-use crate::walk::first_open;
-use chunk_core::List;
+use crate::walk::{first_open, is_above, is_open};
+use chunk_core::{List, Span};
 use res_ledger::What;
 use row_seat::RowSeat;
-
+use std::alloc::{AllocError, Global};
 
 /// The scopes of one stream, over its seat.
 ///
@@ -118,6 +120,67 @@ where
         }
     }
 
+    /// The payload of an open row, for reading and writing.
+    pub fn pay_mut(&mut self, row: u32) -> &mut S::Pay
+        requires row { HasRow (S.view self.old.seat).opened row }
+        ensures* back { sem 𝓛 (lends_pay S.row S.Pay.row S.Desk.row S.with_pay self.entry row result) }
+        ensures value { IsAmong (row, result.now) (S.view self.old.seat).opened }
+    {
+        self.seat.pay_mut(row)
+    }
+
+    // Whether a lease on the scope covers rows of `of`.
+    fn reaches(&self, scope: u32, of: u32) -> bool
+        requires tree { IsSound S.view self.now }
+        requires scope { IsOpenScope (seen S.view self.now) scope }
+        requires of { WasOpened (seen S.view self.now) of }
+        ensures { result ≡ reaches (words (S.view self.now.seat)) scope of }
+    {
+        is_open(&self.branches, of)
+            && (is_above(&self.branches, scope, of)
+                || (of > 0 && self.branches[of as usize].parent == scope))
+    }
+
+    // The rows that a lease on the scope covers, in the order of their acquisition.
+    fn covered(&self, alloc: Global, scope: u32) -> Result<Vec<u32>, AllocError>
+        requires tree { IsSound S.view self.now }
+        requires scope { IsOpenScope (seen S.view self.now) scope }
+        ensures { IfOk result (λ rows. rows.items ≡ leased_rows (words (S.view self.now.seat)) scope) }
+    {
+        let mut rows = Vec::new(alloc);
+        'each: for one in &self.held {
+            if self.reaches(scope, one.scope) {
+                rows.push(one.row)?;
+            }
+        }
+        Ok(rows)
+    }
+
+    /// Leases a scope for a stream that is to begin: the lease covers the rows that are open in the
+    /// scope, in its children and in the scopes above it. Needs memory.
+    pub fn lease(
+        &mut self,
+        alloc: Global,
+        desk: &mut S::Desk,
+        scope: u32,
+        stream: u32,
+    ) -> Result<Lease, AllocError>
+        requires fits { Fits S.view S.fits self.old desk.old }
+        requires main { (S.view self.old.seat).main ≡ true }
+        requires scope { IsOpenScope (seen S.view self.old) scope }
+        requires stream { ((S.view self.old.seat).by ≢ Inner stream) × ¬ (IsAmong stream (S.view self.old.seat).had) × ¬ (IsLeased (S.view self.old.seat).events stream) }
+        requires free { owed (S.view self.old.seat) + 2 ≤ (S.view self.old.seat).spare }
+        ensures ok { IfOk result (λ lease. (lease.stream ≡ stream) × Leases (seen S.view self.old) scope stream lease.rows.items (seen S.view self.new)) }
+        ensures err { IfErr result (λ _. seen S.view self.new ≡ seen S.view self.old) }
+        ensures fits { Fits S.view S.fits self.new desk.new }
+        ensures others { OthersFit S.view S.fits (S.view self.old.seat).by desk.old desk.new }
+    {
+        let rows = self.covered(alloc, scope)?;
+        lease_rows(&mut self.seat, desk, stream, &rows);
+        self.seat.note(desk, What::Lease { stream, scope });
+        Ok(Lease { stream, rows })
+    }
+
     /// Closes an open scope: its open children, latest first, then its own rows, latest first, each
     /// ended before the next. A row that a lease stands on is left to the last lease.
     pub fn close(&mut self, desk: &mut S::Desk, scope: u32)
@@ -155,6 +218,60 @@ where
         let Lease { stream, rows } = lease;
         self.seat.note(desk, What::Cancel { stream });
         leave_all(&mut self.seat, desk, &mut self.shelf, stream, &rows);
+    }
+
+    /// Makes the seat of a stream, with empty rows and room for events of this tree's seat, and with
+    /// the leases of that stream. Needs memory.
+    pub fn split(
+        &mut self,
+        alloc: Global,
+        desk: &mut S::Desk,
+        stream: u32,
+        rows: Span,
+        events: u64,
+    ) -> Result<S, AllocError>
+        requires fits { Fits S.view S.fits self.old desk.old }
+        requires can { CanSplit (S.view self.old.seat) stream rows.from rows.to events }
+        requires free { owed (S.view self.old.seat) + events ≤ (S.view self.old.seat).spare }
+        ensures ok { IfOk result (λ seat. (seen S.view self.new ≡ record (seen S.view self.old) { seat = split_main (S.view self.old.seat) stream rows.from rows.to events }) × (S.view seat ≡ split_off (S.view self.old.seat) stream rows.from rows.to events) × S.fits seat desk.new) }
+        ensures start { IfOk result (λ seat. 1 ≤ events → AtStart (S.view seat)) }
+        ensures err { IfErr result (λ _. seen S.view self.new ≡ seen S.view self.old) }
+        ensures fits { Fits S.view S.fits self.new desk.new }
+        ensures others { OthersFit S.view S.fits (S.view self.old.seat).by desk.old desk.new }
+    {
+        let seat = self.seat.split(alloc, desk, stream, rows, events)?;
+        Ok(seat)
+    }
+
+    /// Takes a seat that was split off in again, once nothing of it is open, leased or handed.
+    pub fn join(&mut self, desk: &mut S::Desk, other: S)
+        requires fits { Fits S.view S.fits self.old desk.old × S.fits other desk.old }
+        requires can { CanJoin (S.view self.old.seat) (S.view other) }
+        ensures seen { seen S.view self.new ≡ record (seen S.view self.old) { seat = joined (S.view self.old.seat) (S.view other) } }
+        ensures fits { Fits S.view S.fits self.new desk.new }
+        ensures others { (o : S) → (S.view o).by ≢ (S.view self.old.seat).by → (S.view o).by ≢ (S.view other).by → S.fits o desk.old → S.fits o desk.new }
+    {
+        self.seat.join(desk, other);
+    }
+
+    /// How the row stands for this tree.
+    pub fn status(&self, row: u32) -> Standing
+        requires tree { IsSound S.view self.now }
+        ensures { result ≡ standing (seen S.view self.now) row }
+    {
+        if let Some(ok) = outcome(&self.shelf, row) {
+            return Standing::Final(ok);
+        }
+        match scope_of(&self.held, row) {
+            None => Standing::Empty,
+            Some(scope) => {
+                if is_open(&self.branches, scope) {
+                    Standing::Open
+                } else {
+                    Standing::Left
+                }
+            }
+        }
     }
 
     /// The seat and the rows that ended, in the order of their ends, once all scopes are closed.
