@@ -11,7 +11,8 @@ use Rattle.res_ledger.specs.declared.event.What.{What}
 use Rattle.res_ledger.specs.declared.event.What.TheVariants.{Open, Acquire, Lease, Cancel, Close, Final}
 use Rattle.res_ledger.specs.Ledger.{IsAcquired, IsClosed, IsFinalized, Notes}
 use Rattle.res_ledger.specs.Order.{firsts}
-use Rattle.res_ledger.specs.Own.{closes, has, opens, own, rows, same_name}
+use Rattle.res_ledger.specs.Own.{closes, has, opens, own, rows}
+use Rattle.res_ledger.specs.Streams.{same_stream}
 use Rattle.res_ledger.specs.Streams.{by_stream}
 use Rattle.res_ledger.proofs.Ledgers.{by_both, by_none, closed_map}
 use Rattle.res_ledger.proofs.Noted.{flat_found, notes_own, own_notes}
@@ -80,7 +81,7 @@ module _ {P : Type 0} (v : View P) (bs : List Branch) (hs : List Held) (xs : Lis
 
 own_none : (k : StreamNo) (L : List Event) → ((e : Event) → IsAmong e L → e.by ≢ k) → own k L ≡ []
 own_none k [] h = refl
-own_none k (e ∷ L) h = (elim (same_name e.by k) as (λ b. same_name e.by k ≡ b → cond b (e.what ∷ own k L) (own k L) ≡ []) [ true ↦ λ q. absurd (h e (here L) (name e.by k q)) | false ↦ λ q. own_none k L (λ x m. h x (there e m)) ]) refl
+own_none k (e ∷ L) h = (elim (same_stream e.by k) as (λ b. same_stream e.by k ≡ b → cond b (e.what ∷ own k L) (own k L) ≡ []) [ true ↦ λ q. absurd (h e (here L) (name e.by k q)) | false ↦ λ q. own_none k L (λ x m. h x (there e m)) ]) refl
 
 first_said : (r : ℕ) (fs : List (ℕ × Bool)) → IsAmong r (firsts fs) → (ok : Bool) × IsAmong (r, ok) fs
 first_said r [] m = absurd (among_nil m)
