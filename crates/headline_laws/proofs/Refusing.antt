@@ -1,0 +1,156 @@
+-- Each call with one thing wrong is refused.
+use Rattle.std.proofs.Common.{◌≡◌, ◌≢◌, ◌<◌, ◌≤◌, ℕ, ◌+◌, Bool, true, false, not, if◌then◌else◌, List, [], ◌∷◌, ◌++◌, map, length, filter, flat_map, nat_eq, cond, Option, Some, None, refl, sym, ap, ◌∙◌, subst, inl, inr, arith, ⊎_elim, length-append}
+use Rattle.std.specs.Prelude.{codes, decimal}
+use Rattle.std.specs.Fmt.{digits}
+use Rattle.std.proofs.lemmas.Bool.{false≢true}
+use Rattle.chunk_core.specs.Texts.{Frame, frame_text, frames_text, payloads_of}
+use Rattle.chunk_core.specs.Elements.{Element, Byte, rendering_of}
+use Rattle.chunk_core.specs.Outcomes.{End, Done, Fault, Cut}
+use Rattle.chunk_core.specs.declared.code.How.{How}
+use Rattle.chunk_core.specs.declared.code.How.TheVariants as how
+use Rattle.device_port.specs.Device.{DeviceTold}
+use Rattle.pull_nodes.specs.Runs.{OrLeft, Reads, ReadsBy}
+use Rattle.run_rules.specs.Run.{IsReported, IsUnmade, Ran, IsBlank}
+use Rattle.run_rules.specs.Texts.{tail_text}
+use Rattle.flume_cli.specs.declared.status.Status.{Status}
+use Rattle.flume_cli.specs.declared.status.Status.TheVariants as status
+use Rattle.flume_cli.specs.Status.{Causes, status_of, number_of}
+use Rattle.flume_cli.specs.Cat.{cat_work, FileRuns}
+use Rattle.flume_cli.specs.Headline.{Call, Headline, Tells, deed_of_call}
+use Rattle.headline_laws.specs.Calls.{a}
+use Rattle.headline_laws.specs.Refused.{invented_output, cut_output, row_of_no_plan, event_of_no_stream, lease_of_no_stream, kept_device, failure_not_told, halted_without_a_cause}
+
+peel : (b : Bool) (x y s : Status) → (x ≡ s → ⊥) → s ≡ (if b then x else y) → (b ≡ false) × (s ≡ y)
+peel true x y s n e = absurd (n (sym e))
+peel false x y s n e = (refl, e)
+
+differ : (s t : Status) → number_of s ≢ number_of t → s ≡ t → ⊥
+differ s t n e = n (ap number_of e)
+
+-- what status 0 tells of its causes
+pub record Good (k : Causes) : Type 0 where
+  pub unwritten : k.unwritten ≡ false
+  pub memory : k.memory ≡ false
+  pub faulty : k.faulty ≡ false
+
+good : (k : Causes) → status.Good ≡ status_of k → Good k
+good k e =
+    let p = peel (not k.words) _ _ status.Good (differ _ _ (omega arith)) e in
+    let q = peel k.unwritten _ _ status.Good (differ _ _ (omega arith)) p.1 in
+    let r = peel k.memory _ _ status.Good (differ _ _ (omega arith)) q.1 in
+    let t = peel k.faulty _ _ status.Good (differ _ _ (omega arith)) r.1 in
+    record { unwritten = q.0; memory = r.0; faulty = t.0 }
+
+-- the stream ran, where memory wasn't wanting
+ran : (c : Call) (k : Causes) → (t : Tells (cat_work a) c k) → k.memory ≡ false → Ran (cat_work a) (deed_of_call c k t.frames t.rest)
+ran c k t m = ⊎_elim (λ (u : IsUnmade (deed_of_call c k t.frames t.rest)). absurd (false≢true (sym m ∙ u.memory))) (λ r. r) t.performs.ran
+
+abbrev number : How → ℕ
+number how.Done = 0
+number how.Halted = 1
+number (how.Fault c) = 2
+number how.Memory = 3
+
+abbrev place : End → ℕ
+place Done = 0
+place (Fault c) = 1
+place Cut = 2
+
+-- an end that is reported as done is Done
+done : (e : End) → IsReported e how.Done → e ≡ Done
+done Done r = refl
+done (Fault c) r = let h = ap number r in absurd (omega (arith, h))
+done Cut (inl r) = let h = ap number r in absurd (omega (arith, h))
+done Cut (inr r) = let h = ap number r in absurd (omega (arith, h))
+
+-- a run that is done opened its device
+opened : (d : DeviceTold) (ys : List Element) (e : End) → e ≡ Done → FileRuns d ys e → d.opens ≡ 1
+opened d ys e q (inl (inl x)) = x.0
+opened d ys e q (inl (inr x)) = let h = ap place (sym q ∙ x.2) in absurd (omega (arith, h))
+opened d ys e q (inr x) = let h = ap place (sym q ∙ x.0) in absurd (omega (arith, h))
+
+pub invented_output_refused : ¬ (Headline invented_output)
+invented_output_refused h =
+    let g = good h.causes h.status.status in
+    let r = ran invented_output h.causes h.does g.memory in
+    let o = opened (r.home 0) r.outputs.outputs.0.elements r.outputs.outputs.0.end (done r.outputs.outputs.0.end r.outputs.outputs.0.reported) r.outputs.outputs.0.run in
+    ⊎_elim (λ x. x) (λ (x : IsBlank (r.home 0)). let z = x.opens in omega (arith, o, z)) r.rows.at_home.2
+
+pub row_of_no_plan_refused : ¬ (Headline row_of_no_plan)
+row_of_no_plan_refused h = let l = h.does.performs.devices.rows.1.0 in omega (arith, l)
+
+pub event_of_no_stream_refused : ¬ (Headline event_of_no_stream)
+event_of_no_stream_refused h = false≢true h.does.performs.ledger.ours
+
+pub lease_of_no_stream_refused : ¬ (Headline lease_of_no_stream)
+lease_of_no_stream_refused h = false≢true h.does.performs.ledger.ours
+
+pub kept_device_refused : ¬ (Headline kept_device)
+kept_device_refused h = let e = h.does.performs.devices.number in omega (arith, e)
+
+pub failure_not_told_refused : ¬ (Headline failure_not_told)
+failure_not_told_refused h = let g = good h.causes h.status.status in false≢true (sym g.unwritten ∙ h.status.unwritten)
+
+pub halted_without_a_cause_refused : ¬ (Headline halted_without_a_cause)
+halted_without_a_cause_refused h =
+    let g = good h.causes h.status.status in
+    let r = ran halted_without_a_cause h.causes h.does g.memory in
+    ⊎_elim (λ e. false≢true (sym g.unwritten ∙ e)) (⊎_elim (λ e. false≢true (sym g.memory ∙ e)) (λ e. false≢true e)) (r.ends.caused.0.halted refl)
+
+-- the payloads stand in the text of their frames
+holds : (k : ℕ) (p : List ℕ) → length p ≤ length (frame_text k p)
+holds k p =
+    let x = length-append (decimal k) (32 ∷ [] ++ (decimal (length p) ++ (10 ∷ [] ++ (p ++ 10 ∷ [])))) in
+    let y = length-append (decimal (length p)) (10 ∷ [] ++ (p ++ 10 ∷ [])) in
+    let z = length-append p (10 ∷ []) in
+    omega (arith, x, y, z)
+
+within_by : (k : ℕ) (f : Frame) (fs : List Frame) (b : Bool) → length (payloads_of k fs) ≤ length (frames_text fs)
+    → length (flat_map (λ (g : Frame). g.payload) (cond b (f ∷ filter (λ (g : Frame). nat_eq g.stream k) fs) (filter (λ (g : Frame). nat_eq g.stream k) fs))) ≤ length (frame_text f.stream f.payload ++ frames_text fs)
+within_by k f fs true h = omega (arith, h, holds f.stream f.payload, length-append f.payload (payloads_of k fs), length-append (frame_text f.stream f.payload) (frames_text fs))
+within_by k f fs false h = omega (arith, h, length-append (frame_text f.stream f.payload) (frames_text fs))
+
+within : (k : ℕ) (F : List Frame) → length (payloads_of k F) ≤ length (frames_text F)
+within k [] = omega arith
+within k (f ∷ fs) = within_by k f fs (nat_eq f.stream k) (within k fs)
+
+-- a content that was read to its end
+read_some : (c : List ℕ) (d : DeviceTold) (ys : List Element) (e : End) → e ≡ Done → ReadsBy (Some c) d ys e → ys ≡ map Byte c
+read_some c d ys e q (inl x) = x.1
+read_some c d ys e q (inr (inl x)) = let h = ap place (sym q ∙ x.2) in absurd (omega (arith, h))
+read_some c d ys e q (inr (inr x)) = let h = ap place (sym q ∙ x.2) in absurd (omega (arith, h))
+
+read_whole : (o : Option (List ℕ)) (c : List ℕ) → o ≡ Some c → (d : DeviceTold) (ys : List Element) (e : End) → e ≡ Done → ReadsBy o d ys e → ys ≡ map Byte c
+read_whole o c is d ys e q reads = read_some c d ys e q (subst (λ x. ReadsBy x d ys e) is reads)
+
+read_left : (c : List ℕ) (d : DeviceTold) → d.content ≡ Some c → (ys : List Element) (e : End) → e ≡ Done → OrLeft (Reads d) ys e → ys ≡ map Byte c
+read_left c d is ys e q (inl x) = read_whole d.content c is d ys e q x
+read_left c d is ys e q (inr x) = let h = ap place (sym q ∙ x.0) in absurd (omega (arith, h))
+
+given_whole : (c : List ℕ) (d : DeviceTold) → d.content ≡ Some c → (ys : List Element) (e : End) → e ≡ Done → FileRuns d ys e → ys ≡ map Byte c
+given_whole c d is ys e q (inl (inl x)) = read_left c d is ys e q x.1
+given_whole c d is ys e q (inl (inr x)) = let h = ap place (sym q ∙ x.2) in absurd (omega (arith, h))
+given_whole c d is ys e q (inr x) = let h = ap place (sym q ∙ x.0) in absurd (omega (arith, h))
+
+abbrev bytes_of : Option (List ℕ) → List ℕ
+bytes_of None = []
+bytes_of (Some b) = b
+
+too_short : (text frames rest said tail : List ℕ) → text ≡ frames ++ (rest ++ said) → rest ≡ [] → said ≡ tail → length text < 12 + length tail → 12 ≤ length frames → ⊥
+too_short text frames rest said tail e p q l m =
+    let n = ap (λ x. length x) e in let u = ap (λ x. length x) p in let v = ap (λ x. length x) q in
+    omega (arith, n, u, v, l, m, length-append frames (rest ++ said), length-append rest said)
+
+tail_is_long : length (bytes_of cut_output.out_new.written) < 12 + length (tail_text cut_output.ends cut_output.events)
+unfolding digits
+tail_is_long = omega arith
+
+pub cut_output_refused : ¬ (Headline cut_output)
+cut_output_refused h =
+    let g = good h.causes h.status.status in
+    let r = ran cut_output h.causes h.does g.memory in
+    let o = r.outputs.outputs.0 in
+    let ys = given_whole (codes "hello world\n") (r.home 0) r.rows.at_home.1 o.elements o.end (done o.end o.reported) o.run in
+    let n : length (payloads_of 0 h.does.frames) ≡ 12 = ap (λ x. length x) (o.printed ∙ ap (λ x. rendering_of x) ys) in
+    let f : 12 ≤ length (frames_text h.does.frames) = omega (arith, n, within 0 h.does.frames) in
+    too_short _ (frames_text h.does.frames) h.does.rest h.does.text.said _ (ap (λ x. bytes_of x) h.does.text.written) h.does.text.tail.0 h.does.text.tail.1 tail_is_long f

@@ -1,0 +1,6 @@
+//! What the contract of the top call says of calls that are written out: which ones it takes, and
+//! that it refuses each that has one thing wrong.
+#![tactic(auto)]
+
+pub mod refused;
+pub mod worked;

@@ -1,0 +1,21 @@
+//! Calls that went as they should.
+ghost use Rattle.flume_cli.specs.Headline.{Headline};
+ghost use Rattle.headline_laws.specs.Worked.{whole_file, empty_file, missing_file, read_fault, failed_close, failed_write};
+
+/// Files that were read whole.
+pub fn whole_files()
+    ensures is_whole_file { Headline whole_file }
+    ensures is_empty_file { Headline empty_file }
+{}
+
+/// Devices that failed.
+pub fn failed_devices()
+    ensures is_missing_file { Headline missing_file }
+    ensures is_read_fault { Headline read_fault }
+    ensures is_failed_close { Headline failed_close }
+{}
+
+/// An output that failed at once.
+pub fn failed_outputs()
+    ensures { Headline failed_write }
+{}
