@@ -11,14 +11,16 @@ use Rattle.chunk_core.specs.declared.code.How.TheVariants as how
 use Rattle.device_port.specs.Device.{DeviceTold}
 use Rattle.pull_nodes.specs.Runs.{OrLeft, Reads, ReadsBy}
 use Rattle.run_rules.specs.Run.{IsReported, IsUnmade, Ran, IsBlank}
+use Rattle.res_ledger.proofs.Judged.{legal_found, complete_found}
+use Rattle.device_port.specs.Sink.{SinkTold, BreaksOff}
 use Rattle.run_rules.specs.Texts.{tail_text}
 use Rattle.flume_cli.specs.declared.status.Status.{Status}
 use Rattle.flume_cli.specs.declared.status.Status.TheVariants as status
-use Rattle.flume_cli.specs.Status.{Causes, status_of, number_of}
+use Rattle.flume_cli.specs.Status.{Causes, status_of, number_of, line_of}
 use Rattle.flume_cli.specs.Cat.{cat_work, FileRuns}
 use Rattle.flume_cli.specs.Headline.{Call, Headline, Tells, deed_of_call}
 use Rattle.headline_laws.specs.Calls.{a}
-use Rattle.headline_laws.specs.Refused.{invented_output, cut_output, row_of_no_plan, event_of_no_stream, lease_of_no_stream, kept_device, failure_not_told, halted_without_a_cause}
+use Rattle.headline_laws.specs.Refused.{invented_output, cut_output, row_of_no_plan, event_of_no_stream, lease_of_no_stream, kept_device, failure_not_told, halted_without_a_cause, row_without_a_final, final_before_close, closed_twice, left_open, fault_without_a_fault, failed_close_not_told, silent_call}
 
 peel : (b : Bool) (x y s : Status) → (x ≡ s → ⊥) → s ≡ (if b then x else y) → (b ≡ false) × (s ≡ y)
 peel true x y s n e = absurd (n (sym e))
@@ -154,3 +156,37 @@ cut_output_refused h =
     let n : length (payloads_of 0 h.does.frames) ≡ 12 = ap (λ x. length x) (o.printed ∙ ap (λ x. rendering_of x) ys) in
     let f : 12 ≤ length (frames_text h.does.frames) = omega (arith, n, within 0 h.does.frames) in
     too_short _ (frames_text h.does.frames) h.does.rest h.does.text.said _ (ap (λ x. bytes_of x) h.does.text.written) h.does.text.tail.0 h.does.text.tail.1 tail_is_long f
+
+pub row_without_a_final_refused : ¬ (Headline row_without_a_final)
+row_without_a_final_refused h = let l = h.does.performs.ledger in false≢true (complete_found row_without_a_final.events l.legal l.complete)
+
+pub final_before_close_refused : ¬ (Headline final_before_close)
+final_before_close_refused h = false≢true (legal_found final_before_close.events h.does.performs.ledger.legal)
+
+pub closed_twice_refused : ¬ (Headline closed_twice)
+closed_twice_refused h = let e = h.does.performs.devices.shut.0.1 in omega (arith, e)
+
+pub left_open_refused : ¬ (Headline left_open)
+left_open_refused h = let e = h.does.performs.devices.shut.0.1 in omega (arith, e)
+
+-- what status 1 tells of memory
+faulty : (k : Causes) → status.Faulty ≡ status_of k → k.memory ≡ false
+faulty k e =
+    let p = peel (not k.words) _ _ status.Faulty (differ _ _ (omega arith)) e in
+    let q = peel k.unwritten _ _ status.Faulty (differ _ _ (omega arith)) p.1 in
+    (peel k.memory _ _ status.Faulty (differ _ _ (omega arith)) q.1).0
+
+pub fault_without_a_fault_refused : ¬ (Headline fault_without_a_fault)
+fault_without_a_fault_refused h =
+    let r = ran fault_without_a_fault h.causes h.does (faulty h.causes h.status.status) in
+    false≢true r.ends.caused.0.fault
+
+pub failed_close_not_told_refused : ¬ (Headline failed_close_not_told)
+failed_close_not_told_refused h = let e = h.does.performs.devices.failed.0 in omega (arith, e)
+
+pub silent_call_refused : ¬ (Headline silent_call)
+silent_call_refused h =
+    ⊎_elim
+    (λ e. let n = ap (λ (s : SinkTold). length (bytes_of s.written)) e in omega (arith, n))
+    (λ (b : BreaksOff silent_call.err_old silent_call.err_new (line_of status.BadWords)). let n = ap (λ (s : SinkTold). s.faults) b.told in omega (arith, n))
+    h.status.line

@@ -1,6 +1,7 @@
 -- Calls with one thing wrong each.
 use Rattle.std.specs.Prelude.{true, ℕ, List, [], ◌∷◌, None, codes}
 use Rattle.chunk_core.specs.declared.code.How.{How}
+use Rattle.chunk_core.specs.declared.code.Code.TheVariants as code
 use Rattle.chunk_core.specs.declared.code.How.TheVariants as how
 use Rattle.res_ledger.specs.declared.event.StreamNo.TheVariants.{Inner}
 use Rattle.res_ledger.specs.declared.event.What.TheVariants.{Acquire, Lease, Cancel, Close, Final}
@@ -51,3 +52,37 @@ failure_not_told = cat_call (depot_before (codes "hello\n")) (depot_after (codes
 -- nothing failed, and the stream was halted
 abbrev pub halted_without_a_cause : Call
 halted_without_a_cause = hello_call (codes "0 6\nhello\n\nend 0 halted\nledger 3\n0 acquire 0 0\n0 close 0\n0 final 0 ok\n") how.Halted (one_row true)
+
+-- a row that is never finalized
+abbrev pub row_without_a_final : Call
+row_without_a_final = hello_call (codes "0 6\nhello\n\nend 0 done\nledger 2\n0 acquire 0 0\n0 close 0\n") how.Done
+    (event 0 (Inner 0) (Acquire 0 0) ∷ event 1 (Inner 0) (Close 0) ∷ [])
+
+-- a row that is finalized before its scope is closed
+abbrev pub final_before_close : Call
+final_before_close = hello_call (codes "0 6\nhello\n\nend 0 done\nledger 3\n0 acquire 0 0\n0 final 0 ok\n0 close 0\n") how.Done
+    (event 0 (Inner 0) (Acquire 0 0) ∷ event 1 (Inner 0) (Final 0 true) ∷ event 2 (Inner 0) (Close 0) ∷ [])
+
+-- a device that was closed twice
+abbrev pub closed_twice : Call
+closed_twice = cat_call (depot_before (codes "hello\n")) (depot_after (codes "hello\n") (record (closed_device (codes "hello\n") 6 0 0) { closes = 2 } ∷ []))
+    (wrote (codes "0 6\nhello\n\nend 0 done\nledger 3\n0 acquire 0 0\n0 close 0\n0 final 0 ok\n") 0) status.Good how.Done (one_row true)
+
+-- a device that is still open
+abbrev pub left_open : Call
+left_open = cat_call (depot_before (codes "hello\n")) (depot_after (codes "hello\n") (record (closed_device (codes "hello\n") 6 0 0) { is_open = true; closes = 0 } ∷ []))
+    (wrote (codes "0 6\nhello\n\nend 0 done\nledger 3\n0 acquire 0 0\n0 close 0\n0 final 0 ok\n") 0) status.Good how.Done (one_row true)
+
+-- a read fault that no device counted
+abbrev pub fault_without_a_fault : Call
+fault_without_a_fault = cat_call (depot_before (codes "hello\n")) (depot_after (codes "hello\n") (closed_device (codes "hello\n") 6 0 0 ∷ []))
+    (wrote (codes "0 6\nhello\n\nend 0 fault read\nledger 3\n0 acquire 0 0\n0 close 0\n0 final 0 ok\n") 0) status.Faulty (how.Fault code.Read) (one_row true)
+
+-- a failed close that the ledger calls ok
+abbrev pub failed_close_not_told : Call
+failed_close_not_told = cat_call (depot_before (codes "hello\n")) (depot_after (codes "hello\n") (closed_device (codes "hello\n") 6 0 1 ∷ []))
+    (wrote (codes "0 6\nhello\n\nend 0 done\nledger 3\n0 acquire 0 0\n0 close 0\n0 final 0 ok\n") 0) status.Good how.Done (one_row true)
+
+-- words that mean nothing, and nobody is told
+abbrev pub silent_call : Call
+silent_call = record (hello_call [] how.Done []) { words = codes "dog" ∷ []; depot_new = depot_before (codes "hello\n"); out_new = wrote [] 0; status = status.BadWords; ends = [] }

@@ -1,6 +1,6 @@
 //! Calls with one thing wrong each.
 ghost use Rattle.flume_cli.specs.Headline.{Headline};
-ghost use Rattle.headline_laws.specs.Refused.{invented_output, cut_output, row_of_no_plan, event_of_no_stream, lease_of_no_stream, kept_device, failure_not_told, halted_without_a_cause};
+ghost use Rattle.headline_laws.specs.Refused.{invented_output, cut_output, row_of_no_plan, event_of_no_stream, lease_of_no_stream, row_without_a_final, final_before_close, kept_device, closed_twice, left_open, failure_not_told, halted_without_a_cause, fault_without_a_fault, failed_close_not_told, silent_call};
 
 /// Outputs that no device gave.
 pub fn invented_outputs()
@@ -8,20 +8,27 @@ pub fn invented_outputs()
     ensures is_cut_output { ¬ (Headline cut_output) }
 {}
 
-/// Rows and streams that the command hasn't.
-pub fn foreign_events()
+/// Rows and streams that the command hasn't, and rows that end wrongly.
+pub fn wrong_ledgers()
     ensures is_row_of_no_plan { ¬ (Headline row_of_no_plan) }
     ensures is_event_of_no_stream { ¬ (Headline event_of_no_stream) }
     ensures is_lease_of_no_stream { ¬ (Headline lease_of_no_stream) }
+    ensures is_row_without_a_final { ¬ (Headline row_without_a_final) }
+    ensures is_final_before_close { ¬ (Headline final_before_close) }
 {}
 
-/// A device that was made and never came back.
-pub fn kept_devices()
-    ensures { ¬ (Headline kept_device) }
+/// Devices that didn't come back, or not as they should.
+pub fn wrong_devices()
+    ensures is_kept_device { ¬ (Headline kept_device) }
+    ensures is_closed_twice { ¬ (Headline closed_twice) }
+    ensures is_left_open { ¬ (Headline left_open) }
 {}
 
-/// Ends and statuses without their causes.
+/// Ends and statuses without their causes, and causes that nobody was told.
 pub fn missing_causes()
     ensures is_failure_not_told { ¬ (Headline failure_not_told) }
     ensures is_halted_without_a_cause { ¬ (Headline halted_without_a_cause) }
+    ensures is_fault_without_a_fault { ¬ (Headline fault_without_a_fault) }
+    ensures is_failed_close_not_told { ¬ (Headline failed_close_not_told) }
+    ensures is_silent_call { ¬ (Headline silent_call) }
 {}

@@ -1,5 +1,0 @@
-use Rattle.headline_laws.proofs.Refusing.{row_of_no_plan_refused, event_of_no_stream_refused, lease_of_no_stream_refused}
-use Rattle.headline_laws.proofs.refused.foreign_events.Goals as goal
-
-pub returns : goal.returns
-returns c = record { is_row_of_no_plan = row_of_no_plan_refused; is_event_of_no_stream = event_of_no_stream_refused; is_lease_of_no_stream = lease_of_no_stream_refused }
