@@ -1,8 +1,8 @@
 -- One device that was made and came back.
-use Rattle.std.proofs.Common.{◌≡◌, ◌≢◌, ℕ, ◌+◌, ◌<◌, Bool, true, false, cond, ◌&&◌, nat_eq, nat_lt, List, [], ◌∷◌, ◌++◌, ◌⊎◌, inl, inr, map, length, drop, filter, count_by, flat_map, Option, Some, None, refl, sym, ◌∙◌, ap, subst, ⊎_elim, arith}
+use Rattle.std.proofs.Common.{◌≡◌, ℕ, ◌+◌, Bool, true, false, cond, ◌&&◌, nat_eq, nat_lt, List, [], ◌∷◌, ◌++◌, inl, inr, map, length, drop, filter, count_by, flat_map, Option, Some, None, refl, sym, ◌∙◌, ap, subst, ⊎_elim}
 use Rattle.std.specs.Str.{bytes_eq}
 use Rattle.std.proofs.Math.Seq.{drop-append_seam}
-use Rattle.chunk_core.specs.Lists.{Each, One}
+use Rattle.chunk_core.specs.Lists.{Each}
 use Rattle.res_ledger.specs.declared.event.Event.{Event}
 use Rattle.res_ledger.proofs.Tests.{itself}
 use Rattle.device_port.specs.declared.device.Mode.{Mode}
@@ -61,13 +61,13 @@ module _ (old new : DepotTold) (p : Place) (e : DeviceTold) (made : new.made ≡
       → DevicesAccounted old new (p ∷ []) L
   accounted L number place shut rows acquired failed files =
       let test : (nat_eq e.number (length old.made) && is_place e.place p) ≡ true =
-        subst (λ n. (nat_eq e.number n && is_place e.place p) ≡ true) number (subst (λ b. (b && is_place e.place p) ≡ true) (sym (itself e.number)) (subst (λ q. is_place e.place q ≡ true) place (place_itself e.place))) in
+      subst (λ n. (nat_eq e.number n && is_place e.place p) ≡ true) number (subst (λ b. (b && is_place e.place p) ≡ true) (sym (itself e.number)) (subst (λ q. is_place e.place q ≡ true) place (place_itself e.place))) in
       record {
         made = made ∙ ap (λ ps. old.made ++ ps) (sym made_is);
         retired = retired ∙ ap (λ ds. old.retired ++ ds) (sym back_is);
         number = ap (λ ds. length ds) back_is ∙ sym (ap (λ ps. length ps) made_is);
         once = subst (λ ds. ComeBackOnce ds (length old.made) (made_for old new)) (sym back_is)
-          (subst (λ ps. ComeBackOnce (e ∷ []) (length old.made) ps) (sym made_is) (counted_one (λ (d : DeviceTold). nat_eq d.number (length old.made) && is_place d.place p) e test, tt));
+            (subst (λ ps. ComeBackOnce (e ∷ []) (length old.made) ps) (sym made_is) (counted_one (λ (d : DeviceTold). nat_eq d.number (length old.made) && is_place d.place p) e test, tt));
         shut = subst (λ ds. Each (λ (d : DeviceTold). (d.is_open ≡ false) × (d.closes ≡ d.opens)) ds) (sym back_is) (shut, tt);
         rows = rows;
         acquired = subst (λ ds. StandAsOften (map (λ (d : DeviceTold). d.place) (filter (λ (d : DeviceTold). nat_eq d.opens 1) ds)) (flat_map (λ (x : Event). place_of (p ∷ []) (acquired_row x.what)) L)) (sym back_is) (same_as_often _ _ acquired);

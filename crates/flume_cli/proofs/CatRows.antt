@@ -1,13 +1,12 @@
 -- What a device tells after its life.
-use Rattle.std.proofs.Common.{◌≡◌, ◌≢◌, ℕ, ◌+◌, ◌<◌, ◌≤◌, ◌^◌, Bool, true, false, cond, List, [], ◌∷◌, ◌++◌, ◌⊎◌, inl, inr, length, take, drop, Option, Some, None, IfSome, refl, sym, ◌∙◌, ap, subst, ⊎_elim, arith}
-use Rattle.chunk_core.specs.Texts.{Frame, frames_text, payloads_of}
+use Rattle.std.proofs.Common.{◌≡◌, ℕ, ◌+◌, Bool, true, false, cond, refl, sym, ◌∙◌, ap, subst}
 use Rattle.chunk_core.specs.declared.code.Code.TheVariants as code
 use Rattle.chunk_core.specs.declared.code.How.{How}
 use Rattle.chunk_core.specs.declared.code.How.TheVariants as how
 use Rattle.device_port.specs.Device.{DeviceTold, moved}
-use Rattle.device_port.specs.Sink.{SinkTold, with_bytes}
-use Rattle.flume_cli.specs.Copy.{Copies, Prints, IsNext, with_read_fault}
-use Rattle.flume_cli.specs.Life.{opened, with_open_fault, closed_as}
+use Rattle.device_port.specs.Sink.{SinkTold}
+use Rattle.flume_cli.specs.Copy.{Copies, with_read_fault}
+use Rattle.flume_cli.specs.Life.{opened, closed_as}
 
 as_told : DeviceTold → ℕ → ℕ → DeviceTold
 as_told d a f = record d { at = a; read_faults = f }

@@ -1,28 +1,26 @@
 -- What a copy shows, by how it ended.
-use Rattle.std.proofs.Common.{◌≡◌, ◌≢◌, ℕ, ◌+◌, ◌-◌, ◌<◌, ◌≤◌, ◌^◌, Bool, true, false, ◌&&◌, ◌||◌, nat_lt, List, [], ◌∷◌, ◌++◌, ◌⊎◌, inl, inr, length, map, take, drop, Option, Some, None, IfSome, refl, sym, ◌∙◌, ap, subst, arith, append-nil, length-append, length-take, length-drop, zero-add}
+use Rattle.std.proofs.Common.{◌≡◌, ℕ, ◌+◌, ◌<◌, ◌≤◌, ◌^◌, Bool, true, nat_lt, List, [], ◌++◌, inl, inr, length, map, take, drop, Option, Some, None, IfSome, refl, sym, ◌∙◌, ap, subst, arith, append-nil, length-append, length-drop, zero-add}
 use Rattle.std.proofs.lemmas.List.{take-append-drop}
-use Rattle.chunk_core.specs.Lists.{Each}
-use Rattle.chunk_core.specs.Elements.{Element, Byte, rendering_of}
-use Rattle.chunk_core.specs.Outcomes.{End, Done, Fault, Cut}
-use Rattle.chunk_core.specs.Texts.{Frame, frame_text, frames_text, payloads_of}
+use Rattle.chunk_core.specs.Elements.{Byte}
+use Rattle.chunk_core.specs.Outcomes.{Done, Fault, Cut}
+use Rattle.chunk_core.specs.Texts.{frame_text, frames_text, payloads_of}
 use Rattle.chunk_core.specs.declared.code.Code.TheVariants as code
 use Rattle.chunk_core.specs.declared.code.How.{How}
 use Rattle.chunk_core.specs.declared.code.How.TheVariants as how
 use Rattle.device_port.specs.declared.device.Mode.TheVariants as mode
-use Rattle.device_port.specs.Device.{DeviceTold, faults_of, moved}
+use Rattle.device_port.specs.Device.{DeviceTold, faults_of}
 use Rattle.device_port.specs.Depot.{DepotTold, Makes}
-use Rattle.device_port.specs.Sink.{SinkTold, with_bytes, BreaksOff}
+use Rattle.device_port.specs.Sink.{SinkTold, with_bytes}
 use Rattle.device_port.proofs.Puts.{with_bytes_twice}
 use Rattle.run_rules.specs.Facts.{is_place}
-use Rattle.run_rules.specs.Run.{IsCutFrame, is_shown}
-use Rattle.flume_cli.specs.Copy.{Copies, Prints, IsNext, Breaks, with_read_fault, IsExhausted}
+use Rattle.flume_cli.specs.Copy.{Copies, Prints, Breaks}
 use Rattle.flume_cli.specs.Life.{IsUnused, opened}
-use Rattle.flume_cli.specs.Cat.{to_read, cat_work, FileRuns, Retires, and_one}
+use Rattle.flume_cli.specs.Cat.{to_read, Retires}
 use Rattle.flume_cli.proofs.Copying.{next_more}
 use Rattle.flume_cli.proofs.Reading.{rendering_bytes, reads_done, reads_fault, reads_endless, reads_front}
 use Rattle.flume_cli.proofs.Accounting.{place_itself}
-use Rattle.flume_cli.proofs.CatRows.{lived_told, copied_is}
-use Rattle.flume_cli.proofs.CatWork.{Shows, IsDoneWhole, IsIdealDone, device, home, ok_is, place_is, positive, shown_one, fault_done, true_false}
+use Rattle.flume_cli.proofs.CatRows.{lived_told}
+use Rattle.flume_cli.proofs.CatWork.{Shows, ok_is, place_is, positive, shown_one, fault_done, true_false}
 
 -- the bytes from the start of a content
 pub from_start : (o : Option (List ℕ)) (at : ℕ) (bytes : List ℕ) → at ≡ 0 → IfSome o (λ c. bytes ≡ take (length bytes) (drop at c)) → IfSome o (λ c. bytes ≡ take (length bytes) c)
@@ -150,7 +148,7 @@ module _ (path : List ℕ) (old mid new : DepotTold) (d : DeviceTold) (makes : M
           remembered = refl;
           whole = λ h n i. absurd (true_false h);
           wrote = b.wrote.told ∙ (ap (λ (s : SinkTold). let t : SinkTold = record (with_bytes s (take b.wrote.count (frame_text 0 b.bytes))) { faults = s.faults + 1 } in t) p.wrote
-            ∙ ap (λ (s : SinkTold). let t : SinkTold = record s { faults = so.faults + 1 } in t) (with_bytes_twice so (frames_text p.frames) (take b.wrote.count (frame_text 0 b.bytes))));
+              ∙ ap (λ (s : SinkTold). let t : SinkTold = record s { faults = so.faults + 1 } in t) (with_bytes_twice so (frames_text p.frames) (take b.wrote.count (frame_text 0 b.bytes))));
         }
 
     pub shows_copy : (ended : How) → Copies (opened d) m so sn ended → m.content ≡ d.content → Shown so sn ended

@@ -1,37 +1,29 @@
 -- The work of cat, from what was done with its device.
-use Rattle.std.proofs.Common.{◌≡◌, ◌≢◌, ℕ, ◌+◌, ◌-◌, ◌<◌, ◌≤◌, ◌^◌, Bool, true, false, cond, not, ◌&&◌, ◌||◌, nat_eq, nat_lt, List, [], ◌∷◌, ◌++◌, ◌⊎◌, inl, inr, length, map, take, drop, filter, flat_map, Option, Some, None, IfSome, refl, sym, ◌∙◌, ap, subst, ⊎_elim, arith, append-nil, length-append, append_assoc}
+use Rattle.std.proofs.Common.{◌≡◌, ◌≢◌, ℕ, ◌+◌, ◌<◌, Bool, true, false, not, ◌&&◌, ◌||◌, nat_eq, nat_lt, List, [], ◌∷◌, ◌++◌, ◌⊎◌, inl, inr, length, map, filter, flat_map, Option, refl, sym, ◌∙◌, ap, subst, arith}
 use Rattle.std.proofs.lemmas.Bool.Decides.{nat_tests}
-use Rattle.std.proofs.lemmas.List.{take-append-drop}
 use Rattle.chunk_core.specs.Lists.{Each, One}
-use Rattle.std.specs.List.{list_any as any, list_all as all}
-use Rattle.chunk_core.specs.Elements.{Element, Byte, rendering_of}
-use Rattle.chunk_core.specs.Outcomes.{End, Done, Fault, Cut}
-use Rattle.chunk_core.specs.Texts.{Frame, frame_text, frames_text, payloads_of}
-use Rattle.chunk_core.specs.declared.code.Code.TheVariants as code
+use Rattle.std.specs.List.{list_any as any}
+use Rattle.chunk_core.specs.Elements.{Element, rendering_of}
+use Rattle.chunk_core.specs.Outcomes.{End, Done, Fault}
+use Rattle.chunk_core.specs.Texts.{Frame, frames_text, payloads_of}
 use Rattle.chunk_core.specs.declared.code.How.{How}
 use Rattle.chunk_core.specs.declared.code.How.TheVariants as how
 use Rattle.res_ledger.specs.declared.event.StreamNo.TheVariants.{Inner}
 use Rattle.res_ledger.specs.declared.event.Event.{Event}
 use Rattle.res_ledger.proofs.Judged.{legal_sound, complete_sound}
 use Rattle.res_ledger.proofs.Ordering.{ordered_sound}
-use Rattle.device_port.specs.declared.device.Mode.{Mode}
 use Rattle.device_port.specs.declared.device.Mode.TheVariants as mode
 use Rattle.device_port.specs.Device.{Place, DeviceTold, faults_of}
-use Rattle.device_port.specs.Depot.{DepotTold, Files, Makes, KeepsFilesBut, KeepsOtherFiles, content_at}
+use Rattle.device_port.specs.Depot.{DepotTold, Files, Makes, KeepsFilesBut, content_at}
 use Rattle.device_port.specs.Sink.{SinkTold, with_bytes}
-use Rattle.device_port.proofs.Puts.{with_bytes_none, with_bytes_twice}
-use Rattle.pull_nodes.specs.Runs.{Reads}
 use Rattle.run_rules.specs.declared.end.EndOf.{EndOf}
-use Rattle.run_rules.specs.Facts.{is_place, is_fault, is_halted, is_memory, is_over, is_failed, acquired_row, failed_row}
-use Rattle.run_rules.specs.Work.{Deed}
+use Rattle.run_rules.specs.Facts.{is_halted, is_memory, is_failed, failed_row}
 use Rattle.run_rules.specs.Devices.{came_back, IsWritten, DevicesAccounted, place_of}
-use Rattle.run_rules.specs.Run.{IsOutput, IsReported, IsCutFrame, IsCaused, HaveHomes, HaveOutputs, HaveEnds, NothingFailed, IsWhole, Ran, KeepsRules, Performs, IsUnmade, is_shown, count_of, IsTied}
+use Rattle.run_rules.specs.Run.{IsOutput, IsCutFrame, HaveHomes, HaveEnds, NothingFailed, IsWhole, KeepsRules, is_shown}
 use Rattle.flume_cli.specs.declared.outcome.Outcome.{Outcome}
-use Rattle.flume_cli.specs.Copy.{Copies, Prints, IsNext}
-use Rattle.flume_cli.specs.Life.{IsUnused, opened, with_open_fault, closed_as}
-use Rattle.flume_cli.specs.Cat.{to_read, FileRuns, IdealFileRuns, cat_work, missed, lived, Retires, deed_of, and_one, RunsCat}
-use Rattle.flume_cli.proofs.Reading.{rendering_bytes, reads_done, reads_fault, reads_endless, reads_front}
-use Rattle.flume_cli.proofs.Accounting.{accounted, back_is, made_is, keeps_more, kept_one, kept_none, place_itself}
+use Rattle.flume_cli.specs.Life.{IsUnused}
+use Rattle.flume_cli.specs.Cat.{to_read, IdealFileRuns, cat_work, missed, lived, Retires, deed_of, and_one, RunsCat}
+use Rattle.flume_cli.proofs.Accounting.{accounted, back_is, keeps_more, kept_none}
 use Rattle.flume_cli.proofs.CatRows.{lived_told}
 
 -- Ledgers.
@@ -167,11 +159,14 @@ module _ (path : List ℕ) (old mid new : DepotTold) (d : DeviceTold) (makes : M
   lived_ends : (ended : How) (F : List Frame) (rest : List ℕ) → is_shown (device ∷ []) (to_read path ∷ []) ended ≡ true → is_memory ended ≡ false → HaveEnds (cat_work path) (deed_of old new F rest (did ended))
   lived_ends ended F rest shown none = record {
     named = refl;
-    caused = (record {
-      halted = λ h. inl h;
-      fault = subst (λ ds. is_shown ds (to_read path ∷ []) ended ≡ true) (sym came) shown;
-      root = λ h. refl;
-    }, tt);
+    caused = (
+      record {
+        halted = λ h. inl h;
+        fault = subst (λ ds. is_shown ds (to_read path ∷ []) ended ≡ true) (sym came) shown;
+        root = λ h. refl;
+      },
+      tt,
+    );
     memory = λ h. subst (λ b. (b || false) ≡ true) none h;
   }
 

@@ -1,18 +1,16 @@
 -- The ledger of the device's life, once the seat has finished.
-use Rattle.std.proofs.Common.{◌≡◌, ℕ, ◌+◌, ◌<◌, Bool, List, [], ◌∷◌, ◌++◌, ◌⊎◌, ◌↔◌, inl, inr, length, refl, sym, ◌∙◌, ap, subst, ⊎_elim, arith}
-use Rattle.chunk_core.specs.Lists.{IsAmong}
+use Rattle.std.proofs.Common.{◌≡◌, ℕ, ◌<◌, Bool, List, [], ◌∷◌, ◌⊎◌, inl, inr, refl, sym, ◌∙◌, ap, subst, ⊎_elim, arith}
 use Rattle.chunk_core.proofs.Members.{among_nil, among_cons}
 use Rattle.chunk_core.specs.declared.code.How.{How}
-use Rattle.res_ledger.specs.declared.event.What.{What}
 use Rattle.res_ledger.specs.declared.event.What.TheVariants.{Acquire, Close, Final}
 use Rattle.res_ledger.specs.declared.event.Event.{Event}
-use Rattle.res_ledger.specs.Ledger.{IsStamped, IsAcquired}
+use Rattle.res_ledger.specs.Ledger.{IsStamped}
 use Rattle.res_ledger.proofs.Orders.{Rises, rising_is}
 use Rattle.device_port.specs.Device.{DeviceTold}
 use Rattle.device_port.specs.Sink.{SinkTold}
 use Rattle.row_seat.specs.declared.view.View.{View}
 use Rattle.row_seat.specs.Views.{CanFinish, IsLedgerOf}
-use Rattle.flume_cli.specs.Life.{noted_by_0, acquired, finalized, untaken, Misses, Lives, RunsDevice}
+use Rattle.flume_cli.specs.Life.{noted_by_0, finalized, untaken, Misses, Lives, RunsDevice}
 use Rattle.flume_cli.specs.Cat.{missed, lived, MissesRow, LivesRow}
 use Rattle.flume_cli.proofs.Living.{notes_one}
 
@@ -45,8 +43,10 @@ rises_one a = ((λ x m. absurd (among_nil m)), tt)
 rises_three : (a b c : ℕ) (ok : Bool) → a < b → b < c → Rises (living a b c ok)
 rises_three a b c ok l m = (
   (λ x i. ⊎_elim (λ e. subst (λ (v : Event). a < v.stamp) (sym e) l) (λ j. ⊎_elim (λ e. let n : a < c = omega arith in subst (λ (v : Event). a < v.stamp) (sym e) n) (λ k. absurd (among_nil k)) (among_cons j)) (among_cons i)),
-  ((λ x i. ⊎_elim (λ e. subst (λ (v : Event). b < v.stamp) (sym e) m) (λ k. absurd (among_nil k)) (among_cons i)),
-  ((λ x i. absurd (among_nil i)), tt)),
+  (
+    (λ x i. ⊎_elim (λ e. subst (λ (v : Event). b < v.stamp) (sym e) m) (λ k. absurd (among_nil k)) (among_cons i)),
+    ((λ x i. absurd (among_nil i)), tt),
+  ),
 )
 
 module _ (P : Type 0) where

@@ -1,5 +1,5 @@
 -- What a seat of stream 0 may do with its row.
-use Rattle.std.proofs.Common.{◌≡◌, ◌≢◌, ℕ, ◌+◌, ◌<◌, Bool, true, false, List, [], ◌∷◌, ◌++◌, ◌⊎◌, inl, inr, refl, sym, ap, ◌∙◌, subst, ⊎_elim, arith, Result, Ok, Err, OnOk, OnErr, is_ok}
+use Rattle.std.proofs.Common.{◌≡◌, ◌≢◌, ℕ, ◌<◌, Bool, [], ◌∷◌, ◌⊎◌, inl, inr, refl, sym, ap, ◌∙◌, subst, ⊎_elim, Result, Ok, Err, OnOk, OnErr, is_ok}
 use Rattle.chunk_core.specs.Lists.{IsAmong}
 use Rattle.chunk_core.specs.Lists.IsAmong.{here, there}
 use Rattle.chunk_core.proofs.Members.{among_nil, among_cons}
@@ -8,7 +8,7 @@ use Rattle.res_ledger.specs.declared.event.StreamNo.TheVariants.{Inner}
 use Rattle.res_ledger.specs.declared.event.What.{What}
 use Rattle.res_ledger.specs.declared.event.What.TheVariants.{Acquire, Close, Final, Lease}
 use Rattle.res_ledger.specs.declared.event.Event.{Event}
-use Rattle.res_ledger.specs.Ledger.{Notes, IsClosed, IsUsable, Covers}
+use Rattle.res_ledger.specs.Ledger.{Notes}
 use Rattle.res_ledger.specs.Ledger.LiesWithin.{same}
 use Rattle.res_ledger.proofs.Ledgers.{covers_leased}
 use Rattle.row_seat.specs.declared.view.View.{View}
@@ -16,12 +16,7 @@ use Rattle.row_seat.specs.declared.view.Left.TheVariants.{Stays, Yours}
 use Rattle.row_seat.specs.Views.{MayNote, IsFresh, CanPlace, CanClose, CanTake, Closes, noted, took, handed_over, shut}
 use Rattle.row_seat.specs.Views.{start}
 use Rattle.device_port.specs.declared.Failed.{Failed}
-use Rattle.device_port.specs.Device.{DeviceTold, moved, shut as shut_device}
-use Rattle.device_port.specs.Sink.{SinkTold}
-use Rattle.chunk_core.specs.declared.code.Code.TheVariants as code
-use Rattle.chunk_core.specs.declared.code.How.{How}
-use Rattle.chunk_core.specs.declared.code.How.TheVariants as how
-use Rattle.flume_cli.specs.Copy.{Copies, Prints, with_read_fault}
+use Rattle.device_port.specs.Device.{DeviceTold, shut as shut_device}
 use Rattle.flume_cli.specs.Life.{noted_by_0, acquired, finalized, closed_as}
 
 -- a list of one or two events says only what they say

@@ -1,13 +1,13 @@
 -- The runs of a file that was read: to its end, to the limit, to a fault, or in part.
-use Rattle.std.proofs.Common.{◌≡◌, ℕ, ◌+◌, ◌-◌, ◌<◌, ◌≤◌, ◌^◌, List, [], ◌∷◌, ◌++◌, ◌⊎◌, inl, inr, length, map, take, drop, Option, Some, None, IfSome, refl, sym, ◌∙◌, ap, subst, ⊎_elim, arith, append_assoc, append-nil, length-append, length-take}
+use Rattle.std.proofs.Common.{◌≡◌, ℕ, ◌+◌, ◌-◌, ◌<◌, ◌≤◌, ◌^◌, List, [], ◌∷◌, ◌++◌, inl, inr, length, map, take, drop, Option, Some, None, IfSome, refl, sym, ◌∙◌, ap, ⊎_elim, arith, append_assoc, length-take}
 use Rattle.std.proofs.Math.Seq.{take-length, take-add}
 use Rattle.std.proofs.lemmas.Bool.{cases_lt}
 use Rattle.std.proofs.lemmas.List.{map-append, take-append-drop}
 use Rattle.chunk_core.specs.declared.code.Code.TheVariants as code
 use Rattle.chunk_core.specs.Elements.{Element, Byte, rendering_of}
-use Rattle.chunk_core.specs.Outcomes.{End, Done, Fault, Cut}
+use Rattle.chunk_core.specs.Outcomes.{End, Done, Fault}
 use Rattle.device_port.specs.Device.{DeviceTold}
-use Rattle.pull_nodes.specs.Runs.{Reads, ReadsBy}
+use Rattle.pull_nodes.specs.Runs.{ReadsBy}
 
 -- bytes are rendered as they are
 pub rendering_bytes : (bytes : List ℕ) → rendering_of (map Byte bytes) ≡ bytes
@@ -52,6 +52,9 @@ module _ (d : DeviceTold) (B : List ℕ) (at_is : length B ≡ d.at) where
   reads_front (Some c) X Y e h l =
       ⊎_elim
       (λ (small : length c < 2 ^ 40). (map Byte (Y ++ drop (length B) c), Done, inl (small, behind X Y (drop (length B) c) B e ∙ ap (λ xs. map Byte xs) (whole_is B c h), refl)))
-      (λ (large : 2 ^ 40 ≤ length c). (map Byte (Y ++ take (2 ^ 40 - length B) (drop (length B) c)), Fault code.Endless,
-        inr (inl (large, behind X Y (take (2 ^ 40 - length B) (drop (length B) c)) B e ∙ ap (λ xs. map Byte xs) (first_is B c (2 ^ 40) h l), refl))))
+      (λ (large : 2 ^ 40 ≤ length c). (
+        map Byte (Y ++ take (2 ^ 40 - length B) (drop (length B) c)),
+        Fault code.Endless,
+        inr (inl (large, behind X Y (take (2 ^ 40 - length B) (drop (length B) c)) B e ∙ ap (λ xs. map Byte xs) (first_is B c (2 ^ 40) h l), refl)),
+      ))
       (cases_lt (length c) (2 ^ 40))

@@ -1,10 +1,9 @@
 -- A call, from the work that was done and how it was told.
-use Rattle.std.proofs.Common.{◌≡◌, ◌≢◌, ℕ, ◌+◌, ◌<◌, ◌≤◌, Bool, true, false, not, nat_lt, is_some, List, [], ◌∷◌, ◌++◌, ◌⊎◌, inl, inr, length, map, flat_map, take, drop, Option, Some, None, refl, sym, ◌∙◌, ap, subst, ⊎_elim, arith, append-nil, append_assoc, length-append, length-take}
+use Rattle.std.proofs.Common.{◌≡◌, ◌≢◌, ℕ, ◌+◌, ◌<◌, Bool, true, false, not, nat_lt, is_some, List, [], ◌∷◌, ◌++◌, ◌⊎◌, inl, inr, length, map, flat_map, take, drop, Option, Some, None, refl, sym, ◌∙◌, ap, subst, ⊎_elim, arith, append-nil, append_assoc, length-append, length-take}
 use Rattle.std.proofs.lemmas.Bool.Decides.{nat_tests}
 use Rattle.std.proofs.lemmas.List.{take-append-drop}
 use Rattle.std.specs.List.{list_any as any}
 use Rattle.chunk_core.specs.Texts.{frames_text}
-use Rattle.res_ledger.specs.declared.event.StreamNo.{StreamNo}
 use Rattle.res_ledger.specs.declared.event.StreamNo.TheVariants.{Inner}
 use Rattle.res_ledger.specs.declared.event.Event.{Event}
 use Rattle.device_port.specs.Source.{SourceTold}
@@ -13,7 +12,7 @@ use Rattle.device_port.specs.Sink.{SinkTold, with_bytes, BreaksOff}
 use Rattle.device_port.proofs.Puts.{with_bytes_twice}
 use Rattle.run_rules.specs.declared.end.EndOf.{EndOf}
 use Rattle.run_rules.specs.Facts.{is_fault, is_memory, is_failed, has}
-use Rattle.run_rules.specs.Run.{Ran, IsUnmade, IsCutFrame}
+use Rattle.run_rules.specs.Run.{Ran, IsUnmade}
 use Rattle.res_ledger.specs.Texts.{ledger_text}
 use Rattle.run_rules.specs.Texts.{end_line, tail_text}
 use Rattle.run_rules.proofs.More.{performs_more}
@@ -21,13 +20,13 @@ use Rattle.flume_cli.specs.declared.status.Status.{Status}
 use Rattle.flume_cli.specs.declared.status.Status.TheVariants as status
 use Rattle.flume_cli.specs.declared.report.Report.{Report}
 use Rattle.flume_cli.specs.declared.outcome.Outcome.{Outcome}
-use Rattle.flume_cli.specs.Words.{cat_path_of, command_by, Cat, Nothing}
+use Rattle.flume_cli.specs.Words.{cat_path_of, command_by}
 use Rattle.flume_cli.specs.Status.{Causes, status_of, line_of}
 use Rattle.flume_cli.specs.Cat.{cat_work, deed_of, and_one, RunsCat}
-use Rattle.flume_cli.specs.Headline.{Call, Headline, HasStatus, Does, Tells, IsText, IsCutTail, SaysTail, IsIdle, IsToldLine, is_tellable}
+use Rattle.flume_cli.specs.Headline.{Call, Headline, Does, IsText, SaysTail, IsToldLine, is_tellable}
 use Rattle.flume_cli.specs.Call.{call_of}
 use Rattle.flume_cli.specs.Finish.{Finishes, PrintsTail, Prints, status_by}
-use Rattle.flume_cli.proofs.CatWork.{true_false, some_end}
+use Rattle.flume_cli.proofs.CatWork.{true_false}
 
 rose : (a b : ℕ) → b ≡ a + 1 → nat_lt a b ≡ true
 rose a b e = grind (arith, nat_tests)
@@ -102,7 +101,7 @@ module _ (words : List (List ℕ)) (path : List ℕ) (src : SourceTold) (dold dn
       ⊎_elim
       (λ (x : IsUnmade (deed_of dold dnew runs.frames runs.rest o)). absurd (not_both o.memory x.memory f))
       (λ (x : Ran (cat_work path) (deed_of dold dnew runs.frames runs.rest o)).
-        tellable_ends o.ends x.ends.named (⊎_elim (λ t. absurd (not_both o.memory (remembered t) f)) (λ e. e) (choice (any (λ (e : EndOf). is_memory e.how) o.ends))))
+      tellable_ends o.ends x.ends.named (⊎_elim (λ t. absurd (not_both o.memory (remembered t) f)) (λ e. e) (choice (any (λ (e : EndOf). is_memory e.how) o.ends))))
       runs.performs.ran
 
   -- the headline, from the parts that differ by how the call was told
@@ -214,9 +213,9 @@ module _ (words : List (List ℕ)) (path : List ℕ) (src : SourceTold) (dold dn
       ⊎_elim
       (λ t. let q = p.failed t in subst (λ x. Headline (told x)) (sym q.0) (tells_failed t q.1 (subst (λ x. IsToldLine eold enew (line_of x)) q.0 line)))
       (λ f. ⊎_elim
-        (λ t. let q = p.memory f t in subst (λ x. Headline (told x)) (sym q.0) (tells_memory f q.1 (subst (λ x. IsToldLine eold enew (line_of x)) q.0 line)))
-        (λ g. tells_printed s f g (p.printed f g) line)
-        (choice o.memory))
+      (λ t. let q = p.memory f t in subst (λ x. Headline (told x)) (sym q.0) (tells_memory f q.1 (subst (λ x. IsToldLine eold enew (line_of x)) q.0 line)))
+      (λ g. tells_printed s f g (p.printed f g) line)
+      (choice o.memory))
       (choice o.sink_failed)
 
   -- cat was run and told

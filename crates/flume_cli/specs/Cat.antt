@@ -13,7 +13,6 @@ use Rattle.device_port.specs.Device.{Place, DeviceTold}
 use Rattle.device_port.specs.Depot.{DepotTold, IsUnknown, KeepsOtherFiles}
 use Rattle.device_port.specs.Sink.{SinkTold, with_bytes}
 use Rattle.pull_nodes.specs.Runs.{OrLeft, Reads, Opens}
-use Rattle.run_rules.specs.declared.end.EndOf.{EndOf}
 use Rattle.run_rules.specs.Facts.{is_halted}
 use Rattle.run_rules.specs.Work.{Work, Deed}
 use Rattle.run_rules.specs.Run.{Performs}

@@ -1,5 +1,5 @@
 -- What copying a device to a sink does to both.
-use Rattle.std.specs.Prelude.{◌≡◌, ℕ, ◌+◌, ◌<◌, ◌≤◌, ◌^◌, List, [], length, take, drop, IfSome}
+use Rattle.std.specs.Prelude.{◌≡◌, ℕ, ◌+◌, ◌<◌, ◌≤◌, ◌^◌, List, length, take, drop, IfSome}
 use Rattle.chunk_core.specs.Lists.{Each}
 use Rattle.chunk_core.specs.Texts.{Frame, frame_text, frames_text, payloads_of}
 use Rattle.chunk_core.specs.declared.code.Code.TheVariants as code

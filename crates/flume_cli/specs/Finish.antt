@@ -1,5 +1,5 @@
 -- How a run is told.
-use Rattle.std.specs.Prelude.{◌≡◌, ◌⊎◌, Bool, true, false, if◌then◌else◌, List}
+use Rattle.std.specs.Prelude.{◌≡◌, true, false, if◌then◌else◌, List}
 use Rattle.std.specs.List.{list_any as any}
 use Rattle.res_ledger.specs.declared.event.Event.{Event}
 use Rattle.device_port.specs.Sink.{SinkTold, with_bytes, BreaksOff}

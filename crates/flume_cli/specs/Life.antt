@@ -1,5 +1,5 @@
 -- The life of the device of row 0, on a seat of stream 0 with room for three events.
-use Rattle.std.specs.Prelude.{◌≡◌, ◌⊎◌, ℕ, ◌+◌, ◌<◌, Bool, true, false, List, []}
+use Rattle.std.specs.Prelude.{◌≡◌, ◌⊎◌, ℕ, ◌+◌, ◌<◌, Bool, true, false}
 use Rattle.chunk_core.specs.declared.code.Code.TheVariants as code
 use Rattle.chunk_core.specs.declared.code.How.{How}
 use Rattle.chunk_core.specs.declared.code.How.TheVariants as how
@@ -8,7 +8,7 @@ use Rattle.res_ledger.specs.declared.event.What.{What}
 use Rattle.res_ledger.specs.declared.event.What.TheVariants.{Acquire, Close, Final}
 use Rattle.res_ledger.specs.declared.event.Event.{Event}
 use Rattle.device_port.specs.declared.device.Mode.TheVariants as mode
-use Rattle.device_port.specs.Device.{DeviceTold, faults_of, shut}
+use Rattle.device_port.specs.Device.{DeviceTold, shut}
 use Rattle.device_port.specs.Sink.{SinkTold}
 use Rattle.row_seat.specs.declared.view.View.{View}
 use Rattle.row_seat.specs.Views.{noted, placed, handed_over, took, shut as shut_row}

@@ -1,5 +1,5 @@
 -- What the words of a command line mean.
-use Rattle.std.specs.Prelude.{ℕ, Bool, true, false, ◌&&◌, not, nat_eq, nat_le, if◌then◌else◌, List, [], ◌∷◌, length, Option, Some, None, codes}
+use Rattle.std.specs.Prelude.{ℕ, Bool, false, ◌&&◌, not, nat_eq, nat_le, if◌then◌else◌, List, [], ◌∷◌, length, Option, Some, None, codes}
 use Rattle.std.specs.Str.{bytes_eq}
 
 abbrev pub is_cat : List ℕ → Bool

@@ -13,8 +13,8 @@ pub mod top;
 pub mod words;
 
 pub use cat::run_cat;
-pub use top::flume;
 pub use frame::put_frame;
 pub use outcome::Outcome;
 pub use report::Report;
 pub use status::Status;
+pub use top::flume;

@@ -49,7 +49,12 @@ where
             let status = print_tail(alloc, &outcome, out);
             finish(status, outcome.ends, outcome.ledger, err)
         }
-        None => finish(Status::BadWords, List::new(alloc), Ledger::empty(alloc), err),
+        None => finish(
+            Status::BadWords,
+            List::new(alloc),
+            Ledger::empty(alloc),
+            err,
+        ),
     }
 }
 

@@ -1,9 +1,9 @@
 -- A deed of which more is known to have failed.
-use Rattle.std.proofs.Common.{◌≡◌, Bool, true, false, List, [], ◌∷◌, ◌⊎◌, inl, inr, refl, sym, ◌∙◌, subst, ⊎_elim}
+use Rattle.std.proofs.Common.{◌≡◌, Bool, true, false, List, [], ◌∷◌, inl, inr, refl, sym, ⊎_elim}
 use Rattle.chunk_core.specs.Lists.{Each}
 use Rattle.run_rules.specs.declared.end.EndOf.{EndOf}
 use Rattle.run_rules.specs.Work.{Work, Deed}
-use Rattle.run_rules.specs.Run.{IsCaused, HasCauseToHalt, HaveOutputs, HaveEnds, NothingFailed, IsWhole, Ran, IsUnmade, Performs}
+use Rattle.run_rules.specs.Run.{IsCaused, HasCauseToHalt, Ran, IsUnmade, Performs}
 
 -- the same deed, with other words on what failed
 abbrev pub with_failures : Deed → Bool → Bool → Deed

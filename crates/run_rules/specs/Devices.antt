@@ -1,5 +1,5 @@
 -- The devices that a run made.
-use Rattle.std.specs.Prelude.{◌≡◌, ℕ, ◌+◌, ◌<◌, Bool, true, false, ◌&&◌, nat_eq, nat_lt, List, [], ◌∷◌, ◌++◌, map, length, drop, filter, count_by, flat_map, Option, Some, None}
+use Rattle.std.specs.Prelude.{◌≡◌, ℕ, ◌+◌, ◌<◌, false, ◌&&◌, nat_eq, nat_lt, List, [], ◌∷◌, ◌++◌, map, length, drop, filter, count_by, flat_map, Option, Some, None}
 use Rattle.chunk_core.specs.Lists.{Each, One}
 use Rattle.res_ledger.specs.declared.event.Event.{Event}
 use Rattle.device_port.specs.declared.device.Mode.TheVariants as mode

@@ -13,4 +13,4 @@ returns-in-Err g c =
     let u = c.unmade.ensures in
     let is = outcome_is c.unmade.result _ _ _ _ u.ends u.ledger u.sink u.memory in
     subst (λ o. RunsCat c.args.path.now (g.D.Depot.told c.args.depot.now) (g.D.Depot.told c.make.new.self) (g.K.Sink.told c.args.out.now) (g.K.Sink.told c.args.out.now) o) (sym is)
-      (cat_makes_nothing c.args.path.now (g.D.Depot.told c.args.depot.now) (g.D.Depot.told c.make.new.self) (g.K.Sink.told c.args.out.now) (g.K.Sink.told c.args.out.now) c.in-Err.ensures.unmade refl)
+    (cat_makes_nothing c.args.path.now (g.D.Depot.told c.args.depot.now) (g.D.Depot.told c.make.new.self) (g.K.Sink.told c.args.out.now) (g.K.Sink.told c.args.out.now) c.in-Err.ensures.unmade refl)

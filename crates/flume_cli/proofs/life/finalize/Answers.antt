@@ -1,6 +1,5 @@
 -- The row is closed, handed over, taken and finalized.
-use Rattle.std.proofs.Common.{◌≡◌, ◌<◌, true, ap, ◌∙◌, sym, subst}
-use Rattle.row_seat.specs.Views.{took, noted}
+use Rattle.std.proofs.Common.{◌≡◌, true, sym, subst}
 use Rattle.flume_cli.proofs.Living.{may_close, may_shut, closes_yours, may_take, taken_is, may_finalize, rising_first, rising_second, finalized_is, closed_held}
 use Rattle.flume_cli.proofs.life.finalize.Goals as goal
 
