@@ -24,7 +24,7 @@ use Rattle.scope_tree.specs.Torn.Torn.{done, stays, ends_so}
 use Rattle.scope_tree.proofs.Taking.{keep_row, lose_row}
 use Rattle.scope_tree.proofs.Bridge.{own_snoc}
 
-covers_more : (L : List Event) (e : Event) (j : ℕ) (k : StreamNo) (r : ℕ) → Covers L j k r → Covers (L ++ e ∷ []) j k r
+pub covers_more : (L : List Event) (e : Event) (j : ℕ) (k : StreamNo) (r : ℕ) → Covers L j k r → Covers (L ++ e ∷ []) j k r
 covers_more L e j k r c = (c.0, c.1 ++ e ∷ [], c.2, c.3, ap (λ l. l ++ e ∷ []) c.4 ∙ append_assoc c.0 (c.2 ∷ c.1) (e ∷ []), c.5, c.6, c.7)
 
 pub one_more : (A B F G : List What) (w : What) → G ≡ B ++ F → B ≡ A ++ w ∷ [] → G ≡ A ++ w ∷ F

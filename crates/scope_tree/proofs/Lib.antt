@@ -19,3 +19,5 @@ pub mod Leasing
 pub mod Parting
 pub mod Statuses
 pub mod Leased
+pub mod Chain
+pub mod Tidy

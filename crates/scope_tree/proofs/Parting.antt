@@ -102,12 +102,16 @@ module _ {P : Type 0} where
       let t = first_said r (said xs) m in let f = flat_found ends_of (words v) (r, t.0) (subst (λ l. IsAmong (r, t.0) l) (sym s.said_are) t.1) in
       (t.0, own_notes v.events v.by (Final r t.0) (subst (λ w. IsAmong w (words v)) (ends_shape f.0 (r, t.0) f.2) f.1))
 
+  -- a seat that is taken in notes nothing in the name of the main one
+  pub join_words : (v w : View P) → AreApart v w → words (joined v w) ≡ words v
+  join_words v w a = own_append v.by v.events w.events ∙ ap (λ l. words v ++ l) (own_none v.by w.events a.events) ∙ append-nil (words v)
+
 module _ {P : Type 0} (v w : View P) (bs : List Branch) (hs : List Held) (xs : List (Spent P)) (k : Kept v bs hs) (s : Shelved v hs xs) (a : AreApart v w) (rest : AtRest w) where
-  join_words : words (joined v w) ≡ words v
-  join_words = own_append v.by v.events w.events ∙ ap (λ l. words v ++ l) (own_none v.by w.events a.events) ∙ append-nil (words v)
+  same_words : words (joined v w) ≡ words v
+  same_words = join_words v w a
 
   down : (u : What) → Notes (v.events ++ w.events) v.by u → Notes v.events v.by u
-  down u n = own_notes v.events v.by u (subst (λ l. IsAmong u l) join_words (notes_own (v.events ++ w.events) v.by u n))
+  down u n = own_notes v.events v.by u (subst (λ l. IsAmong u l) same_words (notes_own (v.events ++ w.events) v.by u n))
 
   up : (u : What) → Notes v.events v.by u → Notes (v.events ++ w.events) v.by u
   up u n = (n.0, among_left w.events n.1, n.2, n.3)
@@ -121,10 +125,10 @@ module _ {P : Type 0} (v w : View P) (bs : List Branch) (hs : List Held) (xs : L
   pub join_keeps : Kept (joined v w) bs hs
   join_keeps = record {
     size = k.size;
-    opens = ap opens join_words ∙ k.opens;
-    shut = λ c d l. k.shut c d l ∙ ap (λ E. has c (closes E)) (sym join_words);
-    ended = λ c m. k.ended c (subst (λ E. IsAmong c (closes E)) join_words m);
-    rows = ap rows join_words ∙ k.rows;
+    opens = ap opens same_words ∙ k.opens;
+    shut = λ c d l. k.shut c d l ∙ ap (λ E. has c (closes E)) (sym same_words);
+    ended = λ c m. k.ended c (subst (λ E. IsAmong c (closes E)) same_words m);
+    rows = ap rows same_words ∙ k.rows;
     parents = k.parents;
     distinct = k.distinct;
     live = λ r t m n. k.live r t m (λ c. n (closed_map v.events (v.events ++ w.events) v.by up t c));
@@ -139,12 +143,12 @@ module _ {P : Type 0} (v w : View P) (bs : List Branch) (hs : List Held) (xs : L
         (λ i. k.empty r i (⊎_elim (λ y. y) (λ y. a.kept r i y) (acquired r x)))
         (λ i. rest.1 r i (⊎_elim (λ y. a.taken r i y) (λ y. y) (acquired r x)))
         (among_append r v.empty w.empty m);
-    spare = let e : open_scopes (words (joined v w)) ≡ open_scopes (words v) = ap (λ E. open_of E (0 ∷ numbers (opens E))) join_words in let o = k.spare in omega (e, o, arith);
+    spare = let e : open_scopes (words (joined v w)) ≡ open_scopes (words v) = ap (λ E. open_of E (0 ∷ numbers (opens E))) same_words in let o = k.spare in omega (e, o, arith);
   }
 
   pub join_shelved : Shelved (joined v w) hs xs
   join_shelved = record {
-    said_are = ap ended_rows join_words ∙ s.said_are;
+    said_are = ap ended_rows same_words ∙ s.said_are;
     distinct = s.distinct;
     opened = s.opened;
     pairs = s.pairs;

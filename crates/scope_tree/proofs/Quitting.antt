@@ -5,7 +5,8 @@ use Rattle.res_ledger.specs.declared.event.What.TheVariants.{Final}
 use Rattle.res_ledger.specs.declared.event.Event.{Event}
 use Rattle.row_seat.specs.declared.view.View.{View}
 use Rattle.chunk_core.specs.Lists.{IsAmong}
-use Rattle.res_ledger.specs.Ledger.{Notes}
+use Rattle.res_ledger.specs.Ledger.{Covers, Notes}
+use Rattle.res_ledger.proofs.Ledgers.{covers_more}
 use Rattle.res_ledger.specs.declared.event.StreamNo.{StreamNo}
 use Rattle.res_ledger.specs.declared.event.What.{What}
 use Rattle.res_ledger.specs.Own.{own}
@@ -185,3 +186,8 @@ module _ {P : Type 0} where
     quits_picks (done v) = none
     quits_picks (stays v r t) = pass r tt (quits_picks t)
     quits_picks (ends_so v p n x a e f t) = pick x.row (quits_picks t)
+
+    pub quits_covers : {T : List ℕ} {v w : View P} {xs : List (Spent P)} (i : ℕ) (k : StreamNo) (r : ℕ) → Quits ends j T v xs w → Covers v.events i k r → Covers w.events i k r
+    quits_covers i k r (done v) c = c
+    quits_covers i k r (stays v q t) c = quits_covers i k r t c
+    quits_covers i k r (ends_so v p n x a e f t) c = quits_covers i k r t (covers_more v.events (record { stamp = n; by = v.by; what = Final x.row x.ok }) c)

@@ -20,8 +20,8 @@ use Rattle.scope_tree.specs.Walks.FirstOpen.{this_one, above_it}
 use Rattle.scope_tree.specs.Torn.{said}
 use Rattle.scope_tree.specs.Rows.{lifo}
 use Rattle.scope_tree.proofs.Quitting.{quits_by, quits_words, quits_picks}
-use Rattle.scope_tree.specs.Calls.{Seen, Opens, Acquires, Closes, Cancels}
-use Rattle.scope_tree.specs.Words.{words, canceling, opening, acquiring, closing}
+use Rattle.scope_tree.specs.Calls.{Seen, Opens, Acquires, Closes, Cancels, Leases}
+use Rattle.scope_tree.specs.Words.{words, canceling, opening, acquiring, closing, leasing}
 use Rattle.scope_tree.proofs.Bridge.{own_snoc, noted_in, in_noted, closes_in, in_opens}
 use Rattle.scope_tree.proofs.Facts.{torn_words, torn_picks}
 use Rattle.scope_tree.proofs.Taking.{torn_by}
@@ -58,6 +58,9 @@ module _ {P : Type 0} where
 
   pub acquired_said : {a b : Seen P} {s r : ℕ} {p : P} → Acquires a s r p b → words b.seat ≡ words a.seat ++ Acquire r s ∷ []
   acquired_said {a = a} {s = s} {r = r} o = ap words o.seat ∙ own_snoc a.seat.by a.seat.events (acquiring a.seat r s o.stamp) refl
+
+  pub leased_said : {a b : Seen P} {s j : ℕ} {T : List ℕ} (o : Leases a s j T b) → words b.seat ≡ words a.seat ++ Lease j s ∷ []
+  leased_said {a = a} {s = s} {j = j} o = ap words o.seat ∙ own_snoc a.seat.by a.seat.events (leasing a.seat j s o.stamp) refl
 
   pub closed_said : {ends : P → Bool → P → Type 0} {a b : Seen P} {s : ℕ} (c : Closes ends a s b) → words b.seat ≡ words a.seat ++ Close s ∷ finals (said c.torn.0)
   closed_said {a = a} {b = b} {s = s} c = ap (λ k. own k b.seat.events) (torn_by c.torn.2) ∙ torn_words a.seat.by c.torn.2 refl ∙ ap (λ l. l ++ finals (said c.torn.0)) (own_snoc a.seat.by a.seat.events (closing a.seat s c.stamp) refl) ∙ append_assoc (words a.seat) (Close s ∷ []) (finals (said c.torn.0))

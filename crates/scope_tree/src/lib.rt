@@ -12,6 +12,8 @@ pub mod room;
 mod rows;
 mod tear;
 pub mod tree;
+#[cfg(test)]
+mod uses;
 mod walk;
 
 pub use branch::{Finish, Spent, Standing};

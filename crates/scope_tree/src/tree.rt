@@ -1,17 +1,19 @@
 //! Scopes in a tree, each with the rows that were acquired in it.
-ghost use Rattle.std.specs.Prelude.{◌≡◌, ◌≢◌, ℕ, ◌+◌, ◌<◌, ◌≤◌, ◌↔◌, length, [], true, IfOk, IfErr};
+ghost use Rattle.std.specs.Prelude.{◌≡◌, ◌≢◌, ℕ, ◌+◌, ◌<◌, ◌≤◌, ◌↔◌, length, [], true, false, IfOk, IfErr};
 ghost use Rattle.std.specs.Borrow.{Lends, sem};
 ghost use Rattle.chunk_core.specs.Lists.{IsAmong};
 ghost use Rattle.res_ledger.specs.Ledger.{IsAcquired, IsLeased};
 ghost use Rattle.res_ledger.specs.Order.{firsts};
 ghost use Rattle.res_ledger.specs.Own.{leased_rows, opens, reaches};
+ghost use Rattle.res_ledger.proofs.Orders.{Rises};
+ghost use Rattle.res_ledger.specs.Streams.{by_stream};
 ghost use Rattle.res_ledger.specs.declared.event.StreamNo.TheVariants.{Inner};
 ghost use Rattle.res_ledger.specs.declared.event.What.TheVariants.{Cancel};
 ghost use Rattle.row_seat.specs.Views.{CanJoin, CanSplit, HasRow, MayNote, OthersFit, joined, split_main, split_off};
 ghost use Rattle.scope_tree.specs.Rows.{lifo, strangers};
 ghost use Rattle.scope_tree.specs.Torn.{said};
 ghost use Rattle.scope_tree.specs.Leaving.{away};
-ghost use Rattle.scope_tree.specs.Words.{owed, own_rows, words};
+ghost use Rattle.scope_tree.specs.Words.{ended_rows, owed, own_rows, words};
 ghost use Rattle.scope_tree.specs.Calls.{Acquires, AtStart, Cancels, Closes, IsClosedScope, IsOpenScope, Leases, Opens, WasOpened, used};
 ghost use Rattle.scope_tree.specs.Standings.{standing};
 ghost use Rattle.scope_tree.specs.Trees.{Fits, IsSound, seen};
@@ -274,12 +276,16 @@ where
         }
     }
 
-    /// The seat and the rows that ended, in the order of their ends, once all scopes are closed.
+    /// The seat and the rows that ended, in the order of their ends, once all scopes are closed. Where
+    /// no other stream can hold a row back, these are all that were acquired.
     pub fn end(self) -> (S, List<Spent<S::Pay>>)
         requires tree { IsSound S.view self }
         requires closed { IsClosedScope (seen S.view self) 0 }
         ensures seat { result.0 ≡ self.seat }
         ensures shelf { result.1 ≡ (seen S.view self).shelf }
+        ensures finals { ended_rows (words (S.view result.0)) ≡ said result.1 }
+        ensures ended { (S.view result.0).main ≡ false → (r : ℕ) → IsAmong r (own_rows (S.view result.0)) → IsAmong r (firsts (said result.1)) }
+        ensures rising { Rises (by_stream (S.view result.0).by (S.view result.0).events) }
         ensures rest { ((S.view result.0).opened ≡ []) × ((S.view result.0).handed ≡ []) × ((S.view result.0).taken ≡ []) × ((r : ℕ) → IsAmong r (S.view result.0).empty → ¬ (IsAcquired (S.view result.0).events r)) }
     {
         let Tree {

@@ -1,0 +1,64 @@
+-- What the calls say one after the other.
+use Rattle.std.proofs.Common.{◌≡◌, ◌≢◌, ℕ, ◌+◌, Bool, List, [], ◌∷◌, ◌++◌, ◌⊎◌, length, inl, inr, refl, sym, ap, ◌∙◌, subst, ⊎_elim}
+use Rattle.res_ledger.specs.declared.event.What.{What}
+use Rattle.res_ledger.specs.declared.event.What.TheVariants.{Open, Acquire, Close, Final}
+use Rattle.row_seat.specs.declared.view.View.{View}
+use Rattle.chunk_core.specs.Lists.{IsAmong}
+use Rattle.res_ledger.specs.Ledger.{IsClosed, IsUsable}
+use Rattle.chunk_core.specs.Lists.IsAmong.{here, there}
+use Rattle.res_ledger.specs.Ledger.LiesWithin.{same}
+use Rattle.chunk_core.proofs.Members.{among_left, among_mid}
+use Rattle.row_seat.proofs.Members.{among_kept}
+use Rattle.row_seat.specs.Views.{without}
+use Rattle.res_ledger.specs.Own.{own, opens, closes, teardown}
+use Rattle.res_ledger.specs.Order.{firsts, finals}
+use Rattle.scope_tree.specs.declared.branch.Spent.{Spent}
+use Rattle.scope_tree.specs.Torn.{said}
+use Rattle.scope_tree.specs.Calls.{Seen, AtStart, Opens, Acquires, Closes}
+use Rattle.scope_tree.specs.Words.{words}
+use Rattle.scope_tree.proofs.Bridge.{in_noted}
+use Rattle.scope_tree.proofs.Use.{opened_said, acquired_said, closed_said, closed_picks, closed_by, all_picked, no_cover, all_open, first_is, leases}
+
+abbrev pub Four : List What
+Four = Open 1 0 ∷ Acquire 0 0 ∷ Acquire 1 1 ∷ Close 0 ∷ []
+
+abbrev pub Three : List What
+Three = Open 1 0 ∷ Acquire 0 0 ∷ Acquire 1 1 ∷ []
+
+leases_finals : (fs : List (ℕ × Bool)) → leases (finals fs) ≡ []
+leases_finals [] = refl
+leases_finals (f ∷ fs) = leases_finals fs
+
+module _ {P : Type 0} where
+  pub start_said : (v w : View P) → AtStart v → w ≡ v → words w ≡ []
+  start_said v w a e = ap words e ∙ ap (own v.by) a.events
+
+  pub open_number : {a b : Seen P} {c : ℕ} → words a.seat ≡ [] → Opens a 0 c b → c ≡ 1
+  open_number w o = o.number ∙ ap (λ E. length (opens E) + 1) w
+
+  pub open_one : {a b : Seen P} {c : ℕ} → words a.seat ≡ [] → Opens a 0 c b → words b.seat ≡ Open 1 0 ∷ []
+  open_one {a = a} {c = c} w o = opened_said o ∙ ap (λ E. E ++ Open c o.parent ∷ []) w ∙ ap (λ n. Open c n ∷ []) (first_is (all_open a.seat 0 (ap closes w) (inl refl)).1 o.nearest) ∙ ap (λ n. Open n 0 ∷ []) (open_number w o)
+
+  pub acquire_more : {a b : Seen P} {s r : ℕ} {p : P} {E : List What} → words a.seat ≡ E → Acquires a s r p b → words b.seat ≡ E ++ Acquire r s ∷ []
+  acquire_more {s = s} {r = r} w o = acquired_said o ∙ ap (λ E. E ++ Acquire r s ∷ []) w
+
+  pub close_four : {ends : P → Bool → P → Type 0} {a b : Seen P} → words a.seat ≡ Three → (c : Closes ends a 0 b) → words b.seat ≡ Four ++ finals (said c.torn.0)
+  close_four w c = closed_said c ∙ ap (λ E. E ++ Close 0 ∷ finals (said c.torn.0)) w
+
+  pub close_rows : {ends : P → Bool → P → Type 0} {a b : Seen P} → words a.seat ≡ Three → (c : Closes ends a 0 b) → firsts (said c.torn.0) ≡ 1 ∷ 0 ∷ []
+  close_rows {a = a} {b = b} w c =
+      all_picked (λ r m. no_cover b.seat a.seat.by m.0 r (closed_by c) (ap leases (close_four w c) ∙ leases_finals (said c.torn.0)) m.1) (closed_picks c) ∙ ap (λ E. teardown E 0) w
+
+  pub root_closed : {ends : P → Bool → P → Type 0} {a b : Seen P} → words a.seat ≡ Three → Closes ends a 0 b → IsClosed b.seat.events b.seat.by 0
+  root_closed {b = b} w c = (0, same 0, in_noted b.seat.by (Close 0) b.seat.events (subst (λ E. IsAmong (Close 0) E) (sym (close_four w c)) (among_mid Three (finals (said c.torn.0)) (Close 0))))
+
+  -- two rows that ended are two things on the shelf
+  pub two_of : (xs : List (Spent P)) → firsts (said xs) ≡ 1 ∷ 0 ∷ [] → (x y : Spent P) × (xs ≡ x ∷ y ∷ []) × (x.row ≡ 1) × (y.row ≡ 0)
+  two_of [] e = absurd (let f : [] ≡ 1 ∷ 0 ∷ [] = e in cc)
+  two_of (x ∷ []) e = absurd (let f : x.row ∷ [] ≡ 1 ∷ 0 ∷ [] = e in cc)
+  two_of (x ∷ y ∷ []) e = (x, y, refl, let f : x.row ∷ y.row ∷ [] ≡ 1 ∷ 0 ∷ [] = e in cc, let f : x.row ∷ y.row ∷ [] ≡ 1 ∷ 0 ∷ [] = e in cc)
+  two_of (x ∷ y ∷ z ∷ xs) e = absurd (let f : x.row ∷ y.row ∷ z.row ∷ firsts (said xs) ≡ 1 ∷ 0 ∷ [] = e in cc)
+
+  -- a row that may be placed still may, after another was
+  pub still_empty : {a b d : Seen P} {c q r : ℕ} {p : P} → IsAmong q a.seat.empty → q ≢ r → Opens a 0 c b → Acquires b 0 r p d → IsAmong q d.seat.empty
+  still_empty {a = a} {q = q} {r = r} m ne o s = subst (λ l. IsAmong q l) (sym (ap (λ v. v.empty) s.seat ∙ ap (λ l. without r l) (ap (λ v. v.empty) o.seat))) (among_kept r a.seat.empty q m ne)
