@@ -21,3 +21,4 @@ pub mod Statuses
 pub mod Leased
 pub mod Chain
 pub mod Tidy
+pub mod Scripts

@@ -1,7 +1,11 @@
 //! Callers that see public clauses alone.
-ghost use Rattle.std.specs.Prelude.{ℕ, ◌≤◌};
+ghost use Rattle.std.specs.Prelude.{◌≡◌, ℕ, ◌≤◌};
 ghost use Rattle.chunk_core.specs.Lists.{IsAmong};
 ghost use Rattle.scope_tree.specs.Calls.{AtStart};
+ghost use Rattle.res_ledger.specs.declared.event.StreamNo.TheVariants.{Outer};
+ghost use Rattle.row_seat.specs.Views.{start};
+ghost use Rattle.scope_tree.specs.Scripts.{IsThree};
+ghost use Rattle.scope_tree.specs.Trees.{Fits, seen};
 ghost use Rattle.scope_tree.specs.Uses.{IsTwo};
 
 use crate::branch::{Finish, Spent};
@@ -34,4 +38,30 @@ where
     tree.acquired(desk, child, 1, second);
     tree.close(desk, 0);
     tree.end()
+}
+
+/// Three rows in three scopes, each below the other.
+pub fn three_rows<S: RowSeat>(
+    seat: S,
+    room: Room<S::Pay>,
+    desk: &mut S::Desk,
+    first: S::Pay,
+    second: S::Pay,
+    third: S::Pay,
+) -> Tree<S>
+where
+    S::Pay: Finish,
+    requires fits { S.fits seat desk.old }
+    requires start { S.view seat ≡ start Outer 3 16 }
+    requires room { (room.scopes ≡ 3) × (room.rows ≡ 3) }
+    ensures three { IsThree (seen S.view result) first second third }
+    ensures fits { Fits S.view S.fits result desk.new }
+{
+    let mut tree = Tree::new(seat, room);
+    tree.acquired(desk, 0, 0, first);
+    tree.open(desk, 0);
+    tree.acquired(desk, 1, 1, second);
+    tree.open(desk, 1);
+    tree.acquired(desk, 2, 2, third);
+    tree
 }
