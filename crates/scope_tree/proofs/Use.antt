@@ -1,5 +1,6 @@
 -- What callers read off the clauses of a tree.
 use Rattle.std.proofs.Common.{flat_map, ◌≡◌, ℕ, ◌⊎◌, Bool, List, [], ◌∷◌, ◌++◌, inl, inr, refl, sym, ap, ◌∙◌, subst, ⊎_elim, append_assoc}
+use Rattle.res_ledger.specs.Ledger.LiesWithin.{same}
 use Rattle.res_ledger.specs.declared.event.StreamNo.{StreamNo}
 use Rattle.res_ledger.specs.declared.event.What.{What}
 use Rattle.res_ledger.specs.declared.event.What.TheVariants.{Open, Acquire, Lease, Cancel, Close}
@@ -92,3 +93,8 @@ module _ {P : Type 0} where
 pub first_is : {L : List Event} {k : StreamNo} {c q : ℕ} → ¬ (IsClosed L k c) → FirstOpen L k c q → q ≡ c
 first_is n (this_one c m) = refl
 first_is n (above_it c p q x o f) = absurd (n x)
+
+-- a scope that was just closed is closed
+pub closed_now : {P : Type 0} {ends : P → Bool → P → Type 0} {a b : Seen P} {s : ℕ} → Closes ends a s b → IsClosed b.seat.events b.seat.by s
+closed_now {a = a} {b = b} {s = s} c =
+    (s, same s, in_noted b.seat.by (Close s) b.seat.events (subst (λ E. IsAmong (Close s) E) (sym (closed_said c)) (among_mid (words a.seat) (finals (said c.torn.0)) (Close s))))

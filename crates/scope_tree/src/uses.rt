@@ -8,11 +8,13 @@ ghost use Rattle.scope_tree.specs.Scripts.{IsThree};
 ghost use Rattle.scope_tree.specs.Trees.{Fits, seen};
 ghost use Rattle.scope_tree.specs.Uses.{IsTwo};
 
-use crate::branch::{Finish, Spent};
+use crate::branch::{Finish, Spent, Standing};
 use crate::room::Room;
 use crate::tree::Tree;
 use chunk_core::List;
-use row_seat::RowSeat;
+use res_ledger::StreamNo;
+use row_seat::{PlainSeat, RowSeat};
+use std::test::Fail;
 
 /// Two rows in two scopes, and the root is closed.
 pub fn two<S: RowSeat>(
@@ -64,4 +66,34 @@ where
     tree.open(desk, 1);
     tree.acquired(desk, 2, 2, third);
     tree
+}
+
+/// A payload whose finalizer succeeds where it says so.
+#[derive(Drop, Clone, Copy)]
+struct Coin {
+    good: bool,
+}
+
+impl Finish for Coin {
+    ghost use Rattle.std.specs.Prelude.{◌≡◌};
+
+    ghost ends = { λ p ok q. (ok ≡ p.good) × (q ≡ p) };
+
+    fn finish(&mut self) -> bool {
+        self.good
+    }
+}
+
+#[test]
+fn closes_the_root_of_a_plain_seat(rt: HostRuntime) -> Result<(), Fail> {
+    let (seat, mut desk) = PlainSeat::<Coin>::new(rt.alloc(), StreamNo::Outer, 3, 16)?;
+    let room = Room::new(rt.alloc(), 3, 3)?;
+    let good = Coin { good: true };
+    let mut tree = three_rows(seat, room, &mut desk, good, Coin { good: false }, good);
+    tree.close(&mut desk, 0);
+    assert!(rt; tree.status(2) == Standing::Final(true));
+    assert!(rt; tree.status(1) == Standing::Final(false));
+    let (_, shelf) = tree.end();
+    assert_eq!(rt; shelf.len(), 3);
+    Ok(())
 }
