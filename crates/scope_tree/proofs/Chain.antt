@@ -1,13 +1,12 @@
 -- What the calls say one after the other.
-use Rattle.std.proofs.Common.{◌≡◌, ◌≢◌, ℕ, ◌+◌, Bool, List, [], ◌∷◌, ◌++◌, ◌⊎◌, length, inl, inr, refl, sym, ap, ◌∙◌, subst, ⊎_elim}
+use Rattle.std.proofs.Common.{◌≡◌, ◌≢◌, ℕ, ◌+◌, Bool, List, [], ◌∷◌, ◌++◌, length, inl, refl, sym, ap, ◌∙◌, subst}
 use Rattle.res_ledger.specs.declared.event.What.{What}
-use Rattle.res_ledger.specs.declared.event.What.TheVariants.{Open, Acquire, Close, Final}
+use Rattle.res_ledger.specs.declared.event.What.TheVariants.{Open, Acquire, Close}
 use Rattle.row_seat.specs.declared.view.View.{View}
 use Rattle.chunk_core.specs.Lists.{IsAmong}
-use Rattle.res_ledger.specs.Ledger.{IsClosed, IsUsable}
-use Rattle.chunk_core.specs.Lists.IsAmong.{here, there}
+use Rattle.res_ledger.specs.Ledger.{IsClosed}
 use Rattle.res_ledger.specs.Ledger.LiesWithin.{same}
-use Rattle.chunk_core.proofs.Members.{among_left, among_mid}
+use Rattle.chunk_core.proofs.Members.{among_mid}
 use Rattle.row_seat.proofs.Members.{among_kept}
 use Rattle.row_seat.specs.Views.{without}
 use Rattle.res_ledger.specs.Own.{own, opens, closes, teardown}

@@ -1,10 +1,10 @@
 -- Lists of distinct rows.
-use Rattle.std.proofs.Common.{◌≡◌, ◌≢◌, ℕ, ◌+◌, ◌≤◌, ◌⊎◌, suc, Bool, true, false, cond, not, filter, List, [], ◌∷◌, ◌++◌, map, length, inl, inr, refl, sym, ap, ◌∙◌, subst, ⊎_elim, arith, append_assoc, append-nil, length-append}
+use Rattle.std.proofs.Common.{◌≡◌, ℕ, ◌+◌, ◌≤◌, suc, Bool, true, false, cond, not, filter, List, [], ◌∷◌, ◌++◌, map, length, refl, sym, ap, ◌∙◌, subst, ⊎_elim, arith}
 use Rattle.chunk_core.specs.Lists.{IsAmong}
 use Rattle.chunk_core.specs.Lists.IsAmong.{here, there}
-use Rattle.chunk_core.proofs.Members.{among_nil, among_cons, among_left, among_last, among_snoc}
-use Rattle.chunk_core.proofs.Filters.{among_filter, filter_among}
-use Rattle.res_ledger.proofs.Noted.{has_in, in_has, among_either, among_right}
+use Rattle.chunk_core.proofs.Members.{among_nil, among_cons, among_snoc}
+use Rattle.chunk_core.proofs.Filters.{among_filter}
+use Rattle.res_ledger.proofs.Noted.{has_in, in_has}
 use Rattle.res_ledger.proofs.Tests.{and_true, both}
 use Rattle.res_ledger.specs.Order.{Picks, firsts}
 use Rattle.res_ledger.specs.Order.Picks.{none, pick, pass}

@@ -1,16 +1,14 @@
 -- What a lease keeps of a tree.
-use Rattle.std.proofs.Common.{◌≡◌, ◌≢◌, ℕ, ◌+◌, ◌-◌, ◌<◌, ◌≤◌, ◌⊎◌, ◌↔◌, suc, Bool, true, false, cond, take, List, [], ◌∷◌, ◌++◌, length, slice_index_or, inl, inr, refl, sym, ap, ◌∙◌, subst, ⊎_elim, arith, append-nil}
+use Rattle.std.proofs.Common.{◌≡◌, ◌≢◌, ℕ, ◌+◌, ◌<◌, ◌≤◌, suc, Bool, true, false, cond, take, List, [], ◌∷◌, ◌++◌, length, slice_index_or, inr, refl, sym, ap, ◌∙◌, subst, ⊎_elim, arith, append-nil}
 use Rattle.chunk_core.specs.Lists.{IsAmong}
 use Rattle.chunk_core.specs.Lists.IsAmong.{here, there}
 use Rattle.chunk_core.proofs.Filters.{among_append, among_right}
-use Rattle.chunk_core.proofs.Members.{among_nil, among_cons, among_left}
-use Rattle.res_ledger.specs.declared.event.Event.{Event}
+use Rattle.chunk_core.proofs.Members.{among_nil, among_cons}
 use Rattle.res_ledger.specs.declared.event.What.{What}
-use Rattle.res_ledger.specs.declared.event.What.TheVariants.{Open, Acquire, Lease, Cancel, Close, Final}
+use Rattle.res_ledger.specs.declared.event.What.TheVariants.{Open, Acquire, Lease, Close}
 use Rattle.res_ledger.specs.declared.event.StreamNo.TheVariants.{Inner}
-use Rattle.res_ledger.specs.Ledger.{IsClosed, IsCoveredBy, IsLeased, IsUsable, Notes}
-use Rattle.res_ledger.specs.Order.{firsts}
-use Rattle.res_ledger.specs.Own.{closes, has, leased_rows, opens, own, picked, reaches, rows}
+use Rattle.res_ledger.specs.Ledger.{IsClosed, IsLeased, IsUsable, Notes}
+use Rattle.res_ledger.specs.Own.{closes, has, leased_rows, opens, picked, reaches, rows}
 use Rattle.res_ledger.proofs.Growth.{noted_more, noted_new, noted_snoc}
 use Rattle.res_ledger.proofs.Ledgers.{closed_map}
 use Rattle.row_seat.specs.declared.view.View.{View}
@@ -21,14 +19,12 @@ use Rattle.scope_tree.specs.declared.branch.Spent.{Spent}
 use Rattle.scope_tree.specs.Kept.{Kept, Shelved, held_pairs, held_rows}
 use Rattle.scope_tree.specs.Leaving.{leased_all, pairs_for}
 use Rattle.scope_tree.specs.Rows.{AreDistinct}
-use Rattle.scope_tree.specs.Torn.{said}
 use Rattle.scope_tree.specs.Words.{leasing, numbers, open_of, open_scopes, owed, words}
 use Rattle.scope_tree.proofs.Bridge.{closes_append, noted_in, opens_append, own_snoc, rows_append, rows_in}
 use Rattle.scope_tree.proofs.Covered.{leased_is}
 use Rattle.scope_tree.proofs.Grows.{closed_same, pairs_snoc}
 use Rattle.scope_tree.proofs.Keeps.{noted_last, usable_scope, within_opens}
 use Rattle.scope_tree.proofs.Leasing.{among_pairs, pairs_among, take_next}
-use Rattle.scope_tree.proofs.Parts.{row_of_pair}
 use Rattle.scope_tree.proofs.Rooms.{open_taken}
 use Rattle.scope_tree.proofs.Shelf.{note_shelved}
 

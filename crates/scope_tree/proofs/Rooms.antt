@@ -1,8 +1,7 @@
 -- The room of a tree.
-use Rattle.std.proofs.Common.{◌≡◌, ◌≢◌, ℕ, ◌+◌, ◌≤◌, ◌⊎◌, suc, Bool, true, false, cond, not, filter, List, [], ◌∷◌, ◌++◌, length, inl, inr, refl, sym, ap, ◌∙◌, subst, ⊎_elim, arith, length-append}
+use Rattle.std.proofs.Common.{◌≡◌, ℕ, ◌+◌, ◌≤◌, suc, Bool, true, false, cond, not, filter, List, [], ◌∷◌, ◌++◌, length, refl, sym, ap, ◌∙◌, subst, ⊎_elim, arith, length-append}
 use Rattle.chunk_core.specs.Lists.{IsAmong}
 use Rattle.chunk_core.specs.Lists.IsAmong.{here, there}
-use Rattle.chunk_core.proofs.Members.{among_nil, among_cons, among_left}
 use Rattle.chunk_core.proofs.Filters.{among_append, among_filter}
 use Rattle.res_ledger.specs.declared.event.What.TheVariants.{Acquire}
 use Rattle.res_ledger.specs.Order.{firsts}
@@ -23,7 +22,7 @@ use Rattle.scope_tree.proofs.Distinct.{distinct_filter, kin, kin_among, kin_coun
 use Rattle.scope_tree.proofs.Facts.{fit_in}
 use Rattle.scope_tree.proofs.Grows.{length_pairs, pair_of_row}
 use Rattle.scope_tree.proofs.Parts.{distinct_append, numbers_held, row_of_pair}
-use Rattle.scope_tree.proofs.Quitting.{away_append, here_has}
+use Rattle.scope_tree.proofs.Quitting.{away_append}
 
 pub strangers_none : (own T : List ℕ) → ((r : ℕ) → IsAmong r T → IsAmong r own) → strangers own T ≡ 0
 strangers_none own [] h = refl

@@ -1,16 +1,14 @@
 -- What the calls of a script leave.
-use Rattle.std.proofs.Common.{◌≡◌, ◌≢◌, ℕ, ◌+◌, ◌≤◌, ◌⊎◌, Bool, true, false, List, [], ◌∷◌, ◌++◌, length, inl, inr, refl, sym, ap, ◌∙◌, subst, ⊎_elim, lit≤}
-use Rattle.chunk_core.specs.Lists.{IsAmong}
-use Rattle.chunk_core.specs.Lists.IsAmong.{here, there}
+use Rattle.std.proofs.Common.{◌≡◌, ℕ, ◌+◌, length, refl, sym, ap, ◌∙◌, subst, lit≤}
 use Rattle.res_ledger.specs.declared.event.StreamNo.TheVariants.{Outer}
-use Rattle.res_ledger.specs.Ledger.{IsClosed, IsUsable}
-use Rattle.res_ledger.specs.Own.{closes, opens}
+use Rattle.res_ledger.specs.Ledger.{IsClosed}
+use Rattle.res_ledger.specs.Own.{opens}
 use Rattle.row_seat.specs.declared.view.View.{View}
-use Rattle.row_seat.specs.Views.{noted, start}
+use Rattle.row_seat.specs.Views.{start}
 use Rattle.scope_tree.specs.Calls.{Acquires, AtStart, Opens, Seen}
-use Rattle.scope_tree.specs.Scripts.{at_first, with_row, with_scope}
-use Rattle.scope_tree.specs.Words.{opening, words}
-use Rattle.scope_tree.proofs.Use.{all_open, first_is}
+use Rattle.scope_tree.specs.Scripts.{with_row, with_scope}
+use Rattle.scope_tree.specs.Words.{words}
+use Rattle.scope_tree.proofs.Use.{first_is}
 use Rattle.chunk_core.proofs.Members.{among_nil}
 
 module _ {P : Type 0} where

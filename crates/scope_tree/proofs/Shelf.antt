@@ -1,12 +1,11 @@
 -- What a step keeps of a tree's shelf.
-use Rattle.std.proofs.Common.{◌≡◌, ◌≢◌, ℕ, ◌+◌, ◌<◌, ◌≤◌, ◌⊎◌, suc, Bool, true, false, cond, flat_map, List, [], ◌∷◌, ◌++◌, length, inl, inr, refl, sym, ap, ◌∙◌, subst, ⊎_elim, arith, append_assoc, append-nil, length-append}
+use Rattle.std.proofs.Common.{◌≡◌, ◌≢◌, ℕ, ◌<◌, ◌⊎◌, Bool, true, false, cond, List, [], ◌∷◌, ◌++◌, inl, inr, refl, sym, ap, ◌∙◌, subst, ⊎_elim, append_assoc, append-nil}
 use Rattle.std.proofs.lemmas.Grind.{flat_map-append}
 use Rattle.chunk_core.specs.Lists.{IsAmong}
 use Rattle.chunk_core.specs.Lists.IsAmong.{here, there}
 use Rattle.chunk_core.proofs.Members.{among_nil, among_cons, among_left, among_last, among_snoc}
 use Rattle.res_ledger.specs.declared.event.Event.{Event}
 use Rattle.res_ledger.specs.declared.event.StreamNo.{StreamNo}
-use Rattle.res_ledger.specs.declared.event.StreamNo.TheVariants.{Inner}
 use Rattle.res_ledger.specs.declared.event.What.{What}
 use Rattle.res_ledger.specs.declared.event.What.TheVariants.{Final, Lease}
 use Rattle.res_ledger.specs.Ledger.{Notes}
@@ -24,10 +23,10 @@ use Rattle.scope_tree.specs.declared.branch.Spent.{Spent}
 use Rattle.scope_tree.specs.Rows.{AreDistinct, Once}
 use Rattle.scope_tree.specs.Torn.{Torn, ended, said}
 use Rattle.scope_tree.specs.Torn.Torn.{done, stays, ends_so}
-use Rattle.scope_tree.specs.Leaving.{CanLeaveAll, IsLastLease, Quits, ended_lease}
+use Rattle.scope_tree.specs.Leaving.{CanLeaveAll, Quits, ended_lease}
 use Rattle.scope_tree.specs.Leaving.Quits.{done as quit, stays as leaves, ends_so as ends_lease}
 use Rattle.scope_tree.specs.Words.{ended_rows, ends_of, words}
-use Rattle.scope_tree.specs.Kept.{Shelved, held_pairs}
+use Rattle.scope_tree.specs.Kept.{Shelved}
 use Rattle.scope_tree.proofs.Bridge.{own_snoc}
 use Rattle.scope_tree.proofs.Distinct.{firsts_append, said_append}
 use Rattle.scope_tree.proofs.Once.{gone_without, once_without}

@@ -1,14 +1,14 @@
 -- What each call keeps of a tree's shelf.
-use Rattle.std.proofs.Common.{◌≡◌, ◌≢◌, ℕ, ◌+◌, ◌≤◌, ◌⊎◌, Bool, true, false, List, [], ◌∷◌, ◌++◌, inl, inr, refl, sym, ap, ◌∙◌, subst, ⊎_elim, append_assoc, append-nil}
+use Rattle.std.proofs.Common.{ℕ, ◌+◌, ◌≤◌, Bool, List, [], ◌∷◌, ◌++◌, inl, inr, refl, sym, ap, subst, ⊎_elim}
 use Rattle.chunk_core.specs.Lists.{IsAmong}
 use Rattle.chunk_core.proofs.Members.{among_nil, among_left, among_last, among_snoc}
-use Rattle.res_ledger.specs.declared.event.What.TheVariants.{Open, Acquire, Lease, Cancel, Close, Final}
+use Rattle.res_ledger.specs.declared.event.What.TheVariants.{Open, Acquire, Cancel, Close}
 use Rattle.res_ledger.specs.Order.{firsts}
 use Rattle.res_ledger.specs.Own.{own}
 use Rattle.res_ledger.specs.Streams.{by_stream}
 use Rattle.res_ledger.proofs.Orders.{Rises}
 use Rattle.row_seat.specs.declared.view.View.{View}
-use Rattle.row_seat.specs.Views.{HasRow, IsFresh, noted, placed}
+use Rattle.row_seat.specs.Views.{IsFresh, noted, placed}
 use Rattle.row_seat.proofs.Members.{among_without}
 use Rattle.scope_tree.specs.declared.branch.Branch.{Branch}
 use Rattle.scope_tree.specs.declared.branch.Held.{Held}
@@ -17,7 +17,7 @@ use Rattle.scope_tree.specs.Kids.{whole}
 use Rattle.scope_tree.specs.Rows.{AreDistinct}
 use Rattle.scope_tree.specs.Torn.{Torn, said}
 use Rattle.scope_tree.specs.Leaving.{Quits, away}
-use Rattle.scope_tree.specs.Words.{acquiring, canceling, opening, owed, shutting, ended_rows, words}
+use Rattle.scope_tree.specs.Words.{acquiring, canceling, opening, owed, shutting, ended_rows}
 use Rattle.scope_tree.specs.Calls.{AtStart}
 use Rattle.scope_tree.specs.Kept.{Kept, Shelved, held_pairs}
 use Rattle.scope_tree.proofs.Cancelling.{cancel_can}

@@ -1,5 +1,5 @@
 -- How a row stands, by what a tree keeps.
-use Rattle.std.proofs.Common.{◌≡◌, ◌≢◌, ℕ, ◌⊎◌, Bool, true, false, cond, eqb, List, [], ◌∷◌, inl, inr, refl, sym, ap, ◌∙◌, subst, ⊎_elim, ne_eqb, eq-eqb, Some, None, Option}
+use Rattle.std.proofs.Common.{◌≡◌, ℕ, Bool, true, false, cond, List, [], ◌∷◌, refl, sym, ap, ◌∙◌, subst, ⊎_elim, ne_eqb, eq-eqb, Some, None, Option}
 use Rattle.std.proofs.lemmas.Bool.{cases_eq}
 use Rattle.chunk_core.specs.Lists.{IsAmong}
 use Rattle.chunk_core.specs.Lists.IsAmong.{here, there}
@@ -7,11 +7,9 @@ use Rattle.chunk_core.proofs.Members.{among_nil, among_cons}
 use Rattle.res_ledger.specs.Ledger.{IsClosed}
 use Rattle.res_ledger.specs.Own.{has}
 use Rattle.res_ledger.proofs.Noted.{has_in, in_has}
-use Rattle.row_seat.specs.declared.view.View.{View}
 use Rattle.row_seat.specs.Views.{HasRow}
 use Rattle.scope_tree.specs.declared.branch.Branch.{Branch}
 use Rattle.scope_tree.specs.declared.branch.Held.{Held}
-use Rattle.scope_tree.specs.declared.branch.Standing.{Standing}
 use Rattle.scope_tree.specs.declared.branch.Standing.TheVariants.{Empty, Open, Left}
 use Rattle.scope_tree.specs.Calls.{Seen}
 use Rattle.scope_tree.specs.Kept.{Kept, held_pairs, held_rows}

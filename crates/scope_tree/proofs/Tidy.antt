@@ -1,5 +1,5 @@
 -- Each call of a tree keeps the order of what its stream notes, and so the ledger is in order.
-use Rattle.std.proofs.Common.{◌≡◌, ◌≢◌, ℕ, ◌<◌, ◌⊎◌, ◌↔◌, suc, Bool, true, false, cond, eqb, filter, map, List, [], ◌∷◌, ◌++◌, length, length-append, reverse, inl, inr, refl, sym, ap, ◌∙◌, subst, ⊎_elim, arith, append_assoc, append-nil}
+use Rattle.std.proofs.Common.{◌≡◌, ℕ, ◌↔◌, Bool, true, false, cond, filter, map, List, [], ◌∷◌, ◌++◌, length, length-append, reverse, refl, sym, ap, ◌∙◌, subst, ⊎_elim, arith, append_assoc}
 use Rattle.std.proofs.lemmas.List.{reverse-append}
 use Rattle.chunk_core.specs.Lists.{IsAmong}
 use Rattle.chunk_core.specs.Lists.IsAmong.{here, there}
@@ -9,31 +9,26 @@ use Rattle.chunk_core.proofs.Members.{among_cons, among_left, among_last, among_
 use Rattle.res_ledger.specs.declared.event.Event.{Event}
 use Rattle.res_ledger.specs.declared.event.StreamNo.{StreamNo}
 use Rattle.res_ledger.specs.declared.event.StreamNo.TheVariants.{Inner, Outer}
-use Rattle.res_ledger.specs.declared.event.What.{What}
-use Rattle.res_ledger.specs.declared.event.What.TheVariants.{Cancel, Close, Lease, Open, Acquire}
-use Rattle.res_ledger.specs.Ledger.{Covers, IsLegal, IsStamped}
-use Rattle.res_ledger.specs.Order.{IsInBlocks, IsInOrder, covered, covered_by, firsts}
+use Rattle.res_ledger.specs.declared.event.What.TheVariants.{Lease}
+use Rattle.res_ledger.specs.Ledger.{Covers, IsLegal}
+use Rattle.res_ledger.specs.Order.{IsInBlocks, IsInOrder, covered, covered_by}
 use Rattle.res_ledger.specs.Order.IsInBlocks.{none}
 use Rattle.res_ledger.specs.Own.{has, own, same_name}
 use Rattle.res_ledger.specs.Streams.{by_stream, same_stream}
-use Rattle.res_ledger.proofs.Blocks.{blocks_cancel, blocks_close, blocks_plain, picks_map}
+use Rattle.res_ledger.proofs.Blocks.{blocks_plain}
 use Rattle.res_ledger.proofs.Leases.{covered_found}
 use Rattle.res_ledger.proofs.Ledgers.{by_in, by_out, covers_more, covers_own}
 use Rattle.res_ledger.proofs.Noted.{in_has}
 use Rattle.res_ledger.proofs.Orders.{Rises}
 use Rattle.row_seat.specs.declared.view.View.{View}
 use Rattle.row_seat.specs.Views.{AreApart, IsLedgerOf, joined, split_main}
-use Rattle.scope_tree.specs.declared.branch.Spent.{Spent}
 use Rattle.scope_tree.specs.Calls.{Acquires, Cancels, Closes, Leases, Opens, Seen}
-use Rattle.scope_tree.specs.Leaving.{Quits}
 use Rattle.scope_tree.specs.Rows.{lifo}
 use Rattle.scope_tree.specs.Tidy.{IsTidy}
-use Rattle.scope_tree.specs.Torn.{Torn, said}
 use Rattle.scope_tree.specs.Words.{acquiring, canceling, closing, leasing, opening, words}
-use Rattle.scope_tree.proofs.Bridge.{own_snoc}
 use Rattle.scope_tree.proofs.Facts.{torn_covers}
 use Rattle.scope_tree.proofs.Parting.{join_words}
-use Rattle.scope_tree.proofs.Quitting.{quits_by, quits_covers, quits_picks, quits_words}
+use Rattle.scope_tree.proofs.Quitting.{quits_by, quits_covers}
 use Rattle.scope_tree.proofs.Taking.{torn_by}
 use Rattle.scope_tree.proofs.Use.{acquire_in_order, cancel_in_order, close_in_order, leased_said, open_in_order}
 

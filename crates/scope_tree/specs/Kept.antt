@@ -1,19 +1,17 @@
 -- How what a tree keeps agrees with the view of its seat.
-use Rattle.std.specs.Prelude.{◌≡◌, ◌≢◌, ◌⊎◌, ℕ, suc, ◌+◌, ◌<◌, ◌≤◌, ◌^◌, Bool, true, false, cond, flat_map, List, [], ◌∷◌, ◌++◌, length, drop, slice_index_or, vec_capacity, vec_len}
+use Rattle.std.specs.Prelude.{◌≡◌, ◌⊎◌, ℕ, suc, ◌<◌, ◌≤◌, false, List, [], ◌∷◌, length, drop, slice_index_or}
 use Rattle.chunk_core.specs.Lists.{IsAmong}
-use Rattle.res_ledger.specs.declared.event.Event.{Event}
 use Rattle.res_ledger.specs.declared.event.StreamNo.TheVariants.{Inner}
-use Rattle.res_ledger.specs.declared.event.What.{What}
-use Rattle.res_ledger.specs.declared.event.What.TheVariants.{Open, Acquire, Lease, Cancel, Close, Final}
-use Rattle.res_ledger.specs.Ledger.{Notes, IsClosed, IsAcquired, IsOpened, IsUsable}
+use Rattle.res_ledger.specs.declared.event.What.TheVariants.{Lease}
+use Rattle.res_ledger.specs.Ledger.{Notes, IsClosed, IsAcquired}
 use Rattle.res_ledger.specs.Order.{firsts}
-use Rattle.res_ledger.specs.Own.{own, opens, rows, closes, has, is_closed, teardown, leased_rows}
+use Rattle.res_ledger.specs.Own.{opens, rows, closes, has}
 use Rattle.row_seat.specs.declared.view.View.{View}
-use Rattle.row_seat.specs.Views.{HasRow, noted, placed, IsFresh}
+use Rattle.row_seat.specs.Views.{HasRow}
 use Rattle.scope_tree.specs.declared.branch.Branch.{Branch}
 use Rattle.scope_tree.specs.declared.branch.Held.{Held}
 use Rattle.scope_tree.specs.declared.branch.Spent.{Spent}
-use Rattle.scope_tree.specs.Rows.{AreDistinct, Once, lifo, strangers}
+use Rattle.scope_tree.specs.Rows.{AreDistinct, Once}
 use Rattle.res_ledger.proofs.Orders.{Rises}
 use Rattle.res_ledger.specs.Streams.{by_stream}
 use Rattle.scope_tree.specs.Torn.{said}

@@ -1,7 +1,6 @@
 -- Three rows in three scopes, each below the other.
-use Rattle.std.specs.Prelude.{◌≡◌, ℕ, List, []}
+use Rattle.std.specs.Prelude.{◌≡◌, ℕ, []}
 use Rattle.res_ledger.specs.declared.event.StreamNo.TheVariants.{Outer}
-use Rattle.row_seat.specs.declared.view.View.{View}
 use Rattle.row_seat.specs.Views.{noted, placed, start}
 use Rattle.scope_tree.specs.Calls.{Seen}
 use Rattle.scope_tree.specs.Words.{acquiring, opening}

@@ -1,21 +1,7 @@
 -- A tree that is in order.
-use Rattle.std.specs.Prelude.{◌≡◌, ◌≢◌, ◌⊎◌, ℕ, suc, ◌+◌, ◌<◌, ◌≤◌, ◌^◌, Bool, true, false, cond, flat_map, List, [], ◌∷◌, ◌++◌, length, drop, slice_index_or, vec_capacity, vec_len}
-use Rattle.chunk_core.specs.Lists.{IsAmong}
-use Rattle.res_ledger.specs.declared.event.Event.{Event}
-use Rattle.res_ledger.specs.declared.event.StreamNo.TheVariants.{Inner}
-use Rattle.res_ledger.specs.declared.event.What.{What}
-use Rattle.res_ledger.specs.declared.event.What.TheVariants.{Open, Acquire, Lease, Cancel, Close, Final}
-use Rattle.res_ledger.specs.Ledger.{Notes, IsClosed, IsAcquired, IsOpened, IsUsable}
-use Rattle.res_ledger.specs.Order.{firsts}
-use Rattle.res_ledger.specs.Own.{own, opens, rows, closes, has, is_closed, teardown, leased_rows}
+use Rattle.std.specs.Prelude.{◌<◌, ◌≤◌, ◌^◌, vec_capacity}
 use Rattle.row_seat.specs.declared.view.View.{View}
-use Rattle.row_seat.specs.Views.{HasRow, noted, placed, IsFresh}
-use Rattle.scope_tree.specs.declared.branch.Branch.{Branch}
-use Rattle.scope_tree.specs.declared.branch.Held.{Held}
-use Rattle.scope_tree.specs.declared.branch.Spent.{Spent}
-use Rattle.scope_tree.specs.Rows.{AreDistinct, Once, lifo, strangers}
 use Rattle.scope_tree.specs.declared.tree.Tree.{Tree}
-use Rattle.scope_tree.specs.Words.{words}
 use Rattle.scope_tree.specs.Calls.{Seen, used}
 use Rattle.scope_tree.specs.Kept.{Kept, Shelved}
 

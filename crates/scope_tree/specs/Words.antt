@@ -1,19 +1,11 @@
 -- What the stream of a seat noted, and what it owes.
-use Rattle.std.specs.Prelude.{◌≡◌, ◌≢◌, ◌⊎◌, ℕ, suc, ◌+◌, ◌<◌, ◌≤◌, ◌^◌, Bool, true, false, cond, flat_map, List, [], ◌∷◌, ◌++◌, length, drop, slice_index_or, vec_capacity, vec_len}
-use Rattle.chunk_core.specs.Lists.{IsAmong}
+use Rattle.std.specs.Prelude.{ℕ, suc, ◌+◌, Bool, cond, flat_map, List, [], ◌∷◌, length}
 use Rattle.res_ledger.specs.declared.event.Event.{Event}
-use Rattle.res_ledger.specs.declared.event.StreamNo.TheVariants.{Inner}
 use Rattle.res_ledger.specs.declared.event.What.{What}
 use Rattle.res_ledger.specs.declared.event.What.TheVariants.{Open, Acquire, Lease, Cancel, Close, Final}
-use Rattle.res_ledger.specs.Ledger.{Notes, IsClosed, IsAcquired, IsOpened, IsUsable}
-use Rattle.res_ledger.specs.Order.{firsts}
-use Rattle.res_ledger.specs.Own.{own, opens, rows, closes, has, is_closed, teardown, leased_rows}
+use Rattle.res_ledger.specs.Own.{own, opens, rows, is_closed}
 use Rattle.row_seat.specs.declared.view.View.{View}
-use Rattle.row_seat.specs.Views.{HasRow, noted, placed, IsFresh}
-use Rattle.scope_tree.specs.declared.branch.Branch.{Branch}
-use Rattle.scope_tree.specs.declared.branch.Held.{Held}
-use Rattle.scope_tree.specs.declared.branch.Spent.{Spent}
-use Rattle.scope_tree.specs.Rows.{AreDistinct, Once, lifo, strangers}
+use Rattle.row_seat.specs.Views.{noted}
 
 -- the numbers of scopes or rows
 abbrev pub numbers : List (ℕ × ℕ) → List ℕ

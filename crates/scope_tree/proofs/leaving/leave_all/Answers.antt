@@ -2,7 +2,6 @@ use Rattle.std.proofs.Common.{◌≡◌, ◌-◌, ◌<◌, suc, length, drop, �
 use Rattle.scope_tree.specs.Leaving.{CanLeaveAll, LeavesAll, away}
 use Rattle.scope_tree.specs.Rows.{lifo}
 use Rattle.scope_tree.proofs.Shapes.{drop_all}
-use Rattle.scope_tree.proofs.Keeps.{length-drop'}
 use Rattle.scope_tree.proofs.Quitting.{lifo_here, lifo_next, can_front, quits_can, quits_by, leaves_append, leaves_away, quits_opened, away_append}
 use Rattle.scope_tree.specs.Leaving.Quits.{done}
 use Rattle.std.proofs.Common.{append-nil}

@@ -1,4 +1,4 @@
-use Rattle.std.proofs.Common.{◌≡◌, true, false, inl, refl, sym, subst}
+use Rattle.std.proofs.Common.{true, false, inl, refl, sym, subst}
 use Rattle.scope_tree.specs.declared.uses.Coin.{Coin}
 use Rattle.scope_tree.specs.Calls.{IsOpenScope}
 use Rattle.scope_tree.specs.Scripts.{three}

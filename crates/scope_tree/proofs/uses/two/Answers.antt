@@ -1,14 +1,12 @@
-use Rattle.std.proofs.Common.{rules, ◌≡◌, ℕ, [], ◌∷◌, ◌++◌, List, inl, inr, refl, sym, ap, ◌∙◌, subst, arith}
+use Rattle.std.proofs.Common.{◌≡◌, [], ◌∷◌, ◌++◌, inl, inr, refl, sym, ap, ◌∙◌, subst, arith}
 use Rattle.chunk_core.specs.Lists.{IsAmong}
 use Rattle.chunk_core.specs.Lists.IsAmong.{here}
-use Rattle.row_seat.proofs.Members.{among_kept}
-use Rattle.res_ledger.specs.declared.event.What.TheVariants.{Open, Acquire, Close, Final}
+use Rattle.res_ledger.specs.declared.event.What.TheVariants.{Open, Acquire, Final}
 use Rattle.res_ledger.specs.Own.{opens, closes}
 use Rattle.res_ledger.specs.Order.{finals}
 use Rattle.scope_tree.specs.Torn.{said}
 use Rattle.scope_tree.specs.Words.{words}
 use Rattle.scope_tree.proofs.Use.{all_open}
-use Rattle.scope_tree.specs.Uses.{IsTwo}
 use Rattle.scope_tree.proofs.Chain.{start_said, open_number, open_one, acquire_more, close_four, close_rows, root_closed, two_of, still_empty, Three, Four}
 use Rattle.scope_tree.proofs.uses.two.Goals as goal
 

@@ -1,4 +1,4 @@
-use Rattle.std.proofs.Common.{◌≡◌, ◌≢◌, ℕ, ◌<◌, ◌≤◌, ◌⊎◌, Bool, true, false, nat_eq, length, slice_index_or, refl, sym, ap, ◌∙◌, subst, ⊎_elim, arith, eq-eqb}
+use Rattle.std.proofs.Common.{◌≡◌, ◌≤◌, true, false, slice_index_or, sym, ◌∙◌, subst, ⊎_elim, arith, eq-eqb}
 use Rattle.scope_tree.specs.declared.branch.Branch.{Branch}
 use Rattle.scope_tree.specs.Walks.{StandsAbove}
 use Rattle.scope_tree.specs.Walks.StandsAbove.{itself, further}

@@ -1,4 +1,4 @@
-use Rattle.std.proofs.Common.{ℕ, ◌<◌, length}
+use Rattle.std.proofs.Common.{◌<◌, length}
 use Rattle.scope_tree.specs.Walks.{StandsAbove}
 use Rattle.scope_tree.proofs.walk.is_above.Given as goal
 

@@ -1,9 +1,8 @@
-use Rattle.std.proofs.Common.{◌≡◌, ◌+◌, length, [], ◌∷◌, ◌++◌, refl, sym, ap, ◌∙◌, subst, arith, length-append}
+use Rattle.std.proofs.Common.{◌≡◌, [], ◌∷◌, ◌++◌, refl, sym, subst, arith, length-append}
 use Rattle.chunk_core.proofs.Members.{among_last}
 use Rattle.row_seat.specs.Views.{placed, noted}
-use Rattle.res_ledger.specs.Own.{rows}
-use Rattle.scope_tree.specs.Words.{words, acquiring}
-use Rattle.scope_tree.specs.Kept.{Kept, held_pairs}
+use Rattle.scope_tree.specs.Words.{acquiring}
+use Rattle.scope_tree.specs.Kept.{Kept}
 use Rattle.chunk_core.specs.Lists.{IsAmong}
 use Rattle.chunk_core.proofs.Members.{among_left}
 use Rattle.res_ledger.specs.Order.{firsts}

@@ -1,4 +1,4 @@
-use Rattle.std.proofs.Common.{◌≡◌, ℕ, ◌+◌, ◌≤◌, length, [], List, ◌∷◌, ◌++◌, refl, sym, ap, ◌∙◌, subst, arith}
+use Rattle.std.proofs.Common.{◌≡◌, ◌+◌, ◌++◌, refl, sym, ap, ◌∙◌, subst, arith}
 use Rattle.scope_tree.specs.Words.{shutting}
 use Rattle.scope_tree.specs.Torn.{Tears}
 use Rattle.scope_tree.specs.Kids.{whole}
@@ -14,10 +14,8 @@ use Rattle.scope_tree.proofs.Parts.{row_of_pair}
 use Rattle.scope_tree.proofs.Rooms.{shelf_count, strangers_none, used_is}
 use Rattle.scope_tree.proofs.Shelving.{close_shelved}
 use Rattle.scope_tree.proofs.Keeps.{close_spare, close_ready, close_count, usable_scope, whole_is, close_keeps}
-use Rattle.std.proofs.Common.{length-append}
 use Rattle.std.proofs.lemmas.List.{get_or_default}
-use Rattle.scope_tree.proofs.Facts.{torn_count}
-use Rattle.scope_tree.proofs.Taking.{tears_at, torn_length}
+use Rattle.scope_tree.proofs.Taking.{tears_at}
 use Rattle.scope_tree.proofs.tree.Tree.close.Goals as goal
 
 pub note-requires-clause-room : goal.note-requires-clause-room

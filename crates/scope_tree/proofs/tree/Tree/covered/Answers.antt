@@ -1,5 +1,4 @@
-use Rattle.std.proofs.Common.{◌≡◌, ℕ, ◌+◌, ◌<◌, suc, true, false, cond, take, length, List, [], ◌∷◌, ◌++◌, slice_index_or, refl, sym, ap, ◌∙◌, subst, arith, append-nil}
-use Rattle.chunk_core.specs.Lists.{IsAmong}
+use Rattle.std.proofs.Common.{◌≡◌, ◌+◌, ◌<◌, suc, cond, take, length, [], ◌∷◌, ◌++◌, slice_index_or, sym, ap, ◌∙◌, subst, arith, append-nil}
 use Rattle.res_ledger.specs.Own.{picked, reaches}
 use Rattle.scope_tree.specs.declared.branch.Held.{Held}
 use Rattle.scope_tree.specs.Calls.{WasOpened}

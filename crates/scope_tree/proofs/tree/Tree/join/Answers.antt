@@ -1,4 +1,4 @@
-use Rattle.std.proofs.Common.{◌≡◌, ℕ, ◌≤◌, length, refl, sym, ap, ◌∙◌, subst, arith}
+use Rattle.std.proofs.Common.{sym, subst, arith}
 use Rattle.res_ledger.specs.Order.{firsts}
 use Rattle.scope_tree.specs.Torn.{said}
 use Rattle.scope_tree.specs.Kept.{Kept, Shelved}

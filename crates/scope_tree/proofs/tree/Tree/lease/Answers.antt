@@ -1,10 +1,9 @@
-use Rattle.std.proofs.Common.{◌≡◌, ℕ, ◌+◌, ◌≤◌, true, List, length, refl, sym, ap, ◌∙◌, subst, arith}
-use Rattle.chunk_core.specs.Lists.{IsAmong}
+use Rattle.std.proofs.Common.{◌≡◌, refl, sym, ap, ◌∙◌, subst, arith}
 use Rattle.res_ledger.specs.declared.event.What.TheVariants.{Lease}
 use Rattle.res_ledger.specs.Order.{firsts}
 use Rattle.res_ledger.specs.Own.{leased_rows}
 use Rattle.row_seat.specs.declared.view.View.{View}
-use Rattle.row_seat.specs.Views.{HasRow, MayNote, noted}
+use Rattle.row_seat.specs.Views.{MayNote, noted}
 use Rattle.scope_tree.specs.Kept.{Kept, Shelved}
 use Rattle.scope_tree.specs.Leaving.{leased_all}
 use Rattle.scope_tree.specs.Rows.{AreDistinct}

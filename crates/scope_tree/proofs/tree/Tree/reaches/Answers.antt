@@ -1,4 +1,4 @@
-use Rattle.std.proofs.Common.{◌≡◌, ℕ, ◌<◌, ◌≤◌, true, false, ltb, zero, suc, length, refl, sym, ap, ◌∙◌, subst, arith}
+use Rattle.std.proofs.Common.{◌≡◌, ℕ, ◌≤◌, false, ltb, zero, suc, refl, sym, ◌∙◌, subst, arith}
 use Rattle.scope_tree.specs.Walks.{Clear, Shaded, StandsAbove}
 use Rattle.scope_tree.proofs.Covered.{opened_range, reach_above, reach_child, reach_closed, reach_parent, not_child}
 use Rattle.scope_tree.proofs.Keeps.{usable_scope}

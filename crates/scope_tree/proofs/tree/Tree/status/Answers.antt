@@ -1,4 +1,4 @@
-use Rattle.std.proofs.Common.{◌≡◌, ℕ, ◌<◌, length, refl, sym, ap, ◌∙◌, subst, None}
+use Rattle.std.proofs.Common.{◌≡◌, sym, ap, ◌∙◌, subst, None}
 use Rattle.chunk_core.specs.Lists.{IsAmong}
 use Rattle.scope_tree.specs.Kept.{held_pairs}
 use Rattle.scope_tree.specs.Standings.{outcome_of, scope_by}
