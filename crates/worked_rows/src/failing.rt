@@ -1,0 +1,101 @@
+//! Runs of which a call on the outside fails.
+use crate::outside::{
+    Case, assert_device, assert_end, assert_one_row, assert_printed, cat_of, filled, run,
+};
+use chunk_core::{Code, How};
+use device_port::Act;
+use flume_cli::Status;
+use std::test::Fail;
+
+#[test]
+fn failed_read_ends_the_frames(rt: HostRuntime) -> Result<(), Fail> {
+    let file = filled(rt.alloc(), &[("", 5000)])?;
+    let case = Case {
+        trips: &[(Act::Read, 2)],
+        ..cat_of(&file)
+    };
+    let seen = run(&rt, rt.alloc(), &case)?;
+    let tail = "\nend 0 fault read\nledger 3\n0 acquire 0 0\n0 close 0\n0 final 0 ok\n";
+    let text = filled(rt.alloc(), &[("0 4096\n", 4096), (tail, 0)])?;
+    assert_printed(&rt, &seen, Status::Faulty, &text);
+    assert_end(&rt, &seen, How::Fault(Code::Read));
+    assert_one_row(&rt, &seen, true);
+    assert_device(&rt, &seen, 1, 1);
+    Ok(())
+}
+
+#[test]
+fn failed_close_is_unclean(rt: HostRuntime) -> Result<(), Fail> {
+    let case = Case {
+        trips: &[(Act::Close, 1)],
+        ..cat_of(b"hello\n")
+    };
+    let seen = run(&rt, rt.alloc(), &case)?;
+    let text = b"0 6\nhello\n\nend 0 done\nledger 3\n0 acquire 0 0\n0 close 0\n0 final 0 fault\n";
+    assert_printed(&rt, &seen, Status::Unclean, text);
+    assert_eq!(rt; seen.report.status.number(), 7);
+    assert_end(&rt, &seen, How::Done);
+    assert_one_row(&rt, &seen, false);
+    assert_device(&rt, &seen, 1, 1);
+    Ok(())
+}
+
+#[test]
+fn fault_tells_more_than_a_failed_close(rt: HostRuntime) -> Result<(), Fail> {
+    let case = Case {
+        trips: &[(Act::Read, 1), (Act::Close, 1)],
+        ..cat_of(b"hello\n")
+    };
+    let seen = run(&rt, rt.alloc(), &case)?;
+    let text = b"end 0 fault read\nledger 3\n0 acquire 0 0\n0 close 0\n0 final 0 fault\n";
+    assert_printed(&rt, &seen, Status::Faulty, text);
+    assert_one_row(&rt, &seen, false);
+    assert_device(&rt, &seen, 1, 1);
+    Ok(())
+}
+
+#[test]
+fn failed_write_halts_the_stream(rt: HostRuntime) -> Result<(), Fail> {
+    let case = Case {
+        out_fails: &[1],
+        ..cat_of(b"hello\n")
+    };
+    let seen = run(&rt, rt.alloc(), &case)?;
+    assert_printed(&rt, &seen, Status::NotWritten, b"");
+    assert_eq!(rt; seen.report.status.number(), 4);
+    assert_eq!(rt; seen.out.faults(), 1);
+    assert_end(&rt, &seen, How::Halted);
+    assert_one_row(&rt, &seen, true);
+    assert_device(&rt, &seen, 1, 1);
+    Ok(())
+}
+
+/// Two frames and the tail are three writes, so the fourth that fails is none of them.
+#[test]
+fn nothing_is_written_after_a_failed_write(rt: HostRuntime) -> Result<(), Fail> {
+    let file = filled(rt.alloc(), &[("", 5000)])?;
+    let tail = "\nend 0 done\nledger 3\n0 acquire 0 0\n0 close 0\n0 final 0 ok\n";
+    let text = filled(
+        rt.alloc(),
+        &[("0 4096\n", 4096), ("\n0 904\n", 904), (tail, 0)],
+    )?;
+    for (nth, cut) in [(1u32, 0), (2, 4104), (3, 5015), (4, 5072)] {
+        let case = Case {
+            out_fails: &[nth],
+            ..cat_of(&file)
+        };
+        let seen = run(&rt, rt.alloc(), &case)?;
+        let failed = nth < 4;
+        let status = if failed {
+            Status::NotWritten
+        } else {
+            Status::Good
+        };
+        assert!(rt; cut <= text.len());
+        assert_printed(&rt, &seen, status, &text[..cut]);
+        assert_eq!(rt; seen.out.faults(), u64::from(failed), "at {nth}");
+        assert_one_row(&rt, &seen, true);
+        assert_device(&rt, &seen, 1, 1);
+    }
+    Ok(())
+}

@@ -1,0 +1,169 @@
+//! An outside in memory, and one call over it.
+ghost use Rattle.std.specs.Prelude.{◌≡◌, IfOk};
+ghost use Rattle.device_port.specs.Memory.{sink_told};
+
+use chunk_core::{How, Line, List, Word};
+use device_port::{Act, FileOf, MemDepot, MemSink, MemSource, OpenGate, Trip};
+use flume_cli::{Report, Status, flume};
+use res_ledger::{Event, StreamNo, What};
+use run_rules::EndOf;
+use std::alloc::{AllocError, Global};
+use std::process::Abort;
+use std::sync::Wait;
+use std::thread::Threads;
+
+/// What is asked of the program, over one file with the path `a`.
+#[derive(Clone, Copy, Debug)]
+pub struct Case<'a> {
+    pub words: &'a [&'a str],
+    pub file: &'a [u8],
+    /// The calls on the file that fail.
+    pub trips: &'a [(Act, u32)],
+    /// The numbers, from 1, of the writes to the output that fail.
+    pub out_fails: &'a [u32],
+    /// The numbers, from 1, of the writes to standard error that fail.
+    pub err_fails: &'a [u32],
+}
+
+/// `cat a`, of which nothing fails.
+pub fn cat_of(file: &[u8]) -> Case<'_> {
+    Case {
+        words: &["cat", "a"],
+        file,
+        trips: &[],
+        out_fails: &[],
+        err_fails: &[],
+    }
+}
+
+/// What a call left behind.
+#[derive(Drop)]
+pub struct Seen {
+    pub report: Report,
+    pub depot: MemDepot,
+    pub out: MemSink,
+    pub err: MemSink,
+}
+
+fn words_of(alloc: Global, words: &[&str]) -> Result<Vec<Word>, AllocError> {
+    let mut list = Vec::new(alloc);
+    for word in words {
+        list.push(Word::of(alloc, word)?)?;
+    }
+    Ok(list)
+}
+
+fn files_of(alloc: Global, bytes: &[u8]) -> Result<List<FileOf>, AllocError> {
+    let mut files = List::new(alloc);
+    files.push(FileOf {
+        path: Word::of(alloc, "a")?,
+        bytes: Line::of_vec(Vec::from_slice(alloc, bytes)?),
+    })?;
+    Ok(files)
+}
+
+fn trips_of(alloc: Global, calls: &[(Act, u32)]) -> Result<List<Trip>, AllocError> {
+    let mut trips = List::new(alloc);
+    for (act, nth) in calls {
+        trips.push(Trip {
+            path: Word::of(alloc, "a")?,
+            act: *act,
+            nth: *nth,
+        })?;
+    }
+    Ok(trips)
+}
+
+pub fn depot_of(alloc: Global, case: &Case) -> Result<MemDepot, AllocError> {
+    MemDepot::new(
+        alloc,
+        files_of(alloc, case.file)?,
+        trips_of(alloc, case.trips)?,
+    )
+}
+
+pub fn sink_of(alloc: Global, fails: &[u32]) -> Result<MemSink, AllocError>
+    ensures { IfOk result (λ s. (sink_told s).faults ≡ 0) }
+{
+    let mut list = List::new(alloc);
+    for nth in fails {
+        list.push(*nth)?;
+    }
+    MemSink::new(alloc, list)
+}
+
+/// Makes the outside and calls the top call once.
+pub fn run<R: Threads + Wait + Sync>(
+    rt: &R,
+    alloc: Global,
+    case: &Case,
+) -> Result<Seen, AllocError> {
+    let words = words_of(alloc, case.words)?;
+    let mut src = MemSource::new(alloc, b"not read", List::new(alloc))?;
+    let mut depot = depot_of(alloc, case)?;
+    let mut out = sink_of(alloc, case.out_fails)?;
+    let mut err = sink_of(alloc, case.err_fails)?;
+    let report = flume(
+        rt, alloc, &words, &mut src, &mut depot, &mut out, &mut err, &OpenGate,
+    );
+    Ok(Seen {
+        report,
+        depot,
+        out,
+        err,
+    })
+}
+
+/// The call ended with this status and printed this, and nothing stands on standard error.
+pub fn assert_printed(rt: &impl Abort, seen: &Seen, status: Status, out: &[u8]) {
+    assert_eq!(rt; seen.report.status, status);
+    assert_eq!(rt; seen.out.written(), out);
+    assert_eq!(rt; seen.err.written(), b"".as_slice());
+}
+
+/// The one device that was made came back, opened and closed so often.
+pub fn assert_device(rt: &impl Abort, seen: &Seen, opens: u64, closes: u64) {
+    assert_eq!(rt; seen.depot.made().len(), 1);
+    let records = seen.depot.retired();
+    assert_eq!(rt; records.len(), 1);
+    assert_eq!(rt; records[0].opens(), opens);
+    assert_eq!(rt; records[0].closes(), closes);
+}
+
+/// The report has one end, that of stream 0.
+pub fn assert_end(rt: &impl Abort, seen: &Seen, how: How) {
+    let end = EndOf {
+        who: StreamNo::Inner(0),
+        how,
+    };
+    assert_eq!(rt; seen.report.ends.as_slice(), [end].as_slice());
+}
+
+/// The ledger of a run that opened its file.
+pub fn assert_one_row(rt: &impl Abort, seen: &Seen, ok: bool) {
+    let acquired = event(0, What::Acquire { row: 0, scope: 0 });
+    let closed = event(1, What::Close { scope: 0 });
+    let finalized = event(2, What::Final { row: 0, ok });
+    assert_eq!(rt;
+        seen.report.ledger.as_slice(),
+        [acquired, closed, finalized].as_slice()
+    );
+}
+
+pub fn event(stamp: u64, what: What) -> Event {
+    Event {
+        stamp,
+        by: StreamNo::Inner(0),
+        what,
+    }
+}
+
+/// Each text in order, followed by so many bytes `x` as stand beside it.
+pub fn filled(alloc: Global, parts: &[(&str, usize)]) -> Result<Vec<u8>, AllocError> {
+    let mut bytes = Vec::new(alloc);
+    for (text, count) in parts {
+        bytes.extend_from_slice(text.as_bytes())?;
+        bytes.extend_from_slice(&vec![in alloc; b'x'; *count]?)?;
+    }
+    Ok(bytes)
+}

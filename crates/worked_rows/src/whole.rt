@@ -1,0 +1,67 @@
+//! Runs of which nothing fails, and a file that isn't there.
+use crate::outside::{
+    Case, assert_device, assert_end, assert_one_row, assert_printed, cat_of, event, filled, run,
+};
+use chunk_core::{Code, How};
+use flume_cli::Status;
+use res_ledger::What;
+use std::test::Fail;
+
+#[test]
+fn hello_is_one_frame(rt: HostRuntime) -> Result<(), Fail> {
+    let seen = run(&rt, rt.alloc(), &cat_of(b"hello\n"))?;
+    let text = b"0 6\nhello\n\nend 0 done\nledger 3\n0 acquire 0 0\n0 close 0\n0 final 0 ok\n";
+    assert_printed(&rt, &seen, Status::Good, text);
+    assert_eq!(rt; seen.report.status.number(), 0);
+    assert_end(&rt, &seen, How::Done);
+    assert_one_row(&rt, &seen, true);
+    assert_device(&rt, &seen, 1, 1);
+    Ok(())
+}
+
+#[test]
+fn empty_file_has_no_frame(rt: HostRuntime) -> Result<(), Fail> {
+    let seen = run(&rt, rt.alloc(), &cat_of(b""))?;
+    let text = b"end 0 done\nledger 3\n0 acquire 0 0\n0 close 0\n0 final 0 ok\n";
+    assert_printed(&rt, &seen, Status::Good, text);
+    assert_end(&rt, &seen, How::Done);
+    assert_one_row(&rt, &seen, true);
+    assert_device(&rt, &seen, 1, 1);
+    Ok(())
+}
+
+#[test]
+fn missing_file_is_a_fault_of_open(rt: HostRuntime) -> Result<(), Fail> {
+    let case = Case {
+        words: &["cat", "b"],
+        ..cat_of(b"hello\n")
+    };
+    let seen = run(&rt, rt.alloc(), &case)?;
+    assert_printed(
+        &rt,
+        &seen,
+        Status::Faulty,
+        b"end 0 fault open\nledger 1\n0 close 0\n",
+    );
+    assert_eq!(rt; seen.report.status.number(), 1);
+    assert_end(&rt, &seen, How::Fault(Code::Open));
+    let closed = event(0, What::Close { scope: 0 });
+    assert_eq!(rt; seen.report.ledger.as_slice(), [closed].as_slice());
+    assert_device(&rt, &seen, 0, 0);
+    Ok(())
+}
+
+#[test]
+fn long_file_is_cut_into_frames(rt: HostRuntime) -> Result<(), Fail> {
+    let file = filled(rt.alloc(), &[("", 5000)])?;
+    let seen = run(&rt, rt.alloc(), &cat_of(&file))?;
+    let tail = "\nend 0 done\nledger 3\n0 acquire 0 0\n0 close 0\n0 final 0 ok\n";
+    let text = filled(
+        rt.alloc(),
+        &[("0 4096\n", 4096), ("\n0 904\n", 904), (tail, 0)],
+    )?;
+    assert_printed(&rt, &seen, Status::Good, &text);
+    assert_one_row(&rt, &seen, true);
+    assert_device(&rt, &seen, 1, 1);
+    Ok(())
+}

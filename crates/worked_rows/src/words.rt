@@ -1,0 +1,92 @@
+//! Words that mean nothing, and the longest path.
+use crate::outside::{Case, Seen, assert_device, assert_printed, cat_of, filled, run};
+use flume_cli::Status;
+use std::process::Abort;
+use std::test::Fail;
+
+const REFUSAL: &[u8] = b"flume: bad command line\n";
+
+const MEANINGLESS: [&[&str]; 8] = [
+    &[],
+    &["cat"],
+    &["cat", "-x"],
+    &["cat", "-"],
+    &["cat", ""],
+    &["cat", "a", "b"],
+    &["run"],
+    &["dog", "a"],
+];
+
+fn assert_refused(rt: &impl Abort, seen: &Seen, words: &[&str]) {
+    assert_eq!(rt; seen.report.status, Status::BadWords, "at {words:?}");
+    assert_eq!(rt; seen.err.written(), REFUSAL, "at {words:?}");
+    assert_eq!(rt; seen.out.written(), b"".as_slice(), "at {words:?}");
+    assert_eq!(rt; seen.depot.made().len(), 0, "at {words:?}");
+    assert!(rt; seen.report.ends.is_empty(), "at {words:?}");
+    assert!(rt; seen.report.ledger.is_empty(), "at {words:?}");
+}
+
+#[test]
+fn other_words_mean_nothing(rt: HostRuntime) -> Result<(), Fail> {
+    for words in MEANINGLESS {
+        let case = Case {
+            words,
+            ..cat_of(b"hello\n")
+        };
+        let seen = run(&rt, rt.alloc(), &case)?;
+        assert_refused(&rt, &seen, words);
+        assert_eq!(rt; seen.report.status.number(), 2);
+    }
+    Ok(())
+}
+
+#[test]
+fn too_long_a_path_means_nothing(rt: HostRuntime) -> Result<(), Fail> {
+    let long = String::from_utf8(filled(rt.alloc(), &[("", 1025)])?)?;
+    let case = Case {
+        words: &["cat", long.as_str()],
+        ..cat_of(b"hello\n")
+    };
+    let seen = run(&rt, rt.alloc(), &case)?;
+    assert_refused(&rt, &seen, case.words);
+    Ok(())
+}
+
+#[test]
+fn longest_path_is_a_path(rt: HostRuntime) -> Result<(), Fail> {
+    let long = String::from_utf8(filled(rt.alloc(), &[("", 1024)])?)?;
+    let case = Case {
+        words: &["cat", long.as_str()],
+        ..cat_of(b"hello\n")
+    };
+    let seen = run(&rt, rt.alloc(), &case)?;
+    assert_printed(
+        &rt,
+        &seen,
+        Status::Faulty,
+        b"end 0 fault open\nledger 1\n0 close 0\n",
+    );
+    assert_device(&rt, &seen, 0, 0);
+    Ok(())
+}
+
+#[test]
+fn failing_standard_error_changes_no_status(rt: HostRuntime) -> Result<(), Fail> {
+    let table: [(&[&str], Status, u64); 3] = [
+        (&["cat"], Status::BadWords, 1),
+        (&["cat", "b"], Status::Faulty, 0),
+        (&["cat", "a"], Status::Good, 0),
+    ];
+    for (words, status, faults) in table {
+        let case = Case {
+            words,
+            err_fails: &[1],
+            ..cat_of(b"hello\n")
+        };
+        let seen = run(&rt, rt.alloc(), &case)?;
+        assert_eq!(rt; seen.report.status, status, "at {words:?}");
+        assert_eq!(rt; seen.err.faults(), faults, "at {words:?}");
+        assert_eq!(rt; seen.err.written(), b"".as_slice(), "at {words:?}");
+    }
+    Ok(())
+}
