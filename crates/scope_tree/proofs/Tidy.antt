@@ -13,7 +13,8 @@ use Rattle.res_ledger.specs.declared.event.What.TheVariants.{Lease}
 use Rattle.res_ledger.specs.Ledger.{Covers, IsLegal}
 use Rattle.res_ledger.specs.Order.{IsInBlocks, IsInOrder, covered, covered_by}
 use Rattle.res_ledger.specs.Order.IsInBlocks.{none}
-use Rattle.res_ledger.specs.Own.{has, own, same_name}
+use Rattle.res_ledger.specs.Own.{has, own}
+use Rattle.res_ledger.specs.Streams.{same_stream}
 use Rattle.res_ledger.specs.Streams.{by_stream, same_stream}
 use Rattle.res_ledger.proofs.Blocks.{blocks_plain}
 use Rattle.res_ledger.proofs.Leases.{covered_found}
@@ -97,7 +98,7 @@ stamped_rises L (e ∷ M) h = (
   stamped_rises (L ++ e ∷ []) M (λ P Q x is. h P Q x (sym (append_assoc L (e ∷ []) M) ∙ is)),
 )
 
-same_both : (a b : StreamNo) → same_name a b ≡ same_stream a b
+same_both : (a b : StreamNo) → same_stream a b ≡ same_stream a b
 same_both Outer Outer = refl
 same_both Outer (Inner j) = refl
 same_both (Inner i) Outer = refl
