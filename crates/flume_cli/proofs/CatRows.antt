@@ -21,13 +21,13 @@ fault_is : (d m e : DeviceTold) (n : ℕ) → m ≡ moved n d → e ≡ with_rea
 fault_is d m e n h i = subst (λ (x : DeviceTold). x ≡ record d { at = x.at; read_faults = x.read_faults }) (sym (i ∙ ap with_read_fault h)) refl
 
 -- copying moves a device and counts its read faults, and does nothing else to it
-pub copied_is : (d e : DeviceTold) (old new : SinkTold) (ended : How) → Copies d e old new ended → e ≡ record d { at = e.at; read_faults = e.read_faults }
-copied_is d e old new how.Done c = moved_is d e _ c.0.device
-copied_is d e old new how.Halted c = twice_is d c.0 e _ _ c.2.device c.4.device
-copied_is d e old new how.Memory c = absurd c
-copied_is d e old new (how.Fault code.Read) c = fault_is d c.0 e _ c.1.device c.2
-copied_is d e old new (how.Fault code.Endless) c = moved_is d e _ c.0.device
-copied_is d e old new (how.Fault _) c = absurd c
+pub copied_is : (d e : DeviceTold) (old new : SinkTold) (size : ℕ) (ended : How) → Copies d e old new size ended → e ≡ record d { at = e.at; read_faults = e.read_faults }
+copied_is d e old new size how.Done c = moved_is d e _ c.0.device
+copied_is d e old new size how.Halted c = twice_is d c.0 e _ _ c.2.device c.3.device
+copied_is d e old new size how.Memory c = absurd c
+copied_is d e old new size (how.Fault code.Read) c = fault_is d c.0 e _ c.1.device c.2
+copied_is d e old new size (how.Fault code.Endless) c = moved_is d e _ c.0.device
+copied_is d e old new size (how.Fault _) c = absurd c
 
 -- a device that was opened, copied and closed
 abbrev pub lived_told : DeviceTold → Bool → ℕ → ℕ → DeviceTold

@@ -42,23 +42,23 @@ pub front_of : (xs : List ℕ) (k : ℕ) → k < length xs → (take k xs ++ dro
 front_of xs k l = (take-append-drop k xs, omega (arith, length-drop k xs))
 
 module _ (path : List ℕ) (old mid new : DepotTold) (d : DeviceTold) (makes : Makes old mid path mode.Read d) (unused : IsUnused d) (ok : Bool) (m : DeviceTold) (retires : Retires mid new (lived_told d ok m.at m.read_faults)) where
-  abbrev Shown : SinkTold → SinkTold → How → Type 0
-  Shown so sn ended = Shows path old mid new d makes unused ok m.at m.read_faults retires so sn ended
+  abbrev Shown : SinkTold → SinkTold → ℕ → How → Type 0
+  Shown so sn size ended = Shows path old mid new d makes unused ok m.at m.read_faults retires so sn size ended
 
   abbrev e : DeviceTold
   e = lived_told d ok m.at m.read_faults
 
-  module _ (so sn : SinkTold) where
+  module _ (so sn : SinkTold) (size : ℕ) where
     -- the counts of a print that began at the start
-    print_at : (x : DeviceTold) (mid_sink : SinkTold) (p : Prints (opened d) x so mid_sink) → x.at ≡ length (payloads_of 0 p.frames)
+    print_at : (x : DeviceTold) (mid_sink : SinkTold) (p : Prints (opened d) x so mid_sink size) → x.at ≡ length (payloads_of 0 p.frames)
     print_at x mid_sink p = ap (λ (y : DeviceTold). y.at) p.device ∙ ap (λ n. n + length (payloads_of 0 p.frames)) unused.at ∙ zero-add (length (payloads_of 0 p.frames))
 
     at_place : is_place e.place (to_read path) ≡ true
     at_place = subst (λ q. is_place e.place q ≡ true) (place_is path old mid new d e makes (refl, refl, refl) retires) (place_itself e.place)
 
-    pub shows_done : Copies (opened d) m so sn how.Done → m.content ≡ d.content → Shown so sn how.Done
+    pub shows_done : Copies (opened d) m so sn size how.Done → m.content ≡ d.content → Shown so sn size how.Done
     shows_done c same =
-        let p : Prints (opened d) m so sn = c.0 in
+        let p : Prints (opened d) m so sn size = c.0 in
         let P : List ℕ = payloads_of 0 p.frames in
         let counted : length P ≡ m.at = sym (print_at m sn p) in
         let next = from_start d.content d.at P unused.at p.next in
@@ -70,6 +70,8 @@ module _ (path : List ℕ) (old mid new : DepotTold) (d : DeviceTold) (makes : M
           frames = p.frames;
           rest = [];
           numbers = p.numbers;
+          fits = p.fits;
+          front = inl refl;
           output = record { elements = map Byte P; end = Done; run = inl (inl (refl, inl reads)); printed = sym (rendering_bytes P); reported = refl };
           cut = inl refl;
           shown = refl;
@@ -78,9 +80,9 @@ module _ (path : List ℕ) (old mid new : DepotTold) (d : DeviceTold) (makes : M
           wrote = p.wrote ∙ ap (λ b. with_bytes so b) (sym (append-nil (frames_text p.frames)));
         }
 
-    pub shows_endless : Copies (opened d) m so sn (how.Fault code.Endless) → Shown so sn (how.Fault code.Endless)
+    pub shows_endless : Copies (opened d) m so sn size (how.Fault code.Endless) → Shown so sn size (how.Fault code.Endless)
     shows_endless c =
-        let p : Prints (opened d) m so sn = c.0 in
+        let p : Prints (opened d) m so sn size = c.0 in
         let P : List ℕ = payloads_of 0 p.frames in
         let counted : length P ≡ m.at = sym (print_at m sn p) in
         let next = from_start d.content d.at P unused.at p.next in
@@ -91,6 +93,8 @@ module _ (path : List ℕ) (old mid new : DepotTold) (d : DeviceTold) (makes : M
           frames = p.frames;
           rest = [];
           numbers = p.numbers;
+          fits = p.fits;
+          front = inl refl;
           output = record { elements = map Byte P; end = Fault code.Endless; run = inl (inl (refl, inl reads)); printed = sym (rendering_bytes P); reported = refl };
           cut = inl refl;
           shown = shown_one (is_place e.place (to_read path)) true at_place refl;
@@ -99,10 +103,10 @@ module _ (path : List ℕ) (old mid new : DepotTold) (d : DeviceTold) (makes : M
           wrote = p.wrote ∙ ap (λ b. with_bytes so b) (sym (append-nil (frames_text p.frames)));
         }
 
-    pub shows_fault : Copies (opened d) m so sn (how.Fault code.Read) → Shown so sn (how.Fault code.Read)
+    pub shows_fault : Copies (opened d) m so sn size (how.Fault code.Read) → Shown so sn size (how.Fault code.Read)
     shows_fault c =
         let x : DeviceTold = c.0 in
-        let p : Prints (opened d) x so sn = c.1 in
+        let p : Prints (opened d) x so sn size = c.1 in
         let P : List ℕ = payloads_of 0 p.frames in
         let counted : length P ≡ m.at = sym (ap (λ (y : DeviceTold). y.at) c.2 ∙ print_at x sn p) in
         let next = from_start d.content d.at P unused.at p.next in
@@ -113,6 +117,8 @@ module _ (path : List ℕ) (old mid new : DepotTold) (d : DeviceTold) (makes : M
           frames = p.frames;
           rest = [];
           numbers = p.numbers;
+          fits = p.fits;
+          front = inl refl;
           output = record { elements = map Byte P; end = Fault code.Read; run = inl (inl (refl, inl reads)); printed = sym (rendering_bytes P); reported = refl };
           cut = inl refl;
           shown = shown_one (is_place e.place (to_read path)) (nat_lt 0 m.read_faults) at_place (positive m.read_faults some);
@@ -121,19 +127,19 @@ module _ (path : List ℕ) (old mid new : DepotTold) (d : DeviceTold) (makes : M
           wrote = p.wrote ∙ ap (λ b. with_bytes so b) (sym (append-nil (frames_text p.frames)));
         }
 
-    pub shows_halted : Copies (opened d) m so sn how.Halted → Shown so sn how.Halted
+    pub shows_halted : Copies (opened d) m so sn size how.Halted → Shown so sn size how.Halted
     shows_halted c =
         let x : DeviceTold = c.0 in
         let half : SinkTold = c.1 in
-        let p : Prints (opened d) x so half = c.2 in
-        let b : Breaks x m half sn c.3 = c.4 in
+        let p : Prints (opened d) x so half size = c.2 in
+        let b : Breaks x m half sn size = c.3 in
         let P : List ℕ = payloads_of 0 p.frames in
         let B : List ℕ = P ++ b.bytes in
         let front : x.at ≡ length P = print_at x half p in
         let moved_on : m.at ≡ x.at + length b.bytes = ap (λ (y : DeviceTold). y.at) b.device in
         let counted : length B ≡ m.at = omega (arith, length-append P b.bytes) in
         let next = next_more d.content 0 P b.bytes (from_start d.content d.at P unused.at p.next) (shifted x.content d.content x.at (0 + length P) b.bytes (ap (λ (y : DeviceTold). y.content) p.device) (front ∙ sym (zero-add (length P))) b.next) in
-        let within : m.at ≤ d.at + 2 ^ 40 = c.5 in
+        let within : m.at ≤ d.at + 2 ^ 40 = c.4 in
         let limit : length B ≤ 2 ^ 40 = let zero_at : d.at ≡ 0 = unused.at in omega arith in
         let left = reads_front e B counted d.content P b.bytes refl next limit in
         let all_left = reads_front e B counted d.content B [] (sym (append-nil B)) next limit in
@@ -142,6 +148,8 @@ module _ (path : List ℕ) (old mid new : DepotTold) (d : DeviceTold) (makes : M
           frames = p.frames;
           rest = take b.wrote.count (frame_text 0 b.bytes);
           numbers = p.numbers;
+          fits = p.fits;
+          front = inr (b.bytes, b.fits, drop b.wrote.count (frame_text 0 b.bytes), cut_at.0);
           output = record { elements = map Byte P; end = Cut; run = inl (inl (refl, inr (refl, inr left))); printed = sym (rendering_bytes P); reported = inl refl };
           cut = inr (refl, (0, b.bytes, drop b.wrote.count (frame_text 0 b.bytes), cut_at.0, cut_at.1, b.some, (omega arith, map Byte B, inl (inl (refl, inr (refl, inr all_left))), sym (rendering_bytes B))));
           shown = refl;
@@ -151,7 +159,7 @@ module _ (path : List ℕ) (old mid new : DepotTold) (d : DeviceTold) (makes : M
               ∙ ap (λ (s : SinkTold). let t : SinkTold = record s { faults = so.faults + 1 } in t) (with_bytes_twice so (frames_text p.frames) (take b.wrote.count (frame_text 0 b.bytes))));
         }
 
-    pub shows_copy : (ended : How) → Copies (opened d) m so sn ended → m.content ≡ d.content → Shown so sn ended
+    pub shows_copy : (ended : How) → Copies (opened d) m so sn size ended → m.content ≡ d.content → Shown so sn size ended
     shows_copy how.Done c same = shows_done c same
     shows_copy how.Halted c same = shows_halted c
     shows_copy how.Memory c same = absurd c

@@ -39,9 +39,9 @@ just_made old mid path d m = record {
 wrote_none : (so sn : SinkTold) → sn ≡ so → sn ≡ with_bytes so []
 wrote_none so sn e = e ∙ sym (with_bytes_none so)
 
-module _ (path : List ℕ) (old mid new : DepotTold) (d : DeviceTold) (so sn : SinkTold) (makes : Makes old mid path mode.Read d) (unused : IsUnused d) where
+module _ (path : List ℕ) (old mid new : DepotTold) (d : DeviceTold) (so sn : SinkTold) (size : ℕ) (makes : Makes old mid path mode.Read d) (unused : IsUnused d) where
   -- the file could not be opened
-  pub cat_misses : Retires mid new (with_open_fault d) → sn ≡ so → RunsCat path old new so sn (record { ends = record { who = Inner 0; how = how.Fault code.Open } ∷ []; ledger = missed; sink_failed = false; memory = false })
+  pub cat_misses : Retires mid new (with_open_fault d) → sn ≡ so → RunsCat path size old new so sn (record { ends = record { who = Inner 0; how = how.Fault code.Open } ∷ []; ledger = missed; sink_failed = false; memory = false })
   cat_misses retires quiet =
       let e : DeviceTold = with_open_fault d in
       let place = place_is path old mid new d e makes (refl, refl, refl) retires in
@@ -50,6 +50,8 @@ module _ (path : List ℕ) (old mid new : DepotTold) (d : DeviceTold) (so sn : S
       record {
         frames = [];
         rest = [];
+        fits = tt;
+        front = inl refl;
         performs = record {
           devices = accounted old new (to_read path) e (new_made path old mid new d e makes (refl, refl, refl) retires) (new_retired path old mid new d e makes (refl, refl, refl) retires)
               missed (number_is path old mid new d e makes (refl, refl, refl) retires) place (unused.closed, unused.closes ∙ sym unused.opens) (tt, tt)
@@ -89,11 +91,13 @@ module _ (path : List ℕ) (old mid new : DepotTold) (d : DeviceTold) (so sn : S
       }
 
   -- nothing was begun with the device
-  pub cat_rests : Retires mid new d → sn ≡ so → RunsCat path old new so sn (record { ends = []; ledger = []; sink_failed = false; memory = true })
+  pub cat_rests : Retires mid new d → sn ≡ so → RunsCat path size old new so sn (record { ends = []; ledger = []; sink_failed = false; memory = true })
   cat_rests retires quiet =
       record {
         frames = [];
         rest = [];
+        fits = tt;
+        front = inl refl;
         performs = record {
           devices = accounted old new (to_read path) d (new_made path old mid new d d makes (refl, refl, refl) retires) (new_retired path old mid new d d makes (refl, refl, refl) retires)
               [] (number_is path old mid new d d makes (refl, refl, refl) retires) (place_is path old mid new d d makes (refl, refl, refl) retires) (unused.closed, unused.closes ∙ sym unused.opens) tt
@@ -118,11 +122,13 @@ dropped_all xs = ap (λ ys. drop (length xs) ys) (sym (append-nil xs)) ∙ drop-
 and_nothing : {A : Type 0} (xs : List A) → xs ≡ xs ++ drop (length xs) xs
 and_nothing xs = sym (append-nil xs) ∙ ap (λ ys. xs ++ ys) (sym (dropped_all xs))
 
-pub cat_makes_nothing : (path : List ℕ) (old new : DepotTold) (so sn : SinkTold) → new ≡ old → sn ≡ so → RunsCat path old new so sn (record { ends = []; ledger = []; sink_failed = false; memory = true })
-cat_makes_nothing path old new so sn e quiet =
-    subst (λ x. RunsCat path old x so sn (record { ends = []; ledger = []; sink_failed = false; memory = true })) (sym e) (record {
+pub cat_makes_nothing : (path : List ℕ) (old new : DepotTold) (so sn : SinkTold) (size : ℕ) → new ≡ old → sn ≡ so → RunsCat path size old new so sn (record { ends = []; ledger = []; sink_failed = false; memory = true })
+cat_makes_nothing path old new so sn size e quiet =
+    subst (λ x. RunsCat path size old x so sn (record { ends = []; ledger = []; sink_failed = false; memory = true })) (sym e) (record {
       frames = [];
       rest = [];
+      fits = tt;
+      front = inl refl;
       performs = record {
         devices = record {
           made = and_nothing old.made;
@@ -143,27 +149,27 @@ cat_makes_nothing path old new so sn e quiet =
     })
 
 -- whatever was done with the device
-pub cat_runs : (path : List ℕ) (old mid new : DepotTold) (d : DeviceTold) (so sn : SinkTold) (o : Outcome) → Makes old mid path mode.Read d → RunsMade mid new d so sn o → RunsCat path old new so sn o
-cat_runs path old mid new d so sn o makes r =
+pub cat_runs : (path : List ℕ) (old mid new : DepotTold) (d : DeviceTold) (so sn : SinkTold) (size : ℕ) (o : Outcome) → Makes old mid path mode.Read d → RunsMade mid new d so sn size o → RunsCat path size old new so sn o
+cat_runs path old mid new d so sn size o makes r =
     let unused : IsUnused d = unused_made old mid path d makes in
     ⊎_elim
-    (λ (ran : RunsRow d r.after so sn o).
+    (λ (ran : RunsRow d r.after so sn size o).
     ⊎_elim
     (λ (x : MissesRow d r.after so sn ran.ended o.ledger).
     let back : Retires mid new (with_open_fault d) = subst (λ y. Retires mid new y) x.device r.retires in
     let is = outcome_is o _ _ _ _ (ran.ends ∙ ap (λ h. let y : EndOf = record { who = Inner 0; how = h } in y ∷ []) x.ended_is) x.ledger (ran.sink ∙ ap is_halted x.ended_is) ran.memory in
-    subst (λ y. RunsCat path old new so sn y) (sym is) (cat_misses path old mid new d so sn makes unused back x.wrote))
-    (λ (x : LivesRow d r.after so sn ran.ended o.ledger).
+    subst (λ y. RunsCat path size old new so sn y) (sym is) (cat_misses path old mid new d so sn size makes unused back x.wrote))
+    (λ (x : LivesRow d r.after so sn size ran.ended o.ledger).
     let m : DeviceTold = x.copied in
-    let told = copied_is (opened d) m so sn ran.ended x.copies in
+    let told = copied_is (opened d) m so sn size ran.ended x.copies in
     let back : Retires mid new (lived_told d x.ok m.at m.read_faults) = subst (λ y. Retires mid new y) (lived_is d m r.after x.ok m.at m.read_faults told x.device) r.retires in
     let is = outcome_is o _ _ _ _ ran.ends x.ledger ran.sink ran.memory in
-    subst (λ y. RunsCat path old new so sn y) (sym is)
-    (shows_cat path old mid new d makes unused x.ok m.at m.read_faults back so sn ran.ended
-    (shows_copy path old mid new d makes unused x.ok m back so sn ran.ended x.copies (ap (λ (y : DeviceTold). y.content) told))))
+    subst (λ y. RunsCat path size old new so sn y) (sym is)
+    (shows_cat path old mid new d makes unused x.ok m.at m.read_faults back so sn size ran.ended
+    (shows_copy path old mid new d makes unused x.ok m back so sn size ran.ended x.copies (ap (λ (y : DeviceTold). y.content) told))))
     ran.row)
     (λ (x : IsNotBegun d r.after so sn o).
     let back : Retires mid new d = subst (λ y. Retires mid new y) x.device r.retires in
     let is = outcome_is o _ _ _ _ x.ends x.ledger x.sink x.memory in
-    subst (λ y. RunsCat path old new so sn y) (sym is) (cat_rests path old mid new d so sn makes unused back x.wrote))
+    subst (λ y. RunsCat path size old new so sn y) (sym is) (cat_rests path old mid new d so sn size makes unused back x.wrote))
     r.ran

@@ -21,9 +21,11 @@ use Rattle.run_rules.specs.Facts.{is_halted, is_memory, is_failed, failed_row}
 use Rattle.run_rules.specs.Devices.{came_back, IsWritten, DevicesAccounted, place_of}
 use Rattle.run_rules.specs.Run.{IsOutput, IsCutFrame, HaveHomes, HaveEnds, NothingFailed, IsWhole, KeepsRules, is_shown}
 use Rattle.flume_cli.specs.declared.outcome.Outcome.{Outcome}
-use Rattle.flume_cli.specs.Life.{IsUnused}
-use Rattle.flume_cli.specs.Cat.{to_read, IdealFileRuns, cat_work, missed, lived, Retires, deed_of, and_one, RunsCat}
-use Rattle.flume_cli.proofs.Accounting.{accounted, back_is, keeps_more, kept_none}
+use Rattle.flume_cli.specs.Copy.{Copies, Prints, IsNext}
+use Rattle.flume_cli.specs.Life.{IsUnused, opened, with_open_fault, closed_as}
+use Rattle.flume_cli.specs.Cat.{to_read, FileRuns, IdealFileRuns, cat_work, missed, lived, Retires, deed_of, and_one, IsFrontWithin, RunsCat}
+use Rattle.flume_cli.proofs.Reading.{rendering_bytes, reads_done, reads_fault, reads_endless, reads_front}
+use Rattle.flume_cli.proofs.Accounting.{accounted, back_is, made_is, keeps_more, kept_one, kept_none, place_itself}
 use Rattle.flume_cli.proofs.CatRows.{lived_told}
 
 -- Ledgers.
@@ -193,10 +195,12 @@ module _ (path : List ℕ) (old mid new : DepotTold) (d : DeviceTold) (makes : M
       }
 
   -- the frames, what was written of a further one, and why
-  pub record Shows (so sn : SinkTold) (ended : How) : Type 0 where
+  pub record Shows (so sn : SinkTold) (size : ℕ) (ended : How) : Type 0 where
     pub frames : List Frame
     pub rest : List ℕ
     pub numbers : Each (λ x. (x.stream ≡ 0) × (0 < length x.payload)) frames
+    pub fits : Each (λ x. length x.payload ≤ size) frames
+    pub front : IsFrontWithin size rest
     pub output : IsOutput (cat_work path) home frames 0 ended
     pub cut : (rest ≡ []) ⊎ ((is_halted ended ≡ true) × IsCutFrame (cat_work path) home frames rest)
     pub shown : is_shown (device ∷ []) (to_read path ∷ []) ended ≡ true
@@ -208,10 +212,12 @@ module _ (path : List ℕ) (old mid new : DepotTold) (d : DeviceTold) (makes : M
   below_one [] h = tt
   below_one (x ∷ F) h = ((let e : x.stream ≡ 0 = h.0.0 in omega arith, h.0.1), below_one F h.1)
 
-  pub shows_cat : (so sn : SinkTold) (ended : How) → Shows so sn ended → RunsCat path old new so sn (did ended)
-  shows_cat so sn ended s = record {
+  pub shows_cat : (so sn : SinkTold) (size : ℕ) (ended : How) → Shows so sn size ended → RunsCat path size old new so sn (did ended)
+  shows_cat so sn size ended s = record {
     frames = s.frames;
     rest = s.rest;
+    fits = s.fits;
+    front = s.front;
     performs = record {
       devices = lived_devices;
       ledger = lived_rules path ok;

@@ -43,8 +43,8 @@ moved_twice : (d : DeviceTold) (m n k : ℕ) → m + n ≡ k → moved n (moved 
 moved_twice d m n k e = ap (λ (a : ℕ). let t : DeviceTold = record d { at = a } in t) (add_assoc d.at m n ∙ ap (λ j. d.at + j) e)
 
 -- one more piece was printed
-pub prints_more : (d m e : DeviceTold) (old mid new : SinkTold) (size count : ℕ) → Prints d m old mid → Goes m e mid new size count → Prints d e old new
-prints_more d m e old mid new size count p g =
+pub prints_more : (d m e : DeviceTold) (old mid new : SinkTold) (size room count : ℕ) → size ≤ room → Prints d m old mid room → Goes m e mid new size count → Prints d e old new room
+prints_more d m e old mid new size room count within p g =
     let F : List Frame = p.frames ++ frame_of g.bytes ∷ [] in
     let after : IsNext (moved (length (payloads_of 0 p.frames)) d) g.bytes = subst (λ x. IsNext x g.bytes) p.device g.next in
     let all : payloads_of 0 F ≡ payloads_of 0 p.frames ++ g.bytes = payloads_snoc p.frames g.bytes in
@@ -52,6 +52,7 @@ prints_more d m e old mid new size count p g =
     record {
       frames = F;
       numbers = each_snoc (λ (f : Frame). (f.stream ≡ 0) × (0 < length f.payload)) p.frames (frame_of g.bytes) p.numbers (refl, omega (arith, g.some, g.length_is));
+      fits = each_snoc (λ (f : Frame). length f.payload ≤ room) p.frames (frame_of g.bytes) p.fits (omega (arith, g.fits, g.length_is, within));
       next = subst (λ xs. IsNext d xs) (sym all) (next_more d.content d.at (payloads_of 0 p.frames) g.bytes p.next after);
       device = g.device ∙ (ap (λ x. moved count x) p.device ∙ moved_twice d (length (payloads_of 0 p.frames)) count (length (payloads_of 0 F)) counted);
       wrote = g.wrote ∙ (ap (λ s. with_bytes s (frame_text 0 g.bytes)) p.wrote ∙ (with_bytes_twice old (frames_text p.frames) (frame_text 0 g.bytes) ∙ ap (λ b. with_bytes old b) (sym (frames_snoc p.frames g.bytes))));

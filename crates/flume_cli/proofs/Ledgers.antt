@@ -56,11 +56,11 @@ module _ (P : Type 0) where
   lived_rests : (a b c : ℕ) (p : P) (ok : Bool) → CanFinish (finalized a b c p ok)
   lived_rests a b c p ok = (refl, (refl, (λ r m. absurd (among_nil m)), refl, refl, refl, refl), refl)
 
-  pub may_finish : (d e : DeviceTold) (so sn : SinkTold) (ended : How) (v : View P) → RunsDevice d e so sn ended v → CanFinish v
-  may_finish d e so sn ended v r =
+  pub may_finish : (d e : DeviceTold) (so sn : SinkTold) (size : ℕ) (ended : How) (v : View P) → RunsDevice d e so sn size ended v → CanFinish v
+  may_finish d e so sn size ended v r =
       ⊎_elim
       (λ (m : Misses d e so sn ended v). subst (λ (x : View P). CanFinish x) (sym m.view) (missed_rests m.stamp))
-      (λ (l : Lives d e so sn ended v). subst (λ (x : View P). CanFinish x) (sym l.view) (lived_rests l.a l.b l.c l.payload l.ok))
+      (λ (l : Lives d e so sn size ended v). subst (λ (x : View P). CanFinish x) (sym l.view) (lived_rests l.a l.b l.c l.payload l.ok))
       r
 
   missed_ledger : (a : ℕ) (L : List Event) → IsLedgerOf (untaken {P = P} a) L → L ≡ missed
@@ -70,8 +70,8 @@ module _ (P : Type 0) where
   lived_ledger a b c p ok L l m f = living_stamps L a b c ok f.stamped (rising_is L (living a b c ok) f.stamped (rises_three a b c ok l m) f.whole)
 
   -- what the seat's ledger says of the row
-  pub finished_row : (d e : DeviceTold) (so sn : SinkTold) (ended : How) (v : View P) (L : List Event) → RunsDevice d e so sn ended v → IsLedgerOf v L → MissesRow d e so sn ended L ⊎ LivesRow d e so sn ended L
-  finished_row d e so sn ended v L r f =
+  pub finished_row : (d e : DeviceTold) (so sn : SinkTold) (size : ℕ) (ended : How) (v : View P) (L : List Event) → RunsDevice d e so sn size ended v → IsLedgerOf v L → MissesRow d e so sn ended L ⊎ LivesRow d e so sn size ended L
+  finished_row d e so sn size ended v L r f =
       ⊎_elim
       (λ (m : Misses d e so sn ended v). inl (record {
         ended_is = m.ended_is;
@@ -79,7 +79,7 @@ module _ (P : Type 0) where
         wrote = m.wrote;
         ledger = missed_ledger m.stamp L (subst (λ (x : View P). IsLedgerOf x L) m.view f);
       }))
-      (λ (l : Lives d e so sn ended v). inr (record {
+      (λ (l : Lives d e so sn size ended v). inr (record {
         copied = l.copied;
         ok = l.ok;
         copies = l.copies;

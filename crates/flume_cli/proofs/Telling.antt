@@ -69,7 +69,7 @@ memory_is u f n e = ap (λ b. by_flags b true f n) (sym e)
 printed_is : (u f n : Bool) → u ≡ false → by_flags false false f n ≡ by_flags u false f n
 printed_is u f n e = ap (λ b. by_flags b false f n) (sym e)
 
-module _ (words : List (List ℕ)) (path : List ℕ) (src : SourceTold) (dold dnew : DepotTold) (so mid sn : SinkTold) (eold enew : SinkTold) (o : Outcome) (known : cat_path_of words ≡ Some path) (runs : RunsCat path dold dnew so mid o) where
+module _ (words : List (List ℕ)) (path : List ℕ) (chunk : ℕ) (src : SourceTold) (dold dnew : DepotTold) (so mid sn : SinkTold) (eold enew : SinkTold) (o : Outcome) (known : cat_path_of words ≡ Some path) (runs : RunsCat path chunk dold dnew so mid o) where
   abbrev tail : List ℕ
   tail = tail_text o.ends o.ledger
 

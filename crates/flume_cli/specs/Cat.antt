@@ -1,6 +1,7 @@
 -- What the command cat does.
-use Rattle.std.specs.Prelude.{◌≡◌, ◌⊎◌, ℕ, ◌+◌, ◌<◌, Bool, true, false, List, [], ◌∷◌, ◌++◌, length, cond}
-use Rattle.chunk_core.specs.Texts.{Frame, frames_text}
+use Rattle.std.specs.Prelude.{◌≡◌, ◌⊎◌, ℕ, ◌+◌, ◌<◌, ◌≤◌, Bool, true, false, List, [], ◌∷◌, ◌++◌, length, cond}
+use Rattle.chunk_core.specs.Lists.{Each}
+use Rattle.chunk_core.specs.Texts.{Frame, frame_text, frames_text}
 use Rattle.chunk_core.specs.Outcomes.{Outcomes}
 use Rattle.chunk_core.specs.declared.code.Code.TheVariants as code
 use Rattle.chunk_core.specs.declared.code.How.{How}
@@ -50,18 +51,18 @@ pub record MissesRow (d e : DeviceTold) (old new : SinkTold) (ended : How) (L : 
   pub wrote : new ≡ old
   pub ledger : L ≡ missed
 
--- the device was opened, copied and closed
-pub record LivesRow (d e : DeviceTold) (old new : SinkTold) (ended : How) (L : List Event) : Type 0 where
+-- the device was opened, copied in pieces of at most size bytes, and closed
+pub record LivesRow (d e : DeviceTold) (old new : SinkTold) (size : ℕ) (ended : How) (L : List Event) : Type 0 where
   pub copied : DeviceTold
   pub ok : Bool
-  pub copies : Copies (opened d) copied old new ended
+  pub copies : Copies (opened d) copied old new size ended
   pub device : e ≡ closed_as ok copied
   pub ledger : L ≡ lived ok
 
--- stream 0 was run over the device
-pub record RunsRow (d e : DeviceTold) (old new : SinkTold) (o : Outcome) : Type 0 where
+-- stream 0 was run over the device, in pieces of at most size bytes
+pub record RunsRow (d e : DeviceTold) (old new : SinkTold) (size : ℕ) (o : Outcome) : Type 0 where
   pub ended : How
-  pub row : MissesRow d e old new ended o.ledger ⊎ LivesRow d e old new ended o.ledger
+  pub row : MissesRow d e old new ended o.ledger ⊎ LivesRow d e old new size ended o.ledger
   pub ends : o.ends ≡ record { who = Inner 0; how = ended } ∷ []
   pub sink : o.sink_failed ≡ is_halted ended
   pub memory : o.memory ≡ false
@@ -91,19 +92,25 @@ pub record IsNotBegun (d e : DeviceTold) (old new : SinkTold) (o : Outcome) : Ty
   pub memory : o.memory ≡ true
 
 -- the device came back, and before that stream 0 was run over it, or nothing was begun
-pub record RunsMade (mid depot_new : DepotTold) (d : DeviceTold) (old new : SinkTold) (o : Outcome) : Type 0 where
+pub record RunsMade (mid depot_new : DepotTold) (d : DeviceTold) (old new : SinkTold) (chunk : ℕ) (o : Outcome) : Type 0 where
   pub after : DeviceTold
   pub retires : Retires mid depot_new after
-  pub ran : RunsRow d after old new o ⊎ IsNotBegun d after old new o
+  pub ran : RunsRow d after old new chunk o ⊎ IsNotBegun d after old new o
 
 -- one more where a call failed
 abbrev pub and_one : Bool → ℕ → ℕ
 and_one failed n = cond failed (n + 1) n
 
--- the work of cat was done, and the sink got the frames and what was written of a further one
-pub record RunsCat (path : List ℕ) (depot_old depot_new : DepotTold) (old new : SinkTold) (o : Outcome) : Type 0 where
+-- nothing, or a front of a frame of stream 0 that has at most size bytes
+abbrev pub IsFrontWithin : ℕ → List ℕ → Type 0
+IsFrontWithin size rest = (rest ≡ []) ⊎ ((bytes : List ℕ) × (length bytes ≤ size) × (more : List ℕ) × (rest ++ more ≡ frame_text 0 bytes))
+
+-- the work of cat was done, and the sink got the frames, of at most chunk bytes each, and what was written of a further one
+pub record RunsCat (path : List ℕ) (chunk : ℕ) (depot_old depot_new : DepotTold) (old new : SinkTold) (o : Outcome) : Type 0 where
   pub frames : List Frame
   pub rest : List ℕ
+  pub fits : Each (λ f. length f.payload ≤ chunk) frames
+  pub front : IsFrontWithin chunk rest
   pub performs : Performs (cat_work path) (deed_of depot_old depot_new frames rest o)
   pub wrote : new ≡ record (with_bytes old (frames_text frames ++ rest)) { faults = and_one o.sink_failed old.faults }
   pub begun : o.ends ≡ [] → (o.sink_failed ≡ false) × (o.memory ≡ true)

@@ -50,19 +50,20 @@ IsPiece d e old new size (piece.Ended (how.Fault code.Read)) = (e ≡ with_read_
 IsPiece d e old new size (piece.Ended (how.Fault _)) = ⊥
 IsPiece d e old new size (piece.Ended how.Memory) = ⊥
 
--- all that was read stands in whole frames
-pub record Prints (d e : DeviceTold) (old new : SinkTold) : Type 0 where
+-- all that was read stands in whole frames, of at most size bytes each
+pub record Prints (d e : DeviceTold) (old new : SinkTold) (size : ℕ) : Type 0 where
   pub frames : List Frame
   pub numbers : Each (λ f. (f.stream ≡ 0) × (0 < length f.payload)) frames
+  pub fits : Each (λ f. length f.payload ≤ size) frames
   pub next : IsNext d (payloads_of 0 frames)
   pub device : e ≡ moved (length (payloads_of 0 frames)) d
   pub wrote : new ≡ with_bytes old (frames_text frames)
 
--- how a copy of at most 2^40 bytes ended
-abbrev pub Copies : DeviceTold → DeviceTold → SinkTold → SinkTold → How → Type 0
-Copies d e old new how.Done = Prints d e old new × (e.at < d.at + 2 ^ 40) × IsExhausted e
-Copies d e old new how.Halted = (m : DeviceTold) × (mid : SinkTold) × Prints d m old mid × (size : ℕ) × Breaks m e mid new size × (e.at ≤ d.at + 2 ^ 40)
-Copies d e old new (how.Fault code.Read) = (m : DeviceTold) × Prints d m old new × (e ≡ with_read_fault m)
-Copies d e old new (how.Fault code.Endless) = Prints d e old new × (e.at ≡ d.at + 2 ^ 40)
-Copies d e old new (how.Fault _) = ⊥
-Copies d e old new how.Memory = ⊥
+-- how a copy of at most 2^40 bytes ended, in pieces of at most size bytes
+abbrev pub Copies : DeviceTold → DeviceTold → SinkTold → SinkTold → ℕ → How → Type 0
+Copies d e old new size how.Done = Prints d e old new size × (e.at < d.at + 2 ^ 40) × IsExhausted e
+Copies d e old new size how.Halted = (m : DeviceTold) × (mid : SinkTold) × Prints d m old mid size × Breaks m e mid new size × (e.at ≤ d.at + 2 ^ 40)
+Copies d e old new size (how.Fault code.Read) = (m : DeviceTold) × Prints d m old new size × (e ≡ with_read_fault m)
+Copies d e old new size (how.Fault code.Endless) = Prints d e old new size × (e.at ≡ d.at + 2 ^ 40)
+Copies d e old new size (how.Fault _) = ⊥
+Copies d e old new size how.Memory = ⊥

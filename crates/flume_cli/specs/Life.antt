@@ -63,14 +63,14 @@ module _ {P : Type 0} where
     pub mode_is : (told device).place.mode ≡ mode.Read
     pub start_is : ((told device).at ≡ 0) × ((told device).read_faults ≡ 0)
 
-  -- the device in row 0 was copied
-  pub record CopiesRow (told : P → DeviceTold) (v w : View P) (old new : SinkTold) (ended : How) : Type 0 where
+  -- the device in row 0 was copied, in pieces of at most size bytes
+  pub record CopiesRow (told : P → DeviceTold) (v w : View P) (old new : SinkTold) (size : ℕ) (ended : How) : Type 0 where
     pub stamp : ℕ
     pub before : P
     pub after : P
     pub held : v ≡ acquired stamp before
     pub holds : w ≡ acquired stamp after
-    pub copies : Copies (told before) (told after) old new ended
+    pub copies : Copies (told before) (told after) old new size ended
 
   -- row 0 holds a device that is open
   pub record HoldsOpen (told : P → DeviceTold) (v : View P) : Type 0 where
@@ -99,8 +99,8 @@ module _ {P : Type 0} where
     pub device : e ≡ with_open_fault d
     pub wrote : new ≡ old
 
-  -- the device was opened, copied and finalized
-  pub record Lives (d e : DeviceTold) (old new : SinkTold) (ended : How) (v : View P) : Type 0 where
+  -- the device was opened, copied in pieces of at most size bytes, and finalized
+  pub record Lives (d e : DeviceTold) (old new : SinkTold) (size : ℕ) (ended : How) (v : View P) : Type 0 where
     pub a : ℕ
     pub b : ℕ
     pub c : ℕ
@@ -109,9 +109,9 @@ module _ {P : Type 0} where
     pub ok : Bool
     pub rising : (a < b) × (b < c)
     pub view : v ≡ finalized a b c payload ok
-    pub copies : Copies (opened d) copied old new ended
+    pub copies : Copies (opened d) copied old new size ended
     pub closed : e ≡ closed_as ok copied
 
   -- what was done with the device of row 0
-  abbrev pub RunsDevice : DeviceTold → DeviceTold → SinkTold → SinkTold → How → View P → Type 0
-  RunsDevice d e old new ended v = Misses d e old new ended v ⊎ Lives d e old new ended v
+  abbrev pub RunsDevice : DeviceTold → DeviceTold → SinkTold → SinkTold → ℕ → How → View P → Type 0
+  RunsDevice d e old new size ended v = Misses d e old new ended v ⊎ Lives d e old new size ended v

@@ -5,10 +5,11 @@ use Rattle.row_seat.specs.PlainSeats.{shown, Sits}
 use Rattle.row_seat.specs.Views.{start}
 use Rattle.flume_cli.specs.declared.cat.Room.{Room}
 
--- a fresh seat of stream 0 at its table, a buffer, and room for one end
-pub record IsReady {P : Type 0} (room : Room P) : Type 0 where
+-- a fresh seat of stream 0 at its table, a buffer of chunk bytes, and room for one end
+pub record IsReady {P : Type 0} (chunk : ℕ) (room : Room P) : Type 0 where
   pub seat : shown room.seat ≡ start (Inner 0) 1 3
   pub sits : Sits room.seat room.table
-  pub buffer : 0 < length room.buffer.items
+  pub some : 0 < chunk
+  pub buffer : length room.buffer.items ≡ chunk
   pub ends : room.ends.items ≡ []
   pub capacity : vec_capacity room.ends ≡ 1

@@ -1,5 +1,5 @@
 //! The command `cat`: one file, printed in frames.
-ghost use Rattle.std.specs.Prelude.{◌≡◌, ℕ, ◌-◌, ◌^◌, ◌<◌, IfOk, vec_capacity, [], ◌∷◌};
+ghost use Rattle.std.specs.Prelude.{◌≡◌, ℕ, ◌-◌, ◌^◌, ◌<◌, IfOk, length, vec_capacity, [], ◌∷◌};
 ghost use Rattle.res_ledger.specs.declared.event.StreamNo.TheVariants.{Inner};
 ghost use Rattle.row_seat.specs.PlainSeats.{shown, Sits};
 ghost use Rattle.row_seat.specs.Views.{start};
@@ -28,7 +28,7 @@ struct Room<P> {
 /// Makes the buffer, the room for the end, and the seat with room for its row and its events.
 fn make_room<P: Drop>(alloc: Global, chunk: u32) -> Result<Room<P>, AllocError>
     requires { 0 < chunk }
-    ensures { IfOk result IsReady }
+    ensures { IfOk result (IsReady chunk) }
 {
     let buffer = vec![in alloc; 0; chunk as usize]?;
     let ends = Vec::with_capacity(alloc, 1)?;
@@ -52,7 +52,7 @@ pub fn run_cat<D: Depot, K: Sink>(
 ) -> Outcome
     requires chunk { 0 < chunk }
     requires room { (K.told out.old).faults < 2 ^ 64 - 1 }
-    ensures { RunsCat path.now (D.told depot.old) (D.told depot.new) (K.told out.old) (K.told out.new) result }
+    ensures { RunsCat path.now chunk (D.told depot.old) (D.told depot.new) (K.told out.old) (K.told out.new) result }
 {
     match depot.make(alloc, path, Mode::Read) {
         Ok(device) => run_made(alloc, chunk, depot, device, out),
@@ -71,7 +71,7 @@ fn run_made<D: Depot, K: Sink>(
     requires chunk { 0 < chunk }
     requires device { IsJustMade (D.told depot.old) (D.Dev.Device.told device) }
     requires room { (K.told out.old).faults < 2 ^ 64 - 1 }
-    ensures { RunsMade (D.told depot.old) (D.told depot.new) (D.Dev.Device.told device) (K.told out.old) (K.told out.new) result }
+    ensures { RunsMade (D.told depot.old) (D.told depot.new) (D.Dev.Device.told device) (K.told out.old) (K.told out.new) chunk result }
 {
     match make_room(alloc, chunk) {
         Ok(room) => {
@@ -88,10 +88,10 @@ fn run_made<D: Depot, K: Sink>(
 
 /// Runs stream 0 in the room that was made.
 fn run_in<P: Device + Drop, K: Sink>(room: Room<P>, device: P, out: &mut K) -> (Outcome, P)
-    requires room { IsReady room }
+    requires room { IsReady (length room.buffer.items) room }
     requires device { IsUnused (P.told device) }
     requires sink { (K.told out.old).faults < 2 ^ 64 - 1 }
-    ensures { RunsRow (P.told device) (P.told result.1) (K.told out.old) (K.told out.new) result.0 }
+    ensures { RunsRow (P.told device) (P.told result.1) (K.told out.old) (K.told out.new) (length room.buffer.items) result.0 }
 {
     let Room {
         mut seat,

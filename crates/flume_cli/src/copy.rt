@@ -27,7 +27,7 @@ pub fn copy<V: Device, K: Sink>(device: &mut V, out: &mut K, buffer: &mut [u8]) 
     requires mode { (V.told device.old).place.mode ≡ mode.Read }
     requires start { ((V.told device.old).at ≡ 0) × ((V.told device.old).read_faults ≡ 0) }
     requires room { (K.told out.old).faults < 2 ^ 64 - 1 }
-    ensures { Copies (V.told device.old) (V.told device.new) (K.told out.old) (K.told out.new) result }
+    ensures { Copies (V.told device.old) (V.told device.new) (K.told out.old) (K.told out.new) (length buffer.old) result }
 {
     let mut given: u64 = 0;
     while given < ENDLESS {

@@ -29,7 +29,7 @@ where
     requires device { IsUnused (S.Pay.Device.told device) }
     requires some { 0 < length buffer.old }
     requires room { (K.told out.old).faults < 2 ^ 64 - 1 }
-    ensures ran { RunsDevice (S.Pay.Device.told device) (S.Pay.Device.told result.1) (K.told out.old) (K.told out.new) result.0 (S.view seat.new) }
+    ensures ran { RunsDevice (S.Pay.Device.told device) (S.Pay.Device.told result.1) (K.told out.old) (K.told out.new) (length buffer.old) result.0 (S.view seat.new) }
     ensures fits { S.fits seat.new desk.new }
 {
     let mut device = device;
@@ -70,7 +70,7 @@ where
     requires holds { Holds S.Pay.Device.told (S.view seat.old) }
     requires some { 0 < length buffer.old }
     requires room { (K.told out.old).faults < 2 ^ 64 - 1 }
-    ensures view { CopiesRow S.Pay.Device.told (S.view seat.old) (S.view seat.new) (K.told out.old) (K.told out.new) result }
+    ensures view { CopiesRow S.Pay.Device.told (S.view seat.old) (S.view seat.new) (K.told out.old) (K.told out.new) (length buffer.old) result }
     ensures fits { S.fits seat.new desk.new }
 {
     copy(seat.pay_mut(0), out, buffer)

@@ -1,5 +1,5 @@
 -- The device in the row is the one that is copied.
-use Rattle.std.proofs.Common.{◌≡◌, ap, ◌∙◌, subst}
+use Rattle.std.proofs.Common.{◌≡◌, ap, ◌∙◌, subst, length}
 use Rattle.row_seat.specs.Views.{paid}
 use Rattle.flume_cli.specs.Copy.{Copies}
 use Rattle.flume_cli.proofs.Living.{held_is, holds_one}
@@ -18,5 +18,5 @@ returns-clause-view g c =
       after = c.copy.new.device;
       held = h.view;
       holds = g.met.S.RowSeat.pay_view c.args.seat.now 0 c.copy.new.device ∙ ap (λ v. paid v 0 c.copy.new.device) h.view;
-      copies = subst (λ d. Copies (g.S.Pay.Device.told d) (g.S.Pay.Device.told c.copy.new.device) (g.K.Sink.told c.args.out.now) (g.K.Sink.told c.copy.new.out) c.copy.result) is c.copy.ensures;
+      copies = subst (λ d. Copies (g.S.Pay.Device.told d) (g.S.Pay.Device.told c.copy.new.device) (g.K.Sink.told c.args.out.now) (g.K.Sink.told c.copy.new.out) (length c.args.buffer.now) c.copy.result) is c.copy.ensures;
     }
