@@ -1,5 +1,5 @@
 -- The work of cat, from what was done with its device.
-use Rattle.std.proofs.Common.{◌≡◌, ◌≢◌, ℕ, ◌+◌, ◌<◌, Bool, true, false, not, ◌&&◌, ◌||◌, nat_eq, nat_lt, List, [], ◌∷◌, ◌++◌, ◌⊎◌, inl, inr, length, map, filter, flat_map, Option, refl, sym, ◌∙◌, ap, subst, arith}
+use Rattle.std.proofs.Common.{◌≡◌, ◌≢◌, ℕ, ◌+◌, ◌<◌, ◌≤◌, Bool, true, false, not, ◌&&◌, ◌||◌, nat_eq, nat_lt, List, [], ◌∷◌, ◌++◌, ◌⊎◌, inl, inr, length, map, filter, flat_map, Option, refl, sym, ◌∙◌, ap, subst, arith}
 use Rattle.std.proofs.lemmas.Bool.Decides.{nat_tests}
 use Rattle.chunk_core.specs.Lists.{Each, One}
 use Rattle.std.specs.List.{list_any as any}
@@ -21,11 +21,9 @@ use Rattle.run_rules.specs.Facts.{is_halted, is_memory, is_failed, failed_row}
 use Rattle.run_rules.specs.Devices.{came_back, IsWritten, DevicesAccounted, place_of}
 use Rattle.run_rules.specs.Run.{IsOutput, IsCutFrame, HaveHomes, HaveEnds, NothingFailed, IsWhole, KeepsRules, is_shown}
 use Rattle.flume_cli.specs.declared.outcome.Outcome.{Outcome}
-use Rattle.flume_cli.specs.Copy.{Copies, Prints, IsNext}
-use Rattle.flume_cli.specs.Life.{IsUnused, opened, with_open_fault, closed_as}
-use Rattle.flume_cli.specs.Cat.{to_read, FileRuns, IdealFileRuns, cat_work, missed, lived, Retires, deed_of, and_one, IsFrontWithin, RunsCat}
-use Rattle.flume_cli.proofs.Reading.{rendering_bytes, reads_done, reads_fault, reads_endless, reads_front}
-use Rattle.flume_cli.proofs.Accounting.{accounted, back_is, made_is, keeps_more, kept_one, kept_none, place_itself}
+use Rattle.flume_cli.specs.Life.{IsUnused}
+use Rattle.flume_cli.specs.Cat.{to_read, IdealFileRuns, cat_work, missed, lived, Retires, deed_of, and_one, IsFrontWithin, RunsCat}
+use Rattle.flume_cli.proofs.Accounting.{accounted, back_is, keeps_more, kept_none}
 use Rattle.flume_cli.proofs.CatRows.{lived_told}
 
 -- Ledgers.

@@ -1,5 +1,5 @@
 -- The room that is made before a file is opened.
-use Rattle.std.specs.Prelude.{◌≡◌, ◌<◌, [], length, vec_capacity}
+use Rattle.std.specs.Prelude.{◌≡◌, ◌<◌, ℕ, [], length, vec_capacity}
 use Rattle.res_ledger.specs.declared.event.StreamNo.TheVariants.{Inner}
 use Rattle.row_seat.specs.PlainSeats.{shown, Sits}
 use Rattle.row_seat.specs.Views.{start}
