@@ -1,0 +1,6 @@
+pub mod Leads
+pub mod Kept
+pub mod Turns
+pub mod Entering
+pub mod Pieces
+pub mod Steps

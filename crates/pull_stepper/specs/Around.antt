@@ -1,0 +1,87 @@
+-- What a node is run over: devices by their places, scopes, and the room that there is.
+use Rattle.std.specs.Prelude.{◌≡◌, ℕ, ◌+◌, ◌<◌, ◌≤◌, true, false, List, take, drop, length, IfSome}
+use Rattle.device_port.specs.Device.{DeviceTold, moved}
+
+-- what the device of each place tells, which scopes are open, which devices were never asked,
+-- which are held by which scope, and room for events, for scopes and for rows
+pub record Around : Type 1 where
+  pub told : ℕ → DeviceTold
+  pub opened : ℕ → Type 0
+  pub waits : ℕ → Type 0
+  pub holds : ℕ → ℕ → Type 0
+  pub events : ℕ
+  pub scopes : ℕ
+  pub rows : ℕ
+
+-- what a device tells, but for whether it was closed
+abbrev pub gist : DeviceTold → DeviceTold
+gist d = record d { is_open = false; closes = 0; close_faults = 0 }
+
+-- a device that told d may come to tell e
+pub record Goes (d e : DeviceTold) : Type 0 where
+  pub content : e.content ≡ d.content
+  pub at : d.at ≤ e.at
+  pub opens : d.opens ≡ 1 → e.opens ≡ 1
+
+-- the place is held by a scope
+abbrev pub IsHeld : Around → ℕ → Type 0
+IsHeld a p = (k : ℕ) × a.holds p k
+
+-- the devices of other places than the touched ones, and the scopes up to s with what they hold, are as they were
+pub record Keeps (a : Around) (Touched : ℕ → Type 0) (s : ℕ) (b : Around) : Type 0 where
+  pub told : (q : ℕ) → (Touched q → ⊥) → gist (b.told q) ≡ gist (a.told q)
+  pub waits : (q : ℕ) → (Touched q → ⊥) → a.waits q → b.waits q
+  pub holds : (q k : ℕ) → (Touched q → ⊥) → k ≤ s → a.holds q k → b.holds q k
+  pub opened : (k : ℕ) → k ≤ s → a.opened k → b.opened k
+
+-- the same room at least
+pub record Affords (a b : Around) : Type 0 where
+  pub events : a.events ≤ b.events
+  pub scopes : a.scopes ≤ b.scopes
+  pub rows : a.rows ≤ b.rows
+
+-- the device of p was opened, and the scope s holds it
+pub record Acquires (a : Around) (s p : ℕ) (b : Around) : Type 0 where
+  pub told : b.told p ≡ record (a.told p) { is_open = true; opens = 1 }
+  pub keeps : (k : ℕ) → Keeps a (λ q. q ≡ p) k b
+  pub holds : (q k : ℕ) → a.holds q k → b.holds q k
+  pub held : b.holds p s
+  pub events : a.events ≤ b.events + 2
+  pub scopes : a.scopes ≤ b.scopes
+  pub rows : a.rows ≤ b.rows + 1
+
+-- the device of p could not be opened
+pub record Refuses (a : Around) (p : ℕ) (b : Around) : Type 0 where
+  pub told : b.told p ≡ record (a.told p) { open_faults = (a.told p).open_faults + 1 }
+  pub keeps : (k : ℕ) → Keeps a (λ q. q ≡ p) k b
+  pub affords : Affords a b
+
+-- the device of p gave the first n bytes of the buffer, and none only at its end
+pub record Gives (a : Around) (p n : ℕ) (buf : List ℕ) (b : Around) : Type 0 where
+  pub count : n ≤ length buf
+  pub told : b.told p ≡ moved n (a.told p)
+  pub bytes : IfSome (a.told p).content (λ c. take n buf ≡ take n (drop (a.told p).at c))
+  pub end : n ≡ 0 → IfSome (a.told p).content (λ c. length c ≤ (a.told p).at)
+  pub keeps : (k : ℕ) → Keeps a (λ q. q ≡ p) k b
+  pub holds : (q k : ℕ) → a.holds q k → b.holds q k
+  pub affords : Affords a b
+
+-- the device of p could not be read
+pub record Fails (a : Around) (p : ℕ) (b : Around) : Type 0 where
+  pub told : b.told p ≡ record (a.told p) { read_faults = (a.told p).read_faults + 1 }
+  pub keeps : (k : ℕ) → Keeps a (λ q. q ≡ p) k b
+  pub affords : Affords a b
+
+-- the scope c was opened below s
+pub record Enters (a : Around) (s c : ℕ) (b : Around) : Type 0 where
+  pub below : s < c
+  pub opened : b.opened c
+  pub keeps : (k : ℕ) → Keeps a (λ q. ⊥) k b
+  pub events : a.events ≤ b.events + 2
+  pub scopes : a.scopes ≤ b.scopes + 1
+  pub rows : a.rows ≤ b.rows
+
+-- the scope c was closed with what it held
+pub record Leaves (a : Around) (c : ℕ) (b : Around) : Type 0 where
+  pub keeps : (k : ℕ) → k < c → Keeps a (λ q. ⊥) k b
+  pub affords : Affords a b

@@ -1,0 +1,4 @@
+pub mod Around
+pub mod Rest
+pub mod Turned
+pub mod Moves
