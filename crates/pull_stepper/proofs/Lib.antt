@@ -4,3 +4,4 @@ pub mod Turns
 pub mod Entering
 pub mod Pieces
 pub mod Steps
+pub mod Led

@@ -81,7 +81,9 @@ pub record Enters (a : Around) (s c : ℕ) (b : Around) : Type 0 where
   pub scopes : a.scopes ≤ b.scopes + 1
   pub rows : a.rows ≤ b.rows
 
--- the scope c was closed with what it held
+-- the scope c was closed with what it held; with the root each scope is closed
 pub record Leaves (a : Around) (c : ℕ) (b : Around) : Type 0 where
+  pub told : (q : ℕ) → gist (b.told q) ≡ gist (a.told q)
   pub keeps : (k : ℕ) → k < c → Keeps a (λ q. ⊥) k b
+  pub root : c ≡ 0 → (k : ℕ) → b.opened k → ⊥
   pub affords : Affords a b

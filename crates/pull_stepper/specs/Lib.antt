@@ -2,3 +2,4 @@ pub mod Around
 pub mod Rest
 pub mod Turned
 pub mod Moves
+pub mod Led

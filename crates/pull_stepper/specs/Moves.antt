@@ -1,6 +1,8 @@
 -- What the parts of a turn do.
 use Rattle.std.specs.Prelude.{◌≡◌, ℕ, zero, suc, ◌+◌, ◌-◌, ◌<◌, ◌≤◌, ◌^◌, Bool, true, false, List, length, take, drop, map, Option, None, Some, IfSome}
 use Rattle.chunk_core.specs.declared.code.Code.TheVariants as code
+use Rattle.chunk_core.specs.declared.code.How.{How}
+use Rattle.chunk_core.specs.declared.code.How.TheVariants as how
 use Rattle.chunk_core.specs.declared.load.Load.{Load}
 use Rattle.chunk_core.specs.Elements.{elements, Byte}
 use Rattle.pull_stepper.specs.Around.{Around, Affords, Keeps, Leaves}
@@ -29,6 +31,13 @@ is_fault (turn.Chunk l) = false
 is_fault turn.Quiet = false
 is_fault turn.Done = false
 is_fault (turn.Fault c) = true
+
+-- how a run has ended after a turn
+abbrev pub how_of : Turn → Option How
+how_of (turn.Chunk l) = None
+how_of turn.Quiet = None
+how_of turn.Done = Some how.Done
+how_of (turn.Fault c) = Some (how.Fault c)
 
 abbrev pub load_or_quiet : ℕ → Load → Turn
 load_or_quiet zero l = turn.Quiet

@@ -7,7 +7,10 @@ pub mod outside;
 pub(crate) mod reading;
 pub mod rest;
 pub(crate) mod step;
+pub mod stepper;
 pub mod turn;
 
+pub use outside::Outside;
 pub use rest::Rest;
+pub use stepper::{Stepper, Unconsed};
 pub use turn::Turn;

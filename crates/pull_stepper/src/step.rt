@@ -67,7 +67,7 @@ pub(crate) fn step<O: Outside>(
 }
 
 /// A scope is closed where what ran in it has ended.
-fn leave_at_end<O: Outside>(outside: &mut O, desk: &mut O::Desk, scope: u32, turn: &Turn)
+pub(crate) fn leave_at_end<O: Outside>(outside: &mut O, desk: &mut O::Desk, scope: u32, turn: &Turn)
     requires fits { O.fits outside.old desk.old }
     requires scope { (O.seen outside.old).opened scope }
     ensures ends { LeavesAtEnd O.seen outside.old scope turn.now outside.new }

@@ -1,8 +1,8 @@
 //! What one turn gives.
 ghost use Rattle.std.specs.Prelude.{◌≡◌};
-ghost use Rattle.pull_stepper.specs.Moves.{is_end};
+ghost use Rattle.pull_stepper.specs.Moves.{is_end, how_of};
 
-use chunk_core::{Code, Load};
+use chunk_core::{Code, How, Load};
 
 /// What one turn gives.
 #[derive(Drop)]
@@ -24,6 +24,17 @@ impl Turn {
         match self {
             Turn::Chunk(_) | Turn::Quiet => false,
             Turn::Done | Turn::Fault(_) => true,
+        }
+    }
+
+    /// How the run has ended, where it has.
+    pub(crate) fn how(&self) -> Option<How>
+        ensures { result ≡ how_of self.now }
+    {
+        match self {
+            Turn::Chunk(_) | Turn::Quiet => None,
+            Turn::Done => Some(How::Done),
+            Turn::Fault(code) => Some(How::Fault(*code)),
         }
     }
 }

@@ -1,0 +1,179 @@
+//! A node that is run turn by turn.
+ghost use Rattle.std.specs.Prelude.{◌≡◌, ℕ, ◌+◌, ◌<◌, ◌≤◌, true, false, Some, None, flat_map, IfOk, OnErr};
+ghost use Rattle.chunk_core.specs.declared.code.How.TheVariants as how;
+ghost use Rattle.chunk_core.specs.Elements.{elements};
+ghost use Rattle.pull_stepper.specs.Rest.{CanStep, IsRunOfRest};
+ghost use Rattle.pull_stepper.specs.Turned.{Moved};
+ghost use Rattle.pull_stepper.specs.Moves.{how_of};
+ghost use Rattle.pull_stepper.specs.Led.{IsShut, Tells, Turns, Uncons, end_by};
+ghost use Rattle.pull_stepper.specs.declared.rest.Rest.TheVariants as rest;
+
+use crate::outside::Outside;
+use crate::rest::Rest;
+use crate::step::{leave_at_end, step};
+use crate::turn::Turn;
+use chunk_core::{How, Load};
+use pull_nodes::Node;
+use std::alloc::{AllocError, Global};
+
+/// A node that is run turn by turn over its devices and scopes.
+///
+/// After want of memory it may only be halted.
+pub struct Stepper<O> {
+    alloc: Global,
+    rest: Rest,
+    outside: O,
+    chunk: u32,
+    how: Option<How>,
+    wanting: bool,
+}
+
+/// What comes first of a node.
+#[derive(Drop)]
+pub enum Unconsed {
+    /// Elements, at least one.
+    Chunk(Load),
+    /// The end, which is `Done` or a fault.
+    End(How),
+    /// Nothing in the turns that were made.
+    Again,
+}
+
+impl<O: Outside> Stepper<O> {
+    /// A node that is about to run, with reads of at most `chunk` bytes.
+    pub fn over(alloc: Global, node: Node, outside: O, chunk: u32) -> Stepper<O>
+        ensures rest { result.rest ≡ rest.Start node }
+        ensures outside { result.outside ≡ outside }
+        ensures chunk { result.chunk ≡ chunk }
+        ensures runs { (result.how ≡ None) × (result.wanting ≡ false) }
+    {
+        Stepper {
+            alloc,
+            rest: Rest::Start(node),
+            outside,
+            chunk,
+            how: None,
+            wanting: false,
+        }
+    }
+
+    /// Makes one turn. At the end each scope is closed.
+    pub fn turn(&mut self, desk: &mut O::Desk) -> Result<Turn, AllocError>
+        requires fits { O.fits self.old.outside desk.old }
+        requires runs { (self.old.how ≡ None) × (self.old.wanting ≡ false) }
+        requires can { CanStep (O.seen self.old.outside) 0 self.old.rest }
+        requires chunk { 0 < self.old.chunk }
+        ensures turned { IfOk result (λ t. Turns (O.seen self.old.outside) (O.seen self.new.outside) self.old.chunk self.old.rest self.new.rest t) }
+        ensures how { IfOk result (λ t. self.new.how ≡ how_of t) }
+        ensures sound { IfOk result (λ t. self.new.wanting ≡ false) }
+        ensures wanting { OnErr result ((self.new.wanting ≡ true) × (self.new.how ≡ None)) }
+        ensures stopped { OnErr result (Moved (O.seen self.old.outside) (O.seen self.new.outside) 0 self.old.rest) }
+        ensures chunk { self.new.chunk ≡ self.old.chunk }
+        ensures fits { O.fits self.new.outside desk.new }
+    {
+        self.wanting = true;
+        let turn = step(
+            self.alloc,
+            &mut self.rest,
+            &mut self.outside,
+            desk,
+            0,
+            self.chunk,
+        )?;
+        self.wanting = false;
+        leave_at_end(&mut self.outside, desk, 0, &turn);
+        self.how = turn.how();
+        Ok(turn)
+    }
+
+    /// Makes turns until one gives elements or the end, but not more than `turns`.
+    pub fn uncons(&mut self, desk: &mut O::Desk, turns: u64) -> Result<Unconsed, AllocError>
+        requires fits { O.fits self.old.outside desk.old }
+        requires runs { (self.old.how ≡ None) × (self.old.wanting ≡ false) }
+        requires can { CanStep (O.seen self.old.outside) 0 self.old.rest }
+        requires chunk { 0 < self.old.chunk }
+        requires turns { 1 ≤ turns }
+        ensures first { IfOk result (λ u. Uncons (O.seen self.old.outside) (O.seen self.new.outside) turns self.old.rest self.new.rest self.new.how u) }
+        ensures sound { IfOk result (λ u. self.new.wanting ≡ false) }
+        ensures wanting { OnErr result ((self.new.wanting ≡ true) × (self.new.how ≡ None)) }
+        ensures stopped { OnErr result ((O.seen self.new.outside).opened 0 × Tells (O.seen self.old.outside).told (O.seen self.new.outside).told self.old.rest) }
+        ensures chunk { self.new.chunk ≡ self.old.chunk }
+        ensures fits { O.fits self.new.outside desk.new }
+    {
+        for _turn in 0..turns {
+            match self.turn(desk)? {
+                Turn::Chunk(load) => return Ok(Unconsed::Chunk(load)),
+                Turn::Quiet => (),
+                Turn::Done => return Ok(Unconsed::End(How::Done)),
+                Turn::Fault(code) => return Ok(Unconsed::End(How::Fault(code))),
+            }
+        }
+        Ok(Unconsed::Again)
+    }
+
+    /// Stops the run, and closes each scope.
+    pub fn halt(&mut self, desk: &mut O::Desk)
+        requires fits { O.fits self.old.outside desk.old }
+        requires runs { self.old.how ≡ None }
+        requires root { (O.seen self.old.outside).opened 0 }
+        ensures shut { IsShut (O.seen self.new.outside) }
+        ensures tells { Tells (O.seen self.old.outside).told (O.seen self.new.outside).told rest.Nil }
+        ensures halted { self.old.wanting ≡ false → self.new.how ≡ Some how.Halted }
+        ensures memory { self.old.wanting ≡ true → self.new.how ≡ Some how.Memory }
+        ensures fits { O.fits self.new.outside desk.new }
+    {
+        self.outside.leave(desk, 0);
+        self.how = Some(if self.wanting {
+            How::Memory
+        } else {
+            How::Halted
+        });
+    }
+
+    /// What it was run over, and how it ended.
+    pub fn end(self) -> (O, How)
+        requires ended { (e : _) × (self.how ≡ Some e) }
+        ensures outside { result.0 ≡ self.outside }
+        ensures how { self.how ≡ Some result.1 }
+    {
+        let Stepper {
+            alloc: _,
+            rest: _,
+            outside,
+            chunk: _,
+            how,
+            wanting: _,
+        } = self;
+        match how {
+            Some(how) => (outside, how),
+            None => unreachable!(),
+        }
+    }
+}
+
+/// Runs a stepper to its end, but makes no more than `turns` turns: what it gave and how it ended
+/// are a run of the node, which was left where it has not ended.
+pub fn run_all<O: Outside>(
+    alloc: Global,
+    stepper: &mut Stepper<O>,
+    desk: &mut O::Desk,
+    turns: u64,
+) -> Result<Vec<Load>, AllocError>
+    requires fits { O.fits stepper.old.outside desk.old }
+    requires runs { (stepper.old.how ≡ None) × (stepper.old.wanting ≡ false) }
+    requires can { CanStep (O.seen stepper.old.outside) 0 stepper.old.rest }
+    requires chunk { 0 < stepper.old.chunk }
+    ensures run { IfOk result (λ loads. IsRunOfRest (O.seen stepper.new.outside).told stepper.old.rest (flat_map elements loads.items) (end_by stepper.new.how)) }
+    ensures fits { O.fits stepper.new.outside desk.new }
+{
+    let mut out = Vec::new(alloc);
+    for _turn in 0..turns {
+        match stepper.turn(desk)? {
+            Turn::Chunk(load) => out.push(load)?,
+            Turn::Quiet => (),
+            Turn::Done => return Ok(out),
+            Turn::Fault(_) => return Ok(out),
+        }
+    }
+    Ok(out)
+}
