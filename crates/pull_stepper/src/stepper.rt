@@ -19,6 +19,7 @@ use std::alloc::{AllocError, Global};
 /// A node that is run turn by turn over its devices and scopes.
 ///
 /// After want of memory it may only be halted.
+#[derive(Drop)]
 pub struct Stepper<O> {
     alloc: Global,
     rest: Rest,
@@ -109,6 +110,13 @@ impl<O: Outside> Stepper<O> {
             }
         }
         Ok(Unconsed::Again)
+    }
+
+    /// How it has ended, where it has.
+    pub fn how(&self) -> Option<How>
+        ensures { result ≡ self.now.how }
+    {
+        self.how
     }
 
     /// Stops the run, and closes each scope.
