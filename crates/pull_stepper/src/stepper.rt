@@ -1,8 +1,8 @@
 //! A node that is run turn by turn.
-ghost use Rattle.std.specs.Prelude.{◌≡◌, ℕ, ◌+◌, ◌<◌, ◌≤◌, true, false, Some, None, flat_map, IfOk, OnErr};
+ghost use Rattle.std.specs.Prelude.{◌≡◌, ℕ, ◌+◌, ◌<◌, ◌≤◌, true, false, Some, None, flat_map, length, IfOk, OnErr};
 ghost use Rattle.chunk_core.specs.declared.code.How.TheVariants as how;
 ghost use Rattle.chunk_core.specs.Elements.{elements};
-ghost use Rattle.pull_stepper.specs.Rest.{CanStep, IsRunOfRest};
+ghost use Rattle.pull_stepper.specs.Rest.{CanStep, IsRunOfRest, left};
 ghost use Rattle.pull_stepper.specs.Turned.{Moved};
 ghost use Rattle.pull_stepper.specs.Moves.{how_of};
 ghost use Rattle.pull_stepper.specs.Led.{IsShut, Tells, Turns, Uncons, end_by};
@@ -128,6 +128,7 @@ impl<O: Outside> Stepper<O> {
         ensures tells { Tells (O.seen self.old.outside).told (O.seen self.new.outside).told rest.Nil }
         ensures halted { self.old.wanting ≡ false → self.new.how ≡ Some how.Halted }
         ensures memory { self.old.wanting ≡ true → self.new.how ≡ Some how.Memory }
+        ensures wanting { self.new.wanting ≡ self.old.wanting }
         ensures fits { O.fits self.new.outside desk.new }
     {
         self.outside.leave(desk, 0);
@@ -171,6 +172,7 @@ pub fn run_all<O: Outside>(
     requires runs { (stepper.old.how ≡ None) × (stepper.old.wanting ≡ false) }
     requires can { CanStep (O.seen stepper.old.outside) 0 stepper.old.rest }
     requires chunk { 0 < stepper.old.chunk }
+    ensures turns { IfOk result (λ loads. stepper.new.how ≡ None → turns + left stepper.new.rest ≤ length loads.items + left stepper.old.rest) }
     ensures run { IfOk result (λ loads. IsRunOfRest (O.seen stepper.new.outside).told stepper.old.rest (flat_map elements loads.items) (end_by stepper.new.how)) }
     ensures fits { O.fits stepper.new.outside desk.new }
 {

@@ -1,4 +1,4 @@
-use Rattle.std.proofs.Common.{subst, ◌<◌, sym}
+use Rattle.std.proofs.Common.{arith, length-append, ◌∷◌, [], subst, ◌<◌, sym}
 use Rattle.pull_stepper.proofs.Led.{led_pushed, led_quiet, led_done, led_fault, led_cut, over_now}
 use Rattle.pull_stepper.proofs.stepper.run_all.Goals as goal
 use Rattle.pull_stepper.proofs.stepper.run_all.Goals.{in-Chunk+in_ok-push-in-Chunk, in-Quiet}
@@ -29,6 +29,7 @@ loop-turn-preserved g c =
             sound = c.in_ok-load.ensures.sound;
             can = k.can tt;
             chunk = subst (λ n. 0 < n) (sym c.in_ok-load.ensures.chunk) i.chunk;
+            counted = rw (w.out-is, w.in_ok-push-in-Chunk.ensures.items) (omega (arith, i.counted, k.fewer, length-append c.loop-turn.out.items (w.in-Chunk.load ∷ [])));
             led = rw (w.out-is, w.in_ok-push-in-Chunk.ensures.items) (led_pushed _ _ _ _ _ _ _ c.loop-turn.out.items _ i.led k);
           }
       | in-Quiet w ↦
@@ -39,6 +40,7 @@ loop-turn-preserved g c =
             sound = c.in_ok-load.ensures.sound;
             can = k.can tt;
             chunk = subst (λ n. 0 < n) (sym c.in_ok-load.ensures.chunk) i.chunk;
+            counted = rw w.out-is (omega (arith, i.counted, k.gave.0));
             led = rw w.out-is (led_quiet _ _ _ _ _ _ _ _ i.led k);
           }
     ]
