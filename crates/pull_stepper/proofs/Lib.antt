@@ -5,4 +5,3 @@ pub mod Entering
 pub mod Pieces
 pub mod Steps
 pub mod Led
-pub mod Plain

@@ -1,7 +1,6 @@
 -- What a node is run over: devices by their places, scopes, and the room that there is.
-use Rattle.std.specs.Prelude.{◌≡◌, ℕ, ◌+◌, ◌<◌, ◌≤◌, true, false, None, List, [], take, drop, length, IfSome}
+use Rattle.std.specs.Prelude.{◌≡◌, ℕ, ◌+◌, ◌<◌, ◌≤◌, true, false, List, take, drop, length, IfSome}
 use Rattle.device_port.specs.Device.{DeviceTold, moved}
-use Rattle.device_port.specs.declared.device.Mode.TheVariants as mode
 
 -- what the device of each place tells, which scopes are open, which devices were never asked,
 -- which are held by which scope, and room for events, for scopes and for rows
@@ -13,24 +12,6 @@ pub record Around : Type 1 where
   pub events : ℕ
   pub scopes : ℕ
   pub rows : ℕ
-
--- what stands where there is no device
-abbrev pub no_device : DeviceTold
-no_device = record {
-  number = 0;
-  place = record { path = []; mode = mode.Read };
-  present = None;
-  content = None;
-  at = 0;
-  written = None;
-  is_open = false;
-  opens = 0;
-  closes = 0;
-  open_faults = 0;
-  read_faults = 0;
-  write_faults = 0;
-  close_faults = 0;
-}
 
 -- what a device tells, but for whether it was closed
 abbrev pub gist : DeviceTold → DeviceTold

@@ -98,18 +98,6 @@ IsFresh a P s (node.Take' n _ m) = IsFresh a P s m
 abbrev pub NoPlace : ℕ → Type 0
 NoPlace p = ⊥
 
--- the node uses no device
-abbrev pub IsPlain : Node → Type 0
-IsPlain node.Nil = Unit {0}
-IsPlain (node.Emit l) = Unit {0}
-IsPlain (node.Raise c) = Unit {0}
-IsPlain (node.Read p) = ⊥
-IsPlain (node.Weak' p _ a) = ⊥
-IsPlain (node.Scope' _ a) = IsPlain a
-IsPlain (node.Append' _ a _ b) = IsPlain a × IsPlain b
-IsPlain (node.OnFault' _ a _ b) = IsPlain a × IsPlain b
-IsPlain (node.Take' n _ a) = IsPlain a
-
 -- what is left may be run on in the scope s
 abbrev pub IsReady : Around → ℕ → Rest → Type 0
 IsReady a s Nil = Unit {0}

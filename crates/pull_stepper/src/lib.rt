@@ -8,8 +8,6 @@ pub(crate) mod reading;
 pub mod rest;
 pub(crate) mod step;
 pub mod stepper;
-#[cfg(test)]
-mod tests;
 pub mod turn;
 
 pub use outside::Outside;

@@ -1,7 +1,0 @@
-use Rattle.std.proofs.Common.{arith}
-use Rattle.pull_stepper.proofs.Plain.{plain_can}
-use Rattle.pull_stepper.proofs.tests.two_pulls.Goals as goal
-
-pub uncons-requires-clause-can : goal.uncons-requires-clause-can
-uncons-requires-clause-can c = let few = c.requires.scopes in
-    rw (c.over-stepper.ensures.rest, c.over-stepper.ensures.outside) (plain_can _ _ c.requires.plain (omega arith) (omega (arith, few)) few)
