@@ -50,8 +50,7 @@ module _ (path : List ℕ) (old mid new : DepotTold) (d : DeviceTold) (so sn : S
       record {
         frames = [];
         rest = [];
-        fits = tt;
-        front = inl refl;
+        within = record { fits = tt; front = inl refl };
         performs = record {
           devices = accounted old new (to_read path) e (new_made path old mid new d e makes (refl, refl, refl) retires) (new_retired path old mid new d e makes (refl, refl, refl) retires)
               missed (number_is path old mid new d e makes (refl, refl, refl) retires) place (unused.closed, unused.closes ∙ sym unused.opens) (tt, tt)
@@ -96,8 +95,7 @@ module _ (path : List ℕ) (old mid new : DepotTold) (d : DeviceTold) (so sn : S
       record {
         frames = [];
         rest = [];
-        fits = tt;
-        front = inl refl;
+        within = record { fits = tt; front = inl refl };
         performs = record {
           devices = accounted old new (to_read path) d (new_made path old mid new d d makes (refl, refl, refl) retires) (new_retired path old mid new d d makes (refl, refl, refl) retires)
               [] (number_is path old mid new d d makes (refl, refl, refl) retires) (place_is path old mid new d d makes (refl, refl, refl) retires) (unused.closed, unused.closes ∙ sym unused.opens) tt
@@ -127,8 +125,7 @@ cat_makes_nothing path old new so sn size e quiet =
     subst (λ x. RunsCat path size old x so sn (record { ends = []; ledger = []; sink_failed = false; memory = true })) (sym e) (record {
       frames = [];
       rest = [];
-      fits = tt;
-      front = inl refl;
+      within = record { fits = tt; front = inl refl };
       performs = record {
         devices = record {
           made = and_nothing old.made;

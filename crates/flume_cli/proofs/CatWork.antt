@@ -214,8 +214,7 @@ module _ (path : List ℕ) (old mid new : DepotTold) (d : DeviceTold) (makes : M
   shows_cat so sn size ended s = record {
     frames = s.frames;
     rest = s.rest;
-    fits = s.fits;
-    front = s.front;
+    within = record { fits = s.fits; front = s.front };
     performs = record {
       devices = lived_devices;
       ledger = lived_rules path ok;

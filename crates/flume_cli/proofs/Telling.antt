@@ -69,7 +69,7 @@ memory_is u f n e = ap (λ b. by_flags b true f n) (sym e)
 printed_is : (u f n : Bool) → u ≡ false → by_flags false false f n ≡ by_flags u false f n
 printed_is u f n e = ap (λ b. by_flags b false f n) (sym e)
 
-module _ (words : List (List ℕ)) (path : List ℕ) (chunk : ℕ) (src : SourceTold) (dold dnew : DepotTold) (so mid sn : SinkTold) (eold enew : SinkTold) (o : Outcome) (known : cat_path_of words ≡ Some path) (runs : RunsCat path chunk dold dnew so mid o) where
+module _ (words : List (List ℕ)) (path : List ℕ) (src : SourceTold) (dold dnew : DepotTold) (so mid sn : SinkTold) (eold enew : SinkTold) (o : Outcome) (known : cat_path_of words ≡ Some path) (runs : RunsCat path 4096 dold dnew so mid o) where
   abbrev tail : List ℕ
   tail = tail_text o.ends o.ledger
 
@@ -118,12 +118,15 @@ module _ (words : List (List ℕ)) (path : List ℕ) (chunk : ℕ) (src : Source
       line = line;
     };
     source = refl;
-    does = subst (λ p. Does (told s) (causes m) (command_by p)) (sym known) (record {
-      frames = runs.frames;
-      rest = runs.rest;
-      performs = performs_more (cat_work path) (deed_of dold dnew runs.frames runs.rest o) (nat_lt so.faults sn.faults) m failed more runs.performs;
-      text = text;
-    });
+    does = subst (λ p. Does (told s) (causes m) (command_by p)) (sym known) (
+      record {
+        frames = runs.frames;
+        rest = runs.rest;
+        performs = performs_more (cat_work path) (deed_of dold dnew runs.frames runs.rest o) (nat_lt so.faults sn.faults) m failed more runs.performs;
+        text = text;
+      },
+      runs.within,
+    );
   }
 
   mid_faults : mid.faults ≡ and_one o.sink_failed so.faults

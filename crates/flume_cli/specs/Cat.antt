@@ -105,12 +105,16 @@ and_one failed n = cond failed (n + 1) n
 abbrev pub IsFrontWithin : ℕ → List ℕ → Type 0
 IsFrontWithin size rest = (rest ≡ []) ⊎ ((bytes : List ℕ) × (length bytes ≤ size) × (more : List ℕ) × (rest ++ more ≡ frame_text 0 bytes))
 
+-- no frame has more than size bytes, nor has the one of which a front was written
+pub record AreWithin (size : ℕ) (frames : List Frame) (rest : List ℕ) : Type 0 where
+  pub fits : Each (λ f. length f.payload ≤ size) frames
+  pub front : IsFrontWithin size rest
+
 -- the work of cat was done, and the sink got the frames, of at most chunk bytes each, and what was written of a further one
 pub record RunsCat (path : List ℕ) (chunk : ℕ) (depot_old depot_new : DepotTold) (old new : SinkTold) (o : Outcome) : Type 0 where
   pub frames : List Frame
   pub rest : List ℕ
-  pub fits : Each (λ f. length f.payload ≤ chunk) frames
-  pub front : IsFrontWithin chunk rest
+  pub within : AreWithin chunk frames rest
   pub performs : Performs (cat_work path) (deed_of depot_old depot_new frames rest o)
   pub wrote : new ≡ record (with_bytes old (frames_text frames ++ rest)) { faults = and_one o.sink_failed old.faults }
   pub begun : o.ends ≡ [] → (o.sink_failed ≡ false) × (o.memory ≡ true)

@@ -15,7 +15,7 @@ use Rattle.flume_cli.specs.declared.status.Status.{Status}
 use Rattle.flume_cli.specs.declared.status.Status.TheVariants as status
 use Rattle.flume_cli.specs.Words.{Command, Cat, Nothing, cat_path_of, command_of}
 use Rattle.flume_cli.specs.Status.{Causes, status_of, line_of}
-use Rattle.flume_cli.specs.Cat.{cat_work}
+use Rattle.flume_cli.specs.Cat.{cat_work, AreWithin}
 
 -- a call: its words, the outside before and after, and its report
 pub record Call : Type 0 where
@@ -89,7 +89,7 @@ pub record Tells (work : Work) (c : Call) (k : Causes) : Type 0 where
 
 -- what was done for a command
 abbrev pub Does : Call → Causes → Command → Type 0
-Does c k (Cat path) = Tells (cat_work path) c k
+Does c k (Cat path) = (t : Tells (cat_work path) c k) × AreWithin 4096 t.frames t.rest
 Does c k Nothing = IsIdle c
 
 -- The whole contract. What it says of devices, ledger, outputs, ends and completeness stands in `Performs`.

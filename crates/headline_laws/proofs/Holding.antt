@@ -41,26 +41,29 @@ whole_file_holds = record {
   causes = record { words = true; unwritten = false; memory = false; faulty = false; unclean = false };
   status = record { words = refl; unwritten = refl; memory = λ h. absurd (false≢true h); faulty = refl; unclean = refl; status = refl; line = inl refl };
   source = refl;
-  does = record {
-    frames = frames_of_whole_file;
-    rest = [];
-    performs = record {
-      devices = record { made = refl; retired = refl; number = refl; once = (refl, tt); shut = ((refl, refl), tt); rows = (omega arith, (tt, (tt, tt))); acquired = (refl, (refl, tt)); failed = tt; files = λ path. inr refl };
-      ledger = row_rules true;
-      ran = inr (record {
-        home = λ r. hello_device 6 0 0;
-        rows = record { at_home = (refl, refl, inl (inl refl), tt); apart = refl; tied = (refl, (tt, (refl, tt))) };
-        outputs = record {
-          numbers = ((omega arith, omega arith), tt);
-          outputs = (record { elements = map Byte (codes "hello\n"); end = Done; run = inl (inl (refl, inl (inl (omega arith, refl, refl)))); printed = refl; reported = refl }, refl);
-          cut = inl refl;
-        };
-        ends = record { named = refl; caused = (record { halted = λ h. absurd (false≢true h); fault = refl; root = λ h. refl }, tt); memory = λ h. absurd (false≢true h) };
-        completeness = λ m n. record { done = (refl, tt); clean = refl; output = ((map Byte (codes "hello\n"), inl (refl, inl (omega arith, refl, refl)), refl), tt) };
-      });
-    };
-    text = record { said = tail_text whole_file.ends whole_file.events; written = text_of_whole_file; tail = (refl, refl); spoke = λ e. absurd (no_nil _ _ e); once = omega arith };
-  };
+  does = (
+    record {
+      frames = frames_of_whole_file;
+      rest = [];
+      performs = record {
+        devices = record { made = refl; retired = refl; number = refl; once = (refl, tt); shut = ((refl, refl), tt); rows = (omega arith, (tt, (tt, tt))); acquired = (refl, (refl, tt)); failed = tt; files = λ path. inr refl };
+        ledger = row_rules true;
+        ran = inr (record {
+          home = λ r. hello_device 6 0 0;
+          rows = record { at_home = (refl, refl, inl (inl refl), tt); apart = refl; tied = (refl, (tt, (refl, tt))) };
+          outputs = record {
+            numbers = ((omega arith, omega arith), tt);
+            outputs = (record { elements = map Byte (codes "hello\n"); end = Done; run = inl (inl (refl, inl (inl (omega arith, refl, refl)))); printed = refl; reported = refl }, refl);
+            cut = inl refl;
+          };
+          ends = record { named = refl; caused = (record { halted = λ h. absurd (false≢true h); fault = refl; root = λ h. refl }, tt); memory = λ h. absurd (false≢true h) };
+          completeness = λ m n. record { done = (refl, tt); clean = refl; output = ((map Byte (codes "hello\n"), inl (refl, inl (omega arith, refl, refl)), refl), tt) };
+        });
+      };
+      text = record { said = tail_text whole_file.ends whole_file.events; written = text_of_whole_file; tail = (refl, refl); spoke = λ e. absurd (no_nil _ _ e); once = omega arith };
+    },
+    record { fits = (omega arith, tt); front = inl refl },
+  );
 }
 
 abbrev frames_of_empty_file : List Frame
@@ -75,26 +78,29 @@ empty_file_holds = record {
   causes = record { words = true; unwritten = false; memory = false; faulty = false; unclean = false };
   status = record { words = refl; unwritten = refl; memory = λ h. absurd (false≢true h); faulty = refl; unclean = refl; status = refl; line = inl refl };
   source = refl;
-  does = record {
-    frames = frames_of_empty_file;
-    rest = [];
-    performs = record {
-      devices = record { made = refl; retired = refl; number = refl; once = (refl, tt); shut = ((refl, refl), tt); rows = (omega arith, (tt, (tt, tt))); acquired = (refl, (refl, tt)); failed = tt; files = λ path. inr refl };
-      ledger = row_rules true;
-      ran = inr (record {
-        home = λ r. closed_device [] 0 0 0;
-        rows = record { at_home = (refl, refl, inl (inl refl), tt); apart = refl; tied = (refl, (tt, (refl, tt))) };
-        outputs = record {
-          numbers = tt;
-          outputs = (record { elements = []; end = Done; run = inl (inl (refl, inl (inl (omega arith, refl, refl)))); printed = refl; reported = refl }, refl);
-          cut = inl refl;
-        };
-        ends = record { named = refl; caused = (record { halted = λ h. absurd (false≢true h); fault = refl; root = λ h. refl }, tt); memory = λ h. absurd (false≢true h) };
-        completeness = λ m n. record { done = (refl, tt); clean = refl; output = (([], inl (refl, inl (omega arith, refl, refl)), refl), tt) };
-      });
-    };
-    text = record { said = tail_text empty_file.ends empty_file.events; written = text_of_empty_file; tail = (refl, refl); spoke = λ e. absurd (no_nil _ _ e); once = omega arith };
-  };
+  does = (
+    record {
+      frames = frames_of_empty_file;
+      rest = [];
+      performs = record {
+        devices = record { made = refl; retired = refl; number = refl; once = (refl, tt); shut = ((refl, refl), tt); rows = (omega arith, (tt, (tt, tt))); acquired = (refl, (refl, tt)); failed = tt; files = λ path. inr refl };
+        ledger = row_rules true;
+        ran = inr (record {
+          home = λ r. closed_device [] 0 0 0;
+          rows = record { at_home = (refl, refl, inl (inl refl), tt); apart = refl; tied = (refl, (tt, (refl, tt))) };
+          outputs = record {
+            numbers = tt;
+            outputs = (record { elements = []; end = Done; run = inl (inl (refl, inl (inl (omega arith, refl, refl)))); printed = refl; reported = refl }, refl);
+            cut = inl refl;
+          };
+          ends = record { named = refl; caused = (record { halted = λ h. absurd (false≢true h); fault = refl; root = λ h. refl }, tt); memory = λ h. absurd (false≢true h) };
+          completeness = λ m n. record { done = (refl, tt); clean = refl; output = (([], inl (refl, inl (omega arith, refl, refl)), refl), tt) };
+        });
+      };
+      text = record { said = tail_text empty_file.ends empty_file.events; written = text_of_empty_file; tail = (refl, refl); spoke = λ e. absurd (no_nil _ _ e); once = omega arith };
+    },
+    record { fits = tt; front = inl refl },
+  );
 }
 
 abbrev frames_of_missing_file : List Frame
@@ -109,26 +115,29 @@ missing_file_holds = record {
   causes = record { words = true; unwritten = false; memory = false; faulty = true; unclean = false };
   status = record { words = refl; unwritten = refl; memory = λ h. absurd (false≢true h); faulty = refl; unclean = refl; status = refl; line = inl refl };
   source = refl;
-  does = record {
-    frames = frames_of_missing_file;
-    rest = [];
-    performs = record {
-      devices = record { made = refl; retired = refl; number = refl; once = (refl, tt); shut = ((refl, refl), tt); rows = (tt, tt); acquired = tt; failed = tt; files = λ path. inr refl };
-      ledger = missing_rules;
-      ran = inr (record {
-        home = λ r. missing_device;
-        rows = record { at_home = (refl, refl, inl (inl refl), tt); apart = refl; tied = (tt, tt) };
-        outputs = record {
-          numbers = tt;
-          outputs = (record { elements = []; end = Fault code.Open; run = inl (inr (omega arith, refl, refl, tt)); printed = refl; reported = refl }, refl);
-          cut = inl refl;
-        };
-        ends = record { named = refl; caused = (record { halted = λ h. absurd (false≢true h); fault = refl; root = λ h. refl }, tt); memory = λ h. absurd (false≢true h) };
-        completeness = λ m n. let z = n.devices.0 in absurd (omega (arith, z));
-      });
-    };
-    text = record { said = tail_text missing_file.ends missing_file.events; written = text_of_missing_file; tail = (refl, refl); spoke = λ e. absurd (no_nil _ _ e); once = omega arith };
-  };
+  does = (
+    record {
+      frames = frames_of_missing_file;
+      rest = [];
+      performs = record {
+        devices = record { made = refl; retired = refl; number = refl; once = (refl, tt); shut = ((refl, refl), tt); rows = (tt, tt); acquired = tt; failed = tt; files = λ path. inr refl };
+        ledger = missing_rules;
+        ran = inr (record {
+          home = λ r. missing_device;
+          rows = record { at_home = (refl, refl, inl (inl refl), tt); apart = refl; tied = (tt, tt) };
+          outputs = record {
+            numbers = tt;
+            outputs = (record { elements = []; end = Fault code.Open; run = inl (inr (omega arith, refl, refl, tt)); printed = refl; reported = refl }, refl);
+            cut = inl refl;
+          };
+          ends = record { named = refl; caused = (record { halted = λ h. absurd (false≢true h); fault = refl; root = λ h. refl }, tt); memory = λ h. absurd (false≢true h) };
+          completeness = λ m n. let z = n.devices.0 in absurd (omega (arith, z));
+        });
+      };
+      text = record { said = tail_text missing_file.ends missing_file.events; written = text_of_missing_file; tail = (refl, refl); spoke = λ e. absurd (no_nil _ _ e); once = omega arith };
+    },
+    record { fits = tt; front = inl refl },
+  );
 }
 
 abbrev frames_of_read_fault : List Frame
@@ -143,26 +152,29 @@ read_fault_holds = record {
   causes = record { words = true; unwritten = false; memory = false; faulty = true; unclean = false };
   status = record { words = refl; unwritten = refl; memory = λ h. absurd (false≢true h); faulty = refl; unclean = refl; status = refl; line = inl refl };
   source = refl;
-  does = record {
-    frames = frames_of_read_fault;
-    rest = [];
-    performs = record {
-      devices = record { made = refl; retired = refl; number = refl; once = (refl, tt); shut = ((refl, refl), tt); rows = (omega arith, (tt, (tt, tt))); acquired = (refl, (refl, tt)); failed = tt; files = λ path. inr refl };
-      ledger = row_rules true;
-      ran = inr (record {
-        home = λ r. hello_device 2 1 0;
-        rows = record { at_home = (refl, refl, inl (inl refl), tt); apart = refl; tied = (refl, (tt, (refl, tt))) };
-        outputs = record {
-          numbers = ((omega arith, omega arith), tt);
-          outputs = (record { elements = map Byte (codes "he"); end = Fault code.Read; run = inl (inl (refl, inl (inr (inr (omega arith, refl, refl))))); printed = refl; reported = refl }, refl);
-          cut = inl refl;
-        };
-        ends = record { named = refl; caused = (record { halted = λ h. absurd (false≢true h); fault = refl; root = λ h. refl }, tt); memory = λ h. absurd (false≢true h) };
-        completeness = λ m n. let z = n.devices.0 in absurd (omega (arith, z));
-      });
-    };
-    text = record { said = tail_text read_fault.ends read_fault.events; written = text_of_read_fault; tail = (refl, refl); spoke = λ e. absurd (no_nil _ _ e); once = omega arith };
-  };
+  does = (
+    record {
+      frames = frames_of_read_fault;
+      rest = [];
+      performs = record {
+        devices = record { made = refl; retired = refl; number = refl; once = (refl, tt); shut = ((refl, refl), tt); rows = (omega arith, (tt, (tt, tt))); acquired = (refl, (refl, tt)); failed = tt; files = λ path. inr refl };
+        ledger = row_rules true;
+        ran = inr (record {
+          home = λ r. hello_device 2 1 0;
+          rows = record { at_home = (refl, refl, inl (inl refl), tt); apart = refl; tied = (refl, (tt, (refl, tt))) };
+          outputs = record {
+            numbers = ((omega arith, omega arith), tt);
+            outputs = (record { elements = map Byte (codes "he"); end = Fault code.Read; run = inl (inl (refl, inl (inr (inr (omega arith, refl, refl))))); printed = refl; reported = refl }, refl);
+            cut = inl refl;
+          };
+          ends = record { named = refl; caused = (record { halted = λ h. absurd (false≢true h); fault = refl; root = λ h. refl }, tt); memory = λ h. absurd (false≢true h) };
+          completeness = λ m n. let z = n.devices.0 in absurd (omega (arith, z));
+        });
+      };
+      text = record { said = tail_text read_fault.ends read_fault.events; written = text_of_read_fault; tail = (refl, refl); spoke = λ e. absurd (no_nil _ _ e); once = omega arith };
+    },
+    record { fits = (omega arith, tt); front = inl refl },
+  );
 }
 
 abbrev frames_of_failed_close : List Frame
@@ -177,26 +189,29 @@ failed_close_holds = record {
   causes = record { words = true; unwritten = false; memory = false; faulty = false; unclean = true };
   status = record { words = refl; unwritten = refl; memory = λ h. absurd (false≢true h); faulty = refl; unclean = refl; status = refl; line = inl refl };
   source = refl;
-  does = record {
-    frames = frames_of_failed_close;
-    rest = [];
-    performs = record {
-      devices = record { made = refl; retired = refl; number = refl; once = (refl, tt); shut = ((refl, refl), tt); rows = (omega arith, (tt, (tt, tt))); acquired = (refl, (refl, tt)); failed = (refl, (refl, tt)); files = λ path. inr refl };
-      ledger = row_rules false;
-      ran = inr (record {
-        home = λ r. hello_device 6 0 1;
-        rows = record { at_home = (refl, refl, inl (inl refl), tt); apart = refl; tied = (refl, (tt, (refl, tt))) };
-        outputs = record {
-          numbers = ((omega arith, omega arith), tt);
-          outputs = (record { elements = map Byte (codes "hello\n"); end = Done; run = inl (inl (refl, inl (inl (omega arith, refl, refl)))); printed = refl; reported = refl }, refl);
-          cut = inl refl;
-        };
-        ends = record { named = refl; caused = (record { halted = λ h. absurd (false≢true h); fault = refl; root = λ h. refl }, tt); memory = λ h. absurd (false≢true h) };
-        completeness = λ m n. let z = n.devices.0 in absurd (omega (arith, z));
-      });
-    };
-    text = record { said = tail_text failed_close.ends failed_close.events; written = text_of_failed_close; tail = (refl, refl); spoke = λ e. absurd (no_nil _ _ e); once = omega arith };
-  };
+  does = (
+    record {
+      frames = frames_of_failed_close;
+      rest = [];
+      performs = record {
+        devices = record { made = refl; retired = refl; number = refl; once = (refl, tt); shut = ((refl, refl), tt); rows = (omega arith, (tt, (tt, tt))); acquired = (refl, (refl, tt)); failed = (refl, (refl, tt)); files = λ path. inr refl };
+        ledger = row_rules false;
+        ran = inr (record {
+          home = λ r. hello_device 6 0 1;
+          rows = record { at_home = (refl, refl, inl (inl refl), tt); apart = refl; tied = (refl, (tt, (refl, tt))) };
+          outputs = record {
+            numbers = ((omega arith, omega arith), tt);
+            outputs = (record { elements = map Byte (codes "hello\n"); end = Done; run = inl (inl (refl, inl (inl (omega arith, refl, refl)))); printed = refl; reported = refl }, refl);
+            cut = inl refl;
+          };
+          ends = record { named = refl; caused = (record { halted = λ h. absurd (false≢true h); fault = refl; root = λ h. refl }, tt); memory = λ h. absurd (false≢true h) };
+          completeness = λ m n. let z = n.devices.0 in absurd (omega (arith, z));
+        });
+      };
+      text = record { said = tail_text failed_close.ends failed_close.events; written = text_of_failed_close; tail = (refl, refl); spoke = λ e. absurd (no_nil _ _ e); once = omega arith };
+    },
+    record { fits = (omega arith, tt); front = inl refl },
+  );
 }
 
 failed_tail : 0 < length (tail_text failed_write.ends failed_write.events)
@@ -215,24 +230,27 @@ failed_write_holds = record {
   causes = record { words = true; unwritten = true; memory = false; faulty = false; unclean = false };
   status = record { words = refl; unwritten = refl; memory = λ h. absurd (false≢true h); faulty = refl; unclean = refl; status = refl; line = inl refl };
   source = refl;
-  does = record {
-    frames = frames_of_failed_write;
-    rest = [];
-    performs = record {
-      devices = record { made = refl; retired = refl; number = refl; once = (refl, tt); shut = ((refl, refl), tt); rows = (omega arith, (tt, (tt, tt))); acquired = (refl, (refl, tt)); failed = tt; files = λ path. inr refl };
-      ledger = row_rules true;
-      ran = inr (record {
-        home = λ r. hello_device 6 0 0;
-        rows = record { at_home = (refl, refl, inl (inl refl), tt); apart = refl; tied = (refl, (tt, (refl, tt))) };
-        outputs = record {
-          numbers = tt;
-          outputs = (record { elements = []; end = Cut; run = inr (refl, inl refl); printed = refl; reported = inl refl }, refl);
-          cut = inl refl;
-        };
-        ends = record { named = refl; caused = (record { halted = λ h. inl refl; fault = refl; root = λ h. refl }, tt); memory = λ h. absurd (false≢true h) };
-        completeness = λ m n. absurd (false≢true (sym n.written));
-      });
-    };
-    text = record { said = []; written = text_of_failed_write; tail = (inl refl, failed_tail); spoke = λ e. absurd (no_nil _ _ e); once = omega arith };
-  };
+  does = (
+    record {
+      frames = frames_of_failed_write;
+      rest = [];
+      performs = record {
+        devices = record { made = refl; retired = refl; number = refl; once = (refl, tt); shut = ((refl, refl), tt); rows = (omega arith, (tt, (tt, tt))); acquired = (refl, (refl, tt)); failed = tt; files = λ path. inr refl };
+        ledger = row_rules true;
+        ran = inr (record {
+          home = λ r. hello_device 6 0 0;
+          rows = record { at_home = (refl, refl, inl (inl refl), tt); apart = refl; tied = (refl, (tt, (refl, tt))) };
+          outputs = record {
+            numbers = tt;
+            outputs = (record { elements = []; end = Cut; run = inr (refl, inl refl); printed = refl; reported = inl refl }, refl);
+            cut = inl refl;
+          };
+          ends = record { named = refl; caused = (record { halted = λ h. inl refl; fault = refl; root = λ h. refl }, tt); memory = λ h. absurd (false≢true h) };
+          completeness = λ m n. absurd (false≢true (sym n.written));
+        });
+      };
+      text = record { said = []; written = text_of_failed_write; tail = (inl refl, failed_tail); spoke = λ e. absurd (no_nil _ _ e); once = omega arith };
+    },
+    record { fits = tt; front = inl refl },
+  );
 }

@@ -74,21 +74,21 @@ opened d ys e q (inr x) = let h = ap place (sym q ∙ x.0) in absurd (omega (ari
 pub invented_output_refused : ¬ (Headline invented_output)
 invented_output_refused h =
     let g = good h.causes h.status.status in
-    let r = ran invented_output h.causes h.does g.memory in
+    let r = ran invented_output h.causes h.does.0 g.memory in
     let o = opened (r.home 0) r.outputs.outputs.0.elements r.outputs.outputs.0.end (done r.outputs.outputs.0.end r.outputs.outputs.0.reported) r.outputs.outputs.0.run in
     ⊎_elim (λ x. x) (λ (x : IsBlank (r.home 0)). let z = x.opens in omega (arith, o, z)) r.rows.at_home.2
 
 pub row_of_no_plan_refused : ¬ (Headline row_of_no_plan)
-row_of_no_plan_refused h = let l = h.does.performs.devices.rows.1.0 in omega (arith, l)
+row_of_no_plan_refused h = let l = h.does.0.performs.devices.rows.1.0 in omega (arith, l)
 
 pub event_of_no_stream_refused : ¬ (Headline event_of_no_stream)
-event_of_no_stream_refused h = false≢true h.does.performs.ledger.ours
+event_of_no_stream_refused h = false≢true h.does.0.performs.ledger.ours
 
 pub lease_of_no_stream_refused : ¬ (Headline lease_of_no_stream)
-lease_of_no_stream_refused h = false≢true h.does.performs.ledger.ours
+lease_of_no_stream_refused h = false≢true h.does.0.performs.ledger.ours
 
 pub kept_device_refused : ¬ (Headline kept_device)
-kept_device_refused h = let e = h.does.performs.devices.number in omega (arith, e)
+kept_device_refused h = let e = h.does.0.performs.devices.number in omega (arith, e)
 
 pub failure_not_told_refused : ¬ (Headline failure_not_told)
 failure_not_told_refused h = let g = good h.causes h.status.status in false≢true (sym g.unwritten ∙ h.status.unwritten)
@@ -96,7 +96,7 @@ failure_not_told_refused h = let g = good h.causes h.status.status in false≢tr
 pub halted_without_a_cause_refused : ¬ (Headline halted_without_a_cause)
 halted_without_a_cause_refused h =
     let g = good h.causes h.status.status in
-    let r = ran halted_without_a_cause h.causes h.does g.memory in
+    let r = ran halted_without_a_cause h.causes h.does.0 g.memory in
     ⊎_elim (λ e. false≢true (sym g.unwritten ∙ e)) (⊎_elim (λ e. false≢true (sym g.memory ∙ e)) (λ e. false≢true e)) (r.ends.caused.0.halted refl)
 
 -- the payloads stand in the text of their frames
@@ -150,24 +150,24 @@ tail_is_long = omega arith
 pub cut_output_refused : ¬ (Headline cut_output)
 cut_output_refused h =
     let g = good h.causes h.status.status in
-    let r = ran cut_output h.causes h.does g.memory in
+    let r = ran cut_output h.causes h.does.0 g.memory in
     let o = r.outputs.outputs.0 in
     let ys = given_whole (codes "hello world\n") (r.home 0) r.rows.at_home.1 o.elements o.end (done o.end o.reported) o.run in
-    let n : length (payloads_of 0 h.does.frames) ≡ 12 = ap (λ x. length x) (o.printed ∙ ap (λ x. rendering_of x) ys) in
-    let f : 12 ≤ length (frames_text h.does.frames) = omega (arith, n, within 0 h.does.frames) in
-    too_short _ (frames_text h.does.frames) h.does.rest h.does.text.said _ (ap (λ x. bytes_of x) h.does.text.written) h.does.text.tail.0 h.does.text.tail.1 tail_is_long f
+    let n : length (payloads_of 0 h.does.0.frames) ≡ 12 = ap (λ x. length x) (o.printed ∙ ap (λ x. rendering_of x) ys) in
+    let f : 12 ≤ length (frames_text h.does.0.frames) = omega (arith, n, within 0 h.does.0.frames) in
+    too_short _ (frames_text h.does.0.frames) h.does.0.rest h.does.0.text.said _ (ap (λ x. bytes_of x) h.does.0.text.written) h.does.0.text.tail.0 h.does.0.text.tail.1 tail_is_long f
 
 pub row_without_a_final_refused : ¬ (Headline row_without_a_final)
-row_without_a_final_refused h = let l = h.does.performs.ledger in false≢true (complete_found row_without_a_final.events l.legal l.complete)
+row_without_a_final_refused h = let l = h.does.0.performs.ledger in false≢true (complete_found row_without_a_final.events l.legal l.complete)
 
 pub final_before_close_refused : ¬ (Headline final_before_close)
-final_before_close_refused h = false≢true (legal_found final_before_close.events h.does.performs.ledger.legal)
+final_before_close_refused h = false≢true (legal_found final_before_close.events h.does.0.performs.ledger.legal)
 
 pub closed_twice_refused : ¬ (Headline closed_twice)
-closed_twice_refused h = let e = h.does.performs.devices.shut.0.1 in omega (arith, e)
+closed_twice_refused h = let e = h.does.0.performs.devices.shut.0.1 in omega (arith, e)
 
 pub left_open_refused : ¬ (Headline left_open)
-left_open_refused h = let e = h.does.performs.devices.shut.0.1 in omega (arith, e)
+left_open_refused h = let e = h.does.0.performs.devices.shut.0.1 in omega (arith, e)
 
 -- what status 1 tells of memory
 faulty : (k : Causes) → status.Faulty ≡ status_of k → k.memory ≡ false
@@ -178,11 +178,11 @@ faulty k e =
 
 pub fault_without_a_fault_refused : ¬ (Headline fault_without_a_fault)
 fault_without_a_fault_refused h =
-    let r = ran fault_without_a_fault h.causes h.does (faulty h.causes h.status.status) in
+    let r = ran fault_without_a_fault h.causes h.does.0 (faulty h.causes h.status.status) in
     false≢true r.ends.caused.0.fault
 
 pub failed_close_not_told_refused : ¬ (Headline failed_close_not_told)
-failed_close_not_told_refused h = let e = h.does.performs.devices.failed.0 in omega (arith, e)
+failed_close_not_told_refused h = let e = h.does.0.performs.devices.failed.0 in omega (arith, e)
 
 pub silent_call_refused : ¬ (Headline silent_call)
 silent_call_refused h =

@@ -11,7 +11,7 @@ use Rattle.flume_cli.proofs.top.flume.Goals as goal
 pub returns-in-Some : goal.returns-in-Some
 returns-in-Some g c =
     let known : cat_path_of c.args.words.now ≡ Some c.in-Some.path.now = sym c.in-Some.ensures in
-    cat_told _ _ _ _ _ _ _ _ _ _ _ c.run_cat-outcome.result known c.run_cat-outcome.ensures c.print_tail-status.result _ c.print_tail-status.ensures c.finish.ensures
+    cat_told _ _ _ _ _ _ _ _ _ _ c.run_cat-outcome.result known c.run_cat-outcome.ensures c.print_tail-status.result _ c.print_tail-status.ensures c.finish.ensures
 
 pub returns-in-None : goal.returns-in-None
 returns-in-None g c =
