@@ -129,6 +129,7 @@ impl<O: Outside> Stepper<O> {
         ensures halted { self.old.wanting ≡ false → self.new.how ≡ Some how.Halted }
         ensures memory { self.old.wanting ≡ true → self.new.how ≡ Some how.Memory }
         ensures wanting { self.new.wanting ≡ self.old.wanting }
+        ensures chunk { self.new.chunk ≡ self.old.chunk }
         ensures fits { O.fits self.new.outside desk.new }
     {
         self.outside.leave(desk, 0);
