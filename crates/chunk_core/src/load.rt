@@ -1,9 +1,9 @@
 //! What streams are made of, piece by piece, and the text of a piece.
-ghost use Rattle.std.specs.Prelude.{◌≡◌, ◌++◌, ◌∷◌, [], IfOk, OnOk, map};
+ghost use Rattle.std.specs.Prelude.{◌≡◌, ◌==◌, ◌++◌, ◌∷◌, [], length, take, drop, IfOk, OnOk, OnErr, map};
 ghost use Rattle.std.specs.List.{flat_map};
 ghost use Rattle.std.specs.Io.KnownBytes.{Appends};
 ghost use Rattle.csv.specs.Writing.{default_writer, row_text};
-ghost use Rattle.chunk_core.specs.Elements.{elements, rendering_of};
+ghost use Rattle.chunk_core.specs.Elements.{elements, kind_of, rendering_of};
 ghost use Rattle.chunk_core.specs.Writing.{IsBetween, flexible_writer, written};
 
 use crate::chunk::Chunk;
@@ -17,6 +17,40 @@ pub enum Load {
     Bytes(Chunk<u8>),
     Lines(Chunk<Line>),
     Rows(Chunk<Row>),
+}
+
+impl Load {
+    /// The number of its elements.
+    pub fn len(&self) -> usize
+        ensures { result ≡ length (elements self.now) }
+    {
+        match self {
+            Load::Bytes(bytes) => bytes.len(),
+            Load::Lines(lines) => lines.len(),
+            Load::Rows(rows) => rows.len(),
+        }
+    }
+
+    pub fn is_empty(&self) -> bool
+        ensures { result ≡ (length (elements self.now) == 0) }
+    {
+        self.len() == 0
+    }
+
+    /// Takes off the first `n` elements, or all where there are no more, without a copy.
+    pub fn split(&mut self, n: usize) -> Result<Load, AllocError>
+        ensures front { IfOk result (λ front. elements front ≡ take n (elements self.old)) }
+        ensures rest { OnOk result (elements self.new ≡ drop n (elements self.old)) }
+        ensures kind { IfOk result (λ front. kind_of front ≡ kind_of self.old) }
+        ensures same { kind_of self.new ≡ kind_of self.old }
+        ensures err { OnErr result (elements self.new ≡ elements self.old) }
+    {
+        match self {
+            Load::Bytes(bytes) => Ok(Load::Bytes(bytes.split(n)?)),
+            Load::Lines(lines) => Ok(Load::Lines(lines.split(n)?)),
+            Load::Rows(rows) => Ok(Load::Rows(rows.split(n)?)),
+        }
+    }
 }
 
 /// The text of a load: bytes as they are, each line with a line feed behind it, each row as

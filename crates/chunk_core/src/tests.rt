@@ -159,6 +159,23 @@ fn rows_are_joined(rt: HostRuntime) -> Result<(), Fail> {
     Ok(())
 }
 
+#[test]
+fn a_load_is_split_by_its_elements(rt: HostRuntime) -> Result<(), Fail> {
+    let alloc = rt.alloc();
+    let mut lines = Vec::new(alloc);
+    lines.push(line_of(alloc, b"ab")?)?;
+    lines.push(line_of(alloc, b"c")?)?;
+    let mut load = Load::Lines(Chunk::of_vec(alloc, lines)?);
+    assert_eq!(rt; load.len(), 2);
+    let front = load.split(1)?;
+    assert_eq!(rt; render(alloc, &front)?.as_slice(), b"ab\n".as_slice());
+    assert_eq!(rt; render(alloc, &load)?.as_slice(), b"c\n".as_slice());
+    assert!(rt; !load.is_empty());
+    load.split(1)?;
+    assert!(rt; load.is_empty());
+    Ok(())
+}
+
 /// What may be passed to another thread.
 fn is_sendable<T: Send>(_value: &T) {}
 

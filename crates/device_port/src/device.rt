@@ -22,6 +22,10 @@ pub trait Device {
     fn number(&self) -> u64
         ensures { result ≡ (told self.now).number };
 
+    /// It was opened and not closed since.
+    fn is_open(&self) -> bool
+        ensures { result ≡ (told self.now).is_open };
+
     /// Opens a device that was never opened. For reading, a path that isn't there is a fault.
     fn open(&mut self) -> Result<(), Failed>
         requires never { ((told self.old).opens ≡ 0) × ((told self.old).is_open ≡ false) }

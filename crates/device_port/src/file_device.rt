@@ -63,6 +63,10 @@ impl Device for FileDevice {
         self.number
     }
 
+    fn is_open(&self) -> bool {
+        matches!(self.held, Held::Open(_))
+    }
+
     /// For writing, the file is created, or emptied where it is there.
     fn open(&mut self) -> Result<(), Failed> {
         let path = self.path.as_str();

@@ -52,6 +52,10 @@ impl Device for MemDevice {
         self.facts.number
     }
 
+    fn is_open(&self) -> bool {
+        self.facts.stage.is_open()
+    }
+
     fn open(&mut self) -> Result<(), Failed>
         requires never { ((record_told self.old.facts).opens ≡ 0) × ((record_told self.old.facts).is_open ≡ false) }
         requires room { self.old.facts.open_faults < 2 ^ 64 - 1 }
