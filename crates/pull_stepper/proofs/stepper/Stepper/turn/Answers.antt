@@ -1,5 +1,0 @@
-use Rattle.pull_stepper.proofs.Led.{turns_end}
-use Rattle.pull_stepper.proofs.stepper.Stepper.turn.Goals as goal
-
-pub returns-clause-turned : goal.returns-clause-turned
-returns-clause-turned g c = turns_end g.O.Outside.seen _ _ _ _ _ _ c.requires.can c.in_ok-turn.turn c.leave_at_end.ensures.ends c.in_ok-turn.ensures.turned

@@ -1,0 +1,147 @@
+-- Several turns, by one turn more.
+use Rattle.std.proofs.Common.{◌≡◌, subst, ℕ, List, ◌++◌, [], ◌∷◌, refl, sym, ◌∙◌, arith, append_assoc, append-nil, flat_map}
+use Rattle.std.proofs.lemmas.Grind.{flat_map-append}
+use Rattle.chunk_core.specs.declared.code.Code.{Code}
+use Rattle.chunk_core.specs.declared.load.Load.{Load}
+use Rattle.chunk_core.specs.Elements.{Element, elements}
+use Rattle.chunk_core.specs.Outcomes.{Done, Fault, Cut}
+use Rattle.device_port.specs.Device.{DeviceTold}
+use Rattle.pull_turns.specs.Around.{Around, Leaves, gist}
+use Rattle.pull_turns.specs.Rest.{IsRunOfRest, IsLive, CanStep}
+use Rattle.pull_turns.specs.Turned.{Leads, Ends, Over, Moved, Turned, GoesOn}
+use Rattle.pull_turns.specs.Moves.{LeavesAtEnd}
+use Rattle.pull_turns.specs.Led.{Tells, Turns, Led}
+use Rattle.pull_turns.specs.declared.rest.Rest.{Rest}
+use Rattle.pull_turns.specs.declared.turn.Turn.{Turn}
+use Rattle.pull_turns.specs.declared.turn.Turn.TheVariants as turn
+use Rattle.pull_turns.proofs.Leads.{can_stop}
+use Rattle.pull_turns.proofs.Kept.{goes_same, goes_on, goes_gist}
+use Rattle.pull_turns.proofs.Turns.{once_on, cause_on}
+
+pub tells_same : (now : ℕ → DeviceTold) (r : Rest) → Tells now now r
+tells_same now r = record { goes = λ p. goes_same (now p); others = λ p n. refl }
+
+pub tells_gist : (a b : ℕ → DeviceTold) (r : Rest) → ((p : ℕ) → gist (b p) ≡ gist (a p)) → Tells a b r
+tells_gist a b r same = record { goes = λ p. goes_gist (a p) (b p) (same p); others = λ p n. same p }
+
+pub tells_on : (a b c : ℕ → DeviceTold) (start old : Rest) → ((p : ℕ) → IsLive p old → IsLive p start) → Tells a b start → Tells b c old → Tells a c start
+tells_on a b c start old l h i = record {
+  goes = λ p. goes_on (a p) (b p) (c p) (h.goes p) (i.goes p);
+  others = λ p n. i.others p (λ j. n (l p j)) ∙ h.others p n;
+}
+
+pub moved_tells : (a b : Around) (s : ℕ) (r : Rest) → Moved a b s r → Tells a.told b.told r
+moved_tells a b s r m = record { goes = m.goes; others = m.keeps.told }
+
+can_on : (a b : Around) (n : ℕ) (old new : Rest) (t : Turn) → CanStep a 0 old → Turned a b 0 n old new t → GoesOn t → CanStep b 0 new
+can_on a b n old new t c h g = record {
+  ready = h.ready g;
+  opened = h.moved.keeps.opened 0 (omega arith) c.opened;
+  events = omega (arith, c.events, h.spends.events);
+  scopes = omega (arith, c.scopes, h.spends.scopes);
+  rows = omega (arith, c.rows, h.spends.rows);
+}
+
+module _ {O : Type 0} (seen : O → Around) (a : Around) (y z : O) (n : ℕ) (old new : Rest) (c : CanStep a 0 old) where
+  runs : (t : Turn) → z ≡ y → GoesOn t → Turned a (seen y) 0 n old new t → Turns a (seen z) n old new t
+  runs t e g h = subst (λ (o : O). Turns a (seen o) n old new t) (sym e) (record {
+    tells = moved_tells a (seen y) 0 old h.moved;
+    once = h.once;
+    live = h.live;
+    fewer = h.fewer;
+    can = can_on a (seen y) n old new t c h;
+    shut = λ i. absurd (i g);
+    cause = h.cause;
+    gave = h.gave;
+  })
+
+  over_before : Leaves (seen y) 0 (seen z) → (w : ℕ → DeviceTold) → Over (seen z).told w old → Over (seen y).told w old
+  over_before l w o = record {
+    over = λ k i. o.over k i ∙ l.told k;
+    goes = λ k. goes_on ((seen y).told k) ((seen z).told k) (w k) (goes_gist ((seen y).told k) ((seen z).told k) (l.told k)) (o.goes k);
+  }
+
+  pub turns_end : (t : Turn) → LeavesAtEnd seen y 0 t z → Turned a (seen y) 0 n old new t → Turns a (seen z) n old new t
+  turns_end (turn.Chunk l) e h = runs (turn.Chunk l) e tt h
+  turns_end turn.Quiet e h = runs turn.Quiet e tt h
+  turns_end turn.Done e h = record {
+    tells = tells_on a.told (seen y).told (seen z).told old old (λ p i. i) (moved_tells a (seen y) 0 old h.moved) (tells_gist (seen y).told (seen z).told old e.told);
+    once = once_on a.told (seen y).told (seen z).told n h.once e.told;
+    live = h.live;
+    fewer = h.fewer;
+    can = λ g. absurd g;
+    shut = λ i. e.root refl;
+    cause = cause_on a.told (seen y).told (seen z).told old old turn.Done (λ p i. i) e.told h.cause;
+    gave = λ w o. h.gave w (over_before e w o);
+  }
+  turns_end (turn.Fault d) e h = record {
+    tells = tells_on a.told (seen y).told (seen z).told old old (λ p i. i) (moved_tells a (seen y) 0 old h.moved) (tells_gist (seen y).told (seen z).told old e.told);
+    once = once_on a.told (seen y).told (seen z).told n h.once e.told;
+    live = h.live;
+    fewer = h.fewer;
+    can = λ g. absurd g;
+    shut = λ i. e.root refl;
+    cause = cause_on a.told (seen y).told (seen z).told old old (turn.Fault d) (λ p i. i) e.told h.cause;
+    gave = λ w o. h.gave w (over_before e w o);
+  }
+
+pub led_start : (now : ℕ → DeviceTold) (r : Rest) → Led now now r r []
+led_start now r = record { tells = tells_same now r; live = λ p l. l; lead = λ w e. record { gives = λ ys g h. h } }
+
+-- what holds at the end held of the turn before
+ends_before : (before now w : ℕ → DeviceTold) (start old new : Rest) → Tells before now old → ((p : ℕ) → IsLive p new → IsLive p old) → Ends now w start new → Ends before w start old
+ends_before before now w start old new h l e = record {
+  over = λ p i n. e.over p i (λ m. n (l p m)) ∙ h.others p n;
+  goes = λ p. goes_on (before p) (now p) (w p) (h.goes p) (e.goes p);
+}
+
+ends_turn : (now w : ℕ → DeviceTold) (start old new : Rest) → ((p : ℕ) → IsLive p old → IsLive p start) → Ends now w start new → Ends now w old new
+ends_turn now w start old new l e = record { over = λ p m n. e.over p (l p m) n; goes = e.goes }
+
+joined : (xs ys : List Element) (w : ℕ → DeviceTold) (start old new : Rest) → Leads xs (IsRunOfRest w old) (IsRunOfRest w start) → Leads ys (IsRunOfRest w new) (IsRunOfRest w old) → Leads (xs ++ ys) (IsRunOfRest w new) (IsRunOfRest w start)
+joined xs ys w start old new f g = record { gives = λ zs e h. rw append_assoc (f.gives (ys ++ zs) e (g.gives zs e h)) }
+
+module _ (first : ℕ → DeviceTold) (before now : Around) (n : ℕ) (start old new : Rest) (xs : List Element) (h : Led first before.told start old xs) where
+  led_on : (t : Turn) (ys : List Element) → Turns before now n old new t → ((w : ℕ → DeviceTold) → Ends now.told w old new → Leads ys (IsRunOfRest w new) (IsRunOfRest w old))
+      → Led first now.told start new (xs ++ ys)
+  led_on t ys k f = record {
+    tells = tells_on first before.told now.told start old h.live h.tells k.tells;
+    live = λ p m. h.live p (k.live p m);
+    lead = λ w e. joined xs ys w start old new (h.lead w (ends_before before.told now.told w start old new k.tells k.live e)) (f w (ends_turn now.told w start old new h.live e));
+  }
+
+  pub led_chunk : (l : Load) → Turns before now n old new (turn.Chunk l) → Led first now.told start new (xs ++ elements l)
+  led_chunk l k = led_on (turn.Chunk l) (elements l) k k.gave.1
+
+  pub led_quiet : Turns before now n old new turn.Quiet → Led first now.told start new xs
+  led_quiet k = subst (λ (ys : List Element). Led first now.told start new ys) (append-nil xs) (led_on turn.Quiet [] k k.gave.1)
+
+  pub led_tells : (t : Turn) → Turns before now n old new t → Tells first now.told start
+  led_tells t k = tells_on first before.told now.told start old h.live h.tells k.tells
+
+  -- what is told at the end of all, where this turn was the last
+  ends_last : (t : Turn) → Turns before now n old new t → (w : ℕ → DeviceTold) → Over now.told w start → Ends before.told w start old
+  ends_last t k w o = record {
+    over = λ p i m. o.over p i ∙ k.tells.others p m;
+    goes = λ p. goes_on (before.told p) (now.told p) (w p) (k.tells.goes p) (o.goes p);
+  }
+
+  over_part : (w : ℕ → DeviceTold) → Over now.told w start → Over now.told w old
+  over_part w o = record { over = λ p i. o.over p (h.live p i); goes = o.goes }
+
+  pub led_done : Turns before now n old new turn.Done → (w : ℕ → DeviceTold) → Over now.told w start → IsRunOfRest w start xs Done
+  led_done k w o = subst (λ (ys : List Element). IsRunOfRest w start ys Done) (append-nil xs) ((h.lead w (ends_last turn.Done k w o)).gives [] Done (k.gave w (over_part w o)))
+
+  pub led_fault : (c : Code) → Turns before now n old new (turn.Fault c) → (w : ℕ → DeviceTold) → Over now.told w start → IsRunOfRest w start xs (Fault c)
+  led_fault c k w o = subst (λ (ys : List Element). IsRunOfRest w start ys (Fault c)) (append-nil xs) ((h.lead w (ends_last (turn.Fault c) k w o)).gives [] (Fault c) (k.gave w (over_part w o)))
+
+pub led_pushed : (first : ℕ → DeviceTold) (before now : Around) (n : ℕ) (start old new : Rest) (ls : List Load) (l : Load) → Led first before.told start old (flat_map elements ls)
+    → Turns before now n old new (turn.Chunk l) → Led first now.told start new (flat_map elements (ls ++ l ∷ []))
+led_pushed first before now n start old new ls l h k = rw (flat_map-append elements ls (l ∷ []), append-nil) (led_chunk first before now n start old new (flat_map elements ls) h l k)
+
+pub over_now : (now : ℕ → DeviceTold) (r : Rest) → Over now now r
+over_now now r = record { over = λ p l. refl; goes = λ p. goes_same (now p) }
+
+pub led_cut : (first now : ℕ → DeviceTold) (start old : Rest) (xs : List Element) → Led first now start old xs → IsRunOfRest now start xs Cut
+led_cut first now start old xs h = subst (λ (ys : List Element). IsRunOfRest now start ys Cut) (append-nil xs)
+    ((h.lead now (record { over = λ p l n. refl; goes = λ p. goes_same (now p) })).gives [] Cut (can_stop now old))

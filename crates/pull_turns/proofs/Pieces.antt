@@ -1,0 +1,179 @@
+-- The turn of a read.
+use Rattle.std.proofs.Common.{◌≡◌, ◌⊎◌, inl, inr, ℕ, zero, suc, ◌+◌, ◌-◌, ◌^◌, ◌<◌, ◌≤◌, List, ◌++◌, [], ◌∷◌, length, take, drop, map, refl, sym, ◌∙◌, ap, subst, ⊎_elim, arith, length-append, Option, None, Some, IfSome}
+use Rattle.std.proofs.lemmas.Bool.{cases_lt}
+use Rattle.std.proofs.lemmas.List.{length-take, length-drop, length-map, take-append-drop, take-take, drop-take, drop-drop, drop_all, map-append}
+use Rattle.chunk_core.specs.declared.code.Code.TheVariants as code
+use Rattle.chunk_core.specs.Elements.{Element, Byte, elements}
+use Rattle.chunk_core.specs.Outcomes.{Done, Fault}
+use Rattle.device_port.specs.Device.{DeviceTold}
+use Rattle.pull_nodes.specs.Runs.{ReadsBy}
+use Rattle.pull_turns.specs.Around.{Around}
+use Rattle.pull_turns.specs.Rest.{IsReady, ReadsFromBy}
+use Rattle.pull_turns.specs.Moves.{IsPiece, ReadsPiece, ReadsPlace}
+use Rattle.pull_turns.specs.Turned.{Leads, Turned, Moved, HasCause, Gave, GoesOn}
+use Rattle.pull_turns.specs.declared.rest.Rest.TheVariants.{Read}
+use Rattle.pull_turns.specs.declared.turn.Turn.{Turn}
+use Rattle.pull_turns.specs.declared.turn.Turn.TheVariants as turn
+use Rattle.pull_turns.proofs.Leads.{HasRun, by_left}
+use Rattle.pull_turns.proofs.Turns.{moved_place, chunk_goes_on, done_is_no_fault, cause_none}
+
+-- a list of so many numbers
+some_list : (n : ℕ) → (bytes : List ℕ) × (length bytes ≡ n)
+some_list zero = ([], refl)
+some_list (suc n) = let more = some_list n in (0 ∷ more.0, omega (arith, more.1))
+
+pub some_run : (o : Option (List ℕ)) (from : ℕ) (d : DeviceTold) → from ≤ d.at → HasRun (ReadsFromBy o from d)
+some_run None from d le = let more = some_list (d.at - from) in (map Byte more.0, Done, (more.0, omega (arith, more.1, le), refl, inl refl))
+some_run (Some c) from d le =
+    ⊎_elim
+    (λ (small : length c < 2 ^ 40). (map Byte (drop from c), Done, inl (small, refl, refl)))
+    (λ (large : 2 ^ 40 ≤ length c). (map Byte (drop from (take (2 ^ 40) c)), Fault code.Endless, inr (inl (large, refl, refl))))
+    (cases_lt (length c) (2 ^ 40))
+
+drop_none : (xs : List ℕ) → drop 0 xs ≡ xs
+drop_none [] = refl
+drop_none (x ∷ xs) = refl
+
+pub reads_start : (o : Option (List ℕ)) (d : DeviceTold) → Leads [] (ReadsFromBy o 0 d) (ReadsBy o d)
+reads_start None d = record { gives = λ ys e h. (h.0, omega (arith, h.1), h.2, h.3) }
+reads_start (Some c) d = record {
+  gives = λ ys e. elim [
+    | inl h ↦ inl (h.0, h.1 ∙ ap (λ xs. map Byte xs) (drop_none c), h.2)
+    | inr h ↦ inr (elim h [
+      | inl i ↦ inl (i.0, i.1 ∙ ap (λ xs. map Byte xs) (drop_none (take (2 ^ 40) c)), i.2)
+      | inr i ↦ inr (i.0, i.1 ∙ ap (λ xs. map Byte xs) (drop_none (take d.at c)), i.2)
+    ])
+  ];
+}
+
+-- a piece of what a list has from a place on
+cut : (c : List ℕ) (from m : ℕ) → drop from c ≡ take m (drop from c) ++ drop (from + m) c
+cut c from m = sym (take-append-drop m (drop from c)) ∙ ap (λ xs. take m (drop from c) ++ xs) (drop-drop m from c)
+
+cut_all : (c : List ℕ) (from to : ℕ) (bytes : List ℕ) → to ≡ from + length bytes → bytes ≡ take (length bytes) (drop from c) → map Byte (drop from c) ≡ map Byte bytes ++ map Byte (drop to c)
+cut_all c from to bytes t x =
+    let parts : drop from c ≡ bytes ++ drop to c = cut c from (length bytes) ∙ (ap (λ xs. xs ++ drop (from + length bytes) c) (sym x) ∙ ap (λ n. bytes ++ drop n c) (sym t)) in
+    ap (λ xs. map Byte xs) parts ∙ map-append Byte bytes (drop to c)
+
+-- a front of the content has the same piece
+same_piece : (c : List ℕ) (k from m : ℕ) → from + m ≤ k → take m (drop from (take k c)) ≡ take m (drop from c)
+same_piece c k from m le =
+    let e : k ≡ from + (k - from) = omega arith in
+    let i : m ≤ k - from = omega arith in
+    ap (λ n. take m (drop from (take n c))) e ∙ (ap (take m) (drop-take from (k - from) c) ∙ take-take m (k - from) (drop from c) i)
+
+cut_front : (c : List ℕ) (k from to : ℕ) (bytes : List ℕ) → to ≡ from + length bytes → to ≤ k → bytes ≡ take (length bytes) (drop from c)
+    → map Byte (drop from (take k c)) ≡ map Byte bytes ++ map Byte (drop to (take k c))
+cut_front c k from to bytes t le x = cut_all (take k c) from to bytes t (x ∙ sym (same_piece c k from (length bytes) (omega (arith, t, le))))
+
+joined : (bytes more : List ℕ) (ys : List Element) → ys ≡ map Byte more → map Byte bytes ++ ys ≡ map Byte (bytes ++ more)
+joined bytes more ys e = ap (λ zs. map Byte bytes ++ zs) e ∙ sym (map-append Byte bytes more)
+
+behind : (bytes : List ℕ) (xs ys zs : List Element) → ys ≡ xs → zs ≡ map Byte bytes ++ xs → map Byte bytes ++ ys ≡ zs
+behind bytes xs ys zs e f = ap (λ us. map Byte bytes ++ us) e ∙ sym f
+
+reads_lead : (o : Option (List ℕ)) (d : DeviceTold) (from to : ℕ) (bytes : List ℕ) → to ≡ from + length bytes → to ≤ 2 ^ 40 → to ≤ d.at → IsPiece o from bytes
+    → Leads (map Byte bytes) (ReadsFromBy o to d) (ReadsFromBy o from d)
+reads_lead None d from to bytes t m l p = record {
+  gives = λ ys e h. (bytes ++ h.0, omega (arith, t, h.1, length-append bytes h.0), joined bytes h.0 ys h.2, h.3);
+}
+reads_lead (Some c) d from to bytes t m l p = record {
+  gives = λ ys e. elim [
+    | inl h ↦ inl (h.0, behind bytes _ ys _ h.1 (cut_all c from to bytes t p), h.2)
+    | inr h ↦ inr (elim h [
+      | inl i ↦ inl (i.0, behind bytes _ ys _ i.1 (cut_front c (2 ^ 40) from to bytes t m p), i.2)
+      | inr i ↦ inr (i.0, behind bytes _ ys _ i.1 (cut_front c d.at from to bytes t l p), i.2)
+    ])
+  ];
+}
+
+-- a piece is no longer than what is left
+piece_fits : (o : Option (List ℕ)) (from to : ℕ) (bytes : List ℕ) → 0 < length bytes → to ≡ from + length bytes → IsPiece o from bytes → IfSome o (λ c. to ≤ length c)
+piece_fits None from to bytes pos t p = tt
+piece_fits (Some c) from to bytes pos t p = omega (arith, ap length p, length-take (length bytes) (drop from c), length-drop from c)
+
+done_reads : (o : Option (List ℕ)) (d : DeviceTold) (from : ℕ) → d.at ≡ from → from < 2 ^ 40 → IfSome o (λ c. length c ≤ from) → ReadsFromBy o from d [] Done
+done_reads None d from at m h = ([], omega (arith, at), refl, inl refl)
+done_reads (Some c) d from at m h = inl (omega (arith, h, m), sym (ap (λ xs. map Byte xs) (drop_all from c h)), refl)
+
+endless_reads : (o : Option (List ℕ)) (d : DeviceTold) (from : ℕ) → d.at ≡ from → from ≡ 2 ^ 40 → IfSome o (λ c. from ≤ length c) → ReadsFromBy o from d [] (Fault code.Endless)
+endless_reads None d from at m h = ([], omega (arith, at), refl, inr (inl (at ∙ m, refl)))
+endless_reads (Some c) d from at m h =
+    let le : length (take (2 ^ 40) c) ≤ from = omega (arith, m, length-take (2 ^ 40) c) in
+    inr (inl (omega (arith, h, m), sym (ap (λ xs. map Byte xs) (drop_all from (take (2 ^ 40) c) le)), refl))
+
+fault_reads : (o : Option (List ℕ)) (d : DeviceTold) (from : ℕ) → d.at ≡ from → 0 < d.read_faults → ReadsFromBy o from d [] (Fault code.Read)
+fault_reads None d from at h = ([], omega (arith, at), refl, inr (inr (h, refl)))
+fault_reads (Some c) d from at h =
+    let le : length (take d.at c) ≤ from = omega (arith, at, length-take d.at c) in
+    inr (inr (h, sym (ap (λ xs. map Byte xs) (drop_all from (take d.at c) le)), refl))
+
+endless_is_no_open : turn.Fault code.Endless ≡ turn.Fault code.Open → ⊥
+endless_is_no_open e = cc
+
+endless_is_no_read : turn.Fault code.Endless ≡ turn.Fault code.Read → ⊥
+endless_is_no_read e = cc
+
+read_is_no_open : turn.Fault code.Read ≡ turn.Fault code.Open → ⊥
+read_is_no_open e = cc
+
+pub read_moved : (a b : Around) (s p from : ℕ) → ReadsPlace a b p → Moved a b s (Read p from)
+read_moved a b s p from h = moved_place a b s p (Read p from) refl (h.keeps s) (record { content = h.content; at = h.later; opens = λ o. h.opens ∙ o })
+
+-- all but the outcome
+read_turned : (a b : Around) (s n p from to : ℕ) (t : Turn) → ReadsPlace a b p
+    → ((((b.told p).at ≤ (a.told p).at + n) × ((b.told p).read_faults ≡ (a.told p).read_faults)) ⊎ (((b.told p).at ≡ (a.told p).at) × ((b.told p).read_faults ≡ (a.told p).read_faults + 1)))
+    → (GoesOn t → IsReady b s (Read p to)) → HasCause a.told b.told (Read p from) t → Gave b.told (Read p from) (Read p to) t
+    → Turned a b s n (Read p from) (Read p to) t
+read_turned a b s n p from to t h read ready cause gave = record {
+  moved = read_moved a b s p from h;
+  once = record { place = p; others = λ q m. (ap (λ (d : DeviceTold). d.at) ((h.keeps s).told q m), ap (λ (d : DeviceTold). d.read_faults) ((h.keeps s).told q m)); read = read };
+  live = λ q i. i;
+  fewer = omega arith;
+  spends = record { events = omega (arith, h.affords.events); scopes = omega (arith, h.affords.scopes); rows = omega (arith, h.affords.rows) };
+  ready = ready;
+  cause = cause;
+  gave = gave;
+}
+
+pub read_step : (a b : Around) (s n p from to : ℕ) (t : Turn) → IsReady a s (Read p from) → ReadsPiece a b n p from to t → Turned a b s n (Read p from) (Read p to) t
+read_step a b s n p from to (turn.Chunk l) r h =
+    let bytes = h.piece.0 in
+    let piece : IsPiece (b.told p).content from bytes = subst (λ o. IsPiece o from bytes) (sym h.place.content) h.piece.8 in
+    let some : 0 < length (elements l) = omega (arith, ap length h.piece.1, length-map bytes Byte, h.piece.2) in
+    read_turned a b s n p from to (turn.Chunk l) h.place
+    (inl (omega (arith, r.0, h.piece.6, h.piece.4, h.piece.3), h.piece.7))
+    (λ g. (h.piece.6, h.piece.5, piece_fits (b.told p).content from to bytes h.piece.2 h.piece.4 piece, (r.3.0, r.3.1, h.piece.9 r.3.0 r.3.2)))
+    (cause_none a.told b.told (Read p from) (turn.Chunk l) (chunk_goes_on l)) (
+      some,
+      λ w e.
+          let mine : IsPiece (w p).content from bytes = subst (λ o. IsPiece o from bytes) (sym (e.goes p).content) piece in
+          let far : to ≤ (w p).at = omega (arith, (e.goes p).at, h.piece.6) in
+          rw h.piece.1 (by_left (reads_lead (w p).content (w p) from to bytes h.piece.4 h.piece.5 far mine) (some_run (w p).content to (w p) far)),
+    )
+read_step a b s n p from to turn.Quiet r h = absurd h.piece
+read_step a b s n p from to turn.Done r h =
+    read_turned a b s n p from to turn.Done h.place
+    (inl (omega (arith, r.0, h.piece.2), h.piece.3))
+    (λ g. absurd g)
+    (cause_none a.told b.told (Read p from) turn.Done done_is_no_fault)
+    (λ w o.
+    let end : IfSome (w p).content (λ c. length c ≤ from) = subst (λ c. IfSome c (λ d. length d ≤ from)) (sym ((o.goes p).content ∙ h.place.content)) h.piece.4 in
+    inl (done_reads (w p).content (w p) from (ap (λ (d : DeviceTold). d.at) (o.over p refl) ∙ h.piece.2) h.piece.1 end))
+read_step a b s n p from to (turn.Fault code.Endless) r h =
+    read_turned a b s n p from to (turn.Fault code.Endless) h.place
+    (inl (omega (arith, r.0, h.piece.2), h.piece.3))
+    (λ g. absurd g)
+    (record { open_fault = λ e. absurd (endless_is_no_open e); read_fault = λ e. absurd (endless_is_no_read e) })
+    (λ w o.
+    let long : IfSome (w p).content (λ c. from ≤ length c) = subst (λ c. IfSome c (λ d. from ≤ length d)) (sym ((o.goes p).content ∙ h.place.content)) r.2 in
+    inl (endless_reads (w p).content (w p) from (ap (λ (d : DeviceTold). d.at) (o.over p refl) ∙ h.piece.2) (omega (arith, r.1, h.piece.1)) long))
+read_step a b s n p from to (turn.Fault code.Read) r h =
+    read_turned a b s n p from to (turn.Fault code.Read) h.place
+    (inr (h.piece.1 ∙ sym r.0, h.piece.2))
+    (λ g. absurd g)
+    (record { open_fault = λ e. absurd (read_is_no_open e); read_fault = λ e. (p, refl, omega (arith, h.piece.2)) })
+    (λ w o.
+    let risen : 0 < (w p).read_faults = omega (arith, ap (λ (d : DeviceTold). d.read_faults) (o.over p refl), h.piece.2) in
+    inl (fault_reads (w p).content (w p) from (ap (λ (d : DeviceTold). d.at) (o.over p refl) ∙ h.piece.1) risen))
+read_step a b s n p from to (turn.Fault c) r h = absurd h.piece

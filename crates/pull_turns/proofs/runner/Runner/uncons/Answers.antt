@@ -1,0 +1,45 @@
+use Rattle.std.proofs.Common.{arith, ◌∙◌, Result, Ok, Err, OnErr}
+use Rattle.pull_turns.proofs.Led.{led_chunk, led_quiet, led_done, led_fault, led_tells, tells_on, moved_tells}
+use Rattle.pull_turns.proofs.runner.Runner.uncons.Goals as goal
+
+on_err : {T E P : Type 0} (r : Result T E) → P → OnErr r P
+on_err (Ok x) p = tt
+on_err (Err e) p = p
+
+pub returns-in_err-load-clause-stopped : goal.returns-in_err-load-clause-stopped
+returns-in_err-load-clause-stopped g c =
+    let i = c.loop-turn.invariant in
+    let m = c.in_err-load.ensures.stopped in
+    on_err c.from_residual.result (m.keeps.opened 0 (omega arith) i.can.opened, tells_on _ _ _ _ _ i.led.live i.led.tells (moved_tells _ _ _ _ m))
+
+pub returns-in-Chunk-clause-first : goal.returns-in-Chunk-clause-first
+returns-in-Chunk-clause-first g c =
+    let i = c.loop-turn.invariant in
+    let k = rw c.in-Chunk.is at c.in_ok-load.ensures.turned in
+    (k.gave.0, rw c.in-Chunk.is at c.in_ok-load.ensures.how, k.can tt, led_chunk _ _ _ _ _ _ _ _ i.led c.in-Chunk.load k)
+
+pub returns-in-Done-clause-first : goal.returns-in-Done-clause-first
+returns-in-Done-clause-first g c =
+    let i = c.loop-turn.invariant in
+    let k = rw c.in-Done.is at c.in_ok-load.ensures.turned in
+    (rw c.in-Done.is at c.in_ok-load.ensures.how, k.shut (λ j. j), led_tells _ _ _ _ _ _ _ _ i.led _ k, λ w o. led_done _ _ _ _ _ _ _ _ i.led k w o)
+
+pub returns-in-Fault-clause-first : goal.returns-in-Fault-clause-first
+returns-in-Fault-clause-first g c =
+    let i = c.loop-turn.invariant in
+    let k = rw c.in-Fault.is at c.in_ok-load.ensures.turned in
+    (rw c.in-Fault.is at c.in_ok-load.ensures.how, k.shut (λ j. j), led_tells _ _ _ _ _ _ _ _ i.led _ k, λ w o. led_fault _ _ _ _ _ _ _ _ i.led c.in-Fault.code k w o)
+
+pub loop-turn-preserved : goal.loop-turn-preserved
+loop-turn-preserved g c =
+    let i = c.loop-turn.invariant in
+    let k = rw c.in-Quiet.is at c.in_ok-load.ensures.turned in
+    record {
+      fits = c.in_ok-load.ensures.fits;
+      how = rw c.in-Quiet.is at c.in_ok-load.ensures.how;
+      sound = c.in_ok-load.ensures.sound;
+      can = k.can tt;
+      chunk = c.in_ok-load.ensures.chunk ∙ i.chunk;
+      fewer = omega (arith, k.gave.0, i.fewer);
+      led = led_quiet _ _ _ _ _ _ _ _ i.led k;
+    }

@@ -1,0 +1,147 @@
+-- What is left of a node.
+use Rattle.std.specs.Prelude.{◌≡◌, ◌⊎◌, ℕ, ◌+◌, ◌*◌, ◌<◌, ◌≤◌, ◌^◌, List, [], drop, map, take, length, Option, Some, None, IfSome}
+use Rattle.chunk_core.specs.declared.code.Code.TheVariants as code
+use Rattle.chunk_core.specs.Elements.{Byte}
+use Rattle.chunk_core.specs.Outcomes.{Done, Fault, Outcomes}
+use Rattle.device_port.specs.Device.{DeviceTold}
+use Rattle.pull_nodes.specs.declared.node.Node.{Node}
+use Rattle.pull_nodes.specs.declared.node.Node.TheVariants as node
+use Rattle.pull_nodes.specs.Runs.{OrLeft, Follows, Taken, IsFault, IsIdle, IsRun}
+use Rattle.pull_nodes.specs.Shape.{node_count, places_of, scope_count}
+use Rattle.pull_turns.specs.Around.{Around}
+use Rattle.pull_turns.specs.declared.rest.Rest.{Rest}
+use Rattle.pull_turns.specs.declared.rest.Rest.TheVariants.{Nil, Start, Read, Within', Append', OnFault', Take'}
+
+-- the bytes of this content from a place on: to its end, to the limit, or to where a read failed
+abbrev pub ContentFrom : ℕ → DeviceTold → List ℕ → Outcomes
+ContentFrom from d c ys e =
+    ((length c < 2 ^ 40) × (ys ≡ map Byte (drop from c)) × (e ≡ Done))
+    ⊎ ((2 ^ 40 ≤ length c) × (ys ≡ map Byte (drop from (take (2 ^ 40) c))) × (e ≡ Fault code.Endless))
+    ⊎ ((0 < d.read_faults) × (ys ≡ map Byte (drop from (take d.at c))) × (e ≡ Fault code.Read))
+
+-- a device that tells no content, from a place on: as many bytes as its place says
+abbrev pub UntoldFrom : ℕ → DeviceTold → Outcomes
+UntoldFrom from d ys e =
+    (bytes : List ℕ) × (from + length bytes ≡ d.at) × (ys ≡ map Byte bytes)
+    × ((e ≡ Done) ⊎ ((d.at ≡ 2 ^ 40) × (e ≡ Fault code.Endless)) ⊎ ((0 < d.read_faults) × (e ≡ Fault code.Read)))
+
+abbrev pub ReadsFromBy : Option (List ℕ) → ℕ → DeviceTold → Outcomes
+ReadsFromBy None from d = UntoldFrom from d
+ReadsFromBy (Some c) from d = ContentFrom from d c
+
+-- a device is read on from a place
+abbrev pub ReadsFrom : ℕ → DeviceTold → Outcomes
+ReadsFrom from d = ReadsFromBy d.content from d
+
+-- a run of what is left, by what the devices tell at the end
+abbrev pub IsRunOfRest : (ℕ → DeviceTold) → Rest → Outcomes
+IsRunOfRest w Nil = OrLeft (λ ys e. (ys ≡ []) × (e ≡ Done))
+IsRunOfRest w (Start n) = IsRun w n
+IsRunOfRest w (Read p from) = OrLeft (ReadsFrom from (w p))
+IsRunOfRest w (Within' s _ a) = OrLeft (IsRunOfRest w a)
+IsRunOfRest w (Append' _ a b) = OrLeft (Follows (λ g. g ≡ Done) (IsRunOfRest w a) (IsRun w b.value) (IsIdle w b.value))
+IsRunOfRest w (OnFault' _ a b) = OrLeft (Follows IsFault (IsRunOfRest w a) (IsRun w b.value) (IsIdle w b.value))
+IsRunOfRest w (Take' n _ a) = OrLeft (Taken n (IsRunOfRest w a))
+
+-- the place is acquired or read in the node
+abbrev pub IsIn : ℕ → Node → Type 0
+IsIn p node.Nil = ⊥
+IsIn p (node.Emit l) = ⊥
+IsIn p (node.Raise c) = ⊥
+IsIn p (node.Read q) = p ≡ q
+IsIn p (node.Weak' q _ a) = (p ≡ q) ⊎ IsIn p a
+IsIn p (node.Scope' _ a) = IsIn p a
+IsIn p (node.Append' _ a _ b) = IsIn p a ⊎ IsIn p b
+IsIn p (node.OnFault' _ a _ b) = IsIn p a ⊎ IsIn p b
+IsIn p (node.Take' n _ a) = IsIn p a
+
+-- the place is acquired in the node
+abbrev pub IsAsked : ℕ → Node → Type 0
+IsAsked p node.Nil = ⊥
+IsAsked p (node.Emit l) = ⊥
+IsAsked p (node.Raise c) = ⊥
+IsAsked p (node.Read q) = ⊥
+IsAsked p (node.Weak' q _ a) = (p ≡ q) ⊎ IsAsked p a
+IsAsked p (node.Scope' _ a) = IsAsked p a
+IsAsked p (node.Append' _ a _ b) = IsAsked p a ⊎ IsAsked p b
+IsAsked p (node.OnFault' _ a _ b) = IsAsked p a ⊎ IsAsked p b
+IsAsked p (node.Take' n _ a) = IsAsked p a
+
+-- the place is acquired or read in what is left
+abbrev pub IsLive : ℕ → Rest → Type 0
+IsLive p Nil = ⊥
+IsLive p (Start n) = IsIn p n
+IsLive p (Read q from) = p ≡ q
+IsLive p (Within' s _ a) = IsLive p a
+IsLive p (Append' _ a b) = IsLive p a ⊎ IsIn p b.value
+IsLive p (OnFault' _ a b) = IsLive p a ⊎ IsIn p b.value
+IsLive p (Take' n _ a) = IsLive p a
+
+-- the place is held by the scope s or an earlier one
+abbrev pub IsHeldBy : Around → ℕ → ℕ → Type 0
+IsHeldBy a s p = (k : ℕ) × (k ≤ s) × a.holds p k
+
+-- a node that wasn't entered may be run in the scope s: its devices wait, and what it reads is held,
+-- or is one of the places that will be held by then; no place stands on both sides of a join
+abbrev pub IsFresh : Around → (ℕ → Type 0) → ℕ → Node → Type 0
+IsFresh a P s node.Nil = Unit {0}
+IsFresh a P s (node.Emit l) = Unit {0}
+IsFresh a P s (node.Raise c) = Unit {0}
+IsFresh a P s (node.Read p) = ((a.told p).at ≡ 0) × (P p ⊎ IsHeldBy a s p)
+IsFresh a P s (node.Weak' p _ n) = a.waits p × (IsAsked p n → ⊥) × IsFresh a (λ q. (q ≡ p) ⊎ P q) s n
+IsFresh a P s (node.Scope' _ n) = IsFresh a P s n
+IsFresh a P s (node.Append' _ n _ m) = ((p : ℕ) → IsIn p n → IsIn p m → ⊥) × IsFresh a P s n × IsFresh a P s m
+IsFresh a P s (node.OnFault' _ n _ m) = ((p : ℕ) → IsIn p n → IsIn p m → ⊥) × IsFresh a P s n × IsFresh a P s m
+IsFresh a P s (node.Take' n _ m) = IsFresh a P s m
+
+-- no place is held yet
+abbrev pub NoPlace : ℕ → Type 0
+NoPlace p = ⊥
+
+-- what is left may be run on in the scope s
+abbrev pub IsReady : Around → ℕ → Rest → Type 0
+IsReady a s Nil = Unit {0}
+IsReady a s (Start n) = IsFresh a NoPlace s n
+IsReady a s (Read p from) = ((a.told p).at ≡ from) × (from ≤ 2 ^ 40) × IfSome (a.told p).content (λ c. from ≤ length c) × IsHeldBy a s p
+IsReady a s (Within' c _ r) = (s < c) × a.opened c × IsReady a c r
+IsReady a s (Append' _ r b) = ((p : ℕ) → IsLive p r → IsIn p b.value → ⊥) × IsReady a s r × IsFresh a NoPlace s b.value
+IsReady a s (OnFault' _ r b) = ((p : ℕ) → IsLive p r → IsIn p b.value → ⊥) × IsReady a s r × IsFresh a NoPlace s b.value
+IsReady a s (Take' n _ r) = IsReady a s r
+
+-- entries and leavings that weren't made yet, at first twice the nodes
+abbrev pub left : Rest → ℕ
+left Nil = 0
+left (Start n) = 2 * node_count n
+left (Read p from) = 1
+left (Within' s _ a) = left a + 1
+left (Append' _ a b) = left a + 2 * node_count b.value + 1
+left (OnFault' _ a b) = left a + 2 * node_count b.value + 1
+left (Take' n _ a) = left a + 1
+
+-- the devices that may still be acquired
+abbrev pub rows_left : Rest → ℕ
+rows_left Nil = 0
+rows_left (Start n) = length (places_of n)
+rows_left (Read p from) = 0
+rows_left (Within' s _ a) = rows_left a
+rows_left (Append' _ a b) = rows_left a + length (places_of b.value)
+rows_left (OnFault' _ a b) = rows_left a + length (places_of b.value)
+rows_left (Take' n _ a) = rows_left a
+
+-- the scopes that may still be opened
+abbrev pub scopes_left : Rest → ℕ
+scopes_left Nil = 0
+scopes_left (Start n) = scope_count n
+scopes_left (Read p from) = 0
+scopes_left (Within' s _ a) = scopes_left a
+scopes_left (Append' _ a b) = scopes_left a + scope_count b.value
+scopes_left (OnFault' _ a b) = scopes_left a + scope_count b.value
+scopes_left (Take' n _ a) = scopes_left a
+
+-- what is left may be run on, and there is room for it
+pub record CanStep (a : Around) (s : ℕ) (r : Rest) : Type 0 where
+  pub ready : IsReady a s r
+  pub opened : a.opened s
+  pub events : 2 * rows_left r + 2 * scopes_left r ≤ a.events
+  pub scopes : scopes_left r ≤ a.scopes
+  pub rows : rows_left r ≤ a.rows

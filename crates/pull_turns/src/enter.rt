@@ -1,0 +1,63 @@
+//! A node is entered.
+ghost use Rattle.std.specs.Prelude.{◌≡◌, ℕ, IfOk, OnErr};
+ghost use Rattle.pull_turns.specs.Rest.{CanStep};
+ghost use Rattle.pull_turns.specs.Turned.{Moved, Turned};
+ghost use Rattle.pull_turns.specs.declared.rest.Rest.TheVariants as rest;
+
+use crate::loads::give;
+use crate::outside::Outside;
+use crate::rest::Rest;
+use crate::turn::Turn;
+use chunk_core::Code;
+use device_port::Failed;
+use pull_nodes::Node;
+use std::alloc::{AllocError, Global};
+
+/// Enters a node in an open scope: what is left of it, and what that turn gives.
+pub(crate) fn enter<O: Outside>(
+    alloc: Global,
+    node: Node,
+    outside: &mut O,
+    desk: &mut O::Desk,
+    scope: u32,
+) -> Result<(Rest, Turn), AllocError>
+    requires fits { O.fits outside.old desk.old }
+    requires ready { CanStep (O.seen outside.old) scope (rest.Start node) }
+    ensures turned { IfOk result (λ r. (n : ℕ) → Turned (O.seen outside.old) (O.seen outside.new) scope n (rest.Start node) r.0 r.1) }
+    ensures stopped { OnErr result (Moved (O.seen outside.old) (O.seen outside.new) scope (rest.Start node)) }
+    ensures fits { O.fits outside.new desk.new }
+{
+    match node {
+        Node::Nil => Ok((Rest::Nil, Turn::Done)),
+        Node::Emit(load) => Ok((Rest::Nil, give(load))),
+        Node::Raise(number) => Ok((Rest::Nil, Turn::Fault(Code::Raised(number)))),
+        Node::Read(place) => Ok((Rest::Read(place, 0), Turn::Quiet)),
+        Node::Weak(place, a) => match outside.open(desk, scope, place) {
+            Ok(()) => Ok((Rest::Start(Box::into_inner(a)), Turn::Quiet)),
+            Err(Failed) => Ok((Rest::Nil, Turn::Fault(Code::Open))),
+        },
+        Node::Scope(a) => {
+            let a = begin(alloc, a)?;
+            let child = outside.enter(desk, scope);
+            Ok((Rest::Within(child, a), Turn::Quiet))
+        }
+        Node::Append(a, b) => {
+            let a = begin(alloc, a)?;
+            Ok((Rest::Append(a, b), Turn::Quiet))
+        }
+        Node::OnFault(a, b) => {
+            let a = begin(alloc, a)?;
+            Ok((Rest::OnFault(a, b), Turn::Quiet))
+        }
+        Node::Take(wanted, a) => {
+            let a = begin(alloc, a)?;
+            Ok((Rest::Take(wanted, a), Turn::Quiet))
+        }
+    }
+}
+
+fn begin(alloc: Global, node: Box<Node>) -> Result<Box<Rest>, AllocError>
+    ensures { IfOk result (λ r. r.value ≡ rest.Start node.value) }
+{
+    Ok(Box::new(alloc, Rest::Start(Box::into_inner(node)))?)
+}

@@ -1,0 +1,53 @@
+//! The devices and scopes that a node is run over.
+use device_port::Failed;
+
+/// The devices of a stream by their places, and its scopes by their numbers.
+pub trait Outside {
+    ghost use Rattle.std.specs.Prelude.{◌≡◌, ℕ, ◌<◌, ◌≤◌, length, IfOk, OnOk, OnErr};
+    ghost use Rattle.pull_turns.specs.Around.{Around, Acquires, Refuses, Gives, Fails, IsHeld, Enters, Leaves};
+
+    /// Where the rows are.
+    type Desk;
+
+    // What each device tells, which scopes are open, which devices wait or are held, and the room.
+    ghost seen: { Self → Around };
+    // The outside is in order, and this is its desk.
+    ghost fits: { Self → Self.Desk → Type 0 };
+
+    /// Opens the device of a place, which was never asked, and gives it to an open scope.
+    fn open(&mut self, desk: &mut Self::Desk, scope: u32, place: u32) -> Result<(), Failed>
+        requires fits { fits self.old desk.old }
+        requires scope { (seen self.old).opened scope }
+        requires place { (seen self.old).waits place }
+        requires events { 2 ≤ (seen self.old).events }
+        requires rows { 1 ≤ (seen self.old).rows }
+        ensures ok { OnOk result (Acquires (seen self.old) scope place (seen self.new)) }
+        ensures failed { OnErr result (Refuses (seen self.old) place (seen self.new)) }
+        ensures fits { fits self.new desk.new };
+
+    /// Reads some of the next bytes of a device that is held to the front of the buffer, and none
+    /// only at the end.
+    fn read(&mut self, desk: &mut Self::Desk, place: u32, buf: &mut [u8]) -> Result<usize, Failed>
+        requires fits { fits self.old desk.old }
+        requires held { IsHeld (seen self.old) place }
+        requires some { 0 < length buf.old }
+        ensures ok { IfOk result (λ n. Gives (seen self.old) place n buf.new (seen self.new)) }
+        ensures failed { OnErr result (Fails (seen self.old) place (seen self.new)) }
+        ensures fits { fits self.new desk.new };
+
+    /// Opens a child of an open scope, and answers its number.
+    fn enter(&mut self, desk: &mut Self::Desk, at: u32) -> u32
+        requires fits { fits self.old desk.old }
+        requires scope { (seen self.old).opened at }
+        requires events { 2 ≤ (seen self.old).events }
+        requires scopes { 1 ≤ (seen self.old).scopes }
+        ensures enters { Enters (seen self.old) at result (seen self.new) }
+        ensures fits { fits self.new desk.new };
+
+    /// Closes an open scope, and what is open in it.
+    fn leave(&mut self, desk: &mut Self::Desk, scope: u32)
+        requires fits { fits self.old desk.old }
+        requires scope { (seen self.old).opened scope }
+        ensures leaves { Leaves (seen self.old) scope (seen self.new) }
+        ensures fits { fits self.new desk.new };
+}

@@ -1,0 +1,62 @@
+//! One read of a device.
+ghost use Rattle.std.specs.Prelude.{◌≡◌, ◌+◌, ◌^◌, ◌<◌, ◌≤◌, IfOk, OnErr};
+ghost use Rattle.pull_turns.specs.Around.{IsHeld};
+ghost use Rattle.pull_turns.specs.Moves.{ReadsPiece, ReadsPlace};
+
+use crate::outside::Outside;
+use crate::turn::Turn;
+use chunk_core::{Chunk, Code, Load};
+use device_port::Failed;
+use std::alloc::{AllocError, Global};
+
+/// The most bytes of one device.
+const ENDLESS: u64 = 1 << 40;
+
+/// Reads a piece of at most `chunk` bytes.
+pub(crate) fn read_piece<G: Outside>(
+    alloc: Global,
+    outside: &mut G,
+    desk: &mut G::Desk,
+    place: u32,
+    given: &mut u64,
+    chunk: u32,
+) -> Result<Turn, AllocError>
+    requires fits { G.fits outside.old desk.old }
+    requires held { IsHeld (G.seen outside.old) place }
+    requires at { ((G.seen outside.old).told place).at ≡ given.old }
+    requires chunk { 0 < chunk }
+    ensures piece { IfOk result (λ t. ReadsPiece (G.seen outside.old) (G.seen outside.new) chunk place given.old given.new t) }
+    ensures place { OnErr result (ReadsPlace (G.seen outside.old) (G.seen outside.new) place) }
+    ensures fits { G.fits outside.new desk.new }
+{
+    if *given >= ENDLESS {
+        return Ok(Turn::Fault(Code::Endless));
+    }
+    let mut bytes = Vec::new(alloc);
+    bytes.resize(room(*given, chunk), 0)?;
+    match outside.read(desk, place, &mut bytes) {
+        Ok(0) => Ok(Turn::Done),
+        Ok(count) => {
+            bytes.truncate(count);
+            *given += count as u64;
+            Ok(Turn::Chunk(Load::Bytes(Chunk::of_vec(alloc, bytes)?)))
+        }
+        Err(Failed) => Ok(Turn::Fault(Code::Read)),
+    }
+}
+
+/// How many bytes may be asked for.
+fn room(given: u64, chunk: u32) -> usize
+    requires limit { given < 2 ^ 40 }
+    requires chunk { 0 < chunk }
+    ensures some { 0 < result }
+    ensures piece { result ≤ chunk }
+    ensures limit { given + result ≤ 2 ^ 40 }
+{
+    let left = ENDLESS - given;
+    if left < chunk as u64 {
+        left as usize
+    } else {
+        chunk as usize
+    }
+}

@@ -1,0 +1,190 @@
+//! A node that is run turn by turn.
+ghost use Rattle.std.specs.Prelude.{◌≡◌, ℕ, ◌+◌, ◌<◌, ◌≤◌, true, false, Some, None, flat_map, length, IfOk, OnErr};
+ghost use Rattle.chunk_core.specs.declared.code.How.TheVariants as how;
+ghost use Rattle.chunk_core.specs.Elements.{elements};
+ghost use Rattle.pull_turns.specs.Rest.{CanStep, IsRunOfRest, left};
+ghost use Rattle.pull_turns.specs.Turned.{Moved};
+ghost use Rattle.pull_turns.specs.Moves.{how_of};
+ghost use Rattle.pull_turns.specs.Led.{IsShut, Tells, Turns, Uncons, end_by};
+ghost use Rattle.pull_turns.specs.declared.rest.Rest.TheVariants as rest;
+
+use crate::outside::Outside;
+use crate::rest::Rest;
+use crate::step::{leave_at_end, step};
+use crate::turn::Turn;
+use chunk_core::{How, Load};
+use pull_nodes::Node;
+use std::alloc::{AllocError, Global};
+
+/// A node that is run turn by turn over its devices and scopes.
+///
+/// After want of memory it may only be halted.
+#[derive(Drop)]
+pub struct Runner<O> {
+    alloc: Global,
+    rest: Rest,
+    outside: O,
+    chunk: u32,
+    how: Option<How>,
+    wanting: bool,
+}
+
+/// What comes first of a node.
+#[derive(Drop)]
+pub enum Unconsed {
+    /// Elements, at least one.
+    Chunk(Load),
+    /// The end, which is `Done` or a fault.
+    End(How),
+    /// Nothing in the turns that were made.
+    Again,
+}
+
+impl<O: Outside> Runner<O> {
+    /// A node that is about to run, with reads of at most `chunk` bytes.
+    pub fn over(alloc: Global, node: Node, outside: O, chunk: u32) -> Runner<O>
+        ensures rest { result.rest ≡ rest.Start node }
+        ensures outside { result.outside ≡ outside }
+        ensures chunk { result.chunk ≡ chunk }
+        ensures runs { (result.how ≡ None) × (result.wanting ≡ false) }
+    {
+        Runner {
+            alloc,
+            rest: Rest::Start(node),
+            outside,
+            chunk,
+            how: None,
+            wanting: false,
+        }
+    }
+
+    /// Makes one turn. At the end each scope is closed.
+    pub fn turn(&mut self, desk: &mut O::Desk) -> Result<Turn, AllocError>
+        requires fits { O.fits self.old.outside desk.old }
+        requires runs { (self.old.how ≡ None) × (self.old.wanting ≡ false) }
+        requires can { CanStep (O.seen self.old.outside) 0 self.old.rest }
+        requires chunk { 0 < self.old.chunk }
+        ensures turned { IfOk result (λ t. Turns (O.seen self.old.outside) (O.seen self.new.outside) self.old.chunk self.old.rest self.new.rest t) }
+        ensures how { IfOk result (λ t. self.new.how ≡ how_of t) }
+        ensures sound { IfOk result (λ t. self.new.wanting ≡ false) }
+        ensures wanting { OnErr result ((self.new.wanting ≡ true) × (self.new.how ≡ None)) }
+        ensures stopped { OnErr result (Moved (O.seen self.old.outside) (O.seen self.new.outside) 0 self.old.rest) }
+        ensures chunk { self.new.chunk ≡ self.old.chunk }
+        ensures fits { O.fits self.new.outside desk.new }
+    {
+        self.wanting = true;
+        let turn = step(
+            self.alloc,
+            &mut self.rest,
+            &mut self.outside,
+            desk,
+            0,
+            self.chunk,
+        )?;
+        self.wanting = false;
+        leave_at_end(&mut self.outside, desk, 0, &turn);
+        self.how = turn.how();
+        Ok(turn)
+    }
+
+    /// Makes turns until one gives elements or the end, but not more than `turns`.
+    pub fn uncons(&mut self, desk: &mut O::Desk, turns: u64) -> Result<Unconsed, AllocError>
+        requires fits { O.fits self.old.outside desk.old }
+        requires runs { (self.old.how ≡ None) × (self.old.wanting ≡ false) }
+        requires can { CanStep (O.seen self.old.outside) 0 self.old.rest }
+        requires chunk { 0 < self.old.chunk }
+        requires turns { 1 ≤ turns }
+        ensures first { IfOk result (λ u. Uncons (O.seen self.old.outside) (O.seen self.new.outside) turns self.old.rest self.new.rest self.new.how u) }
+        ensures sound { IfOk result (λ u. self.new.wanting ≡ false) }
+        ensures wanting { OnErr result ((self.new.wanting ≡ true) × (self.new.how ≡ None)) }
+        ensures stopped { OnErr result ((O.seen self.new.outside).opened 0 × Tells (O.seen self.old.outside).told (O.seen self.new.outside).told self.old.rest) }
+        ensures chunk { self.new.chunk ≡ self.old.chunk }
+        ensures fits { O.fits self.new.outside desk.new }
+    {
+        for _turn in 0..turns {
+            match self.turn(desk)? {
+                Turn::Chunk(load) => return Ok(Unconsed::Chunk(load)),
+                Turn::Quiet => (),
+                Turn::Done => return Ok(Unconsed::End(How::Done)),
+                Turn::Fault(code) => return Ok(Unconsed::End(How::Fault(code))),
+            }
+        }
+        Ok(Unconsed::Again)
+    }
+
+    /// How it has ended, where it has.
+    pub fn how(&self) -> Option<How>
+        ensures { result ≡ self.now.how }
+    {
+        self.how
+    }
+
+    /// Stops the run, and closes each scope.
+    pub fn halt(&mut self, desk: &mut O::Desk)
+        requires fits { O.fits self.old.outside desk.old }
+        requires runs { self.old.how ≡ None }
+        requires root { (O.seen self.old.outside).opened 0 }
+        ensures shut { IsShut (O.seen self.new.outside) }
+        ensures tells { Tells (O.seen self.old.outside).told (O.seen self.new.outside).told rest.Nil }
+        ensures halted { self.old.wanting ≡ false → self.new.how ≡ Some how.Halted }
+        ensures memory { self.old.wanting ≡ true → self.new.how ≡ Some how.Memory }
+        ensures wanting { self.new.wanting ≡ self.old.wanting }
+        ensures chunk { self.new.chunk ≡ self.old.chunk }
+        ensures fits { O.fits self.new.outside desk.new }
+    {
+        self.outside.leave(desk, 0);
+        self.how = Some(if self.wanting {
+            How::Memory
+        } else {
+            How::Halted
+        });
+    }
+
+    /// What it was run over, and how it ended.
+    pub fn end(self) -> (O, How)
+        requires ended { (e : _) × (self.how ≡ Some e) }
+        ensures outside { result.0 ≡ self.outside }
+        ensures how { self.how ≡ Some result.1 }
+    {
+        let Runner {
+            alloc: _,
+            rest: _,
+            outside,
+            chunk: _,
+            how,
+            wanting: _,
+        } = self;
+        match how {
+            Some(how) => (outside, how),
+            None => unreachable!(),
+        }
+    }
+}
+
+/// Runs a runner to its end, but makes no more than `turns` turns: what it gave and how it ended
+/// are a run of the node, which was left where it has not ended.
+pub fn run_all<O: Outside>(
+    alloc: Global,
+    runner: &mut Runner<O>,
+    desk: &mut O::Desk,
+    turns: u64,
+) -> Result<Vec<Load>, AllocError>
+    requires fits { O.fits runner.old.outside desk.old }
+    requires runs { (runner.old.how ≡ None) × (runner.old.wanting ≡ false) }
+    requires can { CanStep (O.seen runner.old.outside) 0 runner.old.rest }
+    requires chunk { 0 < runner.old.chunk }
+    ensures turns { IfOk result (λ loads. runner.new.how ≡ None → turns + left runner.new.rest ≤ length loads.items + left runner.old.rest) }
+    ensures run { IfOk result (λ loads. IsRunOfRest (O.seen runner.new.outside).told runner.old.rest (flat_map elements loads.items) (end_by runner.new.how)) }
+    ensures fits { O.fits runner.new.outside desk.new }
+{
+    let mut out = Vec::new(alloc);
+    for _turn in 0..turns {
+        match runner.turn(desk)? {
+            Turn::Chunk(load) => out.push(load)?,
+            Turn::Quiet => (),
+            Turn::Done => return Ok(out),
+            Turn::Fault(_) => return Ok(out),
+        }
+    }
+    Ok(out)
+}

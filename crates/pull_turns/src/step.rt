@@ -1,0 +1,116 @@
+//! One turn of what is left of a node.
+ghost use Rattle.std.specs.Prelude.{◌≡◌, ℕ, ◌<◌, IfOk, OnErr, if◌then◌else◌};
+ghost use Rattle.pull_turns.specs.Rest.{CanStep};
+ghost use Rattle.pull_turns.specs.Turned.{Moved, Turned};
+ghost use Rattle.pull_turns.specs.Moves.{is_end, is_done, is_fault, behind, append_turn, guard_turn, LeavesAtEnd};
+
+use crate::enter::enter;
+use crate::loads::taken;
+use crate::outside::Outside;
+use crate::reading::read_piece;
+use crate::rest::Rest;
+use crate::turn::Turn;
+use pull_nodes::Node;
+use std::alloc::{AllocError, Global};
+use std::mem;
+
+/// One turn in an open scope, with a read of at most `chunk` bytes.
+pub(crate) fn step<O: Outside>(
+    alloc: Global,
+    rest: &mut Rest,
+    outside: &mut O,
+    desk: &mut O::Desk,
+    scope: u32,
+    chunk: u32,
+) -> Result<Turn, AllocError>
+    requires fits { O.fits outside.old desk.old }
+    requires ready { CanStep (O.seen outside.old) scope rest.old }
+    requires chunk { 0 < chunk }
+    ensures turned { IfOk result (λ t. Turned (O.seen outside.old) (O.seen outside.new) scope chunk rest.old rest.new t) }
+    ensures stopped { OnErr result (Moved (O.seen outside.old) (O.seen outside.new) scope rest.old) }
+    ensures fits { O.fits outside.new desk.new }
+{
+    match rest {
+        Rest::Nil => Ok(Turn::Done),
+        Rest::Start(node) => {
+            let node = mem::replace(node, Node::Nil);
+            let (new, turn) = enter(alloc, node, outside, desk, scope)?;
+            *rest = new;
+            Ok(turn)
+        }
+        Rest::Read(place, given) => {
+            let turn = read_piece(alloc, outside, desk, *place, given, chunk)?;
+            Ok(turn)
+        }
+        Rest::Within(child, a) => {
+            let turn = step(alloc, a, outside, desk, *child, chunk)?;
+            leave_at_end(outside, desk, *child, &turn);
+            Ok(turn)
+        }
+        Rest::Append(a, _) => {
+            let turn = step(alloc, a, outside, desk, scope, chunk)?;
+            Ok(after_first(rest, turn))
+        }
+        Rest::OnFault(a, _) => {
+            let turn = step(alloc, a, outside, desk, scope, chunk)?;
+            Ok(after_guarded(rest, turn))
+        }
+        Rest::Take(wanted, a) => {
+            if *wanted == 0 {
+                return Ok(Turn::Done);
+            }
+            let turn = step(alloc, a, outside, desk, scope, chunk)?;
+            let turn = taken(wanted, turn)?;
+            Ok(turn)
+        }
+    }
+}
+
+/// A scope is closed where what ran in it has ended.
+pub(crate) fn leave_at_end<O: Outside>(outside: &mut O, desk: &mut O::Desk, scope: u32, turn: &Turn)
+    requires fits { O.fits outside.old desk.old }
+    requires scope { (O.seen outside.old).opened scope }
+    ensures ends { LeavesAtEnd O.seen outside.old scope turn.now outside.new }
+    ensures fits { O.fits outside.new desk.new }
+{
+    if turn.is_end() {
+        outside.leave(desk, scope);
+    }
+}
+
+/// The second part is all that is left.
+fn go_on(rest: &mut Rest)
+    ensures { rest.new ≡ behind rest.old }
+{
+    match mem::replace(rest, Rest::Nil) {
+        Rest::Append(_a, b) => *rest = Rest::Start(Box::into_inner(b)),
+        Rest::OnFault(_a, b) => *rest = Rest::Start(Box::into_inner(b)),
+        other => *rest = other,
+    }
+}
+
+fn after_first(rest: &mut Rest, turn: Turn) -> Turn
+    ensures rest { rest.new ≡ (if is_done turn then behind rest.old else rest.old) }
+    ensures turn { result ≡ append_turn turn }
+{
+    match turn {
+        Turn::Done => {
+            go_on(rest);
+            Turn::Quiet
+        }
+        turn => turn,
+    }
+}
+
+fn after_guarded(rest: &mut Rest, turn: Turn) -> Turn
+    ensures rest { rest.new ≡ (if is_fault turn then behind rest.old else rest.old) }
+    ensures turn { result ≡ guard_turn turn }
+{
+    match turn {
+        Turn::Fault(_) => {
+            go_on(rest);
+            Turn::Quiet
+        }
+        turn => turn,
+    }
+}

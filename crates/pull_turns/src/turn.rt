@@ -1,0 +1,40 @@
+//! What one turn gives.
+ghost use Rattle.std.specs.Prelude.{◌≡◌};
+ghost use Rattle.pull_turns.specs.Moves.{is_end, how_of};
+
+use chunk_core::{Code, How, Load};
+
+/// What one turn gives.
+#[derive(Drop)]
+pub enum Turn {
+    /// Elements, at least one.
+    Chunk(Load),
+    /// Nothing, but a node was entered or left.
+    Quiet,
+    /// The end.
+    Done,
+    /// The end, by a fault.
+    Fault(Code),
+}
+
+impl Turn {
+    pub(crate) fn is_end(&self) -> bool
+        ensures { result ≡ is_end self.now }
+    {
+        match self {
+            Turn::Chunk(_) | Turn::Quiet => false,
+            Turn::Done | Turn::Fault(_) => true,
+        }
+    }
+
+    /// How the run has ended, where it has.
+    pub(crate) fn how(&self) -> Option<How>
+        ensures { result ≡ how_of self.now }
+    {
+        match self {
+            Turn::Chunk(_) | Turn::Quiet => None,
+            Turn::Done => Some(How::Done),
+            Turn::Fault(code) => Some(How::Fault(*code)),
+        }
+    }
+}
