@@ -54,7 +54,7 @@ raise_enter a s n c = turned_same a s n _ _ _ (λ p i. i) (omega arith) (omega a
 
 pub read_enter : (a : Around) (s n p : ℕ) → CanStep a s (Start (node.Read p)) → Turned a a s n (Start (node.Read p)) (Read p 0) turn.Quiet
 read_enter a s n p h = turned_same a s n _ _ _ (λ p i. i) (omega arith) (omega arith) (omega arith)
-    (λ g. (h.ready.0, omega arith, none_left (a.told p).content, elim h.ready.1 [ inl i ↦ absurd i | inr i ↦ i ]))
+    (λ g. (h.ready.0, h.ready.1, omega arith, none_left (a.told p).content, elim h.ready.2 [ inl i ↦ absurd i | inr i ↦ i ]))
     (cause_none a.told a.told _ _ quiet_goes_on)
     (omega arith, λ w o. by_left (reads_start (w p).content (w p)) (some_run (w p).content 0 (w p) (omega arith)))
 

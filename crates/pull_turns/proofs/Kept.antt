@@ -51,7 +51,7 @@ asked_in p (node.Take' n _ a) h = asked_in p a h
 -- a node may still be run where its places are as they were, or are held by now
 module _ (a b : Around) (s t : ℕ) (le : s ≤ t) where
   pub fresh_on : (P Q : ℕ → Type 0) (n : Node)
-      → ((p : ℕ) → IsIn p n → (b.told p).at ≡ (a.told p).at)
+      → ((p : ℕ) → IsIn p n → ((b.told p).at ≡ (a.told p).at) × ((b.told p).read_faults ≡ (a.told p).read_faults))
       → ((p : ℕ) → IsAsked p n → a.waits p → b.waits p)
       → ((p k : ℕ) → IsIn p n → k ≤ s → a.holds p k → b.holds p k)
       → ((p : ℕ) → P p → Q p ⊎ IsHeldBy b t p)
@@ -60,7 +60,7 @@ module _ (a b : Around) (s t : ℕ) (le : s ≤ t) where
   fresh_on P Q (node.Emit l) d w o f h = tt
   fresh_on P Q (node.Raise c) d w o f h = tt
   fresh_on P Q (node.Read q) d w o f h =
-      (d q refl ∙ h.0, elim h.1 [ inl i ↦ f q i | inr i ↦ inr (i.0, omega (arith, i.1, le), o q i.0 refl i.1 i.2) ])
+      ((d q refl).0 ∙ h.0, (d q refl).1 ∙ h.1, elim h.2 [ inl i ↦ f q i | inr i ↦ inr (i.0, omega (arith, i.1, le), o q i.0 refl i.1 i.2) ])
   fresh_on P Q (node.Weak' q _ n) d w o f h = (
     w q (inl refl) h.0,
     h.1,
@@ -76,7 +76,7 @@ module _ (a b : Around) (s t : ℕ) (le : s ≤ t) where
 
   pub fresh_kept : (T : ℕ → Type 0) (n : Node) → Keeps a T s b → ((p : ℕ) → IsIn p n → T p → ⊥) → IsFresh a NoPlace s n → IsFresh b NoPlace t n
   fresh_kept T n k never h =
-      fresh_on NoPlace NoPlace n (λ p i. ap (λ (d : DeviceTold). d.at) (k.told p (never p i))) (λ p i. k.waits p (never p (asked_in p n i))) (λ p j i. k.holds p j (never p i)) (λ p i. absurd i) h
+      fresh_on NoPlace NoPlace n (λ p i. (ap (λ (d : DeviceTold). d.at) (k.told p (never p i)), ap (λ (d : DeviceTold). d.read_faults) (k.told p (never p i)))) (λ p i. k.waits p (never p (asked_in p n i))) (λ p j i. k.holds p j (never p i)) (λ p i. absurd i) h
 
 -- a number of each device is as it was
 pub field_same : (f : DeviceTold → ℕ) (b a : ℕ → DeviceTold) (p : ℕ) → f (b p) ≡ f (a p) → ((q : ℕ) → q ≢ p → f (b q) ≡ f (a q)) → (q : ℕ) → f (b q) ≡ f (a q)
@@ -86,10 +86,16 @@ module _ (a b : Around) (s p : ℕ) (h : Acquires a s p b) where
   at_p : (b.told p).at ≡ (a.told p).at
   at_p = ap (λ (d : DeviceTold). d.at) h.told
 
+  faults_p : (b.told p).read_faults ≡ (a.told p).read_faults
+  faults_p = ap (λ (d : DeviceTold). d.read_faults) h.told
+
   pub fresh_opened : (n : Node) → (IsAsked p n → ⊥) → IsFresh a (λ q. (q ≡ p) ⊎ NoPlace q) s n → IsFresh b NoPlace s n
   fresh_opened n never fresh =
       fresh_on a b s s (omega arith) (λ q. (q ≡ p) ⊎ NoPlace q) NoPlace n
-      (λ q i. field_same (λ d. d.at) b.told a.told p at_p (λ r m. ap (λ (d : DeviceTold). d.at) ((h.keeps s).told r m)) q)
+      (λ q i. (
+        field_same (λ d. d.at) b.told a.told p at_p (λ r m. ap (λ (d : DeviceTold). d.at) ((h.keeps s).told r m)) q,
+        field_same (λ d. d.read_faults) b.told a.told p faults_p (λ r m. ap (λ (d : DeviceTold). d.read_faults) ((h.keeps s).told r m)) q,
+      ))
       (λ q i. (h.keeps s).waits q (λ e. never (subst (λ r. IsAsked r n) e i)))
       (λ q k i l. h.holds q k)
       (λ q. elim [ inl e ↦ inr (s, omega arith, subst (λ r. b.holds r s) (sym e) h.held) | inr i ↦ absurd i ])

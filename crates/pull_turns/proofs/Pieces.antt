@@ -143,7 +143,7 @@ read_step a b s n p from to (turn.Chunk l) r h =
     let some : 0 < length (elements l) = omega (arith, ap length h.piece.1, length-map bytes Byte, h.piece.2) in
     read_turned a b s n p from to (turn.Chunk l) h.place
     (inl (omega (arith, r.0, h.piece.6, h.piece.4, h.piece.3), h.piece.7))
-    (λ g. (h.piece.6, h.piece.5, piece_fits (b.told p).content from to bytes h.piece.2 h.piece.4 piece, (r.3.0, r.3.1, h.piece.9 r.3.0 r.3.2)))
+    (λ g. (h.piece.6, h.piece.7 ∙ r.1, h.piece.5, piece_fits (b.told p).content from to bytes h.piece.2 h.piece.4 piece, (r.4.0, r.4.1, h.piece.9 r.4.0 r.4.2)))
     (cause_none a.told b.told (Read p from) (turn.Chunk l) (chunk_goes_on l)) (
       some,
       λ w e.
@@ -166,8 +166,8 @@ read_step a b s n p from to (turn.Fault code.Endless) r h =
     (λ g. absurd g)
     (record { open_fault = λ e. absurd (endless_is_no_open e); read_fault = λ e. absurd (endless_is_no_read e) })
     (λ w o.
-    let long : IfSome (w p).content (λ c. from ≤ length c) = subst (λ c. IfSome c (λ d. from ≤ length d)) (sym ((o.goes p).content ∙ h.place.content)) r.2 in
-    inl (endless_reads (w p).content (w p) from (ap (λ (d : DeviceTold). d.at) (o.over p refl) ∙ h.piece.2) (omega (arith, r.1, h.piece.1)) long))
+    let long : IfSome (w p).content (λ c. from ≤ length c) = subst (λ c. IfSome c (λ d. from ≤ length d)) (sym ((o.goes p).content ∙ h.place.content)) r.3 in
+    inl (endless_reads (w p).content (w p) from (ap (λ (d : DeviceTold). d.at) (o.over p refl) ∙ h.piece.2) (omega (arith, r.2, h.piece.1)) long))
 read_step a b s n p from to (turn.Fault code.Read) r h =
     read_turned a b s n p from to (turn.Fault code.Read) h.place
     (inr (h.piece.1 ∙ sym r.0, h.piece.2))

@@ -81,13 +81,13 @@ IsLive p (Take' n _ a) = IsLive p a
 abbrev pub IsHeldBy : Around → ℕ → ℕ → Type 0
 IsHeldBy a s p = (k : ℕ) × (k ≤ s) × a.holds p k
 
--- a node that wasn't entered may be run in the scope s: its devices wait, and what it reads is held,
+-- a node that wasn't entered may be run in the scope s: its devices wait, no read of one failed, and what it reads is held,
 -- or is one of the places that will be held by then; no place stands on both sides of a join
 abbrev pub IsFresh : Around → (ℕ → Type 0) → ℕ → Node → Type 0
 IsFresh a P s node.Nil = Unit {0}
 IsFresh a P s (node.Emit l) = Unit {0}
 IsFresh a P s (node.Raise c) = Unit {0}
-IsFresh a P s (node.Read p) = ((a.told p).at ≡ 0) × (P p ⊎ IsHeldBy a s p)
+IsFresh a P s (node.Read p) = ((a.told p).at ≡ 0) × ((a.told p).read_faults ≡ 0) × (P p ⊎ IsHeldBy a s p)
 IsFresh a P s (node.Weak' p _ n) = a.waits p × (IsAsked p n → ⊥) × IsFresh a (λ q. (q ≡ p) ⊎ P q) s n
 IsFresh a P s (node.Scope' _ n) = IsFresh a P s n
 IsFresh a P s (node.Append' _ n _ m) = ((p : ℕ) → IsIn p n → IsIn p m → ⊥) × IsFresh a P s n × IsFresh a P s m
@@ -98,11 +98,11 @@ IsFresh a P s (node.Take' n _ m) = IsFresh a P s m
 abbrev pub NoPlace : ℕ → Type 0
 NoPlace p = ⊥
 
--- what is left may be run on in the scope s
+-- what is left may be run on in the scope s: no read failed of a device that is still read
 abbrev pub IsReady : Around → ℕ → Rest → Type 0
 IsReady a s Nil = Unit {0}
 IsReady a s (Start n) = IsFresh a NoPlace s n
-IsReady a s (Read p from) = ((a.told p).at ≡ from) × (from ≤ 2 ^ 40) × IfSome (a.told p).content (λ c. from ≤ length c) × IsHeldBy a s p
+IsReady a s (Read p from) = ((a.told p).at ≡ from) × ((a.told p).read_faults ≡ 0) × (from ≤ 2 ^ 40) × IfSome (a.told p).content (λ c. from ≤ length c) × IsHeldBy a s p
 IsReady a s (Within' c _ r) = (s < c) × a.opened c × IsReady a c r
 IsReady a s (Append' _ r b) = ((p : ℕ) → IsLive p r → IsIn p b.value → ⊥) × IsReady a s r × IsFresh a NoPlace s b.value
 IsReady a s (OnFault' _ r b) = ((p : ℕ) → IsLive p r → IsIn p b.value → ⊥) × IsReady a s r × IsFresh a NoPlace s b.value

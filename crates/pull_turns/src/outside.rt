@@ -3,16 +3,29 @@ use device_port::Failed;
 
 /// The devices of a stream by their places, and its scopes by their numbers.
 pub trait Outside {
-    ghost use Rattle.std.specs.Prelude.{◌≡◌, ℕ, ◌<◌, ◌≤◌, length, IfOk, OnOk, OnErr};
+    ghost use Rattle.std.specs.Prelude.{◌≡◌, ℕ, ◌-◌, ◌^◌, ◌<◌, ◌≤◌, length, IfOk, OnOk, OnErr};
     ghost use Rattle.pull_turns.specs.Around.{Around, Acquires, Refuses, Gives, Fails, IsHeld, Enters, Leaves};
 
     /// Where the rows are.
     type Desk;
 
+    /// What tells one stream of a desk from the others.
+    type Name;
+
     // What each device tells, which scopes are open, which devices wait or are held, and the room.
     ghost seen: { Self → Around };
     // The outside is in order, and this is its desk.
     ghost fits: { Self → Self.Desk → Type 0 };
+    // The stream that acts.
+    ghost name: { Self → Self.Name };
+    // What other streams than this one have at the first desk they have at the second.
+    ghost beside: { Self.Name → Self.Desk → Self.Desk → Type 0 };
+
+    // A desk is beside itself.
+    ghost stays: { (n : Self.Name) (d : Self.Desk) → beside n d d };
+
+    // What others keep in a first stretch and in a second, they keep in both.
+    ghost then: { (n : Self.Name) (d e f : Self.Desk) → beside n d e → beside n e f → beside n d f };
 
     /// Opens the device of a place, which was never asked, and gives it to an open scope.
     fn open(&mut self, desk: &mut Self::Desk, scope: u32, place: u32) -> Result<(), Failed>
@@ -23,7 +36,9 @@ pub trait Outside {
         requires rows { 1 ≤ (seen self.old).rows }
         ensures ok { OnOk result (Acquires (seen self.old) scope place (seen self.new)) }
         ensures failed { OnErr result (Refuses (seen self.old) place (seen self.new)) }
-        ensures fits { fits self.new desk.new };
+        ensures fits { fits self.new desk.new }
+        ensures name { name self.new ≡ name self.old }
+        ensures others { beside (name self.old) desk.old desk.new };
 
     /// Reads some of the next bytes of a device that is held to the front of the buffer, and none
     /// only at the end.
@@ -31,9 +46,12 @@ pub trait Outside {
         requires fits { fits self.old desk.old }
         requires held { IsHeld (seen self.old) place }
         requires some { 0 < length buf.old }
+        requires room { ((seen self.old).told place).read_faults < 2 ^ 64 - 1 }
         ensures ok { IfOk result (λ n. Gives (seen self.old) place n buf.new (seen self.new)) }
         ensures failed { OnErr result (Fails (seen self.old) place (seen self.new)) }
-        ensures fits { fits self.new desk.new };
+        ensures fits { fits self.new desk.new }
+        ensures name { name self.new ≡ name self.old }
+        ensures others { beside (name self.old) desk.old desk.new };
 
     /// Opens a child of an open scope, and answers its number.
     fn enter(&mut self, desk: &mut Self::Desk, at: u32) -> u32
@@ -42,12 +60,16 @@ pub trait Outside {
         requires events { 2 ≤ (seen self.old).events }
         requires scopes { 1 ≤ (seen self.old).scopes }
         ensures enters { Enters (seen self.old) at result (seen self.new) }
-        ensures fits { fits self.new desk.new };
+        ensures fits { fits self.new desk.new }
+        ensures name { name self.new ≡ name self.old }
+        ensures others { beside (name self.old) desk.old desk.new };
 
     /// Closes an open scope, and what is open in it.
     fn leave(&mut self, desk: &mut Self::Desk, scope: u32)
         requires fits { fits self.old desk.old }
         requires scope { (seen self.old).opened scope }
         ensures leaves { Leaves (seen self.old) scope (seen self.new) }
-        ensures fits { fits self.new desk.new };
+        ensures fits { fits self.new desk.new }
+        ensures name { name self.new ≡ name self.old }
+        ensures others { beside (name self.old) desk.old desk.new };
 }

@@ -1,5 +1,5 @@
 //! One read of a device.
-ghost use Rattle.std.specs.Prelude.{◌≡◌, ◌+◌, ◌^◌, ◌<◌, ◌≤◌, IfOk, OnErr};
+ghost use Rattle.std.specs.Prelude.{◌≡◌, ◌+◌, ◌-◌, ◌^◌, ◌<◌, ◌≤◌, IfOk, OnErr};
 ghost use Rattle.pull_turns.specs.Around.{IsHeld};
 ghost use Rattle.pull_turns.specs.Moves.{ReadsPiece, ReadsPlace};
 
@@ -23,11 +23,14 @@ pub(crate) fn read_piece<G: Outside>(
 ) -> Result<Turn, AllocError>
     requires fits { G.fits outside.old desk.old }
     requires held { IsHeld (G.seen outside.old) place }
+    requires room { ((G.seen outside.old).told place).read_faults < 2 ^ 64 - 1 }
     requires at { ((G.seen outside.old).told place).at ≡ given.old }
     requires chunk { 0 < chunk }
     ensures piece { IfOk result (λ t. ReadsPiece (G.seen outside.old) (G.seen outside.new) chunk place given.old given.new t) }
     ensures place { OnErr result (ReadsPlace (G.seen outside.old) (G.seen outside.new) place) }
     ensures fits { G.fits outside.new desk.new }
+    ensures name { G.name outside.new ≡ G.name outside.old }
+    ensures others { G.beside (G.name outside.old) desk.old desk.new }
 {
     if *given >= ENDLESS {
         return Ok(Turn::Fault(Code::Endless));

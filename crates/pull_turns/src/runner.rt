@@ -71,6 +71,8 @@ impl<O: Outside> Runner<O> {
         ensures stopped { OnErr result (Moved (O.seen self.old.outside) (O.seen self.new.outside) 0 self.old.rest) }
         ensures chunk { self.new.chunk ≡ self.old.chunk }
         ensures fits { O.fits self.new.outside desk.new }
+        ensures name { O.name self.new.outside ≡ O.name self.old.outside }
+        ensures others { O.beside (O.name self.old.outside) desk.old desk.new }
     {
         self.wanting = true;
         let turn = step(
@@ -100,6 +102,8 @@ impl<O: Outside> Runner<O> {
         ensures stopped { OnErr result ((O.seen self.new.outside).opened 0 × Tells (O.seen self.old.outside).told (O.seen self.new.outside).told self.old.rest) }
         ensures chunk { self.new.chunk ≡ self.old.chunk }
         ensures fits { O.fits self.new.outside desk.new }
+        ensures name { O.name self.new.outside ≡ O.name self.old.outside }
+        ensures others { O.beside (O.name self.old.outside) desk.old desk.new }
     {
         for _turn in 0..turns {
             match self.turn(desk)? {
@@ -131,6 +135,8 @@ impl<O: Outside> Runner<O> {
         ensures wanting { self.new.wanting ≡ self.old.wanting }
         ensures chunk { self.new.chunk ≡ self.old.chunk }
         ensures fits { O.fits self.new.outside desk.new }
+        ensures name { O.name self.new.outside ≡ O.name self.old.outside }
+        ensures others { O.beside (O.name self.old.outside) desk.old desk.new }
     {
         self.outside.leave(desk, 0);
         self.how = Some(if self.wanting {
@@ -176,6 +182,8 @@ pub fn run_all<O: Outside>(
     ensures turns { IfOk result (λ loads. runner.new.how ≡ None → turns + left runner.new.rest ≤ length loads.items + left runner.old.rest) }
     ensures run { IfOk result (λ loads. IsRunOfRest (O.seen runner.new.outside).told runner.old.rest (flat_map elements loads.items) (end_by runner.new.how)) }
     ensures fits { O.fits runner.new.outside desk.new }
+    ensures name { O.name runner.new.outside ≡ O.name runner.old.outside }
+    ensures others { O.beside (O.name runner.old.outside) desk.old desk.new }
 {
     let mut out = Vec::new(alloc);
     for _turn in 0..turns {

@@ -1,4 +1,4 @@
-use Rattle.std.proofs.Common.{arith, length-append, ◌∷◌, [], subst, ◌<◌, sym}
+use Rattle.std.proofs.Common.{arith, ◌∙◌, length-append, ◌∷◌, [], subst, ◌<◌, sym}
 use Rattle.pull_turns.proofs.Led.{led_pushed, led_quiet, led_done, led_fault, led_cut, over_now}
 use Rattle.pull_turns.proofs.runner.run_all.Goals as goal
 use Rattle.pull_turns.proofs.runner.run_all.Goals.{in-Chunk+in_ok-push-in-Chunk, in-Quiet}
@@ -25,6 +25,8 @@ loop-turn-preserved g c =
           let k = rw w.in-Chunk.is at c.in_ok-load.ensures.turned in
           record {
             fits = c.in_ok-load.ensures.fits;
+            name = c.in_ok-load.ensures.name ∙ i.name;
+            others = g.O.Outside.then _ _ _ _ i.others (rw i.name at c.in_ok-load.ensures.others);
             how = rw w.in-Chunk.is at c.in_ok-load.ensures.how;
             sound = c.in_ok-load.ensures.sound;
             can = k.can tt;
@@ -36,6 +38,8 @@ loop-turn-preserved g c =
           let k = rw w.in-Quiet.is at c.in_ok-load.ensures.turned in
           record {
             fits = c.in_ok-load.ensures.fits;
+            name = c.in_ok-load.ensures.name ∙ i.name;
+            others = g.O.Outside.then _ _ _ _ i.others (rw i.name at c.in_ok-load.ensures.others);
             how = rw w.in-Quiet.is at c.in_ok-load.ensures.how;
             sound = c.in_ok-load.ensures.sound;
             can = k.can tt;
