@@ -26,8 +26,7 @@ pub(crate) fn enter<O: Outside>(
     ensures turned { IfOk result (λ r. (n : ℕ) → Turned (O.seen outside.old) (O.seen outside.new) scope n (rest.Start node) r.0 r.1) }
     ensures stopped { OnErr result (Moved (O.seen outside.old) (O.seen outside.new) scope (rest.Start node)) }
     ensures fits { O.fits outside.new desk.new }
-    ensures name { O.name outside.new ≡ O.name outside.old }
-    ensures others { O.beside (O.name outside.old) desk.old desk.new }
+    ensures since { O.since outside.old desk.old outside.new desk.new }
 {
     match node {
         Node::Nil => Ok((Rest::Nil, Turn::Done)),

@@ -9,23 +9,18 @@ pub trait Outside {
     /// Where the rows are.
     type Desk;
 
-    /// What tells one stream of a desk from the others.
-    type Name;
-
     // What each device tells, which scopes are open, which devices wait or are held, and the room.
     ghost seen: { Self → Around };
     // The outside is in order, and this is its desk.
     ghost fits: { Self → Self.Desk → Type 0 };
-    // The stream that acts.
-    ghost name: { Self → Self.Name };
-    // What other streams than this one have at the first desk they have at the second.
-    ghost beside: { Self.Name → Self.Desk → Self.Desk → Type 0 };
+    // What calls lead to, from one state and its desk to a later one.
+    ghost since: { Self → Self.Desk → Self → Self.Desk → Type 0 };
 
-    // A desk is beside itself.
-    ghost stays: { (n : Self.Name) (d : Self.Desk) → beside n d d };
+    // No call leads to where it began.
+    ghost begin: { (a : Self) (d : Self.Desk) → since a d a d };
 
-    // What others keep in a first stretch and in a second, they keep in both.
-    ghost then: { (n : Self.Name) (d e f : Self.Desk) → beside n d e → beside n e f → beside n d f };
+    // Calls and then calls are calls.
+    ghost then: { (a b c : Self) (d e f : Self.Desk) → since a d b e → since b e c f → since a d c f };
 
     /// Opens the device of a place, which was never asked, and gives it to an open scope.
     fn open(&mut self, desk: &mut Self::Desk, scope: u32, place: u32) -> Result<(), Failed>
@@ -37,8 +32,7 @@ pub trait Outside {
         ensures ok { OnOk result (Acquires (seen self.old) scope place (seen self.new)) }
         ensures failed { OnErr result (Refuses (seen self.old) place (seen self.new)) }
         ensures fits { fits self.new desk.new }
-        ensures name { name self.new ≡ name self.old }
-        ensures others { beside (name self.old) desk.old desk.new };
+        ensures since { since self.old desk.old self.new desk.new };
 
     /// Reads some of the next bytes of a device that is held to the front of the buffer, and none
     /// only at the end.
@@ -50,8 +44,7 @@ pub trait Outside {
         ensures ok { IfOk result (λ n. Gives (seen self.old) place n buf.new (seen self.new)) }
         ensures failed { OnErr result (Fails (seen self.old) place (seen self.new)) }
         ensures fits { fits self.new desk.new }
-        ensures name { name self.new ≡ name self.old }
-        ensures others { beside (name self.old) desk.old desk.new };
+        ensures since { since self.old desk.old self.new desk.new };
 
     /// Opens a child of an open scope, and answers its number.
     fn enter(&mut self, desk: &mut Self::Desk, at: u32) -> u32
@@ -61,8 +54,7 @@ pub trait Outside {
         requires scopes { 1 ≤ (seen self.old).scopes }
         ensures enters { Enters (seen self.old) at result (seen self.new) }
         ensures fits { fits self.new desk.new }
-        ensures name { name self.new ≡ name self.old }
-        ensures others { beside (name self.old) desk.old desk.new };
+        ensures since { since self.old desk.old self.new desk.new };
 
     /// Closes an open scope, and what is open in it.
     fn leave(&mut self, desk: &mut Self::Desk, scope: u32)
@@ -70,6 +62,5 @@ pub trait Outside {
         requires scope { (seen self.old).opened scope }
         ensures leaves { Leaves (seen self.old) scope (seen self.new) }
         ensures fits { fits self.new desk.new }
-        ensures name { name self.new ≡ name self.old }
-        ensures others { beside (name self.old) desk.old desk.new };
+        ensures since { since self.old desk.old self.new desk.new };
 }

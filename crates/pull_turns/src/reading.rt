@@ -29,8 +29,7 @@ pub(crate) fn read_piece<G: Outside>(
     ensures piece { IfOk result (λ t. ReadsPiece (G.seen outside.old) (G.seen outside.new) chunk place given.old given.new t) }
     ensures place { OnErr result (ReadsPlace (G.seen outside.old) (G.seen outside.new) place) }
     ensures fits { G.fits outside.new desk.new }
-    ensures name { G.name outside.new ≡ G.name outside.old }
-    ensures others { G.beside (G.name outside.old) desk.old desk.new }
+    ensures since { G.since outside.old desk.old outside.new desk.new }
 {
     if *given >= ENDLESS {
         return Ok(Turn::Fault(Code::Endless));

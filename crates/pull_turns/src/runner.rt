@@ -71,8 +71,7 @@ impl<O: Outside> Runner<O> {
         ensures stopped { OnErr result (Moved (O.seen self.old.outside) (O.seen self.new.outside) 0 self.old.rest) }
         ensures chunk { self.new.chunk ≡ self.old.chunk }
         ensures fits { O.fits self.new.outside desk.new }
-        ensures name { O.name self.new.outside ≡ O.name self.old.outside }
-        ensures others { O.beside (O.name self.old.outside) desk.old desk.new }
+        ensures since { O.since self.old.outside desk.old self.new.outside desk.new }
     {
         self.wanting = true;
         let turn = step(
@@ -102,8 +101,7 @@ impl<O: Outside> Runner<O> {
         ensures stopped { OnErr result ((O.seen self.new.outside).opened 0 × Tells (O.seen self.old.outside).told (O.seen self.new.outside).told self.old.rest) }
         ensures chunk { self.new.chunk ≡ self.old.chunk }
         ensures fits { O.fits self.new.outside desk.new }
-        ensures name { O.name self.new.outside ≡ O.name self.old.outside }
-        ensures others { O.beside (O.name self.old.outside) desk.old desk.new }
+        ensures since { O.since self.old.outside desk.old self.new.outside desk.new }
     {
         for _turn in 0..turns {
             match self.turn(desk)? {
@@ -135,8 +133,7 @@ impl<O: Outside> Runner<O> {
         ensures wanting { self.new.wanting ≡ self.old.wanting }
         ensures chunk { self.new.chunk ≡ self.old.chunk }
         ensures fits { O.fits self.new.outside desk.new }
-        ensures name { O.name self.new.outside ≡ O.name self.old.outside }
-        ensures others { O.beside (O.name self.old.outside) desk.old desk.new }
+        ensures since { O.since self.old.outside desk.old self.new.outside desk.new }
     {
         self.outside.leave(desk, 0);
         self.how = Some(if self.wanting {
@@ -182,8 +179,7 @@ pub fn run_all<O: Outside>(
     ensures turns { IfOk result (λ loads. runner.new.how ≡ None → turns + left runner.new.rest ≤ length loads.items + left runner.old.rest) }
     ensures run { IfOk result (λ loads. IsRunOfRest (O.seen runner.new.outside).told runner.old.rest (flat_map elements loads.items) (end_by runner.new.how)) }
     ensures fits { O.fits runner.new.outside desk.new }
-    ensures name { O.name runner.new.outside ≡ O.name runner.old.outside }
-    ensures others { O.beside (O.name runner.old.outside) desk.old desk.new }
+    ensures since { O.since runner.old.outside desk.old runner.new.outside desk.new }
 {
     let mut out = Vec::new(alloc);
     for _turn in 0..turns {

@@ -29,8 +29,7 @@ pub(crate) fn step<O: Outside>(
     ensures turned { IfOk result (λ t. Turned (O.seen outside.old) (O.seen outside.new) scope chunk rest.old rest.new t) }
     ensures stopped { OnErr result (Moved (O.seen outside.old) (O.seen outside.new) scope rest.old) }
     ensures fits { O.fits outside.new desk.new }
-    ensures name { O.name outside.new ≡ O.name outside.old }
-    ensures others { O.beside (O.name outside.old) desk.old desk.new }
+    ensures since { O.since outside.old desk.old outside.new desk.new }
 {
     match rest {
         Rest::Nil => Ok(Turn::Done),
@@ -74,8 +73,7 @@ pub(crate) fn leave_at_end<O: Outside>(outside: &mut O, desk: &mut O::Desk, scop
     requires scope { (O.seen outside.old).opened scope }
     ensures ends { LeavesAtEnd O.seen outside.old scope turn.now outside.new }
     ensures fits { O.fits outside.new desk.new }
-    ensures name { O.name outside.new ≡ O.name outside.old }
-    ensures others { O.beside (O.name outside.old) desk.old desk.new }
+    ensures since { O.since outside.old desk.old outside.new desk.new }
 {
     if turn.is_end() {
         outside.leave(desk, scope);

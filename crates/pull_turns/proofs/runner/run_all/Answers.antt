@@ -1,4 +1,4 @@
-use Rattle.std.proofs.Common.{arith, ◌∙◌, length-append, ◌∷◌, [], subst, ◌<◌, sym}
+use Rattle.std.proofs.Common.{arith, length-append, ◌∷◌, [], subst, ◌<◌, sym}
 use Rattle.pull_turns.proofs.Led.{led_pushed, led_quiet, led_done, led_fault, led_cut, over_now}
 use Rattle.pull_turns.proofs.runner.run_all.Goals as goal
 use Rattle.pull_turns.proofs.runner.run_all.Goals.{in-Chunk+in_ok-push-in-Chunk, in-Quiet}
@@ -25,8 +25,7 @@ loop-turn-preserved g c =
           let k = rw w.in-Chunk.is at c.in_ok-load.ensures.turned in
           record {
             fits = c.in_ok-load.ensures.fits;
-            name = c.in_ok-load.ensures.name ∙ i.name;
-            others = g.O.Outside.then _ _ _ _ i.others (rw i.name at c.in_ok-load.ensures.others);
+            since = g.O.Outside.then _ _ _ _ _ _ i.since c.in_ok-load.ensures.since;
             how = rw w.in-Chunk.is at c.in_ok-load.ensures.how;
             sound = c.in_ok-load.ensures.sound;
             can = k.can tt;
@@ -38,8 +37,7 @@ loop-turn-preserved g c =
           let k = rw w.in-Quiet.is at c.in_ok-load.ensures.turned in
           record {
             fits = c.in_ok-load.ensures.fits;
-            name = c.in_ok-load.ensures.name ∙ i.name;
-            others = g.O.Outside.then _ _ _ _ i.others (rw i.name at c.in_ok-load.ensures.others);
+            since = g.O.Outside.then _ _ _ _ _ _ i.since c.in_ok-load.ensures.since;
             how = rw w.in-Quiet.is at c.in_ok-load.ensures.how;
             sound = c.in_ok-load.ensures.sound;
             can = k.can tt;

@@ -7,8 +7,7 @@ use Rattle.pull_turns.proofs.runner.run_all.Given as goal
 abbrev pub invariant-loop-turn : goal.invariant-loop-turn
 invariant-loop-turn g l = record {
   fits : g.O.Outside.fits l.runner.outside l.desk;
-  name : g.O.Outside.name l.runner.outside ≡ g.O.Outside.name l.fn.runner.outside;
-  others : g.O.Outside.beside (g.O.Outside.name l.fn.runner.outside) l.fn.desk l.desk;
+  since : g.O.Outside.since l.fn.runner.outside l.fn.desk l.runner.outside l.desk;
   how : l.runner.how ≡ None;
   sound : l.runner.wanting ≡ false;
   can : CanStep (g.O.Outside.seen l.runner.outside) 0 l.runner.rest;

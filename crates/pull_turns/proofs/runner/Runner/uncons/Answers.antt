@@ -36,8 +36,7 @@ loop-turn-preserved g c =
     let k = rw c.in-Quiet.is at c.in_ok-load.ensures.turned in
     record {
       fits = c.in_ok-load.ensures.fits;
-      name = c.in_ok-load.ensures.name ∙ i.name;
-      others = g.O.Outside.then _ _ _ _ i.others (rw i.name at c.in_ok-load.ensures.others);
+      since = g.O.Outside.then _ _ _ _ _ _ i.since c.in_ok-load.ensures.since;
       how = rw c.in-Quiet.is at c.in_ok-load.ensures.how;
       sound = c.in_ok-load.ensures.sound;
       can = k.can tt;

@@ -6,8 +6,7 @@ use Rattle.pull_turns.proofs.runner.Runner.uncons.Given as goal
 abbrev pub invariant-loop-turn : goal.invariant-loop-turn
 invariant-loop-turn g l = record {
   fits : g.O.Outside.fits l.self.outside l.desk;
-  name : g.O.Outside.name l.self.outside ≡ g.O.Outside.name l.fn.self.outside;
-  others : g.O.Outside.beside (g.O.Outside.name l.fn.self.outside) l.fn.desk l.desk;
+  since : g.O.Outside.since l.fn.self.outside l.fn.desk l.self.outside l.desk;
   how : l.self.how ≡ None;
   sound : l.self.wanting ≡ false;
   can : CanStep (g.O.Outside.seen l.self.outside) 0 l.self.rest;
