@@ -75,6 +75,7 @@ fn list_grows_at_its_end(rt: HostRuntime) -> Result<(), Fail> {
     assert_eq!(rt; list.get(1), Some(&5));
     assert_eq!(rt; list.get(2), None);
     assert_eq!(rt; list.as_slice(), [4, 5].as_slice());
+    assert_eq!(rt; list.into_vec().as_slice(), [4, 5].as_slice());
     Ok(())
 }
 
