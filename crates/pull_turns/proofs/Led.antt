@@ -1,22 +1,29 @@
 -- Several turns, by one turn more.
-use Rattle.std.proofs.Common.{◌≡◌, subst, ℕ, List, ◌++◌, [], ◌∷◌, refl, sym, ◌∙◌, arith, append_assoc, append-nil, flat_map}
+use Rattle.std.proofs.Common.{◌≡◌, subst, ℕ, Bool, true, false, List, ◌++◌, [], ◌∷◌, refl, sym, ◌∙◌, arith, append_assoc, append-nil, flat_map}
 use Rattle.std.proofs.lemmas.Grind.{flat_map-append}
 use Rattle.chunk_core.specs.declared.code.Code.{Code}
 use Rattle.chunk_core.specs.declared.load.Load.{Load}
 use Rattle.chunk_core.specs.Elements.{Element, elements}
 use Rattle.chunk_core.specs.Outcomes.{Done, Fault, Cut}
 use Rattle.device_port.specs.Device.{DeviceTold}
-use Rattle.pull_turns.specs.Around.{Around, Leaves, gist}
+use Rattle.pull_turns.specs.Around.{Around, OpenAreHeld, Leaves, gist}
 use Rattle.pull_turns.specs.Rest.{IsRunOfRest, IsLive, CanStep}
 use Rattle.pull_turns.specs.Turned.{Leads, Ends, Over, Moved, Turned, GoesOn}
 use Rattle.pull_turns.specs.Moves.{LeavesAtEnd}
-use Rattle.pull_turns.specs.Led.{Tells, Turns, Led}
+use Rattle.pull_turns.specs.Led.{IsShut, Tells, Turns, Led}
 use Rattle.pull_turns.specs.declared.rest.Rest.{Rest}
 use Rattle.pull_turns.specs.declared.turn.Turn.{Turn}
 use Rattle.pull_turns.specs.declared.turn.Turn.TheVariants as turn
 use Rattle.pull_turns.proofs.Leads.{can_stop}
 use Rattle.pull_turns.proofs.Kept.{goes_same, goes_on, goes_gist}
 use Rattle.pull_turns.proofs.Turns.{once_on, cause_on}
+
+closed_by : (x : Bool) → (x ≡ true → ⊥) → x ≡ false
+closed_by true never = absurd (never refl)
+closed_by false never = refl
+
+pub shut_so : (a : Around) → OpenAreHeld a → ((k : ℕ) → a.opened k → ⊥) → IsShut a
+shut_so a tidy never = record { scopes = never; devices = λ p. closed_by (a.told p).is_open (λ e. let held = tidy p e in never held.0 held.2) }
 
 pub tells_same : (now : ℕ → DeviceTold) (r : Rest) → Tells now now r
 tells_same now r = record { goes = λ p. goes_same (now p); others = λ p n. refl }
@@ -42,7 +49,7 @@ can_on a b n old new t c h g = record {
   rows = omega (arith, c.rows, h.spends.rows);
 }
 
-module _ {O : Type 0} (seen : O → Around) (a : Around) (y z : O) (n : ℕ) (old new : Rest) (c : CanStep a 0 old) where
+module _ {O : Type 0} (seen : O → Around) (a : Around) (y z : O) (n : ℕ) (old new : Rest) (c : CanStep a 0 old) (tidy : OpenAreHeld (seen z)) where
   runs : (t : Turn) → z ≡ y → GoesOn t → Turned a (seen y) 0 n old new t → Turns a (seen z) n old new t
   runs t e g h = subst (λ (o : O). Turns a (seen o) n old new t) (sym e) (record {
     tells = moved_tells a (seen y) 0 old h.moved;
@@ -70,7 +77,7 @@ module _ {O : Type 0} (seen : O → Around) (a : Around) (y z : O) (n : ℕ) (ol
     live = h.live;
     fewer = h.fewer;
     can = λ g. absurd g;
-    shut = λ i. e.root refl;
+    shut = λ i. shut_so (seen z) tidy (e.root refl);
     cause = cause_on a.told (seen y).told (seen z).told old old turn.Done (λ p i. i) e.told h.cause;
     gave = λ w o. h.gave w (over_before e w o);
   }
@@ -80,7 +87,7 @@ module _ {O : Type 0} (seen : O → Around) (a : Around) (y z : O) (n : ℕ) (ol
     live = h.live;
     fewer = h.fewer;
     can = λ g. absurd g;
-    shut = λ i. e.root refl;
+    shut = λ i. shut_so (seen z) tidy (e.root refl);
     cause = cause_on a.told (seen y).told (seen z).told old old (turn.Fault d) (λ p i. i) e.told h.cause;
     gave = λ w o. h.gave w (over_before e w o);
   }

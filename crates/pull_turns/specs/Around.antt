@@ -27,6 +27,10 @@ pub record Goes (d e : DeviceTold) : Type 0 where
 abbrev pub IsHeld : Around → ℕ → Type 0
 IsHeld a p = (k : ℕ) × a.holds p k
 
+-- each device that is open is held by an open scope
+abbrev pub OpenAreHeld : Around → Type 0
+OpenAreHeld a = (q : ℕ) → (a.told q).is_open ≡ true → (k : ℕ) × a.holds q k × a.opened k
+
 -- the devices of other places than the touched ones, and the scopes up to s with what they hold, are as they were
 pub record Keeps (a : Around) (Touched : ℕ → Type 0) (s : ℕ) (b : Around) : Type 0 where
   pub told : (q : ℕ) → (Touched q → ⊥) → gist (b.told q) ≡ gist (a.told q)
@@ -81,9 +85,11 @@ pub record Enters (a : Around) (s c : ℕ) (b : Around) : Type 0 where
   pub scopes : a.scopes ≤ b.scopes + 1
   pub rows : a.rows ≤ b.rows
 
--- the scope c was closed with what it held; with the root each scope is closed
+-- the scope c was closed with what it held; a device of a scope that was closed with it is closed, and with the root each scope is
 pub record Leaves (a : Around) (c : ℕ) (b : Around) : Type 0 where
   pub told : (q : ℕ) → gist (b.told q) ≡ gist (a.told q)
   pub keeps : (k : ℕ) → k < c → Keeps a (λ q. ⊥) k b
+  pub gone : b.opened c → ⊥
+  pub shut : (q k : ℕ) → a.holds q k → (b.opened k → ⊥) → (b.told q).is_open ≡ false
   pub root : c ≡ 0 → (k : ℕ) → b.opened k → ⊥
   pub affords : Affords a b

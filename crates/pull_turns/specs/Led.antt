@@ -1,5 +1,5 @@
 -- Several turns.
-use Rattle.std.specs.Prelude.{◌≡◌, ℕ, ◌+◌, ◌<◌, ◌≤◌, List, [], length, Option, Some, None}
+use Rattle.std.specs.Prelude.{◌≡◌, ℕ, ◌+◌, ◌<◌, ◌≤◌, false, List, [], length, Option, Some, None}
 use Rattle.chunk_core.specs.declared.code.How.{How}
 use Rattle.chunk_core.specs.declared.code.How.TheVariants as how
 use Rattle.chunk_core.specs.Elements.{Element, elements}
@@ -13,16 +13,17 @@ use Rattle.pull_turns.specs.declared.turn.Turn.{Turn}
 use Rattle.pull_turns.specs.declared.runner.Unconsed.{Unconsed}
 use Rattle.pull_turns.specs.declared.runner.Unconsed.TheVariants as unconsed
 
--- no scope is open
-abbrev pub IsShut : Around → Type 0
-IsShut a = (k : ℕ) → a.opened k → ⊥
+-- no scope is open, and no device
+pub record IsShut (a : Around) : Type 0 where
+  pub scopes : (k : ℕ) → a.opened k → ⊥
+  pub devices : (p : ℕ) → (a.told p).is_open ≡ false
 
 -- only devices of what was left were touched
 pub record Tells (before now : ℕ → DeviceTold) (old : Rest) : Type 0 where
   pub goes : (p : ℕ) → Goes (before p) (now p)
   pub others : (p : ℕ) → (IsLive p old → ⊥) → gist (now p) ≡ gist (before p)
 
--- a turn of the whole was made, with reads of at most n bytes; at an end each scope is closed
+-- a turn of the whole was made, with reads of at most n bytes; at an end each scope and each device is closed
 pub record Turns (before now : Around) (n : ℕ) (old new : Rest) (t : Turn) : Type 0 where
   pub tells : Tells before.told now.told old
   pub once : ReadsOnce before.told now.told n

@@ -4,7 +4,7 @@ use device_port::Failed;
 /// The devices of a stream by their places, and its scopes by their numbers.
 pub trait Outside {
     ghost use Rattle.std.specs.Prelude.{◌≡◌, ℕ, ◌-◌, ◌^◌, ◌<◌, ◌≤◌, length, IfOk, OnOk, OnErr};
-    ghost use Rattle.pull_turns.specs.Around.{Around, Acquires, Refuses, Gives, Fails, IsHeld, Enters, Leaves};
+    ghost use Rattle.pull_turns.specs.Around.{Around, Acquires, Refuses, Gives, Fails, IsHeld, OpenAreHeld, Enters, Leaves};
 
     /// Where the rows are.
     type Desk;
@@ -15,6 +15,9 @@ pub trait Outside {
     ghost fits: { Self → Self.Desk → Type 0 };
     // What calls lead to, from one state and its desk to a later one.
     ghost since: { Self → Self.Desk → Self → Self.Desk → Type 0 };
+
+    // In order, no device is open but those that open scopes hold.
+    ghost held: { (o : Self) (d : Self.Desk) → fits o d → OpenAreHeld (seen o) };
 
     // No call leads to where it began.
     ghost begin: { (a : Self) (d : Self.Desk) → since a d a d };

@@ -58,7 +58,7 @@ impl<O: Outside> Runner<O> {
         }
     }
 
-    /// Makes one turn. At the end each scope is closed.
+    /// Makes one turn. At the end each scope is closed, and each device.
     pub fn turn(&mut self, desk: &mut O::Desk) -> Result<Turn, AllocError>
         requires fits { O.fits self.old.outside desk.old }
         requires runs { (self.old.how ≡ None) × (self.old.wanting ≡ false) }
@@ -121,7 +121,7 @@ impl<O: Outside> Runner<O> {
         self.how
     }
 
-    /// Stops the run, and closes each scope.
+    /// Stops the run, and closes each scope and each device.
     pub fn halt(&mut self, desk: &mut O::Desk)
         requires fits { O.fits self.old.outside desk.old }
         requires runs { self.old.how ≡ None }
