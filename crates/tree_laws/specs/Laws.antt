@@ -1,8 +1,84 @@
 -- What follows for the ledger, whatever calls were made of a tree.
-use Rattle.std.specs.Prelude.{ℕ, Bool, List, ◌++◌}
-use Rattle.scope_tree.specs.Calls.{Seen}
+use Rattle.std.specs.Prelude.{◌≡◌, ◌⊎◌, ℕ, Bool, false, List, [], ◌++◌}
+use Rattle.chunk_core.specs.Lists.{IsAmong}
+use Rattle.res_ledger.specs.declared.event.Event.{Event}
+use Rattle.res_ledger.specs.declared.event.StreamNo.{StreamNo}
+use Rattle.res_ledger.specs.declared.event.What.{What}
+use Rattle.res_ledger.specs.declared.event.What.TheVariants.{Cancel}
+use Rattle.res_ledger.specs.Ledger.{IsLegal, Notes}
+use Rattle.res_ledger.specs.Order.{IsOrdered, covered_by}
+use Rattle.res_ledger.specs.Streams.{by_stream}
+use Rattle.res_ledger.specs.Whole.{IsComplete}
+use Rattle.res_ledger.proofs.Orders.{Rises}
+use Rattle.row_seat.specs.declared.view.View.{View}
+use Rattle.row_seat.specs.Views.{HasRow, paid}
+use Rattle.scope_tree.specs.Calls.{Acquires, AtStart, Closes, Leases, Opens, Seen}
+use Rattle.scope_tree.specs.Tidy.{IsTidy}
+use Rattle.scope_tree.specs.Torn.{said}
+use Rattle.scope_tree.specs.Words.{ended_rows, words}
 use Rattle.tree_laws.specs.Called.{Called}
+use Rattle.tree_laws.specs.Ends.{AreCovered, IsDone, IsFinished, StaysAlone}
+use Rattle.tree_laws.specs.Lent.{Lent}
+use Rattle.tree_laws.specs.Whole.{IsCompleteFor, IsWholeFor}
+use Rattle.res_ledger.specs.Order.{IsInOrder}
 
--- calls, and calls after them, are calls
-abbrev pub CallsFollow : {P : Type 0} → (P → Bool → P → Type 0) → Type 0
-CallsFollow {P} ends = (a b c : Seen P) (Cs Ds : List (ℕ × List ℕ)) → Called ends a Cs b → Called ends b Ds c → Called ends a (Cs ++ Ds) c
+module _ {P : Type 0} (ends : P → Bool → P → Type 0) where
+  -- calls, and calls after them, are calls
+  abbrev pub CallsFollow : Type 0
+  CallsFollow = (a b c : Seen P) (Cs Ds : List (ℕ × List ℕ)) → Called ends a Cs b → Called ends b Ds c → Called ends a (Cs ++ Ds) c
+
+  -- since the start, what the stream noted stands in blocks
+  abbrev pub CallsAreTidy : Type 0
+  CallsAreTidy = (a b : Seen P) (Cs : List (ℕ × List ℕ)) → AtStart a.seat → Called ends a Cs b → IsTidy b.seat Cs
+
+  -- since the start, with an empty shelf, the shelf has the Finals that were noted, in order
+  abbrev pub ShelfIsSaid : Type 0
+  ShelfIsSaid = (a b : Seen P) (Cs : List (ℕ × List ℕ)) → AtStart a.seat → a.shelf ≡ [] → Called ends a Cs b → ended_rows (words b.seat) ≡ said b.shelf
+
+  -- since the start, the stamps of the stream's events rise
+  abbrev pub StampsRise : Type 0
+  StampsRise = (a b : Seen P) (Cs : List (ℕ × List ℕ)) → AtStart a.seat → Called ends a Cs b → Rises (by_stream b.seat.by b.seat.events)
+
+  -- a lease that was made stays one that the tree made
+  abbrev pub LeaseIsLent : Type 0
+  LeaseIsLent = (a b : Seen P) (s j : ℕ) (T : List ℕ) → Leases a s j T b → Lent b.seat j T
+
+  abbrev pub LentStays : Type 0
+  LentStays = (a b : Seen P) (Cs : List (ℕ × List ℕ)) (j : ℕ) (T : List ℕ) → Called ends a Cs b → Lent a.seat j T → Lent b.seat j T
+
+  -- a tree that can give no seats cancels each Lease that it kept, if it keeps none
+  abbrev pub KeptIsCanceled : Type 0
+  KeptIsCanceled = (a b : Seen P) (Cs : List (ℕ × List ℕ)) (j : ℕ) → a.seat.main ≡ false → a.seat.had ≡ [] → Called ends a Cs b → b.seat.kept ≡ [] → IsAmong j a.seat.kept → Notes b.seat.events b.seat.by (Cancel j)
+
+  -- the ledger has the stream's events as the tree noted them
+  abbrev pub LedgerHasEvents : Type 0
+  LedgerHasEvents = (a b : Seen P) (Cs : List (ℕ × List ℕ)) (u : View P) (L : List Event) → AtStart a.seat → Called ends a Cs b → IsFinished b u L → by_stream b.seat.by L ≡ by_stream b.seat.by b.seat.events
+
+  -- and in order
+  abbrev pub LedgerIsInOrder : Type 0
+  LedgerIsInOrder = (a b : Seen P) (Cs : List (ℕ × List ℕ)) (u : View P) (L : List Event) → AtStart a.seat → Called ends a Cs b → IsFinished b u L → AreCovered L Cs → IsInOrder L b.seat.by
+
+  -- once the tree is done the ledger is complete for its stream
+  abbrev pub LedgerIsComplete : Type 0
+  LedgerIsComplete = (a b : Seen P) (Cs : List (ℕ × List ℕ)) (u : View P) (L : List Event) → AtStart a.seat → Called ends a Cs b → IsFinished b u L → IsDone b L → IsCompleteFor L b.seat.by
+
+  -- so it is legal, in order and complete for it
+  abbrev pub LedgerIsWhole : Type 0
+  LedgerIsWhole = (a b : Seen P) (Cs : List (ℕ × List ℕ)) (u : View P) (L : List Event) → AtStart a.seat → Called ends a Cs b → IsFinished b u L → IsDone b L → AreCovered L Cs → IsWholeFor L b.seat.by
+
+  -- each of these calls leaves a tree alone, and so do several
+  pub record CallsStayAlone : Type 0 where
+    pub opens : (a b : Seen P) (at c : ℕ) → Opens a at c b → StaysAlone a b
+    pub acquires : (a b : Seen P) (s r : ℕ) (p : P) → Acquires a s r p b → StaysAlone a b
+    pub writes : (a : Seen P) (r : ℕ) (p : P) → StaysAlone a (record a { seat = paid a.seat r p })
+    pub closes : (a b : Seen P) (s : ℕ) → Closes ends a s b → StaysAlone a b
+    pub same : (a : Seen P) → StaysAlone a a
+    pub follow : (a b c : Seen P) → StaysAlone a b → StaysAlone b c → StaysAlone a c
+
+-- the Lease of a lease that the tree made covers its rows
+abbrev pub LentIsCovered : Type 0 → Type 0
+LentIsCovered P = (v : View P) (L : List Event) (j : ℕ) (T : List ℕ) → Lent v j T → IsLegal L → by_stream v.by L ≡ by_stream v.by v.events → covered_by L j ≡ T
+
+-- a ledger that is whole for each stream that noted something is whole
+abbrev pub WholeForEach : Type 0
+WholeForEach = (L : List Event) → ((k : StreamNo) (w : What) → Notes L k w → IsWholeFor L k) → IsComplete L × IsOrdered L

@@ -1,2 +1,5 @@
 pub mod Called
+pub mod Lent
+pub mod Whole
+pub mod Ends
 pub mod Laws

@@ -1,9 +1,42 @@
 //! Laws of all that was done to a tree, each the contract of a function that does nothing.
-ghost use Rattle.tree_laws.specs.Laws.{CallsFollow};
+ghost use Rattle.tree_laws.specs.Laws.{CallsAreTidy, CallsFollow, CallsStayAlone, KeptIsCanceled, LeaseIsLent, LedgerHasEvents, LedgerIsComplete, LedgerIsInOrder, LedgerIsWhole, LentIsCovered, LentStays, ShelfIsSaid, StampsRise, WholeForEach};
 
 use scope_tree::Finish;
 
 /// Calls, and calls after them, are calls.
 pub fn calls_follow<P: Finish>()
     ensures { CallsFollow P.ends }
+{}
+
+/// What the stream of a tree noted since the start.
+pub fn what_is_noted<P: Finish>()
+    ensures tidy { CallsAreTidy P.ends }
+    ensures shelf { ShelfIsSaid P.ends }
+    ensures rises { StampsRise P.ends }
+{}
+
+/// The rows of a lease are those that its Lease covers in the ledger.
+pub fn leases_are_covered<P: Finish>()
+    ensures lent { LeaseIsLent P.ends }
+    ensures stays { LentStays P.ends }
+    ensures covered { LentIsCovered P }
+    ensures canceled { KeptIsCanceled P.ends }
+{}
+
+/// The ledger of a tree that is done is legal, in order and complete for its stream.
+pub fn ledger_is_whole<P: Finish>()
+    ensures events { LedgerHasEvents P.ends }
+    ensures order { LedgerIsInOrder P.ends }
+    ensures complete { LedgerIsComplete P.ends }
+    ensures whole { LedgerIsWhole P.ends }
+{}
+
+/// A ledger that is whole for each stream is complete and ordered.
+pub fn whole_for_each()
+    ensures { WholeForEach }
+{}
+
+/// A tree that only opens, acquires, writes and closes keeps the leases and seats that it has.
+pub fn calls_stay_alone<P: Finish>()
+    ensures { CallsStayAlone P.ends }
 {}

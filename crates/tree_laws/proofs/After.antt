@@ -1,0 +1,129 @@
+-- What a call of a tree leaves of what its stream noted.
+use Rattle.std.proofs.Common.{◌≡◌, ◌≢◌, ℕ, ◌<◌, ◌⊎◌, Bool, true, false, List, [], ◌∷◌, ◌++◌, inl, inr, refl, sym, ap, ◌∙◌, subst, ⊎_elim, append_assoc, append-nil}
+use Rattle.std.proofs.lemmas.Bool.{cases_eq}
+use Rattle.chunk_core.specs.Lists.{IsAmong}
+use Rattle.chunk_core.proofs.Filters.{among_append}
+use Rattle.chunk_core.proofs.Members.{among_left, among_last}
+use Rattle.res_ledger.specs.declared.event.Event.{Event}
+use Rattle.res_ledger.specs.declared.event.StreamNo.{StreamNo}
+use Rattle.res_ledger.specs.declared.event.What.{What}
+use Rattle.res_ledger.specs.declared.event.What.TheVariants.{Open, Acquire, Lease, Cancel, Close, Final}
+use Rattle.res_ledger.specs.Ledger.{Notes}
+use Rattle.res_ledger.specs.Streams.{by_stream}
+use Rattle.res_ledger.proofs.Growth.{noted_more, noted_new, noted_snoc}
+use Rattle.res_ledger.proofs.Ledgers.{by_both, by_in, by_none}
+use Rattle.res_ledger.proofs.Orders.{Rises}
+use Rattle.row_seat.specs.declared.view.View.{View}
+use Rattle.row_seat.specs.Views.{AreApart, CanSplit, IsFresh, joined, kept_after, noted, split_main, without}
+use Rattle.row_seat.proofs.Members.{among_kept}
+use Rattle.scope_tree.proofs.Shelf.{by_snoc, rises_snoc}
+
+-- what a seat knows of its stream's events and of its Leases
+pub record Folio : Type 0 where
+  pub by : StreamNo
+  pub main : Bool
+  pub events : List Event
+  pub kept : List ℕ
+  pub had : List ℕ
+
+abbrev pub folio : {P : Type 0} → View P → Folio
+folio v = record { by = v.by; main = v.main; events = v.events; kept = v.kept; had = v.had }
+
+-- the Lease for j is kept, or its stream had a seat, or its Cancel is noted
+abbrev pub IsMet : Folio → ℕ → Type 0
+IsMet v j = IsAmong j v.kept ⊎ (IsAmong j v.had ⊎ Notes v.events v.by (Cancel j))
+
+-- w is what has become of v
+pub record IsAfter (v w : Folio) : Type 0 where
+  pub by : w.by ≡ v.by
+  pub main : w.main ≡ v.main
+  pub more : List Event
+  pub events : w.events ≡ v.events ++ more
+  pub rises : Rises (by_stream v.by v.events) → Rises (by_stream w.by w.events)
+  pub met : (j : ℕ) → IsMet v j → IsMet w j
+  pub leases : (j s : ℕ) → Notes w.events w.by (Lease j s) → Notes v.events v.by (Lease j s) ⊎ IsMet w j
+  pub had : v.main ≡ false → w.had ≡ v.had
+
+pub after_same : (v : Folio) → IsAfter v v
+after_same v = record {
+  by = refl;
+  main = refl;
+  more = [];
+  events = sym (append-nil v.events);
+  rises = λ r. r;
+  met = λ j m. m;
+  leases = λ j s n. inl n;
+  had = λ m. refl;
+}
+
+pub after_then : (u v w : Folio) → IsAfter u v → IsAfter v w → IsAfter u w
+after_then u v w a b = record {
+  by = b.by ∙ a.by;
+  main = b.main ∙ a.main;
+  more = a.more ++ b.more;
+  events = b.events ∙ ap (λ l. l ++ b.more) a.events ∙ append_assoc u.events a.more b.more;
+  rises = λ r. b.rises (a.rises r);
+  met = λ j m. b.met j (a.met j m);
+  leases = λ j s n. ⊎_elim (λ m. ⊎_elim (λ o. inl o) (λ o. inr (b.met j o)) (a.leases j s m)) (λ m. inr m) (b.leases j s n);
+  had = λ m. b.had (a.main ∙ m) ∙ a.had m;
+}
+
+-- an event takes a Lease away only if it is its Cancel
+kept_or : (w : What) (j : ℕ) (xs : List ℕ) → IsAmong j xs → IsAmong j (kept_after w xs) ⊎ (w ≡ Cancel j)
+kept_or (Open s p) j xs m = inl m
+kept_or (Acquire r s) j xs m = inl m
+kept_or (Lease i s) j xs m = inl (among_left (i ∷ []) m)
+kept_or (Cancel i) j xs m = ⊎_elim (λ e. inr (ap Cancel (sym e))) (λ ne. inl (among_kept i xs j m ne)) (cases_eq j i)
+kept_or (Close s) j xs m = inl m
+kept_or (Final r ok) j xs m = inl m
+
+-- the seat's event with the stamp n
+abbrev pub with_event : Folio → ℕ → What → Folio
+with_event v n w = record v { events = v.events ++ record { stamp = n; by = v.by; what = w } ∷ []; kept = kept_after w v.kept }
+
+pub after_event : (v : Folio) (n : ℕ) (w : What) → ((e : Event) → IsAmong e v.events → e.stamp < n) → IsAfter v (with_event v n w)
+after_event v n w f =
+    let e : Event = record { stamp = n; by = v.by; what = w } in record {
+      by = refl;
+      main = refl;
+      more = e ∷ [];
+      events = refl;
+      rises = λ r. subst Rises (sym (by_snoc v.by v.events e refl)) (rises_snoc (by_stream v.by v.events) e r (λ x m. f x (by_in v.by v.events x m).0));
+      met = λ j m. ⊎_elim
+          (λ k. ⊎_elim (λ l. inl l) (λ c. inr (inr (subst (λ x. Notes (v.events ++ e ∷ []) v.by x) c (noted_new v.events e)))) (kept_or w j v.kept k))
+          (λ o. inr (⊎_elim (λ h. inl h) (λ c. inr (noted_more v.events e c)) o))
+          m;
+      leases = λ j s l. ⊎_elim (λ o. inl o) (λ o. inr (inl (subst (λ x. IsAmong j (kept_after x v.kept)) (sym o.1) (among_last v.kept j)))) (noted_snoc v.events e v.by (Lease j s) l);
+      had = λ m. refl;
+    }
+
+module _ {P : Type 0} where
+  pub after_noted : (v : View P) (n : ℕ) (w : What) → IsFresh v n → IsAfter (folio v) (folio (noted v (record { stamp = n; by = v.by; what = w })))
+  after_noted v n w f = after_event (folio v) n w f.1
+
+  pub after_split : (v : View P) (j from to n : ℕ) → CanSplit v j from to n → IsAfter (folio v) (folio (split_main v j from to n))
+  after_split v j from to n c = record {
+    by = refl;
+    main = refl;
+    more = [];
+    events = sym (append-nil v.events);
+    rises = λ r. r;
+    met = λ i m. ⊎_elim
+        (λ k. ⊎_elim (λ e. inr (inl (subst (λ x. IsAmong x (v.had ++ j ∷ [])) (sym e) (among_last v.had j)))) (λ ne. inl (among_kept j v.kept i k ne)) (cases_eq i j))
+        (λ o. inr (⊎_elim (λ h. inl (among_left (j ∷ []) h)) (λ x. inr x) o))
+        m;
+    leases = λ i s l. inl l;
+    had = λ m. absurd (let z : true ≡ false = sym c.0 ∙ m in cc);
+  }
+
+  pub after_joined : (v w : View P) → AreApart v w → IsAfter (folio v) (folio (joined v w))
+  after_joined v w a = record {
+    by = refl;
+    main = refl;
+    more = w.events;
+    events = refl;
+    rises = λ r. subst Rises (sym (by_both v.by v.events w.events ∙ ap (λ l. by_stream v.by v.events ++ l) (by_none v.by w.events a.events) ∙ append-nil (by_stream v.by v.events))) r;
+    met = λ j m. ⊎_elim (λ k. inl k) (λ o. inr (⊎_elim (λ h. inl h) (λ c. inr (c.0, among_left w.events c.1, c.2, c.3)) o)) m;
+    leases = λ j s l. ⊎_elim (λ m. inl (l.0, m, l.2, l.3)) (λ m. absurd (a.events l.0 m l.2)) (among_append l.0 v.events w.events l.1);
+    had = λ m. refl;
+  }

@@ -1,0 +1,36 @@
+-- When a tree is done.
+use Rattle.std.specs.Prelude.{◌≡◌, ◌⊎◌, ℕ, List, []}
+use Rattle.chunk_core.specs.Lists.{IsAmong}
+use Rattle.res_ledger.specs.declared.event.Event.{Event}
+use Rattle.res_ledger.specs.Ledger.{IsCanceled, IsLeased}
+use Rattle.res_ledger.specs.Order.{covered_by}
+use Rattle.res_ledger.specs.Streams.{by_stream}
+use Rattle.row_seat.specs.declared.view.View.{View}
+use Rattle.row_seat.specs.Views.{IsLedgerOf}
+use Rattle.scope_tree.specs.Calls.{IsClosedScope, Seen}
+
+module _ {P : Type 0} where
+  -- L is the ledger of a seat u that finished, and of the tree's stream u has what the tree noted; for a main tree u is its own seat
+  pub record IsFinished (b : Seen P) (u : View P) (L : List Event) : Type 0 where
+    pub ledger : IsLedgerOf u L
+    pub own : by_stream b.seat.by u.events ≡ by_stream b.seat.by b.seat.events
+
+  -- the tree's root is closed and it keeps no Lease, and each leased stream that it gave a seat has its Cancel in L
+  pub record IsDone (b : Seen P) (L : List Event) : Type 0 where
+    pub root : IsClosedScope b 0
+    pub kept : b.seat.kept ≡ []
+    pub given : (j : ℕ) → IsAmong j b.seat.had → IsLeased L j → IsCanceled L j
+
+  -- what a tree did was to open, to acquire, to write and to close: no lease and no seat came or went, and each new event is in its own name
+  pub record StaysAlone (a b : Seen P) : Type 0 where
+    pub by : b.seat.by ≡ a.seat.by
+    pub main : b.seat.main ≡ a.seat.main
+    pub pairs : b.seat.pairs ≡ a.seat.pairs
+    pub kept : b.seat.kept ≡ a.seat.kept
+    pub had : b.seat.had ≡ a.seat.had
+    pub out : b.seat.out ≡ a.seat.out
+    pub events : (e : Event) → IsAmong e b.seat.events → IsAmong e a.seat.events ⊎ (e.by ≡ b.seat.by)
+
+-- each of these leases is on the rows that its Lease covers in L
+abbrev pub AreCovered : List Event → List (ℕ × List ℕ) → Type 0
+AreCovered L Cs = (j : ℕ) (T : List ℕ) → IsAmong (j, T) Cs → covered_by L j ≡ T
