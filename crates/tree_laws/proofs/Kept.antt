@@ -1,0 +1,53 @@
+-- What calls keep of leases.
+use Rattle.std.proofs.Common.{◌≡◌, ℕ, ◌⊎◌, Bool, false, List, [], ◌∷◌, ◌++◌, inl, refl, sym, ap, ◌∙◌, subst, ⊎_elim, append_assoc}
+use Rattle.chunk_core.specs.Lists.{IsAmong}
+use Rattle.chunk_core.proofs.Members.{among_nil}
+use Rattle.res_ledger.specs.declared.event.Event.{Event}
+use Rattle.res_ledger.specs.declared.event.What.TheVariants.{Cancel, Lease}
+use Rattle.res_ledger.specs.Ledger.{Notes}
+use Rattle.res_ledger.specs.Own.{leased_rows, own}
+use Rattle.res_ledger.specs.Streams.{by_stream}
+use Rattle.res_ledger.proofs.Orders.{Rises}
+use Rattle.scope_tree.specs.Calls.{AtStart, Leases, Seen}
+use Rattle.scope_tree.specs.Words.{leasing}
+use Rattle.tree_laws.specs.Called.{Called}
+use Rattle.tree_laws.specs.Lent.{Lent}
+use Rattle.tree_laws.proofs.After.{IsAfter, folio}
+use Rattle.tree_laws.proofs.Along.{called_after}
+
+module _ {P : Type 0} where
+  pub leases_lent : {a b : Seen P} {s j : ℕ} {T : List ℕ} → Leases a s j T b → Lent b.seat j T
+  leases_lent {a = a} {b = b} {s = s} {j = j} o =
+      let by : b.seat.by ≡ a.seat.by = ap (λ v. v.by) o.seat in record {
+        before = a.seat.events;
+        event = leasing a.seat j s o.stamp;
+        rest = [];
+        scope = s;
+        stands = ap (λ v. v.events) o.seat;
+        by = sym by;
+        what = refl;
+        rows = o.covered ∙ ap (λ k. leased_rows (own k a.seat.events) s) (sym by);
+      }
+
+module _ {P : Type 0} {ends : P → Bool → P → Type 0} where
+  pub lent_stays : {a b : Seen P} {Cs : List (ℕ × List ℕ)} {j : ℕ} {T : List ℕ} → Called ends a Cs b → Lent a.seat j T → Lent b.seat j T
+  lent_stays {a = a} {b = b} c l =
+      let f : IsAfter (folio a.seat) (folio b.seat) = called_after c in record {
+        before = l.before;
+        event = l.event;
+        rest = l.rest ++ f.more;
+        scope = l.scope;
+        stands = f.events ∙ ap (λ x. x ++ f.more) l.stands ∙ append_assoc l.before (l.event ∷ l.rest) f.more;
+        by = l.by ∙ sym f.by;
+        what = l.what;
+        rows = l.rows ∙ ap (λ k. leased_rows (own k l.before) l.scope) (sym f.by);
+      }
+
+  pub called_rises : {a b : Seen P} {Cs : List (ℕ × List ℕ)} → AtStart a.seat → Called ends a Cs b → Rises (by_stream b.seat.by b.seat.events)
+  called_rises {a = a} s c = (called_after c).rises (subst (λ L. Rises (by_stream a.seat.by L)) (sym s.events) tt)
+
+  -- a kept Lease is still kept, or its stream has a seat, or it is cancelled
+  pub kept_canceled : {a b : Seen P} {Cs : List (ℕ × List ℕ)} (j : ℕ) → a.seat.main ≡ false → a.seat.had ≡ [] → Called ends a Cs b → b.seat.kept ≡ [] → IsAmong j a.seat.kept → Notes b.seat.events b.seat.by (Cancel j)
+  kept_canceled {a = a} {b = b} j m h c k i =
+      let f : IsAfter (folio a.seat) (folio b.seat) = called_after c in
+      ⊎_elim (λ x. absurd (among_nil (subst (λ l. IsAmong j l) k x))) (λ o. ⊎_elim (λ x. absurd (among_nil (subst (λ l. IsAmong j l) (f.had m ∙ h) x))) (λ x. x) o) (f.met j (inl i))

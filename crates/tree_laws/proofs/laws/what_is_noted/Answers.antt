@@ -1,0 +1,11 @@
+use Rattle.tree_laws.proofs.Along.{called_tidy}
+use Rattle.tree_laws.proofs.Kept.{called_rises}
+use Rattle.tree_laws.proofs.Said.{called_said}
+use Rattle.tree_laws.proofs.laws.what_is_noted.Goals as goal
+
+pub returns : goal.returns
+returns g c = record {
+  tidy = λ a b Cs s h. called_tidy s h;
+  shelf = λ a b Cs s e h. called_said s e h;
+  rises = λ a b Cs s h. called_rises s h;
+}
