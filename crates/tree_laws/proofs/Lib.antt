@@ -4,3 +4,6 @@ pub mod Along
 pub mod Said
 pub mod Kept
 pub mod Covered
+pub mod Counts
+pub mod Complete
+pub mod Ends

@@ -1,0 +1,80 @@
+-- The ledger of a tree that is done.
+use Rattle.std.proofs.Common.{◌≡◌, ℕ, ◌⊎◌, Bool, List, [], ◌∷◌, ◌++◌, true, reverse, refl, sym, ap, ◌∙◌, subst, ⊎_elim}
+use Rattle.chunk_core.specs.Lists.{IsAmong}
+use Rattle.chunk_core.specs.Lists.IsAmong.{here}
+use Rattle.chunk_core.proofs.Members.{among_mid, among_nil}
+use Rattle.res_ledger.specs.declared.event.Event.{Event}
+use Rattle.res_ledger.specs.declared.event.StreamNo.{StreamNo}
+use Rattle.res_ledger.specs.declared.event.What.{What}
+use Rattle.res_ledger.specs.declared.event.What.TheVariants.{Lease}
+use Rattle.res_ledger.specs.Ledger.{IsCanceled, Notes}
+use Rattle.res_ledger.specs.Order.{IsInBlocks, IsInOrder, IsOrdered, covered, covered_by}
+use Rattle.res_ledger.specs.Order.IsInBlocks.{none}
+use Rattle.res_ledger.specs.Own.{has, own}
+use Rattle.res_ledger.specs.Streams.{by_stream}
+use Rattle.res_ledger.specs.Whole.{IsComplete}
+use Rattle.res_ledger.proofs.Ledgers.{closed_map, noted_own}
+use Rattle.res_ledger.proofs.Noted.{own_notes}
+use Rattle.res_ledger.proofs.Orders.{Rises}
+use Rattle.row_seat.specs.declared.view.View.{View}
+use Rattle.scope_tree.specs.Calls.{AtStart, Seen}
+use Rattle.scope_tree.proofs.Tidy.{ledger_by, tidy_in_order}
+use Rattle.tree_laws.specs.Called.{Called}
+use Rattle.tree_laws.specs.Ends.{AreCovered, IsDone, IsFinished}
+use Rattle.tree_laws.specs.Laws.{WholeForEach}
+use Rattle.tree_laws.specs.Whole.{IsCompleteFor, IsWholeFor}
+use Rattle.tree_laws.proofs.After.{IsAfter, folio}
+use Rattle.tree_laws.proofs.Along.{called_after, called_tidy}
+use Rattle.tree_laws.proofs.Complete.{complete_for}
+use Rattle.tree_laws.proofs.Kept.{called_rises}
+
+module _ {P : Type 0} {ends : P → Bool → P → Type 0} {a b : Seen P} {Cs : List (ℕ × List ℕ)} (u : View P) (L : List Event) (start : AtStart a.seat) (calls : Called ends a Cs b) (end : IsFinished b u L) where
+  pub called_events : by_stream b.seat.by L ≡ by_stream b.seat.by b.seat.events
+  called_events = ledger_by u L b.seat.by end.ledger (subst Rises (sym end.own) (called_rises start calls)) ∙ end.own
+
+  pub called_in_order : AreCovered L Cs → IsInOrder L b.seat.by
+  called_in_order covered = tidy_in_order b.seat Cs L (called_tidy start calls) end.ledger.legal called_events covered
+
+  -- each Lease that the stream noted has its Cancel
+  lease_canceled : IsDone b L → (j s : ℕ) → Notes L b.seat.by (Lease j s) → IsCanceled L j
+  lease_canceled done j s n =
+      let f : IsAfter (folio a.seat) (folio b.seat) = called_after calls in
+      let m : Notes b.seat.events b.seat.by (Lease j s) = noted_own b.seat.by L b.seat.events called_events (Lease j s) n in
+      ⊎_elim
+      (λ old. absurd (among_nil (subst (λ l. IsAmong old.0 l) start.events old.1)))
+      (λ met. ⊎_elim
+      (λ kept. absurd (among_nil (subst (λ l. IsAmong j l) done.kept kept)))
+      (λ o. ⊎_elim (λ had. done.given j had (b.seat.by, s, n)) (λ c. (b.seat.by, noted_own b.seat.by b.seat.events L (sym called_events) _ c)) o)
+      met)
+      (f.leases j s m)
+
+  pub called_complete : IsDone b L → IsCompleteFor L b.seat.by
+  called_complete done =
+      complete_for L b.seat.by end.ledger.legal
+      (closed_map b.seat.events L b.seat.by (noted_own b.seat.by b.seat.events L (sym called_events)) 0 done.root)
+      end.ledger.ended
+      (lease_canceled done)
+
+  pub called_whole : IsDone b L → AreCovered L Cs → IsWholeFor L b.seat.by
+  called_whole done covered = record { legal = end.ledger.legal; order = called_in_order covered; complete = called_complete done }
+
+-- a stream that noted nothing is in order
+in_order_at : (L : List Event) (k : StreamNo) (E : List What) → own k L ≡ E → ((w : What) → Notes L k w → IsInOrder L k) → IsInOrder L k
+in_order_at L k [] is f = subst (λ l. IsInBlocks (λ r. has r (covered L) ≡ true) (λ j. reverse (covered_by L j)) [] l) (sym is) (none [])
+in_order_at L k (w ∷ E) is f = f w (own_notes L k w (subst (λ l. IsAmong w l) (sym is) (here E)))
+
+noted_at : (L A B : List Event) (e : Event) → L ≡ A ++ e ∷ B → Notes L e.by e.what
+noted_at L A B e is = (e, subst (λ l. IsAmong e l) (sym is) (among_mid A B e), refl, refl)
+
+pub whole_each : WholeForEach
+whole_each L f = (
+  record {
+    finalized_once = λ k r s n. (f k _ n).complete.finalized_once r s n;
+    after_close = λ A B e r ok is w. (f e.by e.what (noted_at L A B e is)).complete.after_close A B e r ok is refl w;
+    after_leases = λ A B e r ok is w. (f e.by e.what (noted_at L A B e is)).complete.after_leases A B e r ok is refl w;
+    canceled_once = λ k j s n. (f k _ n).complete.canceled_once j s n;
+    scopes_closed = λ k s p n. (f k _ n).complete.scopes_closed s p n;
+    roots_closed = λ k r s n. (f k _ n).complete.roots_closed r s n;
+  },
+  λ k. in_order_at L k (own k L) refl (λ w n. (f k w n).order),
+)

@@ -1,0 +1,10 @@
+use Rattle.tree_laws.proofs.Ends.{called_complete, called_events, called_in_order, called_whole}
+use Rattle.tree_laws.proofs.laws.ledger_is_whole.Goals as goal
+
+pub returns : goal.returns
+returns g c = record {
+  events = λ a b Cs u L start calls end. called_events u L start calls end;
+  order = λ a b Cs u L start calls end covered. called_in_order u L start calls end covered;
+  complete = λ a b Cs u L start calls end done. called_complete u L start calls end done;
+  whole = λ a b Cs u L start calls end done covered. called_whole u L start calls end done covered;
+}
