@@ -6,7 +6,7 @@ use Rattle.chunk_core.proofs.Members.{among_mid, among_nil}
 use Rattle.res_ledger.specs.declared.event.Event.{Event}
 use Rattle.res_ledger.specs.declared.event.StreamNo.{StreamNo}
 use Rattle.res_ledger.specs.declared.event.What.{What}
-use Rattle.res_ledger.specs.declared.event.What.TheVariants.{Lease}
+use Rattle.res_ledger.specs.declared.event.What.TheVariants.{Acquire, Lease, Open}
 use Rattle.res_ledger.specs.Ledger.{IsCanceled, Notes}
 use Rattle.res_ledger.specs.Order.{IsInBlocks, IsInOrder, IsOrdered, covered, covered_by}
 use Rattle.res_ledger.specs.Order.IsInBlocks.{none}
@@ -59,22 +59,21 @@ module _ {P : Type 0} {ends : P → Bool → P → Type 0} {a b : Seen P} {Cs : 
   called_whole done covered = record { legal = end.ledger.legal; order = called_in_order covered; complete = called_complete done }
 
 -- a stream that noted nothing is in order
-in_order_at : (L : List Event) (k : StreamNo) (E : List What) → own k L ≡ E → ((w : What) → Notes L k w → IsInOrder L k) → IsInOrder L k
+in_order_at : (L : List Event) (k : StreamNo) (E : List What) → own k L ≡ E → ((e : Event) → IsAmong e L → IsInOrder L e.by) → IsInOrder L k
 in_order_at L k [] is f = subst (λ l. IsInBlocks (λ r. has r (covered L) ≡ true) (λ j. reverse (covered_by L j)) [] l) (sym is) (none [])
-in_order_at L k (w ∷ E) is f = f w (own_notes L k w (subst (λ l. IsAmong w l) (sym is) (here E)))
-
-noted_at : (L A B : List Event) (e : Event) → L ≡ A ++ e ∷ B → Notes L e.by e.what
-noted_at L A B e is = (e, subst (λ l. IsAmong e l) (sym is) (among_mid A B e), refl, refl)
+in_order_at L k (w ∷ E) is f = let n = own_notes L k w (subst (λ l. IsAmong w l) (sym is) (here E)) in subst (λ q. IsInOrder L q) n.2 (f n.0 n.1)
 
 pub whole_each : WholeForEach
-whole_each L f = (
-  record {
-    finalized_once = λ k r s n. (f k _ n).complete.finalized_once r s n;
-    after_close = λ A B e r ok is w. (f e.by e.what (noted_at L A B e is)).complete.after_close A B e r ok is refl w;
-    after_leases = λ A B e r ok is w. (f e.by e.what (noted_at L A B e is)).complete.after_leases A B e r ok is refl w;
-    canceled_once = λ k j s n. (f k _ n).complete.canceled_once j s n;
-    scopes_closed = λ k s p n. (f k _ n).complete.scopes_closed s p n;
-    roots_closed = λ k r s n. (f k _ n).complete.roots_closed r s n;
-  },
-  λ k. in_order_at L k (own k L) refl (λ w n. (f k w n).order),
-)
+whole_each L f =
+    let by : (k : StreamNo) (w : What) → Notes L k w → IsCompleteFor L k = λ k w n. subst (λ q. IsCompleteFor L q) n.2 (f n.0 n.1).complete in
+    let at : (A B : List Event) (e : Event) → L ≡ A ++ e ∷ B → IsCompleteFor L e.by = λ A B e is. (f e (subst (λ l. IsAmong e l) (sym is) (among_mid A B e))).complete in (
+      record {
+        finalized_once = λ k r s n. (by k (Acquire r s) n).finalized_once r s n;
+        after_close = λ A B e r ok is w. (at A B e is).after_close A B e r ok is refl w;
+        after_leases = λ A B e r ok is w. (at A B e is).after_leases A B e r ok is refl w;
+        canceled_once = λ k j s n. (by k (Lease j s) n).canceled_once j s n;
+        scopes_closed = λ k s p n. (by k (Open s p) n).scopes_closed s p n;
+        roots_closed = λ k r s n. (by k (Acquire r s) n).roots_closed r s n;
+      },
+      λ k. in_order_at L k (own k L) refl (λ e m. (f e m).order),
+    )

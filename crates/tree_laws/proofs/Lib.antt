@@ -7,3 +7,4 @@ pub mod Covered
 pub mod Counts
 pub mod Complete
 pub mod Ends
+pub mod Alone

@@ -1,5 +1,5 @@
 -- When a tree is done.
-use Rattle.std.specs.Prelude.{◌≡◌, ◌⊎◌, ℕ, List, []}
+use Rattle.std.specs.Prelude.{◌≡◌, ℕ, List, []}
 use Rattle.chunk_core.specs.Lists.{IsAmong}
 use Rattle.res_ledger.specs.declared.event.Event.{Event}
 use Rattle.res_ledger.specs.Ledger.{IsCanceled, IsLeased}
@@ -20,16 +20,6 @@ module _ {P : Type 0} where
     pub root : IsClosedScope b 0
     pub kept : b.seat.kept ≡ []
     pub given : (j : ℕ) → IsAmong j b.seat.had → IsLeased L j → IsCanceled L j
-
-  -- what a tree did was to open, to acquire, to write and to close: no lease and no seat came or went, and each new event is in its own name
-  pub record StaysAlone (a b : Seen P) : Type 0 where
-    pub by : b.seat.by ≡ a.seat.by
-    pub main : b.seat.main ≡ a.seat.main
-    pub pairs : b.seat.pairs ≡ a.seat.pairs
-    pub kept : b.seat.kept ≡ a.seat.kept
-    pub had : b.seat.had ≡ a.seat.had
-    pub out : b.seat.out ≡ a.seat.out
-    pub events : (e : Event) → IsAmong e b.seat.events → IsAmong e a.seat.events ⊎ (e.by ≡ b.seat.by)
 
 -- each of these leases is on the rows that its Lease covers in L
 abbrev pub AreCovered : List Event → List (ℕ × List ℕ) → Type 0

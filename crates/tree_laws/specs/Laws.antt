@@ -5,21 +5,22 @@ use Rattle.res_ledger.specs.declared.event.Event.{Event}
 use Rattle.res_ledger.specs.declared.event.StreamNo.{StreamNo}
 use Rattle.res_ledger.specs.declared.event.What.{What}
 use Rattle.res_ledger.specs.declared.event.What.TheVariants.{Cancel}
-use Rattle.res_ledger.specs.Ledger.{IsLegal, Notes}
+use Rattle.res_ledger.specs.Ledger.{IsAcquired, IsLegal, Notes}
 use Rattle.res_ledger.specs.Order.{IsOrdered, covered_by}
 use Rattle.res_ledger.specs.Streams.{by_stream}
 use Rattle.res_ledger.specs.Whole.{IsComplete}
 use Rattle.res_ledger.proofs.Orders.{Rises}
 use Rattle.row_seat.specs.declared.view.View.{View}
-use Rattle.row_seat.specs.Views.{HasRow, paid}
-use Rattle.scope_tree.specs.Calls.{Acquires, AtStart, Closes, Leases, Opens, Seen}
+use Rattle.row_seat.specs.Views.{CanFinish, IsLedgerOf, paid}
+use Rattle.scope_tree.specs.Calls.{Acquires, AtStart, Closes, IsClosedScope, Leases, Opens, Seen}
 use Rattle.scope_tree.specs.Tidy.{IsTidy}
 use Rattle.scope_tree.specs.Torn.{said}
 use Rattle.scope_tree.specs.Words.{ended_rows, words}
 use Rattle.tree_laws.specs.Called.{Called}
-use Rattle.tree_laws.specs.Ends.{AreCovered, IsDone, IsFinished, StaysAlone}
+use Rattle.tree_laws.specs.Alone.{HasNoOthers, StaysAlone}
+use Rattle.tree_laws.specs.Ends.{AreCovered, IsDone, IsFinished}
 use Rattle.tree_laws.specs.Lent.{Lent}
-use Rattle.tree_laws.specs.Whole.{IsCompleteFor, IsWholeFor}
+use Rattle.tree_laws.specs.Whole.{IsCompleteFor, IsWhole, IsWholeFor}
 use Rattle.res_ledger.specs.Order.{IsInOrder}
 
 module _ {P : Type 0} (ends : P → Bool → P → Type 0) where
@@ -68,12 +69,20 @@ module _ {P : Type 0} (ends : P → Bool → P → Type 0) where
 
   -- each of these calls leaves a tree alone, and so do several
   pub record CallsStayAlone : Type 0 where
-    pub opens : (a b : Seen P) (at c : ℕ) → Opens a at c b → StaysAlone a b
-    pub acquires : (a b : Seen P) (s r : ℕ) (p : P) → Acquires a s r p b → StaysAlone a b
-    pub writes : (a : Seen P) (r : ℕ) (p : P) → StaysAlone a (record a { seat = paid a.seat r p })
-    pub closes : (a b : Seen P) (s : ℕ) → Closes ends a s b → StaysAlone a b
-    pub same : (a : Seen P) → StaysAlone a a
-    pub follow : (a b c : Seen P) → StaysAlone a b → StaysAlone b c → StaysAlone a c
+    pub opens : (a b : Seen P) (at c : ℕ) → Opens a at c b → StaysAlone a.seat b.seat
+    pub acquires : (a b : Seen P) (s r : ℕ) (p : P) → Acquires a s r p b → StaysAlone a.seat b.seat
+    pub writes : (v : View P) (r : ℕ) (p : P) → StaysAlone v (paid v r p)
+    pub closes : (a b : Seen P) (s : ℕ) → Closes ends a s b → StaysAlone a.seat b.seat
+    pub none : (v : View P) → StaysAlone v v
+    pub follow : (u v w : View P) → StaysAlone u v → StaysAlone v w → StaysAlone u w
+
+  -- once the root of a tree that stayed alone is closed the ledger is legal, complete and in order
+  abbrev pub AloneIsWhole : Type 0
+  AloneIsWhole = (a b : Seen P) (L : List Event) → AtStart a.seat → HasNoOthers a.seat → Called ends a [] b → StaysAlone a.seat b.seat → IsClosedScope b 0 → IsLedgerOf b.seat L → IsWhole L
+
+-- a tree that stayed alone may finish its seat once nothing is open
+abbrev pub AloneCanFinish : Type 0 → Type 0
+AloneCanFinish P = (v w : View P) → HasNoOthers v → StaysAlone v w → (w.opened ≡ []) × (w.handed ≡ []) × (w.taken ≡ []) × ((r : ℕ) → IsAmong r w.empty → ¬ (IsAcquired w.events r)) → CanFinish w
 
 -- the Lease of a lease that the tree made covers its rows
 abbrev pub LentIsCovered : Type 0 → Type 0
@@ -81,4 +90,4 @@ LentIsCovered P = (v : View P) (L : List Event) (j : ℕ) (T : List ℕ) → Len
 
 -- a ledger that is whole for each stream that noted something is whole
 abbrev pub WholeForEach : Type 0
-WholeForEach = (L : List Event) → ((k : StreamNo) (w : What) → Notes L k w → IsWholeFor L k) → IsComplete L × IsOrdered L
+WholeForEach = (L : List Event) → ((e : Event) → IsAmong e L → IsWholeFor L e.by) → IsComplete L × IsOrdered L

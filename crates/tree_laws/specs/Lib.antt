@@ -1,5 +1,6 @@
 pub mod Called
 pub mod Lent
 pub mod Whole
+pub mod Alone
 pub mod Ends
 pub mod Laws

@@ -4,8 +4,8 @@ use Rattle.res_ledger.specs.declared.event.StreamNo.{StreamNo}
 use Rattle.res_ledger.specs.declared.event.What.TheVariants.{Open, Acquire, Lease, Final}
 use Rattle.res_ledger.specs.declared.event.Event.{Event}
 use Rattle.res_ledger.specs.Ledger.{Covers, IsCanceled, IsClosed, IsLegal, IsRowClosed, Notes}
-use Rattle.res_ledger.specs.Order.{IsInOrder}
-use Rattle.res_ledger.specs.Whole.{cancel_count, final_count}
+use Rattle.res_ledger.specs.Order.{IsInOrder, IsOrdered}
+use Rattle.res_ledger.specs.Whole.{IsComplete, cancel_count, final_count}
 
 -- each row that k acquired has one Final; each Final that k noted stands behind the Close of its row and the Cancels of its leases; each Lease that k noted has one Cancel; each scope that k opened is closed, and its root if it acquired a row
 pub record IsCompleteFor (L : List Event) (k : StreamNo) : Type 0 where
@@ -21,3 +21,9 @@ pub record IsWholeFor (L : List Event) (k : StreamNo) : Type 0 where
   pub legal : IsLegal L
   pub order : IsInOrder L k
   pub complete : IsCompleteFor L k
+
+-- it is legal, complete and in order
+pub record IsWhole (L : List Event) : Type 0 where
+  pub legal : IsLegal L
+  pub complete : IsComplete L
+  pub order : IsOrdered L

@@ -1,5 +1,5 @@
 //! Laws of all that was done to a tree, each the contract of a function that does nothing.
-ghost use Rattle.tree_laws.specs.Laws.{CallsAreTidy, CallsFollow, CallsStayAlone, KeptIsCanceled, LeaseIsLent, LedgerHasEvents, LedgerIsComplete, LedgerIsInOrder, LedgerIsWhole, LentIsCovered, LentStays, ShelfIsSaid, StampsRise, WholeForEach};
+ghost use Rattle.tree_laws.specs.Laws.{AloneCanFinish, AloneIsWhole, CallsAreTidy, CallsFollow, CallsStayAlone, KeptIsCanceled, LeaseIsLent, LedgerHasEvents, LedgerIsComplete, LedgerIsInOrder, LedgerIsWhole, LentIsCovered, LentStays, ShelfIsSaid, StampsRise, WholeForEach};
 
 use scope_tree::Finish;
 
@@ -36,7 +36,10 @@ pub fn whole_for_each()
     ensures { WholeForEach }
 {}
 
-/// A tree that only opens, acquires, writes and closes keeps the leases and seats that it has.
+/// A tree that only opens, acquires, writes and closes keeps the leases and seats that it has, and
+/// where it has none its ledger is whole.
 pub fn calls_stay_alone<P: Finish>()
-    ensures { CallsStayAlone P.ends }
+    ensures alone { CallsStayAlone P.ends }
+    ensures finish { AloneCanFinish P }
+    ensures whole { AloneIsWhole P.ends }
 {}

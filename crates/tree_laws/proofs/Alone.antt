@@ -1,0 +1,89 @@
+-- A tree that only opens, acquires, writes and closes.
+use Rattle.std.proofs.Common.{◌≡◌, ℕ, ◌⊎◌, Bool, List, [], ◌∷◌, ◌++◌, inl, inr, refl, sym, ap, ◌∙◌, subst, ⊎_elim}
+use Rattle.chunk_core.specs.Lists.{IsAmong}
+use Rattle.chunk_core.proofs.Members.{among_nil, among_snoc}
+use Rattle.res_ledger.specs.declared.event.Event.{Event}
+use Rattle.res_ledger.specs.declared.event.What.{What}
+use Rattle.res_ledger.specs.declared.event.What.TheVariants.{Open, Acquire, Close, Final}
+use Rattle.row_seat.specs.declared.view.View.{View}
+use Rattle.row_seat.specs.Views.{IsLedgerOf, kept_after, noted}
+use Rattle.scope_tree.specs.declared.branch.Spent.{Spent}
+use Rattle.scope_tree.specs.Calls.{Acquires, AtStart, Closes, IsClosedScope, Opens, Seen}
+use Rattle.scope_tree.specs.Torn.{Torn}
+use Rattle.scope_tree.specs.Torn.Torn.{done, stays, ends_so}
+use Rattle.tree_laws.specs.Alone.{HasNoOthers, StaysAlone}
+use Rattle.tree_laws.specs.Called.{Called}
+use Rattle.tree_laws.specs.Ends.{IsDone}
+use Rattle.tree_laws.specs.Laws.{AloneCanFinish, CallsStayAlone}
+use Rattle.tree_laws.specs.Whole.{IsWhole, IsWholeFor}
+use Rattle.tree_laws.proofs.Ends.{called_whole, whole_each}
+
+module _ {P : Type 0} where
+  alone_same : (v : View P) → StaysAlone v v
+  alone_same v = record { by = refl; main = refl; pairs = refl; kept = refl; had = refl; out = refl; events = λ e m. inl m }
+
+  alone_then : (u v w : View P) → StaysAlone u v → StaysAlone v w → StaysAlone u w
+  alone_then u v w a b = record {
+    by = b.by ∙ a.by;
+    main = b.main ∙ a.main;
+    pairs = b.pairs ∙ a.pairs;
+    kept = b.kept ∙ a.kept;
+    had = b.had ∙ a.had;
+    out = b.out ∙ a.out;
+    events = λ e m. ⊎_elim (λ n. ⊎_elim (λ o. inl o) (λ k. inr (k ∙ sym b.by)) (a.events e n)) (λ k. inr k) (b.events e m);
+  }
+
+  alone_noted : (v : View P) (n : ℕ) (w : What) → kept_after w v.kept ≡ v.kept → StaysAlone v (noted v (record { stamp = n; by = v.by; what = w }))
+  alone_noted v n w k =
+      let x : Event = record { stamp = n; by = v.by; what = w } in
+      record { by = refl; main = refl; pairs = refl; kept = k; had = refl; out = refl; events = λ e m. ⊎_elim (λ o. inl o) (λ i. inr (ap (λ (z : Event). z.by) i)) (among_snoc v.events e x m) }
+
+  alone_opens : {a b : Seen P} {at c : ℕ} → Opens a at c b → StaysAlone a.seat b.seat
+  alone_opens {a = a} {c = c} o = subst (λ v. StaysAlone a.seat v) (sym o.seat) (alone_noted a.seat o.stamp (Open c o.parent) refl)
+
+  alone_acquires : {a b : Seen P} {s r : ℕ} {p : P} → Acquires a s r p b → StaysAlone a.seat b.seat
+  alone_acquires {a = a} {s = s} {r = r} o = subst (λ v. StaysAlone a.seat v) (sym o.seat) (let t = alone_noted a.seat o.stamp (Acquire r s) refl in record { by = t.by; main = t.main; pairs = t.pairs; kept = t.kept; had = t.had; out = t.out; events = t.events })
+
+  no_others : (v w : View P) → HasNoOthers v → StaysAlone v w → HasNoOthers w
+  no_others v w h a = record { main = a.main ∙ h.main; pairs = a.pairs ∙ h.pairs; kept = a.kept ∙ h.kept; had = a.had ∙ h.had; out = a.out ∙ h.out }
+
+  pub alone_can_finish : AloneCanFinish P
+  alone_can_finish v w h a rest = let o = no_others v w h a in (o.main, (rest.0, rest.3, o.pairs, o.kept, rest.1, rest.2), o.out)
+
+module _ {P : Type 0} {ends : P → Bool → P → Type 0} where
+  alone_torn : {T : List ℕ} {v w : View P} {xs : List (Spent P)} → Torn ends T v xs w → StaysAlone v w
+  alone_torn (done v) = alone_same v
+  alone_torn (stays v r p m st t) = let a = alone_torn t in record { by = a.by; main = a.main; pairs = a.pairs; kept = a.kept; had = a.had; out = a.out; events = a.events }
+  alone_torn (ends_so v p n x m q e f t) =
+      let b = alone_noted v n (Final x.row x.ok) refl in
+      let a = alone_torn t in record {
+        by = a.by;
+        main = a.main;
+        pairs = a.pairs;
+        kept = a.kept;
+        had = a.had;
+        out = a.out;
+        events = λ y i. ⊎_elim (λ o. ⊎_elim (λ z. inl z) (λ z. inr (z ∙ sym a.by)) (b.events y o)) (λ z. inr z) (a.events y i);
+      }
+
+  alone_closes : {a b : Seen P} {s : ℕ} → Closes ends a s b → StaysAlone a.seat b.seat
+  alone_closes {a = a} {s = s} c = alone_then _ _ _ (alone_noted a.seat c.stamp (Close s) refl) (alone_torn c.torn.2)
+
+  pub calls_alone : CallsStayAlone ends
+  calls_alone = record {
+    opens = λ a b at c o. alone_opens o;
+    acquires = λ a b s r p o. alone_acquires o;
+    writes = λ v r p. record { by = refl; main = refl; pairs = refl; kept = refl; had = refl; out = refl; events = λ e m. inl m };
+    closes = λ a b s c. alone_closes c;
+    none = alone_same;
+    follow = alone_then;
+  }
+
+  pub alone_whole : {a b : Seen P} (L : List Event) → AtStart a.seat → HasNoOthers a.seat → Called ends a [] b → StaysAlone a.seat b.seat → IsClosedScope b 0 → IsLedgerOf b.seat L → IsWhole L
+  alone_whole {a = a} {b = b} L start h calls alone root ledger =
+      let o = no_others a.seat b.seat h alone in
+      let done : IsDone b L = record { root = root; kept = o.kept; given = λ j m. absurd (among_nil (subst (λ l. IsAmong j l) o.had m)) } in
+      let own : IsWholeFor L b.seat.by = called_whole b.seat L start calls (record { ledger = ledger; own = refl }) done (λ j T m. absurd (among_nil m)) in
+      let by : (e : Event) → IsAmong e L → e.by ≡ b.seat.by = λ e m. ⊎_elim (λ n. absurd (among_nil (subst (λ l. IsAmong e l) start.events n))) (λ k. k) (alone.events e ((ledger.whole e).0 m)) in
+      let all = whole_each L (λ e m. subst (λ k. IsWholeFor L k) (sym (by e m)) own) in
+      record { legal = ledger.legal; complete = all.0; order = all.1 }
