@@ -1,5 +1,5 @@
 -- What a call of a tree leaves of what its stream noted.
-use Rattle.std.proofs.Common.{◌≡◌, ◌≢◌, ℕ, ◌<◌, ◌⊎◌, Bool, true, false, List, [], ◌∷◌, ◌++◌, inl, inr, refl, sym, ap, ◌∙◌, subst, ⊎_elim, append_assoc, append-nil}
+use Rattle.std.proofs.Common.{◌≡◌, ℕ, ◌<◌, ◌⊎◌, Bool, true, false, List, [], ◌∷◌, ◌++◌, inl, inr, refl, sym, ap, ◌∙◌, subst, ⊎_elim, append_assoc, append-nil}
 use Rattle.std.proofs.lemmas.Bool.{cases_eq}
 use Rattle.chunk_core.specs.Lists.{IsAmong}
 use Rattle.chunk_core.proofs.Filters.{among_append}
@@ -14,7 +14,7 @@ use Rattle.res_ledger.proofs.Growth.{noted_more, noted_new, noted_snoc}
 use Rattle.res_ledger.proofs.Ledgers.{by_both, by_in, by_none}
 use Rattle.res_ledger.proofs.Orders.{Rises}
 use Rattle.row_seat.specs.declared.view.View.{View}
-use Rattle.row_seat.specs.Views.{AreApart, CanSplit, IsFresh, joined, kept_after, noted, split_main, without}
+use Rattle.row_seat.specs.Views.{AreApart, CanSplit, IsFresh, joined, kept_after, noted, split_main}
 use Rattle.row_seat.proofs.Members.{among_kept}
 use Rattle.scope_tree.proofs.Shelf.{by_snoc, rises_snoc}
 

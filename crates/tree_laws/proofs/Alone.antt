@@ -1,12 +1,13 @@
 -- A tree that only opens, acquires, writes and closes.
-use Rattle.std.proofs.Common.{◌≡◌, ℕ, ◌⊎◌, Bool, List, [], ◌∷◌, ◌++◌, inl, inr, refl, sym, ap, ◌∙◌, subst, ⊎_elim}
+use Rattle.std.proofs.Common.{◌≡◌, ℕ, ◌≤◌, Bool, List, [], inl, inr, refl, sym, ap, ◌∙◌, subst, ⊎_elim}
 use Rattle.chunk_core.specs.Lists.{IsAmong}
 use Rattle.chunk_core.proofs.Members.{among_nil, among_snoc}
 use Rattle.res_ledger.specs.declared.event.Event.{Event}
+use Rattle.res_ledger.specs.declared.event.StreamNo.{StreamNo}
 use Rattle.res_ledger.specs.declared.event.What.{What}
 use Rattle.res_ledger.specs.declared.event.What.TheVariants.{Open, Acquire, Close, Final}
 use Rattle.row_seat.specs.declared.view.View.{View}
-use Rattle.row_seat.specs.Views.{IsLedgerOf, kept_after, noted}
+use Rattle.row_seat.specs.Views.{IsLedgerOf, kept_after, noted, start as first_view}
 use Rattle.scope_tree.specs.declared.branch.Spent.{Spent}
 use Rattle.scope_tree.specs.Calls.{Acquires, AtStart, Closes, IsClosedScope, Opens, Seen}
 use Rattle.scope_tree.specs.Torn.{Torn}
@@ -19,10 +20,10 @@ use Rattle.tree_laws.specs.Whole.{IsWhole, IsWholeFor}
 use Rattle.tree_laws.proofs.Ends.{called_whole, whole_each}
 
 module _ {P : Type 0} where
-  alone_same : (v : View P) → StaysAlone v v
+  pub alone_same : (v : View P) → StaysAlone v v
   alone_same v = record { by = refl; main = refl; pairs = refl; kept = refl; had = refl; out = refl; events = λ e m. inl m }
 
-  alone_then : (u v w : View P) → StaysAlone u v → StaysAlone v w → StaysAlone u w
+  pub alone_then : (u v w : View P) → StaysAlone u v → StaysAlone v w → StaysAlone u w
   alone_then u v w a b = record {
     by = b.by ∙ a.by;
     main = b.main ∙ a.main;
@@ -38,11 +39,18 @@ module _ {P : Type 0} where
       let x : Event = record { stamp = n; by = v.by; what = w } in
       record { by = refl; main = refl; pairs = refl; kept = k; had = refl; out = refl; events = λ e m. ⊎_elim (λ o. inl o) (λ i. inr (ap (λ (z : Event). z.by) i)) (among_snoc v.events e x m) }
 
-  alone_opens : {a b : Seen P} {at c : ℕ} → Opens a at c b → StaysAlone a.seat b.seat
+  pub alone_opens : {a b : Seen P} {at c : ℕ} → Opens a at c b → StaysAlone a.seat b.seat
   alone_opens {a = a} {c = c} o = subst (λ v. StaysAlone a.seat v) (sym o.seat) (alone_noted a.seat o.stamp (Open c o.parent) refl)
 
-  alone_acquires : {a b : Seen P} {s r : ℕ} {p : P} → Acquires a s r p b → StaysAlone a.seat b.seat
+  pub alone_acquires : {a b : Seen P} {s r : ℕ} {p : P} → Acquires a s r p b → StaysAlone a.seat b.seat
   alone_acquires {a = a} {s = s} {r = r} o = subst (λ v. StaysAlone a.seat v) (sym o.seat) (let t = alone_noted a.seat o.stamp (Acquire r s) refl in record { by = t.by; main = t.main; pairs = t.pairs; kept = t.kept; had = t.had; out = t.out; events = t.events })
+
+  -- the first seat of a run is at its start, alone
+  pub first_at_start : (v : View P) (k : StreamNo) (rows n : ℕ) → v ≡ first_view k rows n → 1 ≤ n → AtStart v
+  first_at_start v k rows n e l = subst AtStart (sym e) (record { events = refl; opened = refl; handed = refl; taken = refl; bare = λ j r m. absurd (among_nil m); leased = λ j r m. absurd (among_nil m); spare = l })
+
+  pub first_alone : (v : View P) (k : StreamNo) (rows n : ℕ) → v ≡ first_view k rows n → HasNoOthers v
+  first_alone v k rows n e = subst HasNoOthers (sym e) (record { main = refl; pairs = refl; kept = refl; had = refl; out = refl })
 
   no_others : (v w : View P) → HasNoOthers v → StaysAlone v w → HasNoOthers w
   no_others v w h a = record { main = a.main ∙ h.main; pairs = a.pairs ∙ h.pairs; kept = a.kept ∙ h.kept; had = a.had ∙ h.had; out = a.out ∙ h.out }
@@ -66,7 +74,7 @@ module _ {P : Type 0} {ends : P → Bool → P → Type 0} where
         events = λ y i. ⊎_elim (λ o. ⊎_elim (λ z. inl z) (λ z. inr (z ∙ sym a.by)) (b.events y o)) (λ z. inr z) (a.events y i);
       }
 
-  alone_closes : {a b : Seen P} {s : ℕ} → Closes ends a s b → StaysAlone a.seat b.seat
+  pub alone_closes : {a b : Seen P} {s : ℕ} → Closes ends a s b → StaysAlone a.seat b.seat
   alone_closes {a = a} {s = s} c = alone_then _ _ _ (alone_noted a.seat c.stamp (Close s) refl) (alone_torn c.torn.2)
 
   pub calls_alone : CallsStayAlone ends

@@ -1,12 +1,11 @@
 -- When a legal ledger is complete for a stream.
-use Rattle.std.proofs.Common.{◌≡◌, ℕ, suc, zero, ◌+◌, ◌≤◌, ◌⊎◌, Bool, List, [], ◌∷◌, ◌++◌, length, length-append, inl, inr, refl, sym, ap, ◌∙◌, subst, ⊎_elim, arith}
+use Rattle.std.proofs.Common.{◌≡◌, ℕ, suc, zero, ◌≤◌, ◌⊎◌, Bool, List, ◌∷◌, ◌++◌, length, length-append, inl, inr, sym, ap, subst, ⊎_elim, arith}
 use Rattle.chunk_core.specs.Lists.{IsAmong}
 use Rattle.chunk_core.proofs.Cuts.{among_parts}
 use Rattle.chunk_core.proofs.Members.{among_left}
 use Rattle.res_ledger.specs.declared.event.Event.{Event}
 use Rattle.res_ledger.specs.declared.event.StreamNo.{StreamNo}
-use Rattle.res_ledger.specs.declared.event.What.{What}
-use Rattle.res_ledger.specs.declared.event.What.TheVariants.{Acquire, Close, Final, Lease, Open}
+use Rattle.res_ledger.specs.declared.event.What.TheVariants.{Acquire, Final, Lease, Open}
 use Rattle.res_ledger.specs.Ledger.{Covers, IsAcquired, IsCanceled, IsClosed, IsFinalized, IsHanded, IsLegal, IsOpened, IsUsable, LiesWithin, MayFollow, Notes}
 use Rattle.res_ledger.specs.Ledger.LiesWithin.{same, below}
 use Rattle.res_ledger.proofs.Prefixes.{acquired_once, front_closed, front_legal, front_notes, front_within, split_append}

@@ -1,13 +1,11 @@
 -- What stands once in a legal ledger.
-use Rattle.std.proofs.Common.{◌≡◌, ℕ, ◌+◌, Bool, true, false, cond, count_by, List, [], ◌∷◌, ◌++◌, refl, sym, ap, ◌∙◌, subst, append_assoc, arith}
+use Rattle.std.proofs.Common.{◌≡◌, ℕ, Bool, true, false, cond, count_by, List, [], ◌∷◌, ◌++◌, refl, sym, ap, ◌∙◌, subst, append_assoc, arith}
 use Rattle.std.proofs.lemmas.List.Sums.{sum_by-append, sum_by-cons}
 use Rattle.chunk_core.specs.Lists.{IsAmong}
 use Rattle.chunk_core.specs.Lists.IsAmong.{here, there}
 use Rattle.chunk_core.proofs.Cuts.{among_parts}
 use Rattle.chunk_core.proofs.Members.{among_mid}
 use Rattle.res_ledger.specs.declared.event.Event.{Event}
-use Rattle.res_ledger.specs.declared.event.What.{What}
-use Rattle.res_ledger.specs.declared.event.What.TheVariants.{Cancel, Final}
 use Rattle.res_ledger.specs.Ledger.{IsCanceled, IsFinalized, IsLegal, MayFollow}
 use Rattle.res_ledger.specs.Whole.{cancel_count, final_count, is_cancel, is_final}
 use Rattle.res_ledger.proofs.Noted.{is_cancel_shape, is_final_shape}

@@ -1,5 +1,5 @@
 -- The rows that the Lease of a lease covers in a ledger.
-use Rattle.std.proofs.Common.{◌≡◌, ℕ, ◌⊎◌, cond, Bool, true, false, List, [], ◌∷◌, ◌++◌, inl, inr, refl, sym, ap, ◌∙◌, subst, ⊎_elim, append_assoc, append-nil, nat_eq, flat_map, map}
+use Rattle.std.proofs.Common.{◌≡◌, ℕ, cond, true, false, List, [], ◌∷◌, ◌++◌, refl, sym, ap, ◌∙◌, subst, append_assoc, append-nil, nat_eq, flat_map, map}
 use Rattle.chunk_core.specs.Lists.{IsAmong}
 use Rattle.chunk_core.specs.Lists.IsAmong.{here, there}
 use Rattle.chunk_core.proofs.Cuts.{among_parts}
@@ -13,7 +13,7 @@ use Rattle.res_ledger.specs.Order.{covered_by, covered_for, gathered}
 use Rattle.res_ledger.specs.Own.{leased_of, leased_rows, own}
 use Rattle.res_ledger.specs.Streams.{by_stream, same_stream}
 use Rattle.res_ledger.proofs.Ledgers.{by_both, by_place, stream_same}
-use Rattle.res_ledger.proofs.Tests.{itself, number, tested}
+use Rattle.res_ledger.proofs.Tests.{itself, number}
 use Rattle.row_seat.specs.declared.view.View.{View}
 use Rattle.tree_laws.specs.Lent.{Lent}
 

@@ -1,5 +1,5 @@
 -- The ledger of a tree that is done.
-use Rattle.std.proofs.Common.{◌≡◌, ℕ, ◌⊎◌, Bool, List, [], ◌∷◌, ◌++◌, true, reverse, refl, sym, ap, ◌∙◌, subst, ⊎_elim}
+use Rattle.std.proofs.Common.{◌≡◌, ℕ, Bool, List, [], ◌∷◌, ◌++◌, true, reverse, refl, sym, ◌∙◌, subst, ⊎_elim}
 use Rattle.chunk_core.specs.Lists.{IsAmong}
 use Rattle.chunk_core.specs.Lists.IsAmong.{here}
 use Rattle.chunk_core.proofs.Members.{among_mid, among_nil}
@@ -8,11 +8,10 @@ use Rattle.res_ledger.specs.declared.event.StreamNo.{StreamNo}
 use Rattle.res_ledger.specs.declared.event.What.{What}
 use Rattle.res_ledger.specs.declared.event.What.TheVariants.{Acquire, Lease, Open}
 use Rattle.res_ledger.specs.Ledger.{IsCanceled, Notes}
-use Rattle.res_ledger.specs.Order.{IsInBlocks, IsInOrder, IsOrdered, covered, covered_by}
+use Rattle.res_ledger.specs.Order.{IsInBlocks, IsInOrder, covered, covered_by}
 use Rattle.res_ledger.specs.Order.IsInBlocks.{none}
 use Rattle.res_ledger.specs.Own.{has, own}
 use Rattle.res_ledger.specs.Streams.{by_stream}
-use Rattle.res_ledger.specs.Whole.{IsComplete}
 use Rattle.res_ledger.proofs.Ledgers.{closed_map, noted_own}
 use Rattle.res_ledger.proofs.Noted.{own_notes}
 use Rattle.res_ledger.proofs.Orders.{Rises}

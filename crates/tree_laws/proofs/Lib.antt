@@ -8,3 +8,4 @@ pub mod Counts
 pub mod Complete
 pub mod Ends
 pub mod Alone
+pub mod Used

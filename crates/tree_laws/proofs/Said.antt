@@ -4,7 +4,6 @@ use Rattle.std.proofs.lemmas.Grind.{flat_map-append}
 use Rattle.res_ledger.specs.declared.event.What.{What}
 use Rattle.res_ledger.specs.declared.event.What.TheVariants.{Open, Acquire, Lease, Cancel, Close}
 use Rattle.res_ledger.specs.Order.{finals}
-use Rattle.row_seat.specs.declared.view.View.{View}
 use Rattle.scope_tree.specs.declared.branch.Spent.{Spent}
 use Rattle.scope_tree.specs.Calls.{AtStart, Cancels, Seen}
 use Rattle.scope_tree.specs.Torn.{said}

@@ -1,0 +1,60 @@
+//! A caller that sees public clauses alone.
+ghost use Rattle.std.specs.Prelude.{◌≡◌, ◌≤◌};
+ghost use Rattle.res_ledger.specs.declared.event.StreamNo.TheVariants.{Outer};
+ghost use Rattle.row_seat.specs.Views.{start};
+ghost use Rattle.tree_laws.specs.Whole.{IsWhole};
+
+use chunk_core::List;
+use res_ledger::{Ledger, StreamNo};
+use row_seat::{PlainSeat, RowSeat};
+use scope_tree::{Finish, Room, Spent, Tree};
+use std::test::Fail;
+
+/// A row in a child of the root, and the ledger once the root is closed.
+pub fn one_row<S: RowSeat>(
+    seat: S,
+    room: Room<S::Pay>,
+    desk: &mut S::Desk,
+    pay: S::Pay,
+) -> (Ledger, List<Spent<S::Pay>>)
+where
+    S::Pay: Finish,
+    requires fits { S.fits seat desk.old }
+    requires start { S.view seat ≡ start Outer 1 8 }
+    requires room { (2 ≤ room.scopes) × (1 ≤ room.rows) }
+    ensures whole { IsWhole result.0 }
+{
+    let mut tree = Tree::new(seat, room);
+    let child = tree.open(desk, 0);
+    tree.acquired(desk, child, 0, pay);
+    tree.close(desk, 0);
+    let (seat, shelf) = tree.end();
+    let ledger = seat.finish(desk);
+    (ledger, shelf)
+}
+
+/// A payload whose finalizer succeeds.
+#[derive(Drop, Clone, Copy)]
+struct Coin {
+    worth: u32,
+}
+
+impl Finish for Coin {
+    ghost use Rattle.std.specs.Prelude.{◌≡◌, true};
+
+    ghost ends = { λ p ok q. (ok ≡ true) × (q ≡ p) };
+
+    fn finish(&mut self) -> bool {
+        true
+    }
+}
+
+#[test]
+fn finishes_a_plain_seat(rt: HostRuntime) -> Result<(), Fail> {
+    let (seat, mut desk) = PlainSeat::<Coin>::new(rt.alloc(), StreamNo::Outer, 1, 8)?;
+    let room = Room::new(rt.alloc(), 2, 1)?;
+    let (ledger, shelf) = one_row(seat, room, &mut desk, Coin { worth: 5 });
+    assert_eq!(rt; ledger.len(), 4);
+    assert_eq!(rt; shelf.len(), 1);
+    Ok(())
+}
