@@ -3,7 +3,7 @@ use Rattle.std.proofs.Common.{◌≡◌, ℕ, ◌<◌, ◌⊎◌, Bool, true, fa
 use Rattle.std.proofs.lemmas.Bool.{cases_eq}
 use Rattle.chunk_core.specs.Lists.{IsAmong}
 use Rattle.chunk_core.proofs.Filters.{among_append}
-use Rattle.chunk_core.proofs.Members.{among_left, among_last}
+use Rattle.chunk_core.proofs.Members.{among_left, among_last, among_snoc}
 use Rattle.res_ledger.specs.declared.event.Event.{Event}
 use Rattle.res_ledger.specs.declared.event.StreamNo.{StreamNo}
 use Rattle.res_ledger.specs.declared.event.What.{What}
@@ -14,7 +14,7 @@ use Rattle.res_ledger.proofs.Growth.{noted_more, noted_new, noted_snoc}
 use Rattle.res_ledger.proofs.Ledgers.{by_both, by_in, by_none}
 use Rattle.res_ledger.proofs.Orders.{Rises}
 use Rattle.row_seat.specs.declared.view.View.{View}
-use Rattle.row_seat.specs.Views.{AreApart, CanSplit, IsFresh, joined, kept_after, noted, split_main}
+use Rattle.row_seat.specs.Views.{AreApart, CanJoin, CanSplit, IsFresh, joined, kept_after, noted, split_main}
 use Rattle.row_seat.proofs.Members.{among_kept}
 use Rattle.scope_tree.proofs.Shelf.{by_snoc, rises_snoc}
 
@@ -43,6 +43,7 @@ pub record IsAfter (v w : Folio) : Type 0 where
   pub met : (j : ℕ) → IsMet v j → IsMet w j
   pub leases : (j s : ℕ) → Notes w.events w.by (Lease j s) → Notes v.events v.by (Lease j s) ⊎ IsMet w j
   pub had : v.main ≡ false → w.had ≡ v.had
+  pub own : v.main ≡ false → (e : Event) → IsAmong e w.events → IsAmong e v.events ⊎ (e.by ≡ w.by)
 
 pub after_same : (v : Folio) → IsAfter v v
 after_same v = record {
@@ -54,6 +55,7 @@ after_same v = record {
   met = λ j m. m;
   leases = λ j s n. inl n;
   had = λ m. refl;
+  own = λ m e n. inl n;
 }
 
 pub after_then : (u v w : Folio) → IsAfter u v → IsAfter v w → IsAfter u w
@@ -66,6 +68,7 @@ after_then u v w a b = record {
   met = λ j m. b.met j (a.met j m);
   leases = λ j s n. ⊎_elim (λ m. ⊎_elim (λ o. inl o) (λ o. inr (b.met j o)) (a.leases j s m)) (λ m. inr m) (b.leases j s n);
   had = λ m. b.had (a.main ∙ m) ∙ a.had m;
+  own = λ m e n. ⊎_elim (λ o. ⊎_elim (λ i. inl i) (λ k. inr (k ∙ sym b.by)) (a.own m e o)) (λ k. inr k) (b.own (a.main ∙ m) e n);
 }
 
 -- an event takes a Lease away only if it is its Cancel
@@ -95,6 +98,7 @@ after_event v n w f =
           m;
       leases = λ j s l. ⊎_elim (λ o. inl o) (λ o. inr (inl (subst (λ x. IsAmong j (kept_after x v.kept)) (sym o.1) (among_last v.kept j)))) (noted_snoc v.events e v.by (Lease j s) l);
       had = λ m. refl;
+      own = λ m x n. ⊎_elim (λ o. inl o) (λ i. inr (ap (λ (z : Event). z.by) i)) (among_snoc v.events x e n);
     }
 
 module _ {P : Type 0} where
@@ -114,10 +118,11 @@ module _ {P : Type 0} where
         m;
     leases = λ i s l. inl l;
     had = λ m. absurd (let z : true ≡ false = sym c.0 ∙ m in cc);
+    own = λ m e n. inl n;
   }
 
-  pub after_joined : (v w : View P) → AreApart v w → IsAfter (folio v) (folio (joined v w))
-  after_joined v w a = record {
+  pub after_joined : (v w : View P) → CanJoin v w → AreApart v w → IsAfter (folio v) (folio (joined v w))
+  after_joined v w c a = record {
     by = refl;
     main = refl;
     more = w.events;
@@ -126,4 +131,5 @@ module _ {P : Type 0} where
     met = λ j m. ⊎_elim (λ k. inl k) (λ o. inr (⊎_elim (λ h. inl h) (λ c. inr (c.0, among_left w.events c.1, c.2, c.3)) o)) m;
     leases = λ j s l. ⊎_elim (λ m. inl (l.0, m, l.2, l.3)) (λ m. absurd (a.events l.0 m l.2)) (among_append l.0 v.events w.events l.1);
     had = λ m. refl;
+    own = λ m. absurd (let z : true ≡ false = sym c.0 ∙ m in cc);
   }

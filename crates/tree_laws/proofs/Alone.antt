@@ -91,7 +91,7 @@ module _ {P : Type 0} {ends : P → Bool → P → Type 0} where
   alone_whole {a = a} {b = b} L start h calls alone root ledger =
       let o = no_others a.seat b.seat h alone in
       let done : IsDone b L = record { root = root; kept = o.kept; given = λ j m. absurd (among_nil (subst (λ l. IsAmong j l) o.had m)) } in
-      let own : IsWholeFor L b.seat.by = called_whole b.seat L start calls (record { ledger = ledger; own = refl }) done (λ j T m. absurd (among_nil m)) in
+      let own : IsWholeFor L b.seat.by = called_whole b.seat L start calls (record { ledger = ledger; own = λ e k. ((λ m. m), (λ m. m)) }) done (λ j T m. absurd (among_nil m)) in
       let by : (e : Event) → IsAmong e L → e.by ≡ b.seat.by = λ e m. ⊎_elim (λ n. absurd (among_nil (subst (λ l. IsAmong e l) start.events n))) (λ k. k) (alone.events e ((ledger.whole e).0 m)) in
       let all = whole_each L (λ e m. subst (λ k. IsWholeFor L k) (sym (by e m)) own) in
       record { legal = ledger.legal; complete = all.0; order = all.1 }

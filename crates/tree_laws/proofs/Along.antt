@@ -34,7 +34,7 @@ module _ {P : Type 0} {ends : P → Bool → P → Type 0} where
   called_after (cancelled b c j T h m o) = after_then _ _ _ (called_after h) (after_then _ _ _ (after_noted b.seat o.stamp (Cancel j) o.fresh) (quits_after o.left.2))
   called_after (closed b c s h m o) = after_then _ _ _ (called_after h) (after_then _ _ _ (after_noted b.seat o.stamp (Close s) o.fresh) (torn_after o.torn.2))
   called_after (split b c j from to n h m o) = after_then _ _ _ (called_after h) (subst (λ v. IsAfter (folio b.seat) (folio v)) (sym (ap (λ x. x.seat) o)) (after_split b.seat j from to n m))
-  called_after (taken_in b c w h m p o) = after_then _ _ _ (called_after h) (subst (λ v. IsAfter (folio b.seat) (folio v)) (sym (ap (λ x. x.seat) o)) (after_joined b.seat w p))
+  called_after (taken_in b c w h m p o) = after_then _ _ _ (called_after h) (subst (λ v. IsAfter (folio b.seat) (folio v)) (sym (ap (λ x. x.seat) o)) (after_joined b.seat w m p))
 
   -- calls keep the order of what the stream notes
   tidy_along : {a b : Seen P} {Cs : List (ℕ × List ℕ)} → IsTidy a.seat [] → Called ends a Cs b → IsTidy b.seat Cs

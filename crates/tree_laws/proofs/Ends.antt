@@ -14,22 +14,27 @@ use Rattle.res_ledger.specs.Own.{has, own}
 use Rattle.res_ledger.specs.Streams.{by_stream}
 use Rattle.res_ledger.proofs.Ledgers.{closed_map, noted_own}
 use Rattle.res_ledger.proofs.Noted.{own_notes}
-use Rattle.res_ledger.proofs.Orders.{Rises}
 use Rattle.row_seat.specs.declared.view.View.{View}
 use Rattle.scope_tree.specs.Calls.{AtStart, Seen}
-use Rattle.scope_tree.proofs.Tidy.{ledger_by, tidy_in_order}
+use Rattle.scope_tree.proofs.Tidy.{tidy_in_order}
 use Rattle.tree_laws.specs.Called.{Called}
 use Rattle.tree_laws.specs.Ends.{AreCovered, IsDone, IsFinished}
 use Rattle.tree_laws.specs.Laws.{WholeForEach}
+use Rattle.tree_laws.specs.Lent.{Lent}
+use Rattle.tree_laws.proofs.Covered.{lent_covered}
 use Rattle.tree_laws.specs.Whole.{IsCompleteFor, IsWholeFor}
 use Rattle.tree_laws.proofs.After.{IsAfter, folio}
 use Rattle.tree_laws.proofs.Along.{called_after, called_tidy}
 use Rattle.tree_laws.proofs.Complete.{complete_for}
 use Rattle.tree_laws.proofs.Kept.{called_rises}
+use Rattle.tree_laws.proofs.Rising.{stamped_by}
 
 module _ {P : Type 0} {ends : P → Bool → P → Type 0} {a b : Seen P} {Cs : List (ℕ × List ℕ)} (u : View P) (L : List Event) (start : AtStart a.seat) (calls : Called ends a Cs b) (end : IsFinished b u L) where
   pub called_events : by_stream b.seat.by L ≡ by_stream b.seat.by b.seat.events
-  called_events = ledger_by u L b.seat.by end.ledger (subst Rises (sym end.own) (called_rises start calls)) ∙ end.own
+  called_events = stamped_by L b.seat.events b.seat.by end.ledger.stamped (called_rises start calls) (λ e k. ((λ m. (end.own e k).0 ((end.ledger.whole e).0 m)), (λ m. (end.ledger.whole e).1 ((end.own e k).1 m))))
+
+  pub own_leases_covered : ((j : ℕ) (T : List ℕ) → IsAmong (j, T) Cs → Lent b.seat j T) → AreCovered L Cs
+  own_leases_covered lent j T m = lent_covered b.seat L j T (lent j T m) end.ledger.legal called_events
 
   pub called_in_order : AreCovered L Cs → IsInOrder L b.seat.by
   called_in_order covered = tidy_in_order b.seat Cs L (called_tidy start calls) end.ledger.legal called_events covered

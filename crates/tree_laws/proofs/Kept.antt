@@ -1,14 +1,21 @@
 -- What calls keep of leases.
 use Rattle.std.proofs.Common.{◌≡◌, ℕ, Bool, false, List, [], ◌∷◌, ◌++◌, inl, refl, sym, ap, ◌∙◌, subst, ⊎_elim, append_assoc}
 use Rattle.chunk_core.specs.Lists.{IsAmong}
-use Rattle.chunk_core.proofs.Members.{among_nil}
-use Rattle.res_ledger.specs.declared.event.What.TheVariants.{Cancel}
-use Rattle.res_ledger.specs.Ledger.{Notes}
+use Rattle.chunk_core.proofs.Members.{among_left, among_nil}
+use Rattle.res_ledger.specs.declared.event.Event.{Event}
+use Rattle.res_ledger.specs.declared.event.What.TheVariants.{Acquire, Cancel}
+use Rattle.res_ledger.specs.Ledger.{IsFinalized, Notes}
 use Rattle.res_ledger.specs.Own.{leased_rows, own}
 use Rattle.res_ledger.specs.Streams.{by_stream}
 use Rattle.res_ledger.proofs.Orders.{Rises}
-use Rattle.scope_tree.specs.Calls.{AtStart, Leases, Seen}
+use Rattle.row_seat.specs.declared.view.View.{View}
+use Rattle.scope_tree.specs.declared.tree.Tree.{Tree}
+use Rattle.scope_tree.specs.Calls.{AtStart, IsClosedScope, Leases, Seen}
+use Rattle.scope_tree.specs.Trees.{IsSound, seen}
 use Rattle.scope_tree.specs.Words.{leasing}
+use Rattle.res_ledger.proofs.Noted.{notes_rows}
+use Rattle.scope_tree.proofs.Keeps.{nothing_open}
+use Rattle.scope_tree.proofs.Parting.{shelf_final}
 use Rattle.tree_laws.specs.Called.{Called}
 use Rattle.tree_laws.specs.Lent.{Lent}
 use Rattle.tree_laws.proofs.After.{IsAfter, folio}
@@ -42,6 +49,9 @@ module _ {P : Type 0} {ends : P → Bool → P → Type 0} where
         rows = l.rows ∙ ap (λ k. leased_rows (own k l.before) l.scope) (sym f.by);
       }
 
+  pub events_stay : {a b : Seen P} {Cs : List (ℕ × List ℕ)} → Called ends a Cs b → (e : Event) → IsAmong e a.seat.events → IsAmong e b.seat.events
+  events_stay c e m = let f = called_after c in subst (λ l. IsAmong e l) (sym f.events) (among_left f.more m)
+
   pub called_rises : {a b : Seen P} {Cs : List (ℕ × List ℕ)} → AtStart a.seat → Called ends a Cs b → Rises (by_stream b.seat.by b.seat.events)
   called_rises {a = a} s c = (called_after c).rises (subst (λ L. Rises (by_stream a.seat.by L)) (sym s.events) tt)
 
@@ -50,3 +60,13 @@ module _ {P : Type 0} {ends : P → Bool → P → Type 0} where
   kept_canceled {a = a} {b = b} j m h c k i =
       let f : IsAfter (folio a.seat) (folio b.seat) = called_after c in
       ⊎_elim (λ x. absurd (among_nil (subst (λ l. IsAmong j l) k x))) (λ o. ⊎_elim (λ x. absurd (among_nil (subst (λ l. IsAmong j l) (f.had m ∙ h) x))) (λ x. x) o) (f.met j (inl i))
+
+-- a row of a closed root has ended, where no other seat holds it back
+pub closed_rows_end : {S P D : Type 0} (view : S → View P) (t : Tree S P D) → IsSound view t → (view t.seat).main ≡ false → IsClosedScope (seen view t) 0 → (r s : ℕ) → Notes (view t.seat).events (view t.seat).by (Acquire r s) → IsFinalized (view t.seat).events r
+closed_rows_end view t sound main closed r s n =
+    let v = view t.seat in let bs = t.branches.items in let hs = t.held.items in
+    let m = subst (λ l. IsAmong {A = ℕ × ℕ} (r, s) l) sound.kept.rows (notes_rows v.events v.by r s n) in
+    ⊎_elim
+    (λ h. absurd (among_nil (subst (λ l. IsAmong {A = ℕ × _} (r, h.0) l) (nothing_open v bs hs sound.kept closed) h.1)))
+    (λ i. let f = shelf_final v hs t.shelf.items sound.shelved r i in (v.by, f.0, f.1))
+    (sound.shelved.ended main r s m)

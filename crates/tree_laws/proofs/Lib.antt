@@ -6,6 +6,7 @@ pub mod Kept
 pub mod Covered
 pub mod Counts
 pub mod Complete
+pub mod Rising
 pub mod Ends
 pub mod Alone
 pub mod Used

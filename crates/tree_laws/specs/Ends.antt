@@ -1,19 +1,18 @@
 -- When a tree is done.
-use Rattle.std.specs.Prelude.{◌≡◌, ℕ, List, []}
+use Rattle.std.specs.Prelude.{◌≡◌, ◌↔◌, ℕ, List, []}
 use Rattle.chunk_core.specs.Lists.{IsAmong}
 use Rattle.res_ledger.specs.declared.event.Event.{Event}
 use Rattle.res_ledger.specs.Ledger.{IsCanceled, IsLeased}
 use Rattle.res_ledger.specs.Order.{covered_by}
-use Rattle.res_ledger.specs.Streams.{by_stream}
 use Rattle.row_seat.specs.declared.view.View.{View}
 use Rattle.row_seat.specs.Views.{IsLedgerOf}
 use Rattle.scope_tree.specs.Calls.{IsClosedScope, Seen}
 
 module _ {P : Type 0} where
-  -- L is the ledger of a seat u that finished, and of the tree's stream u has what the tree noted; for a main tree u is its own seat
+  -- L is the ledger of a seat u that finished, and of the tree's stream u has the events that the tree noted; for a main tree u is its own seat
   pub record IsFinished (b : Seen P) (u : View P) (L : List Event) : Type 0 where
     pub ledger : IsLedgerOf u L
-    pub own : by_stream b.seat.by u.events ≡ by_stream b.seat.by b.seat.events
+    pub own : (e : Event) → e.by ≡ b.seat.by → IsAmong e u.events ↔ IsAmong e b.seat.events
 
   -- the tree's root is closed and it keeps no Lease, and each leased stream that it gave a seat has its Cancel in L
   pub record IsDone (b : Seen P) (L : List Event) : Type 0 where

@@ -1,9 +1,9 @@
 -- What follows for the ledger, whatever calls were made of a tree.
-use Rattle.std.specs.Prelude.{◌≡◌, ℕ, Bool, false, List, [], ◌++◌}
+use Rattle.std.specs.Prelude.{◌≡◌, ◌⊎◌, ℕ, Bool, false, List, [], ◌++◌}
 use Rattle.chunk_core.specs.Lists.{IsAmong}
 use Rattle.res_ledger.specs.declared.event.Event.{Event}
-use Rattle.res_ledger.specs.declared.event.What.TheVariants.{Cancel}
-use Rattle.res_ledger.specs.Ledger.{IsAcquired, IsLegal, Notes}
+use Rattle.res_ledger.specs.declared.event.What.TheVariants.{Acquire, Cancel}
+use Rattle.res_ledger.specs.Ledger.{IsAcquired, IsFinalized, IsLegal, Notes}
 use Rattle.res_ledger.specs.Order.{IsOrdered, covered_by}
 use Rattle.res_ledger.specs.Streams.{by_stream}
 use Rattle.res_ledger.specs.Whole.{IsComplete}
@@ -12,7 +12,9 @@ use Rattle.row_seat.specs.declared.view.View.{View}
 use Rattle.row_seat.specs.Views.{CanFinish, IsLedgerOf, paid}
 use Rattle.scope_tree.specs.Calls.{Acquires, AtStart, Closes, IsClosedScope, Leases, Opens, Seen}
 use Rattle.scope_tree.specs.Tidy.{IsTidy}
+use Rattle.scope_tree.specs.declared.tree.Tree.{Tree}
 use Rattle.scope_tree.specs.Torn.{said}
+use Rattle.scope_tree.specs.Trees.{IsSound, seen}
 use Rattle.scope_tree.specs.Words.{ended_rows, words}
 use Rattle.tree_laws.specs.Called.{Called}
 use Rattle.tree_laws.specs.Alone.{HasNoOthers, StaysAlone}
@@ -38,16 +40,22 @@ module _ {P : Type 0} (ends : P → Bool → P → Type 0) where
   abbrev pub StampsRise : Type 0
   StampsRise = (a b : Seen P) (Cs : List (ℕ × List ℕ)) → AtStart a.seat → Called ends a Cs b → Rises (by_stream b.seat.by b.seat.events)
 
-  -- a lease that was made stays one that the tree made
+  -- what was noted stays noted, in the same name
+  abbrev pub EventsStay : Type 0
+  EventsStay = (a b : Seen P) (Cs : List (ℕ × List ℕ)) → Called ends a Cs b → (b.seat.by ≡ a.seat.by) × ((e : Event) → IsAmong e a.seat.events → IsAmong e b.seat.events)
+
+  -- a lease that a call made is one that the tree made, and stays so
   abbrev pub LeaseIsLent : Type 0
-  LeaseIsLent = (a b : Seen P) (s j : ℕ) (T : List ℕ) → Leases a s j T b → Lent b.seat j T
+  LeaseIsLent = (a b c : Seen P) (s j : ℕ) (T : List ℕ) (Cs : List (ℕ × List ℕ)) → Leases a s j T b → Called ends b Cs c → Lent c.seat j T
 
-  abbrev pub LentStays : Type 0
-  LentStays = (a b : Seen P) (Cs : List (ℕ × List ℕ)) (j : ℕ) (T : List ℕ) → Called ends a Cs b → Lent a.seat j T → Lent b.seat j T
+  -- where a tree cancels only leases that it made, their rows are those that the ledger tells
+  abbrev pub OwnLeasesAreCovered : Type 0
+  OwnLeasesAreCovered = (a b : Seen P) (Cs : List (ℕ × List ℕ)) (u : View P) (L : List Event) → AtStart a.seat → Called ends a Cs b → IsFinished b u L → ((j : ℕ) (T : List ℕ) → IsAmong (j, T) Cs → Lent b.seat j T) → AreCovered L Cs
 
-  -- a tree that can give no seats cancels each Lease that it kept, if it keeps none
-  abbrev pub KeptIsCanceled : Type 0
-  KeptIsCanceled = (a b : Seen P) (Cs : List (ℕ × List ℕ)) (j : ℕ) → a.seat.main ≡ false → a.seat.had ≡ [] → Called ends a Cs b → b.seat.kept ≡ [] → IsAmong j a.seat.kept → Notes b.seat.events b.seat.by (Cancel j)
+  -- the tree of a seat that isn't the main one: it notes events in its own name alone, and where it keeps no Lease it has cancelled each that it kept at first
+  pub record SubTrees : Type 0 where
+    pub own : (a b : Seen P) (Cs : List (ℕ × List ℕ)) → a.seat.main ≡ false → Called ends a Cs b → (e : Event) → IsAmong e b.seat.events → IsAmong e a.seat.events ⊎ (e.by ≡ b.seat.by)
+    pub canceled : (a b : Seen P) (Cs : List (ℕ × List ℕ)) (j : ℕ) → a.seat.main ≡ false → a.seat.had ≡ [] → Called ends a Cs b → b.seat.kept ≡ [] → IsAmong j a.seat.kept → Notes b.seat.events b.seat.by (Cancel j)
 
   -- the ledger has the stream's events as the tree noted them
   abbrev pub LedgerHasEvents : Type 0
@@ -89,3 +97,7 @@ LentIsCovered P = (v : View P) (L : List Event) (j : ℕ) (T : List ℕ) → Len
 -- a ledger that is whole for each stream that noted something is whole
 abbrev pub WholeForEach : Type 0
 WholeForEach = (L : List Event) → ((e : Event) → IsAmong e L → IsWholeFor L e.by) → IsComplete L × IsOrdered L
+
+-- where no other seat can hold a row back and the root is closed, each row that the tree acquired has its Final
+abbrev pub RowsHaveEnded : {S P : Type 0} → (S → View P) → Type 0 → Type 0
+RowsHaveEnded {S} {P} view D = (t : Tree S P D) → IsSound view t → (view t.seat).main ≡ false → IsClosedScope (seen view t) 0 → (r s : ℕ) → Notes (view t.seat).events (view t.seat).by (Acquire r s) → IsFinalized (view t.seat).events r

@@ -1,6 +1,7 @@
 //! Laws of all that was done to a tree, each the contract of a function that does nothing.
-ghost use Rattle.tree_laws.specs.Laws.{AloneCanFinish, AloneIsWhole, CallsAreTidy, CallsFollow, CallsStayAlone, KeptIsCanceled, LeaseIsLent, LedgerHasEvents, LedgerIsComplete, LedgerIsInOrder, LedgerIsWhole, LentIsCovered, LentStays, ShelfIsSaid, StampsRise, WholeForEach};
+ghost use Rattle.tree_laws.specs.Laws.{AloneCanFinish, AloneIsWhole, CallsAreTidy, CallsFollow, CallsStayAlone, EventsStay, LeaseIsLent, LedgerHasEvents, LedgerIsComplete, LedgerIsInOrder, LedgerIsWhole, LentIsCovered, OwnLeasesAreCovered, RowsHaveEnded, ShelfIsSaid, StampsRise, SubTrees, WholeForEach};
 
+use row_seat::RowSeat;
 use scope_tree::Finish;
 
 /// Calls, and calls after them, are calls.
@@ -13,14 +14,22 @@ pub fn what_is_noted<P: Finish>()
     ensures tidy { CallsAreTidy P.ends }
     ensures shelf { ShelfIsSaid P.ends }
     ensures rises { StampsRise P.ends }
+    ensures stays { EventsStay P.ends }
 {}
 
-/// The rows of a lease are those that its Lease covers in the ledger.
+/// The rows of a lease that a tree made are those that its Lease covers in the ledger.
 pub fn leases_are_covered<P: Finish>()
     ensures lent { LeaseIsLent P.ends }
-    ensures stays { LentStays P.ends }
     ensures covered { LentIsCovered P }
-    ensures canceled { KeptIsCanceled P.ends }
+    ensures own { OwnLeasesAreCovered P.ends }
+{}
+
+/// The tree of a seat that was split off.
+pub fn sub_trees<S: RowSeat>()
+where
+    S::Pay: Finish,
+    ensures noted { SubTrees S.Pay.ends }
+    ensures rows { RowsHaveEnded S.view S.Desk }
 {}
 
 /// The ledger of a tree that is done is legal, in order and complete for its stream.

@@ -1,11 +1,11 @@
 use Rattle.tree_laws.proofs.Covered.{lent_covered}
-use Rattle.tree_laws.proofs.Kept.{kept_canceled, lent_stays, leases_lent}
+use Rattle.tree_laws.proofs.Ends.{own_leases_covered}
+use Rattle.tree_laws.proofs.Kept.{leases_lent, lent_stays}
 use Rattle.tree_laws.proofs.laws.leases_are_covered.Goals as goal
 
 pub returns : goal.returns
 returns g c = record {
-  lent = λ a b s j T o. leases_lent o;
-  stays = λ a b Cs j T h l. lent_stays h l;
+  lent = λ a b d s j T Cs o h. lent_stays h (leases_lent o);
   covered = λ v L j T l legal is. lent_covered v L j T l legal is;
-  canceled = λ a b Cs j m h k e i. kept_canceled j m h k e i;
+  own = λ a b Cs u L start calls end lent. own_leases_covered u L start calls end lent;
 }

@@ -1,5 +1,5 @@
-use Rattle.tree_laws.proofs.Along.{called_tidy}
-use Rattle.tree_laws.proofs.Kept.{called_rises}
+use Rattle.tree_laws.proofs.Along.{called_after, called_tidy}
+use Rattle.tree_laws.proofs.Kept.{called_rises, events_stay}
 use Rattle.tree_laws.proofs.Said.{called_said}
 use Rattle.tree_laws.proofs.laws.what_is_noted.Goals as goal
 
@@ -8,4 +8,5 @@ returns g c = record {
   tidy = λ a b Cs s h. called_tidy s h;
   shelf = λ a b Cs s e h. called_said s e h;
   rises = λ a b Cs s h. called_rises s h;
+  stays = λ a b Cs h. ((called_after h).by, λ e m. events_stay h e m);
 }

@@ -1,0 +1,12 @@
+use Rattle.tree_laws.proofs.Along.{called_after}
+use Rattle.tree_laws.proofs.Kept.{closed_rows_end, kept_canceled}
+use Rattle.tree_laws.proofs.laws.sub_trees.Goals as goal
+
+pub returns : goal.returns
+returns g c = record {
+  noted = record {
+    own = λ a b Cs m h e i. (called_after h).own m e i;
+    canceled = λ a b Cs j m h k e i. kept_canceled j m h k e i;
+  };
+  rows = λ t sound main closed r s n. closed_rows_end g.S.RowSeat.view t sound main closed r s n;
+}
