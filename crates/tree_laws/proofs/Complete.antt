@@ -6,7 +6,7 @@ use Rattle.chunk_core.proofs.Members.{among_left}
 use Rattle.res_ledger.specs.declared.event.Event.{Event}
 use Rattle.res_ledger.specs.declared.event.StreamNo.{StreamNo}
 use Rattle.res_ledger.specs.declared.event.What.TheVariants.{Acquire, Final, Lease, Open}
-use Rattle.res_ledger.specs.Ledger.{Covers, IsAcquired, IsCanceled, IsClosed, IsFinalized, IsHanded, IsLegal, IsOpened, IsUsable, LiesWithin, MayFollow, Notes}
+use Rattle.res_ledger.specs.Ledger.{Covers, IsCanceled, IsClosed, IsFinalized, IsHanded, IsLegal, IsOpened, IsUsable, LiesWithin, MayFollow, Notes}
 use Rattle.res_ledger.specs.Ledger.LiesWithin.{same, below}
 use Rattle.res_ledger.proofs.Prefixes.{acquired_once, front_closed, front_legal, front_notes, front_within, split_append}
 use Rattle.tree_laws.specs.Whole.{IsCompleteFor}
@@ -51,9 +51,9 @@ covers_front A B r j q legal h v =
     absurd (v.7.3 (subst (λ x. IsClosed P q x) u.1 (subst (λ x. IsClosed P x c.1) u.0 d))))
     (split_append A B P Q e v.4)
 
-pub complete_for : (L : List Event) (k : StreamNo) → IsLegal L → IsClosed L k 0 → ((r : ℕ) → IsAcquired L r → IsFinalized L r) → ((j s : ℕ) → Notes L k (Lease j s) → IsCanceled L j) → IsCompleteFor L k
+pub complete_for : (L : List Event) (k : StreamNo) → IsLegal L → IsClosed L k 0 → ((r s : ℕ) → Notes L k (Acquire r s) → IsFinalized L r) → ((j s : ℕ) → Notes L k (Lease j s) → IsCanceled L j) → IsCompleteFor L k
 complete_for L k legal root final canceled = record {
-  finalized_once = λ r s n. final_once L r legal (final r (k, s, n));
+  finalized_once = λ r s n. final_once L r legal (final r s n);
   after_close = λ A B e r ok is by w. (handed_at L A B e r ok legal is w).0;
   after_leases = λ A B e r ok is by w j q c. (let h = handed_at L A B e r ok legal is w in h.1 j q (covers_front A (e ∷ B) r j q (subst IsLegal is legal) h (subst (λ l. Covers l j q r) is c)));
   canceled_once = λ j s n. cancel_once L j legal (canceled j s n);

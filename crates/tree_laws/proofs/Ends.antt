@@ -56,7 +56,7 @@ module _ {P : Type 0} {ends : P → Bool → P → Type 0} {a b : Seen P} {Cs : 
   called_complete done =
       complete_for L b.seat.by end.ledger.legal
       (closed_map b.seat.events L b.seat.by (noted_own b.seat.by b.seat.events L (sym called_events)) 0 done.root)
-      end.ledger.ended
+      (λ r s n. end.ledger.ended r (b.seat.by, s, n))
       (lease_canceled done)
 
   pub called_whole : IsDone b L → AreCovered L Cs → IsWholeFor L b.seat.by

@@ -10,3 +10,4 @@ pub mod Rising
 pub mod Ends
 pub mod Alone
 pub mod Used
+pub mod Refused

@@ -4,3 +4,4 @@ pub mod Whole
 pub mod Alone
 pub mod Ends
 pub mod Laws
+pub mod Refused

@@ -1,5 +1,8 @@
 //! Laws of all that was done to a tree, each the contract of a function that does nothing.
+ghost use Rattle.res_ledger.specs.declared.event.StreamNo.TheVariants.{Inner, Outer};
 ghost use Rattle.tree_laws.specs.Laws.{AloneCanFinish, AloneIsWhole, CallsAreTidy, CallsFollow, CallsStayAlone, EventsStay, LeaseIsLent, LedgerHasEvents, LedgerIsComplete, LedgerIsInOrder, LedgerIsWhole, LentIsCovered, OwnLeasesAreCovered, RowsHaveEnded, ShelfIsSaid, StampsRise, SubTrees, WholeForEach};
+ghost use Rattle.tree_laws.specs.Refused.{IsLegalButNotWhole, first_row_first, lease_left_over, row_left_over};
+ghost use Rattle.tree_laws.specs.Whole.{IsWholeFor};
 
 use row_seat::RowSeat;
 use scope_tree::Finish;
@@ -51,4 +54,12 @@ pub fn calls_stay_alone<P: Finish>()
     ensures alone { CallsStayAlone P.ends }
     ensures finish { AloneCanFinish P }
     ensures whole { AloneIsWhole P.ends }
+{}
+
+/// Legal ledgers that are not whole for a stream, and one that is so for another.
+pub fn refused()
+    ensures is_first_row_first { IsLegalButNotWhole first_row_first Outer }
+    ensures is_row_left_over { IsLegalButNotWhole row_left_over Outer }
+    ensures is_lease_left_over { IsLegalButNotWhole lease_left_over Outer }
+    ensures is_whole_for_the_leased { IsWholeFor lease_left_over (Inner 0) }
 {}
