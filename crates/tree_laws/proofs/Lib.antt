@@ -2,6 +2,7 @@ pub mod Follows
 pub mod After
 pub mod Along
 pub mod Said
+pub mod Room
 pub mod Kept
 pub mod Covered
 pub mod Counts

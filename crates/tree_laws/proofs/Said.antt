@@ -34,7 +34,7 @@ module _ {P : Type 0} where
   shelved E F xs ys zs f is e = f ∙ ap (λ l. l ++ said zs) e ∙ sym (said_append xs zs) ∙ ap said (sym is)
 
 module _ {P : Type 0} {ends : P → Bool → P → Type 0} where
-  canceled_said : {a b : Seen P} {j : ℕ} {T : List ℕ} (c : Cancels ends a j T b) → words b.seat ≡ words a.seat ++ Cancel j ∷ finals (said c.left.0)
+  pub canceled_said : {a b : Seen P} {j : ℕ} {T : List ℕ} (c : Cancels ends a j T b) → words b.seat ≡ words a.seat ++ Cancel j ∷ finals (said c.left.0)
   canceled_said {a = a} {b = b} {j = j} c = ap (λ k. own k b.seat.events) (quits_by c.left.2) ∙ quits_words a.seat.by c.left.2 refl ∙ ap (λ l. l ++ finals (said c.left.0)) (own_snoc a.seat.by a.seat.events (canceling a.seat j c.stamp) refl) ∙ append_assoc (words a.seat) (Cancel j ∷ []) (finals (said c.left.0))
 
   said_along : {a b : Seen P} {Cs : List (ℕ × List ℕ)} → ended_rows (words a.seat) ≡ said a.shelf → Called ends a Cs b → ended_rows (words b.seat) ≡ said b.shelf

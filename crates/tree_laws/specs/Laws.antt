@@ -1,10 +1,11 @@
 -- What follows for the ledger, whatever calls were made of a tree.
-use Rattle.std.specs.Prelude.{◌≡◌, ◌⊎◌, ℕ, Bool, false, List, [], ◌++◌}
+use Rattle.std.specs.Prelude.{◌≡◌, ◌⊎◌, ℕ, ◌+◌, ◌≤◌, Bool, false, List, [], ◌++◌, length}
 use Rattle.chunk_core.specs.Lists.{IsAmong}
 use Rattle.res_ledger.specs.declared.event.Event.{Event}
 use Rattle.res_ledger.specs.declared.event.What.TheVariants.{Acquire, Cancel}
 use Rattle.res_ledger.specs.Ledger.{IsAcquired, IsFinalized, IsLegal, Notes}
 use Rattle.res_ledger.specs.Order.{IsOrdered, covered_by}
+use Rattle.res_ledger.specs.Own.{opens}
 use Rattle.res_ledger.specs.Streams.{by_stream}
 use Rattle.res_ledger.specs.Whole.{IsComplete}
 use Rattle.res_ledger.proofs.Orders.{Rises}
@@ -39,6 +40,10 @@ module _ {P : Type 0} (ends : P → Bool → P → Type 0) where
   -- since the start, the stamps of the stream's events rise
   abbrev pub StampsRise : Type 0
   StampsRise = (a b : Seen P) (Cs : List (ℕ × List ℕ)) → AtStart a.seat → Called ends a Cs b → Rises (by_stream b.seat.by b.seat.events)
+
+  -- since the start, the scopes are no more than there was room for, which stays
+  abbrev pub ScopesFit : Type 0
+  ScopesFit = (a b : Seen P) (Cs : List (ℕ × List ℕ)) → AtStart a.seat → 1 ≤ a.scopes → Called ends a Cs b → (length (opens (words b.seat)) + 1 ≤ b.scopes) × (b.scopes ≡ a.scopes) × (b.rows ≡ a.rows)
 
   -- what was noted stays noted, in the same name
   abbrev pub EventsStay : Type 0

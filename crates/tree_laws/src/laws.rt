@@ -1,6 +1,6 @@
 //! Laws of all that was done to a tree, each the contract of a function that does nothing.
 ghost use Rattle.res_ledger.specs.declared.event.StreamNo.TheVariants.{Inner, Outer};
-ghost use Rattle.tree_laws.specs.Laws.{AloneCanFinish, AloneIsWhole, CallsAreTidy, CallsFollow, CallsStayAlone, EventsStay, LeaseIsLent, LedgerHasEvents, LedgerIsComplete, LedgerIsInOrder, LedgerIsWhole, LentIsCovered, OwnLeasesAreCovered, RowsHaveEnded, ShelfIsSaid, StampsRise, SubTrees, WholeForEach};
+ghost use Rattle.tree_laws.specs.Laws.{AloneCanFinish, AloneIsWhole, CallsAreTidy, CallsFollow, CallsStayAlone, EventsStay, LeaseIsLent, LedgerHasEvents, LedgerIsComplete, LedgerIsInOrder, LedgerIsWhole, LentIsCovered, OwnLeasesAreCovered, RowsHaveEnded, ScopesFit, ShelfIsSaid, StampsRise, SubTrees, WholeForEach};
 ghost use Rattle.tree_laws.specs.Refused.{IsLegalButNotWhole, first_row_first, lease_left_over, row_left_over};
 ghost use Rattle.tree_laws.specs.Whole.{IsWholeFor};
 
@@ -18,6 +18,7 @@ pub fn what_is_noted<P: Finish>()
     ensures shelf { ShelfIsSaid P.ends }
     ensures rises { StampsRise P.ends }
     ensures stays { EventsStay P.ends }
+    ensures room { ScopesFit P.ends }
 {}
 
 /// The rows of a lease that a tree made are those that its Lease covers in the ledger.

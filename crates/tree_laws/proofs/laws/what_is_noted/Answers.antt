@@ -1,5 +1,6 @@
 use Rattle.tree_laws.proofs.Along.{called_after, called_tidy}
 use Rattle.tree_laws.proofs.Kept.{called_rises, events_stay}
+use Rattle.tree_laws.proofs.Room.{called_room}
 use Rattle.tree_laws.proofs.Said.{called_said}
 use Rattle.tree_laws.proofs.laws.what_is_noted.Goals as goal
 
@@ -9,4 +10,5 @@ returns g c = record {
   shelf = λ a b Cs s e h. called_said s e h;
   rises = λ a b Cs s h. called_rises s h;
   stays = λ a b Cs h. ((called_after h).by, λ e m. events_stay h e m);
+  room = λ a b Cs s l h. called_room s l h;
 }
