@@ -13,11 +13,12 @@ use Rattle.res_ledger.specs.Order.IsInBlocks.{none}
 use Rattle.res_ledger.specs.Own.{has, own}
 use Rattle.res_ledger.specs.Streams.{by_stream}
 use Rattle.res_ledger.proofs.Ledgers.{closed_map, noted_own}
-use Rattle.res_ledger.proofs.Noted.{own_notes}
+use Rattle.res_ledger.proofs.Noted.{only, own_notes}
 use Rattle.row_seat.specs.declared.view.View.{View}
-use Rattle.scope_tree.specs.Calls.{AtStart, Seen}
+use Rattle.scope_tree.specs.Calls.{AtStart, Cancels, Leases, Seen}
 use Rattle.scope_tree.proofs.Tidy.{tidy_in_order}
-use Rattle.tree_laws.specs.Called.{Called}
+use Rattle.tree_laws.specs.Called.{Called, MayCancel, MayLease}
+use Rattle.tree_laws.specs.Called.Called.{cancelled, leased}
 use Rattle.tree_laws.specs.Ends.{AreCovered, IsDone, IsFinished}
 use Rattle.tree_laws.specs.Laws.{WholeForEach}
 use Rattle.tree_laws.specs.Lent.{Lent}
@@ -26,7 +27,8 @@ use Rattle.tree_laws.specs.Whole.{IsCompleteFor, IsWholeFor}
 use Rattle.tree_laws.proofs.After.{IsAfter, folio}
 use Rattle.tree_laws.proofs.Along.{called_after, called_tidy}
 use Rattle.tree_laws.proofs.Complete.{complete_for}
-use Rattle.tree_laws.proofs.Kept.{called_rises}
+use Rattle.tree_laws.proofs.Follows.{called_then}
+use Rattle.tree_laws.proofs.Kept.{called_rises, leases_lent, lent_stays}
 use Rattle.tree_laws.proofs.Rising.{stamped_by}
 
 module _ {P : Type 0} {ends : P → Bool → P → Type 0} {a b : Seen P} {Cs : List (ℕ × List ℕ)} (u : View P) (L : List Event) (start : AtStart a.seat) (calls : Called ends a Cs b) (end : IsFinished b u L) where
@@ -61,6 +63,13 @@ module _ {P : Type 0} {ends : P → Bool → P → Type 0} {a b : Seen P} {Cs : 
 
   pub called_whole : IsDone b L → AreCovered L Cs → IsWholeFor L b.seat.by
   called_whole done covered = record { legal = end.ledger.legal; order = called_in_order covered; complete = called_complete done }
+
+-- a lease that the tree made and cancelled
+pub one_lease_whole : {P : Type 0} {ends : P → Bool → P → Type 0} {a b c d e f : Seen P} {s j : ℕ} {T : List ℕ} (u : View P) (L : List Event) → AtStart a.seat → Called ends a [] b → MayLease b s j → Leases b s j T c → Called ends c [] d → MayCancel d j T → Cancels ends d j T e → Called ends e [] f → IsFinished f u L → IsDone f L → IsWholeFor L f.seat.by
+one_lease_whole {b = b} {c = c} {d = d} {e = e} {f = f} {s = s} {j = j} {T = T} u L start first may lease then may' cancel last end done =
+    let calls = called_then (cancelled d e j T (called_then (leased b c s j T first may lease) then) may' cancel) last in
+    let lent : Lent f.seat j T = lent_stays (called_then (cancelled d e j T then may' cancel) last) (leases_lent lease) in
+    called_whole u L start calls end done (own_leases_covered u L start calls end (λ i U m. (let x : ℕ × List ℕ = (i, U) in let y : ℕ × List ℕ = (j, T) in let q = only x y m in subst (λ (z : ℕ × List ℕ). Lent f.seat z.0 z.1) (sym q) lent)))
 
 -- a stream that noted nothing is in order
 in_order_at : (L : List Event) (k : StreamNo) (E : List What) → own k L ≡ E → ((e : Event) → IsAmong e L → IsInOrder L e.by) → IsInOrder L k

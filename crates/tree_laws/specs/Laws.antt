@@ -11,13 +11,13 @@ use Rattle.res_ledger.specs.Whole.{IsComplete}
 use Rattle.res_ledger.proofs.Orders.{Rises}
 use Rattle.row_seat.specs.declared.view.View.{View}
 use Rattle.row_seat.specs.Views.{CanFinish, IsLedgerOf, paid}
-use Rattle.scope_tree.specs.Calls.{Acquires, AtStart, Closes, IsClosedScope, Leases, Opens, Seen}
+use Rattle.scope_tree.specs.Calls.{Acquires, AtStart, Cancels, Closes, IsClosedScope, Leases, Opens, Seen}
 use Rattle.scope_tree.specs.Tidy.{IsTidy}
 use Rattle.scope_tree.specs.declared.tree.Tree.{Tree}
 use Rattle.scope_tree.specs.Torn.{said}
 use Rattle.scope_tree.specs.Trees.{IsSound, seen}
 use Rattle.scope_tree.specs.Words.{ended_rows, words}
-use Rattle.tree_laws.specs.Called.{Called}
+use Rattle.tree_laws.specs.Called.{Called, MayCancel, MayLease}
 use Rattle.tree_laws.specs.Alone.{HasNoOthers, StaysAlone}
 use Rattle.tree_laws.specs.Ends.{AreCovered, IsDone, IsFinished}
 use Rattle.tree_laws.specs.Lent.{Lent}
@@ -77,6 +77,10 @@ module _ {P : Type 0} (ends : P → Bool → P → Type 0) where
   -- so it is legal, in order and complete for it
   abbrev pub LedgerIsWhole : Type 0
   LedgerIsWhole = (a b : Seen P) (Cs : List (ℕ × List ℕ)) (u : View P) (L : List Event) → AtStart a.seat → Called ends a Cs b → IsFinished b u L → IsDone b L → AreCovered L Cs → IsWholeFor L b.seat.by
+
+  -- so for a tree that made one lease and cancelled it itself
+  abbrev pub OneLeaseIsWhole : Type 0
+  OneLeaseIsWhole = (a b c d e f : Seen P) (s j : ℕ) (T : List ℕ) (u : View P) (L : List Event) → AtStart a.seat → Called ends a [] b → MayLease b s j → Leases b s j T c → Called ends c [] d → MayCancel d j T → Cancels ends d j T e → Called ends e [] f → IsFinished f u L → IsDone f L → IsWholeFor L f.seat.by
 
   -- each of these calls leaves a tree alone, and so do several
   pub record CallsStayAlone : Type 0 where

@@ -1,6 +1,6 @@
 //! Laws of all that was done to a tree, each the contract of a function that does nothing.
 ghost use Rattle.res_ledger.specs.declared.event.StreamNo.TheVariants.{Inner, Outer};
-ghost use Rattle.tree_laws.specs.Laws.{AloneCanFinish, AloneIsWhole, CallsAreTidy, CallsFollow, CallsStayAlone, EventsStay, LeaseIsLent, LedgerHasEvents, LedgerIsComplete, LedgerIsInOrder, LedgerIsWhole, LentIsCovered, OwnLeasesAreCovered, RowsHaveEnded, ScopesFit, ShelfIsSaid, StampsRise, SubTrees, WholeForEach};
+ghost use Rattle.tree_laws.specs.Laws.{AloneCanFinish, AloneIsWhole, CallsAreTidy, CallsFollow, CallsStayAlone, EventsStay, LeaseIsLent, LedgerHasEvents, LedgerIsComplete, LedgerIsInOrder, LedgerIsWhole, LentIsCovered, OneLeaseIsWhole, OwnLeasesAreCovered, RowsHaveEnded, ScopesFit, ShelfIsSaid, StampsRise, SubTrees, WholeForEach};
 ghost use Rattle.tree_laws.specs.Refused.{IsLegalButNotWhole, first_row_first, lease_left_over, row_left_over};
 ghost use Rattle.tree_laws.specs.Whole.{IsWholeFor};
 
@@ -42,6 +42,7 @@ pub fn ledger_is_whole<P: Finish>()
     ensures order { LedgerIsInOrder P.ends }
     ensures complete { LedgerIsComplete P.ends }
     ensures whole { LedgerIsWhole P.ends }
+    ensures one_lease { OneLeaseIsWhole P.ends }
 {}
 
 /// A ledger that is whole for each stream is complete and ordered.

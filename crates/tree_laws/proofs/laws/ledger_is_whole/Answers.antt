@@ -1,4 +1,4 @@
-use Rattle.tree_laws.proofs.Ends.{called_complete, called_events, called_in_order, called_whole}
+use Rattle.tree_laws.proofs.Ends.{called_complete, called_events, called_in_order, called_whole, one_lease_whole}
 use Rattle.tree_laws.proofs.laws.ledger_is_whole.Goals as goal
 
 pub returns : goal.returns
@@ -7,4 +7,5 @@ returns g c = record {
   order = λ a b Cs u L start calls end covered. called_in_order u L start calls end covered;
   complete = λ a b Cs u L start calls end done. called_complete u L start calls end done;
   whole = λ a b Cs u L start calls end done covered. called_whole u L start calls end done covered;
+  one_lease = λ a b d e f h s j T u L start first may lease then may' cancel last end done. one_lease_whole u L start first may lease then may' cancel last end done;
 }
