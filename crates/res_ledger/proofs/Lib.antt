@@ -10,6 +10,10 @@ pub mod Prefixes
 pub mod Leases
 pub mod Judged
 pub mod Stamps
+pub mod Words
+pub mod Spelled
+pub mod Lines
+pub mod Readings
 pub mod Forward
 pub mod Standings
 pub mod Closing

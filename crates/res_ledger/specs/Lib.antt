@@ -1,5 +1,6 @@
 pub mod Ledger
 pub mod Texts
+pub mod Reading
 pub mod Streams
 pub mod Own
 pub mod Order

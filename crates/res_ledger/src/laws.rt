@@ -2,6 +2,7 @@
 ghost use Rattle.res_ledger.specs.Closing.{ClosedHasCoveringClose, CoveringCloseIsOne, FinalsFollowCoveringClose};
 ghost use Rattle.res_ledger.specs.Judge.{ClosedTestIsExact, CompleteTestIsExact, CoveredByIsExact, CoveredIsExact, LeasedRowsAreExact, LegalTestIsExact};
 ghost use Rattle.res_ledger.specs.Order.{OrderTestIsExact};
+ghost use Rattle.res_ledger.specs.Reading.{RefusalIsOne, TextIsNotRefused, TextIsOne};
 ghost use Rattle.res_ledger.specs.Standing.{StandingGoesForward, StandingIsExact, StandingIsOne, StandingNeverGoesBack};
 
 /// A row's standing, event by event.
@@ -33,4 +34,12 @@ pub fn tests_are_exact()
     ensures ordered { OrderTestIsExact }
     ensures legal { LegalTestIsExact }
     ensures complete { CompleteTestIsExact }
+{}
+
+/// What `read` answers: two ledgers have two texts, the text of a ledger is refused for want of
+/// memory alone, and a text that is refused for another cause is refused for one.
+pub fn reading_is_one()
+    ensures ledger { TextIsOne }
+    ensures text { TextIsNotRefused }
+    ensures refusal { RefusalIsOne }
 {}

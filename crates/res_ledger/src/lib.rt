@@ -4,8 +4,11 @@
 pub mod event;
 pub mod laws;
 pub mod ledger;
+mod reading;
+mod spelling;
 mod texts;
 
 pub use event::{Event, StreamNo, What};
 pub use ledger::Ledger;
+pub use reading::{LedgerRefused, read};
 pub use texts::text;
