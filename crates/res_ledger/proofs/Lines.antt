@@ -1,5 +1,5 @@
 -- The lines of a text.
-use Rattle.std.proofs.Common.{◌≡◌, ◌≢◌, ℕ, suc, ◌+◌, ◌<◌, ◌^◌, List, [], ◌∷◌, ◌++◌, All, length, map, codes, decimal, nat_eq, refl, sym, ap, ◌∙◌, subst, arith, append_assoc, add-one, ⊎_elim}
+use Rattle.std.proofs.Common.{◌≡◌, ◌≢◌, ℕ, ◌+◌, ◌<◌, ◌^◌, List, [], ◌∷◌, ◌++◌, All, length, map, codes, decimal, refl, sym, ap, ◌∙◌, append_assoc, add-one, ⊎_elim}
 use Rattle.std.specs.List.{flat_map, onto_first}
 use Rattle.std.proofs.lemmas.Bool.{ne_eqb}
 use Rattle.std.proofs.lemmas.Bool.Decides.{eqb_tells}
@@ -8,8 +8,7 @@ use Rattle.std.proofs.lemmas.List.Elements.{All-head, All-tail}
 use Rattle.chunk_core.specs.Lists.{Each}
 use Rattle.res_ledger.specs.declared.event.Event.{Event}
 use Rattle.res_ledger.specs.Texts.{event_line, ledger_text}
-use Rattle.res_ledger.specs.Ledger.{IsStamped}
-use Rattle.res_ledger.specs.Reading.{IsSmallEvent, IsEventLine, IsFirstBadLine, IsSpelled, AreSpelled, IsLedger, cut_of, lines_of, head_line}
+use Rattle.res_ledger.specs.Reading.{IsSmallEvent, IsEventLine, IsFirstBadLine, IsSpelled, cut_of, lines_of, head_line}
 use Rattle.res_ledger.proofs.Spelled.{body, body_lacks, head_lacks}
 
 -- a text is cut at its first LF

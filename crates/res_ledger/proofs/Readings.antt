@@ -1,7 +1,6 @@
 -- A text is a ledger's in one way, or is refused in one way.
-use Rattle.std.proofs.Common.{◌≡◌, ◌≢◌, ℕ, suc, ◌+◌, ◌<◌, ◌≤◌, ◌^◌, Bool, true, false, List, [], ◌∷◌, ◌++◌, ◌⊎◌, All, length, get_or, map, codes, decimal, if◌then◌else◌, inl, inr, refl, sym, ap, ◌∙◌, subst, ⊎_elim, arith, append_assoc, lit<, zero-add}
+use Rattle.std.proofs.Common.{◌≡◌, ℕ, ◌+◌, ◌<◌, ◌≤◌, ◌^◌, Bool, true, false, List, [], ◌∷◌, ◌++◌, length, get_or, map, codes, decimal, if◌then◌else◌, refl, sym, ap, ◌∙◌, subst, ⊎_elim, arith, append_assoc, zero-add}
 use Rattle.std.specs.List.{flat_map}
-use Rattle.std.specs.Int.{IsInRange}
 use Rattle.std.proofs.lemmas.Fmt.{decimal_injective, decimal_nonempty}
 use Rattle.std.proofs.lemmas.List.{append-nil, length-append, append_cancel_left, append_cancel_right, length-map}
 use Rattle.chunk_core.specs.Lists.{Each}
@@ -10,13 +9,11 @@ use Rattle.res_ledger.specs.declared.event.StreamNo.TheVariants.{Outer, Inner}
 use Rattle.res_ledger.specs.declared.event.What.{What}
 use Rattle.res_ledger.specs.declared.event.What.TheVariants.{Open, Acquire, Lease, Cancel, Close, Final}
 use Rattle.res_ledger.specs.declared.event.Event.{Event}
-use Rattle.res_ledger.specs.declared.reading.LedgerRefused.{LedgerRefused}
 use Rattle.res_ledger.specs.declared.reading.LedgerRefused.TheVariants.{Memory, BadLine, BadCount}
 use Rattle.res_ledger.specs.Texts.{event_line, ledger_text, name_text, what_text}
-use Rattle.res_ledger.specs.Ledger.{IsStamped}
-use Rattle.res_ledger.specs.Reading.{IsSmallStream, IsSmallWhat, IsSmallEvent, IsEventLine, IsFirstBadLine, IsSpelled, IsRefusal, AreSpelled, IsLedger, RefusalIsOne, TextIsNotRefused, TextIsOne, lines_of, head_line}
+use Rattle.res_ledger.specs.Reading.{IsSmallStream, IsSmallWhat, IsSmallEvent, IsEventLine, IsFirstBadLine, IsSpelled, AreSpelled, IsLedger, RefusalIsOne, TextIsNotRefused, TextIsOne, lines_of, head_line}
 use Rattle.res_ledger.proofs.Prefixes.{split_append}
-use Rattle.res_ledger.proofs.Words.{number_lacks, cut_once, other, differ}
+use Rattle.res_ledger.proofs.Words.{number_lacks, cut_once, other}
 use Rattle.res_ledger.proofs.Spelled.{verb, args, what_is, number_has_no_space, name_has_no_space}
 use Rattle.res_ledger.proofs.Lines.{each_left, event_lines, lines_are}
 

@@ -1,5 +1,5 @@
 -- What a text spells, by its parts.
-use Rattle.std.proofs.Common.{◌≡◌, ◌≢◌, ℕ, ◌<◌, ◌^◌, ◌⊎◌, ◌+◌, Bool, true, false, cond, nat_eq, Some, length, take, drop, List, [], ◌∷◌, ◌++◌, All, codes, decimal, if◌then◌else◌, inl, inr, refl, sym, ap, ◌∙◌, subst, ⊎_elim, arith, append_assoc, lit<, lit≤}
+use Rattle.std.proofs.Common.{◌≡◌, ◌≢◌, ℕ, ◌<◌, ◌^◌, ◌+◌, Bool, true, false, nat_eq, Some, length, take, drop, List, [], ◌∷◌, ◌++◌, All, codes, decimal, if◌then◌else◌, refl, sym, ap, ◌∙◌, arith, append_assoc}
 use Rattle.std.specs.Int.{IsInRange}
 use Rattle.std.specs.Str.{bytes_eq}
 use Rattle.std.specs.Borrow.{Bor}
@@ -16,7 +16,7 @@ use Rattle.res_ledger.specs.declared.event.What.TheVariants.{Open, Acquire, Leas
 use Rattle.res_ledger.specs.declared.event.Event.{Event}
 use Rattle.res_ledger.specs.Texts.{name_text, what_text}
 use Rattle.res_ledger.specs.Reading.{IsSmallStream, IsSmallWhat, IsSmallEvent}
-use Rattle.res_ledger.proofs.Words.{number_lacks, cut_once, lacks_all, other, differ}
+use Rattle.res_ledger.proofs.Words.{number_lacks, cut_once, lacks_all, other}
 
 -- a spelling of the x with P, without the byte c
 module _ {A : Type 0} (c : ℕ) (P : A → Type 0) (spelling : A → List ℕ) (clear : (x : A) → P x → All (λ b. b ≢ c) (spelling x)) where

@@ -1,7 +1,6 @@
 -- Numbers and words in a text.
-use Rattle.std.proofs.Common.{◌≡◌, ◌≢◌, ℕ, ◌+◌, ◌<◌, ◌≤◌, ◌^◌, ◌⊎◌, Bool, true, false, cond, nat_eq, Result, Ok, Err, MatchResult, List, [], ◌∷◌, ◌++◌, All, length, get_or, codes, decimal, inl, inr, refl, sym, ap, ◌∙◌, subst, ⊎_elim, arith, append_assoc, lit<}
+use Rattle.std.proofs.Common.{◌≡◌, ◌≢◌, ℕ, ◌<◌, ◌≤◌, ◌^◌, Bool, true, false, cond, nat_eq, Result, Ok, Err, List, [], ◌∷◌, ◌++◌, All, length, get_or, decimal, refl, sym, ap, ◌∙◌, ⊎_elim, arith, lit<}
 use Rattle.std.specs.Str.Parse.{AllDigits, digits_value, ParsesUnsigned}
-use Rattle.std.specs.Str.{bytes_eq}
 use Rattle.std.proofs.lemmas.Bool.{false≢true, cases_eq, eq-eqb, ne_eqb}
 use Rattle.std.proofs.lemmas.Str.Parse.{IsNumeralModel, numerals_by_value, tells_digits, digit_at, not_in_digits, parse_plain}
 use Rattle.std.proofs.lemmas.Fmt.{decimal_digit, decimal_nonempty, first_decimal, digits_decimal, decimal-digits_value, decimal_injective, parse-decimal}

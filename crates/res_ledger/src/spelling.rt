@@ -46,7 +46,8 @@ fn number_in_front(text: &[u8]) -> Option<(u32, &[u8])>
 }
 
 fn two_numbers(text: &[u8]) -> Option<(u32, u32)>
-    ensures { IsReadAs (λ p. (p.0 < 2 ^ 32) × (p.1 < 2 ^ 32)) (λ p. decimal p.0 ++ codes " " ++ decimal p.1) text.now result }
+    ensures { IsReadAs (λ p. (p.0 < 2 ^ 32) × (p.1 < 2 ^ 32))
+        (λ p. decimal p.0 ++ codes " " ++ decimal p.1) text.now result }
 {
     let (first, rest) = number_in_front(text)?;
     Some((first, short_number(rest)?))
@@ -54,7 +55,8 @@ fn two_numbers(text: &[u8]) -> Option<(u32, u32)>
 
 /// A row, and whether its finalizer succeeded.
 fn row_end(text: &[u8]) -> Option<(u32, bool)>
-    ensures { IsReadAs (λ p. p.0 < 2 ^ 32) (λ p. decimal p.0 ++ codes " " ++ (if p.1 then codes "ok" else codes "fault")) text.now result }
+    ensures { IsReadAs (λ p. p.0 < 2 ^ 32)
+        (λ p. decimal p.0 ++ codes " " ++ (if p.1 then codes "ok" else codes "fault")) text.now result }
 {
     let (row, word) = number_in_front(text)?;
     if word == b"ok".as_slice() {
@@ -104,7 +106,8 @@ fn what(text: &[u8]) -> Option<What>
 
 /// The event with this stamp whose line, without its end, the text is.
 pub fn event(stamp: u64, text: &[u8]) -> Option<Event>
-    ensures { IsReadAs (λ e. IsSmallEvent e × (e.stamp ≡ stamp)) (λ e. name_text e.by ++ codes " " ++ what_text e.what) text.now result }
+    ensures { IsReadAs (λ e. IsSmallEvent e × (e.stamp ≡ stamp))
+        (λ e. name_text e.by ++ codes " " ++ what_text e.what) text.now result }
 {
     let (by, rest) = stream_in_front(text)?;
     let what = what(rest)?;

@@ -1,4 +1,4 @@
-use Rattle.std.proofs.Common.{◌≡◌, ◌<◌, ◌^◌, ◌∷◌, ◌++◌, [], codes, decimal, sym, ap, ◌∙◌, subst, append_assoc}
+use Rattle.std.proofs.Common.{◌<◌, ◌^◌, ◌∷◌, ◌++◌, [], codes, decimal, sym, ap, ◌∙◌, subst, append_assoc}
 use Rattle.std.proofs.lemmas.List.{append_cancel_left}
 use Rattle.res_ledger.specs.Reading.{IsReadInFront, head_line}
 use Rattle.res_ledger.proofs.Words.{lacks_none}

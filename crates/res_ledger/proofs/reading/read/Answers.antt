@@ -1,8 +1,7 @@
-use Rattle.std.proofs.Common.{◌≡◌, ◌≢◌, ℕ, ◌==◌, true, false, List, ◌++◌, ◌∷◌, [], length, if◌then◌else◌, is_ok, sym, ap, ◌∙◌, arith}
+use Rattle.std.proofs.Common.{◌≡◌, ◌++◌, ◌∷◌, [], length, sym, ap, ◌∙◌, arith}
 use Rattle.std.proofs.lemmas.List.{nil_from_length}
 use Rattle.std.proofs.lemmas.Bool.{eqb-true, eqb-false}
-use Rattle.res_ledger.specs.declared.event.Event.{Event}
-use Rattle.res_ledger.specs.Reading.{IsFirstBadLine, IsSpelled, IsSmallEvent}
+use Rattle.res_ledger.specs.Reading.{IsSmallEvent}
 use Rattle.res_ledger.proofs.Growth.{stamped_snoc}
 use Rattle.res_ledger.proofs.Lines.{bad_head, bad_line, spelled, read_on, each_snoc}
 use Rattle.res_ledger.proofs.reading.read.Goals as goal

@@ -1,5 +1,4 @@
-use Rattle.std.proofs.Common.{◌≡◌, ◌<◌, ◌^◌, ℕ, List, Result, Ok, Err, decimal, sym, subst, ◌∙◌, arith}
-use Rattle.std.specs.Result.{OkIff, result_ok}
+use Rattle.std.proofs.Common.{◌<◌, ◌^◌, decimal, sym, subst}
 use Rattle.res_ledger.specs.Reading.{IsReadAs}
 use Rattle.res_ledger.proofs.Words.{narrowed}
 use Rattle.res_ledger.proofs.spelling.short_number.Goals as goal

@@ -1,4 +1,4 @@
-use Rattle.std.proofs.Common.{rules, ◌≡◌, ◌≢◌, ◌<◌, ◌≤◌, ◌^◌, ◌∷◌, ◌++◌, decimal, Some, ℕ, length, get_or, List, sym, ap, subst, arith, ◌∙◌, codes}
+use Rattle.std.proofs.Common.{◌<◌, ◌^◌, ◌++◌, decimal, sym, subst, codes}
 use Rattle.res_ledger.specs.Reading.{IsReadAs}
 use Rattle.res_ledger.proofs.Spelled.{back_none, number_has_no_space}
 use Rattle.res_ledger.proofs.spelling.two_numbers.Goals as goal

@@ -1,4 +1,4 @@
-use Rattle.std.proofs.Common.{◌≡◌, codes, sym, subst}
+use Rattle.std.proofs.Common.{codes, sym, subst}
 use Rattle.res_ledger.specs.Texts.{what_text}
 use Rattle.res_ledger.specs.Reading.{IsReadAs, IsSmallWhat}
 use Rattle.res_ledger.proofs.Spelled.{stripped, no_open, no_acquire, no_lease, no_final}
