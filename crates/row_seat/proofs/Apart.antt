@@ -1,10 +1,11 @@
 -- What the rule tells of a main seat and one of its seats that are out.
-use Rattle.std.proofs.Common.{◌≡◌, ◌≢◌, ℕ, ◌≤◌, ◌⊎◌, true, false, map, List, refl, sym, ap, ◌∙◌, subst, ⊎_elim, arith}
+use Rattle.std.proofs.Common.{◌≡◌, ◌≢◌, ℕ, true, false, map, List, sym, ap, ◌∙◌, subst, ⊎_elim, arith}
 use Rattle.std.specs.Prelude.{Option}
 use Rattle.chunk_core.specs.Lists.{IsAmong}
 use Rattle.chunk_core.proofs.Places.{at_map}
 use Rattle.res_ledger.specs.declared.event.Event.{Event}
 use Rattle.res_ledger.specs.declared.event.StreamNo.TheVariants.{Inner}
+use Rattle.res_ledger.proofs.Ledgers.{by_in, by_out}
 use Rattle.row_seat.specs.declared.token.Token.{Token}
 use Rattle.row_seat.specs.Rule.{RuleHolds, Work, book, deed, seen, who, work}
 use Rattle.row_seat.specs.Totals.{IsAt, row_times, times}
@@ -14,7 +15,7 @@ use Rattle.row_seat.proofs.Splits.{true_or}
 use Rattle.row_seat.proofs.Times.{row_some, times_some}
 use Rattle.row_seat.proofs.Totals.{one_at, total_at}
 
-module _ {P : Type 0} (rows room : ℕ) (word : ℕ → ℕ) (slot : ℕ → Option P) (log : List Event) (views : List (Token P)) (rule : RuleHolds rows room word slot log views) (id : ℕ) (v : Token P) (at : IsAt views id v) (main : v.main ≡ true) (jd : ℕ) (w : Token P) (at' : IsAt views jd w) (n : ℕ) (by : w.by ≡ Inner n) (out : IsAmong n v.out) where
+module _ {P : Type 0} (rows room : ℕ) (word : ℕ → ℕ) (slot : ℕ → Option P) (log : List Event) (views : List (Token P)) (rule : RuleHolds rows room word slot log views) (id : ℕ) (v : Token P) (at : IsAt views id v) (main : v.main ≡ true) (jd : ℕ) (w : Token P) (at' : IsAt views jd w) (live' : w.live ≡ true) (n : ℕ) (by : w.by ≡ Inner n) (out : IsAmong n v.out) where
   foreign : v.by ≢ Inner n
   foreign = let aw = at_map who views id v at in rule.seats.apart id n (who v) aw main (rule.seats.had id n (who v) aw main out)
 
@@ -28,6 +29,8 @@ module _ {P : Type 0} (rows room : ℕ) (word : ℕ → ℕ) (slot : ℕ → Opt
   seats_apart mine theirs =
       let bv = at_map book views id v at in let bw = at_map book views jd w at' in record {
         events = λ e m b. foreign (sym b ∙ (rule.books.pure jd (book w) e bw side m ∙ by));
+        own = λ e m. rule.books.pure jd (book w) e bw side m;
+        mine = λ e m b. (by_in w.by w.events e (subst (λ l. IsAmong e l) (sym (rule.books.own jd (book w) bw live')) (by_out w.by log e (rule.books.inside id (book v) e bv m) b))).0;
         kept = λ r m a. (a.0, a.1, rule.deeds.fresh id r a.1 a.0 (deed v) (at_map deed views id v at) m (a.2.0, rule.books.inside jd (book w) a.2.0 bw a.2.1, a.2.2, a.2.3));
         taken = λ r m a. (a.0, a.1, rule.deeds.fresh jd r a.1 a.0 (deed w) (at_map deed views jd w at') m (a.2.0, rule.books.inside id (book v) a.2.0 bv a.2.1, a.2.2, a.2.3));
         vacant = λ r m.

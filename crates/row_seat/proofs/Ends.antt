@@ -2,8 +2,8 @@
 use Rattle.std.proofs.Common.{◌≡◌, ◌≢◌, ℕ, ◌≤◌, ◌⊎◌, ◌↔◌, true, map, List, [], inl, inr, sym, ap, ◌∙◌, subst, ⊎_elim, arith}
 use Rattle.std.specs.Prelude.{Option}
 use Rattle.row_seat.specs.Totals.{IsAt, row_times, times}
-use Rattle.row_seat.specs.Rule.{Book, GivenIn, LeftIn, Purse, RuleHolds, Stands, Who, Work, book, deed, hold, purse, who, work}
-use Rattle.res_ledger.specs.Ledger.{Covers, IsAcquired, IsFinalized, Notes}
+use Rattle.row_seat.specs.Rule.{Book, GivenIn, Hold, LeftIn, Purse, RuleHolds, Stands, Who, Work, book, deed, hold, purse, who, work}
+use Rattle.res_ledger.specs.Ledger.{Covers, IsAcquired, IsCanceled, IsFinalized, IsLeased, Notes}
 use Rattle.res_ledger.specs.declared.event.Event.{Event}
 use Rattle.chunk_core.specs.Lists.{IsAmong}
 use Rattle.res_ledger.specs.declared.event.What.TheVariants.{Lease}
@@ -93,6 +93,14 @@ module _ {P : Type 0} (rows room : ℕ) (word : ℕ → ℕ) (slot : ℕ → Opt
           ⊎_elim (λ s. subst (λ (z : Token P). IsAmong e z.events) s m') (λ s. absurd (among_nil (subst (λ z. IsAmong e z) s.7 m'))) (alone t.0 y.0 y.1)),
       (λ m. rule.books.inside id (book v) e (at_book rows room word slot log views rule id v at live) m),
     )
+
+    -- each Lease has its Cancel, where the seat keeps none
+    pub all_canceled : v.kept ≡ [] → (j : ℕ) → IsLeased log j → IsCanceled log j
+    all_canceled no_kept j l = ⊎_elim
+        (λ c. c)
+        (λ k. let y = map_back hold views k.0 k.1 k.2 in let m : IsAmong j y.0.kept = subst (λ (z : Hold). IsAmong j z.kept) (sym y.2) k.3 in
+        let none : y.0.kept ≡ [] = ⊎_elim (λ s. ap (λ (z : Token P). z.kept) s ∙ no_kept) (λ s. s.3) (alone k.0 y.0 y.1) in absurd (among_nil (subst (λ z. IsAmong j z) none m)))
+        (rule.leases.keeper j l)
 
     module _ (no_open : v.opened ≡ []) (no_pair : v.pairs ≡ []) (no_hand : v.handed ≡ []) (unused : (r : ℕ) → IsAmong r v.empty → ¬ (IsAcquired v.events r)) where
       none_in : (f : Token P → List ℕ) (r : ℕ) (i : ℕ) (u : Token P) → IsAt views i u → (u ≡ v → f u ≡ []) → (((u.empty ≡ []) × (u.opened ≡ []) × (u.pairs ≡ []) × (u.kept ≡ []) × (u.handed ≡ []) × (u.given ≡ []) × (u.left ≡ []) × (u.events ≡ [])) → f u ≡ []) → 1 ≤ times r (f u) → ⊥

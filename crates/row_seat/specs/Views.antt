@@ -1,7 +1,7 @@
 -- What the calls of a seat ask of its view, and what they leave.
 use Rattle.std.specs.Prelude.{◌≡◌, ◌≢◌, ℕ, zero, suc, ◌+◌, ◌-◌, ◌^◌, ◌<◌, ◌≤◌, ◌⊎◌, ◌↔◌, Bool, true, false, not, eqb, leb, ltb, cond, List, [], ◌∷◌, ◌++◌, filter}
 use Rattle.res_ledger.specs.declared.event.What.TheVariants.{Acquire, Cancel, Close, Final, Lease, Open}
-use Rattle.res_ledger.specs.Ledger.{Covers, IsAcquired, IsClosed, IsCoveredBy, IsFinalized, IsLeased, IsLegal, IsOpened, IsStamped, IsUsable, Notes}
+use Rattle.res_ledger.specs.Ledger.{Covers, IsAcquired, IsCanceled, IsClosed, IsCoveredBy, IsFinalized, IsLeased, IsLegal, IsOpened, IsStamped, IsUsable, Notes}
 use Rattle.res_ledger.specs.declared.event.Event.{Event}
 use Rattle.res_ledger.specs.declared.event.StreamNo.TheVariants.{Inner, Outer}
 use Rattle.chunk_core.specs.Lists.{IsAmong}
@@ -198,9 +198,11 @@ module _ {P : Type 0} where
   abbrev pub joined : View P → View P → View P
   joined v w = record v { empty = v.empty ++ w.empty; given = v.given ++ w.given; left = v.left ++ w.left; events = v.events ++ w.events; spare = v.spare + w.spare; out = without (name_of w.by) v.out }
 
-  -- what the rule of rows tells of a main seat and another one of its maker: no event of the other is in the main one's name; the Acquire of an empty row stands with the seat that has the right to the row; and no lease stands on it and it has no Final
+  -- what the rule of rows tells of a main seat and another one of its maker: all events of the other are in its own name, which is not the main one's, and it has each that the main one has in that name; the Acquire of an empty row stands with the seat that has the right to the row; and no lease stands on it and it has no Final
   pub record AreApart (v w : View P) : Type 0 where
     pub events : (e : Event) → IsAmong e w.events → e.by ≢ v.by
+    pub own : (e : Event) → IsAmong e w.events → e.by ≡ w.by
+    pub mine : (e : Event) → IsAmong e v.events → e.by ≡ w.by → IsAmong e w.events
     pub kept : (r : ℕ) → IsAmong r v.empty → IsAcquired w.events r → IsAcquired v.events r
     pub taken : (r : ℕ) → IsAmong r w.empty → IsAcquired v.events r → IsAcquired w.events r
     pub vacant : (r : ℕ) → IsAmong r w.empty → ¬ (IsFinalized v.events r) × ((j : ℕ) → ¬ (IsAmong (j, r) v.pairs))
@@ -209,10 +211,11 @@ module _ {P : Type 0} where
   abbrev pub CanFinish : View P → Type 0
   CanFinish v = (v.main ≡ true) × AtRest v × (v.out ≡ [])
 
-  -- the same events, in the order of their stamps, and a IsLegal list. Each row with a Final was handed with what its owner left
+  -- the same events, in the order of their stamps, and a IsLegal list. Each acquired row has its Final and each Lease its Cancel. Each row with a Final was handed with what its owner left
   pub record IsLedgerOf (v : View P) (L : List Event) : Type 0 where
     pub stamped : IsStamped L
     pub whole : (e : Event) → IsAmong e L ↔ IsAmong e v.events
     pub legal : IsLegal L
     pub ended : (r : ℕ) → IsAcquired L r → IsFinalized L r
+    pub canceled : (j : ℕ) → IsLeased L j → IsCanceled L j
     pub payloads : (r : ℕ) → IsFinalized L r → (p : P) × IsAmong (r, p) v.left × IsAmong (r, p) v.given × ((q : P) → IsAmong (r, q) v.left → q ≡ p) × ((q : P) → IsAmong (r, q) v.given → q ≡ p)

@@ -1,4 +1,4 @@
-use Rattle.std.proofs.Common.{◌≡◌, ◌≢◌, ℕ, eqb, filter, List, [], ◌∷◌, ◌++◌, refl, sym, ap, ◌∙◌, ⊎_elim}
+use Rattle.std.proofs.Common.{◌≢◌, ℕ, eqb, filter, List, refl, sym, ap, ◌∙◌, ⊎_elim}
 use Rattle.res_ledger.specs.declared.event.Event.{Event}
 use Rattle.res_ledger.specs.declared.event.What.TheVariants.{Acquire, Close}
 use Rattle.chunk_core.proofs.Members.{among_last, among_cons, among_nil}

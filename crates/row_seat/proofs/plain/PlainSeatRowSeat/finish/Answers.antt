@@ -1,6 +1,6 @@
 use Rattle.std.proofs.Common.{◌≡◌, ℕ, sym, ap, ◌∙◌, []}
 use Rattle.std.specs.Prelude.{slice_index, slice_index_or, length, None}
-use Rattle.row_seat.proofs.Ends.{all_events, all_final, all_payloads}
+use Rattle.row_seat.proofs.Ends.{all_canceled, all_events, all_final, all_payloads}
 use Rattle.row_seat.specs.PlainSeats.{rows_of}
 use Rattle.row_seat.proofs.plain.PlainSeatRowSeat.finish.Goals as goal
 
@@ -13,5 +13,6 @@ returns g c = let s = c.args.self in let d = c.args.desk.now in let h = c.requir
       legal = h.table.rule.books.legal;
       whole = all_events n h.table.room words slots d.events.items d.views.inner.ask h.table.rule s.id.inner.ask v h.mine h.live can.0 can.2;
       ended = all_final n h.table.room words slots d.events.items d.views.inner.ask h.table.rule s.id.inner.ask v h.mine h.live can.0 can.2 none can.1.2 can.1.4 can.1.1;
+      canceled = all_canceled n h.table.room words slots d.events.items d.views.inner.ask h.table.rule s.id.inner.ask v h.mine h.live can.0 can.2 can.1.3;
       payloads = all_payloads n h.table.room words slots d.events.items d.views.inner.ask h.table.rule s.id.inner.ask v h.mine h.live can.0 can.2;
     })

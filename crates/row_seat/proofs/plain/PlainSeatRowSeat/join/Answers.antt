@@ -20,4 +20,4 @@ returns-clause-others g c = let s = c.args.self.now in let o = c.args.other in l
 
 pub returns-clause-apart : goal.returns-clause-apart
 returns-clause-apart g c = let s = c.args.self.now in let o = c.args.other in let d = c.args.desk.now in let f = c.requires.fits in let can = c.requires.can in
-    seats_apart (length d.slots.items) f.0.table.room (λ r. slice_index d.words.items r) (λ r. slice_index_or d.slots.items r None) d.events.items d.views.inner.ask f.0.table.rule s.id.inner.ask s.token.inner.ask f.0.mine can.0 o.id.inner.ask o.token.inner.ask f.1.mine can.1.0 can.1.1 can.1.2 s.hands.items o.hands.items
+    seats_apart (length d.slots.items) f.0.table.room (λ r. slice_index d.words.items r) (λ r. slice_index_or d.slots.items r None) d.events.items d.views.inner.ask f.0.table.rule s.id.inner.ask s.token.inner.ask f.0.mine can.0 o.id.inner.ask o.token.inner.ask f.1.mine f.1.live can.1.0 can.1.1 can.1.2 s.hands.items o.hands.items
