@@ -9,7 +9,7 @@ ghost use Rattle.res_ledger.proofs.Orders.{Rises};
 ghost use Rattle.res_ledger.specs.Streams.{by_stream};
 ghost use Rattle.res_ledger.specs.declared.event.StreamNo.TheVariants.{Inner};
 ghost use Rattle.res_ledger.specs.declared.event.What.TheVariants.{Cancel};
-ghost use Rattle.row_seat.specs.Views.{CanJoin, CanSplit, HasRow, MayNote, OthersFit, joined, split_main, split_off};
+ghost use Rattle.row_seat.specs.Views.{AreApart, CanJoin, CanSplit, HasRow, MayNote, OthersFit, joined, split_main, split_off};
 ghost use Rattle.scope_tree.specs.Rows.{lifo, strangers};
 ghost use Rattle.scope_tree.specs.Torn.{said};
 ghost use Rattle.scope_tree.specs.Leaving.{away};
@@ -250,6 +250,7 @@ where
         requires fits { Fits S.view S.fits self.old desk.old × S.fits other desk.old }
         requires can { CanJoin (S.view self.old.seat) (S.view other) }
         ensures seen { seen S.view self.new ≡ record (seen S.view self.old) { seat = joined (S.view self.old.seat) (S.view other) } }
+        ensures apart { AreApart (S.view self.old.seat) (S.view other) }
         ensures fits { Fits S.view S.fits self.new desk.new }
         ensures others { (o : S) → (S.view o).by ≢ (S.view self.old.seat).by → (S.view o).by ≢ (S.view other).by → S.fits o desk.old → S.fits o desk.new }
     {
