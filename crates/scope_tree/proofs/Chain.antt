@@ -51,12 +51,18 @@ module _ {P : Type 0} where
   pub root_closed : {ends : P → Bool → P → Type 0} {a b : Seen P} → words a.seat ≡ Three → Closes ends a 0 b → IsClosed b.seat.events b.seat.by 0
   root_closed {b = b} w c = (0, same 0, in_noted b.seat.by (Close 0) b.seat.events (subst (λ E. IsAmong (Close 0) E) (sym (close_four w c)) (among_mid Three (finals (said c.torn.0)) (Close 0))))
 
-  -- two rows that ended are two things on the shelf
-  pub two_of : (xs : List (Spent P)) → firsts (said xs) ≡ 1 ∷ 0 ∷ [] → (x y : Spent P) × (xs ≡ x ∷ y ∷ []) × (x.row ≡ 1) × (y.row ≡ 0)
-  two_of [] e = absurd (let f : [] ≡ 1 ∷ 0 ∷ [] = e in cc)
-  two_of (x ∷ []) e = absurd (let f : x.row ∷ [] ≡ 1 ∷ 0 ∷ [] = e in cc)
-  two_of (x ∷ y ∷ []) e = (x, y, refl, let f : x.row ∷ y.row ∷ [] ≡ 1 ∷ 0 ∷ [] = e in cc, let f : x.row ∷ y.row ∷ [] ≡ 1 ∷ 0 ∷ [] = e in cc)
-  two_of (x ∷ y ∷ z ∷ xs) e = absurd (let f : x.row ∷ y.row ∷ z.row ∷ firsts (said xs) ≡ 1 ∷ 0 ∷ [] = e in cc)
+  -- a row that ended is one thing on the shelf
+  pub one_of : (xs : List (Spent P)) (i : ℕ) → firsts (said xs) ≡ i ∷ [] → (x : Spent P) × (xs ≡ x ∷ []) × (x.row ≡ i)
+  one_of [] i e = absurd (let f : [] ≡ i ∷ [] = e in cc)
+  one_of (x ∷ []) i e = (x, refl, let f : x.row ∷ [] ≡ i ∷ [] = e in cc)
+  one_of (x ∷ y ∷ xs) i e = absurd (let f : x.row ∷ y.row ∷ firsts (said xs) ≡ i ∷ [] = e in cc)
+
+  -- and two are two
+  pub two_of : (xs : List (Spent P)) (i j : ℕ) → firsts (said xs) ≡ i ∷ j ∷ [] → (x y : Spent P) × (xs ≡ x ∷ y ∷ []) × (x.row ≡ i) × (y.row ≡ j)
+  two_of [] i j e = absurd (let f : [] ≡ i ∷ j ∷ [] = e in cc)
+  two_of (x ∷ []) i j e = absurd (let f : x.row ∷ [] ≡ i ∷ j ∷ [] = e in cc)
+  two_of (x ∷ y ∷ []) i j e = (x, y, refl, let f : x.row ∷ y.row ∷ [] ≡ i ∷ j ∷ [] = e in cc, let f : x.row ∷ y.row ∷ [] ≡ i ∷ j ∷ [] = e in cc)
+  two_of (x ∷ y ∷ z ∷ xs) i j e = absurd (let f : x.row ∷ y.row ∷ z.row ∷ firsts (said xs) ≡ i ∷ j ∷ [] = e in cc)
 
   -- a row that may be placed still may, after another was
   pub still_empty : {a b d : Seen P} {c q r : ℕ} {p : P} → IsAmong q a.seat.empty → q ≢ r → Opens a 0 c b → Acquires b 0 r p d → IsAmong q d.seat.empty

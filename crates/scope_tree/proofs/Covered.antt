@@ -18,7 +18,7 @@ use Rattle.scope_tree.proofs.Bridge.{noted_in, in_noted, in_opens, opens_in, in_
 use Rattle.res_ledger.proofs.Noted.{in_has, has_in}
 use Rattle.scope_tree.specs.Walks.{Clear, Shaded, StandsAbove}
 use Rattle.scope_tree.proofs.Walking.{clear_open, shaded_closed, stands_within, within_stands}
-use Rattle.scope_tree.proofs.Keeps.{noted_parent, any_at, closed_sound, up_within, among_turned, noted_scope, not_true', shut_not, length-drop', at_drop}
+use Rattle.scope_tree.proofs.Beneath.{noted_parent, any_at, closed_sound, up_within, among_turned, noted_scope, not_true', shut_not, length-drop', at_drop}
 
 any_picked : (f : ℕ → Bool) (xs : List (ℕ × ℕ)) (r : ℕ) → IsAmong r (picked f xs) → (t : ℕ) × IsAmong (r, t) xs × (f t ≡ true)
 any_picked f [] r m = absurd (among_nil m)

@@ -2,7 +2,7 @@
 use Rattle.std.proofs.Common.{◌≡◌, ℕ, ◌+◌, ◌≤◌, suc, Bool, true, false, cond, not, filter, List, [], ◌∷◌, ◌++◌, map, length, refl, sym, ap, ◌∙◌, subst, ⊎_elim, arith}
 use Rattle.chunk_core.specs.Lists.{IsAmong}
 use Rattle.chunk_core.specs.Lists.IsAmong.{here, there}
-use Rattle.chunk_core.proofs.Members.{among_nil, among_cons, among_snoc}
+use Rattle.chunk_core.proofs.Members.{among_nil, among_cons, among_last, among_left, among_snoc}
 use Rattle.chunk_core.proofs.Filters.{among_filter}
 use Rattle.res_ledger.proofs.Noted.{has_in, in_has}
 use Rattle.res_ledger.proofs.Tests.{and_true, both}
@@ -32,6 +32,10 @@ test_distinct (x ∷ xs) h = let b = both (not (has x xs)) (are_distinct xs) h i
 pub among_lifo : (r : ℕ) (xs : List ℕ) → IsAmong r (lifo xs) → IsAmong r xs
 among_lifo r [] m = m
 among_lifo r (x ∷ xs) m = ⊎_elim (λ n. there x (among_lifo r xs n)) (λ e. subst (λ z. IsAmong r (z ∷ xs)) e (here xs)) (among_snoc (lifo xs) r x m)
+
+pub lifo_among : (r : ℕ) (xs : List ℕ) → IsAmong r xs → IsAmong r (lifo xs)
+lifo_among r [] m = m
+lifo_among r (x ∷ xs) m = ⊎_elim (λ e. subst (λ z. IsAmong z (lifo xs ++ x ∷ [])) (sym e) (among_last (lifo xs) x)) (λ n. among_left (x ∷ []) (lifo_among r xs n)) (among_cons m)
 
 pub distinct_lifo : (xs : List ℕ) → AreDistinct xs → AreDistinct (lifo xs)
 distinct_lifo [] d = tt

@@ -20,7 +20,8 @@ use Rattle.scope_tree.specs.Kept.{marks, held_pairs, held_rows, Kept}
 use Rattle.scope_tree.specs.Words.{words, owed, acquiring, opening, open_of, open_scopes, numbers}
 use Rattle.scope_tree.specs.Calls.{AtStart}
 use Rattle.std.proofs.lemmas.Bool.{cases_eq}
-use Rattle.scope_tree.proofs.Keeps.{noted_scope, closed_sound, usable_scope, open_less, not_true', within_opens, noted_last}
+use Rattle.scope_tree.proofs.Beneath.{noted_scope, closed_sound, usable_scope, not_true'}
+use Rattle.scope_tree.proofs.Keeps.{open_less, within_opens, noted_last}
 use Rattle.scope_tree.specs.Rows.{Once}
 use Rattle.scope_tree.proofs.Once.{once_push}
 use Rattle.res_ledger.specs.Ledger.{LiesWithin}

@@ -23,7 +23,8 @@ use Rattle.scope_tree.specs.Words.{leasing, numbers, open_of, open_scopes, owed,
 use Rattle.scope_tree.proofs.Bridge.{closes_append, noted_in, opens_append, own_snoc, rows_append, rows_in}
 use Rattle.scope_tree.proofs.Covered.{leased_is}
 use Rattle.scope_tree.proofs.Grows.{closed_same, pairs_snoc}
-use Rattle.scope_tree.proofs.Keeps.{noted_last, usable_scope, within_opens}
+use Rattle.scope_tree.proofs.Beneath.{usable_scope}
+use Rattle.scope_tree.proofs.Keeps.{noted_last, within_opens}
 use Rattle.scope_tree.proofs.Leasing.{among_pairs, pairs_among, take_next}
 use Rattle.scope_tree.proofs.Rooms.{open_taken}
 use Rattle.scope_tree.proofs.Shelf.{note_shelved}
@@ -104,8 +105,8 @@ module _ {P : Type 0} (v : View P) (bs : List Branch) (hs : List Held) (xs : Lis
     old : (x : What) → Lease j c ≢ x → Notes w.events v.by x → Notes v.events v.by x
     old x ne m = ⊎_elim (λ y. y) (λ y. absurd (ne y)) (noted_last v.events (leasing v j c n) v.by x m)
 
-    back : (t : ℕ) → IsClosed w.events v.by t → IsClosed v.events v.by t
-    back t y = (y.0, within_opens (λ a b m. old (Open a b) (lease_open j c a b) m) y.1, old (Close y.0) (lease_close j c y.0) y.2)
+    pub lease_back : (t : ℕ) → IsClosed w.events v.by t → IsClosed v.events v.by t
+    lease_back t y = (y.0, within_opens (λ a b m. old (Open a b) (lease_open j c a b) m) y.1, old (Close y.0) (lease_close j c y.0) y.2)
 
     more : (x : What) → Notes v.events v.by x → Notes w.events v.by x
     more x m = noted_more v.events (leasing v j c n) m
@@ -121,7 +122,7 @@ module _ {P : Type 0} (v : View P) (bs : List Branch) (hs : List Held) (xs : Lis
       distinct = k.distinct;
       live = λ r t m y. k.live r t m (λ z. y (closed_map v.events w.events v.by more t z));
       ranged = k.ranged;
-      only = λ r h. let y = k.only r h in (y.0, y.1, λ z. y.2 (back y.0 z));
+      only = λ r h. let y = k.only r h in (y.0, y.1, λ z. y.2 (lease_back y.0 z));
       once = k.once;
       handed = k.handed;
       taken = k.taken;

@@ -4,7 +4,13 @@ pub mod Shapes
 pub mod Parts
 pub mod Bridge
 pub mod Facts
+pub mod Beneath
 pub mod Keeps
+pub mod Untouched
+pub mod Outcomes
+pub mod Departures
+pub mod Waits
+pub mod Finished
 pub mod Grows
 pub mod Use
 pub mod Covered
@@ -21,4 +27,5 @@ pub mod Statuses
 pub mod Leased
 pub mod Chain
 pub mod Tidy
-pub mod Scripts
+pub mod ThreeRows
+pub mod Endings

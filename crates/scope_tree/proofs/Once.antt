@@ -1,9 +1,9 @@
 -- Lists of open rows, in which no row stands twice.
-use Rattle.std.proofs.Common.{◌≡◌, ℕ, cond, List, [], ◌∷◌, ◌++◌, ◌⊎◌, inl, inr, sym, ap, subst, ⊎_elim, ne_eqb, eq-eqb}
+use Rattle.std.proofs.Common.{◌≡◌, ℕ, cond, List, [], ◌∷◌, ◌++◌, ◌⊎◌, inl, inr, sym, ap, ◌∙◌, subst, ⊎_elim, ne_eqb, eq-eqb}
 use Rattle.std.proofs.lemmas.Bool.{cases_eq}
 use Rattle.chunk_core.specs.Lists.{IsAmong}
 use Rattle.chunk_core.specs.Lists.IsAmong.{here, there}
-use Rattle.chunk_core.proofs.Members.{among_snoc}
+use Rattle.chunk_core.proofs.Members.{among_cons, among_snoc}
 use Rattle.row_seat.specs.Views.{HasRow, without_row}
 use Rattle.row_seat.proofs.Hands.{has_cons, has_nil}
 use Rattle.scope_tree.specs.Rows.{Once}
@@ -39,3 +39,11 @@ module _ {P : Type 0} (r : ℕ) where
   pub once_push : (xs : List (ℕ × P)) (p : P) → Once xs → ¬ (HasRow xs r) → Once (xs ++ (r, p) ∷ [])
   once_push [] p o n = (has_nil r, tt)
   once_push (x ∷ xs) p o n = ((λ h. ⊎_elim o.0 (λ e. n (x.1, subst (λ t. IsAmong (t, x.1) (x ∷ xs)) (sym e) (here xs))) (has_push xs p x.0 h)), once_push xs p o.1 (λ h. n (h.0, there x h.1)))
+
+-- a row has one payload
+pub once_pay : {P : Type 0} (r : ℕ) (p q : P) (xs : List (ℕ × P)) → Once xs → IsAmong (r, p) xs → IsAmong (r, q) xs → p ≡ q
+once_pay r p q [] o a b = absurd (has_nil r (p, a))
+once_pay r p q (x ∷ xs) o a b = ⊎_elim
+    (λ e. ⊎_elim (λ f. ap (λ y. y.1) (e ∙ sym f)) (λ n. absurd (o.0 (q, subst (λ z. IsAmong (z, q) xs) (ap (λ y. y.0) e) n))) (among_cons b))
+    (λ m. ⊎_elim (λ f. absurd (o.0 (p, subst (λ z. IsAmong (z, p) xs) (ap (λ y. y.0) f) m))) (λ n. once_pay r p q xs o.1 m n) (among_cons b))
+    (among_cons a)

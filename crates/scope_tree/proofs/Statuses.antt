@@ -16,7 +16,7 @@ use Rattle.scope_tree.specs.Kept.{Kept, held_pairs, held_rows}
 use Rattle.scope_tree.specs.Leaving.{is_here}
 use Rattle.scope_tree.specs.Standings.{outcome_of, scope_by, standing, standing_by}
 use Rattle.scope_tree.specs.Words.{own_rows}
-use Rattle.scope_tree.proofs.Keeps.{not_true'}
+use Rattle.scope_tree.proofs.Beneath.{not_true'}
 use Rattle.scope_tree.proofs.Parts.{one_scope, row_of_pair}
 use Rattle.scope_tree.proofs.Quitting.{here_has}
 use Rattle.scope_tree.proofs.Rooms.{open_held, own_is}

@@ -104,7 +104,7 @@ same_both Outer (Inner j) = refl
 same_both (Inner i) Outer = refl
 same_both (Inner i) (Inner j) = refl
 
-own_by : (k : StreamNo) (L : List Event) → own k L ≡ map (λ (e : Event). e.what) (by_stream k L)
+pub own_by : (k : StreamNo) (L : List Event) → own k L ≡ map (λ (e : Event). e.what) (by_stream k L)
 own_by k [] = refl
 own_by k (e ∷ L) = ap (λ b. cond b (e.what ∷ own k L) (own k L)) (same_both e.by k) ∙ (elim (same_stream e.by k) as (λ b. cond b (e.what ∷ own k L) (own k L) ≡ map (λ (e : Event). e.what) (cond b (e ∷ by_stream k L) (by_stream k L))) [ true ↦ ap (λ l. e.what ∷ l) (own_by k L) | false ↦ own_by k L ])
 

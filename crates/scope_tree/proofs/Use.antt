@@ -72,6 +72,9 @@ module _ {P : Type 0} where
   pub closed_by : {ends : P → Bool → P → Type 0} {a b : Seen P} {s : ℕ} (c : Closes ends a s b) → b.seat.by ≡ a.seat.by
   closed_by c = torn_by c.torn.2
 
+  pub canceled_said : {ends : P → Bool → P → Type 0} {a b : Seen P} {j : ℕ} {T : List ℕ} (c : Cancels ends a j T b) → words b.seat ≡ words a.seat ++ Cancel j ∷ finals (said c.left.0)
+  canceled_said {a = a} {b = b} {j = j} c = ap (λ k. own k b.seat.events) (quits_by c.left.2) ∙ quits_words a.seat.by c.left.2 refl ∙ ap (λ l. l ++ finals (said c.left.0)) (own_snoc a.seat.by a.seat.events (canceling a.seat j c.stamp) refl) ∙ append_assoc (words a.seat) (Cancel j ∷ []) (finals (said c.left.0))
+
   -- each call keeps the order of the stream's own events
   module _ {may : ℕ → Type 0} {due : ℕ → List ℕ} where
     pub open_in_order : {a b : Seen P} {p c : ℕ} → Opens a p c b → IsInBlocks may due [] (words a.seat) → IsInBlocks may due [] (words b.seat)
@@ -85,9 +88,9 @@ module _ {P : Type 0} where
 
     -- where the rows of the lease, latest first, are those that are due
     pub cancel_in_order : {ends : P → Bool → P → Type 0} {a b : Seen P} {j : ℕ} {T : List ℕ} (c : Cancels ends a j T b) → due j ≡ lifo T → IsInBlocks may due [] (words a.seat) → IsInBlocks may due [] (words b.seat)
-    cancel_in_order {a = a} {b = b} {j = j} c e i =
-        let w : words b.seat ≡ words a.seat ++ Cancel j ∷ finals (said c.left.0) = ap (λ k. own k b.seat.events) (quits_by c.left.2) ∙ quits_words a.seat.by c.left.2 refl ∙ ap (λ l. l ++ finals (said c.left.0)) (own_snoc a.seat.by a.seat.events (canceling a.seat j c.stamp) refl) ∙ append_assoc (words a.seat) (Cancel j ∷ []) (finals (said c.left.0)) in
-        subst (λ E. IsInBlocks may due [] E) (sym w) (blocks_cancel (words a.seat) j (said c.left.0) (subst (λ l. Picks IsAny (firsts (said c.left.0)) l) (sym e) (quits_picks c.left.2)) i)
+    cancel_in_order {a = a} {j = j} c e i =
+        subst (λ E. IsInBlocks may due [] E) (sym (canceled_said c))
+        (blocks_cancel (words a.seat) j (said c.left.0) (subst (λ l. Picks IsAny (firsts (said c.left.0)) l) (sym e) (quits_picks c.left.2)) i)
 
 -- an open scope is the first open scope from itself
 pub first_is : {L : List Event} {k : StreamNo} {c q : ℕ} → ¬ (IsClosed L k c) → FirstOpen L k c q → q ≡ c

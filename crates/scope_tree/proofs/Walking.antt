@@ -19,7 +19,7 @@ use Rattle.scope_tree.specs.Walks.Clear.{root, below}
 use Rattle.scope_tree.specs.Walks.Shaded.{own, under}
 use Rattle.scope_tree.proofs.Bridge.{in_noted, in_closes, within_cases}
 use Rattle.res_ledger.proofs.Noted.{has_in}
-use Rattle.scope_tree.proofs.Keeps.{noted_parent, noted_scope, open_shut}
+use Rattle.scope_tree.proofs.Beneath.{noted_parent, noted_scope, open_shut}
 
 pub not_so : (b : Bool) → not b ≡ true → b ≡ false
 not_so true h = cc

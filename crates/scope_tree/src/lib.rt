@@ -10,6 +10,8 @@ mod leases;
 mod leaving;
 pub mod room;
 mod rows;
+#[cfg(test)]
+mod scripts;
 mod tear;
 pub mod tree;
 #[cfg(test)]

@@ -54,7 +54,7 @@ returns-clause-two g c =
     let w4 : words (g.S.RowSeat.view c.acquired-2.new.self.seat) ≡ Open 1 0 ∷ Acquire 0 0 ∷ Acquire 1 c.open-child.result ∷ [] = acquire_more (acquire_more (open_one w c.open-child.ensures.opens) c.acquired.ensures.acquires) c.acquired-2.ensures.acquires in
     let w5 : words (g.S.RowSeat.view c.acquired-2.new.self.seat) ≡ Three = w4 ∙ ap (λ n. Open 1 0 ∷ Acquire 0 0 ∷ Acquire 1 n ∷ []) (open_number w c.open-child.ensures.opens) in
     let k = c.close.ensures.closes in let xs = k.torn.0 in
-    let t = two_of xs (close_rows w5 k) in
+    let t = two_of xs 1 0 (close_rows w5 k) in
     let shelf : c.acquired-2.new.self.shelf.items ≡ [] = c.acquired-2.ensures.acquires.shelf ∙ c.acquired.ensures.acquires.shelf ∙ c.open-child.ensures.opens.shelf ∙ ap (λ x. x.shelf) c.new-tree.ensures.seen in
     record {
       one = t.0;

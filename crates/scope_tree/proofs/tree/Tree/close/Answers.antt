@@ -9,11 +9,12 @@ use Rattle.scope_tree.specs.Torn.{said}
 use Rattle.scope_tree.specs.Kept.{Shelved, held_rows}
 use Rattle.scope_tree.proofs.Distinct.{firsts_append, picks_among, said_append, strangers_append}
 use Rattle.scope_tree.proofs.Facts.{torn_picks}
-use Rattle.scope_tree.proofs.Keeps.{whole_under}
+use Rattle.scope_tree.proofs.Beneath.{whole_under}
 use Rattle.scope_tree.proofs.Parts.{row_of_pair}
 use Rattle.scope_tree.proofs.Rooms.{shelf_count, strangers_none, used_is}
 use Rattle.scope_tree.proofs.Shelving.{close_shelved}
-use Rattle.scope_tree.proofs.Keeps.{close_spare, close_ready, close_count, usable_scope, whole_is, close_keeps}
+use Rattle.scope_tree.proofs.Beneath.{close_spare, close_ready, close_count, usable_scope, whole_is}
+use Rattle.scope_tree.proofs.Keeps.{close_keeps}
 use Rattle.std.proofs.lemmas.List.{get_or_default}
 use Rattle.scope_tree.proofs.Taking.{tears_at}
 use Rattle.scope_tree.proofs.tree.Tree.close.Goals as goal

@@ -10,7 +10,7 @@ use Rattle.scope_tree.specs.Kept.{Shelved}
 use Rattle.scope_tree.proofs.Rooms.{used_is}
 use Rattle.scope_tree.proofs.Shelving.{open_shelved}
 use Rattle.scope_tree.proofs.Grows.{open_keeps, length_marks}
-use Rattle.scope_tree.proofs.Keeps.{noted_scope, no_own_close}
+use Rattle.scope_tree.proofs.Beneath.{noted_scope, no_own_close}
 use Rattle.scope_tree.proofs.Walking.{nearest_first, first_usable}
 use Rattle.std.proofs.Common.{◌⊎◌, ⊎_elim}
 use Rattle.row_seat.specs.declared.view.View.{View}

@@ -1,7 +1,7 @@
 use Rattle.std.proofs.Common.{◌≡◌, ℕ, ◌≤◌, false, ltb, zero, suc, refl, sym, ◌∙◌, subst, arith}
 use Rattle.scope_tree.specs.Walks.{Clear, Shaded, StandsAbove}
 use Rattle.scope_tree.proofs.Covered.{opened_range, reach_above, reach_child, reach_closed, reach_parent, not_child}
-use Rattle.scope_tree.proofs.Keeps.{usable_scope}
+use Rattle.scope_tree.proofs.Beneath.{usable_scope}
 use Rattle.scope_tree.proofs.tree.Tree.reaches.Goals as goal
 
 pub is_open-requires-clause-scope : goal.is_open-requires-clause-scope

@@ -1,4 +1,4 @@
-use Rattle.std.proofs.Common.{◌+◌, ◌<◌, ◌≤◌, [], ◌∷◌, length, inl, inr, refl, sym, ap, ◌∙◌, subst, lit≤, lit<}
+use Rattle.std.proofs.Common.{◌+◌, ◌<◌, ◌≤◌, [], ◌∷◌, length, inl, inr, refl, sym, subst, lit≤, lit<}
 use Rattle.chunk_core.specs.Lists.{IsAmong}
 use Rattle.chunk_core.specs.Lists.IsAmong.{here, there}
 use Rattle.res_ledger.specs.declared.event.StreamNo.TheVariants.{Outer}
@@ -7,9 +7,9 @@ use Rattle.row_seat.specs.Views.{start}
 use Rattle.scope_tree.specs.Calls.{IsClosedScope, IsOpenScope, Seen, WasOpened, used}
 use Rattle.scope_tree.specs.Scripts.{at_first, with_row, with_scope}
 use Rattle.scope_tree.specs.Words.{owed, words}
-use Rattle.scope_tree.proofs.Scripts.{acquires_is, opens_is, script_start}
+use Rattle.scope_tree.proofs.ThreeRows.{acquires_is, first_is, opens_is, script_start}
 use Rattle.scope_tree.proofs.Use.{all_open}
-use Rattle.scope_tree.proofs.uses.three_rows.Goals as goal
+use Rattle.scope_tree.proofs.scripts.three_rows.Goals as goal
 
 pub new-tree-requires : goal.new-tree-requires
 new-tree-requires g c = record { start = script_start (g.S.RowSeat.view c.args.seat) c.requires.start }
@@ -17,7 +17,7 @@ new-tree-requires g c = record { start = script_start (g.S.RowSeat.view c.args.s
 pub acquired-requires : goal.acquired-requires
 acquired-requires g c =
     let first = c.args.first in let second = c.args.second in let third = c.args.third in
-    let a0 = c.new-tree.ensures.seen ∙ ap (λ v. let y : Seen _ = record { seat = v; shelf = []; scopes = c.args.room.scopes; rows = c.args.room.rows } in y) c.requires.start ∙ ap (λ n. let y : Seen _ = record { seat = start Outer 3 16; shelf = []; scopes = n; rows = c.args.room.rows } in y) c.requires.room.0 ∙ ap (λ n. let y : Seen _ = record { seat = start Outer 3 16; shelf = []; scopes = 3; rows = n } in y) c.requires.room.1 in
+    let a0 = first_is c.new-tree.ensures.seen c.requires.start c.requires.room.0 c.requires.room.1 in
     record {
       fits = c.new-tree.ensures.fits c.args.desk.now c.requires.fits;
       scope = subst (λ a. IsOpenScope a 0) (sym a0) (all_open {P = g.row.S-Pay.Denot} (start Outer 3 16) 0 refl (inl refl));
@@ -29,7 +29,7 @@ acquired-requires g c =
 pub open-requires : goal.open-requires
 open-requires g c =
     let first = c.args.first in let second = c.args.second in let third = c.args.third in
-    let a0 = c.new-tree.ensures.seen ∙ ap (λ v. let y : Seen _ = record { seat = v; shelf = []; scopes = c.args.room.scopes; rows = c.args.room.rows } in y) c.requires.start ∙ ap (λ n. let y : Seen _ = record { seat = start Outer 3 16; shelf = []; scopes = n; rows = c.args.room.rows } in y) c.requires.room.0 ∙ ap (λ n. let y : Seen _ = record { seat = start Outer 3 16; shelf = []; scopes = 3; rows = n } in y) c.requires.room.1 in
+    let a0 = first_is c.new-tree.ensures.seen c.requires.start c.requires.room.0 c.requires.room.1 in
     let A1 = with_row at_first 0 0 c.acquired.ensures.acquires.stamp first in let a1 = acquires_is at_first a0 c.acquired.ensures.acquires in
     record {
       fits = c.acquired.ensures.fits;
@@ -42,7 +42,7 @@ open-requires g c =
 pub acquired-requires-2 : goal.acquired-requires-2
 acquired-requires-2 g c =
     let first = c.args.first in let second = c.args.second in let third = c.args.third in
-    let a0 = c.new-tree.ensures.seen ∙ ap (λ v. let y : Seen _ = record { seat = v; shelf = []; scopes = c.args.room.scopes; rows = c.args.room.rows } in y) c.requires.start ∙ ap (λ n. let y : Seen _ = record { seat = start Outer 3 16; shelf = []; scopes = n; rows = c.args.room.rows } in y) c.requires.room.0 ∙ ap (λ n. let y : Seen _ = record { seat = start Outer 3 16; shelf = []; scopes = 3; rows = n } in y) c.requires.room.1 in
+    let a0 = first_is c.new-tree.ensures.seen c.requires.start c.requires.room.0 c.requires.room.1 in
     let A1 = with_row at_first 0 0 c.acquired.ensures.acquires.stamp first in let a1 = acquires_is at_first a0 c.acquired.ensures.acquires in
     let A2 = with_scope A1 1 0 c.open.ensures.opens.stamp in let a2 = opens_is A1 a1 (all_open A1.seat 0 refl (inl refl)).1 c.open.ensures.opens in
     record {
@@ -56,7 +56,7 @@ acquired-requires-2 g c =
 pub open-requires-2 : goal.open-requires-2
 open-requires-2 g c =
     let first = c.args.first in let second = c.args.second in let third = c.args.third in
-    let a0 = c.new-tree.ensures.seen ∙ ap (λ v. let y : Seen _ = record { seat = v; shelf = []; scopes = c.args.room.scopes; rows = c.args.room.rows } in y) c.requires.start ∙ ap (λ n. let y : Seen _ = record { seat = start Outer 3 16; shelf = []; scopes = n; rows = c.args.room.rows } in y) c.requires.room.0 ∙ ap (λ n. let y : Seen _ = record { seat = start Outer 3 16; shelf = []; scopes = 3; rows = n } in y) c.requires.room.1 in
+    let a0 = first_is c.new-tree.ensures.seen c.requires.start c.requires.room.0 c.requires.room.1 in
     let A1 = with_row at_first 0 0 c.acquired.ensures.acquires.stamp first in let a1 = acquires_is at_first a0 c.acquired.ensures.acquires in
     let A2 = with_scope A1 1 0 c.open.ensures.opens.stamp in let a2 = opens_is A1 a1 (all_open A1.seat 0 refl (inl refl)).1 c.open.ensures.opens in
     let A3 = with_row A2 1 1 c.acquired-2.ensures.acquires.stamp second in let a3 = acquires_is A2 a2 c.acquired-2.ensures.acquires in
@@ -71,7 +71,7 @@ open-requires-2 g c =
 pub acquired-requires-3 : goal.acquired-requires-3
 acquired-requires-3 g c =
     let first = c.args.first in let second = c.args.second in let third = c.args.third in
-    let a0 = c.new-tree.ensures.seen ∙ ap (λ v. let y : Seen _ = record { seat = v; shelf = []; scopes = c.args.room.scopes; rows = c.args.room.rows } in y) c.requires.start ∙ ap (λ n. let y : Seen _ = record { seat = start Outer 3 16; shelf = []; scopes = n; rows = c.args.room.rows } in y) c.requires.room.0 ∙ ap (λ n. let y : Seen _ = record { seat = start Outer 3 16; shelf = []; scopes = 3; rows = n } in y) c.requires.room.1 in
+    let a0 = first_is c.new-tree.ensures.seen c.requires.start c.requires.room.0 c.requires.room.1 in
     let A1 = with_row at_first 0 0 c.acquired.ensures.acquires.stamp first in let a1 = acquires_is at_first a0 c.acquired.ensures.acquires in
     let A2 = with_scope A1 1 0 c.open.ensures.opens.stamp in let a2 = opens_is A1 a1 (all_open A1.seat 0 refl (inl refl)).1 c.open.ensures.opens in
     let A3 = with_row A2 1 1 c.acquired-2.ensures.acquires.stamp second in let a3 = acquires_is A2 a2 c.acquired-2.ensures.acquires in
@@ -87,7 +87,7 @@ acquired-requires-3 g c =
 pub returns-clause-three : goal.returns-clause-three
 returns-clause-three g c =
     let first = c.args.first in let second = c.args.second in let third = c.args.third in
-    let a0 = c.new-tree.ensures.seen ∙ ap (λ v. let y : Seen _ = record { seat = v; shelf = []; scopes = c.args.room.scopes; rows = c.args.room.rows } in y) c.requires.start ∙ ap (λ n. let y : Seen _ = record { seat = start Outer 3 16; shelf = []; scopes = n; rows = c.args.room.rows } in y) c.requires.room.0 ∙ ap (λ n. let y : Seen _ = record { seat = start Outer 3 16; shelf = []; scopes = 3; rows = n } in y) c.requires.room.1 in
+    let a0 = first_is c.new-tree.ensures.seen c.requires.start c.requires.room.0 c.requires.room.1 in
     let A1 = with_row at_first 0 0 c.acquired.ensures.acquires.stamp first in let a1 = acquires_is at_first a0 c.acquired.ensures.acquires in
     let A2 = with_scope A1 1 0 c.open.ensures.opens.stamp in let a2 = opens_is A1 a1 (all_open A1.seat 0 refl (inl refl)).1 c.open.ensures.opens in
     let A3 = with_row A2 1 1 c.acquired-2.ensures.acquires.stamp second in let a3 = acquires_is A2 a2 c.acquired-2.ensures.acquires in
