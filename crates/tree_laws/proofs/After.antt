@@ -1,37 +1,47 @@
 -- What a call of a tree leaves of what its stream noted.
-use Rattle.std.proofs.Common.{◌≡◌, ℕ, ◌<◌, ◌⊎◌, Bool, true, false, List, [], ◌∷◌, ◌++◌, inl, inr, refl, sym, ap, ◌∙◌, subst, ⊎_elim, append_assoc, append-nil}
+use Rattle.std.proofs.Common.{◌≡◌, ◌≢◌, ℕ, ◌<◌, ◌⊎◌, Bool, true, false, List, [], ◌∷◌, ◌++◌, inl, inr, refl, sym, ap, ◌∙◌, subst, ⊎_elim, append_assoc, append-nil}
 use Rattle.std.proofs.lemmas.Bool.{cases_eq}
 use Rattle.chunk_core.specs.Lists.{IsAmong}
 use Rattle.chunk_core.proofs.Filters.{among_append}
 use Rattle.chunk_core.proofs.Members.{among_left, among_last, among_snoc}
 use Rattle.res_ledger.specs.declared.event.Event.{Event}
 use Rattle.res_ledger.specs.declared.event.StreamNo.{StreamNo}
+use Rattle.res_ledger.specs.declared.event.StreamNo.TheVariants.{Inner}
 use Rattle.res_ledger.specs.declared.event.What.{What}
 use Rattle.res_ledger.specs.declared.event.What.TheVariants.{Open, Acquire, Lease, Cancel, Close, Final}
 use Rattle.res_ledger.specs.Ledger.{Notes}
 use Rattle.res_ledger.specs.Streams.{by_stream}
-use Rattle.res_ledger.proofs.Growth.{noted_more, noted_new, noted_snoc}
-use Rattle.res_ledger.proofs.Ledgers.{by_both, by_in, by_none}
+use Rattle.res_ledger.proofs.Growth.{noted_more, noted_new}
+use Rattle.res_ledger.proofs.Ledgers.{by_both, by_in, by_none, inner_is}
 use Rattle.res_ledger.proofs.Orders.{Rises}
 use Rattle.row_seat.specs.declared.view.View.{View}
-use Rattle.row_seat.specs.Views.{AreApart, CanJoin, CanSplit, IsFresh, joined, kept_after, noted, split_main}
-use Rattle.row_seat.proofs.Members.{among_kept}
+use Rattle.row_seat.specs.Views.{AreApart, CanJoin, CanSplit, IsFresh, joined, kept_after, name_of, noted, split_main}
+use Rattle.row_seat.proofs.Members.{among_kept, among_without}
 use Rattle.scope_tree.proofs.Shelf.{by_snoc, rises_snoc}
 
--- what a seat knows of its stream's events and of its Leases
+-- what a seat knows of its stream's events, of its Leases and of the seats that it gave
 pub record Folio : Type 0 where
   pub by : StreamNo
   pub main : Bool
   pub events : List Event
   pub kept : List ℕ
   pub had : List ℕ
+  pub out : List ℕ
 
 abbrev pub folio : {P : Type 0} → View P → Folio
-folio v = record { by = v.by; main = v.main; events = v.events; kept = v.kept; had = v.had }
+folio v = record { by = v.by; main = v.main; events = v.events; kept = v.kept; had = v.had; out = v.out }
 
 -- the Lease for j is kept, or its stream had a seat, or its Cancel is noted
 abbrev pub IsMet : Folio → ℕ → Type 0
 IsMet v j = IsAmong j v.kept ⊎ (IsAmong j v.had ⊎ Notes v.events v.by (Cancel j))
+
+-- the streams whose seats are out had a seat, and are others than this one
+abbrev pub IsGiven : Folio → Type 0
+IsGiven v = (j : ℕ) → IsAmong j v.out → IsAmong j v.had × (v.by ≢ Inner j)
+
+-- the stream j had a seat, which isn't out, and is another than this one
+abbrev pub IsBack : Folio → ℕ → Type 0
+IsBack v j = IsAmong j v.had × ¬ (IsAmong j v.out) × (v.by ≢ Inner j)
 
 -- w is what has become of v
 pub record IsAfter (v w : Folio) : Type 0 where
@@ -41,9 +51,10 @@ pub record IsAfter (v w : Folio) : Type 0 where
   pub events : w.events ≡ v.events ++ more
   pub rises : Rises (by_stream v.by v.events) → Rises (by_stream w.by w.events)
   pub met : (j : ℕ) → IsMet v j → IsMet w j
-  pub leases : (j s : ℕ) → Notes w.events w.by (Lease j s) → Notes v.events v.by (Lease j s) ⊎ IsMet w j
   pub had : v.main ≡ false → w.had ≡ v.had
   pub own : v.main ≡ false → (e : Event) → IsAmong e w.events → IsAmong e v.events ⊎ (e.by ≡ w.by)
+  pub given : IsGiven v → IsGiven w
+  pub back : (j : ℕ) → IsBack v j → IsBack w j × ((e : Event) → IsAmong e w.events → e.by ≡ Inner j → IsAmong e v.events)
 
 pub after_same : (v : Folio) → IsAfter v v
 after_same v = record {
@@ -53,9 +64,10 @@ after_same v = record {
   events = sym (append-nil v.events);
   rises = λ r. r;
   met = λ j m. m;
-  leases = λ j s n. inl n;
   had = λ m. refl;
   own = λ m e n. inl n;
+  given = λ g. g;
+  back = λ j h. (h, λ e m k. m);
 }
 
 pub after_then : (u v w : Folio) → IsAfter u v → IsAfter v w → IsAfter u w
@@ -66,9 +78,10 @@ after_then u v w a b = record {
   events = b.events ∙ ap (λ l. l ++ b.more) a.events ∙ append_assoc u.events a.more b.more;
   rises = λ r. b.rises (a.rises r);
   met = λ j m. b.met j (a.met j m);
-  leases = λ j s n. ⊎_elim (λ m. ⊎_elim (λ o. inl o) (λ o. inr (b.met j o)) (a.leases j s m)) (λ m. inr m) (b.leases j s n);
   had = λ m. b.had (a.main ∙ m) ∙ a.had m;
   own = λ m e n. ⊎_elim (λ o. ⊎_elim (λ i. inl i) (λ k. inr (k ∙ sym b.by)) (a.own m e o)) (λ k. inr k) (b.own (a.main ∙ m) e n);
+  given = λ g. b.given (a.given g);
+  back = λ j h. let x = a.back j h in let y = b.back j x.0 in (y.0, λ e m k. x.1 e (y.1 e m k) k);
 }
 
 -- an event takes a Lease away only if it is its Cancel
@@ -96,9 +109,10 @@ after_event v n w f =
           (λ k. ⊎_elim (λ l. inl l) (λ c. inr (inr (subst (λ x. Notes (v.events ++ e ∷ []) v.by x) c (noted_new v.events e)))) (kept_or w j v.kept k))
           (λ o. inr (⊎_elim (λ h. inl h) (λ c. inr (noted_more v.events e c)) o))
           m;
-      leases = λ j s l. ⊎_elim (λ o. inl o) (λ o. inr (inl (subst (λ x. IsAmong j (kept_after x v.kept)) (sym o.1) (among_last v.kept j)))) (noted_snoc v.events e v.by (Lease j s) l);
       had = λ m. refl;
       own = λ m x n. ⊎_elim (λ o. inl o) (λ i. inr (ap (λ (z : Event). z.by) i)) (among_snoc v.events x e n);
+      given = λ g. g;
+      back = λ j h. (h, λ x m k. ⊎_elim (λ o. o) (λ i. absurd (h.2 (sym (ap (λ (z : Event). z.by) i) ∙ k))) (among_snoc v.events x e m));
     }
 
 module _ {P : Type 0} where
@@ -116,9 +130,13 @@ module _ {P : Type 0} where
         (λ k. ⊎_elim (λ e. inr (inl (subst (λ x. IsAmong x (v.had ++ j ∷ [])) (sym e) (among_last v.had j)))) (λ ne. inl (among_kept j v.kept i k ne)) (cases_eq i j))
         (λ o. inr (⊎_elim (λ h. inl (among_left (j ∷ []) h)) (λ x. inr x) o))
         m;
-    leases = λ i s l. inl l;
     had = λ m. absurd (let z : true ≡ false = sym c.0 ∙ m in cc);
     own = λ m e n. inl n;
+    given = λ g i m. ⊎_elim
+        (λ o. let t = g i o in (among_left (j ∷ []) t.0, t.1))
+        (λ e. (subst (λ x. IsAmong x (v.had ++ j ∷ [])) (sym e) (among_last v.had j), λ s. c.1 (s ∙ ap Inner e)))
+        (among_snoc v.out i j m);
+    back = λ i h. ((among_left (j ∷ []) h.0, (λ m. ⊎_elim h.1 (λ e. c.2 (subst (λ x. IsAmong x v.had) e h.0)) (among_snoc v.out i j m)), h.2), λ e m k. m);
   }
 
   pub after_joined : (v w : View P) → CanJoin v w → AreApart v w → IsAfter (folio v) (folio (joined v w))
@@ -129,7 +147,11 @@ module _ {P : Type 0} where
     events = refl;
     rises = λ r. subst Rises (sym (by_both v.by v.events w.events ∙ ap (λ l. by_stream v.by v.events ++ l) (by_none v.by w.events a.events) ∙ append-nil (by_stream v.by v.events))) r;
     met = λ j m. ⊎_elim (λ k. inl k) (λ o. inr (⊎_elim (λ h. inl h) (λ c. inr (c.0, among_left w.events c.1, c.2, c.3)) o)) m;
-    leases = λ j s l. ⊎_elim (λ m. inl (l.0, m, l.2, l.3)) (λ m. absurd (a.events l.0 m l.2)) (among_append l.0 v.events w.events l.1);
     had = λ m. refl;
+    given = λ g j m. g j (among_without (name_of w.by) v.out j m).0;
+    back = λ j h. (
+      (h.0, (λ m. h.1 (among_without (name_of w.by) v.out j m).0), h.2),
+      λ e m k. ⊎_elim (λ o. o) (λ o. absurd (h.1 (subst (λ x. IsAmong x v.out) (inner_is c.1.0 j (sym c.1.1 ∙ (sym (a.own e o) ∙ k))) c.1.2))) (among_append e v.events w.events m),
+    );
     own = λ m. absurd (let z : true ≡ false = sym c.0 ∙ m in cc);
   }

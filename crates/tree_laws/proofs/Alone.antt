@@ -14,7 +14,6 @@ use Rattle.scope_tree.specs.Torn.{Torn}
 use Rattle.scope_tree.specs.Torn.Torn.{done, stays, ends_so}
 use Rattle.tree_laws.specs.Alone.{HasNoOthers, StaysAlone}
 use Rattle.tree_laws.specs.Called.{Called}
-use Rattle.tree_laws.specs.Ends.{IsDone}
 use Rattle.tree_laws.specs.Laws.{AloneCanFinish, CallsStayAlone}
 use Rattle.tree_laws.specs.Whole.{IsWhole, IsWholeFor}
 use Rattle.tree_laws.proofs.Ends.{called_whole, whole_each}
@@ -87,11 +86,9 @@ module _ {P : Type 0} {ends : P → Bool → P → Type 0} where
     follow = alone_then;
   }
 
-  pub alone_whole : {a b : Seen P} (L : List Event) → AtStart a.seat → HasNoOthers a.seat → Called ends a [] b → StaysAlone a.seat b.seat → IsClosedScope b 0 → IsLedgerOf b.seat L → IsWhole L
-  alone_whole {a = a} {b = b} L start h calls alone root ledger =
-      let o = no_others a.seat b.seat h alone in
-      let done : IsDone b L = record { root = root; kept = o.kept; given = λ j m. absurd (among_nil (subst (λ l. IsAmong j l) o.had m)) } in
-      let own : IsWholeFor L b.seat.by = called_whole b.seat L start calls (record { ledger = ledger; own = λ e k. ((λ m. m), (λ m. m)) }) done (λ j T m. absurd (among_nil m)) in
+  pub alone_whole : {a b : Seen P} (L : List Event) → AtStart a.seat → Called ends a [] b → StaysAlone a.seat b.seat → IsClosedScope b 0 → IsLedgerOf b.seat L → IsWhole L
+  alone_whole {a = a} {b = b} L start calls alone root ledger =
+      let own : IsWholeFor L b.seat.by = called_whole b.seat L start calls (record { ledger = ledger; own = λ e k. ((λ m. m), (λ m. m)) }) root (λ j T m. absurd (among_nil m)) in
       let by : (e : Event) → IsAmong e L → e.by ≡ b.seat.by = λ e m. ⊎_elim (λ n. absurd (among_nil (subst (λ l. IsAmong e l) start.events n))) (λ k. k) (alone.events e ((ledger.whole e).0 m)) in
       let all = whole_each L (λ e m. subst (λ k. IsWholeFor L k) (sym (by e m)) own) in
       record { legal = ledger.legal; complete = all.0; order = all.1 }

@@ -1,13 +1,13 @@
--- The ledger of a tree that is done.
-use Rattle.std.proofs.Common.{◌≡◌, ℕ, Bool, List, [], ◌∷◌, ◌++◌, true, reverse, refl, sym, subst, ⊎_elim}
+-- The ledger of a tree whose root is closed.
+use Rattle.std.proofs.Common.{◌≡◌, ℕ, Bool, List, [], ◌∷◌, ◌++◌, true, reverse, refl, sym, subst}
 use Rattle.chunk_core.specs.Lists.{IsAmong}
 use Rattle.chunk_core.specs.Lists.IsAmong.{here}
-use Rattle.chunk_core.proofs.Members.{among_mid, among_nil}
+use Rattle.chunk_core.proofs.Members.{among_mid}
 use Rattle.res_ledger.specs.declared.event.Event.{Event}
 use Rattle.res_ledger.specs.declared.event.StreamNo.{StreamNo}
 use Rattle.res_ledger.specs.declared.event.What.{What}
 use Rattle.res_ledger.specs.declared.event.What.TheVariants.{Acquire, Lease, Open}
-use Rattle.res_ledger.specs.Ledger.{IsCanceled, Notes}
+use Rattle.res_ledger.specs.Ledger.{Notes}
 use Rattle.res_ledger.specs.Order.{IsInBlocks, IsInOrder, covered, covered_by}
 use Rattle.res_ledger.specs.Order.IsInBlocks.{none}
 use Rattle.res_ledger.specs.Own.{has, own}
@@ -15,17 +15,16 @@ use Rattle.res_ledger.specs.Streams.{by_stream}
 use Rattle.res_ledger.proofs.Ledgers.{closed_map, noted_own}
 use Rattle.res_ledger.proofs.Noted.{only, own_notes}
 use Rattle.row_seat.specs.declared.view.View.{View}
-use Rattle.scope_tree.specs.Calls.{AtStart, Cancels, Leases, Seen}
+use Rattle.scope_tree.specs.Calls.{AtStart, Cancels, IsClosedScope, Leases, Seen}
 use Rattle.scope_tree.proofs.Tidy.{tidy_in_order}
 use Rattle.tree_laws.specs.Called.{Called, MayCancel, MayLease}
 use Rattle.tree_laws.specs.Called.Called.{cancelled, leased}
-use Rattle.tree_laws.specs.Ends.{AreCovered, IsDone, IsFinished}
+use Rattle.tree_laws.specs.Ends.{AreCovered, IsFinished}
 use Rattle.tree_laws.specs.Laws.{WholeForEach}
 use Rattle.tree_laws.specs.Lent.{Lent}
 use Rattle.tree_laws.proofs.Covered.{lent_covered}
 use Rattle.tree_laws.specs.Whole.{IsCompleteFor, IsWholeFor}
-use Rattle.tree_laws.proofs.After.{IsAfter, folio}
-use Rattle.tree_laws.proofs.Along.{called_after, called_tidy}
+use Rattle.tree_laws.proofs.Along.{called_tidy}
 use Rattle.tree_laws.proofs.Complete.{complete_for}
 use Rattle.tree_laws.proofs.Follows.{called_then}
 use Rattle.tree_laws.proofs.Kept.{called_rises, leases_lent, lent_stays}
@@ -41,35 +40,22 @@ module _ {P : Type 0} {ends : P → Bool → P → Type 0} {a b : Seen P} {Cs : 
   pub called_in_order : AreCovered L Cs → IsInOrder L b.seat.by
   called_in_order covered = tidy_in_order b.seat Cs L (called_tidy start calls) end.ledger.legal called_events covered
 
-  -- each Lease that the stream noted has its Cancel
-  lease_canceled : IsDone b L → (j s : ℕ) → Notes L b.seat.by (Lease j s) → IsCanceled L j
-  lease_canceled done j s n =
-      let f : IsAfter (folio a.seat) (folio b.seat) = called_after calls in
-      let m : Notes b.seat.events b.seat.by (Lease j s) = noted_own b.seat.by L b.seat.events called_events (Lease j s) n in
-      ⊎_elim
-      (λ old. absurd (among_nil (subst (λ l. IsAmong old.0 l) start.events old.1)))
-      (λ met. ⊎_elim
-      (λ kept. absurd (among_nil (subst (λ l. IsAmong j l) done.kept kept)))
-      (λ o. ⊎_elim (λ had. done.given j had (b.seat.by, s, n)) (λ c. (b.seat.by, noted_own b.seat.by b.seat.events L (sym called_events) _ c)) o)
-      met)
-      (f.leases j s m)
-
-  pub called_complete : IsDone b L → IsCompleteFor L b.seat.by
-  called_complete done =
+  pub called_complete : IsClosedScope b 0 → IsCompleteFor L b.seat.by
+  called_complete root =
       complete_for L b.seat.by end.ledger.legal
-      (closed_map b.seat.events L b.seat.by (noted_own b.seat.by b.seat.events L (sym called_events)) 0 done.root)
+      (closed_map b.seat.events L b.seat.by (noted_own b.seat.by b.seat.events L (sym called_events)) 0 root)
       (λ r s n. end.ledger.ended r (b.seat.by, s, n))
-      (lease_canceled done)
+      (λ j s n. end.ledger.canceled j (b.seat.by, s, n))
 
-  pub called_whole : IsDone b L → AreCovered L Cs → IsWholeFor L b.seat.by
-  called_whole done covered = record { legal = end.ledger.legal; order = called_in_order covered; complete = called_complete done }
+  pub called_whole : IsClosedScope b 0 → AreCovered L Cs → IsWholeFor L b.seat.by
+  called_whole root covered = record { legal = end.ledger.legal; order = called_in_order covered; complete = called_complete root }
 
 -- a lease that the tree made and cancelled
-pub one_lease_whole : {P : Type 0} {ends : P → Bool → P → Type 0} {a b c d e f : Seen P} {s j : ℕ} {T : List ℕ} (u : View P) (L : List Event) → AtStart a.seat → Called ends a [] b → MayLease b s j → Leases b s j T c → Called ends c [] d → MayCancel d j T → Cancels ends d j T e → Called ends e [] f → IsFinished f u L → IsDone f L → IsWholeFor L f.seat.by
-one_lease_whole {b = b} {c = c} {d = d} {e = e} {f = f} {s = s} {j = j} {T = T} u L start first may lease then may' cancel last end done =
+pub one_lease_whole : {P : Type 0} {ends : P → Bool → P → Type 0} {a b c d e f : Seen P} {s j : ℕ} {T : List ℕ} (u : View P) (L : List Event) → AtStart a.seat → Called ends a [] b → MayLease b s j → Leases b s j T c → Called ends c [] d → MayCancel d j T → Cancels ends d j T e → Called ends e [] f → IsFinished f u L → IsClosedScope f 0 → IsWholeFor L f.seat.by
+one_lease_whole {b = b} {c = c} {d = d} {e = e} {f = f} {s = s} {j = j} {T = T} u L start first may lease then may' cancel last end root =
     let calls = called_then (cancelled d e j T (called_then (leased b c s j T first may lease) then) may' cancel) last in
     let lent : Lent f.seat j T = lent_stays (called_then (cancelled d e j T then may' cancel) last) (leases_lent lease) in
-    called_whole u L start calls end done (own_leases_covered u L start calls end (λ i U m. (let x : ℕ × List ℕ = (i, U) in let y : ℕ × List ℕ = (j, T) in let q = only x y m in subst (λ (z : ℕ × List ℕ). Lent f.seat z.0 z.1) (sym q) lent)))
+    called_whole u L start calls end root (own_leases_covered u L start calls end (λ i U m. (let x : ℕ × List ℕ = (i, U) in let y : ℕ × List ℕ = (j, T) in let q = only x y m in subst (λ (z : ℕ × List ℕ). Lent f.seat z.0 z.1) (sym q) lent)))
 
 -- a stream that noted nothing is in order
 in_order_at : (L : List Event) (k : StreamNo) (E : List What) → own k L ≡ E → ((e : Event) → IsAmong e L → IsInOrder L e.by) → IsInOrder L k

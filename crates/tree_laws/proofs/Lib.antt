@@ -1,6 +1,7 @@
 pub mod Follows
 pub mod After
 pub mod Along
+pub mod Joined
 pub mod Said
 pub mod Room
 pub mod Kept

@@ -1,24 +1,17 @@
--- When a tree is done.
-use Rattle.std.specs.Prelude.{◌≡◌, ◌↔◌, ℕ, List, []}
+-- The ledger that a tree's seat finished into.
+use Rattle.std.specs.Prelude.{◌≡◌, ◌↔◌, ℕ, List}
 use Rattle.chunk_core.specs.Lists.{IsAmong}
 use Rattle.res_ledger.specs.declared.event.Event.{Event}
-use Rattle.res_ledger.specs.Ledger.{IsCanceled, IsLeased}
 use Rattle.res_ledger.specs.Order.{covered_by}
 use Rattle.row_seat.specs.declared.view.View.{View}
 use Rattle.row_seat.specs.Views.{IsLedgerOf}
-use Rattle.scope_tree.specs.Calls.{IsClosedScope, Seen}
+use Rattle.scope_tree.specs.Calls.{Seen}
 
 module _ {P : Type 0} where
   -- L is the ledger of a seat u that finished, and of the tree's stream u has the events that the tree noted; for a main tree u is its own seat
   pub record IsFinished (b : Seen P) (u : View P) (L : List Event) : Type 0 where
     pub ledger : IsLedgerOf u L
     pub own : (e : Event) → e.by ≡ b.seat.by → IsAmong e u.events ↔ IsAmong e b.seat.events
-
-  -- the tree's root is closed and it keeps no Lease, and each leased stream that it gave a seat has its Cancel in L
-  pub record IsDone (b : Seen P) (L : List Event) : Type 0 where
-    pub root : IsClosedScope b 0
-    pub kept : b.seat.kept ≡ []
-    pub given : (j : ℕ) → IsAmong j b.seat.had → IsLeased L j → IsCanceled L j
 
 -- each of these leases is on the rows that its Lease covers in L
 abbrev pub AreCovered : List Event → List (ℕ × List ℕ) → Type 0

@@ -10,7 +10,7 @@ use Rattle.res_ledger.specs.Streams.{by_stream}
 use Rattle.res_ledger.specs.Whole.{IsComplete}
 use Rattle.res_ledger.proofs.Orders.{Rises}
 use Rattle.row_seat.specs.declared.view.View.{View}
-use Rattle.row_seat.specs.Views.{CanFinish, IsLedgerOf, paid}
+use Rattle.row_seat.specs.Views.{AreApart, CanFinish, CanJoin, IsLedgerOf, joined, paid}
 use Rattle.scope_tree.specs.Calls.{Acquires, AtStart, Cancels, Closes, IsClosedScope, Leases, Opens, Seen}
 use Rattle.scope_tree.specs.Tidy.{IsTidy}
 use Rattle.scope_tree.specs.declared.tree.Tree.{Tree}
@@ -19,7 +19,7 @@ use Rattle.scope_tree.specs.Trees.{IsSound, seen}
 use Rattle.scope_tree.specs.Words.{ended_rows, words}
 use Rattle.tree_laws.specs.Called.{Called, MayCancel, MayLease}
 use Rattle.tree_laws.specs.Alone.{HasNoOthers, StaysAlone}
-use Rattle.tree_laws.specs.Ends.{AreCovered, IsDone, IsFinished}
+use Rattle.tree_laws.specs.Ends.{AreCovered, IsFinished}
 use Rattle.tree_laws.specs.Lent.{Lent}
 use Rattle.tree_laws.specs.Whole.{IsCompleteFor, IsWhole, IsWholeFor}
 use Rattle.res_ledger.specs.Order.{IsInOrder}
@@ -62,6 +62,10 @@ module _ {P : Type 0} (ends : P → Bool → P → Type 0) where
     pub own : (a b : Seen P) (Cs : List (ℕ × List ℕ)) → a.seat.main ≡ false → Called ends a Cs b → (e : Event) → IsAmong e b.seat.events → IsAmong e a.seat.events ⊎ (e.by ≡ b.seat.by)
     pub canceled : (a b : Seen P) (Cs : List (ℕ × List ℕ)) (j : ℕ) → a.seat.main ≡ false → a.seat.had ≡ [] → Called ends a Cs b → b.seat.kept ≡ [] → IsAmong j a.seat.kept → Notes b.seat.events b.seat.by (Cancel j)
 
+  -- where a main tree, which had no seat out at first, took in the seat of another tree, the ledger of its own seat has of that tree's stream just the events that the tree noted
+  abbrev pub JoinedIsFinished : Type 0
+  JoinedIsFinished = (a b c d x : Seen P) (Cs Ds : List (ℕ × List ℕ)) (L : List Event) → a.seat.out ≡ [] → Called ends a Cs b → CanJoin b.seat x.seat → AreApart b.seat x.seat → c ≡ record b { seat = joined b.seat x.seat } → Called ends c Ds d → IsLedgerOf d.seat L → IsFinished x d.seat L
+
   -- the ledger has the stream's events as the tree noted them
   abbrev pub LedgerHasEvents : Type 0
   LedgerHasEvents = (a b : Seen P) (Cs : List (ℕ × List ℕ)) (u : View P) (L : List Event) → AtStart a.seat → Called ends a Cs b → IsFinished b u L → by_stream b.seat.by L ≡ by_stream b.seat.by b.seat.events
@@ -70,17 +74,17 @@ module _ {P : Type 0} (ends : P → Bool → P → Type 0) where
   abbrev pub LedgerIsInOrder : Type 0
   LedgerIsInOrder = (a b : Seen P) (Cs : List (ℕ × List ℕ)) (u : View P) (L : List Event) → AtStart a.seat → Called ends a Cs b → IsFinished b u L → AreCovered L Cs → IsInOrder L b.seat.by
 
-  -- once the tree is done the ledger is complete for its stream
+  -- once the tree's root is closed the ledger is complete for its stream
   abbrev pub LedgerIsComplete : Type 0
-  LedgerIsComplete = (a b : Seen P) (Cs : List (ℕ × List ℕ)) (u : View P) (L : List Event) → AtStart a.seat → Called ends a Cs b → IsFinished b u L → IsDone b L → IsCompleteFor L b.seat.by
+  LedgerIsComplete = (a b : Seen P) (Cs : List (ℕ × List ℕ)) (u : View P) (L : List Event) → AtStart a.seat → Called ends a Cs b → IsFinished b u L → IsClosedScope b 0 → IsCompleteFor L b.seat.by
 
   -- so it is legal, in order and complete for it
   abbrev pub LedgerIsWhole : Type 0
-  LedgerIsWhole = (a b : Seen P) (Cs : List (ℕ × List ℕ)) (u : View P) (L : List Event) → AtStart a.seat → Called ends a Cs b → IsFinished b u L → IsDone b L → AreCovered L Cs → IsWholeFor L b.seat.by
+  LedgerIsWhole = (a b : Seen P) (Cs : List (ℕ × List ℕ)) (u : View P) (L : List Event) → AtStart a.seat → Called ends a Cs b → IsFinished b u L → IsClosedScope b 0 → AreCovered L Cs → IsWholeFor L b.seat.by
 
   -- so for a tree that made one lease and cancelled it itself
   abbrev pub OneLeaseIsWhole : Type 0
-  OneLeaseIsWhole = (a b c d e f : Seen P) (s j : ℕ) (T : List ℕ) (u : View P) (L : List Event) → AtStart a.seat → Called ends a [] b → MayLease b s j → Leases b s j T c → Called ends c [] d → MayCancel d j T → Cancels ends d j T e → Called ends e [] f → IsFinished f u L → IsDone f L → IsWholeFor L f.seat.by
+  OneLeaseIsWhole = (a b c d e f : Seen P) (s j : ℕ) (T : List ℕ) (u : View P) (L : List Event) → AtStart a.seat → Called ends a [] b → MayLease b s j → Leases b s j T c → Called ends c [] d → MayCancel d j T → Cancels ends d j T e → Called ends e [] f → IsFinished f u L → IsClosedScope f 0 → IsWholeFor L f.seat.by
 
   -- each of these calls leaves a tree alone, and so do several
   pub record CallsStayAlone : Type 0 where
@@ -93,7 +97,7 @@ module _ {P : Type 0} (ends : P → Bool → P → Type 0) where
 
   -- once the root of a tree that stayed alone is closed the ledger is legal, complete and in order
   abbrev pub AloneIsWhole : Type 0
-  AloneIsWhole = (a b : Seen P) (L : List Event) → AtStart a.seat → HasNoOthers a.seat → Called ends a [] b → StaysAlone a.seat b.seat → IsClosedScope b 0 → IsLedgerOf b.seat L → IsWhole L
+  AloneIsWhole = (a b : Seen P) (L : List Event) → AtStart a.seat → Called ends a [] b → StaysAlone a.seat b.seat → IsClosedScope b 0 → IsLedgerOf b.seat L → IsWhole L
 
 -- a tree that stayed alone may finish its seat once nothing is open
 abbrev pub AloneCanFinish : Type 0 → Type 0

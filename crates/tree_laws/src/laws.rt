@@ -1,6 +1,6 @@
 //! Laws of all that was done to a tree, each the contract of a function that does nothing.
 ghost use Rattle.res_ledger.specs.declared.event.StreamNo.TheVariants.{Inner, Outer};
-ghost use Rattle.tree_laws.specs.Laws.{AloneCanFinish, AloneIsWhole, CallsAreTidy, CallsFollow, CallsStayAlone, EventsStay, LeaseIsLent, LedgerHasEvents, LedgerIsComplete, LedgerIsInOrder, LedgerIsWhole, LentIsCovered, OneLeaseIsWhole, OwnLeasesAreCovered, RowsHaveEnded, ScopesFit, ShelfIsSaid, StampsRise, SubTrees, WholeForEach};
+ghost use Rattle.tree_laws.specs.Laws.{AloneCanFinish, AloneIsWhole, CallsAreTidy, CallsFollow, CallsStayAlone, EventsStay, JoinedIsFinished, LeaseIsLent, LedgerHasEvents, LedgerIsComplete, LedgerIsInOrder, LedgerIsWhole, LentIsCovered, OneLeaseIsWhole, OwnLeasesAreCovered, RowsHaveEnded, ScopesFit, ShelfIsSaid, StampsRise, SubTrees, WholeForEach};
 ghost use Rattle.tree_laws.specs.Refused.{IsLegalButNotWhole, first_row_first, lease_left_over, row_left_over};
 ghost use Rattle.tree_laws.specs.Whole.{IsWholeFor};
 
@@ -28,15 +28,16 @@ pub fn leases_are_covered<P: Finish>()
     ensures own { OwnLeasesAreCovered P.ends }
 {}
 
-/// The tree of a seat that was split off.
+/// The tree of a seat that was split off, and may be taken in again.
 pub fn sub_trees<S: RowSeat>()
 where
     S::Pay: Finish,
     ensures noted { SubTrees S.Pay.ends }
+    ensures joined { JoinedIsFinished S.Pay.ends }
     ensures rows { RowsHaveEnded S.view S.Desk }
 {}
 
-/// The ledger of a tree that is done is legal, in order and complete for its stream.
+/// The ledger of a tree whose root is closed is legal, in order and complete for its stream.
 pub fn ledger_is_whole<P: Finish>()
     ensures events { LedgerHasEvents P.ends }
     ensures order { LedgerIsInOrder P.ends }

@@ -5,5 +5,5 @@ pub returns : goal.returns
 returns g c = record {
   alone = calls_alone;
   finish = alone_can_finish;
-  whole = λ a b L start h calls alone root ledger. alone_whole L start h calls alone root ledger;
+  whole = λ a b L start calls alone root ledger. alone_whole L start calls alone root ledger;
 }

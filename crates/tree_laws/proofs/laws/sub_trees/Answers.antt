@@ -1,4 +1,5 @@
 use Rattle.tree_laws.proofs.Along.{called_after}
+use Rattle.tree_laws.proofs.Joined.{joined_finished}
 use Rattle.tree_laws.proofs.Kept.{closed_rows_end, kept_canceled}
 use Rattle.tree_laws.proofs.laws.sub_trees.Goals as goal
 
@@ -8,5 +9,6 @@ returns g c = record {
     own = λ a b Cs m h e i. (called_after h).own m e i;
     canceled = λ a b Cs j m h k e i. kept_canceled j m h k e i;
   };
+  joined = λ a b d e x Cs Ds L none first can apart is then ledger. joined_finished L none first can apart is then ledger;
   rows = λ t sound main closed r s n. closed_rows_end g.S.RowSeat.view t sound main closed r s n;
 }

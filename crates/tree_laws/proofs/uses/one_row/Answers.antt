@@ -44,4 +44,4 @@ returns g c =
     let room : 1 < c.new-tree.result.scopes = subst (λ n. 1 < n) (sym (ap (λ x. x.scopes) c.new-tree.ensures.seen)) (omega (arith, two)) in
     let alone = one_row_alone (seen g.S.RowSeat.view c.new-tree.result) (seen g.S.RowSeat.view c.open-child.new.self) start c.open-child.ensures.opens (seen g.S.RowSeat.view c.acquired.new.self) c.acquired.ensures.acquires (seen g.S.RowSeat.view c.close.new.self) c.close.ensures.closes in
     let calls = one_row_called (seen g.S.RowSeat.view c.new-tree.result) (seen g.S.RowSeat.view c.open-child.new.self) start c.open-child.ensures.opens (seen g.S.RowSeat.view c.acquired.new.self) c.acquired.ensures.acquires (seen g.S.RowSeat.view c.close.new.self) c.close.ensures.closes room refl empty in
-    record { whole = alone_whole c.finish-ledger.result start (first_alone a Outer 1 8 is) calls alone (closed_now c.close.ensures.closes) (subst (λ s. IsLedgerOf (v s) c.finish-ledger.result) c.end-seat.ensures.seat c.finish-ledger.ensures) }
+    record { whole = alone_whole c.finish-ledger.result start calls alone (closed_now c.close.ensures.closes) (subst (λ s. IsLedgerOf (v s) c.finish-ledger.result) c.end-seat.ensures.seat c.finish-ledger.ensures) }
