@@ -12,10 +12,13 @@ use Rattle.row_seat.specs.Views.{without}
 use Rattle.res_ledger.specs.Own.{own, opens, closes, teardown}
 use Rattle.res_ledger.specs.Order.{firsts, finals}
 use Rattle.scope_tree.specs.declared.branch.Spent.{Spent}
+use Rattle.scope_tree.specs.Rows.{Once}
 use Rattle.scope_tree.specs.Torn.{said}
 use Rattle.scope_tree.specs.Calls.{Seen, AtStart, Opens, Acquires, Closes}
 use Rattle.scope_tree.specs.Words.{words}
 use Rattle.scope_tree.proofs.Bridge.{in_noted}
+use Rattle.scope_tree.proofs.Once.{once_pay}
+use Rattle.scope_tree.proofs.Outcomes.{torn_pays}
 use Rattle.scope_tree.proofs.Use.{opened_said, acquired_said, closed_said, closed_picks, closed_by, all_picked, no_cover, all_open, first_is, leases}
 
 abbrev pub Four : List What
@@ -63,6 +66,17 @@ module _ {P : Type 0} where
   two_of (x ∷ []) i j e = absurd (let f : x.row ∷ [] ≡ i ∷ j ∷ [] = e in cc)
   two_of (x ∷ y ∷ []) i j e = (x, y, refl, let f : x.row ∷ y.row ∷ [] ≡ i ∷ j ∷ [] = e in cc, let f : x.row ∷ y.row ∷ [] ≡ i ∷ j ∷ [] = e in cc)
   two_of (x ∷ y ∷ z ∷ xs) i j e = absurd (let f : x.row ∷ y.row ∷ z.row ∷ firsts (said xs) ≡ i ∷ j ∷ [] = e in cc)
+
+  pub two_opened : {a b d e : Seen P} {c : ℕ} {p q : P} → a.seat.opened ≡ [] → Opens a 0 c b → Acquires b 0 0 p d → Acquires d c 1 q e → e.seat.opened ≡ (0, p) ∷ (1, q) ∷ []
+  two_opened {p = p} {q = q} n o x y =
+      let f : ℕ × P = (0, p) in let s : ℕ × P = (1, q) in
+      ap (λ v. v.opened) y.seat ∙ ap (λ v. v.opened ++ s ∷ []) x.seat ∙ ap (λ v. (v.opened ++ f ∷ []) ++ s ∷ []) o.seat ∙ ap (λ l. (l ++ f ∷ []) ++ s ∷ []) n
+
+  -- of two open rows what ends took its payload
+  pub two_pays : {ends : P → Bool → P → Type 0} {a b : Seen P} {p q : P} {s : ℕ} (x : Spent P) (r : ℕ) (w : P) (c : Closes ends a s b) → Once a.seat.opened → a.seat.opened ≡ (0, p) ∷ (1, q) ∷ [] → IsAmong x c.torn.0 → x.row ≡ r → IsAmong {A = ℕ × P} (r, w) ((0, p) ∷ (1, q) ∷ []) → ends w x.ok x.pay
+  two_pays {ends = ends} {a = a} x r w c once e m i n =
+      let y = torn_pays x c.torn.2 m in
+      subst (λ z. ends z x.ok x.pay) (once_pay r y.0 w a.seat.opened once (subst (λ z. IsAmong (z, y.0) a.seat.opened) i y.1) (subst (λ l. IsAmong (r, w) l) (sym e) n)) y.2
 
   -- a row that may be placed still may, after another was
   pub still_empty : {a b d : Seen P} {c q r : ℕ} {p : P} → IsAmong q a.seat.empty → q ≢ r → Opens a 0 c b → Acquires b 0 r p d → IsAmong q d.seat.empty

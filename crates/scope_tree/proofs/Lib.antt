@@ -27,5 +27,6 @@ pub mod Statuses
 pub mod Leased
 pub mod Chain
 pub mod Tidy
+pub mod Lent
 pub mod ThreeRows
 pub mod Endings

@@ -2,6 +2,7 @@
 use Rattle.std.proofs.Common.{◌≡◌, ℕ, Bool, true, false, cond, not, eqb, filter, List, [], ◌∷◌, refl, sym, ap, ◌∙◌, subst, ⊎_elim, eq-eqb}
 use Rattle.std.specs.List.{list_any as any}
 use Rattle.chunk_core.specs.Lists.{IsAmong}
+use Rattle.chunk_core.specs.Lists.IsAmong.{here, there}
 use Rattle.chunk_core.proofs.Members.{among_cons, among_last, among_nil}
 use Rattle.res_ledger.specs.declared.event.What.{What}
 use Rattle.res_ledger.specs.declared.event.What.TheVariants.{Final, Lease}
@@ -28,6 +29,10 @@ is_leased pairs r = any (λ (x : ℕ × ℕ). eqb x.1 r) pairs
 abbrev pub unleased : List (ℕ × ℕ) → List ℕ → List ℕ
 unleased pairs T = filter (λ r. not (is_leased pairs r)) T
 
+pub unleased_none : (T : List ℕ) → unleased [] T ≡ T
+unleased_none [] = refl
+unleased_none (r ∷ T) = ap (λ l. r ∷ l) (unleased_none T)
+
 lease_final : (j s r : ℕ) (ok : Bool) → (let a : What = Final r ok in a ≡ Lease j s) → ⊥
 lease_final j s r ok e = cc
 
@@ -39,6 +44,10 @@ module _ {P : Type 0} where
   leased_off v r n = not_true' (is_leased v.pairs r) (λ h.
       let t = any_found (λ (x : ℕ × ℕ). eqb x.1 r) v.pairs h in
       n (t.0.0, subst (λ z. IsAmong (t.0.0, z) v.pairs) (eqb_eq t.0.1 r t.2) t.1))
+
+  pub said_found : (r : ℕ) (xs : List (Spent P)) → IsAmong r (firsts (said xs)) → (x : Spent P) × IsAmong x xs × (x.row ≡ r)
+  said_found r [] m = absurd (among_nil m)
+  said_found r (x ∷ xs) m = ⊎_elim (λ e. (x, here xs, sym e)) (λ n. let t = said_found r xs n in (t.0, there x t.1, t.2)) (among_cons m)
 
   -- an end noted later covers nothing more
   stood_before : (v : View P) (r : ℕ) (p : P) (n : ℕ) (ok : Bool) (q : ℕ) → Stood (ended v r p n ok) q → Stood v q

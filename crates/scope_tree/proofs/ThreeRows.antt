@@ -1,13 +1,15 @@
 -- What the calls of a script leave.
-use Rattle.std.proofs.Common.{◌≡◌, ◌≢◌, ℕ, ◌+◌, ◌⊎◌, List, [], ◌∷◌, length, refl, sym, ap, ◌∙◌, subst, ⊎_elim, lit≤}
+use Rattle.std.proofs.Common.{◌≡◌, ◌≢◌, ℕ, ◌+◌, ◌≤◌, ◌⊎◌, List, [], ◌∷◌, length, refl, sym, ap, ◌∙◌, subst, ⊎_elim}
 use Rattle.chunk_core.specs.Lists.{Each, IsAmong}
+use Rattle.chunk_core.specs.Lists.IsAmong.{here, there}
 use Rattle.res_ledger.specs.declared.event.Event.{Event}
 use Rattle.res_ledger.specs.declared.event.What.TheVariants.{Lease}
+use Rattle.res_ledger.specs.declared.event.StreamNo.{StreamNo}
 use Rattle.res_ledger.specs.declared.event.StreamNo.TheVariants.{Inner, Outer}
 use Rattle.res_ledger.specs.Ledger.{IsClosed, IsLeased}
 use Rattle.res_ledger.specs.Own.{leased_of, opens}
 use Rattle.row_seat.specs.declared.view.View.{View}
-use Rattle.row_seat.specs.Views.{start}
+use Rattle.row_seat.specs.Views.{HasRow, start}
 use Rattle.scope_tree.specs.Calls.{Acquires, AtStart, IsOpenScope, Opens, Seen}
 use Rattle.scope_tree.specs.Scripts.{IsThree, at_first, three, with_row, with_scope}
 use Rattle.scope_tree.specs.Waiting.{IsAlone}
@@ -26,8 +28,8 @@ no_lease : (j s : ℕ) → leased_of (Lease j s) ≡ [] → ⊥
 no_lease j s e = absurd (let f : (j, s) ∷ [] ≡ [] = e in cc)
 
 module _ {P : Type 0} where
-  pub script_start : (v : View P) → v ≡ start Outer 3 16 → AtStart v
-  script_start v e = subst AtStart (sym e) (record { events = refl; opened = refl; handed = refl; taken = refl; bare = λ j r m. absurd (among_nil m); leased = λ j r m. absurd (among_nil m); spare = lit≤ tt })
+  pub script_start : (v : View P) (by : StreamNo) (rows events : ℕ) → 1 ≤ events → v ≡ start by rows events → AtStart v
+  script_start v by rows events one e = subst AtStart (sym e) (record { events = refl; opened = refl; handed = refl; taken = refl; bare = λ j r m. absurd (among_nil m); leased = λ j r m. absurd (among_nil m); spare = one })
 
   pub first_is : {a : Seen P} {v : View P} {m n : ℕ} → a ≡ record { seat = v; shelf = []; scopes = m; rows = n } → v ≡ start Outer 3 16 → m ≡ 4 → n ≡ 3 → a ≡ at_first
   first_is {v = v} {m = m} {n = n} e s x y =
@@ -64,3 +66,6 @@ module _ {P : Type 0} where
       among_nil,
       λ x. no_lease j x.1 (subst (λ w. leased_of w ≡ []) x.2.3 (each_among (λ (y : Event). leased_of y.what ≡ []) like.seat.events (refl, (refl, (refl, (refl, (refl, tt))))) x.2.0 x.2.1)),
     )
+
+    pub three_has : HasRow a.seat.opened 1
+    three_has = (q, subst (λ x. IsAmong (1, q) x.seat.opened) (sym t.5) (let first : ℕ × P = (0, p) in let third : ℕ × P = (2, r) in there first (here (third ∷ []))))

@@ -1,4 +1,9 @@
 -- What is left of a tree whose root is closed after a lease.
+use Rattle.res_ledger.specs.Own.{has}
+use Rattle.res_ledger.proofs.Noted.{has_in, in_has}
+use Rattle.scope_tree.proofs.Beneath.{shut_not}
+use Rattle.scope_tree.proofs.Facts.{torn_has}
+use Rattle.scope_tree.proofs.Outcomes.{unleased_none}
 use Rattle.std.proofs.Common.{◌≡◌, ◌≢◌, ℕ, ◌+◌, ◌-◌, ◌<◌, ◌≤◌, suc, Bool, true, false, cond, List, [], ◌∷◌, ◌++◌, length, inl, refl, sym, ap, ◌∙◌, subst, ⊎_elim, arith, length-append, append-nil}
 use Rattle.chunk_core.specs.Lists.{IsAmong}
 use Rattle.chunk_core.specs.Lists.IsAmong.{here, there}
@@ -86,6 +91,16 @@ module _ {P : Type 0} where
   -- where no seat is out, it ends the rows on which no lease stands
   pub close_unleased : {ends : P → Bool → P → Type 0} {a b : Seen P} {s : ℕ} (c : Closes ends a s b) → a.seat.out ≡ [] → firsts (said c.torn.0) ≡ unleased a.seat.pairs (teardown (words a.seat) s)
   close_unleased c o = torn_unleased c.torn.2 o
+
+  -- what was open and isn't is taken down
+  pub close_takes : {ends : P → Bool → P → Type 0} {a b : Seen P} {s : ℕ} (r : ℕ) → Closes ends a s b → HasRow a.seat.opened r → ¬ (HasRow b.seat.opened r) → IsAmong r (teardown (words a.seat) s)
+  close_takes {a = a} {s = s} r c h n =
+      let T = teardown (words a.seat) s in
+      elim (has r T) as (λ x. has r T ≡ x → IsAmong r T) [ true ↦ λ e. has_in r T e | false ↦ λ e. absurd (n (torn_has r c.torn.2 (λ m. shut_not (sym (in_has r T m) ∙ e)) h)) ] refl
+
+  -- where no other stream has a seat or a lease, it ends all that it takes down
+  pub close_all : {ends : P → Bool → P → Type 0} {a b : Seen P} {s : ℕ} (c : Closes ends a s b) → IsAlone a.seat → firsts (said c.torn.0) ≡ teardown (words a.seat) s
+  close_all {a = a} {s = s} c al = close_unleased c al.out ∙ ap (λ l. unleased l (teardown (words a.seat) s)) al.pairs ∙ unleased_none (teardown (words a.seat) s)
 
   module _ {a m : Seen P} {s j : ℕ} {T : List ℕ} (bs : List Branch) (hs : List Held) (k : Kept a.seat bs hs) (sh : Shelved a.seat hs a.shelf) (u : IsOpenScope a s) (o : Leases a s j T m) where
     -- a lease leaves each scope open

@@ -6,6 +6,7 @@
 #![tactic(auto)]
 
 pub mod branch;
+pub mod laws;
 mod leases;
 mod leaving;
 pub mod room;

@@ -151,7 +151,7 @@ where
 /// A payload whose finalizer succeeds where it says so.
 #[derive(Drop, Clone, Copy)]
 pub struct Coin {
-    good: bool,
+    pub good: bool,
 }
 
 impl Finish for Coin {
@@ -165,7 +165,7 @@ impl Finish for Coin {
 }
 
 /// The row in the middle has this outcome, the two others succeed.
-fn three_coins(
+pub fn three_coins(
     alloc: Global,
     middle: bool,
 ) -> Result<(Tree<PlainSeat<Coin>>, PlainTable<Coin>), AllocError>

@@ -12,7 +12,7 @@ use Rattle.scope_tree.proofs.Use.{all_open}
 use Rattle.scope_tree.proofs.scripts.three_rows.Goals as goal
 
 pub new-tree-requires : goal.new-tree-requires
-new-tree-requires g c = record { start = script_start (g.S.RowSeat.view c.args.seat) c.requires.start }
+new-tree-requires g c = record { start = script_start (g.S.RowSeat.view c.args.seat) Outer 3 16 (lit≤ tt) c.requires.start }
 
 pub acquired-requires : goal.acquired-requires
 acquired-requires g c =
