@@ -5,3 +5,4 @@ pub mod Entering
 pub mod Pieces
 pub mod Steps
 pub mod Led
+pub mod Sized

@@ -3,3 +3,4 @@ pub mod Rest
 pub mod Turned
 pub mod Moves
 pub mod Led
+pub mod Sizes

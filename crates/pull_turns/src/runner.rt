@@ -3,6 +3,7 @@ ghost use Rattle.std.specs.Prelude.{◌≡◌, ℕ, ◌+◌, ◌<◌, ◌≤◌,
 ghost use Rattle.chunk_core.specs.declared.code.How.TheVariants as how;
 ghost use Rattle.chunk_core.specs.Elements.{elements};
 ghost use Rattle.pull_turns.specs.Rest.{CanStep, IsRunOfRest, left};
+ghost use Rattle.pull_turns.specs.Sizes.{Sized, given, given_first};
 ghost use Rattle.pull_turns.specs.Turned.{Moved};
 ghost use Rattle.pull_turns.specs.Moves.{how_of};
 ghost use Rattle.pull_turns.specs.Led.{IsShut, Tells, Turns, Uncons, end_by};
@@ -65,6 +66,7 @@ impl<O: Outside> Runner<O> {
         requires can { CanStep (O.seen self.old.outside) 0 self.old.rest }
         requires chunk { 0 < self.old.chunk }
         ensures turned { IfOk result (λ t. Turns (O.seen self.old.outside) (O.seen self.new.outside) self.old.chunk self.old.rest self.new.rest t) }
+        ensures sized { IfOk result (λ t. Sized self.old.chunk self.old.rest self.new.rest (given t)) }
         ensures how { IfOk result (λ t. self.new.how ≡ how_of t) }
         ensures sound { IfOk result (λ t. self.new.wanting ≡ false) }
         ensures wanting { OnErr result ((self.new.wanting ≡ true) × (self.new.how ≡ None)) }
@@ -96,6 +98,7 @@ impl<O: Outside> Runner<O> {
         requires chunk { 0 < self.old.chunk }
         requires turns { 1 ≤ turns }
         ensures first { IfOk result (λ u. Uncons (O.seen self.old.outside) (O.seen self.new.outside) turns self.old.rest self.new.rest self.new.how u) }
+        ensures sized { IfOk result (λ u. Sized self.old.chunk self.old.rest self.new.rest (given_first u)) }
         ensures sound { IfOk result (λ u. self.new.wanting ≡ false) }
         ensures wanting { OnErr result ((self.new.wanting ≡ true) × (self.new.how ≡ None)) }
         ensures stopped { OnErr result ((O.seen self.new.outside).opened 0 × Tells (O.seen self.old.outside).told (O.seen self.new.outside).told self.old.rest) }

@@ -1,6 +1,7 @@
 //! One turn of what is left of a node.
 ghost use Rattle.std.specs.Prelude.{◌≡◌, ℕ, ◌<◌, IfOk, OnErr, if◌then◌else◌};
 ghost use Rattle.pull_turns.specs.Rest.{CanStep};
+ghost use Rattle.pull_turns.specs.Sizes.{Sized, given};
 ghost use Rattle.pull_turns.specs.Turned.{Moved, Turned};
 ghost use Rattle.pull_turns.specs.Moves.{is_end, is_done, is_fault, behind, append_turn, guard_turn, LeavesAtEnd};
 
@@ -27,6 +28,7 @@ pub(crate) fn step<O: Outside>(
     requires ready { CanStep (O.seen outside.old) scope rest.old }
     requires chunk { 0 < chunk }
     ensures turned { IfOk result (λ t. Turned (O.seen outside.old) (O.seen outside.new) scope chunk rest.old rest.new t) }
+    ensures sized { IfOk result (λ t. Sized chunk rest.old rest.new (given t)) }
     ensures stopped { OnErr result (Moved (O.seen outside.old) (O.seen outside.new) scope rest.old) }
     ensures fits { O.fits outside.new desk.new }
     ensures since { O.since outside.old desk.old outside.new desk.new }

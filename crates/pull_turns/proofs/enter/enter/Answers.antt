@@ -1,5 +1,6 @@
 use Rattle.std.proofs.Common.{refl}
 use Rattle.pull_turns.proofs.Entering.{emit_enter, weak_enter, weak_refused, scope_enter, append_enter, guard_enter}
+use Rattle.pull_turns.proofs.Sized.{emit_sized}
 use Rattle.pull_turns.proofs.enter.enter.Goals as goal
 
 pub returns-in-Emit-clause-turned : goal.returns-in-Emit-clause-turned
@@ -19,3 +20,6 @@ returns-in_ok-a-in-Append-clause-turned g c n = rw (c.in-Append.is, c.in_ok-a-in
 
 pub returns-in_ok-a-in-OnFault-clause-turned : goal.returns-in_ok-a-in-OnFault-clause-turned
 returns-in_ok-a-in-OnFault-clause-turned g c n = rw (c.in-OnFault.is, c.in_ok-a-in-OnFault.ensures) (guard_enter _ _ n _ _ _ _ _ (rw c.in-OnFault.is at c.requires.ready))
+
+pub returns-in-Emit-clause-sized : goal.returns-in-Emit-clause-sized
+returns-in-Emit-clause-sized g c n = rw (c.in-Emit.is, c.give.ensures) (emit_sized n _)

@@ -1,5 +1,6 @@
 use Rattle.std.proofs.Common.{arith, ◌∙◌, Result, Ok, Err, OnErr}
 use Rattle.pull_turns.proofs.Led.{led_chunk, led_quiet, led_done, led_fault, led_tells, tells_on, moved_tells}
+use Rattle.pull_turns.proofs.Sized.{sized_then}
 use Rattle.pull_turns.proofs.runner.Runner.uncons.Goals as goal
 
 on_err : {T E P : Type 0} (r : Result T E) → P → OnErr r P
@@ -42,5 +43,18 @@ loop-turn-preserved g c =
       can = k.can tt;
       chunk = c.in_ok-load.ensures.chunk ∙ i.chunk;
       fewer = omega (arith, k.gave.0, i.fewer);
+      sized = sized_then _ _ _ _ _ i.sized (rw (c.in-Quiet.is, i.chunk) at c.in_ok-load.ensures.sized);
       led = led_quiet _ _ _ _ _ _ _ _ i.led k;
     }
+
+pub returns-in-Chunk-clause-sized : goal.returns-in-Chunk-clause-sized
+returns-in-Chunk-clause-sized g c = let i = c.loop-turn.invariant in sized_then _ _ _ _ _ i.sized (rw (c.in-Chunk.is, i.chunk) at c.in_ok-load.ensures.sized)
+
+pub returns-in-Done-clause-sized : goal.returns-in-Done-clause-sized
+returns-in-Done-clause-sized g c = let i = c.loop-turn.invariant in sized_then _ _ _ _ _ i.sized (rw (c.in-Done.is, i.chunk) at c.in_ok-load.ensures.sized)
+
+pub returns-in-Fault-clause-sized : goal.returns-in-Fault-clause-sized
+returns-in-Fault-clause-sized g c = let i = c.loop-turn.invariant in sized_then _ _ _ _ _ i.sized (rw (c.in-Fault.is, i.chunk) at c.in_ok-load.ensures.sized)
+
+pub returns-clause-sized : goal.returns-clause-sized
+returns-clause-sized g c = c.loop-turn.invariant.sized

@@ -1,6 +1,7 @@
 use Rattle.std.proofs.Common.{◌≡◌, ◌+◌, ◌≤◌, false, None, []}
 use Rattle.pull_turns.specs.Rest.{CanStep, left}
 use Rattle.pull_turns.specs.Led.{Led}
+use Rattle.pull_turns.specs.Sizes.{Sized}
 use Rattle.pull_turns.proofs.runner.Runner.uncons.Given as goal
 
 abbrev pub invariant-loop-turn : goal.invariant-loop-turn
@@ -12,5 +13,6 @@ invariant-loop-turn g l = record {
   can : CanStep (g.O.Outside.seen l.self.outside) 0 l.self.rest;
   chunk : l.self.chunk ≡ l.fn.self.chunk;
   fewer : left l.self.rest + l._turn ≤ left l.fn.self.rest;
+  sized : Sized l.fn.self.chunk l.fn.self.rest l.self.rest [];
   led : Led (g.O.Outside.seen l.fn.self.outside).told (g.O.Outside.seen l.self.outside).told l.fn.self.rest l.self.rest [];
 }
