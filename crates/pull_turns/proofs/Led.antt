@@ -6,9 +6,9 @@ use Rattle.chunk_core.specs.declared.load.Load.{Load}
 use Rattle.chunk_core.specs.Elements.{Element, elements}
 use Rattle.chunk_core.specs.Outcomes.{Done, Fault, Cut}
 use Rattle.device_port.specs.Device.{DeviceTold}
-use Rattle.pull_turns.specs.Around.{Around, OpenAreHeld, Leaves, gist}
+use Rattle.pull_turns.specs.Around.{Affords, Around, OpenAreHeld, Leaves, gist}
 use Rattle.pull_turns.specs.Rest.{IsRunOfRest, IsLive, CanStep}
-use Rattle.pull_turns.specs.Turned.{Leads, Ends, Over, Moved, Turned, GoesOn}
+use Rattle.pull_turns.specs.Turned.{Leads, Ends, Over, Moved, Turned, GoesOn, Spends}
 use Rattle.pull_turns.specs.Moves.{LeavesAtEnd}
 use Rattle.pull_turns.specs.Led.{IsShut, Tells, Turns, Led}
 use Rattle.pull_turns.specs.declared.rest.Rest.{Rest}
@@ -49,6 +49,16 @@ can_on a b n old new t c h g = record {
   rows = omega (arith, c.rows, h.spends.rows);
 }
 
+-- what closing a scope gives back is no use of room
+spends_on : (a b c : Around) (old new : Rest) → Spends a b old new → Affords b c → Spends a c old new
+spends_on a b c old new h l = record { events = omega (arith, h.events, l.events); scopes = omega (arith, h.scopes, l.scopes); rows = omega (arith, h.rows, l.rows) }
+
+pub spends_then : (a b c : Around) (old mid new : Rest) → Spends a b old mid → Spends b c mid new → Spends a c old new
+spends_then a b c old mid new h i = record { events = omega (arith, h.events, i.events); scopes = omega (arith, h.scopes, i.scopes); rows = omega (arith, h.rows, i.rows) }
+
+pub spends_none : (a : Around) (r : Rest) → Spends a a r r
+spends_none a r = record { events = omega arith; scopes = omega arith; rows = omega arith }
+
 module _ {O : Type 0} (seen : O → Around) (a : Around) (y z : O) (n : ℕ) (old new : Rest) (c : CanStep a 0 old) (tidy : OpenAreHeld (seen z)) where
   runs : (t : Turn) → z ≡ y → GoesOn t → Turned a (seen y) 0 n old new t → Turns a (seen z) n old new t
   runs t e g h = subst (λ (o : O). Turns a (seen o) n old new t) (sym e) (record {
@@ -56,6 +66,7 @@ module _ {O : Type 0} (seen : O → Around) (a : Around) (y z : O) (n : ℕ) (ol
     once = h.once;
     live = h.live;
     fewer = h.fewer;
+    spends = h.spends;
     can = can_on a (seen y) n old new t c h;
     shut = λ i. absurd (i g);
     cause = h.cause;
@@ -76,6 +87,7 @@ module _ {O : Type 0} (seen : O → Around) (a : Around) (y z : O) (n : ℕ) (ol
     once = once_on a.told (seen y).told (seen z).told n h.once e.told;
     live = h.live;
     fewer = h.fewer;
+    spends = spends_on a (seen y) (seen z) old new h.spends e.affords;
     can = λ g. absurd g;
     shut = λ i. shut_so (seen z) tidy (e.root refl);
     cause = cause_on a.told (seen y).told (seen z).told old old turn.Done (λ p i. i) e.told h.cause;
@@ -86,6 +98,7 @@ module _ {O : Type 0} (seen : O → Around) (a : Around) (y z : O) (n : ℕ) (ol
     once = once_on a.told (seen y).told (seen z).told n h.once e.told;
     live = h.live;
     fewer = h.fewer;
+    spends = spends_on a (seen y) (seen z) old new h.spends e.affords;
     can = λ g. absurd g;
     shut = λ i. shut_so (seen z) tidy (e.root refl);
     cause = cause_on a.told (seen y).told (seen z).told old old (turn.Fault d) (λ p i. i) e.told h.cause;

@@ -7,7 +7,7 @@ use Rattle.chunk_core.specs.Outcomes.{End, Done, Fault, Cut}
 use Rattle.device_port.specs.Device.{DeviceTold}
 use Rattle.pull_turns.specs.Around.{Around, Goes, gist}
 use Rattle.pull_turns.specs.Rest.{IsRunOfRest, IsLive, CanStep, left}
-use Rattle.pull_turns.specs.Turned.{Leads, Ends, Over, ReadsOnce, HasCause, Gave, GoesOn}
+use Rattle.pull_turns.specs.Turned.{Leads, Ends, Over, ReadsOnce, HasCause, Gave, GoesOn, Spends}
 use Rattle.pull_turns.specs.declared.rest.Rest.{Rest}
 use Rattle.pull_turns.specs.declared.turn.Turn.{Turn}
 use Rattle.pull_turns.specs.declared.runner.Unconsed.{Unconsed}
@@ -29,6 +29,7 @@ pub record Turns (before now : Around) (n : ℕ) (old new : Rest) (t : Turn) : T
   pub once : ReadsOnce before.told now.told n
   pub live : (p : ℕ) → IsLive p new → IsLive p old
   pub fewer : left new ≤ left old
+  pub spends : Spends before now old new
   pub can : GoesOn t → CanStep now 0 new
   pub shut : (GoesOn t → ⊥) → IsShut now
   pub cause : HasCause before.told now.told old t

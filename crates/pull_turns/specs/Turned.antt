@@ -7,6 +7,7 @@ use Rattle.device_port.specs.Device.{DeviceTold}
 use Rattle.pull_turns.specs.Around.{Around, Goes, Keeps, gist}
 use Rattle.pull_turns.specs.Rest.{IsRunOfRest, IsLive, IsReady, left, rows_left, scopes_left}
 use Rattle.pull_turns.specs.declared.rest.Rest.{Rest}
+use Rattle.pull_turns.specs.declared.rest.Rest.TheVariants.{Nil}
 use Rattle.pull_turns.specs.declared.turn.Turn.{Turn}
 use Rattle.pull_turns.specs.declared.turn.Turn.TheVariants as turn
 
@@ -61,6 +62,10 @@ pub record Spends (before now : Around) (old new : Rest) : Type 0 where
   pub events : before.events + 2 * rows_left new + 2 * scopes_left new ≤ now.events + 2 * rows_left old + 2 * scopes_left old
   pub scopes : before.scopes + scopes_left new ≤ now.scopes + scopes_left old
   pub rows : before.rows + rows_left new ≤ now.rows + rows_left old
+
+-- no more room was used than what was left could need
+abbrev pub SpendsWithin : Around → Around → Rest → Type 0
+SpendsWithin before now old = Spends before now old Nil
 
 -- a turn was made in the scope s, with reads of at most n bytes
 pub record Turned (before now : Around) (s n : ℕ) (old new : Rest) (t : Turn) : Type 0 where

@@ -2,7 +2,7 @@
 ghost use Rattle.std.specs.Prelude.{◌≡◌, ℕ, IfOk, OnErr};
 ghost use Rattle.pull_turns.specs.Rest.{CanStep};
 ghost use Rattle.pull_turns.specs.Sizes.{Sized, given};
-ghost use Rattle.pull_turns.specs.Turned.{Moved, Turned};
+ghost use Rattle.pull_turns.specs.Turned.{Moved, SpendsWithin, Turned};
 ghost use Rattle.pull_turns.specs.declared.rest.Rest.TheVariants as rest;
 
 use crate::loads::give;
@@ -26,6 +26,7 @@ pub(crate) fn enter<O: Outside>(
     requires ready { CanStep (O.seen outside.old) scope (rest.Start node) }
     ensures turned { IfOk result (λ r. (n : ℕ) → Turned (O.seen outside.old) (O.seen outside.new) scope n (rest.Start node) r.0 r.1) }
     ensures sized { IfOk result (λ r. (n : ℕ) → Sized n (rest.Start node) r.0 (given r.1)) }
+    ensures spent { OnErr result (SpendsWithin (O.seen outside.old) (O.seen outside.new) (rest.Start node)) }
     ensures stopped { OnErr result (Moved (O.seen outside.old) (O.seen outside.new) scope (rest.Start node)) }
     ensures fits { O.fits outside.new desk.new }
     ensures since { O.since outside.old desk.old outside.new desk.new }

@@ -2,9 +2,10 @@
 ghost use Rattle.std.specs.Prelude.{◌≡◌, ℕ, ◌+◌, ◌<◌, ◌≤◌, true, false, Some, None, flat_map, length, IfOk, OnErr};
 ghost use Rattle.chunk_core.specs.declared.code.How.TheVariants as how;
 ghost use Rattle.chunk_core.specs.Elements.{elements};
+ghost use Rattle.pull_turns.specs.Around.{Affords};
 ghost use Rattle.pull_turns.specs.Rest.{CanStep, IsRunOfRest, left};
 ghost use Rattle.pull_turns.specs.Sizes.{Sized, given, given_first};
-ghost use Rattle.pull_turns.specs.Turned.{Moved};
+ghost use Rattle.pull_turns.specs.Turned.{Moved, Spends, SpendsWithin};
 ghost use Rattle.pull_turns.specs.Moves.{how_of};
 ghost use Rattle.pull_turns.specs.Led.{IsShut, Tells, Turns, Uncons, end_by};
 ghost use Rattle.pull_turns.specs.declared.rest.Rest.TheVariants as rest;
@@ -70,6 +71,7 @@ impl<O: Outside> Runner<O> {
         ensures how { IfOk result (λ t. self.new.how ≡ how_of t) }
         ensures sound { IfOk result (λ t. self.new.wanting ≡ false) }
         ensures wanting { OnErr result ((self.new.wanting ≡ true) × (self.new.how ≡ None)) }
+        ensures spent { OnErr result (SpendsWithin (O.seen self.old.outside) (O.seen self.new.outside) self.old.rest) }
         ensures stopped { OnErr result (Moved (O.seen self.old.outside) (O.seen self.new.outside) 0 self.old.rest) }
         ensures chunk { self.new.chunk ≡ self.old.chunk }
         ensures fits { O.fits self.new.outside desk.new }
@@ -99,8 +101,10 @@ impl<O: Outside> Runner<O> {
         requires turns { 1 ≤ turns }
         ensures first { IfOk result (λ u. Uncons (O.seen self.old.outside) (O.seen self.new.outside) turns self.old.rest self.new.rest self.new.how u) }
         ensures sized { IfOk result (λ u. Sized self.old.chunk self.old.rest self.new.rest (given_first u)) }
+        ensures spends { IfOk result (λ u. Spends (O.seen self.old.outside) (O.seen self.new.outside) self.old.rest self.new.rest) }
         ensures sound { IfOk result (λ u. self.new.wanting ≡ false) }
         ensures wanting { OnErr result ((self.new.wanting ≡ true) × (self.new.how ≡ None)) }
+        ensures spent { OnErr result (SpendsWithin (O.seen self.old.outside) (O.seen self.new.outside) self.old.rest) }
         ensures stopped { OnErr result ((O.seen self.new.outside).opened 0 × Tells (O.seen self.old.outside).told (O.seen self.new.outside).told self.old.rest) }
         ensures chunk { self.new.chunk ≡ self.old.chunk }
         ensures fits { O.fits self.new.outside desk.new }
@@ -131,6 +135,7 @@ impl<O: Outside> Runner<O> {
         requires root { (O.seen self.old.outside).opened 0 }
         ensures shut { IsShut (O.seen self.new.outside) }
         ensures tells { Tells (O.seen self.old.outside).told (O.seen self.new.outside).told rest.Nil }
+        ensures affords { Affords (O.seen self.old.outside) (O.seen self.new.outside) }
         ensures halted { self.old.wanting ≡ false → self.new.how ≡ Some how.Halted }
         ensures memory { self.old.wanting ≡ true → self.new.how ≡ Some how.Memory }
         ensures wanting { self.new.wanting ≡ self.old.wanting }

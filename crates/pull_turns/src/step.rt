@@ -2,7 +2,7 @@
 ghost use Rattle.std.specs.Prelude.{◌≡◌, ℕ, ◌<◌, IfOk, OnErr, if◌then◌else◌};
 ghost use Rattle.pull_turns.specs.Rest.{CanStep};
 ghost use Rattle.pull_turns.specs.Sizes.{Sized, given};
-ghost use Rattle.pull_turns.specs.Turned.{Moved, Turned};
+ghost use Rattle.pull_turns.specs.Turned.{Moved, SpendsWithin, Turned};
 ghost use Rattle.pull_turns.specs.Moves.{is_end, is_done, is_fault, behind, append_turn, guard_turn, LeavesAtEnd};
 
 use crate::enter::enter;
@@ -29,6 +29,7 @@ pub(crate) fn step<O: Outside>(
     requires chunk { 0 < chunk }
     ensures turned { IfOk result (λ t. Turned (O.seen outside.old) (O.seen outside.new) scope chunk rest.old rest.new t) }
     ensures sized { IfOk result (λ t. Sized chunk rest.old rest.new (given t)) }
+    ensures spent { OnErr result (SpendsWithin (O.seen outside.old) (O.seen outside.new) rest.old) }
     ensures stopped { OnErr result (Moved (O.seen outside.old) (O.seen outside.new) scope rest.old) }
     ensures fits { O.fits outside.new desk.new }
     ensures since { O.since outside.old desk.old outside.new desk.new }

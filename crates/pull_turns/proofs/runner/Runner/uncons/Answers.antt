@@ -1,5 +1,5 @@
 use Rattle.std.proofs.Common.{arith, ◌∙◌, Result, Ok, Err, OnErr}
-use Rattle.pull_turns.proofs.Led.{led_chunk, led_quiet, led_done, led_fault, led_tells, tells_on, moved_tells}
+use Rattle.pull_turns.proofs.Led.{led_chunk, led_quiet, led_done, led_fault, led_tells, spends_then, tells_on, moved_tells}
 use Rattle.pull_turns.proofs.Sized.{sized_then}
 use Rattle.pull_turns.proofs.runner.Runner.uncons.Goals as goal
 
@@ -42,6 +42,7 @@ loop-turn-preserved g c =
       sound = c.in_ok-load.ensures.sound;
       can = k.can tt;
       chunk = c.in_ok-load.ensures.chunk ∙ i.chunk;
+      spends = spends_then _ _ _ _ _ _ i.spends k.spends;
       fewer = omega (arith, k.gave.0, i.fewer);
       sized = sized_then _ _ _ _ _ i.sized (rw (c.in-Quiet.is, i.chunk) at c.in_ok-load.ensures.sized);
       led = led_quiet _ _ _ _ _ _ _ _ i.led k;
