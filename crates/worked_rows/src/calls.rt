@@ -4,7 +4,7 @@ use chunk_core::{Code, How, List, Word};
 use device_port::Failed;
 use flume_cli::tail::tail_of;
 use flume_cli::{put_frame, run_cat};
-use res_ledger::{StreamNo, text};
+use res_ledger::{LedgerRefused, StreamNo, What, read, text};
 use run_rules::EndOf;
 use std::test::Fail;
 
@@ -65,5 +65,32 @@ fn file_is_read_in_pieces(rt: HostRuntime) -> Result<(), Fail> {
     assert_eq!(rt; outcome.ledger.len(), 3);
     assert!(rt; !outcome.sink_failed);
     assert!(rt; !outcome.memory);
+    Ok(())
+}
+
+/// The printed ledger gives its events back, and other texts say why they are none.
+#[test]
+fn ledger_is_read_back(rt: HostRuntime) -> Result<(), Fail> {
+    let alloc = rt.alloc();
+    let printed = b"ledger 3\n0 acquire 0 0\n0 close 0\n0 final 0 ok\n";
+    let ledger = read(alloc, printed.as_slice())?;
+    let noted = [
+        What::Acquire { row: 0, scope: 0 },
+        What::Close { scope: 0 },
+        What::Final { row: 0, ok: true },
+    ];
+    assert_eq!(rt; ledger.len(), 3);
+    for event in ledger.as_slice() {
+        assert_eq!(rt; event.by, StreamNo::Inner(0));
+        assert_eq!(rt; noted.get(event.stamp as usize), Some(&event.what));
+    }
+    assert_eq!(rt;
+        read(alloc, b"ledger 2\n0 close 0\n".as_slice()).err(),
+        Some(LedgerRefused::BadCount(2, 1))
+    );
+    assert_eq!(rt;
+        read(alloc, b"ledger 1\n0 shut 0\n".as_slice()).err(),
+        Some(LedgerRefused::BadLine(1))
+    );
     Ok(())
 }
