@@ -6,6 +6,7 @@ use Rattle.res_ledger.specs.declared.event.Event.{Event}
 use Rattle.res_ledger.specs.declared.event.StreamNo.{StreamNo}
 use Rattle.res_ledger.specs.declared.event.What.{What}
 use Rattle.res_ledger.specs.declared.event.What.TheVariants.{Open, Acquire, Close, Final}
+use Rattle.res_ledger.specs.Own.{leased_of}
 use Rattle.row_seat.specs.declared.view.View.{View}
 use Rattle.row_seat.specs.Views.{IsLedgerOf, kept_after, noted, start as first_view}
 use Rattle.scope_tree.specs.declared.branch.Spent.{Spent}
@@ -30,19 +31,19 @@ module _ {P : Type 0} where
     kept = b.kept ∙ a.kept;
     had = b.had ∙ a.had;
     out = b.out ∙ a.out;
-    events = λ e m. ⊎_elim (λ n. ⊎_elim (λ o. inl o) (λ k. inr (k ∙ sym b.by)) (a.events e n)) (λ k. inr k) (b.events e m);
+    events = λ e m. ⊎_elim (λ n. ⊎_elim (λ o. inl o) (λ k. inr (k.0 ∙ sym b.by, k.1)) (a.events e n)) (λ k. inr k) (b.events e m);
   }
 
-  alone_noted : (v : View P) (n : ℕ) (w : What) → kept_after w v.kept ≡ v.kept → StaysAlone v (noted v (record { stamp = n; by = v.by; what = w }))
-  alone_noted v n w k =
+  alone_noted : (v : View P) (n : ℕ) (w : What) → kept_after w v.kept ≡ v.kept → leased_of w ≡ [] → StaysAlone v (noted v (record { stamp = n; by = v.by; what = w }))
+  alone_noted v n w k l =
       let x : Event = record { stamp = n; by = v.by; what = w } in
-      record { by = refl; main = refl; pairs = refl; kept = k; had = refl; out = refl; events = λ e m. ⊎_elim (λ o. inl o) (λ i. inr (ap (λ (z : Event). z.by) i)) (among_snoc v.events e x m) }
+      record { by = refl; main = refl; pairs = refl; kept = k; had = refl; out = refl; events = λ e m. ⊎_elim (λ o. inl o) (λ i. inr (ap (λ (z : Event). z.by) i, ap (λ (z : Event). leased_of z.what) i ∙ l)) (among_snoc v.events e x m) }
 
   pub alone_opens : {a b : Seen P} {at c : ℕ} → Opens a at c b → StaysAlone a.seat b.seat
-  alone_opens {a = a} {c = c} o = subst (λ v. StaysAlone a.seat v) (sym o.seat) (alone_noted a.seat o.stamp (Open c o.parent) refl)
+  alone_opens {a = a} {c = c} o = subst (λ v. StaysAlone a.seat v) (sym o.seat) (alone_noted a.seat o.stamp (Open c o.parent) refl refl)
 
   pub alone_acquires : {a b : Seen P} {s r : ℕ} {p : P} → Acquires a s r p b → StaysAlone a.seat b.seat
-  alone_acquires {a = a} {s = s} {r = r} o = subst (λ v. StaysAlone a.seat v) (sym o.seat) (let t = alone_noted a.seat o.stamp (Acquire r s) refl in record { by = t.by; main = t.main; pairs = t.pairs; kept = t.kept; had = t.had; out = t.out; events = t.events })
+  alone_acquires {a = a} {s = s} {r = r} o = subst (λ v. StaysAlone a.seat v) (sym o.seat) (let t = alone_noted a.seat o.stamp (Acquire r s) refl refl in record { by = t.by; main = t.main; pairs = t.pairs; kept = t.kept; had = t.had; out = t.out; events = t.events })
 
   -- the first seat of a run is at its start, alone
   pub first_at_start : (v : View P) (k : StreamNo) (rows n : ℕ) → v ≡ first_view k rows n → 1 ≤ n → AtStart v
@@ -62,7 +63,7 @@ module _ {P : Type 0} {ends : P → Bool → P → Type 0} where
   alone_torn (done v) = alone_same v
   alone_torn (stays v r p m st t) = let a = alone_torn t in record { by = a.by; main = a.main; pairs = a.pairs; kept = a.kept; had = a.had; out = a.out; events = a.events }
   alone_torn (ends_so v p n x m q e f t) =
-      let b = alone_noted v n (Final x.row x.ok) refl in
+      let b = alone_noted v n (Final x.row x.ok) refl refl in
       let a = alone_torn t in record {
         by = a.by;
         main = a.main;
@@ -70,11 +71,11 @@ module _ {P : Type 0} {ends : P → Bool → P → Type 0} where
         kept = a.kept;
         had = a.had;
         out = a.out;
-        events = λ y i. ⊎_elim (λ o. ⊎_elim (λ z. inl z) (λ z. inr (z ∙ sym a.by)) (b.events y o)) (λ z. inr z) (a.events y i);
+        events = λ y i. ⊎_elim (λ o. ⊎_elim (λ z. inl z) (λ z. inr (z.0 ∙ sym a.by, z.1)) (b.events y o)) (λ z. inr z) (a.events y i);
       }
 
   pub alone_closes : {a b : Seen P} {s : ℕ} → Closes ends a s b → StaysAlone a.seat b.seat
-  alone_closes {a = a} {s = s} c = alone_then _ _ _ (alone_noted a.seat c.stamp (Close s) refl) (alone_torn c.torn.2)
+  alone_closes {a = a} {s = s} c = alone_then _ _ _ (alone_noted a.seat c.stamp (Close s) refl refl) (alone_torn c.torn.2)
 
   pub calls_alone : CallsStayAlone ends
   calls_alone = record {
@@ -89,6 +90,6 @@ module _ {P : Type 0} {ends : P → Bool → P → Type 0} where
   pub alone_whole : {a b : Seen P} (L : List Event) → AtStart a.seat → Called ends a [] b → StaysAlone a.seat b.seat → IsClosedScope b 0 → IsLedgerOf b.seat L → IsWhole L
   alone_whole {a = a} {b = b} L start calls alone root ledger =
       let own : IsWholeFor L b.seat.by = called_whole b.seat L start calls (record { ledger = ledger; own = λ e k. ((λ m. m), (λ m. m)) }) root (λ j T m. absurd (among_nil m)) in
-      let by : (e : Event) → IsAmong e L → e.by ≡ b.seat.by = λ e m. ⊎_elim (λ n. absurd (among_nil (subst (λ l. IsAmong e l) start.events n))) (λ k. k) (alone.events e ((ledger.whole e).0 m)) in
+      let by : (e : Event) → IsAmong e L → e.by ≡ b.seat.by = λ e m. ⊎_elim (λ n. absurd (among_nil (subst (λ l. IsAmong e l) start.events n))) (λ k. k.0) (alone.events e ((ledger.whole e).0 m)) in
       let all = whole_each L (λ e m. subst (λ k. IsWholeFor L k) (sym (by e m)) own) in
       record { legal = ledger.legal; complete = all.0; order = all.1 }
