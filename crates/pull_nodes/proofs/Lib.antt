@@ -3,3 +3,4 @@ pub mod Ideal
 pub mod Left
 pub mod Joins
 pub mod Inside
+mod PipeExamples

@@ -1,11 +1,16 @@
 -- What holds of the runs of every node.
-use Rattle.std.specs.Prelude.{◌≡◌, ℕ, List, ◌++◌, Some}
+use Rattle.std.specs.Prelude.{◌≡◌, ◌↔◌, ℕ, true, List, ◌++◌, Some, None}
 use Rattle.chunk_core.specs.Elements.{Element}
+use Rattle.chunk_core.specs.Feed.{Meaning}
 use Rattle.chunk_core.specs.Outcomes.{End, Cut}
+use Rattle.chunk_core.specs.declared.code.Code.{Code}
 use Rattle.device_port.specs.Device.{DeviceTold, faults_of}
+use Rattle.pull_nodes.specs.Pipes.{IsMeaningOf}
 use Rattle.pull_nodes.specs.Runs.{IsRun, IsIdealRun}
+use Rattle.pull_nodes.specs.Utf8.{IsMalformed, is_malformed, utf8_rest}
 use Rattle.pull_nodes.specs.declared.node.Node.{Node}
 use Rattle.pull_nodes.specs.declared.node.Node.TheVariants.{Nil, Emit, Raise, Read, Weak', Scope', Append', OnFault', Take'}
+use Rattle.pull_nodes.specs.declared.pipe.Pipe.{Pipe}
 
 -- a front of what a run gives is what a run gives that was left
 abbrev pub CanBeLeft : Type 0
@@ -36,3 +41,21 @@ abbrev pub HasOneIdealRun : Type 0
 HasOneIdealRun =
     (v w : ℕ → DeviceTold) (n : Node) (xs ys : List Element) (e g : End) → IsClean v → IsClean w → TellSameOf v w n
     → IsIdealRun v n xs e → IsIdealRun w n ys g → (xs ≡ ys) × (e ≡ g)
+
+-- the second list is the first one and maybe more
+abbrev pub IsFront : List Element → List Element → Type 0
+IsFront ys zs = (more : List Element) × (zs ≡ ys ++ more)
+
+-- what was given is a front of what is given when the input goes on or ends, and after a fault nothing more is given
+pub record IsSteady (m : Meaning) : Type 0 where
+  pub grows : (xs zs : List Element) → (m.part xs).fault ≡ None → IsFront (m.part xs).list (m.part (xs ++ zs)).list
+  pub ends : (xs : List Element) → (m.part xs).fault ≡ None → IsFront (m.part xs).list (m.all xs).list
+  pub stops : (xs zs : List Element) (c : Code) → (m.part xs).fault ≡ Some c → (m.part (xs ++ zs) ≡ m.part xs) × (m.all (xs ++ zs) ≡ m.part xs)
+
+-- each pipe is so at each kind that it takes
+abbrev pub PipesAreSteady : Type 0
+PipesAreSteady = (p : Pipe) (m : Meaning) → IsMeaningOf p m → IsSteady m
+
+-- what the standard library says of the bytes behind the longest well-formed front is that no continuation makes them well formed
+abbrev pub TellsMalformed : Type 0
+TellsMalformed = (xs : List ℕ) → (is_malformed (utf8_rest xs) ≡ true) ↔ IsMalformed (utf8_rest xs)

@@ -1,8 +1,8 @@
 ghost use Rattle.std.specs.Prelude.{◌≡◌, IfOk};
 ghost use Rattle.pull_nodes.specs.Shape.{node_count};
 
-use crate::{Kind, KindFault, Node};
-use chunk_core::{Chunk, Load, Span};
+use crate::{Kind, KindFault, Node, Pipe};
+use chunk_core::{Chunk, List, Load, Span};
 use std::alloc::{AllocError, Global};
 use std::test::Fail;
 
@@ -75,5 +75,21 @@ fn misplaced_nodes_are_told(rt: HostRuntime) -> Result<(), Fail> {
     let inner = Node::Append(read(alloc, 3)?, read(alloc, 3)?);
     let again = Node::Weak(3, Box::new(alloc, inner)?);
     assert!(rt; !again.placed(span));
+    Ok(())
+}
+
+#[test]
+fn a_pipe_gives_a_kind_of_what_it_takes(rt: HostRuntime) -> Result<(), Fail> {
+    let alloc = rt.alloc();
+    assert_eq!(rt; Pipe::Lines.kind(Kind::Bytes), Ok(Kind::Lines));
+    assert_eq!(rt; Pipe::Upper.kind(Kind::Lines), Ok(Kind::Lines));
+    assert_eq!(rt; Pipe::Drop(3).kind(Kind::Rows), Ok(Kind::Rows));
+    assert_eq!(rt; Pipe::ChunkN(2).kind(Kind::Any), Ok(Kind::Any));
+    assert_eq!(rt; Pipe::Utf8.kind(Kind::Any), Ok(Kind::Bytes));
+    assert_eq!(rt; Pipe::Changes.kind(Kind::Bytes), Err(KindFault));
+    assert_eq!(rt;
+        Pipe::Filter(List::new(alloc)).kind(Kind::Rows),
+        Err(KindFault)
+    );
     Ok(())
 }

@@ -1,0 +1,73 @@
+-- The lines of bytes.
+use Rattle.std.specs.Prelude.{ℕ, Bool, ◌==◌, ◌&&◌, ◌||◌, if◌then◌else◌, nat_lt, List, [], ◌∷◌, ◌++◌, length, map, Option, Some, None}
+use Rattle.chunk_core.specs.Elements.{Line}
+use Rattle.chunk_core.specs.Feed.{Given}
+use Rattle.chunk_core.specs.declared.code.Code.{Code}
+use Rattle.chunk_core.specs.declared.code.Code.TheVariants as code
+
+-- a line ends at a CR or a LF
+abbrev pub is_end : ℕ → Bool
+is_end c = (c == 13) || (c == 10)
+
+-- the last byte, or b where there is none
+unfoldable pub last_byte : ℕ → List ℕ → ℕ
+last_byte b [] = b
+last_byte b (c ∷ xs) = last_byte c xs
+
+-- the bytes, which follow the byte b, without each LF that stands directly after a CR: it belongs to that CR
+unfoldable pub without_pairs : ℕ → List ℕ → List ℕ
+without_pairs b [] = []
+without_pairs b (c ∷ xs) = if (b == 13) && (c == 10) then without_pairs c xs else (c ∷ without_pairs c xs)
+
+-- a byte at the front of the first line, where there is one
+abbrev pub onto : ℕ → List (List ℕ) → List (List ℕ)
+onto c [] = []
+onto c (l ∷ ls) = (c ∷ l) ∷ ls
+
+-- the lines that end
+unfoldable pub ended_lines : List ℕ → List (List ℕ)
+ended_lines [] = []
+ended_lines (c ∷ xs) = if is_end c then ([] ∷ ended_lines xs) else onto c (ended_lines xs)
+
+-- all bytes, where no line ends in them, and else those behind the last end
+abbrev pub where_none : List (List ℕ) → List ℕ → List ℕ → List ℕ
+where_none [] whole behind = whole
+where_none (l ∷ ls) whole behind = behind
+
+-- what stands after the last line end
+unfoldable pub open_line : List ℕ → List ℕ
+open_line [] = []
+open_line (c ∷ xs) = if is_end c then open_line xs else where_none (ended_lines xs) (c ∷ xs) (open_line xs)
+
+-- more than 1,048,576 bytes
+abbrev pub is_long : List ℕ → Bool
+is_long line = nat_lt 1048576 (length line)
+
+-- the lines before the first that is too long
+unfoldable pub before_long : List (List ℕ) → List (List ℕ)
+before_long [] = []
+before_long (l ∷ ls) = if is_long l then [] else (l ∷ before_long ls)
+
+-- one of the lines, or the last, which is open, is too long
+unfoldable pub has_long : List (List ℕ) → List ℕ → Bool
+has_long [] last = is_long last
+has_long (l ∷ ls) last = is_long l || has_long ls last
+
+-- a fault where a line is too long
+abbrev pub long_fault : Bool → Option Code
+long_fault long = if long then Some code.LongLine else None
+
+-- the open line, where it isn't empty and no line is too long
+abbrev pub last_line : Bool → List ℕ → List (List ℕ)
+last_line long [] = []
+last_line long (c ∷ xs) = if long then [] else ((c ∷ xs) ∷ [])
+
+-- the lines that end, and a fault at the first 1,048,577 bytes in succession without a line end
+abbrev pub lines_part : List ℕ → Given
+lines_part xs = let text = without_pairs 0 xs in let long = has_long (ended_lines text) (open_line text) in
+    record { list = map Line (before_long (ended_lines text)); fault = long_fault long }
+
+-- the same and the open line, where it isn't empty
+abbrev pub lines_all : List ℕ → Given
+lines_all xs = let text = without_pairs 0 xs in let long = has_long (ended_lines text) (open_line text) in
+    record { list = map Line (before_long (ended_lines text) ++ last_line long (open_line text)); fault = long_fault long }
