@@ -1,6 +1,19 @@
+pub mod Characters
 pub mod Counts
+pub mod Fronts
 pub mod Ideal
-pub mod Left
-pub mod Joins
 pub mod Inside
+pub mod Joins
+pub mod Left
+pub mod LineLaws
+pub mod LossyCuts
+pub mod LossyLaws
+pub mod Malformed
 mod PipeExamples
+pub mod PipeLaws
+pub mod PlainLaws
+pub mod Sequences
+pub mod Steady
+pub mod Texts
+pub mod Utf8Cuts
+pub mod Utf8Laws

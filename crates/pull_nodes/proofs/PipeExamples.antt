@@ -9,7 +9,7 @@ use Rattle.chunk_core.specs.Elements.{Element, Byte, Line, Row}
 use Rattle.chunk_core.specs.Feed.{Given}
 use Rattle.chunk_core.specs.declared.code.Code.{Code}
 use Rattle.chunk_core.specs.declared.code.Code.TheVariants as code
-use Rattle.pull_nodes.specs.Lines.{without_pairs, ended_lines, open_line, before_long, has_long}
+use Rattle.pull_nodes.specs.Lines.{without_pairs, ended_lines, open_line}
 use Rattle.pull_nodes.specs.Pipes.{part_of, all_of, without_fault}
 use Rattle.pull_nodes.specs.declared.pipe.Pipe.TheVariants as pipe
 
@@ -24,24 +24,24 @@ failed xs c = record { list = xs; fault = Some c }
 
 -- a line that has ended comes out, also at a CR whose LF may follow; that LF ends no other line
 lines_1 : part_of pipe.Lines (bytes "a\r\nb\r") ≡ without_fault (lines (codes "a" ∷ codes "b" ∷ []))
-unfolding without_pairs ended_lines open_line before_long has_long
+unfolding without_pairs ended_lines open_line
 lines_1 = refl
 
 lines_2 : part_of pipe.Lines (bytes "a\r\nb\r\n") ≡ without_fault (lines (codes "a" ∷ codes "b" ∷ []))
-unfolding without_pairs ended_lines open_line before_long has_long
+unfolding without_pairs ended_lines open_line
 lines_2 = refl
 
 lines_3 : all_of pipe.Lines (bytes "a\r\n\nb\r\rc\n\rd") ≡ without_fault (lines (codes "a" ∷ [] ∷ codes "b" ∷ [] ∷ codes "c" ∷ [] ∷ codes "d" ∷ []))
-unfolding without_pairs ended_lines open_line before_long has_long
+unfolding without_pairs ended_lines open_line
 lines_3 = refl
 
 -- an empty rest is no line
 lines_4 : all_of pipe.Lines (bytes "\n") ≡ without_fault (lines ([] ∷ []))
-unfolding without_pairs ended_lines open_line before_long has_long
+unfolding without_pairs ended_lines open_line
 lines_4 = refl
 
 lines_5 : all_of pipe.Lines [] ≡ without_fault []
-unfolding without_pairs ended_lines open_line before_long has_long
+unfolding without_pairs ended_lines open_line
 lines_5 = refl
 
 -- U+20AC in three bytes

@@ -1,4 +1,4 @@
--- What holds of the runs of every node.
+-- What holds of the runs of every node, and of what every pipe gives.
 use Rattle.std.specs.Prelude.{◌≡◌, ◌↔◌, ℕ, true, List, ◌++◌, Some, None}
 use Rattle.chunk_core.specs.Elements.{Element}
 use Rattle.chunk_core.specs.Feed.{Meaning}
@@ -6,6 +6,7 @@ use Rattle.chunk_core.specs.Outcomes.{End, Cut}
 use Rattle.chunk_core.specs.declared.code.Code.{Code}
 use Rattle.device_port.specs.Device.{DeviceTold, faults_of}
 use Rattle.pull_nodes.specs.Pipes.{IsMeaningOf}
+use Rattle.pull_nodes.specs.Plain.{same_element}
 use Rattle.pull_nodes.specs.Runs.{IsRun, IsIdealRun}
 use Rattle.pull_nodes.specs.Utf8.{IsMalformed, is_malformed, utf8_rest}
 use Rattle.pull_nodes.specs.declared.node.Node.{Node}
@@ -43,8 +44,8 @@ HasOneIdealRun =
     → IsIdealRun v n xs e → IsIdealRun w n ys g → (xs ≡ ys) × (e ≡ g)
 
 -- the second list is the first one and maybe more
-abbrev pub IsFront : List Element → List Element → Type 0
-IsFront ys zs = (more : List Element) × (zs ≡ ys ++ more)
+abbrev pub IsFront : {A : Type 0} → List A → List A → Type 0
+IsFront {A} ys zs = (more : List A) × (zs ≡ ys ++ more)
 
 -- what was given is a front of what is given when the input goes on or ends, and after a fault nothing more is given
 pub record IsSteady (m : Meaning) : Type 0 where
@@ -59,3 +60,7 @@ PipesAreSteady = (p : Pipe) (m : Meaning) → IsMeaningOf p m → IsSteady m
 -- what the standard library says of the bytes behind the longest well-formed front is that no continuation makes them well formed
 abbrev pub TellsMalformed : Type 0
 TellsMalformed = (xs : List ℕ) → (is_malformed (utf8_rest xs) ≡ true) ↔ IsMalformed (utf8_rest xs)
+
+-- the test of two elements is that they are equal
+abbrev pub ComparesElements : Type 0
+ComparesElements = (x y : Element) → (same_element x y ≡ true) ↔ (x ≡ y)

@@ -1,9 +1,11 @@
 -- The lines of bytes.
 use Rattle.std.specs.Prelude.{ℕ, Bool, ◌==◌, ◌&&◌, ◌||◌, if◌then◌else◌, nat_lt, List, [], ◌∷◌, ◌++◌, length, map, Option, Some, None}
+use Rattle.std.specs.List.{before_first, list_any}
 use Rattle.chunk_core.specs.Elements.{Line}
 use Rattle.chunk_core.specs.Feed.{Given}
 use Rattle.chunk_core.specs.declared.code.Code.{Code}
 use Rattle.chunk_core.specs.declared.code.Code.TheVariants as code
+use Rattle.pull_nodes.specs.Plain.{if_any}
 
 -- a line ends at a CR or a LF
 abbrev pub is_end : ℕ → Bool
@@ -43,31 +45,24 @@ open_line (c ∷ xs) = if is_end c then open_line xs else where_none (ended_line
 abbrev pub is_long : List ℕ → Bool
 is_long line = nat_lt 1048576 (length line)
 
--- the lines before the first that is too long
-unfoldable pub before_long : List (List ℕ) → List (List ℕ)
-before_long [] = []
-before_long (l ∷ ls) = if is_long l then [] else (l ∷ before_long ls)
-
--- one of the lines, or the last, which is open, is too long
-unfoldable pub has_long : List (List ℕ) → List ℕ → Bool
-has_long [] last = is_long last
-has_long (l ∷ ls) last = is_long l || has_long ls last
+-- a line that ends, or the open one, is too long
+abbrev pub has_long : List ℕ → Bool
+has_long text = list_any is_long (ended_lines text) || is_long (open_line text)
 
 -- a fault where a line is too long
 abbrev pub long_fault : Bool → Option Code
 long_fault long = if long then Some code.LongLine else None
 
 -- the open line, where it isn't empty and no line is too long
-abbrev pub last_line : Bool → List ℕ → List (List ℕ)
-last_line long [] = []
-last_line long (c ∷ xs) = if long then [] else ((c ∷ xs) ∷ [])
+abbrev pub last_line : List ℕ → List (List ℕ)
+last_line text = if has_long text then [] else if_any (open_line text)
 
 -- the lines that end, and a fault at the first 1,048,577 bytes in succession without a line end
 abbrev pub lines_part : List ℕ → Given
-lines_part xs = let text = without_pairs 0 xs in let long = has_long (ended_lines text) (open_line text) in
-    record { list = map Line (before_long (ended_lines text)); fault = long_fault long }
+lines_part xs = let text = without_pairs 0 xs in
+    record { list = map Line (before_first is_long (ended_lines text)); fault = long_fault (has_long text) }
 
 -- the same and the open line, where it isn't empty
 abbrev pub lines_all : List ℕ → Given
-lines_all xs = let text = without_pairs 0 xs in let long = has_long (ended_lines text) (open_line text) in
-    record { list = map Line (before_long (ended_lines text) ++ last_line long (open_line text)); fault = long_fault long }
+lines_all xs = let text = without_pairs 0 xs in
+    record { list = map Line (before_first is_long (ended_lines text) ++ last_line text); fault = long_fault (has_long text) }

@@ -47,3 +47,8 @@ is_unfinished xs = not (length xs == 0) && (utf8_valid_len xs == 0 && not (is_ma
 abbrev pub finished_front : List ℕ → List ℕ
 finished_front [] = []
 finished_front (b ∷ xs) = if is_unfinished (b ∷ xs) then [] else (b ∷ finished_front xs)
+
+-- the unfinished character at their end, or nothing
+abbrev pub unfinished_rest : List ℕ → List ℕ
+unfinished_rest [] = []
+unfinished_rest (b ∷ xs) = if is_unfinished (b ∷ xs) then (b ∷ xs) else unfinished_rest xs

@@ -1,5 +1,5 @@
-//! What holds of the runs of every node.
-ghost use Rattle.pull_nodes.specs.Laws.{CanBeLeft, HasOneIdealRun};
+//! What holds of the runs of every node, and of every pipe.
+ghost use Rattle.pull_nodes.specs.Laws.{CanBeLeft, HasOneIdealRun, ComparesElements, PipesAreSteady, TellsMalformed};
 
 /// A run may be left early: then a front of it was given.
 pub fn can_be_left()
@@ -9,4 +9,19 @@ pub fn can_be_left()
 /// Over the same contents a node has one ideal run.
 pub fn has_one_ideal_run()
     ensures { HasOneIdealRun }
+{}
+
+/// What a pipe gave is a front of what it gives of more input, and a fault is final.
+pub fn pipes_are_steady()
+    ensures { PipesAreSteady }
+{}
+
+/// The fault of bytes that aren't UTF-8 comes where no continuation makes them so.
+pub fn tells_malformed()
+    ensures { TellsMalformed }
+{}
+
+/// The elements that `Changes` leaves out are equal to the one before them.
+pub fn compares_elements()
+    ensures { ComparesElements }
 {}
