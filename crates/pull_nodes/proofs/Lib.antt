@@ -9,6 +9,7 @@ pub mod LineLaws
 pub mod LossyCuts
 pub mod LossyLaws
 pub mod Malformed
+pub mod Meanings
 mod PipeExamples
 pub mod PipeLaws
 pub mod PlainLaws

@@ -8,9 +8,9 @@ use Rattle.std.specs.List.{before_first, list_any, position_or_len}
 use Rattle.chunk_core.specs.Elements.{Line}
 use Rattle.chunk_core.specs.Feed.{Given}
 use Rattle.chunk_core.specs.declared.code.Code.{Code}
-use Rattle.pull_nodes.specs.Lines.{last_byte, without_pairs, onto, ended_lines, where_none, open_line, is_long, has_long, long_fault, last_line, lines_part, lines_all}
+use Rattle.pull_nodes.specs.Lines.{IsFree, last_byte, without_pairs, onto, ended_lines, where_none, open_line, is_long, has_long, long_fault, last_line, lines_part, lines_all}
 use Rattle.pull_nodes.proofs.Steady.{SteadyBy}
-use Rattle.pull_nodes.proofs.Texts.{IsFree, without_pairs-append, ended_lines-append, open_line-append, free_parts, open_line-free, free_from_none, free-open_line}
+use Rattle.pull_nodes.proofs.Texts.{without_pairs-append, ended_lines-append, open_line-append, free_parts, open_line-free, free_from_none, free-open_line}
 
 -- what stands before the first that passes a test
 module _ {A : Type 0} (p : A → Bool) where

@@ -8,7 +8,8 @@ use Rattle.pull_nodes.specs.declared.pipe.Pipe.TheVariants as pipe
 use Rattle.pull_nodes.proofs.LineLaws.{lines_steady}
 use Rattle.pull_nodes.proofs.LossyCuts.{lossy_steady}
 use Rattle.pull_nodes.proofs.PlainLaws.{upper_steady, drop_steady, filter_steady, changes_steady, number_steady, count_steady, intersperse_steady, chunk_steady, hex_steady}
-use Rattle.pull_nodes.proofs.Steady.{SteadyBy, steady_by, over_bytes, meaning_is}
+use Rattle.pull_nodes.proofs.Meanings.{meaning_is}
+use Rattle.pull_nodes.proofs.Steady.{SteadyBy, steady_by, over_bytes}
 use Rattle.pull_nodes.proofs.Utf8Laws.{utf8_steady}
 use Rattle.pull_nodes.specs.Pipes.{part_of, all_of}
 

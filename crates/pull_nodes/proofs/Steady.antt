@@ -1,25 +1,12 @@
 -- What was given stays given: over any lists, and of pipes that know no fault.
-use Rattle.std.proofs.Common.{◌≡◌, ℕ, List, ◌∷◌, [], ◌++◌, Option, Some, None, refl, ap, sym, ◌∙◌, subst}
-use Rattle.std.specs.Prelude.{option_map}
-use Rattle.chunk_core.specs.Elements.{Element, Byte, Line, Row, LoadKind}
+use Rattle.std.proofs.Common.{◌≡◌, ℕ, List, ◌++◌, Some, None, sym, subst}
+use Rattle.chunk_core.specs.Elements.{Element}
 use Rattle.chunk_core.specs.Feed.{Given, Meaning}
 use Rattle.chunk_core.specs.declared.code.Code.{Code}
 use Rattle.pull_nodes.specs.Laws.{IsFront, IsSteady}
-use Rattle.pull_nodes.specs.Pipes.{meaning, IsMeaningOf, without_fault}
-use Rattle.pull_nodes.specs.PipeKinds.{gives_of}
+use Rattle.pull_nodes.specs.Pipes.{without_fault}
 use Rattle.pull_nodes.specs.Plain.{bytes_of}
-use Rattle.pull_nodes.specs.declared.pipe.Pipe.{Pipe}
-
-from_some : (p : Pipe) (m : Meaning) (o : Option LoadKind) → option_map (meaning p m.takes) o ≡ Some m → (m ≡ meaning p m.takes m.gives) × (o ≡ Some m.gives)
-from_some p m None h = (cc)
-from_some p m (Some g) h =
-    let is : meaning p m.takes g ≡ m = cc in
-    let gives : g ≡ m.gives = ap (λ (x : Meaning). x.gives) is in
-    (sym is ∙ ap (meaning p m.takes) gives, ap (λ k. Some k) gives)
-
--- a meaning of a pipe is what the pipe gives
-pub meaning_is : (p : Pipe) (m : Meaning) → IsMeaningOf p m → (m ≡ meaning p m.takes m.gives) × (gives_of p m.takes ≡ Some m.gives)
-meaning_is p m h = from_some p m (gives_of p m.takes) h
+use Rattle.pull_nodes.proofs.Meanings.{bytes_of-append}
 
 -- the same of lists of any elements
 pub record SteadyBy {A : Type 0} (part all : List A → Given) : Type 0 where
@@ -39,12 +26,6 @@ faultless part all g e = record {
   ends = λ xs n. e xs;
   stops = λ xs zs c n. (cc);
 }
-
-pub bytes_of-append : (xs zs : List Element) → bytes_of (xs ++ zs) ≡ bytes_of xs ++ bytes_of zs
-bytes_of-append [] zs = refl
-bytes_of-append (Byte b ∷ xs) zs = ap (λ l. b ∷ l) (bytes_of-append xs zs)
-bytes_of-append (Line line ∷ xs) zs = bytes_of-append xs zs
-bytes_of-append (Row fields ∷ xs) zs = bytes_of-append xs zs
 
 -- a pipe over the bytes among the elements
 pub over_bytes : (part all : List ℕ → Given) → SteadyBy part all → SteadyBy (λ xs. part (bytes_of xs)) (λ xs. all (bytes_of xs))

@@ -1,15 +1,7 @@
 -- How the lines of a text follow from those of its parts.
-use Rattle.std.proofs.Common.{◌≡◌, ℕ, zero, suc, Bool, true, false, ◌==◌, ◌&&◌, ◌||◌, cond, List, [], ◌∷◌, ◌++◌, take, slice_index, ◌<◌, refl, ap, arith}
+use Rattle.std.proofs.Common.{◌≡◌, ℕ, zero, suc, Bool, true, false, ◌==◌, ◌&&◌, cond, List, [], ◌∷◌, ◌++◌, take, slice_index, ◌<◌, refl, ap, arith}
 use Rattle.std.proofs.lemmas.Bool.{or_parts, or_from, false_from_ne_true}
-use Rattle.pull_nodes.specs.Lines.{is_end, last_byte, without_pairs, onto, ended_lines, where_none, open_line}
-
--- a line ends in the bytes
-abbrev pub has_end : List ℕ → Bool
-has_end [] = false
-has_end (c ∷ xs) = is_end c || has_end xs
-
-abbrev pub IsFree : List ℕ → Type 0
-IsFree xs = has_end xs ≡ false
+use Rattle.pull_nodes.specs.Lines.{is_end, has_end, IsFree, last_byte, without_pairs, onto, ended_lines, where_none, open_line}
 
 pub last_byte-append : (b : ℕ) (xs ys : List ℕ) → last_byte b (xs ++ ys) ≡ last_byte (last_byte b xs) ys
 unfolding last_byte

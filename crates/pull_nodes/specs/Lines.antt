@@ -1,5 +1,5 @@
 -- The lines of bytes.
-use Rattle.std.specs.Prelude.{ℕ, Bool, ◌==◌, ◌&&◌, ◌||◌, if◌then◌else◌, nat_lt, List, [], ◌∷◌, ◌++◌, length, map, Option, Some, None}
+use Rattle.std.specs.Prelude.{◌≡◌, ℕ, Bool, false, ◌==◌, ◌&&◌, ◌||◌, if◌then◌else◌, nat_lt, List, [], ◌∷◌, ◌++◌, length, map, Option, Some, None}
 use Rattle.std.specs.List.{before_first, list_any}
 use Rattle.chunk_core.specs.Elements.{Line}
 use Rattle.chunk_core.specs.Feed.{Given}
@@ -10,6 +10,15 @@ use Rattle.pull_nodes.specs.Plain.{if_any}
 -- a line ends at a CR or a LF
 abbrev pub is_end : ℕ → Bool
 is_end c = (c == 13) || (c == 10)
+
+-- a line ends in the bytes
+abbrev pub has_end : List ℕ → Bool
+has_end [] = false
+has_end (c ∷ xs) = is_end c || has_end xs
+
+-- no line ends in the bytes
+abbrev pub IsFree : List ℕ → Type 0
+IsFree xs = has_end xs ≡ false
 
 -- the last byte, or b where there is none
 unfoldable pub last_byte : ℕ → List ℕ → ℕ

@@ -1,0 +1,65 @@
+-- What a pipe does with a load, from what it gives of lists.
+use Rattle.std.proofs.Common.{◌≡◌, ℕ, List, ◌∷◌, [], ◌++◌, map, Option, Some, None, refl, ap, sym, ◌∙◌, subst}
+use Rattle.std.specs.Prelude.{option_map}
+use Rattle.chunk_core.specs.Elements.{Element, Byte, Line, Row, LoadKind, elements, kind_of}
+use Rattle.chunk_core.specs.Feed.{Given, Meaning, Extends, Continues, Finishes}
+use Rattle.chunk_core.specs.declared.code.Code.{Code}
+use Rattle.chunk_core.specs.declared.feed.Fed.{Fed}
+use Rattle.chunk_core.specs.declared.load.Load.{Load}
+use Rattle.pull_nodes.specs.PipeKinds.{gives_of}
+use Rattle.pull_nodes.specs.Pipes.{meaning, IsMeaningOf, part_of, all_of}
+use Rattle.pull_nodes.specs.Plain.{bytes_of}
+use Rattle.pull_nodes.specs.declared.pipe.Pipe.{Pipe}
+
+from_some : (p : Pipe) (m : Meaning) (o : Option LoadKind) → option_map (meaning p m.takes) o ≡ Some m → (m ≡ meaning p m.takes m.gives) × (o ≡ Some m.gives)
+from_some p m None h = (cc)
+from_some p m (Some g) h =
+    let is : meaning p m.takes g ≡ m = cc in
+    let gives : g ≡ m.gives = ap (λ (x : Meaning). x.gives) is in
+    (sym is ∙ ap (meaning p m.takes) gives, ap (λ k. Some k) gives)
+
+-- a meaning of a pipe is what the pipe gives
+pub meaning_is : (p : Pipe) (m : Meaning) → IsMeaningOf p m → (m ≡ meaning p m.takes m.gives) × (gives_of p m.takes ≡ Some m.gives)
+meaning_is p m h = from_some p m (gives_of p m.takes) h
+
+-- the pipe gave this load of ys behind xs, and then this fault or none
+pub extends_from : (p : Pipe) (m : Meaning) → IsMeaningOf p m → (xs ys : List Element) (load : Load) (c : Option Code) → gives_of p m.takes ≡ Some (kind_of load)
+    → (part_of p xs).list ++ elements load ≡ (part_of p (xs ++ ys)).list → (part_of p (xs ++ ys)).fault ≡ c → Extends m xs ys load c
+extends_from p m h xs ys load c kind list fault =
+    let is = meaning_is p m h in
+    let same : kind_of load ≡ m.gives = cc in
+    let part : m.part ≡ part_of p = ap (λ (n : Meaning). n.part) is.0 in
+    let P : (List Element → Given) → Type 0 = λ f. ((f xs).list ++ elements load ≡ (f (xs ++ ys)).list) × ((f (xs ++ ys)).fault ≡ c) in
+    let both = subst P (sym part) (list, fault) in
+    record { kind = same; list = both.0; fault = both.1 }
+
+-- the pipe's first answer where xs is the whole input
+pub finishes_from : (p : Pipe) (m : Meaning) → IsMeaningOf p m → (xs rest : List Element) (answer : Fed) (Comes : List Element → Option Code → Type 0)
+    → (part_of p xs).list ++ rest ≡ (all_of p xs).list → Continues m.gives rest (all_of p xs).fault answer Comes → Finishes m xs answer Comes
+finishes_from p m h xs rest answer Comes whole given =
+    let is = meaning_is p m h in
+    let part : m.part ≡ part_of p = ap (λ (n : Meaning). n.part) is.0 in
+    let all : m.all ≡ all_of p = ap (λ (n : Meaning). n.all) is.0 in
+    record {
+      rest = rest;
+      whole = ap (λ (f : List Element → Given). (f xs).list ++ rest) part ∙ (whole ∙ ap (λ (f : List Element → Given). (f xs).list) (sym all));
+      given = subst (λ (f : List Element → Given). Continues m.gives rest (f xs).fault answer Comes) (sym all) given;
+    }
+
+-- no fault was given yet
+pub sound_from : (p : Pipe) (m : Meaning) → IsMeaningOf p m → (xs : List Element) → (part_of p xs).fault ≡ None → (m.part xs).fault ≡ None
+sound_from p m h xs none = ap (λ (n : Meaning). (n.part xs).fault) (meaning_is p m h).0 ∙ none
+
+pub bytes_of-append : (xs zs : List Element) → bytes_of (xs ++ zs) ≡ bytes_of xs ++ bytes_of zs
+bytes_of-append [] zs = refl
+bytes_of-append (Byte b ∷ xs) zs = ap (λ l. b ∷ l) (bytes_of-append xs zs)
+bytes_of-append (Line line ∷ xs) zs = bytes_of-append xs zs
+bytes_of-append (Row fields ∷ xs) zs = bytes_of-append xs zs
+
+pub bytes_of-map : (bytes : List ℕ) → bytes_of (map Byte bytes) ≡ bytes
+bytes_of-map [] = refl
+bytes_of-map (b ∷ bytes) = ap (λ l. b ∷ l) (bytes_of-map bytes)
+
+-- the bytes of what came before and of a load
+pub bytes_of-load : (xs : List Element) (bytes : List ℕ) → bytes_of (xs ++ map Byte bytes) ≡ bytes_of xs ++ bytes
+bytes_of-load xs bytes = bytes_of-append xs (map Byte bytes) ∙ ap (λ l. bytes_of xs ++ l) (bytes_of-map bytes)
