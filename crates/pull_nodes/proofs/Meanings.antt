@@ -2,11 +2,12 @@
 use Rattle.std.proofs.Common.{◌≡◌, ℕ, List, ◌∷◌, [], ◌++◌, map, Option, Some, None, refl, ap, sym, ◌∙◌, subst}
 use Rattle.std.specs.Prelude.{option_map}
 use Rattle.chunk_core.specs.Elements.{Element, Byte, Line, Row, LoadKind, elements, kind_of}
+use Rattle.chunk_core.specs.Elements.LoadKind.{Bytes, Lines, Rows}
 use Rattle.chunk_core.specs.Feed.{Given, Meaning, Extends, Continues, Finishes}
 use Rattle.chunk_core.specs.declared.code.Code.{Code}
 use Rattle.chunk_core.specs.declared.feed.Fed.{Fed}
 use Rattle.chunk_core.specs.declared.load.Load.{Load}
-use Rattle.pull_nodes.specs.PipeKinds.{gives_of}
+use Rattle.pull_nodes.specs.PipeKinds.{gives_of, from_bytes, from_lines}
 use Rattle.pull_nodes.specs.Pipes.{meaning, IsMeaningOf, part_of, all_of}
 use Rattle.pull_nodes.specs.Plain.{bytes_of}
 use Rattle.pull_nodes.specs.declared.pipe.Pipe.{Pipe}
@@ -21,6 +22,17 @@ from_some p m (Some g) h =
 -- a meaning of a pipe is what the pipe gives
 pub meaning_is : (p : Pipe) (m : Meaning) → IsMeaningOf p m → (m ≡ meaning p m.takes m.gives) × (gives_of p m.takes ≡ Some m.gives)
 meaning_is p m h = from_some p m (gives_of p m.takes) h
+
+-- a pipe that takes bytes alone, and one that takes lines alone
+pub from_bytes-some : (gives kind g : LoadKind) → from_bytes gives kind ≡ Some g → (kind ≡ Bytes) × (g ≡ gives)
+from_bytes-some gives Bytes g h = (refl, cc)
+from_bytes-some gives Lines g h = (cc)
+from_bytes-some gives Rows g h = (cc)
+
+pub from_lines-some : (gives kind g : LoadKind) → from_lines gives kind ≡ Some g → (kind ≡ Lines) × (g ≡ gives)
+from_lines-some gives Bytes g h = (cc)
+from_lines-some gives Lines g h = (refl, cc)
+from_lines-some gives Rows g h = (cc)
 
 -- the pipe gave this load of ys behind xs, and then this fault or none
 pub extends_from : (p : Pipe) (m : Meaning) → IsMeaningOf p m → (xs ys : List Element) (load : Load) (c : Option Code) → gives_of p m.takes ≡ Some (kind_of load)

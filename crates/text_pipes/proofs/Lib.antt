@@ -1,0 +1,3 @@
+pub mod LinesFeeds
+pub mod LinesKnown
+pub mod LinesSteps
