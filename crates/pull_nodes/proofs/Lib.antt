@@ -1,6 +1,7 @@
 pub mod Characters
 pub mod Counts
 pub mod Fronts
+pub mod Groups
 pub mod Ideal
 pub mod Inside
 pub mod Joins

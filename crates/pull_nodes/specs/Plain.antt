@@ -41,9 +41,13 @@ abbrev pub if_any : List ℕ → List (List ℕ)
 if_any [] = []
 if_any (c ∷ line) = (c ∷ line) ∷ []
 
+-- what stands behind the last whole group of n
+abbrev pub ungrouped : {A : Type 0} → ℕ → List A → List A
+ungrouped n xs = drop (multiple n (length xs)) xs
+
 -- a line for the bytes behind the last whole group, where there are some
 abbrev pub hex_rest : List ℕ → List (List ℕ)
-hex_rest bytes = if_any (hex_line (drop (multiple 16 (length bytes)) bytes))
+hex_rest bytes = if_any (hex_line (ungrouped 16 bytes))
 
 -- the text stands somewhere in the line
 abbrev pub contains : List ℕ → List ℕ → Bool

@@ -31,9 +31,10 @@ lines_feed a b bytes lines given long takes is m xs ys e h =
     let all : lines_given (bytes_of (xs ++ ys)) ≡ ((lines_given (bytes_of xs)).0 ++ lines, long) = ap lines_given same ∙ t.0 in
     let kind = (meaning_is pipe.Lines m h.0).1 ∙ ap (λ k. Some k) (gives_lines m h.0) in
     let list : map Line (lines_given (bytes_of xs)).0 ++ map Line given ≡ map Line (lines_given (bytes_of (xs ++ ys))).0 =
-    ap (λ l. map Line (lines_given (bytes_of xs)).0 ++ map Line l) is ∙ (sym (map-append Line (lines_given (bytes_of xs)).0 lines) ∙ sym (ap (λ p. map Line p.0) all)) in
-    (extends_from pipe.Lines m h.0 xs ys (load.Lines given) (long_fault long) kind list (ap (λ p. long_fault p.1) all),
-    λ short. (h.0, subst (λ l. StandsAt b.held.items b.after_cr l) (sym same) (t.1 short)))
+    ap (λ l. map Line (lines_given (bytes_of xs)).0 ++ map Line l) is ∙ (sym (map-append Line (lines_given (bytes_of xs)).0 lines) ∙ sym (ap (λ p. map Line p.0) all)) in (
+      extends_from pipe.Lines m h.0 xs ys (load.Lines given) (long_fault long) kind list (ap (λ p. long_fault p.1) all),
+      λ short. (h.0, subst (λ l. StandsAt b.held.items b.after_cr l) (sym same) (t.1 short)),
+    )
 
 -- the open line, which is the last
 pub lines_whole : (q : LinesPipe) (m : Meaning) (xs : List Element) (answer : Fed) (Next : List Element → Option Code → Type 0) → StandsFor q m xs
@@ -52,18 +53,9 @@ if_any-some : (line : List ℕ) → 0 < length line → if_any line ≡ line ∷
 if_any-some [] some = absurd (omega arith)
 if_any-some (c ∷ line) some = refl
 
-if_any-none : (line : List ℕ) → length line ≡ 0 → if_any line ≡ []
-if_any-none [] none = refl
-if_any-none (c ∷ line) none = absurd (omega arith)
-
 -- the open line comes, and then the end
-pub last_comes : (q b : LinesPipe) (kind : LoadKind) → kind ≡ Lines → 0 < length q.held.items → b.held.items ≡ [] → (lines : List (List ℕ)) → lines ≡ q.held.items ∷ []
-    → Continues kind (map Line (if_any q.held.items)) None (fed.Out (load.Lines lines)) (Comes b kind)
-last_comes q b kind k some none lines e =
-    let rest : map Line (if_any q.held.items) ≡ map Line lines ++ [] = ap (map Line) (if_any-some q.held.items some ∙ sym e) ∙ sym (append-nil (map Line lines)) in
-    let one : 0 < length (map Line lines) = subst (λ (l : List (List ℕ)). 0 < length (map Line l)) (sym e) (omega arith) in
+pub last_comes : (q b : LinesPipe) (kind : LoadKind) → kind ≡ Lines → 0 < length q.held.items → b.held.items ≡ []
+    → Continues kind (map Line (if_any q.held.items)) None (fed.Out (load.Lines (q.held.items ∷ []))) (Comes b kind)
+last_comes q b kind k some none =
     let later : [] ≡ map Line (if_any b.held.items) = sym (ap (λ l. map Line (if_any l)) none) in
-    (sym k, one, [], rest, (k, later, refl))
-
-pub none_comes : (q : LinesPipe) (kind : LoadKind) (Next : List Element → Option Code → Type 0) → length q.held.items ≡ 0 → Continues kind (map Line (if_any q.held.items)) None fed.End Next
-none_comes q kind Next none = (ap (map Line) (if_any-none q.held.items none), refl)
+    (sym k, omega arith, [], ap (map Line) (if_any-some q.held.items some), (k, later, refl))

@@ -179,4 +179,3 @@ fed_long a b c x y ms first xs s =
     let (p, stands) = first xs s in
     let stays : lines_given ((xs ++ x) ++ y) ≡ lines_given (xs ++ x) = lines-stay (xs ++ x) y (ap (λ z. z.1) p) in
     (rw (← append_assoc xs x y) (stays ∙ p), λ e. (cc))
-

@@ -1,1 +1,3 @@
+pub mod HexState
 pub mod LinesState
+pub mod UpperState

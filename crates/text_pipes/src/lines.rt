@@ -6,7 +6,7 @@ ghost use Rattle.pull_nodes.specs.Pipes.{IsMeaningOf};
 ghost use Rattle.pull_nodes.specs.declared.pipe.Pipe.TheVariants as pipe;
 ghost use Rattle.text_pipes.specs.LinesState.{StandsFor, StopsAtEnd, Takes, Stepped};
 
-use crate::loads::into_bytes;
+use crate::loads::{into_bytes, one_line};
 use chunk_core::{Chunk, Code, Fed, Feed, Line, Load};
 use std::alloc::{AllocError, Global};
 use std::mem;
@@ -129,8 +129,6 @@ impl Feed for LinesPipe {
             return Ok(Fed::End);
         }
         let line = Line::of_vec(mem::replace(&mut self.held, Vec::new(alloc)));
-        let mut lines = Vec::new(alloc);
-        lines.push(line)?;
-        Ok(Fed::Out(Load::Lines(Chunk::of_vec(alloc, lines)?)))
+        Ok(Fed::Out(one_line(alloc, line)?))
     }
 }

@@ -1,10 +1,12 @@
-//! What a load holds, where its kind is known.
-ghost use Rattle.std.specs.Prelude.{◌≡◌, map};
+//! Loads of one kind.
+ghost use Rattle.std.specs.Prelude.{◌≡◌, [], ◌∷◌, map, IfOk};
 ghost use Rattle.chunk_core.specs.Elements.{elements, kind_of};
 ghost use Rattle.chunk_core.specs.Elements.Element.{Byte};
 ghost use Rattle.chunk_core.specs.Elements.LoadKind.{Bytes};
+ghost use Rattle.chunk_core.specs.declared.load.Load.TheVariants as load;
 
-use chunk_core::{Chunk, Load};
+use chunk_core::{Chunk, Line, Load};
+use std::alloc::{AllocError, Global};
 
 pub(crate) fn into_bytes(load: Load) -> Chunk<u8>
     requires { kind_of load ≡ Bytes }
@@ -14,4 +16,12 @@ pub(crate) fn into_bytes(load: Load) -> Chunk<u8>
         Load::Bytes(bytes) => bytes,
         _ => unreachable!(),
     }
+}
+
+pub(crate) fn one_line(alloc: Global, line: Line) -> Result<Load, AllocError>
+    ensures { IfOk result (λ given. given ≡ load.Lines (line ∷ [])) }
+{
+    let mut lines = Vec::new(alloc);
+    lines.push(line)?;
+    Ok(Load::Lines(Chunk::of_vec(alloc, lines)?))
 }

@@ -1,5 +1,6 @@
-use Rattle.std.proofs.Common.{◌≡◌, ◌<◌, ◌∙◌, ap, arith, [], ◌∷◌, ◌++◌, length}
+use Rattle.std.proofs.Common.{◌<◌, ◌∙◌, sym, ap, subst, arith, [], ◌∷◌, length}
 use Rattle.std.proofs.lemmas.Grind.{common_steps}
+use Rattle.chunk_core.specs.Feed.{Finishes}
 use Rattle.chunk_core.specs.declared.feed.Fed.TheVariants as fed
 use Rattle.chunk_core.specs.declared.load.Load.TheVariants as load
 use Rattle.text_pipes.specs.LinesState.{Comes}
@@ -14,7 +15,6 @@ returns-clause-first c m xs h =
     let some : 0 < length q.held.items = grind (arith, common_steps) in
     let none = ap (λ v. v.items) c.replace.ensures.after ∙ c.new.ensures.items in
     let line = c.of_vec-line.ensures ∙ ap (λ v. v.items) c.replace.ensures.value in
-    let lines : c.in_ok-of_vec.field-0 ≡ q.held.items ∷ [] =
-    c.in_ok-of_vec.ensures ∙ (c.in_ok-push.ensures.items ∙ (λ i. c.new-lines.ensures.items i ++ line i ∷ [])) in
-    lines_whole q m xs (fed.Out (load.Lines c.in_ok-of_vec.field-0)) (Comes b m.gives) h
-    (last_comes q b m.gives (gives_lines m h.0) some none c.in_ok-of_vec.field-0 lines)
+    let given = c.in_ok-one_line.ensures ∙ ap (λ l. load.Lines (l ∷ [])) line in
+    subst (λ l. Finishes m xs (fed.Out l) (Comes b m.gives)) (sym given)
+    (lines_whole q m xs (fed.Out (load.Lines (q.held.items ∷ []))) (Comes b m.gives) h (last_comes q b m.gives (gives_lines m h.0) some none))
