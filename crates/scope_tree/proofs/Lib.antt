@@ -30,3 +30,4 @@ pub mod Tidy
 pub mod Lent
 pub mod ThreeRows
 pub mod Endings
+pub mod Visits

@@ -17,14 +17,14 @@ use Rattle.scope_tree.specs.Words.{words}
 use Rattle.scope_tree.proofs.Use.{all_open, first_is as first_open_is}
 use Rattle.chunk_core.proofs.Members.{among_cons, among_nil}
 
-each_among : (Q : Event → Type 0) (L : List Event) → Each Q L → (e : Event) → IsAmong e L → Q e
+pub each_among : (Q : Event → Type 0) (L : List Event) → Each Q L → (e : Event) → IsAmong e L → Q e
 each_among Q [] h e m = absurd (among_nil m)
 each_among Q (x ∷ L) h e m = ⊎_elim (λ i. subst Q (sym i) h.0) (λ n. each_among Q L h.1 e n) (among_cons m)
 
 outer_inner : (j : ℕ) → Outer ≡ Inner j → ⊥
 outer_inner j e = cc
 
-no_lease : (j s : ℕ) → leased_of (Lease j s) ≡ [] → ⊥
+pub no_lease : (j s : ℕ) → leased_of (Lease j s) ≡ [] → ⊥
 no_lease j s e = absurd (let f : (j, s) ∷ [] ≡ [] = e in cc)
 
 module _ {P : Type 0} where

@@ -6,6 +6,8 @@
 #![tactic(auto)]
 
 pub mod branch;
+#[cfg(test)]
+mod guests;
 pub mod laws;
 mod leases;
 mod leaving;

@@ -6,6 +6,7 @@ use std::alloc::{AllocError, Global};
 
 /// Room for scopes and rows. Each row that a tree acquires uses one, and so does each row of
 /// another stream that ends in it.
+#[derive(Drop)]
 pub struct Room<P> {
     pub(crate) branches: Vec<Branch>,
     pub(crate) held: Vec<Held>,

@@ -1,4 +1,4 @@
-use Rattle.std.proofs.Common.{◌≡◌, ◌++◌, sym, ap, ◌∙◌, subst}
+use Rattle.std.proofs.Common.{◌≡◌, sym, ap, ◌∙◌, subst}
 use Rattle.chunk_core.specs.Lists.{IsAmong}
 use Rattle.chunk_core.proofs.Filters.{among_right}
 use Rattle.row_seat.specs.Views.{HasRow, paid}
