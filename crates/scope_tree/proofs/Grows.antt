@@ -62,14 +62,20 @@ module _ {P : Type 0} (v : View P) (bs : List Branch) (hs : List Held) (r s n : 
   acquired_words : own v.by (v.events ++ acquiring v r s n ∷ []) ≡ words v ++ Acquire r s ∷ []
   acquired_words = own_snoc v.by v.events (acquiring v r s n) refl
 
-  acquired_opens : opens (own v.by (v.events ++ acquiring v r s n ∷ [])) ≡ opens (words v)
+  pub acquired_opens : opens (own v.by (v.events ++ acquiring v r s n ∷ [])) ≡ opens (words v)
   acquired_opens = ap opens acquired_words ∙ opens_append (words v) (Acquire r s ∷ []) ∙ append-nil (opens (words v))
 
   acquired_closes : closes (own v.by (v.events ++ acquiring v r s n ∷ [])) ≡ closes (words v)
   acquired_closes = ap closes acquired_words ∙ closes_append (words v) (Acquire r s ∷ []) ∙ append-nil (closes (words v))
 
-  acquired_rows : rows (own v.by (v.events ++ acquiring v r s n ∷ [])) ≡ rows (words v) ++ (r, s) ∷ []
+  pub acquired_rows : rows (own v.by (v.events ++ acquiring v r s n ∷ [])) ≡ rows (words v) ++ (r, s) ∷ []
   acquired_rows = ap rows acquired_words ∙ rows_append (words v) (Acquire r s ∷ [])
+
+  -- as many scopes are open
+  pub acquired_scopes : open_scopes (own v.by (v.events ++ acquiring v r s n ∷ [])) ≡ open_scopes (words v)
+  acquired_scopes =
+      let E = own v.by (v.events ++ acquiring v r s n ∷ []) in
+      ap (λ l. open_of E (0 ∷ numbers l)) acquired_opens ∙ closed_same (words v) E (0 ∷ numbers (opens (words v))) acquired_opens acquired_closes
 
   new_row : ¬ (IsAmong r (held_rows hs))
   new_row i = let t = pair_of_row r hs i in k.empty r m (v.by, t.0, in_noted v.by (Acquire r t.0) v.events (in_rows r t.0 (words v) (subst (λ l. IsAmong (r, t.0) l) (sym k.rows) t.1)))
@@ -106,7 +112,7 @@ module _ {P : Type 0} (v : View P) (bs : List Branch) (hs : List Held) (r s n : 
         bare = λ j q i o. k.bare j q i (among_without r v.empty q o).0;
         empty = λ q i a. let w = among_without r v.empty q i in ⊎_elim (λ o. k.empty q w.0 (a.0, a.1, o)) (λ o. w.1 (sym (acquire_is r s q a.1 o.1))) (noted_snoc v.events e a.0 (Acquire q a.1) a.2);
         spare =
-            let x : open_of (own v.by (v.events ++ e ∷ [])) (0 ∷ numbers (opens (own v.by (v.events ++ e ∷ [])))) ≡ open_scopes (words v) = ap (λ l. open_of (own v.by (v.events ++ e ∷ [])) (0 ∷ numbers l)) acquired_opens ∙ closed_same (words v) (own v.by (v.events ++ e ∷ [])) (0 ∷ numbers (opens (words v))) acquired_opens acquired_closes in
+            let x = acquired_scopes in
             let y = length-append v.opened ((r, p) ∷ []) in omega arith;
       }
 
@@ -164,13 +170,13 @@ module _ {P : Type 0} (v : View P) (bs : List Branch) (hs : List Held) (p n : �
   opened_words : own v.by (v.events ++ opening v (length bs) p n ∷ []) ≡ words v ++ Open (length bs) p ∷ []
   opened_words = own_snoc v.by v.events (opening v (length bs) p n) refl
 
-  opened_opens : opens (own v.by (v.events ++ opening v (length bs) p n ∷ [])) ≡ opens (words v) ++ (length bs, p) ∷ []
+  pub opened_opens : opens (own v.by (v.events ++ opening v (length bs) p n ∷ [])) ≡ opens (words v) ++ (length bs, p) ∷ []
   opened_opens = ap opens opened_words ∙ opens_append (words v) (Open (length bs) p ∷ [])
 
   opened_closes : closes (own v.by (v.events ++ opening v (length bs) p n ∷ [])) ≡ closes (words v)
   opened_closes = ap closes opened_words ∙ closes_append (words v) (Open (length bs) p ∷ []) ∙ append-nil (closes (words v))
 
-  opened_rows : rows (own v.by (v.events ++ opening v (length bs) p n ∷ [])) ≡ rows (words v)
+  pub opened_rows : rows (own v.by (v.events ++ opening v (length bs) p n ∷ [])) ≡ rows (words v)
   opened_rows = ap rows opened_words ∙ rows_append (words v) (Open (length bs) p ∷ []) ∙ append-nil (rows (words v))
 
   no_close : has (length bs) (closes (words v)) ≡ false
@@ -189,15 +195,23 @@ module _ {P : Type 0} (v : View P) (bs : List Branch) (hs : List Held) (p n : �
       ap (λ o. up (turned o) c) opened_opens ∙ ap (λ o. up o c) (turned_snoc (opens (words v)) (length bs, p)) ∙ ap (λ b. cond b (c ∷ up (turned (opens (words v))) p) (up (turned (opens (words v))) c)) (ne_eqb (length bs) c (λ e. ne (sym e))) in
       ap (λ l. any (λ a. has a (closes E)) l) same ∙ ap (λ l. any (λ a. has a l) (up (turned (opens (words v))) c)) opened_closes ∙ h
 
-  back_within : {t a : ℕ} → t < length bs → LiesWithin (v.events ++ opening v (length bs) p n ∷ []) v.by t a → LiesWithin v.events v.by t a
+  pub back_within : {t a : ℕ} → t < length bs → LiesWithin (v.events ++ opening v (length bs) p n ∷ []) v.by t a → LiesWithin v.events v.by t a
   back_within l (same t) = same t
   back_within l (below t q a m w) =
       let o : Notes v.events v.by (Open t q) = ⊎_elim (λ x. x) (λ x. absurd (let e = open_is (length bs) p t q x in omega arith)) (noted_last v.events (opening v (length bs) p n) v.by (Open t q) m) in
       let z = noted_scope v bs hs k t q o in let d : Branch = record { parent = 0; shut = false } in
       below t q a o (back_within (let e = z.2 d in let g = k.parents t d z.0 l in omega arith) w)
 
-  back_closed : (t : ℕ) → t < length bs → IsClosed (v.events ++ opening v (length bs) p n ∷ []) v.by t → IsClosed v.events v.by t
+  pub back_closed : (t : ℕ) → t < length bs → IsClosed (v.events ++ opening v (length bs) p n ∷ []) v.by t → IsClosed v.events v.by t
   back_closed t l c = (c.0, back_within l c.1, ⊎_elim (λ x. x) (λ x. absurd (open_close (length bs) p c.0 x)) (noted_last v.events (opening v (length bs) p n) v.by (Close c.0) c.2))
+
+  -- a scope more is open, at most
+  pub opened_scopes : open_scopes (own v.by (v.events ++ opening v (length bs) p n ∷ [])) ≤ open_scopes (words v) + 1
+  opened_scopes =
+      let F = own v.by (v.events ++ opening v (length bs) p n ∷ []) in
+      let x : open_of F (0 ∷ numbers (opens F)) ≡ open_of F ((0 ∷ numbers (opens (words v))) ++ length bs ∷ []) = ap (λ l. open_of F (0 ∷ l)) (ap numbers opened_opens ∙ numbers_snoc (opens (words v)) (length bs, p)) in
+      let y = open_push F (0 ∷ numbers (opens (words v))) (length bs) in
+      let z = open_less (words v) F (0 ∷ numbers (opens (words v))) still_closed in omega arith
 
   pub open_keeps : Kept (noted v (opening v (length bs) p n)) (bs ++ record { parent = p; shut = false } ∷ []) hs
   open_keeps =
@@ -227,10 +241,7 @@ module _ {P : Type 0} (v : View P) (bs : List Branch) (hs : List Held) (p n : �
         bare = k.bare;
         empty = λ q i a. ⊎_elim (λ o. k.empty q i (a.0, a.1, o)) (λ o. open_acquire (length bs) p q a.1 o.1) (noted_snoc v.events e a.0 (Acquire q a.1) a.2);
         spare =
-            (let F = own v.by (v.events ++ e ∷ []) in
-            let x : open_of F (0 ∷ numbers (opens F)) ≡ open_of F ((0 ∷ numbers (opens (words v))) ++ length bs ∷ []) = ap (λ l. open_of F (0 ∷ l)) (ap numbers opened_opens ∙ numbers_snoc (opens (words v)) (length bs, p)) in
-            let y = open_push F (0 ∷ numbers (opens (words v))) (length bs) in
-            let z = open_less (words v) F (0 ∷ numbers (opens (words v))) still_closed in omega arith);
+            (let x = opened_scopes in omega arith);
       }
 
 -- a seat that has done nothing

@@ -118,10 +118,10 @@ module _ {P : Type 0} {ends : P → Bool → P → Type 0} (v w : View P) (bs : 
   pub closed_words : Torn ends (whole bs hs s) (shutting v s n) xs w → words w ≡ words v ++ Close s ∷ finals (said xs)
   closed_words t = ap (λ b. own b w.events) (torn_by t) ∙ torn_words v.by t refl ∙ ap (λ l. l ++ finals (said xs)) (own_snoc v.by v.events (closing v s n) refl) ∙ append_assoc (words v) (Close s ∷ []) (finals (said xs))
 
-  opens_same : Torn ends (whole bs hs s) (shutting v s n) xs w → opens (words w) ≡ opens (words v)
+  pub opens_same : Torn ends (whole bs hs s) (shutting v s n) xs w → opens (words w) ≡ opens (words v)
   opens_same t = ap opens (closed_words t) ∙ opens_append (words v) (Close s ∷ finals (said xs)) ∙ ap (λ l. opens (words v) ++ l) (opens_finals (said xs)) ∙ append-nil (opens (words v))
 
-  rows_same : Torn ends (whole bs hs s) (shutting v s n) xs w → rows (words w) ≡ rows (words v)
+  pub rows_same : Torn ends (whole bs hs s) (shutting v s n) xs w → rows (words w) ≡ rows (words v)
   rows_same t = ap rows (closed_words t) ∙ rows_append (words v) (Close s ∷ finals (said xs)) ∙ ap (λ l. rows (words v) ++ l) (rows_finals (said xs)) ∙ append-nil (rows (words v))
 
   closes_same : Torn ends (whole bs hs s) (shutting v s n) xs w → closes (words w) ≡ closes (words v) ++ s ∷ []
@@ -142,18 +142,22 @@ module _ {P : Type 0} {ends : P → Bool → P → Type 0} (v w : View P) (bs : 
   now_closed : Torn ends (whole bs hs s) (shutting v s n) xs w → is_closed (words w) s ≡ true
   now_closed t = any_at (λ a. has a (closes (words w))) (above (words w) s) s (up_self (turned (opens (words w))) s) (subst (λ l. has s l ≡ true) (sym (closes_same t)) (in_has s (closes (words v) ++ s ∷ []) (among_last (closes (words v)) s)))
 
-  old_within : Torn ends (whole bs hs s) (shutting v s n) xs w → {c a : ℕ} → LiesWithin w.events v.by c a → LiesWithin v.events v.by c a
+  pub old_within : Torn ends (whole bs hs s) (shutting v s n) xs w → {c a : ℕ} → LiesWithin w.events v.by c a → LiesWithin v.events v.by c a
   old_within t x = within_opens (λ c p m. ⊎_elim (λ q. ⊎_elim (λ o. o) (λ o. absurd (close_open s c p o)) (noted_last v.events (closing v s n) v.by (Open c p) q)) (λ f. absurd (open_final c p f.0 f.1 f.2)) (torn_old t m)) x
 
-  old_close : Torn ends (whole bs hs s) (shutting v s n) xs w → (a : ℕ) → Notes w.events v.by (Close a) → Notes v.events v.by (Close a) ⊎ (a ≡ s)
+  pub old_close : Torn ends (whole bs hs s) (shutting v s n) xs w → (a : ℕ) → Notes w.events v.by (Close a) → Notes v.events v.by (Close a) ⊎ (a ≡ s)
   old_close t a m = ⊎_elim (λ q. ⊎_elim (λ o. inl o) (λ o. inr (close_is s a o)) (noted_last v.events (closing v s n) v.by (Close a) q)) (λ f. absurd (close_final a f.0 f.1 f.2)) (torn_old t m)
 
-  pub close_owed : Torn ends (whole bs hs s) (shutting v s n) xs w → owed w ≤ w.spare
-  close_owed t =
-      let a = torn_count t in let b = torn_spare t in let c = torn_length t in let d = one_open v s u in let o = k.spare in
+  -- a scope less is open, at least
+  pub close_less : Torn ends (whole bs hs s) (shutting v s n) xs w → open_scopes (words w) + 1 ≤ open_scopes (words v)
+  close_less t =
+      let d = one_open v s u in
       let x : open_of (words w) (0 ∷ numbers (opens (words v))) + 1 ≤ open_scopes (words v) = open_one_less (words v) (words w) (0 ∷ numbers (opens (words v))) s (more_closed t) d.1 d.0 (now_closed t) in
       let y : open_scopes (words w) ≡ open_of (words w) (0 ∷ numbers (opens (words v))) = ap (λ o. open_of (words w) (0 ∷ numbers o)) (opens_same t) in
       omega arith
+
+  pub close_owed : Torn ends (whole bs hs s) (shutting v s n) xs w → owed w ≤ w.spare
+  close_owed t = let a = torn_count t in let b = torn_spare t in let c = torn_length t in let d = close_less t in let o = k.spare in omega arith
 
   pub close_keeps : Torn ends (whole bs hs s) (shutting v s n) xs w → (b : Branch) → ((d : Branch) → (slice_index_or bs s d).parent ≡ b.parent) → b.shut ≡ true → Kept w (slice_set bs s b) hs
   close_keeps t b same_parent sh =
@@ -209,12 +213,13 @@ module _ {P : Type 0} {ends : P → Bool → P → Type 0} (v w : View P) (bs : 
         spare = close_owed t;
       }
 
-within_trans : {L : List Event} {k : StreamNo} {s t a : ℕ} → LiesWithin L k s t → LiesWithin L k t a → LiesWithin L k s a
+pub within_trans : {L : List Event} {k : StreamNo} {s t a : ℕ} → LiesWithin L k s t → LiesWithin L k t a → LiesWithin L k s a
 within_trans (same s) w = w
 within_trans (below s p t n u) w = below s p _ n (within_trans u w)
 
 module _ {P : Type 0} (v : View P) (bs : List Branch) (hs : List Held) (k : Kept v bs hs) where
-  under_root : (n t : ℕ) → t ≤ n → t < length bs → LiesWithin v.events v.by t 0
+  -- each scope lies within the root
+  pub under_root : (n t : ℕ) → t ≤ n → t < length bs → LiesWithin v.events v.by t 0
   under_root n zero q l = same 0
   under_root zero (suc t) q l = absurd (omega arith)
   under_root (suc n) (suc t) q l =

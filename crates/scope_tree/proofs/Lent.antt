@@ -1,8 +1,9 @@
 -- Another payload in an open row keeps a tree in order.
-use Rattle.std.proofs.Common.{◌≡◌, ℕ, suc, true, false, cond, eqb, List, [], ◌∷◌, length, inl, inr, refl, sym, ap, subst, ⊎_elim, arith, eq-eqb, ne_eqb}
+use Rattle.std.proofs.Common.{◌≡◌, ◌⊎◌, ℕ, suc, Bool, true, false, cond, eqb, List, [], ◌∷◌, length, inl, inr, refl, sym, ap, ◌∙◌, subst, ⊎_elim, arith, eq-eqb, ne_eqb}
 use Rattle.std.proofs.lemmas.Bool.{cases_eq}
 use Rattle.chunk_core.specs.Lists.{IsAmong}
 use Rattle.chunk_core.specs.Lists.IsAmong.{here, there}
+use Rattle.chunk_core.proofs.Members.{among_cons}
 use Rattle.row_seat.specs.declared.view.View.{View}
 use Rattle.row_seat.specs.Views.{HasRow, paid, with_row}
 use Rattle.row_seat.proofs.Hands.{has_cons, has_nil}
@@ -37,11 +38,19 @@ module _ {P : Type 0} (r : ℕ) (w : P) where
     | false ↦ λ n. ⊎_elim (λ e. (x.1, subst (λ z. IsAmong (z, x.1) (x ∷ xs)) e (here xs))) (λ i. let t = with_has xs q i in (t.0, there x t.1)) (has_cons x (with_row r w xs) q n)
   ]) h
 
+  -- a row of the list with its payload was there, or is that one
+  pub with_among : (y : ℕ × P) (xs : List (ℕ × P)) → IsAmong y (with_row r w xs) → IsAmong y xs ⊎ (y ≡ (r, w))
+  with_among y [] m = inl m
+  with_among y (x ∷ xs) m = ⊎_elim
+      (λ e. ⊎_elim (λ i. inr (i ∙ ap (λ z. let t : ℕ × P = (z, w) in t) e)) (λ i. inl (there x i)) (among_cons (subst (λ b. IsAmong y (cond b ((x.0, w) ∷ xs) (x ∷ with_row r w xs))) (eq-eqb x.0 r e) m)))
+      (λ n. ⊎_elim (λ i. inl (subst (λ z. IsAmong z (x ∷ xs)) (sym i) (here xs))) (λ i. ⊎_elim (λ o. inl (there x o)) (λ o. inr o) (with_among y xs i)) (among_cons (subst (λ b. IsAmong y (cond b ((x.0, w) ∷ xs) (x ∷ with_row r w xs))) (ne_eqb x.0 r n) m)))
+      (cases_eq x.0 r)
+
   once_with : (xs : List (ℕ × P)) → Once xs → Once (with_row r w xs)
   once_with [] o = o
   once_with (x ∷ xs) o = elim (eqb x.0 r) as (λ b. Once (cond b ((x.0, w) ∷ xs) (x ∷ with_row r w xs))) [ true ↦ (o.0, o.1) | false ↦ ((λ h. o.0 (with_has xs x.0 h)), once_with xs o.1) ]
 
-  length_with : (xs : List (ℕ × P)) → length (with_row r w xs) ≡ length xs
+  pub length_with : (xs : List (ℕ × P)) → length (with_row r w xs) ≡ length xs
   length_with [] = refl
   length_with (x ∷ xs) = elim (eqb x.0 r) as (λ b. length (cond b ((x.0, w) ∷ xs) (x ∷ with_row r w xs)) ≡ suc (length xs)) [ true ↦ refl | false ↦ ap suc (length_with xs) ]
 

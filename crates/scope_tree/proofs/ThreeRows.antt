@@ -14,7 +14,7 @@ use Rattle.scope_tree.specs.Calls.{Acquires, AtStart, IsOpenScope, Opens, Seen}
 use Rattle.scope_tree.specs.Scripts.{IsThree, at_first, three, with_row, with_scope}
 use Rattle.scope_tree.specs.Waiting.{IsAlone}
 use Rattle.scope_tree.specs.Words.{words}
-use Rattle.scope_tree.proofs.Use.{all_open, first_is as first_open_is}
+use Rattle.scope_tree.proofs.Use.{all_open, first_is as first_open_is, seen_is}
 use Rattle.chunk_core.proofs.Members.{among_cons, among_nil}
 
 pub each_among : (Q : Event → Type 0) (L : List Event) → Each Q L → (e : Event) → IsAmong e L → Q e
@@ -35,11 +35,6 @@ module _ {P : Type 0} where
   first_is {v = v} {m = m} {n = n} e s x y =
       e ∙ ap (λ i. let z : Seen P = record { seat = i; shelf = []; scopes = m; rows = n } in z) s
       ∙ ap (λ i. let z : Seen P = record { seat = start Outer 3 16; shelf = []; scopes = i; rows = n } in z) x ∙ ap (λ i. let z : Seen P = record { seat = start Outer 3 16; shelf = []; scopes = 4; rows = i } in z) y
-
-  seen_is : (a b : Seen P) (v : View P) → b.seat ≡ v → b.shelf ≡ a.shelf → b.scopes ≡ a.scopes → b.rows ≡ a.rows → b ≡ record a { seat = v }
-  seen_is a b v x y z w =
-      ap (λ s. let c : Seen P = record b { seat = s } in c) x ∙ ap (λ s. let c : Seen P = record b { seat = v; shelf = s } in c) y
-      ∙ ap (λ s. let c : Seen P = record b { seat = v; shelf = a.shelf; scopes = s } in c) z ∙ ap (λ s. let c : Seen P = record a { seat = v; rows = s } in c) w
 
   pub acquires_is : {a b : Seen P} {s r : ℕ} {p : P} (A : Seen P) → a ≡ A → (o : Acquires a s r p b) → b ≡ with_row A r s o.stamp p
   acquires_is {a = a} {b = b} {s = s} {r = r} {p = p} A e o = seen_is a b _ o.seat o.shelf o.scopes o.rows ∙ ap (λ x. with_row x r s o.stamp p) e

@@ -47,6 +47,12 @@ module _ {P : Type 0} where
       let n : Notes v.events v.by (Lease j c.3) = (c.2, subst (λ l. IsAmong c.2 l) (sym c.4) (among_mid c.0 c.1 c.2), c.5 ∙ sym b, c.6) in
       among_nil (subst (λ l. IsAmong (j, c.3) l) e (lease_in j c.3 (words v) (noted_in v.by (Lease j c.3) v.events n)))
 
+  -- where callers see the same of two trees but for the seat
+  pub seen_is : (a b : Seen P) (v : View P) → b.seat ≡ v → b.shelf ≡ a.shelf → b.scopes ≡ a.scopes → b.rows ≡ a.rows → b ≡ record a { seat = v }
+  seen_is a b v x y z w =
+      ap (λ s. let c : Seen P = record b { seat = s } in c) x ∙ ap (λ s. let c : Seen P = record b { seat = v; shelf = s } in c) y
+      ∙ ap (λ s. let c : Seen P = record b { seat = v; shelf = a.shelf; scopes = s } in c) z ∙ ap (λ s. let c : Seen P = record a { seat = v; rows = s } in c) w
+
   -- without a close each scope that was opened is open
   pub all_open : (v : View P) (s : ℕ) → closes (words v) ≡ [] → (s ≡ 0) ⊎ ((p : ℕ) × IsAmong (s, p) (opens (words v))) → IsUsable v.events v.by s
   all_open v s e o = (
