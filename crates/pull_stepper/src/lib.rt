@@ -1,0 +1,8 @@
+//! A node that is run over a tree of scopes and its devices, turn by turn.
+#![tactic(auto)]
+
+pub mod held;
+#[cfg(test)]
+mod tests;
+
+pub use held::Held;
