@@ -9,6 +9,7 @@ use Rattle.chunk_core.specs.Lists.{IsAmong}
 use Rattle.chunk_core.specs.Lists.IsAmong.{here, there}
 use Rattle.chunk_core.proofs.Members.{among_cons}
 use Rattle.res_ledger.proofs.Tests.{any_found, both, itself, number, or_left, or_right}
+use Rattle.res_ledger.proofs.Noted.{among_either}
 use Rattle.row_seat.specs.Views.{run}
 use Rattle.row_seat.proofs.Times.{run_length}
 use Rattle.pull_nodes.specs.Placed.{are_distinct}
@@ -86,3 +87,14 @@ first_is (p ∷ ps) from d some h =
     let l = few (p ∷ ps) f.0 (from + length (p ∷ ps) - f.0) d (λ q i. let v = h q i in let b = f.2.below q i in (omega arith, omega arith)) in
     let e : f.0 ≡ from = omega (arith, w.0, w.1) in
     ap (λ o. unwrap_or o 0) f.1 ∙ e
+
+-- distinct numbers from `from` on are no more than there are below a limit that each is below
+pub span_limit : (ps : List ℕ) (from limit : ℕ) → are_distinct ps ≡ true → 0 < length ps → ((p : ℕ) → IsAmong p ps → (from ≤ p) × (p < limit)) → from + length ps ≤ limit
+span_limit [] from limit d some h = absurd (omega arith)
+span_limit (p ∷ ps) from limit d some h =
+    let w = h p (here ps) in
+    let l = few (p ∷ ps) from (limit - from) d (λ q i. let v = h q i in let a = v.0 in let b = v.1 in (a, omega (arith, a, b))) in
+    omega (arith, w.0, w.1, l)
+
+pub below_join : (n : ℕ) (ps qs : List ℕ) → ((p : ℕ) → IsAmong p ps → p < n) → ((p : ℕ) → IsAmong p qs → p < n) → (p : ℕ) → IsAmong p (ps ++ qs) → p < n
+below_join n ps qs f g p i = ⊎_elim (f p) (g p) (among_either ps qs p i)

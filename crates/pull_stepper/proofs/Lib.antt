@@ -1,2 +1,12 @@
 pub mod Placing
 pub mod Firsts
+pub mod Payloads
+pub mod Slots
+pub mod Tellings
+pub mod Standing
+pub mod Ending
+pub mod Entering
+pub mod Opening
+pub mod Acquiring
+pub mod Reading
+pub mod Leaving

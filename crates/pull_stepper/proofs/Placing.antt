@@ -1,5 +1,6 @@
 -- A node whose places are in order may be run over devices that wait.
-use Rattle.std.proofs.Common.{◌≡◌, ℕ, Bool, true, ◌&&◌, not, nat_eq, List, [], ◌∷◌, ◌++◌, ◌⊎◌, inl, inr, sym, subst, ◌∙◌}
+use Rattle.std.proofs.Common.{◌≡◌, ℕ, ◌<◌, ◌≤◌, nat_le, nat_lt, Bool, true, ◌&&◌, not, nat_eq, List, [], ◌∷◌, ◌++◌, ◌⊎◌, inl, inr, sym, subst, ◌∙◌}
+use Rattle.std.proofs.lemmas.Bool.{leb-true, ltb-true}
 use Rattle.std.specs.List.{list_any as any, list_all as all}
 use Rattle.chunk_core.specs.declared.code.Span.{Span}
 use Rattle.chunk_core.specs.Lists.{IsAmong}
@@ -182,7 +183,7 @@ module _ (a : Around) (s : ℕ) where
   part_fresh P ps Nil h w t u = tt
   part_fresh P ps (Emit l) h w t u = tt
   part_fresh P ps (Raise c) h w t u = tt
-  part_fresh P ps (Read q) h w t u = let r = t q (here []) in (r.0, inl (u q (found q ps h.all_inside)))
+  part_fresh P ps (Read q) h w t u = let r = t q (here []) in (r.0, r.1, inl (u q (found q ps h.all_inside)))
   part_fresh P ps (Weak' q _ n) h w t u = (
     w q (here (places_of n)),
     (λ i. absent q (places_of n) (both (not (any (nat_eq q) (places_of n))) (are_distinct (places_of n)) h.distinct).0 (asked_places q n i)),
@@ -222,3 +223,15 @@ module _ (a : Around) (s : ℕ) where
           all_inside = tests_of.1.1.1;
         })
         (λ p i. (f p i).0) (λ p i. (f p (used_placed p i)).1) (λ p i. elim i [ ])
+
+-- each place of a placed node is within the span
+pub placed_within : (span : Span) (n : Node) → is_placed span n ≡ true → (p : ℕ) → IsAmong p (places_of n) → (span.from ≤ p) × (p < span.to)
+placed_within span n h p i =
+    let x = both (all (is_within span) (places_of n)) (are_distinct (places_of n) && (all (is_once (uses_of n)) (places_of n) && is_inside [] n)) h in
+    let w = both (nat_le span.from p) (nat_lt p span.to) (all_at (is_within span) p (places_of n) i x.0) in
+    (leb-true span.from p w.0, ltb-true p span.to w.1)
+
+pub placed_distinct : (span : Span) (n : Node) → is_placed span n ≡ true → are_distinct (places_of n) ≡ true
+placed_distinct span n h =
+    let x = both (all (is_within span) (places_of n)) (are_distinct (places_of n) && (all (is_once (uses_of n)) (places_of n) && is_inside [] n)) h in
+    (both (are_distinct (places_of n)) (all (is_once (uses_of n)) (places_of n) && is_inside [] n) x.1).0

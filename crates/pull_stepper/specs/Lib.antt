@@ -1,3 +1,6 @@
 pub mod Held
 pub mod Lending
 pub mod Placing
+pub mod Sites
+pub mod Resources
+pub mod Laws

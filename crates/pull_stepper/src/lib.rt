@@ -2,7 +2,9 @@
 #![tactic(auto)]
 
 pub mod held;
+pub mod resources;
 #[cfg(test)]
 mod tests;
 
 pub use held::Held;
+pub use resources::Resources;

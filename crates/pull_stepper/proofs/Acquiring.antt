@@ -1,0 +1,202 @@
+-- What a site is after a device was opened and its place acquired.
+use Rattle.std.proofs.Common.{◌≡◌, ◌≢◌, Bool, ℕ, ◌+◌, ◌≤◌, true, List, [], ◌∷◌, ◌++◌, length, Option, Some, None, inl, inr, refl, sym, ap, ◌∙◌, subst, ⊎_elim, arith, length-append}
+use Rattle.std.proofs.lemmas.Bool.{cases_eq}
+use Rattle.chunk_core.specs.Lists.{IsAmong}
+use Rattle.chunk_core.specs.Lists.IsAmong.{here, there}
+use Rattle.chunk_core.proofs.Members.{among_cons, among_nil, among_last, among_left, among_snoc}
+use Rattle.device_port.specs.Device.{DeviceTold}
+use Rattle.device_port.specs.declared.device.Mode.TheVariants as mode
+use Rattle.pull_turns.specs.Around.{Acquires, Keeps, gist}
+use Rattle.res_ledger.specs.declared.event.Event.{Event}
+use Rattle.res_ledger.specs.declared.event.What.TheVariants.{Acquire, Close, Lease, Open}
+use Rattle.res_ledger.specs.Ledger.{Covers}
+use Rattle.res_ledger.specs.Order.{firsts}
+use Rattle.res_ledger.specs.Own.{opens, rows}
+use Rattle.res_ledger.proofs.Growth.{noted_more}
+use Rattle.res_ledger.proofs.Ledgers.{covers_acquired, covers_snoc}
+use Rattle.row_seat.specs.Views.{HasRow, noted, placed}
+use Rattle.row_seat.proofs.Members.{among_kept}
+use Rattle.scope_tree.specs.declared.branch.Branch.{Branch}
+use Rattle.scope_tree.specs.declared.branch.Held.{Held}
+use Rattle.scope_tree.specs.Calls.{Acquires as Acquired, IsOpenScope, Seen, used}
+use Rattle.scope_tree.specs.Kept.{Kept}
+use Rattle.scope_tree.specs.Torn.{said}
+use Rattle.scope_tree.specs.Words.{acquiring, numbers, own_rows, owed, words}
+use Rattle.scope_tree.proofs.Distinct.{strangers_less}
+use Rattle.scope_tree.proofs.Grows.{acquired_opens, acquired_rows, acquired_scopes}
+use Rattle.scope_tree.proofs.Keeps.{noted_last, within_opens}
+use Rattle.scope_tree.proofs.Rooms.{open_taken}
+use Rattle.scope_tree.proofs.Use.{seen_is}
+use Rattle.tree_laws.specs.Called.Called.{none, acquired}
+use Rattle.tree_laws.proofs.Alone.{alone_acquires}
+use Rattle.pull_stepper.specs.Sites.{InOrder, SameDevice, Since, Site, around, pay_of, pays, slot, told_at, told_by, told_or}
+use Rattle.pull_stepper.proofs.Ending.{pay_snoc}
+use Rattle.pull_stepper.proofs.Opening.{none_still, refilled, slot_now, slot_still, slots_length, some_not}
+use Rattle.pull_stepper.proofs.Payloads.{pay_back, pay_here, pay_left, pay_right}
+use Rattle.pull_stepper.proofs.Tellings.{same_device}
+
+acquire_lease : (r s j t : ℕ) → Acquire r s ≢ Lease j t
+acquire_lease r s j t e = cc
+
+acquire_open : (r s c p : ℕ) → Acquire r s ≢ Open c p
+acquire_open r s c p e = cc
+
+acquire_close : (r s c : ℕ) → Acquire r s ≢ Close c
+acquire_close r s c e = cc
+
+numbers_more : (xs : List (ℕ × ℕ)) (y : ℕ × ℕ) (r : ℕ) → IsAmong r (numbers xs) → IsAmong r (numbers (xs ++ y ∷ []))
+numbers_more [] y r i = absurd (among_nil i)
+numbers_more (x ∷ xs) y r i = ⊎_elim (λ e. subst (λ z. IsAmong z (numbers (x ∷ (xs ++ y ∷ [])))) (sym e) (here (numbers (xs ++ y ∷ [])))) (λ m. there x.0 (numbers_more xs y r m)) (among_cons i)
+
+module _ {V : Type 0} (told : V → DeviceTold) (x : Site V) (s p n : ℕ) (d e : V) (bs : List Branch) (hs : List Held) (k : Kept x.tree.seat bs hs) (is : slot x p ≡ Some (Some d)) (order : InOrder told x) (u : IsOpenScope x.tree s) (read : (told d).place.mode ≡ mode.Read) (open' : told e ≡ record (told d) { is_open = true; opens = 1 }) (free : owed x.tree.seat + 2 ≤ x.tree.seat.spare) where
+  -- the tree with the row
+  abbrev after : Seen V
+  after = record x.tree { seat = placed (noted x.tree.seat (acquiring x.tree.seat p s n)) p e }
+
+  abbrev site' : Site V
+  site' = record x { tree = after; slots = refilled x p d is None }
+
+  empty : IsAmong p x.tree.seat.empty
+  empty = (order.waits p d is).0
+
+  -- the row wasn't open
+  closed : ¬ (HasRow x.tree.seat.opened p)
+  closed h = open_taken x.tree.seat bs hs k p h empty
+
+  now_none : slot site' p ≡ Some None
+  now_none = slot_now x p d is None
+
+  pay_now : pay_of after p ≡ Some e
+  pay_now =
+      let o = x.tree.seat.opened in
+      pay_left p e (o ++ (p, e) ∷ []) (pays x.tree.shelf) (pay_right p o ((p, e) ∷ []) closed ∙ pay_here p (p, e) [] refl)
+
+  told_now : told_at told site' p ≡ record (told_at told x p) { is_open = true; opens = 1 }
+  told_now =
+      ap (λ o. told_by told o (pay_of after p)) now_none ∙ ap (told_or told) pay_now ∙ open'
+      ∙ sym (ap (λ o. record (told_by told o (pay_of x.tree p)) { is_open = true; opens = 1 }) is)
+
+  told_other : (q : ℕ) → q ≢ p → told_at told site' q ≡ told_at told x q
+  told_other q ne =
+      ap (λ o. told_by told o (pay_of after q)) (slot_still x p d is None q ne)
+      ∙ ap (told_by told (slot x q)) (pay_back q (x.tree.seat.opened ++ (p, e) ∷ []) x.tree.seat.opened (pays x.tree.shelf) (pay_snoc q x.tree.seat.opened (p, e) (λ i. ne (sym i))))
+
+  rows_now : rows (words after.seat) ≡ rows (words x.tree.seat) ++ (p, s) ∷ []
+  rows_now = acquired_rows x.tree.seat bs hs p s n e k u empty free
+
+  holds_still : (q i : ℕ) → (around told x).holds q i → (around told site').holds q i
+  holds_still q i h = (subst (λ l. IsAmong (q, i) l) (sym rows_now) (among_left ((p, s) ∷ []) h.0), (h.1.0, among_left ((p, e) ∷ []) h.1.1))
+
+  opened_still : (i : ℕ) → IsOpenScope x.tree i → IsOpenScope after i
+  opened_still i o =
+      let v = x.tree.seat in let a : Event = acquiring v p s n in (
+        ⊎_elim (λ z. inl z) (λ z. inr (z.0, noted_more v.events a z.1)) o.0,
+        λ c. o.1 (
+          c.0,
+          within_opens (λ f g m. ⊎_elim (λ z. z) (λ z. absurd (acquire_open p s f g z)) (noted_last v.events a v.by (Open f g) m)) c.1,
+          ⊎_elim (λ z. z) (λ z. absurd (acquire_close p s c.0 z)) (noted_last v.events a v.by (Close c.0) c.2),
+        ),
+      )
+
+  keeps : (i : ℕ) → Keeps (around told x) (λ q. q ≡ p) i (around told site')
+  keeps i = record {
+    told = λ q ne. ap gist (told_other q ne);
+    waits = λ q ne w. (w.0, slot_still x p d is None q ne ∙ w.1, w.2);
+    holds = λ q j ne l h. holds_still q j h;
+    opened = λ j l o. opened_still j o;
+  }
+
+  used_now : used after ≤ used x.tree + 1
+  used_now =
+      let F = firsts (said x.tree.shelf) in let own = own_rows x.tree.seat in
+      let l : length (rows (words after.seat)) ≡ length (rows (words x.tree.seat)) + 1 = ap length rows_now ∙ length-append (rows (words x.tree.seat)) ((p, s) ∷ []) in
+      let m = strangers_less own (own_rows after.seat) F (λ r i. subst (λ l. IsAmong r (numbers l)) (sym rows_now) (numbers_more (rows (words x.tree.seat)) (p, s) r i)) in
+      omega (l, m, arith)
+
+  acquires : Acquires (around told x) s p (around told site')
+  acquires =
+      let os : length (opens (words after.seat)) ≡ length (opens (words x.tree.seat)) = ap length (acquired_opens x.tree.seat bs hs p s n e k u empty free) in
+      let sc = acquired_scopes x.tree.seat bs hs p s n e k u empty free in let l = length-append x.tree.seat.opened ((p, e) ∷ []) in let us = used_now in record {
+        told = told_now;
+        keeps = keeps;
+        holds = holds_still;
+        held = (subst (λ l. IsAmong (p, s) l) (sym rows_now) (among_last (rows (words x.tree.seat)) (p, s)), (e, among_last x.tree.seat.opened (p, e)));
+        events = omega (sc, l, free, arith);
+        scopes = omega (os, arith);
+        rows = omega (us, arith);
+      }
+
+  bare_now : (j r : ℕ) → HasRow after.seat.opened r → ¬ (Covers after.seat.events j after.seat.by r)
+  bare_now j r h c =
+      let v = x.tree.seat in let a : Event = acquiring v p s n in
+      let old : Covers v.events j v.by r = ⊎_elim (λ o. o) (λ o. absurd (acquire_lease p s j o.0 o.2)) (covers_snoc v.events a j r v.by c) in
+      ⊎_elim
+      (λ m. order.bare j r (h.0, m) old)
+      (λ m. let t = covers_acquired v.events j r v.by old in k.empty r (subst (λ z. IsAmong z v.empty) (sym (ap (λ y. y.0) m)) empty) (v.by, t.0, t.1))
+      (among_snoc v.opened (r, h.0) (p, e) h.1)
+
+  acquired_order : InOrder told site'
+  acquired_order = record {
+    places = λ r h. ⊎_elim
+        (λ m. none_still x p d is None r (order.places r (h.0, m)))
+        (λ m. subst (λ q. slot site' q ≡ Some None) (sym (ap (λ y. y.0) m)) now_none)
+        (among_snoc x.tree.seat.opened (r, h.0) (p, e) h.1);
+    opened = λ r f m. ⊎_elim
+        (λ o. order.opened r f o)
+        (λ o. let i : f ≡ e = ap (λ y. y.1) o in (ap (λ z. (told z).is_open) i ∙ ap (λ t. t.is_open) open', ap (λ z. (told z).place.mode) i ∙ ap (λ t. t.place.mode) open' ∙ read))
+        (among_snoc x.tree.seat.opened (r, f) (p, e) m);
+    bare = bare_now;
+    waits = λ q f h. ⊎_elim
+        (λ i. absurd (some_not f (slot site' p) now_none (subst (λ z. slot site' z ≡ Some (Some f)) i h)))
+        (λ ne. let w = order.waits q f (sym (slot_still x p d is None q ne) ∙ h) in (among_kept p x.tree.seat.empty q w.0 ne, w.1))
+        (cases_eq q p);
+    gone = λ q h. ⊎_elim
+        (λ j. inl (e, subst (λ z. IsAmong (z, e) after.seat.opened) (sym j) (among_last x.tree.seat.opened (p, e))))
+        (λ ne. ⊎_elim (λ o. inl (o.0, among_left ((p, e) ∷ []) o.1)) (λ o. inr o) (order.gone q (sym (slot_still x p d is None q ne) ∙ h)))
+        (cases_eq q p);
+  }
+
+-- the device was opened, and its row acquired in an open scope
+module _ {V : Type 0} (told : V → DeviceTold) (ends : V → Bool → V → Type 0) (x : Site V) (b : Seen V) (s p : ℕ) (d e : V) (bs : List Branch) (hs : List Held) (k : Kept x.tree.seat bs hs) (is : slot x p ≡ Some (Some d)) (order : InOrder told x) (u : IsOpenScope x.tree s) (read : (told d).place.mode ≡ mode.Read) (open' : told e ≡ record (told d) { is_open = true; opens = 1 }) (free : owed x.tree.seat + 2 ≤ x.tree.seat.spare) (o : Acquired x.tree s p e b) where
+  is_after : b ≡ after told x s p o.stamp d e bs hs k is order u read open' free
+  is_after = seen_is x.tree b _ o.seat o.shelf o.scopes o.rows
+
+  abbrev pub acquired_site : Site V
+  acquired_site = record x { tree = b; slots = refilled x p d is None }
+
+  pub acquire_order : InOrder told acquired_site
+  acquire_order = subst (λ t. InOrder told (record x { tree = t; slots = refilled x p d is None })) (sym is_after) (acquired_order told x s p o.stamp d e bs hs k is order u read open' free)
+
+  pub acquire_acquires : Acquires (around told x) s p (around told acquired_site)
+  acquire_acquires = subst (λ t. Acquires (around told x) s p (around told (record x { tree = t; slots = refilled x p d is None }))) (sym is_after) (acquires told x s p o.stamp d e bs hs k is order u read open' free)
+
+  same : (q : ℕ) → SameDevice (told_at told x q) (told_at told (site' told x s p o.stamp d e bs hs k is order u read open' free) q)
+  same q = ⊎_elim
+      (λ i. subst (λ z. SameDevice (told_at told x z) (told_at told (site' told x s p o.stamp d e bs hs k is order u read open' free) z)) (sym i) (subst (λ t. SameDevice (told_at told x p) t) (sym (told_now told x s p o.stamp d e bs hs k is order u read open' free)) (record { number = refl; place = refl; present = refl; content = refl })))
+      (λ n. subst (λ t. SameDevice (told_at told x q) t) (sym (told_other told x s p o.stamp d e bs hs k is order u read open' free q n)) (same_device (told_at told x q)))
+      (cases_eq q p)
+
+  pub acquire_since : Since told ends x acquired_site
+  acquire_since = record {
+    calls = acquired x.tree b s p e none (record { scope = u; row = (order.waits p d is).0 }) o;
+    alone = alone_acquires o;
+    shelf = λ y m. inl (subst (λ l. IsAmong y l) o.shelf m);
+    from = refl;
+    places = slots_length x p d is None;
+    same = λ q. subst (λ t. SameDevice (told_at told x q) (told_at told (record x { tree = t; slots = refilled x p d is None }) q)) (sym is_after) (same q);
+    taken = λ q h. none_still x p d is None q h;
+  }
+
+  -- the same, by slots that are those
+  module _ (l : List (Option V)) (emptied : l ≡ refilled x p d is None) where
+    abbrev pub now_site : Site V
+    now_site = record x { tree = b; slots = l }
+
+    pub now_acquires : Acquires (around told x) s p (around told now_site)
+    now_acquires = subst (λ m. Acquires (around told x) s p (around told (record x { tree = b; slots = m }))) (sym emptied) acquire_acquires
+
+    pub now_order : InOrder told now_site
+    now_order = subst (λ m. InOrder told (record x { tree = b; slots = m })) (sym emptied) acquire_order
+
+    pub now_since : Since told ends x now_site
+    now_since = subst (λ m. Since told ends x (record x { tree = b; slots = m })) (sym emptied) acquire_since

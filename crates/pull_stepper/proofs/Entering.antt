@@ -1,0 +1,130 @@
+-- What a site is after a scope was opened.
+use Rattle.std.proofs.Common.{◌≡◌, ◌≢◌, Bool, ℕ, ◌+◌, ◌<◌, ◌≤◌, List, [], ◌∷◌, length, inl, inr, refl, sym, ap, ◌∙◌, subst, ⊎_elim, arith, length-append}
+use Rattle.chunk_core.specs.Lists.{IsAmong}
+use Rattle.device_port.specs.Device.{DeviceTold}
+use Rattle.pull_turns.specs.Around.{Enters, Keeps}
+use Rattle.res_ledger.specs.declared.event.Event.{Event}
+use Rattle.res_ledger.specs.declared.event.What.TheVariants.{Close, Lease, Open}
+use Rattle.res_ledger.specs.Ledger.{IsClosed, IsUsable, LiesWithin, Notes}
+use Rattle.res_ledger.specs.Own.{opens}
+use Rattle.res_ledger.proofs.Growth.{noted_more, noted_new}
+use Rattle.row_seat.specs.declared.view.View.{View}
+use Rattle.row_seat.specs.Views.{noted}
+use Rattle.scope_tree.specs.declared.branch.Branch.{Branch}
+use Rattle.scope_tree.specs.declared.branch.Held.{Held}
+use Rattle.scope_tree.specs.Calls.{IsOpenScope, Opens, Seen, used}
+use Rattle.scope_tree.specs.Kept.{Kept}
+use Rattle.res_ledger.specs.Order.{firsts}
+use Rattle.scope_tree.specs.Rows.{strangers}
+use Rattle.scope_tree.specs.Torn.{said}
+use Rattle.scope_tree.specs.Words.{numbers, opening, owed, words}
+use Rattle.scope_tree.proofs.Bridge.{closes_in, noted_in, within_cases}
+use Rattle.scope_tree.proofs.Grows.{back_closed, length_marks, opened_opens, opened_rows, opened_scopes}
+use Rattle.scope_tree.proofs.Beneath.{noted_scope, usable_scope}
+use Rattle.scope_tree.proofs.Keeps.{noted_last, under_root, within_trans}
+use Rattle.scope_tree.proofs.Use.{first_is, seen_is}
+use Rattle.tree_laws.specs.Called.Called.{none, opened}
+use Rattle.tree_laws.proofs.Alone.{alone_opens}
+use Rattle.pull_stepper.specs.Sites.{InOrder, SameDevice, Since, Site, around, told_at}
+use Rattle.pull_stepper.proofs.Ending.{bare_noted}
+use Rattle.pull_stepper.proofs.Tellings.{same_device}
+
+open_lease : (c p j t : ℕ) → Open c p ≢ Lease j t
+open_lease c p j t e = cc
+
+open_close : (c p s : ℕ) → Open c p ≢ Close s
+open_close c p s e = cc
+
+open_under : (c p d q : ℕ) → Open c p ≡ Open d q → p ≡ q
+open_under c p d q e = cc
+
+-- where a scope is open, so is the root
+pub root_open : {V : Type 0} (v : View V) (bs : List Branch) (hs : List Held) (k : Kept v bs hs) (s : ℕ) → IsUsable v.events v.by s → ¬ (IsClosed v.events v.by 0)
+root_open v bs hs k s u c = u.1 (c.0, within_trans (under_root v bs hs k s s (omega arith) (usable_scope v bs hs k s u)) c.1, c.2)
+
+module _ {V : Type 0} (told : V → DeviceTold) (x : Site V) (at n : ℕ) (bs : List Branch) (hs : List Held) (k : Kept x.tree.seat bs hs) (order : InOrder told x) (u : IsOpenScope x.tree at) (free : owed x.tree.seat + 2 ≤ x.tree.seat.spare) where
+  -- the tree with a scope more
+  abbrev after : Seen V
+  after = record x.tree { seat = noted x.tree.seat (opening x.tree.seat (length bs) at n) }
+
+  entered_order : InOrder told (record x { tree = after })
+  entered_order = record {
+    places = order.places;
+    opened = order.opened;
+    bare = bare_noted x.tree.seat after.seat (opening x.tree.seat (length bs) at n) (λ j t. open_lease (length bs) at j t) refl refl (λ r h. h) order.bare;
+    waits = order.waits;
+    gone = order.gone;
+  }
+
+  new_open : IsOpenScope after (length bs)
+  new_open =
+      let v = x.tree.seat in let e : Event = opening v (length bs) at n in (
+        inr (at, noted_new v.events e),
+        λ c.
+            let old : Notes v.events v.by (Close c.0) = ⊎_elim (λ o. o) (λ o. absurd (open_close (length bs) at c.0 o)) (noted_last v.events e v.by (Close c.0) c.2) in
+            let l = k.ended c.0 (closes_in c.0 (words v) (noted_in v.by (Close c.0) v.events old)) in
+            ⊎_elim
+            (λ i. omega (i, l, arith))
+            (λ w. ⊎_elim
+            (λ o. let m = noted_scope v bs hs k (length bs) w.0 o in let z = m.1 in omega (z, arith))
+            (λ o. u.1 (back_closed v bs hs at n k u free at (usable_scope v bs hs k at u) (c.0, subst (λ p. LiesWithin after.seat.events v.by p c.0) (sym (open_under (length bs) at (length bs) w.0 o)) w.2, c.2)))
+            (noted_last v.events e v.by (Open (length bs) w.0) w.1))
+            (within_cases c.1),
+      )
+
+  stays_open : (i : ℕ) → IsOpenScope x.tree i → IsOpenScope after i
+  stays_open i o =
+      let v = x.tree.seat in let e : Event = opening v (length bs) at n in
+      (⊎_elim (λ z. inl z) (λ p. inr (p.0, noted_more v.events e p.1)) o.0, λ c. o.1 (back_closed v bs hs at n k u free i (usable_scope v bs hs k i o) c))
+
+  entered_keeps : (m : ℕ) → Keeps (around told x) (λ q. ⊥) m (around told (record x { tree = after }))
+  entered_keeps m = record {
+    told = λ q t. refl;
+    waits = λ q t h. h;
+    holds = λ q i t j h. (subst (λ l. IsAmong (q, i) l) (sym (opened_rows x.tree.seat bs hs at n k u free)) h.0, h.1);
+    opened = λ i j o. stays_open i o;
+  }
+
+  entered_used : used after ≡ used x.tree
+  entered_used = ap (λ l. length l + strangers (numbers l) (firsts (said x.tree.shelf))) (opened_rows x.tree.seat bs hs at n k u free)
+
+  entered : Enters (around told x) at (length bs) (around told (record x { tree = after }))
+  entered =
+      let s = opened_scopes x.tree.seat bs hs at n k u free in let p = k.spare in let l = usable_scope x.tree.seat bs hs k at u in let us = entered_used in
+      let os : length (opens (words after.seat)) ≡ length (opens (words x.tree.seat)) + 1 = ap length (opened_opens x.tree.seat bs hs at n k u free) ∙ length-append (opens (words x.tree.seat)) ((length bs, at) ∷ []) in record {
+        below = l;
+        opened = new_open;
+        keeps = entered_keeps;
+        events = omega (s, p, arith);
+        scopes = omega (os, arith);
+        rows = omega (us, arith);
+      }
+
+-- a scope of this number was opened in an open scope
+module _ {V : Type 0} (told : V → DeviceTold) (ends : V → Bool → V → Type 0) (x : Site V) (b : Seen V) (at c : ℕ) (bs : List Branch) (hs : List Held) (k : Kept x.tree.seat bs hs) (order : InOrder told x) (u : IsOpenScope x.tree at) (free : owed x.tree.seat + 2 ≤ x.tree.seat.spare) (o : Opens x.tree at c b) where
+  number : c ≡ length bs
+  number = let n = ap length k.opens in let m = length_marks bs k.size in let i = o.number in omega (n, m, i, arith)
+
+  is_after : b ≡ after told x at o.stamp bs hs k order u free
+  is_after =
+      let seat : b.seat ≡ noted x.tree.seat (opening x.tree.seat (length bs) at o.stamp) = o.seat ∙ ap (λ i. noted x.tree.seat (opening x.tree.seat i o.parent o.stamp)) number ∙ ap (λ p. noted x.tree.seat (opening x.tree.seat (length bs) p o.stamp)) (first_is u.1 o.nearest) in
+      seen_is x.tree b _ seat o.shelf o.scopes o.rows
+
+  pub enter_order : InOrder told (record x { tree = b })
+  enter_order = subst (λ t. InOrder told (record x { tree = t })) (sym is_after) (entered_order told x at o.stamp bs hs k order u free)
+
+  pub enter_enters : Enters (around told x) at c (around told (record x { tree = b }))
+  enter_enters =
+      subst (λ n. Enters (around told x) at n (around told (record x { tree = b }))) (sym number)
+      (subst (λ t. Enters (around told x) at (length bs) (around told (record x { tree = t }))) (sym is_after) (entered told x at o.stamp bs hs k order u free))
+
+  pub enter_since : length (opens (words x.tree.seat)) + 1 < x.tree.scopes → Since told ends x (record x { tree = b })
+  enter_since room = record {
+    calls = opened x.tree b at c none (record { root = root_open x.tree.seat bs hs k at u; known = u.0; room = room }) o;
+    alone = alone_opens o;
+    shelf = λ y m. inl (subst (λ l. IsAmong y l) o.shelf m);
+    from = refl;
+    places = refl;
+    same = λ p. subst (λ t. SameDevice (told_at told x p) (told_at told (record x { tree = t }) p)) (sym is_after) (same_device (told_at told x p));
+    taken = λ p e. e;
+  }

@@ -1,0 +1,58 @@
+//! The devices and scopes of one stream, over its tree.
+use crate::held::Held;
+use device_port::{Device, Failed};
+use pull_turns::Outside;
+use row_seat::RowSeat;
+use scope_tree::Tree;
+
+/// A tree of scopes, and the devices that weren't acquired, each in the slot of its place. A place is
+/// the row in which its device is acquired.
+pub struct Resources<S: RowSeat, V> {
+    pub(crate) tree: Tree<S>,
+    pub(crate) slots: Vec<Option<V>>,
+    pub(crate) from: u32,
+}
+
+impl<V: Device, S: RowSeat<Pay = Held<V>>> Outside for Resources<S, V> {
+    ghost use Rattle.pull_stepper.specs.Laws.{later_same, later_then};
+    ghost use Rattle.pull_stepper.specs.Resources.{Later, Stands, seen};
+
+    type Desk = S::Desk;
+
+    ghost seen = { seen S.view V.told };
+
+    ghost fits = { Stands S.view V.told S.fits };
+
+    ghost since = { Later S.view V.told S.fits };
+
+    ghost held = { λ o d f. f.held };
+
+    ghost begin = { later_same S.view V.told S.fits };
+
+    ghost then = { later_then S.view V.told S.fits };
+
+    fn open(&mut self, desk: &mut S::Desk, scope: u32, place: u32) -> Result<(), Failed> {
+        let at = (place - self.from) as usize;
+        let Some(device) = &mut self.slots[at] else {
+            unreachable!()
+        };
+        device.open()?;
+        let Some(device) = self.slots[at].take() else {
+            unreachable!()
+        };
+        self.tree.acquired(desk, scope, place, Held::new(device));
+        Ok(())
+    }
+
+    fn read(&mut self, _desk: &mut S::Desk, place: u32, buf: &mut [u8]) -> Result<usize, Failed> {
+        self.tree.pay_mut(place).device_mut().read(buf)
+    }
+
+    fn enter(&mut self, desk: &mut S::Desk, at: u32) -> u32 {
+        self.tree.open(desk, at)
+    }
+
+    fn leave(&mut self, desk: &mut S::Desk, scope: u32) {
+        self.tree.close(desk, scope)
+    }
+}
