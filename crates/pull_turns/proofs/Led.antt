@@ -4,7 +4,7 @@ use Rattle.std.proofs.lemmas.Grind.{flat_map-append}
 use Rattle.chunk_core.specs.declared.code.Code.{Code}
 use Rattle.chunk_core.specs.declared.load.Load.{Load}
 use Rattle.chunk_core.specs.Elements.{Element, elements}
-use Rattle.chunk_core.specs.Outcomes.{Done, Fault, Cut}
+use Rattle.chunk_core.specs.Outcomes.{Cut, Done, End, Fault}
 use Rattle.device_port.specs.Device.{DeviceTold}
 use Rattle.pull_turns.specs.Around.{Affords, Around, OpenAreHeld, Leaves, gist}
 use Rattle.pull_turns.specs.Rest.{IsRunOfRest, IsLive, CanStep}
@@ -115,20 +115,32 @@ ends_before before now w start old new h l e = record {
   goes = λ p. goes_on (before p) (now p) (w p) (h.goes p) (e.goes p);
 }
 
-ends_turn : (now w : ℕ → DeviceTold) (start old new : Rest) → ((p : ℕ) → IsLive p old → IsLive p start) → Ends now w start new → Ends now w old new
-ends_turn now w start old new l e = record { over = λ p m n. e.over p (l p m) n; goes = e.goes }
-
 joined : (xs ys : List Element) (w : ℕ → DeviceTold) (start old new : Rest) → Leads xs (IsRunOfRest w old) (IsRunOfRest w start) → Leads ys (IsRunOfRest w new) (IsRunOfRest w old) → Leads (xs ++ ys) (IsRunOfRest w new) (IsRunOfRest w start)
 joined xs ys w start old new f g = record { gives = λ zs e h. rw append_assoc (f.gives (ys ++ zs) e (g.gives zs e h)) }
+
+-- what came in a first stretch, and behind it what came in a second
+pub led_then : (first mid last : ℕ → DeviceTold) (start old new : Rest) (xs ys : List Element) → Led first mid start old xs → Led mid last old new ys → Led first last start new (xs ++ ys)
+led_then first mid last start old new xs ys h k = record {
+  tells = tells_on first mid last start old h.live h.tells k.tells;
+  live = λ p m. h.live p (k.live p m);
+  lead = λ w e.
+      joined xs ys w start old new (h.lead w (ends_before mid last w start old new k.tells k.live e)) (k.lead w (record { over = λ p m n. e.over p (h.live p m) n; goes = e.goes }));
+}
+
+-- what came, and then the end of what was left
+pub led_ends : (first mid last : ℕ → DeviceTold) (start old : Rest) (xs : List Element) (e : End) → Led first mid start old xs → Tells mid last old
+    → ((w : ℕ → DeviceTold) → Over last w old → IsRunOfRest w old [] e) → (w : ℕ → DeviceTold) → Over last w start → IsRunOfRest w start xs e
+led_ends first mid last start old xs e h k f w o =
+    let before : Ends mid w start old = record {
+      over = λ p i m. o.over p i ∙ k.others p m;
+      goes = λ p. goes_on (mid p) (last p) (w p) (k.goes p) (o.goes p);
+    } in
+    subst (λ (ys : List Element). IsRunOfRest w start ys e) (append-nil xs) ((h.lead w before).gives [] e (f w (record { over = λ p i. o.over p (h.live p i); goes = o.goes })))
 
 module _ (first : ℕ → DeviceTold) (before now : Around) (n : ℕ) (start old new : Rest) (xs : List Element) (h : Led first before.told start old xs) where
   led_on : (t : Turn) (ys : List Element) → Turns before now n old new t → ((w : ℕ → DeviceTold) → Ends now.told w old new → Leads ys (IsRunOfRest w new) (IsRunOfRest w old))
       → Led first now.told start new (xs ++ ys)
-  led_on t ys k f = record {
-    tells = tells_on first before.told now.told start old h.live h.tells k.tells;
-    live = λ p m. h.live p (k.live p m);
-    lead = λ w e. joined xs ys w start old new (h.lead w (ends_before before.told now.told w start old new k.tells k.live e)) (f w (ends_turn now.told w start old new h.live e));
-  }
+  led_on t ys k f = led_then first before.told now.told start old new xs ys h (record { tells = k.tells; live = k.live; lead = f })
 
   pub led_chunk : (l : Load) → Turns before now n old new (turn.Chunk l) → Led first now.told start new (xs ++ elements l)
   led_chunk l k = led_on (turn.Chunk l) (elements l) k k.gave.1
@@ -139,21 +151,11 @@ module _ (first : ℕ → DeviceTold) (before now : Around) (n : ℕ) (start old
   pub led_tells : (t : Turn) → Turns before now n old new t → Tells first now.told start
   led_tells t k = tells_on first before.told now.told start old h.live h.tells k.tells
 
-  -- what is told at the end of all, where this turn was the last
-  ends_last : (t : Turn) → Turns before now n old new t → (w : ℕ → DeviceTold) → Over now.told w start → Ends before.told w start old
-  ends_last t k w o = record {
-    over = λ p i m. o.over p i ∙ k.tells.others p m;
-    goes = λ p. goes_on (before.told p) (now.told p) (w p) (k.tells.goes p) (o.goes p);
-  }
-
-  over_part : (w : ℕ → DeviceTold) → Over now.told w start → Over now.told w old
-  over_part w o = record { over = λ p i. o.over p (h.live p i); goes = o.goes }
-
   pub led_done : Turns before now n old new turn.Done → (w : ℕ → DeviceTold) → Over now.told w start → IsRunOfRest w start xs Done
-  led_done k w o = subst (λ (ys : List Element). IsRunOfRest w start ys Done) (append-nil xs) ((h.lead w (ends_last turn.Done k w o)).gives [] Done (k.gave w (over_part w o)))
+  led_done k = led_ends first before.told now.told start old xs Done h k.tells k.gave
 
   pub led_fault : (c : Code) → Turns before now n old new (turn.Fault c) → (w : ℕ → DeviceTold) → Over now.told w start → IsRunOfRest w start xs (Fault c)
-  led_fault c k w o = subst (λ (ys : List Element). IsRunOfRest w start ys (Fault c)) (append-nil xs) ((h.lead w (ends_last (turn.Fault c) k w o)).gives [] (Fault c) (k.gave w (over_part w o)))
+  led_fault c k = led_ends first before.told now.told start old xs (Fault c) h k.tells k.gave
 
 pub led_pushed : (first : ℕ → DeviceTold) (before now : Around) (n : ℕ) (start old new : Rest) (ls : List Load) (l : Load) → Led first before.told start old (flat_map elements ls)
     → Turns before now n old new (turn.Chunk l) → Led first now.told start new (flat_map elements (ls ++ l ∷ []))
@@ -163,5 +165,4 @@ pub over_now : (now : ℕ → DeviceTold) (r : Rest) → Over now now r
 over_now now r = record { over = λ p l. refl; goes = λ p. goes_same (now p) }
 
 pub led_cut : (first now : ℕ → DeviceTold) (start old : Rest) (xs : List Element) → Led first now start old xs → IsRunOfRest now start xs Cut
-led_cut first now start old xs h = subst (λ (ys : List Element). IsRunOfRest now start ys Cut) (append-nil xs)
-    ((h.lead now (record { over = λ p l n. refl; goes = λ p. goes_same (now p) })).gives [] Cut (can_stop now old))
+led_cut first now start old xs h = led_ends first now now start old xs Cut h (tells_same now old) (λ w o. can_stop w old) now (over_now now start)
