@@ -10,3 +10,6 @@ pub mod Opening
 pub mod Acquiring
 pub mod Reading
 pub mod Leaving
+pub mod Beginning
+pub mod Parting
+pub mod Driving

@@ -4,10 +4,10 @@ use Rattle.std.proofs.lemmas.Bool.{cases_eq}
 use Rattle.pull_stepper.specs.Sites.{slot_of}
 
 module _ {V : Type 0} where
-  slot_here : (p i : ℕ) (x : Option V) (xs : List (Option V)) → i ≡ p → slot_of p i (x ∷ xs) ≡ Some x
+  pub slot_here : (p i : ℕ) (x : Option V) (xs : List (Option V)) → i ≡ p → slot_of p i (x ∷ xs) ≡ Some x
   slot_here p i x xs e = ap (λ b. cond b (Some x) (slot_of p (suc i) xs)) (eq-eqb i p e)
 
-  slot_past : (p i : ℕ) (x : Option V) (xs : List (Option V)) → i ≢ p → slot_of p i (x ∷ xs) ≡ slot_of p (suc i) xs
+  pub slot_past : (p i : ℕ) (x : Option V) (xs : List (Option V)) → i ≢ p → slot_of p i (x ∷ xs) ≡ slot_of p (suc i) xs
   slot_past p i x xs n = ap (λ b. cond b (Some x) (slot_of p (suc i) xs)) (ne_eqb i p n)
 
   -- what a slot has stands as far in the slots as the place is from the first

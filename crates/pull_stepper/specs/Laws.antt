@@ -13,7 +13,7 @@ use Rattle.pull_stepper.specs.Resources.{Later}
 use Rattle.pull_stepper.specs.Sites.{Since, Site}
 
 module _ {V : Type 0} (told : V → DeviceTold) (ends : V → Bool → V → Type 0) where
-  since_same : (x : Site V) → Since told ends x x
+  pub since_same : (x : Site V) → Since told ends x x
   since_same x = record {
     calls = none;
     alone = alone_same x.tree.seat;
@@ -24,7 +24,7 @@ module _ {V : Type 0} (told : V → DeviceTold) (ends : V → Bool → V → Typ
     taken = λ p e. e;
   }
 
-  since_then : (x y z : Site V) → Since told ends x y → Since told ends y z → Since told ends x z
+  pub since_then : (x y z : Site V) → Since told ends x y → Since told ends y z → Since told ends x z
   since_then x y z a b = record {
     calls = called_then a.calls b.calls;
     alone = alone_then x.tree.seat y.tree.seat z.tree.seat a.alone b.alone;

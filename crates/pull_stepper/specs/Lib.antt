@@ -4,3 +4,6 @@ pub mod Placing
 pub mod Sites
 pub mod Resources
 pub mod Laws
+pub mod Stepping
+pub mod Steppers
+pub mod Uses

@@ -2,9 +2,13 @@
 #![tactic(auto)]
 
 pub mod held;
+pub(crate) mod places;
 pub mod resources;
+pub mod stepper;
 #[cfg(test)]
 mod tests;
+pub mod uses;
 
 pub use held::Held;
 pub use resources::Resources;
+pub use stepper::{Ended, Stepper, Unmade};

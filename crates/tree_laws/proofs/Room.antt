@@ -24,14 +24,14 @@ opens_one : (E F : List What) (s p : ℕ) → F ≡ E ++ Open s p ∷ [] → len
 opens_one E F s p is = ap (λ l. length (opens l)) is ∙ ap length (opens_append E (Open s p ∷ [])) ∙ length-append (opens E) ((s, p) ∷ [])
 
 module _ {P : Type 0} where
-  abbrev HasRoom : Seen P → Seen P → Type 0
+  abbrev pub HasRoom : Seen P → Seen P → Type 0
   HasRoom a b = (length (opens (words b.seat)) + 1 ≤ b.scopes) × (b.scopes ≡ a.scopes) × (b.rows ≡ a.rows)
 
   still_room : (a b c : Seen P) → opens (words c.seat) ≡ opens (words b.seat) → c.scopes ≡ b.scopes → c.rows ≡ b.rows → HasRoom a b → HasRoom a c
   still_room a b c is s r h = (subst (λ n. length (opens (words c.seat)) + 1 ≤ n) (sym s) (subst (λ l. length l + 1 ≤ b.scopes) (sym is) h.0), s ∙ h.1, r ∙ h.2)
 
 module _ {P : Type 0} {ends : P → Bool → P → Type 0} where
-  room_along : {a b : Seen P} {Cs : List (ℕ × List ℕ)} → length (opens (words a.seat)) + 1 ≤ a.scopes → Called ends a Cs b → HasRoom a b
+  pub room_along : {a b : Seen P} {Cs : List (ℕ × List ℕ)} → length (opens (words a.seat)) + 1 ≤ a.scopes → Called ends a Cs b → HasRoom a b
   room_along r none = (r, refl, refl)
   room_along r (opened b c at s h m o) =
       let t = room_along r h in let n = opens_one (words b.seat) (words c.seat) s o.parent (opened_said o) in let l = m.room in let e = o.scopes in

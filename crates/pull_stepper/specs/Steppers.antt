@@ -1,0 +1,24 @@
+-- What contracts see of a stepper.
+use Rattle.std.specs.Prelude.{◌≡◌, ◌≤◌, [], vec_len, vec_capacity}
+use Rattle.device_port.specs.Device.{DeviceTold}
+use Rattle.row_seat.specs.declared.view.View.{View}
+use Rattle.pull_stepper.specs.declared.stepper.Stepper.{Stepper}
+use Rattle.pull_stepper.specs.Resources.{Stands, site}
+use Rattle.pull_stepper.specs.Stepping.{Stepping}
+
+module _ {S V D : Type 0} (view : S → View V) where
+  -- what callers see of it
+  abbrev pub stepping : Stepper S V V D → Stepping V
+  stepping s = record {
+    site = site view s.runner.outside;
+    rest = s.runner.rest;
+    chunk = s.runner.chunk;
+    how = s.runner.how;
+    wanting = s.runner.wanting;
+  }
+
+  -- its tree fits the desk, its devices are in order, and there is room to give them back
+  pub record Works (told : V → DeviceTold) (fits : S → D → Type 0) (s : Stepper S V V D) (d : D) : Type 0 where
+    pub stands : Stands view told fits s.runner.outside d
+    pub empty : s.room.items ≡ []
+    pub enough : vec_len s.runner.outside.slots ≤ vec_capacity s.room

@@ -1,0 +1,39 @@
+-- What a caller has that runs a node to its end.
+use Rattle.std.specs.Prelude.{ℕ, ◌+◌, ◌*◌, ◌≤◌, List, length, Option, Some, None}
+use Rattle.chunk_core.specs.declared.code.How.{How}
+use Rattle.chunk_core.specs.Elements.{Element}
+use Rattle.device_port.specs.Device.{DeviceTold}
+use Rattle.pull_nodes.specs.Runs.{IsRun}
+use Rattle.pull_nodes.specs.Shape.{places_of, scope_count}
+use Rattle.pull_nodes.specs.declared.node.Node.{Node}
+use Rattle.pull_turns.specs.Led.{IsShut, end_by, end_of}
+use Rattle.pull_turns.specs.Rest.{IsRunOfRest}
+use Rattle.pull_turns.specs.Turned.{Over}
+use Rattle.scope_tree.specs.Calls.{IsClosedScope, IsOpenScope, Seen, used}
+use Rattle.tree_laws.specs.Alone.{StaysAlone}
+use Rattle.pull_stepper.specs.Sites.{Parted, SameDevice, around, told_at}
+use Rattle.pull_stepper.specs.Stepping.{Stepping, begun, span_of}
+
+module _ {V : Type 0} (told : V → DeviceTold) where
+  -- what was given since a, and how it ended, if it has, is a run of what was left
+  abbrev pub Gathers : Stepping V → Stepping V → List Element → Type 0
+  Gathers a b xs = (w : ℕ → DeviceTold) → Over (told_at told b.site) w a.rest → IsRunOfRest w a.rest xs (end_by b.how)
+
+  abbrev pub IsLeftBy : Option How → Stepping V → Type 0
+  IsLeftBy None a = IsOpenScope a.site.tree 0
+  IsLeftBy (Some h) a = IsShut (around told a.site)
+
+  -- its root is open, or it has ended and all is closed
+  abbrev pub IsLeft : Stepping V → Type 0
+  IsLeft a = IsLeftBy a.how a
+
+  -- the node was run over these devices, gave xs and ended with h, and used no more room of the tree than the node counts
+  pub record Ran (n : Node) (devices : List V) (a b : Seen V) (xs : List Element) (h : How) (unopened : List V) : Type 0 where
+    pub w : ℕ → DeviceTold
+    pub run : IsRun w n xs (end_of h)
+    pub same : (p : ℕ) → SameDevice (told_at told (begun n a devices 0).site p) (w p)
+    pub parted : Parted told w b.shelf (span_of n (length devices)).to (span_of n (length devices)).from unopened
+    pub root : IsClosedScope b 0
+    pub alone : StaysAlone a.seat b.seat
+    pub events : a.seat.spare ≤ b.seat.spare + (2 * length (places_of n) + 2 * scope_count n + 1)
+    pub rows : used b ≤ used a + length (places_of n)
