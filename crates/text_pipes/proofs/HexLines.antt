@@ -1,8 +1,8 @@
 -- The hexadecimal lines of bytes, and what a pipe of them answers.
-use Rattle.std.proofs.Common.{◌≡◌, ℕ, ◌+◌, ◌/◌, ◌%◌, ◌<◌, ◌≤◌, Bool, true, ◌==◌, List, [], ◌∷◌, ◌++◌, map, length, take, drop, slice_index, Option, Some, None, refl, ap, sym, subst, suc, ◌∙◌, arith, append_assoc}
+use Rattle.std.proofs.Common.{◌≡◌, ℕ, ◌/◌, ◌%◌, ◌<◌, ◌≤◌, true, ◌==◌, List, [], ◌∷◌, ◌++◌, map, length, take, drop, slice_index, Option, Some, None, refl, ap, sym, suc, ◌∙◌, arith, append_assoc}
 use Rattle.std.specs.Char.{digit_char}
 use Rattle.std.proofs.lemmas.Bool.{agree_below_at, eqb-true}
-use Rattle.std.proofs.lemmas.List.{append-nil, map-append}
+use Rattle.std.proofs.lemmas.List.{map-append}
 use Rattle.hex.specs.Hex.{lower_digits, encode_with, encode_lower}
 use Rattle.chunk_core.specs.Elements.{Element, Byte, Line, LoadKind}
 use Rattle.chunk_core.specs.Elements.LoadKind.{Lines}
@@ -12,7 +12,7 @@ use Rattle.chunk_core.specs.declared.feed.Fed.{Fed}
 use Rattle.chunk_core.specs.declared.feed.Fed.TheVariants as fed
 use Rattle.chunk_core.specs.declared.load.Load.TheVariants as load
 use Rattle.pull_nodes.specs.Pipes.{IsMeaningOf}
-use Rattle.pull_nodes.specs.Plain.{bytes_of, groups, hex_line, hex_lines, if_any, ungrouped}
+use Rattle.pull_nodes.specs.Plain.{bytes_of, hex_line, hex_lines, if_any, ungrouped}
 use Rattle.pull_nodes.specs.declared.pipe.Pipe.TheVariants as pipe
 use Rattle.pull_nodes.proofs.Groups.{grouped, grouped-step, grouped-short, grouped-append, ungrouped-step, ungrouped-short, ungrouped-append}
 use Rattle.pull_nodes.proofs.Meanings.{meaning_is, from_bytes-some, extends_from, finishes_from, bytes_of-load}

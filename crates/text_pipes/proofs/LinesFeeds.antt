@@ -1,19 +1,19 @@
 -- What a pipe of lines answers, as a pipe.
-use Rattle.std.proofs.Common.{◌≡◌, ℕ, ◌<◌, Bool, true, false, cond, List, [], ◌∷◌, ◌++◌, map, length, Option, Some, None, refl, ap, ◌∙◌, sym, subst, arith}
-use Rattle.std.proofs.lemmas.List.{append-nil, map-append}
+use Rattle.std.proofs.Common.{◌≡◌, ℕ, ◌<◌, Bool, false, cond, List, [], ◌∷◌, ◌++◌, map, length, Option, Some, None, refl, ap, ◌∙◌, sym, subst, arith}
+use Rattle.std.proofs.lemmas.List.{map-append}
 use Rattle.std.specs.List.{before_first}
 use Rattle.chunk_core.specs.Elements.{Element, Byte, Line, LoadKind}
-use Rattle.chunk_core.specs.Elements.LoadKind.{Bytes, Lines}
-use Rattle.chunk_core.specs.Feed.{Meaning, MayFeed, Extends, Continues, Finishes}
+use Rattle.chunk_core.specs.Elements.LoadKind.{Lines}
+use Rattle.chunk_core.specs.Feed.{Meaning, Extends, Continues, Finishes}
 use Rattle.chunk_core.specs.declared.code.Code.{Code}
 use Rattle.chunk_core.specs.declared.feed.Fed.{Fed}
 use Rattle.chunk_core.specs.declared.feed.Fed.TheVariants as fed
 use Rattle.chunk_core.specs.declared.load.Load.TheVariants as load
 use Rattle.pull_nodes.specs.Lines.{without_pairs, ended_lines, open_line, is_long, has_long, long_fault, last_line}
-use Rattle.pull_nodes.specs.Pipes.{IsMeaningOf, part_of, all_of}
+use Rattle.pull_nodes.specs.Pipes.{IsMeaningOf}
 use Rattle.pull_nodes.specs.Plain.{bytes_of, if_any}
 use Rattle.pull_nodes.specs.declared.pipe.Pipe.TheVariants as pipe
-use Rattle.pull_nodes.proofs.Meanings.{meaning_is, from_bytes-some, extends_from, finishes_from, sound_from, bytes_of-load}
+use Rattle.pull_nodes.proofs.Meanings.{meaning_is, from_bytes-some, extends_from, finishes_from, bytes_of-load}
 use Rattle.text_pipes.specs.LinesState.{StandsAt, StandsFor, Comes, found_in, lines_given, Takes}
 use Rattle.text_pipes.specs.declared.lines.LinesPipe.{LinesPipe}
 

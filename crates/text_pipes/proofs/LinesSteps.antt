@@ -1,12 +1,11 @@
 -- What each kind of step does to what a state of a pipe of lines stands for.
-use Rattle.std.proofs.Common.{◌≡◌, ℕ, zero, suc, Bool, true, false, ◌==◌, ◌&&◌, ◌||◌, cond, List, [], ◌∷◌, ◌++◌, length, ◌+◌, ◌-◌, ◌^◌, min, ◌<◌, ◌≤◌, refl, ap, ◌∙◌, sym, subst, arith, append_assoc, length-append}
-use Rattle.std.proofs.lemmas.Bool.{or_parts, and_left, and_right, and_parts, eqb-true}
-use Rattle.std.proofs.lemmas.Bool.Decides.{nat_tests}
+use Rattle.std.proofs.Common.{◌≡◌, ℕ, Bool, true, false, ◌==◌, ◌&&◌, List, [], ◌∷◌, ◌++◌, length, ◌<◌, refl, ap, ◌∙◌, sym, subst, arith, append_assoc}
+use Rattle.std.proofs.lemmas.Bool.{or_parts, and_left, and_right}
 use Rattle.std.proofs.lemmas.List.{append-nil}
 use Rattle.std.specs.List.{before_first}
 use Rattle.pull_nodes.specs.Lines.{IsFree, is_end, last_byte, without_pairs, ended_lines, open_line, is_long, has_long}
 use Rattle.pull_nodes.proofs.LineLaws.{short-append, long-append, long-free}
-use Rattle.pull_nodes.proofs.Texts.{last_byte-append, without_pairs-append, ended_lines-append, open_line-append, ended_lines-free, open_line-free, ended_lines-line, open_line-line, free-open_line, free-append, free_parts}
+use Rattle.pull_nodes.proofs.Texts.{last_byte-append, without_pairs-append, open_line-append, ended_lines-free, open_line-free, ended_lines-line, open_line-line, free-open_line, free-append, free_parts}
 use Rattle.text_pipes.specs.LinesState.{StandsAt, StandsAfter, found_in, lines_given, Takes}
 use Rattle.text_pipes.specs.declared.lines.LinesPipe.{LinesPipe}
 

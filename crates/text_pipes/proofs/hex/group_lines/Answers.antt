@@ -1,5 +1,4 @@
-use Rattle.std.proofs.Common.{◌∙◌, ap, arith}
-use Rattle.std.proofs.lemmas.Grind.{common_steps}
+use Rattle.std.proofs.Common.{◌∙◌, ap}
 use Rattle.pull_nodes.specs.Plain.{hex_line, ungrouped}
 use Rattle.text_pipes.proofs.HexLines.{lines_more, rest-step}
 use Rattle.text_pipes.proofs.hex.group_lines.Goals as goal

@@ -1,4 +1,4 @@
-use Rattle.std.proofs.Common.{◌<◌, ◌∙◌, ap, arith, slice_index}
+use Rattle.std.proofs.Common.{◌∙◌, ap, arith}
 use Rattle.text_pipes.proofs.HexLines.{encoded_is}
 use Rattle.text_pipes.proofs.hex.line_of.Goals as goal
 
