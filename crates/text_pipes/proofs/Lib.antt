@@ -2,4 +2,5 @@ pub mod HexLines
 pub mod LinesFeeds
 pub mod LinesKnown
 pub mod LinesSteps
+pub mod Utf8Feeds
 pub mod UpperFeeds

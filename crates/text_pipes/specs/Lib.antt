@@ -1,3 +1,4 @@
 pub mod HexState
 pub mod LinesState
+pub mod Utf8State
 pub mod UpperState

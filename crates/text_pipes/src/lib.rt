@@ -5,10 +5,15 @@ pub mod hex;
 pub mod lines;
 pub(crate) mod loads;
 pub mod upper;
+pub(crate) mod held;
+pub mod utf8;
 
 pub use crate::hex::HexPipe;
 pub use lines::LinesPipe;
 pub use upper::UpperPipe;
+pub use utf8::Utf8Pipe;
 
 #[cfg(test)]
 mod tests;
+#[cfg(test)]
+mod utf8_tests;
