@@ -2,5 +2,7 @@ pub mod HexLines
 pub mod LinesFeeds
 pub mod LinesKnown
 pub mod LinesSteps
+pub mod LossyFeeds
+pub mod LossyTails
 pub mod Utf8Feeds
 pub mod UpperFeeds

@@ -1,15 +1,17 @@
 //! The pipes over text: a pipe's answers are the same however its input is cut.
 #![tactic(auto)]
 
+pub(crate) mod held;
 pub mod hex;
 pub mod lines;
 pub(crate) mod loads;
+pub mod lossy;
 pub mod upper;
-pub(crate) mod held;
 pub mod utf8;
 
 pub use crate::hex::HexPipe;
 pub use lines::LinesPipe;
+pub use lossy::LossyPipe;
 pub use upper::UpperPipe;
 pub use utf8::Utf8Pipe;
 

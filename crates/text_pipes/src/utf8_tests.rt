@@ -4,7 +4,7 @@ ghost use Rattle.chunk_core.specs.Elements.{kind_of};
 ghost use Rattle.chunk_core.specs.Elements.LoadKind.{Bytes};
 ghost use Rattle.chunk_core.specs.Feed.{MayFeed};
 
-use crate::Utf8Pipe;
+use crate::{LossyPipe, Utf8Pipe};
 use chunk_core::{Chunk, Code, Fed, Feed, Load};
 use std::alloc::{AllocError, Global};
 use std::test::Fail;
@@ -80,10 +80,23 @@ fn utf8_gives(
     Ok(true)
 }
 
+/// Whether the pipe gives this text of the bytes, however they are cut in two.
+fn lossy_gives(alloc: Global, bytes: &[u8], text: &str) -> Result<bool, AllocError> {
+    for cut in 0..bytes.len() {
+        let (first, second) = bytes.split_at(cut);
+        let given = of_two(alloc, LossyPipe::new(alloc)?, first, second)?;
+        if given.0.as_slice() != text.as_bytes() || given.1.is_some() {
+            return Ok(false);
+        }
+    }
+    Ok(true)
+}
+
 #[test]
 fn text_stays_as_it_is(rt: HostRuntime) -> Result<(), Fail> {
     let alloc = rt.alloc();
     assert!(rt; utf8_gives(alloc, TEXT, TEXT, None)?);
+    assert!(rt; lossy_gives(alloc, TEXT, "a\u{E9}\u{20AC}\u{1F600}z")?);
     Ok(())
 }
 
@@ -97,5 +110,14 @@ fn a_fault_comes_behind_the_text_before_it(rt: HostRuntime) -> Result<(), Fail> 
     let truncated = Some(Code::Truncated);
     assert!(rt; utf8_gives(alloc, b"a\xE2\x82", b"a", truncated)?);
     assert!(rt; utf8_gives(alloc, b"ab\xF0\x9F\x98", b"ab", truncated)?);
+    Ok(())
+}
+
+#[test]
+fn each_maximal_part_is_one_mark(rt: HostRuntime) -> Result<(), Fail> {
+    let alloc = rt.alloc();
+    assert!(rt; lossy_gives(alloc, b"a\xE2\x82b\xFFc", "a\u{FFFD}b\u{FFFD}c")?);
+    assert!(rt; lossy_gives(alloc, b"\xF0\x80\x80", "\u{FFFD}\u{FFFD}\u{FFFD}")?);
+    assert!(rt; lossy_gives(alloc, b"a\xF0\x9F\x98", "a\u{FFFD}")?);
     Ok(())
 }
