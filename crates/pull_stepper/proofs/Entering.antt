@@ -6,6 +6,7 @@ use Rattle.pull_turns.specs.Around.{Enters, Keeps}
 use Rattle.res_ledger.specs.declared.event.Event.{Event}
 use Rattle.res_ledger.specs.declared.event.What.TheVariants.{Close, Lease, Open}
 use Rattle.res_ledger.specs.Ledger.{IsClosed, IsUsable, LiesWithin, Notes}
+use Rattle.res_ledger.specs.Ledger.LiesWithin.{below, same}
 use Rattle.res_ledger.specs.Own.{opens}
 use Rattle.res_ledger.proofs.Growth.{noted_more, noted_new}
 use Rattle.row_seat.specs.declared.view.View.{View}
@@ -93,6 +94,7 @@ module _ {V : Type 0} (told : V → DeviceTold) (x : Site V) (at n : ℕ) (bs : 
       let s = opened_scopes x.tree.seat bs hs at n k u free in let p = k.spare in let l = usable_scope x.tree.seat bs hs k at u in let us = entered_used in
       let os : length (opens (words after.seat)) ≡ length (opens (words x.tree.seat)) + 1 = ap length (opened_opens x.tree.seat bs hs at n k u free) ∙ length-append (opens (words x.tree.seat)) ((length bs, at) ∷ []) in record {
         below = l;
+        within = below (length bs) at at (noted_new x.tree.seat.events (opening x.tree.seat (length bs) at n)) (same at);
         opened = new_open;
         keeps = entered_keeps;
         events = omega (s, p, arith);

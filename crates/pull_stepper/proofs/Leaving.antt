@@ -6,7 +6,7 @@ use Rattle.chunk_core.proofs.Filters.{among_append}
 use Rattle.device_port.specs.Device.{DeviceTold}
 use Rattle.pull_turns.specs.Around.{Affords, Keeps, Leaves, gist}
 use Rattle.res_ledger.specs.declared.event.What.TheVariants.{Close, Lease, Open}
-use Rattle.res_ledger.specs.Ledger.{IsClosed, Notes}
+use Rattle.res_ledger.specs.Ledger.{IsClosed, LiesWithin, Notes}
 use Rattle.res_ledger.specs.Order.{firsts}
 use Rattle.res_ledger.specs.Own.{rows}
 use Rattle.res_ledger.proofs.Growth.{noted_more}
@@ -22,7 +22,7 @@ use Rattle.scope_tree.specs.Words.{closing, numbers, own_rows, shutting, words}
 use Rattle.scope_tree.proofs.Distinct.{firsts_append, picks_among, said_append, strangers_append}
 use Rattle.scope_tree.proofs.Facts.{torn_count, torn_empty, torn_has, torn_noted, torn_opened, torn_picks, torn_spare}
 use Rattle.scope_tree.proofs.Beneath.{not_true', Under, usable_scope, whole_is, whole_under}
-use Rattle.scope_tree.proofs.Keeps.{close_less, old_close, old_within, opens_same, rows_same, under_root, within_trans}
+use Rattle.scope_tree.proofs.Keeps.{close_less, old_close, old_within, opens_same, rows_same, under_root, within_map, within_trans}
 use Rattle.scope_tree.proofs.Beneath.Under.{self, child}
 use Rattle.scope_tree.proofs.Parts.{among_right, one_scope, row_of_pair}
 use Rattle.scope_tree.proofs.Rooms.{own_is, strangers_none}
@@ -135,6 +135,13 @@ module _ {V : Type 0} (told : V → DeviceTold) (once : (d : V) → (told d).is_
         rows = omega (us, rs, arith);
       }
 
+  -- a scope within it is closed with it
+  shut_inside : (m : ℕ) → LiesWithin x.tree.seat.events x.tree.seat.by m s → IsOpenScope b m → ⊥
+  shut_inside m l o =
+      let now : LiesWithin b.seat.events x.tree.seat.by m s = within_map (λ w h. torn_noted c.torn.2 (noted_more x.tree.seat.events (closing x.tree.seat s c.stamp) h)) l in
+      let shut = closed_now c in
+      o.1 (shut.0, within_trans (subst (λ z. LiesWithin b.seat.events z m s) (sym (torn_by c.torn.2)) now) shut.1, shut.2)
+
   -- each scope lies within the root
   module _ (bs' : List Branch) (hs' : List Held) (k' : Kept b.seat bs' hs') where
     root_shut : s ≡ 0 → (m : ℕ) → IsOpenScope b m → ⊥
@@ -154,6 +161,7 @@ module _ {V : Type 0} (told : V → DeviceTold) (once : (d : V) → (told d).is_
       told = left_gist;
       keeps = left_keeps;
       gone = λ o. o.1 (closed_now c);
+      inside = λ i l o. shut_inside i l o;
       shut = λ q m h n. not_true' ((told_at told (record x { tree = b }) q).is_open) (λ e. n (holder_open q m h (open_row told (record x { tree = b }) hs' shelved' bs' k' left_order q e)));
       root = root_shut;
       affords = left_affords;

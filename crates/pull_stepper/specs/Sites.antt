@@ -4,7 +4,7 @@ use Rattle.chunk_core.specs.Lists.{IsAmong}
 use Rattle.device_port.specs.Device.{DeviceTold}
 use Rattle.device_port.specs.declared.device.Mode.TheVariants as mode
 use Rattle.pull_turns.specs.Around.{Around}
-use Rattle.res_ledger.specs.Ledger.{Covers}
+use Rattle.res_ledger.specs.Ledger.{Covers, LiesWithin}
 use Rattle.res_ledger.specs.Own.{opens, rows}
 use Rattle.row_seat.specs.Views.{HasRow, IsWithin}
 use Rattle.scope_tree.specs.declared.branch.Spent.{Spent}
@@ -118,6 +118,7 @@ module _ {V : Type 0} where
     around x = record {
       told = told_at x;
       opened = IsOpenScope x.tree;
+      within = LiesWithin x.tree.seat.events x.tree.seat.by;
       waits = λ p. (d : V) × (slot x p ≡ Some (Some d)) × IsUnused (told d);
       holds = λ p k. IsAmong (p, k) (rows (words x.tree.seat)) × HasRow x.tree.seat.opened p;
       events = x.tree.seat.spare - owed x.tree.seat;

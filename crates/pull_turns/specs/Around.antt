@@ -3,10 +3,11 @@ use Rattle.std.specs.Prelude.{◌≡◌, ℕ, ◌+◌, ◌<◌, ◌≤◌, true,
 use Rattle.device_port.specs.Device.{DeviceTold, moved}
 
 -- what the device of each place tells, which scopes are open, which devices were never asked,
--- which are held by which scope, and room for events, for scopes and for rows
+-- which are held by which scope, which scopes lie within which, and room for events, for scopes and for rows
 pub record Around : Type 1 where
   pub told : ℕ → DeviceTold
   pub opened : ℕ → Type 0
+  pub within : ℕ → ℕ → Type 0
   pub waits : ℕ → Type 0
   pub holds : ℕ → ℕ → Type 0
   pub events : ℕ
@@ -79,17 +80,19 @@ pub record Fails (a : Around) (p : ℕ) (b : Around) : Type 0 where
 -- the scope c was opened below s
 pub record Enters (a : Around) (s c : ℕ) (b : Around) : Type 0 where
   pub below : s < c
+  pub within : b.within c s
   pub opened : b.opened c
   pub keeps : (k : ℕ) → Keeps a (λ q. ⊥) k b
   pub events : a.events ≤ b.events + 2
   pub scopes : a.scopes ≤ b.scopes + 1
   pub rows : a.rows ≤ b.rows
 
--- the scope c was closed with what it held; a device of a scope that was closed with it is closed, and with the root each scope is
+-- the scope c was closed with what it held, and each scope within it; a device of a scope that was closed with it is closed, and with the root each scope is
 pub record Leaves (a : Around) (c : ℕ) (b : Around) : Type 0 where
   pub told : (q : ℕ) → gist (b.told q) ≡ gist (a.told q)
   pub keeps : (k : ℕ) → k < c → Keeps a (λ q. ⊥) k b
   pub gone : b.opened c → ⊥
+  pub inside : (k : ℕ) → a.within k c → b.opened k → ⊥
   pub shut : (q k : ℕ) → a.holds q k → (b.opened k → ⊥) → (b.told q).is_open ≡ false
   pub root : c ≡ 0 → (k : ℕ) → b.opened k → ⊥
   pub affords : Affords a b
