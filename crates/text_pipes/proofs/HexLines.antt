@@ -17,7 +17,7 @@ use Rattle.pull_nodes.specs.declared.pipe.Pipe.TheVariants as pipe
 use Rattle.pull_nodes.proofs.Groups.{grouped, grouped-step, grouped-short, grouped-append, ungrouped-step, ungrouped-short, ungrouped-append}
 use Rattle.pull_nodes.proofs.Meanings.{meaning_is, from_bytes-some, extends_from, finishes_from, bytes_of-load}
 use Rattle.text_pipes.specs.HexState.{StandsFor, Comes}
-use Rattle.text_pipes.specs.declared.hex.HexPipe.{HexPipe}
+use Rattle.text_pipes.specs.declared.hexadecimal.HexPipe.{HexPipe}
 
 digit_is : (d : ℕ) → d < 16 → slice_index lower_digits d ≡ digit_char d
 digit_is d h = eqb-true (slice_index lower_digits d) (digit_char d) (agree_below_at (λ e. slice_index lower_digits e == digit_char e) (λ e. true) 16 d refl h)

@@ -7,7 +7,7 @@ use Rattle.chunk_core.specs.declared.code.Code.{Code}
 use Rattle.pull_nodes.specs.Pipes.{IsMeaningOf}
 use Rattle.pull_nodes.specs.Plain.{bytes_of, hex_line, if_any, ungrouped}
 use Rattle.pull_nodes.specs.declared.pipe.Pipe.TheVariants as pipe
-use Rattle.text_pipes.specs.declared.hex.HexPipe.{HexPipe}
+use Rattle.text_pipes.specs.declared.hexadecimal.HexPipe.{HexPipe}
 
 -- it keeps the bytes behind the last whole group of 16
 abbrev pub StandsFor : HexPipe → Meaning → List Element → Type 0

@@ -2,14 +2,14 @@
 #![tactic(auto)]
 
 pub(crate) mod held;
-pub mod hex;
+pub mod hexadecimal;
 pub mod lines;
 pub(crate) mod loads;
 pub mod lossy;
 pub mod upper;
 pub mod utf8;
 
-pub use crate::hex::HexPipe;
+pub use hexadecimal::HexPipe;
 pub use lines::LinesPipe;
 pub use lossy::LossyPipe;
 pub use upper::UpperPipe;

@@ -1,6 +1,6 @@
 use Rattle.std.proofs.Common.{◌≡◌, ◌++◌, length}
 use Rattle.pull_nodes.specs.Plain.{hex_lines, ungrouped}
-use Rattle.text_pipes.proofs.hex.group_lines.Given as goal
+use Rattle.text_pipes.proofs.hexadecimal.group_lines.Given as goal
 
 abbrev pub invariant-groups : goal.invariant-groups
 invariant-groups l = record {

@@ -5,9 +5,9 @@ use Rattle.chunk_core.specs.declared.feed.Fed.TheVariants as fed
 use Rattle.chunk_core.specs.declared.load.Load.TheVariants as load
 use Rattle.pull_nodes.specs.Plain.{hex_line}
 use Rattle.text_pipes.specs.HexState.{Comes}
-use Rattle.text_pipes.specs.declared.hex.HexPipe.{HexPipe}
+use Rattle.text_pipes.specs.declared.hexadecimal.HexPipe.{HexPipe}
 use Rattle.text_pipes.proofs.HexLines.{gives_lines, hex_whole, hex_comes}
-use Rattle.text_pipes.proofs.hex.HexPipeFeed.finish.Goals as goal
+use Rattle.text_pipes.proofs.hexadecimal.HexPipeFeed.finish.Goals as goal
 
 some_held : (c : goal.In_ok-one_line) → 0 < length c.args.self.now.held.items
 some_held c = grind (arith, common_steps)

@@ -1,6 +1,6 @@
 use Rattle.std.proofs.Common.{◌∙◌, ap, arith}
 use Rattle.text_pipes.proofs.HexLines.{encoded_is}
-use Rattle.text_pipes.proofs.hex.line_of.Goals as goal
+use Rattle.text_pipes.proofs.hexadecimal.line_of.Goals as goal
 
 pub returns : goal.returns
 returns c =

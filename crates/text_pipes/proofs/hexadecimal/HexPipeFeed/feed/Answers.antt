@@ -1,7 +1,7 @@
 use Rattle.std.proofs.Common.{◌∙◌, sym, ap, map}
 use Rattle.chunk_core.specs.Elements.{elements, Byte}
 use Rattle.text_pipes.proofs.HexLines.{hex_feed}
-use Rattle.text_pipes.proofs.hex.HexPipeFeed.feed.Goals as goal
+use Rattle.text_pipes.proofs.hexadecimal.HexPipeFeed.feed.Goals as goal
 
 pub returns : goal.returns
 returns c m xs h takes =

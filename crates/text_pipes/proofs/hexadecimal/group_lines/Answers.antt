@@ -1,7 +1,7 @@
 use Rattle.std.proofs.Common.{◌∙◌, ap}
 use Rattle.pull_nodes.specs.Plain.{hex_line, ungrouped}
 use Rattle.text_pipes.proofs.HexLines.{lines_more, rest-step}
-use Rattle.text_pipes.proofs.hex.group_lines.Goals as goal
+use Rattle.text_pipes.proofs.hexadecimal.group_lines.Goals as goal
 
 pub groups-preserved : goal.groups-preserved
 groups-preserved c = record {
