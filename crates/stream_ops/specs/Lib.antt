@@ -1,0 +1,3 @@
+pub mod CountState
+pub mod DropState
+pub mod Ends
