@@ -1,3 +1,6 @@
+pub mod Changed
+pub mod ChangesState
+pub mod ChunkNState
 pub mod CountState
 pub mod DropState
 pub mod Ends

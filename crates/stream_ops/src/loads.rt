@@ -25,3 +25,15 @@ pub(crate) fn push_clone<T: Clone + Drop>(items: &mut Vec<T>, item: &T) -> Resul
     items.push(item.clone()?)?;
     Ok(())
 }
+
+/// Appends clones of the elements.
+#[tactic(auto, using(chunk_core::proofs::Clones::appended))]
+pub(crate) fn push_clones<T: Clone + Drop>(
+    items: &mut Vec<T>,
+    others: &[T],
+) -> Result<(), AllocError>
+    requires same { (x y : T) → T.is_clone x y → y ≡ x }
+    ensures { OnOk result (items.new.items ≡ items.old.items ++ others.now) }
+{
+    items.extend_with_clones(others)
+}
