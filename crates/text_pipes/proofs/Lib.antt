@@ -4,5 +4,5 @@ pub mod LinesKnown
 pub mod LinesSteps
 pub mod LossyFeeds
 pub mod LossyTails
-pub mod Utf8Feeds
 pub mod UpperFeeds
+pub mod Utf8Feeds

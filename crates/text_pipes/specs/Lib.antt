@@ -1,5 +1,5 @@
 pub mod HexState
 pub mod LinesState
 pub mod LossyState
-pub mod Utf8State
 pub mod UpperState
+pub mod Utf8State

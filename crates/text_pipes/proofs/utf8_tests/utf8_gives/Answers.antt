@@ -4,5 +4,5 @@ use Rattle.pull_nodes.specs.Pipes.{meaning}
 use Rattle.pull_nodes.specs.declared.pipe.Pipe.TheVariants as pipe
 use Rattle.text_pipes.proofs.utf8_tests.utf8_gives.Goals as goal
 
-pub of_two-requires : goal.of_two-requires
-of_two-requires c = (meaning pipe.Utf8 Bytes Bytes, [], c.in_ok-new.ensures (meaning pipe.Utf8 Bytes Bytes) refl, refl)
+pub answers-requires : goal.answers-requires
+answers-requires c = (meaning pipe.Utf8 Bytes Bytes, [], c.in_ok-new.ensures (meaning pipe.Utf8 Bytes Bytes) refl, refl)
