@@ -7,6 +7,7 @@ pub mod Inside
 pub mod Joins
 pub mod Left
 pub mod LineLaws
+pub mod LongLines
 pub mod LossyCuts
 pub mod LossyLaws
 pub mod Malformed

@@ -107,11 +107,11 @@ pub long-append : (z y : List ℕ) → has_long z ≡ true
     → (before_first is_long (ended_lines (z ++ y)) ≡ before_first is_long (ended_lines z)) × (has_long (z ++ y) ≡ true)
 long-append z y h = ⊎_elim (long_in_ended z y) (λ none. long_in_open z y none ((rw none at h))) (cases_Bool (list_any is_long (ended_lines z)))
 
-no_fault : (b : Bool) → long_fault b ≡ None → b ≡ false
+pub no_fault : (b : Bool) → long_fault b ≡ None → b ≡ false
 no_fault true h = (cc)
 no_fault false h = refl
 
-some_fault : (b : Bool) (c : Code) → long_fault b ≡ Some c → b ≡ true
+pub some_fault : (b : Bool) (c : Code) → long_fault b ≡ Some c → b ≡ true
 some_fault true c h = refl
 some_fault false c h = (cc)
 

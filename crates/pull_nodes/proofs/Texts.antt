@@ -1,6 +1,7 @@
 -- How the lines of a text follow from those of its parts.
-use Rattle.std.proofs.Common.{◌≡◌, ℕ, zero, suc, Bool, true, false, ◌==◌, ◌&&◌, cond, List, [], ◌∷◌, ◌++◌, take, slice_index, ◌<◌, refl, ap, arith}
-use Rattle.std.proofs.lemmas.Bool.{or_parts, or_from, false_from_ne_true}
+use Rattle.std.proofs.Common.{◌∙◌, ◌≡◌, ℕ, zero, suc, Bool, true, false, ◌==◌, ◌&&◌, cond, List, [], ◌∷◌, ◌++◌, take, slice_index, ◌<◌, refl, ap, arith, length}
+use Rattle.std.proofs.lemmas.Bool.{or_parts, or_from, false_from_ne_true, and_left, and_right}
+use Rattle.std.proofs.lemmas.List.{append-nil}
 use Rattle.pull_nodes.specs.Lines.{is_end, has_end, IsFree, last_byte, without_pairs, onto, ended_lines, where_none, open_line}
 
 pub last_byte-append : (b : ℕ) (xs ys : List ℕ) → last_byte b (xs ++ ys) ≡ last_byte (last_byte b xs) ys
@@ -112,3 +113,46 @@ pub free-take : (xs : List ℕ) (n : ℕ) → ((k : ℕ) → k < n → is_end (s
 free-take xs zero h = refl
 free-take [] (suc n) h = refl
 free-take (x ∷ xs) (suc n) h = or_from (is_end x) (has_end (take n xs)) (false_from_ne_true (is_end x) (h 0 (omega arith))) (free-take xs n (λ k l. h (suc k) (omega arith)))
+
+-- bytes without a line end follow any byte as they are
+pub without_pairs-free : (b : ℕ) (x ys : List ℕ) → IsFree x → 0 < length x → without_pairs b (x ++ ys) ≡ x ++ without_pairs (last_byte b x) ys
+unfolding without_pairs last_byte
+without_pairs-free b [] ys f n = absurd (omega arith)
+without_pairs-free b (c ∷ []) ys f n =
+    let p = or_parts (c == 13) (c == 10) (free_parts c [] f).0 in
+    rw (and_right (b == 13) (c == 10) p.1)
+without_pairs-free b (c ∷ d ∷ x) ys f n =
+    let q = free_parts c (d ∷ x) f in
+    let p = or_parts (c == 13) (c == 10) q.0 in
+    rw (and_right (b == 13) (c == 10) p.1) (ap (λ z. c ∷ z) (without_pairs-free c (d ∷ x) ys q.1 (omega arith)))
+
+-- the last of such bytes is no CR
+pub last_byte-free : (b : ℕ) (x : List ℕ) → IsFree x → 0 < length x → (last_byte b x == 13) ≡ false
+unfolding last_byte
+last_byte-free b [] f n = absurd (omega arith)
+last_byte-free b (c ∷ []) f n = (or_parts (c == 13) (c == 10) (free_parts c [] f).0).0
+last_byte-free b (c ∷ d ∷ x) f n = last_byte-free c (d ∷ x) (free_parts c (d ∷ x) f).1 (omega arith)
+
+without_pairs_end : (b e : ℕ) → ((b == 13) && (e == 10)) ≡ false → without_pairs b (e ∷ []) ≡ e ∷ []
+unfolding without_pairs
+without_pairs_end b e p = rw p
+
+-- with a line end that no CR before it takes
+pub without_pairs-line : (b : ℕ) (x : List ℕ) (e : ℕ) → IsFree x → (((b == 13) && (length x == 0)) && (e == 10)) ≡ false → without_pairs b (x ++ e ∷ []) ≡ x ++ e ∷ []
+without_pairs-line b [] e f p = without_pairs_end b e (grind (arith, p))
+without_pairs-line b (c ∷ x) e f p =
+    without_pairs-free b (c ∷ x) (e ∷ []) f (omega arith) ∙ ap (λ z. (c ∷ x) ++ z) (without_pairs_end (last_byte b (c ∷ x)) e (and_left _ (e == 10) (last_byte-free b (c ∷ x) f (omega arith))))
+
+pub last_byte-line : (b : ℕ) (x : List ℕ) (e : ℕ) → last_byte b (x ++ e ∷ []) ≡ e
+unfolding last_byte
+last_byte-line b [] e = refl
+last_byte-line b (c ∷ x) e = last_byte-line c x e
+
+some_free : (b : ℕ) (x : List ℕ) → IsFree x → 0 < length x → without_pairs b x ≡ x
+unfolding without_pairs
+some_free b x f n = rw (append-nil x) at (without_pairs-free b x [] f n)
+
+pub without_pairs-same : (b : ℕ) (x : List ℕ) → IsFree x → without_pairs b x ≡ x
+unfolding without_pairs
+without_pairs-same b [] f = refl
+without_pairs-same b (c ∷ x) f = some_free b (c ∷ x) f (omega arith)

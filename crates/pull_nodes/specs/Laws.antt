@@ -1,10 +1,12 @@
 -- What holds of the runs of every node, and of what every pipe gives.
-use Rattle.std.specs.Prelude.{◌≡◌, ◌↔◌, ℕ, true, List, ◌++◌, Some, None}
+use Rattle.std.specs.Prelude.{◌≡◌, ◌↔◌, ℕ, true, List, ◌++◌, length, Some, None}
 use Rattle.chunk_core.specs.Elements.{Element}
 use Rattle.chunk_core.specs.Feed.{Meaning}
 use Rattle.chunk_core.specs.Outcomes.{End, Cut}
 use Rattle.chunk_core.specs.declared.code.Code.{Code}
 use Rattle.device_port.specs.Device.{DeviceTold, faults_of}
+use Rattle.chunk_core.specs.declared.code.Code.TheVariants as code
+use Rattle.pull_nodes.specs.Lines.{IsFree, lines_part}
 use Rattle.pull_nodes.specs.Pipes.{IsMeaningOf}
 use Rattle.pull_nodes.specs.Plain.{same_element}
 use Rattle.pull_nodes.specs.Runs.{IsRun, IsIdealRun}
@@ -64,3 +66,16 @@ TellsMalformed = (xs : List ℕ) → (is_malformed (utf8_rest xs) ≡ true) ↔ 
 -- the test of two elements is that they are equal
 abbrev pub ComparesElements : Type 0
 ComparesElements = (x y : Element) → (same_element x y ≡ true) ↔ (x ≡ y)
+
+-- so many bytes stand in succession without a line end
+pub record HasRun (xs : List ℕ) : Type 0 where
+  pub before : List ℕ
+  pub run : List ℕ
+  pub after : List ℕ
+  pub whole : xs ≡ before ++ (run ++ after)
+  pub long : length run ≡ 1048577
+  pub free : IsFree run
+
+-- a line is too long exactly where 1,048,577 bytes stand in succession without a line end
+abbrev pub TellsLongLines : Type 0
+TellsLongLines = (xs : List ℕ) → ((lines_part xs).fault ≡ Some code.LongLine) ↔ HasRun xs

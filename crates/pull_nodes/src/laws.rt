@@ -1,5 +1,5 @@
 //! What holds of the runs of every node, and of every pipe.
-ghost use Rattle.pull_nodes.specs.Laws.{CanBeLeft, HasOneIdealRun, ComparesElements, PipesAreSteady, TellsMalformed};
+ghost use Rattle.pull_nodes.specs.Laws.{CanBeLeft, HasOneIdealRun, ComparesElements, PipesAreSteady, TellsLongLines, TellsMalformed};
 
 /// A run may be left early: then a front of it was given.
 pub fn can_be_left()
@@ -24,4 +24,9 @@ pub fn tells_malformed()
 /// The elements that `Changes` leaves out are equal to the one before them.
 pub fn compares_elements()
     ensures { ComparesElements }
+{}
+
+/// The fault of lines comes where more bytes than a line may have stand without a line end.
+pub fn tells_long_lines()
+    ensures { TellsLongLines }
 {}

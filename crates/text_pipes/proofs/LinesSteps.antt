@@ -1,11 +1,10 @@
 -- What each kind of step does to what a state of a pipe of lines stands for.
-use Rattle.std.proofs.Common.{◌≡◌, ℕ, Bool, true, false, ◌==◌, ◌&&◌, List, [], ◌∷◌, ◌++◌, length, ◌<◌, refl, ap, ◌∙◌, sym, subst, arith, append_assoc}
-use Rattle.std.proofs.lemmas.Bool.{or_parts, and_left, and_right}
+use Rattle.std.proofs.Common.{◌≡◌, ℕ, Bool, true, false, ◌==◌, ◌&&◌, List, [], ◌∷◌, ◌++◌, length, ◌<◌, refl, ap, ◌∙◌, sym, subst, append_assoc}
 use Rattle.std.proofs.lemmas.List.{append-nil}
 use Rattle.std.specs.List.{before_first}
 use Rattle.pull_nodes.specs.Lines.{IsFree, is_end, last_byte, without_pairs, ended_lines, open_line, is_long, has_long}
 use Rattle.pull_nodes.proofs.LineLaws.{short-append, long-append, long-free}
-use Rattle.pull_nodes.proofs.Texts.{last_byte-append, without_pairs-append, open_line-append, ended_lines-free, open_line-free, ended_lines-line, open_line-line, free-open_line, free-append, free_parts}
+use Rattle.pull_nodes.proofs.Texts.{last_byte-append, without_pairs-append, open_line-append, ended_lines-free, open_line-free, ended_lines-line, open_line-line, free-open_line, free-append, without_pairs-free, without_pairs-line, without_pairs-same, last_byte-free, last_byte-line}
 use Rattle.text_pipes.specs.LinesState.{StandsAt, StandsAfter, found_in, lines_given, Takes}
 use Rattle.text_pipes.specs.declared.lines.LinesPipe.{LinesPipe}
 
@@ -20,40 +19,6 @@ unfolding found_in
 lines-stay xs ys long =
     let p = long-append (without_pairs 0 xs) (without_pairs (last_byte 0 xs) ys) long in
     ap found_in (without_pairs-append 0 xs ys) ∙ (λ i. (p.0 i, (p.1 ∙ sym long) i))
-
--- bytes without a line end follow any byte as they are
-pub without_pairs-free : (b : ℕ) (x ys : List ℕ) → IsFree x → 0 < length x → without_pairs b (x ++ ys) ≡ x ++ without_pairs (last_byte b x) ys
-unfolding without_pairs last_byte
-without_pairs-free b [] ys f n = absurd (omega arith)
-without_pairs-free b (c ∷ []) ys f n =
-    let p = or_parts (c == 13) (c == 10) (free_parts c [] f).0 in
-    rw (and_right (b == 13) (c == 10) p.1)
-without_pairs-free b (c ∷ d ∷ x) ys f n =
-    let q = free_parts c (d ∷ x) f in
-    let p = or_parts (c == 13) (c == 10) q.0 in
-    rw (and_right (b == 13) (c == 10) p.1) (ap (λ z. c ∷ z) (without_pairs-free c (d ∷ x) ys q.1 (omega arith)))
-
--- the last of such bytes is no CR
-pub last_byte-free : (b : ℕ) (x : List ℕ) → IsFree x → 0 < length x → (last_byte b x == 13) ≡ false
-unfolding last_byte
-last_byte-free b [] f n = absurd (omega arith)
-last_byte-free b (c ∷ []) f n = (or_parts (c == 13) (c == 10) (free_parts c [] f).0).0
-last_byte-free b (c ∷ d ∷ x) f n = last_byte-free c (d ∷ x) (free_parts c (d ∷ x) f).1 (omega arith)
-
-without_pairs_end : (b e : ℕ) → ((b == 13) && (e == 10)) ≡ false → without_pairs b (e ∷ []) ≡ e ∷ []
-unfolding without_pairs
-without_pairs_end b e p = rw p
-
--- with a line end that no CR before it takes
-pub without_pairs-line : (b : ℕ) (x : List ℕ) (e : ℕ) → IsFree x → (((b == 13) && (length x == 0)) && (e == 10)) ≡ false → without_pairs b (x ++ e ∷ []) ≡ x ++ e ∷ []
-without_pairs-line b [] e f p = without_pairs_end b e (grind (arith, p))
-without_pairs-line b (c ∷ x) e f p =
-    without_pairs-free b (c ∷ x) (e ∷ []) f (omega arith) ∙ ap (λ z. (c ∷ x) ++ z) (without_pairs_end (last_byte b (c ∷ x)) e (and_left _ (e == 10) (last_byte-free b (c ∷ x) f (omega arith))))
-
-pub last_byte-line : (b : ℕ) (x : List ℕ) (e : ℕ) → last_byte b (x ++ e ∷ []) ≡ e
-unfolding last_byte
-last_byte-line b [] e = refl
-last_byte-line b (c ∷ x) e = last_byte-line c x e
 
 pub long_given : (xs : List ℕ) → (lines_given xs).1 ≡ has_long (without_pairs 0 xs)
 unfolding found_in
@@ -141,19 +106,10 @@ open_step line cr xs x s f n short =
       },
     )
 
-some_free : (b : ℕ) (x : List ℕ) → IsFree x → 0 < length x → without_pairs b x ≡ x
-unfolding without_pairs
-some_free b x f n = rw (append-nil x) at (without_pairs-free b x [] f n)
-
-any_free : (b : ℕ) (x : List ℕ) → IsFree x → without_pairs b x ≡ x
-unfolding without_pairs
-any_free b [] f = refl
-any_free b (c ∷ x) f = some_free b (c ∷ x) f (omega arith)
-
 pub long_step : (line : List ℕ) (cr : Bool) (xs x : List ℕ) → StandsAt line cr xs → IsFree x → is_long (line ++ x) ≡ true
     → lines_given (xs ++ x) ≡ ((lines_given xs).0 ++ [], true)
 long_step line cr xs x s f long =
-    let y = any_free (last_byte 0 xs) x f in
+    let y = without_pairs-same (last_byte 0 xs) x f in
     let free = free-append line x (free_on line cr xs x x s y) f in
     let found : found_in (line ++ x) ≡ ([], true) = long_found (line ++ x) free long in
     rw found at (goes_on line cr xs x x s y)
