@@ -18,3 +18,6 @@ pub use count::CountPipe;
 pub use filter::FilterPipe;
 pub use intersperse::InterspersePipe;
 pub use number::NumberPipe;
+
+#[cfg(test)]
+mod tests;

@@ -1,0 +1,321 @@
+ghost use Rattle.std.specs.Prelude.{◌≢◌, ◌≤◌, length};
+ghost use Rattle.chunk_core.specs.Elements.LoadKind.{Bytes};
+ghost use Rattle.chunk_core.specs.Feed.{MayFeed};
+
+use crate::{
+    ChangesPipe, ChunkNPipe, CountPipe, DropPipe, FilterPipe, InterspersePipe, NumberPipe,
+};
+use chunk_core::{Chunk, Fed, Feed, Line, Load, Row};
+use std::alloc::{AllocError, Global};
+use std::test::Fail;
+
+/// Loads of one kind, made of texts.
+trait Made {
+    ghost use Rattle.std.specs.Prelude.{◌≡◌, IfOk};
+    ghost use Rattle.chunk_core.specs.Elements.{LoadKind, kind_of};
+
+    ghost kind: { LoadKind };
+
+    fn load(alloc: Global, texts: &[&[u8]]) -> Result<Load, AllocError>
+        ensures { IfOk result (λ load. kind_of load ≡ kind) };
+}
+
+/// Each text is a line.
+struct AsLines;
+
+/// Each text is a row, with a field for each byte.
+struct AsRows;
+
+/// The texts one after another.
+struct AsBytes;
+
+fn line_of(alloc: Global, text: &[u8]) -> Result<Line, AllocError> {
+    Ok(Line::of_vec(Vec::from_slice(alloc, text)?))
+}
+
+fn row_of(alloc: Global, text: &[u8]) -> Result<Row, AllocError> {
+    let mut row = Row::new(alloc);
+    for byte in text {
+        row.push(line_of(alloc, [*byte].as_slice())?)?;
+    }
+    Ok(row)
+}
+
+impl Made for AsLines {
+    ghost use Rattle.chunk_core.specs.Elements.LoadKind.{Lines};
+
+    ghost kind = { Lines };
+
+    fn load(alloc: Global, texts: &[&[u8]]) -> Result<Load, AllocError> {
+        let mut lines = Vec::new(alloc);
+        for text in texts {
+            lines.push(line_of(alloc, text)?)?;
+        }
+        Ok(Load::Lines(Chunk::of_vec(alloc, lines)?))
+    }
+}
+
+impl Made for AsRows {
+    ghost use Rattle.chunk_core.specs.Elements.LoadKind.{Rows};
+
+    ghost kind = { Rows };
+
+    fn load(alloc: Global, texts: &[&[u8]]) -> Result<Load, AllocError> {
+        let mut rows = Vec::new(alloc);
+        for text in texts {
+            rows.push(row_of(alloc, text)?)?;
+        }
+        Ok(Load::Rows(Chunk::of_vec(alloc, rows)?))
+    }
+}
+
+impl Made for AsBytes {
+    ghost use Rattle.chunk_core.specs.Elements.LoadKind.{Bytes};
+
+    ghost kind = { Bytes };
+
+    fn load(alloc: Global, texts: &[&[u8]]) -> Result<Load, AllocError> {
+        let mut bytes = Vec::new(alloc);
+        for text in texts {
+            bytes.extend_from_slice(text)?;
+        }
+        Ok(Load::Bytes(Chunk::of_vec(alloc, bytes)?))
+    }
+}
+
+/// What came of an input: bytes as they are, lines and rows with `|` behind each, fields with `,`;
+/// and the lengths of the loads that aren't empty.
+#[derive(Drop)]
+struct Told {
+    text: Vec<u8>,
+    lens: Vec<usize>,
+}
+
+impl Told {
+    fn put_lines(&mut self, lines: &[Line], end: u8) -> Result<(), AllocError> {
+        for line in lines {
+            self.text.extend_from_slice(line.as_slice())?;
+            self.text.push(end)?;
+        }
+        Ok(())
+    }
+
+    fn put_rows(&mut self, rows: &[Row]) -> Result<(), AllocError> {
+        for row in rows {
+            self.put_lines(row.as_slice(), b',')?;
+            self.text.push(b'|')?;
+        }
+        Ok(())
+    }
+
+    fn put(&mut self, load: Load) -> Result<(), AllocError> {
+        if !load.is_empty() {
+            self.lens.push(load.len())?;
+        }
+        match load {
+            Load::Bytes(bytes) => self.text.extend_from_slice(bytes.as_slice()),
+            Load::Lines(lines) => self.put_lines(lines.as_slice(), b'|'),
+            Load::Rows(rows) => self.put_rows(rows.as_slice()),
+        }
+    }
+}
+
+/// Feeds the pieces and then the end.
+fn answers<M: Made, P: Feed>(
+    alloc: Global,
+    mut pipe: P,
+    pieces: &[&[&[u8]]],
+) -> Result<Told, AllocError>
+    requires { MayFeed (P.stands pipe) M.kind }
+{
+    let mut told = Told {
+        text: Vec::new(alloc),
+        lens: Vec::new(alloc),
+    };
+    for piece in pieces {
+        match pipe.feed(alloc, M::load(alloc, piece)?)? {
+            Fed::Out(load) => told.put(load)?,
+            _ => return Ok(told),
+        }
+    }
+    for _ in 0..4 {
+        match pipe.finish(alloc)? {
+            Fed::Out(load) => told.put(load)?,
+            _ => return Ok(told),
+        }
+    }
+    Ok(told)
+}
+
+/// The texts cut before each whose bit is set.
+fn cut<'a>(
+    alloc: Global,
+    texts: &'a [&'a [u8]],
+    bits: u32,
+) -> Result<Vec<&'a [&'a [u8]]>, AllocError>
+    requires { length texts.now ≤ 32 }
+{
+    let mut pieces = Vec::new(alloc);
+    let mut from = 0;
+    for at in 0..texts.len() {
+        if bits >> at & 1 == 1 {
+            pieces.push(&texts[from..at])?;
+            from = at;
+        }
+    }
+    pieces.push(&texts[from..])?;
+    Ok(pieces)
+}
+
+const AAB: [&[u8]; 3] = [b"a", b"a", b"b"];
+
+fn dropped(alloc: Global, n: u64, pieces: &[&[&[u8]]]) -> Result<Told, AllocError> {
+    answers::<AsLines, DropPipe>(alloc, DropPipe::new(alloc, n)?, pieces)
+}
+
+#[test]
+fn the_first_lines_are_left_out(rt: HostRuntime) -> Result<(), Fail> {
+    let alloc = rt.alloc();
+    for bits in 0..8 {
+        let pieces = cut(alloc, AAB.as_slice(), bits)?;
+        let two = dropped(alloc, 2, pieces.as_slice())?;
+        assert_eq!(rt; two.text.as_slice(), b"b|".as_slice());
+        let none = dropped(alloc, 0, pieces.as_slice())?;
+        assert_eq!(rt; none.text.as_slice(), b"a|a|b|".as_slice());
+        let more = dropped(alloc, 4, pieces.as_slice())?;
+        assert!(rt; more.text.is_empty());
+    }
+    Ok(())
+}
+
+fn counted(alloc: Global, pieces: &[&[&[u8]]]) -> Result<Told, AllocError> {
+    answers::<AsLines, CountPipe>(alloc, CountPipe::new(alloc)?, pieces)
+}
+
+#[test]
+fn one_line_tells_the_number(rt: HostRuntime) -> Result<(), Fail> {
+    let alloc = rt.alloc();
+    for bits in 0..8 {
+        let pieces = cut(alloc, AAB.as_slice(), bits)?;
+        let told = counted(alloc, pieces.as_slice())?;
+        assert_eq!(rt; told.text.as_slice(), b"3|".as_slice());
+    }
+    let told = counted(alloc, [].as_slice())?;
+    assert_eq!(rt; told.text.as_slice(), b"0|".as_slice());
+    Ok(())
+}
+
+fn numbered(alloc: Global, pieces: &[&[&[u8]]]) -> Result<Told, AllocError> {
+    answers::<AsLines, NumberPipe>(alloc, NumberPipe::new(alloc)?, pieces)
+}
+
+#[test]
+fn numbers_go_on_over_loads(rt: HostRuntime) -> Result<(), Fail> {
+    let alloc = rt.alloc();
+    for bits in 0..8 {
+        let pieces = cut(alloc, AAB.as_slice(), bits)?;
+        let told = numbered(alloc, pieces.as_slice())?;
+        assert_eq!(rt; told.text.as_slice(), b"0 a|1 a|2 b|".as_slice());
+    }
+    Ok(())
+}
+
+fn filtered(alloc: Global, text: &[u8], pieces: &[&[&[u8]]]) -> Result<Told, AllocError> {
+    let text = line_of(alloc, text)?;
+    answers::<AsLines, FilterPipe>(alloc, FilterPipe::new(alloc, text)?, pieces)
+}
+
+#[test]
+fn lines_with_the_text_stay(rt: HostRuntime) -> Result<(), Fail> {
+    let alloc = rt.alloc();
+    let texts = [
+        b"aab".as_slice(),
+        b"a".as_slice(),
+        b"ba".as_slice(),
+        b"ab".as_slice(),
+    ];
+    for bits in 0..16 {
+        let pieces = cut(alloc, texts.as_slice(), bits)?;
+        let told = filtered(alloc, b"ab".as_slice(), pieces.as_slice())?;
+        assert_eq!(rt; told.text.as_slice(), b"aab|ab|".as_slice());
+        let all = filtered(alloc, b"".as_slice(), pieces.as_slice())?;
+        assert_eq!(rt; all.text.as_slice(), b"aab|a|ba|ab|".as_slice());
+    }
+    Ok(())
+}
+
+fn spread(alloc: Global, text: &[u8], pieces: &[&[&[u8]]]) -> Result<Told, AllocError> {
+    let line = line_of(alloc, text)?;
+    answers::<AsLines, InterspersePipe>(alloc, InterspersePipe::new(alloc, line)?, pieces)
+}
+
+#[test]
+fn a_line_stands_between_each_two(rt: HostRuntime) -> Result<(), Fail> {
+    let alloc = rt.alloc();
+    for bits in 0..8 {
+        let pieces = cut(alloc, AAB.as_slice(), bits)?;
+        let told = spread(alloc, b"-".as_slice(), pieces.as_slice())?;
+        assert_eq!(rt; told.text.as_slice(), b"a|-|a|-|b|".as_slice());
+    }
+    Ok(())
+}
+
+fn changed<M: Made>(alloc: Global, pieces: &[&[&[u8]]]) -> Result<Told, AllocError>
+    requires { M.kind ≢ Bytes }
+{
+    answers::<M, ChangesPipe>(alloc, ChangesPipe::new(alloc)?, pieces)
+}
+
+#[test]
+fn elements_that_stay_the_same_are_left_out(rt: HostRuntime) -> Result<(), Fail> {
+    let alloc = rt.alloc();
+    for bits in 0..8 {
+        let pieces = cut(alloc, AAB.as_slice(), bits)?;
+        let told = changed::<AsLines>(alloc, pieces.as_slice())?;
+        assert_eq!(rt; told.text.as_slice(), b"a|b|".as_slice());
+    }
+    let texts = [
+        b"ab".as_slice(),
+        b"ab".as_slice(),
+        b"a".as_slice(),
+        b"ac".as_slice(),
+    ];
+    for bits in 0..16 {
+        let pieces = cut(alloc, texts.as_slice(), bits)?;
+        let told = changed::<AsRows>(alloc, pieces.as_slice())?;
+        assert_eq!(rt; told.text.as_slice(), b"a,b,|a,|a,c,|".as_slice());
+    }
+    Ok(())
+}
+
+fn grouped<M: Made>(alloc: Global, n: u32, pieces: &[&[&[u8]]]) -> Result<Told, AllocError> {
+    answers::<M, ChunkNPipe>(alloc, ChunkNPipe::new(alloc, n)?, pieces)
+}
+
+#[test]
+fn whole_groups_come_out(rt: HostRuntime) -> Result<(), Fail> {
+    let alloc = rt.alloc();
+    for bits in 0..8 {
+        let pieces = cut(alloc, AAB.as_slice(), bits)?;
+        let lines = grouped::<AsLines>(alloc, 2, pieces.as_slice())?;
+        assert_eq!(rt; lines.text.as_slice(), b"a|a|b|".as_slice());
+        assert_eq!(rt; lines.lens.as_slice(), [2, 1].as_slice());
+        let rows = grouped::<AsRows>(alloc, 3, pieces.as_slice())?;
+        assert_eq!(rt; rows.text.as_slice(), b"a,|a,|b,|".as_slice());
+        assert_eq!(rt; rows.lens.as_slice(), [3].as_slice());
+        let bytes = grouped::<AsBytes>(alloc, 4, pieces.as_slice())?;
+        assert_eq!(rt; bytes.text.as_slice(), b"aab".as_slice());
+        assert_eq!(rt; bytes.lens.as_slice(), [3].as_slice());
+    }
+    Ok(())
+}
+
+#[test]
+fn groups_of_none_are_groups_of_one(rt: HostRuntime) -> Result<(), Fail> {
+    let alloc = rt.alloc();
+    let pieces = cut(alloc, AAB.as_slice(), 2)?;
+    let told = grouped::<AsLines>(alloc, 0, pieces.as_slice())?;
+    assert_eq!(rt; told.text.as_slice(), b"a|a|b|".as_slice());
+    assert_eq!(rt; told.lens.as_slice(), [1, 2].as_slice());
+    Ok(())
+}
