@@ -8,3 +8,11 @@ pub mod CatShows
 pub mod CatWhole
 pub mod Ledgers
 pub mod Telling
+pub mod Pieces
+pub mod Tallies
+pub mod Each
+pub mod Homes
+pub mod Accounts
+pub mod AloneWork
+pub mod AlonePerforms
+pub mod CatRuns

@@ -1,5 +1,5 @@
 -- What the command cat does.
-use Rattle.std.specs.Prelude.{◌≡◌, ◌⊎◌, ℕ, ◌+◌, ◌<◌, ◌≤◌, Bool, true, false, List, [], ◌∷◌, ◌++◌, length, cond}
+use Rattle.std.specs.Prelude.{◌≡◌, ◌⊎◌, ℕ, ◌<◌, ◌≤◌, Bool, true, false, List, [], ◌∷◌, ◌++◌, length}
 use Rattle.chunk_core.specs.Lists.{Each}
 use Rattle.chunk_core.specs.Texts.{Frame, frame_text, frames_text}
 use Rattle.chunk_core.specs.Outcomes.{Outcomes}
@@ -18,6 +18,7 @@ use Rattle.run_rules.specs.Facts.{is_halted}
 use Rattle.run_rules.specs.Work.{Work, Deed}
 use Rattle.run_rules.specs.Run.{Performs}
 use Rattle.flume_cli.specs.declared.outcome.Outcome.{Outcome}
+pub use Rattle.flume_cli.specs.Alone.{and_one}
 use Rattle.flume_cli.specs.Copy.{Copies}
 use Rattle.flume_cli.specs.Life.{IsUnused, opened, with_open_fault, closed_as, noted_by_0}
 
@@ -96,10 +97,6 @@ pub record RunsMade (mid depot_new : DepotTold) (d : DeviceTold) (old new : Sink
   pub after : DeviceTold
   pub retires : Retires mid depot_new after
   pub ran : RunsRow d after old new chunk o ⊎ IsNotBegun d after old new o
-
--- one more where a call failed
-abbrev pub and_one : Bool → ℕ → ℕ
-and_one failed n = cond failed (n + 1) n
 
 -- nothing, or a front of a frame of stream 0 that has at most size bytes
 abbrev pub IsFrontWithin : ℕ → List ℕ → Type 0

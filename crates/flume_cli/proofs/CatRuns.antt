@@ -1,0 +1,150 @@
+-- The one stream of cat.
+use Rattle.std.proofs.Common.{◌≡◌, ◌≢◌, ℕ, zero, suc, ◌<◌, Bool, true, false, List, [], ◌∷◌, ◌++◌, inl, inr, map, length, Option, Some, None, refl, sym, ◌∙◌, ap, subst, ⊎_elim, arith}
+use Rattle.chunk_core.specs.Lists.{Each}
+use Rattle.chunk_core.specs.Elements.{Element, rendering_of}
+use Rattle.chunk_core.specs.Outcomes.{End, Outcomes, Done, Fault, Cut}
+use Rattle.chunk_core.specs.declared.code.Code.{Code}
+use Rattle.chunk_core.specs.declared.code.Code.TheVariants as code
+use Rattle.chunk_core.specs.declared.code.How.{How}
+use Rattle.chunk_core.specs.declared.code.How.TheVariants as how
+use Rattle.device_port.specs.Device.{DeviceTold, faults_of}
+use Rattle.res_ledger.specs.declared.event.StreamNo.TheVariants.{Inner}
+use Rattle.device_port.specs.Depot.{DepotTold}
+use Rattle.device_port.specs.Sink.{SinkTold}
+use Rattle.pull_nodes.specs.Runs.{OrLeft, Reads, ReadsBy, Opens}
+use Rattle.run_rules.specs.declared.end.EndOf.{EndOf}
+use Rattle.run_rules.specs.Facts.{is_halted, is_memory}
+use Rattle.run_rules.specs.Run.{IsReported, count_of}
+use Rattle.flume_cli.specs.declared.outcome.Outcome.{Outcome}
+use Rattle.flume_cli.specs.Alone.{elements_of, frame_of, IsPiece, IsCutAt, RunsAlone}
+use Rattle.flume_cli.specs.Cat.{to_read, FileRuns, IdealFileRuns, IsFrontWithin, RunsCat}
+use Rattle.flume_cli.proofs.AlonePerforms.{IsCovered, performs_alone}
+use Rattle.flume_cli.proofs.Each.{each_left, each_right}
+use Rattle.flume_cli.proofs.Pieces.{IsByte, bytes_are, bytes_length, pieces_fit}
+
+-- What a file gives are bytes.
+
+reads_bytes : (o : Option (List ℕ)) (d : DeviceTold) (ys : List Element) (e : End) → ReadsBy o d ys e → Each IsByte ys
+reads_bytes None d ys e r = subst (λ xs. Each IsByte xs) (sym r.2) (bytes_are r.0)
+reads_bytes (Some c) d ys e r =
+    ⊎_elim
+    (λ x. subst (λ xs. Each IsByte xs) (sym x.1) (bytes_are _))
+    (λ y. ⊎_elim (λ x. subst (λ xs. Each IsByte xs) (sym x.1) (bytes_are _)) (λ x. subst (λ xs. Each IsByte xs) (sym x.1) (bytes_are _)) y)
+    r
+
+left_bytes : (R : Outcomes) → ((ys : List Element) (e : End) → R ys e → Each IsByte ys) → (ys : List Element) (e : End) → OrLeft R ys e → Each IsByte ys
+left_bytes R h ys e (inl r) = h ys e r
+left_bytes R h ys e (inr (c, inl n)) = subst (λ xs. Each IsByte xs) (sym n) tt
+left_bytes R h ys e (inr (c, inr (more, g, r))) = each_left IsByte ys more (h (ys ++ more) g r)
+
+opens_bytes : (d : DeviceTold) (ys : List Element) (e : End) → Opens d (OrLeft (Reads d)) (Unit {0}) ys e → Each IsByte ys
+opens_bytes d ys e (inl r) = left_bytes (Reads d) (λ xs g. reads_bytes d.content d xs g) ys e r.1
+opens_bytes d ys e (inr r) = subst (λ xs. Each IsByte xs) (sym r.1) tt
+
+pub file_bytes : (d : DeviceTold) (ys : List Element) (e : End) → FileRuns d ys e → Each IsByte ys
+file_bytes d ys e r = left_bytes (Opens d (OrLeft (Reads d)) (Unit {0})) (opens_bytes d) ys e r
+
+-- A fault shows on its device.
+
+fault_is : (a b : Code) → Fault a ≡ Fault b → b ≡ a
+fault_is a b e = cc
+
+done_fault : (c : Code) → Done ≢ Fault c
+done_fault c e = cc
+
+fault_cut : (c : Code) → Fault c ≢ Cut
+fault_cut c e = cc
+
+fault_done : (c : Code) → Fault c ≢ Done
+fault_done c e = cc
+
+counted_as : (d : DeviceTold) (c k : Code) → k ≡ c → 0 < count_of k d → 0 < count_of c d
+counted_as d c k e l = subst (λ x. 0 < count_of x d) e l
+
+reads_shows : (o : Option (List ℕ)) (d : DeviceTold) (ys : List Element) (c : Code) → ReadsBy o d ys (Fault c) → 0 < count_of c d
+reads_shows None d ys c r =
+    ⊎_elim
+    (λ x. absurd (fault_done c x))
+    (λ y. ⊎_elim (λ x. counted_as d c code.Endless (fault_is c code.Endless x.1) (omega arith)) (λ x. counted_as d c code.Read (fault_is c code.Read x.1) x.0) y)
+    r.3
+reads_shows (Some bytes) d ys c r =
+    ⊎_elim
+    (λ x. absurd (fault_done c x.2))
+    (λ y. ⊎_elim (λ x. counted_as d c code.Endless (fault_is c code.Endless x.2) (omega arith)) (λ x. counted_as d c code.Read (fault_is c code.Read x.2) x.0) y)
+    r
+
+opens_shows : (d : DeviceTold) (ys : List Element) (c : Code) → IdealFileRuns d ys (Fault c) → 0 < count_of c d
+opens_shows d ys c (inl r) = reads_shows d.content d ys c r.1
+opens_shows d ys c (inr r) = counted_as d c code.Open (fault_is c code.Open r.2) r.0
+
+-- a run that wasn't left is an ideal one
+pub ideal_is : (d : DeviceTold) (ys : List Element) (e : End) → (e ≢ Cut) → FileRuns d ys e → IdealFileRuns d ys e
+ideal_is d ys e n (inr c) = absurd (n c.0)
+ideal_is d ys e n (inl (inl (o, inl r))) = inl (o, r)
+ideal_is d ys e n (inl (inl (o, inr c))) = absurd (n c.0)
+ideal_is d ys e n (inl (inr r)) = inr r
+
+-- without the faults
+abbrev cleared : DeviceTold → DeviceTold
+cleared d = record d { open_faults = 0; read_faults = 0; write_faults = 0; close_faults = 0 }
+
+-- the first device, and the others without their faults
+abbrev clean_but : (ℕ → DeviceTold) → ℕ → DeviceTold
+clean_but w zero = w 0
+clean_but w (suc k) = cleared (w (suc k))
+
+clean_each : (w : ℕ → DeviceTold) → faults_of (w 0) ≡ 0 → (k : ℕ) → (faults_of (clean_but w k) ≡ 0) × ((clean_but w k).content ≡ (w k).content)
+clean_each w h zero = (h, refl)
+clean_each w h (suc k) = (refl, refl)
+
+fault_how : (a b : Code) → how.Fault a ≡ how.Fault b → b ≡ a
+fault_how a b e = cc
+
+none_some : (x : EndOf) (xs : List EndOf) → (x ∷ xs) ≢ []
+none_some x xs e = cc
+
+module _ (path : List ℕ) (size : ℕ) (old new : DepotTold) (so sn : SinkTold) (o : Outcome) (r : RunsAlone (to_read path ∷ []) (λ w. FileRuns (w 0)) size old new so sn o) where
+  abbrev d : DeviceTold
+  d = r.home 0
+
+  abbrev given : List Element
+  given = elements_of r.printed.pieces
+
+  shown_by : (e : End) (h : How) → IsReported e h → FileRuns d given e → (c : Code) → h ≡ how.Fault c → 0 < count_of c d
+  shown_by Done h is run c f = absurd (let e : how.Done ≡ how.Fault c = sym is ∙ f in cc)
+  shown_by (Fault k) h is run c f = let e : how.Fault k ≡ how.Fault c = sym is ∙ f in counted_as d c k (sym (fault_how k c e)) (opens_shows d given k (ideal_is d given (Fault k) (fault_cut k) run))
+  shown_by Cut h is run c f = absurd (⊎_elim (λ i. let e : how.Halted ≡ how.Fault c = sym i ∙ f in cc) (λ i. let e : how.Memory ≡ how.Fault c = sym i ∙ f in cc) is)
+
+  abbrev IsIdealDone : Type 0
+  IsIdealDone = (v : ℕ → DeviceTold) (ys : List Element) (e : End) → ((k : ℕ) → (faults_of (v k) ≡ 0) × ((v k).content ≡ (r.home k).content)) → IdealFileRuns (v 0) ys e → e ≡ Done
+
+  whole_by : (e : End) (h : How) → IsReported e h → is_halted h ≡ false → is_memory h ≡ false → FileRuns d given e → faults_of d ≡ 0 → IsIdealDone
+      → (h ≡ how.Done) × ((ys : List Element) × IdealFileRuns d ys Done × (rendering_of given ≡ rendering_of ys))
+  whole_by Done h is halts forgets run calm ideal = (is, (given, ideal_is d given Done (λ e. cc) run, refl))
+  whole_by (Fault c) h is halts forgets run calm ideal = absurd (fault_done c (ideal (clean_but r.home) given (Fault c) (clean_each r.home calm) (ideal_is d given (Fault c) (fault_cut c) run)))
+  whole_by Cut h is halts forgets run calm ideal = absurd (⊎_elim (λ i. let e : true ≡ false = sym (ap is_halted i) ∙ halts in cc) (λ i. let e : true ≡ false = sym (ap is_memory i) ∙ forgets in cc) is)
+
+  covered : IsCovered (to_read path ∷ []) (λ w. FileRuns (w 0)) (λ w. IdealFileRuns (w 0)) size old new so sn o r
+  covered = record {
+    shown = λ c f. (0, omega arith, shown_by r.run.end r.how r.run.reported r.run.run c f);
+    whole = λ halts forgets calm ideal. whole_by r.run.end r.how r.run.reported halts forgets r.run.run (calm 0 (omega arith)) ideal;
+  }
+
+  front_by : (b : Bool) → o.sink_failed ≡ b → IsFrontWithin size r.printed.rest
+  front_by false e = let c = subst (λ b. IsCutAt size b r.printed.next r.printed.rest) e r.printed.cut in inl c.1
+  front_by true e =
+      let c : IsPiece size r.printed.next × (more : List ℕ) × (0 < length more) × _ = subst (λ b. IsCutAt size b r.printed.next r.printed.rest) e r.printed.cut in
+      let bytes = each_right IsByte given r.printed.next (file_bytes d (given ++ r.printed.next) Cut (r.run.goes_on e)) in
+      let counted = bytes_length r.printed.next bytes in
+      inr (rendering_of r.printed.next, omega (arith, counted, c.0.1), c.1, c.3)
+
+  -- the work of cat was done
+  pub cat_runs_alone : RunsCat path size old new so sn o
+  cat_runs_alone = record {
+    frames = map frame_of r.printed.pieces;
+    rest = r.printed.rest;
+    within = record { fits = pieces_fit size r.printed.pieces r.printed.sizes (file_bytes d given r.run.end r.run.run); front = front_by o.sink_failed refl };
+    performs = performs_alone (to_read path ∷ []) (λ w. FileRuns (w 0)) (λ w. IdealFileRuns (w 0)) size old new so sn o r covered;
+    wrote = r.printed.wrote;
+    begun = λ e. absurd (none_some (record { who = Inner 0; how = r.how }) [] (sym r.ends ∙ e));
+  }

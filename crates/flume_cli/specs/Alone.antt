@@ -1,0 +1,114 @@
+-- What one stream that ran alone has done.
+use Rattle.std.specs.Prelude.{◌≡◌, ◌⊎◌, ℕ, suc, ◌+◌, ◌<◌, ◌≤◌, Bool, true, false, cond, nat_eq, List, [], ◌∷◌, ◌++◌, map, length, flat_map, Option, None}
+use Rattle.std.specs.List.Sorted.{IsPermutation}
+use Rattle.chunk_core.specs.Lists.{Each}
+use Rattle.chunk_core.specs.Elements.{Element, rendering_of}
+use Rattle.chunk_core.specs.Outcomes.{End, Cut, Outcomes}
+use Rattle.chunk_core.specs.Texts.{Frame, frame_text, frames_text}
+use Rattle.chunk_core.specs.declared.code.How.{How}
+use Rattle.res_ledger.specs.declared.event.StreamNo.TheVariants.{Inner}
+use Rattle.res_ledger.specs.declared.event.What.TheVariants.{Acquire, Close, Final}
+use Rattle.res_ledger.specs.declared.event.Event.{Event}
+use Rattle.res_ledger.specs.Ledger.{Notes, IsAcquired, IsLegal}
+use Rattle.res_ledger.specs.Whole.{IsComplete}
+use Rattle.res_ledger.specs.Order.{IsOrdered}
+use Rattle.device_port.specs.Device.{Place, DeviceTold}
+use Rattle.device_port.specs.Depot.{DepotTold, Files, KeepsFilesBut, content_at}
+use Rattle.device_port.specs.Sink.{SinkTold, with_bytes}
+use Rattle.run_rules.specs.Facts.{is_halted, is_memory, leased_stream, below}
+use Rattle.run_rules.specs.Devices.{IsWritten}
+use Rattle.run_rules.specs.Run.{IsReported}
+use Rattle.run_rules.specs.Work.{Work}
+use Rattle.flume_cli.specs.declared.outcome.Outcome.{Outcome}
+
+-- one stream, with a row for each of these places
+abbrev pub alone : List Place → ((ℕ → DeviceTold) → Outcomes) → ((ℕ → DeviceTold) → Outcomes) → Work
+alone places runs ideal_runs = record { streams = record { places = places } ∷ []; runs = λ k w. runs w; ideal_runs = λ k w. ideal_runs w }
+
+-- one more where a call failed
+abbrev pub and_one : Bool → ℕ → ℕ
+and_one failed n = cond failed (n + 1) n
+
+-- What was printed.
+
+-- the elements of pieces, one piece after another
+abbrev pub elements_of : List (List Element) → List Element
+elements_of pieces = flat_map (λ xs. xs) pieces
+
+-- some elements, but not more than size
+abbrev pub IsPiece : ℕ → List Element → Type 0
+IsPiece size xs = (0 < length xs) × (length xs ≤ size)
+
+-- the frame of a piece of stream 0
+abbrev pub frame_of : List Element → Frame
+frame_of xs = record { stream = 0; payload = rendering_of xs }
+
+-- where a write failed, rest is a proper front of the frame of one further piece
+abbrev pub IsCutAt : ℕ → Bool → List Element → List ℕ → Type 0
+IsCutAt size false next rest = (next ≡ []) × (rest ≡ [])
+IsCutAt size true next rest = IsPiece size next × (more : List ℕ) × (0 < length more) × (rest ++ more ≡ frame_text 0 (rendering_of next))
+
+-- pieces of at most size elements were printed, each in a frame, and where a write failed a front of the frame of the next one
+pub record PrintsPieces (size : ℕ) (old new : SinkTold) (failed : Bool) : Type 0 where
+  pub pieces : List (List Element)
+  pub sizes : Each (IsPiece size) pieces
+  pub next : List Element
+  pub rest : List ℕ
+  pub cut : IsCutAt size failed next rest
+  pub wrote : new ≡ record (with_bytes old (frames_text (map frame_of pieces) ++ rest)) { faults = and_one failed old.faults }
+
+-- the pieces are those of a run with the end that is reported, and what the next one goes on with may be left there
+pub record IsRunIn (runs : Outcomes) (pieces : List (List Element)) (next : List Element) (failed memory : Bool) (how : How) : Type 0 where
+  pub end : End
+  pub run : runs (elements_of pieces) end
+  pub goes_on : failed ≡ true → runs (elements_of pieces ++ next) Cut
+  pub reported : IsReported end how
+  pub halted : is_halted how ≡ true → (failed ≡ true) ⊎ (memory ≡ true)
+  pub remembered : is_memory how ≡ true → memory ≡ true
+
+-- What became of the devices.
+
+-- the device with this number was made for the place, and was never opened, or was opened once and closed
+pub record IsSpent (files : Option Files) (number : ℕ) (place : Place) (d : DeviceTold) : Type 0 where
+  pub number_is : d.number ≡ number
+  pub place_is : d.place ≡ place
+  pub content_is : d.content ≡ content_at files place.path
+  pub shut : d.is_open ≡ false
+  pub stage : ((d.opens ≡ 0) × (d.closes ≡ 0) × (d.close_faults ≡ 0)) ⊎ ((d.opens ≡ 1) × (d.closes ≡ 1))
+
+-- the rows from r on have such devices, with the numbers from n on
+abbrev pub AreSpent : Option Files → ℕ → (ℕ → DeviceTold) → ℕ → List Place → Type 0
+AreSpent files n w r [] = Unit {0}
+AreSpent files n w r (p ∷ ps) = IsSpent files n p (w r) × AreSpent files (suc n) w (suc r) ps
+
+-- the depot made a device for each place, and each came back, in any order
+pub record ComesBack (old new : DepotTold) (places : List Place) (w : ℕ → DeviceTold) : Type 0 where
+  pub made : new.made ≡ old.made ++ places
+  pub back : List DeviceTold
+  pub retired : new.retired ≡ old.retired ++ back
+  pub each : IsPermutation (map w (below (length places))) back
+  pub spent : AreSpent old.files (length old.made) w 0 places
+  pub files : KeepsFilesBut (IsWritten places) old.files new.files
+
+-- What was noted.
+
+-- the ledger of stream 0 alone: it acquired the rows whose devices were opened and ended them, leased nothing and closed its root
+pub record IsAccount (count : ℕ) (w : ℕ → DeviceTold) (L : List Event) : Type 0 where
+  pub legal : IsLegal L
+  pub complete : IsComplete L
+  pub ordered : IsOrdered L
+  pub own : Each (λ e. (e.by ≡ Inner 0) × (leased_stream e.what ≡ None)) L
+  pub acquired : (r s : ℕ) → Notes L (Inner 0) (Acquire r s) → (r < count) × ((w r).opens ≡ 1)
+  pub each : (r : ℕ) → r < count → (w r).opens ≡ 1 → IsAcquired L r
+  pub ended : (r : ℕ) (ok : Bool) → Notes L (Inner 0) (Final r ok) → ok ≡ nat_eq (w r).close_faults 0
+  pub closed : Notes L (Inner 0) (Close 0)
+
+-- the stream ran over devices for these places, in pieces of at most size elements
+pub record RunsAlone (places : List Place) (runs : (ℕ → DeviceTold) → Outcomes) (size : ℕ) (depot_old depot_new : DepotTold) (old new : SinkTold) (o : Outcome) : Type 0 where
+  pub home : ℕ → DeviceTold
+  pub how : How
+  pub devices : ComesBack depot_old depot_new places home
+  pub account : IsAccount (length places) home o.ledger
+  pub printed : PrintsPieces size old new o.sink_failed
+  pub run : IsRunIn (runs home) printed.pieces printed.next o.sink_failed o.memory how
+  pub ends : o.ends ≡ record { who = Inner 0; how = how } ∷ []
