@@ -1,15 +1,27 @@
 //! One frame of the output.
 ghost use Rattle.std.specs.Prelude.{◌≡◌, ◌≢◌, ◌+◌, ◌-◌, ◌^◌, ◌<◌, ◌≤◌, ◌++◌, [], ◌∷◌, length};
+ghost use Rattle.chunk_core.specs.Elements.{elements};
 ghost use Rattle.chunk_core.specs.Texts.{frame_text};
 ghost use Rattle.device_port.specs.Sink.{Puts};
-ghost use Rattle.flume_cli.specs.Frame.{header_text};
+ghost use Rattle.flume_cli.specs.Frame.{PutsLoad, PutsText, header_text};
 
 use arrayvec::ArrayVec;
+use chunk_core::{Load, render};
 use device_port::{Failed, Sink, put};
 use itoa::Buffer;
+use std::alloc::{AllocError, Global};
 
 /// The longest payload that is written in one call with its header.
 const LONGEST_GATHERED: usize = 8000;
+
+/// Why a load wasn't printed.
+#[derive(Clone, Copy, Debug, PartialEq, Eq)]
+pub enum NotPut {
+    /// A write failed.
+    Unwritten,
+    /// Memory was wanting, and nothing was written.
+    Memory,
+}
 
 /// The first line of a frame: the stream's number and the payload's length in bytes.
 fn header_of(stream: u32, size: usize) -> ArrayVec<u8, 96>
@@ -67,4 +79,31 @@ fn put_line<K: Sink>(out: &mut K, payload: &[u8]) -> Result<(), Failed>
 {
     put(out, payload)?;
     put(out, b"\n")
+}
+
+/// Prints a load as one frame. Bytes are written as they are, and take no memory; another load is
+/// rendered first.
+pub fn put_load<K: Sink>(alloc: Global, out: &mut K, stream: u32, load: &Load) -> Result<(), NotPut>
+    requires some { 0 < length (elements load.now) }
+    requires room { (K.told out.old).faults < 2 ^ 64 - 1 }
+    ensures { PutsLoad (K.told out.old) (K.told out.new) stream load.now result }
+{
+    match load {
+        Load::Bytes(bytes) => put_text(out, stream, bytes.as_slice()),
+        _ => match render(alloc, load) {
+            Ok(text) => put_text(out, stream, text.as_slice()),
+            Err(AllocError) => Err(NotPut::Memory),
+        },
+    }
+}
+
+fn put_text<K: Sink>(out: &mut K, stream: u32, text: &[u8]) -> Result<(), NotPut>
+    requires some { 0 < length text.now }
+    requires room { (K.told out.old).faults < 2 ^ 64 - 1 }
+    ensures { PutsText (K.told out.old) (K.told out.new) (frame_text stream text.now) result }
+{
+    match put_frame(out, stream, text) {
+        Ok(()) => Ok(()),
+        Err(Failed) => Err(NotPut::Unwritten),
+    }
 }

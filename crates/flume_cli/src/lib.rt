@@ -13,7 +13,7 @@ pub mod top;
 pub mod words;
 
 pub use cat::run_cat;
-pub use frame::put_frame;
+pub use frame::{NotPut, put_frame, put_load};
 pub use outcome::Outcome;
 pub use report::Report;
 pub use status::Status;
