@@ -16,3 +16,4 @@ pub mod Accounts
 pub mod AloneWork
 pub mod AlonePerforms
 pub mod CatRuns
+pub mod Printing

@@ -6,6 +6,7 @@ pub mod copy;
 pub mod frame;
 pub mod life;
 pub mod outcome;
+pub mod print;
 pub mod report;
 pub mod status;
 pub mod tail;

@@ -1,0 +1,185 @@
+-- Printing a stream, turn by turn.
+use Rattle.std.proofs.Common.{◌≡◌, ◌≢◌, ℕ, ◌+◌, ◌<◌, ◌≤◌, true, false, List, [], ◌∷◌, ◌++◌, inl, inr, map, length, take, drop, Some, Ok, Err, refl, sym, ◌∙◌, ap, subst, arith, append-nil, length-drop}
+use Rattle.std.proofs.lemmas.Grind.{flat_map-append}
+use Rattle.std.proofs.lemmas.List.{map-append, take-append-drop}
+use Rattle.chunk_core.specs.Lists.{Each}
+use Rattle.chunk_core.specs.Elements.{Element, elements, rendering_of}
+use Rattle.chunk_core.specs.Outcomes.{Done, Fault, Cut}
+use Rattle.chunk_core.specs.Texts.{Frame, frame_text, frames_text}
+use Rattle.chunk_core.specs.declared.load.Load.{Load}
+use Rattle.chunk_core.specs.declared.code.Code.{Code}
+use Rattle.chunk_core.specs.declared.code.How.TheVariants as how
+use Rattle.device_port.specs.Device.{DeviceTold}
+use Rattle.device_port.specs.Sink.{SinkTold, with_bytes, BreaksOff}
+use Rattle.device_port.proofs.Puts.{with_bytes_none, with_bytes_twice}
+use Rattle.pull_turns.specs.Around.{Around}
+use Rattle.pull_turns.specs.Led.{Led, Tells, Turns}
+use Rattle.pull_turns.specs.Rest.{IsRunOfRest}
+use Rattle.pull_turns.specs.Sizes.{Sized, widest}
+use Rattle.pull_turns.specs.Turned.{Moved}
+use Rattle.pull_turns.specs.declared.rest.Rest.{Rest}
+use Rattle.pull_turns.specs.declared.rest.Rest.TheVariants.{Nil}
+use Rattle.pull_turns.specs.declared.turn.Turn.TheVariants as turn
+use Rattle.pull_turns.proofs.Leads.{can_stop}
+use Rattle.pull_turns.proofs.Led.{led_start, led_chunk, led_quiet, led_done, led_fault, moved_tells, over_now, tells_on}
+use Rattle.flume_cli.specs.declared.frame.NotPut.{NotPut}
+use Rattle.flume_cli.specs.declared.frame.NotPut.TheVariants as not
+use Rattle.flume_cli.specs.Alone.{elements_of, frame_of, IsPiece, PrintsPieces}
+use Rattle.flume_cli.specs.Frame.{PutsLoad}
+use Rattle.flume_cli.specs.Printing.{PrintsRun}
+
+-- so far turns gave these pieces, and each was printed
+pub record PrintsOn (first now : ℕ → DeviceTold) (n : ℕ) (start rest : Rest) (old new : SinkTold) : Type 0 where
+  pub pieces : List (List Element)
+  pub sizes : Each (IsPiece (widest n start)) pieces
+  pub wide : widest n rest ≤ widest n start
+  pub led : Led first now start rest (elements_of pieces)
+  pub wrote : new ≡ with_bytes old (frames_text (map frame_of pieces))
+
+each_snoc : {A : Type 0} (P : A → Type 0) (xs : List A) (x : A) → Each P xs → P x → Each P (xs ++ x ∷ [])
+each_snoc P [] x h p = (p, tt)
+each_snoc P (y ∷ xs) x h p = (h.0, each_snoc P xs x h.1 p)
+
+elements_snoc : (pieces : List (List Element)) (xs : List Element) → elements_of (pieces ++ xs ∷ []) ≡ elements_of pieces ++ xs
+elements_snoc pieces xs = flat_map-append (λ (ys : List Element). ys) pieces (xs ∷ []) ∙ ap (λ b. elements_of pieces ++ b) (append-nil xs)
+
+frames_snoc : (pieces : List (List Element)) (xs : List Element) → frames_text (map frame_of (pieces ++ xs ∷ [])) ≡ frames_text (map frame_of pieces) ++ frame_text 0 (rendering_of xs)
+frames_snoc pieces xs =
+    ap (λ F. frames_text F) (map-append frame_of pieces (xs ∷ []))
+    ∙ (flat_map-append (λ (f : Frame). frame_text f.stream f.payload) (map frame_of pieces) (frame_of xs ∷ []) ∙ ap (λ b. frames_text (map frame_of pieces) ++ b) (append-nil (frame_text 0 (rendering_of xs))))
+
+-- a front of a text that isn't all of it, and the rest
+rest_of : (xs : List ℕ) (k : ℕ) → k < length xs → (0 < length (drop k xs)) × (take k xs ++ drop k xs ≡ xs)
+rest_of xs k l = (omega (arith, length-drop k xs), take-append-drop k xs)
+
+pub prints_start : (now : ℕ → DeviceTold) (n : ℕ) (start : Rest) (old : SinkTold) → PrintsOn now now n start start old old
+prints_start now n start old = record { pieces = []; sizes = tt; wide = omega arith; led = led_start now start; wrote = sym (with_bytes_none old) }
+
+-- what was printed is a front of a run, whatever the devices come to tell
+cut_later : (first now last : ℕ → DeviceTold) (start rest : Rest) (xs : List Element) → Led first now start rest xs → Tells now last rest → IsRunOfRest last start xs Cut
+cut_later first now last start rest xs h t = subst (λ (ys : List Element). IsRunOfRest last start ys Cut) (append-nil xs)
+    ((h.lead last (record { over = λ p l n. t.others p n; goes = t.goes })).gives [] Cut (can_stop last rest))
+
+tells_later : (a b c : ℕ → DeviceTold) (r : Rest) → Tells a b r → Tells b c Nil → Tells a c r
+tells_later a b c r h i = tells_on a b c r Nil (λ p l. absurd l) h i
+
+tells_of : (a b : ℕ → DeviceTold) (r : Rest) → Tells a b Nil → Tells a b r
+tells_of a b r h = record { goes = h.goes; others = λ p n. h.others p (λ l. l) }
+
+true_false : true ≢ false
+true_false e = cc
+
+module _ (first : ℕ → DeviceTold) (before now : Around) (n : ℕ) (start rest next : Rest) (old mid : SinkTold) (p : PrintsOn first before.told n start rest old mid) where
+  piece : (l : Load) → Turns before now n rest next (turn.Chunk l) → Sized n rest next (elements l) → IsPiece (widest n start) (elements l)
+  piece l k s = (k.gave.0, omega (arith, s.piece, p.wide))
+
+  pub prints_chunk : (new : SinkTold) (l : Load) → Turns before now n rest next (turn.Chunk l) → Sized n rest next (elements l) → new ≡ with_bytes mid (frame_text 0 (rendering_of (elements l)))
+      → PrintsOn first now.told n start next old new
+  prints_chunk new l k s w = record {
+    pieces = p.pieces ++ elements l ∷ [];
+    sizes = each_snoc (IsPiece (widest n start)) p.pieces (elements l) p.sizes (piece l k s);
+    wide = omega (arith, s.pieces, p.wide);
+    led = subst (λ xs. Led first now.told start next xs) (sym (elements_snoc p.pieces (elements l))) (led_chunk first before now n start rest next (elements_of p.pieces) p.led l k);
+    wrote = w ∙ (ap (λ s. with_bytes s (frame_text 0 (rendering_of (elements l)))) p.wrote
+        ∙ (with_bytes_twice old (frames_text (map frame_of p.pieces)) (frame_text 0 (rendering_of (elements l))) ∙ ap (λ b. with_bytes old b) (sym (frames_snoc p.pieces (elements l)))));
+  }
+
+  pub prints_quiet : Turns before now n rest next turn.Quiet → Sized n rest next [] → PrintsOn first now.told n start next old mid
+  prints_quiet k s = record { pieces = p.pieces; sizes = p.sizes; wide = omega (arith, s.pieces, p.wide); led = led_quiet first before now n start rest next (elements_of p.pieces) p.led k; wrote = p.wrote }
+
+  -- nothing was cut
+  abbrev whole : PrintsPieces (widest n start) old mid false
+  whole = record {
+    pieces = p.pieces;
+    sizes = p.sizes;
+    next = [];
+    rest = [];
+    cut = (refl, refl);
+    wrote = p.wrote ∙ ap (λ b. with_bytes old b) (sym (append-nil (frames_text (map frame_of p.pieces))));
+  }
+
+  pub prints_done : Turns before now n rest next turn.Done → PrintsRun {T = Unit {0}} (IsRunOfRest now.told start) (widest n start) old mid (Some how.Done) (Ok tt)
+  prints_done k = record {
+    how = how.Done;
+    ended_is = refl;
+    printed = whole;
+    run = record {
+      end = Done;
+      run = led_done first before now n start rest next (elements_of p.pieces) p.led k now.told (over_now now.told start);
+      goes_on = λ e. absurd (true_false (sym e));
+      reported = refl;
+      halted = λ e. absurd (true_false (sym e));
+      remembered = λ e. absurd (true_false (sym e));
+    };
+  }
+
+  pub prints_fault : (c : Code) → Turns before now n rest next (turn.Fault c) → PrintsRun {T = Unit {0}} (IsRunOfRest now.told start) (widest n start) old mid (Some (how.Fault c)) (Ok tt)
+  prints_fault c k = record {
+    how = how.Fault c;
+    ended_is = refl;
+    printed = whole;
+    run = record {
+      end = Fault c;
+      run = led_fault first before now n start rest next (elements_of p.pieces) p.led c k now.told (over_now now.told start);
+      goes_on = λ e. absurd (true_false (sym e));
+      reported = refl;
+      halted = λ e. absurd (true_false (sym e));
+      remembered = λ e. absurd (true_false (sym e));
+    };
+  }
+
+  module _ (last : ℕ → DeviceTold) (t : Tells now.told last Nil) where
+    stopped : Tells before.told now.told rest → IsRunOfRest last start (elements_of p.pieces) Cut
+    stopped h = cut_later first before.told last start rest (elements_of p.pieces) p.led (tells_later before.told now.told last rest h t)
+
+    -- memory was wanting in a turn
+    pub prints_wanting : Moved before now 0 rest → PrintsRun {T = Unit {0}} (IsRunOfRest last start) (widest n start) old mid (Some how.Memory) (Err not.Memory)
+    prints_wanting m = record {
+      how = how.Memory;
+      ended_is = refl;
+      printed = whole;
+      run = record { end = Cut; run = stopped (moved_tells before now 0 rest m); goes_on = λ e. absurd (true_false (sym e)); reported = inr refl; halted = λ e. absurd (true_false (sym e)); remembered = λ e. refl };
+    }
+
+    -- memory was wanting for the text of a piece
+    pub prints_unrendered : (new : SinkTold) (l : Load) → Turns before now n rest next (turn.Chunk l) → new ≡ mid → PrintsRun {T = Unit {0}} (IsRunOfRest last start) (widest n start) old new (Some how.Halted) (Err not.Memory)
+    prints_unrendered new l k e = subst (λ s. PrintsRun {T = Unit {0}} (IsRunOfRest last start) (widest n start) old s (Some how.Halted) (Err not.Memory)) (sym e) (record {
+      how = how.Halted;
+      ended_is = refl;
+      printed = whole;
+      run = record { end = Cut; run = stopped k.tells; goes_on = λ e. absurd (true_false (sym e)); reported = inl refl; halted = λ e. inr refl; remembered = λ e. absurd (true_false (sym e)) };
+    })
+
+    -- a write failed
+    pub prints_broken : (new : SinkTold) (l : Load) → Turns before now n rest next (turn.Chunk l) → Sized n rest next (elements l) → BreaksOff mid new (frame_text 0 (rendering_of (elements l)))
+        → PrintsRun {T = Unit {0}} (IsRunOfRest last start) (widest n start) old new (Some how.Halted) (Err not.Unwritten)
+    prints_broken new l k s b =
+        let text : List ℕ = frame_text 0 (rendering_of (elements l)) in
+        let parts = rest_of text b.count b.front in
+        record {
+          how = how.Halted;
+          ended_is = refl;
+          printed = record {
+            pieces = p.pieces;
+            sizes = p.sizes;
+            next = elements l;
+            rest = take b.count text;
+            cut = (piece l k s, drop b.count text, parts.0, parts.1);
+            wrote = b.told ∙ (ap (λ (x : SinkTold). let y : SinkTold = record (with_bytes x (take b.count text)) { faults = x.faults + 1 } in y) p.wrote
+                ∙ ap (λ (x : SinkTold). let y : SinkTold = record x { faults = old.faults + 1 } in y) (with_bytes_twice old (frames_text (map frame_of p.pieces)) (take b.count text)));
+          };
+          run = record {
+            end = Cut;
+            run = stopped k.tells;
+            goes_on = λ e. cut_later first now.told last start next (elements_of p.pieces ++ elements l) (led_chunk first before now n start rest next (elements_of p.pieces) p.led l k) (tells_of now.told last next t);
+            reported = inl refl;
+            halted = λ e. inl refl;
+            remembered = λ e. absurd (true_false (sym e));
+          };
+        }
+
+    -- a piece wasn't printed whole
+    pub prints_put : (new : SinkTold) (l : Load) (cause : NotPut) → Turns before now n rest next (turn.Chunk l) → Sized n rest next (elements l) → PutsLoad {T = Unit {0}} mid new 0 l (Err cause)
+        → PrintsRun {T = Unit {0}} (IsRunOfRest last start) (widest n start) old new (Some how.Halted) (Err cause)
+    prints_put new l not.Unwritten k s h = prints_broken new l k s h
+    prints_put new l not.Memory k s h = prints_unrendered new l k h.0

@@ -1,0 +1,27 @@
+-- What printing a stream to its end does.
+use Rattle.std.specs.Prelude.{◌≡◌, ℕ, Bool, true, false, Option, Some, Result, Ok, Err}
+use Rattle.chunk_core.specs.Outcomes.{Outcomes}
+use Rattle.chunk_core.specs.declared.code.How.{How}
+use Rattle.device_port.specs.Sink.{SinkTold}
+use Rattle.flume_cli.specs.declared.frame.NotPut.{NotPut}
+use Rattle.flume_cli.specs.declared.frame.NotPut.TheVariants as not
+use Rattle.flume_cli.specs.Alone.{PrintsPieces, IsRunIn}
+
+-- a write failed
+abbrev pub is_unwritten : {T : Type 0} → Result T NotPut → Bool
+is_unwritten (Ok u) = false
+is_unwritten (Err not.Unwritten) = true
+is_unwritten (Err not.Memory) = false
+
+-- memory was wanting
+abbrev pub is_wanting : {T : Type 0} → Result T NotPut → Bool
+is_wanting (Ok u) = false
+is_wanting (Err not.Unwritten) = false
+is_wanting (Err not.Memory) = true
+
+-- the stream has ended, and pieces of a run of at most size elements were printed, all of them or up to where this stopped it
+pub record PrintsRun {T : Type 0} (runs : Outcomes) (size : ℕ) (old new : SinkTold) (ended : Option How) (r : Result T NotPut) : Type 0 where
+  pub how : How
+  pub ended_is : ended ≡ Some how
+  pub printed : PrintsPieces size old new (is_unwritten r)
+  pub run : IsRunIn runs printed.pieces printed.next (is_unwritten r) (is_wanting r) how
