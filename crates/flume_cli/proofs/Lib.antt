@@ -17,3 +17,5 @@ pub mod AloneWork
 pub mod AlonePerforms
 pub mod CatRuns
 pub mod Printing
+pub mod Closing
+pub mod Retiring

@@ -8,6 +8,7 @@ pub mod life;
 pub mod outcome;
 pub mod print;
 pub mod report;
+pub(crate) mod retire;
 pub mod status;
 pub mod tail;
 pub mod top;

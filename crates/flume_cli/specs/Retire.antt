@@ -1,0 +1,20 @@
+-- Devices that go back to their depot.
+use Rattle.std.specs.Prelude.{◌≡◌, ℕ, ◌≤◌, List, ◌++◌, nat_eq, count_by}
+use Rattle.std.specs.List.Sorted.{IsPermutation}
+use Rattle.chunk_core.specs.Lists.{Each}
+use Rattle.device_port.specs.declared.device.Mode.TheVariants as mode
+use Rattle.device_port.specs.Device.{DeviceTold}
+use Rattle.device_port.specs.Depot.{DepotTold, MayReturn, KeepsFilesBut}
+
+-- each of these devices for reading may come back, and no two have one number
+pub record MayReturnAll (depot : DepotTold) (ds : List DeviceTold) : Type 0 where
+  pub each : Each (λ d. MayReturn depot d × (d.place.mode ≡ mode.Read)) ds
+  pub apart : (k : ℕ) → count_by (λ d. nat_eq d.number k) ds ≤ 1
+
+-- these devices came back, in any order, and no file has changed
+pub record Returns (old new : DepotTold) (ds : List DeviceTold) : Type 0 where
+  pub made : new.made ≡ old.made
+  pub back : List DeviceTold
+  pub retired : new.retired ≡ old.retired ++ back
+  pub each : IsPermutation ds back
+  pub files : KeepsFilesBut (λ path. ⊥) old.files new.files
