@@ -24,7 +24,7 @@ use Rattle.flume_cli.proofs.Accounts.{clean}
 use Rattle.flume_cli.proofs.AloneWork.{accounted, keeps_rules, homes, shown, faultless, root_closed}
 use Rattle.flume_cli.proofs.Pieces.{payloads_pieces, pieces_numbers, rendering_some}
 
-either_of : (b : Bool) → (b ≡ true) ⊎ (b ≡ false)
+pub either_of : (b : Bool) → (b ≡ true) ⊎ (b ≡ false)
 either_of true = inl refl
 either_of false = inr refl
 

@@ -19,3 +19,4 @@ pub mod CatRuns
 pub mod Printing
 pub mod Closing
 pub mod Retiring
+pub mod PartedRows
