@@ -43,7 +43,7 @@ module _ {V : Type 0} (told : V → DeviceTold) where
     Stands p = (x : Spent V) × IsAmong x shelf × (x.row ≡ p) × (told x.pay ≡ w p) × IsSpent (w p) x.ok
 
     parted_from : (i : ℕ) (xs : List (Option V)) → i + length xs ≡ n
-        → ((p : ℕ) (d : V) → slot_of p i xs ≡ Some (Some d) → (told d ≡ w p) × IsUnopened (w p))
+        → ((p : ℕ) (d : V) → slot_of p i xs ≡ Some (Some d) → (told d ≡ w p) × IsUnopened (w p) × ¬ (IsAmong p (firsts (said shelf))))
         → ((p : ℕ) → slot_of p i xs ≡ Some None → Stands p)
         → Parted told w shelf n i (filter_map (λ o. o) xs)
     parted_from i [] e f g = let s : n ≡ i = omega arith in subst (λ j. Parted told w shelf n j []) s none
@@ -55,16 +55,16 @@ module _ {V : Type 0} (told : V → DeviceTold) where
         (λ p h. let l = (slot_place p (suc i) None xs h).0 in g p (slot_past p i None xs (λ q. omega (arith, l)) ∙ h)))
     parted_from i (Some o ∷ xs) e f g =
         let y = f i o (slot_here i i (Some o) xs refl) in
-        unopened o y.0 y.1
+        unopened o y.0 y.1 y.2
         (parted_from (suc i) xs (omega arith)
         (λ p d h. let l = (slot_place p (suc i) (Some d) xs h).0 in f p d (slot_past p i (Some o) xs (λ q. omega (arith, l)) ∙ h))
         (λ p h. let l = (slot_place p (suc i) None xs h).0 in g p (slot_past p i (Some o) xs (λ q. omega (arith, l)) ∙ h)))
 
-  pub parted : (x : Site V) → InOrder told x → x.tree.seat.opened ≡ [] → AreDistinct (firsts (said x.tree.shelf))
+  pub parted : (x : Site V) → InOrder told x → x.tree.seat.opened ≡ [] → AreDistinct (firsts (said x.tree.shelf)) → ((r : ℕ) → IsAmong r x.tree.seat.empty → ¬ (IsAmong r (firsts (said x.tree.shelf))))
       → Parted told (told_at told x) x.tree.shelf (x.from + length x.slots) x.from (filter_map (λ o. o) x.slots)
-  parted x o none_open distinct =
+  parted x o none_open distinct vacant =
       parted_from (told_at told x) x.tree.shelf (x.from + length x.slots) x.from x.slots refl
-      (λ p d h. let e : told_at told x p ≡ told d = ap (λ s. told_by told s (pay_of x.tree p)) h in (sym e, subst IsUnopened (sym e) (o.waits p d h).1))
+      (λ p d h. let e : told_at told x p ≡ told d = ap (λ s. told_by told s (pay_of x.tree p)) h in (sym e, subst IsUnopened (sym e) (o.waits p d h).1, vacant p (o.waits p d h).0))
       (λ p h.
       ⊎_elim
       (λ r. absurd (among_nil (subst (λ l. IsAmong (p, r.0) l) none_open r.1)))

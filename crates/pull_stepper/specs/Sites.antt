@@ -5,10 +5,12 @@ use Rattle.device_port.specs.Device.{DeviceTold}
 use Rattle.device_port.specs.declared.device.Mode.TheVariants as mode
 use Rattle.pull_turns.specs.Around.{Around}
 use Rattle.res_ledger.specs.Ledger.{Covers, LiesWithin}
+use Rattle.res_ledger.specs.Order.{firsts}
 use Rattle.res_ledger.specs.Own.{opens, rows}
 use Rattle.row_seat.specs.Views.{HasRow, IsWithin}
 use Rattle.scope_tree.specs.declared.branch.Spent.{Spent}
 use Rattle.scope_tree.specs.Calls.{IsOpenScope, Seen, used}
+use Rattle.scope_tree.specs.Torn.{said}
 use Rattle.scope_tree.specs.Words.{owed, words}
 use Rattle.tree_laws.specs.Alone.{StaysAlone}
 use Rattle.tree_laws.specs.Called.{Called}
@@ -148,8 +150,8 @@ module _ {V : Type 0} where
       pub same : (p : ℕ) → SameDevice (told_at x p) (told_at y p)
       pub taken : (p : ℕ) → slot x p ≡ Some None → slot y p ≡ Some None
 
-    -- of the places from i to n - 1, which tell w, each device wasn't opened and is the next of these, or ended on the shelf
+    -- of the places from i to n - 1, which tell w, each device wasn't opened and is the next of these, and its row isn't on the shelf, or it ended there
     pub data Parted (w : ℕ → DeviceTold) (shelf : List (Spent V)) (n : ℕ) : ℕ → List V → Type 0 where
       none : Parted w shelf n n []
-      unopened : {i : ℕ} {ds : List V} (d : V) → told d ≡ w i → IsUnopened (w i) → Parted w shelf n (suc i) ds → Parted w shelf n i (d ∷ ds)
+      unopened : {i : ℕ} {ds : List V} (d : V) → told d ≡ w i → IsUnopened (w i) → ¬ (IsAmong i (firsts (said shelf))) → Parted w shelf n (suc i) ds → Parted w shelf n i (d ∷ ds)
       ended : {i : ℕ} {ds : List V} (x : Spent V) → IsAmong x shelf → x.row ≡ i → told x.pay ≡ w i → IsSpent (w i) x.ok → Parted w shelf n (suc i) ds → Parted w shelf n i ds

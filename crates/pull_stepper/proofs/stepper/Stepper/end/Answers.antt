@@ -20,7 +20,7 @@ returns-clause-ends g c =
     let same : c.end-outside.result.0 ≡ o = c.end-outside.ensures.outside in
     let closed : IsClosedScope (seen view t) 0 = root_closed (view t.seat) t.branches.items t.held.items sound.kept (c.requires.over.shut.scopes 0) in
     let unopened : c.of_vec.result ≡ filter_map (λ s. s) x.slots = c.of_vec.ensures ∙ (c.from_slots.ensures ∙ ap (λ r. filter_map (λ s. s) r.slots.items) same) in
-    let all = parted told x stands.order (nothing_open (view t.seat) t.branches.items t.held.items sound.kept closed) sound.shelved.distinct in
+    let all = parted told x stands.order (nothing_open (view t.seat) t.branches.items t.held.items sound.kept closed) sound.shelved.distinct sound.shelved.empty in
     record {
       tree = ap (λ r. seen view r.tree) same;
       how = c.end-outside.ensures.how;
