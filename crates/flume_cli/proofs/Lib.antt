@@ -1,12 +1,5 @@
-pub mod Copying
-pub mod Living
-pub mod Reading
 pub mod Accounting
-pub mod CatRows
-pub mod CatWork
-pub mod CatShows
-pub mod CatWhole
-pub mod Ledgers
+pub mod Unmade
 pub mod Telling
 pub mod Pieces
 pub mod Tallies
@@ -20,3 +13,6 @@ pub mod Printing
 pub mod Closing
 pub mod Retiring
 pub mod PartedRows
+pub mod NodeRuns
+pub mod StreamRuns
+pub mod CatReady

@@ -6,7 +6,7 @@ use Rattle.std.proofs.lemmas.List.Sorted.{IsPermutation-cons, IsPermutation-midd
 use Rattle.std.specs.List.Sorted.{IsPermutation}
 use Rattle.chunk_core.specs.Lists.{IsAmong}
 use Rattle.chunk_core.specs.Lists.IsAmong.{here, there}
-use Rattle.chunk_core.proofs.Members.{among_cons, among_left}
+use Rattle.chunk_core.proofs.Members.{among_nil, among_cons, among_left}
 use Rattle.chunk_core.proofs.Filters.{among_append, among_right}
 use Rattle.res_ledger.proofs.Prefixes.{split_at}
 use Rattle.res_ledger.specs.Order.{firsts}
@@ -15,31 +15,23 @@ use Rattle.device_port.specs.Device.{Place, DeviceTold}
 use Rattle.scope_tree.specs.declared.branch.Spent.{Spent}
 use Rattle.scope_tree.specs.Rows.{AreDistinct}
 use Rattle.scope_tree.specs.Torn.{said}
+use Rattle.pull_stepper.specs.Sites.{IsUnopened, IsSpent, Parted}
+use Rattle.pull_stepper.specs.Sites.Parted.{none, unopened, ended}
 use Rattle.flume_cli.proofs.Accounts.{false_by}
 use Rattle.flume_cli.proofs.AlonePerforms.{either_of}
 use Rattle.flume_cli.proofs.Closing.{Tells}
 use Rattle.flume_cli.proofs.Homes.{devices_from}
 use Rattle.flume_cli.proofs.Tallies.{count_append, count_cons}
 
--- STANDS HERE UNTIL pull_stepper HAS IT
-pub record IsUnopened (d : DeviceTold) : Type 0 where
-  pub is_open : d.is_open ≡ false
-  pub opens : d.opens ≡ 0
-  pub closes : d.closes ≡ 0
-  pub close_faults : d.close_faults ≡ 0
+module _ {V : Type 0} where
+  -- a row that stands on a shelf
+  row_in : (x : Spent V) (xs : List (Spent V)) → IsAmong x xs → IsAmong x.row (firsts (said xs))
+  row_in x xs (here ys) = here (firsts (said ys))
+  row_in x xs (there {xs = ys} y m) = there y.row (row_in x ys m)
 
-pub record IsSpent (d : DeviceTold) (ok : Bool) : Type 0 where
-  pub is_open : d.is_open ≡ false
-  pub opens : d.opens ≡ 1
-  pub closes : d.closes ≡ 1
-  pub answer : ok ≡ nat_eq d.close_faults 0
-
-pub data Parted {V : Type 0} (told : V → DeviceTold) (w : ℕ → DeviceTold) (shelf : List (Spent V)) (n : ℕ) : ℕ → List V → Type 0 where
-  none : Parted told w shelf n n []
-  unopened : {i : ℕ} {ds : List V} (d : V) → told d ≡ w i → IsUnopened (w i) → ((x : Spent V) → IsAmong x shelf → x.row ≢ i) → Parted told w shelf n (suc i) ds → Parted told w shelf n i (d ∷ ds)
-  ended : {i : ℕ} {ds : List V} (x : Spent V) → IsAmong x shelf → x.row ≡ i → told x.pay ≡ w i → IsSpent (w i) x.ok → Parted told w shelf n (suc i) ds → Parted told w shelf n i ds
-
--- UNTIL HERE
+  in_row : (r : ℕ) (xs : List (Spent V)) → IsAmong r (firsts (said xs)) → (x : Spent V) × IsAmong x xs × (x.row ≡ r)
+  in_row r [] m = absurd (among_nil m)
+  in_row r (x ∷ xs) m = ⊎_elim (λ e. (x, here xs, sym e)) (λ n. let y = in_row r xs n in (y.0, there x y.1, y.2)) (among_cons m)
 
 -- one more element stands within
 perm_step : (D A B M : List DeviceTold) (t : DeviceTold) → IsPermutation D ((A ++ B) ++ M) → IsPermutation (t ∷ D) ((A ++ t ∷ B) ++ M)
@@ -89,7 +81,7 @@ module _ {V : Type 0} (told : V → DeviceTold) (w : ℕ → DeviceTold) where
     Ended shelf q = (x : Spent V) × IsAmong x shelf × (x.row ≡ q) × (told x.pay ≡ w q) × IsSpent (w q) x.ok
 
     abbrev Waits : List (Spent V) → ℕ → Type 0
-    Waits shelf q = IsUnopened (w q) × ((x : Spent V) → IsAmong x shelf → x.row ≢ q)
+    Waits shelf q = IsUnopened (w q) × ¬ (IsAmong q (firsts (said shelf)))
 
     pub parted_at : (q : ℕ) {shelf : List (Spent V)} {i : ℕ} {ds : List V} → Parted told w shelf n i ds → i ≤ q → q < n → Waits shelf q ⊎ Ended shelf q
     parted_at q none l m = absurd (omega arith)
@@ -104,11 +96,16 @@ module _ {V : Type 0} (told : V → DeviceTold) (w : ℕ → DeviceTold) where
         (λ (b : q ≤ i). let e : i ≡ q = omega arith in subst (λ k. Waits shelf k ⊎ Ended shelf k) e (inr (x, a, r, t, s)))
         (cases_lt i q)
 
+    more_rows : (A B : List (Spent V)) (x : Spent V) (r : ℕ) → IsAmong r (firsts (said (A ++ B))) → IsAmong r (firsts (said (A ++ x ∷ B)))
+    more_rows A B x r m =
+        let y = in_row r (A ++ B) m in
+        subst (λ q. IsAmong q (firsts (said (A ++ x ∷ B)))) y.2 (row_in y.0 (A ++ x ∷ B) (⊎_elim (λ a. among_left (x ∷ B) a) (λ b. among_right y.0 A (x ∷ B) (there x b)) (among_append y.0 A B y.1)))
+
     -- rows below are not needed further on
     parted_less : (A B : List (Spent V)) (x : Spent V) {i : ℕ} {ds : List V} → Parted told w (A ++ x ∷ B) n i ds → x.row < i → Parted told w (A ++ B) n i ds
     parted_less A B x none l = none
     parted_less A B x (unopened d t u free p) l =
-        unopened d t u (λ y m. free y (⊎_elim (λ a. among_left (x ∷ B) a) (λ b. among_right y A (x ∷ B) (there x b)) (among_append y A B m))) (parted_less A B x p (omega arith))
+        unopened d t u (λ m. free (more_rows A B x _ m)) (parted_less A B x p (omega arith))
     parted_less A B x (ended y m r t s p) l =
         ended y
         (⊎_elim (λ a. among_left B a) (λ b. ⊎_elim (λ e. let f : y.row ≡ x.row = ap (λ (z : Spent V). z.row) e in absurd (omega (arith, f, r, l))) (λ c. among_right y A B c) (among_cons b)) (among_append y A (x ∷ B) m))
@@ -153,7 +150,7 @@ module _ {V : Type 0} (told : V → DeviceTold) (w : ℕ → DeviceTold) where
     parted_all shelf i [] (unopened d t u free p) once from e = let l = parted_below p in absurd (omega (arith, l, e))
     parted_all shelf i [] (ended x m r t s p) once from e = let l = parted_below p in absurd (omega (arith, l, e))
     parted_all shelf i (q ∷ ps) (unopened {ds = ds} d t u free p) once from e =
-        let later : AreFrom (suc i) shelf = λ x m. let b = from x m in let ne = free x m in (omega (arith, b.0, ne), b.1) in
+        let later : AreFrom (suc i) shelf = λ x m. let b = from x m in let ne : x.row ≢ i = λ s. free (subst (λ q. IsAmong q (firsts (said shelf))) s (row_in x shelf m)) in (omega (arith, b.0, ne), b.1) in
         let rest = parted_all shelf (suc i) ps p once later (omega (arith, e)) in
         subst (λ z. IsPermutation (z ∷ devices_from w (suc i) ps) (shelved shelf ++ told d ∷ map told ds)) t
         (IsPermutation-trans (told d ∷ devices_from w (suc i) ps) (told d ∷ (shelved shelf ++ map told ds)) (shelved shelf ++ told d ∷ map told ds) (IsPermutation-cons (told d) (devices_from w (suc i) ps) (shelved shelf ++ map told ds) rest)
@@ -180,7 +177,7 @@ module _ {V : Type 0} (told : V → DeviceTold) (w : ℕ → DeviceTold) where
       rows = λ x m.
           let b = from x m in
           ⊎_elim
-          (λ (u : Waits shelf x.row). absurd (u.1 x m refl))
+          (λ (u : Waits shelf x.row). absurd (u.1 (row_in x shelf m)))
           (λ (e : Ended shelf x.row).
           let is : e.0 ≡ x = same_row shelf once e.0 x e.1 m e.2 in
           (b.1, e.4.opens, sym (ap (λ (y : Spent V). y.ok) is) ∙ e.4.answer))

@@ -16,12 +16,11 @@ use Rattle.pull_turns.specs.Around.{Around}
 use Rattle.pull_turns.specs.Led.{Led, Tells, Turns}
 use Rattle.pull_turns.specs.Rest.{IsRunOfRest}
 use Rattle.pull_turns.specs.Sizes.{Sized, widest}
-use Rattle.pull_turns.specs.Turned.{Moved}
 use Rattle.pull_turns.specs.declared.rest.Rest.{Rest}
 use Rattle.pull_turns.specs.declared.rest.Rest.TheVariants.{Nil}
 use Rattle.pull_turns.specs.declared.turn.Turn.TheVariants as turn
 use Rattle.pull_turns.proofs.Leads.{can_stop}
-use Rattle.pull_turns.proofs.Led.{led_start, led_chunk, led_quiet, led_done, led_fault, moved_tells, over_now, tells_on}
+use Rattle.pull_turns.proofs.Led.{led_start, led_chunk, led_quiet, led_done, led_fault, over_now, tells_on}
 use Rattle.flume_cli.specs.declared.frame.NotPut.{NotPut}
 use Rattle.flume_cli.specs.declared.frame.NotPut.TheVariants as not
 use Rattle.flume_cli.specs.Alone.{elements_of, frame_of, IsPiece, PrintsPieces}
@@ -69,6 +68,30 @@ tells_of a b r h = record { goes = h.goes; others = λ p n. h.others p (λ l. l)
 true_false : true ≢ false
 true_false e = cc
 
+module _ (first before : ℕ → DeviceTold) (n : ℕ) (start rest : Rest) (old mid : SinkTold) (p : PrintsOn first before n start rest old mid) where
+  -- nothing was cut
+  abbrev whole : PrintsPieces (widest n start) old mid false
+  whole = record {
+    pieces = p.pieces;
+    sizes = p.sizes;
+    next = [];
+    rest = [];
+    cut = (refl, refl);
+    wrote = p.wrote ∙ ap (λ b. with_bytes old b) (sym (append-nil (frames_text (map frame_of p.pieces))));
+  }
+
+  stopped : (now last : ℕ → DeviceTold) → Tells before now rest → Tells now last Nil → IsRunOfRest last start (elements_of p.pieces) Cut
+  stopped now last h t = cut_later first before last start rest (elements_of p.pieces) p.led (tells_later before now last rest h t)
+
+  -- memory was wanting in a turn
+  pub prints_wanting : (now last : ℕ → DeviceTold) → Tells before now rest → Tells now last Nil → PrintsRun {T = Unit {0}} (IsRunOfRest last start) (widest n start) old mid (Some how.Memory) (Err not.Memory)
+  prints_wanting now last h t = record {
+    how = how.Memory;
+    ended_is = refl;
+    printed = whole;
+    run = record { end = Cut; run = stopped now last h t; goes_on = λ e. absurd (true_false (sym e)); reported = inr refl; halted = λ e. absurd (true_false (sym e)); remembered = λ e. refl };
+  }
+
 module _ (first : ℕ → DeviceTold) (before now : Around) (n : ℕ) (start rest next : Rest) (old mid : SinkTold) (p : PrintsOn first before.told n start rest old mid) where
   piece : (l : Load) → Turns before now n rest next (turn.Chunk l) → Sized n rest next (elements l) → IsPiece (widest n start) (elements l)
   piece l k s = (k.gave.0, omega (arith, s.piece, p.wide))
@@ -87,22 +110,11 @@ module _ (first : ℕ → DeviceTold) (before now : Around) (n : ℕ) (start res
   pub prints_quiet : Turns before now n rest next turn.Quiet → Sized n rest next [] → PrintsOn first now.told n start next old mid
   prints_quiet k s = record { pieces = p.pieces; sizes = p.sizes; wide = omega (arith, s.pieces, p.wide); led = led_quiet first before now n start rest next (elements_of p.pieces) p.led k; wrote = p.wrote }
 
-  -- nothing was cut
-  abbrev whole : PrintsPieces (widest n start) old mid false
-  whole = record {
-    pieces = p.pieces;
-    sizes = p.sizes;
-    next = [];
-    rest = [];
-    cut = (refl, refl);
-    wrote = p.wrote ∙ ap (λ b. with_bytes old b) (sym (append-nil (frames_text (map frame_of p.pieces))));
-  }
-
   pub prints_done : Turns before now n rest next turn.Done → PrintsRun {T = Unit {0}} (IsRunOfRest now.told start) (widest n start) old mid (Some how.Done) (Ok tt)
   prints_done k = record {
     how = how.Done;
     ended_is = refl;
-    printed = whole;
+    printed = whole first before.told n start rest old mid p;
     run = record {
       end = Done;
       run = led_done first before now n start rest next (elements_of p.pieces) p.led k now.told (over_now now.told start);
@@ -117,7 +129,7 @@ module _ (first : ℕ → DeviceTold) (before now : Around) (n : ℕ) (start res
   prints_fault c k = record {
     how = how.Fault c;
     ended_is = refl;
-    printed = whole;
+    printed = whole first before.told n start rest old mid p;
     run = record {
       end = Fault c;
       run = led_fault first before now n start rest next (elements_of p.pieces) p.led c k now.told (over_now now.told start);
@@ -129,25 +141,13 @@ module _ (first : ℕ → DeviceTold) (before now : Around) (n : ℕ) (start res
   }
 
   module _ (last : ℕ → DeviceTold) (t : Tells now.told last Nil) where
-    stopped : Tells before.told now.told rest → IsRunOfRest last start (elements_of p.pieces) Cut
-    stopped h = cut_later first before.told last start rest (elements_of p.pieces) p.led (tells_later before.told now.told last rest h t)
-
-    -- memory was wanting in a turn
-    pub prints_wanting : Moved before now 0 rest → PrintsRun {T = Unit {0}} (IsRunOfRest last start) (widest n start) old mid (Some how.Memory) (Err not.Memory)
-    prints_wanting m = record {
-      how = how.Memory;
-      ended_is = refl;
-      printed = whole;
-      run = record { end = Cut; run = stopped (moved_tells before now 0 rest m); goes_on = λ e. absurd (true_false (sym e)); reported = inr refl; halted = λ e. absurd (true_false (sym e)); remembered = λ e. refl };
-    }
-
     -- memory was wanting for the text of a piece
     pub prints_unrendered : (new : SinkTold) (l : Load) → Turns before now n rest next (turn.Chunk l) → new ≡ mid → PrintsRun {T = Unit {0}} (IsRunOfRest last start) (widest n start) old new (Some how.Halted) (Err not.Memory)
     prints_unrendered new l k e = subst (λ s. PrintsRun {T = Unit {0}} (IsRunOfRest last start) (widest n start) old s (Some how.Halted) (Err not.Memory)) (sym e) (record {
       how = how.Halted;
       ended_is = refl;
-      printed = whole;
-      run = record { end = Cut; run = stopped k.tells; goes_on = λ e. absurd (true_false (sym e)); reported = inl refl; halted = λ e. inr refl; remembered = λ e. absurd (true_false (sym e)) };
+      printed = whole first before.told n start rest old mid p;
+      run = record { end = Cut; run = stopped first before.told n start rest old mid p now.told last k.tells t; goes_on = λ e. absurd (true_false (sym e)); reported = inl refl; halted = λ e. inr refl; remembered = λ e. absurd (true_false (sym e)) };
     })
 
     -- a write failed
@@ -170,7 +170,7 @@ module _ (first : ℕ → DeviceTold) (before now : Around) (n : ℕ) (start res
           };
           run = record {
             end = Cut;
-            run = stopped k.tells;
+            run = stopped first before.told n start rest old mid p now.told last k.tells t;
             goes_on = λ e. cut_later first now.told last start next (elements_of p.pieces ++ elements l) (led_chunk first before now n start rest next (elements_of p.pieces) p.led l k) (tells_of now.told last next t);
             reported = inl refl;
             halted = λ e. inl refl;

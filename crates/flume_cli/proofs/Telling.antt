@@ -26,7 +26,7 @@ use Rattle.flume_cli.specs.Cat.{cat_work, deed_of, and_one, RunsCat}
 use Rattle.flume_cli.specs.Headline.{Call, Headline, Does, IsText, SaysTail, IsToldLine, is_tellable}
 use Rattle.flume_cli.specs.Call.{call_of}
 use Rattle.flume_cli.specs.Finish.{Finishes, PrintsTail, Prints, status_by}
-use Rattle.flume_cli.proofs.CatWork.{true_false}
+use Rattle.flume_cli.proofs.Accounts.{true_false}
 
 rose : (a b : ℕ) → b ≡ a + 1 → nat_lt a b ≡ true
 rose a b e = grind (arith, nat_tests)

@@ -5,6 +5,11 @@ use Rattle.chunk_core.specs.declared.code.How.{How}
 use Rattle.device_port.specs.Sink.{SinkTold}
 use Rattle.flume_cli.specs.declared.frame.NotPut.{NotPut}
 use Rattle.flume_cli.specs.declared.frame.NotPut.TheVariants as not
+use Rattle.device_port.specs.Device.{DeviceTold}
+use Rattle.pull_turns.specs.Rest.{IsRunOfRest}
+use Rattle.pull_turns.specs.Sizes.{widest}
+use Rattle.pull_stepper.specs.Sites.{told_at}
+use Rattle.pull_stepper.specs.Stepping.{Stepping}
 use Rattle.flume_cli.specs.Alone.{PrintsPieces, IsRunIn}
 
 -- a write failed
@@ -25,3 +30,7 @@ pub record PrintsRun {T : Type 0} (runs : Outcomes) (size : ℕ) (old new : Sink
   pub ended_is : ended ≡ Some how
   pub printed : PrintsPieces size old new (is_unwritten r)
   pub run : IsRunIn runs printed.pieces printed.next (is_unwritten r) (is_wanting r) how
+
+-- a stepper was run to its end: what was printed are pieces of a run of what was left of its node
+abbrev pub PrintsAll : {V T : Type 0} → (V → DeviceTold) → Stepping V → Stepping V → SinkTold → SinkTold → Result T NotPut → Type 0
+PrintsAll told a b old new r = PrintsRun (IsRunOfRest (told_at told b.site) a.rest) (widest a.chunk a.rest) old new b.how r

@@ -1,10 +1,15 @@
 -- Devices that go back to their depot.
-use Rattle.std.specs.Prelude.{◌≡◌, ℕ, ◌≤◌, List, ◌++◌, nat_eq, count_by}
+use Rattle.std.specs.Prelude.{◌≡◌, ℕ, ◌≤◌, List, ◌++◌, map, nat_eq, count_by}
 use Rattle.std.specs.List.Sorted.{IsPermutation}
 use Rattle.chunk_core.specs.Lists.{Each}
 use Rattle.device_port.specs.declared.device.Mode.TheVariants as mode
 use Rattle.device_port.specs.Device.{DeviceTold}
 use Rattle.device_port.specs.Depot.{DepotTold, MayReturn, KeepsFilesBut}
+use Rattle.scope_tree.specs.declared.branch.Spent.{Spent}
+
+-- the devices on a shelf, and those that were never opened
+abbrev pub devices_of : {V : Type 0} → (V → DeviceTold) → List (Spent V) → List V → List DeviceTold
+devices_of told shelf unopened = map (λ x. told x.pay) shelf ++ map told unopened
 
 -- each of these devices for reading may come back, and no two have one number
 pub record MayReturnAll (depot : DepotTold) (ds : List DeviceTold) : Type 0 where

@@ -1,48 +1,61 @@
 //! The command `cat`: one file, printed in frames.
-ghost use Rattle.std.specs.Prelude.{◌≡◌, ℕ, ◌-◌, ◌^◌, ◌<◌, IfOk, length, vec_capacity, [], ◌∷◌};
-ghost use Rattle.res_ledger.specs.declared.event.StreamNo.TheVariants.{Inner};
-ghost use Rattle.row_seat.specs.PlainSeats.{shown, Sits};
-ghost use Rattle.row_seat.specs.Views.{start};
-ghost use Rattle.flume_cli.specs.Life.{IsUnused};
-ghost use Rattle.flume_cli.specs.Cat.{IsJustMade, RunsRow, RunsMade, RunsCat};
-ghost use Rattle.run_rules.specs.Facts.{is_halted as is_halted_end};
-ghost use Rattle.flume_cli.specs.Room.{IsReady};
+ghost use Rattle.std.specs.Prelude.{◌≡◌, ◌-◌, ◌^◌, ◌<◌, ◌++◌, [], ◌∷◌, IfOk, map};
+ghost use Rattle.pull_stepper.specs.Stepping.{IsSupplied};
+ghost use Rattle.flume_cli.specs.Cat.{RunsCat};
+ghost use Rattle.flume_cli.specs.Ready.{IsCatNode, IsReady};
+ghost use Rattle.flume_cli.specs.Retire.{MayReturnAll, Returns, devices_of};
+ghost use Rattle.flume_cli.specs.Streams.{IsRoomFor, RunsStream};
 
-use crate::life::run_device;
+use crate::alone::{Ran, Room, run_alone};
 use crate::outcome::Outcome;
-use chunk_core::{How, List, Word};
+use crate::retire::{retire_all, retire_shelf};
+use chunk_core::{List, Word};
 use device_port::{Depot, Device, Mode, Sink};
+use pull_nodes::Node;
 use res_ledger::StreamNo;
-use row_seat::{PlainSeat, PlainTable, RowSeat};
-use run_rules::EndOf;
+use row_seat::PlainSeat;
 use std::alloc::{AllocError, Global};
 
-/// The room that `cat` takes before it opens its file.
-struct Room<P> {
-    seat: PlainSeat<P>,
-    table: PlainTable<P>,
-    buffer: Vec<u8>,
-    ends: Vec<EndOf>,
+/// What `cat` makes before its device: the node, its room, and room for the device.
+#[derive(Drop)]
+struct Ready<V> {
+    node: Node,
+    room: Room<V>,
+    devices: Vec<V>,
 }
 
-/// Makes the buffer, the room for the end, and the seat with room for its row and its events.
-fn make_room<P: Drop>(alloc: Global, chunk: u32) -> Result<Room<P>, AllocError>
-    requires { 0 < chunk }
-    ensures { IfOk result (IsReady chunk) }
+/// A file that is opened and read.
+fn cat_node(alloc: Global) -> Result<Node, AllocError>
+    ensures { IfOk result IsCatNode }
 {
-    let buffer = vec![in alloc; 0; chunk as usize]?;
+    let read = Box::new(alloc, Node::Read(0))?;
+    Ok(Node::Weak(0, read))
+}
+
+/// Makes the node, a seat with room for its row and its events, and the rest.
+fn make_ready<V: Drop>(alloc: Global) -> Result<Ready<V>, AllocError>
+    ensures { IfOk result IsReady }
+{
+    let node = cat_node(alloc)?;
+    let devices = Vec::with_capacity(alloc, 1)?;
     let ends = Vec::with_capacity(alloc, 1)?;
+    let scopes = scope_tree::Room::new(alloc, 1, 1)?;
     let (seat, table) = PlainSeat::new(alloc, StreamNo::Inner(0), 1, 3)?;
-    Ok(Room {
+    let room = Room {
         seat,
         table,
-        buffer,
+        scopes,
         ends,
+    };
+    Ok(Ready {
+        node,
+        room,
+        devices,
     })
 }
 
-/// Prints the file at a path as frames of stream 0, in pieces of `chunk` bytes. All room is made
-/// before the file is opened, and nothing after that takes memory.
+/// Prints the file at a path as frames of stream 0, in pieces of at most `chunk` bytes. The room
+/// for what is noted and closed is made before the file is opened.
 pub fn run_cat<D: Depot, K: Sink>(
     alloc: Global,
     path: &Word,
@@ -54,78 +67,53 @@ pub fn run_cat<D: Depot, K: Sink>(
     requires room { (K.told out.old).faults < 2 ^ 64 - 1 }
     ensures { RunsCat path.now chunk (D.told depot.old) (D.told depot.new) (K.told out.old) (K.told out.new) result }
 {
+    let Ok(ready) = make_ready(alloc) else {
+        return Outcome::unmade(alloc);
+    };
     match depot.make(alloc, path, Mode::Read) {
-        Ok(device) => run_made(alloc, chunk, depot, device, out),
-        Err(_) => Outcome::unmade(alloc),
+        Ok(device) => {
+            let ran = run_ready(alloc, ready, device, chunk, out);
+            retire(depot, ran)
+        }
+        Err(AllocError) => Outcome::unmade(alloc),
     }
 }
 
-/// Runs stream 0 over a device that was just made, and gives it back.
-fn run_made<D: Depot, K: Sink>(
+/// Runs stream 0 over its device.
+fn run_ready<V: Device + Drop, K: Sink>(
     alloc: Global,
+    ready: Ready<V>,
+    device: V,
     chunk: u32,
-    depot: &mut D,
-    device: D::Dev,
     out: &mut K,
-) -> Outcome
+) -> Ran<V>
+    requires ready { IsReady ready }
+    requires device { IsSupplied V.told ready.node (device ∷ []) }
     requires chunk { 0 < chunk }
-    requires device { IsJustMade (D.told depot.old) (D.Dev.Device.told device) }
-    requires room { (K.told out.old).faults < 2 ^ 64 - 1 }
-    ensures { RunsMade (D.told depot.old) (D.told depot.new) (D.Dev.Device.told device) (K.told out.old) (K.told out.new) chunk result }
-{
-    match make_room(alloc, chunk) {
-        Ok(room) => {
-            let (outcome, device) = run_in(room, device, out);
-            depot.retire(device);
-            outcome
-        }
-        Err(_) => {
-            depot.retire(device);
-            Outcome::unmade(alloc)
-        }
-    }
-}
-
-/// Runs stream 0 in the room that was made.
-fn run_in<P: Device + Drop, K: Sink>(room: Room<P>, device: P, out: &mut K) -> (Outcome, P)
-    requires room { IsReady (length room.buffer.items) room }
-    requires device { IsUnused (P.told device) }
     requires sink { (K.told out.old).faults < 2 ^ 64 - 1 }
-    ensures { RunsRow (P.told device) (P.told result.1) (K.told out.old) (K.told out.new) (length room.buffer.items) result.0 }
+    ensures { RunsStream V.told ready.node (device ∷ []) chunk (K.told out.old) (K.told out.new) result }
 {
-    let Room {
-        mut seat,
-        mut table,
-        mut buffer,
-        ends,
-    } = room;
-    let (how, device) = run_device(&mut seat, &mut table, device, out, &mut buffer);
-    let outcome = Outcome {
-        ends: ends_of(ends, how),
-        ledger: seat.finish(&mut table),
-        sink_failed: is_halted(how),
-        memory: false,
-    };
-    (outcome, device)
+    let Ready {
+        node,
+        room,
+        mut devices,
+    } = ready;
+    devices.push(device).unwrap();
+    run_alone(alloc, room, node, List::of_vec(devices), chunk, out)
 }
 
-/// The end of stream 0, in the room that was made for it.
-fn ends_of(ends: Vec<EndOf>, how: How) -> List<EndOf>
-    requires none { ends.items ≡ [] }
-    requires room { vec_capacity ends ≡ 1 }
-    ensures { result ≡ record { who = Inner 0; how = how } ∷ [] }
+/// Gives the devices of a stream back.
+fn retire<D: Depot>(depot: &mut D, ran: Ran<D::Dev>) -> Outcome
+    requires { MayReturnAll (D.told depot.old) (devices_of D.Dev.Device.told ran.shelf ran.unopened) }
+    ensures returns { Returns (D.told depot.old) (D.told depot.new) (devices_of D.Dev.Device.told ran.shelf ran.unopened) }
+    ensures outcome { result ≡ ran.outcome }
 {
-    let mut ends = ends;
-    let end = EndOf {
-        who: StreamNo::Inner(0),
-        how,
-    };
-    ends.push(end).unwrap();
-    List::of_vec(ends)
-}
-
-fn is_halted(how: How) -> bool
-    ensures { result ≡ is_halted_end how }
-{
-    matches!(how, How::Halted)
+    let Ran {
+        outcome,
+        shelf,
+        unopened,
+    } = ran;
+    retire_shelf(depot, shelf);
+    retire_all(depot, unopened);
+    outcome
 }

@@ -1,12 +1,12 @@
 //! The top call: what the words of a command line mean, the commands, and how a call ended.
 #![tactic(auto)]
 
+pub(crate) mod alone;
 pub mod cat;
-pub mod copy;
 pub mod frame;
-pub mod life;
+pub(crate) mod node;
 pub mod outcome;
-pub mod print;
+pub(crate) mod print;
 pub mod report;
 pub(crate) mod retire;
 pub mod status;

@@ -1,54 +1,68 @@
 //! What a stream gives, printed piece by piece.
-ghost use Rattle.std.specs.Prelude.{◌≡◌, ◌-◌, ◌^◌, ◌<◌, None, false, length};
+ghost use Rattle.std.specs.Prelude.{◌≡◌, ◌-◌, ◌^◌, ◌<◌, None, Err, length};
 ghost use Rattle.chunk_core.specs.Elements.{elements};
-ghost use Rattle.pull_turns.specs.Rest.{CanStep, IsRunOfRest};
-ghost use Rattle.pull_turns.specs.Led.{IsShut};
-ghost use Rattle.pull_turns.specs.Sizes.{widest};
+ghost use Rattle.scope_tree.specs.Calls.{IsOpenScope};
+ghost use Rattle.pull_stepper.specs.Held.{Finishes};
+ghost use Rattle.pull_stepper.specs.Sites.{Since};
+ghost use Rattle.pull_stepper.specs.Steppers.{Works, stepping};
+ghost use Rattle.pull_stepper.specs.Stepping.{CanGo, Halts, IsOver};
 ghost use Rattle.flume_cli.specs.Frame.{PutsLoad};
-ghost use Rattle.flume_cli.specs.Printing.{PrintsRun};
+ghost use Rattle.flume_cli.specs.Printing.{PrintsAll};
 
 use crate::frame::{NotPut, put_load};
 use chunk_core::Load;
-use device_port::Sink;
-use pull_turns::{Outside, Runner, Turn};
+use device_port::{Device, Sink};
+use pull_stepper::{Held, Stepper};
+use pull_turns::Turn;
+use row_seat::RowSeat;
 use std::alloc::{AllocError, Global};
 
 /// Runs a stream to its end and prints each piece as a frame of stream 0. The stream is halted where
 /// a write fails or memory is wanting.
-pub fn print_all<O: Outside, K: Sink>(
+pub(crate) fn print_all<V: Device, S: RowSeat<Pay = Held<V>>, K: Sink>(
     alloc: Global,
-    runner: &mut Runner<O>,
-    desk: &mut O::Desk,
+    stepper: &mut Stepper<S, V>,
+    desk: &mut S::Desk,
     out: &mut K,
 ) -> Result<(), NotPut>
-    requires fits { O.fits runner.old.outside desk.old }
-    requires runs { (runner.old.how ≡ None) × (runner.old.wanting ≡ false) }
-    requires can { CanStep (O.seen runner.old.outside) 0 runner.old.rest }
-    requires chunk { 0 < runner.old.chunk }
+    requires fits { Works S.view V.told S.fits stepper.old desk.old }
+    requires can { CanGo V.told (stepping S.view stepper.old) }
     requires room { (K.told out.old).faults < 2 ^ 64 - 1 }
-    ensures prints { PrintsRun (IsRunOfRest (O.seen runner.new.outside).told runner.old.rest) (widest runner.old.chunk runner.old.rest) (K.told out.old) (K.told out.new) runner.new.how result }
-    ensures shut { IsShut (O.seen runner.new.outside) }
-    ensures fits { O.fits runner.new.outside desk.new }
-    ensures since { O.since runner.old.outside desk.old runner.new.outside desk.new }
+    ensures prints { PrintsAll V.told (stepping S.view stepper.old) (stepping S.view stepper.new) (K.told out.old) (K.told out.new) result }
+    ensures over { IsOver V.told (stepping S.view stepper.new) }
+    ensures fits { Works S.view V.told S.fits stepper.new desk.new }
+    ensures since { Since V.told (Finishes V.told) (stepping S.view stepper.old).site (stepping S.view stepper.new).site }
 {
     'turns: loop {
-        match runner.turn(desk) {
+        match stepper.turn(desk) {
             Ok(Turn::Chunk(load)) => match print_load(alloc, load, out) {
                 Ok(()) => {}
-                Err(cause) => {
-                    runner.halt(desk);
-                    return Err(cause);
-                }
+                Err(cause) => return stop(stepper, desk, cause),
             },
             Ok(Turn::Quiet) => {}
             Ok(Turn::Done) => return Ok(()),
             Ok(Turn::Fault(_)) => return Ok(()),
-            Err(AllocError) => {
-                runner.halt(desk);
-                return Err(NotPut::Memory);
-            }
+            Err(AllocError) => return stop(stepper, desk, NotPut::Memory),
         }
     }
+}
+
+/// Halts a stream, and tells why.
+fn stop<V: Device, S: RowSeat<Pay = Held<V>>>(
+    stepper: &mut Stepper<S, V>,
+    desk: &mut S::Desk,
+    cause: NotPut,
+) -> Result<(), NotPut>
+    requires fits { Works S.view V.told S.fits stepper.old desk.old }
+    requires runs { (stepping S.view stepper.old).how ≡ None }
+    requires root { IsOpenScope (stepping S.view stepper.old).site.tree 0 }
+    ensures cause { result ≡ Err cause }
+    ensures halts { Halts V.told (stepping S.view stepper.old) (stepping S.view stepper.new) }
+    ensures fits { Works S.view V.told S.fits stepper.new desk.new }
+    ensures since { Since V.told (Finishes V.told) (stepping S.view stepper.old).site (stepping S.view stepper.new).site }
+{
+    stepper.halt(desk);
+    Err(cause)
 }
 
 /// Prints a load as a frame of stream 0.

@@ -4,6 +4,8 @@ ghost use Rattle.flume_cli.specs.Retire.{MayReturnAll, Returns};
 
 use chunk_core::List;
 use device_port::Depot;
+use pull_stepper::Held;
+use scope_tree::Spent;
 
 /// Gives devices back to the depot that made them.
 pub(crate) fn retire_all<D: Depot>(depot: &mut D, devices: List<D::Dev>)
@@ -13,5 +15,17 @@ pub(crate) fn retire_all<D: Depot>(depot: &mut D, devices: List<D::Dev>)
     let mut left = devices.into_vec();
     while let Some(device) = left.pop() {
         depot.retire(device);
+    }
+}
+
+/// Gives the devices on a shelf back to the depot that made them.
+pub(crate) fn retire_shelf<D: Depot>(depot: &mut D, shelf: List<Spent<Held<D::Dev>>>)
+    requires { MayReturnAll (D.told depot.old) (map (λ x. D.Dev.Device.told x.pay) shelf) }
+    ensures { Returns (D.told depot.old) (D.told depot.new) (map (λ x. D.Dev.Device.told x.pay) shelf) }
+{
+    let mut left = shelf.into_vec();
+    while let Some(spent) = left.pop() {
+        let Spent { row: _, pay, ok: _ } = spent;
+        depot.retire(pay.into_device());
     }
 }

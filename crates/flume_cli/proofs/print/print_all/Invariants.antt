@@ -1,19 +1,26 @@
-use Rattle.std.proofs.Common.{◌≡◌, ◌+◌, None, false}
-use Rattle.pull_turns.specs.Rest.{CanStep, left}
+use Rattle.std.proofs.Common.{◌≡◌, ◌+◌}
+use Rattle.pull_turns.specs.Rest.{left}
 use Rattle.pull_turns.specs.Sizes.{most}
+use Rattle.pull_stepper.specs.Held.{Finishes}
+use Rattle.pull_stepper.specs.Sites.{Since, told_at}
+use Rattle.pull_stepper.specs.Steppers.{Works, stepping}
+use Rattle.pull_stepper.specs.Stepping.{CanGo}
 use Rattle.flume_cli.proofs.Printing.{PrintsOn}
 use Rattle.flume_cli.proofs.print.print_all.Given as goal
 
 abbrev pub invariant-turns : goal.invariant-turns
-invariant-turns g l = record {
-  fits : g.O.Outside.fits l.runner.outside l.desk;
-  since : g.O.Outside.since l.fn.runner.outside l.fn.desk l.runner.outside l.desk;
-  runs : (l.runner.how ≡ None) × (l.runner.wanting ≡ false);
-  can : CanStep (g.O.Outside.seen l.runner.outside) 0 l.runner.rest;
-  chunk : l.runner.chunk ≡ l.fn.runner.chunk;
-  prints : PrintsOn (g.O.Outside.seen l.fn.runner.outside).told (g.O.Outside.seen l.runner.outside).told l.fn.runner.chunk l.fn.runner.rest l.runner.rest (g.K.Sink.told l.fn.out) (g.K.Sink.told l.out);
-}
+invariant-turns g l =
+    let a = stepping g.S.RowSeat.view l.fn.stepper in
+    let b = stepping g.S.RowSeat.view l.stepper in
+    let told = g.V.Device.told in
+    record {
+      fits : Works g.S.RowSeat.view g.V.Device.told g.S.RowSeat.fits l.stepper l.desk;
+      since : Since told (Finishes told) a.site b.site;
+      can : CanGo told b;
+      chunk : b.chunk ≡ a.chunk;
+      prints : PrintsOn (told_at told a.site) (told_at told b.site) a.chunk a.rest b.rest (g.K.Sink.told l.fn.out) (g.K.Sink.told l.out);
+    }
 
 -- each turn gives elements or makes an entry or a leaving
 abbrev pub decreases-turns : goal.decreases-turns
-decreases-turns g l = most l.runner.rest + left l.runner.rest
+decreases-turns g l = let b = stepping g.S.RowSeat.view l.stepper in most b.rest + left b.rest

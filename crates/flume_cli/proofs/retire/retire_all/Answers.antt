@@ -1,13 +1,8 @@
 -- The last device of the list goes back.
-use Rattle.std.proofs.Common.{◌≡◌, List, [], ◌∷◌, ◌++◌, length, arith, refl, map, ap, subst, sym, ◌∙◌}
-use Rattle.std.proofs.lemmas.List.{map-append}
-use Rattle.device_port.specs.Device.{DeviceTold}
+use Rattle.std.proofs.Common.{arith, map, subst, sym}
 use Rattle.flume_cli.specs.Retire.{MayReturnAll}
-use Rattle.flume_cli.proofs.Retiring.{Returning, returning_start, returning_more, returned, may_last}
+use Rattle.flume_cli.proofs.Retiring.{Returning, last_told, none_left, returning_start, returning_more, returned, may_last}
 use Rattle.flume_cli.proofs.retire.retire_all.Goals as goal
-
-last_told : {V : Type 0} (told : V → DeviceTold) (all left : List V) (d : V) → all ≡ left ++ d ∷ [] → map told all ≡ map told left ++ told d ∷ []
-last_told told all left d e = ap (λ xs. map told xs) e ∙ map-append told left (d ∷ [])
 
 pub loop-device-init : goal.loop-device-init
 loop-device-init g c =
@@ -25,10 +20,6 @@ loop-device-preserved g c =
     returning_more (g.D.Depot.told c.args.depot.now) (g.D.Depot.told c.loop-device.depot) (g.D.Depot.told c.retire.new.self) (map (λ d. g.D.Dev.Device.told d) c.args.devices) (map (λ d. g.D.Dev.Device.told d) c.pop.new.self.items) (g.D.Dev.Device.told c.in-Some.device)
     c.retire.ensures.retired c.retire.ensures.made c.retire.ensures.files
     (subst (λ xs. Returning (g.D.Depot.told c.args.depot.now) (g.D.Depot.told c.loop-device.depot) (map (λ d. g.D.Dev.Device.told d) c.args.devices) xs) e c.loop-device.invariant)
-
-none_left : {A : Type 0} (xs : List A) → length xs ≡ 0 → xs ≡ []
-none_left [] e = refl
-none_left (x ∷ xs) e = absurd (omega arith)
 
 pub returns : goal.returns
 returns g c =

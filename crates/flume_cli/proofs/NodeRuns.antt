@@ -1,0 +1,112 @@
+-- A node that was run to its end, or that couldn't be begun.
+use Rattle.std.proofs.Common.{◌≡◌, ℕ, ◌+◌, Bool, true, false, List, [], ◌∷◌, ◌++◌, inl, inr, map, length, Some, Result, Err, refl, sym, ◌∙◌, ap, subst, ⊎_elim, arith, append-nil}
+use Rattle.std.proofs.lemmas.List.{length-map}
+use Rattle.std.specs.List.{filter_map}
+use Rattle.chunk_core.specs.Lists.{IsAmong}
+use Rattle.chunk_core.proofs.Members.{among_nil}
+use Rattle.chunk_core.specs.Outcomes.{Cut}
+use Rattle.chunk_core.specs.declared.code.How.{How}
+use Rattle.chunk_core.specs.declared.code.How.TheVariants as how
+use Rattle.device_port.specs.Device.{DeviceTold}
+use Rattle.device_port.specs.Sink.{SinkTold}
+use Rattle.device_port.proofs.Puts.{with_bytes_none}
+use Rattle.pull_nodes.specs.Runs.{IsRun}
+use Rattle.pull_nodes.specs.Shape.{places_of}
+use Rattle.pull_nodes.specs.declared.node.Node.{Node}
+use Rattle.pull_turns.specs.Sizes.{widest_of}
+use Rattle.res_ledger.specs.Order.{firsts}
+use Rattle.row_seat.specs.declared.view.View.{View}
+use Rattle.row_seat.specs.Views.{IsWithin}
+use Rattle.scope_tree.specs.declared.branch.Spent.{Spent}
+use Rattle.scope_tree.specs.Calls.{Closes, Seen}
+use Rattle.scope_tree.specs.Rows.{AreDistinct}
+use Rattle.scope_tree.specs.Torn.{Torn, said}
+use Rattle.scope_tree.specs.Torn.Torn.{done, stays, ends_so}
+use Rattle.scope_tree.proofs.Use.{closed_now}
+use Rattle.tree_laws.specs.Alone.{StaysAlone}
+use Rattle.tree_laws.specs.Called.{Called}
+use Rattle.tree_laws.specs.Called.Called.{none, closed}
+use Rattle.tree_laws.proofs.Alone.{alone_closes}
+use Rattle.pull_stepper.specs.Held.{Finishes}
+use Rattle.pull_stepper.specs.Placing.{first_of}
+use Rattle.pull_stepper.specs.Sites.{Parted, Since, told_at}
+use Rattle.pull_stepper.specs.Stepping.{Ends, HasRoomFor, IsSupplied, Stepping, begun}
+use Rattle.pull_stepper.proofs.Beginning.{begun_in_order}
+use Rattle.pull_stepper.proofs.Parting.{parted}
+use Rattle.flume_cli.specs.declared.frame.NotPut.{NotPut}
+use Rattle.flume_cli.specs.declared.frame.NotPut.TheVariants as not
+use Rattle.flume_cli.specs.Nodes.{RunsNode}
+use Rattle.flume_cli.specs.Printing.{PrintsAll, PrintsRun}
+
+true_false : true ≡ false → ⊥
+true_false e = cc
+
+module _ {V : Type 0} (told : V → DeviceTold) (n : Node) (devices : List V) (chunk : ℕ) (a b : Seen V) (old new : SinkTold) (empty : a.shelf ≡ []) where
+  abbrev first : ℕ
+  first = first_of (places_of n)
+
+  -- the node was run to its end
+  node_ran_from : (z : Stepping V) (h : How) (ds : List V) (r : Result (Unit {0}) NotPut) → PrintsAll told (begun n a devices chunk) z old new r → Since told (Finishes told) (begun n a devices chunk).site z.site → Ends told z b h ds
+      → RunsNode told n devices chunk a b old new h ds r
+  node_ran_from z h ds r prints since end =
+      let count : length z.site.slots ≡ length devices = since.places ∙ length-map devices Some in
+      let to : z.site.from + length z.site.slots ≡ first + length devices = omega (arith, since.from, count) in
+      let within : length (map Some devices) ≡ length devices = length-map devices Some in
+      record {
+        home = told_at told z.site;
+        same = since.same;
+        prints = subst (λ e. PrintsRun (IsRun (told_at told z.site) n) (widest_of chunk n) old new e r) end.how prints;
+        parted = subst (λ f. Parted told (told_at told z.site) b.shelf (first + length devices) f ds) since.from (subst (λ t. Parted told (told_at told z.site) b.shelf t z.site.from ds) to end.parted);
+        once = end.once;
+        rows = λ x m.
+            ⊎_elim
+            (λ i. absurd (among_nil (subst (λ l. IsAmong x l) empty i)))
+            (λ w. subst (λ k. IsWithin first (first + k) x.row) within w)
+            (since.shelf x (subst (λ (t : Seen V). IsAmong x t.shelf) end.tree m));
+        root = end.root;
+        calls = subst (λ t. Called (Finishes told) a [] t) (sym end.tree) since.calls;
+        alone = subst (λ (t : Seen V). StaysAlone a.seat t.seat) (sym end.tree) since.alone;
+      }
+
+  pub node_ran : (x z : Stepping V) (h : How) (ds : List V) (r : Result (Unit {0}) NotPut) → x ≡ begun n a devices chunk → PrintsAll told x z old new r → Since told (Finishes told) x.site z.site → Ends told z b h ds
+      → RunsNode told n devices chunk a b old new h ds r
+  node_ran x z h ds r e prints since end =
+      node_ran_from z h ds r (subst (λ (y : Stepping V). PrintsAll told y z old new r) e prints) (subst (λ (y : Stepping V). Since told (Finishes told) y.site z.site) e since) end
+
+  -- where no row is open none is taken down
+  torn_none : {ends : V → Bool → V → Type 0} {T : List ℕ} {v w : View V} {xs : List (Spent V)} → v.opened ≡ [] → Torn ends T v xs w → xs ≡ []
+  torn_none e (done v) = refl
+  torn_none e (stays v r p m s t) = absurd (among_nil (subst (λ l. IsAmong (r, p) l) e m))
+  torn_none e (ends_so v p k x m q f i t) = absurd (among_nil (subst (λ l. IsAmong (x.row, p) l) e m))
+
+  filtered : (ds : List V) → filter_map (λ o. o) (map Some ds) ≡ ds
+  filtered [] = refl
+  filtered (d ∷ ds) = ap (λ l. d ∷ l) (filtered ds)
+
+  -- the node couldn't be begun, and the root was closed
+  pub node_unmade : IsSupplied told n devices → HasRoomFor a n → Closes (Finishes told) a 0 b → new ≡ old → RunsNode {T = Unit {0}} told n devices chunk a b old new how.Memory devices (Err not.Memory)
+  node_unmade supplied room closes quiet =
+      let x = (begun n a devices chunk).site in
+      let none_torn = torn_none room.opened closes.torn.2 in
+      let bare : b.shelf ≡ [] = closes.torn.1 ∙ (ap (λ xs. a.shelf ++ xs) none_torn ∙ (append-nil a.shelf ∙ empty)) in
+      let distinct : AreDistinct (firsts (said a.shelf)) = subst (λ l. AreDistinct (firsts (said l))) (sym empty) tt in
+      let vacant : (r : ℕ) → IsAmong r a.seat.empty → ¬ (IsAmong r (firsts (said a.shelf))) = λ r m i. among_nil (subst (λ l. IsAmong r (firsts (said l))) empty i) in
+      let all = parted told x (begun_in_order told n a devices supplied room) room.opened distinct vacant in
+      let within : length (map Some devices) ≡ length devices = length-map devices Some in
+      record {
+        home = told_at told x;
+        same = λ p. record { number = refl; place = refl; present = refl; content = refl };
+        prints = record {
+          how = how.Memory;
+          ended_is = refl;
+          printed = record { pieces = []; sizes = tt; next = []; rest = []; cut = (refl, refl); wrote = quiet ∙ sym (with_bytes_none old) };
+          run = record { end = Cut; run = inr (refl, inl refl); goes_on = λ e. absurd (true_false (sym e)); reported = inr refl; halted = λ e. absurd (true_false (sym e)); remembered = λ e. refl };
+        };
+        parted = subst (λ l. Parted told (told_at told x) l (first + length devices) first devices) (empty ∙ sym bare)
+            (subst (λ k. Parted told (told_at told x) a.shelf (first + k) first devices) within (subst (λ ds. Parted told (told_at told x) a.shelf (first + length (map Some devices)) first ds) (filtered devices) all));
+        once = subst (λ l. AreDistinct (firsts (said l))) (sym bare) tt;
+        rows = λ y m. absurd (among_nil (subst (λ l. IsAmong y l) bare m));
+        root = closed_now closes;
+        calls = closed a b 0 none room.root closes;
+        alone = alone_closes closes;
+      }

@@ -1,0 +1,65 @@
+-- A cat of which nothing was begun.
+use Rattle.std.proofs.Common.{◌≡◌, ℕ, Bool, true, false, nat_eq, nat_lt, List, [], ◌∷◌, ◌++◌, inr, inl, length, drop, map, filter, Option, Some, None, refl, sym, ◌∙◌, ap, subst, append-nil}
+use Rattle.std.proofs.Math.Seq.{drop-append_seam}
+use Rattle.chunk_core.specs.Lists.{Each}
+use Rattle.res_ledger.specs.declared.event.Event.{Event}
+use Rattle.res_ledger.proofs.Judged.{legal_sound, complete_sound}
+use Rattle.res_ledger.proofs.Ordering.{ordered_sound}
+use Rattle.device_port.specs.Device.{Place, DeviceTold}
+use Rattle.device_port.specs.Depot.{DepotTold, Files, KeepsFilesBut}
+use Rattle.device_port.specs.Sink.{SinkTold, with_bytes}
+use Rattle.device_port.proofs.Puts.{with_bytes_none}
+use Rattle.run_rules.specs.declared.end.EndOf.{EndOf}
+use Rattle.run_rules.specs.Devices.{came_back, ComeBackOnce, StandAsOften, IsWritten}
+use Rattle.run_rules.specs.Run.{KeepsRules}
+use Rattle.flume_cli.specs.declared.outcome.Outcome.{Outcome}
+use Rattle.flume_cli.specs.Cat.{to_read, cat_work, RunsCat}
+
+none_rules : (path : List ℕ) → KeepsRules (cat_work path) []
+none_rules path = record { legal = legal_sound [] refl; complete = complete_sound [] (legal_sound [] refl) refl; ordered = ordered_sound [] refl; ours = refl }
+
+pub outcome_is : (o : Outcome) (es : List EndOf) (L : List Event) (s m : Bool) → o.ends ≡ es → o.ledger ≡ L → o.sink_failed ≡ s → o.memory ≡ m → o ≡ record { ends = es; ledger = L; sink_failed = s; memory = m }
+outcome_is o es L s m p q r t =
+    ap (λ (x : List EndOf). let y : Outcome = record { ends = x; ledger = o.ledger; sink_failed = o.sink_failed; memory = o.memory } in y) p
+    ∙ (ap (λ (x : List Event). let y : Outcome = record { ends = es; ledger = x; sink_failed = o.sink_failed; memory = o.memory } in y) q
+    ∙ (ap (λ (x : Bool). let y : Outcome = record { ends = es; ledger = L; sink_failed = x; memory = o.memory } in y) r
+    ∙ ap (λ (x : Bool). let y : Outcome = record { ends = es; ledger = L; sink_failed = s; memory = x } in y) t))
+
+wrote_none : (so sn : SinkTold) → sn ≡ so → sn ≡ with_bytes so []
+wrote_none so sn e = e ∙ sym (with_bytes_none so)
+
+-- no device could be made
+keeps_same : (P : List ℕ → Type 0) (f : Option Files) → KeepsFilesBut P f f
+keeps_same P None = tt
+keeps_same P (Some f) = λ path. inr refl
+
+dropped_all : {A : Type 0} (xs : List A) → drop (length xs) xs ≡ []
+dropped_all xs = ap (λ ys. drop (length xs) ys) (sym (append-nil xs)) ∙ drop-append_seam xs []
+
+and_nothing : {A : Type 0} (xs : List A) → xs ≡ xs ++ drop (length xs) xs
+and_nothing xs = sym (append-nil xs) ∙ ap (λ ys. xs ++ ys) (sym (dropped_all xs))
+
+pub cat_makes_nothing : (path : List ℕ) (old new : DepotTold) (so sn : SinkTold) (size : ℕ) → new ≡ old → sn ≡ so → RunsCat path size old new so sn (record { ends = []; ledger = []; sink_failed = false; memory = true })
+cat_makes_nothing path old new so sn size e quiet =
+    subst (λ x. RunsCat path size old x so sn (record { ends = []; ledger = []; sink_failed = false; memory = true })) (sym e) (record {
+      frames = [];
+      rest = [];
+      within = record { fits = tt; front = inl refl };
+      performs = record {
+        devices = record {
+          made = and_nothing old.made;
+          retired = and_nothing old.retired;
+          number = ap (λ (xs : List DeviceTold). length xs) (dropped_all old.retired) ∙ sym (ap (λ (xs : List Place). length xs) (dropped_all old.made));
+          once = subst (λ ps. ComeBackOnce (came_back old old) (length old.made) ps) (sym (dropped_all old.made)) tt;
+          shut = subst (λ ds. Each (λ (x : DeviceTold). (x.is_open ≡ false) × (x.closes ≡ x.opens)) ds) (sym (dropped_all old.retired)) tt;
+          rows = tt;
+          acquired = subst (λ ds. StandAsOften (map (λ (x : DeviceTold). x.place) (filter (λ (x : DeviceTold). nat_eq x.opens 1) ds)) []) (sym (dropped_all old.retired)) tt;
+          failed = subst (λ ds. StandAsOften (map (λ (x : DeviceTold). x.place) (filter (λ (x : DeviceTold). nat_lt 0 x.close_faults) ds)) []) (sym (dropped_all old.retired)) tt;
+          files = keeps_same (IsWritten (to_read path ∷ [])) old.files;
+        };
+        ledger = none_rules path;
+        ran = inl (record { memory = refl; ends = refl; events = refl; frames = refl; rest = refl });
+      };
+      wrote = wrote_none so sn quiet;
+      begun = λ e. (refl, refl);
+    })

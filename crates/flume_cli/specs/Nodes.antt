@@ -1,0 +1,38 @@
+-- What running a node over a tree to its end does.
+use Rattle.std.specs.Prelude.{ℕ, ◌+◌, List, [], length, Some, Result}
+use Rattle.chunk_core.specs.Lists.{IsAmong}
+use Rattle.chunk_core.specs.declared.code.How.{How}
+use Rattle.device_port.specs.Device.{DeviceTold}
+use Rattle.device_port.specs.Sink.{SinkTold}
+use Rattle.pull_nodes.specs.Runs.{IsRun}
+use Rattle.pull_nodes.specs.Shape.{places_of}
+use Rattle.pull_nodes.specs.declared.node.Node.{Node}
+use Rattle.pull_turns.specs.Sizes.{widest_of}
+use Rattle.res_ledger.specs.Order.{firsts}
+use Rattle.row_seat.specs.Views.{IsWithin}
+use Rattle.scope_tree.specs.declared.branch.Spent.{Spent}
+use Rattle.scope_tree.specs.Calls.{IsClosedScope, Seen}
+use Rattle.scope_tree.specs.Rows.{AreDistinct}
+use Rattle.scope_tree.specs.Torn.{said}
+use Rattle.tree_laws.specs.Alone.{StaysAlone}
+use Rattle.tree_laws.specs.Called.{Called}
+use Rattle.pull_stepper.specs.Held.{Finishes}
+use Rattle.pull_stepper.specs.Placing.{first_of}
+use Rattle.pull_stepper.specs.Sites.{Parted, SameDevice, told_at}
+use Rattle.pull_stepper.specs.Stepping.{begun}
+use Rattle.flume_cli.specs.declared.frame.NotPut.{NotPut}
+use Rattle.flume_cli.specs.Printing.{PrintsRun}
+
+module _ {V T : Type 0} where
+  -- The node was run over the devices and a tree whose shelf was empty, and pieces of a run were printed. The root is closed, the
+  -- tree was left alone, and each device stands on the shelf or was never opened.
+  pub record RunsNode (told : V → DeviceTold) (n : Node) (devices : List V) (chunk : ℕ) (a b : Seen V) (old new : SinkTold) (how : How) (unopened : List V) (r : Result T NotPut) : Type 0 where
+    pub home : ℕ → DeviceTold
+    pub same : (p : ℕ) → SameDevice (told_at told (begun n a devices chunk).site p) (home p)
+    pub prints : PrintsRun (IsRun home n) (widest_of chunk n) old new (Some how) r
+    pub parted : Parted told home b.shelf (first_of (places_of n) + length devices) (first_of (places_of n)) unopened
+    pub once : AreDistinct (firsts (said b.shelf))
+    pub rows : (x : Spent V) → IsAmong x b.shelf → IsWithin (first_of (places_of n)) (first_of (places_of n) + length devices) x.row
+    pub root : IsClosedScope b 0
+    pub calls : Called (Finishes told) a [] b
+    pub alone : StaysAlone a.seat b.seat
