@@ -5,7 +5,9 @@ use Rattle.std.proofs.lemmas.List.{length-map}
 use Rattle.chunk_core.specs.Lists.{IsAmong}
 use Rattle.chunk_core.specs.Lists.IsAmong.{here, there}
 use Rattle.chunk_core.proofs.Members.{among_nil}
+use Rattle.device_port.specs.Depot.{DepotTold, fresh}
 use Rattle.device_port.specs.Device.{DeviceTold}
+use Rattle.device_port.specs.declared.device.Mode.TheVariants as mode
 use Rattle.pull_nodes.specs.declared.node.Node.{Node}
 use Rattle.pull_turns.specs.Around.{OpenAreHeld}
 use Rattle.row_seat.specs.Views.{HasRow}
@@ -89,3 +91,17 @@ module _ {V : Type 0} (told : V → DeviceTold) (n : Node) (a : Seen V) (devices
       rows = omega (arith, r.rows);
     };
   }
+
+-- a device that was just made for reading
+pub fresh_unused : (depot : DepotTold) (path : List ℕ) (d : DeviceTold) → d ≡ fresh depot (record { path = path; mode = mode.Read }) → IsUnused d
+fresh_unused depot path d e = subst IsUnused (sym e) (record {
+  mode_is = refl;
+  is_open = refl;
+  opens = refl;
+  closes = refl;
+  at = refl;
+  open_faults = refl;
+  read_faults = refl;
+  write_faults = refl;
+  close_faults = refl;
+})

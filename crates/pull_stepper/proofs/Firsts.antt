@@ -71,6 +71,9 @@ in_run p n (suc k) a b = ⊎_elim
     (λ l. or_right (nat_eq p n) (any (nat_eq p) (run (suc n) k)) (in_run p (suc n) k (omega arith) (omega arith)))
     (eq-or-lt_of_le a)
 
+pub among_run : (p n k : ℕ) → n ≤ p → p < n + k → IsAmong p (run n k)
+among_run p n k a b = let f = any_found (nat_eq p) (run n k) (in_run p n k a b) in subst (λ x. IsAmong x (run n k)) (sym (number p f.0 f.2)) f.1
+
 -- distinct numbers from m on, below m + k, are at most k
 few : (ps : List ℕ) (m k : ℕ) → are_distinct ps ≡ true → ((p : ℕ) → IsAmong p ps → (m ≤ p) × (p < m + k)) → length ps ≤ k
 few ps m k d h =

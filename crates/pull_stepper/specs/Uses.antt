@@ -1,5 +1,5 @@
 -- What a caller has that runs a node to its end.
-use Rattle.std.specs.Prelude.{ℕ, ◌+◌, ◌*◌, ◌≤◌, List, length, Option, Some, None}
+use Rattle.std.specs.Prelude.{ℕ, ◌+◌, ◌*◌, ◌≤◌, List, [], length, Option, Some, None}
 use Rattle.chunk_core.specs.declared.code.How.{How}
 use Rattle.chunk_core.specs.Elements.{Element}
 use Rattle.device_port.specs.Device.{DeviceTold}
@@ -11,6 +11,8 @@ use Rattle.pull_turns.specs.Rest.{IsRunOfRest}
 use Rattle.pull_turns.specs.Turned.{Over}
 use Rattle.scope_tree.specs.Calls.{IsClosedScope, IsOpenScope, Seen, used}
 use Rattle.tree_laws.specs.Alone.{StaysAlone}
+use Rattle.tree_laws.specs.Called.{Called}
+use Rattle.pull_stepper.specs.Held.{Finishes}
 use Rattle.pull_stepper.specs.Sites.{Parted, SameDevice, around, told_at}
 use Rattle.pull_stepper.specs.Stepping.{Stepping, begun, span_of}
 
@@ -34,6 +36,7 @@ module _ {V : Type 0} (told : V → DeviceTold) where
     pub same : (p : ℕ) → SameDevice (told_at told (begun n a devices 0).site p) (w p)
     pub parted : Parted told w b.shelf (span_of n (length devices)).to (span_of n (length devices)).from unopened
     pub root : IsClosedScope b 0
+    pub calls : Called (Finishes told) a [] b
     pub alone : StaysAlone a.seat b.seat
     pub events : a.seat.spare ≤ b.seat.spare + (2 * length (places_of n) + 2 * scope_count n + 1)
     pub rows : used b ≤ used a + length (places_of n)

@@ -7,7 +7,8 @@ pub mod resources;
 pub mod stepper;
 #[cfg(test)]
 mod tests;
-pub mod uses;
+#[cfg(test)]
+mod uses;
 
 pub use held::Held;
 pub use resources::Resources;

@@ -1,4 +1,4 @@
-use Rattle.std.proofs.Common.{[], ◌∷◌, sym, subst, flat_map, append-nil}
+use Rattle.std.proofs.Common.{arith, [], ◌∷◌, sym, subst, flat_map, append-nil}
 use Rattle.std.proofs.lemmas.Grind.{flat_map-append}
 use Rattle.chunk_core.specs.Elements.{elements}
 use Rattle.chunk_core.specs.Outcomes.{Cut}
@@ -18,6 +18,7 @@ pub loop-ask-init : goal.loop-ask-init
 loop-ask-init g c =
     let told = g.V.Device.told in let a = stepping g.S.RowSeat.view c.args.stepper.now in
     record {
+      quiet = omega arith;
       fits = c.requires.fits;
       can = c.requires.can;
       led = subst (λ ls. Led (told_at told a.site) (told_at told a.site) a.rest a.rest (flat_map elements ls)) (sym c.requires.empty) (led_start (told_at told a.site) a.rest);
@@ -72,6 +73,7 @@ loop-ask-preserved g c =
       | in-Chunk+in_ok-push-in-Chunk w ↦
           let k = rw w.in-Chunk.is at c.in_ok-load.ensures.first in
           record {
+            quiet = rw w.quiet-is (omega (arith, i.quiet));
             fits = c.in_ok-load.ensures.fits;
             can = k.leaves;
             led = rw (w.out-is, w.in_ok-push-in-Chunk.ensures.items, flat_map-append elements c.loop-ask.out.items (w.in-Chunk.load ∷ []), append-nil) (led xs (elements w.in-Chunk.load) i.led k.first.3);
@@ -82,6 +84,7 @@ loop-ask-preserved g c =
       | in-Again w ↦
           let k = rw w.in-Again.is at c.in_ok-load.ensures.first in
           record {
+            quiet = rw w.quiet-is (omega (arith, i.quiet));
             fits = c.in_ok-load.ensures.fits;
             can = k.leaves;
             led = rw w.out-is (subst (λ ys. Led (told_at told a.site) (told_at told z.site) a.rest z.rest ys) (append-nil xs) (led xs [] i.led k.first.3));

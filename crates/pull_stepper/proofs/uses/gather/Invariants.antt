@@ -1,4 +1,4 @@
-use Rattle.std.proofs.Common.{flat_map}
+use Rattle.std.proofs.Common.{◌≤◌, flat_map}
 use Rattle.chunk_core.specs.Elements.{elements}
 use Rattle.pull_turns.specs.Led.{Led}
 use Rattle.pull_turns.specs.Turned.{Spends}
@@ -14,6 +14,7 @@ invariant-loop-ask g l =
     let told = g.V.Device.told in let view = g.S.RowSeat.view in
     let a = stepping view l.fn.stepper in let b = stepping view l.stepper in
     record {
+      quiet : l.quiet ≤ l._ask;
       fits : Works view told g.S.RowSeat.fits l.stepper l.desk;
       can : CanGo told b;
       led : Led (told_at told a.site) (told_at told b.site) a.rest b.rest (flat_map elements l.out.items);
