@@ -34,7 +34,7 @@ use Rattle.pull_stepper.specs.Stepping.{Ends, HasRoomFor, IsSupplied, Stepping, 
 use Rattle.pull_stepper.proofs.Beginning.{begun_in_order}
 use Rattle.pull_stepper.proofs.Parting.{parted}
 use Rattle.flume_cli.specs.declared.frame.NotPut.{NotPut}
-use Rattle.flume_cli.specs.declared.frame.NotPut.TheVariants as not
+use Rattle.flume_cli.specs.declared.frame.NotPut.TheVariants as why
 use Rattle.flume_cli.specs.Nodes.{RunsNode}
 use Rattle.flume_cli.specs.Printing.{PrintsAll, PrintsRun}
 
@@ -84,7 +84,7 @@ module _ {V : Type 0} (told : V → DeviceTold) (n : Node) (devices : List V) (c
   filtered (d ∷ ds) = ap (λ l. d ∷ l) (filtered ds)
 
   -- the node couldn't be begun, and the root was closed
-  pub node_unmade : IsSupplied told n devices → HasRoomFor a n → Closes (Finishes told) a 0 b → new ≡ old → RunsNode {T = Unit {0}} told n devices chunk a b old new how.Memory devices (Err not.Memory)
+  pub node_unmade : IsSupplied told n devices → HasRoomFor a n → Closes (Finishes told) a 0 b → new ≡ old → RunsNode {T = Unit {0}} told n devices chunk a b old new how.Memory devices (Err why.Memory)
   node_unmade supplied room closes quiet =
       let x = (begun n a devices chunk).site in
       let none_torn = torn_none room.opened closes.torn.2 in

@@ -22,7 +22,7 @@ use Rattle.pull_turns.specs.declared.turn.Turn.TheVariants as turn
 use Rattle.pull_turns.proofs.Leads.{can_stop}
 use Rattle.pull_turns.proofs.Led.{led_start, led_chunk, led_quiet, led_done, led_fault, over_now, tells_on}
 use Rattle.flume_cli.specs.declared.frame.NotPut.{NotPut}
-use Rattle.flume_cli.specs.declared.frame.NotPut.TheVariants as not
+use Rattle.flume_cli.specs.declared.frame.NotPut.TheVariants as why
 use Rattle.flume_cli.specs.Alone.{elements_of, frame_of, IsPiece, PrintsPieces}
 use Rattle.flume_cli.specs.Frame.{PutsLoad}
 use Rattle.flume_cli.specs.Printing.{PrintsRun}
@@ -84,7 +84,7 @@ module _ (first before : ℕ → DeviceTold) (n : ℕ) (start rest : Rest) (old 
   stopped now last h t = cut_later first before last start rest (elements_of p.pieces) p.led (tells_later before now last rest h t)
 
   -- memory was wanting in a turn
-  pub prints_wanting : (now last : ℕ → DeviceTold) → Tells before now rest → Tells now last Nil → PrintsRun {T = Unit {0}} (IsRunOfRest last start) (widest n start) old mid (Some how.Memory) (Err not.Memory)
+  pub prints_wanting : (now last : ℕ → DeviceTold) → Tells before now rest → Tells now last Nil → PrintsRun {T = Unit {0}} (IsRunOfRest last start) (widest n start) old mid (Some how.Memory) (Err why.Memory)
   prints_wanting now last h t = record {
     how = how.Memory;
     ended_is = refl;
@@ -142,8 +142,8 @@ module _ (first : ℕ → DeviceTold) (before now : Around) (n : ℕ) (start res
 
   module _ (last : ℕ → DeviceTold) (t : Tells now.told last Nil) where
     -- memory was wanting for the text of a piece
-    pub prints_unrendered : (new : SinkTold) (l : Load) → Turns before now n rest next (turn.Chunk l) → new ≡ mid → PrintsRun {T = Unit {0}} (IsRunOfRest last start) (widest n start) old new (Some how.Halted) (Err not.Memory)
-    prints_unrendered new l k e = subst (λ s. PrintsRun {T = Unit {0}} (IsRunOfRest last start) (widest n start) old s (Some how.Halted) (Err not.Memory)) (sym e) (record {
+    pub prints_unrendered : (new : SinkTold) (l : Load) → Turns before now n rest next (turn.Chunk l) → new ≡ mid → PrintsRun {T = Unit {0}} (IsRunOfRest last start) (widest n start) old new (Some how.Halted) (Err why.Memory)
+    prints_unrendered new l k e = subst (λ s. PrintsRun {T = Unit {0}} (IsRunOfRest last start) (widest n start) old s (Some how.Halted) (Err why.Memory)) (sym e) (record {
       how = how.Halted;
       ended_is = refl;
       printed = whole first before.told n start rest old mid p;
@@ -152,7 +152,7 @@ module _ (first : ℕ → DeviceTold) (before now : Around) (n : ℕ) (start res
 
     -- a write failed
     pub prints_broken : (new : SinkTold) (l : Load) → Turns before now n rest next (turn.Chunk l) → Sized n rest next (elements l) → BreaksOff mid new (frame_text 0 (rendering_of (elements l)))
-        → PrintsRun {T = Unit {0}} (IsRunOfRest last start) (widest n start) old new (Some how.Halted) (Err not.Unwritten)
+        → PrintsRun {T = Unit {0}} (IsRunOfRest last start) (widest n start) old new (Some how.Halted) (Err why.Unwritten)
     prints_broken new l k s b =
         let text : List ℕ = frame_text 0 (rendering_of (elements l)) in
         let parts = rest_of text b.count b.front in
@@ -181,5 +181,5 @@ module _ (first : ℕ → DeviceTold) (before now : Around) (n : ℕ) (start res
     -- a piece wasn't printed whole
     pub prints_put : (new : SinkTold) (l : Load) (cause : NotPut) → Turns before now n rest next (turn.Chunk l) → Sized n rest next (elements l) → PutsLoad {T = Unit {0}} mid new 0 l (Err cause)
         → PrintsRun {T = Unit {0}} (IsRunOfRest last start) (widest n start) old new (Some how.Halted) (Err cause)
-    prints_put new l not.Unwritten k s h = prints_broken new l k s h
-    prints_put new l not.Memory k s h = prints_unrendered new l k h.0
+    prints_put new l why.Unwritten k s h = prints_broken new l k s h
+    prints_put new l why.Memory k s h = prints_unrendered new l k h.0

@@ -4,7 +4,7 @@ use Rattle.chunk_core.specs.Outcomes.{Outcomes}
 use Rattle.chunk_core.specs.declared.code.How.{How}
 use Rattle.device_port.specs.Sink.{SinkTold}
 use Rattle.flume_cli.specs.declared.frame.NotPut.{NotPut}
-use Rattle.flume_cli.specs.declared.frame.NotPut.TheVariants as not
+use Rattle.flume_cli.specs.declared.frame.NotPut.TheVariants as why
 use Rattle.device_port.specs.Device.{DeviceTold}
 use Rattle.pull_turns.specs.Rest.{IsRunOfRest}
 use Rattle.pull_turns.specs.Sizes.{widest}
@@ -15,14 +15,14 @@ use Rattle.flume_cli.specs.Alone.{PrintsPieces, IsRunIn}
 -- a write failed
 abbrev pub is_unwritten : {T : Type 0} → Result T NotPut → Bool
 is_unwritten (Ok u) = false
-is_unwritten (Err not.Unwritten) = true
-is_unwritten (Err not.Memory) = false
+is_unwritten (Err why.Unwritten) = true
+is_unwritten (Err why.Memory) = false
 
 -- memory was wanting
 abbrev pub is_wanting : {T : Type 0} → Result T NotPut → Bool
 is_wanting (Ok u) = false
-is_wanting (Err not.Unwritten) = false
-is_wanting (Err not.Memory) = true
+is_wanting (Err why.Unwritten) = false
+is_wanting (Err why.Memory) = true
 
 -- the stream has ended, and pieces of a run of at most size elements were printed, all of them or up to where this stopped it
 pub record PrintsRun {T : Type 0} (runs : Outcomes) (size : ℕ) (old new : SinkTold) (ended : Option How) (r : Result T NotPut) : Type 0 where

@@ -5,15 +5,15 @@ use Rattle.chunk_core.specs.declared.load.Load.TheVariants as load
 use Rattle.chunk_core.proofs.Rendering.{bytes_rendering}
 use Rattle.device_port.specs.Sink.{SinkTold, with_bytes, BreaksOff}
 use Rattle.flume_cli.specs.declared.frame.NotPut.{NotPut}
-use Rattle.flume_cli.specs.declared.frame.NotPut.TheVariants as not
+use Rattle.flume_cli.specs.declared.frame.NotPut.TheVariants as why
 use Rattle.flume_cli.specs.Frame.{PutsLoad, PutsText}
 use Rattle.flume_cli.proofs.Pieces.{rendering_some}
 use Rattle.flume_cli.proofs.frame.put_load.Goals as goal
 
 puts_bytes : {T : Type 0} (old new : SinkTold) (k : ℕ) (bytes : List ℕ) (r : Result T NotPut) → PutsText old new (frame_text k bytes) r → PutsLoad old new k (load.Bytes bytes) r
 puts_bytes old new k bytes (Ok u) h = h ∙ ap (λ xs. with_bytes old (frame_text k xs)) (bytes_rendering bytes)
-puts_bytes old new k bytes (Err not.Unwritten) h = subst (λ xs. BreaksOff old new (frame_text k xs)) (bytes_rendering bytes) h
-puts_bytes old new k bytes (Err not.Memory) h = absurd h
+puts_bytes old new k bytes (Err why.Unwritten) h = subst (λ xs. BreaksOff old new (frame_text k xs)) (bytes_rendering bytes) h
+puts_bytes old new k bytes (Err why.Memory) h = absurd h
 
 pub put_text-requires-in-Ok : goal.put_text-requires-in-Ok
 put_text-requires-in-Ok g c = record {
