@@ -134,4 +134,4 @@ groups_finish q b rest is kind none some m xs (n, h, size, holds) =
     let given : kind_of rest ≡ m.gives = kind m.takes ys holds (subst (λ (l : List Element). 0 < length l) all some) ∙ same in
     let P : ℕ → Type 0 = λ s. in_groups s xs ++ ungrouped q.size xs ≡ xs in
     finishes_from (pipe.ChunkN n) m h xs ys (fed.Out rest) (Comes b m.gives) (subst P size (grouped_and_rest q.size (size_pos q.size n size) xs))
-    (given, some, [], sym all ∙ sym (append-nil (elements rest)), (subst (λ k. Holds b k []) same (none m.takes ys holds), refl))
+    (given, some, [], sym all ∙ sym (append-nil (elements rest)), (subst (λ k. Holds b k []) same (none m.takes ys holds), refl, refl))

@@ -23,6 +23,6 @@ Holds q Rows ys = (map Row q.rows.items ≡ ys) × (q.bytes.items ≡ []) × (q.
 abbrev pub StandsFor : ChunkNPipe → Meaning → List Element → Type 0
 StandsFor q m xs = (n : ℕ) × IsMeaningOf (pipe.ChunkN n) m × (q.size ≡ group_size n) × Holds q m.takes (ungrouped q.size xs)
 
--- what it keeps is still to come
+-- nothing is still to come: what it kept came as one load
 abbrev pub Comes : ChunkNPipe → LoadKind → List Element → Option Code → Type 0
-Comes q kind ys c = Holds q kind ys × (c ≡ None)
+Comes q kind ys c = Holds q kind [] × (ys ≡ []) × (c ≡ None)

@@ -10,6 +10,7 @@ ghost use Rattle.stream_ops.specs.Changed.{changed_behind};
 ghost use Rattle.stream_ops.specs.ChangesState.{StandsFor};
 
 use crate::compared::{changed, first_line, first_row};
+use crate::loads::copied_load;
 use chunk_core::{Chunk, Fed, Feed, Load};
 use std::alloc::{AllocError, Global};
 
@@ -48,14 +49,15 @@ impl ChangesPipe {
         })
     }
 
-    /// Keeps the last element, where there is one.
-    fn note(&mut self, mut load: Load) -> Result<(), AllocError>
+    /// Keeps a clone of the last element, where there is one; a window would keep the whole load.
+    fn note(&mut self, alloc: Global, mut load: Load) -> Result<(), AllocError>
         ensures { OnOk result (slice_get (elements self.new.last) 0 ≡ last_or (slice_get (elements self.old.last) 0) (elements load)) }
     {
         if load.is_empty() {
             return Ok(());
         }
         load.split(load.len() - 1)?;
+        let load = copied_load(alloc, &load)?;
         self.last = load;
         Ok(())
     }
@@ -76,7 +78,7 @@ impl Feed for ChangesPipe {
 
     fn feed(&mut self, alloc: Global, load: Load) -> Result<Fed, AllocError> {
         let kept = changes_of(alloc, &self.last, &load)?;
-        self.note(load)?;
+        self.note(alloc, load)?;
         Ok(Fed::Out(kept))
     }
 

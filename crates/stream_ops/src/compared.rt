@@ -5,11 +5,11 @@ ghost use Rattle.std.specs.Option.{option_copied};
 ghost use Rattle.std.specs.Str.{bytes_eq};
 ghost use Rattle.stream_ops.specs.Changed.{changed_behind, is_change, lines_in, rows_in};
 
-use crate::loads::push_clone;
+use crate::loads::{CloneIn, push_clone};
 use chunk_core::{Line, Load, Row};
 use std::alloc::{AllocError, Global};
 
-pub(crate) trait Compared: Clone + Drop {
+pub(crate) trait Compared: CloneIn {
     ghost use Rattle.std.specs.Prelude.{◌≡◌};
     ghost use Rattle.chunk_core.specs.Elements.{Element};
     ghost use Rattle.pull_nodes.specs.Plain.{same_element};
@@ -64,7 +64,6 @@ pub(crate) fn changed<T: Compared>(
     before: Option<&T>,
     items: &[T],
 ) -> Result<Vec<T>, AllocError>
-    requires same { (x y : T) → T.is_clone x y → y ≡ x }
     ensures { IfOk result (λ kept. map T.element kept.items ≡ changed_behind (option_map (λ y. T.element y.now) before.entry) (map T.element items.now)) }
 {
     let mut kept = Vec::new(alloc);

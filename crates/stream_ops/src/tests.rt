@@ -169,8 +169,13 @@ fn cut<'a>(
 
 const AAB: [&[u8]; 3] = [b"a", b"a", b"b"];
 
-fn dropped(alloc: Global, n: u64, pieces: &[&[&[u8]]]) -> Result<Told, AllocError> {
-    answers::<AsLines, DropPipe>(alloc, DropPipe::new(alloc, n)?, pieces)
+/// Characters of one to three bytes, a line end and a byte that is no character's, byte by byte.
+const BYTES: [&[u8]; 10] = [
+    b"a", b"\r", b"\n", b"\xC3", b"\xA9", b"\xE2", b"\x82", b"\xAC", b"\xFF", b"z",
+];
+
+fn dropped<M: Made>(alloc: Global, n: u64, pieces: &[&[&[u8]]]) -> Result<Told, AllocError> {
+    answers::<M, DropPipe>(alloc, DropPipe::new(alloc, n)?, pieces)
 }
 
 #[test]
@@ -178,18 +183,18 @@ fn the_first_lines_are_left_out(rt: HostRuntime) -> Result<(), Fail> {
     let alloc = rt.alloc();
     for bits in 0..8 {
         let pieces = cut(alloc, AAB.as_slice(), bits)?;
-        let two = dropped(alloc, 2, pieces.as_slice())?;
+        let two = dropped::<AsLines>(alloc, 2, pieces.as_slice())?;
         assert_eq!(rt; two.text.as_slice(), b"b|".as_slice());
-        let none = dropped(alloc, 0, pieces.as_slice())?;
+        let none = dropped::<AsLines>(alloc, 0, pieces.as_slice())?;
         assert_eq!(rt; none.text.as_slice(), b"a|a|b|".as_slice());
-        let more = dropped(alloc, 4, pieces.as_slice())?;
+        let more = dropped::<AsLines>(alloc, 4, pieces.as_slice())?;
         assert!(rt; more.text.is_empty());
     }
     Ok(())
 }
 
-fn counted(alloc: Global, pieces: &[&[&[u8]]]) -> Result<Told, AllocError> {
-    answers::<AsLines, CountPipe>(alloc, CountPipe::new(alloc)?, pieces)
+fn counted<M: Made>(alloc: Global, pieces: &[&[&[u8]]]) -> Result<Told, AllocError> {
+    answers::<M, CountPipe>(alloc, CountPipe::new(alloc)?, pieces)
 }
 
 #[test]
@@ -197,10 +202,10 @@ fn one_line_tells_the_number(rt: HostRuntime) -> Result<(), Fail> {
     let alloc = rt.alloc();
     for bits in 0..8 {
         let pieces = cut(alloc, AAB.as_slice(), bits)?;
-        let told = counted(alloc, pieces.as_slice())?;
+        let told = counted::<AsLines>(alloc, pieces.as_slice())?;
         assert_eq!(rt; told.text.as_slice(), b"3|".as_slice());
     }
-    let told = counted(alloc, [].as_slice())?;
+    let told = counted::<AsLines>(alloc, [].as_slice())?;
     assert_eq!(rt; told.text.as_slice(), b"0|".as_slice());
     Ok(())
 }
@@ -307,6 +312,75 @@ fn whole_groups_come_out(rt: HostRuntime) -> Result<(), Fail> {
         assert_eq!(rt; bytes.text.as_slice(), b"aab".as_slice());
         assert_eq!(rt; bytes.lens.as_slice(), [3].as_slice());
     }
+    Ok(())
+}
+
+#[test]
+fn bytes_are_elements(rt: HostRuntime) -> Result<(), Fail> {
+    let alloc = rt.alloc();
+    for bits in 0..1024 {
+        let pieces = cut(alloc, BYTES.as_slice(), bits)?;
+        let rest = dropped::<AsBytes>(alloc, 4, pieces.as_slice())?;
+        assert_eq!(rt; rest.text.as_slice(), b"\xA9\xE2\x82\xAC\xFFz".as_slice());
+        let number = counted::<AsBytes>(alloc, pieces.as_slice())?;
+        assert_eq!(rt; number.text.as_slice(), b"10|".as_slice());
+        let groups = grouped::<AsBytes>(alloc, 9, pieces.as_slice())?;
+        assert_eq!(rt;
+            groups.text.as_slice(),
+            b"a\r\n\xC3\xA9\xE2\x82\xAC\xFFz".as_slice()
+        );
+        assert_eq!(rt; groups.lens.as_slice(), [9, 1].as_slice());
+    }
+    Ok(())
+}
+
+#[test]
+fn lines_of_a_log_are_chosen_and_numbered(rt: HostRuntime) -> Result<(), Fail> {
+    let alloc = rt.alloc();
+    let log = [
+        b"INFO start".as_slice(),
+        b"ERROR disk".as_slice(),
+        b"INFO x".as_slice(),
+        b"ERROR net".as_slice(),
+    ];
+    for bits in 0..16 {
+        let pieces = cut(alloc, log.as_slice(), bits)?;
+        let chosen = filtered(alloc, b"ERROR".as_slice(), pieces.as_slice())?;
+        assert_eq!(rt; chosen.text.as_slice(), b"ERROR disk|ERROR net|".as_slice());
+    }
+    let errors = [b"ERROR disk".as_slice(), b"ERROR net".as_slice()];
+    for bits in 0..4 {
+        let pieces = cut(alloc, errors.as_slice(), bits)?;
+        let told = numbered(alloc, pieces.as_slice())?;
+        assert_eq!(rt;
+            told.text.as_slice(),
+            b"0 ERROR disk|1 ERROR net|".as_slice()
+        );
+    }
+    Ok(())
+}
+
+#[test]
+fn a_load_of_none_changes_nothing(rt: HostRuntime) -> Result<(), Fail> {
+    let alloc = rt.alloc();
+    let none = [].as_slice();
+    let (front, rest) = AAB.as_slice().split_at(1);
+    let pieces = [none, front, none, none, rest, none];
+    let pieces = pieces.as_slice();
+    let left = dropped::<AsLines>(alloc, 2, pieces)?;
+    assert_eq!(rt; left.text.as_slice(), b"b|".as_slice());
+    let number = counted::<AsLines>(alloc, pieces)?;
+    assert_eq!(rt; number.text.as_slice(), b"3|".as_slice());
+    let numbers = numbered(alloc, pieces)?;
+    assert_eq!(rt; numbers.text.as_slice(), b"0 a|1 a|2 b|".as_slice());
+    let chosen = filtered(alloc, b"a".as_slice(), pieces)?;
+    assert_eq!(rt; chosen.text.as_slice(), b"a|a|".as_slice());
+    let between = spread(alloc, b"-".as_slice(), pieces)?;
+    assert_eq!(rt; between.text.as_slice(), b"a|-|a|-|b|".as_slice());
+    let changes = changed::<AsLines>(alloc, pieces)?;
+    assert_eq!(rt; changes.text.as_slice(), b"a|b|".as_slice());
+    let groups = grouped::<AsLines>(alloc, 2, pieces)?;
+    assert_eq!(rt; groups.lens.as_slice(), [2, 1].as_slice());
     Ok(())
 }
 

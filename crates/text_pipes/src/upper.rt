@@ -26,6 +26,8 @@ fn upper_lines(alloc: Global, lines: &[Line]) -> Result<Vec<Line>, AllocError>
     Ok(upper)
 }
 
+// Kept apart, so that the loop over bytes has the registers to itself.
+#[inline(never)]
 fn upper_load(alloc: Global, load: &Load) -> Result<Load, AllocError>
     requires { kind_of load.now ≢ Rows }
     ensures list { IfOk result (λ upper. elements upper ≡ map uppercase_of (elements load.now)) }

@@ -5,4 +5,4 @@ use Rattle.pull_nodes.specs.declared.pipe.Pipe.TheVariants as pipe
 use Rattle.stream_ops.proofs.tests.counted.Goals as goal
 
 pub answers-requires : goal.answers-requires
-answers-requires c = let m = meaning pipe.Count Lines Lines in (m, [], c.in_ok-new.ensures m refl, refl)
+answers-requires g c = let m = meaning pipe.Count g.M.Made.kind Lines in (m, [], c.in_ok-new.ensures m refl, refl)

@@ -17,4 +17,4 @@ may_go_on Stands NewStands Comes NewComes load first next (inr (kind, ys, c, h))
 pub loop-preserved : goal.loop-preserved
 loop-preserved g c =
     may_go_on (g.P.Feed.stands c.loop.pipe) (g.P.Feed.stands c.finish.new.self) (g.P.Feed.comes c.loop.pipe) (g.P.Feed.comes c.finish.new.self) c.in-Out-2.load
-    (rw c.in-Out-2.is at c.in_ok-load-2.ensures.first) (rw c.in-Out-2.is at c.in_ok-load-2.ensures.next) c.loop.invariant
+    (rw c.in-Out-2.is at c.in_ok-load-3.ensures.first) (rw c.in-Out-2.is at c.in_ok-load-3.ensures.next) c.loop.invariant

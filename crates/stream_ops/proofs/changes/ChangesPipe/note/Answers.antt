@@ -8,5 +8,5 @@ pub returns : goal.returns
 returns c =
     let xs = elements c.args.load in
     let some : 0 < length xs = grind (arith, common_steps) in
-    let rest : elements c.split.new.self ≡ drop (length xs - 1) xs = c.in_ok-split.ensures.rest ∙ ap (λ n. drop (n - 1) xs) c.len.ensures in
+    let rest : elements c.in_ok-load.load ≡ drop (length xs - 1) xs = c.in_ok-load.ensures ∙ (c.in_ok-split.ensures.rest ∙ ap (λ n. drop (n - 1) xs) c.len.ensures) in
     ap (λ l. slice_get l 0) rest ∙ last_is (slice_get (elements c.args.self.now.last) 0) xs some
