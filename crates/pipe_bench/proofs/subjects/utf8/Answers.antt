@@ -1,0 +1,8 @@
+use Rattle.std.proofs.Common.{[], refl}
+use Rattle.chunk_core.specs.Elements.LoadKind.{Bytes}
+use Rattle.pull_nodes.specs.Pipes.{meaning}
+use Rattle.pull_nodes.specs.declared.pipe.Pipe.TheVariants as pipe
+use Rattle.pipe_bench.proofs.subjects.utf8.Goals as goal
+
+pub run-requires : goal.run-requires
+run-requires g c = let m = meaning pipe.Utf8 Bytes Bytes in (m, [], c.in_ok-new.ensures m refl, refl)

@@ -1,0 +1,158 @@
+//! The pipes that are run, each over its kind of input.
+use crate::feeding::{Told, run};
+use crate::inputs::{BrokenBytes, PlainBytes, TextLines};
+use crate::order::Order;
+use chunk_core::Line;
+use std::alloc::{AllocError, Global};
+use std::time::CpuClock;
+use stream_ops::{
+    ChangesPipe, ChunkNPipe, CountPipe, DropPipe, FilterPipe, InterspersePipe, NumberPipe,
+};
+use text_pipes::{HexPipe, LinesPipe, LossyPipe, UpperPipe, Utf8Pipe};
+
+/// How many lines `Drop` leaves out.
+const LEFT_OUT: u64 = 1000;
+
+/// How many lines a group of `ChunkN` has.
+const GROUP: u32 = 10;
+
+/// A pipe and what it is fed.
+#[derive(Clone, Copy)]
+pub enum Subject {
+    Utf8,
+    Lossy,
+    /// `Lossy` over text that isn't UTF-8.
+    Mended,
+    Lines,
+    Hex,
+    Upper,
+    Drop,
+    Filter,
+    Changes,
+    Number,
+    Count,
+    Intersperse,
+    ChunkN,
+}
+
+pub static SUBJECTS: [Subject; 13] = [
+    Subject::Utf8,
+    Subject::Lossy,
+    Subject::Mended,
+    Subject::Lines,
+    Subject::Hex,
+    Subject::Upper,
+    Subject::Drop,
+    Subject::Filter,
+    Subject::Changes,
+    Subject::Number,
+    Subject::Count,
+    Subject::Intersperse,
+    Subject::ChunkN,
+];
+
+impl Subject {
+    pub fn name(self) -> &'static str {
+        match self {
+            Subject::Utf8 => "utf8",
+            Subject::Lossy => "lossy",
+            Subject::Mended => "mended",
+            Subject::Lines => "lines",
+            Subject::Hex => "hex",
+            Subject::Upper => "upper",
+            Subject::Drop => "drop",
+            Subject::Filter => "filter",
+            Subject::Changes => "changes",
+            Subject::Number => "number",
+            Subject::Count => "count",
+            Subject::Intersperse => "intersperse",
+            Subject::ChunkN => "chunkn",
+        }
+    }
+
+    /// Runs the pipe as the order says.
+    pub fn run<C: CpuClock>(
+        self,
+        alloc: Global,
+        clock: &C,
+        order: &Order<'_>,
+    ) -> Result<Told, AllocError> {
+        match self {
+            Subject::Utf8 => utf8(alloc, clock, order),
+            Subject::Lossy => lossy(alloc, clock, order),
+            Subject::Mended => mended(alloc, clock, order),
+            Subject::Lines => lines(alloc, clock, order),
+            Subject::Hex => hexadecimal(alloc, clock, order),
+            Subject::Upper => upper(alloc, clock, order),
+            Subject::Drop => dropped(alloc, clock, order),
+            Subject::Filter => filtered(alloc, clock, order),
+            Subject::Changes => changed(alloc, clock, order),
+            Subject::Number => numbered(alloc, clock, order),
+            Subject::Count => counted(alloc, clock, order),
+            Subject::Intersperse => spread(alloc, clock, order),
+            Subject::ChunkN => grouped(alloc, clock, order),
+        }
+    }
+}
+
+fn line_of(alloc: Global, text: &str) -> Result<Line, AllocError> {
+    Ok(Line::of_vec(Vec::from_slice(alloc, text.as_bytes())?))
+}
+
+fn utf8<C: CpuClock>(alloc: Global, clock: &C, order: &Order<'_>) -> Result<Told, AllocError> {
+    run::<PlainBytes, Utf8Pipe, C>(alloc, clock, order, Utf8Pipe::new(alloc)?)
+}
+
+fn lossy<C: CpuClock>(alloc: Global, clock: &C, order: &Order<'_>) -> Result<Told, AllocError> {
+    run::<PlainBytes, LossyPipe, C>(alloc, clock, order, LossyPipe::new(alloc)?)
+}
+
+fn mended<C: CpuClock>(alloc: Global, clock: &C, order: &Order<'_>) -> Result<Told, AllocError> {
+    run::<BrokenBytes, LossyPipe, C>(alloc, clock, order, LossyPipe::new(alloc)?)
+}
+
+fn lines<C: CpuClock>(alloc: Global, clock: &C, order: &Order<'_>) -> Result<Told, AllocError> {
+    run::<PlainBytes, LinesPipe, C>(alloc, clock, order, LinesPipe::new(alloc)?)
+}
+
+fn hexadecimal<C: CpuClock>(
+    alloc: Global,
+    clock: &C,
+    order: &Order<'_>,
+) -> Result<Told, AllocError> {
+    run::<PlainBytes, HexPipe, C>(alloc, clock, order, HexPipe::new(alloc)?)
+}
+
+fn upper<C: CpuClock>(alloc: Global, clock: &C, order: &Order<'_>) -> Result<Told, AllocError> {
+    run::<PlainBytes, UpperPipe, C>(alloc, clock, order, UpperPipe::new(alloc)?)
+}
+
+fn dropped<C: CpuClock>(alloc: Global, clock: &C, order: &Order<'_>) -> Result<Told, AllocError> {
+    run::<TextLines, DropPipe, C>(alloc, clock, order, DropPipe::new(alloc, LEFT_OUT)?)
+}
+
+fn filtered<C: CpuClock>(alloc: Global, clock: &C, order: &Order<'_>) -> Result<Told, AllocError> {
+    let text = line_of(alloc, "needle")?;
+    run::<TextLines, FilterPipe, C>(alloc, clock, order, FilterPipe::new(alloc, text)?)
+}
+
+fn changed<C: CpuClock>(alloc: Global, clock: &C, order: &Order<'_>) -> Result<Told, AllocError> {
+    run::<TextLines, ChangesPipe, C>(alloc, clock, order, ChangesPipe::new(alloc)?)
+}
+
+fn numbered<C: CpuClock>(alloc: Global, clock: &C, order: &Order<'_>) -> Result<Told, AllocError> {
+    run::<TextLines, NumberPipe, C>(alloc, clock, order, NumberPipe::new(alloc)?)
+}
+
+fn counted<C: CpuClock>(alloc: Global, clock: &C, order: &Order<'_>) -> Result<Told, AllocError> {
+    run::<TextLines, CountPipe, C>(alloc, clock, order, CountPipe::new(alloc)?)
+}
+
+fn spread<C: CpuClock>(alloc: Global, clock: &C, order: &Order<'_>) -> Result<Told, AllocError> {
+    let line = line_of(alloc, "--")?;
+    run::<TextLines, InterspersePipe, C>(alloc, clock, order, InterspersePipe::new(alloc, line)?)
+}
+
+fn grouped<C: CpuClock>(alloc: Global, clock: &C, order: &Order<'_>) -> Result<Told, AllocError> {
+    run::<TextLines, ChunkNPipe, C>(alloc, clock, order, ChunkNPipe::new(alloc, GROUP)?)
+}
