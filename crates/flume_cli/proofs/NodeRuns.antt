@@ -13,6 +13,7 @@ use Rattle.device_port.proofs.Puts.{with_bytes_none}
 use Rattle.pull_nodes.specs.Runs.{IsRun}
 use Rattle.pull_nodes.specs.Shape.{places_of}
 use Rattle.pull_nodes.specs.declared.node.Node.{Node}
+use Rattle.pull_turns.specs.Piping.{Standing}
 use Rattle.pull_turns.specs.Sizes.{widest_of}
 use Rattle.res_ledger.specs.Order.{firsts}
 use Rattle.row_seat.specs.declared.view.View.{View}
@@ -30,7 +31,7 @@ use Rattle.tree_laws.proofs.Alone.{alone_closes}
 use Rattle.pull_stepper.specs.Held.{Finishes}
 use Rattle.pull_stepper.specs.Placing.{first_of}
 use Rattle.pull_stepper.specs.Sites.{Parted, Since, told_at}
-use Rattle.pull_stepper.specs.Stepping.{Ends, HasRoomFor, IsSupplied, Stepping, begun}
+use Rattle.pull_stepper.specs.Stepping.{Ends, HasRoomFor, IsSupplied, Stepping, begun, site_of}
 use Rattle.pull_stepper.proofs.Beginning.{begun_in_order}
 use Rattle.pull_stepper.proofs.Parting.{parted}
 use Rattle.flume_cli.specs.declared.frame.NotPut.{NotPut}
@@ -46,9 +47,9 @@ module _ {V : Type 0} (told : V → DeviceTold) (n : Node) (devices : List V) (c
   first = first_of (places_of n)
 
   -- the node was run to its end
-  node_ran_from : (z : Stepping V) (h : How) (ds : List V) (r : Result (Unit {0}) NotPut) → PrintsAll told (begun n a devices chunk) z old new r → Since told (Finishes told) (begun n a devices chunk).site z.site → Ends told z b h ds
+  node_ran_from : {F : Type 0} (P : Standing F) (z : Stepping V F) (h : How) (ds : List V) (r : Result (Unit {0}) NotPut) → PrintsAll P told (begun n a devices chunk) z old new r → Since told (Finishes told) (site_of n a devices) z.site → Ends told z b h ds
       → RunsNode told n devices chunk a b old new h ds r
-  node_ran_from z h ds r prints since end =
+  node_ran_from P z h ds r prints since end =
       let count : length z.site.slots ≡ length devices = since.places ∙ length-map devices Some in
       let to : z.site.from + length z.site.slots ≡ first + length devices = omega (arith, since.from, count) in
       let within : length (map Some devices) ≡ length devices = length-map devices Some in
@@ -68,10 +69,10 @@ module _ {V : Type 0} (told : V → DeviceTold) (n : Node) (devices : List V) (c
         alone = subst (λ (t : Seen V). StaysAlone a.seat t.seat) (sym end.tree) since.alone;
       }
 
-  pub node_ran : (x z : Stepping V) (h : How) (ds : List V) (r : Result (Unit {0}) NotPut) → x ≡ begun n a devices chunk → PrintsAll told x z old new r → Since told (Finishes told) x.site z.site → Ends told z b h ds
+  pub node_ran : {F : Type 0} (P : Standing F) (x z : Stepping V F) (h : How) (ds : List V) (r : Result (Unit {0}) NotPut) → x ≡ begun n a devices chunk → PrintsAll P told x z old new r → Since told (Finishes told) x.site z.site → Ends told z b h ds
       → RunsNode told n devices chunk a b old new h ds r
-  node_ran x z h ds r e prints since end =
-      node_ran_from z h ds r (subst (λ (y : Stepping V). PrintsAll told y z old new r) e prints) (subst (λ (y : Stepping V). Since told (Finishes told) y.site z.site) e since) end
+  node_ran {F = F} P x z h ds r e prints since end =
+      node_ran_from P z h ds r (subst (λ (y : Stepping V F). PrintsAll P told y z old new r) e prints) (subst (λ (y : Stepping V F). Since told (Finishes told) y.site z.site) e since) end
 
   -- where no row is open none is taken down
   torn_none : {ends : V → Bool → V → Type 0} {T : List ℕ} {v w : View V} {xs : List (Spent V)} → v.opened ≡ [] → Torn ends T v xs w → xs ≡ []
@@ -86,7 +87,7 @@ module _ {V : Type 0} (told : V → DeviceTold) (n : Node) (devices : List V) (c
   -- the node couldn't be begun, and the root was closed
   pub node_unmade : IsSupplied told n devices → HasRoomFor a n → Closes (Finishes told) a 0 b → new ≡ old → RunsNode {T = Unit {0}} told n devices chunk a b old new how.Memory devices (Err why.Memory)
   node_unmade supplied room closes quiet =
-      let x = (begun n a devices chunk).site in
+      let x = site_of n a devices in
       let none_torn = torn_none room.opened closes.torn.2 in
       let bare : b.shelf ≡ [] = closes.torn.1 ∙ (ap (λ xs. a.shelf ++ xs) none_torn ∙ (append-nil a.shelf ∙ empty)) in
       let distinct : AreDistinct (firsts (said a.shelf)) = subst (λ l. AreDistinct (firsts (said l))) (sym empty) tt in

@@ -14,8 +14,9 @@ use Rattle.device_port.specs.Sink.{SinkTold, with_bytes, BreaksOff}
 use Rattle.device_port.proofs.Puts.{with_bytes_none, with_bytes_twice}
 use Rattle.pull_turns.specs.Around.{Around}
 use Rattle.pull_turns.specs.Led.{Led, Tells, Turns}
+use Rattle.pull_turns.specs.Piping.{Standing}
 use Rattle.pull_turns.specs.Rest.{IsRunOfRest}
-use Rattle.pull_turns.specs.Sizes.{Sized, widest}
+use Rattle.pull_turns.specs.Sizes.{HasNoPipe, Sized, widest}
 use Rattle.pull_turns.specs.declared.rest.Rest.{Rest}
 use Rattle.pull_turns.specs.declared.rest.Rest.TheVariants.{Nil}
 use Rattle.pull_turns.specs.declared.turn.Turn.TheVariants as turn
@@ -27,12 +28,13 @@ use Rattle.flume_cli.specs.Alone.{elements_of, frame_of, IsPiece, PrintsPieces}
 use Rattle.flume_cli.specs.Frame.{PutsLoad}
 use Rattle.flume_cli.specs.Printing.{PrintsRun}
 
--- so far turns gave these pieces, and each was printed
-pub record PrintsOn (first now : ℕ → DeviceTold) (n : ℕ) (start rest : Rest) (old new : SinkTold) : Type 0 where
+-- so far turns gave these pieces, and each was printed; no pipe is in what is left
+pub record PrintsOn {F : Type 0} (P : Standing F) (first now : ℕ → DeviceTold) (n : ℕ) (start rest : Rest F) (old new : SinkTold) : Type 0 where
   pub pieces : List (List Element)
   pub sizes : Each (IsPiece (widest n start)) pieces
   pub wide : widest n rest ≤ widest n start
-  pub led : Led first now start rest (elements_of pieces)
+  pub plain : HasNoPipe rest
+  pub led : Led P first now start rest (elements_of pieces)
   pub wrote : new ≡ with_bytes old (frames_text (map frame_of pieces))
 
 each_snoc : {A : Type 0} (P : A → Type 0) (xs : List A) (x : A) → Each P xs → P x → Each P (xs ++ x ∷ [])
@@ -51,24 +53,24 @@ frames_snoc pieces xs =
 rest_of : (xs : List ℕ) (k : ℕ) → k < length xs → (0 < length (drop k xs)) × (take k xs ++ drop k xs ≡ xs)
 rest_of xs k l = (omega (arith, length-drop k xs), take-append-drop k xs)
 
-pub prints_start : (now : ℕ → DeviceTold) (n : ℕ) (start : Rest) (old : SinkTold) → PrintsOn now now n start start old old
-prints_start now n start old = record { pieces = []; sizes = tt; wide = omega arith; led = led_start now start; wrote = sym (with_bytes_none old) }
+pub prints_start : {F : Type 0} (P : Standing F) (now : ℕ → DeviceTold) (n : ℕ) (start : Rest F) (old : SinkTold) → HasNoPipe start → PrintsOn P now now n start start old old
+prints_start P now n start old f = record { pieces = []; sizes = tt; wide = omega arith; plain = f; led = led_start P now start; wrote = sym (with_bytes_none old) }
 
 -- what was printed is a front of a run, whatever the devices come to tell
-cut_later : (first now last : ℕ → DeviceTold) (start rest : Rest) (xs : List Element) → Led first now start rest xs → Tells now last rest → IsRunOfRest last start xs Cut
-cut_later first now last start rest xs h t = subst (λ (ys : List Element). IsRunOfRest last start ys Cut) (append-nil xs)
-    ((h.lead last (record { over = λ p l n. t.others p n; goes = t.goes })).gives [] Cut (can_stop last rest))
+cut_later : {F : Type 0} (P : Standing F) (first now last : ℕ → DeviceTold) (start rest : Rest F) (xs : List Element) → Led P first now start rest xs → Tells now last rest → IsRunOfRest P last start xs Cut
+cut_later P first now last start rest xs h t = subst (λ (ys : List Element). IsRunOfRest P last start ys Cut) (append-nil xs)
+    ((h.lead last (record { over = λ p l n. t.others p n; goes = t.goes })).gives [] Cut (can_stop P last rest))
 
-tells_later : (a b c : ℕ → DeviceTold) (r : Rest) → Tells a b r → Tells b c Nil → Tells a c r
+tells_later : {F : Type 0} (a b c : ℕ → DeviceTold) (r : Rest F) → Tells a b r → Tells {F = F} b c Nil → Tells a c r
 tells_later a b c r h i = tells_on a b c r Nil (λ p l. absurd l) h i
 
-tells_of : (a b : ℕ → DeviceTold) (r : Rest) → Tells a b Nil → Tells a b r
+tells_of : {F : Type 0} (a b : ℕ → DeviceTold) (r : Rest F) → Tells {F = F} a b Nil → Tells a b r
 tells_of a b r h = record { goes = h.goes; others = λ p n. h.others p (λ l. l) }
 
 true_false : true ≢ false
 true_false e = cc
 
-module _ (first before : ℕ → DeviceTold) (n : ℕ) (start rest : Rest) (old mid : SinkTold) (p : PrintsOn first before n start rest old mid) where
+module _ {F : Type 0} (P : Standing F) (first before : ℕ → DeviceTold) (n : ℕ) (start rest : Rest F) (old mid : SinkTold) (p : PrintsOn P first before n start rest old mid) where
   -- nothing was cut
   abbrev whole : PrintsPieces (widest n start) old mid false
   whole = record {
@@ -80,11 +82,11 @@ module _ (first before : ℕ → DeviceTold) (n : ℕ) (start rest : Rest) (old 
     wrote = p.wrote ∙ ap (λ b. with_bytes old b) (sym (append-nil (frames_text (map frame_of p.pieces))));
   }
 
-  stopped : (now last : ℕ → DeviceTold) → Tells before now rest → Tells now last Nil → IsRunOfRest last start (elements_of p.pieces) Cut
-  stopped now last h t = cut_later first before last start rest (elements_of p.pieces) p.led (tells_later before now last rest h t)
+  stopped : (now last : ℕ → DeviceTold) → Tells before now rest → Tells {F = F} now last Nil → IsRunOfRest P last start (elements_of p.pieces) Cut
+  stopped now last h t = cut_later P first before last start rest (elements_of p.pieces) p.led (tells_later before now last rest h t)
 
   -- memory was wanting in a turn
-  pub prints_wanting : (now last : ℕ → DeviceTold) → Tells before now rest → Tells now last Nil → PrintsRun {T = Unit {0}} (IsRunOfRest last start) (widest n start) old mid (Some how.Memory) (Err why.Memory)
+  pub prints_wanting : (now last : ℕ → DeviceTold) → Tells before now rest → Tells {F = F} now last Nil → PrintsRun {T = Unit {0}} (IsRunOfRest P last start) (widest n start) old mid (Some how.Memory) (Err why.Memory)
   prints_wanting now last h t = record {
     how = how.Memory;
     ended_is = refl;
@@ -92,32 +94,32 @@ module _ (first before : ℕ → DeviceTold) (n : ℕ) (start rest : Rest) (old 
     run = record { end = Cut; run = stopped now last h t; goes_on = λ e. absurd (true_false (sym e)); reported = inr refl; halted = λ e. absurd (true_false (sym e)); remembered = λ e. refl };
   }
 
-module _ (first : ℕ → DeviceTold) (before now : Around) (n : ℕ) (start rest next : Rest) (old mid : SinkTold) (p : PrintsOn first before.told n start rest old mid) where
-  piece : (l : Load) → Turns before now n rest next (turn.Chunk l) → Sized n rest next (elements l) → IsPiece (widest n start) (elements l)
+module _ {F : Type 0} (P : Standing F) (first : ℕ → DeviceTold) (before now : Around) (n : ℕ) (start rest next : Rest F) (old mid : SinkTold) (p : PrintsOn P first before.told n start rest old mid) where
+  piece : (l : Load) → Turns P before now n rest next (turn.Chunk l) → Sized n rest next (elements l) → IsPiece (widest n start) (elements l)
   piece l k s = (k.gave.0, omega (arith, s.piece, p.wide))
 
-  pub prints_chunk : (new : SinkTold) (l : Load) → Turns before now n rest next (turn.Chunk l) → Sized n rest next (elements l) → new ≡ with_bytes mid (frame_text 0 (rendering_of (elements l)))
-      → PrintsOn first now.told n start next old new
+  pub prints_chunk : (new : SinkTold) (l : Load) → Turns P before now n rest next (turn.Chunk l) → Sized n rest next (elements l) → new ≡ with_bytes mid (frame_text 0 (rendering_of (elements l)))
+      → PrintsOn P first now.told n start next old new
   prints_chunk new l k s w = record {
     pieces = p.pieces ++ elements l ∷ [];
     sizes = each_snoc (IsPiece (widest n start)) p.pieces (elements l) p.sizes (piece l k s);
-    wide = omega (arith, s.pieces, p.wide);
-    led = subst (λ xs. Led first now.told start next xs) (sym (elements_snoc p.pieces (elements l))) (led_chunk first before now n start rest next (elements_of p.pieces) p.led l k);
+    wide = omega (arith, s.pieces, p.wide); plain = s.plain;
+    led = subst (λ xs. Led P first now.told start next xs) (sym (elements_snoc p.pieces (elements l))) (led_chunk P first before now n start rest next (elements_of p.pieces) p.led l k);
     wrote = w ∙ (ap (λ s. with_bytes s (frame_text 0 (rendering_of (elements l)))) p.wrote
         ∙ (with_bytes_twice old (frames_text (map frame_of p.pieces)) (frame_text 0 (rendering_of (elements l))) ∙ ap (λ b. with_bytes old b) (sym (frames_snoc p.pieces (elements l)))));
   }
 
-  pub prints_quiet : Turns before now n rest next turn.Quiet → Sized n rest next [] → PrintsOn first now.told n start next old mid
-  prints_quiet k s = record { pieces = p.pieces; sizes = p.sizes; wide = omega (arith, s.pieces, p.wide); led = led_quiet first before now n start rest next (elements_of p.pieces) p.led k; wrote = p.wrote }
+  pub prints_quiet : Turns P before now n rest next turn.Quiet → Sized n rest next [] → PrintsOn P first now.told n start next old mid
+  prints_quiet k s = record { pieces = p.pieces; sizes = p.sizes; wide = omega (arith, s.pieces, p.wide); plain = s.plain; led = led_quiet P first before now n start rest next (elements_of p.pieces) p.led k; wrote = p.wrote }
 
-  pub prints_done : Turns before now n rest next turn.Done → PrintsRun {T = Unit {0}} (IsRunOfRest now.told start) (widest n start) old mid (Some how.Done) (Ok tt)
+  pub prints_done : Turns P before now n rest next turn.Done → PrintsRun {T = Unit {0}} (IsRunOfRest P now.told start) (widest n start) old mid (Some how.Done) (Ok tt)
   prints_done k = record {
     how = how.Done;
     ended_is = refl;
-    printed = whole first before.told n start rest old mid p;
+    printed = whole P first before.told n start rest old mid p;
     run = record {
       end = Done;
-      run = led_done first before now n start rest next (elements_of p.pieces) p.led k now.told (over_now now.told start);
+      run = led_done P first before now n start rest next (elements_of p.pieces) p.led k now.told (over_now now.told start);
       goes_on = λ e. absurd (true_false (sym e));
       reported = refl;
       halted = λ e. absurd (true_false (sym e));
@@ -125,14 +127,14 @@ module _ (first : ℕ → DeviceTold) (before now : Around) (n : ℕ) (start res
     };
   }
 
-  pub prints_fault : (c : Code) → Turns before now n rest next (turn.Fault c) → PrintsRun {T = Unit {0}} (IsRunOfRest now.told start) (widest n start) old mid (Some (how.Fault c)) (Ok tt)
+  pub prints_fault : (c : Code) → Turns P before now n rest next (turn.Fault c) → PrintsRun {T = Unit {0}} (IsRunOfRest P now.told start) (widest n start) old mid (Some (how.Fault c)) (Ok tt)
   prints_fault c k = record {
     how = how.Fault c;
     ended_is = refl;
-    printed = whole first before.told n start rest old mid p;
+    printed = whole P first before.told n start rest old mid p;
     run = record {
       end = Fault c;
-      run = led_fault first before now n start rest next (elements_of p.pieces) p.led c k now.told (over_now now.told start);
+      run = led_fault P first before now n start rest next (elements_of p.pieces) p.led c k now.told (over_now now.told start);
       goes_on = λ e. absurd (true_false (sym e));
       reported = refl;
       halted = λ e. absurd (true_false (sym e));
@@ -140,19 +142,19 @@ module _ (first : ℕ → DeviceTold) (before now : Around) (n : ℕ) (start res
     };
   }
 
-  module _ (last : ℕ → DeviceTold) (t : Tells now.told last Nil) where
+  module _ (last : ℕ → DeviceTold) (t : Tells {F = F} now.told last Nil) where
     -- memory was wanting for the text of a piece
-    pub prints_unrendered : (new : SinkTold) (l : Load) → Turns before now n rest next (turn.Chunk l) → new ≡ mid → PrintsRun {T = Unit {0}} (IsRunOfRest last start) (widest n start) old new (Some how.Halted) (Err why.Memory)
-    prints_unrendered new l k e = subst (λ s. PrintsRun {T = Unit {0}} (IsRunOfRest last start) (widest n start) old s (Some how.Halted) (Err why.Memory)) (sym e) (record {
+    pub prints_unrendered : (new : SinkTold) (l : Load) → Turns P before now n rest next (turn.Chunk l) → new ≡ mid → PrintsRun {T = Unit {0}} (IsRunOfRest P last start) (widest n start) old new (Some how.Halted) (Err why.Memory)
+    prints_unrendered new l k e = subst (λ s. PrintsRun {T = Unit {0}} (IsRunOfRest P last start) (widest n start) old s (Some how.Halted) (Err why.Memory)) (sym e) (record {
       how = how.Halted;
       ended_is = refl;
-      printed = whole first before.told n start rest old mid p;
-      run = record { end = Cut; run = stopped first before.told n start rest old mid p now.told last k.tells t; goes_on = λ e. absurd (true_false (sym e)); reported = inl refl; halted = λ e. inr refl; remembered = λ e. absurd (true_false (sym e)) };
+      printed = whole P first before.told n start rest old mid p;
+      run = record { end = Cut; run = stopped P first before.told n start rest old mid p now.told last k.tells t; goes_on = λ e. absurd (true_false (sym e)); reported = inl refl; halted = λ e. inr refl; remembered = λ e. absurd (true_false (sym e)) };
     })
 
     -- a write failed
-    pub prints_broken : (new : SinkTold) (l : Load) → Turns before now n rest next (turn.Chunk l) → Sized n rest next (elements l) → BreaksOff mid new (frame_text 0 (rendering_of (elements l)))
-        → PrintsRun {T = Unit {0}} (IsRunOfRest last start) (widest n start) old new (Some how.Halted) (Err why.Unwritten)
+    pub prints_broken : (new : SinkTold) (l : Load) → Turns P before now n rest next (turn.Chunk l) → Sized n rest next (elements l) → BreaksOff mid new (frame_text 0 (rendering_of (elements l)))
+        → PrintsRun {T = Unit {0}} (IsRunOfRest P last start) (widest n start) old new (Some how.Halted) (Err why.Unwritten)
     prints_broken new l k s b =
         let text : List ℕ = frame_text 0 (rendering_of (elements l)) in
         let parts = rest_of text b.count b.front in
@@ -170,8 +172,8 @@ module _ (first : ℕ → DeviceTold) (before now : Around) (n : ℕ) (start res
           };
           run = record {
             end = Cut;
-            run = stopped first before.told n start rest old mid p now.told last k.tells t;
-            goes_on = λ e. cut_later first now.told last start next (elements_of p.pieces ++ elements l) (led_chunk first before now n start rest next (elements_of p.pieces) p.led l k) (tells_of now.told last next t);
+            run = stopped P first before.told n start rest old mid p now.told last k.tells t;
+            goes_on = λ e. cut_later P first now.told last start next (elements_of p.pieces ++ elements l) (led_chunk P first before now n start rest next (elements_of p.pieces) p.led l k) (tells_of now.told last next t);
             reported = inl refl;
             halted = λ e. inl refl;
             remembered = λ e. absurd (true_false (sym e));
@@ -179,7 +181,7 @@ module _ (first : ℕ → DeviceTold) (before now : Around) (n : ℕ) (start res
         }
 
     -- a piece wasn't printed whole
-    pub prints_put : (new : SinkTold) (l : Load) (cause : NotPut) → Turns before now n rest next (turn.Chunk l) → Sized n rest next (elements l) → PutsLoad {T = Unit {0}} mid new 0 l (Err cause)
-        → PrintsRun {T = Unit {0}} (IsRunOfRest last start) (widest n start) old new (Some how.Halted) (Err cause)
+    pub prints_put : (new : SinkTold) (l : Load) (cause : NotPut) → Turns P before now n rest next (turn.Chunk l) → Sized n rest next (elements l) → PutsLoad {T = Unit {0}} mid new 0 l (Err cause)
+        → PrintsRun {T = Unit {0}} (IsRunOfRest P last start) (widest n start) old new (Some how.Halted) (Err cause)
     prints_put new l why.Unwritten k s h = prints_broken new l k s h
     prints_put new l why.Memory k s h = prints_unrendered new l k h.0

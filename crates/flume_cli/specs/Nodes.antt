@@ -19,7 +19,7 @@ use Rattle.tree_laws.specs.Called.{Called}
 use Rattle.pull_stepper.specs.Held.{Finishes}
 use Rattle.pull_stepper.specs.Placing.{first_of}
 use Rattle.pull_stepper.specs.Sites.{Parted, SameDevice, told_at}
-use Rattle.pull_stepper.specs.Stepping.{begun}
+use Rattle.pull_stepper.specs.Stepping.{site_of}
 use Rattle.flume_cli.specs.declared.frame.NotPut.{NotPut}
 use Rattle.flume_cli.specs.Printing.{PrintsRun}
 
@@ -28,7 +28,7 @@ module _ {V T : Type 0} where
   -- tree was left alone, and each device stands on the shelf or was never opened.
   pub record RunsNode (told : V → DeviceTold) (n : Node) (devices : List V) (chunk : ℕ) (a b : Seen V) (old new : SinkTold) (how : How) (unopened : List V) (r : Result T NotPut) : Type 0 where
     pub home : ℕ → DeviceTold
-    pub same : (p : ℕ) → SameDevice (told_at told (begun n a devices chunk).site p) (home p)
+    pub same : (p : ℕ) → SameDevice (told_at told (site_of n a devices) p) (home p)
     pub prints : PrintsRun (IsRun home n) (widest_of chunk n) old new (Some how) r
     pub parted : Parted told home b.shelf (first_of (places_of n) + length devices) (first_of (places_of n)) unopened
     pub once : AreDistinct (firsts (said b.shelf))

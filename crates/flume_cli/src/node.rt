@@ -1,6 +1,7 @@
 //! A node that is run over a tree to its end.
 ghost use Rattle.std.specs.Prelude.{◌≡◌, ◌-◌, ◌^◌, ◌<◌, ◌≤◌, []};
 ghost use Rattle.chunk_core.specs.declared.code.How.TheVariants as how;
+ghost use Rattle.pull_turns.specs.Sizes.{HasNoPipeOf};
 ghost use Rattle.scope_tree.specs.Calls.{Closes, IsOpenScope};
 ghost use Rattle.scope_tree.specs.Trees.{Fits, seen};
 ghost use Rattle.pull_stepper.specs.Held.{Finishes};
@@ -9,6 +10,7 @@ ghost use Rattle.flume_cli.specs.Nodes.{RunsNode};
 
 use crate::frame::NotPut;
 use crate::print::print_all;
+use any_pipe::AnyPipe;
 use chunk_core::{How, List};
 use device_port::{Device, Sink};
 use pull_nodes::Node;
@@ -17,7 +19,7 @@ use row_seat::RowSeat;
 use scope_tree::Tree;
 use std::alloc::Global;
 
-/// Runs a node to its end, in reads of at most `chunk` bytes, and prints each piece that it gives as
+/// Runs a node without pipes to its end, in reads of at most `chunk` bytes, and prints each piece that it gives as
 /// a frame of stream 0. Where there is no memory to begin, the root is closed.
 pub(crate) fn run_node<V: Device, S: RowSeat<Pay = Held<V>>, K: Sink>(
     alloc: Global,
@@ -29,6 +31,7 @@ pub(crate) fn run_node<V: Device, S: RowSeat<Pay = Held<V>>, K: Sink>(
     out: &mut K,
 ) -> (Ended<S, V>, Result<(), NotPut>)
     requires fits { Fits S.view S.fits tree desk.old }
+    requires plain { HasNoPipeOf node }
     requires supplied { IsSupplied V.told node devices }
     requires room { HasRoomFor (seen S.view tree) node }
     requires shelf { (seen S.view tree).shelf ≡ [] }
@@ -37,7 +40,7 @@ pub(crate) fn run_node<V: Device, S: RowSeat<Pay = Held<V>>, K: Sink>(
     ensures runs { RunsNode V.told node devices chunk (seen S.view tree) (seen S.view result.0.tree) (K.told out.old) (K.told out.new) result.0.how result.0.unopened result.1 }
     ensures fits { Fits S.view S.fits result.0.tree desk.new }
 {
-    match Stepper::new(alloc, node, tree, devices, chunk) {
+    match Stepper::<S, V, AnyPipe>::new(alloc, node, tree, devices, chunk) {
         Ok(stepper) => {
             let mut stepper = stepper;
             let printed = print_all(alloc, &mut stepper, desk, out);

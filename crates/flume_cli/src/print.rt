@@ -1,6 +1,8 @@
 //! What a stream gives, printed piece by piece.
 ghost use Rattle.std.specs.Prelude.{◌≡◌, ◌-◌, ◌^◌, ◌<◌, None, Err, length};
 ghost use Rattle.chunk_core.specs.Elements.{elements};
+ghost use Rattle.pull_turns.specs.Piping.{standing};
+ghost use Rattle.pull_turns.specs.Sizes.{HasNoPipe};
 ghost use Rattle.scope_tree.specs.Calls.{IsOpenScope};
 ghost use Rattle.pull_stepper.specs.Held.{Finishes};
 ghost use Rattle.pull_stepper.specs.Sites.{Since};
@@ -12,23 +14,25 @@ ghost use Rattle.flume_cli.specs.Printing.{PrintsAll};
 use crate::frame::{NotPut, put_load};
 use chunk_core::Load;
 use device_port::{Device, Sink};
+use pull_nodes::PipeState;
 use pull_stepper::{Held, Stepper};
 use pull_turns::Turn;
 use row_seat::RowSeat;
 use std::alloc::{AllocError, Global};
 
-/// Runs a stream to its end and prints each piece as a frame of stream 0. The stream is halted where
+/// Runs a stream without pipes to its end and prints each piece as a frame of stream 0. The stream is halted where
 /// a write fails or memory is wanting.
-pub(crate) fn print_all<V: Device, S: RowSeat<Pay = Held<V>>, K: Sink>(
+pub(crate) fn print_all<V: Device, S: RowSeat<Pay = Held<V>>, F: PipeState, K: Sink>(
     alloc: Global,
-    stepper: &mut Stepper<S, V>,
+    stepper: &mut Stepper<S, V, F>,
     desk: &mut S::Desk,
     out: &mut K,
 ) -> Result<(), NotPut>
     requires fits { Works S.view V.told S.fits stepper.old desk.old }
-    requires can { CanGo V.told (stepping S.view stepper.old) }
+    requires plain { HasNoPipe (stepping S.view stepper.old).rest }
+    requires can { CanGo (standing F.stands F.comes) V.told (stepping S.view stepper.old) }
     requires room { (K.told out.old).faults < 2 ^ 64 - 1 }
-    ensures prints { PrintsAll V.told (stepping S.view stepper.old) (stepping S.view stepper.new) (K.told out.old) (K.told out.new) result }
+    ensures prints { PrintsAll (standing F.stands F.comes) V.told (stepping S.view stepper.old) (stepping S.view stepper.new) (K.told out.old) (K.told out.new) result }
     ensures over { IsOver V.told (stepping S.view stepper.new) }
     ensures fits { Works S.view V.told S.fits stepper.new desk.new }
     ensures since { Since V.told (Finishes V.told) (stepping S.view stepper.old).site (stepping S.view stepper.new).site }
@@ -48,8 +52,8 @@ pub(crate) fn print_all<V: Device, S: RowSeat<Pay = Held<V>>, K: Sink>(
 }
 
 /// Halts a stream, and tells why.
-fn stop<V: Device, S: RowSeat<Pay = Held<V>>>(
-    stepper: &mut Stepper<S, V>,
+fn stop<V: Device, S: RowSeat<Pay = Held<V>>, F: PipeState>(
+    stepper: &mut Stepper<S, V, F>,
     desk: &mut S::Desk,
     cause: NotPut,
 ) -> Result<(), NotPut>

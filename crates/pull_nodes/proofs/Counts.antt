@@ -2,7 +2,7 @@
 use Rattle.std.proofs.Common.{◌≤◌, length, length-append, arith}
 use Rattle.pull_nodes.specs.Shape.{node_count, scope_count, places_of}
 use Rattle.pull_nodes.specs.declared.node.Node.{Node}
-use Rattle.pull_nodes.specs.declared.node.Node.TheVariants.{Nil, Emit, Raise, Read, Weak', Scope', Append', OnFault', Take'}
+use Rattle.pull_nodes.specs.declared.node.Node.TheVariants.{Nil, Emit, Raise, Read, Weak', Scope', Append', OnFault', Through', Take'}
 
 pub places_le : (n : Node) → length (places_of n) ≤ node_count n
 places_le Nil = omega arith
@@ -13,6 +13,7 @@ places_le (Weak' p _ a) = omega (arith, places_le a)
 places_le (Scope' _ a) = omega (arith, places_le a)
 places_le (Append' _ a _ b) = omega (arith, length-append (places_of a) (places_of b), places_le a, places_le b)
 places_le (OnFault' _ a _ b) = omega (arith, length-append (places_of a) (places_of b), places_le a, places_le b)
+places_le (Through' _ a q) = omega (arith, places_le a)
 places_le (Take' n _ a) = omega (arith, places_le a)
 
 pub scopes_le : (n : Node) → scope_count n ≤ node_count n
@@ -24,4 +25,5 @@ scopes_le (Weak' p _ a) = omega (arith, scopes_le a)
 scopes_le (Scope' _ a) = omega (arith, scopes_le a)
 scopes_le (Append' _ a _ b) = omega (arith, scopes_le a, scopes_le b)
 scopes_le (OnFault' _ a _ b) = omega (arith, scopes_le a, scopes_le b)
+scopes_le (Through' _ a q) = omega (arith, scopes_le a)
 scopes_le (Take' n _ a) = omega (arith, scopes_le a)

@@ -1,12 +1,15 @@
 -- A node has one ideal run over the same contents.
-use Rattle.std.proofs.Common.{◌≡◌, inl, inr, subst, ℕ, List, length, sym, ap, arith}
+use Rattle.std.proofs.Common.{◌≡◌, inl, inr, subst, ℕ, List, length, Option, Some, None, sym, ap, arith}
 use Rattle.chunk_core.specs.Elements.{Element}
-use Rattle.chunk_core.specs.Outcomes.{End, Outcomes}
+use Rattle.chunk_core.specs.declared.code.Code.{Code}
+use Rattle.chunk_core.specs.Feed.{Given}
+use Rattle.chunk_core.specs.Outcomes.{End, Done, Fault, Cut, Outcomes}
 use Rattle.device_port.specs.Device.{DeviceTold, faults_of}
-use Rattle.pull_nodes.specs.Runs.{IsIdealRun, Reads, ReadsBy, ReadsContent, Opens, Follows, Taken}
+use Rattle.pull_nodes.specs.Pipes.{part_of, all_of}
+use Rattle.pull_nodes.specs.Runs.{IsIdealRun, Reads, ReadsBy, ReadsContent, Opens, Follows, Taken, GivesAtEnd, GivesBy, Piped}
 use Rattle.pull_nodes.specs.Laws.{IsClean, TellSame, TellSameOf}
 use Rattle.pull_nodes.specs.declared.node.Node.{Node}
-use Rattle.pull_nodes.specs.declared.node.Node.TheVariants.{Nil, Emit, Raise, Read, Weak', Scope', Append', OnFault', Take'}
+use Rattle.pull_nodes.specs.declared.node.Node.TheVariants.{Nil, Emit, Raise, Read, Weak', Scope', Append', OnFault', Through', Take'}
 
 -- what the two give is one run
 abbrev OneRun : Outcomes → Outcomes → Type 0
@@ -38,6 +41,20 @@ one_taken : (n : ℕ) (A B : Outcomes) → OneRun A B → OneRun (Taken n A) (Ta
 one_taken n A B f xs ys e g r s =
     let h = f r.0 s.0 r.1 s.1 r.2 s.2 in let k = ap length h.0 in let a = r.3 in let b = s.3 in grind arith
 
+one_at_end : (part all : List Element → Given) (zs : List Element) (k : End) → OneRun (GivesAtEnd part all zs k) (GivesAtEnd part all zs k)
+one_at_end part all zs Done xs ys e g r s = (cc, cc)
+one_at_end part all zs (Fault c) xs ys e g r s = (cc, cc)
+one_at_end part all zs Cut xs ys e g r s = (cc, cc)
+
+one_by : (part all : List Element → Given) (c : Option Code) (zs : List Element) (k : End) → OneRun (GivesBy c part all zs k) (GivesBy c part all zs k)
+one_by part all None zs k xs ys e g r s = one_at_end part all zs k xs ys e g r s
+one_by part all (Some c) zs k xs ys e g r s = (cc, cc)
+
+one_piped : (part all : List Element → Given) (A B : Outcomes) → OneRun A B → OneRun (Piped part all A) (Piped part all B)
+one_piped part all A B f xs ys e g r s =
+    let h = f r.0 s.0 r.1 s.1 r.2 s.2 in
+    one_by part all (part r.0).fault r.0 r.1 xs ys e g r.3 (subst (λ k. GivesBy (part r.0).fault part all r.0 k ys g) (sym h.1) (subst (λ zs. GivesBy (part zs).fault part all zs s.1 ys g) (sym h.0) s.3))
+
 pub one : (v w : ℕ → DeviceTold) → IsClean v → IsClean w → (n : Node) → TellSameOf v w n → OneRun (IsIdealRun v n) (IsIdealRun w n)
 one v w cv cw Nil t xs ys e g r s = (cc, cc)
 one v w cv cw (Emit l) t xs ys e g r s = (cc, cc)
@@ -47,4 +64,5 @@ one v w cv cw (Weak' p q a) t xs ys e g r s = one_opens (v p) (w p) (cv p) (cw p
 one v w cv cw (Scope' q a) t xs ys e g r s = one v w cv cw a t xs ys e g r s
 one v w cv cw (Append' p a q b) t xs ys e g r s = one_follows _ _ _ _ _ _ _ (one v w cv cw a t.0) (one v w cv cw b t.1) xs ys e g r s
 one v w cv cw (OnFault' p a q b) t xs ys e g r s = one_follows _ _ _ _ _ _ _ (one v w cv cw a t.0) (one v w cv cw b t.1) xs ys e g r s
+one v w cv cw (Through' p a q) t xs ys e g r s = one_piped (part_of q) (all_of q) _ _ (one v w cv cw a t) xs ys e g r s
 one v w cv cw (Take' n p a) t xs ys e g r s = one_taken n _ _ (one v w cv cw a t) xs ys e g r s

@@ -6,7 +6,7 @@ use Rattle.pull_nodes.specs.Shape.{uses_of}
 use Rattle.pull_nodes.specs.Placed.{is_inside, is_loose}
 use Rattle.pull_nodes.proofs.Joins.{any_append}
 use Rattle.pull_nodes.specs.declared.node.Node.{Node}
-use Rattle.pull_nodes.specs.declared.node.Node.TheVariants.{Nil, Emit, Raise, Read, Weak', Scope', Append', OnFault', Take'}
+use Rattle.pull_nodes.specs.declared.node.Node.TheVariants.{Nil, Emit, Raise, Read, Weak', Scope', Append', OnFault', Through', Take'}
 
 both : (a b : Bool) → a ≡ true → b ≡ true → (a && b) ≡ true
 both true b h k = k
@@ -61,6 +61,7 @@ inside_loose ps (Append' _ a _ b) h p l =
     either (is_loose p a) (is_loose p b) (any (nat_eq p) ps) l (inside_loose ps a (first (is_inside ps a) (is_inside ps b) h) p) (inside_loose ps b (second (is_inside ps a) (is_inside ps b) h) p)
 inside_loose ps (OnFault' _ a _ b) h p l =
     either (is_loose p a) (is_loose p b) (any (nat_eq p) ps) l (inside_loose ps a (first (is_inside ps a) (is_inside ps b) h) p) (inside_loose ps b (second (is_inside ps a) (is_inside ps b) h) p)
+inside_loose ps (Through' _ a q) h p l = inside_loose ps a h p l
 inside_loose ps (Take' n _ a) h p l = inside_loose ps a h p l
 
 pub loose_inside : (ps : List ℕ) (n : Node) → HasNoOther ps n → is_inside ps n ≡ true
@@ -74,6 +75,7 @@ loose_inside ps (Append' _ a _ b) f =
     both (is_inside ps a) (is_inside ps b) (loose_inside ps a (λ p l. f p (left (is_loose p a) (is_loose p b) l))) (loose_inside ps b (λ p l. f p (right (is_loose p a) (is_loose p b) l)))
 loose_inside ps (OnFault' _ a _ b) f =
     both (is_inside ps a) (is_inside ps b) (loose_inside ps a (λ p l. f p (left (is_loose p a) (is_loose p b) l))) (loose_inside ps b (λ p l. f p (right (is_loose p a) (is_loose p b) l)))
+loose_inside ps (Through' _ a q) f = loose_inside ps a f
 loose_inside ps (Take' n _ a) f = loose_inside ps a f
 
 among_left : (p : ℕ) (xs ys : List ℕ) → any (nat_eq p) xs ≡ true → any (nat_eq p) (xs ++ ys) ≡ true
@@ -94,6 +96,7 @@ loose_used p (Append' _ a _ b) l =
     either (is_loose p a) (is_loose p b) (any (nat_eq p) (uses_of a ++ uses_of b)) l (λ h. among_left p (uses_of a) (uses_of b) (loose_used p a h)) (λ h. among_right p (uses_of a) (uses_of b) (loose_used p b h))
 loose_used p (OnFault' _ a _ b) l =
     either (is_loose p a) (is_loose p b) (any (nat_eq p) (uses_of a ++ uses_of b)) l (λ h. among_left p (uses_of a) (uses_of b) (loose_used p a h)) (λ h. among_right p (uses_of a) (uses_of b) (loose_used p b h))
+loose_used p (Through' _ a q) l = loose_used p a l
 loose_used p (Take' n _ a) l = loose_used p a l
 
 not_both : (b : Bool) → b ≡ true → not b ≡ true → ⊥

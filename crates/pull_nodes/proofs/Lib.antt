@@ -1,3 +1,4 @@
+pub mod Beginnings
 pub mod Characters
 pub mod Counts
 pub mod Fronts
@@ -12,6 +13,7 @@ pub mod LossyCuts
 pub mod LossyLaws
 pub mod Malformed
 pub mod Meanings
+pub mod OwnFaults
 mod PipeExamples
 pub mod PipeLaws
 pub mod PlainLaws

@@ -36,7 +36,7 @@ lossy-at v r text none some =
     (let e = ap utf8_invalid_len rest in omega (arith, e, bounds.1, length-take k r))
     (omega (arith, bounds.0, bounds.1, length-take k r))
 
-lossy-nil : utf8_lossy [] ≡ []
+pub lossy-nil : utf8_lossy [] ≡ []
 lossy-nil = utf8_lossy-IsUtf8 [] IsUtf8-nil
 
 rest_some : (t : List ℕ) → utf8_valid_len t < length t → 0 < length (utf8_rest t)

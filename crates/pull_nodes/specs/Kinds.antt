@@ -4,8 +4,10 @@ use Rattle.chunk_core.specs.declared.load.Load.{Load}
 use Rattle.chunk_core.specs.declared.load.Load.TheVariants as load
 use Rattle.pull_nodes.specs.declared.kind.Kind.{Kind}
 use Rattle.pull_nodes.specs.declared.kind.Kind.TheVariants as kind
+use Rattle.pull_nodes.specs.PipeKinds.{piped_kind}
+use Rattle.pull_nodes.specs.declared.pipe.Pipe.{Pipe}
 use Rattle.pull_nodes.specs.declared.node.Node.{Node}
-use Rattle.pull_nodes.specs.declared.node.Node.TheVariants.{Nil, Emit, Raise, Read, Weak', Scope', Append', OnFault', Take'}
+use Rattle.pull_nodes.specs.declared.node.Node.TheVariants.{Nil, Emit, Raise, Read, Weak', Scope', Append', OnFault', Through', Take'}
 
 -- the kind of a load, which an empty one has too
 abbrev pub load_kind : Load → Kind
@@ -35,6 +37,11 @@ kind_of_sides None k = None
 kind_of_sides (Some j) None = None
 kind_of_sides (Some j) (Some k) = joined_kind j k
 
+-- the kind behind a pipe, or none where it has none or the pipe doesn't take it
+abbrev pub kind_behind : Pipe → Option Kind → Option Kind
+kind_behind q None = None
+kind_behind q (Some k) = piped_kind q k
+
 -- the kind of a node's elements, or none where a step gets a kind that it doesn't take
 abbrev pub kind_of : Node → Option Kind
 kind_of Nil = Some kind.Any
@@ -45,4 +52,5 @@ kind_of (Weak' p _ a) = kind_of a
 kind_of (Scope' _ a) = kind_of a
 kind_of (Append' _ a _ b) = kind_of_sides (kind_of a) (kind_of b)
 kind_of (OnFault' _ a _ b) = kind_of_sides (kind_of a) (kind_of b)
+kind_of (Through' _ a q) = kind_behind q (kind_of a)
 kind_of (Take' n _ a) = kind_of a

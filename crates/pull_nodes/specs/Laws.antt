@@ -1,5 +1,5 @@
 -- What holds of the runs of every node, and of what every pipe gives.
-use Rattle.std.specs.Prelude.{◌≡◌, ◌↔◌, ℕ, true, List, ◌++◌, length, Some, None}
+use Rattle.std.specs.Prelude.{◌≡◌, ◌↔◌, ℕ, true, List, ◌++◌, length, Option, Some, None}
 use Rattle.chunk_core.specs.Elements.{Element}
 use Rattle.chunk_core.specs.Feed.{Meaning}
 use Rattle.chunk_core.specs.Outcomes.{End, Cut}
@@ -12,7 +12,7 @@ use Rattle.pull_nodes.specs.Plain.{same_element}
 use Rattle.pull_nodes.specs.Runs.{IsRun, IsIdealRun}
 use Rattle.pull_nodes.specs.Utf8.{IsMalformed, is_malformed, utf8_rest}
 use Rattle.pull_nodes.specs.declared.node.Node.{Node}
-use Rattle.pull_nodes.specs.declared.node.Node.TheVariants.{Nil, Emit, Raise, Read, Weak', Scope', Append', OnFault', Take'}
+use Rattle.pull_nodes.specs.declared.node.Node.TheVariants.{Nil, Emit, Raise, Read, Weak', Scope', Append', OnFault', Through', Take'}
 use Rattle.pull_nodes.specs.declared.pipe.Pipe.{Pipe}
 
 -- a front of what a run gives is what a run gives that was left
@@ -37,6 +37,7 @@ TellSameOf v w (Weak' p _ a) = TellSameOf v w a
 TellSameOf v w (Scope' _ a) = TellSameOf v w a
 TellSameOf v w (Append' _ a _ b) = TellSameOf v w a × TellSameOf v w b
 TellSameOf v w (OnFault' _ a _ b) = TellSameOf v w a × TellSameOf v w b
+TellSameOf v w (Through' _ a q) = TellSameOf v w a
 TellSameOf v w (Take' n _ a) = TellSameOf v w a
 
 -- two ideal runs of a node, where nothing failed and the contents are the same, are one
@@ -58,6 +59,12 @@ pub record IsSteady (m : Meaning) : Type 0 where
 -- each pipe is so at each kind that it takes
 abbrev pub PipesAreSteady : Type 0
 PipesAreSteady = (p : Pipe) (m : Meaning) → IsMeaningOf p m → IsSteady m
+
+-- no device has such a fault
+pub record IsNoDeviceFault (c : Option Code) : Type 0 where
+  pub opening : c ≡ Some code.Open → ⊥
+  pub reading : c ≡ Some code.Read → ⊥
+  pub writing : c ≡ Some code.Write → ⊥
 
 -- what the standard library says of the bytes behind the longest well-formed front is that no continuation makes them well formed
 abbrev pub TellsMalformed : Type 0

@@ -1,11 +1,11 @@
 -- What a pipe takes, gives and means.
-use Rattle.std.specs.Prelude.{◌≡◌, List, [], ◌∷◌, ◌++◌, map, filter, drop, Option, Some, None, option_map}
+use Rattle.std.specs.Prelude.{◌≡◌, ℕ, List, [], ◌∷◌, ◌++◌, map, filter, drop, Option, Some, None, option_map}
 use Rattle.std.specs.Str.Lossy.{utf8_lossy}
 use Rattle.chunk_core.specs.Elements.{Element, Byte, Line, LoadKind}
 use Rattle.chunk_core.specs.Feed.{Given, Meaning}
 use Rattle.pull_nodes.specs.Lines.{lines_part, lines_all}
 use Rattle.pull_nodes.specs.PipeKinds.{gives_of}
-use Rattle.pull_nodes.specs.Plain.{bytes_of, uppercase_of, hex_lines, hex_rest, is_match, changes, with_numbers, count_line, with_between, whole_groups}
+use Rattle.pull_nodes.specs.Plain.{bytes_of, uppercase_of, hex_lines, hex_rest, is_match, changes, with_numbers, count_line, with_between, group_size, whole_groups}
 use Rattle.pull_nodes.specs.Utf8.{utf8_part, utf8_all, finished_front}
 use Rattle.pull_nodes.specs.declared.pipe.Pipe.{Pipe}
 use Rattle.pull_nodes.specs.declared.pipe.Pipe.TheVariants as pipe
@@ -43,6 +43,11 @@ all_of pipe.Number xs = without_fault (with_numbers xs)
 all_of pipe.Count xs = without_fault (Line (count_line xs) ∷ [])
 all_of (pipe.Intersperse line) xs = without_fault (with_between line xs)
 all_of (pipe.ChunkN n) xs = without_fault xs
+
+-- the size of the groups that the pipe gives, or none where it gives no groups
+abbrev pub groups_of : Pipe → Option ℕ
+groups_of (pipe.ChunkN n) = Some (group_size n)
+groups_of p = None
 
 -- the pipe where it takes and gives these kinds
 abbrev pub meaning : Pipe → LoadKind → LoadKind → Meaning

@@ -4,7 +4,7 @@ use Rattle.std.specs.List.{list_any as any, list_all as all}
 use Rattle.chunk_core.specs.declared.code.Span.{Span}
 use Rattle.pull_nodes.specs.Shape.{places_of, uses_of}
 use Rattle.pull_nodes.specs.declared.node.Node.{Node}
-use Rattle.pull_nodes.specs.declared.node.Node.TheVariants.{Nil, Emit, Raise, Read, Weak', Scope', Append', OnFault', Take'}
+use Rattle.pull_nodes.specs.declared.node.Node.TheVariants.{Nil, Emit, Raise, Read, Weak', Scope', Append', OnFault', Through', Take'}
 
 -- the span has the row
 abbrev pub is_within : Span → ℕ → Bool
@@ -34,6 +34,7 @@ is_loose p (Weak' q _ a) = not (nat_eq p q) && is_loose p a
 is_loose p (Scope' _ a) = is_loose p a
 is_loose p (Append' _ a _ b) = is_loose p a || is_loose p b
 is_loose p (OnFault' _ a _ b) = is_loose p a || is_loose p b
+is_loose p (Through' _ a q) = is_loose p a
 is_loose p (Take' n _ a) = is_loose p a
 
 -- each Read stands in the part of a Weak of its place, or its place is among the given ones
@@ -46,6 +47,7 @@ is_inside ps (Weak' p _ a) = is_inside (p ∷ ps) a
 is_inside ps (Scope' _ a) = is_inside ps a
 is_inside ps (Append' _ a _ b) = is_inside ps a && is_inside ps b
 is_inside ps (OnFault' _ a _ b) = is_inside ps a && is_inside ps b
+is_inside ps (Through' _ a q) = is_inside ps a
 is_inside ps (Take' n _ a) = is_inside ps a
 
 -- the places are within the span and distinct, each is read once, and each Read stands in the part of a Weak of its place

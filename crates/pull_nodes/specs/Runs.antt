@@ -1,11 +1,14 @@
 -- What a node may give and how it may end, over what the device of each place tells at the end.
 use Rattle.std.specs.Prelude.{◌≡◌, ◌⊎◌, ℕ, ◌<◌, ◌≤◌, ◌^◌, List, [], ◌++◌, map, take, length, Option, Some, None}
+use Rattle.chunk_core.specs.declared.code.Code.{Code}
 use Rattle.chunk_core.specs.declared.code.Code.TheVariants as code
 use Rattle.chunk_core.specs.Elements.{Element, Byte, elements}
+use Rattle.chunk_core.specs.Feed.{Given}
 use Rattle.chunk_core.specs.Outcomes.{End, Done, Fault, Cut, Outcomes}
 use Rattle.device_port.specs.Device.{DeviceTold}
+use Rattle.pull_nodes.specs.Pipes.{part_of, all_of}
 use Rattle.pull_nodes.specs.declared.node.Node.{Node}
-use Rattle.pull_nodes.specs.declared.node.Node.TheVariants.{Nil, Emit, Raise, Read, Weak', Scope', Append', OnFault', Take'}
+use Rattle.pull_nodes.specs.declared.node.Node.TheVariants.{Nil, Emit, Raise, Read, Weak', Scope', Append', OnFault', Through', Take'}
 
 -- or left by whoever ran it: nothing, or a front of what it may give
 abbrev pub OrLeft : Outcomes → Outcomes
@@ -53,6 +56,26 @@ Taken n A ys e =
     (xs : List Element) × (g : End) × A xs g
     × (((n ≤ length xs) × (ys ≡ take n xs) × (e ≡ Done)) ⊎ ((length xs < n) × (ys ≡ xs) × (e ≡ g)))
 
+-- after a fault, or this end where there was none
+abbrev pub end_by_fault : Option Code → End → End
+end_by_fault None g = g
+end_by_fault (Some c) g = Fault c
+
+-- a pipe was fed xs without a fault, and then its input ended so: it gives what belongs to a whole input only where it is one
+abbrev pub GivesAtEnd : (List Element → Given) → (List Element → Given) → List Element → End → Outcomes
+GivesAtEnd part all xs Done ys e = (ys ≡ (all xs).list) × (e ≡ end_by_fault (all xs).fault Done)
+GivesAtEnd part all xs (Fault c) ys e = (ys ≡ (part xs).list) × (e ≡ Fault c)
+GivesAtEnd part all xs Cut ys e = (ys ≡ (part xs).list) × (e ≡ Cut)
+
+-- a pipe was fed xs, and has this fault or none; a fault of its own comes before the end of its input
+abbrev pub GivesBy : Option Code → (List Element → Given) → (List Element → Given) → List Element → End → Outcomes
+GivesBy (Some c) part all xs g ys e = (ys ≡ (part xs).list) × (e ≡ Fault c)
+GivesBy None part all xs g ys e = GivesAtEnd part all xs g ys e
+
+-- what A gives goes through a pipe
+abbrev pub Piped : (List Element → Given) → (List Element → Given) → Outcomes → Outcomes
+Piped part all A ys e = (xs : List Element) × (g : End) × A xs g × GivesBy (part xs).fault part all xs g ys e
+
 -- the node never ran: nothing was written at its places
 abbrev pub IsIdle : (ℕ → DeviceTold) → Node → Type 0
 IsIdle w Nil = Unit {0}
@@ -63,6 +86,7 @@ IsIdle w (Weak' p _ a) = IsIdle w a
 IsIdle w (Scope' _ a) = IsIdle w a
 IsIdle w (Append' _ a _ b) = IsIdle w a × IsIdle w b
 IsIdle w (OnFault' _ a _ b) = IsIdle w a × IsIdle w b
+IsIdle w (Through' _ a q) = IsIdle w a
 IsIdle w (Take' n _ a) = IsIdle w a
 
 -- what the node may give, where each of its parts may be left as Left says
@@ -75,6 +99,7 @@ Gives Left w (Weak' p _ a) ys e = Opens (w p) (Left (Gives Left w a)) (IsIdle w 
 Gives Left w (Scope' _ a) ys e = Left (Gives Left w a) ys e
 Gives Left w (Append' _ a _ b) ys e = Follows (λ g. g ≡ Done) (Left (Gives Left w a)) (Left (Gives Left w b)) (IsIdle w b) ys e
 Gives Left w (OnFault' _ a _ b) ys e = Follows IsFault (Left (Gives Left w a)) (Left (Gives Left w b)) (IsIdle w b) ys e
+Gives Left w (Through' _ a q) ys e = Piped (part_of q) (all_of q) (Left (Gives Left w a)) ys e
 Gives Left w (Take' n _ a) ys e = Taken n (Left (Gives Left w a)) ys e
 
 -- a run of the node; it and each of its parts may be left at any time

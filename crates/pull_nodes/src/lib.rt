@@ -7,10 +7,12 @@ pub mod laws;
 pub mod node;
 pub mod pipe;
 pub mod placed;
+pub mod state;
 
 pub use kind::{Kind, KindFault};
 pub use node::Node;
 pub use pipe::Pipe;
+pub use state::PipeState;
 
 #[cfg(test)]
 mod tests;

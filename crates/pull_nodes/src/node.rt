@@ -5,6 +5,7 @@ ghost use Rattle.pull_nodes.specs.Kinds.{kind_of};
 ghost use Rattle.pull_nodes.specs.Shape.{node_count, scope_count, places_of};
 
 use crate::kind::{Kind, KindFault};
+use crate::pipe::Pipe;
 use chunk_core::Load;
 
 /// A stream as plain data. The number in `Read` and `Weak` is a place: the row of a device.
@@ -27,12 +28,16 @@ pub enum Node {
     Append(Box<Node>, Box<Node>),
     /// The first node, and the second where the first ended in a fault.
     OnFault(Box<Node>, Box<Node>),
+    /// What the pipe gives of the node's elements. What the pipe holds back is given only at the end
+    /// of the whole input.
+    Through(Box<Node>, Pipe),
     /// The first so many elements, and then the end: the node is asked no more.
     Take(u64, Box<Node>),
 }
 
 impl Node {
-    /// The kind of its elements, or the fault where the two sides of a join have different kinds.
+    /// The kind of its elements, or the fault where the two sides of a join have different
+    /// kinds, or a pipe doesn't take the kind that it gets.
     pub fn kind(&self) -> Result<Kind, KindFault>
         ensures { result_ok result ≡ kind_of self.now }
     {
@@ -42,6 +47,7 @@ impl Node {
             Node::Read(_) => Ok(Kind::Bytes),
             Node::Weak(_, a) | Node::Scope(a) | Node::Take(_, a) => a.kind(),
             Node::Append(a, b) | Node::OnFault(a, b) => a.kind()?.join(b.kind()?),
+            Node::Through(a, pipe) => pipe.kind(a.kind()?),
         }
     }
 
@@ -54,7 +60,7 @@ impl Node {
         match self {
             Node::Nil | Node::Emit(_) | Node::Raise(_) | Node::Read(_) => 0,
             Node::Weak(_, a) => a.places() + 1,
-            Node::Scope(a) | Node::Take(_, a) => a.places(),
+            Node::Scope(a) | Node::Through(a, _) | Node::Take(_, a) => a.places(),
             Node::Append(a, b) | Node::OnFault(a, b) => a.places() + b.places(),
         }
     }
@@ -68,7 +74,7 @@ impl Node {
         match self {
             Node::Nil | Node::Emit(_) | Node::Raise(_) | Node::Read(_) => 0,
             Node::Scope(a) => a.scopes() + 1,
-            Node::Weak(_, a) | Node::Take(_, a) => a.scopes(),
+            Node::Weak(_, a) | Node::Through(a, _) | Node::Take(_, a) => a.scopes(),
             Node::Append(a, b) | Node::OnFault(a, b) => a.scopes() + b.scopes(),
         }
     }

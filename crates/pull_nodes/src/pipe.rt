@@ -2,9 +2,11 @@
 ghost use Rattle.std.specs.Prelude.{◌≡◌};
 ghost use Rattle.std.specs.Result.{result_ok};
 ghost use Rattle.pull_nodes.specs.PipeKinds.{piped_kind};
+ghost use Rattle.pull_nodes.specs.Pipes.{groups_of};
 
 use crate::kind::{Kind, KindFault};
 use chunk_core::Line;
+use std::cmp;
 
 /// A step from elements to elements, as plain data.
 #[derive(Drop)]
@@ -59,6 +61,16 @@ impl Pipe {
             }
             (Pipe::Count, _) => Ok(Kind::Lines),
             _ => Err(KindFault),
+        }
+    }
+
+    /// The size of its groups, where it gives groups.
+    pub fn group_size(&self) -> Option<u32>
+        ensures { result ≡ groups_of self.now }
+    {
+        match self {
+            Pipe::ChunkN(n) => Some(cmp::max(*n, 1)),
+            _ => None,
         }
     }
 }

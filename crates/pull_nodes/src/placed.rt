@@ -27,7 +27,7 @@ impl Node {
         match self {
             Node::Nil | Node::Emit(_) | Node::Raise(_) | Node::Read(_) => true,
             Node::Weak(place, a) => span.from <= *place && *place < span.to && a.is_within(span),
-            Node::Scope(a) | Node::Take(_, a) => a.is_within(span),
+            Node::Scope(a) | Node::Through(a, _) | Node::Take(_, a) => a.is_within(span),
             Node::Append(a, b) | Node::OnFault(a, b) => a.is_within(span) && b.is_within(span),
         }
     }
@@ -40,7 +40,7 @@ impl Node {
         match self {
             Node::Nil | Node::Emit(_) | Node::Raise(_) | Node::Read(_) => true,
             Node::Weak(place, a) => !a.acquires(*place) && a.is_distinct(),
-            Node::Scope(a) | Node::Take(_, a) => a.is_distinct(),
+            Node::Scope(a) | Node::Through(a, _) | Node::Take(_, a) => a.is_distinct(),
             Node::Append(a, b) | Node::OnFault(a, b) => {
                 a.is_distinct() && b.is_distinct() && a.is_apart_from(b)
             }
@@ -55,7 +55,7 @@ impl Node {
         match self {
             Node::Nil | Node::Emit(_) | Node::Raise(_) | Node::Read(_) => true,
             Node::Weak(place, a) => !other.acquires(*place) && a.is_apart_from(other),
-            Node::Scope(a) | Node::Take(_, a) => a.is_apart_from(other),
+            Node::Scope(a) | Node::Through(a, _) | Node::Take(_, a) => a.is_apart_from(other),
             Node::Append(a, b) | Node::OnFault(a, b) => {
                 a.is_apart_from(other) && b.is_apart_from(other)
             }
@@ -70,7 +70,7 @@ impl Node {
         match self {
             Node::Nil | Node::Emit(_) | Node::Raise(_) | Node::Read(_) => false,
             Node::Weak(at, a) => place == *at || a.acquires(place),
-            Node::Scope(a) | Node::Take(_, a) => a.acquires(place),
+            Node::Scope(a) | Node::Through(a, _) | Node::Take(_, a) => a.acquires(place),
             Node::Append(a, b) | Node::OnFault(a, b) => a.acquires(place) || b.acquires(place),
         }
     }
@@ -83,7 +83,7 @@ impl Node {
         match self {
             Node::Nil | Node::Emit(_) | Node::Raise(_) | Node::Read(_) => true,
             Node::Weak(place, a) => whole.uses_once(*place) && a.each_is_used_once(whole),
-            Node::Scope(a) | Node::Take(_, a) => a.each_is_used_once(whole),
+            Node::Scope(a) | Node::Through(a, _) | Node::Take(_, a) => a.each_is_used_once(whole),
             Node::Append(a, b) | Node::OnFault(a, b) => {
                 a.each_is_used_once(whole) && b.each_is_used_once(whole)
             }
@@ -98,7 +98,8 @@ impl Node {
         match self {
             Node::Nil | Node::Emit(_) | Node::Raise(_) => false,
             Node::Read(at) => place == *at,
-            Node::Weak(_, a) | Node::Scope(a) | Node::Take(_, a) => a.uses_once(place),
+            Node::Weak(_, a) | Node::Scope(a) | Node::Through(a, _) | Node::Take(_, a) =>
+                a.uses_once(place),
             Node::Append(a, b) | Node::OnFault(a, b) => {
                 (a.uses_once(place) && !b.uses(place)) || (!a.uses(place) && b.uses_once(place))
             }
@@ -113,7 +114,9 @@ impl Node {
         match self {
             Node::Nil | Node::Emit(_) | Node::Raise(_) => false,
             Node::Read(at) => place == *at,
-            Node::Weak(_, a) | Node::Scope(a) | Node::Take(_, a) => a.uses(place),
+            Node::Weak(_, a) | Node::Scope(a) | Node::Through(a, _) | Node::Take(_, a) => a.uses(
+                place,
+            ),
             Node::Append(a, b) | Node::OnFault(a, b) => a.uses(place) || b.uses(place),
         }
     }
@@ -126,7 +129,8 @@ impl Node {
         match self {
             Node::Nil | Node::Emit(_) | Node::Raise(_) => true,
             Node::Read(place) => !whole.is_loose(*place),
-            Node::Weak(_, a) | Node::Scope(a) | Node::Take(_, a) => a.each_use_is_tied(whole),
+            Node::Weak(_, a) | Node::Scope(a) | Node::Through(a, _) | Node::Take(_, a) =>
+                a.each_use_is_tied(whole),
             Node::Append(a, b) | Node::OnFault(a, b) => {
                 a.each_use_is_tied(whole) && b.each_use_is_tied(whole)
             }
@@ -141,7 +145,7 @@ impl Node {
             Node::Nil | Node::Emit(_) | Node::Raise(_) => false,
             Node::Read(at) => place == *at,
             Node::Weak(at, a) => place != *at && a.is_loose(place),
-            Node::Scope(a) | Node::Take(_, a) => a.is_loose(place),
+            Node::Scope(a) | Node::Through(a, _) | Node::Take(_, a) => a.is_loose(place),
             Node::Append(a, b) | Node::OnFault(a, b) => a.is_loose(place) || b.is_loose(place),
         }
     }

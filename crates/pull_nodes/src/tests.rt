@@ -52,6 +52,21 @@ fn places_scopes_and_events_are_counted(rt: HostRuntime) -> Result<(), Fail> {
 }
 
 #[test]
+fn a_pipe_gets_the_kind_of_the_node_below_it(rt: HostRuntime) -> Result<(), Fail> {
+    let alloc = rt.alloc();
+    let lines = Node::Through(source(alloc, 3)?, Pipe::Lines);
+    assert_eq!(rt; lines.kind(), Ok(Kind::Lines));
+    assert_eq!(rt; lines.places(), 1);
+    assert_eq!(rt; lines.scopes(), 0);
+    assert!(rt; lines.placed(Span { from: 3, to: 4 }));
+    let twice = Node::Through(Box::new(alloc, lines)?, Pipe::Lines);
+    assert_eq!(rt; twice.kind(), Err(KindFault));
+    let nothing = Node::Through(Box::new(alloc, Node::Nil)?, Pipe::Lines);
+    assert_eq!(rt; nothing.kind(), Ok(Kind::Lines));
+    Ok(())
+}
+
+#[test]
 fn each_place_is_acquired_and_read_once(rt: HostRuntime) -> Result<(), Fail> {
     let alloc = rt.alloc();
     let both = Node::Append(source(alloc, 3)?, source(alloc, 4)?);
@@ -87,6 +102,9 @@ fn a_pipe_gives_a_kind_of_what_it_takes(rt: HostRuntime) -> Result<(), Fail> {
     assert_eq!(rt; Pipe::ChunkN(2).kind(Kind::Any), Ok(Kind::Any));
     assert_eq!(rt; Pipe::Utf8.kind(Kind::Any), Ok(Kind::Bytes));
     assert_eq!(rt; Pipe::Changes.kind(Kind::Bytes), Err(KindFault));
+    assert_eq!(rt; Pipe::ChunkN(2).group_size(), Some(2));
+    assert_eq!(rt; Pipe::ChunkN(0).group_size(), Some(1));
+    assert_eq!(rt; Pipe::Drop(2).group_size(), None);
     assert_eq!(rt;
         Pipe::Filter(List::new(alloc)).kind(Kind::Rows),
         Err(KindFault)

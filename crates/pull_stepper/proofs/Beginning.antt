@@ -1,5 +1,5 @@
 -- A stepper that made no turn.
-use Rattle.std.proofs.Common.{◌≡◌, ℕ, suc, ◌+◌, ◌<◌, ◌≤◌, List, [], ◌∷◌, length, map, Option, Some, None, refl, sym, ap, subst, ◌∙◌, ⊎_elim, arith}
+use Rattle.std.proofs.Common.{◌≡◌, ℕ, suc, ◌+◌, ◌<◌, ◌≤◌, List, [], ◌∷◌, length, map, Option, Some, None, refl, sym, ap, subst, ◌∙◌, ⊎_elim, IsSome, arith}
 use Rattle.std.proofs.lemmas.Bool.{cases_eq, false≢true}
 use Rattle.std.proofs.lemmas.List.{length-map}
 use Rattle.chunk_core.specs.Lists.{IsAmong}
@@ -8,17 +8,29 @@ use Rattle.chunk_core.proofs.Members.{among_nil}
 use Rattle.device_port.specs.Depot.{DepotTold, fresh}
 use Rattle.device_port.specs.Device.{DeviceTold}
 use Rattle.device_port.specs.declared.device.Mode.TheVariants as mode
+use Rattle.pull_nodes.specs.Kinds.{kind_of}
+use Rattle.pull_nodes.specs.declared.kind.Kind.{Kind}
 use Rattle.pull_nodes.specs.declared.node.Node.{Node}
 use Rattle.pull_turns.specs.Around.{OpenAreHeld}
+use Rattle.pull_turns.specs.Piping.{Standing, PipesFitOf}
+use Rattle.pull_turns.proofs.NodeKinds.{fits_kind}
 use Rattle.row_seat.specs.Views.{HasRow}
 use Rattle.scope_tree.specs.Calls.{Seen}
 use Rattle.pull_stepper.specs.Sites.{InOrder, IsPlace, IsUnopened, IsUnused, Site, around, pay_of, slot, slot_of, told_at, told_by}
-use Rattle.pull_stepper.specs.Stepping.{CanGo, HasRoomFor, IsSupplied, begun, span_of}
+use Rattle.pull_stepper.specs.Stepping.{CanGo, HasRoomFor, IsSupplied, begun, site_of, span_of}
 use Rattle.pull_stepper.proofs.Placing.{placed_fresh, placed_within}
 use Rattle.pull_stepper.proofs.Slots.{slot_here, slot_past, slot_place}
 
 unopened : (d : DeviceTold) → IsUnused d → IsUnopened d
 unopened d u = record { is_open = u.is_open; opens = u.opens; closes = u.closes; close_faults = u.close_faults }
+
+-- the pipes of a node that has a kind fit
+pipes_fit : (n : Node) → IsSome (kind_of n) → PipesFitOf n
+pipes_fit n = by (kind_of n) refl
+  where
+    by : (o : Option Kind) → kind_of n ≡ o → IsSome o → PipesFitOf n
+    by None e some = absurd (false≢true some)
+    by (Some j) e some = fits_kind n j e
 
 module _ {V : Type 0} where
   -- each device waits in the slot of a place
@@ -43,7 +55,7 @@ module _ {V : Type 0} where
 
 module _ {V : Type 0} (told : V → DeviceTold) (n : Node) (a : Seen V) (devices : List V) (h : IsSupplied told n devices) (r : HasRoomFor a n) where
   abbrev first : Site V
-  first = (begun n a devices 0).site
+  first = site_of n a devices
 
   within : (p : ℕ) → IsPlace first p → (first.from ≤ p) × (p < first.from + length devices)
   within p w = (w.0, omega (arith, w.1, length-map devices Some))
@@ -73,8 +85,8 @@ module _ {V : Type 0} (told : V → DeviceTold) (n : Node) (a : Seen V) (devices
           let u = h.unused d (slot_from p first.from d devices s) in
           absurd (false≢true (sym u.is_open ∙ (sym (ap (λ o. (told_by told o (pay_of a p)).is_open) s) ∙ e)))
 
-  pub begun_can : (chunk : ℕ) → 1 ≤ chunk → CanGo told (begun n a devices chunk)
-  begun_can chunk some = record {
+  pub begun_can : {F : Type 0} (P : Standing F) (chunk : ℕ) → 1 ≤ chunk → CanGo P told (begun n a devices chunk)
+  begun_can P chunk some = record {
     how = refl;
     memory = refl;
     chunk = omega (arith, some);
@@ -85,6 +97,7 @@ module _ {V : Type 0} (told : V → DeviceTold) (n : Node) (a : Seen V) (devices
           let u = h.unused t.0 t.2 in
           let e : told_at told first p ≡ told t.0 = ap (λ o. told_by told o (pay_of a p)) t.1 in
           ((t.0, t.1, u), (ap (λ (d : DeviceTold). d.at) e ∙ u.at, ap (λ (d : DeviceTold). d.read_faults) e ∙ u.read_faults)));
+      pipes = pipes_fit n h.kind;
       opened = r.root;
       events = omega (arith, r.events, r.owed);
       scopes = omega (arith, r.scopes);

@@ -8,6 +8,7 @@ use Rattle.pull_nodes.specs.Runs.{IsRun}
 use Rattle.pull_nodes.specs.declared.node.Node.{Node}
 use Rattle.pull_turns.specs.Around.{Affords}
 use Rattle.pull_turns.specs.Led.{Tells, end_by}
+use Rattle.pull_turns.specs.Piping.{Standing}
 use Rattle.pull_turns.specs.Turned.{SpendsWithin}
 use Rattle.pull_turns.specs.declared.rest.Rest.TheVariants.{Nil}
 use Rattle.row_seat.specs.declared.view.View.{View}
@@ -54,15 +55,15 @@ start_room {P = P} n a v scopes rows is e first many held =
     } in
     subst (λ x. HasRoomFor x n) (sym (e ∙ ap (λ w. let x : Seen P = record { seat = w; shelf = []; scopes = scopes; rows = rows } in x) is)) h
 
-module _ {V : Type 0} (told : V → DeviceTold) (n : Node) (devices : List V) (a : Seen V) (room : HasRoomFor a n) (m z : Stepping V) (xs : List Element) where
-  abbrev Goes : Stepping V → Type 0
-  Goes b = Gathers told b m xs → SpendsWithin (around told b.site) (around told m.site) b.rest → Since told (Finishes told) b.site m.site
-      → (left : Seen V) (h : How) (ds : List V) → end_by z.how ≡ end_by m.how → Tells (told_at told m.site) (told_at told z.site) Nil → Affords (around told m.site) (around told z.site)
+module _ {V F : Type 0} (P : Standing F) (told : V → DeviceTold) (n : Node) (devices : List V) (a : Seen V) (room : HasRoomFor a n) (m z : Stepping V F) (xs : List Element) where
+  abbrev Goes : Stepping V F → Type 0
+  Goes b = Gathers P told b m xs → SpendsWithin (around told b.site) (around told m.site) b.rest → Since told (Finishes told) b.site m.site
+      → (left : Seen V) (h : How) (ds : List V) → end_by z.how ≡ end_by m.how → Tells {F = F} (told_at told m.site) (told_at told z.site) Nil → Affords (around told m.site) (around told z.site)
       → Since told (Finishes told) m.site z.site → Ends told z left h ds → used left ≤ left.rows → Ran told n devices a left xs h ds
 
   goes_begun : (chunk : ℕ) → Goes (begun n a devices chunk)
   goes_begun chunk gathers spends first left h ds how tells affords second end sound =
-      let b = begun n a devices chunk in
+      let b : Stepping V F = begun n a devices chunk in
       let since = since_then told (Finishes told) b.site m.site z.site first second in
       let rows : z.site.tree.rows ≡ a.rows = (room_along (omega (arith, room.scopes)) since.calls).2 in
       let ended : end_by m.how ≡ end_by (Some h) = sym how ∙ ap end_by end.how in
@@ -84,7 +85,7 @@ module _ {V : Type 0} (told : V → DeviceTold) (n : Node) (devices : List V) (a
         rows = omega (arith, spends.rows, affords.rows, rows, same_rows, same_used, sound, room.rows);
       }
 
-  pub goes : (b : Stepping V) (chunk : ℕ) → b ≡ begun n a devices chunk → Goes b
+  pub goes : (b : Stepping V F) (chunk : ℕ) → b ≡ begun n a devices chunk → Goes b
   goes b chunk e = subst Goes (sym e) (goes_begun chunk)
 
 -- a node whose places are the first k rows, as many as it has

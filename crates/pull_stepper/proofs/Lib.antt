@@ -13,3 +13,4 @@ pub mod Leaving
 pub mod Beginning
 pub mod Parting
 pub mod Driving
+pub mod Turning

@@ -12,7 +12,7 @@ use Rattle.pull_nodes.specs.Shape.{places_of, uses_of}
 use Rattle.pull_nodes.specs.Placed.{are_apart, are_distinct, is_inside, is_once, is_placed, is_within}
 use Rattle.pull_nodes.proofs.Joins.{distinct_append, once_append}
 use Rattle.pull_nodes.specs.declared.node.Node.{Node}
-use Rattle.pull_nodes.specs.declared.node.Node.TheVariants.{Nil, Emit, Raise, Read, Weak', Scope', Append', OnFault', Take'}
+use Rattle.pull_nodes.specs.declared.node.Node.TheVariants.{Nil, Emit, Raise, Read, Weak', Scope', Append', OnFault', Through', Take'}
 use Rattle.pull_turns.specs.Around.{Around}
 use Rattle.pull_turns.specs.Rest.{IsAsked, IsFresh, IsIn, NoPlace}
 
@@ -74,6 +74,7 @@ module _ (p : ℕ) where
   in_lists (Append' _ a _ b) (inr h) = of_join (places_of a) (places_of b) (uses_of a) (uses_of b) (inr (in_lists b h))
   in_lists (OnFault' _ a _ b) (inl h) = of_join (places_of a) (places_of b) (uses_of a) (uses_of b) (inl (in_lists a h))
   in_lists (OnFault' _ a _ b) (inr h) = of_join (places_of a) (places_of b) (uses_of a) (uses_of b) (inr (in_lists b h))
+  in_lists (Through' _ a q) h = in_lists a h
   in_lists (Take' n _ a) h = in_lists a h
 
   asked_places : (n : Node) → IsAsked p n → IsAmong p (places_of n)
@@ -88,6 +89,7 @@ module _ (p : ℕ) where
   asked_places (Append' _ a _ b) (inr h) = among_right (places_of a) (asked_places b h)
   asked_places (OnFault' _ a _ b) (inl h) = among_left (places_of b) (asked_places a h)
   asked_places (OnFault' _ a _ b) (inr h) = among_right (places_of a) (asked_places b h)
+  asked_places (Through' _ a q) h = asked_places a h
   asked_places (Take' n _ a) h = asked_places a h
 
   above_join : (ps qs rs us vs : List ℕ) → (IsAmong p us → IsAmong p ps ⊎ IsAmong p qs) → (IsAmong p vs → IsAmong p ps ⊎ IsAmong p rs)
@@ -117,6 +119,7 @@ module _ (p : ℕ) where
   used_above ps (OnFault' _ a _ b) h i =
       let s = both (is_inside ps a) (is_inside ps b) h in
       above_join ps (places_of a) (places_of b) (uses_of a) (uses_of b) (used_above ps a s.0) (used_above ps b s.1) i
+  used_above ps (Through' _ a q) h i = used_above ps a h i
   used_above ps (Take' n _ a) h i = used_above ps a h i
 
 -- of a node in the parts of the Weaks of ps: it acquires none of these again and no place twice, each Read is the only one of its place, and all are inside
@@ -200,6 +203,7 @@ module _ (a : Around) (s : ℕ) where
     part_fresh P ps n (first_part ps n m h) (λ p i. w p (among_left (places_of m) i)) (λ p i. t p (among_left (uses_of m) i)) u,
     part_fresh P ps m (second_part ps n m h) (λ p i. w p (among_right (places_of n) i)) (λ p i. t p (among_right (uses_of n) i)) u,
   )
+  part_fresh P ps (Through' _ n q) h w t u = part_fresh P ps n h w t u
   part_fresh P ps (Take' _ _ n) h w t u = part_fresh P ps n h w t u
 
   module _ (span : Span) (n : Node) (h : is_placed span n ≡ true) where

@@ -6,9 +6,9 @@ use Rattle.pull_stepper.specs.declared.stepper.Stepper.{Stepper}
 use Rattle.pull_stepper.specs.Resources.{Stands, site}
 use Rattle.pull_stepper.specs.Stepping.{Stepping}
 
-module _ {S V D : Type 0} (view : S → View V) where
+module _ {S V F D : Type 0} (view : S → View V) where
   -- what callers see of it
-  abbrev pub stepping : Stepper S V V D → Stepping V
+  abbrev pub stepping : Stepper S V F V D → Stepping V F
   stepping s = record {
     site = site view s.runner.outside;
     rest = s.runner.rest;
@@ -18,7 +18,7 @@ module _ {S V D : Type 0} (view : S → View V) where
   }
 
   -- its tree fits the desk, its devices are in order, and there is room to give them back
-  pub record Works (told : V → DeviceTold) (fits : S → D → Type 0) (s : Stepper S V V D) (d : D) : Type 0 where
+  pub record Works (told : V → DeviceTold) (fits : S → D → Type 0) (s : Stepper S V F V D) (d : D) : Type 0 where
     pub stands : Stands view told fits s.runner.outside d
     pub empty : s.room.items ≡ []
     pub enough : vec_len s.runner.outside.slots ≤ vec_capacity s.room

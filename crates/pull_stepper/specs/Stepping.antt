@@ -12,8 +12,9 @@ use Rattle.pull_nodes.specs.declared.node.Node.{Node}
 use Rattle.pull_turns.specs.Around.{Affords}
 use Rattle.pull_turns.specs.Led.{IsShut, Tells, Turns, Uncons}
 use Rattle.pull_turns.specs.Moves.{how_of}
+use Rattle.pull_turns.specs.Piping.{Standing}
 use Rattle.pull_turns.specs.Rest.{CanStep}
-use Rattle.pull_turns.specs.Sizes.{Sized, given, given_first}
+use Rattle.pull_turns.specs.Sizes.{HasNoPipe, Sized, given, given_first}
 use Rattle.pull_turns.specs.Turned.{GoesOn, Spends, SpendsWithin}
 use Rattle.pull_turns.specs.declared.rest.Rest.{Rest}
 use Rattle.pull_turns.specs.declared.rest.Rest.TheVariants as rest
@@ -31,9 +32,9 @@ use Rattle.pull_stepper.specs.Placing.{first_of}
 use Rattle.pull_stepper.specs.Sites.{IsUnused, Parted, Site, around, told_at}
 
 -- its tree and devices, what is left of the node, the most bytes of a read, how it ended, and whether memory was wanting
-pub record Stepping (V : Type 0) : Type 0 where
+pub record Stepping (V F : Type 0) : Type 0 where
   pub site : Site V
-  pub rest : Rest
+  pub rest : Rest F
   pub chunk : ℕ
   pub how : Option How
   pub wanting : Bool
@@ -53,84 +54,89 @@ module _ {V : Type 0} where
     pub scopes : length (opens (words a.seat)) + 1 + scope_count n ≤ a.scopes
     pub rows : used a + length (places_of n) ≤ a.rows
 
+  -- the tree, and the devices of the node's places, which wait
+  abbrev pub site_of : Node → Seen V → List V → Site V
+  site_of n a devices = record { tree = a; from = first_of (places_of n); slots = map Some devices }
+
   -- a stepper that made no turn
-  abbrev pub begun : Node → Seen V → List V → ℕ → Stepping V
+  abbrev pub begun : {F : Type 0} → Node → Seen V → List V → ℕ → Stepping V F
   begun n a devices chunk = record {
-    site = record { tree = a; from = first_of (places_of n); slots = map Some devices };
+    site = site_of n a devices;
     rest = rest.Start n;
     chunk = chunk;
     how = None;
     wanting = false;
   }
 
-  module _ (told : V → DeviceTold) where
-    -- each place of the node has one device, which nothing was done with, and is acquired once and read once
-    pub record IsSupplied (n : Node) (devices : List V) : Type 0 where
-      pub kind : IsSome (kind_of n)
-      pub few : node_count n < 2 ^ 32
-      pub placed : is_placed (span_of n (length devices)) n ≡ true
-      pub count : length devices ≡ length (places_of n)
-      pub unused : (d : V) → IsAmong d devices → IsUnused (told d)
+  -- each place of the node has one device, which nothing was done with, and is acquired once and read once; each pipe takes what comes to it
+  pub record IsSupplied (told : V → DeviceTold) (n : Node) (devices : List V) : Type 0 where
+    pub kind : IsSome (kind_of n)
+    pub few : node_count n < 2 ^ 32
+    pub placed : is_placed (span_of n (length devices)) n ≡ true
+    pub count : length devices ≡ length (places_of n)
+    pub unused : (d : V) → IsAmong d devices → IsUnused (told d)
 
-    -- turns may be made
-    pub record CanGo (a : Stepping V) : Type 0 where
-      pub how : a.how ≡ None
-      pub memory : a.wanting ≡ false
-      pub chunk : 0 < a.chunk
-      pub step : CanStep (around told a.site) 0 a.rest
+-- how a run ends that is stopped
+abbrev pub stopped_by : Bool → How
+stopped_by true = how.Memory
+stopped_by false = how.Halted
 
-    -- it has ended, and each scope and each device is closed
-    pub record IsOver (a : Stepping V) : Type 0 where
-      pub how : How
-      pub ended : a.how ≡ Some how
-      pub shut : IsShut (around told a.site)
+module _ {V F : Type 0} (P : Standing F) (told : V → DeviceTold) where
+  -- turns may be made
+  pub record CanGo (a : Stepping V F) : Type 0 where
+    pub how : a.how ≡ None
+    pub memory : a.wanting ≡ false
+    pub chunk : 0 < a.chunk
+    pub step : CanStep P (around told a.site) 0 a.rest
 
-    -- a turn was made
-    pub record Steps (a b : Stepping V) (t : Turn) : Type 0 where
-      pub turns : Turns (around told a.site) (around told b.site) a.chunk a.rest b.rest t
-      pub sized : Sized a.chunk a.rest b.rest (given t)
-      pub how : b.how ≡ how_of t
-      pub can : GoesOn t → CanGo b
-      pub chunk : b.chunk ≡ a.chunk
+  -- a turn was made
+  pub record Steps (a b : Stepping V F) (t : Turn) : Type 0 where
+    pub turns : Turns P (around told a.site) (around told b.site) a.chunk a.rest b.rest t
+    pub sized : HasNoPipe a.rest → Sized a.chunk a.rest b.rest (given t)
+    pub how : b.how ≡ how_of t
+    pub can : GoesOn t → CanGo b
+    pub chunk : b.chunk ≡ a.chunk
 
-    -- whether turns may be made after it
-    abbrev pub Leaves : Unconsed → Stepping V → Type 0
-    Leaves (unconsed.Chunk l) b = CanGo b
-    Leaves (unconsed.End h) b = (b.how ≡ Some h) × IsShut (around told b.site)
-    Leaves unconsed.Again b = CanGo b
+  -- whether turns may be made after it
+  abbrev pub Leaves : Unconsed → Stepping V F → Type 0
+  Leaves (unconsed.Chunk l) b = CanGo b
+  Leaves (unconsed.End h) b = (b.how ≡ Some h) × IsShut (around told b.site)
+  Leaves unconsed.Again b = CanGo b
 
-    -- turns were made to the first load or the end, but not more than n
-    pub record Unconses (n : ℕ) (a b : Stepping V) (u : Unconsed) : Type 0 where
-      pub first : Uncons (around told a.site) (around told b.site) n a.rest b.rest b.how u
-      pub sized : Sized a.chunk a.rest b.rest (given_first u)
-      pub spends : Spends (around told a.site) (around told b.site) a.rest b.rest
-      pub leaves : Leaves u b
-      pub chunk : b.chunk ≡ a.chunk
+  -- turns were made to the first load or the end, but not more than n; where neither came, n turns were made, and each was quiet
+  pub record Unconses (n : ℕ) (a b : Stepping V F) (u : Unconsed) : Type 0 where
+    pub first : Uncons P (around told) a.chunk n a.site b.site a.rest b.rest b.how u
+    pub sized : HasNoPipe a.rest → Sized a.chunk a.rest b.rest (given_first u)
+    pub spends : Spends (around told a.site) (around told b.site) a.rest b.rest
+    pub leaves : Leaves u b
+    pub chunk : b.chunk ≡ a.chunk
 
-    -- memory was wanting; it may only be halted
-    pub record Wants (a b : Stepping V) : Type 0 where
-      pub memory : b.wanting ≡ true
-      pub how : b.how ≡ None
-      pub root : IsOpenScope b.site.tree 0
-      pub tells : Tells (told_at told a.site) (told_at told b.site) a.rest
-      pub spends : SpendsWithin (around told a.site) (around told b.site) a.rest
+module _ {V F : Type 0} (told : V → DeviceTold) where
+  -- it has ended, and each scope and each device is closed
+  pub record IsOver (a : Stepping V F) : Type 0 where
+    pub how : How
+    pub ended : a.how ≡ Some how
+    pub shut : IsShut (around told a.site)
 
-    -- how a run ends that is stopped
-    abbrev pub stopped_by : Bool → How
-    stopped_by true = how.Memory
-    stopped_by false = how.Halted
+  -- memory was wanting; it may only be halted
+  pub record Wants (a b : Stepping V F) : Type 0 where
+    pub memory : b.wanting ≡ true
+    pub how : b.how ≡ None
+    pub root : IsOpenScope b.site.tree 0
+    pub tells : Tells (told_at told a.site) (told_at told b.site) a.rest
+    pub spends : SpendsWithin (around told a.site) (around told b.site) a.rest
 
-    -- it was stopped
-    pub record Halts (a b : Stepping V) : Type 0 where
-      pub how : b.how ≡ Some (stopped_by a.wanting)
-      pub shut : IsShut (around told b.site)
-      pub tells : Tells (told_at told a.site) (told_at told b.site) rest.Nil
-      pub affords : Affords (around told a.site) (around told b.site)
+  -- it was stopped
+  pub record Halts (a b : Stepping V F) : Type 0 where
+    pub how : b.how ≡ Some (stopped_by a.wanting)
+    pub shut : IsShut (around told b.site)
+    pub tells : Tells {F = F} (told_at told a.site) (told_at told b.site) rest.Nil
+    pub affords : Affords (around told a.site) (around told b.site)
 
-    -- the root is closed, and each device was never opened and comes back, or stands on the shelf, where no row stands twice
-    pub record Ends (a : Stepping V) (left : Seen V) (h : How) (unopened : List V) : Type 0 where
-      pub tree : left ≡ a.site.tree
-      pub how : a.how ≡ Some h
-      pub root : IsClosedScope left 0
-      pub once : AreDistinct (firsts (said left.shelf))
-      pub parted : Parted told (told_at told a.site) left.shelf (a.site.from + length a.site.slots) a.site.from unopened
+  -- the root is closed, and each device was never opened and comes back, or stands on the shelf, where no row stands twice
+  pub record Ends (a : Stepping V F) (left : Seen V) (h : How) (unopened : List V) : Type 0 where
+    pub tree : left ≡ a.site.tree
+    pub how : a.how ≡ Some h
+    pub root : IsClosedScope left 0
+    pub once : AreDistinct (firsts (said left.shelf))
+    pub parted : Parted told (told_at told a.site) left.shelf (a.site.from + length a.site.slots) a.site.from unopened

@@ -7,6 +7,7 @@ use Rattle.pull_nodes.specs.Runs.{IsRun}
 use Rattle.pull_nodes.specs.Shape.{places_of, scope_count}
 use Rattle.pull_nodes.specs.declared.node.Node.{Node}
 use Rattle.pull_turns.specs.Led.{IsShut, end_by, end_of}
+use Rattle.pull_turns.specs.Piping.{Standing}
 use Rattle.pull_turns.specs.Rest.{IsRunOfRest}
 use Rattle.pull_turns.specs.Turned.{Over}
 use Rattle.scope_tree.specs.Calls.{IsClosedScope, IsOpenScope, Seen, used}
@@ -14,26 +15,27 @@ use Rattle.tree_laws.specs.Alone.{StaysAlone}
 use Rattle.tree_laws.specs.Called.{Called}
 use Rattle.pull_stepper.specs.Held.{Finishes}
 use Rattle.pull_stepper.specs.Sites.{Parted, SameDevice, around, told_at}
-use Rattle.pull_stepper.specs.Stepping.{Stepping, begun, span_of}
+use Rattle.pull_stepper.specs.Stepping.{Stepping, site_of, span_of}
+
+module _ {V F : Type 0} (P : Standing F) (told : V → DeviceTold) where
+  -- what was given since a, and how it ended, if it has, is a run of what was left
+  abbrev pub Gathers : Stepping V F → Stepping V F → List Element → Type 0
+  Gathers a b xs = (w : ℕ → DeviceTold) → Over (told_at told b.site) w a.rest → IsRunOfRest P w a.rest xs (end_by b.how)
 
 module _ {V : Type 0} (told : V → DeviceTold) where
-  -- what was given since a, and how it ended, if it has, is a run of what was left
-  abbrev pub Gathers : Stepping V → Stepping V → List Element → Type 0
-  Gathers a b xs = (w : ℕ → DeviceTold) → Over (told_at told b.site) w a.rest → IsRunOfRest w a.rest xs (end_by b.how)
-
-  abbrev pub IsLeftBy : Option How → Stepping V → Type 0
+  abbrev pub IsLeftBy : {F : Type 0} → Option How → Stepping V F → Type 0
   IsLeftBy None a = IsOpenScope a.site.tree 0
   IsLeftBy (Some h) a = IsShut (around told a.site)
 
   -- its root is open, or it has ended and all is closed
-  abbrev pub IsLeft : Stepping V → Type 0
+  abbrev pub IsLeft : {F : Type 0} → Stepping V F → Type 0
   IsLeft a = IsLeftBy a.how a
 
   -- the node was run over these devices, gave xs and ended with h, and used no more room of the tree than the node counts
   pub record Ran (n : Node) (devices : List V) (a b : Seen V) (xs : List Element) (h : How) (unopened : List V) : Type 0 where
     pub w : ℕ → DeviceTold
     pub run : IsRun w n xs (end_of h)
-    pub same : (p : ℕ) → SameDevice (told_at told (begun n a devices 0).site p) (w p)
+    pub same : (p : ℕ) → SameDevice (told_at told (site_of n a devices) p) (w p)
     pub parted : Parted told w b.shelf (span_of n (length devices)).to (span_of n (length devices)).from unopened
     pub root : IsClosedScope b 0
     pub calls : Called (Finishes told) a [] b

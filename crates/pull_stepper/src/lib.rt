@@ -2,8 +2,12 @@
 #![tactic(auto)]
 
 pub mod held;
+#[cfg(test)]
+mod pipe_tests;
 pub(crate) mod places;
 pub mod resources;
+#[cfg(test)]
+mod runs;
 pub mod stepper;
 #[cfg(test)]
 mod tests;

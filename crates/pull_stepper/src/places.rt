@@ -13,7 +13,7 @@ pub(crate) fn first_place(node: &Node) -> Option<u32>
     match node {
         Node::Nil | Node::Emit(_) | Node::Raise(_) | Node::Read(_) => None,
         Node::Weak(place, a) => lesser(Some(*place), first_place(a)),
-        Node::Scope(a) | Node::Take(_, a) => first_place(a),
+        Node::Scope(a) | Node::Through(a, _) | Node::Take(_, a) => first_place(a),
         Node::Append(a, b) | Node::OnFault(a, b) => lesser(first_place(a), first_place(b)),
     }
 }

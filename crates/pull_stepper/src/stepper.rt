@@ -1,5 +1,6 @@
 //! A node that is run over a tree of scopes and its devices.
 ghost use Rattle.std.specs.Prelude.{◌≡◌, ◌≤◌, None, IfErr, IfOk, OnErr};
+ghost use Rattle.pull_turns.specs.Piping.{standing};
 ghost use Rattle.row_seat.specs.Views.{OthersFit};
 ghost use Rattle.scope_tree.specs.Calls.{IsOpenScope};
 ghost use Rattle.scope_tree.specs.Trees.{Fits, IsSound, seen};
@@ -11,17 +12,18 @@ use crate::places::{first_place, from_slots, to_slots};
 use crate::resources::Resources;
 use chunk_core::{How, List};
 use device_port::Device;
-use pull_nodes::Node;
+use pull_nodes::{Node, PipeState};
 use pull_turns::{Runner, Turn, Unconsed};
 use row_seat::RowSeat;
 use scope_tree::Tree;
 use std::alloc::{AllocError, Global};
 
-/// A node that is run turn by turn over the scopes of a tree and its own devices.
+/// A node that is run turn by turn over the scopes of a tree, its own devices, and pipes with
+/// states of the type `F`.
 ///
 /// After want of memory it may only be halted. Once it has ended it is taken apart by `end`.
-pub struct Stepper<S: RowSeat, V> {
-    runner: Runner<Resources<S, V>>,
+pub struct Stepper<S: RowSeat, V, F> {
+    runner: Runner<Resources<S, V>, F>,
     room: Vec<V>,
 }
 
@@ -39,7 +41,7 @@ pub struct Ended<S: RowSeat, V> {
     pub unopened: List<V>,
 }
 
-impl<V: Device, S: RowSeat<Pay = Held<V>>> Stepper<S, V> {
+impl<V: Device, S: RowSeat<Pay = Held<V>>, F: PipeState> Stepper<S, V, F> {
     ghost use Rattle.pull_stepper.specs.Steppers.{Works, stepping};
     ghost use Rattle.pull_stepper.specs.Stepping.{CanGo, Ends, Halts, HasRoomFor, IsOver, IsSupplied, Steps, Unconses, Wants, begun};
 
@@ -51,13 +53,13 @@ impl<V: Device, S: RowSeat<Pay = Held<V>>> Stepper<S, V> {
         tree: Tree<S>,
         devices: List<V>,
         chunk: u32,
-    ) -> Result<Stepper<S, V>, Unmade<S, V>>
+    ) -> Result<Stepper<S, V, F>, Unmade<S, V>>
         requires tree { IsSound S.view tree }
         requires supplied { IsSupplied V.told node devices }
         requires room { HasRoomFor (seen S.view tree) node }
         requires chunk { 1 ≤ chunk }
         ensures begun { IfOk result (λ s. stepping S.view s ≡ begun node (seen S.view tree) devices chunk) }
-        ensures can { IfOk result (λ s. CanGo V.told (stepping S.view s)) }
+        ensures can { IfOk result (λ s. CanGo (standing F.stands F.comes) V.told (stepping S.view s)) }
         ensures fits { IfOk result (λ s. (d : S.Desk) → Fits S.view S.fits tree d → Works S.view V.told S.fits s d) }
         ensures unmade { IfErr result (λ u. (u.tree ≡ tree) × (u.devices ≡ devices)) }
     {
@@ -77,8 +79,8 @@ impl<V: Device, S: RowSeat<Pay = Held<V>>> Stepper<S, V> {
     /// Makes one turn. At the end each scope is closed, and each device.
     pub fn turn(&mut self, desk: &mut S::Desk) -> Result<Turn, AllocError>
         requires fits { Works S.view V.told S.fits self.old desk.old }
-        requires can { CanGo V.told (stepping S.view self.old) }
-        ensures steps { IfOk result (λ t. Steps V.told (stepping S.view self.old) (stepping S.view self.new) t) }
+        requires can { CanGo (standing F.stands F.comes) V.told (stepping S.view self.old) }
+        ensures steps { IfOk result (λ t. Steps (standing F.stands F.comes) V.told (stepping S.view self.old) (stepping S.view self.new) t) }
         ensures wants { OnErr result (Wants V.told (stepping S.view self.old) (stepping S.view self.new)) }
         ensures fits { Works S.view V.told S.fits self.new desk.new }
         ensures since { Since V.told (Finishes V.told) (stepping S.view self.old).site (stepping S.view self.new).site }
@@ -90,9 +92,9 @@ impl<V: Device, S: RowSeat<Pay = Held<V>>> Stepper<S, V> {
     /// Makes turns until one gives elements or the end, but not more than `turns`.
     pub fn uncons(&mut self, desk: &mut S::Desk, turns: u64) -> Result<Unconsed, AllocError>
         requires fits { Works S.view V.told S.fits self.old desk.old }
-        requires can { CanGo V.told (stepping S.view self.old) }
+        requires can { CanGo (standing F.stands F.comes) V.told (stepping S.view self.old) }
         requires turns { 1 ≤ turns }
-        ensures first { IfOk result (λ u. Unconses V.told turns (stepping S.view self.old) (stepping S.view self.new) u) }
+        ensures first { IfOk result (λ u. Unconses (standing F.stands F.comes) V.told turns (stepping S.view self.old) (stepping S.view self.new) u) }
         ensures wants { OnErr result (Wants V.told (stepping S.view self.old) (stepping S.view self.new)) }
         ensures fits { Works S.view V.told S.fits self.new desk.new }
         ensures since { Since V.told (Finishes V.told) (stepping S.view self.old).site (stepping S.view self.new).site }

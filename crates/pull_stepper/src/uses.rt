@@ -3,6 +3,7 @@ ghost use Rattle.std.specs.Prelude.{◌≡◌, ◌+◌, ◌*◌, ◌≤◌, [], 
 ghost use Rattle.chunk_core.specs.Elements.{elements};
 ghost use Rattle.pull_turns.specs.Around.{Affords};
 ghost use Rattle.pull_turns.specs.Led.{Tells, end_by};
+ghost use Rattle.pull_turns.specs.Piping.{standing};
 ghost use Rattle.pull_turns.specs.Turned.{SpendsWithin};
 ghost use Rattle.pull_turns.specs.declared.rest.Rest.TheVariants as rest;
 ghost use Rattle.pull_nodes.specs.Shape.{places_of, scope_count};
@@ -24,7 +25,7 @@ use crate::held::Held;
 use crate::stepper::{Ended, Stepper, Unmade};
 use chunk_core::{How, List, Load};
 use device_port::Device;
-use pull_nodes::Node;
+use pull_nodes::{Node, PipeState};
 use pull_turns::Unconsed;
 use res_ledger::Ledger;
 use row_seat::RowSeat;
@@ -47,17 +48,17 @@ pub struct Whole<S: RowSeat, V> {
 }
 
 /// Asks for the first of what is left, again and again, and counts how often nothing came.
-fn gather<V: Device, S: RowSeat<Pay = Held<V>>>(
-    stepper: &mut Stepper<S, V>,
+fn gather<V: Device, S: RowSeat<Pay = Held<V>>, F: PipeState>(
+    stepper: &mut Stepper<S, V, F>,
     desk: &mut S::Desk,
     out: &mut Vec<Load>,
     pace: Pace,
 ) -> Result<u64, AllocError>
     requires fits { Works S.view V.told S.fits stepper.old desk.old }
-    requires can { CanGo V.told (stepping S.view stepper.old) }
+    requires can { CanGo (standing F.stands F.comes) V.told (stepping S.view stepper.old) }
     requires empty { out.old.items ≡ [] }
     requires turns { 1 ≤ pace.turns }
-    ensures gathers { Gathers V.told (stepping S.view stepper.old) (stepping S.view stepper.new) (flat_map elements out.new.items) }
+    ensures gathers { Gathers (standing F.stands F.comes) V.told (stepping S.view stepper.old) (stepping S.view stepper.new) (flat_map elements out.new.items) }
     ensures left { IsLeft V.told (stepping S.view stepper.new) }
     ensures spends { SpendsWithin (around V.told (stepping S.view stepper.old).site) (around V.told (stepping S.view stepper.new).site) (stepping S.view stepper.old).rest }
     ensures fits { Works S.view V.told S.fits stepper.new desk.new }
@@ -76,12 +77,15 @@ fn gather<V: Device, S: RowSeat<Pay = Held<V>>>(
 }
 
 /// Halts a run that hasn't ended.
-fn close<V: Device, S: RowSeat<Pay = Held<V>>>(stepper: &mut Stepper<S, V>, desk: &mut S::Desk)
+fn close<V: Device, S: RowSeat<Pay = Held<V>>, F: PipeState>(
+    stepper: &mut Stepper<S, V, F>,
+    desk: &mut S::Desk,
+)
     requires fits { Works S.view V.told S.fits stepper.old desk.old }
     requires left { IsLeft V.told (stepping S.view stepper.old) }
     ensures over { IsOver V.told (stepping S.view stepper.new) }
     ensures how { end_by (stepping S.view stepper.new).how ≡ end_by (stepping S.view stepper.old).how }
-    ensures tells { Tells (told_at V.told (stepping S.view stepper.old).site) (told_at V.told (stepping S.view stepper.new).site) rest.Nil }
+    ensures tells { Tells {F = F} (told_at V.told (stepping S.view stepper.old).site) (told_at V.told (stepping S.view stepper.new).site) rest.Nil }
     ensures affords { Affords (around V.told (stepping S.view stepper.old).site) (around V.told (stepping S.view stepper.new).site) }
     ensures fits { Works S.view V.told S.fits stepper.new desk.new }
     ensures since { Since V.told (Finishes V.told) (stepping S.view stepper.old).site (stepping S.view stepper.new).site }
@@ -93,7 +97,7 @@ fn close<V: Device, S: RowSeat<Pay = Held<V>>>(stepper: &mut Stepper<S, V>, desk
 }
 
 /// Runs a node to its end, or halts it.
-pub fn run_whole<V: Device, S: RowSeat<Pay = Held<V>>>(
+pub fn run_whole<V: Device, S: RowSeat<Pay = Held<V>>, F: PipeState>(
     alloc: Global,
     desk: &mut S::Desk,
     node: Node,
@@ -111,7 +115,7 @@ pub fn run_whole<V: Device, S: RowSeat<Pay = Held<V>>>(
     ensures same { OnErr result (desk.new ≡ desk.old) }
     ensures others { OthersFit S.view S.fits (S.view tree.seat).by desk.old desk.new }
 {
-    let mut stepper = Stepper::new(alloc, node, tree, devices, pace.chunk)?;
+    let mut stepper = Stepper::<S, V, F>::new(alloc, node, tree, devices, pace.chunk)?;
     let mut loads = Vec::new(alloc);
     let quiet = gather(&mut stepper, desk, &mut loads, pace);
     close(&mut stepper, desk);
@@ -123,7 +127,7 @@ pub fn run_whole<V: Device, S: RowSeat<Pay = Held<V>>>(
 }
 
 /// Runs a node to its end, or closes the tree where there was no memory to begin.
-fn run_or_close<V: Device, S: RowSeat<Pay = Held<V>>>(
+fn run_or_close<V: Device, S: RowSeat<Pay = Held<V>>, F: PipeState>(
     alloc: Global,
     desk: &mut S::Desk,
     node: Node,
@@ -140,7 +144,7 @@ fn run_or_close<V: Device, S: RowSeat<Pay = Held<V>>>(
     ensures root { IsClosedScope (seen S.view result.ended.tree) 0 }
     ensures fits { Fits S.view S.fits result.ended.tree desk.new }
 {
-    match run_whole(alloc, desk, node, tree, devices, pace) {
+    match run_whole::<V, S, F>(alloc, desk, node, tree, devices, pace) {
         Ok(whole) => whole,
         Err(Unmade { tree, devices }) => {
             let mut tree = tree;
@@ -172,7 +176,7 @@ pub struct Alone<V> {
 
 /// Runs a node over a seat that has a row for each place and room for as many events as the node
 /// counts, and finishes the seat.
-pub fn run_alone<V: Device, S: RowSeat<Pay = Held<V>>>(
+pub fn run_alone<V: Device, S: RowSeat<Pay = Held<V>>, F: PipeState>(
     alloc: Global,
     desk: &mut S::Desk,
     node: Node,
@@ -194,7 +198,7 @@ pub fn run_alone<V: Device, S: RowSeat<Pay = Held<V>>>(
         loads,
         quiet,
         ended,
-    } = run_or_close(alloc, desk, node, tree, devices, pace);
+    } = run_or_close::<V, S, F>(alloc, desk, node, tree, devices, pace);
     let Ended {
         tree,
         how,

@@ -46,6 +46,7 @@ asked_in p (node.Weak' q _ a) h = elim h [ inl i ↦ inl i | inr i ↦ inr (aske
 asked_in p (node.Scope' _ a) h = asked_in p a h
 asked_in p (node.Append' _ a _ b) h = elim h [ inl i ↦ inl (asked_in p a i) | inr i ↦ inr (asked_in p b i) ]
 asked_in p (node.OnFault' _ a _ b) h = elim h [ inl i ↦ inl (asked_in p a i) | inr i ↦ inr (asked_in p b i) ]
+asked_in p (node.Through' _ a q) h = asked_in p a h
 asked_in p (node.Take' n _ a) h = asked_in p a h
 
 -- a node may still be run where its places are as they were, or are held by now
@@ -72,6 +73,7 @@ module _ (a b : Around) (s t : ℕ) (le : s ≤ t) where
       (h.0, fresh_on P Q n (λ p i. d p (inl i)) (λ p i. w p (inl i)) (λ p k i. o p k (inl i)) f h.1, fresh_on P Q m (λ p i. d p (inr i)) (λ p i. w p (inr i)) (λ p k i. o p k (inr i)) f h.2)
   fresh_on P Q (node.OnFault' _ n _ m) d w o f h =
       (h.0, fresh_on P Q n (λ p i. d p (inl i)) (λ p i. w p (inl i)) (λ p k i. o p k (inl i)) f h.1, fresh_on P Q m (λ p i. d p (inr i)) (λ p i. w p (inr i)) (λ p k i. o p k (inr i)) f h.2)
+  fresh_on P Q (node.Through' _ n q) d w o f h = fresh_on P Q n d w o f h
   fresh_on P Q (node.Take' n _ m) d w o f h = fresh_on P Q m d w o f h
 
   pub fresh_kept : (T : ℕ → Type 0) (n : Node) → Keeps a T s b → ((p : ℕ) → IsIn p n → T p → ⊥) → IsFresh a NoPlace s n → IsFresh b NoPlace t n

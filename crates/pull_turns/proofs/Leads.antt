@@ -8,27 +8,32 @@ use Rattle.device_port.specs.Device.{DeviceTold}
 use Rattle.pull_nodes.specs.declared.node.Node.{Node}
 use Rattle.pull_nodes.specs.declared.node.Node.TheVariants as node
 use Rattle.pull_nodes.specs.Runs.{OrLeft, Follows, Taken, IsIdle}
+use Rattle.pull_turns.specs.Piping.{Standing}
 use Rattle.pull_turns.specs.Rest.{IsRunOfRest}
 use Rattle.pull_turns.specs.Turned.{Leads}
 use Rattle.pull_turns.specs.declared.rest.Rest.{Rest}
-use Rattle.pull_turns.specs.declared.rest.Rest.TheVariants.{Nil, Start, Read, Within', Append', OnFault', Take'}
+use Rattle.pull_turns.specs.declared.rest.Rest.TheVariants.{Nil, Start, Read, Within', Append', OnFault', Through', Finishing, Faulty, Groups', Take'}
 
 -- there is a run
 abbrev pub HasRun : Outcomes → Type 0
 HasRun A = (ys : List Element) × (e : End) × A ys e
 
 -- what is left may be left at once
-pub can_stop : (w : ℕ → DeviceTold) (r : Rest) → IsRunOfRest w r [] Cut
-can_stop w Nil = inr (refl, inl refl)
-can_stop w (Start n) = inr (refl, inl refl)
-can_stop w (Read p from) = inr (refl, inl refl)
-can_stop w (Within' s _ a) = inr (refl, inl refl)
-can_stop w (Append' _ a b) = inr (refl, inl refl)
-can_stop w (OnFault' _ a b) = inr (refl, inl refl)
-can_stop w (Take' n _ a) = inr (refl, inl refl)
+pub can_stop : {F : Type 0} (P : Standing F) (w : ℕ → DeviceTold) (r : Rest F) → IsRunOfRest P w r [] Cut
+can_stop P w Nil = inr (refl, inl refl)
+can_stop P w (Start n) = inr (refl, inl refl)
+can_stop P w (Read p from) = inr (refl, inl refl)
+can_stop P w (Within' s _ a) = inr (refl, inl refl)
+can_stop P w (Append' _ a b) = inr (refl, inl refl)
+can_stop P w (OnFault' _ a b) = inr (refl, inl refl)
+can_stop P w (Through' _ a q) = λ m xs s k. inr (refl, inl refl)
+can_stop P w (Finishing q) = λ k xs c h. inr (refl, inl refl)
+can_stop P w (Faulty c) = inr (refl, inl refl)
+can_stop P w (Groups' n f _ a) = inr (refl, inl refl)
+can_stop P w (Take' n _ a) = inr (refl, inl refl)
 
-pub stopped : (w : ℕ → DeviceTold) (r : Rest) → HasRun (IsRunOfRest w r)
-stopped w r = ([], Cut, can_stop w r)
+pub stopped : {F : Type 0} (P : Standing F) (w : ℕ → DeviceTold) (r : Rest F) → HasRun (IsRunOfRest P w r)
+stopped P w r = ([], Cut, can_stop P w r)
 
 -- nothing writes
 pub idle : (w : ℕ → DeviceTold) (n : Node) → IsIdle w n
@@ -40,6 +45,7 @@ idle w (node.Weak' p _ a) = idle w a
 idle w (node.Scope' _ a) = idle w a
 idle w (node.Append' _ a _ b) = (idle w a, idle w b)
 idle w (node.OnFault' _ a _ b) = (idle w a, idle w b)
+idle w (node.Through' _ a q) = idle w a
 idle w (node.Take' n _ a) = idle w a
 
 pub by_left : {xs : List Element} {A B : Outcomes} → Leads xs A B → HasRun A → Leads xs (OrLeft A) (OrLeft B)

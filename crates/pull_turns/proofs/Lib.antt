@@ -1,8 +1,16 @@
 pub mod Leads
+pub mod Lists
 pub mod Kept
+pub mod NodeKinds
 pub mod Turns
 pub mod Entering
 pub mod Pieces
+pub mod Piped
+pub mod Passed
+pub mod Finished
+pub mod Coming
 pub mod Steps
+pub mod Grouping
+pub mod Grouped
 pub mod Led
 pub mod Sized

@@ -8,14 +8,19 @@ use Rattle.chunk_core.specs.Outcomes.{Done, Fault}
 use Rattle.device_port.specs.Device.{DeviceTold}
 use Rattle.pull_nodes.specs.Runs.{ReadsBy}
 use Rattle.pull_turns.specs.Around.{Around}
+use Rattle.chunk_core.specs.Elements.LoadKind.{Bytes}
+use Rattle.chunk_core.specs.Elements.{kind_of, LoadKind}
+use Rattle.chunk_core.specs.declared.load.Load.{Load}
+use Rattle.chunk_core.specs.declared.load.Load.TheVariants as load
+use Rattle.pull_turns.specs.Piping.{Standing}
 use Rattle.pull_turns.specs.Rest.{IsReady, ReadsFromBy}
 use Rattle.pull_turns.specs.Moves.{IsPiece, ReadsPiece, ReadsPlace}
-use Rattle.pull_turns.specs.Turned.{Leads, Turned, Moved, HasCause, Gave, GoesOn}
+use Rattle.pull_turns.specs.Turned.{Leads, Turned, Moved, HasCause, Gave, GivesKind, GoesOn, IsCaused, IsQuiet}
 use Rattle.pull_turns.specs.declared.rest.Rest.TheVariants.{Read}
 use Rattle.pull_turns.specs.declared.turn.Turn.{Turn}
 use Rattle.pull_turns.specs.declared.turn.Turn.TheVariants as turn
 use Rattle.pull_turns.proofs.Leads.{HasRun, by_left}
-use Rattle.pull_turns.proofs.Turns.{moved_place, chunk_goes_on, done_is_no_fault, cause_none}
+use Rattle.pull_turns.proofs.Turns.{moved_place, by_three, chunk_goes_on, done_is_no_fault, cause_none}
 
 -- a list of so many numbers
 some_list : (n : ℕ) → (bytes : List ℕ) × (length bytes ≡ n)
@@ -117,63 +122,81 @@ endless_is_no_read e = cc
 read_is_no_open : turn.Fault code.Read ≡ turn.Fault code.Open → ⊥
 read_is_no_open e = cc
 
-pub read_moved : (a b : Around) (s p from : ℕ) → ReadsPlace a b p → Moved a b s (Read p from)
+pub read_moved : {F : Type 0} (a b : Around) (s p from : ℕ) → ReadsPlace a b p → Moved {F = F} a b s (Read p from)
 read_moved a b s p from h = moved_place a b s p (Read p from) refl (h.keeps s) (record { content = h.content; at = h.later; opens = λ o. h.opens ∙ o })
 
--- all but the outcome
-read_turned : (a b : Around) (s n p from to : ℕ) (t : Turn) → ReadsPlace a b p
-    → ((((b.told p).at ≤ (a.told p).at + n) × ((b.told p).read_faults ≡ (a.told p).read_faults)) ⊎ (((b.told p).at ≡ (a.told p).at) × ((b.told p).read_faults ≡ (a.told p).read_faults + 1)))
-    → (GoesOn t → IsReady b s (Read p to)) → HasCause a.told b.told (Read p from) t → Gave b.told (Read p from) (Read p to) t
-    → Turned a b s n (Read p from) (Read p to) t
-read_turned a b s n p from to t h read ready cause gave = record {
-  moved = read_moved a b s p from h;
-  once = record { place = p; others = λ q m. (ap (λ (d : DeviceTold). d.at) ((h.keeps s).told q m), ap (λ (d : DeviceTold). d.read_faults) ((h.keeps s).told q m)); read = read };
-  live = λ q i. i;
-  fewer = omega arith;
-  spends = record { events = omega (arith, h.affords.events); scopes = omega (arith, h.affords.scopes); rows = omega (arith, h.affords.rows) };
-  ready = ready;
-  cause = cause;
-  gave = gave;
-}
+-- a load of some bytes is of the kind of bytes
+bytes_kind : (l : Load) (bytes : List ℕ) → elements l ≡ map Byte bytes → 0 < length bytes → Bytes ≡ kind_of l
+bytes_kind (load.Bytes b) bytes e h = refl
+bytes_kind (load.Lines []) (x ∷ bytes) e h = (cc)
+bytes_kind (load.Lines (l ∷ ls)) (x ∷ bytes) e h = (cc)
+bytes_kind (load.Rows []) (x ∷ bytes) e h = (cc)
+bytes_kind (load.Rows (l ∷ ls)) (x ∷ bytes) e h = (cc)
+bytes_kind (load.Lines ls) [] e h = absurd (omega (arith, h))
+bytes_kind (load.Rows ls) [] e h = absurd (omega (arith, h))
 
-pub read_step : (a b : Around) (s n p from to : ℕ) (t : Turn) → IsReady a s (Read p from) → ReadsPiece a b n p from to t → Turned a b s n (Read p from) (Read p to) t
-read_step a b s n p from to (turn.Chunk l) r h =
-    let bytes = h.piece.0 in
-    let piece : IsPiece (b.told p).content from bytes = subst (λ o. IsPiece o from bytes) (sym h.place.content) h.piece.8 in
-    let some : 0 < length (elements l) = omega (arith, ap length h.piece.1, length-map bytes Byte, h.piece.2) in
-    read_turned a b s n p from to (turn.Chunk l) h.place
-    (inl (omega (arith, r.0, h.piece.6, h.piece.4, h.piece.3), h.piece.7))
-    (λ g. (h.piece.6, h.piece.7 ∙ r.1, h.piece.5, piece_fits (b.told p).content from to bytes h.piece.2 h.piece.4 piece, (r.4.0, r.4.1, h.piece.9 r.4.0 r.4.2)))
-    (cause_none a.told b.told (Read p from) (turn.Chunk l) (chunk_goes_on l)) (
-      some,
-      λ w e.
-          let mine : IsPiece (w p).content from bytes = subst (λ o. IsPiece o from bytes) (sym (e.goes p).content) piece in
-          let far : to ≤ (w p).at = omega (arith, (e.goes p).at, h.piece.6) in
-          rw h.piece.1 (by_left (reads_lead (w p).content (w p) from to bytes h.piece.4 h.piece.5 far mine) (some_run (w p).content to (w p) far)),
-    )
-read_step a b s n p from to turn.Quiet r h = absurd h.piece
-read_step a b s n p from to turn.Done r h =
-    read_turned a b s n p from to turn.Done h.place
-    (inl (omega (arith, r.0, h.piece.2), h.piece.3))
-    (λ g. absurd g)
-    (cause_none a.told b.told (Read p from) turn.Done done_is_no_fault)
-    (λ w o.
-    let end : IfSome (w p).content (λ c. length c ≤ from) = subst (λ c. IfSome c (λ d. length d ≤ from)) (sym ((o.goes p).content ∙ h.place.content)) h.piece.4 in
-    inl (done_reads (w p).content (w p) from (ap (λ (d : DeviceTold). d.at) (o.over p refl) ∙ h.piece.2) h.piece.1 end))
-read_step a b s n p from to (turn.Fault code.Endless) r h =
-    read_turned a b s n p from to (turn.Fault code.Endless) h.place
-    (inl (omega (arith, r.0, h.piece.2), h.piece.3))
-    (λ g. absurd g)
-    (record { open_fault = λ e. absurd (endless_is_no_open e); read_fault = λ e. absurd (endless_is_no_read e) })
-    (λ w o.
-    let long : IfSome (w p).content (λ c. from ≤ length c) = subst (λ c. IfSome c (λ d. from ≤ length d)) (sym ((o.goes p).content ∙ h.place.content)) r.3 in
-    inl (endless_reads (w p).content (w p) from (ap (λ (d : DeviceTold). d.at) (o.over p refl) ∙ h.piece.2) (omega (arith, r.2, h.piece.1)) long))
-read_step a b s n p from to (turn.Fault code.Read) r h =
-    read_turned a b s n p from to (turn.Fault code.Read) h.place
-    (inr (h.piece.1 ∙ sym r.0, h.piece.2))
-    (λ g. absurd g)
-    (record { open_fault = λ e. absurd (read_is_no_open e); read_fault = λ e. (p, refl, omega (arith, h.piece.2)) })
-    (λ w o.
-    let risen : 0 < (w p).read_faults = omega (arith, ap (λ (d : DeviceTold). d.read_faults) (o.over p refl), h.piece.2) in
-    inl (fault_reads (w p).content (w p) from (ap (λ (d : DeviceTold). d.at) (o.over p refl) ∙ h.piece.1) risen))
-read_step a b s n p from to (turn.Fault c) r h = absurd h.piece
+module _ {F : Type 0} (P : Standing F) where
+  -- all but the outcome
+  read_turned : (a b : Around) (s n p from to : ℕ) (t : Turn) → ReadsPlace a b p
+      → ((((b.told p).at ≤ (a.told p).at + n) × ((b.told p).read_faults ≡ (a.told p).read_faults)) ⊎ (((b.told p).at ≡ (a.told p).at) × ((b.told p).read_faults ≡ (a.told p).read_faults + 1)))
+      → (GoesOn t → IsReady {F = F} b s (Read p to)) → ((k : LoadKind) → k ≡ Bytes → GivesKind P k (Read p to) t) → (GoesOn t → IsCaused P a.told b.told (Read p from) (Read p to)) → (IsQuiet t → ⊥)
+      → HasCause {F = F} a.told b.told (Read p from) t → Gave P b.told (Read p from) (Read p to) t
+      → Turned P a b s n (Read p from) (Read p to) t
+  read_turned a b s n p from to t h read ready kinds caused never cause gave = record {
+    moved = read_moved a b s p from h;
+    once = record { place = p; others = λ q m. (ap (λ (d : DeviceTold). d.at) ((h.keeps s).told q m), ap (λ (d : DeviceTold). d.read_faults) ((h.keeps s).told q m)); read = read };
+    live = λ q i. i;
+    fewer = omega arith;
+    spends = record { events = omega (arith, h.affords.events); scopes = omega (arith, h.affords.scopes); rows = omega (arith, h.affords.rows) };
+    ready = ready;
+    pipes = λ g. tt;
+    kinds = kinds;
+    caused = by_three P a.told b.told (Read p from) (Read p to) t caused;
+    quiet = λ f i. absurd (never i);
+    cause = cause;
+    gave = gave;
+  }
+
+  pub read_step : (a b : Around) (s n p from to : ℕ) (t : Turn) → IsReady {F = F} a s (Read p from) → ReadsPiece a b n p from to t → Turned P a b s n (Read p from) (Read p to) t
+  read_step a b s n p from to (turn.Chunk l) r h =
+      let bytes = h.piece.0 in
+      let piece : IsPiece (b.told p).content from bytes = subst (λ o. IsPiece o from bytes) (sym h.place.content) h.piece.8 in
+      let some : 0 < length (elements l) = omega (arith, ap length h.piece.1, length-map bytes Byte, h.piece.2) in
+      read_turned a b s n p from to (turn.Chunk l) h.place
+      (inl (omega (arith, r.0, h.piece.6, h.piece.4, h.piece.3), h.piece.7))
+      (λ g. (h.piece.6, h.piece.7 ∙ r.1, h.piece.5, piece_fits (b.told p).content from to bytes h.piece.2 h.piece.4 piece, (r.4.0, r.4.1, h.piece.9 r.4.0 r.4.2)))
+      (λ k e. (sym (bytes_kind l bytes h.piece.1 h.piece.2) ∙ sym e, e))
+      (λ g. inr (inl (p, refl, omega (arith, r.0, h.piece.6, h.piece.4, h.piece.2)))) (λ i. i)
+      (cause_none a.told b.told (Read p from) (turn.Chunk l) (chunk_goes_on l)) (
+        some,
+        λ w e.
+            let mine : IsPiece (w p).content from bytes = subst (λ o. IsPiece o from bytes) (sym (e.goes p).content) piece in
+            let far : to ≤ (w p).at = omega (arith, (e.goes p).at, h.piece.6) in
+            rw h.piece.1 (by_left (reads_lead (w p).content (w p) from to bytes h.piece.4 h.piece.5 far mine) (some_run (w p).content to (w p) far)),
+      )
+  read_step a b s n p from to turn.Quiet r h = absurd h.piece
+  read_step a b s n p from to turn.Done r h =
+      read_turned a b s n p from to turn.Done h.place
+      (inl (omega (arith, r.0, h.piece.2), h.piece.3))
+      (λ g. absurd g) (λ k e. tt) (λ g. absurd g) (λ i. i)
+      (cause_none a.told b.told (Read p from) turn.Done done_is_no_fault)
+      (λ w o.
+      let end : IfSome (w p).content (λ c. length c ≤ from) = subst (λ c. IfSome c (λ d. length d ≤ from)) (sym ((o.goes p).content ∙ h.place.content)) h.piece.4 in
+      inl (done_reads (w p).content (w p) from (ap (λ (d : DeviceTold). d.at) (o.over p refl) ∙ h.piece.2) h.piece.1 end))
+  read_step a b s n p from to (turn.Fault code.Endless) r h =
+      read_turned a b s n p from to (turn.Fault code.Endless) h.place
+      (inl (omega (arith, r.0, h.piece.2), h.piece.3))
+      (λ g. absurd g) (λ k e. tt) (λ g. absurd g) (λ i. i)
+      (record { open_fault = λ e. absurd (endless_is_no_open e); read_fault = λ e. absurd (endless_is_no_read e) })
+      (λ w o.
+      let long : IfSome (w p).content (λ c. from ≤ length c) = subst (λ c. IfSome c (λ d. from ≤ length d)) (sym ((o.goes p).content ∙ h.place.content)) r.3 in
+      inl (endless_reads (w p).content (w p) from (ap (λ (d : DeviceTold). d.at) (o.over p refl) ∙ h.piece.2) (omega (arith, r.2, h.piece.1)) long))
+  read_step a b s n p from to (turn.Fault code.Read) r h =
+      read_turned a b s n p from to (turn.Fault code.Read) h.place
+      (inr (h.piece.1 ∙ sym r.0, h.piece.2))
+      (λ g. absurd g) (λ k e. tt) (λ g. absurd g) (λ i. i)
+      (record { open_fault = λ e. absurd (read_is_no_open e); read_fault = λ e. (p, refl, omega (arith, h.piece.2)) })
+      (λ w o.
+      let risen : 0 < (w p).read_faults = omega (arith, ap (λ (d : DeviceTold). d.read_faults) (o.over p refl), h.piece.2) in
+      inl (fault_reads (w p).content (w p) from (ap (λ (d : DeviceTold). d.at) (o.over p refl) ∙ h.piece.1) risen))
+  read_step a b s n p from to (turn.Fault c) r h = absurd h.piece

@@ -1,34 +1,39 @@
 -- The parts of a turn.
-use Rattle.std.proofs.Common.{◌≡◌, inl, inr, ℕ, ◌≤◌, refl, sym, ◌∙◌, ap, subst, arith}
+use Rattle.std.proofs.Common.{◌≡◌, inl, inr, ℕ, ◌<◌, ◌≤◌, refl, sym, ◌∙◌, ap, subst, arith, List}
 use Rattle.std.proofs.lemmas.Bool.Decides.{eqb_tells}
 use Rattle.chunk_core.specs.declared.code.Code.{Code}
 use Rattle.chunk_core.specs.declared.code.Code.TheVariants as code
 use Rattle.chunk_core.specs.declared.load.Load.{Load}
+use Rattle.chunk_core.specs.Elements.{Element, LoadKind}
 use Rattle.device_port.specs.Device.{DeviceTold}
 use Rattle.pull_turns.specs.Around.{Around, Goes, Keeps, gist}
+use Rattle.pull_turns.specs.Groups.{GaveGroup, HasNoGroups}
+use Rattle.pull_turns.specs.Groups.GaveGroup.{group, group_within, group_first, group_guarded}
+use Rattle.pull_turns.specs.Piping.{Standing, HasKind, PipesFit}
 use Rattle.pull_turns.specs.Rest.{IsLive, IsReady, left, rows_left, scopes_left}
-use Rattle.pull_turns.specs.Turned.{Moved, ReadsOnce, HasCause, Turned, Gave, GoesOn}
+use Rattle.pull_turns.specs.Turned.{HasFinished, Moved, ReadsOnce, HasCause, Turned, Gave, GivesKind, GoesOn, IsCaused, IsCausedBy, IsQuiet}
+use Rattle.pull_turns.specs.Sizes.{HasNoPipe}
 use Rattle.pull_turns.specs.declared.rest.Rest.{Rest}
 use Rattle.pull_turns.specs.declared.turn.Turn.{Turn}
 use Rattle.pull_turns.specs.declared.turn.Turn.TheVariants as turn
 use Rattle.pull_turns.proofs.Kept.{goes_same, goes_gist, keeps_same, keeps_more}
 
-pub moved_same : (a : Around) (s : ℕ) (r : Rest) → Moved a a s r
+pub moved_same : {F : Type 0} (a : Around) (s : ℕ) (r : Rest F) → Moved a a s r
 moved_same a s r = record { keeps = keeps_same a (λ p. IsLive p r) s; goes = λ p. goes_same (a.told p) }
 
 -- where nothing was touched
-pub moved_none : (a b : Around) (s : ℕ) (r : Rest) → Keeps a (λ q. ⊥) s b → Moved a b s r
+pub moved_none : {F : Type 0} (a b : Around) (s : ℕ) (r : Rest F) → Keeps a (λ q. ⊥) s b → Moved a b s r
 moved_none a b s r k = record { keeps = keeps_more a b (λ q. ⊥) (λ p. IsLive p r) s s (λ q i. absurd i) (omega arith) k; goes = λ p. goes_gist (a.told p) (b.told p) (k.told p (λ i. i)) }
 
 -- where one device was touched
-pub moved_place : (a b : Around) (s p : ℕ) (r : Rest) → IsLive p r → Keeps a (λ q. q ≡ p) s b → Goes (a.told p) (b.told p) → Moved a b s r
+pub moved_place : {F : Type 0} (a b : Around) (s p : ℕ) (r : Rest F) → IsLive p r → Keeps a (λ q. q ≡ p) s b → Goes (a.told p) (b.told p) → Moved a b s r
 moved_place a b s p r l k g = record {
   keeps = keeps_more a b (λ q. q ≡ p) (λ q. IsLive q r) s s (λ q e. subst (λ n. IsLive n r) (sym e) l) (omega arith) k;
   goes = λ q. elim (eqb_tells q p) [ inl m ↦ subst (λ n. Goes (a.told n) (b.told n)) (sym m.1) g | inr m ↦ goes_gist (a.told q) (b.told q) (k.told q m.1) ];
 }
 
 -- what a part touched
-pub moved_part : (a b : Around) (s t : ℕ) (x y : Rest) → t ≤ s → ((p : ℕ) → IsLive p x → IsLive p y) → Moved a b s x → Moved a b t y
+pub moved_part : {F : Type 0} (a b : Around) (s t : ℕ) (x y : Rest F) → t ≤ s → ((p : ℕ) → IsLive p x → IsLive p y) → Moved a b s x → Moved a b t y
 moved_part a b s t x y le f h = record { keeps = keeps_more a b (λ p. IsLive p x) (λ p. IsLive p y) s t f le h.keeps; goes = h.goes }
 
 pub once_same : (a b : ℕ → DeviceTold) (n : ℕ) → ((q : ℕ) → (b q).at ≡ (a q).at) → ((q : ℕ) → (b q).read_faults ≡ (a q).read_faults) → ReadsOnce a b n
@@ -43,10 +48,10 @@ chunk_goes_on l c e = cc
 pub done_is_no_fault : (c : Code) → turn.Done ≡ turn.Fault c → ⊥
 done_is_no_fault c e = cc
 
-pub cause_none : (a b : ℕ → DeviceTold) (r : Rest) (t : Turn) → ((c : Code) → t ≡ turn.Fault c → ⊥) → HasCause a b r t
+pub cause_none : {F : Type 0} (a b : ℕ → DeviceTold) (r : Rest F) (t : Turn) → ((c : Code) → t ≡ turn.Fault c → ⊥) → HasCause a b r t
 cause_none a b r t never = record { open_fault = λ e. absurd (never code.Open e); read_fault = λ e. absurd (never code.Read e) }
 
-pub cause_part : (a b : ℕ → DeviceTold) (x y : Rest) (t : Turn) → ((p : ℕ) → IsLive p x → IsLive p y) → HasCause a b x t → HasCause a b y t
+pub cause_part : {F : Type 0} (a b : ℕ → DeviceTold) (x y : Rest F) (t : Turn) → ((p : ℕ) → IsLive p x → IsLive p y) → HasCause a b x t → HasCause a b y t
 cause_part a b x y t f h = record {
   open_fault = λ e. let c = h.open_fault e in (c.0, f c.0 c.1, c.2);
   read_fault = λ e. let c = h.read_fault e in (c.0, f c.0 c.1, c.2);
@@ -63,23 +68,73 @@ once_on a b c n h same =
       read = elim h.read [ inl i ↦ inl (omega (arith, at h.place, i.0), faults h.place ∙ i.1) | inr i ↦ inr (at h.place ∙ i.0, faults h.place ∙ i.1) ];
     }
 
-pub cause_on : (a b c : ℕ → DeviceTold) (x y : Rest) (t : Turn) → ((p : ℕ) → IsLive p x → IsLive p y) → ((q : ℕ) → gist (c q) ≡ gist (b q)) → HasCause a b x t → HasCause a c y t
+pub cause_on : {F : Type 0} (a b c : ℕ → DeviceTold) (x y : Rest F) (t : Turn) → ((p : ℕ) → IsLive p x → IsLive p y) → ((q : ℕ) → gist (c q) ≡ gist (b q)) → HasCause a b x t → HasCause a c y t
 cause_on a b c x y t f same h = record {
   open_fault = λ e. let i = h.open_fault e in (i.0, f i.0 i.1, omega (arith, i.2, ap (λ (d : DeviceTold). d.open_faults) (same i.0)));
   read_fault = λ e. let i = h.read_fault e in (i.0, f i.0 i.1, omega (arith, i.2, ap (λ (d : DeviceTold). d.read_faults) (same i.0)));
 }
 
+-- one of the three causes is one of each turn
+pub by_three : {F : Type 0} (P : Standing F) (a b : ℕ → DeviceTold) (old new : Rest F) (t : Turn) → (GoesOn t → IsCaused P a b old new) → IsCausedBy P a b old new t
+by_three P a b old new (turn.Chunk l) f = inl (f tt)
+by_three P a b old new turn.Quiet f = f tt
+by_three P a b old new turn.Done f = tt
+by_three P a b old new (turn.Fault c) f = tt
+
+-- where no part is grouped, no group waits
+no_group : {F : Type 0} (xs : List Element) (x new : Rest F) → HasNoGroups x → GaveGroup xs x new → ⊥
+no_group xs _ _ none (group n p q a l g e) = none
+no_group xs _ _ none (group_within c p q a b h) = no_group xs a b none h
+no_group xs _ _ none (group_first p q a b m h) = no_group xs a b none h
+no_group xs _ _ none (group_guarded p q a b m h) = no_group xs a b none h
+
+-- where no part is grouped, a turn that goes on has one of the three causes
+pub one_of_three : {F : Type 0} (P : Standing F) (a b : ℕ → DeviceTold) (x new : Rest F) (t : Turn) → HasNoGroups x → IsCausedBy P a b x new t → GoesOn t → IsCaused P a b x new
+one_of_three P a b x new (turn.Chunk l) none h g = elim h [ inl i ↦ i | inr i ↦ absurd (no_group _ x new none i) ]
+one_of_three P a b x new turn.Quiet none h g = h
+one_of_three P a b x new turn.Done none h g = absurd g
+one_of_three P a b x new (turn.Fault c) none h g = absurd g
+
 -- a turn that touches nothing
-pub turned_same : (a : Around) (s n : ℕ) (old new : Rest) (t : Turn) → ((p : ℕ) → IsLive p new → IsLive p old) → left new ≤ left old
-    → rows_left new ≤ rows_left old → scopes_left new ≤ scopes_left old → (GoesOn t → IsReady a s new) → HasCause a.told a.told old t → Gave a.told old new t
-    → Turned a a s n old new t
-turned_same a s n old new t live fewer rows scopes ready cause gave = record {
+pub turned_by : {F : Type 0} (P : Standing F) (a : Around) (s n : ℕ) (old new : Rest F) (t : Turn) → ((p : ℕ) → IsLive p new → IsLive p old) → left new ≤ left old
+    → rows_left new ≤ rows_left old → scopes_left new ≤ scopes_left old → (GoesOn t → IsReady a s new) → (GoesOn t → PipesFit P new)
+    → ((k : LoadKind) → HasKind P k old → GivesKind P k new t) → IsCausedBy P a.told a.told old new t
+    → (HasNoPipe old → IsQuiet t → left new < left old) → HasCause a.told a.told old t → Gave P a.told old new t → Turned P a a s n old new t
+turned_by P a s n old new t live fewer rows scopes ready pipes kinds caused quiet cause gave = record {
   moved = moved_same a s old;
   once = once_same a.told a.told n (λ q. refl) (λ q. refl);
   live = live;
   fewer = fewer;
   spends = record { events = omega (arith, rows, scopes); scopes = omega (arith, scopes); rows = omega (arith, rows) };
   ready = ready;
+  pipes = pipes;
+  kinds = kinds;
+  caused = caused;
+  quiet = quiet;
   cause = cause;
   gave = gave;
 }
+
+-- the same by one of the three causes
+pub turned_same : {F : Type 0} (P : Standing F) (a : Around) (s n : ℕ) (old new : Rest F) (t : Turn) → ((p : ℕ) → IsLive p new → IsLive p old) → left new ≤ left old
+    → rows_left new ≤ rows_left old → scopes_left new ≤ scopes_left old → (GoesOn t → IsReady a s new) → (GoesOn t → PipesFit P new)
+    → ((k : LoadKind) → HasKind P k old → GivesKind P k new t) → (GoesOn t → IsCaused P a.told a.told old new)
+    → (HasNoPipe old → IsQuiet t → left new < left old) → HasCause a.told a.told old t → Gave P a.told old new t → Turned P a a s n old new t
+turned_same P a s n old new t live fewer rows scopes ready pipes kinds caused quiet cause gave =
+    turned_by P a s n old new t live fewer rows scopes ready pipes kinds (by_three P a.told a.told old new t caused) quiet cause gave
+
+-- what caused a turn of a part caused the turn of the whole
+pub caused_part : {F : Type 0} (P : Standing F) (a b : ℕ → DeviceTold) (x new y z : Rest F) → (left new < left x → left z < left y) → ((p : ℕ) → IsLive p x → IsLive p y)
+    → (HasFinished P x new → HasFinished P y z) → IsCaused P a b x new → IsCaused P a b y z
+caused_part P a b x new y z f g h = elim [
+  | inl i ↦ inl (f i)
+  | inr i ↦ inr (elim i [ inl j ↦ inl (j.0, g j.0 j.1, j.2) | inr j ↦ inr (h j) ])
+]
+
+-- the same of each turn
+pub caused_whole : {F : Type 0} (P : Standing F) (a b : ℕ → DeviceTold) (x new y z : Rest F) (t : Turn) → (left new < left x → left z < left y) → ((p : ℕ) → IsLive p x → IsLive p y)
+    → (HasFinished P x new → HasFinished P y z) → ((xs : List Element) → GaveGroup xs x new → GaveGroup xs y z) → IsCausedBy P a b x new t → IsCausedBy P a b y z t
+caused_whole P a b x new y z (turn.Chunk l) f g h k i = elim i [ inl j ↦ inl (caused_part P a b x new y z f g h j) | inr j ↦ inr (k _ j) ]
+caused_whole P a b x new y z turn.Quiet f g h k i = caused_part P a b x new y z f g h i
+caused_whole P a b x new y z turn.Done f g h k i = tt
+caused_whole P a b x new y z (turn.Fault c) f g h k i = tt

@@ -1,15 +1,21 @@
 -- Several turns.
-use Rattle.std.specs.Prelude.{◌≡◌, ℕ, ◌+◌, ◌<◌, ◌≤◌, false, List, [], length, Option, Some, None}
+use Rattle.std.specs.Prelude.{◌≡◌, ℕ, zero, suc, ◌<◌, ◌≤◌, false, List, [], ◌∷◌, ◌++◌, length, Option, Some, None}
 use Rattle.chunk_core.specs.declared.code.How.{How}
 use Rattle.chunk_core.specs.declared.code.How.TheVariants as how
-use Rattle.chunk_core.specs.Elements.{Element, elements}
+use Rattle.chunk_core.specs.declared.load.Load.{Load}
+use Rattle.chunk_core.specs.Elements.{Element, LoadKind, elements, kind_of}
 use Rattle.chunk_core.specs.Outcomes.{End, Done, Fault, Cut}
 use Rattle.device_port.specs.Device.{DeviceTold}
 use Rattle.pull_turns.specs.Around.{Around, Goes, gist}
+use Rattle.pull_turns.specs.Groups.{Grouped, IsGrouped}
+use Rattle.pull_turns.specs.Piping.{Standing, HasKind}
 use Rattle.pull_turns.specs.Rest.{IsRunOfRest, IsLive, CanStep, left}
-use Rattle.pull_turns.specs.Turned.{Leads, Ends, Over, ReadsOnce, HasCause, Gave, GoesOn, Spends}
+use Rattle.pull_turns.specs.Turned.{Leads, Ends, Over, ReadsOnce, HasCause, Gave, GivesKind, GoesOn, IsCausedBy, IsQuiet, Spends}
+use Rattle.pull_turns.specs.Moves.{how_of}
+use Rattle.pull_turns.specs.Sizes.{HasNoPipe}
 use Rattle.pull_turns.specs.declared.rest.Rest.{Rest}
 use Rattle.pull_turns.specs.declared.turn.Turn.{Turn}
+use Rattle.pull_turns.specs.declared.turn.Turn.TheVariants as turn
 use Rattle.pull_turns.specs.declared.runner.Unconsed.{Unconsed}
 use Rattle.pull_turns.specs.declared.runner.Unconsed.TheVariants as unconsed
 
@@ -19,27 +25,9 @@ pub record IsShut (a : Around) : Type 0 where
   pub devices : (p : ℕ) → (a.told p).is_open ≡ false
 
 -- only devices of what was left were touched
-pub record Tells (before now : ℕ → DeviceTold) (old : Rest) : Type 0 where
+pub record Tells {F : Type 0} (before now : ℕ → DeviceTold) (old : Rest F) : Type 0 where
   pub goes : (p : ℕ) → Goes (before p) (now p)
   pub others : (p : ℕ) → (IsLive p old → ⊥) → gist (now p) ≡ gist (before p)
-
--- a turn of the whole was made, with reads of at most n bytes; at an end each scope and each device is closed
-pub record Turns (before now : Around) (n : ℕ) (old new : Rest) (t : Turn) : Type 0 where
-  pub tells : Tells before.told now.told old
-  pub once : ReadsOnce before.told now.told n
-  pub live : (p : ℕ) → IsLive p new → IsLive p old
-  pub fewer : left new ≤ left old
-  pub spends : Spends before now old new
-  pub can : GoesOn t → CanStep now 0 new
-  pub shut : (GoesOn t → ⊥) → IsShut now
-  pub cause : HasCause before.told now.told old t
-  pub gave : Gave now.told old new t
-
--- since the start turns gave these elements
-pub record Led (before now : ℕ → DeviceTold) (start rest : Rest) (xs : List Element) : Type 0 where
-  pub tells : Tells before now start
-  pub live : (p : ℕ) → IsLive p rest → IsLive p start
-  pub lead : (w : ℕ → DeviceTold) → Ends now w start rest → Leads xs (IsRunOfRest w rest) (IsRunOfRest w start)
 
 -- the end of a run that ended so
 abbrev pub end_of : How → End
@@ -53,8 +41,58 @@ abbrev pub end_by : Option How → End
 end_by (Some h) = end_of h
 end_by None = Cut
 
--- the first load that comes, the end, or only that many turns that gave nothing
-abbrev pub Uncons : Around → Around → ℕ → Rest → Rest → Option How → Unconsed → Type 0
-Uncons before now n old new h (unconsed.Chunk l) = (0 < length (elements l)) × (h ≡ None) × CanStep now 0 new × Led before.told now.told old new (elements l)
-Uncons before now n old new h (unconsed.End e) = (h ≡ Some e) × IsShut now × Tells before.told now.told old × ((w : ℕ → DeviceTold) → Over now.told w old → IsRunOfRest w old [] (end_of e))
-Uncons before now n old new h unconsed.Again = (left new + n ≤ left old) × (h ≡ None) × CanStep now 0 new × Led before.told now.told old new []
+-- the load that a turn gives, or none
+abbrev pub loads_of : Turn → List Load
+loads_of (turn.Chunk l) = l ∷ []
+loads_of turn.Quiet = []
+loads_of turn.Done = []
+loads_of (turn.Fault c) = []
+
+module _ {F : Type 0} (P : Standing F) where
+  -- a turn of the whole was made, with reads of at most n bytes; at an end each scope and each device is closed
+  pub record Turns (before now : Around) (n : ℕ) (old new : Rest F) (t : Turn) : Type 0 where
+    pub tells : Tells before.told now.told old
+    pub once : ReadsOnce before.told now.told n
+    pub live : (p : ℕ) → IsLive p new → IsLive p old
+    pub fewer : left new ≤ left old
+    pub spends : Spends before now old new
+    pub can : GoesOn t → CanStep P now 0 new
+    pub shut : (GoesOn t → ⊥) → IsShut now
+    pub kinds : (k : LoadKind) → HasKind P k old → GivesKind P k new t
+    pub caused : IsCausedBy P before.told now.told old new t
+    pub quiet : HasNoPipe old → IsQuiet t → left new < left old
+    pub grouped : Grouped old new t
+    pub cause : HasCause before.told now.told old t
+    pub gave : Gave P now.told old new t
+
+  -- since the start turns gave these elements
+  pub record Led (before now : ℕ → DeviceTold) (start rest : Rest F) (xs : List Element) : Type 0 where
+    pub tells : Tells before now start
+    pub live : (p : ℕ) → IsLive p rest → IsLive p start
+    pub kinds : (k : LoadKind) → HasKind P k start → HasKind P k rest
+    pub grouped : (k : ℕ) → IsGrouped k start → IsGrouped k rest
+    pub lead : (w : ℕ → DeviceTold) → Ends now w start rest → Leads xs (IsRunOfRest P w rest) (IsRunOfRest P w start)
+
+  module _ {O : Type 0} (seen : O → Around) (n : ℕ) where
+    -- so many turns were made, with reads of at most n bytes; none was the end, and they gave these loads
+    abbrev pub GoesOnFor : ℕ → O → Rest F → O → Rest F → List Load → Type 0
+    GoesOnFor zero a old b new loads = (b ≡ a) × (new ≡ old) × (loads ≡ [])
+    GoesOnFor (suc k) a old b new loads =
+        (mid : O) × (rest : Rest F) × (given : List Load) × (t : Turn)
+        × GoesOnFor k a old mid rest given × Turns (seen mid) (seen b) n rest new t × GoesOn t × (loads ≡ given ++ loads_of t)
+
+    -- turns that gave nothing were made, fewer than k, and then this one
+    abbrev pub ComesWithin : ℕ → O → Rest F → O → Rest F → Turn → Type 0
+    ComesWithin k a old b new t = (i : ℕ) × (i < k) × (mid : O) × (rest : Rest F) × GoesOnFor i a old mid rest [] × Turns (seen mid) (seen b) n rest new t
+
+    -- the first load that comes, the end, or as many turns as asked for, each of which gave nothing
+    abbrev pub Uncons : ℕ → O → O → Rest F → Rest F → Option How → Unconsed → Type 0
+    Uncons k a b old new h (unconsed.Chunk l) =
+        (0 < length (elements l)) × (h ≡ None) × CanStep P (seen b) 0 new × Led (seen a).told (seen b).told old new (elements l)
+        × ((kind : LoadKind) → HasKind P kind old → kind_of l ≡ kind) × ComesWithin k a old b new (turn.Chunk l)
+        × ((j : ℕ) → IsGrouped j old → length (elements l) ≤ j)
+    Uncons k a b old new h (unconsed.End e) =
+        (h ≡ Some e) × IsShut (seen b) × Tells (seen a).told (seen b).told old × ((w : ℕ → DeviceTold) → Over (seen b).told w old → IsRunOfRest P w old [] (end_of e))
+        × ((t : Turn) × (how_of t ≡ Some e) × ComesWithin k a old b new t)
+    Uncons k a b old new h unconsed.Again =
+        GoesOnFor k a old b new [] × (h ≡ None) × CanStep P (seen b) 0 new × Led (seen a).told (seen b).told old new []

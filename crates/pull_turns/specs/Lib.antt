@@ -1,6 +1,9 @@
 pub mod Around
+pub mod Groups
+pub mod Piping
 pub mod Rest
 pub mod Turned
 pub mod Moves
+pub mod Passing
 pub mod Led
 pub mod Sizes

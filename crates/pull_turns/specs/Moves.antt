@@ -4,7 +4,7 @@ use Rattle.chunk_core.specs.declared.code.Code.TheVariants as code
 use Rattle.chunk_core.specs.declared.code.How.{How}
 use Rattle.chunk_core.specs.declared.code.How.TheVariants as how
 use Rattle.chunk_core.specs.declared.load.Load.{Load}
-use Rattle.chunk_core.specs.Elements.{elements, Byte}
+use Rattle.chunk_core.specs.Elements.{elements, kind_of, Byte}
 use Rattle.pull_turns.specs.Around.{Around, Affords, Keeps, Leaves}
 use Rattle.pull_turns.specs.declared.rest.Rest.{Rest}
 use Rattle.pull_turns.specs.declared.rest.Rest.TheVariants.{Start, Append', OnFault'}
@@ -48,7 +48,7 @@ abbrev pub giving : Load → Turn
 giving l = load_or_quiet (length (elements l)) l
 
 -- the second part of a join
-abbrev pub behind : Rest → Rest
+abbrev pub behind : {F : Type 0} → Rest F → Rest F
 behind (Append' _ a b) = Start b.value
 behind (OnFault' _ a b) = Start b.value
 behind r = r
@@ -63,9 +63,9 @@ abbrev pub guard_turn : Turn → Turn
 guard_turn (turn.Fault c) = turn.Quiet
 guard_turn t = t
 
--- no more than the wanted elements
+-- no more than the wanted elements, in a load of the same kind
 abbrev pub TakenOf : ℕ → ℕ → Turn → Turn → Type 0
-TakenOf old new (turn.Chunk l) (turn.Chunk m) = (elements m ≡ take old (elements l)) × (new ≡ old - length (elements l))
+TakenOf old new (turn.Chunk l) (turn.Chunk m) = (elements m ≡ take old (elements l)) × (new ≡ old - length (elements l)) × (kind_of m ≡ kind_of l)
 TakenOf old new (turn.Chunk l) turn.Quiet = ⊥
 TakenOf old new (turn.Chunk l) turn.Done = ⊥
 TakenOf old new (turn.Chunk l) (turn.Fault c) = ⊥

@@ -1,14 +1,42 @@
--- How much may still come, and in pieces of which size.
+-- How much may still come where no pipe is on the way, and in pieces of which size. A pipe may give more than it gets.
 use Rattle.std.specs.Prelude.{ℕ, ◌+◌, ◌-◌, ◌^◌, ◌≤◌, max, List, [], length}
 use Rattle.chunk_core.specs.Elements.{Element, elements}
 use Rattle.pull_nodes.specs.declared.node.Node.{Node}
 use Rattle.pull_nodes.specs.declared.node.Node.TheVariants as node
+use Rattle.pull_turns.specs.Groups.{waiting}
 use Rattle.pull_turns.specs.declared.rest.Rest.{Rest}
-use Rattle.pull_turns.specs.declared.rest.Rest.TheVariants.{Nil, Start, Read, Within', Append', OnFault', Take'}
+use Rattle.pull_turns.specs.declared.rest.Rest.TheVariants.{Nil, Start, Read, Within', Append', OnFault', Through', Finishing, Faulty, Groups', Take'}
 use Rattle.pull_turns.specs.declared.runner.Unconsed.{Unconsed}
 use Rattle.pull_turns.specs.declared.runner.Unconsed.TheVariants as unconsed
 use Rattle.pull_turns.specs.declared.turn.Turn.{Turn}
 use Rattle.pull_turns.specs.declared.turn.Turn.TheVariants as turn
+
+-- no pipe is in the node
+abbrev pub HasNoPipeOf : Node → Type 0
+HasNoPipeOf node.Nil = Unit {0}
+HasNoPipeOf (node.Emit l) = Unit {0}
+HasNoPipeOf (node.Raise c) = Unit {0}
+HasNoPipeOf (node.Read p) = Unit {0}
+HasNoPipeOf (node.Weak' p _ a) = HasNoPipeOf a
+HasNoPipeOf (node.Scope' _ a) = HasNoPipeOf a
+HasNoPipeOf (node.Append' _ a _ b) = HasNoPipeOf a × HasNoPipeOf b
+HasNoPipeOf (node.OnFault' _ a _ b) = HasNoPipeOf a × HasNoPipeOf b
+HasNoPipeOf (node.Through' _ a q) = ⊥
+HasNoPipeOf (node.Take' n _ a) = HasNoPipeOf a
+
+-- no pipe is in what is left
+abbrev pub HasNoPipe : {F : Type 0} → Rest F → Type 0
+HasNoPipe Nil = Unit {0}
+HasNoPipe (Start n) = HasNoPipeOf n
+HasNoPipe (Read p from) = Unit {0}
+HasNoPipe (Within' s _ a) = HasNoPipe a
+HasNoPipe (Append' _ a b) = HasNoPipe a × HasNoPipeOf b.value
+HasNoPipe (OnFault' _ a b) = HasNoPipe a × HasNoPipeOf b.value
+HasNoPipe (Through' _ a q) = ⊥
+HasNoPipe (Finishing q) = ⊥
+HasNoPipe (Faulty c) = ⊥
+HasNoPipe (Groups' n f _ a) = ⊥
+HasNoPipe (Take' n _ a) = HasNoPipe a
 
 -- the most elements of one piece of a node, where a read has at most n bytes
 abbrev pub widest_of : ℕ → Node → ℕ
@@ -20,16 +48,21 @@ widest_of n (node.Weak' p _ a) = widest_of n a
 widest_of n (node.Scope' _ a) = widest_of n a
 widest_of n (node.Append' _ a _ b) = max (widest_of n a) (widest_of n b)
 widest_of n (node.OnFault' _ a _ b) = max (widest_of n a) (widest_of n b)
+widest_of n (node.Through' _ a q) = widest_of n a
 widest_of n (node.Take' k _ a) = widest_of n a
 
 -- the same of what is left
-abbrev pub widest : ℕ → Rest → ℕ
+abbrev pub widest : {F : Type 0} → ℕ → Rest F → ℕ
 widest n Nil = 0
 widest n (Start m) = widest_of n m
 widest n (Read p from) = n
 widest n (Within' s _ a) = widest n a
 widest n (Append' _ a b) = max (widest n a) (widest_of n b.value)
 widest n (OnFault' _ a b) = max (widest n a) (widest_of n b.value)
+widest n (Through' _ a q) = widest n a
+widest n (Finishing q) = 0
+widest n (Faulty c) = 0
+widest n (Groups' k f _ a) = k
 widest n (Take' k _ a) = widest n a
 
 -- as many elements as a node gives at most
@@ -42,16 +75,21 @@ most_of (node.Weak' p _ a) = most_of a
 most_of (node.Scope' _ a) = most_of a
 most_of (node.Append' _ a _ b) = most_of a + most_of b
 most_of (node.OnFault' _ a _ b) = most_of a + most_of b
+most_of (node.Through' _ a q) = most_of a
 most_of (node.Take' k _ a) = most_of a
 
 -- the same of what is left
-abbrev pub most : Rest → ℕ
+abbrev pub most : {F : Type 0} → Rest F → ℕ
 most Nil = 0
 most (Start m) = most_of m
 most (Read p from) = 2 ^ 40 - from
 most (Within' s _ a) = most a
 most (Append' _ a b) = most a + most_of b.value
 most (OnFault' _ a b) = most a + most_of b.value
+most (Through' _ a q) = most a
+most (Finishing q) = 0
+most (Faulty c) = 0
+most (Groups' k f _ a) = length (waiting f) + most a
 most (Take' k _ a) = most a
 
 -- the elements that a turn gives
@@ -67,8 +105,9 @@ given_first (unconsed.Chunk l) = elements l
 given_first (unconsed.End h) = []
 given_first unconsed.Again = []
 
--- no more elements came than one piece has, and no more than could come are left
-pub record Sized (n : ℕ) (old new : Rest) (xs : List Element) : Type 0 where
+-- no more elements came than one piece has, and no more than could come are left, still without a pipe
+pub record Sized {F : Type 0} (n : ℕ) (old new : Rest F) (xs : List Element) : Type 0 where
+  pub plain : HasNoPipe new
   pub piece : length xs ≤ widest n old
   pub pieces : widest n new ≤ widest n old
   pub rest : length xs + most new ≤ most old

@@ -1,13 +1,20 @@
 -- What one turn does.
-use Rattle.std.specs.Prelude.{◌≡◌, ◌≢◌, ◌⊎◌, ℕ, ◌+◌, ◌*◌, ◌<◌, ◌≤◌, List, [], ◌++◌, length}
+use Rattle.std.specs.Prelude.{◌≡◌, ◌≢◌, ◌⊎◌, ℕ, ◌+◌, ◌*◌, ◌<◌, ◌≤◌, List, [], ◌++◌, length, Option, Some, Box}
+use Rattle.std.specs.Global.{Global}
+use Rattle.chunk_core.specs.declared.code.Code.{Code}
 use Rattle.chunk_core.specs.declared.code.Code.TheVariants as code
-use Rattle.chunk_core.specs.Elements.{Element, elements}
+use Rattle.chunk_core.specs.Elements.{Element, LoadKind, elements, kind_of}
+use Rattle.chunk_core.specs.declared.load.Load.{Load}
 use Rattle.chunk_core.specs.Outcomes.{End, Done, Fault, Outcomes}
 use Rattle.device_port.specs.Device.{DeviceTold}
 use Rattle.pull_turns.specs.Around.{Around, Goes, Keeps, gist}
+use Rattle.pull_turns.specs.Groups.{GaveGroup}
+use Rattle.pull_turns.specs.Piping.{Standing, HasKind, PipesFit}
 use Rattle.pull_turns.specs.Rest.{IsRunOfRest, IsLive, IsReady, left, rows_left, scopes_left}
+use Rattle.pull_turns.specs.Sizes.{HasNoPipe}
 use Rattle.pull_turns.specs.declared.rest.Rest.{Rest}
-use Rattle.pull_turns.specs.declared.rest.Rest.TheVariants.{Nil}
+use Rattle.pull_turns.specs.declared.rest.Rest.TheVariants.{Nil, Within', Append', OnFault', Through', Finishing, Faulty, Groups', Take'}
+use Rattle.pull_nodes.specs.declared.node.Node.{Node}
 use Rattle.pull_turns.specs.declared.turn.Turn.{Turn}
 use Rattle.pull_turns.specs.declared.turn.Turn.TheVariants as turn
 
@@ -16,22 +23,21 @@ pub record Leads (xs : List Element) (New Old : Outcomes) : Type 0 where
   pub gives : (ys : List Element) (e : End) → New ys e → Old (xs ++ ys) e
 
 -- at the end the devices tell w: those of places that were left, what they tell now
-pub record Ends (now w : ℕ → DeviceTold) (old new : Rest) : Type 0 where
+pub record Ends {F : Type 0} (now w : ℕ → DeviceTold) (old new : Rest F) : Type 0 where
   pub over : (p : ℕ) → IsLive p old → (IsLive p new → ⊥) → gist (w p) ≡ gist (now p)
   pub goes : (p : ℕ) → Goes (now p) (w p)
 
 -- at the end the devices tell w, and all places were left
-pub record Over (now w : ℕ → DeviceTold) (old : Rest) : Type 0 where
+pub record Over {F : Type 0} (now w : ℕ → DeviceTold) (old : Rest F) : Type 0 where
   pub over : (p : ℕ) → IsLive p old → gist (w p) ≡ gist (now p)
   pub goes : (p : ℕ) → Goes (now p) (w p)
 
--- what the turn gave is a front of each run of what was left before, and an end is its end. Nothing
--- is given only where a node was entered or left
-abbrev pub Gave : (ℕ → DeviceTold) → Rest → Rest → Turn → Type 0
-Gave now old new (turn.Chunk l) = (0 < length (elements l)) × ((w : ℕ → DeviceTold) → Ends now w old new → Leads (elements l) (IsRunOfRest w new) (IsRunOfRest w old))
-Gave now old new turn.Quiet = (left new < left old) × ((w : ℕ → DeviceTold) → Ends now w old new → Leads [] (IsRunOfRest w new) (IsRunOfRest w old))
-Gave now old new turn.Done = (w : ℕ → DeviceTold) → Over now w old → IsRunOfRest w old [] Done
-Gave now old new (turn.Fault c) = (w : ℕ → DeviceTold) → Over now w old → IsRunOfRest w old [] (Fault c)
+-- what the turn gave is a front of each run of what was left before, and an end is its end
+abbrev pub Gave : {F : Type 0} → Standing F → (ℕ → DeviceTold) → Rest F → Rest F → Turn → Type 0
+Gave P now old new (turn.Chunk l) = (0 < length (elements l)) × ((w : ℕ → DeviceTold) → Ends now w old new → Leads (elements l) (IsRunOfRest P w new) (IsRunOfRest P w old))
+Gave P now old new turn.Quiet = (w : ℕ → DeviceTold) → Ends now w old new → Leads [] (IsRunOfRest P w new) (IsRunOfRest P w old)
+Gave P now old new turn.Done = (w : ℕ → DeviceTold) → Over now w old → IsRunOfRest P w old [] Done
+Gave P now old new (turn.Fault c) = (w : ℕ → DeviceTold) → Over now w old → IsRunOfRest P w old [] (Fault c)
 
 -- more turns may follow
 abbrev pub GoesOn : Turn → Type 0
@@ -39,6 +45,13 @@ GoesOn (turn.Chunk l) = Unit {0}
 GoesOn turn.Quiet = Unit {0}
 GoesOn turn.Done = ⊥
 GoesOn (turn.Fault c) = ⊥
+
+-- the turn gave nothing, and more turns may follow
+abbrev pub IsQuiet : Turn → Type 0
+IsQuiet (turn.Chunk l) = ⊥
+IsQuiet turn.Quiet = Unit {0}
+IsQuiet turn.Done = ⊥
+IsQuiet (turn.Fault c) = ⊥
 
 -- at most one read was made, of at most n bytes
 pub record ReadsOnce (before now : ℕ → DeviceTold) (n : ℕ) : Type 0 where
@@ -48,32 +61,78 @@ pub record ReadsOnce (before now : ℕ → DeviceTold) (n : ℕ) : Type 0 where
       ⊎ (((now place).at ≡ (before place).at) × ((now place).read_faults ≡ (before place).read_faults + 1))
 
 -- a fault of a device has its cause in this turn
-pub record HasCause (before now : ℕ → DeviceTold) (old : Rest) (t : Turn) : Type 0 where
+pub record HasCause {F : Type 0} (before now : ℕ → DeviceTold) (old : Rest F) (t : Turn) : Type 0 where
   pub open_fault : t ≡ turn.Fault code.Open → (p : ℕ) × IsLive p old × ((before p).open_faults < (now p).open_faults)
   pub read_fault : t ≡ turn.Fault code.Read → (p : ℕ) × IsLive p old × ((before p).read_faults < (now p).read_faults)
 
 -- only what is left and the scopes below s were touched
-pub record Moved (before now : Around) (s : ℕ) (old : Rest) : Type 0 where
+pub record Moved {F : Type 0} (before now : Around) (s : ℕ) (old : Rest F) : Type 0 where
   pub keeps : Keeps before (λ p. IsLive p old) s now
   pub goes : (p : ℕ) → Goes (before.told p) (now.told p)
 
 -- there is as much room beyond what is left as there was
-pub record Spends (before now : Around) (old new : Rest) : Type 0 where
+pub record Spends {F : Type 0} (before now : Around) (old new : Rest F) : Type 0 where
   pub events : before.events + 2 * rows_left new + 2 * scopes_left new ≤ now.events + 2 * rows_left old + 2 * scopes_left old
   pub scopes : before.scopes + scopes_left new ≤ now.scopes + scopes_left old
   pub rows : before.rows + rows_left new ≤ now.rows + rows_left old
 
 -- no more room was used than what was left could need
-abbrev pub SpendsWithin : Around → Around → Rest → Type 0
+abbrev pub SpendsWithin : {F : Type 0} → Around → Around → Rest F → Type 0
 SpendsWithin before now old = Spends before now old Nil
 
--- a turn was made in the scope s, with reads of at most n bytes
-pub record Turned (before now : Around) (s n : ℕ) (old new : Rest) (t : Turn) : Type 0 where
-  pub moved : Moved before now s old
-  pub once : ReadsOnce before.told now.told n
-  pub live : (p : ℕ) → IsLive p new → IsLive p old
-  pub fewer : left new ≤ left old
-  pub spends : Spends before now old new
-  pub ready : GoesOn t → IsReady now s new
-  pub cause : HasCause before.told now.told old t
-  pub gave : Gave now.told old new t
+-- the load is of the kind of all loads that may come, and so is what may come after it
+abbrev pub GivesKind : {F : Type 0} → Standing F → LoadKind → Rest F → Turn → Type 0
+GivesKind P k new (turn.Chunk l) = (kind_of l ≡ k) × HasKind P k new
+GivesKind P k new turn.Quiet = HasKind P k new
+GivesKind P k new turn.Done = Unit {0}
+GivesKind P k new (turn.Fault c) = Unit {0}
+
+module _ {F : Type 0} (P : Standing F) where
+  -- of all that was still to come of a pipe, some elements at its front came, and the rest is still to come
+  abbrev pub GaveNext : F → F → Type 0
+  GaveNext q r = (k : LoadKind) (ys : List Element) (c : Option Code) → P.comes q k ys c
+      → (zs rest : List Element) × (0 < length zs) × (ys ≡ zs ++ rest) × P.comes r k rest c
+
+  -- all elements that were still to come of a pipe came, at least one, and this fault is still to come
+  abbrev pub GaveLast : F → Code → Type 0
+  GaveLast q d = (k : LoadKind) (ys : List Element) (c : Option Code) → P.comes q k ys c → (0 < length ys) × (c ≡ Some d)
+
+  -- a pipe whose input had ended before gave a load
+  pub data HasFinished : Rest F → Rest F → Type 0 where
+    next : (q r : F) → GaveNext q r → HasFinished (Finishing q) (Finishing r)
+    last : (q : F) (d : Code) → GaveLast q d → HasFinished (Finishing q) (Faulty d)
+    within : (c : ℕ) (p q : Box (Unit {0}) Global) (a b : Rest F) → HasFinished a b → HasFinished (Within' c p a) (Within' c q b)
+    first : (p q : Box (Unit {0}) Global) (a b : Rest F) (m : Box Node Global) → HasFinished a b → HasFinished (Append' p a m) (Append' q b m)
+    guarded : (p q : Box (Unit {0}) Global) (a b : Rest F) (m : Box Node Global) → HasFinished a b → HasFinished (OnFault' p a m) (OnFault' q b m)
+    through : (p q : Box (Unit {0}) Global) (a b : Rest F) (s t : F) → HasFinished a b → HasFinished (Through' p a s) (Through' q b t)
+    grouped : (n : ℕ) (p q : Box (Unit {0}) Global) (a b : Rest F) (f g : Option Load) → HasFinished a b → HasFinished (Groups' n f p a) (Groups' n g q b)
+    taken : (i j : ℕ) (p q : Box (Unit {0}) Global) (a b : Rest F) → HasFinished a b → HasFinished (Take' i p a) (Take' j q b)
+
+  -- a turn has one of three causes: a node was entered or left, a device gave a byte, or a pipe whose input has ended gave a load
+  abbrev pub IsCaused : (ℕ → DeviceTold) → (ℕ → DeviceTold) → Rest F → Rest F → Type 0
+  IsCaused before now old new =
+      (left new < left old)
+      ⊎ ((p : ℕ) × IsLive p old × ((before p).at < (now p).at))
+      ⊎ HasFinished old new
+
+  -- a turn that gives nothing has one of the three causes, and a chunk too, or it is of the groups that waited
+  abbrev pub IsCausedBy : (ℕ → DeviceTold) → (ℕ → DeviceTold) → Rest F → Rest F → Turn → Type 0
+  IsCausedBy before now old new (turn.Chunk l) = IsCaused before now old new ⊎ GaveGroup (elements l) old new
+  IsCausedBy before now old new turn.Quiet = IsCaused before now old new
+  IsCausedBy before now old new turn.Done = Unit {0}
+  IsCausedBy before now old new (turn.Fault c) = Unit {0}
+
+  -- a turn was made in the scope s, with reads of at most n bytes; where there is no pipe, a turn that gave nothing entered or left a node
+  pub record Turned (before now : Around) (s n : ℕ) (old new : Rest F) (t : Turn) : Type 0 where
+    pub moved : Moved before now s old
+    pub once : ReadsOnce before.told now.told n
+    pub live : (p : ℕ) → IsLive p new → IsLive p old
+    pub fewer : left new ≤ left old
+    pub spends : Spends before now old new
+    pub ready : GoesOn t → IsReady now s new
+    pub pipes : GoesOn t → PipesFit P new
+    pub kinds : (k : LoadKind) → HasKind P k old → GivesKind P k new t
+    pub caused : IsCausedBy before.told now.told old new t
+    pub quiet : HasNoPipe old → IsQuiet t → left new < left old
+    pub cause : HasCause before.told now.told old t
+    pub gave : Gave P now.told old new t

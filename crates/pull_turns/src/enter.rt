@@ -1,33 +1,40 @@
 //! A node is entered.
-ghost use Rattle.std.specs.Prelude.{◌≡◌, ℕ, IfOk, OnErr};
+ghost use Rattle.std.specs.Prelude.{◌≡◌, ℕ, true, false, IfOk, OnErr};
+ghost use Rattle.pull_turns.specs.Groups.{Grouped, HasNoGroups};
+ghost use Rattle.pull_turns.specs.Piping.{standing};
 ghost use Rattle.pull_turns.specs.Rest.{CanStep};
-ghost use Rattle.pull_turns.specs.Sizes.{Sized, given};
+ghost use Rattle.pull_turns.specs.Sizes.{HasNoPipe, Sized, given};
 ghost use Rattle.pull_turns.specs.Turned.{Moved, SpendsWithin, Turned};
 ghost use Rattle.pull_turns.specs.declared.rest.Rest.TheVariants as rest;
 
+use crate::groups::{group_size, in_groups};
 use crate::loads::give;
 use crate::outside::Outside;
 use crate::rest::Rest;
 use crate::turn::Turn;
 use chunk_core::Code;
 use device_port::Failed;
-use pull_nodes::Node;
+use pull_nodes::{Node, PipeState};
 use std::alloc::{AllocError, Global};
 
-/// Enters a node in an open scope: what is left of it, and what that turn gives.
-pub(crate) fn enter<O: Outside>(
+/// Enters a node in an open scope: what is left of it, and what that turn gives. Where a step stands
+/// above, which gets each load whole, no part is grouped.
+pub(crate) fn enter<O: Outside, F: PipeState>(
     alloc: Global,
     node: Node,
     outside: &mut O,
     desk: &mut O::Desk,
     scope: u32,
-) -> Result<(Rest, Turn), AllocError>
+    whole: bool,
+) -> Result<(Rest<F>, Turn), AllocError>
     requires fits { O.fits outside.old desk.old }
-    requires ready { CanStep (O.seen outside.old) scope (rest.Start node) }
-    ensures turned { IfOk result (λ r. (n : ℕ) → Turned (O.seen outside.old) (O.seen outside.new) scope n (rest.Start node) r.0 r.1) }
-    ensures sized { IfOk result (λ r. (n : ℕ) → Sized n (rest.Start node) r.0 (given r.1)) }
-    ensures spent { OnErr result (SpendsWithin (O.seen outside.old) (O.seen outside.new) (rest.Start node)) }
-    ensures stopped { OnErr result (Moved (O.seen outside.old) (O.seen outside.new) scope (rest.Start node)) }
+    requires ready { CanStep (standing F.stands F.comes) (O.seen outside.old) scope (rest.Start node) }
+    ensures turned { IfOk result (λ r. (n : ℕ) → Turned (standing F.stands F.comes) (O.seen outside.old) (O.seen outside.new) scope n (rest.Start node) r.0 r.1) }
+    ensures sized { IfOk result (λ r. HasNoPipe {F = F} (rest.Start node) → (n : ℕ) → Sized n (rest.Start node) r.0 (given r.1)) }
+    ensures whole { IfOk result (λ r. whole ≡ true → HasNoGroups r.0) }
+    ensures grouped { IfOk result (λ r. whole ≡ false → Grouped (rest.Start node) r.0 r.1) }
+    ensures spent { OnErr result (SpendsWithin {F = F} (O.seen outside.old) (O.seen outside.new) (rest.Start node)) }
+    ensures stopped { OnErr result (Moved {F = F} (O.seen outside.old) (O.seen outside.new) scope (rest.Start node)) }
     ensures fits { O.fits outside.new desk.new }
     ensures since { O.since outside.old desk.old outside.new desk.new }
 {
@@ -53,6 +60,13 @@ pub(crate) fn enter<O: Outside>(
             let a = begin(alloc, a)?;
             Ok((Rest::OnFault(a, b), Turn::Quiet))
         }
+        Node::Through(a, pipe) => {
+            let size = group_size(&pipe, whole);
+            let state = F::of(alloc, pipe)?;
+            let a = begin(alloc, a)?;
+            let rest = in_groups(alloc, size, Rest::Through(a, state))?;
+            Ok((rest, Turn::Quiet))
+        }
         Node::Take(wanted, a) => {
             let a = begin(alloc, a)?;
             Ok((Rest::Take(wanted, a), Turn::Quiet))
@@ -60,7 +74,7 @@ pub(crate) fn enter<O: Outside>(
     }
 }
 
-fn begin(alloc: Global, node: Box<Node>) -> Result<Box<Rest>, AllocError>
+fn begin<F: Drop>(alloc: Global, node: Box<Node>) -> Result<Box<Rest<F>>, AllocError>
     ensures { IfOk result (λ r. r.value ≡ rest.Start node.value) }
 {
     Ok(Box::new(alloc, Rest::Start(Box::into_inner(node)))?)

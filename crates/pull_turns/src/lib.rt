@@ -2,8 +2,10 @@
 #![tactic(auto)]
 
 pub(crate) mod enter;
+pub(crate) mod groups;
 pub(crate) mod loads;
 pub mod outside;
+pub(crate) mod piping;
 pub(crate) mod reading;
 pub mod rest;
 pub mod runner;

@@ -3,11 +3,12 @@ ghost use Rattle.std.specs.Prelude.{◌≡◌, ℕ, ◌+◌, ◌<◌, ◌≤◌,
 ghost use Rattle.chunk_core.specs.declared.code.How.TheVariants as how;
 ghost use Rattle.chunk_core.specs.Elements.{elements};
 ghost use Rattle.pull_turns.specs.Around.{Affords};
-ghost use Rattle.pull_turns.specs.Rest.{CanStep, IsRunOfRest, left};
-ghost use Rattle.pull_turns.specs.Sizes.{Sized, given, given_first};
+ghost use Rattle.pull_turns.specs.Piping.{standing};
+ghost use Rattle.pull_turns.specs.Rest.{CanStep, IsRunOfRest};
+ghost use Rattle.pull_turns.specs.Sizes.{HasNoPipe, Sized, given, given_first};
 ghost use Rattle.pull_turns.specs.Turned.{Moved, Spends, SpendsWithin};
 ghost use Rattle.pull_turns.specs.Moves.{how_of};
-ghost use Rattle.pull_turns.specs.Led.{IsShut, Tells, Turns, Uncons, end_by};
+ghost use Rattle.pull_turns.specs.Led.{GoesOnFor, IsShut, Tells, Turns, Uncons, end_by};
 ghost use Rattle.pull_turns.specs.declared.rest.Rest.TheVariants as rest;
 
 use crate::outside::Outside;
@@ -15,16 +16,17 @@ use crate::rest::Rest;
 use crate::step::{leave_at_end, step};
 use crate::turn::Turn;
 use chunk_core::{How, Load};
-use pull_nodes::Node;
+use pull_nodes::{Node, PipeState};
 use std::alloc::{AllocError, Global};
 
-/// A node that is run turn by turn over its devices and scopes.
+/// A node that is run turn by turn over its devices and scopes, and over pipes with states of the
+/// type `F`.
 ///
 /// After want of memory it may only be halted.
 #[derive(Drop)]
-pub struct Runner<O> {
+pub struct Runner<O, F> {
     alloc: Global,
-    rest: Rest,
+    rest: Rest<F>,
     outside: O,
     chunk: u32,
     how: Option<How>,
@@ -42,9 +44,9 @@ pub enum Unconsed {
     Again,
 }
 
-impl<O: Outside> Runner<O> {
+impl<O: Outside, F: PipeState> Runner<O, F> {
     /// A node that is about to run, with reads of at most `chunk` bytes.
-    pub fn over(alloc: Global, node: Node, outside: O, chunk: u32) -> Runner<O>
+    pub fn over(alloc: Global, node: Node, outside: O, chunk: u32) -> Runner<O, F>
         ensures rest { result.rest ≡ rest.Start node }
         ensures outside { result.outside ≡ outside }
         ensures chunk { result.chunk ≡ chunk }
@@ -64,10 +66,10 @@ impl<O: Outside> Runner<O> {
     pub fn turn(&mut self, desk: &mut O::Desk) -> Result<Turn, AllocError>
         requires fits { O.fits self.old.outside desk.old }
         requires runs { (self.old.how ≡ None) × (self.old.wanting ≡ false) }
-        requires can { CanStep (O.seen self.old.outside) 0 self.old.rest }
+        requires can { CanStep (standing F.stands F.comes) (O.seen self.old.outside) 0 self.old.rest }
         requires chunk { 0 < self.old.chunk }
-        ensures turned { IfOk result (λ t. Turns (O.seen self.old.outside) (O.seen self.new.outside) self.old.chunk self.old.rest self.new.rest t) }
-        ensures sized { IfOk result (λ t. Sized self.old.chunk self.old.rest self.new.rest (given t)) }
+        ensures turned { IfOk result (λ t. Turns (standing F.stands F.comes) (O.seen self.old.outside) (O.seen self.new.outside) self.old.chunk self.old.rest self.new.rest t) }
+        ensures sized { IfOk result (λ t. HasNoPipe self.old.rest → Sized self.old.chunk self.old.rest self.new.rest (given t)) }
         ensures how { IfOk result (λ t. self.new.how ≡ how_of t) }
         ensures sound { IfOk result (λ t. self.new.wanting ≡ false) }
         ensures wanting { OnErr result ((self.new.wanting ≡ true) × (self.new.how ≡ None)) }
@@ -85,6 +87,7 @@ impl<O: Outside> Runner<O> {
             desk,
             0,
             self.chunk,
+            false,
         )?;
         self.wanting = false;
         leave_at_end(&mut self.outside, desk, 0, &turn);
@@ -96,11 +99,11 @@ impl<O: Outside> Runner<O> {
     pub fn uncons(&mut self, desk: &mut O::Desk, turns: u64) -> Result<Unconsed, AllocError>
         requires fits { O.fits self.old.outside desk.old }
         requires runs { (self.old.how ≡ None) × (self.old.wanting ≡ false) }
-        requires can { CanStep (O.seen self.old.outside) 0 self.old.rest }
+        requires can { CanStep (standing F.stands F.comes) (O.seen self.old.outside) 0 self.old.rest }
         requires chunk { 0 < self.old.chunk }
         requires turns { 1 ≤ turns }
-        ensures first { IfOk result (λ u. Uncons (O.seen self.old.outside) (O.seen self.new.outside) turns self.old.rest self.new.rest self.new.how u) }
-        ensures sized { IfOk result (λ u. Sized self.old.chunk self.old.rest self.new.rest (given_first u)) }
+        ensures first { IfOk result (λ u. Uncons (standing F.stands F.comes) O.seen self.old.chunk turns self.old.outside self.new.outside self.old.rest self.new.rest self.new.how u) }
+        ensures sized { IfOk result (λ u. HasNoPipe self.old.rest → Sized self.old.chunk self.old.rest self.new.rest (given_first u)) }
         ensures spends { IfOk result (λ u. Spends (O.seen self.old.outside) (O.seen self.new.outside) self.old.rest self.new.rest) }
         ensures sound { IfOk result (λ u. self.new.wanting ≡ false) }
         ensures wanting { OnErr result ((self.new.wanting ≡ true) × (self.new.how ≡ None)) }
@@ -134,7 +137,7 @@ impl<O: Outside> Runner<O> {
         requires runs { self.old.how ≡ None }
         requires root { (O.seen self.old.outside).opened 0 }
         ensures shut { IsShut (O.seen self.new.outside) }
-        ensures tells { Tells (O.seen self.old.outside).told (O.seen self.new.outside).told rest.Nil }
+        ensures tells { Tells {F = F} (O.seen self.old.outside).told (O.seen self.new.outside).told rest.Nil }
         ensures affords { Affords (O.seen self.old.outside) (O.seen self.new.outside) }
         ensures halted { self.old.wanting ≡ false → self.new.how ≡ Some how.Halted }
         ensures memory { self.old.wanting ≡ true → self.new.how ≡ Some how.Memory }
@@ -173,19 +176,19 @@ impl<O: Outside> Runner<O> {
 }
 
 /// Runs a runner to its end, but makes no more than `turns` turns: what it gave and how it ended
-/// are a run of the node, which was left where it has not ended.
-pub fn run_all<O: Outside>(
+/// are a run of the node, which was left where it has not ended. Then that many turns were made.
+pub fn run_all<O: Outside, F: PipeState>(
     alloc: Global,
-    runner: &mut Runner<O>,
+    runner: &mut Runner<O, F>,
     desk: &mut O::Desk,
     turns: u64,
 ) -> Result<Vec<Load>, AllocError>
     requires fits { O.fits runner.old.outside desk.old }
     requires runs { (runner.old.how ≡ None) × (runner.old.wanting ≡ false) }
-    requires can { CanStep (O.seen runner.old.outside) 0 runner.old.rest }
+    requires can { CanStep (standing F.stands F.comes) (O.seen runner.old.outside) 0 runner.old.rest }
     requires chunk { 0 < runner.old.chunk }
-    ensures turns { IfOk result (λ loads. runner.new.how ≡ None → turns + left runner.new.rest ≤ length loads.items + left runner.old.rest) }
-    ensures run { IfOk result (λ loads. IsRunOfRest (O.seen runner.new.outside).told runner.old.rest (flat_map elements loads.items) (end_by runner.new.how)) }
+    ensures turns { IfOk result (λ loads. runner.new.how ≡ None → GoesOnFor (standing F.stands F.comes) O.seen runner.old.chunk turns runner.old.outside runner.old.rest runner.new.outside runner.new.rest loads.items) }
+    ensures run { IfOk result (λ loads. IsRunOfRest (standing F.stands F.comes) (O.seen runner.new.outside).told runner.old.rest (flat_map elements loads.items) (end_by runner.new.how)) }
     ensures fits { O.fits runner.new.outside desk.new }
     ensures since { O.since runner.old.outside desk.old runner.new.outside desk.new }
 {

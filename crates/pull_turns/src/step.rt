@@ -1,34 +1,43 @@
 //! One turn of what is left of a node.
-ghost use Rattle.std.specs.Prelude.{◌≡◌, ℕ, ◌<◌, IfOk, OnErr, if◌then◌else◌};
+ghost use Rattle.std.specs.Prelude.{◌≡◌, ℕ, ◌<◌, true, false, IfOk, OnErr, if◌then◌else◌};
+ghost use Rattle.pull_turns.specs.Groups.{Grouped, HasNoGroups};
+ghost use Rattle.pull_turns.specs.Piping.{standing};
 ghost use Rattle.pull_turns.specs.Rest.{CanStep};
-ghost use Rattle.pull_turns.specs.Sizes.{Sized, given};
+ghost use Rattle.pull_turns.specs.Sizes.{HasNoPipe, Sized, given};
 ghost use Rattle.pull_turns.specs.Turned.{Moved, SpendsWithin, Turned};
 ghost use Rattle.pull_turns.specs.Moves.{is_end, is_done, is_fault, behind, append_turn, guard_turn, LeavesAtEnd};
 
 use crate::enter::enter;
+use crate::groups::{first_group, grouped};
 use crate::loads::taken;
 use crate::outside::Outside;
+use crate::piping::{finish, go_through, pass};
 use crate::reading::read_piece;
 use crate::rest::Rest;
 use crate::turn::Turn;
-use pull_nodes::Node;
+use pull_nodes::{Node, PipeState};
 use std::alloc::{AllocError, Global};
 use std::mem;
 
-/// One turn in an open scope, with a read of at most `chunk` bytes.
-pub(crate) fn step<O: Outside>(
+/// One turn in an open scope, with a read of at most `chunk` bytes. Where a step stands above, which
+/// gets each load whole, no part is grouped.
+pub(crate) fn step<O: Outside, F: PipeState>(
     alloc: Global,
-    rest: &mut Rest,
+    rest: &mut Rest<F>,
     outside: &mut O,
     desk: &mut O::Desk,
     scope: u32,
     chunk: u32,
+    whole: bool,
 ) -> Result<Turn, AllocError>
     requires fits { O.fits outside.old desk.old }
-    requires ready { CanStep (O.seen outside.old) scope rest.old }
+    requires ready { CanStep (standing F.stands F.comes) (O.seen outside.old) scope rest.old }
     requires chunk { 0 < chunk }
-    ensures turned { IfOk result (λ t. Turned (O.seen outside.old) (O.seen outside.new) scope chunk rest.old rest.new t) }
-    ensures sized { IfOk result (λ t. Sized chunk rest.old rest.new (given t)) }
+    requires whole { whole ≡ true → HasNoGroups rest.old }
+    ensures turned { IfOk result (λ t. Turned (standing F.stands F.comes) (O.seen outside.old) (O.seen outside.new) scope chunk rest.old rest.new t) }
+    ensures sized { IfOk result (λ t. HasNoPipe rest.old → Sized chunk rest.old rest.new (given t)) }
+    ensures whole { IfOk result (λ t. whole ≡ true → HasNoGroups rest.new) }
+    ensures grouped { IfOk result (λ t. whole ≡ false → Grouped rest.old rest.new t) }
     ensures spent { OnErr result (SpendsWithin (O.seen outside.old) (O.seen outside.new) rest.old) }
     ensures stopped { OnErr result (Moved (O.seen outside.old) (O.seen outside.new) scope rest.old) }
     ensures fits { O.fits outside.new desk.new }
@@ -38,7 +47,7 @@ pub(crate) fn step<O: Outside>(
         Rest::Nil => Ok(Turn::Done),
         Rest::Start(node) => {
             let node = mem::replace(node, Node::Nil);
-            let (new, turn) = enter(alloc, node, outside, desk, scope)?;
+            let (new, turn) = enter(alloc, node, outside, desk, scope, whole)?;
             *rest = new;
             Ok(turn)
         }
@@ -47,23 +56,44 @@ pub(crate) fn step<O: Outside>(
             Ok(turn)
         }
         Rest::Within(child, a) => {
-            let turn = step(alloc, a, outside, desk, *child, chunk)?;
+            let turn = step(alloc, a, outside, desk, *child, chunk, whole)?;
             leave_at_end(outside, desk, *child, &turn);
             Ok(turn)
         }
         Rest::Append(a, _) => {
-            let turn = step(alloc, a, outside, desk, scope, chunk)?;
+            let turn = step(alloc, a, outside, desk, scope, chunk, whole)?;
             Ok(after_first(rest, turn))
         }
         Rest::OnFault(a, _) => {
-            let turn = step(alloc, a, outside, desk, scope, chunk)?;
+            let turn = step(alloc, a, outside, desk, scope, chunk, whole)?;
             Ok(after_guarded(rest, turn))
+        }
+        Rest::Through(a, state) => {
+            let below = step(alloc, a, outside, desk, scope, chunk, true)?;
+            let (turn, after) = pass(alloc, state, below)?;
+            go_through(rest, after);
+            Ok(turn)
+        }
+        Rest::Finishing(state) => {
+            let (turn, after) = finish(alloc, state)?;
+            go_through(rest, after);
+            Ok(turn)
+        }
+        Rest::Faulty(code) => Ok(Turn::Fault(*code)),
+        Rest::Groups(size, waits, a) => {
+            if let Some(load) = waits.take() {
+                let group = first_group(*size, waits, load)?;
+                return Ok(Turn::Chunk(group));
+            }
+            let turn = step(alloc, a, outside, desk, scope, chunk, true)?;
+            let turn = grouped(*size, waits, turn)?;
+            Ok(turn)
         }
         Rest::Take(wanted, a) => {
             if *wanted == 0 {
                 return Ok(Turn::Done);
             }
-            let turn = step(alloc, a, outside, desk, scope, chunk)?;
+            let turn = step(alloc, a, outside, desk, scope, chunk, true)?;
             let turn = taken(wanted, turn)?;
             Ok(turn)
         }
@@ -84,7 +114,7 @@ pub(crate) fn leave_at_end<O: Outside>(outside: &mut O, desk: &mut O::Desk, scop
 }
 
 /// The second part is all that is left.
-fn go_on(rest: &mut Rest)
+fn go_on<F: Drop>(rest: &mut Rest<F>)
     ensures { rest.new ≡ behind rest.old }
 {
     match mem::replace(rest, Rest::Nil) {
@@ -94,7 +124,7 @@ fn go_on(rest: &mut Rest)
     }
 }
 
-fn after_first(rest: &mut Rest, turn: Turn) -> Turn
+fn after_first<F: Drop>(rest: &mut Rest<F>, turn: Turn) -> Turn
     ensures rest { rest.new ≡ (if is_done turn then behind rest.old else rest.old) }
     ensures turn { result ≡ append_turn turn }
 {
@@ -107,7 +137,7 @@ fn after_first(rest: &mut Rest, turn: Turn) -> Turn
     }
 }
 
-fn after_guarded(rest: &mut Rest, turn: Turn) -> Turn
+fn after_guarded<F: Drop>(rest: &mut Rest<F>, turn: Turn) -> Turn
     ensures rest { rest.new ≡ (if is_fault turn then behind rest.old else rest.old) }
     ensures turn { result ≡ guard_turn turn }
 {

@@ -9,7 +9,8 @@ use chunk_core::{Code, How, Load};
 pub enum Turn {
     /// Elements, at least one.
     Chunk(Load),
-    /// Nothing, but a node was entered or left.
+    /// Nothing, but a node was entered or left, a device gave a byte, or a pipe whose input has ended
+    /// gave a load.
     Quiet,
     /// The end.
     Done,

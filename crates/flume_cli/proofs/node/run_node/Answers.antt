@@ -1,5 +1,7 @@
 -- The stepper was run to its end, or the tree was closed as it was.
 use Rattle.std.proofs.Common.{refl, subst, ◌∙◌}
+use Rattle.any_pipe.specs.AnyState.{StandsFor, Comes}
+use Rattle.pull_turns.specs.Piping.{standing}
 use Rattle.scope_tree.specs.Calls.{Closes}
 use Rattle.scope_tree.specs.Trees.{seen}
 use Rattle.pull_stepper.specs.Held.{Finishes}
@@ -15,7 +17,7 @@ returns-in-Ok-clause-runs g c =
     let view = g.S.RowSeat.view in
     let p = c.print_all-printed.ensures in
     node_ran g.V.Device.told c.args.node c.args.devices c.args.chunk (seen view c.args.tree) (seen view c.end.result.tree) (g.K.Sink.told c.args.out.now) (g.K.Sink.told c.print_all-printed.new.out) c.requires.shelf
-    (stepping view c.in-Ok.stepper) (stepping view c.print_all-printed.new.stepper) c.end.result.how c.end.result.unopened c.print_all-printed.result c.in-Ok.ensures.begun p.prints p.since c.end.ensures.ends
+    (standing StandsFor Comes) (stepping view c.in-Ok.stepper) (stepping view c.print_all-printed.new.stepper) c.end.result.how c.end.result.unopened c.print_all-printed.result c.in-Ok.ensures.begun p.prints p.since c.end.ensures.ends
 
 pub returns-in-Ok-clause-fits : goal.returns-in-Ok-clause-fits
 returns-in-Ok-clause-fits g c = c.end.ensures.fits c.print_all-printed.new.desk c.print_all-printed.ensures.fits

@@ -1,5 +1,5 @@
 -- Each turn prints one piece more, makes an entry or a leaving, or is the last.
-use Rattle.std.proofs.Common.{Some, ap, refl, ◌∙◌}
+use Rattle.std.proofs.Common.{Some, ap, arith, refl, ◌∙◌}
 use Rattle.pull_stepper.specs.Held.{Finishes}
 use Rattle.pull_stepper.specs.Laws.{since_same, since_then}
 use Rattle.pull_stepper.specs.Stepping.{stopped_by}
@@ -12,7 +12,7 @@ turns-init g c = record {
   since = since_same g.V.Device.told (Finishes g.V.Device.told) _;
   can = c.requires.can;
   chunk = refl;
-  prints = prints_start _ _ _ _;
+  prints = prints_start _ _ _ _ _ c.requires.plain;
 }
 
 pub turns-preserved-in-Ok : goal.turns-preserved-in-Ok
@@ -24,7 +24,7 @@ turns-preserved-in-Ok g c =
       since = since_then g.V.Device.told (Finishes g.V.Device.told) _ _ _ i.since c.in-Ok-Chunk.ensures.since;
       can = k.can tt;
       chunk = k.chunk ∙ i.chunk;
-      prints = prints_chunk _ _ _ _ _ _ _ _ _ i.prints _ c.in-Ok-Chunk.load (rw i.chunk at k.turns) (rw i.chunk at k.sized) c.in-Ok.ensures;
+      prints = prints_chunk _ _ _ _ _ _ _ _ _ _ i.prints _ c.in-Ok-Chunk.load (rw i.chunk at k.turns) (rw i.chunk at k.sized i.prints.plain) c.in-Ok.ensures;
     }
 
 pub turns-preserved : goal.turns-preserved
@@ -36,15 +36,21 @@ turns-preserved g c =
       since = since_then g.V.Device.told (Finishes g.V.Device.told) _ _ _ i.since c.in-Ok-Quiet.ensures.since;
       can = k.can tt;
       chunk = k.chunk ∙ i.chunk;
-      prints = prints_quiet _ _ _ _ _ _ _ _ _ i.prints (rw i.chunk at k.turns) (rw i.chunk at k.sized);
+      prints = prints_quiet _ _ _ _ _ _ _ _ _ _ i.prints (rw i.chunk at k.turns) (rw i.chunk at k.sized i.prints.plain);
     }
+
+pub turns-smaller : goal.turns-smaller
+turns-smaller g c =
+    let i = c.turns.invariant in
+    let k = rw c.in-Ok-Quiet.field-0-is at c.in-Ok-Quiet.ensures.steps in
+    omega (arith, k.turns.quiet i.prints.plain tt, (k.sized i.prints.plain).rest)
 
 pub returns-in-Err-print_load-clause-prints : goal.returns-in-Err-print_load-clause-prints
 returns-in-Err-print_load-clause-prints g c =
     let i = c.turns.invariant in
     let k = rw c.in-Ok-Chunk.field-0-is at c.in-Ok-Chunk.ensures.steps in
-    let h = c.stop.ensures.halts.how ∙ ap (λ b. Some (stopped_by g.V.Device.told b)) (k.can tt).memory in
-    rw (c.stop.ensures.cause, h) (prints_put _ _ _ _ _ _ _ _ _ i.prints _ c.stop.ensures.halts.tells _ c.in-Ok-Chunk.load c.in-Err-print_load.cause (rw i.chunk at k.turns) (rw i.chunk at k.sized) c.in-Err-print_load.ensures)
+    let h = c.stop.ensures.halts.how ∙ ap (λ b. Some (stopped_by b)) (k.can tt).memory in
+    rw (c.stop.ensures.cause, h) (prints_put _ _ _ _ _ _ _ _ _ _ i.prints _ c.stop.ensures.halts.tells _ c.in-Ok-Chunk.load c.in-Err-print_load.cause (rw i.chunk at k.turns) (rw i.chunk at k.sized i.prints.plain) c.in-Err-print_load.ensures)
 
 pub returns-in-Err-print_load-clause-since : goal.returns-in-Err-print_load-clause-since
 returns-in-Err-print_load-clause-since g c =
@@ -54,7 +60,7 @@ pub returns-in-Ok-Done-clause-prints : goal.returns-in-Ok-Done-clause-prints
 returns-in-Ok-Done-clause-prints g c =
     let i = c.turns.invariant in
     let k = rw c.in-Ok-Done.field-0-is at c.in-Ok-Done.ensures.steps in
-    rw k.how (prints_done _ _ _ _ _ _ _ _ _ i.prints (rw i.chunk at k.turns))
+    rw k.how (prints_done _ _ _ _ _ _ _ _ _ _ i.prints (rw i.chunk at k.turns))
 
 pub returns-in-Ok-Done-clause-since : goal.returns-in-Ok-Done-clause-since
 returns-in-Ok-Done-clause-since g c = since_then g.V.Device.told (Finishes g.V.Device.told) _ _ _ c.turns.invariant.since c.in-Ok-Done.ensures.since
@@ -63,7 +69,7 @@ pub returns-in-Ok-Fault-clause-prints : goal.returns-in-Ok-Fault-clause-prints
 returns-in-Ok-Fault-clause-prints g c =
     let i = c.turns.invariant in
     let k = rw c.in-Ok-Fault.field-0-is at c.in-Ok-Fault.ensures.steps in
-    rw k.how (prints_fault _ _ _ _ _ _ _ _ _ i.prints _ (rw i.chunk at k.turns))
+    rw k.how (prints_fault _ _ _ _ _ _ _ _ _ _ i.prints _ (rw i.chunk at k.turns))
 
 pub returns-in-Ok-Fault-clause-since : goal.returns-in-Ok-Fault-clause-since
 returns-in-Ok-Fault-clause-since g c = since_then g.V.Device.told (Finishes g.V.Device.told) _ _ _ c.turns.invariant.since c.in-Ok-Fault.ensures.since
@@ -72,8 +78,8 @@ pub returns-in-Err-clause-prints : goal.returns-in-Err-clause-prints
 returns-in-Err-clause-prints g c =
     let i = c.turns.invariant in
     let w = c.in-Err.ensures.wants in
-    let h = c.stop-in-Err.ensures.halts.how ∙ ap (λ b. Some (stopped_by g.V.Device.told b)) w.memory in
-    rw (c.stop-in-Err.ensures.cause, h) (prints_wanting _ _ _ _ _ _ _ i.prints _ _ w.tells c.stop-in-Err.ensures.halts.tells)
+    let h = c.stop-in-Err.ensures.halts.how ∙ ap (λ b. Some (stopped_by b)) w.memory in
+    rw (c.stop-in-Err.ensures.cause, h) (prints_wanting _ _ _ _ _ _ _ _ i.prints _ _ w.tells c.stop-in-Err.ensures.halts.tells)
 
 pub returns-in-Err-clause-since : goal.returns-in-Err-clause-since
 returns-in-Err-clause-since g c =

@@ -1,4 +1,5 @@
 use Rattle.std.proofs.Common.{◌≡◌, ◌+◌}
+use Rattle.pull_turns.specs.Piping.{standing}
 use Rattle.pull_turns.specs.Rest.{left}
 use Rattle.pull_turns.specs.Sizes.{most}
 use Rattle.pull_stepper.specs.Held.{Finishes}
@@ -13,12 +14,13 @@ invariant-turns g l =
     let a = stepping g.S.RowSeat.view l.fn.stepper in
     let b = stepping g.S.RowSeat.view l.stepper in
     let told = g.V.Device.told in
+    let P = standing g.F.Feed.stands g.F.Feed.comes in
     record {
       fits : Works g.S.RowSeat.view g.V.Device.told g.S.RowSeat.fits l.stepper l.desk;
       since : Since told (Finishes told) a.site b.site;
-      can : CanGo told b;
+      can : CanGo P told b;
       chunk : b.chunk ≡ a.chunk;
-      prints : PrintsOn (told_at told a.site) (told_at told b.site) a.chunk a.rest b.rest (g.K.Sink.told l.fn.out) (g.K.Sink.told l.out);
+      prints : PrintsOn P (told_at told a.site) (told_at told b.site) a.chunk a.rest b.rest (g.K.Sink.told l.fn.out) (g.K.Sink.told l.out);
     }
 
 -- each turn gives elements or makes an entry or a leaving

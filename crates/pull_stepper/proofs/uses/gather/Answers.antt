@@ -3,6 +3,7 @@ use Rattle.std.proofs.lemmas.Grind.{flat_map-append}
 use Rattle.chunk_core.specs.Elements.{elements}
 use Rattle.chunk_core.specs.Outcomes.{Cut}
 use Rattle.pull_turns.specs.Led.{Led, end_by, end_of}
+use Rattle.pull_turns.specs.Piping.{standing}
 use Rattle.pull_turns.specs.Rest.{IsRunOfRest}
 use Rattle.pull_turns.proofs.Leads.{can_stop}
 use Rattle.pull_turns.proofs.Led.{led_ends, led_start, led_then, spends_none, spends_then, tells_same}
@@ -16,12 +17,12 @@ use Rattle.pull_stepper.proofs.uses.gather.Goals.{in-Chunk+in_ok-push-in-Chunk, 
 
 pub loop-ask-init : goal.loop-ask-init
 loop-ask-init g c =
-    let told = g.V.Device.told in let a = stepping g.S.RowSeat.view c.args.stepper.now in
+    let P = standing g.F.Feed.stands g.F.Feed.comes in let told = g.V.Device.told in let a = stepping g.S.RowSeat.view c.args.stepper.now in
     record {
       quiet = omega arith;
       fits = c.requires.fits;
       can = c.requires.can;
-      led = subst (λ ls. Led (told_at told a.site) (told_at told a.site) a.rest a.rest (flat_map elements ls)) (sym c.requires.empty) (led_start (told_at told a.site) a.rest);
+      led = subst (λ ls. Led P (told_at told a.site) (told_at told a.site) a.rest a.rest (flat_map elements ls)) (sym c.requires.empty) (led_start P (told_at told a.site) a.rest);
       spends = spends_none _ a.rest;
       since = since_same told (Finishes told) a.site;
       others = λ o n f. f;
@@ -29,46 +30,46 @@ loop-ask-init g c =
 
 pub returns-in_err-load-clause-gathers : goal.returns-in_err-load-clause-gathers
 returns-in_err-load-clause-gathers g c =
-    let told = g.V.Device.told in let view = g.S.RowSeat.view in
+    let P = standing g.F.Feed.stands g.F.Feed.comes in let told = g.V.Device.told in let view = g.S.RowSeat.view in
     let a = stepping view c.args.stepper.now in let b = stepping view c.loop-ask.stepper in let z = stepping view c.uncons.new.self in
     let xs = flat_map elements c.loop-ask.out.items in let k = c.in_err-load.ensures.wants in
-    λ w o. subst (λ h. IsRunOfRest w a.rest xs (end_by h)) (sym k.how)
-    (led_ends (told_at told a.site) (told_at told b.site) (told_at told z.site) a.rest b.rest xs Cut c.loop-ask.invariant.led k.tells (λ v p. can_stop v b.rest) w o)
+    λ w o. subst (λ h. IsRunOfRest P w a.rest xs (end_by h)) (sym k.how)
+    (led_ends P (told_at told a.site) (told_at told b.site) (told_at told z.site) a.rest b.rest xs Cut c.loop-ask.invariant.led k.tells (λ v p. can_stop P v b.rest) w o)
 
 pub returns-in_err-load-clause-since : goal.returns-in_err-load-clause-since
 returns-in_err-load-clause-since g c = let told = g.V.Device.told in since_then told (Finishes told) _ _ _ c.loop-ask.invariant.since c.in_err-load.ensures.since
 
 pub returns-in_err-push-in-Chunk-clause-gathers : goal.returns-in_err-push-in-Chunk-clause-gathers
 returns-in_err-push-in-Chunk-clause-gathers g c =
-    let told = g.V.Device.told in let view = g.S.RowSeat.view in
+    let P = standing g.F.Feed.stands g.F.Feed.comes in let told = g.V.Device.told in let view = g.S.RowSeat.view in
     let a = stepping view c.args.stepper.now in let b = stepping view c.loop-ask.stepper in let z = stepping view c.uncons.new.self in
     let xs = flat_map elements c.loop-ask.out.items in let k = (rw c.in-Chunk.is at c.in_ok-load.ensures.first).first in
-    λ w o. subst (λ ls. IsRunOfRest w a.rest (flat_map elements ls) (end_by z.how)) (sym c.in_err-push-in-Chunk.ensures.items)
-    (subst (λ h. IsRunOfRest w a.rest xs (end_by h)) (sym k.1)
-    (led_ends (told_at told a.site) (told_at told b.site) (told_at told z.site) a.rest b.rest xs Cut c.loop-ask.invariant.led k.3.tells (λ v p. can_stop v b.rest) w o))
+    λ w o. subst (λ ls. IsRunOfRest P w a.rest (flat_map elements ls) (end_by z.how)) (sym c.in_err-push-in-Chunk.ensures.items)
+    (subst (λ h. IsRunOfRest P w a.rest xs (end_by h)) (sym k.1)
+    (led_ends P (told_at told a.site) (told_at told b.site) (told_at told z.site) a.rest b.rest xs Cut c.loop-ask.invariant.led k.3.tells (λ v p. can_stop P v b.rest) w o))
 
 pub returns-in_err-push-in-Chunk-clause-since : goal.returns-in_err-push-in-Chunk-clause-since
 returns-in_err-push-in-Chunk-clause-since g c = let told = g.V.Device.told in since_then told (Finishes told) _ _ _ c.loop-ask.invariant.since c.in_ok-load.ensures.since
 
 pub returns-in-End-clause-gathers : goal.returns-in-End-clause-gathers
 returns-in-End-clause-gathers g c =
-    let told = g.V.Device.told in let view = g.S.RowSeat.view in
+    let P = standing g.F.Feed.stands g.F.Feed.comes in let told = g.V.Device.told in let view = g.S.RowSeat.view in
     let a = stepping view c.args.stepper.now in let b = stepping view c.loop-ask.stepper in let z = stepping view c.uncons.new.self in
     let xs = flat_map elements c.loop-ask.out.items in let k = (rw c.in-End.is at c.in_ok-load.ensures.first).first in
-    λ w o. subst (λ h. IsRunOfRest w a.rest xs (end_by h)) (sym k.0)
-    (led_ends (told_at told a.site) (told_at told b.site) (told_at told z.site) a.rest b.rest xs (end_of c.in-End.field-0) c.loop-ask.invariant.led k.2 k.3 w o)
+    λ w o. subst (λ h. IsRunOfRest P w a.rest xs (end_by h)) (sym k.0)
+    (led_ends P (told_at told a.site) (told_at told b.site) (told_at told z.site) a.rest b.rest xs (end_of c.in-End.field-0) c.loop-ask.invariant.led k.2 k.3 w o)
 
 pub returns-in-End-clause-since : goal.returns-in-End-clause-since
 returns-in-End-clause-since g c = let told = g.V.Device.told in since_then told (Finishes told) _ _ _ c.loop-ask.invariant.since c.in_ok-load.ensures.since
 
 pub loop-ask-preserved : goal.loop-ask-preserved
 loop-ask-preserved g c =
-    let told = g.V.Device.told in let view = g.S.RowSeat.view in
+    let P = standing g.F.Feed.stands g.F.Feed.comes in let told = g.V.Device.told in let view = g.S.RowSeat.view in
     let a = stepping view c.args.stepper.now in let b = stepping view c.loop-ask.stepper in let z = stepping view c.uncons.new.self in
     let i = c.loop-ask.invariant in let xs = flat_map elements c.loop-ask.out.items in
     let others = others_then view g.S.RowSeat.fits _ _ _ _ _ i.since.alone.by i.others c.in_ok-load.ensures.others in
     let since = since_then told (Finishes told) a.site b.site z.site i.since c.in_ok-load.ensures.since in
-    let led = led_then (told_at told a.site) (told_at told b.site) (told_at told z.site) a.rest b.rest z.rest in
+    let led = led_then P (told_at told a.site) (told_at told b.site) (told_at told z.site) a.rest b.rest z.rest in
     elim c.match-branch-2.branch [
       | in-Chunk+in_ok-push-in-Chunk w ↦
           let k = rw w.in-Chunk.is at c.in_ok-load.ensures.first in
@@ -87,7 +88,7 @@ loop-ask-preserved g c =
             quiet = rw w.quiet-is (omega (arith, i.quiet));
             fits = c.in_ok-load.ensures.fits;
             can = k.leaves;
-            led = rw w.out-is (subst (λ ys. Led (told_at told a.site) (told_at told z.site) a.rest z.rest ys) (append-nil xs) (led xs [] i.led k.first.3));
+            led = rw w.out-is (subst (λ ys. Led P (told_at told a.site) (told_at told z.site) a.rest z.rest ys) (append-nil xs) (led xs [] i.led k.first.3));
             spends = spends_then _ _ _ _ _ _ i.spends k.spends;
             since = since;
             others = others;
@@ -96,8 +97,8 @@ loop-ask-preserved g c =
 
 pub returns-clause-gathers : goal.returns-clause-gathers
 returns-clause-gathers g c =
-    let told = g.V.Device.told in let view = g.S.RowSeat.view in
+    let P = standing g.F.Feed.stands g.F.Feed.comes in let told = g.V.Device.told in let view = g.S.RowSeat.view in
     let a = stepping view c.args.stepper.now in let b = stepping view c.loop-ask.stepper in
     let xs = flat_map elements c.loop-ask.out.items in let i = c.loop-ask.invariant in
-    λ w o. subst (λ h. IsRunOfRest w a.rest xs (end_by h)) (sym i.can.how)
-    (led_ends (told_at told a.site) (told_at told b.site) (told_at told b.site) a.rest b.rest xs Cut i.led (tells_same (told_at told b.site) b.rest) (λ v p. can_stop v b.rest) w o)
+    λ w o. subst (λ h. IsRunOfRest P w a.rest xs (end_by h)) (sym i.can.how)
+    (led_ends P (told_at told a.site) (told_at told b.site) (told_at told b.site) a.rest b.rest xs Cut i.led (tells_same (told_at told b.site) b.rest) (λ v p. can_stop P v b.rest) w o)

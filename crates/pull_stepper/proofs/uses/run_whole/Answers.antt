@@ -1,5 +1,6 @@
 use Rattle.std.proofs.Common.{◌≡◌, flat_map, ap, ◌∙◌}
 use Rattle.chunk_core.specs.Elements.{elements}
+use Rattle.pull_turns.specs.Piping.{standing}
 use Rattle.scope_tree.specs.Trees.{seen}
 use Rattle.pull_stepper.specs.Steppers.{stepping}
 use Rattle.pull_stepper.proofs.Driving.{goes, others_then}
@@ -11,7 +12,7 @@ gather-quiet-requires-clause-fits g c = c.in_ok-stepper.ensures.fits c.args.desk
 pub returns-clause-ran : goal.returns-clause-ran
 returns-clause-ran g c =
     let told = g.V.Device.told in let view = g.S.RowSeat.view in
-    goes told c.args.node c.args.devices (seen view c.args.tree) c.requires.room (stepping view c.gather-quiet.new.stepper) (stepping view c.close.new.stepper) (flat_map elements c.gather-quiet.new.out.items)
+    goes (standing g.F.Feed.stands g.F.Feed.comes) told c.args.node c.args.devices (seen view c.args.tree) c.requires.room (stepping view c.gather-quiet.new.stepper) (stepping view c.close.new.stepper) (flat_map elements c.gather-quiet.new.out.items)
     (stepping view c.in_ok-stepper.stepper) c.args.pace.chunk c.in_ok-stepper.ensures.begun c.gather-quiet.ensures.gathers c.gather-quiet.ensures.spends c.gather-quiet.ensures.since
     (seen view c.end.result.tree) c.end.result.how c.end.result.unopened c.close.ensures.how c.close.ensures.tells c.close.ensures.affords c.close.ensures.since c.end.ensures.ends
     (c.end.ensures.fits c.close.new.desk c.close.ensures.fits).sound.used

@@ -1,25 +1,35 @@
 use Rattle.std.proofs.Common.{refl}
 use Rattle.pull_turns.proofs.Entering.{emit_enter, weak_enter, weak_refused, scope_enter, append_enter, guard_enter}
+use Rattle.pull_turns.proofs.Coming.{through_enter}
+use Rattle.pull_turns.proofs.Grouping.{groups_entered}
+use Rattle.pull_turns.proofs.Grouped.{some_size}
 use Rattle.pull_turns.proofs.Sized.{emit_sized}
 use Rattle.pull_turns.proofs.enter.enter.Goals as goal
 
 pub returns-in-Emit-clause-turned : goal.returns-in-Emit-clause-turned
-returns-in-Emit-clause-turned g c n = rw (c.in-Emit.is, c.give.ensures) (emit_enter _ _ n _ _ refl)
+returns-in-Emit-clause-turned g c n = rw (c.in-Emit.is, c.give.ensures) (emit_enter _ _ _ n _ _ refl)
 
 pub returns-in-Ok-clause-turned : goal.returns-in-Ok-clause-turned
-returns-in-Ok-clause-turned g c n = rw (c.in-Weak.is, c.into_inner.ensures) (weak_enter _ _ _ n _ _ _ (rw c.in-Weak.is at c.requires.ready) c.in-Ok.ensures.ok)
+returns-in-Ok-clause-turned g c n = rw (c.in-Weak.is, c.into_inner.ensures) (weak_enter _ _ _ _ n _ _ _ (rw c.in-Weak.is at c.requires.ready) c.in-Ok.ensures.ok)
 
 pub returns-in-Err-clause-turned : goal.returns-in-Err-clause-turned
-returns-in-Err-clause-turned g c n = rw c.in-Weak.is (weak_refused _ _ _ n _ _ _ c.in-Err.ensures.failed)
+returns-in-Err-clause-turned g c n = rw c.in-Weak.is (weak_refused _ _ _ _ n _ _ _ c.in-Err.ensures.failed)
 
 pub returns-in_ok-a-in-Scope-clause-turned : goal.returns-in_ok-a-in-Scope-clause-turned
-returns-in_ok-a-in-Scope-clause-turned g c n = rw (c.in-Scope.is, c.in_ok-a-in-Scope.ensures) (scope_enter _ _ _ n _ _ _ _ (rw c.in-Scope.is at c.requires.ready) c.enter-child.ensures.enters)
+returns-in_ok-a-in-Scope-clause-turned g c n = rw (c.in-Scope.is, c.in_ok-a-in-Scope.ensures) (scope_enter _ _ _ _ n _ _ _ _ (rw c.in-Scope.is at c.requires.ready) c.enter-child.ensures.enters)
 
 pub returns-in_ok-a-in-Append-clause-turned : goal.returns-in_ok-a-in-Append-clause-turned
-returns-in_ok-a-in-Append-clause-turned g c n = rw (c.in-Append.is, c.in_ok-a-in-Append.ensures) (append_enter _ _ n _ _ _ _ _ (rw c.in-Append.is at c.requires.ready))
+returns-in_ok-a-in-Append-clause-turned g c n = rw (c.in-Append.is, c.in_ok-a-in-Append.ensures) (append_enter _ _ _ n _ _ _ _ _ (rw c.in-Append.is at c.requires.ready))
 
 pub returns-in_ok-a-in-OnFault-clause-turned : goal.returns-in_ok-a-in-OnFault-clause-turned
-returns-in_ok-a-in-OnFault-clause-turned g c n = rw (c.in-OnFault.is, c.in_ok-a-in-OnFault.ensures) (guard_enter _ _ n _ _ _ _ _ (rw c.in-OnFault.is at c.requires.ready))
+returns-in_ok-a-in-OnFault-clause-turned g c n = rw (c.in-OnFault.is, c.in_ok-a-in-OnFault.ensures) (guard_enter _ _ _ n _ _ _ _ _ (rw c.in-OnFault.is at c.requires.ready))
 
 pub returns-in-Emit-clause-sized : goal.returns-in-Emit-clause-sized
-returns-in-Emit-clause-sized g c n = rw (c.in-Emit.is, c.give.ensures) (emit_sized n _)
+returns-in-Emit-clause-sized g c f n = rw (c.in-Emit.is, c.give.ensures) (emit_sized n _)
+
+pub returns-in_ok-rest-in-Through-clause-turned : goal.returns-in_ok-rest-in-Through-clause-turned
+returns-in_ok-rest-in-Through-clause-turned g c n =
+    let sized = rw (← c.group_size-size.ensures) at (some_size c.args.whole c.in-Through.pipe) in
+    let made = rw c.in_ok-a-in-Through.ensures at c.in_ok-rest-in-Through.ensures in
+    rw c.in-Through.is (groups_entered _ _ _ n _ _ _ _ _ _ _ sized made
+    (through_enter _ g.met.F.Feed.sound _ _ n _ _ _ _ _ (rw c.in-Through.is at c.requires.ready) c.in_ok-state-in-Through.ensures))

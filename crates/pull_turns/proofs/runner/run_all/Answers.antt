@@ -1,5 +1,5 @@
-use Rattle.std.proofs.Common.{arith, length-append, ◌∷◌, [], subst, ◌<◌, sym}
-use Rattle.pull_turns.proofs.Led.{led_pushed, led_quiet, led_done, led_fault, led_cut, over_now}
+use Rattle.std.proofs.Common.{append-nil, refl, sym, ◌∙◌}
+use Rattle.pull_turns.proofs.Led.{goes_on_more, led_pushed, led_quiet, led_done, led_fault, led_cut, over_now}
 use Rattle.pull_turns.proofs.runner.run_all.Goals as goal
 use Rattle.pull_turns.proofs.runner.run_all.Goals.{in-Chunk+in_ok-push-in-Chunk, in-Quiet}
 
@@ -8,14 +8,14 @@ returns-in-Done-clause-run g c =
     let i = c.loop-turn.invariant in
     let k = rw c.in-Done.is at c.in_ok-load.ensures.turned in
     let how = rw c.in-Done.is at c.in_ok-load.ensures.how in
-    rw how (led_done _ _ _ _ _ _ _ _ i.led k _ (over_now _ _))
+    rw how (led_done _ _ _ _ _ _ _ _ _ i.led k _ (over_now _ _))
 
 pub returns-in-Fault-clause-run : goal.returns-in-Fault-clause-run
 returns-in-Fault-clause-run g c =
     let i = c.loop-turn.invariant in
     let k = rw c.in-Fault.is at c.in_ok-load.ensures.turned in
     let how = rw c.in-Fault.is at c.in_ok-load.ensures.how in
-    rw how (led_fault _ _ _ _ _ _ _ _ i.led _ k _ (over_now _ _))
+    rw how (led_fault _ _ _ _ _ _ _ _ _ i.led _ k _ (over_now _ _))
 
 pub loop-turn-preserved : goal.loop-turn-preserved
 loop-turn-preserved g c =
@@ -29,9 +29,9 @@ loop-turn-preserved g c =
             how = rw w.in-Chunk.is at c.in_ok-load.ensures.how;
             sound = c.in_ok-load.ensures.sound;
             can = k.can tt;
-            chunk = subst (λ n. 0 < n) (sym c.in_ok-load.ensures.chunk) i.chunk;
-            counted = rw (w.out-is, w.in_ok-push-in-Chunk.ensures.items) (omega (arith, i.counted, k.fewer, length-append c.loop-turn.out.items (w.in-Chunk.load ∷ [])));
-            led = rw (w.out-is, w.in_ok-push-in-Chunk.ensures.items) (led_pushed _ _ _ _ _ _ _ c.loop-turn.out.items _ i.led k);
+            chunk = c.in_ok-load.ensures.chunk ∙ i.chunk;
+            went = rw (w.out-is, w.in_ok-push-in-Chunk.ensures.items) (goes_on_more _ _ _ _ _ _ _ _ _ _ _ _ _ i.went (rw i.chunk at k) tt refl);
+            led = rw (w.out-is, w.in_ok-push-in-Chunk.ensures.items) (led_pushed _ _ _ _ _ _ _ _ c.loop-turn.out.items _ i.led k);
           }
       | in-Quiet w ↦
           let k = rw w.in-Quiet.is at c.in_ok-load.ensures.turned in
@@ -41,11 +41,11 @@ loop-turn-preserved g c =
             how = rw w.in-Quiet.is at c.in_ok-load.ensures.how;
             sound = c.in_ok-load.ensures.sound;
             can = k.can tt;
-            chunk = subst (λ n. 0 < n) (sym c.in_ok-load.ensures.chunk) i.chunk;
-            counted = rw w.out-is (omega (arith, i.counted, k.gave.0));
-            led = rw w.out-is (led_quiet _ _ _ _ _ _ _ _ i.led k);
+            chunk = c.in_ok-load.ensures.chunk ∙ i.chunk;
+            went = rw w.out-is (goes_on_more _ _ _ _ _ _ _ _ _ _ _ _ _ i.went (rw i.chunk at k) tt (sym (append-nil c.loop-turn.out.items)));
+            led = rw w.out-is (led_quiet _ _ _ _ _ _ _ _ _ i.led k);
           }
     ]
 
 pub returns-clause-run : goal.returns-clause-run
-returns-clause-run g c = let i = c.loop-turn.invariant in rw i.how (led_cut _ _ _ _ _ i.led)
+returns-clause-run g c = let i = c.loop-turn.invariant in rw i.how (led_cut _ _ _ _ _ _ i.led)

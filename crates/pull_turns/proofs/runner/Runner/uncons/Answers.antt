@@ -1,5 +1,6 @@
-use Rattle.std.proofs.Common.{arith, ◌∙◌, Result, Ok, Err, OnErr}
-use Rattle.pull_turns.proofs.Led.{led_chunk, led_quiet, led_done, led_fault, led_tells, spends_then, tells_on, moved_tells}
+use Rattle.std.proofs.Common.{arith, refl, ◌∙◌, Result, Ok, Err, OnErr}
+use Rattle.pull_turns.specs.declared.turn.Turn.TheVariants as turn
+use Rattle.pull_turns.proofs.Led.{goes_on_more, led_chunk, led_quiet, led_done, led_fault, led_tells, spends_then, tells_on, moved_tells}
 use Rattle.pull_turns.proofs.Sized.{sized_then}
 use Rattle.pull_turns.proofs.runner.Runner.uncons.Goals as goal
 
@@ -17,19 +18,19 @@ pub returns-in-Chunk-clause-first : goal.returns-in-Chunk-clause-first
 returns-in-Chunk-clause-first g c =
     let i = c.loop-turn.invariant in
     let k = rw c.in-Chunk.is at c.in_ok-load.ensures.turned in
-    (k.gave.0, rw c.in-Chunk.is at c.in_ok-load.ensures.how, k.can tt, led_chunk _ _ _ _ _ _ _ _ i.led c.in-Chunk.load k)
+    (k.gave.0, rw c.in-Chunk.is at c.in_ok-load.ensures.how, k.can tt, led_chunk _ _ _ _ _ _ _ _ _ i.led c.in-Chunk.load k, λ j h. (k.kinds j (i.led.kinds j h)).0, (c.loop-turn._turn, c.loop-turn-test.true, _, _, i.went, rw i.chunk at k), λ j h. (k.grouped.most j (i.led.grouped j h)).1)
 
 pub returns-in-Done-clause-first : goal.returns-in-Done-clause-first
 returns-in-Done-clause-first g c =
     let i = c.loop-turn.invariant in
     let k = rw c.in-Done.is at c.in_ok-load.ensures.turned in
-    (rw c.in-Done.is at c.in_ok-load.ensures.how, k.shut (λ j. j), led_tells _ _ _ _ _ _ _ _ i.led _ k, λ w o. led_done _ _ _ _ _ _ _ _ i.led k w o)
+    (rw c.in-Done.is at c.in_ok-load.ensures.how, k.shut (λ j. j), led_tells _ _ _ _ _ _ _ _ _ i.led _ k, λ w o. led_done _ _ _ _ _ _ _ _ _ i.led k w o, (turn.Done, refl, (c.loop-turn._turn, c.loop-turn-test.true, _, _, i.went, rw i.chunk at k)))
 
 pub returns-in-Fault-clause-first : goal.returns-in-Fault-clause-first
 returns-in-Fault-clause-first g c =
     let i = c.loop-turn.invariant in
     let k = rw c.in-Fault.is at c.in_ok-load.ensures.turned in
-    (rw c.in-Fault.is at c.in_ok-load.ensures.how, k.shut (λ j. j), led_tells _ _ _ _ _ _ _ _ i.led _ k, λ w o. led_fault _ _ _ _ _ _ _ _ i.led c.in-Fault.code k w o)
+    (rw c.in-Fault.is at c.in_ok-load.ensures.how, k.shut (λ j. j), led_tells _ _ _ _ _ _ _ _ _ i.led _ k, λ w o. led_fault _ _ _ _ _ _ _ _ _ i.led c.in-Fault.code k w o, (turn.Fault c.in-Fault.code, refl, (c.loop-turn._turn, c.loop-turn-test.true, _, _, i.went, rw i.chunk at k)))
 
 pub loop-turn-preserved : goal.loop-turn-preserved
 loop-turn-preserved g c =
@@ -43,19 +44,19 @@ loop-turn-preserved g c =
       can = k.can tt;
       chunk = c.in_ok-load.ensures.chunk ∙ i.chunk;
       spends = spends_then _ _ _ _ _ _ i.spends k.spends;
-      fewer = omega (arith, k.gave.0, i.fewer);
-      sized = sized_then _ _ _ _ _ i.sized (rw (c.in-Quiet.is, i.chunk) at c.in_ok-load.ensures.sized);
-      led = led_quiet _ _ _ _ _ _ _ _ i.led k;
+      went = goes_on_more _ _ _ _ _ _ _ _ _ _ _ _ _ i.went (rw i.chunk at k) tt refl;
+      sized = λ f. sized_then _ _ _ _ _ (i.sized f) ((rw (c.in-Quiet.is, i.chunk) at c.in_ok-load.ensures.sized) (i.sized f).plain);
+      led = led_quiet _ _ _ _ _ _ _ _ _ i.led k;
     }
 
 pub returns-in-Chunk-clause-sized : goal.returns-in-Chunk-clause-sized
-returns-in-Chunk-clause-sized g c = let i = c.loop-turn.invariant in sized_then _ _ _ _ _ i.sized (rw (c.in-Chunk.is, i.chunk) at c.in_ok-load.ensures.sized)
+returns-in-Chunk-clause-sized g c f = let i = c.loop-turn.invariant in sized_then _ _ _ _ _ (i.sized f) ((rw (c.in-Chunk.is, i.chunk) at c.in_ok-load.ensures.sized) (i.sized f).plain)
 
 pub returns-in-Done-clause-sized : goal.returns-in-Done-clause-sized
-returns-in-Done-clause-sized g c = let i = c.loop-turn.invariant in sized_then _ _ _ _ _ i.sized (rw (c.in-Done.is, i.chunk) at c.in_ok-load.ensures.sized)
+returns-in-Done-clause-sized g c f = let i = c.loop-turn.invariant in sized_then _ _ _ _ _ (i.sized f) ((rw (c.in-Done.is, i.chunk) at c.in_ok-load.ensures.sized) (i.sized f).plain)
 
 pub returns-in-Fault-clause-sized : goal.returns-in-Fault-clause-sized
-returns-in-Fault-clause-sized g c = let i = c.loop-turn.invariant in sized_then _ _ _ _ _ i.sized (rw (c.in-Fault.is, i.chunk) at c.in_ok-load.ensures.sized)
+returns-in-Fault-clause-sized g c f = let i = c.loop-turn.invariant in sized_then _ _ _ _ _ (i.sized f) ((rw (c.in-Fault.is, i.chunk) at c.in_ok-load.ensures.sized) (i.sized f).plain)
 
 pub returns-clause-sized : goal.returns-clause-sized
 returns-clause-sized g c = c.loop-turn.invariant.sized

@@ -1,0 +1,3 @@
+pub mod AnyState
+pub mod Pouring
+pub mod Soundness

@@ -1,0 +1,83 @@
+-- What a runner's turns are to its stepper.
+use Rattle.std.proofs.Common.{◌≡◌, ℕ, zero, suc, ◌<◌, true, false, ap, refl, sym, subst, ◌∙◌, Option, None, List, [], Result, Ok, Err, IfOk, OnErr, arith}
+use Rattle.chunk_core.specs.declared.code.How.{How}
+use Rattle.chunk_core.specs.declared.load.Load.{Load}
+use Rattle.device_port.specs.Device.{DeviceTold}
+use Rattle.pull_turns.specs.Around.{Around}
+use Rattle.pull_turns.specs.Led.{ComesWithin, GoesOnFor, Turns, Uncons}
+use Rattle.pull_turns.specs.Moves.{how_of}
+use Rattle.pull_turns.specs.Piping.{Standing}
+use Rattle.pull_turns.specs.Sizes.{HasNoPipe, Sized, given, given_first}
+use Rattle.pull_turns.specs.Turned.{GoesOn, Moved, Spends, SpendsWithin}
+use Rattle.pull_turns.specs.declared.rest.Rest.{Rest}
+use Rattle.pull_turns.specs.declared.runner.Unconsed.{Unconsed}
+use Rattle.pull_turns.specs.declared.runner.Unconsed.TheVariants.{Chunk, End, Again}
+use Rattle.pull_turns.specs.declared.turn.Turn.{Turn}
+use Rattle.pull_turns.specs.declared.turn.Turn.TheVariants as turn
+use Rattle.pull_turns.proofs.Led.{moved_tells}
+use Rattle.pull_stepper.specs.Sites.{Site, around}
+use Rattle.pull_stepper.specs.Stepping.{Leaves, Stepping, Steps, Unconses, Wants}
+
+-- a turn that goes on is no end
+runs_on : (t : Turn) → GoesOn t → how_of t ≡ None
+runs_on (turn.Chunk l) g = refl
+runs_on turn.Quiet g = refl
+runs_on turn.Done g = absurd g
+runs_on (turn.Fault c) g = absurd g
+
+module _ {F : Type 0} (P : Standing F) {O Q : Type 0} (view : O → Q) (seen : Q → Around) (n : ℕ) where
+  -- the states between the turns, as they are seen
+  goes_on_seen : (k : ℕ) (a b : O) (old new : Rest F) (loads : List Load) → GoesOnFor P (λ o. seen (view o)) n k a old b new loads → GoesOnFor P seen n k (view a) old (view b) new loads
+  goes_on_seen zero a b old new loads h = (ap view h.0, h.1, h.2)
+  goes_on_seen (suc k) a b old new loads h = (view h.0, h.1, h.2, h.3, goes_on_seen k a h.0 old h.1 h.2 h.4, h.5, h.6, h.7)
+
+  within_seen : (k : ℕ) (a b : O) (old new : Rest F) (t : Turn) → ComesWithin P (λ o. seen (view o)) n k a old b new t → ComesWithin P seen n k (view a) old (view b) new t
+  within_seen k a b old new t h = (h.0, h.1, view h.2, h.3, goes_on_seen h.0 a h.2 old h.3 [] h.4, h.5)
+
+  uncons_seen : (k : ℕ) (a b : O) (old new : Rest F) (how : Option How) (u : Unconsed) → Uncons P (λ o. seen (view o)) n k a b old new how u → Uncons P seen n k (view a) (view b) old new how u
+  uncons_seen k a b old new how (Chunk l) h = (h.0, h.1, h.2, h.3, h.4, within_seen k a b old new (turn.Chunk l) h.5, h.6)
+  uncons_seen k a b old new how (End e) h = (h.0, h.1, h.2, h.3, (h.4.0, h.4.1, within_seen k a b old new h.4.0 h.4.2))
+  uncons_seen k a b old new how Again h = (goes_on_seen k a b old new [] h.0, h.1, h.2, h.3)
+
+module _ {V F : Type 0} (P : Standing F) (told : V → DeviceTold) (a b : Stepping V F) (chunk : b.chunk ≡ a.chunk) (some : 0 < a.chunk) where
+  still : 0 < b.chunk
+  still = omega (arith, chunk, some)
+
+  pub steps_by : {E : Type 0} (r : Result Turn E)
+      → IfOk r (λ t. Turns P (around told a.site) (around told b.site) a.chunk a.rest b.rest t) → IfOk r (λ t. HasNoPipe a.rest → Sized a.chunk a.rest b.rest (given t))
+      → IfOk r (λ t. b.how ≡ how_of t) → IfOk r (λ t. b.wanting ≡ false) → IfOk r (λ t. Steps P told a b t)
+  steps_by (Ok t) turns sized how sound = record {
+    turns = turns;
+    sized = sized;
+    how = how;
+    can = λ g. record { how = how ∙ runs_on t g; memory = sound; chunk = still; step = turns.can g };
+    chunk = chunk;
+  }
+  steps_by (Err e) turns sized how sound = tt
+
+  leaves_by : (k : ℕ) (u : Unconsed) → Uncons P (around told) a.chunk k a.site b.site a.rest b.rest b.how u → b.wanting ≡ false → Leaves P told u b
+  leaves_by k (Chunk l) h sound = record { how = h.1; memory = sound; chunk = still; step = h.2 }
+  leaves_by k (End e) h sound = (h.0, h.1)
+  leaves_by k Again h sound = record { how = h.1; memory = sound; chunk = still; step = h.2 }
+
+  pub unconses_by : {O E : Type 0} (view : O → Site V) (x y : O) (k : ℕ) (r : Result Unconsed E) → a.site ≡ view x → b.site ≡ view y
+      → IfOk r (λ u. Uncons P (λ o. around told (view o)) a.chunk k x y a.rest b.rest b.how u) → IfOk r (λ u. HasNoPipe a.rest → Sized a.chunk a.rest b.rest (given_first u))
+      → IfOk r (λ u. Spends (around told a.site) (around told b.site) a.rest b.rest) → IfOk r (λ u. b.wanting ≡ false) → IfOk r (λ u. Unconses P told k a b u)
+  unconses_by view x y k (Ok u) is to first sized spends sound =
+      let seen : Uncons P (around told) a.chunk k a.site b.site a.rest b.rest b.how u =
+      subst (λ s. Uncons P (around told) a.chunk k s b.site a.rest b.rest b.how u) (sym is)
+      (subst (λ s. Uncons P (around told) a.chunk k (view x) s a.rest b.rest b.how u) (sym to) (uncons_seen P view (around told) a.chunk k x y a.rest b.rest b.how u first)) in
+      record { first = seen; sized = sized; spends = spends; leaves = leaves_by k u seen sound; chunk = chunk }
+  unconses_by view x y k (Err e) is to first sized spends sound = tt
+
+module _ {V F : Type 0} (told : V → DeviceTold) (a b : Stepping V F) (root : (around told a.site).opened 0) where
+  pub wants_by : {E : Type 0} (r : Result Turn E) → OnErr r ((b.wanting ≡ true) × (b.how ≡ None)) → OnErr r (SpendsWithin (around told a.site) (around told b.site) a.rest)
+      → OnErr r (Moved (around told a.site) (around told b.site) 0 a.rest) → OnErr r (Wants told a b)
+  wants_by (Ok t) wanting spent moved = tt
+  wants_by (Err e) wanting spent moved = record {
+    memory = wanting.0;
+    how = wanting.1;
+    root = moved.keeps.opened 0 (omega arith) root;
+    tells = moved_tells _ _ _ _ moved;
+    spends = spent;
+  }

@@ -1,0 +1,168 @@
+//! Runs of nodes over a plain seat, devices in memory and any pipes, and what they show as text.
+ghost use Rattle.std.specs.Prelude.{◌≡◌, ◌<◌, ◌≤◌, ◌^◌, true, IfOk, IsSome, OnOk, length};
+ghost use Rattle.chunk_core.specs.Lists.{IsAmong};
+ghost use Rattle.device_port.specs.Records.{record_told};
+ghost use Rattle.pull_nodes.specs.Kinds.{kind_of};
+ghost use Rattle.pull_nodes.specs.Placed.{is_placed};
+ghost use Rattle.pull_nodes.specs.Shape.{node_count, places_of};
+ghost use Rattle.pull_stepper.specs.Sites.{IsUnused};
+
+use crate::Held;
+use crate::uses::{Alone, Pace, run_alone};
+use any_pipe::AnyPipe;
+use chunk_core::{Chunk, Line, List, Load, Span, Word, render};
+use device_port::{Act, Depot, FileOf, MemDepot, MemDevice, Mode, Trip};
+use pull_nodes::Node;
+use res_ledger::{StreamNo, text};
+use row_seat::PlainSeat;
+use scope_tree::Room;
+use std::alloc::{AllocError, Global};
+use std::test::Fail;
+
+/// Reads of four bytes, and as many turns as are wanted.
+pub const FREELY: Pace = Pace {
+    chunk: 4,
+    asks: 99,
+    turns: 99,
+};
+
+/// A depot with the file `a`, of these bytes, and `b`. One call on `a` may be named to fail.
+pub fn depot(alloc: Global, a: &[u8], fail: Option<(Act, u32)>) -> Result<MemDepot, AllocError> {
+    let mut files = List::new(alloc);
+    files.push(FileOf {
+        path: Word::of(alloc, "a")?,
+        bytes: Line::of_vec(Vec::from_slice(alloc, a)?),
+    })?;
+    files.push(FileOf {
+        path: Word::of(alloc, "b")?,
+        bytes: Line::of_vec(Vec::from_slice(alloc, b"world")?),
+    })?;
+    let mut trips = List::new(alloc);
+    if let Some((act, nth)) = fail {
+        trips.push(Trip {
+            path: Word::of(alloc, "a")?,
+            act,
+            nth,
+        })?;
+    }
+    MemDepot::new(alloc, files, trips)
+}
+
+/// Devices that read these paths.
+fn devices(
+    alloc: Global,
+    depot: &mut MemDepot,
+    paths: &[&str],
+) -> Result<List<MemDevice>, AllocError>
+    ensures count { IfOk result (λ ds. length ds ≡ length paths.now) }
+    ensures unused { IfOk result (λ ds. (d : MemDevice) → IsAmong d ds → IsUnused (record_told d.facts)) }
+{
+    let mut devices = List::new(alloc);
+    for path in paths {
+        let device = depot.make(alloc, &Word::of(alloc, path)?, Mode::Read)?;
+        devices.push(device)?;
+    }
+    Ok(devices)
+}
+
+/// Refuses a node whose places aren't the first `count` rows.
+fn fits_rows(node: &Node, count: u32) -> Result<(), &'static str>
+    requires few { node_count node.now < 2 ^ 16 }
+    ensures kind { OnOk result (IsSome (kind_of node.now)) }
+    ensures placed { OnOk result (is_placed (record { from = 0; to = count }) node.now ≡ true) }
+    ensures count { OnOk result (length (places_of node.now) ≡ count) }
+{
+    if node.kind().is_err() {
+        return Err("the node has no kind");
+    }
+    if !node.placed(Span { from: 0, to: count }) {
+        return Err("the node isn't placed in these rows");
+    }
+    if node.places() != count {
+        return Err("the node has another number of places");
+    }
+    Ok(())
+}
+
+/// Runs a node, whose places are the first so many rows, over devices of these paths. `a` has the
+/// bytes of `hello`.
+pub fn run(
+    alloc: Global,
+    node: Node,
+    paths: &[&str],
+    fail: Option<(Act, u32)>,
+    pace: Pace,
+) -> Result<Alone<MemDevice>, Fail>
+    requires few { node_count node < 2 ^ 16 }
+    requires paths { length paths.now < 2 ^ 16 }
+    requires pace { (1 ≤ pace.chunk) × (1 ≤ pace.turns) }
+{
+    let mut depot = depot(alloc, b"hello\n", fail)?;
+    run_in(alloc, &mut depot, node, paths, pace)
+}
+
+/// Runs a node over devices of a depot.
+pub fn run_in(
+    alloc: Global,
+    depot: &mut MemDepot,
+    node: Node,
+    paths: &[&str],
+    pace: Pace,
+) -> Result<Alone<MemDevice>, Fail>
+    requires few { node_count node < 2 ^ 16 }
+    requires paths { length paths.now < 2 ^ 16 }
+    requires pace { (1 ≤ pace.chunk) × (1 ≤ pace.turns) }
+{
+    fits_rows(&node, paths.len() as u32)?;
+    let devices = devices(alloc, depot, paths)?;
+    let (seat, mut desk) = PlainSeat::new(alloc, StreamNo::Inner(0), node.places(), node.events())?;
+    let room = Room::new(alloc, node.scopes() + 1, node.places())?;
+    Ok(run_alone::<MemDevice, PlainSeat<Held<MemDevice>>, AnyPipe>(
+        alloc, &mut desk, node, seat, room, devices, pace,
+    ))
+}
+
+/// The path of a device, and how often it was opened and closed.
+fn push_device(alloc: Global, out: &mut Vec<u8>, device: &MemDevice) -> Result<(), AllocError> {
+    let facts = device.facts();
+    let path = facts.path.as_str();
+    let (opens, closes) = (facts.opens(), facts.closes());
+    out.extend_from_slice(format!(in alloc; "{path} {opens} {closes}\n")?.as_bytes())
+}
+
+/// The loads, each with a bar behind it, the end, the ledger and the devices: those that were
+/// acquired as they ended, and then the others.
+pub fn shown(alloc: Global, run: Alone<MemDevice>) -> Result<Vec<u8>, AllocError> {
+    let mut out = Vec::new(alloc);
+    for load in &run.loads {
+        out.extend_from_slice(render(alloc, load)?.as_slice())?;
+        out.push(b'|')?;
+    }
+    let how = run.how;
+    out.extend_from_slice(format!(in alloc; "{how:?}\n")?.as_bytes())?;
+    out.extend_from_slice(text(alloc, &run.ledger)?.as_slice())?;
+    for spent in run.shelf.into_vec() {
+        push_device(alloc, &mut out, &spent.pay.into_device())?;
+    }
+    for device in run.unopened.into_vec() {
+        push_device(alloc, &mut out, &device)?;
+    }
+    Ok(out)
+}
+
+/// Acquires a place and reads it.
+pub fn source(alloc: Global, place: u32) -> Result<Box<Node>, AllocError>
+    ensures { IfOk result (λ node. node_count node.value ≡ 2) }
+{
+    let part = Box::new(alloc, Node::Read(place))?;
+    Ok(Box::new(alloc, Node::Weak(place, part))?)
+}
+
+/// Two lines.
+pub fn lines(alloc: Global) -> Result<Load, AllocError> {
+    let mut lines = Vec::new(alloc);
+    for line in [b"a", b"b"] {
+        lines.push(Line::of_vec(Vec::from_slice(alloc, line)?))?;
+    }
+    Ok(Load::Lines(Chunk::of_vec(alloc, lines)?))
+}

@@ -1,0 +1,161 @@
+-- The pipes of a node that has a kind fit.
+use Rattle.std.proofs.Common.{◌≡◌, ◌⊎◌, inl, inr, ℕ, zero, suc, [], Option, Some, None, refl, sym, ap, subst}
+use Rattle.chunk_core.specs.Elements.{LoadKind, kind_of}
+use Rattle.chunk_core.specs.Elements.LoadKind.{Bytes, Lines, Rows}
+use Rattle.chunk_core.specs.Feed.{Meaning}
+use Rattle.chunk_core.specs.declared.load.Load.{Load}
+use Rattle.chunk_core.specs.declared.load.Load.TheVariants as load
+use Rattle.pull_nodes.specs.Kinds.{joined_kind, kind_behind, kind_of as kind_of_node, kind_of_sides, load_kind}
+use Rattle.pull_nodes.specs.PipeKinds.{gives_of, kind_of_nothing, piped_kind, stream_kind}
+use Rattle.pull_nodes.specs.Pipes.{IsMeaningOf, meaning}
+use Rattle.std.specs.Prelude.{option_map}
+use Rattle.pull_nodes.specs.declared.kind.Kind.{Kind}
+use Rattle.pull_nodes.specs.declared.kind.Kind.TheVariants as kind
+use Rattle.pull_nodes.specs.declared.node.Node.{Node}
+use Rattle.pull_nodes.specs.declared.node.Node.TheVariants as node
+use Rattle.pull_nodes.specs.declared.pipe.Pipe.{Pipe}
+use Rattle.pull_nodes.specs.declared.pipe.Pipe.TheVariants as pipe
+use Rattle.pull_turns.specs.Piping.{HasKindOf, PipesFitOf}
+
+-- a stream of this kind may give loads of that kind alone; a stream that gives nothing fits each
+abbrev Admits : Kind → LoadKind → Type 0
+Admits kind.Any k = Unit {0}
+Admits kind.Bytes k = k ≡ Bytes
+Admits kind.Lines k = k ≡ Lines
+Admits kind.Rows k = k ≡ Rows
+
+abbrev AdmitsBy : Option Kind → LoadKind → Type 0
+AdmitsBy None k = ⊥
+AdmitsBy (Some j) k = Admits j k
+
+admits_load : (l : Load) (k : LoadKind) → Admits (load_kind l) k → kind_of l ≡ k
+admits_load (load.Bytes b) k h = sym h
+admits_load (load.Lines b) k h = sym h
+admits_load (load.Rows b) k h = sym h
+
+admits_joined : (i j : Kind) (k : LoadKind) → AdmitsBy (joined_kind i j) k → Admits i k × Admits j k
+admits_joined kind.Any j k h = (tt, h)
+admits_joined kind.Bytes kind.Any k h = (h, tt)
+admits_joined kind.Bytes kind.Bytes k h = (h, h)
+admits_joined kind.Bytes kind.Lines k h = absurd h
+admits_joined kind.Bytes kind.Rows k h = absurd h
+admits_joined kind.Lines kind.Any k h = (h, tt)
+admits_joined kind.Lines kind.Bytes k h = absurd h
+admits_joined kind.Lines kind.Lines k h = (h, h)
+admits_joined kind.Lines kind.Rows k h = absurd h
+admits_joined kind.Rows kind.Any k h = (h, tt)
+admits_joined kind.Rows kind.Bytes k h = absurd h
+admits_joined kind.Rows kind.Lines k h = absurd h
+admits_joined kind.Rows kind.Rows k h = (h, h)
+
+admits_sides : (a b : Option Kind) (k : LoadKind) → AdmitsBy (kind_of_sides a b) k → AdmitsBy a k × AdmitsBy b k
+admits_sides None b k h = absurd h
+admits_sides (Some i) None k h = absurd h
+admits_sides (Some i) (Some j) k h = admits_joined i j k h
+
+-- what a pipe makes of loads, or of nothing
+abbrev Behind : (LoadKind → Type 0) → Pipe → LoadKind → Type 0
+Behind Below q k =
+    ((m : Meaning) × IsMeaningOf q m × Below m.takes × (m.gives ≡ k))
+    ⊎ (((j : LoadKind) → Below j) × ((m : Meaning) × IsMeaningOf q m × ((m.all []).list ≡ [])))
+
+drop_nothing : (n : ℕ) → (meaning (pipe.Drop n) Bytes Bytes).all [] ≡ (meaning (pipe.Drop 0) Bytes Bytes).all []
+drop_nothing zero = refl
+drop_nothing (suc n) = refl
+
+behind_nothing : (Below : LoadKind → Type 0) (q : Pipe) (k : LoadKind) → ((j : LoadKind) → Below j) → Admits (kind_of_nothing q) k → Behind Below q k
+behind_nothing Below pipe.Utf8 k f h = inl (meaning pipe.Utf8 Bytes Bytes, refl, f Bytes, sym h)
+behind_nothing Below pipe.Lossy k f h = inl (meaning pipe.Lossy Bytes Bytes, refl, f Bytes, sym h)
+behind_nothing Below pipe.Lines k f h = inl (meaning pipe.Lines Bytes Lines, refl, f Bytes, sym h)
+behind_nothing Below pipe.Hex k f h = inl (meaning pipe.Hex Bytes Lines, refl, f Bytes, sym h)
+behind_nothing Below pipe.Upper k f h = inr (f, (meaning pipe.Upper Bytes Bytes, refl, refl))
+behind_nothing Below (pipe.Drop n) k f h = inr (f, (meaning (pipe.Drop n) Bytes Bytes, refl, ap (λ g. g.list) (drop_nothing n)))
+behind_nothing Below (pipe.Filter text) k f h = inl (meaning (pipe.Filter text) Lines Lines, refl, f Lines, sym h)
+behind_nothing Below pipe.Changes k f h = inr (f, (meaning pipe.Changes Lines Lines, refl, refl))
+behind_nothing Below pipe.Number k f h = inl (meaning pipe.Number Lines Lines, refl, f Lines, sym h)
+behind_nothing Below pipe.Count k f h = inl (meaning pipe.Count Bytes Lines, refl, f Bytes, sym h)
+behind_nothing Below (pipe.Intersperse line) k f h = inl (meaning (pipe.Intersperse line) Lines Lines, refl, f Lines, sym h)
+behind_nothing Below (pipe.ChunkN n) k f h = inr (f, (meaning (pipe.ChunkN n) Bytes Bytes, refl, refl))
+
+admits_stream : (g k : LoadKind) → Admits (stream_kind g) k → g ≡ k
+admits_stream Bytes k h = sym h
+admits_stream Lines k h = sym h
+admits_stream Rows k h = sym h
+
+behind_some : (Below : LoadKind → Type 0) (q : Pipe) (j k : LoadKind) (o : Option LoadKind) → gives_of q j ≡ o → Below j → AdmitsBy (option_map stream_kind o) k → Behind Below q k
+behind_some Below q j k None e b h = absurd h
+behind_some Below q j k (Some g) e b h = inl (meaning q j g, ap (option_map (meaning q j)) e, b, admits_stream g k h)
+
+behind : (Below : LoadKind → Type 0) (q : Pipe) (i : Kind) (k : LoadKind) → ((j : LoadKind) → Admits i j → Below j) → AdmitsBy (piped_kind q i) k → Behind Below q k
+behind Below q kind.Any k f h = behind_nothing Below q k (λ j. f j tt) h
+behind Below q kind.Bytes k f h = behind_some Below q Bytes k (gives_of q Bytes) refl (f Bytes refl) h
+behind Below q kind.Lines k f h = behind_some Below q Lines k (gives_of q Lines) refl (f Lines refl) h
+behind Below q kind.Rows k f h = behind_some Below q Rows k (gives_of q Rows) refl (f Rows refl) h
+
+behind_kind : (Below : LoadKind → Type 0) (q : Pipe) (o : Option Kind) (k : LoadKind) → ((j : LoadKind) → AdmitsBy o j → Below j) → AdmitsBy (kind_behind q o) k → Behind Below q k
+behind_kind Below q None k f h = absurd h
+behind_kind Below q (Some i) k f h = behind Below q i k f h
+
+-- a node of a kind gives loads of that kind
+has_kind : (n : Node) (k : LoadKind) → AdmitsBy (kind_of_node n) k → HasKindOf k n
+has_kind node.Nil k h = tt
+has_kind (node.Emit l) k h = admits_load l k h
+has_kind (node.Raise c) k h = tt
+has_kind (node.Read p) k h = h
+has_kind (node.Weak' p _ a) k h = has_kind a k h
+has_kind (node.Scope' _ a) k h = has_kind a k h
+has_kind (node.Append' _ a _ b) k h = let s = admits_sides (kind_of_node a) (kind_of_node b) k h in (has_kind a k s.0, has_kind b k s.1)
+has_kind (node.OnFault' _ a _ b) k h = let s = admits_sides (kind_of_node a) (kind_of_node b) k h in (has_kind a k s.0, has_kind b k s.1)
+has_kind (node.Through' _ a q) k h = behind_kind (λ j. HasKindOf j a) q (kind_of_node a) k (λ j i. has_kind a j i) h
+has_kind (node.Take' n _ a) k h = has_kind a k h
+
+-- some kind of load is admitted
+admitted : (j : Kind) → (k : LoadKind) × Admits j k
+admitted kind.Any = (Bytes, tt)
+admitted kind.Bytes = (Bytes, refl)
+admitted kind.Lines = (Lines, refl)
+admitted kind.Rows = (Rows, refl)
+
+-- a pipe that gets what it takes has a meaning there
+taken_by : (Below : LoadKind → Type 0) (q : Pipe) (k : LoadKind) → Behind Below q k → (m : Meaning) × IsMeaningOf q m × Below m.takes
+taken_by Below q k = elim [ inl h ↦ (h.0, h.1, h.2) | inr h ↦ (h.1.0, h.1.1, h.0 h.1.0.takes) ]
+
+-- a node that has a kind
+abbrev HasSome : Option Kind → Type 0
+HasSome o = (j : Kind) × (o ≡ Some j)
+
+some_sides : (a b : Option Kind) → HasSome (kind_of_sides a b) → HasSome a × HasSome b
+some_sides None b h = absurd (let e : None ≡ Some h.0 = h.1 in cc)
+some_sides (Some i) None h = absurd (let e : None ≡ Some h.0 = h.1 in cc)
+some_sides (Some i) (Some j) h = ((i, refl), (j, refl))
+
+some_behind : (q : Pipe) (o : Option Kind) → HasSome (kind_behind q o) → HasSome o
+some_behind q None h = absurd (let e : None ≡ Some h.0 = h.1 in cc)
+some_behind q (Some i) h = (i, refl)
+
+fits : (n : Node) → HasSome (kind_of_node n) → PipesFitOf n
+fits node.Nil h = tt
+fits (node.Emit l) h = tt
+fits (node.Raise c) h = tt
+fits (node.Read p) h = tt
+fits (node.Weak' p _ a) h = fits a h
+fits (node.Scope' _ a) h = fits a h
+fits (node.Append' _ a _ b) h = let s = some_sides (kind_of_node a) (kind_of_node b) h in (fits a s.0, fits b s.1)
+fits (node.OnFault' _ a _ b) h = let s = some_sides (kind_of_node a) (kind_of_node b) h in (fits a s.0, fits b s.1)
+fits (node.Through' _ a q) h =
+    let some = admitted h.0 in
+    let admits : AdmitsBy (kind_behind q (kind_of_node a)) some.0 = subst (λ o. AdmitsBy o some.0) (sym h.1) some.1 in
+    (fits a (some_behind q (kind_of_node a) h), taken_by (λ j. HasKindOf j a) q some.0 (behind_kind (λ j. HasKindOf j a) q (kind_of_node a) some.0 (λ j i. has_kind a j i) admits))
+fits (node.Take' n _ a) h = fits a h
+
+-- the pipes of a node that has a kind fit, and each load is of that kind
+pub fits_kind : (n : Node) (j : Kind) → kind_of_node n ≡ Some j → PipesFitOf n
+fits_kind n j e = fits n (j, e)
+
+pub loads_have_kind : (n : Node) (k : LoadKind) → kind_of_node n ≡ Some (stream_kind k) → HasKindOf k n
+loads_have_kind n k e = has_kind n k (subst (λ o. AdmitsBy o k) (sym e) (self k))
+  where
+    self : (k : LoadKind) → Admits (stream_kind k) k
+    self Bytes = refl
+    self Lines = refl
+    self Rows = refl

@@ -1,0 +1,142 @@
+-- Groups: the loads of a pipe that gives groups leave the run group by group, where no step stands above it. A step gets each load whole.
+use Rattle.std.specs.Prelude.{◌≡◌, ℕ, ◌<◌, ◌≤◌, Bool, true, false, List, [], ◌++◌, take, drop, length, Option, Some, None, IfSome, Box}
+use Rattle.std.specs.Global.{Global}
+use Rattle.chunk_core.specs.declared.load.Load.{Load}
+use Rattle.chunk_core.specs.Elements.{Element, LoadKind, elements, kind_of}
+use Rattle.pull_nodes.specs.Pipes.{groups_of}
+use Rattle.pull_nodes.specs.declared.node.Node.{Node}
+use Rattle.pull_nodes.specs.declared.node.Node.TheVariants as node
+use Rattle.pull_nodes.specs.declared.pipe.Pipe.{Pipe}
+use Rattle.pull_turns.specs.declared.rest.Rest.{Rest}
+use Rattle.pull_turns.specs.declared.rest.Rest.TheVariants.{Nil, Start, Read, Within', Append', OnFault', Through', Finishing, Faulty, Groups', Take'}
+use Rattle.pull_turns.specs.declared.turn.Turn.{Turn}
+use Rattle.pull_turns.specs.declared.turn.Turn.TheVariants as turn
+
+-- the elements of the groups that wait
+abbrev pub waiting : Option Load → List Element
+waiting None = []
+waiting (Some l) = elements l
+
+-- the groups that wait have elements
+abbrev pub HasElements : Option Load → Type 0
+HasElements None = Unit {0}
+HasElements (Some l) = 0 < length (elements l)
+
+-- the groups that wait are of this kind
+abbrev pub IsOfKind : LoadKind → Option Load → Type 0
+IsOfKind k None = Unit {0}
+IsOfKind k (Some l) = kind_of l ≡ k
+
+-- the first group of n of a load, or all where there are no more elements; the groups behind it wait
+pub record IsFirstGroup (n : ℕ) (l group : Load) (rest : Option Load) : Type 0 where
+  pub front : elements group ≡ take n (elements l)
+  pub behind : waiting rest ≡ drop n (elements l)
+  pub kind : kind_of group ≡ kind_of l
+  pub some : HasElements rest
+  pub kinds : IsOfKind (kind_of l) rest
+
+-- of a load the first group is given, and the others wait; all else is passed on
+abbrev pub GroupedOf : ℕ → Option Load → Option Load → Turn → Turn → Type 0
+GroupedOf n old new (turn.Chunk l) (turn.Chunk m) = IsFirstGroup n l m new
+GroupedOf n old new (turn.Chunk l) turn.Quiet = ⊥
+GroupedOf n old new (turn.Chunk l) turn.Done = ⊥
+GroupedOf n old new (turn.Chunk l) (turn.Fault c) = ⊥
+GroupedOf n old new t u = (new ≡ old) × (u ≡ t)
+
+-- the size of the groups that leave the run one by one: none where a step gets the loads whole
+abbrev pub size_above : Bool → Pipe → Option ℕ
+size_above true q = None
+size_above false q = groups_of q
+
+module _ {F : Type 0} where
+  -- round what is left stands a part that gives groups of this size one by one; no group waits
+  abbrev pub IsInGroups : Option ℕ → Rest F → Rest F → Type 0
+  IsInGroups None x y = y ≡ x
+  IsInGroups (Some n) x y = (p : Box (Unit {0}) Global) × (y ≡ Groups' n None p x)
+
+  -- no part of what is left is grouped
+  abbrev pub HasNoGroups : Rest F → Type 0
+  HasNoGroups Nil = Unit {0}
+  HasNoGroups (Start n) = Unit {0}
+  HasNoGroups (Read p from) = Unit {0}
+  HasNoGroups (Within' s _ a) = HasNoGroups a
+  HasNoGroups (Append' _ a b) = HasNoGroups a
+  HasNoGroups (OnFault' _ a b) = HasNoGroups a
+  HasNoGroups (Through' _ a q) = HasNoGroups a
+  HasNoGroups (Finishing q) = Unit {0}
+  HasNoGroups (Faulty c) = Unit {0}
+  HasNoGroups (Groups' n f _ a) = ⊥
+  HasNoGroups (Take' n _ a) = HasNoGroups a
+
+-- groups of this size, where there are groups, have at most k elements
+abbrev pub AreWithin : ℕ → Option ℕ → Type 0
+AreWithin k None = ⊥
+AreWithin k (Some n) = n ≤ k
+
+-- each part of the node that gives elements gives at most k in a chunk, by a pipe that groups or by a load that is no longer
+abbrev pub IsGroupedOf : ℕ → Node → Type 0
+IsGroupedOf k node.Nil = Unit {0}
+IsGroupedOf k (node.Emit l) = length (elements l) ≤ k
+IsGroupedOf k (node.Raise c) = Unit {0}
+IsGroupedOf k (node.Read p) = ⊥
+IsGroupedOf k (node.Weak' p _ a) = IsGroupedOf k a
+IsGroupedOf k (node.Scope' _ a) = IsGroupedOf k a
+IsGroupedOf k (node.Append' _ a _ b) = IsGroupedOf k a × IsGroupedOf k b
+IsGroupedOf k (node.OnFault' _ a _ b) = IsGroupedOf k a × IsGroupedOf k b
+IsGroupedOf k (node.Through' _ a q) = AreWithin k (groups_of q)
+IsGroupedOf k (node.Take' n _ a) = ⊥
+
+-- the chunk has at most k elements
+abbrev pub GivesAtMost : ℕ → Turn → Type 0
+GivesAtMost k (turn.Chunk l) = length (elements l) ≤ k
+GivesAtMost k turn.Quiet = Unit {0}
+GivesAtMost k turn.Done = Unit {0}
+GivesAtMost k (turn.Fault c) = Unit {0}
+
+-- the turn gave a group of n
+abbrev pub GaveGroupOf : Turn → ℕ → Type 0
+GaveGroupOf (turn.Chunk l) n = length (elements l) ≡ n
+GaveGroupOf turn.Quiet n = ⊥
+GaveGroupOf turn.Done n = ⊥
+GaveGroupOf (turn.Fault c) n = ⊥
+
+module _ {F : Type 0} where
+  -- the same of what is left
+  abbrev pub IsGrouped : ℕ → Rest F → Type 0
+  IsGrouped k Nil = Unit {0}
+  IsGrouped k (Start n) = IsGroupedOf k n
+  IsGrouped k (Read p from) = ⊥
+  IsGrouped k (Within' s _ a) = IsGrouped k a
+  IsGrouped k (Append' _ a b) = IsGrouped k a × IsGroupedOf k b.value
+  IsGrouped k (OnFault' _ a b) = IsGrouped k a × IsGroupedOf k b.value
+  IsGrouped k (Through' _ a q) = ⊥
+  IsGrouped k (Finishing q) = ⊥
+  IsGrouped k (Faulty c) = Unit {0}
+  IsGrouped k (Groups' n f _ a) = n ≤ k
+  IsGrouped k (Take' n _ a) = ⊥
+
+  -- groups of n wait only where Q n; below a step none wait
+  abbrev pub WaitsOnly : (ℕ → Type 0) → Rest F → Type 0
+  WaitsOnly Q Nil = Unit {0}
+  WaitsOnly Q (Start n) = Unit {0}
+  WaitsOnly Q (Read p from) = Unit {0}
+  WaitsOnly Q (Within' s _ a) = WaitsOnly Q a
+  WaitsOnly Q (Append' _ a b) = WaitsOnly Q a
+  WaitsOnly Q (OnFault' _ a b) = WaitsOnly Q a
+  WaitsOnly Q (Through' _ a q) = Unit {0}
+  WaitsOnly Q (Finishing q) = Unit {0}
+  WaitsOnly Q (Faulty c) = Unit {0}
+  WaitsOnly Q (Groups' n f _ a) = IfSome f (λ l. Q n)
+  WaitsOnly Q (Take' n _ a) = Unit {0}
+
+  -- where each part gives at most k elements in a chunk, the turn did and what is left does; groups wait only behind a chunk that is a whole group
+  pub record Grouped (old new : Rest F) (t : Turn) : Type 0 where
+    pub most : (k : ℕ) → IsGrouped k old → IsGrouped k new × GivesAtMost k t
+    pub waits : WaitsOnly (GaveGroupOf t) new
+
+  -- of the groups that waited these elements came, and the others wait; below nothing was done
+  pub data GaveGroup (xs : List Element) : Rest F → Rest F → Type 0 where
+    group : (n : ℕ) (p q : Box (Unit {0}) Global) (a : Rest F) (l : Load) (g : Option Load) → elements l ≡ xs ++ waiting g → GaveGroup xs (Groups' n (Some l) p a) (Groups' n g q a)
+    group_within : (c : ℕ) (p q : Box (Unit {0}) Global) (a b : Rest F) → GaveGroup xs a b → GaveGroup xs (Within' c p a) (Within' c q b)
+    group_first : (p q : Box (Unit {0}) Global) (a b : Rest F) (m : Box Node Global) → GaveGroup xs a b → GaveGroup xs (Append' p a m) (Append' q b m)
+    group_guarded : (p q : Box (Unit {0}) Global) (a b : Rest F) (m : Box Node Global) → GaveGroup xs a b → GaveGroup xs (OnFault' p a m) (OnFault' q b m)
