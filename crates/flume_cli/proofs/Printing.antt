@@ -103,7 +103,8 @@ module _ {F : Type 0} (P : Standing F) (first : ℕ → DeviceTold) (before now 
   prints_chunk new l k s w = record {
     pieces = p.pieces ++ elements l ∷ [];
     sizes = each_snoc (IsPiece (widest n start)) p.pieces (elements l) p.sizes (piece l k s);
-    wide = omega (arith, s.pieces, p.wide); plain = s.plain;
+    wide = omega (arith, s.pieces, p.wide);
+    plain = s.plain;
     led = subst (λ xs. Led P first now.told start next xs) (sym (elements_snoc p.pieces (elements l))) (led_chunk P first before now n start rest next (elements_of p.pieces) p.led l k);
     wrote = w ∙ (ap (λ s. with_bytes s (frame_text 0 (rendering_of (elements l)))) p.wrote
         ∙ (with_bytes_twice old (frames_text (map frame_of p.pieces)) (frame_text 0 (rendering_of (elements l))) ∙ ap (λ b. with_bytes old b) (sym (frames_snoc p.pieces (elements l)))));
