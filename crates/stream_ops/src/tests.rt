@@ -360,12 +360,22 @@ fn lines_of_a_log_are_chosen_and_numbered(rt: HostRuntime) -> Result<(), Fail> {
     Ok(())
 }
 
+/// The pieces, each between two that are empty.
+fn with_none_between<T>(alloc: Global, pieces: Vec<&[T]>) -> Result<Vec<&[T]>, AllocError> {
+    let mut all = Vec::new(alloc);
+    for piece in pieces {
+        let (none, whole) = piece.split_at(0);
+        all.push(none)?;
+        all.push(whole)?;
+        all.push(none)?;
+    }
+    Ok(all)
+}
+
 #[test]
 fn a_load_of_none_changes_nothing(rt: HostRuntime) -> Result<(), Fail> {
     let alloc = rt.alloc();
-    let none = [].as_slice();
-    let (front, rest) = AAB.as_slice().split_at(1);
-    let pieces = [none, front, none, none, rest, none];
+    let pieces = with_none_between(alloc, cut(alloc, AAB.as_slice(), 1)?)?;
     let pieces = pieces.as_slice();
     let left = dropped::<AsLines>(alloc, 2, pieces)?;
     assert_eq!(rt; left.text.as_slice(), b"b|".as_slice());
