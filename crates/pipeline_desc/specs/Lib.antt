@@ -1,0 +1,9 @@
+pub mod Limits
+pub mod Meant
+pub mod Nodes
+pub mod Plans
+pub mod Reading
+pub mod Refusals
+pub mod Steps
+pub mod Values
+pub mod Worked

@@ -1,0 +1,105 @@
+//! The steps of one stream.
+ghost use Rattle.std.specs.Prelude.{◌≡◌, true, count_by, is_some, option_map, length, IfOk};
+ghost use Rattle.std.specs.List.{list_all};
+ghost use Rattle.std.specs.Result.{result_ok};
+ghost use Rattle.toml.specs.Data.{as_str};
+ghost use Rattle.toml.specs.View.{items_view, view};
+ghost use Rattle.pipeline_desc.specs.Limits.{are_few, is_sound_step, kind_behind, kind_behind_step, put_one_between, puts_between};
+ghost use Rattle.pipeline_desc.specs.Reading.{Gives, each_from};
+ghost use Rattle.pipeline_desc.specs.Steps.{kind_from, step_meant, steps_at};
+ghost use Rattle.pipeline_desc.specs.Values.{each_as, seen_as};
+
+use crate::refusal::{RefusalKind, Refused, refuse_step};
+use crate::step::Step;
+use crate::values::texts;
+use crate::words::step;
+use chunk_core::List;
+use pull_nodes::{Kind, KindFault, Pipe};
+use std::alloc::Global;
+use toml::Value;
+
+/// The step of each text, in order.
+fn each_step(alloc: Global, words: &[Value], k: u32) -> Result<List<Step>, Refused>
+    requires { is_some (each_as as_str (items_view words.now)) ≡ true }
+    ensures meant { Gives (λ s. s) result (each_from (step_meant k) 0 (seen_as as_str words.now)) }
+    ensures sound { IfOk result (λ s. list_all is_sound_step s ≡ true) }
+{
+    // A description is too short for 2^32 steps.
+    let Ok(count) = u32::try_from(words.len()) else {
+        return Err(Refused::Memory);
+    };
+    let mut steps = List::new(alloc);
+    for i in 0..count {
+        let Some(word) = words[i as usize].as_str() else {
+            unreachable!()
+        };
+        match step(alloc, word, k, i) {
+            Ok(step) => {
+                if steps.push(step).is_err() {
+                    return Err(Refused::Memory);
+                }
+            }
+            Err(e) => return Err(e),
+        }
+    }
+    Ok(steps)
+}
+
+/// The steps of stream k.
+pub(crate) fn steps(alloc: Global, value: Option<&Value>, k: u32) -> Result<List<Step>, Refused>
+    ensures meant { Gives (λ s. s) result (steps_at k (option_map (λ v. view v.now) value.entry)) }
+    ensures sound { IfOk result (λ s. list_all is_sound_step s ≡ true) }
+{
+    let words = texts(value, Some(k))?;
+    each_step(alloc, words, k)
+}
+
+/// The step puts a line between each two.
+fn puts_between(step: &Step) -> bool
+    ensures { result ≡ puts_between step.now }
+{
+    match step {
+        Step::Pipe(Pipe::Intersperse(_)) => true,
+        _ => false,
+    }
+}
+
+/// A stream may have so many steps.
+pub(crate) fn are_few(steps: &[Step]) -> bool
+    ensures { result ≡ are_few steps.now }
+{
+    steps.len() <= 16
+}
+
+/// At most one step puts a line between each two.
+pub(crate) fn put_one_between(steps: &[Step]) -> bool
+    ensures { result ≡ put_one_between steps.now }
+{
+    steps.iter().filter(|step| puts_between(step)).count() <= 1
+}
+
+/// The kind behind a step.
+pub(crate) fn kind_behind_step(step: &Step, kind: Kind) -> Result<Kind, KindFault>
+    ensures { result_ok result ≡ kind_behind_step step.now kind }
+{
+    match step {
+        Step::Take(_) => Ok(kind),
+        Step::Pipe(pipe) => pipe.kind(kind),
+    }
+}
+
+/// The kind behind the steps of stream k.
+pub(crate) fn kind_behind(steps: &[Step], k: u32) -> Result<Kind, Refused>
+    requires { are_few steps.now ≡ true }
+    ensures meant { Gives (λ j. j) result (kind_from k 0 steps.now Kind.Bytes) }
+    ensures kind { IfOk result (λ j. kind_behind steps.now Kind.Bytes ≡ Some j) }
+{
+    let mut kind = Kind::Bytes;
+    for i in 0..steps.len() {
+        match kind_behind_step(&steps[i], kind) {
+            Ok(next) => kind = next,
+            Err(_) => return Err(refuse_step(RefusalKind::KindClash, k, i as u32)),
+        }
+    }
+    Ok(kind)
+}

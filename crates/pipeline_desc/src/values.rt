@@ -1,0 +1,203 @@
+//! The values at the keys of a description.
+ghost use Rattle.std.specs.Prelude.{◌≡◌, ◌≤◌, true, is_some, option_map, map, length, string_bytes, IfOk, IfErr, IfSome};
+ghost use Rattle.std.specs.List.{list_any, list_all};
+ghost use Rattle.std.specs.Str.{bytes_eq};
+ghost use Rattle.std.specs.BTreeMap.{keys};
+ghost use Rattle.toml.specs.Data.{as_str, as_table, get_member};
+ghost use Rattle.toml.specs.View.{items_view, table_view, view};
+ghost use Rattle.pipeline_desc.specs.Limits.{is_sized};
+ghost use Rattle.pipeline_desc.specs.Reading.{Gives};
+ghost use Rattle.pipeline_desc.specs.Values.{all_known, array_at, each_as, known_keys, list_at, number_at, seen_as, tables_at, text_at, text_or_none_at};
+
+use crate::refusal::{RefusalKind, Refused, refuse, refuse_in};
+use chunk_core::{Line, Word};
+use std::alloc::Global;
+use toml::{Table, Value};
+
+/// The value at a key.
+pub(crate) fn member<'a>(table: &'a Table, key: &str) -> Option<&'a Value>
+    ensures { option_map (λ v. view v.now) result ≡ get_member key.now (table_view table.now) }
+{
+    table.get(key)
+}
+
+/// The key is one of these.
+fn is_known(key: &str, names: &[&str]) -> bool
+    ensures { result ≡ list_any (λ s. bytes_eq key.now s.now) names.now }
+{
+    names.iter().any(|name| key == *name)
+}
+
+/// Each key is one of these.
+fn keys_are_known(table: &Table, names: &[&str]) -> bool
+    ensures { result ≡ list_all (λ k. list_any (λ s. bytes_eq (string_bytes k) s.now) names.now) (keys table.now) }
+{
+    table.keys().all(|key| is_known(key.as_str(), names))
+}
+
+/// The same, of what the table stands for.
+fn has_only(table: &Table, names: &[&str]) -> bool
+    ensures { result ≡ all_known (map (λ s. s.now) names.now) (table_view table.now) }
+{
+    keys_are_known(table, names)
+}
+
+/// No key has another name.
+pub(crate) fn check_keys(table: &Table, names: &[&str], stream: Option<u32>) -> Result<(), Refused>
+    ensures { Gives (λ u. u) result (known_keys (map (λ s. s.now) names.now) stream (table_view table.now)) }
+{
+    if !has_only(table, names) {
+        return Err(refuse_in(RefusalKind::UnknownKey, stream));
+    }
+    Ok(())
+}
+
+/// A number within limits, where there is a value.
+pub(crate) fn number(value: Option<&Value>, low: u32, high: u32) -> Result<Option<u32>, Refused>
+    ensures meant { Gives (λ n. n) result (number_at low high (option_map (λ v. view v.now) value.entry)) }
+    ensures within { IfOk result (λ n. IfSome n (λ m. (low ≤ m) × (m ≤ high))) }
+{
+    let Some(value) = value else {
+        return Ok(None);
+    };
+    let Some(n) = value.as_integer() else {
+        return Err(refuse(RefusalKind::WrongType));
+    };
+    if n >= i64::from(low) && n <= i64::from(high) {
+        Ok(Some(n as u32))
+    } else {
+        Err(refuse(RefusalKind::OutOfRange))
+    }
+}
+
+/// A text of so many bytes, which has to be there.
+fn text(
+    value: Option<&Value>,
+    low: usize,
+    high: usize,
+    stream: Option<u32>,
+) -> Result<&str, Refused>
+    ensures meant { Gives (λ s. s.now) result (text_at low high stream (option_map (λ v. view v.now) value.entry)) }
+    ensures sound { IfOk result (λ s. is_sized low high s.now ≡ true) }
+{
+    let Some(value) = value else {
+        return Err(refuse_in(RefusalKind::WrongType, stream));
+    };
+    let Some(text) = value.as_str() else {
+        return Err(refuse_in(RefusalKind::WrongType, stream));
+    };
+    if text.len() >= low && text.len() <= high {
+        Ok(text)
+    } else {
+        Err(refuse_in(RefusalKind::OutOfRange, stream))
+    }
+}
+
+/// A text of so many bytes, which has to be there, as a word.
+pub(crate) fn word(
+    alloc: Global,
+    value: Option<&Value>,
+    low: usize,
+    high: usize,
+    stream: Option<u32>,
+) -> Result<Word, Refused>
+    ensures meant { Gives (λ w. w) result (text_at low high stream (option_map (λ v. view v.now) value.entry)) }
+    ensures sound { IfOk result (λ w. is_sized low high w ≡ true) }
+{
+    match text(value, low, high, stream) {
+        Ok(text) => match Word::of(alloc, text) {
+            Ok(word) => Ok(word),
+            Err(_) => Err(Refused::Memory),
+        },
+        Err(e) => Err(e),
+    }
+}
+
+/// A copy of bytes.
+pub(crate) fn line_of(alloc: Global, bytes: &[u8]) -> Result<Line, Refused>
+    ensures value { IfOk result (λ line. line ≡ bytes.now) }
+    ensures memory { IfErr result (λ e. e ≡ Refused.Memory) }
+{
+    match Vec::from_slice(alloc, bytes) {
+        Ok(copy) => Ok(Line::of_vec(copy)),
+        Err(_) => Err(Refused::Memory),
+    }
+}
+
+/// A text of so many bytes, where there is a value, as a line.
+pub(crate) fn line(
+    alloc: Global,
+    value: Option<&Value>,
+    low: usize,
+    high: usize,
+    stream: Option<u32>,
+) -> Result<Option<Line>, Refused>
+    ensures meant { Gives (λ o. o) result (text_or_none_at low high stream (option_map (λ v. view v.now) value.entry)) }
+    ensures sound { IfOk result (λ o. IfSome o (λ x. is_sized low high x ≡ true)) }
+{
+    if value.is_none() {
+        return Ok(None);
+    }
+    match text(value, low, high, stream) {
+        Ok(text) => match line_of(alloc, text.as_bytes()) {
+            Ok(line) => Ok(Some(line)),
+            Err(e) => Err(e),
+        },
+        Err(e) => Err(e),
+    }
+}
+
+/// Whether each value is a table.
+fn are_tables(values: &[Value]) -> bool
+    ensures { result ≡ list_all (λ v. is_some (as_table (view v))) values.now }
+{
+    values.iter().all(|value| value.is_table())
+}
+
+/// Whether each value is a text.
+fn are_texts(values: &[Value]) -> bool
+    ensures { result ≡ list_all (λ v. is_some (as_str (view v))) values.now }
+{
+    values.iter().all(|value| value.is_str())
+}
+
+/// The values of an array, or none where there is no value.
+fn array(value: Option<&Value>, stream: Option<u32>) -> Result<&[Value], Refused>
+    ensures { Gives (λ s. items_view s.now) result (array_at stream (option_map (λ v. view v.now) value.entry)) }
+{
+    let Some(value) = value else {
+        return Ok(&[]);
+    };
+    match value.as_array() {
+        Some(values) => Ok(values.as_slice()),
+        None => Err(refuse_in(RefusalKind::WrongType, stream)),
+    }
+}
+
+/// The texts of an array, or none where there is no value.
+pub(crate) fn texts(value: Option<&Value>, stream: Option<u32>) -> Result<&[Value], Refused>
+    ensures meant { Gives (λ s. seen_as as_str s.now) result (list_at as_str stream (option_map (λ v. view v.now) value.entry)) }
+    ensures seen { IfOk result (λ s. is_some (each_as as_str (items_view s.now)) ≡ true) }
+{
+    let values = array(value, stream)?;
+    if !are_texts(values) {
+        return Err(refuse_in(RefusalKind::WrongType, stream));
+    }
+    Ok(values)
+}
+
+/// The tables of an array of at most so many, or none where there is no value.
+pub(crate) fn tables(value: Option<&Value>, most: usize) -> Result<&[Value], Refused>
+    ensures meant { Gives (λ s. seen_as as_table s.now) result (tables_at most (option_map (λ v. view v.now) value.entry)) }
+    ensures seen { IfOk result (λ s. is_some (each_as as_table (items_view s.now)) ≡ true) }
+    ensures few { IfOk result (λ s. length s.now ≤ most) }
+{
+    let values = array(value, None)?;
+    if !are_tables(values) {
+        return Err(refuse(RefusalKind::WrongType));
+    }
+    if values.len() > most {
+        return Err(refuse(RefusalKind::OutOfRange));
+    }
+    Ok(values)
+}
