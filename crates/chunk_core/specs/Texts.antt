@@ -2,6 +2,8 @@
 use Rattle.std.specs.Prelude.{ℕ, List, [], ◌∷◌, ◌++◌, length, flat_map, filter, nat_eq, codes, decimal}
 use Rattle.chunk_core.specs.declared.code.Code.{Code}
 use Rattle.chunk_core.specs.declared.code.Code.TheVariants as code
+use Rattle.chunk_core.specs.declared.code.Exit.{Exit}
+use Rattle.chunk_core.specs.declared.code.Exit.TheVariants as exit
 use Rattle.chunk_core.specs.declared.code.How.{How}
 use Rattle.chunk_core.specs.declared.code.How.TheVariants as how
 
@@ -26,6 +28,12 @@ how_text how.Done = codes "done"
 how_text how.Halted = codes "halted"
 how_text (how.Fault c) = codes "fault " ++ code_text c
 how_text how.Memory = codes "memory"
+
+-- how a scope or a stream ended, as its finalizers are told
+abbrev pub exit_text : Exit → List ℕ
+exit_text exit.Succeeded = codes "succeeded"
+exit_text exit.Errored = codes "errored"
+exit_text exit.Canceled = codes "canceled"
 
 -- a piece of a stream's output
 pub record Frame : Type 0 where

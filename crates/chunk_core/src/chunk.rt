@@ -1,5 +1,5 @@
 //! Windows on shared vectors.
-ghost use Rattle.std.specs.Prelude.{◌≡◌, ◌==◌, ◌++◌, length, take, drop, IfOk, OnOk, OnErr, slice_get};
+ghost use Rattle.std.specs.Prelude.{◌≡◌, ◌==◌, ◌++◌, length, take, drop, IfOk, OnOk, OnErr, IfErr, slice_get};
 ghost use Rattle.std.specs.Iterator.{YieldsFirstRef, item_count};
 ghost use Rattle.std.specs.Option.{option_copied};
 
@@ -100,6 +100,33 @@ impl<T> Chunk<T> {
         };
         self.from = middle;
         Ok(front)
+    }
+
+    /// The same window once more, without a copy.
+    pub fn share(&self) -> Result<Chunk<T>, AllocError>
+        ensures { IfOk result (λ chunk. chunk ≡ self.now) }
+    {
+        Ok(Chunk {
+            items: Arc::try_clone(&self.items)?,
+            from: self.from,
+            to: self.to,
+        })
+    }
+
+    /// The vector itself, without a copy, where the window is all of it and no other chunk shares
+    /// it; else the chunk.
+    pub fn into_vec(self) -> Result<Vec<T>, Chunk<T>>
+        ensures ok { IfOk result (λ v. v.items ≡ self) }
+        ensures err { IfErr result (λ chunk. chunk ≡ self) }
+    {
+        let Chunk { items, from, to } = self;
+        if from > 0 || to < items.len() {
+            return Err(Chunk { items, from, to });
+        }
+        match Arc::try_unwrap(items) {
+            Ok(items) => Ok(items),
+            Err(items) => Err(Chunk { items, from, to }),
+        }
     }
 
     /// Clones of both, one after the other, in a vector of their own.

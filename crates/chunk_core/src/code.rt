@@ -1,4 +1,7 @@
-//! Why a stream ended, and spans of rows.
+//! Why a stream ended, what a finalizer is told of it, and spans of rows.
+ghost use Rattle.std.specs.Prelude.{◌≡◌};
+ghost use Rattle.chunk_core.specs.Outcomes.{exit_of};
+
 use std::fmt;
 
 /// What went wrong in a stream.
@@ -79,6 +82,45 @@ impl fmt::Display for How {
             How::Halted => f.write_str("halted"),
             How::Fault(c) => write!(f, "fault {c}"),
             How::Memory => f.write_str("memory"),
+        }
+    }
+}
+
+impl How {
+    /// What the finalizers of a stream that ended so are told.
+    pub fn exit(self) -> Exit
+        ensures { result ≡ exit_of self }
+    {
+        match self {
+            How::Done => Exit::Succeeded,
+            How::Fault(_) => Exit::Errored,
+            How::Halted | How::Memory => Exit::Canceled,
+        }
+    }
+}
+
+/// How the scope or stream ended whose resource is finalized, as fs2's `ExitCase`.
+#[derive(Clone, Copy, Debug, PartialEq, Eq)]
+pub enum Exit {
+    /// It gave all that it had to give.
+    Succeeded,
+    /// It ended in a fault.
+    Errored,
+    /// It was stopped from outside, or memory was wanting.
+    Canceled,
+}
+
+impl fmt::Display for Exit {
+    ghost use Rattle.std.specs.Prelude.{Some};
+    ghost use Rattle.chunk_core.specs.Texts.{exit_text};
+
+    ghost output = { λ exit. Some (exit_text exit) };
+
+    fn fmt<W: fmt::Write>(&self, f: &mut fmt::Formatter<W>) -> fmt::Result {
+        match *self {
+            Exit::Succeeded => f.write_str("succeeded"),
+            Exit::Errored => f.write_str("errored"),
+            Exit::Canceled => f.write_str("canceled"),
         }
     }
 }

@@ -8,14 +8,16 @@ pub mod feed;
 pub mod list;
 pub mod load;
 pub mod queue;
+pub mod spare;
 pub mod word;
 
 pub use chunk::{Chunk, ChunkIter};
-pub use code::{Code, How, Span};
+pub use code::{Code, Exit, How, Span};
 pub use feed::{Fed, Feed};
 pub use list::{Line, List, Row};
 pub use load::{Load, render};
 pub use queue::ChunkQueue;
+pub use spare::{Spare, SpareRows};
 pub use word::Word;
 
 #[cfg(test)]
