@@ -61,9 +61,9 @@ pub struct FileDepot {
     rt: HostRuntime,
     count: u64,
     course: Known<Course>,
-    ghost counted: { length course.inner.ask.made ≡ count },
-    ghost apart: { AreApart course.inner.ask.retired } by { IsDistinct-prop nat_eq (numbers course.inner.ask.retired) },
-    ghost below: { AreBelow count course.inner.ask.retired },
+    ghost counted: { length course.made ≡ count },
+    ghost apart: { AreApart course.retired } by { IsDistinct-prop nat_eq (numbers course.retired) },
+    ghost below: { AreBelow count course.retired },
 }
 
 impl FileDepot {
@@ -72,7 +72,7 @@ impl FileDepot {
 
     /// A depot that made no device.
     pub fn new(rt: HostRuntime) -> FileDepot
-        ensures { depot_of result.course.inner.ask ≡ record { files = None; made = []; retired = [] } }
+        ensures { depot_of result.course ≡ record { files = None; made = []; retired = [] } }
     {
         FileDepot {
             rt,
@@ -87,7 +87,7 @@ impl Depot for FileDepot {
 
     type Dev = FileDevice;
 
-    ghost told = { λ depot. depot_of depot.course.inner.ask };
+    ghost told = { λ depot. depot_of depot.course };
 
     fn make(&mut self, alloc: Global, path: &Word, mode: Mode) -> Result<FileDevice, AllocError> {
         if self.count == u64::MAX {

@@ -6,7 +6,7 @@ ghost use Rattle.std.specs.Prelude.{◌≡◌, ⊤, [], ℕ};
 ghost use base.Fml.{ftrue};
 
 use logbook::{Gain, Offer, Plain, Rule, Seen, Start};
-use std::marker::PhantomData;
+use std::marker::{Model, PhantomData};
 
 /// How a value follows from another.
 pub trait Says<X, V> {
@@ -49,11 +49,17 @@ impl<X, V, M: Says<X, V>> Plain<X, V, ()> for Asks<M> {
 /// It has no bytes. Contracts see its value.
 #[derive(Drop)]
 pub struct Known<V> {
-    pub inner: Offer<V, (), Blank, Blank>,
+    inner: Offer<V, (), Blank, Blank>,
+}
+
+impl<V> Model for Known<V> {
+    ghost Value = { V };
+
+    ghost view = { λ k. k.inner.ask };
 }
 
 pub fn know<X, V, M: Says<X, V>>(about: &X) -> Known<V>
-    ensures { result.inner.ask ≡ M.says about.now }
+    ensures { result ≡ M.says about.now }
 {
     let (seen, _first, _second) = Seen::open(Start::alone(), 0, 0);
     Known {
@@ -71,11 +77,11 @@ struct Next<M> {
 }
 
 impl<'a, 'b, X, V, M: Steps<X, V>> Says<(&'a Known<V>, &'b X), V> for Next<M> {
-    ghost says = { λ p. M.next p.0.now.inner.ask p.1.now };
+    ghost says = { λ p. M.next p.0.now p.1.now };
 }
 
 pub fn step<X, V, M: Steps<X, V>>(old: &Known<V>, by: &X) -> Known<V>
-    ensures { result.inner.ask ≡ M.next old.now.inner.ask by.now }
+    ensures { result ≡ M.next old.now by.now }
 {
     know::<(&Known<V>, &X), V, Next<M>>(&(old, by))
 }

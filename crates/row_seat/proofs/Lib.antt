@@ -14,6 +14,8 @@ pub mod Joins
 pub mod Ends
 pub mod Apart
 pub mod Tells
+pub mod Stayed
+pub mod Rejoined
 mod Sitting
 pub mod Starts
 mod Life

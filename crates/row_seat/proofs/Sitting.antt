@@ -17,6 +17,7 @@ use Rattle.row_seat.specs.declared.plain.PlainTable.{PlainTable}
 use Rattle.row_seat.specs.declared.token.Token.{Token}
 use Rattle.res_ledger.specs.declared.event.What.{What}
 use Rattle.chunk_core.proofs.Filters.{among_at, bool_not, filter_among}
+use Rattle.chunk_core.proofs.Members.{among_cons, among_nil}
 use Rattle.row_seat.proofs.Members.{among_kept, length_without}
 use Rattle.row_seat.proofs.Joins.{apart, join_keeps}
 use Rattle.chunk_core.proofs.Places.{at_map}
@@ -34,12 +35,12 @@ use Rattle.row_seat.proofs.Tells.{leases_below, told_last}
 use Rattle.row_seat.proofs.Ticked.{tick_keeps}
 use Rattle.row_seat.proofs.Hands.{without_row_at}
 
-module _ {P : Type 0} {s' : PlainSeat P} {d' : PlainTable P} (s : PlainSeat P) (d : PlainTable P) (h : Sits s d) (w : Token P) (views : d'.views.inner.ask ≡ slice_set d.views.inner.ask s.id.inner.ask w)
-    (table : IsTable d'.slots.items d'.words.items d'.events.items (vec_capacity d'.events) (slice_set d.views.inner.ask s.id.inner.ask w)) (many : length d'.slots.items ≡ length d.slots.items) where
-  pub sits_put : s'.id.inner.ask ≡ s.id.inner.ask → s'.token.inner.ask ≡ w → w.live ≡ true → s'.by ≡ w.by → rows_of s'.hands.items ≡ w.opened → length w.empty + vec_len s'.hands ≤ vec_capacity s'.hands → (w.main ≡ true → length d'.slots.items ≤ vec_capacity s'.hands) → Sits s' d'
+module _ {P : Type 0} {s' : PlainSeat P} {d' : PlainTable P} (s : PlainSeat P) (d : PlainTable P) (h : Sits s d) (w : Token P) (views : d'.views ≡ slice_set d.views s.id w)
+    (table : IsTable d'.slots.items d'.words.items d'.events.items (vec_capacity d'.events) (slice_set d.views s.id w)) (many : length d'.slots.items ≡ length d.slots.items) where
+  pub sits_put : s'.id ≡ s.id → s'.token ≡ w → w.live ≡ true → s'.by ≡ w.by → rows_of s'.hands.items ≡ w.opened → length w.empty + vec_len s'.hands ≤ vec_capacity s'.hands → (w.main ≡ true → length d'.slots.items ≤ vec_capacity s'.hands) → Sits s' d'
   sits_put id is live by held hold whole = record {
     table = subst (λ l. IsTable d'.slots.items d'.words.items d'.events.items (vec_capacity d'.events) l) (sym views) table;
-    mine = subst (λ l. IsAt l s'.id.inner.ask s'.token.inner.ask) (sym views) (subst (λ n. IsAt (slice_set d.views.inner.ask s.id.inner.ask w) n s'.token.inner.ask) (sym id) (subst (λ t. IsAt (slice_set d.views.inner.ask s.id.inner.ask w) s.id.inner.ask t) (sym is) (put_here d.views.inner.ask s.id.inner.ask s.token.inner.ask w h.mine)));
+    mine = subst (λ l. IsAt l s'.id s'.token) (sym views) (subst (λ n. IsAt (slice_set d.views s.id w) n s'.token) (sym id) (subst (λ t. IsAt (slice_set d.views s.id w) s.id t) (sym is) (put_here d.views s.id s.token w h.mine)));
     live = ap (λ (t : Token P). t.live) is ∙ live;
     by = by ∙ ap (λ (t : Token P). t.by) (sym is);
     held = held ∙ ap (λ (t : Token P). t.opened) (sym is);
@@ -47,13 +48,13 @@ module _ {P : Type 0} {s' : PlainSeat P} {d' : PlainTable P} (s : PlainSeat P) (
     whole = λ m. whole (ap (λ (t : Token P). t.main) (sym is) ∙ m);
   }
 
-module _ {P : Type 0} {d' : PlainTable P} (s : PlainSeat P) (d : PlainTable P) (h : Sits s d) (w : Token P) (views : d'.views.inner.ask ≡ slice_set d.views.inner.ask s.id.inner.ask w)
-    (table : IsTable d'.slots.items d'.words.items d'.events.items (vec_capacity d'.events) (slice_set d.views.inner.ask s.id.inner.ask w)) (many : length d'.slots.items ≡ length d.slots.items) where
+module _ {P : Type 0} {d' : PlainTable P} (s : PlainSeat P) (d : PlainTable P) (h : Sits s d) (w : Token P) (views : d'.views ≡ slice_set d.views s.id w)
+    (table : IsTable d'.slots.items d'.words.items d'.events.items (vec_capacity d'.events) (slice_set d.views s.id w)) (many : length d'.slots.items ≡ length d.slots.items) where
   -- a seat of another name still sits
-  pub others_put : (o : PlainSeat P) → o.token.inner.ask.by ≢ s.token.inner.ask.by → Sits o d → Sits o d'
+  pub others_put : (o : PlainSeat P) → o.token.by ≢ s.token.by → Sits o d → Sits o d'
   others_put o ne k = record {
     table = subst (λ l. IsTable d'.slots.items d'.words.items d'.events.items (vec_capacity d'.events) l) (sym views) table;
-    mine = subst (λ l. IsAt l o.id.inner.ask o.token.inner.ask) (sym views) (put_else d.views.inner.ask s.id.inner.ask o.id.inner.ask o.token.inner.ask w (λ e. ne (ap (λ (t : Token P). t.by) (one_at d.views.inner.ask s.id.inner.ask o.token.inner.ask s.token.inner.ask (subst (λ n. IsAt d.views.inner.ask n o.token.inner.ask) e k.mine) h.mine))) k.mine);
+    mine = subst (λ l. IsAt l o.id o.token) (sym views) (put_else d.views s.id o.id o.token w (λ e. ne (ap (λ (t : Token P). t.by) (one_at d.views s.id o.token s.token (subst (λ n. IsAt d.views n o.token) e k.mine) h.mine))) k.mine);
     live = k.live;
     by = k.by;
     held = k.held;
@@ -176,30 +177,37 @@ among_map x xs (here ys) = here (rows_of ys)
 among_map x xs (there y m) = there y.0 (among_map x _ m)
 
 -- rows in hand
-pub in_hand : {P : Type 0} (s : PlainSeat P) (d : PlainTable P) → Sits s d → (r : ℕ) → HasRow s.hands.items r → IsAmong r s.token.inner.ask.opened
+pub in_hand : {P : Type 0} (s : PlainSeat P) (d : PlainTable P) → Sits s d → (r : ℕ) → HasRow s.hands.items r → IsAmong r s.token.opened
 in_hand s d h r m = subst (λ l. IsAmong r l) h.held (among_map (r, m.0) s.hands.items m.1)
 
-pub inside_open : {P : Type 0} (s : PlainSeat P) (d : PlainTable P) → Sits s d → (r : ℕ) → IsAmong r s.token.inner.ask.opened → r < length d.slots.items
-inside_open s d h r m = (row_open (length d.slots.items) h.table.room (λ r. slice_index d.words.items r) (λ r. slice_index_or d.slots.items r None) d.events.items d.views.inner.ask h.table.rule s.id.inner.ask s.token.inner.ask h.mine h.live r m).0
+pub has_hand : {P : Type 0} (r : ℕ) (xs : List (ℕ × P)) → IsAmong r (rows_of xs) → HasRow xs r
+has_hand {P = P} r [] m = absurd (among_nil m)
+has_hand {P = P} r (x ∷ xs) m = ⊎_elim
+    (λ e. (x.1, subst (λ n. let y : ℕ × P = (n, x.1) in IsAmong y (x ∷ xs)) (sym e) (here xs)))
+    (λ n. let t = has_hand r xs n in (t.0, there x t.1))
+    (among_cons m)
+
+pub inside_open : {P : Type 0} (s : PlainSeat P) (d : PlainTable P) → Sits s d → (r : ℕ) → IsAmong r s.token.opened → r < length d.slots.items
+inside_open s d h r m = (row_open (length d.slots.items) h.table.room (λ r. slice_index d.words.items r) (λ r. slice_index_or d.slots.items r None) d.events.items d.views h.table.rule s.id s.token h.mine h.live r m).0
 
 module _ {P : Type 0} (s : PlainSeat P) (d : PlainTable P) (h : Sits s d) where
-  pub room_left : 1 ≤ s.token.inner.ask.spare → length d.events.items + 1 ≤ vec_capacity d.events
+  pub room_left : 1 ≤ s.token.spare → length d.events.items + 1 ≤ vec_capacity d.events
   room_left sp =
       let k = h.table.rule.books in let a = k.sum in let e = h.table.enough in
-      let t = total_at (λ (b : Book). b.spare) (map book d.views.inner.ask) s.id.inner.ask (book s.token.inner.ask) (at_map book d.views.inner.ask s.id.inner.ask s.token.inner.ask h.mine) in omega arith
+      let t = total_at (λ (b : Book). b.spare) (map book d.views) s.id (book s.token) (at_map book d.views s.id s.token h.mine) in omega arith
 
-  pub fresh_stamp : (s.token.inner.ask.floor ≤ length d.events.items) × ((e : Event) → IsAmong e s.token.inner.ask.events → e.stamp < length d.events.items)
-  fresh_stamp = let k = h.table.rule.books in let at = at_map book d.views.inner.ask s.id.inner.ask s.token.inner.ask h.mine in
-      (k.floor s.id.inner.ask (book s.token.inner.ask) at, λ e m. stamp_below d.events.items e k.stamped (k.inside s.id.inner.ask (book s.token.inner.ask) e at m))
+  pub fresh_stamp : (s.token.floor ≤ length d.events.items) × ((e : Event) → IsAmong e s.token.events → e.stamp < length d.events.items)
+  fresh_stamp = let k = h.table.rule.books in let at = at_map book d.views s.id s.token h.mine in
+      (k.floor s.id (book s.token) at, λ e m. stamp_below d.events.items e k.stamped (k.inside s.id (book s.token) e at m))
 
-  pub given_once : (r : ℕ) (x y : P) → IsAmong (r, x) s.token.inner.ask.given → IsAmong (r, y) s.token.inner.ask.given → x ≡ y
-  given_once r x y a b = given_one (length d.slots.items) h.table.room (λ r. slice_index d.words.items r) (λ r. slice_index_or d.slots.items r None) d.events.items d.views.inner.ask h.table.rule s.id.inner.ask s.token.inner.ask h.mine h.live r x y a b
+  pub given_once : (r : ℕ) (x y : P) → IsAmong (r, x) s.token.given → IsAmong (r, y) s.token.given → x ≡ y
+  given_once r x y a b = given_one (length d.slots.items) h.table.room (λ r. slice_index d.words.items r) (λ r. slice_index_or d.slots.items r None) d.events.items d.views h.table.rule s.id s.token h.mine h.live r x y a b
 
-  pub inside_empty : (r : ℕ) → IsAmong r s.token.inner.ask.empty → r < length d.slots.items
-  inside_empty r m = (row_empty (length d.slots.items) h.table.room (λ r. slice_index d.words.items r) (λ r. slice_index_or d.slots.items r None) d.events.items d.views.inner.ask h.table.rule s.id.inner.ask s.token.inner.ask h.mine h.live r m).0
+  pub inside_empty : (r : ℕ) → IsAmong r s.token.empty → r < length d.slots.items
+  inside_empty r m = (row_empty (length d.slots.items) h.table.room (λ r. slice_index d.words.items r) (λ r. slice_index_or d.slots.items r None) d.events.items d.views h.table.rule s.id s.token h.mine h.live r m).0
 
-  pub inside_handed : (r : ℕ) → IsAmong r s.token.inner.ask.handed → r < length d.slots.items
-  inside_handed r m = (row_handed (length d.slots.items) h.table.room (λ r. slice_index d.words.items r) (λ r. slice_index_or d.slots.items r None) d.events.items d.views.inner.ask h.table.rule s.id.inner.ask s.token.inner.ask h.mine h.live r m).0
+  pub inside_handed : (r : ℕ) → IsAmong r s.token.handed → r < length d.slots.items
+  inside_handed r m = (row_handed (length d.slots.items) h.table.room (λ r. slice_index d.words.items r) (λ r. slice_index_or d.slots.items r None) d.events.items d.views h.table.rule s.id s.token h.mine h.live r m).0
 
 module _ {P : Type 0} (xs : List (ℕ × P)) (i row : ℕ) (h : ℕ × P) where
   pub removed : (ys : List (ℕ × P)) → i < length xs → ((d : ℕ × P) → (slice_index_or xs i d).0 ≡ row) → ((k : ℕ) (d : ℕ × P) → k < i → (slice_index_or xs k d).0 ≢ row) → ys ≡ remove xs i → ys ≡ without_row row xs
@@ -219,16 +227,16 @@ rows_without r [] = refl
 rows_without r (x ∷ xs) = elim (eqb x.0 r) as (λ b. rows_of (cond b xs (x ∷ without_row r xs)) ≡ cond b (rows_of xs) (x.0 ∷ without_one r (rows_of xs))) [ true ↦ refl | false ↦ ap (λ l. x.0 ∷ l) (rows_without r xs) ]
 
 -- one seat takes another in
-module _ {P : Type 0} (s o : PlainSeat P) (d : PlainTable P) (h : Sits s d) (k : Sits o d) (main : s.token.inner.ask.main ≡ true) (n : ℕ) (by : o.token.inner.ask.by ≡ Inner n) (out : IsAmong n s.token.inner.ask.out)
-    (no_open : o.token.inner.ask.opened ≡ []) (no_pair : o.token.inner.ask.pairs ≡ []) (no_kept : o.token.inner.ask.kept ≡ []) (no_hand : o.token.inner.ask.handed ≡ []) where
+module _ {P : Type 0} (s o : PlainSeat P) (d : PlainTable P) (h : Sits s d) (k : Sits o d) (main : s.token.main ≡ true) (n : ℕ) (by : o.token.by ≡ Inner n) (out : IsAmong n s.token.out)
+    (no_open : o.token.opened ≡ []) (no_pair : o.token.pairs ≡ []) (no_kept : o.token.kept ≡ []) (no_hand : o.token.handed ≡ []) where
   abbrev after : List (Token P)
-  after = slice_set (slice_set d.views.inner.ask s.id.inner.ask (joined s.token.inner.ask o.token.inner.ask)) o.id.inner.ask (spent o.token.inner.ask)
+  after = slice_set (slice_set d.views s.id (joined s.token o.token)) o.id (spent o.token)
 
-  two : s.id.inner.ask ≢ o.id.inner.ask
-  two = apart (length d.slots.items) h.table.room (λ r. slice_index d.words.items r) (λ r. slice_index_or d.slots.items r None) d.events.items d.views.inner.ask h.table.rule s.id.inner.ask s.token.inner.ask h.mine h.live o.id.inner.ask o.token.inner.ask k.mine k.live main n by out no_open no_pair no_kept no_hand
+  two : s.id ≢ o.id
+  two = apart (length d.slots.items) h.table.room (λ r. slice_index d.words.items r) (λ r. slice_index_or d.slots.items r None) d.events.items d.views h.table.rule s.id s.token h.mine h.live o.id o.token k.mine k.live main n by out no_open no_pair no_kept no_hand
 
   join_table : IsTable d.slots.items d.words.items d.events.items (vec_capacity d.events) after
-  join_table = let v = s.token.inner.ask in let w = o.token.inner.ask in let id = s.id.inner.ask in let jd = o.id.inner.ask in let vs = d.views.inner.ask in record {
+  join_table = let v = s.token in let w = o.token in let id = s.id in let jd = o.id in let vs = d.views in record {
     room = h.table.room;
     enough = h.table.enough;
     words_are = h.table.words_are;
@@ -236,14 +244,14 @@ module _ {P : Type 0} (s o : PlainSeat P) (d : PlainTable P) (h : Sits s d) (k :
     load = let a = total_both vs id jd v w (joined v w) (spent w) h.mine k.mine two (λ (u : Token P). length u.empty + length u.opened) in let b = h.table.load in let c = length-append v.empty w.empty in omega arith;
   }
 
-  module _ (d' : PlainTable P) (views : d'.views.inner.ask ≡ after) (slots : d'.slots ≡ d.slots) (words : d'.words ≡ d.words) (events : d'.events ≡ d.events) where
-    table_after : IsTable d'.slots.items d'.words.items d'.events.items (vec_capacity d'.events) d'.views.inner.ask
+  module _ (d' : PlainTable P) (views : d'.views ≡ after) (slots : d'.slots ≡ d.slots) (words : d'.words ≡ d.words) (events : d'.events ≡ d.events) where
+    table_after : IsTable d'.slots.items d'.words.items d'.events.items (vec_capacity d'.events) d'.views
     table_after = rw (views, slots, words, events) join_table
 
-    pub join_sits : (t : Known (Token P)) → t.inner.ask ≡ joined s.token.inner.ask o.token.inner.ask → let s' : PlainSeat P = record s { token = t } in Sits s' d'
-    join_sits t is = let v = s.token.inner.ask in let w = o.token.inner.ask in let id = s.id.inner.ask in let jd = o.id.inner.ask in let vs = d.views.inner.ask in record {
+    pub join_sits : (t : Known (Token P)) → t ≡ joined s.token o.token → let s' : PlainSeat P = record s { token = t } in Sits s' d'
+    join_sits t is = let v = s.token in let w = o.token in let id = s.id in let jd = o.id in let vs = d.views in record {
       table = table_after;
-      mine = subst (λ l. IsAt l id t.inner.ask) (sym views) (subst (λ u. IsAt after id u) (sym is) (two_first vs id jd v w (joined v w) (spent w) h.mine k.mine two));
+      mine = subst (λ l. IsAt l id t) (sym views) (subst (λ u. IsAt after id u) (sym is) (two_first vs id jd v w (joined v w) (spent w) h.mine k.mine two));
       live = ap (λ (u : Token P). u.live) is ∙ h.live;
       by = h.by ∙ ap (λ (u : Token P). u.by) (sym is);
       held = h.held ∙ ap (λ (u : Token P). u.opened) (sym is);
@@ -252,12 +260,12 @@ module _ {P : Type 0} (s o : PlainSeat P) (d : PlainTable P) (h : Sits s d) (k :
       whole = λ m. rw slots (h.whole main);
     }
 
-    pub join_others : (x : PlainSeat P) → x.token.inner.ask.by ≢ s.token.inner.ask.by → x.token.inner.ask.by ≢ o.token.inner.ask.by → Sits x d → Sits x d'
-    join_others x ne me y = let v = s.token.inner.ask in let w = o.token.inner.ask in let id = s.id.inner.ask in let jd = o.id.inner.ask in let vs = d.views.inner.ask in record {
+    pub join_others : (x : PlainSeat P) → x.token.by ≢ s.token.by → x.token.by ≢ o.token.by → Sits x d → Sits x d'
+    join_others x ne me y = let v = s.token in let w = o.token in let id = s.id in let jd = o.id in let vs = d.views in record {
       table = table_after;
-      mine = subst (λ l. IsAt l x.id.inner.ask x.token.inner.ask) (sym views) (two_else vs id jd v w (joined v w) (spent w) h.mine k.mine two x.id.inner.ask x.token.inner.ask
-          (λ e. ne (ap (λ (u : Token P). u.by) (one_at vs id x.token.inner.ask v (subst (λ n. IsAt vs n x.token.inner.ask) e y.mine) h.mine)))
-          (λ e. me (ap (λ (u : Token P). u.by) (one_at vs jd x.token.inner.ask w (subst (λ n. IsAt vs n x.token.inner.ask) e y.mine) k.mine))) y.mine);
+      mine = subst (λ l. IsAt l x.id x.token) (sym views) (two_else vs id jd v w (joined v w) (spent w) h.mine k.mine two x.id x.token
+          (λ e. ne (ap (λ (u : Token P). u.by) (one_at vs id x.token v (subst (λ n. IsAt vs n x.token) e y.mine) h.mine)))
+          (λ e. me (ap (λ (u : Token P). u.by) (one_at vs jd x.token w (subst (λ n. IsAt vs n x.token) e y.mine) k.mine))) y.mine);
       live = y.live;
       by = y.by;
       held = y.held;
@@ -278,16 +286,16 @@ run_fits from to xs h = let c = length_cut (within from to) xs in
     let t = all_there from (to - from) (filter (within from to) xs) (λ r a b. let b' : r < to = omega arith in filter_among (within from to) r xs (h r (a, b')) (within_in from to r a b')) in omega arith
 
 -- one seat is split off
-module _ {P : Type 0} (s : PlainSeat P) (d : PlainTable P) (h : Sits s d) (j from to n : ℕ) (main : s.token.inner.ask.main ≡ true) (foreign : s.token.inner.ask.by ≢ Inner j) (no_seat : ¬ (IsAmong j s.token.inner.ask.had))
-    (span' : (r : ℕ) → (from ≤ r) × (r < to) → IsAmong r s.token.inner.ask.empty × ¬ (IsAcquired s.token.inner.ask.events r)) (enough : n ≤ s.token.inner.ask.spare) (named : (r : ℕ) → IsAmong (j, r) s.token.inner.ask.pairs → IsLeased s.token.inner.ask.events j) where
+module _ {P : Type 0} (s : PlainSeat P) (d : PlainTable P) (h : Sits s d) (j from to n : ℕ) (main : s.token.main ≡ true) (foreign : s.token.by ≢ Inner j) (no_seat : ¬ (IsAmong j s.token.had))
+    (span' : (r : ℕ) → (from ≤ r) × (r < to) → IsAmong r s.token.empty × ¬ (IsAcquired s.token.events r)) (enough : n ≤ s.token.spare) (named : (r : ℕ) → IsAmong (j, r) s.token.pairs → IsLeased s.token.events j) where
   abbrev parted : List (Token P)
-  parted = slice_set d.views.inner.ask s.id.inner.ask (split_main s.token.inner.ask j from to n) ++ split_off s.token.inner.ask j from to n ∷ []
+  parted = slice_set d.views s.id (split_main s.token j from to n) ++ split_off s.token j from to n ∷ []
 
-  cut_fits : length (filter (λ r. not (within from to r)) s.token.inner.ask.empty) + (to - from) ≤ length s.token.inner.ask.empty
-  cut_fits = run_fits from to s.token.inner.ask.empty (λ r a. (span' r a).0)
+  cut_fits : length (filter (λ r. not (within from to r)) s.token.empty) + (to - from) ≤ length s.token.empty
+  cut_fits = run_fits from to s.token.empty (λ r a. (span' r a).0)
 
   split_table : IsTable d.slots.items d.words.items d.events.items (vec_capacity d.events) parted
-  split_table = let v = s.token.inner.ask in let id = s.id.inner.ask in let vs = d.views.inner.ask in let a = split_main v j from to n in let b = split_off v j from to n in record {
+  split_table = let v = s.token in let id = s.id in let vs = d.views in let a = split_main v j from to n in let b = split_off v j from to n in record {
     room = h.table.room;
     enough = h.table.enough;
     words_are = h.table.words_are;
@@ -295,14 +303,14 @@ module _ {P : Type 0} (s : PlainSeat P) (d : PlainTable P) (h : Sits s d) (j fro
     load = let t = total_more vs id v a b h.mine (λ (u : Token P). length u.empty + length u.opened) in let l = h.table.load in let c = cut_fits in let e = run_length from (to - from) in omega arith;
   }
 
-  module _ (d' : PlainTable P) (views : d'.views.inner.ask ≡ parted) (slots : d'.slots ≡ d.slots) (words : d'.words ≡ d.words) (events : d'.events ≡ d.events) where
-    parted_table : IsTable d'.slots.items d'.words.items d'.events.items (vec_capacity d'.events) d'.views.inner.ask
+  module _ (d' : PlainTable P) (views : d'.views ≡ parted) (slots : d'.slots ≡ d.slots) (words : d'.words ≡ d.words) (events : d'.events ≡ d.events) where
+    parted_table : IsTable d'.slots.items d'.words.items d'.events.items (vec_capacity d'.events) d'.views
     parted_table = rw (views, slots, words, events) split_table
 
-    pub split_sits : (t : Known (Token P)) → t.inner.ask ≡ split_main s.token.inner.ask j from to n → let s' : PlainSeat P = record s { token = t } in Sits s' d'
-    split_sits t is = let v = s.token.inner.ask in let id = s.id.inner.ask in let vs = d.views.inner.ask in let a = split_main v j from to n in let b = split_off v j from to n in record {
+    pub split_sits : (t : Known (Token P)) → t ≡ split_main s.token j from to n → let s' : PlainSeat P = record s { token = t } in Sits s' d'
+    split_sits t is = let v = s.token in let id = s.id in let vs = d.views in let a = split_main v j from to n in let b = split_off v j from to n in record {
       table = parted_table;
-      mine = subst (λ l. IsAt l id t.inner.ask) (sym views) (subst (λ u. IsAt parted id u) (sym is) (more_here vs id v a b h.mine));
+      mine = subst (λ l. IsAt l id t) (sym views) (subst (λ u. IsAt parted id u) (sym is) (more_here vs id v a b h.mine));
       live = ap (λ (u : Token P). u.live) is ∙ h.live;
       by = h.by ∙ ap (λ (u : Token P). u.by) (sym is);
       held = h.held ∙ ap (λ (u : Token P). u.opened) (sym is);
@@ -310,10 +318,10 @@ module _ {P : Type 0} (s : PlainSeat P) (d : PlainTable P) (h : Sits s d) (j fro
       whole = λ m. rw slots (h.whole main);
     }
 
-    pub split_new : (o : PlainSeat P) → o.id.inner.ask ≡ length d.views.inner.ask → o.token.inner.ask ≡ split_off s.token.inner.ask j from to n → o.by ≡ Inner j → o.hands.items ≡ [] → vec_len o.hands ≡ 0 → to - from ≤ vec_capacity o.hands → Sits o d'
-    split_new o id' is by items none room = let v = s.token.inner.ask in let id = s.id.inner.ask in let vs = d.views.inner.ask in let a = split_main v j from to n in let b = split_off v j from to n in record {
+    pub split_new : (o : PlainSeat P) → o.id ≡ length d.views → o.token ≡ split_off s.token j from to n → o.by ≡ Inner j → o.hands.items ≡ [] → vec_len o.hands ≡ 0 → to - from ≤ vec_capacity o.hands → Sits o d'
+    split_new o id' is by items none room = let v = s.token in let id = s.id in let vs = d.views in let a = split_main v j from to n in let b = split_off v j from to n in record {
       table = parted_table;
-      mine = subst (λ l. IsAt l o.id.inner.ask o.token.inner.ask) (sym views) (subst (λ u. IsAt parted o.id.inner.ask u) (sym is) (subst (λ k. IsAt parted k b) (sym id') (more_last vs id v a b h.mine)));
+      mine = subst (λ l. IsAt l o.id o.token) (sym views) (subst (λ u. IsAt parted o.id u) (sym is) (subst (λ k. IsAt parted k b) (sym id') (more_last vs id v a b h.mine)));
       live = ap (λ (u : Token P). u.live) is;
       by = by ∙ ap (λ (u : Token P). u.by) (sym is);
       held = ap rows_of items ∙ ap (λ (u : Token P). u.opened) (sym is);
@@ -321,10 +329,10 @@ module _ {P : Type 0} (s : PlainSeat P) (d : PlainTable P) (h : Sits s d) (j fro
       whole = λ m. absurd (bool_not (sym (ap (λ (u : Token P). u.main) (sym is) ∙ m)));
     }
 
-    pub split_others : (x : PlainSeat P) → x.token.inner.ask.by ≢ s.token.inner.ask.by → Sits x d → Sits x d'
-    split_others x ne y = let v = s.token.inner.ask in let id = s.id.inner.ask in let vs = d.views.inner.ask in let a = split_main v j from to n in let b = split_off v j from to n in record {
+    pub split_others : (x : PlainSeat P) → x.token.by ≢ s.token.by → Sits x d → Sits x d'
+    split_others x ne y = let v = s.token in let id = s.id in let vs = d.views in let a = split_main v j from to n in let b = split_off v j from to n in record {
       table = parted_table;
-      mine = subst (λ l. IsAt l x.id.inner.ask x.token.inner.ask) (sym views) (more_else vs id v a b h.mine x.id.inner.ask x.token.inner.ask (λ e. ne (ap (λ (u : Token P). u.by) (one_at vs id x.token.inner.ask v (subst (λ n. IsAt vs n x.token.inner.ask) e y.mine) h.mine))) y.mine);
+      mine = subst (λ l. IsAt l x.id x.token) (sym views) (more_else vs id v a b h.mine x.id x.token (λ e. ne (ap (λ (u : Token P). u.by) (one_at vs id x.token v (subst (λ n. IsAt vs n x.token) e y.mine) h.mine))) y.mine);
       live = y.live;
       by = y.by;
       held = y.held;

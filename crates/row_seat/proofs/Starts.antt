@@ -95,7 +95,7 @@ module _ {P : Type 0} (by : StreamNo) (rows events : ℕ) (word : ℕ → ℕ) (
     small = λ i j r v g m. absurd (among_nil (subst (λ (z : Token P). IsAmong (j, r) z.pairs) (sym (only_one f v i g).1) m));
   }
 
-module _ {P : Type 0} (s : PlainSeat P) (d : PlainTable P) (by : StreamNo) (rows events : ℕ) (token : s.token.inner.ask ≡ first_token (by, rows, events)) (views : d.views.inner.ask ≡ first_token (by, rows, events) ∷ []) (id : s.id.inner.ask ≡ 0) (name : s.by ≡ by)
+module _ {P : Type 0} (s : PlainSeat P) (d : PlainTable P) (by : StreamNo) (rows events : ℕ) (token : s.token ≡ first_token (by, rows, events)) (views : d.views ≡ first_token (by, rows, events) ∷ []) (id : s.id ≡ 0) (name : s.by ≡ by)
     (slots : length d.slots.items ≡ rows) (words : length d.words.items ≡ rows) (zero' : (r : ℕ) → slice_index d.words.items r ≡ 0) (room : events ≤ vec_capacity d.events) (log : d.events.items ≡ []) (none : s.hands.items ≡ []) (many : rows ≤ vec_capacity s.hands) (len : vec_len s.hands ≡ 0) where
   table : IsTable d.slots.items d.words.items [] (vec_capacity d.events) (first_token (by, rows, events) ∷ [])
   table = record {
@@ -108,7 +108,7 @@ module _ {P : Type 0} (s : PlainSeat P) (d : PlainTable P) (by : StreamNo) (rows
 
   pub start_sits : Sits s d
   start_sits = record {
-    table = subst (λ l. IsTable d.slots.items d.words.items l (vec_capacity d.events) d.views.inner.ask) (sym log) (subst (λ l. IsTable d.slots.items d.words.items [] (vec_capacity d.events) l) (sym views) table);
+    table = subst (λ l. IsTable d.slots.items d.words.items l (vec_capacity d.events) d.views) (sym log) (subst (λ l. IsTable d.slots.items d.words.items [] (vec_capacity d.events) l) (sym views) table);
     mine = rw (views, id, token) refl;
     live = ap (λ (u : Token P). u.live) token;
     by = name ∙ ap (λ (u : Token P). u.by) (sym token);

@@ -15,7 +15,7 @@ use Rattle.row_seat.proofs.Pigeonholes.{pairs_below}
 use Rattle.row_seat.proofs.Rows.{is_leased}
 use Rattle.row_seat.proofs.Moves.{some_is}
 
-total_map : {V U : Type 0} (f : V → U) (g : U → ℕ) (vs : List V) → total g (map f vs) ≡ total (λ (v : V). g (f v)) vs
+pub total_map : {V U : Type 0} (f : V → U) (g : U → ℕ) (vs : List V) → total g (map f vs) ≡ total (λ (v : V). g (f v)) vs
 total_map f g [] = refl
 total_map f g (v ∷ vs) = ap (λ n. g (f v) + n) (total_map f g vs)
 

@@ -20,7 +20,7 @@ module _ {P : Type 0} where
 
   -- the seat's view
   abbrev pub shown : PlainSeat P → View P
-  shown s = seen s.token.inner.ask s.hands.items
+  shown s = seen s.token s.hands.items
 
   -- the seat with another payload in an open row
   abbrev pub lent : PlainSeat P → ℕ → P → PlainSeat P
@@ -36,20 +36,20 @@ module _ {P : Type 0} where
 
   -- the seat's view is one of the table's, and its hands have room for the rows that it may open
   pub record Sits (s : PlainSeat P) (d : PlainTable P) : Type 0 where
-    pub table : IsTable d.slots.items d.words.items d.events.items (vec_capacity d.events) d.views.inner.ask
-    pub mine : IsAt d.views.inner.ask s.id.inner.ask s.token.inner.ask
-    pub live : s.token.inner.ask.live ≡ true
-    pub by : s.by ≡ s.token.inner.ask.by
-    pub held : rows_of s.hands.items ≡ s.token.inner.ask.opened
-    pub hold : length s.token.inner.ask.empty + vec_len s.hands ≤ vec_capacity s.hands
-    pub whole : s.token.inner.ask.main ≡ true → length d.slots.items ≤ vec_capacity s.hands
+    pub table : IsTable d.slots.items d.words.items d.events.items (vec_capacity d.events) d.views
+    pub mine : IsAt d.views s.id s.token
+    pub live : s.token.live ≡ true
+    pub by : s.by ≡ s.token.by
+    pub held : rows_of s.hands.items ≡ s.token.opened
+    pub hold : length s.token.empty + vec_len s.hands ≤ vec_capacity s.hands
+    pub whole : s.token.main ≡ true → length d.slots.items ≤ vec_capacity s.hands
 
   rows_with : (r : ℕ) (w : P) (xs : List (ℕ × P)) → rows_of (with_row r w xs) ≡ rows_of xs
   rows_with r w [] = refl
   rows_with r w (x ∷ xs) = elim (eqb x.0 r) as (λ b. rows_of (cond b ((x.0, w) ∷ xs) (x ∷ with_row r w xs)) ≡ x.0 ∷ rows_of xs) [ true ↦ refl | false ↦ ap (λ l. x.0 ∷ l) (rows_with r w xs) ]
 
   pub shown_lent : (s : PlainSeat P) (r : ℕ) (w : P) → shown (lent s r w) ≡ paid (shown s) r w
-  shown_lent s r w = ap (λ xs. seen s.token.inner.ask xs) (set_spot r w s.hands.items)
+  shown_lent s r w = ap (λ xs. seen s.token xs) (set_spot r w s.hands.items)
 
   pub fitting_lent : (s : PlainSeat P) (r : ℕ) (w : P) (d : PlainTable P) → Sits s d → Sits (lent s r w) d
   fitting_lent s r w d h = record { table = h.table; mine = h.mine; live = h.live; by = h.by; held = ap rows_of (set_spot r w s.hands.items) ∙ (rows_with r w s.hands.items ∙ h.held); hold = h.hold; whole = h.whole }

@@ -119,9 +119,13 @@ module _ {P : Type 0} where
   abbrev pub handed_over : View P → ℕ → P → View P
   handed_over v r p = record v { handed = v.handed ++ r ∷ []; given = v.given ++ (r, p) ∷ [] }
 
-  -- the lease is gone. Yours: it was the last on a closed row, which is handed over with the payload that was left in it
+  -- a lease on the row r that is not for j, or its owner, holds it: it is open here, or another Lease of the seat's own covers it, whose lease stands here or whose stream has its seat out
+  abbrev pub IsHeldStill : View P → ℕ → ℕ → Type 0
+  IsHeldStill v j r = HasRow v.opened r ⊎ ((i : ℕ) × (i ≢ j) × Covers v.events i v.by r × (IsAmong (i, r) v.pairs ⊎ IsAmong i v.out))
+
+  -- the lease is gone. Stays: where the seat is the main one, the row is held still. Yours: it was the last on a closed row, which is handed over with the payload that was left in it
   abbrev pub Leaves : View P → ℕ → ℕ → Left → View P → Type 0
-  Leaves v j r Stays w = w ≡ gone v j r
+  Leaves v j r Stays w = (w ≡ gone v j r) × (v.main ≡ true → IsHeldStill v j r)
   Leaves v j r Yours w = (p : P) × (w ≡ handed_over (gone v j r) r p) × ¬ (HasRow v.opened r) × ((i : ℕ) → IsAmong (i, r) v.pairs → i ≡ j) × ((q : P) → IsAmong (r, q) v.left → q ≡ p)
 
   -- the row is open here, a Close that covers it is noted, and so is the Lease of each of its pairs here
@@ -218,4 +222,6 @@ module _ {P : Type 0} where
     pub legal : IsLegal L
     pub ended : (r : ℕ) → IsAcquired L r → IsFinalized L r
     pub canceled : (j : ℕ) → IsLeased L j → IsCanceled L j
+    -- each event is in the seat's own name or in that of a seat that was split off
+    pub names : (e : Event) → IsAmong e L → (e.by ≡ v.by) ⊎ ((n : ℕ) × (e.by ≡ Inner n) × IsAmong n v.had)
     pub payloads : (r : ℕ) → IsFinalized L r → (p : P) × IsAmong (r, p) v.left × IsAmong (r, p) v.given × ((q : P) → IsAmong (r, q) v.left → q ≡ p) × ((q : P) → IsAmong (r, q) v.given → q ≡ p)

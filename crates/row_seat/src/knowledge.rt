@@ -20,7 +20,7 @@ impl<'a, 'b, 'c, P> Says<
 > for Puts {
     ghost use Rattle.std.specs.Prelude.{slice_set};
 
-    ghost says = { λ x. slice_set x.0.now.inner.ask x.1.now.inner.ask x.2.now.inner.ask };
+    ghost says = { λ x. slice_set x.0.now x.1.now x.2.now };
 }
 
 /// The views, where the one with the number `id` is `token`.
@@ -29,7 +29,7 @@ pub fn put<P>(
     id: &Known<u64>,
     token: &Known<Token<P>>,
 ) -> Known<LinkedList<Token<P>>>
-    ensures { result.inner.ask ≡ slice_set views.now.inner.ask id.now.inner.ask token.now.inner.ask }
+    ensures { result ≡ slice_set views.now id.now token.now }
 {
     know::<
         (&Known<LinkedList<Token<P>>>, &Known<u64>, &Known<Token<P>>),
@@ -45,7 +45,7 @@ impl<'a, 'b, P> Says<(&'a Known<LinkedList<Token<P>>>, &'b Known<Token<P>>), Lin
     for Adds {
     ghost use Rattle.std.specs.Prelude.{◌++◌, ◌∷◌, []};
 
-    ghost says = { λ x. x.0.now.inner.ask ++ x.1.now.inner.ask ∷ [] };
+    ghost says = { λ x. x.0.now ++ x.1.now ∷ [] };
 }
 
 /// The views, and one more.
@@ -53,7 +53,7 @@ pub fn add<P>(
     views: &Known<LinkedList<Token<P>>>,
     token: &Known<Token<P>>,
 ) -> Known<LinkedList<Token<P>>>
-    ensures { result.inner.ask ≡ views.now.inner.ask ++ token.now.inner.ask ∷ [] }
+    ensures { result ≡ views.now ++ token.now ∷ [] }
 {
     know::<(&Known<LinkedList<Token<P>>>, &Known<Token<P>>), LinkedList<Token<P>>, Adds>(&(
         views, token,
@@ -66,7 +66,7 @@ pub struct Counts;
 impl<P> Says<Known<LinkedList<Token<P>>>, u64> for Counts {
     ghost use Rattle.std.specs.Prelude.{length};
 
-    ghost says = { λ x. length x.inner.ask };
+    ghost says = { λ x. length x };
 }
 
 /// An event is noted.
@@ -165,7 +165,7 @@ pub struct Joining;
 impl<P> Steps<Known<Token<P>>, Token<P>> for Joining {
     ghost use Rattle.row_seat.specs.Steps.{joined};
 
-    ghost next = { λ t x. joined t x.inner.ask };
+    ghost next = { λ t x. joined t x };
 }
 
 /// What is left of a seat that was taken in.
@@ -174,7 +174,7 @@ pub struct Spending;
 impl<P> Says<Known<Token<P>>, Token<P>> for Spending {
     ghost use Rattle.row_seat.specs.Steps.{spent};
 
-    ghost says = { λ x. spent x.inner.ask };
+    ghost says = { λ x. spent x };
 }
 
 /// What the first seat knows.
@@ -192,7 +192,7 @@ pub struct Alone;
 impl<P> Says<Known<Token<P>>, LinkedList<Token<P>>> for Alone {
     ghost use Rattle.std.specs.Prelude.{[], ◌∷◌};
 
-    ghost says = { λ t. t.inner.ask ∷ [] };
+    ghost says = { λ t. t ∷ [] };
 }
 
 /// The number of the first view.

@@ -34,13 +34,13 @@ module _ {P : Type 0} {ends : P → Bool → P → Type 0} {j : ℕ} where
   -- a lease on a row that was left is no longer there
   pub quits_gone : {T : List ℕ} {v w : View P} {xs : List (Spent P)} (r : ℕ) → Quits ends j T v xs w → IsAmong r T → ¬ (IsAmong (j, r) w.pairs)
   quits_gone r (done v) m h = among_nil m
-  quits_gone r (stays v q t) m h = ⊎_elim (λ e. lost_pair j q v.pairs (subst (λ z. IsAmong (j, z) (without_pair j q v.pairs)) e (quits_pairs (j, r) t h))) (λ k. quits_gone r t k h) (among_cons m)
+  quits_gone r (stays v q why t) m h = ⊎_elim (λ e. lost_pair j q v.pairs (subst (λ z. IsAmong (j, z) (without_pair j q v.pairs)) e (quits_pairs (j, r) t h))) (λ k. quits_gone r t k h) (among_cons m)
   quits_gone r (ends_so v p n x l e f t) m h = ⊎_elim (λ i. lost_pair j x.row v.pairs (subst (λ z. IsAmong (j, z) (without_pair j x.row v.pairs)) i (quits_pairs (j, r) t h))) (λ k. quits_gone r t k h) (among_cons m)
 
   -- each other lease is still there
   pub quits_others : {T : List ℕ} {v w : View P} {xs : List (Spent P)} (y : ℕ × ℕ) → Quits ends j T v xs w → ¬ ((y.0 ≡ j) × IsAmong y.1 T) → IsAmong y v.pairs → IsAmong y w.pairs
   quits_others y (done v) n h = h
-  quits_others y (stays {T = T} v r t) n h = quits_others y t (λ z. n (z.0, there r z.1)) (other_pair j r y v.pairs (λ z. n (z.0, subst (λ i. IsAmong i (r ∷ T)) (sym z.1) (here T))) h)
+  quits_others y (stays {T = T} v r why t) n h = quits_others y t (λ z. n (z.0, there r z.1)) (other_pair j r y v.pairs (λ z. n (z.0, subst (λ i. IsAmong i (r ∷ T)) (sym z.1) (here T))) h)
   quits_others y (ends_so {T = T} v p n x l e f t) no' h = quits_others y t (λ z. no' (z.0, there x.row z.1)) (other_pair j x.row y v.pairs (λ z. no' (z.0, subst (λ i. IsAmong i (x.row ∷ T)) (sym z.1) (here T))) h)
 
   -- with no others none is left
@@ -50,7 +50,7 @@ module _ {P : Type 0} {ends : P → Bool → P → Type 0} {j : ℕ} where
   -- what ends isn't open here, and no lease for another stream stands on it here
   pub quits_last : {T : List ℕ} {v w : View P} {xs : List (Spent P)} (r : ℕ) → Quits ends j T v xs w → IsAmong r (firsts (said xs)) → ¬ (HasRow v.opened r) × ((i : ℕ) → IsAmong (i, r) v.pairs → i ≡ j)
   quits_last r (done v) m = absurd (among_nil m)
-  quits_last r (stays v q t) m = let y = quits_last r t m in (y.0, λ i h. ⊎_elim (λ e. e) (λ ne. y.1 i (other_pair j q (i, r) v.pairs (λ z. ne z.0) h)) (cases_eq i j))
+  quits_last r (stays v q why t) m = let y = quits_last r t m in (y.0, λ i h. ⊎_elim (λ e. e) (λ ne. y.1 i (other_pair j q (i, r) v.pairs (λ z. ne z.0) h)) (cases_eq i j))
   quits_last r (ends_so v p n x l e f t) m = ⊎_elim
       (λ s. ((λ h. l.closed (subst (λ z. HasRow v.opened z) s h)), λ i h. l.alone i (subst (λ z. IsAmong (i, z) v.pairs) s h)))
       (λ k. let y = quits_last r t k in (y.0, λ i h. ⊎_elim (λ a. a) (λ ne. y.1 i (other_pair j x.row (i, r) v.pairs (λ z. ne z.0) h)) (cases_eq i j)))
@@ -59,7 +59,7 @@ module _ {P : Type 0} {ends : P → Bool → P → Type 0} {j : ℕ} where
   -- the finalizer of a row that ends took the payload that the seat left in it, if it left one
   pub quits_pays : {T : List ℕ} {v w : View P} {xs : List (Spent P)} (x : Spent P) → Quits ends j T v xs w → IsAmong x xs → (p : P) × ((q : P) → IsAmong (x.row, q) v.left → q ≡ p) × ends p x.ok x.pay
   quits_pays x (done v) h = absurd (among_nil h)
-  quits_pays x (stays v r t) h = quits_pays x t h
+  quits_pays x (stays v r why t) h = quits_pays x t h
   quits_pays x (ends_so v p n y l e f t) h = ⊎_elim
       (λ i. subst (λ z. (p : P) × ((q : P) → IsAmong (z.row, q) v.left → q ≡ p) × ends p z.ok z.pay) (sym i) (p, l.left, e))
       (λ i. quits_pays x t i)

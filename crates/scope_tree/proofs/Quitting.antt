@@ -116,33 +116,33 @@ module _ {P : Type 0} where
   module _ {ends : P → Bool → P → Type 0} {j : ℕ} where
     pub quits_can : {T U : List ℕ} {v w : View P} {xs : List (Spent P)} → Quits ends j T v xs w → CanLeaveAll v j (T ++ U) → CanLeaveAll w j U
     quits_can (done v) y = y
-    quits_can (stays v r t) y = quits_can t (can_stays v j r _ y)
+    quits_can (stays v r why t) y = quits_can t (can_stays v j r _ y)
     quits_can (ends_so v p n x a e f t) y = quits_can t (can_ends v j x.row p n x.ok _ a.closed y)
 
     pub quits_append : {T U : List ℕ} {v w u : View P} {xs ys : List (Spent P)} → Quits ends j T v xs w → Quits ends j U w ys u → Quits ends j (T ++ U) v (xs ++ ys) u
     quits_append (done v) s = s
-    quits_append (stays v r t) s = stays v r (quits_append t s)
+    quits_append (stays v r why t) s = stays v r why (quits_append t s)
     quits_append (ends_so v p n x a e f t) s = ends_so v p n x a e f (quits_append t s)
 
     pub quits_by : {T : List ℕ} {v w : View P} {xs : List (Spent P)} → Quits ends j T v xs w → w.by ≡ v.by
     quits_by (done v) = refl
-    quits_by (stays v r t) = quits_by t
+    quits_by (stays v r why t) = quits_by t
     quits_by (ends_so v p n x a e f t) = quits_by t
 
     pub quits_opened : {T : List ℕ} {v w : View P} {xs : List (Spent P)} → Quits ends j T v xs w → w.opened ≡ v.opened
     quits_opened (done v) = refl
-    quits_opened (stays v r t) = quits_opened t
+    quits_opened (stays v r why t) = quits_opened t
     quits_opened (ends_so v p n x a e f t) = quits_opened t
 
     -- only rows that aren't open here end
     pub quits_away : {T : List ℕ} {v w : View P} {xs : List (Spent P)} → Quits ends j T v xs w → length xs ≤ away T v.opened
     quits_away (done v) = omega arith
-    quits_away {T = _} (stays {T = T} v r t) = let l = quits_away t in let m = away_more r T v.opened in omega arith
+    quits_away {T = _} (stays {T = T} v r why t) = let l = quits_away t in let m = away_more r T v.opened in omega arith
     quits_away (ends_so {T = T} v p n x a e f t) = let l = quits_away t in let m = away_one x.row T v.opened a.closed in omega arith
 
     pub quits_spare : {T : List ℕ} {v w : View P} {xs : List (Spent P)} → Quits ends j T v xs w → v.spare ≤ w.spare + length xs
     quits_spare (done v) = omega arith
-    quits_spare (stays v r t) = quits_spare t
+    quits_spare (stays v r why t) = quits_spare t
     quits_spare (ends_so v p n x a e f t) = let c = quits_spare t in omega arith
 
     pub leaves_append : {T U : List ℕ} {v w u : View P} (a b c : List (Spent P)) → LeavesAll ends j T v a b w → LeavesAll ends j U w b c u → LeavesAll ends j (T ++ U) v a c u
@@ -157,37 +157,37 @@ module _ {P : Type 0} where
 
     pub quits_words : (k : StreamNo) {T : List ℕ} {v w : View P} {xs : List (Spent P)} → Quits ends j T v xs w → v.by ≡ k → own k w.events ≡ own k v.events ++ finals (said xs)
     quits_words k (done v) h = sym (append-nil (own k v.events))
-    quits_words k (stays v r t) h = quits_words k t h
+    quits_words k (stays v r why t) h = quits_words k t h
     quits_words k (ends_so v p n x a e f t) h =
         let y : Event = record { stamp = n; by = v.by; what = Final x.row x.ok } in
         one_more (own k v.events) _ _ _ (Final x.row x.ok) (quits_words k t h) (own_snoc k v.events y h)
 
     pub quits_noted : {k : StreamNo} {u : What} {T : List ℕ} {v w : View P} {xs : List (Spent P)} → Quits ends j T v xs w → Notes v.events k u → Notes w.events k u
     quits_noted (done v) h = h
-    quits_noted (stays v r t) h = quits_noted t h
+    quits_noted (stays v r why t) h = quits_noted t h
     quits_noted (ends_so v p n x a e f t) h = quits_noted t (noted_more v.events (record { stamp = n; by = v.by; what = Final x.row x.ok }) h)
 
     pub quits_old : {k : StreamNo} {u : What} {T : List ℕ} {v w : View P} {xs : List (Spent P)} → Quits ends j T v xs w → Notes w.events k u → Notes v.events k u ⊎ ((r : ℕ) × (ok : Bool) × (u ≡ Final r ok))
     quits_old (done v) h = inl h
-    quits_old (stays v r t) h = quits_old t h
+    quits_old (stays v r why t) h = quits_old t h
     quits_old {k = k} {u = u} (ends_so v p n x a e f t) h = ⊎_elim (λ s. ⊎_elim (λ a. inl a) (λ b. inr (x.row, x.ok, sym b.1)) (noted_snoc v.events (record { stamp = n; by = v.by; what = Final x.row x.ok }) k u s)) (λ s. inr s) (quits_old t h)
 
     pub quits_pairs : {T : List ℕ} {v w : View P} {xs : List (Spent P)} (y : ℕ × ℕ) → Quits ends j T v xs w → IsAmong y w.pairs → IsAmong y v.pairs
     quits_pairs y (done v) h = h
-    quits_pairs y (stays v r t) h = lose_pair j r y v.pairs (quits_pairs y t h)
+    quits_pairs y (stays v r why t) h = lose_pair j r y v.pairs (quits_pairs y t h)
     quits_pairs y (ends_so v p n x a e f t) h = lose_pair j x.row y v.pairs (quits_pairs y t h)
 
     pub quits_empty : {T : List ℕ} {v w : View P} {xs : List (Spent P)} → Quits ends j T v xs w → w.empty ≡ v.empty
     quits_empty (done v) = refl
-    quits_empty (stays v r t) = quits_empty t
+    quits_empty (stays v r why t) = quits_empty t
     quits_empty (ends_so v p n x a e f t) = quits_empty t
 
     pub quits_picks : {T : List ℕ} {v w : View P} {xs : List (Spent P)} → Quits ends j T v xs w → Picks IsAny (firsts (said xs)) T
     quits_picks (done v) = none
-    quits_picks (stays v r t) = pass r tt (quits_picks t)
+    quits_picks (stays v r why t) = pass r tt (quits_picks t)
     quits_picks (ends_so v p n x a e f t) = pick x.row (quits_picks t)
 
     pub quits_covers : {T : List ℕ} {v w : View P} {xs : List (Spent P)} (i : ℕ) (k : StreamNo) (r : ℕ) → Quits ends j T v xs w → Covers v.events i k r → Covers w.events i k r
     quits_covers i k r (done v) c = c
-    quits_covers i k r (stays v q t) c = quits_covers i k r t c
+    quits_covers i k r (stays v q why t) c = quits_covers i k r t c
     quits_covers i k r (ends_so v p n x a e f t) c = quits_covers i k r t (covers_more v.events (record { stamp = n; by = v.by; what = Final x.row x.ok }) c)

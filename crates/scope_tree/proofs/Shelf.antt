@@ -109,7 +109,7 @@ module _ {P : Type 0} where
 
     pub quits_shelved : {j : ℕ} {T : List ℕ} {v w : View P} {ys : List (Spent P)} (xs : List (Spent P)) → Quits ends j T v ys w → CanLeaveAll v j T → ((i r : ℕ) → IsAmong (i, r) v.pairs → ¬ (IsAmong r v.empty)) → Shelved v hs xs → Shelved w hs (xs ++ ys)
     quits_shelved xs (quit v) c a k = subst (λ l. Shelved v hs l) (sym (append-nil xs)) k
-    quits_shelved {j = j} xs (leaves v r t) c a k =
+    quits_shelved {j = j} xs (leaves v r why t) c a k =
         quits_shelved xs t (can_stays v j r _ c) (λ i q m. a i q (lose_pair j r (i, q) v.pairs m)) (record {
           said_are = k.said_are;
           distinct = k.distinct;

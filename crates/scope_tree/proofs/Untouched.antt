@@ -61,7 +61,7 @@ module _ {P : Type 0} where
 
     pub quits_untouched : {j : ℕ} {T : List ℕ} {v w : View P} {xs : List (Spent P)} → Quits ends j T v xs w → Untouched v w
     quits_untouched (quit v) = same v
-    quits_untouched {j = j} {w = w} (leaves v r t) = then v (gone v j r) w (goes v j r) (quits_untouched t)
+    quits_untouched {j = j} {w = w} (leaves v r why t) = then v (gone v j r) w (goes v j r) (quits_untouched t)
     quits_untouched {j = j} {w = w} (ends_lease v p n x l e f t) = then v (ended_lease v j x.row p n x.ok) w (end_lease v j x.row p n x.ok) (quits_untouched t)
 
     pub torn_alone : {T : List ℕ} {v w : View P} {xs : List (Spent P)} → Torn ends T v xs w → NotesAlone v → NotesAlone w
@@ -71,7 +71,7 @@ module _ {P : Type 0} where
 
     pub quits_alone : {j : ℕ} {T : List ℕ} {v w : View P} {xs : List (Spent P)} → Quits ends j T v xs w → NotesAlone v → NotesAlone w
     quits_alone (quit v) a = a
-    quits_alone (leaves v r t) a = quits_alone t a
+    quits_alone (leaves v r why t) a = quits_alone t a
     quits_alone (ends_lease v p n x l e f t) a = quits_alone t (alone_more v n _ a)
 
     -- the payloads that the seat left in rows
@@ -82,5 +82,5 @@ module _ {P : Type 0} where
 
     pub quits_left : {j : ℕ} {T : List ℕ} {v w : View P} {xs : List (Spent P)} → Quits ends j T v xs w → w.left ≡ v.left
     quits_left (quit v) = refl
-    quits_left (leaves v r t) = quits_left t
+    quits_left (leaves v r why t) = quits_left t
     quits_left (ends_lease v p n x l e f t) = quits_left t

@@ -4,7 +4,7 @@ use Rattle.res_ledger.specs.declared.event.What.TheVariants.{Cancel, Final}
 use Rattle.row_seat.specs.declared.view.View.{View}
 use Rattle.chunk_core.specs.Lists.{IsAmong}
 use Rattle.res_ledger.specs.Ledger.{Notes}
-use Rattle.row_seat.specs.Views.{HasRow, gone, handed_over, took, noted, IsFresh}
+use Rattle.row_seat.specs.Views.{HasRow, IsHeldStill, gone, handed_over, took, noted, IsFresh}
 use Rattle.scope_tree.specs.declared.branch.Spent.{Spent}
 use Rattle.scope_tree.specs.Rows.{AreDistinct}
 
@@ -46,7 +46,7 @@ module _ {P : Type 0} where
   -- from v to w the leases for j on the rows T are left in this order; xs are the rows for which it was the last lease, each taken, finished and noted before the next
   pub data Quits (ends : P → Bool → P → Type 0) (j : ℕ) : List ℕ → View P → List (Spent P) → View P → Type 0 where
     done : (v : View P) → Quits ends j [] v [] v
-    stays : {T : List ℕ} {w : View P} {xs : List (Spent P)} (v : View P) (r : ℕ) → Quits ends j T (gone v j r) xs w → Quits ends j (r ∷ T) v xs w
+    stays : {T : List ℕ} {w : View P} {xs : List (Spent P)} (v : View P) (r : ℕ) → (v.main ≡ true → IsHeldStill v j r) → Quits ends j T (gone v j r) xs w → Quits ends j (r ∷ T) v xs w
     ends_so : {T : List ℕ} {w : View P} {xs : List (Spent P)} (v : View P) (p : P) (n : ℕ) (x : Spent P) → IsLastLease v j x.row p → ends p x.ok x.pay → IsFresh v n → Quits ends j T (ended_lease v j x.row p n x.ok) xs w → Quits ends j (x.row ∷ T) v (x ∷ xs) w
 
   -- the rows T of the lease for j are left, and those that ended are put on the shelf

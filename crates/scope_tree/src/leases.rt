@@ -11,9 +11,9 @@ use row_seat::RowSeat;
 
 /// The lease of a scope for a stream. It cannot be dropped: a tree takes it in `cancel`.
 pub struct Lease {
-    pub stream: u32,
+    pub(crate) stream: u32,
     /// The rows that it covers, in the order in which they were acquired.
-    pub rows: Vec<u32>,
+    pub(crate) rows: Vec<u32>,
     ghost distinct: { are_distinct rows.items ≡ true },
 }
 

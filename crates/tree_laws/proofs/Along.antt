@@ -22,7 +22,7 @@ module _ {P : Type 0} {ends : P → Bool → P → Type 0} where
 
   quits_after : {j : ℕ} {T : List ℕ} {v w : View P} {xs : List (Spent P)} → Quits ends j T v xs w → IsAfter (folio v) (folio w)
   quits_after (quit v) = after_same (folio v)
-  quits_after (leaves v r t) = quits_after t
+  quits_after (leaves v r why t) = quits_after t
   quits_after (ends_lease v p n x l e f t) = after_then _ _ _ (after_noted v n (Final x.row x.ok) f) (quits_after t)
 
   pub called_after : {a b : Seen P} {Cs : List (ℕ × List ℕ)} → Called ends a Cs b → IsAfter (folio a.seat) (folio b.seat)

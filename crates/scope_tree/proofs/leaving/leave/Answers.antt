@@ -25,7 +25,7 @@ note-requires-clause-event g c = let y = c.in-Yours.ensures.view in rw (c.take-p
 pub returns-in-Stays-clause-left : goal.returns-in-Stays-clause-left
 returns-in-Stays-clause-left g c =
     let v = g.S.RowSeat.view c.args.seat.now in let ends = g.S.Pay.Finish.ends in let r = c.args.row in let j = c.args.stream in
-    ([], sym (append-nil c.args.shelf.now.items), subst (λ w. Quits ends j (r ∷ []) v [] w) (sym c.in-Stays.ensures.view) (stays v r (done _)))
+    ([], sym (append-nil c.args.shelf.now.items), subst (λ w. Quits ends j (r ∷ []) v [] w) (sym c.in-Stays.ensures.view.0) (stays v r c.in-Stays.ensures.view.1 (done _)))
 
 pub returns-in-Ok-clause-left : goal.returns-in-Ok-clause-left
 returns-in-Ok-clause-left g c =

@@ -12,7 +12,7 @@ untold n p = record { number = n; place = p; present = None; content = None; at 
 pub returns-clause-made : goal.returns-clause-made
 returns-clause-made c =
     let d = c.args.self.now in
-    let course : CourseTold = d.course.inner.ask in
+    let course : CourseTold = d.course in
     let place : Place = record { path = c.args.path.now; mode = c.args.mode } in
     let path = ap (λ w. let q : Place = record { path = w; mode = c.args.mode } in q) (c.in_ok-path.ensures ∙ c.as_str.ensures) in
     let device : file_told c.new-dev.result ≡ untold d.count place = c.new-dev.ensures ∙ ap (λ q. untold d.count q) path in

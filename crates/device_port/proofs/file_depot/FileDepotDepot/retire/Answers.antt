@@ -7,7 +7,7 @@ use Rattle.device_port.proofs.file_depot.FileDepotDepot.retire.Goals as goal
 pub invariant_of-self : goal.invariant_of-self
 invariant_of-self c =
     let d = c.args.self.now in
-    let course : CourseTold = d.course.inner.ask in
+    let course : CourseTold = d.course in
     let made : c.args.dev.number < d.count = subst (λ n. c.args.dev.number < n) d.counted c.requires.made in
     record {
       counted = ap (λ (t : CourseTold). length t.made) c.step.ensures ∙ d.counted;

@@ -9,15 +9,15 @@ use Rattle.row_seat.proofs.plain.PlainSeatRowSeat.join.Goals as goal
 pub returns-clause-fits : goal.returns-clause-fits
 returns-clause-fits g c = let s = c.args.self.now in let o = c.args.other in let d = c.args.desk.now in let f = c.requires.fits in let can = c.requires.can in
     let rest = can.2 in
-    let views : c.put.result.inner.ask ≡ slice_set (slice_set d.views.inner.ask s.id.inner.ask (joined s.token.inner.ask o.token.inner.ask)) o.id.inner.ask (spent o.token.inner.ask) = rw (c.put.ensures, c.put-views.ensures, c.step.ensures, c.know-spent.ensures) refl in
+    let views : c.put.result ≡ slice_set (slice_set d.views s.id (joined s.token o.token)) o.id (spent o.token) = rw (c.put.ensures, c.put-views.ensures, c.step.ensures, c.know-spent.ensures) refl in
     join_sits s o d f.0 f.1 can.0 can.1.0 can.1.1 can.1.2 (sym f.1.held ∙ ap rows_of rest.0) rest.2 rest.3 rest.4 _ views refl refl refl c.step.result c.step.ensures
 
 pub returns-clause-others : goal.returns-clause-others
 returns-clause-others g c = let s = c.args.self.now in let o = c.args.other in let d = c.args.desk.now in let f = c.requires.fits in let can = c.requires.can in
     let rest = can.2 in
-    let views : c.put.result.inner.ask ≡ slice_set (slice_set d.views.inner.ask s.id.inner.ask (joined s.token.inner.ask o.token.inner.ask)) o.id.inner.ask (spent o.token.inner.ask) = rw (c.put.ensures, c.put-views.ensures, c.step.ensures, c.know-spent.ensures) refl in
+    let views : c.put.result ≡ slice_set (slice_set d.views s.id (joined s.token o.token)) o.id (spent o.token) = rw (c.put.ensures, c.put-views.ensures, c.step.ensures, c.know-spent.ensures) refl in
     join_others s o d f.0 f.1 can.0 can.1.0 can.1.1 can.1.2 (sym f.1.held ∙ ap rows_of rest.0) rest.2 rest.3 rest.4 _ views refl refl refl
 
 pub returns-clause-apart : goal.returns-clause-apart
 returns-clause-apart g c = let s = c.args.self.now in let o = c.args.other in let d = c.args.desk.now in let f = c.requires.fits in let can = c.requires.can in
-    seats_apart (length d.slots.items) f.0.table.room (λ r. slice_index d.words.items r) (λ r. slice_index_or d.slots.items r None) d.events.items d.views.inner.ask f.0.table.rule s.id.inner.ask s.token.inner.ask f.0.mine can.0 o.id.inner.ask o.token.inner.ask f.1.mine f.1.live can.1.0 can.1.1 can.1.2 s.hands.items o.hands.items
+    seats_apart (length d.slots.items) f.0.table.room (λ r. slice_index d.words.items r) (λ r. slice_index_or d.slots.items r None) d.events.items d.views f.0.table.rule s.id s.token f.0.mine can.0 o.id o.token f.1.mine f.1.live can.1.0 can.1.1 can.1.2 s.hands.items o.hands.items

@@ -12,14 +12,14 @@ index_mut-requires g c = let s = c.args.self.now in let d = c.args.desk.now in l
     let b = inside_empty s d h c.args.row c.requires.row.0 in let e = d.words.ok.0 in let f = h.table.words_are in omega arith
 
 pub returns-clause-fits : goal.returns-clause-fits
-returns-clause-fits g c = let s = c.args.self.now in let d = c.args.desk.now in let h = c.requires.fits in let row = c.args.row in let v = s.token.inner.ask in let w = placed v row in
-    let t = place_table d.slots.items d.words.items d.events.items (vec_capacity d.events) d.views.inner.ask h.table s.id.inner.ask v h.mine h.live row c.requires.row.1.0 c.requires.row.0 c.requires.row.1.1 in
-    sits_put s d h w (c.put.ensures ∙ ap (λ t. slice_set d.views.inner.ask s.id.inner.ask t) c.step.ensures) t refl refl c.step.ensures h.live h.by
+returns-clause-fits g c = let s = c.args.self.now in let d = c.args.desk.now in let h = c.requires.fits in let row = c.args.row in let v = s.token in let w = placed v row in
+    let t = place_table d.slots.items d.words.items d.events.items (vec_capacity d.events) d.views h.table s.id v h.mine h.live row c.requires.row.1.0 c.requires.row.0 c.requires.row.1.1 in
+    sits_put s d h w (c.put.ensures ∙ ap (λ t. slice_set d.views s.id t) c.step.ensures) t refl refl c.step.ensures h.live h.by
     (ap rows_of c.in-Ok.ensures.items ∙ (map_push (λ (x : ℕ × g.row.P.Denot). x.0) s.hands.items (row, c.args.pay) ∙ ap (λ l. l ++ row ∷ []) h.held))
     (let l = length_without row v.empty c.requires.row.0 in let m = h.hold in let n = c.in-Ok.ensures.len in let k = c.push.ensures.capacity in omega arith)
     (λ m. let a = h.whole m in let k = c.push.ensures.capacity in omega arith)
 
 pub returns-clause-others : goal.returns-clause-others
-returns-clause-others g c = let s = c.args.self.now in let d = c.args.desk.now in let h = c.requires.fits in let row = c.args.row in let v = s.token.inner.ask in let w = placed v row in
-    let t = place_table d.slots.items d.words.items d.events.items (vec_capacity d.events) d.views.inner.ask h.table s.id.inner.ask v h.mine h.live row c.requires.row.1.0 c.requires.row.0 c.requires.row.1.1 in
-    others_put s d h w (c.put.ensures ∙ ap (λ t. slice_set d.views.inner.ask s.id.inner.ask t) c.step.ensures) t refl
+returns-clause-others g c = let s = c.args.self.now in let d = c.args.desk.now in let h = c.requires.fits in let row = c.args.row in let v = s.token in let w = placed v row in
+    let t = place_table d.slots.items d.words.items d.events.items (vec_capacity d.events) d.views h.table s.id v h.mine h.live row c.requires.row.1.0 c.requires.row.0 c.requires.row.1.1 in
+    others_put s d h w (c.put.ensures ∙ ap (λ t. slice_set d.views s.id t) c.step.ensures) t refl
