@@ -32,6 +32,7 @@ fresh depot place = record {
   is_open = false;
   opens = 0;
   closes = 0;
+  exit = None;
   open_faults = 0;
   read_faults = 0;
   write_faults = 0;

@@ -1,5 +1,6 @@
 -- What a device tells.
-use Rattle.std.specs.Prelude.{ℕ, ◌+◌, Bool, true, false, List, ◌++◌, Option, option_map}
+use Rattle.std.specs.Prelude.{ℕ, ◌+◌, Bool, true, false, List, ◌++◌, Option, Some, option_map}
+use Rattle.chunk_core.specs.declared.code.Exit.{Exit}
 use Rattle.device_port.specs.declared.device.Mode.{Mode}
 use Rattle.device_port.specs.declared.device.Mode.TheVariants as mode
 
@@ -18,7 +19,8 @@ pub record Place : Type 0 where
   pub path : List ℕ
   pub mode : Mode
 
--- `present` says whether the path was there when the device was made; `at` is where it reads on
+-- `present` says whether the path was there when the device was made; `at` is where it reads on;
+-- `exit` is how what used the device ended, told by the close
 pub record DeviceTold : Type 0 where
   pub number : ℕ
   pub place : Place
@@ -29,6 +31,7 @@ pub record DeviceTold : Type 0 where
   pub is_open : Bool
   pub opens : ℕ
   pub closes : ℕ
+  pub exit : Option Exit
   pub open_faults : ℕ
   pub read_faults : ℕ
   pub write_faults : ℕ
@@ -45,6 +48,6 @@ moved n d = record d { at = d.at + n }
 abbrev pub with_written : DeviceTold → List ℕ → DeviceTold
 with_written d bytes = record d { written = option_map (λ w. w ++ bytes) d.written }
 
--- closed once more
-abbrev pub shut : DeviceTold → DeviceTold
-shut d = record d { is_open = false; closes = d.closes + 1 }
+-- closed once more, with this exit
+abbrev pub shut : Exit → DeviceTold → DeviceTold
+shut exit d = record d { is_open = false; closes = d.closes + 1; exit = Some exit }

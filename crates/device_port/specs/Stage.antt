@@ -1,6 +1,8 @@
 -- How far a device has come, as numbers.
-use Rattle.std.specs.Prelude.{◌≡◌, ℕ, Bool, true, false, refl}
+use Rattle.std.specs.Prelude.{◌≡◌, ℕ, Bool, true, false, Option, None, Some, refl}
 use Rattle.std.proofs.lemmas.Bool.{false≢true}
+use Rattle.std.proofs.Math.Nat.{suc-ne-zero}
+use Rattle.chunk_core.specs.declared.code.Exit.{Exit}
 use Rattle.device_port.specs.declared.record.Stage.{Stage}
 use Rattle.device_port.specs.declared.record.Stage.TheVariants as stage
 
@@ -8,33 +10,47 @@ use Rattle.device_port.specs.declared.record.Stage.TheVariants as stage
 abbrev pub is_open_at : Stage → Bool
 is_open_at stage.Unopened = false
 is_open_at stage.Open = true
-is_open_at stage.Closed = false
-is_open_at stage.ClosedBadly = false
+is_open_at (stage.Closed exit) = false
+is_open_at (stage.ClosedBadly exit) = false
 
 -- how often it was opened
 abbrev pub opens_of : Stage → ℕ
 opens_of stage.Unopened = 0
 opens_of stage.Open = 1
-opens_of stage.Closed = 1
-opens_of stage.ClosedBadly = 1
+opens_of (stage.Closed exit) = 1
+opens_of (stage.ClosedBadly exit) = 1
 
 -- how often it was closed
 abbrev pub closes_of : Stage → ℕ
 closes_of stage.Unopened = 0
 closes_of stage.Open = 0
-closes_of stage.Closed = 1
-closes_of stage.ClosedBadly = 1
+closes_of (stage.Closed exit) = 1
+closes_of (stage.ClosedBadly exit) = 1
+
+-- how what used it ended, where it was closed
+abbrev pub exit_at : Stage → Option Exit
+exit_at stage.Unopened = None
+exit_at stage.Open = None
+exit_at (stage.Closed exit) = Some exit
+exit_at (stage.ClosedBadly exit) = Some exit
 
 -- how often closing it failed
 abbrev pub close_faults_of : Stage → ℕ
 close_faults_of stage.Unopened = 0
 close_faults_of stage.Open = 0
-close_faults_of stage.Closed = 0
-close_faults_of stage.ClosedBadly = 1
+close_faults_of (stage.Closed exit) = 0
+close_faults_of (stage.ClosedBadly exit) = 1
 
 -- an open device was opened once and never closed
 pub open_once_at : (s : Stage) → is_open_at s ≡ true → (opens_of s ≡ 1) × (closes_of s ≡ 0) × (close_faults_of s ≡ 0)
 open_once_at stage.Unopened h = absurd (false≢true h)
 open_once_at stage.Open h = (refl, refl, refl)
-open_once_at stage.Closed h = absurd (false≢true h)
-open_once_at stage.ClosedBadly h = absurd (false≢true h)
+open_once_at (stage.Closed exit) h = absurd (false≢true h)
+open_once_at (stage.ClosedBadly exit) h = absurd (false≢true h)
+
+-- never closed, so without an exit
+pub no_exit_at : (s : Stage) → closes_of s ≡ 0 → exit_at s ≡ None
+no_exit_at stage.Unopened h = refl
+no_exit_at stage.Open h = refl
+no_exit_at (stage.Closed exit) h = absurd (suc-ne-zero 0 h)
+no_exit_at (stage.ClosedBadly exit) h = absurd (suc-ne-zero 0 h)

@@ -1,5 +1,6 @@
 //! One file that is read or written, opened once and closed once.
 use crate::Failed;
+use chunk_core::Exit;
 
 /// What a device is for.
 #[derive(Clone, Copy, Debug, PartialEq, Eq)]
@@ -11,7 +12,7 @@ pub enum Mode {
 /// One file that is read or written. Each act has a count of its faults, which rises by one
 /// exactly where a call of that act fails; a call changes nothing that it isn't said to change.
 pub trait Device {
-    ghost use Rattle.std.specs.Prelude.{◌≡◌, ◌+◌, ◌-◌, ◌^◌, ◌<◌, ◌≤◌, true, false, length, take, drop, Some, IfOk, OnOk, OnErr, IsErr, IfSome};
+    ghost use Rattle.std.specs.Prelude.{◌≡◌, ◌+◌, ◌-◌, ◌^◌, ◌<◌, ◌≤◌, true, false, length, take, drop, Some, None, IfOk, OnOk, OnErr, IsErr, IfSome};
     ghost use Rattle.device_port.specs.Device.{DeviceTold, moved, with_written, shut};
     ghost use Rattle.device_port.specs.declared.device.Mode.TheVariants as mode;
 
@@ -56,12 +57,16 @@ pub trait Device {
         ensures ok { IfOk result (λ n. told self.new ≡ with_written (told self.old) (take n bytes.now)) }
         ensures failed { OnErr result (told self.new ≡ record (told self.old) { write_faults = (told self.old).write_faults + 1 }) };
 
-    /// Closes an open device. It is closed afterwards also where the call fails.
-    fn close(&mut self) -> Result<(), Failed>
+    /// Closes an open device, and keeps how what used it ended. It is closed afterwards also
+    /// where the call fails.
+    fn close(&mut self, exit: Exit) -> Result<(), Failed>
         requires open { (told self.old).is_open ≡ true }
-        ensures ok { OnOk result (told self.new ≡ shut (told self.old)) }
-        ensures failed { OnErr result (told self.new ≡ record (shut (told self.old)) { close_faults = 1 }) };
+        ensures ok { OnOk result (told self.new ≡ shut exit (told self.old)) }
+        ensures failed { OnErr result (told self.new ≡ record (shut exit (told self.old)) { close_faults = 1 }) };
 
     /// An open device was opened once and never closed.
     ghost open_once: { (d : Self) → (told d).is_open ≡ true → ((told d).opens ≡ 1) × ((told d).closes ≡ 0) × ((told d).close_faults ≡ 0) };
+
+    /// A device that was never closed has no exit.
+    ghost no_exit: { (d : Self) → (told d).closes ≡ 0 → (told d).exit ≡ None };
 }

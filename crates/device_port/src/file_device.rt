@@ -4,7 +4,7 @@ ghost use Rattle.device_port.specs.Real.{file_told};
 
 use crate::real::{read_some, write_some};
 use crate::{Device, Failed, Mode, Stage};
-use chunk_core::Word;
+use chunk_core::{Exit, Word};
 use std::fs::File;
 use std::rt::Files;
 
@@ -13,7 +13,7 @@ use std::rt::Files;
 enum Held {
     Unopened,
     Open(File),
-    Closed,
+    Closed(Exit),
 }
 
 /// A real file. It is made by a `FileDepot`.
@@ -35,7 +35,7 @@ impl FileDevice {
 
     /// A device that was never opened.
     pub(crate) fn new(rt: HostRuntime, number: u64, path: Word, mode: Mode) -> FileDevice
-        ensures { file_told result ≡ record { number = number; place = record { path = path; mode = mode }; present = None; content = None; at = 0; written = None; is_open = false; opens = 0; closes = 0; open_faults = 0; read_faults = 0; write_faults = 0; close_faults = 0 } }
+        ensures { file_told result ≡ record { number = number; place = record { path = path; mode = mode }; present = None; content = None; at = 0; written = None; is_open = false; opens = 0; closes = 0; exit = None; open_faults = 0; read_faults = 0; write_faults = 0; close_faults = 0 } }
     {
         FileDevice {
             rt,
@@ -53,11 +53,13 @@ impl FileDevice {
 
 impl Device for FileDevice {
     ghost use Rattle.device_port.specs.Real.{file_told, stage_of};
-    ghost use Rattle.device_port.specs.Stage.{open_once_at};
+    ghost use Rattle.device_port.specs.Stage.{open_once_at, no_exit_at};
 
     ghost told = { file_told };
 
     ghost open_once = { λ d. open_once_at (stage_of d.held) };
+
+    ghost no_exit = { λ d. no_exit_at (stage_of d.held) };
 
     fn number(&self) -> u64 {
         self.number
@@ -116,8 +118,8 @@ impl Device for FileDevice {
 
     /// The file is closed by dropping it. The operating system's answer is lost then, since the
     /// standard library has no close that tells it: closing a real file never fails here.
-    fn close(&mut self) -> Result<(), Failed> {
-        let Held::Open(file) = std::mem::replace(&mut self.held, Held::Closed) else {
+    fn close(&mut self, exit: Exit) -> Result<(), Failed> {
+        let Held::Open(file) = std::mem::replace(&mut self.held, Held::Closed(exit)) else {
             unreachable!()
         };
         drop(file);

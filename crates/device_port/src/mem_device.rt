@@ -8,6 +8,7 @@ use crate::calls::ActCalls;
 use crate::mem::copy_front;
 use crate::record::{Record, Stage};
 use crate::{Device, Failed, Mode};
+use chunk_core::Exit;
 
 /// A device in memory. It is made by a depot in memory.
 #[derive(Drop)]
@@ -42,11 +43,13 @@ impl MemDevice {
 
 impl Device for MemDevice {
     ghost use Rattle.device_port.specs.Records.{record_told};
-    ghost use Rattle.device_port.specs.Stage.{open_once_at};
+    ghost use Rattle.device_port.specs.Stage.{open_once_at, no_exit_at};
 
     ghost told = { λ d. record_told d.facts };
 
     ghost open_once = { λ d. open_once_at d.facts.stage };
+
+    ghost no_exit = { λ d. no_exit_at d.facts.stage };
 
     fn number(&self) -> u64 {
         self.facts.number
@@ -122,19 +125,19 @@ impl Device for MemDevice {
         Ok(bytes.len())
     }
 
-    fn close(&mut self) -> Result<(), Failed>
+    fn close(&mut self, exit: Exit) -> Result<(), Failed>
         requires open { (record_told self.old.facts).is_open ≡ true }
-        ensures ok { OnOk result (record_told self.new.facts ≡ shut (record_told self.old.facts)) }
-        ensures failed { OnErr result (record_told self.new.facts ≡ record (shut (record_told self.old.facts)) { close_faults = 1 }) }
+        ensures ok { OnOk result (record_told self.new.facts ≡ shut exit (record_told self.old.facts)) }
+        ensures failed { OnErr result (record_told self.new.facts ≡ record (shut exit (record_told self.old.facts)) { close_faults = 1 }) }
         ensures named { IsErr result ↔ IsTrue (is_next_named self.old.calls.closes) }
         ensures starved { self.new.facts.starved ≡ self.old.facts.starved }
         ensures counted { self.new.calls ≡ record self.old.calls { closes = counted self.old.calls.closes } }
     {
         if self.calls.closes.fails_next() {
-            self.facts.stage = Stage::ClosedBadly;
+            self.facts.stage = Stage::ClosedBadly(exit);
             return Err(Failed);
         }
-        self.facts.stage = Stage::Closed;
+        self.facts.stage = Stage::Closed(exit);
         Ok(())
     }
 }

@@ -1,18 +1,18 @@
 //! What a device has come to.
 ghost use Rattle.std.specs.Prelude.{◌≡◌, ◌≤◌};
-ghost use Rattle.device_port.specs.Stage.{opens_of, closes_of, close_faults_of, is_open_at};
+ghost use Rattle.device_port.specs.Stage.{opens_of, closes_of, exit_at, close_faults_of, is_open_at};
 
 use crate::Mode;
-use chunk_core::Word;
+use chunk_core::{Exit, Word};
 
 /// How far a device has come.
 #[derive(Clone, Copy, Debug, PartialEq, Eq)]
 pub enum Stage {
     Unopened,
     Open,
-    Closed,
+    Closed(Exit),
     /// It was closed, and the close failed.
-    ClosedBadly,
+    ClosedBadly(Exit),
 }
 
 impl Stage {
@@ -45,12 +45,22 @@ impl Stage {
         }
     }
 
+    /// How what used the device ended, where it was closed.
+    pub fn exit(self) -> Option<Exit>
+        ensures { result ≡ exit_at self }
+    {
+        match self {
+            Stage::Unopened | Stage::Open => None,
+            Stage::Closed(exit) | Stage::ClosedBadly(exit) => Some(exit),
+        }
+    }
+
     /// How often closing it failed.
     pub fn close_faults(self) -> u64
         ensures { result ≡ close_faults_of self }
     {
         match self {
-            Stage::ClosedBadly => 1,
+            Stage::ClosedBadly(_) => 1,
             _ => 0,
         }
     }
@@ -94,6 +104,13 @@ impl Record {
         ensures { result ≡ (record_told self.now).closes }
     {
         self.stage.closes()
+    }
+
+    /// How what used the device ended, where it was closed.
+    pub fn exit(&self) -> Option<Exit>
+        ensures { result ≡ (record_told self.now).exit }
+    {
+        self.stage.exit()
     }
 
     /// How often closing the device failed.

@@ -3,7 +3,7 @@ ghost use Rattle.std.specs.Prelude.{◌≡◌, ◌<◌, false, length};
 ghost use Rattle.device_port.specs.declared.device.Mode.TheVariants as mode;
 
 use crate::*;
-use chunk_core::{Line, List, Word};
+use chunk_core::{Exit, Line, List, Word};
 use std::alloc::{AllocError, Global};
 use std::test::Fail;
 
@@ -56,7 +56,7 @@ fn write_once<V: Device>(dev: &mut V, bytes: &[u8]) -> bool
         return false;
     }
     let written = dev.write(bytes).is_ok();
-    dev.close().is_ok() && written
+    dev.close(Exit::Succeeded).is_ok() && written
 }
 
 /// Opens the device, reads once and closes it, as far as that goes.
@@ -71,7 +71,7 @@ fn read_once<V: Device>(dev: &mut V, buf: &mut [u8]) -> Option<usize>
         return None;
     }
     let count = dev.read(buf).ok();
-    if dev.close().is_err() {
+    if dev.close(Exit::Canceled).is_err() {
         return None;
     }
     count
@@ -119,9 +119,9 @@ fn depot_stores_what_came_back(rt: HostRuntime) -> Result<(), Fail> {
     assert_eq!(rt; depot.file("d"), None);
     assert_eq!(rt; depot.made().len(), 5);
     let mut stages = depot.retired().iter().map(|record| record.stage);
-    assert_eq!(rt; stages.next(), Some(Stage::Closed));
+    assert_eq!(rt; stages.next(), Some(Stage::Closed(Exit::Canceled)));
     assert_eq!(rt; stages.next(), Some(Stage::Unopened));
-    assert_eq!(rt; stages.last(), Some(Stage::ClosedBadly));
+    assert_eq!(rt; stages.last(), Some(Stage::ClosedBadly(Exit::Succeeded)));
     Ok(())
 }
 

@@ -7,7 +7,7 @@ use Rattle.device_port.proofs.file_depot.FileDepotDepot.make.Goals as goal
 
 -- a device that tells no content and was just made
 abbrev untold : ℕ → Place → DeviceTold
-untold n p = record { number = n; place = p; present = None; content = None; at = 0; written = None; is_open = false; opens = 0; closes = 0; open_faults = 0; read_faults = 0; write_faults = 0; close_faults = 0 }
+untold n p = record { number = n; place = p; present = None; content = None; at = 0; written = None; is_open = false; opens = 0; closes = 0; exit = None; open_faults = 0; read_faults = 0; write_faults = 0; close_faults = 0 }
 
 pub returns-clause-made : goal.returns-clause-made
 returns-clause-made c =
