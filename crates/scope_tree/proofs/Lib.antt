@@ -7,10 +7,7 @@ pub mod Facts
 pub mod Beneath
 pub mod Keeps
 pub mod Untouched
-pub mod Outcomes
 pub mod Departures
-pub mod Waits
-pub mod Finished
 pub mod Grows
 pub mod Use
 pub mod Covered
@@ -25,9 +22,6 @@ pub mod Leasing
 pub mod Parting
 pub mod Statuses
 pub mod Leased
-pub mod Chain
 pub mod Tidy
 pub mod Lent
-pub mod ThreeRows
-pub mod Endings
-pub mod Visits
+pub mod Owed

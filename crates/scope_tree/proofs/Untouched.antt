@@ -1,17 +1,21 @@
 -- What taking rows down, and leaving the rows of a lease, keep of a view.
-use Rattle.std.proofs.Common.{◌≡◌, ℕ, Bool, List, refl, ap, ◌∙◌, ⊎_elim}
-use Rattle.chunk_core.specs.Lists.{IsAmong}
-use Rattle.chunk_core.proofs.Members.{among_left, among_snoc}
-use Rattle.res_ledger.specs.declared.event.Event.{Event}
+use Rattle.std.proofs.Common.{◌≡◌, ℕ, Bool, List, refl, sym, ◌∙◌, subst}
 use Rattle.res_ledger.specs.declared.event.What.{What}
+use Rattle.res_ledger.specs.declared.event.What.TheVariants.{Close}
+use Rattle.res_ledger.specs.Ledger.{IsClosed, Notes}
+use Rattle.res_ledger.proofs.Growth.{noted_more}
 use Rattle.row_seat.specs.declared.view.View.{View}
 use Rattle.row_seat.specs.Views.{gone, noted, shut}
 use Rattle.scope_tree.specs.declared.branch.Spent.{Spent}
-use Rattle.scope_tree.specs.Waiting.{NotesAlone}
+use Rattle.scope_tree.specs.Calls.{Cancels, Closes, IsClosedScope, Seen}
 use Rattle.scope_tree.specs.Torn.{Torn, ended}
 use Rattle.scope_tree.specs.Torn.Torn.{done, stays, ends_so}
 use Rattle.scope_tree.specs.Leaving.{Quits, ended_lease}
 use Rattle.scope_tree.specs.Leaving.Quits.{done as quit, stays as leaves, ends_so as ends_lease}
+use Rattle.scope_tree.specs.Words.{canceling}
+use Rattle.scope_tree.proofs.Facts.{torn_pairs}
+use Rattle.scope_tree.proofs.Keeps.{within_map}
+use Rattle.scope_tree.proofs.Quitting.{quits_noted}
 
 module _ {P : Type 0} where
   -- w is the seat v, with the same empty rows, the same leases kept, and the same seats out
@@ -50,9 +54,6 @@ module _ {P : Type 0} where
   end_lease : (v : View P) (j r : ℕ) (p : P) (n : ℕ) (ok : Bool) → Untouched v (ended_lease v j r p n ok)
   end_lease v j r p n ok = record { by = refl; main = refl; empty = refl; kept = refl; had = refl; out = refl; splits = refl }
 
-  pub alone_more : (v : View P) (n : ℕ) (w : What) → NotesAlone v → NotesAlone (noted v (record { stamp = n; by = v.by; what = w }))
-  alone_more v n w a = λ e m. ⊎_elim (λ i. a e i) (λ i. ap (λ (y : Event). y.by) i) (among_snoc v.events e (record { stamp = n; by = v.by; what = w }) m)
-
   module _ {ends : P → Bool → P → Type 0} where
     pub torn_untouched : {T : List ℕ} {v w : View P} {xs : List (Spent P)} → Torn ends T v xs w → Untouched v w
     torn_untouched (done v) = same v
@@ -64,23 +65,18 @@ module _ {P : Type 0} where
     quits_untouched {j = j} {w = w} (leaves v r why t) = then v (gone v j r) w (goes v j r) (quits_untouched t)
     quits_untouched {j = j} {w = w} (ends_lease v p n x l e f t) = then v (ended_lease v j x.row p n x.ok) w (end_lease v j x.row p n x.ok) (quits_untouched t)
 
-    pub torn_alone : {T : List ℕ} {v w : View P} {xs : List (Spent P)} → Torn ends T v xs w → NotesAlone v → NotesAlone w
-    torn_alone (done v) a = a
-    torn_alone (stays v r p m st t) a = torn_alone t a
-    torn_alone (ends_so v p n x m l e f t) a = torn_alone t (alone_more v n _ a)
+  -- the close of a scope keeps the leases, and all of the seat but its events, its open rows and its payloads
+  pub close_untouched : {ends : P → Bool → P → Type 0} {a b : Seen P} {s : ℕ} → Closes ends a s b → Untouched a.seat b.seat
+  close_untouched c = let u = torn_untouched c.torn.2 in record { by = u.by; main = u.main; empty = u.empty; kept = u.kept; had = u.had; out = u.out; splits = u.splits }
 
-    pub quits_alone : {j : ℕ} {T : List ℕ} {v w : View P} {xs : List (Spent P)} → Quits ends j T v xs w → NotesAlone v → NotesAlone w
-    quits_alone (quit v) a = a
-    quits_alone (leaves v r why t) a = quits_alone t a
-    quits_alone (ends_lease v p n x l e f t) a = quits_alone t (alone_more v n _ a)
+  pub close_pairs : {ends : P → Bool → P → Type 0} {a b : Seen P} {s : ℕ} → Closes ends a s b → b.seat.pairs ≡ a.seat.pairs
+  close_pairs c = torn_pairs c.torn.2
 
-    -- the payloads that the seat left in rows
-    pub torn_left : {T : List ℕ} {v w : View P} {xs : List (Spent P)} (y : ℕ × P) → Torn ends T v xs w → IsAmong y v.left → IsAmong y w.left
-    torn_left y (done v) h = h
-    torn_left y (stays v r p m st t) h = torn_left y t (among_left _ h)
-    torn_left y (ends_so v p n x m a e f t) h = torn_left y t (among_left _ h)
+  module _ {ends : P → Bool → P → Type 0} {a b : Seen P} {j : ℕ} {T : List ℕ} (c : Cancels ends a j T b) where
+    pub cancel_untouched : Untouched (noted a.seat (canceling a.seat j c.stamp)) b.seat
+    cancel_untouched = quits_untouched c.left.2
 
-    pub quits_left : {j : ℕ} {T : List ℕ} {v w : View P} {xs : List (Spent P)} → Quits ends j T v xs w → w.left ≡ v.left
-    quits_left (quit v) = refl
-    quits_left (leaves v r why t) = quits_left t
-    quits_left (ends_lease v p n x l e f t) = quits_left t
+    pub cancel_closed : (s : ℕ) → IsClosedScope a s → IsClosedScope b s
+    cancel_closed s x =
+        let up : (w : What) → Notes a.seat.events a.seat.by w → Notes b.seat.events a.seat.by w = λ w n. quits_noted c.left.2 (noted_more a.seat.events (canceling a.seat j c.stamp) n) in
+        subst (λ k. IsClosed b.seat.events k s) (sym cancel_untouched.by) (x.0, within_map up x.1, up (Close x.0) x.2)

@@ -1,5 +1,5 @@
 -- What callers read off the clauses of a tree.
-use Rattle.std.proofs.Common.{flat_map, ◌≡◌, ℕ, ◌⊎◌, Bool, List, [], ◌∷◌, ◌++◌, inl, inr, refl, sym, ap, ◌∙◌, subst, ⊎_elim, append_assoc}
+use Rattle.std.proofs.Common.{flat_map, ◌≡◌, ℕ, ◌+◌, ◌⊎◌, Bool, List, [], ◌∷◌, ◌++◌, length, inl, inr, refl, sym, ap, ◌∙◌, subst, ⊎_elim, append_assoc}
 use Rattle.res_ledger.specs.Ledger.LiesWithin.{same}
 use Rattle.res_ledger.specs.declared.event.StreamNo.{StreamNo}
 use Rattle.res_ledger.specs.declared.event.What.{What}
@@ -21,7 +21,7 @@ use Rattle.scope_tree.specs.Walks.FirstOpen.{this_one, above_it}
 use Rattle.scope_tree.specs.Torn.{said}
 use Rattle.scope_tree.specs.Rows.{lifo}
 use Rattle.scope_tree.proofs.Quitting.{quits_by, quits_words, quits_picks}
-use Rattle.scope_tree.specs.Calls.{Seen, Opens, Acquires, Closes, Cancels, Leases}
+use Rattle.scope_tree.specs.Calls.{AtStart, Seen, Opens, Acquires, Closes, Cancels, Leases}
 use Rattle.scope_tree.specs.Words.{words, canceling, opening, acquiring, closing, leasing}
 use Rattle.scope_tree.proofs.Bridge.{own_snoc, noted_in, in_noted, closes_in, in_opens}
 use Rattle.scope_tree.proofs.Facts.{torn_words, torn_picks}
@@ -107,3 +107,17 @@ first_is n (above_it c p q x o f) = absurd (n x)
 pub closed_now : {P : Type 0} {ends : P → Bool → P → Type 0} {a b : Seen P} {s : ℕ} → Closes ends a s b → IsClosed b.seat.events b.seat.by s
 closed_now {a = a} {b = b} {s = s} c =
     (s, same s, in_noted b.seat.by (Close s) b.seat.events (subst (λ E. IsAmong (Close s) E) (sym (closed_said c)) (among_mid (words a.seat) (finals (said c.torn.0)) (Close s))))
+
+module _ {P : Type 0} where
+  -- what the first calls of a tree say
+  pub start_said : (v w : View P) → AtStart v → w ≡ v → words w ≡ []
+  start_said v w a e = ap words e ∙ ap (own v.by) a.events
+
+  pub open_number : {a b : Seen P} {c : ℕ} → words a.seat ≡ [] → Opens a 0 c b → c ≡ 1
+  open_number w o = o.number ∙ ap (λ E. length (opens E) + 1) w
+
+  pub open_one : {a b : Seen P} {c : ℕ} → words a.seat ≡ [] → Opens a 0 c b → words b.seat ≡ Open 1 0 ∷ []
+  open_one {a = a} {c = c} w o = opened_said o ∙ ap (λ E. E ++ Open c o.parent ∷ []) w ∙ ap (λ n. Open c n ∷ []) (first_is (all_open a.seat 0 (ap closes w) (inl refl)).1 o.nearest) ∙ ap (λ n. Open n 0 ∷ []) (open_number w o)
+
+  pub acquire_more : {a b : Seen P} {s r : ℕ} {p : P} {E : List What} → words a.seat ≡ E → Acquires a s r p b → words b.seat ≡ E ++ Acquire r s ∷ []
+  acquire_more {s = s} {r = r} w o = acquired_said o ∙ ap (λ E. E ++ Acquire r s ∷ []) w

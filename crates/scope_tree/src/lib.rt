@@ -6,19 +6,13 @@
 #![tactic(auto)]
 
 pub mod branch;
-#[cfg(test)]
-mod guests;
 pub mod laws;
 mod leases;
 mod leaving;
 pub mod room;
 mod rows;
-#[cfg(test)]
-mod scripts;
 mod tear;
 pub mod tree;
-#[cfg(test)]
-mod uses;
 mod walk;
 
 pub use branch::{Finish, Spent, Standing};

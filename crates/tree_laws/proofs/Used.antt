@@ -5,8 +5,7 @@ use Rattle.chunk_core.specs.Lists.IsAmong.{here}
 use Rattle.res_ledger.specs.Own.{closes, opens}
 use Rattle.scope_tree.specs.Calls.{Acquires, AtStart, Closes, IsOpenScope, Opens, Seen}
 use Rattle.scope_tree.specs.Words.{words}
-use Rattle.scope_tree.proofs.Chain.{acquire_more, open_number, open_one, start_said}
-use Rattle.scope_tree.proofs.Use.{all_open}
+use Rattle.scope_tree.proofs.Use.{acquire_more, open_number, open_one, start_said, all_open}
 use Rattle.tree_laws.specs.Alone.{StaysAlone}
 use Rattle.tree_laws.specs.Called.{Called}
 use Rattle.tree_laws.specs.Called.Called.{none, opened, acquired, closed}

@@ -1,0 +1,4 @@
+pub mod Waiting
+pub mod Scripts
+pub mod Uses
+pub mod Guests

@@ -1,0 +1,269 @@
+//! Scripts of calls over the seat of one stream, with the ledgers that they leave.
+ghost use Rattle.std.specs.Prelude.{◌≡◌, ◌≢◌, ◌+◌, ◌≤◌, IfOk, IfErr};
+ghost use Rattle.chunk_core.specs.Lists.{IsAmong};
+ghost use Rattle.res_ledger.specs.Ledger.{IsLeased};
+ghost use Rattle.res_ledger.specs.declared.event.StreamNo.TheVariants.{Inner, Outer};
+ghost use Rattle.row_seat.specs.PlainSeats.{Sits, shown};
+ghost use Rattle.row_seat.specs.Views.{start};
+ghost use Rattle.scope_tree.specs.Calls.{IsOpenScope};
+ghost use Rattle.tree_scripts.specs.Scripts.{IsReopened, IsRootLeased, IsThree, IsThreeOfSome};
+ghost use Rattle.scope_tree.specs.Trees.{Fits, seen};
+ghost use Rattle.tree_scripts.specs.Waiting.{Finishes, IsAlone, LeasesAndCloses, Settles, Waits};
+ghost use Rattle.scope_tree.specs.Words.{owed};
+
+use chunk_core::List;
+use res_ledger::{Ledger, StreamNo, text};
+use row_seat::{PlainSeat, PlainTable, RowSeat};
+use scope_tree::{Finish, Lease, Room, Spent, Standing, Tree};
+use std::alloc::{AllocError, Global};
+use std::test::Fail;
+
+/// Three rows in three scopes, each below the other.
+pub fn three_rows<S: RowSeat>(
+    seat: S,
+    room: Room<S::Pay>,
+    desk: &mut S::Desk,
+    first: S::Pay,
+    second: S::Pay,
+    third: S::Pay,
+) -> Tree<S>
+where
+    S::Pay: Finish,
+    requires fits { S.fits seat desk.old }
+    requires start { S.view seat ≡ start Outer 3 16 }
+    requires room { (room.scopes ≡ 4) × (room.rows ≡ 3) }
+    ensures three { IsThree (seen S.view result) first second third }
+    ensures fits { Fits S.view S.fits result desk.new }
+{
+    let mut tree = Tree::new(seat, room);
+    tree.acquired(desk, 0, 0, first);
+    tree.open(desk, 0);
+    tree.acquired(desk, 1, 1, second);
+    tree.open(desk, 1);
+    tree.acquired(desk, 2, 2, third);
+    tree
+}
+
+/// Leases a scope for a stream, and closes the root.
+pub fn lease_and_close<S: RowSeat>(
+    alloc: Global,
+    tree: &mut Tree<S>,
+    desk: &mut S::Desk,
+    scope: u32,
+    stream: u32,
+) -> Result<Lease, AllocError>
+where
+    S::Pay: Finish,
+    requires fits { Fits S.view S.fits tree.old desk.old }
+    requires alone { IsAlone (S.view tree.old.seat) }
+    requires scope { IsOpenScope (seen S.view tree.old) scope }
+    requires stream { ((S.view tree.old.seat).by ≢ Inner stream) × ¬ (IsAmong stream (S.view tree.old.seat).had) × ¬ (IsLeased (S.view tree.old.seat).events stream) }
+    requires free { owed (S.view tree.old.seat) + 2 ≤ (S.view tree.old.seat).spare }
+    ensures calls { IfOk result (λ lease. (lease.stream ≡ stream) × LeasesAndCloses S.Pay.ends (seen S.view tree.old) scope stream lease.rows.items (seen S.view tree.new)) }
+    ensures waits { IfOk result (λ lease. Waits (seen S.view tree.new) lease.stream lease.rows.items) }
+    ensures err { IfErr result (λ _. seen S.view tree.new ≡ seen S.view tree.old) }
+    ensures fits { Fits S.view S.fits tree.new desk.new }
+{
+    let lease = tree.lease(alloc, desk, scope, stream)?;
+    tree.close(desk, 0);
+    Ok(lease)
+}
+
+/// Cancels the lease, ends the tree and finishes its seat.
+pub fn cancel_and_finish<S: RowSeat>(
+    mut tree: Tree<S>,
+    desk: &mut S::Desk,
+    lease: Lease,
+) -> (Ledger, List<Spent<S::Pay>>)
+where
+    S::Pay: Finish,
+    requires fits { Fits S.view S.fits tree desk.old }
+    requires waits { Waits (seen S.view tree) lease.stream lease.rows.items }
+    ensures { Settles S.Pay.ends (seen S.view tree) lease.stream lease.rows.items result.0 result.1 }
+{
+    tree.cancel(desk, lease);
+    let (seat, shelf) = tree.end();
+    (seat.finish(desk), shelf)
+}
+
+/// Closes the root, ends the tree and finishes its seat.
+pub fn close_and_finish<S: RowSeat>(
+    mut tree: Tree<S>,
+    desk: &mut S::Desk,
+) -> (Ledger, List<Spent<S::Pay>>)
+where
+    S::Pay: Finish,
+    requires fits { Fits S.view S.fits tree desk.old }
+    requires alone { IsAlone (S.view tree.seat) }
+    requires root { IsOpenScope (seen S.view tree) 0 }
+    ensures { Finishes S.Pay.ends (seen S.view tree) result.0 result.1 }
+{
+    tree.close(desk, 0);
+    let (seat, shelf) = tree.end();
+    (seat.finish(desk), shelf)
+}
+
+/// The root is leased, which covers its row and its child's, and closed before the lease is
+/// cancelled: the row below them ends with the root.
+pub fn lease_the_root<S: RowSeat>(
+    alloc: Global,
+    seat: S,
+    room: Room<S::Pay>,
+    desk: &mut S::Desk,
+    first: S::Pay,
+    second: S::Pay,
+    third: S::Pay,
+) -> Result<(Ledger, List<Spent<S::Pay>>), AllocError>
+where
+    S::Pay: Finish + Drop,
+    requires fits { S.fits seat desk.old }
+    requires start { S.view seat ≡ start Outer 3 16 }
+    requires room { (room.scopes ≡ 4) × (room.rows ≡ 3) }
+    ensures { IfOk result (λ x. IsRootLeased S.Pay.ends first second third x.0 x.1) }
+{
+    let mut tree = three_rows(seat, room, desk, first, second, third);
+    match lease_and_close(alloc, &mut tree, desk, 0, 5) {
+        Ok(lease) => Ok(cancel_and_finish(tree, desk, lease)),
+        Err(error) => {
+            close_and_finish(tree, desk);
+            Err(error)
+        }
+    }
+}
+
+/// Closes the child of the root, and opens a scope at the one below it, which is closed by then.
+pub fn close_and_open<S: RowSeat>(tree: &mut Tree<S>, desk: &mut S::Desk) -> u32
+where
+    S::Pay: Finish,
+    requires fits { Fits S.view S.fits tree.old desk.old }
+    requires three { IsThreeOfSome (seen S.view tree.old) }
+    ensures number { result ≡ 3 }
+    ensures reopened { IsReopened (seen S.view tree.new) }
+    ensures fits { Fits S.view S.fits tree.new desk.new }
+{
+    tree.close(desk, 1);
+    tree.open(desk, 2)
+}
+
+/// A payload whose finalizer succeeds where it says so.
+#[derive(Drop, Clone, Copy)]
+pub struct Coin {
+    pub good: bool,
+}
+
+impl Finish for Coin {
+    ghost use Rattle.std.specs.Prelude.{◌≡◌};
+
+    ghost ends = { λ p ok q. (ok ≡ p.good) × (q ≡ p) };
+
+    fn finish(&mut self) -> bool {
+        self.good
+    }
+}
+
+/// The row in the middle has this outcome, the two others succeed.
+pub fn three_coins(
+    alloc: Global,
+    middle: bool,
+) -> Result<(Tree<PlainSeat<Coin>>, PlainTable<Coin>), AllocError>
+    ensures three { IfOk result (λ t. IsThreeOfSome (seen shown t.0)) }
+    ensures fits { IfOk result (λ t. Fits shown Sits t.0 t.1) }
+{
+    let (seat, mut desk) = PlainSeat::new(alloc, StreamNo::Outer, 3, 16)?;
+    let room = Room::new(alloc, 4, 3)?;
+    let good = Coin { good: true };
+    let tree = three_rows(seat, room, &mut desk, good, Coin { good: middle }, good);
+    Ok((tree, desk))
+}
+
+#[test]
+fn closes_the_root_of_a_plain_seat(rt: HostRuntime) -> Result<(), Fail> {
+    let (mut tree, mut desk) = three_coins(rt.alloc(), false)?;
+    tree.close(&mut desk, 0);
+    assert!(rt; tree.status(2) == Standing::Final(true));
+    assert!(rt; tree.status(1) == Standing::Final(false));
+    let (_, shelf) = tree.end();
+    assert_eq!(rt; shelf.len(), 3);
+    Ok(())
+}
+
+#[test]
+fn leased_rows_wait_for_the_lease(rt: HostRuntime) -> Result<(), Fail> {
+    let (mut tree, mut desk) = three_coins(rt.alloc(), true)?;
+    let lease = lease_and_close(rt.alloc(), &mut tree, &mut desk, 1, 5).expect(&rt, "memory");
+    assert!(rt; tree.status(1) == Standing::Left);
+    let (ledger, _) = cancel_and_finish(tree, &mut desk, lease);
+    let printed = text(rt.alloc(), &ledger)?;
+    assert_eq!(rt;
+        printed.as_slice(),
+        b"ledger 11
+outer acquire 0 0
+outer open 1 0
+outer acquire 1 1
+outer open 2 1
+outer acquire 2 2
+outer lease 5 1
+outer close 0
+outer cancel 5
+outer final 2 ok
+outer final 1 ok
+outer final 0 ok
+"
+            .as_slice()
+    );
+    Ok(())
+}
+
+#[test]
+fn a_row_that_no_lease_covers_ends_at_once(rt: HostRuntime) -> Result<(), Fail> {
+    let (seat, mut desk) = PlainSeat::new(rt.alloc(), StreamNo::Outer, 3, 16)?;
+    let room = Room::new(rt.alloc(), 4, 3)?;
+    let good = Coin { good: true };
+    let (ledger, _) = lease_the_root(rt.alloc(), seat, room, &mut desk, good, good, good)?;
+    let printed = text(rt.alloc(), &ledger)?;
+    assert_eq!(rt;
+        printed.as_slice(),
+        b"ledger 11
+outer acquire 0 0
+outer open 1 0
+outer acquire 1 1
+outer open 2 1
+outer acquire 2 2
+outer lease 5 0
+outer close 0
+outer final 2 ok
+outer cancel 5
+outer final 1 ok
+outer final 0 ok
+"
+            .as_slice()
+    );
+    Ok(())
+}
+
+#[test]
+fn a_scope_at_a_closed_one_is_opened_above_it(rt: HostRuntime) -> Result<(), Fail> {
+    let (mut tree, mut desk) = three_coins(rt.alloc(), true)?;
+    let scope = close_and_open(&mut tree, &mut desk);
+    assert_eq!(rt; scope, 3);
+    let (ledger, _) = close_and_finish(tree, &mut desk);
+    let printed = text(rt.alloc(), &ledger)?;
+    assert_eq!(rt;
+        printed.as_slice(),
+        b"ledger 11
+outer acquire 0 0
+outer open 1 0
+outer acquire 1 1
+outer open 2 1
+outer acquire 2 2
+outer close 1
+outer final 2 ok
+outer final 1 ok
+outer open 3 0
+outer close 0
+outer final 0 ok
+"
+            .as_slice()
+    );
+    Ok(())
+}
