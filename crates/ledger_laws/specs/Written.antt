@@ -1,16 +1,11 @@
 -- Ledgers that are written out.
-use Rattle.std.specs.Prelude.{ℕ, ◌+◌, List, [], ◌∷◌}
+use Rattle.std.specs.Prelude.{List}
 use Rattle.res_ledger.specs.declared.event.StreamNo.{StreamNo}
 use Rattle.res_ledger.specs.declared.event.What.{What}
 use Rattle.res_ledger.specs.declared.event.Event.{Event}
-use Rattle.res_ledger.specs.Ledger.{IsLegal}
+use Rattle.res_ledger.specs.Ledger.{IsLegal, stamped}
 use Rattle.res_ledger.specs.Order.{IsOrdered}
 use Rattle.res_ledger.specs.Whole.{IsComplete}
-
--- the events with stamps from n on
-abbrev pub stamped : ℕ → List (StreamNo × What) → List Event
-stamped n [] = []
-stamped n (x ∷ xs) = record { stamp = n; by = x.0; what = x.1 } ∷ stamped (n + 1) xs
 
 -- the ledger that notes these events
 abbrev pub written : List (StreamNo × What) → List Event

@@ -1,5 +1,5 @@
 //! Ledgers that are legal, complete and ordered.
-ghost use Rattle.ledger_laws.specs.Worked.{stream_goes_on_after_its_cancel, child_closed_first, failed_finalizer, lease_on_the_middle, lease_on_the_root, nothing_acquired, one_row, row_kept_by_a_lease, rows_of_a_leased_stream, stream_never_started, three_scopes_at_once, two_rows};
+ghost use Rattle.ledger_laws.specs.Worked.{stream_goes_on_after_its_cancel, child_closed_first, failed_finalizer, lease_on_the_middle, lease_on_the_root, nothing_acquired, one_row, reader_is_stopped, row_kept_by_a_lease, rows_of_a_leased_stream, stream_never_started, three_scopes_at_once, two_rows};
 ghost use Rattle.ledger_laws.specs.Written.{IsRight};
 
 /// Ledgers of runs that went right.
@@ -8,6 +8,7 @@ pub fn right_ledgers()
     ensures is_failed_finalizer { IsRight failed_finalizer }
     ensures is_nothing_acquired { IsRight nothing_acquired }
     ensures is_row_kept_by_a_lease { IsRight row_kept_by_a_lease }
+    ensures is_reader_is_stopped { IsRight reader_is_stopped }
     ensures is_two_rows { IsRight two_rows }
     ensures is_rows_of_a_leased_stream { IsRight rows_of_a_leased_stream }
     ensures is_child_closed_first { IsRight child_closed_first }

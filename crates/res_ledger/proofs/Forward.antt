@@ -47,9 +47,9 @@ never_goes_back P Q r Finalized Finalized h x y = omega arith
 -- a row that is finalized by one event was handed before
 handed_before : (P : List Event) (e : Event) (r : ℕ) → IsLegal (P ++ e ∷ []) → ¬ (IsFinalized P r) → IsFinalized (P ++ e ∷ []) r → IsHanded P r
 handed_before P e r h n f = ⊎_elim
-    (λ m. absurd (n (f.0, f.1, (f.2.0, m, f.2.2, f.2.3))))
-    (λ q. let w : MayFollow P e.by (what.Final r f.1) = subst (λ x. MayFollow P e.by x) (ap (λ x. x.what) (sym q) ∙ f.2.3) (h P [] e refl) in w.0)
-    (among_snoc P f.2.0 e f.2.1)
+    (λ m. absurd (n (f.0, f.1, (f.2.0, (f.2.1.0, m, f.2.1.2, f.2.1.3)))))
+    (λ q. let w : MayFollow P e.by (what.Final r f.2.0 f.1) = subst (λ x. MayFollow P e.by x) (ap (λ x. x.what) (sym q) ∙ f.2.1.3) (h P [] e refl) in w.0)
+    (among_snoc P f.2.1.0 e f.2.1.1)
 
 pub goes_forward : StandingGoesForward
 goes_forward P e r Open Open h x y = λ q. cc

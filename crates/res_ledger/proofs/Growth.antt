@@ -1,5 +1,6 @@
 -- What one more event leaves as it was.
 use Rattle.std.proofs.Common.{◌≡◌, ℕ, Bool, List, [], ◌∷◌, ◌++◌, ◌⊎◌, length, inl, inr, refl, sym, ap, ◌∙◌, subst, ⊎_elim}
+use Rattle.chunk_core.specs.declared.code.Exit.{Exit}
 use Rattle.res_ledger.specs.declared.event.Event.{Event}
 use Rattle.res_ledger.specs.declared.event.What.TheVariants.{Final}
 use Rattle.res_ledger.specs.Ledger.{IsClosed, IsFinalized, IsLegal, IsRowClosed, IsStamped, LiesWithin, MayFollow, Notes}
@@ -32,13 +33,13 @@ module _ (L : List Event) (e : Event) where
   within_more (below s p a n w) = below s p a (noted_more n) (within_more w)
 
   pub closed_more : {k : StreamNo} {s : ℕ} → IsClosed L k s → IsClosed (L ++ e ∷ []) k s
-  closed_more c = (c.0, within_more c.1, noted_more c.2)
+  closed_more c = (c.0, within_more c.1, (c.2.0, noted_more c.2.1))
 
   pub row_closed_more : {r : ℕ} → IsRowClosed L r → IsRowClosed (L ++ e ∷ []) r
   row_closed_more c = (c.0, c.1, noted_more c.2, closed_more c.3)
 
   pub finalized_more : {r : ℕ} → IsFinalized L r → IsFinalized (L ++ e ∷ []) r
-  finalized_more f = (f.0, f.1, noted_more f.2)
+  finalized_more f = (f.0, f.1, (f.2.0, noted_more f.2.1))
 
-  pub finalized_snoc : (r : ℕ) → IsFinalized (L ++ e ∷ []) r → IsFinalized L r ⊎ ((ok : Bool) × (e.what ≡ Final r ok))
-  finalized_snoc r f = ⊎_elim (λ m. inl (f.0, f.1, m)) (λ s. inr (f.1, s.1)) (noted_snoc f.0 (Final r f.1) f.2)
+  pub finalized_snoc : (r : ℕ) → IsFinalized (L ++ e ∷ []) r → IsFinalized L r ⊎ ((x : Exit) × (ok : Bool) × (e.what ≡ Final r x ok))
+  finalized_snoc r f = ⊎_elim (λ m. inl (f.0, f.1, (f.2.0, m))) (λ s. inr (f.2.0, f.1, s.1)) (noted_snoc f.0 (Final r f.2.0 f.1) f.2.1)

@@ -5,12 +5,13 @@ use Rattle.chunk_core.specs.Lists.{IsAmong}
 use Rattle.std.specs.List.{list_any as any, list_all as all}
 use Rattle.chunk_core.specs.Lists.IsAmong.{here}
 use Rattle.chunk_core.proofs.Members.{among_mid}
+use Rattle.chunk_core.specs.declared.code.Exit.{Exit}
 use Rattle.res_ledger.specs.declared.event.StreamNo.{StreamNo}
 use Rattle.res_ledger.specs.declared.event.StreamNo.TheVariants.{Inner}
 use Rattle.res_ledger.specs.declared.event.What.{What}
 use Rattle.res_ledger.specs.declared.event.What.TheVariants.{Open, Acquire, Lease, Cancel, Close, Final}
 use Rattle.res_ledger.specs.declared.event.Event.{Event}
-use Rattle.res_ledger.specs.Ledger.{Notes, IsOpened, IsUsable, IsAcquired, IsFinalized, IsLeased, IsCanceled, Covers, IsRowClosed, IsHanded, MayFollow, IsLegal}
+use Rattle.res_ledger.specs.Ledger.{Notes, NotesCancel, IsOpened, IsUsable, IsAcquired, IsFinalized, IsLeased, IsCanceled, Covers, IsRowClosed, IsHanded, MayFollow, IsLegal}
 use Rattle.res_ledger.specs.Own.{own, opens, rows, rows_of, leased_of, canceled_of, has, is_closed}
 use Rattle.res_ledger.specs.Streams.{same_stream}
 use Rattle.res_ledger.specs.Order.{covered_by}
@@ -67,16 +68,16 @@ leased_found : (P : List Event) (j : ℕ) → IsLeased P j → is_leased P j ≡
 leased_found P j o = noted_at (λ w. any (is_of j) (leased_of w)) P o.0 (Lease j o.1) o.2 (or_left (nat_eq j j) false (itself j))
 
 canceled_in : (P : List Event) (j : ℕ) → is_noted (is_cancel j) P ≡ true → IsCanceled P j
-canceled_in P j h = let f = noted_found (is_cancel j) P h in (f.0, (f.2.0, f.2.1, f.2.2, f.2.3 ∙ is_cancel_shape j f.1 f.3))
+canceled_in P j h = let f = noted_found (is_cancel j) P h in let g = is_cancel_shape j f.1 f.3 in (f.0, (g.0, (f.2.0, f.2.1, f.2.2, f.2.3 ∙ g.1)))
 
 pub canceled_found : (P : List Event) (j : ℕ) → IsCanceled P j → is_noted (is_cancel j) P ≡ true
-canceled_found P j c = noted_at (is_cancel j) P c.0 (Cancel j) c.1 (itself j)
+canceled_found P j c = noted_at (is_cancel j) P c.0 (Cancel j c.1.0) c.1.1 (itself j)
 
 pub final_in : (P : List Event) (r : ℕ) → is_noted (is_final r) P ≡ true → IsFinalized P r
-final_in P r h = let f = noted_found (is_final r) P h in let g = is_final_shape r f.1 f.3 in (f.0, g.0, (f.2.0, f.2.1, f.2.2, f.2.3 ∙ g.1))
+final_in P r h = let f = noted_found (is_final r) P h in let g = is_final_shape r f.1 f.3 in (f.0, g.1, (g.0, (f.2.0, f.2.1, f.2.2, f.2.3 ∙ g.2)))
 
 pub final_found : (P : List Event) (r : ℕ) → IsFinalized P r → is_noted (is_final r) P ≡ true
-final_found P r f = noted_at (is_final r) P f.0 (Final r f.1) f.2 (itself r)
+final_found P r f = noted_at (is_final r) P f.0 (Final r f.2.0 f.1) f.2.1 (itself r)
 
 usable_sound : (P : List Event) → IsLegal P → (k : StreamNo) (s : ℕ) → is_usable (own k P) s ≡ true → IsUsable P k s
 usable_sound P l k s h =
@@ -141,14 +142,14 @@ handed_found P l r h =
     and_true (is_row_closed P r) (is_released P P r && not (is_noted (is_final r) P)) (row_closed_found P l r h.0)
     (and_true (is_released P P r) (not (is_noted (is_final r) P)) (released_found P l P r h.1) (fails (is_noted (is_final r) P) (λ f. h.2 (final_in P r f))))
 
-inherited_sound : (P : List Event) → IsLegal P → (k : StreamNo) (r : ℕ) → is_inherited P k r ≡ true → (j : ℕ) × (q : StreamNo) × Covers P j q r × Notes P k (Cancel j)
+inherited_sound : (P : List Event) → IsLegal P → (k : StreamNo) (r : ℕ) → is_inherited P k r ≡ true → (j : ℕ) × (q : StreamNo) × Covers P j q r × NotesCancel P k j
 inherited_sound P l k r h =
     let f = any_found (λ j. has r (covered_by P j)) (flat_map canceled_of (own k P)) h in
     let c = covered_by_sound P l f.0 r (has_in r (covered_by P f.0) f.2) in
     (f.0, c.0, c.1, canceled_notes P k f.0 f.1)
 
-inherited_found : (P : List Event) → IsLegal P → (k : StreamNo) (r j : ℕ) (q : StreamNo) → Covers P j q r → Notes P k (Cancel j) → is_inherited P k r ≡ true
-inherited_found P l k r j q c n = any_at (λ j. has r (covered_by P j)) j (flat_map canceled_of (own k P)) (flat_holds canceled_of (Cancel j) (own k P) j (notes_own P k (Cancel j) n) (here [])) (in_has r (covered_by P j) (covered_by_found P l j r q c))
+inherited_found : (P : List Event) → IsLegal P → (k : StreamNo) (r j : ℕ) (q : StreamNo) → Covers P j q r → NotesCancel P k j → is_inherited P k r ≡ true
+inherited_found P l k r j q c n = any_at (λ j. has r (covered_by P j)) j (flat_map canceled_of (own k P)) (flat_holds canceled_of (Cancel j n.0) (own k P) j (notes_own P k (Cancel j n.0) n.1) (here [])) (in_has r (covered_by P j) (covered_by_found P l j r q c))
 
 -- who may cancel the lease for j
 abbrev Cancels : List Event → StreamNo → ℕ → Type 0
@@ -188,12 +189,12 @@ may_follow_sound P l k (Lease j s) h =
     let a = both (not (is_leased P j)) (not (same_stream k (Inner j)) && is_usable (own k P) s) h in
     let b = both (not (same_stream k (Inner j))) (is_usable (own k P) s) a.1 in
     (λ o. no (is_leased P j) a.0 (leased_found P j o), λ e. no (same_stream k (Inner j)) b.0 (subst (λ x. same_stream x (Inner j) ≡ true) (sym e) (named (Inner j))), usable_sound P l k s b.1)
-may_follow_sound P l k (Cancel j) h =
+may_follow_sound P l k (Cancel j x) h =
     let a = both (is_leased P j) (not (is_noted (is_cancel j) P) && (is_finished P k j || is_unstarted P k j)) h in
     let b = both (not (is_noted (is_cancel j) P)) (is_finished P k j || is_unstarted P k j) a.1 in
     (leased_in P j a.0, λ o. no (is_noted (is_cancel j) P) b.0 (canceled_found P j o), cancels_sound P k j b.1)
-may_follow_sound P l k (Close s) h = usable_sound P l k s h
-may_follow_sound P l k (Final r ok) h =
+may_follow_sound P l k (Close s x) h = usable_sound P l k s h
+may_follow_sound P l k (Final r x ok) h =
     let a = both (is_handed P r) (any (is_of r) (rows (own k P)) || is_inherited P k r) h in (
       handed_sound P l r a.0,
       elim (either (any (is_of r) (rows (own k P))) (is_inherited P k r) a.1) [
@@ -202,7 +203,7 @@ may_follow_sound P l k (Final r ok) h =
       ],
     )
 
-ender_found : (P : List Event) → IsLegal P → (k : StreamNo) (r : ℕ) → ((s : ℕ) × Notes P k (Acquire r s)) ⊎ ((j : ℕ) × (q : StreamNo) × Covers P j q r × Notes P k (Cancel j)) → (any (is_of r) (rows (own k P)) || is_inherited P k r) ≡ true
+ender_found : (P : List Event) → IsLegal P → (k : StreamNo) (r : ℕ) → ((s : ℕ) × Notes P k (Acquire r s)) ⊎ ((j : ℕ) × (q : StreamNo) × Covers P j q r × NotesCancel P k j) → (any (is_of r) (rows (own k P)) || is_inherited P k r) ≡ true
 ender_found P l k r (inl a) = let q : ℕ × ℕ = (r, a.0) in or_left (any (is_of r) (rows (own k P))) (is_inherited P k r) (any_at (is_of r) q (rows (own k P)) (notes_rows P k r a.0 a.1) (itself r))
 ender_found P l k r (inr a) = or_right (any (is_of r) (rows (own k P))) (is_inherited P k r) (inherited_found P l k r a.0 a.1 a.2 a.3)
 
@@ -214,11 +215,11 @@ may_follow_found P l k (Acquire r s) m = and_true (not (is_acquired P r)) (is_us
 may_follow_found P l k (Lease j s) m =
     and_true (not (is_leased P j)) (not (same_stream k (Inner j)) && is_usable (own k P) s) (fails (is_leased P j) (λ h. m.0 (leased_in P j h)))
     (and_true (not (same_stream k (Inner j))) (is_usable (own k P) s) (fails (same_stream k (Inner j)) (λ h. m.1 (name k (Inner j) h))) (usable_found P k s m.2))
-may_follow_found P l k (Cancel j) m =
+may_follow_found P l k (Cancel j x) m =
     and_true (is_leased P j) (not (is_noted (is_cancel j) P) && (is_finished P k j || is_unstarted P k j)) (leased_found P j m.0)
     (and_true (not (is_noted (is_cancel j) P)) (is_finished P k j || is_unstarted P k j) (fails (is_noted (is_cancel j) P) (λ h. m.1 (canceled_in P j h))) (cancels_found P k j m.2))
-may_follow_found P l k (Close s) m = usable_found P k s m
-may_follow_found P l k (Final r ok) m = and_true (is_handed P r) (any (is_of r) (rows (own k P)) || is_inherited P k r) (handed_found P l r m.0) (ender_found P l k r m.1)
+may_follow_found P l k (Close s x) m = usable_found P k s m
+may_follow_found P l k (Final r x ok) m = and_true (is_handed P r) (any (is_of r) (rows (own k P)) || is_inherited P k r) (handed_found P l r m.0) (ender_found P l k r m.1)
 
 legal_from : (P Q : List Event) → IsLegal P → each_after (λ P e. may_follow P e.by e.what) P Q ≡ true → IsLegal (P ++ Q)
 legal_from P [] l h = subst IsLegal (sym (append-nil P)) l
@@ -246,11 +247,11 @@ pub complete_sound : (L : List Event) → IsLegal L → is_complete L ≡ true �
 complete_sound L l h =
     let b = both (all (λ e. is_answered L e.by e.what) L) (each_after (λ P e. is_late L P e.what) [] L) h in
     let row = λ (k : StreamNo) (r s : ℕ) (n : Notes L k (Acquire r s)). both (nat_eq (final_count r L) 1) (is_closed (own k L) 0) (answered_at L k (Acquire r s) b.0 n) in
-    let late = λ (P Q : List Event) (e : Event) (r : ℕ) (ok : Bool) (q : L ≡ P ++ e ∷ Q) (w : e.what ≡ Final r ok). both (is_row_closed P r) (is_released L P r) (subst (λ x. is_late L P x ≡ true) w (each_event (λ P e. is_late L P e.what) L P Q e b.1 q)) in
+    let late = λ (P Q : List Event) (e : Event) (r : ℕ) (x : Exit) (ok : Bool) (q : L ≡ P ++ e ∷ Q) (w : e.what ≡ Final r x ok). both (is_row_closed P r) (is_released L P r) (subst (λ v. is_late L P v ≡ true) w (each_event (λ P e. is_late L P e.what) L P Q e b.1 q)) in
     record {
       finalized_once = λ k r s n. number (final_count r L) 1 (row k r s n).0;
-      after_close = λ P Q e r ok q w. row_closed_sound P r (late P Q e r ok q w).0;
-      after_leases = λ P Q e r ok q w. released_sound L l P r (late P Q e r ok q w).1;
+      after_close = λ P Q e r x ok q w. row_closed_sound P r (late P Q e r x ok q w).0;
+      after_leases = λ P Q e r x ok q w. released_sound L l P r (late P Q e r x ok q w).1;
       canceled_once = λ k j s n. number (cancel_count j L) 1 (answered_at L k (Lease j s) b.0 n);
       scopes_closed = λ k s p n. closed_sound L k s (answered_at L k (Open s p) b.0 n);
       roots_closed = λ k r s n. closed_sound L k 0 (row k r s n).1;
@@ -263,18 +264,12 @@ answered_found : (L : List Event) → IsLegal L → IsComplete L → (k : Stream
 answered_found L l c k (Open s p) n = closed_found L l k s (c.scopes_closed k s p n)
 answered_found L l c k (Acquire r s) n = and_true (nat_eq (final_count r L) 1) (is_closed (own k L) 0) (one (final_count r L) (c.finalized_once k r s n)) (closed_found L l k 0 (c.roots_closed k r s n))
 answered_found L l c k (Lease j s) n = one (cancel_count j L) (c.canceled_once k j s n)
-answered_found L l c k (Cancel j) n = refl
-answered_found L l c k (Close s) n = refl
-answered_found L l c k (Final r ok) n = refl
+answered_found L l c k w n = refl
 
 late_found : (L : List Event) → IsLegal L → IsComplete L → (A B : List Event) (e : Event) (w : What) → L ≡ A ++ e ∷ B → e.what ≡ w → is_late L A w ≡ true
-late_found L l c A B e (Open s p) q i = refl
-late_found L l c A B e (Acquire r s) q i = refl
-late_found L l c A B e (Lease j s) q i = refl
-late_found L l c A B e (Cancel j) q i = refl
-late_found L l c A B e (Close s) q i = refl
-late_found L l c A B e (Final r ok) q i =
-    and_true (is_row_closed A r) (is_released L A r) (row_closed_found A (front_legal A (e ∷ B) (subst IsLegal q l)) r (c.after_close A B e r ok q i)) (released_found L l A r (c.after_leases A B e r ok q i))
+late_found L l c A B e (Final r x ok) q i =
+    and_true (is_row_closed A r) (is_released L A r) (row_closed_found A (front_legal A (e ∷ B) (subst IsLegal q l)) r (c.after_close A B e r x ok q i)) (released_found L l A r (c.after_leases A B e r x ok q i))
+late_found L l c A B e w q i = refl
 
 -- the test of completeness accepts what is complete
 pub complete_found : (L : List Event) → IsLegal L → IsComplete L → is_complete L ≡ true

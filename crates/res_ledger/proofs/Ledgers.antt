@@ -7,6 +7,7 @@ use Rattle.res_ledger.specs.declared.event.Event.{Event}
 use Rattle.res_ledger.specs.Streams.{HasRight, by_stream, same_stream}
 use Rattle.res_ledger.specs.declared.event.StreamNo.TheVariants.{Inner, Outer}
 use Rattle.chunk_core.specs.Lists.{IsAmong}
+use Rattle.chunk_core.specs.declared.code.Exit.{Exit}
 use Rattle.res_ledger.specs.declared.event.StreamNo.{StreamNo}
 use Rattle.res_ledger.specs.declared.event.What.{What}
 use Rattle.chunk_core.proofs.Members.{among_cons, among_left, among_mid, among_nil}
@@ -72,7 +73,7 @@ module _ (L M : List Event) (k : StreamNo) (f : (w : What) → Notes L k w → N
   within_map (below s p a n w) = below s p a (f (Open s p) n) (within_map w)
 
   pub closed_map : (s : ℕ) → IsClosed L k s → IsClosed M k s
-  closed_map s c = (c.0, within_map c.1, f (Close c.0) c.2)
+  closed_map s c = (c.0, within_map c.1, (c.2.0, f (Close c.0 c.2.0) c.2.1))
 
   pub usable_map : (s : ℕ) → ((t : ℕ) → IsClosed M k t → IsClosed L k t) → IsUsable L k s → IsUsable M k s
   usable_map s back u = (⊎_elim (λ e. inl e) (λ o. inr (o.0, f (Open s o.0) o.1)) u.0, λ c. u.1 (back s c))
@@ -95,7 +96,7 @@ module _ (L : List Event) (e : Event) where
       (split_snoc L c.0 c.1 e c.2 c.4)
 
   pub canceled_more : {j : ℕ} → IsCanceled L j → IsCanceled (L ++ e ∷ []) j
-  canceled_more c = (c.0, noted_more L e c.1)
+  canceled_more c = (c.0, (c.1.0, noted_more L e c.1.1))
 
   pub leased_more : {j : ℕ} → IsLeased L j → IsLeased (L ++ e ∷ []) j
   leased_more c = (c.0, c.1, noted_more L e c.2)
@@ -106,14 +107,14 @@ module _ (L : List Event) (e : Event) where
   pub acquired_snoc : (r : ℕ) → IsAcquired (L ++ e ∷ []) r → IsAcquired L r ⊎ ((s : ℕ) × (e.what ≡ Acquire r s))
   acquired_snoc r a = ⊎_elim (λ n. inl (a.0, a.1, n)) (λ t. inr (a.1, t.1)) (noted_snoc L e a.0 (Acquire r a.1) a.2)
 
-  pub canceled_snoc : (j : ℕ) → IsCanceled (L ++ e ∷ []) j → IsCanceled L j ⊎ (e.what ≡ Cancel j)
-  canceled_snoc j c = ⊎_elim (λ n. inl (c.0, n)) (λ t. inr t.1) (noted_snoc L e c.0 (Cancel j) c.1)
+  pub canceled_snoc : (j : ℕ) → IsCanceled (L ++ e ∷ []) j → IsCanceled L j ⊎ ((x : Exit) × (e.what ≡ Cancel j x))
+  canceled_snoc j c = ⊎_elim (λ n. inl (c.0, (c.1.0, n))) (λ t. inr (c.1.0, t.1)) (noted_snoc L e c.0 (Cancel j c.1.0) c.1.1)
 
   pub leased_snoc : (j : ℕ) → IsLeased (L ++ e ∷ []) j → IsLeased L j ⊎ ((s : ℕ) × (e.what ≡ Lease j s))
   leased_snoc j c = ⊎_elim (λ n. inl (c.0, c.1, n)) (λ t. inr (c.1, t.1)) (noted_snoc L e c.0 (Lease j c.1) c.2)
 
   pub right_more : (k : StreamNo) (r : ℕ) → HasRight L k r → HasRight (L ++ e ∷ []) k r
-  right_more k r h = ⊎_elim (λ a. inl (a.0, noted_more L e a.1)) (λ c. inr (c.0, c.1, covers_more c.2, noted_more L e c.3)) h
+  right_more k r h = ⊎_elim (λ a. inl (a.0, noted_more L e a.1)) (λ c. inr (c.0, c.1, covers_more c.2, (c.3.0, noted_more L e c.3.1))) h
 
 pub covers_leased : (L : List Event) (j r : ℕ) (k : StreamNo) → Covers L j k r → (s : ℕ) × Notes L k (Lease j s)
 covers_leased L j r k c = (c.3, (c.2, subst (λ l. IsAmong c.2 l) (sym c.4) (among_mid c.0 c.1 c.2), c.5, c.6))
@@ -137,16 +138,16 @@ stamp_below L e stamped m = let t = among_parts e L m in rw (stamped t.0 t.1 e t
 
 -- what an event isn't
 pub acquire_row : (r s q t : ℕ) → Acquire r s ≡ Acquire q t → r ≡ q
-acquire_row r s q t e = let row : What → ℕ = elim [ Open a b ↦ 0 | Acquire n b ↦ n | Lease a b ↦ 0 | Cancel a ↦ 0 | Close a ↦ 0 | Final n ok ↦ 0 ] in ap row e
+acquire_row r s q t e = cc
 
-pub final_row : (q r : ℕ) (a b : Bool) → Final q a ≡ Final r b → q ≡ r
-final_row q r a b e = let row : What → ℕ = elim [ Open s p ↦ 0 | Acquire n s ↦ 0 | Lease j s ↦ 0 | Cancel j ↦ 0 | Close s ↦ 0 | Final n ok ↦ n ] in ap row e
+pub final_row : (q r : ℕ) (x y : Exit) (a b : Bool) → Final q x a ≡ Final r y b → q ≡ r
+final_row q r x y a b e = cc
 
 pub lease_stream : (q r a b : ℕ) → Lease q a ≡ Lease r b → (q ≡ r) × (a ≡ b)
-lease_stream q r a b e = let row : What → ℕ = elim [ Open s p ↦ 0 | Acquire n s ↦ 0 | Lease j s ↦ j | Cancel j ↦ 0 | Close s ↦ 0 | Final n ok ↦ 0 ] in let scope : What → ℕ = elim [ Open s p ↦ 0 | Acquire n s ↦ 0 | Lease j s ↦ s | Cancel j ↦ 0 | Close s ↦ 0 | Final n ok ↦ 0 ] in (ap row e, ap scope e)
+lease_stream q r a b e = (cc, cc)
 
-pub cancel_stream : (q r : ℕ) → Cancel q ≡ Cancel r → q ≡ r
-cancel_stream q r e = let row : What → ℕ = elim [ Open s p ↦ 0 | Acquire n s ↦ 0 | Lease j s ↦ 0 | Cancel j ↦ j | Close s ↦ 0 | Final n ok ↦ 0 ] in ap row e
+pub cancel_stream : (q r : ℕ) (x y : Exit) → Cancel q x ≡ Cancel r y → q ≡ r
+cancel_stream q r x y e = cc
 
 -- what stands where an event stands
 pub at_noted : (L : List Event) (k : StreamNo) (w : What) → IsLegal L → Notes L k w → (P : List Event) × MayFollow P k w × ((x : Event) → IsAmong x P → IsAmong x L)
@@ -155,7 +156,7 @@ at_noted L k w legal n =
     (t.0, subst (λ x. MayFollow t.0 x w) n.2 (subst (λ x. MayFollow t.0 n.0.by x) n.3 (legal t.0 t.1 n.0 t.2)), λ x m. subst (λ l. IsAmong x l) (sym t.2) (among_left (n.0 ∷ t.1) m))
 
 pub canceled_leased : (L : List Event) (j : ℕ) → IsLegal L → IsCanceled L j → IsLeased L j
-canceled_leased L j legal c = let t = at_noted L c.0 (Cancel j) legal c.1 in let l = t.1.0 in (l.0, l.1, (l.2.0, t.2 l.2.0 l.2.1, l.2.2, l.2.3))
+canceled_leased L j legal c = let t = at_noted L c.0 (Cancel j c.1.0) legal c.1.1 in let l = t.1.0 in (l.0, l.1, (l.2.0, t.2 l.2.0 l.2.1, l.2.2, l.2.3))
 
 pub lease_other : (L : List Event) (j s : ℕ) (k : StreamNo) → IsLegal L → Notes L k (Lease j s) → k ≢ Inner j
 lease_other L j s k legal n = (at_noted L k (Lease j s) legal n).1.1

@@ -5,11 +5,12 @@ use Rattle.std.proofs.lemmas.Bool.{false≢true}
 use Rattle.chunk_core.specs.Lists.{IsAmong}
 use Rattle.chunk_core.specs.Lists.IsAmong.{here, there}
 use Rattle.chunk_core.proofs.Members.{among_cons, among_nil, among_left}
+use Rattle.chunk_core.specs.declared.code.Exit.{Exit}
 use Rattle.res_ledger.specs.declared.event.StreamNo.{StreamNo}
 use Rattle.res_ledger.specs.declared.event.What.{What}
 use Rattle.res_ledger.specs.declared.event.What.TheVariants.{Open, Acquire, Lease, Cancel, Close, Final}
 use Rattle.res_ledger.specs.declared.event.Event.{Event}
-use Rattle.res_ledger.specs.Ledger.{Notes}
+use Rattle.res_ledger.specs.Ledger.{Notes, NotesClose, NotesCancel}
 use Rattle.res_ledger.specs.Own.{own, opens, opens_of, rows, rows_of, closes, closes_of, leased_of, canceled_of, has}
 use Rattle.res_ledger.specs.Streams.{same_stream}
 use Rattle.res_ledger.specs.Whole.{is_final, is_cancel}
@@ -58,59 +59,31 @@ only x y m = ⊎_elim (λ e. e) (λ n. absurd (among_nil n)) (among_cons m)
 
 pub opens_shape : (w : What) (o : ℕ × ℕ) → IsAmong o (opens_of w) → w ≡ Open o.0 o.1
 opens_shape (Open s p) o m = let q : ℕ × ℕ = (s, p) in ap (λ x. Open x.0 x.1) (sym (only o q m))
-opens_shape (Acquire r s) o m = absurd (among_nil m)
-opens_shape (Lease j s) o m = absurd (among_nil m)
-opens_shape (Cancel j) o m = absurd (among_nil m)
-opens_shape (Close s) o m = absurd (among_nil m)
-opens_shape (Final r ok) o m = absurd (among_nil m)
+opens_shape w o m = absurd (among_nil m)
 
 pub rows_shape : (w : What) (x : ℕ × ℕ) → IsAmong x (rows_of w) → w ≡ Acquire x.0 x.1
 rows_shape (Acquire r s) x m = let q : ℕ × ℕ = (r, s) in ap (λ y. Acquire y.0 y.1) (sym (only x q m))
-rows_shape (Open s p) x m = absurd (among_nil m)
-rows_shape (Lease j s) x m = absurd (among_nil m)
-rows_shape (Cancel j) x m = absurd (among_nil m)
-rows_shape (Close s) x m = absurd (among_nil m)
-rows_shape (Final r ok) x m = absurd (among_nil m)
+rows_shape w x m = absurd (among_nil m)
 
 pub leased_shape : (w : What) (l : ℕ × ℕ) → IsAmong l (leased_of w) → w ≡ Lease l.0 l.1
 leased_shape (Lease j s) l m = let q : ℕ × ℕ = (j, s) in ap (λ y. Lease y.0 y.1) (sym (only l q m))
-leased_shape (Open s p) l m = absurd (among_nil m)
-leased_shape (Acquire r s) l m = absurd (among_nil m)
-leased_shape (Cancel j) l m = absurd (among_nil m)
-leased_shape (Close s) l m = absurd (among_nil m)
-leased_shape (Final r ok) l m = absurd (among_nil m)
+leased_shape w l m = absurd (among_nil m)
 
-pub closes_shape : (w : What) (c : ℕ) → IsAmong c (closes_of w) → w ≡ Close c
-closes_shape (Close s) c m = ap (λ y. Close y) (sym (only c s m))
-closes_shape (Open s p) c m = absurd (among_nil m)
-closes_shape (Acquire r s) c m = absurd (among_nil m)
-closes_shape (Lease j s) c m = absurd (among_nil m)
-closes_shape (Cancel j) c m = absurd (among_nil m)
-closes_shape (Final r ok) c m = absurd (among_nil m)
+pub closes_shape : (w : What) (c : ℕ) → IsAmong c (closes_of w) → (x : Exit) × (w ≡ Close c x)
+closes_shape (Close s x) c m = (x, ap (λ y. Close y x) (sym (only c s m)))
+closes_shape w c m = absurd (among_nil m)
 
-pub canceled_shape : (w : What) (j : ℕ) → IsAmong j (canceled_of w) → w ≡ Cancel j
-canceled_shape (Cancel i) j m = ap (λ y. Cancel y) (sym (only j i m))
-canceled_shape (Open s p) j m = absurd (among_nil m)
-canceled_shape (Acquire r s) j m = absurd (among_nil m)
-canceled_shape (Lease i s) j m = absurd (among_nil m)
-canceled_shape (Close s) j m = absurd (among_nil m)
-canceled_shape (Final r ok) j m = absurd (among_nil m)
+pub canceled_shape : (w : What) (j : ℕ) → IsAmong j (canceled_of w) → (x : Exit) × (w ≡ Cancel j x)
+canceled_shape (Cancel i x) j m = (x, ap (λ y. Cancel y x) (sym (only j i m)))
+canceled_shape w j m = absurd (among_nil m)
 
-pub is_final_shape : (r : ℕ) (w : What) → is_final r w ≡ true → (ok : Bool) × (w ≡ Final r ok)
-is_final_shape r (Open s p) h = absurd (false≢true h)
-is_final_shape r (Acquire q s) h = absurd (false≢true h)
-is_final_shape r (Lease j s) h = absurd (false≢true h)
-is_final_shape r (Cancel j) h = absurd (false≢true h)
-is_final_shape r (Close s) h = absurd (false≢true h)
-is_final_shape r (Final q ok) h = (ok, ap (λ z. Final z ok) (number q r h))
+pub is_final_shape : (r : ℕ) (w : What) → is_final r w ≡ true → (x : Exit) × (ok : Bool) × (w ≡ Final r x ok)
+is_final_shape r (Final q x ok) h = (x, ok, ap (λ z. Final z x ok) (number q r h))
+is_final_shape r w h = absurd (false≢true h)
 
-pub is_cancel_shape : (j : ℕ) (w : What) → is_cancel j w ≡ true → w ≡ Cancel j
-is_cancel_shape j (Open s p) h = absurd (false≢true h)
-is_cancel_shape j (Acquire q s) h = absurd (false≢true h)
-is_cancel_shape j (Lease i s) h = absurd (false≢true h)
-is_cancel_shape j (Cancel i) h = ap (λ z. Cancel z) (number i j h)
-is_cancel_shape j (Close s) h = absurd (false≢true h)
-is_cancel_shape j (Final q ok) h = absurd (false≢true h)
+pub is_cancel_shape : (j : ℕ) (w : What) → is_cancel j w ≡ true → (x : Exit) × (w ≡ Cancel j x)
+is_cancel_shape j (Cancel i x) h = (x, ap (λ z. Cancel z x) (number i j h))
+is_cancel_shape j w h = absurd (false≢true h)
 
 -- what stands in a list drawn from a stream's own was noted by it
 pub listed_notes : {B : Type 0} (of : What → List B) (make : B → What) → ((w : What) (b : B) → IsAmong b (of w) → w ≡ make b) → (P : List Event) (k : StreamNo) (b : B) → IsAmong b (flat_map of (own k P)) → Notes P k (make b)
@@ -125,11 +98,15 @@ rows_notes P k x m = listed_notes rows_of (λ y. Acquire y.0 y.1) rows_shape P k
 pub leased_notes : (P : List Event) (k : StreamNo) (l : ℕ × ℕ) → IsAmong l (flat_map leased_of (own k P)) → Notes P k (Lease l.0 l.1)
 leased_notes P k l m = listed_notes leased_of (λ y. Lease y.0 y.1) leased_shape P k l m
 
-pub closes_notes : (P : List Event) (k : StreamNo) (c : ℕ) → IsAmong c (closes (own k P)) → Notes P k (Close c)
-closes_notes P k c m = listed_notes closes_of (λ y. Close y) closes_shape P k c m
+-- the same where it is told by a number and an exit
+ended_notes : (of : What → List ℕ) (make : ℕ → Exit → What) → ((w : What) (n : ℕ) → IsAmong n (of w) → (x : Exit) × (w ≡ make n x)) → (P : List Event) (k : StreamNo) (n : ℕ) → IsAmong n (flat_map of (own k P)) → (x : Exit) × Notes P k (make n x)
+ended_notes of make shape P k n m = let f = flat_found of (own k P) n m in let t = own_notes P k f.0 f.1 in let w = shape f.0 n f.2 in (w.0, (t.0, t.1, t.2, t.3 ∙ w.1))
 
-pub canceled_notes : (P : List Event) (k : StreamNo) (j : ℕ) → IsAmong j (flat_map canceled_of (own k P)) → Notes P k (Cancel j)
-canceled_notes P k j m = listed_notes canceled_of (λ y. Cancel y) canceled_shape P k j m
+pub closes_notes : (P : List Event) (k : StreamNo) (c : ℕ) → IsAmong c (closes (own k P)) → NotesClose P k c
+closes_notes P k c m = ended_notes closes_of Close closes_shape P k c m
+
+pub canceled_notes : (P : List Event) (k : StreamNo) (j : ℕ) → IsAmong j (flat_map canceled_of (own k P)) → NotesCancel P k j
+canceled_notes P k j m = ended_notes canceled_of Cancel canceled_shape P k j m
 
 pub notes_opens : (P : List Event) (k : StreamNo) (s p : ℕ) → Notes P k (Open s p) → IsAmong (s, p) (opens (own k P))
 notes_opens P k s p n = flat_holds opens_of (Open s p) (own k P) (s, p) (notes_own P k (Open s p) n) (here [])
@@ -137,8 +114,8 @@ notes_opens P k s p n = flat_holds opens_of (Open s p) (own k P) (s, p) (notes_o
 pub notes_rows : (P : List Event) (k : StreamNo) (r s : ℕ) → Notes P k (Acquire r s) → IsAmong (r, s) (rows (own k P))
 notes_rows P k r s n = flat_holds rows_of (Acquire r s) (own k P) (r, s) (notes_own P k (Acquire r s) n) (here [])
 
-pub notes_closes : (P : List Event) (k : StreamNo) (c : ℕ) → Notes P k (Close c) → IsAmong c (closes (own k P))
-notes_closes P k c n = flat_holds closes_of (Close c) (own k P) c (notes_own P k (Close c) n) (here [])
+pub notes_closes : (P : List Event) (k : StreamNo) (c : ℕ) → NotesClose P k c → IsAmong c (closes (own k P))
+notes_closes P k c n = flat_holds closes_of (Close c n.0) (own k P) c (notes_own P k (Close c n.0) n.1) (here [])
 
 -- a number is in a list where the test finds it
 pub has_in : (x : ℕ) (ys : List ℕ) → has x ys ≡ true → IsAmong x ys

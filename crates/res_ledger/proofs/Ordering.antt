@@ -4,17 +4,19 @@ use Rattle.std.proofs.lemmas.Bool.{cases_eq, false≢true}
 use Rattle.chunk_core.specs.Lists.{IsAmong}
 use Rattle.std.specs.List.{list_all as all}
 use Rattle.chunk_core.specs.Lists.IsAmong.{here, there}
+use Rattle.chunk_core.specs.declared.code.Exit.{Exit}
+use Rattle.chunk_core.specs.declared.code.Exit.TheVariants.{Succeeded}
 use Rattle.res_ledger.specs.declared.event.StreamNo.{StreamNo}
 use Rattle.res_ledger.specs.declared.event.What.{What}
-use Rattle.res_ledger.specs.declared.event.What.TheVariants.{Open, Acquire, Lease, Cancel, Close, Final}
+use Rattle.res_ledger.specs.declared.event.What.TheVariants.{Cancel, Close, Final}
 use Rattle.res_ledger.specs.declared.event.Event.{Event}
 use Rattle.res_ledger.specs.Own.{own, teardown, has}
 use Rattle.res_ledger.specs.Streams.{same_stream}
-use Rattle.res_ledger.specs.Order.{Picks, IsInBlocks, finals, firsts, is_plain, covered, covered_by, passes_after, any_row, is_in_blocks, is_in_order, is_ordered, IsInOrder, IsOrdered}
+use Rattle.res_ledger.specs.Order.{Picks, IsInBlocks, finals, firsts, is_plain, covered, covered_by, passes_after, any_row, same_exit, is_in_blocks, is_in_order, is_ordered, IsInOrder, IsOrdered}
 use Rattle.res_ledger.specs.Order.Picks.{none as nothing, pick, pass}
 use Rattle.res_ledger.specs.Order.IsInBlocks.{none, plain, close, cancel}
 use Rattle.res_ledger.proofs.Blocks.{picks_map}
-use Rattle.res_ledger.proofs.Tests.{both, name, all_at, each_passes}
+use Rattle.res_ledger.proofs.Tests.{both, and_true, exit_is, exit_same, name, all_at, each_passes}
 
 picks_none : (m : ℕ → Bool) (xs : List ℕ) → all m xs ≡ true → Picks (λ r. m r ≡ true) [] xs
 picks_none m [] h = nothing
@@ -28,61 +30,63 @@ after_sound m r (y ∷ ys) go h =
     (λ ne. let g = both (m y) (passes_after m r ys go) (ap (λ b. cond b (go ys) (m y && passes_after m r ys go)) (sym (ne_eqb y r ne)) ∙ h) in let t = after_sound m r ys go g.1 in (t.0, t.1, λ zs p. pass y g.0 (t.2 zs p)))
     (cases_eq y r)
 
-no_more : {may : ℕ → Type 0} (fs : List (ℕ × Bool)) → Picks may (firsts fs) [] → finals fs ≡ []
-no_more [] p = refl
-no_more (f ∷ fs) p = absurd (elim p [ ])
-
 nil_of : {may : ℕ → Type 0} (fs : List (ℕ × Bool)) → Picks may (firsts fs) [] → fs ≡ []
 nil_of [] p = refl
 nil_of (f ∷ fs) p = absurd (elim p [ ])
 
 module _ (may : ℕ → Bool) (due : ℕ → List ℕ) where
-  -- E, standing after A, is Finals of xs and then blocks
-  abbrev Reads : List What → (ℕ → Bool) → List ℕ → List What → Type 0
-  Reads A m xs E = (fs : List (ℕ × Bool)) × (R : List What) × (E ≡ finals fs ++ R) × Picks (λ q. m q ≡ true) (firsts fs) xs × IsInBlocks (λ q. may q ≡ true) due (A ++ finals fs) R
+  -- E, standing after A, is Finals of xs with the exit x and then blocks
+  abbrev Reads : List What → Exit → (ℕ → Bool) → List ℕ → List What → Type 0
+  Reads A x m xs E = (fs : List (ℕ × Bool)) × (R : List What) × (E ≡ finals x fs ++ R) × Picks (λ q. m q ≡ true) (firsts fs) xs × IsInBlocks (λ q. may q ≡ true) due (A ++ finals x fs) R
 
-  plain_reads : (A E : List What) (m : ℕ → Bool) (xs : List ℕ) (w : What) → is_plain w ≡ true → all m xs ≡ true → Reads (A ++ w ∷ []) any_row [] E → Reads A m xs (w ∷ E)
-  plain_reads A E m xs w p h t =
+  -- blocks that no Final stands before
+  begun : (A E : List What) (x : Exit) (m : ℕ → Bool) (xs : List ℕ) → all m xs ≡ true → IsInBlocks (λ q. may q ≡ true) due A E → Reads A x m xs E
+  begun A E x m xs h b = ([], E, refl, picks_none m xs h, subst (λ l. IsInBlocks (λ q. may q ≡ true) due l E) (sym (append-nil A)) b)
+
+  plain_reads : (A E : List What) (x : Exit) (w : What) → is_plain w ≡ true → Reads (A ++ w ∷ []) x any_row [] E → IsInBlocks (λ q. may q ≡ true) due A (w ∷ E)
+  plain_reads A E x w p t =
       let z = nil_of t.0 t.3 in
-      let b : IsInBlocks (λ q. may q ≡ true) due (A ++ w ∷ []) t.1 = subst (λ l. IsInBlocks (λ q. may q ≡ true) due l t.1) (ap (λ fs. (A ++ w ∷ []) ++ finals fs) z ∙ append-nil (A ++ w ∷ [])) t.4 in
-      let e : E ≡ t.1 = t.2 ∙ ap (λ fs. finals fs ++ t.1) z in
-      ([], w ∷ E, refl, picks_none m xs h, subst (λ l. IsInBlocks (λ q. may q ≡ true) due l (w ∷ E)) (sym (append-nil A)) (plain A E w p (subst (λ l. IsInBlocks (λ q. may q ≡ true) due (A ++ w ∷ []) l) (sym e) b)))
+      let b : IsInBlocks (λ q. may q ≡ true) due (A ++ w ∷ []) t.1 = subst (λ l. IsInBlocks (λ q. may q ≡ true) due l t.1) (ap (λ fs. (A ++ w ∷ []) ++ finals x fs) z ∙ append-nil (A ++ w ∷ [])) t.4 in
+      let e : E ≡ t.1 = t.2 ∙ ap (λ fs. finals x fs ++ t.1) z in
+      plain A E w p (subst (λ l. IsInBlocks (λ q. may q ≡ true) due (A ++ w ∷ []) l) (sym e) b)
 
-  pub runs_sound : (E A : List What) (m : ℕ → Bool) (xs : List ℕ) → is_in_blocks may due A m xs E ≡ true → Reads A m xs E
-  runs_sound [] A m xs h = ([], [], refl, picks_none m xs h, none (A ++ []))
-  runs_sound (Open s p ∷ E) A m xs h = let t = both (all m xs) (is_in_blocks may due (A ++ Open s p ∷ []) any_row [] E) h in plain_reads A E m xs (Open s p) refl t.0 (runs_sound E (A ++ Open s p ∷ []) any_row [] t.1)
-  runs_sound (Acquire r s ∷ E) A m xs h = let t = both (all m xs) (is_in_blocks may due (A ++ Acquire r s ∷ []) any_row [] E) h in plain_reads A E m xs (Acquire r s) refl t.0 (runs_sound E (A ++ Acquire r s ∷ []) any_row [] t.1)
-  runs_sound (Lease j s ∷ E) A m xs h = let t = both (all m xs) (is_in_blocks may due (A ++ Lease j s ∷ []) any_row [] E) h in plain_reads A E m xs (Lease j s) refl t.0 (runs_sound E (A ++ Lease j s ∷ []) any_row [] t.1)
-  runs_sound (Cancel j ∷ E) A m xs h =
-      let t = both (all m xs) (is_in_blocks may due (A ++ Cancel j ∷ []) any_row (due j) E) h in let r = runs_sound E (A ++ Cancel j ∷ []) any_row (due j) t.1 in (
-        [],
-        Cancel j ∷ E,
-        refl,
-        picks_none m xs t.0,
-        subst (λ l. IsInBlocks (λ q. may q ≡ true) due l (Cancel j ∷ E)) (sym (append-nil A))
-            (subst (λ l. IsInBlocks (λ q. may q ≡ true) due A (Cancel j ∷ l)) (sym r.2) (cancel A r.1 j r.0 (picks_map (λ q i. tt) r.3) (subst (λ l. IsInBlocks (λ q. may q ≡ true) due l r.1) (append_assoc A (Cancel j ∷ []) (finals r.0)) r.4))),
-      )
-  runs_sound (Close s ∷ E) A m xs h =
-      let t = both (all m xs) (is_in_blocks may due (A ++ Close s ∷ []) may (teardown A s) E) h in let r = runs_sound E (A ++ Close s ∷ []) may (teardown A s) t.1 in (
-        [],
-        Close s ∷ E,
-        refl,
-        picks_none m xs t.0,
-        subst (λ l. IsInBlocks (λ q. may q ≡ true) due l (Close s ∷ E)) (sym (append-nil A))
-            (subst (λ l. IsInBlocks (λ q. may q ≡ true) due A (Close s ∷ l)) (sym r.2) (close A r.1 s r.0 r.3 (subst (λ l. IsInBlocks (λ q. may q ≡ true) due l r.1) (append_assoc A (Close s ∷ []) (finals r.0)) r.4))),
-      )
-  runs_sound (Final r ok ∷ E) A m xs h =
-      let t = after_sound m r xs (λ ys. is_in_blocks may due (A ++ Final r ok ∷ []) m ys E) h in let i = runs_sound E (A ++ Final r ok ∷ []) m t.0 t.1 in
-      let y : ℕ × Bool = (r, ok) in
-      (y ∷ i.0, i.1, ap (λ l. Final r ok ∷ l) i.2, t.2 (firsts i.0) i.3, subst (λ l. IsInBlocks (λ q. may q ≡ true) due l i.1) (append_assoc A (Final r ok ∷ []) (finals i.0)) i.4)
+  cancel_reads : (A E : List What) (j : ℕ) (x : Exit) → Reads (A ++ Cancel j x ∷ []) x any_row (due j) E → IsInBlocks (λ q. may q ≡ true) due A (Cancel j x ∷ E)
+  cancel_reads A E j x r =
+      subst (λ l. IsInBlocks (λ q. may q ≡ true) due A (Cancel j x ∷ l)) (sym r.2)
+      (cancel A r.1 j x r.0 (picks_map (λ q i. tt) r.3) (subst (λ l. IsInBlocks (λ q. may q ≡ true) due l r.1) (append_assoc A (Cancel j x ∷ []) (finals x r.0)) r.4))
+
+  close_reads : (A E : List What) (s : ℕ) (x : Exit) → Reads (A ++ Close s x ∷ []) x may (teardown A s) E → IsInBlocks (λ q. may q ≡ true) due A (Close s x ∷ E)
+  close_reads A E s x r =
+      subst (λ l. IsInBlocks (λ q. may q ≡ true) due A (Close s x ∷ l)) (sym r.2)
+      (close A r.1 s x r.0 r.3 (subst (λ l. IsInBlocks (λ q. may q ≡ true) due l r.1) (append_assoc A (Close s x ∷ []) (finals x r.0)) r.4))
+
+  pub runs_sound : (E A : List What) (x : Exit) (m : ℕ → Bool) (xs : List ℕ) → is_in_blocks may due A x m xs E ≡ true → Reads A x m xs E
+  runs_sound [] A x m xs h = begun A [] x m xs h (none A)
+  runs_sound (Cancel j y ∷ E) A x m xs h =
+      let t = both (all m xs) (is_in_blocks may due (A ++ Cancel j y ∷ []) y any_row (due j) E) h in
+      begun A (Cancel j y ∷ E) x m xs t.0 (cancel_reads A E j y (runs_sound E (A ++ Cancel j y ∷ []) y any_row (due j) t.1))
+  runs_sound (Close s y ∷ E) A x m xs h =
+      let t = both (all m xs) (is_in_blocks may due (A ++ Close s y ∷ []) y may (teardown A s) E) h in
+      begun A (Close s y ∷ E) x m xs t.0 (close_reads A E s y (runs_sound E (A ++ Close s y ∷ []) y may (teardown A s) t.1))
+  runs_sound (Final r y ok ∷ E) A x m xs h =
+      let g = both (same_exit y x) (passes_after m r xs (λ ys. is_in_blocks may due (A ++ Final r y ok ∷ []) x m ys E)) h in
+      let t = after_sound m r xs (λ ys. is_in_blocks may due (A ++ Final r y ok ∷ []) x m ys E) g.1 in
+      let i = runs_sound E (A ++ Final r y ok ∷ []) x m t.0 t.1 in
+      let same : Final r y ok ≡ Final r x ok = ap (λ z. Final r z ok) (exit_is y x g.0) in
+      let f : ℕ × Bool = (r, ok) in
+      let b : IsInBlocks (λ q. may q ≡ true) due (A ++ Final r y ok ∷ finals x i.0) i.1 = subst (λ l. IsInBlocks (λ q. may q ≡ true) due l i.1) (append_assoc A (Final r y ok ∷ []) (finals x i.0)) i.4 in
+      (f ∷ i.0, i.1, ap (λ l. Final r y ok ∷ l) i.2 ∙ ap (λ v. v ∷ (finals x i.0 ++ i.1)) same, t.2 (firsts i.0) i.3, subst (λ v. IsInBlocks (λ q. may q ≡ true) due (A ++ v ∷ finals x i.0) i.1) same b)
+  runs_sound (w ∷ E) A x m xs h =
+      let t = both (all m xs) (is_in_blocks may due (A ++ w ∷ []) x any_row [] E) h in
+      begun A (w ∷ E) x m xs t.0 (plain_reads A E x w refl (runs_sound E (A ++ w ∷ []) x any_row [] t.1))
 
 -- the test of one stream is sound
 pub in_order_sound : (L : List Event) (k : StreamNo) → is_in_order L k ≡ true → IsInOrder L k
 in_order_sound L k h =
-    let t = runs_sound (λ r. has r (covered L)) (λ j. reverse (covered_by L j)) (own k L) [] any_row [] h in
+    let t = runs_sound (λ r. has r (covered L)) (λ j. reverse (covered_by L j)) (own k L) [] Succeeded any_row [] h in
     let z = nil_of t.0 t.3 in
-    subst (λ l. IsInBlocks (λ r. has r (covered L) ≡ true) (λ j. reverse (covered_by L j)) [] l) (sym (t.2 ∙ ap (λ fs. finals fs ++ t.1) z))
-    (subst (λ l. IsInBlocks (λ r. has r (covered L) ≡ true) (λ j. reverse (covered_by L j)) l t.1) (ap finals z) t.4)
+    subst (λ l. IsInBlocks (λ r. has r (covered L) ≡ true) (λ j. reverse (covered_by L j)) [] l) (sym (t.2 ∙ ap (λ fs. finals Succeeded fs ++ t.1) z))
+    (subst (λ l. IsInBlocks (λ r. has r (covered L) ≡ true) (λ j. reverse (covered_by L j)) l t.1) (ap (finals Succeeded) z) t.4)
 
 -- what a pick or a pass says of the first row
 passed : (m : ℕ → Bool) (x : ℕ) (xs : List ℕ) → Picks (λ q. m q ≡ true) [] (x ∷ xs) → (m x ≡ true) × Picks (λ q. m q ≡ true) [] xs
@@ -119,33 +123,32 @@ after_complete m r zs (x ∷ xs) go k p =
     (cases_eq x r)
 
 module _ (may : ℕ → Bool) (due : ℕ → List ℕ) where
-  after_finals : (R : List What) (fs : List (ℕ × Bool)) (A B : List What) (m : ℕ → Bool) (xs : List ℕ) → A ≡ B ++ finals fs → ((m : ℕ → Bool) (xs : List ℕ) → Picks (λ q. m q ≡ true) [] xs → is_in_blocks may due A m xs R ≡ true) → Picks (λ q. m q ≡ true) (firsts fs) xs → is_in_blocks may due B m xs (finals fs ++ R) ≡ true
-  after_finals R [] A B m xs e k p = subst (λ l. is_in_blocks may due l m xs R ≡ true) (e ∙ append-nil B) (k m xs p)
-  after_finals R (f ∷ fs) A B m xs e k p =
-      after_complete m f.0 (firsts fs) xs (λ ys. is_in_blocks may due (B ++ Final f.0 f.1 ∷ []) m ys (finals fs ++ R))
-      (λ ys q. after_finals R fs A (B ++ Final f.0 f.1 ∷ []) m ys (e ∙ sym (append_assoc B (Final f.0 f.1 ∷ []) (finals fs))) k q) p
+  after_finals : (R : List What) (x : Exit) (fs : List (ℕ × Bool)) (A B : List What) (m : ℕ → Bool) (xs : List ℕ) → A ≡ B ++ finals x fs → ((m : ℕ → Bool) (xs : List ℕ) → Picks (λ q. m q ≡ true) [] xs → is_in_blocks may due A x m xs R ≡ true) → Picks (λ q. m q ≡ true) (firsts fs) xs → is_in_blocks may due B x m xs (finals x fs ++ R) ≡ true
+  after_finals R x [] A B m xs e k p = subst (λ l. is_in_blocks may due l x m xs R ≡ true) (e ∙ append-nil B) (k m xs p)
+  after_finals R x (f ∷ fs) A B m xs e k p =
+      let go : List ℕ → Bool = λ ys. is_in_blocks may due (B ++ Final f.0 x f.1 ∷ []) x m ys (finals x fs ++ R) in
+      and_true (same_exit x x) (passes_after m f.0 xs go) (exit_same x)
+      (after_complete m f.0 (firsts fs) xs go (λ ys q. after_finals R x fs A (B ++ Final f.0 x f.1 ∷ []) m ys (e ∙ sym (append_assoc B (Final f.0 x f.1 ∷ []) (finals x fs))) k q) p)
 
-  plain_complete : (A E : List What) (w : What) (m : ℕ → Bool) (xs : List ℕ) → is_plain w ≡ true → all m xs ≡ true → is_in_blocks may due (A ++ w ∷ []) any_row [] E ≡ true → is_in_blocks may due A m xs (w ∷ E) ≡ true
-  plain_complete A E (Open s p) m xs i h g = ap (λ b. b && is_in_blocks may due (A ++ Open s p ∷ []) any_row [] E) h ∙ g
-  plain_complete A E (Acquire r s) m xs i h g = ap (λ b. b && is_in_blocks may due (A ++ Acquire r s ∷ []) any_row [] E) h ∙ g
-  plain_complete A E (Lease j s) m xs i h g = ap (λ b. b && is_in_blocks may due (A ++ Lease j s ∷ []) any_row [] E) h ∙ g
-  plain_complete A E (Cancel j) m xs i h g = absurd (false≢true i)
-  plain_complete A E (Close s) m xs i h g = absurd (false≢true i)
-  plain_complete A E (Final r ok) m xs i h g = absurd (false≢true i)
+  plain_complete : (A E : List What) (w : What) (x : Exit) (m : ℕ → Bool) (xs : List ℕ) → is_plain w ≡ true → all m xs ≡ true → is_in_blocks may due (A ++ w ∷ []) x any_row [] E ≡ true → is_in_blocks may due A x m xs (w ∷ E) ≡ true
+  plain_complete A E (Cancel j y) x m xs i h g = absurd (false≢true i)
+  plain_complete A E (Close s y) x m xs i h g = absurd (false≢true i)
+  plain_complete A E (Final r y ok) x m xs i h g = absurd (false≢true i)
+  plain_complete A E w x m xs i h g = and_true (all m xs) (is_in_blocks may due (A ++ w ∷ []) x any_row [] E) h g
 
-  pub runs_complete : {A R : List What} → IsInBlocks (λ q. may q ≡ true) due A R → (m : ℕ → Bool) (xs : List ℕ) → Picks (λ q. m q ≡ true) [] xs → is_in_blocks may due A m xs R ≡ true
-  runs_complete (none A) m xs p = all_of m xs p
-  runs_complete (plain A E w i b) m xs p = plain_complete A E w m xs i (all_of m xs p) (runs_complete b any_row [] nothing)
-  runs_complete (close A E s fs q b) m xs p =
-      ap (λ c. c && is_in_blocks may due (A ++ Close s ∷ []) may (teardown A s) (finals fs ++ E)) (all_of m xs p)
-      ∙ after_finals E fs (A ++ Close s ∷ finals fs) (A ++ Close s ∷ []) may (teardown A s) (sym (append_assoc A (Close s ∷ []) (finals fs))) (runs_complete b) q
-  runs_complete (cancel A E j fs q b) m xs p =
-      ap (λ c. c && is_in_blocks may due (A ++ Cancel j ∷ []) any_row (due j) (finals fs ++ E)) (all_of m xs p)
-      ∙ after_finals E fs (A ++ Cancel j ∷ finals fs) (A ++ Cancel j ∷ []) any_row (due j) (sym (append_assoc A (Cancel j ∷ []) (finals fs))) (runs_complete b) (picks_map (λ r i. refl) q)
+  pub runs_complete : {A R : List What} → IsInBlocks (λ q. may q ≡ true) due A R → (x : Exit) (m : ℕ → Bool) (xs : List ℕ) → Picks (λ q. m q ≡ true) [] xs → is_in_blocks may due A x m xs R ≡ true
+  runs_complete (none A) x m xs p = all_of m xs p
+  runs_complete (plain A E w i b) x m xs p = plain_complete A E w x m xs i (all_of m xs p) (runs_complete b x any_row [] nothing)
+  runs_complete (close A E s y fs q b) x m xs p =
+      and_true (all m xs) (is_in_blocks may due (A ++ Close s y ∷ []) y may (teardown A s) (finals y fs ++ E)) (all_of m xs p)
+      (after_finals E y fs (A ++ Close s y ∷ finals y fs) (A ++ Close s y ∷ []) may (teardown A s) (sym (append_assoc A (Close s y ∷ []) (finals y fs))) (runs_complete b y) q)
+  runs_complete (cancel A E j y fs q b) x m xs p =
+      and_true (all m xs) (is_in_blocks may due (A ++ Cancel j y ∷ []) y any_row (due j) (finals y fs ++ E)) (all_of m xs p)
+      (after_finals E y fs (A ++ Cancel j y ∷ finals y fs) (A ++ Cancel j y ∷ []) any_row (due j) (sym (append_assoc A (Cancel j y ∷ []) (finals y fs))) (runs_complete b y) (picks_map (λ r i. refl) q))
 
 -- the test of one stream is complete
 pub in_order_complete : (L : List Event) (k : StreamNo) → IsInOrder L k → is_in_order L k ≡ true
-in_order_complete L k b = runs_complete (λ r. has r (covered L)) (λ j. reverse (covered_by L j)) b any_row [] nothing
+in_order_complete L k b = runs_complete (λ r. has r (covered L)) (λ j. reverse (covered_by L j)) b Succeeded any_row [] nothing
 
 own_step : (k : StreamNo) (e : Event) (L : List Event) (b : Bool) → same_stream e.by k ≡ b → ((x : Event) × IsAmong x L × (x.by ≡ k)) ⊎ (own k L ≡ []) → ((x : Event) × IsAmong x (e ∷ L) × (x.by ≡ k)) ⊎ (own k (e ∷ L) ≡ [])
 own_step k e L true t r = inl (e, here L, name e.by k t)

@@ -6,11 +6,7 @@ use Rattle.chunk_core.proofs.Members.{among_cons, among_nil}
 use Rattle.chunk_core.proofs.Cuts.{among_parts}
 use Rattle.res_ledger.specs.declared.event.Event.{Event}
 use Rattle.res_ledger.specs.Ledger.{IsStamped}
-
--- each stamp is below those of the events behind it
-abbrev pub Rises : List Event → Type 0
-Rises [] = Unit {0}
-Rises (e ∷ L) = ((x : Event) → IsAmong x L → e.stamp < x.stamp) × Rises L
+use Rattle.res_ledger.specs.Rising.{Rises}
 
 -- the event at position i has the stamp n + i
 abbrev IsStampedFrom : ℕ → List Event → Type 0

@@ -18,16 +18,16 @@ front_within Q (same s) = same s
 front_within Q (below s p a n w) = below s p a (front_notes Q n) (front_within Q w)
 
 pub front_closed : {P : List Event} {k : StreamNo} {s : ℕ} (Q : List Event) → IsClosed P k s → IsClosed (P ++ Q) k s
-front_closed Q c = (c.0, front_within Q c.1, front_notes Q c.2)
+front_closed Q c = (c.0, front_within Q c.1, (c.2.0, front_notes Q c.2.1))
 
 pub front_row_closed : {P : List Event} {r : ℕ} (Q : List Event) → IsRowClosed P r → IsRowClosed (P ++ Q) r
 front_row_closed Q c = (c.0, c.1, front_notes Q c.2, front_closed Q c.3)
 
 pub front_finalized : {P : List Event} {r : ℕ} (Q : List Event) → IsFinalized P r → IsFinalized (P ++ Q) r
-front_finalized Q f = (f.0, f.1, front_notes Q f.2)
+front_finalized Q f = (f.0, f.1, (f.2.0, front_notes Q f.2.1))
 
 pub front_canceled : {P : List Event} {j : ℕ} (Q : List Event) → IsCanceled P j → IsCanceled (P ++ Q) j
-front_canceled Q c = (c.0, front_notes Q c.1)
+front_canceled Q c = (c.0, (c.1.0, front_notes Q c.1.1))
 
 -- a front of a legal ledger is legal
 pub front_legal : (P Q : List Event) → IsLegal (P ++ Q) → IsLegal P

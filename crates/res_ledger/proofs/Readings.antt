@@ -4,6 +4,9 @@ use Rattle.std.specs.List.{flat_map}
 use Rattle.std.proofs.lemmas.Fmt.{decimal_injective, decimal_nonempty}
 use Rattle.std.proofs.lemmas.List.{append-nil, length-append, append_cancel_left, append_cancel_right, length-map}
 use Rattle.chunk_core.specs.Lists.{Each}
+use Rattle.chunk_core.specs.declared.code.Exit.{Exit}
+use Rattle.chunk_core.specs.declared.code.Exit.TheVariants.{Succeeded, Errored, Canceled}
+use Rattle.chunk_core.specs.Texts.{exit_text}
 use Rattle.res_ledger.specs.declared.event.StreamNo.{StreamNo}
 use Rattle.res_ledger.specs.declared.event.StreamNo.TheVariants.{Outer, Inner}
 use Rattle.res_ledger.specs.declared.event.What.{What}
@@ -14,35 +17,50 @@ use Rattle.res_ledger.specs.Texts.{event_line, ledger_text, name_text, what_text
 use Rattle.res_ledger.specs.Reading.{IsSmallStream, IsSmallWhat, IsSmallEvent, IsEventLine, IsFirstBadLine, IsSpelled, AreSpelled, IsLedger, RefusalIsOne, TextIsNotRefused, TextIsOne, lines_of, head_line}
 use Rattle.res_ledger.proofs.Prefixes.{split_append}
 use Rattle.res_ledger.proofs.Words.{number_lacks, cut_once, other}
-use Rattle.res_ledger.proofs.Spelled.{verb, args, what_is, number_has_no_space, name_has_no_space}
+use Rattle.res_ledger.proofs.Spelled.{verb, args, end_text, what_is, number_has_no_space, name_has_no_space, exit_has_no_space}
 use Rattle.res_ledger.proofs.Lines.{each_left, event_lines, lines_are}
 
--- two numbers with a space between them
+-- a number and, behind a space, what follows it
+spaced_once : (m n : ℕ) (u v : List ℕ) → m < 2 ^ 32 → n < 2 ^ 32 → decimal m ++ codes " " ++ u ≡ decimal n ++ codes " " ++ v → (m ≡ n) × (u ≡ v)
+spaced_once m n u v h g e =
+    let s = cut_once 32 (decimal m) (decimal n) u v (number_has_no_space m h) (number_has_no_space n g) (sym (append_assoc (decimal m) (codes " ") u) ∙ e ∙ append_assoc (decimal n) (codes " ") v) in
+    (decimal_injective m n (omega arith) (omega arith) s.0, s.1)
+
 two_once : (m n p q : ℕ) → m < 2 ^ 32 → n < 2 ^ 32 → p < 2 ^ 32 → q < 2 ^ 32 → decimal m ++ codes " " ++ decimal n ≡ decimal p ++ codes " " ++ decimal q → (m ≡ p) × (n ≡ q)
-two_once m n p q hm hn hp hq e =
-    let s = cut_once 32 (decimal m) (decimal p) (decimal n) (decimal q) (number_has_no_space m hm) (number_has_no_space p hp) (sym (append_assoc (decimal m) (codes " ") (decimal n)) ∙ e ∙ append_assoc (decimal p) (codes " ") (decimal q)) in
-    (decimal_injective m p (omega arith) (omega arith) s.0, decimal_injective n q (omega arith) (omega arith) s.1)
+two_once m n p q hm hn hp hq e = let s = spaced_once m p (decimal n) (decimal q) hm hp e in (s.0, decimal_injective n q (omega arith) (omega arith) s.1)
 
-end_once : (a b : Bool) → (if a then codes "ok" else codes "fault") ≡ (if b then codes "ok" else codes "fault") → a ≡ b
-end_once true true e = refl
-end_once true false e = absurd (other (codes "ok") (codes "fault") [] [] refl e)
-end_once false true e = absurd (other (codes "fault") (codes "ok") [] [] refl e)
-end_once false false e = refl
+exit_once : (x y : Exit) → exit_text x ≡ exit_text y → x ≡ y
+exit_once Succeeded Succeeded e = refl
+exit_once Errored Errored e = refl
+exit_once Canceled Canceled e = refl
+exit_once x y e = absurd (other (exit_text x) (exit_text y) [] [] refl e)
 
-row_once : (r s : ℕ) (a b : Bool) → r < 2 ^ 32 → s < 2 ^ 32 → decimal r ++ codes " " ++ (if a then codes "ok" else codes "fault") ≡ decimal s ++ codes " " ++ (if b then codes "ok" else codes "fault") → (r ≡ s) × (a ≡ b)
-row_once r s a b hr hs e =
-    let t = cut_once 32 (decimal r) (decimal s) (if a then codes "ok" else codes "fault") (if b then codes "ok" else codes "fault") (number_has_no_space r hr) (number_has_no_space s hs)
-    (sym (append_assoc (decimal r) (codes " ") (if a then codes "ok" else codes "fault")) ∙ e ∙ append_assoc (decimal s) (codes " ") (if b then codes "ok" else codes "fault")) in
-    (decimal_injective r s (omega arith) (omega arith) t.0, end_once a b t.1)
+told_once : (m n : ℕ) (x y : Exit) → m < 2 ^ 32 → n < 2 ^ 32 → decimal m ++ codes " " ++ exit_text x ≡ decimal n ++ codes " " ++ exit_text y → (m ≡ n) × (x ≡ y)
+told_once m n x y h g e = let s = spaced_once m n (exit_text x) (exit_text y) h g e in (s.0, exit_once x y s.1)
+
+ok_once : (a b : Bool) → (if a then codes "ok" else codes "fault") ≡ (if b then codes "ok" else codes "fault") → a ≡ b
+ok_once true true e = refl
+ok_once true false e = absurd (other (codes "ok") (codes "fault") [] [] refl e)
+ok_once false true e = absurd (other (codes "fault") (codes "ok") [] [] refl e)
+ok_once false false e = refl
+
+end_once : (x y : Exit) (a b : Bool) → end_text x a ≡ end_text y b → (x ≡ y) × (a ≡ b)
+end_once x y a b e =
+    let end : Bool → List ℕ = λ ok. if ok then codes "ok" else codes "fault" in
+    let t = cut_once 32 (exit_text x) (exit_text y) (end a) (end b) (exit_has_no_space x tt) (exit_has_no_space y tt) (sym (append_assoc (exit_text x) (codes " ") (end a)) ∙ e ∙ append_assoc (exit_text y) (codes " ") (end b)) in
+    (exit_once x y t.0, ok_once a b t.1)
+
+row_once : (r s : ℕ) (x y : Exit) (a b : Bool) → r < 2 ^ 32 → s < 2 ^ 32 → decimal r ++ codes " " ++ end_text x a ≡ decimal s ++ codes " " ++ end_text y b → (r ≡ s) × (x ≡ y) × (a ≡ b)
+row_once r s x y a b h g e = let t = spaced_once r s (end_text x a) (end_text y b) h g e in let u = end_once x y a b t.1 in (t.0, u.0, u.1)
 
 -- what was done is spelled in one way
 what_once : (v w : What) → IsSmallWhat v → IsSmallWhat w → verb v ++ args v ≡ verb w ++ args w → v ≡ w
 what_once (Open s p) (Open t q) h g e = let o = two_once s p t q h.0 h.1 g.0 g.1 (append_cancel_left (codes "open ") _ _ e) in ap (λ x. Open x p) o.0 ∙ ap (λ x. Open t x) o.1
 what_once (Acquire s p) (Acquire t q) h g e = let o = two_once s p t q h.0 h.1 g.0 g.1 (append_cancel_left (codes "acquire ") _ _ e) in ap (λ x. Acquire x p) o.0 ∙ ap (λ x. Acquire t x) o.1
 what_once (Lease s p) (Lease t q) h g e = let o = two_once s p t q h.0 h.1 g.0 g.1 (append_cancel_left (codes "lease ") _ _ e) in ap (λ x. Lease x p) o.0 ∙ ap (λ x. Lease t x) o.1
-what_once (Cancel s) (Cancel t) h g e = ap Cancel (decimal_injective s t (omega arith) (omega arith) (append_cancel_left (codes "cancel ") _ _ e))
-what_once (Close s) (Close t) h g e = ap Close (decimal_injective s t (omega arith) (omega arith) (append_cancel_left (codes "close ") _ _ e))
-what_once (Final s a) (Final t b) h g e = let o = row_once s t a b h g (append_cancel_left (codes "final ") _ _ e) in ap (λ x. Final x a) o.0 ∙ ap (λ x. Final t x) o.1
+what_once (Cancel s x) (Cancel t y) h g e = let o = told_once s t x y h g (append_cancel_left (codes "cancel ") _ _ e) in ap (λ z. Cancel z x) o.0 ∙ ap (λ z. Cancel t z) o.1
+what_once (Close s x) (Close t y) h g e = let o = told_once s t x y h g (append_cancel_left (codes "close ") _ _ e) in ap (λ z. Close z x) o.0 ∙ ap (λ z. Close t z) o.1
+what_once (Final s x a) (Final t y b) h g e = let o = row_once s t x y a b h g (append_cancel_left (codes "final ") _ _ e) in ap (λ z. Final z x a) o.0 ∙ ap (λ z. Final t z a) o.1 ∙ ap (λ z. Final t y z) o.2
 what_once v w h g e = absurd (other (verb v) (verb w) (args v) (args w) refl e)
 
 -- `outer` is no number

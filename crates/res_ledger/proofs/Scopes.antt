@@ -6,7 +6,7 @@ use Rattle.chunk_core.specs.Lists.IsAmong.{here, there}
 use Rattle.chunk_core.proofs.Members.{among_cons, among_nil, among_left, among_last, among_snoc}
 use Rattle.res_ledger.specs.declared.event.StreamNo.{StreamNo}
 use Rattle.res_ledger.specs.declared.event.What.{What}
-use Rattle.res_ledger.specs.declared.event.What.TheVariants.{Open, Acquire, Lease, Cancel, Close, Final}
+use Rattle.res_ledger.specs.declared.event.What.TheVariants.{Open}
 use Rattle.res_ledger.specs.declared.event.Event.{Event}
 use Rattle.res_ledger.specs.Ledger.{Notes, LiesWithin, IsClosed, MayFollow, IsLegal}
 use Rattle.res_ledger.specs.Ledger.LiesWithin.{same, below}
@@ -114,11 +114,7 @@ scopes_append P Q k = ap (λ l. turned (opens l)) (own_append k P Q) ∙ ap turn
 
 tree_what : (P : List Event) (k : StreamNo) (w : What) → MayFollow P k w → IsTree (scopes P k) → IsTree (turned (opens (w ∷ [])) ++ scopes P k)
 tree_what P k (Open s p) m t = (t, m.0, λ i. let q : ℕ × ℕ = (s, i.0) in m.1 (i.0, opens_notes P k q (turned_in (opens (own k P)) q i.1)), ⊎_elim (λ z. inl z) (λ o. let q : ℕ × ℕ = (p, o.0) in inr (o.0, in_turned (opens (own k P)) q (notes_opens P k p o.0 o.1))) m.2.0)
-tree_what P k (Acquire r s) m t = t
-tree_what P k (Lease j s) m t = t
-tree_what P k (Cancel j) m t = t
-tree_what P k (Close s) m t = t
-tree_what P k (Final r ok) m t = t
+tree_what P k w m t = t
 
 tree_event : (P : List Event) (k : StreamNo) (e : Event) (b : Bool) → same_stream e.by k ≡ b → MayFollow P e.by e.what → IsTree (scopes P k) → IsTree (turned (opens (cond b (e.what ∷ []) [])) ++ scopes P k)
 tree_event P k e true h m t = tree_what P k e.what (subst (λ q. MayFollow P q e.what) (name e.by k h) m) t

@@ -5,9 +5,12 @@ use Rattle.std.proofs.lemmas.Bool.Decides.{Decides-eqb}
 use Rattle.chunk_core.specs.Lists.{IsAmong}
 use Rattle.std.specs.List.{list_any as any, list_all as all}
 use Rattle.chunk_core.specs.Lists.IsAmong.{here, there}
+use Rattle.chunk_core.specs.declared.code.Exit.{Exit}
+use Rattle.chunk_core.specs.declared.code.Exit.TheVariants.{Succeeded, Errored, Canceled}
 use Rattle.res_ledger.specs.declared.event.StreamNo.{StreamNo}
 use Rattle.res_ledger.specs.declared.event.StreamNo.TheVariants.{Outer, Inner}
 use Rattle.res_ledger.specs.Streams.{same_stream}
+use Rattle.res_ledger.specs.Order.{same_exit}
 
 pub both : (a b : Bool) → (a && b) ≡ true → (a ≡ true) × (b ≡ true)
 both true b h = (refl, h)
@@ -53,6 +56,17 @@ name (Inner j) (Inner k) h = ap Inner (number j k h)
 pub named : (k : StreamNo) → same_stream k k ≡ true
 named Outer = refl
 named (Inner k) = itself k
+
+pub exit_is : (x y : Exit) → same_exit x y ≡ true → x ≡ y
+exit_is Succeeded Succeeded h = refl
+exit_is Errored Errored h = refl
+exit_is Canceled Canceled h = refl
+exit_is x y h = absurd (false≢true h)
+
+pub exit_same : (x : Exit) → same_exit x x ≡ true
+exit_same Succeeded = refl
+exit_same Errored = refl
+exit_same Canceled = refl
 
 pub all_at : {A : Type 0} (p : A → Bool) (x : A) (xs : List A) → IsAmong x xs → all p xs ≡ true → p x ≡ true
 all_at p x xs (here ys) h = (both (p x) (all p ys) h).0

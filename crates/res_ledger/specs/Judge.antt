@@ -66,9 +66,9 @@ abbrev pub may_follow : List Event → StreamNo → What → Bool
 may_follow P k (Open s p) = not (nat_eq s 0) && (not (any (is_of s) (opens (own k P))) && is_usable (own k P) p)
 may_follow P k (Acquire r s) = not (is_acquired P r) && is_usable (own k P) s
 may_follow P k (Lease j s) = not (is_leased P j) && (not (same_stream k (Inner j)) && is_usable (own k P) s)
-may_follow P k (Cancel j) = is_leased P j && (not (is_noted (is_cancel j) P) && (is_finished P k j || is_unstarted P k j))
-may_follow P k (Close s) = is_usable (own k P) s
-may_follow P k (Final r ok) = is_handed P r && (any (is_of r) (rows (own k P)) || is_inherited P k r)
+may_follow P k (Cancel j x) = is_leased P j && (not (is_noted (is_cancel j) P) && (is_finished P k j || is_unstarted P k j))
+may_follow P k (Close s x) = is_usable (own k P) s
+may_follow P k (Final r x ok) = is_handed P r && (any (is_of r) (rows (own k P)) || is_inherited P k r)
 
 -- a test of IsLegal
 abbrev pub is_legal : List Event → Bool
@@ -79,18 +79,12 @@ abbrev pub is_answered : List Event → StreamNo → What → Bool
 is_answered L k (Open s p) = is_closed (own k L) s
 is_answered L k (Acquire r s) = nat_eq (final_count r L) 1 && is_closed (own k L) 0
 is_answered L k (Lease j s) = nat_eq (cancel_count j L) 1
-is_answered L k (Cancel j) = true
-is_answered L k (Close s) = true
-is_answered L k (Final r ok) = true
+is_answered L k w = true
 
 -- an event stands behind what has to stand before it
 abbrev pub is_late : List Event → List Event → What → Bool
-is_late L P (Open s p) = true
-is_late L P (Acquire r s) = true
-is_late L P (Lease j s) = true
-is_late L P (Cancel j) = true
-is_late L P (Close s) = true
-is_late L P (Final r ok) = is_row_closed P r && is_released L P r
+is_late L P (Final r x ok) = is_row_closed P r && is_released L P r
+is_late L P w = true
 
 -- a test of IsComplete
 abbrev pub is_complete : List Event → Bool

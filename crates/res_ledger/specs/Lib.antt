@@ -1,4 +1,5 @@
 pub mod Ledger
+pub mod Rising
 pub mod Texts
 pub mod Reading
 pub mod Streams

@@ -1,9 +1,11 @@
 -- In which order a stream notes the ends of its rows.
 use Rattle.std.specs.Prelude.{◌≡◌, ◌↔◌, ℕ, Bool, true, false, nat_eq, ◌&&◌, if◌then◌else◌, List, [], ◌∷◌, ◌++◌, reverse, flat_map}
 use Rattle.std.specs.List.{list_all as all}
+use Rattle.chunk_core.specs.declared.code.Exit.{Exit}
+use Rattle.chunk_core.specs.declared.code.Exit.TheVariants.{Succeeded, Errored, Canceled}
 use Rattle.res_ledger.specs.declared.event.StreamNo.{StreamNo}
 use Rattle.res_ledger.specs.declared.event.What.{What}
-use Rattle.res_ledger.specs.declared.event.What.TheVariants.{Open, Acquire, Lease, Cancel, Close, Final}
+use Rattle.res_ledger.specs.declared.event.What.TheVariants.{Cancel, Close, Final}
 use Rattle.res_ledger.specs.declared.event.Event.{Event}
 use Rattle.res_ledger.specs.Own.{own, leased_of, teardown, leased_rows, has}
 
@@ -18,30 +20,28 @@ abbrev pub firsts : List (ℕ × Bool) → List ℕ
 firsts [] = []
 firsts (f ∷ fs) = f.0 ∷ firsts fs
 
--- a run of Finals
-abbrev pub finals : List (ℕ × Bool) → List What
-finals [] = []
-finals (f ∷ fs) = Final f.0 f.1 ∷ finals fs
+-- a run of Finals, each with the exit x
+abbrev pub finals : Exit → List (ℕ × Bool) → List What
+finals x [] = []
+finals x (f ∷ fs) = Final f.0 x f.1 ∷ finals x fs
 
--- an Open, an Acquire or a Lease
+-- neither a Cancel nor a Close nor a Final
 abbrev pub is_plain : What → Bool
-is_plain (Open s p) = true
-is_plain (Acquire r s) = true
-is_plain (Lease j s) = true
-is_plain (Cancel j) = false
-is_plain (Close s) = false
-is_plain (Final r ok) = false
+is_plain (Cancel j x) = false
+is_plain (Close s x) = false
+is_plain (Final r x ok) = false
+is_plain w = true
 
 -- any row
 abbrev pub IsAny : ℕ → Type 0
 IsAny r = Unit {0}
 
--- E, standing after A, is made of plain events, of Closes each with a run of Finals in the order of its teardown, and of Cancels each with a run of Finals in the order of what is due there; a Close may leave out the rows that may wait
+-- E, standing after A, is made of plain events, of Closes each with a run of Finals in the order of its teardown, and of Cancels each with a run of Finals in the order of what is due there; each Final has the exit of the Close or Cancel that its run follows, and a Close may leave out the rows that may wait
 pub data IsInBlocks (may : ℕ → Type 0) (due : ℕ → List ℕ) : List What → List What → Type 0 where
   none : (A : List What) → IsInBlocks may due A []
   plain : (A E : List What) (w : What) → is_plain w ≡ true → IsInBlocks may due (A ++ w ∷ []) E → IsInBlocks may due A (w ∷ E)
-  close : (A E : List What) (s : ℕ) (fs : List (ℕ × Bool)) → Picks may (firsts fs) (teardown A s) → IsInBlocks may due (A ++ Close s ∷ finals fs) E → IsInBlocks may due A (Close s ∷ (finals fs ++ E))
-  cancel : (A E : List What) (j : ℕ) (fs : List (ℕ × Bool)) → Picks IsAny (firsts fs) (due j) → IsInBlocks may due (A ++ Cancel j ∷ finals fs) E → IsInBlocks may due A (Cancel j ∷ (finals fs ++ E))
+  close : (A E : List What) (s : ℕ) (x : Exit) (fs : List (ℕ × Bool)) → Picks may (firsts fs) (teardown A s) → IsInBlocks may due (A ++ Close s x ∷ finals x fs) E → IsInBlocks may due A (Close s x ∷ (finals x fs ++ E))
+  cancel : (A E : List What) (j : ℕ) (x : Exit) (fs : List (ℕ × Bool)) → Picks IsAny (firsts fs) (due j) → IsInBlocks may due (A ++ Cancel j x ∷ finals x fs) E → IsInBlocks may due A (Cancel j x ∷ (finals x fs ++ E))
 
 -- what is drawn from each event and the list of those before it, which begins with P
 abbrev pub gathered : (List Event → Event → List ℕ) → List Event → List Event → List ℕ
@@ -81,19 +81,23 @@ passes_after may r (y ∷ ys) go = if nat_eq y r then go ys else (may y && passe
 abbrev pub any_row : ℕ → Bool
 any_row r = true
 
--- E, standing after A, is in blocks, where Finals of the rows xs may come first and those that pass m may be left out
-abbrev pub is_in_blocks : (ℕ → Bool) → (ℕ → List ℕ) → List What → (ℕ → Bool) → List ℕ → List What → Bool
-is_in_blocks may due A m xs [] = all m xs
-is_in_blocks may due A m xs (Open s p ∷ E) = all m xs && is_in_blocks may due (A ++ Open s p ∷ []) any_row [] E
-is_in_blocks may due A m xs (Acquire r s ∷ E) = all m xs && is_in_blocks may due (A ++ Acquire r s ∷ []) any_row [] E
-is_in_blocks may due A m xs (Lease j s ∷ E) = all m xs && is_in_blocks may due (A ++ Lease j s ∷ []) any_row [] E
-is_in_blocks may due A m xs (Cancel j ∷ E) = all m xs && is_in_blocks may due (A ++ Cancel j ∷ []) any_row (due j) E
-is_in_blocks may due A m xs (Close s ∷ E) = all m xs && is_in_blocks may due (A ++ Close s ∷ []) may (teardown A s) E
-is_in_blocks may due A m xs (Final r ok ∷ E) = passes_after m r xs (λ ys. is_in_blocks may due (A ++ Final r ok ∷ []) m ys E)
+abbrev pub same_exit : Exit → Exit → Bool
+same_exit Succeeded Succeeded = true
+same_exit Errored Errored = true
+same_exit Canceled Canceled = true
+same_exit x y = false
+
+-- E, standing after A, is in blocks, where Finals of the rows xs with the exit x may come first and those that pass m may be left out
+abbrev pub is_in_blocks : (ℕ → Bool) → (ℕ → List ℕ) → List What → Exit → (ℕ → Bool) → List ℕ → List What → Bool
+is_in_blocks may due A x m xs [] = all m xs
+is_in_blocks may due A x m xs (Cancel j y ∷ E) = all m xs && is_in_blocks may due (A ++ Cancel j y ∷ []) y any_row (due j) E
+is_in_blocks may due A x m xs (Close s y ∷ E) = all m xs && is_in_blocks may due (A ++ Close s y ∷ []) y may (teardown A s) E
+is_in_blocks may due A x m xs (Final r y ok ∷ E) = same_exit y x && passes_after m r xs (λ ys. is_in_blocks may due (A ++ Final r y ok ∷ []) x m ys E)
+is_in_blocks may due A x m xs (w ∷ E) = all m xs && is_in_blocks may due (A ++ w ∷ []) x any_row [] E
 
 -- a test of IsInOrder
 abbrev pub is_in_order : List Event → StreamNo → Bool
-is_in_order L k = is_in_blocks (λ r. has r (covered L)) (λ j. reverse (covered_by L j)) [] any_row [] (own k L)
+is_in_order L k = is_in_blocks (λ r. has r (covered L)) (λ j. reverse (covered_by L j)) [] Succeeded any_row [] (own k L)
 
 -- a test of IsOrdered, by the streams that noted something
 abbrev pub is_ordered : List Event → Bool

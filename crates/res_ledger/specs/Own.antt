@@ -1,11 +1,10 @@
 -- What one stream noted, in order, and what its scopes and rows are by it.
-use Rattle.std.specs.Prelude.{ℕ, Bool, true, false, nat_eq, ◌&&◌, ◌||◌, not, if◌then◌else◌, List, [], ◌∷◌, ◌++◌, flat_map}
+use Rattle.std.specs.Prelude.{ℕ, Bool, nat_eq, ◌&&◌, ◌||◌, not, if◌then◌else◌, List, [], ◌∷◌, ◌++◌, flat_map}
 use Rattle.std.specs.List.{list_any as any}
 use Rattle.res_ledger.specs.Streams.{same_stream}
 use Rattle.res_ledger.specs.declared.event.StreamNo.{StreamNo}
-use Rattle.res_ledger.specs.declared.event.StreamNo.TheVariants.{Outer, Inner}
 use Rattle.res_ledger.specs.declared.event.What.{What}
-use Rattle.res_ledger.specs.declared.event.What.TheVariants.{Open, Acquire, Lease, Cancel, Close, Final}
+use Rattle.res_ledger.specs.declared.event.What.TheVariants.{Open, Acquire, Lease, Cancel, Close}
 use Rattle.res_ledger.specs.declared.event.Event.{Event}
 
 -- what k noted, in order
@@ -16,47 +15,27 @@ own k (e ∷ L) = if same_stream e.by k then e.what ∷ own k L else own k L
 -- the scope that an event opens, with its parent
 abbrev pub opens_of : What → List (ℕ × ℕ)
 opens_of (Open s p) = (s, p) ∷ []
-opens_of (Acquire r s) = []
-opens_of (Lease j s) = []
-opens_of (Cancel j) = []
-opens_of (Close s) = []
-opens_of (Final r ok) = []
+opens_of w = []
 
 -- the row that an event acquires, with its scope
 abbrev pub rows_of : What → List (ℕ × ℕ)
-rows_of (Open s p) = []
 rows_of (Acquire r s) = (r, s) ∷ []
-rows_of (Lease j s) = []
-rows_of (Cancel j) = []
-rows_of (Close s) = []
-rows_of (Final r ok) = []
+rows_of w = []
 
 -- the scope that an event closes
 abbrev pub closes_of : What → List ℕ
-closes_of (Open s p) = []
-closes_of (Acquire r s) = []
-closes_of (Lease j s) = []
-closes_of (Cancel j) = []
-closes_of (Close s) = s ∷ []
-closes_of (Final r ok) = []
+closes_of (Close s x) = s ∷ []
+closes_of w = []
 
 -- the stream that an event leases a scope for, with the scope
 abbrev pub leased_of : What → List (ℕ × ℕ)
-leased_of (Open s p) = []
-leased_of (Acquire r s) = []
 leased_of (Lease j s) = (j, s) ∷ []
-leased_of (Cancel j) = []
-leased_of (Close s) = []
-leased_of (Final r ok) = []
+leased_of w = []
 
 -- the stream whose lease an event cancels
 abbrev pub canceled_of : What → List ℕ
-canceled_of (Open s p) = []
-canceled_of (Acquire r s) = []
-canceled_of (Lease j s) = []
-canceled_of (Cancel j) = j ∷ []
-canceled_of (Close s) = []
-canceled_of (Final r ok) = []
+canceled_of (Cancel j x) = j ∷ []
+canceled_of w = []
 
 -- the scopes that were opened, each with its parent, in order
 abbrev pub opens : List What → List (ℕ × ℕ)

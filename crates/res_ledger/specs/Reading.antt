@@ -23,9 +23,9 @@ abbrev pub IsSmallWhat : What → Type 0
 IsSmallWhat (Open s p) = (s < 2 ^ 32) × (p < 2 ^ 32)
 IsSmallWhat (Acquire r s) = (r < 2 ^ 32) × (s < 2 ^ 32)
 IsSmallWhat (Lease j s) = (j < 2 ^ 32) × (s < 2 ^ 32)
-IsSmallWhat (Cancel j) = j < 2 ^ 32
-IsSmallWhat (Close s) = s < 2 ^ 32
-IsSmallWhat (Final r ok) = r < 2 ^ 32
+IsSmallWhat (Cancel j x) = j < 2 ^ 32
+IsSmallWhat (Close s x) = s < 2 ^ 32
+IsSmallWhat (Final r x ok) = r < 2 ^ 32
 
 -- each number of the event but its stamp is below 2^32
 abbrev pub IsSmallEvent : Event → Type 0

@@ -1,7 +1,7 @@
 -- The events of one stream, and who has the right to finalize a row.
 use Rattle.std.specs.Prelude.{ℕ, ◌⊎◌, Bool, true, false, eqb, filter, List}
-use Rattle.res_ledger.specs.declared.event.What.TheVariants.{Acquire, Cancel}
-use Rattle.res_ledger.specs.Ledger.{Covers, Notes}
+use Rattle.res_ledger.specs.declared.event.What.TheVariants.{Acquire}
+use Rattle.res_ledger.specs.Ledger.{Covers, Notes, NotesCancel}
 use Rattle.res_ledger.specs.declared.event.Event.{Event}
 use Rattle.res_ledger.specs.declared.event.StreamNo.TheVariants.{Inner, Outer}
 use Rattle.res_ledger.specs.declared.event.StreamNo.{StreamNo}
@@ -18,4 +18,4 @@ by_stream k L = filter (λ e. same_stream e.by k) L
 
 -- k acquired the row, or cancelled a lease that covers it
 abbrev pub HasRight : List Event → StreamNo → ℕ → Type 0
-HasRight L k r = ((s : ℕ) × Notes L k (Acquire r s)) ⊎ ((j : ℕ) × (q : StreamNo) × Covers L j q r × Notes L k (Cancel j))
+HasRight L k r = ((s : ℕ) × Notes L k (Acquire r s)) ⊎ ((j : ℕ) × (q : StreamNo) × Covers L j q r × NotesCancel L k j)

@@ -1,5 +1,6 @@
 -- The text of a ledger.
 use Rattle.std.specs.Prelude.{true, false, ℕ, List, ◌++◌, length, flat_map, codes, decimal}
+use Rattle.chunk_core.specs.Texts.{exit_text}
 use Rattle.res_ledger.specs.declared.event.Event.{Event}
 use Rattle.res_ledger.specs.declared.event.StreamNo.{StreamNo}
 use Rattle.res_ledger.specs.declared.event.StreamNo.TheVariants.{Outer, Inner}
@@ -16,10 +17,10 @@ abbrev pub what_text : What → List ℕ
 what_text (Open s p) = codes "open " ++ decimal s ++ codes " " ++ decimal p
 what_text (Acquire r s) = codes "acquire " ++ decimal r ++ codes " " ++ decimal s
 what_text (Lease j s) = codes "lease " ++ decimal j ++ codes " " ++ decimal s
-what_text (Cancel j) = codes "cancel " ++ decimal j
-what_text (Close s) = codes "close " ++ decimal s
-what_text (Final r true) = codes "final " ++ decimal r ++ codes " ok"
-what_text (Final r false) = codes "final " ++ decimal r ++ codes " fault"
+what_text (Cancel j x) = codes "cancel " ++ decimal j ++ codes " " ++ exit_text x
+what_text (Close s x) = codes "close " ++ decimal s ++ codes " " ++ exit_text x
+what_text (Final r x true) = codes "final " ++ decimal r ++ codes " " ++ exit_text x ++ codes " ok"
+what_text (Final r x false) = codes "final " ++ decimal r ++ codes " " ++ exit_text x ++ codes " fault"
 
 -- one line of a ledger's text
 abbrev pub event_line : Event → List ℕ

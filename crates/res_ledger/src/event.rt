@@ -1,4 +1,5 @@
 //! What is noted in the ledger.
+use chunk_core::Exit;
 
 /// The name of a stream: the outer one, or the inner stream with a number.
 #[derive(Clone, Copy, Debug, PartialEq, Eq)]
@@ -18,12 +19,13 @@ pub enum What {
     /// A scope was leased for a stream: the lease covers the rows that are open in the scope, in
     /// its children and in the scopes above it.
     Lease { stream: u32, scope: u32 },
-    /// The lease of a stream was cancelled.
-    Cancel { stream: u32 },
-    /// A scope was closed, and with it each scope below it that was open.
-    Close { scope: u32 },
-    /// The resource of a row was finalized; `ok` is false where its finalizer failed.
-    Final { row: u32, ok: bool },
+    /// The lease of a stream was cancelled, which ended so.
+    Cancel { stream: u32, exit: Exit },
+    /// A scope was closed, which ended so, and with it each scope below it that was open.
+    Close { scope: u32, exit: Exit },
+    /// The resource of a row was finalized. Its finalizer was told the exit, and `ok` is false
+    /// where it failed.
+    Final { row: u32, exit: Exit, ok: bool },
 }
 
 /// One entry of a ledger.

@@ -1,9 +1,11 @@
 //! What a line of a ledger's text spells.
 ghost use Rattle.std.specs.Prelude.{◌≡◌, ◌≢◌, ◌<◌, ◌^◌, ◌∷◌, ◌++◌, All, MatchOption, codes, decimal, if◌then◌else◌};
+ghost use Rattle.chunk_core.specs.Texts.{exit_text};
 ghost use Rattle.res_ledger.specs.Texts.{name_text, what_text};
 ghost use Rattle.res_ledger.specs.Reading.{IsReadAs, IsReadInFront, IsSmallEvent, IsSmallStream, IsSmallWhat};
 
 use crate::event::{Event, StreamNo, What};
+use chunk_core::Exit;
 use std::str;
 
 /// The text up to the first byte of that value, and the text behind it.
@@ -53,19 +55,51 @@ fn two_numbers(text: &[u8]) -> Option<(u32, u32)>
     Some((first, short_number(rest)?))
 }
 
-/// A row, and whether its finalizer succeeded.
-fn row_end(text: &[u8]) -> Option<(u32, bool)>
-    ensures { IsReadAs (λ p. p.0 < 2 ^ 32)
-        (λ p. decimal p.0 ++ codes " " ++ (if p.1 then codes "ok" else codes "fault")) text.now result }
+fn exit(word: &[u8]) -> Option<Exit>
+    ensures { IsReadAs (λ x. Unit {0}) exit_text word.now result }
 {
-    let (row, word) = number_in_front(text)?;
-    if word == b"ok".as_slice() {
-        Some((row, true))
-    } else if word == b"fault".as_slice() {
-        Some((row, false))
+    if word == b"succeeded".as_slice() {
+        Some(Exit::Succeeded)
+    } else if word == b"errored".as_slice() {
+        Some(Exit::Errored)
+    } else if word == b"canceled".as_slice() {
+        Some(Exit::Canceled)
     } else {
         None
     }
+}
+
+/// A stream or a scope, and how it ended.
+fn number_and_exit(text: &[u8]) -> Option<(u32, Exit)>
+    ensures { IsReadAs (λ p. p.0 < 2 ^ 32) (λ p. decimal p.0 ++ codes " " ++ exit_text p.1) text.now result }
+{
+    let (number, word) = number_in_front(text)?;
+    Some((number, exit(word)?))
+}
+
+/// What a finalizer was told, and whether it succeeded.
+fn finalizer_end(text: &[u8]) -> Option<(Exit, bool)>
+    ensures { IsReadAs (λ p. Unit {0}) (λ p. exit_text p.0 ++ codes " " ++ (if p.1 then codes "ok" else codes "fault")) text.now result }
+{
+    let (told, word) = split_once(text, b' ')?;
+    let exit = exit(told)?;
+    if word == b"ok".as_slice() {
+        Some((exit, true))
+    } else if word == b"fault".as_slice() {
+        Some((exit, false))
+    } else {
+        None
+    }
+}
+
+/// A row, what its finalizer was told, and whether it succeeded.
+fn row_end(text: &[u8]) -> Option<(u32, Exit, bool)>
+    ensures { IsReadAs (λ p. p.0 < 2 ^ 32)
+        (λ p. decimal p.0 ++ codes " " ++ (exit_text p.1 ++ codes " " ++ (if p.2 then codes "ok" else codes "fault"))) text.now result }
+{
+    let (row, rest) = number_in_front(text)?;
+    let (exit, ok) = finalizer_end(rest)?;
+    Some((row, exit, ok))
 }
 
 fn stream_in_front(text: &[u8]) -> Option<(StreamNo, &[u8])>
@@ -91,14 +125,14 @@ fn what(text: &[u8]) -> Option<What>
         let (stream, scope) = two_numbers(rest)?;
         Some(What::Lease { stream, scope })
     } else if let Some(rest) = text.strip_prefix(b"cancel ") {
-        let stream = short_number(rest)?;
-        Some(What::Cancel { stream })
+        let (stream, exit) = number_and_exit(rest)?;
+        Some(What::Cancel { stream, exit })
     } else if let Some(rest) = text.strip_prefix(b"close ") {
-        let scope = short_number(rest)?;
-        Some(What::Close { scope })
+        let (scope, exit) = number_and_exit(rest)?;
+        Some(What::Close { scope, exit })
     } else if let Some(rest) = text.strip_prefix(b"final ") {
-        let (row, ok) = row_end(rest)?;
-        Some(What::Final { row, ok })
+        let (row, exit, ok) = row_end(rest)?;
+        Some(What::Final { row, exit, ok })
     } else {
         None
     }

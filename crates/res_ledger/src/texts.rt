@@ -33,10 +33,18 @@ impl fmt::Display for What {
             What::Open { scope, parent } => write!(f, "open {scope} {parent}"),
             What::Acquire { row, scope } => write!(f, "acquire {row} {scope}"),
             What::Lease { stream, scope } => write!(f, "lease {stream} {scope}"),
-            What::Cancel { stream } => write!(f, "cancel {stream}"),
-            What::Close { scope } => write!(f, "close {scope}"),
-            What::Final { row, ok: true } => write!(f, "final {row} ok"),
-            What::Final { row, ok: false } => write!(f, "final {row} fault"),
+            What::Cancel { stream, exit } => write!(f, "cancel {stream} {exit}"),
+            What::Close { scope, exit } => write!(f, "close {scope} {exit}"),
+            What::Final {
+                row,
+                exit,
+                ok: true,
+            } => write!(f, "final {row} {exit} ok"),
+            What::Final {
+                row,
+                exit,
+                ok: false,
+            } => write!(f, "final {row} {exit} fault"),
         }
     }
 }
@@ -65,6 +73,7 @@ pub fn text(alloc: Global, ledger: &Ledger) -> Result<Line, AllocError>
 #[cfg(test)]
 mod tests {
     use super::*;
+    use chunk_core::Exit;
     use std::test::Fail;
 
     fn of_events(alloc: Global, by: StreamNo, steps: [What; 3]) -> Result<Ledger, AllocError> {
@@ -91,14 +100,21 @@ mod tests {
     fn prints_each_kind_of_event(rt: HostRuntime) -> Result<(), Fail> {
         let one_row = [
             What::Acquire { row: 0, scope: 0 },
-            What::Close { scope: 0 },
-            What::Final { row: 0, ok: true },
+            What::Close {
+                scope: 0,
+                exit: Exit::Succeeded,
+            },
+            What::Final {
+                row: 0,
+                exit: Exit::Succeeded,
+                ok: true,
+            },
         ];
         let ledger = of_events(rt.alloc(), StreamNo::Inner(0), one_row)?;
         let printed = text(rt.alloc(), &ledger)?;
         assert_eq!(rt;
             printed.as_slice(),
-            b"ledger 3\n0 acquire 0 0\n0 close 0\n0 final 0 ok\n".as_slice()
+            b"ledger 3\n0 acquire 0 0\n0 close 0 succeeded\n0 final 0 succeeded ok\n".as_slice()
         );
         let leased = [
             What::Open {
@@ -109,22 +125,26 @@ mod tests {
                 stream: 5,
                 scope: 1,
             },
-            What::Cancel { stream: 5 },
+            What::Cancel {
+                stream: 5,
+                exit: Exit::Canceled,
+            },
         ];
         let ledger = of_events(rt.alloc(), StreamNo::Outer, leased)?;
         let printed = text(rt.alloc(), &ledger)?;
         assert_eq!(rt;
             printed.as_slice(),
-            b"ledger 3\nouter open 1 0\nouter lease 5 1\nouter cancel 5\n".as_slice()
+            b"ledger 3\nouter open 1 0\nouter lease 5 1\nouter cancel 5 canceled\n".as_slice()
         );
         let line = format!(in rt.alloc();
             "{}",
             What::Final {
                 row: 4294967295,
+                exit: Exit::Errored,
                 ok: false
             }
         )?;
-        assert_eq!(rt; line.as_str(), "final 4294967295 fault");
+        assert_eq!(rt; line.as_str(), "final 4294967295 errored fault");
         Ok(())
     }
 }

@@ -1,8 +1,10 @@
-use Rattle.std.proofs.Common.{codes}
-use Rattle.res_ledger.proofs.Spelled.{no_end, unequal}
+use Rattle.std.proofs.Common.{◌<◌, ◌^◌, ◌++◌, decimal, codes, sym, subst}
+use Rattle.res_ledger.specs.Reading.{IsReadAs}
+use Rattle.res_ledger.proofs.Spelled.{back_none, number_has_no_space, end_text}
 use Rattle.res_ledger.proofs.spelling.row_end.Goals as goal
 
-pub returns-else-eq-2 : goal.returns-else-eq-2
-returns-else-eq-2 c =
+pub returns-in_err-exit : goal.returns-in_err-exit
+returns-in_err-exit c =
     let front = c.in_ok-row.ensures in
-    no_end c.args.text.now _ c.in_ok-row.row front.0 front.1 (unequal _ _ (codes "ok") c.if-eq.ensures c.as_slice.ensures) (unequal _ _ (codes "fault") c.if-eq-2.ensures c.as_slice-else-eq.ensures)
+    subst (λ o. IsReadAs (λ p. p.0 < 2 ^ 32) (λ p. decimal p.0 ++ codes " " ++ end_text p.1 p.2) c.args.text.now o) (sym c.from_residual-in_err-exit.ensures)
+    (λ p small. back_none 32 (λ n. n < 2 ^ 32) decimal number_has_no_space (λ x. Unit {0}) (λ x. end_text x.0 x.1) c.args.text.now _ _ front.0 front.1 c.in_err-exit.ensures p.0 (p.1, p.2) small tt)
