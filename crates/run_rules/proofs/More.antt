@@ -32,6 +32,7 @@ module _ (work : Work) (c : Deed) (u m : Bool) (unwritten : c.unwritten ≡ true
       cut = ⊎_elim (λ e. inl e) (λ x. inr (unwritten x.0, x.1)) r.outputs.cut;
     };
     ends = record { named = r.ends.named; caused = caused_more c.ends r.ends.caused; memory = λ e. memory (r.ends.memory e) };
+    exits = r.exits;
     completeness = λ none n.
         let w = r.completeness (still_false c.memory m memory none) (record { written = still_false c.unwritten u unwritten n.written; devices = n.devices; ideal = n.ideal }) in
         record { done = w.done; clean = w.clean; output = w.output };

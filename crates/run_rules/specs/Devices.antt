@@ -1,11 +1,15 @@
 -- The devices that a run made.
-use Rattle.std.specs.Prelude.{◌≡◌, ℕ, ◌+◌, ◌<◌, false, ◌&&◌, nat_eq, nat_lt, List, [], ◌∷◌, ◌++◌, map, length, drop, filter, count_by, flat_map, Option, Some, None}
+use Rattle.std.specs.Prelude.{◌≡◌, ℕ, suc, ◌<◌, Bool, false, nat_eq, nat_lt, List, [], ◌∷◌, ◌++◌, map, length, drop, filter, count_by, flat_map, Option, Some, None}
+use Rattle.std.specs.List.Sorted.{IsPermutation}
 use Rattle.chunk_core.specs.Lists.{Each, One}
+use Rattle.chunk_core.specs.declared.code.Exit.{Exit}
+use Rattle.res_ledger.specs.declared.event.What.{What}
 use Rattle.res_ledger.specs.declared.event.Event.{Event}
+use Rattle.res_ledger.specs.Order.{same_exit}
 use Rattle.device_port.specs.declared.device.Mode.TheVariants as mode
 use Rattle.device_port.specs.Device.{Place, DeviceTold}
 use Rattle.device_port.specs.Depot.{DepotTold, KeepsFilesBut}
-use Rattle.run_rules.specs.Facts.{is_place, at, acquired_row, failed_row}
+use Rattle.run_rules.specs.Facts.{is_place, at, acquired_row, failed_row, ended_row}
 
 -- the devices that came back in this run, and the places that devices were made for
 abbrev pub came_back : DepotTold → DepotTold → List DeviceTold
@@ -14,10 +18,18 @@ came_back old new = drop (length old.retired) new.retired
 abbrev pub made_for : DepotTold → DepotTold → List Place
 made_for old new = drop (length old.made) new.made
 
--- the devices with the numbers from n on were made for these places, and each came back once
-abbrev pub ComeBackOnce : List DeviceTold → ℕ → List Place → Type 0
-ComeBackOnce ds n [] = Unit {0}
-ComeBackOnce ds n (p ∷ ps) = (count_by (λ d. nat_eq d.number n && is_place d.place p) ds ≡ 1) × ComeBackOnce ds (n + 1) ps
+-- these places, with the numbers from n on
+abbrev pub numbered : ℕ → List Place → List (ℕ × Place)
+numbered n [] = []
+numbered n (p ∷ ps) = (n, p) ∷ numbered (suc n) ps
+
+-- a device, by its number and its place
+abbrev pub named : DeviceTold → ℕ × Place
+named d = (d.number, d.place)
+
+-- the device was closed with this exit
+abbrev pub is_closed_with : Exit → DeviceTold → Bool
+is_closed_with x d = elim d.exit [ Some y ↦ same_exit x y | None ↦ false ]
 
 -- each place stands as often in the one list as in the other
 abbrev pub StandAsOften : List Place → List Place → Type 0
@@ -27,6 +39,10 @@ StandAsOften xs ys = Each (λ p. count_by (is_place p) xs ≡ count_by (is_place
 abbrev pub place_of : List Place → Option ℕ → List Place
 place_of ps None = []
 place_of ps (Some r) = elim (at ps r) [ Some p ↦ p ∷ [] | None ↦ [] ]
+
+-- by path and mode, the devices that pass are as many as the rows that the events name
+abbrev pub AreAsMany : (DeviceTold → Bool) → (What → Option ℕ) → List DeviceTold → List Place → List Event → Type 0
+AreAsMany passes row ds places L = StandAsOften (map (λ d. d.place) (filter passes ds)) (flat_map (λ e. place_of places (row e.what)) L)
 
 -- the row is one of the n rows
 abbrev pub IsRowBelow : ℕ → Option ℕ → Type 0
@@ -38,15 +54,15 @@ abbrev pub IsWritten : List Place → List ℕ → Type 0
 IsWritten ps path = One (λ p. (p.mode ≡ mode.Write) × (p.path ≡ path)) ps
 
 -- Each device made in the run came back once, isn't open, and was closed as often as it was opened. By path and mode, the
--- devices that were opened are the rows acquired, and those whose close failed are the rows whose Final isn't ok. Files change
--- at the written paths alone.
+-- devices that were opened are as many as the rows acquired, those whose close failed as the rows whose Final isn't ok, and
+-- those closed with an exit as the rows whose Final has it. Files change at the written paths alone.
 pub record DevicesAccounted (old new : DepotTold) (places : List Place) (L : List Event) : Type 0 where
   pub made : new.made ≡ old.made ++ made_for old new
   pub retired : new.retired ≡ old.retired ++ came_back old new
-  pub number : length (came_back old new) ≡ length (made_for old new)
-  pub once : ComeBackOnce (came_back old new) (length old.made) (made_for old new)
+  pub once : IsPermutation (numbered (length old.made) (made_for old new)) (map named (came_back old new))
   pub shut : Each (λ d. (d.is_open ≡ false) × (d.closes ≡ d.opens)) (came_back old new)
   pub rows : Each (λ e. IsRowBelow (length places) (acquired_row e.what)) L
-  pub acquired : StandAsOften (map (λ d. d.place) (filter (λ d. nat_eq d.opens 1) (came_back old new))) (flat_map (λ e. place_of places (acquired_row e.what)) L)
-  pub failed : StandAsOften (map (λ d. d.place) (filter (λ d. nat_lt 0 d.close_faults) (came_back old new))) (flat_map (λ e. place_of places (failed_row e.what)) L)
+  pub acquired : AreAsMany (λ d. nat_eq d.opens 1) acquired_row (came_back old new) places L
+  pub failed : AreAsMany (λ d. nat_lt 0 d.close_faults) failed_row (came_back old new) places L
+  pub exits : (exit : Exit) → AreAsMany (is_closed_with exit) (ended_row exit) (came_back old new) places L
   pub files : KeepsFilesBut (IsWritten places) old.files new.files

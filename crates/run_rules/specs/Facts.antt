@@ -1,12 +1,14 @@
 -- Tests on names, places, ends and events, which compute on a list that is written out.
-use Rattle.std.specs.Prelude.{ℕ, zero, suc, Bool, true, false, ◌&&◌, not, nat_eq, List, [], ◌∷◌, ◌++◌, Option, Some, None}
+use Rattle.std.specs.Prelude.{ℕ, zero, suc, Bool, true, false, ◌&&◌, not, nat_eq, if◌then◌else◌, List, [], ◌∷◌, Option, Some, None, is_some}
 use Rattle.std.specs.Str.{bytes_eq}
-use Rattle.std.specs.List.{list_any as any}
+use Rattle.std.specs.List.{range_with_len, list_any as any}
+use Rattle.chunk_core.specs.declared.code.Exit.{Exit}
 use Rattle.chunk_core.specs.declared.code.How.{How}
 use Rattle.chunk_core.specs.declared.code.How.TheVariants as how
 use Rattle.res_ledger.specs.declared.event.What.{What}
-use Rattle.res_ledger.specs.declared.event.What.TheVariants.{Open, Acquire, Lease, Cancel, Close, Final}
+use Rattle.res_ledger.specs.declared.event.What.TheVariants.{Acquire, Lease, Close, Final}
 use Rattle.res_ledger.specs.declared.event.Event.{Event}
+use Rattle.res_ledger.specs.Order.{same_exit}
 use Rattle.device_port.specs.declared.device.Mode.{Mode}
 use Rattle.device_port.specs.declared.device.Mode.TheVariants as mode
 use Rattle.device_port.specs.Device.{Place}
@@ -29,8 +31,7 @@ at (x ∷ xs) (suc i) = at xs i
 
 -- the numbers below n
 abbrev pub below : ℕ → List ℕ
-below zero = []
-below (suc n) = below n ++ n ∷ []
+below n = range_with_len 0 n
 
 abbrev pub is_fault : How → Bool
 is_fault (how.Fault c) = true
@@ -59,48 +60,36 @@ is_over how.Memory = false
 
 -- a finalizer failed
 abbrev pub is_failed : What → Bool
-is_failed (Final r ok) = not ok
-is_failed (Open s p) = false
-is_failed (Acquire r s) = false
-is_failed (Lease j s) = false
-is_failed (Cancel j) = false
-is_failed (Close s) = false
+is_failed (Final r x ok) = not ok
+is_failed w = false
+
+-- the exit of a Close of the root
+abbrev pub root_exit : What → Option Exit
+root_exit (Close s x) = if nat_eq s 0 then Some x else None
+root_exit w = None
 
 abbrev pub is_root_close : What → Bool
-is_root_close (Close s) = nat_eq s 0
-is_root_close (Open s p) = false
-is_root_close (Acquire r s) = false
-is_root_close (Lease j s) = false
-is_root_close (Cancel j) = false
-is_root_close (Final r ok) = false
+is_root_close w = is_some (root_exit w)
 
 -- the row that is acquired
 abbrev pub acquired_row : What → Option ℕ
 acquired_row (Acquire r s) = Some r
-acquired_row (Open s p) = None
-acquired_row (Lease j s) = None
-acquired_row (Cancel j) = None
-acquired_row (Close s) = None
-acquired_row (Final r ok) = None
+acquired_row w = None
 
 -- the row whose finalizer failed
 abbrev pub failed_row : What → Option ℕ
-failed_row (Final r true) = None
-failed_row (Final r false) = Some r
-failed_row (Open s p) = None
-failed_row (Acquire r s) = None
-failed_row (Lease j s) = None
-failed_row (Cancel j) = None
-failed_row (Close s) = None
+failed_row (Final r x ok) = if ok then None else Some r
+failed_row w = None
+
+-- the row whose finalizer was told this exit
+abbrev pub ended_row : Exit → What → Option ℕ
+ended_row x (Final r y ok) = if same_exit x y then Some r else None
+ended_row x w = None
 
 -- the stream that is leased for
 abbrev pub leased_stream : What → Option ℕ
 leased_stream (Lease j s) = Some j
-leased_stream (Open s p) = None
-leased_stream (Acquire r s) = None
-leased_stream (Cancel j) = None
-leased_stream (Close s) = None
-leased_stream (Final r ok) = None
+leased_stream w = None
 
 -- an event says so
 abbrev pub has : (What → Bool) → List Event → Bool

@@ -1,27 +1,28 @@
 -- What the work below the top call promises: what its streams gave, how they ended, and that nothing is missing where nothing failed.
-use Rattle.std.specs.Prelude.{◌≡◌, ◌⊎◌, ℕ, ◌+◌, ◌<◌, Bool, true, false, ◌&&◌, ◌||◌, not, nat_eq, nat_lt, List, [], ◌∷◌, ◌++◌, map, length, Option, Some, None, IfSome}
+use Rattle.std.specs.Prelude.{◌≡◌, ◌⊎◌, ℕ, ◌+◌, ◌<◌, Bool, true, false, ◌&&◌, nat_eq, nat_lt, List, [], ◌∷◌, ◌++◌, map, filter, filter_map, length, Option, Some, None, IfSome}
 use Rattle.chunk_core.specs.Lists.{Each, One}
 use Rattle.std.specs.List.{list_any as any, list_all as all}
 use Rattle.chunk_core.specs.Texts.{Frame, frame_text, payloads_of}
 use Rattle.chunk_core.specs.Elements.{Element, rendering_of}
-use Rattle.chunk_core.specs.Outcomes.{End, Done, Fault, Cut}
+use Rattle.chunk_core.specs.Outcomes.{End, Done, Fault, Cut, exit_of}
 use Rattle.chunk_core.specs.declared.code.Code.{Code}
 use Rattle.chunk_core.specs.declared.code.Code.TheVariants as code
+use Rattle.chunk_core.specs.declared.code.Exit.{Exit}
 use Rattle.chunk_core.specs.declared.code.How.{How}
 use Rattle.chunk_core.specs.declared.code.How.TheVariants as how
 use Rattle.res_ledger.specs.declared.event.StreamNo.{StreamNo}
 use Rattle.res_ledger.specs.declared.event.StreamNo.TheVariants.{Outer, Inner}
 use Rattle.res_ledger.specs.declared.event.What.{What}
-use Rattle.res_ledger.specs.declared.event.What.TheVariants.{Open, Acquire, Lease, Cancel, Close, Final}
+use Rattle.res_ledger.specs.declared.event.What.TheVariants.{Acquire, Final}
 use Rattle.res_ledger.specs.declared.event.Event.{Event}
 use Rattle.res_ledger.specs.Streams.{same_stream, by_stream}
 use Rattle.res_ledger.specs.Ledger.{IsLegal}
 use Rattle.res_ledger.specs.Whole.{IsComplete}
 use Rattle.res_ledger.specs.Order.{IsOrdered}
 use Rattle.device_port.specs.Device.{Place, DeviceTold, faults_of}
-use Rattle.device_port.specs.Depot.{content_at}
+use Rattle.device_port.specs.Depot.{AreApart, content_at}
 use Rattle.run_rules.specs.declared.end.EndOf.{EndOf}
-use Rattle.run_rules.specs.Facts.{is_place, at, below, is_fault, is_halted, is_memory, is_over, is_failed, is_root_close, acquired_row, leased_stream, has}
+use Rattle.run_rules.specs.Facts.{is_place, at, below, is_fault, is_halted, is_memory, is_over, is_failed, is_root_close, root_exit, acquired_row, leased_stream, has}
 use Rattle.run_rules.specs.Work.{Work, Stream, Deed, places_of, names_of, owners_of}
 use Rattle.run_rules.specs.Devices.{DevicesAccounted, came_back}
 
@@ -48,23 +49,16 @@ AreAtHome c w r (p ∷ ps) =
 abbrev pub is_tried : DeviceTold → Bool
 is_tried d = nat_lt 0 (d.opens + d.open_faults)
 
--- no device that was tried stands twice
-abbrev pub are_apart : List DeviceTold → Bool
-are_apart [] = true
-are_apart (d ∷ ds) = (not (is_tried d) || all (λ x. not (is_tried x && nat_eq x.number d.number)) ds) && are_apart ds
-
--- a row that is acquired is one whose device was opened, and its Final is ok where no close of its device failed
+-- a row that is acquired is one whose device was opened; its Final has the exit that its device was closed with, and is ok where no close of it failed
 abbrev pub IsTied : (ℕ → DeviceTold) → What → Type 0
 IsTied w (Acquire r s) = (w r).opens ≡ 1
-IsTied w (Final r ok) = ok ≡ nat_eq (w r).close_faults 0
-IsTied w (Open s p) = Unit {0}
-IsTied w (Lease j s) = Unit {0}
-IsTied w (Cancel j) = Unit {0}
-IsTied w (Close s) = Unit {0}
+IsTied w (Final r x ok) = ((w r).exit ≡ Some x) × (ok ≡ nat_eq (w r).close_faults 0)
+IsTied w v = Unit {0}
 
+-- no device that was tried is the home of two rows
 pub record HaveHomes (work : Work) (c : Deed) (w : ℕ → DeviceTold) : Type 0 where
   pub at_home : AreAtHome c w 0 (places_of work)
-  pub apart : are_apart (map w (below (length (places_of work)))) ≡ true
+  pub apart : AreApart (filter is_tried (map w (below (length (places_of work)))))
   pub tied : Each (λ e. IsTied w e.what) c.events
 
 -- The outputs.
@@ -139,6 +133,16 @@ pub record HaveEnds (work : Work) (c : Deed) : Type 0 where
   pub caused : Each (IsCaused work c) c.ends
   pub memory : any (λ e. is_memory e.how) c.ends ≡ true → c.memory ≡ true
 
+-- The exits.
+
+-- the exits of the Closes of a stream's root
+abbrev pub root_exits : StreamNo → List Event → List Exit
+root_exits k L = filter_map (λ e. root_exit e.what) (by_stream k L)
+
+-- each Close of a stream's root has the exit of the stream's end
+abbrev pub HaveExits : Deed → Type 0
+HaveExits c = Each (λ e. Each (λ x. x ≡ exit_of e.how) (root_exits e.who c.events)) c.ends
+
 -- Completeness.
 
 -- no write failed, no device failed, and over these contents each stream's ideal runs end by themselves without a fault
@@ -170,6 +174,7 @@ pub record Ran (work : Work) (c : Deed) : Type 0 where
   pub rows : HaveHomes work c home
   pub outputs : HaveOutputs work c home
   pub ends : HaveEnds work c
+  pub exits : HaveExits c
   pub completeness : c.memory ≡ false → NothingFailed work c home → IsWhole work c home
 
 -- an event is by a stream of the work, leases for one of them, and acquires a row of its own stream
