@@ -2,7 +2,8 @@
 use Rattle.std.proofs.Common.{◌≡◌, ◌≢◌, ℕ, ◌≤◌, ◌⊎◌, ◌↔◌, true, map, List, [], inl, inr, sym, ap, ◌∙◌, subst, ⊎_elim, arith}
 use Rattle.std.specs.Prelude.{Option}
 use Rattle.row_seat.specs.Totals.{IsAt, row_times, times}
-use Rattle.row_seat.specs.Rule.{Book, GivenIn, Hold, LeftIn, Purse, RuleHolds, Stands, Who, Work, book, deed, hold, purse, who, work}
+use Rattle.row_seat.specs.Rule.{Book, GivenIn, Hold, LeftIn, Purse, RuleHolds, Stands, Who, Work, book, deed, hold, purse, seen, who, work}
+use Rattle.row_seat.specs.Views.{MayStay}
 use Rattle.res_ledger.specs.Ledger.{Covers, IsAcquired, IsCanceled, IsFinalized, IsLeased, Notes}
 use Rattle.res_ledger.specs.declared.event.Event.{Event}
 use Rattle.chunk_core.specs.Lists.{IsAmong}
@@ -29,7 +30,7 @@ ends (beyond a b c d i j) ve vo vn vh x = absurd (j x)
 
 module _ {P : Type 0} (rows room : ℕ) (word : ℕ → ℕ) (slot : ℕ → Option P) (log : List Event) (views : List (Token P)) (rule : RuleHolds rows room word slot log views) (id : ℕ) (v : Token P) (at : IsAt views id v) (live : v.live ≡ true) where
   -- a close leaves the row to a lease: the seat is the main one, and a Lease of its own covers the row, which it has a pair of or whose stream's seat is out
-  pub close_cause : (r : ℕ) → IsAmong r v.opened → word r ≢ 1 → ((j : ℕ) → IsAmong (j, r) v.pairs → (t : ℕ) × Notes v.events v.by (Lease j t)) → (v.main ≡ true) × ((j : ℕ) × Covers v.events j v.by r × (IsAmong (j, r) v.pairs ⊎ IsAmong j v.out))
+  pub close_cause : (r : ℕ) → IsAmong r v.opened → word r ≢ 1 → ((j : ℕ) → IsAmong (j, r) v.pairs → (t : ℕ) × Notes v.events v.by (Lease j t)) → MayStay (seen v []) r
   close_cause r mine more named =
       let ws = map work views in let ak = at_work rows room word slot log views rule id v at live in
       let l = total_at (λ (u : Work). times r u.opened) ws id (work v) ak in let t = times_some r v.opened mine in
@@ -60,15 +61,17 @@ module _ {P : Type 0} (rows room : ℕ) (word : ℕ → ℕ) (slot : ℕ → Opt
         both.0,
         (
           j,
-          covers_own v.by log v.events (sym (own_is rows room word slot log views rule id v at live)) j r both.1,
-          ⊎_elim (λ a. inl (mine' a.0))
-              (λ b. ⊎_elim (λ a. inl (mine' a))
-              (λ f. ⊎_elim
-              (λ lu. let o = rule.seats.out id x.0 (who v) (who u) (at_who rows room word slot log views rule id v at live) (at_map who views x.0 u y.1) both.0 lu f in inr (subst (λ z. IsAmong z v.out) (inner_is o.0 j (sym o.1 ∙ b)) o.2))
-              (λ du. absurd (among_nil (subst (λ z. IsAmong (j, r) z) (rule.spent x.0 u y.1 du).2 m)))
-              (true_or u.live))
-              (true_or u.main))
-              (rule.leases.holder x.0 j r (hold u) gh m),
+          (
+            covers_own v.by log v.events (sym (own_is rows room word slot log views rule id v at live)) j r both.1,
+            ⊎_elim (λ a. inl (mine' a.0))
+                (λ b. ⊎_elim (λ a. inl (mine' a))
+                (λ f. ⊎_elim
+                (λ lu. let o = rule.seats.out id x.0 (who v) (who u) (at_who rows room word slot log views rule id v at live) (at_map who views x.0 u y.1) both.0 lu f in inr (subst (λ z. IsAmong z v.out) (inner_is o.0 j (sym o.1 ∙ b)) o.2))
+                (λ du. absurd (among_nil (subst (λ z. IsAmong (j, r) z) (rule.spent x.0 u y.1 du).2 m)))
+                (true_or u.live))
+                (true_or u.main))
+                (rule.leases.holder x.0 j r (hold u) gh m),
+          ),
         ),
       )
 

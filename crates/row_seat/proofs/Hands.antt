@@ -1,10 +1,35 @@
 -- The payloads that a seat holds, by row.
-use Rattle.std.proofs.Common.{◌≡◌, ◌≢◌, ℕ, ◌<◌, zero, suc, cond, List, [], ◌∷◌, ◌⊎◌, length, slice_index_or, remove, inl, inr, refl, sym, ap, subst, ⊎_elim, arith, ne_eqb, eq-eqb}
+use Rattle.std.proofs.Common.{◌≡◌, ◌≢◌, ℕ, ◌<◌, zero, suc, true, false, cond, eqb, List, [], ◌∷◌, ◌⊎◌, length, slice_index_or, remove, inl, inr, refl, sym, ap, subst, ⊎_elim, arith, ne_eqb, eq-eqb}
+use Rattle.chunk_core.specs.Lists.{IsAmong}
+use Rattle.chunk_core.specs.Lists.IsAmong.{here, there}
 use Rattle.chunk_core.proofs.Members.{among_cons, among_nil}
 use Rattle.row_seat.specs.Views.{HasRow, without_row}
-use Rattle.row_seat.specs.Hands.{spot}
+use Rattle.row_seat.specs.Hands.{rows_of, spot}
+use Rattle.row_seat.specs.Steps.{without_one}
 
 module _ {P : Type 0} where
+  among_rows : (x : ℕ × P) (xs : List (ℕ × P)) → IsAmong x xs → IsAmong x.0 (rows_of xs)
+  among_rows x xs (here ys) = here (rows_of ys)
+  among_rows x xs (there y m) = there y.0 (among_rows x _ m)
+
+  has_hand : (r : ℕ) (xs : List (ℕ × P)) → IsAmong r (rows_of xs) → HasRow xs r
+  has_hand r [] m = absurd (among_nil m)
+  has_hand r (x ∷ xs) m = ⊎_elim
+      (λ e. (x.1, subst (λ n. let y : ℕ × P = (n, x.1) in IsAmong y (x ∷ xs)) (sym e) (here xs)))
+      (λ n. let t = has_hand r xs n in (t.0, there x t.1))
+      (among_cons m)
+
+  -- a row is in the hands exactly where it is one of their rows
+  pub row_among : (r : ℕ) (hands : List (ℕ × P)) (rows : List ℕ) → rows_of hands ≡ rows → HasRow hands r → IsAmong r rows
+  row_among r hands rows held h = subst (λ l. IsAmong r l) held (among_rows (r, h.0) hands h.1)
+
+  pub row_held : (r : ℕ) (hands : List (ℕ × P)) (rows : List ℕ) → rows_of hands ≡ rows → IsAmong r rows → HasRow hands r
+  row_held r hands rows held m = has_hand r hands (subst (λ l. IsAmong r l) (sym held) m)
+
+  pub rows_without : (r : ℕ) (xs : List (ℕ × P)) → rows_of (without_row r xs) ≡ without_one r (rows_of xs)
+  rows_without r [] = refl
+  rows_without r (x ∷ xs) = elim (eqb x.0 r) as (λ b. rows_of (cond b xs (x ∷ without_row r xs)) ≡ cond b (rows_of xs) (x.0 ∷ without_one r (rows_of xs))) [ true ↦ refl | false ↦ ap (λ l. x.0 ∷ l) (rows_without r xs) ]
+
   pub has_nil : (r : ℕ) → ¬ (HasRow {P = P} [] r)
   has_nil r h = among_nil h.1
 

@@ -1,5 +1,5 @@
 -- The views of a seat through the life of one row.
-use Rattle.std.proofs.Common.{◌≡◌, ℕ, ◌<◌, ◌≢◌, ◌↔◌, true, arith, List, [], ◌∷◌, ◌⊎◌, inl, inr, refl, sym, ap, ◌∙◌, subst, ⊎_elim}
+use Rattle.std.proofs.Common.{◌≡◌, ℕ, ◌<◌, ◌-◌, ◌^◌, ◌≢◌, ◌↔◌, true, arith, List, [], ◌∷◌, ◌⊎◌, inl, inr, refl, sym, ap, ◌∙◌, subst, ⊎_elim}
 use Rattle.chunk_core.specs.Lists.{IsAmong}
 use Rattle.chunk_core.specs.Lists.IsAmong.{here, there}
 use Rattle.chunk_core.proofs.Members.{among_cons, among_nil}
@@ -20,7 +20,7 @@ abbrev pub event : ℕ → What → Event
 event n w = record { stamp = n; by = Outer; what = w }
 
 abbrev pub acquired : ℕ → View ℕ
-acquired a = noted (start Outer 1 3) (event a (Acquire 0 0))
+acquired a = noted (start Outer 1 3 (2 ^ 32 - 1)) (event a (Acquire 0 0))
 
 abbrev pub written : ℕ → View ℕ
 written a = paid (placed (acquired a) 0 7) 0 8
@@ -42,11 +42,11 @@ no_lease a b j s n = ⊎_elim (λ e. cc) (λ e. cc) (two a b (Lease j s) n)
 
 -- the close hands the row over, since no Lease covers it
 pub closes_mine : (a b : ℕ) (left : Left) (w : View ℕ) → Closes (closed a b) 0 left w → w ≡ mine a b
-closes_mine a b Stays w c = absurd (let t = covers_leased (closed a b).events c.4.0 0 Outer c.4.1 in no_lease a b c.4.0 t.0 t.1)
+closes_mine a b Stays w c = absurd (let t = covers_leased (closed a b).events c.3.1.0 0 Outer c.3.1.1.0 in no_lease a b c.3.1.0 t.0 t.1)
 closes_mine a b Yours w c = c.2 ∙ ap (λ (p : ℕ). handed_over (shut (closed a b) 0 p) 0 p) (⊎_elim (λ e. ap (λ (x : ℕ × ℕ). x.1) e) (λ m. absurd (among_nil m)) (among_cons c.1))
 
 abbrev pub first : View ℕ
-first = start Outer 1 3
+first = start Outer 1 3 (2 ^ 32 - 1)
 
 abbrev pub noting : View ℕ → ℕ → What → View ℕ
 noting v n w = noted v (record { stamp = n; by = v.by; what = w })
@@ -113,7 +113,7 @@ is_life L a b d stamped both second third =
 
 -- a fresh seat with two rows
 abbrev pub two_rows : View ℕ
-two_rows = start Outer 2 3
+two_rows = start Outer 2 3 (2 ^ 32 - 1)
 
 outer_inner : (n : ℕ) → Outer ≢ Inner n
 outer_inner n e = cc

@@ -65,6 +65,12 @@ module _ {P : Type 0} (rows room : ℕ) (word : ℕ → ℕ) (slot : ℕ → Opt
   pub row_empty : (r : ℕ) → IsAmong r v.empty → (r < rows) × (word r ≡ 0)
   row_empty r m = let l = total_at (λ (u : Work). times r u.empty) (map work views) id (work v) ak in let t = times_some r v.empty m in let s = is_vacant (rule.words r) (omega arith) in (s.0, s.1)
 
+  -- no pair stands on an empty row
+  pub no_pair_on : (r : ℕ) → IsAmong r v.empty → (i : ℕ) (u : Token P) → IsAt views i u → (j : ℕ) → ¬ (IsAmong (j, r) u.pairs)
+  no_pair_on r m i u g j p =
+      let ws = map work views in let l = total_at (λ (u : Work). times r u.empty) ws id (work v) ak in let t = times_some r v.empty m in let s = is_vacant (rule.words r) (omega arith) in let s4 = s.4 in
+      let k = total_at (λ (u : Work). row_times r u.pairs) ws i (work u) (at_map work views i u g) in let q = row_some j r u.pairs p in omega arith
+
   pub row_open : (r : ℕ) → IsAmong r v.opened → (r < rows) × (word r ≡ 1 + 4 * leases r (map work views))
   row_open r m = let l = total_at (λ (u : Work). times r u.opened) (map work views) id (work v) ak in let t = times_some r v.opened m in let s = is_open (rule.words r) (omega arith) in (s.0, s.1)
 

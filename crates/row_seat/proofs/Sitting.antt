@@ -9,9 +9,10 @@ use Rattle.res_ledger.specs.declared.event.Event.{Event}
 use Rattle.res_ledger.specs.declared.event.StreamNo.TheVariants.{Inner}
 use Rattle.res_ledger.specs.Ledger.{IsAcquired, IsClosed, IsLeased, Notes}
 use Rattle.chunk_core.specs.Lists.{IsAmong}
-use Rattle.row_seat.specs.PlainSeats.{IsTable, Sits, rows_of}
+use Rattle.row_seat.specs.Hands.{rows_of}
+use Rattle.row_seat.specs.PlainSeats.{IsTable, Sits}
 use Rattle.known.specs.declared.Known.{Known}
-use Rattle.row_seat.specs.Views.{MayNote, HasRow, within, without, without_row}
+use Rattle.row_seat.specs.Views.{IsLastLease, MayNote, HasRow, within, without, without_row}
 use Rattle.row_seat.specs.declared.plain.PlainSeat.{PlainSeat}
 use Rattle.row_seat.specs.declared.plain.PlainTable.{PlainTable}
 use Rattle.row_seat.specs.declared.token.Token.{Token}
@@ -33,7 +34,7 @@ use Rattle.res_ledger.proofs.Ledgers.{stamp_below}
 use Rattle.row_seat.proofs.Ends.{given_one}
 use Rattle.row_seat.proofs.Tells.{leases_below, told_last}
 use Rattle.row_seat.proofs.Ticked.{tick_keeps}
-use Rattle.row_seat.proofs.Hands.{without_row_at}
+use Rattle.row_seat.proofs.Hands.{row_among, without_row_at}
 
 module _ {P : Type 0} {s' : PlainSeat P} {d' : PlainTable P} (s : PlainSeat P) (d : PlainTable P) (h : Sits s d) (w : Token P) (views : d'.views ≡ slice_set d.views s.id w)
     (table : IsTable d'.slots.items d'.words.items d'.events.items (vec_capacity d'.events) (slice_set d.views s.id w)) (many : length d'.slots.items ≡ length d.slots.items) where
@@ -169,23 +170,12 @@ module _ {P : Type 0} (slots : List (Option P)) (words : List ℕ) (events : Lis
   taken_slot r m n = let x = t.rule.pays.handed id r (purse v) (at_map purse views id v at) m in (x.0, x.1, x.2 n)
 
   -- what Yours tells at a leave
-  pub last_tells : (j r : ℕ) (p : P) → IsAmong (j, r) v.pairs → slice_index words r ≡ 7 → slice_index_or slots r None ≡ Some p → ¬ (IsAmong r v.opened) × ((i : ℕ) → IsAmong (i, r) v.pairs → i ≡ j) × ((q : P) → IsAmong (r, q) v.left → q ≡ p)
+  pub last_tells : (j r : ℕ) (p : P) (hands : List (ℕ × P)) → rows_of hands ≡ v.opened → IsAmong (j, r) v.pairs → slice_index words r ≡ 7 → slice_index_or slots r None ≡ Some p → IsLastLease (seen v hands) j r p
   last_tells = told_last (length slots) t.room (λ r. slice_index words r) (λ r. slice_index_or slots r None) events views t.rule id v at live
-
-pub among_map : {A : Type 0} (x : ℕ × A) (xs : List (ℕ × A)) → IsAmong x xs → IsAmong x.0 (rows_of xs)
-among_map x xs (here ys) = here (rows_of ys)
-among_map x xs (there y m) = there y.0 (among_map x _ m)
 
 -- rows in hand
 pub in_hand : {P : Type 0} (s : PlainSeat P) (d : PlainTable P) → Sits s d → (r : ℕ) → HasRow s.hands.items r → IsAmong r s.token.opened
-in_hand s d h r m = subst (λ l. IsAmong r l) h.held (among_map (r, m.0) s.hands.items m.1)
-
-pub has_hand : {P : Type 0} (r : ℕ) (xs : List (ℕ × P)) → IsAmong r (rows_of xs) → HasRow xs r
-has_hand {P = P} r [] m = absurd (among_nil m)
-has_hand {P = P} r (x ∷ xs) m = ⊎_elim
-    (λ e. (x.1, subst (λ n. let y : ℕ × P = (n, x.1) in IsAmong y (x ∷ xs)) (sym e) (here xs)))
-    (λ n. let t = has_hand r xs n in (t.0, there x t.1))
-    (among_cons m)
+in_hand s d h r m = row_among r s.hands.items s.token.opened h.held m
 
 pub inside_open : {P : Type 0} (s : PlainSeat P) (d : PlainTable P) → Sits s d → (r : ℕ) → IsAmong r s.token.opened → r < length d.slots.items
 inside_open s d h r m = (row_open (length d.slots.items) h.table.room (λ r. slice_index d.words.items r) (λ r. slice_index_or d.slots.items r None) d.events.items d.views h.table.rule s.id s.token h.mine h.live r m).0
@@ -221,10 +211,6 @@ module _ {P : Type 0} (xs : List (ℕ × P)) (i row : ℕ) (h : ℕ × P) where
 
   pub handed_token : (t u w : Token P) → u ≡ shut t h.0 h.1 → w ≡ handed_over u h.0 h.1 → h.0 ≡ row → w ≡ handed_over (shut t row h.1) row h.1
   handed_token t u w is next head = next ∙ (ap (λ (z : Token P). handed_over z h.0 h.1) is ∙ ap (λ (n : ℕ). handed_over (shut t n h.1) n h.1) head)
-
-pub rows_without : {P : Type 0} (r : ℕ) (xs : List (ℕ × P)) → rows_of (without_row r xs) ≡ without_one r (rows_of xs)
-rows_without r [] = refl
-rows_without r (x ∷ xs) = elim (eqb x.0 r) as (λ b. rows_of (cond b xs (x ∷ without_row r xs)) ≡ cond b (rows_of xs) (x.0 ∷ without_one r (rows_of xs))) [ true ↦ refl | false ↦ ap (λ l. x.0 ∷ l) (rows_without r xs) ]
 
 -- one seat takes another in
 module _ {P : Type 0} (s o : PlainSeat P) (d : PlainTable P) (h : Sits s d) (k : Sits o d) (main : s.token.main ≡ true) (n : ℕ) (by : o.token.by ≡ Inner n) (out : IsAmong n s.token.out)

@@ -5,7 +5,9 @@ use mathlib.Core.Option.{some-ne-none, some-injective}
 use Rattle.row_seat.specs.Totals.{IsAt}
 use Rattle.row_seat.specs.Rule.{Book, Deed, Hold, Purse, RuleHolds, Who, book, deed, hold, purse, who}
 use Rattle.chunk_core.specs.Lists.{IsAmong}
-use Rattle.row_seat.specs.PlainSeats.{IsTable, Sits, first_token, rows_of}
+use Rattle.row_seat.specs.Hands.{rows_of}
+use Rattle.row_seat.specs.PlainSeats.{IsTable, Sits}
+use Rattle.row_seat.specs.Steps.{first_token}
 use Rattle.res_ledger.specs.Ledger.{Notes}
 use Rattle.row_seat.specs.declared.plain.PlainSeat.{PlainSeat}
 use Rattle.row_seat.specs.declared.plain.PlainTable.{PlainTable}
@@ -37,9 +39,9 @@ none_noted k w n = among_nil n.1
 one_view : {V : Type 0} (a : V) (Q : ℕ → V → Type 0) → Q 0 a → (i : ℕ) (v : V) → IsAt (a ∷ []) i v → Q i v
 one_view a Q q i v g = let t = only_one a v i g in subst (λ z. Q i z) t.1 (subst (λ n. Q n a) (sym t.0) q)
 
-module _ {P : Type 0} (by : StreamNo) (rows events : ℕ) (word : ℕ → ℕ) (slot : ℕ → Option P) (zero' : (r : ℕ) → word r ≡ 0) where
+module _ {P : Type 0} (by : StreamNo) (rows events splits : ℕ) (word : ℕ → ℕ) (slot : ℕ → Option P) (zero' : (r : ℕ) → word r ≡ 0) where
   abbrev f : Token P
-  f = first_token (by, rows, events)
+  f = first_token by rows events splits
 
   pub starts : RuleHolds rows events word slot [] (f ∷ [])
   starts = record {
@@ -95,14 +97,14 @@ module _ {P : Type 0} (by : StreamNo) (rows events : ℕ) (word : ℕ → ℕ) (
     small = λ i j r v g m. absurd (among_nil (subst (λ (z : Token P). IsAmong (j, r) z.pairs) (sym (only_one f v i g).1) m));
   }
 
-module _ {P : Type 0} (s : PlainSeat P) (d : PlainTable P) (by : StreamNo) (rows events : ℕ) (token : s.token ≡ first_token (by, rows, events)) (views : d.views ≡ first_token (by, rows, events) ∷ []) (id : s.id ≡ 0) (name : s.by ≡ by)
+module _ {P : Type 0} (s : PlainSeat P) (d : PlainTable P) (by : StreamNo) (rows events splits : ℕ) (token : s.token ≡ first_token by rows events splits) (views : d.views ≡ first_token by rows events splits ∷ []) (id : s.id ≡ 0) (name : s.by ≡ by)
     (slots : length d.slots.items ≡ rows) (words : length d.words.items ≡ rows) (zero' : (r : ℕ) → slice_index d.words.items r ≡ 0) (room : events ≤ vec_capacity d.events) (log : d.events.items ≡ []) (none : s.hands.items ≡ []) (many : rows ≤ vec_capacity s.hands) (len : vec_len s.hands ≡ 0) where
-  table : IsTable d.slots.items d.words.items [] (vec_capacity d.events) (first_token (by, rows, events) ∷ [])
+  table : IsTable d.slots.items d.words.items [] (vec_capacity d.events) (first_token by rows events splits ∷ [])
   table = record {
     room = events;
     enough = room;
     words_are = words ∙ sym slots;
-    rule = subst (λ n. RuleHolds n events (λ r. slice_index d.words.items r) (λ r. slice_index_or d.slots.items r None) [] (first_token (by, rows, events) ∷ [])) (sym slots) (starts by rows events (λ r. slice_index d.words.items r) (λ r. slice_index_or d.slots.items r None) zero');
+    rule = subst (λ n. RuleHolds n events (λ r. slice_index d.words.items r) (λ r. slice_index_or d.slots.items r None) [] (first_token by rows events splits ∷ [])) (sym slots) (starts by rows events splits (λ r. slice_index d.words.items r) (λ r. slice_index_or d.slots.items r None) zero');
     load = let e = run_length 0 rows in let f = slots in omega arith;
   }
 

@@ -10,8 +10,10 @@ use Rattle.res_ledger.specs.declared.event.StreamNo.TheVariants.{Inner}
 use Rattle.res_ledger.proofs.Ledgers.{covers_acquired, covers_leased, covers_own, inner_is, one_acquire, stream_cases}
 use Rattle.row_seat.specs.declared.token.Token.{Token}
 use Rattle.row_seat.specs.Totals.{IsAt, pair_times, row_times, times, total}
-use Rattle.row_seat.specs.Views.{without_pair}
-use Rattle.row_seat.specs.Rule.{Hold, RuleHolds, Work, deed, hold, who, work}
+use Rattle.row_seat.specs.Hands.{rows_of}
+use Rattle.row_seat.specs.Views.{IsHeldStill, without_pair}
+use Rattle.row_seat.specs.Rule.{Hold, RuleHolds, Work, deed, hold, seen, who, work}
+use Rattle.row_seat.proofs.Hands.{row_held}
 use Rattle.row_seat.proofs.Rows.{is_leased}
 use Rattle.row_seat.proofs.Splits.{true_or}
 use Rattle.row_seat.proofs.Tells.{total_map}
@@ -33,51 +35,53 @@ module _ {P : Type 0} (rows room : ℕ) (word : ℕ → ℕ) (slot : ℕ → Opt
       (rule.leases.paired x i r (hold u) (at_map hold views x u g) m)
 
   -- where the row doesn't become this seat's
-  pub leave_cause : (j r : ℕ) → IsAmong (j, r) v.pairs → word r ≢ 7 → IsAmong r v.opened ⊎ ((i : ℕ) × (i ≢ j) × Covers v.events i v.by r × (IsAmong (i, r) v.pairs ⊎ IsAmong i v.out))
-  leave_cause j r pair more =
+  pub leave_cause : (j r : ℕ) → IsAmong (j, r) v.pairs → word r ≢ 7 → (hands : List (ℕ × P)) → rows_of hands ≡ v.opened → IsHeldStill (seen v hands) j r
+  leave_cause j r pair more hands held =
       let ws = map work views in let aw = at_map who views id v at in
       let l = total_at (λ (u : Work). row_times r u.pairs) ws id (work v) (at_map work views id v at) in let y = row_some j r v.pairs pair in
       let s = is_leased (rule.words r) (omega (l, y, arith)) in ⊎_elim
-        (λ a.
-        let a1 = a.1 in
-        let x = total_some (λ (u : Work). times r u.opened) ws (omega (a1, arith)) in let b = map_back work views x.0 x.1 x.2 in let u = b.0 in
-        let m : IsAmong r u.opened = times_in r u.opened (subst (λ (z : Work). 1 ≤ times r z.opened) (sym b.2) x.3) in
-        let d = rule.deeds.opened x.0 r (deed u) (at_map deed views x.0 u b.1) m in
-        let there : u.live ≡ true = ⊎_elim (λ t. t) (λ f. absurd (among_nil (subst (λ z. IsAmong r z) (rule.spent x.0 u b.1 f).1 m))) (true_or u.live) in
-        inl (⊎_elim
-          (λ c. let q = covers_acquired log j r v.by c in
-          let same = one_acquire log r d.0 q.0 u.by v.by rule.books.legal d.1 q.1 in
-          let e = rule.seats.names x.0 id (who u) (who v) (at_map who views x.0 u b.1) aw there live same in
-          subst (λ (z : Token P). IsAmong r z.opened) (one_at views id u v (subst (λ n. IsAt views n u) e b.1) at) m)
-          (λ h. h)
-          (covering j r id v at pair)))
-        (λ a.
-        let a0 = a.0 in
-        let c = cut j r views in
-        let p : total (λ (t : Token P). pair_times j r t.pairs) views ≤ 1 = subst (λ n. n ≤ 1) (total_map hold (λ (h : Hold). pair_times j r h.pairs) views) (rule.leases.pair_once j r) in
-        let n : total (λ (u : Work). row_times r u.pairs) ws ≡ total (λ (t : Token P). row_times r t.pairs) views = total_map work (λ (u : Work). row_times r u.pairs) views in
-        let two : 2 ≤ total (λ (u : Work). row_times r u.pairs) ws = omega (a0, l, y, more, arith) in
-        let x = total_some (λ (t : Token P). row_times r (without_pair j r t.pairs)) views (omega (c, p, n, two, arith)) in let u = x.1 in
-        let q = row_in r (without_pair j r u.pairs) x.3 in let i = q.0 in let k = pair_among j r i r u.pairs q.1 in
-        let m = k.0 in let ne : i ≢ j = λ e. k.1 e refl in ⊎_elim
-          (λ o. inr (
-            i,
-            ne,
-            covers_own v.by log v.events (sym (own_is rows room word slot log views rule id v at live)) i r o,
-            ⊎_elim
+      (λ a.
+      let a1 = a.1 in
+      let x = total_some (λ (u : Work). times r u.opened) ws (omega (a1, arith)) in let b = map_back work views x.0 x.1 x.2 in let u = b.0 in
+      let m : IsAmong r u.opened = times_in r u.opened (subst (λ (z : Work). 1 ≤ times r z.opened) (sym b.2) x.3) in
+      let d = rule.deeds.opened x.0 r (deed u) (at_map deed views x.0 u b.1) m in
+      let there : u.live ≡ true = ⊎_elim (λ t. t) (λ f. absurd (among_nil (subst (λ z. IsAmong r z) (rule.spent x.0 u b.1 f).1 m))) (true_or u.live) in
+      inl (row_held r hands v.opened held (⊎_elim
+      (λ c. let q = covers_acquired log j r v.by c in
+      let same = one_acquire log r d.0 q.0 u.by v.by rule.books.legal d.1 q.1 in
+      let e = rule.seats.names x.0 id (who u) (who v) (at_map who views x.0 u b.1) aw there live same in
+      subst (λ (z : Token P). IsAmong r z.opened) (one_at views id u v (subst (λ n. IsAt views n u) e b.1) at) m)
+      (λ h. h)
+      (covering j r id v at pair))))
+      (λ a.
+      let a0 = a.0 in
+      let c = cut j r views in
+      let p : total (λ (t : Token P). pair_times j r t.pairs) views ≤ 1 = subst (λ n. n ≤ 1) (total_map hold (λ (h : Hold). pair_times j r h.pairs) views) (rule.leases.pair_once j r) in
+      let n : total (λ (u : Work). row_times r u.pairs) ws ≡ total (λ (t : Token P). row_times r t.pairs) views = total_map work (λ (u : Work). row_times r u.pairs) views in
+      let two : 2 ≤ total (λ (u : Work). row_times r u.pairs) ws = omega (a0, l, y, more, arith) in
+      let x = total_some (λ (t : Token P). row_times r (without_pair j r t.pairs)) views (omega (c, p, n, two, arith)) in let u = x.1 in
+      let q = row_in r (without_pair j r u.pairs) x.3 in let i = q.0 in let k = pair_among j r i r u.pairs q.1 in
+      let m = k.0 in let ne : i ≢ j = λ e. k.1 e refl in ⊎_elim
+      (λ o. inr (
+        i,
+        ne,
+        (
+          covers_own v.by log v.events (sym (own_is rows room word slot log views rule id v at live)) i r o,
+          ⊎_elim
               (λ h. let e = rule.seats.one x.0 id (who u) (who v) (at_map who views x.0 u x.2) aw h.0 main in inl (subst (λ (z : Token P). IsAmong (i, r) z.pairs) (one_at views id u v (subst (λ n. IsAt views n u) e x.2) at) m))
               (λ b. ⊎_elim
-                (λ mu. let e = rule.seats.one x.0 id (who u) (who v) (at_map who views x.0 u x.2) aw mu main in inl (subst (λ (z : Token P). IsAmong (i, r) z.pairs) (one_at views id u v (subst (λ n. IsAt views n u) e x.2) at) m))
-                (λ f. ⊎_elim
-                  (λ lu. let o = rule.seats.out id x.0 (who v) (who u) aw (at_map who views x.0 u x.2) main lu f in inr (subst (λ z. IsAmong z v.out) (inner_is o.0 i (sym o.1 ∙ b)) o.2))
-                  (λ du. absurd (among_nil (subst (λ z. IsAmong (i, r) z) (rule.spent x.0 u x.2 du).2 m)))
-                  (true_or u.live))
-                (true_or u.main))
+              (λ mu. let e = rule.seats.one x.0 id (who u) (who v) (at_map who views x.0 u x.2) aw mu main in inl (subst (λ (z : Token P). IsAmong (i, r) z.pairs) (one_at views id u v (subst (λ n. IsAt views n u) e x.2) at) m))
+              (λ f. ⊎_elim
+              (λ lu. let o = rule.seats.out id x.0 (who v) (who u) aw (at_map who views x.0 u x.2) main lu f in inr (subst (λ z. IsAmong z v.out) (inner_is o.0 i (sym o.1 ∙ b)) o.2))
+              (λ du. absurd (among_nil (subst (λ z. IsAmong (i, r) z) (rule.spent x.0 u x.2 du).2 m)))
+              (true_or u.live))
+              (true_or u.main))
               (rule.leases.holder x.0 i r (hold u) (at_map hold views x.0 u x.2) m),
-          ))
-          (λ h. inl h)
-          (covering i r x.0 u x.2 m))
-        s.4
+        ),
+      ))
+      (λ h. inl (row_held r hands v.opened held h))
+      (covering i r x.0 u x.2 m))
+      s.4
 
   -- each event is in the seat's own name or in that of a stream that had a seat
   pub all_names : (e : Event) → IsAmong e log → (e.by ≡ v.by) ⊎ ((n : ℕ) × (e.by ≡ Inner n) × IsAmong n v.had)

@@ -7,8 +7,10 @@ use Rattle.chunk_core.proofs.Places.{at_map}
 use Rattle.res_ledger.specs.declared.event.Event.{Event}
 use Rattle.row_seat.specs.declared.token.Token.{Token}
 use Rattle.row_seat.specs.Totals.{IsAt, total, times, row_times, pair_times}
-use Rattle.row_seat.specs.Views.{without_pair}
-use Rattle.row_seat.specs.Rule.{RuleHolds, Work, Hold, work, hold, purse, leases}
+use Rattle.row_seat.specs.Hands.{rows_of}
+use Rattle.row_seat.specs.Views.{IsLastLease, without_pair}
+use Rattle.row_seat.specs.Rule.{RuleHolds, Work, Hold, work, hold, purse, seen, leases}
+use Rattle.row_seat.proofs.Hands.{row_among}
 use Rattle.row_seat.proofs.Totals.{total_at}
 use Rattle.row_seat.proofs.Times.{times_some, row_some, pair_some, row_less, pair_kept}
 use Rattle.row_seat.proofs.Pigeonholes.{pairs_below}
@@ -30,14 +32,14 @@ module _ {P : Type 0} (rows room : ℕ) (word : ℕ → ℕ) (slot : ℕ → Opt
       subst (λ n. n ≤ 2 ^ 32) (sym (total_map work (λ (u : Work). row_times r u.pairs) views)) a
 
   module _ (id : ℕ) (v : Token P) (at : IsAt views id v) (live : v.live ≡ true) where
-    -- the last lease of a closed row: the row isn't open here, no other lease of this seat stands on it, and the slot has what was left in it
-    pub told_last : (j r : ℕ) (p : P) → IsAmong (j, r) v.pairs → word r ≡ 7 → slot r ≡ Some p → ¬ (IsAmong r v.opened) × ((i : ℕ) → IsAmong (i, r) v.pairs → i ≡ j) × ((q : P) → IsAmong (r, q) v.left → q ≡ p)
-    told_last j r p m seven lies =
+    -- the last lease of a closed row: the slot has what was left in it
+    pub told_last : (j r : ℕ) (p : P) (hands : List (ℕ × P)) → rows_of hands ≡ v.opened → IsAmong (j, r) v.pairs → word r ≡ 7 → slot r ≡ Some p → IsLastLease (seen v hands) j r p
+    told_last j r p hands held m seven lies =
         let ws = map work views in let at' = at_map work views id v at in let l = total_at (λ (u : Work). row_times r u.pairs) ws id (work v) at' in let y = row_some j r v.pairs m in
         let s = is_leased (rule.words r) (omega arith) in
         let c = ⊎_elim (λ a. let a0 = a.0 in absurd (omega arith)) (λ a. a) s.4 in let c0 = c.0 in let c1 = c.1 in
-        let x = rule.pays.waits r 1 (let a : 7 ≡ 3 + 4 * 1 = refl in seven ∙ a) (omega arith) in (
-          (λ o. let k = total_at (λ (u : Work). times r u.opened) ws id (work v) at' in let z = times_some r v.opened o in omega arith),
-          (λ i n. ⊎_elim (λ e. e) (λ ne. let w = two_pairs i j r v.pairs ne n m in absurd (omega arith)) (cases_eq i j)),
-          (λ q n. rule.pays.left_one r q x.0 (id, purse v, at_map purse views id v at, n) x.1 ∙ some_is x.0 p (sym x.2 ∙ lies)),
-        )
+        let x = rule.pays.waits r 1 (let a : 7 ≡ 3 + 4 * 1 = refl in seven ∙ a) (omega arith) in record {
+          closed = λ o. let k = total_at (λ (u : Work). times r u.opened) ws id (work v) at' in let z = times_some r v.opened (row_among r hands v.opened held o) in omega arith;
+          alone = λ i n. ⊎_elim (λ e. e) (λ ne. let w = two_pairs i j r v.pairs ne n m in absurd (omega arith)) (cases_eq i j);
+          left = λ q n. rule.pays.left_one r q x.0 (id, purse v, at_map purse views id v at, n) x.1 ∙ some_is x.0 p (sym x.2 ∙ lies);
+        }

@@ -1,23 +1,18 @@
 -- What contracts see of a plain seat and its table.
-use Rattle.std.specs.Prelude.{◌≡◌, ℕ, ◌+◌, ◌-◌, ◌≤◌, ◌^◌, true, false, eqb, cond, map, List, [], ◌∷◌, length, None, Option, vec_capacity, vec_len, slice_index, slice_index_or}
-use Rattle.std.proofs.Common.{◌∙◌, ap, refl}
+use Rattle.std.specs.Prelude.{◌≡◌, ℕ, ◌+◌, ◌≤◌, true, List, length, None, Option, vec_capacity, vec_len, slice_index, slice_index_or}
+use Rattle.std.proofs.Common.{◌∙◌, ap}
 use Rattle.std.specs.Vec.{with_item}
 use Rattle.row_seat.specs.Totals.{IsAt, total}
 use Rattle.res_ledger.specs.declared.event.Event.{Event}
 use Rattle.row_seat.specs.declared.plain.PlainSeat.{PlainSeat}
 use Rattle.row_seat.specs.declared.plain.PlainTable.{PlainTable}
 use Rattle.row_seat.specs.Rule.{RuleHolds, seen}
-use Rattle.res_ledger.specs.declared.event.StreamNo.{StreamNo}
 use Rattle.row_seat.specs.declared.token.Token.{Token}
 use Rattle.row_seat.specs.declared.view.View.{View}
-use Rattle.row_seat.specs.Views.{paid, run, with_row}
-use Rattle.row_seat.specs.Hands.{set_spot, spot}
+use Rattle.row_seat.specs.Views.{paid}
+use Rattle.row_seat.specs.Hands.{rows_of, rows_with, set_spot, spot}
 
 module _ {P : Type 0} where
-  -- the rows of a hand
-  abbrev pub rows_of : List (ℕ × P) → List ℕ
-  rows_of xs = map (λ (x : ℕ × P). x.0) xs
-
   -- the seat's view
   abbrev pub shown : PlainSeat P → View P
   shown s = seen s.token s.hands.items
@@ -44,16 +39,8 @@ module _ {P : Type 0} where
     pub hold : length s.token.empty + vec_len s.hands ≤ vec_capacity s.hands
     pub whole : s.token.main ≡ true → length d.slots.items ≤ vec_capacity s.hands
 
-  rows_with : (r : ℕ) (w : P) (xs : List (ℕ × P)) → rows_of (with_row r w xs) ≡ rows_of xs
-  rows_with r w [] = refl
-  rows_with r w (x ∷ xs) = elim (eqb x.0 r) as (λ b. rows_of (cond b ((x.0, w) ∷ xs) (x ∷ with_row r w xs)) ≡ x.0 ∷ rows_of xs) [ true ↦ refl | false ↦ ap (λ l. x.0 ∷ l) (rows_with r w xs) ]
-
   pub shown_lent : (s : PlainSeat P) (r : ℕ) (w : P) → shown (lent s r w) ≡ paid (shown s) r w
   shown_lent s r w = ap (λ xs. seen s.token xs) (set_spot r w s.hands.items)
 
   pub fitting_lent : (s : PlainSeat P) (r : ℕ) (w : P) (d : PlainTable P) → Sits s d → Sits (lent s r w) d
   fitting_lent s r w d h = record { table = h.table; mine = h.mine; live = h.live; by = h.by; held = ap rows_of (set_spot r w s.hands.items) ∙ (rows_with r w s.hands.items ∙ h.held); hold = h.hold; whole = h.whole }
-
-  -- what the first seat knows
-  abbrev pub first_token : StreamNo × ℕ × ℕ → Token P
-  first_token x = record { live = true; main = true; by = x.0; empty = run 0 x.1; opened = []; pairs = []; kept = []; handed = []; taken = []; given = []; left = []; events = []; floor = 0; spare = x.2; had = []; out = []; splits = 2 ^ 32 - 1 }

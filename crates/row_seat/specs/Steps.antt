@@ -1,6 +1,7 @@
 -- What each step does to what a seat knows.
 use Rattle.std.specs.Prelude.{ℕ, ◌+◌, ◌-◌, true, false, not, eqb, cond, filter, List, [], ◌∷◌, ◌++◌, Option, Some, None}
 use Rattle.res_ledger.specs.declared.event.Event.{Event}
+use Rattle.res_ledger.specs.declared.event.StreamNo.{StreamNo}
 use Rattle.res_ledger.specs.declared.event.StreamNo.TheVariants.{Inner}
 use Rattle.row_seat.specs.declared.token.Token.{Token}
 use Rattle.row_seat.specs.Views.{above, handed_after, kept_after, name_of, run, stream_pairs, within, without, without_pair}
@@ -11,6 +12,10 @@ without_one r [] = []
 without_one r (x ∷ xs) = cond (eqb x r) xs (x ∷ without_one r xs)
 
 module _ {P : Type 0} where
+  -- what the first seat knows
+  abbrev pub first_token : StreamNo → ℕ → ℕ → ℕ → Token P
+  first_token by rows events splits = record { live = true; main = true; by = by; empty = run 0 rows; opened = []; pairs = []; kept = []; handed = []; taken = []; given = []; left = []; events = []; floor = 0; spare = events; had = []; out = []; splits = splits }
+
   -- an event is noted
   abbrev pub noted : Token P → Event → Token P
   noted v e = record v { kept = kept_after e.what v.kept; handed = handed_after e.what v.handed; taken = handed_after e.what v.taken; events = v.events ++ e ∷ []; spare = v.spare - 1 }

@@ -83,9 +83,9 @@ module _ {P : Type 0} where
   abbrev pub HasPair : View P → ℕ → Type 0
   HasPair v r = (j : ℕ) × IsAmong (j, r) v.pairs
 
-  -- the view of the first seat
-  abbrev pub start : StreamNo → ℕ → ℕ → View P
-  start by rows events = record { by = by; main = true; empty = run 0 rows; opened = []; pairs = []; kept = []; handed = []; taken = []; given = []; left = []; events = []; floor = 0; spare = events; had = []; out = []; splits = 2 ^ 32 - 1 }
+  -- the view of the first seat, which may split off so many
+  abbrev pub start : StreamNo → ℕ → ℕ → ℕ → View P
+  start by rows events splits = record { by = by; main = true; empty = run 0 rows; opened = []; pairs = []; kept = []; handed = []; taken = []; given = []; left = []; events = []; floor = 0; spare = events; had = []; out = []; splits = splits }
 
   -- the row is empty, the right to it is here, and its Acquire is noted
   abbrev pub CanPlace : View P → ℕ → Type 0
@@ -119,14 +119,24 @@ module _ {P : Type 0} where
   abbrev pub handed_over : View P → ℕ → P → View P
   handed_over v r p = record v { handed = v.handed ++ r ∷ []; given = v.given ++ (r, p) ∷ [] }
 
-  -- a lease on the row r that is not for j, or its owner, holds it: it is open here, or another Lease of the seat's own covers it, whose lease stands here or whose stream has its seat out
+  -- the seat's own Lease for j covers the row, and its lease stands here or its stream has its seat out
+  abbrev pub IsLeasedTo : View P → ℕ → ℕ → Type 0
+  IsLeasedTo v j r = Covers v.events j v.by r × (IsAmong (j, r) v.pairs ⊎ IsAmong j v.out)
+
+  -- a lease on the row r that is not for j, or its owner, holds it
   abbrev pub IsHeldStill : View P → ℕ → ℕ → Type 0
-  IsHeldStill v j r = HasRow v.opened r ⊎ ((i : ℕ) × (i ≢ j) × Covers v.events i v.by r × (IsAmong (i, r) v.pairs ⊎ IsAmong i v.out))
+  IsHeldStill v j r = HasRow v.opened r ⊎ ((i : ℕ) × (i ≢ j) × IsLeasedTo v i r)
+
+  -- the lease for j on the row r, which isn't open here, is the last one of this seat; if the seat closed the row, it left p in it
+  pub record IsLastLease (v : View P) (j r : ℕ) (p : P) : Type 0 where
+    pub closed : ¬ (HasRow v.opened r)
+    pub alone : (i : ℕ) → IsAmong (i, r) v.pairs → i ≡ j
+    pub left : (q : P) → IsAmong (r, q) v.left → q ≡ p
 
   -- the lease is gone. Stays: where the seat is the main one, the row is held still. Yours: it was the last on a closed row, which is handed over with the payload that was left in it
   abbrev pub Leaves : View P → ℕ → ℕ → Left → View P → Type 0
   Leaves v j r Stays w = (w ≡ gone v j r) × (v.main ≡ true → IsHeldStill v j r)
-  Leaves v j r Yours w = (p : P) × (w ≡ handed_over (gone v j r) r p) × ¬ (HasRow v.opened r) × ((i : ℕ) → IsAmong (i, r) v.pairs → i ≡ j) × ((q : P) → IsAmong (r, q) v.left → q ≡ p)
+  Leaves v j r Yours w = (p : P) × (w ≡ handed_over (gone v j r) r p) × IsLastLease v j r p
 
   -- the row is open here, a Close that covers it is noted, and so is the Lease of each of its pairs here
   abbrev pub CanClose : View P → ℕ → Type 0
@@ -136,9 +146,13 @@ module _ {P : Type 0} where
   abbrev pub shut : View P → ℕ → P → View P
   shut v r p = record v { opened = without_row r v.opened; left = v.left ++ (r, p) ∷ [] }
 
-  -- the row is closed. Stays: the main seat closed it, and a Lease of its own covers it whose lease stands here or whose stream has its seat out. Yours: it is handed over
+  -- a row that this seat closes may stay for a lease: the seat is the main one, and leased the row
+  abbrev pub MayStay : View P → ℕ → Type 0
+  MayStay v r = (v.main ≡ true) × ((j : ℕ) × IsLeasedTo v j r)
+
+  -- the row is closed. Stays: it is left to a lease. Yours: it is handed over
   abbrev pub Closes : View P → ℕ → Left → View P → Type 0
-  Closes v r Stays w = (p : P) × IsAmong (r, p) v.opened × (w ≡ shut v r p) × (v.main ≡ true) × ((j : ℕ) × Covers v.events j v.by r × (IsAmong (j, r) v.pairs ⊎ IsAmong j v.out))
+  Closes v r Stays w = (p : P) × IsAmong (r, p) v.opened × (w ≡ shut v r p) × MayStay v r
   Closes v r Yours w = (p : P) × IsAmong (r, p) v.opened × (w ≡ handed_over (shut v r p) r p) × ¬ (HasPair v r)
 
   -- the row was handed over and is not taken
@@ -148,10 +162,6 @@ module _ {P : Type 0} where
   -- a handed row is taken
   abbrev pub took : View P → ℕ → View P
   took v r = record v { taken = v.taken ++ r ∷ [] }
-
-  -- where r stands last in the list, it stands there with p
-  abbrev pub IsLast : List (ℕ × P) → ℕ → P → Type 0
-  IsLast xs r p = (ys : List (ℕ × P)) (q : P) → xs ≡ ys ++ (r, q) ∷ [] → p ≡ q
 
   -- what an event asks of the seat that notes it
   abbrev pub MayNote : View P → What → Type 0

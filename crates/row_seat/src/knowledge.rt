@@ -181,9 +181,10 @@ impl<P> Says<Known<Token<P>>, Token<P>> for Spending {
 pub struct Starting;
 
 impl<P> Says<(StreamNo, u32, u64), Token<P>> for Starting {
-    ghost use Rattle.row_seat.specs.PlainSeats.{first_token};
+    ghost use Rattle.std.specs.Prelude.{◌-◌, ◌^◌};
+    ghost use Rattle.row_seat.specs.Steps.{first_token};
 
-    ghost says = { first_token };
+    ghost says = { λ x. first_token x.0 x.1 x.2 (2 ^ 32 - 1) };
 }
 
 /// The views where there is one seat.

@@ -1,5 +1,5 @@
 //! Seats on one thread, as plain data.
-ghost use Rattle.std.specs.Prelude.{◌≡◌, ◌≢◌, ℕ, ◌<◌, ◌^◌, IfOk, slice_index_or, length};
+ghost use Rattle.std.specs.Prelude.{◌≡◌, ◌≢◌, ℕ, ◌<◌, ◌-◌, ◌^◌, IfOk, slice_index_or, length};
 ghost use Rattle.row_seat.specs.Views.{HasRow};
 
 use crate::knowledge::{
@@ -252,7 +252,7 @@ impl<P: Drop> PlainSeat<P> {
         events: u64,
     ) -> Result<(PlainSeat<P>, PlainTable<P>), AllocError>
         requires { events < 2 ^ 40 }
-        ensures { IfOk result (λ t. (shown t.0 ≡ start by rows events) × Sits t.0 t.1) }
+        ensures { IfOk result (λ t. (shown t.0 ≡ start by rows events (2 ^ 32 - 1)) × Sits t.0 t.1) }
     {
         let slots = vacant(alloc, rows)?;
         let words = zeros(alloc, rows)?;

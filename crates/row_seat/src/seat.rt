@@ -18,7 +18,7 @@ use std::alloc::{AllocError, Global};
 /// does to the seat's view. It leaves the fit of every other seat as it was.
 pub trait RowSeat: Sized {
     ghost use Rattle.row_seat.specs.declared.view.View.{View};
-    ghost use Rattle.row_seat.specs.Views.{CanPlace, placed, HasRow, paid, CanLease, leased, CanLeave, Leaves, CanClose, Closes, CanTake, took, IsLast, MayNote, noted, IsFresh, OthersFit, CanSplit, split_main, split_off, CanJoin, AreApart, joined, CanFinish, IsLedgerOf};
+    ghost use Rattle.row_seat.specs.Views.{CanPlace, placed, HasRow, HasPair, paid, CanLease, leased, CanLeave, Leaves, CanClose, Closes, CanTake, took, MayNote, noted, IsFresh, OthersFit, CanSplit, split_main, split_off, CanJoin, AreApart, joined, CanFinish, IsLedgerOf};
     ghost use Rattle.chunk_core.specs.Lists.{IsAmong};
 
     /// What a row holds.
@@ -40,6 +40,7 @@ pub trait RowSeat: Sized {
         requires fits { fits self.old desk.old }
         requires row { CanPlace (view self.old) row }
         ensures view { view self.new ≡ placed (view self.old) row pay }
+        ensures bare { ¬ (HasPair (view self.old) row) }
         ensures fits { fits self.new desk.new }
         ensures others { OthersFit view fits (view self.old).by desk.old desk.new };
 
@@ -83,7 +84,6 @@ pub trait RowSeat: Sized {
         ensures view { view self.new ≡ took (view self.old) row }
         ensures pay { IsAmong (row, result) (view self.old).given }
         ensures only { (q : Self.Pay) → IsAmong (row, q) (view self.old).given → q ≡ result }
-        ensures last { IsLast (view self.old).given row result }
         ensures fits { fits self.new desk.new }
         ensures others { OthersFit view fits (view self.old).by desk.old desk.new };
 

@@ -2,10 +2,11 @@ use Rattle.std.proofs.Common.{◌≡◌, ◌≢◌, ℕ, ◌+◌, ◌<◌, lengt
 use Rattle.std.specs.Prelude.{slice_index, slice_index_or, vec_capacity, Some, None}
 use Rattle.std.proofs.lemmas.List.{get_or_default, length-set}
 use Rattle.row_seat.specs.declared.token.Token.{Token}
-use Rattle.row_seat.proofs.Sitting.{among_found, handed_token, in_hand, inside_open, leased_word, others_put, removed, rows_without, shut_token, sits_put, stays_table, word_small, yours_table}
+use Rattle.row_seat.proofs.Sitting.{among_found, handed_token, in_hand, inside_open, leased_word, others_put, removed, shut_token, sits_put, stays_table, word_small, yours_table}
+use Rattle.row_seat.proofs.Hands.{rows_without}
 use Rattle.row_seat.proofs.Ends.{close_cause}
 use Rattle.row_seat.specs.Steps.{handed_over, shut, without_one}
-use Rattle.row_seat.specs.PlainSeats.{rows_of}
+use Rattle.row_seat.specs.Hands.{rows_of}
 use Rattle.row_seat.specs.Rule.{seen}
 use Rattle.row_seat.proofs.plain.PlainSeatRowSeat.close.Goals as goal
 
@@ -71,7 +72,7 @@ returns-else-word-eq-HANDED-clause-view g c =
     let ex : x ≡ slice_index d.words.items row = c.index.ensures ∙ get_or_default d.words.items row x 0 (omega arith) in
     let is = shut_token xs i row h v c.step.result c.step.ensures here.0 in let more : x + 2 ≢ 3 = c.if-word-eq-HANDED.false in
     let k = close_cause (length d.slots.items) f.table.room (λ r. slice_index d.words.items r) (λ r. slice_index_or d.slots.items r None) d.events.items d.views f.table.rule s.id v f.mine f.live row mine (λ q. more (omega arith)) can.2 in
-    (h.1, here.1, ap (λ (t : Token g.row.P.Denot). seen t c.remove-hand.new.self.items) is ∙ ap (λ l. seen (shut v row h.1) l) rest, k.0, k.1)
+    (h.1, here.1, ap (λ (t : Token g.row.P.Denot). seen t c.remove-hand.new.self.items) is ∙ ap (λ l. seen (shut v row h.1) l) rest, k)
 
 pub returns-then-word-eq-HANDED-clause-fits : goal.returns-then-word-eq-HANDED-clause-fits
 returns-then-word-eq-HANDED-clause-fits g c =

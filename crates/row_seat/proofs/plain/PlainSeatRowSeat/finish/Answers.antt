@@ -2,7 +2,7 @@ use Rattle.std.proofs.Common.{◌≡◌, ℕ, sym, ap, ◌∙◌, []}
 use Rattle.std.specs.Prelude.{slice_index, slice_index_or, length, None}
 use Rattle.row_seat.proofs.Ends.{all_canceled, all_events, all_final, all_payloads}
 use Rattle.row_seat.proofs.Stayed.{all_names}
-use Rattle.row_seat.specs.PlainSeats.{rows_of}
+use Rattle.row_seat.specs.Hands.{rows_of}
 use Rattle.row_seat.proofs.plain.PlainSeatRowSeat.finish.Goals as goal
 
 pub returns : goal.returns

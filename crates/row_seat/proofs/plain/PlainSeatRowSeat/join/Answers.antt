@@ -3,7 +3,7 @@ use Rattle.row_seat.proofs.Apart.{seats_apart}
 use Rattle.std.proofs.Common.{◌≡◌, length, slice_index, slice_index_or, slice_set, refl, sym, ap, ◌∙◌}
 use Rattle.row_seat.proofs.Sitting.{join_others, join_sits}
 use Rattle.row_seat.specs.Steps.{joined, spent}
-use Rattle.row_seat.specs.PlainSeats.{rows_of}
+use Rattle.row_seat.specs.Hands.{rows_of}
 use Rattle.row_seat.proofs.plain.PlainSeatRowSeat.join.Goals as goal
 
 pub returns-clause-fits : goal.returns-clause-fits

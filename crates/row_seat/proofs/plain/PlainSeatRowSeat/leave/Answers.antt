@@ -6,7 +6,7 @@ use Rattle.row_seat.specs.Rule.{seen}
 use Rattle.row_seat.proofs.Stayed.{leave_cause}
 use Rattle.std.proofs.lemmas.List.{get_or_default}
 use Rattle.row_seat.specs.Steps.{gone, handed_over}
-use Rattle.row_seat.proofs.Sitting.{has_hand, in_hand, last_slot, last_table, last_tells, leased_word, leave_table, others_put, sits_put}
+use Rattle.row_seat.proofs.Sitting.{last_slot, last_table, last_tells, leased_word, leave_table, others_put, sits_put}
 use Rattle.row_seat.proofs.plain.PlainSeatRowSeat.leave.Goals as goal
 
 pub index-requires : goal.index-requires
@@ -37,8 +37,8 @@ returns-then-rest-eq-HANDED-clause-view g c = let s = c.args.self.now in let d =
     let e : x ≡ slice_index d.words.items row = c.index.ensures ∙ get_or_default d.words.items row x 0 (omega arith) in
     let p = last_slot d.slots.items d.words.items d.events.items (vec_capacity d.events) d.views h.table s.id v h.mine h.live row (omega arith) in
     let y : c.index-then-rest-eq-HANDED.result.now ≡ Some p.0 = c.index-then-rest-eq-HANDED.ensures ∙ (get_or_default d.slots.items row c.index-then-rest-eq-HANDED.result.now None b0 ∙ p.1) in
-    let k = last_tells d.slots.items d.words.items d.events.items (vec_capacity d.events) d.views h.table s.id v h.mine h.live j row p.0 c.requires.row.0 (omega arith) p.1 in
-    (p.0, rw (c.step-then-rest-eq-HANDED.ensures, c.step.ensures, y) refl, (λ m. k.0 (in_hand s d h row m)), k.1, k.2)
+    let k = last_tells d.slots.items d.words.items d.events.items (vec_capacity d.events) d.views h.table s.id v h.mine h.live j row p.0 s.hands.items h.held c.requires.row.0 (omega arith) p.1 in
+    (p.0, rw (c.step-then-rest-eq-HANDED.ensures, c.step.ensures, y) refl, k)
 
 pub returns-then-rest-eq-HANDED-clause-fits : goal.returns-then-rest-eq-HANDED-clause-fits
 returns-then-rest-eq-HANDED-clause-fits g c = let s = c.args.self.now in let d = c.args.desk.now in let h = c.requires.fits in let row = c.args.row in let j = c.args.stream in let v = s.token in let x = c.index.result.now in
@@ -88,8 +88,5 @@ returns-else-rest-eq-HANDED-clause-view g c = let s = c.args.self.now in let d =
     let b0 = b.0 in let f = h.table.words_are in let more : x - 4 ≢ 3 = c.if-rest-eq-HANDED.false in
     let e : x ≡ slice_index d.words.items row = c.index.ensures ∙ get_or_default d.words.items row x 0 (omega arith) in (
       ap (λ (t : Token g.row.P.Denot). seen t s.hands.items) c.step.ensures,
-      λ m. ⊎_elim
-          (λ o. inl (has_hand row s.hands.items (subst (λ l. IsAmong row l) (sym h.held) o)))
-          (λ o. inr o)
-          (leave_cause (length d.slots.items) h.table.room (λ r. slice_index d.words.items r) (λ r. slice_index_or d.slots.items r None) d.events.items d.views h.table.rule s.id v h.mine h.live m j row c.requires.row.0 (λ seven. more (omega (e, seven, arith)))),
+      λ m. leave_cause (length d.slots.items) h.table.room (λ r. slice_index d.words.items r) (λ r. slice_index_or d.slots.items r None) d.events.items d.views h.table.rule s.id v h.mine h.live m j row c.requires.row.0 (λ seven. more (omega (e, seven, arith))) s.hands.items h.held,
     )

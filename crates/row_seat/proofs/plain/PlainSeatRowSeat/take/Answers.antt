@@ -28,9 +28,6 @@ returns-clause-pay g c = let s = c.args.self.now in let d = c.args.desk.now in l
 pub returns-clause-only : goal.returns-clause-only
 returns-clause-only g c = let s = c.args.self.now in let d = c.args.desk.now in λ q m. given_once s d c.requires.fits c.args.row q c.in-Some.pay m (returns-clause-pay g c)
 
-pub returns-clause-last : goal.returns-clause-last
-returns-clause-last g c = let s = c.args.self.now in let d = c.args.desk.now in λ ys q e. given_once s d c.requires.fits c.args.row c.in-Some.pay q (returns-clause-pay g c) (subst (λ l. IsAmong (c.args.row, q) l) (sym e) (among_last ys (c.args.row, q)))
-
 pub returns-clause-fits : goal.returns-clause-fits
 returns-clause-fits g c = let s = c.args.self.now in let d = c.args.desk.now in let h = c.requires.fits in let row = c.args.row in let v = s.token in let w = took v row in
     let t = take_table d.slots.items d.words.items d.events.items (vec_capacity d.events) d.views h.table s.id v h.mine h.live row c.requires.row.0 in
