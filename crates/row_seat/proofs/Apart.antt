@@ -1,5 +1,5 @@
 -- What the rule tells of a main seat and one of its seats that are out.
-use Rattle.std.proofs.Common.{◌≡◌, ◌≢◌, ℕ, true, false, map, List, sym, ap, ◌∙◌, subst, ⊎_elim, arith}
+use Rattle.std.proofs.Common.{◌≡◌, ◌≢◌, ℕ, true, false, map, List, refl, sym, ap, ◌∙◌, subst, ⊎_elim, arith}
 use Rattle.std.specs.Prelude.{Option}
 use Rattle.chunk_core.specs.Lists.{IsAmong}
 use Rattle.chunk_core.proofs.Places.{at_map}
@@ -30,7 +30,8 @@ module _ {P : Type 0} (rows room : ℕ) (word : ℕ → ℕ) (slot : ℕ → Opt
       let bv = at_map book views id v at in let bw = at_map book views jd w at' in record {
         events = λ e m b. foreign (sym b ∙ (rule.books.pure jd (book w) e bw side m ∙ by));
         own = λ e m. rule.books.pure jd (book w) e bw side m;
-        mine = λ e m b. (by_in w.by w.events e (subst (λ l. IsAmong e l) (sym (rule.books.own jd (book w) bw live')) (by_out w.by log e (rule.books.inside id (book v) e bv m) b))).0;
+        mine = λ e m b. let t = (by_in w.by w.events e (subst (λ l. IsAmong e l) (sym (rule.books.own jd (book w) bw live')) (by_out w.by log e (rule.books.inside id (book v) e bv m) b))).0 in
+            foreign (ap (λ (u : Token P). u.by) (one_at views jd v w (subst (λ k. IsAt views k v) (rule.books.one id jd (book v) (book w) e e bv bw m t refl) at) at') ∙ by);
         kept = λ r m a. (a.0, a.1, rule.deeds.fresh id r a.1 a.0 (deed v) (at_map deed views id v at) m (a.2.0, rule.books.inside jd (book w) a.2.0 bw a.2.1, a.2.2, a.2.3));
         taken = λ r m a. (a.0, a.1, rule.deeds.fresh jd r a.1 a.0 (deed w) (at_map deed views jd w at') m (a.2.0, rule.books.inside id (book v) a.2.0 bv a.2.1, a.2.2, a.2.3));
         vacant = λ r m.

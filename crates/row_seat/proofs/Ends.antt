@@ -1,8 +1,8 @@
 -- What a step tells of the other seats, and what stands at the end.
-use Rattle.std.proofs.Common.{◌≡◌, ◌≢◌, ℕ, ◌≤◌, ◌⊎◌, ◌↔◌, true, map, List, [], inl, inr, sym, ap, ◌∙◌, subst, ⊎_elim, arith}
+use Rattle.std.proofs.Common.{◌≡◌, ◌≢◌, ℕ, ◌≤◌, ◌⊎◌, ◌↔◌, true, map, List, [], length, inl, inr, sym, ap, ◌∙◌, subst, ⊎_elim, arith}
 use Rattle.std.specs.Prelude.{Option}
 use Rattle.row_seat.specs.Totals.{IsAt, row_times, times}
-use Rattle.row_seat.specs.Rule.{Book, GivenIn, Hold, LeftIn, Purse, RuleHolds, Stands, Who, Work, book, deed, hold, purse, seen, who, work}
+use Rattle.row_seat.specs.Rule.{Book, GivenIn, Hold, LeftIn, Purse, IsBlank, RuleHolds, Stands, Who, Work, book, deed, hold, purse, seen, who, work}
 use Rattle.row_seat.specs.Views.{MayStay}
 use Rattle.res_ledger.specs.Ledger.{Covers, IsAcquired, IsCanceled, IsFinalized, IsLeased, Notes}
 use Rattle.res_ledger.specs.declared.event.Event.{Event}
@@ -15,7 +15,8 @@ use Rattle.chunk_core.proofs.Places.{at_map}
 use Rattle.row_seat.specs.Rule.Stands.{awaits, beyond, final, handed, opened, vacant}
 use Rattle.res_ledger.proofs.Ledgers.{covers_acquired, covers_leased, covers_own, inner_is, one_acquire}
 use Rattle.row_seat.proofs.Rows.{is_open}
-use Rattle.row_seat.proofs.Totals.{map_back, one_at, total_at, total_one, total_some}
+use Rattle.row_seat.proofs.Tells.{all_told}
+use Rattle.row_seat.proofs.Totals.{map_back, one_at, total_alone, total_at, total_one, total_some}
 use Rattle.row_seat.proofs.Times.{row_in, times_in, times_some}
 use Rattle.row_seat.proofs.Splits.{true_or}
 
@@ -67,7 +68,7 @@ module _ {P : Type 0} (rows room : ℕ) (word : ℕ → ℕ) (slot : ℕ → Opt
                 (λ b. ⊎_elim (λ a. inl (mine' a))
                 (λ f. ⊎_elim
                 (λ lu. let o = rule.seats.out id x.0 (who v) (who u) (at_who rows room word slot log views rule id v at live) (at_map who views x.0 u y.1) both.0 lu f in inr (subst (λ z. IsAmong z v.out) (inner_is o.0 j (sym o.1 ∙ b)) o.2))
-                (λ du. absurd (among_nil (subst (λ z. IsAmong (j, r) z) (rule.spent x.0 u y.1 du).2 m)))
+                (λ du. absurd (among_nil (subst (λ z. IsAmong (j, r) z) (rule.spent x.0 u y.1 du).pairs m)))
                 (true_or u.live))
                 (true_or u.main))
                 (rule.leases.holder x.0 j r (hold u) gh m),
@@ -81,10 +82,10 @@ module _ {P : Type 0} (rows room : ℕ) (word : ℕ → ℕ) (slot : ℕ → Opt
 
   module _ (main : v.main ≡ true) (no_out : v.out ≡ []) where
     -- every other seat is spent
-    alone : (i : ℕ) (u : Token P) → IsAt views i u → (u ≡ v) ⊎ ((u.empty ≡ []) × (u.opened ≡ []) × (u.pairs ≡ []) × (u.kept ≡ []) × (u.handed ≡ []) × (u.given ≡ []) × (u.left ≡ []) × (u.events ≡ []))
+    pub alone : (i : ℕ) (u : Token P) → IsAt views i u → ((i ≡ id) × (u ≡ v)) ⊎ IsBlank u
     alone i u g = ⊎_elim
         (λ l. ⊎_elim
-        (λ m. let e = rule.seats.one i id (who u) (who v) (at_map who views i u g) (at_who rows room word slot log views rule id v at live) m main in inl (one_at views id u v (subst (λ n. IsAt views n u) e g) at))
+        (λ m. let e = rule.seats.one i id (who u) (who v) (at_map who views i u g) (at_who rows room word slot log views rule id v at live) m main in inl (e, one_at views id u v (subst (λ n. IsAt views n u) e g) at))
         (λ f. let o = rule.seats.out id i (who v) (who u) (at_who rows room word slot log views rule id v at live) (at_map who views i u g) main l f in absurd (among_nil (subst (λ z. IsAmong o.0 z) no_out o.2)))
         (true_or u.main))
         (λ d. inr (rule.spent i u g d))
@@ -93,43 +94,50 @@ module _ {P : Type 0} (rows room : ℕ) (word : ℕ → ℕ) (slot : ℕ → Opt
     pub all_events : (e : Event) → IsAmong e log ↔ IsAmong e v.events
     all_events e = (
       (λ m. let t = rule.books.whole e m in let y = map_back book views t.0 t.1 t.2 in let m' : IsAmong e y.0.events = subst (λ (z : Book). IsAmong e z.events) (sym y.2) t.3 in
-          ⊎_elim (λ s. subst (λ (z : Token P). IsAmong e z.events) s m') (λ s. absurd (among_nil (subst (λ z. IsAmong e z) s.7 m'))) (alone t.0 y.0 y.1)),
+          ⊎_elim (λ s. subst (λ (z : Token P). IsAmong e z.events) s.1 m') (λ s. absurd (among_nil (subst (λ z. IsAmong e z) s.events m'))) (alone t.0 y.0 y.1)),
       (λ m. rule.books.inside id (book v) e (at_book rows room word slot log views rule id v at live) m),
     )
+
+    -- and each stands there once
+    pub all_noted : length v.events ≡ length log
+    all_noted =
+        let bs = map book views in let t = all_told rows room word slot log views rule in
+        let a = total_alone (λ (b : Book). length b.events) bs id (book v) (at_book rows room word slot log views rule id v at live)
+        (λ i b ne g. let y = map_back book views i b g in let e = ap (λ (z : Book). length z.events) y.2 in ⊎_elim (λ s. absurd (ne s.0)) (λ s. sym e ∙ ap length s.events) (alone i y.0 y.1)) in omega arith
 
     -- each Lease has its Cancel, where the seat keeps none
     pub all_canceled : v.kept ≡ [] → (j : ℕ) → IsLeased log j → IsCanceled log j
     all_canceled no_kept j l = ⊎_elim
         (λ c. c)
         (λ k. let y = map_back hold views k.0 k.1 k.2 in let m : IsAmong j y.0.kept = subst (λ (z : Hold). IsAmong j z.kept) (sym y.2) k.3 in
-        let none : y.0.kept ≡ [] = ⊎_elim (λ s. ap (λ (z : Token P). z.kept) s ∙ no_kept) (λ s. s.3) (alone k.0 y.0 y.1) in absurd (among_nil (subst (λ z. IsAmong j z) none m)))
+        let none : y.0.kept ≡ [] = ⊎_elim (λ s. ap (λ (z : Token P). z.kept) s.1 ∙ no_kept) (λ s. s.kept) (alone k.0 y.0 y.1) in absurd (among_nil (subst (λ z. IsAmong j z) none m)))
         (rule.leases.keeper j l)
 
     module _ (no_open : v.opened ≡ []) (no_pair : v.pairs ≡ []) (no_hand : v.handed ≡ []) (unused : (r : ℕ) → IsAmong r v.empty → ¬ (IsAcquired v.events r)) where
-      none_in : (f : Token P → List ℕ) (r : ℕ) (i : ℕ) (u : Token P) → IsAt views i u → (u ≡ v → f u ≡ []) → (((u.empty ≡ []) × (u.opened ≡ []) × (u.pairs ≡ []) × (u.kept ≡ []) × (u.handed ≡ []) × (u.given ≡ []) × (u.left ≡ []) × (u.events ≡ [])) → f u ≡ []) → 1 ≤ times r (f u) → ⊥
-      none_in f r i u g a b l = let e = ⊎_elim a b (alone i u g) in let z : times r (f u) ≡ 0 = ap (λ l. times r l) e in omega arith
+      none_in : (f : Token P → List ℕ) (r : ℕ) (i : ℕ) (u : Token P) → IsAt views i u → (u ≡ v → f u ≡ []) → (IsBlank u → f u ≡ []) → 1 ≤ times r (f u) → ⊥
+      none_in f r i u g a b l = let e = ⊎_elim (λ s. a s.1) b (alone i u g) in let z : times r (f u) ≡ 0 = ap (λ l. times r l) e in omega arith
 
       -- each acquired row is final
       pub all_final : (r : ℕ) → IsAcquired log r → IsFinalized log r
       all_final r acq = let ws = map work views in ends (rule.words r)
           (λ l. let x = total_some (λ (u : Work). times r u.empty) ws l in let y = map_back work views x.0 x.1 x.2 in let l' : 1 ≤ times r y.0.empty = subst (λ (z : Work). 1 ≤ times r z.empty) (sym y.2) x.3 in
-          ⊎_elim (λ s. let m : IsAmong r v.empty = times_in r v.empty (subst (λ (z : Token P). 1 ≤ times r z.empty) s l') in unused r m (acq.0, acq.1, rule.deeds.fresh id r acq.1 acq.0 (deed v) (at_deed rows room word slot log views rule id v at live) m acq.2))
-          (λ s. let z : times r y.0.empty ≡ 0 = ap (λ l. times r l) s.0 in omega arith) (alone x.0 y.0 y.1))
+          ⊎_elim (λ s. let m : IsAmong r v.empty = times_in r v.empty (subst (λ (z : Token P). 1 ≤ times r z.empty) s.1 l') in unused r m (acq.0, acq.1, rule.deeds.fresh id r acq.1 acq.0 (deed v) (at_deed rows room word slot log views rule id v at live) m acq.2))
+          (λ s. let z : times r y.0.empty ≡ 0 = ap (λ l. times r l) s.empty in omega arith) (alone x.0 y.0 y.1))
           (λ l. let x = total_some (λ (u : Work). times r u.opened) ws l in let y = map_back work views x.0 x.1 x.2 in
-          none_in (λ (z : Token P). z.opened) r x.0 y.0 y.1 (λ s. ap (λ (z : Token P). z.opened) s ∙ no_open) (λ s. s.1) (subst (λ (z : Work). 1 ≤ times r z.opened) (sym y.2) x.3))
+          none_in (λ (z : Token P). z.opened) r x.0 y.0 y.1 (λ s. ap (λ (z : Token P). z.opened) s ∙ no_open) (λ s. s.opened) (subst (λ (z : Work). 1 ≤ times r z.opened) (sym y.2) x.3))
           (λ l. let x = total_some (λ (u : Work). row_times r u.pairs) ws l in let y = map_back work views x.0 x.1 x.2 in let l' : 1 ≤ row_times r y.0.pairs = subst (λ (z : Work). 1 ≤ row_times r z.pairs) (sym y.2) x.3 in
-          let e : y.0.pairs ≡ [] = ⊎_elim (λ s. ap (λ (z : Token P). z.pairs) s ∙ no_pair) (λ s. s.2) (alone x.0 y.0 y.1) in let z : row_times r y.0.pairs ≡ 0 = ap (λ l. row_times r l) e in omega arith)
+          let e : y.0.pairs ≡ [] = ⊎_elim (λ s. ap (λ (z : Token P). z.pairs) s.1 ∙ no_pair) (λ s. s.pairs) (alone x.0 y.0 y.1) in let z : row_times r y.0.pairs ≡ 0 = ap (λ l. row_times r l) e in omega arith)
           (λ l. let x = total_some (λ (u : Work). times r u.handed) ws l in let y = map_back work views x.0 x.1 x.2 in
-          none_in (λ (z : Token P). z.handed) r x.0 y.0 y.1 (λ s. ap (λ (z : Token P). z.handed) s ∙ no_hand) (λ s. s.4) (subst (λ (z : Work). 1 ≤ times r z.handed) (sym y.2) x.3))
+          none_in (λ (z : Token P). z.handed) r x.0 y.0 y.1 (λ s. ap (λ (z : Token P). z.handed) s ∙ no_hand) (λ s. s.handed) (subst (λ (z : Work). 1 ≤ times r z.handed) (sym y.2) x.3))
           acq
 
     given_mine : (r : ℕ) (x : P) → GivenIn (map purse views) r x → IsAmong (r, x) v.given
     given_mine r x t = let y = map_back purse views t.0 t.1 t.2 in let m : IsAmong (r, x) y.0.given = subst (λ (z : Purse P). IsAmong (r, x) z.given) (sym y.2) t.3 in
-        ⊎_elim (λ s. subst (λ (z : Token P). IsAmong (r, x) z.given) s m) (λ s. absurd (among_nil (subst (λ z. IsAmong (r, x) z) s.5 m))) (alone t.0 y.0 y.1)
+        ⊎_elim (λ s. subst (λ (z : Token P). IsAmong (r, x) z.given) s.1 m) (λ s. absurd (among_nil (subst (λ z. IsAmong (r, x) z) s.given m))) (alone t.0 y.0 y.1)
 
     left_mine : (r : ℕ) (x : P) → LeftIn (map purse views) r x → IsAmong (r, x) v.left
     left_mine r x t = let y = map_back purse views t.0 t.1 t.2 in let m : IsAmong (r, x) y.0.left = subst (λ (z : Purse P). IsAmong (r, x) z.left) (sym y.2) t.3 in
-        ⊎_elim (λ s. subst (λ (z : Token P). IsAmong (r, x) z.left) s m) (λ s. absurd (among_nil (subst (λ z. IsAmong (r, x) z) s.6 m))) (alone t.0 y.0 y.1)
+        ⊎_elim (λ s. subst (λ (z : Token P). IsAmong (r, x) z.left) s.1 m) (λ s. absurd (among_nil (subst (λ z. IsAmong (r, x) z) s.left m))) (alone t.0 y.0 y.1)
 
     -- each row with a Final was handed over, once, with what its owner left, once
     pub all_payloads : (r : ℕ) → IsFinalized log r → (p : P) × IsAmong (r, p) v.left × IsAmong (r, p) v.given × ((q : P) → IsAmong (r, q) v.left → q ≡ p) × ((q : P) → IsAmong (r, q) v.given → q ≡ p)

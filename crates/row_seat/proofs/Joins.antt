@@ -2,8 +2,8 @@
 use Rattle.std.proofs.Common.{◌≡◌, ◌≢◌, ℕ, ◌^◌, ◌<◌, ◌≤◌, ◌⊎◌, true, false, map, List, [], ◌++◌, length, slice_set, inl, inr, refl, sym, ap, ◌∙◌, subst, ⊎_elim, arith}
 use Rattle.std.specs.Prelude.{Some, Option}
 use Rattle.res_ledger.specs.declared.event.What.TheVariants.{Acquire, Lease}
-use Rattle.row_seat.specs.Totals.{IsAt, pair_times, row_times, times}
-use Rattle.row_seat.specs.Rule.{Book, BooksAgree, DeedsAgree, GivenIn, Hold, LeasesAgree, LeftIn, PaysAgree, Purse, RowsAgree, RuleHolds, SeatsAgree, Who, Work, book, deed, empties, hands, hold, leases, opens, purse, who, work}
+use Rattle.row_seat.specs.Totals.{IsAt, pair_times, row_times, stamp_times, times}
+use Rattle.row_seat.specs.Rule.{Book, BooksAgree, DeedsAgree, GivenIn, Hold, LeasesAgree, LeftIn, PaysAgree, Purse, RowsAgree, IsBlank, RuleHolds, SeatsAgree, Who, Work, book, deed, empties, hands, hold, leases, opens, purse, who, work}
 use Rattle.res_ledger.specs.Ledger.{Covers, IsCanceled, IsLeased, Notes}
 use Rattle.res_ledger.specs.declared.event.Event.{Event}
 use Rattle.res_ledger.specs.Streams.{HasRight, by_stream}
@@ -23,7 +23,7 @@ use Rattle.row_seat.proofs.Ticked.{live_not}
 use Rattle.row_seat.specs.Views.{name_of}
 use Rattle.row_seat.proofs.Totals.{one_at}
 use Rattle.row_seat.proofs.Tick.{stands_is}
-use Rattle.row_seat.proofs.Times.{times_both}
+use Rattle.row_seat.proofs.Times.{stamp_both, times_both}
 use Rattle.row_seat.proofs.Splits.{true_or}
 
 module _ {P : Type 0} (rows room : ℕ) (word : ℕ → ℕ) (slot : ℕ → Option P) (log : List Event) (views : List (Token P)) (rule : RuleHolds rows room word slot log views) (id : ℕ) (v : Token P) (at : IsAt views id v) (live : v.live ≡ true)
@@ -79,11 +79,28 @@ module _ {P : Type 0} (rows room : ℕ) (word : ℕ → ℕ) (slot : ℕ → Opt
         sum = let t = total_both bs id jd (book v) (book w) (book ma) (book nb) ab ab' apart (λ (u : Book). u.spare) in let o = k.sum in omega arith;
         inside = λ i u e. E (λ i u. IsAmong e u.events → IsAmong e log) (λ m. ⊎_elim (k.inside id (book v) e ab) (k.inside jd (book w) e ab') (among_append e v.events w.events m)) (λ m. absurd (among_nil m)) (λ i u ne me g. k.inside i u e g) i u;
         whole = λ e m. some_two bs id jd (book v) (book w) (book ma) (book nb) ab ab' apart (λ (u : Book). IsAmong e u.events) (among_left w.events) (among_right e v.events w.events) (k.whole e m);
+        once = λ m. let t = total_both bs id jd (book v) (book w) (book ma) (book nb) ab ab' apart (λ (u : Book). stamp_times m u.events) in let o = k.once m in let s = stamp_both m v.events w.events in omega arith;
+        one = λ i l u z c d g h. E (λ i u. IsAmong c u.events → IsAmong d z.events → c.by ≡ d.by → i ≡ l)
+            (E (λ l z. IsAmong c ma.events → IsAmong d z.events → c.by ≡ d.by → id ≡ l) (λ x y s. refl) (λ x y. absurd (among_nil y))
+            (λ l z ne me h x y s. ⊎_elim (λ o. k.one id l (book v) z c d ab h o y s) (λ o. absurd (me (sym (k.one jd l (book w) z c d ab' h o y s)))) (among_append c v.events w.events x)) l z h)
+            (λ x. absurd (among_nil x))
+            (λ i u ne me g. E (λ l z. IsAmong c u.events → IsAmong d z.events → c.by ≡ d.by → i ≡ l)
+            (λ x y s. ⊎_elim (λ o. k.one i id u (book v) c d g ab x o s) (λ o. absurd (me (k.one i jd u (book w) c d g ab' x o s))) (among_append d v.events w.events y))
+            (λ x y. absurd (among_nil y)) (λ l z ne' me' h. k.one i l u z c d g h) l z h) i u g;
+        order = λ i u e. E (λ i u. IsAmong e u.events → by_stream e.by u.events ≡ by_stream e.by log)
+            (λ m. by_both e.by v.events w.events ∙ ⊎_elim
+            (λ o. ap (λ (x : List Event). by_stream e.by v.events ++ x) (by_none e.by w.events (λ d q s. apart (k.one id jd (book v) (book w) e d ab ab' o q (sym s)))) ∙ (append_nil (by_stream e.by v.events) ∙ k.order id (book v) e ab o))
+            (λ o. ap (λ (x : List Event). x ++ by_stream e.by w.events) (by_none e.by v.events (λ d q s. apart (k.one id jd (book v) (book w) d e ab ab' q o s))) ∙ k.order jd (book w) e ab' o)
+            (among_append e v.events w.events m))
+            (λ m. absurd (among_nil m)) (λ i u ne me g. k.order i u e g) i u;
         own = E (λ i u. u.live ≡ true → by_stream u.by u.events ≡ by_stream u.by log)
             (λ l. by_both v.by v.events w.events ∙ (ap (λ (x : List Event). by_stream v.by v.events ++ x) (by_none v.by w.events (λ e m s. foreign (sym s ∙ (k.pure jd (book w) e ab' side m ∙ by)))) ∙ (append_nil (by_stream v.by v.events) ∙ k.own id (book v) ab live)))
             (λ f. absurd (bool_not (sym f))) (λ i u ne me g. k.own i u g);
         pure = λ i u e. E (λ i u. u.main ≡ false → IsAmong e u.events → e.by ≡ u.by) (λ f. absurd (live_not main f)) (λ f m. absurd (among_nil m)) (λ i u ne me g. k.pure i u e g) i u;
         floor = E (λ i u. u.floor ≤ length log) (k.floor id (book v) ab) (omega arith) (λ i u ne me g. k.floor i u g);
+        above = λ i u e. E (λ i u. IsAmong e u.events → e.by ≡ u.by → u.floor ≤ e.stamp)
+            (λ m s. ⊎_elim (λ o. k.above id (book v) e ab o s) (λ o. absurd (foreign (sym s ∙ (k.pure jd (book w) e ab' side o ∙ by)))) (among_append e v.events w.events m))
+            (λ m. absurd (among_nil m)) (λ i u ne me g. k.above i u e g) i u;
       }
 
   words' : RowsAgree rows word log (slice_set (slice_set (map work views) id (work ma)) jd (work nb))
@@ -146,6 +163,6 @@ module _ {P : Type 0} (rows room : ℕ) (word : ℕ → ℕ) (slot : ℕ → Opt
     deeds = subst (λ l. DeedsAgree log l) (sym (map_two deed views id jd ma nb)) deeds';
     leases = subst (λ l. LeasesAgree log l) (sym (map_two hold views id jd ma nb)) leases';
     pays = subst (λ l. PaysAgree word slot log l) (sym (map_two purse views id jd ma nb)) pays';
-    spent = each_two views id jd v w ma nb at at' apart (λ i u. u.live ≡ false → (u.empty ≡ []) × (u.opened ≡ []) × (u.pairs ≡ []) × (u.kept ≡ []) × (u.handed ≡ []) × (u.given ≡ []) × (u.left ≡ []) × (u.events ≡ [])) (λ f. absurd (live_not live f)) (λ f. (refl, refl, refl, refl, refl, refl, refl, refl)) (λ i u ne me g. rule.spent i u g);
+    spent = each_two views id jd v w ma nb at at' apart (λ i u. u.live ≡ false → IsBlank u) (λ f. absurd (live_not live f)) (λ f. record { empty = refl; opened = refl; pairs = refl; kept = refl; handed = refl; given = refl; left = refl; events = refl }) (λ i u ne me g. rule.spent i u g);
     small = λ i j r u. each_two views id jd v w ma nb at at' apart (λ i u. IsAmong (j, r) u.pairs → j < 2 ^ 32) (rule.small id j r v at) (λ m. absurd (among_nil m)) (λ i u ne me g. rule.small i j r u g) i u;
   }

@@ -68,7 +68,7 @@ module _ {P : Type 0} where
     were_apart hs ks = record {
       events = λ e m b. foreign (sym b ∙ (pure e m ∙ by));
       own = pure;
-      mine = λ e m b. ⊎_elim (λ s. absurd (foreign (sym s ∙ (b ∙ by)))) (λ s. absurd (s.2 (subst (λ i. IsAmong i v.out) (inner_is n s.0 (sym by ∙ (sym b ∙ s.1))) out))) (names e m);
+      mine = λ e m b. ⊎_elim (λ s. foreign (sym s ∙ (b ∙ by))) (λ s. s.2 (subst (λ i. IsAmong i v.out) (inner_is n s.0 (sym by ∙ (sym b ∙ s.1))) out)) (names e m);
       kept = λ r m a. absurd (no_kept r m a);
       taken = λ r m a. absurd (no_taken r m a);
       vacant = λ r m. let e = empty_row r (in_theirs r m) in let e3 = e.3 in (

@@ -3,8 +3,8 @@ use Rattle.std.proofs.Common.{◌≡◌, ◌≢◌, ℕ, suc, ◌+◌, ◌-◌, 
 use Rattle.std.specs.Prelude.{Some, Option}
 use Rattle.std.proofs.lemmas.Bool.{cases_eq, le-leb, lt-leb, lt-ltb, le-ltb, leb-true, leb-false}
 use Rattle.res_ledger.specs.declared.event.What.TheVariants.{Acquire, Lease}
-use Rattle.row_seat.specs.Totals.{IsAt, pair_times, row_times, times}
-use Rattle.row_seat.specs.Rule.{Book, BooksAgree, DeedsAgree, GivenIn, Hold, LeasesAgree, LeftIn, PaysAgree, Purse, RowsAgree, RuleHolds, SeatsAgree, Who, Work, book, deed, empties, hands, hold, leases, opens, purse, who, work}
+use Rattle.row_seat.specs.Totals.{IsAt, pair_times, row_times, stamp_times, times}
+use Rattle.row_seat.specs.Rule.{Book, BooksAgree, DeedsAgree, GivenIn, Hold, LeasesAgree, LeftIn, PaysAgree, Purse, RowsAgree, IsBlank, RuleHolds, SeatsAgree, Who, Work, book, deed, empties, hands, hold, leases, opens, purse, who, work}
 use Rattle.res_ledger.specs.Ledger.{Covers, IsAcquired, IsCanceled, IsLeased, Notes}
 use Rattle.res_ledger.specs.declared.event.Event.{Event}
 use Rattle.res_ledger.specs.Streams.{HasRight, by_stream}
@@ -126,9 +126,16 @@ module _ {P : Type 0} (rows room : ℕ) (word : ℕ → ℕ) (slot : ℕ → Opt
     sum = let t = total_more bs id (book v) (book ma) (book nb) ab (λ (u : Book). u.spare) in let o = k.sum in let l = total_at (λ (u : Book). u.spare) bs id (book v) ab in omega arith;
     inside = λ i u e. E (λ i u. IsAmong e u.events → IsAmong e log) (k.inside id (book v) e ab) (λ i u ne g. k.inside i u e g) (λ m. absurd (among_nil m)) i u;
     whole = λ e m. some_more bs id (book v) (book ma) (book nb) ab (λ (u : Book). IsAmong e u.events) (λ a. inl a) (k.whole e m);
+    once = λ n. let t = total_more bs id (book v) (book ma) (book nb) ab (λ (u : Book). stamp_times n u.events) in let o = k.once n in omega arith;
+    one = λ i l u w c d g h. E (λ i u. IsAmong c u.events → IsAmong d w.events → c.by ≡ d.by → i ≡ l)
+        (E (λ l w. IsAmong c v.events → IsAmong d w.events → c.by ≡ d.by → id ≡ l) (λ x y s. refl) (λ l w ne h. k.one id l (book v) w c d ab h) (λ x y. absurd (among_nil y)) l w h)
+        (λ i u ne g. E (λ l w. IsAmong c u.events → IsAmong d w.events → c.by ≡ d.by → i ≡ l) (k.one i id u (book v) c d g ab) (λ l w ne' h. k.one i l u w c d g h) (λ x y. absurd (among_nil y)) l w h)
+        (λ x. absurd (among_nil x)) i u g;
+    order = λ i u e. E (λ i u. IsAmong e u.events → by_stream e.by u.events ≡ by_stream e.by log) (k.order id (book v) e ab) (λ i u ne g. k.order i u e g) (λ m. absurd (among_nil m)) i u;
     own = E (λ i u. u.live ≡ true → by_stream u.by u.events ≡ by_stream u.by log) (k.own id (book v) ab) (λ i u ne g. k.own i u g) (λ l. sym (by_none (Inner j) log no_event));
     pure = λ i u e. E (λ i u. u.main ≡ false → IsAmong e u.events → e.by ≡ u.by) (k.pure id (book v) e ab) (λ i u ne g. k.pure i u e g) (λ f m. absurd (among_nil m)) i u;
     floor = E (λ i u. u.floor ≤ length log) (k.floor id (book v) ab) (λ i u ne g. k.floor i u g) (above_le v.events (length log) (λ e m. stamp_below log e k.stamped (k.inside id (book v) e ab m)));
+    above = λ i u e. E (λ i u. IsAmong e u.events → e.by ≡ u.by → u.floor ≤ e.stamp) (k.above id (book v) e ab) (λ i u ne g. k.above i u e g) (λ m. absurd (among_nil m)) i u;
   }
 
   -- the rows are divided, none is lost
@@ -212,6 +219,6 @@ module _ {P : Type 0} (rows room : ℕ) (word : ℕ → ℕ) (slot : ℕ → Opt
     deeds = subst (λ l. DeedsAgree log l) (sym (map_more deed views id ma nb)) deeds';
     leases = subst (λ l. LeasesAgree log l) (sym (map_more hold views id ma nb)) leases';
     pays = subst (λ l. PaysAgree word slot log l) (sym (map_more purse views id ma nb)) pays';
-    spent = each_more views id v ma nb at (λ i u. u.live ≡ false → (u.empty ≡ []) × (u.opened ≡ []) × (u.pairs ≡ []) × (u.kept ≡ []) × (u.handed ≡ []) × (u.given ≡ []) × (u.left ≡ []) × (u.events ≡ [])) (λ f. absurd (live_not live f)) (λ i u ne g. rule.spent i u g) (λ f. absurd (bool_not f));
+    spent = each_more views id v ma nb at (λ i u. u.live ≡ false → IsBlank u) (λ f. absurd (live_not live f)) (λ i u ne g. rule.spent i u g) (λ f. absurd (bool_not f));
     small = λ i q r u. each_more views id v ma nb at (λ i u. IsAmong (q, r) u.pairs → q < 2 ^ 32) (λ m. rule.small id q r v at (among_filter (λ (x : ℕ × ℕ). not (eqb x.0 j)) (q, r) v.pairs m).0) (λ i u ne g. rule.small i q r u g) (λ m. rule.small id q r v at (among_filter (λ (x : ℕ × ℕ). eqb x.0 j) (q, r) v.pairs m).0) i u;
   }

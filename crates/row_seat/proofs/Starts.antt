@@ -64,6 +64,10 @@ module _ {P : Type 0} (by : StreamNo) (rows events splits : ℕ) (word : ℕ →
       own = one_view (book f) (λ i b. b.live ≡ true → _) (λ l. refl);
       pure = λ i b e g. subst (λ (z : Book). z.main ≡ false → IsAmong e z.events → e.by ≡ z.by) (only_one (book f) b i g).1 (λ l m. absurd (among_nil m));
       floor = λ i b g. subst (λ (z : Book). z.floor ≤ 0) (only_one (book f) b i g).1 (omega arith);
+      once = λ n. omega arith;
+      one = λ i j b c d e g h m. absurd (among_nil (subst (λ (z : Book). IsAmong d z.events) (sym (only_one (book f) b i g).1) m));
+      order = λ i b e g m. absurd (among_nil (subst (λ (z : Book). IsAmong e z.events) (sym (only_one (book f) b i g).1) m));
+      above = λ i b e g m. absurd (among_nil (subst (λ (z : Book). IsAmong e z.events) (sym (only_one (book f) b i g).1) m));
     };
     words = λ r. ⊎_elim
         (λ s. let s1 = s.1 in let i = run_in r 0 rows (omega arith) (omega arith) in vacant s.1 (zero' r) (omega arith) (omega arith) (omega arith) (omega arith) (λ x. none_noted x.0 _ x.2))

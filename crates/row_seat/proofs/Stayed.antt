@@ -16,10 +16,9 @@ use Rattle.row_seat.specs.Rule.{Hold, RuleHolds, Work, deed, hold, seen, who, wo
 use Rattle.row_seat.proofs.Hands.{row_held}
 use Rattle.row_seat.proofs.Rows.{is_leased}
 use Rattle.row_seat.proofs.Splits.{true_or}
-use Rattle.row_seat.proofs.Tells.{total_map}
 use Rattle.row_seat.proofs.Ticked.{own_is}
 use Rattle.row_seat.proofs.Times.{pair_among, row_in, row_less, row_some, times_in}
-use Rattle.row_seat.proofs.Totals.{map_back, one_at, total_at, total_some}
+use Rattle.row_seat.proofs.Totals.{map_back, one_at, total_at, total_map, total_some}
 
 module _ {P : Type 0} where
   cut : (j r : ℕ) (ts : List (Token P)) → total (λ (t : Token P). row_times r (without_pair j r t.pairs)) ts + total (λ (t : Token P). pair_times j r t.pairs) ts ≡ total (λ (t : Token P). row_times r t.pairs) ts
@@ -45,7 +44,7 @@ module _ {P : Type 0} (rows room : ℕ) (word : ℕ → ℕ) (slot : ℕ → Opt
       let x = total_some (λ (u : Work). times r u.opened) ws (omega (a1, arith)) in let b = map_back work views x.0 x.1 x.2 in let u = b.0 in
       let m : IsAmong r u.opened = times_in r u.opened (subst (λ (z : Work). 1 ≤ times r z.opened) (sym b.2) x.3) in
       let d = rule.deeds.opened x.0 r (deed u) (at_map deed views x.0 u b.1) m in
-      let there : u.live ≡ true = ⊎_elim (λ t. t) (λ f. absurd (among_nil (subst (λ z. IsAmong r z) (rule.spent x.0 u b.1 f).1 m))) (true_or u.live) in
+      let there : u.live ≡ true = ⊎_elim (λ t. t) (λ f. absurd (among_nil (subst (λ z. IsAmong r z) (rule.spent x.0 u b.1 f).opened m))) (true_or u.live) in
       inl (row_held r hands v.opened held (⊎_elim
       (λ c. let q = covers_acquired log j r v.by c in
       let same = one_acquire log r d.0 q.0 u.by v.by rule.books.legal d.1 q.1 in
@@ -73,7 +72,7 @@ module _ {P : Type 0} (rows room : ℕ) (word : ℕ → ℕ) (slot : ℕ → Opt
               (λ mu. let e = rule.seats.one x.0 id (who u) (who v) (at_map who views x.0 u x.2) aw mu main in inl (subst (λ (z : Token P). IsAmong (i, r) z.pairs) (one_at views id u v (subst (λ n. IsAt views n u) e x.2) at) m))
               (λ f. ⊎_elim
               (λ lu. let o = rule.seats.out id x.0 (who v) (who u) aw (at_map who views x.0 u x.2) main lu f in inr (subst (λ z. IsAmong z v.out) (inner_is o.0 i (sym o.1 ∙ b)) o.2))
-              (λ du. absurd (among_nil (subst (λ z. IsAmong (i, r) z) (rule.spent x.0 u x.2 du).2 m)))
+              (λ du. absurd (among_nil (subst (λ z. IsAmong (i, r) z) (rule.spent x.0 u x.2 du).pairs m)))
               (true_or u.live))
               (true_or u.main))
               (rule.leases.holder x.0 i r (hold u) (at_map hold views x.0 u x.2) m),

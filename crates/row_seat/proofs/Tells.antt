@@ -1,25 +1,33 @@
--- What the rule tells of a row's leases.
-use Rattle.std.proofs.Common.{◌≡◌, ◌≢◌, ℕ, ◌+◌, ◌*◌, ◌^◌, ◌≤◌, true, map, List, [], ◌∷◌, refl, sym, ap, ◌∙◌, subst, ⊎_elim, arith}
+-- What the rule tells of a row's leases, and of how many events there are.
+use Rattle.std.proofs.Common.{◌≡◌, ◌≢◌, ℕ, zero, suc, ◌+◌, ◌*◌, ◌^◌, ◌<◌, ◌≤◌, true, map, List, [], ◌∷◌, ◌++◌, length, refl, sym, ap, ◌∙◌, subst, ⊎_elim, arith}
 use Rattle.std.specs.Prelude.{Some, Option}
 use Rattle.std.proofs.lemmas.Bool.{cases_eq}
 use Rattle.chunk_core.specs.Lists.{IsAmong}
+use Rattle.chunk_core.proofs.Members.{among_mid}
 use Rattle.chunk_core.proofs.Places.{at_map}
+use Rattle.res_ledger.specs.Ledger.{IsStamped}
+use Rattle.res_ledger.proofs.Ledgers.{stamp_below}
 use Rattle.res_ledger.specs.declared.event.Event.{Event}
 use Rattle.row_seat.specs.declared.token.Token.{Token}
-use Rattle.row_seat.specs.Totals.{IsAt, total, times, row_times, pair_times}
+use Rattle.row_seat.specs.Totals.{IsAt, total, times, row_times, pair_times, stamp_times}
 use Rattle.row_seat.specs.Hands.{rows_of}
 use Rattle.row_seat.specs.Views.{IsLastLease, without_pair}
-use Rattle.row_seat.specs.Rule.{RuleHolds, Work, Hold, work, hold, purse, seen, leases}
+use Rattle.row_seat.specs.Rule.{RuleHolds, Book, Work, Hold, book, work, hold, purse, seen, leases}
 use Rattle.row_seat.proofs.Hands.{row_among}
-use Rattle.row_seat.proofs.Totals.{total_at}
-use Rattle.row_seat.proofs.Times.{times_some, row_some, pair_some, row_less, pair_kept}
-use Rattle.row_seat.proofs.Pigeonholes.{pairs_below}
+use Rattle.row_seat.proofs.Totals.{total_at, total_map, total_sum}
+use Rattle.row_seat.proofs.Times.{stamp_some, times_some, row_some, pair_some, row_less, pair_kept}
+use Rattle.row_seat.proofs.Pigeonholes.{pairs_below, stamps_each}
 use Rattle.row_seat.proofs.Rows.{is_leased}
 use Rattle.row_seat.proofs.Moves.{some_is}
 
-pub total_map : {V U : Type 0} (f : V → U) (g : U → ℕ) (vs : List V) → total g (map f vs) ≡ total (λ (v : V). g (f v)) vs
-total_map f g [] = refl
-total_map f g (v ∷ vs) = ap (λ n. g (f v) + n) (total_map f g vs)
+parts_at : {A : Type 0} (L : List A) (n : ℕ) → n < length L → (P Q : List A) × (x : A) × (L ≡ P ++ x ∷ Q) × (length P ≡ n)
+parts_at [] n l = absurd (omega arith)
+parts_at (x ∷ L) zero l = ([], L, x, refl, refl)
+parts_at (x ∷ L) (suc n) l = let t = parts_at L n (omega arith) in (x ∷ t.0, t.1, t.2, ap (λ l. x ∷ l) t.3, ap suc t.4)
+
+-- each number below the length of the ledger is the stamp of an event
+stamp_at : (L : List Event) (n : ℕ) → IsStamped L → n < length L → (e : Event) × IsAmong e L × (e.stamp ≡ n)
+stamp_at L n stamped l = let t = parts_at L n l in (t.2, subst (λ z. IsAmong t.2 z) (sym t.3) (among_mid t.0 t.1 t.2), stamped t.0 t.1 t.2 t.3 ∙ t.4)
 
 two_pairs : (i j r : ℕ) (xs : List (ℕ × ℕ)) → i ≢ j → IsAmong (i, r) xs → IsAmong (j, r) xs → 2 ≤ row_times r xs
 two_pairs i j r xs ne a b = let k = row_less i r xs in let p = pair_some i r xs a in let q = row_some j r (without_pair i r xs) (pair_kept i r j r xs b (λ e f. ne (sym e))) in omega arith
@@ -30,6 +38,18 @@ module _ {P : Type 0} (rows room : ℕ) (word : ℕ → ℕ) (slot : ℕ → Opt
   leases_below r =
       let a = pairs_below (λ (u : Token P). u.pairs) r (2 ^ 32) views (λ i j u g m. rule.small i j r u g m) (λ j. subst (λ n. n ≤ 1) (total_map hold (λ (h : Hold). pair_times j r h.pairs) views) (rule.leases.pair_once j r)) in
       subst (λ n. n ≤ 2 ^ 32) (sym (total_map work (λ (u : Work). row_times r u.pairs) views)) a
+
+  -- each event stands in one view, once
+  pub all_told : total (λ (b : Book). length b.events) (map book views) ≡ length log
+  all_told =
+      let bs = map book views in let k = rule.books in
+      stamps_each (λ (b : Book). b.events) (length log) bs (λ i b e g m. stamp_below log e k.stamped (k.inside i b e g m))
+      (λ n l. let o = k.once n in let e = stamp_at log n k.stamped l in let w = k.whole e.0 e.1 in
+      let s = subst (λ z. 1 ≤ stamp_times z w.1.events) e.2 (stamp_some e.0 w.1.events w.3) in let t = total_at (λ (b : Book). stamp_times n b.events) bs w.0 w.1 w.2 in omega arith)
+
+  -- the events noted and the spare of all views together are the room
+  pub tally : total (λ (b : Book). length b.events + b.spare) (map book views) ≡ room
+  tally = let s = rule.books.sum in let t = all_told in let both = total_sum (λ (b : Book). length b.events) (λ (b : Book). b.spare) (map book views) in omega arith
 
   module _ (id : ℕ) (v : Token P) (at : IsAt views id v) (live : v.live ≡ true) where
     -- the last lease of a closed row: the slot has what was left in it

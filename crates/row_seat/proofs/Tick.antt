@@ -4,7 +4,7 @@ use Rattle.std.specs.Prelude.{Some, Option}
 use Rattle.std.proofs.lemmas.List.{length_push}
 use Rattle.std.proofs.lemmas.Bool.{cases_eq}
 use Rattle.res_ledger.specs.declared.event.What.TheVariants.{Acquire, Cancel, Final, Lease}
-use Rattle.row_seat.specs.Totals.{IsAt, pair_times, row_times, times, total}
+use Rattle.row_seat.specs.Totals.{IsAt, pair_times, row_times, stamp_times, times, total}
 use Rattle.row_seat.specs.Rule.{Book, BooksAgree, Deed, DeedsAgree, GivenIn, Hold, LeasesAgree, LeftIn, PaysAgree, Purse, RowsAgree, SeatsAgree, Stands, Who, Work, empties, hands, leases, opens}
 use Rattle.res_ledger.specs.Ledger.{Covers, IsCanceled, IsCoveredBy, IsLeased, IsLegal, MayFollow, Notes}
 use Rattle.res_ledger.specs.declared.event.Event.{Event}
@@ -12,13 +12,13 @@ use Rattle.res_ledger.specs.Streams.{HasRight, by_stream}
 use Rattle.res_ledger.specs.declared.event.StreamNo.TheVariants.{Inner}
 use Rattle.chunk_core.specs.Lists.{IsAmong}
 use Rattle.res_ledger.specs.declared.event.StreamNo.{StreamNo}
-use Rattle.res_ledger.proofs.Ledgers.{acquired_more, acquired_snoc, by_both, by_other, cancel_stream, canceled_leased, canceled_more, canceled_snoc, covers_more, covers_new, covers_snoc, final_row, lease_stream, leased_more, leased_snoc, right_more}
+use Rattle.res_ledger.proofs.Ledgers.{acquired_more, acquired_snoc, by_both, by_in, by_other, by_out, cancel_stream, canceled_leased, canceled_more, canceled_snoc, covers_more, covers_new, covers_snoc, final_row, lease_stream, leased_more, leased_snoc, right_more, stamp_below, stream_cases}
 use Rattle.row_seat.proofs.Members.{among_kept, among_without}
 use Rattle.chunk_core.proofs.Members.{among_last, among_left, among_snoc}
 use Rattle.row_seat.specs.Rule.Stands.{awaits, beyond, final, handed, opened, vacant}
 use Rattle.row_seat.proofs.Totals.{each, one_at, put_else, put_here, some_back, some_put, total_one, total_set, total_some}
 use Rattle.res_ledger.proofs.Growth.{finalized_more, finalized_snoc, legal_snoc, noted_more, noted_snoc, row_closed_more, stamped_snoc}
-use Rattle.row_seat.proofs.Times.{push_other, push_same, times_in, times_some, without_other, without_same, zero_or}
+use Rattle.row_seat.proofs.Times.{push_other, push_same, stamp_here, stamp_in, stamp_push, times_in, times_some, without_other, without_same, zero_or}
 use Rattle.row_seat.specs.Views.{without}
 
 -- what is read of the row's counts
@@ -82,27 +82,52 @@ module _ (log : List Event) (e : Event) where
   pub tick_books : (room : ℕ) (bs : List Book) → BooksAgree room log bs → (id : ℕ) (b : Book) → IsAt bs id b → b.live ≡ true → 1 ≤ b.spare → e.stamp ≡ length log → e.by ≡ b.by → MayFollow log e.by e.what
       → ((i : ℕ) (u : Book) → i ≢ id → IsAt bs i u → u.live ≡ true → u.by ≢ b.by)
       → BooksAgree room (log ++ e ∷ []) (slice_set bs id (record b { events = b.events ++ e ∷ []; spare = b.spare - 1 }))
-  tick_books room bs k id b at live left stamp by meets apart = let b' : Book = record b { events = b.events ++ e ∷ []; spare = b.spare - 1 } in record {
-    stamped = stamped_snoc log e k.stamped stamp;
-    legal = legal_snoc log e k.legal meets;
-    sum = let t = total_set (λ (u : Book). u.spare) bs id b b' at in let o = k.sum in let l = length_push log e in omega arith;
-    inside = λ i u d. each bs id b' (λ i u. IsAmong d u.events → IsAmong d (log ++ e ∷ []))
-        (λ a. ⊎_elim (λ o. among_left (e ∷ []) (k.inside id b d at o)) (λ q. subst (λ z. IsAmong z (log ++ e ∷ [])) (sym q) (among_last log e)) (among_snoc b.events d e a))
-        (λ i u ne g a. among_left (e ∷ []) (k.inside i u d g a)) i u;
-    whole = λ d m. ⊎_elim
-        (λ o. let t = k.whole d o in ⊎_elim
-        (λ q. (id, b', put_here bs id b b' at, among_left (e ∷ []) (subst (λ (u : Book). IsAmong d u.events) (one_at bs id t.1 b (subst (λ n. IsAt bs n t.1) q t.2) at) t.3)))
-        (λ ne. (t.0, t.1, put_else bs id t.0 t.1 b' ne t.2, t.3)) (cases_eq t.0 id))
-        (λ q. (id, b', put_here bs id b b' at, subst (λ z. IsAmong z (b.events ++ e ∷ [])) (sym q) (among_last b.events e)))
-        (among_snoc log d e m);
-    own = each bs id b' (λ i u. u.live ≡ true → by_stream u.by u.events ≡ by_stream u.by (log ++ e ∷ []))
-        (λ l. by_both b.by b.events (e ∷ []) ∙ (ap (λ (x : List Event). x ++ by_stream b.by (e ∷ [])) (k.own id b at live) ∙ sym (by_both b.by log (e ∷ []))))
-        (λ i u ne g l. k.own i u g l ∙ sym (by_other u.by log e (λ s. apart i u ne g l (sym s ∙ by))));
-    pure = λ i u d. each bs id b' (λ i u. u.main ≡ false → IsAmong d u.events → d.by ≡ u.by)
-        (λ m a. ⊎_elim (λ o. k.pure id b d at m o) (λ q. ap (λ (z : Event). z.by) q ∙ by) (among_snoc b.events d e a))
-        (λ i u ne g. k.pure i u d g) i u;
-    floor = each bs id b' (λ i u. u.floor ≤ length (log ++ e ∷ [])) (let t = k.floor id b at in let l = length_push log e in omega arith) (λ i u ne g. let t = k.floor i u g in let l = length_push log e in omega arith);
-  }
+  tick_books room bs k id b at live left stamp by meets apart = let b' : Book = record b { events = b.events ++ e ∷ []; spare = b.spare - 1 } in
+      -- this stream's events stand here alone
+      let mine : (d : Event) → IsAmong d log → d.by ≡ b.by → IsAmong d b.events = λ d m s. (by_in b.by b.events d (subst (λ l. IsAmong d l) (sym (k.own id b at live)) (by_out b.by log d m s))).0 in
+      let other : (i : ℕ) (u : Book) (d : Event) → i ≢ id → IsAt bs i u → IsAmong d u.events → d.by ≢ b.by = λ i u d ne g m s. ne (k.one i id u b d d g at m (mine d (k.inside i u d g m) s) refl) in
+      let now : by_stream b.by (b.events ++ e ∷ []) ≡ by_stream b.by (log ++ e ∷ []) = by_both b.by b.events (e ∷ []) ∙ (ap (λ (x : List Event). x ++ by_stream b.by (e ∷ [])) (k.own id b at live) ∙ sym (by_both b.by log (e ∷ []))) in
+      let pick : (d : Event) → IsAmong d (b.events ++ e ∷ []) → IsAmong d b.events ⊎ (d.by ≡ b.by) = λ d m. ⊎_elim (λ o. inl o) (λ q. inr (ap (λ (z : Event). z.by) q ∙ by)) (among_snoc b.events d e m) in record {
+        stamped = stamped_snoc log e k.stamped stamp;
+        legal = legal_snoc log e k.legal meets;
+        sum = let t = total_set (λ (u : Book). u.spare) bs id b b' at in let o = k.sum in let l = length_push log e in omega arith;
+        inside = λ i u d. each bs id b' (λ i u. IsAmong d u.events → IsAmong d (log ++ e ∷ []))
+            (λ a. ⊎_elim (λ o. among_left (e ∷ []) (k.inside id b d at o)) (λ q. subst (λ z. IsAmong z (log ++ e ∷ [])) (sym q) (among_last log e)) (among_snoc b.events d e a))
+            (λ i u ne g a. among_left (e ∷ []) (k.inside i u d g a)) i u;
+        whole = λ d m. ⊎_elim
+            (λ o. let t = k.whole d o in ⊎_elim
+            (λ q. (id, b', put_here bs id b b' at, among_left (e ∷ []) (subst (λ (u : Book). IsAmong d u.events) (one_at bs id t.1 b (subst (λ n. IsAt bs n t.1) q t.2) at) t.3)))
+            (λ ne. (t.0, t.1, put_else bs id t.0 t.1 b' ne t.2, t.3)) (cases_eq t.0 id))
+            (λ q. (id, b', put_here bs id b b' at, subst (λ z. IsAmong z (b.events ++ e ∷ [])) (sym q) (among_last b.events e)))
+            (among_snoc log d e m);
+        once = λ n. let t = total_set (λ (u : Book). stamp_times n u.events) bs id b b' at in let o = k.once n in ⊎_elim
+            (λ q. let h : stamp_times n (b.events ++ e ∷ []) ≡ stamp_times n b.events + 1 = subst (λ z. stamp_times z (b.events ++ e ∷ []) ≡ stamp_times z b.events + 1) q (stamp_here b.events e) in
+            let none : total (λ (u : Book). stamp_times n u.events) bs ≡ 0 = ⊎_elim (λ z. z) (λ le. let x = total_some (λ (u : Book). stamp_times n u.events) bs le in let y = stamp_in n x.1.events x.3 in
+            let y2 = y.2 in let l = stamp_below log y.0 k.stamped (k.inside x.0 x.1 y.0 x.2 y.1) in absurd (omega arith)) (zero_or (total (λ (u : Book). stamp_times n u.events) bs)) in omega arith)
+            (λ ne. let p = stamp_push n b.events e ne in omega arith)
+            (cases_eq e.stamp n);
+        one = λ i j u w c d g h. each bs id b' (λ i u. IsAmong c u.events → IsAmong d w.events → c.by ≡ d.by → i ≡ j)
+            (each bs id b' (λ j w. IsAmong c b'.events → IsAmong d w.events → c.by ≡ d.by → id ≡ j)
+            (λ m n s. refl)
+            (λ j w ne h m n s. ⊎_elim (λ o. k.one id j b w c d at h o n s) (λ q. absurd (other j w d ne h n (sym s ∙ q))) (pick c m)) j w h)
+            (λ i u ne g. each bs id b' (λ j w. IsAmong c u.events → IsAmong d w.events → c.by ≡ d.by → i ≡ j)
+            (λ m n s. ⊎_elim (λ o. k.one i id u b c d g at m o s) (λ q. absurd (other i u c ne g m (s ∙ q))) (pick d n))
+            (λ j w ne' h. k.one i j u w c d g h) j w h) i u g;
+        order = λ i u d. each bs id b' (λ i u. IsAmong d u.events → by_stream d.by u.events ≡ by_stream d.by (log ++ e ∷ []))
+            (λ m. ⊎_elim (λ s. subst (λ q. by_stream q b'.events ≡ by_stream q (log ++ e ∷ [])) (sym s.0) now)
+            (λ ne. ⊎_elim (λ o. let no : e.by ≢ d.by = λ s. ne.0 (sym s ∙ by) in by_other d.by b.events e no ∙ (k.order id b d at o ∙ sym (by_other d.by log e no))) (λ q. absurd (ne.0 q)) (pick d m)) (stream_cases d.by b.by))
+            (λ i u ne g m. k.order i u d g m ∙ sym (by_other d.by log e (λ s. other i u d ne g m (sym s ∙ by)))) i u;
+        own = each bs id b' (λ i u. u.live ≡ true → by_stream u.by u.events ≡ by_stream u.by (log ++ e ∷ []))
+            (λ l. now)
+            (λ i u ne g l. k.own i u g l ∙ sym (by_other u.by log e (λ s. apart i u ne g l (sym s ∙ by))));
+        pure = λ i u d. each bs id b' (λ i u. u.main ≡ false → IsAmong d u.events → d.by ≡ u.by)
+            (λ m a. ⊎_elim (λ o. k.pure id b d at m o) (λ q. ap (λ (z : Event). z.by) q ∙ by) (among_snoc b.events d e a))
+            (λ i u ne g. k.pure i u d g) i u;
+        floor = each bs id b' (λ i u. u.floor ≤ length (log ++ e ∷ [])) (let t = k.floor id b at in let l = length_push log e in omega arith) (λ i u ne g. let t = k.floor i u g in let l = length_push log e in omega arith);
+        above = λ i u d. each bs id b' (λ i u. IsAmong d u.events → d.by ≡ u.by → u.floor ≤ d.stamp)
+            (λ m s. ⊎_elim (λ o. k.above id b d at o s) (λ q. let f = k.floor id b at in let z : d.stamp ≡ e.stamp = ap (λ (z : Event). z.stamp) q in omega arith) (among_snoc b.events d e m))
+            (λ i u ne g. k.above i u d g) i u;
+      }
 
   pub tick_seats : (ws : List Who) → SeatsAgree log ws → (id : ℕ) (w : Who) → IsAt ws id w → w.live ≡ true → e.by ≡ w.by → SeatsAgree (log ++ e ∷ []) ws
   tick_seats ws k id w at live by = record {

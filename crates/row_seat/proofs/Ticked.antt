@@ -3,7 +3,7 @@ use Rattle.std.proofs.Common.{◌≡◌, ◌≢◌, ℕ, ◌-◌, ◌^◌, ◌<�
 use Rattle.std.specs.Prelude.{Option}
 use Rattle.res_ledger.specs.declared.event.What.TheVariants.{Acquire, Cancel, Close, Final, Lease, Open}
 use Rattle.row_seat.specs.Totals.{IsAt, row_times, times}
-use Rattle.row_seat.specs.Rule.{Book, BooksAgree, Deed, DeedsAgree, Hold, LeasesAgree, PaysAgree, RowsAgree, RuleHolds, SeatsAgree, Work, book, deed, hold, leases, purse, seen, who, work}
+use Rattle.row_seat.specs.Rule.{Book, BooksAgree, Deed, DeedsAgree, Hold, LeasesAgree, PaysAgree, RowsAgree, IsBlank, RuleHolds, SeatsAgree, Work, book, deed, hold, leases, purse, seen, who, work}
 use Rattle.res_ledger.specs.declared.event.Event.{Event}
 use Rattle.chunk_core.specs.Lists.{IsAmong}
 use Rattle.res_ledger.specs.Ledger.{IsClosed, IsHanded, IsUsable, MayFollow, Notes}
@@ -44,7 +44,7 @@ module _ {P : Type 0} (rows room : ℕ) (word : ℕ → ℕ) (slot : ℕ → Opt
   -- the rule from its parts, where one view is new
   pub rule_put : SeatsAgree log (slice_set (map who views) id (who w)) → BooksAgree room log (slice_set (map book views) id (book w)) → RowsAgree rows word log (slice_set (map work views) id (work w))
       → DeedsAgree log (slice_set (map deed views) id (deed w)) → LeasesAgree log (slice_set (map hold views) id (hold w)) → PaysAgree word slot log (slice_set (map purse views) id (purse w))
-      → ((i : ℕ) (v : Token P) → IsAt (slice_set views id w) i v → v.live ≡ false → (v.empty ≡ []) × (v.opened ≡ []) × (v.pairs ≡ []) × (v.kept ≡ []) × (v.handed ≡ []) × (v.given ≡ []) × (v.left ≡ []) × (v.events ≡ []))
+      → ((i : ℕ) (v : Token P) → IsAt (slice_set views id w) i v → v.live ≡ false → IsBlank v)
       → ((i j r : ℕ) (v : Token P) → IsAt (slice_set views id w) i v → IsAmong (j, r) v.pairs → j < 2 ^ 32)
       → RuleHolds rows room word slot log (slice_set views id w)
   rule_put a b c d e f g h = record {
@@ -59,8 +59,8 @@ module _ {P : Type 0} (rows room : ℕ) (word : ℕ → ℕ) (slot : ℕ → Opt
   }
 
 module _ {P : Type 0} (rows room : ℕ) (word : ℕ → ℕ) (slot : ℕ → Option P) (log : List Event) (views : List (Token P)) (rule : RuleHolds rows room word slot log views) (id : ℕ) (v : Token P) (at : IsAt views id v) (live : v.live ≡ true) where
-  pub spent_put : (w : Token P) → w.live ≡ true → (i : ℕ) (u : Token P) → IsAt (slice_set views id w) i u → u.live ≡ false → (u.empty ≡ []) × (u.opened ≡ []) × (u.pairs ≡ []) × (u.kept ≡ []) × (u.handed ≡ []) × (u.given ≡ []) × (u.left ≡ []) × (u.events ≡ [])
-  spent_put w l = each views id w (λ i u. u.live ≡ false → (u.empty ≡ []) × (u.opened ≡ []) × (u.pairs ≡ []) × (u.kept ≡ []) × (u.handed ≡ []) × (u.given ≡ []) × (u.left ≡ []) × (u.events ≡ [])) (λ d. absurd (live_not l d)) (λ i u ne g. rule.spent i u g)
+  pub spent_put : (w : Token P) → w.live ≡ true → (i : ℕ) (u : Token P) → IsAt (slice_set views id w) i u → u.live ≡ false → IsBlank u
+  spent_put w l = each views id w (λ i u. u.live ≡ false → IsBlank u) (λ d. absurd (live_not l d)) (λ i u ne g. rule.spent i u g)
 
   pub small_put : (w : Token P) → ((j r : ℕ) → IsAmong (j, r) w.pairs → j < 2 ^ 32) → (i j r : ℕ) (u : Token P) → IsAt (slice_set views id w) i u → IsAmong (j, r) u.pairs → j < 2 ^ 32
   small_put w h i j r u = each views id w (λ i u. IsAmong (j, r) u.pairs → j < 2 ^ 32) (h j r) (λ i u ne g. rule.small i j r u g) i u

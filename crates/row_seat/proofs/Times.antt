@@ -4,7 +4,8 @@ use Rattle.std.proofs.lemmas.Bool.{cases_eq}
 use Rattle.chunk_core.specs.Lists.{IsAmong}
 use Rattle.chunk_core.proofs.Members.{among_cons, among_nil}
 use Rattle.chunk_core.specs.Lists.IsAmong.{here, there}
-use Rattle.row_seat.specs.Totals.{pair_times, row_times, times}
+use Rattle.res_ledger.specs.declared.event.Event.{Event}
+use Rattle.row_seat.specs.Totals.{pair_times, row_times, stamp_times, times}
 use Rattle.row_seat.specs.Views.{run, without, without_pair}
 use Rattle.row_seat.specs.Steps.{without_one}
 
@@ -225,3 +226,28 @@ row_in r (x ∷ xs) h = ⊎_elim
     (λ e. let y : ℕ × ℕ = (x.0, r) in let s : y ≡ x = ap (λ (n : ℕ). let z : ℕ × ℕ = (x.0, n) in z) (sym e) in (x.0, subst (λ z. IsAmong y (z ∷ xs)) s (here xs)))
     (λ ne. let t = row_in r xs (let h' : 1 ≤ 0 + row_times r xs = subst (λ b. 1 ≤ cond b 1 0 + row_times r xs) (ne_eqb x.1 r ne) h in omega arith) in (t.0, there x t.1))
     (cases_eq x.1 r)
+
+-- stamps
+pub stamp_both : (n : ℕ) (xs ys : List Event) → stamp_times n (xs ++ ys) ≡ stamp_times n xs + stamp_times n ys
+stamp_both n [] ys = omega arith
+stamp_both n (x ∷ xs) ys = let t = stamp_both n xs ys in omega arith
+
+pub stamp_in : (n : ℕ) (xs : List Event) → 1 ≤ stamp_times n xs → (e : Event) × IsAmong e xs × (e.stamp ≡ n)
+stamp_in n [] h = absurd (omega arith)
+stamp_in n (x ∷ xs) h = ⊎_elim
+    (λ e. (x, here xs, e))
+    (λ ne. let t = stamp_in n xs (let h' : 1 ≤ 0 + stamp_times n xs = subst (λ b. 1 ≤ cond b 1 0 + stamp_times n xs) (ne_eqb x.stamp n ne) h in omega arith) in (t.0, there x t.1, t.2))
+    (cases_eq x.stamp n)
+
+pub stamp_some : (e : Event) (xs : List Event) → IsAmong e xs → 1 ≤ stamp_times e.stamp xs
+stamp_some e [] m = absurd (among_nil m)
+stamp_some e (x ∷ xs) m = ⊎_elim
+    (λ s. subst (λ b. 1 ≤ cond b 1 0 + stamp_times e.stamp xs) (sym (eq-eqb x.stamp e.stamp (ap (λ (y : Event). y.stamp) (sym s)))) (omega arith))
+    (λ n. let t = stamp_some e xs n in omega arith)
+    (among_cons m)
+
+pub stamp_push : (n : ℕ) (xs : List Event) (e : Event) → e.stamp ≢ n → stamp_times n (xs ++ e ∷ []) ≡ stamp_times n xs
+stamp_push n xs e ne = stamp_both n xs (e ∷ []) ∙ (ap (λ b. stamp_times n xs + (cond b 1 0 + 0)) (ne_eqb e.stamp n ne) ∙ omega arith)
+
+pub stamp_here : (xs : List Event) (e : Event) → stamp_times e.stamp (xs ++ e ∷ []) ≡ stamp_times e.stamp xs + 1
+stamp_here xs e = stamp_both e.stamp xs (e ∷ []) ∙ ap (λ b. stamp_times e.stamp xs + (cond b 1 0 + 0)) (eq-eqb e.stamp e.stamp refl)

@@ -46,6 +46,20 @@ module _ {V : Type 0} where
   total_push f [] w = omega arith
   total_push f (x ∷ xs) w = let t = total_push f xs w in omega arith
 
+  pub total_none : (f : V → ℕ) (views : List V) → ((i : ℕ) (u : V) → IsAt views i u → f u ≡ 0) → total f views ≡ 0
+  total_none f [] h = refl
+  total_none f (x ∷ xs) h = let t = total_none f xs (λ i u g. h (suc i) u g) in let e = h 0 x refl in omega arith
+
+  pub total_sum : (f g : V → ℕ) (views : List V) → total (λ v. f v + g v) views ≡ total f views + total g views
+  total_sum f g [] = refl
+  total_sum f g (x ∷ xs) = let t = total_sum f g xs in omega arith
+
+  -- where every other view has nothing
+  pub total_alone : (f : V → ℕ) (views : List V) (id : ℕ) (v : V) → IsAt views id v → ((i : ℕ) (u : V) → i ≢ id → IsAt views i u → f u ≡ 0) → total f views ≡ f v
+  total_alone f [] id v at others = absurd (some-ne-none v (sym at))
+  total_alone f (x ∷ xs) zero v at others = let e : f x ≡ f v = ap f (some-injective x v at) in let t = total_none f xs (λ i u g. others (suc i) u (λ z. omega arith) g) in omega arith
+  total_alone f (x ∷ xs) (suc id) v at others = let t = total_alone f xs id v at (λ i u ne g. others (suc i) u (λ z. ne (omega arith)) g) in let e = others 0 x (λ z. omega arith) refl in omega arith
+
   -- where the total is something, some view has something
   pub total_some : (f : V → ℕ) (views : List V) → 1 ≤ total f views → (i : ℕ) × (v : V) × IsAt views i v × (1 ≤ f v)
   total_some f [] h = absurd (omega arith)
@@ -56,6 +70,10 @@ module _ {V : Type 0} where
   total_one f views i j v w le g h a b = ⊎_elim (λ e. e) (λ ne. let t = total_two f views i j v w ne g h in absurd (omega arith)) (cases_eq i j)
 
 module _ {V W : Type 0} (f : V → W) where
+  pub total_map : (g : W → ℕ) (views : List V) → total g (map f views) ≡ total (λ (v : V). g (f v)) views
+  total_map g [] = refl
+  total_map g (v ∷ vs) = ap (λ n. g (f v) + n) (total_map g vs)
+
   pub map_same : (views : List V) (id : ℕ) (v w : V) → IsAt views id v → f w ≡ f v → map f (slice_set views id w) ≡ map f views
   map_same [] id v w g e = refl
   map_same (x ∷ xs) zero v w g e = ap (λ y. y ∷ map f xs) (e ∙ ap f (sym (some-injective x v g)))
@@ -83,5 +101,3 @@ module _ {V : Type 0} (views : List V) (id : ℕ) (v w : V) (at : IsAt views id 
       (λ s. (id, v, at, f (subst Q (sym s.1) t.3)))
       (λ s. (t.0, t.1, s.1, t.3))
       (at_set views id t.0 w t.1 t.2)
-
--- the first of a row taken out

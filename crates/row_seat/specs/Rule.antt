@@ -1,7 +1,7 @@
 -- The rule of rows and seats: each part speaks of what it reads alone.
 use Rattle.std.specs.Prelude.{◌≡◌, ◌≢◌, ℕ, ◌+◌, ◌*◌, ◌^◌, ◌<◌, ◌≤◌, ◌⊎◌, Bool, true, false, map, List, [], length, Some, Option}
 use Rattle.res_ledger.specs.declared.event.What.TheVariants.{Acquire, Lease}
-use Rattle.row_seat.specs.Totals.{IsAt, pair_times, row_times, times, total}
+use Rattle.row_seat.specs.Totals.{IsAt, pair_times, row_times, stamp_times, times, total}
 use Rattle.res_ledger.specs.Ledger.{Covers, IsAcquired, IsCanceled, IsFinalized, IsLeased, IsLegal, IsRowClosed, IsStamped, Notes}
 use Rattle.res_ledger.specs.declared.event.Event.{Event}
 use Rattle.res_ledger.specs.Streams.{HasRight, by_stream}
@@ -44,12 +44,18 @@ pub record BooksAgree (room : ℕ) (log : List Event) (bs : List Book) : Type 0 
   pub stamped : IsStamped log
   pub legal : IsLegal log
   pub sum : total (λ (b : Book). b.spare) bs + length log ≡ room
+  -- the log is what stands in the views, each event once
   pub inside : (i : ℕ) (b : Book) (e : Event) → IsAt bs i b → IsAmong e b.events → IsAmong e log
   pub whole : (e : Event) → IsAmong e log → (i : ℕ) × (b : Book) × IsAt bs i b × IsAmong e b.events
-  -- a live seat's view has its stream's events, in their order
+  pub once : (n : ℕ) → total (λ (b : Book). stamp_times n b.events) bs ≤ 1
+  -- the events of a stream stand in one view, in their order; it is that of the stream's seat while the seat is live
+  pub one : (i j : ℕ) (b c : Book) (d e : Event) → IsAt bs i b → IsAt bs j c → IsAmong d b.events → IsAmong e c.events → d.by ≡ e.by → i ≡ j
+  pub order : (i : ℕ) (b : Book) (e : Event) → IsAt bs i b → IsAmong e b.events → by_stream e.by b.events ≡ by_stream e.by log
   pub own : (i : ℕ) (b : Book) → IsAt bs i b → b.live ≡ true → by_stream b.by b.events ≡ by_stream b.by log
   pub pure : (i : ℕ) (b : Book) (e : Event) → IsAt bs i b → b.main ≡ false → IsAmong e b.events → e.by ≡ b.by
+  -- a seat's floor is reached, and none of its events is below it
   pub floor : (i : ℕ) (b : Book) → IsAt bs i b → b.floor ≤ length log
+  pub above : (i : ℕ) (b : Book) (e : Event) → IsAt bs i b → IsAmong e b.events → e.by ≡ b.by → b.floor ≤ e.stamp
 
 -- the rows' words. e, o, n, h: in how many views the row is empty, open, how many pairs are on it, in how many it is handed.
 pub data Stands (rows r word e o n h : ℕ) (A C F : Type 0) : Type 0 where
@@ -147,6 +153,17 @@ module _ {P : Type 0} where
     pub handed : (i r : ℕ) (p : Purse P) → IsAt ps i p → IsAmong r p.handed → (x : P) × IsAmong (r, x) p.given × (¬ (IsAmong r p.taken) → slot r ≡ Some x)
     pub final : (r : ℕ) → IsFinalized log r → (x : P) × GivenIn ps r x
 
+  -- a view of nothing
+  pub record IsBlank (v : Token P) : Type 0 where
+    pub empty : v.empty ≡ []
+    pub opened : v.opened ≡ []
+    pub pairs : v.pairs ≡ []
+    pub kept : v.kept ≡ []
+    pub handed : v.handed ≡ []
+    pub given : v.given ≡ []
+    pub left : v.left ≡ []
+    pub events : v.events ≡ []
+
   -- what the parts of the rule read of a view
   abbrev pub who : Token P → Who
   who v = record { live = v.live; main = v.main; by = v.by; had = v.had; out = v.out }
@@ -180,5 +197,5 @@ module _ {P : Type 0} where
     pub pays : PaysAgree word slot log (map purse views)
     -- streams are numbered in 32 bits
     pub small : (i j r : ℕ) (v : Token P) → IsAt views i v → IsAmong (j, r) v.pairs → j < 2 ^ 32
-    -- a spent seat's view is empty
-    pub spent : (i : ℕ) (v : Token P) → IsAt views i v → v.live ≡ false → (v.empty ≡ []) × (v.opened ≡ []) × (v.pairs ≡ []) × (v.kept ≡ []) × (v.handed ≡ []) × (v.given ≡ []) × (v.left ≡ []) × (v.events ≡ [])
+    -- a spent seat has nothing
+    pub spent : (i : ℕ) (v : Token P) → IsAt views i v → v.live ≡ false → IsBlank v

@@ -2,6 +2,7 @@
 use Rattle.std.specs.Prelude.{◌≡◌, ℕ, ◌+◌, false, eqb, cond, List, [], ◌∷◌}
 use lib.ListN.{get_elem?}
 use mathlib.Core.Option.{some}
+use Rattle.res_ledger.specs.declared.event.Event.{Event}
 
 -- v stands at the place i
 abbrev pub IsAt : {V : Type 0} → List V → ℕ → V → Type 0
@@ -26,3 +27,8 @@ row_times r (x ∷ xs) = cond (eqb x.1 r) 1 0 + row_times r xs
 abbrev pub pair_times : ℕ → ℕ → List (ℕ × ℕ) → ℕ
 pair_times j r [] = 0
 pair_times j r (x ∷ xs) = cond (cond (eqb x.0 j) (eqb x.1 r) false) 1 0 + pair_times j r xs
+
+-- how often an event with the stamp n stands among events
+abbrev pub stamp_times : ℕ → List Event → ℕ
+stamp_times n [] = 0
+stamp_times n (e ∷ L) = cond (eqb e.stamp n) 1 0 + stamp_times n L

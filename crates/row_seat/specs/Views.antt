@@ -212,11 +212,11 @@ module _ {P : Type 0} where
   abbrev pub joined : View P → View P → View P
   joined v w = record v { empty = v.empty ++ w.empty; given = v.given ++ w.given; left = v.left ++ w.left; events = v.events ++ w.events; spare = v.spare + w.spare; out = without (name_of w.by) v.out }
 
-  -- what the rule of rows tells of a main seat and another one of its maker: all events of the other are in its own name, which is not the main one's, and it has each that the main one has in that name; the Acquire of an empty row stands with the seat that has the right to the row; and no lease stands on it and it has no Final
+  -- what the rule of rows tells of a main seat and another one of its maker: all events of the other are in its own name, which is not the main one's, and the main one has none in that name; the Acquire of an empty row stands with the seat that has the right to the row; and no lease stands on it and it has no Final
   pub record AreApart (v w : View P) : Type 0 where
     pub events : (e : Event) → IsAmong e w.events → e.by ≢ v.by
     pub own : (e : Event) → IsAmong e w.events → e.by ≡ w.by
-    pub mine : (e : Event) → IsAmong e v.events → e.by ≡ w.by → IsAmong e w.events
+    pub mine : (e : Event) → IsAmong e v.events → e.by ≢ w.by
     pub kept : (r : ℕ) → IsAmong r v.empty → IsAcquired w.events r → IsAcquired v.events r
     pub taken : (r : ℕ) → IsAmong r w.empty → IsAcquired v.events r → IsAcquired w.events r
     pub vacant : (r : ℕ) → IsAmong r w.empty → ¬ (IsFinalized v.events r) × ((j : ℕ) → ¬ (IsAmong (j, r) v.pairs))
