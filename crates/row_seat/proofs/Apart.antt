@@ -37,7 +37,7 @@ module _ {P : Type 0} (rows room : ℕ) (word : ℕ → ℕ) (slot : ℕ → Opt
         vacant = λ r m.
             let l = total_at (λ (u : Work). times r u.empty) (map work views) jd (work w) (at_map work views jd w at') in let o = times_some r w.empty m in
             let s = is_vacant (rule.words r) (omega (l, o, arith)) in (
-              (λ f. s.6 (f.0, f.1, (f.2.0, rule.books.inside id (book v) f.2.0 bv f.2.1, f.2.2, f.2.3))),
+              (λ f. s.6 (f.0, f.1, (f.2.0, (f.2.1.0, rule.books.inside id (book v) f.2.1.0 bv f.2.1.1, f.2.1.2, f.2.1.3)))),
               λ j p.
                   let k = total_at (λ (u : Work). row_times r u.pairs) (map work views) id (work v) (at_map work views id v at) in let q = row_some j r v.pairs p in let z = s.4 in absurd (omega (k, q, z, arith)),
             );

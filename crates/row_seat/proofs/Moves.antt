@@ -5,7 +5,7 @@ use Rattle.std.proofs.lemmas.Bool.{cases_eq}
 use Rattle.res_ledger.specs.declared.event.What.TheVariants.{Acquire, Cancel, Lease}
 use Rattle.row_seat.specs.Totals.{IsAt, pair_times, row_times, times, total}
 use Rattle.row_seat.specs.Rule.{BooksAgree, DeedsAgree, GivenIn, Hold, LeasesAgree, LeftIn, PaysAgree, Purse, RowsAgree, RuleHolds, SeatsAgree, Work, book, deed, hold, leases, purse, who, work}
-use Rattle.res_ledger.specs.Ledger.{Covers, IsCanceled, IsClosed, IsLeased, IsRowClosed, Notes}
+use Rattle.res_ledger.specs.Ledger.{Covers, IsCanceled, IsClosed, IsLeased, IsRowClosed, Notes, NotesCancel}
 use Rattle.res_ledger.specs.declared.event.Event.{Event}
 use Rattle.res_ledger.specs.Streams.{HasRight}
 use Rattle.chunk_core.specs.Lists.{IsAmong}
@@ -152,7 +152,7 @@ module _ {P : Type 0} (rows room : ℕ) (word : ℕ → ℕ) (slot : ℕ → Opt
         (spent_put rows room word slot log views rule id v at live w live) (small_put rows room word slot log views rule id v at live w (λ i q m. ⊎_elim (rule.small id i q v at) (λ e. let f : i ≡ j = ap (λ (y : ℕ × ℕ). y.0) e in omega arith) (among_snoc v.pairs (i, q) (j, r) m)))
 
     -- a pair goes, and others stay on the row, or the row stays open
-    pub leave_keeps : (j : ℕ) → IsAmong (j, r) v.pairs → Notes v.events v.by (Cancel j) → word' r + 4 ≡ word r → word' r ≢ 3 → RuleHolds rows room word' slot log (slice_set views id (gone v j r))
+    pub leave_keeps : (j : ℕ) → IsAmong (j, r) v.pairs → NotesCancel v.events v.by j → word' r + 4 ≡ word r → word' r ≢ 3 → RuleHolds rows room word' slot log (slice_set views id (gone v j r))
     leave_keeps j pair cancel now stays =
         let w = gone v j r in let ws = map work views in let hs = map hold views in
         let a = total_set (λ (u : Work). times r u.empty) ws id (work v) (work w) ak in
@@ -163,7 +163,7 @@ module _ {P : Type 0} (rows room : ℕ) (word : ℕ → ℕ) (slot : ℕ → Opt
         let once = rule.leases.pair_once j r in let lh = total_at (λ (u : Hold). pair_times j r u.pairs) hs id (hold v) ah in let th = pair_some j r v.pairs pair in
         let less = row_less j r v.pairs in
         let was = is_leased (rule.words r) (omega arith) in let w1 = was.1 in let w2 = was.2 in
-        let lost : IsCanceled log j = (v.by, log_of (Cancel j) cancel) in
+        let lost : IsCanceled log j = (v.by, (cancel.0, log_of (Cancel j cancel.0) cancel.1)) in
         rule_put rows room word' slot log views id w same_seats same_books
         (row_step rows word word' log ws rule.words id r (work v) (work w) ak other (λ q ne. (refl, refl, row_else j r q v.pairs ne, refl))
         (⊎_elim (λ s. let s0 = s.0 in let s1 = s.1 in opened was.0 (omega arith) (omega arith) (omega arith) (omega arith) s.2 was.3)
@@ -177,7 +177,7 @@ module _ {P : Type 0} (rows room : ℕ) (word : ℕ → ℕ) (slot : ℕ → Opt
         (spent_put rows room word slot log views rule id v at live w live) (small_put rows room word slot log views rule id v at live w (λ i q m. rule.small id i q v at (pair_among j r i q v.pairs m).0))
 
     -- the last pair goes from a closed row
-    pub leave_last : (j : ℕ) (p : P) → IsAmong (j, r) v.pairs → Notes v.events v.by (Cancel j) → word' r + 4 ≡ word r → word' r ≡ 3 → slot r ≡ Some p → RuleHolds rows room word' slot log (slice_set views id (handed_over (gone v j r) r p))
+    pub leave_last : (j : ℕ) (p : P) → IsAmong (j, r) v.pairs → NotesCancel v.events v.by j → word' r + 4 ≡ word r → word' r ≡ 3 → slot r ≡ Some p → RuleHolds rows room word' slot log (slice_set views id (handed_over (gone v j r) r p))
     leave_last j p pair cancel now last there =
         let w = handed_over (gone v j r) r p in let ws = map work views in let hs = map hold views in let ps = map purse views in
         let a = total_set (λ (u : Work). times r u.empty) ws id (work v) (work w) ak in
@@ -188,7 +188,7 @@ module _ {P : Type 0} (rows room : ℕ) (word : ℕ → ℕ) (slot : ℕ → Opt
         let once = rule.leases.pair_once j r in let lh = total_at (λ (u : Hold). pair_times j r u.pairs) hs id (hold v) ah in let th = pair_some j r v.pairs pair in
         let less = row_less j r v.pairs in let push = push_same r v.handed in
         let was = is_leased (rule.words r) (omega arith) in let w1 = was.1 in let w2 = was.2 in
-        let lost : IsCanceled log j = (v.by, log_of (Cancel j) cancel) in
+        let lost : IsCanceled log j = (v.by, (cancel.0, log_of (Cancel j cancel.0) cancel.1)) in
         let covers : (q : StreamNo) × Covers log j q r = ⊎_elim (λ o. o) (λ o. absurd (o.0 (canceled_leased log j rule.books.legal lost))) (rule.leases.paired id j r (hold v) ah pair) in
         let closed = ⊎_elim (λ s. let s0 = s.0 in absurd (omega arith)) (λ s. s) was.4 in let c0 = closed.0 in let c1 = closed.1 in
         let seven : word r ≡ 3 + 4 * 1 = omega arith in
@@ -199,7 +199,7 @@ module _ {P : Type 0} (rows room : ℕ) (word : ℕ → ℕ) (slot : ℕ → Opt
         (row_step rows word word' log ws rule.words id r (work v) (work w) ak other (λ q ne. (refl, refl, row_else j r q v.pairs ne, push_other q r v.handed ne))
         (handed was.0 last (omega arith) (omega arith) (omega arith) (omega arith) closed.2 was.3))
         (deed_step log (map deed views) rule.deeds id (deed v) (deed w) ad refl refl (λ q m. m) (λ q m. rule.deeds.opened id q (deed v) ad m)
-        (λ q m. ⊎_elim (rule.deeds.handed id q (deed v) ad) (λ e. subst (λ n. HasRight log v.by n) (sym e) (inr (j, covers.0, covers.1, log_of (Cancel j) cancel))) (among_snoc v.handed q r m)))
+        (λ q m. ⊎_elim (rule.deeds.handed id q (deed v) ad) (λ e. subst (λ n. HasRight log v.by n) (sym e) (inr (j, covers.0, covers.1, lost.1))) (among_snoc v.handed q r m)))
         (gone_leases j r lost)
         (give_pays word word' slot log ps rule.pays r other id (purse v) p ap' last left_here there old_given)
         (spent_put rows room word slot log views rule id v at live w live) (small_put rows room word slot log views rule id v at live w (λ i q m. rule.small id i q v at (pair_among j r i q v.pairs m).0))

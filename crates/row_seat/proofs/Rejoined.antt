@@ -1,5 +1,5 @@
 -- A main seat that has just taken another in, read off by one look at the rule: the two were apart, where each kept of itself what a seat knows of itself alone.
-use Rattle.std.proofs.Common.{◌≡◌, ◌≢◌, ℕ, ◌+◌, ◌*◌, ◌≤◌, ◌⊎◌, true, map, List, [], ◌∷◌, ◌++◌, sym, ap, ◌∙◌, subst, ⊎_elim, arith}
+use Rattle.std.proofs.Common.{◌≡◌, ◌≢◌, ℕ, ◌≤◌, ◌⊎◌, map, List, [], ◌++◌, sym, ◌∙◌, subst, ⊎_elim, arith}
 use Rattle.std.specs.Prelude.{Option}
 use Rattle.chunk_core.specs.Lists.{IsAmong}
 use Rattle.chunk_core.proofs.Filters.{among_right}
@@ -72,7 +72,7 @@ module _ {P : Type 0} where
       kept = λ r m a. absurd (no_kept r m a);
       taken = λ r m a. absurd (no_taken r m a);
       vacant = λ r m. let e = empty_row r (in_theirs r m) in let e3 = e.3 in (
-        (λ f. e.4 (f.0, f.1, (f.2.0, rule.books.inside id (book (joined v w)) f.2.0 (at_map book views id (joined v w) at) (among_left w.events f.2.1), f.2.2, f.2.3))),
+        (λ f. e.4 (f.0, f.1, (f.2.0, (f.2.1.0, rule.books.inside id (book (joined v w)) f.2.1.0 (at_map book views id (joined v w) at) (among_left w.events f.2.1.1), f.2.1.2, f.2.1.3)))),
         λ j p. let q = row_some j r v.pairs p in absurd (omega (q, e3, arith)),
       );
     }

@@ -2,12 +2,12 @@
 use Rattle.std.proofs.Common.{◌≡◌, ◌≢◌, ℕ, zero, suc, ◌+◌, ◌-◌, ◌*◌, ◌<◌, ◌≤◌, ◌^◌, Bool, true, false, cond, eqb, map, List, [], ◌∷◌, ◌++◌, length, slice_set, remove, refl, sym, ap, ◌∙◌, subst, ⊎_elim, arith, length-append, filter, not}
 use Rattle.std.specs.Prelude.{Some, None, Option, slice_index, slice_index_or, vec_capacity, vec_len}
 use Rattle.std.proofs.lemmas.List.{get_or-set_same, get_or-set_other, length-set, length_push, length-map}
-use Rattle.res_ledger.specs.declared.event.What.TheVariants.{Acquire, Cancel, Lease}
+use Rattle.res_ledger.specs.declared.event.What.TheVariants.{Acquire, Lease}
 use Rattle.row_seat.specs.Totals.{IsAt, row_times}
 use Rattle.row_seat.specs.Rule.{Book, RuleHolds, Work, book, hold, purse, seen, work}
 use Rattle.res_ledger.specs.declared.event.Event.{Event}
 use Rattle.res_ledger.specs.declared.event.StreamNo.TheVariants.{Inner}
-use Rattle.res_ledger.specs.Ledger.{IsAcquired, IsClosed, IsLeased, Notes}
+use Rattle.res_ledger.specs.Ledger.{IsAcquired, IsClosed, IsLeased, Notes, NotesCancel}
 use Rattle.chunk_core.specs.Lists.{IsAmong}
 use Rattle.row_seat.specs.Hands.{rows_of}
 use Rattle.row_seat.specs.PlainSeats.{IsTable, Sits}
@@ -18,7 +18,6 @@ use Rattle.row_seat.specs.declared.plain.PlainTable.{PlainTable}
 use Rattle.row_seat.specs.declared.token.Token.{Token}
 use Rattle.res_ledger.specs.declared.event.What.{What}
 use Rattle.chunk_core.proofs.Filters.{among_at, bool_not, filter_among}
-use Rattle.chunk_core.proofs.Members.{among_cons, among_nil}
 use Rattle.row_seat.proofs.Members.{among_kept, length_without}
 use Rattle.row_seat.proofs.Joins.{apart, join_keeps}
 use Rattle.chunk_core.proofs.Places.{at_map}
@@ -26,7 +25,6 @@ use Rattle.row_seat.proofs.Moves.{close_stays, close_yours, lease_keeps, leave_k
 use Rattle.row_seat.proofs.Totals.{one_at, put_else, put_here, total_at, total_set, total_two}
 use Rattle.row_seat.proofs.Changes.{more_else, more_here, more_last, total_both, total_more, two_else, two_first}
 use Rattle.row_seat.specs.Steps.{gone, handed_over, joined, leased, noted, placed, shut, spent, split_main, split_off, took, without_one}
-use Rattle.chunk_core.specs.Lists.IsAmong.{here, there}
 use Rattle.row_seat.proofs.Rows.{is_leased}
 use Rattle.row_seat.proofs.Times.{row_some, run_length}
 use Rattle.row_seat.proofs.Splits.{split_keeps, within_in}
@@ -128,14 +126,14 @@ module _ {P : Type 0} (slots : List (Option P)) (words : List ℕ) (events : Lis
   pub last_slot : (r : ℕ) → slice_index words r ≡ 7 → (p : P) × (slice_index_or slots r None ≡ Some p)
   last_slot r e = let x = t.rule.pays.waits r 1 (let a : 7 ≡ 3 + 4 * 1 = refl in e ∙ a) (omega arith) in (x.0, x.2)
 
-  pub leave_table : (j r n : ℕ) → IsAmong (j, r) v.pairs → Notes v.events v.by (Cancel j) → n ≡ slice_index words r → n - 4 ≢ 3 → IsTable slots (slice_set words r (n - 4)) events most (slice_set views id (gone v j r))
+  pub leave_table : (j r n : ℕ) → IsAmong (j, r) v.pairs → NotesCancel v.events v.by j → n ≡ slice_index words r → n - 4 ≢ 3 → IsTable slots (slice_set words r (n - 4)) events most (slice_set views id (gone v j r))
   leave_table j r n pair cancel is stays =
       let b = leased_word j r pair in let b1 = b.1 in let now = word_now r (n - 4) b.0 in
       table_put slots (slice_set words r (n - 4)) events most (gone v j r) (length-set words r (n - 4)) refl
       (leave_keeps (length slots) t.room (λ r. slice_index words r) (λ r. slice_index_or slots r None) events views t.rule id v at live (λ q. slice_index (slice_set words r (n - 4)) q) r (word_else r (n - 4)) j pair cancel (omega arith) (λ e. stays (sym now ∙ e)))
       (omega arith) (omega arith)
 
-  pub last_table : (j r n : ℕ) (p : P) → IsAmong (j, r) v.pairs → Notes v.events v.by (Cancel j) → n ≡ slice_index words r → n - 4 ≡ 3 → slice_index_or slots r None ≡ Some p → IsTable slots (slice_set words r (n - 4)) events most (slice_set views id (handed_over (gone v j r) r p))
+  pub last_table : (j r n : ℕ) (p : P) → IsAmong (j, r) v.pairs → NotesCancel v.events v.by j → n ≡ slice_index words r → n - 4 ≡ 3 → slice_index_or slots r None ≡ Some p → IsTable slots (slice_set words r (n - 4)) events most (slice_set views id (handed_over (gone v j r) r p))
   last_table j r n p pair cancel is last lies =
       let b = leased_word j r pair in let b1 = b.1 in let now = word_now r (n - 4) b.0 in
       table_put slots (slice_set words r (n - 4)) events most (handed_over (gone v j r) r p) (length-set words r (n - 4)) refl

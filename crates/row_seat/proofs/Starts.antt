@@ -70,7 +70,7 @@ module _ {P : Type 0} (by : StreamNo) (rows events splits : ℕ) (word : ℕ →
       above = λ i b e g m. absurd (among_nil (subst (λ (z : Book). IsAmong e z.events) (sym (only_one (book f) b i g).1) m));
     };
     words = λ r. ⊎_elim
-        (λ s. let s1 = s.1 in let i = run_in r 0 rows (omega arith) (omega arith) in vacant s.1 (zero' r) (omega arith) (omega arith) (omega arith) (omega arith) (λ x. none_noted x.0 _ x.2))
+        (λ s. let s1 = s.1 in let i = run_in r 0 rows (omega arith) (omega arith) in vacant s.1 (zero' r) (omega arith) (omega arith) (omega arith) (omega arith) (λ x. none_noted x.0 _ x.2.1))
         (λ s. let i = run_out r 0 rows (⊎_elim (λ a. inl a) (λ b. inr (omega arith)) s) in beyond (⊎_elim (λ a. absurd (omega arith)) (λ b. b) s) (omega arith) (omega arith) (omega arith) (omega arith) (λ x. none_noted x.0 _ x.2))
         (span_cases 0 rows r);
     deeds = record {
@@ -95,7 +95,7 @@ module _ {P : Type 0} (by : StreamNo) (rows events splits : ℕ) (word : ℕ →
       given_is = λ r x t. absurd (among_nil (subst (λ (z : Purse P). IsAmong (r, x) z.given) (sym (only_one (purse f) t.1 t.0 t.2).1) t.3));
       waits = λ r n e le. let z = zero' r in absurd (omega arith);
       handed = λ i r p g m. absurd (among_nil (subst (λ (z : Purse P). IsAmong r z.handed) (sym (only_one (purse f) p i g).1) m));
-      final = λ r x. absurd (none_noted x.0 _ x.2);
+      final = λ r x. absurd (none_noted x.0 _ x.2.1);
     };
     spent = one_view f (λ i v. v.live ≡ false → _) (λ l. absurd (bool_not l));
     small = λ i j r v g m. absurd (among_nil (subst (λ (z : Token P). IsAmong (j, r) z.pairs) (sym (only_one f v i g).1) m));

@@ -4,6 +4,7 @@ use Rattle.std.specs.Prelude.{Some, Option}
 use Rattle.std.proofs.lemmas.List.{length_push}
 use Rattle.std.proofs.lemmas.Bool.{cases_eq}
 use Rattle.res_ledger.specs.declared.event.What.TheVariants.{Acquire, Cancel, Final, Lease}
+use Rattle.chunk_core.specs.declared.code.Exit.{Exit}
 use Rattle.row_seat.specs.Totals.{IsAt, pair_times, row_times, stamp_times, times, total}
 use Rattle.row_seat.specs.Rule.{Book, BooksAgree, Deed, DeedsAgree, GivenIn, Hold, LeasesAgree, LeftIn, PaysAgree, Purse, RowsAgree, SeatsAgree, Stands, Who, Work, empties, hands, leases, opens}
 use Rattle.res_ledger.specs.Ledger.{Covers, IsCanceled, IsCoveredBy, IsLeased, IsLegal, MayFollow, Notes}
@@ -71,11 +72,11 @@ module _ {rows r word e o n h : ℕ} {A C F : Type 0} where
   stands_is (final a b c d i j k m) p q s t u = final a (omega arith) (omega arith) (omega arith) (omega arith) (omega arith) k m
   stands_is (beyond a b c d i j) p q s t u = beyond a (omega arith) (omega arith) (omega arith) (omega arith) j
 
-lease_cancel : (j s i : ℕ) → Lease j s ≢ Cancel i
-lease_cancel j s i h = cc
+lease_cancel : (j s i : ℕ) (how : Exit) → Lease j s ≢ Cancel i how
+lease_cancel j s i how h = cc
 
-acquire_final : (r s q : ℕ) (ok : Bool) → Acquire r s ≢ Final q ok
-acquire_final r s q ok h = cc
+acquire_final : (r s q : ℕ) (how : Exit) (ok : Bool) → Acquire r s ≢ Final q how ok
+acquire_final r s q how ok h = cc
 
 -- the parts of the rule one by one
 module _ (log : List Event) (e : Event) where
@@ -147,9 +148,9 @@ module _ (log : List Event) (e : Event) where
   }
 
   -- an event that ends no row
-  pub tick_rows : (rows : ℕ) (word : ℕ → ℕ) (ws : List Work) → RowsAgree rows word log ws → ((r : ℕ) (ok : Bool) → e.what ≢ Final r ok) → ((r s : ℕ) → e.what ≡ Acquire r s → r < rows) → RowsAgree rows word (log ++ e ∷ []) ws
+  pub tick_rows : (rows : ℕ) (word : ℕ → ℕ) (ws : List Work) → RowsAgree rows word log ws → ((r : ℕ) (how : Exit) (ok : Bool) → e.what ≢ Final r how ok) → ((r s : ℕ) → e.what ≡ Acquire r s → r < rows) → RowsAgree rows word (log ++ e ∷ []) ws
   tick_rows rows word ws k no_final within r =
-      stands_more (k r) (acquired_more log e) (row_closed_more log e) (finalized_more log e) (λ f. ⊎_elim (λ o. o) (λ t. absurd (no_final r t.0 t.1)) (finalized_snoc log e r f))
+      stands_more (k r) (acquired_more log e) (row_closed_more log e) (finalized_more log e) (λ f. ⊎_elim (λ o. o) (λ t. absurd (no_final r t.0 t.1 t.2)) (finalized_snoc log e r f))
       (λ far a. ⊎_elim (λ o. o) (λ t. let l = within r t.0 t.1 in absurd (omega arith)) (acquired_snoc log e r a))
 
   pub tick_deeds : (ds : List Deed) → DeedsAgree log ds → (id : ℕ) (d d' : Deed) → IsAt ds id d → d'.by ≡ d.by → d'.events ≡ d.events ++ e ∷ [] → d'.empty ≡ d.empty → d'.opened ≡ d.opened → ((r : ℕ) → IsAmong r d'.handed → IsAmong r d.handed)
@@ -166,17 +167,17 @@ module _ (log : List Event) (e : Event) where
         (λ i u ne g a. right_more log e u.by r (k.handed i r u g a)) i u;
   }
 
-  pub tick_pays : {P : Type 0} (word : ℕ → ℕ) (slot : ℕ → Option P) (ps : List (Purse P)) → PaysAgree word slot log ps → ((r : ℕ) (ok : Bool) → e.what ≢ Final r ok) → PaysAgree word slot (log ++ e ∷ []) ps
-  tick_pays word slot ps k no_final = record { left_when = k.left_when; given_when = k.given_when; left_one = k.left_one; given_is = k.given_is; waits = k.waits; handed = k.handed; final = λ r f. ⊎_elim (k.final r) (λ t. absurd (no_final r t.0 t.1)) (finalized_snoc log e r f) }
+  pub tick_pays : {P : Type 0} (word : ℕ → ℕ) (slot : ℕ → Option P) (ps : List (Purse P)) → PaysAgree word slot log ps → ((r : ℕ) (how : Exit) (ok : Bool) → e.what ≢ Final r how ok) → PaysAgree word slot (log ++ e ∷ []) ps
+  tick_pays word slot ps k no_final = record { left_when = k.left_when; given_when = k.given_when; left_one = k.left_one; given_is = k.given_is; waits = k.waits; handed = k.handed; final = λ r f. ⊎_elim (k.final r) (λ t. absurd (no_final r t.0 t.1 t.2)) (finalized_snoc log e r f) }
 
   -- an event that makes and ends no lease
-  pub tick_leases : (hs : List Hold) → LeasesAgree log hs → ((j s : ℕ) → e.what ≢ Lease j s) → ((j : ℕ) → e.what ≢ Cancel j) → LeasesAgree (log ++ e ∷ []) hs
+  pub tick_leases : (hs : List Hold) → LeasesAgree log hs → ((j s : ℕ) → e.what ≢ Lease j s) → ((j : ℕ) (how : Exit) → e.what ≢ Cancel j how) → LeasesAgree (log ++ e ∷ []) hs
   tick_leases hs k no_lease no_cancel = record {
     by_main = λ i j s q h g m n. ⊎_elim (k.by_main i j s q h g m) (λ t. absurd (no_lease j s t.1)) (noted_snoc log e q (Lease j s) n);
     stand = λ j r q c. ⊎_elim (λ o. ⊎_elim (λ x. inl (canceled_more log e x)) (λ x. inr x) (k.stand j r q o)) (λ t. absurd (no_lease j t.0 t.2)) (covers_snoc log e j r q c);
     paired = λ i j r h g m. ⊎_elim (λ o. inl (o.0, covers_more log e o.1)) (λ o. inr ((λ l. ⊎_elim o.0 (λ t. no_lease j t.0 t.1) (leased_snoc log e j l)), o.1, o.2)) (k.paired i j r h g m);
     holder = k.holder;
-    kept = λ i j h g m. let o = k.kept i j h g m in (leased_more log e o.0, (λ c. ⊎_elim o.1 (no_cancel j) (canceled_snoc log e j c)), o.2);
+    kept = λ i j h g m. let o = k.kept i j h g m in (leased_more log e o.0, (λ c. ⊎_elim o.1 (λ t. no_cancel j t.0 t.1) (canceled_snoc log e j c)), o.2);
     keeper = λ j l. ⊎_elim (λ o. ⊎_elim (λ c. inl (canceled_more log e c)) (λ x. inr x) (k.keeper j o)) (λ t. absurd (no_lease j t.0 t.1)) (leased_snoc log e j l);
     kept_once = k.kept_once;
     pair_once = k.pair_once;
@@ -185,7 +186,7 @@ module _ (log : List Event) (e : Event) where
   pub lease_leases : (hs : List Hold) → LeasesAgree log hs → (id j s : ℕ) (h : Hold) → IsAt hs id h → h.main ≡ true → ((i : ℕ) (u : Hold) → IsAt hs i u → u.main ≡ true → i ≡ id) → IsLegal log → e.by ≡ h.by → e.what ≡ Lease j s
       → ¬ (IsLeased log j) → ¬ (IsAmong j h.had) → ((r : ℕ) → (IsAmong (j, r) h.pairs → IsCoveredBy log h.by s r) × (IsCoveredBy log h.by s r → IsAmong (j, r) h.pairs)) → LeasesAgree (log ++ e ∷ []) (slice_set hs id (record h { kept = h.kept ++ j ∷ [] }))
   lease_leases hs k id j s h at main only legal by is new no_seat pairs = let h' : Hold = record h { kept = h.kept ++ j ∷ [] } in
-      let no_cancel : (i : ℕ) → e.what ≢ Cancel i = λ i c. lease_cancel j s i (sym is ∙ c) in
+      let no_cancel : (i : ℕ) (how : Exit) → e.what ≢ Cancel i how = λ i how c. lease_cancel j s i how (sym is ∙ c) in
       let stream : (i t : ℕ) → e.what ≡ Lease i t → (j ≡ i) × (s ≡ t) = λ i t w. lease_stream j i s t (sym is ∙ w) in record {
         by_main = λ i a b q u. each hs id h' (λ i u. u.main ≡ true → Notes (log ++ e ∷ []) q (Lease a b) → q ≡ u.by)
             (λ m n. ⊎_elim (k.by_main id a b q h at m) (λ t. sym t.0 ∙ by) (noted_snoc log e q (Lease a b) n))
@@ -205,11 +206,11 @@ module _ (log : List Event) (e : Event) where
         holder = λ i a r u. each hs id h' (λ i u. IsAmong (a, r) u.pairs → ((u.main ≡ true) × ¬ (IsAmong a u.had)) ⊎ (u.by ≡ Inner a)) (k.holder id a r h at) (λ i u ne g. k.holder i a r u g) i u;
         kept = λ i a u. each hs id h' (λ i u. IsAmong a u.kept → IsLeased (log ++ e ∷ []) a × ¬ (IsCanceled (log ++ e ∷ []) a) × (((u.main ≡ true) × ¬ (IsAmong a u.had)) ⊎ (u.by ≡ Inner a)))
             (λ m. ⊎_elim
-            (λ o. let t = k.kept id a h at o in (leased_more log e t.0, (λ c. ⊎_elim t.1 (no_cancel a) (canceled_snoc log e a c)), t.2))
+            (λ o. let t = k.kept id a h at o in (leased_more log e t.0, (λ c. ⊎_elim t.1 (λ w. no_cancel a w.0 w.1) (canceled_snoc log e a c)), t.2))
             (λ w. subst (λ n. IsLeased (log ++ e ∷ []) n × ¬ (IsCanceled (log ++ e ∷ []) n) × (((h.main ≡ true) × ¬ (IsAmong n h.had)) ⊎ (h.by ≡ Inner n))) (sym w)
-            ((e.by, s, (e, among_last log e, refl, is)), (λ c. ⊎_elim (λ o. new (canceled_leased log j legal o)) (no_cancel j) (canceled_snoc log e j c)), inl (main, no_seat)))
+            ((e.by, s, (e, among_last log e, refl, is)), (λ c. ⊎_elim (λ o. new (canceled_leased log j legal o)) (λ w. no_cancel j w.0 w.1) (canceled_snoc log e j c)), inl (main, no_seat)))
             (among_snoc h.kept a j m))
-            (λ i u ne g m. let t = k.kept i a u g m in (leased_more log e t.0, (λ c. ⊎_elim t.1 (no_cancel a) (canceled_snoc log e a c)), t.2)) i u;
+            (λ i u ne g m. let t = k.kept i a u g m in (leased_more log e t.0, (λ c. ⊎_elim t.1 (λ w. no_cancel a w.0 w.1) (canceled_snoc log e a c)), t.2)) i u;
         keeper = λ a l. ⊎_elim
             (λ o. ⊎_elim (λ c. inl (canceled_more log e c)) (λ x. inr (some_put hs id h h' at (λ (u : Hold). IsAmong a u.kept) (among_left (j ∷ [])) x)) (k.keeper a o))
             (λ t. inr (id, h', put_here hs id h h' at, subst (λ n. IsAmong n (h.kept ++ j ∷ [])) (stream a t.0 t.1).0 (among_last h.kept j)))
@@ -224,10 +225,10 @@ module _ (log : List Event) (e : Event) where
         pair_once = λ a r. let t = total_set (λ (u : Hold). pair_times a r u.pairs) hs id h h' at in let o = k.pair_once a r in omega arith;
       }
 
-  pub cancel_leases : (hs : List Hold) → LeasesAgree log hs → (id j : ℕ) (h : Hold) → IsAt hs id h → e.what ≡ Cancel j → IsAmong j h.kept → LeasesAgree (log ++ e ∷ []) (slice_set hs id (record h { kept = without j h.kept }))
-  cancel_leases hs k id j h at is mine = let h' : Hold = record h { kept = without j h.kept } in
-      let no_lease : (i t : ℕ) → e.what ≢ Lease i t = λ i t c. lease_cancel i t j (sym c ∙ is) in
-      let stream : (i : ℕ) → e.what ≡ Cancel i → j ≡ i = λ i w. cancel_stream j i (sym is ∙ w) in record {
+  pub cancel_leases : (hs : List Hold) → LeasesAgree log hs → (id j : ℕ) (how : Exit) (h : Hold) → IsAt hs id h → e.what ≡ Cancel j how → IsAmong j h.kept → LeasesAgree (log ++ e ∷ []) (slice_set hs id (record h { kept = without j h.kept }))
+  cancel_leases hs k id j how h at is mine = let h' : Hold = record h { kept = without j h.kept } in
+      let no_lease : (i t : ℕ) → e.what ≢ Lease i t = λ i t c. lease_cancel i t j how (sym c ∙ is) in
+      let stream : (i : ℕ) (x : Exit) → e.what ≡ Cancel i x → j ≡ i = λ i x w. cancel_stream j i how x (sym is ∙ w) in record {
         by_main = λ i a b q u. each hs id h' (λ i u. u.main ≡ true → Notes (log ++ e ∷ []) q (Lease a b) → q ≡ u.by)
             (λ m n. ⊎_elim (k.by_main id a b q h at m) (λ t. absurd (no_lease a b t.1)) (noted_snoc log e q (Lease a b) n))
             (λ i u ne g m n. ⊎_elim (k.by_main i a b q u g m) (λ t. absurd (no_lease a b t.1)) (noted_snoc log e q (Lease a b) n)) i u;
@@ -239,11 +240,11 @@ module _ (log : List Event) (e : Event) where
             (λ i u ne g m. ⊎_elim (λ o. inl (o.0, covers_more log e o.1)) (λ o. inr ((λ l. ⊎_elim o.0 (λ t. no_lease a t.0 t.1) (leased_snoc log e a l)), o.1, o.2)) (k.paired i a r u g m)) i u;
         holder = λ i a r u. each hs id h' (λ i u. IsAmong (a, r) u.pairs → ((u.main ≡ true) × ¬ (IsAmong a u.had)) ⊎ (u.by ≡ Inner a)) (k.holder id a r h at) (λ i u ne g. k.holder i a r u g) i u;
         kept = λ i a u. each hs id h' (λ i u. IsAmong a u.kept → IsLeased (log ++ e ∷ []) a × ¬ (IsCanceled (log ++ e ∷ []) a) × (((u.main ≡ true) × ¬ (IsAmong a u.had)) ⊎ (u.by ≡ Inner a)))
-            (λ m. let b = among_without j h.kept a m in let t = k.kept id a h at b.0 in (leased_more log e t.0, (λ c. ⊎_elim t.1 (λ w. b.1 (sym (stream a w))) (canceled_snoc log e a c)), t.2))
-            (λ i u ne g m. let t = k.kept i a u g m in (leased_more log e t.0, (λ c. ⊎_elim t.1 (λ w. ne (total_one (λ (u : Hold). times a u.kept) hs i id u h (k.kept_once a) g at (times_some a u.kept m) (times_some a h.kept (subst (λ n. IsAmong n h.kept) (stream a w) mine)))) (canceled_snoc log e a c)), t.2)) i u;
+            (λ m. let b = among_without j h.kept a m in let t = k.kept id a h at b.0 in (leased_more log e t.0, (λ c. ⊎_elim t.1 (λ w. b.1 (sym (stream a w.0 w.1))) (canceled_snoc log e a c)), t.2))
+            (λ i u ne g m. let t = k.kept i a u g m in (leased_more log e t.0, (λ c. ⊎_elim t.1 (λ w. ne (total_one (λ (u : Hold). times a u.kept) hs i id u h (k.kept_once a) g at (times_some a u.kept m) (times_some a h.kept (subst (λ n. IsAmong n h.kept) (stream a w.0 w.1) mine)))) (canceled_snoc log e a c)), t.2)) i u;
         keeper = λ a l. ⊎_elim
             (λ o. ⊎_elim (λ c. inl (canceled_more log e c))
-            (λ x. ⊎_elim (λ w. inl (e.by, (e, among_last log e, refl, is ∙ ap Cancel (sym w)))) (λ ne. inr (some_put hs id h h' at (λ (u : Hold). IsAmong a u.kept) (λ m. among_kept j h.kept a m ne) x)) (cases_eq a j))
+            (λ x. ⊎_elim (λ w. inl (e.by, (how, (e, among_last log e, refl, is ∙ ap (λ n. Cancel n how) (sym w))))) (λ ne. inr (some_put hs id h h' at (λ (u : Hold). IsAmong a u.kept) (λ m. among_kept j h.kept a m ne) x)) (cases_eq a j))
             (k.keeper a o))
             (λ t. absurd (no_lease a t.0 t.1))
             (leased_snoc log e a l);
@@ -252,8 +253,8 @@ module _ (log : List Event) (e : Event) where
         pair_once = λ a r. let t = total_set (λ (u : Hold). pair_times a r u.pairs) hs id h h' at in let o = k.pair_once a r in omega arith;
       }
 
-  pub final_rows : (rows : ℕ) (word : ℕ → ℕ) (ws : List Work) → RowsAgree rows word log ws → (id r : ℕ) (ok : Bool) (w : Work) → IsAt ws id w → e.what ≡ Final r ok → IsAmong r w.handed → RowsAgree rows word (log ++ e ∷ []) (slice_set ws id (record w { handed = without r w.handed }))
-  final_rows rows word ws k id r ok w at is mine q =
+  pub final_rows : (rows : ℕ) (word : ℕ → ℕ) (ws : List Work) → RowsAgree rows word log ws → (id r : ℕ) (how : Exit) (ok : Bool) (w : Work) → IsAt ws id w → e.what ≡ Final r how ok → IsAmong r w.handed → RowsAgree rows word (log ++ e ∷ []) (slice_set ws id (record w { handed = without r w.handed }))
+  final_rows rows word ws k id r how ok w at is mine q =
       let w' : Work = record w { handed = without r w.handed } in
       let a = total_set (λ (u : Work). times q u.empty) ws id w w' at in
       let b = total_set (λ (u : Work). times q u.opened) ws id w w' at in
@@ -266,16 +267,16 @@ module _ (log : List Event) (e : Event) where
       ⊎_elim
       (λ s. let z : times q (without r w.handed) ≡ 0 = subst (λ n. times n (without r w.handed) ≡ 0) (sym s) (without_same r w.handed) in
       let y = times_some q w.handed (subst (λ n. IsAmong n w.handed) (sym s) mine) in
-      stands_is (stands_final (k q) (times q w.handed) y (omega arith) (row_closed_more log e) (e.by, ok, (e, among_last log e, refl, is ∙ ap (λ n. Final n ok) (sym s)))) refl ea eb ec refl)
+      stands_is (stands_final (k q) (times q w.handed) y (omega arith) (row_closed_more log e) (e.by, ok, (how, (e, among_last log e, refl, is ∙ ap (λ n. Final n how ok) (sym s))))) refl ea eb ec refl)
       (λ ne. let z = without_other r q w.handed ne in
       let ed : hands q ws ≡ hands q (slice_set ws id w') = omega arith in
-      stands_is (stands_more (k q) (acquired_more log e) (row_closed_more log e) (finalized_more log e) (λ f. ⊎_elim (λ o. o) (λ t. absurd (ne (final_row q r t.0 ok (sym t.1 ∙ is)))) (finalized_snoc log e q f))
-      (λ far x. ⊎_elim (λ o. o) (λ t. absurd (acquire_final q t.0 r ok (sym t.1 ∙ is))) (acquired_snoc log e q x))) refl ea eb ec ed)
+      stands_is (stands_more (k q) (acquired_more log e) (row_closed_more log e) (finalized_more log e) (λ f. ⊎_elim (λ o. o) (λ t. absurd (ne (final_row q r t.0 how t.1 ok (sym t.2 ∙ is)))) (finalized_snoc log e q f))
+      (λ far x. ⊎_elim (λ o. o) (λ t. absurd (acquire_final q t.0 r how ok (sym t.1 ∙ is))) (acquired_snoc log e q x))) refl ea eb ec ed)
       (cases_eq q r)
 
-  pub final_pays : {P : Type 0} (word : ℕ → ℕ) (slot : ℕ → Option P) (ps : List (Purse P)) → PaysAgree word slot log ps → (id r : ℕ) (ok : Bool) (p : Purse P) → IsAt ps id p → e.what ≡ Final r ok → IsAmong r p.handed
+  pub final_pays : {P : Type 0} (word : ℕ → ℕ) (slot : ℕ → Option P) (ps : List (Purse P)) → PaysAgree word slot log ps → (id r : ℕ) (how : Exit) (ok : Bool) (p : Purse P) → IsAt ps id p → e.what ≡ Final r how ok → IsAmong r p.handed
       → PaysAgree word slot (log ++ e ∷ []) (slice_set ps id (record p { handed = without r p.handed; taken = without r p.taken }))
-  final_pays {P} word slot ps k id r ok p at is mine =
+  final_pays {P} word slot ps k id r how ok p at is mine =
       let p' : Purse P = record p { handed = without r p.handed; taken = without r p.taken } in
       let left : (q : ℕ) (x : P) → LeftIn (slice_set ps id p') q x → LeftIn ps q x = λ q x. some_back ps id p p' at (λ (u : Purse P). IsAmong (q, x) u.left) (λ m. m) in
       let given : (q : ℕ) (x : P) → GivenIn (slice_set ps id p') q x → GivenIn ps q x = λ q x. some_back ps id p p' at (λ (u : Purse P). IsAmong (q, x) u.given) (λ m. m) in
@@ -290,6 +291,6 @@ module _ (log : List Event) (e : Event) where
             (λ m. let b = among_without r p.handed q m in let t = k.handed id q p at b.0 in (t.0, t.1, λ f. t.2 (λ n. f (among_kept r p.taken q n b.1))))
             (λ i u ne g. k.handed i q u g) i u;
         final = λ q f. ⊎_elim (λ o. let t = k.final q o in (t.0, given' q t.0 t.1))
-            (λ t. let b = k.handed id r p at mine in subst (λ n. (x : P) × GivenIn (slice_set ps id p') n x) (sym (final_row q r t.0 ok (sym t.1 ∙ is))) (b.0, given' r b.0 (id, p, at, b.1)))
+            (λ t. let b = k.handed id r p at mine in subst (λ n. (x : P) × GivenIn (slice_set ps id p') n x) (sym (final_row q r t.0 how t.1 ok (sym t.2 ∙ is))) (b.0, given' r b.0 (id, p, at, b.1)))
             (finalized_snoc log e q f);
       }

@@ -2,6 +2,7 @@
 use Rattle.std.proofs.Common.{◌≡◌, ◌≢◌, ℕ, ◌-◌, ◌^◌, ◌<◌, ◌≤◌, Bool, true, false, map, List, [], ◌∷◌, ◌++◌, length, slice_set, inl, inr, refl, sym, ap, ◌∙◌, subst, ⊎_elim, arith}
 use Rattle.std.specs.Prelude.{Option}
 use Rattle.res_ledger.specs.declared.event.What.TheVariants.{Acquire, Cancel, Close, Final, Lease, Open}
+use Rattle.chunk_core.specs.declared.code.Exit.{Exit}
 use Rattle.row_seat.specs.Totals.{IsAt, row_times, times}
 use Rattle.row_seat.specs.Rule.{Book, BooksAgree, Deed, DeedsAgree, Hold, LeasesAgree, PaysAgree, RowsAgree, IsBlank, RuleHolds, SeatsAgree, Work, book, deed, hold, leases, purse, seen, who, work}
 use Rattle.res_ledger.specs.declared.event.Event.{Event}
@@ -25,17 +26,17 @@ keep X ws id b at x = subst X (sym (set_again ws id b at)) x
 open_acquire : (s p r t : ℕ) → Open s p ≢ Acquire r t
 open_acquire s p r t h = cc
 
-close_acquire : (s r t : ℕ) → Close s ≢ Acquire r t
-close_acquire s r t h = cc
+close_acquire : (s : ℕ) (how : Exit) (r t : ℕ) → Close s how ≢ Acquire r t
+close_acquire s how r t h = cc
 
 lease_acquire : (j s r t : ℕ) → Lease j s ≢ Acquire r t
 lease_acquire j s r t h = cc
 
-cancel_acquire : (j r t : ℕ) → Cancel j ≢ Acquire r t
-cancel_acquire j r t h = cc
+cancel_acquire : (j : ℕ) (how : Exit) (r t : ℕ) → Cancel j how ≢ Acquire r t
+cancel_acquire j how r t h = cc
 
-final_acquire : (q : ℕ) (ok : Bool) (r t : ℕ) → Final q ok ≢ Acquire r t
-final_acquire q ok r t h = cc
+final_acquire : (q : ℕ) (how : Exit) (ok : Bool) (r t : ℕ) → Final q how ok ≢ Acquire r t
+final_acquire q how ok r t h = cc
 
 pub live_not : {b : Bool} → b ≡ true → b ≡ false → ⊥
 live_not t f = let e = sym t ∙ f in cc
@@ -129,7 +130,7 @@ module _ {P : Type 0} (rows room : ℕ) (word : ℕ → ℕ) (slot : ℕ → Opt
       m.1,
       usable s m.4,
     )
-    meets (Cancel j) m =
+    meets (Cancel j how) m =
         let k = rule.leases.kept id j (hold v) at_hold m.0 in (
           k.0,
           k.1,
@@ -137,11 +138,11 @@ module _ {P : Type 0} (rows room : ℕ) (word : ℕ → ℕ) (slot : ℕ → Opt
               (λ a. let by = rule.leases.by_main id j k.0.1 k.0.0 (hold v) at_hold a.0 k.0.2 in
               let n : Notes log v.by (Lease j k.0.1) = subst (λ q. Notes log q (Lease j k.0.1)) by k.0.2 in
               inr ((k.0.1, n), λ e h is. let t = rule.seats.noted id (who v) e at_who a.0 h (λ s. lease_other log j k.0.1 v.by rule.books.legal n (sym s ∙ is)) in a.1 (subst (λ x. IsAmong x v.had) (inner_is t.0 j (sym t.1 ∙ is)) t.2)))
-              (λ b. inl (b, λ r s n. let f = m.1 b r s (back (Acquire r s) n) in (f.0, f.1, (f.2.0, rule.books.inside id (book v) f.2.0 at_book f.2.1, f.2.2, f.2.3))))
+              (λ b. inl (b, λ r s n. let f = m.1 b r s (back (Acquire r s) n) in (f.0, f.1, (f.2.0, (f.2.1.0, rule.books.inside id (book v) f.2.1.0 at_book f.2.1.1, f.2.1.2, f.2.1.3)))))
               k.2,
         )
-    meets (Close s) m = usable s m
-    meets (Final r ok) m = (handed_log r m.1, rule.deeds.handed id r (deed v) at_deed m.1)
+    meets (Close s how) m = usable s m
+    meets (Final r how ok) m = (handed_log r m.1, rule.deeds.handed id r (deed v) at_deed m.1)
 
 module _ {P : Type 0} (rows room : ℕ) (word : ℕ → ℕ) (slot : ℕ → Option P) (log : List Event) (views : List (Token P)) (rule : RuleHolds rows room word slot log views) (id : ℕ) (v : Token P) (at : IsAt views id v) (live : v.live ≡ true)
     (sp : 1 ≤ v.spare) (hands : List (ℕ × P)) where
@@ -170,21 +171,21 @@ module _ {P : Type 0} (rows room : ℕ) (word : ℕ → ℕ) (slot : ℕ → Opt
       tick_deeds log e (map deed views) rule.deeds id (deed v) d (at_deed rows room word slot log views rule id v at live) by events empty opened handed
       (λ i r s u ne g m is. let t = map_back deed views i u g in ne (one_right rows room word slot log views rule id v at live r i t.0 t.1 (mine r s is) (subst (λ (y : Deed). IsAmong r y.empty) (sym t.2) m)))
 
-  new_rows : (x : What) → ((r : ℕ) (ok : Bool) → x ≢ Final r ok) → ((r s : ℕ) → x ≡ Acquire r s → IsAmong r v.empty) → RowsAgree rows word (log ++ record { stamp = length log; by = v.by; what = x } ∷ []) (slice_set (map work views) id (work v))
+  new_rows : (x : What) → ((r : ℕ) (how : Exit) (ok : Bool) → x ≢ Final r how ok) → ((r s : ℕ) → x ≡ Acquire r s → IsAmong r v.empty) → RowsAgree rows word (log ++ record { stamp = length log; by = v.by; what = x } ∷ []) (slice_set (map work views) id (work v))
   new_rows x no_final mine = let e : Event = record { stamp = length log; by = v.by; what = x } in let g = at_work rows room word slot log views rule id v at live in
       keep (λ l. RowsAgree rows word (log ++ e ∷ []) l) (map work views) id (work v) g
       (tick_rows log e rows word (map work views) rule.words no_final (λ r s is. let l = total_at (λ (u : Work). times r u.empty) (map work views) id (work v) g in let t = times_some r v.empty (mine r s is) in is_inside (rule.words r) (omega arith)))
 
-  new_pays : (x : What) → ((r : ℕ) (ok : Bool) → x ≢ Final r ok) → PaysAgree word slot (log ++ record { stamp = length log; by = v.by; what = x } ∷ []) (slice_set (map purse views) id (purse v))
+  new_pays : (x : What) → ((r : ℕ) (how : Exit) (ok : Bool) → x ≢ Final r how ok) → PaysAgree word slot (log ++ record { stamp = length log; by = v.by; what = x } ∷ []) (slice_set (map purse views) id (purse v))
   new_pays x no_final = let e : Event = record { stamp = length log; by = v.by; what = x } in
       keep (λ l. PaysAgree word slot (log ++ e ∷ []) l) (map purse views) id (purse v) (at_purse rows room word slot log views rule id v at live) (tick_pays log e word slot (map purse views) rule.pays no_final)
 
-  new_leases : (x : What) → ((j s : ℕ) → x ≢ Lease j s) → ((j : ℕ) → x ≢ Cancel j) → LeasesAgree (log ++ record { stamp = length log; by = v.by; what = x } ∷ []) (slice_set (map hold views) id (hold v))
+  new_leases : (x : What) → ((j s : ℕ) → x ≢ Lease j s) → ((j : ℕ) (how : Exit) → x ≢ Cancel j how) → LeasesAgree (log ++ record { stamp = length log; by = v.by; what = x } ∷ []) (slice_set (map hold views) id (hold v))
   new_leases x no_lease no_cancel = let e : Event = record { stamp = length log; by = v.by; what = x } in
       keep (λ l. LeasesAgree (log ++ e ∷ []) l) (map hold views) id (hold v) (at_hold rows room word slot log views rule id v at live) (tick_leases log e (map hold views) rule.leases no_lease no_cancel)
 
   -- an event that changes no row and no lease
-  plain_tick : (x : What) → MayNote (seen v hands) x → ((r : ℕ) (ok : Bool) → x ≢ Final r ok) → ((r s : ℕ) → x ≡ Acquire r s → IsAmong r v.empty) → ((j s : ℕ) → x ≢ Lease j s) → ((j : ℕ) → x ≢ Cancel j)
+  plain_tick : (x : What) → MayNote (seen v hands) x → ((r : ℕ) (how : Exit) (ok : Bool) → x ≢ Final r how ok) → ((r s : ℕ) → x ≡ Acquire r s → IsAmong r v.empty) → ((j s : ℕ) → x ≢ Lease j s) → ((j : ℕ) (how : Exit) → x ≢ Cancel j how)
       → let e : Event = record { stamp = length log; by = v.by; what = x } in let w : Token P = record v { events = v.events ++ e ∷ []; spare = v.spare - 1 } in RuleHolds rows room word slot (log ++ e ∷ []) (slice_set views id w)
   plain_tick x may no_final mine no_lease no_cancel = let e : Event = record { stamp = length log; by = v.by; what = x } in let w : Token P = record v { events = v.events ++ e ∷ []; spare = v.spare - 1 } in
       rule_put rows room word slot (log ++ e ∷ []) views id w (new_seats x) (new_books x may) (new_rows x no_final mine) (new_deeds x (deed w) refl refl refl refl (λ r m. m) mine) (new_leases x no_lease no_cancel) (new_pays x no_final)
@@ -192,29 +193,29 @@ module _ {P : Type 0} (rows room : ℕ) (word : ℕ → ℕ) (slot : ℕ → Opt
 
   -- every tick keeps the rule
   pub tick_keeps : (x : What) → MayNote (seen v hands) x → let e : Event = record { stamp = length log; by = v.by; what = x } in RuleHolds rows room word slot (log ++ e ∷ []) (slice_set views id (noted v e))
-  tick_keeps (Open s p) may = plain_tick (Open s p) may (λ r ok h. cc) (λ r t h. absurd (open_acquire s p r t h)) (λ j t h. cc) (λ j h. cc)
-  tick_keeps (Acquire r s) may = plain_tick (Acquire r s) may (λ q ok h. cc) (λ q t h. subst (λ n. IsAmong n v.empty) (acquire_row r s q t h) may.0) (λ j t h. cc) (λ j h. cc)
-  tick_keeps (Close s) may = plain_tick (Close s) may (λ q ok h. cc) (λ q t h. absurd (close_acquire s q t h)) (λ j t h. cc) (λ j h. cc)
+  tick_keeps (Open s p) may = plain_tick (Open s p) may (λ r how ok h. cc) (λ r t h. absurd (open_acquire s p r t h)) (λ j t h. cc) (λ j how h. cc)
+  tick_keeps (Acquire r s) may = plain_tick (Acquire r s) may (λ q how ok h. cc) (λ q t h. subst (λ n. IsAmong n v.empty) (acquire_row r s q t h) may.0) (λ j t h. cc) (λ j how h. cc)
+  tick_keeps (Close s how) may = plain_tick (Close s how) may (λ q x ok h. cc) (λ q t h. absurd (close_acquire s how q t h)) (λ j t h. cc) (λ j how h. cc)
   tick_keeps (Lease j s) may =
       let x = Lease j s in let e : Event = record { stamp = length log; by = v.by; what = x } in let w : Token P = noted v e in
       let m = meets rows room word slot log views rule id v at live hands x may in
-      rule_put rows room word slot (log ++ e ∷ []) views id w (new_seats x) (new_books x may) (new_rows x (λ q ok h. cc) (λ q t h. absurd (lease_acquire j s q t h))) (new_deeds x (deed w) refl refl refl refl (λ r m. m) (λ q t h. absurd (lease_acquire j s q t h)))
+      rule_put rows room word slot (log ++ e ∷ []) views id w (new_seats x) (new_books x may) (new_rows x (λ q how ok h. cc) (λ q t h. absurd (lease_acquire j s q t h))) (new_deeds x (deed w) refl refl refl refl (λ r m. m) (λ q t h. absurd (lease_acquire j s q t h)))
       (lease_leases log e (map hold views) rule.leases id j s (hold v) (at_hold rows room word slot log views rule id v at live) may.0 (only_main may.0) rule.books.legal refl refl m.0 may.2
       (λ r. (
         (λ a. covered_map v.events log v.by (forth rows room word slot log views rule id v at live) s r (closed_back rows room word slot log views rule id v at live) ((may.5 r).0 a)),
         (λ c. (may.5 r).1 (covered_map log v.events v.by (back rows room word slot log views rule id v at live) s r (closed_forth rows room word slot log views rule id v at live) c)),
       )))
-      (new_pays x (λ q ok h. cc)) (spent_put rows room word slot log views rule id v at live w live) (small_put rows room word slot log views rule id v at live w (λ i q m. rule.small id i q v at m))
-  tick_keeps (Cancel j) may =
-      let x = Cancel j in let e : Event = record { stamp = length log; by = v.by; what = x } in let w : Token P = noted v e in
-      rule_put rows room word slot (log ++ e ∷ []) views id w (new_seats x) (new_books x may) (new_rows x (λ q ok h. cc) (λ q t h. absurd (cancel_acquire j q t h))) (new_deeds x (deed w) refl refl refl refl (λ r m. m) (λ q t h. absurd (cancel_acquire j q t h)))
-      (cancel_leases log e (map hold views) rule.leases id j (hold v) (at_hold rows room word slot log views rule id v at live) refl may.0)
-      (new_pays x (λ q ok h. cc)) (spent_put rows room word slot log views rule id v at live w live) (small_put rows room word slot log views rule id v at live w (λ i q m. rule.small id i q v at m))
-  tick_keeps (Final r ok) may =
-      let x = Final r ok in let e : Event = record { stamp = length log; by = v.by; what = x } in let w : Token P = noted v e in
+      (new_pays x (λ q how ok h. cc)) (spent_put rows room word slot log views rule id v at live w live) (small_put rows room word slot log views rule id v at live w (λ i q m. rule.small id i q v at m))
+  tick_keeps (Cancel j how) may =
+      let x = Cancel j how in let e : Event = record { stamp = length log; by = v.by; what = x } in let w : Token P = noted v e in
+      rule_put rows room word slot (log ++ e ∷ []) views id w (new_seats x) (new_books x may) (new_rows x (λ q how ok h. cc) (λ q t h. absurd (cancel_acquire j how q t h))) (new_deeds x (deed w) refl refl refl refl (λ r m. m) (λ q t h. absurd (cancel_acquire j how q t h)))
+      (cancel_leases log e (map hold views) rule.leases id j how (hold v) (at_hold rows room word slot log views rule id v at live) refl may.0)
+      (new_pays x (λ q how ok h. cc)) (spent_put rows room word slot log views rule id v at live w live) (small_put rows room word slot log views rule id v at live w (λ i q m. rule.small id i q v at m))
+  tick_keeps (Final r how ok) may =
+      let x = Final r how ok in let e : Event = record { stamp = length log; by = v.by; what = x } in let w : Token P = noted v e in
       rule_put rows room word slot (log ++ e ∷ []) views id w (new_seats x) (new_books x may)
-      (final_rows log e rows word (map work views) rule.words id r ok (work v) (at_work rows room word slot log views rule id v at live) refl may.1)
-      (new_deeds x (deed w) refl refl refl refl (λ q m. (among_without r v.handed q m).0) (λ q t h. absurd (final_acquire r ok q t h)))
-      (new_leases x (λ j t h. cc) (λ j h. cc))
-      (final_pays log e word slot (map purse views) rule.pays id r ok (purse v) (at_purse rows room word slot log views rule id v at live) refl may.1)
+      (final_rows log e rows word (map work views) rule.words id r how ok (work v) (at_work rows room word slot log views rule id v at live) refl may.1)
+      (new_deeds x (deed w) refl refl refl refl (λ q m. (among_without r v.handed q m).0) (λ q t h. absurd (final_acquire r how ok q t h)))
+      (new_leases x (λ j t h. cc) (λ j how h. cc))
+      (final_pays log e word slot (map purse views) rule.pays id r how ok (purse v) (at_purse rows room word slot log views rule id v at live) refl may.1)
       (spent_put rows room word slot log views rule id v at live w live) (small_put rows room word slot log views rule id v at live w (λ i q m. rule.small id i q v at m))

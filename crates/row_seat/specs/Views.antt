@@ -1,7 +1,7 @@
 -- What the calls of a seat ask of its view, and what they leave.
-use Rattle.std.specs.Prelude.{◌≡◌, ◌≢◌, ℕ, zero, suc, ◌+◌, ◌-◌, ◌^◌, ◌<◌, ◌≤◌, ◌⊎◌, ◌↔◌, Bool, true, false, not, eqb, leb, ltb, cond, List, [], ◌∷◌, ◌++◌, filter}
+use Rattle.std.specs.Prelude.{◌≡◌, ◌≢◌, ℕ, zero, suc, ◌+◌, ◌-◌, ◌<◌, ◌≤◌, ◌⊎◌, ◌↔◌, Bool, true, false, not, eqb, leb, ltb, cond, List, [], ◌∷◌, ◌++◌, filter}
 use Rattle.res_ledger.specs.declared.event.What.TheVariants.{Acquire, Cancel, Close, Final, Lease, Open}
-use Rattle.res_ledger.specs.Ledger.{Covers, IsAcquired, IsCanceled, IsClosed, IsCoveredBy, IsFinalized, IsLeased, IsLegal, IsOpened, IsStamped, IsUsable, Notes}
+use Rattle.res_ledger.specs.Ledger.{Covers, IsAcquired, IsCanceled, IsClosed, IsCoveredBy, IsFinalized, IsLeased, IsLegal, IsOpened, IsStamped, IsUsable, Notes, NotesCancel}
 use Rattle.res_ledger.specs.declared.event.Event.{Event}
 use Rattle.res_ledger.specs.declared.event.StreamNo.TheVariants.{Inner, Outer}
 use Rattle.chunk_core.specs.Lists.{IsAmong}
@@ -41,18 +41,18 @@ abbrev pub kept_after : What → List ℕ → List ℕ
 kept_after (Open s p) xs = xs
 kept_after (Acquire r s) xs = xs
 kept_after (Lease j s) xs = xs ++ j ∷ []
-kept_after (Cancel j) xs = without j xs
-kept_after (Close s) xs = xs
-kept_after (Final r ok) xs = xs
+kept_after (Cancel j how) xs = without j xs
+kept_after (Close s how) xs = xs
+kept_after (Final r how ok) xs = xs
 
 -- the rows handed to a seat, or taken by it, whose Final is not noted after an event of its own
 abbrev pub handed_after : What → List ℕ → List ℕ
 handed_after (Open s p) xs = xs
 handed_after (Acquire r s) xs = xs
 handed_after (Lease j s) xs = xs
-handed_after (Cancel j) xs = xs
-handed_after (Close s) xs = xs
-handed_after (Final r ok) xs = without r xs
+handed_after (Cancel j how) xs = xs
+handed_after (Close s how) xs = xs
+handed_after (Final r how ok) xs = without r xs
 
 -- k numbers from n on
 abbrev pub run : ℕ → ℕ → List ℕ
@@ -109,7 +109,7 @@ module _ {P : Type 0} where
 
   -- the lease is here, and the stream's Cancel is noted
   abbrev pub CanLeave : View P → ℕ → ℕ → Type 0
-  CanLeave v j r = IsAmong (j, r) v.pairs × Notes v.events v.by (Cancel j)
+  CanLeave v j r = IsAmong (j, r) v.pairs × NotesCancel v.events v.by j
 
   -- a lease less
   abbrev pub gone : View P → ℕ → ℕ → View P
@@ -168,9 +168,9 @@ module _ {P : Type 0} where
   MayNote v (Open s p) = (s ≢ 0) × ¬ (IsOpened v.events v.by s) × IsUsable v.events v.by p
   MayNote v (Acquire r s) = IsAmong r v.empty × ¬ (IsAcquired v.events r) × IsUsable v.events v.by s
   MayNote v (Lease j s) = (v.main ≡ true) × (v.by ≢ Inner j) × ¬ (IsAmong j v.had) × ¬ (IsLeased v.events j) × IsUsable v.events v.by s × ((r : ℕ) → IsAmong (j, r) v.pairs ↔ IsCoveredBy v.events v.by s r)
-  MayNote v (Close s) = IsUsable v.events v.by s
-  MayNote v (Cancel j) = IsAmong j v.kept × (v.by ≡ Inner j → (r s : ℕ) → Notes v.events v.by (Acquire r s) → IsFinalized v.events r)
-  MayNote v (Final r ok) = IsAmong r v.taken × IsAmong r v.handed
+  MayNote v (Close s how) = IsUsable v.events v.by s
+  MayNote v (Cancel j how) = IsAmong j v.kept × (v.by ≡ Inner j → (r s : ℕ) → Notes v.events v.by (Acquire r s) → IsFinalized v.events r)
+  MayNote v (Final r how ok) = IsAmong r v.taken × IsAmong r v.handed
 
   -- what an event does to the rest of a view
   abbrev pub touched : View P → What → View P

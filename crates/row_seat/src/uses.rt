@@ -3,12 +3,13 @@
 ghost use Rattle.std.specs.Prelude.{◌≡◌, ◌≤◌, ◌+◌, true, [], ◌∷◌, IfOk};
 ghost use Rattle.row_seat.specs.Views.{CanSplit};
 ghost use Rattle.res_ledger.specs.Ledger.{IsUsable};
+ghost use Rattle.chunk_core.specs.declared.code.Exit.TheVariants.{Succeeded};
 ghost use Rattle.res_ledger.specs.declared.event.StreamNo.TheVariants.{Outer};
 ghost use Rattle.res_ledger.specs.declared.event.What.TheVariants.{Acquire, Close, Final};
 
 use crate::plain::PlainSeat;
 use crate::seat::RowSeat;
-use chunk_core::Span;
+use chunk_core::{Exit, Span};
 use res_ledger::{Ledger, StreamNo, What};
 use std::alloc::{AllocError, Global};
 use std::test::Fail;
@@ -16,16 +17,29 @@ use std::test::Fail;
 /// Acquires the row 0 with 7, adds 1, closes its scope, takes it and finalizes it.
 fn whole_life(alloc: Global) -> Result<(u32, Ledger), AllocError>
     ensures pay { IfOk result (λ x. x.0 ≡ 8) }
-    ensures events { IfOk result (λ x. x.1 ≡ record { stamp = 0; by = Outer; what = Acquire 0 0 } ∷ record { stamp = 1; by = Outer; what = Close 0 } ∷ record { stamp = 2; by = Outer; what = Final 0 true } ∷ []) }
+    ensures events { IfOk result (λ x. x.1 ≡ record { stamp = 0; by = Outer; what = Acquire 0 0 } ∷ record { stamp = 1; by = Outer; what = Close 0 Succeeded } ∷ record { stamp = 2; by = Outer; what = Final 0 Succeeded true } ∷ []) }
 {
     let (mut seat, mut desk) = PlainSeat::<u32>::new(alloc, StreamNo::Outer, 1, 3)?;
     seat.note(&mut desk, What::Acquire { row: 0, scope: 0 });
     seat.place(&mut desk, 0, 7);
     *seat.pay_mut(0) = 8;
-    seat.note(&mut desk, What::Close { scope: 0 });
+    seat.note(
+        &mut desk,
+        What::Close {
+            scope: 0,
+            exit: Exit::Succeeded,
+        },
+    );
     seat.close(&mut desk, 0);
     let pay = seat.take(&mut desk, 0);
-    seat.note(&mut desk, What::Final { row: 0, ok: true });
+    seat.note(
+        &mut desk,
+        What::Final {
+            row: 0,
+            exit: Exit::Succeeded,
+            ok: true,
+        },
+    );
     let ledger = seat.finish(&mut desk);
     Ok((pay, ledger))
 }
@@ -47,8 +61,20 @@ fn hand_out<S: RowSeat>(
     ensures spare { IfOk result (λ _. (S.view seat.new).spare + 2 ≡ (S.view seat.old).spare) }
 {
     let mut other = seat.split(alloc, desk, stream, rows, 1)?;
-    seat.note(desk, What::Close { scope: 0 });
-    other.note(desk, What::Close { scope: 0 });
+    seat.note(
+        desk,
+        What::Close {
+            scope: 0,
+            exit: Exit::Succeeded,
+        },
+    );
+    other.note(
+        desk,
+        What::Close {
+            scope: 0,
+            exit: Exit::Succeeded,
+        },
+    );
     seat.join(desk, other);
     Ok(())
 }

@@ -4,7 +4,6 @@ use Rattle.std.proofs.lemmas.List.{get_or_default, length-set}
 use Rattle.chunk_core.specs.Lists.{IsAmong}
 use Rattle.row_seat.proofs.Sitting.{given_once, inside_handed, others_put, sits_put, some_none, take_table, taken_slot}
 use Rattle.row_seat.proofs.Moves.{some_is}
-use Rattle.chunk_core.proofs.Members.{among_last}
 use Rattle.row_seat.specs.Steps.{took}
 use Rattle.row_seat.proofs.plain.PlainSeatRowSeat.take.Goals as goal
 
