@@ -1,12 +1,13 @@
 -- The open scopes that stand below one, by what a tree keeps.
 use Rattle.std.proofs.Common.{◌≡◌, ℕ, ◌+◌, ◌-◌, ◌<◌, ◌≤◌, zero, suc, Bool, true, false, cond, eqb, List, [], ◌∷◌, ◌++◌, length, drop, slice_index_or, refl, sym, ap, ◌∙◌, subst, ⊎_elim, arith}
+use Rattle.chunk_core.specs.declared.code.Exit.{Exit}
 use Rattle.res_ledger.specs.declared.event.StreamNo.{StreamNo}
 use Rattle.res_ledger.specs.declared.event.What.{What}
 use Rattle.res_ledger.specs.declared.event.What.TheVariants.{Open, Acquire, Close}
 use Rattle.res_ledger.specs.declared.event.Event.{Event}
 use Rattle.row_seat.specs.declared.view.View.{View}
 use Rattle.chunk_core.specs.Lists.{IsAmong}
-use Rattle.res_ledger.specs.Ledger.{Notes, LiesWithin, IsClosed, IsUsable}
+use Rattle.res_ledger.specs.Ledger.{Notes, LiesWithin, IsClosed, IsUsable, NotesClose}
 use Rattle.res_ledger.specs.Ledger.LiesWithin.{same, below}
 use Rattle.chunk_core.specs.Lists.IsAmong.{here, there}
 use Rattle.chunk_core.proofs.Members.{among_nil, among_cons, among_left, among_snoc}
@@ -18,14 +19,15 @@ use Rattle.res_ledger.specs.Own.{below as beneath}
 use Rattle.scope_tree.specs.declared.branch.Branch.{Branch}
 use Rattle.scope_tree.specs.declared.branch.Held.{Held}
 use Rattle.scope_tree.specs.Kids.{lasts, kids, whole}
-use Rattle.scope_tree.specs.Torn.{Ready}
+use Rattle.scope_tree.specs.Released.{CanRelease}
+use Rattle.scope_tree.specs.Released.Holder.{owner}
 use Rattle.scope_tree.specs.Kept.{marks, held_pairs, Kept}
 use Rattle.scope_tree.specs.Words.{words, open_of, numbers}
 use Rattle.scope_tree.proofs.Parts.{kids_cases, lasts_pair, distinct_whole, below_is, latest_is, kids_up, among_either, among_right, eqb_eq}
-use Rattle.scope_tree.proofs.Bridge.{noted_in, in_noted, in_opens, opens_in, in_rows, closes_in, in_closes, marks_at, marks_in, within_cases}
-use Rattle.res_ledger.proofs.Noted.{in_has, has_in}
+use Rattle.scope_tree.proofs.Bridge.{noted_in, in_noted, in_opens, opens_in, in_rows, marks_at, marks_in, within_cases}
+use Rattle.res_ledger.proofs.Noted.{in_has, has_in, closes_notes, notes_closes}
 use Rattle.res_ledger.proofs.Tests.{any_at as any_passes, any_found}
-use Rattle.scope_tree.proofs.Facts.{fit_in}
+use Rattle.scope_tree.proofs.Lists.{fit_in}
 use Rattle.scope_tree.proofs.Shapes.{kids_from, kids_here}
 
 -- an open scope t below s, by what a tree keeps
@@ -119,7 +121,7 @@ module _ {P : Type 0} (v : View P) where
       let t = any_in (λ a. has a (closes (words v))) (above (words v) s) h in (
         t.0,
         up_within v.events v.by (turned (opens (words v))) s t.0 (λ c p m. in_noted v.by (Open c p) v.events (in_opens c p (words v) (among_turned (c, p) (opens (words v)) m))) t.1,
-        in_noted v.by (Close t.0) v.events (in_closes t.0 (words v) (has_in t.0 (closes (words v)) t.2)),
+        closes_notes v.events v.by t.0 (has_in t.0 (closes (words v)) t.2),
       )
 
   pub one_open : (s : ℕ) → IsUsable v.events v.by s → (is_closed (words v) s ≡ false) × IsAmong s (0 ∷ numbers (opens (words v)))
@@ -133,46 +135,46 @@ module _ {P : Type 0} (v : View P) (bs : List Branch) (hs : List Held) (k : Kept
   pub noted_parent : (c p : ℕ) → 1 ≤ c → c < length bs → ((d : Branch) → (slice_index_or bs c d).parent ≡ p) → Notes v.events v.by (Open c p)
   noted_parent c p one l h =
       let i = c - 1 in let e : i + 1 ≡ c = omega arith in
-      let size : i < length (drop 1 bs) = let t = length-drop' 1 bs k.size in omega arith in
+      let size : i < length (drop 1 bs) = let t = length-drop' 1 bs k.mirrors.size in omega arith in
       let d : Branch = record { parent = 0; shut = false } in
       let m = marks_at (drop 1 bs) 1 i d size in
       let q : (slice_index_or (drop 1 bs) i d).parent ≡ p = ap (λ b. b.parent) (at_drop 1 i d bs ∙ ap (λ n. slice_index_or bs n d) e) ∙ h d in
       let m' : IsAmong (c, p) (marks 1 (drop 1 bs)) = subst (λ y. IsAmong y (marks 1 (drop 1 bs))) (let z : (i + 1, (slice_index_or (drop 1 bs) i d).parent) ≡ (c, p) = (cc (e, q)) in z) m in
-      in_noted v.by (Open c p) v.events (in_opens c p (words v) (subst (λ l. IsAmong (c, p) l) (sym k.opens) m'))
+      in_noted v.by (Open c p) v.events (in_opens c p (words v) (subst (λ l. IsAmong (c, p) l) (sym k.mirrors.opens) m'))
 
   -- what is noted as opened is a scope of the tree
   pub noted_scope : (c p : ℕ) → Notes v.events v.by (Open c p) → (1 ≤ c) × (c < length bs) × ((d : Branch) → (slice_index_or bs c d).parent ≡ p)
   noted_scope c p n =
-      let t = marks_in (drop 1 bs) 1 c p (subst (λ l. IsAmong (c, p) l) k.opens (opens_in c p (words v) (noted_in v.by (Open c p) v.events n))) in
-      let l = length-drop' 1 bs k.size in let q = t.1 in let e = t.2 in
+      let t = marks_in (drop 1 bs) 1 c p (subst (λ l. IsAmong (c, p) l) k.mirrors.opens (opens_in c p (words v) (noted_in v.by (Open c p) v.events n))) in
+      let l = length-drop' 1 bs k.mirrors.size in let q = t.1 in let e = t.2 in
       (omega arith, (omega arith), λ d. ap (λ b. b.parent) (ap (λ n. slice_index_or bs n d) e ∙ sym (at_drop 1 t.0 d bs)) ∙ t.3 d)
 
   pub usable_scope : (s : ℕ) → IsUsable v.events v.by s → s < length bs
-  usable_scope s u = ⊎_elim (λ e. let z = k.size in omega arith) (λ o. (noted_scope s o.0 o.1).1) u.0
+  usable_scope s u = ⊎_elim (λ e. let z = k.mirrors.size in omega arith) (λ o. (noted_scope s o.0 o.1).1) u.0
 
   pub under_within : (s t : ℕ) → Under bs s t → LiesWithin v.events v.by t s
   under_within s t self = same s
   under_within s t (child c p one l sh pa u) = below c p s (noted_parent c p one l pa) (under_within s p u)
 
-  pub open_shut : (c : ℕ) (d : Branch) → c < length bs → (slice_index_or bs c d).shut ≡ false → ¬ (Notes v.events v.by (Close c))
-  open_shut c d l sh n = shut_not (sym (k.shut c d l ∙ in_has c (closes (words v)) (closes_in c (words v) (noted_in v.by (Close c) v.events n))) ∙ sh)
+  pub open_shut : (c : ℕ) (d : Branch) → c < length bs → (slice_index_or bs c d).shut ≡ false → ¬ (NotesClose v.events v.by c)
+  open_shut c d l sh n = shut_not (sym (k.mirrors.shut c d l ∙ in_has c (closes (words v)) (notes_closes v.events v.by c n)) ∙ sh)
 
   pub under_open : (s t : ℕ) → Under bs s t → ¬ (IsClosed v.events v.by s) → ¬ (IsClosed v.events v.by t)
   under_open s t self n x = n x
   under_open s t (child c p one l sh pa u) n x =
       let d : Branch = record { parent = 0; shut = false } in
       ⊎_elim
-      (λ e. open_shut c d l (sh d) (subst (λ a. Notes v.events v.by (Close a)) (sym e) x.2))
+      (λ e. open_shut c d l (sh d) (subst (λ a. NotesClose v.events v.by a) (sym e) x.2))
       (λ q. let o = noted_scope c q.0 q.1 in let e : q.0 ≡ p = sym (o.2 d) ∙ pa d in under_open s p u n (x.0, subst (λ a. LiesWithin v.events v.by a x.0) e q.2, x.2))
       (within_cases x.1)
 
-  pub no_own_close : (c : ℕ) (d : Branch) → c < length bs → ¬ (Notes v.events v.by (Close c)) → (slice_index_or bs c d).shut ≡ false
-  no_own_close c d l n = k.shut c d l ∙ not_true' (has c (closes (words v))) (λ h. n (in_noted v.by (Close c) v.events (in_closes c (words v) (has_in c (closes (words v)) h))))
+  pub no_own_close : (c : ℕ) (d : Branch) → c < length bs → ¬ (NotesClose v.events v.by c) → (slice_index_or bs c d).shut ≡ false
+  no_own_close c d l n = k.mirrors.shut c d l ∙ not_true' (has c (closes (words v))) (λ h. n (closes_notes v.events v.by c (has_in c (closes (words v)) h)))
 
   up_one : (r t p : ℕ) → t < length bs → 1 ≤ t → ((d : Branch) → (slice_index_or bs t d).parent ≡ p) → ((d : Branch) → (slice_index_or bs t d).shut ≡ false) → IsAmong r (whole bs hs t) → IsAmong r (whole bs hs p)
   up_one r t p l one pa sh m =
       let d : Branch = record { parent = 0; shut = false } in
-      let less : p < t = subst (λ z. z < t) (pa d) (k.parents t d one l) in
+      let less : p < t = subst (λ z. z < t) (pa d) (k.mirrors.parents t d one l) in
       let f = kids_from bs hs p (suc p) t (omega arith) in
       let h = kids_here bs hs p (suc t) t d refl l (pa d) (sh d) in
       among_left (lasts hs p) (subst (λ z. IsAmong r z) (sym (f.1 ∙ ap (λ z. z ++ f.0) h)) (among_left f.0 (among_right (kids (suc t) (drop (suc t) bs) hs p) m)))
@@ -182,7 +184,7 @@ module _ {P : Type 0} (v : View P) (bs : List Branch) (hs : List Held) (k : Kept
   inside r t s (same u) l n m = m
   inside r t s (below u p a o w) l n m =
       let z = noted_scope t p o in
-      let lp : p < length bs = (let d : Branch = record { parent = 0; shut = false } in let e = z.2 d in let q = k.parents t d z.0 l in omega arith) in
+      let lp : p < length bs = (let d : Branch = record { parent = 0; shut = false } in let e = z.2 d in let q = k.mirrors.parents t d z.0 l in omega arith) in
       inside r p s w lp (λ c. n (c.0, below t p c.0 o c.1, c.2))
       (up_one r t p l z.0 z.2 (λ d. no_own_close t d l (λ c. n (t, same t, c))) m)
 
@@ -190,30 +192,30 @@ module _ {P : Type 0} (v : View P) (bs : List Branch) (hs : List Held) (k : Kept
   pub whole_is : (s : ℕ) → s < length bs → whole bs hs s ≡ teardown (words v) s
   whole_is s l =
       let f : ℕ → Bool = λ c. has c (closes (words v)) in let d : Branch = record { parent = 0; shut = false } in
-      let up1 = kids_up bs hs s s d k.parents (omega arith) l in
-      let b1 = below_is 1 (drop 1 bs) hs f s (λ i d q. ap (λ b. b.shut) (at_drop 1 i d bs) ∙ k.shut (i + 1) d (let t = length-drop' 1 bs k.size in omega arith)) in
-      ap (λ l. l ++ lasts hs s) (sym up1 ∙ b1) ∙ ap (λ l. beneath (marks 1 (drop 1 bs)) f (held_pairs hs) s ++ l) (latest_is hs s) ∙ ap (λ l. beneath (marks 1 (drop 1 bs)) f l s ++ latest l s) (sym k.rows) ∙ ap (λ o. beneath o f (rows (words v)) s ++ latest (rows (words v)) s) (sym k.opens)
+      let up1 = kids_up bs hs s s d k.mirrors.parents (omega arith) l in
+      let b1 = below_is 1 (drop 1 bs) hs f s (λ i d q. ap (λ b. b.shut) (at_drop 1 i d bs) ∙ k.mirrors.shut (i + 1) d (let t = length-drop' 1 bs k.mirrors.size in omega arith)) in
+      ap (λ l. l ++ lasts hs s) (sym up1 ∙ b1) ∙ ap (λ l. beneath (marks 1 (drop 1 bs)) f (held_pairs hs) s ++ l) (latest_is hs s) ∙ ap (λ l. beneath (marks 1 (drop 1 bs)) f l s ++ latest l s) (sym k.mirrors.rows) ∙ ap (λ o. beneath o f (rows (words v)) s ++ latest (rows (words v)) s) (sym k.mirrors.opens)
 
   pub close_spare : (s : ℕ) → IsUsable v.events v.by s → 1 ≤ v.spare
-  close_spare s u = let o = k.spare in let c = one_open v s u in let p = open_pos (words v) (0 ∷ numbers (opens (words v))) s c.1 c.0 in omega arith
+  close_spare s u = let o = k.rests.spare in let c = one_open v s u in let p = open_pos (words v) (0 ∷ numbers (opens (words v))) s c.1 c.0 in omega arith
 
   pub close_count : (s : ℕ) → IsUsable v.events v.by s → length (whole bs hs s) ≤ length v.opened
-  close_count s u = fit_in (whole bs hs s) v.opened (distinct_whole hs k.distinct s bs) (λ r m. let w = whole_under bs hs r s (usable_scope s u) m in k.live r w.0 w.1 (under_open s w.0 w.2 u.1))
+  close_count s u = fit_in (whole bs hs s) v.opened (distinct_whole hs k.mirrors.distinct s bs) (λ r m. let w = whole_under bs hs r s (usable_scope s u) m in k.holds.live r w.0 w.1 (under_open s w.0 w.2 u.1))
 
-  pub close_ready : (s n : ℕ) → IsUsable v.events v.by s → Ready (noted v (record { stamp = n; by = v.by; what = Close s })) (whole bs hs s)
-  close_ready s n u =
-      let e : Event = record { stamp = n; by = v.by; what = Close s } in
+  pub close_can : (s n : ℕ) (x : Exit) → IsUsable v.events v.by s → CanRelease owner (whole bs hs s) (noted v (record { stamp = n; by = v.by; what = Close s x }))
+  close_can s n x u =
+      let e : Event = record { stamp = n; by = v.by; what = Close s x } in
       let l = usable_scope s u in
-      let row : (r : ℕ) → IsAmong r (whole bs hs s) → HasRow v.opened r = λ r m. let w = whole_under bs hs r s l m in k.live r w.0 w.1 (under_open s w.0 w.2 u.1) in
+      let row : (r : ℕ) → IsAmong r (whole bs hs s) → HasRow v.opened r = λ r m. let w = whole_under bs hs r s l m in k.holds.live r w.0 w.1 (under_open s w.0 w.2 u.1) in
       record {
-        distinct = distinct_whole hs k.distinct s bs;
-        closes = λ r m.
+        distinct = distinct_whole hs k.mirrors.distinct s bs;
+        rows = λ r m.
             let w = whole_under bs hs r s l m in (
               row r m,
-              (w.0, noted_more v.events e (in_noted v.by (Acquire r w.0) v.events (in_rows r w.0 (words v) (subst (λ l. IsAmong (r, w.0) l) (sym k.rows) w.1))), (s, within_more v.events e (under_within s w.0 w.2), noted_new v.events e)),
-              λ j a. let p = k.pairs j r a (row r m) in (p.0, noted_more v.events e p.1),
+              (w.0, noted_more v.events e (in_noted v.by (Acquire r w.0) v.events (in_rows r w.0 (words v) (subst (λ l. IsAmong (r, w.0) l) (sym k.mirrors.rows) w.1))), (s, within_more v.events e (under_within s w.0 w.2), (x, noted_new v.events e))),
+              λ j a. let p = k.lends.pairs j r a (row r m) in (p.0, noted_more v.events e p.1),
             );
-        handed = k.handed;
-        taken = k.taken;
-        spare = let f = fit_in (whole bs hs s) v.opened (distinct_whole hs k.distinct s bs) row in let o = k.spare in let c = one_open v s u in let p = open_pos (words v) (0 ∷ numbers (opens (words v))) s c.1 c.0 in omega (arith, f, o, p);
+        handed = k.rests.handed;
+        taken = k.rests.taken;
+        spare = let f = fit_in (whole bs hs s) v.opened (distinct_whole hs k.mirrors.distinct s bs) row in let o = k.rests.spare in let c = one_open v s u in let p = open_pos (words v) (0 ∷ numbers (opens (words v))) s c.1 c.0 in omega (arith, f, o, p);
       }

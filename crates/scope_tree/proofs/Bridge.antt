@@ -2,7 +2,7 @@
 use Rattle.std.proofs.Common.{◌≡◌, ℕ, ◌+◌, ◌<◌, ◌⊎◌, zero, suc, cond, List, [], ◌∷◌, ◌++◌, length, slice_index_or, inl, inr, refl, sym, ap, ◌∙◌, subst, ⊎_elim, arith}
 use Rattle.res_ledger.specs.declared.event.StreamNo.{StreamNo}
 use Rattle.res_ledger.specs.declared.event.What.{What}
-use Rattle.res_ledger.specs.declared.event.What.TheVariants.{Open, Acquire, Close}
+use Rattle.res_ledger.specs.declared.event.What.TheVariants.{Open, Acquire}
 use Rattle.res_ledger.specs.declared.event.Event.{Event}
 use Rattle.chunk_core.specs.Lists.{IsAmong}
 use Rattle.res_ledger.specs.Ledger.{Notes, LiesWithin}
@@ -16,7 +16,7 @@ use Rattle.scope_tree.specs.Kept.{marks}
 use Rattle.std.proofs.lemmas.Grind.{flat_map-append}
 use Rattle.res_ledger.proofs.Tests.{named}
 use Rattle.res_ledger.proofs.Scopes.{own_append}
-use Rattle.res_ledger.proofs.Noted.{own_notes, notes_own, flat_found, flat_holds, opens_shape, rows_shape, closes_shape}
+use Rattle.res_ledger.proofs.Noted.{own_notes, notes_own, flat_found, flat_holds, opens_shape, rows_shape}
 
 pub own_snoc : (k : StreamNo) (L : List Event) (e : Event) → e.by ≡ k → own k (L ++ e ∷ []) ≡ own k L ++ e.what ∷ []
 own_snoc k L e h = own_append k L (e ∷ []) ∙ ap (λ b. own k L ++ cond b (e.what ∷ []) []) (ap (λ a. same_stream a k) h ∙ named k)
@@ -47,12 +47,6 @@ in_rows r s E m = let f = flat_found rows_of E (r, s) m in subst (λ w. IsAmong 
 
 pub rows_in : (r s : ℕ) (E : List What) → IsAmong (Acquire r s) E → IsAmong (r, s) (rows E)
 rows_in r s E m = flat_holds rows_of (Acquire r s) E (r, s) m (here [])
-
-pub closes_in : (s : ℕ) (E : List What) → IsAmong (Close s) E → IsAmong s (closes E)
-closes_in s E m = flat_holds closes_of (Close s) E s m (here [])
-
-pub in_closes : (s : ℕ) (E : List What) → IsAmong s (closes E) → IsAmong (Close s) E
-in_closes s E m = let f = flat_found closes_of E s m in subst (λ w. IsAmong w E) (closes_shape f.0 s f.2) f.1
 
 pub marks_at : (bs : List Branch) (n i : ℕ) (d : Branch) → i < length bs → IsAmong (i + n, (slice_index_or bs i d).parent) (marks n bs)
 marks_at [] n i d l = absurd (omega arith)

@@ -3,7 +3,7 @@ use Rattle.std.proofs.Common.{◌≡◌, ◌≢◌, ℕ, ◌+◌, ◌-◌, ◌<�
 use Rattle.std.proofs.lemmas.Bool.{cases_eq}
 use Rattle.std.proofs.lemmas.List.{get_or_default}
 use Rattle.res_ledger.proofs.Tests.{any_at as any_at', any_found, and_true, both, either, itself, number, or_left, or_right}
-use Rattle.res_ledger.specs.declared.event.What.TheVariants.{Open, Acquire, Close}
+use Rattle.res_ledger.specs.declared.event.What.TheVariants.{Open, Acquire}
 use Rattle.row_seat.specs.declared.view.View.{View}
 use Rattle.chunk_core.specs.Lists.{IsAmong}
 use Rattle.res_ledger.specs.Ledger.{LiesWithin, IsClosed, IsCoveredBy, IsOpened}
@@ -14,8 +14,8 @@ use Rattle.scope_tree.specs.declared.branch.Branch.{Branch}
 use Rattle.scope_tree.specs.declared.branch.Held.{Held}
 use Rattle.scope_tree.specs.Kept.{marks, Kept}
 use Rattle.scope_tree.specs.Words.{words}
-use Rattle.scope_tree.proofs.Bridge.{noted_in, in_noted, in_opens, opens_in, in_rows, rows_in, closes_in, within_cases}
-use Rattle.res_ledger.proofs.Noted.{in_has, has_in}
+use Rattle.scope_tree.proofs.Bridge.{noted_in, in_noted, in_opens, opens_in, in_rows, rows_in, within_cases}
+use Rattle.res_ledger.proofs.Noted.{in_has, has_in, notes_closes}
 use Rattle.scope_tree.specs.Walks.{Clear, Shaded, StandsAbove}
 use Rattle.scope_tree.proofs.Walking.{clear_open, shaded_closed, stands_within, within_stands}
 use Rattle.scope_tree.proofs.Beneath.{noted_parent, any_at, closed_sound, up_within, among_turned, noted_scope, not_true', shut_not, length-drop', at_drop}
@@ -85,7 +85,7 @@ module _ {P : Type 0} (v : View P) (bs : List Branch) (hs : List Held) (k : Kept
       (⊎_elim
       (λ i. subst (λ z. IsAmong z (s ∷ up (down bs n) (slice_index_or bs (suc n) d).parent)) i (here (up (down bs n) (slice_index_or bs (suc n) d).parent)))
       (λ t. let o = noted_scope v bs hs k s t.0 t.1 in let same : (slice_index_or bs (suc n) d).parent ≡ t.0 = subst (λ z. (slice_index_or bs z d).parent ≡ t.0) (sym e) (o.2 d) in
-      let less = k.parents (suc n) d (omega arith) l in
+      let less = k.mirrors.parents (suc n) d (omega arith) l in
       there s (up_down n (slice_index_or bs (suc n) d).parent a (omega arith) (omega arith) (subst (λ z. LiesWithin v.events v.by z a) (sym same) t.2)))
       (within_cases w)))
       (λ ne. subst (λ b. IsAmong a (cond b (s ∷ up (down bs n) (slice_index_or bs (suc n) d).parent) (up (down bs n) s))) (sym (ne_eqb (suc n) s ne)) (up_down n s a (omega arith) (less_of s n (λ e. ne (sym e)) q) w))
@@ -94,14 +94,14 @@ module _ {P : Type 0} (v : View P) (bs : List Branch) (hs : List Held) (k : Kept
   -- a scope above s is found
   pub above_in : (s a : ℕ) → s < length bs → LiesWithin v.events v.by s a → IsAmong a (above (words v) s)
   above_in s a l w =
-      let n = length bs - 1 in let z = k.size in
-      subst (λ o. IsAmong a (up o s)) (sym (ap turned k.opens ∙ turned_marks bs k.size)) (up_down n s a (omega arith) (omega arith) w)
+      let n = length bs - 1 in let z = k.mirrors.size in
+      subst (λ o. IsAmong a (up o s)) (sym (ap turned k.mirrors.opens ∙ turned_marks bs k.mirrors.size)) (up_down n s a (omega arith) (omega arith) w)
 
   pub closed_complete : (s : ℕ) → s < length bs → IsClosed v.events v.by s → is_closed (words v) s ≡ true
-  closed_complete s l c = any_at (λ a. has a (closes (words v))) (above (words v) s) c.0 (above_in s c.0 l c.1) (in_has c.0 (closes (words v)) (closes_in c.0 (words v) (noted_in v.by (Close c.0) v.events c.2)))
+  closed_complete s l c = any_at (λ a. has a (closes (words v))) (above (words v) s) c.0 (above_in s c.0 l c.1) (in_has c.0 (closes (words v)) (notes_closes v.events v.by c.0 c.2))
 
   closed_range : (s : ℕ) → IsClosed v.events v.by s → s < length bs
-  closed_range s c = ⊎_elim (λ e. subst (λ z. z < length bs) (sym e) (k.ended c.0 (closes_in c.0 (words v) (noted_in v.by (Close c.0) v.events c.2)))) (λ t. (noted_scope v bs hs k s t.0 t.1).1) (within_cases c.1)
+  closed_range s c = ⊎_elim (λ e. subst (λ z. z < length bs) (sym e) (k.mirrors.ended c.0 (notes_closes v.events v.by c.0 c.2))) (λ t. (noted_scope v bs hs k s t.0 t.1).1) (within_cases c.1)
 
   -- the list has the rows that a Lease on s covers
   pub leased_is : (s r : ℕ) → s < length bs → IsAmong r (leased_rows (words v) s) ↔ IsCoveredBy v.events v.by s r
@@ -164,4 +164,4 @@ module _ {P : Type 0} (v : View P) (bs : List Branch) (hs : List Held) (k : Kept
   was_opened (suc t) l = inr ((slice_index_or bs (suc t) root).parent, noted_parent v bs hs k (suc t) (slice_index_or bs (suc t) root).parent (omega arith) l (λ d. ap (λ (y : Branch). y.parent) (get_or_default bs (suc t) d root l)))
 
   pub opened_range : (t : ℕ) → (t ≡ 0) ⊎ IsOpened v.events v.by t → t < length bs
-  opened_range t o = ⊎_elim (λ e. let z = k.size in omega (e, z, arith)) (λ o. (noted_scope v bs hs k t o.0 o.1).1) o
+  opened_range t o = ⊎_elim (λ e. let z = k.mirrors.size in omega (e, z, arith)) (λ o. (noted_scope v bs hs k t o.0 o.1).1) o

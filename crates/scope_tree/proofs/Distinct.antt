@@ -12,7 +12,7 @@ use Rattle.res_ledger.specs.Own.{has}
 use Rattle.row_seat.specs.Views.{HasRow}
 use Rattle.scope_tree.specs.declared.branch.Spent.{Spent}
 use Rattle.scope_tree.specs.Rows.{AreDistinct, Once, are_distinct, lifo, strangers}
-use Rattle.scope_tree.specs.Torn.{said}
+use Rattle.scope_tree.specs.Released.{said}
 use Rattle.scope_tree.proofs.Parts.{distinct_append}
 
 not_has : (x : ℕ) (xs : List ℕ) → ¬ (IsAmong x xs) → not (has x xs) ≡ true

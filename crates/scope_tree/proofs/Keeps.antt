@@ -1,48 +1,38 @@
 -- What a close keeps of a tree.
-use Rattle.std.proofs.Common.{◌≡◌, ◌≢◌, ℕ, ◌+◌, ◌<◌, ◌≤◌, ◌⊎◌, zero, suc, Bool, true, false, cond, eqb, ◌||◌, List, [], ◌∷◌, ◌++◌, length, drop, slice_index_or, slice_set, inl, inr, refl, sym, ap, ◌∙◌, subst, ⊎_elim, arith, append_assoc, append-nil, ne_eqb}
-use Rattle.res_ledger.specs.declared.event.StreamNo.{StreamNo}
-use Rattle.res_ledger.specs.declared.event.What.{What}
-use Rattle.res_ledger.specs.declared.event.What.TheVariants.{Open, Acquire, Lease, Close, Final}
-use Rattle.res_ledger.specs.declared.event.Event.{Event}
-use Rattle.row_seat.specs.declared.view.View.{View}
+use Rattle.std.proofs.Common.{◌≡◌, ◌≢◌, ℕ, ◌+◌, ◌<◌, ◌≤◌, ◌⊎◌, zero, suc, Bool, true, false, cond, eqb, ◌||◌, List, [], ◌∷◌, ◌++◌, length, drop, slice_index_or, slice_set, inl, inr, refl, sym, ap, ◌∙◌, subst, ⊎_elim, arith, append-nil, ne_eqb}
+use Rattle.std.specs.List.{list_any as any}
+use Rattle.std.proofs.lemmas.Bool.{cases_eq}
+use Rattle.std.proofs.lemmas.List.{get_or-set_same, get_or-set_other, length-set, get_or_default}
+use Rattle.chunk_core.specs.declared.code.Exit.{Exit}
 use Rattle.chunk_core.specs.Lists.{IsAmong}
-use Rattle.res_ledger.specs.Ledger.{Notes, LiesWithin, IsClosed, IsUsable}
-use Rattle.res_ledger.specs.Ledger.LiesWithin.{same, below}
 use Rattle.chunk_core.specs.Lists.IsAmong.{here}
 use Rattle.chunk_core.proofs.Members.{among_nil, among_cons, among_left, among_last, among_snoc}
-use Rattle.row_seat.specs.Views.{HasRow}
-use Rattle.res_ledger.proofs.Growth.{noted_more, noted_new, noted_snoc}
-use Rattle.res_ledger.specs.Own.{own, opens, rows, closes, has, up, above, is_closed, turned}
-use Rattle.std.specs.List.{list_any as any}
+use Rattle.res_ledger.specs.declared.event.Event.{Event}
+use Rattle.res_ledger.specs.declared.event.StreamNo.{StreamNo}
+use Rattle.res_ledger.specs.declared.event.What.{What}
+use Rattle.res_ledger.specs.declared.event.What.TheVariants.{Close}
+use Rattle.res_ledger.specs.Ledger.{LiesWithin, IsClosed, IsUsable, NotesClose}
+use Rattle.res_ledger.specs.Ledger.LiesWithin.{same, below}
 use Rattle.res_ledger.specs.Order.{finals}
+use Rattle.res_ledger.specs.Own.{opens, rows, closes, has, up, above, is_closed, turned}
+use Rattle.res_ledger.proofs.Noted.{closes_notes, has_in, in_has, notes_closes, notes_opens, opens_notes}
+use Rattle.row_seat.specs.declared.view.View.{View}
+use Rattle.row_seat.specs.Views.{HasRow}
 use Rattle.scope_tree.specs.declared.branch.Branch.{Branch}
 use Rattle.scope_tree.specs.declared.branch.Held.{Held}
 use Rattle.scope_tree.specs.declared.branch.Spent.{Spent}
-use Rattle.scope_tree.specs.Kids.{kids, whole}
-use Rattle.scope_tree.specs.Torn.{Ready, Torn, said}
 use Rattle.scope_tree.specs.Kept.{marks, Kept}
-use Rattle.scope_tree.specs.Words.{words, owed, closing, shutting, open_of, open_scopes, numbers}
+use Rattle.scope_tree.specs.Kids.{kids, whole}
+use Rattle.scope_tree.specs.Released.{CanRelease, Released, said}
+use Rattle.scope_tree.specs.Released.Holder.{owner}
+use Rattle.scope_tree.specs.Words.{words, owed, shutting, open_of, open_scopes, numbers}
+use Rattle.scope_tree.proofs.Beneath.{any_at, any_more, close_can, inside, noted_parent, one_open, under_within, up_self, usable_scope, whole_under}
+use Rattle.scope_tree.proofs.Bridge.{closes_append}
+use Rattle.scope_tree.proofs.Follows.{released_follows, same_empty}
+use Rattle.scope_tree.proofs.Grown.{Grown, closes_finals, grown_acquired, grown_closed, grown_noted, grown_opens, grown_release, grown_rows, lends_less, opens_finals, rows_finals, within_opens}
+use Rattle.scope_tree.proofs.Owning.{owner_count, owner_gone, owner_has}
 use Rattle.scope_tree.proofs.Parts.{among_right, pair_lasts, one_scope}
-use Rattle.scope_tree.proofs.Bridge.{own_snoc, opens_append, rows_append, closes_append}
-use Rattle.res_ledger.proofs.Noted.{in_has, has_in}
-use Rattle.std.proofs.lemmas.List.{get_or-set_same, get_or-set_other, length-set, get_or_default}
-use Rattle.std.proofs.lemmas.Bool.{cases_eq}
-use Rattle.scope_tree.proofs.Facts.{torn_words, torn_noted, torn_old, torn_has, torn_opened, torn_count, torn_spare, torn_pairs, torn_empty, torn_once, torn_gone}
-use Rattle.scope_tree.proofs.Taking.{torn_by, torn_length, torn_ready}
-use Rattle.scope_tree.proofs.Beneath.{any_at, any_more, close_ready, inside, noted_parent, one_open, under_within, up_self, usable_scope, whole_under}
-
--- no scope, row or close stands in Finals
-pub opens_finals : (fs : List (ℕ × Bool)) → opens (finals fs) ≡ []
-opens_finals [] = refl
-opens_finals (f ∷ fs) = opens_finals fs
-
-pub rows_finals : (fs : List (ℕ × Bool)) → rows (finals fs) ≡ []
-rows_finals [] = refl
-rows_finals (f ∷ fs) = rows_finals fs
-
-pub closes_finals : (fs : List (ℕ × Bool)) → closes (finals fs) ≡ []
-closes_finals [] = refl
-closes_finals (f ∷ fs) = closes_finals fs
+use Rattle.scope_tree.proofs.Releasing.{released_can, released_most, released_spare}
 
 marks_set : (bs : List Branch) (n s : ℕ) (b : Branch) → ((d : Branch) → s < length bs → (slice_index_or bs s d).parent ≡ b.parent) → marks n (slice_set bs s b) ≡ marks n bs
 marks_set [] n s b h = refl
@@ -85,132 +75,93 @@ open_one_less E F (x ∷ xs) s h m e f =
     ] refl)
     (among_cons m)
 
-pub noted_last : (L : List Event) (e : Event) (k : StreamNo) (u : What) → Notes (L ++ e ∷ []) k u → Notes L k u ⊎ (e.what ≡ u)
-noted_last L e k u n = ⊎_elim (λ m. inl m) (λ s. inr s.1) (noted_snoc L e k u n)
+module _ {P : Type 0} {ends : P → Exit → Bool → P → Type 0} {x : Exit} (v w : View P) (bs : List Branch) (hs : List Held) (ys : List (Spent P)) (s n : ℕ) (k : Kept v bs hs) (u : IsUsable v.events v.by s) (t : Released ends x owner (whole bs hs s) (shutting v s x n) ys w) where
+  pub close_grown : Grown v w (Close s x ∷ finals x (said ys))
+  close_grown = grown_release v n (Close s x) t
 
-pub within_opens : {L M : List Event} {k : StreamNo} {s a : ℕ} → ((c p : ℕ) → Notes L k (Open c p) → Notes M k (Open c p)) → LiesWithin L k s a → LiesWithin M k s a
-within_opens h (same s) = same s
-within_opens h (below s p a n w) = below s p a (h s p n) (within_opens h w)
+  pub opens_same : opens (words w) ≡ opens (words v)
+  opens_same = grown_opens close_grown (opens_finals x (said ys))
 
-pub open_final : (c p r : ℕ) (ok : Bool) → Open c p ≢ Final r ok
-open_final c p r ok e = cc
+  pub rows_same : rows (words w) ≡ rows (words v)
+  rows_same = grown_rows close_grown (rows_finals x (said ys))
 
-close_open : (s c p : ℕ) → Close s ≢ Open c p
-close_open s c p e = cc
+  closes_same : closes (words w) ≡ closes (words v) ++ s ∷ []
+  closes_same = ap closes close_grown.words ∙ closes_append (words v) (Close s x ∷ finals x (said ys)) ∙ ap (λ l. closes (words v) ++ s ∷ l) (closes_finals x (said ys))
 
-pub close_final : (c r : ℕ) (ok : Bool) → Close c ≢ Final r ok
-close_final c r ok e = cc
+  more_closed : (c : ℕ) → is_closed (words v) c ≡ true → is_closed (words w) c ≡ true
+  more_closed c h =
+      subst (λ o. any (λ a. has a (closes (words w))) (up (turned o) c) ≡ true) (sym opens_same)
+      (any_more (λ a. has a (closes (words v))) (λ a. has a (closes (words w))) (up (turned (opens (words v))) c) (λ a q. subst (λ l. has a l ≡ true) (sym closes_same) (has_append a (closes (words v)) (s ∷ []) q)) h)
 
-close_is : (s a : ℕ) → Close s ≡ Close a → a ≡ s
-close_is s a e = cc
+  now_closed : is_closed (words w) s ≡ true
+  now_closed = any_at (λ a. has a (closes (words w))) (above (words w) s) s (up_self (turned (opens (words w))) s) (subst (λ l. has s l ≡ true) (sym closes_same) (in_has s (closes (words v) ++ s ∷ []) (among_last (closes (words v)) s)))
 
-pub within_map : {L M : List Event} {k : StreamNo} {s a : ℕ} → ((w : What) → Notes L k w → Notes M k w) → LiesWithin L k s a → LiesWithin M k s a
-within_map h (same s) = same s
-within_map h (below s p a n w) = below s p a (h (Open s p) n) (within_map h w)
+  now_noted : NotesClose w.events w.by s
+  now_noted = closes_notes w.events w.by s (subst (λ l. IsAmong s l) (sym closes_same) (among_last (closes (words v)) s))
 
-close_not : (r s a : ℕ) → Close s ≢ Acquire r a
-close_not r s a e = cc
+  pub old_within : {c a : ℕ} → LiesWithin w.events w.by c a → LiesWithin v.events v.by c a
+  old_within l = within_opens (λ c p m. opens_notes v.events v.by (c, p) (subst (λ o. IsAmong (c, p) o) opens_same (notes_opens w.events w.by c p m))) l
 
-pub final_is_none : (r q s : ℕ) (ok : Bool) → Acquire r s ≢ Final q ok
-final_is_none r q s ok e = cc
-
-module _ {P : Type 0} {ends : P → Bool → P → Type 0} (v w : View P) (bs : List Branch) (hs : List Held) (xs : List (Spent P)) (s n : ℕ) (k : Kept v bs hs) (u : IsUsable v.events v.by s) where
-  pub closed_words : Torn ends (whole bs hs s) (shutting v s n) xs w → words w ≡ words v ++ Close s ∷ finals (said xs)
-  closed_words t = ap (λ b. own b w.events) (torn_by t) ∙ torn_words v.by t refl ∙ ap (λ l. l ++ finals (said xs)) (own_snoc v.by v.events (closing v s n) refl) ∙ append_assoc (words v) (Close s ∷ []) (finals (said xs))
-
-  pub opens_same : Torn ends (whole bs hs s) (shutting v s n) xs w → opens (words w) ≡ opens (words v)
-  opens_same t = ap opens (closed_words t) ∙ opens_append (words v) (Close s ∷ finals (said xs)) ∙ ap (λ l. opens (words v) ++ l) (opens_finals (said xs)) ∙ append-nil (opens (words v))
-
-  pub rows_same : Torn ends (whole bs hs s) (shutting v s n) xs w → rows (words w) ≡ rows (words v)
-  rows_same t = ap rows (closed_words t) ∙ rows_append (words v) (Close s ∷ finals (said xs)) ∙ ap (λ l. rows (words v) ++ l) (rows_finals (said xs)) ∙ append-nil (rows (words v))
-
-  closes_same : Torn ends (whole bs hs s) (shutting v s n) xs w → closes (words w) ≡ closes (words v) ++ s ∷ []
-  closes_same t = ap closes (closed_words t) ∙ closes_append (words v) (Close s ∷ finals (said xs)) ∙ ap (λ l. closes (words v) ++ s ∷ l) (closes_finals (said xs))
-
-  -- what was noted is noted
-  still : Torn ends (whole bs hs s) (shutting v s n) xs w → {j : StreamNo} (q : What) → Notes v.events j q → Notes w.events j q
-  still t q m = torn_noted t (noted_more v.events (closing v s n) m)
-
-  closed_still : Torn ends (whole bs hs s) (shutting v s n) xs w → (c : ℕ) → IsClosed v.events v.by c → IsClosed w.events v.by c
-  closed_still t c x = (x.0, within_map (still t) x.1, still t (Close x.0) x.2)
-
-  more_closed : Torn ends (whole bs hs s) (shutting v s n) xs w → (c : ℕ) → is_closed (words v) c ≡ true → is_closed (words w) c ≡ true
-  more_closed t c h =
-      subst (λ o. any (λ a. has a (closes (words w))) (up (turned o) c) ≡ true) (sym (opens_same t))
-      (any_more (λ a. has a (closes (words v))) (λ a. has a (closes (words w))) (up (turned (opens (words v))) c) (λ a q. subst (λ l. has a l ≡ true) (sym (closes_same t)) (has_append a (closes (words v)) (s ∷ []) q)) h)
-
-  now_closed : Torn ends (whole bs hs s) (shutting v s n) xs w → is_closed (words w) s ≡ true
-  now_closed t = any_at (λ a. has a (closes (words w))) (above (words w) s) s (up_self (turned (opens (words w))) s) (subst (λ l. has s l ≡ true) (sym (closes_same t)) (in_has s (closes (words v) ++ s ∷ []) (among_last (closes (words v)) s)))
-
-  pub old_within : Torn ends (whole bs hs s) (shutting v s n) xs w → {c a : ℕ} → LiesWithin w.events v.by c a → LiesWithin v.events v.by c a
-  old_within t x = within_opens (λ c p m. ⊎_elim (λ q. ⊎_elim (λ o. o) (λ o. absurd (close_open s c p o)) (noted_last v.events (closing v s n) v.by (Open c p) q)) (λ f. absurd (open_final c p f.0 f.1 f.2)) (torn_old t m)) x
-
-  pub old_close : Torn ends (whole bs hs s) (shutting v s n) xs w → (a : ℕ) → Notes w.events v.by (Close a) → Notes v.events v.by (Close a) ⊎ (a ≡ s)
-  old_close t a m = ⊎_elim (λ q. ⊎_elim (λ o. inl o) (λ o. inr (close_is s a o)) (noted_last v.events (closing v s n) v.by (Close a) q)) (λ f. absurd (close_final a f.0 f.1 f.2)) (torn_old t m)
+  pub old_close : (a : ℕ) → NotesClose w.events w.by a → NotesClose v.events v.by a ⊎ (a ≡ s)
+  old_close a m = ⊎_elim (λ i. inl (closes_notes v.events v.by a i)) (λ i. inr i) (among_snoc (closes (words v)) a s (subst (λ l. IsAmong a l) closes_same (notes_closes w.events w.by a m)))
 
   -- a scope less is open, at least
-  pub close_less : Torn ends (whole bs hs s) (shutting v s n) xs w → open_scopes (words w) + 1 ≤ open_scopes (words v)
-  close_less t =
+  pub close_less : open_scopes (words w) + 1 ≤ open_scopes (words v)
+  close_less =
       let d = one_open v s u in
-      let x : open_of (words w) (0 ∷ numbers (opens (words v))) + 1 ≤ open_scopes (words v) = open_one_less (words v) (words w) (0 ∷ numbers (opens (words v))) s (more_closed t) d.1 d.0 (now_closed t) in
-      let y : open_scopes (words w) ≡ open_of (words w) (0 ∷ numbers (opens (words v))) = ap (λ o. open_of (words w) (0 ∷ numbers o)) (opens_same t) in
+      let a : open_of (words w) (0 ∷ numbers (opens (words v))) + 1 ≤ open_scopes (words v) = open_one_less (words v) (words w) (0 ∷ numbers (opens (words v))) s more_closed d.1 d.0 now_closed in
+      let b : open_scopes (words w) ≡ open_of (words w) (0 ∷ numbers (opens (words v))) = ap (λ o. open_of (words w) (0 ∷ numbers o)) opens_same in
       omega arith
 
-  pub close_owed : Torn ends (whole bs hs s) (shutting v s n) xs w → owed w ≤ w.spare
-  close_owed t = let a = torn_count t in let b = torn_spare t in let c = torn_length t in let d = close_less t in let o = k.spare in omega arith
+  pub close_owed : owed w ≤ w.spare
+  close_owed = let a = owner_count t in let b = released_spare t in let c = released_most [] t in let d = close_less in let e = ap length (append-nil (whole bs hs s)) in let o = k.rests.spare in omega (a, b, c, d, e, o, arith)
 
-  pub close_keeps : Torn ends (whole bs hs s) (shutting v s n) xs w → (b : Branch) → ((d : Branch) → (slice_index_or bs s d).parent ≡ b.parent) → b.shut ≡ true → Kept w (slice_set bs s b) hs
-  close_keeps t b same_parent sh =
+  pub close_keeps : (b : Branch) → ((d : Branch) → (slice_index_or bs s d).parent ≡ b.parent) → b.shut ≡ true → Kept w (slice_set bs s b) hs
+  close_keeps b same_parent sh =
       let l = usable_scope v bs hs k s u in
-      let by : w.by ≡ v.by = torn_by t in
-      let len : (c : ℕ) → c < length (slice_set bs s b) → c < length bs = λ c q. let z = length-set bs s b in omega arith in
-      let rest = torn_ready {T' = []} t (subst (λ T. Ready (shutting v s n) T) (sym (append-nil (whole bs hs s))) (close_ready v bs hs k s n u)) in
-      record {
-        size = let z = length-set bs s b in let y = k.size in omega arith;
-        opens = opens_same t ∙ k.opens ∙ sym (marks_drop_set bs s b (λ d q. same_parent d));
-        shut = λ c d q. ⊎_elim
-            (λ i. subst (λ z. (slice_index_or (slice_set bs s b) z d).shut ≡ has z (closes (words w))) (sym i)
-            (ap (λ x. x.shut) (get_or-set_same bs s b d l) ∙ sh ∙ sym (subst (λ l. has s l ≡ true) (sym (closes_same t)) (in_has s (closes (words v) ++ s ∷ []) (among_last (closes (words v)) s)))))
-            (λ ne. ap (λ x. x.shut) (get_or-set_other bs s c b d ne) ∙ k.shut c d (len c q) ∙ sym (has_last c s (closes (words v)) ne) ∙ ap (has c) (sym (closes_same t)))
-            (cases_eq c s);
-        ended = λ c m. let z = length-set bs s b in ⊎_elim (λ q. let y = k.ended c q in omega arith) (λ q. omega arith) (among_snoc (closes (words v)) c s (subst (λ l. IsAmong c l) (closes_same t) m));
-        rows = rows_same t ∙ k.rows;
-        parents = λ c d one q. ⊎_elim
-            (λ i. subst (λ z. (slice_index_or (slice_set bs s b) z d).parent < c) (sym i) (subst (λ p. p < c) (same_parent d ∙ sym (ap (λ x. x.parent) (get_or-set_same bs s b d l))) (subst (λ z. (slice_index_or bs z d).parent < c) i (k.parents c d one (len c q)))))
-            (λ ne. subst (λ p. p < c) (sym (ap (λ x. x.parent) (get_or-set_other bs s c b d ne))) (k.parents c d one (len c q)))
-            (cases_eq c s);
-        distinct = k.distinct;
-        live = λ r c m no'.
-            let no'' : ¬ (IsClosed w.events v.by c) = λ x. no' (subst (λ z. IsClosed w.events z c) (sym by) x) in
-            torn_has r t
-            (λ i. let a = whole_under bs hs r s l i in let q : a.0 ≡ c = one_scope r a.0 c hs k.distinct a.1 m in
-            no'' (subst (λ z. IsClosed w.events v.by z) q (s, within_map (still t) (under_within v bs hs k s a.0 a.2), torn_noted t (noted_new v.events (closing v s n)))))
-            (k.live r c m (λ x. no'' (closed_still t c x)));
-        ranged = λ r c m. (let z = length-set bs s b in let q = k.ranged r c m in omega arith);
-        only = λ r h.
-            let y = k.only r (h.0, torn_opened (r, h.0) t h.1) in (
-              y.0,
-              y.1,
-              λ c.
-                  let c' : IsClosed w.events v.by y.0 = subst (λ z. IsClosed w.events z y.0) by c in
-                  let W = old_within t c'.1 in
-                  ⊎_elim
-                  (λ x. y.2 (c'.0, W, x))
-                  (λ x. torn_gone r t k.once (inside v bs hs k r y.0 s (subst (λ z. LiesWithin v.events v.by y.0 z) x W) (k.ranged r y.0 y.1) y.2 (among_right (kids (suc y.0) (drop (suc y.0) bs) hs y.0) (pair_lasts r y.0 hs y.1))) h)
-                  (old_close t c'.0 c'.2),
-            );
-        once = torn_once t k.once;
-        handed = rest.handed;
-        taken = rest.taken;
-        pairs = λ j r m h.
-            let a = k.pairs j r (subst (λ l. IsAmong (j, r) l) (torn_pairs t) m) (h.0, torn_opened (r, h.0) t h.1) in
-            (a.0, subst (λ z. Notes w.events z (Lease j a.0)) (sym by) (still t (Lease j a.0) a.1));
-        bare = λ j r m q. k.bare j r (subst (λ l. IsAmong (j, r) l) (torn_pairs t) m) (subst (λ l. IsAmong r l) (torn_empty t) q);
-        empty = λ r m a. ⊎_elim
-            (λ q. ⊎_elim (λ o. k.empty r (subst (λ l. IsAmong r l) (torn_empty t) m) (a.0, a.1, o)) (λ z. close_not r s a.1 z) (noted_last v.events (closing v s n) a.0 (Acquire r a.1) q))
-            (λ f. final_is_none r f.0 a.1 f.1 f.2)
-            (torn_old t a.2);
-        spare = close_owed t;
+      let f = released_follows t in let z = length-set bs s b in let m = k.mirrors in
+      let within : (c : ℕ) → c < length (slice_set bs s b) → c < length bs = λ c q. omega arith in
+      let rest : CanRelease owner [] w = released_can t (subst (λ T. CanRelease owner T (shutting v s x n)) (sym (append-nil (whole bs hs s))) (close_can v bs hs k s n x u)) in
+      let was : (r : ℕ) → HasRow w.opened r → HasRow v.opened r = λ r h. (h.0, f.opened (r, h.0) h.1) in record {
+        mirrors = record {
+          size = (let y = m.size in omega arith);
+          opens = opens_same ∙ m.opens ∙ sym (marks_drop_set bs s b (λ d q. same_parent d));
+          shut = λ c d q. ⊎_elim
+              (λ i. subst (λ y. (slice_index_or (slice_set bs s b) y d).shut ≡ has y (closes (words w))) (sym i)
+              (ap (λ y. y.shut) (get_or-set_same bs s b d l) ∙ sh ∙ sym (subst (λ y. has s y ≡ true) (sym closes_same) (in_has s (closes (words v) ++ s ∷ []) (among_last (closes (words v)) s)))))
+              (λ ne. ap (λ y. y.shut) (get_or-set_other bs s c b d ne) ∙ m.shut c d (within c q) ∙ sym (has_last c s (closes (words v)) ne) ∙ ap (has c) (sym closes_same))
+              (cases_eq c s);
+          ended = λ c i. ⊎_elim (λ q. let y = m.ended c q in omega arith) (λ q. omega arith) (among_snoc (closes (words v)) c s (subst (λ y. IsAmong c y) closes_same i));
+          rows = rows_same ∙ m.rows;
+          parents = λ c d one q. ⊎_elim
+              (λ i. subst (λ y. (slice_index_or (slice_set bs s b) y d).parent < c) (sym i) (subst (λ p. p < c) (same_parent d ∙ sym (ap (λ y. y.parent) (get_or-set_same bs s b d l))) (subst (λ y. (slice_index_or bs y d).parent < c) i (m.parents c d one (within c q)))))
+              (λ ne. subst (λ p. p < c) (sym (ap (λ y. y.parent) (get_or-set_other bs s c b d ne))) (m.parents c d one (within c q)))
+              (cases_eq c s);
+          distinct = m.distinct;
+          ranged = λ r c i. (let q = m.ranged r c i in omega arith);
+        };
+        holds = record {
+          live = λ r c i no'. owner_has r t
+              (λ a. let y = whole_under bs hs r s l a in
+              no' (subst (λ q. IsClosed w.events w.by q) (one_scope r y.0 c hs m.distinct y.1 i) (s, within_opens (λ a p i. grown_noted close_grown i) (under_within v bs hs k s y.0 y.2), now_noted)))
+              (k.holds.live r c i (λ y. no' (grown_closed close_grown c y)));
+          only = λ r h. let y = k.holds.only r (was r h) in (
+            y.0,
+            y.1,
+            λ c. let W = old_within c.1 in ⊎_elim
+                (λ i. y.2 (c.0, W, i))
+                (λ i. owner_gone r t k.holds.once (inside v bs hs k r y.0 s (subst (λ q. LiesWithin v.events v.by y.0 q) i W) (m.ranged r y.0 y.1) y.2 (among_right (kids (suc y.0) (drop (suc y.0) bs) hs y.0) (pair_lasts r y.0 hs y.1))) h)
+                (old_close c.0 c.2),
+          );
+          once = f.once k.holds.once;
+        };
+        lends = lends_less v w f.pairs was (λ r i. subst (λ y. IsAmong r y) (same_empty f) i) (λ j c i. grown_noted close_grown i) k.lends;
+        rests = record {
+          handed = rest.handed;
+          taken = rest.taken;
+          empty = λ r i a. k.rests.empty r (subst (λ y. IsAmong r y) (same_empty f) i) (grown_acquired close_grown (rows_finals x (said ys)) r a);
+          spare = close_owed;
+        };
       }
 
 pub within_trans : {L : List Event} {k : StreamNo} {s t a : ℕ} → LiesWithin L k s t → LiesWithin L k t a → LiesWithin L k s a
@@ -224,7 +175,7 @@ module _ {P : Type 0} (v : View P) (bs : List Branch) (hs : List Held) (k : Kept
   under_root zero (suc t) q l = absurd (omega arith)
   under_root (suc n) (suc t) q l =
       let d : Branch = record { parent = 0; shut = false } in let p = (slice_index_or bs (suc t) d).parent in
-      let less = k.parents (suc t) d (omega arith) l in
+      let less = k.mirrors.parents (suc t) d (omega arith) l in
       below (suc t) p 0 (noted_parent v bs hs k (suc t) p (omega arith) l (λ e. ap (λ b. b.parent) (get_or_default bs (suc t) e d l))) (under_root n p (omega arith) (omega arith))
 
   -- where the root is closed each scope is
@@ -237,4 +188,4 @@ module _ {P : Type 0} (v : View P) (bs : List Branch) (hs : List Held) (k : Kept
 
   -- where the root is closed nothing is open
   pub nothing_open : IsClosed v.events v.by 0 → v.opened ≡ []
-  nothing_open c = open_none v.opened (λ r h. let y = k.only r h in y.2 (root_closes y.0 (k.ranged r y.0 y.1) c))
+  nothing_open c = open_none v.opened (λ r h. let y = k.holds.only r h in y.2 (root_closes y.0 (k.mirrors.ranged r y.0 y.1) c))

@@ -1,30 +1,28 @@
 -- What a lease keeps of a tree.
-use Rattle.std.proofs.Common.{◌≡◌, ◌≢◌, ℕ, ◌+◌, ◌<◌, ◌≤◌, suc, Bool, true, false, cond, take, List, [], ◌∷◌, ◌++◌, length, slice_index_or, inr, refl, sym, ap, ◌∙◌, subst, ⊎_elim, arith, append-nil}
+use Rattle.std.proofs.Common.{◌≡◌, ◌≢◌, ℕ, ◌+◌, ◌<◌, ◌≤◌, suc, Bool, true, false, cond, take, List, [], ◌∷◌, ◌++◌, length, slice_index_or, inr, refl, sym, ap, ◌∙◌, subst, ⊎_elim, arith}
 use Rattle.chunk_core.specs.Lists.{IsAmong}
 use Rattle.chunk_core.specs.Lists.IsAmong.{here, there}
 use Rattle.chunk_core.proofs.Filters.{among_append, among_right}
 use Rattle.chunk_core.proofs.Members.{among_nil, among_cons}
-use Rattle.res_ledger.specs.declared.event.What.{What}
-use Rattle.res_ledger.specs.declared.event.What.TheVariants.{Open, Acquire, Lease, Close}
+use Rattle.res_ledger.specs.declared.event.What.TheVariants.{Acquire, Lease}
 use Rattle.res_ledger.specs.declared.event.StreamNo.TheVariants.{Inner}
 use Rattle.res_ledger.specs.Ledger.{IsClosed, IsLeased, IsUsable, Notes}
-use Rattle.res_ledger.specs.Own.{closes, has, leased_rows, opens, picked, reaches, rows}
-use Rattle.res_ledger.proofs.Growth.{noted_more, noted_new, noted_snoc}
-use Rattle.res_ledger.proofs.Ledgers.{closed_map}
+use Rattle.res_ledger.specs.Own.{leased_rows, picked, reaches}
+use Rattle.res_ledger.proofs.Growth.{noted_more, noted_new}
 use Rattle.row_seat.specs.declared.view.View.{View}
 use Rattle.row_seat.specs.Views.{HasRow, IsFresh, MayNote, noted}
 use Rattle.scope_tree.specs.declared.branch.Branch.{Branch}
 use Rattle.scope_tree.specs.declared.branch.Held.{Held}
 use Rattle.scope_tree.specs.declared.branch.Spent.{Spent}
-use Rattle.scope_tree.specs.Kept.{Kept, Shelved, held_pairs, held_rows}
-use Rattle.scope_tree.specs.Leaving.{leased_all, pairs_for}
+use Rattle.scope_tree.specs.Kept.{Kept, Lends, Shelved, held_pairs, held_rows}
+use Rattle.scope_tree.specs.Leased.{leased_all, pairs_for}
 use Rattle.scope_tree.specs.Rows.{AreDistinct}
-use Rattle.scope_tree.specs.Words.{leasing, numbers, open_of, open_scopes, owed, words}
-use Rattle.scope_tree.proofs.Bridge.{closes_append, noted_in, opens_append, own_snoc, rows_append, rows_in}
+use Rattle.scope_tree.specs.Words.{leasing, owed, words}
+use Rattle.scope_tree.proofs.Bridge.{noted_in, rows_in}
 use Rattle.scope_tree.proofs.Covered.{leased_is}
-use Rattle.scope_tree.proofs.Grows.{closed_same, pairs_snoc}
+use Rattle.scope_tree.proofs.Grown.{Grown, grown_back, grown_note, kept_still}
+use Rattle.scope_tree.proofs.Grows.{pairs_snoc}
 use Rattle.scope_tree.proofs.Beneath.{usable_scope}
-use Rattle.scope_tree.proofs.Keeps.{noted_last, within_opens}
 use Rattle.scope_tree.proofs.Leasing.{among_pairs, pairs_among, take_next}
 use Rattle.scope_tree.proofs.Rooms.{open_taken}
 use Rattle.scope_tree.proofs.Shelf.{note_shelved}
@@ -48,23 +46,14 @@ picked_distinct : (f : ℕ → Bool) (hs : List Held) → AreDistinct (held_rows
 picked_distinct f [] d = tt
 picked_distinct f (h ∷ hs) d = elim (f h.scope) as (λ b. AreDistinct (cond b (h.row ∷ picked f (held_pairs hs)) (picked f (held_pairs hs)))) [ true ↦ ((λ m. d.0 (picked_held f hs h.row m)), picked_distinct f hs d.1) | false ↦ picked_distinct f hs d.1 ]
 
-lease_open : (j c s p : ℕ) → Lease j c ≢ Open s p
-lease_open j c s p e = cc
-
-lease_close : (j c s : ℕ) → Lease j c ≢ Close s
-lease_close j c s e = cc
-
-lease_acquire : (j c r s : ℕ) → Lease j c ≢ Acquire r s
-lease_acquire j c r s e = cc
-
 module _ {P : Type 0} (v : View P) (bs : List Branch) (hs : List Held) (xs : List (Spent P)) (k : Kept v bs hs) (s : Shelved v hs xs) (c j : ℕ) (u : IsUsable v.events v.by c) where
   pub lease_rows_open : (r : ℕ) → IsAmong r (leased_rows (words v) c) → HasRow v.opened r
   lease_rows_open r m =
       let t = (leased_is v bs hs k c r (usable_scope v bs hs k c u)).0 m in
-      k.live r t.0 (subst (λ l. IsAmong (r, t.0) l) k.rows (rows_in r t.0 (words v) (noted_in v.by (Acquire r t.0) v.events t.1))) t.3
+      k.holds.live r t.0 (subst (λ l. IsAmong (r, t.0) l) k.mirrors.rows (rows_in r t.0 (words v) (noted_in v.by (Acquire r t.0) v.events t.1))) t.3
 
   pub lease_distinct : AreDistinct (leased_rows (words v) c)
-  lease_distinct = subst (λ l. AreDistinct (picked (reaches (words v) c) l)) (sym k.rows) (picked_distinct (reaches (words v) c) hs k.distinct)
+  lease_distinct = subst (λ l. AreDistinct (picked (reaches (words v) c) l)) (sym k.mirrors.rows) (picked_distinct (reaches (words v) c) hs k.mirrors.distinct)
 
   pub lease_none : v.by ≢ Inner j → ¬ (IsLeased v.events j) → (r : ℕ) → ¬ (IsAmong (j, r) v.pairs)
   lease_none by no' r m = ⊎_elim (λ e. by e) (λ y. no' (v.by, y.0, y.1)) (s.leased j r m)
@@ -90,50 +79,23 @@ module _ {P : Type 0} (v : View P) (bs : List Branch) (hs : List Held) (xs : Lis
     abbrev w : View P
     w = noted (leased_all v j T) (leasing v j c n)
 
-    said_words : words w ≡ words v ++ Lease j c ∷ []
-    said_words = own_snoc v.by v.events (leasing v j c n) refl
-
-    same_opens : opens (words w) ≡ opens (words v)
-    same_opens = ap opens said_words ∙ opens_append (words v) (Lease j c ∷ []) ∙ append-nil (opens (words v))
-
-    same_rows : rows (words w) ≡ rows (words v)
-    same_rows = ap rows said_words ∙ rows_append (words v) (Lease j c ∷ []) ∙ append-nil (rows (words v))
-
-    same_closes : closes (words w) ≡ closes (words v)
-    same_closes = ap closes said_words ∙ closes_append (words v) (Lease j c ∷ []) ∙ append-nil (closes (words v))
-
-    old : (x : What) → Lease j c ≢ x → Notes w.events v.by x → Notes v.events v.by x
-    old x ne m = ⊎_elim (λ y. y) (λ y. absurd (ne y)) (noted_last v.events (leasing v j c n) v.by x m)
+    lease_grown : Grown v w (Lease j c ∷ [])
+    lease_grown = let g = grown_note v n (Lease j c) in record { words = g.words; acquired = g.acquired }
 
     pub lease_back : (t : ℕ) → IsClosed w.events v.by t → IsClosed v.events v.by t
-    lease_back t y = (y.0, within_opens (λ a b m. old (Open a b) (lease_open j c a b) m) y.1, old (Close y.0) (lease_close j c y.0) y.2)
+    lease_back t y = grown_back lease_grown refl refl t y
 
-    more : (x : What) → Notes v.events v.by x → Notes w.events v.by x
-    more x m = noted_more v.events (leasing v j c n) m
-
-    pub lease_keeps : owed v + 2 ≤ v.spare → Kept w bs hs
-    lease_keeps f = record {
-      size = k.size;
-      opens = same_opens ∙ k.opens;
-      shut = λ t b l. k.shut t b l ∙ ap (has t) (sym same_closes);
-      ended = λ t m. k.ended t (subst (λ l. IsAmong t l) same_closes m);
-      rows = same_rows ∙ k.rows;
-      parents = k.parents;
-      distinct = k.distinct;
-      live = λ r t m y. k.live r t m (λ z. y (closed_map v.events w.events v.by more t z));
-      ranged = k.ranged;
-      only = λ r h. let y = k.only r h in (y.0, y.1, λ z. y.2 (lease_back y.0 z));
-      once = k.once;
-      handed = k.handed;
-      taken = k.taken;
+    lease_lends : Lends w
+    lease_lends = record {
       pairs = λ i r m h. ⊎_elim
-          (λ o. let y = k.pairs i r o h in (y.0, more (Lease i y.0) y.1))
+          (λ o. let y = k.lends.pairs i r o h in (y.0, noted_more v.events (leasing v j c n) y.1))
           (λ o. (c, subst (λ z. Notes w.events v.by (Lease z c)) (sym (pairs_among j i r T o).0) (noted_new v.events (leasing v j c n))))
           (among_append (i, r) v.pairs (pairs_for j T) m);
-      bare = λ i r m q. ⊎_elim (λ o. k.bare i r o q) (λ o. open_taken v bs hs k r (open_row i r o) q) (among_append (i, r) v.pairs (pairs_for j T) m);
-      empty = λ r m a. k.empty r m (⊎_elim (λ y. (a.0, a.1, y)) (λ y. absurd (lease_acquire j c r a.1 y.1)) (noted_snoc v.events (leasing v j c n) a.0 (Acquire r a.1) a.2));
-      spare = let x : open_scopes (words w) ≡ open_scopes (words v) = ap (λ l. open_of (words w) (0 ∷ numbers l)) same_opens ∙ closed_same (words v) (words w) (0 ∷ numbers (opens (words v))) same_opens same_closes in omega (x, f, arith);
+      bare = λ i r m q. ⊎_elim (λ o. k.lends.bare i r o q) (λ o. open_taken v bs hs k r (open_row i r o) q) (among_append (i, r) v.pairs (pairs_for j T) m);
     }
+
+    pub lease_keeps : owed v + 2 ≤ v.spare → Kept w bs hs
+    lease_keeps f = kept_still v w lease_grown refl refl refl refl (λ r m. m) k.rests.handed k.rests.taken (omega (f, arith)) lease_lends k
 
     pub lease_shelved : IsFresh v n → Shelved w hs xs
     lease_shelved f =

@@ -9,7 +9,7 @@ use Rattle.res_ledger.specs.declared.event.StreamNo.TheVariants.{Inner}
 use Rattle.row_seat.specs.declared.view.View.{View}
 use Rattle.row_seat.specs.Views.{CanLease, HasRow, leased}
 use Rattle.scope_tree.specs.Rows.{AreDistinct}
-use Rattle.scope_tree.specs.Leaving.{leased_all, pairs_for}
+use Rattle.scope_tree.specs.Leased.{leased_all, pairs_for}
 
 pub take_next : {A : Type 0} (xs : List A) (i k : ℕ) (d : A) → k ≡ suc i → i < length xs → take k xs ≡ take i xs ++ slice_index_or xs i d ∷ []
 take_next [] i k d e l = absurd (omega arith)

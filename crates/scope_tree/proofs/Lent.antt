@@ -16,6 +16,7 @@ use Rattle.scope_tree.specs.Kept.{Kept, Shelved}
 use Rattle.scope_tree.specs.Lending.{lent}
 use Rattle.scope_tree.specs.Rows.{Once}
 use Rattle.scope_tree.specs.Trees.{Fits, IsSound, seen}
+use Rattle.scope_tree.proofs.Grown.{holds_same, lends_less}
 
 module _ {P : Type 0} (r : ℕ) (w : P) where
   pub has_with : (xs : List (ℕ × P)) (q : ℕ) → HasRow xs q → HasRow (with_row r w xs) q
@@ -64,23 +65,10 @@ module _ {P : Type 0} (r : ℕ) (w : P) where
 
   pub paid_keeps : (v : View P) (bs : List Branch) (hs : List Held) → Kept v bs hs → Kept (paid v r w) bs hs
   paid_keeps v bs hs k = record {
-    size = k.size;
-    opens = k.opens;
-    shut = k.shut;
-    ended = k.ended;
-    rows = k.rows;
-    parents = k.parents;
-    distinct = k.distinct;
-    live = λ q t m n. has_with v.opened q (k.live q t m n);
-    ranged = k.ranged;
-    only = λ q h. k.only q (with_has v.opened q h);
-    once = once_with v.opened k.once;
-    handed = k.handed;
-    taken = k.taken;
-    pairs = λ j q m h. k.pairs j q m (with_has v.opened q h);
-    bare = k.bare;
-    empty = k.empty;
-    spare = let l = length_with v.opened in let s = k.spare in omega (l, s, arith);
+    mirrors = k.mirrors;
+    holds = holds_same v (paid v r w) (λ q t m. ((λ c. c), (λ c. c))) (λ q. (has_with v.opened q, with_has v.opened q)) (once_with v.opened k.holds.once) k.holds;
+    lends = lends_less v (paid v r w) (λ y m. m) (with_has v.opened) (λ q m. m) (λ j s m. m) k.lends;
+    rests = record { handed = k.rests.handed; taken = k.rests.taken; empty = k.rests.empty; spare = let l = length_with v.opened in let s = k.rests.spare in omega (l, s, arith) };
   }
 
   pub paid_shelved : (v : View P) (hs : List Held) (xs : List (Spent P)) → Shelved v hs xs → Shelved (paid v r w) hs xs

@@ -29,7 +29,7 @@ pub nothing_owed : {P : Type 0} (v : View P) (bs : List Branch) (hs : List Held)
 nothing_owed v bs hs k c =
     let shut : (s : ℕ) → s < length bs → is_closed (words v) s ≡ true = λ s l. closed_complete v bs hs k s l (root_closes v bs hs k s l c) in
     let a : open_scopes (words v) ≡ 0 = none_open (words v) (0 ∷ numbers (opens (words v))) (λ s m. ⊎_elim
-    (λ e. shut s (let z = k.size in omega (e, z, arith)))
+    (λ e. shut s (let z = k.mirrors.size in omega (e, z, arith)))
     (λ n. let t = number_among s (opens (words v)) n in shut s (noted_scope v bs hs k s t.0 (in_noted v.by (Open s t.0) v.events (in_opens s t.0 (words v) t.1))).1)
     (among_cons m)) in
     let b : length v.opened ≡ 0 = ap length (nothing_open v bs hs k c) in omega (a, b, arith)

@@ -1,5 +1,6 @@
 -- What splitting a seat off and taking it in again keep of a tree.
 use Rattle.std.proofs.Common.{◌≡◌, ◌≢◌, ℕ, ◌+◌, ◌-◌, ◌<◌, ◌≤◌, ◌⊎◌, zero, suc, Bool, true, false, cond, not, eqb, List, [], ◌∷◌, ◌++◌, inl, inr, refl, sym, ap, ◌∙◌, subst, ⊎_elim, arith, append-nil}
+use Rattle.chunk_core.specs.declared.code.Exit.{Exit}
 use Rattle.chunk_core.specs.Lists.{IsAmong}
 use Rattle.chunk_core.specs.Lists.IsAmong.{here, there}
 use Rattle.chunk_core.proofs.Members.{among_nil, among_cons, among_left}
@@ -9,14 +10,14 @@ use Rattle.res_ledger.specs.declared.event.StreamNo.{StreamNo}
 use Rattle.res_ledger.specs.declared.event.StreamNo.TheVariants.{Inner}
 use Rattle.res_ledger.specs.declared.event.What.{What}
 use Rattle.res_ledger.specs.declared.event.What.TheVariants.{Open, Acquire, Lease, Cancel, Close, Final}
-use Rattle.res_ledger.specs.Ledger.{IsAcquired, IsClosed, Notes}
+use Rattle.res_ledger.specs.Ledger.{IsAcquired, Notes, NotesFinal}
 use Rattle.res_ledger.specs.Order.{firsts}
-use Rattle.res_ledger.specs.Own.{closes, has, opens, own, rows}
+use Rattle.res_ledger.specs.Own.{closes, opens, own, rows}
 use Rattle.res_ledger.specs.Streams.{same_stream}
 use Rattle.res_ledger.specs.Streams.{by_stream}
-use Rattle.res_ledger.proofs.Ledgers.{by_both, by_none, closed_map}
-use Rattle.res_ledger.proofs.Noted.{flat_found, notes_own, own_notes}
-use Rattle.res_ledger.proofs.Orders.{Rises}
+use Rattle.res_ledger.proofs.Ledgers.{by_both, by_none}
+use Rattle.res_ledger.proofs.Noted.{flat_found, own_notes}
+use Rattle.res_ledger.specs.Rising.{Rises}
 use Rattle.res_ledger.proofs.Scopes.{own_append}
 use Rattle.res_ledger.proofs.Tests.{name}
 use Rattle.row_seat.specs.declared.view.View.{View}
@@ -26,8 +27,9 @@ use Rattle.scope_tree.specs.declared.branch.Held.{Held}
 use Rattle.scope_tree.specs.declared.branch.Spent.{Spent}
 use Rattle.scope_tree.specs.Calls.{AtStart}
 use Rattle.scope_tree.specs.Kept.{Kept, Shelved}
-use Rattle.scope_tree.specs.Torn.{said}
-use Rattle.scope_tree.specs.Words.{ended_rows, ends_of, numbers, open_of, open_scopes, owed, words}
+use Rattle.scope_tree.specs.Released.{said}
+use Rattle.scope_tree.specs.Words.{ended_rows, ends_of, open_scopes, owed, words}
+use Rattle.scope_tree.proofs.Grown.{closed_like, holds_same, lends_less, mirrors_same}
 use Rattle.scope_tree.proofs.Parts.{eqb_eq}
 
 run_among : (r n k : ℕ) → IsAmong r (run n k) → (n ≤ r) × (r < n + k)
@@ -35,25 +37,18 @@ run_among r n zero m = absurd (among_nil m)
 run_among r n (suc k) m = ⊎_elim (λ e. (omega (e, arith), omega (e, arith))) (λ i. let t = run_among r (suc n) k i in let a = t.0 in let b = t.1 in (omega (a, arith), omega (b, arith))) (among_cons m)
 
 module _ {P : Type 0} (v : View P) (bs : List Branch) (hs : List Held) (xs : List (Spent P)) (k : Kept v bs hs) (s : Shelved v hs xs) (j from to n : ℕ) where
+  fewer_pairs : (y : ℕ × ℕ) → IsAmong y (split_main v j from to n).pairs → IsAmong y v.pairs
+  fewer_pairs y m = (among_filter (λ x. not (eqb x.0 j)) y v.pairs m).0
+
+  fewer_empty : (r : ℕ) → IsAmong r (split_main v j from to n).empty → IsAmong r v.empty
+  fewer_empty r m = (among_filter (λ r. not (within from to r)) r v.empty m).0
+
   pub split_keeps : owed v + n ≤ v.spare → Kept (split_main v j from to n) bs hs
   split_keeps f = record {
-    size = k.size;
-    opens = k.opens;
-    shut = k.shut;
-    ended = k.ended;
-    rows = k.rows;
-    parents = k.parents;
-    distinct = k.distinct;
-    live = k.live;
-    ranged = k.ranged;
-    only = k.only;
-    once = k.once;
-    handed = k.handed;
-    taken = k.taken;
-    pairs = λ i r m h. k.pairs i r (among_filter (λ x. not (eqb x.0 j)) (i, r) v.pairs m).0 h;
-    bare = λ i r m q. k.bare i r (among_filter (λ x. not (eqb x.0 j)) (i, r) v.pairs m).0 (among_filter (λ r. not (within from to r)) r v.empty q).0;
-    empty = λ r m. k.empty r (among_filter (λ r. not (within from to r)) r v.empty m).0;
-    spare = omega (f, arith);
+    mirrors = k.mirrors;
+    holds = record { live = k.holds.live; only = k.holds.only; once = k.holds.once };
+    lends = lends_less v (split_main v j from to n) fewer_pairs (λ r h. h) fewer_empty (λ i s m. m) k.lends;
+    rests = record { handed = k.rests.handed; taken = k.rests.taken; empty = λ r m. k.rests.empty r (fewer_empty r m); spare = omega (f, arith) };
   }
 
   pub split_shelved : Shelved (split_main v j from to n) hs xs
@@ -61,9 +56,9 @@ module _ {P : Type 0} (v : View P) (bs : List Branch) (hs : List Held) (xs : Lis
     said_are = s.said_are;
     distinct = s.distinct;
     opened = s.opened;
-    pairs = λ i r m. s.pairs i r (among_filter (λ x. not (eqb x.0 j)) (i, r) v.pairs m).0;
-    empty = λ r m. s.empty r (among_filter (λ r. not (within from to r)) r v.empty m).0;
-    leased = λ i r m. s.leased i r (among_filter (λ x. not (eqb x.0 j)) (i, r) v.pairs m).0;
+    pairs = λ i r m. s.pairs i r (fewer_pairs (i, r) m);
+    empty = λ r m. s.empty r (fewer_empty r m);
+    leased = λ i r m. s.leased i r (fewer_pairs (i, r) m);
     ended = s.ended;
     rises = s.rises;
   }
@@ -74,7 +69,7 @@ module _ {P : Type 0} (v : View P) (bs : List Branch) (hs : List Held) (xs : Lis
     opened = refl;
     handed = refl;
     taken = refl;
-    bare = λ i r m q. (let a = run_among r from (to - from) q in let b = a.0 in let d = a.1 in k.bare i r (among_filter (λ x. eqb x.0 j) (i, r) v.pairs m).0 (c.3 r (b, omega (b, d, arith))).0);
+    bare = λ i r m q. (let a = run_among r from (to - from) q in let b = a.0 in let d = a.1 in k.lends.bare i r (among_filter (λ x. eqb x.0 j) (i, r) v.pairs m).0 (c.3 r (b, omega (b, d, arith))).0);
     leased = λ i r m. ap Inner (sym (eqb_eq i j (among_filter (λ x. eqb x.0 j) (i, r) v.pairs m).1));
     spare = one;
   }
@@ -87,20 +82,21 @@ first_said : (r : ℕ) (fs : List (ℕ × Bool)) → IsAmong r (firsts fs) → (
 first_said r [] m = absurd (among_nil m)
 first_said r (f ∷ fs) m = ⊎_elim (λ e. (f.1, subst (λ z. IsAmong (z, f.1) (f ∷ fs)) (sym e) (here fs))) (λ n. let t = first_said r fs n in (t.0, there f t.1)) (among_cons m)
 
-ends_shape : (w : What) (f : ℕ × Bool) → IsAmong f (ends_of w) → w ≡ Final f.0 f.1
+ends_shape : (w : What) (f : ℕ × Bool) → IsAmong f (ends_of w) → (x : Exit) × (w ≡ Final f.0 x f.1)
 ends_shape (Open s p) f m = absurd (among_nil m)
 ends_shape (Acquire r s) f m = absurd (among_nil m)
 ends_shape (Lease j s) f m = absurd (among_nil m)
-ends_shape (Cancel j) f m = absurd (among_nil m)
-ends_shape (Close s) f m = absurd (among_nil m)
-ends_shape (Final r ok) f m = ⊎_elim (λ e. let q : ℕ × Bool = (r, ok) in ap (λ (y : ℕ × Bool). Final y.0 y.1) (sym e)) (λ n. absurd (among_nil n)) (among_cons m)
+ends_shape (Cancel j x) f m = absurd (among_nil m)
+ends_shape (Close s x) f m = absurd (among_nil m)
+ends_shape (Final r x ok) f m = ⊎_elim (λ e. let q : ℕ × Bool = (r, ok) in (x, ap (λ (y : ℕ × Bool). Final y.0 x y.1) (sym e))) (λ n. absurd (among_nil n)) (among_cons m)
 
 module _ {P : Type 0} where
   -- what is on the shelf has its Final
-  pub shelf_final : (v : View P) (hs : List Held) (xs : List (Spent P)) → Shelved v hs xs → (r : ℕ) → IsAmong r (firsts (said xs)) → (ok : Bool) × Notes v.events v.by (Final r ok)
+  pub shelf_final : (v : View P) (hs : List Held) (xs : List (Spent P)) → Shelved v hs xs → (r : ℕ) → IsAmong r (firsts (said xs)) → (ok : Bool) × NotesFinal v.events v.by r ok
   shelf_final v hs xs s r m =
       let t = first_said r (said xs) m in let f = flat_found ends_of (words v) (r, t.0) (subst (λ l. IsAmong (r, t.0) l) (sym s.said_are) t.1) in
-      (t.0, own_notes v.events v.by (Final r t.0) (subst (λ w. IsAmong w (words v)) (ends_shape f.0 (r, t.0) f.2) f.1))
+      let e = ends_shape f.0 (r, t.0) f.2 in
+      (t.0, (e.0, own_notes v.events v.by (Final r e.0 t.0) (subst (λ w. IsAmong w (words v)) e.1 f.1)))
 
   -- a seat that is taken in notes nothing in the name of the main one
   pub join_words : (v w : View P) → AreApart v w → words (joined v w) ≡ words v
@@ -110,41 +106,31 @@ module _ {P : Type 0} (v w : View P) (bs : List Branch) (hs : List Held) (xs : L
   same_words : words (joined v w) ≡ words v
   same_words = join_words v w a
 
-  down : (u : What) → Notes (v.events ++ w.events) v.by u → Notes v.events v.by u
-  down u n = own_notes v.events v.by u (subst (λ l. IsAmong u l) same_words (notes_own (v.events ++ w.events) v.by u n))
-
   up : (u : What) → Notes v.events v.by u → Notes (v.events ++ w.events) v.by u
   up u n = (n.0, among_left w.events n.1, n.2, n.3)
-
-  back : (c : ℕ) → IsClosed (v.events ++ w.events) v.by c → IsClosed v.events v.by c
-  back c x = closed_map (v.events ++ w.events) v.events v.by down c x
 
   acquired : (r : ℕ) → IsAcquired (v.events ++ w.events) r → IsAcquired v.events r ⊎ IsAcquired w.events r
   acquired r x = ⊎_elim (λ m. inl (x.0, x.1, (x.2.0, m, x.2.2, x.2.3))) (λ m. inr (x.0, x.1, (x.2.0, m, x.2.2, x.2.3))) (among_append x.2.0 v.events w.events x.2.1)
 
   pub join_keeps : Kept (joined v w) bs hs
-  join_keeps = record {
-    size = k.size;
-    opens = ap opens same_words ∙ k.opens;
-    shut = λ c d l. k.shut c d l ∙ ap (λ E. has c (closes E)) (sym same_words);
-    ended = λ c m. k.ended c (subst (λ E. IsAmong c (closes E)) same_words m);
-    rows = ap rows same_words ∙ k.rows;
-    parents = k.parents;
-    distinct = k.distinct;
-    live = λ r t m n. k.live r t m (λ c. n (closed_map v.events (v.events ++ w.events) v.by up t c));
-    ranged = k.ranged;
-    only = λ r h. let y = k.only r h in (y.0, y.1, λ c. y.2 (back y.0 c));
-    once = k.once;
-    handed = k.handed;
-    taken = k.taken;
-    pairs = λ j r m h. let y = k.pairs j r m h in (y.0, up (Lease j y.0) y.1);
-    bare = λ j r m q. ⊎_elim (λ i. k.bare j r m i) (λ i. (a.vacant r i).1 j m) (among_append r v.empty w.empty q);
-    empty = λ r m x. ⊎_elim
-        (λ i. k.empty r i (⊎_elim (λ y. y) (λ y. a.kept r i y) (acquired r x)))
-        (λ i. rest.1 r i (⊎_elim (λ y. a.taken r i y) (λ y. y) (acquired r x)))
-        (among_append r v.empty w.empty m);
-    spare = let e : open_scopes (words (joined v w)) ≡ open_scopes (words v) = ap (λ E. open_of E (0 ∷ numbers (opens E))) same_words in let o = k.spare in omega (e, o, arith);
-  }
+  join_keeps =
+      let o = ap opens same_words in let c = ap closes same_words in record {
+        mirrors = mirrors_same o (ap rows same_words) c k.mirrors;
+        holds = holds_same v (joined v w) (λ r t m. (closed_like v (joined v w) (sym o) (sym c) t, closed_like (joined v w) v o c t)) (λ r. ((λ h. h), (λ h. h))) k.holds.once k.holds;
+        lends = record {
+          pairs = λ j r m h. let y = k.lends.pairs j r m h in (y.0, up (Lease j y.0) y.1);
+          bare = λ j r m q. ⊎_elim (λ i. k.lends.bare j r m i) (λ i. (a.vacant r i).1 j m) (among_append r v.empty w.empty q);
+        };
+        rests = record {
+          handed = k.rests.handed;
+          taken = k.rests.taken;
+          empty = λ r m x. ⊎_elim
+              (λ i. k.rests.empty r i (⊎_elim (λ y. y) (λ y. a.kept r i y) (acquired r x)))
+              (λ i. rest.1 r i (⊎_elim (λ y. a.taken r i y) (λ y. y) (acquired r x)))
+              (among_append r v.empty w.empty m);
+          spare = let e : open_scopes (words (joined v w)) ≡ open_scopes (words v) = ap open_scopes same_words in let o = k.rests.spare in omega (e, o, arith);
+        };
+      }
 
   pub join_shelved : Shelved (joined v w) hs xs
   join_shelved = record {

@@ -12,17 +12,16 @@ use Rattle.row_seat.specs.Views.{HasRow}
 use Rattle.scope_tree.specs.declared.branch.Branch.{Branch}
 use Rattle.scope_tree.specs.declared.branch.Held.{Held}
 use Rattle.scope_tree.specs.declared.branch.Spent.{Spent}
-use Rattle.scope_tree.specs.Leaving.{away, is_here}
+use Rattle.scope_tree.specs.Released.{away, is_here}
 use Rattle.scope_tree.specs.Rows.{AreDistinct, lifo, strangers}
-use Rattle.scope_tree.specs.Torn.{said}
+use Rattle.scope_tree.specs.Released.{said}
 use Rattle.scope_tree.specs.Words.{numbers, own_rows, words}
 use Rattle.scope_tree.specs.Kept.{Kept, Shelved, held_pairs, held_rows}
 use Rattle.scope_tree.proofs.Bridge.{in_noted, in_rows}
 use Rattle.scope_tree.proofs.Distinct.{distinct_filter, kin, kin_among, kin_count, length_open, length_said, once_distinct, open_row, open_rows, strangers_append}
-use Rattle.scope_tree.proofs.Facts.{fit_in}
 use Rattle.scope_tree.proofs.Grows.{length_pairs, pair_of_row}
 use Rattle.scope_tree.proofs.Parts.{distinct_append, numbers_held, row_of_pair}
-use Rattle.scope_tree.proofs.Quitting.{away_append}
+use Rattle.scope_tree.proofs.Lists.{away_append, fit_in}
 
 pub strangers_none : (own T : List ℕ) → ((r : ℕ) → IsAmong r T → IsAmong r own) → strangers own T ≡ 0
 strangers_none own [] h = refl
@@ -55,21 +54,21 @@ strangers_filter own f (r ∷ T) =
 
 module _ {P : Type 0} (v : View P) (bs : List Branch) (hs : List Held) (k : Kept v bs hs) where
   pub own_is : own_rows v ≡ held_rows hs
-  own_is = ap numbers k.rows ∙ numbers_held hs
+  own_is = ap numbers k.mirrors.rows ∙ numbers_held hs
 
   pub rows_count : length (rows (words v)) ≡ length hs
-  rows_count = ap length k.rows ∙ length_pairs hs
+  rows_count = ap length k.mirrors.rows ∙ length_pairs hs
 
   -- the rows that are used, by what the tree keeps
   pub used_is : (F : List ℕ) → length (rows (words v)) + strangers (own_rows v) F ≡ length hs + strangers (held_rows hs) F
-  used_is F = ap (λ n. n + strangers (own_rows v) F) (ap length k.rows ∙ length_pairs hs) ∙ ap (λ l. length hs + strangers l F) own_is
+  used_is F = ap (λ n. n + strangers (own_rows v) F) (ap length k.mirrors.rows ∙ length_pairs hs) ∙ ap (λ l. length hs + strangers l F) own_is
 
   pub open_held : (r : ℕ) → HasRow v.opened r → IsAmong r (held_rows hs)
-  open_held r h = let t = k.only r h in row_of_pair r t.0 hs t.1
+  open_held r h = let t = k.holds.only r h in row_of_pair r t.0 hs t.1
 
   -- an open row isn't empty
   pub open_taken : (r : ℕ) → HasRow v.opened r → ¬ (IsAmong r v.empty)
-  open_taken r h m = let t = k.only r h in k.empty r m (v.by, t.0, in_noted v.by (Acquire r t.0) v.events (in_rows r t.0 (words v) (subst (λ l. IsAmong (r, t.0) l) (sym k.rows) t.1)))
+  open_taken r h m = let t = k.holds.only r h in k.rests.empty r m (v.by, t.0, in_noted v.by (Acquire r t.0) v.events (in_rows r t.0 (words v) (subst (λ l. IsAmong (r, t.0) l) (sym k.mirrors.rows) t.1)))
 
   fits_held : (T : List ℕ) → AreDistinct T → ((r : ℕ) → IsAmong r T → IsAmong r (held_rows hs)) → length T ≤ length hs
   fits_held T d h = let f = fit_in T (held_pairs hs) d (λ r m. pair_of_row r hs (h r m)) in let l = length_pairs hs in omega arith
@@ -79,7 +78,7 @@ module _ {P : Type 0} (v : View P) (bs : List Branch) (hs : List Held) (k : Kept
     pub shelf_count : length xs + length v.opened ≤ length hs + strangers (held_rows hs) (firsts (said xs))
     shelf_count =
         let F = firsts (said xs) in let own = held_rows hs in let A = kin own F in let B = open_rows v.opened in
-        let d = distinct_append A B (distinct_filter (λ r. has r own) F s.distinct) (once_distinct v.opened k.once) (λ r m n. s.opened r (open_row v.opened r n) (kin_among own F r m).0) in
+        let d = distinct_append A B (distinct_filter (λ r. has r own) F s.distinct) (once_distinct v.opened k.holds.once) (λ r m n. s.opened r (open_row v.opened r n) (kin_among own F r m).0) in
         let f = fits_held (A ++ B) d (λ r m. ⊎_elim (λ a. (kin_among own F r a).1) (λ b. open_held r (open_row v.opened r b)) (among_append r A B m)) in
         let a = kin_count own F in let b = length_said xs in let c = length_open v.opened in let e = length-append A B in omega (f, a, b, c, e, arith)
 

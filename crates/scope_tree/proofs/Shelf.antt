@@ -1,38 +1,40 @@
 -- What a step keeps of a tree's shelf.
-use Rattle.std.proofs.Common.{◌≡◌, ◌≢◌, ℕ, ◌<◌, ◌⊎◌, Bool, true, false, cond, List, [], ◌∷◌, ◌++◌, inl, inr, refl, sym, ap, ◌∙◌, subst, ⊎_elim, append_assoc, append-nil}
+use Rattle.std.proofs.Common.{◌≡◌, ℕ, ◌<◌, ◌⊎◌, Bool, true, false, cond, List, [], ◌∷◌, ◌++◌, inl, inr, refl, sym, ap, ◌∙◌, subst, ⊎_elim, append_assoc, append-nil}
 use Rattle.std.proofs.lemmas.Grind.{flat_map-append}
+use Rattle.chunk_core.specs.declared.code.Exit.{Exit}
 use Rattle.chunk_core.specs.Lists.{IsAmong}
 use Rattle.chunk_core.specs.Lists.IsAmong.{here, there}
-use Rattle.chunk_core.proofs.Members.{among_nil, among_cons, among_left, among_last, among_snoc}
+use Rattle.chunk_core.proofs.Filters.{among_append, among_right}
+use Rattle.chunk_core.proofs.Members.{among_nil, among_cons, among_left, among_snoc}
 use Rattle.res_ledger.specs.declared.event.Event.{Event}
 use Rattle.res_ledger.specs.declared.event.StreamNo.{StreamNo}
 use Rattle.res_ledger.specs.declared.event.What.{What}
-use Rattle.res_ledger.specs.declared.event.What.TheVariants.{Final, Lease}
-use Rattle.res_ledger.specs.Ledger.{Notes}
+use Rattle.res_ledger.specs.declared.event.What.TheVariants.{Final}
 use Rattle.res_ledger.specs.Order.{firsts}
-use Rattle.res_ledger.specs.Own.{own}
 use Rattle.std.proofs.lemmas.Bool.{cases_eq}
 use Rattle.res_ledger.specs.Streams.{by_stream, same_stream}
 use Rattle.res_ledger.proofs.Growth.{noted_more}
 use Rattle.res_ledger.proofs.Ledgers.{by_both, by_in, stream_same}
-use Rattle.res_ledger.proofs.Orders.{Rises}
+use Rattle.res_ledger.specs.Rising.{Rises}
+use Rattle.row_seat.specs.declared.view.Left.{Left}
+use Rattle.row_seat.specs.declared.view.Left.TheVariants.{Stays, Yours}
 use Rattle.row_seat.specs.declared.view.View.{View}
-use Rattle.row_seat.specs.Views.{HasPair, HasRow, IsFresh, noted, without_pair, without_row}
+use Rattle.row_seat.specs.Views.{HasPair, HasRow, IsFresh, noted, without_pair}
 use Rattle.scope_tree.specs.declared.branch.Held.{Held}
 use Rattle.scope_tree.specs.declared.branch.Spent.{Spent}
 use Rattle.scope_tree.specs.Rows.{AreDistinct, Once}
-use Rattle.scope_tree.specs.Torn.{Torn, ended, said}
-use Rattle.scope_tree.specs.Torn.Torn.{done, stays, ends_so}
-use Rattle.scope_tree.specs.Leaving.{CanLeaveAll, Quits, ended_lease}
-use Rattle.scope_tree.specs.Leaving.Quits.{done as quit, stays as leaves, ends_so as ends_lease}
+use Rattle.scope_tree.specs.Released.{CanLetGo, CanRelease, Holder, LetsGo, Released, finalized, said}
+use Rattle.scope_tree.specs.Released.Holder.{owner, lease}
+use Rattle.scope_tree.specs.Released.Released.{done, stays, ends_so}
 use Rattle.scope_tree.specs.Words.{ended_rows, ends_of, words}
 use Rattle.scope_tree.specs.Kept.{Shelved}
 use Rattle.scope_tree.proofs.Bridge.{own_snoc}
 use Rattle.scope_tree.proofs.Distinct.{firsts_append, said_append}
-use Rattle.scope_tree.proofs.Once.{gone_without, once_without}
+use Rattle.scope_tree.proofs.Once.{gone_without}
 use Rattle.scope_tree.proofs.Parts.{distinct_append}
-use Rattle.scope_tree.proofs.Quitting.{can_ends, can_stays, lose_pair, lost_pair}
-use Rattle.scope_tree.proofs.Taking.{keep_row, lose_row}
+use Rattle.scope_tree.proofs.Follows.{Follows, end_follows, follows_mine, follows_then, go_follows, let_go, same_by, same_empty, same_main}
+use Rattle.scope_tree.proofs.Lists.{keep_row, lose_pair, lost_pair}
+use Rattle.scope_tree.proofs.Releasing.{can_ends, can_stays}
 
 pub rises_snoc : (L : List Event) (e : Event) → Rises L → ((x : Event) → IsAmong x L → x.stamp < e.stamp) → Rises (L ++ e ∷ [])
 rises_snoc [] e r h = ((λ x m. absurd (among_nil m)), tt)
@@ -66,63 +68,73 @@ module _ {P : Type 0} where
         rises = rises_next v n w f k.rises;
       }
 
-  -- a row ends
-  end_shelved : (v w : View P) (hs : List Held) (xs : List (Spent P)) (x : Spent P) (n : ℕ) → let e : Event = record { stamp = n; by = v.by; what = Final x.row x.ok } in w.by ≡ v.by → w.main ≡ v.main → w.events ≡ v.events ++ e ∷ [] → ((q : ℕ) → HasRow w.opened q → HasRow v.opened q) → ((q : ℕ) → HasRow v.opened q → HasRow w.opened q ⊎ (q ≡ x.row)) → ¬ (HasRow w.opened x.row) → ((y : ℕ × ℕ) → IsAmong y w.pairs → IsAmong y v.pairs) → ¬ (HasPair w x.row) → w.empty ≡ v.empty → ¬ (IsAmong x.row v.empty) → ¬ (IsAmong x.row (firsts (said xs))) → IsFresh v n → Shelved v hs xs → Shelved w hs (xs ++ x ∷ [])
-  end_shelved v w hs xs x n by main events fewer back closed pairs alone empty out new f k =
-      let e : Event = record { stamp = n; by = v.by; what = Final x.row x.ok } in
-      let all : firsts (said (xs ++ x ∷ [])) ≡ firsts (said xs) ++ x.row ∷ [] = ap firsts (said_append xs (x ∷ [])) ∙ firsts_append (said xs) ((x.row, x.ok) ∷ []) in
-      let none : (q : ℕ) → ¬ (IsAmong q (firsts (said xs))) → q ≢ x.row → ¬ (IsAmong q (firsts (said (xs ++ x ∷ [])))) = λ q a b m. ⊎_elim a b (among_snoc (firsts (said xs)) q x.row (subst (λ l. IsAmong q l) all m)) in record {
-        said_are = ap (λ L. ended_rows (own w.by L)) events ∙ ap (λ b. ended_rows (own b (v.events ++ e ∷ []))) by ∙ ended_next v n (Final x.row x.ok) ∙ ap (λ l. l ++ (x.row, x.ok) ∷ []) k.said_are ∙ sym (said_append xs (x ∷ []));
-        distinct = subst AreDistinct (sym all) (distinct_append (firsts (said xs)) (x.row ∷ []) k.distinct (among_nil, tt) (λ q a b. ⊎_elim (λ i. new (subst (λ z. IsAmong z (firsts (said xs))) i a)) among_nil (among_cons b)));
-        opened = λ q h. none q (k.opened q (fewer q h)) (λ i. closed (subst (λ z. HasRow w.opened z) i h));
-        pairs = λ j q m. none q (k.pairs j q (pairs (j, q) m)) (λ i. alone (j, subst (λ z. IsAmong (j, z) w.pairs) i m));
-        empty = λ q m. let m' = subst (λ l. IsAmong q l) empty m in none q (k.empty q m') (λ i. out (subst (λ z. IsAmong z v.empty) i m'));
-        leased = λ j r m. ⊎_elim (λ b. inl (by ∙ b)) (λ s. inr (s.0, subst (λ b. Notes w.events b (Lease j s.0)) (sym by) (subst (λ L. Notes L v.by (Lease j s.0)) (sym events) (noted_more v.events e s.1)))) (k.leased j r (pairs (j, r) m));
+  -- what was neither open nor leased isn't after
+  still_out : {v w : View P} → Follows v w → ((r : ℕ) → HasRow v.opened r ⊎ HasPair v r → ¬ (IsAmong r v.empty)) → (r : ℕ) → HasRow w.opened r ⊎ HasPair w r → ¬ (IsAmong r w.empty)
+  still_out f out r a m = out r (⊎_elim (λ o. inl (o.0, f.opened (r, o.0) o.1)) (λ p. inr (p.0, f.pairs (p.0, r) p.1)) a) (subst (λ z. IsAmong r z) (same_empty f) m)
+
+  -- who lets a row go has it open, or has a lease on it
+  holds_or : (h : Holder) (v : View P) (r : ℕ) → CanLetGo h v r → HasRow v.opened r ⊎ HasPair v r
+  holds_or owner v r c = inl c.0
+  holds_or (lease j) v r c = inr (j, c.0)
+
+  -- a row that is let go alone leaves the open rows
+  open_or : (h : Holder) (v u : View P) (r q : ℕ) (a : Left) → LetsGo h v r a u → HasRow v.opened q → HasRow u.opened q ⊎ (q ≡ r)
+  open_or owner v u r q a l o = ⊎_elim (λ e. inr e) (λ ne. inl (o.0, subst (λ x. IsAmong (q, o.0) x) (sym (let_go owner v r a u l).opened) (keep_row r q o.0 v.opened o.1 ne))) (cases_eq q r)
+  open_or (lease j) v u r q a l o = inl (subst (λ x. HasRow x q) (sym (let_go (lease j) v r a u l).opened) o)
+
+  -- what stays at a seat that isn't the main one stays open
+  stays_open : (h : Holder) (v u : View P) (r q : ℕ) → LetsGo h v r Stays u → v.main ≡ false → HasRow v.opened q → HasRow u.opened q
+  stays_open owner v u r q l no' o = absurd (let z : true ≡ false = sym l.3.0 ∙ no' in cc)
+  stays_open (lease j) v u r q l no' o = subst (λ x. HasRow x q) (sym (let_go (lease j) v r Stays u l).opened) o
+
+  -- a row that is handed over is neither open here nor leased
+  handed_bare : (h : Holder) (v u : View P) (r : ℕ) → Once v.opened → LetsGo h v r Yours u → ¬ (HasRow u.opened r) × ¬ (HasPair u r)
+  handed_bare owner v u r once l = let g = let_go owner v r Yours u l in (
+    (λ o. gone_without r v.opened once (subst (λ x. HasRow x r) g.opened o)),
+    λ p. l.3 (p.0, subst (λ x. IsAmong (p.0, r) x) g.pairs p.1),
+  )
+  handed_bare (lease j) v u r once l = let g = let_go (lease j) v r Yours u l in (
+    (λ o. l.2.closed (subst (λ x. HasRow x r) g.opened o)),
+    λ p.
+        let m = subst (λ x. IsAmong (p.0, r) x) g.pairs p.1 in
+        lost_pair j r v.pairs (subst (λ i. IsAmong (i, r) (without_pair j r v.pairs)) (l.2.alone p.0 (lose_pair j r (p.0, r) v.pairs m)) m),
+  )
+
+  -- from v to w the rows of ys ended
+  went_shelved : (v w : View P) (hs : List Held) (xs ys : List (Spent P)) → Follows v w → ended_rows (words w) ≡ ended_rows (words v) ++ said ys → AreDistinct (firsts (said ys)) → ((r : ℕ) → IsAmong r (firsts (said ys)) → ¬ (HasRow w.opened r) × ¬ (HasPair w r) × ¬ (IsAmong r v.empty) × ¬ (IsAmong r (firsts (said xs)))) → ((q : ℕ) → v.main ≡ false → HasRow v.opened q → HasRow w.opened q ⊎ IsAmong q (firsts (said ys))) → Rises (by_stream w.by w.events) → Shelved v hs xs → Shelved w hs (xs ++ ys)
+  went_shelved v w hs xs ys f words_are once bare back rises k =
+      let all : firsts (said (xs ++ ys)) ≡ firsts (said xs) ++ firsts (said ys) = ap firsts (said_append xs ys) ∙ firsts_append (said xs) (said ys) in
+      let cases : (q : ℕ) → IsAmong q (firsts (said (xs ++ ys))) → IsAmong q (firsts (said xs)) ⊎ IsAmong q (firsts (said ys)) = λ q m. among_append q (firsts (said xs)) (firsts (said ys)) (subst (λ z. IsAmong q z) all m) in
+      let on : (q : ℕ) → IsAmong q (firsts (said xs) ++ firsts (said ys)) → IsAmong q (firsts (said (xs ++ ys))) = λ q m. subst (λ z. IsAmong q z) (sym all) m in record {
+        said_are = words_are ∙ ap (λ z. z ++ said ys) k.said_are ∙ sym (said_append xs ys);
+        distinct = subst AreDistinct (sym all) (distinct_append (firsts (said xs)) (firsts (said ys)) k.distinct once (λ q a m. (bare q m).3 a));
+        opened = λ q o m. ⊎_elim (k.opened q (o.0, f.opened (q, o.0) o.1)) (λ i. (bare q i).0 o) (cases q m);
+        pairs = λ j q p m. ⊎_elim (k.pairs j q (f.pairs (j, q) p)) (λ i. (bare q i).1 (j, p)) (cases q m);
+        empty = λ q e m. let i = subst (λ z. IsAmong q z) (same_empty f) e in ⊎_elim (k.empty q i) (λ y. (bare q y).2 i) (cases q m);
+        leased = λ j q p. ⊎_elim (λ b. inl (same_by f ∙ b)) (λ s. inr (s.0, follows_mine f s.1)) (k.leased j q (f.pairs (j, q) p));
         ended = λ m q t i. ⊎_elim
-            (λ o. ⊎_elim (λ a. inl a) (λ a. inr (subst (λ l. IsAmong q l) (sym all) (subst (λ z. IsAmong z (firsts (said xs) ++ x.row ∷ [])) (sym a) (among_last (firsts (said xs)) x.row)))) (back q o))
-            (λ o. inr (subst (λ l. IsAmong q l) (sym all) (among_left (x.row ∷ []) o)))
-            (k.ended (sym main ∙ m) q t i);
-        rises = subst (λ L. Rises (by_stream w.by L)) (sym events) (subst (λ b. Rises (by_stream b (v.events ++ e ∷ []))) (sym by) (rises_next v n (Final x.row x.ok) f k.rises));
+            (λ o. ⊎_elim (λ h. inl h) (λ h. inr (on q (among_right q (firsts (said xs)) (firsts (said ys)) h))) (back q (sym (same_main f) ∙ m) o))
+            (λ o. inr (on q (among_left (firsts (said ys)) o)))
+            (k.ended (sym (same_main f) ∙ m) q t i);
+        rises = rises;
       }
 
-  keeps_or : (r q : ℕ) (xs : List (ℕ × P)) → HasRow xs q → HasRow (without_row r xs) q ⊎ (q ≡ r)
-  keeps_or r q xs h = ⊎_elim (λ e. inr e) (λ ne. inl (h.0, keep_row r q h.0 xs h.1 ne)) (cases_eq q r)
-
-  module _ {ends : P → Bool → P → Type 0} (hs : List Held) where
-    pub torn_shelved : {T : List ℕ} {v w : View P} {ys : List (Spent P)} (xs : List (Spent P)) → Torn ends T v ys w → Once v.opened → ((r : ℕ) → HasRow v.opened r → ¬ (IsAmong r v.empty)) → Shelved v hs xs → Shelved w hs (xs ++ ys)
-    torn_shelved xs (done v) o a k = subst (λ l. Shelved v hs l) (sym (append-nil xs)) k
-    torn_shelved xs (stays v r p m st t) o a k =
-        torn_shelved xs t (once_without r v.opened o) (λ q h. a q (h.0, lose_row r (q, h.0) v.opened h.1)) (record {
-          said_are = k.said_are;
-          distinct = k.distinct;
-          opened = λ q h. k.opened q (h.0, lose_row r (q, h.0) v.opened h.1);
-          pairs = k.pairs;
-          empty = k.empty;
-          leased = k.leased;
-          ended = λ f. absurd (let z : true ≡ false = sym st.0 ∙ f in cc);
-          rises = k.rises;
-        })
-    torn_shelved {w = w} xs (ends_so {xs = ys} v p n x m al e f t) o a k =
-        subst (λ l. Shelved w hs l) (append_assoc xs (x ∷ []) ys)
-        (torn_shelved (xs ++ x ∷ []) t (once_without x.row v.opened o) (λ q h. a q (h.0, lose_row x.row (q, h.0) v.opened h.1))
-        (end_shelved v (ended v x.row p n x.ok) hs xs x n refl refl refl (λ q h. (h.0, lose_row x.row (q, h.0) v.opened h.1)) (λ q h. keeps_or x.row q v.opened h) (gone_without x.row v.opened o) (λ y i. i) al refl (a x.row (p, m)) (k.opened x.row (p, m)) f k))
-
-    pub quits_shelved : {j : ℕ} {T : List ℕ} {v w : View P} {ys : List (Spent P)} (xs : List (Spent P)) → Quits ends j T v ys w → CanLeaveAll v j T → ((i r : ℕ) → IsAmong (i, r) v.pairs → ¬ (IsAmong r v.empty)) → Shelved v hs xs → Shelved w hs (xs ++ ys)
-    quits_shelved xs (quit v) c a k = subst (λ l. Shelved v hs l) (sym (append-nil xs)) k
-    quits_shelved {j = j} xs (leaves v r why t) c a k =
-        quits_shelved xs t (can_stays v j r _ c) (λ i q m. a i q (lose_pair j r (i, q) v.pairs m)) (record {
-          said_are = k.said_are;
-          distinct = k.distinct;
-          opened = k.opened;
-          pairs = λ i q m. k.pairs i q (lose_pair j r (i, q) v.pairs m);
-          empty = k.empty;
-          leased = λ i q m. k.leased i q (lose_pair j r (i, q) v.pairs m);
-          ended = k.ended;
-          rises = k.rises;
-        })
-    quits_shelved {j = j} {w = w} xs (ends_lease {T = T} {xs = ys} v p n x last e f t) c a k =
-        let m = c.pairs x.row (here T) in
-        subst (λ l. Shelved w hs l) (append_assoc xs (x ∷ []) ys)
-        (quits_shelved (xs ++ x ∷ []) t (can_ends v j x.row p n x.ok _ last.closed c) (λ i q y. a i q (lose_pair j x.row (i, q) v.pairs y))
-        (end_shelved v (ended_lease v j x.row p n x.ok) hs xs x n refl refl refl (λ q h. h) (λ q h. inl h) last.closed (λ y i. lose_pair j x.row y v.pairs i)
-        (λ h. lost_pair j x.row v.pairs (subst (λ i. IsAmong (i, x.row) (without_pair j x.row v.pairs)) (last.alone h.0 (lose_pair j x.row (h.0, x.row) v.pairs h.1)) h.1)) refl (a j x.row m) (k.pairs j x.row m) f k))
+  module _ {ends : P → Exit → Bool → P → Type 0} {x : Exit} {h : Holder} (hs : List Held) where
+    pub released_shelved : {T : List ℕ} {v w : View P} {ys : List (Spent P)} (xs : List (Spent P)) → Released ends x h T v ys w → CanRelease h T v → Once v.opened → ((r : ℕ) → HasRow v.opened r ⊎ HasPair v r → ¬ (IsAmong r v.empty)) → Shelved v hs xs → Shelved w hs (xs ++ ys)
+    released_shelved xs (done v) c once out k = subst (λ z. Shelved v hs z) (sym (append-nil xs)) k
+    released_shelved xs (stays v u r l t) c once out k =
+        let g = let_go h v r Stays u l in let f = go_follows g in
+        let e = ap (λ z. ended_rows (words z)) g.same ∙ sym (append-nil (ended_rows (words v))) in
+        let s = went_shelved v u hs xs [] f e tt (λ q m. absurd (among_nil m)) (λ q m o. inl (stays_open h v u r q l m o)) (subst (λ z. Rises (by_stream z.by z.events)) (sym g.same) k.rises) k in
+        released_shelved xs t (can_stays h v u r _ l c) (f.once once) (still_out f out) (subst (λ z. Shelved u hs z) (append-nil xs) s)
+    released_shelved {w = w} xs (ends_so {T = T} {ys = ys} v u y n l i t) c once out k =
+        let g = let_go h v y.row Yours u l in let f = follows_then (go_follows g) (end_follows x u y n) in
+        let o = holds_or h v y.row (c.rows y.row (here T)) in let b = handed_bare h v u y.row once l in
+        let e = ended_next u n (Final y.row x y.ok) ∙ ap (λ z. ended_rows (words z) ++ (y.row, y.ok) ∷ []) g.same in
+        let bare : (r : ℕ) → IsAmong r (y.row ∷ []) → ¬ (HasRow u.opened r) × ¬ (HasPair u r) × ¬ (IsAmong r v.empty) × ¬ (IsAmong r (firsts (said xs))) = λ r m. ⊎_elim
+        (λ a. subst (λ q. ¬ (HasRow u.opened q) × ¬ (HasPair u q) × ¬ (IsAmong q v.empty) × ¬ (IsAmong q (firsts (said xs)))) (sym a) (b.0, b.1, out y.row o, ⊎_elim (λ j. k.opened y.row j) (λ j. k.pairs j.0 y.row j.1) o))
+        (λ a. absurd (among_nil a))
+        (among_cons m) in
+        let back : (q : ℕ) → v.main ≡ false → HasRow v.opened q → HasRow u.opened q ⊎ IsAmong q (y.row ∷ []) = λ q m a. ⊎_elim (λ z. inl z) (λ z. inr (subst (λ j. IsAmong j (y.row ∷ [])) (sym z) (here []))) (open_or h v u y.row q Yours l a) in
+        let s = went_shelved v (finalized x u y n) hs xs (y ∷ []) f e (among_nil, tt) bare back (rises_next u n (Final y.row x y.ok) i.fresh (subst (λ z. Rises (by_stream z.by z.events)) (sym g.same) k.rises)) k in
+        subst (λ z. Shelved w hs z) (append_assoc xs (y ∷ []) ys) (released_shelved (xs ++ y ∷ []) t (can_ends h x v u y n _ l c) (f.once once) (still_out f out) s)

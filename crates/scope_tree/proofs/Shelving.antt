@@ -1,29 +1,32 @@
 -- What each call keeps of a tree's shelf.
-use Rattle.std.proofs.Common.{ℕ, ◌+◌, ◌≤◌, Bool, List, [], ◌∷◌, ◌++◌, inl, inr, refl, sym, ap, subst, ⊎_elim}
+use Rattle.std.proofs.Common.{ℕ, ◌+◌, ◌≤◌, Bool, List, [], ◌∷◌, ◌++◌, ◌⊎◌, inl, inr, refl, sym, ap, subst, ⊎_elim}
+use Rattle.chunk_core.specs.declared.code.Exit.{Exit}
 use Rattle.chunk_core.specs.Lists.{IsAmong}
 use Rattle.chunk_core.proofs.Members.{among_nil, among_left, among_last, among_snoc}
 use Rattle.res_ledger.specs.declared.event.What.TheVariants.{Open, Acquire, Cancel, Close}
+use Rattle.res_ledger.specs.Ledger.{IsUsable}
 use Rattle.res_ledger.specs.Order.{firsts}
 use Rattle.res_ledger.specs.Own.{own}
 use Rattle.res_ledger.specs.Streams.{by_stream}
-use Rattle.res_ledger.proofs.Orders.{Rises}
+use Rattle.res_ledger.specs.Rising.{Rises}
 use Rattle.row_seat.specs.declared.view.View.{View}
-use Rattle.row_seat.specs.Views.{IsFresh, noted, placed}
+use Rattle.row_seat.specs.Views.{HasPair, HasRow, IsFresh, noted, placed}
 use Rattle.row_seat.proofs.Members.{among_without}
 use Rattle.scope_tree.specs.declared.branch.Branch.{Branch}
 use Rattle.scope_tree.specs.declared.branch.Held.{Held}
 use Rattle.scope_tree.specs.declared.branch.Spent.{Spent}
 use Rattle.scope_tree.specs.Kids.{whole}
 use Rattle.scope_tree.specs.Rows.{AreDistinct}
-use Rattle.scope_tree.specs.Torn.{Torn, said}
-use Rattle.scope_tree.specs.Leaving.{Quits, away}
+use Rattle.scope_tree.specs.Released.{Released, away, said}
+use Rattle.scope_tree.specs.Released.Holder.{owner, lease}
 use Rattle.scope_tree.specs.Words.{acquiring, canceling, opening, owed, shutting, ended_rows}
 use Rattle.scope_tree.specs.Calls.{AtStart}
 use Rattle.scope_tree.specs.Kept.{Kept, Shelved, held_pairs}
+use Rattle.scope_tree.proofs.Beneath.{close_can}
 use Rattle.scope_tree.proofs.Cancelling.{cancel_can}
 use Rattle.scope_tree.proofs.Grows.{pairs_snoc}
 use Rattle.scope_tree.proofs.Rooms.{open_taken}
-use Rattle.scope_tree.proofs.Shelf.{note_shelved, quits_shelved, torn_shelved}
+use Rattle.scope_tree.proofs.Shelf.{note_shelved, released_shelved}
 
 pub start_shelved : {P : Type 0} (v : View P) → AtStart v → Shelved v [] []
 start_shelved v a = record {
@@ -57,8 +60,12 @@ module _ {P : Type 0} (v : View P) (bs : List Branch) (hs : List Held) (xs : Lis
         rises = a.rises;
       }
 
-  pub close_shelved : {ends : P → Bool → P → Type 0} {w : View P} {ys : List (Spent P)} (c n : ℕ) → IsFresh v n → Torn ends (whole bs hs c) (shutting v c n) ys w → Shelved w hs (xs ++ ys)
-  close_shelved c n f t = torn_shelved hs xs t k.once (λ r h. open_taken v bs hs k r h) (note_shelved v hs xs n (Close c) refl f s)
+  -- what is open or leased isn't empty
+  occupied : (r : ℕ) → HasRow v.opened r ⊎ HasPair v r → ¬ (IsAmong r v.empty)
+  occupied r a = ⊎_elim (λ o. open_taken v bs hs k r o) (λ p. k.lends.bare p.0 r p.1) a
 
-  pub cancel_shelved : {ends : P → Bool → P → Type 0} {w : View P} {ys : List (Spent P)} (j n : ℕ) (T : List ℕ) → AreDistinct T → ((r : ℕ) → IsAmong r T → IsAmong (j, r) v.pairs) → owed v + 1 + away T v.opened ≤ v.spare → IsFresh v n → Quits ends j T (noted v (canceling v j n)) ys w → Shelved w hs (xs ++ ys)
-  cancel_shelved j n T d p e f t = quits_shelved hs xs t (cancel_can v bs hs j n T k d p e) k.bare (note_shelved v hs xs n (Cancel j) refl f s)
+  pub close_shelved : {ends : P → Exit → Bool → P → Type 0} {x : Exit} {w : View P} {ys : List (Spent P)} (c n : ℕ) → IsUsable v.events v.by c → IsFresh v n → Released ends x owner (whole bs hs c) (shutting v c x n) ys w → Shelved w hs (xs ++ ys)
+  close_shelved {x = x} c n u f t = released_shelved hs xs t (close_can v bs hs k c n x u) k.holds.once occupied (note_shelved v hs xs n (Close c x) refl f s)
+
+  pub cancel_shelved : {ends : P → Exit → Bool → P → Type 0} {x : Exit} {w : View P} {ys : List (Spent P)} (j n : ℕ) (T : List ℕ) → AreDistinct T → ((r : ℕ) → IsAmong r T → IsAmong (j, r) v.pairs) → owed v + 1 + away T v.opened ≤ v.spare → IsFresh v n → Released ends x (lease j) T (noted v (canceling v j x n)) ys w → Shelved w hs (xs ++ ys)
+  cancel_shelved {x = x} j n T d p e f t = released_shelved hs xs t (cancel_can v bs hs j n T x k d p e) k.holds.once occupied (note_shelved v hs xs n (Cancel j x) refl f s)

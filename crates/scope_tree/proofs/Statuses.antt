@@ -13,12 +13,12 @@ use Rattle.scope_tree.specs.declared.branch.Held.{Held}
 use Rattle.scope_tree.specs.declared.branch.Standing.TheVariants.{Empty, Open, Left}
 use Rattle.scope_tree.specs.Calls.{Seen}
 use Rattle.scope_tree.specs.Kept.{Kept, held_pairs, held_rows}
-use Rattle.scope_tree.specs.Leaving.{is_here}
+use Rattle.scope_tree.specs.Released.{is_here}
 use Rattle.scope_tree.specs.Standings.{outcome_of, scope_by, standing, standing_by}
 use Rattle.scope_tree.specs.Words.{own_rows}
 use Rattle.scope_tree.proofs.Beneath.{not_true'}
 use Rattle.scope_tree.proofs.Parts.{one_scope, row_of_pair}
-use Rattle.scope_tree.proofs.Quitting.{here_has}
+use Rattle.scope_tree.proofs.Lists.{here_has}
 use Rattle.scope_tree.proofs.Rooms.{open_held, own_is}
 
 pub none_of : {A : Type 0} (o : Option A) → ((x : A) → (let s : Option A = Some x in o ≡ s) → ⊥) → o ≡ None
@@ -59,9 +59,9 @@ module _ {P : Type 0} (a : Seen P) (bs : List Branch) (hs : List Held) (k : Kept
       (not_true' (has r (own_rows a.seat)) (λ h. n (subst (λ l. IsAmong r l) (own_is a.seat bs hs k) (has_in r (own_rows a.seat) h))))
 
   pub stands_open : (s : ℕ) → IsAmong (r, s) (held_pairs hs) → ¬ (IsClosed a.seat.events a.seat.by s) → standing a r ≡ Open
-  stands_open s m n = standing_is a r true true none (has_here r a.seat.opened (k.live r s m n)) (held_has s m)
+  stands_open s m n = standing_is a r true true none (has_here r a.seat.opened (k.holds.live r s m n)) (held_has s m)
 
   pub stands_left : (s : ℕ) → IsAmong (r, s) (held_pairs hs) → IsClosed a.seat.events a.seat.by s → standing a r ≡ Left
   stands_left s m c = standing_is a r false true none
-      (not_true' (is_here r a.seat.opened) (λ h. let t = k.only r (here_has r a.seat.opened h) in let e = one_scope r t.0 s hs k.distinct t.1 m in t.2 (subst (λ z. IsClosed a.seat.events a.seat.by z) (sym e) c)))
+      (not_true' (is_here r a.seat.opened) (λ h. let t = k.holds.only r (here_has r a.seat.opened h) in let e = one_scope r t.0 s hs k.mirrors.distinct t.1 m in t.2 (subst (λ z. IsClosed a.seat.events a.seat.by z) (sym e) c)))
       (held_has s m)

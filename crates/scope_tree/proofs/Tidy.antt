@@ -1,6 +1,7 @@
 -- Each call of a tree keeps the order of what its stream notes, and so the ledger is in order.
 use Rattle.std.proofs.Common.{◌≡◌, ℕ, ◌↔◌, Bool, true, false, cond, filter, map, List, [], ◌∷◌, ◌++◌, length, length-append, reverse, refl, sym, ap, ◌∙◌, subst, ⊎_elim, arith, append_assoc}
 use Rattle.std.proofs.lemmas.List.{reverse-append}
+use Rattle.chunk_core.specs.declared.code.Exit.{Exit}
 use Rattle.chunk_core.specs.Lists.{IsAmong}
 use Rattle.chunk_core.specs.Lists.IsAmong.{here, there}
 use Rattle.chunk_core.proofs.Cuts.{among_parts}
@@ -20,17 +21,15 @@ use Rattle.res_ledger.proofs.Blocks.{blocks_plain}
 use Rattle.res_ledger.proofs.Leases.{covered_found}
 use Rattle.res_ledger.proofs.Ledgers.{by_in, by_out, covers_more, covers_own}
 use Rattle.res_ledger.proofs.Noted.{in_has}
-use Rattle.res_ledger.proofs.Orders.{Rises}
+use Rattle.res_ledger.specs.Rising.{Rises}
 use Rattle.row_seat.specs.declared.view.View.{View}
 use Rattle.row_seat.specs.Views.{AreApart, IsLedgerOf, joined, split_main}
 use Rattle.scope_tree.specs.Calls.{Acquires, Cancels, Closes, Leases, Opens, Seen}
 use Rattle.scope_tree.specs.Rows.{lifo}
 use Rattle.scope_tree.specs.Tidy.{IsTidy}
 use Rattle.scope_tree.specs.Words.{acquiring, canceling, closing, leasing, opening, words}
-use Rattle.scope_tree.proofs.Facts.{torn_covers}
+use Rattle.scope_tree.proofs.Follows.{follows_covers, released_follows, same_by}
 use Rattle.scope_tree.proofs.Parting.{join_words}
-use Rattle.scope_tree.proofs.Quitting.{quits_by, quits_covers}
-use Rattle.scope_tree.proofs.Taking.{torn_by}
 use Rattle.scope_tree.proofs.Use.{acquire_in_order, cancel_in_order, close_in_order, leased_said, open_in_order}
 
 module _ {P : Type 0} where
@@ -52,17 +51,17 @@ module _ {P : Type 0} where
       subst (λ E. IsInBlocks (λ r. may r ≡ true) due [] E) (sym (leased_said o))
       (blocks_plain (words a.seat) (Lease j s) refl (t may due (λ i q x. m i q (covers_still a.seat b.seat (leasing a.seat j s o.stamp) a.seat.by (ap (λ v. v.by) o.seat) (ap (λ v. v.events) o.seat) i q x)) d))
 
-  pub close_tidy : {ends : P → Bool → P → Type 0} {a b : Seen P} {s : ℕ} (Cs : List (ℕ × List ℕ)) → Closes ends a s b → IsTidy a.seat Cs → IsTidy b.seat Cs
-  close_tidy {a = a} {b = b} {s = s} Cs c t = λ may due m d.
-      let by : b.seat.by ≡ a.seat.by = torn_by c.torn.2 in
+  pub close_tidy : {ends : P → Exit → Bool → P → Type 0} {x : Exit} {a b : Seen P} {s : ℕ} (Cs : List (ℕ × List ℕ)) → Closes ends a s x b → IsTidy a.seat Cs → IsTidy b.seat Cs
+  close_tidy {x = e} {a = a} {b = b} {s = s} Cs c t = λ may due m d.
+      let by : b.seat.by ≡ a.seat.by = same_by (released_follows c.torn.2) in
       let m' : (j r : ℕ) → Covers b.seat.events j a.seat.by r → may r ≡ true = λ j r x. m j r (subst (λ k. Covers b.seat.events j k r) (sym by) x) in
-      close_in_order c (λ r j x. m' j r x) (t may due (λ j r x. m' j r (torn_covers j a.seat.by r c.torn.2 (covers_more a.seat.events (closing a.seat s c.stamp) x))) d)
+      close_in_order c (λ r j x. m' j r x) (t may due (λ j r x. m' j r (follows_covers (released_follows c.torn.2) (covers_more a.seat.events (closing a.seat s e c.stamp) x))) d)
 
-  pub cancel_tidy : {ends : P → Bool → P → Type 0} {a b : Seen P} {j : ℕ} {T : List ℕ} (Cs : List (ℕ × List ℕ)) → Cancels ends a j T b → IsTidy a.seat Cs → IsTidy b.seat (Cs ++ (j, T) ∷ [])
-  cancel_tidy {a = a} {b = b} {j = j} {T = T} Cs c t = λ may due m d.
-      let by : b.seat.by ≡ a.seat.by = quits_by c.left.2 in
+  pub cancel_tidy : {ends : P → Exit → Bool → P → Type 0} {x : Exit} {a b : Seen P} {j : ℕ} {T : List ℕ} (Cs : List (ℕ × List ℕ)) → Cancels ends a j T x b → IsTidy a.seat Cs → IsTidy b.seat (Cs ++ (j, T) ∷ [])
+  cancel_tidy {x = e} {a = a} {b = b} {j = j} {T = T} Cs c t = λ may due m d.
+      let by : b.seat.by ≡ a.seat.by = same_by (released_follows c.left.2) in
       cancel_in_order c (d j T (among_last Cs (j, T)))
-      (t may due (λ i r x. m i r (subst (λ k. Covers b.seat.events i k r) (sym by) (quits_covers i a.seat.by r c.left.2 (covers_more a.seat.events (canceling a.seat j c.stamp) x)))) (λ i U n. d i U (among_left ((j, T) ∷ []) n)))
+      (t may due (λ i r x. m i r (subst (λ k. Covers b.seat.events i k r) (sym by) (follows_covers (released_follows c.left.2) (covers_more a.seat.events (canceling a.seat j e c.stamp) x)))) (λ i U n. d i U (among_left ((j, T) ∷ []) n)))
 
   pub split_tidy : (v : View P) (j from to n : ℕ) (Cs : List (ℕ × List ℕ)) → IsTidy v Cs → IsTidy (split_main v j from to n) Cs
   split_tidy v j from to n Cs t = t

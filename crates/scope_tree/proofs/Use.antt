@@ -1,31 +1,34 @@
 -- What callers read off the clauses of a tree.
-use Rattle.std.proofs.Common.{flat_map, ◌≡◌, ℕ, ◌+◌, ◌⊎◌, Bool, List, [], ◌∷◌, ◌++◌, length, inl, inr, refl, sym, ap, ◌∙◌, subst, ⊎_elim, append_assoc}
+use Rattle.std.proofs.Common.{flat_map, ◌≡◌, ℕ, ◌+◌, ◌⊎◌, Bool, List, [], ◌∷◌, ◌++◌, length, inl, inr, refl, sym, ap, ◌∙◌, subst, ⊎_elim}
 use Rattle.res_ledger.specs.Ledger.LiesWithin.{same}
 use Rattle.res_ledger.specs.declared.event.StreamNo.{StreamNo}
 use Rattle.res_ledger.specs.declared.event.What.{What}
 use Rattle.res_ledger.specs.declared.event.What.TheVariants.{Open, Acquire, Lease, Cancel, Close}
 use Rattle.res_ledger.specs.declared.event.Event.{Event}
 use Rattle.row_seat.specs.declared.view.View.{View}
+use Rattle.row_seat.specs.Views.{noted}
+use Rattle.chunk_core.specs.declared.code.Exit.{Exit}
 use Rattle.chunk_core.specs.Lists.{IsAmong}
 use Rattle.res_ledger.specs.Ledger.{Notes, IsClosed, IsUsable, Covers}
 use Rattle.chunk_core.proofs.Members.{among_nil, among_mid}
 use Rattle.chunk_core.specs.Lists.IsAmong.{here}
 use Rattle.res_ledger.specs.Own.{own, opens, closes, teardown, leased_of}
-use Rattle.res_ledger.proofs.Noted.{flat_holds}
+use Rattle.res_ledger.proofs.Noted.{flat_holds, notes_closes}
 use Rattle.res_ledger.specs.Order.{Picks, finals, firsts}
 use Rattle.res_ledger.specs.Order.Picks.{none, pick, pass}
 use Rattle.res_ledger.specs.Order.{IsInBlocks, IsAny}
 use Rattle.res_ledger.proofs.Blocks.{picks_map, blocks_plain, blocks_close, blocks_cancel}
 use Rattle.scope_tree.specs.Walks.{FirstOpen}
 use Rattle.scope_tree.specs.Walks.FirstOpen.{this_one, above_it}
-use Rattle.scope_tree.specs.Torn.{said}
+use Rattle.scope_tree.specs.Released.{said}
 use Rattle.scope_tree.specs.Rows.{lifo}
-use Rattle.scope_tree.proofs.Quitting.{quits_by, quits_words, quits_picks}
 use Rattle.scope_tree.specs.Calls.{AtStart, Seen, Opens, Acquires, Closes, Cancels, Leases}
-use Rattle.scope_tree.specs.Words.{words, canceling, opening, acquiring, closing, leasing}
-use Rattle.scope_tree.proofs.Bridge.{own_snoc, noted_in, in_noted, closes_in, in_opens}
-use Rattle.scope_tree.proofs.Facts.{torn_words, torn_picks}
-use Rattle.scope_tree.proofs.Taking.{torn_by}
+use Rattle.scope_tree.specs.Words.{words, canceling, opening, acquiring, leasing, shutting}
+use Rattle.scope_tree.proofs.Bridge.{own_snoc, noted_in, in_noted, in_opens}
+use Rattle.scope_tree.proofs.Follows.{Follows, released_follows, same_by}
+use Rattle.scope_tree.proofs.Grown.{grown_closed, grown_release}
+use Rattle.scope_tree.proofs.Owning.{owner_pairs, owner_picks}
+use Rattle.scope_tree.proofs.Releasing.{released_picks}
 
 -- with nothing that may be left out, nothing is
 pub all_picked : {may : ℕ → Type 0} {xs ys : List ℕ} → ((r : ℕ) → may r → ⊥) → Picks may xs ys → xs ≡ ys
@@ -57,7 +60,7 @@ module _ {P : Type 0} where
   pub all_open : (v : View P) (s : ℕ) → closes (words v) ≡ [] → (s ≡ 0) ⊎ ((p : ℕ) × IsAmong (s, p) (opens (words v))) → IsUsable v.events v.by s
   all_open v s e o = (
     ⊎_elim (λ z. inl z) (λ z. inr (z.0, in_noted v.by (Open s z.0) v.events (in_opens s z.0 (words v) z.1))) o,
-    λ c. among_nil (subst (λ l. IsAmong c.0 l) e (closes_in c.0 (words v) (noted_in v.by (Close c.0) v.events c.2))),
+    λ c. among_nil (subst (λ l. IsAmong c.0 l) e (notes_closes v.events v.by c.0 c.2)),
   )
 
   pub opened_said : {a b : Seen P} {at c : ℕ} (o : Opens a at c b) → words b.seat ≡ words a.seat ++ Open c o.parent ∷ []
@@ -69,17 +72,30 @@ module _ {P : Type 0} where
   pub leased_said : {a b : Seen P} {s j : ℕ} {T : List ℕ} (o : Leases a s j T b) → words b.seat ≡ words a.seat ++ Lease j s ∷ []
   leased_said {a = a} {s = s} {j = j} o = ap words o.seat ∙ own_snoc a.seat.by a.seat.events (leasing a.seat j s o.stamp) refl
 
-  pub closed_said : {ends : P → Bool → P → Type 0} {a b : Seen P} {s : ℕ} (c : Closes ends a s b) → words b.seat ≡ words a.seat ++ Close s ∷ finals (said c.torn.0)
-  closed_said {a = a} {b = b} {s = s} c = ap (λ k. own k b.seat.events) (torn_by c.torn.2) ∙ torn_words a.seat.by c.torn.2 refl ∙ ap (λ l. l ++ finals (said c.torn.0)) (own_snoc a.seat.by a.seat.events (closing a.seat s c.stamp) refl) ∙ append_assoc (words a.seat) (Close s ∷ []) (finals (said c.torn.0))
+  pub closed_said : {ends : P → Exit → Bool → P → Type 0} {x : Exit} {a b : Seen P} {s : ℕ} (c : Closes ends a s x b) → words b.seat ≡ words a.seat ++ Close s x ∷ finals x (said c.torn.0)
+  closed_said {x = x} {a = a} {s = s} c = (grown_release a.seat c.stamp (Close s x) c.torn.2).words
 
-  pub closed_picks : {ends : P → Bool → P → Type 0} {a b : Seen P} {s : ℕ} (c : Closes ends a s b) → Picks (λ r. (j : ℕ) × Covers b.seat.events j a.seat.by r) (firsts (said c.torn.0)) (teardown (words a.seat) s)
-  closed_picks {a = a} {b = b} c = torn_picks b.seat.events a.seat.by c.torn.2 refl refl
+  pub closed_picks : {ends : P → Exit → Bool → P → Type 0} {x : Exit} {a b : Seen P} {s : ℕ} (c : Closes ends a s x b) → Picks (λ r. (j : ℕ) × Covers b.seat.events j a.seat.by r) (firsts (said c.torn.0)) (teardown (words a.seat) s)
+  closed_picks {a = a} c = owner_picks a.seat.by c.torn.2 refl
 
-  pub closed_by : {ends : P → Bool → P → Type 0} {a b : Seen P} {s : ℕ} (c : Closes ends a s b) → b.seat.by ≡ a.seat.by
-  closed_by c = torn_by c.torn.2
+  pub closed_by : {ends : P → Exit → Bool → P → Type 0} {x : Exit} {a b : Seen P} {s : ℕ} (c : Closes ends a s x b) → b.seat.by ≡ a.seat.by
+  closed_by c = same_by (released_follows c.torn.2)
 
-  pub canceled_said : {ends : P → Bool → P → Type 0} {a b : Seen P} {j : ℕ} {T : List ℕ} (c : Cancels ends a j T b) → words b.seat ≡ words a.seat ++ Cancel j ∷ finals (said c.left.0)
-  canceled_said {a = a} {b = b} {j = j} c = ap (λ k. own k b.seat.events) (quits_by c.left.2) ∙ quits_words a.seat.by c.left.2 refl ∙ ap (λ l. l ++ finals (said c.left.0)) (own_snoc a.seat.by a.seat.events (canceling a.seat j c.stamp) refl) ∙ append_assoc (words a.seat) (Cancel j ∷ []) (finals (said c.left.0))
+  pub canceled_said : {ends : P → Exit → Bool → P → Type 0} {x : Exit} {a b : Seen P} {j : ℕ} {T : List ℕ} (c : Cancels ends a j T x b) → words b.seat ≡ words a.seat ++ Cancel j x ∷ finals x (said c.left.0)
+  canceled_said {x = x} {a = a} {j = j} c = (grown_release a.seat c.stamp (Cancel j x) c.left.2).words
+
+  -- what a close keeps after its event, and what a cancellation does
+  pub close_follows : {ends : P → Exit → Bool → P → Type 0} {x : Exit} {a b : Seen P} {s : ℕ} (c : Closes ends a s x b) → Follows (shutting a.seat s x c.stamp) b.seat
+  close_follows c = released_follows c.torn.2
+
+  pub close_pairs : {ends : P → Exit → Bool → P → Type 0} {x : Exit} {a b : Seen P} {s : ℕ} → Closes ends a s x b → b.seat.pairs ≡ a.seat.pairs
+  close_pairs c = owner_pairs c.torn.2
+
+  pub cancel_follows : {ends : P → Exit → Bool → P → Type 0} {x : Exit} {a b : Seen P} {j : ℕ} {T : List ℕ} (c : Cancels ends a j T x b) → Follows (noted a.seat (canceling a.seat j x c.stamp)) b.seat
+  cancel_follows c = released_follows c.left.2
+
+  pub cancel_closed : {ends : P → Exit → Bool → P → Type 0} {x : Exit} {a b : Seen P} {j : ℕ} {T : List ℕ} (c : Cancels ends a j T x b) (s : ℕ) → IsClosed a.seat.events a.seat.by s → IsClosed b.seat.events b.seat.by s
+  cancel_closed {x = x} {a = a} {j = j} c s i = grown_closed (grown_release a.seat c.stamp (Cancel j x) c.left.2) s i
 
   -- each call keeps the order of the stream's own events
   module _ {may : ℕ → Type 0} {due : ℕ → List ℕ} where
@@ -89,14 +105,14 @@ module _ {P : Type 0} where
     pub acquire_in_order : {a b : Seen P} {s r : ℕ} {p : P} → Acquires a s r p b → IsInBlocks may due [] (words a.seat) → IsInBlocks may due [] (words b.seat)
     acquire_in_order {a = a} {s = s} {r = r} o i = subst (λ E. IsInBlocks may due [] E) (sym (acquired_said o)) (blocks_plain (words a.seat) (Acquire r s) refl i)
 
-    pub close_in_order : {ends : P → Bool → P → Type 0} {a b : Seen P} {s : ℕ} (c : Closes ends a s b) → ((r j : ℕ) → Covers b.seat.events j a.seat.by r → may r) → IsInBlocks may due [] (words a.seat) → IsInBlocks may due [] (words b.seat)
-    close_in_order {a = a} {s = s} c h i = subst (λ E. IsInBlocks may due [] E) (sym (closed_said c)) (blocks_close (words a.seat) s (said c.torn.0) (picks_map (λ r m. h r m.0 m.1) (closed_picks c)) i)
+    pub close_in_order : {ends : P → Exit → Bool → P → Type 0} {x : Exit} {a b : Seen P} {s : ℕ} (c : Closes ends a s x b) → ((r j : ℕ) → Covers b.seat.events j a.seat.by r → may r) → IsInBlocks may due [] (words a.seat) → IsInBlocks may due [] (words b.seat)
+    close_in_order {x = x} {a = a} {s = s} c h i = subst (λ E. IsInBlocks may due [] E) (sym (closed_said c)) (blocks_close (words a.seat) s x (said c.torn.0) (picks_map (λ r m. h r m.0 m.1) (closed_picks c)) i)
 
     -- where the rows of the lease, latest first, are those that are due
-    pub cancel_in_order : {ends : P → Bool → P → Type 0} {a b : Seen P} {j : ℕ} {T : List ℕ} (c : Cancels ends a j T b) → due j ≡ lifo T → IsInBlocks may due [] (words a.seat) → IsInBlocks may due [] (words b.seat)
-    cancel_in_order {a = a} {j = j} c e i =
+    pub cancel_in_order : {ends : P → Exit → Bool → P → Type 0} {x : Exit} {a b : Seen P} {j : ℕ} {T : List ℕ} (c : Cancels ends a j T x b) → due j ≡ lifo T → IsInBlocks may due [] (words a.seat) → IsInBlocks may due [] (words b.seat)
+    cancel_in_order {x = x} {a = a} {j = j} c e i =
         subst (λ E. IsInBlocks may due [] E) (sym (canceled_said c))
-        (blocks_cancel (words a.seat) j (said c.left.0) (subst (λ l. Picks IsAny (firsts (said c.left.0)) l) (sym e) (quits_picks c.left.2)) i)
+        (blocks_cancel (words a.seat) j x (said c.left.0) (subst (λ l. Picks IsAny (firsts (said c.left.0)) l) (sym e) (released_picks c.left.2)) i)
 
 -- an open scope is the first open scope from itself
 pub first_is : {L : List Event} {k : StreamNo} {c q : ℕ} → ¬ (IsClosed L k c) → FirstOpen L k c q → q ≡ c
@@ -104,9 +120,9 @@ first_is n (this_one c m) = refl
 first_is n (above_it c p q x o f) = absurd (n x)
 
 -- a scope that was just closed is closed
-pub closed_now : {P : Type 0} {ends : P → Bool → P → Type 0} {a b : Seen P} {s : ℕ} → Closes ends a s b → IsClosed b.seat.events b.seat.by s
-closed_now {a = a} {b = b} {s = s} c =
-    (s, same s, in_noted b.seat.by (Close s) b.seat.events (subst (λ E. IsAmong (Close s) E) (sym (closed_said c)) (among_mid (words a.seat) (finals (said c.torn.0)) (Close s))))
+pub closed_now : {P : Type 0} {ends : P → Exit → Bool → P → Type 0} {x : Exit} {a b : Seen P} {s : ℕ} → Closes ends a s x b → IsClosed b.seat.events b.seat.by s
+closed_now {x = x} {a = a} {b = b} {s = s} c =
+    (s, same s, (x, in_noted b.seat.by (Close s x) b.seat.events (subst (λ E. IsAmong (Close s x) E) (sym (closed_said c)) (among_mid (words a.seat) (finals x (said c.torn.0)) (Close s x)))))
 
 module _ {P : Type 0} where
   -- what the first calls of a tree say

@@ -2,12 +2,11 @@
 use Rattle.std.proofs.Common.{◌⊎◌, ◌≡◌, ℕ, zero, suc, ◌<◌, ◌≤◌, Bool, true, false, not, List, length, slice_index_or, refl, sym, ap, ◌∙◌, subst, ⊎_elim, inl, inr, arith}
 use Rattle.std.proofs.lemmas.List.{get_or_default}
 use Rattle.row_seat.specs.declared.view.View.{View}
-use Rattle.res_ledger.specs.Ledger.{IsClosed, Notes, LiesWithin, IsUsable}
+use Rattle.res_ledger.specs.Ledger.{IsClosed, LiesWithin, IsUsable, NotesClose}
 use Rattle.scope_tree.specs.Walks.{FirstOpen}
 use Rattle.scope_tree.specs.Walks.FirstOpen.{this_one, above_it}
 use Rattle.scope_tree.specs.Walks.Nearest.{this, next}
 use Rattle.res_ledger.specs.Ledger.LiesWithin.{same, below as beneath}
-use Rattle.res_ledger.specs.declared.event.What.TheVariants.{Close}
 use Rattle.scope_tree.specs.declared.branch.Branch.{Branch}
 use Rattle.scope_tree.specs.declared.branch.Held.{Held}
 use Rattle.scope_tree.specs.Kept.{Kept}
@@ -17,8 +16,8 @@ use Rattle.scope_tree.specs.Walks.{Clear, Falls, Shaded, Nearest, IsRootOpen, St
 use Rattle.scope_tree.specs.Walks.StandsAbove.{itself, further}
 use Rattle.scope_tree.specs.Walks.Clear.{root, below}
 use Rattle.scope_tree.specs.Walks.Shaded.{own, under}
-use Rattle.scope_tree.proofs.Bridge.{in_noted, in_closes, within_cases}
-use Rattle.res_ledger.proofs.Noted.{has_in}
+use Rattle.scope_tree.proofs.Bridge.{within_cases}
+use Rattle.res_ledger.proofs.Noted.{has_in, closes_notes}
 use Rattle.scope_tree.proofs.Beneath.{noted_parent, noted_scope, open_shut}
 
 pub not_so : (b : Bool) → not b ≡ true → b ≡ false
@@ -56,31 +55,31 @@ clear_zero bs c d z l h = let e : c ≡ 0 = omega arith in subst (λ n. Clear bs
 -- what is clear is open, what is shaded is closed
 module _ {P : Type 0} (v : View P) (bs : List Branch) (hs : List Held) (k : Kept v bs hs) where
   pub shaded_closed : (c : ℕ) → c < length bs → Shaded bs c → IsClosed v.events v.by c
-  shaded_closed c l (own e h) = let d : Branch = record { parent = 0; shut = false } in (c, same c, in_noted v.by (Close c) v.events (in_closes c (words v) (has_in c (closes (words v)) (sym (k.shut c d l) ∙ h d))))
+  shaded_closed c l (own e h) = let d : Branch = record { parent = 0; shut = false } in (c, same c, closes_notes v.events v.by c (has_in c (closes (words v)) (sym (k.mirrors.shut c d l) ∙ h d)))
   shaded_closed c l (under e p one pa x) =
       let d : Branch = record { parent = 0; shut = false } in
-      let less = k.parents c d one l in let q = pa d in
+      let less = k.mirrors.parents c d one l in let q = pa d in
       let y = shaded_closed p (omega arith) x in (y.0, beneath c p y.0 (noted_parent v bs hs k c p one l pa) y.1, y.2)
 
   pub clear_open : (c : ℕ) → c < length bs → Clear bs c → ¬ (IsClosed v.events v.by c)
   clear_open c l (root h) x =
       let d : Branch = record { parent = 0; shut = false } in
       ⊎_elim
-      (λ e. open_shut v bs hs k 0 d l (h d) (subst (λ a. Notes v.events v.by (Close a)) (sym e) x.2))
+      (λ e. open_shut v bs hs k 0 d l (h d) (subst (λ a. NotesClose v.events v.by a) (sym e) x.2))
       (λ q. let o = noted_scope v bs hs k 0 q.0 q.1 in let z = o.0 in omega arith)
       (within_cases x.1)
   clear_open c l (below e p one sh pa y) x =
       let d : Branch = record { parent = 0; shut = false } in
-      let less = k.parents e d one l in let q' = pa d in
+      let less = k.mirrors.parents e d one l in let q' = pa d in
       ⊎_elim
-      (λ i. open_shut v bs hs k e d l (sh d) (subst (λ a. Notes v.events v.by (Close a)) (sym i) x.2))
+      (λ i. open_shut v bs hs k e d l (sh d) (subst (λ a. NotesClose v.events v.by a) (sym i) x.2))
       (λ q. let o = noted_scope v bs hs k e q.0 q.1 in let i : q.0 ≡ p = sym (o.2 d) ∙ pa d in clear_open p (omega arith) y (x.0, subst (λ a. LiesWithin v.events v.by a x.0) i q.2, x.2))
       (within_cases x.1)
 
   pub nearest_first : (c q : ℕ) → c < length bs → Nearest bs c q → FirstOpen v.events v.by c q × (q < length bs)
   nearest_first c q l (this e x) = (this_one e (clear_open e l x), l)
   nearest_first c q l (next e p r x one pa y) =
-      let d : Branch = record { parent = 0; shut = false } in let less = k.parents e d one l in let i = pa d in
+      let d : Branch = record { parent = 0; shut = false } in let less = k.mirrors.parents e d one l in let i = pa d in
       let t = nearest_first p r (omega arith) y in (above_it e p r (shaded_closed e l x) (noted_parent v bs hs k e p one l pa) t.0, t.1)
 
   first_open_is : (c q : ℕ) → FirstOpen v.events v.by c q → ¬ (IsClosed v.events v.by q)
@@ -104,7 +103,7 @@ module _ {P : Type 0} (v : View P) (bs : List Branch) (hs : List Held) (k : Kept
   pub stands_within : (s a : ℕ) → s < length bs → StandsAbove bs s a → LiesWithin v.events v.by s a
   stands_within s a l (itself q) = same q
   stands_within s a l (further q p b one pa x) =
-      let d : Branch = record { parent = 0; shut = false } in let e = pa d in let g = k.parents q d one l in
+      let d : Branch = record { parent = 0; shut = false } in let e = pa d in let g = k.mirrors.parents q d one l in
       beneath q p b (noted_parent v bs hs k q p one l pa) (stands_within p b (omega (e, g, l, arith)) x)
 
   pub within_stands : {s a : ℕ} → LiesWithin v.events v.by s a → StandsAbove bs s a

@@ -1,5 +1,6 @@
 -- What the calls of a tree do, as callers see it.
 use Rattle.std.specs.Prelude.{◌≡◌, ◌⊎◌, ℕ, ◌+◌, ◌≤◌, Bool, List, [], length}
+use Rattle.chunk_core.specs.declared.code.Exit.{Exit}
 use Rattle.chunk_core.specs.Lists.{IsAmong}
 use Rattle.res_ledger.specs.declared.event.StreamNo.TheVariants.{Inner}
 use Rattle.res_ledger.specs.Ledger.{IsClosed, IsOpened, IsUsable}
@@ -9,8 +10,9 @@ use Rattle.row_seat.specs.declared.view.View.{View}
 use Rattle.row_seat.specs.Views.{noted, placed, IsFresh}
 use Rattle.scope_tree.specs.declared.branch.Spent.{Spent}
 use Rattle.scope_tree.specs.Rows.{lifo, strangers}
-use Rattle.scope_tree.specs.Torn.{Tears, said}
-use Rattle.scope_tree.specs.Leaving.{LeavesAll, leased_all}
+use Rattle.scope_tree.specs.Leased.{leased_all}
+use Rattle.scope_tree.specs.Released.{Releases, said}
+use Rattle.scope_tree.specs.Released.Holder.{owner, lease}
 use Rattle.scope_tree.specs.Walks.{FirstOpen}
 use Rattle.scope_tree.specs.Words.{words, own_rows, opening, acquiring, leasing, canceling, shutting}
 
@@ -79,18 +81,18 @@ module _ {P : Type 0} where
     pub scopes : b.scopes ≡ a.scopes
     pub rows : b.rows ≡ a.rows
 
-  -- the Lease for j was cancelled: its Cancel is noted, and then its rows are left, latest acquired first
-  pub record Cancels (ends : P → Bool → P → Type 0) (a : Seen P) (j : ℕ) (T : List ℕ) (b : Seen P) : Type 0 where
+  -- the Lease for j was cancelled with the exit x: its Cancel is noted, and then its rows are left, latest acquired first
+  pub record Cancels (ends : P → Exit → Bool → P → Type 0) (a : Seen P) (j : ℕ) (T : List ℕ) (x : Exit) (b : Seen P) : Type 0 where
     pub stamp : ℕ
     pub fresh : IsFresh a.seat stamp
-    pub left : LeavesAll ends j (lifo T) (noted a.seat (canceling a.seat j stamp)) a.shelf b.shelf b.seat
+    pub left : Releases ends x (lease j) (lifo T) (noted a.seat (canceling a.seat j x stamp)) a.shelf b.shelf b.seat
     pub scopes : b.scopes ≡ a.scopes
     pub rows : b.rows ≡ a.rows
 
-  -- the scope s was closed: its Close is noted, and then its teardown is taken down
-  pub record Closes (ends : P → Bool → P → Type 0) (a : Seen P) (s : ℕ) (b : Seen P) : Type 0 where
+  -- the scope s was closed with the exit x: its Close is noted, and then its teardown is closed
+  pub record Closes (ends : P → Exit → Bool → P → Type 0) (a : Seen P) (s : ℕ) (x : Exit) (b : Seen P) : Type 0 where
     pub stamp : ℕ
     pub fresh : IsFresh a.seat stamp
-    pub torn : Tears ends (teardown (words a.seat) s) (shutting a.seat s stamp) a.shelf b.shelf b.seat
+    pub torn : Releases ends x owner (teardown (words a.seat) s) (shutting a.seat s x stamp) a.shelf b.shelf b.seat
     pub scopes : b.scopes ≡ a.scopes
     pub rows : b.rows ≡ a.rows

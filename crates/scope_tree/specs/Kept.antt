@@ -2,6 +2,7 @@
 use Rattle.std.specs.Prelude.{◌≡◌, ◌⊎◌, ℕ, suc, ◌<◌, ◌≤◌, false, List, [], ◌∷◌, length, drop, slice_index_or}
 use Rattle.chunk_core.specs.Lists.{IsAmong}
 use Rattle.res_ledger.specs.declared.event.StreamNo.TheVariants.{Inner}
+use Rattle.res_ledger.specs.declared.event.What.{What}
 use Rattle.res_ledger.specs.declared.event.What.TheVariants.{Lease}
 use Rattle.res_ledger.specs.Ledger.{Notes, IsClosed, IsAcquired}
 use Rattle.res_ledger.specs.Order.{firsts}
@@ -12,9 +13,9 @@ use Rattle.scope_tree.specs.declared.branch.Branch.{Branch}
 use Rattle.scope_tree.specs.declared.branch.Held.{Held}
 use Rattle.scope_tree.specs.declared.branch.Spent.{Spent}
 use Rattle.scope_tree.specs.Rows.{AreDistinct, Once}
-use Rattle.res_ledger.proofs.Orders.{Rises}
+use Rattle.res_ledger.specs.Rising.{Rises}
 use Rattle.res_ledger.specs.Streams.{by_stream}
-use Rattle.scope_tree.specs.Torn.{said}
+use Rattle.scope_tree.specs.Released.{said}
 use Rattle.scope_tree.specs.Words.{words, owed, ended_rows}
 
 -- the scopes from n on, each with its parent
@@ -32,26 +33,42 @@ abbrev pub held_pairs : List Held → List (ℕ × ℕ)
 held_pairs [] = []
 held_pairs (h ∷ hs) = (h.row, h.scope) ∷ held_pairs hs
 
+-- the branches are the scopes that E opened, each with whether it has a Close of its own, and the held rows are those that E acquired, each with its scope
+pub record Mirrors (E : List What) (bs : List Branch) (hs : List Held) : Type 0 where
+  pub size : 1 ≤ length bs
+  pub opens : opens E ≡ marks 1 (drop 1 bs)
+  pub shut : (c : ℕ) (d : Branch) → c < length bs → (slice_index_or bs c d).shut ≡ has c (closes E)
+  pub ended : (s : ℕ) → IsAmong s (closes E) → s < length bs
+  pub rows : rows E ≡ held_pairs hs
+  pub parents : (c : ℕ) (d : Branch) → 1 ≤ c → c < length bs → (slice_index_or bs c d).parent < c
+  pub distinct : AreDistinct (held_rows hs)
+  pub ranged : (r t : ℕ) → IsAmong (r, t) (held_pairs hs) → t < length bs
+
 module _ {P : Type 0} where
-  -- the branches are the scopes that the stream opened, and the held rows those that it acquired
-  pub record Kept (v : View P) (bs : List Branch) (hs : List Held) : Type 0 where
-    pub size : 1 ≤ length bs
-    pub opens : opens (words v) ≡ marks 1 (drop 1 bs)
-    pub shut : (c : ℕ) (d : Branch) → c < length bs → (slice_index_or bs c d).shut ≡ has c (closes (words v))
-    pub ended : (s : ℕ) → IsAmong s (closes (words v)) → s < length bs
-    pub rows : rows (words v) ≡ held_pairs hs
-    pub parents : (c : ℕ) (d : Branch) → 1 ≤ c → c < length bs → (slice_index_or bs c d).parent < c
-    pub distinct : AreDistinct (held_rows hs)
+  -- the open rows are the held rows of the scopes that aren't closed
+  pub record Holds (v : View P) (hs : List Held) : Type 0 where
     pub live : (r t : ℕ) → IsAmong (r, t) (held_pairs hs) → ¬ (IsClosed v.events v.by t) → HasRow v.opened r
-    pub ranged : (r t : ℕ) → IsAmong (r, t) (held_pairs hs) → t < length bs
     pub only : (r : ℕ) → HasRow v.opened r → (t : ℕ) × IsAmong (r, t) (held_pairs hs) × ¬ (IsClosed v.events v.by t)
     pub once : Once v.opened
-    pub handed : v.handed ≡ []
-    pub taken : v.taken ≡ []
+
+  -- no lease stands on an empty row, and of each on an open row the Lease is noted
+  pub record Lends (v : View P) : Type 0 where
     pub pairs : (j r : ℕ) → IsAmong (j, r) v.pairs → HasRow v.opened r → (s : ℕ) × Notes v.events v.by (Lease j s)
     pub bare : (j r : ℕ) → IsAmong (j, r) v.pairs → ¬ (IsAmong r v.empty)
+
+  -- no row is handed, no empty row is acquired, and there is room for what is owed
+  pub record Rests (v : View P) : Type 0 where
+    pub handed : v.handed ≡ []
+    pub taken : v.taken ≡ []
     pub empty : (r : ℕ) → IsAmong r v.empty → ¬ (IsAcquired v.events r)
     pub spare : owed v ≤ v.spare
+
+  -- what a tree keeps agrees with the view of its seat
+  pub record Kept (v : View P) (bs : List Branch) (hs : List Held) : Type 0 where
+    pub mirrors : Mirrors (words v) bs hs
+    pub holds : Holds v hs
+    pub lends : Lends v
+    pub rests : Rests v
 
   -- the shelf has the rows whose Finals the stream noted, and none of them is open, leased or empty here
   pub record Shelved (v : View P) (hs : List Held) (xs : List (Spent P)) : Type 0 where

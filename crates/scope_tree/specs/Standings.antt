@@ -5,7 +5,7 @@ use Rattle.scope_tree.specs.declared.branch.Held.{Held}
 use Rattle.scope_tree.specs.declared.branch.Spent.{Spent}
 use Rattle.scope_tree.specs.declared.branch.Standing.{Standing}
 use Rattle.scope_tree.specs.declared.branch.Standing.TheVariants.{Empty, Open, Left, Final}
-use Rattle.scope_tree.specs.Leaving.{is_here}
+use Rattle.scope_tree.specs.Released.{is_here}
 use Rattle.scope_tree.specs.Words.{own_rows}
 use Rattle.scope_tree.specs.Calls.{Seen}
 

@@ -1,5 +1,6 @@
 -- What the stream of a seat noted, and what it owes.
 use Rattle.std.specs.Prelude.{ℕ, suc, ◌+◌, Bool, cond, flat_map, List, [], ◌∷◌, length}
+use Rattle.chunk_core.specs.declared.code.Exit.{Exit}
 use Rattle.res_ledger.specs.declared.event.Event.{Event}
 use Rattle.res_ledger.specs.declared.event.What.{What}
 use Rattle.res_ledger.specs.declared.event.What.TheVariants.{Open, Acquire, Lease, Cancel, Close, Final}
@@ -23,12 +24,8 @@ open_scopes E = open_of E (0 ∷ numbers (opens E))
 
 -- the row that an event ends, with its outcome
 abbrev pub ends_of : What → List (ℕ × Bool)
-ends_of (Open s p) = []
-ends_of (Acquire r s) = []
-ends_of (Lease j s) = []
-ends_of (Cancel j) = []
-ends_of (Close s) = []
-ends_of (Final r ok) = (r, ok) ∷ []
+ends_of (Final r x ok) = (r, ok) ∷ []
+ends_of w = []
 
 -- the rows that have a Final, with their outcomes, in order
 abbrev pub ended_rows : List What → List (ℕ × Bool)
@@ -57,12 +54,12 @@ module _ {P : Type 0} where
   abbrev pub leasing : View P → ℕ → ℕ → ℕ → Event
   leasing v j s n = record { stamp = n; by = v.by; what = Lease j s }
 
-  abbrev pub canceling : View P → ℕ → ℕ → Event
-  canceling v j n = record { stamp = n; by = v.by; what = Cancel j }
+  abbrev pub canceling : View P → ℕ → Exit → ℕ → Event
+  canceling v j x n = record { stamp = n; by = v.by; what = Cancel j x }
 
-  abbrev pub closing : View P → ℕ → ℕ → Event
-  closing v s n = record { stamp = n; by = v.by; what = Close s }
+  abbrev pub closing : View P → ℕ → Exit → ℕ → Event
+  closing v s x n = record { stamp = n; by = v.by; what = Close s x }
 
   -- the Close of s is noted
-  abbrev pub shutting : View P → ℕ → ℕ → View P
-  shutting v s n = noted v (closing v s n)
+  abbrev pub shutting : View P → ℕ → Exit → ℕ → View P
+  shutting v s x n = noted v (closing v s x n)

@@ -5,7 +5,7 @@ ghost use Rattle.res_ledger.specs.Ledger.{IsLeased};
 ghost use Rattle.res_ledger.specs.declared.event.StreamNo.TheVariants.{Inner};
 ghost use Rattle.row_seat.specs.Views.{HasRow, OthersFit};
 ghost use Rattle.scope_tree.specs.Rows.{AreDistinct, are_distinct};
-ghost use Rattle.scope_tree.specs.Leaving.{leased_all};
+ghost use Rattle.scope_tree.specs.Leased.{leased_all};
 
 use row_seat::RowSeat;
 

@@ -1,42 +1,37 @@
 //! Leaving the rows of a lease.
 ghost use Rattle.std.specs.Prelude.{◌≡◌, ℕ, ◌+◌, ◌<◌, ◌≤◌, length, vec_len, vec_capacity, [], ◌∷◌};
 ghost use Rattle.row_seat.specs.Views.{OthersFit};
-ghost use Rattle.scope_tree.specs.Leaving.{CanLeaveAll, LeavesAll, away};
+ghost use Rattle.scope_tree.specs.Released.{CanRelease, Releases, away};
+ghost use Rattle.scope_tree.specs.Released.Holder.{lease};
 ghost use Rattle.scope_tree.specs.Rows.{lifo};
 
 use crate::branch::{Finish, Spent};
-use res_ledger::What;
+use crate::finalize::finalize;
+use chunk_core::Exit;
 use row_seat::{Left, RowSeat};
 
-// Leaves a row, and where it is handed to this seat, ends it.
+/// Leaves a row, and where it is handed to this seat, ends it.
 fn leave<S: RowSeat>(
     seat: &mut S,
     desk: &mut S::Desk,
     shelf: &mut Vec<Spent<S::Pay>>,
     stream: u32,
     row: u32,
+    exit: Exit,
 )
 where
     S::Pay: Finish,
     requires fits { S.fits seat.old desk.old }
-    requires can { CanLeaveAll (S.view seat.old) stream (row ∷ []) }
+    requires can { CanRelease (lease stream) (row ∷ []) (S.view seat.old) }
     requires room { vec_len shelf.old + away (row ∷ []) (S.view seat.old).opened ≤ vec_capacity shelf.old }
-    ensures left { LeavesAll S.Pay.ends stream (row ∷ []) (S.view seat.old) shelf.old.items shelf.new.items (S.view seat.new) }
+    ensures released { Releases S.Pay.ends exit (lease stream) (row ∷ []) (S.view seat.old) shelf.old.items shelf.new.items (S.view seat.new) }
     ensures room { vec_capacity shelf.old ≤ vec_capacity shelf.new }
     ensures fits { S.fits seat.new desk.new }
     ensures others { OthersFit S.view S.fits (S.view seat.old).by desk.old desk.new }
 {
     match seat.leave(desk, stream, row) {
         Left::Stays => {}
-        Left::Yours => {
-            let mut pay = seat.take(desk, row);
-            let ok = pay.finish();
-            seat.note(desk, What::Final { row, ok });
-            match shelf.push(Spent { row, pay, ok }) {
-                Ok(()) => {}
-                Err(_) => unreachable!(),
-            }
-        }
+        Left::Yours => finalize(seat, desk, shelf, row, exit),
     }
 }
 
@@ -47,13 +42,14 @@ pub fn leave_all<S: RowSeat>(
     shelf: &mut Vec<Spent<S::Pay>>,
     stream: u32,
     rows: &[u32],
+    exit: Exit,
 )
 where
     S::Pay: Finish,
     requires fits { S.fits seat.old desk.old }
-    requires can { CanLeaveAll (S.view seat.old) stream (lifo rows.now) }
+    requires can { CanRelease (lease stream) (lifo rows.now) (S.view seat.old) }
     requires room { vec_len shelf.old + away (lifo rows.now) (S.view seat.old).opened ≤ vec_capacity shelf.old }
-    ensures left { LeavesAll S.Pay.ends stream (lifo rows.now) (S.view seat.old) shelf.old.items shelf.new.items (S.view seat.new) }
+    ensures released { Releases S.Pay.ends exit (lease stream) (lifo rows.now) (S.view seat.old) shelf.old.items shelf.new.items (S.view seat.new) }
     ensures room { vec_capacity shelf.old ≤ vec_capacity shelf.new }
     ensures fits { S.fits seat.new desk.new }
     ensures others { OthersFit S.view S.fits (S.view seat.old).by desk.old desk.new }
@@ -61,6 +57,6 @@ where
     let mut at = rows.len();
     'rows: while at > 0 {
         at -= 1;
-        leave(seat, desk, shelf, stream, rows[at]);
+        leave(seat, desk, shelf, stream, rows[at], exit);
     }
 }

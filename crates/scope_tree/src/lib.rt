@@ -6,6 +6,7 @@
 #![tactic(auto)]
 
 pub mod branch;
+mod finalize;
 pub mod laws;
 mod leases;
 mod leaving;

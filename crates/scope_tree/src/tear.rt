@@ -1,36 +1,36 @@
 //! Taking down what is open.
 ghost use Rattle.std.specs.Prelude.{◌≡◌, ℕ, ◌+◌, ◌<◌, ◌≤◌, length, vec_len, vec_capacity, ◌++◌, [], ◌∷◌};
 ghost use Rattle.row_seat.specs.Views.{OthersFit};
-ghost use Rattle.scope_tree.specs.Torn.{Ready, Tears};
 ghost use Rattle.scope_tree.specs.Kids.{lasts, whole};
+ghost use Rattle.scope_tree.specs.Released.{CanRelease, Releases};
+ghost use Rattle.scope_tree.specs.Released.Holder.{owner};
 
 use crate::branch::{Branch, Finish, Held, Spent};
-use res_ledger::What;
+use crate::finalize::finalize;
+use chunk_core::Exit;
 use row_seat::{Left, RowSeat};
 
 /// Closes a row, and where it is handed to this seat, ends it.
-fn release<S: RowSeat>(seat: &mut S, desk: &mut S::Desk, shelf: &mut Vec<Spent<S::Pay>>, row: u32)
+fn release<S: RowSeat>(
+    seat: &mut S,
+    desk: &mut S::Desk,
+    shelf: &mut Vec<Spent<S::Pay>>,
+    row: u32,
+    exit: Exit,
+)
 where
     S::Pay: Finish,
     requires fits { S.fits seat.old desk.old }
-    requires ready { Ready (S.view seat.old) (row ∷ []) }
+    requires can { CanRelease owner (row ∷ []) (S.view seat.old) }
     requires room { vec_len shelf.old + 1 ≤ vec_capacity shelf.old }
-    ensures torn { Tears S.Pay.ends (row ∷ []) (S.view seat.old) shelf.old.items shelf.new.items (S.view seat.new) }
+    ensures released { Releases S.Pay.ends exit owner (row ∷ []) (S.view seat.old) shelf.old.items shelf.new.items (S.view seat.new) }
     ensures room { vec_capacity shelf.old ≤ vec_capacity shelf.new }
     ensures fits { S.fits seat.new desk.new }
     ensures others { OthersFit S.view S.fits (S.view seat.old).by desk.old desk.new }
 {
     match seat.close(desk, row) {
         Left::Stays => {}
-        Left::Yours => {
-            let mut pay = seat.take(desk, row);
-            let ok = pay.finish();
-            seat.note(desk, What::Final { row, ok });
-            match shelf.push(Spent { row, pay, ok }) {
-                Ok(()) => {}
-                Err(_) => unreachable!(),
-            }
-        }
+        Left::Yours => finalize(seat, desk, shelf, row, exit),
     }
 }
 
@@ -41,13 +41,14 @@ fn release_rows<S: RowSeat>(
     shelf: &mut Vec<Spent<S::Pay>>,
     held: &[Held],
     scope: usize,
+    exit: Exit,
 )
 where
     S::Pay: Finish,
     requires fits { S.fits seat.old desk.old }
-    requires ready { Ready (S.view seat.old) (lasts held.now scope) }
+    requires can { CanRelease owner (lasts held.now scope) (S.view seat.old) }
     requires room { vec_len shelf.old + length (lasts held.now scope) ≤ vec_capacity shelf.old }
-    ensures torn { Tears S.Pay.ends (lasts held.now scope) (S.view seat.old) shelf.old.items shelf.new.items (S.view seat.new) }
+    ensures released { Releases S.Pay.ends exit owner (lasts held.now scope) (S.view seat.old) shelf.old.items shelf.new.items (S.view seat.new) }
     ensures room { vec_capacity shelf.old ≤ vec_capacity shelf.new }
     ensures fits { S.fits seat.new desk.new }
     ensures others { OthersFit S.view S.fits (S.view seat.old).by desk.old desk.new }
@@ -57,7 +58,7 @@ where
         at -= 1;
         let one = held[at];
         if one.scope as usize == scope {
-            release(seat, desk, shelf, one.row);
+            release(seat, desk, shelf, one.row, exit);
         }
     }
 }
@@ -70,14 +71,15 @@ pub fn tear<S: RowSeat>(
     branches: &[Branch],
     held: &[Held],
     scope: usize,
+    exit: Exit,
 )
 where
     S::Pay: Finish,
     requires scope { scope < length branches.now }
     requires fits { S.fits seat.old desk.old }
-    requires ready { Ready (S.view seat.old) (whole branches.now held.now scope) }
+    requires can { CanRelease owner (whole branches.now held.now scope) (S.view seat.old) }
     requires room { vec_len shelf.old + length (whole branches.now held.now scope) ≤ vec_capacity shelf.old }
-    ensures torn { Tears S.Pay.ends (whole branches.now held.now scope) (S.view seat.old) shelf.old.items shelf.new.items (S.view seat.new) }
+    ensures released { Releases S.Pay.ends exit owner (whole branches.now held.now scope) (S.view seat.old) shelf.old.items shelf.new.items (S.view seat.new) }
     ensures room { vec_capacity shelf.old ≤ vec_capacity shelf.new }
     ensures fits { S.fits seat.new desk.new }
     ensures others { OthersFit S.view S.fits (S.view seat.old).by desk.old desk.new }
@@ -87,8 +89,8 @@ where
         child -= 1;
         let branch = branches[child];
         if branch.parent as usize == scope && !branch.shut {
-            tear(seat, desk, shelf, branches, held, child);
+            tear(seat, desk, shelf, branches, held, child, exit);
         }
     }
-    release_rows(seat, desk, shelf, held, scope);
+    release_rows(seat, desk, shelf, held, scope, exit);
 }

@@ -5,14 +5,13 @@ ghost use Rattle.chunk_core.specs.Lists.{IsAmong};
 ghost use Rattle.res_ledger.specs.Ledger.{IsAcquired, IsLeased};
 ghost use Rattle.res_ledger.specs.Order.{firsts};
 ghost use Rattle.res_ledger.specs.Own.{leased_rows, opens, reaches};
-ghost use Rattle.res_ledger.proofs.Orders.{Rises};
+ghost use Rattle.res_ledger.specs.Rising.{Rises};
 ghost use Rattle.res_ledger.specs.Streams.{by_stream};
 ghost use Rattle.res_ledger.specs.declared.event.StreamNo.TheVariants.{Inner};
 ghost use Rattle.res_ledger.specs.declared.event.What.TheVariants.{Cancel};
 ghost use Rattle.row_seat.specs.Views.{AreApart, CanJoin, CanSplit, HasRow, MayNote, OthersFit, joined, split_main, split_off};
 ghost use Rattle.scope_tree.specs.Rows.{lifo, strangers};
-ghost use Rattle.scope_tree.specs.Torn.{said};
-ghost use Rattle.scope_tree.specs.Leaving.{away};
+ghost use Rattle.scope_tree.specs.Released.{away, said};
 ghost use Rattle.scope_tree.specs.Words.{ended_rows, owed, own_rows, words};
 ghost use Rattle.scope_tree.specs.Calls.{Acquires, AtStart, Cancels, Closes, IsClosedScope, IsOpenScope, Leases, Opens, WasOpened, used};
 ghost use Rattle.scope_tree.specs.Standings.{standing};
@@ -26,7 +25,7 @@ use crate::room::Room;
 use crate::rows::{outcome, scope_of};
 use crate::tear::tear;
 use crate::walk::{first_open, is_above, is_open};
-use chunk_core::{List, Span};
+use chunk_core::{Exit, List, Span};
 use res_ledger::What;
 use row_seat::RowSeat;
 use std::alloc::{AllocError, Global};
@@ -61,13 +60,10 @@ where
             scopes,
             rows,
         } = room;
-        match branches.push(Branch {
+        branches.push_reserved(Branch {
             parent: 0,
             shut: false,
-        }) {
-            Ok(()) => {}
-            Err(_) => unreachable!(),
-        }
+        });
         Tree {
             seat,
             branches,
@@ -92,13 +88,10 @@ where
         let parent = first_open(&self.branches, at);
         let scope = self.branches.len() as u32;
         self.seat.note(desk, What::Open { scope, parent });
-        match self.branches.push(Branch {
+        self.branches.push_reserved(Branch {
             parent,
             shut: false,
-        }) {
-            Ok(()) => {}
-            Err(_) => unreachable!(),
-        }
+        });
         scope
     }
 
@@ -116,10 +109,7 @@ where
     {
         self.seat.note(desk, What::Acquire { row, scope });
         self.seat.place(desk, row, pay);
-        match self.held.push(Held { row, scope }) {
-            Ok(()) => {}
-            Err(_) => unreachable!(),
-        }
+        self.held.push_reserved(Held { row, scope });
     }
 
     /// The payload of an open row, for reading and writing.
@@ -185,14 +175,14 @@ where
 
     /// Closes an open scope: its open children, latest first, then its own rows, latest first, each
     /// ended before the next. A row that a lease stands on is left to the last lease.
-    pub fn close(&mut self, desk: &mut S::Desk, scope: u32)
+    pub fn close(&mut self, desk: &mut S::Desk, scope: u32, exit: Exit)
         requires fits { Fits S.view S.fits self.old desk.old }
         requires scope { IsOpenScope (seen S.view self.old) scope }
-        ensures closes { Closes S.Pay.ends (seen S.view self.old) scope (seen S.view self.new) }
+        ensures closes { Closes S.Pay.ends (seen S.view self.old) scope exit (seen S.view self.new) }
         ensures fits { Fits S.view S.fits self.new desk.new }
         ensures others { OthersFit S.view S.fits (S.view self.old.seat).by desk.old desk.new }
     {
-        self.seat.note(desk, What::Close { scope });
+        self.seat.note(desk, What::Close { scope, exit });
         tear(
             &mut self.seat,
             desk,
@@ -200,6 +190,7 @@ where
             &self.branches,
             &self.held,
             scope as usize,
+            exit,
         );
         self.branches[scope as usize].shut = true;
     }
@@ -207,19 +198,19 @@ where
     /// Cancels a lease: on the tree that made it, or on that of the stream it was made for, once the
     /// stream's own rows have ended. Its rows are left, latest first; a closed row that no other lease
     /// stands on is ended before the next is left.
-    pub fn cancel(&mut self, desk: &mut S::Desk, lease: Lease)
+    pub fn cancel(&mut self, desk: &mut S::Desk, lease: Lease, exit: Exit)
         requires fits { Fits S.view S.fits self.old desk.old }
-        requires may { MayNote (S.view self.old.seat) (Cancel lease.stream) }
+        requires may { MayNote (S.view self.old.seat) (Cancel lease.stream exit) }
         requires pairs { (r : ℕ) → IsAmong r lease.rows.items → IsAmong (lease.stream, r) (S.view self.old.seat).pairs }
         requires room { used (seen S.view self.old) + strangers (own_rows (S.view self.old.seat)) lease.rows.items ≤ (seen S.view self.old).rows }
         requires free { owed (S.view self.old.seat) + 1 + away lease.rows.items (S.view self.old.seat).opened ≤ (S.view self.old.seat).spare }
-        ensures cancels { Cancels S.Pay.ends (seen S.view self.old) lease.stream lease.rows.items (seen S.view self.new) }
+        ensures cancels { Cancels S.Pay.ends (seen S.view self.old) lease.stream lease.rows.items exit (seen S.view self.new) }
         ensures fits { Fits S.view S.fits self.new desk.new }
         ensures others { OthersFit S.view S.fits (S.view self.old.seat).by desk.old desk.new }
     {
         let Lease { stream, rows } = lease;
-        self.seat.note(desk, What::Cancel { stream });
-        leave_all(&mut self.seat, desk, &mut self.shelf, stream, &rows);
+        self.seat.note(desk, What::Cancel { stream, exit });
+        leave_all(&mut self.seat, desk, &mut self.shelf, stream, &rows, exit);
     }
 
     /// Makes the seat of a stream, with empty rows and room for events of this tree's seat, and with

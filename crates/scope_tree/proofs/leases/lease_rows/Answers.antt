@@ -1,6 +1,6 @@
 use Rattle.std.proofs.Common.{◌≡◌, ◌+◌, suc, take, slice_index_or, sym, ap, ◌∙◌, subst, arith}
 use Rattle.row_seat.specs.Views.{CanLease, leased}
-use Rattle.scope_tree.specs.Leaving.{leased_all}
+use Rattle.scope_tree.specs.Leased.{leased_all}
 use Rattle.scope_tree.proofs.Leasing.{can_lease, leased_next, leased_none, take_all, take_next}
 use Rattle.scope_tree.proofs.leases.lease_rows.Goals as goal
 

@@ -1,6 +1,6 @@
 use Rattle.std.proofs.Common.{◌≡◌, take}
 use Rattle.row_seat.specs.Views.{OthersFit}
-use Rattle.scope_tree.specs.Leaving.{leased_all}
+use Rattle.scope_tree.specs.Leased.{leased_all}
 use Rattle.scope_tree.proofs.leases.lease_rows.Given as goal
 
 abbrev pub invariant-each : goal.invariant-each

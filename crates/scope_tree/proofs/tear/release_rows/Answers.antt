@@ -1,8 +1,10 @@
 use Rattle.std.proofs.Common.{◌≡◌, ◌-◌, ◌<◌, suc, length, drop, [], ◌∷◌, slice_index_or, sym, ◌∙◌, subst, arith}
 use Rattle.scope_tree.specs.declared.branch.Held.{Held}
-use Rattle.scope_tree.specs.Torn.{Tears}
 use Rattle.scope_tree.specs.Kids.{lasts}
-use Rattle.scope_tree.proofs.Taking.{tears_none, tears_append, ready_next, room_next, torn_by}
+use Rattle.scope_tree.specs.Released.{Releases}
+use Rattle.scope_tree.specs.Released.Holder.{owner}
+use Rattle.scope_tree.proofs.Follows.{released_follows, same_by}
+use Rattle.scope_tree.proofs.Releasing.{releases_none, releases_append, next_can, next_room}
 use Rattle.scope_tree.proofs.Shapes.{drop_all, lasts_next, lasts_here}
 use Rattle.scope_tree.proofs.tear.release_rows.Goals as goal
 
@@ -10,18 +12,18 @@ pub rows-init : goal.rows-init
 rows-init g c = record {
   within = omega arith;
   fits = c.requires.fits;
-  torn = subst (λ hs. Tears g.S.Pay.Finish.ends (lasts hs c.args.scope) (g.S.RowSeat.view c.args.seat.now) c.args.shelf.now.items c.args.shelf.now.items (g.S.RowSeat.view c.args.seat.now)) (sym (drop_all c.args.held.now)) (tears_none _ _);
+  released = subst (λ hs. Releases g.S.Pay.Finish.ends c.args.exit owner (lasts hs c.args.scope) (g.S.RowSeat.view c.args.seat.now) c.args.shelf.now.items c.args.shelf.now.items (g.S.RowSeat.view c.args.seat.now)) (sym (drop_all c.args.held.now)) (releases_none _ _);
   room = omega arith;
   others = λ o n f. f;
 }
 
-pub release-requires-clause-ready : goal.release-requires-clause-ready
-release-requires-clause-ready g c =
+pub release-requires-clause-can : goal.release-requires-clause-can
+release-requires-clause-can g c =
     let hs = c.args.held.now in let s = c.args.scope in let k = c.rows.at - 1 in let d : Held = record { row = 0; scope = 0 } in
     let e : c.rows.at ≡ suc k = let t = c.rows-test.true in omega arith in
     let l : k < length hs = let t = c.rows-test.true in let w = c.rows.invariant.within in omega arith in
     let x = lasts_next hs s c.rows.at k d e l c.if-one-scope.true in
-    ready_next (lasts hs s) (lasts (drop c.rows.at hs) s) ((slice_index_or hs k d).row ∷ []) x.0 _ _ _ _ x.1 c.requires.ready c.rows.invariant.torn
+    next_can (lasts hs s) (lasts (drop c.rows.at hs) s) ((slice_index_or hs k d).row ∷ []) x.0 _ _ _ _ x.1 c.requires.can c.rows.invariant.released
 
 pub release-requires-clause-room : goal.release-requires-clause-room
 release-requires-clause-room g c =
@@ -29,7 +31,7 @@ release-requires-clause-room g c =
     let e : c.rows.at ≡ suc k = let t = c.rows-test.true in omega arith in
     let l : k < length hs = let t = c.rows-test.true in let w = c.rows.invariant.within in omega arith in
     let x = lasts_next hs s c.rows.at k d e l c.if-one-scope.true in
-    let r = room_next (lasts hs s) (lasts (drop c.rows.at hs) s) ((slice_index_or hs k d).row ∷ []) x.0 _ _ _ _ x.1 c.rows.invariant.torn in
+    let r = next_room (lasts hs s) (lasts (drop c.rows.at hs) s) ((slice_index_or hs k d).row ∷ []) x.0 _ _ _ _ x.1 c.rows.invariant.released in
     let a = c.requires.room in let b = c.rows.invariant.room in let p = c.args.shelf.now.ok.0 in let q = c.rows.shelf.ok.0 in omega arith
 
 pub rows-preserved-then-one-scope : goal.rows-preserved-then-one-scope
@@ -40,7 +42,7 @@ rows-preserved-then-one-scope g c =
     record {
       within = omega arith;
       fits = c.release.ensures.fits;
-      torn = subst (λ T. Tears g.S.Pay.Finish.ends T (g.S.RowSeat.view c.args.seat.now) c.args.shelf.now.items c.release.new.shelf.items (g.S.RowSeat.view c.release.new.seat)) (sym (lasts_here hs s c.rows.at k d e l c.if-one-scope.true)) (tears_append _ _ _ c.rows.invariant.torn c.release.ensures.torn);
+      released = subst (λ T. Releases g.S.Pay.Finish.ends c.args.exit owner T (g.S.RowSeat.view c.args.seat.now) c.args.shelf.now.items c.release.new.shelf.items (g.S.RowSeat.view c.release.new.seat)) (sym (lasts_here hs s c.rows.at k d e l c.if-one-scope.true)) (releases_append _ _ _ c.rows.invariant.released c.release.ensures.released);
       room = let a = c.rows.invariant.room in let b = c.release.ensures.room in omega arith;
-      others = λ o n f. c.release.ensures.others o (λ z. n (z ∙ torn_by c.rows.invariant.torn.2)) (c.rows.invariant.others o n f);
+      others = λ o n f. c.release.ensures.others o (λ z. n (z ∙ same_by (released_follows c.rows.invariant.released.2))) (c.rows.invariant.others o n f);
     }

@@ -7,7 +7,7 @@ use Rattle.chunk_core.specs.Lists.{IsAmong}
 use Rattle.chunk_core.proofs.Members.{among_left}
 use Rattle.res_ledger.specs.Order.{firsts}
 use Rattle.scope_tree.specs.declared.branch.Held.{Held}
-use Rattle.scope_tree.specs.Torn.{said}
+use Rattle.scope_tree.specs.Released.{said}
 use Rattle.scope_tree.specs.Kept.{Shelved, held_rows}
 use Rattle.scope_tree.proofs.Distinct.{strangers_less}
 use Rattle.scope_tree.proofs.Rooms.{used_is}
@@ -18,11 +18,11 @@ use Rattle.scope_tree.proofs.tree.Tree.acquired.Goals as goal
 pub place-requires-clause-row : goal.place-requires-clause-row
 place-requires-clause-row g c = rw c.note.ensures.view (c.requires.row, (c.args.scope, (_, among_last _ _, refl, refl)))
 
-pub unreachable-requires : goal.unreachable-requires
-unreachable-requires g c =
+pub push_reserved-requires : goal.push_reserved-requires
+push_reserved-requires g c =
     let t = c.args.self.now in let k = c.requires.fits.sound.kept in let a = c.requires.room in let b = c.requires.fits.sound.held in
-    let u = used_is (g.S.RowSeat.view t.seat) t.branches.items t.held.items k (firsts (said t.shelf.items)) in let z = t.held.ok.0 in let f = c.in-Err.ensures.full in
-    omega (u, a, b, z, f, arith)
+    let u = used_is (g.S.RowSeat.view t.seat) t.branches.items t.held.items k (firsts (said t.shelf.items)) in let z = t.held.ok.0 in
+    omega (u, a, b, z, arith)
 
 pub returns-clause-fits : goal.returns-clause-fits
 returns-clause-fits g c =
@@ -34,11 +34,11 @@ returns-clause-fits g c =
     let F = firsts (said t.shelf.items) in
     let u = used_is v bs hs z.kept F in let u' = used_is w bs (hs ++ h ∷ []) k F in let a = c.requires.room in let l = length-append hs (h ∷ []) in
     let m = strangers_less (held_rows hs) (held_rows (hs ++ h ∷ [])) F (λ q i. subst (λ l. IsAmong q l) (sym (rows_snoc hs h)) (among_left (r ∷ []) i)) in
-    let cap = c.in-Ok.ensures.capacity in let b = z.held in record {
+    let cap = c.push_reserved.ensures.capacity in let b = z.held in record {
       seat = c.place.ensures.fits;
       sound = record {
-        kept = subst (λ x. Kept w bs x) (sym c.in-Ok.ensures.items) k;
-        shelved = subst (λ x. Shelved w x t.shelf.items) (sym c.in-Ok.ensures.items) (subst (λ x. Shelved x (hs ++ h ∷ []) t.shelf.items) (sym e) (acquire_shelved v bs hs t.shelf.items z.kept z.shelved r s n c.args.pay c.requires.row c.note.ensures.stamp));
+        kept = subst (λ x. Kept w bs x) (sym c.push_reserved.ensures.items) k;
+        shelved = subst (λ x. Shelved w x t.shelf.items) (sym c.push_reserved.ensures.items) (subst (λ x. Shelved x (hs ++ h ∷ []) t.shelf.items) (sym e) (acquire_shelved v bs hs t.shelf.items z.kept z.shelved r s n c.args.pay c.requires.row c.note.ensures.stamp));
         used = omega (u, u', a, l, m, arith);
         branches = z.branches;
         held = omega (cap, b, arith);

@@ -4,13 +4,13 @@ use Rattle.res_ledger.specs.Order.{firsts}
 use Rattle.row_seat.specs.Views.{noted}
 use Rattle.row_seat.specs.declared.view.View.{View}
 use Rattle.scope_tree.specs.Rows.{AreDistinct, lifo, strangers}
-use Rattle.scope_tree.specs.Torn.{said}
-use Rattle.scope_tree.specs.Leaving.{LeavesAll, away}
+use Rattle.scope_tree.specs.Released.{Releases, away, said}
+use Rattle.scope_tree.specs.Released.Holder.{lease}
 use Rattle.scope_tree.specs.Words.{canceling, owed}
 use Rattle.scope_tree.specs.Kept.{Shelved, held_rows}
 use Rattle.scope_tree.proofs.Cancelling.{cancel_can, cancel_keeps}
 use Rattle.scope_tree.proofs.Distinct.{among_lifo, distinct_lifo, firsts_append, picks_strangers, said_append, strangers_append, test_distinct}
-use Rattle.scope_tree.proofs.Quitting.{quits_picks}
+use Rattle.scope_tree.proofs.Releasing.{released_picks}
 use Rattle.scope_tree.proofs.Rooms.{away_lifo, cancel_count, rows_count, strangers_lifo, used_is}
 use Rattle.scope_tree.proofs.Shelving.{cancel_shelved}
 use Rattle.scope_tree.proofs.tree.Tree.cancel.Goals as goal
@@ -21,7 +21,7 @@ free_lifo v T f = let e = away_lifo T v.opened in omega (e, f, arith)
 pub leave_all-requires-clause-can : goal.leave_all-requires-clause-can
 leave_all-requires-clause-can g c =
     let t = c.args.self.now in let v = g.S.RowSeat.view t.seat in let j = c.args.lease.stream in let T = c.args.lease.rows.items in
-    rw (c.note.ensures.view, c.deref.ensures.value) (cancel_can v t.branches.items t.held.items j c.note.result (lifo T) c.requires.fits.sound.kept (distinct_lifo T (test_distinct T c.args.lease.distinct)) (λ r m. c.requires.pairs r (among_lifo r T m)) (free_lifo v T c.requires.free))
+    rw (c.note.ensures.view, c.deref.ensures.value) (cancel_can v t.branches.items t.held.items j c.note.result (lifo T) c.args.exit c.requires.fits.sound.kept (distinct_lifo T (test_distinct T c.args.lease.distinct)) (λ r m. c.requires.pairs r (among_lifo r T m)) (free_lifo v T c.requires.free))
 
 pub leave_all-requires-clause-room : goal.leave_all-requires-clause-room
 leave_all-requires-clause-room g c =
@@ -34,15 +34,15 @@ pub returns-clause-fits : goal.returns-clause-fits
 returns-clause-fits g c =
     let t = c.args.self.now in let v = g.S.RowSeat.view t.seat in let bs = t.branches.items in let hs = t.held.items in let z = c.requires.fits.sound in let n = c.note.result in
     let j = c.args.lease.stream in let T = c.args.lease.rows.items in let w = g.S.RowSeat.view c.leave_all.new.seat in let shelf = c.leave_all.new.shelf.items in
-    let all : LeavesAll g.S.Pay.Finish.ends j (lifo T) (noted v (canceling v j n)) t.shelf.items shelf w = rw (c.note.ensures.view, c.deref.ensures.value) at c.leave_all.ensures.left in
+    let all : Releases g.S.Pay.Finish.ends c.args.exit (lease j) (lifo T) (noted v (canceling v j c.args.exit n)) t.shelf.items shelf w = rw (c.note.ensures.view, c.deref.ensures.value) at c.leave_all.ensures.released in
     let xs = all.0 in let d : AreDistinct (lifo T) = distinct_lifo T (test_distinct T c.args.lease.distinct) in
     let p : (r : ℕ) → IsAmong r (lifo T) → IsAmong (j, r) v.pairs = λ r m. c.requires.pairs r (among_lifo r T m) in
     let f = free_lifo v T c.requires.free in
-    let k = cancel_keeps v bs hs j n (lifo T) z.kept d p f w xs all.2 in
+    let k = cancel_keeps v bs hs j n (lifo T) c.args.exit z.kept d p f w xs all.2 in
     let F = firsts (said t.shelf.items) in let F' = firsts (said shelf) in let own = held_rows hs in
     let F_is : F' ≡ F ++ firsts (said xs) = ap (λ l. firsts (said l)) all.1 ∙ ap firsts (said_append t.shelf.items xs) ∙ firsts_append (said t.shelf.items) (said xs) in
     let more : strangers own F' ≡ strangers own F + strangers own (firsts (said xs)) = ap (strangers own) F_is ∙ strangers_append own F (firsts (said xs)) in
-    let few = picks_strangers own (quits_picks all.2) in let same = strangers_lifo own T in
+    let few = picks_strangers own (released_picks all.2) in let same = strangers_lifo own T in
     let i = rows_count v bs hs z.kept in let u = used_is v bs hs z.kept F in let u2 = used_is v bs hs z.kept T in let u' = used_is w bs hs k F' in let a = c.requires.room in let b = z.shelf in let r = c.leave_all.ensures.room in record {
       seat = c.leave_all.ensures.fits;
       sound = record {

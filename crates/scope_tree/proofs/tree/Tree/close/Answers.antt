@@ -1,22 +1,22 @@
 use Rattle.std.proofs.Common.{◌≡◌, ◌+◌, ◌++◌, refl, sym, ap, ◌∙◌, subst, arith}
 use Rattle.scope_tree.specs.Words.{shutting}
-use Rattle.scope_tree.specs.Torn.{Tears}
+use Rattle.scope_tree.specs.Released.{Releases}
 use Rattle.scope_tree.specs.Kids.{whole}
+use Rattle.scope_tree.specs.Released.Holder.{owner}
 use Rattle.std.proofs.Common.{add-zero}
 use Rattle.res_ledger.specs.Order.{firsts}
 use Rattle.scope_tree.specs.Rows.{strangers}
-use Rattle.scope_tree.specs.Torn.{said}
+use Rattle.scope_tree.specs.Released.{said}
 use Rattle.scope_tree.specs.Kept.{Shelved, held_rows}
 use Rattle.scope_tree.proofs.Distinct.{firsts_append, picks_among, said_append, strangers_append}
-use Rattle.scope_tree.proofs.Facts.{torn_picks}
 use Rattle.scope_tree.proofs.Beneath.{whole_under}
 use Rattle.scope_tree.proofs.Parts.{row_of_pair}
 use Rattle.scope_tree.proofs.Rooms.{shelf_count, strangers_none, used_is}
 use Rattle.scope_tree.proofs.Shelving.{close_shelved}
-use Rattle.scope_tree.proofs.Beneath.{close_spare, close_ready, close_count, usable_scope, whole_is}
+use Rattle.scope_tree.proofs.Beneath.{close_spare, close_can, close_count, usable_scope, whole_is}
 use Rattle.scope_tree.proofs.Keeps.{close_keeps}
 use Rattle.std.proofs.lemmas.List.{get_or_default}
-use Rattle.scope_tree.proofs.Taking.{tears_at}
+use Rattle.scope_tree.proofs.Releasing.{released_picks, releases_at}
 use Rattle.scope_tree.proofs.tree.Tree.close.Goals as goal
 
 pub note-requires-clause-room : goal.note-requires-clause-room
@@ -25,8 +25,8 @@ note-requires-clause-room g c = let t = c.args.self.now in close_spare (g.S.RowS
 pub tear-requires-clause-scope : goal.tear-requires-clause-scope
 tear-requires-clause-scope g c = let t = c.args.self.now in rw c.deref.ensures.value (usable_scope (g.S.RowSeat.view t.seat) t.branches.items t.held.items c.requires.fits.sound.kept c.args.scope c.requires.scope)
 
-pub tear-requires-clause-ready : goal.tear-requires-clause-ready
-tear-requires-clause-ready g c = let t = c.args.self.now in rw (c.note.ensures.view, c.deref.ensures.value, c.deref-2.ensures.value) (close_ready (g.S.RowSeat.view t.seat) t.branches.items t.held.items c.requires.fits.sound.kept c.args.scope c.note.result c.requires.scope)
+pub tear-requires-clause-can : goal.tear-requires-clause-can
+tear-requires-clause-can g c = let t = c.args.self.now in rw (c.note.ensures.view, c.deref.ensures.value, c.deref-2.ensures.value) (close_can (g.S.RowSeat.view t.seat) t.branches.items t.held.items c.requires.fits.sound.kept c.args.scope c.note.result c.args.exit c.requires.scope)
 
 pub tear-requires-clause-room : goal.tear-requires-clause-room
 tear-requires-clause-room g c =
@@ -43,7 +43,7 @@ returns-clause-closes g c =
     let l = usable_scope v bs hs c.requires.fits.sound.kept s c.requires.scope in record {
       stamp = c.note.result;
       fresh = c.note.ensures.stamp;
-      torn = tears_at _ _ (ap (λ x. whole x c.deref-2.result.now s) c.deref.ensures.value ∙ ap (λ x. whole bs x s) c.deref-2.ensures.value ∙ whole_is v bs hs c.requires.fits.sound.kept s l) c.note.ensures.view c.tear.ensures.torn;
+      torn = releases_at _ _ (ap (λ x. whole x c.deref-2.result.now s) c.deref.ensures.value ∙ ap (λ x. whole bs x s) c.deref-2.ensures.value ∙ whole_is v bs hs c.requires.fits.sound.kept s l) c.note.ensures.view c.tear.ensures.released;
       scopes = refl;
       rows = refl;
     }
@@ -52,17 +52,17 @@ pub returns-clause-fits : goal.returns-clause-fits
 returns-clause-fits g c =
     let t = c.args.self.now in let s = c.args.scope in let bs = t.branches.items in let hs = t.held.items in let v = g.S.RowSeat.view t.seat in let w = g.S.RowSeat.view c.tear.new.seat in let z = c.requires.fits.sound in
     let l = usable_scope v bs hs z.kept s c.requires.scope in let n = c.note.result in
-    let all : Tears g.S.Pay.Finish.ends (whole bs hs s) (shutting v s n) t.shelf.items c.tear.new.shelf.items w = tears_at _ _ (ap (λ x. whole x c.deref-2.result.now s) c.deref.ensures.value ∙ ap (λ x. whole bs x s) c.deref-2.ensures.value) c.note.ensures.view c.tear.ensures.torn in
+    let all : Releases g.S.Pay.Finish.ends c.args.exit owner (whole bs hs s) (shutting v s c.args.exit n) t.shelf.items c.tear.new.shelf.items w = releases_at _ _ (ap (λ x. whole x c.deref-2.result.now s) c.deref.ensures.value ∙ ap (λ x. whole bs x s) c.deref-2.ensures.value) c.note.ensures.view c.tear.ensures.released in
     let xs = all.0 in let torn = all.2 in let shelf = c.tear.new.shelf.items in
     let k = close_keeps v w bs hs xs s n z.kept c.requires.scope torn _ (λ d. ap (λ b. b.parent) (get_or_default bs s d c.index_mut.result.now l ∙ sym c.index_mut.ensures.value)) refl in
     let F = firsts (said t.shelf.items) in let F' = firsts (said shelf) in
     let F_is : F' ≡ F ++ firsts (said xs) = ap (λ l. firsts (said l)) all.1 ∙ ap firsts (said_append t.shelf.items xs) ∙ firsts_append (said t.shelf.items) (said xs) in
-    let none : strangers (held_rows hs) F' ≡ strangers (held_rows hs) F = ap (strangers (held_rows hs)) F_is ∙ strangers_append (held_rows hs) F (firsts (said xs)) ∙ ap (λ n. strangers (held_rows hs) F + n) (strangers_none (held_rows hs) (firsts (said xs)) (λ r m. let y = whole_under bs hs r s l (picks_among r (torn_picks w.events v.by torn refl refl) m) in row_of_pair r y.0 hs y.1)) ∙ add-zero _ in
+    let none : strangers (held_rows hs) F' ≡ strangers (held_rows hs) F = ap (strangers (held_rows hs)) F_is ∙ strangers_append (held_rows hs) F (firsts (said xs)) ∙ ap (λ n. strangers (held_rows hs) F + n) (strangers_none (held_rows hs) (firsts (said xs)) (λ r m. let y = whole_under bs hs r s l (picks_among r (released_picks torn) m) in row_of_pair r y.0 hs y.1)) ∙ add-zero _ in
     let u = used_is v bs hs z.kept F in let u' = used_is w _ hs k F' in let a = z.used in let b = z.shelf in let d = c.tear.ensures.room in record {
       seat = c.tear.ensures.fits;
       sound = record {
         kept = k;
-        shelved = subst (λ l. Shelved w hs l) (sym all.1) (close_shelved v bs hs t.shelf.items z.kept z.shelved s n c.note.ensures.stamp torn);
+        shelved = subst (λ l. Shelved w hs l) (sym all.1) (close_shelved v bs hs t.shelf.items z.kept z.shelved s n c.requires.scope c.note.ensures.stamp torn);
         used = omega (u, u', a, none, arith);
         branches = z.branches;
         held = z.held;

@@ -20,7 +20,7 @@ reaches-requires-clause-of g c =
     let t = c.args.self.now in let v = g.S.RowSeat.view t.seat in let bs = t.branches.items in let hs = t.held.items in let k = c.requires.tree.kept in let i = c.each.one-index in let d : Held = record { row = 0; scope = 0 } in
     let e = c.deref-one-items.ensures.value in
     let l : i < length hs = subst (λ h. i < length h) e c.each-test.true in
-    subst (λ h. WasOpened (seen g.S.RowSeat.view t) (slice_index_or h i d).scope) (sym e) (was_opened v bs hs k (slice_index_or hs i d).scope (k.ranged (slice_index_or hs i d).row (slice_index_or hs i d).scope (pair_at hs i d l)))
+    subst (λ h. WasOpened (seen g.S.RowSeat.view t) (slice_index_or h i d).scope) (sym e) (was_opened v bs hs k (slice_index_or hs i d).scope (k.mirrors.ranged (slice_index_or hs i d).row (slice_index_or hs i d).scope (pair_at hs i d l)))
 
 pub each-preserved : goal.each-preserved
 each-preserved g c =
@@ -38,4 +38,4 @@ pub returns : goal.returns
 returns g c =
     let t = c.args.self.now in let v = g.S.RowSeat.view t.seat in let hs = t.held.items in let f = reaches (words v) c.args.scope in
     let l = c.each-test.false in let e = ap length c.deref-one-items.ensures.value in
-    c.each.invariant ∙ ap (λ x. picked f (held_pairs x)) (take_all hs c.each.one-index (omega (l, e, arith))) ∙ ap (picked f) (sym c.requires.tree.kept.rows)
+    c.each.invariant ∙ ap (λ x. picked f (held_pairs x)) (take_all hs c.each.one-index (omega (l, e, arith))) ∙ ap (picked f) (sym c.requires.tree.kept.mirrors.rows)

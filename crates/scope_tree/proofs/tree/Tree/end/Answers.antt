@@ -21,4 +21,4 @@ returns-clause-rising g c = c.requires.tree.shelved.rises
 pub returns-clause-rest : goal.returns-clause-rest
 returns-clause-rest g c =
     let t = c.args.self in let k = c.requires.tree.kept in
-    (nothing_open (g.S.RowSeat.view t.seat) t.branches.items t.held.items k c.requires.closed, k.handed, k.taken, k.empty)
+    (nothing_open (g.S.RowSeat.view t.seat) t.branches.items t.held.items k c.requires.closed, k.rests.handed, k.rests.taken, k.rests.empty)

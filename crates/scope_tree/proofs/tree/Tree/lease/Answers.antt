@@ -5,9 +5,9 @@ use Rattle.res_ledger.specs.Own.{leased_rows}
 use Rattle.row_seat.specs.declared.view.View.{View}
 use Rattle.row_seat.specs.Views.{MayNote, noted}
 use Rattle.scope_tree.specs.Kept.{Kept, Shelved}
-use Rattle.scope_tree.specs.Leaving.{leased_all}
+use Rattle.scope_tree.specs.Leased.{leased_all}
 use Rattle.scope_tree.specs.Rows.{AreDistinct}
-use Rattle.scope_tree.specs.Torn.{said}
+use Rattle.scope_tree.specs.Released.{said}
 use Rattle.scope_tree.specs.Words.{leasing, words}
 use Rattle.scope_tree.proofs.Distinct.{distinct_test}
 use Rattle.scope_tree.proofs.Leased.{lease_distinct, lease_event, lease_keeps, lease_none, lease_rows_open, lease_shelved}

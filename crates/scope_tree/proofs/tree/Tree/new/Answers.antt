@@ -9,10 +9,10 @@ use Rattle.scope_tree.proofs.tree.Tree.new.Goals as goal
 pub returns-clause-fits : goal.returns-clause-fits
 returns-clause-fits g c = λ d f.
     let v = g.S.RowSeat.view c.args.seat in let room = c.args.room in let root : Branch = record { parent = 0; shut = false } in
-    let items : c.push.new.self.items ≡ root ∷ [] = c.in-Ok.ensures.items ∙ ap (λ l. l ++ root ∷ []) room.nothing.0 in
+    let items : c.push_reserved.new.self.items ≡ root ∷ [] = c.push_reserved.ensures.items ∙ ap (λ l. l ++ root ∷ []) room.nothing.0 in
     let k = start_keeps v c.requires.start in let u = used_is v (root ∷ []) [] k [] in
-    let kept : Kept v c.push.new.self.items room.held.items = subst (λ l. Kept v l room.held.items) (sym items) (subst (λ l. Kept v (root ∷ []) l) (sym room.nothing.1) k) in
-    let e = room.enough in let cap = c.in-Ok.ensures.capacity in record {
+    let kept : Kept v c.push_reserved.new.self.items room.held.items = subst (λ l. Kept v l room.held.items) (sym items) (subst (λ l. Kept v (root ∷ []) l) (sym room.nothing.1) k) in
+    let e = room.enough in let cap = c.push_reserved.ensures.capacity in record {
       seat = f;
       sound = record {
         kept = kept;
@@ -26,5 +26,5 @@ returns-clause-fits g c = λ d f.
       };
     }
 
-pub unreachable-requires : goal.unreachable-requires
-unreachable-requires g c = let f = c.in-Err.ensures.full in let e = c.args.room.enough in let o = c.args.room.one in let n = ap length c.args.room.nothing.0 in let z = c.args.room.branches.ok.0 in let a = e.0 in omega (f, o, n, z, a, arith)
+pub push_reserved-requires : goal.push_reserved-requires
+push_reserved-requires g c = let e = c.args.room.enough in let o = c.args.room.one in let n = ap length c.args.room.nothing.0 in let z = c.args.room.branches.ok.0 in let a = e.0 in omega (o, n, z, a, arith)

@@ -5,7 +5,7 @@ use Rattle.scope_tree.specs.declared.branch.Branch.{Branch}
 use Rattle.scope_tree.specs.Words.{words, opening}
 use Rattle.scope_tree.specs.Kept.{Kept, marks}
 use Rattle.res_ledger.specs.Order.{firsts}
-use Rattle.scope_tree.specs.Torn.{said}
+use Rattle.scope_tree.specs.Released.{said}
 use Rattle.scope_tree.specs.Kept.{Shelved}
 use Rattle.scope_tree.proofs.Rooms.{used_is}
 use Rattle.scope_tree.proofs.Shelving.{open_shelved}
@@ -22,38 +22,38 @@ use Rattle.scope_tree.proofs.tree.Tree.open.Goals as goal
 pub overflow_cast-scope : goal.overflow_cast-scope
 overflow_cast-scope g c =
     let t = c.args.self.now in let k = c.requires.fits.sound.kept in
-    let n : length (opens (words (g.S.RowSeat.view t.seat))) ≡ length (marks 1 (drop 1 t.branches.items)) = ap length k.opens in let m = length_marks t.branches.items k.size in
+    let n : length (opens (words (g.S.RowSeat.view t.seat))) ≡ length (marks 1 (drop 1 t.branches.items)) = ap length k.mirrors.opens in let m = length_marks t.branches.items k.mirrors.size in
     let l = c.len-scope.ensures in let z = t.branches.ok.0 in let a = c.requires.room in let d = c.requires.fits.sound.limit in omega arith
 
 at_in : {P : Type 0} (v : View P) (bs : List Branch) (hs : List Held) (k : Kept v bs hs) (c : ℕ) → (c ≡ 0) ⊎ IsOpened v.events v.by c → c < length bs
-at_in v bs hs k c a = ⊎_elim (λ e. let z = k.size in omega arith) (λ o. (noted_scope v bs hs k c o.0 o.1).1) a
+at_in v bs hs k c a = ⊎_elim (λ e. let z = k.mirrors.size in omega arith) (λ o. (noted_scope v bs hs k c o.0 o.1).1) a
 
 pub first_open-parent-requires-clause-scope : goal.first_open-parent-requires-clause-scope
 first_open-parent-requires-clause-scope g c = let t = c.args.self.now in rw c.deref.ensures.value (at_in (g.S.RowSeat.view t.seat) t.branches.items t.held.items c.requires.fits.sound.kept c.args.at c.requires.at)
 
 pub first_open-parent-requires-clause-parents : goal.first_open-parent-requires-clause-parents
-first_open-parent-requires-clause-parents g c = rw c.deref.ensures.value c.requires.fits.sound.kept.parents
+first_open-parent-requires-clause-parents g c = rw c.deref.ensures.value c.requires.fits.sound.kept.mirrors.parents
 
 pub first_open-parent-requires-clause-root : goal.first_open-parent-requires-clause-root
-first_open-parent-requires-clause-root g c = let t = c.args.self.now in let k = c.requires.fits.sound.kept in rw c.deref.ensures.value (λ d. no_own_close (g.S.RowSeat.view t.seat) t.branches.items t.held.items k 0 d k.size (λ n. c.requires.root (0, same 0, n)))
+first_open-parent-requires-clause-root g c = let t = c.args.self.now in let k = c.requires.fits.sound.kept in rw c.deref.ensures.value (λ d. no_own_close (g.S.RowSeat.view t.seat) t.branches.items t.held.items k 0 d k.mirrors.size (λ n. c.requires.root (0, same 0, n)))
 
 pub note-requires-clause-event : goal.note-requires-clause-event
 note-requires-clause-event g c =
     let bs = c.args.self.now.branches.items in let hs = c.args.self.now.held.items in let v = g.S.RowSeat.view c.args.self.now.seat in
-    let t = c.args.self.now in let k = c.requires.fits.sound.kept in let l = c.len-scope.ensures in let z = t.branches.ok.0 in let s = k.size in
+    let t = c.args.self.now in let k = c.requires.fits.sound.kept in let l = c.len-scope.ensures in let z = t.branches.ok.0 in let s = k.mirrors.size in
     let f = nearest_first v bs hs k c.args.at c.first_open-parent.result (at_in v bs hs k c.args.at c.requires.at) (rw c.deref.ensures.value at c.first_open-parent.ensures) in
     ((λ e. omega arith), (λ o. let n = noted_scope (g.S.RowSeat.view t.seat) t.branches.items t.held.items k c.len-scope.result o.0 o.1 in let q = n.1 in omega arith), first_usable v bs hs k c.args.at c.first_open-parent.result f.1 f.0)
 
-pub unreachable-requires : goal.unreachable-requires
-unreachable-requires g c =
+pub push_reserved-requires : goal.push_reserved-requires
+push_reserved-requires g c =
     let t = c.args.self.now in let k = c.requires.fits.sound.kept in
-    let n : length (opens (words (g.S.RowSeat.view t.seat))) ≡ length (marks 1 (drop 1 t.branches.items)) = ap length k.opens in let m = length_marks t.branches.items k.size in
-    let z = t.branches.ok.0 in let a = c.requires.room in let b = c.requires.fits.sound.branches in let f = c.in-Err.ensures.full in omega arith
+    let n : length (opens (words (g.S.RowSeat.view t.seat))) ≡ length (marks 1 (drop 1 t.branches.items)) = ap length k.mirrors.opens in let m = length_marks t.branches.items k.mirrors.size in
+    let z = t.branches.ok.0 in let a = c.requires.room in let b = c.requires.fits.sound.branches in omega arith
 
 pub returns-clause-opens : goal.returns-clause-opens
 returns-clause-opens g c =
     let t = c.args.self.now in let k = c.requires.fits.sound.kept in
-    let n : length (opens (words (g.S.RowSeat.view t.seat))) ≡ length (marks 1 (drop 1 t.branches.items)) = ap length k.opens in let m = length_marks t.branches.items k.size in
+    let n : length (opens (words (g.S.RowSeat.view t.seat))) ≡ length (marks 1 (drop 1 t.branches.items)) = ap length k.mirrors.opens in let m = length_marks t.branches.items k.mirrors.size in
     let l = c.len-scope.ensures in let z = t.branches.ok.0 in record {
       stamp = c.note.result;
       parent = c.first_open-parent.result;
@@ -75,10 +75,10 @@ returns-clause-fits g c =
     let bs' = bs ++ record { parent = p; shut = false } ∷ [] in
     let f = nearest_first v bs hs z.kept c.args.at p (at_in v bs hs z.kept c.args.at c.requires.at) (rw c.deref.ensures.value at c.first_open-parent.ensures) in
     let k : Kept w bs' hs = subst (λ x. Kept x bs' hs) (sym e) (open_keeps v bs hs p n z.kept (first_usable v bs hs z.kept c.args.at p f.1 f.0) c.requires.free) in
-    let F = firsts (said t.shelf.items) in let u = used_is v bs hs z.kept F in let u' = used_is w bs' hs k F in let a = z.used in let cap = c.in-Ok.ensures.capacity in let b = z.branches in record {
+    let F = firsts (said t.shelf.items) in let u = used_is v bs hs z.kept F in let u' = used_is w bs' hs k F in let a = z.used in let cap = c.push_reserved.ensures.capacity in let b = z.branches in record {
       seat = c.note.ensures.fits;
       sound = record {
-        kept = subst (λ x. Kept w x hs) (sym c.in-Ok.ensures.items) k;
+        kept = subst (λ x. Kept w x hs) (sym c.push_reserved.ensures.items) k;
         shelved = subst (λ x. Shelved x hs t.shelf.items) (sym e) (open_shelved v bs hs t.shelf.items z.kept z.shelved (length bs) p n c.note.ensures.stamp);
         used = omega (u, u', a, arith);
         branches = omega (cap, b, arith);

@@ -8,13 +8,13 @@ pub is_open-requires-clause-scope : goal.is_open-requires-clause-scope
 is_open-requires-clause-scope g c = let t = c.args.self.now in rw c.deref.ensures.value (opened_range (g.S.RowSeat.view t.seat) t.branches.items t.held.items c.requires.tree.kept c.args.of c.requires.of)
 
 pub is_open-requires-clause-parents : goal.is_open-requires-clause-parents
-is_open-requires-clause-parents g c = rw c.deref.ensures.value c.requires.tree.kept.parents
+is_open-requires-clause-parents g c = rw c.deref.ensures.value c.requires.tree.kept.mirrors.parents
 
 pub is_above-requires-clause-scope : goal.is_above-requires-clause-scope
 is_above-requires-clause-scope g c = let t = c.args.self.now in rw c.deref-then-is_open.ensures.value (usable_scope (g.S.RowSeat.view t.seat) t.branches.items t.held.items c.requires.tree.kept c.args.scope c.requires.scope)
 
 pub is_above-requires-clause-parents : goal.is_above-requires-clause-parents
-is_above-requires-clause-parents g c = rw c.deref-then-is_open.ensures.value c.requires.tree.kept.parents
+is_above-requires-clause-parents g c = rw c.deref-then-is_open.ensures.value c.requires.tree.kept.mirrors.parents
 
 ltb_zero : (u : ℕ) → u ≤ 0 → ltb 0 u ≡ false
 ltb_zero zero l = refl

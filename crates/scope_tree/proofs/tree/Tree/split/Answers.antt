@@ -1,6 +1,6 @@
 use Rattle.std.proofs.Common.{◌≡◌, sym, subst, arith}
 use Rattle.res_ledger.specs.Order.{firsts}
-use Rattle.scope_tree.specs.Torn.{said}
+use Rattle.scope_tree.specs.Released.{said}
 use Rattle.scope_tree.specs.Calls.{AtStart}
 use Rattle.scope_tree.specs.Kept.{Kept, Shelved}
 use Rattle.scope_tree.proofs.Parting.{split_keeps, split_shelved, split_start}

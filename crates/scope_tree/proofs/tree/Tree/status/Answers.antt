@@ -12,10 +12,10 @@ pub is_open-requires-clause-scope : goal.is_open-requires-clause-scope
 is_open-requires-clause-scope g c =
     let hs = c.args.self.now.held.items in let r = c.args.row in let s = c.in-Some-scope_of.scope in
     let m : IsAmong (r, s) (held_pairs hs) = scope_some r s hs (sym (ap (scope_by r) c.deref-2.ensures.value) ∙ sym c.scope_of.ensures ∙ c.in-Some-scope_of.is) in
-    rw c.deref-in-Some-scope_of.ensures.value (c.requires.tree.kept.ranged r s m)
+    rw c.deref-in-Some-scope_of.ensures.value (c.requires.tree.kept.mirrors.ranged r s m)
 
 pub is_open-requires-clause-parents : goal.is_open-requires-clause-parents
-is_open-requires-clause-parents g c = rw c.deref-in-Some-scope_of.ensures.value c.requires.tree.kept.parents
+is_open-requires-clause-parents g c = rw c.deref-in-Some-scope_of.ensures.value c.requires.tree.kept.mirrors.parents
 
 pub returns-in-None : goal.returns-in-None
 returns-in-None g c =
@@ -29,7 +29,7 @@ returns-then-is_open g c =
     let none : outcome_of r t.shelf.items ≡ None = sym (ap (outcome_of r) c.deref.ensures.value) ∙ sym c.outcome.ensures ∙ none_of c.outcome.result c.in_default.not-Some in
     let m : IsAmong (r, s) (held_pairs hs) = scope_some r s hs (sym (ap (scope_by r) c.deref-2.ensures.value) ∙ sym c.scope_of.ensures ∙ c.in-Some-scope_of.is) in
     let x : Clear bs s = subst (λ b. Clear b s) c.deref-in-Some-scope_of.ensures.value (c.is_open.ensures.open c.if-is_open.true) in
-    sym (stands_open a bs hs k r none s m (clear_open v bs hs k s (k.ranged r s m) x))
+    sym (stands_open a bs hs k r none s m (clear_open v bs hs k s (k.mirrors.ranged r s m) x))
 
 pub returns-else-is_open : goal.returns-else-is_open
 returns-else-is_open g c =
@@ -37,4 +37,4 @@ returns-else-is_open g c =
     let none : outcome_of r t.shelf.items ≡ None = sym (ap (outcome_of r) c.deref.ensures.value) ∙ sym c.outcome.ensures ∙ none_of c.outcome.result c.in_default.not-Some in
     let m : IsAmong (r, s) (held_pairs hs) = scope_some r s hs (sym (ap (scope_by r) c.deref-2.ensures.value) ∙ sym c.scope_of.ensures ∙ c.in-Some-scope_of.is) in
     let x : Shaded bs s = subst (λ b. Shaded b s) c.deref-in-Some-scope_of.ensures.value (c.is_open.ensures.shut c.if-is_open.false) in
-    sym (stands_left a bs hs k r none s m (shaded_closed v bs hs k s (k.ranged r s m) x))
+    sym (stands_left a bs hs k r none s m (shaded_closed v bs hs k s (k.mirrors.ranged r s m) x))
