@@ -2,6 +2,7 @@
 //! each mistake breaks the rule that is against it.
 #![tactic(auto)]
 
+pub mod back;
 pub mod broken;
 pub mod stands;
 pub mod worked;

@@ -6,7 +6,7 @@ use Rattle.chunk_core.specs.Lists.IsAmong.{here}
 use Rattle.chunk_core.proofs.Members.{among_snoc, among_nil, among_mid}
 use Rattle.chunk_core.specs.declared.code.Exit.{Exit}
 use Rattle.res_ledger.specs.declared.event.StreamNo.{StreamNo}
-use Rattle.res_ledger.specs.declared.event.What.TheVariants.{Acquire, Close}
+use Rattle.res_ledger.specs.declared.event.What.TheVariants.{Close}
 use Rattle.res_ledger.specs.declared.event.Event.{Event}
 use Rattle.res_ledger.specs.Ledger.{Notes, NotesClose, LiesWithin, IsClosed, IsRowClosed, IsLegal}
 use Rattle.res_ledger.specs.Own.{own, closes_of, has, above}
@@ -15,7 +15,7 @@ use Rattle.res_ledger.specs.Closing.{IsCoveringClose, ClosedHasCoveringClose, Co
 use Rattle.res_ledger.proofs.Tests.{both, no, and_true, tested, name, named, any_at, any_found}
 use Rattle.res_ledger.proofs.Noted.{closes_shape}
 use Rattle.res_ledger.proofs.Scopes.{above_within, within_above}
-use Rattle.res_ledger.proofs.Prefixes.{front_notes, front_within, split_append, acquired_once}
+use Rattle.res_ledger.proofs.Prefixes.{front_notes, front_within, split_append, row_scope_closed}
 
 -- the event closes s or a scope above it
 abbrev closes_above : List Event → StreamNo → ℕ → Event → Bool
@@ -79,9 +79,7 @@ behind C P (x ∷ T) q n = let e : length P ≡ length C + (1 + length T) = long
 pub finals_follow_covering_close : FinalsFollowCoveringClose
 finals_follow_covering_close L l w P Q C e k r s x ok q f n c =
     let d : IsRowClosed P r = w.after_close P Q e r x ok q f in
-    let m : Notes L d.0 (Acquire r d.1) = subst (λ x. Notes x d.0 (Acquire r d.1)) (sym q) (front_notes (e ∷ Q) d.2) in
-    let u = acquired_once L l r d.0 k d.1 s m n in
-    let z : IsClosed P k s = subst (λ x. IsClosed P k x) u.1 (subst (λ x. IsClosed P x d.1) u.0 d.3) in
+    let z : IsClosed P k s = row_scope_closed L P l (λ j u m. subst (λ (M : List Event). Notes M j u) (sym q) (front_notes (e ∷ Q) m)) r k s n d in
     let v : LiesWithin L k s z.0 = subst (λ x. LiesWithin x k s z.0) (sym q) (front_within (e ∷ Q) z.1) in
     ⊎_elim
     (λ g. absurd (c.first z.0 v (subst (λ x. NotesClose x k z.0) (sym g.1) (z.2.0, front_notes (e ∷ g.0) z.2.1))))

@@ -8,7 +8,7 @@ use Rattle.res_ledger.specs.declared.event.Event.{Event}
 use Rattle.res_ledger.specs.Ledger.{Notes, IsClosed, IsFinalized, IsRowClosed, IsCanceled, IsHanded, Covers, IsLegal, MayFollow}
 use Rattle.res_ledger.specs.Standing.{StandingGoesForward, StandingNeverGoesBack, StandingIsOne}
 use Rattle.res_ledger.specs.Standing.Standing.{Open, Awaiting, Handed, Finalized}
-use Rattle.res_ledger.proofs.Prefixes.{front_notes, front_closed, front_row_closed, front_finalized, front_canceled, split_append, acquired_once}
+use Rattle.res_ledger.proofs.Prefixes.{front_notes, front_closed, front_row_closed, front_finalized, front_canceled, split_append, row_scope_closed}
 
 -- a lease that covers a row covers it from its note on
 covers_before : (P Q : List Event) (r j : ℕ) (k : StreamNo) → IsLegal (P ++ Q) → IsRowClosed P r → Covers (P ++ Q) j k r → Covers P j k r
@@ -17,12 +17,10 @@ covers_before P Q r j k h c v =
     ⊎_elim
     (λ f. (A, f.0, e, s, f.1, v.5, v.6, v.7))
     (λ f.
-    let n : Notes (P ++ Q) c.0 (what.Acquire r c.1) = front_notes Q c.2 in
     let a : IsAmong v.7.1.0 (P ++ Q) = subst (λ l. IsAmong v.7.1.0 l) (sym v.4) (among_left (e ∷ B) v.7.1.1) in
     let m : Notes (P ++ Q) k (what.Acquire r v.7.0) = (v.7.1.0, a, v.7.1.2, v.7.1.3) in
-    let u = acquired_once (P ++ Q) h r c.0 k c.1 v.7.0 n m in
-    let d : IsClosed A c.0 c.1 = subst (λ l. IsClosed l c.0 c.1) (sym f.1) (front_closed f.0 c.3) in
-    absurd (v.7.3 (subst (λ x. IsClosed A k x) u.1 (subst (λ x. IsClosed A x c.1) u.0 d))))
+    let d : IsClosed P k v.7.0 = row_scope_closed (P ++ Q) P h (λ j w x. front_notes Q x) r k v.7.0 m c in
+    absurd (v.7.3 (subst (λ l. IsClosed l k v.7.0) (sym f.1) (front_closed f.0 d))))
     (split_append P Q A B e v.4)
 
 -- a row that is free of leases in a front stays so

@@ -16,4 +16,6 @@ pub mod Lines
 pub mod Readings
 pub mod Forward
 pub mod Standings
+pub mod Apart
+pub mod Beginnings
 pub mod Closing

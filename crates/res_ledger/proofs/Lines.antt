@@ -1,9 +1,9 @@
 -- The lines of a text.
-use Rattle.std.proofs.Common.{◌≡◌, ◌≢◌, ℕ, ◌+◌, ◌<◌, ◌^◌, List, [], ◌∷◌, ◌++◌, All, length, map, codes, decimal, refl, sym, ap, ◌∙◌, append_assoc, add-one, ⊎_elim}
+use Rattle.std.proofs.Common.{◌≡◌, ◌≢◌, ℕ, ◌+◌, ◌<◌, ◌^◌, List, [], ◌∷◌, ◌++◌, All, length, take, get_or, map, codes, decimal, refl, sym, ap, ◌∙◌, subst, append_assoc, add-one, ⊎_elim}
 use Rattle.std.specs.List.{flat_map, onto_first}
 use Rattle.std.proofs.lemmas.Bool.{ne_eqb}
 use Rattle.std.proofs.lemmas.Bool.Decides.{eqb_tells}
-use Rattle.std.proofs.lemmas.List.{append-nil, length-map, flat_map_more}
+use Rattle.std.proofs.lemmas.List.{append-nil, length-map, flat_map_more, take_more}
 use Rattle.std.proofs.lemmas.List.Elements.{All-head, All-tail}
 use Rattle.chunk_core.specs.Lists.{Each}
 use Rattle.res_ledger.specs.declared.event.Event.{Event}
@@ -72,6 +72,9 @@ module _ {A : Type 0} (P : A → Type 0) where
   pub each_snoc : (xs : List A) (x : A) → Each P xs → P x → Each P (xs ++ x ∷ [])
   each_snoc [] x h p = (p, tt)
   each_snoc (y ∷ xs) x h p = (h.0, each_snoc xs x h.1 p)
+
+  pub each_more : (xs : List A) (i : ℕ) (d : A) → i < length xs → Each P (take i xs) → P (get_or xs i d) → Each P (take (i + 1) xs)
+  each_more xs i d h each p = subst (Each P) (sym (take_more xs i d h)) (each_snoc (take i xs) (get_or xs i d) each p)
 
   pub each_last : (xs : List A) (x : A) → Each P (xs ++ x ∷ []) → P x
   each_last [] x h = h.0

@@ -102,3 +102,9 @@ acquired_once L h r k q s t n m = ⊎_elim
     (λ b. twice L h r t b.0 b.1 m.0 b.2 m.3 (k, s, (n.0, b.3, n.2, n.3)))
     (λ b. twice L h r s b.0 b.1 n.0 b.2 n.3 (q, t, (m.0, b.3, m.2, m.3))) o))
     (split_two n.0 m.0 L n.1 m.1)
+
+-- where the row's scope is closed in a front, it is the scope in which the ledger acquires it
+pub row_scope_closed : (L P : List Event) → IsLegal L → ((q : StreamNo) (w : What) → Notes P q w → Notes L q w) → (r : ℕ) (k : StreamNo) (s : ℕ) → Notes L k (Acquire r s) → IsRowClosed P r → IsClosed P k s
+row_scope_closed L P l up r k s n c =
+    let u = acquired_once L l r c.0 k c.1 s (up c.0 (Acquire r c.1) c.2) n in
+    subst (λ t. IsClosed P k t) u.1 (subst (λ q. IsClosed P q c.1) u.0 c.3)

@@ -1,6 +1,7 @@
 -- Where an acquired row stands.
 use Rattle.std.specs.Prelude.{◌≡◌, ◌≢◌, ◌⊎◌, ℕ, ◌≤◌, if◌then◌else◌, List, [], ◌∷◌, ◌++◌}
 use Rattle.res_ledger.specs.declared.event.StreamNo.{StreamNo}
+use Rattle.res_ledger.specs.declared.event.What.TheVariants.{Acquire}
 use Rattle.res_ledger.specs.declared.event.Event.{Event}
 use Rattle.res_ledger.specs.Ledger.{IsAcquired, IsFinalized, IsRowClosed, IsCanceled, Covers, IsLegal}
 use Rattle.res_ledger.specs.Whole.{is_final}
@@ -41,6 +42,10 @@ IsNext Open t = t ≢ Finalized
 IsNext Awaiting t = (t ≡ Awaiting) ⊎ (t ≡ Handed)
 IsNext Handed t = (t ≡ Handed) ⊎ (t ≡ Finalized)
 IsNext Finalized t = t ≡ Finalized
+
+-- in a legal ledger a row that is acquired last is open
+abbrev pub StandingBeginsOpen : Type 0
+StandingBeginsOpen = (P : List Event) (e : Event) (r s : ℕ) → IsLegal (P ++ e ∷ []) → e.what ≡ Acquire r s → HasStanding (P ++ e ∷ []) r Open
 
 -- each event of a legal ledger leaves a row where it stood or takes it to a next standing
 abbrev pub StandingGoesForward : Type 0

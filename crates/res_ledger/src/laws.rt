@@ -3,10 +3,11 @@ ghost use Rattle.res_ledger.specs.Closing.{ClosedHasCoveringClose, CoveringClose
 ghost use Rattle.res_ledger.specs.Judge.{ClosedTestIsExact, CompleteTestIsExact, CoveredByIsExact, CoveredIsExact, LeasedRowsAreExact, LegalTestIsExact};
 ghost use Rattle.res_ledger.specs.Order.{OrderTestIsExact};
 ghost use Rattle.res_ledger.specs.Reading.{RefusalIsOne, TextIsNotRefused, TextIsOne};
-ghost use Rattle.res_ledger.specs.Standing.{StandingGoesForward, StandingIsExact, StandingIsOne, StandingNeverGoesBack};
+ghost use Rattle.res_ledger.specs.Standing.{StandingBeginsOpen, StandingGoesForward, StandingIsExact, StandingIsOne, StandingNeverGoesBack};
 
 /// A row's standing, event by event.
 pub fn standing_goes_forward()
+    ensures begins { StandingBeginsOpen }
     ensures forward { StandingGoesForward }
     ensures never_back { StandingNeverGoesBack }
     ensures one { StandingIsOne }

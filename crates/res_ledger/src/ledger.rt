@@ -2,8 +2,9 @@
 ghost use Rattle.std.specs.Prelude.{◌≡◌, ◌==◌, [], length, slice_get};
 ghost use Rattle.std.specs.Option.{option_copied};
 ghost use Rattle.res_ledger.specs.Ledger.{IsStamped};
+ghost use Rattle.res_ledger.specs.Reading.{IsLedger, IsSmallEvent};
 
-use crate::event::Event;
+use crate::event::{Event, StreamNo, What};
 use std::alloc::Global;
 use std::marker::Model;
 
@@ -16,13 +17,26 @@ pub struct Ledger {
 impl Model for Ledger {
     ghost use Rattle.std.specs.Prelude.{List};
     ghost use Rattle.res_ledger.specs.declared.event.Event.{Event};
-    ghost use Rattle.res_ledger.specs.Ledger.{IsStamped};
+    ghost use Rattle.res_ledger.specs.Reading.{IsLedger};
 
     ghost Value = { List Event };
 
     ghost view = { λ ledger. ledger.events.items };
 
-    ghost invariant = { λ ledger. IsStamped ledger.events.items };
+    ghost invariant = { λ ledger. IsLedger ledger.events.items };
+}
+
+/// Reads each number of an event: so a proof learns that it fits its type.
+fn look_at(event: Event)
+    ensures { IsSmallEvent event }
+{
+    match event.by {
+        StreamNo::Outer | StreamNo::Inner(_) => {}
+    }
+    match event.what {
+        What::Open { .. } | What::Acquire { .. } | What::Lease { .. } => {}
+        What::Cancel { .. } | What::Close { .. } | What::Final { .. } => {}
+    }
 }
 
 impl Ledger {
@@ -40,6 +54,9 @@ impl Ledger {
         requires { IsStamped events.items }
         ensures { result ≡ events.items }
     {
+        for event in &events {
+            look_at(*event);
+        }
         Ledger { events }
     }
 
@@ -65,6 +82,7 @@ impl Ledger {
     pub fn as_slice(&self) -> &[Event]
         ensures items { result.now ≡ self.now }
         ensures stamped { IsStamped self.now }
+        ensures ledger { IsLedger self.now }
     {
         self.events.as_slice()
     }

@@ -1,0 +1,35 @@
+//! A ledger's text is read back as that ledger.
+ghost use Rattle.std.specs.Prelude.{◌≡◌, IfErr, IfOk};
+
+use res_ledger::{Ledger, LedgerRefused, laws, read, text};
+use std::alloc::Global;
+
+/// What is read from the text of a ledger: that ledger, unless memory is wanting.
+pub fn read_back(alloc: Global, ledger: &Ledger) -> Result<Ledger, LedgerRefused>
+    ensures same { IfOk result (λ back. back ≡ ledger.now) }
+    ensures memory { IfErr result (λ why. why ≡ LedgerRefused.Memory) }
+{
+    laws::reading_is_one();
+    let _events = ledger.as_slice();
+    let Ok(line) = text(alloc, ledger) else {
+        return Err(LedgerRefused::Memory);
+    };
+    read(alloc, line.as_slice())
+}
+
+#[cfg(test)]
+mod tests {
+    use super::*;
+    use std::test::Fail;
+
+    #[test]
+    fn reads_a_ledger_back(rt: HostRuntime) -> Result<(), Fail> {
+        let alloc = rt.alloc();
+        let written = b"ledger 2\nouter close 0 canceled\n7 final 3 errored fault\n".as_slice();
+        let ledger = read(alloc, written)?;
+        let back = read_back(alloc, &ledger)?;
+        assert_eq!(rt; back.len(), 2);
+        assert_eq!(rt; text(alloc, &back)?.as_slice(), written);
+        Ok(())
+    }
+}
