@@ -79,7 +79,7 @@ module _ {P : Type 0} (r : ℕ) (w : P) where
     pairs = s.pairs;
     empty = s.empty;
     leased = s.leased;
-    ended = λ m q t i. ⊎_elim (λ h. inl (has_with v.opened q h)) (λ h. inr h) (s.ended m q t i);
+    ended = λ q t i. ⊎_elim (λ h. inl (has_with v.opened q h)) (λ h. inr h) (s.ended q t i);
     rises = s.rises;
   }
 

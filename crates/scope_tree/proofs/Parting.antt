@@ -1,5 +1,5 @@
 -- What splitting a seat off and taking it in again keep of a tree.
-use Rattle.std.proofs.Common.{◌≡◌, ◌≢◌, ℕ, ◌+◌, ◌-◌, ◌<◌, ◌≤◌, ◌⊎◌, zero, suc, Bool, true, false, cond, not, eqb, List, [], ◌∷◌, ◌++◌, inl, inr, refl, sym, ap, ◌∙◌, subst, ⊎_elim, arith, append-nil}
+use Rattle.std.proofs.Common.{◌≡◌, ◌≢◌, ℕ, ◌+◌, ◌-◌, ◌<◌, ◌≤◌, ◌⊎◌, zero, suc, Bool, true, false, cond, not, eqb, List, [], ◌∷◌, ◌++◌, inl, inr, refl, sym, ap, ◌∙◌, subst, ⊎_elim, arith, append_assoc, append-nil}
 use Rattle.chunk_core.specs.declared.code.Exit.{Exit}
 use Rattle.chunk_core.specs.Lists.{IsAmong}
 use Rattle.chunk_core.specs.Lists.IsAmong.{here, there}
@@ -78,7 +78,11 @@ own_none : (k : StreamNo) (L : List Event) → ((e : Event) → IsAmong e L → 
 own_none k [] h = refl
 own_none k (e ∷ L) h = (elim (same_stream e.by k) as (λ b. same_stream e.by k ≡ b → cond b (e.what ∷ own k L) (own k L) ≡ []) [ true ↦ λ q. absurd (h e (here L) (name e.by k q)) | false ↦ λ q. own_none k L (λ x m. h x (there e m)) ]) refl
 
-first_said : (r : ℕ) (fs : List (ℕ × Bool)) → IsAmong r (firsts fs) → (ok : Bool) × IsAmong (r, ok) fs
+pub first_of_said : (r : ℕ) (ok : Bool) (fs : List (ℕ × Bool)) → IsAmong (r, ok) fs → IsAmong r (firsts fs)
+first_of_said r ok [] m = absurd (among_nil m)
+first_of_said r ok (f ∷ fs) m = ⊎_elim (λ e. subst (λ z. IsAmong z (firsts (f ∷ fs))) (ap (λ y. y.0) (sym e)) (here (firsts fs))) (λ n. there f.0 (first_of_said r ok fs n)) (among_cons m)
+
+pub first_said : (r : ℕ) (fs : List (ℕ × Bool)) → IsAmong r (firsts fs) → (ok : Bool) × IsAmong (r, ok) fs
 first_said r [] m = absurd (among_nil m)
 first_said r (f ∷ fs) m = ⊎_elim (λ e. (f.1, subst (λ z. IsAmong (z, f.1) (f ∷ fs)) (sym e) (here fs))) (λ n. let t = first_said r fs n in (t.0, there f t.1)) (among_cons m)
 
@@ -140,6 +144,6 @@ module _ {P : Type 0} (v w : View P) (bs : List Branch) (hs : List Held) (xs : L
     pairs = s.pairs;
     empty = λ r m. ⊎_elim (λ i. s.empty r i) (λ i n. let t = shelf_final v hs xs s r n in (a.vacant r i).0 (v.by, t.0, t.1)) (among_append r v.empty w.empty m);
     leased = λ j r m. ⊎_elim (λ b. inl b) (λ y. inr (y.0, up (Lease j y.0) y.1)) (s.leased j r m);
-    ended = s.ended;
+    ended = λ r t m. ⊎_elim (λ o. inl o) (λ o. inr (⊎_elim (λ i. inl i) (λ y. inr (y.0, (y.1.0, let c = y.1.1 in (c.0, c.1 ++ w.events, c.2, c.3, ap (λ l. l ++ w.events) c.4 ∙ append_assoc c.0 (c.2 ∷ c.1) w.events, c.5, c.6, c.7)))) o)) (s.ended r t m);
     rises = subst Rises (sym (by_both v.by v.events w.events ∙ ap (λ l. by_stream v.by v.events ++ l) (by_none v.by w.events a.events) ∙ append-nil (by_stream v.by v.events))) s.rises;
   }

@@ -1,5 +1,6 @@
 -- What a step keeps of a tree's shelf.
-use Rattle.std.proofs.Common.{◌≡◌, ℕ, ◌<◌, ◌⊎◌, Bool, true, false, cond, List, [], ◌∷◌, ◌++◌, inl, inr, refl, sym, ap, ◌∙◌, subst, ⊎_elim, append_assoc, append-nil}
+use Rattle.std.proofs.Common.{◌≡◌, ℕ, ◌<◌, ◌⊎◌, Bool, cond, List, [], ◌∷◌, ◌++◌, inl, inr, refl, sym, ap, ◌∙◌, subst, ⊎_elim, append_assoc, append-nil}
+use Rattle.res_ledger.specs.Ledger.{Covers}
 use Rattle.std.proofs.lemmas.Grind.{flat_map-append}
 use Rattle.chunk_core.specs.declared.code.Exit.{Exit}
 use Rattle.chunk_core.specs.Lists.{IsAmong}
@@ -14,7 +15,7 @@ use Rattle.res_ledger.specs.Order.{firsts}
 use Rattle.std.proofs.lemmas.Bool.{cases_eq}
 use Rattle.res_ledger.specs.Streams.{by_stream, same_stream}
 use Rattle.res_ledger.proofs.Growth.{noted_more}
-use Rattle.res_ledger.proofs.Ledgers.{by_both, by_in, stream_same}
+use Rattle.res_ledger.proofs.Ledgers.{by_both, by_in, covers_more, stream_same}
 use Rattle.res_ledger.specs.Rising.{Rises}
 use Rattle.row_seat.specs.declared.view.Left.{Left}
 use Rattle.row_seat.specs.declared.view.Left.TheVariants.{Stays, Yours}
@@ -23,7 +24,7 @@ use Rattle.row_seat.specs.Views.{HasPair, HasRow, IsFresh, noted, without_pair}
 use Rattle.scope_tree.specs.declared.branch.Held.{Held}
 use Rattle.scope_tree.specs.declared.branch.Spent.{Spent}
 use Rattle.scope_tree.specs.Rows.{AreDistinct, Once}
-use Rattle.scope_tree.specs.Released.{CanLetGo, CanRelease, Holder, LetsGo, Released, finalized, said}
+use Rattle.scope_tree.specs.Released.{CanLetGo, CanRelease, Holder, LetsGo, MayWait, Released, finalized, said}
 use Rattle.scope_tree.specs.Released.Holder.{owner, lease}
 use Rattle.scope_tree.specs.Released.Released.{done, stays, ends_so}
 use Rattle.scope_tree.specs.Words.{ended_rows, ends_of, words}
@@ -32,7 +33,7 @@ use Rattle.scope_tree.proofs.Bridge.{own_snoc}
 use Rattle.scope_tree.proofs.Distinct.{firsts_append, said_append}
 use Rattle.scope_tree.proofs.Once.{gone_without}
 use Rattle.scope_tree.proofs.Parts.{distinct_append}
-use Rattle.scope_tree.proofs.Follows.{Follows, end_follows, follows_mine, follows_then, go_follows, let_go, same_by, same_empty, same_main}
+use Rattle.scope_tree.proofs.Follows.{Follows, end_follows, follows_covers, follows_mine, follows_then, go_follows, let_go, same_by, same_empty, same_main}
 use Rattle.scope_tree.proofs.Lists.{keep_row, lose_pair, lost_pair}
 use Rattle.scope_tree.proofs.Releasing.{can_ends, can_stays}
 
@@ -64,7 +65,7 @@ module _ {P : Type 0} where
         pairs = k.pairs;
         empty = k.empty;
         leased = λ j r m. ⊎_elim (λ b. inl b) (λ s. inr (s.0, noted_more v.events e s.1)) (k.leased j r m);
-        ended = k.ended;
+        ended = λ q t i. ⊎_elim (λ o. inl o) (λ o. inr (⊎_elim (λ a. inl a) (λ y. inr (y.0, (y.1.0, covers_more v.events e y.1.1))) o)) (k.ended q t i);
         rises = rises_next v n w f k.rises;
       }
 
@@ -82,10 +83,10 @@ module _ {P : Type 0} where
   open_or owner v u r q a l o = ⊎_elim (λ e. inr e) (λ ne. inl (o.0, subst (λ x. IsAmong (q, o.0) x) (sym (let_go owner v r a u l).opened) (keep_row r q o.0 v.opened o.1 ne))) (cases_eq q r)
   open_or (lease j) v u r q a l o = inl (subst (λ x. HasRow x q) (sym (let_go (lease j) v r a u l).opened) o)
 
-  -- what stays at a seat that isn't the main one stays open
-  stays_open : (h : Holder) (v u : View P) (r q : ℕ) → LetsGo h v r Stays u → v.main ≡ false → HasRow v.opened q → HasRow u.opened q
-  stays_open owner v u r q l no' o = absurd (let z : true ≡ false = sym l.3.0 ∙ no' in cc)
-  stays_open (lease j) v u r q l no' o = subst (λ x. HasRow x q) (sym (let_go (lease j) v r Stays u l).opened) o
+  -- what stays is open, or may wait
+  stays_waits : (h : Holder) (v u : View P) (r q : ℕ) → LetsGo h v r Stays u → HasRow v.opened q → HasRow u.opened q ⊎ MayWait v q
+  stays_waits owner v u r q l o = ⊎_elim (λ i. inl i) (λ e. inr (l.3.0, (l.3.1.0, subst (λ z. Covers v.events l.3.1.0 v.by z) (sym e) l.3.1.1.0))) (open_or owner v u r q Stays l o)
+  stays_waits (lease j) v u r q l o = inl (subst (λ x. HasRow x q) (sym (let_go (lease j) v r Stays u l).opened) o)
 
   -- a row that is handed over is neither open here nor leased
   handed_bare : (h : Holder) (v u : View P) (r : ℕ) → Once v.opened → LetsGo h v r Yours u → ¬ (HasRow u.opened r) × ¬ (HasPair u r)
@@ -101,21 +102,22 @@ module _ {P : Type 0} where
   )
 
   -- from v to w the rows of ys ended
-  went_shelved : (v w : View P) (hs : List Held) (xs ys : List (Spent P)) → Follows v w → ended_rows (words w) ≡ ended_rows (words v) ++ said ys → AreDistinct (firsts (said ys)) → ((r : ℕ) → IsAmong r (firsts (said ys)) → ¬ (HasRow w.opened r) × ¬ (HasPair w r) × ¬ (IsAmong r v.empty) × ¬ (IsAmong r (firsts (said xs)))) → ((q : ℕ) → v.main ≡ false → HasRow v.opened q → HasRow w.opened q ⊎ IsAmong q (firsts (said ys))) → Rises (by_stream w.by w.events) → Shelved v hs xs → Shelved w hs (xs ++ ys)
+  went_shelved : (v w : View P) (hs : List Held) (xs ys : List (Spent P)) → Follows v w → ended_rows (words w) ≡ ended_rows (words v) ++ said ys → AreDistinct (firsts (said ys)) → ((r : ℕ) → IsAmong r (firsts (said ys)) → ¬ (HasRow w.opened r) × ¬ (HasPair w r) × ¬ (IsAmong r v.empty) × ¬ (IsAmong r (firsts (said xs)))) → ((q : ℕ) → HasRow v.opened q → HasRow w.opened q ⊎ (IsAmong q (firsts (said ys)) ⊎ MayWait v q)) → Rises (by_stream w.by w.events) → Shelved v hs xs → Shelved w hs (xs ++ ys)
   went_shelved v w hs xs ys f words_are once bare back rises k =
       let all : firsts (said (xs ++ ys)) ≡ firsts (said xs) ++ firsts (said ys) = ap firsts (said_append xs ys) ∙ firsts_append (said xs) (said ys) in
       let cases : (q : ℕ) → IsAmong q (firsts (said (xs ++ ys))) → IsAmong q (firsts (said xs)) ⊎ IsAmong q (firsts (said ys)) = λ q m. among_append q (firsts (said xs)) (firsts (said ys)) (subst (λ z. IsAmong q z) all m) in
-      let on : (q : ℕ) → IsAmong q (firsts (said xs) ++ firsts (said ys)) → IsAmong q (firsts (said (xs ++ ys))) = λ q m. subst (λ z. IsAmong q z) (sym all) m in record {
+      let on : (q : ℕ) → IsAmong q (firsts (said xs) ++ firsts (said ys)) → IsAmong q (firsts (said (xs ++ ys))) = λ q m. subst (λ z. IsAmong q z) (sym all) m in
+      let waits : (q : ℕ) → MayWait v q → MayWait w q = λ q y. (same_main f ∙ y.0, (y.1.0, subst (λ b. Covers w.events y.1.0 b q) (sym (same_by f)) (follows_covers f y.1.1))) in record {
         said_are = words_are ∙ ap (λ z. z ++ said ys) k.said_are ∙ sym (said_append xs ys);
         distinct = subst AreDistinct (sym all) (distinct_append (firsts (said xs)) (firsts (said ys)) k.distinct once (λ q a m. (bare q m).3 a));
         opened = λ q o m. ⊎_elim (k.opened q (o.0, f.opened (q, o.0) o.1)) (λ i. (bare q i).0 o) (cases q m);
         pairs = λ j q p m. ⊎_elim (k.pairs j q (f.pairs (j, q) p)) (λ i. (bare q i).1 (j, p)) (cases q m);
         empty = λ q e m. let i = subst (λ z. IsAmong q z) (same_empty f) e in ⊎_elim (k.empty q i) (λ y. (bare q y).2 i) (cases q m);
         leased = λ j q p. ⊎_elim (λ b. inl (same_by f ∙ b)) (λ s. inr (s.0, follows_mine f s.1)) (k.leased j q (f.pairs (j, q) p));
-        ended = λ m q t i. ⊎_elim
-            (λ o. ⊎_elim (λ h. inl h) (λ h. inr (on q (among_right q (firsts (said xs)) (firsts (said ys)) h))) (back q (sym (same_main f) ∙ m) o))
-            (λ o. inr (on q (among_left (firsts (said ys)) o)))
-            (k.ended (sym (same_main f) ∙ m) q t i);
+        ended = λ q t i. ⊎_elim
+            (λ o. ⊎_elim (λ h. inl h) (λ e. ⊎_elim (λ h. inr (inl (on q (among_right q (firsts (said xs)) (firsts (said ys)) h)))) (λ y. inr (inr (waits q y))) e) (back q o))
+            (λ e. ⊎_elim (λ o. inr (inl (on q (among_left (firsts (said ys)) o)))) (λ y. inr (inr (waits q y))) e)
+            (k.ended q t i);
         rises = rises;
       }
 
@@ -125,7 +127,7 @@ module _ {P : Type 0} where
     released_shelved xs (stays v u r l t) c once out k =
         let g = let_go h v r Stays u l in let f = go_follows g in
         let e = ap (λ z. ended_rows (words z)) g.same ∙ sym (append-nil (ended_rows (words v))) in
-        let s = went_shelved v u hs xs [] f e tt (λ q m. absurd (among_nil m)) (λ q m o. inl (stays_open h v u r q l m o)) (subst (λ z. Rises (by_stream z.by z.events)) (sym g.same) k.rises) k in
+        let s = went_shelved v u hs xs [] f e tt (λ q m. absurd (among_nil m)) (λ q o. ⊎_elim (λ i. inl i) (λ i. inr (inr i)) (stays_waits h v u r q l o)) (subst (λ z. Rises (by_stream z.by z.events)) (sym g.same) k.rises) k in
         released_shelved xs t (can_stays h v u r _ l c) (f.once once) (still_out f out) (subst (λ z. Shelved u hs z) (append-nil xs) s)
     released_shelved {w = w} xs (ends_so {T = T} {ys = ys} v u y n l i t) c once out k =
         let g = let_go h v y.row Yours u l in let f = follows_then (go_follows g) (end_follows x u y n) in
@@ -135,6 +137,6 @@ module _ {P : Type 0} where
         (λ a. subst (λ q. ¬ (HasRow u.opened q) × ¬ (HasPair u q) × ¬ (IsAmong q v.empty) × ¬ (IsAmong q (firsts (said xs)))) (sym a) (b.0, b.1, out y.row o, ⊎_elim (λ j. k.opened y.row j) (λ j. k.pairs j.0 y.row j.1) o))
         (λ a. absurd (among_nil a))
         (among_cons m) in
-        let back : (q : ℕ) → v.main ≡ false → HasRow v.opened q → HasRow u.opened q ⊎ IsAmong q (y.row ∷ []) = λ q m a. ⊎_elim (λ z. inl z) (λ z. inr (subst (λ j. IsAmong j (y.row ∷ [])) (sym z) (here []))) (open_or h v u y.row q Yours l a) in
+        let back : (q : ℕ) → HasRow v.opened q → HasRow u.opened q ⊎ (IsAmong q (y.row ∷ []) ⊎ MayWait v q) = λ q a. ⊎_elim (λ z. inl z) (λ z. inr (inl (subst (λ j. IsAmong j (y.row ∷ [])) (sym z) (here [])))) (open_or h v u y.row q Yours l a) in
         let s = went_shelved v (finalized x u y n) hs xs (y ∷ []) f e (among_nil, tt) bare back (rises_next u n (Final y.row x y.ok) i.fresh (subst (λ z. Rises (by_stream z.by z.events)) (sym g.same) k.rises)) k in
         subst (λ z. Shelved w hs z) (append_assoc xs (y ∷ []) ys) (released_shelved (xs ++ y ∷ []) t (can_ends h x v u y n _ l c) (f.once once) (still_out f out) s)

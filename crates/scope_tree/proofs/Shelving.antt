@@ -36,7 +36,7 @@ start_shelved v a = record {
   pairs = λ j r h m. among_nil m;
   empty = λ r h m. among_nil m;
   leased = λ j r m. inl (a.leased j r m);
-  ended = λ f r t m. absurd (among_nil m);
+  ended = λ r t m. absurd (among_nil m);
   rises = subst (λ L. Rises (by_stream v.by L)) (sym a.events) tt;
 }
 
@@ -53,8 +53,8 @@ module _ {P : Type 0} (v : View P) (bs : List Branch) (hs : List Held) (xs : Lis
         pairs = a.pairs;
         empty = λ q i. s.empty q (among_without r v.empty q i).0;
         leased = a.leased;
-        ended = λ b q u i. ⊎_elim
-            (λ o. ⊎_elim (λ z. inl (z.0, among_left ((r, p) ∷ []) z.1)) (λ z. inr z) (s.ended b q u o))
+        ended = λ q u i. ⊎_elim
+            (λ o. ⊎_elim (λ z. inl (z.0, among_left ((r, p) ∷ []) z.1)) (λ z. inr z) (a.ended q u o))
             (λ o. inl (p, subst (λ z. IsAmong (z, p) (v.opened ++ (r, p) ∷ [])) (sym (ap (λ y. y.0) o)) (among_last v.opened (r, p))))
             (among_snoc (held_pairs hs) (q, u) (r, t) (subst (λ l. IsAmong (q, u) l) (pairs_snoc hs h) i));
         rises = a.rises;

@@ -1,5 +1,5 @@
 -- How what a tree keeps agrees with the view of its seat.
-use Rattle.std.specs.Prelude.{◌≡◌, ◌⊎◌, ℕ, suc, ◌<◌, ◌≤◌, false, List, [], ◌∷◌, length, drop, slice_index_or}
+use Rattle.std.specs.Prelude.{◌≡◌, ◌⊎◌, ℕ, suc, ◌<◌, ◌≤◌, List, [], ◌∷◌, length, drop, slice_index_or}
 use Rattle.chunk_core.specs.Lists.{IsAmong}
 use Rattle.res_ledger.specs.declared.event.StreamNo.TheVariants.{Inner}
 use Rattle.res_ledger.specs.declared.event.What.{What}
@@ -15,7 +15,7 @@ use Rattle.scope_tree.specs.declared.branch.Spent.{Spent}
 use Rattle.scope_tree.specs.Rows.{AreDistinct, Once}
 use Rattle.res_ledger.specs.Rising.{Rises}
 use Rattle.res_ledger.specs.Streams.{by_stream}
-use Rattle.scope_tree.specs.Released.{said}
+use Rattle.scope_tree.specs.Released.{MayWait, said}
 use Rattle.scope_tree.specs.Words.{words, owed, ended_rows}
 
 -- the scopes from n on, each with its parent
@@ -79,6 +79,6 @@ module _ {P : Type 0} where
     pub empty : (r : ℕ) → IsAmong r v.empty → ¬ (IsAmong r (firsts (said xs)))
     -- a lease here is of the seat's own stream, or its Lease was noted
     pub leased : (j r : ℕ) → IsAmong (j, r) v.pairs → (v.by ≡ Inner j) ⊎ ((s : ℕ) × Notes v.events v.by (Lease j s))
-    -- where no other seat can hold a row back, each row that isn't open has ended
-    pub ended : v.main ≡ false → (r t : ℕ) → IsAmong (r, t) (held_pairs hs) → HasRow v.opened r ⊎ IsAmong r (firsts (said xs))
+    -- each held row that isn't open has ended, or may wait
+    pub ended : (r t : ℕ) → IsAmong (r, t) (held_pairs hs) → HasRow v.opened r ⊎ (IsAmong r (firsts (said xs)) ⊎ MayWait v r)
     pub rises : Rises (by_stream v.by v.events)

@@ -3,6 +3,7 @@ use Rattle.std.specs.Prelude.{◌≡◌, ℕ, ◌≤◌, suc, Bool, true, cond, 
 use Rattle.chunk_core.specs.declared.code.Exit.{Exit}
 use Rattle.chunk_core.specs.Lists.{IsAmong}
 use Rattle.res_ledger.specs.declared.event.What.TheVariants.{Final}
+use Rattle.res_ledger.specs.Ledger.{Covers}
 use Rattle.row_seat.specs.declared.view.Left.{Left}
 use Rattle.row_seat.specs.declared.view.Left.TheVariants.{Stays, Yours}
 use Rattle.row_seat.specs.declared.view.View.{View}
@@ -80,3 +81,7 @@ module _ {P : Type 0} where
   abbrev pub said : List (Spent P) → List (ℕ × Bool)
   said [] = []
   said (y ∷ ys) = (y.row, y.ok) ∷ said ys
+
+  -- a row that was closed may wait for a lease: the seat is the main one, and a Lease of its own covers the row
+  abbrev pub MayWait : View P → ℕ → Type 0
+  MayWait v r = (v.main ≡ true) × ((j : ℕ) × Covers v.events j v.by r)

@@ -1,12 +1,14 @@
 //! Looking up rows in what a tree keeps.
 ghost use Rattle.std.specs.Prelude.{◌≡◌, ℕ};
-ghost use Rattle.scope_tree.specs.Standings.{outcome_of, scope_by};
+ghost use Rattle.scope_tree.specs.Kept.{held_pairs};
+ghost use Rattle.scope_tree.specs.Released.{said};
+ghost use Rattle.scope_tree.specs.Standings.{found};
 
 use crate::branch::{Held, Spent};
 
 /// Whether the row ended well, if it ended here.
 pub fn outcome<P>(shelf: &[Spent<P>], row: u32) -> Option<bool>
-    ensures { result ≡ outcome_of row shelf.now }
+    ensures { result ≡ found row (said shelf.now) }
 {
     'each: for spent in shelf {
         if spent.row == row {
@@ -18,7 +20,7 @@ pub fn outcome<P>(shelf: &[Spent<P>], row: u32) -> Option<bool>
 
 /// The scope in which the row was acquired, if it was.
 pub fn scope_of(held: &[Held], row: u32) -> Option<u32>
-    ensures { result ≡ scope_by row held.now }
+    ensures { result ≡ found row (held_pairs held.now) }
 {
     'each: for one in held {
         if one.row == row {

@@ -14,7 +14,7 @@ ghost use Rattle.scope_tree.specs.Rows.{lifo, strangers};
 ghost use Rattle.scope_tree.specs.Released.{away, said};
 ghost use Rattle.scope_tree.specs.Words.{ended_rows, owed, own_rows, words};
 ghost use Rattle.scope_tree.specs.Calls.{Acquires, AtStart, Cancels, Closes, IsClosedScope, IsOpenScope, Leases, Opens, WasOpened, used};
-ghost use Rattle.scope_tree.specs.Standings.{standing};
+ghost use Rattle.scope_tree.specs.Standings.{StandsAs};
 ghost use Rattle.scope_tree.specs.Trees.{Fits, IsSound, seen};
 ghost use Rattle.scope_tree.specs.Lending.{lends_pay, lent};
 
@@ -79,11 +79,11 @@ where
         requires fits { Fits S.view S.fits self.old desk.old }
         requires root { ¬ (IsClosedScope (seen S.view self.old) 0) }
         requires at { WasOpened (seen S.view self.old) at }
-        requires room { length (opens (words (S.view self.old.seat))) + 1 < (seen S.view self.old).scopes }
-        requires free { owed (S.view self.old.seat) + 2 ≤ (S.view self.old.seat).spare }
+        requires room { length (opens (words (seen S.view self.old).seat)) + 1 < (seen S.view self.old).scopes }
+        requires free { owed (seen S.view self.old).seat + 2 ≤ (seen S.view self.old).seat.spare }
         ensures opens { Opens (seen S.view self.old) at result (seen S.view self.new) }
         ensures fits { Fits S.view S.fits self.new desk.new }
-        ensures others { OthersFit S.view S.fits (S.view self.old.seat).by desk.old desk.new }
+        ensures others { OthersFit S.view S.fits (seen S.view self.old).seat.by desk.old desk.new }
     {
         let parent = first_open(&self.branches, at);
         let scope = self.branches.len() as u32;
@@ -100,12 +100,12 @@ where
     pub fn acquired(&mut self, desk: &mut S::Desk, scope: u32, row: u32, pay: S::Pay)
         requires fits { Fits S.view S.fits self.old desk.old }
         requires scope { IsOpenScope (seen S.view self.old) scope }
-        requires row { IsAmong row (S.view self.old.seat).empty }
+        requires row { IsAmong row (seen S.view self.old).seat.empty }
         requires room { used (seen S.view self.old) + 1 ≤ (seen S.view self.old).rows }
-        requires free { owed (S.view self.old.seat) + 2 ≤ (S.view self.old.seat).spare }
+        requires free { owed (seen S.view self.old).seat + 2 ≤ (seen S.view self.old).seat.spare }
         ensures acquires { Acquires (seen S.view self.old) scope row pay (seen S.view self.new) }
         ensures fits { Fits S.view S.fits self.new desk.new }
-        ensures others { OthersFit S.view S.fits (S.view self.old.seat).by desk.old desk.new }
+        ensures others { OthersFit S.view S.fits (seen S.view self.old).seat.by desk.old desk.new }
     {
         self.seat.note(desk, What::Acquire { row, scope });
         self.seat.place(desk, row, pay);
@@ -114,9 +114,9 @@ where
 
     /// The payload of an open row, for reading and writing.
     pub fn pay_mut(&mut self, row: u32) -> &mut S::Pay
-        requires row { HasRow (S.view self.old.seat).opened row }
+        requires row { HasRow (seen S.view self.old).seat.opened row }
         ensures* back { sem 𝓛 (lends_pay S.row S.Pay.row S.Desk.row S.with_pay self.entry row result) }
-        ensures value { IsAmong (row, result.now) (S.view self.old.seat).opened }
+        ensures value { IsAmong (row, result.now) (seen S.view self.old).seat.opened }
     {
         self.seat.pay_mut(row)
     }
@@ -126,7 +126,7 @@ where
         requires tree { IsSound S.view self.now }
         requires scope { IsOpenScope (seen S.view self.now) scope }
         requires of { WasOpened (seen S.view self.now) of }
-        ensures { result ≡ reaches (words (S.view self.now.seat)) scope of }
+        ensures { result ≡ reaches (words (seen S.view self.now).seat) scope of }
     {
         is_open(&self.branches, of)
             && (is_above(&self.branches, scope, of)
@@ -137,7 +137,7 @@ where
     fn covered(&self, alloc: Global, scope: u32) -> Result<Vec<u32>, AllocError>
         requires tree { IsSound S.view self.now }
         requires scope { IsOpenScope (seen S.view self.now) scope }
-        ensures { IfOk result (λ rows. rows.items ≡ leased_rows (words (S.view self.now.seat)) scope) }
+        ensures { IfOk result (λ rows. rows.items ≡ leased_rows (words (seen S.view self.now).seat) scope) }
     {
         let mut rows = Vec::new(alloc);
         'each: for one in &self.held {
@@ -158,14 +158,14 @@ where
         stream: u32,
     ) -> Result<Lease, AllocError>
         requires fits { Fits S.view S.fits self.old desk.old }
-        requires main { (S.view self.old.seat).main ≡ true }
+        requires main { (seen S.view self.old).seat.main ≡ true }
         requires scope { IsOpenScope (seen S.view self.old) scope }
-        requires stream { ((S.view self.old.seat).by ≢ Inner stream) × ¬ (IsAmong stream (S.view self.old.seat).had) × ¬ (IsLeased (S.view self.old.seat).events stream) }
-        requires free { owed (S.view self.old.seat) + 2 ≤ (S.view self.old.seat).spare }
+        requires stream { ((seen S.view self.old).seat.by ≢ Inner stream) × ¬ (IsAmong stream (seen S.view self.old).seat.had) × ¬ (IsLeased (seen S.view self.old).seat.events stream) }
+        requires free { owed (seen S.view self.old).seat + 2 ≤ (seen S.view self.old).seat.spare }
         ensures ok { IfOk result (λ lease. (lease.stream ≡ stream) × Leases (seen S.view self.old) scope stream lease.rows.items (seen S.view self.new)) }
         ensures err { IfErr result (λ _. seen S.view self.new ≡ seen S.view self.old) }
         ensures fits { Fits S.view S.fits self.new desk.new }
-        ensures others { OthersFit S.view S.fits (S.view self.old.seat).by desk.old desk.new }
+        ensures others { OthersFit S.view S.fits (seen S.view self.old).seat.by desk.old desk.new }
     {
         let rows = self.covered(alloc, scope)?;
         lease_rows(&mut self.seat, desk, stream, &rows);
@@ -180,7 +180,7 @@ where
         requires scope { IsOpenScope (seen S.view self.old) scope }
         ensures closes { Closes S.Pay.ends (seen S.view self.old) scope exit (seen S.view self.new) }
         ensures fits { Fits S.view S.fits self.new desk.new }
-        ensures others { OthersFit S.view S.fits (S.view self.old.seat).by desk.old desk.new }
+        ensures others { OthersFit S.view S.fits (seen S.view self.old).seat.by desk.old desk.new }
     {
         self.seat.note(desk, What::Close { scope, exit });
         tear(
@@ -200,13 +200,13 @@ where
     /// stands on is ended before the next is left.
     pub fn cancel(&mut self, desk: &mut S::Desk, lease: Lease, exit: Exit)
         requires fits { Fits S.view S.fits self.old desk.old }
-        requires may { MayNote (S.view self.old.seat) (Cancel lease.stream exit) }
-        requires pairs { (r : ℕ) → IsAmong r lease.rows.items → IsAmong (lease.stream, r) (S.view self.old.seat).pairs }
-        requires room { used (seen S.view self.old) + strangers (own_rows (S.view self.old.seat)) lease.rows.items ≤ (seen S.view self.old).rows }
-        requires free { owed (S.view self.old.seat) + 1 + away lease.rows.items (S.view self.old.seat).opened ≤ (S.view self.old.seat).spare }
+        requires may { MayNote (seen S.view self.old).seat (Cancel lease.stream exit) }
+        requires pairs { (r : ℕ) → IsAmong r lease.rows.items → IsAmong (lease.stream, r) (seen S.view self.old).seat.pairs }
+        requires room { used (seen S.view self.old) + strangers (own_rows (seen S.view self.old).seat) lease.rows.items ≤ (seen S.view self.old).rows }
+        requires free { owed (seen S.view self.old).seat + 1 + away lease.rows.items (seen S.view self.old).seat.opened ≤ (seen S.view self.old).seat.spare }
         ensures cancels { Cancels S.Pay.ends (seen S.view self.old) lease.stream lease.rows.items exit (seen S.view self.new) }
         ensures fits { Fits S.view S.fits self.new desk.new }
-        ensures others { OthersFit S.view S.fits (S.view self.old.seat).by desk.old desk.new }
+        ensures others { OthersFit S.view S.fits (seen S.view self.old).seat.by desk.old desk.new }
     {
         let Lease { stream, rows } = lease;
         self.seat.note(desk, What::Cancel { stream, exit });
@@ -224,13 +224,13 @@ where
         events: u64,
     ) -> Result<S, AllocError>
         requires fits { Fits S.view S.fits self.old desk.old }
-        requires can { CanSplit (S.view self.old.seat) stream rows.from rows.to events }
-        requires free { owed (S.view self.old.seat) + events ≤ (S.view self.old.seat).spare }
-        ensures ok { IfOk result (λ seat. (seen S.view self.new ≡ record (seen S.view self.old) { seat = split_main (S.view self.old.seat) stream rows.from rows.to events }) × (S.view seat ≡ split_off (S.view self.old.seat) stream rows.from rows.to events) × S.fits seat desk.new) }
+        requires can { CanSplit (seen S.view self.old).seat stream rows.from rows.to events }
+        requires free { owed (seen S.view self.old).seat + events ≤ (seen S.view self.old).seat.spare }
+        ensures ok { IfOk result (λ seat. (seen S.view self.new ≡ record (seen S.view self.old) { seat = split_main (seen S.view self.old).seat stream rows.from rows.to events }) × (S.view seat ≡ split_off (seen S.view self.old).seat stream rows.from rows.to events) × S.fits seat desk.new) }
         ensures start { IfOk result (λ seat. 1 ≤ events → AtStart (S.view seat)) }
         ensures err { IfErr result (λ _. seen S.view self.new ≡ seen S.view self.old) }
         ensures fits { Fits S.view S.fits self.new desk.new }
-        ensures others { OthersFit S.view S.fits (S.view self.old.seat).by desk.old desk.new }
+        ensures others { OthersFit S.view S.fits (seen S.view self.old).seat.by desk.old desk.new }
     {
         let seat = self.seat.split(alloc, desk, stream, rows, events)?;
         Ok(seat)
@@ -239,11 +239,11 @@ where
     /// Takes a seat that was split off in again, once nothing of it is open, leased or handed.
     pub fn join(&mut self, desk: &mut S::Desk, other: S)
         requires fits { Fits S.view S.fits self.old desk.old × S.fits other desk.old }
-        requires can { CanJoin (S.view self.old.seat) (S.view other) }
-        ensures seen { seen S.view self.new ≡ record (seen S.view self.old) { seat = joined (S.view self.old.seat) (S.view other) } }
-        ensures apart { AreApart (S.view self.old.seat) (S.view other) }
+        requires can { CanJoin (seen S.view self.old).seat (S.view other) }
+        ensures seen { seen S.view self.new ≡ record (seen S.view self.old) { seat = joined (seen S.view self.old).seat (S.view other) } }
+        ensures apart { AreApart (seen S.view self.old).seat (S.view other) }
         ensures fits { Fits S.view S.fits self.new desk.new }
-        ensures others { (o : S) → (S.view o).by ≢ (S.view self.old.seat).by → (S.view o).by ≢ (S.view other).by → S.fits o desk.old → S.fits o desk.new }
+        ensures others { (o : S) → (S.view o).by ≢ (seen S.view self.old).seat.by → (S.view o).by ≢ (S.view other).by → S.fits o desk.old → S.fits o desk.new }
     {
         self.seat.join(desk, other);
     }
@@ -251,7 +251,7 @@ where
     /// How the row stands for this tree.
     pub fn status(&self, row: u32) -> Standing
         requires tree { IsSound S.view self.now }
-        ensures { result ≡ standing (seen S.view self.now) row }
+        ensures { StandsAs (seen S.view self.now) row result }
     {
         if let Some(ok) = outcome(&self.shelf, row) {
             return Standing::Final(ok);
@@ -273,7 +273,8 @@ where
     pub fn end(self) -> (S, List<Spent<S::Pay>>)
         requires tree { IsSound S.view self }
         requires closed { IsClosedScope (seen S.view self) 0 }
-        ensures seat { result.0 ≡ self.seat }
+        ensures seat { S.view result.0 ≡ (seen S.view self).seat }
+        ensures fits { (d : S.Desk) → Fits S.view S.fits self d → S.fits result.0 d }
         ensures shelf { result.1 ≡ (seen S.view self).shelf }
         ensures finals { ended_rows (words (S.view result.0)) ≡ said result.1 }
         ensures ended { (S.view result.0).main ≡ false → (r : ℕ) → IsAmong r (own_rows (S.view result.0)) → IsAmong r (firsts (said result.1)) }

@@ -1,6 +1,7 @@
 use Rattle.std.proofs.Common.{◌≡◌, drop}
-use Rattle.scope_tree.specs.Standings.{outcome_of}
+use Rattle.scope_tree.specs.Released.{said}
+use Rattle.scope_tree.specs.Standings.{found}
 use Rattle.scope_tree.proofs.rows.outcome.Given as goal
 
 abbrev pub invariant-each : goal.invariant-each
-invariant-each g l = outcome_of l.row (drop l.spent-index l.shelf) ≡ outcome_of l.row l.shelf
+invariant-each g l = found l.row (said (drop l.spent-index l.shelf)) ≡ found l.row (said l.shelf)

@@ -1,6 +1,7 @@
 use Rattle.std.proofs.Common.{◌≡◌, drop}
-use Rattle.scope_tree.specs.Standings.{scope_by}
+use Rattle.scope_tree.specs.Kept.{held_pairs}
+use Rattle.scope_tree.specs.Standings.{found}
 use Rattle.scope_tree.proofs.rows.scope_of.Given as goal
 
 abbrev pub invariant-each : goal.invariant-each
-invariant-each l = scope_by l.row (drop l.one-index l.held) ≡ scope_by l.row l.held
+invariant-each l = found l.row (held_pairs (drop l.one-index l.held)) ≡ found l.row (held_pairs l.held)

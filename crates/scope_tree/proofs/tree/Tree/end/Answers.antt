@@ -1,4 +1,4 @@
-use Rattle.std.proofs.Common.{subst, ⊎_elim}
+use Rattle.std.proofs.Common.{◌≡◌, true, false, sym, ◌∙◌, subst, ⊎_elim}
 use Rattle.chunk_core.specs.Lists.{IsAmong}
 use Rattle.chunk_core.proofs.Members.{among_nil}
 use Rattle.scope_tree.proofs.Grows.{pair_of_row}
@@ -13,7 +13,7 @@ pub returns-clause-ended : goal.returns-clause-ended
 returns-clause-ended g c = λ main r m.
     let t = c.args.self in let v = g.S.RowSeat.view t.seat in let bs = t.branches.items in let hs = t.held.items in let k = c.requires.tree.kept in
     let p = pair_of_row r hs (subst (λ l. IsAmong r l) (own_is v bs hs k) m) in
-    rw c.of_vec.ensures (⊎_elim (λ h. absurd (among_nil (subst (λ l. IsAmong (r, h.0) l) (nothing_open v bs hs k c.requires.closed) h.1))) (λ i. i) (c.requires.tree.shelved.ended main r p.0 p.1))
+    rw c.of_vec.ensures (⊎_elim (λ h. absurd (among_nil (subst (λ l. IsAmong (r, h.0) l) (nothing_open v bs hs k c.requires.closed) h.1))) (λ o. ⊎_elim (λ i. i) (λ y. absurd (let z : true ≡ false = sym y.0 ∙ main in cc)) o) (c.requires.tree.shelved.ended r p.0 p.1))
 
 pub returns-clause-rising : goal.returns-clause-rising
 returns-clause-rising g c = c.requires.tree.shelved.rises
