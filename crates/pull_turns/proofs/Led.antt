@@ -2,6 +2,8 @@
 use Rattle.std.proofs.Common.{◌≡◌, subst, ℕ, Bool, true, false, List, ◌++◌, [], ◌∷◌, refl, sym, ◌∙◌, arith, append_assoc, append-nil, flat_map, ◌+◌, add-one}
 use Rattle.std.proofs.lemmas.Grind.{flat_map-append}
 use Rattle.chunk_core.specs.declared.code.Code.{Code}
+use Rattle.chunk_core.specs.declared.code.Exit.{Exit}
+use Rattle.chunk_core.specs.declared.code.Exit.TheVariants.{Succeeded, Errored}
 use Rattle.chunk_core.specs.declared.load.Load.{Load}
 use Rattle.chunk_core.specs.Elements.{Element, LoadKind, elements}
 use Rattle.chunk_core.specs.Outcomes.{Cut, Done, End, Fault}
@@ -10,15 +12,17 @@ use Rattle.pull_turns.specs.Around.{Affords, Around, OpenAreHeld, Leaves, gist}
 use Rattle.pull_turns.specs.Groups.{Grouped}
 use Rattle.pull_turns.specs.Piping.{Standing, HasKind}
 use Rattle.pull_turns.specs.Rest.{IsRunOfRest, IsLive, CanStep}
-use Rattle.pull_turns.specs.Turned.{Leads, Ends, Over, Moved, Turned, GoesOn, Spends}
+use Rattle.pull_turns.specs.Turned.{Leads, Ends, Over, Moved, Turned, Gave, GoesOn, Spends}
 use Rattle.pull_turns.specs.Moves.{LeavesAtEnd}
+use Rattle.pull_turns.specs.Scoped.{ClosesAtEnd, Scoped}
 use Rattle.pull_turns.specs.Led.{GoesOnFor, IsShut, Led, Tells, Turns, loads_of}
 use Rattle.pull_turns.specs.declared.rest.Rest.{Rest}
 use Rattle.pull_turns.specs.declared.turn.Turn.{Turn}
 use Rattle.pull_turns.specs.declared.turn.Turn.TheVariants as turn
 use Rattle.pull_turns.proofs.Leads.{can_stop}
 use Rattle.pull_turns.proofs.Kept.{goes_same, goes_on, goes_gist}
-use Rattle.pull_turns.proofs.Turns.{once_on, cause_on}
+use Rattle.pull_turns.proofs.Scoped.{scoped_on}
+use Rattle.pull_turns.proofs.Turns.{by_three, once_on, cause_on}
 
 closed_by : (x : Bool) → (x ≡ true → ⊥) → x ≡ false
 closed_by true never = absurd (never refl)
@@ -63,8 +67,8 @@ pub spends_none : {F : Type 0} (a : Around) (r : Rest F) → Spends a a r r
 spends_none a r = record { events = omega arith; scopes = omega arith; rows = omega arith }
 
 module _ {F : Type 0} (P : Standing F) {O : Type 0} (seen : O → Around) (a : Around) (y z : O) (n : ℕ) (old new : Rest F) (c : CanStep P a 0 old) (tidy : OpenAreHeld (seen z)) where
-  runs : (t : Turn) → z ≡ y → GoesOn t → Grouped old new t → Turned P a (seen y) 0 n old new t → Turns P a (seen z) n old new t
-  runs t e g q h = subst (λ (o : O). Turns P a (seen o) n old new t) (sym e) (record {
+  runs : (t : Turn) → z ≡ y → GoesOn t → ClosesAtEnd (seen y) 0 t → Grouped old new t → Scoped P a (seen y) 0 old new t → Turned P a (seen y) 0 n old new t → Turns P a (seen z) n old new t
+  runs t e g k q r h = subst (λ (o : O). Turns P a (seen o) n old new t) (sym e) (record {
     tells = moved_tells a (seen y) 0 old h.moved;
     once = h.once;
     live = h.live;
@@ -72,6 +76,8 @@ module _ {F : Type 0} (P : Standing F) {O : Type 0} (seen : O → Around) (a : A
     spends = h.spends;
     can = can_on P a (seen y) n old new t c h;
     shut = λ i. absurd (i g);
+    closed = k;
+    scoped = r;
     kinds = h.kinds;
     caused = h.caused;
     grouped = q;
@@ -80,45 +86,39 @@ module _ {F : Type 0} (P : Standing F) {O : Type 0} (seen : O → Around) (a : A
     gave = h.gave;
   })
 
-  over_before : Leaves (seen y) 0 (seen z) → (w : ℕ → DeviceTold) → Over (seen z).told w old → Over (seen y).told w old
-  over_before l w o = record {
+  still_open : (t : Turn) → Turned P a (seen y) 0 n old new t → (seen y).opened 0
+  still_open t h = h.moved.keeps.opened 0 (omega arith) c.opened
+
+  over_before : (x : Exit) → Leaves (seen y) 0 x (seen z) → (w : ℕ → DeviceTold) → Over (seen z).told w old → Over (seen y).told w old
+  over_before x l w o = record {
     over = λ k i. o.over k i ∙ l.told k;
     goes = λ k. goes_on ((seen y).told k) ((seen z).told k) (w k) (goes_gist ((seen y).told k) ((seen z).told k) (l.told k)) (o.goes k);
   }
 
-  pub turns_end : (t : Turn) → LeavesAtEnd seen y 0 t z → Grouped old new t → Turned P a (seen y) 0 n old new t → Turns P a (seen z) n old new t
-  turns_end (turn.Chunk l) e q h = runs (turn.Chunk l) e tt q h
-  turns_end turn.Quiet e q h = runs turn.Quiet e tt q h
-  turns_end turn.Done e q h = record {
+  ends : (t : Turn) (x : Exit) → (GoesOn t → ⊥) → Leaves (seen y) 0 x (seen z) → ClosesAtEnd (seen z) 0 t → Grouped old new t → Scoped P a (seen z) 0 old new t → Turned P a (seen y) 0 n old new t → Gave P (seen z).told old new t → Turns P a (seen z) n old new t
+  ends t x never e k q r h g = record {
     tells = tells_on a.told (seen y).told (seen z).told old old (λ p i. i) (moved_tells a (seen y) 0 old h.moved) (tells_gist (seen y).told (seen z).told old e.told);
     once = once_on a.told (seen y).told (seen z).told n h.once e.told;
     live = h.live;
     fewer = h.fewer;
     spends = spends_on a (seen y) (seen z) old new h.spends e.affords;
-    can = λ g. absurd g;
+    can = λ i. absurd (never i);
     shut = λ i. shut_so (seen z) tidy (e.root refl);
-    kinds = λ k i. tt;
-    caused = tt;
+    closed = k;
+    scoped = r;
+    kinds = h.kinds;
+    caused = by_three P a.told (seen z).told old new t (λ i. absurd (never i));
     grouped = q;
-    quiet = λ f i. absurd i;
-    cause = cause_on a.told (seen y).told (seen z).told old old turn.Done (λ p i. i) e.told h.cause;
-    gave = λ w o. h.gave w (over_before e w o);
+    quiet = h.quiet;
+    cause = cause_on a.told (seen y).told (seen z).told old old t (λ p i. i) e.told h.cause;
+    gave = g;
   }
-  turns_end (turn.Fault d) e q h = record {
-    tells = tells_on a.told (seen y).told (seen z).told old old (λ p i. i) (moved_tells a (seen y) 0 old h.moved) (tells_gist (seen y).told (seen z).told old e.told);
-    once = once_on a.told (seen y).told (seen z).told n h.once e.told;
-    live = h.live;
-    fewer = h.fewer;
-    spends = spends_on a (seen y) (seen z) old new h.spends e.affords;
-    can = λ g. absurd g;
-    shut = λ i. shut_so (seen z) tidy (e.root refl);
-    kinds = λ k i. tt;
-    caused = tt;
-    grouped = q;
-    quiet = λ f i. absurd i;
-    cause = cause_on a.told (seen y).told (seen z).told old old (turn.Fault d) (λ p i. i) e.told h.cause;
-    gave = λ w o. h.gave w (over_before e w o);
-  }
+
+  pub turns_end : (t : Turn) → LeavesAtEnd seen y 0 t z → Grouped old new t → Scoped P a (seen y) 0 old new t → Turned P a (seen y) 0 n old new t → Turns P a (seen z) n old new t
+  turns_end (turn.Chunk l) e q r h = runs (turn.Chunk l) e tt tt q r h
+  turns_end turn.Quiet e q r h = runs turn.Quiet e tt tt q r h
+  turns_end turn.Done e q r h = ends turn.Done Succeeded (λ i. i) e e.closed q (scoped_on P a (seen y) (seen z) 0 Succeeded e (still_open turn.Done h) 0 old new turn.Done (λ i. i) r) h (λ w i. h.gave w (over_before Succeeded e w i))
+  turns_end (turn.Fault d) e q r h = ends (turn.Fault d) Errored (λ i. i) e e.closed q (scoped_on P a (seen y) (seen z) 0 Errored e (still_open (turn.Fault d) h) 0 old new (turn.Fault d) (λ i. i) r) h (λ w i. h.gave w (over_before Errored e w i))
 
 pub led_start : {F : Type 0} (P : Standing F) (now : ℕ → DeviceTold) (r : Rest F) → Led P now now r r []
 led_start P now r = record { tells = tells_same now r; live = λ p l. l; kinds = λ k i. i; grouped = λ k i. i; lead = λ w e. record { gives = λ ys g h. h } }

@@ -12,5 +12,7 @@ pub mod Coming
 pub mod Steps
 pub mod Grouping
 pub mod Grouped
+pub mod Scoped
+pub mod Excluded
 pub mod Led
 pub mod Sized

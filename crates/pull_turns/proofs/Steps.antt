@@ -2,6 +2,8 @@
 use Rattle.std.proofs.Common.{◌≡◌, inl, inr, ℕ, zero, suc, ◌-◌, ◌<◌, List, [], length, take, refl, sym, ◌∙◌, ap, subst, arith, Box, Global, cond}
 use Rattle.std.proofs.lemmas.List.{length-take}
 use Rattle.chunk_core.specs.declared.code.Code.{Code}
+use Rattle.chunk_core.specs.declared.code.Exit.{Exit}
+use Rattle.chunk_core.specs.declared.code.Exit.TheVariants.{Succeeded, Errored}
 use Rattle.chunk_core.specs.Elements.{Element, LoadKind, elements}
 use Rattle.chunk_core.specs.Outcomes.{Done, Fault, Cut}
 use Rattle.device_port.specs.Device.{DeviceTold}
@@ -178,9 +180,9 @@ module _ {F : Type 0} (P : Standing F) where
     })
 
     -- the scope is closed
-    ends : (t : Turn) → (GoesOn t → ⊥) → Leaves (seen y) c (seen z) → Turned P a (seen y) c n x new t → ((k : LoadKind) → HasKind P k x → GivesKind P k (Within' c q new) t) → Gave P (seen z).told (Within' c p x) (Within' c q new) t
+    ends : (t : Turn) (j : Exit) → (GoesOn t → ⊥) → Leaves (seen y) c j (seen z) → Turned P a (seen y) c n x new t → ((k : LoadKind) → HasKind P k x → GivesKind P k (Within' c q new) t) → Gave P (seen z).told (Within' c p x) (Within' c q new) t
         → Turned P a (seen z) s n (Within' c p x) (Within' c q new) t
-    ends t never l h kinds g =
+    ends t j never l h kinds g =
         let same : (k : ℕ) → gist ((seen z).told k) ≡ gist ((seen y).told k) = λ k. (l.keeps s below).told k (λ i. i) in
         let first : Moved a (seen y) s (Within' c p x) = moved_part a (seen y) c s x (Within' c p x) (omega (arith, below)) (λ k i. i) h.moved in
         let second : Moved (seen y) (seen z) s (Within' c p x) = moved_none (seen y) (seen z) s (Within' c p x) (l.keeps s below) in
@@ -203,17 +205,17 @@ module _ {F : Type 0} (P : Standing F) where
         }
 
     -- what is over at the end was over before the scope was closed
-    over_part : Leaves (seen y) c (seen z) → (w : ℕ → DeviceTold) → Over (seen z).told w (Within' c p x) → Over (seen y).told w x
-    over_part l w o = record {
-      over = λ k i. o.over k i ∙ (l.keeps s below).told k (λ j. j);
-      goes = λ k. goes_on ((seen y).told k) ((seen z).told k) (w k) (goes_gist ((seen y).told k) ((seen z).told k) ((l.keeps s below).told k (λ j. j))) (o.goes k);
+    over_part : (j : Exit) → Leaves (seen y) c j (seen z) → (w : ℕ → DeviceTold) → Over (seen z).told w (Within' c p x) → Over (seen y).told w x
+    over_part j l w o = record {
+      over = λ k i. o.over k i ∙ (l.keeps s below).told k (λ i. i);
+      goes = λ k. goes_on ((seen y).told k) ((seen z).told k) (w k) (goes_gist ((seen y).told k) ((seen z).told k) ((l.keeps s below).told k (λ i. i))) (o.goes k);
     }
 
     pub within_step : (t : Turn) → LeavesAtEnd seen y c t z → Turned P a (seen y) c n x new t → Turned P a (seen z) s n (Within' c p x) (Within' c q new) t
     within_step (turn.Chunk l) e h = stays (turn.Chunk l) e h h.kinds (h.gave.0, λ w k. by_left (h.gave.1 w (record { over = k.over; goes = k.goes })) (stopped P w new))
     within_step turn.Quiet e h = stays turn.Quiet e h h.kinds (λ w k. by_left (h.gave w (record { over = k.over; goes = k.goes })) (stopped P w new))
-    within_step turn.Done e h = ends turn.Done (λ i. i) e h (λ k i. tt) (λ w o. inl (h.gave w (over_part e w o)))
-    within_step (turn.Fault d) e h = ends (turn.Fault d) (λ i. i) e h (λ k i. tt) (λ w o. inl (h.gave w (over_part e w o)))
+    within_step turn.Done e h = ends turn.Done Succeeded (λ i. i) e h (λ k i. tt) (λ w o. inl (h.gave w (over_part Succeeded e w o)))
+    within_step (turn.Fault d) e h = ends (turn.Fault d) Errored (λ i. i) e h (λ k i. tt) (λ w o. inl (h.gave w (over_part Errored e w o)))
 
   -- a taker is left with m elements to take
   module _ (a b : Around) (s n k m : ℕ) (p q : Box (Unit {0}) Global) (x new : Rest F) (plain : HasNoGroups x) (still : HasNoGroups new) where

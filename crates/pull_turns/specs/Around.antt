@@ -1,12 +1,14 @@
 -- What a node is run over: devices by their places, scopes, and the room that there is.
-use Rattle.std.specs.Prelude.{◌≡◌, ℕ, ◌+◌, ◌<◌, ◌≤◌, true, false, List, take, drop, length, IfSome}
+use Rattle.std.specs.Prelude.{◌≡◌, ◌≢◌, ◌⊎◌, ◌↔◌, ℕ, ◌+◌, ◌<◌, ◌≤◌, true, false, List, take, drop, length, Some, None, IfSome}
+use Rattle.chunk_core.specs.declared.code.Exit.{Exit}
 use Rattle.device_port.specs.Device.{DeviceTold, moved}
 
--- what the device of each place tells, which scopes are open, which devices were never asked,
--- which are held by which scope, which scopes lie within which, and room for events, for scopes and for rows
+-- what the device of each place tells, which scopes are open, which were closed for themselves and with which exit,
+-- which lie within which, which devices were never asked, which are held by which scope, and room for events, for scopes and for rows
 pub record Around : Type 1 where
   pub told : ℕ → DeviceTold
   pub opened : ℕ → Type 0
+  pub closed : ℕ → Exit → Type 0
   pub within : ℕ → ℕ → Type 0
   pub waits : ℕ → Type 0
   pub holds : ℕ → ℕ → Type 0
@@ -14,9 +16,9 @@ pub record Around : Type 1 where
   pub scopes : ℕ
   pub rows : ℕ
 
--- what a device tells, but for whether it was closed
+-- what a device tells, but for whether it was closed, and how
 abbrev pub gist : DeviceTold → DeviceTold
-gist d = record d { is_open = false; closes = 0; close_faults = 0 }
+gist d = record d { is_open = false; closes = 0; close_faults = 0; exit = None }
 
 -- a device that told d may come to tell e
 pub record Goes (d e : DeviceTold) : Type 0 where
@@ -77,22 +79,32 @@ pub record Fails (a : Around) (p : ℕ) (b : Around) : Type 0 where
   pub keeps : (k : ℕ) → Keeps a (λ q. q ≡ p) k b
   pub affords : Affords a b
 
--- the scope c was opened below s
+-- the scope c, which wasn't open, was opened below s
 pub record Enters (a : Around) (s c : ℕ) (b : Around) : Type 0 where
   pub below : s < c
   pub within : b.within c s
+  pub fresh : a.opened c → ⊥
   pub opened : b.opened c
   pub keeps : (k : ℕ) → Keeps a (λ q. ⊥) k b
   pub events : a.events ≤ b.events + 2
   pub scopes : a.scopes ≤ b.scopes + 1
   pub rows : a.rows ≤ b.rows
 
--- the scope c was closed with what it held, and each scope within it; a device of a scope that was closed with it is closed, and with the root each scope is
-pub record Leaves (a : Around) (c : ℕ) (b : Around) : Type 0 where
+-- the scope c was closed for itself, once, with the exit x
+pub record IsClosedWith (a : Around) (c : ℕ) (x : Exit) : Type 0 where
+  pub gone : a.opened c → ⊥
+  pub exit : (y : Exit) → a.closed c y ↔ (y ≡ x)
+
+-- the scope c was closed with the exit x and with what it held, and no other scope for itself, but each scope within it;
+-- a device of a scope that was closed with it is closed, each that was closed tells that exit, and with the root each scope is closed
+pub record Leaves (a : Around) (c : ℕ) (x : Exit) (b : Around) : Type 0 where
   pub told : (q : ℕ) → gist (b.told q) ≡ gist (a.told q)
   pub keeps : (k : ℕ) → k < c → Keeps a (λ q. ⊥) k b
-  pub gone : b.opened c → ⊥
+  pub closed : IsClosedWith b c x
+  pub others : (k : ℕ) (y : Exit) → k ≢ c → b.closed k y ↔ a.closed k y
+  pub only : (k : ℕ) → b.opened k → a.opened k
   pub inside : (k : ℕ) → a.within k c → b.opened k → ⊥
   pub shut : (q k : ℕ) → a.holds q k → (b.opened k → ⊥) → (b.told q).is_open ≡ false
+  pub exits : (q : ℕ) → (b.told q ≡ a.told q) ⊎ ((b.told q).exit ≡ Some x)
   pub root : c ≡ 0 → (k : ℕ) → b.opened k → ⊥
   pub affords : Affords a b

@@ -4,14 +4,15 @@ use Rattle.chunk_core.specs.declared.code.How.{How}
 use Rattle.chunk_core.specs.declared.code.How.TheVariants as how
 use Rattle.chunk_core.specs.declared.load.Load.{Load}
 use Rattle.chunk_core.specs.Elements.{Element, LoadKind, elements, kind_of}
-use Rattle.chunk_core.specs.Outcomes.{End, Done, Fault, Cut}
+use Rattle.chunk_core.specs.Outcomes.{End, Done, Fault, Cut, exit_of}
 use Rattle.device_port.specs.Device.{DeviceTold}
-use Rattle.pull_turns.specs.Around.{Around, Goes, gist}
+use Rattle.pull_turns.specs.Around.{Around, Goes, IsClosedWith, gist}
 use Rattle.pull_turns.specs.Groups.{Grouped, IsGrouped}
 use Rattle.pull_turns.specs.Piping.{Standing, HasKind}
 use Rattle.pull_turns.specs.Rest.{IsRunOfRest, IsLive, CanStep, left}
 use Rattle.pull_turns.specs.Turned.{Leads, Ends, Over, ReadsOnce, HasCause, Gave, GivesKind, GoesOn, IsCausedBy, IsQuiet, Spends}
 use Rattle.pull_turns.specs.Moves.{how_of}
+use Rattle.pull_turns.specs.Scoped.{ClosesAtEnd, Scoped}
 use Rattle.pull_turns.specs.Sizes.{HasNoPipe}
 use Rattle.pull_turns.specs.declared.rest.Rest.{Rest}
 use Rattle.pull_turns.specs.declared.turn.Turn.{Turn}
@@ -49,7 +50,7 @@ loads_of turn.Done = []
 loads_of (turn.Fault c) = []
 
 module _ {F : Type 0} (P : Standing F) where
-  -- a turn of the whole was made, with reads of at most n bytes; at an end each scope and each device is closed
+  -- a turn of the whole was made, with reads of at most n bytes; at an end each scope and each device is closed, the root with the exit of that end
   pub record Turns (before now : Around) (n : ℕ) (old new : Rest F) (t : Turn) : Type 0 where
     pub tells : Tells before.told now.told old
     pub once : ReadsOnce before.told now.told n
@@ -58,6 +59,8 @@ module _ {F : Type 0} (P : Standing F) where
     pub spends : Spends before now old new
     pub can : GoesOn t → CanStep P now 0 new
     pub shut : (GoesOn t → ⊥) → IsShut now
+    pub closed : ClosesAtEnd now 0 t
+    pub scoped : Scoped P before now 0 old new t
     pub kinds : (k : LoadKind) → HasKind P k old → GivesKind P k new t
     pub caused : IsCausedBy P before.told now.told old new t
     pub quiet : HasNoPipe old → IsQuiet t → left new < left old
@@ -92,7 +95,7 @@ module _ {F : Type 0} (P : Standing F) where
         × ((kind : LoadKind) → HasKind P kind old → kind_of l ≡ kind) × ComesWithin k a old b new (turn.Chunk l)
         × ((j : ℕ) → IsGrouped j old → length (elements l) ≤ j)
     Uncons k a b old new h (unconsed.End e) =
-        (h ≡ Some e) × IsShut (seen b) × Tells (seen a).told (seen b).told old × ((w : ℕ → DeviceTold) → Over (seen b).told w old → IsRunOfRest P w old [] (end_of e))
+        (h ≡ Some e) × IsShut (seen b) × IsClosedWith (seen b) 0 (exit_of e) × Tells (seen a).told (seen b).told old × ((w : ℕ → DeviceTold) → Over (seen b).told w old → IsRunOfRest P w old [] (end_of e))
         × ((t : Turn) × (how_of t ≡ Some e) × ComesWithin k a old b new t)
     Uncons k a b old new h unconsed.Again =
         GoesOnFor k a old b new [] × (h ≡ None) × CanStep P (seen b) 0 new × Led (seen a).told (seen b).told old new []

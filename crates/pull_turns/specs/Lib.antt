@@ -5,5 +5,6 @@ pub mod Rest
 pub mod Turned
 pub mod Moves
 pub mod Passing
+pub mod Scoped
 pub mod Led
 pub mod Sizes

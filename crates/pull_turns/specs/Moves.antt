@@ -5,18 +5,12 @@ use Rattle.chunk_core.specs.declared.code.How.{How}
 use Rattle.chunk_core.specs.declared.code.How.TheVariants as how
 use Rattle.chunk_core.specs.declared.load.Load.{Load}
 use Rattle.chunk_core.specs.Elements.{elements, kind_of, Byte}
+use Rattle.chunk_core.specs.Outcomes.{exit_of}
 use Rattle.pull_turns.specs.Around.{Around, Affords, Keeps, Leaves}
 use Rattle.pull_turns.specs.declared.rest.Rest.{Rest}
 use Rattle.pull_turns.specs.declared.rest.Rest.TheVariants.{Start, Append', OnFault'}
 use Rattle.pull_turns.specs.declared.turn.Turn.{Turn}
 use Rattle.pull_turns.specs.declared.turn.Turn.TheVariants as turn
-
--- the turn ends the run
-abbrev pub is_end : Turn → Bool
-is_end (turn.Chunk l) = false
-is_end turn.Quiet = false
-is_end turn.Done = true
-is_end (turn.Fault c) = true
 
 -- the turn ends the run, and not by a fault
 abbrev pub is_done : Turn → Bool
@@ -106,10 +100,10 @@ pub record ReadsPiece (before now : Around) (n p from to : ℕ) (t : Turn) : Typ
   pub piece : PieceTurn before now n p from to t
 
 module _ {O : Type 0} where
-  abbrev pub LeavesIf : Bool → (O → Around) → O → ℕ → O → Type 0
-  LeavesIf true seen a c b = Leaves (seen a) c (seen b)
-  LeavesIf false seen a c b = b ≡ a
+  abbrev pub LeavesIf : Option How → (O → Around) → O → ℕ → O → Type 0
+  LeavesIf (Some h) seen a c b = Leaves (seen a) c (exit_of h) (seen b)
+  LeavesIf None seen a c b = b ≡ a
 
-  -- the scope c was left where the turn ends what ran in it
+  -- where the turn ends what ran in the scope c, the scope was closed with the exit of that end
   abbrev pub LeavesAtEnd : (O → Around) → O → ℕ → Turn → O → Type 0
-  LeavesAtEnd seen a c t b = LeavesIf (is_end t) seen a c b
+  LeavesAtEnd seen a c t b = LeavesIf (how_of t) seen a c b

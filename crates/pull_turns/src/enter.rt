@@ -3,6 +3,7 @@ ghost use Rattle.std.specs.Prelude.{◌≡◌, ℕ, true, false, IfOk, OnErr};
 ghost use Rattle.pull_turns.specs.Groups.{Grouped, HasNoGroups};
 ghost use Rattle.pull_turns.specs.Piping.{standing};
 ghost use Rattle.pull_turns.specs.Rest.{CanStep};
+ghost use Rattle.pull_turns.specs.Scoped.{EntersIn};
 ghost use Rattle.pull_turns.specs.Sizes.{HasNoPipe, Sized, given};
 ghost use Rattle.pull_turns.specs.Turned.{Moved, SpendsWithin, Turned};
 ghost use Rattle.pull_turns.specs.declared.rest.Rest.TheVariants as rest;
@@ -33,6 +34,7 @@ pub(crate) fn enter<O: Outside, F: PipeState>(
     ensures sized { IfOk result (λ r. HasNoPipe {F = F} (rest.Start node) → (n : ℕ) → Sized n (rest.Start node) r.0 (given r.1)) }
     ensures whole { IfOk result (λ r. whole ≡ true → HasNoGroups r.0) }
     ensures grouped { IfOk result (λ r. whole ≡ false → Grouped (rest.Start node) r.0 r.1) }
+    ensures scoped { IfOk result (λ r. EntersIn (O.seen outside.old) (O.seen outside.new) scope node r.0 r.1) }
     ensures spent { OnErr result (SpendsWithin {F = F} (O.seen outside.old) (O.seen outside.new) (rest.Start node)) }
     ensures stopped { OnErr result (Moved {F = F} (O.seen outside.old) (O.seen outside.new) scope (rest.Start node)) }
     ensures fits { O.fits outside.new desk.new }

@@ -1,4 +1,5 @@
 //! The devices and scopes that a node is run over.
+use chunk_core::Exit;
 use device_port::Failed;
 
 /// The devices of a stream by their places, and its scopes by their numbers.
@@ -9,7 +10,8 @@ pub trait Outside {
     /// Where the rows are.
     type Desk;
 
-    // What each device tells, which scopes are open, which devices wait or are held, and the room.
+    // What each device tells, which scopes are open or were closed, which devices wait or are held, and
+    // the room.
     ghost seen: { Self → Around };
     // The outside is in order, and this is its desk.
     ghost fits: { Self → Self.Desk → Type 0 };
@@ -59,11 +61,11 @@ pub trait Outside {
         ensures fits { fits self.new desk.new }
         ensures since { since self.old desk.old self.new desk.new };
 
-    /// Closes an open scope, and what is open in it.
-    fn leave(&mut self, desk: &mut Self::Desk, scope: u32)
+    /// Closes an open scope, and what is open in it, with the exit of what ran there.
+    fn leave(&mut self, desk: &mut Self::Desk, scope: u32, exit: Exit)
         requires fits { fits self.old desk.old }
         requires scope { (seen self.old).opened scope }
-        ensures leaves { Leaves (seen self.old) scope (seen self.new) }
+        ensures leaves { Leaves (seen self.old) scope exit (seen self.new) }
         ensures fits { fits self.new desk.new }
         ensures since { since self.old desk.old self.new desk.new };
 }

@@ -1,8 +1,9 @@
 //! A node that is run turn by turn.
 ghost use Rattle.std.specs.Prelude.{◌≡◌, ℕ, ◌+◌, ◌<◌, ◌≤◌, true, false, Some, None, flat_map, length, IfOk, OnErr};
+ghost use Rattle.chunk_core.specs.declared.code.Exit.TheVariants as exit;
 ghost use Rattle.chunk_core.specs.declared.code.How.TheVariants as how;
 ghost use Rattle.chunk_core.specs.Elements.{elements};
-ghost use Rattle.pull_turns.specs.Around.{Affords};
+ghost use Rattle.pull_turns.specs.Around.{Affords, IsClosedWith};
 ghost use Rattle.pull_turns.specs.Piping.{standing};
 ghost use Rattle.pull_turns.specs.Rest.{CanStep, IsRunOfRest};
 ghost use Rattle.pull_turns.specs.Sizes.{HasNoPipe, Sized, given, given_first};
@@ -15,7 +16,7 @@ use crate::outside::Outside;
 use crate::rest::Rest;
 use crate::step::{leave_at_end, step};
 use crate::turn::Turn;
-use chunk_core::{How, Load};
+use chunk_core::{Exit, How, Load};
 use pull_nodes::{Node, PipeState};
 use std::alloc::{AllocError, Global};
 
@@ -62,7 +63,7 @@ impl<O: Outside, F: PipeState> Runner<O, F> {
         }
     }
 
-    /// Makes one turn. At the end each scope is closed, and each device.
+    /// Makes one turn. At the end each scope is closed, and each device, with the exit of the end.
     pub fn turn(&mut self, desk: &mut O::Desk) -> Result<Turn, AllocError>
         requires fits { O.fits self.old.outside desk.old }
         requires runs { (self.old.how ≡ None) × (self.old.wanting ≡ false) }
@@ -131,12 +132,13 @@ impl<O: Outside, F: PipeState> Runner<O, F> {
         self.how
     }
 
-    /// Stops the run, and closes each scope and each device.
+    /// Stops the run, and closes each scope and each device as canceled.
     pub fn halt(&mut self, desk: &mut O::Desk)
         requires fits { O.fits self.old.outside desk.old }
         requires runs { self.old.how ≡ None }
         requires root { (O.seen self.old.outside).opened 0 }
         ensures shut { IsShut (O.seen self.new.outside) }
+        ensures exit { IsClosedWith (O.seen self.new.outside) 0 exit.Canceled }
         ensures tells { Tells {F = F} (O.seen self.old.outside).told (O.seen self.new.outside).told rest.Nil }
         ensures affords { Affords (O.seen self.old.outside) (O.seen self.new.outside) }
         ensures halted { self.old.wanting ≡ false → self.new.how ≡ Some how.Halted }
@@ -146,7 +148,7 @@ impl<O: Outside, F: PipeState> Runner<O, F> {
         ensures fits { O.fits self.new.outside desk.new }
         ensures since { O.since self.old.outside desk.old self.new.outside desk.new }
     {
-        self.outside.leave(desk, 0);
+        self.outside.leave(desk, 0, Exit::Canceled);
         self.how = Some(if self.wanting {
             How::Memory
         } else {

@@ -3,9 +3,10 @@ ghost use Rattle.std.specs.Prelude.{◌≡◌, ℕ, ◌<◌, true, false, IfOk, 
 ghost use Rattle.pull_turns.specs.Groups.{Grouped, HasNoGroups};
 ghost use Rattle.pull_turns.specs.Piping.{standing};
 ghost use Rattle.pull_turns.specs.Rest.{CanStep};
+ghost use Rattle.pull_turns.specs.Scoped.{Scoped};
 ghost use Rattle.pull_turns.specs.Sizes.{HasNoPipe, Sized, given};
 ghost use Rattle.pull_turns.specs.Turned.{Moved, SpendsWithin, Turned};
-ghost use Rattle.pull_turns.specs.Moves.{is_end, is_done, is_fault, behind, append_turn, guard_turn, LeavesAtEnd};
+ghost use Rattle.pull_turns.specs.Moves.{is_done, is_fault, behind, append_turn, guard_turn, LeavesAtEnd};
 
 use crate::enter::enter;
 use crate::groups::{first_group, grouped};
@@ -38,6 +39,7 @@ pub(crate) fn step<O: Outside, F: PipeState>(
     ensures sized { IfOk result (λ t. HasNoPipe rest.old → Sized chunk rest.old rest.new (given t)) }
     ensures whole { IfOk result (λ t. whole ≡ true → HasNoGroups rest.new) }
     ensures grouped { IfOk result (λ t. whole ≡ false → Grouped rest.old rest.new t) }
+    ensures scoped { IfOk result (λ t. Scoped (standing F.stands F.comes) (O.seen outside.old) (O.seen outside.new) scope rest.old rest.new t) }
     ensures spent { OnErr result (SpendsWithin (O.seen outside.old) (O.seen outside.new) rest.old) }
     ensures stopped { OnErr result (Moved (O.seen outside.old) (O.seen outside.new) scope rest.old) }
     ensures fits { O.fits outside.new desk.new }
@@ -100,7 +102,7 @@ pub(crate) fn step<O: Outside, F: PipeState>(
     }
 }
 
-/// A scope is closed where what ran in it has ended.
+/// A scope is closed where what ran in it has ended, with the exit of that end.
 pub(crate) fn leave_at_end<O: Outside>(outside: &mut O, desk: &mut O::Desk, scope: u32, turn: &Turn)
     requires fits { O.fits outside.old desk.old }
     requires scope { (O.seen outside.old).opened scope }
@@ -108,8 +110,8 @@ pub(crate) fn leave_at_end<O: Outside>(outside: &mut O, desk: &mut O::Desk, scop
     ensures fits { O.fits outside.new desk.new }
     ensures since { O.since outside.old desk.old outside.new desk.new }
 {
-    if turn.is_end() {
-        outside.leave(desk, scope);
+    if let Some(how) = turn.how() {
+        outside.leave(desk, scope, how.exit());
     }
 }
 

@@ -1,6 +1,6 @@
 //! What one turn gives.
 ghost use Rattle.std.specs.Prelude.{◌≡◌};
-ghost use Rattle.pull_turns.specs.Moves.{is_end, how_of};
+ghost use Rattle.pull_turns.specs.Moves.{how_of};
 
 use chunk_core::{Code, How, Load};
 
@@ -19,15 +19,6 @@ pub enum Turn {
 }
 
 impl Turn {
-    pub(crate) fn is_end(&self) -> bool
-        ensures { result ≡ is_end self.now }
-    {
-        match self {
-            Turn::Chunk(_) | Turn::Quiet => false,
-            Turn::Done | Turn::Fault(_) => true,
-        }
-    }
-
     /// How the run has ended, where it has.
     pub(crate) fn how(&self) -> Option<How>
         ensures { result ≡ how_of self.now }

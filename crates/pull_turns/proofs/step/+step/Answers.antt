@@ -4,6 +4,7 @@ use Rattle.pull_turns.proofs.Grouped.{append_grouped, guard_grouped, within_grou
 use Rattle.pull_turns.proofs.Grouping.{groups_step, waited_step}
 use Rattle.pull_turns.proofs.Coming.{faulty_step, finishing_step}
 use Rattle.pull_turns.proofs.Finished.{through_step}
+use Rattle.pull_turns.proofs.Scoped.{within_scoped}
 use Rattle.pull_turns.proofs.Pieces.{read_step, read_moved}
 use Rattle.pull_turns.proofs.Sized.{append_sized, guard_sized, read_sized, take_sized}
 use Rattle.pull_turns.proofs.step.+step.Goals as goal
@@ -107,3 +108,9 @@ returns-in_ok-turn-in-Append-clause-grouped g t c e = rw (c.after_first.ensures.
 pub returns-in_ok-turn-in-OnFault-clause-grouped : goal.returns-in_ok-turn-in-OnFault-clause-grouped
 returns-in_ok-turn-in-OnFault-clause-grouped g t c e = rw (c.after_guarded.ensures.rest, c.after_guarded.ensures.turn, c.in-OnFault.is)
     (guard_grouped _ _ _ _ _ c.in_ok-turn-in-OnFault.turn (rw c.deref_mut-in-OnFault.ensures.value at (c.in_ok-turn-in-OnFault.ensures.grouped e)))
+
+pub returns-in_ok-turn-in-Within-clause-scoped : goal.returns-in_ok-turn-in-Within-clause-scoped
+returns-in_ok-turn-in-Within-clause-scoped g t c =
+    let ready = rw c.in-Within.is at c.requires.ready.ready in
+    let first = rw c.deref_mut.ensures.value at c.in_ok-turn-in-Within.ensures in
+    rw c.in-Within.is (within_scoped _ g.O.Outside.seen _ _ _ c.args.scope _ _ _ _ _ ready.1 c.in_ok-turn-in-Within.turn c.leave_at_end.ensures.ends first.turned first.scoped)

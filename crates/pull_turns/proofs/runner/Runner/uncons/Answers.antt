@@ -24,13 +24,13 @@ pub returns-in-Done-clause-first : goal.returns-in-Done-clause-first
 returns-in-Done-clause-first g c =
     let i = c.loop-turn.invariant in
     let k = rw c.in-Done.is at c.in_ok-load.ensures.turned in
-    (rw c.in-Done.is at c.in_ok-load.ensures.how, k.shut (λ j. j), led_tells _ _ _ _ _ _ _ _ _ i.led _ k, λ w o. led_done _ _ _ _ _ _ _ _ _ i.led k w o, (turn.Done, refl, (c.loop-turn._turn, c.loop-turn-test.true, _, _, i.went, rw i.chunk at k)))
+    (rw c.in-Done.is at c.in_ok-load.ensures.how, k.shut (λ j. j), k.closed, led_tells _ _ _ _ _ _ _ _ _ i.led _ k, λ w o. led_done _ _ _ _ _ _ _ _ _ i.led k w o, (turn.Done, refl, (c.loop-turn._turn, c.loop-turn-test.true, _, _, i.went, rw i.chunk at k)))
 
 pub returns-in-Fault-clause-first : goal.returns-in-Fault-clause-first
 returns-in-Fault-clause-first g c =
     let i = c.loop-turn.invariant in
     let k = rw c.in-Fault.is at c.in_ok-load.ensures.turned in
-    (rw c.in-Fault.is at c.in_ok-load.ensures.how, k.shut (λ j. j), led_tells _ _ _ _ _ _ _ _ _ i.led _ k, λ w o. led_fault _ _ _ _ _ _ _ _ _ i.led c.in-Fault.code k w o, (turn.Fault c.in-Fault.code, refl, (c.loop-turn._turn, c.loop-turn-test.true, _, _, i.went, rw i.chunk at k)))
+    (rw c.in-Fault.is at c.in_ok-load.ensures.how, k.shut (λ j. j), k.closed, led_tells _ _ _ _ _ _ _ _ _ i.led _ k, λ w o. led_fault _ _ _ _ _ _ _ _ _ i.led c.in-Fault.code k w o, (turn.Fault c.in-Fault.code, refl, (c.loop-turn._turn, c.loop-turn-test.true, _, _, i.went, rw i.chunk at k)))
 
 pub loop-turn-preserved : goal.loop-turn-preserved
 loop-turn-preserved g c =
