@@ -1,5 +1,5 @@
 -- What a call of a tree leaves of what its stream noted.
-use Rattle.std.proofs.Common.{◌≡◌, ◌≢◌, ℕ, ◌<◌, ◌⊎◌, Bool, true, false, List, [], ◌∷◌, ◌++◌, inl, inr, refl, sym, ap, ◌∙◌, subst, ⊎_elim, append_assoc, append-nil}
+use Rattle.std.proofs.Common.{◌≡◌, ◌≢◌, ℕ, ◌<◌, ◌≤◌, ◌⊎◌, Bool, true, false, List, [], ◌∷◌, ◌++◌, inl, inr, refl, sym, ap, ◌∙◌, subst, ⊎_elim, append_assoc, append-nil}
 use Rattle.std.proofs.lemmas.Bool.{cases_eq}
 use Rattle.chunk_core.specs.Lists.{IsAmong}
 use Rattle.chunk_core.proofs.Filters.{among_append}
@@ -10,6 +10,7 @@ use Rattle.res_ledger.specs.declared.event.StreamNo.TheVariants.{Inner}
 use Rattle.res_ledger.specs.declared.event.What.{What}
 use Rattle.res_ledger.specs.declared.event.What.TheVariants.{Open, Acquire, Lease, Cancel, Close, Final}
 use Rattle.res_ledger.specs.Ledger.{Notes}
+use Rattle.res_ledger.specs.Own.{leased_of}
 use Rattle.res_ledger.specs.Streams.{by_stream}
 use Rattle.res_ledger.proofs.Growth.{noted_more, noted_new}
 use Rattle.res_ledger.proofs.Ledgers.{by_both, by_in, by_none, inner_is}
@@ -23,13 +24,14 @@ use Rattle.scope_tree.proofs.Shelf.{by_snoc, rises_snoc}
 pub record Folio : Type 0 where
   pub by : StreamNo
   pub main : Bool
+  pub floor : ℕ
   pub events : List Event
   pub kept : List ℕ
   pub had : List ℕ
   pub out : List ℕ
 
 abbrev pub folio : {P : Type 0} → View P → Folio
-folio v = record { by = v.by; main = v.main; events = v.events; kept = v.kept; had = v.had; out = v.out }
+folio v = record { by = v.by; main = v.main; floor = v.floor; events = v.events; kept = v.kept; had = v.had; out = v.out }
 
 -- the Lease for j is kept, or its stream had a seat, or its Cancel is noted
 abbrev pub IsMet : Folio → ℕ → Type 0
@@ -43,6 +45,14 @@ IsGiven v = (j : ℕ) → IsAmong j v.out → IsAmong j v.had × (v.by ≢ Inner
 abbrev pub IsBack : Folio → ℕ → Type 0
 IsBack v j = IsAmong j v.had × ¬ (IsAmong j v.out) × (v.by ≢ Inner j)
 
+-- each event is in the seat's own name or in that of a seat that came back
+abbrev pub AreNamed : Folio → Type 0
+AreNamed v = (e : Event) → IsAmong e v.events → (e.by ≡ v.by) ⊎ ((j : ℕ) × (e.by ≡ Inner j) × IsBack v j)
+
+-- no event in its own name stands below its floor
+abbrev pub AreFloored : Folio → Type 0
+AreFloored v = (e : Event) → IsAmong e v.events → e.by ≡ v.by → v.floor ≤ e.stamp
+
 -- w is what has become of v
 pub record IsAfter (v w : Folio) : Type 0 where
   pub by : w.by ≡ v.by
@@ -52,9 +62,12 @@ pub record IsAfter (v w : Folio) : Type 0 where
   pub rises : Rises (by_stream v.by v.events) → Rises (by_stream w.by w.events)
   pub met : (j : ℕ) → IsMet v j → IsMet w j
   pub had : v.main ≡ false → w.had ≡ v.had
-  pub own : v.main ≡ false → (e : Event) → IsAmong e w.events → IsAmong e v.events ⊎ (e.by ≡ w.by)
+  pub own : v.main ≡ false → (e : Event) → IsAmong e w.events → IsAmong e v.events ⊎ ((e.by ≡ w.by) × (leased_of e.what ≡ []))
   pub given : IsGiven v → IsGiven w
   pub back : (j : ℕ) → IsBack v j → IsBack w j × ((e : Event) → IsAmong e w.events → e.by ≡ Inner j → IsAmong e v.events)
+  pub named : IsGiven v → AreNamed v → AreNamed w
+  pub floor : w.floor ≡ v.floor
+  pub floored : AreFloored v → AreFloored w
 
 pub after_same : (v : Folio) → IsAfter v v
 after_same v = record {
@@ -68,6 +81,9 @@ after_same v = record {
   own = λ m e n. inl n;
   given = λ g. g;
   back = λ j h. (h, λ e m k. m);
+  named = λ g h. h;
+  floor = refl;
+  floored = λ h. h;
 }
 
 pub after_then : (u v w : Folio) → IsAfter u v → IsAfter v w → IsAfter u w
@@ -79,9 +95,12 @@ after_then u v w a b = record {
   rises = λ r. b.rises (a.rises r);
   met = λ j m. b.met j (a.met j m);
   had = λ m. b.had (a.main ∙ m) ∙ a.had m;
-  own = λ m e n. ⊎_elim (λ o. ⊎_elim (λ i. inl i) (λ k. inr (k ∙ sym b.by)) (a.own m e o)) (λ k. inr k) (b.own (a.main ∙ m) e n);
+  own = λ m e n. ⊎_elim (λ o. ⊎_elim (λ i. inl i) (λ k. inr (k.0 ∙ sym b.by, k.1)) (a.own m e o)) (λ k. inr k) (b.own (a.main ∙ m) e n);
   given = λ g. b.given (a.given g);
   back = λ j h. let x = a.back j h in let y = b.back j x.0 in (y.0, λ e m k. x.1 e (y.1 e m k) k);
+  named = λ g h. b.named (a.given g) (a.named g h);
+  floor = b.floor ∙ a.floor;
+  floored = λ h. b.floored (a.floored h);
 }
 
 -- an event takes a Lease away only if it is its Cancel
@@ -97,8 +116,9 @@ kept_or (Final r ok) j xs m = inl m
 abbrev pub with_event : Folio → ℕ → What → Folio
 with_event v n w = record v { events = v.events ++ record { stamp = n; by = v.by; what = w } ∷ []; kept = kept_after w v.kept }
 
-pub after_event : (v : Folio) (n : ℕ) (w : What) → ((e : Event) → IsAmong e v.events → e.stamp < n) → IsAfter v (with_event v n w)
-after_event v n w f =
+-- an event that is a Lease only where the seat is the main one
+pub after_event : (v : Folio) (n : ℕ) (w : What) → v.floor ≤ n → ((e : Event) → IsAmong e v.events → e.stamp < n) → (leased_of w ≡ []) ⊎ (v.main ≡ true) → IsAfter v (with_event v n w)
+after_event v n w low f plain =
     let e : Event = record { stamp = n; by = v.by; what = w } in record {
       by = refl;
       main = refl;
@@ -110,14 +130,20 @@ after_event v n w f =
           (λ o. inr (⊎_elim (λ h. inl h) (λ c. inr (noted_more v.events e c)) o))
           m;
       had = λ m. refl;
-      own = λ m x n. ⊎_elim (λ o. inl o) (λ i. inr (ap (λ (z : Event). z.by) i)) (among_snoc v.events x e n);
+      own = λ m x n. ⊎_elim
+          (λ o. inl o)
+          (λ i. ⊎_elim (λ l. inr (ap (λ (z : Event). z.by) i, ap (λ (z : Event). leased_of z.what) i ∙ l)) (λ t. absurd (let z : true ≡ false = sym t ∙ m in cc)) plain)
+          (among_snoc v.events x e n);
       given = λ g. g;
       back = λ j h. (h, λ x m k. ⊎_elim (λ o. o) (λ i. absurd (h.2 (sym (ap (λ (z : Event). z.by) i) ∙ k))) (among_snoc v.events x e m));
+      named = λ g h x m. ⊎_elim (λ o. h x o) (λ i. inl (ap (λ (z : Event). z.by) i)) (among_snoc v.events x e m);
+      floor = refl;
+      floored = λ h x m k. ⊎_elim (λ o. h x o k) (λ i. subst (λ (z : Event). v.floor ≤ z.stamp) (sym i) low) (among_snoc v.events x e m);
     }
 
 module _ {P : Type 0} where
-  pub after_noted : (v : View P) (n : ℕ) (w : What) → IsFresh v n → IsAfter (folio v) (folio (noted v (record { stamp = n; by = v.by; what = w })))
-  after_noted v n w f = after_event (folio v) n w f.1
+  pub after_noted : (v : View P) (n : ℕ) (w : What) → IsFresh v n → (leased_of w ≡ []) ⊎ (v.main ≡ true) → IsAfter (folio v) (folio (noted v (record { stamp = n; by = v.by; what = w })))
+  after_noted v n w f plain = after_event (folio v) n w f.0 f.1 plain
 
   pub after_split : (v : View P) (j from to n : ℕ) → CanSplit v j from to n → IsAfter (folio v) (folio (split_main v j from to n))
   after_split v j from to n c = record {
@@ -137,6 +163,12 @@ module _ {P : Type 0} where
         (λ e. (subst (λ x. IsAmong x (v.had ++ j ∷ [])) (sym e) (among_last v.had j), λ s. c.1 (s ∙ ap Inner e)))
         (among_snoc v.out i j m);
     back = λ i h. ((among_left (j ∷ []) h.0, (λ m. ⊎_elim h.1 (λ e. c.2 (subst (λ x. IsAmong x v.had) e h.0)) (among_snoc v.out i j m)), h.2), λ e m k. m);
+    named = λ g h e m. ⊎_elim
+        (λ k. inl k)
+        (λ k. inr (k.0, k.1, (among_left (j ∷ []) k.2.0, (λ o. ⊎_elim k.2.1 (λ i. c.2 (subst (λ x. IsAmong x v.had) i k.2.0)) (among_snoc v.out k.0 j o)), k.2.2)))
+        (h e m);
+    floor = refl;
+    floored = λ h. h;
   }
 
   pub after_joined : (v w : View P) → CanJoin v w → AreApart v w → IsAfter (folio v) (folio (joined v w))
@@ -154,4 +186,10 @@ module _ {P : Type 0} where
       λ e m k. ⊎_elim (λ o. o) (λ o. absurd (h.1 (subst (λ x. IsAmong x v.out) (inner_is c.1.0 j (sym c.1.1 ∙ (sym (a.own e o) ∙ k))) c.1.2))) (among_append e v.events w.events m),
     );
     own = λ m. absurd (let z : true ≡ false = sym c.0 ∙ m in cc);
+    named = λ g h e m. ⊎_elim
+        (λ o. ⊎_elim (λ k. inl k) (λ k. inr (k.0, k.1, (k.2.0, (λ i. k.2.1 (among_without (name_of w.by) v.out k.0 i).0), k.2.2))) (h e o))
+        (λ o. let t = g c.1.0 c.1.2 in inr (c.1.0, a.own e o ∙ c.1.1, (t.0, (λ i. (among_without (name_of w.by) v.out c.1.0 i).1 (sym (ap name_of c.1.1))), t.1)))
+        (among_append e v.events w.events m);
+    floor = refl;
+    floored = λ h e m k. ⊎_elim (λ o. h e o k) (λ o. absurd (a.events e o k)) (among_append e v.events w.events m);
   }

@@ -1,5 +1,5 @@
 -- What calls of a tree leave of what its stream noted.
-use Rattle.std.proofs.Common.{ℕ, Bool, List, [], sym, ap, subst}
+use Rattle.std.proofs.Common.{ℕ, Bool, List, [], inl, inr, refl, sym, ap, subst}
 use Rattle.res_ledger.specs.declared.event.What.TheVariants.{Open, Acquire, Lease, Cancel, Close, Final}
 use Rattle.row_seat.specs.declared.view.View.{View}
 use Rattle.scope_tree.specs.declared.branch.Spent.{Spent}
@@ -18,21 +18,21 @@ module _ {P : Type 0} {ends : P → Bool → P → Type 0} where
   torn_after : {T : List ℕ} {v w : View P} {xs : List (Spent P)} → Torn ends T v xs w → IsAfter (folio v) (folio w)
   torn_after (done v) = after_same (folio v)
   torn_after (stays v r p m st t) = torn_after t
-  torn_after {w = w} (ends_so v p n x m a e f t) = after_then _ _ _ (after_noted v n (Final x.row x.ok) f) (torn_after t)
+  torn_after {w = w} (ends_so v p n x m a e f t) = after_then _ _ _ (after_noted v n (Final x.row x.ok) f (inl refl)) (torn_after t)
 
   quits_after : {j : ℕ} {T : List ℕ} {v w : View P} {xs : List (Spent P)} → Quits ends j T v xs w → IsAfter (folio v) (folio w)
   quits_after (quit v) = after_same (folio v)
   quits_after (leaves v r why t) = quits_after t
-  quits_after (ends_lease v p n x l e f t) = after_then _ _ _ (after_noted v n (Final x.row x.ok) f) (quits_after t)
+  quits_after (ends_lease v p n x l e f t) = after_then _ _ _ (after_noted v n (Final x.row x.ok) f (inl refl)) (quits_after t)
 
   pub called_after : {a b : Seen P} {Cs : List (ℕ × List ℕ)} → Called ends a Cs b → IsAfter (folio a.seat) (folio b.seat)
   called_after {a = a} none = after_same (folio a.seat)
-  called_after (opened b c at s h m o) = after_then _ _ _ (called_after h) (subst (λ v. IsAfter (folio b.seat) (folio v)) (sym o.seat) (after_noted b.seat o.stamp (Open s o.parent) o.fresh))
-  called_after (acquired b c s r p h m o) = after_then _ _ _ (called_after h) (subst (λ v. IsAfter (folio b.seat) (folio v)) (sym o.seat) (after_noted b.seat o.stamp (Acquire r s) o.fresh))
+  called_after (opened b c at s h m o) = after_then _ _ _ (called_after h) (subst (λ v. IsAfter (folio b.seat) (folio v)) (sym o.seat) (after_noted b.seat o.stamp (Open s o.parent) o.fresh (inl refl)))
+  called_after (acquired b c s r p h m o) = after_then _ _ _ (called_after h) (subst (λ v. IsAfter (folio b.seat) (folio v)) (sym o.seat) (after_noted b.seat o.stamp (Acquire r s) o.fresh (inl refl)))
   called_after (written b c r p h m o) = after_then _ _ _ (called_after h) (subst (λ v. IsAfter (folio b.seat) (folio v)) (sym (ap (λ x. x.seat) o)) (after_same (folio b.seat)))
-  called_after (leased b c s j T h m o) = after_then _ _ _ (called_after h) (subst (λ v. IsAfter (folio b.seat) (folio v)) (sym o.seat) (after_noted b.seat o.stamp (Lease j s) o.fresh))
-  called_after (cancelled b c j T h m o) = after_then _ _ _ (called_after h) (after_then _ _ _ (after_noted b.seat o.stamp (Cancel j) o.fresh) (quits_after o.left.2))
-  called_after (closed b c s h m o) = after_then _ _ _ (called_after h) (after_then _ _ _ (after_noted b.seat o.stamp (Close s) o.fresh) (torn_after o.torn.2))
+  called_after (leased b c s j T h m o) = after_then _ _ _ (called_after h) (subst (λ v. IsAfter (folio b.seat) (folio v)) (sym o.seat) (after_noted b.seat o.stamp (Lease j s) o.fresh (inr m.main)))
+  called_after (cancelled b c j T h m o) = after_then _ _ _ (called_after h) (after_then _ _ _ (after_noted b.seat o.stamp (Cancel j) o.fresh (inl refl)) (quits_after o.left.2))
+  called_after (closed b c s h m o) = after_then _ _ _ (called_after h) (after_then _ _ _ (after_noted b.seat o.stamp (Close s) o.fresh (inl refl)) (torn_after o.torn.2))
   called_after (split b c j from to n h m o) = after_then _ _ _ (called_after h) (subst (λ v. IsAfter (folio b.seat) (folio v)) (sym (ap (λ x. x.seat) o)) (after_split b.seat j from to n m))
   called_after (taken_in b c w h m p o) = after_then _ _ _ (called_after h) (subst (λ v. IsAfter (folio b.seat) (folio v)) (sym (ap (λ x. x.seat) o)) (after_joined b.seat w m p))
 

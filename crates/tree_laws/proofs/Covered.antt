@@ -15,6 +15,7 @@ use Rattle.res_ledger.specs.Streams.{by_stream, same_stream}
 use Rattle.res_ledger.proofs.Ledgers.{by_both, by_place, stream_same}
 use Rattle.res_ledger.proofs.Tests.{itself, number}
 use Rattle.row_seat.specs.declared.view.View.{View}
+use Rattle.scope_tree.proofs.Tidy.{own_by}
 use Rattle.tree_laws.specs.Lent.{Lent}
 
 gathered_append : (of : List Event → Event → List ℕ) (P A B : List Event) → gathered of P (A ++ B) ≡ gathered of P A ++ gathered of (P ++ A) B
@@ -43,10 +44,6 @@ one_lease j s A e is =
 none_leased : (j : ℕ) (A B : List Event) → ((e : Event) (s : ℕ) → IsAmong e B → e.what ≡ Lease j s → ⊥) → gathered (covered_for j) A B ≡ []
 none_leased j A [] n = refl
 none_leased j A (e ∷ B) n = ap (λ l. l ++ gathered (covered_for j) (A ++ e ∷ []) B) (no_lease j A e e.what refl (λ s w. n e s (here B) w)) ∙ none_leased j (A ++ e ∷ []) B (λ x s m. n x s (there e m))
-
-own_by : (k : StreamNo) (L : List Event) → own k L ≡ map (λ (e : Event). e.what) (by_stream k L)
-own_by k [] = refl
-own_by k (e ∷ L) = elim (same_stream e.by k) as (λ b. cond b (e.what ∷ own k L) (own k L) ≡ map (λ (x : Event). x.what) (cond b (e ∷ by_stream k L) (by_stream k L))) [ true ↦ ap (λ l. e.what ∷ l) (own_by k L) | false ↦ own_by k L ]
 
 own_same : (k : StreamNo) (A B : List Event) → by_stream k A ≡ by_stream k B → own k A ≡ own k B
 own_same k A B is = own_by k A ∙ ap (map (λ (e : Event). e.what)) is ∙ sym (own_by k B)

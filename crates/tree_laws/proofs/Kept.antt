@@ -1,19 +1,21 @@
 -- What calls keep of leases.
-use Rattle.std.proofs.Common.{◌≡◌, ℕ, Bool, false, List, [], ◌∷◌, ◌++◌, inl, refl, sym, ap, ◌∙◌, subst, ⊎_elim, append_assoc}
+use Rattle.std.proofs.Common.{◌≡◌, ℕ, Bool, true, false, cond, List, [], ◌∷◌, ◌++◌, inl, refl, sym, ap, ◌∙◌, subst, ⊎_elim, append_assoc}
 use Rattle.chunk_core.specs.Lists.{IsAmong}
-use Rattle.chunk_core.proofs.Members.{among_left, among_nil}
+use Rattle.chunk_core.specs.Lists.IsAmong.{here, there}
+use Rattle.chunk_core.proofs.Members.{among_cons, among_left, among_nil}
 use Rattle.res_ledger.specs.declared.event.Event.{Event}
 use Rattle.res_ledger.specs.declared.event.What.TheVariants.{Acquire, Cancel}
 use Rattle.res_ledger.specs.Ledger.{IsFinalized, Notes}
-use Rattle.res_ledger.specs.Own.{leased_rows, own}
+use Rattle.res_ledger.specs.Own.{leased_rows, own, picked, reaches, rows}
 use Rattle.res_ledger.specs.Streams.{by_stream}
 use Rattle.res_ledger.proofs.Orders.{Rises}
 use Rattle.row_seat.specs.declared.view.View.{View}
 use Rattle.scope_tree.specs.declared.tree.Tree.{Tree}
 use Rattle.scope_tree.specs.Calls.{AtStart, IsClosedScope, Leases, Seen}
 use Rattle.scope_tree.specs.Trees.{IsSound, seen}
-use Rattle.scope_tree.specs.Words.{leasing}
-use Rattle.res_ledger.proofs.Noted.{notes_rows}
+use Rattle.scope_tree.specs.Words.{leasing, numbers, own_rows, words}
+use Rattle.res_ledger.proofs.Noted.{notes_rows, rows_notes}
+use Rattle.res_ledger.proofs.Prefixes.{front_notes}
 use Rattle.scope_tree.proofs.Keeps.{nothing_open}
 use Rattle.scope_tree.proofs.Parting.{shelf_final}
 use Rattle.tree_laws.specs.Called.{Called}
@@ -21,7 +23,30 @@ use Rattle.tree_laws.specs.Lent.{Lent}
 use Rattle.tree_laws.proofs.After.{IsAfter, folio}
 use Rattle.tree_laws.proofs.Along.{called_after}
 
+picked_number : (f : ℕ → Bool) (r : ℕ) (xs : List (ℕ × ℕ)) → IsAmong r (picked f xs) → (s : ℕ) × IsAmong (r, s) xs
+picked_number f r [] m = absurd (among_nil m)
+picked_number f r (x ∷ xs) m = (elim (f x.1) as (λ b. IsAmong r (cond b (x.0 ∷ picked f xs) (picked f xs)) → (s : ℕ) × IsAmong (r, s) (x ∷ xs)) [
+  | true ↦ λ n. ⊎_elim
+      (λ e. (x.1, subst (λ z. IsAmong (z, x.1) (x ∷ xs)) (sym e) (here xs)))
+      (λ o. let t = picked_number f r xs o in (t.0, there x t.1))
+      (among_cons n)
+  | false ↦ λ n. let t = picked_number f r xs n in (t.0, there x t.1)
+]) m
+
+number_in : (r s : ℕ) (xs : List (ℕ × ℕ)) → IsAmong (r, s) xs → IsAmong r (numbers xs)
+number_in r s [] m = absurd (among_nil m)
+number_in r s (x ∷ xs) m = ⊎_elim
+    (λ e. subst (λ z. IsAmong z (x.0 ∷ numbers xs)) (sym (ap (λ (y : ℕ × ℕ). y.0) e)) (here (numbers xs)))
+    (λ n. there x.0 (number_in r s xs n))
+    (among_cons m)
+
 module _ {P : Type 0} where
+  pub lent_own : (v : View P) (j : ℕ) (T : List ℕ) → Lent v j T → (r : ℕ) → IsAmong r T → IsAmong r (own_rows v)
+  lent_own v j T l r m =
+      let t = picked_number (reaches (own v.by l.before) l.scope) r (rows (own v.by l.before)) (subst (λ x. IsAmong r x) l.rows m) in
+      let n : Notes v.events v.by (Acquire r t.0) = subst (λ L. Notes L v.by (Acquire r t.0)) (sym l.stands) (front_notes (l.event ∷ l.rest) (rows_notes l.before v.by (r, t.0) t.1)) in
+      number_in r t.0 (rows (words v)) (notes_rows v.events v.by r t.0 n)
+
   pub leases_lent : {a b : Seen P} {s j : ℕ} {T : List ℕ} → Leases a s j T b → Lent b.seat j T
   leases_lent {a = a} {b = b} {s = s} {j = j} o =
       let by : b.seat.by ≡ a.seat.by = ap (λ v. v.by) o.seat in record {

@@ -1,6 +1,7 @@
 pub mod Follows
 pub mod After
 pub mod Along
+pub mod Names
 pub mod Joined
 pub mod Said
 pub mod Room
@@ -11,5 +12,9 @@ pub mod Complete
 pub mod Rising
 pub mod Ends
 pub mod Alone
+pub mod Cancels
+pub mod Guests
+pub mod Given
+pub mod Owed
 pub mod Used
 pub mod Refused

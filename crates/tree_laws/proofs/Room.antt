@@ -10,10 +10,9 @@ use Rattle.scope_tree.specs.Words.{words}
 use Rattle.scope_tree.proofs.Bridge.{opens_append}
 use Rattle.scope_tree.proofs.Keeps.{opens_finals}
 use Rattle.scope_tree.proofs.Parting.{join_words}
-use Rattle.scope_tree.proofs.Use.{acquired_said, closed_said, leased_said, opened_said}
+use Rattle.scope_tree.proofs.Use.{acquired_said, canceled_said, closed_said, leased_said, opened_said}
 use Rattle.tree_laws.specs.Called.{Called}
 use Rattle.tree_laws.specs.Called.Called.{none, opened, acquired, written, leased, cancelled, closed, split, taken_in}
-use Rattle.tree_laws.proofs.Said.{canceled_said}
 
 -- an event that opens nothing, and then a run of Finals
 opens_run : (E F : List What) (w : What) (fs : List (ℕ × Bool)) → F ≡ E ++ w ∷ finals fs → opens_of w ≡ [] → opens F ≡ opens E

@@ -1,19 +1,17 @@
 -- The shelf has the Finals that calls noted.
-use Rattle.std.proofs.Common.{◌≡◌, ℕ, Bool, List, [], ◌∷◌, ◌++◌, refl, sym, ap, ◌∙◌, subst, append_assoc, append-nil}
+use Rattle.std.proofs.Common.{◌≡◌, ℕ, Bool, List, [], ◌∷◌, ◌++◌, refl, sym, ap, ◌∙◌, subst, append-nil}
 use Rattle.std.proofs.lemmas.Grind.{flat_map-append}
 use Rattle.res_ledger.specs.declared.event.What.{What}
 use Rattle.res_ledger.specs.declared.event.What.TheVariants.{Open, Acquire, Lease, Cancel, Close}
 use Rattle.res_ledger.specs.Order.{finals}
 use Rattle.scope_tree.specs.declared.branch.Spent.{Spent}
-use Rattle.scope_tree.specs.Calls.{AtStart, Cancels, Seen}
+use Rattle.scope_tree.specs.Calls.{AtStart, Seen}
 use Rattle.scope_tree.specs.Torn.{said}
-use Rattle.scope_tree.specs.Words.{canceling, ended_rows, ends_of, words}
+use Rattle.scope_tree.specs.Words.{ended_rows, ends_of, words}
 use Rattle.res_ledger.specs.Own.{own}
-use Rattle.scope_tree.proofs.Bridge.{own_snoc}
 use Rattle.scope_tree.proofs.Distinct.{said_append}
 use Rattle.scope_tree.proofs.Parting.{join_words}
-use Rattle.scope_tree.proofs.Quitting.{quits_by, quits_words}
-use Rattle.scope_tree.proofs.Use.{acquired_said, closed_said, leased_said, opened_said}
+use Rattle.scope_tree.proofs.Use.{acquired_said, canceled_said, closed_said, leased_said, opened_said}
 use Rattle.tree_laws.specs.Called.{Called}
 use Rattle.tree_laws.specs.Called.Called.{none, opened, acquired, written, leased, cancelled, closed, split, taken_in}
 
@@ -34,9 +32,6 @@ module _ {P : Type 0} where
   shelved E F xs ys zs f is e = f ∙ ap (λ l. l ++ said zs) e ∙ sym (said_append xs zs) ∙ ap said (sym is)
 
 module _ {P : Type 0} {ends : P → Bool → P → Type 0} where
-  pub canceled_said : {a b : Seen P} {j : ℕ} {T : List ℕ} (c : Cancels ends a j T b) → words b.seat ≡ words a.seat ++ Cancel j ∷ finals (said c.left.0)
-  canceled_said {a = a} {b = b} {j = j} c = ap (λ k. own k b.seat.events) (quits_by c.left.2) ∙ quits_words a.seat.by c.left.2 refl ∙ ap (λ l. l ++ finals (said c.left.0)) (own_snoc a.seat.by a.seat.events (canceling a.seat j c.stamp) refl) ∙ append_assoc (words a.seat) (Cancel j ∷ []) (finals (said c.left.0))
-
   said_along : {a b : Seen P} {Cs : List (ℕ × List ℕ)} → ended_rows (words a.seat) ≡ said a.shelf → Called ends a Cs b → ended_rows (words b.seat) ≡ said b.shelf
   said_along e none = e
   said_along e (opened b c at s h m o) = ended_plain (words b.seat) (words c.seat) (Open s o.parent) (opened_said o) refl ∙ said_along e h ∙ ap said (sym o.shelf)

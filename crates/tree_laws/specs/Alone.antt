@@ -1,9 +1,13 @@
 -- A tree that only opens, acquires, writes and closes.
-use Rattle.std.specs.Prelude.{◌≡◌, ◌⊎◌, true, []}
+use Rattle.std.specs.Prelude.{◌≡◌, ◌⊎◌, List, true, []}
 use Rattle.chunk_core.specs.Lists.{IsAmong}
 use Rattle.res_ledger.specs.declared.event.Event.{Event}
 use Rattle.res_ledger.specs.Own.{leased_of}
 use Rattle.row_seat.specs.declared.view.View.{View}
+
+-- M has no Lease that L hasn't
+abbrev pub HasNoMoreLeases : List Event → List Event → Type 0
+HasNoMoreLeases L M = (e : Event) → IsAmong e M → IsAmong e L ⊎ (leased_of e.what ≡ [])
 
 module _ {P : Type 0} where
   -- from v to w no lease and no seat came or went, and each new event is in the seat's own name and isn't a Lease

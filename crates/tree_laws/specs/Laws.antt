@@ -1,26 +1,30 @@
 -- What follows for the ledger, whatever calls were made of a tree.
-use Rattle.std.specs.Prelude.{◌≡◌, ◌⊎◌, ℕ, ◌+◌, ◌≤◌, Bool, false, List, [], ◌++◌, length}
+use Rattle.std.specs.Prelude.{◌≡◌, ◌↔◌, ◌⊎◌, ℕ, ◌+◌, ◌≤◌, Bool, false, List, [], ◌++◌, length}
 use Rattle.chunk_core.specs.Lists.{IsAmong}
 use Rattle.res_ledger.specs.declared.event.Event.{Event}
 use Rattle.res_ledger.specs.declared.event.What.TheVariants.{Acquire, Cancel}
-use Rattle.res_ledger.specs.Ledger.{IsAcquired, IsFinalized, IsLegal, Notes}
+use Rattle.res_ledger.specs.Ledger.{IsFinalized, IsLegal, Notes}
 use Rattle.res_ledger.specs.Order.{IsOrdered, covered_by}
 use Rattle.res_ledger.specs.Own.{opens}
 use Rattle.res_ledger.specs.Streams.{by_stream}
 use Rattle.res_ledger.specs.Whole.{IsComplete}
 use Rattle.res_ledger.proofs.Orders.{Rises}
 use Rattle.row_seat.specs.declared.view.View.{View}
-use Rattle.row_seat.specs.Views.{AreApart, CanFinish, CanJoin, IsLedgerOf, joined, paid}
+use Rattle.row_seat.specs.Views.{AreApart, AtRest, CanFinish, CanJoin, IsLedgerOf, above, joined, paid, split_off}
 use Rattle.scope_tree.specs.Calls.{Acquires, AtStart, Cancels, Closes, IsClosedScope, Leases, Opens, Seen}
 use Rattle.scope_tree.specs.Tidy.{IsTidy}
 use Rattle.scope_tree.specs.declared.tree.Tree.{Tree}
+use Rattle.scope_tree.specs.declared.branch.Spent.{Spent}
 use Rattle.scope_tree.specs.Torn.{said}
 use Rattle.scope_tree.specs.Trees.{IsSound, seen}
-use Rattle.scope_tree.specs.Words.{ended_rows, words}
+use Rattle.scope_tree.specs.Words.{ended_rows, own_rows, words}
 use Rattle.tree_laws.specs.Called.{Called, MayCancel, MayLease}
-use Rattle.tree_laws.specs.Alone.{HasNoOthers, StaysAlone}
+use Rattle.tree_laws.specs.Alone.{HasNoMoreLeases, HasNoOthers, StaysAlone}
 use Rattle.tree_laws.specs.Ends.{AreCovered, IsFinished}
+use Rattle.tree_laws.specs.Given.{WasGiven}
 use Rattle.tree_laws.specs.Lent.{Lent}
+use Rattle.tree_laws.specs.Names.{IsFloored, IsNamed}
+use Rattle.tree_laws.specs.Visits.{HasNothingOpen, IsNewGuest, Visits}
 use Rattle.tree_laws.specs.Whole.{IsCompleteFor, IsWhole, IsWholeFor}
 use Rattle.res_ledger.specs.Order.{IsInOrder}
 
@@ -49,6 +53,22 @@ module _ {P : Type 0} (ends : P → Bool → P → Type 0) where
   abbrev pub EventsStay : Type 0
   EventsStay = (a b : Seen P) (Cs : List (ℕ × List ℕ)) → Called ends a Cs b → (b.seat.by ≡ a.seat.by) × ((e : Event) → IsAmong e a.seat.events → IsAmong e b.seat.events)
 
+  -- a lease that was cancelled has its Cancel
+  abbrev pub CancelsAreNoted : Type 0
+  CancelsAreNoted = (a b : Seen P) (Cs : List (ℕ × List ℕ)) (j : ℕ) (T : List ℕ) → Called ends a Cs b → IsAmong (j, T) Cs → Notes b.seat.events b.seat.by (Cancel j)
+
+  -- each event of a seat that had none, and had no seat out, is in its own name or in that of a seat that it took in
+  abbrev pub EventsAreNamed : Type 0
+  EventsAreNamed = (a b : Seen P) (Cs : List (ℕ × List ℕ)) → a.seat.events ≡ [] → a.seat.out ≡ [] → Called ends a Cs b → IsNamed b.seat
+
+  -- none in its own name is stamped below its floor, which stays
+  abbrev pub EventsAreFloored : Type 0
+  EventsAreFloored = (a b : Seen P) (Cs : List (ℕ × List ℕ)) → a.seat.events ≡ [] → Called ends a Cs b → (b.seat.floor ≡ a.seat.floor) × IsFloored b.seat
+
+  -- each row on the shelf was handed to the seat, with a payload that was finished into the one that stands there
+  abbrev pub ShelfIsGiven : Type 0
+  ShelfIsGiven = (a b : Seen P) (Cs : List (ℕ × List ℕ)) → a.shelf ≡ [] → Called ends a Cs b → (x : Spent P) → IsAmong x b.shelf → WasGiven ends b.seat.given x
+
   -- a lease that a call made is one that the tree made, and stays so
   abbrev pub LeaseIsLent : Type 0
   LeaseIsLent = (a b c : Seen P) (s j : ℕ) (T : List ℕ) (Cs : List (ℕ × List ℕ)) → Leases a s j T b → Called ends b Cs c → Lent c.seat j T
@@ -57,10 +77,15 @@ module _ {P : Type 0} (ends : P → Bool → P → Type 0) where
   abbrev pub OwnLeasesAreCovered : Type 0
   OwnLeasesAreCovered = (a b : Seen P) (Cs : List (ℕ × List ℕ)) (u : View P) (L : List Event) → AtStart a.seat → Called ends a Cs b → IsFinished b u L → ((j : ℕ) (T : List ℕ) → IsAmong (j, T) Cs → Lent b.seat j T) → AreCovered L Cs
 
-  -- the tree of a seat that isn't the main one: it notes events in its own name alone, and where it keeps no Lease it has cancelled each that it kept at first
+  -- the tree of a seat that isn't the main one: it notes events in its own name alone, no Lease among them, and where it keeps no Lease it has cancelled each that it kept at first
   pub record SubTrees : Type 0 where
     pub own : (a b : Seen P) (Cs : List (ℕ × List ℕ)) → a.seat.main ≡ false → Called ends a Cs b → (e : Event) → IsAmong e b.seat.events → IsAmong e a.seat.events ⊎ (e.by ≡ b.seat.by)
+    pub leaseless : (a b : Seen P) (Cs : List (ℕ × List ℕ)) → a.seat.main ≡ false → Called ends a Cs b → HasNoMoreLeases a.seat.events b.seat.events
     pub canceled : (a b : Seen P) (Cs : List (ℕ × List ℕ)) (j : ℕ) → a.seat.main ≡ false → a.seat.had ≡ [] → Called ends a Cs b → b.seat.kept ≡ [] → IsAmong j a.seat.kept → Notes b.seat.events b.seat.by (Cancel j)
+
+  -- once its own lease is cancelled, its root closed and nothing is open, the seat of a guest is at rest
+  abbrev pub GuestsRest : Type 0
+  GuestsRest = (j n : ℕ) (T : List ℕ) (y : Seen P) → Visits ends j n T y → HasNothingOpen y.seat → AtRest y.seat
 
   -- where a main tree, which had no seat out at first, took in the seat of another tree, the ledger of its own seat has of that tree's stream just the events that the tree noted
   abbrev pub JoinedIsFinished : Type 0
@@ -95,13 +120,25 @@ module _ {P : Type 0} (ends : P → Bool → P → Type 0) where
     pub none : (v : View P) → StaysAlone v v
     pub follow : (u v w : View P) → StaysAlone u v → StaysAlone v w → StaysAlone u w
 
+  -- a cancellation notes no Lease
+  abbrev pub CancelsAreLeaseless : Type 0
+  CancelsAreLeaseless = (a b : Seen P) (j : ℕ) (T : List ℕ) → Cancels ends a j T b → HasNoMoreLeases a.seat.events b.seat.events
+
   -- once the root of a tree that stayed alone is closed the ledger is legal, complete and in order
   abbrev pub AloneIsWhole : Type 0
   AloneIsWhole = (a b : Seen P) (L : List Event) → AtStart a.seat → Called ends a [] b → StaysAlone a.seat b.seat → IsClosedScope b 0 → IsLedgerOf b.seat L → IsWhole L
 
 -- a tree that stayed alone may finish its seat once nothing is open
 abbrev pub AloneCanFinish : Type 0 → Type 0
-AloneCanFinish P = (v w : View P) → HasNoOthers v → StaysAlone v w → (w.opened ≡ []) × (w.handed ≡ []) × (w.taken ≡ []) × ((r : ℕ) → IsAmong r w.empty → ¬ (IsAcquired w.events r)) → CanFinish w
+AloneCanFinish P = (v w : View P) → HasNoOthers v → StaysAlone v w → HasNothingOpen w → CanFinish w
+
+-- where the main seat keeps the Lease for j, with leases on the rows T, the seat that it splits off for j is a guest
+abbrev pub SplitsMakeGuests : Type 0 → Type 0
+SplitsMakeGuests P = (v : View P) (j from to n : ℕ) (T : List ℕ) → AtStart (split_off v j from to n) → IsAmong j v.kept → ((r : ℕ) → IsAmong (j, r) v.pairs ↔ IsAmong r T) → IsNewGuest (split_off v j from to n) j (above v.events) T
+
+-- the rows of a lease that the tree made are rows that it acquired
+abbrev pub LentIsOwn : Type 0 → Type 0
+LentIsOwn P = (v : View P) (j : ℕ) (T : List ℕ) → Lent v j T → (r : ℕ) → IsAmong r T → IsAmong r (own_rows v)
 
 -- the Lease of a lease that the tree made covers its rows
 abbrev pub LentIsCovered : Type 0 → Type 0

@@ -3,5 +3,9 @@ pub mod Lent
 pub mod Whole
 pub mod Alone
 pub mod Ends
+pub mod Names
+pub mod Given
+pub mod Visits
+pub mod Owing
 pub mod Laws
 pub mod Refused

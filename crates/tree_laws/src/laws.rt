@@ -1,6 +1,7 @@
 //! Laws of all that was done to a tree, each the contract of a function that does nothing.
 ghost use Rattle.res_ledger.specs.declared.event.StreamNo.TheVariants.{Inner, Outer};
-ghost use Rattle.tree_laws.specs.Laws.{AloneCanFinish, AloneIsWhole, CallsAreTidy, CallsFollow, CallsStayAlone, EventsStay, JoinedIsFinished, LeaseIsLent, LedgerHasEvents, LedgerIsComplete, LedgerIsInOrder, LedgerIsWhole, LentIsCovered, OneLeaseIsWhole, OwnLeasesAreCovered, RowsHaveEnded, ScopesFit, ShelfIsSaid, StampsRise, SubTrees, WholeForEach};
+ghost use Rattle.tree_laws.specs.Laws.{AloneCanFinish, AloneIsWhole, CallsAreTidy, CallsFollow, CallsStayAlone, CancelsAreLeaseless, CancelsAreNoted, EventsAreFloored, EventsAreNamed, EventsStay, GuestsRest, JoinedIsFinished, LeaseIsLent, LedgerHasEvents, LedgerIsComplete, LedgerIsInOrder, LedgerIsWhole, LentIsCovered, LentIsOwn, OneLeaseIsWhole, OwnLeasesAreCovered, RowsHaveEnded, ScopesFit, ShelfIsGiven, ShelfIsSaid, SplitsMakeGuests, StampsRise, SubTrees, WholeForEach};
+ghost use Rattle.tree_laws.specs.Owing.{OwedStays, RootOwesNothing};
 ghost use Rattle.tree_laws.specs.Refused.{IsLegalButNotWhole, first_row_first, lease_left_over, row_left_over};
 ghost use Rattle.tree_laws.specs.Whole.{IsWholeFor};
 
@@ -18,14 +19,28 @@ pub fn what_is_noted<P: Finish>()
     ensures shelf { ShelfIsSaid P.ends }
     ensures rises { StampsRise P.ends }
     ensures stays { EventsStay P.ends }
+    ensures cancels { CancelsAreNoted P.ends }
     ensures room { ScopesFit P.ends }
+{}
+
+/// Whose events the seat of a tree has, and where they stand.
+pub fn events_are_named<P: Finish>()
+    ensures named { EventsAreNamed P.ends }
+    ensures floored { EventsAreFloored P.ends }
+{}
+
+/// What ends on a shelf was handed to the seat.
+pub fn shelf_is_given<P: Finish>()
+    ensures { ShelfIsGiven P.ends }
 {}
 
 /// The rows of a lease that a tree made are those that its Lease covers in the ledger.
 pub fn leases_are_covered<P: Finish>()
     ensures lent { LeaseIsLent P.ends }
     ensures covered { LentIsCovered P }
+    ensures rows { LentIsOwn P }
     ensures own { OwnLeasesAreCovered P.ends }
+    ensures cancels { CancelsAreLeaseless P.ends }
 {}
 
 /// The tree of a seat that was split off, and may be taken in again.
@@ -35,6 +50,25 @@ where
     ensures noted { SubTrees S.Pay.ends }
     ensures joined { JoinedIsFinished S.Pay.ends }
     ensures rows { RowsHaveEnded S.view S.Desk }
+{}
+
+/// A stream whose seat was split off with its one lease: what it is at the start, and that it is at
+/// rest once it cancelled the lease and closed its root.
+pub fn guests_come_and_rest<P: Finish>()
+    ensures begins { SplitsMakeGuests P }
+    ensures rests { GuestsRest P.ends }
+{}
+
+/// What leases, splits, joins and cancellations leave to be owed.
+pub fn owed_stays<P: Finish>()
+    ensures { OwedStays P.ends }
+{}
+
+/// What the close of the root leaves to be owed.
+pub fn root_owes_nothing<S: RowSeat>()
+where
+    S::Pay: Finish,
+    ensures { RootOwesNothing S.Pay.ends S.view S.Desk }
 {}
 
 /// The ledger of a tree whose root is closed is legal, in order and complete for its stream.

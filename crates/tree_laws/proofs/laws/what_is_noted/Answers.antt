@@ -1,4 +1,5 @@
 use Rattle.tree_laws.proofs.Along.{called_after, called_tidy}
+use Rattle.tree_laws.proofs.Cancels.{called_cancel}
 use Rattle.tree_laws.proofs.Kept.{called_rises, events_stay}
 use Rattle.tree_laws.proofs.Room.{called_room}
 use Rattle.tree_laws.proofs.Said.{called_said}
@@ -10,5 +11,6 @@ returns g c = record {
   shelf = λ a b Cs s e h. called_said s e h;
   rises = λ a b Cs s h. called_rises s h;
   stays = λ a b Cs h. ((called_after h).by, λ e m. events_stay h e m);
+  cancels = λ a b Cs j T h m. called_cancel j T h m;
   room = λ a b Cs s l h. called_room s l h;
 }

@@ -1,0 +1,4 @@
+pub mod Families
+pub mod Counting
+pub mod Pacing
+pub mod Finishing

@@ -1,0 +1,5 @@
+use Rattle.tree_families.proofs.Pacing.{family_ahead, family_within}
+use Rattle.tree_families.proofs.laws.family_is_paced.Goals as goal
+
+pub returns : goal.returns
+returns g c = record { ahead = family_ahead; within = family_within }
