@@ -1,6 +1,7 @@
 -- What keeps a main tree with its seats a family, and that its ledger is whole.
 use Rattle.std.proofs.Common.{◌≡◌, ◌≢◌, ℕ, Bool, List, [], ◌∷◌, ◌++◌, inl, inr, sym, ap, ◌∙◌, subst, ⊎_elim}
 use Rattle.std.proofs.lemmas.Bool.{cases_eq}
+use Rattle.chunk_core.specs.declared.code.Exit.{Exit}
 use Rattle.chunk_core.specs.Lists.{IsAmong}
 use Rattle.chunk_core.proofs.Filters.{among_append, among_right}
 use Rattle.chunk_core.proofs.Members.{among_last, among_left, among_nil, among_snoc}
@@ -27,7 +28,7 @@ use Rattle.tree_laws.proofs.Follows.{called_then}
 use Rattle.tree_laws.proofs.Kept.{events_stay, lent_stays}
 use Rattle.tree_families.specs.Families.{CameBack, IsFamily, Split, split_of}
 
-module _ {P : Type 0} {ends : P → Bool → P → Type 0} where
+module _ {P : Type 0} {ends : P → Exit → Bool → P → Type 0} where
   pub family_starts : (a : Seen P) → AtStart a.seat → HasNoOthers a.seat → IsFamily ends a []
   family_starts a s h = record {
     first = a;
@@ -95,7 +96,7 @@ module _ {P : Type 0} {ends : P → Bool → P → Type 0} where
         visit = visit;
         lent = lent;
         own = λ e i. (
-          (λ m. ⊎_elim (λ o. apart.mine e o (i ∙ sym by)) (λ o. o) (among_append e b.seat.events y.seat.events (subst (λ l. IsAmong e l) events m))),
+          (λ m. ⊎_elim (λ o. absurd (apart.mine e o (i ∙ sym by))) (λ o. o) (among_append e b.seat.events y.seat.events (subst (λ l. IsAmong e l) events m))),
           (λ m. subst (λ l. IsAmong e l) (sym events) (among_right e b.seat.events y.seat.events m)),
         );
       }

@@ -2,6 +2,8 @@
 use Rattle.std.proofs.Common.{◌≡◌, ℕ, ◌⊎◌, Bool, true, false, cond, not, eqb, List, [], ◌∷◌, ◌++◌, inl, inr, refl, sym, ap, ◌∙◌, subst, ⊎_elim, append-nil, eq-eqb}
 use Rattle.std.proofs.lemmas.List.Concat.{flat_map-append}
 use Rattle.std.proofs.lemmas.Bool.{cases_eq}
+use Rattle.chunk_core.specs.declared.code.Exit.{Exit}
+use Rattle.chunk_core.specs.declared.code.Exit.TheVariants.{Succeeded}
 use Rattle.chunk_core.specs.Lists.{IsAmong}
 use Rattle.chunk_core.specs.Lists.IsAmong.{here, there}
 use Rattle.chunk_core.proofs.Cuts.{two_places}
@@ -16,23 +18,21 @@ use Rattle.res_ledger.proofs.Ledgers.{lease_stream, stream_same}
 use Rattle.res_ledger.proofs.Noted.{flat_found, flat_holds, leased_shape}
 use Rattle.res_ledger.proofs.Scopes.{own_append}
 use Rattle.row_seat.specs.declared.view.View.{View}
-use Rattle.row_seat.specs.Views.{split_main}
+use Rattle.row_seat.specs.Views.{split_main, without}
 use Rattle.row_seat.proofs.Members.{among_kept, among_without}
 use Rattle.scope_tree.specs.Calls.{Cancels, Leases, Seen}
-use Rattle.scope_tree.specs.Leaving.{pairs_for}
+use Rattle.scope_tree.specs.Leased.{pairs_for}
 use Rattle.scope_tree.specs.Rows.{AreDistinct}
-use Rattle.scope_tree.specs.Torn.{said}
+use Rattle.scope_tree.specs.Released.{said}
 use Rattle.scope_tree.specs.Words.{numbers, words}
 use Rattle.scope_tree.proofs.Bridge.{in_noted, noted_in}
-use Rattle.scope_tree.proofs.Departures.{quits_gone}
 use Rattle.scope_tree.proofs.Distinct.{lifo_among}
 use Rattle.scope_tree.proofs.Leasing.{pairs_among}
+use Rattle.scope_tree.proofs.Lessee.{lease_gone}
 use Rattle.scope_tree.proofs.Owed.{number_among}
 use Rattle.scope_tree.proofs.Parting.{join_words}
 use Rattle.scope_tree.proofs.Parts.{distinct_append}
-use Rattle.scope_tree.proofs.Quitting.{quits_pairs}
-use Rattle.scope_tree.proofs.Untouched.{cancel_untouched, close_pairs, close_untouched}
-use Rattle.scope_tree.proofs.Use.{acquired_said, canceled_said, closed_said, leased_said, leases, opened_said}
+use Rattle.scope_tree.proofs.Use.{acquired_said, cancel_follows, canceled_said, close_follows, close_pairs, closed_said, leased_said, leases, opened_said}
 use Rattle.tree_laws.specs.Alone.{HasNoOthers}
 use Rattle.tree_laws.specs.Called.{Called, MayCancel, MayLease}
 use Rattle.tree_laws.specs.Called.Called.{none, opened, acquired, written, leased, cancelled, closed, split, taken_in}
@@ -72,29 +72,29 @@ guest_found j E m =
 
 -- no Lease and no Cancel is among these
 abbrev IsPlain : List What → Type 0
-IsPlain E = (leases E ≡ []) × ((i : ℕ) → ¬ (IsAmong (Cancel i) E))
+IsPlain E = (leases E ≡ []) × ((i : ℕ) (x : Exit) → ¬ (IsAmong (Cancel i x) E))
 
-finals_leaseless : (fs : List (ℕ × Bool)) → leases (finals fs) ≡ []
-finals_leaseless [] = refl
-finals_leaseless (f ∷ fs) = finals_leaseless fs
+finals_leaseless : (x : Exit) (fs : List (ℕ × Bool)) → leases (finals x fs) ≡ []
+finals_leaseless x [] = refl
+finals_leaseless x (f ∷ fs) = finals_leaseless x fs
 
-no_cancel_final : (i : ℕ) (fs : List (ℕ × Bool)) → ¬ (IsAmong (Cancel i) (finals fs))
-no_cancel_final i [] m = among_nil m
-no_cancel_final i (f ∷ fs) m = ⊎_elim (λ e. let a : What = Final f.0 f.1 in let z : Cancel i ≡ a = e in cc) (λ n. no_cancel_final i fs n) (among_cons m)
+no_cancel_final : (i : ℕ) (y x : Exit) (fs : List (ℕ × Bool)) → ¬ (IsAmong (Cancel i y) (finals x fs))
+no_cancel_final i y x [] m = among_nil m
+no_cancel_final i y x (f ∷ fs) m = ⊎_elim (λ e. let a : What = Final f.0 x f.1 in let z : Cancel i y ≡ a = e in cc) (λ n. no_cancel_final i y x fs n) (among_cons m)
 
 -- so of an event and a run of Finals
-plain_run : (w : What) (fs : List (ℕ × Bool)) → leased_of w ≡ [] → ((i : ℕ) → (let a : What = Cancel i in a ≡ w) → ⊥) → IsPlain (w ∷ finals fs)
-plain_run w fs l n = (ap (λ x. x ++ leases (finals fs)) l ∙ finals_leaseless fs, λ i m. ⊎_elim (λ e. n i e) (λ o. no_cancel_final i fs o) (among_cons m))
+plain_run : (w : What) (x : Exit) (fs : List (ℕ × Bool)) → leased_of w ≡ [] → ((i : ℕ) (y : Exit) → (let a : What = Cancel i y in a ≡ w) → ⊥) → IsPlain (w ∷ finals x fs)
+plain_run w x fs l n = (ap (λ z. z ++ leases (finals x fs)) l ∙ finals_leaseless x fs, λ i y m. ⊎_elim (λ e. n i y e) (λ o. no_cancel_final i y x fs o) (among_cons m))
 
-cancel_run : (i j : ℕ) (fs : List (ℕ × Bool)) → IsAmong (Cancel i) (Cancel j ∷ finals fs) → i ≡ j
-cancel_run i j fs m = ⊎_elim (λ e. let z : Cancel i ≡ Cancel j = e in cc) (λ o. absurd (no_cancel_final i fs o)) (among_cons m)
+cancel_run : (i j : ℕ) (y x : Exit) (fs : List (ℕ × Bool)) → IsAmong (Cancel i y) (Cancel j x ∷ finals x fs) → i ≡ j
+cancel_run i j y x fs m = ⊎_elim (λ e. let z : Cancel i y ≡ Cancel j x = e in cc) (λ o. absurd (no_cancel_final i y x fs o)) (among_cons m)
 
 module _ {P : Type 0} where
   -- what a main seat knows of leases: each that it keeps it made, and it neither cancelled it nor gave its stream a seat; a stream is leased once
   record KnowsLeases (v : View P) (Cs : List (ℕ × List ℕ)) : Type 0 where
     made : (i : ℕ) → IsAmong i v.kept → (s : ℕ) × IsAmong (Lease i s) (words v)
     still : (i : ℕ) → IsAmong i v.kept → ((T : List ℕ) → ¬ (IsAmong (i, T) Cs)) × ¬ (IsAmong i v.had)
-    gone : (i : ℕ) → IsAmong (Cancel i) (words v) → (T : List ℕ) × IsAmong (i, T) Cs
+    gone : (i : ℕ) (x : Exit) → IsAmong (Cancel i x) (words v) → (T : List ℕ) × IsAmong (i, T) Cs
     known : (i : ℕ) (T : List ℕ) → IsAmong (i, T) Cs → (s : ℕ) × IsAmong (Lease i s) (words v)
     lent : (i r : ℕ) → IsAmong (i, r) v.pairs → (T : List ℕ) × Lent v i T × IsAmong r T
     held : (i r : ℕ) → IsAmong (i, r) v.pairs → (¬ (IsAmong i v.had)) × (IsAmong i v.kept ⊎ ((T : List ℕ) × IsAmong (i, T) Cs × (¬ (IsAmong r T))))
@@ -106,7 +106,7 @@ module _ {P : Type 0} where
       record {
         made = λ i m. let t = h.made i (subst (λ l. IsAmong i l) kept m) in (t.0, more (Lease i t.0) t.1);
         still = λ i m. let t = h.still i (subst (λ l. IsAmong i l) kept m) in (t.0, λ n. t.1 (subst (λ l. IsAmong i l) had n));
-        gone = λ i m. ⊎_elim (λ o. h.gone i o) (λ o. absurd (plain.1 i o)) (among_append (Cancel i) (words v) E (subst (λ l. IsAmong (Cancel i) l) is m));
+        gone = λ i x m. ⊎_elim (λ o. h.gone i x o) (λ o. absurd (plain.1 i x o)) (among_append (Cancel i x) (words v) E (subst (λ l. IsAmong (Cancel i x) l) is m));
         known = λ i T m. let t = h.known i T m in (t.0, more (Lease i t.0) t.1);
         lent = λ i r m. let t = h.lent i r (subst (λ l. IsAmong (i, r) l) pairs m) in (t.0, lent i t.0 t.1, t.2);
         held = λ i r m.
@@ -137,7 +137,7 @@ module _ {P : Type 0} where
               (λ x. m.new (subst (λ z. IsAmong z v.had) e (subst (λ l. IsAmong i l) had x))),
             ))
             (among_snoc v.kept i j (subst (λ l. IsAmong i l) kept n));
-        gone = λ i n. ⊎_elim (λ x. h.gone i x) (λ e. let z : Cancel i ≡ Lease j s = e in cc) (among_snoc (words v) (Cancel i) (Lease j s) (subst (λ l. IsAmong (Cancel i) l) is n));
+        gone = λ i y n. ⊎_elim (λ x. h.gone i y x) (λ e. let z : Cancel i y ≡ Lease j s = e in cc) (among_snoc (words v) (Cancel i y) (Lease j s) (subst (λ l. IsAmong (Cancel i y) l) is n));
         known = λ i U n. let t = h.known i U n in (t.0, more (Lease i t.0) t.1);
         lent = λ i r n. ⊎_elim
             (λ x. let t = h.lent i r x in (t.0, lent i t.0 t.1, t.2))
@@ -154,40 +154,42 @@ module _ {P : Type 0} where
       }
 
   -- a Lease that is kept is cancelled
-  knows_cancelled : {ends : P → Bool → P → Type 0} {b c : Seen P} {j : ℕ} {T : List ℕ} (Cs : List (ℕ × List ℕ)) → MayCancel b j T → Cancels ends b j T c → ((i : ℕ) (U : List ℕ) → Lent b.seat i U → Lent c.seat i U) → KnowsLeases b.seat Cs → KnowsLeases c.seat (Cs ++ (j, T) ∷ [])
-  knows_cancelled {b = b} {c = c} {j = j} {T = T} Cs m o lent h =
-      let v = b.seat in let w = c.seat in let u = cancel_untouched o in
+  knows_cancelled : {ends : P → Exit → Bool → P → Type 0} {b c : Seen P} {j : ℕ} {T : List ℕ} {x : Exit} (Cs : List (ℕ × List ℕ)) → MayCancel b j T → Cancels ends b j T x c → ((i : ℕ) (U : List ℕ) → Lent b.seat i U → Lent c.seat i U) → KnowsLeases b.seat Cs → KnowsLeases c.seat (Cs ++ (j, T) ∷ [])
+  knows_cancelled {b = b} {c = c} {j = j} {T = T} {x = how} Cs m o lent h =
+      let v = b.seat in let w = c.seat in let f = cancel_follows o in
+      let kept : w.kept ≡ without j v.kept = ap (λ z. z.kept) f.same in
+      let had : w.had ≡ v.had = ap (λ z. z.had) f.same in
       let one : ℕ × List ℕ = (j, T) in
       let fs = said o.left.0 in
-      let is : words w ≡ words v ++ Cancel j ∷ finals fs = canceled_said o in
-      let more : (x : What) → IsAmong x (words v) → IsAmong x (words w) = λ x n. subst (λ l. IsAmong x l) (sym is) (among_left (Cancel j ∷ finals fs) n) in
-      let old : (i : ℕ) → IsAmong i w.kept → IsAmong i v.kept × (¬ (i ≡ j)) = λ i n. among_without j v.kept i (subst (λ l. IsAmong i l) u.kept n) in
+      let is : words w ≡ words v ++ Cancel j how ∷ finals how fs = canceled_said o in
+      let more : (x : What) → IsAmong x (words v) → IsAmong x (words w) = λ x n. subst (λ l. IsAmong x l) (sym is) (among_left (Cancel j how ∷ finals how fs) n) in
+      let old : (i : ℕ) → IsAmong i w.kept → IsAmong i v.kept × (¬ (i ≡ j)) = λ i n. among_without j v.kept i (subst (λ l. IsAmong i l) kept n) in
       record {
         made = λ i n. let t = h.made i (old i n).0 in (t.0, more (Lease i t.0) t.1);
         still = λ i n. let k = old i n in let t = h.still i k.0 in (
           (λ U x. ⊎_elim (λ y. t.0 U y) (λ e. k.1 (ap (λ (z : ℕ × List ℕ). z.0) e)) (among_snoc Cs (i, U) one x)),
-          (λ x. t.1 (subst (λ l. IsAmong i l) u.had x)),
+          (λ x. t.1 (subst (λ l. IsAmong i l) had x)),
         );
-        gone = λ i n. ⊎_elim
-            (λ x. let t = h.gone i x in (t.0, among_left (one ∷ []) t.1))
-            (λ x. (T, subst (λ z. IsAmong {A = ℕ × List ℕ} (z, T) (Cs ++ one ∷ [])) (sym (cancel_run i j fs x)) (among_last Cs one)))
-            (among_append (Cancel i) (words v) (Cancel j ∷ finals fs) (subst (λ l. IsAmong (Cancel i) l) is n));
+        gone = λ i y n. ⊎_elim
+            (λ x. let t = h.gone i y x in (t.0, among_left (one ∷ []) t.1))
+            (λ x. (T, subst (λ z. IsAmong {A = ℕ × List ℕ} (z, T) (Cs ++ one ∷ [])) (sym (cancel_run i j y how fs x)) (among_last Cs one)))
+            (among_append (Cancel i y) (words v) (Cancel j how ∷ finals how fs) (subst (λ l. IsAmong (Cancel i y) l) is n));
         known = λ i U n. ⊎_elim
             (λ x. let t = h.known i U x in (t.0, more (Lease i t.0) t.1))
-            (λ e. let t = h.made j m.may.0 in (t.0, more (Lease i t.0) (subst (λ z. IsAmong (Lease z t.0) (words v)) (sym (ap (λ (z : ℕ × List ℕ). z.0) e)) t.1)))
+            (λ e. let t = h.made j m.kept in (t.0, more (Lease i t.0) (subst (λ z. IsAmong (Lease z t.0) (words v)) (sym (ap (λ (z : ℕ × List ℕ). z.0) e)) t.1)))
             (among_snoc Cs (i, U) one n);
-        lent = λ i r n. let t = h.lent i r (quits_pairs (i, r) o.left.2 n) in (t.0, lent i t.0 t.1, t.2);
-        held = λ i r n. let t = h.held i r (quits_pairs (i, r) o.left.2 n) in (
-          (λ x. t.0 (subst (λ l. IsAmong i l) u.had x)),
+        lent = λ i r n. let t = h.lent i r (f.pairs (i, r) n) in (t.0, lent i t.0 t.1, t.2);
+        held = λ i r n. let t = h.held i r (f.pairs (i, r) n) in (
+          (λ x. t.0 (subst (λ l. IsAmong i l) had x)),
           ⊎_elim
               (λ k. ⊎_elim
-              (λ e. inr (T, subst (λ z. IsAmong {A = ℕ × List ℕ} (z, T) (Cs ++ one ∷ [])) (sym e) (among_last Cs one), λ x. quits_gone r o.left.2 (lifo_among r T x) (subst (λ z. IsAmong (z, r) w.pairs) e n)))
-              (λ ne. inl (subst (λ l. IsAmong i l) (sym u.kept) (among_kept j v.kept i k ne)))
+              (λ e. inr (T, subst (λ z. IsAmong {A = ℕ × List ℕ} (z, T) (Cs ++ one ∷ [])) (sym e) (among_last Cs one), λ x. lease_gone r o.left.2 (lifo_among r T x) (subst (λ z. IsAmong (z, r) w.pairs) e n)))
+              (λ ne. inl (subst (λ l. IsAmong i l) (sym kept) (among_kept j v.kept i k ne)))
               (cases_eq i j))
               (λ x. inr (x.0, among_left (one ∷ []) x.1, x.2))
               t.1,
         );
-        once = subst AreDistinct (sym (ap guests is ∙ guests_append (words v) (Cancel j ∷ finals fs) ∙ ap (λ l. guests (words v) ++ numbers l) (finals_leaseless fs) ∙ append-nil (guests (words v)))) h.once;
+        once = subst AreDistinct (sym (ap guests is ∙ guests_append (words v) (Cancel j how ∷ finals how fs) ∙ ap (λ l. guests (words v) ++ numbers l) (finals_leaseless how fs) ∙ append-nil (guests (words v)))) h.once;
       }
 
   -- the seat of a stream is split off, with its Lease and leases
@@ -211,26 +213,26 @@ module _ {P : Type 0} where
       record {
         made = λ i m. absurd (among_nil (subst (λ l. IsAmong i l) h.kept m));
         still = λ i m. absurd (among_nil (subst (λ l. IsAmong i l) h.kept m));
-        gone = λ i m. absurd (among_nil (subst (λ l. IsAmong (Cancel i) l) w m));
+        gone = λ i x m. absurd (among_nil (subst (λ l. IsAmong (Cancel i x) l) w m));
         known = λ i T m. absurd (among_nil m);
         lent = λ i r m. absurd (among_nil (subst (λ l. IsAmong (i, r) l) h.pairs m));
         held = λ i r m. absurd (among_nil (subst (λ l. IsAmong (i, r) l) h.pairs m));
         once = subst (λ l. AreDistinct (guests l)) (sym w) tt;
       }
 
-module _ {P : Type 0} {ends : P → Bool → P → Type 0} where
+module _ {P : Type 0} {ends : P → Exit → Bool → P → Type 0} where
   knows_along : {a b : Seen P} {Cs : List (ℕ × List ℕ)} → KnowsLeases a.seat [] → Called ends a Cs b → KnowsLeases b.seat Cs
   knows_along h none = h
-  knows_along h (opened {Cs = Cs} b c at s k m o) = knows_plain b.seat c.seat Cs (Open s o.parent ∷ []) (opened_said o) (plain_run (Open s o.parent) [] refl (λ i e. cc)) (ap (λ v. v.kept) o.seat) (ap (λ v. v.pairs) o.seat) (ap (λ v. v.had) o.seat) (λ i T l. lent_stays {ends = ends} (opened b c at s none m o) l) (knows_along h k)
-  knows_along h (acquired {Cs = Cs} b c s r p k m o) = knows_plain b.seat c.seat Cs (Acquire r s ∷ []) (acquired_said o) (plain_run (Acquire r s) [] refl (λ i e. cc)) (ap (λ v. v.kept) o.seat) (ap (λ v. v.pairs) o.seat) (ap (λ v. v.had) o.seat) (λ i T l. lent_stays {ends = ends} (acquired b c s r p none m o) l) (knows_along h k)
-  knows_along h (written {Cs = Cs} b c r p k m o) = knows_plain b.seat c.seat Cs [] (ap (λ (x : Seen P). words x.seat) o ∙ sym (append-nil (words b.seat))) (refl, λ i x. among_nil x) (ap (λ (x : Seen P). x.seat.kept) o) (ap (λ (x : Seen P). x.seat.pairs) o) (ap (λ (x : Seen P). x.seat.had) o) (λ i T l. lent_stays {ends = ends} (written b c r p none m o) l) (knows_along h k)
+  knows_along h (opened {Cs = Cs} b c at s k m o) = knows_plain b.seat c.seat Cs (Open s o.parent ∷ []) (opened_said o) (plain_run (Open s o.parent) Succeeded [] refl (λ i x e. cc)) (ap (λ v. v.kept) o.seat) (ap (λ v. v.pairs) o.seat) (ap (λ v. v.had) o.seat) (λ i T l. lent_stays {ends = ends} (opened b c at s none m o) l) (knows_along h k)
+  knows_along h (acquired {Cs = Cs} b c s r p k m o) = knows_plain b.seat c.seat Cs (Acquire r s ∷ []) (acquired_said o) (plain_run (Acquire r s) Succeeded [] refl (λ i x e. cc)) (ap (λ v. v.kept) o.seat) (ap (λ v. v.pairs) o.seat) (ap (λ v. v.had) o.seat) (λ i T l. lent_stays {ends = ends} (acquired b c s r p none m o) l) (knows_along h k)
+  knows_along h (written {Cs = Cs} b c r p k m o) = knows_plain b.seat c.seat Cs [] (ap (λ (x : Seen P). words x.seat) o ∙ sym (append-nil (words b.seat))) (refl, λ i x m. among_nil m) (ap (λ (x : Seen P). x.seat.kept) o) (ap (λ (x : Seen P). x.seat.pairs) o) (ap (λ (x : Seen P). x.seat.had) o) (λ i T l. lent_stays {ends = ends} (written b c r p none m o) l) (knows_along h k)
   knows_along h (leased {Cs = Cs} b c s j T k m o) = knows_leased Cs m o (λ i U l. lent_stays {ends = ends} (leased b c s j T none m o) l) (knows_along h k)
-  knows_along h (cancelled {Cs = Cs} b c j T k m o) = knows_cancelled Cs m o (λ i U l. lent_stays {ends = ends} (cancelled b c j T none m o) l) (knows_along h k)
-  knows_along h (closed {Cs = Cs} b c s k m o) = knows_plain b.seat c.seat Cs (Close s ∷ finals (said o.torn.0)) (closed_said o) (plain_run (Close s) (said o.torn.0) refl (λ i e. cc)) (close_untouched o).kept (close_pairs o) (close_untouched o).had (λ i T l. lent_stays {ends = ends} (closed b c s none m o) l) (knows_along h k)
+  knows_along h (cancelled {Cs = Cs} b c j T x k m o) = knows_cancelled Cs m o (λ i U l. lent_stays {ends = ends} (cancelled b c j T x none m o) l) (knows_along h k)
+  knows_along h (closed {Cs = Cs} b c s x k m o) = knows_plain b.seat c.seat Cs (Close s x ∷ finals x (said o.torn.0)) (closed_said o) (plain_run (Close s x) x (said o.torn.0) refl (λ i y e. cc)) (ap (λ z. z.kept) (close_follows o).same) (close_pairs o) (ap (λ z. z.had) (close_follows o).same) (λ i T l. lent_stays {ends = ends} (closed b c s x none m o) l) (knows_along h k)
   knows_along h (split {Cs = Cs} b c j from to n k m o) =
       let seat : c.seat ≡ split_main b.seat j from to n = ap (λ (x : Seen P). x.seat) o in
       subst (λ v. KnowsLeases v Cs) (sym seat) (knows_split b.seat j from to n Cs (λ i T l. subst (λ v. Lent v i T) seat (lent_stays {ends = ends} (split b c j from to n none m o) l)) (knows_along h k))
-  knows_along h (taken_in {Cs = Cs} b c w k m p o) = knows_plain b.seat c.seat Cs [] (ap (λ (x : Seen P). words x.seat) o ∙ join_words b.seat w p ∙ sym (append-nil (words b.seat))) (refl, λ i x. among_nil x) (ap (λ (x : Seen P). x.seat.kept) o) (ap (λ (x : Seen P). x.seat.pairs) o) (ap (λ (x : Seen P). x.seat.had) o) (λ i T l. lent_stays {ends = ends} (taken_in b c w none m p o) l) (knows_along h k)
+  knows_along h (taken_in {Cs = Cs} b c w k m p o) = knows_plain b.seat c.seat Cs [] (ap (λ (x : Seen P). words x.seat) o ∙ join_words b.seat w p ∙ sym (append-nil (words b.seat))) (refl, λ i x m. among_nil m) (ap (λ (x : Seen P). x.seat.kept) o) (ap (λ (x : Seen P). x.seat.pairs) o) (ap (λ (x : Seen P). x.seat.had) o) (λ i T l. lent_stays {ends = ends} (taken_in b c w none m p o) l) (knows_along h k)
 
 module _ {P : Type 0} (v : View P) where
   -- what a lease says of the words
@@ -251,13 +253,13 @@ module _ {P : Type 0} (v : View P) where
       (λ o. absurd (⊎_elim (λ x. not_twice j m.scope l.scope (own v.by m.before) (own v.by m.rest) b d x) (λ x. not_twice j l.scope m.scope (own v.by l.before) (own v.by l.rest) a d x) o))
       (two_places (own v.by l.before) (own v.by l.rest) (own v.by m.before) (own v.by m.rest) (Lease j l.scope) (Lease j m.scope) (sym a ∙ b))
 
-pub family_may_finish : {P : Type 0} {ends : P → Bool → P → Type 0} → FamilyMayFinish ends
+pub family_may_finish : {P : Type 0} {ends : P → Exit → Bool → P → Type 0} → FamilyMayFinish ends
 family_may_finish b ms f out rest each =
     let v = b.seat in
     let h = knows_along (start_knows f.first f.start.events f.alone) f.calls in
     let kept : v.kept ≡ [] = nothing_among v.kept (λ i m.
     let t = h.made i m in let s = h.still i m in
-    ⊎_elim s.1 (λ n. let c = h.gone i (noted_in v.by (Cancel i) v.events n) in s.0 c.0 c.1) (each i t.0 (in_noted v.by (Lease i t.0) v.events t.1))) in
+    ⊎_elim s.1 (λ n. let c = h.gone i n.0 (noted_in v.by (Cancel i n.0) v.events n.1) in s.0 c.0 c.1) (each i t.0 (in_noted v.by (Lease i t.0) v.events t.1))) in
     let pairs : v.pairs ≡ [] = nothing_among v.pairs (λ x m.
     let t = h.lent x.0 x.1 m in let s = h.held x.0 x.1 m in
     ⊎_elim

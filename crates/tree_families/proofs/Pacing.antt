@@ -2,6 +2,7 @@
 use Rattle.std.proofs.Common.{◌≡◌, ℕ, ◌+◌, ◌<◌, ◌≤◌, Bool, true, not, List, [], ◌∷◌, ◌++◌, length, count_by, length-append, sym, ap, ◌∙◌, subst, ⊎_elim, append_assoc, arith}
 use Rattle.std.proofs.lemmas.Bool.{cases_eq}
 use Rattle.std.specs.List.{list_any as any}
+use Rattle.chunk_core.specs.declared.code.Exit.{Exit}
 use Rattle.chunk_core.specs.Lists.{IsAmong}
 use Rattle.chunk_core.specs.Lists.IsAmong.{here, there}
 use Rattle.chunk_core.proofs.Cuts.{among_parts}
@@ -12,7 +13,7 @@ use Rattle.res_ledger.specs.declared.event.StreamNo.{StreamNo}
 use Rattle.res_ledger.specs.declared.event.StreamNo.TheVariants.{Inner, Outer}
 use Rattle.res_ledger.specs.declared.event.What.{What}
 use Rattle.res_ledger.specs.declared.event.What.TheVariants.{Cancel, Close, Lease}
-use Rattle.res_ledger.specs.Ledger.{IsStamped, Notes}
+use Rattle.res_ledger.specs.Ledger.{IsStamped, Notes, NotesCancel}
 use Rattle.res_ledger.specs.Streams.{same_stream}
 use Rattle.res_ledger.specs.Whole.{is_cancel}
 use Rattle.res_ledger.proofs.Ledgers.{inner_is}
@@ -54,20 +55,20 @@ stamp_in L P Q e x stamped is m = ⊎_elim
 in_whole : (L P Q : List Event) (e x : Event) → L ≡ P ++ e ∷ Q → IsAmong x (P ++ e ∷ []) → IsAmong x L
 in_whole L P Q e x is m = subst (λ l. IsAmong x l) (append_assoc P (e ∷ []) Q ∙ sym is) (among_left Q m)
 
-cancel_is : (k : ℕ) (w : What) → w ≡ Cancel k → is_cancel k w ≡ true
-cancel_is k w i = ap (λ x. is_cancel k x) i ∙ itself k
+cancel_is : (k : ℕ) (y : Exit) (w : What) → w ≡ Cancel k y → is_cancel k w ≡ true
+cancel_is k y w i = ap (λ x. is_cancel k x) i ∙ itself k
 
 active_event : (P : List Event) (e : Event) (k : ℕ) → is_active P e k ≡ true → (x : Event) × IsAmong x (P ++ e ∷ []) × (x.by ≡ Inner k)
 active_event P e k h =
     let f = any_found (λ x. same_stream x.by (Inner k)) (P ++ e ∷ []) (both (any (λ x. same_stream x.by (Inner k)) (P ++ e ∷ [])) (not (any (λ x. is_cancel k x.what) P)) h).0 in
     (f.0, f.1, name f.0.by (Inner k) f.2)
 
-active_open : (P : List Event) (e : Event) (k : ℕ) (q : StreamNo) → is_active P e k ≡ true → Notes P q (Cancel k) → ⊥
+active_open : (P : List Event) (e : Event) (k : ℕ) (q : StreamNo) → is_active P e k ≡ true → NotesCancel P q k → ⊥
 active_open P e k q h n = no (any (λ x. is_cancel k x.what) P)
     (both (any (λ x. same_stream x.by (Inner k)) (P ++ e ∷ [])) (not (any (λ x. is_cancel k x.what) P)) h).1
-    (any_at (λ x. is_cancel k x.what) n.0 P n.1 (cancel_is k n.0.what n.3))
+    (any_at (λ x. is_cancel k x.what) n.1.0 P n.1.1 (cancel_is k n.0 n.1.0.what n.1.3))
 
-module _ {P : Type 0} {ends : P → Bool → P → Type 0} (b : Seen P) (ms : List Split) (L : List Event) (width n : ℕ) (f : IsFamily ends b ms) (outer : b.seat.by ≡ Outer) (out : b.seat.out ≡ []) (ledger : IsLedgerOf b.seat L) (paced : (m : Split) → IsAmong m ms → IsInPace width n b.seat.events Outer ms m) where
+module _ {P : Type 0} {ends : P → Exit → Bool → P → Type 0} (b : Seen P) (ms : List Split) (L : List Event) (width n : ℕ) (f : IsFamily ends b ms) (outer : b.seat.by ≡ Outer) (out : b.seat.out ≡ []) (ledger : IsLedgerOf b.seat L) (paced : (m : Split) → IsAmong m ms → IsInPace width n b.seat.events Outer ms m) where
   -- each event of an inner stream stands at or above the floor of its seat
   mark_at : (e : Event) (k : ℕ) → IsAmong e L → e.by ≡ Inner k → (m : Split) × IsAmong m ms × (m.stream ≡ k) × (m.floor ≤ e.stamp)
   mark_at e k i is =
@@ -96,7 +97,7 @@ module _ {P : Type 0} {ends : P → Bool → P → Type 0} (b : Seen P) (ms : Li
       subst (λ q. IsAnnounced R Outer n q) t.2 (record {
         lease = (p.lease.0, noted_before R S e Outer (Lease t.0.stream p.lease.0) t.0.floor is low p.lease.1);
         next = λ l. let q = p.next l in (q.0, noted_before R S e Outer (Lease (t.0.stream + 1) q.0) t.0.floor is low q.1);
-        last = λ l. noted_before R S e Outer (Close 0) t.0.floor is low (p.last l);
+        last = λ l. let q = p.last l in (q.0, noted_before R S e Outer (Close 0 q.0) t.0.floor is low q.1);
       })
 
   narrow_at : (R S : List Event) (e : Event) → L ≡ R ++ e ∷ S → (k : ℕ) → is_active R e k ≡ true → ((i : ℕ) → i < n → is_active R e i ≡ true → i ≤ k) → count_by (is_active R e) (numbers_below n) ≤ width
@@ -113,7 +114,7 @@ module _ {P : Type 0} {ends : P → Bool → P → Type 0} (b : Seen P) (ms : Li
       let less : u.0.stream < t.0.stream = (let o = most i l h in let v = u.2 in let w = t.2 in omega arith) in
       ⊎_elim
       (λ o. there k (subst (λ z. IsAmong z t.0.out) u.2 o))
-      (λ o. absurd (active_open R e u.0.stream (Inner u.0.stream) (subst (λ z. is_active R e z ≡ true) (sym u.2) h) (noted_before R S e (Inner u.0.stream) (Cancel u.0.stream) t.0.floor is low o)))
+      (λ o. absurd (active_open R e u.0.stream (Inner u.0.stream) (subst (λ z. is_active R e z ≡ true) (sym u.2) h) (o.0, noted_before R S e (Inner u.0.stream) (Cancel u.0.stream o.0) t.0.floor is low o.1)))
       (p.over u.0 u.1 less))
       (cases_eq i k)) in
       let m = p.narrow in omega arith

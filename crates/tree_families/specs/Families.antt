@@ -1,5 +1,6 @@
 -- A main tree, and the trees of the streams whose seats it split off.
 use Rattle.std.specs.Prelude.{◌≡◌, ◌⊎◌, ◌↔◌, ℕ, Bool, List}
+use Rattle.chunk_core.specs.declared.code.Exit.{Exit}
 use Rattle.chunk_core.specs.Lists.{IsAmong}
 use Rattle.res_ledger.specs.declared.event.Event.{Event}
 use Rattle.res_ledger.specs.declared.event.StreamNo.TheVariants.{Inner}
@@ -23,7 +24,7 @@ module _ {P : Type 0} where
   abbrev pub split_of : View P → ℕ → Split
   split_of v j = record { stream = j; floor = above v.events; out = v.out }
 
-  module _ (ends : P → Bool → P → Type 0) where
+  module _ (ends : P → Exit → Bool → P → Type 0) where
     -- the seat of the stream j, with the floor n, came back to the main tree b with all that its tree noted, and b had made the lease that this tree cancelled
     pub record CameBack (b : Seen P) (j n : ℕ) : Type 0 where
       pub returned : HasReturned b.seat j

@@ -1,10 +1,11 @@
 -- What holds of a main tree with the seats that it split off, and of its ledger once all came back.
 use Rattle.std.specs.Prelude.{◌≡◌, ◌⊎◌, ℕ, ◌<◌, Bool, List, [], ◌∷◌, ◌++◌}
+use Rattle.chunk_core.specs.declared.code.Exit.{Exit}
 use Rattle.chunk_core.specs.Lists.{IsAmong}
 use Rattle.res_ledger.specs.declared.event.Event.{Event}
 use Rattle.res_ledger.specs.declared.event.StreamNo.TheVariants.{Inner, Outer}
-use Rattle.res_ledger.specs.declared.event.What.TheVariants.{Cancel, Lease}
-use Rattle.res_ledger.specs.Ledger.{Notes}
+use Rattle.res_ledger.specs.declared.event.What.TheVariants.{Lease}
+use Rattle.res_ledger.specs.Ledger.{Notes, NotesCancel}
 use Rattle.row_seat.specs.declared.view.View.{View}
 use Rattle.row_seat.specs.Views.{AreApart, CanFinish, CanJoin, CanSplit, IsLedgerOf, joined, split_main}
 use Rattle.scope_tree.specs.Calls.{AtStart, IsClosedScope, Seen}
@@ -16,7 +17,7 @@ use Rattle.tree_laws.specs.Whole.{IsWhole}
 use Rattle.tree_families.specs.Families.{IsFamily, Split, split_of}
 use Rattle.tree_families.specs.Pace.{IsInPace, LeasesAhead, WithinWidth}
 
-module _ {P : Type 0} (ends : P → Bool → P → Type 0) where
+module _ {P : Type 0} (ends : P → Exit → Bool → P → Type 0) where
   -- how a family begins, and what keeps it one
   pub record FamilyGrows : Type 0 where
     pub starts : (a : Seen P) → AtStart a.seat → HasNoOthers a.seat → IsFamily ends a []
@@ -38,4 +39,4 @@ module _ {P : Type 0} (ends : P → Bool → P → Type 0) where
 
   -- the main seat may finish once nothing is open, all seats are back, and of each lease that it made it cancelled it or split the seat of its stream off
   abbrev pub FamilyMayFinish : Type 0
-  FamilyMayFinish = (b : Seen P) (ms : List Split) → IsFamily ends b ms → b.seat.out ≡ [] → HasNothingOpen b.seat → ((j s : ℕ) → Notes b.seat.events b.seat.by (Lease j s) → IsAmong j b.seat.had ⊎ Notes b.seat.events b.seat.by (Cancel j)) → CanFinish b.seat
+  FamilyMayFinish = (b : Seen P) (ms : List Split) → IsFamily ends b ms → b.seat.out ≡ [] → HasNothingOpen b.seat → ((j s : ℕ) → Notes b.seat.events b.seat.by (Lease j s) → IsAmong j b.seat.had ⊎ NotesCancel b.seat.events b.seat.by j) → CanFinish b.seat

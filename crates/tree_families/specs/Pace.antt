@@ -1,13 +1,14 @@
 -- How far the outer stream is ahead of the inner ones, and how many of these are open at once.
 use Rattle.std.specs.Prelude.{◌≡◌, ◌⊎◌, ℕ, zero, suc, ◌+◌, ◌<◌, ◌≤◌, Bool, ◌&&◌, not, List, [], ◌∷◌, ◌++◌, length, count_by}
 use Rattle.std.specs.List.{list_any as any}
+use Rattle.chunk_core.specs.declared.code.Exit.{Exit}
 use Rattle.chunk_core.specs.Lists.{IsAmong}
 use Rattle.res_ledger.specs.declared.event.Event.{Event}
 use Rattle.res_ledger.specs.declared.event.StreamNo.{StreamNo}
 use Rattle.res_ledger.specs.declared.event.StreamNo.TheVariants.{Inner}
 use Rattle.res_ledger.specs.declared.event.What.{What}
 use Rattle.res_ledger.specs.declared.event.What.TheVariants.{Cancel, Close, Lease}
-use Rattle.res_ledger.specs.Ledger.{Notes}
+use Rattle.res_ledger.specs.Ledger.{Notes, NotesClose}
 use Rattle.res_ledger.specs.Streams.{same_stream}
 use Rattle.res_ledger.specs.Whole.{is_cancel}
 use Rattle.tree_families.specs.Families.{Split}
@@ -16,7 +17,7 @@ use Rattle.tree_families.specs.Families.{Split}
 pub record IsAnnounced (P : List Event) (outer : StreamNo) (n k : ℕ) : Type 0 where
   pub lease : (s : ℕ) × Notes P outer (Lease k s)
   pub next : k + 1 < n → (s : ℕ) × Notes P outer (Lease (k + 1) s)
-  pub last : n ≤ k + 1 → Notes P outer (Close 0)
+  pub last : n ≤ k + 1 → NotesClose P outer 0
 
 -- before each event of an inner stream it was announced
 abbrev pub LeasesAhead : StreamNo → ℕ → List Event → Type 0
@@ -43,6 +44,6 @@ NotesBelow n L k w = (e : Event) × IsAmong e L × (e.by ≡ k) × (e.what ≡ w
 pub record IsInPace (width n : ℕ) (L : List Event) (outer : StreamNo) (ms : List Split) (m : Split) : Type 0 where
   pub lease : (s : ℕ) × NotesBelow m.floor L outer (Lease m.stream s)
   pub next : m.stream + 1 < n → (s : ℕ) × NotesBelow m.floor L outer (Lease (m.stream + 1) s)
-  pub last : n ≤ m.stream + 1 → NotesBelow m.floor L outer (Close 0)
+  pub last : n ≤ m.stream + 1 → (x : Exit) × NotesBelow m.floor L outer (Close 0 x)
   pub narrow : length m.out < width
-  pub over : (p : Split) → IsAmong p ms → p.stream < m.stream → IsAmong p.stream m.out ⊎ NotesBelow m.floor L (Inner p.stream) (Cancel p.stream)
+  pub over : (p : Split) → IsAmong p ms → p.stream < m.stream → IsAmong p.stream m.out ⊎ ((x : Exit) × NotesBelow m.floor L (Inner p.stream) (Cancel p.stream x))

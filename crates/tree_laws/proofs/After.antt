@@ -1,6 +1,7 @@
 -- What a call of a tree leaves of what its stream noted.
 use Rattle.std.proofs.Common.{◌≡◌, ◌≢◌, ℕ, ◌<◌, ◌≤◌, ◌⊎◌, Bool, true, false, List, [], ◌∷◌, ◌++◌, inl, inr, refl, sym, ap, ◌∙◌, subst, ⊎_elim, append_assoc, append-nil}
 use Rattle.std.proofs.lemmas.Bool.{cases_eq}
+use Rattle.chunk_core.specs.declared.code.Exit.{Exit}
 use Rattle.chunk_core.specs.Lists.{IsAmong}
 use Rattle.chunk_core.proofs.Filters.{among_append}
 use Rattle.chunk_core.proofs.Members.{among_left, among_last, among_snoc}
@@ -9,12 +10,12 @@ use Rattle.res_ledger.specs.declared.event.StreamNo.{StreamNo}
 use Rattle.res_ledger.specs.declared.event.StreamNo.TheVariants.{Inner}
 use Rattle.res_ledger.specs.declared.event.What.{What}
 use Rattle.res_ledger.specs.declared.event.What.TheVariants.{Open, Acquire, Lease, Cancel, Close, Final}
-use Rattle.res_ledger.specs.Ledger.{Notes}
+use Rattle.res_ledger.specs.Ledger.{Notes, NotesCancel}
 use Rattle.res_ledger.specs.Own.{leased_of}
 use Rattle.res_ledger.specs.Streams.{by_stream}
 use Rattle.res_ledger.proofs.Growth.{noted_more, noted_new}
 use Rattle.res_ledger.proofs.Ledgers.{by_both, by_in, by_none, inner_is}
-use Rattle.res_ledger.proofs.Orders.{Rises}
+use Rattle.res_ledger.specs.Rising.{Rises}
 use Rattle.row_seat.specs.declared.view.View.{View}
 use Rattle.row_seat.specs.Views.{AreApart, CanJoin, CanSplit, IsFresh, joined, kept_after, name_of, noted, split_main}
 use Rattle.row_seat.proofs.Members.{among_kept, among_without}
@@ -35,7 +36,7 @@ folio v = record { by = v.by; main = v.main; floor = v.floor; events = v.events;
 
 -- the Lease for j is kept, or its stream had a seat, or its Cancel is noted
 abbrev pub IsMet : Folio → ℕ → Type 0
-IsMet v j = IsAmong j v.kept ⊎ (IsAmong j v.had ⊎ Notes v.events v.by (Cancel j))
+IsMet v j = IsAmong j v.kept ⊎ (IsAmong j v.had ⊎ NotesCancel v.events v.by j)
 
 -- the streams whose seats are out had a seat, and are others than this one
 abbrev pub IsGiven : Folio → Type 0
@@ -104,13 +105,13 @@ after_then u v w a b = record {
 }
 
 -- an event takes a Lease away only if it is its Cancel
-kept_or : (w : What) (j : ℕ) (xs : List ℕ) → IsAmong j xs → IsAmong j (kept_after w xs) ⊎ (w ≡ Cancel j)
+kept_or : (w : What) (j : ℕ) (xs : List ℕ) → IsAmong j xs → IsAmong j (kept_after w xs) ⊎ ((x : Exit) × (w ≡ Cancel j x))
 kept_or (Open s p) j xs m = inl m
 kept_or (Acquire r s) j xs m = inl m
 kept_or (Lease i s) j xs m = inl (among_left (i ∷ []) m)
-kept_or (Cancel i) j xs m = ⊎_elim (λ e. inr (ap Cancel (sym e))) (λ ne. inl (among_kept i xs j m ne)) (cases_eq j i)
-kept_or (Close s) j xs m = inl m
-kept_or (Final r ok) j xs m = inl m
+kept_or (Cancel i x) j xs m = ⊎_elim (λ e. inr (x, ap (λ z. Cancel z x) (sym e))) (λ ne. inl (among_kept i xs j m ne)) (cases_eq j i)
+kept_or (Close s x) j xs m = inl m
+kept_or (Final r x ok) j xs m = inl m
 
 -- the seat's event with the stamp n
 abbrev pub with_event : Folio → ℕ → What → Folio
@@ -126,8 +127,8 @@ after_event v n w low f plain =
       events = refl;
       rises = λ r. subst Rises (sym (by_snoc v.by v.events e refl)) (rises_snoc (by_stream v.by v.events) e r (λ x m. f x (by_in v.by v.events x m).0));
       met = λ j m. ⊎_elim
-          (λ k. ⊎_elim (λ l. inl l) (λ c. inr (inr (subst (λ x. Notes (v.events ++ e ∷ []) v.by x) c (noted_new v.events e)))) (kept_or w j v.kept k))
-          (λ o. inr (⊎_elim (λ h. inl h) (λ c. inr (noted_more v.events e c)) o))
+          (λ k. ⊎_elim (λ l. inl l) (λ c. inr (inr (c.0, subst (λ x. Notes (v.events ++ e ∷ []) v.by x) c.1 (noted_new v.events e)))) (kept_or w j v.kept k))
+          (λ o. inr (⊎_elim (λ h. inl h) (λ c. inr (c.0, noted_more v.events e c.1)) o))
           m;
       had = λ m. refl;
       own = λ m x n. ⊎_elim
@@ -178,7 +179,7 @@ module _ {P : Type 0} where
     more = w.events;
     events = refl;
     rises = λ r. subst Rises (sym (by_both v.by v.events w.events ∙ ap (λ l. by_stream v.by v.events ++ l) (by_none v.by w.events a.events) ∙ append-nil (by_stream v.by v.events))) r;
-    met = λ j m. ⊎_elim (λ k. inl k) (λ o. inr (⊎_elim (λ h. inl h) (λ c. inr (c.0, among_left w.events c.1, c.2, c.3)) o)) m;
+    met = λ j m. ⊎_elim (λ k. inl k) (λ o. inr (⊎_elim (λ h. inl h) (λ c. inr (c.0, (c.1.0, among_left w.events c.1.1, c.1.2, c.1.3))) o)) m;
     had = λ m. refl;
     given = λ g j m. g j (among_without (name_of w.by) v.out j m).0;
     back = λ j h. (

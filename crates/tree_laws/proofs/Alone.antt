@@ -1,23 +1,34 @@
 -- A tree that only opens, acquires, writes and closes.
-use Rattle.std.proofs.Common.{◌≡◌, ℕ, ◌≤◌, Bool, List, [], inl, inr, refl, sym, ap, ◌∙◌, subst, ⊎_elim}
+use Rattle.std.proofs.Common.{◌≡◌, ℕ, ◌≤◌, Bool, true, false, List, [], inl, inr, refl, sym, ap, ◌∙◌, subst, ⊎_elim}
+use Rattle.chunk_core.specs.declared.code.Exit.{Exit}
 use Rattle.chunk_core.specs.Lists.{IsAmong}
+use Rattle.chunk_core.proofs.Filters.{among_append}
 use Rattle.chunk_core.proofs.Members.{among_nil, among_snoc}
 use Rattle.res_ledger.specs.declared.event.Event.{Event}
 use Rattle.res_ledger.specs.declared.event.StreamNo.{StreamNo}
 use Rattle.res_ledger.specs.declared.event.What.{What}
-use Rattle.res_ledger.specs.declared.event.What.TheVariants.{Open, Acquire, Close, Final}
+use Rattle.res_ledger.specs.declared.event.What.TheVariants.{Open, Acquire, Lease, Cancel, Close, Final}
 use Rattle.res_ledger.specs.Own.{leased_of}
 use Rattle.row_seat.specs.declared.view.View.{View}
 use Rattle.row_seat.specs.Views.{IsLedgerOf, kept_after, noted, start as first_view}
-use Rattle.scope_tree.specs.declared.branch.Spent.{Spent}
 use Rattle.scope_tree.specs.Calls.{Acquires, AtStart, Closes, IsClosedScope, Opens, Seen}
-use Rattle.scope_tree.specs.Torn.{Torn}
-use Rattle.scope_tree.specs.Torn.Torn.{done, stays, ends_so}
+use Rattle.scope_tree.specs.Words.{shutting}
+use Rattle.scope_tree.proofs.Follows.{is_end}
+use Rattle.scope_tree.proofs.Owning.{owner_pairs}
+use Rattle.scope_tree.proofs.Use.{close_follows}
 use Rattle.tree_laws.specs.Alone.{HasNoOthers, StaysAlone}
 use Rattle.tree_laws.specs.Called.{Called}
 use Rattle.tree_laws.specs.Laws.{AloneCanFinish, CallsStayAlone}
 use Rattle.tree_laws.specs.Whole.{IsWhole, IsWholeFor}
 use Rattle.tree_laws.proofs.Ends.{called_whole, whole_each}
+
+pub end_leaseless : (w : What) → is_end w ≡ true → leased_of w ≡ []
+end_leaseless (Open s p) h = refl
+end_leaseless (Acquire r s) h = refl
+end_leaseless (Lease j s) h = absurd (let z : false ≡ true = h in cc)
+end_leaseless (Cancel j x) h = refl
+end_leaseless (Close s x) h = refl
+end_leaseless (Final r x ok) h = refl
 
 module _ {P : Type 0} where
   pub alone_same : (v : View P) → StaysAlone v v
@@ -46,11 +57,11 @@ module _ {P : Type 0} where
   alone_acquires {a = a} {s = s} {r = r} o = subst (λ v. StaysAlone a.seat v) (sym o.seat) (let t = alone_noted a.seat o.stamp (Acquire r s) refl refl in record { by = t.by; main = t.main; pairs = t.pairs; kept = t.kept; had = t.had; out = t.out; events = t.events })
 
   -- the first seat of a run is at its start, alone
-  pub first_at_start : (v : View P) (k : StreamNo) (rows n : ℕ) → v ≡ first_view k rows n → 1 ≤ n → AtStart v
-  first_at_start v k rows n e l = subst AtStart (sym e) (record { events = refl; opened = refl; handed = refl; taken = refl; bare = λ j r m. absurd (among_nil m); leased = λ j r m. absurd (among_nil m); spare = l })
+  pub first_at_start : (v : View P) (k : StreamNo) (rows n splits : ℕ) → v ≡ first_view k rows n splits → 1 ≤ n → AtStart v
+  first_at_start v k rows n splits e l = subst AtStart (sym e) (record { events = refl; opened = refl; handed = refl; taken = refl; bare = λ j r m. absurd (among_nil m); leased = λ j r m. absurd (among_nil m); spare = l })
 
-  pub first_alone : (v : View P) (k : StreamNo) (rows n : ℕ) → v ≡ first_view k rows n → HasNoOthers v
-  first_alone v k rows n e = subst HasNoOthers (sym e) (record { main = refl; pairs = refl; kept = refl; had = refl; out = refl })
+  pub first_alone : (v : View P) (k : StreamNo) (rows n splits : ℕ) → v ≡ first_view k rows n splits → HasNoOthers v
+  first_alone v k rows n splits e = subst HasNoOthers (sym e) (record { main = refl; pairs = refl; kept = refl; had = refl; out = refl })
 
   no_others : (v w : View P) → HasNoOthers v → StaysAlone v w → HasNoOthers w
   no_others v w h a = record { main = a.main ∙ h.main; pairs = a.pairs ∙ h.pairs; kept = a.kept ∙ h.kept; had = a.had ∙ h.had; out = a.out ∙ h.out }
@@ -58,31 +69,26 @@ module _ {P : Type 0} where
   pub alone_can_finish : AloneCanFinish P
   alone_can_finish v w h a rest = let o = no_others v w h a in (o.main, (rest.0, rest.3, o.pairs, o.kept, rest.1, rest.2), o.out)
 
-module _ {P : Type 0} {ends : P → Bool → P → Type 0} where
-  alone_torn : {T : List ℕ} {v w : View P} {xs : List (Spent P)} → Torn ends T v xs w → StaysAlone v w
-  alone_torn (done v) = alone_same v
-  alone_torn (stays v r p m st t) = let a = alone_torn t in record { by = a.by; main = a.main; pairs = a.pairs; kept = a.kept; had = a.had; out = a.out; events = a.events }
-  alone_torn (ends_so v p n x m q e f t) =
-      let b = alone_noted v n (Final x.row x.ok) refl refl in
-      let a = alone_torn t in record {
-        by = a.by;
-        main = a.main;
-        pairs = a.pairs;
-        kept = a.kept;
-        had = a.had;
-        out = a.out;
-        events = λ y i. ⊎_elim (λ o. ⊎_elim (λ z. inl z) (λ z. inr (z.0 ∙ sym a.by, z.1)) (b.events y o)) (λ z. inr z) (a.events y i);
-      }
-
-  pub alone_closes : {a b : Seen P} {s : ℕ} → Closes ends a s b → StaysAlone a.seat b.seat
-  alone_closes {a = a} {s = s} c = alone_then _ _ _ (alone_noted a.seat c.stamp (Close s) refl refl) (alone_torn c.torn.2)
+module _ {P : Type 0} {ends : P → Exit → Bool → P → Type 0} where
+  pub alone_closes : {x : Exit} {a b : Seen P} {s : ℕ} → Closes ends a s x b → StaysAlone a.seat b.seat
+  alone_closes {x = x} {a = a} {b = b} {s = s} c =
+      let f = close_follows c in
+      alone_then _ _ _ (alone_noted a.seat c.stamp (Close s x) refl refl) (record {
+        by = ap (λ z. z.by) f.same;
+        main = ap (λ z. z.main) f.same;
+        pairs = owner_pairs c.torn.2;
+        kept = ap (λ z. z.kept) f.same;
+        had = ap (λ z. z.had) f.same;
+        out = ap (λ z. z.out) f.same;
+        events = λ e m. ⊎_elim (λ o. inl o) (λ i. let t = f.events.2 e i in inr (t.0 ∙ sym (ap (λ z. z.by) f.same), end_leaseless e.what t.1)) (among_append e (shutting a.seat s x c.stamp).events f.events.0 (subst (λ l. IsAmong e l) f.events.1 m));
+      })
 
   pub calls_alone : CallsStayAlone ends
   calls_alone = record {
     opens = λ a b at c o. alone_opens o;
     acquires = λ a b s r p o. alone_acquires o;
     writes = λ v r p. record { by = refl; main = refl; pairs = refl; kept = refl; had = refl; out = refl; events = λ e m. inl m };
-    closes = λ a b s c. alone_closes c;
+    closes = λ a b s x c. alone_closes c;
     none = alone_same;
     follow = alone_then;
   }

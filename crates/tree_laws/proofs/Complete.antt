@@ -1,5 +1,6 @@
 -- When a legal ledger is complete for a stream.
 use Rattle.std.proofs.Common.{◌≡◌, ℕ, suc, zero, ◌≤◌, ◌⊎◌, Bool, List, ◌∷◌, ◌++◌, length, length-append, inl, inr, sym, ap, subst, ⊎_elim, arith}
+use Rattle.chunk_core.specs.declared.code.Exit.{Exit}
 use Rattle.chunk_core.specs.Lists.{IsAmong}
 use Rattle.chunk_core.proofs.Cuts.{among_parts}
 use Rattle.chunk_core.proofs.Members.{among_left}
@@ -33,8 +34,8 @@ root_closes : (L : List Event) (k : StreamNo) (s p : ℕ) → IsLegal L → IsCl
 root_closes L k s p legal c n = (c.0, within_trans (under_root (length L) L (omega arith) legal k s (inr (p, n))) c.1, c.2)
 
 -- what stands before a Final
-handed_at : (L A B : List Event) (e : Event) (r : ℕ) (ok : Bool) → IsLegal L → L ≡ A ++ e ∷ B → e.what ≡ Final r ok → IsHanded A r
-handed_at L A B e r ok legal is w = (subst (λ x. MayFollow A e.by x) w (legal A B e is)).0
+handed_at : (L A B : List Event) (e : Event) (r : ℕ) (x : Exit) (ok : Bool) → IsLegal L → L ≡ A ++ e ∷ B → e.what ≡ Final r x ok → IsHanded A r
+handed_at L A B e r x ok legal is w = (subst (λ y. MayFollow A e.by y) w (legal A B e is)).0
 
 -- a lease that covers a row of a closed scope was made before the Close
 covers_front : (A B : List Event) (r j : ℕ) (q : StreamNo) → IsLegal (A ++ B) → IsHanded A r → Covers (A ++ B) j q r → Covers A j q r
@@ -54,8 +55,8 @@ covers_front A B r j q legal h v =
 pub complete_for : (L : List Event) (k : StreamNo) → IsLegal L → IsClosed L k 0 → ((r s : ℕ) → Notes L k (Acquire r s) → IsFinalized L r) → ((j s : ℕ) → Notes L k (Lease j s) → IsCanceled L j) → IsCompleteFor L k
 complete_for L k legal root final canceled = record {
   finalized_once = λ r s n. final_once L r legal (final r s n);
-  after_close = λ A B e r ok is by w. (handed_at L A B e r ok legal is w).0;
-  after_leases = λ A B e r ok is by w j q c. (let h = handed_at L A B e r ok legal is w in h.1 j q (covers_front A (e ∷ B) r j q (subst IsLegal is legal) h (subst (λ l. Covers l j q r) is c)));
+  after_close = λ A B e r x ok is by w. (handed_at L A B e r x ok legal is w).0;
+  after_leases = λ A B e r x ok is by w j q c. (let h = handed_at L A B e r x ok legal is w in h.1 j q (covers_front A (e ∷ B) r j q (subst IsLegal is legal) h (subst (λ l. Covers l j q r) is c)));
   canceled_once = λ j s n. cancel_once L j legal (canceled j s n);
   scopes_closed = λ s p n. root_closes L k s p legal root n;
   roots_closed = λ r s n. root;

@@ -48,15 +48,17 @@ module _ {A : Type 0} (p : A → Bool) where
 -- a row with a Final has one
 pub final_once : (L : List Event) (r : ℕ) → IsLegal L → IsFinalized L r → final_count r L ≡ 1
 final_once L r legal f =
-    count_first (λ e. is_final r e.what) L f.2.0 f.2.1 (subst (λ w. is_final r w ≡ true) (sym f.2.3) (itself r))
+    count_first (λ e. is_final r e.what) L f.2.1.0 f.2.1.1 (subst (λ w. is_final r w ≡ true) (sym f.2.1.3) (itself r))
     (λ A B e is h x m g.
     let s = is_final_shape r e.what h in
     let t = is_final_shape r x.what g in
-    (subst (λ w. MayFollow A e.by w) s.1 (legal A B e is)).0.2 (x.by, t.0, (x, m, refl, t.1)))
+    (subst (λ w. MayFollow A e.by w) s.2 (legal A B e is)).0.2 (x.by, t.1, (t.0, (x, m, refl, t.2))))
 
 -- a lease with a Cancel has one
 pub cancel_once : (L : List Event) (j : ℕ) → IsLegal L → IsCanceled L j → cancel_count j L ≡ 1
 cancel_once L j legal c =
-    count_first (λ e. is_cancel j e.what) L c.1.0 c.1.1 (subst (λ w. is_cancel j w ≡ true) (sym c.1.3) (itself j))
+    count_first (λ e. is_cancel j e.what) L c.1.1.0 c.1.1.1 (subst (λ w. is_cancel j w ≡ true) (sym c.1.1.3) (itself j))
     (λ A B e is h x m g.
-    (subst (λ w. MayFollow A e.by w) (is_cancel_shape j e.what h) (legal A B e is)).1 (x.by, (x, m, refl, is_cancel_shape j x.what g)))
+    let s = is_cancel_shape j e.what h in
+    let t = is_cancel_shape j x.what g in
+    (subst (λ w. MayFollow A e.by w) s.1 (legal A B e is)).1 (x.by, (t.0, (x, m, refl, t.1))))

@@ -29,9 +29,9 @@ no_lease j A e (Acquire r s) is n = ap (λ x. flat_map (λ l. cond (nat_eq l.0 j
 no_lease j A e (Lease i s) is n =
     ap (λ x. flat_map (λ l. cond (nat_eq l.0 j) (leased_rows (own e.by A) l.1) []) (leased_of x)) is
     ∙ (elim (nat_eq i j) as (λ b. nat_eq i j ≡ b → cond b (leased_rows (own e.by A) s) [] ++ [] ≡ []) [ true ↦ (λ h. absurd (n s (ap (λ x. Lease x s) (number i j h)))) | false ↦ (λ h. refl) ]) refl
-no_lease j A e (Cancel i) is n = ap (λ x. flat_map (λ l. cond (nat_eq l.0 j) (leased_rows (own e.by A) l.1) []) (leased_of x)) is
-no_lease j A e (Close s) is n = ap (λ x. flat_map (λ l. cond (nat_eq l.0 j) (leased_rows (own e.by A) l.1) []) (leased_of x)) is
-no_lease j A e (Final r ok) is n = ap (λ x. flat_map (λ l. cond (nat_eq l.0 j) (leased_rows (own e.by A) l.1) []) (leased_of x)) is
+no_lease j A e (Cancel i x) is n = ap (λ y. flat_map (λ l. cond (nat_eq l.0 j) (leased_rows (own e.by A) l.1) []) (leased_of y)) is
+no_lease j A e (Close s x) is n = ap (λ y. flat_map (λ l. cond (nat_eq l.0 j) (leased_rows (own e.by A) l.1) []) (leased_of y)) is
+no_lease j A e (Final r x ok) is n = ap (λ y. flat_map (λ l. cond (nat_eq l.0 j) (leased_rows (own e.by A) l.1) []) (leased_of y)) is
 
 -- a Lease for j draws the rows that it covers
 one_lease : (j s : ℕ) (A : List Event) (e : Event) → e.what ≡ Lease j s → covered_for j A e ≡ leased_rows (own e.by A) s

@@ -1,5 +1,6 @@
 -- The ledger of a tree whose root is closed.
 use Rattle.std.proofs.Common.{◌≡◌, ℕ, Bool, List, [], ◌∷◌, ◌++◌, true, reverse, refl, sym, subst}
+use Rattle.chunk_core.specs.declared.code.Exit.{Exit}
 use Rattle.chunk_core.specs.Lists.{IsAmong}
 use Rattle.chunk_core.specs.Lists.IsAmong.{here}
 use Rattle.chunk_core.proofs.Members.{among_mid}
@@ -30,7 +31,7 @@ use Rattle.tree_laws.proofs.Follows.{called_then}
 use Rattle.tree_laws.proofs.Kept.{called_rises, leases_lent, lent_stays}
 use Rattle.tree_laws.proofs.Rising.{stamped_by}
 
-module _ {P : Type 0} {ends : P → Bool → P → Type 0} {a b : Seen P} {Cs : List (ℕ × List ℕ)} (u : View P) (L : List Event) (start : AtStart a.seat) (calls : Called ends a Cs b) (end : IsFinished b u L) where
+module _ {P : Type 0} {ends : P → Exit → Bool → P → Type 0} {a b : Seen P} {Cs : List (ℕ × List ℕ)} (u : View P) (L : List Event) (start : AtStart a.seat) (calls : Called ends a Cs b) (end : IsFinished b u L) where
   pub called_events : by_stream b.seat.by L ≡ by_stream b.seat.by b.seat.events
   called_events = stamped_by L b.seat.events b.seat.by end.ledger.stamped (called_rises start calls) (λ e k. ((λ m. (end.own e k).0 ((end.ledger.whole e).0 m)), (λ m. (end.ledger.whole e).1 ((end.own e k).1 m))))
 
@@ -51,11 +52,11 @@ module _ {P : Type 0} {ends : P → Bool → P → Type 0} {a b : Seen P} {Cs : 
   called_whole root covered = record { legal = end.ledger.legal; order = called_in_order covered; complete = called_complete root }
 
 -- a lease that the tree made and cancelled
-pub one_lease_whole : {P : Type 0} {ends : P → Bool → P → Type 0} {a b c d e f : Seen P} {s j : ℕ} {T : List ℕ} (u : View P) (L : List Event) → AtStart a.seat → Called ends a [] b → MayLease b s j → Leases b s j T c → Called ends c [] d → MayCancel d j T → Cancels ends d j T e → Called ends e [] f → IsFinished f u L → IsClosedScope f 0 → IsWholeFor L f.seat.by
-one_lease_whole {b = b} {c = c} {d = d} {e = e} {f = f} {s = s} {j = j} {T = T} u L start first may lease then may' cancel last end root =
-    let calls = called_then (cancelled d e j T (called_then (leased b c s j T first may lease) then) may' cancel) last in
-    let lent : Lent f.seat j T = lent_stays (called_then (cancelled d e j T then may' cancel) last) (leases_lent lease) in
-    called_whole u L start calls end root (own_leases_covered u L start calls end (λ i U m. (let x : ℕ × List ℕ = (i, U) in let y : ℕ × List ℕ = (j, T) in let q = only x y m in subst (λ (z : ℕ × List ℕ). Lent f.seat z.0 z.1) (sym q) lent)))
+pub one_lease_whole : {P : Type 0} {ends : P → Exit → Bool → P → Type 0} {a b c d e f : Seen P} {s j : ℕ} {T : List ℕ} {x : Exit} (u : View P) (L : List Event) → AtStart a.seat → Called ends a [] b → MayLease b s j → Leases b s j T c → Called ends c [] d → MayCancel d j T → Cancels ends d j T x e → Called ends e [] f → IsFinished f u L → IsClosedScope f 0 → IsWholeFor L f.seat.by
+one_lease_whole {b = b} {c = c} {d = d} {e = e} {f = f} {s = s} {j = j} {T = T} {x = x} u L start first may lease then may' cancel last end root =
+    let calls = called_then (cancelled d e j T x (called_then (leased b c s j T first may lease) then) may' cancel) last in
+    let lent : Lent f.seat j T = lent_stays (called_then (cancelled d e j T x then may' cancel) last) (leases_lent lease) in
+    called_whole u L start calls end root (own_leases_covered u L start calls end (λ i U m. (let p : ℕ × List ℕ = (i, U) in let y : ℕ × List ℕ = (j, T) in let q = only p y m in subst (λ (z : ℕ × List ℕ). Lent f.seat z.0 z.1) (sym q) lent)))
 
 -- a stream that noted nothing is in order
 in_order_at : (L : List Event) (k : StreamNo) (E : List What) → own k L ≡ E → ((e : Event) → IsAmong e L → IsInOrder L e.by) → IsInOrder L k
@@ -68,8 +69,8 @@ whole_each L f =
     let at : (A B : List Event) (e : Event) → L ≡ A ++ e ∷ B → IsCompleteFor L e.by = λ A B e is. (f e (subst (λ l. IsAmong e l) (sym is) (among_mid A B e))).complete in (
       record {
         finalized_once = λ k r s n. (by k (Acquire r s) n).finalized_once r s n;
-        after_close = λ A B e r ok is w. (at A B e is).after_close A B e r ok is refl w;
-        after_leases = λ A B e r ok is w. (at A B e is).after_leases A B e r ok is refl w;
+        after_close = λ A B e r x ok is w. (at A B e is).after_close A B e r x ok is refl w;
+        after_leases = λ A B e r x ok is w. (at A B e is).after_leases A B e r x ok is refl w;
         canceled_once = λ k j s n. (by k (Lease j s) n).canceled_once j s n;
         scopes_closed = λ k s p n. (by k (Open s p) n).scopes_closed s p n;
         roots_closed = λ k r s n. (by k (Acquire r s) n).roots_closed r s n;

@@ -1,5 +1,6 @@
 -- The seat of a guest at the end.
 use Rattle.std.proofs.Common.{◌≡◌, ℕ, Bool, true, false, List, [], ◌∷◌, ◌++◌, refl, sym, ap, ◌∙◌, subst, ⊎_elim, eq-eqb}
+use Rattle.chunk_core.specs.declared.code.Exit.{Exit}
 use Rattle.chunk_core.specs.Lists.{IsAmong}
 use Rattle.chunk_core.specs.Lists.IsAmong.{here}
 use Rattle.chunk_core.proofs.Filters.{among_filter, filter_among}
@@ -7,11 +8,10 @@ use Rattle.chunk_core.proofs.Members.{among_nil, among_snoc}
 use Rattle.row_seat.specs.declared.view.View.{View}
 use Rattle.row_seat.proofs.Members.{among_without}
 use Rattle.scope_tree.specs.Calls.{Cancels, Seen}
-use Rattle.scope_tree.proofs.Departures.{quits_gone}
 use Rattle.scope_tree.proofs.Distinct.{lifo_among}
+use Rattle.scope_tree.proofs.Lessee.{lease_gone}
 use Rattle.scope_tree.proofs.Parts.{eqb_eq}
-use Rattle.scope_tree.proofs.Quitting.{quits_pairs}
-use Rattle.scope_tree.proofs.Untouched.{cancel_untouched}
+use Rattle.scope_tree.proofs.Use.{cancel_follows}
 use Rattle.tree_laws.specs.Alone.{StaysAlone}
 use Rattle.tree_laws.specs.Called.{Called}
 use Rattle.tree_laws.specs.Called.Called.{none, opened, acquired, written, leased, cancelled, closed, split, taken_in}
@@ -35,23 +35,23 @@ module _ {P : Type 0} where
     pairs = λ i r m. h.pairs i r (subst (λ l. IsAmong (i, r) l) a.pairs m);
   }
 
-  left_cancelled : {ends : P → Bool → P → Type 0} {b c : Seen P} {j : ℕ} {T : List ℕ} (u : View P) (Cs : List (ℕ × List ℕ)) → Cancels ends b j T c → HasLeft u b.seat Cs → HasLeft u c.seat (Cs ++ (j, T) ∷ [])
+  left_cancelled : {ends : P → Exit → Bool → P → Type 0} {b c : Seen P} {j : ℕ} {T : List ℕ} {x : Exit} (u : View P) (Cs : List (ℕ × List ℕ)) → Cancels ends b j T x c → HasLeft u b.seat Cs → HasLeft u c.seat (Cs ++ (j, T) ∷ [])
   left_cancelled {b = b} {c = c} {j = j} {T = T} u Cs o h = record {
     kept = λ i m.
-        let n = among_without j b.seat.kept i (subst (λ l. IsAmong i l) (cancel_untouched o).kept m) in
+        let n = among_without j b.seat.kept i (subst (λ l. IsAmong i l) (ap (λ z. z.kept) (cancel_follows o).same) m) in
         let t = h.kept i n.0 in
         (t.0, λ U q. ⊎_elim (λ x. t.1 U x) (λ e. n.1 (ap (λ (z : ℕ × List ℕ). z.0) e)) (among_snoc Cs (i, U) (j, T) q));
     pairs = λ i r m.
-        let t = h.pairs i r (quits_pairs (i, r) o.left.2 m) in (
+        let t = h.pairs i r ((cancel_follows o).pairs (i, r) m) in (
           t.0,
           λ U q n. ⊎_elim
               (λ x. t.1 U x n)
-              (λ e. quits_gone r o.left.2 (lifo_among r T (subst (λ l. IsAmong r l) (ap (λ (z : ℕ × List ℕ). z.1) e) n)) (subst (λ z. IsAmong (z, r) c.seat.pairs) (ap (λ (z : ℕ × List ℕ). z.0) e) m))
+              (λ e. lease_gone r o.left.2 (lifo_among r T (subst (λ l. IsAmong r l) (ap (λ (z : ℕ × List ℕ). z.1) e) n)) (subst (λ z. IsAmong (z, r) c.seat.pairs) (ap (λ (z : ℕ × List ℕ). z.0) e) m))
               (among_snoc Cs (i, U) (j, T) q),
         );
   }
 
-module _ {P : Type 0} {ends : P → Bool → P → Type 0} where
+module _ {P : Type 0} {ends : P → Exit → Bool → P → Type 0} where
   not_main : {A : Type 0} {a b : Seen P} {Cs : List (ℕ × List ℕ)} → a.seat.main ≡ false → Called ends a Cs b → b.seat.main ≡ true → A
   not_main f k t = absurd (let z : true ≡ false = sym t ∙ ((called_after k).main ∙ f) in cc)
 
@@ -62,8 +62,8 @@ module _ {P : Type 0} {ends : P → Bool → P → Type 0} where
   called_left {a = a} f (acquired {Cs = Cs} b c s r p k m o) = left_alone a.seat b.seat c.seat Cs (alone_acquires o) (called_left f k)
   called_left {a = a} f (written {Cs = Cs} b c r p k m o) = subst (λ (x : Seen P). HasLeft a.seat x.seat Cs) (sym o) (let h = called_left f k in record { kept = h.kept; pairs = h.pairs })
   called_left f (leased b c s j T k m o) = not_main f k m.main
-  called_left {a = a} f (cancelled {Cs = Cs} b c j T k m o) = left_cancelled a.seat Cs o (called_left f k)
-  called_left {a = a} f (closed {Cs = Cs} b c s k m o) = left_alone a.seat b.seat c.seat Cs (alone_closes o) (called_left f k)
+  called_left {a = a} f (cancelled {Cs = Cs} b c j T x k m o) = left_cancelled a.seat Cs o (called_left f k)
+  called_left {a = a} f (closed {Cs = Cs} b c s x k m o) = left_alone a.seat b.seat c.seat Cs (alone_closes o) (called_left f k)
   called_left f (split b c j from to n k m o) = not_main f k m.0
   called_left f (taken_in b c w k m p o) = not_main f k m.0
 

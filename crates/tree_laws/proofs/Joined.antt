@@ -1,5 +1,6 @@
 -- The ledger of a main tree, of the stream of a tree whose seat it took in.
 use Rattle.std.proofs.Common.{◌≡◌, ℕ, Bool, List, [], sym, ap, ◌∙◌, subst, ⊎_elim}
+use Rattle.chunk_core.specs.declared.code.Exit.{Exit}
 use Rattle.chunk_core.specs.Lists.{IsAmong}
 use Rattle.chunk_core.proofs.Filters.{among_append, among_right}
 use Rattle.chunk_core.proofs.Members.{among_left, among_nil}
@@ -14,7 +15,7 @@ use Rattle.tree_laws.proofs.After.{IsAfter, IsBack, folio}
 use Rattle.tree_laws.proofs.Along.{called_after}
 
 -- the seat that was taken in has all that the main seat has in its name, and later calls note nothing in that name
-pub joined_finished : {P : Type 0} {ends : P → Bool → P → Type 0} {a b c d x : Seen P} {Cs Ds : List (ℕ × List ℕ)} (L : List Event) → a.seat.out ≡ [] → Called ends a Cs b → CanJoin b.seat x.seat → AreApart b.seat x.seat → c ≡ record b { seat = joined b.seat x.seat } → Called ends c Ds d → IsLedgerOf d.seat L → IsFinished x d.seat L
+pub joined_finished : {P : Type 0} {ends : P → Exit → Bool → P → Type 0} {a b c d x : Seen P} {Cs Ds : List (ℕ × List ℕ)} (L : List Event) → a.seat.out ≡ [] → Called ends a Cs b → CanJoin b.seat x.seat → AreApart b.seat x.seat → c ≡ record b { seat = joined b.seat x.seat } → Called ends c Ds d → IsLedgerOf d.seat L → IsFinished x d.seat L
 joined_finished {b = b} {d = d} {x = x} L none first can apart is then ledger =
     let v = b.seat in let w = x.seat in let j = can.1.0 in
     let named : w.by ≡ Inner j = can.1.1 in
@@ -26,7 +27,7 @@ joined_finished {b = b} {d = d} {x = x} L none first can apart is then ledger =
     record {
       ledger = ledger;
       own = λ e k. (
-        (λ m. ⊎_elim (λ o. apart.mine e o k) (λ o. o) (among_append e v.events w.events (seen e m (k ∙ named)))),
+        (λ m. ⊎_elim (λ o. absurd (apart.mine e o k)) (λ o. o) (among_append e v.events w.events (seen e m (k ∙ named)))),
         (λ m. subst (λ l. IsAmong e l) (sym after.events) (among_left after.more (among_right e v.events w.events m))),
       );
     }

@@ -1,14 +1,15 @@
 -- What calls keep of leases.
 use Rattle.std.proofs.Common.{◌≡◌, ℕ, Bool, true, false, cond, List, [], ◌∷◌, ◌++◌, inl, refl, sym, ap, ◌∙◌, subst, ⊎_elim, append_assoc}
+use Rattle.chunk_core.specs.declared.code.Exit.{Exit}
 use Rattle.chunk_core.specs.Lists.{IsAmong}
 use Rattle.chunk_core.specs.Lists.IsAmong.{here, there}
 use Rattle.chunk_core.proofs.Members.{among_cons, among_left, among_nil}
 use Rattle.res_ledger.specs.declared.event.Event.{Event}
-use Rattle.res_ledger.specs.declared.event.What.TheVariants.{Acquire, Cancel}
-use Rattle.res_ledger.specs.Ledger.{IsFinalized, Notes}
+use Rattle.res_ledger.specs.declared.event.What.TheVariants.{Acquire}
+use Rattle.res_ledger.specs.Ledger.{IsFinalized, Notes, NotesCancel}
 use Rattle.res_ledger.specs.Own.{leased_rows, own, picked, reaches, rows}
 use Rattle.res_ledger.specs.Streams.{by_stream}
-use Rattle.res_ledger.proofs.Orders.{Rises}
+use Rattle.res_ledger.specs.Rising.{Rises}
 use Rattle.row_seat.specs.declared.view.View.{View}
 use Rattle.scope_tree.specs.declared.tree.Tree.{Tree}
 use Rattle.scope_tree.specs.Calls.{AtStart, IsClosedScope, Leases, Seen}
@@ -60,7 +61,7 @@ module _ {P : Type 0} where
         rows = o.covered ∙ ap (λ k. leased_rows (own k a.seat.events) s) (sym by);
       }
 
-module _ {P : Type 0} {ends : P → Bool → P → Type 0} where
+module _ {P : Type 0} {ends : P → Exit → Bool → P → Type 0} where
   pub lent_stays : {a b : Seen P} {Cs : List (ℕ × List ℕ)} {j : ℕ} {T : List ℕ} → Called ends a Cs b → Lent a.seat j T → Lent b.seat j T
   lent_stays {a = a} {b = b} c l =
       let f : IsAfter (folio a.seat) (folio b.seat) = called_after c in record {
@@ -81,7 +82,7 @@ module _ {P : Type 0} {ends : P → Bool → P → Type 0} where
   called_rises {a = a} s c = (called_after c).rises (subst (λ L. Rises (by_stream a.seat.by L)) (sym s.events) tt)
 
   -- a kept Lease is still kept, or its stream has a seat, or it is cancelled
-  pub kept_canceled : {a b : Seen P} {Cs : List (ℕ × List ℕ)} (j : ℕ) → a.seat.main ≡ false → a.seat.had ≡ [] → Called ends a Cs b → b.seat.kept ≡ [] → IsAmong j a.seat.kept → Notes b.seat.events b.seat.by (Cancel j)
+  pub kept_canceled : {a b : Seen P} {Cs : List (ℕ × List ℕ)} (j : ℕ) → a.seat.main ≡ false → a.seat.had ≡ [] → Called ends a Cs b → b.seat.kept ≡ [] → IsAmong j a.seat.kept → NotesCancel b.seat.events b.seat.by j
   kept_canceled {a = a} {b = b} j m h c k i =
       let f : IsAfter (folio a.seat) (folio b.seat) = called_after c in
       ⊎_elim (λ x. absurd (among_nil (subst (λ l. IsAmong j l) k x))) (λ o. ⊎_elim (λ x. absurd (among_nil (subst (λ l. IsAmong j l) (f.had m ∙ h) x))) (λ x. x) o) (f.met j (inl i))
@@ -90,8 +91,11 @@ module _ {P : Type 0} {ends : P → Bool → P → Type 0} where
 pub closed_rows_end : {S P D : Type 0} (view : S → View P) (t : Tree S P D) → IsSound view t → (view t.seat).main ≡ false → IsClosedScope (seen view t) 0 → (r s : ℕ) → Notes (view t.seat).events (view t.seat).by (Acquire r s) → IsFinalized (view t.seat).events r
 closed_rows_end view t sound main closed r s n =
     let v = view t.seat in let bs = t.branches.items in let hs = t.held.items in
-    let m = subst (λ l. IsAmong {A = ℕ × ℕ} (r, s) l) sound.kept.rows (notes_rows v.events v.by r s n) in
+    let m = subst (λ l. IsAmong {A = ℕ × ℕ} (r, s) l) sound.kept.mirrors.rows (notes_rows v.events v.by r s n) in
     ⊎_elim
     (λ h. absurd (among_nil (subst (λ l. IsAmong {A = ℕ × _} (r, h.0) l) (nothing_open v bs hs sound.kept closed) h.1)))
+    (λ o. ⊎_elim
     (λ i. let f = shelf_final v hs t.shelf.items sound.shelved r i in (v.by, f.0, f.1))
-    (sound.shelved.ended main r s m)
+    (λ w. absurd (let z : true ≡ false = sym w.0 ∙ main in cc))
+    o)
+    (sound.shelved.ended r s m)

@@ -10,7 +10,7 @@ use Rattle.res_ledger.specs.declared.event.StreamNo.{StreamNo}
 use Rattle.res_ledger.specs.Ledger.{IsStamped}
 use Rattle.res_ledger.specs.Streams.{by_stream, same_stream}
 use Rattle.res_ledger.proofs.Ledgers.{by_in, by_out}
-use Rattle.res_ledger.proofs.Orders.{Rises}
+use Rattle.res_ledger.specs.Rising.{Rises}
 
 -- rising lists with the same events are one
 rises_same : (L M : List Event) → Rises L → Rises M → ((x : Event) → IsAmong x L ↔ IsAmong x M) → L ≡ M

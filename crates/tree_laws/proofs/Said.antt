@@ -1,47 +1,78 @@
 -- The shelf has the Finals that calls noted.
 use Rattle.std.proofs.Common.{◌≡◌, ℕ, Bool, List, [], ◌∷◌, ◌++◌, refl, sym, ap, ◌∙◌, subst, append-nil}
 use Rattle.std.proofs.lemmas.Grind.{flat_map-append}
+use Rattle.chunk_core.specs.declared.code.Exit.{Exit}
 use Rattle.res_ledger.specs.declared.event.What.{What}
-use Rattle.res_ledger.specs.declared.event.What.TheVariants.{Open, Acquire, Lease, Cancel, Close}
+use Rattle.res_ledger.specs.declared.event.What.TheVariants.{Open, Acquire, Lease, Cancel, Close, Final}
 use Rattle.res_ledger.specs.Order.{finals}
+use Rattle.res_ledger.specs.Own.{own}
+use Rattle.row_seat.specs.declared.view.View.{View}
 use Rattle.scope_tree.specs.declared.branch.Spent.{Spent}
 use Rattle.scope_tree.specs.Calls.{AtStart, Seen}
-use Rattle.scope_tree.specs.Torn.{said}
-use Rattle.scope_tree.specs.Words.{ended_rows, ends_of, words}
-use Rattle.res_ledger.specs.Own.{own}
-use Rattle.scope_tree.proofs.Distinct.{said_append}
+use Rattle.scope_tree.specs.Released.{Holder, Released, said}
+use Rattle.scope_tree.specs.Released.Released.{done, stays, ends_so}
+use Rattle.scope_tree.specs.Words.{ended_rows, words}
 use Rattle.scope_tree.proofs.Parting.{join_words}
 use Rattle.scope_tree.proofs.Use.{acquired_said, canceled_said, closed_said, leased_said, opened_said}
 use Rattle.tree_laws.specs.Called.{Called}
 use Rattle.tree_laws.specs.Called.Called.{none, opened, acquired, written, leased, cancelled, closed, split, taken_in}
+use Rattle.tree_laws.specs.Shelves.{end_of, noted_ends, shelf_ends}
 
-ended_finals : (fs : List (ℕ × Bool)) → ended_rows (finals fs) ≡ fs
-ended_finals [] = refl
-ended_finals (f ∷ fs) = ap (λ l. f ∷ l) (ended_finals fs)
+-- an event that is no Final, and then further ones, behind what was noted
+ends_run : (E F G : List What) (w : What) → F ≡ E ++ w ∷ G → end_of w ≡ [] → noted_ends F ≡ noted_ends E ++ noted_ends G
+ends_run E F G w is plain = ap noted_ends is ∙ flat_map-append end_of E (w ∷ G) ∙ ap (λ l. noted_ends E ++ (l ++ noted_ends G)) plain
 
--- an event that is no Final, behind what was noted
-ended_plain : (E F : List What) (w : What) → F ≡ E ++ w ∷ [] → ends_of w ≡ [] → ended_rows F ≡ ended_rows E
-ended_plain E F w is no' = ap ended_rows is ∙ flat_map-append ends_of E (w ∷ []) ∙ ap (λ l. ended_rows E ++ (l ++ [])) no' ∙ append-nil (ended_rows E)
+-- without their exits
+abbrev bare : List (ℕ × Exit × Bool) → List (ℕ × Bool)
+bare [] = []
+bare (t ∷ ts) = (t.0, t.2) ∷ bare ts
 
--- an event that is no Final, and then a run of Finals
-ended_run : (E F : List What) (w : What) (fs : List (ℕ × Bool)) → F ≡ E ++ w ∷ finals fs → ends_of w ≡ [] → ended_rows F ≡ ended_rows E ++ fs
-ended_run E F w fs is no' = ap ended_rows is ∙ flat_map-append ends_of E (w ∷ finals fs) ∙ ap (λ l. ended_rows E ++ (l ++ ended_rows (finals fs))) no' ∙ ap (λ l. ended_rows E ++ l) (ended_finals fs)
+bare_ends : (E : List What) → ended_rows E ≡ bare (noted_ends E)
+bare_ends [] = refl
+bare_ends (Open s p ∷ E) = bare_ends E
+bare_ends (Acquire r s ∷ E) = bare_ends E
+bare_ends (Lease j s ∷ E) = bare_ends E
+bare_ends (Cancel j x ∷ E) = bare_ends E
+bare_ends (Close s x ∷ E) = bare_ends E
+bare_ends (Final r x ok ∷ E) = ap (λ l. (r, ok) ∷ l) (bare_ends E)
 
 module _ {P : Type 0} where
-  shelved : (E F : List What) (xs ys zs : List (Spent P)) → ended_rows F ≡ ended_rows E ++ said zs → ys ≡ xs ++ zs → ended_rows E ≡ said xs → ended_rows F ≡ said ys
-  shelved E F xs ys zs f is e = f ∙ ap (λ l. l ++ said zs) e ∙ sym (said_append xs zs) ∙ ap said (sym is)
+  bare_shelf : (ys : List (Spent P)) → said ys ≡ bare (shelf_ends ys)
+  bare_shelf [] = refl
+  bare_shelf (y ∷ ys) = ap (λ l. (y.row, y.ok) ∷ l) (bare_shelf ys)
 
-module _ {P : Type 0} {ends : P → Bool → P → Type 0} where
-  said_along : {a b : Seen P} {Cs : List (ℕ × List ℕ)} → ended_rows (words a.seat) ≡ said a.shelf → Called ends a Cs b → ended_rows (words b.seat) ≡ said b.shelf
-  said_along e none = e
-  said_along e (opened b c at s h m o) = ended_plain (words b.seat) (words c.seat) (Open s o.parent) (opened_said o) refl ∙ said_along e h ∙ ap said (sym o.shelf)
-  said_along e (acquired b c s r p h m o) = ended_plain (words b.seat) (words c.seat) (Acquire r s) (acquired_said o) refl ∙ said_along e h ∙ ap said (sym o.shelf)
-  said_along e (written b c r p h m o) = subst (λ (x : Seen P). ended_rows (words x.seat) ≡ said x.shelf) (sym o) (said_along e h)
-  said_along e (leased b c s j T h m o) = ended_plain (words b.seat) (words c.seat) (Lease j s) (leased_said o) refl ∙ said_along e h ∙ ap said (sym o.shelf)
-  said_along e (cancelled b c j T h m o) = shelved (words b.seat) (words c.seat) b.shelf c.shelf o.left.0 (ended_run (words b.seat) (words c.seat) (Cancel j) (said o.left.0) (canceled_said o) refl) o.left.1 (said_along e h)
-  said_along e (closed b c s h m o) = shelved (words b.seat) (words c.seat) b.shelf c.shelf o.torn.0 (ended_run (words b.seat) (words c.seat) (Close s) (said o.torn.0) (closed_said o) refl) o.torn.1 (said_along e h)
-  said_along e (split b c j from to n h m o) = subst (λ (x : Seen P). ended_rows (words x.seat) ≡ said x.shelf) (sym o) (said_along e h)
-  said_along e (taken_in b c w h m p o) = subst (λ (x : Seen P). ended_rows (words x.seat) ≡ said x.shelf) (sym o) (ap ended_rows (join_words b.seat w p) ∙ said_along e h)
+  shelf_append : (xs ys : List (Spent P)) → shelf_ends (xs ++ ys) ≡ shelf_ends xs ++ shelf_ends ys
+  shelf_append [] ys = refl
+  shelf_append (x ∷ xs) ys = ap (λ l. (x.row, x.exit, x.ok) ∷ l) (shelf_append xs ys)
+
+  -- nothing ended
+  quiet : (b c : Seen P) (w : What) → words c.seat ≡ words b.seat ++ w ∷ [] → end_of w ≡ [] → c.shelf ≡ b.shelf → noted_ends (words b.seat) ≡ shelf_ends b.shelf → noted_ends (words c.seat) ≡ shelf_ends c.shelf
+  quiet b c w is plain shelf e = ends_run (words b.seat) (words c.seat) [] w is plain ∙ append-nil (noted_ends (words b.seat)) ∙ e ∙ ap shelf_ends (sym shelf)
+
+module _ {P : Type 0} {ends : P → Exit → Bool → P → Type 0} where
+  -- each row that ends does so with the exit that its finalizer was told
+  released_ends : {x : Exit} {h : Holder} {T : List ℕ} {v w : View P} {ys : List (Spent P)} → Released ends x h T v ys w → noted_ends (finals x (said ys)) ≡ shelf_ends ys
+  released_ends (done v) = refl
+  released_ends (stays v u r l t) = released_ends t
+  released_ends {x = x} (ends_so {ys = ys} v u y n l f t) = ap (λ e. (y.row, e, y.ok) ∷ noted_ends (finals x (said ys))) (sym f.exit) ∙ ap (λ l. (y.row, y.exit, y.ok) ∷ l) (released_ends t)
+
+  -- rows ended
+  ended : {x : Exit} {h : Holder} {T : List ℕ} {v u : View P} (b c : Seen P) (w : What) (ys : List (Spent P)) → words c.seat ≡ words b.seat ++ w ∷ finals x (said ys) → end_of w ≡ [] → c.shelf ≡ b.shelf ++ ys → Released ends x h T v ys u → noted_ends (words b.seat) ≡ shelf_ends b.shelf → noted_ends (words c.seat) ≡ shelf_ends c.shelf
+  ended {x = x} b c w ys is plain shelf t e = ends_run (words b.seat) (words c.seat) (finals x (said ys)) w is plain ∙ ap (λ l. l ++ noted_ends (finals x (said ys))) e ∙ ap (λ l. shelf_ends b.shelf ++ l) (released_ends t) ∙ sym (shelf_append b.shelf ys) ∙ ap shelf_ends (sym shelf)
+
+  ends_along : {a b : Seen P} {Cs : List (ℕ × List ℕ)} → noted_ends (words a.seat) ≡ shelf_ends a.shelf → Called ends a Cs b → noted_ends (words b.seat) ≡ shelf_ends b.shelf
+  ends_along e none = e
+  ends_along e (opened b c at s h m o) = quiet b c (Open s o.parent) (opened_said o) refl o.shelf (ends_along e h)
+  ends_along e (acquired b c s r p h m o) = quiet b c (Acquire r s) (acquired_said o) refl o.shelf (ends_along e h)
+  ends_along e (written b c r p h m o) = subst (λ (y : Seen P). noted_ends (words y.seat) ≡ shelf_ends y.shelf) (sym o) (ends_along e h)
+  ends_along e (leased b c s j T h m o) = quiet b c (Lease j s) (leased_said o) refl o.shelf (ends_along e h)
+  ends_along e (cancelled b c j T x h m o) = ended b c (Cancel j x) o.left.0 (canceled_said o) refl o.left.1 o.left.2 (ends_along e h)
+  ends_along e (closed b c s x h m o) = ended b c (Close s x) o.torn.0 (closed_said o) refl o.torn.1 o.torn.2 (ends_along e h)
+  ends_along e (split b c j from to n h m o) = subst (λ (y : Seen P). noted_ends (words y.seat) ≡ shelf_ends y.shelf) (sym o) (ends_along e h)
+  ends_along e (taken_in b c w h m p o) = subst (λ (y : Seen P). noted_ends (words y.seat) ≡ shelf_ends y.shelf) (sym o) (ap noted_ends (join_words b.seat w p) ∙ ends_along e h)
+
+  pub called_ends : {a b : Seen P} {Cs : List (ℕ × List ℕ)} → AtStart a.seat → a.shelf ≡ [] → Called ends a Cs b → noted_ends (words b.seat) ≡ shelf_ends b.shelf
+  called_ends {a = a} s e c = ends_along (ap (λ L. noted_ends (own a.seat.by L)) s.events ∙ ap shelf_ends (sym e)) c
 
   pub called_said : {a b : Seen P} {Cs : List (ℕ × List ℕ)} → AtStart a.seat → a.shelf ≡ [] → Called ends a Cs b → ended_rows (words b.seat) ≡ said b.shelf
-  called_said {a = a} s e c = said_along (ap (λ L. ended_rows (own a.seat.by L)) s.events ∙ ap said (sym e)) c
+  called_said {b = b} s e c = bare_ends (words b.seat) ∙ ap bare (called_ends s e c) ∙ sym (bare_shelf b.shelf)

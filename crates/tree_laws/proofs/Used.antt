@@ -1,5 +1,6 @@
 -- A row in a child of the root, and the root closed.
 use Rattle.std.proofs.Common.{◌≡◌, ℕ, ◌<◌, ◌+◌, Bool, [], ◌∷◌, length, inl, inr, refl, sym, ap, subst}
+use Rattle.chunk_core.specs.declared.code.Exit.{Exit}
 use Rattle.chunk_core.specs.Lists.{IsAmong}
 use Rattle.chunk_core.specs.Lists.IsAmong.{here}
 use Rattle.res_ledger.specs.Own.{closes, opens}
@@ -27,11 +28,11 @@ module _ {P : Type 0} (a b : Seen P) {c : ℕ} (start : AtStart a.seat) (o : Ope
     pub root_open : IsOpenScope d 0
     root_open = all_open d.seat 0 (ap closes (acquire_more (open_one none_said o) q)) (inl refl)
 
-    module _ {ends : P → Bool → P → Type 0} (e : Seen P) (x : Closes ends d 0 e) where
+    module _ {ends : P → Exit → Bool → P → Type 0} (e : Seen P) {y : Exit} (x : Closes ends d 0 y e) where
       pub one_row_alone : StaysAlone a.seat e.seat
       one_row_alone = alone_then _ _ _ (alone_opens o) (alone_then _ _ _ (alone_acquires q) (alone_closes x))
 
       pub one_row_called : 1 < a.scopes → s ≡ c → IsAmong r a.seat.empty → Called ends a [] e
       one_row_called l is m =
           let first = opened a b 0 c none (record { root = (all_open a.seat 0 (ap closes none_said) (inl refl)).1; known = inl refl; room = subst (λ E. length (opens E) + 1 < a.scopes) (sym none_said) l }) o in
-          closed d e 0 (acquired b d s r p first (record { scope = subst (λ z. IsOpenScope b z) (sym is) child_open; row = still_empty m }) q) root_open x
+          closed d e 0 y (acquired b d s r p first (record { scope = subst (λ z. IsOpenScope b z) (sym is) child_open; row = still_empty m }) q) root_open x

@@ -1,21 +1,22 @@
 -- What follows for the ledger, whatever calls were made of a tree.
 use Rattle.std.specs.Prelude.{◌≡◌, ◌↔◌, ◌⊎◌, ℕ, ◌+◌, ◌≤◌, Bool, false, List, [], ◌++◌, length}
+use Rattle.chunk_core.specs.declared.code.Exit.{Exit}
 use Rattle.chunk_core.specs.Lists.{IsAmong}
 use Rattle.res_ledger.specs.declared.event.Event.{Event}
-use Rattle.res_ledger.specs.declared.event.What.TheVariants.{Acquire, Cancel}
-use Rattle.res_ledger.specs.Ledger.{IsFinalized, IsLegal, Notes}
+use Rattle.res_ledger.specs.declared.event.What.TheVariants.{Acquire}
+use Rattle.res_ledger.specs.Ledger.{IsFinalized, IsLegal, Notes, NotesCancel}
 use Rattle.res_ledger.specs.Order.{IsOrdered, covered_by}
 use Rattle.res_ledger.specs.Own.{opens}
 use Rattle.res_ledger.specs.Streams.{by_stream}
 use Rattle.res_ledger.specs.Whole.{IsComplete}
-use Rattle.res_ledger.proofs.Orders.{Rises}
+use Rattle.res_ledger.specs.Rising.{Rises}
 use Rattle.row_seat.specs.declared.view.View.{View}
 use Rattle.row_seat.specs.Views.{AreApart, AtRest, CanFinish, CanJoin, IsLedgerOf, above, joined, paid, split_off}
 use Rattle.scope_tree.specs.Calls.{Acquires, AtStart, Cancels, Closes, IsClosedScope, Leases, Opens, Seen}
 use Rattle.scope_tree.specs.Tidy.{IsTidy}
 use Rattle.scope_tree.specs.declared.tree.Tree.{Tree}
 use Rattle.scope_tree.specs.declared.branch.Spent.{Spent}
-use Rattle.scope_tree.specs.Torn.{said}
+use Rattle.scope_tree.specs.Released.{said}
 use Rattle.scope_tree.specs.Trees.{IsSound, seen}
 use Rattle.scope_tree.specs.Words.{ended_rows, own_rows, words}
 use Rattle.tree_laws.specs.Called.{Called, MayCancel, MayLease}
@@ -23,12 +24,13 @@ use Rattle.tree_laws.specs.Alone.{HasNoMoreLeases, HasNoOthers, StaysAlone}
 use Rattle.tree_laws.specs.Ends.{AreCovered, IsFinished}
 use Rattle.tree_laws.specs.Given.{WasGiven}
 use Rattle.tree_laws.specs.Lent.{Lent}
+use Rattle.tree_laws.specs.Shelves.{noted_ends, shelf_ends}
 use Rattle.tree_laws.specs.Names.{IsFloored, IsNamed}
 use Rattle.tree_laws.specs.Visits.{HasNothingOpen, IsNewGuest, Visits}
 use Rattle.tree_laws.specs.Whole.{IsCompleteFor, IsWhole, IsWholeFor}
 use Rattle.res_ledger.specs.Order.{IsInOrder}
 
-module _ {P : Type 0} (ends : P → Bool → P → Type 0) where
+module _ {P : Type 0} (ends : P → Exit → Bool → P → Type 0) where
   -- calls, and calls after them, are calls
   abbrev pub CallsFollow : Type 0
   CallsFollow = (a b c : Seen P) (Cs Ds : List (ℕ × List ℕ)) → Called ends a Cs b → Called ends b Ds c → Called ends a (Cs ++ Ds) c
@@ -40,6 +42,10 @@ module _ {P : Type 0} (ends : P → Bool → P → Type 0) where
   -- since the start, with an empty shelf, the shelf has the Finals that were noted, in order
   abbrev pub ShelfIsSaid : Type 0
   ShelfIsSaid = (a b : Seen P) (Cs : List (ℕ × List ℕ)) → AtStart a.seat → a.shelf ≡ [] → Called ends a Cs b → ended_rows (words b.seat) ≡ said b.shelf
+
+  -- each of these Finals has the exit that the row on the shelf was finished with
+  abbrev pub ShelfHasExits : Type 0
+  ShelfHasExits = (a b : Seen P) (Cs : List (ℕ × List ℕ)) → AtStart a.seat → a.shelf ≡ [] → Called ends a Cs b → noted_ends (words b.seat) ≡ shelf_ends b.shelf
 
   -- since the start, the stamps of the stream's events rise
   abbrev pub StampsRise : Type 0
@@ -55,7 +61,7 @@ module _ {P : Type 0} (ends : P → Bool → P → Type 0) where
 
   -- a lease that was cancelled has its Cancel
   abbrev pub CancelsAreNoted : Type 0
-  CancelsAreNoted = (a b : Seen P) (Cs : List (ℕ × List ℕ)) (j : ℕ) (T : List ℕ) → Called ends a Cs b → IsAmong (j, T) Cs → Notes b.seat.events b.seat.by (Cancel j)
+  CancelsAreNoted = (a b : Seen P) (Cs : List (ℕ × List ℕ)) (j : ℕ) (T : List ℕ) → Called ends a Cs b → IsAmong (j, T) Cs → NotesCancel b.seat.events b.seat.by j
 
   -- each event of a seat that had none, and had no seat out, is in its own name or in that of a seat that it took in
   abbrev pub EventsAreNamed : Type 0
@@ -81,7 +87,7 @@ module _ {P : Type 0} (ends : P → Bool → P → Type 0) where
   pub record SubTrees : Type 0 where
     pub own : (a b : Seen P) (Cs : List (ℕ × List ℕ)) → a.seat.main ≡ false → Called ends a Cs b → (e : Event) → IsAmong e b.seat.events → IsAmong e a.seat.events ⊎ (e.by ≡ b.seat.by)
     pub leaseless : (a b : Seen P) (Cs : List (ℕ × List ℕ)) → a.seat.main ≡ false → Called ends a Cs b → HasNoMoreLeases a.seat.events b.seat.events
-    pub canceled : (a b : Seen P) (Cs : List (ℕ × List ℕ)) (j : ℕ) → a.seat.main ≡ false → a.seat.had ≡ [] → Called ends a Cs b → b.seat.kept ≡ [] → IsAmong j a.seat.kept → Notes b.seat.events b.seat.by (Cancel j)
+    pub canceled : (a b : Seen P) (Cs : List (ℕ × List ℕ)) (j : ℕ) → a.seat.main ≡ false → a.seat.had ≡ [] → Called ends a Cs b → b.seat.kept ≡ [] → IsAmong j a.seat.kept → NotesCancel b.seat.events b.seat.by j
 
   -- once its own lease is cancelled, its root closed and nothing is open, the seat of a guest is at rest
   abbrev pub GuestsRest : Type 0
@@ -109,20 +115,20 @@ module _ {P : Type 0} (ends : P → Bool → P → Type 0) where
 
   -- so for a tree that made one lease and cancelled it itself
   abbrev pub OneLeaseIsWhole : Type 0
-  OneLeaseIsWhole = (a b c d e f : Seen P) (s j : ℕ) (T : List ℕ) (u : View P) (L : List Event) → AtStart a.seat → Called ends a [] b → MayLease b s j → Leases b s j T c → Called ends c [] d → MayCancel d j T → Cancels ends d j T e → Called ends e [] f → IsFinished f u L → IsClosedScope f 0 → IsWholeFor L f.seat.by
+  OneLeaseIsWhole = (a b c d e f : Seen P) (s j : ℕ) (T : List ℕ) (x : Exit) (u : View P) (L : List Event) → AtStart a.seat → Called ends a [] b → MayLease b s j → Leases b s j T c → Called ends c [] d → MayCancel d j T → Cancels ends d j T x e → Called ends e [] f → IsFinished f u L → IsClosedScope f 0 → IsWholeFor L f.seat.by
 
   -- each of these calls leaves a tree alone, and so do several
   pub record CallsStayAlone : Type 0 where
     pub opens : (a b : Seen P) (at c : ℕ) → Opens a at c b → StaysAlone a.seat b.seat
     pub acquires : (a b : Seen P) (s r : ℕ) (p : P) → Acquires a s r p b → StaysAlone a.seat b.seat
     pub writes : (v : View P) (r : ℕ) (p : P) → StaysAlone v (paid v r p)
-    pub closes : (a b : Seen P) (s : ℕ) → Closes ends a s b → StaysAlone a.seat b.seat
+    pub closes : (a b : Seen P) (s : ℕ) (x : Exit) → Closes ends a s x b → StaysAlone a.seat b.seat
     pub none : (v : View P) → StaysAlone v v
     pub follow : (u v w : View P) → StaysAlone u v → StaysAlone v w → StaysAlone u w
 
   -- a cancellation notes no Lease
   abbrev pub CancelsAreLeaseless : Type 0
-  CancelsAreLeaseless = (a b : Seen P) (j : ℕ) (T : List ℕ) → Cancels ends a j T b → HasNoMoreLeases a.seat.events b.seat.events
+  CancelsAreLeaseless = (a b : Seen P) (j : ℕ) (T : List ℕ) (x : Exit) → Cancels ends a j T x b → HasNoMoreLeases a.seat.events b.seat.events
 
   -- once the root of a tree that stayed alone is closed the ledger is legal, complete and in order
   abbrev pub AloneIsWhole : Type 0
@@ -150,4 +156,4 @@ WholeForEach = (L : List Event) → ((e : Event) → IsAmong e L → IsWholeFor 
 
 -- where no other seat can hold a row back and the root is closed, each row that the tree acquired has its Final
 abbrev pub RowsHaveEnded : {S P : Type 0} → (S → View P) → Type 0 → Type 0
-RowsHaveEnded {S} {P} view D = (t : Tree S P D) → IsSound view t → (view t.seat).main ≡ false → IsClosedScope (seen view t) 0 → (r s : ℕ) → Notes (view t.seat).events (view t.seat).by (Acquire r s) → IsFinalized (view t.seat).events r
+RowsHaveEnded {S} {P} view D = (t : Tree S P D) → IsSound view t → (seen view t).seat.main ≡ false → IsClosedScope (seen view t) 0 → (r s : ℕ) → Notes (seen view t).seat.events (seen view t).seat.by (Acquire r s) → IsFinalized (seen view t).seat.events r

@@ -4,6 +4,7 @@ pub mod Whole
 pub mod Alone
 pub mod Ends
 pub mod Names
+pub mod Shelves
 pub mod Given
 pub mod Visits
 pub mod Owing

@@ -1,5 +1,6 @@
 -- What the tree of a stream does, from the split of its seat to the end.
 use Rattle.std.specs.Prelude.{◌≡◌, ◌↔◌, ℕ, Bool, false, List, [], ◌∷◌}
+use Rattle.chunk_core.specs.declared.code.Exit.{Exit}
 use Rattle.chunk_core.specs.Lists.{IsAmong}
 use Rattle.res_ledger.specs.declared.event.StreamNo.TheVariants.{Inner}
 use Rattle.res_ledger.specs.Ledger.{IsAcquired}
@@ -23,7 +24,7 @@ module _ {P : Type 0} where
     pub pairs : (i r : ℕ) → IsAmong (i, r) v.pairs ↔ ((i ≡ j) × IsAmong r T)
 
   -- all that the tree of such a seat did, to y: of leases it cancelled its own alone, and it closed its root
-  pub record Visits (ends : P → Bool → P → Type 0) (j n : ℕ) (T : List ℕ) (y : Seen P) : Type 0 where
+  pub record Visits (ends : P → Exit → Bool → P → Type 0) (j n : ℕ) (T : List ℕ) (y : Seen P) : Type 0 where
     pub first : Seen P
     pub guest : IsNewGuest first.seat j n T
     pub calls : Called ends first ((j, T) ∷ []) y

@@ -1,6 +1,6 @@
 //! Laws of all that was done to a tree, each the contract of a function that does nothing.
 ghost use Rattle.res_ledger.specs.declared.event.StreamNo.TheVariants.{Inner, Outer};
-ghost use Rattle.tree_laws.specs.Laws.{AloneCanFinish, AloneIsWhole, CallsAreTidy, CallsFollow, CallsStayAlone, CancelsAreLeaseless, CancelsAreNoted, EventsAreFloored, EventsAreNamed, EventsStay, GuestsRest, JoinedIsFinished, LeaseIsLent, LedgerHasEvents, LedgerIsComplete, LedgerIsInOrder, LedgerIsWhole, LentIsCovered, LentIsOwn, OneLeaseIsWhole, OwnLeasesAreCovered, RowsHaveEnded, ScopesFit, ShelfIsGiven, ShelfIsSaid, SplitsMakeGuests, StampsRise, SubTrees, WholeForEach};
+ghost use Rattle.tree_laws.specs.Laws.{AloneCanFinish, AloneIsWhole, CallsAreTidy, CallsFollow, CallsStayAlone, CancelsAreLeaseless, CancelsAreNoted, EventsAreFloored, EventsAreNamed, EventsStay, GuestsRest, JoinedIsFinished, LeaseIsLent, LedgerHasEvents, LedgerIsComplete, LedgerIsInOrder, LedgerIsWhole, LentIsCovered, LentIsOwn, OneLeaseIsWhole, OwnLeasesAreCovered, RowsHaveEnded, ScopesFit, ShelfHasExits, ShelfIsGiven, ShelfIsSaid, SplitsMakeGuests, StampsRise, SubTrees, WholeForEach};
 ghost use Rattle.tree_laws.specs.Owing.{OwedStays, RootOwesNothing};
 ghost use Rattle.tree_laws.specs.Refused.{IsLegalButNotWhole, first_row_first, lease_left_over, row_left_over};
 ghost use Rattle.tree_laws.specs.Whole.{IsWholeFor};
@@ -17,6 +17,7 @@ pub fn calls_follow<P: Finish>()
 pub fn what_is_noted<P: Finish>()
     ensures tidy { CallsAreTidy P.ends }
     ensures shelf { ShelfIsSaid P.ends }
+    ensures exits { ShelfHasExits P.ends }
     ensures rises { StampsRise P.ends }
     ensures stays { EventsStay P.ends }
     ensures cancels { CancelsAreNoted P.ends }

@@ -4,7 +4,7 @@ ghost use Rattle.res_ledger.specs.declared.event.StreamNo.TheVariants.{Outer};
 ghost use Rattle.row_seat.specs.Views.{start};
 ghost use Rattle.tree_laws.specs.Whole.{IsWhole};
 
-use chunk_core::List;
+use chunk_core::{Exit, List};
 use res_ledger::{Ledger, StreamNo};
 use row_seat::{PlainSeat, RowSeat};
 use scope_tree::{Finish, Room, Spent, Tree};
@@ -20,14 +20,14 @@ pub fn one_row<S: RowSeat>(
 where
     S::Pay: Finish,
     requires fits { S.fits seat desk.old }
-    requires start { S.view seat ≡ start Outer 1 8 }
+    requires start { S.view seat ≡ start Outer 1 8 (S.view seat).splits }
     requires room { (2 ≤ room.scopes) × (1 ≤ room.rows) }
     ensures whole { IsWhole result.0 }
 {
     let mut tree = Tree::new(seat, room);
     let child = tree.open(desk, 0);
     tree.acquired(desk, child, 0, pay);
-    tree.close(desk, 0);
+    tree.close(desk, 0, Exit::Succeeded);
     let (seat, shelf) = tree.end();
     let ledger = seat.finish(desk);
     (ledger, shelf)
@@ -42,9 +42,9 @@ struct Coin {
 impl Finish for Coin {
     ghost use Rattle.std.specs.Prelude.{◌≡◌, true};
 
-    ghost ends = { λ p ok q. (ok ≡ true) × (q ≡ p) };
+    ghost ends = { λ p x ok q. (ok ≡ true) × (q ≡ p) };
 
-    fn finish(&mut self) -> bool {
+    fn finish(&mut self, _exit: Exit) -> bool {
         true
     }
 }

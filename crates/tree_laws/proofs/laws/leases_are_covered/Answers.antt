@@ -10,5 +10,5 @@ returns g c = record {
   covered = λ v L j T l legal is. lent_covered v L j T l legal is;
   rows = λ v j T l r m. lent_own v j T l r m;
   own = λ a b Cs u L start calls end lent. own_leases_covered u L start calls end lent;
-  cancels = λ a b j T o. cancels_leaseless o;
+  cancels = λ a b j T x o. cancels_leaseless o;
 }

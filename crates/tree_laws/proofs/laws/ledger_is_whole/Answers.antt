@@ -7,5 +7,5 @@ returns g c = record {
   order = λ a b Cs u L start calls end covered. called_in_order u L start calls end covered;
   complete = λ a b Cs u L start calls end root. called_complete u L start calls end root;
   whole = λ a b Cs u L start calls end root covered. called_whole u L start calls end root covered;
-  one_lease = λ a b d e f h s j T u L start first may lease then may' cancel last end root. one_lease_whole u L start first may lease then may' cancel last end root;
+  one_lease = λ a b d e f h s j T x u L start first may lease then may' cancel last end root. one_lease_whole u L start first may lease then may' cancel last end root;
 }
