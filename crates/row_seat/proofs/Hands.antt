@@ -1,14 +1,16 @@
 -- The payloads that a seat holds, by row.
-use Rattle.std.proofs.Common.{◌≡◌, ◌≢◌, ℕ, ◌<◌, zero, suc, true, false, cond, eqb, List, [], ◌∷◌, ◌⊎◌, length, slice_index_or, remove, inl, inr, refl, sym, ap, subst, ⊎_elim, arith, ne_eqb, eq-eqb}
+use Rattle.std.proofs.Common.{◌≡◌, ◌≢◌, ◌∙◌, ℕ, ◌<◌, zero, suc, true, false, cond, eqb, List, [], ◌∷◌, ◌⊎◌, length, slice_index_or, remove, inl, inr, refl, sym, ap, subst, ⊎_elim, arith, ne_eqb, eq-eqb}
+use Rattle.std.proofs.lemmas.Bool.{cases_eq}
 use Rattle.chunk_core.specs.Lists.{IsAmong}
 use Rattle.chunk_core.specs.Lists.IsAmong.{here, there}
+use Rattle.chunk_core.proofs.Filters.{among_at}
 use Rattle.chunk_core.proofs.Members.{among_cons, among_nil}
 use Rattle.row_seat.specs.Views.{HasRow, without_row}
 use Rattle.row_seat.specs.Hands.{rows_of, spot}
 use Rattle.row_seat.specs.Steps.{without_one}
 
 module _ {P : Type 0} where
-  among_rows : (x : ℕ × P) (xs : List (ℕ × P)) → IsAmong x xs → IsAmong x.0 (rows_of xs)
+  pub among_rows : (x : ℕ × P) (xs : List (ℕ × P)) → IsAmong x xs → IsAmong x.0 (rows_of xs)
   among_rows x xs (here ys) = here (rows_of ys)
   among_rows x xs (there y m) = there y.0 (among_rows x _ m)
 
@@ -46,10 +48,28 @@ module _ {P : Type 0} where
   spot_is r (x ∷ xs) zero l at before = subst (λ b. cond b 0 (suc (spot r xs)) ≡ 0) (sym (eq-eqb x.0 r (at x))) refl
   spot_is r (x ∷ xs) (suc i) l at before = subst (λ b. cond b 0 (suc (spot r xs)) ≡ suc i) (sym (ne_eqb x.0 r (before 0 x (omega arith)))) (ap suc (spot_is r xs i (omega arith) at (λ k e h. before (suc k) e (omega arith))))
 
-  module _ (r : ℕ) where
-    pub without_row_at : (xs : List (ℕ × P)) (i : ℕ) → i < length xs → ((d : ℕ × P) → (slice_index_or xs i d).0 ≡ r) → ((k : ℕ) (d : ℕ × P) → k < i → (slice_index_or xs k d).0 ≢ r) → without_row r xs ≡ remove xs i
-    without_row_at [] i l at before = absurd (omega arith)
-    without_row_at (x ∷ xs) zero l at before = subst (λ b. cond b xs (x ∷ without_row r xs) ≡ remove (x ∷ xs) 0) (sym (eq-eqb x.0 r (at x))) refl
-    without_row_at (x ∷ xs) (suc i) l at before =
-        subst (λ b. cond b xs (x ∷ without_row r xs) ≡ remove (x ∷ xs) (suc i)) (sym (ne_eqb x.0 r (before 0 x (omega arith))))
-        (ap (λ t. x ∷ t) (without_row_at xs i (omega arith) at (λ k e h. before (suc k) e (omega arith))))
+  -- where a row of the hands stands
+  pub spot_within : (r : ℕ) (xs : List (ℕ × P)) → HasRow xs r → spot r xs < length xs
+  spot_within r [] h = absurd (has_nil r h)
+  spot_within r (x ∷ xs) h = ⊎_elim
+      (λ e. subst (λ b. cond b 0 (suc (spot r xs)) < suc (length xs)) (sym (eq-eqb x.0 r e)) (omega arith))
+      (λ ne. subst (λ b. cond b 0 (suc (spot r xs)) < suc (length xs)) (sym (ne_eqb x.0 r ne)) (let t = spot_within r xs (⊎_elim (λ e. absurd (ne e)) (λ m. m) (has_cons x xs r h)) in omega arith))
+      (cases_eq x.0 r)
+
+  pub spot_row : (r : ℕ) (xs : List (ℕ × P)) (d : ℕ × P) → HasRow xs r → (slice_index_or xs (spot r xs) d).0 ≡ r
+  spot_row r [] d h = absurd (has_nil r h)
+  spot_row r (x ∷ xs) d h = ⊎_elim
+      (λ e. subst (λ b. (slice_index_or (x ∷ xs) (cond b 0 (suc (spot r xs))) d).0 ≡ r) (sym (eq-eqb x.0 r e)) e)
+      (λ ne. subst (λ b. (slice_index_or (x ∷ xs) (cond b 0 (suc (spot r xs))) d).0 ≡ r) (sym (ne_eqb x.0 r ne)) (spot_row r xs d (⊎_elim (λ e. absurd (ne e)) (λ m. m) (has_cons x xs r h))))
+      (cases_eq x.0 r)
+
+  pub spot_among : (r : ℕ) (xs : List (ℕ × P)) (x : ℕ × P) → HasRow xs r → x ≡ slice_index_or xs (spot r xs) x → (x.0 ≡ r) × IsAmong (r, x.1) xs
+  spot_among r xs x h at = let head : x.0 ≡ r = ap (λ z. z.0) at ∙ spot_row r xs x h in
+      (head, subst (λ (n : ℕ). IsAmong (n, x.1) xs) head (subst (λ z. IsAmong z xs) (sym at) (among_at xs (spot r xs) x (spot_within r xs h))))
+
+  pub spot_removed : (r : ℕ) (xs : List (ℕ × P)) → HasRow xs r → remove xs (spot r xs) ≡ without_row r xs
+  spot_removed r [] h = absurd (has_nil r h)
+  spot_removed r (x ∷ xs) h = ⊎_elim
+      (λ e. subst (λ b. remove (x ∷ xs) (cond b 0 (suc (spot r xs))) ≡ cond b xs (x ∷ without_row r xs)) (sym (eq-eqb x.0 r e)) refl)
+      (λ ne. subst (λ b. remove (x ∷ xs) (cond b 0 (suc (spot r xs))) ≡ cond b xs (x ∷ without_row r xs)) (sym (ne_eqb x.0 r ne)) (ap (λ t. x ∷ t) (spot_removed r xs (⊎_elim (λ e. absurd (ne e)) (λ m. m) (has_cons x xs r h)))))
+      (cases_eq x.0 r)

@@ -3,7 +3,7 @@ use Rattle.std.proofs.Common.{◌≡◌, ◌≢◌, ℕ, ◌^◌, ◌<◌, ◌�
 use Rattle.std.specs.Prelude.{Some, Option}
 use Rattle.res_ledger.specs.declared.event.What.TheVariants.{Acquire, Lease}
 use Rattle.row_seat.specs.Totals.{IsAt, pair_times, row_times, stamp_times, times}
-use Rattle.row_seat.specs.Rule.{Book, BooksAgree, DeedsAgree, GivenIn, Hold, LeasesAgree, LeftIn, PaysAgree, Purse, RowsAgree, IsBlank, RuleHolds, SeatsAgree, Who, Work, book, deed, empties, hands, hold, leases, opens, purse, who, work}
+use Rattle.row_seat.specs.Rule.{Book, BooksAgree, DeedsAgree, GivenIn, Hold, LeasesAgree, LeftIn, PaysAgree, Purse, RowsAgree, IsBlank, IsSeated, RuleHolds, SeatsAgree, Who, Work, book, deed, empties, hands, hold, leases, opens, purse, who, work}
 use Rattle.res_ledger.specs.Ledger.{Covers, IsCanceled, IsLeased, Notes}
 use Rattle.res_ledger.specs.declared.event.Event.{Event}
 use Rattle.res_ledger.specs.Streams.{HasRight, by_stream}
@@ -23,22 +23,25 @@ use Rattle.row_seat.proofs.Ticked.{live_not}
 use Rattle.row_seat.specs.Views.{name_of}
 use Rattle.row_seat.proofs.Totals.{one_at}
 use Rattle.row_seat.proofs.Tick.{stands_is}
+use Rattle.row_seat.proofs.Parts.{pays_same}
 use Rattle.row_seat.proofs.Times.{stamp_both, times_both}
 use Rattle.row_seat.proofs.Splits.{true_or}
 
-module _ {P : Type 0} (rows room : ℕ) (word : ℕ → ℕ) (slot : ℕ → Option P) (log : List Event) (views : List (Token P)) (rule : RuleHolds rows room word slot log views) (id : ℕ) (v : Token P) (at : IsAt views id v) (live : v.live ≡ true)
-    (jd : ℕ) (w : Token P) (at' : IsAt views jd w) (live' : w.live ≡ true) (main : v.main ≡ true) (n : ℕ) (by : w.by ≡ Inner n) (out : IsAmong n v.out) (no_open : w.opened ≡ []) (no_pair : w.pairs ≡ []) (no_kept : w.kept ≡ []) (no_hand : w.handed ≡ []) where
+module _ {P : Type 0} {rows room : ℕ} {word : ℕ → ℕ} {slot : ℕ → Option P} {log : List Event} {views : List (Token P)} (rule : RuleHolds rows room word slot log views) {id : ℕ} {v : Token P} (seat : IsSeated views id v)
+    {jd : ℕ} {w : Token P} (other : IsSeated views jd w) (main : v.main ≡ true) (n : ℕ) (by : w.by ≡ Inner n) (out : IsAmong n v.out) (no_open : w.opened ≡ []) (no_pair : w.pairs ≡ []) (no_kept : w.kept ≡ []) (no_hand : w.handed ≡ []) where
+  open seat use {at, live}
+
   aw : IsAt (map who views) id (who v)
   aw = at_map who views id v at
 
   aw' : IsAt (map who views) jd (who w)
-  aw' = at_map who views jd w at'
+  aw' = at_map who views jd w other.at
 
   foreign : v.by ≢ Inner n
   foreign = rule.seats.apart id n (who v) aw main (rule.seats.had id n (who v) aw main out)
 
   pub apart : id ≢ jd
-  apart e = foreign (ap (λ (x : Token P). x.by) (one_at views jd v w (subst (λ k. IsAt views k v) e at) at') ∙ by)
+  apart e = foreign (ap (λ (x : Token P). x.by) (one_at views jd v w (subst (λ k. IsAt views k v) e at) other.at) ∙ by)
 
   side : w.main ≡ false
   side = ⊎_elim (λ m. absurd (apart (rule.seats.one id jd (who v) (who w) aw aw' main m))) (λ f. f) (true_or w.main)
@@ -59,7 +62,7 @@ module _ {P : Type 0} (rows room : ℕ) (word : ℕ → ℕ) (slot : ℕ → Opt
         out = λ i l u z g g' m lv f. subst (λ (y : Who). (x : ℕ) × (z.by ≡ Inner x) × IsAmong x y.out) (only i u g m).1
             (⊎_elim (λ t. absurd (live_not main (ap (λ (y : Who). y.main) t.1 ∙ f)))
             (λ o. ⊎_elim (λ t. absurd (live_not lv (ap (λ (y : Who). y.live) (sym t.1))))
-            (λ t. let s = k.out id l (who v) z aw t.2 main lv f in (s.0, s.1, among_kept (name_of w.by) v.out s.0 s.2 (λ e. t.1 (k.names l jd z (who w) t.2 aw' lv live' (s.1 ∙ (ap Inner (e ∙ is) ∙ sym by)))))) o)
+            (λ t. let s = k.out id l (who v) z aw t.2 main lv f in (s.0, s.1, among_kept (name_of w.by) v.out s.0 s.2 (λ e. t.1 (k.names l jd z (who w) t.2 aw' lv other.live (s.1 ∙ (ap Inner (e ∙ is) ∙ sym by)))))) o)
             (sorted_two ws id jd (who v) (who w) (who ma) (who nb) aw aw' apart l z g'));
         had = λ i x u g m a. subst (λ (y : Who). IsAmong x y.had) (only i u g m).1 (k.had id x (who v) aw main (among_without (name_of w.by) v.out x (subst (λ (y : Who). IsAmong x y.out) (sym (only i u g m).1) a)).0);
         apart = λ i x u g m a. subst (λ (y : Who). y.by ≢ Inner x) (only i u g m).1 (k.apart id x (who v) aw main (subst (λ (y : Who). IsAmong x y.had) (sym (only i u g m).1) a));
@@ -72,7 +75,7 @@ module _ {P : Type 0} (rows room : ℕ) (word : ℕ → ℕ) (slot : ℕ → Opt
       }
 
   books' : BooksAgree room log (slice_set (slice_set (map book views) id (book ma)) jd (book nb))
-  books' = let bs = map book views in let k = rule.books in let ab = at_map book views id v at in let ab' = at_map book views jd w at' in
+  books' = let bs = map book views in let k = rule.books in let ab = at_map book views id v at in let ab' = at_map book views jd w other.at in
       let E = each_two bs id jd (book v) (book w) (book ma) (book nb) ab ab' apart in record {
         stamped = k.stamped;
         legal = k.legal;
@@ -104,7 +107,7 @@ module _ {P : Type 0} (rows room : ℕ) (word : ℕ → ℕ) (slot : ℕ → Opt
       }
 
   words' : RowsAgree rows word log (slice_set (slice_set (map work views) id (work ma)) jd (work nb))
-  words' r = let ws = map work views in let ak = at_map work views id v at in let ak' = at_map work views jd w at' in
+  words' r = let ws = map work views in let ak = at_map work views id v at in let ak' = at_map work views jd w other.at in
       let T = total_both ws id jd (work v) (work w) (work ma) (work nb) ak ak' apart in
       let a = T (λ (u : Work). times r u.empty) in let b = T (λ (u : Work). times r u.opened) in let c = T (λ (u : Work). row_times r u.pairs) in let d = T (λ (u : Work). times r u.handed) in
       let m = times_both r v.empty w.empty in
@@ -117,7 +120,7 @@ module _ {P : Type 0} (rows room : ℕ) (word : ℕ → ℕ) (slot : ℕ → Opt
       stands_is (rule.words r) refl ea eb ec ed
 
   deeds' : DeedsAgree log (slice_set (slice_set (map deed views) id (deed ma)) jd (deed nb))
-  deeds' = let ds = map deed views in let k = rule.deeds in let ad = at_map deed views id v at in let ad' = at_map deed views jd w at' in
+  deeds' = let ds = map deed views in let k = rule.deeds in let ad = at_map deed views id v at in let ad' = at_map deed views jd w other.at in
       let E = each_two ds id jd (deed v) (deed w) (deed ma) (deed nb) ad ad' apart in record {
         fresh = λ i r t q u. E (λ i u. IsAmong r u.empty → Notes log q (Acquire r t) → Notes u.events q (Acquire r t))
             (λ m x. ⊎_elim (λ o. let f = k.fresh id r t q (deed v) ad o x in (f.0, among_left w.events f.1, f.2, f.3)) (λ o. let f = k.fresh jd r t q (deed w) ad' o x in (f.0, among_right f.0 v.events w.events f.1, f.2, f.3)) (among_append r v.empty w.empty m))
@@ -127,7 +130,7 @@ module _ {P : Type 0} (rows room : ℕ) (word : ℕ → ℕ) (slot : ℕ → Opt
       }
 
   leases' : LeasesAgree log (slice_set (slice_set (map hold views) id (hold ma)) jd (hold nb))
-  leases' = let hs = map hold views in let k = rule.leases in let ah = at_map hold views id v at in let ah' = at_map hold views jd w at' in
+  leases' = let hs = map hold views in let k = rule.leases in let ah = at_map hold views id v at in let ah' = at_map hold views jd w other.at in
       let E = each_two hs id jd (hold v) (hold w) (hold ma) (hold nb) ah ah' apart in let S = some_two hs id jd (hold v) (hold w) (hold ma) (hold nb) ah ah' apart in let T = total_both hs id jd (hold v) (hold w) (hold ma) (hold nb) ah ah' apart in record {
         by_main = λ i a b q u. E (λ i u. u.main ≡ true → Notes log q (Lease a b) → q ≡ u.by) (k.by_main id a b q (hold v) ah) (λ m. absurd (bool_not (sym m))) (λ i u ne me g. k.by_main i a b q u g) i u;
         stand = λ a r q c. ⊎_elim (λ x. inl x) (λ x. inr (S (λ (u : Hold). IsAmong (a, r) u.pairs) (λ m. m) (λ m. absurd (among_nil (subst (λ l. IsAmong (a, r) l) no_pair m))) x)) (k.stand a r q c);
@@ -140,20 +143,15 @@ module _ {P : Type 0} (rows room : ℕ) (word : ℕ → ℕ) (slot : ℕ → Opt
       }
 
   pays' : PaysAgree word slot log (slice_set (slice_set (map purse views) id (purse ma)) jd (purse nb))
-  pays' = let ps = map purse views in let k = rule.pays in let ap' = at_map purse views id v at in let aq = at_map purse views jd w at' in let qs = slice_set (slice_set ps id (purse ma)) jd (purse nb) in
+  pays' = let ps = map purse views in let k = rule.pays in let ap' = at_map purse views id v at in let aq = at_map purse views jd w other.at in let qs = slice_set (slice_set ps id (purse ma)) jd (purse nb) in
       let left : (q : ℕ) (y : P) → LeftIn qs q y → LeftIn ps q y = λ q y. two_back ps id jd (purse v) (purse w) (purse ma) (purse nb) ap' aq apart (λ (u : Purse P). IsAmong (q, y) u.left) (λ m. among_append (q, y) v.left w.left m) (λ m. among_nil m) in
       let left' : (q : ℕ) (y : P) → LeftIn ps q y → LeftIn qs q y = λ q y. some_two ps id jd (purse v) (purse w) (purse ma) (purse nb) ap' aq apart (λ (u : Purse P). IsAmong (q, y) u.left) (λ m. among_left w.left m) (λ m. among_right (q, y) v.left w.left m) in
       let given : (q : ℕ) (y : P) → GivenIn qs q y → GivenIn ps q y = λ q y. two_back ps id jd (purse v) (purse w) (purse ma) (purse nb) ap' aq apart (λ (u : Purse P). IsAmong (q, y) u.given) (λ m. among_append (q, y) v.given w.given m) (λ m. among_nil m) in
-      let given' : (q : ℕ) (y : P) → GivenIn ps q y → GivenIn qs q y = λ q y. some_two ps id jd (purse v) (purse w) (purse ma) (purse nb) ap' aq apart (λ (u : Purse P). IsAmong (q, y) u.given) (λ m. among_left w.given m) (λ m. among_right (q, y) v.given w.given m) in record {
-        left_when = λ q y l. k.left_when q y (left q y l);
-        given_when = λ q y g. k.given_when q y (given q y g);
-        left_one = λ q y z a b. k.left_one q y z (left q y a) (left q z b);
-        given_is = λ q y g. left' q y (k.given_is q y (given q y g));
-        waits = λ q m e le. let t = k.waits q m e le in (t.0, left' q t.0 t.1, t.2);
-        handed = λ i q u. each_two ps id jd (purse v) (purse w) (purse ma) (purse nb) ap' aq apart (λ i u. IsAmong q u.handed → (y : P) × IsAmong (q, y) u.given × (¬ (IsAmong q u.taken) → slot q ≡ Some y))
-            (λ m. let t = k.handed id q (purse v) ap' m in (t.0, among_left w.given t.1, t.2)) (λ m. absurd (among_nil m)) (λ i u ne me g. k.handed i q u g) i u;
-        final = λ q f. let t = k.final q f in (t.0, given' q t.0 t.1);
-      }
+      let given' : (q : ℕ) (y : P) → GivenIn ps q y → GivenIn qs q y = λ q y. some_two ps id jd (purse v) (purse w) (purse ma) (purse nb) ap' aq apart (λ (u : Purse P). IsAmong (q, y) u.given) (λ m. among_left w.given m) (λ m. among_right (q, y) v.given w.given m) in
+      pays_same k left left' given (λ q m e le. refl)
+      (λ i q u. each_two ps id jd (purse v) (purse w) (purse ma) (purse nb) ap' aq apart (λ i u. IsAmong q u.handed → (y : P) × IsAmong (q, y) u.given × (¬ (IsAmong q u.taken) → slot q ≡ Some y))
+      (λ m. let t = k.handed id q (purse v) ap' m in (t.0, among_left w.given t.1, t.2)) (λ m. absurd (among_nil m)) (λ i u ne me g. k.handed i q u g) i u)
+      (λ q f. let t = k.final q f in (t.0, given' q t.0 t.1))
 
   pub join_keeps : RuleHolds rows room word slot log (slice_set (slice_set views id (joined v w)) jd (spent w))
   join_keeps = record {
@@ -163,6 +161,6 @@ module _ {P : Type 0} (rows room : ℕ) (word : ℕ → ℕ) (slot : ℕ → Opt
     deeds = subst (λ l. DeedsAgree log l) (sym (map_two deed views id jd ma nb)) deeds';
     leases = subst (λ l. LeasesAgree log l) (sym (map_two hold views id jd ma nb)) leases';
     pays = subst (λ l. PaysAgree word slot log l) (sym (map_two purse views id jd ma nb)) pays';
-    spent = each_two views id jd v w ma nb at at' apart (λ i u. u.live ≡ false → IsBlank u) (λ f. absurd (live_not live f)) (λ f. record { empty = refl; opened = refl; pairs = refl; kept = refl; handed = refl; given = refl; left = refl; events = refl }) (λ i u ne me g. rule.spent i u g);
-    small = λ i j r u. each_two views id jd v w ma nb at at' apart (λ i u. IsAmong (j, r) u.pairs → j < 2 ^ 32) (rule.small id j r v at) (λ m. absurd (among_nil m)) (λ i u ne me g. rule.small i j r u g) i u;
+    spent = each_two views id jd v w ma nb at other.at apart (λ i u. u.live ≡ false → IsBlank u) (λ f. absurd (live_not live f)) (λ f. record { empty = refl; opened = refl; pairs = refl; kept = refl; handed = refl; given = refl; left = refl; events = refl }) (λ i u ne me g. rule.spent i u g);
+    small = λ i j r u. each_two views id jd v w ma nb at other.at apart (λ i u. IsAmong (j, r) u.pairs → j < 2 ^ 32) (rule.small id j r v at) (λ m. absurd (among_nil m)) (λ i u ne me g. rule.small i j r u g) i u;
   }

@@ -15,6 +15,7 @@ pub mod Ends
 pub mod Apart
 pub mod Tells
 pub mod Stayed
+pub mod Inside
 pub mod Rejoined
 mod Sitting
 pub mod Starts

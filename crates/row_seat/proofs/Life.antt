@@ -3,7 +3,6 @@ use Rattle.std.proofs.Common.{◌≡◌, ℕ, ◌<◌, ◌-◌, ◌^◌, ◌≢�
 use Rattle.chunk_core.specs.Lists.{IsAmong}
 use Rattle.chunk_core.specs.Lists.IsAmong.{here, there}
 use Rattle.chunk_core.proofs.Members.{among_cons, among_nil}
-use Rattle.chunk_core.specs.declared.code.Exit.{Exit}
 use Rattle.chunk_core.specs.declared.code.Exit.TheVariants.{Succeeded}
 use Rattle.res_ledger.specs.declared.event.Event.{Event}
 use Rattle.res_ledger.specs.declared.event.StreamNo.TheVariants.{Outer, Inner}
@@ -11,6 +10,7 @@ use Rattle.res_ledger.specs.declared.event.What.{What}
 use Rattle.res_ledger.specs.declared.event.What.TheVariants.{Acquire, Lease, Close, Final}
 use Rattle.res_ledger.specs.Ledger.{IsUsable, Notes, IsStamped}
 use Rattle.res_ledger.specs.Ledger.LiesWithin.{same}
+use Rattle.res_ledger.proofs.Apart.{apart}
 use Rattle.res_ledger.proofs.Ledgers.{covers_leased}
 use Rattle.res_ledger.specs.Rising.{Rises}
 use Rattle.res_ledger.proofs.Orders.{rising_is}
@@ -74,11 +74,8 @@ may_place a = (here [], (0, (event a (Acquire 0 0), here [], refl, refl)))
 pub may_write : (a : ℕ) (v w : View ℕ) → v ≡ acquired a → w ≡ placed v 0 7 → HasRow w.opened 0
 may_write a v w is e = subst (λ (x : View ℕ). HasRow x.opened 0) (sym (e ∙ ap (λ (x : View ℕ). placed x 0 7) is)) (7, here [])
 
-acquire_close : (r s t : ℕ) (how : Exit) → Acquire r s ≢ Close t how
-acquire_close r s t how e = cc
-
 pub may_close : (a : ℕ) → MayNote (written a) (Close 0 Succeeded)
-may_close a = (inl refl, λ h. ⊎_elim (λ e. acquire_close 0 0 h.0 h.2.0 (ap (λ (x : Event). x.what) (sym e) ∙ h.2.1.3)) (λ m. among_nil m) (among_cons h.2.1.1))
+may_close a = (inl refl, λ h. ⊎_elim (λ e. apart (ap (λ (x : Event). x.what) (sym e) ∙ h.2.1.3) refl) (λ m. among_nil m) (among_cons h.2.1.1))
 
 pub can_close : (a b : ℕ) → CanClose (closed a b) 0
 can_close a b = ((8, here []), (0, (event a (Acquire 0 0), here _, refl, refl), (0, same 0, (Succeeded, (event b (Close 0 Succeeded), there _ (here []), refl, refl)))), λ j m. absurd (among_nil m))

@@ -4,7 +4,7 @@ use Rattle.std.specs.Prelude.{Some, Option}
 use Rattle.std.proofs.lemmas.Bool.{cases_eq}
 use Rattle.res_ledger.specs.declared.event.What.TheVariants.{Acquire, Lease}
 use Rattle.row_seat.specs.Totals.{IsAt, pair_times, times, total}
-use Rattle.res_ledger.specs.Ledger.{Covers, IsCanceled, IsLeased, Notes}
+use Rattle.res_ledger.specs.Ledger.{Covers, IsCanceled, IsFinalized, IsLeased, Notes}
 use Rattle.row_seat.specs.Rule.{Deed, DeedsAgree, GivenIn, Hold, LeasesAgree, LeftIn, PaysAgree, Purse}
 use Rattle.res_ledger.specs.declared.event.Event.{Event}
 use Rattle.res_ledger.specs.Streams.{HasRight}
@@ -55,6 +55,20 @@ module _ (log : List Event) (hs : List Hold) (k : LeasesAgree log hs) (id : ℕ)
     kept_once = λ j. let t = total_set (λ (u : Hold). times j u.kept) hs id h h' at in let o = k.kept_once j in let s : times j h'.kept ≡ times j h.kept = ap (λ l. times j l) kept in omega arith;
     pair_once = once;
   }
+
+-- where no payload is left or given
+pub pays_same : {P : Type 0} {word : ℕ → ℕ} {slot slot' : ℕ → Option P} {log log' : List Event} {ps qs : List (Purse P)} → PaysAgree word slot log ps
+    → ((q : ℕ) (y : P) → LeftIn qs q y → LeftIn ps q y) → ((q : ℕ) (y : P) → LeftIn ps q y → LeftIn qs q y) → ((q : ℕ) (y : P) → GivenIn qs q y → GivenIn ps q y) → ((q n : ℕ) → word q ≡ 3 + 4 * n → 1 ≤ n → slot' q ≡ slot q)
+    → ((i q : ℕ) (p : Purse P) → IsAt qs i p → IsAmong q p.handed → (y : P) × IsAmong (q, y) p.given × (¬ (IsAmong q p.taken) → slot' q ≡ Some y)) → ((q : ℕ) → IsFinalized log' q → (y : P) × GivenIn qs q y) → PaysAgree word slot' log' qs
+pays_same k left left' given same handed final = record {
+  left_when = λ q y l. k.left_when q y (left q y l);
+  given_when = λ q y g. k.given_when q y (given q y g);
+  left_one = λ q y z a b. k.left_one q y z (left q y a) (left q z b);
+  given_is = λ q y g. left' q y (k.given_is q y (given q y g));
+  waits = λ q n e le. let t = k.waits q n e le in (t.0, left' q t.0 t.1, same q n e le ∙ t.2);
+  handed = handed;
+  final = final;
+}
 
 module _ {P : Type 0} (word word' : ℕ → ℕ) (slot : ℕ → Option P) (log : List Event) (ps : List (Purse P)) (k : PaysAgree word slot log ps) (r : ℕ) (other : (q : ℕ) → q ≢ r → word' q ≡ word q) where
   -- no payload moves, and the row stays closed or stays open

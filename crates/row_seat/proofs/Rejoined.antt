@@ -27,7 +27,7 @@ module _ {P : Type 0} where
   abbrev pub KnowsNames : Token P → Type 0
   KnowsNames v = (e : Event) → IsAmong e v.events → (e.by ≡ v.by) ⊎ ((m : ℕ) × (e.by ≡ Inner m) × ¬ (IsAmong m v.out))
 
-  module _ (rows room : ℕ) (word : ℕ → ℕ) (slot : ℕ → Option P) (log : List Event) (views : List (Token P)) (rule : RuleHolds rows room word slot log views) (id : ℕ) (v w : Token P) (at : IsAt views id (joined v w))
+  module _ {rows room : ℕ} {word : ℕ → ℕ} {slot : ℕ → Option P} {log : List Event} {views : List (Token P)} (rule : RuleHolds rows room word slot log views) (id : ℕ) (v w : Token P) (at : IsAt views id (joined v w))
       (n : ℕ) (by : w.by ≡ Inner n) (out : IsAmong n v.out) (foreign : v.by ≢ Inner n) (names : KnowsNames v) (pure : (e : Event) → IsAmong e w.events → e.by ≡ w.by)
       (mine : KnowsRows v) (theirs : KnowsRows w) (shut : w.opened ≡ []) (unused : (r : ℕ) → IsAmong r w.empty → ¬ (IsAcquired w.events r)) where
     ak : IsAt (map work views) id (work (joined v w))

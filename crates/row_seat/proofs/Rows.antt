@@ -34,6 +34,15 @@ module _ {rows r word e o n h : ℕ} {A C F : Type 0} where
   handed_word (final a b c d i j k m) l = absurd (omega arith)
   handed_word (beyond a b c d i j) l = absurd (omega arith)
 
+  -- a row is in one view, as empty, open or handed
+  pub one_place : Stands rows r word e o n h A C F → e + o + h ≤ 1
+  one_place (vacant a b c d i j k) = omega arith
+  one_place (opened a b c d i j k) = omega arith
+  one_place (awaits a b c d i j k m) = omega arith
+  one_place (handed a b c d i j k m) = omega arith
+  one_place (final a b c d i j k m) = omega arith
+  one_place (beyond a b c d i j) = omega arith
+
   -- a row with a pair is open or awaits its last lease
   pub is_leased : Stands rows r word e o n h A C F → 1 ≤ n → (r < rows) × (e ≡ 0) × (h ≡ 0) × ¬ F × (((word ≡ 1 + 4 * n) × (o ≡ 1) × A) ⊎ ((word ≡ 3 + 4 * n) × (o ≡ 0) × C))
   is_leased (vacant a b c d i j k) l = absurd (omega arith)

@@ -4,7 +4,7 @@ use Rattle.std.specs.Prelude.{Some, Option}
 use Rattle.std.proofs.lemmas.Bool.{cases_eq, le-leb, lt-leb, lt-ltb, le-ltb, leb-true, leb-false}
 use Rattle.res_ledger.specs.declared.event.What.TheVariants.{Acquire, Lease}
 use Rattle.row_seat.specs.Totals.{IsAt, pair_times, row_times, stamp_times, times}
-use Rattle.row_seat.specs.Rule.{Book, BooksAgree, DeedsAgree, GivenIn, Hold, LeasesAgree, LeftIn, PaysAgree, Purse, RowsAgree, IsBlank, RuleHolds, SeatsAgree, Who, Work, book, deed, empties, hands, hold, leases, opens, purse, who, work}
+use Rattle.row_seat.specs.Rule.{Book, BooksAgree, DeedsAgree, GivenIn, Hold, LeasesAgree, LeftIn, PaysAgree, Purse, RowsAgree, IsBlank, IsSeated, RuleHolds, SeatsAgree, Who, Work, book, deed, empties, hands, hold, leases, opens, purse, who, work}
 use Rattle.res_ledger.specs.Ledger.{Covers, IsAcquired, IsCanceled, IsLeased, Notes}
 use Rattle.res_ledger.specs.declared.event.Event.{Event}
 use Rattle.res_ledger.specs.Streams.{HasRight, by_stream}
@@ -15,11 +15,12 @@ use Rattle.row_seat.specs.declared.token.Token.{Token}
 use Rattle.row_seat.specs.Views.{above, run, within}
 use Rattle.chunk_core.proofs.Members.{among_cons, among_last, among_left, among_nil, among_snoc}
 use Rattle.chunk_core.proofs.Filters.{among_filter, bool_not, filter_among}
-use Rattle.row_seat.proofs.Members.{among_kept, among_without}
+use Rattle.row_seat.proofs.Members.{all_there, among_kept, among_without, length_cut}
 use Rattle.row_seat.proofs.Ticked.{at_book, at_deed, at_hold, at_purse, at_who, at_work, live_not}
 use Rattle.res_ledger.proofs.Ledgers.{by_none, inner_is, stamp_below}
 use Rattle.row_seat.proofs.Changes.{each_more, map_more, more_here, some_less, some_more, sorted, total_more}
 use Rattle.chunk_core.specs.Lists.IsAmong.{here, there}
+use Rattle.row_seat.proofs.Parts.{pays_same}
 use Rattle.row_seat.proofs.Times.{if_so, pair_cut, row_cut, run_in, run_out, times_cut, times_filter, times_some}
 use Rattle.row_seat.proofs.Tick.{one_empty, stands_is}
 use Rattle.row_seat.specs.Steps.{split_main, split_off}
@@ -49,8 +50,16 @@ span_cases from to r = (elim (leb from r) as (λ b. leb from r ≡ b → ((from 
   | false ↦ λ e. inr (inl (leb-false from r e))
 ]) refl
 
-far_or : (from to r : ℕ) → to ≤ r → (r < from) ⊎ (from + (to - from) ≤ r)
+pub far_or : (from to r : ℕ) → to ≤ r → (r < from) ⊎ (from + (to - from) ≤ r)
 far_or from to r h = (elim (leb from r) as (λ b. leb from r ≡ b → (r < from) ⊎ (from + (to - from) ≤ r)) [ true ↦ λ e. let l = leb-true from r e in inr (omega arith) | false ↦ λ e. inl (leb-false from r e) ]) refl
+
+pub in_run : (from to r : ℕ) → IsAmong r (run from (to - from)) → (from ≤ r) × (r < to)
+in_run from to r m = let t = times_some r (run from (to - from)) m in ⊎_elim (λ s. s) (λ s. let i = run_out r from (to - from) (⊎_elim (λ a. inl a) (λ b. far_or from to r b) s) in absurd (omega arith)) (span_cases from to r)
+
+-- the numbers of a span leave the list
+pub run_fits : (from to : ℕ) (xs : List ℕ) → ((r : ℕ) → (from ≤ r) × (r < to) → IsAmong r xs) → length (filter (λ r. not (within from to r)) xs) + (to - from) ≤ length xs
+run_fits from to xs h = let c = length_cut (within from to) xs in
+    let t = all_there from (to - from) (filter (within from to) xs) (λ r a b. let b' : r < to = omega arith in filter_among (within from to) r xs (h r (a, b')) (within_in from to r a b')) in omega arith
 
 is_eq : (a j : ℕ) → eqb a j ≡ true → a ≡ j
 is_eq a j e = ⊎_elim (λ s. s) (λ ne. absurd (bool_not (sym e ∙ ne_eqb a j ne))) (cases_eq a j)
@@ -59,25 +68,27 @@ pub true_or : (b : Bool) → (b ≡ true) ⊎ (b ≡ false)
 true_or true = inl refl
 true_or false = inr refl
 
-module _ {P : Type 0} (rows room : ℕ) (word : ℕ → ℕ) (slot : ℕ → Option P) (log : List Event) (views : List (Token P)) (rule : RuleHolds rows room word slot log views) (id : ℕ) (v : Token P) (at : IsAt views id v) (live : v.live ≡ true)
+module _ {P : Type 0} {rows room : ℕ} {word : ℕ → ℕ} {slot : ℕ → Option P} {log : List Event} {views : List (Token P)} (rule : RuleHolds rows room word slot log views) {id : ℕ} {v : Token P} (seat : IsSeated views id v)
     (j from to n : ℕ) (main : v.main ≡ true) (foreign : v.by ≢ Inner j) (no_seat : ¬ (IsAmong j v.had)) (IsWithin : (r : ℕ) → (from ≤ r) × (r < to) → IsAmong r v.empty × ¬ (IsAcquired v.events r)) (enough : n ≤ v.spare) (named : (r : ℕ) → IsAmong (j, r) v.pairs → IsLeased v.events j) where
+  open seat use {at, live}
+
   aw : IsAt (map who views) id (who v)
-  aw = at_who rows room word slot log views rule id v at live
+  aw = at_who rule seat
 
   ab : IsAt (map book views) id (book v)
-  ab = at_book rows room word slot log views rule id v at live
+  ab = at_book rule seat
 
   ak : IsAt (map work views) id (work v)
-  ak = at_work rows room word slot log views rule id v at live
+  ak = at_work rule seat
 
   ad : IsAt (map deed views) id (deed v)
-  ad = at_deed rows room word slot log views rule id v at live
+  ad = at_deed rule seat
 
   ah : IsAt (map hold views) id (hold v)
-  ah = at_hold rows room word slot log views rule id v at live
+  ah = at_hold rule seat
 
   ap' : IsAt (map purse views) id (purse v)
-  ap' = at_purse rows room word slot log views rule id v at live
+  ap' = at_purse rule seat
 
   abbrev ma : Token P
   ma = split_main v j from to n
@@ -158,14 +169,11 @@ module _ {P : Type 0} (rows room : ℕ) (word : ℕ → ℕ) (slot : ℕ → Opt
       let ed : hands r ws ≡ hands r (slice_set ws id (work ma) ++ work nb ∷ []) = omega arith in
       stands_is (rule.words r) refl ea eb ec ed
 
-  in_span : (r : ℕ) → IsAmong r (run from (to - from)) → (from ≤ r) × (r < to)
-  in_span r m = let t = times_some r (run from (to - from)) m in ⊎_elim (λ s. s) (λ s. let i = run_out r from (to - from) (⊎_elim (λ a. inl a) (λ b. far_or from to r b) s) in absurd (omega arith)) (span_cases from to r)
-
   deeds' : DeedsAgree log (slice_set (map deed views) id (deed ma) ++ deed nb ∷ [])
   deeds' = let ds = map deed views in let k = rule.deeds in let E = each_more ds id (deed v) (deed ma) (deed nb) ad in record {
     fresh = λ i r t q u. E (λ i u. IsAmong r u.empty → Notes log q (Acquire r t) → Notes u.events q (Acquire r t))
         (λ m. k.fresh id r t q (deed v) ad (among_filter (λ x. not (within from to x)) r v.empty m).0) (λ i u ne g. k.fresh i r t q u g)
-        (λ m x. let s = IsWithin r (in_span r m) in absurd (s.1 (q, t, k.fresh id r t q (deed v) ad s.0 x))) i u;
+        (λ m x. let s = IsWithin r (in_run from to r m) in absurd (s.1 (q, t, k.fresh id r t q (deed v) ad s.0 x))) i u;
     opened = λ i r u. E (λ i u. IsAmong r u.opened → (s : ℕ) × Notes log u.by (Acquire r s)) (k.opened id r (deed v) ad) (λ i u ne g. k.opened i r u g) (λ m. absurd (among_nil m)) i u;
     handed = λ i r u. E (λ i u. IsAmong r u.handed → HasRight log u.by r) (k.handed id r (deed v) ad) (λ i u ne g. k.handed i r u g) (λ m. absurd (among_nil m)) i u;
   }
@@ -201,15 +209,10 @@ module _ {P : Type 0} (rows room : ℕ) (word : ℕ → ℕ) (slot : ℕ → Opt
       let left : (q : ℕ) (y : P) → LeftIn qs q y → LeftIn ps q y = λ q y. some_less ps id (purse v) (purse ma) (purse nb) ap' (λ (u : Purse P). IsAmong (q, y) u.left) (λ m. m) (λ m. among_nil m) in
       let left' : (q : ℕ) (y : P) → LeftIn ps q y → LeftIn qs q y = λ q y. some_more ps id (purse v) (purse ma) (purse nb) ap' (λ (u : Purse P). IsAmong (q, y) u.left) (λ m. inl m) in
       let given : (q : ℕ) (y : P) → GivenIn qs q y → GivenIn ps q y = λ q y. some_less ps id (purse v) (purse ma) (purse nb) ap' (λ (u : Purse P). IsAmong (q, y) u.given) (λ m. m) (λ m. among_nil m) in
-      let given' : (q : ℕ) (y : P) → GivenIn ps q y → GivenIn qs q y = λ q y. some_more ps id (purse v) (purse ma) (purse nb) ap' (λ (u : Purse P). IsAmong (q, y) u.given) (λ m. inl m) in record {
-        left_when = λ q y l. k.left_when q y (left q y l);
-        given_when = λ q y g. k.given_when q y (given q y g);
-        left_one = λ q y z a b. k.left_one q y z (left q y a) (left q z b);
-        given_is = λ q y g. left' q y (k.given_is q y (given q y g));
-        waits = λ q m e le. let t = k.waits q m e le in (t.0, left' q t.0 t.1, t.2);
-        handed = λ i q u. each_more ps id (purse v) (purse ma) (purse nb) ap' (λ i u. IsAmong q u.handed → (y : P) × IsAmong (q, y) u.given × (¬ (IsAmong q u.taken) → slot q ≡ Some y)) (k.handed id q (purse v) ap') (λ i u ne g. k.handed i q u g) (λ m. absurd (among_nil m)) i u;
-        final = λ q f. let t = k.final q f in (t.0, given' q t.0 t.1);
-      }
+      let given' : (q : ℕ) (y : P) → GivenIn ps q y → GivenIn qs q y = λ q y. some_more ps id (purse v) (purse ma) (purse nb) ap' (λ (u : Purse P). IsAmong (q, y) u.given) (λ m. inl m) in
+      pays_same k left left' given (λ q m e le. refl)
+      (λ i q u. each_more ps id (purse v) (purse ma) (purse nb) ap' (λ i u. IsAmong q u.handed → (y : P) × IsAmong (q, y) u.given × (¬ (IsAmong q u.taken) → slot q ≡ Some y)) (k.handed id q (purse v) ap') (λ i u ne g. k.handed i q u g) (λ m. absurd (among_nil m)) i u)
+      (λ q f. let t = k.final q f in (t.0, given' q t.0 t.1))
 
   pub split_keeps : RuleHolds rows room word slot log (slice_set views id (split_main v j from to n) ++ split_off v j from to n ∷ [])
   split_keeps = record {

@@ -36,7 +36,7 @@ no_parts P Q x e = let l = ap length e in let m = length-append P (x ∷ Q) in o
 none_noted : (k : StreamNo) (w : What) → ¬ (Notes [] k w)
 none_noted k w n = among_nil n.1
 
-one_view : {V : Type 0} (a : V) (Q : ℕ → V → Type 0) → Q 0 a → (i : ℕ) (v : V) → IsAt (a ∷ []) i v → Q i v
+pub one_view : {V : Type 0} (a : V) (Q : ℕ → V → Type 0) → Q 0 a → (i : ℕ) (v : V) → IsAt (a ∷ []) i v → Q i v
 one_view a Q q i v g = let t = only_one a v i g in subst (λ z. Q i z) t.1 (subst (λ n. Q n a) (sym t.0) q)
 
 module _ {P : Type 0} (by : StreamNo) (rows events splits : ℕ) (word : ℕ → ℕ) (slot : ℕ → Option P) (zero' : (r : ℕ) → word r ≡ 0) where
@@ -115,8 +115,7 @@ module _ {P : Type 0} (s : PlainSeat P) (d : PlainTable P) (by : StreamNo) (rows
   pub start_sits : Sits s d
   start_sits = record {
     table = subst (λ l. IsTable d.slots.items d.words.items l (vec_capacity d.events) d.views) (sym log) (subst (λ l. IsTable d.slots.items d.words.items [] (vec_capacity d.events) l) (sym views) table);
-    mine = rw (views, id, token) refl;
-    live = ap (λ (u : Token P). u.live) token;
+    seated = record { at = rw (views, id, token) refl; live = ap (λ (u : Token P). u.live) token };
     by = name ∙ ap (λ (u : Token P). u.by) (sym token);
     held = ap rows_of none ∙ ap (λ (u : Token P). u.opened) (sym token);
     hold = rw token (let e = run_length 0 rows in omega arith);

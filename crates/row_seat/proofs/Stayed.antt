@@ -12,7 +12,7 @@ use Rattle.row_seat.specs.declared.token.Token.{Token}
 use Rattle.row_seat.specs.Totals.{IsAt, pair_times, row_times, times, total}
 use Rattle.row_seat.specs.Hands.{rows_of}
 use Rattle.row_seat.specs.Views.{IsHeldStill, without_pair}
-use Rattle.row_seat.specs.Rule.{Hold, RuleHolds, Work, deed, hold, seen, who, work}
+use Rattle.row_seat.specs.Rule.{Hold, IsSeated, RuleHolds, Work, deed, hold, seen, who, work}
 use Rattle.row_seat.proofs.Hands.{row_held}
 use Rattle.row_seat.proofs.Rows.{is_leased}
 use Rattle.row_seat.proofs.Splits.{true_or}
@@ -25,7 +25,9 @@ module _ {P : Type 0} where
   cut j r [] = refl
   cut j r (t ∷ ts) = let a = row_less j r t.pairs in let b = cut j r ts in omega (a, b, arith)
 
-module _ {P : Type 0} (rows room : ℕ) (word : ℕ → ℕ) (slot : ℕ → Option P) (log : List Event) (views : List (Token P)) (rule : RuleHolds rows room word slot log views) (id : ℕ) (v : Token P) (at : IsAt views id v) (live : v.live ≡ true) (main : v.main ≡ true) where
+module _ {P : Type 0} {rows room : ℕ} {word : ℕ → ℕ} {slot : ℕ → Option P} {log : List Event} {views : List (Token P)} (rule : RuleHolds rows room word slot log views) {id : ℕ} {v : Token P} (seat : IsSeated views id v) (main : v.main ≡ true) where
+  open seat use {at, live}
+
   -- a pair on the row r is of a Lease of this seat, or the row is open here
   covering : (i r x : ℕ) (u : Token P) → IsAt views x u → IsAmong (i, r) u.pairs → Covers log i v.by r ⊎ IsAmong r v.opened
   covering i r x u g m = ⊎_elim
@@ -65,7 +67,7 @@ module _ {P : Type 0} (rows room : ℕ) (word : ℕ → ℕ) (slot : ℕ → Opt
         i,
         ne,
         (
-          covers_own v.by log v.events (sym (own_is rows room word slot log views rule id v at live)) i r o,
+          covers_own v.by log v.events (sym (own_is rule seat)) i r o,
           ⊎_elim
               (λ h. let e = rule.seats.one x.0 id (who u) (who v) (at_map who views x.0 u x.2) aw h.0 main in inl (subst (λ (z : Token P). IsAmong (i, r) z.pairs) (one_at views id u v (subst (λ n. IsAt views n u) e x.2) at) m))
               (λ b. ⊎_elim

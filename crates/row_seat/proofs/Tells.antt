@@ -1,5 +1,5 @@
 -- What the rule tells of a row's leases, and of how many events there are.
-use Rattle.std.proofs.Common.{◌≡◌, ◌≢◌, ℕ, zero, suc, ◌+◌, ◌*◌, ◌^◌, ◌<◌, ◌≤◌, true, map, List, [], ◌∷◌, ◌++◌, length, refl, sym, ap, ◌∙◌, subst, ⊎_elim, arith}
+use Rattle.std.proofs.Common.{◌≡◌, ◌≢◌, ℕ, zero, suc, ◌+◌, ◌*◌, ◌^◌, ◌<◌, ◌≤◌, map, List, [], ◌∷◌, ◌++◌, length, refl, sym, ap, ◌∙◌, subst, ⊎_elim, arith}
 use Rattle.std.specs.Prelude.{Some, Option}
 use Rattle.std.proofs.lemmas.Bool.{cases_eq}
 use Rattle.chunk_core.specs.Lists.{IsAmong}
@@ -9,10 +9,10 @@ use Rattle.res_ledger.specs.Ledger.{IsStamped}
 use Rattle.res_ledger.proofs.Ledgers.{stamp_below}
 use Rattle.res_ledger.specs.declared.event.Event.{Event}
 use Rattle.row_seat.specs.declared.token.Token.{Token}
-use Rattle.row_seat.specs.Totals.{IsAt, total, times, row_times, pair_times, stamp_times}
+use Rattle.row_seat.specs.Totals.{total, times, row_times, pair_times, stamp_times}
 use Rattle.row_seat.specs.Hands.{rows_of}
 use Rattle.row_seat.specs.Views.{IsLastLease, without_pair}
-use Rattle.row_seat.specs.Rule.{RuleHolds, Book, Work, Hold, book, work, hold, purse, seen, leases}
+use Rattle.row_seat.specs.Rule.{IsSeated, RuleHolds, Book, Work, Hold, book, work, hold, purse, seen, leases}
 use Rattle.row_seat.proofs.Hands.{row_among}
 use Rattle.row_seat.proofs.Totals.{total_at, total_map, total_sum}
 use Rattle.row_seat.proofs.Times.{stamp_some, times_some, row_some, pair_some, row_less, pair_kept}
@@ -32,7 +32,7 @@ stamp_at L n stamped l = let t = parts_at L n l in (t.2, subst (λ z. IsAmong t.
 two_pairs : (i j r : ℕ) (xs : List (ℕ × ℕ)) → i ≢ j → IsAmong (i, r) xs → IsAmong (j, r) xs → 2 ≤ row_times r xs
 two_pairs i j r xs ne a b = let k = row_less i r xs in let p = pair_some i r xs a in let q = row_some j r (without_pair i r xs) (pair_kept i r j r xs b (λ e f. ne (sym e))) in omega arith
 
-module _ {P : Type 0} (rows room : ℕ) (word : ℕ → ℕ) (slot : ℕ → Option P) (log : List Event) (views : List (Token P)) (rule : RuleHolds rows room word slot log views) where
+module _ {P : Type 0} {rows room : ℕ} {word : ℕ → ℕ} {slot : ℕ → Option P} {log : List Event} {views : List (Token P)} (rule : RuleHolds rows room word slot log views) where
   -- streams are numbered in 32 bits, and none leases a row twice
   pub leases_below : (r : ℕ) → leases r (map work views) ≤ 2 ^ 32
   leases_below r =
@@ -51,7 +51,9 @@ module _ {P : Type 0} (rows room : ℕ) (word : ℕ → ℕ) (slot : ℕ → Opt
   pub tally : total (λ (b : Book). length b.events + b.spare) (map book views) ≡ room
   tally = let s = rule.books.sum in let t = all_told in let both = total_sum (λ (b : Book). length b.events) (λ (b : Book). b.spare) (map book views) in omega arith
 
-  module _ (id : ℕ) (v : Token P) (at : IsAt views id v) (live : v.live ≡ true) where
+  module _ {id : ℕ} {v : Token P} (seat : IsSeated views id v) where
+    open seat use {at, live}
+
     -- the last lease of a closed row: the slot has what was left in it
     pub told_last : (j r : ℕ) (p : P) (hands : List (ℕ × P)) → rows_of hands ≡ v.opened → IsAmong (j, r) v.pairs → word r ≡ 7 → slot r ≡ Some p → IsLastLease (seen v hands) j r p
     told_last j r p hands held m seven lies =

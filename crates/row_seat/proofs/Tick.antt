@@ -13,12 +13,14 @@ use Rattle.res_ledger.specs.Streams.{HasRight, by_stream}
 use Rattle.res_ledger.specs.declared.event.StreamNo.TheVariants.{Inner}
 use Rattle.chunk_core.specs.Lists.{IsAmong}
 use Rattle.res_ledger.specs.declared.event.StreamNo.{StreamNo}
+use Rattle.res_ledger.proofs.Apart.{apart as kinds_apart}
 use Rattle.res_ledger.proofs.Ledgers.{acquired_more, acquired_snoc, by_both, by_in, by_other, by_out, cancel_stream, canceled_leased, canceled_more, canceled_snoc, covers_more, covers_new, covers_snoc, final_row, lease_stream, leased_more, leased_snoc, right_more, stamp_below, stream_cases}
 use Rattle.row_seat.proofs.Members.{among_kept, among_without}
 use Rattle.chunk_core.proofs.Members.{among_last, among_left, among_snoc}
 use Rattle.row_seat.specs.Rule.Stands.{awaits, beyond, final, handed, opened, vacant}
 use Rattle.row_seat.proofs.Totals.{each, one_at, put_else, put_here, some_back, some_put, total_one, total_set, total_some}
 use Rattle.res_ledger.proofs.Growth.{finalized_more, finalized_snoc, legal_snoc, noted_more, noted_snoc, row_closed_more, stamped_snoc}
+use Rattle.row_seat.proofs.Parts.{pays_same}
 use Rattle.row_seat.proofs.Times.{push_other, push_same, stamp_here, stamp_in, stamp_push, times_in, times_some, without_other, without_same, zero_or}
 use Rattle.row_seat.specs.Views.{without}
 
@@ -71,12 +73,6 @@ module _ {rows r word e o n h : ℕ} {A C F : Type 0} where
   stands_is (handed a b c d i j k m) p q s t u = handed a (omega arith) (omega arith) (omega arith) (omega arith) (omega arith) k m
   stands_is (final a b c d i j k m) p q s t u = final a (omega arith) (omega arith) (omega arith) (omega arith) (omega arith) k m
   stands_is (beyond a b c d i j) p q s t u = beyond a (omega arith) (omega arith) (omega arith) (omega arith) j
-
-lease_cancel : (j s i : ℕ) (how : Exit) → Lease j s ≢ Cancel i how
-lease_cancel j s i how h = cc
-
-acquire_final : (r s q : ℕ) (how : Exit) (ok : Bool) → Acquire r s ≢ Final q how ok
-acquire_final r s q how ok h = cc
 
 -- the parts of the rule one by one
 module _ (log : List Event) (e : Event) where
@@ -186,7 +182,7 @@ module _ (log : List Event) (e : Event) where
   pub lease_leases : (hs : List Hold) → LeasesAgree log hs → (id j s : ℕ) (h : Hold) → IsAt hs id h → h.main ≡ true → ((i : ℕ) (u : Hold) → IsAt hs i u → u.main ≡ true → i ≡ id) → IsLegal log → e.by ≡ h.by → e.what ≡ Lease j s
       → ¬ (IsLeased log j) → ¬ (IsAmong j h.had) → ((r : ℕ) → (IsAmong (j, r) h.pairs → IsCoveredBy log h.by s r) × (IsCoveredBy log h.by s r → IsAmong (j, r) h.pairs)) → LeasesAgree (log ++ e ∷ []) (slice_set hs id (record h { kept = h.kept ++ j ∷ [] }))
   lease_leases hs k id j s h at main only legal by is new no_seat pairs = let h' : Hold = record h { kept = h.kept ++ j ∷ [] } in
-      let no_cancel : (i : ℕ) (how : Exit) → e.what ≢ Cancel i how = λ i how c. lease_cancel j s i how (sym is ∙ c) in
+      let no_cancel : (i : ℕ) (how : Exit) → e.what ≢ Cancel i how = λ i how c. kinds_apart (sym is ∙ c) refl in
       let stream : (i t : ℕ) → e.what ≡ Lease i t → (j ≡ i) × (s ≡ t) = λ i t w. lease_stream j i s t (sym is ∙ w) in record {
         by_main = λ i a b q u. each hs id h' (λ i u. u.main ≡ true → Notes (log ++ e ∷ []) q (Lease a b) → q ≡ u.by)
             (λ m n. ⊎_elim (k.by_main id a b q h at m) (λ t. sym t.0 ∙ by) (noted_snoc log e q (Lease a b) n))
@@ -227,7 +223,7 @@ module _ (log : List Event) (e : Event) where
 
   pub cancel_leases : (hs : List Hold) → LeasesAgree log hs → (id j : ℕ) (how : Exit) (h : Hold) → IsAt hs id h → e.what ≡ Cancel j how → IsAmong j h.kept → LeasesAgree (log ++ e ∷ []) (slice_set hs id (record h { kept = without j h.kept }))
   cancel_leases hs k id j how h at is mine = let h' : Hold = record h { kept = without j h.kept } in
-      let no_lease : (i t : ℕ) → e.what ≢ Lease i t = λ i t c. lease_cancel i t j how (sym c ∙ is) in
+      let no_lease : (i t : ℕ) → e.what ≢ Lease i t = λ i t c. kinds_apart (sym c ∙ is) refl in
       let stream : (i : ℕ) (x : Exit) → e.what ≡ Cancel i x → j ≡ i = λ i x w. cancel_stream j i how x (sym is ∙ w) in record {
         by_main = λ i a b q u. each hs id h' (λ i u. u.main ≡ true → Notes (log ++ e ∷ []) q (Lease a b) → q ≡ u.by)
             (λ m n. ⊎_elim (k.by_main id a b q h at m) (λ t. absurd (no_lease a b t.1)) (noted_snoc log e q (Lease a b) n))
@@ -271,7 +267,7 @@ module _ (log : List Event) (e : Event) where
       (λ ne. let z = without_other r q w.handed ne in
       let ed : hands q ws ≡ hands q (slice_set ws id w') = omega arith in
       stands_is (stands_more (k q) (acquired_more log e) (row_closed_more log e) (finalized_more log e) (λ f. ⊎_elim (λ o. o) (λ t. absurd (ne (final_row q r t.0 how t.1 ok (sym t.2 ∙ is)))) (finalized_snoc log e q f))
-      (λ far x. ⊎_elim (λ o. o) (λ t. absurd (acquire_final q t.0 r how ok (sym t.1 ∙ is))) (acquired_snoc log e q x))) refl ea eb ec ed)
+      (λ far x. ⊎_elim (λ o. o) (λ t. absurd (kinds_apart (sym t.1 ∙ is) refl)) (acquired_snoc log e q x))) refl ea eb ec ed)
       (cases_eq q r)
 
   pub final_pays : {P : Type 0} (word : ℕ → ℕ) (slot : ℕ → Option P) (ps : List (Purse P)) → PaysAgree word slot log ps → (id r : ℕ) (how : Exit) (ok : Bool) (p : Purse P) → IsAt ps id p → e.what ≡ Final r how ok → IsAmong r p.handed
@@ -281,16 +277,11 @@ module _ (log : List Event) (e : Event) where
       let left : (q : ℕ) (x : P) → LeftIn (slice_set ps id p') q x → LeftIn ps q x = λ q x. some_back ps id p p' at (λ (u : Purse P). IsAmong (q, x) u.left) (λ m. m) in
       let given : (q : ℕ) (x : P) → GivenIn (slice_set ps id p') q x → GivenIn ps q x = λ q x. some_back ps id p p' at (λ (u : Purse P). IsAmong (q, x) u.given) (λ m. m) in
       let left' : (q : ℕ) (x : P) → LeftIn ps q x → LeftIn (slice_set ps id p') q x = λ q x. some_put ps id p p' at (λ (u : Purse P). IsAmong (q, x) u.left) (λ m. m) in
-      let given' : (q : ℕ) (x : P) → GivenIn ps q x → GivenIn (slice_set ps id p') q x = λ q x. some_put ps id p p' at (λ (u : Purse P). IsAmong (q, x) u.given) (λ m. m) in record {
-        left_when = λ q x l. k.left_when q x (left q x l);
-        given_when = λ q x g. k.given_when q x (given q x g);
-        left_one = λ q x y a b. k.left_one q x y (left q x a) (left q y b);
-        given_is = λ q x g. left' q x (k.given_is q x (given q x g));
-        waits = λ q n is' some'. let t = k.waits q n is' some' in (t.0, left' q t.0 t.1, t.2);
-        handed = λ i q u. each ps id p' (λ i u. IsAmong q u.handed → (x : P) × IsAmong (q, x) u.given × (¬ (IsAmong q u.taken) → slot q ≡ Some x))
-            (λ m. let b = among_without r p.handed q m in let t = k.handed id q p at b.0 in (t.0, t.1, λ f. t.2 (λ n. f (among_kept r p.taken q n b.1))))
-            (λ i u ne g. k.handed i q u g) i u;
-        final = λ q f. ⊎_elim (λ o. let t = k.final q o in (t.0, given' q t.0 t.1))
-            (λ t. let b = k.handed id r p at mine in subst (λ n. (x : P) × GivenIn (slice_set ps id p') n x) (sym (final_row q r t.0 how t.1 ok (sym t.2 ∙ is))) (b.0, given' r b.0 (id, p, at, b.1)))
-            (finalized_snoc log e q f);
-      }
+      let given' : (q : ℕ) (x : P) → GivenIn ps q x → GivenIn (slice_set ps id p') q x = λ q x. some_put ps id p p' at (λ (u : Purse P). IsAmong (q, x) u.given) (λ m. m) in
+      pays_same k left left' given (λ q n e le. refl)
+      (λ i q u. each ps id p' (λ i u. IsAmong q u.handed → (x : P) × IsAmong (q, x) u.given × (¬ (IsAmong q u.taken) → slot q ≡ Some x))
+      (λ m. let b = among_without r p.handed q m in let t = k.handed id q p at b.0 in (t.0, t.1, λ f. t.2 (λ n. f (among_kept r p.taken q n b.1))))
+      (λ i u ne g. k.handed i q u g) i u)
+      (λ q f. ⊎_elim (λ o. let t = k.final q o in (t.0, given' q t.0 t.1))
+      (λ t. let b = k.handed id r p at mine in subst (λ n. (x : P) × GivenIn (slice_set ps id p') n x) (sym (final_row q r t.0 how t.1 ok (sym t.2 ∙ is))) (b.0, given' r b.0 (id, p, at, b.1)))
+      (finalized_snoc log e q f))

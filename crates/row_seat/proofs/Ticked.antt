@@ -4,13 +4,14 @@ use Rattle.std.specs.Prelude.{Option}
 use Rattle.res_ledger.specs.declared.event.What.TheVariants.{Acquire, Cancel, Close, Final, Lease, Open}
 use Rattle.chunk_core.specs.declared.code.Exit.{Exit}
 use Rattle.row_seat.specs.Totals.{IsAt, row_times, times}
-use Rattle.row_seat.specs.Rule.{Book, BooksAgree, Deed, DeedsAgree, Hold, LeasesAgree, PaysAgree, RowsAgree, IsBlank, RuleHolds, SeatsAgree, Work, book, deed, hold, leases, purse, seen, who, work}
+use Rattle.row_seat.specs.Rule.{Book, BooksAgree, Deed, DeedsAgree, Hold, LeasesAgree, PaysAgree, RowsAgree, IsBlank, IsSeated, RuleHolds, SeatsAgree, Work, book, deed, hold, leases, purse, seen, who, work}
 use Rattle.res_ledger.specs.declared.event.Event.{Event}
 use Rattle.chunk_core.specs.Lists.{IsAmong}
 use Rattle.res_ledger.specs.Ledger.{IsClosed, IsHanded, IsUsable, MayFollow, Notes}
 use Rattle.row_seat.specs.Views.{MayNote}
 use Rattle.row_seat.specs.declared.token.Token.{Token}
 use Rattle.res_ledger.specs.declared.event.What.{What}
+use Rattle.res_ledger.proofs.Apart.{apart as kinds_apart}
 use Rattle.res_ledger.proofs.Ledgers.{acquire_row, closed_map, covered_map, inner_is, lease_other, noted_own, usable_map}
 use Rattle.row_seat.proofs.Members.{among_without}
 use Rattle.chunk_core.proofs.Places.{at_map, set_again}
@@ -22,21 +23,6 @@ use Rattle.row_seat.proofs.Times.{row_some, times_some}
 
 pub keep : {W : Type 0} (X : List W → Type 0) (ws : List W) (id : ℕ) (b : W) → IsAt ws id b → X ws → X (slice_set ws id b)
 keep X ws id b at x = subst X (sym (set_again ws id b at)) x
-
-open_acquire : (s p r t : ℕ) → Open s p ≢ Acquire r t
-open_acquire s p r t h = cc
-
-close_acquire : (s : ℕ) (how : Exit) (r t : ℕ) → Close s how ≢ Acquire r t
-close_acquire s how r t h = cc
-
-lease_acquire : (j s r t : ℕ) → Lease j s ≢ Acquire r t
-lease_acquire j s r t h = cc
-
-cancel_acquire : (j : ℕ) (how : Exit) (r t : ℕ) → Cancel j how ≢ Acquire r t
-cancel_acquire j how r t h = cc
-
-final_acquire : (q : ℕ) (how : Exit) (ok : Bool) (r t : ℕ) → Final q how ok ≢ Acquire r t
-final_acquire q how ok r t h = cc
 
 pub live_not : {b : Bool} → b ≡ true → b ≡ false → ⊥
 live_not t f = let e = sym t ∙ f in cc
@@ -59,7 +45,9 @@ module _ {P : Type 0} (rows room : ℕ) (word : ℕ → ℕ) (slot : ℕ → Opt
     small = h;
   }
 
-module _ {P : Type 0} (rows room : ℕ) (word : ℕ → ℕ) (slot : ℕ → Option P) (log : List Event) (views : List (Token P)) (rule : RuleHolds rows room word slot log views) (id : ℕ) (v : Token P) (at : IsAt views id v) (live : v.live ≡ true) where
+module _ {P : Type 0} {rows room : ℕ} {word : ℕ → ℕ} {slot : ℕ → Option P} {log : List Event} {views : List (Token P)} (rule : RuleHolds rows room word slot log views) {id : ℕ} {v : Token P} (seat : IsSeated views id v) where
+  open seat use {at, live}
+
   pub spent_put : (w : Token P) → w.live ≡ true → (i : ℕ) (u : Token P) → IsAt (slice_set views id w) i u → u.live ≡ false → IsBlank u
   spent_put w l = each views id w (λ i u. u.live ≡ false → IsBlank u) (λ d. absurd (live_not l d)) (λ i u ne g. rule.spent i u g)
 
@@ -144,78 +132,80 @@ module _ {P : Type 0} (rows room : ℕ) (word : ℕ → ℕ) (slot : ℕ → Opt
     meets (Close s how) m = usable s m
     meets (Final r how ok) m = (handed_log r m.1, rule.deeds.handed id r (deed v) at_deed m.1)
 
-module _ {P : Type 0} (rows room : ℕ) (word : ℕ → ℕ) (slot : ℕ → Option P) (log : List Event) (views : List (Token P)) (rule : RuleHolds rows room word slot log views) (id : ℕ) (v : Token P) (at : IsAt views id v) (live : v.live ≡ true)
+module _ {P : Type 0} {rows room : ℕ} {word : ℕ → ℕ} {slot : ℕ → Option P} {log : List Event} {views : List (Token P)} (rule : RuleHolds rows room word slot log views) {id : ℕ} {v : Token P} (seat : IsSeated views id v)
     (sp : 1 ≤ v.spare) (hands : List (ℕ × P)) where
+  open seat use {at, live}
+
   apart : (i : ℕ) (u : Book) → i ≢ id → IsAt (map book views) i u → u.live ≡ true → u.by ≢ v.by
   apart i u ne g l e =
       let t = map_back book views i u g in
-      ne (rule.seats.names i id (who t.0) (who v) (at_map who views i t.0 t.1) (at_who rows room word slot log views rule id v at live) (ap (λ (x : Book). x.live) t.2 ∙ l) live (ap (λ (x : Book). x.by) t.2 ∙ e))
+      ne (rule.seats.names i id (who t.0) (who v) (at_map who views i t.0 t.1) (at_who rule seat) (ap (λ (x : Book). x.live) t.2 ∙ l) live (ap (λ (x : Book). x.by) t.2 ∙ e))
 
   only_main : v.main ≡ true → (i : ℕ) (u : Hold) → IsAt (map hold views) i u → u.main ≡ true → i ≡ id
   only_main m i u g n =
       let t = map_back hold views i u g in
-      rule.seats.one i id (who t.0) (who v) (at_map who views i t.0 t.1) (at_who rows room word slot log views rule id v at live) (ap (λ (x : Hold). x.main) t.2 ∙ n) m
+      rule.seats.one i id (who t.0) (who v) (at_map who views i t.0 t.1) (at_who rule seat) (ap (λ (x : Hold). x.main) t.2 ∙ n) m
 
   new_books : (x : What) → MayNote (seen v hands) x → let e : Event = record { stamp = length log; by = v.by; what = x } in let b : Book = record { live = v.live; main = v.main; by = v.by; events = v.events ++ e ∷ []; floor = v.floor; spare = v.spare - 1 } in BooksAgree room (log ++ e ∷ []) (slice_set (map book views) id b)
   new_books x may = let e : Event = record { stamp = length log; by = v.by; what = x } in
-      tick_books log e room (map book views) rule.books id (book v) (at_book rows room word slot log views rule id v at live) live sp refl refl (meets rows room word slot log views rule id v at live hands x may) apart
+      tick_books log e room (map book views) rule.books id (book v) (at_book rule seat) live sp refl refl (meets rule seat hands x may) apart
 
   new_seats : (x : What) → let e : Event = record { stamp = length log; by = v.by; what = x } in SeatsAgree (log ++ e ∷ []) (slice_set (map who views) id (who v))
-  new_seats x = let e : Event = record { stamp = length log; by = v.by; what = x } in let g = at_who rows room word slot log views rule id v at live in
+  new_seats x = let e : Event = record { stamp = length log; by = v.by; what = x } in let g = at_who rule seat in
       keep (λ l. SeatsAgree (log ++ e ∷ []) l) (map who views) id (who v) g (tick_seats log e (map who views) rule.seats id (who v) g live refl)
 
   -- an event of no row is nobody's Acquire
   new_deeds : (x : What) (d : Deed) → d.by ≡ v.by → d.events ≡ v.events ++ record { stamp = length log; by = v.by; what = x } ∷ [] → d.empty ≡ v.empty → d.opened ≡ v.opened → ((r : ℕ) → IsAmong r d.handed → IsAmong r v.handed) → ((r s : ℕ) → x ≡ Acquire r s → IsAmong r v.empty)
       → DeedsAgree (log ++ record { stamp = length log; by = v.by; what = x } ∷ []) (slice_set (map deed views) id d)
   new_deeds x d by events empty opened handed mine = let e : Event = record { stamp = length log; by = v.by; what = x } in
-      tick_deeds log e (map deed views) rule.deeds id (deed v) d (at_deed rows room word slot log views rule id v at live) by events empty opened handed
-      (λ i r s u ne g m is. let t = map_back deed views i u g in ne (one_right rows room word slot log views rule id v at live r i t.0 t.1 (mine r s is) (subst (λ (y : Deed). IsAmong r y.empty) (sym t.2) m)))
+      tick_deeds log e (map deed views) rule.deeds id (deed v) d (at_deed rule seat) by events empty opened handed
+      (λ i r s u ne g m is. let t = map_back deed views i u g in ne (one_right rule seat r i t.0 t.1 (mine r s is) (subst (λ (y : Deed). IsAmong r y.empty) (sym t.2) m)))
 
   new_rows : (x : What) → ((r : ℕ) (how : Exit) (ok : Bool) → x ≢ Final r how ok) → ((r s : ℕ) → x ≡ Acquire r s → IsAmong r v.empty) → RowsAgree rows word (log ++ record { stamp = length log; by = v.by; what = x } ∷ []) (slice_set (map work views) id (work v))
-  new_rows x no_final mine = let e : Event = record { stamp = length log; by = v.by; what = x } in let g = at_work rows room word slot log views rule id v at live in
+  new_rows x no_final mine = let e : Event = record { stamp = length log; by = v.by; what = x } in let g = at_work rule seat in
       keep (λ l. RowsAgree rows word (log ++ e ∷ []) l) (map work views) id (work v) g
       (tick_rows log e rows word (map work views) rule.words no_final (λ r s is. let l = total_at (λ (u : Work). times r u.empty) (map work views) id (work v) g in let t = times_some r v.empty (mine r s is) in is_inside (rule.words r) (omega arith)))
 
   new_pays : (x : What) → ((r : ℕ) (how : Exit) (ok : Bool) → x ≢ Final r how ok) → PaysAgree word slot (log ++ record { stamp = length log; by = v.by; what = x } ∷ []) (slice_set (map purse views) id (purse v))
   new_pays x no_final = let e : Event = record { stamp = length log; by = v.by; what = x } in
-      keep (λ l. PaysAgree word slot (log ++ e ∷ []) l) (map purse views) id (purse v) (at_purse rows room word slot log views rule id v at live) (tick_pays log e word slot (map purse views) rule.pays no_final)
+      keep (λ l. PaysAgree word slot (log ++ e ∷ []) l) (map purse views) id (purse v) (at_purse rule seat) (tick_pays log e word slot (map purse views) rule.pays no_final)
 
   new_leases : (x : What) → ((j s : ℕ) → x ≢ Lease j s) → ((j : ℕ) (how : Exit) → x ≢ Cancel j how) → LeasesAgree (log ++ record { stamp = length log; by = v.by; what = x } ∷ []) (slice_set (map hold views) id (hold v))
   new_leases x no_lease no_cancel = let e : Event = record { stamp = length log; by = v.by; what = x } in
-      keep (λ l. LeasesAgree (log ++ e ∷ []) l) (map hold views) id (hold v) (at_hold rows room word slot log views rule id v at live) (tick_leases log e (map hold views) rule.leases no_lease no_cancel)
+      keep (λ l. LeasesAgree (log ++ e ∷ []) l) (map hold views) id (hold v) (at_hold rule seat) (tick_leases log e (map hold views) rule.leases no_lease no_cancel)
 
   -- an event that changes no row and no lease
   plain_tick : (x : What) → MayNote (seen v hands) x → ((r : ℕ) (how : Exit) (ok : Bool) → x ≢ Final r how ok) → ((r s : ℕ) → x ≡ Acquire r s → IsAmong r v.empty) → ((j s : ℕ) → x ≢ Lease j s) → ((j : ℕ) (how : Exit) → x ≢ Cancel j how)
       → let e : Event = record { stamp = length log; by = v.by; what = x } in let w : Token P = record v { events = v.events ++ e ∷ []; spare = v.spare - 1 } in RuleHolds rows room word slot (log ++ e ∷ []) (slice_set views id w)
   plain_tick x may no_final mine no_lease no_cancel = let e : Event = record { stamp = length log; by = v.by; what = x } in let w : Token P = record v { events = v.events ++ e ∷ []; spare = v.spare - 1 } in
       rule_put rows room word slot (log ++ e ∷ []) views id w (new_seats x) (new_books x may) (new_rows x no_final mine) (new_deeds x (deed w) refl refl refl refl (λ r m. m) mine) (new_leases x no_lease no_cancel) (new_pays x no_final)
-      (spent_put rows room word slot log views rule id v at live w live) (small_put rows room word slot log views rule id v at live w (λ i q m. rule.small id i q v at m))
+      (spent_put rule seat w live) (small_put rule seat w (λ i q m. rule.small id i q v at m))
 
   -- every tick keeps the rule
   pub tick_keeps : (x : What) → MayNote (seen v hands) x → let e : Event = record { stamp = length log; by = v.by; what = x } in RuleHolds rows room word slot (log ++ e ∷ []) (slice_set views id (noted v e))
-  tick_keeps (Open s p) may = plain_tick (Open s p) may (λ r how ok h. cc) (λ r t h. absurd (open_acquire s p r t h)) (λ j t h. cc) (λ j how h. cc)
+  tick_keeps (Open s p) may = plain_tick (Open s p) may (λ r how ok h. cc) (λ r t h. absurd (kinds_apart h refl)) (λ j t h. cc) (λ j how h. cc)
   tick_keeps (Acquire r s) may = plain_tick (Acquire r s) may (λ q how ok h. cc) (λ q t h. subst (λ n. IsAmong n v.empty) (acquire_row r s q t h) may.0) (λ j t h. cc) (λ j how h. cc)
-  tick_keeps (Close s how) may = plain_tick (Close s how) may (λ q x ok h. cc) (λ q t h. absurd (close_acquire s how q t h)) (λ j t h. cc) (λ j how h. cc)
+  tick_keeps (Close s how) may = plain_tick (Close s how) may (λ q x ok h. cc) (λ q t h. absurd (kinds_apart h refl)) (λ j t h. cc) (λ j how h. cc)
   tick_keeps (Lease j s) may =
       let x = Lease j s in let e : Event = record { stamp = length log; by = v.by; what = x } in let w : Token P = noted v e in
-      let m = meets rows room word slot log views rule id v at live hands x may in
-      rule_put rows room word slot (log ++ e ∷ []) views id w (new_seats x) (new_books x may) (new_rows x (λ q how ok h. cc) (λ q t h. absurd (lease_acquire j s q t h))) (new_deeds x (deed w) refl refl refl refl (λ r m. m) (λ q t h. absurd (lease_acquire j s q t h)))
-      (lease_leases log e (map hold views) rule.leases id j s (hold v) (at_hold rows room word slot log views rule id v at live) may.0 (only_main may.0) rule.books.legal refl refl m.0 may.2
+      let m = meets rule seat hands x may in
+      rule_put rows room word slot (log ++ e ∷ []) views id w (new_seats x) (new_books x may) (new_rows x (λ q how ok h. cc) (λ q t h. absurd (kinds_apart h refl))) (new_deeds x (deed w) refl refl refl refl (λ r m. m) (λ q t h. absurd (kinds_apart h refl)))
+      (lease_leases log e (map hold views) rule.leases id j s (hold v) (at_hold rule seat) may.0 (only_main may.0) rule.books.legal refl refl m.0 may.2
       (λ r. (
-        (λ a. covered_map v.events log v.by (forth rows room word slot log views rule id v at live) s r (closed_back rows room word slot log views rule id v at live) ((may.5 r).0 a)),
-        (λ c. (may.5 r).1 (covered_map log v.events v.by (back rows room word slot log views rule id v at live) s r (closed_forth rows room word slot log views rule id v at live) c)),
+        (λ a. covered_map v.events log v.by (forth rule seat) s r (closed_back rule seat) ((may.5 r).0 a)),
+        (λ c. (may.5 r).1 (covered_map log v.events v.by (back rule seat) s r (closed_forth rule seat) c)),
       )))
-      (new_pays x (λ q how ok h. cc)) (spent_put rows room word slot log views rule id v at live w live) (small_put rows room word slot log views rule id v at live w (λ i q m. rule.small id i q v at m))
+      (new_pays x (λ q how ok h. cc)) (spent_put rule seat w live) (small_put rule seat w (λ i q m. rule.small id i q v at m))
   tick_keeps (Cancel j how) may =
       let x = Cancel j how in let e : Event = record { stamp = length log; by = v.by; what = x } in let w : Token P = noted v e in
-      rule_put rows room word slot (log ++ e ∷ []) views id w (new_seats x) (new_books x may) (new_rows x (λ q how ok h. cc) (λ q t h. absurd (cancel_acquire j how q t h))) (new_deeds x (deed w) refl refl refl refl (λ r m. m) (λ q t h. absurd (cancel_acquire j how q t h)))
-      (cancel_leases log e (map hold views) rule.leases id j how (hold v) (at_hold rows room word slot log views rule id v at live) refl may.0)
-      (new_pays x (λ q how ok h. cc)) (spent_put rows room word slot log views rule id v at live w live) (small_put rows room word slot log views rule id v at live w (λ i q m. rule.small id i q v at m))
+      rule_put rows room word slot (log ++ e ∷ []) views id w (new_seats x) (new_books x may) (new_rows x (λ q how ok h. cc) (λ q t h. absurd (kinds_apart h refl))) (new_deeds x (deed w) refl refl refl refl (λ r m. m) (λ q t h. absurd (kinds_apart h refl)))
+      (cancel_leases log e (map hold views) rule.leases id j how (hold v) (at_hold rule seat) refl may.0)
+      (new_pays x (λ q how ok h. cc)) (spent_put rule seat w live) (small_put rule seat w (λ i q m. rule.small id i q v at m))
   tick_keeps (Final r how ok) may =
       let x = Final r how ok in let e : Event = record { stamp = length log; by = v.by; what = x } in let w : Token P = noted v e in
       rule_put rows room word slot (log ++ e ∷ []) views id w (new_seats x) (new_books x may)
-      (final_rows log e rows word (map work views) rule.words id r how ok (work v) (at_work rows room word slot log views rule id v at live) refl may.1)
-      (new_deeds x (deed w) refl refl refl refl (λ q m. (among_without r v.handed q m).0) (λ q t h. absurd (final_acquire r how ok q t h)))
+      (final_rows log e rows word (map work views) rule.words id r how ok (work v) (at_work rule seat) refl may.1)
+      (new_deeds x (deed w) refl refl refl refl (λ q m. (among_without r v.handed q m).0) (λ q t h. absurd (kinds_apart h refl)))
       (new_leases x (λ j t h. cc) (λ j how h. cc))
-      (final_pays log e word slot (map purse views) rule.pays id r how ok (purse v) (at_purse rows room word slot log views rule id v at live) refl may.1)
-      (spent_put rows room word slot log views rule id v at live w live) (small_put rows room word slot log views rule id v at live w (λ i q m. rule.small id i q v at m))
+      (final_pays log e word slot (map purse views) rule.pays id r how ok (purse v) (at_purse rule seat) refl may.1)
+      (spent_put rule seat w live) (small_put rule seat w (λ i q m. rule.small id i q v at m))

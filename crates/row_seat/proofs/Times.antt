@@ -8,6 +8,7 @@ use Rattle.res_ledger.specs.declared.event.Event.{Event}
 use Rattle.row_seat.specs.Totals.{pair_times, row_times, stamp_times, times}
 use Rattle.row_seat.specs.Views.{run, without, without_pair}
 use Rattle.row_seat.specs.Steps.{without_one}
+use Rattle.row_seat.proofs.Members.{among_without}
 
 pub times_some : (r : ℕ) (xs : List ℕ) → IsAmong r xs → 1 ≤ times r xs
 times_some r [] h = absurd (among_nil h)
@@ -65,6 +66,21 @@ without_same r xs = times_filter (λ x. not (eqb x r)) r xs ∙ ap (λ b. if_so 
 
 pub without_other : (r q : ℕ) (xs : List ℕ) → q ≢ r → times q (without r xs) ≡ times q xs
 without_other r q xs ne = times_filter (λ x. not (eqb x r)) q xs ∙ ap (λ b. if_so (not b) (times q xs)) (ne_eqb q r ne)
+
+length_times : (n : ℕ) (xs : List ℕ) → length (without n xs) + times n xs ≡ length xs
+length_times n [] = refl
+length_times n (x ∷ xs) = let t = length_times n xs in elim (eqb x n) as (λ b. length (cond (not b) (x ∷ without n xs) (without n xs)) + (cond b 1 0 + times n xs) ≡ suc (length xs)) [ true ↦ omega arith | false ↦ omega arith ]
+
+without_less : (n r : ℕ) (xs : List ℕ) → times r (without n xs) ≤ times r xs
+without_less n r xs = ⊎_elim (λ e. subst (λ z. times z (without n xs) ≤ times z xs) (sym e) (let t = without_same n xs in omega arith)) (λ ne. let t = without_other n r xs ne in omega arith) (cases_eq r n)
+
+-- at most n numbers below n, each once
+pub few_below : (n : ℕ) (xs : List ℕ) → ((r : ℕ) → IsAmong r xs → r < n) → ((r : ℕ) → times r xs ≤ 1) → length xs ≤ n
+few_below zero [] low once = omega arith
+few_below zero (x ∷ xs) low once = let l = low x (here xs) in absurd (omega arith)
+few_below (suc n) xs low once =
+    let t = few_below n (without n xs) (λ r m. let a = among_without n xs r m in let l = low r a.0 in let ne = a.1 in ⊎_elim (λ e. absurd (ne e)) (λ d. omega arith) (cases_eq r n)) (λ r. let a = without_less n r xs in let o = once r in omega arith) in
+    let l = length_times n xs in let o = once n in omega arith
 
 -- pairs
 pub row_push : (r j q : ℕ) (xs : List (ℕ × ℕ)) → row_times r (xs ++ (j, q) ∷ []) ≡ row_times r xs + cond (eqb q r) 1 0

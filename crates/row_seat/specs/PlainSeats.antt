@@ -2,11 +2,11 @@
 use Rattle.std.specs.Prelude.{◌≡◌, ℕ, ◌+◌, ◌≤◌, true, List, length, None, Option, vec_capacity, vec_len, slice_index, slice_index_or}
 use Rattle.std.proofs.Common.{◌∙◌, ap}
 use Rattle.std.specs.Vec.{with_item}
-use Rattle.row_seat.specs.Totals.{IsAt, total}
+use Rattle.row_seat.specs.Totals.{total}
 use Rattle.res_ledger.specs.declared.event.Event.{Event}
 use Rattle.row_seat.specs.declared.plain.PlainSeat.{PlainSeat}
 use Rattle.row_seat.specs.declared.plain.PlainTable.{PlainTable}
-use Rattle.row_seat.specs.Rule.{RuleHolds, seen}
+use Rattle.row_seat.specs.Rule.{IsSeated, RuleHolds, seen}
 use Rattle.row_seat.specs.declared.token.Token.{Token}
 use Rattle.row_seat.specs.declared.view.View.{View}
 use Rattle.row_seat.specs.Views.{paid}
@@ -32,8 +32,7 @@ module _ {P : Type 0} where
   -- the seat's view is one of the table's, and its hands have room for the rows that it may open
   pub record Sits (s : PlainSeat P) (d : PlainTable P) : Type 0 where
     pub table : IsTable d.slots.items d.words.items d.events.items (vec_capacity d.events) d.views
-    pub mine : IsAt d.views s.id s.token
-    pub live : s.token.live ≡ true
+    pub seated : IsSeated d.views s.id s.token
     pub by : s.by ≡ s.token.by
     pub held : rows_of s.hands.items ≡ s.token.opened
     pub hold : length s.token.empty + vec_len s.hands ≤ vec_capacity s.hands
@@ -43,4 +42,4 @@ module _ {P : Type 0} where
   shown_lent s r w = ap (λ xs. seen s.token xs) (set_spot r w s.hands.items)
 
   pub fitting_lent : (s : PlainSeat P) (r : ℕ) (w : P) (d : PlainTable P) → Sits s d → Sits (lent s r w) d
-  fitting_lent s r w d h = record { table = h.table; mine = h.mine; live = h.live; by = h.by; held = ap rows_of (set_spot r w s.hands.items) ∙ (rows_with r w s.hands.items ∙ h.held); hold = h.hold; whole = h.whole }
+  fitting_lent s r w d h = record { table = h.table; seated = h.seated; by = h.by; held = ap rows_of (set_spot r w s.hands.items) ∙ (rows_with r w s.hands.items ∙ h.held); hold = h.hold; whole = h.whole }

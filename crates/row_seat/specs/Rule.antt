@@ -153,6 +153,19 @@ module _ {P : Type 0} where
     pub handed : (i r : ℕ) (p : Purse P) → IsAt ps i p → IsAmong r p.handed → (x : P) × IsAmong (r, x) p.given × (¬ (IsAmong r p.taken) → slot r ≡ Some x)
     pub final : (r : ℕ) → IsFinalized log r → (x : P) × GivenIn ps r x
 
+  -- v is the view of a seat in use, at the place id
+  pub record IsSeated (views : List (Token P)) (id : ℕ) (v : Token P) : Type 0 where
+    pub at : IsAt views id v
+    pub live : v.live ≡ true
+
+  -- each row of the view is below n, and the rows that may be open are no more
+  pub record IsInside (n : ℕ) (v : Token P) : Type 0 where
+    pub empty : (r : ℕ) → IsAmong r v.empty → r < n
+    pub opened : (r : ℕ) → IsAmong r v.opened → r < n
+    pub pairs : (j r : ℕ) → IsAmong (j, r) v.pairs → r < n
+    pub handed : (r : ℕ) → IsAmong r v.handed → r < n
+    pub few : length v.empty + length v.opened ≤ n
+
   -- a view of nothing
   pub record IsBlank (v : Token P) : Type 0 where
     pub empty : v.empty ≡ []

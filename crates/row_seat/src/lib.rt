@@ -1,6 +1,7 @@
 //! Rows and seats: the right of one stream to act on rows, the contract of such a seat, and seats on one thread.
 #![tactic(auto)]
 
+pub mod hand;
 pub mod knowledge;
 pub mod plain;
 pub mod seat;

@@ -1,7 +1,7 @@
 //! Seats on one thread, as plain data.
-ghost use Rattle.std.specs.Prelude.{◌≡◌, ◌≢◌, ℕ, ◌<◌, ◌-◌, ◌^◌, IfOk, slice_index_or, length};
-ghost use Rattle.row_seat.specs.Views.{HasRow};
+ghost use Rattle.std.specs.Prelude.{◌≡◌, ℕ, ◌<◌, ◌-◌, ◌^◌, IfOk, slice_index_or, length};
 
+use crate::hand::{find, take_out};
 use crate::knowledge::{
     Alone, Counts, Halving, Handing, HandingOver, Joining, Leasing, Leaving, Noting, Placing,
     Shutting, Spending, Splitting, Starting, Taking, Zero, add, put,
@@ -45,21 +45,6 @@ pub struct PlainTable<P> {
     views: Known<LinkedList<Token<P>>>,
 }
 
-// The place of an open row in the hands.
-fn find<P>(hands: &[(u32, P)], row: u32) -> usize
-    requires { HasRow hands.now row }
-    ensures within { result < length hands.now }
-    ensures found { (d : _) → (slice_index_or hands.now result d).0 ≡ row }
-    ensures first { (k : ℕ) (d : _) → k < result → (slice_index_or hands.now k d).0 ≢ row }
-{
-    for (i, hand) in hands.iter().enumerate() {
-        if hand.0 == row {
-            return i;
-        }
-    }
-    unreachable!()
-}
-
 impl<P: Drop> RowSeat for PlainSeat<P> {
     ghost use Rattle.row_seat.specs.PlainSeats.{shown, Sits, lent, shown_lent, fitting_lent};
 
@@ -78,10 +63,7 @@ impl<P: Drop> RowSeat for PlainSeat<P> {
     ghost pay_fits = { fitting_lent };
 
     fn place(&mut self, desk: &mut PlainTable<P>, row: u32, pay: P) {
-        match self.hands.push((row, pay)) {
-            Ok(()) => {}
-            Err(_) => unreachable!(),
-        }
+        self.hands.push_reserved((row, pay));
         self.token = step::<u32, Token<P>, Placing>(&self.token, &row);
         desk.views = put(&desk.views, &self.id, &self.token);
         desk.words[row as usize] = OPEN;
@@ -117,8 +99,8 @@ impl<P: Drop> RowSeat for PlainSeat<P> {
     }
 
     fn close(&mut self, desk: &mut PlainTable<P>, row: u32) -> Left {
-        let i = find(&self.hands, row);
-        let hand = self.hands.remove(i);
+        let pay = take_out(&mut self.hands, row);
+        let hand = (row, pay);
         self.token = step::<(u32, P), Token<P>, Shutting>(&self.token, &hand);
         let word = desk.words[row as usize] + CLOSE;
         desk.words[row as usize] = word;
@@ -150,10 +132,7 @@ impl<P: Drop> RowSeat for PlainSeat<P> {
             by: self.by,
             what,
         };
-        match desk.events.push(event) {
-            Ok(()) => {}
-            Err(_) => unreachable!(),
-        }
+        desk.events.push_reserved(event);
         self.token = step::<Event, Token<P>, Noting>(&self.token, &event);
         desk.views = put(&desk.views, &self.id, &self.token);
         stamp

@@ -1,14 +1,9 @@
-use Rattle.std.proofs.Common.{◌≢◌, ℕ, eqb, filter, List, refl, sym, ap, ◌∙◌, ⊎_elim}
-use Rattle.chunk_core.specs.declared.code.Exit.{Exit}
-use Rattle.chunk_core.specs.declared.code.Exit.TheVariants.{Succeeded}
+use Rattle.std.proofs.Common.{ℕ, eqb, filter, List, refl, sym, ap, ◌∙◌, ⊎_elim}
 use Rattle.res_ledger.specs.declared.event.Event.{Event}
-use Rattle.res_ledger.specs.declared.event.What.TheVariants.{Acquire, Close}
 use Rattle.chunk_core.proofs.Members.{among_last, among_cons, among_nil}
+use Rattle.res_ledger.proofs.Apart.{apart}
 use Rattle.row_seat.specs.Views.{stream_pairs}
 use Rattle.row_seat.proofs.uses.hand_out.Goals as goal
-
-close_acquire : (s : ℕ) (how : Exit) (r t : ℕ) → Close s how ≢ Acquire r t
-close_acquire s how r t h = cc
 
 pub join-requires-clause-can : goal.join-requires-clause-can
 join-requires-clause-can g c = let o = c.in_ok-other.ensures.ok in let can = c.requires.can in let j = c.args.stream in
@@ -17,7 +12,7 @@ join-requires-clause-can g c = let o = c.in_ok-other.ensures.ok in let can = c.r
       (j, refl, among_last _ j),
       (
         refl,
-        (λ r m a. ⊎_elim (λ e. close_acquire 0 Succeeded r a.1 (sym (ap (λ (x : Event). x.what) e) ∙ a.2.3)) (λ n. among_nil n) (among_cons a.2.1)),
+        (λ r m a. ⊎_elim (λ e. apart (sym (ap (λ (x : Event). x.what) e) ∙ a.2.3) refl) (λ n. among_nil n) (among_cons a.2.1)),
         ap (λ (l : List (ℕ × ℕ)). stream_pairs j l) c.requires.rest.0,
         ap (λ (l : List ℕ). filter (λ x. eqb x j) l) c.requires.rest.1,
         refl,
