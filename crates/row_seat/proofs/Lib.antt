@@ -16,6 +16,7 @@ pub mod Apart
 pub mod Tells
 pub mod Stayed
 pub mod Inside
+pub mod Standings
 pub mod Rejoined
 mod Sitting
 pub mod Starts

@@ -3,6 +3,7 @@
 
 pub mod hand;
 pub mod knowledge;
+pub mod laws;
 pub mod plain;
 pub mod seat;
 pub mod token;
