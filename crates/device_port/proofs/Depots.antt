@@ -1,5 +1,5 @@
 -- The numbers of devices, and the bytes at a path.
-use Rattle.std.proofs.Common.{◌≡◌, ◌≢◌, ℕ, ◌<◌, ◌≤◌, ◌+◌, Bool, true, false, ◌||◌, List, [], ◌∷◌, ◌++◌, length, nat_eq, refl, sym, arith, ⊎_elim, inl, inr, ◌⊎◌, ◌∙◌, subst}
+use Rattle.std.proofs.Common.{◌≡◌, ◌≢◌, ℕ, ◌<◌, ◌≤◌, ◌+◌, Bool, true, false, ◌||◌, List, [], ◌∷◌, ◌++◌, length, nat_eq, refl, sym, arith, ⊎_elim, inl, inr, ◌⊎◌, ◌∙◌, ap, subst}
 use Rattle.std.proofs.lemmas.Bool.{false≢true}
 use Rattle.std.proofs.lemmas.Bool.Decides.{eqb_tells}
 use Rattle.std.specs.Cmp.{nat_eq_equiv}
@@ -8,8 +8,8 @@ use Rattle.std.proofs.lemmas.List.Folds.{list_any-append}
 use Rattle.std.proofs.lemmas.Map.Keys.{IsDistinct-push}
 use Rattle.std.proofs.lemmas.Map.Steps.{length-le_from_distinct_below}
 use Rattle.std.specs.List.{IsDistinct, list_any}
-use Rattle.device_port.specs.Device.{DeviceTold}
-use Rattle.device_port.specs.Depot.{numbers, AreApart, AreBelow, IsUnknown}
+use Rattle.device_port.specs.Device.{DeviceTold, Place}
+use Rattle.device_port.specs.Depot.{numbers, AreApart, AreBelow, IsUnknown, CourseTold, DepotTold, depot_of}
 
 pub apart_none : AreApart []
 unfolding IsDistinct
@@ -65,3 +65,7 @@ below_more n ds d b lt q h =
 
 pub below_longer : (n : ℕ) (ds : List DeviceTold) → AreBelow n ds → AreBelow (n + 1) ds
 below_longer n ds b q h = let lt : q < n = b q h in omega arith
+
+-- one place more, where no files are told
+pub course_made : (old new : CourseTold) (d : DeviceTold) (p : Place) → new ≡ record old { made = old.made ++ d.place ∷ [] } → d.place ≡ p → depot_of new ≡ record (depot_of old) { made = old.made ++ p ∷ [] }
+course_made old new d p e h = ap depot_of e ∙ ap (λ q. let r : DepotTold = record (depot_of old) { made = old.made ++ q ∷ [] } in r) h

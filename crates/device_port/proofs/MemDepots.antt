@@ -64,6 +64,17 @@ wrote_says path r h =
       sym ((bytes_eq-Decides r.path path).0 (and_right (nat_eq (opens_of r.stage) 1) (bytes_eq r.path path) rest)),
     )
 
+pub wrote_there : (r : Record) → r.mode ≡ mode.Write → opens_of r.stage ≡ 1 → wrote r.path r ≡ true
+wrote_there r m o =
+    let write : is_write r.mode ≡ true = ap is_write m in
+    let once : nat_eq (opens_of r.stage) 1 ≡ true = ap (λ n. nat_eq n 1) o in
+    let same : bytes_eq r.path r.path ≡ true = (bytes_eq-Decides r.path r.path).1 refl in
+    rw (write, once, same) refl
+
+-- what was written stands at its path
+pub stored_there : (files : List FileOf) (rs : List Record) (r : Record) → r.mode ≡ mode.Write → opens_of r.stage ≡ 1 → bytes_at files (rs ++ r ∷ []) r.path ≡ Some r.written.items
+stored_there files rs r m o = bytes_more files rs r r.path ∙ ap (λ b. cond b (Some r.written.items) (bytes_at files rs r.path)) (wrote_there r m o)
+
 -- only at its path
 pub files_more : (files : List FileOf) (rs : List Record) (r : Record) (path : List ℕ) → ((r.mode ≡ mode.Write) × (opens_of r.stage ≡ 1) × (path ≡ r.path)) ⊎ (bytes_at files (rs ++ r ∷ []) path ≡ bytes_at files rs path)
 files_more files rs r path =

@@ -1,5 +1,5 @@
 -- What a depot tells.
-use Rattle.std.specs.Prelude.{◌≡◌, ◌≢◌, ◌⊎◌, ℕ, ◌<◌, false, List, [], ◌∷◌, ◌++◌, length, Option, Some, None, option_map, unwrap_or, is_some, map, nat_eq, true}
+use Rattle.std.specs.Prelude.{◌≡◌, ◌≢◌, ◌⊎◌, ℕ, ◌<◌, false, List, [], ◌∷◌, ◌++◌, length, Option, Some, None, option_map, unwrap_or, is_some, IfSome, map, nat_eq, true}
 use Rattle.std.specs.List.{IsDistinct, list_any}
 use Rattle.chunk_core.specs.Lists.{Each}
 use Rattle.device_port.specs.declared.device.Mode.{Mode}
@@ -28,6 +28,7 @@ fresh depot place = record {
   present = option_map (λ f. is_some (f place.path)) depot.files;
   content = content_at depot.files place.path;
   at = 0;
+  ended = false;
   written = option_map (λ f. []) depot.files;
   is_open = false;
   opens = 0;
@@ -65,6 +66,10 @@ KeepsFilesBut IsWritten (Some f) None = ⊥
 -- the files are as before, but for the path of a device that was opened for writing
 abbrev pub KeepsOtherFiles : DepotTold → DepotTold → DeviceTold → Type 0
 KeepsOtherFiles old new dev = KeepsFilesBut (λ path. (dev.place.mode ≡ mode.Write) × (dev.opens ≡ 1) × (path ≡ dev.place.path)) old.files new.files
+
+-- the path of a device that was opened for writing holds what was written, where files are told
+abbrev pub KeepsWritten : Option Files → DeviceTold → Type 0
+KeepsWritten files dev = dev.place.mode ≡ mode.Write → dev.opens ≡ 1 → IfSome files (λ f. f dev.place.path ≡ dev.written)
 
 -- the numbers of these devices
 abbrev pub numbers : List DeviceTold → List ℕ

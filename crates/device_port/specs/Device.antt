@@ -1,5 +1,5 @@
 -- What a device tells.
-use Rattle.std.specs.Prelude.{ℕ, ◌+◌, Bool, true, false, List, ◌++◌, Option, Some, option_map}
+use Rattle.std.specs.Prelude.{ℕ, ◌+◌, nat_eq, Bool, true, false, List, ◌++◌, Option, Some, option_map}
 use Rattle.chunk_core.specs.declared.code.Exit.{Exit}
 use Rattle.device_port.specs.declared.device.Mode.{Mode}
 use Rattle.device_port.specs.declared.device.Mode.TheVariants as mode
@@ -20,6 +20,7 @@ pub record Place : Type 0 where
   pub mode : Mode
 
 -- `present` says whether the path was there when the device was made; `at` is where it reads on;
+-- `ended` says that the last read that didn't fail gave nothing;
 -- `exit` is how what used the device ended, told by the close
 pub record DeviceTold : Type 0 where
   pub number : ℕ
@@ -27,6 +28,7 @@ pub record DeviceTold : Type 0 where
   pub present : Option Bool
   pub content : Option (List ℕ)
   pub at : ℕ
+  pub ended : Bool
   pub written : Option (List ℕ)
   pub is_open : Bool
   pub opens : ℕ
@@ -40,9 +42,9 @@ pub record DeviceTold : Type 0 where
 abbrev pub faults_of : DeviceTold → ℕ
 faults_of d = d.open_faults + d.read_faults + d.write_faults + d.close_faults
 
--- n bytes further
+-- n bytes further, and at the end where that are none
 abbrev pub moved : ℕ → DeviceTold → DeviceTold
-moved n d = record d { at = d.at + n }
+moved n d = record d { at = d.at + n; ended = nat_eq n 0 }
 
 -- these bytes behind what was written
 abbrev pub with_written : DeviceTold → List ℕ → DeviceTold

@@ -12,6 +12,7 @@ record_told r = record {
   present = Some r.present;
   content = Some r.content.items;
   at = r.at;
+  ended = r.ended;
   written = Some r.written.items;
   is_open = is_open_at r.stage;
   opens = opens_of r.stage;

@@ -6,7 +6,7 @@ use std::alloc::{AllocError, Global};
 /// Makes devices and takes each back once.
 pub trait Depot {
     ghost use Rattle.std.specs.Prelude.{◌≡◌, ◌++◌, ◌∷◌, [], IfOk, OnErr};
-    ghost use Rattle.device_port.specs.Depot.{DepotTold, Makes, MayReturn, KeepsOtherFiles};
+    ghost use Rattle.device_port.specs.Depot.{DepotTold, Makes, MayReturn, KeepsOtherFiles, KeepsWritten};
 
     type Dev: Device + Drop;
 
@@ -24,5 +24,6 @@ pub trait Depot {
         requires { MayReturn (told self.old) (Self.Dev.Device.told dev) }
         ensures retired { (told self.new).retired ≡ (told self.old).retired ++ Self.Dev.Device.told dev ∷ [] }
         ensures made { (told self.new).made ≡ (told self.old).made }
-        ensures files { KeepsOtherFiles (told self.old) (told self.new) (Self.Dev.Device.told dev) };
+        ensures files { KeepsOtherFiles (told self.old) (told self.new) (Self.Dev.Device.told dev) }
+        ensures written { KeepsWritten (told self.new).files (Self.Dev.Device.told dev) };
 }

@@ -35,7 +35,8 @@ pub trait Device {
         ensures failed { OnErr result (told self.new ≡ record (told self.old) { open_faults = (told self.old).open_faults + 1 }) }
         ensures missing { (told self.old).place.mode ≡ mode.Read → (told self.old).present ≡ Some false → IsErr result };
 
-    /// Reads some of the next bytes to the front of the buffer, and none only at the end.
+    /// Reads some of the next bytes to the front of the buffer, and none only at the end. The
+    /// device has ended where its last read gave none.
     fn read(&mut self, buf: &mut [u8]) -> Result<usize, Failed>
         requires some { 0 < length buf.old }
         requires open { (told self.old).is_open ≡ true }

@@ -8,6 +8,7 @@ use chunk_core::Word;
 use known::{Known, Says, Steps, know, step};
 use std::alloc::{AllocError, Global};
 use std::marker::Model;
+use std::rt::Files;
 
 /// What a depot of real files has come to. It has no bytes, and only contracts read it.
 #[derive(Drop)]
@@ -29,7 +30,7 @@ impl Model for Course {
 /// No device was made yet.
 struct Begins;
 
-impl Says<HostRuntime, Course> for Begins {
+impl<R> Says<R, Course> for Begins {
     ghost use Rattle.std.specs.Prelude.{[]};
 
     ghost says = { λ _. record { made = []; retired = [] } };
@@ -38,7 +39,7 @@ impl Says<HostRuntime, Course> for Begins {
 /// One more device was made.
 struct Made;
 
-impl Steps<FileDevice, Course> for Made {
+impl<R, F> Steps<FileDevice<R, F>, Course> for Made {
     ghost use Rattle.std.specs.Prelude.{◌++◌, ◌∷◌, []};
     ghost use Rattle.device_port.specs.Real.{file_told};
 
@@ -48,7 +49,7 @@ impl Steps<FileDevice, Course> for Made {
 /// One more device came back.
 struct Returned;
 
-impl Steps<FileDevice, Course> for Returned {
+impl<R, F> Steps<FileDevice<R, F>, Course> for Returned {
     ghost use Rattle.std.specs.Prelude.{◌++◌, ◌∷◌, []};
     ghost use Rattle.device_port.specs.Real.{file_told};
 
@@ -57,8 +58,8 @@ impl Steps<FileDevice, Course> for Returned {
 
 /// Makes devices of real files. It keeps nothing of those that come back.
 #[derive(Drop)]
-pub struct FileDepot {
-    rt: HostRuntime,
+pub struct FileDepot<R> {
+    rt: R,
     count: u64,
     course: Known<Course>,
     ghost counted: { length course.made ≡ count },
@@ -66,41 +67,46 @@ pub struct FileDepot {
     ghost below: { AreBelow count course.retired },
 }
 
-impl FileDepot {
+impl<R> FileDepot<R> {
     ghost use Rattle.std.specs.Prelude.{[], None};
     ghost use Rattle.device_port.specs.Depot.{depot_of};
 
     /// A depot that made no device.
-    pub fn new(rt: HostRuntime) -> FileDepot
+    pub fn new(rt: R) -> FileDepot<R>
         ensures { depot_of result.course ≡ record { files = None; made = []; retired = [] } }
     {
         FileDepot {
+            course: know::<R, Course, Begins>(&rt),
             rt,
             count: 0,
-            course: know::<HostRuntime, Course, Begins>(&rt),
         }
     }
 }
 
-impl Depot for FileDepot {
+impl<R: Files + Copy> Depot for FileDepot<R> {
     ghost use Rattle.device_port.specs.Depot.{depot_of};
 
-    type Dev = FileDevice;
+    type Dev = FileDevice<R, R::File>;
 
     ghost told = { λ depot. depot_of depot.course };
 
-    fn make(&mut self, alloc: Global, path: &Word, mode: Mode) -> Result<FileDevice, AllocError> {
+    fn make(
+        &mut self,
+        alloc: Global,
+        path: &Word,
+        mode: Mode,
+    ) -> Result<FileDevice<R, R::File>, AllocError> {
         if self.count == u64::MAX {
             return Err(AllocError);
         }
         let path = Word::of(alloc, path.as_str())?;
         let dev = FileDevice::new(self.rt, self.count, path, mode);
-        self.course = step::<FileDevice, Course, Made>(&self.course, &dev);
+        self.course = step::<FileDevice<R, R::File>, Course, Made>(&self.course, &dev);
         self.count += 1;
         Ok(dev)
     }
 
-    fn retire(&mut self, dev: FileDevice) {
-        self.course = step::<FileDevice, Course, Returned>(&self.course, &dev);
+    fn retire(&mut self, dev: FileDevice<R, R::File>) {
+        self.course = step::<FileDevice<R, R::File>, Course, Returned>(&self.course, &dev);
     }
 }

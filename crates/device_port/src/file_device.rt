@@ -1,41 +1,47 @@
 //! A real file as a device.
-ghost use Rattle.std.specs.Prelude.{◌≡◌};
-ghost use Rattle.device_port.specs.Real.{file_told};
+ghost use Rattle.std.specs.Prelude.{◌≡◌, ◌+◌, ◌-◌, ◌^◌, ◌<◌, ◌≤◌, true, length, IfOk, OnOk, OnErr};
+ghost use Rattle.std.specs.Io.KnownBytes.{ReadConsumes, WriteAppends};
+ghost use Rattle.device_port.specs.Device.{moved};
+ghost use Rattle.device_port.specs.Real.{file_told, bytes_in};
 
-use crate::real::{read_some, write_some};
-use crate::{Device, Failed, Mode, Stage};
+use crate::real::{read_some, sync_written, write_some};
+use crate::{Device, Failed, Mode};
 use chunk_core::{Exit, Word};
-use std::fs::File;
+use std::fs::{File, OpenFile};
+use std::io::{Read, Write};
 use std::rt::Files;
 
 /// The file of a device while it is open, and else how far the device has come.
 #[derive(Drop)]
-enum Held {
+enum Held<F> {
     Unopened,
-    Open(File),
+    Open(F),
     Closed(Exit),
+    /// It was closed, and what was written may be lost.
+    ClosedBadly(Exit),
 }
 
 /// A real file. It is made by a `FileDepot`.
 #[derive(Drop)]
-pub struct FileDevice {
-    rt: HostRuntime,
+pub struct FileDevice<R, F> {
+    rt: R,
     number: u64,
     path: Word,
     mode: Mode,
-    held: Held,
+    held: Held<F>,
     at: u64,
+    ended: bool,
     open_faults: u64,
     read_faults: u64,
     write_faults: u64,
 }
 
-impl FileDevice {
+impl<R, F> FileDevice<R, F> {
     ghost use Rattle.std.specs.Prelude.{None, false};
 
     /// A device that was never opened.
-    pub(crate) fn new(rt: HostRuntime, number: u64, path: Word, mode: Mode) -> FileDevice
-        ensures { file_told result ≡ record { number = number; place = record { path = path; mode = mode }; present = None; content = None; at = 0; written = None; is_open = false; opens = 0; closes = 0; exit = None; open_faults = 0; read_faults = 0; write_faults = 0; close_faults = 0 } }
+    pub(crate) fn new(rt: R, number: u64, path: Word, mode: Mode) -> FileDevice<R, F>
+        ensures { file_told result ≡ record { number = number; place = record { path = path; mode = mode }; present = None; content = None; at = 0; ended = false; written = None; is_open = false; opens = 0; closes = 0; exit = None; open_faults = 0; read_faults = 0; write_faults = 0; close_faults = 0 } }
     {
         FileDevice {
             rt,
@@ -44,6 +50,7 @@ impl FileDevice {
             mode,
             held: Held::Unopened,
             at: 0,
+            ended: false,
             open_faults: 0,
             read_faults: 0,
             write_faults: 0,
@@ -51,7 +58,11 @@ impl FileDevice {
     }
 }
 
-impl Device for FileDevice {
+impl<R, F> Device for FileDevice<R, F>
+where
+    R: Files<File = F>,
+    F: Read + Write + OpenFile + Drop,
+{
     ghost use Rattle.device_port.specs.Real.{file_told, stage_of};
     ghost use Rattle.device_port.specs.Stage.{open_once_at, no_exit_at};
 
@@ -88,24 +99,42 @@ impl Device for FileDevice {
         }
     }
 
-    /// A file that gives more than 2^64 bytes fails.
-    fn read(&mut self, buf: &mut [u8]) -> Result<usize, Failed> {
+    /// A read that could pass 2^64 bytes fails.
+    fn read(&mut self, buf: &mut [u8]) -> Result<usize, Failed>
+        requires open { (file_told self.old).is_open ≡ true }
+        requires room { self.old.read_faults < 2 ^ 64 - 1 }
+        ensures count { IfOk result (λ n. n ≤ length buf.new) }
+        ensures ok { IfOk result (λ n. file_told self.new ≡ moved n (file_told self.old)) }
+        ensures failed { OnErr result (file_told self.new ≡ record (file_told self.old) { read_faults = self.old.read_faults + 1 }) }
+        ensures read { ReadConsumes (bytes_in F.remaining self.old.held) (bytes_in F.remaining self.new.held) result buf.new }
+    {
         let Held::Open(file) = &mut self.held else {
             unreachable!()
         };
-        match read_some(file, buf) {
-            Ok(count) if count as u64 <= u64::MAX - self.at => {
+        let count = if buf.len() as u64 <= u64::MAX - self.at {
+            read_some(file, buf)
+        } else {
+            Err(Failed)
+        };
+        match count {
+            Ok(count) => {
                 self.at += count as u64;
-                Ok(count)
+                self.ended = count == 0;
             }
-            _ => {
-                self.read_faults += 1;
-                Err(Failed)
-            }
+            Err(_) => self.read_faults += 1,
         }
+        count
     }
 
-    fn write(&mut self, bytes: &[u8]) -> Result<usize, Failed> {
+    fn write(&mut self, bytes: &[u8]) -> Result<usize, Failed>
+        requires some { 0 < length bytes.now }
+        requires open { (file_told self.old).is_open ≡ true }
+        requires room { self.old.write_faults < 2 ^ 64 - 1 }
+        ensures count { IfOk result (λ n. (1 ≤ n) × (n ≤ length bytes.now)) }
+        ensures ok { OnOk result (file_told self.new ≡ file_told self.old) }
+        ensures failed { OnErr result (file_told self.new ≡ record (file_told self.old) { write_faults = self.old.write_faults + 1 }) }
+        ensures written { WriteAppends (bytes_in F.contents self.old.held) (bytes_in F.contents self.new.held) result bytes.now }
+    {
         let Held::Open(file) = &mut self.held else {
             unreachable!()
         };
@@ -116,13 +145,16 @@ impl Device for FileDevice {
         count
     }
 
-    /// The file is closed by dropping it. The operating system's answer is lost then, since the
-    /// standard library has no close that tells it: closing a real file never fails here.
+    /// What was written is made safe before the file is closed, so that a lost write is a failed
+    /// close. Closing itself is done by dropping, which tells no error.
     fn close(&mut self, exit: Exit) -> Result<(), Failed> {
         let Held::Open(file) = std::mem::replace(&mut self.held, Held::Closed(exit)) else {
             unreachable!()
         };
-        drop(file);
+        if self.mode == Mode::Write && sync_written(&file).is_err() {
+            self.held = Held::ClosedBadly(exit);
+            return Err(Failed);
+        }
         Ok(())
     }
 }

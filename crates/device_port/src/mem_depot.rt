@@ -82,6 +82,7 @@ impl MemDepot {
             present,
             content,
             at: 0,
+            ended: false,
             written: Vec::new(alloc),
             stage: Stage::Unopened,
             open_faults: 0,
@@ -94,7 +95,7 @@ impl MemDepot {
 
 impl Depot for MemDepot {
     ghost use Rattle.std.specs.Prelude.{◌≡◌, ◌++◌, ◌∷◌, [], IfOk, OnErr};
-    ghost use Rattle.device_port.specs.Depot.{Makes, MayReturn, KeepsOtherFiles};
+    ghost use Rattle.device_port.specs.Depot.{Makes, MayReturn, KeepsOtherFiles, KeepsWritten};
     ghost use Rattle.device_port.specs.Files.{Stores};
     ghost use Rattle.device_port.specs.Trips.{calls_at};
     ghost use Rattle.device_port.specs.MemDepot.{depot_told};
@@ -127,6 +128,7 @@ impl Depot for MemDepot {
         ensures retired { (depot_told self.new).retired ≡ (depot_told self.old).retired ++ record_told dev.facts ∷ [] }
         ensures made { (depot_told self.new).made ≡ (depot_told self.old).made }
         ensures files { KeepsOtherFiles (depot_told self.old) (depot_told self.new) (record_told dev.facts) }
+        ensures written { KeepsWritten (depot_told self.new).files (record_told dev.facts) }
         ensures facts { self.new.retired.items ≡ self.old.retired.items ++ dev.facts ∷ [] }
         ensures stored { Stores self.old.files self.old.retired.items self.new.retired.items dev.facts }
         ensures same { (self.new.files ≡ self.old.files) × (self.new.fail ≡ self.old.fail) }

@@ -97,6 +97,7 @@ impl Device for MemDevice {
         }
         let count = copy_front(&self.facts.content[self.facts.at..], buf);
         self.facts.at += count;
+        self.facts.ended = count == 0;
         Ok(count)
     }
 

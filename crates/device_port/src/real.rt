@@ -1,18 +1,21 @@
 //! Standard input, output and error.
-ghost use Rattle.std.specs.Prelude.{◌≡◌, ◌<◌, ◌≤◌, length, IfOk};
+ghost use Rattle.std.specs.Prelude.{◌≡◌, ◌+◌, ◌-◌, ◌^◌, ◌<◌, ◌≤◌, length, IfOk, OnOk, OnErr};
+ghost use Rattle.std.specs.Io.KnownBytes.{ReadConsumes, WriteAppends};
 
 use crate::{Failed, Sink, Source};
+use std::fs::OpenFile;
 use std::io::{ErrorKind, Read, Write};
 
 /// One read that isn't interrupted.
 pub(crate) fn read_some<R: Read>(reader: &mut R, buf: &mut [u8]) -> Result<usize, Failed>
-    ensures { IfOk result (λ n. n ≤ length buf.new) }
+    ensures count { IfOk result (λ n. n ≤ length buf.new) }
+    ensures bytes { ReadConsumes (R.remaining reader.old) (R.remaining reader.new) result buf.new }
 {
     for _ in 0..u64::MAX {
         match reader.read(buf) {
             Ok(count) => return Ok(count),
             Err(e) if e.kind() == ErrorKind::Interrupted => {}
-            Err(_) => break,
+            Err(_) => return Err(Failed),
         }
     }
     Err(Failed)
@@ -20,7 +23,8 @@ pub(crate) fn read_some<R: Read>(reader: &mut R, buf: &mut [u8]) -> Result<usize
 
 /// One write that isn't interrupted. It is a failure to take nothing.
 pub(crate) fn write_some<W: Write>(writer: &mut W, bytes: &[u8]) -> Result<usize, Failed>
-    ensures { IfOk result (λ n. (1 ≤ n) × (n ≤ length bytes.now)) }
+    ensures count { IfOk result (λ n. (1 ≤ n) × (n ≤ length bytes.now)) }
+    ensures bytes { WriteAppends (W.contents writer.old) (W.contents writer.new) result bytes.now }
 {
     for _ in 0..u64::MAX {
         match writer.write(bytes) {
@@ -31,6 +35,20 @@ pub(crate) fn write_some<W: Write>(writer: &mut W, bytes: &[u8]) -> Result<usize
         }
     }
     Err(Failed)
+}
+
+/// Waits until what was written is safe on its disk. A file that has none, as a pipe or a terminal,
+/// isn't a failure.
+pub(crate) fn sync_written<F: OpenFile>(file: &F) -> Result<(), Failed> {
+    match file.sync_data() {
+        Ok(()) => Ok(()),
+        Err(e) => match e.kind() {
+            ErrorKind::InvalidInput | ErrorKind::ReadOnlyFilesystem | ErrorKind::Unsupported => {
+                Ok(())
+            }
+            _ => Err(Failed),
+        },
+    }
 }
 
 /// A real reader, such as standard input. Each read is one of the reader's own.
@@ -55,7 +73,14 @@ impl<R: Read> Source for StdSource<R> {
 
     ghost told = { λ s. record { left = None; faults = s.faults } };
 
-    fn read(&mut self, buf: &mut [u8]) -> Result<usize, Failed> {
+    fn read(&mut self, buf: &mut [u8]) -> Result<usize, Failed>
+        requires some { 0 < length buf.old }
+        requires room { self.old.faults < 2 ^ 64 - 1 }
+        ensures count { IfOk result (λ n. n ≤ length buf.new) }
+        ensures ok { IfOk result (λ n. self.new.faults ≡ self.old.faults) }
+        ensures failed { OnErr result (self.new.faults ≡ self.old.faults + 1) }
+        ensures read { ReadConsumes (R.remaining self.old.reader) (R.remaining self.new.reader) result buf.new }
+    {
         let count = read_some(&mut self.reader, buf);
         if count.is_err() {
             self.faults += 1;
@@ -87,7 +112,14 @@ impl<W: Write> Sink for StdSink<W> {
 
     ghost told = { λ s. record { written = None; faults = s.faults } };
 
-    fn write(&mut self, bytes: &[u8]) -> Result<usize, Failed> {
+    fn write(&mut self, bytes: &[u8]) -> Result<usize, Failed>
+        requires some { 0 < length bytes.now }
+        requires room { self.old.faults < 2 ^ 64 - 1 }
+        ensures count { IfOk result (λ n. (1 ≤ n) × (n ≤ length bytes.now)) }
+        ensures ok { OnOk result (self.new.faults ≡ self.old.faults) }
+        ensures failed { OnErr result (self.new.faults ≡ self.old.faults + 1) }
+        ensures written { WriteAppends (W.contents self.old.writer) (W.contents self.new.writer) result bytes.now }
+    {
         let count = write_some(&mut self.writer, bytes);
         if count.is_err() {
             self.faults += 1;

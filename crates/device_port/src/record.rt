@@ -78,6 +78,8 @@ pub struct Record {
     pub content: Vec<u8>,
     /// How many bytes of the content were read.
     pub at: usize,
+    /// Whether the last read that didn't fail gave nothing.
+    pub ended: bool,
     pub written: Vec<u8>,
     pub stage: Stage,
     pub open_faults: u64,

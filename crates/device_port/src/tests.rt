@@ -1,6 +1,9 @@
-//! Each maker once, calls that fail by name, and real files.
+//! Each maker once, and calls that fail by name.
 ghost use Rattle.std.specs.Prelude.{◌≡◌, ◌<◌, false, length};
 ghost use Rattle.device_port.specs.declared.device.Mode.TheVariants as mode;
+
+mod fakes;
+mod real;
 
 use crate::*;
 use chunk_core::{Exit, Line, List, Word};
@@ -44,8 +47,8 @@ fn sink_keeps_what_was_put(rt: HostRuntime) -> Result<(), Fail> {
     Ok(())
 }
 
-/// Opens the device, writes the bytes once and closes it, as far as that goes.
-fn write_once<V: Device>(dev: &mut V, bytes: &[u8]) -> bool
+/// Opens the device, writes some of the bytes and closes it, as far as that goes.
+fn write_once<V: Device>(dev: &mut V, bytes: &[u8]) -> Option<usize>
     requires some { 0 < length bytes.now }
     requires unused { ((V.told dev.old).opens ≡ 0) × ((V.told dev.old).is_open ≡ false) × ((V.told dev.old).open_faults ≡ 0) × ((V.told dev.old).write_faults ≡ 0) }
     requires mode { (V.told dev.old).place.mode ≡ mode.Write }
@@ -53,10 +56,13 @@ fn write_once<V: Device>(dev: &mut V, bytes: &[u8]) -> bool
     ensures number { (V.told dev.new).number ≡ (V.told dev.old).number }
 {
     if dev.open().is_err() {
-        return false;
+        return None;
     }
-    let written = dev.write(bytes).is_ok();
-    dev.close(Exit::Succeeded).is_ok() && written
+    let count = dev.write(bytes).ok();
+    if dev.close(Exit::Succeeded).is_err() {
+        return None;
+    }
+    count
 }
 
 /// Opens the device, reads once and closes it, as far as that goes.
@@ -77,20 +83,30 @@ fn read_once<V: Device>(dev: &mut V, buf: &mut [u8]) -> Option<usize>
     count
 }
 
-fn write_at<D: Depot>(depot: &mut D, alloc: Global, path: &str) -> Result<bool, AllocError> {
+fn write_at<D: Depot>(
+    depot: &mut D,
+    alloc: Global,
+    path: &str,
+    bytes: &[u8],
+) -> Result<Option<usize>, AllocError>
+    requires { 0 < length bytes.now }
+{
     let mut dev = depot.make(alloc, &Word::of(alloc, path)?, Mode::Write)?;
-    let done = write_once(&mut dev, b"hello");
+    let count = write_once(&mut dev, bytes);
     depot.retire(dev);
-    Ok(done)
+    Ok(count)
 }
 
 fn read_at<D: Depot>(
     depot: &mut D,
     alloc: Global,
     path: &str,
-) -> Result<Option<usize>, AllocError> {
+    buf: &mut [u8],
+) -> Result<Option<usize>, AllocError>
+    requires { 0 < length buf.old }
+{
     let mut dev = depot.make(alloc, &Word::of(alloc, path)?, Mode::Read)?;
-    let count = read_once(&mut dev, &mut [0u8; 8]);
+    let count = read_once(&mut dev, buf);
     depot.retire(dev);
     Ok(count)
 }
@@ -110,11 +126,12 @@ fn depot_stores_what_came_back(rt: HostRuntime) -> Result<(), Fail> {
     })?;
     let mut depot = MemDepot::new(rt.alloc(), files, fail)?;
     sends(&depot);
-    assert_eq!(rt; read_at(&mut depot, rt.alloc(), "a")?, Some(3));
-    assert_eq!(rt; read_at(&mut depot, rt.alloc(), "b")?, None);
-    assert!(rt; write_at(&mut depot, rt.alloc(), "b")?);
-    assert_eq!(rt; read_at(&mut depot, rt.alloc(), "b")?, Some(5));
-    assert!(rt; !write_at(&mut depot, rt.alloc(), "c")?);
+    let mut buf = [0u8; 8];
+    assert_eq!(rt; read_at(&mut depot, rt.alloc(), "a", &mut buf)?, Some(3));
+    assert_eq!(rt; read_at(&mut depot, rt.alloc(), "b", &mut buf)?, None);
+    assert_eq!(rt; write_at(&mut depot, rt.alloc(), "b", b"hello")?, Some(5));
+    assert_eq!(rt; read_at(&mut depot, rt.alloc(), "b", &mut buf)?, Some(5));
+    assert_eq!(rt; write_at(&mut depot, rt.alloc(), "c", b"hello")?, None);
     assert_eq!(rt; depot.file("c"), Some(b"hello".as_slice()));
     assert_eq!(rt; depot.file("d"), None);
     assert_eq!(rt; depot.made().len(), 5);
@@ -123,26 +140,4 @@ fn depot_stores_what_came_back(rt: HostRuntime) -> Result<(), Fail> {
     assert_eq!(rt; stages.next(), Some(Stage::Unopened));
     assert_eq!(rt; stages.last(), Some(Stage::ClosedBadly(Exit::Succeeded)));
     Ok(())
-}
-
-#[test]
-fn real_files_are_written_and_read(rt: HostRuntime) -> Result<(), Fail> {
-    let path = "device_port.tmp";
-    let mut depot = FileDepot::new(rt);
-    sends(&depot);
-    assert!(rt; write_at(&mut depot, rt.alloc(), path)?);
-    assert_eq!(rt; read_at(&mut depot, rt.alloc(), path)?, Some(5));
-    std::fs::remove_file(&rt, path)?;
-    assert_eq!(rt; read_at(&mut depot, rt.alloc(), path)?, None);
-    assert_eq!(rt; read_at(&mut depot, rt.alloc(), ".")?, None);
-    assert!(rt; !write_at(&mut depot, rt.alloc(), ".")?);
-    Ok(())
-}
-
-#[test]
-fn standard_streams(rt: HostRuntime) {
-    let mut out = StdSink::new(rt.stdout());
-    assert_eq!(rt; put(&mut out, b"written through\n"), Ok(()));
-    let mut input = StdSource::new(rt.stdin());
-    assert!(rt; input.read(&mut [0u8; 8]).is_ok());
 }

@@ -11,7 +11,9 @@ use std::thread::Threads;
 use std::{env, fs, io};
 
 fn main(rt: HostRuntime) -> ExitCode {
-    let streams = hold_streams(&rt);
+    let Ok(streams) = hold_streams(&rt) else {
+        return ExitCode::from(Status::NotWritten.number());
+    };
     let status = match read_words(&rt) {
         Ok(words) => run(rt, &rt, &words),
         Err(status) => refuse(&rt, status),
@@ -20,14 +22,10 @@ fn main(rt: HostRuntime) -> ExitCode {
     ExitCode::from(status.number())
 }
 
-/// Opens three files, and so fills each standard stream that was closed when the program began:
-/// no device can get its descriptor, and a write to it fails.
-fn hold_streams(rt: &HostRuntime) -> [Option<File>; 3] {
-    [hold(rt), hold(rt), hold(rt)]
-}
-
-fn hold(rt: &HostRuntime) -> Option<File> {
-    fs::open(rt, "/dev/null").ok()
+/// Opens the root folder three times, and so fills each standard stream that was closed when the
+/// program began: no device can get its descriptor, and a read from it or a write to it fails.
+fn hold_streams(rt: &HostRuntime) -> io::Result<[File; 3]> {
+    Ok([fs::open(rt, "/")?, fs::open(rt, "/")?, fs::open(rt, "/")?])
 }
 
 /// The words behind the program's name. Words that are not UTF-8 mean nothing.

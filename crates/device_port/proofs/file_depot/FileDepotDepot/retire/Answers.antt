@@ -5,7 +5,7 @@ use Rattle.device_port.proofs.Depots.{apart_more, below_more}
 use Rattle.device_port.proofs.file_depot.FileDepotDepot.retire.Goals as goal
 
 pub invariant_of-self : goal.invariant_of-self
-invariant_of-self c =
+invariant_of-self g c =
     let d = c.args.self.now in
     let course : CourseTold = d.course in
     let made : c.args.dev.number < d.count = subst (λ n. c.args.dev.number < n) d.counted c.requires.made in

@@ -5,7 +5,7 @@ use Rattle.device_port.specs.Records.{record_told}
 use Rattle.device_port.specs.Files.{place_of, bytes_at}
 use Rattle.device_port.specs.declared.record.Record.{Record}
 use Rattle.device_port.proofs.Depots.{apart_more, below_more}
-use Rattle.device_port.proofs.MemDepots.{room_for, bytes_more, files_more}
+use Rattle.device_port.proofs.MemDepots.{room_for, bytes_more, files_more, stored_there}
 use Rattle.device_port.proofs.mem_depot.MemDepotDepot.retire.Goals as goal
 
 pub push_reserved-requires : goal.push_reserved-requires
@@ -41,3 +41,10 @@ returns-clause-stored c path =
     let d = c.args.self.now in
     let items : c.push_reserved.new.self.items ≡ d.retired.items ++ c.args.dev.facts ∷ [] = c.push_reserved.ensures.items ∙ ap (λ r. d.retired.items ++ r ∷ []) c.into_facts.ensures in
     ap (λ rs. bytes_at d.files rs path) items ∙ bytes_more d.files d.retired.items c.args.dev.facts path
+
+pub returns-clause-written : goal.returns-clause-written
+returns-clause-written c m o =
+    let d = c.args.self.now in
+    let r = c.args.dev.facts in
+    let items : c.push_reserved.new.self.items ≡ d.retired.items ++ r ∷ [] = c.push_reserved.ensures.items ∙ ap (λ x. d.retired.items ++ x ∷ []) c.into_facts.ensures in
+    ap (λ rs. bytes_at d.files rs r.path) items ∙ stored_there d.files d.retired.items r m o
