@@ -21,4 +21,6 @@ pub use spare::{Spare, SpareRows};
 pub use word::Word;
 
 #[cfg(test)]
+mod spare_tests;
+#[cfg(test)]
 mod tests;

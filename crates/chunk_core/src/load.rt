@@ -59,16 +59,10 @@ pub fn render(alloc: Global, load: &Load) -> Result<Line, AllocError>
     ensures { IfOk result (λ text. text ≡ rendering_of (elements load.now)) }
 {
     match load {
-        Load::Bytes(bytes) => bytes_text(alloc, bytes.as_slice()),
+        Load::Bytes(bytes) => Line::copy_of(alloc, bytes.as_slice()),
         Load::Lines(lines) => lines_text(alloc, lines.as_slice()),
         Load::Rows(rows) => rows_text(alloc, rows.as_slice()),
     }
-}
-
-fn bytes_text(alloc: Global, bytes: &[u8]) -> Result<Line, AllocError>
-    ensures { IfOk result (λ text. text ≡ bytes.now) }
-{
-    Ok(Line::of_vec(Vec::from_slice(alloc, bytes)?))
 }
 
 fn lines_text(alloc: Global, lines: &[Line]) -> Result<Line, AllocError>

@@ -1,5 +1,5 @@
 //! Chunks in a row, of which elements are taken in order.
-ghost use Rattle.std.specs.Prelude.{◌≡◌, ◌++◌, [], take, drop, IfOk, OnOk, OnErr};
+ghost use Rattle.std.specs.Prelude.{◌≡◌, ◌++◌, [], take, drop, IfOk, OnOk, OnErr, IfSome, OnSome, IfNone};
 
 use crate::chunk::Chunk;
 use std::alloc::{AllocError, Global};
@@ -41,11 +41,15 @@ impl<T> ChunkQueue<T> {
         ensures ok { OnOk result (self.new ≡ self.old ++ chunk) }
         ensures err { OnErr result (self.new ≡ self.old) }
     {
-        self.chunks.push_back(chunk)?;
+        // An empty chunk isn't kept, so that no call walks over many of them.
+        if !chunk.is_empty() {
+            self.chunks.push_back(chunk)?;
+        }
         Ok(())
     }
 
     /// Takes the first `n` elements, or all where there are no more, or leaves the queue as it was.
+    /// Where the first chunk has them they aren't cloned.
     pub fn take(&mut self, n: usize) -> Result<Chunk<T>, AllocError>
     where
         T: Clone,
@@ -54,10 +58,32 @@ impl<T> ChunkQueue<T> {
         ensures rest { OnOk result (self.new ≡ drop n self.old) }
         ensures err { OnErr result (self.new ≡ self.old) }
     {
+        if let Some(first) = self.chunks.front_mut() {
+            if n < first.len() {
+                return first.split(n);
+            }
+        }
+        if let Some(first) = self.pop(n) {
+            return Ok(first);
+        }
         let items = self.front(n)?;
         let front = Chunk::of_vec(self.alloc, items)?;
         self.skip(n);
         Ok(front)
+    }
+
+    /// The first chunk, where it is what `take` gives; else the queue stays as it was.
+    fn pop(&mut self, n: usize) -> Option<Chunk<T>>
+        ensures front { IfSome result (λ front. front ≡ take n self.old) }
+        ensures rest { OnSome result (self.new ≡ drop n self.old) }
+        ensures none { IfNone result (self.new ≡ self.old) }
+    {
+        let first = self.chunks.front()?.len();
+        if n == first || (first < n && self.chunks.len() == 1) {
+            self.chunks.pop_front()
+        } else {
+            None
+        }
     }
 
     /// Clones of the first `n` elements.
@@ -70,6 +96,9 @@ impl<T> ChunkQueue<T> {
         let mut front = Vec::new(self.alloc);
         for chunk in self.chunks.iter() {
             let wanted = n - front.len();
+            if wanted == 0 {
+                break;
+            }
             front.extend_with_clones(chunk.front(wanted))?;
         }
         Ok(front)

@@ -1,22 +1,23 @@
-//! Vectors of loads that nobody needs any longer, to be filled again. No clause speaks of what is
-//! spare.
+//! Memory of loads that nobody needs any longer, to be filled again. A pipe calls `regain` when it is
+//! fed, makes its lines, and gives them by `give`. No clause speaks of what is spare: each call
+//! answers as one that makes its lines anew.
 ghost use Rattle.std.specs.Prelude.{◌≡◌, ◌++◌, ◌∷◌, [], IfOk};
 
 use crate::chunk::Chunk;
 use crate::list::{Line, Row};
 use std::alloc::{AllocError, Global};
 
-/// Memory of longer lines isn't kept, so that a load of short lines doesn't hold that of long ones.
+/// A line's memory of more bytes isn't filled again, so that short lines don't hold that of long ones.
 const LONGEST_KEPT: usize = 1024;
 
-/// The lines of the load that a pipe gave last, once nobody else has it.
+/// The lines of the load that was given last, once nobody else has it.
 #[derive(Drop)]
 pub struct Spare {
     last: Option<Chunk<Line>>,
     lines: Vec<Line>,
 }
 
-/// The rows of the load that a pipe gave last, once nobody else has it.
+/// The rows of the load that was given last, once nobody else has it, and their fields.
 #[derive(Drop)]
 pub struct SpareRows {
     last: Option<Chunk<Row>>,

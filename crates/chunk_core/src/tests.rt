@@ -59,12 +59,6 @@ fn bytes_of(alloc: Global, bytes: &[u8]) -> Result<Chunk<u8>, AllocError>
     Chunk::of_vec(alloc, Vec::from_slice(alloc, bytes)?)
 }
 
-fn line_of(alloc: Global, bytes: &[u8]) -> Result<Line, AllocError>
-    ensures { IfOk result (λ line. line ≡ bytes.now) }
-{
-    Ok(Line::of_vec(Vec::from_slice(alloc, bytes)?))
-}
-
 #[test]
 fn list_grows_at_its_end(rt: HostRuntime) -> Result<(), Fail> {
     let mut list = List::new(rt.alloc());
@@ -113,6 +107,43 @@ fn split_takes_off_the_front(rt: HostRuntime) -> Result<(), Fail> {
 }
 
 #[test]
+fn a_share_is_the_same_window(rt: HostRuntime) -> Result<(), Fail> {
+    let mut chunk = bytes_of(rt.alloc(), [1, 2, 3].as_slice())?;
+    chunk.split(1)?;
+    let share = chunk.share()?;
+    assert_eq!(rt; share.as_slice(), [2, 3].as_slice());
+    assert_eq!(rt; chunk.as_slice(), [2, 3].as_slice());
+    Ok(())
+}
+
+#[test]
+fn a_vector_comes_back_where_nobody_shares_it(rt: HostRuntime) -> Result<(), Fail> {
+    let chunk = bytes_of(rt.alloc(), [1, 2].as_slice())?;
+    let share = chunk.share()?;
+    let Err(chunk) = chunk.into_vec() else {
+        return Err(Fail::from("a shared vector came back"));
+    };
+    drop(share);
+    let Ok(bytes) = chunk.into_vec() else {
+        return Err(Fail::from("the vector didn't come back"));
+    };
+    assert_eq!(rt; bytes.as_slice(), [1, 2].as_slice());
+    Ok(())
+}
+
+#[test]
+fn a_part_of_a_vector_stays_a_chunk(rt: HostRuntime) -> Result<(), Fail> {
+    let mut chunk = bytes_of(rt.alloc(), [1, 2, 3].as_slice())?;
+    let front = chunk.split(2)?;
+    drop(chunk);
+    let Err(front) = front.into_vec() else {
+        return Err(Fail::from("more than the window came back"));
+    };
+    assert_eq!(rt; front.as_slice(), [1, 2].as_slice());
+    Ok(())
+}
+
+#[test]
 fn concat_is_one_after_the_other(rt: HostRuntime) -> Result<(), Fail> {
     let first = bytes_of(rt.alloc(), [1, 2].as_slice())?;
     let second = bytes_of(rt.alloc(), [3].as_slice())?;
@@ -133,11 +164,47 @@ fn queue_gives_what_it_was_given(rt: HostRuntime) -> Result<(), Fail> {
 }
 
 #[test]
+fn queue_gives_its_first_chunk_without_a_copy(rt: HostRuntime) -> Result<(), Fail> {
+    let mut queue = ChunkQueue::new(rt.alloc());
+    let chunk = bytes_of(rt.alloc(), [1, 2, 3].as_slice())?;
+    let share = chunk.share()?;
+    queue.push(chunk)?;
+    let Err(whole) = queue.take(9)?.into_vec() else {
+        return Err(Fail::from("the whole was copied"));
+    };
+    assert_eq!(rt; whole.as_slice(), share.as_slice());
+    queue.push(whole)?;
+    let Err(front) = queue.take(1)?.into_vec() else {
+        return Err(Fail::from("the front was copied"));
+    };
+    assert_eq!(rt; front.as_slice(), [1].as_slice());
+    assert_eq!(rt; queue.take(9)?.as_slice(), [2, 3].as_slice());
+    Ok(())
+}
+
+#[test]
+fn queue_joins_over_empty_chunks(rt: HostRuntime) -> Result<(), Fail> {
+    let mut queue = ChunkQueue::new(rt.alloc());
+    for bytes in [
+        [1].as_slice(),
+        [].as_slice(),
+        [2].as_slice(),
+        [3].as_slice(),
+    ] {
+        queue.push(bytes_of(rt.alloc(), bytes)?)?;
+    }
+    assert!(rt; queue.take(0)?.is_empty());
+    assert_eq!(rt; queue.take(2)?.as_slice(), [1, 2].as_slice());
+    assert_eq!(rt; queue.take(2)?.as_slice(), [3].as_slice());
+    Ok(())
+}
+
+#[test]
 fn lines_are_taken_and_joined(rt: HostRuntime) -> Result<(), Fail> {
     let alloc = rt.alloc();
     let mut lines = Vec::new(alloc);
-    lines.push(line_of(alloc, b"ab")?)?;
-    lines.push(line_of(alloc, b"c")?)?;
+    lines.push(Line::copy_of(alloc, b"ab")?)?;
+    lines.push(Line::copy_of(alloc, b"c")?)?;
     let mut queue = ChunkQueue::new(alloc);
     queue.push(Chunk::of_vec(alloc, lines)?)?;
     let first = queue.take(1)?;
@@ -150,8 +217,8 @@ fn lines_are_taken_and_joined(rt: HostRuntime) -> Result<(), Fail> {
 fn rows_are_joined(rt: HostRuntime) -> Result<(), Fail> {
     let alloc = rt.alloc();
     let mut row = Row::new(alloc);
-    row.push(line_of(alloc, b"a")?)?;
-    row.push(line_of(alloc, b"b")?)?;
+    row.push(Line::copy_of(alloc, b"a")?)?;
+    row.push(Line::copy_of(alloc, b"b")?)?;
     let mut rows = Vec::new(alloc);
     rows.push(row)?;
     let chunk = Chunk::of_vec(alloc, rows)?;
@@ -164,8 +231,8 @@ fn rows_are_joined(rt: HostRuntime) -> Result<(), Fail> {
 fn a_load_is_split_by_its_elements(rt: HostRuntime) -> Result<(), Fail> {
     let alloc = rt.alloc();
     let mut lines = Vec::new(alloc);
-    lines.push(line_of(alloc, b"ab")?)?;
-    lines.push(line_of(alloc, b"c")?)?;
+    lines.push(Line::copy_of(alloc, b"ab")?)?;
+    lines.push(Line::copy_of(alloc, b"c")?)?;
     let mut load = Load::Lines(Chunk::of_vec(alloc, lines)?);
     assert_eq!(rt; load.len(), 2);
     let front = load.split(1)?;
@@ -199,6 +266,21 @@ fn codes_and_ends_have_their_names(rt: HostRuntime) -> Result<(), Fail> {
 }
 
 #[test]
+fn finalizers_are_told_how_it_ended(rt: HostRuntime) -> Result<(), Fail> {
+    for (how, text) in [
+        (How::Done, "succeeded"),
+        (How::Fault(Code::Read), "errored"),
+        (How::Halted, "canceled"),
+        (How::Memory, "canceled"),
+    ] {
+        let exit = how.exit();
+        let told = format!(in rt.alloc(); "{exit}")?;
+        assert_eq!(rt; told.as_str(), text);
+    }
+    Ok(())
+}
+
+#[test]
 fn bytes_render_as_they_are(rt: HostRuntime) -> Result<(), Fail> {
     let load = Load::Bytes(bytes_of(rt.alloc(), [104, 10, 105].as_slice())?);
     assert_eq!(rt;
@@ -212,8 +294,8 @@ fn bytes_render_as_they_are(rt: HostRuntime) -> Result<(), Fail> {
 fn each_line_renders_with_its_line_feed(rt: HostRuntime) -> Result<(), Fail> {
     let alloc = rt.alloc();
     let mut lines = Vec::new(alloc);
-    lines.push(line_of(alloc, b"ab")?)?;
-    lines.push(line_of(alloc, b"")?)?;
+    lines.push(Line::copy_of(alloc, b"ab")?)?;
+    lines.push(Line::copy_of(alloc, b"")?)?;
     let load = Load::Lines(Chunk::of_vec(alloc, lines)?);
     assert_eq!(rt; render(alloc, &load)?.as_slice(), b"ab\n\n".as_slice());
     Ok(())
@@ -223,10 +305,10 @@ fn each_line_renders_with_its_line_feed(rt: HostRuntime) -> Result<(), Fail> {
 fn a_row_renders_with_quotes_where_it_needs_them(rt: HostRuntime) -> Result<(), Fail> {
     let alloc = rt.alloc();
     let mut first = Row::new(alloc);
-    first.push(line_of(alloc, b"a,\"b")?)?;
-    first.push(line_of(alloc, b"c d")?)?;
+    first.push(Line::copy_of(alloc, b"a,\"b")?)?;
+    first.push(Line::copy_of(alloc, b"c d")?)?;
     let mut second = Row::new(alloc);
-    second.push(line_of(alloc, b"e")?)?;
+    second.push(Line::copy_of(alloc, b"e")?)?;
     let mut rows = Vec::new(alloc);
     rows.push(first)?;
     rows.push(second)?;
