@@ -31,7 +31,7 @@ module _ {P : Type 0} (v : View P) (bs : List Branch) (hs : List Held) (j n : �
   }
 
   module _ {ends : P → Exit → Bool → P → Type 0} (w : View P) (ys : List (Spent P)) (t : Released ends x (lease j) T (noted v (canceling v j x n)) ys w) where
-    cancel_grown : Grown v w (Cancel j x ∷ finals x (said ys))
+    pub cancel_grown : Grown v w (Cancel j x ∷ finals x (said ys))
     cancel_grown = grown_release v n (Cancel j x) t
 
     pub cancel_keeps : Kept w bs hs

@@ -47,11 +47,6 @@ picks_among r none m = m
 picks_among r (pick {xs = xs} {ys = ys} x p) m = ⊎_elim (λ e. subst (λ z. IsAmong z (x ∷ ys)) (sym e) (here ys)) (λ n. there x (picks_among r p n)) (among_cons m)
 picks_among r (pass y h p) m = there y (picks_among r p m)
 
-pub picks_distinct : {may : ℕ → Type 0} {xs ys : List ℕ} → Picks may xs ys → AreDistinct ys → AreDistinct xs
-picks_distinct none d = d
-picks_distinct (pick x p) d = ((λ m. d.0 (picks_among x p m)), picks_distinct p d.1)
-picks_distinct (pass y h p) d = picks_distinct p d.1
-
 pub picks_strangers : {may : ℕ → Type 0} {xs ys : List ℕ} (own : List ℕ) → Picks may xs ys → strangers own xs ≤ strangers own ys
 picks_strangers own none = omega arith
 picks_strangers own (pick {xs = xs} {ys = ys} x p) = let t = picks_strangers own p in elim (has x own) as (λ b. cond b (strangers own xs) (suc (strangers own xs)) ≤ cond b (strangers own ys) (suc (strangers own ys))) [ true ↦ t | false ↦ omega arith ]

@@ -114,6 +114,10 @@ module _ {P : Type 0} where
       pub grown_scopes : open_scopes (words w) ≡ open_scopes (words v)
       grown_scopes = ap (λ l. open_of (words w) (0 ∷ numbers l)) (grown_opens o) ∙ closed_same (words v) (words w) (0 ∷ numbers (opens (words v))) (grown_opens o) (grown_closes c)
 
+-- and nothing came or went that is open, as much is owed
+pub owed_still : {P : Type 0} {v w : View P} {E : List What} → Grown v w E → opens E ≡ [] → closes E ≡ [] → w.opened ≡ v.opened → owed w ≡ owed v
+owed_still g o c still = let s = grown_scopes g o c in let l = ap length still in omega (s, l, arith)
+
 -- with the same Opens, Acquires and Closes
 pub mirrors_same : {E F : List What} {bs : List Branch} {hs : List Held} → opens F ≡ opens E → rows F ≡ rows E → closes F ≡ closes E → Mirrors E bs hs → Mirrors F bs hs
 mirrors_same o r c m = record {
@@ -153,6 +157,6 @@ module _ {P : Type 0} where
       handed = handed;
       taken = taken;
       empty = λ q m a. k.rests.empty q (less q m) (grown_acquired g r q a);
-      spare = let s = grown_scopes g o c in let l = ap length still in omega (s, l, free, arith);
+      spare = let s = owed_still g o c still in omega (s, free, arith);
     };
   }

@@ -1,5 +1,5 @@
 -- What an acquisition and an opening keep of a tree.
-use Rattle.std.proofs.Common.{◌≡◌, ◌≢◌, ℕ, ◌+◌, ◌<◌, ◌≤◌, ◌⊎◌, zero, suc, true, false, cond, List, [], ◌∷◌, ◌++◌, length, drop, slice_index_or, refl, sym, ap, ◌∙◌, subst, ⊎_elim, arith, ne_eqb, length-append}
+use Rattle.std.proofs.Common.{◌≡◌, ◌≢◌, ℕ, ◌+◌, ◌<◌, ◌≤◌, ◌⊎◌, zero, suc, true, false, cond, List, [], ◌∷◌, ◌++◌, length, drop, slice_index_or, inl, inr, refl, sym, ap, ◌∙◌, subst, ⊎_elim, arith, ne_eqb, length-append}
 use Rattle.res_ledger.specs.declared.event.What.{What}
 use Rattle.res_ledger.specs.declared.event.What.TheVariants.{Open, Acquire}
 use Rattle.row_seat.specs.declared.view.View.{View}
@@ -18,15 +18,16 @@ use Rattle.scope_tree.specs.Kept.{marks, held_pairs, held_rows, Kept}
 use Rattle.scope_tree.specs.Words.{words, owed, acquiring, opening, open_of, open_scopes, numbers}
 use Rattle.scope_tree.specs.Calls.{AtStart}
 use Rattle.std.proofs.lemmas.Bool.{cases_eq}
-use Rattle.scope_tree.proofs.Beneath.{noted_scope, closed_sound, usable_scope, not_true'}
+use Rattle.scope_tree.proofs.Beneath.{noted_scope, one_open, usable_scope, not_true'}
 use Rattle.scope_tree.proofs.Grown.{Grown, grown_acquired, grown_back, grown_closed, grown_closes, grown_note, grown_noted, grown_opens, grown_rows, grown_scopes, holds_same, lends_less}
-use Rattle.scope_tree.proofs.Keeps.{open_less}
+use Rattle.scope_tree.proofs.Owed.{number_among}
 use Rattle.scope_tree.specs.Rows.{Once}
 use Rattle.scope_tree.proofs.Once.{once_push}
 use Rattle.res_ledger.specs.Ledger.{LiesWithin}
 use Rattle.res_ledger.specs.Ledger.LiesWithin.{same, below}
 use Rattle.scope_tree.proofs.Parts.{distinct_append, row_of_pair}
 use Rattle.scope_tree.proofs.Bridge.{in_noted, within_cases, in_rows, opens_append, rows_append}
+use Rattle.res_ledger.proofs.Growth.{noted_new}
 use Rattle.res_ledger.proofs.Noted.{closes_notes, has_in, notes_closes, notes_opens, opens_notes}
 
 pub pairs_snoc : (hs : List Held) (h : Held) → held_pairs (hs ++ h ∷ []) ≡ held_pairs hs ++ (h.row, h.scope) ∷ []
@@ -45,7 +46,7 @@ module _ {P : Type 0} (v : View P) (bs : List Branch) (hs : List Held) (r s n : 
   abbrev now : View P
   now = placed (noted v (acquiring v r s n)) r p
 
-  acquired_grown : Grown v now (Acquire r s ∷ [])
+  pub acquired_grown : Grown v now (Acquire r s ∷ [])
   acquired_grown = let g = grown_note v n (Acquire r s) in record { words = g.words; acquired = g.acquired }
 
   pub acquired_opens : opens (words now) ≡ opens (words v)
@@ -60,6 +61,9 @@ module _ {P : Type 0} (v : View P) (bs : List Branch) (hs : List Held) (r s n : 
   -- as many scopes are open
   pub acquired_scopes : open_scopes (words now) ≡ open_scopes (words v)
   acquired_scopes = grown_scopes acquired_grown refl refl
+
+  pub acquired_owed : owed now ≡ owed v + 1
+  acquired_owed = let x = acquired_scopes in let y = length-append v.opened ((r, p) ∷ []) in omega arith
 
   new_row : ¬ (IsAmong r (held_rows hs))
   new_row i = let t = pair_of_row r hs i in k.rests.empty r m (v.by, t.0, in_noted v.by (Acquire r t.0) v.events (in_rows r t.0 (words v) (subst (λ l. IsAmong (r, t.0) l) (sym k.mirrors.rows) t.1)))
@@ -102,7 +106,7 @@ module _ {P : Type 0} (v : View P) (bs : List Branch) (hs : List Held) (r s n : 
           handed = k.rests.handed;
           taken = k.rests.taken;
           empty = λ q i a. let w = among_without r v.empty q i in ⊎_elim (λ o. k.rests.empty q w.0 o) (λ o. ⊎_elim (λ e. w.1 (ap (λ y. y.0) e)) among_nil (among_cons o.1)) (acquired_grown.acquired q a);
-          spare = let x = acquired_scopes in let y = length-append v.opened ((r, p) ∷ []) in omega arith;
+          spare = let o = acquired_owed in omega arith;
         };
       }
 
@@ -146,15 +150,19 @@ numbers_snoc : (xs : List (ℕ × ℕ)) (x : ℕ × ℕ) → numbers (xs ++ x �
 numbers_snoc [] x = refl
 numbers_snoc (y ∷ xs) x = ap (λ l. y.0 ∷ l) (numbers_snoc xs x)
 
-open_push : (E : List What) (xs : List ℕ) (x : ℕ) → open_of E (xs ++ x ∷ []) ≤ open_of E xs + 1
-open_push E [] x = elim (is_closed E x) as (λ b. cond b 0 1 ≤ 1) [ true ↦ (omega arith) | false ↦ (omega arith) ]
-open_push E (y ∷ xs) x = let t = open_push E xs x in elim (is_closed E y) as (λ b. cond b (open_of E (xs ++ x ∷ [])) (suc (open_of E (xs ++ x ∷ []))) ≤ cond b (open_of E xs) (suc (open_of E xs)) + 1) [ true ↦ t | false ↦ (omega arith) ]
+-- as many of these scopes are open, and the one behind them is
+open_push : (E F : List What) (xs : List ℕ) (x : ℕ) → ((s : ℕ) → IsAmong s xs → is_closed F s ≡ is_closed E s) → is_closed F x ≡ false → open_of F (xs ++ x ∷ []) ≡ open_of E xs + 1
+open_push E F [] x h n = ap (λ b. cond b 0 1) n
+open_push E F (y ∷ xs) x h n =
+    let t = open_push E F xs x (λ s m. h s (there y m)) n in
+    ap (λ b. cond b (open_of F (xs ++ x ∷ [])) (suc (open_of F (xs ++ x ∷ [])))) (h y (here xs))
+    ∙ (elim (is_closed E y) as (λ b. cond b (open_of F (xs ++ x ∷ [])) (suc (open_of F (xs ++ x ∷ []))) ≡ cond b (open_of E xs) (suc (open_of E xs)) + 1) [ true ↦ t | false ↦ (omega arith) ])
 
 module _ {P : Type 0} (v : View P) (bs : List Branch) (hs : List Held) (p n : ℕ) (k : Kept v bs hs) (u : IsUsable v.events v.by p) (f : owed v + 2 ≤ v.spare) where
   abbrev then : View P
   then = noted v (opening v (length bs) p n)
 
-  opened_grown : Grown v then (Open (length bs) p ∷ [])
+  pub opened_grown : Grown v then (Open (length bs) p ∷ [])
   opened_grown = grown_note v n (Open (length bs) p)
 
   pub opened_opens : opens (words then) ≡ opens (words v) ++ (length bs, p) ∷ []
@@ -166,21 +174,15 @@ module _ {P : Type 0} (v : View P) (bs : List Branch) (hs : List Held) (p n : �
   pub opened_rows : rows (words then) ≡ rows (words v)
   opened_rows = grown_rows opened_grown refl
 
-  pub no_close : has (length bs) (closes (words v)) ≡ false
+  no_close : has (length bs) (closes (words v)) ≡ false
   no_close = not_true' (has (length bs) (closes (words v))) (λ h. let l = k.mirrors.ended (length bs) (has_in (length bs) (closes (words v)) h) in omega arith)
 
-  new_scope : (q : ℕ) → ¬ (Notes v.events v.by (Open (length bs) q))
-  new_scope q m = let l = (noted_scope v bs hs k (length bs) q m).1 in omega arith
-
-  -- a closed scope stays closed
-  still_closed : (c : ℕ) → is_closed (words v) c ≡ true → is_closed (words then) c ≡ true
-  still_closed c h =
-      let E = words then in
-      let x = closed_sound v c h in
-      let ne : c ≢ length bs = λ e. ⊎_elim (λ q. let m = k.mirrors.ended x.0 (notes_closes v.events v.by x.0 x.2) in let z = e in omega arith) (λ q. new_scope q.0 (subst (λ z. Notes v.events v.by (Open z q.0)) e q.1)) (within_cases x.1) in
-      let same : up (turned (opens E)) c ≡ up (turned (opens (words v))) c =
+  -- each other scope is closed where it was
+  same_closed : (c : ℕ) → c ≢ length bs → is_closed (words then) c ≡ is_closed (words v) c
+  same_closed c ne =
+      let same : up (turned (opens (words then))) c ≡ up (turned (opens (words v))) c =
       ap (λ o. up (turned o) c) opened_opens ∙ ap (λ o. up o c) (turned_snoc (opens (words v)) (length bs, p)) ∙ ap (λ b. cond b (c ∷ up (turned (opens (words v))) p) (up (turned (opens (words v))) c)) (ne_eqb (length bs) c (λ e. ne (sym e))) in
-      ap (λ l. any (λ a. has a (closes E)) l) same ∙ ap (λ l. any (λ a. has a l) (up (turned (opens (words v))) c)) opened_closes ∙ h
+      ap (λ l. any (λ a. has a (closes (words then))) l) same ∙ ap (λ l. any (λ a. has a l) (up (turned (opens (words v))) c)) opened_closes
 
   pub back_within : {t a : ℕ} → t < length bs → LiesWithin then.events v.by t a → LiesWithin v.events v.by t a
   back_within l (same t) = same t
@@ -195,13 +197,32 @@ module _ {P : Type 0} (v : View P) (bs : List Branch) (hs : List Held) (p n : �
   pub back_closed : (t : ℕ) → t < length bs → IsClosed then.events v.by t → IsClosed v.events v.by t
   back_closed t l c = (c.0, back_within l c.1, closes_notes v.events v.by c.0 (subst (λ z. IsAmong c.0 z) opened_closes (notes_closes then.events v.by c.0 c.2)))
 
-  -- a scope more is open, at most
-  pub opened_scopes : open_scopes (words then) ≤ open_scopes (words v) + 1
+  -- the new scope is open
+  pub opened_usable : IsUsable then.events v.by (length bs)
+  opened_usable = (
+    inr (p, noted_new v.events (opening v (length bs) p n)),
+    λ c. ⊎_elim
+        (λ e. let l = k.mirrors.ended c.0 (subst (λ z. IsAmong c.0 z) opened_closes (notes_closes then.events v.by c.0 c.2)) in let z = e in omega arith)
+        (λ t.
+        let o : (length bs, t.0) ≡ (length bs, p) = ⊎_elim
+        (λ m. absurd (let l = (noted_scope v bs hs k (length bs) t.0 (opens_notes v.events v.by (length bs, t.0) m)).1 in omega arith))
+        (λ e. e)
+        (among_snoc (opens (words v)) (length bs, t.0) (length bs, p) (subst (λ z. IsAmong (length bs, t.0) z) opened_opens (notes_opens then.events v.by (length bs) t.0 t.1))) in
+        u.1 (back_closed p (usable_scope v bs hs k p u) (subst (λ z. IsClosed then.events v.by z) (ap (λ y. y.1) o) (c.0, t.2, c.2))))
+        (within_cases c.1),
+  )
+
+  -- so a scope more is open
+  pub opened_scopes : open_scopes (words then) ≡ open_scopes (words v) + 1
   opened_scopes =
       let F = words then in
       let x : open_of F (0 ∷ numbers (opens F)) ≡ open_of F ((0 ∷ numbers (opens (words v))) ++ length bs ∷ []) = ap (λ l. open_of F (0 ∷ l)) (ap numbers opened_opens ∙ numbers_snoc (opens (words v)) (length bs, p)) in
-      let y = open_push F (0 ∷ numbers (opens (words v))) (length bs) in
-      let z = open_less (words v) F (0 ∷ numbers (opens (words v))) still_closed in omega arith
+      x ∙ open_push (words v) F (0 ∷ numbers (opens (words v))) (length bs)
+      (λ s m. same_closed s (λ e. ⊎_elim
+      (λ z. let l = k.mirrors.size in omega (e, z, l, arith))
+      (λ i. let t = number_among s (opens (words v)) i in let l = (noted_scope v bs hs k s t.0 (opens_notes v.events v.by (s, t.0) t.1)).1 in omega (e, l, arith))
+      (among_cons m)))
+      (one_open then (length bs) opened_usable).0
 
   pub open_keeps : Kept then (bs ++ record { parent = p; shut = false } ∷ []) hs
   open_keeps =
@@ -235,6 +256,13 @@ module _ {P : Type 0} (v : View P) (bs : List Branch) (hs : List Held) (p n : �
         };
       }
 
+module _ {P : Type 0} (v : View P) (a : AtStart v) where
+  pub start_owed : owed v ≡ 1
+  start_owed = let o = ap length a.opened in let x = ap (λ L. open_scopes (own v.by L)) a.events in omega (o, x, arith)
+
+  pub start_root : IsUsable v.events v.by 0
+  start_root = (inl refl, λ c. among_nil (subst (λ L. IsAmong c.2.1.0 L) a.events c.2.1.1))
+
 -- a seat that has done nothing
 pub start_keeps : {P : Type 0} (v : View P) → AtStart v → Kept v (record { parent = 0; shut = false } ∷ []) []
 start_keeps v a =
@@ -256,6 +284,6 @@ start_keeps v a =
         handed = a.handed;
         taken = a.taken;
         empty = λ q m i. among_nil (subst (λ l. IsAmong i.2.0 l) a.events i.2.1);
-        spare = (let s = a.spare in let o = ap length a.opened in let x : open_scopes (words v) ≡ 1 = ap open_scopes E in omega arith);
+        spare = (let s = a.spare in let o = start_owed v a in omega arith);
       };
     }

@@ -113,8 +113,9 @@ module _ {P : Type 0} {ends : P → Exit → Bool → P → Type 0} {x : Exit} (
       let b : open_scopes (words w) ≡ open_of (words w) (0 ∷ numbers (opens (words v))) = ap (λ o. open_of (words w) (0 ∷ numbers o)) opens_same in
       omega arith
 
-  pub close_owed : owed w ≤ w.spare
-  close_owed = let a = owner_count t in let b = released_spare t in let c = released_most [] t in let d = close_less in let e = ap length (append-nil (whole bs hs s)) in let o = k.rests.spare in omega (a, b, c, d, e, o, arith)
+  -- what is free doesn't shrink
+  pub close_free : v.spare + owed w ≤ w.spare + owed v
+  close_free = let a = owner_count t in let b = released_spare t in let c = released_most [] t in let d = close_less in let e = ap length (append-nil (whole bs hs s)) in omega (a, b, c, d, e, arith)
 
   pub close_keeps : (b : Branch) → ((d : Branch) → (slice_index_or bs s d).parent ≡ b.parent) → b.shut ≡ true → Kept w (slice_set bs s b) hs
   close_keeps b same_parent sh =
@@ -160,7 +161,7 @@ module _ {P : Type 0} {ends : P → Exit → Bool → P → Type 0} {x : Exit} (
           handed = rest.handed;
           taken = rest.taken;
           empty = λ r i a. k.rests.empty r (subst (λ y. IsAmong r y) (same_empty f) i) (grown_acquired close_grown (rows_finals x (said ys)) r a);
-          spare = close_owed;
+          spare = let f = close_free in let o = k.rests.spare in omega (f, o, arith);
         };
       }
 

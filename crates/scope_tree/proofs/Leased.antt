@@ -79,7 +79,7 @@ module _ {P : Type 0} (v : View P) (bs : List Branch) (hs : List Held) (xs : Lis
     abbrev w : View P
     w = noted (leased_all v j T) (leasing v j c n)
 
-    lease_grown : Grown v w (Lease j c ∷ [])
+    pub lease_grown : Grown v w (Lease j c ∷ [])
     lease_grown = let g = grown_note v n (Lease j c) in record { words = g.words; acquired = g.acquired }
 
     pub lease_back : (t : ℕ) → IsClosed w.events v.by t → IsClosed v.events v.by t

@@ -22,12 +22,6 @@ take_all [] (suc n) l = refl
 take_all (x ∷ xs) zero l = absurd (omega arith)
 take_all (x ∷ xs) (suc n) l = ap (λ y. x ∷ y) (take_all xs n (omega arith))
 
-pub take_among : (xs : List ℕ) (n r : ℕ) → IsAmong r (take n xs) → IsAmong r xs
-take_among [] zero r m = m
-take_among [] (suc n) r m = m
-take_among (x ∷ xs) zero r m = absurd (among_nil m)
-take_among (x ∷ xs) (suc n) r m = ⊎_elim (λ e. subst (λ z. IsAmong z (x ∷ xs)) (sym e) (here xs)) (λ i. there x (take_among xs n r i)) (among_cons m)
-
 -- a row of a list of distinct rows doesn't stand before itself
 pub not_before : (xs : List ℕ) (i d : ℕ) → AreDistinct xs → i < length xs → ¬ (IsAmong (slice_index_or xs i d) (take i xs))
 not_before [] i d u l m = absurd (omega arith)

@@ -22,6 +22,7 @@ pub mod Shelving
 pub mod Leasing
 pub mod Parting
 pub mod Statuses
+pub mod Calling
 pub mod Leased
 pub mod Tidy
 pub mod Lent

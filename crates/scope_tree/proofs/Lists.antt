@@ -1,5 +1,5 @@
 -- Lists of rows and of leases, with one less.
-use Rattle.std.proofs.Common.{◌≡◌, ◌≢◌, ℕ, ◌+◌, ◌<◌, ◌≤◌, zero, suc, true, false, cond, not, eqb, List, [], ◌∷◌, ◌++◌, length, drop, slice_index_or, refl, sym, ap, ◌∙◌, subst, ⊎_elim, arith, ne_eqb, eq-eqb, length-append, append_assoc, append-nil}
+use Rattle.std.proofs.Common.{◌≡◌, ◌≢◌, ℕ, ◌+◌, ◌<◌, ◌≤◌, zero, suc, true, false, cond, not, eqb, List, [], ◌∷◌, ◌++◌, length, drop, slice_index_or, refl, sym, ap, ◌∙◌, subst, ⊎_elim, arith, ne_eqb, eq-eqb, append_assoc, append-nil}
 use Rattle.std.proofs.lemmas.Bool.{cases_eq}
 use Rattle.chunk_core.specs.Lists.{IsAmong}
 use Rattle.chunk_core.specs.Lists.IsAmong.{here, there}
@@ -57,10 +57,6 @@ lifo_split (suc k) (x ∷ xs) = let t = lifo_split k xs in (t.0 ++ x ∷ [], ap 
 
 pub lifo_next : (xs : List ℕ) (at k d : ℕ) → at ≡ suc k → k < length xs → (X : List ℕ) × (lifo xs ≡ (lifo (drop at xs) ++ slice_index_or xs k d ∷ []) ++ X)
 lifo_next xs at k d e l = let t = lifo_split k xs in (t.0, t.1 ∙ ap (λ y. y ++ t.0) (lifo_here xs at k d e l))
-
-pub length_lifo : (xs : List ℕ) → length (lifo xs) ≡ length xs
-length_lifo [] = refl
-length_lifo (x ∷ xs) = let t = length_lifo xs in let a = length-append (lifo xs) (x ∷ []) in omega arith
 
 module _ {P : Type 0} where
   pub keep_row : (r q : ℕ) (p : P) (xs : List (ℕ × P)) → IsAmong (q, p) xs → q ≢ r → IsAmong (q, p) (without_row r xs)

@@ -1,5 +1,5 @@
 -- What splitting a seat off and taking it in again keep of a tree.
-use Rattle.std.proofs.Common.{◌≡◌, ◌≢◌, ℕ, ◌+◌, ◌-◌, ◌<◌, ◌≤◌, ◌⊎◌, zero, suc, Bool, true, false, cond, not, eqb, List, [], ◌∷◌, ◌++◌, inl, inr, refl, sym, ap, ◌∙◌, subst, ⊎_elim, arith, append_assoc, append-nil}
+use Rattle.std.proofs.Common.{◌≡◌, ◌≢◌, ℕ, ◌+◌, ◌-◌, ◌<◌, ◌≤◌, ◌⊎◌, zero, suc, Bool, true, false, cond, not, eqb, List, [], ◌∷◌, ◌++◌, inl, inr, refl, sym, ap, ◌∙◌, subst, ⊎_elim, arith, append_assoc, append-nil, length}
 use Rattle.chunk_core.specs.declared.code.Exit.{Exit}
 use Rattle.chunk_core.specs.Lists.{IsAmong}
 use Rattle.chunk_core.specs.Lists.IsAmong.{here, there}
@@ -106,6 +106,9 @@ module _ {P : Type 0} where
   pub join_words : (v w : View P) → AreApart v w → words (joined v w) ≡ words v
   join_words v w a = own_append v.by v.events w.events ∙ ap (λ l. words v ++ l) (own_none v.by w.events a.events) ∙ append-nil (words v)
 
+  pub join_owed : (v w : View P) → AreApart v w → owed (joined v w) ≡ owed v
+  join_owed v w a = ap (λ E. open_scopes E + length v.opened) (join_words v w a)
+
 module _ {P : Type 0} (v w : View P) (bs : List Branch) (hs : List Held) (xs : List (Spent P)) (k : Kept v bs hs) (s : Shelved v hs xs) (a : AreApart v w) (rest : AtRest w) where
   same_words : words (joined v w) ≡ words v
   same_words = join_words v w a
@@ -132,7 +135,7 @@ module _ {P : Type 0} (v w : View P) (bs : List Branch) (hs : List Held) (xs : L
               (λ i. k.rests.empty r i (⊎_elim (λ y. y) (λ y. a.kept r i y) (acquired r x)))
               (λ i. rest.1 r i (⊎_elim (λ y. a.taken r i y) (λ y. y) (acquired r x)))
               (among_append r v.empty w.empty m);
-          spare = let e : open_scopes (words (joined v w)) ≡ open_scopes (words v) = ap open_scopes same_words in let o = k.rests.spare in omega (e, o, arith);
+          spare = let e = join_owed v w a in let o = k.rests.spare in omega (e, o, arith);
         };
       }
 

@@ -9,7 +9,6 @@ use Rattle.chunk_core.proofs.Filters.{among_filter}
 use Rattle.chunk_core.proofs.Members.{among_cons, among_left, among_last, among_nil}
 use Rattle.res_ledger.specs.declared.event.Event.{Event}
 use Rattle.res_ledger.specs.declared.event.StreamNo.{StreamNo}
-use Rattle.res_ledger.specs.declared.event.StreamNo.TheVariants.{Inner, Outer}
 use Rattle.res_ledger.specs.declared.event.What.TheVariants.{Lease}
 use Rattle.res_ledger.specs.Ledger.{Covers, IsLegal}
 use Rattle.res_ledger.specs.Order.{IsInBlocks, IsInOrder, covered, covered_by}
@@ -97,15 +96,9 @@ stamped_rises L (e ∷ M) h = (
   stamped_rises (L ++ e ∷ []) M (λ P Q x is. h P Q x (sym (append_assoc L (e ∷ []) M) ∙ is)),
 )
 
-same_both : (a b : StreamNo) → same_stream a b ≡ same_stream a b
-same_both Outer Outer = refl
-same_both Outer (Inner j) = refl
-same_both (Inner i) Outer = refl
-same_both (Inner i) (Inner j) = refl
-
 pub own_by : (k : StreamNo) (L : List Event) → own k L ≡ map (λ (e : Event). e.what) (by_stream k L)
 own_by k [] = refl
-own_by k (e ∷ L) = ap (λ b. cond b (e.what ∷ own k L) (own k L)) (same_both e.by k) ∙ (elim (same_stream e.by k) as (λ b. cond b (e.what ∷ own k L) (own k L) ≡ map (λ (e : Event). e.what) (cond b (e ∷ by_stream k L) (by_stream k L))) [ true ↦ ap (λ l. e.what ∷ l) (own_by k L) | false ↦ own_by k L ])
+own_by k (e ∷ L) = (elim (same_stream e.by k) as (λ b. cond b (e.what ∷ own k L) (own k L) ≡ map (λ (e : Event). e.what) (cond b (e ∷ by_stream k L) (by_stream k L))) [ true ↦ ap (λ l. e.what ∷ l) (own_by k L) | false ↦ own_by k L ])
 
 lifo_is : (xs : List ℕ) → lifo xs ≡ reverse xs
 lifo_is [] = refl

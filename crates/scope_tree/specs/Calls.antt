@@ -46,6 +46,11 @@ module _ {P : Type 0} where
   abbrev pub IsClosedScope : Seen P → ℕ → Type 0
   IsClosedScope a s = IsClosed a.seat.events a.seat.by s
 
+  -- what is open stays open, and what is closed stays closed
+  pub record KeepsScopes (a b : Seen P) : Type 0 where
+    pub usable : (s : ℕ) → IsOpenScope a s → IsOpenScope b s
+    pub closed : (s : ℕ) → IsClosedScope a s → IsClosedScope b s
+
   -- the rows that are used: those that the tree acquired, and each other row on its shelf
   abbrev pub used : Seen P → ℕ
   used a = length (rows (words a.seat)) + strangers (own_rows a.seat) (firsts (said a.shelf))

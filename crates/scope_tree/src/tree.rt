@@ -13,7 +13,7 @@ ghost use Rattle.row_seat.specs.Views.{AreApart, CanJoin, CanSplit, HasRow, MayN
 ghost use Rattle.scope_tree.specs.Rows.{lifo, strangers};
 ghost use Rattle.scope_tree.specs.Released.{away, said};
 ghost use Rattle.scope_tree.specs.Words.{ended_rows, owed, own_rows, words};
-ghost use Rattle.scope_tree.specs.Calls.{Acquires, AtStart, Cancels, Closes, IsClosedScope, IsOpenScope, Leases, Opens, WasOpened, used};
+ghost use Rattle.scope_tree.specs.Calls.{Acquires, AtStart, Cancels, Closes, IsClosedScope, IsOpenScope, KeepsScopes, Leases, Opens, WasOpened, used};
 ghost use Rattle.scope_tree.specs.Standings.{StandsAs};
 ghost use Rattle.scope_tree.specs.Trees.{Fits, IsSound, seen};
 ghost use Rattle.scope_tree.specs.Lending.{lends_pay, lent};
@@ -51,6 +51,8 @@ where
     pub fn new(seat: S, room: Room<S::Pay>) -> Tree<S>
         requires start { AtStart (S.view seat) }
         ensures seen { seen S.view result ≡ record { seat = S.view seat; shelf = []; scopes = room.scopes; rows = room.rows } }
+        ensures root { IsOpenScope (seen S.view result) 0 }
+        ensures owed { owed (seen S.view result).seat ≡ 1 }
         ensures fits { (d : S.Desk) → S.fits seat d → Fits S.view S.fits result d }
     {
         let Room {
@@ -82,6 +84,9 @@ where
         requires room { length (opens (words (seen S.view self.old).seat)) + 1 < (seen S.view self.old).scopes }
         requires free { owed (seen S.view self.old).seat + 2 ≤ (seen S.view self.old).seat.spare }
         ensures opens { Opens (seen S.view self.old) at result (seen S.view self.new) }
+        ensures child { IsOpenScope (seen S.view self.new) result }
+        ensures scopes { KeepsScopes (seen S.view self.old) (seen S.view self.new) }
+        ensures owed { owed (seen S.view self.new).seat ≡ owed (seen S.view self.old).seat + 1 }
         ensures fits { Fits S.view S.fits self.new desk.new }
         ensures others { OthersFit S.view S.fits (seen S.view self.old).seat.by desk.old desk.new }
     {
@@ -104,6 +109,9 @@ where
         requires room { used (seen S.view self.old) + 1 ≤ (seen S.view self.old).rows }
         requires free { owed (seen S.view self.old).seat + 2 ≤ (seen S.view self.old).seat.spare }
         ensures acquires { Acquires (seen S.view self.old) scope row pay (seen S.view self.new) }
+        ensures scopes { KeepsScopes (seen S.view self.old) (seen S.view self.new) }
+        ensures empty { (r : ℕ) → r ≢ row → IsAmong r (seen S.view self.old).seat.empty → IsAmong r (seen S.view self.new).seat.empty }
+        ensures owed { owed (seen S.view self.new).seat ≡ owed (seen S.view self.old).seat + 1 }
         ensures fits { Fits S.view S.fits self.new desk.new }
         ensures others { OthersFit S.view S.fits (seen S.view self.old).seat.by desk.old desk.new }
     {
@@ -164,6 +172,9 @@ where
         requires free { owed (seen S.view self.old).seat + 2 ≤ (seen S.view self.old).seat.spare }
         ensures ok { IfOk result (λ lease. (lease.stream ≡ stream) × Leases (seen S.view self.old) scope stream lease.rows.items (seen S.view self.new)) }
         ensures err { IfErr result (λ _. seen S.view self.new ≡ seen S.view self.old) }
+        ensures scopes { KeepsScopes (seen S.view self.old) (seen S.view self.new) }
+        ensures pairs { IfOk result (λ lease. (r : ℕ) → IsAmong r lease.rows.items → IsAmong (lease.stream, r) (seen S.view self.new).seat.pairs) }
+        ensures owed { owed (seen S.view self.new).seat ≡ owed (seen S.view self.old).seat }
         ensures fits { Fits S.view S.fits self.new desk.new }
         ensures others { OthersFit S.view S.fits (seen S.view self.old).seat.by desk.old desk.new }
     {
@@ -179,6 +190,10 @@ where
         requires fits { Fits S.view S.fits self.old desk.old }
         requires scope { IsOpenScope (seen S.view self.old) scope }
         ensures closes { Closes S.Pay.ends (seen S.view self.old) scope exit (seen S.view self.new) }
+        ensures closed { IsClosedScope (seen S.view self.new) scope }
+        ensures scopes { (s : ℕ) → IsClosedScope (seen S.view self.old) s → IsClosedScope (seen S.view self.new) s }
+        ensures free { (seen S.view self.old).seat.spare + owed (seen S.view self.new).seat ≤ (seen S.view self.new).seat.spare + owed (seen S.view self.old).seat }
+        ensures owed { scope ≡ 0 → owed (seen S.view self.new).seat ≡ 0 }
         ensures fits { Fits S.view S.fits self.new desk.new }
         ensures others { OthersFit S.view S.fits (seen S.view self.old).seat.by desk.old desk.new }
     {
@@ -205,6 +220,9 @@ where
         requires room { used (seen S.view self.old) + strangers (own_rows (seen S.view self.old).seat) lease.rows.items ≤ (seen S.view self.old).rows }
         requires free { owed (seen S.view self.old).seat + 1 + away lease.rows.items (seen S.view self.old).seat.opened ≤ (seen S.view self.old).seat.spare }
         ensures cancels { Cancels S.Pay.ends (seen S.view self.old) lease.stream lease.rows.items exit (seen S.view self.new) }
+        ensures scopes { KeepsScopes (seen S.view self.old) (seen S.view self.new) }
+        ensures free { (seen S.view self.old).seat.spare ≤ (seen S.view self.new).seat.spare + 1 + away lease.rows.items (seen S.view self.old).seat.opened }
+        ensures owed { owed (seen S.view self.new).seat ≡ owed (seen S.view self.old).seat }
         ensures fits { Fits S.view S.fits self.new desk.new }
         ensures others { OthersFit S.view S.fits (seen S.view self.old).seat.by desk.old desk.new }
     {
@@ -229,6 +247,8 @@ where
         ensures ok { IfOk result (λ seat. (seen S.view self.new ≡ record (seen S.view self.old) { seat = split_main (seen S.view self.old).seat stream rows.from rows.to events }) × (S.view seat ≡ split_off (seen S.view self.old).seat stream rows.from rows.to events) × S.fits seat desk.new) }
         ensures start { IfOk result (λ seat. 1 ≤ events → AtStart (S.view seat)) }
         ensures err { IfErr result (λ _. seen S.view self.new ≡ seen S.view self.old) }
+        ensures scopes { KeepsScopes (seen S.view self.old) (seen S.view self.new) }
+        ensures owed { owed (seen S.view self.new).seat ≡ owed (seen S.view self.old).seat }
         ensures fits { Fits S.view S.fits self.new desk.new }
         ensures others { OthersFit S.view S.fits (seen S.view self.old).seat.by desk.old desk.new }
     {
@@ -242,6 +262,8 @@ where
         requires can { CanJoin (seen S.view self.old).seat (S.view other) }
         ensures seen { seen S.view self.new ≡ record (seen S.view self.old) { seat = joined (seen S.view self.old).seat (S.view other) } }
         ensures apart { AreApart (seen S.view self.old).seat (S.view other) }
+        ensures scopes { KeepsScopes (seen S.view self.old) (seen S.view self.new) }
+        ensures owed { owed (seen S.view self.new).seat ≡ owed (seen S.view self.old).seat }
         ensures fits { Fits S.view S.fits self.new desk.new }
         ensures others { (o : S) → (S.view o).by ≢ (seen S.view self.old).seat.by → (S.view o).by ≢ (S.view other).by → S.fits o desk.old → S.fits o desk.new }
     {

@@ -1,7 +1,8 @@
-use Rattle.std.proofs.Common.{◌≡◌, [], ◌∷◌, ◌++◌, refl, sym, subst, arith, length-append}
+use Rattle.std.proofs.Common.{◌≡◌, [], ◌∷◌, ◌++◌, refl, sym, ap, ◌∙◌, subst, arith, length-append}
+use Rattle.row_seat.proofs.Members.{among_kept}
 use Rattle.chunk_core.proofs.Members.{among_last}
 use Rattle.row_seat.specs.Views.{placed, noted}
-use Rattle.scope_tree.specs.Words.{acquiring}
+use Rattle.scope_tree.specs.Words.{acquiring, owed}
 use Rattle.scope_tree.specs.Kept.{Kept}
 use Rattle.chunk_core.specs.Lists.{IsAmong}
 use Rattle.chunk_core.proofs.Members.{among_left}
@@ -12,7 +13,9 @@ use Rattle.scope_tree.specs.Kept.{Shelved, held_rows}
 use Rattle.scope_tree.proofs.Distinct.{strangers_less}
 use Rattle.scope_tree.proofs.Rooms.{used_is}
 use Rattle.scope_tree.proofs.Shelving.{acquire_shelved}
-use Rattle.scope_tree.proofs.Grows.{acquire_keeps, rows_snoc}
+use Rattle.scope_tree.proofs.Calling.{keeps_scopes}
+use Rattle.scope_tree.proofs.Grown.{grown_back}
+use Rattle.scope_tree.proofs.Grows.{acquire_keeps, rows_snoc, acquired_grown, acquired_owed}
 use Rattle.scope_tree.proofs.tree.Tree.acquired.Goals as goal
 
 pub place-requires-clause-row : goal.place-requires-clause-row
@@ -47,3 +50,19 @@ returns-clause-fits g c =
         rows_limit = z.rows_limit;
       };
     }
+
+pub returns-clause-scopes : goal.returns-clause-scopes
+returns-clause-scopes g c =
+    let t = c.args.self.now in let v = g.S.RowSeat.view t.seat in let s = c.args.scope in let r = c.args.row in let n = c.note.result in
+    let w = placed (noted v (acquiring v r s n)) r c.args.pay in let e : g.S.RowSeat.view c.place.new.self ≡ w = rw (c.place.ensures.view, c.note.ensures.view) refl in
+    let grown = acquired_grown v t.branches.items t.held.items r s n c.args.pay c.requires.fits.sound.kept c.requires.scope c.requires.row c.requires.free in
+    keeps_scopes w e grown (λ q u x. grown_back grown refl refl q x)
+
+pub returns-clause-empty : goal.returns-clause-empty
+returns-clause-empty g c = λ q ne m. rw (c.place.ensures.view, c.note.ensures.view) (among_kept c.args.row (g.S.RowSeat.view c.args.self.now.seat).empty q m ne)
+
+pub returns-clause-owed : goal.returns-clause-owed
+returns-clause-owed g c =
+    let t = c.args.self.now in let v = g.S.RowSeat.view t.seat in let s = c.args.scope in let r = c.args.row in let n = c.note.result in
+    let w = placed (noted v (acquiring v r s n)) r c.args.pay in let e : g.S.RowSeat.view c.place.new.self ≡ w = rw (c.place.ensures.view, c.note.ensures.view) refl in
+    ap owed e ∙ acquired_owed v t.branches.items t.held.items r s n c.args.pay c.requires.fits.sound.kept c.requires.scope c.requires.row c.requires.free

@@ -1,13 +1,14 @@
-use Rattle.std.proofs.Common.{◌≡◌, ℕ, ◌+◌, ◌≤◌, List, ◌++◌, sym, ap, ◌∙◌, subst, arith}
+use Rattle.std.proofs.Common.{◌≡◌, ℕ, ◌+◌, ◌≤◌, List, ◌++◌, refl, sym, ap, ◌∙◌, subst, arith}
 use Rattle.chunk_core.specs.Lists.{IsAmong}
 use Rattle.res_ledger.specs.Order.{firsts}
-use Rattle.row_seat.specs.Views.{noted}
 use Rattle.row_seat.specs.declared.view.View.{View}
 use Rattle.scope_tree.specs.Rows.{AreDistinct, lifo, strangers}
 use Rattle.scope_tree.specs.Released.{Releases, away, said}
 use Rattle.scope_tree.specs.Released.Holder.{lease}
+use Rattle.row_seat.specs.Views.{noted}
 use Rattle.scope_tree.specs.Words.{canceling, owed}
 use Rattle.scope_tree.specs.Kept.{Shelved, held_rows}
+use Rattle.scope_tree.proofs.Calling.{cancel_leaves}
 use Rattle.scope_tree.proofs.Cancelling.{cancel_can, cancel_keeps}
 use Rattle.scope_tree.proofs.Distinct.{among_lifo, distinct_lifo, firsts_append, picks_strangers, said_append, strangers_append, test_distinct}
 use Rattle.scope_tree.proofs.Releasing.{released_picks}
@@ -29,6 +30,18 @@ leave_all-requires-clause-room g c =
     let m = cancel_count v bs hs z.kept t.shelf.items z.shelved c.args.lease.stream T (test_distinct T c.args.lease.distinct) c.requires.pairs in
     let e = away_lifo T v.opened in let n = rows_count v bs hs z.kept in let u = used_is v bs hs z.kept F in let u' = used_is v bs hs z.kept T in let a = c.requires.room in let d = z.shelf in let y = t.shelf.ok.0 in
     rw (c.note.ensures.view, c.deref.ensures.value) (omega (m, e, n, u, u', a, d, y, arith))
+
+pub returns-clause-cancels : goal.returns-clause-cancels
+returns-clause-cancels g c = record { stamp = c.note.result; fresh = c.note.ensures.stamp; left = rw (c.note.ensures.view, c.deref.ensures.value) at c.leave_all.ensures.released; scopes = refl; rows = refl }
+
+pub returns-clause-scopes : goal.returns-clause-scopes
+returns-clause-scopes g c = (cancel_leaves (returns-clause-cancels g c)).0
+
+pub returns-clause-free : goal.returns-clause-free
+returns-clause-free g c = (cancel_leaves (returns-clause-cancels g c)).1
+
+pub returns-clause-owed : goal.returns-clause-owed
+returns-clause-owed g c = (cancel_leaves (returns-clause-cancels g c)).2
 
 pub returns-clause-fits : goal.returns-clause-fits
 returns-clause-fits g c =

@@ -14,7 +14,12 @@ use Rattle.scope_tree.proofs.Parts.{row_of_pair}
 use Rattle.scope_tree.proofs.Rooms.{shelf_count, strangers_none, used_is}
 use Rattle.scope_tree.proofs.Shelving.{close_shelved}
 use Rattle.scope_tree.proofs.Beneath.{close_spare, close_can, close_count, usable_scope, whole_is}
-use Rattle.scope_tree.proofs.Keeps.{close_keeps}
+use Rattle.scope_tree.proofs.Keeps.{close_free, close_keeps}
+use Rattle.scope_tree.proofs.Owed.{nothing_owed}
+use Rattle.scope_tree.proofs.Grown.{grown_closed, grown_release}
+use Rattle.scope_tree.proofs.Use.{closed_now}
+use Rattle.res_ledger.specs.Ledger.{IsClosed}
+use Rattle.res_ledger.specs.declared.event.What.TheVariants.{Close}
 use Rattle.std.proofs.lemmas.List.{get_or_default}
 use Rattle.scope_tree.proofs.Releasing.{released_picks, releases_at}
 use Rattle.scope_tree.proofs.tree.Tree.close.Goals as goal
@@ -71,3 +76,20 @@ returns-clause-fits g c =
         rows_limit = z.rows_limit;
       };
     }
+
+pub returns-clause-closed : goal.returns-clause-closed
+returns-clause-closed g c = closed_now (returns-clause-closes g c)
+
+pub returns-clause-scopes : goal.returns-clause-scopes
+returns-clause-scopes g c = λ s x. let o = returns-clause-closes g c in grown_closed (grown_release (g.S.RowSeat.view c.args.self.now.seat) o.stamp (Close c.args.scope c.args.exit) o.torn.2) s x
+
+pub returns-clause-free : goal.returns-clause-free
+returns-clause-free g c =
+    let t = c.args.self.now in let s = c.args.scope in let bs = t.branches.items in let hs = t.held.items in let v = g.S.RowSeat.view t.seat in let k = c.requires.fits.sound.kept in
+    let all = releases_at _ _ (ap (λ x. whole x c.deref-2.result.now s) c.deref.ensures.value ∙ ap (λ x. whole bs x s) c.deref-2.ensures.value) c.note.ensures.view c.tear.ensures.released in
+    close_free v (g.S.RowSeat.view c.tear.new.seat) bs hs all.0 s c.note.result k c.requires.scope all.2
+
+pub returns-clause-owed : goal.returns-clause-owed
+returns-clause-owed g c = λ e.
+    let w = g.S.RowSeat.view c.tear.new.seat in let z = returns-clause-fits g c in
+    nothing_owed w _ _ z.sound.kept (subst (λ s. IsClosed w.events w.by s) e (returns-clause-closed g c))

@@ -1,17 +1,18 @@
-use Rattle.std.proofs.Common.{◌≡◌, refl, sym, ap, ◌∙◌, subst, arith}
+use Rattle.std.proofs.Common.{◌≡◌, refl, sym, ap, ◌∙◌, subst}
 use Rattle.res_ledger.specs.declared.event.What.TheVariants.{Lease}
-use Rattle.res_ledger.specs.Order.{firsts}
+use Rattle.chunk_core.proofs.Filters.{among_right}
 use Rattle.res_ledger.specs.Own.{leased_rows}
 use Rattle.row_seat.specs.declared.view.View.{View}
 use Rattle.row_seat.specs.Views.{MayNote, noted}
 use Rattle.scope_tree.specs.Kept.{Kept, Shelved}
-use Rattle.scope_tree.specs.Leased.{leased_all}
+use Rattle.scope_tree.specs.Leased.{leased_all, pairs_for}
 use Rattle.scope_tree.specs.Rows.{AreDistinct}
-use Rattle.scope_tree.specs.Released.{said}
-use Rattle.scope_tree.specs.Words.{leasing, words}
+use Rattle.scope_tree.specs.Words.{owed, words}
+use Rattle.scope_tree.proofs.Calling.{keeps_scopes, seated}
 use Rattle.scope_tree.proofs.Distinct.{distinct_test}
-use Rattle.scope_tree.proofs.Leased.{lease_distinct, lease_event, lease_keeps, lease_none, lease_rows_open, lease_shelved}
-use Rattle.scope_tree.proofs.Rooms.{used_is}
+use Rattle.scope_tree.proofs.Grown.{grown_back, owed_still}
+use Rattle.scope_tree.proofs.Leasing.{among_pairs}
+use Rattle.scope_tree.proofs.Leased.{lease_distinct, lease_event, lease_grown, lease_keeps, lease_none, lease_rows_open, lease_shelved}
 use Rattle.scope_tree.proofs.tree.Tree.lease.Goals as goal
 
 pub lease_rows-requires-clause-rows : goal.lease_rows-requires-clause-rows
@@ -52,23 +53,23 @@ returns-clause-ok g c =
       },
     )
 
+pub returns-clause-scopes : goal.returns-clause-scopes
+returns-clause-scopes g c =
+    let t = c.args.self.now in let v = g.S.RowSeat.view t.seat in let z = c.requires.fits.sound in let o = (returns-clause-ok g c).1 in
+    let grown = lease_grown v t.branches.items t.held.items t.shelf.items z.kept z.shelved c.args.scope c.args.stream c.requires.scope o.stamp c.in_ok-rows.rows.items o.covered in
+    keeps_scopes _ o.seat grown (λ s u x. grown_back grown refl refl s x)
+
+pub returns-clause-pairs : goal.returns-clause-pairs
+returns-clause-pairs g c = λ r m. let o = (returns-clause-ok g c).1 in rw o.seat (among_right (c.args.stream, r) (g.S.RowSeat.view c.args.self.now.seat).pairs (pairs_for c.args.stream c.in_ok-rows.rows.items) (among_pairs c.args.stream r c.in_ok-rows.rows.items m))
+
+pub returns-clause-owed : goal.returns-clause-owed
+returns-clause-owed g c =
+    let t = c.args.self.now in let v = g.S.RowSeat.view t.seat in let z = c.requires.fits.sound in let o = (returns-clause-ok g c).1 in
+    ap owed o.seat ∙ owed_still (lease_grown v t.branches.items t.held.items t.shelf.items z.kept z.shelved c.args.scope c.args.stream c.requires.scope o.stamp c.in_ok-rows.rows.items o.covered) refl refl refl
+
 pub returns-clause-fits : goal.returns-clause-fits
 returns-clause-fits g c =
-    let t = c.args.self.now in let v = g.S.RowSeat.view t.seat in let bs = t.branches.items in let hs = t.held.items in let xs = t.shelf.items in let z = c.requires.fits.sound in let j = c.args.stream in let s = c.args.scope in let n = c.note.result in let T = c.in_ok-rows.rows.items in
-    let e : g.S.RowSeat.view c.lease_rows.new.seat ≡ leased_all v j T = c.lease_rows.ensures.seat ∙ ap (leased_all v j) c.deref.ensures.value in
-    let w = g.S.RowSeat.view c.note.new.self in
-    let e' : w ≡ noted (leased_all v j T) (leasing v j s n) = c.note.ensures.view ∙ ap (λ x. let y : View _ = noted x (record { stamp = n; by = x.by; what = Lease j s }) in y) e in
-    let k : Kept w bs hs = subst (λ x. Kept x bs hs) (sym e') (lease_keeps v bs hs xs z.kept z.shelved s j c.requires.scope n T c.in_ok-rows.ensures c.requires.free) in
-    let F = firsts (said xs) in let u = used_is v bs hs z.kept F in let u' = used_is w bs hs k F in let a = z.used in record {
-      seat = c.note.ensures.fits;
-      sound = record {
-        kept = k;
-        shelved = subst (λ x. Shelved x hs xs) (sym e') (lease_shelved v bs hs xs z.kept z.shelved s j c.requires.scope n T c.in_ok-rows.ensures (rw e at c.note.ensures.stamp));
-        used = omega (u, u', a, arith);
-        branches = z.branches;
-        held = z.held;
-        shelf = z.shelf;
-        limit = z.limit;
-        rows_limit = z.rows_limit;
-      };
-    }
+    let t = c.args.self.now in let v = g.S.RowSeat.view t.seat in let bs = t.branches.items in let hs = t.held.items in let xs = t.shelf.items in let z = c.requires.fits.sound in let o = (returns-clause-ok g c).1 in
+    let keeps = lease_keeps v bs hs xs z.kept z.shelved c.args.scope c.args.stream c.requires.scope o.stamp c.in_ok-rows.rows.items o.covered c.requires.free in
+    let shelved = lease_shelved v bs hs xs z.kept z.shelved c.args.scope c.args.stream c.requires.scope o.stamp c.in_ok-rows.rows.items o.covered o.fresh in
+    record { seat = c.note.ensures.fits; sound = seated g.S.RowSeat.view t c.note.new.self (subst (λ x. Kept x bs hs) (sym o.seat) keeps) (subst (λ x. Shelved x hs xs) (sym o.seat) shelved) z }

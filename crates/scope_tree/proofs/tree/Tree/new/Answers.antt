@@ -1,7 +1,7 @@
 use Rattle.std.proofs.Common.{rules, false, ◌≡◌, length, [], ◌∷◌, ◌++◌, sym, ap, ◌∙◌, subst, arith}
 use Rattle.scope_tree.specs.declared.branch.Branch.{Branch}
 use Rattle.scope_tree.specs.Kept.{Kept, Shelved}
-use Rattle.scope_tree.proofs.Grows.{start_keeps}
+use Rattle.scope_tree.proofs.Grows.{start_keeps, start_owed, start_root}
 use Rattle.scope_tree.proofs.Rooms.{used_is}
 use Rattle.scope_tree.proofs.Shelving.{start_shelved}
 use Rattle.scope_tree.proofs.tree.Tree.new.Goals as goal
@@ -28,3 +28,9 @@ returns-clause-fits g c = λ d f.
 
 pub push_reserved-requires : goal.push_reserved-requires
 push_reserved-requires g c = let e = c.args.room.enough in let o = c.args.room.one in let n = ap length c.args.room.nothing.0 in let z = c.args.room.branches.ok.0 in let a = e.0 in omega (o, n, z, a, arith)
+
+pub returns-clause-root : goal.returns-clause-root
+returns-clause-root g c = start_root (g.S.RowSeat.view c.args.seat) c.requires.start
+
+pub returns-clause-owed : goal.returns-clause-owed
+returns-clause-owed g c = start_owed (g.S.RowSeat.view c.args.seat) c.requires.start

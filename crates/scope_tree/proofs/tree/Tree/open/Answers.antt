@@ -9,6 +9,7 @@ use Rattle.scope_tree.specs.Released.{said}
 use Rattle.scope_tree.specs.Kept.{Shelved}
 use Rattle.scope_tree.proofs.Rooms.{used_is}
 use Rattle.scope_tree.proofs.Shelving.{open_shelved}
+use Rattle.scope_tree.proofs.Calling.{open_leaves}
 use Rattle.scope_tree.proofs.Grows.{open_keeps, length_marks}
 use Rattle.scope_tree.proofs.Beneath.{noted_scope, no_own_close}
 use Rattle.scope_tree.proofs.Walking.{nearest_first, first_usable}
@@ -88,3 +89,18 @@ returns-clause-fits g c =
         rows_limit = z.rows_limit;
       };
     }
+
+pub returns-clause-child : goal.returns-clause-child
+returns-clause-child g c =
+    let t = c.args.self.now in let bs = t.branches.items in let hs = t.held.items in let k = c.requires.fits.sound.kept in
+    (open_leaves (returns-clause-opens g c) bs hs k (at_in (g.S.RowSeat.view t.seat) bs hs k c.args.at c.requires.at) c.requires.free).0
+
+pub returns-clause-scopes : goal.returns-clause-scopes
+returns-clause-scopes g c =
+    let t = c.args.self.now in let bs = t.branches.items in let hs = t.held.items in let k = c.requires.fits.sound.kept in
+    (open_leaves (returns-clause-opens g c) bs hs k (at_in (g.S.RowSeat.view t.seat) bs hs k c.args.at c.requires.at) c.requires.free).1
+
+pub returns-clause-owed : goal.returns-clause-owed
+returns-clause-owed g c =
+    let t = c.args.self.now in let bs = t.branches.items in let hs = t.held.items in let k = c.requires.fits.sound.kept in
+    (open_leaves (returns-clause-opens g c) bs hs k (at_in (g.S.RowSeat.view t.seat) bs hs k c.args.at c.requires.at) c.requires.free).2
