@@ -1,5 +1,5 @@
 -- The devices that a run made.
-use Rattle.std.specs.Prelude.{◌≡◌, ℕ, suc, ◌<◌, Bool, false, nat_eq, nat_lt, List, [], ◌∷◌, ◌++◌, map, length, drop, filter, count_by, flat_map, Option, Some, None}
+use Rattle.std.specs.Prelude.{◌≡◌, ℕ, ◌+◌, ◌<◌, Bool, false, nat_eq, nat_lt, List, [], ◌∷◌, ◌++◌, map, length, drop, filter, count_by, flat_map, Option, Some, None}
 use Rattle.std.specs.List.Sorted.{IsPermutation}
 use Rattle.chunk_core.specs.Lists.{Each, One}
 use Rattle.chunk_core.specs.declared.code.Exit.{Exit}
@@ -21,7 +21,7 @@ made_for old new = drop (length old.made) new.made
 -- these places, with the numbers from n on
 abbrev pub numbered : ℕ → List Place → List (ℕ × Place)
 numbered n [] = []
-numbered n (p ∷ ps) = (n, p) ∷ numbered (suc n) ps
+numbered n (p ∷ ps) = (n, p) ∷ numbered (n + 1) ps
 
 -- a device, by its number and its place
 abbrev pub named : DeviceTold → ℕ × Place
