@@ -1,6 +1,7 @@
 -- What a site is after a device was opened and its place acquired.
 use Rattle.std.proofs.Common.{◌≡◌, ◌≢◌, Bool, ℕ, ◌+◌, ◌≤◌, true, List, [], ◌∷◌, ◌++◌, length, Option, Some, None, inl, inr, refl, sym, ap, ◌∙◌, subst, ⊎_elim, arith, length-append}
 use Rattle.std.proofs.lemmas.Bool.{cases_eq}
+use Rattle.chunk_core.specs.declared.code.Exit.{Exit}
 use Rattle.chunk_core.specs.Lists.{IsAmong}
 use Rattle.chunk_core.specs.Lists.IsAmong.{here, there}
 use Rattle.chunk_core.proofs.Members.{among_cons, among_nil, among_last, among_left, among_snoc}
@@ -8,11 +9,12 @@ use Rattle.device_port.specs.Device.{DeviceTold}
 use Rattle.device_port.specs.declared.device.Mode.TheVariants as mode
 use Rattle.pull_turns.specs.Around.{Acquires, Keeps, gist}
 use Rattle.res_ledger.specs.declared.event.Event.{Event}
-use Rattle.res_ledger.specs.declared.event.What.TheVariants.{Acquire, Close, Lease, Open}
+use Rattle.res_ledger.specs.declared.event.What.TheVariants.{Close, Open}
 use Rattle.res_ledger.specs.Ledger.{Covers}
 use Rattle.res_ledger.specs.Order.{firsts}
 use Rattle.res_ledger.specs.Own.{opens, rows}
-use Rattle.res_ledger.proofs.Growth.{noted_more}
+use Rattle.res_ledger.proofs.Apart.{apart}
+use Rattle.res_ledger.proofs.Growth.{noted_more, noted_snoc}
 use Rattle.res_ledger.proofs.Ledgers.{covers_acquired, covers_snoc}
 use Rattle.row_seat.specs.Views.{HasRow, noted, placed}
 use Rattle.row_seat.proofs.Members.{among_kept}
@@ -20,11 +22,11 @@ use Rattle.scope_tree.specs.declared.branch.Branch.{Branch}
 use Rattle.scope_tree.specs.declared.branch.Held.{Held}
 use Rattle.scope_tree.specs.Calls.{Acquires as Acquired, IsOpenScope, Seen, used}
 use Rattle.scope_tree.specs.Kept.{Kept}
-use Rattle.scope_tree.specs.Torn.{said}
+use Rattle.scope_tree.specs.Released.{said}
 use Rattle.scope_tree.specs.Words.{acquiring, numbers, own_rows, owed, words}
 use Rattle.scope_tree.proofs.Distinct.{strangers_less}
 use Rattle.scope_tree.proofs.Grows.{acquired_opens, acquired_rows, acquired_scopes}
-use Rattle.scope_tree.proofs.Keeps.{noted_last, within_opens}
+use Rattle.scope_tree.proofs.Grown.{within_opens}
 use Rattle.scope_tree.proofs.Rooms.{open_taken}
 use Rattle.scope_tree.proofs.Use.{seen_is}
 use Rattle.tree_laws.specs.Called.Called.{none, acquired}
@@ -34,15 +36,6 @@ use Rattle.pull_stepper.proofs.Ending.{pay_snoc}
 use Rattle.pull_stepper.proofs.Opening.{none_still, refilled, slot_now, slot_still, slots_length, some_not}
 use Rattle.pull_stepper.proofs.Payloads.{pay_back, pay_here, pay_left, pay_right}
 use Rattle.pull_stepper.proofs.Tellings.{same_device}
-
-acquire_lease : (r s j t : ℕ) → Acquire r s ≢ Lease j t
-acquire_lease r s j t e = cc
-
-acquire_open : (r s c p : ℕ) → Acquire r s ≢ Open c p
-acquire_open r s c p e = cc
-
-acquire_close : (r s c : ℕ) → Acquire r s ≢ Close c
-acquire_close r s c e = cc
 
 numbers_more : (xs : List (ℕ × ℕ)) (y : ℕ × ℕ) (r : ℕ) → IsAmong r (numbers xs) → IsAmong r (numbers (xs ++ y ∷ []))
 numbers_more [] y r i = absurd (among_nil i)
@@ -93,8 +86,8 @@ module _ {V : Type 0} (told : V → DeviceTold) (x : Site V) (s p n : ℕ) (d e 
         ⊎_elim (λ z. inl z) (λ z. inr (z.0, noted_more v.events a z.1)) o.0,
         λ c. o.1 (
           c.0,
-          within_opens (λ f g m. ⊎_elim (λ z. z) (λ z. absurd (acquire_open p s f g z)) (noted_last v.events a v.by (Open f g) m)) c.1,
-          ⊎_elim (λ z. z) (λ z. absurd (acquire_close p s c.0 z)) (noted_last v.events a v.by (Close c.0) c.2),
+          within_opens (λ f g m. ⊎_elim (λ z. z) (λ z. absurd (apart z.1 refl)) (noted_snoc v.events a v.by (Open f g) m)) c.1,
+          (c.2.0, ⊎_elim (λ z. z) (λ z. absurd (apart z.1 refl)) (noted_snoc v.events a v.by (Close c.0 c.2.0) c.2.1)),
         ),
       )
 
@@ -129,10 +122,10 @@ module _ {V : Type 0} (told : V → DeviceTold) (x : Site V) (s p n : ℕ) (d e 
   bare_now : (j r : ℕ) → HasRow after.seat.opened r → ¬ (Covers after.seat.events j after.seat.by r)
   bare_now j r h c =
       let v = x.tree.seat in let a : Event = acquiring v p s n in
-      let old : Covers v.events j v.by r = ⊎_elim (λ o. o) (λ o. absurd (acquire_lease p s j o.0 o.2)) (covers_snoc v.events a j r v.by c) in
+      let old : Covers v.events j v.by r = ⊎_elim (λ o. o) (λ o. absurd (apart o.2 refl)) (covers_snoc v.events a j r v.by c) in
       ⊎_elim
       (λ m. order.bare j r (h.0, m) old)
-      (λ m. let t = covers_acquired v.events j r v.by old in k.empty r (subst (λ z. IsAmong z v.empty) (sym (ap (λ y. y.0) m)) empty) (v.by, t.0, t.1))
+      (λ m. let t = covers_acquired v.events j r v.by old in k.rests.empty r (subst (λ z. IsAmong z v.empty) (sym (ap (λ y. y.0) m)) empty) (v.by, t.0, t.1))
       (among_snoc v.opened (r, h.0) (p, e) h.1)
 
   acquired_order : InOrder told site'
@@ -157,7 +150,7 @@ module _ {V : Type 0} (told : V → DeviceTold) (x : Site V) (s p n : ℕ) (d e 
   }
 
 -- the device was opened, and its row acquired in an open scope
-module _ {V : Type 0} (told : V → DeviceTold) (ends : V → Bool → V → Type 0) (x : Site V) (b : Seen V) (s p : ℕ) (d e : V) (bs : List Branch) (hs : List Held) (k : Kept x.tree.seat bs hs) (is : slot x p ≡ Some (Some d)) (order : InOrder told x) (u : IsOpenScope x.tree s) (read : (told d).place.mode ≡ mode.Read) (open' : told e ≡ record (told d) { is_open = true; opens = 1 }) (free : owed x.tree.seat + 2 ≤ x.tree.seat.spare) (o : Acquired x.tree s p e b) where
+module _ {V : Type 0} (told : V → DeviceTold) (ends : V → Exit → Bool → V → Type 0) (x : Site V) (b : Seen V) (s p : ℕ) (d e : V) (bs : List Branch) (hs : List Held) (k : Kept x.tree.seat bs hs) (is : slot x p ≡ Some (Some d)) (order : InOrder told x) (u : IsOpenScope x.tree s) (read : (told d).place.mode ≡ mode.Read) (open' : told e ≡ record (told d) { is_open = true; opens = 1 }) (free : owed x.tree.seat + 2 ≤ x.tree.seat.spare) (o : Acquired x.tree s p e b) where
   is_after : b ≡ after told x s p o.stamp d e bs hs k is order u read open' free
   is_after = seen_is x.tree b _ o.seat o.shelf o.scopes o.rows
 

@@ -22,7 +22,7 @@ use Rattle.pull_stepper.proofs.Placing.{placed_fresh, placed_within}
 use Rattle.pull_stepper.proofs.Slots.{slot_here, slot_past, slot_place}
 
 unopened : (d : DeviceTold) → IsUnused d → IsUnopened d
-unopened d u = record { is_open = u.is_open; opens = u.opens; closes = u.closes; close_faults = u.close_faults }
+unopened d u = record { is_open = u.is_open; opens = u.opens; closes = u.closes; exit = u.exit; close_faults = u.close_faults }
 
 -- the pipes of a node that has a kind fit
 pipes_fit : (n : Node) → IsSome (kind_of n) → PipesFitOf n
@@ -112,6 +112,7 @@ fresh_unused depot path d e = subst IsUnused (sym e) (record {
   is_open = refl;
   opens = refl;
   closes = refl;
+  exit = refl;
   at = refl;
   open_faults = refl;
   read_faults = refl;

@@ -1,14 +1,17 @@
 -- What a site is after a scope was opened.
-use Rattle.std.proofs.Common.{◌≡◌, ◌≢◌, Bool, ℕ, ◌+◌, ◌<◌, ◌≤◌, List, [], ◌∷◌, length, inl, inr, refl, sym, ap, ◌∙◌, subst, ⊎_elim, arith, length-append}
+use Rattle.std.proofs.Common.{◌≡◌, Bool, ℕ, ◌+◌, ◌<◌, ◌≤◌, List, [], ◌∷◌, length, inl, inr, refl, sym, ap, ◌∙◌, subst, ⊎_elim, arith, length-append}
+use Rattle.chunk_core.specs.declared.code.Exit.{Exit}
 use Rattle.chunk_core.specs.Lists.{IsAmong}
 use Rattle.device_port.specs.Device.{DeviceTold}
 use Rattle.pull_turns.specs.Around.{Enters, Keeps}
 use Rattle.res_ledger.specs.declared.event.Event.{Event}
-use Rattle.res_ledger.specs.declared.event.What.TheVariants.{Close, Lease, Open}
+use Rattle.res_ledger.specs.declared.event.What.TheVariants.{Close, Open}
 use Rattle.res_ledger.specs.Ledger.{IsClosed, IsUsable, LiesWithin, Notes}
 use Rattle.res_ledger.specs.Ledger.LiesWithin.{below, same}
 use Rattle.res_ledger.specs.Own.{opens}
-use Rattle.res_ledger.proofs.Growth.{noted_more, noted_new}
+use Rattle.res_ledger.proofs.Apart.{apart}
+use Rattle.res_ledger.proofs.Growth.{noted_more, noted_new, noted_snoc}
+use Rattle.res_ledger.proofs.Noted.{notes_closes}
 use Rattle.row_seat.specs.declared.view.View.{View}
 use Rattle.row_seat.specs.Views.{noted}
 use Rattle.scope_tree.specs.declared.branch.Branch.{Branch}
@@ -17,24 +20,18 @@ use Rattle.scope_tree.specs.Calls.{IsOpenScope, Opens, Seen, used}
 use Rattle.scope_tree.specs.Kept.{Kept}
 use Rattle.res_ledger.specs.Order.{firsts}
 use Rattle.scope_tree.specs.Rows.{strangers}
-use Rattle.scope_tree.specs.Torn.{said}
+use Rattle.scope_tree.specs.Released.{said}
 use Rattle.scope_tree.specs.Words.{numbers, opening, owed, words}
-use Rattle.scope_tree.proofs.Bridge.{closes_in, noted_in, within_cases}
+use Rattle.scope_tree.proofs.Bridge.{within_cases}
 use Rattle.scope_tree.proofs.Grows.{back_closed, length_marks, opened_opens, opened_rows, opened_scopes}
 use Rattle.scope_tree.proofs.Beneath.{noted_scope, usable_scope}
-use Rattle.scope_tree.proofs.Keeps.{noted_last, under_root, within_trans}
+use Rattle.scope_tree.proofs.Keeps.{under_root, within_trans}
 use Rattle.scope_tree.proofs.Use.{first_is, seen_is}
 use Rattle.tree_laws.specs.Called.Called.{none, opened}
 use Rattle.tree_laws.proofs.Alone.{alone_opens}
 use Rattle.pull_stepper.specs.Sites.{InOrder, SameDevice, Since, Site, around, told_at}
 use Rattle.pull_stepper.proofs.Ending.{bare_noted}
 use Rattle.pull_stepper.proofs.Tellings.{same_device}
-
-open_lease : (c p j t : ℕ) → Open c p ≢ Lease j t
-open_lease c p j t e = cc
-
-open_close : (c p s : ℕ) → Open c p ≢ Close s
-open_close c p s e = cc
 
 open_under : (c p d q : ℕ) → Open c p ≡ Open d q → p ≡ q
 open_under c p d q e = cc
@@ -52,7 +49,7 @@ module _ {V : Type 0} (told : V → DeviceTold) (x : Site V) (at n : ℕ) (bs : 
   entered_order = record {
     places = order.places;
     opened = order.opened;
-    bare = bare_noted x.tree.seat after.seat (opening x.tree.seat (length bs) at n) (λ j t. open_lease (length bs) at j t) refl refl (λ r h. h) order.bare;
+    bare = bare_noted x.tree.seat after.seat (opening x.tree.seat (length bs) at n) (λ j t o. apart o refl) refl refl (λ r h. h) order.bare;
     waits = order.waits;
     gone = order.gone;
   }
@@ -62,14 +59,14 @@ module _ {V : Type 0} (told : V → DeviceTold) (x : Site V) (at n : ℕ) (bs : 
       let v = x.tree.seat in let e : Event = opening v (length bs) at n in (
         inr (at, noted_new v.events e),
         λ c.
-            let old : Notes v.events v.by (Close c.0) = ⊎_elim (λ o. o) (λ o. absurd (open_close (length bs) at c.0 o)) (noted_last v.events e v.by (Close c.0) c.2) in
-            let l = k.ended c.0 (closes_in c.0 (words v) (noted_in v.by (Close c.0) v.events old)) in
+            let old : Notes v.events v.by (Close c.0 c.2.0) = ⊎_elim (λ o. o) (λ o. absurd (apart o.1 refl)) (noted_snoc v.events e v.by (Close c.0 c.2.0) c.2.1) in
+            let l = k.mirrors.ended c.0 (notes_closes v.events v.by c.0 (c.2.0, old)) in
             ⊎_elim
             (λ i. omega (i, l, arith))
             (λ w. ⊎_elim
             (λ o. let m = noted_scope v bs hs k (length bs) w.0 o in let z = m.1 in omega (z, arith))
-            (λ o. u.1 (back_closed v bs hs at n k u free at (usable_scope v bs hs k at u) (c.0, subst (λ p. LiesWithin after.seat.events v.by p c.0) (sym (open_under (length bs) at (length bs) w.0 o)) w.2, c.2)))
-            (noted_last v.events e v.by (Open (length bs) w.0) w.1))
+            (λ o. u.1 (back_closed v bs hs at n k u free at (usable_scope v bs hs k at u) (c.0, subst (λ p. LiesWithin after.seat.events v.by p c.0) (sym (open_under (length bs) at (length bs) w.0 o.1)) w.2, c.2)))
+            (noted_snoc v.events e v.by (Open (length bs) w.0) w.1))
             (within_cases c.1),
       )
 
@@ -91,10 +88,11 @@ module _ {V : Type 0} (told : V → DeviceTold) (x : Site V) (at n : ℕ) (bs : 
 
   entered : Enters (around told x) at (length bs) (around told (record x { tree = after }))
   entered =
-      let s = opened_scopes x.tree.seat bs hs at n k u free in let p = k.spare in let l = usable_scope x.tree.seat bs hs k at u in let us = entered_used in
+      let s = opened_scopes x.tree.seat bs hs at n k u free in let p = k.rests.spare in let l = usable_scope x.tree.seat bs hs k at u in let us = entered_used in
       let os : length (opens (words after.seat)) ≡ length (opens (words x.tree.seat)) + 1 = ap length (opened_opens x.tree.seat bs hs at n k u free) ∙ length-append (opens (words x.tree.seat)) ((length bs, at) ∷ []) in record {
         below = l;
         within = below (length bs) at at (noted_new x.tree.seat.events (opening x.tree.seat (length bs) at n)) (same at);
+        fresh = λ o. let i = usable_scope x.tree.seat bs hs k (length bs) o in omega (i, arith);
         opened = new_open;
         keeps = entered_keeps;
         events = omega (s, p, arith);
@@ -103,9 +101,9 @@ module _ {V : Type 0} (told : V → DeviceTold) (x : Site V) (at n : ℕ) (bs : 
       }
 
 -- a scope of this number was opened in an open scope
-module _ {V : Type 0} (told : V → DeviceTold) (ends : V → Bool → V → Type 0) (x : Site V) (b : Seen V) (at c : ℕ) (bs : List Branch) (hs : List Held) (k : Kept x.tree.seat bs hs) (order : InOrder told x) (u : IsOpenScope x.tree at) (free : owed x.tree.seat + 2 ≤ x.tree.seat.spare) (o : Opens x.tree at c b) where
+module _ {V : Type 0} (told : V → DeviceTold) (ends : V → Exit → Bool → V → Type 0) (x : Site V) (b : Seen V) (at c : ℕ) (bs : List Branch) (hs : List Held) (k : Kept x.tree.seat bs hs) (order : InOrder told x) (u : IsOpenScope x.tree at) (free : owed x.tree.seat + 2 ≤ x.tree.seat.spare) (o : Opens x.tree at c b) where
   number : c ≡ length bs
-  number = let n = ap length k.opens in let m = length_marks bs k.size in let i = o.number in omega (n, m, i, arith)
+  number = let n = ap length k.mirrors.opens in let m = length_marks bs k.mirrors.size in let i = o.number in omega (n, m, i, arith)
 
   is_after : b ≡ after told x at o.stamp bs hs k order u free
   is_after =

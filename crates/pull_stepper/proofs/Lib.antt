@@ -12,5 +12,4 @@ pub mod Reading
 pub mod Leaving
 pub mod Beginning
 pub mod Parting
-pub mod Driving
 pub mod Turning

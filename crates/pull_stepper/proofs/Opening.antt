@@ -3,24 +3,15 @@ use Rattle.std.proofs.Common.{◌≡◌, ◌≢◌, Bool, ℕ, zero, suc, ◌+�
 use Rattle.std.specs.Prelude.{Err, Ok, OnErr, Result}
 use Rattle.std.proofs.lemmas.Bool.{cases_eq}
 use Rattle.std.proofs.lemmas.List.{get_or-set_same, length-set}
+use Rattle.chunk_core.specs.declared.code.Exit.{Exit}
 use Rattle.chunk_core.specs.Lists.{IsAmong}
 use Rattle.device_port.specs.Device.{DeviceTold}
 use Rattle.pull_turns.specs.Around.{Refuses, gist}
-use Rattle.res_ledger.specs.declared.event.What.TheVariants.{Acquire, Close, Lease, Open}
 use Rattle.tree_laws.specs.Called.Called.{none}
 use Rattle.tree_laws.proofs.Alone.{alone_same}
 use Rattle.pull_stepper.specs.Sites.{InOrder, IsUnopened, SameDevice, Since, Site, around, pay_of, slot, told_at, told_by}
 use Rattle.pull_stepper.proofs.Slots.{slot_at, slot_other, slot_place, slot_set}
 use Rattle.pull_stepper.proofs.Tellings.{same_device}
-
-acquire_lease : (r s j t : ℕ) → Acquire r s ≢ Lease j t
-acquire_lease r s j t e = cc
-
-acquire_open : (r s c p : ℕ) → Acquire r s ≢ Open c p
-acquire_open r s c p e = cc
-
-acquire_close : (r s c : ℕ) → Acquire r s ≢ Close c
-acquire_close r s c e = cc
 
 some_is : {A : Type 0} (x y : A) → Some (Some x) ≡ Some (Some y) → x ≡ y
 some_is x y e = cc
@@ -90,7 +81,7 @@ module _ {V : Type 0} (x : Site V) (p : ℕ) (d : V) (is : slot x p ≡ Some (So
   none_still o q n = ⊎_elim (λ e. absurd (some_not d (slot x p) (subst (λ z. slot x z ≡ Some None) e n) is)) (λ ne. slot_still o q ne ∙ n) (cases_eq q p)
 
 -- the device could not be opened, and stays in its slot
-module _ {V : Type 0} (told : V → DeviceTold) (ends : V → Bool → V → Type 0) (x : Site V) (p : ℕ) (d e : V) (is : slot x p ≡ Some (Some d)) (order : InOrder told x) (fault : told e ≡ record (told d) { open_faults = (told d).open_faults + 1 }) where
+module _ {V : Type 0} (told : V → DeviceTold) (ends : V → Exit → Bool → V → Type 0) (x : Site V) (p : ℕ) (d e : V) (is : slot x p ≡ Some (Some d)) (order : InOrder told x) (fault : told e ≡ record (told d) { open_faults = (told d).open_faults + 1 }) where
   abbrev pub refused : Site V
   refused = record x { slots = refilled x p d is (Some e) }
 
@@ -124,7 +115,7 @@ module _ {V : Type 0} (told : V → DeviceTold) (ends : V → Bool → V → Typ
             (λ i.
             let at : slot refused p ≡ Some (Some f) = subst (λ z. slot refused z ≡ Some (Some f)) i h in
             let f_is : told f ≡ told e = ap told (some_is f e (sym at ∙ slot_now x p d is (Some e))) in
-            (subst (λ z. IsAmong z x.tree.seat.empty) (sym i) (order.waits p d is).0, subst IsUnopened (sym (f_is ∙ fault)) (record { is_open = u.is_open; opens = u.opens; closes = u.closes; close_faults = u.close_faults })))
+            (subst (λ z. IsAmong z x.tree.seat.empty) (sym i) (order.waits p d is).0, subst IsUnopened (sym (f_is ∙ fault)) (record { is_open = u.is_open; opens = u.opens; closes = u.closes; exit = u.exit; close_faults = u.close_faults })))
             (λ n. order.waits q f (sym (slot_still x p d is (Some e) q n) ∙ h))
             (cases_eq q p);
         gone = λ q h. ⊎_elim

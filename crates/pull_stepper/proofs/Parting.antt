@@ -14,7 +14,7 @@ use Rattle.scope_tree.specs.declared.branch.Held.{Held}
 use Rattle.scope_tree.specs.declared.branch.Spent.{Spent}
 use Rattle.scope_tree.specs.Kept.{Kept}
 use Rattle.scope_tree.specs.Rows.{AreDistinct, Once}
-use Rattle.scope_tree.specs.Torn.{said}
+use Rattle.scope_tree.specs.Released.{said}
 use Rattle.scope_tree.specs.Words.{words}
 use Rattle.scope_tree.proofs.Covered.{closed_complete}
 use Rattle.scope_tree.proofs.Beneath.{closed_sound}
@@ -29,7 +29,7 @@ root_closed v bs hs k shut = by (is_closed (words v) 0) refl
   where
     by : (b : Bool) → is_closed (words v) 0 ≡ b → IsClosed v.events v.by 0
     by true e = closed_sound v 0 e
-    by false e = absurd (shut (inl refl, λ c. false≢true (sym e ∙ closed_complete v bs hs k 0 (omega (arith, k.size)) c)))
+    by false e = absurd (shut (inl refl, λ c. false≢true (sym e ∙ closed_complete v bs hs k 0 (omega (arith, k.mirrors.size)) c)))
 
 module _ {V : Type 0} where
   pays_once : (xs : List (Spent V)) → AreDistinct (firsts (said xs)) → Once (pays xs)
@@ -40,7 +40,7 @@ module _ {V : Type 0} (told : V → DeviceTold) where
   module _ (w : ℕ → DeviceTold) (shelf : List (Spent V)) (n : ℕ) where
     -- the device of p ended, and tells w
     abbrev Stands : ℕ → Type 0
-    Stands p = (x : Spent V) × IsAmong x shelf × (x.row ≡ p) × (told x.pay ≡ w p) × IsSpent (w p) x.ok
+    Stands p = (x : Spent V) × IsAmong x shelf × (x.row ≡ p) × (told x.pay ≡ w p) × IsSpent (w p) x.exit x.ok
 
     parted_from : (i : ℕ) (xs : List (Option V)) → i + length xs ≡ n
         → ((p : ℕ) (d : V) → slot_of p i xs ≡ Some (Some d) → (told d ≡ w p) × IsUnopened (w p) × ¬ (IsAmong p (firsts (said shelf))))
@@ -68,7 +68,7 @@ module _ {V : Type 0} (told : V → DeviceTold) where
       (λ p h.
       ⊎_elim
       (λ r. absurd (among_nil (subst (λ l. IsAmong (p, r.0) l) none_open r.1)))
-      (λ y. let e = at_end p h y in (y.0, y.1, y.2, sym e, subst (λ t. IsSpent t y.0.ok) (sym e) y.3))
+      (λ y. let e = at_end p h y in (y.0, y.1, y.2, sym e, subst (λ t. IsSpent t y.0.exit y.0.ok) (sym e) y.3))
       (o.gone p h))
     where
       at_end : (p : ℕ) → slot x p ≡ Some None → (y : HasEnded told x.tree p) → told_at told x p ≡ told y.0.pay

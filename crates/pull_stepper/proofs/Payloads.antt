@@ -8,7 +8,7 @@ use Rattle.res_ledger.specs.Order.{firsts}
 use Rattle.row_seat.specs.Views.{HasRow, with_row, without_row}
 use Rattle.scope_tree.specs.declared.branch.Spent.{Spent}
 use Rattle.scope_tree.specs.Rows.{AreDistinct, Once}
-use Rattle.scope_tree.specs.Torn.{said}
+use Rattle.scope_tree.specs.Released.{said}
 use Rattle.pull_stepper.specs.Sites.{pay_in, pays}
 
 module _ {V : Type 0} where

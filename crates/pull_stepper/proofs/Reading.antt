@@ -2,6 +2,7 @@
 use Rattle.std.proofs.Common.{◌≡◌, ◌≢◌, Bool, ℕ, ◌+◌, ◌≤◌, List, length, take, drop, Some, None, inl, inr, refl, sym, ap, ◌∙◌, subst, ⊎_elim, arith}
 use Rattle.std.specs.Prelude.{IfOk, IfSome, OnErr, Result, Ok, Err}
 use Rattle.std.proofs.lemmas.Bool.{cases_eq}
+use Rattle.chunk_core.specs.declared.code.Exit.{Exit}
 use Rattle.chunk_core.specs.Lists.{IsAmong}
 use Rattle.device_port.specs.Device.{DeviceTold, moved}
 use Rattle.pull_turns.specs.Around.{Affords, Fails, Gives, Keeps, gist}
@@ -23,7 +24,7 @@ module _ {V : Type 0} (told : V → DeviceTold) (x : Site V) (p : ℕ) (d : V) (
   pub told_before : told_at told x p ≡ told d
   told_before = ap (λ o. told_by told o (pay_of x.tree p)) no_slot ∙ ap (told_or told) (pay_left p d x.tree.seat.opened (pays x.tree.shelf) (pay_once p d x.tree.seat.opened once held))
 
-module _ {V : Type 0} (told : V → DeviceTold) (ends : V → Bool → V → Type 0) (x : Site V) (p : ℕ) (d e : V) (once : Once x.tree.seat.opened) (order : InOrder told x) (held : IsAmong (p, d) x.tree.seat.opened) (open' : (told e).is_open ≡ (told d).is_open) (same : SameDevice (told d) (told e)) where
+module _ {V : Type 0} (told : V → DeviceTold) (ends : V → Exit → Bool → V → Type 0) (x : Site V) (p : ℕ) (d e : V) (once : Once x.tree.seat.opened) (order : InOrder told x) (held : IsAmong (p, d) x.tree.seat.opened) (open' : (told e).is_open ≡ (told d).is_open) (same : SameDevice (told d) (told e)) where
   -- the row has the other payload
   abbrev pub changed : Site V
   changed = record x { tree = record x.tree { seat = paid x.tree.seat p e } }
@@ -85,7 +86,7 @@ read_same d e n h = subst (λ t. SameDevice d t) (sym h) (record { number = refl
 pub unread_same : (d e : DeviceTold) → e ≡ record d { read_faults = d.read_faults + 1 } → SameDevice d e
 unread_same d e h = subst (λ t. SameDevice d t) (sym h) (record { number = refl; place = refl; present = refl; content = refl })
 
-module _ {V : Type 0} (told : V → DeviceTold) (ends : V → Bool → V → Type 0) (x : Site V) (p : ℕ) (d e : V) (once : Once x.tree.seat.opened) (order : InOrder told x) (held : IsAmong (p, d) x.tree.seat.opened) where
+module _ {V : Type 0} (told : V → DeviceTold) (ends : V → Exit → Bool → V → Type 0) (x : Site V) (p : ℕ) (d e : V) (once : Once x.tree.seat.opened) (order : InOrder told x) (held : IsAmong (p, d) x.tree.seat.opened) where
   module _ (n : ℕ) (buf : List ℕ) (h : told e ≡ moved n (told d)) where
     pub gives : n ≤ length buf → IfSome (told d).content (λ c. take n buf ≡ take n (drop (told d).at c)) → (n ≡ 0 → IfSome (told d).content (λ c. length c ≤ (told d).at)) → Gives (around told x) p n buf (around told (changed told ends x p d e once order held (ap (λ t. t.is_open) h) (read_same (told d) (told e) n h)))
     gives count bytes end =
@@ -115,7 +116,7 @@ module _ {V : Type 0} (told : V → DeviceTold) (d e : V) where
   after_read (Ok n) h f = (ap (λ t. t.is_open) h, read_same (told d) (told e) n h)
   after_read (Err z) h f = (ap (λ t. t.is_open) f, unread_same (told d) (told e) f)
 
-module _ {V : Type 0} (told : V → DeviceTold) (ends : V → Bool → V → Type 0) (x : Site V) (p : ℕ) (d e : V) (once : Once x.tree.seat.opened) (order : InOrder told x) (held : IsAmong (p, d) x.tree.seat.opened) (v : View V) (is : v ≡ paid x.tree.seat p e) where
+module _ {V : Type 0} (told : V → DeviceTold) (ends : V → Exit → Bool → V → Type 0) (x : Site V) (p : ℕ) (d e : V) (once : Once x.tree.seat.opened) (order : InOrder told x) (held : IsAmong (p, d) x.tree.seat.opened) (v : View V) (is : v ≡ paid x.tree.seat p e) where
   -- the site whose seat has this view
   abbrev pub seated : View V → Site V
   seated w = record x { tree = record x.tree { seat = w } }

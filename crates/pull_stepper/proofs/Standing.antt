@@ -13,7 +13,7 @@ use Rattle.scope_tree.specs.declared.branch.Held.{Held}
 use Rattle.scope_tree.specs.declared.branch.Spent.{Spent}
 use Rattle.scope_tree.specs.Kept.{Kept, Shelved}
 use Rattle.scope_tree.specs.Rows.{AreDistinct}
-use Rattle.scope_tree.specs.Torn.{said}
+use Rattle.scope_tree.specs.Released.{said}
 use Rattle.scope_tree.specs.Words.{words}
 use Rattle.scope_tree.proofs.Beneath.{noted_parent}
 use Rattle.scope_tree.proofs.Walking.{parent_any}
@@ -35,7 +35,7 @@ kept_usable v bs hs k (suc s) l n =
 
 -- the scope of an open row is open
 pub row_scope : {V : Type 0} (v : View V) (bs : List Branch) (hs : List Held) (k : Kept v bs hs) (q : ℕ) → HasRow v.opened q → (t : ℕ) × IsAmong (q, t) (rows (words v)) × IsUsable v.events v.by t
-row_scope v bs hs k q h = let t = k.only q h in (t.0, subst (λ l. IsAmong (q, t.0) l) (sym k.rows) t.1, kept_usable v bs hs k t.0 (k.ranged q t.0 t.1) t.2)
+row_scope v bs hs k q h = let t = k.holds.only q h in (t.0, subst (λ l. IsAmong (q, t.0) l) (sym k.mirrors.rows) t.1, kept_usable v bs hs k t.0 (k.mirrors.ranged q t.0 t.1) t.2)
 
 module _ {V : Type 0} (told : V → DeviceTold) (x : Site V) (hs : List Held) (shelved : Shelved x.tree.seat hs x.tree.shelf) where
   -- the device of a row that ended tells for its place

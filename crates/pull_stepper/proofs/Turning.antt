@@ -1,9 +1,11 @@
 -- What a runner's turns are to its stepper.
-use Rattle.std.proofs.Common.{◌≡◌, ℕ, zero, suc, ◌<◌, true, false, ap, refl, sym, subst, ◌∙◌, Option, None, List, [], Result, Ok, Err, IfOk, OnErr, arith}
+use Rattle.std.proofs.Common.{◌≡◌, ℕ, zero, suc, ◌<◌, Bool, true, false, ap, refl, sym, subst, ◌∙◌, Option, None, List, [], Result, Ok, Err, IfOk, OnErr, arith}
+use Rattle.chunk_core.specs.declared.code.Exit.TheVariants.{Canceled}
 use Rattle.chunk_core.specs.declared.code.How.{How}
 use Rattle.chunk_core.specs.declared.load.Load.{Load}
+use Rattle.chunk_core.specs.Outcomes.{exit_of}
 use Rattle.device_port.specs.Device.{DeviceTold}
-use Rattle.pull_turns.specs.Around.{Around}
+use Rattle.pull_turns.specs.Around.{Around, IsClosedWith}
 use Rattle.pull_turns.specs.Led.{ComesWithin, GoesOnFor, Turns, Uncons}
 use Rattle.pull_turns.specs.Moves.{how_of}
 use Rattle.pull_turns.specs.Piping.{Standing}
@@ -16,7 +18,7 @@ use Rattle.pull_turns.specs.declared.turn.Turn.{Turn}
 use Rattle.pull_turns.specs.declared.turn.Turn.TheVariants as turn
 use Rattle.pull_turns.proofs.Led.{moved_tells}
 use Rattle.pull_stepper.specs.Sites.{Site, around}
-use Rattle.pull_stepper.specs.Stepping.{Leaves, Stepping, Steps, Unconses, Wants}
+use Rattle.pull_stepper.specs.Stepping.{Halts, IsOver, Leaves, Stepping, Steps, Unconses, Wants, stopped_by}
 
 -- a turn that goes on is no end
 runs_on : (t : Turn) → GoesOn t → how_of t ≡ None
@@ -36,7 +38,7 @@ module _ {F : Type 0} (P : Standing F) {O Q : Type 0} (view : O → Q) (seen : Q
 
   uncons_seen : (k : ℕ) (a b : O) (old new : Rest F) (how : Option How) (u : Unconsed) → Uncons P (λ o. seen (view o)) n k a b old new how u → Uncons P seen n k (view a) (view b) old new how u
   uncons_seen k a b old new how (Chunk l) h = (h.0, h.1, h.2, h.3, h.4, within_seen k a b old new (turn.Chunk l) h.5, h.6)
-  uncons_seen k a b old new how (End e) h = (h.0, h.1, h.2, h.3, (h.4.0, h.4.1, within_seen k a b old new h.4.0 h.4.2))
+  uncons_seen k a b old new how (End e) h = (h.0, h.1, h.2, h.3, h.4, (h.5.0, h.5.1, within_seen k a b old new h.5.0 h.5.2))
   uncons_seen k a b old new how Again h = (goes_on_seen k a b old new [] h.0, h.1, h.2, h.3)
 
 module _ {V F : Type 0} (P : Standing F) (told : V → DeviceTold) (a b : Stepping V F) (chunk : b.chunk ≡ a.chunk) (some : 0 < a.chunk) where
@@ -57,7 +59,7 @@ module _ {V F : Type 0} (P : Standing F) (told : V → DeviceTold) (a b : Steppi
 
   leaves_by : (k : ℕ) (u : Unconsed) → Uncons P (around told) a.chunk k a.site b.site a.rest b.rest b.how u → b.wanting ≡ false → Leaves P told u b
   leaves_by k (Chunk l) h sound = record { how = h.1; memory = sound; chunk = still; step = h.2 }
-  leaves_by k (End e) h sound = (h.0, h.1)
+  leaves_by k (End e) h sound = (h.0, h.1, h.2)
   leaves_by k Again h sound = record { how = h.1; memory = sound; chunk = still; step = h.2 }
 
   pub unconses_by : {O E : Type 0} (view : O → Site V) (x y : O) (k : ℕ) (r : Result Unconsed E) → a.site ≡ view x → b.site ≡ view y
@@ -81,3 +83,11 @@ module _ {V F : Type 0} (told : V → DeviceTold) (a b : Stepping V F) (root : (
     tells = moved_tells _ _ _ _ moved;
     spends = spent;
   }
+
+exit_stopped : (b : Bool) → Canceled ≡ exit_of (stopped_by b)
+exit_stopped true = refl
+exit_stopped false = refl
+
+-- where it was stopped it is over
+pub halts_over : {V F : Type 0} (told : V → DeviceTold) (a b : Stepping V F) → Halts told a b → IsOver told b
+halts_over told a b h = record { how = stopped_by a.wanting; ended = h.how; shut = h.shut; exit = subst (λ e. IsClosedWith (around told b.site) 0 e) (exit_stopped a.wanting) h.exit }

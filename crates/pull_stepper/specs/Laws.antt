@@ -1,6 +1,7 @@
 -- What was done in a first stretch and in a second was done in both.
 use Rattle.std.specs.Prelude.{◌+◌, Bool, length, refl}
 use Rattle.std.proofs.Common.{inl, inr, ◌∙◌, subst, ⊎_elim}
+use Rattle.chunk_core.specs.declared.code.Exit.{Exit}
 use Rattle.device_port.specs.Device.{DeviceTold}
 use Rattle.row_seat.specs.declared.view.View.{View}
 use Rattle.row_seat.specs.Views.{IsWithin}
@@ -12,7 +13,7 @@ use Rattle.pull_stepper.specs.Held.{Finishes}
 use Rattle.pull_stepper.specs.Resources.{Later}
 use Rattle.pull_stepper.specs.Sites.{Since, Site}
 
-module _ {V : Type 0} (told : V → DeviceTold) (ends : V → Bool → V → Type 0) where
+module _ {V : Type 0} (told : V → DeviceTold) (ends : V → Exit → Bool → V → Type 0) where
   pub since_same : (x : Site V) → Since told ends x x
   since_same x = record {
     calls = none;

@@ -6,4 +6,3 @@ pub mod Resources
 pub mod Laws
 pub mod Stepping
 pub mod Steppers
-pub mod Uses

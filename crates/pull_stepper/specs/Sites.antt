@@ -1,16 +1,18 @@
 -- The devices of a stream by their places, beside the tree that has those that were opened.
 use Rattle.std.specs.Prelude.{◌≡◌, ℕ, suc, ◌+◌, ◌-◌, ◌⊎◌, Bool, true, false, nat_eq, if◌then◌else◌, List, [], ◌∷◌, ◌++◌, length, Option, Some, None}
+use Rattle.chunk_core.specs.declared.code.Exit.{Exit}
 use Rattle.chunk_core.specs.Lists.{IsAmong}
 use Rattle.device_port.specs.Device.{DeviceTold}
 use Rattle.device_port.specs.declared.device.Mode.TheVariants as mode
 use Rattle.pull_turns.specs.Around.{Around}
-use Rattle.res_ledger.specs.Ledger.{Covers, LiesWithin}
+use Rattle.res_ledger.specs.Ledger.{Covers, LiesWithin, Notes}
+use Rattle.res_ledger.specs.declared.event.What.TheVariants.{Close}
 use Rattle.res_ledger.specs.Order.{firsts}
 use Rattle.res_ledger.specs.Own.{opens, rows}
 use Rattle.row_seat.specs.Views.{HasRow, IsWithin}
 use Rattle.scope_tree.specs.declared.branch.Spent.{Spent}
 use Rattle.scope_tree.specs.Calls.{IsOpenScope, Seen, used}
-use Rattle.scope_tree.specs.Torn.{said}
+use Rattle.scope_tree.specs.Released.{said}
 use Rattle.scope_tree.specs.Words.{owed, words}
 use Rattle.tree_laws.specs.Alone.{StaysAlone}
 use Rattle.tree_laws.specs.Called.{Called}
@@ -23,10 +25,12 @@ blank = record {
   present = None;
   content = None;
   at = 0;
+  ended = false;
   written = None;
   is_open = false;
   opens = 0;
   closes = 0;
+  exit = None;
   open_faults = 0;
   read_faults = 0;
   write_faults = 0;
@@ -39,6 +43,7 @@ pub record IsUnused (d : DeviceTold) : Type 0 where
   pub is_open : d.is_open ≡ false
   pub opens : d.opens ≡ 0
   pub closes : d.closes ≡ 0
+  pub exit : d.exit ≡ None
   pub at : d.at ≡ 0
   pub open_faults : d.open_faults ≡ 0
   pub read_faults : d.read_faults ≡ 0
@@ -50,13 +55,15 @@ pub record IsUnopened (d : DeviceTold) : Type 0 where
   pub is_open : d.is_open ≡ false
   pub opens : d.opens ≡ 0
   pub closes : d.closes ≡ 0
+  pub exit : d.exit ≡ None
   pub close_faults : d.close_faults ≡ 0
 
--- a device that was opened once and closed once, with this answer
-pub record IsSpent (d : DeviceTold) (ok : Bool) : Type 0 where
+-- a device that was opened once and closed once, with this exit and this answer
+pub record IsSpent (d : DeviceTold) (x : Exit) (ok : Bool) : Type 0 where
   pub is_open : d.is_open ≡ false
   pub opens : d.opens ≡ 1
   pub closes : d.closes ≡ 1
+  pub exit : d.exit ≡ Some x
   pub answer : ok ≡ nat_eq d.close_faults 0
 
 -- the same device, whatever was done with it
@@ -120,6 +127,7 @@ module _ {V : Type 0} where
     around x = record {
       told = told_at x;
       opened = IsOpenScope x.tree;
+      closed = λ s e. Notes x.tree.seat.events x.tree.seat.by (Close s e);
       within = LiesWithin x.tree.seat.events x.tree.seat.by;
       waits = λ p. (d : V) × (slot x p ≡ Some (Some d)) × IsUnused (told d);
       holds = λ p k. IsAmong (p, k) (rows (words x.tree.seat)) × HasRow x.tree.seat.opened p;
@@ -128,9 +136,9 @@ module _ {V : Type 0} where
       rows = x.tree.rows - used x.tree;
     }
 
-    -- the row r ended here, with a device that was opened and closed
+    -- the row r ended here, with a device that was opened, and closed with the exit that the row's finalizer was told
     abbrev pub HasEnded : Seen V → ℕ → Type 0
-    HasEnded a r = (x : Spent V) × IsAmong x a.shelf × (x.row ≡ r) × IsSpent (told x.pay) x.ok
+    HasEnded a r = (x : Spent V) × IsAmong x a.shelf × (x.row ≡ r) × IsSpent (told x.pay) x.exit x.ok
 
     -- each place's device waits and its row is empty, or its row is open or ended; no row else is open, and no lease keeps an open one
     pub record InOrder (x : Site V) : Type 0 where
@@ -141,7 +149,7 @@ module _ {V : Type 0} where
       pub gone : (p : ℕ) → slot x p ≡ Some None → HasRow x.tree.seat.opened p ⊎ HasEnded x.tree p
 
     -- all that was done to the tree is calls that leave it alone, what ended is of places, no place has another device, and no slot was filled again
-    pub record Since (ends : V → Bool → V → Type 0) (x y : Site V) : Type 0 where
+    pub record Since (ends : V → Exit → Bool → V → Type 0) (x y : Site V) : Type 0 where
       pub calls : Called ends x.tree [] y.tree
       pub alone : StaysAlone x.tree.seat y.tree.seat
       pub shelf : (s : Spent V) → IsAmong s y.tree.shelf → IsAmong s x.tree.shelf ⊎ IsPlace x s.row
@@ -154,4 +162,4 @@ module _ {V : Type 0} where
     pub data Parted (w : ℕ → DeviceTold) (shelf : List (Spent V)) (n : ℕ) : ℕ → List V → Type 0 where
       none : Parted w shelf n n []
       unopened : {i : ℕ} {ds : List V} (d : V) → told d ≡ w i → IsUnopened (w i) → ¬ (IsAmong i (firsts (said shelf))) → Parted w shelf n (suc i) ds → Parted w shelf n i (d ∷ ds)
-      ended : {i : ℕ} {ds : List V} (x : Spent V) → IsAmong x shelf → x.row ≡ i → told x.pay ≡ w i → IsSpent (w i) x.ok → Parted w shelf n (suc i) ds → Parted w shelf n i ds
+      ended : {i : ℕ} {ds : List V} (x : Spent V) → IsAmong x shelf → x.row ≡ i → told x.pay ≡ w i → IsSpent (w i) x.exit x.ok → Parted w shelf n (suc i) ds → Parted w shelf n i ds

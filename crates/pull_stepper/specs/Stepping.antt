@@ -1,15 +1,18 @@
 -- What callers see of a stepper, and what its calls do.
 use Rattle.std.specs.Prelude.{◌≡◌, ℕ, ◌+◌, ◌*◌, ◌<◌, ◌≤◌, ◌^◌, Bool, true, false, List, [], length, map, Option, Some, None, IsSome}
+use Rattle.chunk_core.specs.declared.code.Exit.{Exit}
+use Rattle.chunk_core.specs.declared.code.Exit.TheVariants as exit
 use Rattle.chunk_core.specs.declared.code.How.{How}
 use Rattle.chunk_core.specs.declared.code.How.TheVariants as how
 use Rattle.chunk_core.specs.declared.code.Span.{Span}
 use Rattle.chunk_core.specs.Lists.{IsAmong}
+use Rattle.chunk_core.specs.Outcomes.{exit_of}
 use Rattle.device_port.specs.Device.{DeviceTold}
 use Rattle.pull_nodes.specs.Kinds.{kind_of}
 use Rattle.pull_nodes.specs.Placed.{is_placed}
 use Rattle.pull_nodes.specs.Shape.{node_count, places_of, scope_count}
 use Rattle.pull_nodes.specs.declared.node.Node.{Node}
-use Rattle.pull_turns.specs.Around.{Affords}
+use Rattle.pull_turns.specs.Around.{Affords, IsClosedWith}
 use Rattle.pull_turns.specs.Led.{IsShut, Tells, Turns, Uncons}
 use Rattle.pull_turns.specs.Moves.{how_of}
 use Rattle.pull_turns.specs.Piping.{Standing}
@@ -21,12 +24,14 @@ use Rattle.pull_turns.specs.declared.rest.Rest.TheVariants as rest
 use Rattle.pull_turns.specs.declared.turn.Turn.{Turn}
 use Rattle.pull_turns.specs.declared.runner.Unconsed.{Unconsed}
 use Rattle.pull_turns.specs.declared.runner.Unconsed.TheVariants as unconsed
+use Rattle.res_ledger.specs.declared.event.What.TheVariants.{Close}
+use Rattle.res_ledger.specs.Ledger.{Notes}
 use Rattle.res_ledger.specs.Order.{firsts}
 use Rattle.res_ledger.specs.Own.{opens}
 use Rattle.row_seat.specs.Views.{IsWithin}
 use Rattle.scope_tree.specs.Calls.{IsClosedScope, IsOpenScope, Seen, used}
 use Rattle.scope_tree.specs.Rows.{AreDistinct}
-use Rattle.scope_tree.specs.Torn.{said}
+use Rattle.scope_tree.specs.Released.{said}
 use Rattle.scope_tree.specs.Words.{owed, words}
 use Rattle.pull_stepper.specs.Placing.{first_of}
 use Rattle.pull_stepper.specs.Sites.{IsUnused, Parted, Site, around, told_at}
@@ -100,7 +105,7 @@ module _ {V F : Type 0} (P : Standing F) (told : V → DeviceTold) where
   -- whether turns may be made after it
   abbrev pub Leaves : Unconsed → Stepping V F → Type 0
   Leaves (unconsed.Chunk l) b = CanGo b
-  Leaves (unconsed.End h) b = (b.how ≡ Some h) × IsShut (around told b.site)
+  Leaves (unconsed.End h) b = (b.how ≡ Some h) × IsShut (around told b.site) × IsClosedWith (around told b.site) 0 (exit_of h)
   Leaves unconsed.Again b = CanGo b
 
   -- turns were made to the first load or the end, but not more than n; where neither came, n turns were made, and each was quiet
@@ -112,11 +117,12 @@ module _ {V F : Type 0} (P : Standing F) (told : V → DeviceTold) where
     pub chunk : b.chunk ≡ a.chunk
 
 module _ {V F : Type 0} (told : V → DeviceTold) where
-  -- it has ended, and each scope and each device is closed
+  -- it has ended, and each scope and each device is closed, the root with the exit of its end
   pub record IsOver (a : Stepping V F) : Type 0 where
     pub how : How
     pub ended : a.how ≡ Some how
     pub shut : IsShut (around told a.site)
+    pub exit : IsClosedWith (around told a.site) 0 (exit_of how)
 
   -- memory was wanting; it may only be halted
   pub record Wants (a b : Stepping V F) : Type 0 where
@@ -126,17 +132,19 @@ module _ {V F : Type 0} (told : V → DeviceTold) where
     pub tells : Tells (told_at told a.site) (told_at told b.site) a.rest
     pub spends : SpendsWithin (around told a.site) (around told b.site) a.rest
 
-  -- it was stopped
+  -- it was stopped, and the root was closed as canceled
   pub record Halts (a b : Stepping V F) : Type 0 where
     pub how : b.how ≡ Some (stopped_by a.wanting)
     pub shut : IsShut (around told b.site)
+    pub exit : IsClosedWith (around told b.site) 0 exit.Canceled
     pub tells : Tells {F = F} (told_at told a.site) (told_at told b.site) rest.Nil
     pub affords : Affords (around told a.site) (around told b.site)
 
-  -- the root is closed, and each device was never opened and comes back, or stands on the shelf, where no row stands twice
+  -- the root is closed, each Close of it has the exit of the end, and each device was never opened and comes back, or stands on the shelf, where no row stands twice
   pub record Ends (a : Stepping V F) (left : Seen V) (h : How) (unopened : List V) : Type 0 where
     pub tree : left ≡ a.site.tree
     pub how : a.how ≡ Some h
     pub root : IsClosedScope left 0
+    pub exit : (x : Exit) → Notes left.seat.events left.seat.by (Close 0 x) → x ≡ exit_of h
     pub once : AreDistinct (firsts (said left.shelf))
     pub parted : Parted told (told_at told a.site) left.shelf (a.site.from + length a.site.slots) a.site.from unopened

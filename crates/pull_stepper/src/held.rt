@@ -3,6 +3,7 @@ ghost use Rattle.std.specs.Prelude.{◌≡◌};
 ghost use Rattle.std.specs.Borrow.{Lends, sem};
 ghost use Rattle.pull_stepper.specs.Lending.{lends_device};
 
+use chunk_core::Exit;
 use device_port::Device;
 use scope_tree::Finish;
 use std::marker::Model;
@@ -48,10 +49,10 @@ impl<V: Device> Finish for Held<V> {
 
     ghost ends = { Finishes V.told };
 
-    fn finish(&mut self) -> bool {
+    fn finish(&mut self, exit: Exit) -> bool {
         if !self.device.is_open() {
             return true;
         }
-        self.device.close().is_ok()
+        self.device.close(exit).is_ok()
     }
 }

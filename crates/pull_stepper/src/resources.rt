@@ -1,5 +1,6 @@
 //! The devices and scopes of one stream, over its tree.
 use crate::held::Held;
+use chunk_core::Exit;
 use device_port::{Device, Failed};
 use pull_turns::Outside;
 use row_seat::RowSeat;
@@ -52,7 +53,7 @@ impl<V: Device, S: RowSeat<Pay = Held<V>>> Outside for Resources<S, V> {
         self.tree.open(desk, at)
     }
 
-    fn leave(&mut self, desk: &mut S::Desk, scope: u32) {
-        self.tree.close(desk, scope)
+    fn leave(&mut self, desk: &mut S::Desk, scope: u32, exit: Exit) {
+        self.tree.close(desk, scope, exit)
     }
 }

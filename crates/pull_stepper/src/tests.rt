@@ -1,135 +1,41 @@
-//! Nodes over a plain seat and devices in memory: what each gives, how it ends, what its stream
-//! noted, and how often each device was opened and closed.
-ghost use Rattle.std.specs.Prelude.{◌≤◌};
-
+//! A device in a row.
 use crate::Held;
-use crate::runs::{FREELY, depot, lines, run, shown, source};
-use crate::uses::Pace;
-use chunk_core::{Chunk, Line, Load, Word};
-use device_port::{Act, Depot, Device, Mode, Stage};
-use pull_nodes::Node;
+use chunk_core::{Exit, Line, List, Word};
+use device_port::{Act, Depot, Device, FileOf, MemDepot, Mode, Stage, Trip};
 use scope_tree::Finish;
-use std::alloc::Global;
+use std::alloc::{AllocError, Global};
 use std::test::Fail;
 
-/// Reads `a`, where a call on it may be named to fail.
-fn read_a(alloc: Global, fail: Option<(Act, u32)>, pace: Pace) -> Result<Vec<u8>, Fail>
-    requires pace { (1 ≤ pace.chunk) × (1 ≤ pace.turns) }
-{
-    let node = Box::into_inner(source(alloc, 0)?);
-    Ok(shown(alloc, run(alloc, node, &["a"], fail, pace)?)?)
+/// A depot with the file `a`, whose close fails.
+fn depot(alloc: Global) -> Result<MemDepot, AllocError> {
+    let mut files = List::new(alloc);
+    files.push(FileOf {
+        path: Word::of(alloc, "a")?,
+        bytes: Line::of_vec(Vec::from_slice(alloc, b"hello\n")?),
+    })?;
+    let mut trips = List::new(alloc);
+    trips.push(Trip {
+        path: Word::of(alloc, "a")?,
+        act: Act::Close,
+        nth: 1,
+    })?;
+    MemDepot::new(alloc, files, trips)
 }
 
 #[test]
 fn a_held_device_is_closed_where_it_is_open(rt: HostRuntime) -> Result<(), Fail> {
     let alloc = rt.alloc();
-    let mut depot = depot(alloc, b"hello\n", Some((Act::Close, 1)))?;
+    let mut depot = depot(alloc)?;
     let device = depot.make(alloc, &Word::of(alloc, "a")?, Mode::Read)?;
     let mut held = Held::new(device);
-    assert!(rt; held.finish());
+    assert!(rt; held.finish(Exit::Succeeded));
     assert_eq!(rt; held.device_mut().facts().stage, Stage::Unopened);
     assert_eq!(rt; held.device_mut().facts().open_faults, 0);
     assert_eq!(rt; held.device_mut().open(), Ok(()));
-    assert!(rt; !held.finish());
-    assert_eq!(rt; held.into_device().facts().stage, Stage::ClosedBadly);
-    Ok(())
-}
-
-#[test]
-fn a_taker_ends_before_the_fault(rt: HostRuntime) -> Result<(), Fail> {
-    let alloc = rt.alloc();
-    let emit = Box::new(alloc, Node::Emit(lines(alloc)?))?;
-    let both = Node::Append(emit, Box::new(alloc, Node::Raise(9))?);
-    let node = Node::Take(2, Box::new(alloc, both)?);
-    let out = shown(alloc, run(alloc, node, &[], None, FREELY)?)?;
+    assert!(rt; !held.finish(Exit::Errored));
     assert_eq!(rt;
-        out.as_slice(),
-        b"a\nb\n|Done\nledger 1\n0 close 0\n".as_slice()
+        held.into_device().facts().stage,
+        Stage::ClosedBadly(Exit::Errored)
     );
-    Ok(())
-}
-
-#[test]
-fn one_line_comes_first_and_then_the_end(rt: HostRuntime) -> Result<(), Fail> {
-    let alloc = rt.alloc();
-    let mut line = Vec::new(alloc);
-    line.push(Line::of_vec(Vec::from_slice(alloc, b"a")?))?;
-    let node = Node::Emit(Load::Lines(Chunk::of_vec(alloc, line)?));
-    let twice = Pace {
-        chunk: 4,
-        asks: 2,
-        turns: 10,
-    };
-    let run = run(alloc, node, &[], None, twice)?;
-    assert_eq!(rt; run.quiet, Ok(0));
-    assert_eq!(rt;
-        shown(alloc, run)?.as_slice(),
-        b"a\n|Done\nledger 1\n0 close 0\n".as_slice()
-    );
-    Ok(())
-}
-
-#[test]
-fn a_file_is_read_in_pieces(rt: HostRuntime) -> Result<(), Fail> {
-    let out = read_a(rt.alloc(), None, FREELY)?;
-    let all = b"hell|o\n|Done\nledger 3\n0 acquire 0 0\n0 close 0\n0 final 0 ok\na 1 1\n";
-    assert_eq!(rt; out.as_slice(), all.as_slice());
-    Ok(())
-}
-
-#[test]
-fn each_call_of_a_device_fails(rt: HostRuntime) -> Result<(), Fail> {
-    let alloc = rt.alloc();
-    let out = read_a(alloc, Some((Act::Open, 1)), FREELY)?;
-    assert_eq!(rt;
-        out.as_slice(),
-        b"Fault(Open)\nledger 1\n0 close 0\na 0 0\n".as_slice()
-    );
-    let out = read_a(alloc, Some((Act::Read, 1)), FREELY)?;
-    let none = b"Fault(Read)\nledger 3\n0 acquire 0 0\n0 close 0\n0 final 0 ok\na 1 1\n";
-    assert_eq!(rt; out.as_slice(), none.as_slice());
-    let out = read_a(alloc, Some((Act::Read, 2)), FREELY)?;
-    let front = b"hell|Fault(Read)\nledger 3\n0 acquire 0 0\n0 close 0\n0 final 0 ok\na 1 1\n";
-    assert_eq!(rt; out.as_slice(), front.as_slice());
-    let out = read_a(alloc, Some((Act::Close, 1)), FREELY)?;
-    let all = b"hell|o\n|Done\nledger 3\n0 acquire 0 0\n0 close 0\n0 final 0 fault\na 1 1\n";
-    assert_eq!(rt; out.as_slice(), all.as_slice());
-    Ok(())
-}
-
-#[test]
-fn a_failed_part_is_closed_before_its_handler_runs(rt: HostRuntime) -> Result<(), Fail> {
-    let alloc = rt.alloc();
-    let part = Box::new(alloc, Node::Scope(source(alloc, 0)?))?;
-    let node = Node::OnFault(part, source(alloc, 1)?);
-    let run = run(alloc, node, &["a", "b"], Some((Act::Read, 1)), FREELY)?;
-    let all =
-        b"worl|d|Done\nledger 7\n0 open 1 0\n0 acquire 0 1\n0 close 1\n0 final 0 ok\n0 acquire 1 0\n0 close 0\n0 final 1 ok\na 1 1\nb 1 1\n";
-    assert_eq!(rt; shown(alloc, run)?.as_slice(), all.as_slice());
-    Ok(())
-}
-
-#[test]
-fn a_run_is_halted(rt: HostRuntime) -> Result<(), Fail> {
-    let once = Pace { asks: 1, ..FREELY };
-    let out = read_a(rt.alloc(), None, once)?;
-    let front = b"hell|Halted\nledger 3\n0 acquire 0 0\n0 close 0\n0 final 0 ok\na 1 1\n";
-    assert_eq!(rt; out.as_slice(), front.as_slice());
-    let never = Pace { asks: 0, ..FREELY };
-    let out = read_a(rt.alloc(), None, never)?;
-    assert_eq!(rt;
-        out.as_slice(),
-        b"Halted\nledger 1\n0 close 0\na 0 0\n".as_slice()
-    );
-    Ok(())
-}
-
-#[test]
-fn a_turn_may_give_nothing(rt: HostRuntime) -> Result<(), Fail> {
-    let slowly = Pace { turns: 1, ..FREELY };
-    let node = Box::into_inner(source(rt.alloc(), 0)?);
-    let run = run(rt.alloc(), node, &["a"], None, slowly)?;
-    assert_eq!(rt; run.quiet, Ok(2));
-    assert_eq!(rt; run.loads.len(), 2);
     Ok(())
 }

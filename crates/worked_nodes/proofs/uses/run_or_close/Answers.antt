@@ -7,7 +7,7 @@ use Rattle.tree_laws.specs.Called.{Called}
 use Rattle.tree_laws.specs.Called.Called.{none, closed}
 use Rattle.tree_laws.proofs.Alone.{alone_closes}
 use Rattle.pull_stepper.specs.Held.{Finishes}
-use Rattle.pull_stepper.proofs.uses.run_or_close.Goals as goal
+use Rattle.worked_nodes.proofs.uses.run_or_close.Goals as goal
 
 pub returns-in-Err-clause-calls : goal.returns-in-Err-clause-calls
 returns-in-Err-clause-calls g c =

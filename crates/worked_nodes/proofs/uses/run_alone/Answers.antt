@@ -3,8 +3,8 @@ use Rattle.res_ledger.specs.declared.event.StreamNo.TheVariants.{Inner}
 use Rattle.row_seat.specs.Views.{IsLedgerOf}
 use Rattle.scope_tree.specs.Trees.{seen}
 use Rattle.tree_laws.proofs.Alone.{alone_whole, first_at_start}
-use Rattle.pull_stepper.proofs.Driving.{start_room}
-use Rattle.pull_stepper.proofs.uses.run_alone.Goals as goal
+use Rattle.worked_nodes.proofs.Driving.{start_room}
+use Rattle.worked_nodes.proofs.uses.run_alone.Goals as goal
 
 pub run_or_close-loads-requires-clause-room : goal.run_or_close-loads-requires-clause-room
 run_or_close-loads-requires-clause-room g c =

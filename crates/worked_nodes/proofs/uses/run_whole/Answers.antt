@@ -3,8 +3,8 @@ use Rattle.chunk_core.specs.Elements.{elements}
 use Rattle.pull_turns.specs.Piping.{standing}
 use Rattle.scope_tree.specs.Trees.{seen}
 use Rattle.pull_stepper.specs.Steppers.{stepping}
-use Rattle.pull_stepper.proofs.Driving.{goes, others_then}
-use Rattle.pull_stepper.proofs.uses.run_whole.Goals as goal
+use Rattle.worked_nodes.proofs.Driving.{goes, others_then}
+use Rattle.worked_nodes.proofs.uses.run_whole.Goals as goal
 
 pub gather-quiet-requires-clause-fits : goal.gather-quiet-requires-clause-fits
 gather-quiet-requires-clause-fits g c = c.in_ok-stepper.ensures.fits c.args.desk.now c.requires.fits

@@ -1,4 +1,4 @@
-//! A caller that sees public clauses alone.
+//! Callers that see a stepper's public clauses alone.
 ghost use Rattle.std.specs.Prelude.{◌≡◌, ◌+◌, ◌*◌, ◌≤◌, [], IfErr, IfOk, OnErr, flat_map, length};
 ghost use Rattle.chunk_core.specs.Elements.{elements};
 ghost use Rattle.pull_turns.specs.Around.{Affords};
@@ -19,13 +19,12 @@ ghost use Rattle.pull_stepper.specs.Placing.{first_of};
 ghost use Rattle.pull_stepper.specs.Sites.{Since, around, told_at};
 ghost use Rattle.pull_stepper.specs.Steppers.{Works, stepping};
 ghost use Rattle.pull_stepper.specs.Stepping.{CanGo, HasRoomFor, IsOver, IsSupplied};
-ghost use Rattle.pull_stepper.specs.Uses.{Gathers, IsLeft, Ran};
+ghost use Rattle.worked_nodes.specs.Uses.{Gathers, IsLeft, Ran};
 
-use crate::held::Held;
-use crate::stepper::{Ended, Stepper, Unmade};
-use chunk_core::{How, List, Load};
+use chunk_core::{Exit, How, List, Load};
 use device_port::Device;
 use pull_nodes::{Node, PipeState};
+use pull_stepper::{Ended, Held, Stepper, Unmade};
 use pull_turns::Unconsed;
 use res_ledger::Ledger;
 use row_seat::RowSeat;
@@ -48,7 +47,7 @@ pub struct Whole<S: RowSeat, V> {
 }
 
 /// Asks for the first of what is left, again and again, and counts how often nothing came.
-fn gather<V: Device, S: RowSeat<Pay = Held<V>>, F: PipeState>(
+pub fn gather<V: Device, S: RowSeat<Pay = Held<V>>, F: PipeState>(
     stepper: &mut Stepper<S, V, F>,
     desk: &mut S::Desk,
     out: &mut Vec<Load>,
@@ -77,7 +76,7 @@ fn gather<V: Device, S: RowSeat<Pay = Held<V>>, F: PipeState>(
 }
 
 /// Halts a run that hasn't ended.
-fn close<V: Device, S: RowSeat<Pay = Held<V>>, F: PipeState>(
+pub fn close<V: Device, S: RowSeat<Pay = Held<V>>, F: PipeState>(
     stepper: &mut Stepper<S, V, F>,
     desk: &mut S::Desk,
 )
@@ -127,7 +126,7 @@ pub fn run_whole<V: Device, S: RowSeat<Pay = Held<V>>, F: PipeState>(
 }
 
 /// Runs a node to its end, or closes the tree where there was no memory to begin.
-fn run_or_close<V: Device, S: RowSeat<Pay = Held<V>>, F: PipeState>(
+pub fn run_or_close<V: Device, S: RowSeat<Pay = Held<V>>, F: PipeState>(
     alloc: Global,
     desk: &mut S::Desk,
     node: Node,
@@ -148,7 +147,7 @@ fn run_or_close<V: Device, S: RowSeat<Pay = Held<V>>, F: PipeState>(
         Ok(whole) => whole,
         Err(Unmade { tree, devices }) => {
             let mut tree = tree;
-            tree.close(desk, 0);
+            tree.close(desk, 0, Exit::Canceled);
             let ended = Ended {
                 tree,
                 how: How::Memory,

@@ -5,7 +5,7 @@ use Rattle.device_port.specs.MemDepot.{depot_told}
 use Rattle.device_port.specs.Records.{record_told}
 use Rattle.pull_stepper.specs.Sites.{IsUnused}
 use Rattle.pull_stepper.proofs.Beginning.{fresh_unused}
-use Rattle.pull_stepper.proofs.runs.devices.Goals as goal
+use Rattle.worked_nodes.proofs.runs.devices.Goals as goal
 
 pub loop-path-preserved : goal.loop-path-preserved
 loop-path-preserved c =

@@ -31,7 +31,7 @@ use Rattle.pull_stepper.specs.Held.{Finishes}
 use Rattle.pull_stepper.specs.Laws.{since_then}
 use Rattle.pull_stepper.specs.Sites.{IsUnused, Parted, Since, around, told_at}
 use Rattle.pull_stepper.specs.Stepping.{Ends, HasRoomFor, IsSupplied, Stepping, begun, span_of}
-use Rattle.pull_stepper.specs.Uses.{Gathers, Ran}
+use Rattle.worked_nodes.specs.Uses.{Gathers, Ran}
 
 -- what leaves other seats alone twice does so
 pub others_then : {S V D : Type 0} (view : S → View V) (fits : S → D → Type 0) (k j : StreamNo) (d e f : D) → j ≡ k → OthersFit view fits k d e → OthersFit view fits j e f → OthersFit view fits k d f
@@ -79,6 +79,7 @@ module _ {V F : Type 0} (P : Standing F) (told : V → DeviceTold) (n : Node) (d
         parted = subst (λ f. Parted told (told_at told z.site) left.shelf (span_of n (length devices)).to f ds) since.from
             (subst (λ t. Parted told (told_at told z.site) left.shelf t z.site.from ds) to end.parted);
         root = end.root;
+        exit = end.exit;
         calls = subst (λ t. Called (Finishes told) a [] t) (sym end.tree) since.calls;
         alone = subst (λ (t : Seen V). StaysAlone a.seat t.seat) (sym end.tree) since.alone;
         events = omega (arith, spends.events, affords.events, room.owed, spare);

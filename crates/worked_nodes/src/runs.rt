@@ -7,12 +7,12 @@ ghost use Rattle.pull_nodes.specs.Placed.{is_placed};
 ghost use Rattle.pull_nodes.specs.Shape.{node_count, places_of};
 ghost use Rattle.pull_stepper.specs.Sites.{IsUnused};
 
-use crate::Held;
 use crate::uses::{Alone, Pace, run_alone};
 use any_pipe::AnyPipe;
 use chunk_core::{Chunk, Line, List, Load, Span, Word, render};
 use device_port::{Act, Depot, FileOf, MemDepot, MemDevice, Mode, Trip};
 use pull_nodes::Node;
+use pull_stepper::Held;
 use res_ledger::{StreamNo, text};
 use row_seat::PlainSeat;
 use scope_tree::Room;
@@ -122,12 +122,16 @@ pub fn run_in(
     ))
 }
 
-/// The path of a device, and how often it was opened and closed.
+/// The path of a device, how often it was opened and closed, and the exit that it was closed with.
 fn push_device(alloc: Global, out: &mut Vec<u8>, device: &MemDevice) -> Result<(), AllocError> {
     let facts = device.facts();
     let path = facts.path.as_str();
     let (opens, closes) = (facts.opens(), facts.closes());
-    out.extend_from_slice(format!(in alloc; "{path} {opens} {closes}\n")?.as_bytes())
+    out.extend_from_slice(format!(in alloc; "{path} {opens} {closes}")?.as_bytes())?;
+    if let Some(exit) = facts.exit() {
+        out.extend_from_slice(format!(in alloc; " {exit}")?.as_bytes())?;
+    }
+    out.push(b'\n')
 }
 
 /// The loads, each with a bar behind it, the end, the ledger and the devices: those that were

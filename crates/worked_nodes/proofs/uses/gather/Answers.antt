@@ -11,9 +11,9 @@ use Rattle.pull_stepper.specs.Held.{Finishes}
 use Rattle.pull_stepper.specs.Laws.{since_same, since_then}
 use Rattle.pull_stepper.specs.Sites.{told_at}
 use Rattle.pull_stepper.specs.Steppers.{stepping}
-use Rattle.pull_stepper.proofs.Driving.{others_then}
-use Rattle.pull_stepper.proofs.uses.gather.Goals as goal
-use Rattle.pull_stepper.proofs.uses.gather.Goals.{in-Chunk+in_ok-push-in-Chunk, in-Again}
+use Rattle.worked_nodes.proofs.Driving.{others_then}
+use Rattle.worked_nodes.proofs.uses.gather.Goals as goal
+use Rattle.worked_nodes.proofs.uses.gather.Goals.{in-Chunk+in_ok-push-in-Chunk, in-Again}
 
 pub loop-ask-init : goal.loop-ask-init
 loop-ask-init g c =
@@ -57,7 +57,7 @@ returns-in-End-clause-gathers g c =
     let a = stepping view c.args.stepper.now in let b = stepping view c.loop-ask.stepper in let z = stepping view c.uncons.new.self in
     let xs = flat_map elements c.loop-ask.out.items in let k = (rw c.in-End.is at c.in_ok-load.ensures.first).first in
     λ w o. subst (λ h. IsRunOfRest P w a.rest xs (end_by h)) (sym k.0)
-    (led_ends P (told_at told a.site) (told_at told b.site) (told_at told z.site) a.rest b.rest xs (end_of c.in-End.field-0) c.loop-ask.invariant.led k.2 k.3 w o)
+    (led_ends P (told_at told a.site) (told_at told b.site) (told_at told z.site) a.rest b.rest xs (end_of c.in-End.field-0) c.loop-ask.invariant.led k.3 k.4 w o)
 
 pub returns-in-End-clause-since : goal.returns-in-End-clause-since
 returns-in-End-clause-since g c = let told = g.V.Device.told in since_then told (Finishes told) _ _ _ c.loop-ask.invariant.since c.in_ok-load.ensures.since

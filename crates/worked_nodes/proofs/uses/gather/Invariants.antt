@@ -8,7 +8,7 @@ use Rattle.pull_stepper.specs.Held.{Finishes}
 use Rattle.pull_stepper.specs.Sites.{Since, around, told_at}
 use Rattle.pull_stepper.specs.Steppers.{Works, stepping}
 use Rattle.pull_stepper.specs.Stepping.{CanGo}
-use Rattle.pull_stepper.proofs.uses.gather.Given as goal
+use Rattle.worked_nodes.proofs.uses.gather.Given as goal
 
 abbrev pub invariant-loop-ask : goal.invariant-loop-ask
 invariant-loop-ask g l =

@@ -3,7 +3,7 @@ use Rattle.chunk_core.specs.Lists.{IsAmong}
 use Rattle.device_port.specs.Records.{record_told}
 use Rattle.device_port.specs.declared.mem_device.MemDevice.{MemDevice}
 use Rattle.pull_stepper.specs.Sites.{IsUnused}
-use Rattle.pull_stepper.proofs.runs.devices.Given as goal
+use Rattle.worked_nodes.proofs.runs.devices.Given as goal
 
 abbrev pub invariant-loop-path : goal.invariant-loop-path
 invariant-loop-path l = record {
