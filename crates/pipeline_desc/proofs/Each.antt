@@ -1,9 +1,9 @@
 -- How the elements of a list are read one after another.
-use Rattle.std.proofs.Common.{◌≡◌, ℕ, ◌+◌, ◌≤◌, ◌&&◌, Bool, true, List, [], ◌∷◌, ◌++◌, length, drop, Ok, Err, refl, ap, ◌∙◌, sym, append_assoc}
+use Rattle.std.proofs.Common.{◌≡◌, ℕ, ◌+◌, ◌≤◌, Bool, true, List, [], ◌∷◌, ◌++◌, length, drop, Ok, Err, refl, ap, ◌∙◌, sym, append_assoc, Result, IsErrAnd, subst}
 use Rattle.std.specs.List.{list_all}
 use Rattle.std.proofs.lemmas.List.{append-nil, drop_all}
 use Rattle.std.proofs.lemmas.List.Folds.{list_all-append}
-use Rattle.pipeline_desc.specs.Reading.{Reading, ◌>>=◌, each_from, Fails}
+use Rattle.pipeline_desc.specs.Reading.{Reading, ◌>>=◌, each_from, Fails, Gives}
 use Rattle.pipeline_desc.specs.declared.refusal.Refused.{Refused}
 use Rattle.pipeline_desc.specs.declared.refusal.Refused.TheVariants as refused
 
@@ -37,3 +37,8 @@ module _ {A B : Type 0} (f : ℕ → A → Reading B) (xs : List A) (whole : Rea
 -- a test that passes at those before and at one more
 pub all_and : {B : Type 0} (p : B → Bool) (found : List B) (y : B) → list_all p found ≡ true → p y ≡ true → list_all p (found ++ y ∷ []) ≡ true
 all_and p found y all one = list_all-append p found (y ∷ []) ∙ rw (all, one) refl
+
+-- a refusal is handed on
+pub handed_on : {X Y : Type 0} (view : X → Y) (answer : Result X Refused) (e : Refused) (reading : Reading Y) → IsErrAnd answer (λ d. d ≡ e) → Fails e reading → Gives view answer reading
+handed_on view (Ok x) e reading is fails = absurd is
+handed_on view (Err d) e reading is fails = subst (λ y. Fails y reading) (sym is) fails

@@ -1,12 +1,10 @@
 -- The kinds behind steps, one after another.
-use Rattle.std.proofs.Common.{◌≡◌, ℕ, ◌+◌, ◌<◌, ◌≤◌, Bool, true, false, List, [], ◌∷◌, length, drop, get_or, Option, Some, None, Result, Ok, Err, refl, ap, ◌∙◌, sym, arith, add-one}
-use Rattle.std.specs.Prelude.{is_some, option_and_then}
-use Rattle.std.specs.Result.{result_ok}
+use Rattle.std.proofs.Common.{◌≡◌, ℕ, ◌+◌, ◌<◌, ◌≤◌, List, ◌∷◌, length, drop, get_or, Option, Some, None, Ok, refl, ◌∙◌, add-one}
 use Rattle.std.proofs.lemmas.List.{drop_all}
 use Rattle.std.proofs.Math.Seq.{drop-cons}
 use Rattle.pull_nodes.specs.declared.kind.Kind.{Kind}
 use Rattle.pipeline_desc.specs.Limits.{kind_behind, kind_behind_step}
-use Rattle.pipeline_desc.specs.Reading.{Reading, ◌>>=◌, present, refuse}
+use Rattle.pipeline_desc.specs.Reading.{Reading, refuse}
 use Rattle.pipeline_desc.specs.Steps.{kind_from}
 use Rattle.pipeline_desc.specs.declared.refusal.RefusalKind.TheVariants as refused
 use Rattle.pipeline_desc.specs.declared.step.Step.{Step}

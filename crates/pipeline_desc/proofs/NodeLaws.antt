@@ -1,6 +1,6 @@
 -- What holds of the node of a stream.
-use Rattle.std.proofs.Common.{◌≡◌, ℕ, ◌+◌, ◌*◌, ◌<◌, ◌≤◌, ◌&&◌, Bool, true, false, List, [], ◌∷◌, ◌++◌, length, Option, Some, None, Result, Ok, Err, IfOk, refl, ap, ◌∙◌, sym, subst, arith}
-use Rattle.std.specs.Prelude.{is_some, option_and_then, nat_eq, nat_le}
+use Rattle.std.proofs.Common.{◌≡◌, ℕ, ◌+◌, ◌<◌, ◌≤◌, ◌&&◌, true, List, [], ◌∷◌, length, Option, Some, None, Result, Ok, Err, IfOk, refl, ap, ◌∙◌, sym, subst, arith}
+use Rattle.std.specs.Prelude.{is_some, option_and_then}
 use Rattle.std.proofs.lemmas.Bool.{and_parts, eq-eqb, le-leb, lt-ltb, leb-true}
 use Rattle.std.proofs.lemmas.List.{append-nil}
 use Rattle.chunk_core.specs.declared.code.Span.{Span}
@@ -10,7 +10,7 @@ use Rattle.pull_nodes.specs.Shape.{node_count, scope_count, places_of, uses_of}
 use Rattle.pull_nodes.specs.declared.kind.Kind.{Kind}
 use Rattle.pull_nodes.specs.declared.kind.Kind.TheVariants as kind
 use Rattle.pull_nodes.specs.declared.node.Node.{Node}
-use Rattle.pull_nodes.specs.declared.node.Node.TheVariants.{Emit, Read, Weak', Scope', OnFault', Through', Take'}
+use Rattle.pull_nodes.specs.declared.node.Node.TheVariants.{Read}
 use Rattle.std.specs.List.{list_all}
 use Rattle.pipeline_desc.specs.Limits.{are_few, is_short, is_sized, is_sound_step, is_sound_stream, put_one_between, kind_behind, kind_behind_step}
 use Rattle.pipeline_desc.specs.Nodes.{IsBehind, IsBehindStep, IsBody, IsOrText, IsStreamNode, event_count, load_of, stream_events}

@@ -1,5 +1,5 @@
 -- The parts of a step's word.
-use Rattle.std.proofs.Common.{◌≡◌, ℕ, zero, suc, ◌+◌, ◌<◌, ◌≤◌, ◌==◌, cond, Bool, true, false, not, Bor, List, [], ◌∷◌, length, take, drop, Option, Some, None, option_map, MatchOption, refl, ap, ◌∙◌, sym, arith, lit<, inl, inr, add-one}
+use Rattle.std.proofs.Common.{◌≡◌, ℕ, suc, ◌<◌, ◌==◌, Bool, true, false, Bor, List, [], ◌∷◌, length, Option, Some, None, refl, ap, ◌∙◌, sym, arith, lit<, inl, inr, add-one}
 use Rattle.std.specs.List.{position_or_len, before_first, after_first}
 use Rattle.std.proofs.lemmas.Bool.{cases_Bool}
 use Rattle.std.proofs.lemmas.Str.Pattern.{IsSplitOnceResult, split_once_first}

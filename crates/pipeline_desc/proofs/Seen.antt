@@ -1,5 +1,5 @@
 -- The values of a document beside what they are seen as.
-use Rattle.std.proofs.Common.{◌≡◌, ℕ, zero, suc, ◌+◌, ◌<◌, ◌≤◌, ◌&&◌, ◌||◌, Bool, true, false, Bor, List, [], ◌∷◌, length, drop, get_or, map, Option, Some, None, Ok, String, Global, string_bytes, refl, ap, ◌∙◌, sym, arith, add-one}
+use Rattle.std.proofs.Common.{◌≡◌, ℕ, zero, suc, ◌+◌, ◌<◌, ◌≤◌, ◌&&◌, ◌||◌, true, false, Bor, List, [], ◌∷◌, length, drop, get_or, map, Option, Some, None, Ok, String, Global, string_bytes, refl, ap, ◌∙◌, sym, arith, add-one}
 use Rattle.std.specs.List.{list_any, list_all}
 use Rattle.std.specs.Prelude.{is_some, unwrap_or}
 use Rattle.std.specs.Str.{bytes_eq}
@@ -7,7 +7,7 @@ use Rattle.std.proofs.lemmas.Bool.{false≢true, le-leb, lt-leb}
 use Rattle.toml.specs.Data.{Data, as_table}
 use Rattle.toml.specs.View.{view, items_view, members_view}
 use Rattle.toml.specs.declared.value.Value.{Value}
-use Rattle.pipeline_desc.specs.Reading.{Reading, present, refuse}
+use Rattle.pipeline_desc.specs.Reading.{present, refuse}
 use Rattle.pipeline_desc.specs.Values.{all_known, array_at, each_as, both_or_none, list_at, seen_as, tables_at}
 use Rattle.pipeline_desc.specs.declared.refusal.RefusalKind.{RefusalKind}
 use Rattle.pipeline_desc.specs.declared.refusal.RefusalKind.TheVariants as refused

@@ -15,13 +15,6 @@ use chunk_core::{Chunk, Line, List, Load, Span};
 use pull_nodes::{Kind, Node, Pipe};
 use std::alloc::{AllocError, Global};
 
-/// A copy of bytes.
-fn line_of(alloc: Global, bytes: &[u8]) -> Result<Line, AllocError>
-    ensures { IfOk result (λ line. line ≡ bytes.now) }
-{
-    Ok(Line::of_vec(Vec::from_slice(alloc, bytes)?))
-}
-
 /// A copy of a pipe.
 fn copy_of(alloc: Global, pipe: &Pipe) -> Result<Pipe, AllocError>
     ensures { IfOk result (λ copy. copy ≡ pipe.now) }
@@ -33,11 +26,11 @@ fn copy_of(alloc: Global, pipe: &Pipe) -> Result<Pipe, AllocError>
         Pipe::Hex => Pipe::Hex,
         Pipe::Upper => Pipe::Upper,
         Pipe::Drop(n) => Pipe::Drop(*n),
-        Pipe::Filter(text) => Pipe::Filter(line_of(alloc, text.as_slice())?),
+        Pipe::Filter(text) => Pipe::Filter(Line::copy_of(alloc, text.as_slice())?),
         Pipe::Changes => Pipe::Changes,
         Pipe::Number => Pipe::Number,
         Pipe::Count => Pipe::Count,
-        Pipe::Intersperse(text) => Pipe::Intersperse(line_of(alloc, text.as_slice())?),
+        Pipe::Intersperse(text) => Pipe::Intersperse(Line::copy_of(alloc, text.as_slice())?),
         Pipe::ChunkN(n) => Pipe::ChunkN(*n),
     })
 }
@@ -85,12 +78,12 @@ fn load_of(alloc: Global, kind: Kind, text: &[u8]) -> Result<Load, AllocError>
         }
         Kind::Lines => {
             let mut lines = Vec::new(alloc);
-            lines.push(line_of(alloc, text)?)?;
+            lines.push(Line::copy_of(alloc, text)?)?;
             Ok(Load::Lines(Chunk::of_vec(alloc, lines)?))
         }
         Kind::Rows => {
             let mut row = List::new(alloc);
-            row.push(line_of(alloc, text)?)?;
+            row.push(Line::copy_of(alloc, text)?)?;
             let mut rows = Vec::new(alloc);
             rows.push(row)?;
             Ok(Load::Rows(Chunk::of_vec(alloc, rows)?))

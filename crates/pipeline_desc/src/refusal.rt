@@ -2,6 +2,8 @@
 ghost use Rattle.std.specs.Prelude.{◌≡◌};
 ghost use Rattle.pipeline_desc.specs.Refusals.{number_of_kind};
 
+use std::alloc::AllocError;
+
 /// What is wrong with a description.
 #[derive(Clone, Copy, Debug, PartialEq, Eq)]
 pub enum RefusalKind {
@@ -62,6 +64,17 @@ pub enum Refused {
     Memory,
     /// The description is refused.
     Desc(Refusal),
+}
+
+impl From<AllocError> for Refused {
+    ghost use Rattle.std.specs.Prelude.{◌≡◌};
+    ghost use Rattle.pipeline_desc.specs.declared.refusal.Refused.TheVariants.{Memory};
+
+    ghost from_gives = { λ _ e. e ≡ Memory };
+
+    fn from(_: AllocError) -> Refused {
+        Refused::Memory
+    }
 }
 
 /// The refusal of something that stands in no stream.

@@ -33,14 +33,8 @@ fn each_step(alloc: Global, words: &[Value], k: u32) -> Result<List<Step>, Refus
         let Some(word) = words[i as usize].as_str() else {
             unreachable!()
         };
-        match step(alloc, word, k, i) {
-            Ok(step) => {
-                if steps.push(step).is_err() {
-                    return Err(Refused::Memory);
-                }
-            }
-            Err(e) => return Err(e),
-        }
+        let step = step(alloc, word, k, i)?;
+        steps.push(step)?;
     }
     Ok(steps)
 }

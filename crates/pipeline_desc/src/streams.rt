@@ -53,14 +53,8 @@ pub(crate) fn each_stream(alloc: Global, tables: &[Value]) -> Result<List<Stream
         let Some(table) = tables[i].as_table() else {
             unreachable!()
         };
-        match stream(alloc, table, i as u32) {
-            Ok(stream) => {
-                if streams.push(stream).is_err() {
-                    return Err(Refused::Memory);
-                }
-            }
-            Err(e) => return Err(e),
-        }
+        let stream = stream(alloc, table, i as u32)?;
+        streams.push(stream)?;
     }
     Ok(streams)
 }

@@ -1,5 +1,5 @@
 //! The values at the keys of a description.
-ghost use Rattle.std.specs.Prelude.{◌≡◌, ◌≤◌, true, is_some, option_map, map, length, string_bytes, IfOk, IfErr, IfSome};
+ghost use Rattle.std.specs.Prelude.{◌≡◌, ◌≤◌, true, is_some, option_map, map, length, string_bytes, IfOk, IfSome};
 ghost use Rattle.std.specs.List.{list_any, list_all};
 ghost use Rattle.std.specs.Str.{bytes_eq};
 ghost use Rattle.std.specs.BTreeMap.{keys};
@@ -104,24 +104,8 @@ pub(crate) fn word(
     ensures meant { Gives (λ w. w) result (text_at low high stream (option_map (λ v. view v.now) value.entry)) }
     ensures sound { IfOk result (λ w. is_sized low high w ≡ true) }
 {
-    match text(value, low, high, stream) {
-        Ok(text) => match Word::of(alloc, text) {
-            Ok(word) => Ok(word),
-            Err(_) => Err(Refused::Memory),
-        },
-        Err(e) => Err(e),
-    }
-}
-
-/// A copy of bytes.
-pub(crate) fn line_of(alloc: Global, bytes: &[u8]) -> Result<Line, Refused>
-    ensures value { IfOk result (λ line. line ≡ bytes.now) }
-    ensures memory { IfErr result (λ e. e ≡ Refused.Memory) }
-{
-    match Vec::from_slice(alloc, bytes) {
-        Ok(copy) => Ok(Line::of_vec(copy)),
-        Err(_) => Err(Refused::Memory),
-    }
+    let text = text(value, low, high, stream)?;
+    Ok(Word::of(alloc, text)?)
 }
 
 /// A text of so many bytes, where there is a value, as a line.
@@ -138,13 +122,8 @@ pub(crate) fn line(
     if value.is_none() {
         return Ok(None);
     }
-    match text(value, low, high, stream) {
-        Ok(text) => match line_of(alloc, text.as_bytes()) {
-            Ok(line) => Ok(Some(line)),
-            Err(e) => Err(e),
-        },
-        Err(e) => Err(e),
-    }
+    let text = text(value, low, high, stream)?;
+    Ok(Some(Line::copy_of(alloc, text.as_bytes())?))
 }
 
 /// Whether each value is a table.

@@ -8,7 +8,6 @@ ghost use Rattle.pipeline_desc.specs.Steps.{argument_of, is_number, name_of, num
 
 use crate::refusal::{RefusalKind, Refused, refuse_step};
 use crate::step::Step;
-use crate::values::line_of;
 use chunk_core::Line;
 use pull_nodes::Pipe;
 use std::alloc::Global;
@@ -69,7 +68,7 @@ fn text_in(
     ensures sound { IfOk result (λ x. is_sized low high x ≡ true) }
 {
     if text.len() >= low && text.len() <= high {
-        line_of(alloc, text.as_bytes())
+        Ok(Line::copy_of(alloc, text.as_bytes())?)
     } else {
         Err(refuse_step(RefusalKind::OutOfRange, k, i))
     }

@@ -27,7 +27,7 @@ pub(crate) trait CloneIn: Drop {
 
 impl CloneIn for Line {
     fn clone_in(&self, alloc: Global) -> Result<Line, AllocError> {
-        Ok(Line::of_vec(Vec::from_slice(alloc, self.as_slice())?))
+        Line::copy_of(alloc, self.as_slice())
     }
 }
 

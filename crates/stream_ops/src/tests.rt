@@ -29,14 +29,10 @@ struct AsRows;
 /// The texts one after another.
 struct AsBytes;
 
-fn line_of(alloc: Global, text: &[u8]) -> Result<Line, AllocError> {
-    Ok(Line::of_vec(Vec::from_slice(alloc, text)?))
-}
-
 fn row_of(alloc: Global, text: &[u8]) -> Result<Row, AllocError> {
     let mut row = Row::new(alloc);
     for byte in text {
-        row.push(line_of(alloc, [*byte].as_slice())?)?;
+        row.push(Line::copy_of(alloc, [*byte].as_slice())?)?;
     }
     Ok(row)
 }
@@ -49,7 +45,7 @@ impl Made for AsLines {
     fn load(alloc: Global, texts: &[&[u8]]) -> Result<Load, AllocError> {
         let mut lines = Vec::new(alloc);
         for text in texts {
-            lines.push(line_of(alloc, text)?)?;
+            lines.push(Line::copy_of(alloc, text)?)?;
         }
         Ok(Load::Lines(Chunk::of_vec(alloc, lines)?))
     }
@@ -226,7 +222,7 @@ fn numbers_go_on_over_loads(rt: HostRuntime) -> Result<(), Fail> {
 }
 
 fn filtered(alloc: Global, text: &[u8], pieces: &[&[&[u8]]]) -> Result<Told, AllocError> {
-    let text = line_of(alloc, text)?;
+    let text = Line::copy_of(alloc, text)?;
     answers::<AsLines, FilterPipe>(alloc, FilterPipe::new(alloc, text)?, pieces)
 }
 
@@ -250,7 +246,7 @@ fn lines_with_the_text_stay(rt: HostRuntime) -> Result<(), Fail> {
 }
 
 fn spread(alloc: Global, text: &[u8], pieces: &[&[&[u8]]]) -> Result<Told, AllocError> {
-    let line = line_of(alloc, text)?;
+    let line = Line::copy_of(alloc, text)?;
     answers::<AsLines, InterspersePipe>(alloc, InterspersePipe::new(alloc, line)?, pieces)
 }
 

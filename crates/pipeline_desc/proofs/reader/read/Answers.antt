@@ -1,4 +1,4 @@
-use Rattle.std.proofs.Common.{◌≡◌, ◌∙◌, sym, Some, None, subst}
+use Rattle.std.proofs.Common.{sym, Some, None, subst}
 use Rattle.std.proofs.lemmas.Bool.{both_ways}
 use Rattle.toml.specs.View.{table_view}
 use Rattle.pipeline_desc.specs.Meant.{PlanMeant}

@@ -1,9 +1,8 @@
-use Rattle.std.proofs.Common.{◌≡◌, ◌∷◌, ◌++◌, [], List, arith, rules}
+use Rattle.std.proofs.Common.{◌≡◌, ◌∷◌, ◌++◌, [], arith, rules}
 use Rattle.toml.specs.Data.{as_str}
 use Rattle.pipeline_desc.specs.Steps.{step_meant}
 use Rattle.pipeline_desc.specs.Limits.{is_sound_step}
-use Rattle.pipeline_desc.specs.declared.step.Step.{Step}
-use Rattle.pipeline_desc.proofs.Each.{all_and}
+use Rattle.pipeline_desc.proofs.Each.{all_and, handed_on}
 use Rattle.pipeline_desc.proofs.Entries.{entries_end, entry_fails, entry_next, entry_there}
 use Rattle.pipeline_desc.proofs.steps.each_step.Goals as goal
 
@@ -11,20 +10,21 @@ pub unreachable-requires : goal.unreachable-requires
 unreachable-requires c =
     entry_there as_str c.args.words.now c.requires c.loop-i.i c.index-words-i.result (omega arith) c.index-words-i.is (c.in_default-as_str.ensures)
 
-pub returns-in-Err-clause-meant : goal.returns-in-Err-clause-meant
-returns-in-Err-clause-meant c =
-    entry_fails as_str (step_meant c.args.k) c.args.words.now c.requires c.loop-i.steps c.loop-i.i _ c.loop-i.invariant.read
-    c.index-words-i.result c.in-Some.word.now c.in-Err.e (omega arith) c.index-words-i.is c.in-Some.ensures c.in-Err.ensures.meant
+pub returns-in_err-step-clause-meant : goal.returns-in_err-step-clause-meant
+returns-in_err-step-clause-meant c =
+    handed_on (λ s. s) c.from_residual.result _ _ c.from_residual.ensures.1
+    (entry_fails as_str (step_meant c.args.k) c.args.words.now c.requires c.loop-i.steps c.loop-i.i _ c.loop-i.invariant.read
+    c.index-words-i.result c.in-Some.word.now _ (omega arith) c.index-words-i.is c.in-Some.ensures c.in_err-step.ensures.meant)
 
 pub loop-i-preserved : goal.loop-i-preserved
 loop-i-preserved c =
-    let pushed : c.push.new.self ≡ c.loop-i.steps ++ c.in-Ok-step.step ∷ [] = search rules in
+    let pushed : c.push.new.self ≡ c.loop-i.steps ++ c.in_ok-step.step ∷ [] = search rules in
     record {
       count = c.loop-i.invariant.count;
       read = rw pushed
           (entry_next as_str (step_meant c.args.k) c.args.words.now c.requires c.loop-i.steps c.loop-i.i _ c.loop-i.invariant.read
-          c.index-words-i.result c.in-Some.word.now c.in-Ok-step.step (omega arith) c.index-words-i.is c.in-Some.ensures c.in-Ok-step.ensures.meant);
-      sound = rw pushed (all_and is_sound_step c.loop-i.steps c.in-Ok-step.step c.loop-i.invariant.sound c.in-Ok-step.ensures.sound);
+          c.index-words-i.result c.in-Some.word.now c.in_ok-step.step (omega arith) c.index-words-i.is c.in-Some.ensures c.in_ok-step.ensures.meant);
+      sound = rw pushed (all_and is_sound_step c.loop-i.steps c.in_ok-step.step c.loop-i.invariant.sound c.in_ok-step.ensures.sound);
     }
 
 pub returns-clause-meant : goal.returns-clause-meant

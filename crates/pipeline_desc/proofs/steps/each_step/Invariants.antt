@@ -1,4 +1,4 @@
-use Rattle.std.proofs.Common.{◌≡◌, ◌<◌, ◌^◌, drop, length, true}
+use Rattle.std.proofs.Common.{◌≡◌, drop, length, true}
 use Rattle.std.specs.List.{list_all}
 use Rattle.toml.specs.Data.{as_str}
 use Rattle.pipeline_desc.specs.Limits.{is_sound_step}
