@@ -3,43 +3,38 @@ use Rattle.std.proofs.Common.{◌≡◌, ◌≢◌, ℕ, Bool, List, [], ◌∷�
 use Rattle.res_ledger.specs.declared.event.What.{What}
 use Rattle.res_ledger.specs.declared.event.What.TheVariants.{Open, Acquire, Close}
 use Rattle.chunk_core.specs.Lists.{IsAmong}
-use Rattle.res_ledger.specs.Ledger.{IsClosed}
-use Rattle.res_ledger.specs.Ledger.LiesWithin.{same}
-use Rattle.chunk_core.proofs.Members.{among_mid}
 use Rattle.row_seat.proofs.Members.{among_kept}
 use Rattle.row_seat.specs.Views.{without}
 use Rattle.res_ledger.specs.Own.{teardown}
 use Rattle.res_ledger.specs.Order.{firsts, finals}
 use Rattle.scope_tree.specs.declared.branch.Spent.{Spent}
 use Rattle.scope_tree.specs.Rows.{Once}
-use Rattle.scope_tree.specs.Torn.{said}
+use Rattle.scope_tree.specs.Released.{said}
 use Rattle.scope_tree.specs.Calls.{Seen, Opens, Acquires, Closes}
 use Rattle.scope_tree.specs.Words.{words}
-use Rattle.scope_tree.proofs.Bridge.{in_noted}
 use Rattle.scope_tree.proofs.Once.{once_pay}
-use Rattle.tree_scripts.proofs.Outcomes.{torn_pays}
 use Rattle.scope_tree.proofs.Use.{closed_said, closed_picks, closed_by, all_picked, no_cover, leases}
+use Rattle.chunk_core.specs.declared.code.Exit.{Exit}
+use Rattle.chunk_core.specs.declared.code.Exit.TheVariants.{Succeeded}
+use Rattle.scope_tree.proofs.Owning.{owner_pays}
 
 abbrev pub Four : List What
-Four = Open 1 0 ∷ Acquire 0 0 ∷ Acquire 1 1 ∷ Close 0 ∷ []
+Four = Open 1 0 ∷ Acquire 0 0 ∷ Acquire 1 1 ∷ Close 0 Succeeded ∷ []
 
 abbrev pub Three : List What
 Three = Open 1 0 ∷ Acquire 0 0 ∷ Acquire 1 1 ∷ []
 
-leases_finals : (fs : List (ℕ × Bool)) → leases (finals fs) ≡ []
-leases_finals [] = refl
-leases_finals (f ∷ fs) = leases_finals fs
+leases_finals : (x : Exit) (fs : List (ℕ × Bool)) → leases (finals x fs) ≡ []
+leases_finals x [] = refl
+leases_finals x (f ∷ fs) = leases_finals x fs
 
 module _ {P : Type 0} where
-  pub close_four : {ends : P → Bool → P → Type 0} {a b : Seen P} → words a.seat ≡ Three → (c : Closes ends a 0 b) → words b.seat ≡ Four ++ finals (said c.torn.0)
-  close_four w c = closed_said c ∙ ap (λ E. E ++ Close 0 ∷ finals (said c.torn.0)) w
+  pub close_four : {ends : P → Exit → Bool → P → Type 0} {a b : Seen P} → words a.seat ≡ Three → (c : Closes ends a 0 Succeeded b) → words b.seat ≡ Four ++ finals Succeeded (said c.torn.0)
+  close_four w c = closed_said c ∙ ap (λ E. E ++ Close 0 Succeeded ∷ finals Succeeded (said c.torn.0)) w
 
-  pub close_rows : {ends : P → Bool → P → Type 0} {a b : Seen P} → words a.seat ≡ Three → (c : Closes ends a 0 b) → firsts (said c.torn.0) ≡ 1 ∷ 0 ∷ []
+  pub close_rows : {ends : P → Exit → Bool → P → Type 0} {a b : Seen P} → words a.seat ≡ Three → (c : Closes ends a 0 Succeeded b) → firsts (said c.torn.0) ≡ 1 ∷ 0 ∷ []
   close_rows {a = a} {b = b} w c =
-      all_picked (λ r m. no_cover b.seat a.seat.by m.0 r (closed_by c) (ap leases (close_four w c) ∙ leases_finals (said c.torn.0)) m.1) (closed_picks c) ∙ ap (λ E. teardown E 0) w
-
-  pub root_closed : {ends : P → Bool → P → Type 0} {a b : Seen P} → words a.seat ≡ Three → Closes ends a 0 b → IsClosed b.seat.events b.seat.by 0
-  root_closed {b = b} w c = (0, same 0, in_noted b.seat.by (Close 0) b.seat.events (subst (λ E. IsAmong (Close 0) E) (sym (close_four w c)) (among_mid Three (finals (said c.torn.0)) (Close 0))))
+      all_picked (λ r m. no_cover b.seat a.seat.by m.0 r (closed_by c) (ap leases (close_four w c) ∙ leases_finals Succeeded (said c.torn.0)) m.1) (closed_picks c) ∙ ap (λ E. teardown E 0) w
 
   -- a row that ended is one thing on the shelf
   pub one_of : (xs : List (Spent P)) (i : ℕ) → firsts (said xs) ≡ i ∷ [] → (x : Spent P) × (xs ≡ x ∷ []) × (x.row ≡ i)
@@ -60,10 +55,10 @@ module _ {P : Type 0} where
       ap (λ v. v.opened) y.seat ∙ ap (λ v. v.opened ++ s ∷ []) x.seat ∙ ap (λ v. (v.opened ++ f ∷ []) ++ s ∷ []) o.seat ∙ ap (λ l. (l ++ f ∷ []) ++ s ∷ []) n
 
   -- of two open rows what ends took its payload
-  pub two_pays : {ends : P → Bool → P → Type 0} {a b : Seen P} {p q : P} {s : ℕ} (x : Spent P) (r : ℕ) (w : P) (c : Closes ends a s b) → Once a.seat.opened → a.seat.opened ≡ (0, p) ∷ (1, q) ∷ [] → IsAmong x c.torn.0 → x.row ≡ r → IsAmong {A = ℕ × P} (r, w) ((0, p) ∷ (1, q) ∷ []) → ends w x.ok x.pay
-  two_pays {ends = ends} {a = a} x r w c once e m i n =
-      let y = torn_pays x c.torn.2 m in
-      subst (λ z. ends z x.ok x.pay) (once_pay r y.0 w a.seat.opened once (subst (λ z. IsAmong (z, y.0) a.seat.opened) i y.1) (subst (λ l. IsAmong (r, w) l) (sym e) n)) y.2
+  pub two_pays : {ends : P → Exit → Bool → P → Type 0} {x : Exit} {a b : Seen P} {p q : P} {s : ℕ} (y : Spent P) (r : ℕ) (w : P) (c : Closes ends a s x b) → Once a.seat.opened → a.seat.opened ≡ (0, p) ∷ (1, q) ∷ [] → IsAmong y c.torn.0 → y.row ≡ r → IsAmong {A = ℕ × P} (r, w) ((0, p) ∷ (1, q) ∷ []) → (y.exit ≡ x) × ends w x y.ok y.pay
+  two_pays {ends = ends} {x = x} {a = a} y r w c once e m i n =
+      let o = owner_pays y c.torn.2 m in
+      (o.2, subst (λ z. ends z x y.ok y.pay) (once_pay r o.0 w a.seat.opened once (subst (λ z. IsAmong (z, o.0) a.seat.opened) i o.1) (subst (λ l. IsAmong (r, w) l) (sym e) n)) o.3)
 
   -- a row that may be placed still may, after another was
   pub still_empty : {a b d : Seen P} {c q r : ℕ} {p : P} → IsAmong q a.seat.empty → q ≢ r → Opens a 0 c b → Acquires b 0 r p d → IsAmong q d.seat.empty

@@ -8,30 +8,34 @@ use Rattle.res_ledger.specs.declared.event.StreamNo.{StreamNo}
 use Rattle.res_ledger.specs.declared.event.StreamNo.TheVariants.{Outer}
 use Rattle.res_ledger.specs.declared.event.What.{What}
 use Rattle.res_ledger.specs.declared.event.What.TheVariants.{Acquire, Cancel, Close, Final, Lease, Open}
-use Rattle.res_ledger.specs.Ledger.{IsClosed, Notes}
+use Rattle.res_ledger.specs.Ledger.{IsClosed, Notes, NotesClose, stamped}
 use Rattle.res_ledger.specs.Ledger.LiesWithin.{below, same}
 use Rattle.res_ledger.specs.Order.{finals, firsts}
 use Rattle.res_ledger.specs.Own.{closes, leased_rows, opens, teardown}
 use Rattle.row_seat.specs.declared.view.View.{View}
 use Rattle.scope_tree.specs.declared.branch.Spent.{Spent}
 use Rattle.scope_tree.specs.Calls.{Closes, IsClosedScope, Opens, Seen, WasOpened}
-use Rattle.scope_tree.specs.Leaving.{pairs_for}
+use Rattle.scope_tree.specs.Leased.{pairs_for}
 use Rattle.scope_tree.specs.Rows.{Once, lifo}
 use Rattle.tree_scripts.specs.Scripts.{IsReopened, IsRootLeased, IsThree}
-use Rattle.scope_tree.specs.Torn.{said}
-use Rattle.tree_scripts.specs.Waiting.{IsAlone, LeasesAndCloses, Settles, stamped}
+use Rattle.scope_tree.specs.Released.{said}
+use Rattle.tree_scripts.specs.Waiting.{IsAlone, LeasesAndCloses, Settles, noted_by}
 use Rattle.scope_tree.specs.Walks.{FirstOpen}
 use Rattle.scope_tree.specs.Walks.FirstOpen.{above_it, this_one}
 use Rattle.scope_tree.specs.Words.{open_scopes, owed, words}
-use Rattle.scope_tree.proofs.Bridge.{closes_in, in_closes, in_noted, in_opens, noted_in, opens_in, within_cases}
+use Rattle.scope_tree.proofs.Bridge.{in_noted, in_opens, noted_in, opens_in, within_cases}
 use Rattle.tree_scripts.proofs.Chain.{one_of, two_of}
-use Rattle.scope_tree.proofs.Facts.{torn_count, torn_spare}
 use Rattle.scope_tree.proofs.Once.{once_pay}
-use Rattle.tree_scripts.proofs.Outcomes.{torn_leaves, torn_pays, unleased}
 use Rattle.tree_scripts.proofs.ThreeRows.{three_alone}
 use Rattle.tree_scripts.proofs.Alone.{alone_more}
 use Rattle.scope_tree.proofs.Use.{closed_by, closed_said, first_is, leased_said, opened_said}
 use Rattle.tree_scripts.proofs.Waits.{close_alone, close_unleased}
+use Rattle.chunk_core.specs.declared.code.Exit.{Exit}
+use Rattle.chunk_core.specs.declared.code.Exit.TheVariants.{Errored, Canceled}
+use Rattle.res_ledger.proofs.Noted.{closes_notes, notes_closes}
+use Rattle.scope_tree.proofs.Owning.{owner_count, owner_pays}
+use Rattle.scope_tree.proofs.Releasing.{released_spare}
+use Rattle.tree_scripts.proofs.Outcomes.{owner_leaves, unleased}
 
 abbrev before : List What
 before = Acquire 0 0 ∷ Open 1 0 ∷ Acquire 1 1 ∷ Open 2 1 ∷ Acquire 2 2 ∷ []
@@ -42,7 +46,7 @@ first_above x (this_one c n) = absurd (n x)
 first_above x (above_it c p q y o f) = (p, o, f)
 
 abbrev closed_two : Bool → Bool → List What
-closed_two x y = before ++ Close 1 ∷ Final 2 x ∷ Final 1 y ∷ []
+closed_two x y = before ++ Close 1 Errored ∷ Final 2 Errored x ∷ Final 1 Errored y ∷ []
 
 no_root : ¬ (IsAmong {A = ℕ} 0 (1 ∷ []))
 no_root m = ⊎_elim (λ e. absurd (let z : 0 ≡ 1 = e in omega (z, arith))) (λ n. among_nil n) (among_cons m)
@@ -59,64 +63,67 @@ parent_of c p m = ⊎_elim
 
 module _ {P : Type 0} where
   three_words : {a : Seen P} {p q r : P} → IsThree a p q r → words a.seat ≡ before
-  three_words t = ap (λ (x : Seen P). words x.seat) t.5
+  three_words t = ap (λ (x : Seen P). words x.seat) t.6
 
   three_opened : {a : Seen P} {p q r : P} → IsThree a p q r → a.seat.opened ≡ (0, p) ∷ (1, q) ∷ (2, r) ∷ []
-  three_opened t = ap (λ (x : Seen P). x.seat.opened) t.5
+  three_opened t = ap (λ (x : Seen P). x.seat.opened) t.6
 
-  pub root_leased : {ends : P → Bool → P → Type 0} {a b : Seen P} {p q r : P} {T : List ℕ} {L : List Event} {shelf : List (Spent P)} → IsThree a p q r → Once a.seat.opened → LeasesAndCloses ends a 0 5 T b → Settles ends b 5 T L shelf → IsRootLeased ends p q r L shelf
+  pub root_leased : {ends : P → Exit → Bool → P → Type 0} {a b : Seen P} {p q r : P} {T : List ℕ} {L : List Event} {shelf : List (Spent P)} → IsThree a p q r → Once a.seat.opened → LeasesAndCloses ends a 0 5 T Errored b → Settles ends b 5 T Canceled L shelf → IsRootLeased ends p q r L shelf
   root_leased {ends = ends} {a = a} {b = b} {p = p} {q = q} {r = r} {T = T} t once lc s =
       let o = lc.1 in let c = lc.2 in let xs = c.torn.0 in
       let T_is : T ≡ 0 ∷ 1 ∷ [] = o.covered ∙ ap (λ E. leased_rows E 0) (three_words t) in
       let wm : words lc.0.seat ≡ before ++ Lease 5 0 ∷ [] = leased_said o ∙ ap (λ E. E ++ Lease 5 0 ∷ []) (three_words t) in
-      let out : lc.0.seat.out ≡ [] = ap (λ v. v.out) o.seat ∙ ap (λ (x : Seen P). x.seat.out) t.5 in
-      let pairs : lc.0.seat.pairs ≡ (5, 0) ∷ (5, 1) ∷ [] = ap (λ v. v.pairs) o.seat ∙ ap (λ (x : Seen P). x.seat.pairs ++ pairs_for 5 T) t.5 ∙ ap (pairs_for 5) T_is in
+      let out : lc.0.seat.out ≡ [] = ap (λ v. v.out) o.seat ∙ ap (λ (x : Seen P). x.seat.out) t.6 in
+      let pairs : lc.0.seat.pairs ≡ (5, 0) ∷ (5, 1) ∷ [] = ap (λ v. v.pairs) o.seat ∙ ap (λ (x : Seen P). x.seat.pairs ++ pairs_for 5 T) t.6 ∙ ap (pairs_for 5) T_is in
       let rows : firsts (said xs) ≡ 2 ∷ [] = close_unleased c out ∙ ap (λ l. unleased l (teardown (words lc.0.seat) 0)) pairs ∙ ap (λ E. unleased ((5, 0) ∷ (5, 1) ∷ []) (teardown E 0)) wm in
       let x = one_of xs 2 rows in let y = two_of s.last 1 0 (s.rows ∙ ap lifo T_is) in
-      let wb : words b.seat ≡ before ++ Lease 5 0 ∷ Close 0 ∷ Final 2 x.0.ok ∷ [] = closed_said c ∙ ap (λ E. E ++ Close 0 ∷ finals (said xs)) wm ∙ ap (λ l. before ++ Lease 5 0 ∷ Close 0 ∷ finals (said l)) x.1 ∙ ap (λ i. before ++ Lease 5 0 ∷ Close 0 ∷ Final i x.0.ok ∷ []) x.2 in
-      let by : b.seat.by ≡ Outer = closed_by c ∙ ap (λ v. v.by) o.seat ∙ ap (λ (x : Seen P). x.seat.by) t.5 in
-      let shelf : b.shelf ≡ x.0 ∷ [] = c.torn.1 ∙ ap (λ l. l ++ xs) (o.shelf ∙ ap (λ (x : Seen P). x.shelf) t.5) ∙ x.1 in
+      let wb : words b.seat ≡ before ++ Lease 5 0 ∷ Close 0 Errored ∷ Final 2 Errored x.0.ok ∷ [] = closed_said c ∙ ap (λ E. E ++ Close 0 Errored ∷ finals Errored (said xs)) wm ∙ ap (λ l. before ++ Lease 5 0 ∷ Close 0 Errored ∷ finals Errored (said l)) x.1 ∙ ap (λ i. before ++ Lease 5 0 ∷ Close 0 Errored ∷ Final i Errored x.0.ok ∷ []) x.2 in
+      let by : b.seat.by ≡ Outer = closed_by c ∙ ap (λ v. v.by) o.seat ∙ ap (λ (x : Seen P). x.seat.by) t.6 in
+      let shelf : b.shelf ≡ x.0 ∷ [] = c.torn.1 ∙ ap (λ l. l ++ xs) (o.shelf ∙ ap (λ (x : Seen P). x.shelf) t.6) ∙ x.1 in
       let opened : lc.0.seat.opened ≡ a.seat.opened = ap (λ v. v.opened) o.seat in
       let pay : (i : ℕ) (u v : P) → IsAmong (i, u) lc.0.seat.opened → IsAmong (i, v) ((0, p) ∷ (1, q) ∷ (2, r) ∷ []) → v ≡ u = λ i u v m n. once_pay i v u a.seat.opened once (subst (λ l. IsAmong (i, v) l) (sym (three_opened t)) n) (subst (λ l. IsAmong (i, u) l) opened m) in
-      let left : (i : ℕ) (v : P) → IsAmong i (2 ∷ 1 ∷ 0 ∷ []) → IsAmong (i, v) ((0, p) ∷ (1, q) ∷ (2, r) ∷ []) → IsAmong (i, v) b.seat.left = λ i v m n. let z = torn_leaves i c.torn.2 (subst (λ E. IsAmong i (teardown E 0)) (sym wm) m) in subst (λ w. IsAmong (i, w) b.seat.left) (sym (pay i z.0 v z.1 n)) z.2 in
-      let settled : (i : ℕ) (v : P) (z : Spent P) → z.row ≡ i → IsAmong z s.last → IsAmong i (2 ∷ 1 ∷ 0 ∷ []) → IsAmong (i, v) ((0, p) ∷ (1, q) ∷ (2, r) ∷ []) → ends v z.ok z.pay = λ i v z e m n k. let h = s.pays z m in subst (λ w. ends w z.ok z.pay) (sym (h.1 v (subst (λ w. IsAmong (w, v) b.seat.left) (sym e) (left i v n k)))) h.2 in
-      let low = torn_pays x.0 c.torn.2 (subst (λ l. IsAmong x.0 l) (sym x.1) (here [])) in
+      let left : (i : ℕ) (v : P) → IsAmong i (2 ∷ 1 ∷ 0 ∷ []) → IsAmong (i, v) ((0, p) ∷ (1, q) ∷ (2, r) ∷ []) → IsAmong (i, v) b.seat.left = λ i v m n. let z = owner_leaves i c.torn.2 (subst (λ E. IsAmong i (teardown E 0)) (sym wm) m) in subst (λ w. IsAmong (i, w) b.seat.left) (sym (pay i z.0 v z.1 n)) z.2 in
+      let settled : (i : ℕ) (v : P) (z : Spent P) → z.row ≡ i → IsAmong z s.last → IsAmong i (2 ∷ 1 ∷ 0 ∷ []) → IsAmong (i, v) ((0, p) ∷ (1, q) ∷ (2, r) ∷ []) → (z.exit ≡ Canceled) × ends v Canceled z.ok z.pay = λ i v z e m n k. let h = s.pays z m in (h.2, subst (λ w. ends w Canceled z.ok z.pay) (sym (h.1 v (subst (λ w. IsAmong (w, v) b.seat.left) (sym e) (left i v n k)))) h.3) in
+      let low = owner_pays x.0 c.torn.2 (subst (λ l. IsAmong x.0 l) (sym x.1) (here [])) in
+      let mid = settled 1 q y.0 y.3 (subst (λ l. IsAmong y.0 l) (sym y.2) (here (y.1 ∷ []))) (there 2 (here (0 ∷ []))) (there (0, p) (here ((2, r) ∷ []))) in
+      let up = settled 0 p y.1 y.4 (subst (λ l. IsAmong y.1 l) (sym y.2) (there y.0 (here []))) (there 2 (there 1 (here []))) (here ((1, q) ∷ (2, r) ∷ [])) in
       record {
         low = x.0;
         middle = y.0;
         upper = y.1;
         rows = (x.2, y.3, y.4);
+        exits = (low.2, mid.0, up.0);
         finished = (
-          subst (λ w. ends w x.0.ok x.0.pay) (sym (pay 2 low.0 r (subst (λ w. IsAmong (w, low.0) lc.0.seat.opened) x.2 low.1) (there (0, p) (there (1, q) (here []))))) low.2,
-          settled 1 q y.0 y.3 (subst (λ l. IsAmong y.0 l) (sym y.2) (here (y.1 ∷ []))) (there 2 (here (0 ∷ []))) (there (0, p) (here ((2, r) ∷ []))),
-          settled 0 p y.1 y.4 (subst (λ l. IsAmong y.1 l) (sym y.2) (there y.0 (here []))) (there 2 (there 1 (here []))) (here ((1, q) ∷ (2, r) ∷ [])),
+          subst (λ w. ends w Errored x.0.ok x.0.pay) (sym (pay 2 low.0 r (subst (λ w. IsAmong (w, low.0) lc.0.seat.opened) x.2 low.1) (there (0, p) (there (1, q) (here []))))) low.3,
+          mid.1,
+          up.1,
         );
         shelf_is = s.shelf_is ∙ ap (λ l. l ++ s.last) shelf ∙ ap (λ l. x.0 ∷ l) y.2;
-        ledger = s.ledger ∙ ap (λ k. stamped k 0 (words b.seat ++ Cancel 5 ∷ finals (said s.last))) by ∙ ap (λ E. stamped Outer 0 (E ++ Cancel 5 ∷ finals (said s.last))) wb ∙ ap (λ l. stamped Outer 0 (before ++ Lease 5 0 ∷ Close 0 ∷ Final 2 x.0.ok ∷ Cancel 5 ∷ finals (said l))) y.2
-            ∙ ap (λ i. stamped Outer 0 (before ++ Lease 5 0 ∷ Close 0 ∷ Final 2 x.0.ok ∷ Cancel 5 ∷ Final i y.0.ok ∷ Final y.1.row y.1.ok ∷ [])) y.3 ∙ ap (λ i. stamped Outer 0 (before ++ Lease 5 0 ∷ Close 0 ∷ Final 2 x.0.ok ∷ Cancel 5 ∷ Final 1 y.0.ok ∷ Final i y.1.ok ∷ [])) y.4;
+        ledger = s.ledger ∙ ap (λ k. stamped 0 (noted_by k (words b.seat ++ Cancel 5 Canceled ∷ finals Canceled (said s.last)))) by ∙ ap (λ E. stamped 0 (noted_by Outer (E ++ Cancel 5 Canceled ∷ finals Canceled (said s.last)))) wb ∙ ap (λ l. stamped 0 (noted_by Outer (before ++ Lease 5 0 ∷ Close 0 Errored ∷ Final 2 Errored x.0.ok ∷ Cancel 5 Canceled ∷ finals Canceled (said l)))) y.2
+            ∙ ap (λ i. stamped 0 (noted_by Outer (before ++ Lease 5 0 ∷ Close 0 Errored ∷ Final 2 Errored x.0.ok ∷ Cancel 5 Canceled ∷ Final i Canceled y.0.ok ∷ Final y.1.row Canceled y.1.ok ∷ []))) y.3 ∙ ap (λ i. stamped 0 (noted_by Outer (before ++ Lease 5 0 ∷ Close 0 Errored ∷ Final 2 Errored x.0.ok ∷ Cancel 5 Canceled ∷ Final 1 Canceled y.0.ok ∷ Final i Canceled y.1.ok ∷ []))) y.4;
       }
 
   -- the root isn't closed where neither a close nor an opening names it
   root_unclosed : (v : View P) → ¬ (IsAmong 0 (closes (words v))) → ((p : ℕ) → ¬ (IsAmong {A = ℕ × ℕ} (0, p) (opens (words v)))) → ¬ (IsClosed v.events v.by 0)
   root_unclosed v c o x = ⊎_elim
-      (λ e. c (subst (λ z. IsAmong z (closes (words v))) (sym e) (closes_in x.0 (words v) (noted_in v.by (Close x.0) v.events x.2))))
+      (λ e. c (subst (λ z. IsAmong z (closes (words v))) (sym e) (notes_closes v.events v.by x.0 x.2)))
       (λ y. o y.0 (opens_in 0 y.0 (words v) (noted_in v.by (Open 0 y.0) v.events y.1)))
       (within_cases x.1)
 
   open_alone : {a b : Seen P} {at c : ℕ} → Opens a at c b → IsAlone a.seat → IsAlone b.seat
   open_alone {a = a} {c = c} o al = subst IsAlone (sym o.seat) (record { main = al.main; pairs = al.pairs; kept = al.kept; out = al.out; events = alone_more a.seat o.stamp (Open c o.parent) al.events })
 
-  module _ {ends : P → Bool → P → Type 0} {a m : Seen P} {p q r : P} (t : IsThree a p q r) (c : Closes ends a 1 m) where
+  module _ {ends : P → Exit → Bool → P → Type 0} {a m : Seen P} {p q r : P} (t : IsThree a p q r) (c : Closes ends a 1 Errored m) where
     rows_two : firsts (said c.torn.0) ≡ 2 ∷ 1 ∷ []
-    rows_two = close_unleased c (ap (λ (x : Seen P). x.seat.out) t.5) ∙ ap (λ l. unleased l (teardown (words a.seat) 1)) (ap (λ (x : Seen P). x.seat.pairs) t.5) ∙ ap (λ E. unleased [] (teardown E 1)) (three_words t)
+    rows_two = close_unleased c (ap (λ (x : Seen P). x.seat.out) t.6) ∙ ap (λ l. unleased l (teardown (words a.seat) 1)) (ap (λ (x : Seen P). x.seat.pairs) t.6) ∙ ap (λ E. unleased [] (teardown E 1)) (three_words t)
 
     pub ended_two : (x y : Bool) × (words m.seat ≡ closed_two x y)
     ended_two =
         let z = two_of c.torn.0 2 1 rows_two in (
           z.0.ok,
           z.1.ok,
-          closed_said c ∙ ap (λ E. E ++ Close 1 ∷ finals (said c.torn.0)) (three_words t) ∙ ap (λ l. before ++ Close 1 ∷ finals (said l)) z.2
-              ∙ ap (λ i. before ++ Close 1 ∷ Final i z.0.ok ∷ Final z.1.row z.1.ok ∷ []) z.3 ∙ ap (λ i. before ++ Close 1 ∷ Final 2 z.0.ok ∷ Final i z.1.ok ∷ []) z.4,
+          closed_said c ∙ ap (λ E. E ++ Close 1 Errored ∷ finals Errored (said c.torn.0)) (three_words t) ∙ ap (λ l. before ++ Close 1 Errored ∷ finals Errored (said l)) z.2
+              ∙ ap (λ i. before ++ Close 1 Errored ∷ Final i Errored z.0.ok ∷ Final z.1.row Errored z.1.ok ∷ []) z.3 ∙ ap (λ i. before ++ Close 1 Errored ∷ Final 2 Errored z.0.ok ∷ Final i Errored z.1.ok ∷ []) z.4,
         )
 
     two_closes : closes (words m.seat) ≡ 1 ∷ []
@@ -135,20 +142,20 @@ module _ {P : Type 0} where
     two_opened = inr (1, noted_open 2 1 (there (1, 0) (here [])))
 
     pub two_room : m.scopes ≡ a.scopes → length (opens (words m.seat)) + 1 < m.scopes
-    two_room e = let s : m.scopes ≡ 4 = e ∙ ap (λ (x : Seen P). x.scopes) t.5 in let o : length (opens (words m.seat)) ≡ 2 = ap length two_opens in omega (s, o, arith)
+    two_room e = let s : m.scopes ≡ 4 = e ∙ ap (λ (x : Seen P). x.scopes) t.6 in let o : length (opens (words m.seat)) ≡ 2 = ap length two_opens in omega (s, o, arith)
 
     pub two_free : owed m.seat + 2 ≤ m.seat.spare
     two_free =
         let o : open_scopes (words m.seat) ≡ 1 = ap open_scopes ended_two.2 in
         let T : length (teardown (words a.seat) 1) ≡ 2 = ap (λ E. length (teardown E 1)) (three_words t) in
         let n : length a.seat.opened ≡ 3 = ap length (three_opened t) in
-        let d = torn_count c.torn.2 in let s = torn_spare c.torn.2 in
-        let z : a.seat.spare ≡ 11 = ap (λ (x : Seen P). x.seat.spare) t.5 in
+        let d = owner_count c.torn.2 in let s = released_spare c.torn.2 in
+        let z : a.seat.spare ≡ 11 = ap (λ (x : Seen P). x.seat.spare) t.6 in
         let l : length c.torn.0 ≡ 2 = ap length (two_of c.torn.0 2 1 rows_two).2 in
         omega (o, T, n, d, s, z, l, arith)
 
-    noted_close : Notes m.seat.events m.seat.by (Close 1)
-    noted_close = in_noted m.seat.by (Close 1) m.seat.events (in_closes 1 (words m.seat) (subst (λ l. IsAmong 1 l) (sym two_closes) (here [])))
+    noted_close : NotesClose m.seat.events m.seat.by 1
+    noted_close = closes_notes m.seat.events m.seat.by 1 (subst (λ l. IsAmong 1 l) (sym two_closes) (here []))
 
     closed_one : IsClosed m.seat.events m.seat.by 1
     closed_one = (1, same 1, noted_close)

@@ -28,13 +28,13 @@ pub no_lease : (j s : ℕ) → leased_of (Lease j s) ≡ [] → ⊥
 no_lease j s e = absurd (let f : (j, s) ∷ [] ≡ [] = e in cc)
 
 module _ {P : Type 0} where
-  pub script_start : (v : View P) (by : StreamNo) (rows events : ℕ) → 1 ≤ events → v ≡ start by rows events → AtStart v
-  script_start v by rows events one e = subst AtStart (sym e) (record { events = refl; opened = refl; handed = refl; taken = refl; bare = λ j r m. absurd (among_nil m); leased = λ j r m. absurd (among_nil m); spare = one })
+  pub script_start : (v : View P) (by : StreamNo) (rows events splits : ℕ) → 1 ≤ events → v ≡ start by rows events splits → AtStart v
+  script_start v by rows events splits one e = subst AtStart (sym e) (record { events = refl; opened = refl; handed = refl; taken = refl; bare = λ j r m. absurd (among_nil m); leased = λ j r m. absurd (among_nil m); spare = one })
 
-  pub first_is : {a : Seen P} {v : View P} {m n : ℕ} → a ≡ record { seat = v; shelf = []; scopes = m; rows = n } → v ≡ start Outer 3 16 → m ≡ 4 → n ≡ 3 → a ≡ at_first
-  first_is {v = v} {m = m} {n = n} e s x y =
+  pub first_is : {a : Seen P} {v : View P} {m n splits : ℕ} → a ≡ record { seat = v; shelf = []; scopes = m; rows = n } → v ≡ start Outer 3 16 splits → m ≡ 4 → n ≡ 3 → a ≡ at_first splits
+  first_is {v = v} {m = m} {n = n} {splits = splits} e s x y =
       e ∙ ap (λ i. let z : Seen P = record { seat = i; shelf = []; scopes = m; rows = n } in z) s
-      ∙ ap (λ i. let z : Seen P = record { seat = start Outer 3 16; shelf = []; scopes = i; rows = n } in z) x ∙ ap (λ i. let z : Seen P = record { seat = start Outer 3 16; shelf = []; scopes = 4; rows = i } in z) y
+      ∙ ap (λ i. let z : Seen P = record { seat = start Outer 3 16 splits; shelf = []; scopes = i; rows = n } in z) x ∙ ap (λ i. let z : Seen P = record { seat = start Outer 3 16 splits; shelf = []; scopes = 4; rows = i } in z) y
 
   pub acquires_is : {a b : Seen P} {s r : ℕ} {p : P} (A : Seen P) → a ≡ A → (o : Acquires a s r p b) → b ≡ with_row A r s o.stamp p
   acquires_is {a = a} {b = b} {s = s} {r = r} {p = p} A e o = seen_is a b _ o.seat o.shelf o.scopes o.rows ∙ ap (λ x. with_row x r s o.stamp p) e
@@ -47,20 +47,20 @@ module _ {P : Type 0} where
 
   module _ {a : Seen P} {p q r : P} (t : IsThree a p q r) where
     abbrev pub like : Seen P
-    like = three p q r t.0 t.1 t.2 t.3 t.4
+    like = three p q r t.0 t.1 t.2 t.3 t.4 t.5
 
     pub three_alone : IsAlone a.seat
-    three_alone = subst (λ x. IsAlone x.seat) (sym t.5) (record { main = refl; pairs = refl; kept = refl; out = refl; events = λ e m. each_among (λ (x : Event). x.by ≡ Outer) like.seat.events (refl, (refl, (refl, (refl, (refl, tt))))) e m })
+    three_alone = subst (λ x. IsAlone x.seat) (sym t.6) (record { main = refl; pairs = refl; kept = refl; out = refl; events = λ e m. each_among (λ (x : Event). x.by ≡ Outer) like.seat.events (refl, (refl, (refl, (refl, (refl, tt))))) e m })
 
     pub three_open : (s : ℕ) → (s ≡ 0) ⊎ ((z : ℕ) × IsAmong {A = ℕ × ℕ} (s, z) ((1, 0) ∷ (2, 1) ∷ [])) → IsOpenScope a s
-    three_open s o = subst (λ x. IsOpenScope x s) (sym t.5) (all_open like.seat s refl o)
+    three_open s o = subst (λ x. IsOpenScope x s) (sym t.6) (all_open like.seat s refl o)
 
     pub three_unleased : (j : ℕ) → (a.seat.by ≢ Inner j) × ¬ (IsAmong j a.seat.had) × ¬ (IsLeased a.seat.events j)
-    three_unleased j = subst (λ x. (x.seat.by ≢ Inner j) × ¬ (IsAmong j x.seat.had) × ¬ (IsLeased x.seat.events j)) (sym t.5) (
+    three_unleased j = subst (λ x. (x.seat.by ≢ Inner j) × ¬ (IsAmong j x.seat.had) × ¬ (IsLeased x.seat.events j)) (sym t.6) (
       outer_inner j,
       among_nil,
       λ x. no_lease j x.1 (subst (λ w. leased_of w ≡ []) x.2.3 (each_among (λ (y : Event). leased_of y.what ≡ []) like.seat.events (refl, (refl, (refl, (refl, (refl, tt))))) x.2.0 x.2.1)),
     )
 
     pub three_has : HasRow a.seat.opened 1
-    three_has = (q, subst (λ x. IsAmong (1, q) x.seat.opened) (sym t.5) (let first : ℕ × P = (0, p) in let third : ℕ × P = (2, r) in there first (here (third ∷ []))))
+    three_has = (q, subst (λ x. IsAmong (1, q) x.seat.opened) (sym t.6) (let first : ℕ × P = (0, p) in let third : ℕ × P = (2, r) in there first (here (third ∷ []))))

@@ -16,20 +16,22 @@ use Rattle.row_seat.specs.Views.{AtRest, CanFinish, CanJoin, CanSplit, IsWithin,
 use Rattle.scope_tree.specs.declared.branch.Spent.{Spent}
 use Rattle.scope_tree.specs.Calls.{Acquires, Cancels, Closes, IsOpenScope, Leases, Seen, used}
 use Rattle.tree_scripts.specs.Guests.{IsGuest, IsHost}
-use Rattle.scope_tree.specs.Leaving.{away, leased_all}
+use Rattle.scope_tree.specs.Leased.{leased_all}
 use Rattle.scope_tree.specs.Rows.{strangers}
-use Rattle.scope_tree.specs.Torn.{said}
+use Rattle.scope_tree.specs.Released.{away, said}
 use Rattle.scope_tree.specs.Words.{acquiring, leasing, numbers, open_scopes, owed, own_rows, words}
 use Rattle.scope_tree.proofs.Bridge.{in_noted, noted_in, rows_in}
-use Rattle.scope_tree.proofs.Use.{acquire_more, start_said, all_open, closed_now, closed_said}
+use Rattle.scope_tree.proofs.Use.{acquire_more, all_open, cancel_follows, close_follows, close_pairs, closed_now, closed_said, start_said}
 use Rattle.tree_scripts.proofs.Chain.{one_of}
-use Rattle.scope_tree.proofs.Departures.{quits_pairs_none}
-use Rattle.scope_tree.proofs.Facts.{torn_count, torn_spare}
-use Rattle.scope_tree.proofs.Untouched.{cancel_untouched, close_pairs, close_untouched}
 use Rattle.tree_scripts.proofs.Outcomes.{unleased}
-use Rattle.scope_tree.proofs.Quitting.{away_le}
 use Rattle.tree_scripts.proofs.ThreeRows.{each_among, no_lease}
 use Rattle.tree_scripts.proofs.Waits.{close_unleased}
+use Rattle.chunk_core.specs.declared.code.Exit.{Exit}
+use Rattle.scope_tree.proofs.Follows.{same_by, same_main}
+use Rattle.scope_tree.proofs.Lessee.{lease_pairs_none}
+use Rattle.scope_tree.proofs.Lists.{away_le}
+use Rattle.scope_tree.proofs.Owning.{owner_count}
+use Rattle.scope_tree.proofs.Releasing.{released_spare}
 
 within_one : (r : ℕ) → IsWithin 1 2 r → r ≡ 1
 within_one r w = let a = w.0 in let b = w.1 in omega (a, b, arith)
@@ -39,58 +41,58 @@ outer_inner e = cc
 
 -- the host: the main seat with the row 0, acquired in the root
 module _ {P : Type 0} where
-  abbrev host_row : P → ℕ → View P
-  host_row p n = let v : View P = start Outer 2 16 in placed (noted v (acquiring v 0 0 n)) 0 p
+  abbrev host_row : ℕ → P → ℕ → View P
+  host_row splits p n = let v : View P = start Outer 2 16 splits in placed (noted v (acquiring v 0 0 n)) 0 p
 
-  abbrev host_lease : P → ℕ → ℕ → View P
-  host_lease p n k = noted (leased_all (host_row p n) 5 (0 ∷ [])) (leasing (host_row p n) 5 0 k)
+  abbrev host_lease : ℕ → P → ℕ → ℕ → View P
+  host_lease splits p n k = noted (leased_all (host_row splits p n) 5 (0 ∷ [])) (leasing (host_row splits p n) 5 0 k)
 
-  pub host_acquired : {a b : Seen P} {p : P} → a.seat ≡ start Outer 2 16 → (o : Acquires a 0 0 p b) → b.seat ≡ host_row p o.stamp
-  host_acquired {p = p} e o = o.seat ∙ ap (λ v. placed (noted v (acquiring v 0 0 o.stamp)) 0 p) e
+  pub host_acquired : {splits : ℕ} {a b : Seen P} {p : P} → a.seat ≡ start Outer 2 16 splits → (o : Acquires a 0 0 p b) → b.seat ≡ host_row splits p o.stamp
+  host_acquired {splits = splits} {p = p} e o = o.seat ∙ ap (λ v. placed (noted v (acquiring v 0 0 o.stamp)) 0 p) e
 
-  pub host_covers : {v : View P} {p : P} {n : ℕ} → v ≡ host_row p n → leased_rows (words v) 0 ≡ 0 ∷ []
+  pub host_covers : {splits : ℕ} {v : View P} {p : P} {n : ℕ} → v ≡ host_row splits p n → leased_rows (words v) 0 ≡ 0 ∷ []
   host_covers e = ap (λ v. leased_rows (words v) 0) e
 
-  pub host_leased : {a b : Seen P} {p : P} {n : ℕ} {T : List ℕ} → a.seat ≡ host_row p n → (o : Leases a 0 5 T b) → b.seat ≡ host_lease p n o.stamp
+  pub host_leased : {splits : ℕ} {a b : Seen P} {p : P} {n : ℕ} {T : List ℕ} → a.seat ≡ host_row splits p n → (o : Leases a 0 5 T b) → b.seat ≡ host_lease splits p n o.stamp
   host_leased {a = a} {T = T} e o = o.seat ∙ ap (λ U. noted (leased_all a.seat 5 U) (leasing a.seat 5 0 o.stamp)) (o.covered ∙ host_covers e) ∙ ap (λ v. noted (leased_all v 5 (0 ∷ [])) (leasing v 5 0 o.stamp)) e
 
-  pub host_unleased : {v : View P} {p : P} {n : ℕ} → v ≡ host_row p n → (v.by ≢ Inner 5) × ¬ (IsAmong 5 v.had) × ¬ (IsLeased v.events 5)
-  host_unleased {p = p} {n = n} e = subst (λ v. (v.by ≢ Inner 5) × ¬ (IsAmong 5 v.had) × ¬ (IsLeased v.events 5)) (sym e) (
+  pub host_unleased : {splits : ℕ} {v : View P} {p : P} {n : ℕ} → v ≡ host_row splits p n → (v.by ≢ Inner 5) × ¬ (IsAmong 5 v.had) × ¬ (IsLeased v.events 5)
+  host_unleased {splits = splits} {p = p} {n = n} e = subst (λ v. (v.by ≢ Inner 5) × ¬ (IsAmong 5 v.had) × ¬ (IsLeased v.events 5)) (sym e) (
     outer_inner,
     among_nil,
-    λ x. no_lease 5 x.1 (subst (λ w. leased_of w ≡ []) x.2.3 (each_among (λ (y : Event). leased_of y.what ≡ []) (host_row p n).events (refl, tt) x.2.0 x.2.1)),
+    λ x. no_lease 5 x.1 (subst (λ w. leased_of w ≡ []) x.2.3 (each_among (λ (y : Event). leased_of y.what ≡ []) (host_row splits p n).events (refl, tt) x.2.0 x.2.1)),
   )
 
   pub host_leases : {a b : Seen P} {T : List ℕ} → Leases a 0 5 T b → IsLeased b.seat.events 5
   host_leases {a = a} o = subst (λ v. IsLeased v.events 5) (sym o.seat) (a.seat.by, 0, noted_new a.seat.events (leasing a.seat 5 0 o.stamp))
 
-  pub host_splits : {v : View P} {p : P} {n k : ℕ} → v ≡ host_lease p n k → ((r : ℕ) → IsAmong r v.empty → ¬ (IsAcquired v.events r)) → IsLeased v.events 5 → CanSplit v 5 1 2 5
-  host_splits {v = v} e empty leased = (
+  pub host_splits : {splits : ℕ} {v : View P} {p : P} {n k : ℕ} → v ≡ host_lease splits p n k → ((r : ℕ) → IsAmong r v.empty → ¬ (IsAcquired v.events r)) → IsLeased v.events 5 → 1 ≤ splits → CanSplit v 5 1 2 5
+  host_splits {v = v} e empty leased one = (
     ap (λ x. x.main) e,
     (λ b. outer_inner (sym (ap (λ x. x.by) e) ∙ b)),
     (λ m. among_nil (subst (λ (x : View P). IsAmong 5 x.had) e m)),
     (λ r w. let m : IsAmong r v.empty = subst (λ z. IsAmong z v.empty) (sym (within_one r w)) (subst (λ (x : View P). IsAmong 1 x.empty) (sym e) (here [])) in (m, empty r m)),
     subst (λ (x : View P). 5 ≤ x.spare) (sym e) (lit≤ tt),
-    subst (λ (x : View P). 1 ≤ x.splits) (sym e) (lit≤ tt),
+    subst (λ (x : View P). 1 ≤ x.splits) (sym e) one,
     λ r m. leased,
   )
 
-  pub host_free : {v : View P} {p : P} {n k : ℕ} → v ≡ host_lease p n k → owed v + 5 ≤ v.spare
+  pub host_free : {splits : ℕ} {v : View P} {p : P} {n k : ℕ} → v ≡ host_lease splits p n k → owed v + 5 ≤ v.spare
   host_free e = subst (λ v. owed v + 5 ≤ v.spare) (sym e) (lit≤ tt)
 
-  pub host_open : (a : Seen P) (v : View P) {p : P} {n k : ℕ} → v ≡ host_lease p n k → a.seat ≡ split_main v 5 1 2 5 → IsOpenScope a 0
-  host_open a v {p = p} {n = n} {k = k} e s =
-      let f : a.seat ≡ split_main (host_lease p n k) 5 1 2 5 = s ∙ ap (λ x. split_main x 5 1 2 5) e in all_open a.seat 0 (ap (λ x. closes (words x)) f) (inl refl)
+  pub host_open : (a : Seen P) (v : View P) {splits : ℕ} {p : P} {n k : ℕ} → v ≡ host_lease splits p n k → a.seat ≡ split_main v 5 1 2 5 → IsOpenScope a 0
+  host_open a v {splits = splits} {p = p} {n = n} {k = k} e s =
+      let f : a.seat ≡ split_main (host_lease splits p n k) 5 1 2 5 = s ∙ ap (λ x. split_main x 5 1 2 5) e in all_open a.seat 0 (ap (λ x. closes (words x)) f) (inl refl)
 
-  pub host_of : {ends : P → Bool → P → Type 0} {a b : Seen P} {v : View P} {p : P} {n k : ℕ} → v ≡ host_lease p n k → a.seat ≡ split_main v 5 1 2 5 → Closes ends a 0 b → IsHost b.seat
-  host_of {a = a} {p = p} {n = n} {k = k} e s c =
-      let f : a.seat ≡ split_main (host_lease p n k) 5 1 2 5 = s ∙ ap (λ x. split_main x 5 1 2 5) e in let u = close_untouched c in record {
-        main = u.main ∙ ap (λ x. x.main) f;
-        by = u.by ∙ ap (λ x. x.by) f;
+  pub host_of : {ends : P → Exit → Bool → P → Type 0} {x : Exit} {splits : ℕ} {a b : Seen P} {v : View P} {p : P} {n k : ℕ} → v ≡ host_lease splits p n k → a.seat ≡ split_main v 5 1 2 5 → Closes ends a 0 x b → IsHost b.seat
+  host_of {splits = splits} {a = a} {p = p} {n = n} {k = k} e s c =
+      let f : a.seat ≡ split_main (host_lease splits p n k) 5 1 2 5 = s ∙ ap (λ x. split_main x 5 1 2 5) e in let g = close_follows c in record {
+        main = same_main g ∙ ap (λ x. x.main) f;
+        by = same_by g ∙ ap (λ x. x.by) f;
         closed = closed_now c;
         pairs = close_pairs c ∙ ap (λ x. x.pairs) f;
-        kept = u.kept ∙ ap (λ x. x.kept) f;
-        out = u.out ∙ ap (λ x. x.out) f;
+        kept = ap (λ z. z.kept) g.same ∙ ap (λ x. x.kept) f;
+        out = ap (λ z. z.out) g.same ∙ ap (λ x. x.out) f;
       }
 
   -- the guest is taken in
@@ -119,30 +121,30 @@ module _ {P : Type 0} where
     guest_open = all_open b.seat 0 (ap closes acquired_words) (inl refl)
 
     -- and closed its root
-    module _ {ends : P → Bool → P → Type 0} {d : Seen P} (c : Closes ends b 0 d) where
+    module _ {ends : P → Exit → Bool → P → Type 0} {x : Exit} {d : Seen P} (c : Closes ends b 0 x d) where
       one_ended : (x : Spent P) × (c.torn.0 ≡ x ∷ []) × (x.row ≡ 1)
       one_ended = one_of c.torn.0 1 (close_unleased c (ap (λ v. v.out) o.seat ∙ g.out) ∙ ap (λ l. unleased l (teardown (words b.seat) 0)) acquired_pairs ∙ ap (λ E. unleased ((5, 0) ∷ []) (teardown E 0)) acquired_words)
 
-      pub guest_words : (ok : Bool) × (words d.seat ≡ Acquire 1 0 ∷ Close 0 ∷ Final 1 ok ∷ [])
-      guest_words = let x = one_ended in (x.0.ok, closed_said c ∙ ap (λ E. E ++ Close 0 ∷ finals (said c.torn.0)) acquired_words ∙ ap (λ l. Acquire 1 0 ∷ Close 0 ∷ finals (said l)) x.1 ∙ ap (λ i. Acquire 1 0 ∷ Close 0 ∷ Final i x.0.ok ∷ []) x.2)
+      pub guest_words : (ok : Bool) × (words d.seat ≡ Acquire 1 0 ∷ Close 0 x ∷ Final 1 x ok ∷ [])
+      guest_words = let y = one_ended in (y.0.ok, closed_said c ∙ ap (λ E. E ++ Close 0 x ∷ finals x (said c.torn.0)) acquired_words ∙ ap (λ l. Acquire 1 0 ∷ Close 0 x ∷ finals x (said l)) y.1 ∙ ap (λ i. Acquire 1 0 ∷ Close 0 x ∷ Final i x y.0.ok ∷ []) y.2)
 
       pub guest_by : d.seat.by ≡ Inner 5
-      guest_by = (close_untouched c).by ∙ ap (λ v. v.by) o.seat ∙ g.by
+      guest_by = same_by (close_follows c) ∙ ap (λ v. v.by) o.seat ∙ g.by
 
       guest_pairs : d.seat.pairs ≡ (5, 0) ∷ []
       guest_pairs = close_pairs c ∙ acquired_pairs
 
       guest_kept : d.seat.kept ≡ 5 ∷ []
-      guest_kept = (close_untouched c).kept ∙ ap (λ v. v.kept) o.seat ∙ g.kept
+      guest_kept = ap (λ z. z.kept) (close_follows c).same ∙ ap (λ v. v.kept) o.seat ∙ g.kept
 
       -- so it may cancel its lease
-      pub guest_may : MayNote d.seat (Cancel 5)
+      pub guest_may : MayNote d.seat (Cancel 5 x)
       guest_may = (
         subst (λ l. IsAmong 5 l) (sym guest_kept) (here []),
         λ by r s n.
             let m : IsAmong {A = ℕ × ℕ} (r, s) ((1, 0) ∷ []) = subst (λ l. IsAmong (r, s) l) (ap rows guest_words.1) (rows_in r s (words d.seat) (noted_in d.seat.by (Acquire r s) d.seat.events n)) in
             let e : r ≡ 1 = ⊎_elim (λ i. ap (λ y. y.0) i) (λ i. absurd (among_nil i)) (among_cons m) in
-            subst (λ i. IsFinalized d.seat.events i) (sym e) (d.seat.by, guest_words.0, in_noted d.seat.by (Final 1 guest_words.0) d.seat.events (subst (λ E. IsAmong (Final 1 guest_words.0) E) (sym guest_words.1) (there (Acquire 1 0) (there (Close 0) (here []))))),
+            subst (λ i. IsFinalized d.seat.events i) (sym e) (d.seat.by, guest_words.0, (x, in_noted d.seat.by (Final 1 x guest_words.0) d.seat.events (subst (λ E. IsAmong (Final 1 x guest_words.0) E) (sym guest_words.1) (there (Acquire 1 0) (there (Close 0 x) (here [])))))),
       )
 
       pub guest_leases : (r : ℕ) → IsAmong r (0 ∷ []) → IsAmong (5, r) d.seat.pairs
@@ -162,21 +164,21 @@ module _ {P : Type 0} where
           let s : open_scopes (words d.seat) ≡ 0 = ap open_scopes guest_words.1 in
           let n : length b.seat.opened ≡ 1 = ap (λ v. length v.opened) o.seat ∙ ap (λ l. length (l ++ (1, p) ∷ [])) g.start.opened in
           let T : length (teardown (words b.seat) 0) ≡ 1 = ap (λ E. length (teardown E 0)) acquired_words in
-          let k = torn_count c.torn.2 in let l = torn_spare c.torn.2 in let one : length c.torn.0 ≡ 1 = ap length one_ended.1 in
+          let k = owner_count c.torn.2 in let l = released_spare c.torn.2 in let one : length c.torn.0 ≡ 1 = ap length one_ended.1 in
           let z : b.seat.spare ≡ a.seat.spare - 1 = ap (λ v. v.spare) o.seat in let y = g.spare in
           let w : away (0 ∷ []) d.seat.opened ≤ 1 = away_le (0 ∷ []) d.seat.opened in
           omega (s, n, T, k, l, one, z, y, w, arith)
 
-      pub guest_cancels : {e : Seen P} {j : ℕ} {T : List ℕ} → j ≡ 5 → T ≡ 0 ∷ [] → Cancels ends d j T e → Cancels ends d 5 (0 ∷ []) e
-      guest_cancels {e = e} {T = T} x y q = subst (λ U. Cancels ends d 5 U e) y (subst (λ i. Cancels ends d i T e) x q)
+      pub guest_cancels : {y : Exit} {e : Seen P} {j : ℕ} {T : List ℕ} → j ≡ 5 → T ≡ 0 ∷ [] → Cancels ends d j T y e → Cancels ends d 5 (0 ∷ []) y e
+      guest_cancels {y = y} {e = e} {T = T} i s q = subst (λ U. Cancels ends d 5 U y e) s (subst (λ j. Cancels ends d j T y e) i q)
 
       -- after which nothing of it is left
-      pub guest_rests : {e : Seen P} → Cancels ends d 5 (0 ∷ []) e → (e.seat.by ≡ Inner 5) × (e.seat.pairs ≡ []) × (e.seat.kept ≡ [])
+      pub guest_rests : {y : Exit} {e : Seen P} → Cancels ends d 5 (0 ∷ []) y e → (e.seat.by ≡ Inner 5) × (e.seat.pairs ≡ []) × (e.seat.kept ≡ [])
       guest_rests q =
-          let u = cancel_untouched q in (
-            u.by ∙ guest_by,
-            quits_pairs_none q.left.2 (λ i r m. ⊎_elim (λ s. (ap (λ y. y.0) s, subst (λ z. IsAmong z (0 ∷ [])) (sym (ap (λ y. y.1) s)) (here []))) (λ n. absurd (among_nil n)) (among_cons (subst (λ l. IsAmong (i, r) l) guest_pairs m))),
-            u.kept ∙ ap (without 5) guest_kept,
+          let f = cancel_follows q in (
+            same_by f ∙ guest_by,
+            lease_pairs_none q.left.2 (λ i r m. ⊎_elim (λ s. (ap (λ y. y.0) s, subst (λ z. IsAmong z (0 ∷ [])) (sym (ap (λ y. y.1) s)) (here []))) (λ n. absurd (among_nil n)) (among_cons (subst (λ l. IsAmong (i, r) l) guest_pairs m))),
+            ap (λ z. z.kept) f.same ∙ ap (without 5) guest_kept,
           )
 
   -- the guest may begin

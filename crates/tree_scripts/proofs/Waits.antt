@@ -2,8 +2,6 @@
 use Rattle.res_ledger.specs.Own.{has, opens, picked, reaches, rows, teardown}
 use Rattle.res_ledger.proofs.Noted.{has_in, in_has}
 use Rattle.scope_tree.proofs.Beneath.{shut_not, one_open, open_pos, usable_scope}
-use Rattle.scope_tree.proofs.Facts.{torn_has, fit_in, torn_spare}
-use Rattle.tree_scripts.proofs.Outcomes.{unleased_none, torn_open, torn_unleased, torn_unpaired, unleased}
 use Rattle.std.proofs.Common.{◌≡◌, ◌≢◌, ℕ, ◌+◌, ◌-◌, ◌≤◌, Bool, true, false, cond, List, [], ◌∷◌, ◌++◌, inl, refl, sym, ap, ◌∙◌, subst, ⊎_elim, arith, length-append, append-nil}
 use Rattle.chunk_core.specs.Lists.{IsAmong}
 use Rattle.chunk_core.specs.Lists.IsAmong.{here, there}
@@ -20,20 +18,26 @@ use Rattle.scope_tree.specs.declared.branch.Branch.{Branch}
 use Rattle.scope_tree.specs.declared.branch.Held.{Held}
 use Rattle.scope_tree.specs.Calls.{Closes, IsOpenScope, Leases, Seen}
 use Rattle.scope_tree.specs.Kept.{Kept, Shelved}
-use Rattle.scope_tree.specs.Leaving.{leased_all, pairs_for}
+use Rattle.scope_tree.specs.Leased.{leased_all, pairs_for}
 use Rattle.scope_tree.specs.Rows.{AreDistinct}
-use Rattle.scope_tree.specs.Torn.{said}
+use Rattle.scope_tree.specs.Released.{said}
 use Rattle.tree_scripts.specs.Waiting.{IsAlone, Waits}
 use Rattle.scope_tree.specs.Words.{leasing, numbers, owed, own_rows, words}
 use Rattle.scope_tree.proofs.Bridge.{rows_append}
 use Rattle.scope_tree.proofs.Distinct.{firsts_append, length_said, said_append}
-use Rattle.scope_tree.proofs.Keeps.{root_closes, rows_finals}
 use Rattle.scope_tree.proofs.Leased.{lease_back, lease_distinct, lease_rows_open}
 use Rattle.scope_tree.proofs.Leasing.{among_pairs}
 use Rattle.scope_tree.proofs.Parts.{distinct_append}
-use Rattle.scope_tree.proofs.Untouched.{close_pairs, close_untouched}
-use Rattle.tree_scripts.proofs.Alone.{alone_more, torn_alone}
-use Rattle.scope_tree.proofs.Use.{closed_now, closed_said, leased_said}
+use Rattle.chunk_core.specs.declared.code.Exit.{Exit}
+use Rattle.scope_tree.proofs.Follows.{follows_alone, same_by}
+use Rattle.scope_tree.proofs.Grown.{rows_finals}
+use Rattle.scope_tree.proofs.Keeps.{root_closes}
+use Rattle.scope_tree.proofs.Lists.{fit_in}
+use Rattle.scope_tree.proofs.Owning.{owner_has}
+use Rattle.scope_tree.proofs.Releasing.{released_spare}
+use Rattle.scope_tree.proofs.Use.{close_follows, close_pairs, closed_now, closed_said, leased_said}
+use Rattle.tree_scripts.proofs.Alone.{alone_more}
+use Rattle.tree_scripts.proofs.Outcomes.{owner_opens, owner_unleased, unleased, unleased_none}
 
 picked_number : (f : ℕ → Bool) (xs : List (ℕ × ℕ)) (r : ℕ) → IsAmong r (picked f xs) → IsAmong r (numbers xs)
 picked_number f [] r m = m
@@ -47,27 +51,27 @@ distinct_back [] U d = d
 distinct_back (x ∷ T) U d = distinct_back T U d.1
 
 module _ {P : Type 0} where
-  pub close_alone : {ends : P → Bool → P → Type 0} {a b : Seen P} {s : ℕ} → Closes ends a s b → IsAlone a.seat → IsAlone b.seat
-  close_alone {a = a} {s = s} c al = let u = close_untouched c in record {
-    main = u.main ∙ al.main;
+  pub close_alone : {ends : P → Exit → Bool → P → Type 0} {x : Exit} {a b : Seen P} {s : ℕ} → Closes ends a s x b → IsAlone a.seat → IsAlone b.seat
+  close_alone {x = x} {a = a} {s = s} c al = let f = close_follows c in record {
+    main = ap (λ z. z.main) f.same ∙ al.main;
     pairs = close_pairs c ∙ al.pairs;
-    kept = u.kept ∙ al.kept;
-    out = u.out ∙ al.out;
-    events = torn_alone c.torn.2 (alone_more a.seat c.stamp (Close s) al.events);
+    kept = ap (λ z. z.kept) f.same ∙ al.kept;
+    out = ap (λ z. z.out) f.same ∙ al.out;
+    events = follows_alone f (alone_more a.seat c.stamp (Close s x) al.events);
   }
 
   -- where no seat is out, it ends the rows on which no lease stands
-  pub close_unleased : {ends : P → Bool → P → Type 0} {a b : Seen P} {s : ℕ} (c : Closes ends a s b) → a.seat.out ≡ [] → firsts (said c.torn.0) ≡ unleased a.seat.pairs (teardown (words a.seat) s)
-  close_unleased c o = torn_unleased c.torn.2 o
+  pub close_unleased : {ends : P → Exit → Bool → P → Type 0} {x : Exit} {a b : Seen P} {s : ℕ} (c : Closes ends a s x b) → a.seat.out ≡ [] → firsts (said c.torn.0) ≡ unleased a.seat.pairs (teardown (words a.seat) s)
+  close_unleased c o = owner_unleased c.torn.2 o
 
   -- what was open and isn't is taken down
-  pub close_takes : {ends : P → Bool → P → Type 0} {a b : Seen P} {s : ℕ} (r : ℕ) → Closes ends a s b → HasRow a.seat.opened r → ¬ (HasRow b.seat.opened r) → IsAmong r (teardown (words a.seat) s)
+  pub close_takes : {ends : P → Exit → Bool → P → Type 0} {x : Exit} {a b : Seen P} {s : ℕ} (r : ℕ) → Closes ends a s x b → HasRow a.seat.opened r → ¬ (HasRow b.seat.opened r) → IsAmong r (teardown (words a.seat) s)
   close_takes {a = a} {s = s} r c h n =
       let T = teardown (words a.seat) s in
-      elim (has r T) as (λ x. has r T ≡ x → IsAmong r T) [ true ↦ λ e. has_in r T e | false ↦ λ e. absurd (n (torn_has r c.torn.2 (λ m. shut_not (sym (in_has r T m) ∙ e)) h)) ] refl
+      elim (has r T) as (λ x. has r T ≡ x → IsAmong r T) [ true ↦ λ e. has_in r T e | false ↦ λ e. absurd (n (owner_has r c.torn.2 (λ m. shut_not (sym (in_has r T m) ∙ e)) h)) ] refl
 
   -- where no other stream has a seat or a lease, it ends all that it takes down
-  pub close_all : {ends : P → Bool → P → Type 0} {a b : Seen P} {s : ℕ} (c : Closes ends a s b) → IsAlone a.seat → firsts (said c.torn.0) ≡ teardown (words a.seat) s
+  pub close_all : {ends : P → Exit → Bool → P → Type 0} {x : Exit} {a b : Seen P} {s : ℕ} (c : Closes ends a s x b) → IsAlone a.seat → firsts (said c.torn.0) ≡ teardown (words a.seat) s
   close_all {a = a} {s = s} c al = close_unleased c al.out ∙ ap (λ l. unleased l (teardown (words a.seat) s)) al.pairs ∙ unleased_none (teardown (words a.seat) s)
 
   module _ {a m : Seen P} {s j : ℕ} {T : List ℕ} (bs : List Branch) (hs : List Held) (k : Kept a.seat bs hs) (sh : Shelved a.seat hs a.shelf) (u : IsOpenScope a s) (o : Leases a s j T m) where
@@ -82,29 +86,29 @@ module _ {P : Type 0} where
     root_open = (inl refl, λ c. u.1 (root_closes a.seat bs hs k s (usable_scope a.seat bs hs k s u) c))
 
     -- once the root is closed the lease waits alone
-    pub lease_waits : {b : Seen P} {ends : P → Bool → P → Type 0} (cs : List Branch) (is : List Held) → Kept b.seat cs is → Shelved b.seat is b.shelf → IsAlone a.seat → a.seat.by ≢ Inner j → owed a.seat + 2 ≤ a.seat.spare → Closes ends m 0 b → Waits b j T
-    lease_waits {b = b} cs is k' sh' al ne f c =
-        let n = close_untouched c in let v = noted (leased_all a.seat j T) (leasing a.seat j s o.stamp) in
+    pub lease_waits : {b : Seen P} {ends : P → Exit → Bool → P → Type 0} {x : Exit} (cs : List Branch) (is : List Held) → Kept b.seat cs is → Shelved b.seat is b.shelf → IsAlone a.seat → a.seat.by ≢ Inner j → owed a.seat + 2 ≤ a.seat.spare → Closes ends m 0 x b → Waits b j T
+    lease_waits {b = b} {x = x} cs is k' sh' al ne f c =
+        let g = close_follows c in let v = noted (leased_all a.seat j T) (leasing a.seat j s o.stamp) in
         let open' : (r : ℕ) → IsAmong r T → HasRow a.seat.opened r = λ r i. lease_rows_open a.seat bs hs a.shelf k sh s j u r (subst (λ l. IsAmong r l) o.covered i) in
         let F = firsts (said c.torn.0) in
         let dF : AreDistinct F = distinct_back (firsts (said m.shelf)) F (subst AreDistinct (ap (λ l. firsts (said l)) c.torn.1 ∙ ap firsts (said_append m.shelf c.torn.0) ∙ firsts_append (said m.shelf) (said c.torn.0)) sh'.distinct) in
         let dT : AreDistinct T = subst AreDistinct (sym o.covered) (lease_distinct a.seat bs hs a.shelf k sh s j u) in
         let pair : (r : ℕ) → IsAmong r T → HasPair m.seat r = λ r i. (j, subst (λ w. IsAmong (j, r) w.pairs) (sym o.seat) (subst (λ l. IsAmong (j, r) (l ++ pairs_for j T)) (sym al.pairs) (among_pairs j r T i))) in
-        let fit = fit_in (T ++ F) a.seat.opened (distinct_append T F dT dF (λ r i h. torn_unpaired r c.torn.2 h (pair r i)))
-        (λ r i. ⊎_elim (open' r) (λ h. subst (λ w. HasRow w.opened r) o.seat (torn_open r c.torn.2 h)) (among_append r T F i)) in
-        let le = length-append T F in let lf = length_said c.torn.0 in let sp = torn_spare c.torn.2 in
+        let fit = fit_in (T ++ F) a.seat.opened (distinct_append T F dT dF (λ r i h. (owner_opens r c.torn.2 h).1 (pair r i)))
+        (λ r i. ⊎_elim (open' r) (λ h. subst (λ w. HasRow w.opened r) o.seat (owner_opens r c.torn.2 h).0) (among_append r T F i)) in
+        let le = length-append T F in let lf = length_said c.torn.0 in let sp = released_spare c.torn.2 in
         let ms : m.seat.spare ≡ a.seat.spare - 1 = ap (λ w. w.spare) o.seat in
         let z = one_open a.seat s u in let p = open_pos (words a.seat) (0 ∷ numbers (opens (words a.seat))) s z.1 z.0 in
-        let own : own_rows b.seat ≡ own_rows a.seat = ap (λ E. numbers (rows E)) (closed_said c) ∙ ap numbers (rows_append (words m.seat) (Close 0 ∷ finals (said c.torn.0)) ∙ ap (λ l. rows (words m.seat) ++ l) (rows_finals (said c.torn.0)) ∙ append-nil (rows (words m.seat)))
+        let own : own_rows b.seat ≡ own_rows a.seat = ap (λ E. numbers (rows E)) (closed_said c) ∙ ap numbers (rows_append (words m.seat) (Close 0 x ∷ finals x (said c.torn.0)) ∙ ap (λ l. rows (words m.seat) ++ l) (rows_finals x (said c.torn.0)) ∙ append-nil (rows (words m.seat)))
         ∙ ap (λ E. numbers (rows E)) (leased_said o) ∙ ap numbers (rows_append (words a.seat) (Lease j s ∷ []) ∙ append-nil (rows (words a.seat))) in
         record {
-          main = n.main ∙ ap (λ w. w.main) o.seat ∙ al.main;
-          by = λ e. ne (sym (n.by ∙ ap (λ w. w.by) o.seat) ∙ e);
+          main = ap (λ z. z.main) g.same ∙ ap (λ w. w.main) o.seat ∙ al.main;
+          by = λ e. ne (sym (same_by g ∙ ap (λ w. w.by) o.seat) ∙ e);
           closed = closed_now c;
           pairs = close_pairs c ∙ ap (λ w. w.pairs) o.seat ∙ ap (λ l. l ++ pairs_for j T) al.pairs;
-          kept = n.kept ∙ ap (λ w. w.kept) o.seat ∙ ap (λ l. l ++ j ∷ []) al.kept;
-          out = n.out ∙ ap (λ w. w.out) o.seat ∙ al.out;
-          events = torn_alone c.torn.2 (alone_more m.seat c.stamp (Close 0) (subst (λ w. (e : _) → IsAmong e w.events → e.by ≡ w.by) (sym o.seat) (alone_more (leased_all a.seat j T) o.stamp (Lease j s) al.events)));
+          kept = ap (λ z. z.kept) g.same ∙ ap (λ w. w.kept) o.seat ∙ ap (λ l. l ++ j ∷ []) al.kept;
+          out = ap (λ z. z.out) g.same ∙ ap (λ w. w.out) o.seat ∙ al.out;
+          events = follows_alone g (alone_more m.seat c.stamp (Close 0 x) (subst (λ w. (e : _) → IsAmong e w.events → e.by ≡ w.by) (sym o.seat) (alone_more (leased_all a.seat j T) o.stamp (Lease j s) al.events)));
           rows = λ r i. subst (λ l. IsAmong r l) (sym own) (picked_number (reaches (words a.seat) s) (rows (words a.seat)) r (subst (λ l. IsAmong r l) o.covered i));
           spare = omega (fit, le, lf, sp, ms, p, f, arith);
         }

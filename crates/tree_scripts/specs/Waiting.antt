@@ -1,24 +1,25 @@
 -- A tree of which only a lease is left.
-use Rattle.std.specs.Prelude.{◌≡◌, ◌≢◌, ℕ, suc, ◌+◌, ◌≤◌, Bool, true, List, [], ◌∷◌, ◌++◌, length}
+use Rattle.std.specs.Prelude.{◌≡◌, ◌≢◌, ℕ, map, ◌+◌, ◌≤◌, Bool, true, List, [], ◌∷◌, ◌++◌, length}
+use Rattle.chunk_core.specs.declared.code.Exit.{Exit}
 use Rattle.chunk_core.specs.Lists.{IsAmong}
 use Rattle.res_ledger.specs.declared.event.Event.{Event}
 use Rattle.res_ledger.specs.declared.event.StreamNo.{StreamNo}
 use Rattle.res_ledger.specs.declared.event.StreamNo.TheVariants.{Inner}
 use Rattle.res_ledger.specs.declared.event.What.{What}
 use Rattle.res_ledger.specs.declared.event.What.TheVariants.{Cancel}
+use Rattle.res_ledger.specs.Ledger.{stamped}
 use Rattle.res_ledger.specs.Order.{finals, firsts}
 use Rattle.row_seat.specs.declared.view.View.{View}
 use Rattle.scope_tree.specs.declared.branch.Spent.{Spent}
 use Rattle.scope_tree.specs.Calls.{Closes, IsClosedScope, Leases, Seen}
-use Rattle.scope_tree.specs.Leaving.{pairs_for}
+use Rattle.scope_tree.specs.Leased.{pairs_for}
 use Rattle.scope_tree.specs.Rows.{lifo}
-use Rattle.scope_tree.specs.Torn.{said}
+use Rattle.scope_tree.specs.Released.{said}
 use Rattle.scope_tree.specs.Words.{own_rows, words}
 
--- the events of the stream k that say E, stamped from n on
-abbrev pub stamped : StreamNo → ℕ → List What → List Event
-stamped k n [] = []
-stamped k n (w ∷ E) = record { stamp = n; by = k; what = w } ∷ stamped k (suc n) E
+-- k noted each of these
+abbrev pub noted_by : StreamNo → List What → List (StreamNo × What)
+noted_by k E = map (λ w. (k, w)) E
 
 module _ {P : Type 0} where
   -- each event of the seat is of its own stream
@@ -33,9 +34,9 @@ module _ {P : Type 0} where
     pub out : v.out ≡ []
     pub events : NotesAlone v
 
-  -- the scope s was leased for the stream j, and then the root was closed
-  abbrev pub LeasesAndCloses : (P → Bool → P → Type 0) → Seen P → ℕ → ℕ → List ℕ → Seen P → Type 0
-  LeasesAndCloses ends a s j T b = (m : Seen P) × Leases a s j T m × Closes ends m 0 b
+  -- the scope s was leased for the stream j, and then the root was closed with the exit x
+  abbrev pub LeasesAndCloses : (P → Exit → Bool → P → Type 0) → Seen P → ℕ → ℕ → List ℕ → Exit → Seen P → Type 0
+  LeasesAndCloses ends a s j T x b = (m : Seen P) × Leases a s j T m × Closes ends m 0 x b
 
   -- the root is closed, and only the rows T of the lease for j, acquired here, are left
   pub record Waits (a : Seen P) (j : ℕ) (T : List ℕ) : Type 0 where
@@ -49,17 +50,17 @@ module _ {P : Type 0} where
     pub rows : (r : ℕ) → IsAmong r T → IsAmong r (own_rows a.seat)
     pub spare : length T + 1 ≤ a.seat.spare
 
-  -- the lease for j was cancelled, each of its rows T ended, latest acquired first, with the payload that was left in it, and L is the whole ledger
-  pub record Settles (ends : P → Bool → P → Type 0) (a : Seen P) (j : ℕ) (T : List ℕ) (L : List Event) (shelf : List (Spent P)) : Type 0 where
+  -- the lease for j was cancelled with the exit x, each of its rows T ended with that exit, latest acquired first, and with the payload that was left in it, and L is the whole ledger
+  pub record Settles (ends : P → Exit → Bool → P → Type 0) (a : Seen P) (j : ℕ) (T : List ℕ) (x : Exit) (L : List Event) (shelf : List (Spent P)) : Type 0 where
     pub last : List (Spent P)
     pub shelf_is : shelf ≡ a.shelf ++ last
     pub rows : firsts (said last) ≡ lifo T
-    pub pays : (x : Spent P) → IsAmong x last → (p : P) × ((q : P) → IsAmong (x.row, q) a.seat.left → q ≡ p) × ends p x.ok x.pay
-    pub ledger : L ≡ stamped a.seat.by 0 (words a.seat ++ Cancel j ∷ finals (said last))
+    pub pays : (y : Spent P) → IsAmong y last → (p : P) × ((q : P) → IsAmong (y.row, q) a.seat.left → q ≡ p) × (y.exit ≡ x) × ends p x y.ok y.pay
+    pub ledger : L ≡ stamped 0 (noted_by a.seat.by (words a.seat ++ Cancel j x ∷ finals x (said last)))
 
-  -- the root was closed, and L is the whole ledger
-  pub record Finishes (ends : P → Bool → P → Type 0) (a : Seen P) (L : List Event) (shelf : List (Spent P)) : Type 0 where
+  -- the root was closed with the exit x, and L is the whole ledger
+  pub record Finishes (ends : P → Exit → Bool → P → Type 0) (a : Seen P) (x : Exit) (L : List Event) (shelf : List (Spent P)) : Type 0 where
     pub last : Seen P
-    pub closes : Closes ends a 0 last
+    pub closes : Closes ends a 0 x last
     pub shelf_is : shelf ≡ last.shelf
-    pub ledger : L ≡ stamped a.seat.by 0 (words last.seat)
+    pub ledger : L ≡ stamped 0 (noted_by a.seat.by (words last.seat))

@@ -6,7 +6,7 @@ ghost use Rattle.tree_scripts.specs.Guests.{IsGuest, IsHost};
 ghost use Rattle.scope_tree.specs.Trees.{Fits, seen};
 
 use crate::scripts::Coin;
-use chunk_core::Span;
+use chunk_core::{Exit, Span};
 use res_ledger::{Ledger, StreamNo, text};
 use row_seat::{PlainSeat, RowSeat};
 use scope_tree::{Finish, Lease, Room, Standing, Tree};
@@ -14,7 +14,8 @@ use std::alloc::Global;
 use std::process::Abort;
 use std::test::Fail;
 
-/// The root and its row are leased for the stream 5, whose seat is split off, and closed.
+/// The root and its row are leased for the stream 5, whose seat is split off, and closed as
+/// succeeded.
 pub fn host<S: RowSeat>(
     rt: &impl Abort,
     alloc: Global,
@@ -26,9 +27,10 @@ pub fn host<S: RowSeat>(
 where
     S::Pay: Finish,
     requires fits { S.fits seat desk.old }
-    requires start { S.view seat ≡ start Outer 2 16 }
+    requires start { S.view seat ≡ start Outer 2 16 (S.view seat).splits }
+    requires splits { 1 ≤ (S.view seat).splits }
     requires room { 1 ≤ room.rows }
-    ensures host { IsHost (S.view result.0.seat) }
+    ensures host { IsHost (seen S.view result.0).seat }
     ensures guest { IsGuest (S.view result.1) }
     ensures lease { (result.2.stream ≡ 5) × (result.2.rows.items ≡ 0 ∷ []) }
     ensures fits { Fits S.view S.fits result.0 desk.new × S.fits result.1 desk.new }
@@ -38,11 +40,12 @@ where
     let lease = tree.lease(alloc, desk, 0, 5).expect(rt, "memory");
     let rows = Span { from: 1, to: 2 };
     let guest = tree.split(alloc, desk, 5, rows, 5).expect(rt, "memory");
-    tree.close(desk, 0);
+    tree.close(desk, 0, Exit::Succeeded);
     (tree, guest, lease)
 }
 
-/// Over its own seat the stream acquires and ends the row 1, and then lets go of the leased one.
+/// Over its own seat the stream acquires the row 1 and ends it as errored, and then lets go of the
+/// leased one, which ends so too.
 pub fn visit<S: RowSeat>(
     seat: S,
     room: Room<S::Pay>,
@@ -62,8 +65,8 @@ where
 {
     let mut tree = Tree::new(seat, room);
     tree.acquired(desk, 0, 1, pay);
-    tree.close(desk, 0);
-    tree.cancel(desk, lease);
+    tree.close(desk, 0, Exit::Errored);
+    tree.cancel(desk, lease, Exit::Errored);
     let (seat, _) = tree.end();
     seat
 }
@@ -73,7 +76,7 @@ pub fn part<S: RowSeat>(mut tree: Tree<S>, desk: &mut S::Desk, guest: S) -> Ledg
 where
     S::Pay: Finish + Drop,
     requires fits { Fits S.view S.fits tree desk.old × S.fits guest desk.old }
-    requires host { IsHost (S.view tree.seat) }
+    requires host { IsHost (seen S.view tree).seat }
     requires rest { AtRest (S.view guest) × ((S.view guest).by ≡ Inner 5) }
 {
     tree.join(desk, guest);
@@ -97,12 +100,12 @@ fn a_guest_ends_the_row_that_it_leased(rt: HostRuntime) -> Result<(), Fail> {
         b"ledger 8
 outer acquire 0 0
 outer lease 5 0
-outer close 0
+outer close 0 succeeded
 5 acquire 1 0
-5 close 0
-5 final 1 fault
-5 cancel 5
-5 final 0 ok
+5 close 0 errored
+5 final 1 errored fault
+5 cancel 5 errored
+5 final 0 errored ok
 "
             .as_slice()
     );

@@ -11,7 +11,7 @@ ghost use Rattle.scope_tree.specs.Trees.{Fits, seen};
 ghost use Rattle.tree_scripts.specs.Waiting.{Finishes, IsAlone, LeasesAndCloses, Settles, Waits};
 ghost use Rattle.scope_tree.specs.Words.{owed};
 
-use chunk_core::List;
+use chunk_core::{Exit, List};
 use res_ledger::{Ledger, StreamNo, text};
 use row_seat::{PlainSeat, PlainTable, RowSeat};
 use scope_tree::{Finish, Lease, Room, Spent, Standing, Tree};
@@ -30,7 +30,7 @@ pub fn three_rows<S: RowSeat>(
 where
     S::Pay: Finish,
     requires fits { S.fits seat desk.old }
-    requires start { S.view seat ≡ start Outer 3 16 }
+    requires start { S.view seat ≡ start Outer 3 16 (S.view seat).splits }
     requires room { (room.scopes ≡ 4) × (room.rows ≡ 3) }
     ensures three { IsThree (seen S.view result) first second third }
     ensures fits { Fits S.view S.fits result desk.new }
@@ -44,67 +44,70 @@ where
     tree
 }
 
-/// Leases a scope for a stream, and closes the root.
+/// Leases a scope for a stream, and closes the root with an exit.
 pub fn lease_and_close<S: RowSeat>(
     alloc: Global,
     tree: &mut Tree<S>,
     desk: &mut S::Desk,
     scope: u32,
     stream: u32,
+    exit: Exit,
 ) -> Result<Lease, AllocError>
 where
     S::Pay: Finish,
     requires fits { Fits S.view S.fits tree.old desk.old }
-    requires alone { IsAlone (S.view tree.old.seat) }
+    requires alone { IsAlone (seen S.view tree.old).seat }
     requires scope { IsOpenScope (seen S.view tree.old) scope }
-    requires stream { ((S.view tree.old.seat).by ≢ Inner stream) × ¬ (IsAmong stream (S.view tree.old.seat).had) × ¬ (IsLeased (S.view tree.old.seat).events stream) }
-    requires free { owed (S.view tree.old.seat) + 2 ≤ (S.view tree.old.seat).spare }
-    ensures calls { IfOk result (λ lease. (lease.stream ≡ stream) × LeasesAndCloses S.Pay.ends (seen S.view tree.old) scope stream lease.rows.items (seen S.view tree.new)) }
+    requires stream { ((seen S.view tree.old).seat.by ≢ Inner stream) × ¬ (IsAmong stream (seen S.view tree.old).seat.had) × ¬ (IsLeased (seen S.view tree.old).seat.events stream) }
+    requires free { owed (seen S.view tree.old).seat + 2 ≤ (seen S.view tree.old).seat.spare }
+    ensures calls { IfOk result (λ lease. (lease.stream ≡ stream) × LeasesAndCloses S.Pay.ends (seen S.view tree.old) scope stream lease.rows.items exit (seen S.view tree.new)) }
     ensures waits { IfOk result (λ lease. Waits (seen S.view tree.new) lease.stream lease.rows.items) }
     ensures err { IfErr result (λ _. seen S.view tree.new ≡ seen S.view tree.old) }
     ensures fits { Fits S.view S.fits tree.new desk.new }
 {
     let lease = tree.lease(alloc, desk, scope, stream)?;
-    tree.close(desk, 0);
+    tree.close(desk, 0, exit);
     Ok(lease)
 }
 
-/// Cancels the lease, ends the tree and finishes its seat.
+/// Cancels the lease with an exit, ends the tree and finishes its seat.
 pub fn cancel_and_finish<S: RowSeat>(
     mut tree: Tree<S>,
     desk: &mut S::Desk,
     lease: Lease,
+    exit: Exit,
 ) -> (Ledger, List<Spent<S::Pay>>)
 where
     S::Pay: Finish,
     requires fits { Fits S.view S.fits tree desk.old }
     requires waits { Waits (seen S.view tree) lease.stream lease.rows.items }
-    ensures { Settles S.Pay.ends (seen S.view tree) lease.stream lease.rows.items result.0 result.1 }
+    ensures { Settles S.Pay.ends (seen S.view tree) lease.stream lease.rows.items exit result.0 result.1 }
 {
-    tree.cancel(desk, lease);
+    tree.cancel(desk, lease, exit);
     let (seat, shelf) = tree.end();
     (seat.finish(desk), shelf)
 }
 
-/// Closes the root, ends the tree and finishes its seat.
+/// Closes the root with an exit, ends the tree and finishes its seat.
 pub fn close_and_finish<S: RowSeat>(
     mut tree: Tree<S>,
     desk: &mut S::Desk,
+    exit: Exit,
 ) -> (Ledger, List<Spent<S::Pay>>)
 where
     S::Pay: Finish,
     requires fits { Fits S.view S.fits tree desk.old }
-    requires alone { IsAlone (S.view tree.seat) }
+    requires alone { IsAlone (seen S.view tree).seat }
     requires root { IsOpenScope (seen S.view tree) 0 }
-    ensures { Finishes S.Pay.ends (seen S.view tree) result.0 result.1 }
+    ensures { Finishes S.Pay.ends (seen S.view tree) exit result.0 result.1 }
 {
-    tree.close(desk, 0);
+    tree.close(desk, 0, exit);
     let (seat, shelf) = tree.end();
     (seat.finish(desk), shelf)
 }
 
-/// The root is leased, which covers its row and its child's, and closed before the lease is
-/// cancelled: the row below them ends with the root.
+/// The root is leased, which covers its row and its child's, and closed as errored before the lease
+/// is cancelled as canceled: the row below them ends with the root, and as it did.
 pub fn lease_the_root<S: RowSeat>(
     alloc: Global,
     seat: S,
@@ -117,21 +120,22 @@ pub fn lease_the_root<S: RowSeat>(
 where
     S::Pay: Finish + Drop,
     requires fits { S.fits seat desk.old }
-    requires start { S.view seat ≡ start Outer 3 16 }
+    requires start { S.view seat ≡ start Outer 3 16 (S.view seat).splits }
     requires room { (room.scopes ≡ 4) × (room.rows ≡ 3) }
     ensures { IfOk result (λ x. IsRootLeased S.Pay.ends first second third x.0 x.1) }
 {
     let mut tree = three_rows(seat, room, desk, first, second, third);
-    match lease_and_close(alloc, &mut tree, desk, 0, 5) {
-        Ok(lease) => Ok(cancel_and_finish(tree, desk, lease)),
+    match lease_and_close(alloc, &mut tree, desk, 0, 5, Exit::Errored) {
+        Ok(lease) => Ok(cancel_and_finish(tree, desk, lease, Exit::Canceled)),
         Err(error) => {
-            close_and_finish(tree, desk);
+            close_and_finish(tree, desk, Exit::Canceled);
             Err(error)
         }
     }
 }
 
-/// Closes the child of the root, and opens a scope at the one below it, which is closed by then.
+/// Closes the child of the root as errored, and opens a scope at the one below it, which is closed by
+/// then.
 pub fn close_and_open<S: RowSeat>(tree: &mut Tree<S>, desk: &mut S::Desk) -> u32
 where
     S::Pay: Finish,
@@ -141,7 +145,7 @@ where
     ensures reopened { IsReopened (seen S.view tree.new) }
     ensures fits { Fits S.view S.fits tree.new desk.new }
 {
-    tree.close(desk, 1);
+    tree.close(desk, 1, Exit::Errored);
     tree.open(desk, 2)
 }
 
@@ -154,9 +158,9 @@ pub struct Coin {
 impl Finish for Coin {
     ghost use Rattle.std.specs.Prelude.{◌≡◌};
 
-    ghost ends = { λ p ok q. (ok ≡ p.good) × (q ≡ p) };
+    ghost ends = { λ p x ok q. (ok ≡ p.good) × (q ≡ p) };
 
-    fn finish(&mut self) -> bool {
+    fn finish(&mut self, _exit: Exit) -> bool {
         self.good
     }
 }
@@ -179,20 +183,25 @@ pub fn three_coins(
 #[test]
 fn closes_the_root_of_a_plain_seat(rt: HostRuntime) -> Result<(), Fail> {
     let (mut tree, mut desk) = three_coins(rt.alloc(), false)?;
-    tree.close(&mut desk, 0);
+    tree.close(&mut desk, 0, Exit::Errored);
     assert!(rt; tree.status(2) == Standing::Final(true));
     assert!(rt; tree.status(1) == Standing::Final(false));
     let (_, shelf) = tree.end();
-    assert_eq!(rt; shelf.len(), 3);
+    let rows = shelf.as_slice();
+    assert_eq!(rt; rows.len(), 3);
+    assert!(rt; rows[0].exit == Exit::Errored);
+    assert!(rt; rows[1].exit == Exit::Errored);
+    assert!(rt; rows[2].exit == Exit::Errored);
     Ok(())
 }
 
 #[test]
 fn leased_rows_wait_for_the_lease(rt: HostRuntime) -> Result<(), Fail> {
     let (mut tree, mut desk) = three_coins(rt.alloc(), true)?;
-    let lease = lease_and_close(rt.alloc(), &mut tree, &mut desk, 1, 5).expect(&rt, "memory");
+    let leased = lease_and_close(rt.alloc(), &mut tree, &mut desk, 1, 5, Exit::Succeeded);
+    let lease = leased.expect(&rt, "memory");
     assert!(rt; tree.status(1) == Standing::Left);
-    let (ledger, _) = cancel_and_finish(tree, &mut desk, lease);
+    let (ledger, _) = cancel_and_finish(tree, &mut desk, lease, Exit::Canceled);
     let printed = text(rt.alloc(), &ledger)?;
     assert_eq!(rt;
         printed.as_slice(),
@@ -203,11 +212,11 @@ outer acquire 1 1
 outer open 2 1
 outer acquire 2 2
 outer lease 5 1
-outer close 0
-outer cancel 5
-outer final 2 ok
-outer final 1 ok
-outer final 0 ok
+outer close 0 succeeded
+outer cancel 5 canceled
+outer final 2 canceled ok
+outer final 1 canceled ok
+outer final 0 canceled ok
 "
             .as_slice()
     );
@@ -230,11 +239,11 @@ outer acquire 1 1
 outer open 2 1
 outer acquire 2 2
 outer lease 5 0
-outer close 0
-outer final 2 ok
-outer cancel 5
-outer final 1 ok
-outer final 0 ok
+outer close 0 errored
+outer final 2 errored ok
+outer cancel 5 canceled
+outer final 1 canceled ok
+outer final 0 canceled ok
 "
             .as_slice()
     );
@@ -246,7 +255,7 @@ fn a_scope_at_a_closed_one_is_opened_above_it(rt: HostRuntime) -> Result<(), Fai
     let (mut tree, mut desk) = three_coins(rt.alloc(), true)?;
     let scope = close_and_open(&mut tree, &mut desk);
     assert_eq!(rt; scope, 3);
-    let (ledger, _) = close_and_finish(tree, &mut desk);
+    let (ledger, _) = close_and_finish(tree, &mut desk, Exit::Succeeded);
     let printed = text(rt.alloc(), &ledger)?;
     assert_eq!(rt;
         printed.as_slice(),
@@ -256,12 +265,12 @@ outer open 1 0
 outer acquire 1 1
 outer open 2 1
 outer acquire 2 2
-outer close 1
-outer final 2 ok
-outer final 1 ok
+outer close 1 errored
+outer final 2 errored ok
+outer final 1 errored ok
 outer open 3 0
-outer close 0
-outer final 0 ok
+outer close 0 succeeded
+outer final 0 succeeded ok
 "
             .as_slice()
     );

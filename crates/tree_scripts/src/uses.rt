@@ -8,13 +8,13 @@ ghost use Rattle.tree_scripts.specs.Uses.{IsEndedWith, IsTwo};
 ghost use Rattle.tree_scripts.specs.Waiting.{IsAlone};
 
 use crate::scripts::{Coin, three_coins};
-use chunk_core::List;
+use chunk_core::{Exit, List};
 use res_ledger::StreamNo;
 use row_seat::{PlainSeat, RowSeat};
 use scope_tree::{Finish, Room, Spent, Tree};
 use std::test::Fail;
 
-/// Two rows in two scopes, and the root is closed.
+/// Two rows in two scopes, and the root is closed as succeeded.
 pub fn two<S: RowSeat>(
     seat: S,
     room: Room<S::Pay>,
@@ -36,11 +36,11 @@ where
     let child = tree.open(desk, 0);
     tree.acquired(desk, 0, 0, first);
     tree.acquired(desk, child, 1, second);
-    tree.close(desk, 0);
+    tree.close(desk, 0, Exit::Succeeded);
     tree.end()
 }
 
-/// Writes another payload into an open row, closes the root and ends the tree.
+/// Writes another payload into an open row, closes the root as canceled and ends the tree.
 pub fn write_and_end<S: RowSeat>(
     mut tree: Tree<S>,
     desk: &mut S::Desk,
@@ -50,14 +50,14 @@ pub fn write_and_end<S: RowSeat>(
 where
     S::Pay: Finish + Drop,
     requires fits { Fits S.view S.fits tree desk.old }
-    requires alone { IsAlone (S.view tree.seat) }
-    requires row { HasRow (S.view tree.seat).opened row }
+    requires alone { IsAlone (seen S.view tree).seat }
+    requires row { HasRow (seen S.view tree).seat.opened row }
     requires root { IsOpenScope (seen S.view tree) 0 }
     ensures ended { IsEndedWith S.Pay.ends row pay result.1 }
     ensures fits { S.fits result.0 desk.new }
 {
     *tree.pay_mut(row) = pay;
-    tree.close(desk, 0);
+    tree.close(desk, 0, Exit::Canceled);
     tree.end()
 }
 

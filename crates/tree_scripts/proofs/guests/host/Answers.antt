@@ -24,7 +24,7 @@ pub split-requires-clause-can : goal.split-requires-clause-can
 split-requires-clause-can g c =
     let e = host_acquired (ap (λ x. x.seat) c.new-tree.ensures.seen ∙ c.requires.start) c.acquired.ensures.acquires in
     let o = (rw c.expect-lease.ensures at c.lease.ensures.ok).1 in
-    host_splits (host_leased e o) c.lease.ensures.fits.sound.kept.empty (host_leases o)
+    host_splits (host_leased e o) c.lease.ensures.fits.sound.kept.rests.empty (host_leases o) c.requires.splits
 
 pub close-requires-clause-scope : goal.close-requires-clause-scope
 close-requires-clause-scope g c =

@@ -12,4 +12,4 @@ end-seat-requires-clause-closed g c = subst (λ v. IsClosed v.events v.by 0) (sy
 pub finish-requires-clause-can : goal.finish-requires-clause-can
 finish-requires-clause-can g c =
     let r = c.end-seat.ensures.rest in
-    host_rests (g.S.RowSeat.view c.args.tree.seat) (g.S.RowSeat.view c.args.guest) (g.S.RowSeat.view c.end-seat.result.0) c.requires.host c.requires.rest.1 (ap g.S.RowSeat.view c.end-seat.ensures.seat ∙ ap (λ x. x.seat) c.join.ensures.seen) r
+    host_rests (g.S.RowSeat.view c.args.tree.seat) (g.S.RowSeat.view c.args.guest) (g.S.RowSeat.view c.end-seat.result.0) c.requires.host c.requires.rest.1 (c.end-seat.ensures.seat ∙ ap (λ x. x.seat) c.join.ensures.seen) r

@@ -4,14 +4,15 @@ use Rattle.res_ledger.specs.declared.event.What.TheVariants.{Cancel}
 use Rattle.row_seat.specs.Views.{MayNote}
 use Rattle.scope_tree.specs.Calls.{used}
 use Rattle.tree_scripts.specs.Guests.{IsGuest}
-use Rattle.scope_tree.specs.Leaving.{away}
+use Rattle.scope_tree.specs.Released.{away}
 use Rattle.scope_tree.specs.Rows.{strangers}
 use Rattle.scope_tree.specs.Trees.{seen}
 use Rattle.scope_tree.specs.Words.{owed, own_rows}
-use Rattle.scope_tree.proofs.Untouched.{cancel_closed}
 use Rattle.scope_tree.proofs.Use.{closed_now}
 use Rattle.tree_scripts.proofs.Visits.{guest_begins, guest_by, guest_cancels, guest_free, guest_leases, guest_may, guest_open, guest_rests, guest_room}
 use Rattle.tree_scripts.proofs.guests.visit.Goals as goal
+use Rattle.chunk_core.specs.declared.code.Exit.TheVariants.{Errored}
+use Rattle.scope_tree.proofs.Use.{cancel_closed}
 
 pub acquired-requires-clause-row : goal.acquired-requires-clause-row
 acquired-requires-clause-row g c = (guest_begins (seen g.S.RowSeat.view c.new-tree.result) (subst IsGuest (sym (ap (λ x. x.seat) c.new-tree.ensures.seen)) c.requires.guest)).1
@@ -22,7 +23,7 @@ close-requires-clause-scope g c = guest_open (subst IsGuest (sym (ap (λ x. x.se
 pub cancel-requires-clause-may : goal.cancel-requires-clause-may
 cancel-requires-clause-may g c =
     let a = subst IsGuest (sym (ap (λ x. x.seat) c.new-tree.ensures.seen)) c.requires.guest in
-    subst (λ j. MayNote (g.S.RowSeat.view c.close.new.self.seat) (Cancel j)) (sym c.requires.lease.0) (guest_may a c.acquired.ensures.acquires c.close.ensures.closes)
+    subst (λ j. MayNote (g.S.RowSeat.view c.close.new.self.seat) (Cancel j Errored)) (sym c.requires.lease.0) (guest_may a c.acquired.ensures.acquires c.close.ensures.closes)
 
 pub cancel-requires-clause-pairs : goal.cancel-requires-clause-pairs
 cancel-requires-clause-pairs g c = λ r m.
@@ -48,7 +49,7 @@ pub returns-clause-rest : goal.returns-clause-rest
 returns-clause-rest g c =
     let a = subst IsGuest (sym (ap (λ x. x.seat) c.new-tree.ensures.seen)) c.requires.guest in let o = c.acquired.ensures.acquires in let k = c.close.ensures.closes in
     let r = guest_rests a o k (guest_cancels a o k c.requires.lease.0 c.requires.lease.1 c.cancel.ensures.cancels) in let e = c.end-seat.ensures.rest in
-    let is = ap g.S.RowSeat.view c.end-seat.ensures.seat in
+    let is = c.end-seat.ensures.seat in
     ((e.0, e.3, ap (λ v. v.pairs) is ∙ r.1, ap (λ v. v.kept) is ∙ r.2, e.1, e.2), ap (λ v. v.by) is ∙ r.0)
 
 pub returns-clause-others : goal.returns-clause-others

@@ -6,13 +6,13 @@ use Rattle.scope_tree.specs.Trees.{seen}
 use Rattle.tree_scripts.specs.Waiting.{Settles}
 use Rattle.scope_tree.specs.Words.{own_rows}
 use Rattle.scope_tree.proofs.Distinct.{test_distinct}
-use Rattle.scope_tree.proofs.Untouched.{cancel_closed}
 use Rattle.tree_scripts.proofs.Finished.{cancel_rest, cancel_settles}
 use Rattle.scope_tree.proofs.Leasing.{among_pairs}
-use Rattle.scope_tree.proofs.Quitting.{away_le}
 use Rattle.scope_tree.proofs.Rooms.{strangers_none}
 use Rattle.scope_tree.proofs.Owed.{nothing_owed}
 use Rattle.tree_scripts.proofs.scripts.cancel_and_finish.Goals as goal
+use Rattle.scope_tree.proofs.Lists.{away_le}
+use Rattle.scope_tree.proofs.Use.{cancel_closed}
 
 pub cancel-requires-clause-may : goal.cancel-requires-clause-may
 cancel-requires-clause-may g c = (subst (λ l. IsAmong c.args.lease.stream l) (sym c.requires.waits.kept) (here []), λ e. absurd (c.requires.waits.by e))
@@ -35,12 +35,12 @@ end-seat-requires-clause-closed g c = cancel_closed c.cancel.ensures.cancels 0 c
 pub finish-requires-clause-can : goal.finish-requires-clause-can
 finish-requires-clause-can g c =
     let r = cancel_rest c.cancel.ensures.cancels c.requires.waits in let e = c.end-seat.ensures.rest in
-    let is = ap g.S.RowSeat.view c.end-seat.ensures.seat in
+    let is = c.end-seat.ensures.seat in
     (ap (λ v. v.main) is ∙ r.0, (e.0, e.3, ap (λ v. v.pairs) is ∙ r.1, ap (λ v. v.kept) is ∙ r.2, e.1, e.2), ap (λ v. v.out) is ∙ r.3)
 
 pub returns : goal.returns
 returns g c =
     let t = c.args.tree in let z = c.requires.fits.sound in let T = c.args.lease.rows.items in
-    let is : IsLedgerOf (g.S.RowSeat.view c.cancel.new.self.seat) c.finish.result = subst (λ s. IsLedgerOf (g.S.RowSeat.view s) c.finish.result) c.end-seat.ensures.seat c.finish.ensures in
-    subst (λ l. Settles g.S.Pay.Finish.ends (seen g.S.RowSeat.view t) c.args.lease.stream T c.finish.result l) (sym c.end-seat.ensures.shelf)
+    let is : IsLedgerOf (g.S.RowSeat.view c.cancel.new.self.seat) c.finish.result = subst (λ v. IsLedgerOf v c.finish.result) c.end-seat.ensures.seat c.finish.ensures in
+    subst (λ l. Settles g.S.Pay.Finish.ends (seen g.S.RowSeat.view t) c.args.lease.stream T c.args.exit c.finish.result l) (sym c.end-seat.ensures.shelf)
     (cancel_settles c.cancel.ensures.cancels c.requires.waits t.held.items c.finish.result z.shelved (test_distinct T c.args.lease.distinct) is c.cancel.ensures.fits.sound.shelved.rises)

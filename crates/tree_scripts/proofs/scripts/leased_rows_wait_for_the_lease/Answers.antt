@@ -3,11 +3,11 @@ use Rattle.chunk_core.specs.Lists.IsAmong.{here}
 use Rattle.tree_scripts.proofs.ThreeRows.{three_alone, three_open, three_unleased}
 use Rattle.tree_scripts.proofs.scripts.leased_rows_wait_for_the_lease.Goals as goal
 
-pub lease_and_close-requires-clause-alone : goal.lease_and_close-requires-clause-alone
-lease_and_close-requires-clause-alone g c = three_alone c.in_ok-tree.ensures.three.3
+pub lease_and_close-leased-requires-clause-alone : goal.lease_and_close-leased-requires-clause-alone
+lease_and_close-leased-requires-clause-alone g c = three_alone c.in_ok-tree.ensures.three.3
 
-pub lease_and_close-requires-clause-scope : goal.lease_and_close-requires-clause-scope
-lease_and_close-requires-clause-scope g c = three_open c.in_ok-tree.ensures.three.3 1 (inr (0, here ((2, 1) ∷ [])))
+pub lease_and_close-leased-requires-clause-scope : goal.lease_and_close-leased-requires-clause-scope
+lease_and_close-leased-requires-clause-scope g c = three_open c.in_ok-tree.ensures.three.3 1 (inr (0, here ((2, 1) ∷ [])))
 
-pub lease_and_close-requires-clause-stream : goal.lease_and_close-requires-clause-stream
-lease_and_close-requires-clause-stream g c = three_unleased c.in_ok-tree.ensures.three.3 5
+pub lease_and_close-leased-requires-clause-stream : goal.lease_and_close-leased-requires-clause-stream
+lease_and_close-leased-requires-clause-stream g c = three_unleased c.in_ok-tree.ensures.three.3 5

@@ -12,15 +12,15 @@ use Rattle.scope_tree.proofs.Use.{all_open}
 use Rattle.tree_scripts.proofs.scripts.three_rows.Goals as goal
 
 pub new-tree-requires : goal.new-tree-requires
-new-tree-requires g c = record { start = script_start (g.S.RowSeat.view c.args.seat) Outer 3 16 (lit≤ tt) c.requires.start }
+new-tree-requires g c = record { start = script_start (g.S.RowSeat.view c.args.seat) Outer 3 16 _ (lit≤ tt) c.requires.start }
 
 pub acquired-requires : goal.acquired-requires
 acquired-requires g c =
-    let first = c.args.first in let second = c.args.second in let third = c.args.third in
+    let splits = (g.S.RowSeat.view c.args.seat).splits in let first = c.args.first in let second = c.args.second in let third = c.args.third in
     let a0 = first_is c.new-tree.ensures.seen c.requires.start c.requires.room.0 c.requires.room.1 in
     record {
       fits = c.new-tree.ensures.fits c.args.desk.now c.requires.fits;
-      scope = subst (λ a. IsOpenScope a 0) (sym a0) (all_open {P = g.row.S-Pay.Denot} (start Outer 3 16) 0 refl (inl refl));
+      scope = subst (λ a. IsOpenScope a 0) (sym a0) (all_open {P = g.row.S-Pay.Denot} (start Outer 3 16 splits) 0 refl (inl refl));
       row = subst (λ (a : Seen _). IsAmong 0 a.seat.empty) (sym a0) (here (1 ∷ 2 ∷ []));
       room = subst (λ a. used a + 1 ≤ a.rows) (sym a0) (lit≤ tt);
       free = subst (λ (a : Seen _). owed a.seat + 2 ≤ a.seat.spare) (sym a0) (lit≤ tt);
@@ -28,9 +28,9 @@ acquired-requires g c =
 
 pub open-requires : goal.open-requires
 open-requires g c =
-    let first = c.args.first in let second = c.args.second in let third = c.args.third in
+    let splits = (g.S.RowSeat.view c.args.seat).splits in let first = c.args.first in let second = c.args.second in let third = c.args.third in
     let a0 = first_is c.new-tree.ensures.seen c.requires.start c.requires.room.0 c.requires.room.1 in
-    let A1 = with_row at_first 0 0 c.acquired.ensures.acquires.stamp first in let a1 = acquires_is at_first a0 c.acquired.ensures.acquires in
+    let A1 = with_row (at_first splits) 0 0 c.acquired.ensures.acquires.stamp first in let a1 = acquires_is (at_first splits) a0 c.acquired.ensures.acquires in
     record {
       fits = c.acquired.ensures.fits;
       root = subst (λ a. ¬ (IsClosedScope a 0)) (sym a1) (all_open A1.seat 0 refl (inl refl)).1;
@@ -41,9 +41,9 @@ open-requires g c =
 
 pub acquired-requires-2 : goal.acquired-requires-2
 acquired-requires-2 g c =
-    let first = c.args.first in let second = c.args.second in let third = c.args.third in
+    let splits = (g.S.RowSeat.view c.args.seat).splits in let first = c.args.first in let second = c.args.second in let third = c.args.third in
     let a0 = first_is c.new-tree.ensures.seen c.requires.start c.requires.room.0 c.requires.room.1 in
-    let A1 = with_row at_first 0 0 c.acquired.ensures.acquires.stamp first in let a1 = acquires_is at_first a0 c.acquired.ensures.acquires in
+    let A1 = with_row (at_first splits) 0 0 c.acquired.ensures.acquires.stamp first in let a1 = acquires_is (at_first splits) a0 c.acquired.ensures.acquires in
     let A2 = with_scope A1 1 0 c.open.ensures.opens.stamp in let a2 = opens_is A1 a1 (all_open A1.seat 0 refl (inl refl)).1 c.open.ensures.opens in
     record {
       fits = c.open.ensures.fits;
@@ -55,9 +55,9 @@ acquired-requires-2 g c =
 
 pub open-requires-2 : goal.open-requires-2
 open-requires-2 g c =
-    let first = c.args.first in let second = c.args.second in let third = c.args.third in
+    let splits = (g.S.RowSeat.view c.args.seat).splits in let first = c.args.first in let second = c.args.second in let third = c.args.third in
     let a0 = first_is c.new-tree.ensures.seen c.requires.start c.requires.room.0 c.requires.room.1 in
-    let A1 = with_row at_first 0 0 c.acquired.ensures.acquires.stamp first in let a1 = acquires_is at_first a0 c.acquired.ensures.acquires in
+    let A1 = with_row (at_first splits) 0 0 c.acquired.ensures.acquires.stamp first in let a1 = acquires_is (at_first splits) a0 c.acquired.ensures.acquires in
     let A2 = with_scope A1 1 0 c.open.ensures.opens.stamp in let a2 = opens_is A1 a1 (all_open A1.seat 0 refl (inl refl)).1 c.open.ensures.opens in
     let A3 = with_row A2 1 1 c.acquired-2.ensures.acquires.stamp second in let a3 = acquires_is A2 a2 c.acquired-2.ensures.acquires in
     record {
@@ -70,9 +70,9 @@ open-requires-2 g c =
 
 pub acquired-requires-3 : goal.acquired-requires-3
 acquired-requires-3 g c =
-    let first = c.args.first in let second = c.args.second in let third = c.args.third in
+    let splits = (g.S.RowSeat.view c.args.seat).splits in let first = c.args.first in let second = c.args.second in let third = c.args.third in
     let a0 = first_is c.new-tree.ensures.seen c.requires.start c.requires.room.0 c.requires.room.1 in
-    let A1 = with_row at_first 0 0 c.acquired.ensures.acquires.stamp first in let a1 = acquires_is at_first a0 c.acquired.ensures.acquires in
+    let A1 = with_row (at_first splits) 0 0 c.acquired.ensures.acquires.stamp first in let a1 = acquires_is (at_first splits) a0 c.acquired.ensures.acquires in
     let A2 = with_scope A1 1 0 c.open.ensures.opens.stamp in let a2 = opens_is A1 a1 (all_open A1.seat 0 refl (inl refl)).1 c.open.ensures.opens in
     let A3 = with_row A2 1 1 c.acquired-2.ensures.acquires.stamp second in let a3 = acquires_is A2 a2 c.acquired-2.ensures.acquires in
     let A4 = with_scope A3 2 1 c.open-2.ensures.opens.stamp in let a4 = opens_is A3 a3 (all_open A3.seat 1 refl (inr (0, here []))).1 c.open-2.ensures.opens in
@@ -86,11 +86,11 @@ acquired-requires-3 g c =
 
 pub returns-clause-three : goal.returns-clause-three
 returns-clause-three g c =
-    let first = c.args.first in let second = c.args.second in let third = c.args.third in
+    let splits = (g.S.RowSeat.view c.args.seat).splits in let first = c.args.first in let second = c.args.second in let third = c.args.third in
     let a0 = first_is c.new-tree.ensures.seen c.requires.start c.requires.room.0 c.requires.room.1 in
-    let A1 = with_row at_first 0 0 c.acquired.ensures.acquires.stamp first in let a1 = acquires_is at_first a0 c.acquired.ensures.acquires in
+    let A1 = with_row (at_first splits) 0 0 c.acquired.ensures.acquires.stamp first in let a1 = acquires_is (at_first splits) a0 c.acquired.ensures.acquires in
     let A2 = with_scope A1 1 0 c.open.ensures.opens.stamp in let a2 = opens_is A1 a1 (all_open A1.seat 0 refl (inl refl)).1 c.open.ensures.opens in
     let A3 = with_row A2 1 1 c.acquired-2.ensures.acquires.stamp second in let a3 = acquires_is A2 a2 c.acquired-2.ensures.acquires in
     let A4 = with_scope A3 2 1 c.open-2.ensures.opens.stamp in let a4 = opens_is A3 a3 (all_open A3.seat 1 refl (inr (0, here []))).1 c.open-2.ensures.opens in
     let a5 = acquires_is A4 a4 c.acquired-3.ensures.acquires in
-    (c.acquired.ensures.acquires.stamp, c.open.ensures.opens.stamp, c.acquired-2.ensures.acquires.stamp, c.open-2.ensures.opens.stamp, c.acquired-3.ensures.acquires.stamp, a5)
+    (splits, c.acquired.ensures.acquires.stamp, c.open.ensures.opens.stamp, c.acquired-2.ensures.acquires.stamp, c.open-2.ensures.opens.stamp, c.acquired-3.ensures.acquires.stamp, a5)

@@ -8,7 +8,7 @@ use Rattle.tree_scripts.proofs.ThreeRows.{script_start}
 use Rattle.tree_scripts.proofs.uses.ends_two_rows_of_a_plain_seat.Goals as goal
 
 pub two-shelf-requires-clause-start : goal.two-shelf-requires-clause-start
-two-shelf-requires-clause-start g c = script_start (shown c.in_ok-seat.seat) Outer 2 7 (lit≤ tt) c.in_ok-seat.ensures.0
+two-shelf-requires-clause-start g c = script_start (shown c.in_ok-seat.seat) Outer 2 7 _ (lit≤ tt) c.in_ok-seat.ensures.0
 
 pub two-shelf-requires-clause-rows : goal.two-shelf-requires-clause-rows
 two-shelf-requires-clause-rows g c =

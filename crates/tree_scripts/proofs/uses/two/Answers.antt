@@ -4,11 +4,12 @@ use Rattle.chunk_core.specs.Lists.IsAmong.{here, there}
 use Rattle.res_ledger.specs.declared.event.What.TheVariants.{Open, Acquire, Final}
 use Rattle.res_ledger.specs.Own.{opens, closes}
 use Rattle.res_ledger.specs.Order.{finals}
-use Rattle.scope_tree.specs.Torn.{said}
+use Rattle.scope_tree.specs.Released.{said}
 use Rattle.scope_tree.specs.Words.{words}
-use Rattle.scope_tree.proofs.Use.{all_open, start_said, open_number, open_one, acquire_more}
-use Rattle.tree_scripts.proofs.Chain.{close_four, close_rows, root_closed, two_of, two_opened, two_pays, still_empty, Three, Four}
+use Rattle.scope_tree.proofs.Use.{acquire_more, all_open, closed_now, open_number, open_one, start_said}
+use Rattle.tree_scripts.proofs.Chain.{close_four, close_rows, two_of, two_opened, two_pays, still_empty, Three, Four}
 use Rattle.tree_scripts.proofs.uses.two.Goals as goal
+use Rattle.chunk_core.specs.declared.code.Exit.TheVariants.{Succeeded}
 
 pub open-child-requires-clause-root : goal.open-child-requires-clause-root
 open-child-requires-clause-root g c =
@@ -45,7 +46,7 @@ end-requires g c =
     let w5 : words (g.S.RowSeat.view c.acquired-2.new.self.seat) ≡ Three = w4 ∙ ap (λ n. Open 1 0 ∷ Acquire 0 0 ∷ Acquire 1 n ∷ []) (open_number w c.open-child.ensures.opens) in
     record {
       tree = c.close.ensures.fits.sound;
-      closed = root_closed w5 c.close.ensures.closes;
+      closed = closed_now c.close.ensures.closes;
     }
 
 pub returns-clause-two : goal.returns-clause-two
@@ -57,14 +58,15 @@ returns-clause-two g c =
     let t = two_of xs 1 0 (close_rows w5 k) in
     let shelf : c.acquired-2.new.self.shelf.items ≡ [] = c.acquired-2.ensures.acquires.shelf ∙ c.acquired.ensures.acquires.shelf ∙ c.open-child.ensures.opens.shelf ∙ ap (λ x. x.shelf) c.new-tree.ensures.seen in
     let opened = two_opened (ap (λ x. x.seat.opened) c.new-tree.ensures.seen ∙ c.requires.start.opened) c.open-child.ensures.opens c.acquired.ensures.acquires c.acquired-2.ensures.acquires in
-    let once = c.acquired-2.ensures.fits.sound.kept.once in
+    let once = c.acquired-2.ensures.fits.sound.kept.holds.once in
     let one = two_pays t.0 1 c.args.second k once opened (subst (λ l. IsAmong t.0 l) (sym t.2) (here (t.1 ∷ []))) t.3 (there (0, c.args.first) (here [])) in
     let other = two_pays t.1 0 c.args.first k once opened (subst (λ l. IsAmong t.1 l) (sym t.2) (there t.0 (here []))) t.4 (here ((1, c.args.second) ∷ [])) in
     record {
       one = t.0;
       other = t.1;
       rows = (t.3, t.4);
-      finished = (one, other);
+      exits = (one.0, other.0);
+      finished = (one.1, other.1);
       shelf_is = c.end.ensures.shelf ∙ k.torn.1 ∙ ap (λ l. l ++ xs) shelf ∙ t.2;
-      events = ap (λ s. words (g.S.RowSeat.view s)) c.end.ensures.seat ∙ close_four w5 k ∙ ap (λ l. Four ++ finals (said l)) t.2 ∙ ap (λ r. Four ++ Final r t.0.ok ∷ Final t.1.row t.1.ok ∷ []) t.3 ∙ ap (λ r. Four ++ Final 1 t.0.ok ∷ Final r t.1.ok ∷ []) t.4;
+      events = ap words c.end.ensures.seat ∙ close_four w5 k ∙ ap (λ l. Four ++ finals Succeeded (said l)) t.2 ∙ ap (λ r. Four ++ Final r Succeeded t.0.ok ∷ Final t.1.row Succeeded t.1.ok ∷ []) t.3 ∙ ap (λ r. Four ++ Final 1 Succeeded t.0.ok ∷ Final r Succeeded t.1.ok ∷ []) t.4;
     }
