@@ -10,24 +10,25 @@ use Rattle.res_ledger.specs.Ledger.{IsAcquired, IsClosed, IsFinalized, IsLeased}
 use Rattle.res_ledger.specs.Order.{finals, firsts}
 use Rattle.res_ledger.specs.Own.{closes, leased_of, leased_rows, rows, teardown}
 use Rattle.res_ledger.proofs.Growth.{noted_new}
-use Rattle.res_ledger.proofs.Ledgers.{closed_map}
 use Rattle.row_seat.specs.declared.view.View.{View}
 use Rattle.row_seat.specs.Views.{AtRest, CanFinish, CanJoin, CanSplit, IsWithin, MayNote, joined, name_of, noted, placed, split_main, start, without}
 use Rattle.scope_tree.specs.declared.branch.Spent.{Spent}
 use Rattle.scope_tree.specs.Calls.{Acquires, Cancels, Closes, IsOpenScope, Leases, Seen, used}
-use Rattle.tree_scripts.specs.Guests.{IsGuest, IsHost}
+use Rattle.tree_scripts.specs.Guests.{HasVisited, IsGuest, IsHost}
 use Rattle.scope_tree.specs.Leased.{leased_all}
 use Rattle.scope_tree.specs.Rows.{strangers}
 use Rattle.scope_tree.specs.Released.{away, said}
-use Rattle.scope_tree.specs.Words.{acquiring, leasing, numbers, open_scopes, owed, own_rows, words}
+use Rattle.scope_tree.specs.Words.{acquiring, closing, leasing, numbers, open_scopes, owed, own_rows, words}
 use Rattle.scope_tree.proofs.Bridge.{in_noted, noted_in, rows_in}
-use Rattle.scope_tree.proofs.Use.{acquire_more, all_open, cancel_follows, close_follows, close_pairs, closed_now, closed_said, start_said}
+use Rattle.scope_tree.proofs.Use.{acquire_more, all_open, cancel_follows, canceled_said, close_follows, close_pairs, closed_said, start_said}
 use Rattle.tree_scripts.proofs.Chain.{one_of}
 use Rattle.tree_scripts.proofs.Outcomes.{unleased}
 use Rattle.tree_scripts.proofs.ThreeRows.{each_among, no_lease}
 use Rattle.tree_scripts.proofs.Waits.{close_unleased}
 use Rattle.chunk_core.specs.declared.code.Exit.{Exit}
-use Rattle.scope_tree.proofs.Follows.{same_by, same_main}
+use Rattle.chunk_core.specs.declared.code.Exit.TheVariants.{Succeeded, Errored}
+use Rattle.res_ledger.specs.Ledger.LiesWithin.{same}
+use Rattle.scope_tree.proofs.Follows.{follows_mine, same_by, same_main}
 use Rattle.scope_tree.proofs.Lessee.{lease_pairs_none}
 use Rattle.scope_tree.proofs.Lists.{away_le}
 use Rattle.scope_tree.proofs.Owning.{owner_count}
@@ -84,12 +85,12 @@ module _ {P : Type 0} where
   host_open a v {splits = splits} {p = p} {n = n} {k = k} e s =
       let f : a.seat ≡ split_main (host_lease splits p n k) 5 1 2 5 = s ∙ ap (λ x. split_main x 5 1 2 5) e in all_open a.seat 0 (ap (λ x. closes (words x)) f) (inl refl)
 
-  pub host_of : {ends : P → Exit → Bool → P → Type 0} {x : Exit} {splits : ℕ} {a b : Seen P} {v : View P} {p : P} {n k : ℕ} → v ≡ host_lease splits p n k → a.seat ≡ split_main v 5 1 2 5 → Closes ends a 0 x b → IsHost b.seat
+  pub host_of : {ends : P → Exit → Bool → P → Type 0} {splits : ℕ} {a b : Seen P} {v : View P} {p : P} {n k : ℕ} → v ≡ host_lease splits p n k → a.seat ≡ split_main v 5 1 2 5 → Closes ends a 0 Succeeded b → IsHost b.seat
   host_of {splits = splits} {a = a} {p = p} {n = n} {k = k} e s c =
       let f : a.seat ≡ split_main (host_lease splits p n k) 5 1 2 5 = s ∙ ap (λ x. split_main x 5 1 2 5) e in let g = close_follows c in record {
         main = same_main g ∙ ap (λ x. x.main) f;
         by = same_by g ∙ ap (λ x. x.by) f;
-        closed = closed_now c;
+        closed = follows_mine g (noted_new a.seat.events (closing a.seat 0 Succeeded c.stamp));
         pairs = close_pairs c ∙ ap (λ x. x.pairs) f;
         kept = ap (λ z. z.kept) g.same ∙ ap (λ x. x.kept) f;
         out = ap (λ z. z.out) g.same ∙ ap (λ x. x.out) f;
@@ -100,7 +101,7 @@ module _ {P : Type 0} where
   host_joins v w h r b = (h.main, (5, b, subst (λ l. IsAmong 5 l) (sym h.out) (here [])), r)
 
   pub host_closed : (v w : View P) → IsHost v → IsClosed (joined v w).events (joined v w).by 0
-  host_closed v w h = closed_map v.events (v.events ++ w.events) v.by (λ u n. (n.0, among_left w.events n.1, n.2, n.3)) 0 h.closed
+  host_closed v w h = (0, same 0, (Succeeded, (h.closed.0, among_left w.events h.closed.1, h.closed.2, h.closed.3)))
 
   pub host_rests : (v w u : View P) → IsHost v → w.by ≡ Inner 5 → u ≡ joined v w → (u.opened ≡ []) × (u.handed ≡ []) × (u.taken ≡ []) × ((r : ℕ) → IsAmong r u.empty → ¬ (IsAcquired u.events r)) → CanFinish u
   host_rests v w u h b e r = (
@@ -171,6 +172,10 @@ module _ {P : Type 0} where
 
       pub guest_cancels : {y : Exit} {e : Seen P} {j : ℕ} {T : List ℕ} → j ≡ 5 → T ≡ 0 ∷ [] → Cancels ends d j T y e → Cancels ends d 5 (0 ∷ []) y e
       guest_cancels {y = y} {e = e} {T = T} i s q = subst (λ U. Cancels ends d 5 U y e) s (subst (λ j. Cancels ends d j T y e) i q)
+
+      -- which is what it noted
+      pub guest_visited : {e : Seen P} → (let y : Exit = Errored in x ≡ y) → Cancels ends d 5 (0 ∷ []) Errored e → HasVisited e.seat
+      guest_visited i q = (guest_words.0, said q.left.0, canceled_said q ∙ ap (λ E. E ++ Cancel 5 Errored ∷ finals Errored (said q.left.0)) (guest_words.1 ∙ ap (λ y. Acquire 1 0 ∷ Close 0 y ∷ Final 1 y guest_words.0 ∷ []) i))
 
       -- after which nothing of it is left
       pub guest_rests : {y : Exit} {e : Seen P} → Cancels ends d 5 (0 ∷ []) y e → (e.seat.by ≡ Inner 5) × (e.seat.pairs ≡ []) × (e.seat.kept ≡ [])

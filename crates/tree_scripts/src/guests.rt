@@ -2,7 +2,7 @@
 ghost use Rattle.std.specs.Prelude.{◌≡◌, ◌≤◌, [], ◌∷◌};
 ghost use Rattle.res_ledger.specs.declared.event.StreamNo.TheVariants.{Inner, Outer};
 ghost use Rattle.row_seat.specs.Views.{AtRest, OthersFit, start};
-ghost use Rattle.tree_scripts.specs.Guests.{IsGuest, IsHost};
+ghost use Rattle.tree_scripts.specs.Guests.{HasVisited, IsGuest, IsHost};
 ghost use Rattle.scope_tree.specs.Trees.{Fits, seen};
 
 use crate::scripts::Coin;
@@ -60,6 +60,7 @@ where
     requires room { 2 ≤ room.rows }
     requires lease { (lease.stream ≡ 5) × (lease.rows.items ≡ 0 ∷ []) }
     ensures rest { AtRest (S.view result) × ((S.view result).by ≡ Inner 5) }
+    ensures visited { HasVisited (S.view result) }
     ensures fits { S.fits result desk.new }
     ensures others { OthersFit S.view S.fits (Inner 5) desk.old desk.new }
 {

@@ -1,15 +1,15 @@
-use Rattle.std.proofs.Common.{◌+◌, ◌≤◌, sym, ap, ◌∙◌, subst, arith}
+use Rattle.std.proofs.Common.{◌+◌, ◌≤◌, refl, sym, ap, ◌∙◌, subst, arith}
 use Rattle.chunk_core.specs.Lists.{IsAmong}
 use Rattle.res_ledger.specs.declared.event.What.TheVariants.{Cancel}
 use Rattle.row_seat.specs.Views.{MayNote}
 use Rattle.scope_tree.specs.Calls.{used}
-use Rattle.tree_scripts.specs.Guests.{IsGuest}
+use Rattle.tree_scripts.specs.Guests.{HasVisited, IsGuest}
 use Rattle.scope_tree.specs.Released.{away}
 use Rattle.scope_tree.specs.Rows.{strangers}
 use Rattle.scope_tree.specs.Trees.{seen}
 use Rattle.scope_tree.specs.Words.{owed, own_rows}
 use Rattle.scope_tree.proofs.Use.{closed_now}
-use Rattle.tree_scripts.proofs.Visits.{guest_begins, guest_by, guest_cancels, guest_free, guest_leases, guest_may, guest_open, guest_rests, guest_room}
+use Rattle.tree_scripts.proofs.Visits.{guest_begins, guest_by, guest_cancels, guest_free, guest_leases, guest_may, guest_open, guest_rests, guest_room, guest_visited}
 use Rattle.tree_scripts.proofs.guests.visit.Goals as goal
 use Rattle.chunk_core.specs.declared.code.Exit.TheVariants.{Errored}
 use Rattle.scope_tree.proofs.Use.{cancel_closed}
@@ -58,3 +58,8 @@ returns-clause-others g c = λ s ne f.
     let x = c.acquired.ensures.others s (λ e. ne (e ∙ a.by)) f in
     let y = c.close.ensures.others s (λ e. ne (e ∙ ap (λ v. v.by) o.seat ∙ a.by)) x in
     c.cancel.ensures.others s (λ e. ne (e ∙ guest_by a o k)) y
+
+pub returns-clause-visited : goal.returns-clause-visited
+returns-clause-visited g c =
+    let a = subst IsGuest (sym (ap (λ x. x.seat) c.new-tree.ensures.seen)) c.requires.guest in let o = c.acquired.ensures.acquires in let k = c.close.ensures.closes in
+    subst HasVisited (sym c.end-seat.ensures.seat) (guest_visited a o k refl (guest_cancels a o k c.requires.lease.0 c.requires.lease.1 c.cancel.ensures.cancels))
