@@ -11,11 +11,13 @@ use res_ledger::{Ledger, StreamNo, text};
 use row_seat::{PlainSeat, RowSeat};
 use scope_tree::{Finish, Lease, Room, Standing, Tree};
 use std::alloc::Global;
+#[cfg(test)]
 use std::process::Abort;
 use std::test::Fail;
 
 /// The root and its row are leased for the stream 5, whose seat is split off, and closed as
 /// succeeded.
+#[cfg(test)]
 pub fn host<S: RowSeat>(
     rt: &impl Abort,
     alloc: Global,
