@@ -52,7 +52,7 @@ compare() {
 make_file "$work/large" "$megabytes"
 make_file "$work/small" 1
 last=$("$flume" cat "$work/large" | tail -n 1)
-if [ "$last" != "0 final 0 ok" ]; then
+if [ "$last" != "0 final 0 succeeded ok" ]; then
   echo "the run went wrong: $last" >&2
   exit 1
 fi

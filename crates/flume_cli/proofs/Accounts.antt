@@ -1,178 +1,205 @@
 -- What a ledger of one stream alone says of its rows.
-use Rattle.std.proofs.Common.{◌≡◌, ◌≢◌, ℕ, zero, suc, ◌<◌, ◌≤◌, Bool, true, false, cond, ◌&&◌, ◌||◌, nat_eq, nat_lt, List, [], ◌∷◌, ◌++◌, ◌⊎◌, inl, inr, map, length, count_by, Option, Some, None, refl, sym, ◌∙◌, ap, subst, ⊎_elim, arith, append_assoc}
-use Rattle.std.proofs.lemmas.Bool.Decides.{nat_tests}
-use Rattle.std.proofs.lemmas.Bool.{cases_lt}
+use Rattle.std.proofs.Common.{◌≡◌, ℕ, zero, suc, ◌+◌, ◌<◌, Bool, true, false, cond, ◌&&◌, ◌||◌, nat_eq, nat_lt, List, [], ◌∷◌, ◌++◌, map, length, count_by, Option, Some, None, refl, sym, ◌∙◌, ap, subst, ⊎_elim, arith}
+use Rattle.std.proofs.lemmas.Bool.{eqb-false, false≢true, false_from_ne_true, lt-ltb, ltb-true, ne_eqb}
+use Rattle.std.proofs.lemmas.List.Sums.{sum_by-cons}
 use Rattle.std.specs.List.{list_any as any, list_all as all}
+use Rattle.std.specs.List.Sorted.{IsPermutation}
 use Rattle.chunk_core.specs.Lists.{Each, IsAmong}
 use Rattle.chunk_core.specs.Lists.IsAmong.{here, there}
-use Rattle.chunk_core.proofs.Members.{among_mid, among_left}
+use Rattle.chunk_core.specs.Outcomes.{exit_of}
+use Rattle.chunk_core.specs.declared.code.Exit.{Exit}
+use Rattle.chunk_core.specs.declared.code.How.{How}
+use Rattle.chunk_core.proofs.Members.{among_left}
+use Rattle.chunk_core.proofs.Filters.{among_filter}
 use Rattle.res_ledger.specs.declared.event.StreamNo.{StreamNo}
 use Rattle.res_ledger.specs.declared.event.StreamNo.TheVariants.{Inner}
 use Rattle.res_ledger.specs.declared.event.What.{What}
-use Rattle.res_ledger.specs.declared.event.What.TheVariants.{Open, Acquire, Lease, Cancel, Close, Final}
+use Rattle.res_ledger.specs.declared.event.What.TheVariants.{Acquire, Close, Final}
 use Rattle.res_ledger.specs.declared.event.Event.{Event}
-use Rattle.res_ledger.specs.Ledger.{Notes, IsAcquired, IsLegal, MayFollow}
-use Rattle.res_ledger.specs.Streams.{same_stream}
+use Rattle.res_ledger.specs.Ledger.{Notes, IsLegal, MayFollow}
+use Rattle.res_ledger.specs.Order.{same_exit}
+use Rattle.res_ledger.specs.Streams.{by_stream, same_stream}
 use Rattle.res_ledger.specs.Whole.{is_final}
+use Rattle.res_ledger.proofs.Ledgers.{by_out}
+use Rattle.res_ledger.proofs.Noted.{is_final_shape}
 use Rattle.res_ledger.proofs.Prefixes.{split_at}
-use Rattle.res_ledger.proofs.Tests.{itself, number, each_passes, or_left, or_right}
+use Rattle.res_ledger.proofs.Tests.{any_at, each_passes, exit_is, exit_same, number}
 use Rattle.device_port.specs.Device.{Place, DeviceTold}
-use Rattle.run_rules.specs.Facts.{at, acquired_row, failed_row, leased_stream, is_failed, has}
-use Rattle.run_rules.specs.Devices.{IsRowBelow}
-use Rattle.run_rules.specs.Run.{IsTied, is_named, is_owned, is_ours}
-use Rattle.flume_cli.specs.Alone.{alone, IsAccount}
+use Rattle.scope_tree.specs.Rows.{AreDistinct}
+use Rattle.run_rules.specs.Facts.{at, below, acquired_row, ended_row, failed_row, leased_stream, is_failed, is_root_close, root_exit, has}
+use Rattle.run_rules.specs.Devices.{AreAsMany, IsRowBelow, is_closed_with, place_of}
+use Rattle.run_rules.specs.Run.{IsTied, is_named, is_owned, is_ours, root_exits}
+use Rattle.flume_cli.specs.Alone.{alone, IsAccount, IsAtRest}
+use Rattle.flume_cli.proofs.Counting.{as_many, filter_map_from, filter_map_of, named_once, rows_named}
 use Rattle.flume_cli.proofs.Each.{each_among, among_each}
-use Rattle.flume_cli.proofs.Tallies.{is_row, count_cons, count_append, count_none, count_same}
 
-pub true_false : true ≢ false
-true_false e = cc
+some_is : {A : Type 0} (x y : A) → Some x ≡ Some y → x ≡ y
+some_is x y e = cc
 
-not_zero : (n : ℕ) → 0 < n → nat_eq n 0 ≡ false
-not_zero n l = grind (arith, nat_tests)
+-- Which event names a row.
 
-pub positive : (n : ℕ) → 0 < n → nat_lt 0 n ≡ true
-positive n l = grind (arith, nat_tests)
+acquires : (r : ℕ) (v : What) → acquired_row v ≡ Some r → (s : ℕ) × (v ≡ Acquire r s)
+acquires r (Acquire q s) h = (s, ap (λ k. Acquire k s) (some_is q r h))
+acquires r v h = cc
 
-pub false_by : (b : Bool) → (b ≡ true → ⊥) → b ≡ false
-false_by true h = absurd (h refl)
-false_by false h = refl
+fails : (r : ℕ) (v : What) → failed_row v ≡ Some r → (x : Exit) × (v ≡ Final r x false)
+fails r (Final q x false) h = (x, ap (λ k. Final k x false) (some_is q r h))
+fails r v h = cc
 
-acquires : (r : ℕ) (v : What) → is_row r (acquired_row v) ≡ true → (s : ℕ) × (v ≡ Acquire r s)
-acquires r (Acquire q s) h = (s, ap (λ k. Acquire k s) (number q r h))
-acquires r (Open s p) h = cc
-acquires r (Lease j s) h = cc
-acquires r (Cancel j) h = cc
-acquires r (Close s) h = cc
-acquires r (Final q ok) h = cc
+ends_with : (x : Exit) (r : ℕ) (v : What) → ended_row x v ≡ Some r → (ok : Bool) × (v ≡ Final r x ok)
+ends_with x r (Final q y ok) h = (elim (same_exit x y) as (λ b. same_exit x y ≡ b → cond b (Some q) None ≡ Some r → (a : Bool) × (Final q y ok ≡ Final r x a)) [
+  | true ↦ λ e k. (ok, ap (λ z. Final q z ok) (sym (exit_is x y e)) ∙ ap (λ z. Final z x ok) (some_is q r k))
+  | false ↦ λ e k. cc
+]) refl h
+ends_with x r v h = cc
 
-fails : (r : ℕ) (v : What) → is_row r (failed_row v) ≡ true → v ≡ Final r false
-fails r (Final q false) h = ap (λ k. Final k false) (number q r h)
-fails r (Final q true) h = cc
-fails r (Open s p) h = cc
-fails r (Acquire q s) h = cc
-fails r (Lease j s) h = cc
-fails r (Cancel j) h = cc
-fails r (Close s) h = cc
+closes_root : (x : Exit) (v : What) → root_exit v ≡ Some x → v ≡ Close 0 x
+closes_root x (Close s y) h = (elim (nat_eq s 0) as (λ b. nat_eq s 0 ≡ b → cond b (Some y) None ≡ Some x → Close s y ≡ Close 0 x) [
+  | true ↦ λ e k. ap (λ z. Close z y) (number s 0 e) ∙ ap (λ z. Close 0 z) (some_is y x k)
+  | false ↦ λ e k. cc
+]) refl h
+closes_root x v h = cc
+
+failed_final : (v : What) → is_failed v ≡ true → (r : ℕ) × (x : Exit) × (v ≡ Final r x false)
+failed_final (Final r x false) t = (r, x, refl)
+failed_final v t = absurd (false≢true t)
+
+told_exit : (x : Exit) (o : Option Exit) → (elim o [ Some y ↦ same_exit x y | None ↦ false ]) ≡ true → o ≡ Some x
+told_exit x (Some y) t = ap (λ z. Some z) (sym (exit_is x y t))
+told_exit x None t = absurd (false≢true t)
+
+-- an element that passes, where some do
+passing : {A : Type 0} (p : A → Bool) (xs : List A) → 0 < count_by p xs → (x : A) × IsAmong x xs × (p x ≡ true)
+passing p [] l = absurd (omega arith)
+passing p (x ∷ xs) l = (elim (p x) as (λ b. p x ≡ b → 0 < cond b 1 0 + count_by p xs → (y : _) × IsAmong y (x ∷ xs) × (p y ≡ true)) [
+  | true ↦ λ e k. (x, here xs, e)
+  | false ↦ λ e k. let y = passing p xs (omega (arith, k)) in (y.0, there x y.1, y.2)
+]) refl (let c = sum_by-cons (λ y. cond (p y) 1 0) x xs in omega (arith, c, l))
 
 module _ (L : List Event) (legal : IsLegal L) where
-  -- a row is acquired once
-  acquired_first : (us vs : List Event) (e : Event) (r s : ℕ) → L ≡ us ++ e ∷ vs → e.what ≡ Acquire r s → IsAcquired us r → ⊥
-  acquired_first us vs e r s is w a = let may : MayFollow us e.by (Acquire r s) = subst (λ v. MayFollow us e.by v) w (legal us vs e is) in may.0 a
+  -- in a legal ledger no row is acquired twice, and none ends twice
+  acquired_once : AreDistinct (rows_named acquired_row L)
+  acquired_once = named_once acquired_row L (λ P Q e r is n m.
+      let a = acquires r e.what n in
+      let f = filter_map_from (λ (x : Event). acquired_row x.what) r P m in
+      let b = acquires r f.0.what f.2 in
+      let may : MayFollow P e.by (Acquire r a.0) = subst (λ v. MayFollow P e.by v) a.1 (legal P Q e is) in
+      may.0 (f.0.by, b.0, (f.0, f.1, refl, b.1)))
 
-  pub acquired_count : (e : Event) (r s : ℕ) → IsAmong e L → e.what ≡ Acquire r s → count_by (λ x. is_row r (acquired_row x.what)) L ≡ 1
-  acquired_count e r s i w =
-      let parts = split_at e L i in
-      let us : List Event = parts.0 in
-      let vs : List Event = parts.1 in
-      let is : L ≡ us ++ e ∷ vs = parts.2 in
-      let test : Event → Bool = λ x. is_row r (acquired_row x.what) in
-      let before : count_by test us ≡ 0 = count_none test us (λ x m. false_by (test x) (λ t. let a = acquires r x.what t in acquired_first us vs e r s is w (x.by, a.0, (x, m, refl, a.1)))) in
-      let behind : count_by test vs ≡ 0 = count_none test vs (λ x m. false_by (test x) (λ t.
-      let a = acquires r x.what t in
-      let more = split_at x vs m in
-      acquired_first (us ++ e ∷ more.0) more.1 x r a.0 (is ∙ (ap (λ l. us ++ e ∷ l) more.2 ∙ sym (append_assoc us (e ∷ more.0) (x ∷ more.1)))) a.1 (e.by, s, (e, among_mid us more.0 e, refl, w)))) in
-      let this : ◌≡◌ {A = ℕ} (cond (test e) 1 0) 1 = ap (λ b. cond b 1 0) (ap (λ v. is_row r (acquired_row v)) w ∙ itself r) in
-      let whole = ap (λ l. count_by test l) is in
-      let split = count_append test us (e ∷ vs) in
-      let head = count_cons test e vs in
-      omega (arith, before, behind, this, whole, split, head)
+  ended_once : (row : What → Option ℕ) → ((r : ℕ) (v : What) → row v ≡ Some r → (x : Exit) × (ok : Bool) × (v ≡ Final r x ok)) → AreDistinct (rows_named row L)
+  ended_once row final = named_once row L (λ P Q e r is n m.
+      let a = final r e.what n in
+      let f = filter_map_from (λ (x : Event). row x.what) r P m in
+      let b = final r f.0.what f.2 in
+      let may : MayFollow P e.by (Final r a.0 a.1) = subst (λ v. MayFollow P e.by v) a.2 (legal P Q e is) in
+      may.0.2 (f.0.by, b.1, (b.0, (f.0, f.1, refl, b.2))))
 
--- an event says so where one does
-pub has_one : (p : What → Bool) (e : Event) (L : List Event) → IsAmong e L → p e.what ≡ true → has p L ≡ true
-has_one p e L (here xs) t = or_left (p e.what) (has p xs) t
-has_one p e L (there {xs = xs} x i) t = or_right (p x.what) (has p xs) (has_one p e xs i t)
-
-has_none : (p : What → Bool) (L : List Event) → ((e : Event) → IsAmong e L → p e.what ≡ false) → has p L ≡ false
-has_none p [] h = refl
-has_none p (e ∷ L) h = ap (λ b. b || has p L) (h e (here L)) ∙ has_none p L (λ x i. h x (there e i))
-
-module _ (count : ℕ) (w : ℕ → DeviceTold) (L : List Event) (a : IsAccount count w L) where
+module _ (count : ℕ) (w : ℕ → DeviceTold) (how : How) (L : List Event) (a : IsAccount count w how L) where
   by_0 : (e : Event) → IsAmong e L → e.by ≡ Inner 0
   by_0 e i = (among_each (λ x. (x.by ≡ Inner 0) × (leased_stream x.what ≡ None)) e L a.own i).0
 
-  tied_what : (v : What) → ((r s : ℕ) → v ≡ Acquire r s → (w r).opens ≡ 1) → ((r : ℕ) (ok : Bool) → v ≡ Final r ok → ok ≡ nat_eq (w r).close_faults 0) → IsTied w v
-  tied_what (Acquire r s) p q = p r s refl
-  tied_what (Final r ok) p q = q r ok refl
-  tied_what (Open s t) p q = tt
-  tied_what (Lease j s) p q = tt
-  tied_what (Cancel j) p q = tt
-  tied_what (Close s) p q = tt
-
-  pub tied : Each (λ e. IsTied w e.what) L
-  tied = each_among (λ (e : Event). IsTied w e.what) L (λ e i. tied_what e.what (λ r s v. (a.acquired r s (e, i, by_0 e i, v)).1) (λ r ok v. a.ended r ok (e, i, by_0 e i, v)))
-
-  row_below : (v : What) → ((r s : ℕ) → v ≡ Acquire r s → r < count) → IsRowBelow count (acquired_row v)
-  row_below (Acquire r s) p = p r s refl
-  row_below (Final r ok) p = tt
-  row_below (Open s t) p = tt
-  row_below (Lease j s) p = tt
-  row_below (Cancel j) p = tt
-  row_below (Close s) p = tt
-
-  pub rows_below : Each (λ e. IsRowBelow count (acquired_row e.what)) L
-  rows_below = each_among (λ (e : Event). IsRowBelow count (acquired_row e.what)) L (λ e i. row_below e.what (λ r s v. (a.acquired r s (e, i, by_0 e i, v)).0))
-
   -- a row that has a Final was acquired
-  pub ended_row : (r : ℕ) (ok : Bool) (e : Event) → IsAmong e L → e.what ≡ Final r ok → r < count
-  ended_row r ok e i v =
+  ended_below : (r : ℕ) (x : Exit) (ok : Bool) (e : Event) → IsAmong e L → e.what ≡ Final r x ok → r < count
+  ended_below r x ok e i v =
       let parts = split_at e L i in
-      let closed = a.complete.after_close parts.0 parts.1 e r ok parts.2 v in
+      let closed = a.complete.after_close parts.0 parts.1 e r x ok parts.2 v in
       let n : Notes parts.0 closed.0 (Acquire r closed.1) = closed.2 in
       let among : IsAmong n.0 L = subst (λ l. IsAmong n.0 l) (sym parts.2) (among_left (e ∷ parts.1) n.1) in
       (a.acquired r closed.1 (n.0, among, by_0 n.0 among, n.3)).0
 
-  failed_final : (v : What) → is_failed v ≡ true → (r : ℕ) × (v ≡ Final r false)
-  failed_final (Final r false) t = (r, refl)
-  failed_final (Final r true) t = absurd (true_false (sym t))
-  failed_final (Open s p) t = absurd (true_false (sym t))
-  failed_final (Acquire r s) t = absurd (true_false (sym t))
-  failed_final (Lease j s) t = absurd (true_false (sym t))
-  failed_final (Cancel j) t = absurd (true_false (sym t))
-  failed_final (Close s) t = absurd (true_false (sym t))
+  -- a row that was acquired has a Final
+  final_of : (r : ℕ) → r < count → (w r).opens ≡ 1 → (x : Exit) × (ok : Bool) × Notes L (Inner 0) (Final r x ok)
+  final_of r l o =
+      let n = a.each r l o in
+      let once = a.complete.finalized_once n.0 r n.1 n.2 in
+      let e = passing (λ (e : Event). is_final r e.what) L (omega (arith, once)) in
+      let f = is_final_shape r e.0.what e.2 in
+      (f.0, f.1, (e.0, e.1, by_0 e.0 e.1, f.2))
+
+  tied_what : (v : What) → ((r s : ℕ) → v ≡ Acquire r s → (w r).opens ≡ 1) → ((r : ℕ) (x : Exit) (ok : Bool) → v ≡ Final r x ok → ((w r).exit ≡ Some x) × (ok ≡ nat_eq (w r).close_faults 0)) → IsTied w v
+  tied_what (Acquire r s) p q = p r s refl
+  tied_what (Final r x ok) p q = q r x ok refl
+  tied_what v p q = tt
+
+  pub tied : Each (λ e. IsTied w e.what) L
+  tied = each_among (λ (e : Event). IsTied w e.what) L (λ e i. tied_what e.what (λ r s v. (a.acquired r s (e, i, by_0 e i, v)).1) (λ r x ok v. a.ended r x ok (e, i, by_0 e i, v)))
+
+  row_below : (v : What) → ((r s : ℕ) → v ≡ Acquire r s → r < count) → IsRowBelow count (acquired_row v)
+  row_below (Acquire r s) p = p r s refl
+  row_below v p = tt
+
+  pub rows_below : Each (λ e. IsRowBelow count (acquired_row e.what)) L
+  rows_below = each_among (λ (e : Event). IsRowBelow count (acquired_row e.what)) L (λ e i. row_below e.what (λ r s v. (a.acquired r s (e, i, by_0 e i, v)).0))
 
   -- where each device was closed well, so says each Final
   pub clean : ((r : ℕ) → r < count → (w r).close_faults ≡ 0) → has is_failed L ≡ false
-  clean well =
-      has_none is_failed L (λ e i. false_by (is_failed e.what) (λ t.
+  clean well = none_fails L (λ e i t.
       let f = failed_final e.what t in
-      true_false (sym (a.ended f.0 false (e, i, by_0 e i, f.1) ∙ ap (λ n. nat_eq n 0) (well f.0 (ended_row f.0 false e i f.1))))))
+      let bad = (a.ended f.0 f.1 false (e, i, by_0 e i, f.2)).1 in
+      false≢true (bad ∙ ap (λ n. nat_eq n 0) (well f.0 (ended_below f.0 f.1 false e i f.2))))
+    where
+      none_fails : (M : List Event) → ((e : Event) → IsAmong e M → is_failed e.what ≡ true → ⊥) → has is_failed M ≡ false
+      none_fails [] h = refl
+      none_fails (e ∷ M) h = ap (λ b. b || has is_failed M) (false_from_ne_true (is_failed e.what) (h e (here M))) ∙ none_fails M (λ x i. h x (there e i))
 
-  module _ (r : ℕ) (inside : r < count) where
-    -- a row is acquired as often as its device was opened
-    pub acquired_is : ((w r).opens ≡ 0) ⊎ ((w r).opens ≡ 1) → count_by (λ e. is_row r (acquired_row e.what)) L ≡ cond (nat_eq (w r).opens 1) 1 0
-    acquired_is (inl zero_is) =
-        count_none (λ e. is_row r (acquired_row e.what)) L (λ e i. false_by (is_row r (acquired_row e.what)) (λ t.
-        let b = acquires r e.what t in let one = (a.acquired r b.0 (e, i, by_0 e i, b.1)).1 in absurd (omega arith)))
-        ∙ ap (λ n. cond (nat_eq n 1) 1 0) (sym zero_is)
-    acquired_is (inr one_is) = let n = a.each r inside one_is in acquired_count L a.legal n.2.0 r n.1 n.2.1 n.2.3 ∙ ap (λ n. cond (nat_eq n 1) 1 0) (sym one_is)
+  -- the root was closed, and as the stream ended
+  pub root_closed : has is_root_close (by_stream (Inner 0) L) ≡ true
+  root_closed = let n = a.closed.1 in any_at (λ e. is_root_close e.what) n.0 (by_stream (Inner 0) L) (by_out (Inner 0) L n.0 n.1 n.2) (ap is_root_close n.3)
 
-    well_closed : (w r).close_faults ≡ 0 → count_by (λ e. is_row r (failed_row e.what)) L ≡ 0
-    well_closed none =
-        count_none (λ e. is_row r (failed_row e.what)) L (λ e i. false_by (is_row r (failed_row e.what)) (λ t. true_false (sym (a.ended r false (e, i, by_0 e i, fails r e.what t) ∙ ap (λ n. nat_eq n 0) none))))
+  pub root_as_ended : Each (λ x. x ≡ exit_of how) (root_exits (Inner 0) L)
+  root_as_ended = each_among (λ x. x ≡ exit_of how) (root_exits (Inner 0) L) (λ x m.
+      let f = filter_map_from (λ (e : Event). root_exit e.what) x (by_stream (Inner 0) L) m in
+      let i = (among_filter (λ (e : Event). same_stream e.by (Inner 0)) f.0 L f.1).0 in
+      a.exits x (f.0, i, by_0 f.0 i, closes_root x f.0.what f.2))
 
-    final_is : 0 < (w r).close_faults → (v : What) → ((ok : Bool) → v ≡ Final r ok → ok ≡ nat_eq (w r).close_faults 0) → is_row r (failed_row v) ≡ is_final r v
-    final_is some (Final q false) h = refl
-    final_is some (Final q true) h = sym (false_by (nat_eq q r) (λ t. true_false (h true (ap (λ k. Final k true) (number q r t)) ∙ not_zero (w r).close_faults some)))
-    final_is some (Open s p) h = refl
-    final_is some (Acquire q s) h = refl
-    final_is some (Lease j s) h = refl
-    final_is some (Cancel j) h = refl
-    final_is some (Close s) h = refl
+module _ (places : List Place) (w : ℕ → DeviceTold) (how : How) (L : List Event) (a : IsAccount (length places) w how L) (rest : (r : ℕ) → r < length places → IsAtRest (w r))
+    (placed : (r : ℕ) → r < length places → place_of places (Some r) ≡ (w r).place ∷ []) (back : List DeviceTold) (each : IsPermutation (map w (below (length places))) back) where
+  -- the rows acquired are those whose devices were opened
+  pub acquired_devices : AreAsMany (λ d. nat_eq d.opens 1) acquired_row back places L
+  acquired_devices = as_many places w placed (λ (d : DeviceTold). nat_eq d.opens 1) acquired_row back L each (acquired_once L a.legal)
+      (λ r m.
+      let f = filter_map_from (λ (e : Event). acquired_row e.what) r L m in
+      let s = acquires r f.0.what f.2 in
+      let o = a.acquired r s.0 (f.0, f.1, by_0 (length places) w how L a f.0 f.1, s.1) in (o.0, ap (λ n. nat_eq n 1) o.1))
+      (λ r l t. let n = a.each r l (number (w r).opens 1 t) in filter_map_of (λ (e : Event). acquired_row e.what) r n.2.0 L n.2.1 (ap acquired_row n.2.3))
 
-    badly_closed : (w r).opens ≡ 1 → 0 < (w r).close_faults → count_by (λ e. is_row r (failed_row e.what)) L ≡ 1
-    badly_closed one_is some =
-        let n = a.each r inside one_is in
-        count_same (λ e. is_row r (failed_row e.what)) (λ e. is_final r e.what) L (λ e i. final_is some e.what (λ ok v. a.ended r ok (e, i, by_0 e i, v)))
-        ∙ a.complete.finalized_once n.0 r n.1 n.2
+  -- a row whose device isn't one that was never opened has a Final with the device's exit and answer
+  final_opened : (r : ℕ) → r < length places → (((w r).opens ≡ 0) × ((w r).closes ≡ 0) × ((w r).close_faults ≡ 0) × ((w r).exit ≡ None) → ⊥)
+      → (x : Exit) × (ok : Bool) × Notes L (Inner 0) (Final r x ok) × ((w r).exit ≡ Some x) × (ok ≡ nat_eq (w r).close_faults 0)
+  final_opened r l not_idle =
+      ⊎_elim (λ s. absurd (not_idle s)) (λ s. let n = final_of (length places) w how L a r l s.0 in let e = a.ended r n.0 n.1 n.2 in (n.0, n.1, n.2, e.0, e.1)) (rest r l).stage
 
-    -- a row has a Final that isn't ok where its device couldn't be closed well
-    pub failed_is : ((w r).opens ≡ 0) × ((w r).closes ≡ 0) × ((w r).close_faults ≡ 0) ⊎ ((w r).opens ≡ 1) × ((w r).closes ≡ 1) → count_by (λ e. is_row r (failed_row e.what)) L ≡ cond (nat_lt 0 (w r).close_faults) 1 0
-    failed_is (inl s) = well_closed s.2 ∙ ap (λ n. cond (nat_lt 0 n) 1 0) (sym s.2)
-    failed_is (inr s) =
-        ⊎_elim
-        (λ (some : 0 < (w r).close_faults). badly_closed s.0 some ∙ ap (λ b. cond b 1 0) (sym (positive (w r).close_faults some)))
-        (λ (none : (w r).close_faults ≤ 0). let e : (w r).close_faults ≡ 0 = omega arith in well_closed e ∙ ap (λ n. cond (nat_lt 0 n) 1 0) (sym e))
-        (cases_lt 0 (w r).close_faults)
+  -- the rows whose Final isn't ok are those whose devices couldn't be closed well
+  pub failed_devices : AreAsMany (λ d. nat_lt 0 d.close_faults) failed_row back places L
+  failed_devices = as_many places w placed (λ (d : DeviceTold). nat_lt 0 d.close_faults) failed_row back L each
+      (ended_once L a.legal failed_row (λ r v h. let f = fails r v h in (f.0, false, f.1)))
+      (λ r m.
+      let f = filter_map_from (λ (e : Event). failed_row e.what) r L m in
+      let v = fails r f.0.what f.2 in
+      let bad = (a.ended r v.0 false (f.0, f.1, by_0 (length places) w how L a f.0 f.1, v.1)).1 in
+      (ended_below (length places) w how L a r v.0 false f.0 f.1 v.1, let faults = eqb-false (w r).close_faults 0 (sym bad) in lt-ltb 0 (w r).close_faults (omega (arith, faults))))
+      (λ r l t.
+      let some = ltb-true 0 (w r).close_faults t in
+      let n = final_opened r l (λ s. let z = s.2 in absurd (omega (arith, z, some))) in
+      filter_map_of (λ (e : Event). failed_row e.what) r n.2.0 L n.2.1 (ap failed_row n.2.3 ∙ ap (λ ok. cond ok None (Some r)) (n.4 ∙ ne_eqb (w r).close_faults 0 (λ e. omega (arith, e, some)))))
+
+  -- the rows whose Final has an exit are those whose devices were closed with it
+  pub ended_devices : (x : Exit) → AreAsMany (is_closed_with x) (ended_row x) back places L
+  ended_devices x = as_many places w placed (is_closed_with x) (ended_row x) back L each
+      (ended_once L a.legal (ended_row x) (λ r v h. let f = ends_with x r v h in (x, f.0, f.1)))
+      (λ r m.
+      let f = filter_map_from (λ (e : Event). ended_row x e.what) r L m in
+      let v = ends_with x r f.0.what f.2 in
+      let told = (a.ended r x v.0 (f.0, f.1, by_0 (length places) w how L a f.0 f.1, v.1)).0 in
+      (ended_below (length places) w how L a r x v.0 f.0 f.1 v.1, ap (λ (o : Option Exit). elim o [ Some y ↦ same_exit x y | None ↦ false ]) told ∙ exit_same x))
+      (λ r l t.
+      let told = told_exit x (w r).exit t in
+      let n = final_opened r l (λ s. none_told (sym s.3 ∙ told)) in
+      let same : n.0 ≡ x = some_is n.0 x (sym n.3 ∙ told) in
+      filter_map_of (λ (e : Event). ended_row x e.what) r n.2.0 L n.2.1 (ap (λ v. ended_row x v) n.2.3 ∙ ap (λ y. cond (same_exit x y) (Some r) None) same ∙ ap (λ b. cond b (Some r) None) (exit_same x)))
+    where
+      none_told : None ≡ Some x → ⊥
+      none_told e = cc
 
 module _ (places : List Place) where
   abbrev owners : List StreamNo
@@ -185,15 +212,11 @@ module _ (places : List Place) where
 
   owned_what : (v : What) → ((r s : ℕ) → v ≡ Acquire r s → r < length places) → is_owned owners (Inner 0) (acquired_row v) ≡ true
   owned_what (Acquire r s) h = ap (λ (o : Option StreamNo). elim o [ Some q ↦ same_stream q (Inner 0) | None ↦ false ]) (owner_at places r (h r s refl))
-  owned_what (Open s p) h = refl
-  owned_what (Lease j s) h = refl
-  owned_what (Cancel j) h = refl
-  owned_what (Close s) h = refl
-  owned_what (Final r ok) h = refl
+  owned_what v h = refl
 
   -- no event is of a stream or of a row that isn't there
-  pub ours : (w : ℕ → DeviceTold) (L : List Event) → IsAccount (length places) w L → (runs ideal : _) → all (is_ours (alone places runs ideal)) L ≡ true
-  ours w L a runs ideal =
+  pub ours : (w : ℕ → DeviceTold) (how : How) (L : List Event) → IsAccount (length places) w how L → (runs ideal : _) → all (is_ours (alone places runs ideal)) L ≡ true
+  ours w how L a runs ideal =
       each_passes (is_ours (alone places runs ideal)) L (λ e i.
       let own = among_each (λ x. (x.by ≡ Inner 0) × (leased_stream x.what ≡ None)) e L a.own i in
       subst (λ k. (any (same_stream k) (Inner 0 ∷ []) && (is_named (Inner 0 ∷ []) (leased_stream e.what) && is_owned owners k (acquired_row e.what))) ≡ true) (sym own.0)

@@ -1,10 +1,11 @@
 -- One stream that ran alone did its work.
 use Rattle.std.proofs.Common.{◌≡◌, ℕ, ◌<◌, Bool, true, false, ◌||◌, List, [], ◌++◌, ◌⊎◌, inl, inr, map, length, refl, sym, ◌∙◌, ap, subst, ⊎_elim, arith, append-nil}
+use Rattle.std.proofs.lemmas.Bool.{both_ways, false_from_ne_true, false≢true, or_cases}
 use Rattle.std.proofs.lemmas.Grind.{flat_map-append}
 use Rattle.std.specs.List.{list_any as any}
 use Rattle.chunk_core.specs.Lists.{Each}
 use Rattle.chunk_core.specs.Elements.{Element, element_text, rendering_of}
-use Rattle.chunk_core.specs.Outcomes.{End, Outcomes, Done}
+use Rattle.chunk_core.specs.Outcomes.{End, Outcomes, Done, exit_of}
 use Rattle.chunk_core.specs.Texts.{Frame}
 use Rattle.chunk_core.specs.declared.code.Code.{Code}
 use Rattle.chunk_core.specs.declared.code.How.TheVariants as how
@@ -16,21 +17,16 @@ use Rattle.run_rules.specs.declared.end.EndOf.{EndOf}
 use Rattle.run_rules.specs.Facts.{is_halted, is_memory}
 use Rattle.run_rules.specs.Devices.{DevicesAccounted}
 use Rattle.run_rules.specs.Work.{Work, Deed, names_of}
-use Rattle.run_rules.specs.Run.{IsOutput, AreOutputs, HaveOutputs, IsCaused, HaveEnds, NothingFailed, IsWhole, IsCutFrame, Performs, count_of}
+use Rattle.run_rules.specs.Run.{IsOutput, AreOutputs, HaveOutputs, IsCaused, HaveEnds, NothingFailed, IsWhole, IsCutFrame, Performs, count_of, root_exits}
 use Rattle.flume_cli.specs.declared.outcome.Outcome.{Outcome}
 use Rattle.flume_cli.specs.Alone.{alone, elements_of, frame_of, IsPiece, IsCutAt, RunsAlone}
 use Rattle.flume_cli.specs.Cat.{deed_of}
-use Rattle.flume_cli.proofs.Accounts.{clean}
-use Rattle.flume_cli.proofs.AloneWork.{accounted, keeps_rules, homes, shown, faultless, root_closed}
+use Rattle.flume_cli.proofs.Accounts.{clean, root_as_ended, root_closed}
+use Rattle.flume_cli.proofs.AloneWork.{accounted, keeps_rules, homes, shown, faultless}
 use Rattle.flume_cli.proofs.Pieces.{payloads_pieces, pieces_numbers, rendering_some}
 
-pub either_of : (b : Bool) → (b ≡ true) ⊎ (b ≡ false)
-either_of true = inl refl
-either_of false = inr refl
-
 or_false : (b : Bool) → (b || false) ≡ true → b ≡ true
-or_false true h = refl
-or_false false h = h
+or_false b h = ⊎_elim (λ e. e) (λ e. absurd (false≢true e)) (or_cases b false h)
 
 module _ (places : List Place) (runs ideal : (ℕ → DeviceTold) → Outcomes) (size : ℕ) (old new : DepotTold) (so sn : SinkTold) (o : Outcome) (r : RunsAlone places runs size old new so sn o) where
   abbrev work : Work
@@ -96,44 +92,37 @@ module _ (places : List Place) (runs ideal : (ℕ → DeviceTold) → Outcomes) 
     caused = subst (λ es. Each (IsCaused work deed) es) (sym r.ends) (
       record {
         halted = λ t. ⊎_elim (λ f. inl f) (λ m. inr (inl m)) (r.run.halted t);
-        fault = shown places runs ideal old new r.home o.ledger r.devices r.account r.how h.shown;
-        root = λ t. root_closed places runs ideal old new r.home o.ledger r.devices r.account;
+        fault = shown places runs ideal old new r.home r.how o.ledger r.devices r.account r.how h.shown;
+        root = λ t. root_closed (length places) r.home r.how o.ledger r.account;
       },
       tt,
     );
     memory = λ t. r.run.remembered (or_false (is_memory r.how) (subst (λ es. any (λ (e : EndOf). is_memory e.how) es ≡ true) r.ends t));
   }
 
-  not_both : (b : Bool) → b ≡ true → b ≡ false → ⊥
-  not_both true t f = cc
-  not_both false t f = cc
-
-  unless : (b : Bool) → (b ≡ true → ⊥) → b ≡ false
-  unless true h = absurd (h refl)
-  unless false h = refl
-
   complete : IsCovered → o.memory ≡ false → NothingFailed work deed r.home → IsWhole work deed r.home
   complete h m n =
-      let calm = faultless places runs ideal old new r.home o.ledger r.devices r.account n.devices in
-      let running : is_halted r.how ≡ false = unless (is_halted r.how) (λ t. ⊎_elim (λ f. not_both o.sink_failed f n.written) (λ f. not_both o.memory f m) (r.run.halted t)) in
-      let remembering : is_memory r.how ≡ false = unless (is_memory r.how) (λ t. not_both o.memory (r.run.remembered t) m) in
+      let calm = faultless places runs ideal old new r.home r.how o.ledger r.devices r.account n.devices in
+      let running : is_halted r.how ≡ false = false_from_ne_true (is_halted r.how) (λ t. ⊎_elim (λ f. both_ways o.sink_failed n.written f) (λ f. both_ways o.memory m f) (r.run.halted t)) in
+      let remembering : is_memory r.how ≡ false = false_from_ne_true (is_memory r.how) (λ t. both_ways o.memory m (r.run.remembered t)) in
       let w = h.whole running remembering calm n.ideal.0 in
       record {
         done = subst (λ es. Each (λ (e : EndOf). e.how ≡ how.Done) es) (sym r.ends) (w.0, tt);
-        clean = clean (length places) r.home o.ledger r.account (λ k l. let f : faults_of (r.home k) ≡ 0 = calm k l in omega arith);
+        clean = clean (length places) r.home r.how o.ledger r.account (λ k l. let f : faults_of (r.home k) ≡ 0 = calm k l in omega arith);
         output = ((w.1.0, w.1.1, payloads_pieces r.printed.pieces ∙ w.1.2), tt);
       }
 
   -- the work was done
   pub performs_alone : IsCovered → Performs work deed
   performs_alone h = record {
-    devices = subst (λ ps. DevicesAccounted old new ps o.ledger) (sym (append-nil places)) (accounted places runs ideal old new r.home o.ledger r.devices r.account);
-    ledger = keeps_rules places runs ideal old new r.home o.ledger r.devices r.account;
+    devices = subst (λ ps. DevicesAccounted old new ps o.ledger) (sym (append-nil places)) (accounted places runs ideal old new r.home r.how o.ledger r.devices r.account);
+    ledger = keeps_rules places runs ideal old new r.home r.how o.ledger r.devices r.account;
     ran = inr (record {
       home = r.home;
-      rows = homes places runs ideal old new r.home o.ledger r.devices r.account r.printed.pieces r.printed.rest o refl;
+      rows = homes places runs ideal old new r.home r.how o.ledger r.devices r.account r.printed.pieces r.printed.rest o refl;
       outputs = outputs;
       ends = ends h;
+      exits = subst (λ es. Each (λ (e : EndOf). Each (λ x. x ≡ exit_of e.how) (root_exits e.who o.ledger)) es) (sym r.ends) (root_as_ended (length places) r.home r.how o.ledger r.account, tt);
       completeness = complete h;
     });
   }

@@ -1,11 +1,11 @@
 -- The device of cat: made, run over, and given back.
-use Rattle.std.proofs.Common.{◌≡◌, ℕ, List, [], ◌∷◌, ◌++◌, length, Option, refl, sym, ◌∙◌, ap, subst, ⊎_elim, arith, length-append, nat_eq}
+use Rattle.std.proofs.Common.{◌≡◌, ℕ, List, [], ◌∷◌, ◌++◌, length, Option, refl, sym, ◌∙◌, ap, subst, ⊎_elim, arith, length-append}
 use Rattle.std.proofs.lemmas.List.Sorted.{IsPermutation-trans}
-use Rattle.std.proofs.lemmas.List.Sums.{count_by-le-length}
+use Rattle.std.specs.List.{IsDistinct}
 use Rattle.chunk_core.proofs.Members.{among_nil, among_cons}
 use Rattle.device_port.specs.declared.device.Mode.TheVariants as mode
 use Rattle.device_port.specs.Device.{DeviceTold}
-use Rattle.device_port.specs.Depot.{DepotTold, Files, Makes, IsUnknown, KeepsFilesBut, content_at}
+use Rattle.device_port.specs.Depot.{AreApart, DepotTold, Files, Makes, IsUnknown, KeepsFilesBut, content_at}
 use Rattle.device_port.specs.Sink.{SinkTold}
 use Rattle.pull_nodes.specs.declared.node.Node.{Node}
 use Rattle.pull_nodes.specs.declared.node.Node.TheVariants.{Read, Weak'}
@@ -33,10 +33,14 @@ module _ {V : Type 0} (told : V → DeviceTold) where
     unused = λ x m. ⊎_elim (λ e. subst (λ y. IsUnused (told y)) (sym e) unused) (λ i. absurd (among_nil i)) (among_cons m);
   })
 
+one_apart : (d : DeviceTold) → AreApart (d ∷ [])
+unfolding IsDistinct
+one_apart d = (tt, tt)
+
 -- a device that was just made is unused
 pub made_unused : (old mid : DepotTold) (path : List ℕ) (d : DeviceTold) → Makes old mid path mode.Read d → IsUnused d
 made_unused old mid path d m =
-    subst IsUnused (sym m.device) (record { mode_is = refl; is_open = refl; opens = refl; closes = refl; at = refl; open_faults = refl; read_faults = refl; write_faults = refl; close_faults = refl })
+    subst IsUnused (sym m.device) (record { mode_is = refl; is_open = refl; opens = refl; closes = refl; exit = refl; at = refl; open_faults = refl; read_faults = refl; write_faults = refl; close_faults = refl })
 
 module _ {V : Type 0} (told : V → DeviceTold) (path : List ℕ) (chunk : ℕ) (old mid : DepotTold) (so sn : SinkTold) (b : _) (d : V) (makes : Makes old mid path mode.Read (told d)) (r : Ran V) (ran : RunsStream told (Weak' 0 b (Read 0)) (d ∷ []) chunk so sn r) where
   abbrev home : DeviceTold
@@ -61,14 +65,14 @@ module _ {V : Type 0} (told : V → DeviceTold) (path : List ℕ) (chunk : ℕ) 
       (
         record {
           made = let e = ap (λ (ps : List _). length ps) made_is in let f = length-append old.made (to_read path ∷ []) in omega (arith, e, f, number_is);
-          closed = ran.shut 0 (omega arith);
+          closed = (ran.rest 0 (omega arith)).shut;
           unknown = subst (λ ds. IsUnknown home.number ds) (sym (ap (λ (x : DepotTold). x.retired) makes.made)) (subst (λ k. IsUnknown k old.retired) (sym ran.same.0.number) makes.unknown);
         },
         ap (λ p. p.mode) place_is,
       ),
       tt,
     );
-    apart = λ k. count_by-le-length (λ (x : DeviceTold). nat_eq x.number k) (home ∷ []);
+    apart = one_apart home;
   })
 
   module _ (new : DepotTold) (back : Returns mid new (devices_of told r.shelf r.unopened)) where
@@ -78,7 +82,7 @@ module _ {V : Type 0} (told : V → DeviceTold) (path : List ℕ) (chunk : ℕ) 
       back = back.back;
       retired = back.retired ∙ ap (λ (x : DepotTold). x.retired ++ back.back) makes.made;
       each = IsPermutation-trans (home ∷ []) (devices_of told r.shelf r.unopened) back.back ran.each back.each;
-      spent = (record { number_is = number_is; place_is = place_is; content_is = content_is; shut = ran.shut 0 (omega arith); stage = ran.stage 0 (omega arith) }, tt);
+      devices = (record { number_is = number_is; place_is = place_is; content_is = content_is; rest = ran.rest 0 (omega arith) }, tt);
       files = keeps_more (λ q. ⊥) (IsWritten (to_read path ∷ [])) (λ q w. absurd w) old.files new.files
           (subst (λ (f : Option Files). KeepsFilesBut (λ q. ⊥) f new.files) (ap (λ (x : DepotTold). x.files) makes.made) back.files);
     }

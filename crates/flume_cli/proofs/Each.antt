@@ -24,6 +24,10 @@ module _ {A : Type 0} (P : A → Type 0) where
   each_right [] ys h = h
   each_right (x ∷ xs) ys h = each_right xs ys h.1
 
+  pub each_append : (xs ys : List A) → Each P xs → Each P ys → Each P (xs ++ ys)
+  each_append [] ys h k = k
+  each_append (x ∷ xs) ys h k = (h.0, each_append xs ys h.1 k)
+
   all_each : (xs : List A) → All P xs → Each P xs
   all_each [] h = tt
   all_each (x ∷ xs) h = (All-head P x xs h, all_each xs (All-tail P x xs h))

@@ -2,8 +2,9 @@ pub mod Accounting
 pub mod Unmade
 pub mod Telling
 pub mod Pieces
-pub mod Tallies
 pub mod Each
+pub mod Permuted
+pub mod Counting
 pub mod Homes
 pub mod Accounts
 pub mod AloneWork

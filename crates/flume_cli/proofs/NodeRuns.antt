@@ -1,10 +1,15 @@
 -- A node that was run to its end, or that couldn't be begun.
-use Rattle.std.proofs.Common.{◌≡◌, ℕ, ◌+◌, Bool, true, false, List, [], ◌∷◌, ◌++◌, inl, inr, map, length, Some, Result, Err, refl, sym, ◌∙◌, ap, subst, ⊎_elim, arith, append-nil}
+use Rattle.std.proofs.Common.{◌≡◌, ℕ, ◌+◌, Bool, List, [], ◌∷◌, ◌++◌, inl, inr, map, length, Some, Result, Err, refl, sym, ◌∙◌, ap, subst, ⊎_elim, arith, append-nil}
+use Rattle.std.proofs.lemmas.Bool.{false≢true}
 use Rattle.std.proofs.lemmas.List.{length-map}
 use Rattle.std.specs.List.{filter_map}
 use Rattle.chunk_core.specs.Lists.{IsAmong}
-use Rattle.chunk_core.proofs.Members.{among_nil}
+use Rattle.chunk_core.specs.Lists.IsAmong.{here}
+use Rattle.chunk_core.proofs.Members.{among_nil, among_cons}
+use Rattle.chunk_core.proofs.Filters.{among_append}
 use Rattle.chunk_core.specs.Outcomes.{Cut}
+use Rattle.chunk_core.specs.declared.code.Exit.{Exit}
+use Rattle.chunk_core.specs.declared.code.Exit.TheVariants as exit
 use Rattle.chunk_core.specs.declared.code.How.{How}
 use Rattle.chunk_core.specs.declared.code.How.TheVariants as how
 use Rattle.device_port.specs.Device.{DeviceTold}
@@ -15,15 +20,20 @@ use Rattle.pull_nodes.specs.Shape.{places_of}
 use Rattle.pull_nodes.specs.declared.node.Node.{Node}
 use Rattle.pull_turns.specs.Piping.{Standing}
 use Rattle.pull_turns.specs.Sizes.{widest_of}
-use Rattle.res_ledger.specs.Order.{firsts}
-use Rattle.row_seat.specs.declared.view.View.{View}
+use Rattle.res_ledger.specs.declared.event.What.TheVariants.{Close}
+use Rattle.res_ledger.specs.Ledger.{Notes}
+use Rattle.res_ledger.specs.Ledger.LiesWithin.{same}
+use Rattle.res_ledger.specs.Order.{finals, firsts}
+use Rattle.res_ledger.specs.Own.{closes_of}
+use Rattle.res_ledger.proofs.Noted.{flat_holds, notes_own, own_notes}
 use Rattle.row_seat.specs.Views.{IsWithin}
-use Rattle.scope_tree.specs.declared.branch.Spent.{Spent}
-use Rattle.scope_tree.specs.Calls.{Closes, Seen}
+use Rattle.scope_tree.specs.Calls.{Closes, IsOpenScope, Seen}
 use Rattle.scope_tree.specs.Rows.{AreDistinct}
-use Rattle.scope_tree.specs.Torn.{Torn, said}
-use Rattle.scope_tree.specs.Torn.Torn.{done, stays, ends_so}
-use Rattle.scope_tree.proofs.Use.{closed_now}
+use Rattle.scope_tree.specs.Released.{said}
+use Rattle.scope_tree.specs.Words.{words}
+use Rattle.scope_tree.proofs.Grown.{closes_finals}
+use Rattle.scope_tree.proofs.Owning.{owner_pays}
+use Rattle.scope_tree.proofs.Use.{closed_now, closed_said}
 use Rattle.tree_laws.specs.Alone.{StaysAlone}
 use Rattle.tree_laws.specs.Called.{Called}
 use Rattle.tree_laws.specs.Called.Called.{none, closed}
@@ -39,8 +49,29 @@ use Rattle.flume_cli.specs.declared.frame.NotPut.TheVariants as why
 use Rattle.flume_cli.specs.Nodes.{RunsNode}
 use Rattle.flume_cli.specs.Printing.{PrintsAll, PrintsRun}
 
-true_false : true ≡ false → ⊥
-true_false e = cc
+nothing_in : {A : Type 0} (xs : List A) → ((x : A) → IsAmong x xs → ⊥) → xs ≡ []
+nothing_in [] h = refl
+nothing_in (x ∷ xs) h = absurd (h x (here xs))
+
+same_exit_of : (x y : Exit) → Close 0 y ≡ Close 0 x → y ≡ x
+same_exit_of x y e = cc
+
+module _ {P : Type 0} {ends : P → Exit → Bool → P → Type 0} {x : Exit} {a b : Seen P} where
+  -- the root that was open was closed with this exit alone
+  closed_as : IsOpenScope a 0 → Closes ends a 0 x b → (y : Exit) → Notes b.seat.events b.seat.by (Close 0 y) → y ≡ x
+  closed_as root c y n =
+      let there = subst (λ E. IsAmong (Close 0 y) E) (closed_said c) (notes_own b.seat.events b.seat.by (Close 0 y) n) in
+      ⊎_elim
+      (λ i. absurd (root.1 (0, same 0, (y, own_notes a.seat.events a.seat.by (Close 0 y) i))))
+      (λ i. ⊎_elim
+      (λ e. same_exit_of x y e)
+      (λ f. absurd (among_nil (subst (λ l. IsAmong 0 l) (closes_finals x (said c.torn.0)) (flat_holds closes_of (Close 0 y) (finals x (said c.torn.0)) 0 f (here [])))))
+      (among_cons i))
+      (among_append (Close 0 y) (words a.seat) (Close 0 x ∷ finals x (said c.torn.0)) there)
+
+  -- where no row is open none is taken down
+  none_torn : a.seat.opened ≡ [] → (c : Closes ends a 0 x b) → c.torn.0 ≡ []
+  none_torn e c = nothing_in c.torn.0 (λ y m. let p = owner_pays y c.torn.2 m in among_nil (subst (λ l. IsAmong (y.row, p.0) l) e p.1))
 
 module _ {V : Type 0} (told : V → DeviceTold) (n : Node) (devices : List V) (chunk : ℕ) (a b : Seen V) (old new : SinkTold) (empty : a.shelf ≡ []) where
   abbrev first : ℕ
@@ -65,6 +96,7 @@ module _ {V : Type 0} (told : V → DeviceTold) (n : Node) (devices : List V) (c
             (λ w. subst (λ k. IsWithin first (first + k) x.row) within w)
             (since.shelf x (subst (λ (t : Seen V). IsAmong x t.shelf) end.tree m));
         root = end.root;
+        exits = end.exit;
         calls = subst (λ t. Called (Finishes told) a [] t) (sym end.tree) since.calls;
         alone = subst (λ (t : Seen V). StaysAlone a.seat t.seat) (sym end.tree) since.alone;
       }
@@ -74,22 +106,15 @@ module _ {V : Type 0} (told : V → DeviceTold) (n : Node) (devices : List V) (c
   node_ran {F = F} P x z h ds r e prints since end =
       node_ran_from P z h ds r (subst (λ (y : Stepping V F). PrintsAll P told y z old new r) e prints) (subst (λ (y : Stepping V F). Since told (Finishes told) y.site z.site) e since) end
 
-  -- where no row is open none is taken down
-  torn_none : {ends : V → Bool → V → Type 0} {T : List ℕ} {v w : View V} {xs : List (Spent V)} → v.opened ≡ [] → Torn ends T v xs w → xs ≡ []
-  torn_none e (done v) = refl
-  torn_none e (stays v r p m s t) = absurd (among_nil (subst (λ l. IsAmong (r, p) l) e m))
-  torn_none e (ends_so v p k x m q f i t) = absurd (among_nil (subst (λ l. IsAmong (x.row, p) l) e m))
-
   filtered : (ds : List V) → filter_map (λ o. o) (map Some ds) ≡ ds
   filtered [] = refl
   filtered (d ∷ ds) = ap (λ l. d ∷ l) (filtered ds)
 
   -- the node couldn't be begun, and the root was closed
-  pub node_unmade : IsSupplied told n devices → HasRoomFor a n → Closes (Finishes told) a 0 b → new ≡ old → RunsNode {T = Unit {0}} told n devices chunk a b old new how.Memory devices (Err why.Memory)
+  pub node_unmade : IsSupplied told n devices → HasRoomFor a n → Closes (Finishes told) a 0 exit.Canceled b → new ≡ old → RunsNode {T = Unit {0}} told n devices chunk a b old new how.Memory devices (Err why.Memory)
   node_unmade supplied room closes quiet =
       let x = site_of n a devices in
-      let none_torn = torn_none room.opened closes.torn.2 in
-      let bare : b.shelf ≡ [] = closes.torn.1 ∙ (ap (λ xs. a.shelf ++ xs) none_torn ∙ (append-nil a.shelf ∙ empty)) in
+      let bare : b.shelf ≡ [] = closes.torn.1 ∙ (ap (λ xs. a.shelf ++ xs) (none_torn room.opened closes) ∙ (append-nil a.shelf ∙ empty)) in
       let distinct : AreDistinct (firsts (said a.shelf)) = subst (λ l. AreDistinct (firsts (said l))) (sym empty) tt in
       let vacant : (r : ℕ) → IsAmong r a.seat.empty → ¬ (IsAmong r (firsts (said a.shelf))) = λ r m i. among_nil (subst (λ l. IsAmong r (firsts (said l))) empty i) in
       let all = parted told x (begun_in_order told n a devices supplied room) room.opened distinct vacant in
@@ -101,13 +126,14 @@ module _ {V : Type 0} (told : V → DeviceTold) (n : Node) (devices : List V) (c
           how = how.Memory;
           ended_is = refl;
           printed = record { pieces = []; sizes = tt; next = []; rest = []; cut = (refl, refl); wrote = quiet ∙ sym (with_bytes_none old) };
-          run = record { end = Cut; run = inr (refl, inl refl); goes_on = λ e. absurd (true_false (sym e)); reported = inr refl; halted = λ e. absurd (true_false (sym e)); remembered = λ e. refl };
+          run = record { end = Cut; run = inr (refl, inl refl); goes_on = λ e. absurd (false≢true e); reported = inr refl; halted = λ e. absurd (false≢true e); remembered = λ e. refl };
         };
         parted = subst (λ l. Parted told (told_at told x) l (first + length devices) first devices) (empty ∙ sym bare)
             (subst (λ k. Parted told (told_at told x) a.shelf (first + k) first devices) within (subst (λ ds. Parted told (told_at told x) a.shelf (first + length (map Some devices)) first ds) (filtered devices) all));
         once = subst (λ l. AreDistinct (firsts (said l))) (sym bare) tt;
         rows = λ y m. absurd (among_nil (subst (λ l. IsAmong y l) bare m));
         root = closed_now closes;
-        calls = closed a b 0 none room.root closes;
+        exits = closed_as room.root closes;
+        calls = closed a b 0 exit.Canceled none room.root closes;
         alone = alone_closes closes;
       }

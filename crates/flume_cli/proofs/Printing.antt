@@ -1,5 +1,6 @@
 -- Printing a stream, turn by turn.
-use Rattle.std.proofs.Common.{◌≡◌, ◌≢◌, ℕ, ◌+◌, ◌<◌, ◌≤◌, true, false, List, [], ◌∷◌, ◌++◌, inl, inr, map, length, take, drop, Some, Ok, Err, refl, sym, ◌∙◌, ap, subst, arith, append-nil, length-drop}
+use Rattle.std.proofs.Common.{◌≡◌, ℕ, ◌+◌, ◌<◌, ◌≤◌, false, List, [], ◌∷◌, ◌++◌, inl, inr, map, length, take, drop, Some, Ok, Err, refl, sym, ◌∙◌, ap, subst, arith, append-nil, length-drop}
+use Rattle.std.proofs.lemmas.Bool.{false≢true}
 use Rattle.std.proofs.lemmas.Grind.{flat_map-append}
 use Rattle.std.proofs.lemmas.List.{map-append, take-append-drop}
 use Rattle.chunk_core.specs.Lists.{Each}
@@ -67,9 +68,6 @@ tells_later a b c r h i = tells_on a b c r Nil (λ p l. absurd l) h i
 tells_of : {F : Type 0} (a b : ℕ → DeviceTold) (r : Rest F) → Tells {F = F} a b Nil → Tells a b r
 tells_of a b r h = record { goes = h.goes; others = λ p n. h.others p (λ l. l) }
 
-true_false : true ≢ false
-true_false e = cc
-
 module _ {F : Type 0} (P : Standing F) (first before : ℕ → DeviceTold) (n : ℕ) (start rest : Rest F) (old mid : SinkTold) (p : PrintsOn P first before n start rest old mid) where
   -- nothing was cut
   abbrev whole : PrintsPieces (widest n start) old mid false
@@ -91,7 +89,7 @@ module _ {F : Type 0} (P : Standing F) (first before : ℕ → DeviceTold) (n : 
     how = how.Memory;
     ended_is = refl;
     printed = whole;
-    run = record { end = Cut; run = stopped now last h t; goes_on = λ e. absurd (true_false (sym e)); reported = inr refl; halted = λ e. absurd (true_false (sym e)); remembered = λ e. refl };
+    run = record { end = Cut; run = stopped now last h t; goes_on = λ e. absurd (false≢true e); reported = inr refl; halted = λ e. absurd (false≢true e); remembered = λ e. refl };
   }
 
 module _ {F : Type 0} (P : Standing F) (first : ℕ → DeviceTold) (before now : Around) (n : ℕ) (start rest next : Rest F) (old mid : SinkTold) (p : PrintsOn P first before.told n start rest old mid) where
@@ -121,10 +119,10 @@ module _ {F : Type 0} (P : Standing F) (first : ℕ → DeviceTold) (before now 
     run = record {
       end = Done;
       run = led_done P first before now n start rest next (elements_of p.pieces) p.led k now.told (over_now now.told start);
-      goes_on = λ e. absurd (true_false (sym e));
+      goes_on = λ e. absurd (false≢true e);
       reported = refl;
-      halted = λ e. absurd (true_false (sym e));
-      remembered = λ e. absurd (true_false (sym e));
+      halted = λ e. absurd (false≢true e);
+      remembered = λ e. absurd (false≢true e);
     };
   }
 
@@ -136,10 +134,10 @@ module _ {F : Type 0} (P : Standing F) (first : ℕ → DeviceTold) (before now 
     run = record {
       end = Fault c;
       run = led_fault P first before now n start rest next (elements_of p.pieces) p.led c k now.told (over_now now.told start);
-      goes_on = λ e. absurd (true_false (sym e));
+      goes_on = λ e. absurd (false≢true e);
       reported = refl;
-      halted = λ e. absurd (true_false (sym e));
-      remembered = λ e. absurd (true_false (sym e));
+      halted = λ e. absurd (false≢true e);
+      remembered = λ e. absurd (false≢true e);
     };
   }
 
@@ -150,7 +148,7 @@ module _ {F : Type 0} (P : Standing F) (first : ℕ → DeviceTold) (before now 
       how = how.Halted;
       ended_is = refl;
       printed = whole P first before.told n start rest old mid p;
-      run = record { end = Cut; run = stopped P first before.told n start rest old mid p now.told last k.tells t; goes_on = λ e. absurd (true_false (sym e)); reported = inl refl; halted = λ e. inr refl; remembered = λ e. absurd (true_false (sym e)) };
+      run = record { end = Cut; run = stopped P first before.told n start rest old mid p now.told last k.tells t; goes_on = λ e. absurd (false≢true e); reported = inl refl; halted = λ e. inr refl; remembered = λ e. absurd (false≢true e) };
     })
 
     -- a write failed
@@ -177,7 +175,7 @@ module _ {F : Type 0} (P : Standing F) (first : ℕ → DeviceTold) (before now 
             goes_on = λ e. cut_later P first now.told last start next (elements_of p.pieces ++ elements l) (led_chunk P first before now n start rest next (elements_of p.pieces) p.led l k) (tells_of now.told last next t);
             reported = inl refl;
             halted = λ e. inl refl;
-            remembered = λ e. absurd (true_false (sym e));
+            remembered = λ e. absurd (false≢true e);
           };
         }
 

@@ -1,40 +1,34 @@
 -- A stream that was run alone.
-use Rattle.std.proofs.Common.{◌≡◌, ℕ, zero, suc, ◌+◌, ◌*◌, ◌<◌, ◌≤◌, List, [], ◌∷◌, ◌++◌, inl, map, length, Option, Some, Result, refl, sym, ◌∙◌, ap, subst, ⊎_elim, arith}
-use Rattle.std.specs.List.Sorted.{IsPermutation}
+use Rattle.std.proofs.Common.{◌≡◌, ℕ, zero, suc, ◌+◌, ◌-◌, ◌*◌, ◌^◌, ◌<◌, ◌≤◌, List, [], ◌∷◌, inl, map, length, Option, Some, Result, refl, sym, ◌∙◌, ap, subst, ⊎_elim, arith}
 use Rattle.std.proofs.lemmas.Bool.{cases_lt}
-use Rattle.std.proofs.lemmas.List.{length-map}
 use Rattle.chunk_core.specs.Lists.{IsAmong}
 use Rattle.chunk_core.specs.Lists.IsAmong.{here, there}
 use Rattle.chunk_core.proofs.Members.{among_nil}
 use Rattle.chunk_core.specs.declared.code.How.{How}
 use Rattle.res_ledger.specs.declared.event.StreamNo.TheVariants.{Inner}
 use Rattle.res_ledger.specs.declared.event.Event.{Event}
-use Rattle.device_port.specs.Device.{Place, DeviceTold}
+use Rattle.device_port.specs.Device.{DeviceTold}
 use Rattle.device_port.specs.Sink.{SinkTold}
 use Rattle.pull_nodes.specs.Runs.{IsRun}
 use Rattle.pull_nodes.specs.Shape.{places_of, scope_count}
 use Rattle.pull_nodes.specs.declared.node.Node.{Node}
 use Rattle.row_seat.specs.Views.{IsLedgerOf, run, start}
 use Rattle.scope_tree.specs.declared.branch.Spent.{Spent}
-use Rattle.scope_tree.specs.Calls.{Seen}
-use Rattle.scope_tree.specs.Torn.{said}
-use Rattle.scope_tree.specs.Words.{ended_rows, words}
+use Rattle.scope_tree.specs.Calls.{AtStart, Seen}
 use Rattle.tree_laws.proofs.Alone.{alone_whole, first_at_start}
+use Rattle.tree_laws.proofs.Said.{called_ends}
 use Rattle.tree_laws.specs.Whole.{IsWhole}
 use Rattle.pull_stepper.specs.Placing.{first_of}
 use Rattle.pull_stepper.specs.Sites.{Parted, SameDevice, pay_of, slot_of, told_by}
 use Rattle.pull_stepper.specs.Stepping.{HasRoomFor}
 use Rattle.pull_stepper.proofs.Slots.{slot_here, slot_past}
-use Rattle.run_rules.specs.Facts.{below}
 use Rattle.flume_cli.specs.declared.frame.NotPut.{NotPut}
 use Rattle.flume_cli.specs.Alone.{IsAccount, IsRunIn}
 use Rattle.flume_cli.specs.Nodes.{RunsNode}
 use Rattle.flume_cli.specs.Printing.{is_unwritten, is_wanting}
 use Rattle.flume_cli.specs.Streams.{AreSame, RunsStream}
 use Rattle.flume_cli.proofs.Closing.{account}
-use Rattle.flume_cli.proofs.Homes.{devices_from, devices_are}
-use Rattle.flume_cli.proofs.PartedRows.{once_of, parted_all, spent_of, tells_of, AreFrom}
-use Rattle.flume_cli.proofs.Tallies.{below_is}
+use Rattle.flume_cli.proofs.PartedRows.{all_parted, each_spent, shelf_tells}
 
 same_how : (h k : How) → Some k ≡ Some h → h ≡ k
 same_how h k e = cc
@@ -58,11 +52,11 @@ event_count n = 2 * length (places_of n) + 2 * scope_count n + 1
 module _ {V : Type 0} (n : Node) where
   -- a tree of a fresh seat
   abbrev at_first : ℕ → ℕ → Seen V
-  at_first s r = record { seat = start (Inner 0) (row_count n) (event_count n); shelf = []; scopes = s; rows = r }
+  at_first s r = record { seat = start (Inner 0) (row_count n) (event_count n) (2 ^ 32 - 1); shelf = []; scopes = s; rows = r }
 
   first_room : (s r : ℕ) → first_of (places_of n) ≡ 0 → scope_count n + 1 ≤ s → row_count n ≤ r → HasRoomFor (at_first s r) n
   first_room s r zero_is enough rows = record {
-    root = (inl refl, λ c. among_nil c.2.1);
+    root = (inl refl, λ c. among_nil c.2.1.1);
     owed = refl;
     opened = refl;
     empty = λ p w. in_run 0 (row_count n) p (omega arith) (omega (arith, w.1, zero_is));
@@ -84,46 +78,35 @@ module _ {V : Type 0} (told : V → DeviceTold) where
     same_from w o (suc i) ds (λ p l. subst (λ s. SameDevice (told_by told s (o p)) (w p)) (slot_past p i (Some d) (map Some ds) (λ e. omega (arith, e, l))) (h p (omega arith))),
   )
 
-  module _ (n : Node) (devices : List V) (chunk : ℕ) (so sn : SinkTold) (a b : Seen V) (how : How) (unopened : List V) (r : Result (Unit {0}) NotPut) (L : List Event) (places events : ℕ) (zero_is : first_of (places_of n) ≡ 0) (fresh : a.seat ≡ start (Inner 0) places events)
-      (some : 1 ≤ events) (runs : RunsNode told n devices chunk a b so sn how unopened r) (ledger : IsLedgerOf b.seat L) (finals : ended_rows (words b.seat) ≡ said b.shelf) where
+  module _ (n : Node) (devices : List V) (chunk : ℕ) (so sn : SinkTold) (a b : Seen V) (how : How) (unopened : List V) (r : Result (Unit {0}) NotPut) (L : List Event) (places events splits : ℕ) (zero_is : first_of (places_of n) ≡ 0) (fresh : a.seat ≡ start (Inner 0) places events splits)
+      (some : 1 ≤ events) (runs : RunsNode told n devices chunk a b so sn how unopened r) (ledger : IsLedgerOf b.seat L) (bare : a.shelf ≡ []) where
     count : first_of (places_of n) + length devices ≡ length devices
     count = omega (arith, zero_is)
 
     parted_here : Parted told runs.home b.shelf (length devices) 0 unopened
     parted_here = subst (λ k. Parted told runs.home b.shelf k 0 unopened) count (subst (λ i. Parted told runs.home b.shelf (first_of (places_of n) + length devices) i unopened) zero_is runs.parted)
 
-    rows_here : AreFrom told runs.home (length devices) 0 b.shelf
-    rows_here x m = let w = runs.rows x m in (omega arith, omega (arith, w.1, zero_is))
+    rows_here : (x : Spent V) → IsAmong x b.shelf → x.row < length devices
+    rows_here x m = let w = runs.rows x m in omega (arith, w.1, zero_is)
+
+    begins : AtStart a.seat
+    begins = first_at_start a.seat (Inner 0) places events splits fresh some
 
     whole : IsWhole L
-    whole = alone_whole L (first_at_start a.seat (Inner 0) places events fresh some) runs.calls runs.alone runs.root ledger
+    whole = alone_whole L begins runs.calls runs.alone runs.root ledger
 
-    accounted : IsAccount (length devices) runs.home L
-    accounted = account b.seat L b.shelf (length devices) runs.home (runs.alone.by ∙ ap (λ v. v.by) fresh) ledger whole
+    accounted : IsAccount (length devices) runs.home how L
+    accounted = account b.seat L b.shelf (length devices) runs.home how (runs.alone.by ∙ ap (λ v. v.by) fresh) ledger whole
         (λ e m. ⊎_elim (λ i. absurd (among_nil (subst (λ v. IsAmong e v.events) fresh i))) (λ k. k) (runs.alone.events e m))
-        finals runs.root (tells_of told runs.home (length devices) b.shelf parted_here (once_of told runs.home b.shelf runs.once) rows_here)
-
-    -- some places, as many as there are devices
-    abbrev spots : List Place
-    spots = map (λ d. (told d).place) devices
-
-    as_many : length spots ≡ length devices
-    as_many = length-map devices (λ d. (told d).place)
-
-    all_devices : IsPermutation (map runs.home (below (length devices))) (map (λ (x : Spent V). told x.pay) b.shelf ++ map told unopened)
-    all_devices =
-        let listed : devices_from runs.home 0 spots ≡ map runs.home (below (length devices)) = sym (devices_are runs.home 0 spots) ∙ (ap (λ k. map runs.home (run 0 k)) as_many ∙ ap (λ ns. map runs.home ns) (sym (below_is (length devices)))) in
-        subst (λ ds. IsPermutation ds (map (λ (x : Spent V). told x.pay) b.shelf ++ map told unopened)) listed
-        (parted_all told runs.home (length devices) b.shelf 0 spots parted_here (once_of told runs.home b.shelf runs.once) rows_here (omega (arith, as_many)))
+        (called_ends begins bare runs.calls) runs.root runs.exits (shelf_tells told runs.home (length devices) b.shelf parted_here runs.once rows_here)
 
     pub stream_ran : RunsStream told n devices chunk so sn (record { outcome = record { ends = record { who = Inner 0; how = how } ∷ []; ledger = L; sink_failed = is_unwritten r; memory = is_wanting r }; shelf = b.shelf; unopened = unopened })
     stream_ran = record {
       home = runs.home;
       how = how;
       same = same_from runs.home (λ p. pay_of a p) 0 devices (λ p l. subst (λ f. SameDevice (told_by told (slot_of p f (map Some devices)) (pay_of a p)) (runs.home p)) zero_is (runs.same p));
-      each = all_devices;
-      shut = λ k l. (spent_of told runs.home (length devices) b.shelf parted_here k l).0;
-      stage = λ k l. (spent_of told runs.home (length devices) b.shelf parted_here k l).1;
+      each = all_parted told runs.home (length devices) b.shelf parted_here runs.once rows_here;
+      rest = each_spent told runs.home (length devices) b.shelf parted_here runs.once rows_here;
       account = accounted;
       printed = runs.prints.printed;
       run = subst (λ h. IsRunIn (IsRun runs.home n) runs.prints.printed.pieces runs.prints.printed.next (is_unwritten r) (is_wanting r) h) (same_how runs.prints.how how runs.prints.ended_is) runs.prints.run;

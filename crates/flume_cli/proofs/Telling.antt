@@ -1,6 +1,6 @@
 -- A call, from the work that was done and how it was told.
-use Rattle.std.proofs.Common.{◌≡◌, ◌≢◌, ℕ, ◌+◌, ◌<◌, Bool, true, false, not, nat_lt, is_some, List, [], ◌∷◌, ◌++◌, ◌⊎◌, inl, inr, length, map, flat_map, take, drop, Option, Some, None, refl, sym, ◌∙◌, ap, subst, ⊎_elim, arith, append-nil, append_assoc, length-append, length-take}
-use Rattle.std.proofs.lemmas.Bool.Decides.{nat_tests}
+use Rattle.std.proofs.Common.{◌≡◌, ◌≢◌, ℕ, ◌+◌, ◌<◌, Bool, true, false, not, nat_lt, List, [], ◌∷◌, ◌++◌, inl, inr, length, map, flat_map, take, drop, Option, Some, None, refl, sym, ◌∙◌, ap, subst, ⊎_elim, arith, append-nil, append_assoc, length-append, length-take}
+use Rattle.std.proofs.lemmas.Bool.{both_ways, cases_Bool, le-ltb, lt-ltb}
 use Rattle.std.proofs.lemmas.List.{take-append-drop}
 use Rattle.std.specs.List.{list_any as any}
 use Rattle.chunk_core.specs.Texts.{frames_text}
@@ -20,26 +20,18 @@ use Rattle.flume_cli.specs.declared.status.Status.{Status}
 use Rattle.flume_cli.specs.declared.status.Status.TheVariants as status
 use Rattle.flume_cli.specs.declared.report.Report.{Report}
 use Rattle.flume_cli.specs.declared.outcome.Outcome.{Outcome}
-use Rattle.flume_cli.specs.Words.{cat_path_of, command_by}
+use Rattle.flume_cli.specs.Words.{cat_path_of, command_by, is_meant}
 use Rattle.flume_cli.specs.Status.{Causes, status_of, line_of}
 use Rattle.flume_cli.specs.Cat.{cat_work, deed_of, and_one, RunsCat}
 use Rattle.flume_cli.specs.Headline.{Call, Headline, Does, IsText, SaysTail, IsToldLine, is_tellable}
 use Rattle.flume_cli.specs.Call.{call_of}
-use Rattle.flume_cli.specs.Finish.{Finishes, PrintsTail, Prints, status_by}
-use Rattle.flume_cli.proofs.Accounts.{true_false}
+use Rattle.flume_cli.specs.Finish.{Reports, PrintsTail, Prints, status_by}
 
 rose : (a b : ℕ) → b ≡ a + 1 → nat_lt a b ≡ true
-rose a b e = grind (arith, nat_tests)
+rose a b e = lt-ltb a b (omega arith)
 
 kept : (a b : ℕ) → b ≡ a → nat_lt a b ≡ false
-kept a b e = grind (arith, nat_tests)
-
-choice : (b : Bool) → (b ≡ true) ⊎ (b ≡ false)
-choice true = inl refl
-choice false = inr refl
-
-not_both : (b : Bool) → b ≡ true → b ≡ false → ⊥
-not_both b t f = true_false (sym t ∙ f)
+kept a b e = le-ltb a b (omega arith)
 
 none_some : {A : Type 0} (x : A) (xs : List A) → [] ≢ (x ∷ xs)
 none_some x xs e = cc
@@ -89,7 +81,7 @@ module _ (words : List (List ℕ)) (path : List ℕ) (src : SourceTold) (dold dn
   uncut f =
       ⊎_elim
       (λ (x : IsUnmade (deed_of dold dnew runs.frames runs.rest o)). x.rest)
-      (λ (x : Ran (cat_work path) (deed_of dold dnew runs.frames runs.rest o)). ⊎_elim (λ e. e) (λ y. absurd (not_both o.sink_failed y.0 f)) x.outputs.cut)
+      (λ (x : Ran (cat_work path) (deed_of dold dnew runs.frames runs.rest o)). ⊎_elim (λ e. e) (λ y. absurd (both_ways o.sink_failed f y.0)) x.outputs.cut)
       runs.performs.ran
 
   tellable_ends : (es : List EndOf) → map (λ (e : EndOf). e.who) es ≡ Inner 0 ∷ [] → any (λ (e : EndOf). is_memory e.how) es ≡ false → is_tellable es ≡ true
@@ -99,9 +91,9 @@ module _ (words : List (List ℕ)) (path : List ℕ) (src : SourceTold) (dold dn
   tellable : o.memory ≡ false → is_tellable o.ends ≡ true
   tellable f =
       ⊎_elim
-      (λ (x : IsUnmade (deed_of dold dnew runs.frames runs.rest o)). absurd (not_both o.memory x.memory f))
+      (λ (x : IsUnmade (deed_of dold dnew runs.frames runs.rest o)). absurd (both_ways o.memory f x.memory))
       (λ (x : Ran (cat_work path) (deed_of dold dnew runs.frames runs.rest o)).
-      tellable_ends o.ends x.ends.named (⊎_elim (λ t. absurd (not_both o.memory (remembered t) f)) (λ e. e) (choice (any (λ (e : EndOf). is_memory e.how) o.ends))))
+      tellable_ends o.ends x.ends.named (⊎_elim (λ t. absurd (both_ways o.memory f (remembered t))) (λ e. e) (cases_Bool (any (λ (e : EndOf). is_memory e.how) o.ends))))
       runs.performs.ran
 
   -- the headline, from the parts that differ by how the call was told
@@ -109,7 +101,7 @@ module _ (words : List (List ℕ)) (path : List ℕ) (src : SourceTold) (dold dn
   headline s m more failed is text line = record {
     causes = causes m;
     status = record {
-      words = ap (λ p. is_some p) (sym known);
+      words = ap (λ p. is_meant (command_by p)) (sym known);
       unwritten = refl;
       memory = λ h. more (remembered h);
       faulty = refl;
@@ -152,10 +144,10 @@ module _ (words : List (List ℕ)) (path : List ℕ) (src : SourceTold) (dold dn
       ∙ (ap (λ (x : SinkTold). x.written) (with_bytes_twice so front bytes) ∙ ap (λ b. (with_bytes so b).written) (append_assoc (frames_text runs.frames) runs.rest bytes)))
 
   never_idle : o.sink_failed ≡ true → o.ends ≡ [] → ⊥
-  never_idle t e = not_both o.sink_failed t (runs.begun e).0
+  never_idle t e = both_ways o.sink_failed (runs.begun e).0 t
 
   never_none : o.memory ≡ false → o.ends ≡ [] → ⊥
-  never_none f e = not_both o.memory (runs.begun e).1 f
+  never_none f e = both_ways o.memory f (runs.begun e).1
 
   tells_failed : o.sink_failed ≡ true → sn ≡ mid → IsToldLine eold enew (line_of status.NotWritten) → Headline (told status.NotWritten)
   tells_failed t e line =
@@ -171,7 +163,7 @@ module _ (words : List (List ℕ)) (path : List ℕ) (src : SourceTold) (dold dn
   tells_memory : o.sink_failed ≡ false → sn ≡ mid → IsToldLine eold enew (line_of status.Memory) → Headline (told status.Memory)
   tells_memory f e line =
       let same : sn.faults ≡ so.faults = ap (λ (x : SinkTold). x.faults) e ∙ mid_kept f in
-      headline status.Memory true (λ h. refl) (λ h. absurd (not_both o.sink_failed h f)) (memory_is (nat_lt so.faults sn.faults) (any (λ (x : EndOf). is_fault x.how) o.ends) (has is_failed o.ledger) (kept so.faults sn.faults same)) (record {
+      headline status.Memory true (λ h. refl) (λ h. absurd (both_ways o.sink_failed f h)) (memory_is (nat_lt so.faults sn.faults) (any (λ (x : EndOf). is_fault x.how) o.ends) (has is_failed o.ledger) (kept so.faults sn.faults same)) (record {
         said = [];
         written = silent e;
         tail = inl refl;
@@ -195,7 +187,7 @@ module _ (words : List (List ℕ)) (path : List ℕ) (src : SourceTold) (dold dn
   told_whole : (s : Status) → o.sink_failed ≡ false → o.memory ≡ false → sn ≡ with_bytes mid tail → s ≡ status_by o.ends o.ledger → SaysTail (told s) runs.rest tail s → IsToldLine eold enew (line_of s) → Headline (told s)
   told_whole s f g e is says line =
       let same : sn.faults ≡ so.faults = ap (λ (x : SinkTold). x.faults) e ∙ mid_kept f in
-      headline s false (λ h. absurd (not_both o.memory h g)) (λ h. absurd (not_both o.sink_failed h f)) (is ∙ printed_is _ _ _ (kept so.faults sn.faults same)) (record {
+      headline s false (λ h. absurd (both_ways o.memory g h)) (λ h. absurd (both_ways o.sink_failed f h)) (is ∙ printed_is _ _ _ (kept so.faults sn.faults same)) (record {
         said = tail;
         written = said_behind tail (ap (λ (x : SinkTold). x.written) e);
         tail = says;
@@ -218,21 +210,21 @@ module _ (words : List (List ℕ)) (path : List ℕ) (src : SourceTold) (dold dn
       (λ f. ⊎_elim
       (λ t. let q = p.memory f t in subst (λ x. Headline (told x)) (sym q.0) (tells_memory f q.1 (subst (λ x. IsToldLine eold enew (line_of x)) q.0 line)))
       (λ g. tells_printed s f g (p.printed f g) line)
-      (choice o.memory))
-      (choice o.sink_failed)
+      (cases_Bool o.memory))
+      (cases_Bool o.sink_failed)
 
   -- cat was run and told
-  pub cat_told : (s : Status) (r : Report) → PrintsTail o mid sn s → Finishes s o.ends o.ledger eold enew r → Headline (call_of words src src dold dnew so sn eold enew r)
+  pub cat_told : (s : Status) (r : Report) → PrintsTail o mid sn s → Reports s o.ends o.ledger eold enew r → Headline (call_of words src src dold dnew so sn eold enew r)
   cat_told s r p f =
       subst (λ x. Headline (call_of words src src dold dnew so sn eold enew x)) (sym (report_is r s o.ends o.ledger f.status_is f.ends_are f.ledger_is)) (tells_any s p f.line)
 
 -- the words mean nothing
-pub nothing_told : (words : List (List ℕ)) (src : SourceTold) (depot : DepotTold) (out eold enew : SinkTold) (r : Report) → cat_path_of words ≡ None → Finishes status.BadWords [] [] eold enew r → Headline (call_of words src src depot depot out out eold enew r)
+pub nothing_told : (words : List (List ℕ)) (src : SourceTold) (depot : DepotTold) (out eold enew : SinkTold) (r : Report) → cat_path_of words ≡ None → Reports status.BadWords [] [] eold enew r → Headline (call_of words src src depot depot out out eold enew r)
 nothing_told words src depot out eold enew r known f =
     subst (λ x. Headline (call_of words src src depot depot out out eold enew x)) (sym (report_is r status.BadWords [] [] f.status_is f.ends_are f.ledger_is)) (record {
       causes = record { words = false; unwritten = false; memory = false; faulty = false; unclean = false };
       status = record {
-        words = ap (λ p. is_some p) (sym known);
+        words = ap (λ p. is_meant (command_by p)) (sym known);
         unwritten = sym (kept out.faults out.faults refl);
         memory = λ h. h;
         faulty = refl;

@@ -1,16 +1,19 @@
 -- A cat of which nothing was begun.
-use Rattle.std.proofs.Common.{◌≡◌, ℕ, Bool, true, false, nat_eq, nat_lt, List, [], ◌∷◌, ◌++◌, inr, inl, length, drop, map, filter, Option, Some, None, refl, sym, ◌∙◌, ap, subst, append-nil}
+use Rattle.std.proofs.Common.{◌≡◌, ℕ, Bool, true, false, nat_eq, nat_lt, List, [], ◌∷◌, ◌++◌, inr, inl, length, drop, map, Option, Some, None, refl, sym, ◌∙◌, ap, subst, append-nil}
 use Rattle.std.proofs.Math.Seq.{drop-append_seam}
+use Rattle.std.proofs.lemmas.List.Sorted.{IsPermutation-refl}
+use Rattle.std.specs.List.Sorted.{IsPermutation}
 use Rattle.chunk_core.specs.Lists.{Each}
 use Rattle.res_ledger.specs.declared.event.Event.{Event}
 use Rattle.res_ledger.proofs.Judged.{legal_sound, complete_sound}
 use Rattle.res_ledger.proofs.Ordering.{ordered_sound}
-use Rattle.device_port.specs.Device.{Place, DeviceTold}
+use Rattle.device_port.specs.Device.{DeviceTold}
 use Rattle.device_port.specs.Depot.{DepotTold, Files, KeepsFilesBut}
 use Rattle.device_port.specs.Sink.{SinkTold, with_bytes}
 use Rattle.device_port.proofs.Puts.{with_bytes_none}
 use Rattle.run_rules.specs.declared.end.EndOf.{EndOf}
-use Rattle.run_rules.specs.Devices.{came_back, ComeBackOnce, StandAsOften, IsWritten}
+use Rattle.run_rules.specs.Facts.{acquired_row, ended_row, failed_row}
+use Rattle.run_rules.specs.Devices.{AreAsMany, IsWritten, came_back, is_closed_with, named, numbered}
 use Rattle.run_rules.specs.Run.{KeepsRules}
 use Rattle.flume_cli.specs.declared.outcome.Outcome.{Outcome}
 use Rattle.flume_cli.specs.Cat.{to_read, cat_work, RunsCat}
@@ -49,12 +52,12 @@ cat_makes_nothing path old new so sn size e quiet =
         devices = record {
           made = and_nothing old.made;
           retired = and_nothing old.retired;
-          number = ap (λ (xs : List DeviceTold). length xs) (dropped_all old.retired) ∙ sym (ap (λ (xs : List Place). length xs) (dropped_all old.made));
-          once = subst (λ ps. ComeBackOnce (came_back old old) (length old.made) ps) (sym (dropped_all old.made)) tt;
+          once = subst (λ ps. IsPermutation (numbered (length old.made) ps) (map named (came_back old old))) (sym (dropped_all old.made)) (subst (λ ds. IsPermutation [] (map named ds)) (sym (dropped_all old.retired)) (IsPermutation-refl []));
           shut = subst (λ ds. Each (λ (x : DeviceTold). (x.is_open ≡ false) × (x.closes ≡ x.opens)) ds) (sym (dropped_all old.retired)) tt;
           rows = tt;
-          acquired = subst (λ ds. StandAsOften (map (λ (x : DeviceTold). x.place) (filter (λ (x : DeviceTold). nat_eq x.opens 1) ds)) []) (sym (dropped_all old.retired)) tt;
-          failed = subst (λ ds. StandAsOften (map (λ (x : DeviceTold). x.place) (filter (λ (x : DeviceTold). nat_lt 0 x.close_faults) ds)) []) (sym (dropped_all old.retired)) tt;
+          acquired = subst (λ ds. AreAsMany (λ d. nat_eq d.opens 1) acquired_row ds (to_read path ∷ []) []) (sym (dropped_all old.retired)) tt;
+          failed = subst (λ ds. AreAsMany (λ d. nat_lt 0 d.close_faults) failed_row ds (to_read path ∷ []) []) (sym (dropped_all old.retired)) tt;
+          exits = λ x. subst (λ ds. AreAsMany (is_closed_with x) (ended_row x) ds (to_read path ∷ []) []) (sym (dropped_all old.retired)) tt;
           files = keeps_same (IsWritten (to_read path ∷ [])) old.files;
         };
         ledger = none_rules path;

@@ -1,15 +1,16 @@
 -- What one stream that ran alone has done.
-use Rattle.std.specs.Prelude.{◌≡◌, ◌⊎◌, ℕ, suc, ◌+◌, ◌<◌, ◌≤◌, Bool, true, false, cond, nat_eq, List, [], ◌∷◌, ◌++◌, map, length, flat_map, Option, None}
+use Rattle.std.specs.Prelude.{◌≡◌, ◌⊎◌, ℕ, ◌+◌, ◌<◌, ◌≤◌, Bool, true, false, cond, nat_eq, List, [], ◌∷◌, ◌++◌, map, length, flat_map, Option, Some, None}
 use Rattle.std.specs.List.Sorted.{IsPermutation}
 use Rattle.chunk_core.specs.Lists.{Each}
 use Rattle.chunk_core.specs.Elements.{Element, rendering_of}
-use Rattle.chunk_core.specs.Outcomes.{End, Cut, Outcomes}
+use Rattle.chunk_core.specs.Outcomes.{End, Cut, Outcomes, exit_of}
 use Rattle.chunk_core.specs.Texts.{Frame, frame_text, frames_text}
+use Rattle.chunk_core.specs.declared.code.Exit.{Exit}
 use Rattle.chunk_core.specs.declared.code.How.{How}
 use Rattle.res_ledger.specs.declared.event.StreamNo.TheVariants.{Inner}
 use Rattle.res_ledger.specs.declared.event.What.TheVariants.{Acquire, Close, Final}
 use Rattle.res_ledger.specs.declared.event.Event.{Event}
-use Rattle.res_ledger.specs.Ledger.{Notes, IsAcquired, IsLegal}
+use Rattle.res_ledger.specs.Ledger.{Notes, NotesClose, IsAcquired, IsLegal}
 use Rattle.res_ledger.specs.Whole.{IsComplete}
 use Rattle.res_ledger.specs.Order.{IsOrdered}
 use Rattle.device_port.specs.Device.{Place, DeviceTold}
@@ -68,18 +69,22 @@ pub record IsRunIn (runs : Outcomes) (pieces : List (List Element)) (next : List
 
 -- What became of the devices.
 
--- the device with this number was made for the place, and was never opened, or was opened once and closed
-pub record IsSpent (files : Option Files) (number : ℕ) (place : Place) (d : DeviceTold) : Type 0 where
+-- it isn't open: it was never opened, or opened once and closed
+pub record IsAtRest (d : DeviceTold) : Type 0 where
+  pub shut : d.is_open ≡ false
+  pub stage : ((d.opens ≡ 0) × (d.closes ≡ 0) × (d.close_faults ≡ 0) × (d.exit ≡ None)) ⊎ ((d.opens ≡ 1) × (d.closes ≡ 1))
+
+-- the device with this number was made for the place, and is at rest
+pub record IsReturned (files : Option Files) (number : ℕ) (place : Place) (d : DeviceTold) : Type 0 where
   pub number_is : d.number ≡ number
   pub place_is : d.place ≡ place
   pub content_is : d.content ≡ content_at files place.path
-  pub shut : d.is_open ≡ false
-  pub stage : ((d.opens ≡ 0) × (d.closes ≡ 0) × (d.close_faults ≡ 0)) ⊎ ((d.opens ≡ 1) × (d.closes ≡ 1))
+  pub rest : IsAtRest d
 
 -- the rows from r on have such devices, with the numbers from n on
-abbrev pub AreSpent : Option Files → ℕ → (ℕ → DeviceTold) → ℕ → List Place → Type 0
-AreSpent files n w r [] = Unit {0}
-AreSpent files n w r (p ∷ ps) = IsSpent files n p (w r) × AreSpent files (suc n) w (suc r) ps
+abbrev pub AreReturned : Option Files → ℕ → (ℕ → DeviceTold) → ℕ → List Place → Type 0
+AreReturned files n w r [] = Unit {0}
+AreReturned files n w r (p ∷ ps) = IsReturned files n p (w r) × AreReturned files (n + 1) w (r + 1) ps
 
 -- the depot made a device for each place, and each came back, in any order
 pub record ComesBack (old new : DepotTold) (places : List Place) (w : ℕ → DeviceTold) : Type 0 where
@@ -87,28 +92,29 @@ pub record ComesBack (old new : DepotTold) (places : List Place) (w : ℕ → De
   pub back : List DeviceTold
   pub retired : new.retired ≡ old.retired ++ back
   pub each : IsPermutation (map w (below (length places))) back
-  pub spent : AreSpent old.files (length old.made) w 0 places
+  pub devices : AreReturned old.files (length old.made) w 0 places
   pub files : KeepsFilesBut (IsWritten places) old.files new.files
 
 -- What was noted.
 
--- the ledger of stream 0 alone: it acquired the rows whose devices were opened and ended them, leased nothing and closed its root
-pub record IsAccount (count : ℕ) (w : ℕ → DeviceTold) (L : List Event) : Type 0 where
+-- the ledger of stream 0 alone: it acquired the rows whose devices were opened and ended them as those were closed, leased nothing, and closed its root as it ended
+pub record IsAccount (count : ℕ) (w : ℕ → DeviceTold) (how : How) (L : List Event) : Type 0 where
   pub legal : IsLegal L
   pub complete : IsComplete L
   pub ordered : IsOrdered L
   pub own : Each (λ e. (e.by ≡ Inner 0) × (leased_stream e.what ≡ None)) L
   pub acquired : (r s : ℕ) → Notes L (Inner 0) (Acquire r s) → (r < count) × ((w r).opens ≡ 1)
   pub each : (r : ℕ) → r < count → (w r).opens ≡ 1 → IsAcquired L r
-  pub ended : (r : ℕ) (ok : Bool) → Notes L (Inner 0) (Final r ok) → ok ≡ nat_eq (w r).close_faults 0
-  pub closed : Notes L (Inner 0) (Close 0)
+  pub ended : (r : ℕ) (x : Exit) (ok : Bool) → Notes L (Inner 0) (Final r x ok) → ((w r).exit ≡ Some x) × (ok ≡ nat_eq (w r).close_faults 0)
+  pub closed : NotesClose L (Inner 0) 0
+  pub exits : (x : Exit) → Notes L (Inner 0) (Close 0 x) → x ≡ exit_of how
 
 -- the stream ran over devices for these places, in pieces of at most size elements
 pub record RunsAlone (places : List Place) (runs : (ℕ → DeviceTold) → Outcomes) (size : ℕ) (depot_old depot_new : DepotTold) (old new : SinkTold) (o : Outcome) : Type 0 where
   pub home : ℕ → DeviceTold
   pub how : How
   pub devices : ComesBack depot_old depot_new places home
-  pub account : IsAccount (length places) home o.ledger
+  pub account : IsAccount (length places) home how o.ledger
   pub printed : PrintsPieces size old new o.sink_failed
   pub run : IsRunIn (runs home) printed.pieces printed.next o.sink_failed o.memory how
   pub ends : o.ends ≡ record { who = Inner 0; how = how } ∷ []

@@ -31,7 +31,7 @@ pub record PrintsTail (o : Outcome) (old new : SinkTold) (s : Status) : Type 0 w
   pub printed : o.sink_failed ≡ false → o.memory ≡ false → Prints o old new s
 
 -- the status, the ends and the ledger are reported, and the line of the status is told
-pub record Finishes (s : Status) (ends : List EndOf) (L : List Event) (old new : SinkTold) (r : Report) : Type 0 where
+pub record Reports (s : Status) (ends : List EndOf) (L : List Event) (old new : SinkTold) (r : Report) : Type 0 where
   pub status_is : r.status ≡ s
   pub ends_are : r.ends ≡ ends
   pub ledger_is : r.ledger ≡ L

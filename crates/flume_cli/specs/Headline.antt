@@ -1,5 +1,5 @@
 -- The contract of the top call, over all that it reads, writes and reports.
-use Rattle.std.specs.Prelude.{◌≡◌, ◌⊎◌, ℕ, ◌+◌, ◌<◌, ◌≤◌, Bool, true, false, not, nat_lt, is_some, List, [], ◌∷◌, ◌++◌, length}
+use Rattle.std.specs.Prelude.{◌≡◌, ◌⊎◌, ℕ, ◌+◌, ◌<◌, ◌≤◌, Bool, true, false, not, nat_lt, List, [], ◌∷◌, ◌++◌, length}
 use Rattle.std.specs.List.{list_any as any}
 use Rattle.chunk_core.specs.Texts.{Frame, frames_text}
 use Rattle.res_ledger.specs.declared.event.Event.{Event}
@@ -13,7 +13,7 @@ use Rattle.run_rules.specs.Run.{Performs}
 use Rattle.run_rules.specs.Texts.{tail_text}
 use Rattle.flume_cli.specs.declared.status.Status.{Status}
 use Rattle.flume_cli.specs.declared.status.Status.TheVariants as status
-use Rattle.flume_cli.specs.Words.{Command, Cat, Nothing, cat_path_of, command_of}
+use Rattle.flume_cli.specs.Words.{Command, Cat, Nothing, is_meant, command_of}
 use Rattle.flume_cli.specs.Status.{Causes, status_of, line_of}
 use Rattle.flume_cli.specs.Cat.{cat_work, AreWithin}
 
@@ -38,7 +38,7 @@ IsToldLine old new text = (new ≡ with_bytes old text) ⊎ BreaksOff old new te
 
 -- the status is that of the causes, each cause is seen in the call's own data, and standard error was told its line
 pub record HasStatus (c : Call) (k : Causes) : Type 0 where
-  pub words : k.words ≡ is_some (cat_path_of c.words)
+  pub words : k.words ≡ is_meant (command_of c.words)
   pub unwritten : k.unwritten ≡ nat_lt c.out_old.faults c.out_new.faults
   pub memory : any (λ e. is_memory e.how) c.ends ≡ true → k.memory ≡ true
   pub faulty : k.faulty ≡ any (λ e. is_fault e.how) c.ends

@@ -1,10 +1,10 @@
 -- Devices that go back to their depot.
-use Rattle.std.specs.Prelude.{◌≡◌, ℕ, ◌≤◌, List, ◌++◌, map, nat_eq, count_by}
+use Rattle.std.specs.Prelude.{◌≡◌, List, ◌++◌, map}
 use Rattle.std.specs.List.Sorted.{IsPermutation}
 use Rattle.chunk_core.specs.Lists.{Each}
 use Rattle.device_port.specs.declared.device.Mode.TheVariants as mode
 use Rattle.device_port.specs.Device.{DeviceTold}
-use Rattle.device_port.specs.Depot.{DepotTold, MayReturn, KeepsFilesBut}
+use Rattle.device_port.specs.Depot.{DepotTold, AreApart, MayReturn, KeepsFilesBut}
 use Rattle.scope_tree.specs.declared.branch.Spent.{Spent}
 
 -- the devices on a shelf, and those that were never opened
@@ -14,7 +14,7 @@ devices_of told shelf unopened = map (λ x. told x.pay) shelf ++ map told unopen
 -- each of these devices for reading may come back, and no two have one number
 pub record MayReturnAll (depot : DepotTold) (ds : List DeviceTold) : Type 0 where
   pub each : Each (λ d. MayReturn depot d × (d.place.mode ≡ mode.Read)) ds
-  pub apart : (k : ℕ) → count_by (λ d. nat_eq d.number k) ds ≤ 1
+  pub apart : AreApart ds
 
 -- these devices came back, in any order, and no file has changed
 pub record Returns (old new : DepotTold) (ds : List DeviceTold) : Type 0 where

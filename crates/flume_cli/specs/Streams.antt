@@ -1,5 +1,5 @@
 -- What running a stream alone, over a seat of its own, does.
-use Rattle.std.specs.Prelude.{◌≡◌, ◌⊎◌, ℕ, suc, ◌+◌, ◌*◌, ◌<◌, ◌≤◌, false, List, [], ◌∷◌, map, length, vec_capacity}
+use Rattle.std.specs.Prelude.{◌≡◌, ℕ, suc, ◌+◌, ◌-◌, ◌*◌, ◌^◌, ◌<◌, ◌≤◌, List, [], ◌∷◌, map, length, vec_capacity}
 use Rattle.std.specs.List.Sorted.{IsPermutation}
 use Rattle.chunk_core.specs.declared.code.How.{How}
 use Rattle.res_ledger.specs.declared.event.StreamNo.TheVariants.{Inner}
@@ -14,13 +14,13 @@ use Rattle.row_seat.specs.Views.{start}
 use Rattle.pull_stepper.specs.Sites.{SameDevice}
 use Rattle.run_rules.specs.Facts.{below}
 use Rattle.flume_cli.specs.declared.alone.Ran.{Ran}
-use Rattle.flume_cli.specs.declared.alone.Room.{Room}
-use Rattle.flume_cli.specs.Alone.{IsAccount, PrintsPieces, IsRunIn}
+use Rattle.flume_cli.specs.declared.alone.StreamRoom.{StreamRoom}
+use Rattle.flume_cli.specs.Alone.{IsAccount, IsAtRest, PrintsPieces, IsRunIn}
 use Rattle.flume_cli.specs.Retire.{devices_of}
 
 -- a fresh seat of stream 0 at its table, with a row for each place of the node and room for all its events, scopes and its end
-pub record IsRoomFor {P : Type 0} (n : Node) (room : Room P) : Type 0 where
-  pub seat : shown room.seat ≡ start (Inner 0) (length (places_of n)) (2 * length (places_of n) + 2 * scope_count n + 1)
+pub record IsRoomFor {P : Type 0} (n : Node) (room : StreamRoom P) : Type 0 where
+  pub seat : shown room.seat ≡ start (Inner 0) (length (places_of n)) (2 * length (places_of n) + 2 * scope_count n + 1) (2 ^ 32 - 1)
   pub sits : Sits room.seat room.table
   pub scopes : scope_count n + 1 ≤ room.scopes.scopes
   pub rows : length (places_of n) ≤ room.scopes.rows
@@ -39,10 +39,8 @@ module _ {V : Type 0} (told : V → DeviceTold) where
     pub how : How
     pub same : AreSame home 0 devices
     pub each : IsPermutation (map home (below (length devices))) (devices_of told r.shelf r.unopened)
-    pub shut : (k : ℕ) → k < length devices → (home k).is_open ≡ false
-    pub stage : (k : ℕ) → k < length devices
-        → (((home k).opens ≡ 0) × ((home k).closes ≡ 0) × ((home k).close_faults ≡ 0)) ⊎ (((home k).opens ≡ 1) × ((home k).closes ≡ 1))
-    pub account : IsAccount (length devices) home r.outcome.ledger
+    pub rest : (k : ℕ) → k < length devices → IsAtRest (home k)
+    pub account : IsAccount (length devices) home how r.outcome.ledger
     pub printed : PrintsPieces (widest_of chunk n) old new r.outcome.sink_failed
     pub run : IsRunIn (IsRun home n) printed.pieces printed.next r.outcome.sink_failed r.outcome.memory how
     pub ends : r.outcome.ends ≡ record { who = Inner 0; how = how } ∷ []

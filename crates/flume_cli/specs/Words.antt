@@ -1,5 +1,5 @@
 -- What the words of a command line mean.
-use Rattle.std.specs.Prelude.{ℕ, Bool, false, ◌&&◌, not, nat_eq, nat_le, if◌then◌else◌, List, [], ◌∷◌, length, Option, Some, None, codes}
+use Rattle.std.specs.Prelude.{ℕ, Bool, true, false, ◌&&◌, not, nat_eq, nat_le, if◌then◌else◌, List, [], ◌∷◌, length, Option, Some, None, codes}
 use Rattle.std.specs.Str.{bytes_eq}
 
 abbrev pub is_cat : List ℕ → Bool
@@ -21,6 +21,11 @@ cat_path_of (word ∷ path ∷ next ∷ rest) = None
 pub data Command : Type 0 where
   Cat : (path : List ℕ) → Command
   Nothing : Command
+
+-- the words mean something
+abbrev pub is_meant : Command → Bool
+is_meant (Cat path) = true
+is_meant Nothing = false
 
 abbrev pub command_by : Option (List ℕ) → Command
 command_by (Some path) = Cat path

@@ -23,7 +23,7 @@ use std::alloc::Global;
 
 /// The room that a stream takes before its devices are made.
 #[derive(Drop)]
-pub(crate) struct Room<V> {
+pub(crate) struct StreamRoom<V> {
     pub(crate) seat: PlainSeat<Held<V>>,
     pub(crate) table: PlainTable<Held<V>>,
     pub(crate) scopes: scope_tree::Room<Held<V>>,
@@ -41,7 +41,7 @@ pub(crate) struct Ran<V> {
 /// prints each piece that it gives as a frame.
 pub(crate) fn run_alone<V: Device + Drop, K: Sink>(
     alloc: Global,
-    room: Room<V>,
+    room: StreamRoom<V>,
     node: Node,
     devices: List<V>,
     chunk: u32,
@@ -55,7 +55,7 @@ pub(crate) fn run_alone<V: Device + Drop, K: Sink>(
     requires sink { (K.told out.old).faults < 2 ^ 64 - 1 }
     ensures { RunsStream V.told node devices chunk (K.told out.old) (K.told out.new) result }
 {
-    let Room {
+    let StreamRoom {
         seat,
         mut table,
         scopes,

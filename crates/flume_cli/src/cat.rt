@@ -6,7 +6,7 @@ ghost use Rattle.flume_cli.specs.Ready.{IsCatNode, IsReady};
 ghost use Rattle.flume_cli.specs.Retire.{MayReturnAll, Returns, devices_of};
 ghost use Rattle.flume_cli.specs.Streams.{IsRoomFor, RunsStream};
 
-use crate::alone::{Ran, Room, run_alone};
+use crate::alone::{Ran, StreamRoom, run_alone};
 use crate::outcome::Outcome;
 use crate::retire::{retire_all, retire_shelf};
 use chunk_core::{List, Word};
@@ -20,7 +20,7 @@ use std::alloc::{AllocError, Global};
 #[derive(Drop)]
 struct Ready<V> {
     node: Node,
-    room: Room<V>,
+    room: StreamRoom<V>,
     devices: Vec<V>,
 }
 
@@ -41,7 +41,7 @@ fn make_ready<V: Drop>(alloc: Global) -> Result<Ready<V>, AllocError>
     let ends = Vec::with_capacity(alloc, 1)?;
     let scopes = scope_tree::Room::new(alloc, 1, 1)?;
     let (seat, table) = PlainSeat::new(alloc, StreamNo::Inner(0), 1, 3)?;
-    let room = Room {
+    let room = StreamRoom {
         seat,
         table,
         scopes,

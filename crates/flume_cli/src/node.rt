@@ -1,5 +1,6 @@
 //! A node that is run over a tree to its end.
 ghost use Rattle.std.specs.Prelude.{◌≡◌, ◌-◌, ◌^◌, ◌<◌, ◌≤◌, []};
+ghost use Rattle.chunk_core.specs.declared.code.Exit.TheVariants as exit;
 ghost use Rattle.chunk_core.specs.declared.code.How.TheVariants as how;
 ghost use Rattle.pull_turns.specs.Sizes.{HasNoPipeOf};
 ghost use Rattle.scope_tree.specs.Calls.{Closes, IsOpenScope};
@@ -11,7 +12,7 @@ ghost use Rattle.flume_cli.specs.Nodes.{RunsNode};
 use crate::frame::NotPut;
 use crate::print::print_all;
 use any_pipe::AnyPipe;
-use chunk_core::{How, List};
+use chunk_core::{Exit, How, List};
 use device_port::{Device, Sink};
 use pull_nodes::Node;
 use pull_stepper::{Ended, Held, Stepper, Unmade};
@@ -57,13 +58,13 @@ fn close<V: Device, S: RowSeat<Pay = Held<V>>>(
 ) -> Ended<S, V>
     requires fits { Fits S.view S.fits unmade.tree desk.old }
     requires root { IsOpenScope (seen S.view unmade.tree) 0 }
-    ensures closes { Closes (Finishes V.told) (seen S.view unmade.tree) 0 (seen S.view result.tree) }
+    ensures closes { Closes (Finishes V.told) (seen S.view unmade.tree) 0 exit.Canceled (seen S.view result.tree) }
     ensures how { result.how ≡ how.Memory }
     ensures unopened { result.unopened ≡ unmade.devices }
     ensures fits { Fits S.view S.fits result.tree desk.new }
 {
     let Unmade { mut tree, devices } = unmade;
-    tree.close(desk, 0);
+    tree.close(desk, 0, Exit::Canceled);
     Ended {
         tree,
         how: How::Memory,

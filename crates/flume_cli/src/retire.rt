@@ -25,7 +25,7 @@ pub(crate) fn retire_shelf<D: Depot>(depot: &mut D, shelf: List<Spent<Held<D::De
 {
     let mut left = shelf.into_vec();
     while let Some(spent) = left.pop() {
-        let Spent { row: _, pay, ok: _ } = spent;
+        let Spent { pay, .. } = spent;
         depot.retire(pay.into_device());
     }
 }

@@ -2,7 +2,7 @@
 ghost use Rattle.std.specs.Prelude.{◌≡◌, ◌-◌, ◌^◌, ◌<◌, false};
 ghost use Rattle.flume_cli.specs.Call.{call_of};
 ghost use Rattle.flume_cli.specs.Headline.{Headline};
-ghost use Rattle.flume_cli.specs.Finish.{Finishes, PrintsTail, status_by as status_by_of};
+ghost use Rattle.flume_cli.specs.Finish.{Reports, PrintsTail, status_by as status_by_of};
 ghost use Rattle.run_rules.specs.Facts.{is_fault as is_fault_end, is_failed as is_failed_final, has};
 ghost use Rattle.std.specs.List.{list_any as any};
 
@@ -61,7 +61,7 @@ where
 /// Tells standard error the line of the status, and reports.
 fn finish<E: Sink>(status: Status, ends: List<EndOf>, ledger: Ledger, err: &mut E) -> Report
     requires room { (E.told err.old).faults < 2 ^ 64 - 1 }
-    ensures { Finishes status ends ledger (E.told err.old) (E.told err.new) result }
+    ensures { Reports status ends ledger (E.told err.old) (E.told err.new) result }
 {
     let _ = put(err, status.line().as_bytes());
     Report {

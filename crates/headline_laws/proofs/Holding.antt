@@ -1,40 +1,133 @@
 -- Each call that went as it should meets the contract.
-use Rattle.std.proofs.Common.{◌≡◌, ◌≢◌, ◌<◌, Bool, true, false, List, [], ◌∷◌, ◌++◌, map, length, refl, sym, inl, inr, arith, Some}
+use Rattle.std.proofs.Common.{◌≡◌, ◌≢◌, ◌<◌, ℕ, Bool, true, false, List, [], ◌∷◌, ◌++◌, map, length, nat_eq, nat_lt, refl, sym, inl, inr, arith, Some}
 use Rattle.std.specs.Prelude.{codes}
 use Rattle.std.specs.Fmt.{digits}
+use Rattle.std.specs.List.{IsDistinct, list_all as all}
 use Rattle.std.proofs.lemmas.Bool.{false≢true}
+use Rattle.std.proofs.lemmas.List.Sorted.{IsPermutation-refl}
 use Rattle.chunk_core.specs.Texts.{Frame, frames_text}
 use Rattle.chunk_core.specs.Elements.{Byte}
-use Rattle.chunk_core.specs.Outcomes.{Done, Fault, Cut}
+use Rattle.chunk_core.specs.Outcomes.{Done, Fault, Cut, exit_of}
 use Rattle.chunk_core.specs.declared.code.Code.TheVariants as code
+use Rattle.chunk_core.specs.declared.code.Exit.{Exit}
+use Rattle.chunk_core.specs.declared.code.Exit.TheVariants.{Succeeded, Errored, Canceled}
+use Rattle.chunk_core.specs.declared.code.How.{How}
+use Rattle.chunk_core.specs.declared.code.How.TheVariants as how
+use Rattle.res_ledger.specs.declared.event.Event.{Event}
+use Rattle.res_ledger.specs.Judge.{is_legal, is_complete}
+use Rattle.res_ledger.specs.Order.{is_ordered}
 use Rattle.res_ledger.proofs.Judged.{legal_sound, complete_sound}
 use Rattle.res_ledger.proofs.Ordering.{ordered_sound}
+use Rattle.device_port.specs.Device.{DeviceTold}
+use Rattle.device_port.specs.Depot.{AreApart}
+use Rattle.run_rules.specs.Devices.{AreAsMany, is_closed_with}
+use Rattle.run_rules.specs.Facts.{ended_row, failed_row}
 use Rattle.run_rules.specs.Texts.{tail_text}
-use Rattle.run_rules.specs.Run.{KeepsRules}
-use Rattle.flume_cli.specs.Cat.{cat_work}
+use Rattle.run_rules.specs.Run.{HaveEnds, HaveOutputs, IsWhole, KeepsRules, NothingFailed, Performs, is_ours}
+use Rattle.run_rules.specs.Work.{Deed}
+use Rattle.flume_cli.specs.Cat.{cat_work, to_read}
 use Rattle.flume_cli.specs.Headline.{Headline}
-use Rattle.headline_laws.specs.Calls.{a, one_row, closed_device}
-use Rattle.headline_laws.specs.Worked.{hello_device, missing_device, whole_file, empty_file, missing_file, read_fault, failed_close, failed_write}
+use Rattle.headline_laws.specs.Calls.{a, closed_device, depot_after, depot_before, end_of_0, one_row}
+use Rattle.headline_laws.specs.Worked.{missing_device, whole_file, empty_file, missing_file, read_fault, failed_close, failed_write}
 
 no_nil : {A : Type 0} (x : A) (xs : List A) → (x ∷ xs) ≢ []
 no_nil x xs e = cc
 
-fault_not_done : (c : _) → Fault c ≢ Done
-fault_not_done c e = cc
+-- The rules, by the tests of a ledger.
 
-row_rules : (ok : Bool) → KeepsRules (cat_work a) (one_row ok)
-row_rules true = record { legal = legal_sound (one_row true) refl; complete = complete_sound (one_row true) (legal_sound (one_row true) refl) refl; ordered = ordered_sound (one_row true) refl; ours = refl }
-row_rules false = record { legal = legal_sound (one_row false) refl; complete = complete_sound (one_row false) (legal_sound (one_row false) refl) refl; ordered = ordered_sound (one_row false) refl; ours = refl }
+rules_of : (L : List Event) → is_legal L ≡ true → is_complete L ≡ true → is_ordered L ≡ true → all (is_ours (cat_work a)) L ≡ true → KeepsRules (cat_work a) L
+rules_of L legal complete ordered ours = record { legal = legal_sound L legal; complete = complete_sound L (legal_sound L legal) complete; ordered = ordered_sound L ordered; ours = ours }
 
-missing_rules : KeepsRules (cat_work a) missing_file.events
-missing_rules = record { legal = legal_sound missing_file.events refl; complete = complete_sound missing_file.events (legal_sound missing_file.events refl) refl; ordered = ordered_sound missing_file.events refl; ours = refl }
+row_rules : (x : Exit) (ok : Bool) → KeepsRules (cat_work a) (one_row x ok)
+row_rules Succeeded ok = rules_of (one_row Succeeded ok) refl refl refl refl
+row_rules Errored ok = rules_of (one_row Errored ok) refl refl refl refl
+row_rules Canceled ok = rules_of (one_row Canceled ok) refl refl refl refl
 
-abbrev frames_of_whole_file : List Frame
-frames_of_whole_file = record { stream = 0; payload = codes "hello\n" } ∷ []
+-- A file that was opened and closed.
 
-text_of_whole_file : whole_file.out_new.written ≡ Some ([] ++ (frames_text frames_of_whole_file ++ ([] ++ tail_text whole_file.ends whole_file.events)))
+one_apart : (d : DeviceTold) → AreApart (d ∷ [])
+unfolding IsDistinct
+one_apart d = (tt, tt)
+
+abbrev hello_frame : Frame
+hello_frame = record { stream = 0; payload = codes "hello\n" }
+
+-- the one device has the exit of its row
+exits_of : (bytes : List ℕ) (at reads closes : ℕ) (ended ok : Bool) (x y : Exit) → AreAsMany (is_closed_with y) (ended_row y) (closed_device bytes at ended x reads closes ∷ []) (to_read a ∷ []) (one_row x ok)
+exits_of bytes at reads closes ended ok Succeeded Succeeded = (refl, (refl, tt))
+exits_of bytes at reads closes ended ok Errored Errored = (refl, (refl, tt))
+exits_of bytes at reads closes ended ok Canceled Canceled = (refl, (refl, tt))
+exits_of bytes at reads closes ended ok x y = tt
+
+module _ (bytes : List ℕ) (at : ℕ) (ended : Bool) (x : Exit) (reads closes : ℕ) (ok : Bool) (frames : List Frame) (h : How) (unwritten : Bool) where
+  abbrev device : DeviceTold
+  device = closed_device bytes at ended x reads closes
+
+  abbrev deed : Deed
+  deed = record {
+    depot_old = depot_before bytes;
+    depot_new = depot_after bytes (device ∷ []);
+    ends = end_of_0 h ∷ [];
+    events = one_row x ok;
+    frames = frames;
+    rest = [];
+    unwritten = unwritten;
+    memory = false;
+  }
+
+  -- the work was done, where its parts were that differ from call to call
+  row_performs : AreAsMany (λ d. nat_lt 0 d.close_faults) failed_row (device ∷ []) (to_read a ∷ []) (one_row x ok) → ok ≡ nat_eq closes 0 → x ≡ exit_of h → HaveOutputs (cat_work a) deed (λ r. device) → HaveEnds (cat_work a) deed
+      → (NothingFailed (cat_work a) deed (λ r. device) → IsWhole (cat_work a) deed (λ r. device)) → Performs (cat_work a) deed
+  row_performs failed tied exit outputs ends whole = record {
+    devices = record {
+      made = refl;
+      retired = refl;
+      once = IsPermutation-refl _;
+      shut = ((refl, refl), tt);
+      rows = (omega arith, (tt, (tt, tt)));
+      acquired = (refl, (refl, tt));
+      failed = failed;
+      exits = exits_of bytes at reads closes ended ok x;
+      files = λ path. inr refl;
+    };
+    ledger = row_rules x ok;
+    ran = inr (record {
+      home = λ r. device;
+      rows = record { at_home = (refl, refl, inl (inl refl), tt); apart = one_apart device; tied = (refl, (tt, ((refl, tied), tt))) };
+      outputs = outputs;
+      ends = ends;
+      exits = ((exit, tt), tt);
+      completeness = λ m n. whole n;
+    });
+  }
+
+-- The texts.
+
+text_of_whole_file : whole_file.out_new.written ≡ Some ([] ++ (frames_text (hello_frame ∷ []) ++ ([] ++ tail_text whole_file.ends whole_file.events)))
 unfolding digits
 text_of_whole_file = refl
+
+text_of_empty_file : empty_file.out_new.written ≡ Some ([] ++ (frames_text [] ++ ([] ++ tail_text empty_file.ends empty_file.events)))
+unfolding digits
+text_of_empty_file = refl
+
+text_of_missing_file : missing_file.out_new.written ≡ Some ([] ++ (frames_text [] ++ ([] ++ tail_text missing_file.ends missing_file.events)))
+unfolding digits
+text_of_missing_file = refl
+
+text_of_read_fault : read_fault.out_new.written ≡ Some ([] ++ (frames_text (record { stream = 0; payload = codes "he" } ∷ []) ++ ([] ++ tail_text read_fault.ends read_fault.events)))
+unfolding digits
+text_of_read_fault = refl
+
+text_of_failed_close : failed_close.out_new.written ≡ Some ([] ++ (frames_text (hello_frame ∷ []) ++ ([] ++ tail_text failed_close.ends failed_close.events)))
+unfolding digits
+text_of_failed_close = refl
+
+failed_tail : 0 < length (tail_text failed_write.ends failed_write.events)
+unfolding digits
+failed_tail = omega arith
+
+-- The calls.
 
 pub whole_file_holds : Headline whole_file
 whole_file_holds = record {
@@ -43,35 +136,17 @@ whole_file_holds = record {
   source = refl;
   does = (
     record {
-      frames = frames_of_whole_file;
+      frames = hello_frame ∷ [];
       rest = [];
-      performs = record {
-        devices = record { made = refl; retired = refl; number = refl; once = (refl, tt); shut = ((refl, refl), tt); rows = (omega arith, (tt, (tt, tt))); acquired = (refl, (refl, tt)); failed = tt; files = λ path. inr refl };
-        ledger = row_rules true;
-        ran = inr (record {
-          home = λ r. hello_device 6 0 0;
-          rows = record { at_home = (refl, refl, inl (inl refl), tt); apart = refl; tied = (refl, (tt, (refl, tt))) };
-          outputs = record {
-            numbers = ((omega arith, omega arith), tt);
-            outputs = (record { elements = map Byte (codes "hello\n"); end = Done; run = inl (inl (refl, inl (inl (omega arith, refl, refl)))); printed = refl; reported = refl }, refl);
-            cut = inl refl;
-          };
-          ends = record { named = refl; caused = (record { halted = λ h. absurd (false≢true h); fault = refl; root = λ h. refl }, tt); memory = λ h. absurd (false≢true h) };
-          completeness = λ m n. record { done = (refl, tt); clean = refl; output = ((map Byte (codes "hello\n"), inl (refl, inl (omega arith, refl, refl)), refl), tt) };
-        });
-      };
+      performs = row_performs (codes "hello\n") 6 true Succeeded 0 0 true (hello_frame ∷ []) how.Done false tt refl refl
+          (record { numbers = ((omega arith, omega arith), tt); outputs = (record { elements = map Byte (codes "hello\n"); end = Done; run = inl (inl (refl, inl (inl (omega arith, refl, refl)))); printed = refl; reported = refl }, refl); cut = inl refl })
+          (record { named = refl; caused = (record { halted = λ h. absurd (false≢true h); fault = refl; root = λ h. refl }, tt); memory = λ h. absurd (false≢true h) })
+          (λ n. record { done = (refl, tt); clean = refl; output = ((map Byte (codes "hello\n"), inl (refl, inl (omega arith, refl, refl)), refl), tt) });
       text = record { said = tail_text whole_file.ends whole_file.events; written = text_of_whole_file; tail = (refl, refl); spoke = λ e. absurd (no_nil _ _ e); once = omega arith };
     },
     record { fits = (omega arith, tt); front = inl refl },
   );
 }
-
-abbrev frames_of_empty_file : List Frame
-frames_of_empty_file = []
-
-text_of_empty_file : empty_file.out_new.written ≡ Some ([] ++ (frames_text frames_of_empty_file ++ ([] ++ tail_text empty_file.ends empty_file.events)))
-unfolding digits
-text_of_empty_file = refl
 
 pub empty_file_holds : Headline empty_file
 empty_file_holds = record {
@@ -80,72 +155,17 @@ empty_file_holds = record {
   source = refl;
   does = (
     record {
-      frames = frames_of_empty_file;
+      frames = [];
       rest = [];
-      performs = record {
-        devices = record { made = refl; retired = refl; number = refl; once = (refl, tt); shut = ((refl, refl), tt); rows = (omega arith, (tt, (tt, tt))); acquired = (refl, (refl, tt)); failed = tt; files = λ path. inr refl };
-        ledger = row_rules true;
-        ran = inr (record {
-          home = λ r. closed_device [] 0 0 0;
-          rows = record { at_home = (refl, refl, inl (inl refl), tt); apart = refl; tied = (refl, (tt, (refl, tt))) };
-          outputs = record {
-            numbers = tt;
-            outputs = (record { elements = []; end = Done; run = inl (inl (refl, inl (inl (omega arith, refl, refl)))); printed = refl; reported = refl }, refl);
-            cut = inl refl;
-          };
-          ends = record { named = refl; caused = (record { halted = λ h. absurd (false≢true h); fault = refl; root = λ h. refl }, tt); memory = λ h. absurd (false≢true h) };
-          completeness = λ m n. record { done = (refl, tt); clean = refl; output = (([], inl (refl, inl (omega arith, refl, refl)), refl), tt) };
-        });
-      };
+      performs = row_performs [] 0 true Succeeded 0 0 true ([]) how.Done false tt refl refl
+          (record { numbers = tt; outputs = (record { elements = []; end = Done; run = inl (inl (refl, inl (inl (omega arith, refl, refl)))); printed = refl; reported = refl }, refl); cut = inl refl })
+          (record { named = refl; caused = (record { halted = λ h. absurd (false≢true h); fault = refl; root = λ h. refl }, tt); memory = λ h. absurd (false≢true h) })
+          (λ n. record { done = (refl, tt); clean = refl; output = (([], inl (refl, inl (omega arith, refl, refl)), refl), tt) });
       text = record { said = tail_text empty_file.ends empty_file.events; written = text_of_empty_file; tail = (refl, refl); spoke = λ e. absurd (no_nil _ _ e); once = omega arith };
     },
     record { fits = tt; front = inl refl },
   );
 }
-
-abbrev frames_of_missing_file : List Frame
-frames_of_missing_file = []
-
-text_of_missing_file : missing_file.out_new.written ≡ Some ([] ++ (frames_text frames_of_missing_file ++ ([] ++ tail_text missing_file.ends missing_file.events)))
-unfolding digits
-text_of_missing_file = refl
-
-pub missing_file_holds : Headline missing_file
-missing_file_holds = record {
-  causes = record { words = true; unwritten = false; memory = false; faulty = true; unclean = false };
-  status = record { words = refl; unwritten = refl; memory = λ h. absurd (false≢true h); faulty = refl; unclean = refl; status = refl; line = inl refl };
-  source = refl;
-  does = (
-    record {
-      frames = frames_of_missing_file;
-      rest = [];
-      performs = record {
-        devices = record { made = refl; retired = refl; number = refl; once = (refl, tt); shut = ((refl, refl), tt); rows = (tt, tt); acquired = tt; failed = tt; files = λ path. inr refl };
-        ledger = missing_rules;
-        ran = inr (record {
-          home = λ r. missing_device;
-          rows = record { at_home = (refl, refl, inl (inl refl), tt); apart = refl; tied = (tt, tt) };
-          outputs = record {
-            numbers = tt;
-            outputs = (record { elements = []; end = Fault code.Open; run = inl (inr (omega arith, refl, refl, tt)); printed = refl; reported = refl }, refl);
-            cut = inl refl;
-          };
-          ends = record { named = refl; caused = (record { halted = λ h. absurd (false≢true h); fault = refl; root = λ h. refl }, tt); memory = λ h. absurd (false≢true h) };
-          completeness = λ m n. let z = n.devices.0 in absurd (omega (arith, z));
-        });
-      };
-      text = record { said = tail_text missing_file.ends missing_file.events; written = text_of_missing_file; tail = (refl, refl); spoke = λ e. absurd (no_nil _ _ e); once = omega arith };
-    },
-    record { fits = tt; front = inl refl },
-  );
-}
-
-abbrev frames_of_read_fault : List Frame
-frames_of_read_fault = record { stream = 0; payload = codes "he" } ∷ []
-
-text_of_read_fault : read_fault.out_new.written ≡ Some ([] ++ (frames_text frames_of_read_fault ++ ([] ++ tail_text read_fault.ends read_fault.events)))
-unfolding digits
-text_of_read_fault = refl
 
 pub read_fault_holds : Headline read_fault
 read_fault_holds = record {
@@ -154,35 +174,17 @@ read_fault_holds = record {
   source = refl;
   does = (
     record {
-      frames = frames_of_read_fault;
+      frames = record { stream = 0; payload = codes "he" } ∷ [];
       rest = [];
-      performs = record {
-        devices = record { made = refl; retired = refl; number = refl; once = (refl, tt); shut = ((refl, refl), tt); rows = (omega arith, (tt, (tt, tt))); acquired = (refl, (refl, tt)); failed = tt; files = λ path. inr refl };
-        ledger = row_rules true;
-        ran = inr (record {
-          home = λ r. hello_device 2 1 0;
-          rows = record { at_home = (refl, refl, inl (inl refl), tt); apart = refl; tied = (refl, (tt, (refl, tt))) };
-          outputs = record {
-            numbers = ((omega arith, omega arith), tt);
-            outputs = (record { elements = map Byte (codes "he"); end = Fault code.Read; run = inl (inl (refl, inl (inr (inr (omega arith, refl, refl))))); printed = refl; reported = refl }, refl);
-            cut = inl refl;
-          };
-          ends = record { named = refl; caused = (record { halted = λ h. absurd (false≢true h); fault = refl; root = λ h. refl }, tt); memory = λ h. absurd (false≢true h) };
-          completeness = λ m n. let z = n.devices.0 in absurd (omega (arith, z));
-        });
-      };
+      performs = row_performs (codes "hello\n") 2 false Errored 1 0 true (record { stream = 0; payload = codes "he" } ∷ []) (how.Fault code.Read) false tt refl refl
+          (record { numbers = ((omega arith, omega arith), tt); outputs = (record { elements = map Byte (codes "he"); end = Fault code.Read; run = inl (inl (refl, inl (inr (inr (omega arith, refl, refl))))); printed = refl; reported = refl }, refl); cut = inl refl })
+          (record { named = refl; caused = (record { halted = λ h. absurd (false≢true h); fault = refl; root = λ h. refl }, tt); memory = λ h. absurd (false≢true h) })
+          (λ n. let z = n.devices.0 in absurd (omega (arith, z)));
       text = record { said = tail_text read_fault.ends read_fault.events; written = text_of_read_fault; tail = (refl, refl); spoke = λ e. absurd (no_nil _ _ e); once = omega arith };
     },
     record { fits = (omega arith, tt); front = inl refl },
   );
 }
-
-abbrev frames_of_failed_close : List Frame
-frames_of_failed_close = record { stream = 0; payload = codes "hello\n" } ∷ []
-
-text_of_failed_close : failed_close.out_new.written ≡ Some ([] ++ (frames_text frames_of_failed_close ++ ([] ++ tail_text failed_close.ends failed_close.events)))
-unfolding digits
-text_of_failed_close = refl
 
 pub failed_close_holds : Headline failed_close
 failed_close_holds = record {
@@ -191,39 +193,17 @@ failed_close_holds = record {
   source = refl;
   does = (
     record {
-      frames = frames_of_failed_close;
+      frames = hello_frame ∷ [];
       rest = [];
-      performs = record {
-        devices = record { made = refl; retired = refl; number = refl; once = (refl, tt); shut = ((refl, refl), tt); rows = (omega arith, (tt, (tt, tt))); acquired = (refl, (refl, tt)); failed = (refl, (refl, tt)); files = λ path. inr refl };
-        ledger = row_rules false;
-        ran = inr (record {
-          home = λ r. hello_device 6 0 1;
-          rows = record { at_home = (refl, refl, inl (inl refl), tt); apart = refl; tied = (refl, (tt, (refl, tt))) };
-          outputs = record {
-            numbers = ((omega arith, omega arith), tt);
-            outputs = (record { elements = map Byte (codes "hello\n"); end = Done; run = inl (inl (refl, inl (inl (omega arith, refl, refl)))); printed = refl; reported = refl }, refl);
-            cut = inl refl;
-          };
-          ends = record { named = refl; caused = (record { halted = λ h. absurd (false≢true h); fault = refl; root = λ h. refl }, tt); memory = λ h. absurd (false≢true h) };
-          completeness = λ m n. let z = n.devices.0 in absurd (omega (arith, z));
-        });
-      };
+      performs = row_performs (codes "hello\n") 6 true Succeeded 0 1 false (hello_frame ∷ []) how.Done false (refl, (refl, tt)) refl refl
+          (record { numbers = ((omega arith, omega arith), tt); outputs = (record { elements = map Byte (codes "hello\n"); end = Done; run = inl (inl (refl, inl (inl (omega arith, refl, refl)))); printed = refl; reported = refl }, refl); cut = inl refl })
+          (record { named = refl; caused = (record { halted = λ h. absurd (false≢true h); fault = refl; root = λ h. refl }, tt); memory = λ h. absurd (false≢true h) })
+          (λ n. let z = n.devices.0 in absurd (omega (arith, z)));
       text = record { said = tail_text failed_close.ends failed_close.events; written = text_of_failed_close; tail = (refl, refl); spoke = λ e. absurd (no_nil _ _ e); once = omega arith };
     },
     record { fits = (omega arith, tt); front = inl refl },
   );
 }
-
-failed_tail : 0 < length (tail_text failed_write.ends failed_write.events)
-unfolding digits
-failed_tail = omega arith
-
-abbrev frames_of_failed_write : List Frame
-frames_of_failed_write = []
-
-text_of_failed_write : failed_write.out_new.written ≡ Some ([] ++ (frames_text frames_of_failed_write ++ ([] ++ [])))
-unfolding digits
-text_of_failed_write = refl
 
 pub failed_write_holds : Headline failed_write
 failed_write_holds = record {
@@ -232,24 +212,40 @@ failed_write_holds = record {
   source = refl;
   does = (
     record {
-      frames = frames_of_failed_write;
+      frames = [];
+      rest = [];
+      performs = row_performs (codes "hello\n") 6 false Canceled 0 0 true ([]) how.Halted true tt refl refl
+          (record { numbers = tt; outputs = (record { elements = []; end = Cut; run = inr (refl, inl refl); printed = refl; reported = inl refl }, refl); cut = inl refl })
+          (record { named = refl; caused = (record { halted = λ h. inl refl; fault = refl; root = λ h. refl }, tt); memory = λ h. absurd (false≢true h) })
+          (λ n. absurd (false≢true (sym n.written)));
+      text = record { said = []; written = refl; tail = (inl refl, failed_tail); spoke = λ e. absurd (no_nil _ _ e); once = omega arith };
+    },
+    record { fits = tt; front = inl refl },
+  );
+}
+
+pub missing_file_holds : Headline missing_file
+missing_file_holds = record {
+  causes = record { words = true; unwritten = false; memory = false; faulty = true; unclean = false };
+  status = record { words = refl; unwritten = refl; memory = λ h. absurd (false≢true h); faulty = refl; unclean = refl; status = refl; line = inl refl };
+  source = refl;
+  does = (
+    record {
+      frames = [];
       rest = [];
       performs = record {
-        devices = record { made = refl; retired = refl; number = refl; once = (refl, tt); shut = ((refl, refl), tt); rows = (omega arith, (tt, (tt, tt))); acquired = (refl, (refl, tt)); failed = tt; files = λ path. inr refl };
-        ledger = row_rules true;
+        devices = record { made = refl; retired = refl; once = IsPermutation-refl _; shut = ((refl, refl), tt); rows = (tt, tt); acquired = tt; failed = tt; exits = λ x. tt; files = λ path. inr refl };
+        ledger = rules_of missing_file.events refl refl refl refl;
         ran = inr (record {
-          home = λ r. hello_device 6 0 0;
-          rows = record { at_home = (refl, refl, inl (inl refl), tt); apart = refl; tied = (refl, (tt, (refl, tt))) };
-          outputs = record {
-            numbers = tt;
-            outputs = (record { elements = []; end = Cut; run = inr (refl, inl refl); printed = refl; reported = inl refl }, refl);
-            cut = inl refl;
-          };
-          ends = record { named = refl; caused = (record { halted = λ h. inl refl; fault = refl; root = λ h. refl }, tt); memory = λ h. absurd (false≢true h) };
-          completeness = λ m n. absurd (false≢true (sym n.written));
+          home = λ r. missing_device;
+          rows = record { at_home = (refl, refl, inl (inl refl), tt); apart = one_apart missing_device; tied = (tt, tt) };
+          outputs = record { numbers = tt; outputs = (record { elements = []; end = Fault code.Open; run = inl (inr (omega arith, refl, refl, tt)); printed = refl; reported = refl }, refl); cut = inl refl };
+          ends = record { named = refl; caused = (record { halted = λ h. absurd (false≢true h); fault = refl; root = λ h. refl }, tt); memory = λ h. absurd (false≢true h) };
+          exits = ((refl, tt), tt);
+          completeness = λ m n. let z = n.devices.0 in absurd (omega (arith, z));
         });
       };
-      text = record { said = []; written = text_of_failed_write; tail = (inl refl, failed_tail); spoke = λ e. absurd (no_nil _ _ e); once = omega arith };
+      text = record { said = tail_text missing_file.ends missing_file.events; written = text_of_missing_file; tail = (refl, refl); spoke = λ e. absurd (no_nil _ _ e); once = omega arith };
     },
     record { fits = tt; front = inl refl },
   );

@@ -3,15 +3,19 @@ use Rattle.std.proofs.Common.{◌≡◌, ◌≢◌, ◌<◌, ◌≤◌, ℕ, ◌
 use Rattle.std.specs.Prelude.{codes, decimal}
 use Rattle.std.specs.Fmt.{digits}
 use Rattle.std.proofs.lemmas.Bool.{false≢true}
+use Rattle.std.proofs.lemmas.List.Sorted.{length_permutation}
 use Rattle.chunk_core.specs.Texts.{Frame, frame_text, frames_text, payloads_of}
 use Rattle.chunk_core.specs.Elements.{Element, Byte, rendering_of}
 use Rattle.chunk_core.specs.Outcomes.{End, Done, Fault, Cut}
+use Rattle.chunk_core.specs.declared.code.Exit.TheVariants.{Succeeded, Errored, Canceled}
 use Rattle.chunk_core.specs.declared.code.How.{How}
 use Rattle.chunk_core.specs.declared.code.How.TheVariants as how
 use Rattle.device_port.specs.Device.{DeviceTold}
 use Rattle.pull_nodes.specs.Runs.{OrLeft, Reads, ReadsBy}
 use Rattle.run_rules.specs.Run.{IsReported, IsUnmade, Ran, IsBlank}
 use Rattle.res_ledger.proofs.Judged.{legal_found, complete_found}
+use Rattle.res_ledger.proofs.Ordering.{ordered_complete}
+use Rattle.run_rules.specs.declared.end.EndOf.{EndOf}
 use Rattle.device_port.specs.Sink.{SinkTold, BreaksOff}
 use Rattle.run_rules.specs.Texts.{tail_text}
 use Rattle.flume_cli.specs.declared.status.Status.{Status}
@@ -20,7 +24,7 @@ use Rattle.flume_cli.specs.Status.{Causes, status_of, number_of, line_of}
 use Rattle.flume_cli.specs.Cat.{cat_work, FileRuns}
 use Rattle.flume_cli.specs.Headline.{Call, Headline, Tells, deed_of_call}
 use Rattle.headline_laws.specs.Calls.{a}
-use Rattle.headline_laws.specs.Refused.{invented_output, cut_output, row_of_no_plan, event_of_no_stream, lease_of_no_stream, kept_device, failure_not_told, halted_without_a_cause, row_without_a_final, final_before_close, closed_twice, left_open, fault_without_a_fault, failed_close_not_told, silent_call}
+use Rattle.headline_laws.specs.Refused.{invented_output, cut_output, row_of_no_plan, event_of_no_stream, lease_of_no_stream, kept_device, failure_not_told, halted_without_a_cause, row_without_a_final, final_before_close, closed_twice, left_open, fault_without_a_fault, failed_close_not_told, done_told_as_errored, fault_told_as_succeeded, halt_told_as_succeeded, final_unlike_its_close, device_told_otherwise, silent_call}
 
 peel : (b : Bool) (x y s : Status) → (x ≡ s → ⊥) → s ≡ (if b then x else y) → (b ≡ false) × (s ≡ y)
 peel true x y s n e = absurd (n (sym e))
@@ -88,7 +92,7 @@ pub lease_of_no_stream_refused : ¬ (Headline lease_of_no_stream)
 lease_of_no_stream_refused h = false≢true h.does.0.performs.ledger.ours
 
 pub kept_device_refused : ¬ (Headline kept_device)
-kept_device_refused h = let e = h.does.0.performs.devices.number in omega (arith, e)
+kept_device_refused h = let e = length_permutation _ _ h.does.0.performs.devices.once in omega (arith, e)
 
 pub failure_not_told_refused : ¬ (Headline failure_not_told)
 failure_not_told_refused h = let g = good h.causes h.status.status in false≢true (sym g.unwritten ∙ h.status.unwritten)
@@ -162,6 +166,36 @@ row_without_a_final_refused h = let l = h.does.0.performs.ledger in false≢true
 
 pub final_before_close_refused : ¬ (Headline final_before_close)
 final_before_close_refused h = false≢true (legal_found final_before_close.events h.does.0.performs.ledger.legal)
+
+-- The exits.
+
+not_errored : Succeeded ≢ Errored
+not_errored e = cc
+
+not_canceled : Succeeded ≢ Canceled
+not_canceled e = cc
+
+-- where there are ends, something was begun
+ran_with_ends : (c : Call) (k : Causes) (t : Tells (cat_work a) c k) → c.ends ≢ [] → Ran (cat_work a) (deed_of_call c k t.frames t.rest)
+ran_with_ends c k t some = ⊎_elim (λ (u : IsUnmade (deed_of_call c k t.frames t.rest)). absurd (some u.ends)) (λ r. r) t.performs.ran
+
+an_end : (e : EndOf) (es : List EndOf) → (e ∷ es) ≢ []
+an_end e es q = cc
+
+pub done_told_as_errored_refused : ¬ (Headline done_told_as_errored)
+done_told_as_errored_refused h = let r = ran_with_ends done_told_as_errored h.causes h.does.0 (an_end _ []) in not_errored (sym r.exits.0.0)
+
+pub fault_told_as_succeeded_refused : ¬ (Headline fault_told_as_succeeded)
+fault_told_as_succeeded_refused h = let r = ran_with_ends fault_told_as_succeeded h.causes h.does.0 (an_end _ []) in not_errored r.exits.0.0
+
+pub halt_told_as_succeeded_refused : ¬ (Headline halt_told_as_succeeded)
+halt_told_as_succeeded_refused h = let r = ran_with_ends halt_told_as_succeeded h.causes h.does.0 (an_end _ []) in not_canceled r.exits.0.0
+
+pub final_unlike_its_close_refused : ¬ (Headline final_unlike_its_close)
+final_unlike_its_close_refused h = false≢true (ordered_complete final_unlike_its_close.events h.does.0.performs.ledger.ordered)
+
+pub device_told_otherwise_refused : ¬ (Headline device_told_otherwise)
+device_told_otherwise_refused h = let e = (h.does.0.performs.devices.exits Errored).0 in omega (arith, e)
 
 pub closed_twice_refused : ¬ (Headline closed_twice)
 closed_twice_refused h = let e = h.does.0.performs.devices.shut.0.1 in omega (arith, e)

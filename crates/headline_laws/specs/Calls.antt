@@ -1,6 +1,7 @@
 -- Calls of cat that are written out.
 use Rattle.std.specs.Prelude.{ℕ, Bool, true, false, cond, List, [], ◌∷◌, Option, Some, None, codes}
 use Rattle.std.specs.Str.{bytes_eq}
+use Rattle.chunk_core.specs.declared.code.Exit.{Exit}
 use Rattle.chunk_core.specs.declared.code.How.{How}
 use Rattle.res_ledger.specs.declared.event.StreamNo.{StreamNo}
 use Rattle.res_ledger.specs.declared.event.StreamNo.TheVariants.{Inner}
@@ -30,18 +31,20 @@ end_of_0 h = record { who = Inner 0; how = h }
 abbrev pub a : List ℕ
 a = codes "a"
 
--- the device of the file a: what it has, how far it was read, and whether its close failed
-abbrev pub closed_device : List ℕ → ℕ → ℕ → ℕ → DeviceTold
-closed_device bytes at read_faults close_faults = record {
+-- the device of the file a: what it has, how far it was read and whether to its end, the exit that it was closed with, and how often a read and its close failed
+abbrev pub closed_device : List ℕ → ℕ → Bool → Exit → ℕ → ℕ → DeviceTold
+closed_device bytes at ended exit read_faults close_faults = record {
   number = 0;
   place = to_read a;
   present = Some true;
   content = Some bytes;
   at = at;
+  ended = ended;
   written = Some [];
   is_open = false;
   opens = 1;
   closes = 1;
+  exit = Some exit;
   open_faults = 0;
   read_faults = read_faults;
   write_faults = 0;
@@ -62,9 +65,9 @@ wrote bytes faults = record { written = Some bytes; faults = faults }
 abbrev pub no_input : SourceTold
 no_input = record { left = Some []; faults = 0 }
 
--- a row was acquired, closed and finalized
-abbrev pub one_row : Bool → List Event
-one_row ok = event 0 (Inner 0) (Acquire 0 0) ∷ event 1 (Inner 0) (Close 0) ∷ event 2 (Inner 0) (Final 0 ok) ∷ []
+-- a row was acquired, closed and finalized, with this exit
+abbrev pub one_row : Exit → Bool → List Event
+one_row exit ok = event 0 (Inner 0) (Acquire 0 0) ∷ event 1 (Inner 0) (Close 0 exit) ∷ event 2 (Inner 0) (Final 0 exit ok) ∷ []
 
 -- cat a
 abbrev pub cat_call : DepotTold → DepotTold → SinkTold → Status → How → List Event → Call
@@ -82,3 +85,7 @@ cat_call before after out s how L = record {
   ends = end_of_0 how ∷ [];
   events = L;
 }
+
+-- cat a, where a was opened and closed
+abbrev pub file_call : List ℕ → DeviceTold → SinkTold → Status → How → List Event → Call
+file_call bytes device out s how L = cat_call (depot_before bytes) (depot_after bytes (device ∷ [])) out s how L

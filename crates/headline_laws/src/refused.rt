@@ -1,6 +1,6 @@
 //! Calls with one thing wrong each.
 ghost use Rattle.flume_cli.specs.Headline.{Headline};
-ghost use Rattle.headline_laws.specs.Refused.{invented_output, cut_output, row_of_no_plan, event_of_no_stream, lease_of_no_stream, row_without_a_final, final_before_close, kept_device, closed_twice, left_open, failure_not_told, halted_without_a_cause, fault_without_a_fault, failed_close_not_told, silent_call};
+ghost use Rattle.headline_laws.specs.Refused.{invented_output, cut_output, row_of_no_plan, event_of_no_stream, lease_of_no_stream, row_without_a_final, final_before_close, kept_device, closed_twice, left_open, failure_not_told, halted_without_a_cause, fault_without_a_fault, failed_close_not_told, done_told_as_errored, fault_told_as_succeeded, halt_told_as_succeeded, final_unlike_its_close, device_told_otherwise, silent_call};
 
 /// Outputs that no device gave.
 pub fn invented_outputs()
@@ -22,6 +22,15 @@ pub fn wrong_devices()
     ensures is_kept_device { ¬ (Headline kept_device) }
     ensures is_closed_twice { ¬ (Headline closed_twice) }
     ensures is_left_open { ¬ (Headline left_open) }
+{}
+
+/// Exits that aren't those of the stream's end, of the Close or of the Final.
+pub fn wrong_exits()
+    ensures is_done_told_as_errored { ¬ (Headline done_told_as_errored) }
+    ensures is_fault_told_as_succeeded { ¬ (Headline fault_told_as_succeeded) }
+    ensures is_halt_told_as_succeeded { ¬ (Headline halt_told_as_succeeded) }
+    ensures is_final_unlike_its_close { ¬ (Headline final_unlike_its_close) }
+    ensures is_device_told_otherwise { ¬ (Headline device_told_otherwise) }
 {}
 
 /// Ends and statuses without their causes, and causes that nobody was told.

@@ -1,6 +1,6 @@
 //! The calls below the top call: each once with ample memory.
 use crate::outside::{cat_of, depot_of, filled, run, sink_of};
-use chunk_core::{Code, How, List, Word};
+use chunk_core::{Code, Exit, How, List, Word};
 use device_port::Failed;
 use flume_cli::tail::tail_of;
 use flume_cli::{put_frame, run_cat};
@@ -44,11 +44,11 @@ fn tail_is_the_ends_and_the_ledger(rt: HostRuntime) -> Result<(), Fail> {
     let lines = text(rt.alloc(), &ledger)?;
     assert_eq!(rt;
         lines.as_slice(),
-        b"ledger 3\n0 acquire 0 0\n0 close 0\n0 final 0 ok\n".as_slice()
+        b"ledger 3\n0 acquire 0 0\n0 close 0 succeeded\n0 final 0 succeeded ok\n".as_slice()
     );
     let tail = tail_of(rt.alloc(), &ends, &ledger)?;
     let want =
-        b"end outer done\nend 12 fault endless\nledger 3\n0 acquire 0 0\n0 close 0\n0 final 0 ok\n";
+        b"end outer done\nend 12 fault endless\nledger 3\n0 acquire 0 0\n0 close 0 succeeded\n0 final 0 succeeded ok\n";
     assert_eq!(rt; tail.as_slice(), want.as_slice());
     Ok(())
 }
@@ -72,12 +72,19 @@ fn file_is_read_in_pieces(rt: HostRuntime) -> Result<(), Fail> {
 #[test]
 fn ledger_is_read_back(rt: HostRuntime) -> Result<(), Fail> {
     let alloc = rt.alloc();
-    let printed = b"ledger 3\n0 acquire 0 0\n0 close 0\n0 final 0 ok\n";
+    let printed = b"ledger 3\n0 acquire 0 0\n0 close 0 succeeded\n0 final 0 succeeded ok\n";
     let ledger = read(alloc, printed.as_slice())?;
     let noted = [
         What::Acquire { row: 0, scope: 0 },
-        What::Close { scope: 0 },
-        What::Final { row: 0, ok: true },
+        What::Close {
+            scope: 0,
+            exit: Exit::Succeeded,
+        },
+        What::Final {
+            row: 0,
+            exit: Exit::Succeeded,
+            ok: true,
+        },
     ];
     assert_eq!(rt; ledger.len(), 3);
     for event in ledger.as_slice() {
@@ -85,7 +92,7 @@ fn ledger_is_read_back(rt: HostRuntime) -> Result<(), Fail> {
         assert_eq!(rt; noted.get(event.stamp as usize), Some(&event.what));
     }
     assert_eq!(rt;
-        read(alloc, b"ledger 2\n0 close 0\n".as_slice()).err(),
+        read(alloc, b"ledger 2\n0 close 0 succeeded\n".as_slice()).err(),
         Some(LedgerRefused::BadCount(2, 1))
     );
     assert_eq!(rt;

@@ -2,7 +2,7 @@
 use crate::outside::{
     Case, assert_device, assert_end, assert_one_row, assert_printed, cat_of, filled, run,
 };
-use chunk_core::{Code, How};
+use chunk_core::{Code, Exit, How};
 use device_port::Act;
 use flume_cli::Status;
 use std::test::Fail;
@@ -15,12 +15,13 @@ fn failed_read_ends_the_frames(rt: HostRuntime) -> Result<(), Fail> {
         ..cat_of(&file)
     };
     let seen = run(&rt, rt.alloc(), &case)?;
-    let tail = "\nend 0 fault read\nledger 3\n0 acquire 0 0\n0 close 0\n0 final 0 ok\n";
+    let tail =
+        "\nend 0 fault read\nledger 3\n0 acquire 0 0\n0 close 0 errored\n0 final 0 errored ok\n";
     let text = filled(rt.alloc(), &[("0 4096\n", 4096), (tail, 0)])?;
     assert_printed(&rt, &seen, Status::Faulty, &text);
     assert_end(&rt, &seen, How::Fault(Code::Read));
-    assert_one_row(&rt, &seen, true);
-    assert_device(&rt, &seen, 1, 1);
+    assert_one_row(&rt, &seen, Exit::Errored, true);
+    assert_device(&rt, &seen, Some(Exit::Errored));
     Ok(())
 }
 
@@ -31,12 +32,13 @@ fn failed_close_is_unclean(rt: HostRuntime) -> Result<(), Fail> {
         ..cat_of(b"hello\n")
     };
     let seen = run(&rt, rt.alloc(), &case)?;
-    let text = b"0 6\nhello\n\nend 0 done\nledger 3\n0 acquire 0 0\n0 close 0\n0 final 0 fault\n";
+    let text =
+        b"0 6\nhello\n\nend 0 done\nledger 3\n0 acquire 0 0\n0 close 0 succeeded\n0 final 0 succeeded fault\n";
     assert_printed(&rt, &seen, Status::Unclean, text);
     assert_eq!(rt; seen.report.status.number(), 7);
     assert_end(&rt, &seen, How::Done);
-    assert_one_row(&rt, &seen, false);
-    assert_device(&rt, &seen, 1, 1);
+    assert_one_row(&rt, &seen, Exit::Succeeded, false);
+    assert_device(&rt, &seen, Some(Exit::Succeeded));
     Ok(())
 }
 
@@ -47,10 +49,11 @@ fn fault_tells_more_than_a_failed_close(rt: HostRuntime) -> Result<(), Fail> {
         ..cat_of(b"hello\n")
     };
     let seen = run(&rt, rt.alloc(), &case)?;
-    let text = b"end 0 fault read\nledger 3\n0 acquire 0 0\n0 close 0\n0 final 0 fault\n";
+    let text =
+        b"end 0 fault read\nledger 3\n0 acquire 0 0\n0 close 0 errored\n0 final 0 errored fault\n";
     assert_printed(&rt, &seen, Status::Faulty, text);
-    assert_one_row(&rt, &seen, false);
-    assert_device(&rt, &seen, 1, 1);
+    assert_one_row(&rt, &seen, Exit::Errored, false);
+    assert_device(&rt, &seen, Some(Exit::Errored));
     Ok(())
 }
 
@@ -65,8 +68,8 @@ fn failed_write_halts_the_stream(rt: HostRuntime) -> Result<(), Fail> {
     assert_eq!(rt; seen.report.status.number(), 4);
     assert_eq!(rt; seen.out.faults(), 1);
     assert_end(&rt, &seen, How::Halted);
-    assert_one_row(&rt, &seen, true);
-    assert_device(&rt, &seen, 1, 1);
+    assert_one_row(&rt, &seen, Exit::Canceled, true);
+    assert_device(&rt, &seen, Some(Exit::Canceled));
     Ok(())
 }
 
@@ -74,12 +77,19 @@ fn failed_write_halts_the_stream(rt: HostRuntime) -> Result<(), Fail> {
 #[test]
 fn nothing_is_written_after_a_failed_write(rt: HostRuntime) -> Result<(), Fail> {
     let file = filled(rt.alloc(), &[("", 5000)])?;
-    let tail = "\nend 0 done\nledger 3\n0 acquire 0 0\n0 close 0\n0 final 0 ok\n";
+    let tail =
+        "\nend 0 done\nledger 3\n0 acquire 0 0\n0 close 0 succeeded\n0 final 0 succeeded ok\n";
     let text = filled(
         rt.alloc(),
         &[("0 4096\n", 4096), ("\n0 904\n", 904), (tail, 0)],
     )?;
-    for (nth, cut) in [(1u32, 0), (2, 4104), (3, 5015), (4, 5072)] {
+    let table = [
+        (1u32, 0, Exit::Canceled),
+        (2, 4104, Exit::Canceled),
+        (3, 5015, Exit::Succeeded),
+        (4, 5092, Exit::Succeeded),
+    ];
+    for (nth, cut, exit) in table {
         let case = Case {
             out_fails: &[nth],
             ..cat_of(&file)
@@ -94,8 +104,8 @@ fn nothing_is_written_after_a_failed_write(rt: HostRuntime) -> Result<(), Fail> 
         assert!(rt; cut <= text.len());
         assert_printed(&rt, &seen, status, &text[..cut]);
         assert_eq!(rt; seen.out.faults(), u64::from(failed), "at {nth}");
-        assert_one_row(&rt, &seen, true);
-        assert_device(&rt, &seen, 1, 1);
+        assert_one_row(&rt, &seen, exit, true);
+        assert_device(&rt, &seen, Some(exit));
     }
     Ok(())
 }

@@ -32,7 +32,9 @@ fn assert_told(rt: &impl Abort, seen: &Seen) {
         status => {
             assert_eq!(rt; status, Status::Good);
             assert!(rt;
-                out.ends_with(b"\nend 0 done\nledger 3\n0 acquire 0 0\n0 close 0\n0 final 0 ok\n")
+                out.ends_with(
+                    b"\nend 0 done\nledger 3\n0 acquire 0 0\n0 close 0 succeeded\n0 final 0 succeeded ok\n"
+                )
             );
         }
     }

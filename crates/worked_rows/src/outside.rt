@@ -2,7 +2,7 @@
 ghost use Rattle.std.specs.Prelude.{◌≡◌, IfOk};
 ghost use Rattle.device_port.specs.Memory.{sink_told};
 
-use chunk_core::{How, Line, List, Word};
+use chunk_core::{Exit, How, Line, List, Word};
 use device_port::{Act, FileOf, MemDepot, MemSink, MemSource, OpenGate, Trip};
 use flume_cli::{Report, Status, flume};
 use res_ledger::{Event, StreamNo, What};
@@ -121,13 +121,16 @@ pub fn assert_printed(rt: &impl Abort, seen: &Seen, status: Status, out: &[u8]) 
     assert_eq!(rt; seen.err.written(), b"".as_slice());
 }
 
-/// The one device that was made came back, opened and closed so often.
-pub fn assert_device(rt: &impl Abort, seen: &Seen, opens: u64, closes: u64) {
+/// The one device that was made came back: opened once and closed once with this exit, or never
+/// opened.
+pub fn assert_device(rt: &impl Abort, seen: &Seen, exit: Option<Exit>) {
     assert_eq!(rt; seen.depot.made().len(), 1);
     let records = seen.depot.retired();
     assert_eq!(rt; records.len(), 1);
-    assert_eq!(rt; records[0].opens(), opens);
-    assert_eq!(rt; records[0].closes(), closes);
+    let times = u64::from(exit.is_some());
+    assert_eq!(rt; records[0].opens(), times);
+    assert_eq!(rt; records[0].closes(), times);
+    assert_eq!(rt; records[0].exit(), exit);
 }
 
 /// The report has one end, that of stream 0.
@@ -139,11 +142,11 @@ pub fn assert_end(rt: &impl Abort, seen: &Seen, how: How) {
     assert_eq!(rt; seen.report.ends.as_slice(), [end].as_slice());
 }
 
-/// The ledger of a run that opened its file.
-pub fn assert_one_row(rt: &impl Abort, seen: &Seen, ok: bool) {
+/// The ledger of a run that opened its file and ended so.
+pub fn assert_one_row(rt: &impl Abort, seen: &Seen, exit: Exit, ok: bool) {
     let acquired = event(0, What::Acquire { row: 0, scope: 0 });
-    let closed = event(1, What::Close { scope: 0 });
-    let finalized = event(2, What::Final { row: 0, ok });
+    let closed = event(1, What::Close { scope: 0, exit });
+    let finalized = event(2, What::Final { row: 0, exit, ok });
     assert_eq!(rt;
         seen.report.ledger.as_slice(),
         [acquired, closed, finalized].as_slice()

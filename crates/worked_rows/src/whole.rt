@@ -2,7 +2,7 @@
 use crate::outside::{
     Case, assert_device, assert_end, assert_one_row, assert_printed, cat_of, event, filled, run,
 };
-use chunk_core::{Code, How};
+use chunk_core::{Code, Exit, How};
 use flume_cli::Status;
 use res_ledger::What;
 use std::test::Fail;
@@ -10,23 +10,25 @@ use std::test::Fail;
 #[test]
 fn hello_is_one_frame(rt: HostRuntime) -> Result<(), Fail> {
     let seen = run(&rt, rt.alloc(), &cat_of(b"hello\n"))?;
-    let text = b"0 6\nhello\n\nend 0 done\nledger 3\n0 acquire 0 0\n0 close 0\n0 final 0 ok\n";
+    let text =
+        b"0 6\nhello\n\nend 0 done\nledger 3\n0 acquire 0 0\n0 close 0 succeeded\n0 final 0 succeeded ok\n";
     assert_printed(&rt, &seen, Status::Good, text);
     assert_eq!(rt; seen.report.status.number(), 0);
     assert_end(&rt, &seen, How::Done);
-    assert_one_row(&rt, &seen, true);
-    assert_device(&rt, &seen, 1, 1);
+    assert_one_row(&rt, &seen, Exit::Succeeded, true);
+    assert_device(&rt, &seen, Some(Exit::Succeeded));
     Ok(())
 }
 
 #[test]
 fn empty_file_has_no_frame(rt: HostRuntime) -> Result<(), Fail> {
     let seen = run(&rt, rt.alloc(), &cat_of(b""))?;
-    let text = b"end 0 done\nledger 3\n0 acquire 0 0\n0 close 0\n0 final 0 ok\n";
+    let text =
+        b"end 0 done\nledger 3\n0 acquire 0 0\n0 close 0 succeeded\n0 final 0 succeeded ok\n";
     assert_printed(&rt, &seen, Status::Good, text);
     assert_end(&rt, &seen, How::Done);
-    assert_one_row(&rt, &seen, true);
-    assert_device(&rt, &seen, 1, 1);
+    assert_one_row(&rt, &seen, Exit::Succeeded, true);
+    assert_device(&rt, &seen, Some(Exit::Succeeded));
     Ok(())
 }
 
@@ -41,13 +43,19 @@ fn missing_file_is_a_fault_of_open(rt: HostRuntime) -> Result<(), Fail> {
         &rt,
         &seen,
         Status::Faulty,
-        b"end 0 fault open\nledger 1\n0 close 0\n",
+        b"end 0 fault open\nledger 1\n0 close 0 errored\n",
     );
     assert_eq!(rt; seen.report.status.number(), 1);
     assert_end(&rt, &seen, How::Fault(Code::Open));
-    let closed = event(0, What::Close { scope: 0 });
+    let closed = event(
+        0,
+        What::Close {
+            scope: 0,
+            exit: Exit::Errored,
+        },
+    );
     assert_eq!(rt; seen.report.ledger.as_slice(), [closed].as_slice());
-    assert_device(&rt, &seen, 0, 0);
+    assert_device(&rt, &seen, None);
     Ok(())
 }
 
@@ -55,13 +63,14 @@ fn missing_file_is_a_fault_of_open(rt: HostRuntime) -> Result<(), Fail> {
 fn long_file_is_cut_into_frames(rt: HostRuntime) -> Result<(), Fail> {
     let file = filled(rt.alloc(), &[("", 5000)])?;
     let seen = run(&rt, rt.alloc(), &cat_of(&file))?;
-    let tail = "\nend 0 done\nledger 3\n0 acquire 0 0\n0 close 0\n0 final 0 ok\n";
+    let tail =
+        "\nend 0 done\nledger 3\n0 acquire 0 0\n0 close 0 succeeded\n0 final 0 succeeded ok\n";
     let text = filled(
         rt.alloc(),
         &[("0 4096\n", 4096), ("\n0 904\n", 904), (tail, 0)],
     )?;
     assert_printed(&rt, &seen, Status::Good, &text);
-    assert_one_row(&rt, &seen, true);
-    assert_device(&rt, &seen, 1, 1);
+    assert_one_row(&rt, &seen, Exit::Succeeded, true);
+    assert_device(&rt, &seen, Some(Exit::Succeeded));
     Ok(())
 }

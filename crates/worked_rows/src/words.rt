@@ -64,9 +64,9 @@ fn longest_path_is_a_path(rt: HostRuntime) -> Result<(), Fail> {
         &rt,
         &seen,
         Status::Faulty,
-        b"end 0 fault open\nledger 1\n0 close 0\n",
+        b"end 0 fault open\nledger 1\n0 close 0 errored\n",
     );
-    assert_device(&rt, &seen, 0, 0);
+    assert_device(&rt, &seen, None);
     Ok(())
 }
 

@@ -4,7 +4,7 @@ use Rattle.res_ledger.specs.declared.event.Event.{Event}
 use Rattle.run_rules.specs.declared.end.EndOf.{EndOf}
 use Rattle.flume_cli.specs.declared.status.Status.TheVariants as status
 use Rattle.flume_cli.specs.Words.{cat_path_of}
-use Rattle.flume_cli.specs.Finish.{Finishes}
+use Rattle.flume_cli.specs.Finish.{Reports}
 use Rattle.flume_cli.proofs.Telling.{cat_told, nothing_told}
 use Rattle.flume_cli.proofs.top.flume.Goals as goal
 
@@ -16,5 +16,5 @@ returns-in-Some g c =
 pub returns-in-None : goal.returns-in-None
 returns-in-None g c =
     let known : cat_path_of c.args.words.now ≡ None = sym c.in-None.ensures in
-    let told = λ (es : List EndOf) (L : List Event). Finishes status.BadWords es L (g.E.Sink.told c.args.err.now) (g.E.Sink.told c.finish-in-None.new.err) c.finish-in-None.result in
+    let told = λ (es : List EndOf) (L : List Event). Reports status.BadWords es L (g.E.Sink.told c.args.err.now) (g.E.Sink.told c.finish-in-None.new.err) c.finish-in-None.result in
     nothing_told _ _ _ _ _ _ _ known (subst (λ es. told es []) c.new.ensures (subst (λ L. told c.new.result L) c.empty.ensures c.finish-in-None.ensures))
