@@ -1,19 +1,16 @@
 -- What a site is after a scope was closed.
-use Rattle.std.proofs.Common.{◌≡◌, ◌⊎◌, ℕ, ◌+◌, ◌<◌, ◌≤◌, List, [], ◌∷◌, ◌++◌, length, slice_index_or, true, false, None, inl, inr, refl, sym, ap, ◌∙◌, subst, ⊎_elim, arith, add-zero, append-nil}
+use Rattle.std.proofs.Common.{◌≡◌, ℕ, ◌+◌, ◌<◌, ◌≤◌, List, [], ◌++◌, length, slice_index_or, true, false, None, inl, inr, refl, sym, ap, ◌∙◌, subst, ⊎_elim, arith, add-zero, append-nil}
 use Rattle.chunk_core.specs.declared.code.Exit.{Exit}
 use Rattle.chunk_core.specs.Lists.{IsAmong}
-use Rattle.chunk_core.specs.Lists.IsAmong.{here}
-use Rattle.chunk_core.proofs.Members.{among_cons, among_left, among_mid, among_nil}
+use Rattle.chunk_core.proofs.Members.{among_left}
 use Rattle.chunk_core.proofs.Filters.{among_append}
 use Rattle.device_port.specs.Device.{DeviceTold}
 use Rattle.pull_turns.specs.Around.{Affords, IsClosedWith, Keeps, Leaves, gist}
-use Rattle.res_ledger.specs.declared.event.What.TheVariants.{Close}
-use Rattle.res_ledger.specs.Ledger.{IsClosed, LiesWithin, Notes}
-use Rattle.res_ledger.specs.Ledger.LiesWithin.{same}
-use Rattle.res_ledger.specs.Order.{finals, firsts}
-use Rattle.res_ledger.specs.Own.{closes_of, rows}
+use Rattle.res_ledger.specs.Ledger.{IsClosed, LiesWithin}
+use Rattle.res_ledger.specs.Order.{firsts}
+use Rattle.res_ledger.specs.Own.{rows}
 use Rattle.res_ledger.proofs.Apart.{apart}
-use Rattle.res_ledger.proofs.Noted.{flat_holds, notes_opens, notes_own, opens_notes, own_notes}
+use Rattle.res_ledger.proofs.Noted.{notes_opens, opens_notes}
 use Rattle.row_seat.specs.Views.{HasRow}
 use Rattle.scope_tree.specs.declared.branch.Branch.{Branch}
 use Rattle.scope_tree.specs.declared.branch.Held.{Held}
@@ -28,27 +25,25 @@ use Rattle.scope_tree.proofs.Beneath.{not_true', Under, usable_scope, whole_is, 
 use Rattle.scope_tree.proofs.Beneath.Under.{self, child}
 use Rattle.scope_tree.proofs.Distinct.{firsts_append, picks_among, said_append, strangers_append}
 use Rattle.scope_tree.proofs.Follows.{same_empty}
-use Rattle.scope_tree.proofs.Grown.{closes_finals, grown_closed, grown_noted, within_opens}
+use Rattle.scope_tree.proofs.Grown.{grown_closed, grown_noted, within_opens}
 use Rattle.scope_tree.proofs.Keeps.{close_grown, close_less, old_close, old_within, opens_same, rows_same, under_root, within_trans}
 use Rattle.scope_tree.proofs.Owning.{owner_count, owner_has, owner_pays}
 use Rattle.scope_tree.proofs.Parts.{among_right, one_scope, row_of_pair}
 use Rattle.scope_tree.proofs.Releasing.{released_most, released_picks, released_spare}
 use Rattle.scope_tree.proofs.Rooms.{own_is, strangers_none}
-use Rattle.scope_tree.proofs.Use.{close_follows, closed_now, closed_said}
+use Rattle.scope_tree.proofs.Use.{close_follows, closed_now}
 use Rattle.scope_tree.proofs.Walking.{above_le, within_stands}
 use Rattle.tree_laws.proofs.Alone.{calls_alone}
 use Rattle.tree_laws.specs.Laws.{CallsStayAlone}
 use Rattle.tree_laws.specs.Called.Called.{none, closed}
 use Rattle.pull_stepper.specs.Held.{Finishes}
 use Rattle.pull_stepper.specs.Sites.{InOrder, Since, Site, around, pay_in, pay_of, pays, slot, told_at, told_or}
+use Rattle.pull_stepper.proofs.Closing.{close_noted, closed_as, known_close}
 use Rattle.pull_stepper.proofs.Ending.{HasOpen, IsBare, bare_noted, ended_bare, ended_spent, ended_told, open_or_ended}
 use Rattle.pull_stepper.proofs.Payloads.{pays_row}
 use Rattle.pull_stepper.proofs.Slots.{slot_place}
 use Rattle.pull_stepper.proofs.Standing.{open_row, row_scope}
 use Rattle.pull_stepper.proofs.Tellings.{IsSameOrShut, same_gist, shut_exit, shut_gist, told_shut}
-
-same_close : (m s : ℕ) (y e : Exit) → Close m y ≡ Close s e → (m ≡ s) × (y ≡ e)
-same_close m s y e i = (cc, cc)
 
 -- a scope that stands below another has no smaller number
 under_le : (bs : List Branch) (s t : ℕ) → ((c : ℕ) (d : Branch) → 1 ≤ c → c < length bs → (slice_index_or bs c d).parent < c) → Under bs s t → s ≤ t
@@ -131,26 +126,8 @@ module _ {V : Type 0} (told : V → DeviceTold) (once : (d : V) → (told d).is_
     λ d. o.1 (grown_closed (close_grown x.tree.seat b.seat bs hs c.torn.0 s c.stamp k u closed_whole) m d),
   )
 
-  -- a Close that stands there now stood there before, or is this one
-  known_close : (m : ℕ) (y : Exit) → Notes b.seat.events b.seat.by (Close m y) → Notes x.tree.seat.events x.tree.seat.by (Close m y) ⊎ ((m ≡ s) × (y ≡ e))
-  known_close m y n =
-      let there = subst (λ E. IsAmong (Close m y) E) (closed_said c) (notes_own b.seat.events b.seat.by (Close m y) n) in
-      ⊎_elim
-      (λ i. inl (own_notes x.tree.seat.events x.tree.seat.by (Close m y) i))
-      (λ i. ⊎_elim
-      (λ z. inr (same_close m s y e z))
-      (λ j. absurd (among_nil (subst (λ l. IsAmong m l) (closes_finals e (said c.torn.0)) (flat_holds closes_of (Close m y) (finals e (said c.torn.0)) m j (here [])))))
-      (among_cons i))
-      (among_append (Close m y) (words x.tree.seat) (Close s e ∷ finals e (said c.torn.0)) there)
-
   left_closed : IsClosedWith (around told (record x { tree = b })) s e
-  left_closed = record {
-    gone = λ o. o.1 (closed_now c);
-    exit = λ y. (
-      λ n. ⊎_elim (λ i. absurd (u.1 (s, same s, (y, i)))) (λ i. i.1) (known_close s y n),
-      λ i. own_notes b.seat.events b.seat.by (Close s y) (subst (λ E. IsAmong (Close s y) E) (sym (closed_said c)) (subst (λ z. IsAmong (Close s y) (words x.tree.seat ++ Close s z ∷ finals e (said c.torn.0))) i (among_mid (words x.tree.seat) (finals e (said c.torn.0)) (Close s y)))),
-    );
-  }
+  left_closed = record { gone = λ o. o.1 (closed_now c); exit = λ y. (closed_as c u y, close_noted c y) }
 
   left_rows : rows (words b.seat) ≡ rows (words x.tree.seat)
   left_rows = rows_same x.tree.seat b.seat bs hs c.torn.0 s c.stamp k u closed_whole
@@ -210,7 +187,7 @@ module _ {V : Type 0} (told : V → DeviceTold) (once : (d : V) → (told d).is_
       keeps = left_keeps;
       closed = left_closed;
       others = λ m y n. (
-        λ h. ⊎_elim (λ i. i) (λ i. absurd (n i.0)) (known_close m y h),
+        λ h. ⊎_elim (λ i. i) (λ i. absurd (n i.0)) (known_close c m y h),
         λ h. grown_noted (close_grown x.tree.seat b.seat bs hs c.torn.0 s c.stamp k u closed_whole) h,
       );
       only = was_open;

@@ -38,11 +38,11 @@ pub others_then : {S V D : Type 0} (view : S → View V) (fits : S → D → Typ
 others_then view fits k j d e f same h i o n t = i o (λ q. n (q ∙ same)) (h o n t)
 
 -- the first seat of a run, with a row for each place and room for as many events as the node counts, has room for the node
-pub start_room : {P : Type 0} (n : Node) (a : Seen P) (v : View P) (scopes rows : ℕ)
-    → v ≡ start (Inner 0) (length (places_of n)) (2 * length (places_of n) + 2 * scope_count n + 1) → a ≡ record { seat = v; shelf = []; scopes = scopes; rows = rows }
+pub start_room : {P : Type 0} (n : Node) (a : Seen P) (v : View P) (scopes rows splits : ℕ)
+    → v ≡ start (Inner 0) (length (places_of n)) (2 * length (places_of n) + 2 * scope_count n + 1) splits → a ≡ record { seat = v; shelf = []; scopes = scopes; rows = rows }
     → first_of (places_of n) ≡ 0 → scope_count n + 1 ≤ scopes → length (places_of n) ≤ rows → HasRoomFor a n
-start_room {P = P} n a v scopes rows is e first many held =
-    let first_view : View P = start (Inner 0) (length (places_of n)) (2 * length (places_of n) + 2 * scope_count n + 1) in
+start_room {P = P} n a v scopes rows splits is e first many held =
+    let first_view : View P = start (Inner 0) (length (places_of n)) (2 * length (places_of n) + 2 * scope_count n + 1) splits in
     let b : Seen P = record { seat = first_view; shelf = []; scopes = scopes; rows = rows } in
     let h : HasRoomFor b n = record {
       root = all_open first_view 0 refl (inl refl);

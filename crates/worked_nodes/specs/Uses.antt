@@ -22,6 +22,10 @@ use Rattle.pull_stepper.specs.Held.{Finishes}
 use Rattle.pull_stepper.specs.Sites.{Parted, SameDevice, around, told_at}
 use Rattle.pull_stepper.specs.Stepping.{Stepping, site_of, span_of}
 
+-- each Close of the root has the exit x
+abbrev pub HasExit : {V : Type 0} → Seen V → Exit → Type 0
+HasExit a x = (y : Exit) → Notes a.seat.events a.seat.by (Close 0 y) → y ≡ x
+
 module _ {V F : Type 0} (P : Standing F) (told : V → DeviceTold) where
   -- what was given since a, and how it ended, if it has, is a run of what was left
   abbrev pub Gathers : Stepping V F → Stepping V F → List Element → Type 0
@@ -43,7 +47,7 @@ module _ {V : Type 0} (told : V → DeviceTold) where
     pub same : (p : ℕ) → SameDevice (told_at told (site_of n a devices) p) (w p)
     pub parted : Parted told w b.shelf (span_of n (length devices)).to (span_of n (length devices)).from unopened
     pub root : IsClosedScope b 0
-    pub exit : (x : Exit) → Notes b.seat.events b.seat.by (Close 0 x) → x ≡ exit_of h
+    pub exit : HasExit b (exit_of h)
     pub calls : Called (Finishes told) a [] b
     pub alone : StaysAlone a.seat b.seat
     pub events : a.seat.spare ≤ b.seat.spare + (2 * length (places_of n) + 2 * scope_count n + 1)

@@ -64,7 +64,8 @@ fn show_lines(alloc: Global, pipe: Pipe) -> Result<Vec<u8>, Fail> {
 fn a_cut_line_end_is_one_line_end(rt: HostRuntime) -> Result<(), Fail> {
     let alloc = rt.alloc();
     let out = show(alloc, lines_of_file(alloc)?, b"a\r\nb", None, by(2))?;
-    let all = b"a\n|b\n|Done\nledger 3\n0 acquire 0 0\n0 close 0 succeeded\n0 final 0 succeeded ok\na 1 1 succeeded\n";
+    let all =
+        b"a\n|b\n|Done\nledger 3\n0 acquire 0 0\n0 close 0 succeeded\n0 final 0 succeeded ok\na 1 1 succeeded\n";
     assert_eq!(rt; out.as_slice(), all.as_slice());
     Ok(())
 }
@@ -74,15 +75,18 @@ fn characters_come_whole(rt: HostRuntime) -> Result<(), Fail> {
     let alloc = rt.alloc();
     let node = through(alloc, source(alloc, 0)?, Pipe::Utf8)?;
     let out = show(alloc, node, b"\xe2\x82\xac", None, by(1))?;
-    let whole = b"\xe2\x82\xac|Done\nledger 3\n0 acquire 0 0\n0 close 0 succeeded\n0 final 0 succeeded ok\na 1 1 succeeded\n";
+    let whole =
+        b"\xe2\x82\xac|Done\nledger 3\n0 acquire 0 0\n0 close 0 succeeded\n0 final 0 succeeded ok\na 1 1 succeeded\n";
     assert_eq!(rt; out.as_slice(), whole.as_slice());
     let node = through(alloc, source(alloc, 0)?, Pipe::Utf8)?;
     let out = show(alloc, node, b"a\xe2\x82", None, by(1))?;
-    let cut = b"a|Fault(Truncated)\nledger 3\n0 acquire 0 0\n0 close 0 errored\n0 final 0 errored ok\na 1 1 errored\n";
+    let cut =
+        b"a|Fault(Truncated)\nledger 3\n0 acquire 0 0\n0 close 0 errored\n0 final 0 errored ok\na 1 1 errored\n";
     assert_eq!(rt; out.as_slice(), cut.as_slice());
     let node = through(alloc, source(alloc, 0)?, Pipe::Utf8)?;
     let out = show(alloc, node, b"a\xff", None, by(1))?;
-    let wrong = b"a|Fault(Malformed)\nledger 3\n0 acquire 0 0\n0 close 0 errored\n0 final 0 errored ok\na 1 1 errored\n";
+    let wrong =
+        b"a|Fault(Malformed)\nledger 3\n0 acquire 0 0\n0 close 0 errored\n0 final 0 errored ok\na 1 1 errored\n";
     assert_eq!(rt; out.as_slice(), wrong.as_slice());
     Ok(())
 }
@@ -93,7 +97,8 @@ fn what_is_malformed_is_replaced(rt: HostRuntime) -> Result<(), Fail> {
     let mended = through(alloc, source(alloc, 0)?, Pipe::Lossy)?;
     let node = through(alloc, mended, Pipe::Hex)?;
     let out = show(alloc, node, b"a\xff\xe2\x82b", None, by(1))?;
-    let all = b"61efbfbdefbfbd62\n|Done\nledger 3\n0 acquire 0 0\n0 close 0 succeeded\n0 final 0 succeeded ok\na 1 1 succeeded\n";
+    let all =
+        b"61efbfbdefbfbd62\n|Done\nledger 3\n0 acquire 0 0\n0 close 0 succeeded\n0 final 0 succeeded ok\na 1 1 succeeded\n";
     assert_eq!(rt; out.as_slice(), all.as_slice());
     Ok(())
 }
@@ -103,7 +108,8 @@ fn what_is_held_back_is_not_given_at_a_fault(rt: HostRuntime) -> Result<(), Fail
     let alloc = rt.alloc();
     let fail = Some((Act::Read, 2));
     let out = show(alloc, lines_of_file(alloc)?, b"ab\ncd", fail, by(5))?;
-    let front = b"ab\n|Fault(Read)\nledger 3\n0 acquire 0 0\n0 close 0 errored\n0 final 0 errored ok\na 1 1 errored\n";
+    let front =
+        b"ab\n|Fault(Read)\nledger 3\n0 acquire 0 0\n0 close 0 errored\n0 final 0 errored ok\na 1 1 errored\n";
     assert_eq!(rt; out.as_slice(), front.as_slice());
     Ok(())
 }
@@ -129,7 +135,8 @@ fn a_taker_of_lines_reads_no_further(rt: HostRuntime) -> Result<(), Fail> {
     let fail = Some((Act::Read, 2));
     let node = Box::new(alloc, Node::Take(2, lines_of_file(alloc)?))?;
     let out = show(alloc, node, b"a\nb\n", fail, FREELY)?;
-    let all = b"a\nb\n|Done\nledger 3\n0 acquire 0 0\n0 close 0 succeeded\n0 final 0 succeeded ok\na 1 1 succeeded\n";
+    let all =
+        b"a\nb\n|Done\nledger 3\n0 acquire 0 0\n0 close 0 succeeded\n0 final 0 succeeded ok\na 1 1 succeeded\n";
     assert_eq!(rt; out.as_slice(), all.as_slice());
     let mut depot = depot(alloc, b"a\nb\n", fail)?;
     let node = Node::Take(2, lines_of_file(alloc)?);
@@ -161,13 +168,16 @@ fn errors_are_numbered(rt: HostRuntime) -> Result<(), Fail> {
 fn each_pipe_over_lines(rt: HostRuntime) -> Result<(), Fail> {
     let alloc = rt.alloc();
     let out = show_lines(alloc, Pipe::Upper)?;
-    let upper = b"A\nA\nB\n|Done\nledger 3\n0 acquire 0 0\n0 close 0 succeeded\n0 final 0 succeeded ok\na 1 1 succeeded\n";
+    let upper =
+        b"A\nA\nB\n|Done\nledger 3\n0 acquire 0 0\n0 close 0 succeeded\n0 final 0 succeeded ok\na 1 1 succeeded\n";
     assert_eq!(rt; out.as_slice(), upper.as_slice());
     let out = show_lines(alloc, Pipe::Drop(2))?;
-    let last = b"b\n|Done\nledger 3\n0 acquire 0 0\n0 close 0 succeeded\n0 final 0 succeeded ok\na 1 1 succeeded\n";
+    let last =
+        b"b\n|Done\nledger 3\n0 acquire 0 0\n0 close 0 succeeded\n0 final 0 succeeded ok\na 1 1 succeeded\n";
     assert_eq!(rt; out.as_slice(), last.as_slice());
     let out = show_lines(alloc, Pipe::Changes)?;
-    let each = b"a\nb\n|Done\nledger 3\n0 acquire 0 0\n0 close 0 succeeded\n0 final 0 succeeded ok\na 1 1 succeeded\n";
+    let each =
+        b"a\nb\n|Done\nledger 3\n0 acquire 0 0\n0 close 0 succeeded\n0 final 0 succeeded ok\na 1 1 succeeded\n";
     assert_eq!(rt; out.as_slice(), each.as_slice());
     Ok(())
 }
@@ -176,10 +186,12 @@ fn each_pipe_over_lines(rt: HostRuntime) -> Result<(), Fail> {
 fn lines_are_counted_and_parted(rt: HostRuntime) -> Result<(), Fail> {
     let alloc = rt.alloc();
     let out = show_lines(alloc, Pipe::Count)?;
-    let count = b"3\n|Done\nledger 3\n0 acquire 0 0\n0 close 0 succeeded\n0 final 0 succeeded ok\na 1 1 succeeded\n";
+    let count =
+        b"3\n|Done\nledger 3\n0 acquire 0 0\n0 close 0 succeeded\n0 final 0 succeeded ok\na 1 1 succeeded\n";
     assert_eq!(rt; out.as_slice(), count.as_slice());
     let out = show_lines(alloc, Pipe::Intersperse(line(alloc, b"-")?))?;
-    let parted = b"a\n-\na\n-\nb\n|Done\nledger 3\n0 acquire 0 0\n0 close 0 succeeded\n0 final 0 succeeded ok\na 1 1 succeeded\n";
+    let parted =
+        b"a\n-\na\n-\nb\n|Done\nledger 3\n0 acquire 0 0\n0 close 0 succeeded\n0 final 0 succeeded ok\na 1 1 succeeded\n";
     assert_eq!(rt; out.as_slice(), parted.as_slice());
     Ok(())
 }
@@ -189,7 +201,8 @@ fn what_is_held_back_is_not_given_at_a_halt(rt: HostRuntime) -> Result<(), Fail>
     let alloc = rt.alloc();
     let once = Pace { asks: 1, ..by(5) };
     let out = show(alloc, lines_of_file(alloc)?, b"ab\ncd", None, once)?;
-    let front = b"ab\n|Halted\nledger 3\n0 acquire 0 0\n0 close 0 canceled\n0 final 0 canceled ok\na 1 1 canceled\n";
+    let front =
+        b"ab\n|Halted\nledger 3\n0 acquire 0 0\n0 close 0 canceled\n0 final 0 canceled ok\na 1 1 canceled\n";
     assert_eq!(rt; out.as_slice(), front.as_slice());
     Ok(())
 }
@@ -198,15 +211,18 @@ fn what_is_held_back_is_not_given_at_a_halt(rt: HostRuntime) -> Result<(), Fail>
 fn groups_come_one_by_one(rt: HostRuntime) -> Result<(), Fail> {
     let alloc = rt.alloc();
     let out = show_lines(alloc, Pipe::ChunkN(0))?;
-    let ones = b"a\n|a\n|b\n|Done\nledger 3\n0 acquire 0 0\n0 close 0 succeeded\n0 final 0 succeeded ok\na 1 1 succeeded\n";
+    let ones =
+        b"a\n|a\n|b\n|Done\nledger 3\n0 acquire 0 0\n0 close 0 succeeded\n0 final 0 succeeded ok\na 1 1 succeeded\n";
     assert_eq!(rt; out.as_slice(), ones.as_slice());
     let out = show_lines(alloc, Pipe::ChunkN(2))?;
-    let pairs = b"a\na\n|b\n|Done\nledger 3\n0 acquire 0 0\n0 close 0 succeeded\n0 final 0 succeeded ok\na 1 1 succeeded\n";
+    let pairs =
+        b"a\na\n|b\n|Done\nledger 3\n0 acquire 0 0\n0 close 0 succeeded\n0 final 0 succeeded ok\na 1 1 succeeded\n";
     assert_eq!(rt; out.as_slice(), pairs.as_slice());
     let groups = through(alloc, lines_of_file(alloc)?, Pipe::ChunkN(1))?;
     let node = Box::new(alloc, Node::Take(9, groups))?;
     let out = show(alloc, node, b"a\na\nb\n", None, by(16))?;
-    let whole = b"a\na\nb\n|Done\nledger 3\n0 acquire 0 0\n0 close 0 succeeded\n0 final 0 succeeded ok\na 1 1 succeeded\n";
+    let whole =
+        b"a\na\nb\n|Done\nledger 3\n0 acquire 0 0\n0 close 0 succeeded\n0 final 0 succeeded ok\na 1 1 succeeded\n";
     assert_eq!(rt; out.as_slice(), whole.as_slice());
     Ok(())
 }

@@ -131,7 +131,7 @@ fn push_device(alloc: Global, out: &mut Vec<u8>, device: &MemDevice) -> Result<(
     if let Some(exit) = facts.exit() {
         out.extend_from_slice(format!(in alloc; " {exit}")?.as_bytes())?;
     }
-    out.push(b'\n')
+    out.extend_from_slice(b"\n")
 }
 
 /// The loads, each with a bar behind it, the end, the ledger and the devices: those that were

@@ -55,7 +55,8 @@ fn one_line_comes_first_and_then_the_end(rt: HostRuntime) -> Result<(), Fail> {
 #[test]
 fn a_file_is_read_in_pieces(rt: HostRuntime) -> Result<(), Fail> {
     let out = read_a(rt.alloc(), None, FREELY)?;
-    let all = b"hell|o\n|Done\nledger 3\n0 acquire 0 0\n0 close 0 succeeded\n0 final 0 succeeded ok\na 1 1 succeeded\n";
+    let all =
+        b"hell|o\n|Done\nledger 3\n0 acquire 0 0\n0 close 0 succeeded\n0 final 0 succeeded ok\na 1 1 succeeded\n";
     assert_eq!(rt; out.as_slice(), all.as_slice());
     Ok(())
 }
@@ -69,13 +70,16 @@ fn each_call_of_a_device_fails(rt: HostRuntime) -> Result<(), Fail> {
         b"Fault(Open)\nledger 1\n0 close 0 errored\na 0 0\n".as_slice()
     );
     let out = read_a(alloc, Some((Act::Read, 1)), FREELY)?;
-    let none = b"Fault(Read)\nledger 3\n0 acquire 0 0\n0 close 0 errored\n0 final 0 errored ok\na 1 1 errored\n";
+    let none =
+        b"Fault(Read)\nledger 3\n0 acquire 0 0\n0 close 0 errored\n0 final 0 errored ok\na 1 1 errored\n";
     assert_eq!(rt; out.as_slice(), none.as_slice());
     let out = read_a(alloc, Some((Act::Read, 2)), FREELY)?;
-    let front = b"hell|Fault(Read)\nledger 3\n0 acquire 0 0\n0 close 0 errored\n0 final 0 errored ok\na 1 1 errored\n";
+    let front =
+        b"hell|Fault(Read)\nledger 3\n0 acquire 0 0\n0 close 0 errored\n0 final 0 errored ok\na 1 1 errored\n";
     assert_eq!(rt; out.as_slice(), front.as_slice());
     let out = read_a(alloc, Some((Act::Close, 1)), FREELY)?;
-    let all = b"hell|o\n|Done\nledger 3\n0 acquire 0 0\n0 close 0 succeeded\n0 final 0 succeeded fault\na 1 1 succeeded\n";
+    let all =
+        b"hell|o\n|Done\nledger 3\n0 acquire 0 0\n0 close 0 succeeded\n0 final 0 succeeded fault\na 1 1 succeeded\n";
     assert_eq!(rt; out.as_slice(), all.as_slice());
     Ok(())
 }
@@ -121,7 +125,8 @@ fn a_scope_that_a_taker_left_is_told_of_the_end_around_it(rt: HostRuntime) -> Re
 fn a_run_is_halted(rt: HostRuntime) -> Result<(), Fail> {
     let once = Pace { asks: 1, ..FREELY };
     let out = read_a(rt.alloc(), None, once)?;
-    let front = b"hell|Halted\nledger 3\n0 acquire 0 0\n0 close 0 canceled\n0 final 0 canceled ok\na 1 1 canceled\n";
+    let front =
+        b"hell|Halted\nledger 3\n0 acquire 0 0\n0 close 0 canceled\n0 final 0 canceled ok\na 1 1 canceled\n";
     assert_eq!(rt; out.as_slice(), front.as_slice());
     let never = Pace { asks: 0, ..FREELY };
     let out = read_a(rt.alloc(), None, never)?;

@@ -1,6 +1,7 @@
 //! Callers that see a stepper's public clauses alone.
-ghost use Rattle.std.specs.Prelude.{◌≡◌, ◌+◌, ◌*◌, ◌≤◌, [], IfErr, IfOk, OnErr, flat_map, length};
+ghost use Rattle.std.specs.Prelude.{◌≡◌, ℕ, ◌+◌, ◌*◌, ◌≤◌, [], IfErr, IfOk, OnErr, flat_map, length};
 ghost use Rattle.chunk_core.specs.Elements.{elements};
+ghost use Rattle.chunk_core.specs.Outcomes.{exit_of};
 ghost use Rattle.pull_turns.specs.Around.{Affords};
 ghost use Rattle.pull_turns.specs.Led.{Tells, end_by};
 ghost use Rattle.pull_turns.specs.Piping.{standing};
@@ -19,7 +20,7 @@ ghost use Rattle.pull_stepper.specs.Placing.{first_of};
 ghost use Rattle.pull_stepper.specs.Sites.{Since, around, told_at};
 ghost use Rattle.pull_stepper.specs.Steppers.{Works, stepping};
 ghost use Rattle.pull_stepper.specs.Stepping.{CanGo, HasRoomFor, IsOver, IsSupplied};
-ghost use Rattle.worked_nodes.specs.Uses.{Gathers, IsLeft, Ran};
+ghost use Rattle.worked_nodes.specs.Uses.{Gathers, HasExit, IsLeft, Ran};
 
 use chunk_core::{Exit, How, List, Load};
 use device_port::Device;
@@ -125,7 +126,7 @@ pub fn run_whole<V: Device, S: RowSeat<Pay = Held<V>>, F: PipeState>(
     })
 }
 
-/// Runs a node to its end, or closes the tree where there was no memory to begin.
+/// Runs a node to its end, or closes the tree as canceled where there was no memory to begin.
 pub fn run_or_close<V: Device, S: RowSeat<Pay = Held<V>>, F: PipeState>(
     alloc: Global,
     desk: &mut S::Desk,
@@ -141,6 +142,7 @@ pub fn run_or_close<V: Device, S: RowSeat<Pay = Held<V>>, F: PipeState>(
     ensures calls { Called (Finishes V.told) (seen S.view tree) [] (seen S.view result.ended.tree) }
     ensures alone { StaysAlone (S.view tree.seat) (S.view result.ended.tree.seat) }
     ensures root { IsClosedScope (seen S.view result.ended.tree) 0 }
+    ensures exit { HasExit (seen S.view result.ended.tree) (exit_of result.ended.how) }
     ensures fits { Fits S.view S.fits result.ended.tree desk.new }
 {
     match run_whole::<V, S, F>(alloc, desk, node, tree, devices, pace) {
@@ -187,7 +189,7 @@ pub fn run_alone<V: Device, S: RowSeat<Pay = Held<V>>, F: PipeState>(
     requires fits { S.fits seat desk.old }
     requires supplied { IsSupplied V.told node devices }
     requires first { first_of (places_of node) ≡ 0 }
-    requires start { S.view seat ≡ start (Inner 0) (length (places_of node)) (2 * length (places_of node) + 2 * scope_count node + 1) }
+    requires start { (splits : ℕ) × (S.view seat ≡ start (Inner 0) (length (places_of node)) (2 * length (places_of node) + 2 * scope_count node + 1) splits) }
     requires room { (scope_count node + 1 ≤ room.scopes) × (length (places_of node) ≤ room.rows) }
     requires pace { (1 ≤ pace.chunk) × (1 ≤ pace.turns) }
     ensures whole { IsWhole result.ledger }

@@ -1,4 +1,4 @@
-use Rattle.std.proofs.Common.{◌∙◌, ap, arith, length}
+use Rattle.std.proofs.Common.{◌∙◌, ◌-◌, ◌^◌, ap, arith, length}
 use Rattle.pull_nodes.specs.Shape.{places_of}
 use Rattle.pull_nodes.proofs.Counts.{places_le, scopes_le}
 use Rattle.res_ledger.specs.declared.event.StreamNo.TheVariants.{Inner}
@@ -22,4 +22,5 @@ run_alone-requires-clause-first c = let fits = c.in_ok-fits_rows.ensures in plac
 
 pub run_alone-requires-clause-start : goal.run_alone-requires-clause-start
 run_alone-requires-clause-start c =
-    c.in_ok-seat.ensures.0 ∙ (ap (λ r. start (Inner 0) r c.events.result) c.places.ensures ∙ ap (λ e. start (Inner 0) (length (places_of c.args.node)) e) c.events.ensures)
+    let splits = 2 ^ 32 - 1 in
+    (splits, c.in_ok-seat.ensures.0 ∙ (ap (λ r. start (Inner 0) r c.events.result splits) c.places.ensures ∙ ap (λ e. start (Inner 0) (length (places_of c.args.node)) e splits) c.events.ensures))
