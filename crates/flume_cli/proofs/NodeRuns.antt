@@ -5,8 +5,7 @@ use Rattle.std.proofs.lemmas.List.{length-map}
 use Rattle.std.specs.List.{filter_map}
 use Rattle.chunk_core.specs.Lists.{IsAmong}
 use Rattle.chunk_core.specs.Lists.IsAmong.{here}
-use Rattle.chunk_core.proofs.Members.{among_nil, among_cons}
-use Rattle.chunk_core.proofs.Filters.{among_append}
+use Rattle.chunk_core.proofs.Members.{among_nil}
 use Rattle.chunk_core.specs.Outcomes.{Cut}
 use Rattle.chunk_core.specs.declared.code.Exit.{Exit}
 use Rattle.chunk_core.specs.declared.code.Exit.TheVariants as exit
@@ -20,20 +19,13 @@ use Rattle.pull_nodes.specs.Shape.{places_of}
 use Rattle.pull_nodes.specs.declared.node.Node.{Node}
 use Rattle.pull_turns.specs.Piping.{Standing}
 use Rattle.pull_turns.specs.Sizes.{widest_of}
-use Rattle.res_ledger.specs.declared.event.What.TheVariants.{Close}
-use Rattle.res_ledger.specs.Ledger.{Notes}
-use Rattle.res_ledger.specs.Ledger.LiesWithin.{same}
-use Rattle.res_ledger.specs.Order.{finals, firsts}
-use Rattle.res_ledger.specs.Own.{closes_of}
-use Rattle.res_ledger.proofs.Noted.{flat_holds, notes_own, own_notes}
+use Rattle.res_ledger.specs.Order.{firsts}
 use Rattle.row_seat.specs.Views.{IsWithin}
-use Rattle.scope_tree.specs.Calls.{Closes, IsOpenScope, Seen}
+use Rattle.scope_tree.specs.Calls.{Closes, Seen}
 use Rattle.scope_tree.specs.Rows.{AreDistinct}
 use Rattle.scope_tree.specs.Released.{said}
-use Rattle.scope_tree.specs.Words.{words}
-use Rattle.scope_tree.proofs.Grown.{closes_finals}
 use Rattle.scope_tree.proofs.Owning.{owner_pays}
-use Rattle.scope_tree.proofs.Use.{closed_now, closed_said}
+use Rattle.scope_tree.proofs.Use.{closed_now}
 use Rattle.tree_laws.specs.Alone.{StaysAlone}
 use Rattle.tree_laws.specs.Called.{Called}
 use Rattle.tree_laws.specs.Called.Called.{none, closed}
@@ -43,6 +35,7 @@ use Rattle.pull_stepper.specs.Placing.{first_of}
 use Rattle.pull_stepper.specs.Sites.{Parted, Since, told_at}
 use Rattle.pull_stepper.specs.Stepping.{Ends, HasRoomFor, IsSupplied, Stepping, begun, site_of}
 use Rattle.pull_stepper.proofs.Beginning.{begun_in_order}
+use Rattle.pull_stepper.proofs.Closing.{closed_as}
 use Rattle.pull_stepper.proofs.Parting.{parted}
 use Rattle.flume_cli.specs.declared.frame.NotPut.{NotPut}
 use Rattle.flume_cli.specs.declared.frame.NotPut.TheVariants as why
@@ -53,22 +46,7 @@ nothing_in : {A : Type 0} (xs : List A) → ((x : A) → IsAmong x xs → ⊥) �
 nothing_in [] h = refl
 nothing_in (x ∷ xs) h = absurd (h x (here xs))
 
-same_exit_of : (x y : Exit) → Close 0 y ≡ Close 0 x → y ≡ x
-same_exit_of x y e = cc
-
 module _ {P : Type 0} {ends : P → Exit → Bool → P → Type 0} {x : Exit} {a b : Seen P} where
-  -- the root that was open was closed with this exit alone
-  closed_as : IsOpenScope a 0 → Closes ends a 0 x b → (y : Exit) → Notes b.seat.events b.seat.by (Close 0 y) → y ≡ x
-  closed_as root c y n =
-      let there = subst (λ E. IsAmong (Close 0 y) E) (closed_said c) (notes_own b.seat.events b.seat.by (Close 0 y) n) in
-      ⊎_elim
-      (λ i. absurd (root.1 (0, same 0, (y, own_notes a.seat.events a.seat.by (Close 0 y) i))))
-      (λ i. ⊎_elim
-      (λ e. same_exit_of x y e)
-      (λ f. absurd (among_nil (subst (λ l. IsAmong 0 l) (closes_finals x (said c.torn.0)) (flat_holds closes_of (Close 0 y) (finals x (said c.torn.0)) 0 f (here [])))))
-      (among_cons i))
-      (among_append (Close 0 y) (words a.seat) (Close 0 x ∷ finals x (said c.torn.0)) there)
-
   -- where no row is open none is taken down
   none_torn : a.seat.opened ≡ [] → (c : Closes ends a 0 x b) → c.torn.0 ≡ []
   none_torn e c = nothing_in c.torn.0 (λ y m. let p = owner_pays y c.torn.2 m in among_nil (subst (λ l. IsAmong (y.row, p.0) l) e p.1))
@@ -133,7 +111,7 @@ module _ {V : Type 0} (told : V → DeviceTold) (n : Node) (devices : List V) (c
         once = subst (λ l. AreDistinct (firsts (said l))) (sym bare) tt;
         rows = λ y m. absurd (among_nil (subst (λ l. IsAmong y l) bare m));
         root = closed_now closes;
-        exits = closed_as room.root closes;
+        exits = closed_as closes room.root;
         calls = closed a b 0 exit.Canceled none room.root closes;
         alone = alone_closes closes;
       }
