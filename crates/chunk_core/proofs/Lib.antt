@@ -7,3 +7,5 @@ pub mod Rendering
 pub mod Windows
 pub mod Clones
 pub mod Queues
+pub mod Totals
+pub mod Changes

@@ -4,3 +4,4 @@ pub mod Lists
 pub mod Outcomes
 pub mod Texts
 pub mod Writing
+pub mod Totals

@@ -1,17 +1,7 @@
--- Lists of views: a place, sums over all, and how often something stands in a list.
-use Rattle.std.specs.Prelude.{◌≡◌, ℕ, ◌+◌, false, eqb, cond, List, [], ◌∷◌}
-use lib.ListN.{get_elem?}
-use mathlib.Core.Option.{some}
+-- How often something stands in a list; a place and a sum over all are passed on.
+use Rattle.std.specs.Prelude.{ℕ, ◌+◌, false, eqb, cond, List, [], ◌∷◌}
 use Rattle.res_ledger.specs.declared.event.Event.{Event}
-
--- v stands at the place i
-abbrev pub IsAt : {V : Type 0} → List V → ℕ → V → Type 0
-IsAt views i v = get_elem? views i ≡ some v
-
--- f of each view, added up
-abbrev pub total : {V : Type 0} → (V → ℕ) → List V → ℕ
-total f [] = 0
-total f (v ∷ vs) = f v + total f vs
+pub use Rattle.chunk_core.specs.Totals.{IsAt, total}
 
 -- how often r stands in the list
 abbrev pub times : ℕ → List ℕ → ℕ
