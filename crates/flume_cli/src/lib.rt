@@ -1,4 +1,31 @@
 //! The top call: what the words of a command line mean, the commands, and how a call ended.
+//!
+//! `flume` does what the words say, over any source, sink, depot and gate: so a test runs the whole
+//! program in memory. It answers a `Report`: the `Status` that the program ends with, how each
+//! stream ended, and the ledger. Nothing is an error of the call itself: what failed is told by the
+//! status, the output and standard error. Below it `run_cat` is the work of the command `cat`, which
+//! answers an `Outcome`, and `put_frame` and `put_load` print one frame.
+//!
+//! ```
+//! let alloc = rt.alloc();
+//! let words = vec![in alloc; Word::of(alloc, "cat")?, Word::of(alloc, "a")?]?;
+//! let mut files = List::new(alloc);
+//! let (path, bytes) = (Word::of(alloc, "a")?, Line::copy_of(alloc, b"hello\n")?);
+//! files.push(FileOf { path, bytes })?;
+//! let mut depot = MemDepot::new(alloc, files, List::new(alloc))?;
+//! let mut src = MemSource::new(alloc, b"", List::new(alloc))?;
+//! let mut out = MemSink::new(alloc, List::new(alloc))?;
+//! let mut err = MemSink::new(alloc, List::new(alloc))?;
+//!
+//! let report = flume(
+//!     &rt, alloc, &words, &mut src, &mut depot, &mut out, &mut err, &OpenGate,
+//! );
+//! assert_eq!(rt; report.status, Status::Good);
+//! let text = b"0 6\nhello\n\nend 0 done\nledger 3\n\
+//!     0 acquire 0 0\n0 close 0 succeeded\n0 final 0 succeeded ok\n";
+//! assert_eq!(rt; out.written(), text.as_slice());
+//! assert_eq!(rt; err.written(), b"".as_slice());
+//! ```
 #![tactic(auto)]
 
 pub(crate) mod alone;

@@ -1,5 +1,29 @@
 //! A value that only contracts read: it has no bytes, and running code can neither read it nor
-//! choose by it.
+//! choose by it. So a type may tell its callers, in clauses, of a past that it keeps no record of.
+//!
+//! `know` makes a `Known` that has what a type says (`Says`) of what is looked at, and `step` one
+//! that follows from an older one and what is given (`Steps`). Neither takes memory or fails.
+//!
+//! A depot of real files keeps what it made so:
+//!
+//! ```
+//! /// One more device was made.
+//! struct Made;
+//!
+//! impl<R, F> Steps<FileDevice<R, F>, Course> for Made {
+//!     ghost use Rattle.std.specs.Prelude.{◌++◌, ◌∷◌, []};
+//!     ghost use Rattle.device_port.specs.Real.{file_told};
+//!
+//!     ghost next = { λ depot dev. record depot { made = depot.made ++ (file_told dev).place ∷ [] } };
+//! }
+//! ```
+//!
+//! ```
+//! let dev = FileDevice::new(self.rt, self.count, path, mode);
+//! self.course = step::<FileDevice<R, R::File>, Course, Made>(&self.course, &dev);
+//! self.count += 1;
+//! Ok(dev)
+//! ```
 #![tactic(auto)]
 
 ghost use Rattle.std.specs.Prelude.{◌≡◌, ⊤, [], ℕ};

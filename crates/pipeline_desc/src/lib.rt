@@ -1,5 +1,34 @@
 //! Descriptions of runs: a text is read to a plan, or refused for its first fault, and a plan tells
 //! the node, the rows and the events of each of its streams.
+//!
+//! `read` gives the `Plan` that the bytes mean, which is within all limits whatever is done with it.
+//! `Refused::Desc` has the first fault with its number (`RefusalKind::number`), and the stream and
+//! the step where it stands in one; `Refused::Memory` stands for want of memory. Of stream k `rows`
+//! and `events` tell what a run of it needs, and `node` makes the node, which is placed in these
+//! rows; its one error is `AllocError`. The keys, the steps and the order of the refusals are told
+//! in docs/FORMAT.md.
+//!
+//! ```
+//! let alloc = rt.alloc();
+//! let errors = "[[stream]]\npath = 'app.log'\nsteps = ['utf8', 'lines', 'filter ERROR']\n";
+//! let plan = read(alloc, errors.as_bytes())?;
+//! assert_eq!(rt; (plan.chunk(), plan.take()), (4096, None));
+//! assert_eq!(rt; plan.streams().len(), 1);
+//! assert_eq!(rt; plan.stream(0).path.as_str(), "app.log");
+//! let part = node(alloc, &plan, 0)?;
+//! assert_eq!(rt; part.kind(), Ok(Kind::Lines));
+//! assert!(rt; part.placed(rows(&plan, 0)));
+//! assert!(rt; part.events() <= events(&plan, 0));
+//!
+//! let clash = read(
+//!     alloc,
+//!     b"[[stream]]\npath = 'a'\nsteps = ['lines', 'utf8']\n",
+//! );
+//! let (stream, step) = (Some(0), Some(1));
+//! let kind = RefusalKind::KindClash;
+//! let refusal = Refusal { kind, stream, step };
+//! assert_eq!(rt; clash.err(), Some(Refused::Desc(refusal)));
+//! ```
 #![tactic(auto)]
 
 pub mod laws;

@@ -1,4 +1,31 @@
 //! Runs a node turn by turn: each turn does one thing, and tells what came of it.
+//!
+//! `Runner::over` takes a node, what it is run over (`Outside`: devices by their places, and
+//! scopes), and the most bytes of a read. `turn` makes one turn (`Turn`), `uncons` turns until
+//! elements or the end come (`Unconsed`), and `run_all` turns to the end, neither more than so many;
+//! a fault is an end. Where one of them answers `AllocError`, the one error, the run may only be
+//! halted. `halt` closes all that is open, as canceled; `how` tells how the run ended, and `end`
+//! gives the outside back. `Rest` is what is left of a node that runs.
+//!
+//! ```
+//! pub fn first_of<O: Outside, F: PipeState>(
+//!     mut runner: Runner<O, F>,
+//!     desk: &mut O::Desk,
+//!     turns: u64,
+//! ) -> (Result<Unconsed, AllocError>, O, How)
+//!     requires fits { O.fits runner.outside desk.old }
+//!     requires runs { (runner.how ≡ None) × (runner.wanting ≡ false) }
+//!     requires can { CanStep (standing F.stands F.comes) (O.seen runner.outside) 0 runner.rest }
+//!     requires chunk { 0 < runner.chunk }
+//!     requires turns { 1 ≤ turns }
+//!     ensures shut { IsShut (O.seen result.1) }
+//!     ensures fits { O.fits result.1 desk.new }
+//! {
+//!     let first = runner.uncons(desk, turns);
+//!     if runner.how().is_none() {
+//!         runner.halt(desk);
+//!     }
+//! ```
 #![tactic(auto)]
 
 pub(crate) mod enter;

@@ -1,0 +1,24 @@
+//! The callers that the crates' pages of docs show, where no crate below has one: a file for each page.
+#![tactic(auto)]
+
+#[cfg(test)]
+mod any_pipe_page;
+#[cfg(test)]
+mod chunk_core_page;
+#[cfg(test)]
+mod device_port_page;
+#[cfg(test)]
+mod flume_cli_page;
+#[cfg(test)]
+mod loads;
+#[cfg(test)]
+mod pipeline_desc_page;
+#[cfg(test)]
+mod pull_nodes_page;
+pub mod pull_turns_page;
+#[cfg(test)]
+mod res_ledger_page;
+#[cfg(test)]
+mod stream_ops_page;
+#[cfg(test)]
+mod text_pipes_page;
