@@ -1,18 +1,20 @@
 -- The hexadecimal lines of bytes, and what a pipe of them answers.
-use Rattle.std.proofs.Common.{◌≡◌, ℕ, ◌/◌, ◌%◌, ◌<◌, ◌≤◌, true, ◌==◌, List, [], ◌∷◌, ◌++◌, map, length, take, drop, slice_index, Option, Some, None, refl, ap, sym, suc, ◌∙◌, arith, append_assoc}
+use Rattle.std.proofs.Common.{◌≡◌, ℕ, ◌/◌, ◌%◌, ◌<◌, ◌≤◌, true, ◌==◌, List, [], ◌∷◌, ◌++◌, map, length, take, drop, slice_index, Option, Some, None, refl, ap, sym, suc, ◌∙◌, arith, append_assoc, subst, length-append, length-drop}
 use Rattle.std.specs.Char.{digit_char}
 use Rattle.std.proofs.lemmas.Bool.{agree_below_at, eqb-true}
 use Rattle.std.proofs.lemmas.List.{map-append}
+use Rattle.std.proofs.Math.Nat.{div-add-mod}
+use Rattle.std.proofs.Math.Seq.{take-append_seam, drop-append_seam}
 use Rattle.hex.specs.Hex.{lower_digits, encode_with, encode_lower}
 use Rattle.chunk_core.specs.Elements.{Element, Byte, Line, LoadKind}
 use Rattle.chunk_core.specs.Elements.LoadKind.{Lines}
-use Rattle.chunk_core.specs.Feed.{Meaning, Extends, Continues, Finishes}
+use Rattle.chunk_core.specs.Feed.{Meaning, MayFeed, Extends, Continues, Finishes}
 use Rattle.chunk_core.specs.declared.code.Code.{Code}
 use Rattle.chunk_core.specs.declared.feed.Fed.{Fed}
 use Rattle.chunk_core.specs.declared.feed.Fed.TheVariants as fed
 use Rattle.chunk_core.specs.declared.load.Load.TheVariants as load
 use Rattle.pull_nodes.specs.Pipes.{IsMeaningOf}
-use Rattle.pull_nodes.specs.Plain.{bytes_of, hex_line, hex_lines, if_any, ungrouped}
+use Rattle.pull_nodes.specs.Plain.{bytes_of, hex_line, hex_lines, if_any, multiple, ungrouped}
 use Rattle.pull_nodes.specs.declared.pipe.Pipe.TheVariants as pipe
 use Rattle.pull_nodes.proofs.Groups.{grouped, grouped-step, grouped-short, grouped-append, ungrouped-step, ungrouped-short, ungrouped-append}
 use Rattle.pull_nodes.proofs.Meanings.{meaning_is, from_bytes-some, extends_from, finishes_from, bytes_of-load}
@@ -47,6 +49,28 @@ rest-step bytes le = sym (ungrouped-step 16 some_group bytes le)
 
 pub rest-short : (bytes : List ℕ) → length bytes < 16 → ungrouped 16 bytes ≡ bytes
 rest-short bytes less = ungrouped-short 16 some_group bytes less
+
+-- a group that is whole stands in front
+module _ (held bytes front more group : List ℕ) (sides : front ++ more ≡ bytes) (is : group ≡ held ++ front) (whole : length group ≡ 16) where
+  cut : held ++ bytes ≡ group ++ more
+  cut = ap (λ l. held ++ l) (sym sides) ∙ (sym (append_assoc held front more) ∙ ap (λ l. l ++ more) (sym is))
+
+  enough : 16 ≤ length (group ++ more)
+  enough = omega (arith, length-append group more)
+
+  behind : drop 16 (group ++ more) ≡ more
+  behind = subst (λ n. drop n (group ++ more) ≡ more) whole (drop-append_seam group more)
+
+  pub whole_lines : (line : List ℕ) (lines : List (List ℕ)) → line ≡ hex_line group → lines ≡ line ∷ [] ++ hex_lines more → lines ≡ hex_lines (held ++ bytes)
+  whole_lines line lines line_is given =
+      let first : take 16 (group ++ more) ≡ group = subst (λ n. take n (group ++ more) ≡ group) whole (take-append_seam group more) in
+      given ∙ ((λ i. (line_is ∙ ap hex_line (sym first)) i ∷ hex_lines (sym behind i)) ∙ (sym (lines-step (group ++ more) enough) ∙ ap hex_lines (sym cut)))
+
+  pub whole_rest : ungrouped 16 more ≡ ungrouped 16 (held ++ bytes)
+  whole_rest = ap (ungrouped 16) (sym behind) ∙ (rest-step (group ++ more) enough ∙ ap (ungrouped 16) (sym cut))
+
+pub held_short : (q : HexPipe) (kind : LoadKind) → MayFeed (StandsFor q) kind → length q.held.items < 16
+held_short q kind (m, xs, (h, held), takes) = omega (arith, ap length held, length-drop (multiple 16 (length (bytes_of xs))) (bytes_of xs), div-add-mod (length (bytes_of xs)) 16)
 
 -- what is held, put before more bytes, decides
 lines-append : (xs ys : List ℕ) → hex_lines (xs ++ ys) ≡ hex_lines xs ++ hex_lines (ungrouped 16 xs ++ ys)

@@ -7,7 +7,7 @@ ghost use Rattle.pull_nodes.specs.declared.pipe.Pipe.TheVariants as pipe;
 ghost use Rattle.text_pipes.specs.LinesState.{StandsFor, StopsAtEnd, Takes, Stepped};
 
 use crate::loads::{into_bytes, one_line};
-use chunk_core::{Chunk, Code, Fed, Feed, Line, Load};
+use chunk_core::{Code, Fed, Feed, Line, Load, Spare};
 use std::alloc::{AllocError, Global};
 use std::mem;
 
@@ -19,6 +19,7 @@ const LONGEST: usize = 1_048_576;
 pub struct LinesPipe {
     held: Vec<u8>,
     after_cr: bool,
+    spare: Spare,
 }
 
 /// The front of the bytes that has no line end, and the rest.
@@ -48,6 +49,7 @@ impl LinesPipe {
         Ok(LinesPipe {
             held: Vec::new(alloc),
             after_cr: false,
+            spare: Spare::new(alloc),
         })
     }
 
@@ -77,7 +79,7 @@ impl LinesPipe {
                     return Ok(Some(after));
                 }
                 self.held.extend_from_slice(front)?;
-                let line = mem::replace(&mut self.held, Vec::new(alloc));
+                let line = mem::replace(&mut self.held, self.spare.empty(alloc));
                 lines.push(Line::of_vec(line))?;
                 self.after_cr = *end == b'\r';
                 Ok(Some(after))
@@ -116,8 +118,9 @@ impl Feed for LinesPipe {
 
     fn feed(&mut self, alloc: Global, load: Load) -> Result<Fed, AllocError> {
         let bytes = into_bytes(load);
+        self.spare.regain();
         let (lines, long) = self.take(alloc, bytes.as_slice())?;
-        let given = Load::Lines(Chunk::of_vec(alloc, lines)?);
+        let given = Load::Lines(self.spare.give(alloc, lines)?);
         if long {
             return Ok(Fed::Fault(given, Code::LongLine));
         }

@@ -18,14 +18,14 @@ line_given c = c.in_ok-one_line.ensures ∙ ap (λ l. load.Lines (l ∷ [])) (c.
 pub returns-clause-first : goal.returns-clause-first
 returns-clause-first c m xs h =
     let q = c.args.self.now in
-    let b : HexPipe = record { held = c.clear.new.self } in
+    let b : HexPipe = record { held = c.clear.new.self; spare = q.spare } in
     subst (λ l. Finishes m xs (fed.Out l) (Comes b m.gives)) (sym (line_given c))
     (hex_whole q m xs (fed.Out (load.Lines (hex_line q.held.items ∷ []))) (Comes b m.gives) h (hex_comes q b m.gives (gives_lines m h.0) (some_held c) c.clear.ensures.items))
 
 pub returns-clause-next : goal.returns-clause-next
 returns-clause-next c kind ys d h =
     let q = c.args.self.now in
-    let b : HexPipe = record { held = c.clear.new.self } in
+    let b : HexPipe = record { held = c.clear.new.self; spare = q.spare } in
     let whole = hex_comes q b kind h.0 (some_held c) c.clear.ensures.items in
     let given = subst (λ l. Continues kind l None (fed.Out (load.Lines (hex_line q.held.items ∷ []))) (Comes b kind)) (sym h.1) whole in
     let answer = subst (λ l. Continues kind ys None (fed.Out l) (Comes b kind)) (sym (line_given c)) given in

@@ -30,4 +30,4 @@ returns-in_ok-push-in-Some c =
     (sym c.is_pair.ensures ∙ c.if-is_pair.false) c.if-saturating_add-gt-LONGEST.false (omega arith)
     (c.of_vec.ensures ∙ ap (λ v. v.items) c.replace-line.ensures.value ∙ c.in_ok-extend_from_slice-in-Some.ensures.items)
     c.in_ok-push-in-Some.ensures.items
-    (ap (λ v. v.items) c.replace-line.ensures.after ∙ c.new.ensures.items)
+    (ap (λ v. v.items) c.replace-line.ensures.after ∙ c.empty.ensures)

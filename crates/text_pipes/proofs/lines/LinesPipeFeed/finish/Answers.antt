@@ -11,7 +11,7 @@ use Rattle.text_pipes.proofs.lines.LinesPipeFeed.finish.Goals as goal
 pub returns-clause-first : goal.returns-clause-first
 returns-clause-first c m xs h =
     let q = c.args.self.now in
-    let b : LinesPipe = record { held = c.replace.new.dest; after_cr = q.after_cr } in
+    let b : LinesPipe = record { held = c.replace.new.dest; after_cr = q.after_cr; spare = q.spare } in
     let some : 0 < length q.held.items = grind (arith, common_steps) in
     let none = ap (λ v. v.items) c.replace.ensures.after ∙ c.new.ensures.items in
     let line = c.of_vec-line.ensures ∙ ap (λ v. v.items) c.replace.ensures.value in
