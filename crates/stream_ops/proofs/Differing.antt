@@ -107,11 +107,11 @@ shown el None = refl
 shown el (Some y) = refl
 
 -- what was given of a load of one kind, where the last element may be of another
-pub given_changed : {A : Type 0} (el : A → Element) (before : Option (Bor A)) (first : Option A) (items kept given : List A) (last : Option Element) → option_copied before ≡ first
-    → map el kept ≡ changed_behind (option_map (λ y. el y.now) before) (map el items) → given ≡ kept
-    → changed_behind (option_map el first) (map el items) ≡ changed_behind last (map el items) → map el given ≡ changed_behind last (map el items)
-given_changed el before first items kept given last is list same kinds =
-    ap (map el) same ∙ (list ∙ (ap (λ (o : Option Element). changed_behind o (map el items)) (shown el before ∙ ap (option_map el) is) ∙ kinds))
+pub given_changed : {A : Type 0} (el : A → Element) (before : Option (Bor A)) (first : Option A) (items kept : List A) (last : Option Element) → option_copied before ≡ first
+    → map el kept ≡ changed_behind (option_map (λ y. el y.now) before) (map el items)
+    → changed_behind (option_map el first) (map el items) ≡ changed_behind last (map el items) → map el kept ≡ changed_behind last (map el items)
+given_changed el before first items kept last is list kinds =
+    list ∙ (ap (λ (o : Option Element). changed_behind o (map el items)) (shown el before ∙ ap (option_map el) is) ∙ kinds)
 
 -- rows of as many fields
 pub fields_same : (a b : List (List ℕ)) → length a ≡ length b → list_all (λ p. bytes_eq p.0 p.1) (zip a b) ≡ pointwise bytes_eq a b

@@ -1,5 +1,5 @@
 //! Elements that differ from the one before them.
-ghost use Rattle.std.specs.Prelude.{◌≡◌, ◌≢◌, [], IfOk, OnOk, slice_get};
+ghost use Rattle.std.specs.Prelude.{◌≡◌, ◌≢◌, [], IfOk, OnOk, map, option_map, slice_get};
 ghost use Rattle.std.specs.List.{last_or};
 ghost use Rattle.chunk_core.specs.Elements.{elements, kind_of};
 ghost use Rattle.chunk_core.specs.Elements.LoadKind.{Bytes};
@@ -9,8 +9,8 @@ ghost use Rattle.pull_nodes.specs.declared.pipe.Pipe.TheVariants as pipe;
 ghost use Rattle.stream_ops.specs.Changed.{changed_behind};
 ghost use Rattle.stream_ops.specs.ChangesState.{StandsFor};
 
-use crate::compared::{changed, first_line, first_row};
-use crate::loads::copied_load;
+use crate::compared::{Compared, changed, first_line, first_row};
+use crate::loads::{Refilled, Spares, copied_load};
 use chunk_core::{Chunk, Fed, Feed, Load};
 use std::alloc::{AllocError, Global};
 
@@ -18,21 +18,41 @@ use std::alloc::{AllocError, Global};
 #[derive(Drop)]
 pub struct ChangesPipe {
     last: Load,
+    spare: Box<Spares>,
 }
 
-fn changes_of(alloc: Global, last: &Load, load: &Load) -> Result<Load, AllocError>
+/// The elements that differ from the one before them, and those as a chunk of which a share is kept.
+fn given<T: Compared>(
+    alloc: Global,
+    spare: &mut T::Spare,
+    before: Option<&T>,
+    items: &[T],
+) -> Result<Chunk<T>, AllocError>
+    ensures { IfOk result (λ kept. map T.element kept ≡ changed_behind (option_map (λ y. T.element y.now) before.entry) (map T.element items.now)) }
+{
+    T::regain(spare);
+    let kept = changed(alloc, spare, before, items)?;
+    T::give(alloc, spare, kept)
+}
+
+fn changes_of(
+    alloc: Global,
+    spare: &mut Spares,
+    last: &Load,
+    load: &Load,
+) -> Result<Load, AllocError>
     requires { kind_of load.now ≢ Bytes }
     ensures list { IfOk result (λ kept. elements kept ≡ changed_behind (slice_get (elements last.now) 0) (elements load.now)) }
     ensures kind { IfOk result (λ kept. kind_of kept ≡ kind_of load.now) }
 {
     match load {
         Load::Lines(lines) => {
-            let kept = changed(alloc, first_line(last), lines.as_slice())?;
-            Ok(Load::Lines(Chunk::of_vec(alloc, kept)?))
+            let kept = given(alloc, &mut spare.lines, first_line(last), lines.as_slice())?;
+            Ok(Load::Lines(kept))
         }
         Load::Rows(rows) => {
-            let kept = changed(alloc, first_row(last), rows.as_slice())?;
-            Ok(Load::Rows(Chunk::of_vec(alloc, kept)?))
+            let kept = given(alloc, &mut spare.rows, first_row(last), rows.as_slice())?;
+            Ok(Load::Rows(kept))
         }
         Load::Bytes(_) => unreachable!(),
     }
@@ -46,10 +66,11 @@ impl ChangesPipe {
         let none = Chunk::of_vec(alloc, Vec::new(alloc))?;
         Ok(ChangesPipe {
             last: Load::Lines(none),
+            spare: Spares::new(alloc)?,
         })
     }
 
-    /// Keeps a clone of the last element, where there is one; a window would keep the whole load.
+    /// Keeps a copy of the last element, where there is one; a window would keep the whole load.
     fn note(&mut self, alloc: Global, mut load: Load) -> Result<(), AllocError>
         ensures { OnOk result (slice_get (elements self.new.last) 0 ≡ last_or (slice_get (elements self.old.last) 0) (elements load)) }
     {
@@ -57,7 +78,7 @@ impl ChangesPipe {
             return Ok(());
         }
         load.split(load.len() - 1)?;
-        let load = copied_load(alloc, &load)?;
+        let load = copied_load(alloc, &mut self.spare, &load)?;
         self.last = load;
         Ok(())
     }
@@ -77,7 +98,7 @@ impl Feed for ChangesPipe {
     ghost sound = { λ q m xs h. sound_from pipe.Changes m h.0 xs refl };
 
     fn feed(&mut self, alloc: Global, load: Load) -> Result<Fed, AllocError> {
-        let kept = changes_of(alloc, &self.last, &load)?;
+        let kept = changes_of(alloc, &mut self.spare, &self.last, &load)?;
         self.note(alloc, load)?;
         Ok(Fed::Out(kept))
     }

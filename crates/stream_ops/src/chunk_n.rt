@@ -7,7 +7,7 @@ ghost use Rattle.pull_nodes.specs.Plain.{ungrouped};
 ghost use Rattle.pull_nodes.specs.declared.pipe.Pipe.TheVariants as pipe;
 ghost use Rattle.stream_ops.specs.ChunkNState.{Holds, StandsFor, in_groups};
 
-use crate::loads::push_clones;
+use crate::loads::{Appended, Spares};
 use chunk_core::{Chunk, Fed, Feed, Line, Load, Row};
 use std::alloc::{AllocError, Global};
 use std::{cmp, mem};
@@ -20,6 +20,7 @@ pub struct ChunkNPipe {
     bytes: Vec<u8>,
     lines: Vec<Line>,
     rows: Vec<Row>,
+    spare: Box<Spares>,
 }
 
 /// All that is held.
@@ -31,44 +32,45 @@ fn take_all<T: Drop>(alloc: Global, held: &mut Vec<T>) -> Result<Chunk<T>, Alloc
 }
 
 /// All that is held, and then the chunk.
-fn take_with<T: Clone + Drop>(
+fn take_with<T: Appended>(
     alloc: Global,
+    spare: &mut T::Spare,
     held: &mut Vec<T>,
     chunk: Chunk<T>,
 ) -> Result<Chunk<T>, AllocError>
-    requires same { (x y : T) → T.is_clone x y → y ≡ x }
     ensures all { IfOk result (λ all. all ≡ held.old.items ++ chunk) }
     ensures none { OnOk result (held.new.items ≡ []) }
 {
     if held.is_empty() {
         return Ok(chunk);
     }
-    push_clones(held, chunk.as_slice())?;
-    take_all(alloc, held)
+    T::append(alloc, spare, held, chunk.as_slice())?;
+    T::give(alloc, spare, mem::replace(held, Vec::new(alloc)))
 }
 
 /// The groups that are now whole; what stands behind them is held.
-fn take_groups<T: Clone + Drop>(
+fn take_groups<T: Appended>(
     alloc: Global,
+    spare: &mut T::Spare,
     size: usize,
     held: &mut Vec<T>,
     mut chunk: Chunk<T>,
 ) -> Result<Chunk<T>, AllocError>
-    requires same { (x y : T) → T.is_clone x y → y ≡ x }
     requires open { vec_len held.old < size }
     ensures groups { IfOk result (λ groups. groups ≡ in_groups size (held.old.items ++ chunk)) }
     ensures rest { OnOk result (held.new.items ≡ ungrouped size (held.old.items ++ chunk)) }
 {
+    T::regain(spare);
     let wanted = size - held.len();
     if chunk.len() < wanted {
-        push_clones(held, chunk.as_slice())?;
-        let none = Chunk::of_vec(alloc, Vec::new(alloc))?;
+        let none = chunk.split(0)?;
+        T::append(alloc, spare, held, chunk.as_slice())?;
         return Ok(none);
     }
     let more = chunk.len() - wanted;
     let front = chunk.split(wanted + (more - more % size))?;
-    let groups = take_with(alloc, held, front)?;
-    push_clones(held, chunk.as_slice())?;
+    let groups = take_with(alloc, spare, held, front)?;
+    T::append(alloc, spare, held, chunk.as_slice())?;
     Ok(groups)
 }
 
@@ -82,6 +84,7 @@ impl ChunkNPipe {
             bytes: Vec::new(alloc),
             lines: Vec::new(alloc),
             rows: Vec::new(alloc),
+            spare: Spares::new(alloc)?,
         })
     }
 
@@ -115,15 +118,17 @@ impl Feed for ChunkNPipe {
     fn feed(&mut self, alloc: Global, load: Load) -> Result<Fed, AllocError> {
         match load {
             Load::Bytes(bytes) => {
-                let groups = take_groups(alloc, self.size, &mut self.bytes, bytes)?;
+                let groups = take_groups(alloc, &mut (), self.size, &mut self.bytes, bytes)?;
                 Ok(Fed::Out(Load::Bytes(groups)))
             }
             Load::Lines(lines) => {
-                let groups = take_groups(alloc, self.size, &mut self.lines, lines)?;
+                let spare = &mut self.spare.lines;
+                let groups = take_groups(alloc, spare, self.size, &mut self.lines, lines)?;
                 Ok(Fed::Out(Load::Lines(groups)))
             }
             Load::Rows(rows) => {
-                let groups = take_groups(alloc, self.size, &mut self.rows, rows)?;
+                let spare = &mut self.spare.rows;
+                let groups = take_groups(alloc, spare, self.size, &mut self.rows, rows)?;
                 Ok(Fed::Out(Load::Rows(groups)))
             }
         }

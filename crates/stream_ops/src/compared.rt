@@ -5,11 +5,11 @@ ghost use Rattle.std.specs.Option.{option_copied};
 ghost use Rattle.std.specs.Str.{bytes_eq};
 ghost use Rattle.stream_ops.specs.Changed.{changed_behind, is_change, lines_in, rows_in};
 
-use crate::loads::{CloneIn, push_clone};
+use crate::loads::{Refilled, push_copy};
 use chunk_core::{Line, Load, Row};
 use std::alloc::{AllocError, Global};
 
-pub(crate) trait Compared: CloneIn {
+pub(crate) trait Compared: Refilled {
     ghost use Rattle.std.specs.Prelude.{◌≡◌};
     ghost use Rattle.chunk_core.specs.Elements.{Element};
     ghost use Rattle.pull_nodes.specs.Plain.{same_element};
@@ -58,9 +58,10 @@ fn is_new<T: Compared>(last: Option<&T>, item: &T) -> bool
     }
 }
 
-/// Clones of the elements that differ from the one before them; one may stand before the first.
+/// Copies of the elements that differ from the one before them; one may stand before the first.
 pub(crate) fn changed<T: Compared>(
     alloc: Global,
+    spare: &mut T::Spare,
     before: Option<&T>,
     items: &[T],
 ) -> Result<Vec<T>, AllocError>
@@ -70,7 +71,7 @@ pub(crate) fn changed<T: Compared>(
     let mut last = before;
     for item in items {
         if is_new(last, item) {
-            push_clone(&mut kept, item)?;
+            push_copy(alloc, spare, &mut kept, item)?;
         }
         last = Some(item);
     }

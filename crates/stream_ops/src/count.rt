@@ -8,11 +8,13 @@ ghost use Rattle.stream_ops.specs.CountState.{StandsFor};
 use chunk_core::{Chunk, Fed, Feed, Line, Load};
 use std::alloc::{AllocError, Global};
 
-/// `Count`: the number so far, and whether it was given.
+/// `Count`: the number so far, and whether it was given; and a chunk of no lines, which is given
+/// before the end.
 #[derive(Drop)]
 pub struct CountPipe {
     count: u64,
     told: bool,
+    none: Chunk<Line>,
 }
 
 fn line_of(alloc: Global, count: u64) -> Result<Line, AllocError>
@@ -23,12 +25,13 @@ fn line_of(alloc: Global, count: u64) -> Result<Line, AllocError>
 
 impl CountPipe {
     /// Nothing was read.
-    pub fn new(_alloc: Global) -> Result<CountPipe, AllocError>
+    pub fn new(alloc: Global) -> Result<CountPipe, AllocError>
         ensures { IfOk result (λ q. (m : Meaning) → IsMeaningOf pipe.Count m → StandsFor q m []) }
     {
         Ok(CountPipe {
             count: 0,
             told: false,
+            none: Chunk::of_vec(alloc, Vec::new(alloc))?,
         })
     }
 }
@@ -45,9 +48,9 @@ impl Feed for CountPipe {
 
     ghost sound = { λ q m xs h. sound_from pipe.Count m h.0 xs refl };
 
-    fn feed(&mut self, alloc: Global, load: Load) -> Result<Fed, AllocError> {
+    fn feed(&mut self, _alloc: Global, load: Load) -> Result<Fed, AllocError> {
         self.count = self.count.saturating_add(load.len() as u64);
-        Ok(Fed::Out(Load::Lines(Chunk::of_vec(alloc, Vec::new(alloc))?)))
+        Ok(Fed::Out(Load::Lines(self.none.split(0)?)))
     }
 
     fn finish(&mut self, alloc: Global) -> Result<Fed, AllocError> {

@@ -6,15 +6,16 @@ ghost use Rattle.pull_nodes.specs.Plain.{contains};
 ghost use Rattle.pull_nodes.specs.declared.pipe.Pipe.TheVariants as pipe;
 ghost use Rattle.stream_ops.specs.FilterState.{StandsFor};
 
-use crate::loads::{into_lines, push_clone};
-use chunk_core::{Chunk, Fed, Feed, Line, Load};
+use crate::loads::{into_lines, push_copy};
+use chunk_core::{Chunk, Fed, Feed, Line, Load, Spare};
 use memchr::memmem::Finder;
 use std::alloc::{AllocError, Global};
 
-/// `Filter`: the text.
+/// `Filter`: the search for the text.
 #[derive(Drop)]
 pub struct FilterPipe {
-    text: Line,
+    finder: Box<Finder<'static>>,
+    spare: Spare,
 }
 
 fn is_match(finder: &Finder<'_>, line: &Line) -> bool
@@ -23,31 +24,49 @@ fn is_match(finder: &Finder<'_>, line: &Line) -> bool
     finder.find(line.as_slice()).is_some()
 }
 
-fn keep(alloc: Global, finder: &Finder<'_>, lines: &[Line]) -> Result<Vec<Line>, AllocError>
+/// Copies of the lines that contain the text.
+fn keep(
+    alloc: Global,
+    spare: &mut Spare,
+    finder: &Finder<'_>,
+    lines: &[Line],
+) -> Result<Vec<Line>, AllocError>
     ensures { IfOk result (λ kept. kept.items ≡ filter (contains finder.now) lines.now) }
 {
     let mut kept = Vec::new(alloc);
     for line in lines {
         if is_match(finder, line) {
-            push_clone(&mut kept, line)?;
+            push_copy(alloc, spare, &mut kept, line)?;
         }
     }
     Ok(kept)
 }
 
-/// The lines that contain the text.
-fn matching(alloc: Global, text: &[u8], lines: &[Line]) -> Result<Vec<Line>, AllocError>
-    ensures { IfOk result (λ kept. kept.items ≡ filter (contains text.now) lines.now) }
-{
-    keep(alloc, &Finder::new(text), lines)
-}
-
 impl FilterPipe {
     /// Nothing was read.
-    pub fn new(_alloc: Global, text: Line) -> Result<FilterPipe, AllocError>
+    pub fn new(alloc: Global, text: Line) -> Result<FilterPipe, AllocError>
         ensures { IfOk result (λ q. (m : Meaning) → IsMeaningOf (pipe.Filter text) m → StandsFor q m []) }
     {
-        Ok(FilterPipe { text })
+        let finder = Finder::new(text.as_slice()).into_owned(alloc)?;
+        Ok(FilterPipe {
+            finder: Box::new(alloc, finder)?,
+            spare: Spare::new(alloc),
+        })
+    }
+
+    /// The lines that contain the text: the chunk's own where nobody else has them, else copies.
+    fn take(&mut self, alloc: Global, lines: Chunk<Line>) -> Result<Vec<Line>, AllocError>
+        ensures kept { IfOk result (λ kept. kept.items ≡ filter (contains self.old.finder.value) lines) }
+        ensures same { self.new.finder.value ≡ self.old.finder.value }
+    {
+        match lines.into_vec() {
+            Ok(mut own) => {
+                let finder = &self.finder;
+                own.retain(|line| is_match(finder, line));
+                Ok(own)
+            }
+            Err(shared) => keep(alloc, &mut self.spare, &self.finder, shared.as_slice()),
+        }
     }
 }
 
@@ -62,12 +81,12 @@ impl Feed for FilterPipe {
 
     ghost comes = { NothingComes };
 
-    ghost sound = { λ q m xs h. sound_from (pipe.Filter q.text) m h xs refl };
+    ghost sound = { λ q m xs h. sound_from (pipe.Filter q.finder.value) m h xs refl };
 
     fn feed(&mut self, alloc: Global, load: Load) -> Result<Fed, AllocError> {
-        let lines = into_lines(load);
-        let kept = matching(alloc, self.text.as_slice(), lines.as_slice())?;
-        Ok(Fed::Out(Load::Lines(Chunk::of_vec(alloc, kept)?)))
+        self.spare.regain();
+        let kept = self.take(alloc, into_lines(load))?;
+        Ok(Fed::Out(Load::Lines(self.spare.give(alloc, kept)?)))
     }
 
     fn finish(&mut self, _alloc: Global) -> Result<Fed, AllocError> {

@@ -7,8 +7,8 @@ ghost use Rattle.pull_nodes.specs.declared.pipe.Pipe.TheVariants as pipe;
 ghost use Rattle.stream_ops.specs.IntersperseState.{StandsFor};
 ghost use Rattle.stream_ops.specs.Spread.{is_any, spread};
 
-use crate::loads::{into_lines, push_clone};
-use chunk_core::{Chunk, Fed, Feed, Line, Load};
+use crate::loads::{into_lines, push_copy};
+use chunk_core::{Fed, Feed, Line, Load, Spare};
 use std::alloc::{AllocError, Global};
 
 /// `Intersperse`: the line that stands between, and whether a line came.
@@ -16,26 +16,35 @@ use std::alloc::{AllocError, Global};
 pub struct InterspersePipe {
     between: Line,
     started: bool,
+    spare: Spare,
 }
 
 /// Appends a line, behind the one between where others came before.
-fn put(given: &mut Vec<Line>, between: &Line, started: bool, line: &Line) -> Result<(), AllocError>
+fn put(
+    alloc: Global,
+    spare: &mut Spare,
+    given: &mut Vec<Line>,
+    between: &Line,
+    started: bool,
+    line: &Line,
+) -> Result<(), AllocError>
     ensures { OnOk result (map Line given.new.items ≡ map Line given.old.items ++ spread started between.now (Line line.now ∷ [])) }
 {
     if started {
-        push_clone(given, between)?;
+        push_copy(alloc, spare, given, between)?;
     }
-    push_clone(given, line)
+    push_copy(alloc, spare, given, line)
 }
 
 impl InterspersePipe {
     /// Nothing was read.
-    pub fn new(_alloc: Global, line: Line) -> Result<InterspersePipe, AllocError>
+    pub fn new(alloc: Global, line: Line) -> Result<InterspersePipe, AllocError>
         ensures { IfOk result (λ q. (m : Meaning) → IsMeaningOf (pipe.Intersperse line) m → StandsFor q m []) }
     {
         Ok(InterspersePipe {
             between: line,
             started: false,
+            spare: Spare::new(alloc),
         })
     }
 
@@ -47,7 +56,14 @@ impl InterspersePipe {
     {
         let mut given = Vec::with_capacity(alloc, lines.len().saturating_mul(2))?;
         for line in lines {
-            put(&mut given, &self.between, self.started, line)?;
+            put(
+                alloc,
+                &mut self.spare,
+                &mut given,
+                &self.between,
+                self.started,
+                line,
+            )?;
             self.started = true;
         }
         Ok(given)
@@ -69,8 +85,9 @@ impl Feed for InterspersePipe {
 
     fn feed(&mut self, alloc: Global, load: Load) -> Result<Fed, AllocError> {
         let lines = into_lines(load);
+        self.spare.regain();
         let given = self.take(alloc, lines.as_slice())?;
-        Ok(Fed::Out(Load::Lines(Chunk::of_vec(alloc, given)?)))
+        Ok(Fed::Out(Load::Lines(self.spare.give(alloc, given)?)))
     }
 
     fn finish(&mut self, _alloc: Global) -> Result<Fed, AllocError> {

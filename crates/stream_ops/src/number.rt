@@ -9,7 +9,7 @@ ghost use Rattle.pull_nodes.specs.declared.pipe.Pipe.TheVariants as pipe;
 ghost use Rattle.stream_ops.specs.NumberState.{StandsFor};
 
 use crate::loads::into_lines;
-use chunk_core::{Chunk, Fed, Feed, Line, Load};
+use chunk_core::{Fed, Feed, Line, Load, Spare};
 use itoa::Buffer;
 use std::alloc::{AllocError, Global};
 
@@ -17,15 +17,16 @@ use std::alloc::{AllocError, Global};
 #[derive(Drop)]
 pub struct NumberPipe {
     next: u64,
+    spare: Spare,
 }
 
-fn numbered(alloc: Global, number: u64, line: &Line) -> Result<Line, AllocError>
+fn numbered(alloc: Global, spare: &mut Spare, number: u64, line: &Line) -> Result<Line, AllocError>
     ensures { IfOk result (λ given. given ≡ decimal number ++ 32 ∷ line.now) }
 {
     let mut buffer = Buffer::new();
     let digits = buffer.format(number).as_bytes();
-    let len = line.len().saturating_add(digits.len() + 1);
-    let mut text = Vec::with_capacity(alloc, len)?;
+    let mut text = spare.empty(alloc);
+    text.reserve(line.len().saturating_add(digits.len() + 1))?;
     text.extend_from_slice(digits)?;
     text.push(b' ')?;
     text.extend_from_slice(line.as_slice())?;
@@ -33,23 +34,31 @@ fn numbered(alloc: Global, number: u64, line: &Line) -> Result<Line, AllocError>
 }
 
 /// Each line behind its number, of which the first is given.
-fn numbered_lines(alloc: Global, first: u64, lines: &[Line]) -> Result<Vec<Line>, AllocError>
+fn numbered_lines(
+    alloc: Global,
+    spare: &mut Spare,
+    first: u64,
+    lines: &[Line],
+) -> Result<Vec<Line>, AllocError>
     ensures { IfOk result (λ given. (k : ℕ) → first ≡ capped_number k → map Line given.items ≡ map with_number (enumerate_from k (map Line lines.now))) }
 {
     let mut given = Vec::with_capacity(alloc, lines.len())?;
     for (i, line) in lines.iter().enumerate() {
         let number = first.saturating_add(i as u64);
-        given.push(numbered(alloc, number, line)?)?;
+        given.push(numbered(alloc, spare, number, line)?)?;
     }
     Ok(given)
 }
 
 impl NumberPipe {
     /// Nothing was read.
-    pub fn new(_alloc: Global) -> Result<NumberPipe, AllocError>
+    pub fn new(alloc: Global) -> Result<NumberPipe, AllocError>
         ensures { IfOk result (λ q. (m : Meaning) → IsMeaningOf pipe.Number m → StandsFor q m []) }
     {
-        Ok(NumberPipe { next: 0 })
+        Ok(NumberPipe {
+            next: 0,
+            spare: Spare::new(alloc),
+        })
     }
 }
 
@@ -68,9 +77,10 @@ impl Feed for NumberPipe {
 
     fn feed(&mut self, alloc: Global, load: Load) -> Result<Fed, AllocError> {
         let lines = into_lines(load);
-        let given = numbered_lines(alloc, self.next, lines.as_slice())?;
+        self.spare.regain();
+        let given = numbered_lines(alloc, &mut self.spare, self.next, lines.as_slice())?;
         self.next = self.next.saturating_add(lines.len() as u64);
-        Ok(Fed::Out(Load::Lines(Chunk::of_vec(alloc, given)?)))
+        Ok(Fed::Out(Load::Lines(self.spare.give(alloc, given)?)))
     }
 
     fn finish(&mut self, _alloc: Global) -> Result<Fed, AllocError> {

@@ -5,7 +5,7 @@ ghost use Rattle.chunk_core.specs.Feed.{MayFeed};
 use crate::{
     ChangesPipe, ChunkNPipe, CountPipe, DropPipe, FilterPipe, InterspersePipe, NumberPipe,
 };
-use chunk_core::{Chunk, Fed, Feed, Line, Load, Row};
+use chunk_core::{Chunk, Fed, Feed, Line, Load, Row, render};
 use std::alloc::{AllocError, Global};
 use std::test::Fail;
 
@@ -141,6 +141,41 @@ fn answers<M: Made, P: Feed>(
         }
     }
     Ok(told)
+}
+
+/// The text of the loads.
+fn text_of(alloc: Global, loads: &[Load]) -> Result<Vec<u8>, AllocError> {
+    let mut text = Vec::new(alloc);
+    for load in loads {
+        text.extend_from_slice(render(alloc, load)?.as_slice())?;
+    }
+    Ok(text)
+}
+
+/// Feeds the pieces, holds each second load and lets the others go; whether those that were held are
+/// as they were given, and whether there are some.
+fn stay<M: Made, P: Feed>(
+    alloc: Global,
+    mut pipe: P,
+    pieces: &[&[&[u8]]],
+) -> Result<bool, AllocError>
+    requires { MayFeed (P.stands pipe) M.kind }
+{
+    let mut given = Vec::new(alloc);
+    let mut held = Vec::new(alloc);
+    let mut holds = true;
+    for piece in pieces {
+        let Fed::Out(load) = pipe.feed(alloc, M::load(alloc, piece)?)? else {
+            return Ok(false);
+        };
+        if holds {
+            given.extend_from_slice(render(alloc, &load)?.as_slice())?;
+            held.push(load)?;
+        }
+        holds = !holds;
+    }
+    let after = text_of(alloc, held.as_slice())?;
+    Ok(!given.is_empty() && after.as_slice() == given.as_slice())
 }
 
 /// The texts cut before each whose bit is set.
@@ -397,5 +432,42 @@ fn groups_of_none_are_groups_of_one(rt: HostRuntime) -> Result<(), Fail> {
     let told = grouped::<AsLines>(alloc, 0, pieces.as_slice())?;
     assert_eq!(rt; told.text.as_slice(), b"a|a|b|".as_slice());
     assert_eq!(rt; told.lens.as_slice(), [1, 2].as_slice());
+    Ok(())
+}
+
+fn held_filtered(alloc: Global, pieces: &[&[&[u8]]]) -> Result<bool, AllocError> {
+    let text = Line::copy_of(alloc, b"e")?;
+    stay::<AsLines, FilterPipe>(alloc, FilterPipe::new(alloc, text)?, pieces)
+}
+
+fn held_numbered(alloc: Global, pieces: &[&[&[u8]]]) -> Result<bool, AllocError> {
+    stay::<AsLines, NumberPipe>(alloc, NumberPipe::new(alloc)?, pieces)
+}
+
+fn held_changed(alloc: Global, pieces: &[&[&[u8]]]) -> Result<bool, AllocError> {
+    stay::<AsRows, ChangesPipe>(alloc, ChangesPipe::new(alloc)?, pieces)
+}
+
+fn held_spread(alloc: Global, pieces: &[&[&[u8]]]) -> Result<bool, AllocError> {
+    let line = Line::copy_of(alloc, b"--")?;
+    stay::<AsLines, InterspersePipe>(alloc, InterspersePipe::new(alloc, line)?, pieces)
+}
+
+fn held_grouped(alloc: Global, pieces: &[&[&[u8]]]) -> Result<bool, AllocError> {
+    stay::<AsLines, ChunkNPipe>(alloc, ChunkNPipe::new(alloc, 3)?, pieces)
+}
+
+#[test]
+fn loads_that_are_held_stay_as_they_are(rt: HostRuntime) -> Result<(), Fail> {
+    let alloc = rt.alloc();
+    let short: [&[u8]; 3] = [b"one", b"two", b"three"];
+    let more: [&[u8]; 4] = [b"1e", b"", b"333e", b"4e4"];
+    let long: [&[u8]; 2] = [b"a line that is longer than all of the others", b"e"];
+    let pieces: [&[&[u8]]; 6] = [&short, &more, &long, &short, &long, &more];
+    assert!(rt; held_filtered(alloc, pieces.as_slice())?);
+    assert!(rt; held_numbered(alloc, pieces.as_slice())?);
+    assert!(rt; held_changed(alloc, pieces.as_slice())?);
+    assert!(rt; held_spread(alloc, pieces.as_slice())?);
+    assert!(rt; held_grouped(alloc, pieces.as_slice())?);
     Ok(())
 }
