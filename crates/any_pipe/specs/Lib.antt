@@ -1,3 +1,4 @@
 pub mod AnyState
 pub mod Pouring
 pub mod Soundness
+pub mod Dues

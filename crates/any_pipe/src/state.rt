@@ -70,6 +70,12 @@ impl Feed for AnyPipe {
 }
 
 impl PipeState for AnyPipe {
+    ghost use Rattle.any_pipe.specs.Dues.{due, any_owes};
+
+    ghost due = { due };
+
+    ghost dues = { any_owes };
+
     fn of(alloc: Global, pipe: Pipe) -> Result<AnyPipe, AllocError> {
         Ok(match pipe {
             Pipe::Utf8 => AnyPipe::Utf8(Utf8Pipe::new(alloc)?),

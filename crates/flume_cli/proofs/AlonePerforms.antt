@@ -58,9 +58,9 @@ module _ (places : List Place) (runs ideal : (ℕ → DeviceTold) → Outcomes) 
   output = record { elements = given; end = r.run.end; run = r.run.run; printed = payloads_pieces r.printed.pieces; reported = r.run.reported }
 
   cut_frame : (b : Bool) → o.sink_failed ≡ b → (r.printed.rest ≡ []) ⊎ ((o.sink_failed ≡ true) × IsCutFrame work r.home frames r.printed.rest)
-  cut_frame false e = let c = subst (λ b. IsCutAt size b r.printed.next r.printed.rest) e r.printed.cut in inl c.1
+  cut_frame false e = let c = subst (λ b. IsCutAt b r.printed.next r.printed.rest) e r.printed.cut in inl c.1
   cut_frame true e =
-      let c : IsPiece size r.printed.next × (more : List ℕ) × (0 < length more) × _ = subst (λ b. IsCutAt size b r.printed.next r.printed.rest) e r.printed.cut in
+      let c : IsPiece r.printed.next × (more : List ℕ) × (0 < length more) × _ = subst (λ b. IsCutAt b r.printed.next r.printed.rest) e r.printed.cut in
       inr (
         e,
         (
@@ -69,7 +69,7 @@ module _ (places : List Place) (runs ideal : (ℕ → DeviceTold) → Outcomes) 
           c.1,
           c.3,
           c.2,
-          rendering_some r.printed.next c.0.0,
+          rendering_some r.printed.next c.0,
           (
             omega arith,
             given ++ r.printed.next,
@@ -81,7 +81,7 @@ module _ (places : List Place) (runs ideal : (ℕ → DeviceTold) → Outcomes) 
 
   outputs : HaveOutputs work deed r.home
   outputs = record {
-    numbers = pieces_numbers size r.printed.pieces r.printed.sizes;
+    numbers = pieces_numbers r.printed.pieces r.printed.some;
     outputs = subst (λ es. AreOutputs work r.home frames 0 work.streams es) (sym r.ends) (output, refl);
     cut = cut_frame o.sink_failed refl;
   }

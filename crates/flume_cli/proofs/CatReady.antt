@@ -89,7 +89,7 @@ module _ {V : Type 0} (told : V → DeviceTold) (path : List ℕ) (chunk : ℕ) 
 
     -- the stream ran over its file
     runs_alone : RunsAlone (to_read path ∷ []) (λ w. FileRuns (w 0)) chunk old new so sn r.outcome
-    runs_alone = record { home = ran.home; how = ran.how; devices = comes_back; account = ran.account; printed = ran.printed; run = ran.run; ends = ran.ends }
+    runs_alone = record { home = ran.home; how = ran.how; devices = comes_back; account = ran.account; printed = ran.printed; small = ran.small tt; run = ran.run; ends = ran.ends }
 
 module _ {V : Type 0} (told : V → DeviceTold) (path : List ℕ) (chunk : ℕ) (old mid : DepotTold) (so sn : SinkTold) (n : Node) (d : V) (is : IsCatNode n) (makes : Makes old mid path mode.Read (told d)) (r : Ran V) (ran : RunsStream told n (d ∷ []) chunk so sn r) where
   abbrev ran_so : RunsStream told (Weak' 0 is.0 (Read 0)) (d ∷ []) chunk so sn r

@@ -131,19 +131,19 @@ module _ (path : List ℕ) (size : ℕ) (old new : DepotTold) (so sn : SinkTold)
   }
 
   front_by : (b : Bool) → o.sink_failed ≡ b → IsFrontWithin size r.printed.rest
-  front_by false e = let c = subst (λ b. IsCutAt size b r.printed.next r.printed.rest) e r.printed.cut in inl c.1
+  front_by false e = let c = subst (λ b. IsCutAt b r.printed.next r.printed.rest) e r.printed.cut in inl c.1
   front_by true e =
-      let c : IsPiece size r.printed.next × (more : List ℕ) × (0 < length more) × _ = subst (λ b. IsCutAt size b r.printed.next r.printed.rest) e r.printed.cut in
+      let c : IsPiece r.printed.next × (more : List ℕ) × (0 < length more) × _ = subst (λ b. IsCutAt b r.printed.next r.printed.rest) e r.printed.cut in
       let bytes = each_right IsByte given r.printed.next (file_bytes d (given ++ r.printed.next) Cut (r.run.goes_on e)) in
       let counted = bytes_length r.printed.next bytes in
-      inr (rendering_of r.printed.next, omega (arith, counted, c.0.1), c.1, c.3)
+      inr (rendering_of r.printed.next, omega (arith, counted, r.small.next_fits), c.1, c.3)
 
   -- the work of cat was done
   pub cat_runs_alone : RunsCat path size old new so sn o
   cat_runs_alone = record {
     frames = map frame_of r.printed.pieces;
     rest = r.printed.rest;
-    within = record { fits = pieces_fit size r.printed.pieces r.printed.sizes (file_bytes d given r.run.end r.run.run); front = front_by o.sink_failed refl };
+    within = record { fits = pieces_fit size r.printed.pieces r.small.fits (file_bytes d given r.run.end r.run.run); front = front_by o.sink_failed refl };
     performs = performs_alone (to_read path ∷ []) (λ w. FileRuns (w 0)) (λ w. IdealFileRuns (w 0)) size old new so sn o r covered;
     wrote = r.printed.wrote;
     begun = λ e. absurd (none_some (record { who = Inner 0; how = r.how }) [] (sym r.ends ∙ e));

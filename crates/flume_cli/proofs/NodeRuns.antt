@@ -18,7 +18,7 @@ use Rattle.pull_nodes.specs.Runs.{IsRun}
 use Rattle.pull_nodes.specs.Shape.{places_of}
 use Rattle.pull_nodes.specs.declared.node.Node.{Node}
 use Rattle.pull_turns.specs.Piping.{Standing}
-use Rattle.pull_turns.specs.Sizes.{widest_of}
+use Rattle.pull_turns.specs.Sizes.{HasNoPipeOf, widest_of}
 use Rattle.res_ledger.specs.Order.{firsts}
 use Rattle.row_seat.specs.Views.{IsWithin}
 use Rattle.scope_tree.specs.Calls.{Closes, Seen}
@@ -65,7 +65,7 @@ module _ {V : Type 0} (told : V → DeviceTold) (n : Node) (devices : List V) (c
       record {
         home = told_at told z.site;
         same = since.same;
-        prints = subst (λ e. PrintsRun (IsRun (told_at told z.site) n) (widest_of chunk n) old new e r) end.how prints;
+        prints = subst (λ e. PrintsRun (IsRun (told_at told z.site) n) (HasNoPipeOf n) (widest_of chunk n) old new e r) end.how prints;
         parted = subst (λ f. Parted told (told_at told z.site) b.shelf (first + length devices) f ds) since.from (subst (λ t. Parted told (told_at told z.site) b.shelf t z.site.from ds) to end.parted);
         once = end.once;
         rows = λ x m.
@@ -103,7 +103,8 @@ module _ {V : Type 0} (told : V → DeviceTold) (n : Node) (devices : List V) (c
         prints = record {
           how = how.Memory;
           ended_is = refl;
-          printed = record { pieces = []; sizes = tt; next = []; rest = []; cut = (refl, refl); wrote = quiet ∙ sym (with_bytes_none old) };
+          printed = record { pieces = []; some = tt; next = []; rest = []; cut = (refl, refl); wrote = quiet ∙ sym (with_bytes_none old) };
+          small = λ plain. record { fits = tt; next_fits = omega arith };
           run = record { end = Cut; run = inr (refl, inl refl); goes_on = λ e. absurd (false≢true e); reported = inr refl; halted = λ e. absurd (false≢true e); remembered = λ e. refl };
         };
         parted = subst (λ l. Parted told (told_at told x) l (first + length devices) first devices) (empty ∙ sym bare)

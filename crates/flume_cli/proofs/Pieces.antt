@@ -23,9 +23,9 @@ pub payloads_pieces : (pieces : List (List Element)) → payloads_of 0 (map fram
 payloads_pieces [] = refl
 payloads_pieces (p ∷ pieces) = ap (λ b. rendering_of p ++ b) (payloads_pieces pieces) ∙ sym (flat_map-append element_text p (elements_of pieces))
 
-pub pieces_numbers : (size : ℕ) (pieces : List (List Element)) → Each (IsPiece size) pieces → Each (λ f. (f.stream < 1) × (0 < length f.payload)) (map frame_of pieces)
-pieces_numbers size [] h = tt
-pieces_numbers size (p ∷ pieces) h = ((omega arith, rendering_some p h.0.0), pieces_numbers size pieces h.1)
+pub pieces_numbers : (pieces : List (List Element)) → Each IsPiece pieces → Each (λ f. (f.stream < 1) × (0 < length f.payload)) (map frame_of pieces)
+pieces_numbers [] h = tt
+pieces_numbers (p ∷ pieces) h = ((omega arith, rendering_some p h.0), pieces_numbers pieces h.1)
 
 -- Bytes.
 
@@ -44,6 +44,6 @@ bytes_length (x ∷ xs) h =
     omega (arith, one, rest, length-append (element_text x) (rendering_of xs))
 
 -- each frame of bytes has at most size of them
-pub pieces_fit : (size : ℕ) (pieces : List (List Element)) → Each (IsPiece size) pieces → Each IsByte (elements_of pieces) → Each (λ f. length f.payload ≤ size) (map frame_of pieces)
+pub pieces_fit : (size : ℕ) (pieces : List (List Element)) → Each (λ xs. length xs ≤ size) pieces → Each IsByte (elements_of pieces) → Each (λ f. length f.payload ≤ size) (map frame_of pieces)
 pieces_fit size [] h b = tt
-pieces_fit size (p ∷ pieces) h b = (omega (arith, h.0.1, bytes_length p (each_left IsByte p (elements_of pieces) b)), pieces_fit size pieces h.1 (each_right IsByte p (elements_of pieces) b))
+pieces_fit size (p ∷ pieces) h b = (omega (arith, h.0, bytes_length p (each_left IsByte p (elements_of pieces) b)), pieces_fit size pieces h.1 (each_right IsByte p (elements_of pieces) b))

@@ -25,16 +25,21 @@ use Rattle.pull_turns.proofs.Leads.{can_stop}
 use Rattle.pull_turns.proofs.Led.{led_start, led_chunk, led_quiet, led_done, led_fault, over_now, tells_on}
 use Rattle.flume_cli.specs.declared.frame.NotPut.{NotPut}
 use Rattle.flume_cli.specs.declared.frame.NotPut.TheVariants as why
-use Rattle.flume_cli.specs.Alone.{elements_of, frame_of, IsPiece, PrintsPieces}
+use Rattle.flume_cli.specs.Alone.{AreSmall, elements_of, frame_of, IsPiece, PrintsPieces}
 use Rattle.flume_cli.specs.Frame.{PutsLoad}
 use Rattle.flume_cli.specs.Printing.{PrintsRun}
 
--- so far turns gave these pieces, and each was printed; no pipe is in what is left
+-- no pipe is in what is left, pieces stay as small, and so small were those that came
+pub record StaysSmall {F : Type 0} (n : ℕ) (start rest : Rest F) (pieces : List (List Element)) : Type 0 where
+  pub plain : HasNoPipe rest
+  pub wide : widest n rest ≤ widest n start
+  pub fits : Each (λ xs. length xs ≤ widest n start) pieces
+
+-- so far turns gave these pieces, and each was printed
 pub record PrintsOn {F : Type 0} (P : Standing F) (first now : ℕ → DeviceTold) (n : ℕ) (start rest : Rest F) (old new : SinkTold) : Type 0 where
   pub pieces : List (List Element)
-  pub sizes : Each (IsPiece (widest n start)) pieces
-  pub wide : widest n rest ≤ widest n start
-  pub plain : HasNoPipe rest
+  pub some : Each IsPiece pieces
+  pub small : HasNoPipe start → StaysSmall n start rest pieces
   pub led : Led P first now start rest (elements_of pieces)
   pub wrote : new ≡ with_bytes old (frames_text (map frame_of pieces))
 
@@ -54,8 +59,8 @@ frames_snoc pieces xs =
 rest_of : (xs : List ℕ) (k : ℕ) → k < length xs → (0 < length (drop k xs)) × (take k xs ++ drop k xs ≡ xs)
 rest_of xs k l = (omega (arith, length-drop k xs), take-append-drop k xs)
 
-pub prints_start : {F : Type 0} (P : Standing F) (now : ℕ → DeviceTold) (n : ℕ) (start : Rest F) (old : SinkTold) → HasNoPipe start → PrintsOn P now now n start start old old
-prints_start P now n start old f = record { pieces = []; sizes = tt; wide = omega arith; plain = f; led = led_start P now start; wrote = sym (with_bytes_none old) }
+pub prints_start : {F : Type 0} (P : Standing F) (now : ℕ → DeviceTold) (n : ℕ) (start : Rest F) (old : SinkTold) → PrintsOn P now now n start start old old
+prints_start P now n start old = record { pieces = []; some = tt; small = λ f. record { plain = f; wide = omega arith; fits = tt }; led = led_start P now start; wrote = sym (with_bytes_none old) }
 
 -- what was printed is a front of a run, whatever the devices come to tell
 cut_later : {F : Type 0} (P : Standing F) (first now last : ℕ → DeviceTold) (start rest : Rest F) (xs : List Element) → Led P first now start rest xs → Tells now last rest → IsRunOfRest P last start xs Cut
@@ -70,52 +75,59 @@ tells_of a b r h = record { goes = h.goes; others = λ p n. h.others p (λ l. l)
 
 module _ {F : Type 0} (P : Standing F) (first before : ℕ → DeviceTold) (n : ℕ) (start rest : Rest F) (old mid : SinkTold) (p : PrintsOn P first before n start rest old mid) where
   -- nothing was cut
-  abbrev whole : PrintsPieces (widest n start) old mid false
+  abbrev whole : PrintsPieces old mid false
   whole = record {
     pieces = p.pieces;
-    sizes = p.sizes;
+    some = p.some;
     next = [];
     rest = [];
     cut = (refl, refl);
     wrote = p.wrote ∙ ap (λ b. with_bytes old b) (sym (append-nil (frames_text (map frame_of p.pieces))));
   }
 
+  whole_small : HasNoPipe start → AreSmall (widest n start) p.pieces []
+  whole_small f = record { fits = (p.small f).fits; next_fits = omega arith }
+
   stopped : (now last : ℕ → DeviceTold) → Tells before now rest → Tells {F = F} now last Nil → IsRunOfRest P last start (elements_of p.pieces) Cut
   stopped now last h t = cut_later P first before last start rest (elements_of p.pieces) p.led (tells_later before now last rest h t)
 
   -- memory was wanting in a turn
-  pub prints_wanting : (now last : ℕ → DeviceTold) → Tells before now rest → Tells {F = F} now last Nil → PrintsRun {T = Unit {0}} (IsRunOfRest P last start) (widest n start) old mid (Some how.Memory) (Err why.Memory)
+  pub prints_wanting : (now last : ℕ → DeviceTold) → Tells before now rest → Tells {F = F} now last Nil → PrintsRun {T = Unit {0}} (IsRunOfRest P last start) (HasNoPipe start) (widest n start) old mid (Some how.Memory) (Err why.Memory)
   prints_wanting now last h t = record {
     how = how.Memory;
     ended_is = refl;
     printed = whole;
+    small = whole_small;
     run = record { end = Cut; run = stopped now last h t; goes_on = λ e. absurd (false≢true e); reported = inr refl; halted = λ e. absurd (false≢true e); remembered = λ e. refl };
   }
 
 module _ {F : Type 0} (P : Standing F) (first : ℕ → DeviceTold) (before now : Around) (n : ℕ) (start rest next : Rest F) (old mid : SinkTold) (p : PrintsOn P first before.told n start rest old mid) where
-  piece : (l : Load) → Turns P before now n rest next (turn.Chunk l) → Sized n rest next (elements l) → IsPiece (widest n start) (elements l)
-  piece l k s = (k.gave.0, omega (arith, s.piece, p.wide))
+  small_next : (xs : List Element) → (HasNoPipe rest → Sized n rest next xs) → (f : HasNoPipe start) → length xs ≤ widest n start
+  small_next xs s f = let i = p.small f in let h = s i.plain in omega (arith, h.piece, i.wide)
 
-  pub prints_chunk : (new : SinkTold) (l : Load) → Turns P before now n rest next (turn.Chunk l) → Sized n rest next (elements l) → new ≡ with_bytes mid (frame_text 0 (rendering_of (elements l)))
+  pub prints_chunk : (new : SinkTold) (l : Load) → Turns P before now n rest next (turn.Chunk l) → (HasNoPipe rest → Sized n rest next (elements l)) → new ≡ with_bytes mid (frame_text 0 (rendering_of (elements l)))
       → PrintsOn P first now.told n start next old new
   prints_chunk new l k s w = record {
     pieces = p.pieces ++ elements l ∷ [];
-    sizes = each_snoc (IsPiece (widest n start)) p.pieces (elements l) p.sizes (piece l k s);
-    wide = omega (arith, s.pieces, p.wide);
-    plain = s.plain;
+    some = each_snoc IsPiece p.pieces (elements l) p.some k.gave.0;
+    small = λ f.
+        let i = p.small f in
+        let h = s i.plain in
+        record { plain = h.plain; wide = omega (arith, h.pieces, i.wide); fits = each_snoc (λ xs. length xs ≤ widest n start) p.pieces (elements l) i.fits (small_next (elements l) s f) };
     led = subst (λ xs. Led P first now.told start next xs) (sym (elements_snoc p.pieces (elements l))) (led_chunk P first before now n start rest next (elements_of p.pieces) p.led l k);
     wrote = w ∙ (ap (λ s. with_bytes s (frame_text 0 (rendering_of (elements l)))) p.wrote
         ∙ (with_bytes_twice old (frames_text (map frame_of p.pieces)) (frame_text 0 (rendering_of (elements l))) ∙ ap (λ b. with_bytes old b) (sym (frames_snoc p.pieces (elements l)))));
   }
 
-  pub prints_quiet : Turns P before now n rest next turn.Quiet → Sized n rest next [] → PrintsOn P first now.told n start next old mid
-  prints_quiet k s = record { pieces = p.pieces; sizes = p.sizes; wide = omega (arith, s.pieces, p.wide); plain = s.plain; led = led_quiet P first before now n start rest next (elements_of p.pieces) p.led k; wrote = p.wrote }
+  pub prints_quiet : Turns P before now n rest next turn.Quiet → (HasNoPipe rest → Sized n rest next []) → PrintsOn P first now.told n start next old mid
+  prints_quiet k s = record { pieces = p.pieces; some = p.some; small = λ f. let i = p.small f in let h = s i.plain in record { plain = h.plain; wide = omega (arith, h.pieces, i.wide); fits = i.fits }; led = led_quiet P first before now n start rest next (elements_of p.pieces) p.led k; wrote = p.wrote }
 
-  pub prints_done : Turns P before now n rest next turn.Done → PrintsRun {T = Unit {0}} (IsRunOfRest P now.told start) (widest n start) old mid (Some how.Done) (Ok tt)
+  pub prints_done : Turns P before now n rest next turn.Done → PrintsRun {T = Unit {0}} (IsRunOfRest P now.told start) (HasNoPipe start) (widest n start) old mid (Some how.Done) (Ok tt)
   prints_done k = record {
     how = how.Done;
     ended_is = refl;
     printed = whole P first before.told n start rest old mid p;
+    small = whole_small P first before.told n start rest old mid p;
     run = record {
       end = Done;
       run = led_done P first before now n start rest next (elements_of p.pieces) p.led k now.told (over_now now.told start);
@@ -126,11 +138,12 @@ module _ {F : Type 0} (P : Standing F) (first : ℕ → DeviceTold) (before now 
     };
   }
 
-  pub prints_fault : (c : Code) → Turns P before now n rest next (turn.Fault c) → PrintsRun {T = Unit {0}} (IsRunOfRest P now.told start) (widest n start) old mid (Some (how.Fault c)) (Ok tt)
+  pub prints_fault : (c : Code) → Turns P before now n rest next (turn.Fault c) → PrintsRun {T = Unit {0}} (IsRunOfRest P now.told start) (HasNoPipe start) (widest n start) old mid (Some (how.Fault c)) (Ok tt)
   prints_fault c k = record {
     how = how.Fault c;
     ended_is = refl;
     printed = whole P first before.told n start rest old mid p;
+    small = whole_small P first before.told n start rest old mid p;
     run = record {
       end = Fault c;
       run = led_fault P first before now n start rest next (elements_of p.pieces) p.led c k now.told (over_now now.told start);
@@ -143,17 +156,18 @@ module _ {F : Type 0} (P : Standing F) (first : ℕ → DeviceTold) (before now 
 
   module _ (last : ℕ → DeviceTold) (t : Tells {F = F} now.told last Nil) where
     -- memory was wanting for the text of a piece
-    pub prints_unrendered : (new : SinkTold) (l : Load) → Turns P before now n rest next (turn.Chunk l) → new ≡ mid → PrintsRun {T = Unit {0}} (IsRunOfRest P last start) (widest n start) old new (Some how.Halted) (Err why.Memory)
-    prints_unrendered new l k e = subst (λ s. PrintsRun {T = Unit {0}} (IsRunOfRest P last start) (widest n start) old s (Some how.Halted) (Err why.Memory)) (sym e) (record {
+    pub prints_unrendered : (new : SinkTold) (l : Load) → Turns P before now n rest next (turn.Chunk l) → new ≡ mid → PrintsRun {T = Unit {0}} (IsRunOfRest P last start) (HasNoPipe start) (widest n start) old new (Some how.Halted) (Err why.Memory)
+    prints_unrendered new l k e = subst (λ s. PrintsRun {T = Unit {0}} (IsRunOfRest P last start) (HasNoPipe start) (widest n start) old s (Some how.Halted) (Err why.Memory)) (sym e) (record {
       how = how.Halted;
       ended_is = refl;
       printed = whole P first before.told n start rest old mid p;
+      small = whole_small P first before.told n start rest old mid p;
       run = record { end = Cut; run = stopped P first before.told n start rest old mid p now.told last k.tells t; goes_on = λ e. absurd (false≢true e); reported = inl refl; halted = λ e. inr refl; remembered = λ e. absurd (false≢true e) };
     })
 
     -- a write failed
-    pub prints_broken : (new : SinkTold) (l : Load) → Turns P before now n rest next (turn.Chunk l) → Sized n rest next (elements l) → BreaksOff mid new (frame_text 0 (rendering_of (elements l)))
-        → PrintsRun {T = Unit {0}} (IsRunOfRest P last start) (widest n start) old new (Some how.Halted) (Err why.Unwritten)
+    pub prints_broken : (new : SinkTold) (l : Load) → Turns P before now n rest next (turn.Chunk l) → (HasNoPipe rest → Sized n rest next (elements l)) → BreaksOff mid new (frame_text 0 (rendering_of (elements l)))
+        → PrintsRun {T = Unit {0}} (IsRunOfRest P last start) (HasNoPipe start) (widest n start) old new (Some how.Halted) (Err why.Unwritten)
     prints_broken new l k s b =
         let text : List ℕ = frame_text 0 (rendering_of (elements l)) in
         let parts = rest_of text b.count b.front in
@@ -162,13 +176,14 @@ module _ {F : Type 0} (P : Standing F) (first : ℕ → DeviceTold) (before now 
           ended_is = refl;
           printed = record {
             pieces = p.pieces;
-            sizes = p.sizes;
+            some = p.some;
             next = elements l;
             rest = take b.count text;
-            cut = (piece l k s, drop b.count text, parts.0, parts.1);
+            cut = (k.gave.0, drop b.count text, parts.0, parts.1);
             wrote = b.told ∙ (ap (λ (x : SinkTold). let y : SinkTold = record (with_bytes x (take b.count text)) { faults = x.faults + 1 } in y) p.wrote
                 ∙ ap (λ (x : SinkTold). let y : SinkTold = record x { faults = old.faults + 1 } in y) (with_bytes_twice old (frames_text (map frame_of p.pieces)) (take b.count text)));
           };
+          small = λ f. record { fits = (p.small f).fits; next_fits = small_next (elements l) s f };
           run = record {
             end = Cut;
             run = stopped P first before.told n start rest old mid p now.told last k.tells t;
@@ -180,7 +195,7 @@ module _ {F : Type 0} (P : Standing F) (first : ℕ → DeviceTold) (before now 
         }
 
     -- a piece wasn't printed whole
-    pub prints_put : (new : SinkTold) (l : Load) (cause : NotPut) → Turns P before now n rest next (turn.Chunk l) → Sized n rest next (elements l) → PutsLoad {T = Unit {0}} mid new 0 l (Err cause)
-        → PrintsRun {T = Unit {0}} (IsRunOfRest P last start) (widest n start) old new (Some how.Halted) (Err cause)
+    pub prints_put : (new : SinkTold) (l : Load) (cause : NotPut) → Turns P before now n rest next (turn.Chunk l) → (HasNoPipe rest → Sized n rest next (elements l)) → PutsLoad {T = Unit {0}} mid new 0 l (Err cause)
+        → PrintsRun {T = Unit {0}} (IsRunOfRest P last start) (HasNoPipe start) (widest n start) old new (Some how.Halted) (Err cause)
     prints_put new l why.Unwritten k s h = prints_broken new l k s h
     prints_put new l why.Memory k s h = prints_unrendered new l k h.0

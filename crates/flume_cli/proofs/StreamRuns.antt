@@ -109,6 +109,7 @@ module _ {V : Type 0} (told : V → DeviceTold) where
       rest = each_spent told runs.home (length devices) b.shelf parted_here runs.once rows_here;
       account = accounted;
       printed = runs.prints.printed;
+      small = runs.prints.small;
       run = subst (λ h. IsRunIn (IsRun runs.home n) runs.prints.printed.pieces runs.prints.printed.next (is_unwritten r) (is_wanting r) h) (same_how runs.prints.how how runs.prints.ended_is) runs.prints.run;
       ends = refl;
     }

@@ -36,27 +36,32 @@ and_one failed n = cond failed (n + 1) n
 abbrev pub elements_of : List (List Element) → List Element
 elements_of pieces = flat_map (λ xs. xs) pieces
 
--- some elements, but not more than size
-abbrev pub IsPiece : ℕ → List Element → Type 0
-IsPiece size xs = (0 < length xs) × (length xs ≤ size)
+-- a piece has elements
+abbrev pub IsPiece : List Element → Type 0
+IsPiece xs = 0 < length xs
 
 -- the frame of a piece of stream 0
 abbrev pub frame_of : List Element → Frame
 frame_of xs = record { stream = 0; payload = rendering_of xs }
 
 -- where a write failed, rest is a proper front of the frame of one further piece
-abbrev pub IsCutAt : ℕ → Bool → List Element → List ℕ → Type 0
-IsCutAt size false next rest = (next ≡ []) × (rest ≡ [])
-IsCutAt size true next rest = IsPiece size next × (more : List ℕ) × (0 < length more) × (rest ++ more ≡ frame_text 0 (rendering_of next))
+abbrev pub IsCutAt : Bool → List Element → List ℕ → Type 0
+IsCutAt false next rest = (next ≡ []) × (rest ≡ [])
+IsCutAt true next rest = IsPiece next × (more : List ℕ) × (0 < length more) × (rest ++ more ≡ frame_text 0 (rendering_of next))
 
--- pieces of at most size elements were printed, each in a frame, and where a write failed a front of the frame of the next one
-pub record PrintsPieces (size : ℕ) (old new : SinkTold) (failed : Bool) : Type 0 where
+-- pieces were printed, each in a frame, and where a write failed a front of the frame of the next one
+pub record PrintsPieces (old new : SinkTold) (failed : Bool) : Type 0 where
   pub pieces : List (List Element)
-  pub sizes : Each (IsPiece size) pieces
+  pub some : Each IsPiece pieces
   pub next : List Element
   pub rest : List ℕ
-  pub cut : IsCutAt size failed next rest
+  pub cut : IsCutAt failed next rest
   pub wrote : new ≡ record (with_bytes old (frames_text (map frame_of pieces) ++ rest)) { faults = and_one failed old.faults }
+
+-- no piece has more than size elements, nor has the one of which a front was written
+pub record AreSmall (size : ℕ) (pieces : List (List Element)) (next : List Element) : Type 0 where
+  pub fits : Each (λ xs. length xs ≤ size) pieces
+  pub next_fits : length next ≤ size
 
 -- the pieces are those of a run with the end that is reported, and what the next one goes on with may be left there
 pub record IsRunIn (runs : Outcomes) (pieces : List (List Element)) (next : List Element) (failed memory : Bool) (how : How) : Type 0 where
@@ -115,6 +120,7 @@ pub record RunsAlone (places : List Place) (runs : (ℕ → DeviceTold) → Outc
   pub how : How
   pub devices : ComesBack depot_old depot_new places home
   pub account : IsAccount (length places) home how o.ledger
-  pub printed : PrintsPieces size old new o.sink_failed
+  pub printed : PrintsPieces old new o.sink_failed
+  pub small : AreSmall size printed.pieces printed.next
   pub run : IsRunIn (runs home) printed.pieces printed.next o.sink_failed o.memory how
   pub ends : o.ends ≡ record { who = Inner 0; how = how } ∷ []

@@ -9,7 +9,7 @@ use Rattle.device_port.specs.Sink.{SinkTold}
 use Rattle.pull_nodes.specs.Runs.{IsRun}
 use Rattle.pull_nodes.specs.Shape.{places_of}
 use Rattle.pull_nodes.specs.declared.node.Node.{Node}
-use Rattle.pull_turns.specs.Sizes.{widest_of}
+use Rattle.pull_turns.specs.Sizes.{HasNoPipeOf, widest_of}
 use Rattle.res_ledger.specs.declared.event.What.TheVariants.{Close}
 use Rattle.res_ledger.specs.Ledger.{Notes}
 use Rattle.res_ledger.specs.Order.{firsts}
@@ -33,7 +33,7 @@ module _ {V T : Type 0} where
   pub record RunsNode (told : V → DeviceTold) (n : Node) (devices : List V) (chunk : ℕ) (a b : Seen V) (old new : SinkTold) (how : How) (unopened : List V) (r : Result T NotPut) : Type 0 where
     pub home : ℕ → DeviceTold
     pub same : (p : ℕ) → SameDevice (told_at told (site_of n a devices) p) (home p)
-    pub prints : PrintsRun (IsRun home n) (widest_of chunk n) old new (Some how) r
+    pub prints : PrintsRun (IsRun home n) (HasNoPipeOf n) (widest_of chunk n) old new (Some how) r
     pub parted : Parted told home b.shelf (first_of (places_of n) + length devices) (first_of (places_of n)) unopened
     pub once : AreDistinct (firsts (said b.shelf))
     pub rows : (x : Spent V) → IsAmong x b.shelf → IsWithin (first_of (places_of n)) (first_of (places_of n) + length devices) x.row

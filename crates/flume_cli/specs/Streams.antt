@@ -8,14 +8,14 @@ use Rattle.device_port.specs.Sink.{SinkTold}
 use Rattle.pull_nodes.specs.Runs.{IsRun}
 use Rattle.pull_nodes.specs.Shape.{places_of, scope_count}
 use Rattle.pull_nodes.specs.declared.node.Node.{Node}
-use Rattle.pull_turns.specs.Sizes.{widest_of}
+use Rattle.pull_turns.specs.Sizes.{HasNoPipeOf, widest_of}
 use Rattle.row_seat.specs.PlainSeats.{shown, Sits}
 use Rattle.row_seat.specs.Views.{start}
 use Rattle.pull_stepper.specs.Sites.{SameDevice}
 use Rattle.run_rules.specs.Facts.{below}
 use Rattle.flume_cli.specs.declared.alone.Ran.{Ran}
 use Rattle.flume_cli.specs.declared.alone.StreamRoom.{StreamRoom}
-use Rattle.flume_cli.specs.Alone.{IsAccount, IsAtRest, PrintsPieces, IsRunIn}
+use Rattle.flume_cli.specs.Alone.{AreSmall, IsAccount, IsAtRest, PrintsPieces, IsRunIn}
 use Rattle.flume_cli.specs.Retire.{devices_of}
 
 -- a fresh seat of stream 0 at its table, with a row for each place of the node and room for all its events, scopes and its end
@@ -41,6 +41,7 @@ module _ {V : Type 0} (told : V → DeviceTold) where
     pub each : IsPermutation (map home (below (length devices))) (devices_of told r.shelf r.unopened)
     pub rest : (k : ℕ) → k < length devices → IsAtRest (home k)
     pub account : IsAccount (length devices) home how r.outcome.ledger
-    pub printed : PrintsPieces (widest_of chunk n) old new r.outcome.sink_failed
+    pub printed : PrintsPieces old new r.outcome.sink_failed
+    pub small : HasNoPipeOf n → AreSmall (widest_of chunk n) printed.pieces printed.next
     pub run : IsRunIn (IsRun home n) printed.pieces printed.next r.outcome.sink_failed r.outcome.memory how
     pub ends : r.outcome.ends ≡ record { who = Inner 0; how = how } ∷ []

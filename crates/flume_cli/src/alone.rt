@@ -2,7 +2,6 @@
 ghost use Rattle.std.specs.Prelude.{◌≡◌, ◌-◌, ◌^◌, ◌<◌, ◌≤◌, [], ◌∷◌, vec_capacity};
 ghost use Rattle.res_ledger.specs.declared.event.StreamNo.TheVariants.{Inner};
 ghost use Rattle.pull_nodes.specs.Shape.{places_of};
-ghost use Rattle.pull_turns.specs.Sizes.{HasNoPipeOf};
 ghost use Rattle.pull_stepper.specs.Placing.{first_of};
 ghost use Rattle.pull_stepper.specs.Stepping.{IsSupplied};
 ghost use Rattle.flume_cli.specs.Printing.{is_unwritten as is_unwritten_result, is_wanting as is_wanting_result};
@@ -37,7 +36,7 @@ pub(crate) struct Ran<V> {
     pub(crate) unopened: List<V>,
 }
 
-/// Runs a node without pipes as stream 0 in the room that was made for it, in reads of at most `chunk` bytes, and
+/// Runs a node as stream 0 in the room that was made for it, in reads of at most `chunk` bytes, and
 /// prints each piece that it gives as a frame.
 pub(crate) fn run_alone<V: Device + Drop, K: Sink>(
     alloc: Global,
@@ -49,7 +48,6 @@ pub(crate) fn run_alone<V: Device + Drop, K: Sink>(
 ) -> Ran<V>
     requires room { IsRoomFor node room }
     requires first { first_of (places_of node) ≡ 0 }
-    requires plain { HasNoPipeOf node }
     requires supplied { IsSupplied V.told node devices }
     requires chunk { 1 ≤ chunk }
     requires sink { (K.told out.old).faults < 2 ^ 64 - 1 }

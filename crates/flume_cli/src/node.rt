@@ -2,7 +2,6 @@
 ghost use Rattle.std.specs.Prelude.{◌≡◌, ◌-◌, ◌^◌, ◌<◌, ◌≤◌, []};
 ghost use Rattle.chunk_core.specs.declared.code.Exit.TheVariants as exit;
 ghost use Rattle.chunk_core.specs.declared.code.How.TheVariants as how;
-ghost use Rattle.pull_turns.specs.Sizes.{HasNoPipeOf};
 ghost use Rattle.scope_tree.specs.Calls.{Closes, IsOpenScope};
 ghost use Rattle.scope_tree.specs.Trees.{Fits, seen};
 ghost use Rattle.pull_stepper.specs.Held.{Finishes};
@@ -20,7 +19,7 @@ use row_seat::RowSeat;
 use scope_tree::Tree;
 use std::alloc::Global;
 
-/// Runs a node without pipes to its end, in reads of at most `chunk` bytes, and prints each piece that it gives as
+/// Runs a node to its end, in reads of at most `chunk` bytes, and prints each piece that it gives as
 /// a frame of stream 0. Where there is no memory to begin, the root is closed.
 pub(crate) fn run_node<V: Device, S: RowSeat<Pay = Held<V>>, K: Sink>(
     alloc: Global,
@@ -32,7 +31,6 @@ pub(crate) fn run_node<V: Device, S: RowSeat<Pay = Held<V>>, K: Sink>(
     out: &mut K,
 ) -> (Ended<S, V>, Result<(), NotPut>)
     requires fits { Fits S.view S.fits tree desk.old }
-    requires plain { HasNoPipeOf node }
     requires supplied { IsSupplied V.told node devices }
     requires room { HasRoomFor (seen S.view tree) node }
     requires shelf { (seen S.view tree).shelf ≡ [] }

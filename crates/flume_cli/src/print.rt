@@ -2,7 +2,6 @@
 ghost use Rattle.std.specs.Prelude.{◌≡◌, ◌-◌, ◌^◌, ◌<◌, None, Err, length};
 ghost use Rattle.chunk_core.specs.Elements.{elements};
 ghost use Rattle.pull_turns.specs.Piping.{standing};
-ghost use Rattle.pull_turns.specs.Sizes.{HasNoPipe};
 ghost use Rattle.scope_tree.specs.Calls.{IsOpenScope};
 ghost use Rattle.pull_stepper.specs.Held.{Finishes};
 ghost use Rattle.pull_stepper.specs.Sites.{Since};
@@ -15,13 +14,12 @@ use crate::frame::{NotPut, put_load};
 use chunk_core::Load;
 use device_port::{Device, Sink};
 use pull_nodes::PipeState;
-use pull_stepper::{Held, Stepper};
-use pull_turns::Turn;
+use pull_stepper::{Held, Stepper, Turn};
 use row_seat::RowSeat;
 use std::alloc::{AllocError, Global};
 
-/// Runs a stream without pipes to its end and prints each piece as a frame of stream 0. The stream is halted where
-/// a write fails or memory is wanting.
+/// Runs a stream to its end and prints each piece as a frame of stream 0. The stream is halted where a write
+/// fails or memory is wanting.
 pub(crate) fn print_all<V: Device, S: RowSeat<Pay = Held<V>>, F: PipeState, K: Sink>(
     alloc: Global,
     stepper: &mut Stepper<S, V, F>,
@@ -29,7 +27,6 @@ pub(crate) fn print_all<V: Device, S: RowSeat<Pay = Held<V>>, F: PipeState, K: S
     out: &mut K,
 ) -> Result<(), NotPut>
     requires fits { Works S.view V.told S.fits stepper.old desk.old }
-    requires plain { HasNoPipe (stepping S.view stepper.old).rest }
     requires can { CanGo (standing F.stands F.comes) V.told (stepping S.view stepper.old) }
     requires room { (K.told out.old).faults < 2 ^ 64 - 1 }
     ensures prints { PrintsAll (standing F.stands F.comes) V.told (stepping S.view stepper.old) (stepping S.view stepper.new) (K.told out.old) (K.told out.new) result }

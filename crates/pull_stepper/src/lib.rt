@@ -45,5 +45,6 @@ pub mod stepper;
 mod tests;
 
 pub use held::Held;
+pub use pull_turns::{Turn, Unconsed};
 pub use resources::Resources;
 pub use stepper::{Ended, Stepper, Unmade};

@@ -1,6 +1,7 @@
 //! A node that is run over a tree of scopes and its devices.
 ghost use Rattle.std.specs.Prelude.{◌≡◌, ◌≤◌, None, IfErr, IfOk, OnErr};
 ghost use Rattle.pull_turns.specs.Piping.{standing};
+ghost use Rattle.pull_turns.specs.Work.{Lessens};
 ghost use Rattle.row_seat.specs.Views.{OthersFit};
 ghost use Rattle.scope_tree.specs.Calls.{IsOpenScope};
 ghost use Rattle.scope_tree.specs.Trees.{Fits, IsSound, seen};
@@ -81,6 +82,7 @@ impl<V: Device, S: RowSeat<Pay = Held<V>>, F: PipeState> Stepper<S, V, F> {
         requires fits { Works S.view V.told S.fits self.old desk.old }
         requires can { CanGo (standing F.stands F.comes) V.told (stepping S.view self.old) }
         ensures steps { IfOk result (λ t. Steps (standing F.stands F.comes) V.told (stepping S.view self.old) (stepping S.view self.new) t) }
+        ensures work { IfOk result (λ t. Lessens F.due (stepping S.view self.old).rest (stepping S.view self.new).rest t) }
         ensures wants { OnErr result (Wants V.told (stepping S.view self.old) (stepping S.view self.new)) }
         ensures fits { Works S.view V.told S.fits self.new desk.new }
         ensures since { Since V.told (Finishes V.told) (stepping S.view self.old).site (stepping S.view self.new).site }

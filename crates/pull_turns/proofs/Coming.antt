@@ -35,7 +35,7 @@ use Rattle.pull_turns.proofs.Turns.{cause_none, chunk_goes_on, done_is_no_fault,
 
 module _ {F : Type 0} (P : Standing F) (a : Around) (s n : ℕ) where
   pub faulty_step : (c : Code) → PipesFit P (Faulty c) → Turned P a a s n (Faulty c) (Faulty c) (turn.Fault c)
-  faulty_step c fit = turned_same P a s n _ _ _ (λ p i. i) (omega arith) (omega arith) (omega arith) (λ g. absurd g) (λ g. absurd g) (λ k i. tt) (λ g. absurd g) (λ f i. absurd i)
+  faulty_step c fit = turned_same P a s n _ _ _ (λ p i. i) (omega arith) (omega arith) (omega arith) (λ g. absurd g) (λ g. absurd g) (λ k i. tt) (λ g. absurd g)
       (own_cause a.told a.told (Faulty c) c fit) (λ w o. inl (refl, refl))
 
   module _ (q r : F) (fit : PipesFit P (Finishing q)) where
@@ -63,7 +63,7 @@ module _ {F : Type 0} (P : Standing F) (a : Around) (s n : ℕ) where
         turned_same P a s n _ _ _ (λ p i. i) (omega arith) (omega arith) (omega arith) (λ g. tt)
         (λ i. let g = f fit.0 fit.1 fit.2 fit.3 in (fit.0, g.2, fit.2, g.4, fit.4))
         (out_kinds o f)
-        (λ i. inr (inr (next q r (λ j ys c h. let g = f j ys c h in (elements o, g.2, g.1, g.3, g.4))))) (λ f i. absurd i)
+        (λ i. inr (inr (next q r (λ j ys c h. let g = f j ys c h in (elements o, g.2, g.1, g.3, g.4)))))
         (cause_none a.told a.told _ _ (chunk_goes_on o)) (
           omega (arith, e),
           λ w d. record {
@@ -76,12 +76,12 @@ module _ {F : Type 0} (P : Standing F) (a : Around) (s n : ℕ) where
     failed_step : (o : Load) (d : Code) → Answered (fed.Fault o d) → (k : ℕ) → length (elements o) ≡ k
         → Turned P a a s n (Finishing q) (after_pipe (same_or_faulty k d) (Finishing r)) (load_or_fault k o d)
     failed_step o d f zero e =
-        turned_same P a s n _ _ _ (λ p i. i) (omega arith) (omega arith) (omega arith) (λ i. absurd i) (λ i. absurd i) (λ k i. tt) (λ i. absurd i) (λ f i. absurd i)
+        turned_same P a s n _ _ _ (λ p i. i) (omega arith) (omega arith) (omega arith) (λ i. absurd i) (λ i. absurd i) (λ k i. tt) (λ i. absurd i)
         (own_cause a.told a.told (Finishing q) d (fault_own o d f))
         (λ w i k xs c h. let g = f k xs c h in inl (sym (g.1 ∙ no_length (elements o) e), ap (λ g. end_by_fault g Done) (sym g.2)))
     failed_step o d f (suc k) e =
         turned_same P a s n _ _ _ (λ p i. i) (omega arith) (omega arith) (omega arith) (λ i. tt) (λ i. fault_own o d f) (λ k i. (fault_kinds o d f (omega (arith, e)) k i, tt))
-        (λ i. inr (inr (last q d (λ j ys c h. let g = f j ys c h in (subst (λ zs. 0 < length zs) (sym g.1) (omega (arith, e)), g.2))))) (λ f i. absurd i)
+        (λ i. inr (inr (last q d (λ j ys c h. let g = f j ys c h in (subst (λ zs. 0 < length zs) (sym g.1) (omega (arith, e)), g.2)))))
         (cause_none a.told a.told _ _ (chunk_goes_on o)) (
           omega (arith, e),
           λ w i. record {
@@ -96,7 +96,7 @@ module _ {F : Type 0} (P : Standing F) (a : Around) (s n : ℕ) where
 
     end_step : Answered fed.End → Turned P a a s n (Finishing q) (Finishing r) turn.Done
     end_step f =
-        turned_same P a s n _ _ _ (λ p i. i) (omega arith) (omega arith) (omega arith) (λ i. absurd i) (λ i. absurd i) (λ k i. tt) (λ i. absurd i) (λ f i. absurd i)
+        turned_same P a s n _ _ _ (λ p i. i) (omega arith) (omega arith) (omega arith) (λ i. absurd i) (λ i. absurd i) (λ k i. tt) (λ i. absurd i)
         (cause_none a.told a.told _ _ done_is_no_fault) (λ w i k xs c h. let g = f k xs c h in inl (sym g.0, ap (λ g. end_by_fault g Done) (sym g.1)))
 
     more_by : (answer : Fed) → Answered answer → Turned P a a s n (Finishing q) (after_pipe (after_fed answer after.Finishing) (Finishing r)) (turn_of_fed answer)
@@ -121,7 +121,7 @@ pub through_enter : {F : Type 0} (P : Standing F) (sound : (q : F) → IsSound (
 through_enter P sound a s n p r x pipe q h of = turned_same P a s n _ _ _ (λ k i. i) (omega arith) (omega arith) (omega arith) (λ g. (h.ready, tt))
     (λ g. (h.pipes.0, (pipe, h.pipes.1.0, [], h.pipes.1.1, of h.pipes.1.0 h.pipes.1.1, h.pipes.1.2)))
     (λ k. elim [ inl i ↦ inl (i.0, [], of i.0 i.1, i.2, i.3) | inr i ↦ inr (i.0, (i.1.0, of i.1.0 i.1.1, i.1.2)) ])
-    (λ g. inl (omega arith)) (λ f i. omega arith) (cause_none a.told a.told _ _ quiet_goes_on)
+    (λ g. inl (omega arith)) (cause_none a.told a.told _ _ quiet_goes_on)
     (λ w o. record {
       gives = λ ys e run.
           let m = h.pipes.1.0 in

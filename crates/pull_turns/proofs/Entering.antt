@@ -36,24 +36,24 @@ none_left (Some c) = omega arith
 
 module _ {F : Type 0} (P : Standing F) where
   pub nil_enter : (a : Around) (s n : ℕ) → Turned P a a s n (Start node.Nil) Nil turn.Done
-  nil_enter a s n = turned_same P a s n _ _ _ (λ p i. i) (omega arith) (omega arith) (omega arith) (λ g. absurd g) (λ g. absurd g) (λ k h. tt) (λ g. absurd g) (λ f i. absurd i)
+  nil_enter a s n = turned_same P a s n _ _ _ (λ p i. i) (omega arith) (omega arith) (omega arith) (λ g. absurd g) (λ g. absurd g) (λ k h. tt) (λ g. absurd g)
       (cause_none a.told a.told _ _ done_is_no_fault) (λ w o. inl (refl, refl))
 
   pub emit_enter : (a : Around) (s n : ℕ) (l : Load) (k : ℕ) → k ≡ length (elements l) → Turned P a a s n (Start (node.Emit l)) Nil (load_or_quiet k l)
-  emit_enter a s n l zero e = turned_same P a s n _ _ _ (λ p i. i) (omega arith) (omega arith) (omega arith) (λ g. tt) (λ g. tt) (λ k h. tt) (λ g. inl (omega arith)) (λ f i. omega arith)
+  emit_enter a s n l zero e = turned_same P a s n _ _ _ (λ p i. i) (omega arith) (omega arith) (omega arith) (λ g. tt) (λ g. tt) (λ k h. tt) (λ g. inl (omega arith))
       (cause_none a.told a.told _ _ quiet_goes_on)
       (λ w o. by_left (record { gives = λ ys g h. (h.0 ∙ sym (no_length (elements l) (sym e)), h.1) }) ([], Done, (refl, refl)))
-  emit_enter a s n l (suc k) e = turned_same P a s n _ _ _ (λ p i. i) (omega arith) (omega arith) (omega arith) (λ g. tt) (λ g. tt) (λ k h. (h, tt)) (λ g. inl (omega arith)) (λ f i. absurd i)
+  emit_enter a s n l (suc k) e = turned_same P a s n _ _ _ (λ p i. i) (omega arith) (omega arith) (omega arith) (λ g. tt) (λ g. tt) (λ k h. (h, tt)) (λ g. inl (omega arith))
       (cause_none a.told a.told _ _ (chunk_goes_on l))
       (omega (arith, e), λ w o. by_left (record { gives = λ ys g h. (ap (λ zs. elements l ++ zs) h.0 ∙ append-nil (elements l), h.1) }) ([], Done, (refl, refl)))
 
   pub raise_enter : (a : Around) (s n c : ℕ) → Turned P a a s n (Start (node.Raise c)) Nil (turn.Fault (code.Raised c))
-  raise_enter a s n c = turned_same P a s n _ _ _ (λ p i. i) (omega arith) (omega arith) (omega arith) (λ g. absurd g) (λ g. absurd g) (λ k h. tt) (λ g. absurd g) (λ f i. absurd i)
+  raise_enter a s n c = turned_same P a s n _ _ _ (λ p i. i) (omega arith) (omega arith) (omega arith) (λ g. absurd g) (λ g. absurd g) (λ k h. tt) (λ g. absurd g)
       (record { open_fault = λ e. absurd (raised_is_no_open c e); read_fault = λ e. absurd (raised_is_no_read c e) }) (λ w o. inl (refl, refl))
 
   pub read_enter : (a : Around) (s n p : ℕ) → CanStep P a s (Start (node.Read p)) → Turned P a a s n (Start (node.Read p)) (Read p 0) turn.Quiet
   read_enter a s n p h = turned_same P a s n _ _ _ (λ p i. i) (omega arith) (omega arith) (omega arith)
-      (λ g. (h.ready.0, h.ready.1, omega arith, none_left (a.told p).content, elim h.ready.2 [ inl i ↦ absurd i | inr i ↦ i ])) (λ g. tt) (λ k i. i) (λ g. inl (omega arith)) (λ f i. omega arith)
+      (λ g. (h.ready.0, h.ready.1, omega arith, none_left (a.told p).content, elim h.ready.2 [ inl i ↦ absurd i | inr i ↦ i ])) (λ g. tt) (λ k i. i) (λ g. inl (omega arith))
       (cause_none a.told a.told _ _ quiet_goes_on)
       (λ w o. by_left (reads_start (w p).content (w p)) (some_run (w p).content 0 (w p) (omega arith)))
 
@@ -74,7 +74,6 @@ module _ {F : Type 0} (P : Standing F) where
         pipes = λ g. h.pipes;
         kinds = λ k i. i;
         caused = inl (omega arith);
-        quiet = λ f i. omega arith;
         cause = cause_none a.told b.told _ _ quiet_goes_on;
         gave = λ w e. record { gives = λ ys g i. inl (inl ((e.goes p).opens opens, i)) };
       }
@@ -96,7 +95,6 @@ module _ {F : Type 0} (P : Standing F) where
         pipes = λ g. absurd g;
         kinds = λ k i. tt;
         caused = tt;
-        quiet = λ f i. absurd i;
         cause = record { open_fault = λ e. (p, inl refl, omega (arith, risen)); read_fault = λ e. absurd (open_is_no_read e) };
         gave = λ w o. inl (inr (omega (arith, risen, ap (λ (d : DeviceTold). d.open_faults) (o.over p (inl refl))), refl, refl, idle w x));
       }
@@ -113,21 +111,20 @@ module _ {F : Type 0} (P : Standing F) where
     pipes = λ g. h.pipes;
     kinds = λ k i. i;
     caused = inl (omega arith);
-    quiet = λ f i. omega arith;
     cause = cause_none a.told b.told _ _ quiet_goes_on;
     gave = λ w e. record { gives = λ ys g i. i };
   }
 
   pub append_enter : (a : Around) (s n : ℕ) (p q r : Box (Unit {0}) Global) (b : Box Node Global) (x : Node) → CanStep P a s (Start (node.Append' p x q b.value)) → Turned P a a s n (Start (node.Append' p x q b.value)) (Append' r (Start x) b) turn.Quiet
   append_enter a s n p q r b x h = turned_same P a s n _ _ _ (λ p i. i) (omega arith)
-      (omega (arith, length-append (places_of x) (places_of b.value))) (omega arith) (λ g. h.ready) (λ g. h.pipes) (λ k i. i) (λ g. inl (omega arith)) (λ f i. omega arith)
+      (omega (arith, length-append (places_of x) (places_of b.value))) (omega arith) (λ g. h.ready) (λ g. h.pipes) (λ k i. i) (λ g. inl (omega arith))
       (cause_none a.told a.told _ _ quiet_goes_on) (λ w o. record { gives = λ ys g i. i })
 
   pub guard_enter : (a : Around) (s n : ℕ) (p q r : Box (Unit {0}) Global) (b : Box Node Global) (x : Node) → CanStep P a s (Start (node.OnFault' p x q b.value)) → Turned P a a s n (Start (node.OnFault' p x q b.value)) (OnFault' r (Start x) b) turn.Quiet
   guard_enter a s n p q r b x h = turned_same P a s n _ _ _ (λ p i. i) (omega arith)
-      (omega (arith, length-append (places_of x) (places_of b.value))) (omega arith) (λ g. h.ready) (λ g. h.pipes) (λ k i. i) (λ g. inl (omega arith)) (λ f i. omega arith)
+      (omega (arith, length-append (places_of x) (places_of b.value))) (omega arith) (λ g. h.ready) (λ g. h.pipes) (λ k i. i) (λ g. inl (omega arith))
       (cause_none a.told a.told _ _ quiet_goes_on) (λ w o. record { gives = λ ys g i. i })
 
   pub take_enter : (a : Around) (s n m : ℕ) (p r : _) (x : Node) → CanStep P a s (Start (node.Take' m p x)) → Turned P a a s n (Start (node.Take' m p x)) (Take' m r (Start x)) turn.Quiet
-  take_enter a s n m p r x h = turned_same P a s n _ _ _ (λ p i. i) (omega arith) (omega arith) (omega arith) (λ g. (h.ready, tt)) (λ g. h.pipes) (λ k i. i) (λ g. inl (omega arith)) (λ f i. omega arith)
+  take_enter a s n m p r x h = turned_same P a s n _ _ _ (λ p i. i.1) (omega arith) (omega arith) (omega arith) (λ g. (h.ready, tt)) (λ g. h.pipes) (λ k i. i) (λ g. inl (omega arith))
       (cause_none a.told a.told _ _ quiet_goes_on) (λ w o. record { gives = λ ys g i. i })

@@ -57,7 +57,7 @@ module _ {F : Type 0} (P : Standing F) where
       (λ i. (r.ready.0, h.some, r.ready.2, r.ready.3)) (λ i. r.pipes)
       (λ j i. (h.kind ∙ i.0, (subst (λ c. IsOfKind c g) i.0 h.kinds, i.1)))
       (inr (group k p q x l g (sym (whole_load k l m g h))))
-      (λ f i. absurd f) (cause_none a.told a.told _ _ (chunk_goes_on m)) (
+      (cause_none a.told a.told _ _ (chunk_goes_on m)) (
         some_group k l m g r.ready.0 r.ready.1 h,
         λ w e. leads_on w x x (elements m) (waiting g) (elements l) [] (whole_load k l m g h ∙ sym (append-nil (elements l))) (record { gives = λ ys d i. i }),
       )
@@ -77,7 +77,6 @@ module _ {F : Type 0} (P : Standing F) where
       kinds = λ j i. kinds j i.1;
       caused = by_three P a.told b.told (Groups' k None p x) (Groups' k g q new) u
           (λ i. caused_part P a.told b.told x new (Groups' k None p x) (Groups' k g q new) (λ l. omega (arith, l)) (λ r j. j) (λ e. grouped k p q x new None g e) (one_of_three P a.told b.told x new t plain h.caused (on i)));
-      quiet = λ f i. absurd f;
       cause = cause_part a.told b.told x (Groups' k None p x) u (λ r i. i) cause;
       gave = gave;
     }
@@ -123,7 +122,6 @@ module _ {F : Type 0} (P : Standing F) (a : Around) (s n : ℕ) (p r : Box (Unit
     pipes = λ i. h.pipes i;
     kinds = λ j i. (tt, h.kinds j i);
     caused = inl (omega arith);
-    quiet = λ f i. absurd f;
     cause = h.cause;
     gave = λ w e. left_once (IsRunOfRest P w (Through' r (Start x) q)) (Gives OrLeft w (node.Through' p x pipe)) (h.gave w (record { over = e.over; goes = e.goes }));
   }

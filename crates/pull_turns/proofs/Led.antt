@@ -81,7 +81,6 @@ module _ {F : Type 0} (P : Standing F) {O : Type 0} (seen : O → Around) (a : A
     kinds = h.kinds;
     caused = h.caused;
     grouped = q;
-    quiet = h.quiet;
     cause = h.cause;
     gave = h.gave;
   })
@@ -109,7 +108,6 @@ module _ {F : Type 0} (P : Standing F) {O : Type 0} (seen : O → Around) (a : A
     kinds = h.kinds;
     caused = by_three P a.told (seen z).told old new t (λ i. absurd (never i));
     grouped = q;
-    quiet = h.quiet;
     cause = cause_on a.told (seen y).told (seen z).told old old t (λ p i. i) e.told h.cause;
     gave = g;
   }

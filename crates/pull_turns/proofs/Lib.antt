@@ -15,4 +15,5 @@ pub mod Grouped
 pub mod Scoped
 pub mod Excluded
 pub mod Led
+pub mod Work
 pub mod Sized

@@ -57,7 +57,6 @@ module _ {F : Type 0} (P : Standing F) (sound : (q : F) → IsSound (P.stands q)
     pipes = pipes;
     kinds = kinds;
     caused = by_three P a.told b.told (Through' p x q) z u caused;
-    quiet = λ f i. absurd f;
     cause = cause_part a.told b.told x (Through' p x q) u (λ k i. i) cause;
     gave = gave;
   }

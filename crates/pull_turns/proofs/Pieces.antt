@@ -152,7 +152,6 @@ module _ {F : Type 0} (P : Standing F) where
     pipes = λ g. tt;
     kinds = kinds;
     caused = by_three P a.told b.told (Read p from) (Read p to) t caused;
-    quiet = λ f i. absurd (never i);
     cause = cause;
     gave = gave;
   }

@@ -14,7 +14,7 @@ use Rattle.pull_turns.specs.Groups.GaveGroup.{group_within, group_first, group_g
 use Rattle.pull_turns.specs.Piping.{Standing, HasKind}
 use Rattle.pull_turns.specs.Rest.{CanStep, IsLive, IsRunOfRest}
 use Rattle.pull_turns.specs.Turned.HasFinished.{within, first, guarded, taken}
-use Rattle.pull_turns.specs.Turned.{Leads, Ends, Over, Moved, Turned, Gave, GivesKind, GoesOn, HasCause, IsQuiet}
+use Rattle.pull_turns.specs.Turned.{Leads, Ends, Over, Moved, Turned, Gave, GivesKind, GoesOn, HasCause}
 use Rattle.pull_turns.specs.Moves.{is_done, is_fault, append_turn, guard_turn, TakenOf, LeavesAtEnd}
 use Rattle.pull_turns.specs.declared.rest.Rest.{Rest}
 use Rattle.pull_turns.specs.declared.rest.Rest.TheVariants.{Nil, Start, Within', Append', OnFault', Through', Take'}
@@ -37,9 +37,13 @@ take_none : (k : ℕ) → ◌≡◌ {A = List Element} [] (take k [])
 take_none zero = refl
 take_none (suc k) = refl
 
+-- what was touched below a take that still wants something
+pub taken_moved : {F : Type 0} (a b : Around) (s k : ℕ) (p : Box (Unit {0}) Global) (x : Rest F) → 0 < k → Moved a b s x → Moved a b s (Take' k p x)
+taken_moved a b s k p x some h = moved_part a b s s x (Take' k p x) (omega arith) (λ r i. (some, i)) h
+
 module _ {F : Type 0} (P : Standing F) where
   pub nil_step : (a : Around) (s n : ℕ) → Turned P a a s n Nil Nil turn.Done
-  nil_step a s n = turned_same P a s n _ _ _ (λ p i. i) (omega arith) (omega arith) (omega arith) (λ g. absurd g) (λ g. absurd g) (λ k h. tt) (λ g. absurd g) (λ f i. absurd i)
+  nil_step a s n = turned_same P a s n _ _ _ (λ p i. i) (omega arith) (omega arith) (omega arith) (λ g. absurd g) (λ g. absurd g) (λ k h. tt) (λ g. absurd g)
       (cause_none a.told a.told _ _ done_is_no_fault) (λ w o. inl (refl, refl))
 
   pub can_first : (a : Around) (s : ℕ) (p b : _) (x : Rest F) → CanStep P a s (Append' p x b) → CanStep P a s x
@@ -76,7 +80,6 @@ module _ {F : Type 0} (P : Standing F) where
         pipes = λ i. (h.pipes i, r.pipes.1);
         kinds = kinds;
         caused = caused_whole P a.told b.told x new (Append' p x m) (Append' q new m) t (λ l. omega (arith, l)) (λ k j. inl j) (λ f. first p q x new m f) (λ xs f. group_first p q x new m f) h.caused;
-        quiet = λ f i. omega (arith, h.quiet f.0 i);
         cause = cause_part a.told b.told x (Append' p x m) t (λ k i. inl i) h.cause;
         gave = g;
       }
@@ -94,7 +97,6 @@ module _ {F : Type 0} (P : Standing F) where
         pipes = λ i. r.pipes.1;
         kinds = λ k i. i.1;
         caused = inl (omega arith);
-        quiet = λ f i. omega arith;
         cause = cause_none a.told b.told _ _ quiet_goes_on;
         gave = g;
       }
@@ -128,7 +130,6 @@ module _ {F : Type 0} (P : Standing F) where
         pipes = λ i. (h.pipes i, r.pipes.1);
         kinds = kinds;
         caused = caused_whole P a.told b.told x new (OnFault' p x m) (OnFault' q new m) t (λ l. omega (arith, l)) (λ k j. inl j) (λ f. guarded p q x new m f) (λ xs f. group_guarded p q x new m f) h.caused;
-        quiet = λ f i. omega (arith, h.quiet f.0 i);
         cause = cause_part a.told b.told x (OnFault' p x m) t (λ k i. inl i) h.cause;
         gave = g;
       }
@@ -146,7 +147,6 @@ module _ {F : Type 0} (P : Standing F) where
         pipes = λ i. r.pipes.1;
         kinds = λ k i. i.1;
         caused = inl (omega arith);
-        quiet = λ f i. omega arith;
         cause = cause_none a.told b.told _ _ quiet_goes_on;
         gave = g;
       }
@@ -174,7 +174,6 @@ module _ {F : Type 0} (P : Standing F) where
       pipes = λ i. h.pipes i;
       kinds = kinds;
       caused = caused_whole P a.told (seen y).told x new (Within' c p x) (Within' c q new) t (λ l. omega (arith, l)) (λ k j. j) (λ f. within c p q x new f) (λ xs f. group_within c p q x new f) h.caused;
-      quiet = λ f i. omega (arith, h.quiet f i);
       cause = cause_part a.told (seen y).told x (Within' c p x) t (λ k i. i) h.cause;
       gave = g;
     })
@@ -199,7 +198,6 @@ module _ {F : Type 0} (P : Standing F) where
           pipes = λ i. absurd (never i);
           kinds = kinds;
           caused = by_three P a.told (seen z).told (Within' c p x) (Within' c q new) t (λ i. absurd (never i));
-          quiet = λ f i. omega (arith, h.quiet f i);
           cause = cause_on a.told (seen y).told (seen z).told x (Within' c p x) t (λ k i. i) same h.cause;
           gave = g;
         }
@@ -218,21 +216,26 @@ module _ {F : Type 0} (P : Standing F) where
     within_step (turn.Fault d) e h = ends (turn.Fault d) Errored (λ i. i) e h (λ k i. tt) (λ w o. inl (h.gave w (over_part Errored e w o)))
 
   -- a taker is left with m elements to take
-  module _ (a b : Around) (s n k m : ℕ) (p q : Box (Unit {0}) Global) (x new : Rest F) (plain : HasNoGroups x) (still : HasNoGroups new) where
-    taking : (t u : Turn) → (GoesOn u → GoesOn t) → (IsQuiet u → IsQuiet t) → HasCause a.told b.told x u → ((k : LoadKind) → HasKind P k x → GivesKind P k (Take' m q new) u) → Turned P a b s n x new t → Gave P b.told (Take' k p x) (Take' m q new) u → Turned P a b s n (Take' k p x) (Take' m q new) u
-    taking t u f quiet c kinds h g = record {
-      moved = record { keeps = h.moved.keeps; goes = h.moved.goes };
+  module _ (a b : Around) (s n k m : ℕ) (p q : Box (Unit {0}) Global) (x new : Rest F) (plain : HasNoGroups x) (still : HasNoGroups new) (some : 0 < k) where
+    ends_taken : (w : ℕ → DeviceTold) (j : ℕ) → Ends b.told w (Take' k p x) (Take' j q new) → Ends b.told w x new
+    ends_taken w j e = record { over = λ r i never. e.over r (some, i) (λ l. never l.1); goes = e.goes }
+
+    over_taken : (w : ℕ → DeviceTold) → Over b.told w (Take' k p x) → Over b.told w x
+    over_taken w o = record { over = λ r i. o.over r (some, i); goes = o.goes }
+
+    taking : (t u : Turn) → (GoesOn u → GoesOn t) → HasCause a.told b.told x u → ((k : LoadKind) → HasKind P k x → GivesKind P k (Take' m q new) u) → Turned P a b s n x new t → Gave P b.told (Take' k p x) (Take' m q new) u → Turned P a b s n (Take' k p x) (Take' m q new) u
+    taking t u f c kinds h g = record {
+      moved = taken_moved a b s k p x some h.moved;
       once = h.once;
-      live = h.live;
+      live = λ r i. (some, h.live r i.1);
       fewer = omega (arith, h.fewer);
       spends = record { events = h.spends.events; scopes = h.spends.scopes; rows = h.spends.rows };
       ready = λ i. (h.ready (f i), still);
       pipes = λ i. h.pipes (f i);
       kinds = kinds;
       caused = by_three P a.told b.told (Take' k p x) (Take' m q new) u
-          (λ i. caused_part P a.told b.told x new (Take' k p x) (Take' m q new) (λ l. omega (arith, l)) (λ r j. j) (λ e. taken k m p q x new e) (one_of_three P a.told b.told x new t plain h.caused (f i)));
-      quiet = λ e i. omega (arith, h.quiet e (quiet i));
-      cause = cause_part a.told b.told x (Take' k p x) u (λ r i. i) c;
+          (λ i. caused_part P a.told b.told x new (Take' k p x) (Take' m q new) (λ l. omega (arith, l)) (λ r j. (some, j)) (λ e. taken k m p q x new e) (one_of_three P a.told b.told x new t plain h.caused (f i)));
+      cause = cause_part a.told b.told x (Take' k p x) u (λ r i. (some, i)) c;
       gave = g;
     }
 
@@ -240,20 +243,20 @@ module _ {F : Type 0} (P : Standing F) where
     pub take_step : (t u : Turn) → TakenOf k m t u → Turned P a b s n x new t → Turned P a b s n (Take' k p x) (Take' m q new) u
     take_step (turn.Chunk l) (turn.Chunk j) e h =
         let long : 0 < length (elements j) = omega (arith, ap length e.0, length-take k (elements l), h.gave.0, some) in
-        taking a b s n k m p q x new plain still (turn.Chunk l) (turn.Chunk j) (λ i. i) (λ i. i) (cause_none a.told b.told x (turn.Chunk j) (chunk_goes_on j))
+        taking a b s n k m p q x new plain still some (turn.Chunk l) (turn.Chunk j) (λ i. i) (cause_none a.told b.told x (turn.Chunk j) (chunk_goes_on j))
         (λ i c. let d = h.kinds i c in (e.2 ∙ d.0, d.1)) h (
           long,
           λ w o.
-              rw (e.0, e.1) (by_left (by_taken k (h.gave.1 w (record { over = o.over; goes = o.goes }))) (taken_stops (k - length (elements l)) (can_stop P w new))),
+              rw (e.0, e.1) (by_left (by_taken k (h.gave.1 w (ends_taken a b s n k m p q x new plain still some w m o))) (taken_stops (k - length (elements l)) (can_stop P w new))),
         )
     take_step (turn.Chunk l) turn.Quiet e h = absurd e
     take_step (turn.Chunk l) turn.Done e h = absurd e
     take_step (turn.Chunk l) (turn.Fault c) e h = absurd e
-    take_step turn.Quiet u e h = rw (e.0, e.1) (taking a b s n k k p q x new plain still turn.Quiet turn.Quiet (λ i. i) (λ i. i) h.cause h.kinds h (λ w o. by_left (by_taken_none k (h.gave w (record { over = o.over; goes = o.goes }))) (taken_stops k (can_stop P w new))))
-    take_step turn.Done u e h = rw (e.0, e.1) (taking a b s n k k p q x new plain still turn.Done turn.Done (λ i. i) (λ i. i) h.cause (λ i c. tt) h (λ w o. inl ([], Done, h.gave w (record { over = o.over; goes = o.goes }), inr (some, refl, refl))))
-    take_step (turn.Fault c) u e h = rw (e.0, e.1) (taking a b s n k k p q x new plain still (turn.Fault c) (turn.Fault c) (λ i. i) (λ i. i) h.cause (λ i d. tt) h (λ w o. inl ([], Fault c, h.gave w (record { over = o.over; goes = o.goes }), inr (some, refl, refl))))
+    take_step turn.Quiet u e h = rw (e.0, e.1) (taking a b s n k k p q x new plain still some turn.Quiet turn.Quiet (λ i. i) h.cause h.kinds h (λ w o. by_left (by_taken_none k (h.gave w (ends_taken a b s n k k p q x new plain still some w k o))) (taken_stops k (can_stop P w new))))
+    take_step turn.Done u e h = rw (e.0, e.1) (taking a b s n k k p q x new plain still some turn.Done turn.Done (λ i. i) h.cause (λ i c. tt) h (λ w o. inl ([], Done, h.gave w (over_taken a b s n k k p q x new plain still some w o), inr (some, refl, refl))))
+    take_step (turn.Fault c) u e h = rw (e.0, e.1) (taking a b s n k k p q x new plain still some (turn.Fault c) (turn.Fault c) (λ i. i) h.cause (λ i d. tt) h (λ w o. inl ([], Fault c, h.gave w (over_taken a b s n k k p q x new plain still some w o), inr (some, refl, refl))))
 
   pub take_over : (a : Around) (s n k : ℕ) (p : _) (x : Rest F) → k ≡ 0 → Turned P a a s n (Take' k p x) (Take' k p x) turn.Done
-  take_over a s n k p x z = turned_same P a s n _ _ _ (λ q i. i) (omega arith) (omega arith) (omega arith) (λ g. absurd g) (λ g. absurd g) (λ j h. tt) (λ g. absurd g) (λ f i. absurd i)
+  take_over a s n k p x z = turned_same P a s n _ _ _ (λ q i. i) (omega arith) (omega arith) (omega arith) (λ g. absurd g) (λ g. absurd g) (λ j h. tt) (λ g. absurd g)
       (cause_none a.told a.told _ _ done_is_no_fault)
       (λ w o. inl ([], Cut, can_stop P w x, inl (omega (arith, z), take_none k, refl)))

@@ -11,8 +11,7 @@ use Rattle.pull_turns.specs.Groups.{GaveGroup, HasNoGroups}
 use Rattle.pull_turns.specs.Groups.GaveGroup.{group, group_within, group_first, group_guarded}
 use Rattle.pull_turns.specs.Piping.{Standing, HasKind, PipesFit}
 use Rattle.pull_turns.specs.Rest.{IsLive, IsReady, left, rows_left, scopes_left}
-use Rattle.pull_turns.specs.Turned.{HasFinished, Moved, ReadsOnce, HasCause, Turned, Gave, GivesKind, GoesOn, IsCaused, IsCausedBy, IsQuiet}
-use Rattle.pull_turns.specs.Sizes.{HasNoPipe}
+use Rattle.pull_turns.specs.Turned.{HasFinished, Moved, ReadsOnce, HasCause, Turned, Gave, GivesKind, GoesOn, IsCaused, IsCausedBy}
 use Rattle.pull_turns.specs.declared.rest.Rest.{Rest}
 use Rattle.pull_turns.specs.declared.turn.Turn.{Turn}
 use Rattle.pull_turns.specs.declared.turn.Turn.TheVariants as turn
@@ -99,8 +98,8 @@ one_of_three P a b x new (turn.Fault c) none h g = absurd g
 pub turned_by : {F : Type 0} (P : Standing F) (a : Around) (s n : ℕ) (old new : Rest F) (t : Turn) → ((p : ℕ) → IsLive p new → IsLive p old) → left new ≤ left old
     → rows_left new ≤ rows_left old → scopes_left new ≤ scopes_left old → (GoesOn t → IsReady a s new) → (GoesOn t → PipesFit P new)
     → ((k : LoadKind) → HasKind P k old → GivesKind P k new t) → IsCausedBy P a.told a.told old new t
-    → (HasNoPipe old → IsQuiet t → left new < left old) → HasCause a.told a.told old t → Gave P a.told old new t → Turned P a a s n old new t
-turned_by P a s n old new t live fewer rows scopes ready pipes kinds caused quiet cause gave = record {
+    → HasCause a.told a.told old t → Gave P a.told old new t → Turned P a a s n old new t
+turned_by P a s n old new t live fewer rows scopes ready pipes kinds caused cause gave = record {
   moved = moved_same a s old;
   once = once_same a.told a.told n (λ q. refl) (λ q. refl);
   live = live;
@@ -110,7 +109,6 @@ turned_by P a s n old new t live fewer rows scopes ready pipes kinds caused quie
   pipes = pipes;
   kinds = kinds;
   caused = caused;
-  quiet = quiet;
   cause = cause;
   gave = gave;
 }
@@ -119,9 +117,9 @@ turned_by P a s n old new t live fewer rows scopes ready pipes kinds caused quie
 pub turned_same : {F : Type 0} (P : Standing F) (a : Around) (s n : ℕ) (old new : Rest F) (t : Turn) → ((p : ℕ) → IsLive p new → IsLive p old) → left new ≤ left old
     → rows_left new ≤ rows_left old → scopes_left new ≤ scopes_left old → (GoesOn t → IsReady a s new) → (GoesOn t → PipesFit P new)
     → ((k : LoadKind) → HasKind P k old → GivesKind P k new t) → (GoesOn t → IsCaused P a.told a.told old new)
-    → (HasNoPipe old → IsQuiet t → left new < left old) → HasCause a.told a.told old t → Gave P a.told old new t → Turned P a a s n old new t
-turned_same P a s n old new t live fewer rows scopes ready pipes kinds caused quiet cause gave =
-    turned_by P a s n old new t live fewer rows scopes ready pipes kinds (by_three P a.told a.told old new t caused) quiet cause gave
+    → HasCause a.told a.told old t → Gave P a.told old new t → Turned P a a s n old new t
+turned_same P a s n old new t live fewer rows scopes ready pipes kinds caused cause gave =
+    turned_by P a s n old new t live fewer rows scopes ready pipes kinds (by_three P a.told a.told old new t caused) cause gave
 
 -- what caused a turn of a part caused the turn of the whole
 pub caused_part : {F : Type 0} (P : Standing F) (a b : ℕ → DeviceTold) (x new y z : Rest F) → (left new < left x → left z < left y) → ((p : ℕ) → IsLive p x → IsLive p y)

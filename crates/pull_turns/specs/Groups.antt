@@ -1,5 +1,5 @@
 -- Groups: the loads of a pipe that gives groups leave the run group by group, where no step stands above it. A step gets each load whole.
-use Rattle.std.specs.Prelude.{◌≡◌, ℕ, ◌<◌, ◌≤◌, Bool, true, false, List, [], ◌++◌, take, drop, length, Option, Some, None, IfSome, Box}
+use Rattle.std.specs.Prelude.{◌≡◌, ℕ, ◌<◌, ◌≤◌, ◌^◌, Bool, true, false, List, [], ◌++◌, take, drop, length, Option, Some, None, IfSome, Box}
 use Rattle.std.specs.Global.{Global}
 use Rattle.chunk_core.specs.declared.load.Load.{Load}
 use Rattle.chunk_core.specs.Elements.{Element, LoadKind, elements, kind_of}
@@ -34,6 +34,7 @@ pub record IsFirstGroup (n : ℕ) (l group : Load) (rest : Option Load) : Type 0
   pub kind : kind_of group ≡ kind_of l
   pub some : HasElements rest
   pub kinds : IsOfKind (kind_of l) rest
+  pub few : length (waiting rest) < 2 ^ 64
 
 -- of a load the first group is given, and the others wait; all else is passed on
 abbrev pub GroupedOf : ℕ → Option Load → Option Load → Turn → Turn → Type 0

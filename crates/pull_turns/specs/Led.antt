@@ -10,10 +10,9 @@ use Rattle.pull_turns.specs.Around.{Around, Goes, IsClosedWith, gist}
 use Rattle.pull_turns.specs.Groups.{Grouped, IsGrouped}
 use Rattle.pull_turns.specs.Piping.{Standing, HasKind}
 use Rattle.pull_turns.specs.Rest.{IsRunOfRest, IsLive, CanStep, left}
-use Rattle.pull_turns.specs.Turned.{Leads, Ends, Over, ReadsOnce, HasCause, Gave, GivesKind, GoesOn, IsCausedBy, IsQuiet, Spends}
+use Rattle.pull_turns.specs.Turned.{Leads, Ends, Over, ReadsOnce, HasCause, Gave, GivesKind, GoesOn, IsCausedBy, Spends}
 use Rattle.pull_turns.specs.Moves.{how_of}
 use Rattle.pull_turns.specs.Scoped.{ClosesAtEnd, Scoped}
-use Rattle.pull_turns.specs.Sizes.{HasNoPipe}
 use Rattle.pull_turns.specs.declared.rest.Rest.{Rest}
 use Rattle.pull_turns.specs.declared.turn.Turn.{Turn}
 use Rattle.pull_turns.specs.declared.turn.Turn.TheVariants as turn
@@ -63,7 +62,6 @@ module _ {F : Type 0} (P : Standing F) where
     pub scoped : Scoped P before now 0 old new t
     pub kinds : (k : LoadKind) → HasKind P k old → GivesKind P k new t
     pub caused : IsCausedBy P before.told now.told old new t
-    pub quiet : HasNoPipe old → IsQuiet t → left new < left old
     pub grouped : Grouped old new t
     pub cause : HasCause before.told now.told old t
     pub gave : Gave P now.told old new t

@@ -7,4 +7,5 @@ pub mod Moves
 pub mod Passing
 pub mod Scoped
 pub mod Led
+pub mod Work
 pub mod Sizes

@@ -77,7 +77,7 @@ IsAsked p (node.OnFault' _ a _ b) = IsAsked p a ⊎ IsAsked p b
 IsAsked p (node.Through' _ a q) = IsAsked p a
 IsAsked p (node.Take' n _ a) = IsAsked p a
 
--- the place is acquired or read in what is left
+-- the place is acquired or read in what is left; what is below a take that has all it wants is asked no more
 abbrev pub IsLive : {F : Type 0} → ℕ → Rest F → Type 0
 IsLive p Nil = ⊥
 IsLive p (Start n) = IsIn p n
@@ -89,7 +89,7 @@ IsLive p (Through' _ a q) = IsLive p a
 IsLive p (Finishing q) = ⊥
 IsLive p (Faulty c) = ⊥
 IsLive p (Groups' n f _ a) = IsLive p a
-IsLive p (Take' n _ a) = IsLive p a
+IsLive p (Take' n _ a) = (0 < n) × IsLive p a
 
 -- the place is held by the scope s or an earlier one
 abbrev pub IsHeldBy : Around → ℕ → ℕ → Type 0

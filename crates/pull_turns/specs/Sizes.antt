@@ -1,9 +1,8 @@
--- How much may still come where no pipe is on the way, and in pieces of which size. A pipe may give more than it gets.
-use Rattle.std.specs.Prelude.{ℕ, ◌+◌, ◌-◌, ◌^◌, ◌≤◌, max, List, [], length}
+-- In pieces of which size elements come where no pipe is on the way. A pipe may give more than it gets.
+use Rattle.std.specs.Prelude.{ℕ, ◌≤◌, max, List, [], length}
 use Rattle.chunk_core.specs.Elements.{Element, elements}
 use Rattle.pull_nodes.specs.declared.node.Node.{Node}
 use Rattle.pull_nodes.specs.declared.node.Node.TheVariants as node
-use Rattle.pull_turns.specs.Groups.{waiting}
 use Rattle.pull_turns.specs.declared.rest.Rest.{Rest}
 use Rattle.pull_turns.specs.declared.rest.Rest.TheVariants.{Nil, Start, Read, Within', Append', OnFault', Through', Finishing, Faulty, Groups', Take'}
 use Rattle.pull_turns.specs.declared.runner.Unconsed.{Unconsed}
@@ -65,33 +64,6 @@ widest n (Faulty c) = 0
 widest n (Groups' k f _ a) = k
 widest n (Take' k _ a) = widest n a
 
--- as many elements as a node gives at most
-abbrev pub most_of : Node → ℕ
-most_of node.Nil = 0
-most_of (node.Emit l) = length (elements l)
-most_of (node.Raise c) = 0
-most_of (node.Read p) = 2 ^ 40
-most_of (node.Weak' p _ a) = most_of a
-most_of (node.Scope' _ a) = most_of a
-most_of (node.Append' _ a _ b) = most_of a + most_of b
-most_of (node.OnFault' _ a _ b) = most_of a + most_of b
-most_of (node.Through' _ a q) = most_of a
-most_of (node.Take' k _ a) = most_of a
-
--- the same of what is left
-abbrev pub most : {F : Type 0} → Rest F → ℕ
-most Nil = 0
-most (Start m) = most_of m
-most (Read p from) = 2 ^ 40 - from
-most (Within' s _ a) = most a
-most (Append' _ a b) = most a + most_of b.value
-most (OnFault' _ a b) = most a + most_of b.value
-most (Through' _ a q) = most a
-most (Finishing q) = 0
-most (Faulty c) = 0
-most (Groups' k f _ a) = length (waiting f) + most a
-most (Take' k _ a) = most a
-
 -- the elements that a turn gives
 abbrev pub given : Turn → List Element
 given (turn.Chunk l) = elements l
@@ -105,9 +77,8 @@ given_first (unconsed.Chunk l) = elements l
 given_first (unconsed.End h) = []
 given_first unconsed.Again = []
 
--- no more elements came than one piece has, and no more than could come are left, still without a pipe
+-- no more elements came than one piece has, and pieces stay as small, still without a pipe
 pub record Sized {F : Type 0} (n : ℕ) (old new : Rest F) (xs : List Element) : Type 0 where
   pub plain : HasNoPipe new
   pub piece : length xs ≤ widest n old
   pub pieces : widest n new ≤ widest n old
-  pub rest : length xs + most new ≤ most old

@@ -11,7 +11,6 @@ use Rattle.pull_turns.specs.Around.{Around, Goes, Keeps, gist}
 use Rattle.pull_turns.specs.Groups.{GaveGroup}
 use Rattle.pull_turns.specs.Piping.{Standing, HasKind, PipesFit}
 use Rattle.pull_turns.specs.Rest.{IsRunOfRest, IsLive, IsReady, left, rows_left, scopes_left}
-use Rattle.pull_turns.specs.Sizes.{HasNoPipe}
 use Rattle.pull_turns.specs.declared.rest.Rest.{Rest}
 use Rattle.pull_turns.specs.declared.rest.Rest.TheVariants.{Nil, Within', Append', OnFault', Through', Finishing, Faulty, Groups', Take'}
 use Rattle.pull_nodes.specs.declared.node.Node.{Node}
@@ -122,7 +121,7 @@ module _ {F : Type 0} (P : Standing F) where
   IsCausedBy before now old new turn.Done = Unit {0}
   IsCausedBy before now old new (turn.Fault c) = Unit {0}
 
-  -- a turn was made in the scope s, with reads of at most n bytes; where there is no pipe, a turn that gave nothing entered or left a node
+  -- a turn was made in the scope s, with reads of at most n bytes
   pub record Turned (before now : Around) (s n : ℕ) (old new : Rest F) (t : Turn) : Type 0 where
     pub moved : Moved before now s old
     pub once : ReadsOnce before.told now.told n
@@ -133,6 +132,5 @@ module _ {F : Type 0} (P : Standing F) where
     pub pipes : GoesOn t → PipesFit P new
     pub kinds : (k : LoadKind) → HasKind P k old → GivesKind P k new t
     pub caused : IsCausedBy before.told now.told old new t
-    pub quiet : HasNoPipe old → IsQuiet t → left new < left old
     pub cause : HasCause before.told now.told old t
     pub gave : Gave P now.told old new t

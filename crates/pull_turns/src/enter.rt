@@ -6,6 +6,7 @@ ghost use Rattle.pull_turns.specs.Rest.{CanStep};
 ghost use Rattle.pull_turns.specs.Scoped.{EntersIn};
 ghost use Rattle.pull_turns.specs.Sizes.{HasNoPipe, Sized, given};
 ghost use Rattle.pull_turns.specs.Turned.{Moved, SpendsWithin, Turned};
+ghost use Rattle.pull_turns.specs.Work.{Lessens};
 ghost use Rattle.pull_turns.specs.declared.rest.Rest.TheVariants as rest;
 
 use crate::groups::{group_size, in_groups};
@@ -31,6 +32,7 @@ pub(crate) fn enter<O: Outside, F: PipeState>(
     requires fits { O.fits outside.old desk.old }
     requires ready { CanStep (standing F.stands F.comes) (O.seen outside.old) scope (rest.Start node) }
     ensures turned { IfOk result (λ r. (n : ℕ) → Turned (standing F.stands F.comes) (O.seen outside.old) (O.seen outside.new) scope n (rest.Start node) r.0 r.1) }
+    ensures work { IfOk result (λ r. Lessens F.due (rest.Start node) r.0 r.1) }
     ensures sized { IfOk result (λ r. HasNoPipe {F = F} (rest.Start node) → (n : ℕ) → Sized n (rest.Start node) r.0 (given r.1)) }
     ensures whole { IfOk result (λ r. whole ≡ true → HasNoGroups r.0) }
     ensures grouped { IfOk result (λ r. whole ≡ false → Grouped (rest.Start node) r.0 r.1) }

@@ -1,5 +1,5 @@
 //! Groups that leave the run one by one.
-ghost use Rattle.std.specs.Prelude.{◌≡◌, IfOk};
+ghost use Rattle.std.specs.Prelude.{◌≡◌, ◌<◌, ◌^◌, length, IfOk};
 ghost use Rattle.chunk_core.specs.Elements.{elements, kind_of};
 ghost use Rattle.pull_turns.specs.Groups.{GroupedOf, HasElements, IsFirstGroup, IsInGroups, IsOfKind, size_above, waiting};
 
@@ -52,8 +52,9 @@ fn some_load(load: Load) -> Option<Load>
     ensures elements { waiting result ≡ elements load }
     ensures some { HasElements result }
     ensures kind { IsOfKind (kind_of load) result }
+    ensures few { length (waiting result) < 2 ^ 64 }
 {
-    if load.is_empty() {
+    if load.len() == 0 {
         return None;
     }
     Some(load)

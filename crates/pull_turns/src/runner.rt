@@ -1,15 +1,15 @@
 //! A node that is run turn by turn.
-ghost use Rattle.std.specs.Prelude.{◌≡◌, ℕ, ◌+◌, ◌<◌, ◌≤◌, true, false, Some, None, flat_map, length, IfOk, OnErr};
+ghost use Rattle.std.specs.Prelude.{◌≡◌, ◌<◌, ◌≤◌, true, false, Some, None, IfOk, OnErr};
 ghost use Rattle.chunk_core.specs.declared.code.Exit.TheVariants as exit;
 ghost use Rattle.chunk_core.specs.declared.code.How.TheVariants as how;
-ghost use Rattle.chunk_core.specs.Elements.{elements};
 ghost use Rattle.pull_turns.specs.Around.{Affords, IsClosedWith};
 ghost use Rattle.pull_turns.specs.Piping.{standing};
-ghost use Rattle.pull_turns.specs.Rest.{CanStep, IsRunOfRest};
+ghost use Rattle.pull_turns.specs.Rest.{CanStep};
 ghost use Rattle.pull_turns.specs.Sizes.{HasNoPipe, Sized, given, given_first};
 ghost use Rattle.pull_turns.specs.Turned.{Moved, Spends, SpendsWithin};
 ghost use Rattle.pull_turns.specs.Moves.{how_of};
-ghost use Rattle.pull_turns.specs.Led.{GoesOnFor, IsShut, Tells, Turns, Uncons, end_by};
+ghost use Rattle.pull_turns.specs.Led.{IsShut, Tells, Turns, Uncons};
+ghost use Rattle.pull_turns.specs.Work.{Lessens};
 ghost use Rattle.pull_turns.specs.declared.rest.Rest.TheVariants as rest;
 
 use crate::outside::Outside;
@@ -70,6 +70,7 @@ impl<O: Outside, F: PipeState> Runner<O, F> {
         requires can { CanStep (standing F.stands F.comes) (O.seen self.old.outside) 0 self.old.rest }
         requires chunk { 0 < self.old.chunk }
         ensures turned { IfOk result (λ t. Turns (standing F.stands F.comes) (O.seen self.old.outside) (O.seen self.new.outside) self.old.chunk self.old.rest self.new.rest t) }
+        ensures work { IfOk result (λ t. Lessens F.due self.old.rest self.new.rest t) }
         ensures sized { IfOk result (λ t. HasNoPipe self.old.rest → Sized self.old.chunk self.old.rest self.new.rest (given t)) }
         ensures how { IfOk result (λ t. self.new.how ≡ how_of t) }
         ensures sound { IfOk result (λ t. self.new.wanting ≡ false) }
@@ -175,33 +176,4 @@ impl<O: Outside, F: PipeState> Runner<O, F> {
             None => unreachable!(),
         }
     }
-}
-
-/// Runs a runner to its end, but makes no more than `turns` turns: what it gave and how it ended
-/// are a run of the node, which was left where it has not ended. Then that many turns were made.
-pub fn run_all<O: Outside, F: PipeState>(
-    alloc: Global,
-    runner: &mut Runner<O, F>,
-    desk: &mut O::Desk,
-    turns: u64,
-) -> Result<Vec<Load>, AllocError>
-    requires fits { O.fits runner.old.outside desk.old }
-    requires runs { (runner.old.how ≡ None) × (runner.old.wanting ≡ false) }
-    requires can { CanStep (standing F.stands F.comes) (O.seen runner.old.outside) 0 runner.old.rest }
-    requires chunk { 0 < runner.old.chunk }
-    ensures turns { IfOk result (λ loads. runner.new.how ≡ None → GoesOnFor (standing F.stands F.comes) O.seen runner.old.chunk turns runner.old.outside runner.old.rest runner.new.outside runner.new.rest loads.items) }
-    ensures run { IfOk result (λ loads. IsRunOfRest (standing F.stands F.comes) (O.seen runner.new.outside).told runner.old.rest (flat_map elements loads.items) (end_by runner.new.how)) }
-    ensures fits { O.fits runner.new.outside desk.new }
-    ensures since { O.since runner.old.outside desk.old runner.new.outside desk.new }
-{
-    let mut out = Vec::new(alloc);
-    for _turn in 0..turns {
-        match runner.turn(desk)? {
-            Turn::Chunk(load) => out.push(load)?,
-            Turn::Quiet => (),
-            Turn::Done => return Ok(out),
-            Turn::Fault(_) => return Ok(out),
-        }
-    }
-    Ok(out)
 }

@@ -7,6 +7,7 @@ ghost use Rattle.pull_turns.specs.Scoped.{Scoped};
 ghost use Rattle.pull_turns.specs.Sizes.{HasNoPipe, Sized, given};
 ghost use Rattle.pull_turns.specs.Turned.{Moved, SpendsWithin, Turned};
 ghost use Rattle.pull_turns.specs.Moves.{is_done, is_fault, behind, append_turn, guard_turn, LeavesAtEnd};
+ghost use Rattle.pull_turns.specs.Work.{Lessens};
 
 use crate::enter::enter;
 use crate::groups::{first_group, grouped};
@@ -36,6 +37,7 @@ pub(crate) fn step<O: Outside, F: PipeState>(
     requires chunk { 0 < chunk }
     requires whole { whole ≡ true → HasNoGroups rest.old }
     ensures turned { IfOk result (λ t. Turned (standing F.stands F.comes) (O.seen outside.old) (O.seen outside.new) scope chunk rest.old rest.new t) }
+    ensures work { IfOk result (λ t. Lessens F.due rest.old rest.new t) }
     ensures sized { IfOk result (λ t. HasNoPipe rest.old → Sized chunk rest.old rest.new (given t)) }
     ensures whole { IfOk result (λ t. whole ≡ true → HasNoGroups rest.new) }
     ensures grouped { IfOk result (λ t. whole ≡ false → Grouped rest.old rest.new t) }

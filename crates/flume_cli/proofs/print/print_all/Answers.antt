@@ -12,7 +12,7 @@ turns-init g c = record {
   since = since_same g.V.Device.told (Finishes g.V.Device.told) _;
   can = c.requires.can;
   chunk = refl;
-  prints = prints_start _ _ _ _ _ c.requires.plain;
+  prints = prints_start _ _ _ _ _;
 }
 
 pub turns-preserved-in-Ok : goal.turns-preserved-in-Ok
@@ -24,7 +24,7 @@ turns-preserved-in-Ok g c =
       since = since_then g.V.Device.told (Finishes g.V.Device.told) _ _ _ i.since c.in-Ok-Chunk.ensures.since;
       can = k.can tt;
       chunk = k.chunk ∙ i.chunk;
-      prints = prints_chunk _ _ _ _ _ _ _ _ _ _ i.prints _ c.in-Ok-Chunk.load (rw i.chunk at k.turns) (rw i.chunk at k.sized i.prints.plain) c.in-Ok.ensures;
+      prints = prints_chunk _ _ _ _ _ _ _ _ _ _ i.prints _ c.in-Ok-Chunk.load (rw i.chunk at k.turns) (rw i.chunk at k.sized) c.in-Ok.ensures;
     }
 
 pub turns-preserved : goal.turns-preserved
@@ -36,21 +36,21 @@ turns-preserved g c =
       since = since_then g.V.Device.told (Finishes g.V.Device.told) _ _ _ i.since c.in-Ok-Quiet.ensures.since;
       can = k.can tt;
       chunk = k.chunk ∙ i.chunk;
-      prints = prints_quiet _ _ _ _ _ _ _ _ _ _ i.prints (rw i.chunk at k.turns) (rw i.chunk at k.sized i.prints.plain);
+      prints = prints_quiet _ _ _ _ _ _ _ _ _ _ i.prints (rw i.chunk at k.turns) (rw i.chunk at k.sized);
     }
 
 pub turns-smaller : goal.turns-smaller
-turns-smaller g c =
-    let i = c.turns.invariant in
-    let k = rw c.in-Ok-Quiet.field-0-is at c.in-Ok-Quiet.ensures.steps in
-    omega (arith, k.turns.quiet i.prints.plain tt, (k.sized i.prints.plain).rest)
+turns-smaller g c = (rw c.in-Ok-Quiet.field-0-is at c.in-Ok-Quiet.ensures.work).falls tt
+
+pub turns-smaller-in-Ok : goal.turns-smaller-in-Ok
+turns-smaller-in-Ok g c = (rw c.in-Ok-Chunk.field-0-is at c.in-Ok-Chunk.ensures.work).falls tt
 
 pub returns-in-Err-print_load-clause-prints : goal.returns-in-Err-print_load-clause-prints
 returns-in-Err-print_load-clause-prints g c =
     let i = c.turns.invariant in
     let k = rw c.in-Ok-Chunk.field-0-is at c.in-Ok-Chunk.ensures.steps in
     let h = c.stop.ensures.halts.how ∙ ap (λ b. Some (stopped_by b)) (k.can tt).memory in
-    rw (c.stop.ensures.cause, h) (prints_put _ _ _ _ _ _ _ _ _ _ i.prints _ c.stop.ensures.halts.tells _ c.in-Ok-Chunk.load c.in-Err-print_load.cause (rw i.chunk at k.turns) (rw i.chunk at k.sized i.prints.plain) c.in-Err-print_load.ensures)
+    rw (c.stop.ensures.cause, h) (prints_put _ _ _ _ _ _ _ _ _ _ i.prints _ c.stop.ensures.halts.tells _ c.in-Ok-Chunk.load c.in-Err-print_load.cause (rw i.chunk at k.turns) (rw i.chunk at k.sized) c.in-Err-print_load.ensures)
 
 pub returns-in-Err-print_load-clause-since : goal.returns-in-Err-print_load-clause-since
 returns-in-Err-print_load-clause-since g c =

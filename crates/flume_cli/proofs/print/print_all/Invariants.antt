@@ -1,7 +1,6 @@
-use Rattle.std.proofs.Common.{◌≡◌, ◌+◌}
+use Rattle.std.proofs.Common.{◌≡◌}
 use Rattle.pull_turns.specs.Piping.{standing}
-use Rattle.pull_turns.specs.Rest.{left}
-use Rattle.pull_turns.specs.Sizes.{most}
+use Rattle.pull_turns.specs.Work.{work_left}
 use Rattle.pull_stepper.specs.Held.{Finishes}
 use Rattle.pull_stepper.specs.Sites.{Since, told_at}
 use Rattle.pull_stepper.specs.Steppers.{Works, stepping}
@@ -23,6 +22,6 @@ invariant-turns g l =
       prints : PrintsOn P (told_at told a.site) (told_at told b.site) a.chunk a.rest b.rest (g.K.Sink.told l.fn.out) (g.K.Sink.told l.out);
     }
 
--- each turn gives elements or makes an entry or a leaving
+-- each turn that goes on leaves less work
 abbrev pub decreases-turns : goal.decreases-turns
-decreases-turns g l = let b = stepping g.S.RowSeat.view l.stepper in most b.rest + left b.rest
+decreases-turns g l = work_left g.F.PipeState.due (stepping g.S.RowSeat.view l.stepper).rest

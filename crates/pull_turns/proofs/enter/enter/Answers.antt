@@ -4,6 +4,7 @@ use Rattle.pull_turns.proofs.Coming.{through_enter}
 use Rattle.pull_turns.proofs.Grouping.{groups_entered}
 use Rattle.pull_turns.proofs.Grouped.{some_size}
 use Rattle.pull_turns.proofs.Sized.{emit_sized}
+use Rattle.pull_turns.proofs.Work.{append_enter_work, emit_work, guard_enter_work, through_enter_work}
 use Rattle.pull_turns.proofs.enter.enter.Goals as goal
 
 pub returns-in-Emit-clause-turned : goal.returns-in-Emit-clause-turned
@@ -33,3 +34,17 @@ returns-in_ok-rest-in-Through-clause-turned g c n =
     let made = rw c.in_ok-a-in-Through.ensures at c.in_ok-rest-in-Through.ensures in
     rw c.in-Through.is (groups_entered _ _ _ n _ _ _ _ _ _ _ sized made
     (through_enter _ g.met.F.Feed.sound _ _ n _ _ _ _ _ (rw c.in-Through.is at c.requires.ready) c.in_ok-state-in-Through.ensures))
+
+pub returns-in-Emit-clause-work : goal.returns-in-Emit-clause-work
+returns-in-Emit-clause-work g c = rw (c.in-Emit.is, c.give.ensures) (emit_work _ _ _)
+
+pub returns-in_ok-a-in-Append-clause-work : goal.returns-in_ok-a-in-Append-clause-work
+returns-in_ok-a-in-Append-clause-work g c = rw (c.in-Append.is, c.in_ok-a-in-Append.ensures) (append_enter_work _ _ _ _ _ _)
+
+pub returns-in_ok-a-in-OnFault-clause-work : goal.returns-in_ok-a-in-OnFault-clause-work
+returns-in_ok-a-in-OnFault-clause-work g c = rw (c.in-OnFault.is, c.in_ok-a-in-OnFault.ensures) (guard_enter_work _ _ _ _ _ _)
+
+pub returns-in_ok-rest-in-Through-clause-work : goal.returns-in_ok-rest-in-Through-clause-work
+returns-in_ok-rest-in-Through-clause-work g c =
+    let made = rw c.in_ok-a-in-Through.ensures at c.in_ok-rest-in-Through.ensures in
+    rw c.in-Through.is (through_enter_work _ _ _ _ _ _ _ _ made)
