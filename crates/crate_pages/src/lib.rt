@@ -15,7 +15,6 @@ mod loads;
 mod pipeline_desc_page;
 #[cfg(test)]
 mod pull_nodes_page;
-pub mod pull_turns_page;
 #[cfg(test)]
 mod res_ledger_page;
 #[cfg(test)]

@@ -6,26 +6,6 @@
 //! a fault is an end. Where one of them answers `AllocError`, the one error, the run may only be
 //! halted. `halt` closes all that is open, as canceled; `how` tells how the run ended, and `end`
 //! gives the outside back. `Rest` is what is left of a node that runs.
-//!
-//! ```
-//! pub fn first_of<O: Outside, F: PipeState>(
-//!     mut runner: Runner<O, F>,
-//!     desk: &mut O::Desk,
-//!     turns: u64,
-//! ) -> (Result<Unconsed, AllocError>, O, How)
-//!     requires fits { O.fits runner.outside desk.old }
-//!     requires runs { (runner.how ≡ None) × (runner.wanting ≡ false) }
-//!     requires can { CanStep (standing F.stands F.comes) (O.seen runner.outside) 0 runner.rest }
-//!     requires chunk { 0 < runner.chunk }
-//!     requires turns { 1 ≤ turns }
-//!     ensures shut { IsShut (O.seen result.1) }
-//!     ensures fits { O.fits result.1 desk.new }
-//! {
-//!     let first = runner.uncons(desk, turns);
-//!     if runner.how().is_none() {
-//!         runner.halt(desk);
-//!     }
-//! ```
 #![tactic(auto)]
 
 pub(crate) mod enter;
