@@ -31,6 +31,11 @@ module _ {A : Type 0} where
   among_right x [] ys h = h
   among_right x (y ∷ xs) ys h = there y (among_right x xs ys h)
 
+-- where b holds xs, else nothing
+pub chosen : {A : Type 0} (b : Bool) (xs : List A) (y : A) → IsAmong y (cond b xs []) → (b ≡ true) × IsAmong y xs
+chosen true xs y m = (refl, m)
+chosen false xs y m = absurd (among_nil m)
+
 -- the element at i is among the list
 pub among_at : {A : Type 0} (xs : List A) (i : ℕ) (d : A) → i < length xs → IsAmong (slice_index_or xs i d) xs
 among_at [] i d l = absurd (omega arith)

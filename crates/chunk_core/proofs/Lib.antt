@@ -9,3 +9,7 @@ pub mod Clones
 pub mod Queues
 pub mod Totals
 pub mod Changes
+pub mod Bools
+pub mod Each
+pub mod Reversed
+pub mod Distinct

@@ -1,6 +1,6 @@
 -- The numbers of devices, and the bytes at a path.
 use Rattle.std.proofs.Common.{◌≡◌, ◌≢◌, ℕ, ◌<◌, ◌≤◌, ◌+◌, Bool, true, false, ◌||◌, List, [], ◌∷◌, ◌++◌, length, nat_eq, refl, sym, arith, ⊎_elim, inl, inr, ◌⊎◌, ◌∙◌, ap, subst}
-use Rattle.std.proofs.lemmas.Bool.{false≢true}
+use Rattle.std.proofs.lemmas.Bool.{false≢true, cases_Bool}
 use Rattle.std.proofs.lemmas.Bool.Decides.{eqb_tells}
 use Rattle.std.specs.Cmp.{nat_eq_equiv}
 use Rattle.std.proofs.lemmas.List.{length-map, map-append}
@@ -37,16 +37,12 @@ unknown n (d ∷ ds) h = ⊎_elim
     (λ (e : (nat_eq n d.number ≡ false) × (n ≢ d.number)). (λ k. e.1 (sym k), unknown n ds (rw e.0 at h)))
     (eqb_tells n d.number)
 
-bool_cases : (b : Bool) → (b ≡ true) ⊎ (b ≡ false)
-bool_cases true = inl refl
-bool_cases false = inr refl
-
 -- the next number is unknown
 pub next_unknown : (n : ℕ) (ds : List DeviceTold) → AreBelow n ds → IsUnknown n ds
 next_unknown n ds b = ⊎_elim
     (λ (h : list_any (nat_eq n) (numbers ds) ≡ true). let lt : n < n = b n h in absurd (omega arith))
     (λ (h : list_any (nat_eq n) (numbers ds) ≡ false). unknown n ds h)
-    (bool_cases (list_any (nat_eq n) (numbers ds)))
+    (cases_Bool (list_any (nat_eq n) (numbers ds)))
 
 -- one device more
 pub apart_more : (ds : List DeviceTold) (d : DeviceTold) → AreApart ds → IsUnknown d.number ds → AreApart (ds ++ d ∷ [])
@@ -61,7 +57,7 @@ below_more n ds d b lt q h =
     (λ (w : (nat_eq q d.number ≡ true) × (q ≡ d.number)). let eq : q ≡ d.number = w.1 in omega arith)
     (λ (w : (nat_eq q d.number ≡ false) × (q ≢ d.number)). absurd (false≢true (rw (e, w.0) at k)))
     (eqb_tells q d.number))
-    (bool_cases (list_any (nat_eq q) (numbers ds)))
+    (cases_Bool (list_any (nat_eq q) (numbers ds)))
 
 pub below_longer : (n : ℕ) (ds : List DeviceTold) → AreBelow n ds → AreBelow (n + 1) ds
 below_longer n ds b q h = let lt : q < n = b q h in omega arith

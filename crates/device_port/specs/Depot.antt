@@ -1,7 +1,6 @@
 -- What a depot tells.
 use Rattle.std.specs.Prelude.{◌≡◌, ◌≢◌, ◌⊎◌, ℕ, ◌<◌, false, List, [], ◌∷◌, ◌++◌, length, Option, Some, None, option_map, unwrap_or, is_some, IfSome, map, nat_eq, true}
-use Rattle.std.specs.List.{IsDistinct, list_any}
-use Rattle.chunk_core.specs.Lists.{Each}
+use Rattle.std.specs.List.{IsDistinct, list_any, AllByRecursion}
 use Rattle.device_port.specs.declared.device.Mode.{Mode}
 use Rattle.device_port.specs.declared.device.Mode.TheVariants as mode
 use Rattle.device_port.specs.Device.{Place, DeviceTold}
@@ -42,7 +41,7 @@ fresh depot place = record {
 
 -- no record has the number
 abbrev pub IsUnknown : ℕ → List DeviceTold → Type 0
-IsUnknown n records = Each (λ d. d.number ≢ n) records
+IsUnknown n records = AllByRecursion (λ d. d.number ≢ n) records
 
 -- a device was made for the path
 pub record Makes (old new : DepotTold) (path : List ℕ) (mode : Mode) (dev : DeviceTold) : Type 0 where

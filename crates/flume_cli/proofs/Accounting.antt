@@ -1,8 +1,8 @@
 -- Places and files that are the same.
 use Rattle.std.proofs.Common.{◌≡◌, ℕ, true, ◌&&◌, List, [], ◌∷◌, inl, inr, Option, Some, None, refl, sym, subst, ⊎_elim}
 use Rattle.std.specs.Str.{bytes_eq}
-use Rattle.chunk_core.specs.Lists.{Each}
-use Rattle.res_ledger.proofs.Tests.{itself}
+use Rattle.std.specs.List.{AllByRecursion}
+use Rattle.chunk_core.proofs.Bools.{itself}
 use Rattle.device_port.specs.declared.device.Mode.{Mode}
 use Rattle.device_port.specs.declared.device.Mode.TheVariants as mode
 use Rattle.device_port.specs.Device.{Place}
@@ -19,10 +19,6 @@ mode_itself mode.Write = refl
 
 pub place_itself : (p : Place) → is_place p p ≡ true
 place_itself p = subst (λ b. (b && is_mode p.mode p.mode) ≡ true) (sym (path_itself p.path)) (mode_itself p.mode)
-
-pub each_of : {A : Type 0} (P : A → Type 0) → ((x : A) → P x) → (xs : List A) → Each P xs
-each_of P f [] = tt
-each_of P f (x ∷ xs) = (f x, each_of P f xs)
 
 -- files stay as they are, but where more may change
 pub keeps_more : (P Q : List ℕ → Type 0) → ((path : List ℕ) → P path → Q path) → (f g : Option Files) → KeepsFilesBut P f g → KeepsFilesBut Q f g

@@ -2,9 +2,9 @@
 use Rattle.std.proofs.Common.{◌≡◌, ℕ, zero, suc, ◌+◌, ◌<◌, Bool, true, false, cond, ◌&&◌, ◌||◌, nat_eq, nat_lt, List, [], ◌∷◌, ◌++◌, map, length, count_by, Option, Some, None, refl, sym, ◌∙◌, ap, subst, ⊎_elim, arith}
 use Rattle.std.proofs.lemmas.Bool.{eqb-false, false≢true, false_from_ne_true, lt-ltb, ltb-true, ne_eqb}
 use Rattle.std.proofs.lemmas.List.Sums.{sum_by-cons}
-use Rattle.std.specs.List.{list_any as any, list_all as all}
+use Rattle.std.specs.List.{list_any as any, list_all as all, AllByRecursion, IsDistinct}
 use Rattle.std.specs.List.Sorted.{IsPermutation}
-use Rattle.chunk_core.specs.Lists.{Each, IsAmong}
+use Rattle.chunk_core.specs.Lists.{IsAmong}
 use Rattle.chunk_core.specs.Lists.IsAmong.{here, there}
 use Rattle.chunk_core.specs.Outcomes.{exit_of}
 use Rattle.chunk_core.specs.declared.code.Exit.{Exit}
@@ -23,15 +23,15 @@ use Rattle.res_ledger.specs.Whole.{is_final}
 use Rattle.res_ledger.proofs.Ledgers.{by_out}
 use Rattle.res_ledger.proofs.Noted.{is_final_shape}
 use Rattle.res_ledger.proofs.Prefixes.{split_at}
-use Rattle.res_ledger.proofs.Tests.{any_at, each_passes, exit_is, exit_same, number}
+use Rattle.res_ledger.proofs.Tests.{exit_is, exit_same}
+use Rattle.chunk_core.proofs.Bools.{number, each_passes, any_at}
 use Rattle.device_port.specs.Device.{Place, DeviceTold}
-use Rattle.scope_tree.specs.Rows.{AreDistinct}
 use Rattle.run_rules.specs.Facts.{at, below, acquired_row, ended_row, failed_row, leased_stream, is_failed, is_root_close, root_exit, has}
 use Rattle.run_rules.specs.Devices.{AreAsMany, IsRowBelow, is_closed_with, place_of}
 use Rattle.run_rules.specs.Run.{IsTied, is_named, is_owned, is_ours, root_exits}
 use Rattle.flume_cli.specs.Alone.{alone, IsAccount, IsAtRest}
 use Rattle.flume_cli.proofs.Counting.{as_many, filter_map_from, filter_map_of, named_once, rows_named}
-use Rattle.flume_cli.proofs.Each.{each_among, among_each}
+use Rattle.chunk_core.proofs.Each.{each_among, among_each}
 
 some_is : {A : Type 0} (x y : A) → Some x ≡ Some y → x ≡ y
 some_is x y e = cc
@@ -78,7 +78,7 @@ passing p (x ∷ xs) l = (elim (p x) as (λ b. p x ≡ b → 0 < cond b 1 0 + co
 
 module _ (L : List Event) (legal : IsLegal L) where
   -- in a legal ledger no row is acquired twice, and none ends twice
-  acquired_once : AreDistinct (rows_named acquired_row L)
+  acquired_once : IsDistinct nat_eq (rows_named acquired_row L)
   acquired_once = named_once acquired_row L (λ P Q e r is n m.
       let a = acquires r e.what n in
       let f = filter_map_from (λ (x : Event). acquired_row x.what) r P m in
@@ -86,7 +86,7 @@ module _ (L : List Event) (legal : IsLegal L) where
       let may : MayFollow P e.by (Acquire r a.0) = subst (λ v. MayFollow P e.by v) a.1 (legal P Q e is) in
       may.0 (f.0.by, b.0, (f.0, f.1, refl, b.1)))
 
-  ended_once : (row : What → Option ℕ) → ((r : ℕ) (v : What) → row v ≡ Some r → (x : Exit) × (ok : Bool) × (v ≡ Final r x ok)) → AreDistinct (rows_named row L)
+  ended_once : (row : What → Option ℕ) → ((r : ℕ) (v : What) → row v ≡ Some r → (x : Exit) × (ok : Bool) × (v ≡ Final r x ok)) → IsDistinct nat_eq (rows_named row L)
   ended_once row final = named_once row L (λ P Q e r is n m.
       let a = final r e.what n in
       let f = filter_map_from (λ (x : Event). row x.what) r P m in
@@ -121,14 +121,14 @@ module _ (count : ℕ) (w : ℕ → DeviceTold) (how : How) (L : List Event) (a 
   tied_what (Final r x ok) p q = q r x ok refl
   tied_what v p q = tt
 
-  pub tied : Each (λ e. IsTied w e.what) L
+  pub tied : AllByRecursion (λ e. IsTied w e.what) L
   tied = each_among (λ (e : Event). IsTied w e.what) L (λ e i. tied_what e.what (λ r s v. (a.acquired r s (e, i, by_0 e i, v)).1) (λ r x ok v. a.ended r x ok (e, i, by_0 e i, v)))
 
   row_below : (v : What) → ((r s : ℕ) → v ≡ Acquire r s → r < count) → IsRowBelow count (acquired_row v)
   row_below (Acquire r s) p = p r s refl
   row_below v p = tt
 
-  pub rows_below : Each (λ e. IsRowBelow count (acquired_row e.what)) L
+  pub rows_below : AllByRecursion (λ e. IsRowBelow count (acquired_row e.what)) L
   rows_below = each_among (λ (e : Event). IsRowBelow count (acquired_row e.what)) L (λ e i. row_below e.what (λ r s v. (a.acquired r s (e, i, by_0 e i, v)).0))
 
   -- where each device was closed well, so says each Final
@@ -146,7 +146,7 @@ module _ (count : ℕ) (w : ℕ → DeviceTold) (how : How) (L : List Event) (a 
   pub root_closed : has is_root_close (by_stream (Inner 0) L) ≡ true
   root_closed = let n = a.closed.1 in any_at (λ e. is_root_close e.what) n.0 (by_stream (Inner 0) L) (by_out (Inner 0) L n.0 n.1 n.2) (ap is_root_close n.3)
 
-  pub root_as_ended : Each (λ x. x ≡ exit_of how) (root_exits (Inner 0) L)
+  pub root_as_ended : AllByRecursion (λ x. x ≡ exit_of how) (root_exits (Inner 0) L)
   root_as_ended = each_among (λ x. x ≡ exit_of how) (root_exits (Inner 0) L) (λ x m.
       let f = filter_map_from (λ (e : Event). root_exit e.what) x (by_stream (Inner 0) L) m in
       let i = (among_filter (λ (e : Event). same_stream e.by (Inner 0)) f.0 L f.1).0 in

@@ -2,8 +2,7 @@
 use Rattle.std.proofs.Common.{◌≡◌, ℕ, ◌<◌, Bool, true, false, ◌||◌, List, [], ◌++◌, ◌⊎◌, inl, inr, map, length, refl, sym, ◌∙◌, ap, subst, ⊎_elim, arith, append-nil}
 use Rattle.std.proofs.lemmas.Bool.{both_ways, false_from_ne_true, false≢true, or_cases}
 use Rattle.std.proofs.lemmas.Grind.{flat_map-append}
-use Rattle.std.specs.List.{list_any as any}
-use Rattle.chunk_core.specs.Lists.{Each}
+use Rattle.std.specs.List.{list_any as any, AllByRecursion}
 use Rattle.chunk_core.specs.Elements.{Element, element_text, rendering_of}
 use Rattle.chunk_core.specs.Outcomes.{End, Outcomes, Done, exit_of}
 use Rattle.chunk_core.specs.Texts.{Frame}
@@ -89,7 +88,7 @@ module _ (places : List Place) (runs ideal : (ℕ → DeviceTold) → Outcomes) 
   ends : IsCovered → HaveEnds work deed
   ends h = record {
     named = subst (λ es. map (λ (e : EndOf). e.who) es ≡ names_of work) (sym r.ends) refl;
-    caused = subst (λ es. Each (IsCaused work deed) es) (sym r.ends) (
+    caused = subst (λ es. AllByRecursion (IsCaused work deed) es) (sym r.ends) (
       record {
         halted = λ t. ⊎_elim (λ f. inl f) (λ m. inr (inl m)) (r.run.halted t);
         fault = shown places runs ideal old new r.home r.how o.ledger r.devices r.account r.how h.shown;
@@ -107,7 +106,7 @@ module _ (places : List Place) (runs ideal : (ℕ → DeviceTold) → Outcomes) 
       let remembering : is_memory r.how ≡ false = false_from_ne_true (is_memory r.how) (λ t. both_ways o.memory m (r.run.remembered t)) in
       let w = h.whole running remembering calm n.ideal.0 in
       record {
-        done = subst (λ es. Each (λ (e : EndOf). e.how ≡ how.Done) es) (sym r.ends) (w.0, tt);
+        done = subst (λ es. AllByRecursion (λ (e : EndOf). e.how ≡ how.Done) es) (sym r.ends) (w.0, tt);
         clean = clean (length places) r.home r.how o.ledger r.account (λ k l. let f : faults_of (r.home k) ≡ 0 = calm k l in omega arith);
         output = ((w.1.0, w.1.1, payloads_pieces r.printed.pieces ∙ w.1.2), tt);
       }
@@ -122,7 +121,7 @@ module _ (places : List Place) (runs ideal : (ℕ → DeviceTold) → Outcomes) 
       rows = homes places runs ideal old new r.home r.how o.ledger r.devices r.account r.printed.pieces r.printed.rest o refl;
       outputs = outputs;
       ends = ends h;
-      exits = subst (λ es. Each (λ (e : EndOf). Each (λ x. x ≡ exit_of e.how) (root_exits e.who o.ledger)) es) (sym r.ends) (root_as_ended (length places) r.home r.how o.ledger r.account, tt);
+      exits = subst (λ es. AllByRecursion (λ (e : EndOf). AllByRecursion (λ x. x ≡ exit_of e.how) (root_exits e.who o.ledger)) es) (sym r.ends) (root_as_ended (length places) r.home r.how o.ledger r.account, tt);
       completeness = complete h;
     });
   }

@@ -3,9 +3,9 @@ use Rattle.std.proofs.Common.{◌≡◌, ℕ, zero, suc, ◌+◌, ◌<◌, ◌�
 use Rattle.std.proofs.Math.Seq.{drop-append_seam}
 use Rattle.std.proofs.lemmas.Bool.{and_from, lt-ltb, or_left, or_right}
 use Rattle.std.proofs.lemmas.List.Sorted.{IsPermutation-map}
-use Rattle.std.specs.List.{list_any as any}
+use Rattle.std.specs.List.{list_any as any, AllByRecursion}
 use Rattle.std.specs.List.Sorted.{IsPermutation}
-use Rattle.chunk_core.specs.Lists.{Each, IsAmong, One}
+use Rattle.chunk_core.specs.Lists.{IsAmong}
 use Rattle.chunk_core.specs.Lists.IsAmong.{here, there}
 use Rattle.chunk_core.specs.Elements.{Element}
 use Rattle.chunk_core.specs.Outcomes.{Outcomes}
@@ -24,17 +24,10 @@ use Rattle.flume_cli.specs.Alone.{alone, frame_of, IsAtRest, AreReturned, ComesB
 use Rattle.flume_cli.specs.Cat.{deed_of}
 use Rattle.flume_cli.proofs.Accounting.{place_itself}
 use Rattle.flume_cli.proofs.Accounts.{tied, rows_below, acquired_devices, failed_devices, ended_devices, ours}
-use Rattle.flume_cli.proofs.Each.{among_each, each_permuted, each_stands}
+use Rattle.chunk_core.proofs.Each.{among_each, each_permuted, among_permuted}
 use Rattle.flume_cli.proofs.Homes.{apart, names_are, placed, row_of}
 use Rattle.flume_cli.proofs.Permuted.{among_range, range_among}
-
-any_one : {A : Type 0} (test : A → Bool) (x : A) (xs : List A) → One (λ y. y ≡ x) xs → test x ≡ true → any test xs ≡ true
-any_one test x [] o t = absurd o
-any_one test x (y ∷ xs) o t = ⊎_elim (λ e. or_left (test y) (any test xs) (ap test e ∙ t)) (λ r. or_right (test y) (any test xs) (any_one test x xs r t)) o
-
-each_one : {A : Type 0} (P : A → Type 0) (x : A) (xs : List A) → One (λ y. y ≡ x) xs → Each P xs → P x
-each_one P x [] o h = absurd o
-each_one P x (y ∷ xs) o h = ⊎_elim (λ e. subst P e h.0) (λ r. each_one P x xs r h.1) o
+use Rattle.chunk_core.proofs.Bools.{any_at}
 
 -- a place that stands in the list is found there
 place_found : (ps : List Place) (i : ℕ) (p : Place) → at ps i ≡ Some p → any (is_place p) ps ≡ true
@@ -59,12 +52,9 @@ module _ (places : List Place) (runs ideal : (ℕ → DeviceTold) → Outcomes) 
   back_is : came_back old new ≡ d.back
   back_is = ap (λ ds. drop (length old.retired) ds) d.retired ∙ drop-append_seam old.retired d.back
 
-  stands : Each (λ x. One (λ y. y ≡ x) d.back) devices
-  stands = each_stands devices d.back d.each
-
   -- the device of a row came back
-  stood : (r : ℕ) → r < length places → One (λ y. y ≡ w r) d.back
-  stood r l = among_each (λ (x : DeviceTold). One (λ y. y ≡ x) d.back) (w r) devices stands (map_among w r (below (length places)) (range_among 0 (length places) r (omega arith) (omega arith)))
+  stood : (r : ℕ) → r < length places → IsAmong (w r) d.back
+  stood r l = among_permuted devices d.back d.each (w r) (map_among w r (below (length places)) (range_among 0 (length places) r (omega arith) (omega arith)))
 
   at_rest : (r : ℕ) → r < length places → IsAtRest (w r)
   at_rest r l = (row_of old.files w (length old.made) 0 places d.devices r r (omega arith) l).3.rest
@@ -72,7 +62,7 @@ module _ (places : List Place) (runs ideal : (ℕ → DeviceTold) → Outcomes) 
   shut : (r : ℕ) → r < length places → ((w r).is_open ≡ false) × ((w r).closes ≡ (w r).opens)
   shut r l = let rest = at_rest r l in (rest.shut, ⊎_elim (λ s. s.1 ∙ sym s.0) (λ s. s.1 ∙ sym s.0) rest.stage)
 
-  each_shut : (rs : List ℕ) → ((r : ℕ) → IsAmong r rs → r < length places) → Each (λ (x : DeviceTold). (x.is_open ≡ false) × (x.closes ≡ x.opens)) (map w rs)
+  each_shut : (rs : List ℕ) → ((r : ℕ) → IsAmong r rs → r < length places) → AllByRecursion (λ (x : DeviceTold). (x.is_open ≡ false) × (x.closes ≡ x.opens)) (map w rs)
   each_shut [] inside = tt
   each_shut (r ∷ rs) inside = (shut r (inside r (here rs)), each_shut rs (λ q m. inside q (there r m)))
 
@@ -86,7 +76,7 @@ module _ (places : List Place) (runs ideal : (ℕ → DeviceTold) → Outcomes) 
     once = subst (λ ds. IsPermutation (numbered (length old.made) (made_for old new)) (map named ds)) (sym back_is)
         (subst (λ ps. IsPermutation (numbered (length old.made) ps) (map named d.back)) (sym made_is)
         (subst (λ xs. IsPermutation xs (map named d.back)) (names_are old.files w (length old.made) 0 places d.devices) (IsPermutation-map named devices d.back d.each)));
-    shut = subst (λ ds. Each (λ (x : DeviceTold). (x.is_open ≡ false) × (x.closes ≡ x.opens)) ds) (sym back_is)
+    shut = subst (λ ds. AllByRecursion (λ (x : DeviceTold). (x.is_open ≡ false) × (x.closes ≡ x.opens)) ds) (sym back_is)
         (each_permuted (λ (x : DeviceTold). (x.is_open ≡ false) × (x.closes ≡ x.opens)) devices d.back d.each
         (each_shut (below (length places)) (λ r m. let b = among_range 0 (length places) r m in omega (arith, b.1))));
     rows = rows_below (length places) w h L a;
@@ -100,12 +90,12 @@ module _ (places : List Place) (runs ideal : (ℕ → DeviceTold) → Outcomes) 
   keeps_rules = record { legal = a.legal; complete = a.complete; ordered = a.ordered; ours = ours places w h L a runs ideal }
 
   -- the rows are at home
-  at_home : (c : Deed) → c.depot_old ≡ old → came_back c.depot_old c.depot_new ≡ d.back → (n r : ℕ) (ps : List Place) → AreReturned old.files n w r ps → ((q : ℕ) → r ≤ q → q < r + length ps → One (λ y. y ≡ w q) d.back) → AreAtHome c w r ps
+  at_home : (c : Deed) → c.depot_old ≡ old → came_back c.depot_old c.depot_new ≡ d.back → (n r : ℕ) (ps : List Place) → AreReturned old.files n w r ps → ((q : ℕ) → r ≤ q → q < r + length ps → IsAmong (w q) d.back) → AreAtHome c w r ps
   at_home c same came n r [] g o = tt
   at_home c same came n r (p ∷ ps) g o = (
     g.0.place_is,
     g.0.content_is ∙ ap (λ (x : DepotTold). content_at x.files p.path) (sym same),
-    inl (subst (λ ds. One (λ x. x ≡ w r) ds) (sym came) (o r (omega arith) (omega arith))),
+    inl (subst (λ ds. IsAmong (w r) ds) (sym came) (o r (omega arith) (omega arith))),
     at_home c same came (n + 1) (r + 1) ps g.1 (λ q l m. o q (omega arith) (omega arith)),
   )
 
@@ -116,7 +106,7 @@ module _ (places : List Place) (runs ideal : (ℕ → DeviceTold) → Outcomes) 
       record {
         at_home = subst (λ ps. AreAtHome c w 0 ps) (sym all) (at_home c refl back_is (length old.made) 0 places d.devices (λ q l m. stood q (omega arith)));
         apart = subst (λ ps. AreApart (filter is_tried (map w (below (length ps))))) (sym all) (apart old.files w (length old.made) places is_tried d.devices);
-        tied = subst (λ (l : List Event). Each (λ e. IsTied w e.what) l) (sym is) (tied (length places) w h L a);
+        tied = subst (λ (l : List Event). AllByRecursion (λ e. IsTied w e.what) l) (sym is) (tied (length places) w h L a);
       }
 
   -- a fault with a device of a row that shows it
@@ -124,7 +114,7 @@ module _ (places : List Place) (runs ideal : (ℕ → DeviceTold) → Outcomes) 
   shown_by c r l some =
       let home = row_of old.files w (length old.made) 0 places d.devices r r (omega arith) l in
       subst (λ ds. is_shown ds places (how.Fault c) ≡ true) (sym back_is)
-      (any_one (λ x. any (is_place x.place) places && nat_lt 0 (count_of c x)) (w r) d.back (stood r l)
+      (any_at (λ x. any (is_place x.place) places && nat_lt 0 (count_of c x)) (w r) d.back (stood r l)
       (and_from (any (is_place (w r).place) places) (nat_lt 0 (count_of c (w r))) (subst (λ p. any (is_place p) places ≡ true) (sym home.3.place_is) (place_found places r home.1 home.2)) (lt-ltb 0 (count_of c (w r)) some)))
 
   pub shown : (e : How) → ((c : Code) → e ≡ how.Fault c → (r : ℕ) × (r < length places) × (0 < count_of c (w r))) → is_shown (came_back old new) places e ≡ true
@@ -132,5 +122,5 @@ module _ (places : List Place) (runs ideal : (ℕ → DeviceTold) → Outcomes) 
   shown e f = refl
 
   -- where nothing failed each device is without a fault
-  pub faultless : Each (λ x. faults_of x ≡ 0) (came_back old new) → (r : ℕ) → r < length places → faults_of (w r) ≡ 0
-  faultless none r l = each_one (λ (x : DeviceTold). faults_of x ≡ 0) (w r) d.back (stood r l) (subst (λ ds. Each (λ (x : DeviceTold). faults_of x ≡ 0) ds) back_is none)
+  pub faultless : AllByRecursion (λ x. faults_of x ≡ 0) (came_back old new) → (r : ℕ) → r < length places → faults_of (w r) ≡ 0
+  faultless none r l = among_each (λ (x : DeviceTold). faults_of x ≡ 0) (w r) d.back (subst (λ ds. AllByRecursion (λ (x : DeviceTold). faults_of x ≡ 0) ds) back_is none) (stood r l)

@@ -21,6 +21,7 @@ use Rattle.flume_cli.specs.Streams.{RunsStream}
 use Rattle.flume_cli.proofs.Accounting.{keeps_more}
 use Rattle.flume_cli.proofs.CatRuns.{cat_runs_alone}
 use Rattle.flume_cli.proofs.Retiring.{may_permuted}
+use Rattle.chunk_core.proofs.Distinct.{distinct_one}
 
 module _ {V : Type 0} (told : V → DeviceTold) where
   -- one device for the node of cat
@@ -34,8 +35,7 @@ module _ {V : Type 0} (told : V → DeviceTold) where
   })
 
 one_apart : (d : DeviceTold) → AreApart (d ∷ [])
-unfolding IsDistinct
-one_apart d = (tt, tt)
+one_apart d = distinct_one d.number
 
 -- a device that was just made is unused
 pub made_unused : (old mid : DepotTold) (path : List ℕ) (d : DeviceTold) → Makes old mid path mode.Read d → IsUnused d

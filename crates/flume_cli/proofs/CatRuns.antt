@@ -1,6 +1,6 @@
 -- The one stream of cat.
 use Rattle.std.proofs.Common.{◌≡◌, ◌≢◌, ℕ, zero, suc, ◌<◌, Bool, true, false, List, [], ◌∷◌, ◌++◌, inl, inr, map, length, Option, Some, None, refl, sym, ◌∙◌, ap, subst, ⊎_elim, arith}
-use Rattle.chunk_core.specs.Lists.{Each}
+use Rattle.std.specs.List.{AllByRecursion}
 use Rattle.chunk_core.specs.Elements.{Element, rendering_of}
 use Rattle.chunk_core.specs.Outcomes.{End, Outcomes, Done, Fault, Cut}
 use Rattle.chunk_core.specs.declared.code.Code.{Code}
@@ -19,29 +19,29 @@ use Rattle.flume_cli.specs.declared.outcome.Outcome.{Outcome}
 use Rattle.flume_cli.specs.Alone.{elements_of, frame_of, IsPiece, IsCutAt, RunsAlone}
 use Rattle.flume_cli.specs.Cat.{to_read, FileRuns, IdealFileRuns, IsFrontWithin, RunsCat}
 use Rattle.flume_cli.proofs.AlonePerforms.{IsCovered, performs_alone}
-use Rattle.flume_cli.proofs.Each.{each_left, each_right}
+use Rattle.chunk_core.proofs.Each.{each_left, each_right}
 use Rattle.flume_cli.proofs.Pieces.{IsByte, bytes_are, bytes_length, pieces_fit}
 
 -- What a file gives are bytes.
 
-reads_bytes : (o : Option (List ℕ)) (d : DeviceTold) (ys : List Element) (e : End) → ReadsBy o d ys e → Each IsByte ys
-reads_bytes None d ys e r = subst (λ xs. Each IsByte xs) (sym r.2) (bytes_are r.0)
+reads_bytes : (o : Option (List ℕ)) (d : DeviceTold) (ys : List Element) (e : End) → ReadsBy o d ys e → AllByRecursion IsByte ys
+reads_bytes None d ys e r = subst (λ xs. AllByRecursion IsByte xs) (sym r.2) (bytes_are r.0)
 reads_bytes (Some c) d ys e r =
     ⊎_elim
-    (λ x. subst (λ xs. Each IsByte xs) (sym x.1) (bytes_are _))
-    (λ y. ⊎_elim (λ x. subst (λ xs. Each IsByte xs) (sym x.1) (bytes_are _)) (λ x. subst (λ xs. Each IsByte xs) (sym x.1) (bytes_are _)) y)
+    (λ x. subst (λ xs. AllByRecursion IsByte xs) (sym x.1) (bytes_are _))
+    (λ y. ⊎_elim (λ x. subst (λ xs. AllByRecursion IsByte xs) (sym x.1) (bytes_are _)) (λ x. subst (λ xs. AllByRecursion IsByte xs) (sym x.1) (bytes_are _)) y)
     r
 
-left_bytes : (R : Outcomes) → ((ys : List Element) (e : End) → R ys e → Each IsByte ys) → (ys : List Element) (e : End) → OrLeft R ys e → Each IsByte ys
+left_bytes : (R : Outcomes) → ((ys : List Element) (e : End) → R ys e → AllByRecursion IsByte ys) → (ys : List Element) (e : End) → OrLeft R ys e → AllByRecursion IsByte ys
 left_bytes R h ys e (inl r) = h ys e r
-left_bytes R h ys e (inr (c, inl n)) = subst (λ xs. Each IsByte xs) (sym n) tt
+left_bytes R h ys e (inr (c, inl n)) = subst (λ xs. AllByRecursion IsByte xs) (sym n) tt
 left_bytes R h ys e (inr (c, inr (more, g, r))) = each_left IsByte ys more (h (ys ++ more) g r)
 
-opens_bytes : (d : DeviceTold) (ys : List Element) (e : End) → Opens d (OrLeft (Reads d)) (Unit {0}) ys e → Each IsByte ys
+opens_bytes : (d : DeviceTold) (ys : List Element) (e : End) → Opens d (OrLeft (Reads d)) (Unit {0}) ys e → AllByRecursion IsByte ys
 opens_bytes d ys e (inl r) = left_bytes (Reads d) (λ xs g. reads_bytes d.content d xs g) ys e r.1
-opens_bytes d ys e (inr r) = subst (λ xs. Each IsByte xs) (sym r.1) tt
+opens_bytes d ys e (inr r) = subst (λ xs. AllByRecursion IsByte xs) (sym r.1) tt
 
-pub file_bytes : (d : DeviceTold) (ys : List Element) (e : End) → FileRuns d ys e → Each IsByte ys
+pub file_bytes : (d : DeviceTold) (ys : List Element) (e : End) → FileRuns d ys e → AllByRecursion IsByte ys
 file_bytes d ys e r = left_bytes (Opens d (OrLeft (Reads d)) (Unit {0})) (opens_bytes d) ys e r
 
 -- A fault shows on its device.

@@ -26,7 +26,7 @@ use Rattle.tree_laws.specs.Shelves.{end_of, noted_ends, shelf_ends}
 use Rattle.tree_laws.specs.Whole.{IsWhole}
 use Rattle.run_rules.specs.Facts.{leased_stream}
 use Rattle.flume_cli.specs.Alone.{IsAccount}
-use Rattle.flume_cli.proofs.Each.{each_among}
+use Rattle.chunk_core.proofs.Each.{each_among}
 
 not_leased : (w : What) → leased_of w ≡ [] → leased_stream w ≡ None
 not_leased (Lease j s) e = absurd (let f : (j, s) ∷ [] ≡ [] = e in cc)

@@ -1,8 +1,8 @@
 -- Counts of devices and of rows.
-use Rattle.std.proofs.Common.{◌≡◌, ℕ, ◌+◌, ◌<◌, Bool, true, false, cond, ◌&&◌, List, [], ◌∷◌, ◌++◌, map, filter, flat_map, length, count_by, Option, Some, None, refl, sym, ◌∙◌, ap, subst, ⊎_elim, arith, append_assoc}
+use Rattle.std.proofs.Common.{◌≡◌, ℕ, ◌+◌, ◌<◌, Bool, true, false, cond, ◌&&◌, List, [], ◌∷◌, ◌++◌, map, filter, flat_map, length, count_by, Option, Some, None, refl, sym, ◌∙◌, ap, subst, ⊎_elim, arith, append_assoc, nat_eq}
 use Rattle.std.proofs.lemmas.List.Sums.{sum_by-cons}
 use Rattle.std.proofs.lemmas.List.Sorted.{IsPermutation-map, sum_by-IsPermutation}
-use Rattle.std.specs.List.{filter_map, cons_option}
+use Rattle.std.specs.List.{filter_map, cons_option, IsDistinct}
 use Rattle.std.specs.List.Sorted.{IsPermutation}
 use Rattle.chunk_core.specs.Lists.{IsAmong}
 use Rattle.chunk_core.specs.Lists.IsAmong.{here, there}
@@ -14,9 +14,8 @@ use Rattle.res_ledger.specs.declared.event.Event.{Event}
 use Rattle.device_port.specs.Device.{Place, DeviceTold}
 use Rattle.run_rules.specs.Facts.{below, is_place}
 use Rattle.run_rules.specs.Devices.{AreAsMany, place_of}
-use Rattle.scope_tree.specs.Rows.{AreDistinct}
-use Rattle.scope_tree.proofs.Distinct.{distinct_filter}
-use Rattle.flume_cli.proofs.Accounting.{each_of}
+use Rattle.chunk_core.proofs.Distinct.{distinct_filter, distinct_cons, distinct_nil}
+use Rattle.chunk_core.proofs.Each.{each_of}
 use Rattle.flume_cli.proofs.Permuted.{same_elements, range_among, among_range, range_distinct}
 
 module _ {A B : Type 0} where
@@ -61,23 +60,22 @@ rows_named row L = filter_map (λ e. row e.what) L
 -- where no event names a row that one before it names, no row is named twice
 pub named_once : (row : What → Option ℕ) (L : List Event)
     → ((P Q : List Event) (e : Event) (r : ℕ) → L ≡ P ++ e ∷ Q → row e.what ≡ Some r → ¬ (IsAmong r (rows_named row P)))
-    → AreDistinct (rows_named row L)
+    → IsDistinct nat_eq (rows_named row L)
 named_once row L apart = behind [] L refl
   where
-    behind : (P Q : List Event) → L ≡ P ++ Q → AreDistinct (rows_named row Q)
-    behind P [] is = tt
+    behind : (P Q : List Event) → L ≡ P ++ Q → IsDistinct nat_eq (rows_named row Q)
+    behind P [] is = distinct_nil
     behind P (e ∷ Q) is =
         let rest = behind (P ++ e ∷ []) Q (is ∙ sym (append_assoc P (e ∷ []) Q)) in
-        (elim (row e.what) as (λ o. row e.what ≡ o → AreDistinct (cons_option o (rows_named row Q))) [
+        (elim (row e.what) as (λ o. row e.what ≡ o → IsDistinct nat_eq (cons_option o (rows_named row Q))) [
           | None ↦ λ n. rest
-          | Some r ↦ λ n. (
-            λ m.
+          | Some r ↦ λ n. distinct_cons r (rows_named row Q)
+              (λ m.
                 let f = filter_map_from (λ (x : Event). row x.what) r Q m in
                 let parts = split_at f.0 Q f.1 in
                 apart (P ++ e ∷ parts.0) parts.1 f.0 r (is ∙ (ap (λ l. P ++ e ∷ l) parts.2 ∙ sym (append_assoc P (e ∷ parts.0) (f.0 ∷ parts.1)))) f.2
-                (filter_map_of (λ (x : Event). row x.what) r e (P ++ e ∷ parts.0) (among_mid P parts.0 e) n),
-            rest,
-          )
+                (filter_map_of (λ (x : Event). row x.what) r e (P ++ e ∷ parts.0) (among_mid P parts.0 e) n))
+              rest
         ]) refl
 
 -- the places of rows, where each has one
@@ -91,7 +89,7 @@ module _ (places : List Place) (w : ℕ → DeviceTold) (placed : (r : ℕ) → 
       ]) h
 
   -- the devices that pass are as many as the rows named, where a row is named exactly if its device passes
-  pub as_many : (passes : DeviceTold → Bool) (row : What → Option ℕ) (back : List DeviceTold) (L : List Event) → IsPermutation (map w (below (length places))) back → AreDistinct (rows_named row L)
+  pub as_many : (passes : DeviceTold → Bool) (row : What → Option ℕ) (back : List DeviceTold) (L : List Event) → IsPermutation (map w (below (length places))) back → IsDistinct nat_eq (rows_named row L)
       → ((r : ℕ) → IsAmong r (rows_named row L) → (r < length places) × (passes (w r) ≡ true)) → ((r : ℕ) → r < length places → passes (w r) ≡ true → IsAmong r (rows_named row L)) → AreAsMany passes row back places L
   as_many passes row back L each once only all =
       let ns = below (length places) in

@@ -10,18 +10,10 @@ use Rattle.run_rules.specs.Facts.{at, below}
 use Rattle.run_rules.specs.Devices.{named, numbered, place_of}
 use Rattle.flume_cli.specs.Alone.{IsReturned, AreReturned}
 use Rattle.flume_cli.proofs.Counting.{filter_map_is}
+use Rattle.flume_cli.proofs.Permuted.{range_distinct}
 
 named_is : (d : DeviceTold) (n : ℕ) (p : Place) → d.number ≡ n → d.place ≡ p → named d ≡ (n, p)
 named_is d n p e f = ap (λ k. let x : ℕ × Place = (k, d.place) in x) e ∙ ap (λ q. let x : ℕ × Place = (n, q) in x) f
-
-range_above : (m a n : ℕ) → m < a → AllByRecursion (λ k. nat_eq m k ≡ false) (range_with_len a n)
-range_above m a zero l = tt
-range_above m a (suc n) l = (ne_eqb m a (λ e. omega arith), range_above m (a + 1) n (omega arith))
-
-range_apart : (a n : ℕ) → IsDistinct nat_eq (range_with_len a n)
-unfolding IsDistinct
-range_apart a zero = tt
-range_apart a (suc n) = (range_above a (a + 1) n (omega arith), range_apart (a + 1) n)
 
 -- Those that pass a test are apart where all are.
 
@@ -61,4 +53,4 @@ module _ (files : Option Files) (w : ℕ → DeviceTold) where
 
   -- no two have one number
   pub apart : (n : ℕ) (ps : List Place) (t : DeviceTold → Bool) → AreReturned files n w 0 ps → AreApart (filter t (map w (below (length ps))))
-  apart n ps t h = still_apart t (map w (below (length ps))) (subst (λ ns. IsDistinct nat_eq ns) (sym (numbers_are n 0 ps h)) (range_apart n (length ps)))
+  apart n ps t h = still_apart t (map w (below (length ps))) (subst (λ ns. IsDistinct nat_eq ns) (sym (numbers_are n 0 ps h)) (range_distinct n (length ps)))

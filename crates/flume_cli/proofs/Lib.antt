@@ -2,7 +2,6 @@ pub mod Accounting
 pub mod Unmade
 pub mod Telling
 pub mod Pieces
-pub mod Each
 pub mod Permuted
 pub mod Counting
 pub mod Homes

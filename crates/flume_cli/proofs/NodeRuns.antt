@@ -1,8 +1,8 @@
 -- A node that was run to its end, or that couldn't be begun.
-use Rattle.std.proofs.Common.{◌≡◌, ℕ, ◌+◌, Bool, List, [], ◌∷◌, ◌++◌, inl, inr, map, length, Some, Result, Err, refl, sym, ◌∙◌, ap, subst, ⊎_elim, arith, append-nil}
+use Rattle.std.proofs.Common.{◌≡◌, ℕ, ◌+◌, Bool, List, [], ◌∷◌, ◌++◌, inl, inr, map, length, Some, Result, Err, refl, sym, ◌∙◌, ap, subst, ⊎_elim, arith, append-nil, nat_eq}
 use Rattle.std.proofs.lemmas.Bool.{false≢true}
 use Rattle.std.proofs.lemmas.List.{length-map}
-use Rattle.std.specs.List.{filter_map}
+use Rattle.std.specs.List.{filter_map, IsDistinct}
 use Rattle.chunk_core.specs.Lists.{IsAmong}
 use Rattle.chunk_core.specs.Lists.IsAmong.{here}
 use Rattle.chunk_core.proofs.Members.{among_nil}
@@ -22,7 +22,6 @@ use Rattle.pull_turns.specs.Sizes.{HasNoPipeOf, widest_of}
 use Rattle.res_ledger.specs.Order.{firsts}
 use Rattle.row_seat.specs.Views.{IsWithin}
 use Rattle.scope_tree.specs.Calls.{Closes, Seen}
-use Rattle.scope_tree.specs.Rows.{AreDistinct}
 use Rattle.scope_tree.specs.Released.{said}
 use Rattle.scope_tree.proofs.Owning.{owner_pays}
 use Rattle.scope_tree.proofs.Use.{closed_now}
@@ -41,6 +40,7 @@ use Rattle.flume_cli.specs.declared.frame.NotPut.{NotPut}
 use Rattle.flume_cli.specs.declared.frame.NotPut.TheVariants as why
 use Rattle.flume_cli.specs.Nodes.{RunsNode}
 use Rattle.flume_cli.specs.Printing.{PrintsAll, PrintsRun}
+use Rattle.chunk_core.proofs.Distinct.{distinct_nil}
 
 nothing_in : {A : Type 0} (xs : List A) → ((x : A) → IsAmong x xs → ⊥) → xs ≡ []
 nothing_in [] h = refl
@@ -93,7 +93,7 @@ module _ {V : Type 0} (told : V → DeviceTold) (n : Node) (devices : List V) (c
   node_unmade supplied room closes quiet =
       let x = site_of n a devices in
       let bare : b.shelf ≡ [] = closes.torn.1 ∙ (ap (λ xs. a.shelf ++ xs) (none_torn room.opened closes) ∙ (append-nil a.shelf ∙ empty)) in
-      let distinct : AreDistinct (firsts (said a.shelf)) = subst (λ l. AreDistinct (firsts (said l))) (sym empty) tt in
+      let distinct : IsDistinct nat_eq (firsts (said a.shelf)) = subst (λ l. IsDistinct nat_eq (firsts (said l))) (sym empty) distinct_nil in
       let vacant : (r : ℕ) → IsAmong r a.seat.empty → ¬ (IsAmong r (firsts (said a.shelf))) = λ r m i. among_nil (subst (λ l. IsAmong r (firsts (said l))) empty i) in
       let all = parted told x (begun_in_order told n a devices supplied room) room.opened distinct vacant in
       let within : length (map Some devices) ≡ length devices = length-map devices Some in
@@ -109,7 +109,7 @@ module _ {V : Type 0} (told : V → DeviceTold) (n : Node) (devices : List V) (c
         };
         parted = subst (λ l. Parted told (told_at told x) l (first + length devices) first devices) (empty ∙ sym bare)
             (subst (λ k. Parted told (told_at told x) a.shelf (first + k) first devices) within (subst (λ ds. Parted told (told_at told x) a.shelf (first + length (map Some devices)) first ds) (filtered devices) all));
-        once = subst (λ l. AreDistinct (firsts (said l))) (sym bare) tt;
+        once = subst (λ l. IsDistinct nat_eq (firsts (said l))) (sym bare) distinct_nil;
         rows = λ y m. absurd (among_nil (subst (λ l. IsAmong y l) bare m));
         root = closed_now closes;
         exits = closed_as closes room.root;

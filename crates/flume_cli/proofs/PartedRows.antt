@@ -1,22 +1,20 @@
 -- The devices of a stream that has ended: on the shelf, or never opened.
-use Rattle.std.proofs.Common.{◌≡◌, ℕ, zero, suc, ◌+◌, ◌<◌, ◌≤◌, Bool, true, false, cond, not, List, [], ◌∷◌, ◌++◌, ◌⊎◌, inl, inr, map, filter, refl, sym, ◌∙◌, ap, subst, ⊎_elim, arith}
+use Rattle.std.proofs.Common.{◌≡◌, ℕ, zero, suc, ◌+◌, ◌<◌, ◌≤◌, Bool, true, false, cond, not, List, [], ◌∷◌, ◌++◌, ◌⊎◌, inl, inr, map, filter, refl, sym, ◌∙◌, ap, subst, ⊎_elim, arith, nat_eq}
 use Rattle.std.proofs.lemmas.Bool.{cases_lt}
 use Rattle.std.proofs.lemmas.List.{map-append}
 use Rattle.std.proofs.lemmas.List.Sorted.{IsPermutation-append_left, IsPermutation-filter_both, IsPermutation-map, IsPermutation-trans}
-use Rattle.std.specs.List.{range_with_len}
+use Rattle.std.specs.List.{range_with_len, IsDistinct}
 use Rattle.std.specs.List.Sorted.{IsPermutation}
-use Rattle.chunk_core.specs.Lists.{IsAmong}
+use Rattle.chunk_core.specs.Lists.{IsAmong, has}
 use Rattle.chunk_core.specs.Lists.IsAmong.{here, there}
 use Rattle.chunk_core.proofs.Members.{among_nil, among_cons}
 use Rattle.chunk_core.proofs.Filters.{among_filter, filter_among}
 use Rattle.res_ledger.specs.Order.{firsts}
-use Rattle.res_ledger.specs.Own.{has}
-use Rattle.res_ledger.proofs.Noted.{has_in, in_has}
+use Rattle.chunk_core.proofs.Bools.{has_in, in_has}
 use Rattle.device_port.specs.Device.{DeviceTold}
 use Rattle.scope_tree.specs.declared.branch.Spent.{Spent}
-use Rattle.scope_tree.specs.Rows.{AreDistinct}
 use Rattle.scope_tree.specs.Released.{said}
-use Rattle.scope_tree.proofs.Distinct.{distinct_filter}
+use Rattle.chunk_core.proofs.Distinct.{distinct_filter, distinct_head, distinct_tail}
 use Rattle.pull_stepper.specs.Sites.{IsUnopened, IsSpent, Parted}
 use Rattle.pull_stepper.specs.Sites.Parted.{none, unopened, ended}
 use Rattle.run_rules.specs.Facts.{below}
@@ -35,13 +33,13 @@ module _ {V : Type 0} where
   in_row r (x ∷ xs) m = ⊎_elim (λ e. (x, here xs, sym e)) (λ n. let y = in_row r xs n in (y.0, there x y.1, y.2)) (among_cons m)
 
   -- a row stands once, so what has its number is it
-  same_row : (xs : List (Spent V)) → AreDistinct (firsts (said xs)) → (x y : Spent V) → IsAmong x xs → IsAmong y xs → x.row ≡ y.row → x ≡ y
+  same_row : (xs : List (Spent V)) → IsDistinct nat_eq (firsts (said xs)) → (x y : Spent V) → IsAmong x xs → IsAmong y xs → x.row ≡ y.row → x ≡ y
   same_row [] d x y m n e = absurd (among_nil m)
   same_row (z ∷ xs) d x y m n e =
-      let apart : (u v : Spent V) → u ≡ z → IsAmong v xs → u.row ≡ v.row → ⊥ = λ u v a i s. d.0 (subst (λ r. IsAmong r (firsts (said xs))) (sym s ∙ ap (λ (t : Spent V). t.row) a) (row_in v xs i)) in
+      let apart : (u v : Spent V) → u ≡ z → IsAmong v xs → u.row ≡ v.row → ⊥ = λ u v a i s. distinct_head z.row (firsts (said xs)) d (subst (λ r. IsAmong r (firsts (said xs))) (sym s ∙ ap (λ (t : Spent V). t.row) a) (row_in v xs i)) in
       ⊎_elim
       (λ a. ⊎_elim (λ b. a ∙ sym b) (λ j. absurd (apart x y a j e)) (among_cons n))
-      (λ i. ⊎_elim (λ b. absurd (apart y x b i (sym e))) (λ j. same_row xs d.1 x y i j e) (among_cons n))
+      (λ i. ⊎_elim (λ b. absurd (apart y x b i (sym e))) (λ j. same_row xs (distinct_tail z.row (firsts (said xs)) d) x y i j e) (among_cons n))
       (among_cons m)
 
 module _ {V : Type 0} (told : V → DeviceTold) (w : ℕ → DeviceTold) (n : ℕ) (shelf : List (Spent V)) where
@@ -91,7 +89,7 @@ module _ {V : Type 0} (told : V → DeviceTold) (w : ℕ → DeviceTold) (n : �
       let rest : map told ds ≡ map w (filter lacks (range_with_len (i + 1) k)) = let next : suc i ≡ i + 1 = omega arith in subst (λ j. map told ds ≡ map w (filter lacks (range_with_len j k))) next (waiting p k (omega (arith, e))) in
       subst (λ b. map told ds ≡ map w (cond b (i ∷ filter lacks (range_with_len (i + 1) k)) (filter lacks (range_with_len (i + 1) k)))) (sym (stands_here x m i r)) rest
 
-  module _ {ds : List V} (parted : Parted told w shelf n 0 ds) (once : AreDistinct (firsts (said shelf))) (within : (x : Spent V) → IsAmong x shelf → x.row < n) where
+  module _ {ds : List V} (parted : Parted told w shelf n 0 ds) (once : IsDistinct nat_eq (firsts (said shelf))) (within : (x : Spent V) → IsAmong x shelf → x.row < n) where
     -- what stands on the shelf is the device of its row
     ended_so : (x : Spent V) → IsAmong x shelf → (told x.pay ≡ w x.row) × IsSpent (w x.row) x.exit x.ok
     ended_so x m =

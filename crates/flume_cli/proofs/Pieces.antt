@@ -1,12 +1,12 @@
 -- The frames of pieces, and their bytes.
 use Rattle.std.proofs.Common.{◌≡◌, ℕ, ◌<◌, ◌≤◌, List, [], ◌∷◌, ◌++◌, length, map, refl, sym, ◌∙◌, ap, arith, length-append}
 use Rattle.std.proofs.lemmas.Grind.{flat_map-append}
-use Rattle.chunk_core.specs.Lists.{Each}
+use Rattle.std.specs.List.{AllByRecursion}
 use Rattle.chunk_core.specs.Elements.{Element, element_text, rendering_of}
 use Rattle.chunk_core.specs.Elements.Element.{Byte, Line, Row}
 use Rattle.chunk_core.specs.Texts.{payloads_of}
 use Rattle.flume_cli.specs.Alone.{elements_of, frame_of, IsPiece}
-use Rattle.flume_cli.proofs.Each.{each_left, each_right}
+use Rattle.chunk_core.proofs.Each.{each_left, each_right}
 
 -- each element has some text
 text_some : (x : Element) → 0 < length (element_text x)
@@ -23,7 +23,7 @@ pub payloads_pieces : (pieces : List (List Element)) → payloads_of 0 (map fram
 payloads_pieces [] = refl
 payloads_pieces (p ∷ pieces) = ap (λ b. rendering_of p ++ b) (payloads_pieces pieces) ∙ sym (flat_map-append element_text p (elements_of pieces))
 
-pub pieces_numbers : (pieces : List (List Element)) → Each IsPiece pieces → Each (λ f. (f.stream < 1) × (0 < length f.payload)) (map frame_of pieces)
+pub pieces_numbers : (pieces : List (List Element)) → AllByRecursion IsPiece pieces → AllByRecursion (λ f. (f.stream < 1) × (0 < length f.payload)) (map frame_of pieces)
 pieces_numbers [] h = tt
 pieces_numbers (p ∷ pieces) h = ((omega arith, rendering_some p h.0), pieces_numbers pieces h.1)
 
@@ -32,11 +32,11 @@ pieces_numbers (p ∷ pieces) h = ((omega arith, rendering_some p h.0), pieces_n
 abbrev pub IsByte : Element → Type 0
 IsByte x = (b : ℕ) × (x ≡ Byte b)
 
-pub bytes_are : (bytes : List ℕ) → Each IsByte (map Byte bytes)
+pub bytes_are : (bytes : List ℕ) → AllByRecursion IsByte (map Byte bytes)
 bytes_are [] = tt
 bytes_are (b ∷ bytes) = ((b, refl), bytes_are bytes)
 
-pub bytes_length : (xs : List Element) → Each IsByte xs → length (rendering_of xs) ≡ length xs
+pub bytes_length : (xs : List Element) → AllByRecursion IsByte xs → length (rendering_of xs) ≡ length xs
 bytes_length [] h = refl
 bytes_length (x ∷ xs) h =
     let one : length (element_text x) ≡ 1 = ap (λ y. length (element_text y)) h.0.1 in
@@ -44,6 +44,6 @@ bytes_length (x ∷ xs) h =
     omega (arith, one, rest, length-append (element_text x) (rendering_of xs))
 
 -- each frame of bytes has at most size of them
-pub pieces_fit : (size : ℕ) (pieces : List (List Element)) → Each (λ xs. length xs ≤ size) pieces → Each IsByte (elements_of pieces) → Each (λ f. length f.payload ≤ size) (map frame_of pieces)
+pub pieces_fit : (size : ℕ) (pieces : List (List Element)) → AllByRecursion (λ xs. length xs ≤ size) pieces → AllByRecursion IsByte (elements_of pieces) → AllByRecursion (λ f. length f.payload ≤ size) (map frame_of pieces)
 pieces_fit size [] h b = tt
 pieces_fit size (p ∷ pieces) h b = (omega (arith, h.0, bytes_length p (each_left IsByte p (elements_of pieces) b)), pieces_fit size pieces h.1 (each_right IsByte p (elements_of pieces) b))

@@ -3,7 +3,7 @@ use Rattle.std.proofs.Common.{◌≡◌, ℕ, ◌+◌, ◌<◌, ◌≤◌, false
 use Rattle.std.proofs.lemmas.Bool.{false≢true}
 use Rattle.std.proofs.lemmas.Grind.{flat_map-append}
 use Rattle.std.proofs.lemmas.List.{map-append, take-append-drop}
-use Rattle.chunk_core.specs.Lists.{Each}
+use Rattle.std.specs.List.{AllByRecursion}
 use Rattle.chunk_core.specs.Elements.{Element, elements, rendering_of}
 use Rattle.chunk_core.specs.Outcomes.{Done, Fault, Cut}
 use Rattle.chunk_core.specs.Texts.{Frame, frame_text, frames_text}
@@ -28,24 +28,21 @@ use Rattle.flume_cli.specs.declared.frame.NotPut.TheVariants as why
 use Rattle.flume_cli.specs.Alone.{AreSmall, elements_of, frame_of, IsPiece, PrintsPieces}
 use Rattle.flume_cli.specs.Frame.{PutsLoad}
 use Rattle.flume_cli.specs.Printing.{PrintsRun}
+use Rattle.chunk_core.proofs.Each.{each_snoc}
 
 -- no pipe is in what is left, pieces stay as small, and so small were those that came
 pub record StaysSmall {F : Type 0} (n : ℕ) (start rest : Rest F) (pieces : List (List Element)) : Type 0 where
   pub plain : HasNoPipe rest
   pub wide : widest n rest ≤ widest n start
-  pub fits : Each (λ xs. length xs ≤ widest n start) pieces
+  pub fits : AllByRecursion (λ xs. length xs ≤ widest n start) pieces
 
 -- so far turns gave these pieces, and each was printed
 pub record PrintsOn {F : Type 0} (P : Standing F) (first now : ℕ → DeviceTold) (n : ℕ) (start rest : Rest F) (old new : SinkTold) : Type 0 where
   pub pieces : List (List Element)
-  pub some : Each IsPiece pieces
+  pub some : AllByRecursion IsPiece pieces
   pub small : HasNoPipe start → StaysSmall n start rest pieces
   pub led : Led P first now start rest (elements_of pieces)
   pub wrote : new ≡ with_bytes old (frames_text (map frame_of pieces))
-
-each_snoc : {A : Type 0} (P : A → Type 0) (xs : List A) (x : A) → Each P xs → P x → Each P (xs ++ x ∷ [])
-each_snoc P [] x h p = (p, tt)
-each_snoc P (y ∷ xs) x h p = (h.0, each_snoc P xs x h.1 p)
 
 elements_snoc : (pieces : List (List Element)) (xs : List Element) → elements_of (pieces ++ xs ∷ []) ≡ elements_of pieces ++ xs
 elements_snoc pieces xs = flat_map-append (λ (ys : List Element). ys) pieces (xs ∷ []) ∙ ap (λ b. elements_of pieces ++ b) (append-nil xs)

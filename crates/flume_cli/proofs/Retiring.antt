@@ -7,13 +7,12 @@ use Rattle.std.proofs.lemmas.Map.Keys.{IsDistinct-IsPermutation}
 use Rattle.std.specs.Cmp.{nat_eq_equiv}
 use Rattle.std.specs.List.{AllByRecursion, IsDistinct}
 use Rattle.std.specs.List.Sorted.{IsPermutation}
-use Rattle.chunk_core.specs.Lists.{Each}
-use Rattle.res_ledger.proofs.Tests.{itself}
+use Rattle.chunk_core.proofs.Bools.{itself}
 use Rattle.device_port.specs.declared.device.Mode.TheVariants as mode
 use Rattle.device_port.specs.Device.{DeviceTold}
 use Rattle.device_port.specs.Depot.{AreApart, DepotTold, Files, MayReturn, IsUnknown, KeepsFilesBut, KeepsOtherFiles, numbers}
 use Rattle.flume_cli.specs.Retire.{MayReturnAll, Returns}
-use Rattle.flume_cli.proofs.Each.{among_each, each_among, each_append, each_left, each_right, each_permuted}
+use Rattle.chunk_core.proofs.Each.{each_among, among_each, each_left, each_right, each_append, each_permuted}
 
 -- files that stay
 pub files_same : (f : Option Files) → KeepsFilesBut (λ path. ⊥) f f
@@ -40,12 +39,12 @@ read_keeps (Some f) None d r k = absurd k
 
 -- Two lists of devices of which no two have one number.
 
-parts_of : (n : ℕ) (xs ys : List DeviceTold) → AllByRecursion (λ k. nat_eq n k ≡ false) (numbers (xs ++ ys)) → AllByRecursion (λ k. nat_eq n k ≡ false) (numbers xs) × Each (λ y. n ≢ y.number) ys
+parts_of : (n : ℕ) (xs ys : List DeviceTold) → AllByRecursion (λ k. nat_eq n k ≡ false) (numbers (xs ++ ys)) → AllByRecursion (λ k. nat_eq n k ≡ false) (numbers xs) × AllByRecursion (λ y. n ≢ y.number) ys
 parts_of n [] [] h = (tt, tt)
 parts_of n [] (y ∷ ys) h = (tt, (λ e. both_ways (nat_eq n y.number) h.0 (subst (λ k. nat_eq n k ≡ true) e (itself n)), (parts_of n [] ys h.1).1))
 parts_of n (x ∷ xs) ys h = let rest = parts_of n xs ys h.1 in ((h.0, rest.0), rest.1)
 
-apart_parts : (xs ys : List DeviceTold) → AreApart (xs ++ ys) → AreApart xs × AreApart ys × Each (λ x. Each (λ y. x.number ≢ y.number) ys) xs
+apart_parts : (xs ys : List DeviceTold) → AreApart (xs ++ ys) → AreApart xs × AreApart ys × AllByRecursion (λ x. AllByRecursion (λ y. x.number ≢ y.number) ys) xs
 unfolding IsDistinct
 apart_parts [] ys h = (tt, h, tt)
 apart_parts (x ∷ xs) ys h = let rest = apart_parts xs ys h.1 in let here = parts_of x.number xs ys h.0 in ((here.0, rest.0), rest.1, (here.1, rest.2))
@@ -77,8 +76,8 @@ returning_start old ds h = record {
 }
 
 -- where other devices came back, a device that isn't one of them still may
-still_may : (old new : DepotTold) (back : List DeviceTold) → new.made ≡ old.made → new.retired ≡ old.retired ++ back → (ys : List DeviceTold) → Each (λ y. IsUnknown y.number back) ys
-    → Each (λ y. MayReturn old y × (y.place.mode ≡ mode.Read)) ys → Each (λ y. MayReturn new y × (y.place.mode ≡ mode.Read)) ys
+still_may : (old new : DepotTold) (back : List DeviceTold) → new.made ≡ old.made → new.retired ≡ old.retired ++ back → (ys : List DeviceTold) → AllByRecursion (λ y. IsUnknown y.number back) ys
+    → AllByRecursion (λ y. MayReturn old y × (y.place.mode ≡ mode.Read)) ys → AllByRecursion (λ y. MayReturn new y × (y.place.mode ≡ mode.Read)) ys
 still_may old new back made retired [] n h = tt
 still_may old new back made retired (y ∷ ys) n h = (
   (
@@ -104,7 +103,7 @@ module _ (old now new : DepotTold) (ds left : List DeviceTold) (d : DeviceTold) 
             (subst (λ xs. IsPermutation xs (left ++ (r.back ++ d ∷ []))) (sym (append_assoc left (d ∷ []) r.back)) (IsPermutation-append_right left (d ∷ [] ++ r.back) (r.back ++ d ∷ []) (IsPermutation-append_comm (d ∷ []) r.back)));
         files = files_then old.files now.files new.files r.files (read_keeps now.files new.files d (each_right (λ (x : DeviceTold). MayReturn now x × (x.place.mode ≡ mode.Read)) left (d ∷ []) r.may.each).0.1 files);
         may = record {
-          each = still_may now new (d ∷ []) made retired left (each_among (λ (x : DeviceTold). IsUnknown x.number (d ∷ [])) left (λ x m. ((λ e. (among_each (λ (y : DeviceTold). Each (λ z. y.number ≢ z.number) (d ∷ [])) x left parts.2 m).0 (sym e)), tt)))
+          each = still_may now new (d ∷ []) made retired left (each_among (λ (x : DeviceTold). IsUnknown x.number (d ∷ [])) left (λ x m. ((λ e. (among_each (λ (y : DeviceTold). AllByRecursion (λ z. y.number ≢ z.number) (d ∷ [])) x left parts.2 m).0 (sym e)), tt)))
               (each_left (λ (x : DeviceTold). MayReturn now x × (x.place.mode ≡ mode.Read)) left (d ∷ []) r.may.each);
           apart = parts.0;
         };
@@ -136,7 +135,7 @@ module _ (old mid : DepotTold) (xs : List DeviceTold) (r : Returns old mid xs) w
         each = still_may old mid r.back r.made r.retired ys
             (each_among (λ (y : DeviceTold). IsUnknown y.number r.back) ys (λ y n.
             each_permuted (λ (x : DeviceTold). x.number ≢ y.number) xs r.back r.each (each_among (λ (x : DeviceTold). x.number ≢ y.number) xs (λ x m.
-            among_each (λ (z : DeviceTold). x.number ≢ z.number) y ys (among_each (λ (u : DeviceTold). Each (λ v. u.number ≢ v.number) ys) x xs parts.2 m) n))))
+            among_each (λ (z : DeviceTold). x.number ≢ z.number) y ys (among_each (λ (u : DeviceTold). AllByRecursion (λ v. u.number ≢ v.number) ys) x xs parts.2 m) n))))
             (each_right (λ (x : DeviceTold). MayReturn old x × (x.place.mode ≡ mode.Read)) xs ys h.each);
         apart = parts.1;
       }

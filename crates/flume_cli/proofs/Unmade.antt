@@ -3,7 +3,7 @@ use Rattle.std.proofs.Common.{◌≡◌, ℕ, Bool, true, false, nat_eq, nat_lt,
 use Rattle.std.proofs.Math.Seq.{drop-append_seam}
 use Rattle.std.proofs.lemmas.List.Sorted.{IsPermutation-refl}
 use Rattle.std.specs.List.Sorted.{IsPermutation}
-use Rattle.chunk_core.specs.Lists.{Each}
+use Rattle.std.specs.List.{AllByRecursion}
 use Rattle.res_ledger.specs.declared.event.Event.{Event}
 use Rattle.res_ledger.proofs.Judged.{legal_sound, complete_sound}
 use Rattle.res_ledger.proofs.Ordering.{ordered_sound}
@@ -53,7 +53,7 @@ cat_makes_nothing path old new so sn size e quiet =
           made = and_nothing old.made;
           retired = and_nothing old.retired;
           once = subst (λ ps. IsPermutation (numbered (length old.made) ps) (map named (came_back old old))) (sym (dropped_all old.made)) (subst (λ ds. IsPermutation [] (map named ds)) (sym (dropped_all old.retired)) (IsPermutation-refl []));
-          shut = subst (λ ds. Each (λ (x : DeviceTold). (x.is_open ≡ false) × (x.closes ≡ x.opens)) ds) (sym (dropped_all old.retired)) tt;
+          shut = subst (λ ds. AllByRecursion (λ (x : DeviceTold). (x.is_open ≡ false) × (x.closes ≡ x.opens)) ds) (sym (dropped_all old.retired)) tt;
           rows = tt;
           acquired = subst (λ ds. AreAsMany (λ d. nat_eq d.opens 1) acquired_row ds (to_read path ∷ []) []) (sym (dropped_all old.retired)) tt;
           failed = subst (λ ds. AreAsMany (λ d. nat_lt 0 d.close_faults) failed_row ds (to_read path ∷ []) []) (sym (dropped_all old.retired)) tt;

@@ -1,7 +1,7 @@
 -- What one stream that ran alone has done.
 use Rattle.std.specs.Prelude.{◌≡◌, ◌⊎◌, ℕ, ◌+◌, ◌<◌, ◌≤◌, Bool, true, false, cond, nat_eq, List, [], ◌∷◌, ◌++◌, map, length, flat_map, Option, Some, None}
 use Rattle.std.specs.List.Sorted.{IsPermutation}
-use Rattle.chunk_core.specs.Lists.{Each}
+use Rattle.std.specs.List.{AllByRecursion}
 use Rattle.chunk_core.specs.Elements.{Element, rendering_of}
 use Rattle.chunk_core.specs.Outcomes.{End, Cut, Outcomes, exit_of}
 use Rattle.chunk_core.specs.Texts.{Frame, frame_text, frames_text}
@@ -52,7 +52,7 @@ IsCutAt true next rest = IsPiece next × (more : List ℕ) × (0 < length more) 
 -- pieces were printed, each in a frame, and where a write failed a front of the frame of the next one
 pub record PrintsPieces (old new : SinkTold) (failed : Bool) : Type 0 where
   pub pieces : List (List Element)
-  pub some : Each IsPiece pieces
+  pub some : AllByRecursion IsPiece pieces
   pub next : List Element
   pub rest : List ℕ
   pub cut : IsCutAt failed next rest
@@ -60,7 +60,7 @@ pub record PrintsPieces (old new : SinkTold) (failed : Bool) : Type 0 where
 
 -- no piece has more than size elements, nor has the one of which a front was written
 pub record AreSmall (size : ℕ) (pieces : List (List Element)) (next : List Element) : Type 0 where
-  pub fits : Each (λ xs. length xs ≤ size) pieces
+  pub fits : AllByRecursion (λ xs. length xs ≤ size) pieces
   pub next_fits : length next ≤ size
 
 -- the pieces are those of a run with the end that is reported, and what the next one goes on with may be left there
@@ -107,7 +107,7 @@ pub record IsAccount (count : ℕ) (w : ℕ → DeviceTold) (how : How) (L : Lis
   pub legal : IsLegal L
   pub complete : IsComplete L
   pub ordered : IsOrdered L
-  pub own : Each (λ e. (e.by ≡ Inner 0) × (leased_stream e.what ≡ None)) L
+  pub own : AllByRecursion (λ e. (e.by ≡ Inner 0) × (leased_stream e.what ≡ None)) L
   pub acquired : (r s : ℕ) → Notes L (Inner 0) (Acquire r s) → (r < count) × ((w r).opens ≡ 1)
   pub each : (r : ℕ) → r < count → (w r).opens ≡ 1 → IsAcquired L r
   pub ended : (r : ℕ) (x : Exit) (ok : Bool) → Notes L (Inner 0) (Final r x ok) → ((w r).exit ≡ Some x) × (ok ≡ nat_eq (w r).close_faults 0)

@@ -1,6 +1,6 @@
 -- What the command cat does.
 use Rattle.std.specs.Prelude.{◌≡◌, ◌⊎◌, ℕ, ◌≤◌, true, false, List, [], ◌∷◌, ◌++◌, length}
-use Rattle.chunk_core.specs.Lists.{Each}
+use Rattle.std.specs.List.{AllByRecursion}
 use Rattle.chunk_core.specs.Texts.{Frame, frame_text, frames_text}
 use Rattle.chunk_core.specs.Outcomes.{Outcomes}
 use Rattle.device_port.specs.declared.device.Mode.TheVariants as mode
@@ -37,7 +37,7 @@ IsFrontWithin size rest = (rest ≡ []) ⊎ ((bytes : List ℕ) × (length bytes
 
 -- no frame has more than size bytes, nor has the one of which a front was written
 pub record AreWithin (size : ℕ) (frames : List Frame) (rest : List ℕ) : Type 0 where
-  pub fits : Each (λ f. length f.payload ≤ size) frames
+  pub fits : AllByRecursion (λ f. length f.payload ≤ size) frames
   pub front : IsFrontWithin size rest
 
 -- the work of cat was done, and the sink got the frames, of at most chunk bytes each, and what was written of a further one

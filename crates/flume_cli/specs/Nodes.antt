@@ -1,5 +1,5 @@
 -- What running a node over a tree to its end does.
-use Rattle.std.specs.Prelude.{◌≡◌, ℕ, ◌+◌, List, [], length, Some, Result}
+use Rattle.std.specs.Prelude.{◌≡◌, ℕ, ◌+◌, List, [], length, Some, Result, nat_eq}
 use Rattle.chunk_core.specs.Lists.{IsAmong}
 use Rattle.chunk_core.specs.Outcomes.{exit_of}
 use Rattle.chunk_core.specs.declared.code.Exit.{Exit}
@@ -16,7 +16,7 @@ use Rattle.res_ledger.specs.Order.{firsts}
 use Rattle.row_seat.specs.Views.{IsWithin}
 use Rattle.scope_tree.specs.declared.branch.Spent.{Spent}
 use Rattle.scope_tree.specs.Calls.{IsClosedScope, Seen}
-use Rattle.scope_tree.specs.Rows.{AreDistinct}
+use Rattle.std.specs.List.{IsDistinct}
 use Rattle.scope_tree.specs.Released.{said}
 use Rattle.tree_laws.specs.Alone.{StaysAlone}
 use Rattle.tree_laws.specs.Called.{Called}
@@ -35,7 +35,7 @@ module _ {V T : Type 0} where
     pub same : (p : ℕ) → SameDevice (told_at told (site_of n a devices) p) (home p)
     pub prints : PrintsRun (IsRun home n) (HasNoPipeOf n) (widest_of chunk n) old new (Some how) r
     pub parted : Parted told home b.shelf (first_of (places_of n) + length devices) (first_of (places_of n)) unopened
-    pub once : AreDistinct (firsts (said b.shelf))
+    pub once : IsDistinct nat_eq (firsts (said b.shelf))
     pub rows : (x : Spent V) → IsAmong x b.shelf → IsWithin (first_of (places_of n)) (first_of (places_of n) + length devices) x.row
     pub root : IsClosedScope b 0
     pub exits : (x : Exit) → Notes b.seat.events b.seat.by (Close 0 x) → x ≡ exit_of how

@@ -1,7 +1,7 @@
 -- Devices that go back to their depot.
 use Rattle.std.specs.Prelude.{◌≡◌, List, ◌++◌, map}
 use Rattle.std.specs.List.Sorted.{IsPermutation}
-use Rattle.chunk_core.specs.Lists.{Each}
+use Rattle.std.specs.List.{AllByRecursion}
 use Rattle.device_port.specs.declared.device.Mode.TheVariants as mode
 use Rattle.device_port.specs.Device.{DeviceTold}
 use Rattle.device_port.specs.Depot.{DepotTold, AreApart, MayReturn, KeepsFilesBut}
@@ -13,7 +13,7 @@ devices_of told shelf unopened = map (λ x. told x.pay) shelf ++ map told unopen
 
 -- each of these devices for reading may come back, and no two have one number
 pub record MayReturnAll (depot : DepotTold) (ds : List DeviceTold) : Type 0 where
-  pub each : Each (λ d. MayReturn depot d × (d.place.mode ≡ mode.Read)) ds
+  pub each : AllByRecursion (λ d. MayReturn depot d × (d.place.mode ≡ mode.Read)) ds
   pub apart : AreApart ds
 
 -- these devices came back, in any order, and no file has changed

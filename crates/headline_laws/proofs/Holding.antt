@@ -2,7 +2,7 @@
 use Rattle.std.proofs.Common.{◌≡◌, ◌≢◌, ◌<◌, ℕ, Bool, true, false, List, [], ◌∷◌, ◌++◌, map, length, nat_eq, nat_lt, refl, sym, inl, inr, arith, Some}
 use Rattle.std.specs.Prelude.{codes}
 use Rattle.std.specs.Fmt.{digits}
-use Rattle.std.specs.List.{IsDistinct, list_all as all}
+use Rattle.std.specs.List.{list_all as all}
 use Rattle.std.proofs.lemmas.Bool.{false≢true}
 use Rattle.std.proofs.lemmas.List.Sorted.{IsPermutation-refl}
 use Rattle.chunk_core.specs.Texts.{Frame, frames_text}
@@ -29,6 +29,8 @@ use Rattle.flume_cli.specs.Cat.{cat_work, to_read}
 use Rattle.flume_cli.specs.Headline.{Headline}
 use Rattle.headline_laws.specs.Calls.{a, closed_device, depot_after, depot_before, end_of_0, one_row}
 use Rattle.headline_laws.specs.Worked.{missing_device, whole_file, empty_file, missing_file, read_fault, failed_close, failed_write}
+use Rattle.chunk_core.proofs.Distinct.{distinct_one}
+use Rattle.chunk_core.specs.Lists.IsAmong.{here}
 
 no_nil : {A : Type 0} (x : A) (xs : List A) → (x ∷ xs) ≢ []
 no_nil x xs e = cc
@@ -46,8 +48,7 @@ row_rules Canceled ok = rules_of (one_row Canceled ok) refl refl refl refl
 -- A file that was opened and closed.
 
 one_apart : (d : DeviceTold) → AreApart (d ∷ [])
-unfolding IsDistinct
-one_apart d = (tt, tt)
+one_apart d = distinct_one d.number
 
 abbrev hello_frame : Frame
 hello_frame = record { stream = 0; payload = codes "hello\n" }
@@ -93,7 +94,7 @@ module _ (bytes : List ℕ) (at : ℕ) (ended : Bool) (x : Exit) (reads closes :
     ledger = row_rules x ok;
     ran = inr (record {
       home = λ r. device;
-      rows = record { at_home = (refl, refl, inl (inl refl), tt); apart = one_apart device; tied = (refl, (tt, ((refl, tied), tt))) };
+      rows = record { at_home = (refl, refl, inl (here []), tt); apart = one_apart device; tied = (refl, (tt, ((refl, tied), tt))) };
       outputs = outputs;
       ends = ends;
       exits = ((exit, tt), tt);
@@ -238,7 +239,7 @@ missing_file_holds = record {
         ledger = rules_of missing_file.events refl refl refl refl;
         ran = inr (record {
           home = λ r. missing_device;
-          rows = record { at_home = (refl, refl, inl (inl refl), tt); apart = one_apart missing_device; tied = (tt, tt) };
+          rows = record { at_home = (refl, refl, inl (here []), tt); apart = one_apart missing_device; tied = (tt, tt) };
           outputs = record { numbers = tt; outputs = (record { elements = []; end = Fault code.Open; run = inl (inr (omega arith, refl, refl, tt)); printed = refl; reported = refl }, refl); cut = inl refl };
           ends = record { named = refl; caused = (record { halted = λ h. absurd (false≢true h); fault = refl; root = λ h. refl }, tt); memory = λ h. absurd (false≢true h) };
           exits = ((refl, tt), tt);

@@ -25,6 +25,7 @@ use Rattle.flume_cli.specs.Cat.{cat_work, FileRuns}
 use Rattle.flume_cli.specs.Headline.{Call, Headline, Tells, deed_of_call}
 use Rattle.headline_laws.specs.Calls.{a}
 use Rattle.headline_laws.specs.Refused.{invented_output, cut_output, row_of_no_plan, event_of_no_stream, lease_of_no_stream, kept_device, failure_not_told, halted_without_a_cause, row_without_a_final, final_before_close, closed_twice, left_open, fault_without_a_fault, failed_close_not_told, done_told_as_errored, fault_told_as_succeeded, halt_told_as_succeeded, final_unlike_its_close, device_told_otherwise, silent_call}
+use Rattle.chunk_core.proofs.Members.{among_nil}
 
 peel : (b : Bool) (x y s : Status) → (x ≡ s → ⊥) → s ≡ (if b then x else y) → (b ≡ false) × (s ≡ y)
 peel true x y s n e = absurd (n (sym e))
@@ -80,7 +81,7 @@ invented_output_refused h =
     let g = good h.causes h.status.status in
     let r = ran invented_output h.causes h.does.0 g.memory in
     let o = opened (r.home 0) r.outputs.outputs.0.elements r.outputs.outputs.0.end (done r.outputs.outputs.0.end r.outputs.outputs.0.reported) r.outputs.outputs.0.run in
-    ⊎_elim (λ x. x) (λ (x : IsBlank (r.home 0)). let z = x.opens in omega (arith, o, z)) r.rows.at_home.2
+    ⊎_elim among_nil (λ (x : IsBlank (r.home 0)). let z = x.opens in omega (arith, o, z)) r.rows.at_home.2
 
 pub row_of_no_plan_refused : ¬ (Headline row_of_no_plan)
 row_of_no_plan_refused h = let l = h.does.0.performs.devices.rows.1.0 in omega (arith, l)

@@ -1,36 +1,13 @@
 -- Each Read stands in the part of a Weak of its place, where no place is used loosely.
-use Rattle.std.proofs.Common.{◌≡◌, ℕ, Bool, true, false, ◌&&◌, ◌||◌, not, nat_eq, List, [], ◌∷◌, ◌++◌, refl, sym, subst, ◌∙◌}
-use Rattle.std.proofs.lemmas.Bool.{eq-eqb, eqb-true}
+use Rattle.std.proofs.Common.{◌≡◌, ℕ, Bool, true, false, ◌&&◌, ◌||◌, not, nat_eq, List, [], ◌∷◌, ◌++◌, refl, sym, subst, ◌∙◌, ⊎_elim}
+use Rattle.std.proofs.lemmas.Bool.{false≢true}
 use Rattle.std.specs.List.{list_any as any, list_all as all}
 use Rattle.pull_nodes.specs.Shape.{uses_of}
 use Rattle.pull_nodes.specs.Placed.{is_inside, is_loose}
-use Rattle.pull_nodes.proofs.Joins.{any_append}
+use Rattle.std.proofs.lemmas.List.Folds.{list_any-append}
 use Rattle.pull_nodes.specs.declared.node.Node.{Node}
 use Rattle.pull_nodes.specs.declared.node.Node.TheVariants.{Nil, Emit, Raise, Read, Weak', Scope', Append', OnFault', Through', Take'}
-
-both : (a b : Bool) → a ≡ true → b ≡ true → (a && b) ≡ true
-both true b h k = k
-both false b h k = cc
-
-first : (a b : Bool) → (a && b) ≡ true → a ≡ true
-first true b h = refl
-first false b h = cc
-
-second : (a b : Bool) → (a && b) ≡ true → b ≡ true
-second true b h = h
-second false b h = cc
-
-either : (a b c : Bool) → (a || b) ≡ true → (a ≡ true → c ≡ true) → (b ≡ true → c ≡ true) → c ≡ true
-either true b c h f g = f refl
-either false b c h f g = g h
-
-left : (a b : Bool) → a ≡ true → (a || b) ≡ true
-left true b h = refl
-left false b h = cc
-
-right : (a b : Bool) → b ≡ true → (a || b) ≡ true
-right true b h = refl
-right false b h = h
+use Rattle.chunk_core.proofs.Bools.{all_at, and_true, both, either, fails, has_in, itself, no, number, or_left, or_right}
 
 rest : (a b c : Bool) → (a || b) ≡ true → (not a && c) ≡ true → b ≡ true
 rest true b c h k = cc
@@ -40,12 +17,6 @@ last : (a b c : Bool) → c ≡ true → ((not a && c) ≡ true → b ≡ true) 
 last true b c h f = refl
 last false b c h f = f h
 
-same_eq : (n : ℕ) → nat_eq n n ≡ true
-same_eq n = eq-eqb n n refl
-
-eq_same : (m n : ℕ) → nat_eq m n ≡ true → m ≡ n
-eq_same m n h = eqb-true m n h
-
 -- what is used loosely is among the given places
 abbrev pub HasNoOther : List ℕ → Node → Type 0
 HasNoOther ps n = (p : ℕ) → is_loose p n ≡ true → any (nat_eq p) ps ≡ true
@@ -54,13 +25,13 @@ pub inside_loose : (ps : List ℕ) (n : Node) → is_inside ps n ≡ true → Ha
 inside_loose ps Nil h p l = cc
 inside_loose ps (Emit m) h p l = cc
 inside_loose ps (Raise c) h p l = cc
-inside_loose ps (Read q) h p l = subst (λ r. any (nat_eq r) ps ≡ true) (sym (eq_same p q l)) h
-inside_loose ps (Weak' q _ a) h p l = rest (nat_eq p q) (any (nat_eq p) ps) (is_loose p a) (inside_loose (q ∷ ps) a h p (second (not (nat_eq p q)) (is_loose p a) l)) l
+inside_loose ps (Read q) h p l = subst (λ r. any (nat_eq r) ps ≡ true) (sym (number p q l)) h
+inside_loose ps (Weak' q _ a) h p l = rest (nat_eq p q) (any (nat_eq p) ps) (is_loose p a) (inside_loose (q ∷ ps) a h p (both (not (nat_eq p q)) (is_loose p a) l).1) l
 inside_loose ps (Scope' _ a) h p l = inside_loose ps a h p l
 inside_loose ps (Append' _ a _ b) h p l =
-    either (is_loose p a) (is_loose p b) (any (nat_eq p) ps) l (inside_loose ps a (first (is_inside ps a) (is_inside ps b) h) p) (inside_loose ps b (second (is_inside ps a) (is_inside ps b) h) p)
+    ⊎_elim (inside_loose ps a (both (is_inside ps a) (is_inside ps b) h).0 p) (inside_loose ps b (both (is_inside ps a) (is_inside ps b) h).1 p) (either (is_loose p a) (is_loose p b) l)
 inside_loose ps (OnFault' _ a _ b) h p l =
-    either (is_loose p a) (is_loose p b) (any (nat_eq p) ps) l (inside_loose ps a (first (is_inside ps a) (is_inside ps b) h) p) (inside_loose ps b (second (is_inside ps a) (is_inside ps b) h) p)
+    ⊎_elim (inside_loose ps a (both (is_inside ps a) (is_inside ps b) h).0 p) (inside_loose ps b (both (is_inside ps a) (is_inside ps b) h).1 p) (either (is_loose p a) (is_loose p b) l)
 inside_loose ps (Through' _ a q) h p l = inside_loose ps a h p l
 inside_loose ps (Take' n _ a) h p l = inside_loose ps a h p l
 
@@ -68,53 +39,40 @@ pub loose_inside : (ps : List ℕ) (n : Node) → HasNoOther ps n → is_inside 
 loose_inside ps Nil f = refl
 loose_inside ps (Emit m) f = refl
 loose_inside ps (Raise c) f = refl
-loose_inside ps (Read q) f = f q (same_eq q)
+loose_inside ps (Read q) f = f q (itself q)
 loose_inside ps (Weak' q _ a) f = loose_inside (q ∷ ps) a (λ p l. last (nat_eq p q) (any (nat_eq p) ps) (is_loose p a) l (f p))
 loose_inside ps (Scope' _ a) f = loose_inside ps a f
 loose_inside ps (Append' _ a _ b) f =
-    both (is_inside ps a) (is_inside ps b) (loose_inside ps a (λ p l. f p (left (is_loose p a) (is_loose p b) l))) (loose_inside ps b (λ p l. f p (right (is_loose p a) (is_loose p b) l)))
+    and_true (is_inside ps a) (is_inside ps b) (loose_inside ps a (λ p l. f p (or_left (is_loose p a) (is_loose p b) l))) (loose_inside ps b (λ p l. f p (or_right (is_loose p a) (is_loose p b) l)))
 loose_inside ps (OnFault' _ a _ b) f =
-    both (is_inside ps a) (is_inside ps b) (loose_inside ps a (λ p l. f p (left (is_loose p a) (is_loose p b) l))) (loose_inside ps b (λ p l. f p (right (is_loose p a) (is_loose p b) l)))
+    and_true (is_inside ps a) (is_inside ps b) (loose_inside ps a (λ p l. f p (or_left (is_loose p a) (is_loose p b) l))) (loose_inside ps b (λ p l. f p (or_right (is_loose p a) (is_loose p b) l)))
 loose_inside ps (Through' _ a q) f = loose_inside ps a f
 loose_inside ps (Take' n _ a) f = loose_inside ps a f
 
 among_left : (p : ℕ) (xs ys : List ℕ) → any (nat_eq p) xs ≡ true → any (nat_eq p) (xs ++ ys) ≡ true
-among_left p xs ys h = any_append (nat_eq p) xs ys ∙ left (any (nat_eq p) xs) (any (nat_eq p) ys) h
+among_left p xs ys h = list_any-append (nat_eq p) xs ys ∙ or_left (any (nat_eq p) xs) (any (nat_eq p) ys) h
 
 among_right : (p : ℕ) (xs ys : List ℕ) → any (nat_eq p) ys ≡ true → any (nat_eq p) (xs ++ ys) ≡ true
-among_right p xs ys h = any_append (nat_eq p) xs ys ∙ right (any (nat_eq p) xs) (any (nat_eq p) ys) h
+among_right p xs ys h = list_any-append (nat_eq p) xs ys ∙ or_right (any (nat_eq p) xs) (any (nat_eq p) ys) h
 
 -- what is used loosely is used
 loose_used : (p : ℕ) (n : Node) → is_loose p n ≡ true → any (nat_eq p) (uses_of n) ≡ true
 loose_used p Nil l = cc
 loose_used p (Emit m) l = cc
 loose_used p (Raise c) l = cc
-loose_used p (Read q) l = left (nat_eq p q) false l
-loose_used p (Weak' q _ a) l = loose_used p a (second (not (nat_eq p q)) (is_loose p a) l)
+loose_used p (Read q) l = or_left (nat_eq p q) false l
+loose_used p (Weak' q _ a) l = loose_used p a (both (not (nat_eq p q)) (is_loose p a) l).1
 loose_used p (Scope' _ a) l = loose_used p a l
 loose_used p (Append' _ a _ b) l =
-    either (is_loose p a) (is_loose p b) (any (nat_eq p) (uses_of a ++ uses_of b)) l (λ h. among_left p (uses_of a) (uses_of b) (loose_used p a h)) (λ h. among_right p (uses_of a) (uses_of b) (loose_used p b h))
+    ⊎_elim (λ h. among_left p (uses_of a) (uses_of b) (loose_used p a h)) (λ h. among_right p (uses_of a) (uses_of b) (loose_used p b h)) (either (is_loose p a) (is_loose p b) l)
 loose_used p (OnFault' _ a _ b) l =
-    either (is_loose p a) (is_loose p b) (any (nat_eq p) (uses_of a ++ uses_of b)) l (λ h. among_left p (uses_of a) (uses_of b) (loose_used p a h)) (λ h. among_right p (uses_of a) (uses_of b) (loose_used p b h))
+    ⊎_elim (λ h. among_left p (uses_of a) (uses_of b) (loose_used p a h)) (λ h. among_right p (uses_of a) (uses_of b) (loose_used p b h)) (either (is_loose p a) (is_loose p b) l)
 loose_used p (Through' _ a q) l = loose_used p a l
 loose_used p (Take' n _ a) l = loose_used p a l
 
-not_both : (b : Bool) → b ≡ true → not b ≡ true → ⊥
-not_both true h k = cc
-not_both false h k = cc
-
-is_not : (b : Bool) → (b ≡ true → ⊥) → not b ≡ true
-is_not true f = absurd (f refl)
-is_not false f = refl
-
-all_at : (f : ℕ → Bool) (p : ℕ) (xs : List ℕ) → all f xs ≡ true → any (nat_eq p) xs ≡ true → f p ≡ true
-all_at f p [] h m = cc
-all_at f p (x ∷ xs) h m =
-    either (nat_eq p x) (any (nat_eq p) xs) (f p) m (λ e. subst (λ y. f y ≡ true) (sym (eq_same p x e)) (first (f x) (all f xs) h)) (all_at f p xs (second (f x) (all f xs) h))
-
 all_of : (f : ℕ → Bool) (xs : List ℕ) → ((p : ℕ) → f p ≡ true) → all f xs ≡ true
 all_of f [] g = refl
-all_of f (x ∷ xs) g = both (f x) (all f xs) (g x) (all_of f xs g)
+all_of f (x ∷ xs) g = and_true (f x) (all f xs) (g x) (all_of f xs g)
 
 alike : (a b : Bool) → (a ≡ true → b ≡ true) → (b ≡ true → a ≡ true) → a ≡ b
 alike true b f g = sym (f refl)
@@ -124,8 +82,5 @@ alike false false f g = refl
 pub tied_is_inside : (n : Node) → all (λ p. not (is_loose p n)) (uses_of n) ≡ is_inside [] n
 tied_is_inside n =
     alike (all (λ p. not (is_loose p n)) (uses_of n)) (is_inside [] n)
-    (λ h. loose_inside [] n (λ p l. absurd (not_both (is_loose p n) l (all_at (λ q. not (is_loose q n)) p (uses_of n) h (loose_used p n l)))))
-    (λ h. all_of (λ q. not (is_loose q n)) (uses_of n) (λ q. is_not (is_loose q n) (λ l. no (inside_loose [] n h q l))))
-  where
-    no : false ≡ true → ⊥
-    no e = cc
+    (λ h. loose_inside [] n (λ p l. absurd (no (is_loose p n) (all_at (λ q. not (is_loose q n)) p (uses_of n) (has_in p (uses_of n) (loose_used p n l)) h) l)))
+    (λ h. all_of (λ q. not (is_loose q n)) (uses_of n) (λ q. fails (is_loose q n) (λ l. false≢true (inside_loose [] n h q l))))

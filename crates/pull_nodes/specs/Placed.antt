@@ -5,6 +5,7 @@ use Rattle.chunk_core.specs.declared.code.Span.{Span}
 use Rattle.pull_nodes.specs.Shape.{places_of, uses_of}
 use Rattle.pull_nodes.specs.declared.node.Node.{Node}
 use Rattle.pull_nodes.specs.declared.node.Node.TheVariants.{Nil, Emit, Raise, Read, Weak', Scope', Append', OnFault', Through', Take'}
+use Rattle.chunk_core.specs.Lists.{are_distinct}
 
 -- the span has the row
 abbrev pub is_within : Span → ℕ → Bool
@@ -13,11 +14,6 @@ is_within span p = nat_le span.from p && nat_lt p span.to
 -- no number stands in both lists
 abbrev pub are_apart : List ℕ → List ℕ → Bool
 are_apart ps qs = all (λ p. not (any (nat_eq p) qs)) ps
-
--- no number stands twice
-abbrev pub are_distinct : List ℕ → Bool
-are_distinct [] = true
-are_distinct (p ∷ ps) = not (any (nat_eq p) ps) && are_distinct ps
 
 -- the number stands in the list once
 abbrev pub is_once : List ℕ → ℕ → Bool

@@ -5,15 +5,15 @@ use Rattle.std.proofs.lemmas.Map.Made.{length-le_from_is_member}
 use Rattle.std.proofs.Math.Nat.{eq-or-lt_of_le}
 use Rattle.std.specs.Cmp.{nat_eq_equiv}
 use Rattle.std.specs.List.{IsDistinct, AllByRecursion, list_any as any}
-use Rattle.chunk_core.specs.Lists.{IsAmong}
+use Rattle.chunk_core.specs.Lists.{IsAmong, are_distinct}
 use Rattle.chunk_core.specs.Lists.IsAmong.{here, there}
 use Rattle.chunk_core.proofs.Members.{among_cons}
-use Rattle.res_ledger.proofs.Tests.{any_found, both, itself, number, or_left, or_right}
-use Rattle.res_ledger.proofs.Noted.{among_either}
+use Rattle.chunk_core.proofs.Bools.{both, or_left, or_right, number, itself, any_found}
+use Rattle.chunk_core.proofs.Filters.{among_append}
 use Rattle.row_seat.specs.Views.{run}
 use Rattle.row_seat.proofs.Times.{run_length}
-use Rattle.pull_nodes.specs.Placed.{are_distinct}
 use Rattle.pull_stepper.specs.Placing.{first_of, least, lesser_of}
+use Rattle.chunk_core.proofs.Distinct.{test_distinct}
 
 lesser_assoc : (p q r : Option ℕ) → lesser_of p (lesser_of q r) ≡ lesser_of (lesser_of p q) r
 lesser_assoc None q r = refl
@@ -51,19 +51,6 @@ first_is_least p (q ∷ ps) =
     let f = first_is_least q ps in
     (min p f.0, ap (lesser_of (Some p)) f.1, least_of_more p q f.0 ps f.2)
 
-none_same : (p : ℕ) (ps : List ℕ) → not (any (nat_eq p) ps) ≡ true → AllByRecursion (λ q. nat_eq p q ≡ false) ps
-none_same p [] h = tt
-none_same p (q ∷ ps) h = split (nat_eq p q) refl (none_same p ps)
-  where
-    split : (b : Bool) → nat_eq p q ≡ b → (not (any (nat_eq p) ps) ≡ true → AllByRecursion (λ r. nat_eq p r ≡ false) ps) → AllByRecursion (λ r. nat_eq p r ≡ false) (q ∷ ps)
-    split true e f = absurd (false≢true (subst (λ b. not (b || any (nat_eq p) ps) ≡ true) e h))
-    split false e f = (e, f (subst (λ b. not (b || any (nat_eq p) ps) ≡ true) e h))
-
-distinct : (ps : List ℕ) → are_distinct ps ≡ true → IsDistinct nat_eq ps
-unfolding IsDistinct
-distinct [] h = tt
-distinct (p ∷ ps) h = let s = both (not (any (nat_eq p) ps)) (are_distinct ps) h in (none_same p ps s.0, distinct ps s.1)
-
 in_run : (p n k : ℕ) → n ≤ p → p < n + k → any (nat_eq p) (run n k) ≡ true
 in_run p n zero a b = absurd (omega arith)
 in_run p n (suc k) a b = ⊎_elim
@@ -77,7 +64,7 @@ among_run p n k a b = let f = any_found (nat_eq p) (run n k) (in_run p n k a b) 
 -- distinct numbers from m on, below m + k, are at most k
 few : (ps : List ℕ) (m k : ℕ) → are_distinct ps ≡ true → ((p : ℕ) → IsAmong p ps → (m ≤ p) × (p < m + k)) → length ps ≤ k
 few ps m k d h =
-    let l = length-le_from_is_member nat_eq_equiv ps (run m k) (distinct ps d)
+    let l = length-le_from_is_member nat_eq_equiv ps (run m k) (test_distinct ps d)
     (λ q t. let f = any_found (nat_eq q) ps t in let w = h q (subst (λ x. IsAmong x ps) (sym (number q f.0 f.2)) f.1) in in_run q m k w.0 w.1) in
     subst (λ n. length ps ≤ n) (run_length m k) l
 
@@ -100,4 +87,4 @@ span_limit (p ∷ ps) from limit d some h =
     omega (arith, w.0, w.1, l)
 
 pub below_join : (n : ℕ) (ps qs : List ℕ) → ((p : ℕ) → IsAmong p ps → p < n) → ((p : ℕ) → IsAmong p qs → p < n) → (p : ℕ) → IsAmong p (ps ++ qs) → p < n
-below_join n ps qs f g p i = ⊎_elim (f p) (g p) (among_either ps qs p i)
+below_join n ps qs f g p i = ⊎_elim (f p) (g p) (among_append p ps qs i)

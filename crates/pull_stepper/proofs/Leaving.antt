@@ -3,7 +3,7 @@ use Rattle.std.proofs.Common.{◌≡◌, ℕ, ◌+◌, ◌<◌, ◌≤◌, List,
 use Rattle.chunk_core.specs.declared.code.Exit.{Exit}
 use Rattle.chunk_core.specs.Lists.{IsAmong}
 use Rattle.chunk_core.proofs.Members.{among_left}
-use Rattle.chunk_core.proofs.Filters.{among_append}
+use Rattle.chunk_core.proofs.Filters.{among_append, among_right}
 use Rattle.device_port.specs.Device.{DeviceTold}
 use Rattle.pull_turns.specs.Around.{Affords, IsClosedWith, Keeps, Leaves, gist}
 use Rattle.res_ledger.specs.Ledger.{IsClosed, LiesWithin}
@@ -28,7 +28,7 @@ use Rattle.scope_tree.proofs.Follows.{same_empty}
 use Rattle.scope_tree.proofs.Grown.{grown_closed, grown_noted, within_opens}
 use Rattle.scope_tree.proofs.Keeps.{close_grown, close_less, old_close, old_within, opens_same, rows_same, under_root, within_trans}
 use Rattle.scope_tree.proofs.Owning.{owner_count, owner_has, owner_pays}
-use Rattle.scope_tree.proofs.Parts.{among_right, one_scope, row_of_pair}
+use Rattle.scope_tree.proofs.Parts.{one_scope, row_of_pair}
 use Rattle.scope_tree.proofs.Releasing.{released_most, released_picks, released_spare}
 use Rattle.scope_tree.proofs.Rooms.{own_is, strangers_none}
 use Rattle.scope_tree.proofs.Use.{close_follows, closed_now}
@@ -80,7 +80,7 @@ module _ {V : Type 0} (told : V → DeviceTold) (once : (d : V) → (told d).is_
     gone = λ p i. ⊎_elim
         (λ o. ⊎_elim
         (λ h. inl h)
-        (λ y. inr (y.0, subst (λ l. IsAmong y.0 l) (sym c.torn.1) (among_right x.tree.shelf y.1), y.2, ended_spent told once e y.0 c.torn.2 shut_open y.1))
+        (λ y. inr (y.0, subst (λ l. IsAmong y.0 l) (sym c.torn.1) (among_right y.0 x.tree.shelf c.torn.0 y.1), y.2, ended_spent told once e y.0 c.torn.2 shut_open y.1))
         (open_or_ended told once e p c.torn.2 shut_bare o))
         (λ y. inr (y.0, subst (λ l. IsAmong y.0 l) (sym c.torn.1) (among_left c.torn.0 y.1), y.2, y.3))
         (order.gone p i);

@@ -1,7 +1,7 @@
 -- Where each device is once nothing is open.
-use Rattle.std.proofs.Common.{◌≡◌, ℕ, suc, ◌+◌, Bool, true, false, List, [], ◌∷◌, ◌++◌, length, Option, Some, None, inl, refl, sym, ap, subst, ◌∙◌, ⊎_elim, arith}
+use Rattle.std.proofs.Common.{◌≡◌, ℕ, suc, ◌+◌, Bool, true, false, List, [], ◌∷◌, ◌++◌, length, Option, Some, None, inl, refl, sym, ap, subst, ◌∙◌, ⊎_elim, arith, nat_eq}
 use Rattle.std.proofs.lemmas.Bool.{false≢true}
-use Rattle.std.specs.List.{filter_map}
+use Rattle.std.specs.List.{filter_map, IsDistinct}
 use Rattle.chunk_core.specs.Lists.{IsAmong}
 use Rattle.chunk_core.proofs.Members.{among_nil}
 use Rattle.device_port.specs.Device.{DeviceTold}
@@ -13,7 +13,7 @@ use Rattle.scope_tree.specs.declared.branch.Branch.{Branch}
 use Rattle.scope_tree.specs.declared.branch.Held.{Held}
 use Rattle.scope_tree.specs.declared.branch.Spent.{Spent}
 use Rattle.scope_tree.specs.Kept.{Kept}
-use Rattle.scope_tree.specs.Rows.{AreDistinct, Once}
+use Rattle.scope_tree.specs.Rows.{Once}
 use Rattle.scope_tree.specs.Released.{said}
 use Rattle.scope_tree.specs.Words.{words}
 use Rattle.scope_tree.proofs.Covered.{closed_complete}
@@ -22,6 +22,8 @@ use Rattle.pull_stepper.specs.Sites.{HasEnded, InOrder, IsSpent, IsUnopened, Par
 use Rattle.pull_stepper.specs.Sites.Parted.{none, unopened, ended}
 use Rattle.pull_stepper.proofs.Payloads.{pay_once, pays_row, spent_pay}
 use Rattle.pull_stepper.proofs.Slots.{slot_here, slot_past, slot_place}
+use Rattle.chunk_core.proofs.Distinct.{distinct_head, distinct_nil, distinct_tail}
+use Rattle.scope_tree.proofs.Once.{once_cons}
 
 -- a tree whose root isn't open has closed it
 pub root_closed : {P : Type 0} (v : View P) (bs : List Branch) (hs : List Held) → Kept v bs hs → (IsUsable v.events v.by 0 → ⊥) → IsClosed v.events v.by 0
@@ -32,9 +34,9 @@ root_closed v bs hs k shut = by (is_closed (words v) 0) refl
     by false e = absurd (shut (inl refl, λ c. false≢true (sym e ∙ closed_complete v bs hs k 0 (omega (arith, k.mirrors.size)) c)))
 
 module _ {V : Type 0} where
-  pays_once : (xs : List (Spent V)) → AreDistinct (firsts (said xs)) → Once (pays xs)
-  pays_once [] d = tt
-  pays_once (x ∷ xs) d = ((λ h. d.0 (pays_row xs x.row h)), pays_once xs d.1)
+  pays_once : (xs : List (Spent V)) → IsDistinct nat_eq (firsts (said xs)) → Once (pays xs)
+  pays_once [] d = distinct_nil
+  pays_once (x ∷ xs) d = once_cons (x.row, x.pay) (pays xs) (λ h. distinct_head x.row (firsts (said xs)) d (pays_row xs x.row h)) (pays_once xs (distinct_tail x.row (firsts (said xs)) d))
 
 module _ {V : Type 0} (told : V → DeviceTold) where
   module _ (w : ℕ → DeviceTold) (shelf : List (Spent V)) (n : ℕ) where
@@ -60,7 +62,7 @@ module _ {V : Type 0} (told : V → DeviceTold) where
         (λ p d h. let l = (slot_place p (suc i) (Some d) xs h).0 in f p d (slot_past p i (Some o) xs (λ q. omega (arith, l)) ∙ h))
         (λ p h. let l = (slot_place p (suc i) None xs h).0 in g p (slot_past p i (Some o) xs (λ q. omega (arith, l)) ∙ h)))
 
-  pub parted : (x : Site V) → InOrder told x → x.tree.seat.opened ≡ [] → AreDistinct (firsts (said x.tree.shelf)) → ((r : ℕ) → IsAmong r x.tree.seat.empty → ¬ (IsAmong r (firsts (said x.tree.shelf))))
+  pub parted : (x : Site V) → InOrder told x → x.tree.seat.opened ≡ [] → IsDistinct nat_eq (firsts (said x.tree.shelf)) → ((r : ℕ) → IsAmong r x.tree.seat.empty → ¬ (IsAmong r (firsts (said x.tree.shelf))))
       → Parted told (told_at told x) x.tree.shelf (x.from + length x.slots) x.from (filter_map (λ o. o) x.slots)
   parted x o none_open distinct vacant =
       parted_from (told_at told x) x.tree.shelf (x.from + length x.slots) x.from x.slots refl

@@ -1,5 +1,5 @@
 -- The payload of a row, in lists of rows with payloads.
-use Rattle.std.proofs.Common.{◌≡◌, ◌≢◌, ℕ, cond, List, [], ◌∷◌, ◌++◌, Some, None, refl, sym, ap, ◌∙◌, subst, ⊎_elim, eq-eqb, ne_eqb}
+use Rattle.std.proofs.Common.{◌≡◌, ◌≢◌, ℕ, cond, List, [], ◌∷◌, ◌++◌, Some, None, refl, sym, ap, ◌∙◌, subst, ⊎_elim, eq-eqb, ne_eqb, nat_eq}
 use Rattle.std.proofs.lemmas.Bool.{cases_eq}
 use Rattle.chunk_core.specs.Lists.{IsAmong}
 use Rattle.chunk_core.specs.Lists.IsAmong.{here, there}
@@ -7,9 +7,12 @@ use Rattle.chunk_core.proofs.Members.{among_cons, among_nil}
 use Rattle.res_ledger.specs.Order.{firsts}
 use Rattle.row_seat.specs.Views.{HasRow, with_row, without_row}
 use Rattle.scope_tree.specs.declared.branch.Spent.{Spent}
-use Rattle.scope_tree.specs.Rows.{AreDistinct, Once}
+use Rattle.scope_tree.specs.Rows.{Once}
+use Rattle.std.specs.List.{IsDistinct}
 use Rattle.scope_tree.specs.Released.{said}
 use Rattle.pull_stepper.specs.Sites.{pay_in, pays}
+use Rattle.chunk_core.proofs.Distinct.{distinct_head, distinct_tail}
+use Rattle.scope_tree.proofs.Once.{once_head, once_tail}
 
 module _ {V : Type 0} where
   -- at the head
@@ -46,7 +49,7 @@ module _ {V : Type 0} where
   pay_once r d (x ∷ xs) o m =
       ⊎_elim
       (λ e. pay_here r x xs (ap (λ y. y.0) (sym e)) ∙ ap (λ y. Some y.1) (sym e))
-      (λ i. pay_past r x xs (λ e. o.0 (d, subst (λ z. IsAmong (z, d) xs) (sym e) i)) ∙ pay_once r d xs o.1 i)
+      (λ i. pay_past r x xs (λ e. once_head x xs o (d, subst (λ z. IsAmong (z, d) xs) (sym e) i)) ∙ pay_once r d xs (once_tail x xs o) i)
       (among_cons m)
 
   pub pay_left : (r : ℕ) (d : V) (xs ys : List (ℕ × V)) → pay_in r xs ≡ Some d → pay_in r (xs ++ ys) ≡ Some d
@@ -112,10 +115,10 @@ module _ {V : Type 0} where
   spent_pay (y ∷ xs) x m = ⊎_elim (λ e. subst (λ (z : Spent V). IsAmong (z.row, z.pay) (pays (y ∷ xs))) (sym e) (here (pays xs))) (λ i. let z : ℕ × V = (y.row, y.pay) in there z (spent_pay xs x i)) (among_cons m)
 
   -- where no row ended twice
-  pub pay_spent : (xs : List (Spent V)) (x : Spent V) → AreDistinct (firsts (said xs)) → IsAmong x xs → pay_in x.row (pays xs) ≡ Some x.pay
+  pub pay_spent : (xs : List (Spent V)) (x : Spent V) → IsDistinct nat_eq (firsts (said xs)) → IsAmong x xs → pay_in x.row (pays xs) ≡ Some x.pay
   pay_spent [] x d m = absurd (among_nil m)
   pay_spent (y ∷ xs) x d m =
       ⊎_elim
       (λ e. pay_here x.row (y.row, y.pay) (pays xs) (ap (λ (z : Spent V). z.row) (sym e)) ∙ ap (λ (z : Spent V). Some z.pay) (sym e))
-      (λ i. pay_past x.row (y.row, y.pay) (pays xs) (λ e. d.0 (subst (λ z. IsAmong z (firsts (said xs))) (sym e) (pays_row xs x.row (x.pay, spent_pay xs x i)))) ∙ pay_spent xs x d.1 i)
+      (λ i. pay_past x.row (y.row, y.pay) (pays xs) (λ e. distinct_head y.row (firsts (said xs)) d (subst (λ z. IsAmong z (firsts (said xs))) (sym e) (pays_row xs x.row (x.pay, spent_pay xs x i)))) ∙ pay_spent xs x (distinct_tail y.row (firsts (said xs)) d) i)
       (among_cons m)

@@ -3,13 +3,13 @@ use Rattle.std.proofs.Common.{◌≡◌, ℕ, ◌<◌, ◌≤◌, nat_le, nat_lt
 use Rattle.std.proofs.lemmas.Bool.{leb-true, ltb-true}
 use Rattle.std.specs.List.{list_any as any, list_all as all}
 use Rattle.chunk_core.specs.declared.code.Span.{Span}
-use Rattle.chunk_core.specs.Lists.{IsAmong}
+use Rattle.chunk_core.specs.Lists.{IsAmong, are_distinct}
 use Rattle.chunk_core.specs.Lists.IsAmong.{here, there}
 use Rattle.chunk_core.proofs.Members.{among_cons, among_left}
-use Rattle.res_ledger.proofs.Noted.{among_either}
-use Rattle.res_ledger.proofs.Tests.{all_at, any_at, any_found, both, either, itself, no, number}
+use Rattle.chunk_core.proofs.Filters.{among_append, among_right}
+use Rattle.chunk_core.proofs.Bools.{both, either, no, number, itself, all_at, any_at, any_found}
 use Rattle.pull_nodes.specs.Shape.{places_of, uses_of}
-use Rattle.pull_nodes.specs.Placed.{are_apart, are_distinct, is_inside, is_once, is_placed, is_within}
+use Rattle.pull_nodes.specs.Placed.{are_apart, is_inside, is_once, is_placed, is_within}
 use Rattle.pull_nodes.proofs.Joins.{distinct_append, once_append}
 use Rattle.pull_nodes.specs.declared.node.Node.{Node}
 use Rattle.pull_nodes.specs.declared.node.Node.TheVariants.{Nil, Emit, Raise, Read, Weak', Scope', Append', OnFault', Through', Take'}
@@ -36,10 +36,6 @@ absent p ps h i = no (any (nat_eq p) ps) h (tests p ps i)
 apart_says : (ps qs : List ℕ) → are_apart ps qs ≡ true → Apart ps qs
 apart_says ps qs h p i = absent p qs (all_at (λ q. not (any (nat_eq q) qs)) p ps i h)
 
-among_right : {p : ℕ} (ps : List ℕ) {qs : List ℕ} → IsAmong p qs → IsAmong p (ps ++ qs)
-among_right [] i = i
-among_right (q ∷ ps) i = there q (among_right ps i)
-
 once_left : (us vs : List ℕ) (p : ℕ) → is_once (us ++ vs) p ≡ true → IsAmong p us → (is_once us p ≡ true) × (IsAmong p vs → ⊥)
 once_left us vs p h i =
     elim (either (is_once us p && not (any (nat_eq p) vs)) (not (any (nat_eq p) us) && is_once vs p) (sym (once_append p us vs) ∙ h)) [
@@ -59,8 +55,8 @@ module _ (p : ℕ) where
   of_join : (ps qs us vs : List ℕ) → (IsAmong p ps ⊎ IsAmong p us) ⊎ (IsAmong p qs ⊎ IsAmong p vs) → IsAmong p (ps ++ qs) ⊎ IsAmong p (us ++ vs)
   of_join ps qs us vs (inl (inl i)) = inl (among_left qs i)
   of_join ps qs us vs (inl (inr i)) = inr (among_left vs i)
-  of_join ps qs us vs (inr (inl i)) = inl (among_right ps i)
-  of_join ps qs us vs (inr (inr i)) = inr (among_right us i)
+  of_join ps qs us vs (inr (inl i)) = inl (among_right _ ps _ i)
+  of_join ps qs us vs (inr (inr i)) = inr (among_right _ us _ i)
 
   in_lists : (n : Node) → IsIn p n → IsAmong p (places_of n) ⊎ IsAmong p (uses_of n)
   in_lists Nil h = absurd h
@@ -86,18 +82,18 @@ module _ (p : ℕ) where
   asked_places (Weak' q _ a) (inr h) = there q (asked_places a h)
   asked_places (Scope' _ a) h = asked_places a h
   asked_places (Append' _ a _ b) (inl h) = among_left (places_of b) (asked_places a h)
-  asked_places (Append' _ a _ b) (inr h) = among_right (places_of a) (asked_places b h)
+  asked_places (Append' _ a _ b) (inr h) = among_right _ (places_of a) _ (asked_places b h)
   asked_places (OnFault' _ a _ b) (inl h) = among_left (places_of b) (asked_places a h)
-  asked_places (OnFault' _ a _ b) (inr h) = among_right (places_of a) (asked_places b h)
+  asked_places (OnFault' _ a _ b) (inr h) = among_right _ (places_of a) _ (asked_places b h)
   asked_places (Through' _ a q) h = asked_places a h
   asked_places (Take' n _ a) h = asked_places a h
 
   above_join : (ps qs rs us vs : List ℕ) → (IsAmong p us → IsAmong p ps ⊎ IsAmong p qs) → (IsAmong p vs → IsAmong p ps ⊎ IsAmong p rs)
       → IsAmong p (us ++ vs) → IsAmong p ps ⊎ IsAmong p (qs ++ rs)
   above_join ps qs rs us vs f g i =
-      elim (among_either us vs p i) [
+      elim (among_append p us vs i) [
         | inl j ↦ elim (f j) [ inl k ↦ inl k | inr k ↦ inr (among_left rs k) ]
-        | inr j ↦ elim (g j) [ inl k ↦ inl k | inr k ↦ inr (among_right qs k) ]
+        | inr j ↦ elim (g j) [ inl k ↦ inl k | inr k ↦ inr (among_right _ qs _ k) ]
       ]
 
   -- what is read stands in the part of a Weak of its place, here or above
@@ -148,9 +144,9 @@ module _ (ps : List ℕ) (a b : Node) (h : IsPart ps (places_of a ++ places_of b
 
   second_part : Part ps b
   second_part = record {
-    above = λ p i j. h.above p i (among_right (places_of a) j);
+    above = λ p i j. h.above p i (among_right _ (places_of a) _ j);
     distinct = parted.0.1;
-    once = λ p i. once_right (uses_of a) (uses_of b) p (h.once p (among_right (uses_of a) i)) i;
+    once = λ p i. once_right (uses_of a) (uses_of b) p (h.once p (among_right _ (uses_of a) _ i)) i;
     all_inside = (both (is_inside ps a) (is_inside ps b) h.all_inside).1;
   }
 
@@ -196,12 +192,12 @@ module _ (a : Around) (s : ℕ) where
   part_fresh P ps (Append' _ n _ m) h w t u = (
     (λ p i j. sides_apart ps n m h p (in_lists p n i) (in_lists p m j)),
     part_fresh P ps n (first_part ps n m h) (λ p i. w p (among_left (places_of m) i)) (λ p i. t p (among_left (uses_of m) i)) u,
-    part_fresh P ps m (second_part ps n m h) (λ p i. w p (among_right (places_of n) i)) (λ p i. t p (among_right (uses_of n) i)) u,
+    part_fresh P ps m (second_part ps n m h) (λ p i. w p (among_right _ (places_of n) _ i)) (λ p i. t p (among_right _ (uses_of n) _ i)) u,
   )
   part_fresh P ps (OnFault' _ n _ m) h w t u = (
     (λ p i j. sides_apart ps n m h p (in_lists p n i) (in_lists p m j)),
     part_fresh P ps n (first_part ps n m h) (λ p i. w p (among_left (places_of m) i)) (λ p i. t p (among_left (uses_of m) i)) u,
-    part_fresh P ps m (second_part ps n m h) (λ p i. w p (among_right (places_of n) i)) (λ p i. t p (among_right (uses_of n) i)) u,
+    part_fresh P ps m (second_part ps n m h) (λ p i. w p (among_right _ (places_of n) _ i)) (λ p i. t p (among_right _ (uses_of n) _ i)) u,
   )
   part_fresh P ps (Through' _ n q) h w t u = part_fresh P ps n h w t u
   part_fresh P ps (Take' _ _ n) h w t u = part_fresh P ps n h w t u

@@ -1,5 +1,5 @@
 -- Where the device of a place stands, in a site that is in order.
-use Rattle.std.proofs.Common.{◌≡◌, ℕ, ◌<◌, zero, suc, true, false, List, length, slice_index_or, Some, None, inl, inr, refl, sym, ap, ◌∙◌, subst, ⊎_elim, arith}
+use Rattle.std.proofs.Common.{◌≡◌, ℕ, ◌<◌, zero, suc, true, false, List, length, slice_index_or, Some, None, inl, inr, refl, sym, ap, ◌∙◌, subst, ⊎_elim, arith, nat_eq}
 use Rattle.chunk_core.specs.Lists.{IsAmong}
 use Rattle.device_port.specs.Device.{DeviceTold}
 use Rattle.pull_turns.specs.Around.{OpenAreHeld}
@@ -12,7 +12,7 @@ use Rattle.scope_tree.specs.declared.branch.Branch.{Branch}
 use Rattle.scope_tree.specs.declared.branch.Held.{Held}
 use Rattle.scope_tree.specs.declared.branch.Spent.{Spent}
 use Rattle.scope_tree.specs.Kept.{Kept, Shelved}
-use Rattle.scope_tree.specs.Rows.{AreDistinct}
+use Rattle.std.specs.List.{IsDistinct}
 use Rattle.scope_tree.specs.Released.{said}
 use Rattle.scope_tree.specs.Words.{words}
 use Rattle.scope_tree.proofs.Beneath.{noted_parent}
@@ -41,7 +41,7 @@ module _ {V : Type 0} (told : V → DeviceTold) (x : Site V) (hs : List Held) (s
   -- the device of a row that ended tells for its place
   pub ended_told : (s : Spent V) → slot x s.row ≡ Some None → IsAmong s x.tree.shelf → told_at told x s.row ≡ told s.pay
   ended_told s e m =
-      let d : AreDistinct (firsts (said x.tree.shelf)) = shelved.distinct in
+      let d : IsDistinct nat_eq (firsts (said x.tree.shelf)) = shelved.distinct in
       let opened : ¬ (HasRow x.tree.seat.opened s.row) = λ h. shelved.opened s.row h (pays_row x.tree.shelf s.row (s.pay, spent_pay x.tree.shelf s m)) in
       ap (λ o. told_by told o (pay_of x.tree s.row)) e ∙ ap (told_or told) (pay_right s.row x.tree.seat.opened (pays x.tree.shelf) opened ∙ pay_spent x.tree.shelf s d m)
 

@@ -1,5 +1,5 @@
 -- What callers see of a stepper, and what its calls do.
-use Rattle.std.specs.Prelude.{◌≡◌, ℕ, ◌+◌, ◌*◌, ◌<◌, ◌≤◌, ◌^◌, Bool, true, false, List, [], length, map, Option, Some, None, IsSome}
+use Rattle.std.specs.Prelude.{◌≡◌, ℕ, ◌+◌, ◌*◌, ◌<◌, ◌≤◌, ◌^◌, Bool, true, false, List, [], length, map, Option, Some, None, IsSome, nat_eq}
 use Rattle.chunk_core.specs.declared.code.Exit.{Exit}
 use Rattle.chunk_core.specs.declared.code.Exit.TheVariants as exit
 use Rattle.chunk_core.specs.declared.code.How.{How}
@@ -30,7 +30,7 @@ use Rattle.res_ledger.specs.Order.{firsts}
 use Rattle.res_ledger.specs.Own.{opens}
 use Rattle.row_seat.specs.Views.{IsWithin}
 use Rattle.scope_tree.specs.Calls.{IsClosedScope, IsOpenScope, Seen, used}
-use Rattle.scope_tree.specs.Rows.{AreDistinct}
+use Rattle.std.specs.List.{IsDistinct}
 use Rattle.scope_tree.specs.Released.{said}
 use Rattle.scope_tree.specs.Words.{owed, words}
 use Rattle.pull_stepper.specs.Placing.{first_of}
@@ -146,5 +146,5 @@ module _ {V F : Type 0} (told : V → DeviceTold) where
     pub how : a.how ≡ Some h
     pub root : IsClosedScope left 0
     pub exit : (x : Exit) → Notes left.seat.events left.seat.by (Close 0 x) → x ≡ exit_of h
-    pub once : AreDistinct (firsts (said left.shelf))
+    pub once : IsDistinct nat_eq (firsts (said left.shelf))
     pub parted : Parted told (told_at told a.site) left.shelf (a.site.from + length a.site.slots) a.site.from unopened

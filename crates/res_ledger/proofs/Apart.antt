@@ -3,7 +3,7 @@ use Rattle.std.proofs.Common.{◌≡◌, ℕ, false, nat_eq, sym, ap, ◌∙◌}
 use Rattle.std.proofs.lemmas.Bool.{false≢true}
 use Rattle.res_ledger.specs.declared.event.What.{What}
 use Rattle.res_ledger.specs.declared.event.What.TheVariants.{Open, Acquire, Lease, Cancel, Close, Final}
-use Rattle.res_ledger.proofs.Tests.{itself}
+use Rattle.chunk_core.proofs.Bools.{itself}
 
 -- a number for each kind of event
 abbrev pub kind : What → ℕ

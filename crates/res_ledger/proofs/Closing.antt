@@ -1,6 +1,6 @@
 -- The Close that covers a scope.
 use Rattle.std.proofs.Common.{◌≡◌, ◌+◌, ◌<◌, ℕ, Bool, true, ◌&&◌, List, [], ◌∷◌, ◌++◌, length, length-append, refl, sym, ap, ◌∙◌, subst, ⊎_elim, append_assoc, append-nil, arith}
-use Rattle.chunk_core.specs.Lists.{IsAmong}
+use Rattle.chunk_core.specs.Lists.{IsAmong, has}
 use Rattle.std.specs.List.{list_any as any}
 use Rattle.chunk_core.specs.Lists.IsAmong.{here}
 use Rattle.chunk_core.proofs.Members.{among_snoc, among_nil, among_mid}
@@ -9,10 +9,11 @@ use Rattle.res_ledger.specs.declared.event.StreamNo.{StreamNo}
 use Rattle.res_ledger.specs.declared.event.What.TheVariants.{Close}
 use Rattle.res_ledger.specs.declared.event.Event.{Event}
 use Rattle.res_ledger.specs.Ledger.{Notes, NotesClose, LiesWithin, IsClosed, IsRowClosed, IsLegal}
-use Rattle.res_ledger.specs.Own.{own, closes_of, has, above}
+use Rattle.res_ledger.specs.Own.{own, closes_of, above}
 use Rattle.res_ledger.specs.Streams.{same_stream}
 use Rattle.res_ledger.specs.Closing.{IsCoveringClose, ClosedHasCoveringClose, CoveringCloseIsOne, FinalsFollowCoveringClose}
-use Rattle.res_ledger.proofs.Tests.{both, no, and_true, tested, name, named, any_at, any_found}
+use Rattle.res_ledger.proofs.Tests.{name, named}
+use Rattle.chunk_core.proofs.Bools.{both, no, and_true, tested, any_at, any_found}
 use Rattle.res_ledger.proofs.Noted.{closes_shape}
 use Rattle.res_ledger.proofs.Scopes.{above_within, within_above}
 use Rattle.res_ledger.proofs.Prefixes.{front_notes, front_within, split_append, row_scope_closed}

@@ -1,7 +1,7 @@
 -- The tests of the rules are exact.
 use Rattle.std.proofs.Common.{◌≡◌, ◌≢◌, ℕ, Bool, true, false, ◌&&◌, ◌||◌, not, nat_eq, List, [], ◌∷◌, ◌++◌, ◌⊎◌, inl, inr, refl, sym, ap, ◌∙◌, subst, ⊎_elim, append_assoc, append-nil}
 use Rattle.std.specs.List.{flat_map}
-use Rattle.chunk_core.specs.Lists.{IsAmong}
+use Rattle.chunk_core.specs.Lists.{IsAmong, has}
 use Rattle.std.specs.List.{list_any as any, list_all as all}
 use Rattle.chunk_core.specs.Lists.IsAmong.{here}
 use Rattle.chunk_core.proofs.Members.{among_mid}
@@ -12,20 +12,17 @@ use Rattle.res_ledger.specs.declared.event.What.{What}
 use Rattle.res_ledger.specs.declared.event.What.TheVariants.{Open, Acquire, Lease, Cancel, Close, Final}
 use Rattle.res_ledger.specs.declared.event.Event.{Event}
 use Rattle.res_ledger.specs.Ledger.{Notes, NotesCancel, IsOpened, IsUsable, IsAcquired, IsFinalized, IsLeased, IsCanceled, Covers, IsRowClosed, IsHanded, MayFollow, IsLegal}
-use Rattle.res_ledger.specs.Own.{own, opens, rows, rows_of, leased_of, canceled_of, has, is_closed}
+use Rattle.res_ledger.specs.Own.{own, opens, rows, rows_of, leased_of, canceled_of, is_closed}
 use Rattle.res_ledger.specs.Streams.{same_stream}
 use Rattle.res_ledger.specs.Order.{covered_by}
 use Rattle.res_ledger.specs.Whole.{is_final, is_cancel, final_count, cancel_count, IsComplete}
 use Rattle.res_ledger.specs.Judge.{each_after, is_noted, is_of, is_acquired, is_leased, is_usable, is_row_closed, is_released, is_handed, is_inherited, is_finished, is_unstarted, may_follow, is_legal, is_answered, is_late, is_complete}
-use Rattle.res_ledger.proofs.Tests.{both, either, no, or_left, or_right, and_true, tested, number, itself, name, named, all_at, each_passes, any_at, any_found}
-use Rattle.res_ledger.proofs.Noted.{notes_own, opens_notes, rows_notes, leased_notes, canceled_notes, notes_opens, notes_rows, rows_shape, leased_shape, is_final_shape, is_cancel_shape, has_in, in_has, noted_at, noted_found, flat_holds}
+use Rattle.res_ledger.proofs.Tests.{name, named}
+use Rattle.chunk_core.proofs.Bools.{both, either, no, or_left, or_right, and_true, tested, number, itself, all_at, each_passes, any_at, any_found, has_in, in_has, fails}
+use Rattle.res_ledger.proofs.Noted.{notes_own, opens_notes, rows_notes, leased_notes, canceled_notes, notes_opens, notes_rows, rows_shape, leased_shape, is_final_shape, is_cancel_shape, noted_at, noted_found, flat_holds}
 use Rattle.res_ledger.proofs.Scopes.{closed_sound, closed_found}
 use Rattle.res_ledger.proofs.Leases.{covered_by_sound, covered_by_found}
 use Rattle.res_ledger.proofs.Prefixes.{front_legal, legal_more, nothing_is}
-
--- a test fails where it can't pass
-pub fails : (b : Bool) → (b ≡ true → ⊥) → not b ≡ true
-fails b n = ⊎_elim (λ h. absurd (n h)) (λ h. h) (tested b)
 
 each_after_at : (test : List Event → Event → Bool) (A B : List Event) (e : Event) (P : List Event) → each_after test P (A ++ e ∷ B) ≡ true → test (P ++ A) e ≡ true
 each_after_at test [] B e P h = subst (λ l. test l e ≡ true) (sym (append-nil P)) (both (test P e) (each_after test (P ++ e ∷ []) B) h).0

@@ -1,16 +1,17 @@
 -- The rows that a lease covers, in a legal ledger.
 use Rattle.std.proofs.Common.{◌≡◌, ℕ, Bool, true, false, cond, ◌&&◌, ◌||◌, not, nat_eq, List, [], ◌∷◌, ◌++◌, ◌⊎◌, inl, inr, refl, sym, ap, ◌∙◌, subst, ⊎_elim, append_assoc, append-nil}
-use Rattle.chunk_core.specs.Lists.{IsAmong}
+use Rattle.chunk_core.specs.Lists.{IsAmong, has}
 use Rattle.chunk_core.specs.Lists.IsAmong.{here, there}
 use Rattle.chunk_core.proofs.Members.{among_cons, among_nil, among_left}
 use Rattle.res_ledger.specs.declared.event.StreamNo.{StreamNo}
 use Rattle.res_ledger.specs.declared.event.What.TheVariants.{Open, Lease}
 use Rattle.res_ledger.specs.declared.event.Event.{Event}
 use Rattle.res_ledger.specs.Ledger.{Notes, LiesWithin, IsClosed, IsCoveredBy, Covers, IsLegal}
-use Rattle.res_ledger.specs.Own.{own, opens, rows, leased_of, has, above, is_closed, is_child, reaches, picked, leased_rows}
+use Rattle.res_ledger.specs.Own.{own, opens, rows, leased_of, above, is_closed, is_child, reaches, picked, leased_rows}
 use Rattle.res_ledger.specs.Order.{gathered, covered_for, covered_at, covered_by, covered}
-use Rattle.res_ledger.proofs.Tests.{both, either, no, or_left, or_right, and_true, tested, number, itself, any_at, any_found}
-use Rattle.res_ledger.proofs.Noted.{opens_notes, rows_notes, notes_opens, notes_rows, leased_shape, flat_found, flat_holds, among_either, among_right}
+use Rattle.chunk_core.proofs.Bools.{both, either, no, or_left, or_right, and_true, tested, number, itself, any_at, any_found}
+use Rattle.res_ledger.proofs.Noted.{opens_notes, rows_notes, notes_opens, notes_rows, leased_shape, flat_found, flat_holds}
+use Rattle.chunk_core.proofs.Filters.{among_append, among_right, chosen}
 use Rattle.res_ledger.proofs.Scopes.{above_within, within_above, closed_sound, closed_found}
 use Rattle.res_ledger.proofs.Prefixes.{front_legal}
 
@@ -74,15 +75,11 @@ gathered_found of P [] y m = absurd (among_nil m)
 gathered_found of P (e ∷ L) y m = ⊎_elim
     (λ l. ([], L, e, refl, subst (λ p. IsAmong y (of p e)) (sym (append-nil P)) l))
     (λ r. let f = gathered_found of (P ++ e ∷ []) L y r in (e ∷ f.0, f.1, f.2, ap (λ l. e ∷ l) f.3, subst (λ p. IsAmong y (of p f.2)) (append_assoc P (e ∷ []) f.0) f.4))
-    (among_either (of P e) (gathered of (P ++ e ∷ []) L) y m)
+    (among_append y (of P e) (gathered of (P ++ e ∷ []) L) m)
 
 gathered_holds : (of : List Event → Event → List ℕ) (P A B : List Event) (e : Event) (y : ℕ) → IsAmong y (of (P ++ A) e) → IsAmong y (gathered of P (A ++ e ∷ B))
 gathered_holds of P [] B e y m = among_left (gathered of (P ++ e ∷ []) B) (subst (λ p. IsAmong y (of p e)) (append-nil P) m)
-gathered_holds of P (a ∷ A) B e y m = among_right (of P a) (gathered of (P ++ a ∷ []) (A ++ e ∷ B)) (gathered_holds of (P ++ a ∷ []) A B e y (subst (λ p. IsAmong y (of p e)) (sym (append_assoc P (a ∷ []) A)) m))
-
-chosen : (b : Bool) (xs : List ℕ) (y : ℕ) → IsAmong y (cond b xs []) → (b ≡ true) × IsAmong y xs
-chosen true xs y m = (refl, m)
-chosen false xs y m = absurd (among_nil m)
+gathered_holds of P (a ∷ A) B e y m = among_right y (of P a) (gathered of (P ++ a ∷ []) (A ++ e ∷ B)) (gathered_holds of (P ++ a ∷ []) A B e y (subst (λ p. IsAmong y (of p e)) (sym (append_assoc P (a ∷ []) A)) m))
 
 -- a Lease that is split off covers what its list has
 covers_there : (L A B : List Event) (e : Event) (j s r : ℕ) → IsLegal L → L ≡ A ++ e ∷ B → e.what ≡ Lease j s → IsAmong r (leased_rows (own e.by A) s) → Covers L j e.by r

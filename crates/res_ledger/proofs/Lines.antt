@@ -1,15 +1,15 @@
 -- The lines of a text.
 use Rattle.std.proofs.Common.{◌≡◌, ◌≢◌, ℕ, ◌+◌, ◌<◌, ◌^◌, List, [], ◌∷◌, ◌++◌, All, length, take, get_or, map, codes, decimal, refl, sym, ap, ◌∙◌, subst, append_assoc, add-one, ⊎_elim}
-use Rattle.std.specs.List.{flat_map, onto_first}
+use Rattle.std.specs.List.{flat_map, onto_first, AllByRecursion}
 use Rattle.std.proofs.lemmas.Bool.{ne_eqb}
 use Rattle.std.proofs.lemmas.Bool.Decides.{eqb_tells}
 use Rattle.std.proofs.lemmas.List.{append-nil, length-map, flat_map_more, take_more}
 use Rattle.std.proofs.lemmas.List.Elements.{All-head, All-tail}
-use Rattle.chunk_core.specs.Lists.{Each}
 use Rattle.res_ledger.specs.declared.event.Event.{Event}
 use Rattle.res_ledger.specs.Texts.{event_line, ledger_text}
 use Rattle.res_ledger.specs.Reading.{IsSmallEvent, IsEventLine, IsFirstBadLine, IsSpelled, cut_of, lines_of, head_line}
 use Rattle.res_ledger.proofs.Spelled.{body, body_lacks, head_lacks}
+use Rattle.chunk_core.proofs.Each.{each_last, each_left}
 
 -- a text is cut at its first LF
 pub cut_at : (xs ys : List ℕ) → All (λ x. x ≢ 10) xs → cut_of (xs ++ 10 ∷ ys) ≡ (xs ++ 10 ∷ []) ∷ cut_of ys
@@ -55,34 +55,18 @@ event_cut e ys h = ap cut_of (append_assoc (body e) (10 ∷ []) ys) ∙ cut_at (
 pub head_cut : (n : ℕ) (ys : List ℕ) → n < 2 ^ 64 → lines_of (head_line n ++ ys) ≡ head_line n ∷ cut_of ys
 head_cut n ys h = ap lines_of (append_assoc (codes "ledger " ++ decimal n) (10 ∷ []) ys) ∙ lines_at (codes "ledger " ++ decimal n) ys (head_lacks n h)
 
-pub events_cut : (L : List Event) (ys : List ℕ) → Each IsSmallEvent L → cut_of (flat_map event_line L ++ ys) ≡ map event_line L ++ cut_of ys
+pub events_cut : (L : List Event) (ys : List ℕ) → AllByRecursion IsSmallEvent L → cut_of (flat_map event_line L ++ ys) ≡ map event_line L ++ cut_of ys
 events_cut [] ys h = refl
 events_cut (e ∷ L) ys h =
     ap cut_of (append_assoc (event_line e) (flat_map event_line L) ys) ∙ event_cut e (flat_map event_line L ++ ys) h.0 ∙ ap (λ l. event_line e ∷ l) (events_cut L ys h.1)
 
-pub event_lines : (L : List Event) → Each IsSmallEvent L → Each IsEventLine (map event_line L)
+pub event_lines : (L : List Event) → AllByRecursion IsSmallEvent L → AllByRecursion IsEventLine (map event_line L)
 event_lines [] h = tt
 event_lines (e ∷ L) h = ((e, h.0, refl), event_lines L h.1)
 
 -- a head and the lines of events, and what follows them
-pub lines_are : (n : ℕ) (L : List Event) (ys : List ℕ) → n < 2 ^ 64 → Each IsSmallEvent L → lines_of (head_line n ++ (flat_map event_line L ++ ys)) ≡ head_line n ∷ (map event_line L ++ cut_of ys)
+pub lines_are : (n : ℕ) (L : List Event) (ys : List ℕ) → n < 2 ^ 64 → AllByRecursion IsSmallEvent L → lines_of (head_line n ++ (flat_map event_line L ++ ys)) ≡ head_line n ∷ (map event_line L ++ cut_of ys)
 lines_are n L ys small h = head_cut n (flat_map event_line L ++ ys) small ∙ ap (λ l. head_line n ∷ l) (events_cut L ys h)
-
-module _ {A : Type 0} (P : A → Type 0) where
-  pub each_snoc : (xs : List A) (x : A) → Each P xs → P x → Each P (xs ++ x ∷ [])
-  each_snoc [] x h p = (p, tt)
-  each_snoc (y ∷ xs) x h p = (h.0, each_snoc xs x h.1 p)
-
-  pub each_more : (xs : List A) (i : ℕ) (d : A) → i < length xs → Each P (take i xs) → P (get_or xs i d) → Each P (take (i + 1) xs)
-  each_more xs i d h each p = subst (Each P) (sym (take_more xs i d h)) (each_snoc (take i xs) (get_or xs i d) each p)
-
-  pub each_last : (xs : List A) (x : A) → Each P (xs ++ x ∷ []) → P x
-  each_last [] x h = h.0
-  each_last (y ∷ xs) x h = each_last xs x h.1
-
-  pub each_left : (xs ys : List A) → Each P (xs ++ ys) → Each P xs
-  each_left [] ys h = tt
-  each_left (x ∷ xs) ys h = (h.0, each_left xs ys h.1)
 
 -- a text that begins with no head has a bad head
 pub bad_head : (text : List ℕ) → ((n : ℕ) (rest : List ℕ) → n < 2 ^ 64 → text ≢ head_line n ++ rest) → IsFirstBadLine text 0
@@ -90,7 +74,7 @@ bad_head text never =
     let f = lines_first text in
     ([], f.1, f.0, f.2, refl, tt, λ s. never s.0.0 (flat_map (λ l. l) f.1) s.0.1 (sym (lines_whole text) ∙ ap (flat_map (λ l. l)) f.2 ∙ ap (λ l. l ++ flat_map (λ l. l) f.1) s.0.2))
 
-module _ (text rest : List ℕ) (n : ℕ) (L : List Event) (is : text ≡ head_line n ++ (flat_map event_line L ++ rest)) (fits : n < 2 ^ 64) (small : Each IsSmallEvent L) where
+module _ (text rest : List ℕ) (n : ℕ) (L : List Event) (is : text ≡ head_line n ++ (flat_map event_line L ++ rest)) (fits : n < 2 ^ 64) (small : AllByRecursion IsSmallEvent L) where
   lines : lines_of text ≡ head_line n ∷ (map event_line L ++ cut_of rest)
   lines = ap lines_of is ∙ lines_are n L rest fits small
 

@@ -2,8 +2,9 @@
 use Rattle.std.proofs.Common.{◌≡◌, ℕ, Bool, true, false, cond, nat_eq, List, [], ◌∷◌, ◌++◌, ◌⊎◌, inl, inr, refl, sym, ap, ◌∙◌, subst, ⊎_elim}
 use Rattle.std.specs.List.{flat_map}
 use Rattle.std.proofs.lemmas.Bool.{false≢true}
-use Rattle.chunk_core.specs.Lists.{IsAmong}
+use Rattle.chunk_core.specs.Lists.{IsAmong, has}
 use Rattle.chunk_core.specs.Lists.IsAmong.{here, there}
+use Rattle.chunk_core.proofs.Filters.{among_append, among_right}
 use Rattle.chunk_core.proofs.Members.{among_cons, among_nil, among_left}
 use Rattle.chunk_core.specs.declared.code.Exit.{Exit}
 use Rattle.res_ledger.specs.declared.event.StreamNo.{StreamNo}
@@ -11,11 +12,12 @@ use Rattle.res_ledger.specs.declared.event.What.{What}
 use Rattle.res_ledger.specs.declared.event.What.TheVariants.{Open, Acquire, Lease, Cancel, Close, Final}
 use Rattle.res_ledger.specs.declared.event.Event.{Event}
 use Rattle.res_ledger.specs.Ledger.{Notes, NotesClose, NotesCancel}
-use Rattle.res_ledger.specs.Own.{own, opens, opens_of, rows, rows_of, closes, closes_of, leased_of, canceled_of, has}
+use Rattle.res_ledger.specs.Own.{own, opens, opens_of, rows, rows_of, closes, closes_of, leased_of, canceled_of}
 use Rattle.res_ledger.specs.Streams.{same_stream}
 use Rattle.res_ledger.specs.Whole.{is_final, is_cancel}
 use Rattle.res_ledger.specs.Judge.{is_noted}
-use Rattle.res_ledger.proofs.Tests.{name, named, number, itself, any_at, any_found}
+use Rattle.res_ledger.proofs.Tests.{name, named}
+use Rattle.chunk_core.proofs.Bools.{number, itself, any_at, any_found}
 
 own_found : (e : Event) (L : List Event) (k : StreamNo) (w : What) (b : Bool) → same_stream e.by k ≡ b → IsAmong w (cond b (e.what ∷ own k L) (own k L)) → (IsAmong w (own k L) → Notes L k w) → Notes (e ∷ L) k w
 own_found e L k w true t m rest = ⊎_elim (λ q. (e, here L, name e.by k t, sym q)) (λ n. let x = rest n in (x.0, there e x.1, x.2, x.3)) (among_cons m)
@@ -38,21 +40,13 @@ own_holds e k L (there {xs = ys} y m) t = own_more y ys k e.what (same_stream y.
 pub notes_own : (L : List Event) (k : StreamNo) (w : What) → Notes L k w → IsAmong w (own k L)
 notes_own L k w n = subst (λ x. IsAmong x (own k L)) n.3 (own_holds n.0 k L n.1 (subst (λ x. same_stream x k ≡ true) (sym n.2) (named k)))
 
-pub among_either : {A : Type 0} (xs ys : List A) (x : A) → IsAmong x (xs ++ ys) → IsAmong x xs ⊎ IsAmong x ys
-among_either [] ys x m = inr m
-among_either (z ∷ xs) ys x m = ⊎_elim (λ e. inl (subst (λ v. IsAmong v (z ∷ xs)) (sym e) (here xs))) (λ n. ⊎_elim (λ l. inl (there z l)) (λ r. inr r) (among_either xs ys x n)) (among_cons m)
-
-pub among_right : {A : Type 0} {x : A} (xs ys : List A) → IsAmong x ys → IsAmong x (xs ++ ys)
-among_right [] ys m = m
-among_right (z ∷ xs) ys m = there z (among_right xs ys m)
-
 pub flat_found : {A B : Type 0} (f : A → List B) (xs : List A) (y : B) → IsAmong y (flat_map f xs) → (x : A) × IsAmong x xs × IsAmong y (f x)
 flat_found f [] y m = absurd (among_nil m)
-flat_found f (x ∷ xs) y m = ⊎_elim (λ l. (x, here xs, l)) (λ r. let i = flat_found f xs y r in (i.0, there x i.1, i.2)) (among_either (f x) (flat_map f xs) y m)
+flat_found f (x ∷ xs) y m = ⊎_elim (λ l. (x, here xs, l)) (λ r. let i = flat_found f xs y r in (i.0, there x i.1, i.2)) (among_append y (f x) (flat_map f xs) m)
 
 pub flat_holds : {A B : Type 0} (f : A → List B) (x : A) (xs : List A) (y : B) → IsAmong x xs → IsAmong y (f x) → IsAmong y (flat_map f xs)
 flat_holds f x xs y (here ys) h = among_left (flat_map f ys) h
-flat_holds f x xs y (there {xs = ys} z m) h = among_right (f z) (flat_map f ys) (flat_holds f x ys y m h)
+flat_holds f x xs y (there {xs = ys} z m) h = among_right y (f z) (flat_map f ys) (flat_holds f x ys y m h)
 
 pub only : {A : Type 0} (x y : A) → IsAmong x (y ∷ []) → x ≡ y
 only x y m = ⊎_elim (λ e. e) (λ n. absurd (among_nil n)) (among_cons m)
@@ -116,13 +110,6 @@ notes_rows P k r s n = flat_holds rows_of (Acquire r s) (own k P) (r, s) (notes_
 
 pub notes_closes : (P : List Event) (k : StreamNo) (c : ℕ) → NotesClose P k c → IsAmong c (closes (own k P))
 notes_closes P k c n = flat_holds closes_of (Close c n.0) (own k P) c (notes_own P k (Close c n.0) n.1) (here [])
-
--- a number is in a list where the test finds it
-pub has_in : (x : ℕ) (ys : List ℕ) → has x ys ≡ true → IsAmong x ys
-has_in x ys h = let f = any_found (λ y. nat_eq x y) ys h in subst (λ y. IsAmong y ys) (sym (number x f.0 f.2)) f.1
-
-pub in_has : (x : ℕ) (ys : List ℕ) → IsAmong x ys → has x ys ≡ true
-in_has x ys m = any_at (λ y. nat_eq x y) x ys m (itself x)
 
 -- an event that some stream noted is found
 pub noted_at : (p : What → Bool) (P : List Event) (k : StreamNo) (w : What) → Notes P k w → p w ≡ true → is_noted p P ≡ true

@@ -1,7 +1,7 @@
 -- The test of the order is sound and complete.
 use Rattle.std.proofs.Common.{◌≡◌, ◌≢◌, ℕ, Bool, true, false, cond, ◌&&◌, List, [], ◌∷◌, ◌++◌, reverse, ◌⊎◌, inl, inr, refl, sym, ap, ◌∙◌, subst, ⊎_elim, append_assoc, append-nil, ne_eqb, eq-eqb}
 use Rattle.std.proofs.lemmas.Bool.{cases_eq, false≢true}
-use Rattle.chunk_core.specs.Lists.{IsAmong}
+use Rattle.chunk_core.specs.Lists.{IsAmong, has}
 use Rattle.std.specs.List.{list_all as all}
 use Rattle.chunk_core.specs.Lists.IsAmong.{here, there}
 use Rattle.chunk_core.specs.declared.code.Exit.{Exit}
@@ -10,13 +10,14 @@ use Rattle.res_ledger.specs.declared.event.StreamNo.{StreamNo}
 use Rattle.res_ledger.specs.declared.event.What.{What}
 use Rattle.res_ledger.specs.declared.event.What.TheVariants.{Cancel, Close, Final}
 use Rattle.res_ledger.specs.declared.event.Event.{Event}
-use Rattle.res_ledger.specs.Own.{own, teardown, has}
+use Rattle.res_ledger.specs.Own.{own, teardown}
 use Rattle.res_ledger.specs.Streams.{same_stream}
 use Rattle.res_ledger.specs.Order.{Picks, IsInBlocks, finals, firsts, is_plain, covered, covered_by, passes_after, any_row, same_exit, is_in_blocks, is_in_order, is_ordered, IsInOrder, IsOrdered}
 use Rattle.res_ledger.specs.Order.Picks.{none as nothing, pick, pass}
 use Rattle.res_ledger.specs.Order.IsInBlocks.{none, plain, close, cancel}
 use Rattle.res_ledger.proofs.Blocks.{picks_map}
-use Rattle.res_ledger.proofs.Tests.{both, and_true, exit_is, exit_same, name, all_at, each_passes}
+use Rattle.res_ledger.proofs.Tests.{exit_is, exit_same, name}
+use Rattle.chunk_core.proofs.Bools.{both, and_true, all_at, each_passes}
 
 picks_none : (m : ℕ → Bool) (xs : List ℕ) → all m xs ≡ true → Picks (λ r. m r ≡ true) [] xs
 picks_none m [] h = nothing

@@ -1,9 +1,8 @@
 -- A text is a ledger's in one way, or is refused in one way.
 use Rattle.std.proofs.Common.{◌≡◌, ℕ, ◌+◌, ◌<◌, ◌≤◌, ◌^◌, Bool, true, false, List, [], ◌∷◌, ◌++◌, length, get_or, map, codes, decimal, if◌then◌else◌, refl, sym, ap, ◌∙◌, subst, ⊎_elim, arith, append_assoc, zero-add}
-use Rattle.std.specs.List.{flat_map}
+use Rattle.std.specs.List.{flat_map, AllByRecursion}
 use Rattle.std.proofs.lemmas.Fmt.{decimal_injective, decimal_nonempty}
 use Rattle.std.proofs.lemmas.List.{append-nil, length-append, append_cancel_left, append_cancel_right, length-map}
-use Rattle.chunk_core.specs.Lists.{Each}
 use Rattle.chunk_core.specs.declared.code.Exit.{Exit}
 use Rattle.chunk_core.specs.declared.code.Exit.TheVariants.{Succeeded, Errored, Canceled}
 use Rattle.chunk_core.specs.Texts.{exit_text}
@@ -18,7 +17,8 @@ use Rattle.res_ledger.specs.Reading.{IsSmallStream, IsSmallWhat, IsSmallEvent, I
 use Rattle.res_ledger.proofs.Prefixes.{split_append}
 use Rattle.res_ledger.proofs.Words.{number_lacks, cut_once, other}
 use Rattle.res_ledger.proofs.Spelled.{verb, args, end_text, what_is, number_has_no_space, name_has_no_space, exit_has_no_space}
-use Rattle.res_ledger.proofs.Lines.{each_left, event_lines, lines_are}
+use Rattle.res_ledger.proofs.Lines.{event_lines, lines_are}
+use Rattle.chunk_core.proofs.Each.{each_left}
 
 -- a number and, behind a space, what follows it
 spaced_once : (m n : ℕ) (u v : List ℕ) → m < 2 ^ 32 → n < 2 ^ 32 → decimal m ++ codes " " ++ u ≡ decimal n ++ codes " " ++ v → (m ≡ n) × (u ≡ v)
@@ -93,7 +93,7 @@ StampedFrom n L = (P Q : List Event) (e : Event) → L ≡ P ++ e ∷ Q → e.st
 stamped_tail : (n : ℕ) (e : Event) (L : List Event) → StampedFrom n (e ∷ L) → StampedFrom (n + 1) L
 stamped_tail n e L h P Q f q = let s = h (e ∷ P) Q f (ap (λ l. e ∷ l) q) in omega (arith, s)
 
-events_once : (n : ℕ) (L M : List Event) → StampedFrom n L → StampedFrom n M → Each IsSmallEvent L → Each IsSmallEvent M → map event_line L ≡ map event_line M → L ≡ M
+events_once : (n : ℕ) (L M : List Event) → StampedFrom n L → StampedFrom n M → AllByRecursion IsSmallEvent L → AllByRecursion IsSmallEvent M → map event_line L ≡ map event_line M → L ≡ M
 events_once n [] [] s t h g e = refl
 events_once n [] (y ∷ M) s t h g e = cc
 events_once n (x ∷ L) [] s t h g e = cc

@@ -1,19 +1,22 @@
 -- The scopes of a stream, and which are closed, in a legal ledger.
-use Rattle.std.proofs.Common.{◌≡◌, ◌≢◌, ℕ, Bool, true, false, cond, nat_eq, List, [], ◌∷◌, ◌++◌, ◌⊎◌, inl, inr, refl, sym, ap, ◌∙◌, subst, ⊎_elim, append_assoc, append-nil, ne_eqb}
+use Rattle.std.proofs.Common.{◌≡◌, ◌≢◌, ℕ, Bool, true, false, cond, nat_eq, List, [], ◌∷◌, ◌++◌, ◌⊎◌, inl, inr, refl, sym, ap, ◌∙◌, subst, ⊎_elim, append_assoc, append-nil, ne_eqb, reverse}
+use Rattle.std.proofs.lemmas.List.{reverse-append}
 use Rattle.std.proofs.lemmas.Grind.{flat_map-append}
-use Rattle.chunk_core.specs.Lists.{IsAmong}
+use Rattle.chunk_core.specs.Lists.{IsAmong, has}
 use Rattle.chunk_core.specs.Lists.IsAmong.{here, there}
-use Rattle.chunk_core.proofs.Members.{among_cons, among_nil, among_left, among_last, among_snoc}
+use Rattle.chunk_core.proofs.Members.{among_cons, among_nil}
+use Rattle.chunk_core.proofs.Reversed.{among_reverse, reverse_among}
 use Rattle.res_ledger.specs.declared.event.StreamNo.{StreamNo}
 use Rattle.res_ledger.specs.declared.event.What.{What}
 use Rattle.res_ledger.specs.declared.event.What.TheVariants.{Open}
 use Rattle.res_ledger.specs.declared.event.Event.{Event}
 use Rattle.res_ledger.specs.Ledger.{Notes, LiesWithin, IsClosed, MayFollow, IsLegal}
 use Rattle.res_ledger.specs.Ledger.LiesWithin.{same, below}
-use Rattle.res_ledger.specs.Own.{own, opens, opens_of, closes, has, up, turned, above, is_closed}
+use Rattle.res_ledger.specs.Own.{own, opens, opens_of, closes, up, above, is_closed}
 use Rattle.res_ledger.specs.Streams.{same_stream}
-use Rattle.res_ledger.proofs.Tests.{number, itself, name, any_at, any_found}
-use Rattle.res_ledger.proofs.Noted.{opens_notes, closes_notes, notes_opens, notes_closes, has_in, in_has}
+use Rattle.res_ledger.proofs.Tests.{name}
+use Rattle.chunk_core.proofs.Bools.{number, itself, any_at, any_found, has_in, in_has}
+use Rattle.res_ledger.proofs.Noted.{opens_notes, closes_notes, notes_opens, notes_closes}
 
 up_cases : (P : List Event) (k : StreamNo) (o : ℕ × ℕ) (os : List (ℕ × ℕ)) (s a : ℕ) (b : Bool) → nat_eq o.0 s ≡ b → Notes P k (Open o.0 o.1) → IsAmong a (cond b (s ∷ up os o.1) (up os s)) → ((t : ℕ) → IsAmong a (up os t) → LiesWithin P k t a) → LiesWithin P k s a
 up_cases P k o os s a true t n m rest = ⊎_elim (λ e. subst (λ x. LiesWithin P k s x) (sym e) (same s)) (λ i. below s o.1 a (subst (λ x. Notes P k (Open x o.1)) (number o.0 s t) n) (rest o.1 i)) (among_cons m)
@@ -23,17 +26,9 @@ up_within : (P : List Event) (k : StreamNo) (os : List (ℕ × ℕ)) → ((o : �
 up_within P k [] h s a m = ⊎_elim (λ e. subst (λ x. LiesWithin P k s x) (sym e) (same s)) (λ n. absurd (among_nil n)) (among_cons m)
 up_within P k (o ∷ os) h s a m = up_cases P k o os s a (nat_eq o.0 s) refl (h o (here os)) m (λ t i. up_within P k os (λ x n. h x (there o n)) t a i)
 
-turned_in : (os : List (ℕ × ℕ)) (o : ℕ × ℕ) → IsAmong o (turned os) → IsAmong o os
-turned_in [] o m = m
-turned_in (x ∷ os) o m = ⊎_elim (λ n. there x (turned_in os o n)) (λ e. subst (λ y. IsAmong o (y ∷ os)) e (here os)) (among_snoc (turned os) o x m)
-
-in_turned : (os : List (ℕ × ℕ)) (o : ℕ × ℕ) → IsAmong o os → IsAmong o (turned os)
-in_turned [] o m = m
-in_turned (x ∷ os) o m = ⊎_elim (λ e. subst (λ y. IsAmong y (turned os ++ x ∷ [])) (sym e) (among_last (turned os) x)) (λ n. among_left (x ∷ []) (in_turned os o n)) (among_cons m)
-
 -- what stands above a scope lies above it
 pub above_within : (P : List Event) (k : StreamNo) (s a : ℕ) → has a (above (own k P) s) ≡ true → LiesWithin P k s a
-above_within P k s a h = up_within P k (turned (opens (own k P))) (λ o m. opens_notes P k o (turned_in (opens (own k P)) o m)) s a (has_in a (above (own k P) s) h)
+above_within P k s a h = up_within P k (reverse (opens (own k P))) (λ o m. opens_notes P k o (among_reverse o (opens (own k P)) m)) s a (has_in a (above (own k P) s) h)
 
 pub closed_sound : (P : List Event) (k : StreamNo) (s : ℕ) → is_closed (own k P) s ≡ true → IsClosed P k s
 closed_sound P k s h =
@@ -101,22 +96,18 @@ pub own_append : (k : StreamNo) (P Q : List Event) → own k (P ++ Q) ≡ own k 
 own_append k [] Q = refl
 own_append k (e ∷ P) Q = own_cons (same_stream e.by k) e.what (own k (P ++ Q)) (own k P) (own k Q) (own_append k P Q)
 
-turned_append : (xs ys : List (ℕ × ℕ)) → turned (xs ++ ys) ≡ turned ys ++ turned xs
-turned_append [] ys = sym (append-nil (turned ys))
-turned_append (x ∷ xs) ys = ap (λ l. l ++ x ∷ []) (turned_append xs ys) ∙ append_assoc (turned ys) (turned xs) (x ∷ [])
-
 -- the scopes that k opened, the latest first
 abbrev scopes : List Event → StreamNo → List (ℕ × ℕ)
-scopes P k = turned (opens (own k P))
+scopes P k = reverse (opens (own k P))
 
 scopes_append : (P Q : List Event) (k : StreamNo) → scopes (P ++ Q) k ≡ scopes Q k ++ scopes P k
-scopes_append P Q k = ap (λ l. turned (opens l)) (own_append k P Q) ∙ ap turned (flat_map-append opens_of (own k P) (own k Q)) ∙ turned_append (opens (own k P)) (opens (own k Q))
+scopes_append P Q k = ap (λ l. reverse (opens l)) (own_append k P Q) ∙ ap reverse (flat_map-append opens_of (own k P) (own k Q)) ∙ reverse-append (opens (own k P)) (opens (own k Q))
 
-tree_what : (P : List Event) (k : StreamNo) (w : What) → MayFollow P k w → IsTree (scopes P k) → IsTree (turned (opens (w ∷ [])) ++ scopes P k)
-tree_what P k (Open s p) m t = (t, m.0, λ i. let q : ℕ × ℕ = (s, i.0) in m.1 (i.0, opens_notes P k q (turned_in (opens (own k P)) q i.1)), ⊎_elim (λ z. inl z) (λ o. let q : ℕ × ℕ = (p, o.0) in inr (o.0, in_turned (opens (own k P)) q (notes_opens P k p o.0 o.1))) m.2.0)
+tree_what : (P : List Event) (k : StreamNo) (w : What) → MayFollow P k w → IsTree (scopes P k) → IsTree (reverse (opens (w ∷ [])) ++ scopes P k)
+tree_what P k (Open s p) m t = (t, m.0, λ i. let q : ℕ × ℕ = (s, i.0) in m.1 (i.0, opens_notes P k q (among_reverse q (opens (own k P)) i.1)), ⊎_elim (λ z. inl z) (λ o. let q : ℕ × ℕ = (p, o.0) in inr (o.0, reverse_among q (opens (own k P)) (notes_opens P k p o.0 o.1))) m.2.0)
 tree_what P k w m t = t
 
-tree_event : (P : List Event) (k : StreamNo) (e : Event) (b : Bool) → same_stream e.by k ≡ b → MayFollow P e.by e.what → IsTree (scopes P k) → IsTree (turned (opens (cond b (e.what ∷ []) [])) ++ scopes P k)
+tree_event : (P : List Event) (k : StreamNo) (e : Event) (b : Bool) → same_stream e.by k ≡ b → MayFollow P e.by e.what → IsTree (scopes P k) → IsTree (reverse (opens (cond b (e.what ∷ []) [])) ++ scopes P k)
 tree_event P k e true h m t = tree_what P k e.what (subst (λ q. MayFollow P q e.what) (name e.by k h) m) t
 tree_event P k e false h m t = t
 
@@ -128,7 +119,7 @@ tree_from P (e ∷ Q) k h t =
 
 -- what lies above a scope stands above it
 pub within_above : (L : List Event) → IsLegal L → (k : StreamNo) (s a : ℕ) → LiesWithin L k s a → has a (above (own k L) s) ≡ true
-within_above L h k s a w = in_has a (above (own k L) s) (within_up L k (scopes L k) (tree_from [] L k h tt) (λ s p n. let q : ℕ × ℕ = (s, p) in in_turned (opens (own k L)) q (notes_opens L k s p n)) w)
+within_above L h k s a w = in_has a (above (own k L) s) (within_up L k (scopes L k) (tree_from [] L k h tt) (λ s p n. let q : ℕ × ℕ = (s, p) in reverse_among q (opens (own k L)) (notes_opens L k s p n)) w)
 
 pub closed_found : (L : List Event) → IsLegal L → (k : StreamNo) (s : ℕ) → IsClosed L k s → is_closed (own k L) s ≡ true
 closed_found L h k s c =

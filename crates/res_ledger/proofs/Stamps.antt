@@ -3,7 +3,7 @@ use Rattle.std.proofs.Common.{◌≡◌, nat_eq, true, List, [], length, sym, �
 use Rattle.res_ledger.specs.declared.event.Event.{Event}
 use Rattle.res_ledger.specs.Ledger.{IsStamped}
 use Rattle.res_ledger.specs.Judge.{each_after}
-use Rattle.res_ledger.proofs.Tests.{number}
+use Rattle.chunk_core.proofs.Bools.{number}
 use Rattle.res_ledger.proofs.Judged.{each_event}
 
 -- the test of the stamps is sound

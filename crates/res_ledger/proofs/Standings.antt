@@ -1,19 +1,19 @@
 -- Each acquired row of a legal ledger has a standing.
 use Rattle.std.proofs.Common.{◌≡◌, ℕ, Bool, true, false, cond, ◌&&◌, ◌||◌, not, List, [], ◌∷◌, refl, sym, ◌∙◌}
 use Rattle.std.proofs.lemmas.Bool.{false≢true}
-use Rattle.chunk_core.specs.Lists.{IsAmong}
+use Rattle.chunk_core.specs.Lists.{IsAmong, has}
 use Rattle.std.specs.List.{list_all as all}
 use Rattle.chunk_core.specs.Lists.IsAmong.{here, there}
 use Rattle.res_ledger.specs.declared.event.StreamNo.{StreamNo}
 use Rattle.res_ledger.specs.declared.event.Event.{Event}
 use Rattle.res_ledger.specs.Ledger.{IsFinalized, IsCanceled, Covers, IsLegal}
-use Rattle.res_ledger.specs.Own.{leased_of, has}
+use Rattle.res_ledger.specs.Own.{leased_of}
 use Rattle.res_ledger.specs.Order.{covered_by}
 use Rattle.res_ledger.specs.Whole.{is_final, is_cancel}
 use Rattle.res_ledger.specs.Judge.{is_noted, is_row_closed, is_released}
 use Rattle.res_ledger.specs.Standing.{Stands, StandingIsExact}
 use Rattle.res_ledger.specs.Standing.Standing.{Open, Awaiting, Handed, Finalized}
-use Rattle.res_ledger.proofs.Noted.{has_in}
+use Rattle.chunk_core.proofs.Bools.{has_in}
 use Rattle.res_ledger.proofs.Judged.{canceled_found, final_in, final_found, row_closed_sound, row_closed_found, released_sound}
 use Rattle.res_ledger.proofs.Leases.{covered_by_sound}
 

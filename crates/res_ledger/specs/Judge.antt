@@ -7,7 +7,8 @@ use Rattle.res_ledger.specs.declared.event.What.{What}
 use Rattle.res_ledger.specs.declared.event.What.TheVariants.{Open, Acquire, Lease, Cancel, Close, Final}
 use Rattle.res_ledger.specs.declared.event.Event.{Event}
 use Rattle.res_ledger.specs.Ledger.{IsClosed, IsCoveredBy, Covers, IsLegal}
-use Rattle.res_ledger.specs.Own.{own, opens, rows, rows_of, leased_of, canceled_of, has, is_closed, leased_rows}
+use Rattle.res_ledger.specs.Own.{own, opens, rows, rows_of, leased_of, canceled_of, is_closed, leased_rows}
+use Rattle.chunk_core.specs.Lists.{has}
 use Rattle.res_ledger.specs.Streams.{same_stream}
 use Rattle.res_ledger.specs.Order.{covered, covered_by}
 use Rattle.res_ledger.specs.Whole.{is_final, is_cancel, final_count, cancel_count, IsComplete}

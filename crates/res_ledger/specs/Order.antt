@@ -7,7 +7,8 @@ use Rattle.res_ledger.specs.declared.event.StreamNo.{StreamNo}
 use Rattle.res_ledger.specs.declared.event.What.{What}
 use Rattle.res_ledger.specs.declared.event.What.TheVariants.{Cancel, Close, Final}
 use Rattle.res_ledger.specs.declared.event.Event.{Event}
-use Rattle.res_ledger.specs.Own.{own, leased_of, teardown, leased_rows, has}
+use Rattle.res_ledger.specs.Own.{own, leased_of, teardown, leased_rows}
+use Rattle.chunk_core.specs.Lists.{has}
 
 -- xs stands in ys in that order, and what is left out may be
 pub data Picks (may : ℕ → Type 0) : List ℕ → List ℕ → Type 0 where

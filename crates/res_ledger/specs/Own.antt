@@ -1,6 +1,7 @@
 -- What one stream noted, in order, and what its scopes and rows are by it.
-use Rattle.std.specs.Prelude.{ℕ, Bool, nat_eq, ◌&&◌, ◌||◌, not, if◌then◌else◌, List, [], ◌∷◌, ◌++◌, flat_map}
+use Rattle.std.specs.Prelude.{ℕ, Bool, nat_eq, ◌&&◌, ◌||◌, not, if◌then◌else◌, List, [], ◌∷◌, ◌++◌, flat_map, reverse}
 use Rattle.std.specs.List.{list_any as any}
+use Rattle.chunk_core.specs.Lists.{has}
 use Rattle.res_ledger.specs.Streams.{same_stream}
 use Rattle.res_ledger.specs.declared.event.StreamNo.{StreamNo}
 use Rattle.res_ledger.specs.declared.event.What.{What}
@@ -49,10 +50,6 @@ rows E = flat_map rows_of E
 abbrev pub closes : List What → List ℕ
 closes E = flat_map closes_of E
 
--- the number stands in the list
-abbrev pub has : ℕ → List ℕ → Bool
-has x ys = any (λ y. nat_eq x y) ys
-
 -- the rows of the scope s, latest acquired first
 abbrev pub latest : List (ℕ × ℕ) → ℕ → List ℕ
 latest [] s = []
@@ -72,14 +69,9 @@ abbrev pub up : List (ℕ × ℕ) → ℕ → List ℕ
 up [] s = s ∷ []
 up (o ∷ os) s = if nat_eq o.0 s then s ∷ up os o.1 else up os s
 
--- the list from its end
-abbrev pub turned : List (ℕ × ℕ) → List (ℕ × ℕ)
-turned [] = []
-turned (x ∷ xs) = turned xs ++ x ∷ []
-
 -- s and the scopes above it
 abbrev pub above : List What → ℕ → List ℕ
-above E s = up (turned (opens E)) s
+above E s = up (reverse (opens E)) s
 
 -- s or a scope above it has a Close
 abbrev pub is_closed : List What → ℕ → Bool

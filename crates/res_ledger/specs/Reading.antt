@@ -1,8 +1,7 @@
 -- Which texts are a ledger's, and where another text is none.
 use Rattle.std.specs.Prelude.{◌≡◌, ◌≢◌, ℕ, ◌<◌, ◌^◌, ◌==◌, if◌then◌else◌, List, [], ◌∷◌, ◌++◌, length, Option, MatchOption, codes, decimal}
-use Rattle.std.specs.List.{onto_first}
+use Rattle.std.specs.List.{onto_first, AllByRecursion}
 use Rattle.std.specs.Borrow.{Bor}
-use Rattle.chunk_core.specs.Lists.{Each}
 use Rattle.res_ledger.specs.declared.event.StreamNo.{StreamNo}
 use Rattle.res_ledger.specs.declared.event.StreamNo.TheVariants.{Outer, Inner}
 use Rattle.res_ledger.specs.declared.event.What.{What}
@@ -33,7 +32,7 @@ IsSmallEvent e = IsSmallStream e.by × IsSmallWhat e.what
 
 -- the events can stand in one ledger: in their places, with numbers and a length that fit
 abbrev pub IsLedger : List Event → Type 0
-IsLedger L = IsStamped L × Each IsSmallEvent L × (length L < 2 ^ 64)
+IsLedger L = IsStamped L × AllByRecursion IsSmallEvent L × (length L < 2 ^ 64)
 
 -- the text, cut after each LF
 abbrev pub cut_of : List ℕ → List (List ℕ)
@@ -56,7 +55,7 @@ IsEventLine line = (e : Event) × IsSmallEvent e × (line ≡ event_line e)
 -- the lines are spelled as those that a ledger's text begins with: a head, and then events
 abbrev pub AreSpelled : List (List ℕ) → Type 0
 AreSpelled [] = Unit {0}
-AreSpelled (head ∷ lines) = ((n : ℕ) × (n < 2 ^ 64) × (head ≡ head_line n)) × Each IsEventLine lines
+AreSpelled (head ∷ lines) = ((n : ℕ) × (n < 2 ^ 64) × (head ≡ head_line n)) × AllByRecursion IsEventLine lines
 
 -- line i of the text is the first that isn't well spelled; the head is line 0
 abbrev pub IsFirstBadLine : List ℕ → ℕ → Type 0
@@ -64,7 +63,7 @@ IsFirstBadLine text i = (before after : List (List ℕ)) × (line : List ℕ) ×
 
 -- each line of the text is well spelled: the head says `said`, and `found` events follow it
 abbrev pub IsSpelled : List ℕ → ℕ → ℕ → Type 0
-IsSpelled text said found = (lines : List (List ℕ)) × (lines_of text ≡ head_line said ∷ lines) × (said < 2 ^ 64) × Each IsEventLine lines × (length lines ≡ found)
+IsSpelled text said found = (lines : List (List ℕ)) × (lines_of text ≡ head_line said ∷ lines) × (said < 2 ^ 64) × AllByRecursion IsEventLine lines × (length lines ≡ found)
 
 -- why the text isn't a ledger's; nothing is said of memory
 abbrev pub IsRefusal : List ℕ → LedgerRefused → Type 0

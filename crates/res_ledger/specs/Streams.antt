@@ -1,5 +1,5 @@
 -- The events of one stream, and who has the right to finalize a row.
-use Rattle.std.specs.Prelude.{ℕ, ◌⊎◌, Bool, true, false, eqb, filter, List}
+use Rattle.std.specs.Prelude.{ℕ, ◌⊎◌, Bool, true, false, nat_eq, filter, List}
 use Rattle.res_ledger.specs.declared.event.What.TheVariants.{Acquire}
 use Rattle.res_ledger.specs.Ledger.{Covers, Notes, NotesCancel}
 use Rattle.res_ledger.specs.declared.event.Event.{Event}
@@ -10,7 +10,7 @@ abbrev pub same_stream : StreamNo → StreamNo → Bool
 same_stream Outer Outer = true
 same_stream Outer (Inner j) = false
 same_stream (Inner i) Outer = false
-same_stream (Inner i) (Inner j) = eqb i j
+same_stream (Inner i) (Inner j) = nat_eq i j
 
 -- the events of one stream
 abbrev pub by_stream : StreamNo → List Event → List Event

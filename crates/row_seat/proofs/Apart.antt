@@ -11,7 +11,7 @@ use Rattle.row_seat.specs.Rule.{IsSeated, RuleHolds, Work, book, deed, seen, who
 use Rattle.row_seat.specs.Totals.{IsAt, row_times, times}
 use Rattle.row_seat.specs.Views.{AreApart}
 use Rattle.row_seat.proofs.Rows.{is_vacant}
-use Rattle.row_seat.proofs.Splits.{true_or}
+use Rattle.std.proofs.lemmas.Bool.{cases_Bool}
 use Rattle.row_seat.proofs.Times.{row_some, times_some}
 use Rattle.row_seat.proofs.Totals.{one_at, total_at}
 
@@ -25,7 +25,7 @@ module _ {P : Type 0} {rows room : ℕ} {word : ℕ → ℕ} {slot : ℕ → Opt
   side = ⊎_elim
       (λ m. absurd (foreign (ap (λ (u : Token P). u.by) (one_at views jd v w (subst (λ k. IsAt views k v) (rule.seats.one id jd (who v) (who w) (at_map who views id v at) (at_map who views jd w other.at) main m) at) other.at) ∙ by)))
       (λ f. f)
-      (true_or w.main)
+      (cases_Bool w.main)
 
   pub seats_apart : (mine theirs : List (ℕ × P)) → AreApart (seen v mine) (seen w theirs)
   seats_apart mine theirs =

@@ -18,7 +18,7 @@ use Rattle.row_seat.proofs.Rows.{is_open}
 use Rattle.row_seat.proofs.Tells.{all_told}
 use Rattle.row_seat.proofs.Totals.{map_back, one_at, total_alone, total_at, total_one, total_some}
 use Rattle.row_seat.proofs.Times.{row_in, times_in, times_some}
-use Rattle.row_seat.proofs.Splits.{true_or}
+use Rattle.std.proofs.lemmas.Bool.{cases_Bool}
 
 -- where no view has the row it is final
 ends : {rows r word e o n h : ℕ} {A C F : Type 0} → Stands rows r word e o n h A C F → (1 ≤ e → ⊥) → (1 ≤ o → ⊥) → (1 ≤ n → ⊥) → (1 ≤ h → ⊥) → A → F
@@ -71,8 +71,8 @@ module _ {P : Type 0} {rows room : ℕ} {word : ℕ → ℕ} {slot : ℕ → Opt
                 (λ f. ⊎_elim
                 (λ lu. let o = rule.seats.out id x.0 (who v) (who u) (at_who rule seat) (at_map who views x.0 u y.1) both.0 lu f in inr (subst (λ z. IsAmong z v.out) (inner_is o.0 j (sym o.1 ∙ b)) o.2))
                 (λ du. absurd (among_nil (subst (λ z. IsAmong (j, r) z) (rule.spent x.0 u y.1 du).pairs m)))
-                (true_or u.live))
-                (true_or u.main))
+                (cases_Bool u.live))
+                (cases_Bool u.main))
                 (rule.leases.holder x.0 j r (hold u) gh m),
           ),
         ),
@@ -89,9 +89,9 @@ module _ {P : Type 0} {rows room : ℕ} {word : ℕ → ℕ} {slot : ℕ → Opt
         (λ l. ⊎_elim
         (λ m. let e = rule.seats.one i id (who u) (who v) (at_map who views i u g) (at_who rule seat) m main in inl (e, one_at views id u v (subst (λ n. IsAt views n u) e g) at))
         (λ f. let o = rule.seats.out id i (who v) (who u) (at_who rule seat) (at_map who views i u g) main l f in absurd (among_nil (subst (λ z. IsAmong o.0 z) no_out o.2)))
-        (true_or u.main))
+        (cases_Bool u.main))
         (λ d. inr (rule.spent i u g d))
-        (true_or u.live)
+        (cases_Bool u.live)
 
     pub all_events : (e : Event) → IsAmong e log ↔ IsAmong e v.events
     all_events e = (

@@ -6,15 +6,16 @@ use Rattle.chunk_core.specs.Lists.IsAmong.{here, there}
 use Rattle.chunk_core.proofs.Filters.{among_at}
 use Rattle.chunk_core.proofs.Members.{among_cons, among_nil}
 use Rattle.row_seat.specs.Views.{HasRow, without_row}
-use Rattle.row_seat.specs.Hands.{rows_of, spot}
+use Rattle.row_seat.specs.Hands.{spot}
+use Rattle.std.specs.Map.{keys_of}
 use Rattle.row_seat.specs.Steps.{without_one}
 
 module _ {P : Type 0} where
-  pub among_rows : (x : ℕ × P) (xs : List (ℕ × P)) → IsAmong x xs → IsAmong x.0 (rows_of xs)
-  among_rows x xs (here ys) = here (rows_of ys)
+  pub among_rows : (x : ℕ × P) (xs : List (ℕ × P)) → IsAmong x xs → IsAmong x.0 (keys_of xs)
+  among_rows x xs (here ys) = here (keys_of ys)
   among_rows x xs (there y m) = there y.0 (among_rows x _ m)
 
-  has_hand : (r : ℕ) (xs : List (ℕ × P)) → IsAmong r (rows_of xs) → HasRow xs r
+  pub has_hand : (r : ℕ) (xs : List (ℕ × P)) → IsAmong r (keys_of xs) → HasRow xs r
   has_hand r [] m = absurd (among_nil m)
   has_hand r (x ∷ xs) m = ⊎_elim
       (λ e. (x.1, subst (λ n. let y : ℕ × P = (n, x.1) in IsAmong y (x ∷ xs)) (sym e) (here xs)))
@@ -22,15 +23,15 @@ module _ {P : Type 0} where
       (among_cons m)
 
   -- a row is in the hands exactly where it is one of their rows
-  pub row_among : (r : ℕ) (hands : List (ℕ × P)) (rows : List ℕ) → rows_of hands ≡ rows → HasRow hands r → IsAmong r rows
+  pub row_among : (r : ℕ) (hands : List (ℕ × P)) (rows : List ℕ) → keys_of hands ≡ rows → HasRow hands r → IsAmong r rows
   row_among r hands rows held h = subst (λ l. IsAmong r l) held (among_rows (r, h.0) hands h.1)
 
-  pub row_held : (r : ℕ) (hands : List (ℕ × P)) (rows : List ℕ) → rows_of hands ≡ rows → IsAmong r rows → HasRow hands r
+  pub row_held : (r : ℕ) (hands : List (ℕ × P)) (rows : List ℕ) → keys_of hands ≡ rows → IsAmong r rows → HasRow hands r
   row_held r hands rows held m = has_hand r hands (subst (λ l. IsAmong r l) (sym held) m)
 
-  pub rows_without : (r : ℕ) (xs : List (ℕ × P)) → rows_of (without_row r xs) ≡ without_one r (rows_of xs)
+  pub rows_without : (r : ℕ) (xs : List (ℕ × P)) → keys_of (without_row r xs) ≡ without_one r (keys_of xs)
   rows_without r [] = refl
-  rows_without r (x ∷ xs) = elim (eqb x.0 r) as (λ b. rows_of (cond b xs (x ∷ without_row r xs)) ≡ cond b (rows_of xs) (x.0 ∷ without_one r (rows_of xs))) [ true ↦ refl | false ↦ ap (λ l. x.0 ∷ l) (rows_without r xs) ]
+  rows_without r (x ∷ xs) = elim (eqb x.0 r) as (λ b. keys_of (cond b xs (x ∷ without_row r xs)) ≡ cond b (keys_of xs) (x.0 ∷ without_one r (keys_of xs))) [ true ↦ refl | false ↦ ap (λ l. x.0 ∷ l) (rows_without r xs) ]
 
   pub has_nil : (r : ℕ) → ¬ (HasRow {P = P} [] r)
   has_nil r h = among_nil h.1

@@ -25,7 +25,7 @@ use Rattle.row_seat.proofs.Totals.{one_at}
 use Rattle.row_seat.proofs.Tick.{stands_is}
 use Rattle.row_seat.proofs.Parts.{pays_same}
 use Rattle.row_seat.proofs.Times.{stamp_both, times_both}
-use Rattle.row_seat.proofs.Splits.{true_or}
+use Rattle.std.proofs.lemmas.Bool.{cases_Bool}
 
 module _ {P : Type 0} {rows room : ℕ} {word : ℕ → ℕ} {slot : ℕ → Option P} {log : List Event} {views : List (Token P)} (rule : RuleHolds rows room word slot log views) {id : ℕ} {v : Token P} (seat : IsSeated views id v)
     {jd : ℕ} {w : Token P} (other : IsSeated views jd w) (main : v.main ≡ true) (n : ℕ) (by : w.by ≡ Inner n) (out : IsAmong n v.out) (no_open : w.opened ≡ []) (no_pair : w.pairs ≡ []) (no_kept : w.kept ≡ []) (no_hand : w.handed ≡ []) where
@@ -44,7 +44,7 @@ module _ {P : Type 0} {rows room : ℕ} {word : ℕ → ℕ} {slot : ℕ → Opt
   apart e = foreign (ap (λ (x : Token P). x.by) (one_at views jd v w (subst (λ k. IsAt views k v) e at) other.at) ∙ by)
 
   side : w.main ≡ false
-  side = ⊎_elim (λ m. absurd (apart (rule.seats.one id jd (who v) (who w) aw aw' main m))) (λ f. f) (true_or w.main)
+  side = ⊎_elim (λ m. absurd (apart (rule.seats.one id jd (who v) (who w) aw aw' main m))) (λ f. f) (cases_Bool w.main)
 
   abbrev ma : Token P
   ma = joined v w

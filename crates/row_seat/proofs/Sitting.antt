@@ -13,7 +13,7 @@ use Rattle.res_ledger.proofs.Ledgers.{stamp_below}
 use Rattle.row_seat.specs.declared.plain.PlainSeat.{PlainSeat}
 use Rattle.row_seat.specs.declared.plain.PlainTable.{PlainTable}
 use Rattle.row_seat.specs.declared.token.Token.{Token}
-use Rattle.row_seat.specs.Hands.{rows_of}
+use Rattle.std.specs.Map.{keys_of}
 use Rattle.row_seat.specs.PlainSeats.{IsTable, Sits, shown}
 use Rattle.row_seat.specs.Rule.{Book, IsSeated, RuleHolds, book, purse}
 use Rattle.row_seat.specs.Steps.{gone, handed_over, joined, leased, noted, placed, shut, spent, split_main, split_off, took}
@@ -44,7 +44,7 @@ module _ {P : Type 0} {d' : PlainTable P} (l : List (Token P)) (views : d'.views
   }
 
   -- a seat whose view becomes w
-  now_sits : (s' : PlainSeat P) (w : Token P) → s'.token ≡ w → IsAt l s'.id w → w.live ≡ true → s'.by ≡ w.by → rows_of s'.hands.items ≡ w.opened → length w.empty + vec_len s'.hands ≤ vec_capacity s'.hands → (w.main ≡ true → length d'.slots.items ≤ vec_capacity s'.hands) → Sits s' d'
+  now_sits : (s' : PlainSeat P) (w : Token P) → s'.token ≡ w → IsAt l s'.id w → w.live ≡ true → s'.by ≡ w.by → keys_of s'.hands.items ≡ w.opened → length w.empty + vec_len s'.hands ≤ vec_capacity s'.hands → (w.main ≡ true → length d'.slots.items ≤ vec_capacity s'.hands) → Sits s' d'
   now_sits s' w is at live by held hold whole = record {
     table = subst (λ l. IsTable d'.slots.items d'.words.items d'.events.items (vec_capacity d'.events) l) (sym views) table;
     seated = record { at = subst (λ l. IsAt l s'.id s'.token) (sym views) (subst (λ t. IsAt l s'.id t) (sym is) at); live = ap (λ (t : Token P). t.live) is ∙ live };
@@ -61,7 +61,7 @@ other_place {P = P} {views = views} {id = id} {v = v} {w = w} a b ne e = ne (ap 
 -- a step of one seat
 module _ {P : Type 0} {s' : PlainSeat P} {d' : PlainTable P} {s : PlainSeat P} {d : PlainTable P} (h : Sits s d) (w : Token P) (views : d'.views ≡ slice_set d.views s.id w)
     (table : IsTable d'.slots.items d'.words.items d'.events.items (vec_capacity d'.events) (slice_set d.views s.id w)) (many : length d'.slots.items ≡ length d.slots.items) where
-  pub sits_put : s'.id ≡ s.id → s'.token ≡ w → w.live ≡ true → s'.by ≡ w.by → rows_of s'.hands.items ≡ w.opened → length w.empty + vec_len s'.hands ≤ vec_capacity s'.hands → (w.main ≡ true → length d'.slots.items ≤ vec_capacity s'.hands) → Sits s' d'
+  pub sits_put : s'.id ≡ s.id → s'.token ≡ w → w.live ≡ true → s'.by ≡ w.by → keys_of s'.hands.items ≡ w.opened → length w.empty + vec_len s'.hands ≤ vec_capacity s'.hands → (w.main ≡ true → length d'.slots.items ≤ vec_capacity s'.hands) → Sits s' d'
   sits_put id is = now_sits (slice_set d.views s.id w) views table s' w is (subst (λ n. IsAt (slice_set d.views s.id w) n w) (sym id) (put_here d.views s.id s.token w h.seated.at))
 
 module _ {P : Type 0} {d' : PlainTable P} {s : PlainSeat P} {d : PlainTable P} (h : Sits s d) (w : Token P) (views : d'.views ≡ slice_set d.views s.id w)
@@ -212,7 +212,7 @@ module _ {P : Type 0} {s o : PlainSeat P} {d : PlainTable P} (h : Sits s d) (k :
   after = slice_set (slice_set d.views s.id (joined s.token o.token)) o.id (spent o.token)
 
   no_open : o.token.opened ≡ []
-  no_open = sym k.held ∙ ap rows_of can.2.0
+  no_open = sym k.held ∙ ap keys_of can.2.0
 
   two : s.id ≢ o.id
   two = apart h.table.rule h.seated k.seated can.0 can.1.0 can.1.1 can.1.2 no_open can.2.2 can.2.3 can.2.4
@@ -230,7 +230,7 @@ module _ {P : Type 0} {s o : PlainSeat P} {d : PlainTable P} (h : Sits s d) (k :
     pub join_sits : (t : Known (Token P)) → t ≡ joined s.token o.token → let s' : PlainSeat P = record s { token = t } in Sits s' d'
     join_sits t is = let v = s.token in let w = o.token in now_sits after views table (record s { token = t }) (joined v w) is (two_first d.views s.id o.id v w (joined v w) (spent w) h.seated.at k.seated.at two) h.seated.live h.by h.held
         (let a = total_two (λ (u : Token P). length u.empty + length u.opened) d.views s.id o.id v w two h.seated.at k.seated.at in let b = h.table.load in let c = length-append v.empty w.empty in let f = h.whole can.0 in
-        let e : length (rows_of s.hands.items) ≡ length v.opened = ap length h.held in let l = length-map s.hands.items (λ (x : ℕ × P). x.0) in let q = s.hands.ok.0 in omega arith)
+        let e : length (keys_of s.hands.items) ≡ length v.opened = ap length h.held in let l = length-map s.hands.items (λ (x : ℕ × P). x.0) in let q = s.hands.ok.0 in omega arith)
         (λ m. let f = h.whole can.0 in omega arith)
 
     pub join_others : (x : PlainSeat P) → x.token.by ≢ s.token.by → x.token.by ≢ o.token.by → Sits x d → Sits x d'
@@ -261,7 +261,7 @@ module _ {P : Type 0} {s : PlainSeat P} {d : PlainTable P} (h : Sits s d) {j fro
 
     pub split_new : (o : PlainSeat P) → o.id ≡ length d.views → o.token ≡ split_off s.token j from to n → o.by ≡ Inner j → o.hands.items ≡ [] → vec_len o.hands ≡ 0 → to - from ≤ vec_capacity o.hands → Sits o d'
     split_new o id is by items none room = let v = s.token in let a = split_main v j from to n in let b = split_off v j from to n in
-        now_sits parted views table o b is (subst (λ k. IsAt parted k b) (sym id) (more_last d.views s.id v a b h.seated.at)) refl by (ap rows_of items) (let e = run_length from (to - from) in omega arith) (λ m. absurd (bool_not (sym m)))
+        now_sits parted views table o b is (subst (λ k. IsAt parted k b) (sym id) (more_last d.views s.id v a b h.seated.at)) refl by (ap keys_of items) (let e = run_length from (to - from) in omega arith) (λ m. absurd (bool_not (sym m)))
 
     pub split_others : OthersFit shown Sits s.token.by d d'
     split_others x ne y = let v = s.token in let a = split_main v j from to n in let b = split_off v j from to n in

@@ -1,7 +1,7 @@
 -- A seat is split off.
-use Rattle.std.proofs.Common.{◌≡◌, ◌≢◌, ℕ, suc, ◌+◌, ◌-◌, ◌^◌, ◌<◌, ◌≤◌, ◌⊎◌, Bool, true, false, not, cond, eqb, leb, ltb, filter, map, List, [], ◌∷◌, ◌++◌, length, slice_set, inl, inr, refl, sym, ap, ◌∙◌, subst, ⊎_elim, arith, ne_eqb, eq-eqb}
+use Rattle.std.proofs.Common.{◌≡◌, ◌≢◌, ℕ, suc, ◌+◌, ◌-◌, ◌^◌, ◌<◌, ◌≤◌, ◌⊎◌, true, false, not, cond, eqb, leb, ltb, filter, map, List, [], ◌∷◌, ◌++◌, length, slice_set, inl, inr, refl, sym, ap, ◌∙◌, subst, ⊎_elim, arith, ne_eqb, eq-eqb}
 use Rattle.std.specs.Prelude.{Some, Option}
-use Rattle.std.proofs.lemmas.Bool.{cases_eq, le-leb, lt-leb, lt-ltb, le-ltb, leb-true, leb-false}
+use Rattle.std.proofs.lemmas.Bool.{cases_eq, le-leb, lt-leb, lt-ltb, le-ltb, leb-true, leb-false, cases_Bool}
 use Rattle.res_ledger.specs.declared.event.What.TheVariants.{Acquire, Lease}
 use Rattle.row_seat.specs.Totals.{IsAt, pair_times, row_times, stamp_times, times}
 use Rattle.row_seat.specs.Rule.{Book, BooksAgree, DeedsAgree, GivenIn, Hold, LeasesAgree, LeftIn, PaysAgree, Purse, RowsAgree, IsBlank, IsSeated, RuleHolds, SeatsAgree, Who, Work, book, deed, empties, hands, hold, leases, opens, purse, who, work}
@@ -64,10 +64,6 @@ run_fits from to xs h = let c = length_cut (within from to) xs in
 is_eq : (a j : ℕ) → eqb a j ≡ true → a ≡ j
 is_eq a j e = ⊎_elim (λ s. s) (λ ne. absurd (bool_not (sym e ∙ ne_eqb a j ne))) (cases_eq a j)
 
-pub true_or : (b : Bool) → (b ≡ true) ⊎ (b ≡ false)
-true_or true = inl refl
-true_or false = inr refl
-
 module _ {P : Type 0} {rows room : ℕ} {word : ℕ → ℕ} {slot : ℕ → Option P} {log : List Event} {views : List (Token P)} (rule : RuleHolds rows room word slot log views) {id : ℕ} {v : Token P} (seat : IsSeated views id v)
     (j from to n : ℕ) (main : v.main ≡ true) (foreign : v.by ≢ Inner j) (no_seat : ¬ (IsAmong j v.had)) (IsWithin : (r : ℕ) → (from ≤ r) × (r < to) → IsAmong r v.empty × ¬ (IsAcquired v.events r)) (enough : n ≤ v.spare) (named : (r : ℕ) → IsAmong (j, r) v.pairs → IsLeased v.events j) where
   open seat use {at, live}
@@ -104,7 +100,7 @@ module _ {P : Type 0} {rows room : ℕ} {word : ℕ → ℕ} {slot : ℕ → Opt
   other_name i u ne g l is = ⊎_elim
       (λ m. ne (rule.seats.one i id u (who v) g aw m main))
       (λ f. let t = rule.seats.out id i (who v) u aw g main l f in no_seat (subst (λ x. IsAmong x v.had) (inner_is t.0 j (sym t.1 ∙ is)) (rule.seats.had id t.0 (who v) aw main t.2)))
-      (true_or u.main)
+      (cases_Bool u.main)
 
   seats' : SeatsAgree log (slice_set (map who views) id (who ma) ++ who nb ∷ [])
   seats' = let ws = map who views in let k = rule.seats in

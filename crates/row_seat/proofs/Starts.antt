@@ -5,7 +5,7 @@ use mathlib.Core.Option.{some-ne-none, some-injective}
 use Rattle.row_seat.specs.Totals.{IsAt}
 use Rattle.row_seat.specs.Rule.{Book, Deed, Hold, Purse, RuleHolds, Who, book, deed, hold, purse, who}
 use Rattle.chunk_core.specs.Lists.{IsAmong}
-use Rattle.row_seat.specs.Hands.{rows_of}
+use Rattle.std.specs.Map.{keys_of}
 use Rattle.row_seat.specs.PlainSeats.{IsTable, Sits}
 use Rattle.row_seat.specs.Steps.{first_token}
 use Rattle.res_ledger.specs.Ledger.{Notes}
@@ -117,7 +117,7 @@ module _ {P : Type 0} (s : PlainSeat P) (d : PlainTable P) (by : StreamNo) (rows
     table = subst (λ l. IsTable d.slots.items d.words.items l (vec_capacity d.events) d.views) (sym log) (subst (λ l. IsTable d.slots.items d.words.items [] (vec_capacity d.events) l) (sym views) table);
     seated = record { at = rw (views, id, token) refl; live = ap (λ (u : Token P). u.live) token };
     by = name ∙ ap (λ (u : Token P). u.by) (sym token);
-    held = ap rows_of none ∙ ap (λ (u : Token P). u.opened) (sym token);
+    held = ap keys_of none ∙ ap (λ (u : Token P). u.opened) (sym token);
     hold = rw token (let e = run_length 0 rows in omega arith);
     whole = λ m. omega arith;
   }

@@ -10,12 +10,12 @@ use Rattle.res_ledger.specs.declared.event.StreamNo.TheVariants.{Inner}
 use Rattle.res_ledger.proofs.Ledgers.{covers_acquired, covers_leased, covers_own, inner_is, one_acquire, stream_cases}
 use Rattle.row_seat.specs.declared.token.Token.{Token}
 use Rattle.row_seat.specs.Totals.{IsAt, pair_times, row_times, times, total}
-use Rattle.row_seat.specs.Hands.{rows_of}
+use Rattle.std.specs.Map.{keys_of}
 use Rattle.row_seat.specs.Views.{IsHeldStill, without_pair}
 use Rattle.row_seat.specs.Rule.{Hold, IsSeated, RuleHolds, Work, deed, hold, seen, who, work}
 use Rattle.row_seat.proofs.Hands.{row_held}
 use Rattle.row_seat.proofs.Rows.{is_leased}
-use Rattle.row_seat.proofs.Splits.{true_or}
+use Rattle.std.proofs.lemmas.Bool.{cases_Bool}
 use Rattle.row_seat.proofs.Ticked.{own_is}
 use Rattle.row_seat.proofs.Times.{pair_among, row_in, row_less, row_some, times_in}
 use Rattle.row_seat.proofs.Totals.{map_back, one_at, total_at, total_map, total_some}
@@ -36,7 +36,7 @@ module _ {P : Type 0} {rows room : ℕ} {word : ℕ → ℕ} {slot : ℕ → Opt
       (rule.leases.paired x i r (hold u) (at_map hold views x u g) m)
 
   -- where the row doesn't become this seat's
-  pub leave_cause : (j r : ℕ) → IsAmong (j, r) v.pairs → word r ≢ 7 → (hands : List (ℕ × P)) → rows_of hands ≡ v.opened → IsHeldStill (seen v hands) j r
+  pub leave_cause : (j r : ℕ) → IsAmong (j, r) v.pairs → word r ≢ 7 → (hands : List (ℕ × P)) → keys_of hands ≡ v.opened → IsHeldStill (seen v hands) j r
   leave_cause j r pair more hands held =
       let ws = map work views in let aw = at_map who views id v at in
       let l = total_at (λ (u : Work). row_times r u.pairs) ws id (work v) (at_map work views id v at) in let y = row_some j r v.pairs pair in
@@ -46,7 +46,7 @@ module _ {P : Type 0} {rows room : ℕ} {word : ℕ → ℕ} {slot : ℕ → Opt
       let x = total_some (λ (u : Work). times r u.opened) ws (omega (a1, arith)) in let b = map_back work views x.0 x.1 x.2 in let u = b.0 in
       let m : IsAmong r u.opened = times_in r u.opened (subst (λ (z : Work). 1 ≤ times r z.opened) (sym b.2) x.3) in
       let d = rule.deeds.opened x.0 r (deed u) (at_map deed views x.0 u b.1) m in
-      let there : u.live ≡ true = ⊎_elim (λ t. t) (λ f. absurd (among_nil (subst (λ z. IsAmong r z) (rule.spent x.0 u b.1 f).opened m))) (true_or u.live) in
+      let there : u.live ≡ true = ⊎_elim (λ t. t) (λ f. absurd (among_nil (subst (λ z. IsAmong r z) (rule.spent x.0 u b.1 f).opened m))) (cases_Bool u.live) in
       inl (row_held r hands v.opened held (⊎_elim
       (λ c. let q = covers_acquired log j r v.by c in
       let same = one_acquire log r d.0 q.0 u.by v.by rule.books.legal d.1 q.1 in
@@ -75,8 +75,8 @@ module _ {P : Type 0} {rows room : ℕ} {word : ℕ → ℕ} {slot : ℕ → Opt
               (λ f. ⊎_elim
               (λ lu. let o = rule.seats.out id x.0 (who v) (who u) aw (at_map who views x.0 u x.2) main lu f in inr (subst (λ z. IsAmong z v.out) (inner_is o.0 i (sym o.1 ∙ b)) o.2))
               (λ du. absurd (among_nil (subst (λ z. IsAmong (i, r) z) (rule.spent x.0 u x.2 du).pairs m)))
-              (true_or u.live))
-              (true_or u.main))
+              (cases_Bool u.live))
+              (cases_Bool u.main))
               (rule.leases.holder x.0 i r (hold u) (at_map hold views x.0 u x.2) m),
         ),
       ))

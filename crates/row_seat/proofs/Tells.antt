@@ -10,7 +10,7 @@ use Rattle.res_ledger.proofs.Ledgers.{stamp_below}
 use Rattle.res_ledger.specs.declared.event.Event.{Event}
 use Rattle.row_seat.specs.declared.token.Token.{Token}
 use Rattle.row_seat.specs.Totals.{total, times, row_times, pair_times, stamp_times}
-use Rattle.row_seat.specs.Hands.{rows_of}
+use Rattle.std.specs.Map.{keys_of}
 use Rattle.row_seat.specs.Views.{IsLastLease, without_pair}
 use Rattle.row_seat.specs.Rule.{IsSeated, RuleHolds, Book, Work, Hold, book, work, hold, purse, seen, leases}
 use Rattle.row_seat.proofs.Hands.{row_among}
@@ -55,7 +55,7 @@ module _ {P : Type 0} {rows room : ℕ} {word : ℕ → ℕ} {slot : ℕ → Opt
     open seat use {at, live}
 
     -- the last lease of a closed row: the slot has what was left in it
-    pub told_last : (j r : ℕ) (p : P) (hands : List (ℕ × P)) → rows_of hands ≡ v.opened → IsAmong (j, r) v.pairs → word r ≡ 7 → slot r ≡ Some p → IsLastLease (seen v hands) j r p
+    pub told_last : (j r : ℕ) (p : P) (hands : List (ℕ × P)) → keys_of hands ≡ v.opened → IsAmong (j, r) v.pairs → word r ≡ 7 → slot r ≡ Some p → IsLastLease (seen v hands) j r p
     told_last j r p hands held m seven lies =
         let ws = map work views in let at' = at_map work views id v at in let l = total_at (λ (u : Work). row_times r u.pairs) ws id (work v) at' in let y = row_some j r v.pairs m in
         let s = is_leased (rule.words r) (omega arith) in

@@ -1,16 +1,13 @@
 -- The rows of a hand, and where each stands in it.
-use Rattle.std.proofs.Common.{◌≡◌, ℕ, suc, true, false, cond, eqb, map, List, [], ◌∷◌, slice_set, refl, sym, ap, subst, ⊎_elim, ne_eqb, eq-eqb}
+use Rattle.std.proofs.Common.{◌≡◌, ℕ, suc, true, false, cond, eqb, List, [], ◌∷◌, slice_set, refl, sym, ap, subst, ⊎_elim, ne_eqb, eq-eqb}
 use Rattle.std.proofs.lemmas.Bool.{cases_eq}
+use Rattle.std.specs.Map.{keys_of}
 use Rattle.row_seat.specs.Views.{with_row}
 
 module _ {P : Type 0} where
-  -- the rows of a hand
-  abbrev pub rows_of : List (ℕ × P) → List ℕ
-  rows_of xs = map (λ (x : ℕ × P). x.0) xs
-
-  pub rows_with : (r : ℕ) (w : P) (xs : List (ℕ × P)) → rows_of (with_row r w xs) ≡ rows_of xs
+  pub rows_with : (r : ℕ) (w : P) (xs : List (ℕ × P)) → keys_of (with_row r w xs) ≡ keys_of xs
   rows_with r w [] = refl
-  rows_with r w (x ∷ xs) = elim (eqb x.0 r) as (λ b. rows_of (cond b ((x.0, w) ∷ xs) (x ∷ with_row r w xs)) ≡ x.0 ∷ rows_of xs) [ true ↦ refl | false ↦ ap (λ l. x.0 ∷ l) (rows_with r w xs) ]
+  rows_with r w (x ∷ xs) = elim (eqb x.0 r) as (λ b. keys_of (cond b ((x.0, w) ∷ xs) (x ∷ with_row r w xs)) ≡ x.0 ∷ keys_of xs) [ true ↦ refl | false ↦ ap (λ l. x.0 ∷ l) (rows_with r w xs) ]
 
   -- where the first pair with the row r stands
   abbrev pub spot : ℕ → List (ℕ × P) → ℕ

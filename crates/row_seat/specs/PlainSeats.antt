@@ -10,7 +10,8 @@ use Rattle.row_seat.specs.Rule.{IsSeated, RuleHolds, seen}
 use Rattle.row_seat.specs.declared.token.Token.{Token}
 use Rattle.row_seat.specs.declared.view.View.{View}
 use Rattle.row_seat.specs.Views.{paid}
-use Rattle.row_seat.specs.Hands.{rows_of, rows_with, set_spot, spot}
+use Rattle.row_seat.specs.Hands.{rows_with, set_spot, spot}
+use Rattle.std.specs.Map.{keys_of}
 
 module _ {P : Type 0} where
   -- the seat's view
@@ -34,7 +35,7 @@ module _ {P : Type 0} where
     pub table : IsTable d.slots.items d.words.items d.events.items (vec_capacity d.events) d.views
     pub seated : IsSeated d.views s.id s.token
     pub by : s.by ≡ s.token.by
-    pub held : rows_of s.hands.items ≡ s.token.opened
+    pub held : keys_of s.hands.items ≡ s.token.opened
     pub hold : length s.token.empty + vec_len s.hands ≤ vec_capacity s.hands
     pub whole : s.token.main ≡ true → length d.slots.items ≤ vec_capacity s.hands
 
@@ -42,4 +43,4 @@ module _ {P : Type 0} where
   shown_lent s r w = ap (λ xs. seen s.token xs) (set_spot r w s.hands.items)
 
   pub fitting_lent : (s : PlainSeat P) (r : ℕ) (w : P) (d : PlainTable P) → Sits s d → Sits (lent s r w) d
-  fitting_lent s r w d h = record { table = h.table; seated = h.seated; by = h.by; held = ap rows_of (set_spot r w s.hands.items) ∙ (rows_with r w s.hands.items ∙ h.held); hold = h.hold; whole = h.whole }
+  fitting_lent s r w d h = record { table = h.table; seated = h.seated; by = h.by; held = ap keys_of (set_spot r w s.hands.items) ∙ (rows_with r w s.hands.items ∙ h.held); hold = h.hold; whole = h.whole }

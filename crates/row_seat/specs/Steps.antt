@@ -1,5 +1,5 @@
 -- What each step does to what a seat knows.
-use Rattle.std.specs.Prelude.{ℕ, ◌+◌, ◌-◌, true, false, not, eqb, cond, filter, List, [], ◌∷◌, ◌++◌, Option, Some, None}
+use Rattle.std.specs.Prelude.{ℕ, ◌+◌, ◌-◌, true, false, not, nat_eq, cond, filter, List, [], ◌∷◌, ◌++◌, Option, Some, None}
 use Rattle.res_ledger.specs.declared.event.Event.{Event}
 use Rattle.res_ledger.specs.declared.event.StreamNo.{StreamNo}
 use Rattle.res_ledger.specs.declared.event.StreamNo.TheVariants.{Inner}
@@ -9,7 +9,7 @@ use Rattle.row_seat.specs.Views.{above, handed_after, kept_after, name_of, run, 
 -- without the first r
 abbrev pub without_one : ℕ → List ℕ → List ℕ
 without_one r [] = []
-without_one r (x ∷ xs) = cond (eqb x r) xs (x ∷ without_one r xs)
+without_one r (x ∷ xs) = cond (nat_eq x r) xs (x ∷ without_one r xs)
 
 module _ {P : Type 0} where
   -- what the first seat knows
@@ -55,11 +55,11 @@ module _ {P : Type 0} where
 
   -- what the main seat keeps
   abbrev pub split_main : Token P → ℕ → ℕ → ℕ → ℕ → Token P
-  split_main v j from to n = record v { empty = filter (λ r. not (within from to r)) v.empty; pairs = filter (λ x. not (eqb x.0 j)) v.pairs; kept = without j v.kept; spare = v.spare - n; had = v.had ++ j ∷ []; out = v.out ++ j ∷ []; splits = v.splits - 1 }
+  split_main v j from to n = record v { empty = filter (λ r. not (within from to r)) v.empty; pairs = filter (λ x. not (nat_eq x.0 j)) v.pairs; kept = without j v.kept; spare = v.spare - n; had = v.had ++ j ∷ []; out = v.out ++ j ∷ []; splits = v.splits - 1 }
 
   -- what the seat that is split off gets
   abbrev pub split_off : Token P → ℕ → ℕ → ℕ → ℕ → Token P
-  split_off v j from to n = record { live = true; main = false; by = Inner j; empty = run from (to - from); opened = []; pairs = stream_pairs j v.pairs; kept = filter (λ x. eqb x j) v.kept; handed = []; taken = []; given = []; left = []; events = []; floor = above v.events; spare = n; had = []; out = []; splits = 0 }
+  split_off v j from to n = record { live = true; main = false; by = Inner j; empty = run from (to - from); opened = []; pairs = stream_pairs j v.pairs; kept = filter (λ x. nat_eq x j) v.kept; handed = []; taken = []; given = []; left = []; events = []; floor = above v.events; spare = n; had = []; out = []; splits = 0 }
 
   -- a seat is taken in
   abbrev pub joined : Token P → Token P → Token P

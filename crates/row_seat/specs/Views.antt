@@ -1,5 +1,5 @@
 -- What the calls of a seat ask of its view, and what they leave.
-use Rattle.std.specs.Prelude.{◌≡◌, ◌≢◌, ℕ, zero, suc, ◌+◌, ◌-◌, ◌<◌, ◌≤◌, ◌⊎◌, ◌↔◌, Bool, true, false, not, eqb, leb, ltb, cond, List, [], ◌∷◌, ◌++◌, filter}
+use Rattle.std.specs.Prelude.{◌≡◌, ◌≢◌, ℕ, zero, suc, ◌+◌, ◌-◌, ◌<◌, ◌≤◌, ◌⊎◌, ◌↔◌, Bool, true, false, not, nat_eq, leb, ltb, cond, List, [], ◌∷◌, ◌++◌, filter}
 use Rattle.res_ledger.specs.declared.event.What.TheVariants.{Acquire, Cancel, Close, Final, Lease, Open}
 use Rattle.res_ledger.specs.Ledger.{Covers, IsAcquired, IsCanceled, IsClosed, IsCoveredBy, IsFinalized, IsLeased, IsLegal, IsOpened, IsStamped, IsUsable, Notes, NotesCancel}
 use Rattle.res_ledger.specs.declared.event.Event.{Event}
@@ -13,11 +13,11 @@ use Rattle.res_ledger.specs.declared.event.What.{What}
 
 -- the list without r
 abbrev pub without : ℕ → List ℕ → List ℕ
-without r xs = filter (λ x. not (eqb x r)) xs
+without r xs = filter (λ x. not (nat_eq x r)) xs
 
 -- the pairs without (j, r)
 abbrev pub without_pair : ℕ → ℕ → List (ℕ × ℕ) → List (ℕ × ℕ)
-without_pair j r xs = filter (λ x. not (cond (eqb x.0 j) (eqb x.1 r) false)) xs
+without_pair j r xs = filter (λ x. not (cond (nat_eq x.0 j) (nat_eq x.1 r) false)) xs
 
 -- r is one of the rows from `from` to `to` - 1
 abbrev pub IsWithin : ℕ → ℕ → ℕ → Type 0
@@ -29,7 +29,7 @@ within from to r = cond (leb from r) (ltb r to) false
 
 -- the pairs of the stream j
 abbrev pub stream_pairs : ℕ → List (ℕ × ℕ) → List (ℕ × ℕ)
-stream_pairs j xs = filter (λ x. eqb x.0 j) xs
+stream_pairs j xs = filter (λ x. nat_eq x.0 j) xs
 
 -- the number of an inner stream
 abbrev pub name_of : StreamNo → ℕ
@@ -68,12 +68,12 @@ module _ {P : Type 0} where
   -- without the first pair that has the row r
   abbrev pub without_row : ℕ → List (ℕ × P) → List (ℕ × P)
   without_row r [] = []
-  without_row r (x ∷ xs) = cond (eqb x.0 r) xs (x ∷ without_row r xs)
+  without_row r (x ∷ xs) = cond (nat_eq x.0 r) xs (x ∷ without_row r xs)
 
   -- the first pair that has the row r has w
   abbrev pub with_row : ℕ → P → List (ℕ × P) → List (ℕ × P)
   with_row r w [] = []
-  with_row r w (x ∷ xs) = cond (eqb x.0 r) ((x.0, w) ∷ xs) (x ∷ with_row r w xs)
+  with_row r w (x ∷ xs) = cond (nat_eq x.0 r) ((x.0, w) ∷ xs) (x ∷ with_row r w xs)
 
   -- the row r is in the list
   abbrev pub HasRow : List (ℕ × P) → ℕ → Type 0
@@ -198,11 +198,11 @@ module _ {P : Type 0} where
 
   -- what the main seat keeps where a seat is split off
   abbrev pub split_main : View P → ℕ → ℕ → ℕ → ℕ → View P
-  split_main v j from to n = record v { empty = filter (λ r. not (within from to r)) v.empty; pairs = filter (λ x. not (eqb x.0 j)) v.pairs; kept = without j v.kept; spare = v.spare - n; had = v.had ++ j ∷ []; out = v.out ++ j ∷ []; splits = v.splits - 1 }
+  split_main v j from to n = record v { empty = filter (λ r. not (within from to r)) v.empty; pairs = filter (λ x. not (nat_eq x.0 j)) v.pairs; kept = without j v.kept; spare = v.spare - n; had = v.had ++ j ∷ []; out = v.out ++ j ∷ []; splits = v.splits - 1 }
 
   -- the seat that is split off: its rows, the leases of its stream with their Lease, and room for its events
   abbrev pub split_off : View P → ℕ → ℕ → ℕ → ℕ → View P
-  split_off v j from to n = record { by = Inner j; main = false; empty = run from (to - from); opened = []; pairs = stream_pairs j v.pairs; kept = filter (λ x. eqb x j) v.kept; handed = []; taken = []; given = []; left = []; events = []; floor = above v.events; spare = n; had = []; out = []; splits = 0 }
+  split_off v j from to n = record { by = Inner j; main = false; empty = run from (to - from); opened = []; pairs = stream_pairs j v.pairs; kept = filter (λ x. nat_eq x j) v.kept; handed = []; taken = []; given = []; left = []; events = []; floor = above v.events; spare = n; had = []; out = []; splits = 0 }
 
   -- the other is a seat of this main one that is out, and is at rest
   abbrev pub CanJoin : View P → View P → Type 0

@@ -1,6 +1,6 @@
 -- A deed of which more is known to have failed.
 use Rattle.std.proofs.Common.{◌≡◌, Bool, true, false, List, [], ◌∷◌, inl, inr, refl, sym, ⊎_elim}
-use Rattle.chunk_core.specs.Lists.{Each}
+use Rattle.std.specs.List.{AllByRecursion}
 use Rattle.run_rules.specs.declared.end.EndOf.{EndOf}
 use Rattle.run_rules.specs.Work.{Work, Deed}
 use Rattle.run_rules.specs.Run.{IsCaused, HasCauseToHalt, Ran, IsUnmade, Performs}
@@ -18,7 +18,7 @@ module _ (work : Work) (c : Deed) (u m : Bool) (unwritten : c.unwritten ≡ true
   halts_more : HasCauseToHalt c → HasCauseToHalt (with_failures c u m)
   halts_more h = ⊎_elim (λ e. inl (unwritten e)) (λ i. ⊎_elim (λ e. inr (inl (memory e))) (λ e. inr (inr e)) i) h
 
-  caused_more : (es : List EndOf) → Each (IsCaused work c) es → Each (IsCaused work (with_failures c u m)) es
+  caused_more : (es : List EndOf) → AllByRecursion (IsCaused work c) es → AllByRecursion (IsCaused work (with_failures c u m)) es
   caused_more [] h = tt
   caused_more (e ∷ es) h = (record { halted = λ i. halts_more (h.0.halted i); fault = h.0.fault; root = h.0.root }, caused_more es h.1)
 

@@ -1,7 +1,8 @@
 -- The devices that a run made.
 use Rattle.std.specs.Prelude.{◌≡◌, ℕ, ◌+◌, ◌<◌, Bool, false, nat_eq, nat_lt, List, [], ◌∷◌, ◌++◌, map, length, drop, filter, count_by, flat_map, Option, Some, None}
 use Rattle.std.specs.List.Sorted.{IsPermutation}
-use Rattle.chunk_core.specs.Lists.{Each, One}
+use Rattle.chunk_core.specs.Lists.{IsAmong}
+use Rattle.std.specs.List.{AllByRecursion}
 use Rattle.chunk_core.specs.declared.code.Exit.{Exit}
 use Rattle.res_ledger.specs.declared.event.What.{What}
 use Rattle.res_ledger.specs.declared.event.Event.{Event}
@@ -33,7 +34,7 @@ is_closed_with x d = elim d.exit [ Some y ↦ same_exit x y | None ↦ false ]
 
 -- each place stands as often in the one list as in the other
 abbrev pub StandAsOften : List Place → List Place → Type 0
-StandAsOften xs ys = Each (λ p. count_by (is_place p) xs ≡ count_by (is_place p) ys) (xs ++ ys)
+StandAsOften xs ys = AllByRecursion (λ p. count_by (is_place p) xs ≡ count_by (is_place p) ys) (xs ++ ys)
 
 -- the place of a row
 abbrev pub place_of : List Place → Option ℕ → List Place
@@ -51,7 +52,7 @@ IsRowBelow n (Some r) = r < n
 
 -- a path that is written by the run
 abbrev pub IsWritten : List Place → List ℕ → Type 0
-IsWritten ps path = One (λ p. (p.mode ≡ mode.Write) × (p.path ≡ path)) ps
+IsWritten ps path = IsAmong (record { path = path; mode = mode.Write }) ps
 
 -- Each device made in the run came back once, isn't open, and was closed as often as it was opened. By path and mode, the
 -- devices that were opened are as many as the rows acquired, those whose close failed as the rows whose Final isn't ok, and
@@ -60,8 +61,8 @@ pub record DevicesAccounted (old new : DepotTold) (places : List Place) (L : Lis
   pub made : new.made ≡ old.made ++ made_for old new
   pub retired : new.retired ≡ old.retired ++ came_back old new
   pub once : IsPermutation (numbered (length old.made) (made_for old new)) (map named (came_back old new))
-  pub shut : Each (λ d. (d.is_open ≡ false) × (d.closes ≡ d.opens)) (came_back old new)
-  pub rows : Each (λ e. IsRowBelow (length places) (acquired_row e.what)) L
+  pub shut : AllByRecursion (λ d. (d.is_open ≡ false) × (d.closes ≡ d.opens)) (came_back old new)
+  pub rows : AllByRecursion (λ e. IsRowBelow (length places) (acquired_row e.what)) L
   pub acquired : AreAsMany (λ d. nat_eq d.opens 1) acquired_row (came_back old new) places L
   pub failed : AreAsMany (λ d. nat_lt 0 d.close_faults) failed_row (came_back old new) places L
   pub exits : (exit : Exit) → AreAsMany (is_closed_with exit) (ended_row exit) (came_back old new) places L

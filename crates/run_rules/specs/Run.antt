@@ -1,7 +1,7 @@
 -- What the work below the top call promises: what its streams gave, how they ended, and that nothing is missing where nothing failed.
 use Rattle.std.specs.Prelude.{◌≡◌, ◌⊎◌, ℕ, ◌+◌, ◌<◌, Bool, true, false, ◌&&◌, nat_eq, nat_lt, List, [], ◌∷◌, ◌++◌, map, filter, filter_map, length, Option, Some, None, IfSome}
-use Rattle.chunk_core.specs.Lists.{Each, One}
-use Rattle.std.specs.List.{list_any as any, list_all as all}
+use Rattle.chunk_core.specs.Lists.{IsAmong}
+use Rattle.std.specs.List.{list_any as any, list_all as all, AllByRecursion}
 use Rattle.chunk_core.specs.Texts.{Frame, frame_text, payloads_of}
 use Rattle.chunk_core.specs.Elements.{Element, rendering_of}
 use Rattle.chunk_core.specs.Outcomes.{End, Done, Fault, Cut, exit_of}
@@ -30,7 +30,7 @@ use Rattle.run_rules.specs.Devices.{DevicesAccounted, came_back}
 
 -- the device came back in the run
 abbrev pub IsBack : Deed → DeviceTold → Type 0
-IsBack c d = One (λ x. x ≡ d) (came_back c.depot_old c.depot_new)
+IsBack c d = IsAmong d (came_back c.depot_old c.depot_new)
 
 -- no device was made for the row, and nothing was done on it
 pub record IsBlank (d : DeviceTold) : Type 0 where
@@ -59,7 +59,7 @@ IsTied w v = Unit {0}
 pub record HaveHomes (work : Work) (c : Deed) (w : ℕ → DeviceTold) : Type 0 where
   pub at_home : AreAtHome c w 0 (places_of work)
   pub apart : AreApart (filter is_tried (map w (below (length (places_of work)))))
-  pub tied : Each (λ e. IsTied w e.what) c.events
+  pub tied : AllByRecursion (λ e. IsTied w e.what) c.events
 
 -- The outputs.
 
@@ -93,7 +93,7 @@ IsCutFrame work w F rest =
     (k : ℕ) × (b more : List ℕ) × (rest ++ more ≡ frame_text k b) × (0 < length more) × (0 < length b) × Continues work w F k b
 
 pub record HaveOutputs (work : Work) (c : Deed) (w : ℕ → DeviceTold) : Type 0 where
-  pub numbers : Each (λ f. (f.stream < length work.streams) × (0 < length f.payload)) c.frames
+  pub numbers : AllByRecursion (λ f. (f.stream < length work.streams) × (0 < length f.payload)) c.frames
   pub outputs : AreOutputs work w c.frames 0 work.streams c.ends
   pub cut : (c.rest ≡ []) ⊎ ((c.unwritten ≡ true) × IsCutFrame work w c.frames c.rest)
 
@@ -130,7 +130,7 @@ pub record IsCaused (work : Work) (c : Deed) (e : EndOf) : Type 0 where
 
 pub record HaveEnds (work : Work) (c : Deed) : Type 0 where
   pub named : map (λ e. e.who) c.ends ≡ names_of work
-  pub caused : Each (IsCaused work c) c.ends
+  pub caused : AllByRecursion (IsCaused work c) c.ends
   pub memory : any (λ e. is_memory e.how) c.ends ≡ true → c.memory ≡ true
 
 -- The exits.
@@ -141,23 +141,23 @@ root_exits k L = filter_map (λ e. root_exit e.what) (by_stream k L)
 
 -- each Close of a stream's root has the exit of the stream's end
 abbrev pub HaveExits : Deed → Type 0
-HaveExits c = Each (λ e. Each (λ x. x ≡ exit_of e.how) (root_exits e.who c.events)) c.ends
+HaveExits c = AllByRecursion (λ e. AllByRecursion (λ x. x ≡ exit_of e.how) (root_exits e.who c.events)) c.ends
 
 -- Completeness.
 
 -- no write failed, no device failed, and over these contents each stream's ideal runs end by themselves without a fault
 pub record NothingFailed (work : Work) (c : Deed) (w : ℕ → DeviceTold) : Type 0 where
   pub written : c.unwritten ≡ false
-  pub devices : Each (λ d. faults_of d ≡ 0) (came_back c.depot_old c.depot_new)
-  pub ideal : Each
+  pub devices : AllByRecursion (λ d. faults_of d ≡ 0) (came_back c.depot_old c.depot_new)
+  pub ideal : AllByRecursion
       (λ k. (v : ℕ → DeviceTold) (ys : List Element) (e : End) → ((r : ℕ) → (faults_of (v r) ≡ 0) × ((v r).content ≡ (w r).content)) → work.ideal_runs k v ys e → e ≡ Done)
       (below (length work.streams))
 
 -- each stream is done, no finalizer failed, and what was printed of each stream renders an ideal run
 pub record IsWhole (work : Work) (c : Deed) (w : ℕ → DeviceTold) : Type 0 where
-  pub done : Each (λ e. e.how ≡ how.Done) c.ends
+  pub done : AllByRecursion (λ e. e.how ≡ how.Done) c.ends
   pub clean : has is_failed c.events ≡ false
-  pub output : Each (λ k. (ys : List Element) × work.ideal_runs k w ys Done × (payloads_of k c.frames ≡ rendering_of ys)) (below (length work.streams))
+  pub output : AllByRecursion (λ k. (ys : List Element) × work.ideal_runs k w ys Done × (payloads_of k c.frames ≡ rendering_of ys)) (below (length work.streams))
 
 -- The run.
 

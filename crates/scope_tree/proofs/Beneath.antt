@@ -1,19 +1,19 @@
 -- The open scopes that stand below one, by what a tree keeps.
-use Rattle.std.proofs.Common.{◌≡◌, ℕ, ◌+◌, ◌-◌, ◌<◌, ◌≤◌, zero, suc, Bool, true, false, cond, eqb, List, [], ◌∷◌, ◌++◌, length, drop, slice_index_or, refl, sym, ap, ◌∙◌, subst, ⊎_elim, arith}
+use Rattle.std.proofs.Common.{◌≡◌, ℕ, ◌+◌, ◌-◌, ◌<◌, ◌≤◌, zero, suc, Bool, true, false, cond, eqb, List, [], ◌∷◌, ◌++◌, length, drop, slice_index_or, refl, sym, ap, ◌∙◌, subst, ⊎_elim, arith, reverse}
 use Rattle.chunk_core.specs.declared.code.Exit.{Exit}
 use Rattle.res_ledger.specs.declared.event.StreamNo.{StreamNo}
 use Rattle.res_ledger.specs.declared.event.What.{What}
 use Rattle.res_ledger.specs.declared.event.What.TheVariants.{Open, Acquire, Close}
 use Rattle.res_ledger.specs.declared.event.Event.{Event}
 use Rattle.row_seat.specs.declared.view.View.{View}
-use Rattle.chunk_core.specs.Lists.{IsAmong}
+use Rattle.chunk_core.specs.Lists.{IsAmong, has}
 use Rattle.res_ledger.specs.Ledger.{Notes, LiesWithin, IsClosed, IsUsable, NotesClose}
 use Rattle.res_ledger.specs.Ledger.LiesWithin.{same, below}
 use Rattle.chunk_core.specs.Lists.IsAmong.{here, there}
 use Rattle.chunk_core.proofs.Members.{among_nil, among_cons, among_left, among_snoc}
 use Rattle.row_seat.specs.Views.{HasRow, noted}
 use Rattle.res_ledger.proofs.Growth.{noted_more, noted_new, within_more}
-use Rattle.res_ledger.specs.Own.{opens, rows, closes, has, up, above, is_closed, teardown, latest, turned}
+use Rattle.res_ledger.specs.Own.{opens, rows, closes, up, above, is_closed, teardown, latest}
 use Rattle.std.specs.List.{list_any as any}
 use Rattle.res_ledger.specs.Own.{below as beneath}
 use Rattle.scope_tree.specs.declared.branch.Branch.{Branch}
@@ -23,12 +23,14 @@ use Rattle.scope_tree.specs.Released.{CanRelease}
 use Rattle.scope_tree.specs.Released.Holder.{owner}
 use Rattle.scope_tree.specs.Kept.{marks, held_pairs, Kept}
 use Rattle.scope_tree.specs.Words.{words, open_of, numbers}
-use Rattle.scope_tree.proofs.Parts.{kids_cases, lasts_pair, distinct_whole, below_is, latest_is, kids_up, among_either, among_right, eqb_eq}
+use Rattle.scope_tree.proofs.Parts.{kids_cases, lasts_pair, distinct_whole, below_is, latest_is, kids_up, eqb_eq}
+use Rattle.chunk_core.proofs.Filters.{among_append, among_right}
 use Rattle.scope_tree.proofs.Bridge.{noted_in, in_noted, in_opens, opens_in, in_rows, marks_at, marks_in, within_cases}
-use Rattle.res_ledger.proofs.Noted.{in_has, has_in, closes_notes, notes_closes}
-use Rattle.res_ledger.proofs.Tests.{any_at as any_passes, any_found}
+use Rattle.res_ledger.proofs.Noted.{closes_notes, notes_closes}
+use Rattle.chunk_core.proofs.Bools.{any_at, any_found, has_in, in_has}
 use Rattle.scope_tree.proofs.Lists.{fit_in}
 use Rattle.scope_tree.proofs.Shapes.{kids_from, kids_here}
+use Rattle.chunk_core.proofs.Reversed.{among_reverse}
 
 -- an open scope t below s, by what a tree keeps
 pub data Under (bs : List Branch) (s : ℕ) : ℕ → Type 0 where
@@ -71,20 +73,10 @@ whole_under bs hs r s l m =
     ⊎_elim
     (λ k. let t = kids_under bs hs r s (suc s) (drop (suc s) bs) (omega arith) (length-drop' (suc s) bs (omega arith)) (λ i d q. at_drop (suc s) i d bs) k in (t.0, t.1, t.2 s self))
     (λ k. (s, lasts_pair r s hs k, self))
-    (among_either (kids (suc s) (drop (suc s) bs) hs s) (lasts hs s) m)
-
-pub any_in : (f : ℕ → Bool) (xs : List ℕ) → any f xs ≡ true → (a : ℕ) × IsAmong a xs × (f a ≡ true)
-any_in f xs h = any_found f xs h
-
-pub any_at : (f : ℕ → Bool) (xs : List ℕ) (a : ℕ) → IsAmong a xs → f a ≡ true → any f xs ≡ true
-any_at f xs a m h = any_passes f a xs m h
+    (among_append _ (kids (suc s) (drop (suc s) bs) hs s) (lasts hs s) m)
 
 pub any_more : (f g : ℕ → Bool) (xs : List ℕ) → ((a : ℕ) → f a ≡ true → g a ≡ true) → any f xs ≡ true → any g xs ≡ true
-any_more f g xs m h = let t = any_in f xs h in any_at g xs t.0 t.1 (m t.0 t.2)
-
-pub among_turned : (x : ℕ × ℕ) (xs : List (ℕ × ℕ)) → IsAmong x (turned xs) → IsAmong x xs
-among_turned x [] m = m
-among_turned x (y ∷ ys) m = ⊎_elim (λ l. there y (among_turned x ys l)) (λ e. subst (λ z. IsAmong x (z ∷ ys)) e (here ys)) (among_snoc (turned ys) x y m)
+any_more f g xs m h = let t = any_found f xs h in any_at g t.0 xs t.1 (m t.0 t.2)
 
 pub up_self : (os : List (ℕ × ℕ)) (s : ℕ) → IsAmong s (up os s)
 up_self [] s = here []
@@ -118,9 +110,9 @@ number_in s p (o ∷ os) m = ⊎_elim (λ e. subst (λ z. IsAmong s (z ∷ numbe
 module _ {P : Type 0} (v : View P) where
   pub closed_sound : (s : ℕ) → is_closed (words v) s ≡ true → IsClosed v.events v.by s
   closed_sound s h =
-      let t = any_in (λ a. has a (closes (words v))) (above (words v) s) h in (
+      let t = any_found (λ a. has a (closes (words v))) (above (words v) s) h in (
         t.0,
-        up_within v.events v.by (turned (opens (words v))) s t.0 (λ c p m. in_noted v.by (Open c p) v.events (in_opens c p (words v) (among_turned (c, p) (opens (words v)) m))) t.1,
+        up_within v.events v.by (reverse (opens (words v))) s t.0 (λ c p m. in_noted v.by (Open c p) v.events (in_opens c p (words v) (among_reverse (c, p) (opens (words v)) m))) t.1,
         closes_notes v.events v.by t.0 (has_in t.0 (closes (words v)) t.2),
       )
 
@@ -177,7 +169,7 @@ module _ {P : Type 0} (v : View P) (bs : List Branch) (hs : List Held) (k : Kept
       let less : p < t = subst (λ z. z < t) (pa d) (k.mirrors.parents t d one l) in
       let f = kids_from bs hs p (suc p) t (omega arith) in
       let h = kids_here bs hs p (suc t) t d refl l (pa d) (sh d) in
-      among_left (lasts hs p) (subst (λ z. IsAmong r z) (sym (f.1 ∙ ap (λ z. z ++ f.0) h)) (among_left f.0 (among_right (kids (suc t) (drop (suc t) bs) hs p) m)))
+      among_left (lasts hs p) (subst (λ z. IsAmong r z) (sym (f.1 ∙ ap (λ z. z ++ f.0) h)) (among_left f.0 (among_right r (kids (suc t) (drop (suc t) bs) hs p) (whole bs hs t) m)))
 
   -- each row of an open scope below s is taken down with s
   pub inside : (r t s : ℕ) → LiesWithin v.events v.by t s → t < length bs → ¬ (IsClosed v.events v.by t) → IsAmong r (whole bs hs t) → IsAmong r (whole bs hs s)

@@ -1,5 +1,5 @@
 -- What a call of a tree leaves to the next.
-use Rattle.std.proofs.Common.{◌≡◌, ℕ, ◌<◌, ◌≤◌, Bool, false, List, [], ◌+◌, length, inl, inr, refl, sym, ap, ◌∙◌, subst, ⊎_elim, arith, append-nil}
+use Rattle.std.proofs.Common.{◌≡◌, ℕ, ◌<◌, ◌≤◌, Bool, false, List, [], ◌+◌, length, inl, inr, refl, sym, ap, ◌∙◌, subst, ⊎_elim, arith, append-nil, reverse}
 use Rattle.chunk_core.specs.declared.code.Exit.{Exit}
 use Rattle.res_ledger.specs.declared.event.What.{What}
 use Rattle.res_ledger.specs.declared.event.What.TheVariants.{Cancel}
@@ -15,7 +15,6 @@ use Rattle.scope_tree.specs.declared.tree.Tree.{Tree}
 use Rattle.scope_tree.specs.Calls.{Cancels, IsClosedScope, IsOpenScope, KeepsScopes, Opens, Seen}
 use Rattle.scope_tree.specs.Kept.{Kept, Shelved}
 use Rattle.scope_tree.specs.Released.{away, said}
-use Rattle.scope_tree.specs.Rows.{lifo}
 use Rattle.scope_tree.specs.Trees.{IsSound}
 use Rattle.scope_tree.specs.Walks.{FirstOpen}
 use Rattle.scope_tree.specs.Walks.FirstOpen.{above_it, this_one}
@@ -26,7 +25,7 @@ use Rattle.scope_tree.proofs.Grows.{back_closed, length_marks, opened_grown, ope
 use Rattle.scope_tree.proofs.Lessee.{lease_opened}
 use Rattle.scope_tree.proofs.Parting.{join_words}
 use Rattle.scope_tree.proofs.Releasing.{released_most, released_spare}
-use Rattle.scope_tree.proofs.Rooms.{away_lifo, used_is}
+use Rattle.scope_tree.proofs.Rooms.{away_reverse, used_is}
 use Rattle.scope_tree.proofs.Walking.{first_usable}
 
 module _ {P : Type 0} where
@@ -60,7 +59,7 @@ module _ {P : Type 0} where
   cancel_leaves {x = x} {a = a} {b = b} {j = j} {T = T} o =
       let t = o.left.2 in let ys = o.left.0 in let g = grown_release a.seat o.stamp (Cancel j x) t in
       let none = opens_finals x (said ys) in let still = closes_finals x (said ys) in
-      let m = released_most [] t in let s = released_spare t in let e = ap (λ S. away S a.seat.opened) (append-nil (lifo T)) in let l = away_lifo T a.seat.opened in
+      let m = released_most [] t in let s = released_spare t in let e = ap (λ S. away S a.seat.opened) (append-nil (reverse T)) in let l = away_reverse T a.seat.opened in
       (keeps_scopes b.seat refl g (λ s u c. grown_back g none still s c), omega (m, s, e, l, arith), owed_still g none still (lease_opened t))
 
   -- where a seat was taken in

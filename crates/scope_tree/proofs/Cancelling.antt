@@ -1,5 +1,5 @@
 -- What a cancellation keeps of a tree.
-use Rattle.std.proofs.Common.{ℕ, ◌+◌, ◌≤◌, Bool, List, [], ◌∷◌, sym, ap, subst, arith, append-nil}
+use Rattle.std.proofs.Common.{ℕ, ◌+◌, ◌≤◌, Bool, List, [], ◌∷◌, sym, ap, subst, arith, append-nil, nat_eq}
 use Rattle.chunk_core.specs.declared.code.Exit.{Exit}
 use Rattle.chunk_core.specs.Lists.{IsAmong}
 use Rattle.res_ledger.specs.declared.event.What.TheVariants.{Cancel}
@@ -13,14 +13,14 @@ use Rattle.scope_tree.specs.declared.branch.Spent.{Spent}
 use Rattle.scope_tree.specs.Kept.{Kept}
 use Rattle.scope_tree.specs.Released.{CanRelease, Released, away, said}
 use Rattle.scope_tree.specs.Released.Holder.{lease}
-use Rattle.scope_tree.specs.Rows.{AreDistinct}
+use Rattle.std.specs.List.{IsDistinct}
 use Rattle.scope_tree.specs.Words.{canceling, owed}
 use Rattle.scope_tree.proofs.Follows.{released_follows, same_empty}
 use Rattle.scope_tree.proofs.Grown.{Grown, closes_finals, grown_noted, grown_release, kept_still, lends_less, opens_finals, rows_finals}
 use Rattle.scope_tree.proofs.Lessee.{lease_opened}
 use Rattle.scope_tree.proofs.Releasing.{released_can, released_most, released_spare}
 
-module _ {P : Type 0} (v : View P) (bs : List Branch) (hs : List Held) (j n : ℕ) (T : List ℕ) (x : Exit) (k : Kept v bs hs) (d : AreDistinct T) (p : (r : ℕ) → IsAmong r T → IsAmong (j, r) v.pairs) (f : owed v + 1 + away T v.opened ≤ v.spare) where
+module _ {P : Type 0} (v : View P) (bs : List Branch) (hs : List Held) (j n : ℕ) (T : List ℕ) (x : Exit) (k : Kept v bs hs) (d : IsDistinct nat_eq T) (p : (r : ℕ) → IsAmong r T → IsAmong (j, r) v.pairs) (f : owed v + 1 + away T v.opened ≤ v.spare) where
   pub cancel_can : CanRelease (lease j) T (noted v (canceling v j x n))
   cancel_can = record {
     distinct = d;

@@ -1,24 +1,25 @@
 -- What a lease covers, as a list and as a fact.
-use Rattle.std.proofs.Common.{◌≡◌, ◌≢◌, ℕ, ◌+◌, ◌-◌, ◌<◌, ◌≤◌, ◌⊎◌, ◌↔◌, zero, suc, Bool, true, false, cond, eqb, nat_eq, not, ◌&&◌, ◌||◌, List, [], ◌∷◌, ◌++◌, length, drop, slice_index_or, inl, inr, refl, sym, ap, ◌∙◌, subst, ⊎_elim, arith, append_assoc, append-nil, eq-eqb, ne_eqb}
+use Rattle.std.proofs.Common.{◌≡◌, ◌≢◌, ℕ, ◌+◌, ◌-◌, ◌<◌, ◌≤◌, ◌⊎◌, ◌↔◌, zero, suc, Bool, true, false, cond, eqb, nat_eq, not, ◌&&◌, ◌||◌, List, [], ◌∷◌, ◌++◌, length, drop, slice_index_or, inl, inr, refl, sym, ap, ◌∙◌, subst, ⊎_elim, arith, append_assoc, append-nil, eq-eqb, ne_eqb, reverse}
 use Rattle.std.proofs.lemmas.Bool.{cases_eq}
 use Rattle.std.proofs.lemmas.List.{get_or_default}
-use Rattle.res_ledger.proofs.Tests.{any_at as any_at', any_found, and_true, both, either, itself, number, or_left, or_right}
+use Rattle.chunk_core.proofs.Bools.{both, either, or_left, or_right, and_true, number, itself, any_at, any_found, has_in, in_has}
 use Rattle.res_ledger.specs.declared.event.What.TheVariants.{Open, Acquire}
 use Rattle.row_seat.specs.declared.view.View.{View}
-use Rattle.chunk_core.specs.Lists.{IsAmong}
+use Rattle.chunk_core.specs.Lists.{IsAmong, has}
 use Rattle.res_ledger.specs.Ledger.{LiesWithin, IsClosed, IsCoveredBy, IsOpened}
 use Rattle.chunk_core.specs.Lists.IsAmong.{here, there}
 use Rattle.chunk_core.proofs.Members.{among_nil, among_cons}
-use Rattle.res_ledger.specs.Own.{opens, rows, closes, has, up, above, turned, is_closed, is_child, reaches, picked, leased_rows}
+use Rattle.res_ledger.specs.Own.{opens, rows, closes, up, above, is_closed, is_child, reaches, picked, leased_rows}
 use Rattle.scope_tree.specs.declared.branch.Branch.{Branch}
 use Rattle.scope_tree.specs.declared.branch.Held.{Held}
 use Rattle.scope_tree.specs.Kept.{marks, Kept}
 use Rattle.scope_tree.specs.Words.{words}
 use Rattle.scope_tree.proofs.Bridge.{noted_in, in_noted, in_opens, opens_in, in_rows, rows_in, within_cases}
-use Rattle.res_ledger.proofs.Noted.{in_has, has_in, notes_closes}
+use Rattle.res_ledger.proofs.Noted.{notes_closes}
 use Rattle.scope_tree.specs.Walks.{Clear, Shaded, StandsAbove}
 use Rattle.scope_tree.proofs.Walking.{clear_open, shaded_closed, stands_within, within_stands}
-use Rattle.scope_tree.proofs.Beneath.{noted_parent, any_at, closed_sound, up_within, among_turned, noted_scope, not_true', shut_not, length-drop', at_drop}
+use Rattle.scope_tree.proofs.Beneath.{noted_parent, closed_sound, up_within, noted_scope, not_true', shut_not, length-drop', at_drop}
+use Rattle.chunk_core.proofs.Reversed.{among_reverse, reverse_cons}
 
 any_picked : (f : ℕ → Bool) (xs : List (ℕ × ℕ)) (r : ℕ) → IsAmong r (picked f xs) → (t : ℕ) × IsAmong (r, t) xs × (f t ≡ true)
 any_picked f [] r m = absurd (among_nil m)
@@ -40,7 +41,7 @@ child_in os c s h =
     subst (λ y. IsAmong y os) (let a : f.0.0 ≡ c = number f.0.0 c b.0 in let d : f.0.1 ≡ s = number f.0.1 s b.1 in let z : (f.0.0, f.0.1) ≡ (c, s) = (cc (a, d)) in z) f.1
 
 in_child : (os : List (ℕ × ℕ)) (c s : ℕ) → IsAmong (c, s) os → is_child os c s ≡ true
-in_child os c s m = any_at' (λ (o : ℕ × ℕ). nat_eq o.0 c && nat_eq o.1 s) (c, s) os m (and_true (nat_eq c c) (nat_eq s s) (itself c) (itself s))
+in_child os c s m = any_at (λ (o : ℕ × ℕ). nat_eq o.0 c && nat_eq o.1 s) (c, s) os m (and_true (nat_eq c c) (nat_eq s s) (itself c) (itself s))
 
 abbrev root : Branch
 root = record { parent = 0; shut = false }
@@ -50,20 +51,21 @@ abbrev down : List Branch → ℕ → List (ℕ × ℕ)
 down bs zero = []
 down bs (suc n) = (suc n, (slice_index_or bs (suc n) root).parent) ∷ down bs n
 
-down_marks : (bs cs : List Branch) (m : ℕ) → ((i : ℕ) (d : Branch) → i < length cs → slice_index_or cs i d ≡ slice_index_or bs (i + suc m) d) → turned (marks (suc m) cs) ++ down bs m ≡ down bs (m + length cs)
+down_marks : (bs cs : List Branch) (m : ℕ) → ((i : ℕ) (d : Branch) → i < length cs → slice_index_or cs i d ≡ slice_index_or bs (i + suc m) d) → reverse (marks (suc m) cs) ++ down bs m ≡ down bs (m + length cs)
 down_marks bs [] m h = let e : m ≡ m + 0 = omega arith in ap (down bs) e
 down_marks bs (b ∷ cs) m h =
     let e : suc m + length cs ≡ m + suc (length cs) = omega arith in
     let z : b ≡ slice_index_or bs (suc m) root = let q : zero + suc m ≡ suc m = omega arith in h zero root (omega arith) ∙ ap (λ i. slice_index_or bs i root) q in
     let g : (i : ℕ) (d : Branch) → i < length cs → slice_index_or cs i d ≡ slice_index_or bs (i + suc (suc m)) d = λ i d l. let q : suc i + suc m ≡ i + suc (suc m) = omega arith in h (suc i) d (omega arith) ∙ ap (λ n. slice_index_or bs n d) q in
-    append_assoc (turned (marks (suc (suc m)) cs)) ((suc m, b.parent) ∷ []) (down bs m)
-    ∙ ap (λ y. let x : ℕ × ℕ = (suc m, y.parent) in turned (marks (suc (suc m)) cs) ++ x ∷ down bs m) z
+    ap (λ l. l ++ down bs m) (reverse_cons (suc m, b.parent) (marks (suc (suc m)) cs))
+    ∙ append_assoc (reverse (marks (suc (suc m)) cs)) ((suc m, b.parent) ∷ []) (down bs m)
+    ∙ ap (λ y. let x : ℕ × ℕ = (suc m, y.parent) in reverse (marks (suc (suc m)) cs) ++ x ∷ down bs m) z
     ∙ down_marks bs cs (suc m) g ∙ ap (down bs) e
 
-turned_marks : (bs : List Branch) → 1 ≤ length bs → turned (marks 1 (drop 1 bs)) ≡ down bs (length bs - 1)
-turned_marks bs l =
+reverse_marks : (bs : List Branch) → 1 ≤ length bs → reverse (marks 1 (drop 1 bs)) ≡ down bs (length bs - 1)
+reverse_marks bs l =
     let t = length-drop' 1 bs l in let e : 0 + length (drop 1 bs) ≡ length bs - 1 = omega arith in
-    sym (append-nil (turned (marks 1 (drop 1 bs)))) ∙ down_marks bs (drop 1 bs) 0 (λ i d q. at_drop 1 i d bs) ∙ ap (down bs) e
+    sym (append-nil (reverse (marks 1 (drop 1 bs)))) ∙ down_marks bs (drop 1 bs) 0 (λ i d q. at_drop 1 i d bs) ∙ ap (down bs) e
 
 less_of : (s n : ℕ) → s ≢ suc n → s ≤ suc n → s ≤ n
 less_of s n ne l = grind arith
@@ -95,10 +97,10 @@ module _ {P : Type 0} (v : View P) (bs : List Branch) (hs : List Held) (k : Kept
   pub above_in : (s a : ℕ) → s < length bs → LiesWithin v.events v.by s a → IsAmong a (above (words v) s)
   above_in s a l w =
       let n = length bs - 1 in let z = k.mirrors.size in
-      subst (λ o. IsAmong a (up o s)) (sym (ap turned k.mirrors.opens ∙ turned_marks bs k.mirrors.size)) (up_down n s a (omega arith) (omega arith) w)
+      subst (λ o. IsAmong a (up o s)) (sym (ap reverse k.mirrors.opens ∙ reverse_marks bs k.mirrors.size)) (up_down n s a (omega arith) (omega arith) w)
 
   pub closed_complete : (s : ℕ) → s < length bs → IsClosed v.events v.by s → is_closed (words v) s ≡ true
-  closed_complete s l c = any_at (λ a. has a (closes (words v))) (above (words v) s) c.0 (above_in s c.0 l c.1) (in_has c.0 (closes (words v)) (notes_closes v.events v.by c.0 c.2))
+  closed_complete s l c = any_at (λ a. has a (closes (words v))) c.0 (above (words v) s) (above_in s c.0 l c.1) (in_has c.0 (closes (words v)) (notes_closes v.events v.by c.0 c.2))
 
   closed_range : (s : ℕ) → IsClosed v.events v.by s → s < length bs
   closed_range s c = ⊎_elim (λ e. subst (λ z. z < length bs) (sym e) (k.mirrors.ended c.0 (notes_closes v.events v.by c.0 c.2))) (λ t. (noted_scope v bs hs k s t.0 t.1).1) (within_cases c.1)
@@ -112,7 +114,7 @@ module _ {P : Type 0} (v : View P) (bs : List Branch) (hs : List Held) (k : Kept
         t.0,
         in_noted v.by (Acquire r t.0) v.events (in_rows r t.0 E t.1),
         ⊎_elim
-            (λ i. inr (up_within v.events v.by (turned (opens E)) s t.0 (λ c p n. in_noted v.by (Open c p) v.events (in_opens c p E (among_turned (c, p) (opens E) n))) (has_in t.0 (above E s) i)))
+            (λ i. inr (up_within v.events v.by (reverse (opens E)) s t.0 (λ c p n. in_noted v.by (Open c p) v.events (in_opens c p E (among_reverse (c, p) (opens E) n))) (has_in t.0 (above E s) i)))
             (λ i. inl (in_noted v.by (Open t.0 s) v.events (in_opens t.0 s E (child_in (opens E) t.0 s i))))
             q.1,
         λ c. shut_not (sym (closed_complete t.0 (closed_range t.0 c) c) ∙ q.0),
@@ -140,7 +142,7 @@ module _ {P : Type 0} (v : View P) (bs : List Branch) (hs : List Held) (k : Kept
   pub reach_child : (s t : ℕ) → s < length bs → t < length bs → Clear bs t → ¬ (StandsAbove bs s t) → reaches (words v) s t ≡ is_child (opens (words v)) t s
   reach_child s t l m x n =
       let E = words v in
-      let none : has t (above E s) ≡ false = not_true' (has t (above E s)) (λ h. n (within_stands v bs hs k (up_within v.events v.by (turned (opens E)) s t (λ c p m. in_noted v.by (Open c p) v.events (in_opens c p E (among_turned (c, p) (opens E) m))) (has_in t (above E s) h)))) in
+      let none : has t (above E s) ≡ false = not_true' (has t (above E s)) (λ h. n (within_stands v bs hs k (up_within v.events v.by (reverse (opens E)) s t (λ c p m. in_noted v.by (Open c p) v.events (in_opens c p E (among_reverse (c, p) (opens E) m))) (has_in t (above E s) h)))) in
       ap (λ b. not b && (has t (above E s) || is_child (opens E) t s)) (open_is t m x) ∙ ap (λ b. b || is_child (opens E) t s) none
 
   pub child_is : (s t : ℕ) → t < length bs → 1 ≤ t → ((d : Branch) → (slice_index_or bs t d).parent ≡ s) → is_child (opens (words v)) t s ≡ true

@@ -1,11 +1,11 @@
 -- What the seat's own stream noted, and what that leaves as it was.
-use Rattle.std.proofs.Common.{◌≡◌, ℕ, suc, Bool, cond, List, [], ◌∷◌, ◌++◌, ◌⊎◌, ◌≤◌, flat_map, length, inl, inr, refl, sym, ap, ◌∙◌, subst, ⊎_elim, append_assoc, append-nil, arith}
+use Rattle.std.proofs.Common.{◌≡◌, ℕ, suc, Bool, cond, List, [], ◌∷◌, ◌++◌, ◌⊎◌, ◌≤◌, flat_map, length, inl, inr, refl, sym, ap, ◌∙◌, subst, ⊎_elim, append_assoc, append-nil, arith, reverse}
 use Rattle.std.specs.Prelude.{◌↔◌}
 use Rattle.std.specs.List.{list_any as any}
 use Rattle.chunk_core.specs.Lists.IsAmong.{here}
 use Rattle.std.proofs.lemmas.Grind.{flat_map-append}
 use Rattle.chunk_core.specs.declared.code.Exit.{Exit}
-use Rattle.chunk_core.specs.Lists.{IsAmong}
+use Rattle.chunk_core.specs.Lists.{IsAmong, has}
 use Rattle.chunk_core.proofs.Members.{among_left, among_nil}
 use Rattle.res_ledger.specs.declared.event.Event.{Event}
 use Rattle.res_ledger.specs.declared.event.StreamNo.{StreamNo}
@@ -14,7 +14,7 @@ use Rattle.res_ledger.specs.declared.event.What.TheVariants.{Acquire, Lease, Ope
 use Rattle.res_ledger.specs.Ledger.{IsAcquired, IsClosed, LiesWithin, Notes}
 use Rattle.res_ledger.specs.Ledger.LiesWithin.{below, same}
 use Rattle.res_ledger.specs.Order.{finals}
-use Rattle.res_ledger.specs.Own.{closes, closes_of, has, is_closed, opens, opens_of, own, rows, rows_of, turned, up}
+use Rattle.res_ledger.specs.Own.{closes, closes_of, is_closed, opens, opens_of, own, rows, rows_of, up}
 use Rattle.res_ledger.proofs.Growth.{noted_snoc}
 use Rattle.res_ledger.proofs.Noted.{closes_notes, notes_closes, notes_opens, notes_own, opens_notes, own_notes}
 use Rattle.row_seat.specs.declared.view.View.{View}
@@ -47,7 +47,7 @@ closes_finals x (f ∷ fs) = closes_finals x fs
 closed_same : (E F : List What) (xs : List ℕ) → opens F ≡ opens E → closes F ≡ closes E → open_of F xs ≡ open_of E xs
 closed_same E F [] o c = refl
 closed_same E F (x ∷ xs) o c =
-    let e : is_closed F x ≡ is_closed E x = ap (λ l. any (λ a. has a (closes F)) (up (turned l) x)) o ∙ ap (λ l. any (λ a. has a l) (up (turned (opens E)) x)) c in
+    let e : is_closed F x ≡ is_closed E x = ap (λ l. any (λ a. has a (closes F)) (up (reverse l) x)) o ∙ ap (λ l. any (λ a. has a l) (up (reverse (opens E)) x)) c in
     ap (λ b. cond b (open_of F xs) (suc (open_of F xs))) e ∙ ap (λ n. cond (is_closed E x) n (suc n)) (closed_same E F xs o c)
 
 -- what is drawn from each of a list's events stays, where nothing is drawn from those that follow

@@ -1,19 +1,18 @@
 -- What an acquisition and an opening keep of a tree.
-use Rattle.std.proofs.Common.{◌≡◌, ◌≢◌, ℕ, ◌+◌, ◌<◌, ◌≤◌, ◌⊎◌, zero, suc, true, false, cond, List, [], ◌∷◌, ◌++◌, length, drop, slice_index_or, inl, inr, refl, sym, ap, ◌∙◌, subst, ⊎_elim, arith, ne_eqb, length-append}
+use Rattle.std.proofs.Common.{◌≡◌, ◌≢◌, ℕ, ◌+◌, ◌<◌, ◌≤◌, ◌⊎◌, zero, suc, true, false, cond, List, [], ◌∷◌, ◌++◌, length, drop, slice_index_or, inl, inr, refl, sym, ap, ◌∙◌, subst, ⊎_elim, arith, ne_eqb, length-append, nat_eq, reverse}
 use Rattle.res_ledger.specs.declared.event.What.{What}
 use Rattle.res_ledger.specs.declared.event.What.TheVariants.{Open, Acquire}
 use Rattle.row_seat.specs.declared.view.View.{View}
-use Rattle.chunk_core.specs.Lists.{IsAmong}
+use Rattle.chunk_core.specs.Lists.{IsAmong, has}
 use Rattle.res_ledger.specs.Ledger.{Notes, IsClosed, IsUsable}
 use Rattle.chunk_core.specs.Lists.IsAmong.{here, there}
 use Rattle.chunk_core.proofs.Members.{among_nil, among_cons, among_left, among_last, among_snoc}
 use Rattle.row_seat.proofs.Members.{among_without}
 use Rattle.row_seat.specs.Views.{HasRow, noted, placed}
-use Rattle.res_ledger.specs.Own.{own, opens, rows, closes, has, up, turned, is_closed}
-use Rattle.std.specs.List.{list_any as any}
+use Rattle.res_ledger.specs.Own.{own, opens, rows, closes, up, is_closed}
+use Rattle.std.specs.List.{list_any as any, IsDistinct}
 use Rattle.scope_tree.specs.declared.branch.Branch.{Branch}
 use Rattle.scope_tree.specs.declared.branch.Held.{Held}
-use Rattle.scope_tree.specs.Rows.{AreDistinct}
 use Rattle.scope_tree.specs.Kept.{marks, held_pairs, held_rows, Kept}
 use Rattle.scope_tree.specs.Words.{words, owed, acquiring, opening, open_of, open_scopes, numbers}
 use Rattle.scope_tree.specs.Calls.{AtStart}
@@ -25,10 +24,13 @@ use Rattle.scope_tree.specs.Rows.{Once}
 use Rattle.scope_tree.proofs.Once.{once_push}
 use Rattle.res_ledger.specs.Ledger.{LiesWithin}
 use Rattle.res_ledger.specs.Ledger.LiesWithin.{same, below}
-use Rattle.scope_tree.proofs.Parts.{distinct_append, row_of_pair}
+use Rattle.scope_tree.proofs.Parts.{row_of_pair}
+use Rattle.chunk_core.proofs.Distinct.{distinct_append, distinct_one, distinct_nil}
 use Rattle.scope_tree.proofs.Bridge.{in_noted, within_cases, in_rows, opens_append, rows_append}
 use Rattle.res_ledger.proofs.Growth.{noted_new}
-use Rattle.res_ledger.proofs.Noted.{closes_notes, has_in, notes_closes, notes_opens, opens_notes}
+use Rattle.res_ledger.proofs.Noted.{closes_notes, notes_closes, notes_opens, opens_notes}
+use Rattle.chunk_core.proofs.Bools.{has_in}
+use Rattle.std.proofs.lemmas.List.{reverse-append}
 
 pub pairs_snoc : (hs : List Held) (h : Held) → held_pairs (hs ++ h ∷ []) ≡ held_pairs hs ++ (h.row, h.scope) ∷ []
 pairs_snoc [] h = refl
@@ -81,7 +83,7 @@ module _ {P : Type 0} (v : View P) (bs : List Branch) (hs : List Held) (r s n : 
           ended = λ c i. k.mirrors.ended c (subst (λ l. IsAmong c l) acquired_closes i);
           rows = acquired_rows ∙ ap (λ l. l ++ (r, s) ∷ []) k.mirrors.rows ∙ sym (pairs_snoc hs h);
           parents = k.mirrors.parents;
-          distinct = subst AreDistinct (sym (rows_snoc hs h)) (distinct_append (held_rows hs) (r ∷ []) k.mirrors.distinct (among_nil, tt) (λ x i j. ⊎_elim (λ q. new_row (subst (λ z. IsAmong z (held_rows hs)) q i)) among_nil (among_cons j)));
+          distinct = subst (IsDistinct nat_eq) (sym (rows_snoc hs h)) (distinct_append (held_rows hs) (r ∷ []) k.mirrors.distinct (distinct_one r) (λ x i j. ⊎_elim (λ q. new_row (subst (λ z. IsAmong z (held_rows hs)) q i)) among_nil (among_cons j)));
           ranged = λ q t i. ⊎_elim (λ o. k.mirrors.ranged q t o) (λ o. subst (λ z. z < length bs) (sym (ap (λ y. y.1) o)) (usable_scope v bs hs k s u)) (held (q, t) i);
         };
         holds = record {
@@ -142,10 +144,6 @@ at_new : {A : Type 0} (xs : List A) (y : A) (d : A) → slice_index_or (xs ++ y 
 at_new [] y d = refl
 at_new (x ∷ xs) y d = at_new xs y d
 
-turned_snoc : (xs : List (ℕ × ℕ)) (x : ℕ × ℕ) → turned (xs ++ x ∷ []) ≡ x ∷ turned xs
-turned_snoc [] x = refl
-turned_snoc (y ∷ xs) x = ap (λ l. l ++ y ∷ []) (turned_snoc xs x)
-
 numbers_snoc : (xs : List (ℕ × ℕ)) (x : ℕ × ℕ) → numbers (xs ++ x ∷ []) ≡ numbers xs ++ x.0 ∷ []
 numbers_snoc [] x = refl
 numbers_snoc (y ∷ xs) x = ap (λ l. y.0 ∷ l) (numbers_snoc xs x)
@@ -180,9 +178,9 @@ module _ {P : Type 0} (v : View P) (bs : List Branch) (hs : List Held) (p n : �
   -- each other scope is closed where it was
   same_closed : (c : ℕ) → c ≢ length bs → is_closed (words then) c ≡ is_closed (words v) c
   same_closed c ne =
-      let same : up (turned (opens (words then))) c ≡ up (turned (opens (words v))) c =
-      ap (λ o. up (turned o) c) opened_opens ∙ ap (λ o. up o c) (turned_snoc (opens (words v)) (length bs, p)) ∙ ap (λ b. cond b (c ∷ up (turned (opens (words v))) p) (up (turned (opens (words v))) c)) (ne_eqb (length bs) c (λ e. ne (sym e))) in
-      ap (λ l. any (λ a. has a (closes (words then))) l) same ∙ ap (λ l. any (λ a. has a l) (up (turned (opens (words v))) c)) opened_closes
+      let same : up (reverse (opens (words then))) c ≡ up (reverse (opens (words v))) c =
+      ap (λ o. up (reverse o) c) opened_opens ∙ ap (λ o. up o c) (reverse-append (opens (words v)) ((length bs, p) ∷ [])) ∙ ap (λ b. cond b (c ∷ up (reverse (opens (words v))) p) (up (reverse (opens (words v))) c)) (ne_eqb (length bs) c (λ e. ne (sym e))) in
+      ap (λ l. any (λ a. has a (closes (words then))) l) same ∙ ap (λ l. any (λ a. has a l) (up (reverse (opens (words v))) c)) opened_closes
 
   pub back_within : {t a : ℕ} → t < length bs → LiesWithin then.events v.by t a → LiesWithin v.events v.by t a
   back_within l (same t) = same t
@@ -275,10 +273,10 @@ start_keeps v a =
         ended = λ s m. absurd (among_nil (subst (λ l. IsAmong s l) (ap closes E) m));
         rows = ap rows E;
         parents = λ c d one l. absurd (omega arith);
-        distinct = tt;
+        distinct = distinct_nil;
         ranged = λ q t m. absurd (among_nil m);
       };
-      holds = record { live = λ q t m n. absurd (among_nil m); only = λ q o. absurd (none q o); once = subst Once (sym a.opened) tt };
+      holds = record { live = λ q t m n. absurd (among_nil m); only = λ q o. absurd (none q o); once = subst Once (sym a.opened) distinct_nil };
       lends = record { pairs = λ j q m h. absurd (none q h); bare = a.bare };
       rests = record {
         handed = a.handed;

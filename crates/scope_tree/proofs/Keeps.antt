@@ -1,10 +1,10 @@
 -- What a close keeps of a tree.
-use Rattle.std.proofs.Common.{◌≡◌, ◌≢◌, ℕ, ◌+◌, ◌<◌, ◌≤◌, ◌⊎◌, zero, suc, Bool, true, false, cond, eqb, ◌||◌, List, [], ◌∷◌, ◌++◌, length, drop, slice_index_or, slice_set, inl, inr, refl, sym, ap, ◌∙◌, subst, ⊎_elim, arith, append-nil, ne_eqb}
+use Rattle.std.proofs.Common.{◌≡◌, ◌≢◌, ℕ, ◌+◌, ◌<◌, ◌≤◌, ◌⊎◌, zero, suc, Bool, true, false, cond, eqb, ◌||◌, List, [], ◌∷◌, ◌++◌, length, drop, slice_index_or, slice_set, inl, inr, refl, sym, ap, ◌∙◌, subst, ⊎_elim, arith, append-nil, ne_eqb, reverse}
 use Rattle.std.specs.List.{list_any as any}
 use Rattle.std.proofs.lemmas.Bool.{cases_eq}
 use Rattle.std.proofs.lemmas.List.{get_or-set_same, get_or-set_other, length-set, get_or_default}
 use Rattle.chunk_core.specs.declared.code.Exit.{Exit}
-use Rattle.chunk_core.specs.Lists.{IsAmong}
+use Rattle.chunk_core.specs.Lists.{IsAmong, has}
 use Rattle.chunk_core.specs.Lists.IsAmong.{here}
 use Rattle.chunk_core.proofs.Members.{among_nil, among_cons, among_left, among_last, among_snoc}
 use Rattle.res_ledger.specs.declared.event.Event.{Event}
@@ -14,24 +14,26 @@ use Rattle.res_ledger.specs.declared.event.What.TheVariants.{Close}
 use Rattle.res_ledger.specs.Ledger.{LiesWithin, IsClosed, IsUsable, NotesClose}
 use Rattle.res_ledger.specs.Ledger.LiesWithin.{same, below}
 use Rattle.res_ledger.specs.Order.{finals}
-use Rattle.res_ledger.specs.Own.{opens, rows, closes, has, up, above, is_closed, turned}
-use Rattle.res_ledger.proofs.Noted.{closes_notes, has_in, in_has, notes_closes, notes_opens, opens_notes}
+use Rattle.res_ledger.specs.Own.{opens, rows, closes, up, above, is_closed}
+use Rattle.res_ledger.proofs.Noted.{closes_notes, notes_closes, notes_opens, opens_notes}
+use Rattle.chunk_core.proofs.Bools.{has_in, in_has, any_at}
 use Rattle.row_seat.specs.declared.view.View.{View}
 use Rattle.row_seat.specs.Views.{HasRow}
 use Rattle.scope_tree.specs.declared.branch.Branch.{Branch}
 use Rattle.scope_tree.specs.declared.branch.Held.{Held}
 use Rattle.scope_tree.specs.declared.branch.Spent.{Spent}
 use Rattle.scope_tree.specs.Kept.{marks, Kept}
-use Rattle.scope_tree.specs.Kids.{kids, whole}
+use Rattle.scope_tree.specs.Kids.{kids, whole, lasts}
 use Rattle.scope_tree.specs.Released.{CanRelease, Released, said}
 use Rattle.scope_tree.specs.Released.Holder.{owner}
 use Rattle.scope_tree.specs.Words.{words, owed, shutting, open_of, open_scopes, numbers}
-use Rattle.scope_tree.proofs.Beneath.{any_at, any_more, close_can, inside, noted_parent, one_open, under_within, up_self, usable_scope, whole_under}
+use Rattle.scope_tree.proofs.Beneath.{any_more, close_can, inside, noted_parent, one_open, under_within, up_self, usable_scope, whole_under}
 use Rattle.scope_tree.proofs.Bridge.{closes_append}
 use Rattle.scope_tree.proofs.Follows.{released_follows, same_empty}
 use Rattle.scope_tree.proofs.Grown.{Grown, closes_finals, grown_acquired, grown_closed, grown_noted, grown_opens, grown_release, grown_rows, lends_less, opens_finals, rows_finals, within_opens}
 use Rattle.scope_tree.proofs.Owning.{owner_count, owner_gone, owner_has}
-use Rattle.scope_tree.proofs.Parts.{among_right, pair_lasts, one_scope}
+use Rattle.scope_tree.proofs.Parts.{pair_lasts, one_scope}
+use Rattle.chunk_core.proofs.Filters.{among_right}
 use Rattle.scope_tree.proofs.Releasing.{released_can, released_most, released_spare}
 
 marks_set : (bs : List Branch) (n s : ℕ) (b : Branch) → ((d : Branch) → s < length bs → (slice_index_or bs s d).parent ≡ b.parent) → marks n (slice_set bs s b) ≡ marks n bs
@@ -90,11 +92,11 @@ module _ {P : Type 0} {ends : P → Exit → Bool → P → Type 0} {x : Exit} (
 
   more_closed : (c : ℕ) → is_closed (words v) c ≡ true → is_closed (words w) c ≡ true
   more_closed c h =
-      subst (λ o. any (λ a. has a (closes (words w))) (up (turned o) c) ≡ true) (sym opens_same)
-      (any_more (λ a. has a (closes (words v))) (λ a. has a (closes (words w))) (up (turned (opens (words v))) c) (λ a q. subst (λ l. has a l ≡ true) (sym closes_same) (has_append a (closes (words v)) (s ∷ []) q)) h)
+      subst (λ o. any (λ a. has a (closes (words w))) (up (reverse o) c) ≡ true) (sym opens_same)
+      (any_more (λ a. has a (closes (words v))) (λ a. has a (closes (words w))) (up (reverse (opens (words v))) c) (λ a q. subst (λ l. has a l ≡ true) (sym closes_same) (has_append a (closes (words v)) (s ∷ []) q)) h)
 
   now_closed : is_closed (words w) s ≡ true
-  now_closed = any_at (λ a. has a (closes (words w))) (above (words w) s) s (up_self (turned (opens (words w))) s) (subst (λ l. has s l ≡ true) (sym closes_same) (in_has s (closes (words v) ++ s ∷ []) (among_last (closes (words v)) s)))
+  now_closed = any_at (λ a. has a (closes (words w))) s (above (words w) s) (up_self (reverse (opens (words w))) s) (subst (λ l. has s l ≡ true) (sym closes_same) (in_has s (closes (words v) ++ s ∷ []) (among_last (closes (words v)) s)))
 
   now_noted : NotesClose w.events w.by s
   now_noted = closes_notes w.events w.by s (subst (λ l. IsAmong s l) (sym closes_same) (among_last (closes (words v)) s))
@@ -151,7 +153,7 @@ module _ {P : Type 0} {ends : P → Exit → Bool → P → Type 0} {x : Exit} (
             y.1,
             λ c. let W = old_within c.1 in ⊎_elim
                 (λ i. y.2 (c.0, W, i))
-                (λ i. owner_gone r t k.holds.once (inside v bs hs k r y.0 s (subst (λ q. LiesWithin v.events v.by y.0 q) i W) (m.ranged r y.0 y.1) y.2 (among_right (kids (suc y.0) (drop (suc y.0) bs) hs y.0) (pair_lasts r y.0 hs y.1))) h)
+                (λ i. owner_gone r t k.holds.once (inside v bs hs k r y.0 s (subst (λ q. LiesWithin v.events v.by y.0 q) i W) (m.ranged r y.0 y.1) y.2 (among_right r (kids (suc y.0) (drop (suc y.0) bs) hs y.0) (lasts hs y.0) (pair_lasts r y.0 hs y.1))) h)
                 (old_close c.0 c.2),
           );
           once = f.once k.holds.once;

@@ -1,5 +1,5 @@
 -- What a lease keeps of a tree.
-use Rattle.std.proofs.Common.{◌≡◌, ◌≢◌, ℕ, ◌+◌, ◌<◌, ◌≤◌, suc, Bool, true, false, cond, take, List, [], ◌∷◌, ◌++◌, length, slice_index_or, inr, refl, sym, ap, ◌∙◌, subst, ⊎_elim, arith}
+use Rattle.std.proofs.Common.{◌≡◌, ◌≢◌, ℕ, ◌+◌, ◌<◌, ◌≤◌, suc, Bool, true, false, cond, take, List, [], ◌∷◌, ◌++◌, length, slice_index_or, inr, refl, sym, ap, ◌∙◌, subst, ⊎_elim, arith, nat_eq}
 use Rattle.chunk_core.specs.Lists.{IsAmong}
 use Rattle.chunk_core.specs.Lists.IsAmong.{here, there}
 use Rattle.chunk_core.proofs.Filters.{among_append, among_right}
@@ -16,7 +16,7 @@ use Rattle.scope_tree.specs.declared.branch.Held.{Held}
 use Rattle.scope_tree.specs.declared.branch.Spent.{Spent}
 use Rattle.scope_tree.specs.Kept.{Kept, Lends, Shelved, held_pairs, held_rows}
 use Rattle.scope_tree.specs.Leased.{leased_all, pairs_for}
-use Rattle.scope_tree.specs.Rows.{AreDistinct}
+use Rattle.std.specs.List.{IsDistinct}
 use Rattle.scope_tree.specs.Words.{leasing, owed, words}
 use Rattle.scope_tree.proofs.Bridge.{noted_in, rows_in}
 use Rattle.scope_tree.proofs.Covered.{leased_is}
@@ -26,6 +26,7 @@ use Rattle.scope_tree.proofs.Beneath.{usable_scope}
 use Rattle.scope_tree.proofs.Leasing.{among_pairs, pairs_among, take_next}
 use Rattle.scope_tree.proofs.Rooms.{open_taken}
 use Rattle.scope_tree.proofs.Shelf.{note_shelved}
+use Rattle.chunk_core.proofs.Distinct.{distinct_cons, distinct_head, distinct_nil, distinct_tail}
 
 picked_append : (f : ℕ → Bool) (xs ys : List (ℕ × ℕ)) → picked f (xs ++ ys) ≡ picked f xs ++ picked f ys
 picked_append f [] ys = refl
@@ -42,9 +43,9 @@ picked_held f (h ∷ hs) r m = (elim (f h.scope) as (λ b. IsAmong r (cond b (h.
   | false ↦ λ n. there h.row (picked_held f hs r n)
 ]) m
 
-picked_distinct : (f : ℕ → Bool) (hs : List Held) → AreDistinct (held_rows hs) → AreDistinct (picked f (held_pairs hs))
-picked_distinct f [] d = tt
-picked_distinct f (h ∷ hs) d = elim (f h.scope) as (λ b. AreDistinct (cond b (h.row ∷ picked f (held_pairs hs)) (picked f (held_pairs hs)))) [ true ↦ ((λ m. d.0 (picked_held f hs h.row m)), picked_distinct f hs d.1) | false ↦ picked_distinct f hs d.1 ]
+picked_distinct : (f : ℕ → Bool) (hs : List Held) → IsDistinct nat_eq (held_rows hs) → IsDistinct nat_eq (picked f (held_pairs hs))
+picked_distinct f [] d = distinct_nil
+picked_distinct f (h ∷ hs) d = elim (f h.scope) as (λ b. IsDistinct nat_eq (cond b (h.row ∷ picked f (held_pairs hs)) (picked f (held_pairs hs)))) [ true ↦ distinct_cons h.row (picked f (held_pairs hs)) (λ m. distinct_head h.row (held_rows hs) d (picked_held f hs h.row m)) (picked_distinct f hs (distinct_tail h.row (held_rows hs) d)) | false ↦ picked_distinct f hs (distinct_tail h.row (held_rows hs) d) ]
 
 module _ {P : Type 0} (v : View P) (bs : List Branch) (hs : List Held) (xs : List (Spent P)) (k : Kept v bs hs) (s : Shelved v hs xs) (c j : ℕ) (u : IsUsable v.events v.by c) where
   pub lease_rows_open : (r : ℕ) → IsAmong r (leased_rows (words v) c) → HasRow v.opened r
@@ -52,8 +53,8 @@ module _ {P : Type 0} (v : View P) (bs : List Branch) (hs : List Held) (xs : Lis
       let t = (leased_is v bs hs k c r (usable_scope v bs hs k c u)).0 m in
       k.holds.live r t.0 (subst (λ l. IsAmong (r, t.0) l) k.mirrors.rows (rows_in r t.0 (words v) (noted_in v.by (Acquire r t.0) v.events t.1))) t.3
 
-  pub lease_distinct : AreDistinct (leased_rows (words v) c)
-  lease_distinct = subst (λ l. AreDistinct (picked (reaches (words v) c) l)) (sym k.mirrors.rows) (picked_distinct (reaches (words v) c) hs k.mirrors.distinct)
+  pub lease_distinct : IsDistinct nat_eq (leased_rows (words v) c)
+  lease_distinct = subst (λ l. IsDistinct nat_eq (picked (reaches (words v) c) l)) (sym k.mirrors.rows) (picked_distinct (reaches (words v) c) hs k.mirrors.distinct)
 
   pub lease_none : v.by ≢ Inner j → ¬ (IsLeased v.events j) → (r : ℕ) → ¬ (IsAmong (j, r) v.pairs)
   lease_none by no' r m = ⊎_elim (λ e. by e) (λ y. no' (v.by, y.0, y.1)) (s.leased j r m)

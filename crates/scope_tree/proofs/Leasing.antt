@@ -1,5 +1,5 @@
 -- Leases for a stream, row by row.
-use Rattle.std.proofs.Common.{◌≡◌, ◌≢◌, ℕ, ◌<◌, ◌≤◌, zero, suc, true, take, List, [], ◌∷◌, ◌++◌, length, slice_index_or, refl, sym, ap, ◌∙◌, subst, ⊎_elim, arith, append_assoc, append-nil}
+use Rattle.std.proofs.Common.{◌≡◌, ◌≢◌, ℕ, ◌<◌, ◌≤◌, zero, suc, true, take, List, [], ◌∷◌, ◌++◌, length, slice_index_or, refl, sym, ap, ◌∙◌, subst, ⊎_elim, arith, append_assoc, append-nil, nat_eq}
 use Rattle.chunk_core.specs.Lists.{IsAmong}
 use Rattle.chunk_core.specs.Lists.IsAmong.{here, there}
 use Rattle.chunk_core.proofs.Filters.{among_append, among_at}
@@ -8,8 +8,9 @@ use Rattle.res_ledger.specs.Ledger.{IsLeased}
 use Rattle.res_ledger.specs.declared.event.StreamNo.TheVariants.{Inner}
 use Rattle.row_seat.specs.declared.view.View.{View}
 use Rattle.row_seat.specs.Views.{CanLease, HasRow, leased}
-use Rattle.scope_tree.specs.Rows.{AreDistinct}
+use Rattle.std.specs.List.{IsDistinct}
 use Rattle.scope_tree.specs.Leased.{leased_all, pairs_for}
+use Rattle.chunk_core.proofs.Distinct.{distinct_head, distinct_tail}
 
 pub take_next : {A : Type 0} (xs : List A) (i k : ℕ) (d : A) → k ≡ suc i → i < length xs → take k xs ≡ take i xs ++ slice_index_or xs i d ∷ []
 take_next [] i k d e l = absurd (omega arith)
@@ -23,10 +24,10 @@ take_all (x ∷ xs) zero l = absurd (omega arith)
 take_all (x ∷ xs) (suc n) l = ap (λ y. x ∷ y) (take_all xs n (omega arith))
 
 -- a row of a list of distinct rows doesn't stand before itself
-pub not_before : (xs : List ℕ) (i d : ℕ) → AreDistinct xs → i < length xs → ¬ (IsAmong (slice_index_or xs i d) (take i xs))
+pub not_before : (xs : List ℕ) (i d : ℕ) → IsDistinct nat_eq xs → i < length xs → ¬ (IsAmong (slice_index_or xs i d) (take i xs))
 not_before [] i d u l m = absurd (omega arith)
 not_before (x ∷ xs) zero d u l m = among_nil m
-not_before (x ∷ xs) (suc i) d u l m = ⊎_elim (λ e. u.0 (subst (λ z. IsAmong z xs) e (among_at xs i d (omega arith)))) (λ n. not_before xs i d u.1 (omega arith) n) (among_cons m)
+not_before (x ∷ xs) (suc i) d u l m = ⊎_elim (λ e. distinct_head x xs u (subst (λ z. IsAmong z xs) e (among_at xs i d (omega arith)))) (λ n. not_before xs i d (distinct_tail x xs u) (omega arith) n) (among_cons m)
 
 pub pairs_append : (j : ℕ) (T U : List ℕ) → pairs_for j (T ++ U) ≡ pairs_for j T ++ pairs_for j U
 pairs_append j [] U = refl
@@ -48,7 +49,7 @@ module _ {P : Type 0} (v : View P) (j : ℕ) where
   leased_next T r = ap (λ ps. let w : View P = record v { pairs = ps } in w) (append_assoc v.pairs (pairs_for j T) ((j, r) ∷ []) ∙ ap (λ l. v.pairs ++ l) (sym (pairs_append j T (r ∷ []))))
 
   -- the row at i may be leased once those before it are
-  pub can_lease : (xs : List ℕ) (i d : ℕ) → i < length xs → v.main ≡ true → ((r : ℕ) → IsAmong r xs → HasRow v.opened r) → AreDistinct xs → (v.by ≢ Inner j) × ¬ (IsAmong j v.had) × ¬ (IsLeased v.events j) → ((r : ℕ) → ¬ (IsAmong (j, r) v.pairs)) → CanLease (leased_all v j (take i xs)) j (slice_index_or xs i d)
+  pub can_lease : (xs : List ℕ) (i d : ℕ) → i < length xs → v.main ≡ true → ((r : ℕ) → IsAmong r xs → HasRow v.opened r) → IsDistinct nat_eq xs → (v.by ≢ Inner j) × ¬ (IsAmong j v.had) × ¬ (IsLeased v.events j) → ((r : ℕ) → ¬ (IsAmong (j, r) v.pairs)) → CanLease (leased_all v j (take i xs)) j (slice_index_or xs i d)
   can_lease xs i d l main rows u stream none = (
     main,
     rows (slice_index_or xs i d) (among_at xs i d l),

@@ -17,6 +17,7 @@ use Rattle.scope_tree.specs.Lending.{lent}
 use Rattle.scope_tree.specs.Rows.{Once}
 use Rattle.scope_tree.specs.Trees.{Fits, IsSound, seen}
 use Rattle.scope_tree.proofs.Grown.{holds_same, lends_less}
+use Rattle.scope_tree.proofs.Once.{once_cons, once_head, once_tail}
 
 module _ {P : Type 0} (r : ℕ) (w : P) where
   pub has_with : (xs : List (ℕ × P)) (q : ℕ) → HasRow xs q → HasRow (with_row r w xs) q
@@ -49,7 +50,7 @@ module _ {P : Type 0} (r : ℕ) (w : P) where
 
   once_with : (xs : List (ℕ × P)) → Once xs → Once (with_row r w xs)
   once_with [] o = o
-  once_with (x ∷ xs) o = elim (eqb x.0 r) as (λ b. Once (cond b ((x.0, w) ∷ xs) (x ∷ with_row r w xs))) [ true ↦ (o.0, o.1) | false ↦ ((λ h. o.0 (with_has xs x.0 h)), once_with xs o.1) ]
+  once_with (x ∷ xs) o = elim (eqb x.0 r) as (λ b. Once (cond b ((x.0, w) ∷ xs) (x ∷ with_row r w xs))) [ true ↦ o | false ↦ once_cons x (with_row r w xs) (λ h. once_head x xs o (with_has xs x.0 h)) (once_with xs (once_tail x xs o)) ]
 
   pub length_with : (xs : List (ℕ × P)) → length (with_row r w xs) ≡ length xs
   length_with [] = refl

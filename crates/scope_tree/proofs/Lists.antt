@@ -1,5 +1,5 @@
 -- Lists of rows and of leases, with one less.
-use Rattle.std.proofs.Common.{◌≡◌, ◌≢◌, ℕ, ◌+◌, ◌<◌, ◌≤◌, zero, suc, true, false, cond, not, eqb, List, [], ◌∷◌, ◌++◌, length, drop, slice_index_or, refl, sym, ap, ◌∙◌, subst, ⊎_elim, arith, ne_eqb, eq-eqb, append_assoc, append-nil}
+use Rattle.std.proofs.Common.{◌≡◌, ◌≢◌, ℕ, ◌+◌, ◌<◌, ◌≤◌, zero, suc, true, false, cond, not, eqb, List, [], ◌∷◌, ◌++◌, length, drop, slice_index_or, refl, sym, ap, ◌∙◌, subst, ⊎_elim, arith, ne_eqb, eq-eqb, append_assoc, append-nil, nat_eq, reverse}
 use Rattle.std.proofs.lemmas.Bool.{cases_eq}
 use Rattle.chunk_core.specs.Lists.{IsAmong}
 use Rattle.chunk_core.specs.Lists.IsAmong.{here, there}
@@ -7,12 +7,10 @@ use Rattle.chunk_core.proofs.Filters.{among_filter}
 use Rattle.chunk_core.proofs.Members.{among_nil, among_cons, among_left}
 use Rattle.row_seat.specs.Views.{HasRow, without, without_pair, without_row}
 use Rattle.scope_tree.specs.Released.{away, is_here}
-use Rattle.scope_tree.specs.Rows.{AreDistinct, lifo}
+use Rattle.std.specs.List.{IsDistinct}
 use Rattle.scope_tree.proofs.Shapes.{drop_at}
-
-pub distinct_front : (T U : List ℕ) → AreDistinct (T ++ U) → AreDistinct T
-distinct_front [] U d = tt
-distinct_front (x ∷ T) U d = ((λ m. d.0 (among_left U m)), distinct_front T U d.1)
+use Rattle.chunk_core.proofs.Reversed.{reverse_cons}
+use Rattle.chunk_core.proofs.Distinct.{distinct_head, distinct_tail}
 
 pub without_self : (r : ℕ) (xs : List ℕ) → xs ≡ [] → without r (xs ++ r ∷ []) ≡ []
 without_self r xs e = rw (e, eq-eqb r r refl) refl
@@ -47,16 +45,16 @@ lost_pair j r xs m =
     let e : cond (eqb j j) (eqb r r) false ≡ true = ap (λ b. cond b (eqb r r) false) (eq-eqb j j refl) ∙ eq-eqb r r refl in
     let z : false ≡ true = ap not (sym e) ∙ t.1 in cc
 
-pub lifo_here : (xs : List ℕ) (at k d : ℕ) → at ≡ suc k → k < length xs → lifo (drop k xs) ≡ lifo (drop at xs) ++ slice_index_or xs k d ∷ []
-lifo_here xs at k d e l = ap lifo (drop_at xs k d l) ∙ ap (λ n. lifo (drop n xs) ++ slice_index_or xs k d ∷ []) (sym e)
+pub reverse_here : (xs : List ℕ) (at k d : ℕ) → at ≡ suc k → k < length xs → reverse (drop k xs) ≡ reverse (drop at xs) ++ slice_index_or xs k d ∷ []
+reverse_here xs at k d e l = ap reverse (drop_at xs k d l) ∙ reverse_cons (slice_index_or xs k d) (drop (suc k) xs) ∙ ap (λ n. reverse (drop n xs) ++ slice_index_or xs k d ∷ []) (sym e)
 
-lifo_split : (k : ℕ) (xs : List ℕ) → (X : List ℕ) × (lifo xs ≡ lifo (drop k xs) ++ X)
-lifo_split zero xs = ([], sym (append-nil (lifo xs)))
-lifo_split (suc k) [] = ([], refl)
-lifo_split (suc k) (x ∷ xs) = let t = lifo_split k xs in (t.0 ++ x ∷ [], ap (λ l. l ++ x ∷ []) t.1 ∙ append_assoc (lifo (drop k xs)) t.0 (x ∷ []))
+reverse_split : (k : ℕ) (xs : List ℕ) → (X : List ℕ) × (reverse xs ≡ reverse (drop k xs) ++ X)
+reverse_split zero xs = ([], sym (append-nil (reverse xs)))
+reverse_split (suc k) [] = ([], refl)
+reverse_split (suc k) (x ∷ xs) = let t = reverse_split k xs in (t.0 ++ x ∷ [], reverse_cons x xs ∙ ap (λ l. l ++ x ∷ []) t.1 ∙ append_assoc (reverse (drop k xs)) t.0 (x ∷ []))
 
-pub lifo_next : (xs : List ℕ) (at k d : ℕ) → at ≡ suc k → k < length xs → (X : List ℕ) × (lifo xs ≡ (lifo (drop at xs) ++ slice_index_or xs k d ∷ []) ++ X)
-lifo_next xs at k d e l = let t = lifo_split k xs in (t.0, t.1 ∙ ap (λ y. y ++ t.0) (lifo_here xs at k d e l))
+pub reverse_next : (xs : List ℕ) (at k d : ℕ) → at ≡ suc k → k < length xs → (X : List ℕ) × (reverse xs ≡ (reverse (drop at xs) ++ slice_index_or xs k d ∷ []) ++ X)
+reverse_next xs at k d e l = let t = reverse_split k xs in (t.0, t.1 ∙ ap (λ y. y ++ t.0) (reverse_here xs at k d e l))
 
 module _ {P : Type 0} where
   pub keep_row : (r q : ℕ) (p : P) (xs : List (ℕ × P)) → IsAmong (q, p) xs → q ≢ r → IsAmong (q, p) (without_row r xs)
@@ -84,11 +82,11 @@ module _ {P : Type 0} where
       (cases_eq x.0 r)
 
   -- distinct rows that all stand in a list are no more than its length
-  pub fit_in : (T : List ℕ) (xs : List (ℕ × P)) → AreDistinct T → ((r : ℕ) → IsAmong r T → HasRow xs r) → length T ≤ length xs
+  pub fit_in : (T : List ℕ) (xs : List (ℕ × P)) → IsDistinct nat_eq T → ((r : ℕ) → IsAmong r T → HasRow xs r) → length T ≤ length xs
   fit_in [] xs d h = omega arith
   fit_in (r ∷ T) xs d h =
       let p = h r (here T) in let l = length_without_row r p.0 xs p.1 in
-      let t = fit_in T (without_row r xs) d.1 (λ q m. let k = h q (there r m) in (k.0, keep_row r q k.0 xs k.1 (λ e. d.0 (subst (λ z. IsAmong z T) e m)))) in omega arith
+      let t = fit_in T (without_row r xs) (distinct_tail r T d) (λ q m. let k = h q (there r m) in (k.0, keep_row r q k.0 xs k.1 (λ e. distinct_head r T d (subst (λ z. IsAmong z T) e m)))) in omega arith
 
   pub here_has : (r : ℕ) (xs : List (ℕ × P)) → is_here r xs ≡ true → HasRow xs r
   here_has r [] h = absurd (let z : false ≡ true = h in cc)

@@ -1,5 +1,5 @@
 -- What is taken down with a scope is distinct, and is what the definition says.
-use Rattle.std.proofs.Common.{◌≡◌, ℕ, ◌+◌, ◌<◌, ◌≤◌, ◌⊎◌, zero, suc, Bool, true, false, cond, eqb, ◌&&◌, not, List, [], ◌∷◌, ◌++◌, length, drop, slice_index_or, inl, inr, refl, sym, ap, ◌∙◌, subst, ⊎_elim, arith, eq-eqb, ne_eqb}
+use Rattle.std.proofs.Common.{◌≡◌, ℕ, ◌+◌, ◌<◌, ◌≤◌, ◌⊎◌, zero, suc, Bool, true, false, cond, eqb, ◌&&◌, not, List, [], ◌∷◌, ◌++◌, length, drop, slice_index_or, inl, inr, refl, sym, ap, ◌∙◌, subst, ⊎_elim, arith, eq-eqb, ne_eqb, nat_eq}
 use Rattle.std.proofs.lemmas.Bool.{cases_eq}
 use Rattle.chunk_core.specs.Lists.{IsAmong}
 use Rattle.chunk_core.specs.Lists.IsAmong.{here, there}
@@ -8,32 +8,16 @@ use Rattle.res_ledger.specs.Own.{below, latest}
 use Rattle.scope_tree.specs.declared.branch.Branch.{Branch}
 use Rattle.scope_tree.specs.declared.branch.Held.{Held}
 use Rattle.scope_tree.specs.Kids.{lasts, kids, whole}
-use Rattle.scope_tree.specs.Rows.{AreDistinct}
+use Rattle.std.specs.List.{IsDistinct}
 use Rattle.scope_tree.specs.Words.{numbers}
 use Rattle.scope_tree.specs.Kept.{marks, held_rows, held_pairs}
 use Rattle.scope_tree.proofs.Shapes.{kids_other}
+use Rattle.chunk_core.proofs.Distinct.{distinct_append, distinct_head, distinct_nil, distinct_one, distinct_tail}
+use Rattle.chunk_core.proofs.Filters.{among_append, among_right, chosen}
 
 pub numbers_held : (hs : List Held) → numbers (held_pairs hs) ≡ held_rows hs
 numbers_held [] = refl
 numbers_held (h ∷ hs) = ap (λ l. h.row ∷ l) (numbers_held hs)
-
-module _ {A : Type 0} where
-  pub among_either : {x : A} (xs ys : List A) → IsAmong x (xs ++ ys) → IsAmong x xs ⊎ IsAmong x ys
-  among_either [] ys m = inr m
-  among_either {x = x} (y ∷ xs) ys m = ⊎_elim (λ e. inl (subst (λ z. IsAmong x (z ∷ xs)) e (here xs))) (λ n. ⊎_elim (λ l. inl (there y l)) (λ r. inr r) (among_either xs ys n)) (among_cons m)
-
-  pub among_right : {x : A} (xs : List A) {ys : List A} → IsAmong x ys → IsAmong x (xs ++ ys)
-  among_right [] m = m
-  among_right (y ∷ xs) m = there y (among_right xs m)
-
-pub distinct_append : (A B : List ℕ) → AreDistinct A → AreDistinct B → ((x : ℕ) → IsAmong x A → IsAmong x B → ⊥) → AreDistinct (A ++ B)
-distinct_append [] B a b n = b
-distinct_append (x ∷ A) B a b n = ((λ m. ⊎_elim (λ l. a.0 l) (λ r. n x (here A) r) (among_either A B m)), distinct_append A B a.1 b (λ y m l. n y (there x m) l))
-
--- where b holds x, else nothing
-when_elim : {x : ℕ} (b : Bool) (X : List ℕ) → IsAmong x (cond b X []) → (b ≡ true) × IsAmong x X
-when_elim true X m = (refl, m)
-when_elim false X m = absurd (among_nil m)
 
 unless_elim : {x : ℕ} (b : Bool) (X : List ℕ) → IsAmong x (cond b [] X) → (b ≡ false) × IsAmong x X
 unless_elim true X m = absurd (among_nil m)
@@ -46,12 +30,12 @@ pub row_of_pair : (r t : ℕ) (hs : List Held) → IsAmong (r, t) (held_pairs hs
 row_of_pair r t [] m = absurd (among_nil m)
 row_of_pair r t (h ∷ hs) m = ⊎_elim (λ e. subst (λ z. IsAmong r (z ∷ held_rows hs)) (ap (λ y. y.0) e) (here (held_rows hs))) (λ n. there h.row (row_of_pair r t hs n)) (among_cons m)
 
-pub one_scope : (r t u : ℕ) (hs : List Held) → AreDistinct (held_rows hs) → IsAmong (r, t) (held_pairs hs) → IsAmong (r, u) (held_pairs hs) → t ≡ u
+pub one_scope : (r t u : ℕ) (hs : List Held) → IsDistinct nat_eq (held_rows hs) → IsAmong (r, t) (held_pairs hs) → IsAmong (r, u) (held_pairs hs) → t ≡ u
 one_scope r t u [] d m n = absurd (among_nil m)
 one_scope r t u (h ∷ hs) d m n =
     ⊎_elim
-    (λ e. ⊎_elim (λ f. ap (λ y. y.1) e ∙ sym (ap (λ y. y.1) f)) (λ n'. absurd (d.0 (subst (λ z. IsAmong z (held_rows hs)) (ap (λ y. y.0) e) (row_of_pair r u hs n')))) (among_cons n))
-    (λ m'. ⊎_elim (λ f. absurd (d.0 (subst (λ z. IsAmong z (held_rows hs)) (ap (λ y. y.0) f) (row_of_pair r t hs m')))) (λ n'. one_scope r t u hs d.1 m' n') (among_cons n))
+    (λ e. ⊎_elim (λ f. ap (λ y. y.1) e ∙ sym (ap (λ y. y.1) f)) (λ n'. absurd (distinct_head h.row (held_rows hs) d (subst (λ z. IsAmong z (held_rows hs)) (ap (λ y. y.0) e) (row_of_pair r u hs n')))) (among_cons n))
+    (λ m'. ⊎_elim (λ f. absurd (distinct_head h.row (held_rows hs) d (subst (λ z. IsAmong z (held_rows hs)) (ap (λ y. y.0) f) (row_of_pair r t hs m')))) (λ n'. one_scope r t u hs (distinct_tail h.row (held_rows hs) d) m' n') (among_cons n))
     (among_cons m)
 
 pub lasts_pair : (r s : ℕ) (hs : List Held) → IsAmong r (lasts hs s) → IsAmong (r, s) (held_pairs hs)
@@ -59,33 +43,33 @@ lasts_pair r s [] m = absurd (among_nil m)
 lasts_pair r s (h ∷ hs) m =
     ⊎_elim
     (λ l. let y : ℕ × ℕ = (h.row, h.scope) in there y (lasts_pair r s hs l))
-    (λ w. let t = when_elim (eqb h.scope s) (h.row ∷ []) w in
+    (λ w. let t = chosen (eqb h.scope s) (h.row ∷ []) r w in
     ⊎_elim (λ e. let q : h.scope ≡ s = eqb_eq h.scope s t.0 in subst (λ z. IsAmong z (held_pairs (h ∷ hs))) (let p : (h.row, h.scope) ≡ (r, s) = (cc (e, q)) in p) (here (held_pairs hs))) (λ n. absurd (among_nil n)) (among_cons t.1))
-    (among_either (lasts hs s) (cond (eqb h.scope s) (h.row ∷ []) []) m)
+    (among_append _ (lasts hs s) (cond (eqb h.scope s) (h.row ∷ []) []) m)
 
 pub pair_lasts : (r s : ℕ) (hs : List Held) → IsAmong (r, s) (held_pairs hs) → IsAmong r (lasts hs s)
 pair_lasts r s [] m = absurd (among_nil m)
 pair_lasts r s (h ∷ hs) m =
     ⊎_elim
-    (λ e. among_right (lasts hs s) (subst (λ b. IsAmong r (cond b (h.row ∷ []) [])) (sym (eq-eqb h.scope s (sym (ap (λ y. y.1) e)))) (subst (λ z. IsAmong r (z ∷ [])) (ap (λ y. y.0) e) (here []))))
+    (λ e. among_right r (lasts hs s) (cond (eqb h.scope s) (h.row ∷ []) []) (subst (λ b. IsAmong r (cond b (h.row ∷ []) [])) (sym (eq-eqb h.scope s (sym (ap (λ y. y.1) e)))) (subst (λ z. IsAmong r (z ∷ [])) (ap (λ y. y.0) e) (here []))))
     (λ n. among_left (cond (eqb h.scope s) (h.row ∷ []) []) (pair_lasts r s hs n))
     (among_cons m)
 
-pub distinct_lasts : (s : ℕ) (hs : List Held) → AreDistinct (held_rows hs) → AreDistinct (lasts hs s)
-distinct_lasts s [] d = tt
+pub distinct_lasts : (s : ℕ) (hs : List Held) → IsDistinct nat_eq (held_rows hs) → IsDistinct nat_eq (lasts hs s)
+distinct_lasts s [] d = distinct_nil
 distinct_lasts s (h ∷ hs) d =
-    distinct_append (lasts hs s) (cond (eqb h.scope s) (h.row ∷ []) []) (distinct_lasts s hs d.1)
-    (elim (eqb h.scope s) as (λ b. AreDistinct (cond b (h.row ∷ []) [])) [ true ↦ (among_nil, tt) | false ↦ tt ])
-    (λ x m n. let t = when_elim (eqb h.scope s) (h.row ∷ []) n in ⊎_elim (λ e. d.0 (subst (λ z. IsAmong z (held_rows hs)) e (row_of_pair x s hs (lasts_pair x s hs m)))) among_nil (among_cons t.1))
+    distinct_append (lasts hs s) (cond (eqb h.scope s) (h.row ∷ []) []) (distinct_lasts s hs (distinct_tail h.row (held_rows hs) d))
+    (elim (eqb h.scope s) as (λ b. IsDistinct nat_eq (cond b (h.row ∷ []) [])) [ true ↦ distinct_one h.row | false ↦ distinct_nil ])
+    (λ x m n. let t = chosen (eqb h.scope s) (h.row ∷ []) x n in ⊎_elim (λ e. distinct_head h.row (held_rows hs) d (subst (λ z. IsAmong z (held_rows hs)) e (row_of_pair x s hs (lasts_pair x s hs m)))) among_nil (among_cons t.1))
 
 -- the parts of what stands below s in the scopes from n on
 pub kids_cases : (r n s : ℕ) (b : Branch) (bs : List Branch) (hs : List Held) → IsAmong r (kids n (b ∷ bs) hs s) → IsAmong r (kids (suc n) bs hs s) ⊎ ((b.parent ≡ s) × (b.shut ≡ false) × (IsAmong r (kids (suc n) bs hs n) ⊎ IsAmong r (lasts hs n)))
 kids_cases r n s b bs hs m =
     ⊎_elim
     (λ l. inl l)
-    (λ w. let t = when_elim (eqb b.parent s) (cond b.shut [] (kids (suc n) bs hs n ++ lasts hs n)) w in let u = unless_elim b.shut (kids (suc n) bs hs n ++ lasts hs n) t.1 in
-    inr (eqb_eq b.parent s t.0, u.0, among_either (kids (suc n) bs hs n) (lasts hs n) u.1))
-    (among_either (kids (suc n) bs hs s) (cond (eqb b.parent s) (cond b.shut [] (kids (suc n) bs hs n ++ lasts hs n)) []) m)
+    (λ w. let t = chosen (eqb b.parent s) (cond b.shut [] (kids (suc n) bs hs n ++ lasts hs n)) r w in let u = unless_elim b.shut (kids (suc n) bs hs n ++ lasts hs n) t.1 in
+    inr (eqb_eq b.parent s t.0, u.0, among_append _ (kids (suc n) bs hs n) (lasts hs n) u.1))
+    (among_append _ (kids (suc n) bs hs s) (cond (eqb b.parent s) (cond b.shut [] (kids (suc n) bs hs n ++ lasts hs n)) []) m)
 
 pub kids_pair : (r n s : ℕ) (bs : List Branch) (hs : List Held) → IsAmong r (kids n bs hs s) → (t : ℕ) × (n ≤ t) × IsAmong (r, t) (held_pairs hs)
 kids_pair r n s [] hs m = absurd (among_nil m)
@@ -95,7 +79,7 @@ kids_pair r n s (b ∷ bs) hs m =
     (λ w. ⊎_elim (λ l. let t = kids_pair r (suc n) n bs hs l in let q = t.1 in (t.0, (omega arith), t.2)) (λ l. (n, (omega arith), lasts_pair r n hs l)) w.2)
     (kids_cases r n s b bs hs m)
 
-module _ (hs : List Held) (d : AreDistinct (held_rows hs)) where
+module _ (hs : List Held) (d : IsDistinct nat_eq (held_rows hs)) where
   apart : (r n s t : ℕ) (bs : List Branch) → IsAmong r (kids n bs hs s) → IsAmong r (lasts hs t) → t < n → ⊥
   apart r n s t bs m l lt = let p = kids_pair r n s bs hs m in let e = one_scope r p.0 t hs d p.2 (lasts_pair r t hs l) in let q = p.1 in omega arith
 
@@ -114,19 +98,19 @@ module _ (hs : List Held) (d : AreDistinct (held_rows hs)) where
       (kids_cases r n c b bs hs k))
       (kids_cases r n s b bs hs m)
 
-  pub distinct_kids : (n s : ℕ) (bs : List Branch) → s < n → AreDistinct (kids n bs hs s)
-  distinct_kids n s [] l = tt
+  pub distinct_kids : (n s : ℕ) (bs : List Branch) → s < n → IsDistinct nat_eq (kids n bs hs s)
+  distinct_kids n s [] l = distinct_nil
   distinct_kids n s (b ∷ bs) l =
       let ls : s < suc n = omega arith in let ln : n < suc n = omega arith in
       distinct_append (kids (suc n) bs hs s) (cond (eqb b.parent s) (cond b.shut [] (kids (suc n) bs hs n ++ lasts hs n)) []) (distinct_kids (suc n) s bs ls)
-      (elim (eqb b.parent s) as (λ p. AreDistinct (cond p (cond b.shut [] (kids (suc n) bs hs n ++ lasts hs n)) [])) [
-        | true ↦ elim b.shut as (λ q. AreDistinct (cond q [] (kids (suc n) bs hs n ++ lasts hs n))) [ true ↦ tt | false ↦ distinct_append (kids (suc n) bs hs n) (lasts hs n) (distinct_kids (suc n) n bs ln) (distinct_lasts n hs d) (λ x m k. apart x (suc n) n n bs m k ln) ]
-        | false ↦ tt
+      (elim (eqb b.parent s) as (λ p. IsDistinct nat_eq (cond p (cond b.shut [] (kids (suc n) bs hs n ++ lasts hs n)) [])) [
+        | true ↦ elim b.shut as (λ q. IsDistinct nat_eq (cond q [] (kids (suc n) bs hs n ++ lasts hs n))) [ true ↦ distinct_nil | false ↦ distinct_append (kids (suc n) bs hs n) (lasts hs n) (distinct_kids (suc n) n bs ln) (distinct_lasts n hs d) (λ x m k. apart x (suc n) n n bs m k ln) ]
+        | false ↦ distinct_nil
       ])
-      (λ x m w. let t = when_elim (eqb b.parent s) (cond b.shut [] (kids (suc n) bs hs n ++ lasts hs n)) w in let u = unless_elim b.shut (kids (suc n) bs hs n ++ lasts hs n) t.1 in
-      ⊎_elim (λ k. let e = one_root x (suc n) s n bs ls ln m k in omega arith) (λ k. apart x (suc n) s n bs m k ln) (among_either (kids (suc n) bs hs n) (lasts hs n) u.1))
+      (λ x m w. let t = chosen (eqb b.parent s) (cond b.shut [] (kids (suc n) bs hs n ++ lasts hs n)) x w in let u = unless_elim b.shut (kids (suc n) bs hs n ++ lasts hs n) t.1 in
+      ⊎_elim (λ k. let e = one_root x (suc n) s n bs ls ln m k in omega arith) (λ k. apart x (suc n) s n bs m k ln) (among_append _ (kids (suc n) bs hs n) (lasts hs n) u.1))
 
-  pub distinct_whole : (s : ℕ) (bs : List Branch) → AreDistinct (whole bs hs s)
+  pub distinct_whole : (s : ℕ) (bs : List Branch) → IsDistinct nat_eq (whole bs hs s)
   distinct_whole s bs =
       let l : s < suc s = omega arith in
       distinct_append (kids (suc s) (drop (suc s) bs) hs s) (lasts hs s) (distinct_kids (suc s) s (drop (suc s) bs) l) (distinct_lasts s hs d) (λ x m k. apart x (suc s) s s (drop (suc s) bs) m k l)

@@ -19,7 +19,8 @@ use Rattle.scope_tree.specs.Released.Holder.{owner, lease}
 use Rattle.scope_tree.specs.Released.Released.{done, stays, ends_so}
 use Rattle.scope_tree.proofs.Bridge.{own_snoc}
 use Rattle.scope_tree.proofs.Follows.{Follows, LetGo, end_follows, follows_closed, follows_mine, follows_then, go_follows, let_go, opened_after, pairs_after}
-use Rattle.scope_tree.proofs.Lists.{away_append, away_more, away_one, distinct_front, keep_row, other, other_pair, without_self}
+use Rattle.scope_tree.proofs.Lists.{away_append, away_more, away_one, keep_row, other, other_pair, without_self}
+use Rattle.chunk_core.proofs.Distinct.{distinct_front, distinct_head, distinct_tail}
 
 one_more : (A B F G : List What) (w : What) → G ≡ B ++ F → B ≡ A ++ w ∷ [] → G ≡ A ++ w ∷ F
 one_more A B F G w g b = g ∙ ap (λ l. l ++ F) b ∙ append_assoc A (w ∷ []) F
@@ -49,8 +50,8 @@ module _ {P : Type 0} where
 
   pub can_stays : (h : Holder) (v u : View P) (r : ℕ) (T : List ℕ) → LetsGo h v r Stays u → CanRelease h (r ∷ T) v → CanRelease h T u
   can_stays h v u r T l c = let g = let_go h v r Stays u l in record {
-    distinct = c.distinct.1;
-    rows = λ q m. still_can h v u r q (go_follows g) g.opened g.pairs (other T r q c.distinct.0 m) (c.rows q (there r m));
+    distinct = distinct_tail r T c.distinct;
+    rows = λ q m. still_can h v u r q (go_follows g) g.opened g.pairs (other T r q (distinct_head r T c.distinct) m) (c.rows q (there r m));
     handed = g.handed ∙ c.handed;
     taken = ap (λ x. x.taken) g.same ∙ c.taken;
     spare = let a = most_stays h v u r T g in let b = c.spare in let e = ap (λ x. x.spare) g.same in omega (a, b, e, arith);
@@ -60,8 +61,8 @@ module _ {P : Type 0} where
   can_ends h x v u y n T l c =
       let g = let_go h v y.row Yours u l in let w = finalized x u y n in
       let most_same : (k : Holder) → most k T w ≡ most k T u = elim [ owner ↦ refl | lease j ↦ refl ] in record {
-        distinct = c.distinct.1;
-        rows = λ q m. still_can h v w y.row q (follows_then (go_follows g) (end_follows x u y n)) g.opened g.pairs (other T y.row q c.distinct.0 m) (c.rows q (there y.row m));
+        distinct = distinct_tail y.row T c.distinct;
+        rows = λ q m. still_can h v w y.row q (follows_then (go_follows g) (end_follows x u y n)) g.opened g.pairs (other T y.row q (distinct_head y.row T c.distinct) m) (c.rows q (there y.row m));
         handed = ap (without y.row) g.handed ∙ without_self y.row v.handed c.handed;
         taken = without_self y.row u.taken (ap (λ z. z.taken) g.same ∙ c.taken);
         spare = let a = most_ends h v u y.row T l in let b = c.spare in let e = ap (λ z. z.spare) g.same in let m = most_same h in omega (a, b, e, m, arith);

@@ -1,5 +1,5 @@
 -- What a step keeps of a tree's shelf.
-use Rattle.std.proofs.Common.{◌≡◌, ℕ, ◌<◌, ◌⊎◌, Bool, cond, List, [], ◌∷◌, ◌++◌, inl, inr, refl, sym, ap, ◌∙◌, subst, ⊎_elim, append_assoc, append-nil}
+use Rattle.std.proofs.Common.{◌≡◌, ℕ, ◌<◌, ◌⊎◌, Bool, cond, List, [], ◌∷◌, ◌++◌, inl, inr, refl, sym, ap, ◌∙◌, subst, ⊎_elim, append_assoc, append-nil, nat_eq}
 use Rattle.res_ledger.specs.Ledger.{Covers}
 use Rattle.std.proofs.lemmas.Grind.{flat_map-append}
 use Rattle.chunk_core.specs.declared.code.Exit.{Exit}
@@ -23,7 +23,8 @@ use Rattle.row_seat.specs.declared.view.View.{View}
 use Rattle.row_seat.specs.Views.{HasPair, HasRow, IsFresh, noted, without_pair}
 use Rattle.scope_tree.specs.declared.branch.Held.{Held}
 use Rattle.scope_tree.specs.declared.branch.Spent.{Spent}
-use Rattle.scope_tree.specs.Rows.{AreDistinct, Once}
+use Rattle.scope_tree.specs.Rows.{Once}
+use Rattle.std.specs.List.{IsDistinct}
 use Rattle.scope_tree.specs.Released.{CanLetGo, CanRelease, Holder, LetsGo, MayWait, Released, finalized, said}
 use Rattle.scope_tree.specs.Released.Holder.{owner, lease}
 use Rattle.scope_tree.specs.Released.Released.{done, stays, ends_so}
@@ -32,7 +33,7 @@ use Rattle.scope_tree.specs.Kept.{Shelved}
 use Rattle.scope_tree.proofs.Bridge.{own_snoc}
 use Rattle.scope_tree.proofs.Distinct.{firsts_append, said_append}
 use Rattle.scope_tree.proofs.Once.{gone_without}
-use Rattle.scope_tree.proofs.Parts.{distinct_append}
+use Rattle.chunk_core.proofs.Distinct.{distinct_append, distinct_nil, distinct_one}
 use Rattle.scope_tree.proofs.Follows.{Follows, end_follows, follows_covers, follows_mine, follows_then, go_follows, let_go, same_by, same_empty, same_main}
 use Rattle.scope_tree.proofs.Lists.{keep_row, lose_pair, lost_pair}
 use Rattle.scope_tree.proofs.Releasing.{can_ends, can_stays}
@@ -102,14 +103,14 @@ module _ {P : Type 0} where
   )
 
   -- from v to w the rows of ys ended
-  went_shelved : (v w : View P) (hs : List Held) (xs ys : List (Spent P)) → Follows v w → ended_rows (words w) ≡ ended_rows (words v) ++ said ys → AreDistinct (firsts (said ys)) → ((r : ℕ) → IsAmong r (firsts (said ys)) → ¬ (HasRow w.opened r) × ¬ (HasPair w r) × ¬ (IsAmong r v.empty) × ¬ (IsAmong r (firsts (said xs)))) → ((q : ℕ) → HasRow v.opened q → HasRow w.opened q ⊎ (IsAmong q (firsts (said ys)) ⊎ MayWait v q)) → Rises (by_stream w.by w.events) → Shelved v hs xs → Shelved w hs (xs ++ ys)
+  went_shelved : (v w : View P) (hs : List Held) (xs ys : List (Spent P)) → Follows v w → ended_rows (words w) ≡ ended_rows (words v) ++ said ys → IsDistinct nat_eq (firsts (said ys)) → ((r : ℕ) → IsAmong r (firsts (said ys)) → ¬ (HasRow w.opened r) × ¬ (HasPair w r) × ¬ (IsAmong r v.empty) × ¬ (IsAmong r (firsts (said xs)))) → ((q : ℕ) → HasRow v.opened q → HasRow w.opened q ⊎ (IsAmong q (firsts (said ys)) ⊎ MayWait v q)) → Rises (by_stream w.by w.events) → Shelved v hs xs → Shelved w hs (xs ++ ys)
   went_shelved v w hs xs ys f words_are once bare back rises k =
       let all : firsts (said (xs ++ ys)) ≡ firsts (said xs) ++ firsts (said ys) = ap firsts (said_append xs ys) ∙ firsts_append (said xs) (said ys) in
       let cases : (q : ℕ) → IsAmong q (firsts (said (xs ++ ys))) → IsAmong q (firsts (said xs)) ⊎ IsAmong q (firsts (said ys)) = λ q m. among_append q (firsts (said xs)) (firsts (said ys)) (subst (λ z. IsAmong q z) all m) in
       let on : (q : ℕ) → IsAmong q (firsts (said xs) ++ firsts (said ys)) → IsAmong q (firsts (said (xs ++ ys))) = λ q m. subst (λ z. IsAmong q z) (sym all) m in
       let waits : (q : ℕ) → MayWait v q → MayWait w q = λ q y. (same_main f ∙ y.0, (y.1.0, subst (λ b. Covers w.events y.1.0 b q) (sym (same_by f)) (follows_covers f y.1.1))) in record {
         said_are = words_are ∙ ap (λ z. z ++ said ys) k.said_are ∙ sym (said_append xs ys);
-        distinct = subst AreDistinct (sym all) (distinct_append (firsts (said xs)) (firsts (said ys)) k.distinct once (λ q a m. (bare q m).3 a));
+        distinct = subst (IsDistinct nat_eq) (sym all) (distinct_append (firsts (said xs)) (firsts (said ys)) k.distinct once (λ q a m. (bare q m).3 a));
         opened = λ q o m. ⊎_elim (k.opened q (o.0, f.opened (q, o.0) o.1)) (λ i. (bare q i).0 o) (cases q m);
         pairs = λ j q p m. ⊎_elim (k.pairs j q (f.pairs (j, q) p)) (λ i. (bare q i).1 (j, p)) (cases q m);
         empty = λ q e m. let i = subst (λ z. IsAmong q z) (same_empty f) e in ⊎_elim (k.empty q i) (λ y. (bare q y).2 i) (cases q m);
@@ -127,7 +128,7 @@ module _ {P : Type 0} where
     released_shelved xs (stays v u r l t) c once out k =
         let g = let_go h v r Stays u l in let f = go_follows g in
         let e = ap (λ z. ended_rows (words z)) g.same ∙ sym (append-nil (ended_rows (words v))) in
-        let s = went_shelved v u hs xs [] f e tt (λ q m. absurd (among_nil m)) (λ q o. ⊎_elim (λ i. inl i) (λ i. inr (inr i)) (stays_waits h v u r q l o)) (subst (λ z. Rises (by_stream z.by z.events)) (sym g.same) k.rises) k in
+        let s = went_shelved v u hs xs [] f e distinct_nil (λ q m. absurd (among_nil m)) (λ q o. ⊎_elim (λ i. inl i) (λ i. inr (inr i)) (stays_waits h v u r q l o)) (subst (λ z. Rises (by_stream z.by z.events)) (sym g.same) k.rises) k in
         released_shelved xs t (can_stays h v u r _ l c) (f.once once) (still_out f out) (subst (λ z. Shelved u hs z) (append-nil xs) s)
     released_shelved {w = w} xs (ends_so {T = T} {ys = ys} v u y n l i t) c once out k =
         let g = let_go h v y.row Yours u l in let f = follows_then (go_follows g) (end_follows x u y n) in
@@ -138,5 +139,5 @@ module _ {P : Type 0} where
         (λ a. absurd (among_nil a))
         (among_cons m) in
         let back : (q : ℕ) → HasRow v.opened q → HasRow u.opened q ⊎ (IsAmong q (y.row ∷ []) ⊎ MayWait v q) = λ q a. ⊎_elim (λ z. inl z) (λ z. inr (inl (subst (λ j. IsAmong j (y.row ∷ [])) (sym z) (here [])))) (open_or h v u y.row q Yours l a) in
-        let s = went_shelved v (finalized x u y n) hs xs (y ∷ []) f e (among_nil, tt) bare back (rises_next u n (Final y.row x y.ok) i.fresh (subst (λ z. Rises (by_stream z.by z.events)) (sym g.same) k.rises)) k in
+        let s = went_shelved v (finalized x u y n) hs xs (y ∷ []) f e (distinct_one y.row) bare back (rises_next u n (Final y.row x y.ok) i.fresh (subst (λ z. Rises (by_stream z.by z.events)) (sym g.same) k.rises)) k in
         subst (λ z. Shelved w hs z) (append_assoc xs (y ∷ []) ys) (released_shelved (xs ++ y ∷ []) t (can_ends h x v u y n _ l c) (f.once once) (still_out f out) s)

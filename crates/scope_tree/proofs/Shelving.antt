@@ -1,5 +1,5 @@
 -- What each call keeps of a tree's shelf.
-use Rattle.std.proofs.Common.{ℕ, ◌+◌, ◌≤◌, Bool, List, [], ◌∷◌, ◌++◌, ◌⊎◌, inl, inr, refl, sym, ap, subst, ⊎_elim}
+use Rattle.std.proofs.Common.{ℕ, ◌+◌, ◌≤◌, Bool, List, [], ◌∷◌, ◌++◌, ◌⊎◌, inl, inr, refl, sym, ap, subst, ⊎_elim, nat_eq}
 use Rattle.chunk_core.specs.declared.code.Exit.{Exit}
 use Rattle.chunk_core.specs.Lists.{IsAmong}
 use Rattle.chunk_core.proofs.Members.{among_nil, among_left, among_last, among_snoc}
@@ -16,7 +16,7 @@ use Rattle.scope_tree.specs.declared.branch.Branch.{Branch}
 use Rattle.scope_tree.specs.declared.branch.Held.{Held}
 use Rattle.scope_tree.specs.declared.branch.Spent.{Spent}
 use Rattle.scope_tree.specs.Kids.{whole}
-use Rattle.scope_tree.specs.Rows.{AreDistinct}
+use Rattle.std.specs.List.{IsDistinct}
 use Rattle.scope_tree.specs.Released.{Released, away, said}
 use Rattle.scope_tree.specs.Released.Holder.{owner, lease}
 use Rattle.scope_tree.specs.Words.{acquiring, canceling, opening, owed, shutting, ended_rows}
@@ -27,11 +27,12 @@ use Rattle.scope_tree.proofs.Cancelling.{cancel_can}
 use Rattle.scope_tree.proofs.Grows.{pairs_snoc}
 use Rattle.scope_tree.proofs.Rooms.{open_taken}
 use Rattle.scope_tree.proofs.Shelf.{note_shelved, released_shelved}
+use Rattle.chunk_core.proofs.Distinct.{distinct_nil}
 
 pub start_shelved : {P : Type 0} (v : View P) → AtStart v → Shelved v [] []
 start_shelved v a = record {
   said_are = ap (λ L. ended_rows (own v.by L)) a.events;
-  distinct = tt;
+  distinct = distinct_nil;
   opened = λ r h m. among_nil m;
   pairs = λ j r h m. among_nil m;
   empty = λ r h m. among_nil m;
@@ -67,5 +68,5 @@ module _ {P : Type 0} (v : View P) (bs : List Branch) (hs : List Held) (xs : Lis
   pub close_shelved : {ends : P → Exit → Bool → P → Type 0} {x : Exit} {w : View P} {ys : List (Spent P)} (c n : ℕ) → IsUsable v.events v.by c → IsFresh v n → Released ends x owner (whole bs hs c) (shutting v c x n) ys w → Shelved w hs (xs ++ ys)
   close_shelved {x = x} c n u f t = released_shelved hs xs t (close_can v bs hs k c n x u) k.holds.once occupied (note_shelved v hs xs n (Close c x) refl f s)
 
-  pub cancel_shelved : {ends : P → Exit → Bool → P → Type 0} {x : Exit} {w : View P} {ys : List (Spent P)} (j n : ℕ) (T : List ℕ) → AreDistinct T → ((r : ℕ) → IsAmong r T → IsAmong (j, r) v.pairs) → owed v + 1 + away T v.opened ≤ v.spare → IsFresh v n → Released ends x (lease j) T (noted v (canceling v j x n)) ys w → Shelved w hs (xs ++ ys)
+  pub cancel_shelved : {ends : P → Exit → Bool → P → Type 0} {x : Exit} {w : View P} {ys : List (Spent P)} (j n : ℕ) (T : List ℕ) → IsDistinct nat_eq T → ((r : ℕ) → IsAmong r T → IsAmong (j, r) v.pairs) → owed v + 1 + away T v.opened ≤ v.spare → IsFresh v n → Released ends x (lease j) T (noted v (canceling v j x n)) ys w → Shelved w hs (xs ++ ys)
   cancel_shelved {x = x} j n T d p e f t = released_shelved hs xs t (cancel_can v bs hs j n T x k d p e) k.holds.once occupied (note_shelved v hs xs n (Cancel j x) refl f s)

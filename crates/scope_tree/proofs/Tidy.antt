@@ -2,7 +2,7 @@
 use Rattle.std.proofs.Common.{◌≡◌, ℕ, ◌↔◌, Bool, true, false, cond, filter, map, List, [], ◌∷◌, ◌++◌, length, length-append, reverse, refl, sym, ap, ◌∙◌, subst, ⊎_elim, arith, append_assoc}
 use Rattle.std.proofs.lemmas.List.{reverse-append}
 use Rattle.chunk_core.specs.declared.code.Exit.{Exit}
-use Rattle.chunk_core.specs.Lists.{IsAmong}
+use Rattle.chunk_core.specs.Lists.{IsAmong, has}
 use Rattle.chunk_core.specs.Lists.IsAmong.{here, there}
 use Rattle.chunk_core.proofs.Cuts.{among_parts}
 use Rattle.chunk_core.proofs.Filters.{among_filter}
@@ -13,18 +13,17 @@ use Rattle.res_ledger.specs.declared.event.What.TheVariants.{Lease}
 use Rattle.res_ledger.specs.Ledger.{Covers, IsLegal}
 use Rattle.res_ledger.specs.Order.{IsInBlocks, IsInOrder, covered, covered_by}
 use Rattle.res_ledger.specs.Order.IsInBlocks.{none}
-use Rattle.res_ledger.specs.Own.{has, own}
+use Rattle.res_ledger.specs.Own.{own}
 use Rattle.res_ledger.specs.Streams.{same_stream}
 use Rattle.res_ledger.specs.Streams.{by_stream, same_stream}
 use Rattle.res_ledger.proofs.Blocks.{blocks_plain}
 use Rattle.res_ledger.proofs.Leases.{covered_found}
 use Rattle.res_ledger.proofs.Ledgers.{by_in, by_out, covers_more, covers_own}
-use Rattle.res_ledger.proofs.Noted.{in_has}
+use Rattle.chunk_core.proofs.Bools.{in_has}
 use Rattle.res_ledger.specs.Rising.{Rises}
 use Rattle.row_seat.specs.declared.view.View.{View}
 use Rattle.row_seat.specs.Views.{AreApart, IsLedgerOf, joined, split_main}
 use Rattle.scope_tree.specs.Calls.{Acquires, Cancels, Closes, Leases, Opens, Seen}
-use Rattle.scope_tree.specs.Rows.{lifo}
 use Rattle.scope_tree.specs.Tidy.{IsTidy}
 use Rattle.scope_tree.specs.Words.{acquiring, canceling, closing, leasing, opening, words}
 use Rattle.scope_tree.proofs.Follows.{follows_covers, released_follows, same_by}
@@ -100,10 +99,6 @@ pub own_by : (k : StreamNo) (L : List Event) → own k L ≡ map (λ (e : Event)
 own_by k [] = refl
 own_by k (e ∷ L) = (elim (same_stream e.by k) as (λ b. cond b (e.what ∷ own k L) (own k L) ≡ map (λ (e : Event). e.what) (cond b (e ∷ by_stream k L) (by_stream k L))) [ true ↦ ap (λ l. e.what ∷ l) (own_by k L) | false ↦ own_by k L ])
 
-lifo_is : (xs : List ℕ) → lifo xs ≡ reverse xs
-lifo_is [] = refl
-lifo_is (x ∷ xs) = ap (λ l. l ++ x ∷ []) (lifo_is xs) ∙ sym (reverse-append (x ∷ []) xs)
-
 module _ {P : Type 0} where
   -- the events of a stream stand in the ledger as in the view of the seat that finished
   pub ledger_by : (u : View P) (L : List Event) (k : StreamNo) → IsLedgerOf u L → Rises (by_stream k u.events) → by_stream k L ≡ by_stream k u.events
@@ -117,4 +112,4 @@ module _ {P : Type 0} where
       subst (λ l. IsInBlocks (λ r. has r (covered L) ≡ true) (λ j. reverse (covered_by L j)) [] l) (sym E)
       (t (λ r. has r (covered L)) (λ j. reverse (covered_by L j))
       (λ j r c. in_has r (covered L) (covered_found L legal j r v.by (covers_own v.by v.events L (sym is) j r c)))
-      (λ j T m. ap reverse (due j T m) ∙ sym (lifo_is T)))
+      (λ j T m. ap reverse (due j T m)))

@@ -1,5 +1,5 @@
 -- What callers read off the clauses of a tree.
-use Rattle.std.proofs.Common.{flat_map, ◌≡◌, ℕ, ◌+◌, ◌⊎◌, Bool, List, [], ◌∷◌, ◌++◌, length, inl, inr, refl, sym, ap, ◌∙◌, subst, ⊎_elim}
+use Rattle.std.proofs.Common.{flat_map, ◌≡◌, ℕ, ◌+◌, ◌⊎◌, Bool, List, [], ◌∷◌, ◌++◌, length, inl, inr, refl, sym, ap, ◌∙◌, subst, ⊎_elim, reverse}
 use Rattle.res_ledger.specs.Ledger.LiesWithin.{same}
 use Rattle.res_ledger.specs.declared.event.StreamNo.{StreamNo}
 use Rattle.res_ledger.specs.declared.event.What.{What}
@@ -21,7 +21,6 @@ use Rattle.res_ledger.proofs.Blocks.{picks_map, blocks_plain, blocks_close, bloc
 use Rattle.scope_tree.specs.Walks.{FirstOpen}
 use Rattle.scope_tree.specs.Walks.FirstOpen.{this_one, above_it}
 use Rattle.scope_tree.specs.Released.{said}
-use Rattle.scope_tree.specs.Rows.{lifo}
 use Rattle.scope_tree.specs.Calls.{AtStart, Seen, Opens, Acquires, Closes, Cancels, Leases}
 use Rattle.scope_tree.specs.Words.{words, canceling, opening, acquiring, leasing, shutting}
 use Rattle.scope_tree.proofs.Bridge.{own_snoc, noted_in, in_noted, in_opens}
@@ -109,7 +108,7 @@ module _ {P : Type 0} where
     close_in_order {x = x} {a = a} {s = s} c h i = subst (λ E. IsInBlocks may due [] E) (sym (closed_said c)) (blocks_close (words a.seat) s x (said c.torn.0) (picks_map (λ r m. h r m.0 m.1) (closed_picks c)) i)
 
     -- where the rows of the lease, latest first, are those that are due
-    pub cancel_in_order : {ends : P → Exit → Bool → P → Type 0} {x : Exit} {a b : Seen P} {j : ℕ} {T : List ℕ} (c : Cancels ends a j T x b) → due j ≡ lifo T → IsInBlocks may due [] (words a.seat) → IsInBlocks may due [] (words b.seat)
+    pub cancel_in_order : {ends : P → Exit → Bool → P → Type 0} {x : Exit} {a b : Seen P} {j : ℕ} {T : List ℕ} (c : Cancels ends a j T x b) → due j ≡ reverse T → IsInBlocks may due [] (words a.seat) → IsInBlocks may due [] (words b.seat)
     cancel_in_order {x = x} {a = a} {j = j} c e i =
         subst (λ E. IsInBlocks may due [] E) (sym (canceled_said c))
         (blocks_cancel (words a.seat) j x (said c.left.0) (subst (λ l. Picks IsAny (firsts (said c.left.0)) l) (sym e) (released_picks c.left.2)) i)

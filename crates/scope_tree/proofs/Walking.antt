@@ -17,12 +17,9 @@ use Rattle.scope_tree.specs.Walks.StandsAbove.{itself, further}
 use Rattle.scope_tree.specs.Walks.Clear.{root, below}
 use Rattle.scope_tree.specs.Walks.Shaded.{own, under}
 use Rattle.scope_tree.proofs.Bridge.{within_cases}
-use Rattle.res_ledger.proofs.Noted.{has_in, closes_notes}
+use Rattle.res_ledger.proofs.Noted.{closes_notes}
+use Rattle.chunk_core.proofs.Bools.{has_in}
 use Rattle.scope_tree.proofs.Beneath.{noted_parent, noted_scope, open_shut}
-
-pub not_so : (b : Bool) → not b ≡ true → b ≡ false
-not_so true h = cc
-not_so false h = refl
 
 pub so : (b : Bool) → not b ≡ false → b ≡ true
 so true h = refl

@@ -1,5 +1,5 @@
 -- What the calls of a tree do, as callers see it.
-use Rattle.std.specs.Prelude.{◌≡◌, ◌⊎◌, ℕ, ◌+◌, ◌≤◌, Bool, List, [], length}
+use Rattle.std.specs.Prelude.{◌≡◌, ◌⊎◌, ℕ, ◌+◌, ◌≤◌, Bool, List, [], length, reverse}
 use Rattle.chunk_core.specs.declared.code.Exit.{Exit}
 use Rattle.chunk_core.specs.Lists.{IsAmong}
 use Rattle.res_ledger.specs.declared.event.StreamNo.TheVariants.{Inner}
@@ -9,7 +9,7 @@ use Rattle.res_ledger.specs.Own.{opens, rows, teardown, leased_rows}
 use Rattle.row_seat.specs.declared.view.View.{View}
 use Rattle.row_seat.specs.Views.{noted, placed, IsFresh}
 use Rattle.scope_tree.specs.declared.branch.Spent.{Spent}
-use Rattle.scope_tree.specs.Rows.{lifo, strangers}
+use Rattle.scope_tree.specs.Rows.{strangers}
 use Rattle.scope_tree.specs.Leased.{leased_all}
 use Rattle.scope_tree.specs.Released.{Releases, said}
 use Rattle.scope_tree.specs.Released.Holder.{owner, lease}
@@ -90,7 +90,7 @@ module _ {P : Type 0} where
   pub record Cancels (ends : P → Exit → Bool → P → Type 0) (a : Seen P) (j : ℕ) (T : List ℕ) (x : Exit) (b : Seen P) : Type 0 where
     pub stamp : ℕ
     pub fresh : IsFresh a.seat stamp
-    pub left : Releases ends x (lease j) (lifo T) (noted a.seat (canceling a.seat j x stamp)) a.shelf b.shelf b.seat
+    pub left : Releases ends x (lease j) (reverse T) (noted a.seat (canceling a.seat j x stamp)) a.shelf b.shelf b.seat
     pub scopes : b.scopes ≡ a.scopes
     pub rows : b.rows ≡ a.rows
 

@@ -1,18 +1,19 @@
 -- How what a tree keeps agrees with the view of its seat.
-use Rattle.std.specs.Prelude.{◌≡◌, ◌⊎◌, ℕ, suc, ◌<◌, ◌≤◌, List, [], ◌∷◌, length, drop, slice_index_or}
-use Rattle.chunk_core.specs.Lists.{IsAmong}
+use Rattle.std.specs.Prelude.{◌≡◌, ◌⊎◌, ℕ, suc, ◌<◌, ◌≤◌, List, [], ◌∷◌, length, drop, slice_index_or, nat_eq}
+use Rattle.chunk_core.specs.Lists.{IsAmong, has}
 use Rattle.res_ledger.specs.declared.event.StreamNo.TheVariants.{Inner}
 use Rattle.res_ledger.specs.declared.event.What.{What}
 use Rattle.res_ledger.specs.declared.event.What.TheVariants.{Lease}
 use Rattle.res_ledger.specs.Ledger.{Notes, IsClosed, IsAcquired}
 use Rattle.res_ledger.specs.Order.{firsts}
-use Rattle.res_ledger.specs.Own.{opens, rows, closes, has}
+use Rattle.res_ledger.specs.Own.{opens, rows, closes}
 use Rattle.row_seat.specs.declared.view.View.{View}
 use Rattle.row_seat.specs.Views.{HasRow}
 use Rattle.scope_tree.specs.declared.branch.Branch.{Branch}
 use Rattle.scope_tree.specs.declared.branch.Held.{Held}
 use Rattle.scope_tree.specs.declared.branch.Spent.{Spent}
-use Rattle.scope_tree.specs.Rows.{AreDistinct, Once}
+use Rattle.scope_tree.specs.Rows.{Once}
+use Rattle.std.specs.List.{IsDistinct}
 use Rattle.res_ledger.specs.Rising.{Rises}
 use Rattle.res_ledger.specs.Streams.{by_stream}
 use Rattle.scope_tree.specs.Released.{MayWait, said}
@@ -41,7 +42,7 @@ pub record Mirrors (E : List What) (bs : List Branch) (hs : List Held) : Type 0 
   pub ended : (s : ℕ) → IsAmong s (closes E) → s < length bs
   pub rows : rows E ≡ held_pairs hs
   pub parents : (c : ℕ) (d : Branch) → 1 ≤ c → c < length bs → (slice_index_or bs c d).parent < c
-  pub distinct : AreDistinct (held_rows hs)
+  pub distinct : IsDistinct nat_eq (held_rows hs)
   pub ranged : (r t : ℕ) → IsAmong (r, t) (held_pairs hs) → t < length bs
 
 module _ {P : Type 0} where
@@ -73,7 +74,7 @@ module _ {P : Type 0} where
   -- the shelf has the rows whose Finals the stream noted, and none of them is open, leased or empty here
   pub record Shelved (v : View P) (hs : List Held) (xs : List (Spent P)) : Type 0 where
     pub said_are : ended_rows (words v) ≡ said xs
-    pub distinct : AreDistinct (firsts (said xs))
+    pub distinct : IsDistinct nat_eq (firsts (said xs))
     pub opened : (r : ℕ) → HasRow v.opened r → ¬ (IsAmong r (firsts (said xs)))
     pub pairs : (j r : ℕ) → IsAmong (j, r) v.pairs → ¬ (IsAmong r (firsts (said xs)))
     pub empty : (r : ℕ) → IsAmong r v.empty → ¬ (IsAmong r (firsts (said xs)))

@@ -1,5 +1,5 @@
 -- How rows are let go one after the other, and what that does to the view of a seat.
-use Rattle.std.specs.Prelude.{◌≡◌, ℕ, ◌≤◌, suc, Bool, true, cond, eqb, false, List, [], ◌∷◌, ◌++◌, length}
+use Rattle.std.specs.Prelude.{◌≡◌, ℕ, ◌≤◌, suc, Bool, true, cond, nat_eq, false, List, [], ◌∷◌, ◌++◌, length}
 use Rattle.chunk_core.specs.declared.code.Exit.{Exit}
 use Rattle.chunk_core.specs.Lists.{IsAmong}
 use Rattle.res_ledger.specs.declared.event.What.TheVariants.{Final}
@@ -9,7 +9,7 @@ use Rattle.row_seat.specs.declared.view.Left.TheVariants.{Stays, Yours}
 use Rattle.row_seat.specs.declared.view.View.{View}
 use Rattle.row_seat.specs.Views.{CanClose, CanLeave, Closes, IsFresh, Leaves, noted, took}
 use Rattle.scope_tree.specs.declared.branch.Spent.{Spent}
-use Rattle.scope_tree.specs.Rows.{AreDistinct}
+use Rattle.std.specs.List.{IsDistinct}
 
 -- who lets go of a row: its owner, who closes it, or a lease for the stream j, which is left
 pub data Holder : Type 0 where
@@ -20,7 +20,7 @@ module _ {P : Type 0} where
   -- the row r is open here
   abbrev pub is_here : ℕ → List (ℕ × P) → Bool
   is_here r [] = false
-  is_here r (x ∷ xs) = cond (eqb x.0 r) true (is_here r xs)
+  is_here r (x ∷ xs) = cond (nat_eq x.0 r) true (is_here r xs)
 
   -- how many of the rows T are not open here
   abbrev pub away : List ℕ → List (ℕ × P) → ℕ
@@ -44,7 +44,7 @@ module _ {P : Type 0} where
 
   -- the rows T can be let go
   pub record CanRelease (h : Holder) (T : List ℕ) (v : View P) : Type 0 where
-    pub distinct : AreDistinct T
+    pub distinct : IsDistinct nat_eq T
     pub rows : (r : ℕ) → IsAmong r T → CanLetGo h v r
     pub handed : v.handed ≡ []
     pub taken : v.taken ≡ []

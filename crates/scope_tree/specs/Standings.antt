@@ -1,5 +1,5 @@
 -- How a row stands for a tree.
-use Rattle.std.specs.Prelude.{ℕ, if◌then◌else◌, eqb, List, [], ◌∷◌, Option, Some, None}
+use Rattle.std.specs.Prelude.{ℕ, if◌then◌else◌, nat_eq, List, [], ◌∷◌, Option, Some, None}
 use Rattle.chunk_core.specs.Lists.{IsAmong}
 use Rattle.res_ledger.specs.Order.{firsts}
 use Rattle.row_seat.specs.Views.{HasRow}
@@ -12,7 +12,7 @@ use Rattle.scope_tree.specs.Words.{own_rows}
 -- what stands with r first in the list
 abbrev pub found : {A : Type 0} → ℕ → List (ℕ × A) → Option A
 found r [] = None
-found r (x ∷ xs) = if eqb x.0 r then Some x.1 else found r xs
+found r (x ∷ xs) = if nat_eq x.0 r then Some x.1 else found r xs
 
 module _ {P : Type 0} where
   -- how the row r stands: by the rows that were acquired, the open rows and the shelf; what is left is one that the main seat leased

@@ -1,10 +1,10 @@
 //! Making leases.
-ghost use Rattle.std.specs.Prelude.{◌≡◌, ◌≢◌, ℕ, true};
-ghost use Rattle.chunk_core.specs.Lists.{IsAmong};
+ghost use Rattle.std.specs.Prelude.{◌≡◌, ◌≢◌, ℕ, true, nat_eq};
+ghost use Rattle.chunk_core.specs.Lists.{IsAmong, are_distinct};
 ghost use Rattle.res_ledger.specs.Ledger.{IsLeased};
 ghost use Rattle.res_ledger.specs.declared.event.StreamNo.TheVariants.{Inner};
 ghost use Rattle.row_seat.specs.Views.{HasRow, OthersFit};
-ghost use Rattle.scope_tree.specs.Rows.{AreDistinct, are_distinct};
+ghost use Rattle.std.specs.List.{IsDistinct};
 ghost use Rattle.scope_tree.specs.Leased.{leased_all};
 
 use row_seat::RowSeat;
@@ -21,7 +21,7 @@ pub struct Lease {
 pub fn lease_rows<S: RowSeat>(seat: &mut S, desk: &mut S::Desk, stream: u32, rows: &[u32])
     requires fits { S.fits seat.old desk.old }
     requires main { (S.view seat.old).main ≡ true }
-    requires rows { ((r : ℕ) → IsAmong r rows.now → HasRow (S.view seat.old).opened r) × AreDistinct rows.now }
+    requires rows { ((r : ℕ) → IsAmong r rows.now → HasRow (S.view seat.old).opened r) × IsDistinct nat_eq rows.now }
     requires stream { ((S.view seat.old).by ≢ Inner stream) × ¬ (IsAmong stream (S.view seat.old).had) × ¬ (IsLeased (S.view seat.old).events stream) }
     requires none { (r : ℕ) → ¬ (IsAmong (stream, r) (S.view seat.old).pairs) }
     ensures seat { S.view seat.new ≡ leased_all (S.view seat.old) stream rows.now }

@@ -1,9 +1,8 @@
 //! Leaving the rows of a lease.
-ghost use Rattle.std.specs.Prelude.{◌≡◌, ℕ, ◌+◌, ◌<◌, ◌≤◌, length, vec_len, vec_capacity, [], ◌∷◌};
+ghost use Rattle.std.specs.Prelude.{◌≡◌, ℕ, ◌+◌, ◌<◌, ◌≤◌, length, vec_len, vec_capacity, [], ◌∷◌, reverse};
 ghost use Rattle.row_seat.specs.Views.{OthersFit};
 ghost use Rattle.scope_tree.specs.Released.{CanRelease, Releases, away};
 ghost use Rattle.scope_tree.specs.Released.Holder.{lease};
-ghost use Rattle.scope_tree.specs.Rows.{lifo};
 
 use crate::branch::{Finish, Spent};
 use crate::finalize::finalize;
@@ -47,9 +46,9 @@ pub fn leave_all<S: RowSeat>(
 where
     S::Pay: Finish,
     requires fits { S.fits seat.old desk.old }
-    requires can { CanRelease (lease stream) (lifo rows.now) (S.view seat.old) }
-    requires room { vec_len shelf.old + away (lifo rows.now) (S.view seat.old).opened ≤ vec_capacity shelf.old }
-    ensures released { Releases S.Pay.ends exit (lease stream) (lifo rows.now) (S.view seat.old) shelf.old.items shelf.new.items (S.view seat.new) }
+    requires can { CanRelease (lease stream) (reverse rows.now) (S.view seat.old) }
+    requires room { vec_len shelf.old + away (reverse rows.now) (S.view seat.old).opened ≤ vec_capacity shelf.old }
+    ensures released { Releases S.Pay.ends exit (lease stream) (reverse rows.now) (S.view seat.old) shelf.old.items shelf.new.items (S.view seat.new) }
     ensures room { vec_capacity shelf.old ≤ vec_capacity shelf.new }
     ensures fits { S.fits seat.new desk.new }
     ensures others { OthersFit S.view S.fits (S.view seat.old).by desk.old desk.new }

@@ -1,5 +1,5 @@
 //! Scopes in a tree, each with the rows that were acquired in it.
-ghost use Rattle.std.specs.Prelude.{◌≡◌, ◌≢◌, ℕ, ◌+◌, ◌<◌, ◌≤◌, ◌↔◌, length, [], true, false, IfOk, IfErr};
+ghost use Rattle.std.specs.Prelude.{◌≡◌, ◌≢◌, ℕ, ◌+◌, ◌<◌, ◌≤◌, ◌↔◌, length, [], true, false, IfOk, IfErr, reverse};
 ghost use Rattle.std.specs.Borrow.{Lends, sem};
 ghost use Rattle.chunk_core.specs.Lists.{IsAmong};
 ghost use Rattle.res_ledger.specs.Ledger.{IsAcquired, IsLeased};
@@ -10,7 +10,7 @@ ghost use Rattle.res_ledger.specs.Streams.{by_stream};
 ghost use Rattle.res_ledger.specs.declared.event.StreamNo.TheVariants.{Inner};
 ghost use Rattle.res_ledger.specs.declared.event.What.TheVariants.{Cancel};
 ghost use Rattle.row_seat.specs.Views.{AreApart, CanJoin, CanSplit, HasRow, MayNote, OthersFit, joined, split_main, split_off};
-ghost use Rattle.scope_tree.specs.Rows.{lifo, strangers};
+ghost use Rattle.scope_tree.specs.Rows.{strangers};
 ghost use Rattle.scope_tree.specs.Released.{away, said};
 ghost use Rattle.scope_tree.specs.Words.{ended_rows, owed, own_rows, words};
 ghost use Rattle.scope_tree.specs.Calls.{Acquires, AtStart, Cancels, Closes, IsClosedScope, IsOpenScope, KeepsScopes, Leases, Opens, WasOpened, used};

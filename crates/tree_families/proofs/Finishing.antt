@@ -1,5 +1,5 @@
 -- A main tree has no lease left once it cancelled each, or split the seat of its stream off.
-use Rattle.std.proofs.Common.{◌≡◌, ℕ, ◌⊎◌, Bool, true, false, cond, not, eqb, List, [], ◌∷◌, ◌++◌, inl, inr, refl, sym, ap, ◌∙◌, subst, ⊎_elim, append-nil, eq-eqb}
+use Rattle.std.proofs.Common.{◌≡◌, ℕ, ◌⊎◌, Bool, true, false, cond, not, eqb, List, [], ◌∷◌, ◌++◌, inl, inr, refl, sym, ap, ◌∙◌, subst, ⊎_elim, append-nil, eq-eqb, nat_eq}
 use Rattle.std.proofs.lemmas.List.Concat.{flat_map-append}
 use Rattle.std.proofs.lemmas.Bool.{cases_eq}
 use Rattle.chunk_core.specs.declared.code.Exit.{Exit}
@@ -22,16 +22,16 @@ use Rattle.row_seat.specs.Views.{split_main, without}
 use Rattle.row_seat.proofs.Members.{among_kept, among_without}
 use Rattle.scope_tree.specs.Calls.{Cancels, Leases, Seen}
 use Rattle.scope_tree.specs.Leased.{pairs_for}
-use Rattle.scope_tree.specs.Rows.{AreDistinct}
+use Rattle.std.specs.List.{IsDistinct}
 use Rattle.scope_tree.specs.Released.{said}
 use Rattle.scope_tree.specs.Words.{numbers, words}
 use Rattle.scope_tree.proofs.Bridge.{in_noted, noted_in}
-use Rattle.scope_tree.proofs.Distinct.{lifo_among}
+use Rattle.chunk_core.proofs.Reversed.{reverse_among}
 use Rattle.scope_tree.proofs.Leasing.{pairs_among}
 use Rattle.scope_tree.proofs.Lessee.{lease_gone}
 use Rattle.scope_tree.proofs.Owed.{number_among}
 use Rattle.scope_tree.proofs.Parting.{join_words}
-use Rattle.scope_tree.proofs.Parts.{distinct_append}
+use Rattle.chunk_core.proofs.Distinct.{distinct_append, distinct_nil, distinct_one, distinct_tail, distinct_mid}
 use Rattle.scope_tree.proofs.Use.{acquired_said, cancel_follows, canceled_said, close_follows, close_pairs, closed_said, leased_said, leases, opened_said}
 use Rattle.tree_laws.specs.Alone.{HasNoOthers}
 use Rattle.tree_laws.specs.Called.{Called, MayCancel, MayLease}
@@ -41,10 +41,6 @@ use Rattle.tree_laws.proofs.Along.{called_after}
 use Rattle.tree_laws.proofs.Guests.{nothing_among}
 use Rattle.tree_laws.proofs.Kept.{leases_lent, lent_stays}
 use Rattle.tree_families.specs.Laws.{FamilyMayFinish}
-
-distinct_mid : (A B : List ℕ) (x : ℕ) → AreDistinct (A ++ x ∷ B) → ¬ (IsAmong x A)
-distinct_mid [] B x d m = among_nil m
-distinct_mid (a ∷ A) B x d m = ⊎_elim (λ e. d.0 (subst (λ z. IsAmong z (A ++ x ∷ B)) e (among_mid A B x))) (λ n. distinct_mid A B x d.1 n) (among_cons m)
 
 numbers_append : (xs ys : List (ℕ × ℕ)) → numbers (xs ++ ys) ≡ numbers xs ++ numbers ys
 numbers_append [] ys = refl
@@ -98,7 +94,7 @@ module _ {P : Type 0} where
     known : (i : ℕ) (T : List ℕ) → IsAmong (i, T) Cs → (s : ℕ) × IsAmong (Lease i s) (words v)
     lent : (i r : ℕ) → IsAmong (i, r) v.pairs → (T : List ℕ) × Lent v i T × IsAmong r T
     held : (i r : ℕ) → IsAmong (i, r) v.pairs → (¬ (IsAmong i v.had)) × (IsAmong i v.kept ⊎ ((T : List ℕ) × IsAmong (i, T) Cs × (¬ (IsAmong r T))))
-    once : AreDistinct (guests (words v))
+    once : IsDistinct nat_eq (guests (words v))
 
   knows_plain : (v w : View P) (Cs : List (ℕ × List ℕ)) (E : List What) → words w ≡ words v ++ E → IsPlain E → w.kept ≡ v.kept → w.pairs ≡ v.pairs → w.had ≡ v.had → ((i : ℕ) (T : List ℕ) → Lent v i T → Lent w i T) → KnowsLeases v Cs → KnowsLeases w Cs
   knows_plain v w Cs E is plain kept pairs had lent h =
@@ -112,7 +108,7 @@ module _ {P : Type 0} where
         held = λ i r m.
             let t = h.held i r (subst (λ l. IsAmong (i, r) l) pairs m) in
             ((λ n. t.0 (subst (λ l. IsAmong i l) had n)), ⊎_elim (λ k. inl (subst (λ l. IsAmong i l) (sym kept) k)) (λ c. inr c) t.1);
-        once = subst AreDistinct (sym (ap guests is ∙ guests_append (words v) E ∙ ap (λ l. guests (words v) ++ numbers l) plain.0 ∙ append-nil (guests (words v)))) h.once;
+        once = subst (IsDistinct nat_eq) (sym (ap guests is ∙ guests_append (words v) E ∙ ap (λ l. guests (words v) ++ numbers l) plain.0 ∙ append-nil (guests (words v)))) h.once;
       }
 
   -- a stream that has no Lease is leased
@@ -150,7 +146,7 @@ module _ {P : Type 0} where
               inl (subst (λ l. IsAmong i l) (sym kept) (subst (λ z. IsAmong z (v.kept ++ j ∷ [])) (sym e) (among_last v.kept j))),
             ))
             (among_append (i, r) v.pairs (pairs_for j T) (subst (λ l. IsAmong (i, r) l) pairs n));
-        once = subst AreDistinct (sym (ap guests is ∙ guests_append (words v) (Lease j s ∷ []))) (distinct_append (guests (words v)) (j ∷ []) h.once ((λ x. among_nil x), tt) (λ x y z. ⊎_elim (λ e. let t = guest_found x (words v) y in fresh t.0 (subst (λ q. IsAmong (Lease q t.0) (words v)) e t.1)) (λ n. among_nil n) (among_cons z)));
+        once = subst (IsDistinct nat_eq) (sym (ap guests is ∙ guests_append (words v) (Lease j s ∷ []))) (distinct_append (guests (words v)) (j ∷ []) h.once (distinct_one j) (λ x y z. ⊎_elim (λ e. let t = guest_found x (words v) y in fresh t.0 (subst (λ q. IsAmong (Lease q t.0) (words v)) e t.1)) (λ n. among_nil n) (among_cons z)));
       }
 
   -- a Lease that is kept is cancelled
@@ -183,13 +179,13 @@ module _ {P : Type 0} where
           (λ x. t.0 (subst (λ l. IsAmong i l) had x)),
           ⊎_elim
               (λ k. ⊎_elim
-              (λ e. inr (T, subst (λ z. IsAmong {A = ℕ × List ℕ} (z, T) (Cs ++ one ∷ [])) (sym e) (among_last Cs one), λ x. lease_gone r o.left.2 (lifo_among r T x) (subst (λ z. IsAmong (z, r) w.pairs) e n)))
+              (λ e. inr (T, subst (λ z. IsAmong {A = ℕ × List ℕ} (z, T) (Cs ++ one ∷ [])) (sym e) (among_last Cs one), λ x. lease_gone r o.left.2 (reverse_among r T x) (subst (λ z. IsAmong (z, r) w.pairs) e n)))
               (λ ne. inl (subst (λ l. IsAmong i l) (sym kept) (among_kept j v.kept i k ne)))
               (cases_eq i j))
               (λ x. inr (x.0, among_left (one ∷ []) x.1, x.2))
               t.1,
         );
-        once = subst AreDistinct (sym (ap guests is ∙ guests_append (words v) (Cancel j how ∷ finals how fs) ∙ ap (λ l. guests (words v) ++ numbers l) (finals_leaseless how fs) ∙ append-nil (guests (words v)))) h.once;
+        once = subst (IsDistinct nat_eq) (sym (ap guests is ∙ guests_append (words v) (Cancel j how ∷ finals how fs) ∙ ap (λ l. guests (words v) ++ numbers l) (finals_leaseless how fs) ∙ append-nil (guests (words v)))) h.once;
       }
 
   -- the seat of a stream is split off, with its Lease and leases
@@ -217,7 +213,7 @@ module _ {P : Type 0} where
         known = λ i T m. absurd (among_nil m);
         lent = λ i r m. absurd (among_nil (subst (λ l. IsAmong (i, r) l) h.pairs m));
         held = λ i r m. absurd (among_nil (subst (λ l. IsAmong (i, r) l) h.pairs m));
-        once = subst (λ l. AreDistinct (guests l)) (sym w) tt;
+        once = subst (λ l. IsDistinct nat_eq (guests l)) (sym w) distinct_nil;
       }
 
 module _ {P : Type 0} {ends : P → Exit → Bool → P → Type 0} where
@@ -241,11 +237,11 @@ module _ {P : Type 0} (v : View P) where
       let head : own v.by (l.event ∷ l.rest) ≡ l.event.what ∷ own v.by l.rest = ap (λ b. cond b (l.event.what ∷ own v.by l.rest) (own v.by l.rest)) (ap (λ a. same_stream a v.by) l.by ∙ stream_same v.by) in
       ap (own v.by) l.stands ∙ own_append v.by l.before (l.event ∷ l.rest) ∙ ap (λ x. own v.by l.before ++ x) (head ∙ ap (λ x. x ∷ own v.by l.rest) l.what)
 
-  not_twice : (j s t : ℕ) (A B : List What) → words v ≡ A ++ Lease j s ∷ B → AreDistinct (guests (words v)) → ¬ (IsAmong (Lease j t) A)
-  not_twice j s t A B is d m = distinct_mid (guests A) (guests B) j (subst AreDistinct (ap guests is ∙ guests_append A (Lease j s ∷ B)) d) (guest_in j t A m)
+  not_twice : (j s t : ℕ) (A B : List What) → words v ≡ A ++ Lease j s ∷ B → IsDistinct nat_eq (guests (words v)) → ¬ (IsAmong (Lease j t) A)
+  not_twice j s t A B is d m = (distinct_mid (guests A) (guests B) j (subst (IsDistinct nat_eq) (ap guests is ∙ guests_append A (Lease j s ∷ B)) d)).1 (among_left (guests B) (guest_in j t A m))
 
   -- a stream that is leased once is leased with the same rows
-  same_rows : (j : ℕ) (T U : List ℕ) → AreDistinct (guests (words v)) → Lent v j T → Lent v j U → T ≡ U
+  same_rows : (j : ℕ) (T U : List ℕ) → IsDistinct nat_eq (guests (words v)) → Lent v j T → Lent v j U → T ≡ U
   same_rows j T U d l m =
       let a = lent_words j T l in let b = lent_words j U m in
       ⊎_elim

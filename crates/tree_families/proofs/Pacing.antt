@@ -17,7 +17,8 @@ use Rattle.res_ledger.specs.Ledger.{IsStamped, Notes, NotesCancel}
 use Rattle.res_ledger.specs.Streams.{same_stream}
 use Rattle.res_ledger.specs.Whole.{is_cancel}
 use Rattle.res_ledger.proofs.Ledgers.{inner_is}
-use Rattle.res_ledger.proofs.Tests.{any_at, any_found, both, itself, name, no}
+use Rattle.res_ledger.proofs.Tests.{name}
+use Rattle.chunk_core.proofs.Bools.{both, no, itself, any_at, any_found}
 use Rattle.row_seat.specs.Views.{IsLedgerOf}
 use Rattle.scope_tree.specs.Calls.{Seen}
 use Rattle.tree_laws.proofs.Along.{called_after}

@@ -9,7 +9,7 @@ use Rattle.res_ledger.specs.declared.event.Event.{Event}
 use Rattle.res_ledger.specs.Ledger.{IsCanceled, IsFinalized, IsLegal, MayFollow}
 use Rattle.res_ledger.specs.Whole.{cancel_count, final_count, is_cancel, is_final}
 use Rattle.res_ledger.proofs.Noted.{is_cancel_shape, is_final_shape}
-use Rattle.res_ledger.proofs.Tests.{itself}
+use Rattle.chunk_core.proofs.Bools.{itself}
 
 abbrev tick : Bool → ℕ
 tick b = cond b 1 0

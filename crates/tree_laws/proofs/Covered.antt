@@ -13,7 +13,7 @@ use Rattle.res_ledger.specs.Order.{covered_by, covered_for, gathered}
 use Rattle.res_ledger.specs.Own.{leased_of, leased_rows, own}
 use Rattle.res_ledger.specs.Streams.{by_stream, same_stream}
 use Rattle.res_ledger.proofs.Ledgers.{by_both, by_place, stream_same}
-use Rattle.res_ledger.proofs.Tests.{itself, number}
+use Rattle.chunk_core.proofs.Bools.{number, itself}
 use Rattle.row_seat.specs.declared.view.View.{View}
 use Rattle.scope_tree.proofs.Tidy.{own_by}
 use Rattle.tree_laws.specs.Lent.{Lent}

@@ -1,7 +1,7 @@
 -- The ledger of a tree whose root is closed.
 use Rattle.std.proofs.Common.{◌≡◌, ℕ, Bool, List, [], ◌∷◌, ◌++◌, true, reverse, refl, sym, subst}
 use Rattle.chunk_core.specs.declared.code.Exit.{Exit}
-use Rattle.chunk_core.specs.Lists.{IsAmong}
+use Rattle.chunk_core.specs.Lists.{IsAmong, has}
 use Rattle.chunk_core.specs.Lists.IsAmong.{here}
 use Rattle.chunk_core.proofs.Members.{among_mid}
 use Rattle.res_ledger.specs.declared.event.Event.{Event}
@@ -11,7 +11,7 @@ use Rattle.res_ledger.specs.declared.event.What.TheVariants.{Acquire, Lease, Ope
 use Rattle.res_ledger.specs.Ledger.{Notes}
 use Rattle.res_ledger.specs.Order.{IsInBlocks, IsInOrder, covered, covered_by}
 use Rattle.res_ledger.specs.Order.IsInBlocks.{none}
-use Rattle.res_ledger.specs.Own.{has, own}
+use Rattle.res_ledger.specs.Own.{own}
 use Rattle.res_ledger.specs.Streams.{by_stream}
 use Rattle.res_ledger.proofs.Ledgers.{closed_map, noted_own}
 use Rattle.res_ledger.proofs.Noted.{only, own_notes}

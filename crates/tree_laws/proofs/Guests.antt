@@ -8,7 +8,7 @@ use Rattle.chunk_core.proofs.Members.{among_nil, among_snoc}
 use Rattle.row_seat.specs.declared.view.View.{View}
 use Rattle.row_seat.proofs.Members.{among_without}
 use Rattle.scope_tree.specs.Calls.{Cancels, Seen}
-use Rattle.scope_tree.proofs.Distinct.{lifo_among}
+use Rattle.chunk_core.proofs.Reversed.{reverse_among}
 use Rattle.scope_tree.proofs.Lessee.{lease_gone}
 use Rattle.scope_tree.proofs.Parts.{eqb_eq}
 use Rattle.scope_tree.proofs.Use.{cancel_follows}
@@ -46,7 +46,7 @@ module _ {P : Type 0} where
           t.0,
           λ U q n. ⊎_elim
               (λ x. t.1 U x n)
-              (λ e. lease_gone r o.left.2 (lifo_among r T (subst (λ l. IsAmong r l) (ap (λ (z : ℕ × List ℕ). z.1) e) n)) (subst (λ z. IsAmong (z, r) c.seat.pairs) (ap (λ (z : ℕ × List ℕ). z.0) e) m))
+              (λ e. lease_gone r o.left.2 (reverse_among r T (subst (λ l. IsAmong r l) (ap (λ (z : ℕ × List ℕ). z.1) e) n)) (subst (λ z. IsAmong (z, r) c.seat.pairs) (ap (λ (z : ℕ × List ℕ). z.0) e) m))
               (among_snoc Cs (i, U) (j, T) q),
         );
   }

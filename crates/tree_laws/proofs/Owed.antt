@@ -1,5 +1,5 @@
 -- What calls of a tree leave of its room for events.
-use Rattle.std.proofs.Common.{◌≡◌, ℕ, ◌+◌, ◌-◌, ◌≤◌, Bool, false, List, [], ◌∷◌, ◌++◌, length, length-append, refl, ap, ◌∙◌, arith, append-nil}
+use Rattle.std.proofs.Common.{◌≡◌, ℕ, ◌+◌, ◌-◌, ◌≤◌, Bool, false, List, [], ◌∷◌, ◌++◌, length, length-append, refl, ap, ◌∙◌, arith, append-nil, reverse}
 use Rattle.chunk_core.specs.declared.code.Exit.{Exit}
 use Rattle.chunk_core.specs.Lists.IsAmong.{here}
 use Rattle.res_ledger.specs.declared.event.What.{What}
@@ -11,7 +11,6 @@ use Rattle.row_seat.specs.Views.{joined, noted}
 use Rattle.scope_tree.specs.Calls.{Cancels, Leases, Seen}
 use Rattle.scope_tree.specs.Leased.{leased_all}
 use Rattle.scope_tree.specs.Released.{away, said}
-use Rattle.scope_tree.specs.Rows.{lifo}
 use Rattle.scope_tree.specs.Words.{leasing, numbers, open_scopes, owed, words}
 use Rattle.scope_tree.proofs.Beneath.{closed_sound, not_true', open_pos}
 use Rattle.scope_tree.proofs.Grown.{Grown, closes_finals, grown_note, grown_release, grown_scopes, opens_finals}
@@ -23,14 +22,11 @@ use Rattle.scope_tree.proofs.Parting.{join_words}
 use Rattle.scope_tree.proofs.Releasing.{released_most, released_spare}
 use Rattle.scope_tree.proofs.Use.{closed_now}
 use Rattle.tree_laws.specs.Owing.{OwedStays, RootOwesNothing}
+use Rattle.scope_tree.proofs.Rooms.{away_reverse}
 
 -- what opens and closes nothing leaves what is owed, where no row is opened or closed
 owed_same : {P : Type 0} (v w : View P) (E : List What) → Grown v w E → opens E ≡ [] → closes E ≡ [] → w.opened ≡ v.opened → owed w ≡ owed v
 owed_same v w E g o c same = let a = grown_scopes g o c in let b : length w.opened ≡ length v.opened = ap length same in omega (a, b, arith)
-
-away_lifo : {P : Type 0} (T : List ℕ) (o : List (ℕ × P)) → away (lifo T) o ≡ away T o
-away_lifo [] o = refl
-away_lifo (x ∷ T) o = let t = away_lifo T o in let a = away_append (lifo T) (x ∷ []) o in let b = away_append (x ∷ []) T o in omega (t, a, b, arith)
 
 leases_owe : {P : Type 0} (a b : Seen P) (s j : ℕ) (T : List ℕ) → Leases a s j T b → (owed b.seat ≡ owed a.seat) × (b.seat.spare ≡ a.seat.spare - 1)
 leases_owe a b s j T o =
@@ -43,7 +39,7 @@ module _ {P : Type 0} {ends : P → Exit → Bool → P → Type 0} where
       let E = Cancel j x ∷ finals x (said o.left.0) in
       let spare = released_spare o.left.2 in
       let less = released_most [] o.left.2 in
-      let all : away (lifo T ++ []) a.seat.opened ≡ away T a.seat.opened = ap (λ l. away l a.seat.opened) (append-nil (lifo T)) ∙ away_lifo T a.seat.opened in (
+      let all : away (reverse T ++ []) a.seat.opened ≡ away T a.seat.opened = ap (λ l. away l a.seat.opened) (append-nil (reverse T)) ∙ away_reverse T a.seat.opened in (
         owed_same a.seat b.seat E (grown_release a.seat o.stamp (Cancel j x) o.left.2) (opens_finals x (said o.left.0)) (closes_finals x (said o.left.0)) (lease_opened o.left.2),
         omega (spare, less, all, arith),
       )

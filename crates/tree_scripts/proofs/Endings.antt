@@ -1,6 +1,7 @@
 -- How the scripts of three rows end.
-use Rattle.std.proofs.Common.{◌≡◌, ℕ, ◌+◌, ◌<◌, ◌≤◌, Bool, List, [], ◌∷◌, ◌++◌, length, inl, inr, refl, sym, ap, ◌∙◌, subst, ⊎_elim, arith, lit≤}
-use Rattle.chunk_core.specs.Lists.{Each, IsAmong}
+use Rattle.std.proofs.Common.{◌≡◌, ℕ, ◌+◌, ◌<◌, ◌≤◌, Bool, List, [], ◌∷◌, ◌++◌, length, inl, inr, refl, sym, ap, ◌∙◌, subst, ⊎_elim, arith, lit≤, reverse}
+use Rattle.chunk_core.specs.Lists.{IsAmong}
+use Rattle.std.specs.List.{AllByRecursion}
 use Rattle.chunk_core.specs.Lists.IsAmong.{here, there}
 use Rattle.chunk_core.proofs.Members.{among_cons, among_nil}
 use Rattle.res_ledger.specs.declared.event.Event.{Event}
@@ -16,7 +17,7 @@ use Rattle.row_seat.specs.declared.view.View.{View}
 use Rattle.scope_tree.specs.declared.branch.Spent.{Spent}
 use Rattle.scope_tree.specs.Calls.{Closes, IsClosedScope, Opens, Seen, WasOpened}
 use Rattle.scope_tree.specs.Leased.{pairs_for}
-use Rattle.scope_tree.specs.Rows.{Once, lifo}
+use Rattle.scope_tree.specs.Rows.{Once}
 use Rattle.tree_scripts.specs.Scripts.{IsReopened, IsRootLeased, IsThree}
 use Rattle.scope_tree.specs.Released.{said}
 use Rattle.tree_scripts.specs.Waiting.{IsAlone, LeasesAndCloses, Settles, noted_by}
@@ -51,7 +52,7 @@ closed_two x y = before ++ Close 1 Errored ∷ Final 2 Errored x ∷ Final 1 Err
 no_root : ¬ (IsAmong {A = ℕ} 0 (1 ∷ []))
 no_root m = ⊎_elim (λ e. absurd (let z : 0 ≡ 1 = e in omega (z, arith))) (λ n. among_nil n) (among_cons m)
 
-no_root_opened : (p : ℕ) (os : List (ℕ × ℕ)) → Each (λ (o : ℕ × ℕ). 1 ≤ o.0) os → ¬ (IsAmong (0, p) os)
+no_root_opened : (p : ℕ) (os : List (ℕ × ℕ)) → AllByRecursion (λ (o : ℕ × ℕ). 1 ≤ o.0) os → ¬ (IsAmong (0, p) os)
 no_root_opened p [] h m = among_nil m
 no_root_opened p (o ∷ os) h m = ⊎_elim (λ e. let z : 0 ≡ o.0 = ap (λ y. y.0) e in let l = h.0 in absurd (omega (z, l, arith))) (λ n. no_root_opened p os h.1 n) (among_cons m)
 
@@ -76,7 +77,7 @@ module _ {P : Type 0} where
       let out : lc.0.seat.out ≡ [] = ap (λ v. v.out) o.seat ∙ ap (λ (x : Seen P). x.seat.out) t.6 in
       let pairs : lc.0.seat.pairs ≡ (5, 0) ∷ (5, 1) ∷ [] = ap (λ v. v.pairs) o.seat ∙ ap (λ (x : Seen P). x.seat.pairs ++ pairs_for 5 T) t.6 ∙ ap (pairs_for 5) T_is in
       let rows : firsts (said xs) ≡ 2 ∷ [] = close_unleased c out ∙ ap (λ l. unleased l (teardown (words lc.0.seat) 0)) pairs ∙ ap (λ E. unleased ((5, 0) ∷ (5, 1) ∷ []) (teardown E 0)) wm in
-      let x = one_of xs 2 rows in let y = two_of s.last 1 0 (s.rows ∙ ap lifo T_is) in
+      let x = one_of xs 2 rows in let y = two_of s.last 1 0 (s.rows ∙ ap reverse T_is) in
       let wb : words b.seat ≡ before ++ Lease 5 0 ∷ Close 0 Errored ∷ Final 2 Errored x.0.ok ∷ [] = closed_said c ∙ ap (λ E. E ++ Close 0 Errored ∷ finals Errored (said xs)) wm ∙ ap (λ l. before ++ Lease 5 0 ∷ Close 0 Errored ∷ finals Errored (said l)) x.1 ∙ ap (λ i. before ++ Lease 5 0 ∷ Close 0 Errored ∷ Final i Errored x.0.ok ∷ []) x.2 in
       let by : b.seat.by ≡ Outer = closed_by c ∙ ap (λ v. v.by) o.seat ∙ ap (λ (x : Seen P). x.seat.by) t.6 in
       let shelf : b.shelf ≡ x.0 ∷ [] = c.torn.1 ∙ ap (λ l. l ++ xs) (o.shelf ∙ ap (λ (x : Seen P). x.shelf) t.6) ∙ x.1 in

@@ -1,5 +1,5 @@
 -- The ledger of a seat that nobody else used, and a lease that was the last thing left.
-use Rattle.std.proofs.Common.{◌≡◌, ℕ, suc, Bool, true, cond, not, List, [], ◌∷◌, ◌++◌, length, refl, sym, ap, ◌∙◌, subst, ⊎_elim, arith, append_assoc, append-nil, eq-eqb, length-append, map}
+use Rattle.std.proofs.Common.{◌≡◌, ℕ, suc, Bool, true, cond, not, List, [], ◌∷◌, ◌++◌, length, refl, sym, ap, ◌∙◌, subst, ⊎_elim, arith, append_assoc, append-nil, eq-eqb, length-append, map, nat_eq, reverse}
 use Rattle.chunk_core.specs.Lists.{IsAmong}
 use Rattle.chunk_core.specs.Lists.IsAmong.{here, there}
 use Rattle.chunk_core.proofs.Filters.{among_append}
@@ -22,12 +22,14 @@ use Rattle.row_seat.specs.Views.{IsLedgerOf, without}
 use Rattle.scope_tree.specs.declared.branch.Held.{Held}
 use Rattle.scope_tree.specs.Calls.{Cancels, Seen}
 use Rattle.scope_tree.specs.Kept.{Shelved}
-use Rattle.scope_tree.specs.Rows.{AreDistinct, lifo}
+use Rattle.std.specs.List.{IsDistinct}
 use Rattle.scope_tree.specs.Released.{said}
 use Rattle.tree_scripts.specs.Waiting.{NotesAlone, Settles, Waits, noted_by}
 use Rattle.scope_tree.specs.Words.{canceling, ends_of, words}
 use Rattle.scope_tree.proofs.Bridge.{in_noted, in_rows, noted_in}
-use Rattle.scope_tree.proofs.Distinct.{among_lifo, distinct_lifo, lifo_among, picks_among}
+use Rattle.scope_tree.proofs.Distinct.{picks_among}
+use Rattle.chunk_core.proofs.Reversed.{among_reverse, reverse_among}
+use Rattle.chunk_core.proofs.Distinct.{distinct_reverse, distinct_head, distinct_tail}
 use Rattle.scope_tree.proofs.Leasing.{among_pairs, pairs_among}
 use Rattle.scope_tree.proofs.Tidy.{ledger_by, own_by}
 use Rattle.scope_tree.proofs.Owed.{number_among}
@@ -40,10 +42,10 @@ use Rattle.scope_tree.proofs.Use.{cancel_follows, canceled_said}
 use Rattle.tree_scripts.proofs.Alone.{alone_more}
 
 -- where each of distinct rows is picked all are
-pub picks_all : {may : ℕ → Type 0} {xs ys : List ℕ} → Picks may xs ys → AreDistinct ys → ((r : ℕ) → IsAmong r ys → IsAmong r xs) → xs ≡ ys
+pub picks_all : {may : ℕ → Type 0} {xs ys : List ℕ} → Picks may xs ys → IsDistinct nat_eq ys → ((r : ℕ) → IsAmong r ys → IsAmong r xs) → xs ≡ ys
 picks_all none d h = refl
-picks_all (pick {ys = ys} x p) d h = ap (λ l. x ∷ l) (picks_all p d.1 (λ r m. ⊎_elim (λ e. absurd (d.0 (subst (λ z. IsAmong z ys) e m))) (λ i. i) (among_cons (h r (there x m)))))
-picks_all (pass {ys = ys} y m p) d h = absurd (d.0 (picks_among y p (h y (here ys))))
+picks_all (pick {ys = ys} x p) d h = ap (λ l. x ∷ l) (picks_all p (distinct_tail x ys d) (λ r m. ⊎_elim (λ e. absurd (distinct_head x ys d (subst (λ z. IsAmong z ys) e m))) (λ i. i) (among_cons (h r (there x m)))))
+picks_all (pass {ys = ys} y m p) d h = absurd (distinct_head y ys d (picks_among y p (h y (here ys))))
 
 final_among : (r : ℕ) (y x : Exit) (ok : Bool) (fs : List (ℕ × Bool)) → IsAmong (Final r y ok) (finals x fs) → IsAmong r (firsts fs)
 final_among r y x ok [] m = absurd (among_nil m)
@@ -82,19 +84,19 @@ module _ {P : Type 0} where
       cancel_rest =
           let f = cancel_follows c in (
             ap (λ z. z.main) f.same ∙ w.main,
-            lease_pairs_none c.left.2 (λ i r m. let t = pairs_among j i r T (subst (λ l. IsAmong (i, r) l) w.pairs m) in (t.0, lifo_among r T t.1)),
+            lease_pairs_none c.left.2 (λ i r m. let t = pairs_among j i r T (subst (λ l. IsAmong (i, r) l) w.pairs m) in (t.0, reverse_among r T t.1)),
             ap (λ z. z.kept) f.same ∙ ap (without j) w.kept ∙ ap (λ t. cond (not t) (j ∷ []) []) (eq-eqb j j refl),
             ap (λ z. z.out) f.same ∙ w.out,
           )
 
       -- each row of the lease ends
-      pub cancel_settles : (hs : List Held) (L : List Event) → Shelved a.seat hs a.shelf → AreDistinct T → IsLedgerOf b.seat L → Rises (by_stream b.seat.by b.seat.events) → Settles ends a j T x L b.shelf
+      pub cancel_settles : (hs : List Held) (L : List Event) → Shelved a.seat hs a.shelf → IsDistinct nat_eq T → IsLedgerOf b.seat L → Rises (by_stream b.seat.by b.seat.events) → Settles ends a j T x L b.shelf
       cancel_settles hs L sh d is ri =
           let g = cancel_follows c in let xs = c.left.0 in
           let alone : NotesAlone b.seat = follows_alone g (alone_more a.seat c.stamp (Cancel j x) w.events) in
           let said' = canceled_said c in
-          let all : (r : ℕ) → IsAmong r (lifo T) → IsAmong r (firsts (said xs)) = λ r m.
-          let m' = among_lifo r T m in
+          let all : (r : ℕ) → IsAmong r (reverse T) → IsAmong r (firsts (said xs)) = λ r m.
+          let m' = among_reverse r T m in
           let t = number_among r (rows (words a.seat)) (w.rows r m') in
           let acq = in_noted a.seat.by (Acquire r t.0) a.seat.events (in_rows r t.0 (words a.seat) t.1) in
           let acq' : Notes b.seat.events a.seat.by (Acquire r t.0) = follows_noted g (noted_more a.seat.events (canceling a.seat j x c.stamp) acq) in
@@ -108,7 +110,7 @@ module _ {P : Type 0} where
           record {
             last = xs;
             shelf_is = c.left.1;
-            rows = picks_all (released_picks c.left.2) (distinct_lifo T d) all;
+            rows = picks_all (released_picks c.left.2) (distinct_reverse T d) all;
             pays = λ y m. lease_pays y c.left.2 m;
             ledger = ledger_stamped b.seat L is alone ri ∙ ap (λ k. stamped 0 (noted_by k (words b.seat))) (same_by g) ∙ ap (λ E. stamped 0 (noted_by a.seat.by E)) said';
           }

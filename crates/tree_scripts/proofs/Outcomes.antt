@@ -6,7 +6,7 @@ use Rattle.chunk_core.specs.Lists.{IsAmong}
 use Rattle.chunk_core.specs.Lists.IsAmong.{here, there}
 use Rattle.chunk_core.proofs.Members.{among_cons, among_last, among_nil}
 use Rattle.res_ledger.specs.Order.{firsts}
-use Rattle.res_ledger.proofs.Tests.{any_at, any_found}
+use Rattle.chunk_core.proofs.Bools.{any_at, any_found}
 use Rattle.row_seat.specs.declared.view.View.{View}
 use Rattle.row_seat.specs.Views.{HasPair, HasRow}
 use Rattle.scope_tree.specs.declared.branch.Spent.{Spent}

@@ -1,6 +1,7 @@
 -- What the calls of a script leave.
 use Rattle.std.proofs.Common.{◌≡◌, ◌≢◌, ℕ, ◌+◌, ◌≤◌, ◌⊎◌, List, [], ◌∷◌, length, refl, sym, ap, ◌∙◌, subst, ⊎_elim}
-use Rattle.chunk_core.specs.Lists.{Each, IsAmong}
+use Rattle.chunk_core.specs.Lists.{IsAmong}
+use Rattle.std.specs.List.{AllByRecursion}
 use Rattle.chunk_core.specs.Lists.IsAmong.{here, there}
 use Rattle.res_ledger.specs.declared.event.Event.{Event}
 use Rattle.res_ledger.specs.declared.event.What.TheVariants.{Lease}
@@ -16,10 +17,7 @@ use Rattle.tree_scripts.specs.Waiting.{IsAlone}
 use Rattle.scope_tree.specs.Words.{words}
 use Rattle.scope_tree.proofs.Use.{all_open, first_is as first_open_is, seen_is}
 use Rattle.chunk_core.proofs.Members.{among_cons, among_nil}
-
-pub each_among : (Q : Event → Type 0) (L : List Event) → Each Q L → (e : Event) → IsAmong e L → Q e
-each_among Q [] h e m = absurd (among_nil m)
-each_among Q (x ∷ L) h e m = ⊎_elim (λ i. subst Q (sym i) h.0) (λ n. each_among Q L h.1 e n) (among_cons m)
+use Rattle.chunk_core.proofs.Each.{among_each}
 
 outer_inner : (j : ℕ) → Outer ≡ Inner j → ⊥
 outer_inner j e = cc
@@ -50,7 +48,7 @@ module _ {P : Type 0} where
     like = three p q r t.0 t.1 t.2 t.3 t.4 t.5
 
     pub three_alone : IsAlone a.seat
-    three_alone = subst (λ x. IsAlone x.seat) (sym t.6) (record { main = refl; pairs = refl; kept = refl; out = refl; events = λ e m. each_among (λ (x : Event). x.by ≡ Outer) like.seat.events (refl, (refl, (refl, (refl, (refl, tt))))) e m })
+    three_alone = subst (λ x. IsAlone x.seat) (sym t.6) (record { main = refl; pairs = refl; kept = refl; out = refl; events = λ e m. among_each (λ (x : Event). x.by ≡ Outer) e like.seat.events (refl, (refl, (refl, (refl, (refl, tt))))) m })
 
     pub three_open : (s : ℕ) → (s ≡ 0) ⊎ ((z : ℕ) × IsAmong {A = ℕ × ℕ} (s, z) ((1, 0) ∷ (2, 1) ∷ [])) → IsOpenScope a s
     three_open s o = subst (λ x. IsOpenScope x s) (sym t.6) (all_open like.seat s refl o)
@@ -59,7 +57,7 @@ module _ {P : Type 0} where
     three_unleased j = subst (λ x. (x.seat.by ≢ Inner j) × ¬ (IsAmong j x.seat.had) × ¬ (IsLeased x.seat.events j)) (sym t.6) (
       outer_inner j,
       among_nil,
-      λ x. no_lease j x.1 (subst (λ w. leased_of w ≡ []) x.2.3 (each_among (λ (y : Event). leased_of y.what ≡ []) like.seat.events (refl, (refl, (refl, (refl, (refl, tt))))) x.2.0 x.2.1)),
+      λ x. no_lease j x.1 (subst (λ w. leased_of w ≡ []) x.2.3 (among_each (λ (y : Event). leased_of y.what ≡ []) x.2.0 like.seat.events (refl, (refl, (refl, (refl, (refl, tt))))) x.2.1)),
     )
 
     pub three_has : HasRow a.seat.opened 1

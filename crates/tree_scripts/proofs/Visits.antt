@@ -23,7 +23,8 @@ use Rattle.scope_tree.proofs.Bridge.{in_noted, noted_in, rows_in}
 use Rattle.scope_tree.proofs.Use.{acquire_more, all_open, cancel_follows, canceled_said, close_follows, close_pairs, closed_said, start_said}
 use Rattle.tree_scripts.proofs.Chain.{one_of}
 use Rattle.tree_scripts.proofs.Outcomes.{unleased}
-use Rattle.tree_scripts.proofs.ThreeRows.{each_among, no_lease}
+use Rattle.tree_scripts.proofs.ThreeRows.{no_lease}
+use Rattle.chunk_core.proofs.Each.{among_each}
 use Rattle.tree_scripts.proofs.Waits.{close_unleased}
 use Rattle.chunk_core.specs.declared.code.Exit.{Exit}
 use Rattle.chunk_core.specs.declared.code.Exit.TheVariants.{Succeeded, Errored}
@@ -61,7 +62,7 @@ module _ {P : Type 0} where
   host_unleased {splits = splits} {p = p} {n = n} e = subst (λ v. (v.by ≢ Inner 5) × ¬ (IsAmong 5 v.had) × ¬ (IsLeased v.events 5)) (sym e) (
     outer_inner,
     among_nil,
-    λ x. no_lease 5 x.1 (subst (λ w. leased_of w ≡ []) x.2.3 (each_among (λ (y : Event). leased_of y.what ≡ []) (host_row splits p n).events (refl, tt) x.2.0 x.2.1)),
+    λ x. no_lease 5 x.1 (subst (λ w. leased_of w ≡ []) x.2.3 (among_each (λ (y : Event). leased_of y.what ≡ []) x.2.0 (host_row splits p n).events (refl, tt) x.2.1)),
   )
 
   pub host_leases : {a b : Seen P} {T : List ℕ} → Leases a 0 5 T b → IsLeased b.seat.events 5

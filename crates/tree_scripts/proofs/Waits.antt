@@ -1,9 +1,9 @@
 -- What is left of a tree whose root is closed after a lease.
-use Rattle.res_ledger.specs.Own.{has, opens, picked, reaches, rows, teardown}
-use Rattle.res_ledger.proofs.Noted.{has_in, in_has}
+use Rattle.res_ledger.specs.Own.{opens, picked, reaches, rows, teardown}
+use Rattle.chunk_core.proofs.Bools.{has_in, in_has}
 use Rattle.scope_tree.proofs.Beneath.{shut_not, one_open, open_pos, usable_scope}
-use Rattle.std.proofs.Common.{◌≡◌, ◌≢◌, ℕ, ◌+◌, ◌-◌, ◌≤◌, Bool, true, false, cond, List, [], ◌∷◌, ◌++◌, inl, refl, sym, ap, ◌∙◌, subst, ⊎_elim, arith, length-append, append-nil}
-use Rattle.chunk_core.specs.Lists.{IsAmong}
+use Rattle.std.proofs.Common.{◌≡◌, ◌≢◌, ℕ, ◌+◌, ◌-◌, ◌≤◌, Bool, true, false, cond, List, [], ◌∷◌, ◌++◌, inl, refl, sym, ap, ◌∙◌, subst, ⊎_elim, arith, length-append, append-nil, nat_eq}
+use Rattle.chunk_core.specs.Lists.{IsAmong, has}
 use Rattle.chunk_core.specs.Lists.IsAmong.{here, there}
 use Rattle.chunk_core.proofs.Filters.{among_append}
 use Rattle.chunk_core.proofs.Members.{among_cons}
@@ -19,7 +19,7 @@ use Rattle.scope_tree.specs.declared.branch.Held.{Held}
 use Rattle.scope_tree.specs.Calls.{Closes, IsOpenScope, Leases, Seen}
 use Rattle.scope_tree.specs.Kept.{Kept, Shelved}
 use Rattle.scope_tree.specs.Leased.{leased_all, pairs_for}
-use Rattle.scope_tree.specs.Rows.{AreDistinct}
+use Rattle.std.specs.List.{IsDistinct}
 use Rattle.scope_tree.specs.Released.{said}
 use Rattle.tree_scripts.specs.Waiting.{IsAlone, Waits}
 use Rattle.scope_tree.specs.Words.{leasing, numbers, owed, own_rows, words}
@@ -27,7 +27,7 @@ use Rattle.scope_tree.proofs.Bridge.{rows_append}
 use Rattle.scope_tree.proofs.Distinct.{firsts_append, length_said, said_append}
 use Rattle.scope_tree.proofs.Leased.{lease_back, lease_distinct, lease_rows_open}
 use Rattle.scope_tree.proofs.Leasing.{among_pairs}
-use Rattle.scope_tree.proofs.Parts.{distinct_append}
+use Rattle.chunk_core.proofs.Distinct.{distinct_append, distinct_tail}
 use Rattle.chunk_core.specs.declared.code.Exit.{Exit}
 use Rattle.scope_tree.proofs.Follows.{follows_alone, same_by}
 use Rattle.scope_tree.proofs.Grown.{rows_finals}
@@ -46,9 +46,9 @@ picked_number f (x ∷ xs) r m = (elim (f x.1) as (λ b. IsAmong r (cond b (x.0 
   | false ↦ λ n. there x.0 (picked_number f xs r n)
 ]) m
 
-distinct_back : (T U : List ℕ) → AreDistinct (T ++ U) → AreDistinct U
+distinct_back : (T U : List ℕ) → IsDistinct nat_eq (T ++ U) → IsDistinct nat_eq U
 distinct_back [] U d = d
-distinct_back (x ∷ T) U d = distinct_back T U d.1
+distinct_back (x ∷ T) U d = distinct_back T U (distinct_tail x (T ++ U) d)
 
 module _ {P : Type 0} where
   pub close_alone : {ends : P → Exit → Bool → P → Type 0} {x : Exit} {a b : Seen P} {s : ℕ} → Closes ends a s x b → IsAlone a.seat → IsAlone b.seat
@@ -91,8 +91,8 @@ module _ {P : Type 0} where
         let g = close_follows c in let v = noted (leased_all a.seat j T) (leasing a.seat j s o.stamp) in
         let open' : (r : ℕ) → IsAmong r T → HasRow a.seat.opened r = λ r i. lease_rows_open a.seat bs hs a.shelf k sh s j u r (subst (λ l. IsAmong r l) o.covered i) in
         let F = firsts (said c.torn.0) in
-        let dF : AreDistinct F = distinct_back (firsts (said m.shelf)) F (subst AreDistinct (ap (λ l. firsts (said l)) c.torn.1 ∙ ap firsts (said_append m.shelf c.torn.0) ∙ firsts_append (said m.shelf) (said c.torn.0)) sh'.distinct) in
-        let dT : AreDistinct T = subst AreDistinct (sym o.covered) (lease_distinct a.seat bs hs a.shelf k sh s j u) in
+        let dF : IsDistinct nat_eq F = distinct_back (firsts (said m.shelf)) F (subst (IsDistinct nat_eq) (ap (λ l. firsts (said l)) c.torn.1 ∙ ap firsts (said_append m.shelf c.torn.0) ∙ firsts_append (said m.shelf) (said c.torn.0)) sh'.distinct) in
+        let dT : IsDistinct nat_eq T = subst (IsDistinct nat_eq) (sym o.covered) (lease_distinct a.seat bs hs a.shelf k sh s j u) in
         let pair : (r : ℕ) → IsAmong r T → HasPair m.seat r = λ r i. (j, subst (λ w. IsAmong (j, r) w.pairs) (sym o.seat) (subst (λ l. IsAmong (j, r) (l ++ pairs_for j T)) (sym al.pairs) (among_pairs j r T i))) in
         let fit = fit_in (T ++ F) a.seat.opened (distinct_append T F dT dF (λ r i h. (owner_opens r c.torn.2 h).1 (pair r i)))
         (λ r i. ⊎_elim (open' r) (λ h. subst (λ w. HasRow w.opened r) o.seat (owner_opens r c.torn.2 h).0) (among_append r T F i)) in

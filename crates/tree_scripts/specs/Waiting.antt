@@ -1,5 +1,5 @@
 -- A tree of which only a lease is left.
-use Rattle.std.specs.Prelude.{◌≡◌, ◌≢◌, ℕ, map, ◌+◌, ◌≤◌, Bool, true, List, [], ◌∷◌, ◌++◌, length}
+use Rattle.std.specs.Prelude.{◌≡◌, ◌≢◌, ℕ, map, ◌+◌, ◌≤◌, Bool, true, List, [], ◌∷◌, ◌++◌, length, reverse}
 use Rattle.chunk_core.specs.declared.code.Exit.{Exit}
 use Rattle.chunk_core.specs.Lists.{IsAmong}
 use Rattle.res_ledger.specs.declared.event.Event.{Event}
@@ -13,7 +13,6 @@ use Rattle.row_seat.specs.declared.view.View.{View}
 use Rattle.scope_tree.specs.declared.branch.Spent.{Spent}
 use Rattle.scope_tree.specs.Calls.{Closes, IsClosedScope, Leases, Seen}
 use Rattle.scope_tree.specs.Leased.{pairs_for}
-use Rattle.scope_tree.specs.Rows.{lifo}
 use Rattle.scope_tree.specs.Released.{said}
 use Rattle.scope_tree.specs.Words.{own_rows, words}
 
@@ -54,7 +53,7 @@ module _ {P : Type 0} where
   pub record Settles (ends : P → Exit → Bool → P → Type 0) (a : Seen P) (j : ℕ) (T : List ℕ) (x : Exit) (L : List Event) (shelf : List (Spent P)) : Type 0 where
     pub last : List (Spent P)
     pub shelf_is : shelf ≡ a.shelf ++ last
-    pub rows : firsts (said last) ≡ lifo T
+    pub rows : firsts (said last) ≡ reverse T
     pub pays : (y : Spent P) → IsAmong y last → (p : P) × ((q : P) → IsAmong (y.row, q) a.seat.left → q ≡ p) × (y.exit ≡ x) × ends p x y.ok y.pay
     pub ledger : L ≡ stamped 0 (noted_by a.seat.by (words a.seat ++ Cancel j x ∷ finals x (said last)))
 

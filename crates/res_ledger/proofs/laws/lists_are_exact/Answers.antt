@@ -1,6 +1,6 @@
 use Rattle.res_ledger.specs.Own.{own, leased_rows}
 use Rattle.res_ledger.specs.Order.{covered, covered_by}
-use Rattle.res_ledger.proofs.Noted.{has_in, in_has}
+use Rattle.chunk_core.proofs.Bools.{has_in, in_has}
 use Rattle.res_ledger.proofs.Scopes.{closed_sound, closed_found}
 use Rattle.res_ledger.proofs.Leases.{leased_sound, leased_found, covered_by_sound, covered_by_found, covered_sound, covered_found}
 use Rattle.res_ledger.proofs.laws.lists_are_exact.Goals as goal

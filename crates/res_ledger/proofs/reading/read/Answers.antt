@@ -3,7 +3,8 @@ use Rattle.std.proofs.lemmas.List.{nil_from_length}
 use Rattle.std.proofs.lemmas.Bool.{eqb-true, eqb-false}
 use Rattle.res_ledger.specs.Reading.{IsSmallEvent}
 use Rattle.res_ledger.proofs.Growth.{stamped_snoc}
-use Rattle.res_ledger.proofs.Lines.{bad_head, bad_line, spelled, read_on, each_snoc}
+use Rattle.res_ledger.proofs.Lines.{bad_head, bad_line, spelled, read_on}
+use Rattle.chunk_core.proofs.Each.{each_snoc}
 use Rattle.res_ledger.proofs.reading.read.Goals as goal
 
 pub returns-in_default-clause-err : goal.returns-in_default-clause-err

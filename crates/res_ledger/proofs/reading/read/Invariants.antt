@@ -1,6 +1,5 @@
 use Rattle.std.proofs.Common.{◌≡◌, ◌<◌, ◌^◌, ◌++◌, length}
-use Rattle.std.specs.List.{flat_map}
-use Rattle.chunk_core.specs.Lists.{Each}
+use Rattle.std.specs.List.{flat_map, AllByRecursion}
 use Rattle.res_ledger.specs.Texts.{event_line}
 use Rattle.res_ledger.specs.Ledger.{IsStamped}
 use Rattle.res_ledger.specs.Reading.{IsSmallEvent, head_line}
@@ -11,7 +10,7 @@ abbrev pub invariant-loop-rest : goal.invariant-loop-rest
 invariant-loop-rest l = record {
   before : l.bytes ≡ head_line l.said ++ (flat_map event_line l.events.items ++ l.rest);
   said_fits : l.said < 2 ^ 64;
-  small : Each IsSmallEvent l.events.items;
+  small : AllByRecursion IsSmallEvent l.events.items;
   stamped : IsStamped l.events.items;
 }
 

@@ -1,15 +1,14 @@
-use Rattle.std.proofs.Common.{◌≤◌, length, vec_capacity, drop}
+use Rattle.std.proofs.Common.{◌≤◌, length, vec_capacity, drop, reverse}
 use Rattle.row_seat.specs.Views.{OthersFit}
 use Rattle.scope_tree.specs.Released.{Releases}
 use Rattle.scope_tree.specs.Released.Holder.{lease}
-use Rattle.scope_tree.specs.Rows.{lifo}
 use Rattle.scope_tree.proofs.leaving.leave_all.Given as goal
 
 abbrev pub invariant-rows : goal.invariant-rows
 invariant-rows g l = record {
   within : l.at ≤ length l.rows;
   fits : g.S.RowSeat.fits l.seat l.desk;
-  released : Releases g.S.Pay.Finish.ends l.exit (lease l.stream) (lifo (drop l.at l.rows)) (g.S.RowSeat.view l.initial.seat) l.initial.shelf.items l.shelf.items (g.S.RowSeat.view l.seat);
+  released : Releases g.S.Pay.Finish.ends l.exit (lease l.stream) (reverse (drop l.at l.rows)) (g.S.RowSeat.view l.initial.seat) l.initial.shelf.items l.shelf.items (g.S.RowSeat.view l.seat);
   room : vec_capacity l.initial.shelf ≤ vec_capacity l.shelf;
   others : OthersFit g.S.RowSeat.view g.S.RowSeat.fits (g.S.RowSeat.view l.initial.seat).by l.initial.desk l.desk;
 }

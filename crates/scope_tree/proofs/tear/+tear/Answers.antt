@@ -7,6 +7,7 @@ use Rattle.scope_tree.proofs.Follows.{released_follows, same_by}
 use Rattle.scope_tree.proofs.Releasing.{releases_none, releases_append, next_can, next_room}
 use Rattle.scope_tree.proofs.Shapes.{drop_all, kids_next, kids_here}
 use Rattle.scope_tree.proofs.tear.+tear.Goals as goal
+use Rattle.chunk_core.proofs.Bools.{not_so}
 
 pub children-init : goal.children-init
 children-init g t c = record {
@@ -18,17 +19,13 @@ children-init g t c = record {
   others = λ o n f. f;
 }
 
-not_true : (b : Bool) → not b ≡ true → b ≡ false
-not_true true h = cc
-not_true false h = refl
-
 pub tear-requires : goal.tear-requires
 tear-requires g t c κs within =
     let bs = c.args.branches.now in let hs = c.args.held.now in let s = c.args.scope in let k = c.children.child - 1 in let d : Branch = record { parent = 0; shut = false } in
     let e : c.children.child ≡ suc k = let t = c.children-test.true in omega arith in
     let l : k < length bs = let t = c.children-test.true in let w = c.children.invariant.high in omega arith in
     let low : suc s ≤ k = let t = c.children-test.true in omega arith in
-    let open' : (slice_index_or bs k d).shut ≡ false = not_true _ c.if-not-branch.true in
+    let open' : (slice_index_or bs k d).shut ≡ false = not_so _ c.if-not-branch.true in
     let x = kids_next bs hs s c.children.child k d e l low c.if-branch-scope.true open' in
     let W = whole bs hs s in let D = kids c.children.child (drop c.children.child bs) hs s in let N = whole bs hs k in
     let r = next_room W D N x.0 _ _ _ _ x.1 c.children.invariant.released in (
@@ -60,7 +57,7 @@ children-preserved-then-not-branch g t c =
     let e : c.children.child ≡ suc k = let t = c.children-test.true in omega arith in
     let l : k < length bs = let t = c.children-test.true in let w = c.children.invariant.high in omega arith in
     let low : suc s ≤ k = let t = c.children-test.true in omega arith in
-    let open' : (slice_index_or bs k d).shut ≡ false = not_true _ c.if-not-branch.true in
+    let open' : (slice_index_or bs k d).shut ≡ false = not_so _ c.if-not-branch.true in
     record {
       low = low;
       high = omega (arith, l);

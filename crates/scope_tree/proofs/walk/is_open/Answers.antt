@@ -1,7 +1,8 @@
 use Rattle.std.proofs.Common.{◌≡◌, ◌≤◌, true, false, sym, ◌∙◌, arith}
 use Rattle.scope_tree.specs.declared.branch.Branch.{Branch}
 use Rattle.scope_tree.specs.Walks.Shaded.{own}
-use Rattle.scope_tree.proofs.Walking.{not_so, so, clear_up, shade_up, shut_any, clear_zero}
+use Rattle.scope_tree.proofs.Walking.{so, clear_up, shade_up, shut_any, clear_zero}
+use Rattle.chunk_core.proofs.Bools.{not_so}
 use Rattle.scope_tree.proofs.walk.is_open.Goals.{then-up-test+else-not-branches-at, else-up-test}
 use Rattle.scope_tree.proofs.walk.is_open.Goals as goal
 

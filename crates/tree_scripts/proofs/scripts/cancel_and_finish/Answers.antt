@@ -5,7 +5,7 @@ use Rattle.row_seat.specs.Views.{IsLedgerOf}
 use Rattle.scope_tree.specs.Trees.{seen}
 use Rattle.tree_scripts.specs.Waiting.{Settles}
 use Rattle.scope_tree.specs.Words.{own_rows}
-use Rattle.scope_tree.proofs.Distinct.{test_distinct}
+use Rattle.chunk_core.proofs.Distinct.{test_distinct}
 use Rattle.tree_scripts.proofs.Finished.{cancel_rest, cancel_settles}
 use Rattle.scope_tree.proofs.Leasing.{among_pairs}
 use Rattle.scope_tree.proofs.Rooms.{strangers_none}

@@ -1,11 +1,10 @@
-use Rattle.std.proofs.Common.{◌≡◌, ◌+◌, ◌∙◌, length, ap, subst, sym}
-use Rattle.std.specs.List.{filter_map}
+use Rattle.std.proofs.Common.{◌≡◌, ◌+◌, ◌∙◌, length, ap, subst, sym, nat_eq}
+use Rattle.std.specs.List.{filter_map, IsDistinct}
 use Rattle.chunk_core.specs.Outcomes.{exit_of}
 use Rattle.res_ledger.specs.declared.event.What.TheVariants.{Close}
 use Rattle.res_ledger.specs.Ledger.{Notes}
 use Rattle.res_ledger.specs.Order.{firsts}
 use Rattle.scope_tree.specs.Calls.{IsClosedScope}
-use Rattle.scope_tree.specs.Rows.{AreDistinct}
 use Rattle.scope_tree.specs.Released.{said}
 use Rattle.scope_tree.specs.Trees.{seen}
 use Rattle.scope_tree.proofs.Keeps.{nothing_open}
@@ -30,7 +29,7 @@ returns-clause-ends g c =
       how = c.end-outside.ensures.how;
       exit = λ y n. (c.requires.over.exit.exit y).0 (subst (λ r. Notes (seen view r.tree).seat.events (seen view r.tree).seat.by (Close 0 y)) same n) ∙ ap exit_of known;
       root = subst (λ r. IsClosedScope (seen view r.tree) 0) (sym same) closed;
-      once = subst (λ r. AreDistinct (firsts (said r.tree.shelf.items))) (sym same) sound.shelved.distinct;
+      once = subst (λ r. IsDistinct nat_eq (firsts (said r.tree.shelf.items))) (sym same) sound.shelved.distinct;
       parted = subst (λ r. Parted told (told_at told x) r.tree.shelf.items (x.from + length x.slots) x.from c.of_vec.result) (sym same)
           (subst (λ ds. Parted told (told_at told x) x.tree.shelf (x.from + length x.slots) x.from ds) (sym unopened) all);
     }

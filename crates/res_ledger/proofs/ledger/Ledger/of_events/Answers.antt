@@ -1,8 +1,8 @@
 use Rattle.std.proofs.Common.{◌<◌, ◌^◌, length, ◌∙◌, subst, arith}
 use Rattle.std.proofs.lemmas.List.{take_all}
-use Rattle.chunk_core.specs.Lists.{Each}
+use Rattle.std.specs.List.{AllByRecursion}
 use Rattle.res_ledger.specs.Reading.{IsSmallEvent}
-use Rattle.res_ledger.proofs.Lines.{each_more}
+use Rattle.chunk_core.proofs.Each.{each_more}
 use Rattle.res_ledger.proofs.ledger.Ledger.of_events.Goals as goal
 
 pub loop-event-preserved : goal.loop-event-preserved
@@ -12,4 +12,4 @@ pub invariant_of-result : goal.invariant_of-result
 invariant_of-result c =
     let items = c.deref-event-items.ensures.value in
     let fits : length c.args.events.items < 2 ^ 64 = omega (arith, c.args.events.ok.0, c.args.events.ok.1, c.args.events.small) in
-    (c.requires, subst (Each IsSmallEvent) (take_all c.loop-event.event-index c.deref-event-items.result.now c.loop-event-test.false ∙ items) c.loop-event.invariant, fits)
+    (c.requires, subst (AllByRecursion IsSmallEvent) (take_all c.loop-event.event-index c.deref-event-items.result.now c.loop-event-test.false ∙ items) c.loop-event.invariant, fits)

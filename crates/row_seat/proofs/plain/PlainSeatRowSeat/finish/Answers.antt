@@ -1,12 +1,12 @@
 use Rattle.std.proofs.Common.{◌≡◌, sym, ap, ◌∙◌, []}
-use Rattle.row_seat.specs.Hands.{rows_of}
+use Rattle.std.specs.Map.{keys_of}
 use Rattle.row_seat.proofs.Ends.{all_canceled, all_events, all_final, all_payloads}
 use Rattle.row_seat.proofs.Stayed.{all_names}
 use Rattle.row_seat.proofs.plain.PlainSeatRowSeat.finish.Goals as goal
 
 pub returns : goal.returns
 returns g c = let h = c.requires.fits in let can = c.requires.can in let rule = h.table.rule in let seat = h.seated in
-    let none : c.args.self.token.opened ≡ [] = sym h.held ∙ ap rows_of can.1.0 in
+    let none : c.args.self.token.opened ≡ [] = sym h.held ∙ ap keys_of can.1.0 in
     rw (c.of_events.ensures, c.replace-events.ensures.value) (record {
       stamped = rule.books.stamped;
       legal = rule.books.legal;

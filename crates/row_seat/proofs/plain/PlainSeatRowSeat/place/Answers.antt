@@ -1,6 +1,6 @@
 use Rattle.std.proofs.Common.{◌≡◌, ℕ, slice_set, refl, ap, ◌∙◌, arith, ◌++◌, ◌∷◌, []}
 use Rattle.std.proofs.lemmas.List.{map_push}
-use Rattle.row_seat.specs.Hands.{rows_of}
+use Rattle.std.specs.Map.{keys_of}
 use Rattle.row_seat.specs.Steps.{placed}
 use Rattle.row_seat.proofs.Members.{length_without}
 use Rattle.row_seat.proofs.Moves.{no_pair_on}
@@ -20,7 +20,7 @@ returns g c = let s = c.args.self.now in let d = c.args.desk.now in let h = c.re
       view = rw (c.step.ensures, put.items) refl;
       bare = λ p. no_pair_on h.table.rule h.seated row can.0 s.id s.token h.seated.at p.0 p.1;
       fits = sits_put h w views t refl refl c.step.ensures h.seated.live h.by
-          (ap rows_of put.items ∙ (map_push (λ (x : ℕ × g.row.P.Denot). x.0) s.hands.items (row, c.args.pay) ∙ ap (λ l. l ++ row ∷ []) h.held))
+          (ap keys_of put.items ∙ (map_push (λ (x : ℕ × g.row.P.Denot). x.0) s.hands.items (row, c.args.pay) ∙ ap (λ l. l ++ row ∷ []) h.held))
           (let l = length_without row s.token.empty can.0 in let m = h.hold in let n = put.len in omega arith)
           (λ m. let a = h.whole m in omega arith);
       others = others_put h w views t refl;

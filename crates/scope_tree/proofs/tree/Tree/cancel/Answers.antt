@@ -1,8 +1,9 @@
-use Rattle.std.proofs.Common.{◌≡◌, ℕ, ◌+◌, ◌≤◌, List, ◌++◌, refl, sym, ap, ◌∙◌, subst, arith}
+use Rattle.std.proofs.Common.{◌≡◌, ℕ, ◌+◌, ◌≤◌, List, ◌++◌, refl, sym, ap, ◌∙◌, subst, arith, nat_eq, reverse}
 use Rattle.chunk_core.specs.Lists.{IsAmong}
 use Rattle.res_ledger.specs.Order.{firsts}
 use Rattle.row_seat.specs.declared.view.View.{View}
-use Rattle.scope_tree.specs.Rows.{AreDistinct, lifo, strangers}
+use Rattle.scope_tree.specs.Rows.{strangers}
+use Rattle.std.specs.List.{IsDistinct}
 use Rattle.scope_tree.specs.Released.{Releases, away, said}
 use Rattle.scope_tree.specs.Released.Holder.{lease}
 use Rattle.row_seat.specs.Views.{noted}
@@ -10,25 +11,27 @@ use Rattle.scope_tree.specs.Words.{canceling, owed}
 use Rattle.scope_tree.specs.Kept.{Shelved, held_rows}
 use Rattle.scope_tree.proofs.Calling.{cancel_leaves}
 use Rattle.scope_tree.proofs.Cancelling.{cancel_can, cancel_keeps}
-use Rattle.scope_tree.proofs.Distinct.{among_lifo, distinct_lifo, firsts_append, picks_strangers, said_append, strangers_append, test_distinct}
+use Rattle.scope_tree.proofs.Distinct.{firsts_append, picks_strangers, said_append, strangers_append}
+use Rattle.chunk_core.proofs.Reversed.{among_reverse}
+use Rattle.chunk_core.proofs.Distinct.{test_distinct, distinct_reverse}
 use Rattle.scope_tree.proofs.Releasing.{released_picks}
-use Rattle.scope_tree.proofs.Rooms.{away_lifo, cancel_count, rows_count, strangers_lifo, used_is}
+use Rattle.scope_tree.proofs.Rooms.{away_reverse, cancel_count, rows_count, strangers_reverse, used_is}
 use Rattle.scope_tree.proofs.Shelving.{cancel_shelved}
 use Rattle.scope_tree.proofs.tree.Tree.cancel.Goals as goal
 
-free_lifo : {P : Type 0} (v : View P) (T : List ℕ) → owed v + 1 + away T v.opened ≤ v.spare → owed v + 1 + away (lifo T) v.opened ≤ v.spare
-free_lifo v T f = let e = away_lifo T v.opened in omega (e, f, arith)
+free_reverse : {P : Type 0} (v : View P) (T : List ℕ) → owed v + 1 + away T v.opened ≤ v.spare → owed v + 1 + away (reverse T) v.opened ≤ v.spare
+free_reverse v T f = let e = away_reverse T v.opened in omega (e, f, arith)
 
 pub leave_all-requires-clause-can : goal.leave_all-requires-clause-can
 leave_all-requires-clause-can g c =
     let t = c.args.self.now in let v = g.S.RowSeat.view t.seat in let j = c.args.lease.stream in let T = c.args.lease.rows.items in
-    rw (c.note.ensures.view, c.deref.ensures.value) (cancel_can v t.branches.items t.held.items j c.note.result (lifo T) c.args.exit c.requires.fits.sound.kept (distinct_lifo T (test_distinct T c.args.lease.distinct)) (λ r m. c.requires.pairs r (among_lifo r T m)) (free_lifo v T c.requires.free))
+    rw (c.note.ensures.view, c.deref.ensures.value) (cancel_can v t.branches.items t.held.items j c.note.result (reverse T) c.args.exit c.requires.fits.sound.kept (distinct_reverse T (test_distinct T c.args.lease.distinct)) (λ r m. c.requires.pairs r (among_reverse r T m)) (free_reverse v T c.requires.free))
 
 pub leave_all-requires-clause-room : goal.leave_all-requires-clause-room
 leave_all-requires-clause-room g c =
     let t = c.args.self.now in let v = g.S.RowSeat.view t.seat in let bs = t.branches.items in let hs = t.held.items in let z = c.requires.fits.sound in let T = c.args.lease.rows.items in let F = firsts (said t.shelf.items) in
     let m = cancel_count v bs hs z.kept t.shelf.items z.shelved c.args.lease.stream T (test_distinct T c.args.lease.distinct) c.requires.pairs in
-    let e = away_lifo T v.opened in let n = rows_count v bs hs z.kept in let u = used_is v bs hs z.kept F in let u' = used_is v bs hs z.kept T in let a = c.requires.room in let d = z.shelf in let y = t.shelf.ok.0 in
+    let e = away_reverse T v.opened in let n = rows_count v bs hs z.kept in let u = used_is v bs hs z.kept F in let u' = used_is v bs hs z.kept T in let a = c.requires.room in let d = z.shelf in let y = t.shelf.ok.0 in
     rw (c.note.ensures.view, c.deref.ensures.value) (omega (m, e, n, u, u', a, d, y, arith))
 
 pub returns-clause-cancels : goal.returns-clause-cancels
@@ -47,20 +50,20 @@ pub returns-clause-fits : goal.returns-clause-fits
 returns-clause-fits g c =
     let t = c.args.self.now in let v = g.S.RowSeat.view t.seat in let bs = t.branches.items in let hs = t.held.items in let z = c.requires.fits.sound in let n = c.note.result in
     let j = c.args.lease.stream in let T = c.args.lease.rows.items in let w = g.S.RowSeat.view c.leave_all.new.seat in let shelf = c.leave_all.new.shelf.items in
-    let all : Releases g.S.Pay.Finish.ends c.args.exit (lease j) (lifo T) (noted v (canceling v j c.args.exit n)) t.shelf.items shelf w = rw (c.note.ensures.view, c.deref.ensures.value) at c.leave_all.ensures.released in
-    let xs = all.0 in let d : AreDistinct (lifo T) = distinct_lifo T (test_distinct T c.args.lease.distinct) in
-    let p : (r : ℕ) → IsAmong r (lifo T) → IsAmong (j, r) v.pairs = λ r m. c.requires.pairs r (among_lifo r T m) in
-    let f = free_lifo v T c.requires.free in
-    let k = cancel_keeps v bs hs j n (lifo T) c.args.exit z.kept d p f w xs all.2 in
+    let all : Releases g.S.Pay.Finish.ends c.args.exit (lease j) (reverse T) (noted v (canceling v j c.args.exit n)) t.shelf.items shelf w = rw (c.note.ensures.view, c.deref.ensures.value) at c.leave_all.ensures.released in
+    let xs = all.0 in let d : IsDistinct nat_eq (reverse T) = distinct_reverse T (test_distinct T c.args.lease.distinct) in
+    let p : (r : ℕ) → IsAmong r (reverse T) → IsAmong (j, r) v.pairs = λ r m. c.requires.pairs r (among_reverse r T m) in
+    let f = free_reverse v T c.requires.free in
+    let k = cancel_keeps v bs hs j n (reverse T) c.args.exit z.kept d p f w xs all.2 in
     let F = firsts (said t.shelf.items) in let F' = firsts (said shelf) in let own = held_rows hs in
     let F_is : F' ≡ F ++ firsts (said xs) = ap (λ l. firsts (said l)) all.1 ∙ ap firsts (said_append t.shelf.items xs) ∙ firsts_append (said t.shelf.items) (said xs) in
     let more : strangers own F' ≡ strangers own F + strangers own (firsts (said xs)) = ap (strangers own) F_is ∙ strangers_append own F (firsts (said xs)) in
-    let few = picks_strangers own (released_picks all.2) in let same = strangers_lifo own T in
+    let few = picks_strangers own (released_picks all.2) in let same = strangers_reverse own T in
     let i = rows_count v bs hs z.kept in let u = used_is v bs hs z.kept F in let u2 = used_is v bs hs z.kept T in let u' = used_is w bs hs k F' in let a = c.requires.room in let b = z.shelf in let r = c.leave_all.ensures.room in record {
       seat = c.leave_all.ensures.fits;
       sound = record {
         kept = k;
-        shelved = subst (λ l. Shelved w hs l) (sym all.1) (cancel_shelved v bs hs t.shelf.items z.kept z.shelved j n (lifo T) d p f c.note.ensures.stamp all.2);
+        shelved = subst (λ l. Shelved w hs l) (sym all.1) (cancel_shelved v bs hs t.shelf.items z.kept z.shelved j n (reverse T) d p f c.note.ensures.stamp all.2);
         used = omega (more, few, same, i, u, u2, u', a, arith);
         branches = z.branches;
         held = z.held;

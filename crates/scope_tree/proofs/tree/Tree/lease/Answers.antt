@@ -1,4 +1,4 @@
-use Rattle.std.proofs.Common.{◌≡◌, refl, sym, ap, ◌∙◌, subst}
+use Rattle.std.proofs.Common.{◌≡◌, refl, sym, ap, ◌∙◌, subst, nat_eq}
 use Rattle.res_ledger.specs.declared.event.What.TheVariants.{Lease}
 use Rattle.chunk_core.proofs.Filters.{among_right}
 use Rattle.res_ledger.specs.Own.{leased_rows}
@@ -6,10 +6,10 @@ use Rattle.row_seat.specs.declared.view.View.{View}
 use Rattle.row_seat.specs.Views.{MayNote, noted}
 use Rattle.scope_tree.specs.Kept.{Kept, Shelved}
 use Rattle.scope_tree.specs.Leased.{leased_all, pairs_for}
-use Rattle.scope_tree.specs.Rows.{AreDistinct}
+use Rattle.std.specs.List.{IsDistinct}
 use Rattle.scope_tree.specs.Words.{owed, words}
 use Rattle.scope_tree.proofs.Calling.{keeps_scopes, seated}
-use Rattle.scope_tree.proofs.Distinct.{distinct_test}
+use Rattle.chunk_core.proofs.Distinct.{distinct_test}
 use Rattle.scope_tree.proofs.Grown.{grown_back, owed_still}
 use Rattle.scope_tree.proofs.Leasing.{among_pairs}
 use Rattle.scope_tree.proofs.Leased.{lease_distinct, lease_event, lease_grown, lease_keeps, lease_none, lease_rows_open, lease_shelved}
@@ -35,7 +35,7 @@ note-requires-clause-event g c =
 pub invariant_of-result : goal.invariant_of-result
 invariant_of-result g c =
     let t = c.args.self.now in let v = g.S.RowSeat.view t.seat in let z = c.requires.fits.sound in
-    record { distinct = distinct_test c.in_ok-rows.rows.items (subst AreDistinct (sym c.in_ok-rows.ensures) (lease_distinct v t.branches.items t.held.items t.shelf.items z.kept z.shelved c.args.scope c.args.stream c.requires.scope)) }
+    record { distinct = distinct_test c.in_ok-rows.rows.items (subst (IsDistinct nat_eq) (sym c.in_ok-rows.ensures) (lease_distinct v t.branches.items t.held.items t.shelf.items z.kept z.shelved c.args.scope c.args.stream c.requires.scope)) }
 
 pub returns-clause-ok : goal.returns-clause-ok
 returns-clause-ok g c =
