@@ -91,9 +91,13 @@ module _ {P : Type 0} where
   abbrev pub CanPlace : View P → ℕ → Type 0
   CanPlace v r = IsAmong r v.empty × ((s : ℕ) × Notes v.events v.by (Acquire r s))
 
+  -- a row is no longer empty
+  abbrev pub emptied : View P → ℕ → View P
+  emptied v r = record v { empty = without r v.empty }
+
   -- a row is open with a payload
   abbrev pub placed : View P → ℕ → P → View P
-  placed v r p = record v { empty = without r v.empty; opened = v.opened ++ (r, p) ∷ [] }
+  placed v r p = record (emptied v r) { opened = v.opened ++ (r, p) ∷ [] }
 
   -- an open row has another payload
   abbrev pub paid : View P → ℕ → P → View P
@@ -115,9 +119,13 @@ module _ {P : Type 0} where
   abbrev pub gone : View P → ℕ → ℕ → View P
   gone v j r = record v { pairs = without_pair j r v.pairs }
 
+  -- a row is handed to the seat with what its slot gave
+  abbrev pub handed_with : View P → ℕ → List (ℕ × P) → View P
+  handed_with v r pays = record v { handed = v.handed ++ r ∷ []; given = v.given ++ pays }
+
   -- a row is handed to the seat with its payload
   abbrev pub handed_over : View P → ℕ → P → View P
-  handed_over v r p = record v { handed = v.handed ++ r ∷ []; given = v.given ++ (r, p) ∷ [] }
+  handed_over v r p = handed_with v r ((r, p) ∷ [])
 
   -- the seat's own Lease for j covers the row, and its lease stands here or its stream has its seat out
   abbrev pub IsLeasedTo : View P → ℕ → ℕ → Type 0
@@ -142,9 +150,13 @@ module _ {P : Type 0} where
   abbrev pub CanClose : View P → ℕ → Type 0
   CanClose v r = HasRow v.opened r × ((s : ℕ) × Notes v.events v.by (Acquire r s) × IsClosed v.events v.by s) × ((j : ℕ) → IsAmong (j, r) v.pairs → (s : ℕ) × Notes v.events v.by (Lease j s))
 
+  -- a payload is left in its row
+  abbrev pub left_in : View P → ℕ → P → View P
+  left_in v r p = record v { left = v.left ++ (r, p) ∷ [] }
+
   -- a row is no longer open, and its payload is left in it
   abbrev pub shut : View P → ℕ → P → View P
-  shut v r p = record v { opened = without_row r v.opened; left = v.left ++ (r, p) ∷ [] }
+  shut v r p = record (left_in v r p) { opened = without_row r v.opened }
 
   -- a row that this seat closes may stay for a lease: the seat is the main one, and leased the row
   abbrev pub MayStay : View P → ℕ → Type 0
