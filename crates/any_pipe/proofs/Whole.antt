@@ -1,20 +1,16 @@
 -- What came of a whole input.
-use Rattle.std.proofs.Common.{◌≡◌, List, [], ◌++◌, Option, None, Some, true, false, refl, ap, sym, subst, ◌∙◌, append_assoc, map}
+use Rattle.std.proofs.Common.{◌≡◌, List, [], ◌++◌, Option, None, Some, true, false, refl, ap, sym, subst, ◌∙◌, append_assoc}
 use Rattle.std.specs.Prelude.{IsSome, is_some, option_map}
 use Rattle.std.proofs.lemmas.List.Concat.{flat_map-append}
 use Rattle.std.proofs.lemmas.List.Elements.{All-append}
-use Rattle.std.proofs.lemmas.Str.{IsUtf8-nil, utf8_lossy-IsUtf8}
-use Rattle.std.proofs.Math.Seq.{take-nil, drop-nil}
-use Rattle.std.specs.Str.Lossy.{utf8_valid_len}
-use Rattle.chunk_core.specs.Elements.{Element, LoadKind, elements, kind_of, Byte}
+use Rattle.chunk_core.specs.Elements.{Element, LoadKind, elements, kind_of}
 use Rattle.chunk_core.specs.Feed.{Meaning}
 use Rattle.chunk_core.specs.declared.code.Code.{Code}
 use Rattle.chunk_core.specs.declared.load.Load.{Load}
-use Rattle.pull_nodes.specs.Lines.{without_pairs, ended_lines}
 use Rattle.pull_nodes.specs.PipeKinds.{gives_of}
 use Rattle.pull_nodes.specs.Pipes.{meaning, IsMeaningOf, part_of, all_of}
 use Rattle.pull_nodes.specs.declared.pipe.Pipe.{Pipe}
-use Rattle.pull_nodes.specs.declared.pipe.Pipe.TheVariants as pipe
+use Rattle.pull_nodes.proofs.Beginnings.{part_of-nil}
 use Rattle.pull_nodes.proofs.PipeLaws.{steady}
 use Rattle.any_pipe.specs.Pouring.{AreOf, FeedsAll, FinishesAll, MakesUp, Pours, elements_of}
 use Rattle.any_pipe.specs.Pouring.Pours.{whole, broken}
@@ -49,22 +45,6 @@ some_of (Some x) h = (x, refl)
 pub is_meaning : (p : Pipe) (takes gives : LoadKind) → gives_of p takes ≡ Some gives → IsMeaningOf p (meaning p takes gives)
 is_meaning p takes gives e = ap (option_map (meaning p takes)) e
 
--- of nothing a pipe gives nothing, where more may come
-starts_empty : (p : Pipe) → (part_of p []).list ≡ []
-unfolding without_pairs ended_lines
-starts_empty pipe.Utf8 = ap (map Byte) (take-nil (utf8_valid_len []))
-starts_empty pipe.Lossy = ap (map Byte) (utf8_lossy-IsUtf8 [] IsUtf8-nil)
-starts_empty pipe.Lines = refl
-starts_empty pipe.Hex = refl
-starts_empty pipe.Upper = refl
-starts_empty (pipe.Drop n) = drop-nil n
-starts_empty (pipe.Filter text) = refl
-starts_empty pipe.Changes = refl
-starts_empty pipe.Number = refl
-starts_empty pipe.Count = refl
-starts_empty (pipe.Intersperse line) = refl
-starts_empty (pipe.ChunkN n) = take-nil _
-
 -- a pipe that was fed nothing before gives what it gives of the whole input, also where a fault came before its end
 all_given : (p : Pipe) (takes gives : LoadKind) → gives_of p takes ≡ Some gives → (loads given : List Load) (c : Option Code)
     → Pours (meaning p takes gives) [] loads given c → MakesUp (meaning p takes gives) [] given c (all_of p (elements_of loads))
@@ -86,4 +66,4 @@ pub gives_all : (p : Pipe) (takes gives : LoadKind) → gives_of p takes ≡ Som
     → Pours (meaning p takes gives) [] loads given c → GivesAll p gives (elements_of loads) given c
 gives_all p takes gives e loads given c poured =
     let made = all_given p takes gives e loads given c poured in
-    record { kinds = made.kinds; list = sym (ap (λ l. l ++ elements_of given) (starts_empty p)) ∙ made.list; fault = made.fault }
+    record { kinds = made.kinds; list = sym (ap (λ l. l ++ elements_of given) (part_of-nil p)) ∙ made.list; fault = made.fault }

@@ -1,8 +1,12 @@
 -- What the state of any pipe stands for: what that of the pipe itself does.
 use Rattle.std.specs.Prelude.{List, Option}
+use Rattle.std.proofs.Common.{refl, ap}
 use Rattle.chunk_core.specs.Elements.{Element, LoadKind}
-use Rattle.chunk_core.specs.Feed.{Meaning}
+use Rattle.chunk_core.specs.Feed.{Meaning, IsSound}
 use Rattle.chunk_core.specs.declared.code.Code.{Code}
+use Rattle.pull_nodes.specs.Lines.{long_fault}
+use Rattle.pull_nodes.specs.declared.pipe.Pipe.TheVariants as pipe
+use Rattle.pull_nodes.proofs.Meanings.{sound_from}
 use Rattle.stream_ops.specs.ChangesState as changes
 use Rattle.stream_ops.specs.ChunkNState as chunk_n
 use Rattle.stream_ops.specs.CountState as count
@@ -19,32 +23,31 @@ use Rattle.text_pipes.specs.Utf8State as utf8
 use Rattle.any_pipe.specs.declared.state.AnyPipe.{AnyPipe}
 use Rattle.any_pipe.specs.declared.state.AnyPipe.TheVariants as any
 
+-- the inputs that a state stands for, what is still to come of it once the input has ended, and that it has given no fault
+pub record Standing : Type 1 where
+  pub stands : Meaning → List Element → Type 0
+  pub comes : LoadKind → List Element → Option Code → Type 0
+  pub sound : IsSound stands
+
+-- those of each pipe: the one row that a pipe has here
+abbrev pub standing_of : AnyPipe → Standing
+standing_of (any.Utf8 q) = record { stands = utf8.StandsFor q; comes = λ kind ys c. ⊥; sound = λ m xs h. sound_from pipe.Utf8 m h.0 xs (ap utf8.fault_where h.1.fine) }
+standing_of (any.Lossy q) = record { stands = lossy.StandsFor q; comes = lossy.Comes q; sound = λ m xs h. sound_from pipe.Lossy m h.0 xs refl }
+standing_of (any.Lines q) = record { stands = lines.StandsFor q; comes = lines.Comes q; sound = λ m xs h. sound_from pipe.Lines m h.0 xs (ap long_fault h.1.short) }
+standing_of (any.Hex q) = record { stands = hexadecimal.StandsFor q; comes = hexadecimal.Comes q; sound = λ m xs h. sound_from pipe.Hex m h.0 xs refl }
+standing_of (any.Upper q) = record { stands = upper.StandsFor q; comes = upper.Comes q; sound = λ m xs h. sound_from pipe.Upper m h xs refl }
+standing_of (any.Drop q) = record { stands = drop.StandsFor q; comes = NothingComes q; sound = λ m xs h. sound_from (pipe.Drop h.0) m h.1 xs refl }
+standing_of (any.Filter q) = record { stands = filter.StandsFor q; comes = NothingComes q; sound = λ m xs h. sound_from (pipe.Filter q.finder.value) m h xs refl }
+standing_of (any.Changes q) = record { stands = changes.StandsFor q; comes = NothingComes q; sound = λ m xs h. sound_from pipe.Changes m h.0 xs refl }
+standing_of (any.Number q) = record { stands = number.StandsFor q; comes = NothingComes q; sound = λ m xs h. sound_from pipe.Number m h.0 xs refl }
+standing_of (any.Count q) = record { stands = count.StandsFor q; comes = count.Comes q; sound = λ m xs h. sound_from pipe.Count m h.0 xs refl }
+standing_of (any.Intersperse q) = record { stands = intersperse.StandsFor q; comes = NothingComes q; sound = λ m xs h. sound_from (pipe.Intersperse q.between) m h.0 xs refl }
+standing_of (any.ChunkN q) = record { stands = chunk_n.StandsFor q; comes = chunk_n.Comes q; sound = λ m xs h. sound_from (pipe.ChunkN h.0) m h.1 xs refl }
+
 -- the state stands for this input of the pipe
 abbrev pub StandsFor : AnyPipe → Meaning → List Element → Type 0
-StandsFor (any.Utf8 q) m xs = utf8.StandsFor q m xs
-StandsFor (any.Lossy q) m xs = lossy.StandsFor q m xs
-StandsFor (any.Lines q) m xs = lines.StandsFor q m xs
-StandsFor (any.Hex q) m xs = hexadecimal.StandsFor q m xs
-StandsFor (any.Upper q) m xs = upper.StandsFor q m xs
-StandsFor (any.Drop q) m xs = drop.StandsFor q m xs
-StandsFor (any.Filter q) m xs = filter.StandsFor q m xs
-StandsFor (any.Changes q) m xs = changes.StandsFor q m xs
-StandsFor (any.Number q) m xs = number.StandsFor q m xs
-StandsFor (any.Count q) m xs = count.StandsFor q m xs
-StandsFor (any.Intersperse q) m xs = intersperse.StandsFor q m xs
-StandsFor (any.ChunkN q) m xs = chunk_n.StandsFor q m xs
+StandsFor q m xs = (standing_of q).stands m xs
 
 -- the input has ended, and this is still to come
 abbrev pub Comes : AnyPipe → LoadKind → List Element → Option Code → Type 0
-Comes (any.Utf8 q) kind ys c = ⊥
-Comes (any.Lossy q) kind ys c = lossy.Comes q kind ys c
-Comes (any.Lines q) kind ys c = lines.Comes q kind ys c
-Comes (any.Hex q) kind ys c = hexadecimal.Comes q kind ys c
-Comes (any.Upper q) kind ys c = upper.Comes q kind ys c
-Comes (any.Drop q) kind ys c = NothingComes q kind ys c
-Comes (any.Filter q) kind ys c = NothingComes q kind ys c
-Comes (any.Changes q) kind ys c = NothingComes q kind ys c
-Comes (any.Number q) kind ys c = NothingComes q kind ys c
-Comes (any.Count q) kind ys c = count.Comes q kind ys c
-Comes (any.Intersperse q) kind ys c = NothingComes q kind ys c
-Comes (any.ChunkN q) kind ys c = chunk_n.Comes q kind ys c
+Comes q kind ys c = (standing_of q).comes kind ys c

@@ -3,7 +3,8 @@ use Rattle.std.proofs.Common.{◌≡◌, ℕ, ◌<◌, ◌^◌, Bool, true, fals
 use Rattle.std.proofs.lemmas.List.{length-map}
 use Rattle.chunk_core.specs.Elements.{Element, Line, LoadKind}
 use Rattle.chunk_core.specs.declared.code.Code.{Code}
-use Rattle.pull_nodes.specs.Plain.{hex_line, if_any}
+use Rattle.pull_nodes.specs.Hex.{hex_line}
+use Rattle.pull_nodes.specs.Plain.{if_any}
 use Rattle.any_pipe.specs.AnyState.{Comes}
 use Rattle.any_pipe.specs.declared.state.AnyPipe.{AnyPipe}
 use Rattle.any_pipe.specs.declared.state.AnyPipe.TheVariants as any

@@ -1,4 +1,3 @@
 pub mod AnyState
 pub mod Pouring
-pub mod Soundness
 pub mod Dues

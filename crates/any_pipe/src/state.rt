@@ -25,14 +25,13 @@ pub enum AnyPipe {
 }
 
 impl Feed for AnyPipe {
-    ghost use Rattle.any_pipe.specs.AnyState.{StandsFor, Comes};
-    ghost use Rattle.any_pipe.specs.Soundness.{any_is_sound};
+    ghost use Rattle.any_pipe.specs.AnyState.{StandsFor, Comes, standing_of};
 
     ghost stands = { StandsFor };
 
     ghost comes = { Comes };
 
-    ghost sound = { any_is_sound };
+    ghost sound = { λ q. (standing_of q).sound };
 
     fn feed(&mut self, alloc: Global, load: Load) -> Result<Fed, AllocError> {
         match self {

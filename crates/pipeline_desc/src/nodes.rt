@@ -15,26 +15,6 @@ use chunk_core::{Chunk, Line, List, Load, Span};
 use pull_nodes::{Kind, Node, Pipe};
 use std::alloc::{AllocError, Global};
 
-/// A copy of a pipe.
-fn copy_of(alloc: Global, pipe: &Pipe) -> Result<Pipe, AllocError>
-    ensures { IfOk result (λ copy. copy ≡ pipe.now) }
-{
-    Ok(match pipe {
-        Pipe::Utf8 => Pipe::Utf8,
-        Pipe::Lossy => Pipe::Lossy,
-        Pipe::Lines => Pipe::Lines,
-        Pipe::Hex => Pipe::Hex,
-        Pipe::Upper => Pipe::Upper,
-        Pipe::Drop(n) => Pipe::Drop(*n),
-        Pipe::Filter(text) => Pipe::Filter(Line::copy_of(alloc, text.as_slice())?),
-        Pipe::Changes => Pipe::Changes,
-        Pipe::Number => Pipe::Number,
-        Pipe::Count => Pipe::Count,
-        Pipe::Intersperse(text) => Pipe::Intersperse(Line::copy_of(alloc, text.as_slice())?),
-        Pipe::ChunkN(n) => Pipe::ChunkN(*n),
-    })
-}
-
 /// A node behind a step.
 fn behind_step(alloc: Global, step: &Step, part: Node) -> Result<Node, AllocError>
     ensures { IfOk result (λ n. IsBehindStep step.now part n) }
@@ -42,7 +22,7 @@ fn behind_step(alloc: Global, step: &Step, part: Node) -> Result<Node, AllocErro
     match step {
         Step::Take(n) => Ok(Node::Take(*n, Box::new(alloc, part)?)),
         Step::Pipe(pipe) => {
-            let pipe = copy_of(alloc, pipe)?;
+            let pipe = Pipe::copy_of(alloc, pipe)?;
             Ok(Node::Through(Box::new(alloc, part)?, pipe))
         }
     }

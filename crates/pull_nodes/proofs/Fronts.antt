@@ -1,6 +1,8 @@
 -- Lists that begin with others.
-use Rattle.std.proofs.Common.{◌≡◌, ℕ, zero, suc, ◌*◌, ◌≤◌, List, [], ◌∷◌, ◌++◌, map, length, take, drop, refl, ap, sym, ◌∙◌, arith, append_assoc}
+use Rattle.std.proofs.Common.{◌≡◌, ℕ, zero, suc, ◌*◌, ◌/◌, ◌<◌, ◌≤◌, List, [], ◌∷◌, ◌++◌, map, length, take, drop, refl, ap, sym, ◌∙◌, arith, append_assoc}
 use Rattle.std.proofs.lemmas.List.{append-nil, map-append, take-append-drop, take-append-le, drop-append-le, take-take, length-drop}
+use Rattle.std.proofs.lemmas.Nat.{le-div}
+use Rattle.std.proofs.Math.Nat.{div-mul-le_self}
 use Rattle.pull_nodes.specs.Laws.{IsFront}
 use Rattle.pull_nodes.specs.Plain.{groups}
 
@@ -28,6 +30,10 @@ pub take_front : {A : Type 0} (j k : ℕ) (xs zs : List A) → j ≤ k → j ≤
 take_front j k xs zs le within =
     let same : take j (take k (xs ++ zs)) ≡ take j xs = take-take j k (xs ++ zs) le ∙ take-append-le j xs zs within in
     (drop j (take k (xs ++ zs)), sym (take-append-drop j (take k (xs ++ zs))) ∙ ap (λ l. l ++ drop j (take k (xs ++ zs))) same)
+
+-- a longer list has as many whole groups or more
+pub more_groups : (n a b : ℕ) → 0 < n → a ≤ b → a / n ≤ b / n
+more_groups n a b some le = le-div (a / n) b n some (omega (arith, div-mul-le_self a n))
 
 -- fewer groups, which are whole, of a list that goes on
 pub groups_front : {A : Type 0} (n j k : ℕ) (xs zs : List A) → j ≤ k → n * j ≤ length xs → IsFront (groups n j xs) (groups n k (xs ++ zs))

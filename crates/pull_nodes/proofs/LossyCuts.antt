@@ -9,7 +9,7 @@ use Rattle.std.specs.Prelude.{IsUtf8, unwrap_or}
 use Rattle.std.specs.Char.{encode_utf8, IsScalar}
 use Rattle.std.specs.Str.Lossy.{utf8_valid_len, utf8_error_len, utf8_invalid_len, utf8_lossy, replacement_bytes}
 use Rattle.chunk_core.specs.Elements.{Byte}
-use Rattle.pull_nodes.specs.Pipes.{without_fault}
+use Rattle.pull_nodes.specs.PipeRule.{without_fault}
 use Rattle.pull_nodes.specs.Utf8.{utf8_front, utf8_rest, is_malformed, is_unfinished, finished_front, unfinished_rest}
 use Rattle.pull_nodes.proofs.Characters.{fits_second}
 use Rattle.pull_nodes.proofs.Sequences.{is_lead, is_next, follows}

@@ -7,7 +7,8 @@ use Rattle.chunk_core.specs.Feed.{Given, Meaning, Extends, Continues, Finishes}
 use Rattle.chunk_core.specs.declared.code.Code.{Code}
 use Rattle.chunk_core.specs.declared.feed.Fed.{Fed}
 use Rattle.chunk_core.specs.declared.load.Load.{Load}
-use Rattle.pull_nodes.specs.PipeKinds.{gives_of, from_bytes, from_lines}
+use Rattle.pull_nodes.specs.PipeKinds.{gives_of}
+use Rattle.pull_nodes.specs.PipeRule.{from_bytes, from_lines}
 use Rattle.pull_nodes.specs.Pipes.{meaning, IsMeaningOf, part_of, all_of}
 use Rattle.pull_nodes.specs.Plain.{bytes_of}
 use Rattle.pull_nodes.specs.declared.pipe.Pipe.{Pipe}

@@ -10,7 +10,8 @@ use Rattle.chunk_core.specs.Feed.{Given}
 use Rattle.chunk_core.specs.declared.code.Code.{Code}
 use Rattle.chunk_core.specs.declared.code.Code.TheVariants as code
 use Rattle.pull_nodes.specs.Lines.{without_pairs, ended_lines, open_line}
-use Rattle.pull_nodes.specs.Pipes.{part_of, all_of, without_fault}
+use Rattle.pull_nodes.specs.PipeRule.{without_fault}
+use Rattle.pull_nodes.specs.Pipes.{part_of, all_of}
 use Rattle.pull_nodes.specs.declared.pipe.Pipe.TheVariants as pipe
 
 abbrev bytes : String → List Element

@@ -4,8 +4,9 @@ use Rattle.chunk_core.specs.Elements.{Element}
 use Rattle.chunk_core.specs.Feed.{Given, Meaning}
 use Rattle.chunk_core.specs.declared.code.Code.{Code}
 use Rattle.pull_nodes.specs.Laws.{IsFront, IsSteady}
-use Rattle.pull_nodes.specs.Pipes.{without_fault}
+use Rattle.pull_nodes.specs.PipeRule.{without_fault}
 use Rattle.pull_nodes.specs.Plain.{bytes_of}
+use Rattle.pull_nodes.proofs.Fronts.{front_same}
 use Rattle.pull_nodes.proofs.Meanings.{bytes_of-append}
 
 -- the same of lists of any elements
@@ -26,6 +27,10 @@ faultless part all g e = record {
   ends = λ xs n. e xs;
   stops = λ xs zs c n. (cc);
 }
+
+-- the same at the end
+pub same_at_end : (f : List Element → List Element) → ((xs zs : List Element) → IsFront (f xs) (f (xs ++ zs))) → SteadyBy (λ xs. without_fault (f xs)) (λ xs. without_fault (f xs))
+same_at_end f g = faultless f f g (λ xs. front_same (f xs))
 
 -- a pipe over the bytes among the elements
 pub over_bytes : (part all : List ℕ → Given) → SteadyBy part all → SteadyBy (λ xs. part (bytes_of xs)) (λ xs. all (bytes_of xs))

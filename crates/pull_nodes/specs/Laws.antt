@@ -8,7 +8,7 @@ use Rattle.device_port.specs.Device.{DeviceTold, faults_of}
 use Rattle.chunk_core.specs.declared.code.Code.TheVariants as code
 use Rattle.pull_nodes.specs.Lines.{IsFree, lines_part}
 use Rattle.pull_nodes.specs.Pipes.{IsMeaningOf}
-use Rattle.pull_nodes.specs.Plain.{same_element}
+use Rattle.pull_nodes.specs.Changes.{same_element}
 use Rattle.pull_nodes.specs.Runs.{IsRun, IsIdealRun}
 use Rattle.pull_nodes.specs.Utf8.{IsMalformed, is_malformed, utf8_rest}
 use Rattle.pull_nodes.specs.declared.node.Node.{Node}

@@ -2,10 +2,13 @@
 use Rattle.std.specs.Prelude.{◌≡◌, ℕ, Bool, false, ◌==◌, ◌&&◌, ◌||◌, if◌then◌else◌, nat_lt, List, [], ◌∷◌, ◌++◌, length, map, Option, Some, None}
 use Rattle.std.specs.List.{before_first, list_any}
 use Rattle.chunk_core.specs.Elements.{Line}
+use Rattle.chunk_core.specs.Elements.LoadKind.{Lines}
 use Rattle.chunk_core.specs.Feed.{Given}
 use Rattle.chunk_core.specs.declared.code.Code.{Code}
 use Rattle.chunk_core.specs.declared.code.Code.TheVariants as code
-use Rattle.pull_nodes.specs.Plain.{if_any}
+use Rattle.pull_nodes.specs.PipeRule.{PipeRule, from_bytes}
+use Rattle.pull_nodes.specs.Plain.{bytes_of, if_any}
+use Rattle.pull_nodes.specs.declared.kind.Kind.TheVariants as kind
 
 -- a line ends at a CR or a LF
 abbrev pub is_end : ℕ → Bool
@@ -75,3 +78,12 @@ lines_part xs = let text = without_pairs 0 xs in
 abbrev pub lines_all : List ℕ → Given
 lines_all xs = let text = without_pairs 0 xs in
     record { list = map Line (before_first is_long (ended_lines text) ++ last_line text); fault = long_fault (has_long text) }
+
+-- the lines that end, and at the end the open one
+abbrev pub lines_rule : PipeRule
+lines_rule = record {
+  gives = from_bytes Lines;
+  of_nothing = kind.Lines;
+  part = λ xs. lines_part (bytes_of xs);
+  all = λ xs. lines_all (bytes_of xs);
+}

@@ -1,10 +1,14 @@
 -- What is well formed of bytes.
 use Rattle.std.specs.Prelude.{ℕ, Bool, not, ◌&&◌, ◌==◌, if◌then◌else◌, List, [], ◌∷◌, ◌++◌, length, take, drop, is_some, IsUtf8, Option, Some, None, map}
-use Rattle.std.specs.Str.Lossy.{utf8_valid_len, utf8_error_len}
+use Rattle.std.specs.Str.Lossy.{utf8_lossy, utf8_valid_len, utf8_error_len}
 use Rattle.chunk_core.specs.Elements.{Byte}
+use Rattle.chunk_core.specs.Elements.LoadKind.{Bytes}
 use Rattle.chunk_core.specs.Feed.{Given}
 use Rattle.chunk_core.specs.declared.code.Code.{Code}
 use Rattle.chunk_core.specs.declared.code.Code.TheVariants as code
+use Rattle.pull_nodes.specs.PipeRule.{PipeRule, from_bytes, without_fault}
+use Rattle.pull_nodes.specs.Plain.{bytes_of}
+use Rattle.pull_nodes.specs.declared.kind.Kind.TheVariants as kind
 
 -- the longest well-formed front
 abbrev pub utf8_front : List ℕ → List ℕ
@@ -52,3 +56,21 @@ finished_front (b ∷ xs) = if is_unfinished (b ∷ xs) then [] else (b ∷ fini
 abbrev pub unfinished_rest : List ℕ → List ℕ
 unfinished_rest [] = []
 unfinished_rest (b ∷ xs) = if is_unfinished (b ∷ xs) then (b ∷ xs) else unfinished_rest xs
+
+-- the input as far as it is well formed
+abbrev pub utf8_rule : PipeRule
+utf8_rule = record {
+  gives = from_bytes Bytes;
+  of_nothing = kind.Bytes;
+  part = λ xs. utf8_part (bytes_of xs);
+  all = λ xs. utf8_all (bytes_of xs);
+}
+
+-- the input made well formed; a character that isn't whole is held back until the end
+abbrev pub lossy_rule : PipeRule
+lossy_rule = record {
+  gives = from_bytes Bytes;
+  of_nothing = kind.Bytes;
+  part = λ xs. without_fault (map Byte (utf8_lossy (finished_front (bytes_of xs))));
+  all = λ xs. without_fault (map Byte (utf8_lossy (bytes_of xs)));
+}

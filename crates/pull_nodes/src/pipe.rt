@@ -1,11 +1,12 @@
 //! The pipes that a stream may go through.
-ghost use Rattle.std.specs.Prelude.{◌≡◌};
+ghost use Rattle.std.specs.Prelude.{◌≡◌, IfOk};
 ghost use Rattle.std.specs.Result.{result_ok};
 ghost use Rattle.pull_nodes.specs.PipeKinds.{piped_kind};
 ghost use Rattle.pull_nodes.specs.Pipes.{groups_of};
 
 use crate::kind::{Kind, KindFault};
 use chunk_core::Line;
+use std::alloc::{AllocError, Global};
 use std::cmp;
 
 /// A step from elements to elements, as plain data.
@@ -45,6 +46,26 @@ pub enum Pipe {
 }
 
 impl Pipe {
+    /// A copy of a pipe, with its text in memory of its own.
+    pub fn copy_of(alloc: Global, pipe: &Pipe) -> Result<Pipe, AllocError>
+        ensures { IfOk result (λ copy. copy ≡ pipe.now) }
+    {
+        Ok(match pipe {
+            Pipe::Utf8 => Pipe::Utf8,
+            Pipe::Lossy => Pipe::Lossy,
+            Pipe::Lines => Pipe::Lines,
+            Pipe::Hex => Pipe::Hex,
+            Pipe::Upper => Pipe::Upper,
+            Pipe::Drop(n) => Pipe::Drop(*n),
+            Pipe::Filter(text) => Pipe::Filter(Line::copy_of(alloc, text.as_slice())?),
+            Pipe::Changes => Pipe::Changes,
+            Pipe::Number => Pipe::Number,
+            Pipe::Count => Pipe::Count,
+            Pipe::Intersperse(text) => Pipe::Intersperse(Line::copy_of(alloc, text.as_slice())?),
+            Pipe::ChunkN(n) => Pipe::ChunkN(*n),
+        })
+    }
+
     /// The kind that the pipe gives of a kind, or the fault where it doesn't take it. `Any` fits
     /// every pipe.
     pub fn kind(&self, input: Kind) -> Result<Kind, KindFault>

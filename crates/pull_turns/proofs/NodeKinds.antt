@@ -1,5 +1,5 @@
 -- The pipes of a node that has a kind fit.
-use Rattle.std.proofs.Common.{◌≡◌, ◌⊎◌, inl, inr, ℕ, zero, suc, [], Option, Some, None, refl, sym, ap, subst}
+use Rattle.std.proofs.Common.{◌≡◌, ◌⊎◌, inl, inr, [], Option, Some, None, refl, sym, ap, subst}
 use Rattle.chunk_core.specs.Elements.{LoadKind, kind_of}
 use Rattle.chunk_core.specs.Elements.LoadKind.{Bytes, Lines, Rows}
 use Rattle.chunk_core.specs.Feed.{Meaning}
@@ -14,7 +14,7 @@ use Rattle.pull_nodes.specs.declared.kind.Kind.TheVariants as kind
 use Rattle.pull_nodes.specs.declared.node.Node.{Node}
 use Rattle.pull_nodes.specs.declared.node.Node.TheVariants as node
 use Rattle.pull_nodes.specs.declared.pipe.Pipe.{Pipe}
-use Rattle.pull_nodes.specs.declared.pipe.Pipe.TheVariants as pipe
+use Rattle.pull_nodes.proofs.PipeLaws.{lawful_pipe}
 use Rattle.pull_turns.specs.Piping.{HasKindOf, PipesFitOf}
 
 -- a stream of this kind may give loads of that kind alone; a stream that gives nothing fits each
@@ -59,28 +59,16 @@ Behind Below q k =
     ((m : Meaning) × IsMeaningOf q m × Below m.takes × (m.gives ≡ k))
     ⊎ (((j : LoadKind) → Below j) × ((m : Meaning) × IsMeaningOf q m × ((m.all []).list ≡ [])))
 
-drop_nothing : (n : ℕ) → (meaning (pipe.Drop n) Bytes Bytes).all [] ≡ (meaning (pipe.Drop 0) Bytes Bytes).all []
-drop_nothing zero = refl
-drop_nothing (suc n) = refl
-
-behind_nothing : (Below : LoadKind → Type 0) (q : Pipe) (k : LoadKind) → ((j : LoadKind) → Below j) → Admits (kind_of_nothing q) k → Behind Below q k
-behind_nothing Below pipe.Utf8 k f h = inl (meaning pipe.Utf8 Bytes Bytes, refl, f Bytes, sym h)
-behind_nothing Below pipe.Lossy k f h = inl (meaning pipe.Lossy Bytes Bytes, refl, f Bytes, sym h)
-behind_nothing Below pipe.Lines k f h = inl (meaning pipe.Lines Bytes Lines, refl, f Bytes, sym h)
-behind_nothing Below pipe.Hex k f h = inl (meaning pipe.Hex Bytes Lines, refl, f Bytes, sym h)
-behind_nothing Below pipe.Upper k f h = inr (f, (meaning pipe.Upper Bytes Bytes, refl, refl))
-behind_nothing Below (pipe.Drop n) k f h = inr (f, (meaning (pipe.Drop n) Bytes Bytes, refl, ap (λ g. g.list) (drop_nothing n)))
-behind_nothing Below (pipe.Filter text) k f h = inl (meaning (pipe.Filter text) Lines Lines, refl, f Lines, sym h)
-behind_nothing Below pipe.Changes k f h = inr (f, (meaning pipe.Changes Lines Lines, refl, refl))
-behind_nothing Below pipe.Number k f h = inl (meaning pipe.Number Lines Lines, refl, f Lines, sym h)
-behind_nothing Below pipe.Count k f h = inl (meaning pipe.Count Bytes Lines, refl, f Bytes, sym h)
-behind_nothing Below (pipe.Intersperse line) k f h = inl (meaning (pipe.Intersperse line) Lines Lines, refl, f Lines, sym h)
-behind_nothing Below (pipe.ChunkN n) k f h = inr (f, (meaning (pipe.ChunkN n) Bytes Bytes, refl, refl))
-
 admits_stream : (g k : LoadKind) → Admits (stream_kind g) k → g ≡ k
 admits_stream Bytes k h = sym h
 admits_stream Lines k h = sym h
 admits_stream Rows k h = sym h
+
+behind_nothing : (Below : LoadKind → Type 0) (q : Pipe) (k : LoadKind) → ((j : LoadKind) → Below j) → Admits (kind_of_nothing q) k → Behind Below q k
+behind_nothing Below q k f h = elim (lawful_pipe q).behind_nothing [
+  | inl b ↦ inl (meaning q b.0 b.1, ap (option_map (meaning q b.0)) b.2, f b.0, admits_stream b.1 k (subst (λ i. Admits i k) b.3 h))
+  | inr b ↦ inr (f, (meaning q b.0 b.1, ap (option_map (meaning q b.0)) b.2, b.3))
+]
 
 behind_some : (Below : LoadKind → Type 0) (q : Pipe) (j k : LoadKind) (o : Option LoadKind) → gives_of q j ≡ o → Below j → AdmitsBy (option_map stream_kind o) k → Behind Below q k
 behind_some Below q j k None e b h = absurd h

@@ -4,7 +4,8 @@ use Rattle.chunk_core.specs.Elements.{Element, Line}
 use Rattle.chunk_core.specs.Elements.LoadKind.{Lines}
 use Rattle.chunk_core.specs.Feed.{Meaning, Extends}
 use Rattle.chunk_core.specs.declared.load.Load.TheVariants as load
-use Rattle.pull_nodes.specs.PipeKinds.{gives_of, from_lines}
+use Rattle.pull_nodes.specs.PipeKinds.{gives_of}
+use Rattle.pull_nodes.specs.PipeRule.{from_lines}
 use Rattle.pull_nodes.specs.Pipes.{IsMeaningOf, part_of}
 use Rattle.pull_nodes.specs.declared.pipe.Pipe.{Pipe}
 use Rattle.pull_nodes.proofs.Meanings.{meaning_is, from_lines-some, extends_from}

@@ -6,7 +6,7 @@ use Rattle.chunk_core.specs.Feed.{Meaning, Finishes}
 use Rattle.chunk_core.specs.declared.feed.Fed.TheVariants as fed
 use Rattle.chunk_core.specs.declared.load.Load.TheVariants as load
 use Rattle.pull_nodes.specs.Pipes.{IsMeaningOf}
-use Rattle.pull_nodes.specs.Plain.{count_line}
+use Rattle.pull_nodes.specs.Count.{count_line}
 use Rattle.pull_nodes.specs.declared.pipe.Pipe.TheVariants as pipe
 use Rattle.pull_nodes.proofs.Meanings.{meaning_is, finishes_from}
 use Rattle.stream_ops.specs.CountState.{StandsFor, Comes}

@@ -13,7 +13,7 @@ use Rattle.chunk_core.specs.declared.feed.Fed.TheVariants as fed
 use Rattle.chunk_core.specs.declared.load.Load.{Load}
 use Rattle.chunk_core.specs.declared.load.Load.TheVariants as load
 use Rattle.pull_nodes.specs.PipeKinds.{gives_of}
-use Rattle.pull_nodes.specs.Plain.{same_element, changes, changes_after}
+use Rattle.pull_nodes.specs.Changes.{same_element, changes, changes_after}
 use Rattle.pull_nodes.specs.declared.pipe.Pipe.TheVariants as pipe
 use Rattle.pull_nodes.proofs.Meanings.{meaning_is, extends_from}
 use Rattle.stream_ops.specs.Changed.{is_change, changed_behind, lines_in, rows_in}

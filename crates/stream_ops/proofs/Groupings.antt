@@ -10,7 +10,8 @@ use Rattle.chunk_core.specs.declared.feed.Fed.TheVariants as fed
 use Rattle.chunk_core.specs.declared.load.Load.{Load}
 use Rattle.chunk_core.specs.declared.load.Load.TheVariants as load
 use Rattle.pull_nodes.specs.Pipes.{IsMeaningOf}
-use Rattle.pull_nodes.specs.Plain.{multiple, ungrouped, group_size}
+use Rattle.pull_nodes.specs.ChunkN.{group_size}
+use Rattle.pull_nodes.specs.Plain.{multiple, ungrouped}
 use Rattle.pull_nodes.specs.declared.pipe.Pipe.TheVariants as pipe
 use Rattle.pull_nodes.proofs.Groups.{grouped_and_rest, in_groups-append, ungrouped-append}
 use Rattle.pull_nodes.proofs.Meanings.{meaning_is, extends_from, finishes_from}

@@ -11,7 +11,7 @@ use Rattle.chunk_core.specs.Elements.{Element, Line}
 use Rattle.chunk_core.specs.Feed.{Meaning, Extends}
 use Rattle.chunk_core.specs.declared.load.Load.TheVariants as load
 use Rattle.pull_nodes.specs.Pipes.{IsMeaningOf}
-use Rattle.pull_nodes.specs.Plain.{contains, is_match}
+use Rattle.pull_nodes.specs.Filter.{contains, is_match}
 use Rattle.pull_nodes.specs.declared.pipe.Pipe.TheVariants as pipe
 use Rattle.stream_ops.proofs.Answers.{lines_extend}
 

@@ -6,7 +6,8 @@ use Rattle.chunk_core.specs.Elements.{Element, Line}
 use Rattle.chunk_core.specs.Feed.{Meaning, Extends}
 use Rattle.chunk_core.specs.declared.load.Load.TheVariants as load
 use Rattle.pull_nodes.specs.Pipes.{IsMeaningOf}
-use Rattle.pull_nodes.specs.Plain.{capped_number, with_number}
+use Rattle.pull_nodes.specs.Number.{with_number}
+use Rattle.pull_nodes.specs.Plain.{capped_number}
 use Rattle.pull_nodes.specs.declared.pipe.Pipe.TheVariants as pipe
 use Rattle.stream_ops.proofs.Answers.{lines_extend}
 

@@ -3,7 +3,7 @@ use Rattle.std.specs.Prelude.{ℕ, Bool, true, not, List, [], Option, None, Some
 use Rattle.chunk_core.specs.Elements.{Element}
 use Rattle.chunk_core.specs.declared.load.Load.{Load}
 use Rattle.chunk_core.specs.declared.load.Load.TheVariants as load
-use Rattle.pull_nodes.specs.Plain.{same_element, changes, changes_after}
+use Rattle.pull_nodes.specs.Changes.{same_element, changes, changes_after}
 
 -- the element differs from the one before it, or none stands there
 abbrev pub is_change : Option Element → Element → Bool

@@ -5,7 +5,8 @@ use Rattle.chunk_core.specs.Elements.LoadKind.{Bytes, Lines, Rows}
 use Rattle.chunk_core.specs.Feed.{Meaning}
 use Rattle.chunk_core.specs.declared.code.Code.{Code}
 use Rattle.pull_nodes.specs.Pipes.{IsMeaningOf}
-use Rattle.pull_nodes.specs.Plain.{multiple, ungrouped, group_size}
+use Rattle.pull_nodes.specs.ChunkN.{group_size}
+use Rattle.pull_nodes.specs.Plain.{multiple, ungrouped}
 use Rattle.pull_nodes.specs.declared.pipe.Pipe.TheVariants as pipe
 use Rattle.stream_ops.specs.declared.chunk_n.ChunkNPipe.{ChunkNPipe}
 

@@ -2,7 +2,7 @@
 use Rattle.std.specs.Prelude.{ℕ, Bool, true, false, List, [], ◌∷◌}
 use Rattle.std.specs.List.{flat_map}
 use Rattle.chunk_core.specs.Elements.{Element, Line}
-use Rattle.pull_nodes.specs.Plain.{with_between}
+use Rattle.pull_nodes.specs.Intersperse.{with_between}
 
 -- the list isn't empty
 abbrev pub is_any : {A : Type 0} → List A → Bool

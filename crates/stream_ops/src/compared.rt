@@ -12,7 +12,7 @@ use std::alloc::{AllocError, Global};
 pub(crate) trait Compared: Refilled {
     ghost use Rattle.std.specs.Prelude.{◌≡◌};
     ghost use Rattle.chunk_core.specs.Elements.{Element};
-    ghost use Rattle.pull_nodes.specs.Plain.{same_element};
+    ghost use Rattle.pull_nodes.specs.Changes.{same_element};
 
     ghost element: { Self → Element };
 

@@ -2,7 +2,7 @@
 ghost use Rattle.std.specs.Prelude.{◌≡◌, [], IfOk, filter};
 ghost use Rattle.chunk_core.specs.Feed.{Meaning};
 ghost use Rattle.pull_nodes.specs.Pipes.{IsMeaningOf};
-ghost use Rattle.pull_nodes.specs.Plain.{contains};
+ghost use Rattle.pull_nodes.specs.Filter.{contains};
 ghost use Rattle.pull_nodes.specs.declared.pipe.Pipe.TheVariants as pipe;
 ghost use Rattle.stream_ops.specs.FilterState.{StandsFor};
 

@@ -4,7 +4,8 @@ ghost use Rattle.std.specs.List.{enumerate_from};
 ghost use Rattle.chunk_core.specs.Elements.Element.{Line};
 ghost use Rattle.chunk_core.specs.Feed.{Meaning};
 ghost use Rattle.pull_nodes.specs.Pipes.{IsMeaningOf};
-ghost use Rattle.pull_nodes.specs.Plain.{capped_number, with_number};
+ghost use Rattle.pull_nodes.specs.Number.{with_number};
+ghost use Rattle.pull_nodes.specs.Plain.{capped_number};
 ghost use Rattle.pull_nodes.specs.declared.pipe.Pipe.TheVariants as pipe;
 ghost use Rattle.stream_ops.specs.NumberState.{StandsFor};
 

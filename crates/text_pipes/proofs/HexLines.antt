@@ -14,7 +14,8 @@ use Rattle.chunk_core.specs.declared.feed.Fed.{Fed}
 use Rattle.chunk_core.specs.declared.feed.Fed.TheVariants as fed
 use Rattle.chunk_core.specs.declared.load.Load.TheVariants as load
 use Rattle.pull_nodes.specs.Pipes.{IsMeaningOf}
-use Rattle.pull_nodes.specs.Plain.{bytes_of, hex_line, hex_lines, if_any, multiple, ungrouped}
+use Rattle.pull_nodes.specs.Hex.{hex_line, hex_lines}
+use Rattle.pull_nodes.specs.Plain.{bytes_of, if_any, multiple, ungrouped}
 use Rattle.pull_nodes.specs.declared.pipe.Pipe.TheVariants as pipe
 use Rattle.pull_nodes.proofs.Groups.{grouped, grouped-step, grouped-short, grouped-append, ungrouped-step, ungrouped-short, ungrouped-append}
 use Rattle.pull_nodes.proofs.Meanings.{meaning_is, from_bytes-some, extends_from, finishes_from, bytes_of-load}

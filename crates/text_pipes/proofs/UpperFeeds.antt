@@ -8,7 +8,7 @@ use Rattle.chunk_core.specs.Feed.{Meaning, MayFeed, Extends}
 use Rattle.chunk_core.specs.declared.load.Load.{Load}
 use Rattle.pull_nodes.specs.PipeKinds.{gives_of}
 use Rattle.pull_nodes.specs.Pipes.{IsMeaningOf}
-use Rattle.pull_nodes.specs.Plain.{uppercase_of}
+use Rattle.pull_nodes.specs.Upper.{uppercase_of}
 use Rattle.pull_nodes.specs.declared.pipe.Pipe.TheVariants as pipe
 use Rattle.pull_nodes.proofs.Meanings.{meaning_is, extends_from}
 use Rattle.text_pipes.specs.UpperState.{StandsFor}

@@ -5,7 +5,8 @@ use Rattle.chunk_core.specs.Elements.LoadKind.{Lines}
 use Rattle.chunk_core.specs.Feed.{Meaning}
 use Rattle.chunk_core.specs.declared.code.Code.{Code}
 use Rattle.pull_nodes.specs.Pipes.{IsMeaningOf}
-use Rattle.pull_nodes.specs.Plain.{bytes_of, hex_line, if_any, ungrouped}
+use Rattle.pull_nodes.specs.Hex.{hex_line}
+use Rattle.pull_nodes.specs.Plain.{bytes_of, if_any, ungrouped}
 use Rattle.pull_nodes.specs.declared.pipe.Pipe.TheVariants as pipe
 use Rattle.text_pipes.specs.declared.hexadecimal.HexPipe.{HexPipe}
 

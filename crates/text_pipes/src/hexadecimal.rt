@@ -2,7 +2,8 @@
 ghost use Rattle.std.specs.Prelude.{◌≡◌, ◌++◌, ◌<◌, [], IfOk, OnOk, length, vec_len};
 ghost use Rattle.chunk_core.specs.Feed.{Meaning};
 ghost use Rattle.pull_nodes.specs.Pipes.{IsMeaningOf};
-ghost use Rattle.pull_nodes.specs.Plain.{hex_line, hex_lines, ungrouped};
+ghost use Rattle.pull_nodes.specs.Hex.{hex_line, hex_lines};
+ghost use Rattle.pull_nodes.specs.Plain.{ungrouped};
 ghost use Rattle.pull_nodes.specs.declared.pipe.Pipe.TheVariants as pipe;
 ghost use Rattle.text_pipes.specs.HexState.{StandsFor};
 

@@ -5,7 +5,7 @@ ghost use Rattle.chunk_core.specs.Elements.{elements, kind_of};
 ghost use Rattle.chunk_core.specs.Elements.LoadKind.{Rows};
 ghost use Rattle.chunk_core.specs.Feed.{Meaning};
 ghost use Rattle.pull_nodes.specs.Pipes.{IsMeaningOf};
-ghost use Rattle.pull_nodes.specs.Plain.{uppercase_of};
+ghost use Rattle.pull_nodes.specs.Upper.{uppercase_of};
 ghost use Rattle.pull_nodes.specs.declared.pipe.Pipe.TheVariants as pipe;
 ghost use Rattle.text_pipes.specs.UpperState.{StandsFor};
 

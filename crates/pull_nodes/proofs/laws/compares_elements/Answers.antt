@@ -1,4 +1,4 @@
-use Rattle.pull_nodes.proofs.PlainLaws.{same_is_equal}
+use Rattle.pull_nodes.proofs.Changes.{same_is_equal}
 use Rattle.pull_nodes.proofs.laws.compares_elements.Goals as goal
 
 pub returns : goal.returns

@@ -1,5 +1,5 @@
 use Rattle.std.proofs.Common.{◌∙◌, ap}
-use Rattle.pull_nodes.specs.Plain.{contains}
+use Rattle.pull_nodes.specs.Filter.{contains}
 use Rattle.stream_ops.proofs.Matches.{found_is}
 use Rattle.stream_ops.proofs.filter.is_match.Goals as goal
 

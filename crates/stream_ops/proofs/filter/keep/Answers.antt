@@ -1,5 +1,5 @@
 use Rattle.std.proofs.Common.{sym, ap, ◌∙◌}
-use Rattle.pull_nodes.specs.Plain.{contains}
+use Rattle.pull_nodes.specs.Filter.{contains}
 use Rattle.stream_ops.proofs.Matches.{kept_in, kept_out}
 use Rattle.stream_ops.proofs.filter.keep.Goals as goal
 use Rattle.stream_ops.proofs.filter.keep.Goals.{then-is_match+in_ok-push_copy, else-is_match}

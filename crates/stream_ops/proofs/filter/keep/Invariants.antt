@@ -1,5 +1,5 @@
 use Rattle.std.proofs.Common.{◌≡◌, filter, take}
-use Rattle.pull_nodes.specs.Plain.{contains}
+use Rattle.pull_nodes.specs.Filter.{contains}
 use Rattle.stream_ops.proofs.filter.keep.Given as goal
 
 abbrev pub invariant-loop-line : goal.invariant-loop-line

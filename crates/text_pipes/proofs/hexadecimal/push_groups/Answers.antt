@@ -1,5 +1,6 @@
 use Rattle.std.proofs.Common.{◌∙◌, ap}
-use Rattle.pull_nodes.specs.Plain.{hex_line, ungrouped}
+use Rattle.pull_nodes.specs.Hex.{hex_line}
+use Rattle.pull_nodes.specs.Plain.{ungrouped}
 use Rattle.text_pipes.proofs.HexLines.{lines_more, rest-step}
 use Rattle.text_pipes.proofs.hexadecimal.push_groups.Goals as goal
 

@@ -1,5 +1,6 @@
 use Rattle.std.proofs.Common.{◌≡◌, ◌++◌, length}
-use Rattle.pull_nodes.specs.Plain.{hex_lines, ungrouped}
+use Rattle.pull_nodes.specs.Hex.{hex_lines}
+use Rattle.pull_nodes.specs.Plain.{ungrouped}
 use Rattle.text_pipes.proofs.hexadecimal.push_groups.Given as goal
 
 abbrev pub invariant-groups : goal.invariant-groups

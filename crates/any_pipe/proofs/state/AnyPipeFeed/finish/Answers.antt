@@ -12,6 +12,9 @@ returns-in-Lines-clause-first c = rw c.in-Lines.is c.finish-in-Lines.ensures.fir
 pub returns-in-Hex-clause-first : goal.returns-in-Hex-clause-first
 returns-in-Hex-clause-first c = rw c.in-Hex.is c.finish-in-Hex.ensures.first
 
+pub returns-in-Changes-clause-first : goal.returns-in-Changes-clause-first
+returns-in-Changes-clause-first c = rw c.in-Changes.is c.finish-in-Changes.ensures.first
+
 pub returns-in-Count-clause-first : goal.returns-in-Count-clause-first
 returns-in-Count-clause-first c = rw c.in-Count.is c.finish-in-Count.ensures.first
 

@@ -1,6 +1,6 @@
 use Rattle.std.proofs.Common.{◌∙◌, ap, filter, rules}
 use Rattle.std.proofs.lemmas.Fn.{filter_same}
-use Rattle.pull_nodes.specs.Plain.{contains}
+use Rattle.pull_nodes.specs.Filter.{contains}
 use Rattle.stream_ops.proofs.filter.FilterPipe.take.Goals as goal
 
 pub returns-in-Ok-clause-kept : goal.returns-in-Ok-clause-kept

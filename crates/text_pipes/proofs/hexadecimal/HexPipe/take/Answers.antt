@@ -1,6 +1,6 @@
-use Rattle.std.proofs.Common.{◌≡◌, ◌++◌, ◌-◌, ◌∙◌, [], ◌∷◌, ap, arith, length}
+use Rattle.std.proofs.Common.{◌++◌, ◌-◌, ◌∙◌, [], ◌∷◌, ap, arith}
 use Rattle.std.proofs.lemmas.List.{take-append-drop}
-use Rattle.pull_nodes.specs.Plain.{hex_line, hex_lines, ungrouped}
+use Rattle.pull_nodes.specs.Hex.{hex_lines}
 use Rattle.text_pipes.proofs.HexLines.{whole_lines, whole_rest}
 use Rattle.text_pipes.proofs.hexadecimal.HexPipe.take.Goals as goal
 

@@ -3,7 +3,7 @@ use Rattle.std.proofs.lemmas.Grind.{common_steps}
 use Rattle.chunk_core.specs.Feed.{Continues, Finishes}
 use Rattle.chunk_core.specs.declared.feed.Fed.TheVariants as fed
 use Rattle.chunk_core.specs.declared.load.Load.TheVariants as load
-use Rattle.pull_nodes.specs.Plain.{hex_line}
+use Rattle.pull_nodes.specs.Hex.{hex_line}
 use Rattle.text_pipes.specs.HexState.{Comes}
 use Rattle.text_pipes.specs.declared.hexadecimal.HexPipe.{HexPipe}
 use Rattle.text_pipes.proofs.HexLines.{gives_lines, hex_whole, hex_comes}

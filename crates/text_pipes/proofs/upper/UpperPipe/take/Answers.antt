@@ -1,7 +1,7 @@
 use Rattle.std.proofs.Common.{◌∙◌, sym, ap, map}
 use Rattle.std.specs.Char.{to_ascii_uppercase}
 use Rattle.chunk_core.specs.Elements.{elements, Byte, Line}
-use Rattle.pull_nodes.specs.Plain.{uppercase_of}
+use Rattle.pull_nodes.specs.Upper.{uppercase_of}
 use Rattle.text_pipes.proofs.UpperFeeds.{bytes_upper, lines_upper}
 use Rattle.text_pipes.proofs.upper.UpperPipe.take.Goals as goal
 
