@@ -1,0 +1,4 @@
+pub mod Words
+pub mod Holding
+pub mod Keeping
+pub mod Crossing
