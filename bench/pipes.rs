@@ -1,15 +1,16 @@
 //! The pipes of crates/pipe_bench as loops in Rust with nothing but std, over the same text, cut in
 //! the same places, with the same answers. Build it with `rustc -O`; it takes the same words and
-//! prints the same lines.
+//! prints the same lines. `text` prints the text itself, for other tools.
 //!
 //! Bytes that pass through a pipe unchanged are borrowed, as flume's windows share; all else that a
 //! pipe gives is owned by its answer: a vector or a string for each line.
 use std::borrow::Cow;
-use std::fmt::Write;
+use std::fmt::Write as _;
 use std::hint::black_box;
+use std::io::Write as _;
 use std::sync::Arc;
 use std::time::Duration;
-use std::{env, mem, process, str};
+use std::{env, io, mem, process, str};
 
 const CHUNK: usize = 4096;
 const LINE: usize = 64;
@@ -527,9 +528,15 @@ fn over_lines<P: Pipe<Item = String> + Default>(order: &Order, name: &str) {
 
 fn main() {
     let Some(order) = order() else {
-        eprintln!("usage: pipes PIPE|all MEGABYTES [CHUNK [time]]");
+        eprintln!("usage: pipes PIPE|all|text MEGABYTES [CHUNK [time]]");
         process::exit(2);
     };
+    if order.name == "text" {
+        let text = text(false);
+        for _ in 0..order.megabytes {
+            io::stdout().write_all(&text).expect("standard output");
+        }
+    }
     over_bytes::<Utf8>(&order, "utf8", false);
     over_bytes::<Lossy>(&order, "lossy", false);
     over_bytes::<Lossy>(&order, "mended", true);

@@ -1,6 +1,8 @@
 #!/usr/bin/env bash
 # Measures each pipe alone, over text from memory, beside the same loop in Rust with nothing but std
 # (bench/pipes.rs): user plus system time, the time at double the input, and peak memory.
+# Then GNU's tools that do the same, over the same text in a file in memory, from which they read and
+# to which they write.
 # It asserts nothing but that both sides give the same; the numbers are for a reader.
 # Needs rt, and GNU time as /usr/bin/time; without rustc it measures flume alone.
 #
@@ -96,6 +98,31 @@ table() {
   done
 }
 
+# The least user and system time of a tool, each of its own round.
+tool() {
+  local shown=$1 round spent user=999999 system=999999
+  shift
+  for ((round = 0; round <= rounds; round++)); do
+    spent=$({ TIMEFORMAT='%3U %3S'; time LC_ALL=C "$@" <"$work/text" >"$work/out"; } 2>&1)
+    read -r spent_user spent_system < <(awk '{ printf "%d %d\n", $1 * 1000 + 0.5, $2 * 1000 + 0.5 }' <<<"$spent")
+    if ((round > 0 && spent_user < user)); then user=$spent_user; fi
+    if ((round > 0 && spent_system < system)); then system=$spent_system; fi
+  done
+  printf '%-14s %9d %9d\n' "$shown" "$user" "$system"
+}
+
+tools() {
+  if [ -z "$rust" ]; then return; fi
+  "$rust" text "$megabytes" >"$work/text"
+  echo
+  printf '%-14s %9s %9s\n' tool "user ms" "system ms"
+  tool 'tr a-z A-Z' tr a-z A-Z
+  tool 'grep -F needle' grep -F needle
+  tool 'cat -n' cat -n
+  tool uniq uniq
+  tool 'wc -l' wc -l
+}
+
 [ -x /usr/bin/time ] || fail "GNU time isn't there as /usr/bin/time"
 build_flume
 build_rust
@@ -103,3 +130,4 @@ if [ -n "$rust" ]; then compare_answers; fi
 echo "$megabytes MB of text, least user plus system time of $rounds rounds"
 table 4096
 table 65536
+tools
