@@ -1,7 +1,8 @@
 -- The one stream of cat.
-use Rattle.std.proofs.Common.{◌≡◌, ◌≢◌, ℕ, zero, suc, ◌<◌, Bool, true, false, List, [], ◌∷◌, ◌++◌, inl, inr, map, length, Option, Some, None, refl, sym, ◌∙◌, ap, subst, ⊎_elim, arith}
+use Rattle.std.proofs.Common.{◌≡◌, ◌≢◌, ℕ, zero, suc, ◌<◌, ◌≤◌, ◌^◌, Bool, true, false, List, [], ◌∷◌, ◌++◌, inl, inr, map, take, length, Option, Some, None, IfSome, refl, sym, ◌∙◌, ap, subst, ⊎_elim, arith}
+use Rattle.std.proofs.lemmas.List.{take_all}
 use Rattle.std.specs.List.{AllByRecursion}
-use Rattle.chunk_core.specs.Elements.{Element, rendering_of}
+use Rattle.chunk_core.specs.Elements.{Element, Byte, rendering_of}
 use Rattle.chunk_core.specs.Outcomes.{End, Outcomes, Done, Fault, Cut}
 use Rattle.chunk_core.specs.declared.code.Code.{Code}
 use Rattle.chunk_core.specs.declared.code.Code.TheVariants as code
@@ -11,7 +12,7 @@ use Rattle.device_port.specs.Device.{DeviceTold, faults_of}
 use Rattle.res_ledger.specs.declared.event.StreamNo.TheVariants.{Inner}
 use Rattle.device_port.specs.Depot.{DepotTold}
 use Rattle.device_port.specs.Sink.{SinkTold}
-use Rattle.pull_nodes.specs.Runs.{OrLeft, Reads, ReadsBy, Opens}
+use Rattle.pull_nodes.specs.Runs.{FirstBytes, OrLeft, Reads, ReadsWhole, ReadsWholeBy, Opens, StopsReading}
 use Rattle.run_rules.specs.declared.end.EndOf.{EndOf}
 use Rattle.run_rules.specs.Facts.{is_halted, is_memory}
 use Rattle.run_rules.specs.Run.{IsReported, count_of}
@@ -24,13 +25,9 @@ use Rattle.flume_cli.proofs.Pieces.{IsByte, bytes_are, bytes_length, pieces_fit}
 
 -- What a file gives are bytes.
 
-reads_bytes : (o : Option (List ℕ)) (d : DeviceTold) (ys : List Element) (e : End) → ReadsBy o d ys e → AllByRecursion IsByte ys
-reads_bytes None d ys e r = subst (λ xs. AllByRecursion IsByte xs) (sym r.2) (bytes_are r.0)
-reads_bytes (Some c) d ys e r =
-    ⊎_elim
-    (λ x. subst (λ xs. AllByRecursion IsByte xs) (sym x.1) (bytes_are _))
-    (λ y. ⊎_elim (λ x. subst (λ xs. AllByRecursion IsByte xs) (sym x.1) (bytes_are _)) (λ x. subst (λ xs. AllByRecursion IsByte xs) (sym x.1) (bytes_are _)) y)
-    r
+first_bytes : (o : Option (List ℕ)) (n : ℕ) (ys : List Element) → FirstBytes o n ys → AllByRecursion IsByte ys
+first_bytes None n ys r = subst (λ xs. AllByRecursion IsByte xs) (sym r.2) (bytes_are r.0)
+first_bytes (Some c) n ys r = subst (λ xs. AllByRecursion IsByte xs) (sym r) (bytes_are (take n c))
 
 left_bytes : (R : Outcomes) → ((ys : List Element) (e : End) → R ys e → AllByRecursion IsByte ys) → (ys : List Element) (e : End) → OrLeft R ys e → AllByRecursion IsByte ys
 left_bytes R h ys e (inl r) = h ys e r
@@ -38,8 +35,8 @@ left_bytes R h ys e (inr (c, inl n)) = subst (λ xs. AllByRecursion IsByte xs) (
 left_bytes R h ys e (inr (c, inr (more, g, r))) = each_left IsByte ys more (h (ys ++ more) g r)
 
 opens_bytes : (d : DeviceTold) (ys : List Element) (e : End) → Opens d (OrLeft (Reads d)) (Unit {0}) ys e → AllByRecursion IsByte ys
-opens_bytes d ys e (inl r) = left_bytes (Reads d) (λ xs g. reads_bytes d.content d xs g) ys e r.1
-opens_bytes d ys e (inr r) = subst (λ xs. AllByRecursion IsByte xs) (sym r.1) tt
+opens_bytes d ys e (inl r) = left_bytes (Reads d) (λ xs g h. first_bytes d.content d.at xs h.0) ys e r.2
+opens_bytes d ys e (inr r) = subst (λ xs. AllByRecursion IsByte xs) (sym r.2) tt
 
 pub file_bytes : (d : DeviceTold) (ys : List Element) (e : End) → FileRuns d ys e → AllByRecursion IsByte ys
 file_bytes d ys e r = left_bytes (Opens d (OrLeft (Reads d)) (Unit {0})) (opens_bytes d) ys e r
@@ -48,9 +45,6 @@ file_bytes d ys e r = left_bytes (Opens d (OrLeft (Reads d)) (Unit {0})) (opens_
 
 fault_is : (a b : Code) → Fault a ≡ Fault b → b ≡ a
 fault_is a b e = cc
-
-done_fault : (c : Code) → Done ≢ Fault c
-done_fault c e = cc
 
 fault_cut : (c : Code) → Fault c ≢ Cut
 fault_cut c e = cc
@@ -61,28 +55,39 @@ fault_done c e = cc
 counted_as : (d : DeviceTold) (c k : Code) → k ≡ c → 0 < count_of k d → 0 < count_of c d
 counted_as d c k e l = subst (λ x. 0 < count_of x d) e l
 
-reads_shows : (o : Option (List ℕ)) (d : DeviceTold) (ys : List Element) (c : Code) → ReadsBy o d ys (Fault c) → 0 < count_of c d
-reads_shows None d ys c r =
-    ⊎_elim
-    (λ x. absurd (fault_done c x))
-    (λ y. ⊎_elim (λ x. counted_as d c code.Endless (fault_is c code.Endless x.1) (omega arith)) (λ x. counted_as d c code.Read (fault_is c code.Read x.1) x.0) y)
-    r.3
-reads_shows (Some bytes) d ys c r =
-    ⊎_elim
-    (λ x. absurd (fault_done c x.2))
-    (λ y. ⊎_elim (λ x. counted_as d c code.Endless (fault_is c code.Endless x.2) (omega arith)) (λ x. counted_as d c code.Read (fault_is c code.Read x.2) x.0) y)
-    r
+stops_shows : (d : DeviceTold) (c : Code) → StopsReading d (Fault c) → 0 < count_of c d
+stops_shows d code.Endless h = omega arith
+stops_shows d code.Read h = omega (arith, h)
+stops_shows d c h = absurd h
 
-opens_shows : (d : DeviceTold) (ys : List Element) (c : Code) → IdealFileRuns d ys (Fault c) → 0 < count_of c d
-opens_shows d ys c (inl r) = reads_shows d.content d ys c r.1
-opens_shows d ys c (inr r) = counted_as d c code.Open (fault_is c code.Open r.2) r.0
+file_shows : (d : DeviceTold) (ys : List Element) (c : Code) → FileRuns d ys (Fault c) → 0 < count_of c d
+file_shows d ys c (inr h) = absurd (fault_cut c h.0)
+file_shows d ys c (inl (inl (o, f, inl r))) = stops_shows d c r.1
+file_shows d ys c (inl (inl (o, f, inr h))) = absurd (fault_cut c h.0)
+file_shows d ys c (inl (inr r)) = counted_as d c code.Open (fault_is c code.Open r.3) (omega (arith, r.1))
 
--- a run that wasn't left is an ideal one
-pub ideal_is : (d : DeviceTold) (ys : List Element) (e : End) → (e ≢ Cut) → FileRuns d ys e → IdealFileRuns d ys e
-ideal_is d ys e n (inr c) = absurd (n c.0)
-ideal_is d ys e n (inl (inl (o, inl r))) = inl (o, r)
-ideal_is d ys e n (inl (inl (o, inr c))) = absurd (n c.0)
-ideal_is d ys e n (inl (inr r)) = inr r
+-- A run that was not left, of a device of which no act failed, is an ideal one.
+
+done_whole : (o : Option (List ℕ)) (d : DeviceTold) (ys : List Element) → FirstBytes o d.at ys → d.at < 2 ^ 40 → IfSome o (λ c. d.at ≡ length c) → ReadsWholeBy o d ys Done
+done_whole None d ys h l i = (h, inl (l, refl))
+done_whole (Some c) d ys h l i = inl (omega (arith, l, i), h ∙ ap (λ xs. map Byte xs) (take_all d.at c (omega (arith, i))), refl)
+
+endless_whole : (o : Option (List ℕ)) (d : DeviceTold) (ys : List Element) → FirstBytes o d.at ys → d.at ≡ 2 ^ 40 → IfSome o (λ c. 2 ^ 40 ≤ length c) → ReadsWholeBy o d ys (Fault code.Endless)
+endless_whole None d ys h at i = (h, inr (at, refl))
+endless_whole (Some c) d ys h at i = inr (i, h ∙ ap (λ n. map Byte (take n c)) at, refl)
+
+whole_is : (d : DeviceTold) (ys : List Element) (e : End) → faults_of d ≡ 0 → (e ≢ Cut) → Reads d ys e → ReadsWhole d ys e
+whole_is d ys Done calm n r = done_whole d.content d ys r.0 r.1.1 r.1.3
+whole_is d ys (Fault code.Endless) calm n r = endless_whole d.content d ys r.0 r.1.0 r.1.2
+whole_is d ys (Fault code.Read) calm n r = absurd (omega (arith, calm, r.1))
+whole_is d ys (Fault c) calm n r = absurd r.1
+whole_is d ys Cut calm n r = absurd (n refl)
+
+pub ideal_is : (d : DeviceTold) (ys : List Element) (e : End) → faults_of d ≡ 0 → (e ≢ Cut) → FileRuns d ys e → IdealFileRuns d ys e
+ideal_is d ys e calm n (inr c) = absurd (n c.0)
+ideal_is d ys e calm n (inl (inl (o, f, inl r))) = inl (o, f, whole_is d ys e calm n r)
+ideal_is d ys e calm n (inl (inl (o, f, inr c))) = absurd (n c.0)
+ideal_is d ys e calm n (inl (inr r)) = absurd (omega (arith, calm, r.1))
 
 -- without the faults
 abbrev cleared : DeviceTold → DeviceTold
@@ -112,7 +117,7 @@ module _ (path : List ℕ) (size : ℕ) (old new : DepotTold) (so sn : SinkTold)
 
   shown_by : (e : End) (h : How) → IsReported e h → FileRuns d given e → (c : Code) → h ≡ how.Fault c → 0 < count_of c d
   shown_by Done h is run c f = absurd (let e : how.Done ≡ how.Fault c = sym is ∙ f in cc)
-  shown_by (Fault k) h is run c f = let e : how.Fault k ≡ how.Fault c = sym is ∙ f in counted_as d c k (sym (fault_how k c e)) (opens_shows d given k (ideal_is d given (Fault k) (fault_cut k) run))
+  shown_by (Fault k) h is run c f = let e : how.Fault k ≡ how.Fault c = sym is ∙ f in counted_as d c k (sym (fault_how k c e)) (file_shows d given k run)
   shown_by Cut h is run c f = absurd (⊎_elim (λ i. let e : how.Halted ≡ how.Fault c = sym i ∙ f in cc) (λ i. let e : how.Memory ≡ how.Fault c = sym i ∙ f in cc) is)
 
   abbrev IsIdealDone : Type 0
@@ -120,8 +125,8 @@ module _ (path : List ℕ) (size : ℕ) (old new : DepotTold) (so sn : SinkTold)
 
   whole_by : (e : End) (h : How) → IsReported e h → is_halted h ≡ false → is_memory h ≡ false → FileRuns d given e → faults_of d ≡ 0 → IsIdealDone
       → (h ≡ how.Done) × ((ys : List Element) × IdealFileRuns d ys Done × (rendering_of given ≡ rendering_of ys))
-  whole_by Done h is halts forgets run calm ideal = (is, (given, ideal_is d given Done (λ e. cc) run, refl))
-  whole_by (Fault c) h is halts forgets run calm ideal = absurd (fault_done c (ideal (clean_but r.home) given (Fault c) (clean_each r.home calm) (ideal_is d given (Fault c) (fault_cut c) run)))
+  whole_by Done h is halts forgets run calm ideal = (is, (given, ideal_is d given Done calm (λ e. cc) run, refl))
+  whole_by (Fault c) h is halts forgets run calm ideal = absurd (fault_done c (ideal (clean_but r.home) given (Fault c) (clean_each r.home calm) (ideal_is d given (Fault c) calm (fault_cut c) run)))
   whole_by Cut h is halts forgets run calm ideal = absurd (⊎_elim (λ i. let e : true ≡ false = sym (ap is_halted i) ∙ halts in cc) (λ i. let e : true ≡ false = sym (ap is_memory i) ∙ forgets in cc) is)
 
   covered : IsCovered (to_read path ∷ []) (λ w. FileRuns (w 0)) (λ w. IdealFileRuns (w 0)) size old new so sn o r

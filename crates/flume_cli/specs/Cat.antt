@@ -7,7 +7,7 @@ use Rattle.device_port.specs.declared.device.Mode.TheVariants as mode
 use Rattle.device_port.specs.Device.{Place, DeviceTold}
 use Rattle.device_port.specs.Depot.{DepotTold}
 use Rattle.device_port.specs.Sink.{SinkTold, with_bytes}
-use Rattle.pull_nodes.specs.Runs.{OrLeft, Reads, Opens}
+use Rattle.pull_nodes.specs.Runs.{OrLeft, Reads, ReadsWhole, Opens}
 use Rattle.run_rules.specs.Work.{Work, Deed}
 use Rattle.run_rules.specs.Run.{Performs}
 use Rattle.flume_cli.specs.declared.outcome.Outcome.{Outcome}
@@ -20,9 +20,9 @@ to_read path = record { path = path; mode = mode.Read }
 abbrev pub FileRuns : DeviceTold → Outcomes
 FileRuns d = OrLeft (Opens d (OrLeft (Reads d)) (Unit {0}))
 
--- a device is opened and read
+-- a device is opened and read whole
 abbrev pub IdealFileRuns : DeviceTold → Outcomes
-IdealFileRuns d = Opens d (Reads d) (Unit {0})
+IdealFileRuns d = Opens d (ReadsWhole d) (Unit {0})
 
 -- one stream of one row, whose file is opened and read
 abbrev pub cat_work : List ℕ → Work

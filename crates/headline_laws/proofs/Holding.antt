@@ -140,9 +140,9 @@ whole_file_holds = record {
       frames = hello_frame ∷ [];
       rest = [];
       performs = row_performs (codes "hello\n") 6 true Succeeded 0 0 true (hello_frame ∷ []) how.Done false tt refl refl
-          (record { numbers = ((omega arith, omega arith), tt); outputs = (record { elements = map Byte (codes "hello\n"); end = Done; run = inl (inl (refl, inl (inl (omega arith, refl, refl)))); printed = refl; reported = refl }, refl); cut = inl refl })
+          (record { numbers = ((omega arith, omega arith), tt); outputs = (record { elements = map Byte (codes "hello\n"); end = Done; run = inl (inl (refl, refl, inl (refl, (refl, omega arith, refl, refl)))); printed = refl; reported = refl }, refl); cut = inl refl })
           (record { named = refl; caused = (record { halted = λ h. absurd (false≢true h); fault = refl; root = λ h. refl }, tt); memory = λ h. absurd (false≢true h) })
-          (λ n. record { done = (refl, tt); clean = refl; output = ((map Byte (codes "hello\n"), inl (refl, inl (omega arith, refl, refl)), refl), tt) });
+          (λ n. record { done = (refl, tt); clean = refl; output = ((map Byte (codes "hello\n"), inl (refl, refl, inl (omega arith, refl, refl)), refl), tt) });
       text = record { said = tail_text whole_file.ends whole_file.events; written = text_of_whole_file; tail = (refl, refl); spoke = λ e. absurd (no_nil _ _ e); once = omega arith };
     },
     record { fits = (omega arith, tt); front = inl refl },
@@ -159,9 +159,9 @@ empty_file_holds = record {
       frames = [];
       rest = [];
       performs = row_performs [] 0 true Succeeded 0 0 true ([]) how.Done false tt refl refl
-          (record { numbers = tt; outputs = (record { elements = []; end = Done; run = inl (inl (refl, inl (inl (omega arith, refl, refl)))); printed = refl; reported = refl }, refl); cut = inl refl })
+          (record { numbers = tt; outputs = (record { elements = []; end = Done; run = inl (inl (refl, refl, inl (refl, (refl, omega arith, refl, refl)))); printed = refl; reported = refl }, refl); cut = inl refl })
           (record { named = refl; caused = (record { halted = λ h. absurd (false≢true h); fault = refl; root = λ h. refl }, tt); memory = λ h. absurd (false≢true h) })
-          (λ n. record { done = (refl, tt); clean = refl; output = (([], inl (refl, inl (omega arith, refl, refl)), refl), tt) });
+          (λ n. record { done = (refl, tt); clean = refl; output = (([], inl (refl, refl, inl (omega arith, refl, refl)), refl), tt) });
       text = record { said = tail_text empty_file.ends empty_file.events; written = text_of_empty_file; tail = (refl, refl); spoke = λ e. absurd (no_nil _ _ e); once = omega arith };
     },
     record { fits = tt; front = inl refl },
@@ -178,7 +178,7 @@ read_fault_holds = record {
       frames = record { stream = 0; payload = codes "he" } ∷ [];
       rest = [];
       performs = row_performs (codes "hello\n") 2 false Errored 1 0 true (record { stream = 0; payload = codes "he" } ∷ []) (how.Fault code.Read) false tt refl refl
-          (record { numbers = ((omega arith, omega arith), tt); outputs = (record { elements = map Byte (codes "he"); end = Fault code.Read; run = inl (inl (refl, inl (inr (inr (omega arith, refl, refl))))); printed = refl; reported = refl }, refl); cut = inl refl })
+          (record { numbers = ((omega arith, omega arith), tt); outputs = (record { elements = map Byte (codes "he"); end = Fault code.Read; run = inl (inl (refl, refl, inl (refl, refl))); printed = refl; reported = refl }, refl); cut = inl refl })
           (record { named = refl; caused = (record { halted = λ h. absurd (false≢true h); fault = refl; root = λ h. refl }, tt); memory = λ h. absurd (false≢true h) })
           (λ n. let z = n.devices.0 in absurd (omega (arith, z)));
       text = record { said = tail_text read_fault.ends read_fault.events; written = text_of_read_fault; tail = (refl, refl); spoke = λ e. absurd (no_nil _ _ e); once = omega arith };
@@ -197,7 +197,7 @@ failed_close_holds = record {
       frames = hello_frame ∷ [];
       rest = [];
       performs = row_performs (codes "hello\n") 6 true Succeeded 0 1 false (hello_frame ∷ []) how.Done false (refl, (refl, tt)) refl refl
-          (record { numbers = ((omega arith, omega arith), tt); outputs = (record { elements = map Byte (codes "hello\n"); end = Done; run = inl (inl (refl, inl (inl (omega arith, refl, refl)))); printed = refl; reported = refl }, refl); cut = inl refl })
+          (record { numbers = ((omega arith, omega arith), tt); outputs = (record { elements = map Byte (codes "hello\n"); end = Done; run = inl (inl (refl, refl, inl (refl, (refl, omega arith, refl, refl)))); printed = refl; reported = refl }, refl); cut = inl refl })
           (record { named = refl; caused = (record { halted = λ h. absurd (false≢true h); fault = refl; root = λ h. refl }, tt); memory = λ h. absurd (false≢true h) })
           (λ n. let z = n.devices.0 in absurd (omega (arith, z)));
       text = record { said = tail_text failed_close.ends failed_close.events; written = text_of_failed_close; tail = (refl, refl); spoke = λ e. absurd (no_nil _ _ e); once = omega arith };
@@ -240,7 +240,7 @@ missing_file_holds = record {
         ran = inr (record {
           home = λ r. missing_device;
           rows = record { at_home = (refl, refl, inl (here []), tt); apart = one_apart missing_device; tied = (tt, tt) };
-          outputs = record { numbers = tt; outputs = (record { elements = []; end = Fault code.Open; run = inl (inr (omega arith, refl, refl, tt)); printed = refl; reported = refl }, refl); cut = inl refl };
+          outputs = record { numbers = tt; outputs = (record { elements = []; end = Fault code.Open; run = inl (inr (refl, refl, refl, refl, tt)); printed = refl; reported = refl }, refl); cut = inl refl };
           ends = record { named = refl; caused = (record { halted = λ h. absurd (false≢true h); fault = refl; root = λ h. refl }, tt); memory = λ h. absurd (false≢true h) };
           exits = ((refl, tt), tt);
           completeness = λ m n. let z = n.devices.0 in absurd (omega (arith, z));

@@ -1,8 +1,9 @@
 -- Each call with one thing wrong is refused.
-use Rattle.std.proofs.Common.{◌≡◌, ◌≢◌, ◌<◌, ◌≤◌, ℕ, ◌+◌, Bool, true, false, not, if◌then◌else◌, List, [], ◌∷◌, ◌++◌, map, length, filter, flat_map, nat_eq, cond, Option, Some, None, refl, sym, ap, ◌∙◌, subst, inl, inr, arith, ⊎_elim, length-append}
+use Rattle.std.proofs.Common.{◌≡◌, ◌≢◌, ◌<◌, ◌≤◌, ℕ, ◌+◌, Bool, true, false, not, if◌then◌else◌, List, [], ◌∷◌, ◌++◌, map, take, length, filter, flat_map, nat_eq, cond, Option, Some, None, IfSome, refl, sym, ap, ◌∙◌, subst, inl, inr, arith, ⊎_elim, length-append}
 use Rattle.std.specs.Prelude.{codes, decimal}
 use Rattle.std.specs.Fmt.{digits}
 use Rattle.std.proofs.lemmas.Bool.{false≢true}
+use Rattle.std.proofs.lemmas.List.{take_all}
 use Rattle.std.proofs.lemmas.List.Sorted.{length_permutation}
 use Rattle.chunk_core.specs.Texts.{Frame, frame_text, frames_text, payloads_of}
 use Rattle.chunk_core.specs.Elements.{Element, Byte, rendering_of}
@@ -11,7 +12,7 @@ use Rattle.chunk_core.specs.declared.code.Exit.TheVariants.{Succeeded, Errored, 
 use Rattle.chunk_core.specs.declared.code.How.{How}
 use Rattle.chunk_core.specs.declared.code.How.TheVariants as how
 use Rattle.device_port.specs.Device.{DeviceTold}
-use Rattle.pull_nodes.specs.Runs.{OrLeft, Reads, ReadsBy}
+use Rattle.pull_nodes.specs.Runs.{FirstBytes, OrLeft, Reads}
 use Rattle.run_rules.specs.Run.{IsReported, IsUnmade, Ran, IsBlank}
 use Rattle.res_ledger.proofs.Judged.{legal_found, complete_found}
 use Rattle.res_ledger.proofs.Ordering.{ordered_complete}
@@ -24,8 +25,8 @@ use Rattle.flume_cli.specs.Status.{Causes, status_of, number_of, line_of}
 use Rattle.flume_cli.specs.Cat.{cat_work, FileRuns}
 use Rattle.flume_cli.specs.Headline.{Call, Headline, Tells, deed_of_call}
 use Rattle.headline_laws.specs.Calls.{a}
-use Rattle.headline_laws.specs.Refused.{invented_output, cut_output, row_of_no_plan, event_of_no_stream, lease_of_no_stream, kept_device, failure_not_told, halted_without_a_cause, row_without_a_final, final_before_close, closed_twice, left_open, fault_without_a_fault, failed_close_not_told, done_told_as_errored, fault_told_as_succeeded, halt_told_as_succeeded, final_unlike_its_close, device_told_otherwise, silent_call}
-use Rattle.chunk_core.proofs.Members.{among_nil}
+use Rattle.headline_laws.specs.Refused.{end_never_met, failed_read_forgotten, invented_output, cut_output, row_of_no_plan, event_of_no_stream, lease_of_no_stream, kept_device, failure_not_told, halted_without_a_cause, row_without_a_final, final_before_close, closed_twice, left_open, fault_without_a_fault, failed_close_not_told, done_told_as_errored, fault_told_as_succeeded, halt_told_as_succeeded, final_unlike_its_close, device_told_otherwise, silent_call}
+use Rattle.chunk_core.proofs.Members.{among_cons, among_nil}
 
 peel : (b : Bool) (x y s : Status) → (x ≡ s → ⊥) → s ≡ (if b then x else y) → (b ≡ false) × (s ≡ y)
 peel true x y s n e = absurd (n (sym e))
@@ -73,7 +74,7 @@ done Cut (inr r) = let h = ap number r in absurd (omega (arith, h))
 -- a run that is done opened its device
 opened : (d : DeviceTold) (ys : List Element) (e : End) → e ≡ Done → FileRuns d ys e → d.opens ≡ 1
 opened d ys e q (inl (inl x)) = x.0
-opened d ys e q (inl (inr x)) = let h = ap place (sym q ∙ x.2) in absurd (omega (arith, h))
+opened d ys e q (inl (inr x)) = let h = ap place (sym q ∙ x.3) in absurd (omega (arith, h))
 opened d ys e q (inr x) = let h = ap place (sym q ∙ x.0) in absurd (omega (arith, h))
 
 pub invented_output_refused : ¬ (Headline invented_output)
@@ -122,21 +123,20 @@ within k [] = omega arith
 within k (f ∷ fs) = within_by k f fs (nat_eq f.stream k) (within k fs)
 
 -- a content that was read to its end
-read_some : (c : List ℕ) (d : DeviceTold) (ys : List Element) (e : End) → e ≡ Done → ReadsBy (Some c) d ys e → ys ≡ map Byte c
-read_some c d ys e q (inl x) = x.1
-read_some c d ys e q (inr (inl x)) = let h = ap place (sym q ∙ x.2) in absurd (omega (arith, h))
-read_some c d ys e q (inr (inr x)) = let h = ap place (sym q ∙ x.2) in absurd (omega (arith, h))
-
-read_whole : (o : Option (List ℕ)) (c : List ℕ) → o ≡ Some c → (d : DeviceTold) (ys : List Element) (e : End) → e ≡ Done → ReadsBy o d ys e → ys ≡ map Byte c
-read_whole o c is d ys e q reads = read_some c d ys e q (subst (λ x. ReadsBy x d ys e) is reads)
+read_whole : (c : List ℕ) (d : DeviceTold) → d.content ≡ Some c → (ys : List Element) (e : End) → e ≡ Done → Reads d ys e → ys ≡ map Byte c
+read_whole c d is ys e q r =
+    let done = subst (λ (g : End). Reads d ys g) q r in
+    let given : ys ≡ map Byte (take d.at c) = subst (λ o. FirstBytes o d.at ys) is done.0 in
+    let at : d.at ≡ length c = subst (λ o. IfSome o (λ b. d.at ≡ length b)) is done.1.3 in
+    given ∙ ap (λ xs. map Byte xs) (take_all d.at c (omega (arith, at)))
 
 read_left : (c : List ℕ) (d : DeviceTold) → d.content ≡ Some c → (ys : List Element) (e : End) → e ≡ Done → OrLeft (Reads d) ys e → ys ≡ map Byte c
-read_left c d is ys e q (inl x) = read_whole d.content c is d ys e q x
+read_left c d is ys e q (inl x) = read_whole c d is ys e q x
 read_left c d is ys e q (inr x) = let h = ap place (sym q ∙ x.0) in absurd (omega (arith, h))
 
 given_whole : (c : List ℕ) (d : DeviceTold) → d.content ≡ Some c → (ys : List Element) (e : End) → e ≡ Done → FileRuns d ys e → ys ≡ map Byte c
-given_whole c d is ys e q (inl (inl x)) = read_left c d is ys e q x.1
-given_whole c d is ys e q (inl (inr x)) = let h = ap place (sym q ∙ x.2) in absurd (omega (arith, h))
+given_whole c d is ys e q (inl (inl x)) = read_left c d is ys e q x.2
+given_whole c d is ys e q (inl (inr x)) = let h = ap place (sym q ∙ x.3) in absurd (omega (arith, h))
 given_whole c d is ys e q (inr x) = let h = ap place (sym q ∙ x.0) in absurd (omega (arith, h))
 
 abbrev bytes_of : Option (List ℕ) → List ℕ
@@ -203,6 +203,40 @@ closed_twice_refused h = let e = h.does.0.performs.devices.shut.0.1 in omega (ar
 
 pub left_open_refused : ¬ (Headline left_open)
 left_open_refused h = let e = h.does.0.performs.devices.shut.0.1 in omega (arith, e)
+
+-- a run that is done met the end, and no read failed
+read_met : (d : DeviceTold) (ys : List Element) (e : End) → e ≡ Done → OrLeft (Reads d) ys e → (d.ended ≡ true) × (d.read_faults ≡ 0)
+read_met d ys e q (inl x) = let r = subst (λ (g : End). Reads d ys g) q x in (r.1.0, r.1.2)
+read_met d ys e q (inr x) = let h = ap place (sym q ∙ x.0) in absurd (omega (arith, h))
+
+met : (d : DeviceTold) (ys : List Element) (e : End) → e ≡ Done → FileRuns d ys e → (d.ended ≡ true) × (d.read_faults ≡ 0)
+met d ys e q (inl (inl x)) = read_met d ys e q x.2
+met d ys e q (inl (inr x)) = let h = ap place (sym q ∙ x.3) in absurd (omega (arith, h))
+met d ys e q (inr x) = let h = ap place (sym q ∙ x.0) in absurd (omega (arith, h))
+
+pub failed_read_forgotten_refused : ¬ (Headline failed_read_forgotten)
+failed_read_forgotten_refused h =
+    let g = good h.causes h.status.status in
+    let r = ran failed_read_forgotten h.causes h.does.0 g.memory in
+    let o = r.outputs.outputs.0 in
+    let m = met (r.home 0) o.elements o.end (done o.end o.reported) o.run in
+    let n = opened (r.home 0) o.elements o.end (done o.end o.reported) o.run in
+    ⊎_elim
+    (λ b. ⊎_elim (λ e. let f = ap (λ (d : DeviceTold). d.read_faults) e in let z = m.1 in omega (arith, f, z)) among_nil (among_cons b))
+    (λ (x : IsBlank (r.home 0)). let z = x.opens in omega (arith, n, z))
+    r.rows.at_home.2
+
+pub end_never_met_refused : ¬ (Headline end_never_met)
+end_never_met_refused h =
+    let g = good h.causes h.status.status in
+    let r = ran end_never_met h.causes h.does.0 g.memory in
+    let o = r.outputs.outputs.0 in
+    let m = met (r.home 0) o.elements o.end (done o.end o.reported) o.run in
+    let n = opened (r.home 0) o.elements o.end (done o.end o.reported) o.run in
+    ⊎_elim
+    (λ b. ⊎_elim (λ e. false≢true (ap (λ (d : DeviceTold). d.ended) (sym e) ∙ m.0)) among_nil (among_cons b))
+    (λ (x : IsBlank (r.home 0)). let z = x.opens in omega (arith, n, z))
+    r.rows.at_home.2
 
 -- what status 1 tells of memory
 faulty : (k : Causes) → status.Faulty ≡ status_of k → k.memory ≡ false

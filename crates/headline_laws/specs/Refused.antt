@@ -84,6 +84,14 @@ abbrev pub fault_without_a_fault : Call
 fault_without_a_fault = file_call (codes "hello\n") (closed_device (codes "hello\n") 6 true Errored 0 0)
     (wrote (codes "0 6\nhello\n\nend 0 fault read\nledger 3\n0 acquire 0 0\n0 close 0 errored\n0 final 0 errored ok\n") 0) status.Faulty (how.Fault code.Read) (one_row Errored true)
 
+-- a read that failed, and the stream is done all the same
+abbrev pub failed_read_forgotten : Call
+failed_read_forgotten = hello_call (closed_device (codes "hello\n") 6 true Succeeded 1 0) whole_text how.Done (one_row Succeeded true)
+
+-- a stream that is done, and no read met the end
+abbrev pub end_never_met : Call
+end_never_met = hello_call (closed_device (codes "hello\n") 6 false Succeeded 0 0) whole_text how.Done (one_row Succeeded true)
+
 -- a failed close that the ledger calls ok
 abbrev pub failed_close_not_told : Call
 failed_close_not_told = hello_call (closed_device (codes "hello\n") 6 true Succeeded 0 1) whole_text how.Done (one_row Succeeded true)

@@ -1,6 +1,6 @@
 //! Calls with one thing wrong each.
 ghost use Rattle.flume_cli.specs.Headline.{Headline};
-ghost use Rattle.headline_laws.specs.Refused.{invented_output, cut_output, row_of_no_plan, event_of_no_stream, lease_of_no_stream, row_without_a_final, final_before_close, kept_device, closed_twice, left_open, failure_not_told, halted_without_a_cause, fault_without_a_fault, failed_close_not_told, done_told_as_errored, fault_told_as_succeeded, halt_told_as_succeeded, final_unlike_its_close, device_told_otherwise, silent_call};
+ghost use Rattle.headline_laws.specs.Refused.{end_never_met, failed_read_forgotten, invented_output, cut_output, row_of_no_plan, event_of_no_stream, lease_of_no_stream, row_without_a_final, final_before_close, kept_device, closed_twice, left_open, failure_not_told, halted_without_a_cause, fault_without_a_fault, failed_close_not_told, done_told_as_errored, fault_told_as_succeeded, halt_told_as_succeeded, final_unlike_its_close, device_told_otherwise, silent_call};
 
 /// Outputs that no device gave.
 pub fn invented_outputs()
@@ -38,6 +38,8 @@ pub fn missing_causes()
     ensures is_failure_not_told { ¬ (Headline failure_not_told) }
     ensures is_halted_without_a_cause { ¬ (Headline halted_without_a_cause) }
     ensures is_fault_without_a_fault { ¬ (Headline fault_without_a_fault) }
+    ensures is_failed_read_forgotten { ¬ (Headline failed_read_forgotten) }
+    ensures is_end_never_met { ¬ (Headline end_never_met) }
     ensures is_failed_close_not_told { ¬ (Headline failed_close_not_told) }
     ensures is_silent_call { ¬ (Headline silent_call) }
 {}

@@ -6,7 +6,7 @@ use Rattle.chunk_core.specs.Feed.{Given}
 use Rattle.chunk_core.specs.Outcomes.{End, Done, Fault, Cut, Outcomes}
 use Rattle.device_port.specs.Device.{DeviceTold, faults_of}
 use Rattle.pull_nodes.specs.Pipes.{part_of, all_of}
-use Rattle.pull_nodes.specs.Runs.{IsIdealRun, Reads, ReadsBy, ReadsContent, Opens, Follows, Taken, GivesAtEnd, GivesBy, Piped}
+use Rattle.pull_nodes.specs.Runs.{IsIdealRun, ReadsContent, ReadsWhole, ReadsWholeBy, Opens, Follows, Taken, GivesAtEnd, GivesBy, Piped}
 use Rattle.pull_nodes.specs.Laws.{IsClean, TellSame, TellSameOf}
 use Rattle.pull_nodes.specs.declared.node.Node.{Node}
 use Rattle.pull_nodes.specs.declared.node.Node.TheVariants.{Nil, Emit, Raise, Read, Weak', Scope', Append', OnFault', Through', Take'}
@@ -15,20 +15,16 @@ use Rattle.pull_nodes.specs.declared.node.Node.TheVariants.{Nil, Emit, Raise, Re
 abbrev OneRun : Outcomes → Outcomes → Type 0
 OneRun A B = (xs ys : List Element) (e g : End) → A xs e → B ys g → (xs ≡ ys) × (e ≡ g)
 
-one_content : (d f : DeviceTold) → faults_of d ≡ 0 → faults_of f ≡ 0 → (c : List ℕ) → OneRun (ReadsContent d c) (ReadsContent f c)
-one_content d f cd cf c xs ys e g r s =
-    let rd : d.read_faults ≡ 0 = omega (arith, cd) in
-    let rf : f.read_faults ≡ 0 = omega (arith, cf) in
-    grind arith
+one_content : (c : List ℕ) → OneRun (ReadsContent c) (ReadsContent c)
+one_content c xs ys e g r s = grind arith
 
-one_read : (d f : DeviceTold) → faults_of d ≡ 0 → faults_of f ≡ 0 → TellSame d f → OneRun (Reads d) (Reads f)
-one_read d f cd cf same xs ys e g r s =
-    one_content d f cd cf same.0 xs ys e g (subst (λ o. ReadsBy o d xs e) same.1 r) (subst (λ o. ReadsBy o f ys g) same.2 s)
+one_read : (d f : DeviceTold) → TellSame d f → OneRun (ReadsWhole d) (ReadsWhole f)
+one_read d f same xs ys e g r s = one_content same.0 xs ys e g (subst (λ o. ReadsWholeBy o d xs e) same.1 r) (subst (λ o. ReadsWholeBy o f ys g) same.2 s)
 
 one_opens : (d f : DeviceTold) → faults_of d ≡ 0 → faults_of f ≡ 0 → (A B : Outcomes) (P Q : Type 0) → OneRun A B → OneRun (Opens d A P) (Opens f B Q)
-one_opens d f cd cf A B P Q h xs ys e g (inl r) (inl s) = h xs ys e g r.1 s.1
-one_opens d f cd cf A B P Q h xs ys e g (inr r) s = absurd (omega (arith, cd, r.0))
-one_opens d f cd cf A B P Q h xs ys e g (inl r) (inr s) = absurd (omega (arith, cf, s.0))
+one_opens d f cd cf A B P Q h xs ys e g (inl r) (inl s) = h xs ys e g r.2 s.2
+one_opens d f cd cf A B P Q h xs ys e g (inr r) s = absurd (omega (arith, cd, r.1))
+one_opens d f cd cf A B P Q h xs ys e g (inl r) (inr s) = absurd (omega (arith, cf, s.1))
 
 one_follows : (Begins : End → Type 0) (A B C D : Outcomes) (P Q : Type 0) → OneRun A C → OneRun B D → OneRun (Follows Begins A B P) (Follows Begins C D Q)
 one_follows Begins A B C D P Q f k xs ys e g (inl r) (inl s) = f xs ys e g r.0 s.0
@@ -59,7 +55,7 @@ pub one : (v w : ℕ → DeviceTold) → IsClean v → IsClean w → (n : Node) 
 one v w cv cw Nil t xs ys e g r s = (cc, cc)
 one v w cv cw (Emit l) t xs ys e g r s = (cc, cc)
 one v w cv cw (Raise c) t xs ys e g r s = (cc, cc)
-one v w cv cw (Read p) t xs ys e g r s = one_read (v p) (w p) (cv p) (cw p) t xs ys e g r s
+one v w cv cw (Read p) t xs ys e g r s = one_read (v p) (w p) t xs ys e g r s
 one v w cv cw (Weak' p q a) t xs ys e g r s = one_opens (v p) (w p) (cv p) (cw p) _ _ _ _ (one v w cv cw a t) xs ys e g r s
 one v w cv cw (Scope' q a) t xs ys e g r s = one v w cv cw a t xs ys e g r s
 one v w cv cw (Append' p a q b) t xs ys e g r s = one_follows _ _ _ _ _ _ _ (one v w cv cw a t.0) (one v w cv cw b t.1) xs ys e g r s

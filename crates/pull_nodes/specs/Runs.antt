@@ -1,5 +1,5 @@
 -- What a node may give and how it may end, over what the device of each place tells at the end.
-use Rattle.std.specs.Prelude.{◌≡◌, ◌⊎◌, ℕ, ◌<◌, ◌≤◌, ◌^◌, List, [], ◌++◌, map, take, length, Option, Some, None}
+use Rattle.std.specs.Prelude.{◌≡◌, ◌⊎◌, ℕ, ◌<◌, ◌≤◌, ◌^◌, true, List, [], ◌++◌, map, take, length, Option, Some, None, IfSome}
 use Rattle.chunk_core.specs.declared.code.Code.{Code}
 use Rattle.chunk_core.specs.declared.code.Code.TheVariants as code
 use Rattle.chunk_core.specs.Elements.{Element, Byte, elements}
@@ -14,29 +14,42 @@ use Rattle.pull_nodes.specs.declared.node.Node.TheVariants.{Nil, Emit, Raise, Re
 abbrev pub OrLeft : Outcomes → Outcomes
 OrLeft R ys e = R ys e ⊎ ((e ≡ Cut) × ((ys ≡ []) ⊎ ((more : List Element) × (g : End) × R (ys ++ more) g)))
 
--- a device with this content is read: to its end, to the limit, or to where a read failed
-abbrev pub ReadsContent : DeviceTold → List ℕ → Outcomes
-ReadsContent d c ys e =
+-- the first n bytes that a device gave: those of its content where that is told
+abbrev pub FirstBytes : Option (List ℕ) → ℕ → List Element → Type 0
+FirstBytes None n ys = (bytes : List ℕ) × (length bytes ≡ n) × (ys ≡ map Byte bytes)
+FirstBytes (Some c) n ys = ys ≡ map Byte (take n c)
+
+-- why a device is read no further: its end was met below the limit, and no read failed; the limit was reached, and no read failed; the one read failed; or the reading was left
+abbrev pub StopsReading : DeviceTold → End → Type 0
+StopsReading d Done = (d.ended ≡ true) × (d.at < 2 ^ 40) × (d.read_faults ≡ 0) × IfSome d.content (λ c. d.at ≡ length c)
+StopsReading d (Fault code.Endless) = (d.at ≡ 2 ^ 40) × (d.read_faults ≡ 0) × IfSome d.content (λ c. 2 ^ 40 ≤ length c)
+StopsReading d (Fault code.Read) = d.read_faults ≡ 1
+StopsReading d (Fault _) = ⊥
+StopsReading d Cut = Unit {0}
+
+-- a device is read: as many bytes came as its place says, and for one of these reasons no more
+abbrev pub Reads : DeviceTold → Outcomes
+Reads d ys e = FirstBytes d.content d.at ys × StopsReading d e
+
+-- a device with this content is read to its end, or to the limit
+abbrev pub ReadsContent : List ℕ → Outcomes
+ReadsContent c ys e =
     ((length c < 2 ^ 40) × (ys ≡ map Byte c) × (e ≡ Done))
     ⊎ ((2 ^ 40 ≤ length c) × (ys ≡ map Byte (take (2 ^ 40) c)) × (e ≡ Fault code.Endless))
-    ⊎ ((0 < d.read_faults) × (ys ≡ map Byte (take d.at c)) × (e ≡ Fault code.Read))
 
--- a device that tells no content is read: as many bytes as its place says, and a fault by its cause
-abbrev pub ReadsUntold : DeviceTold → Outcomes
-ReadsUntold d ys e =
-    (bytes : List ℕ) × (length bytes ≡ d.at) × (ys ≡ map Byte bytes)
-    × ((e ≡ Done) ⊎ ((d.at ≡ 2 ^ 40) × (e ≡ Fault code.Endless)) ⊎ ((0 < d.read_faults) × (e ≡ Fault code.Read)))
+abbrev pub ReadsWholeBy : Option (List ℕ) → DeviceTold → Outcomes
+ReadsWholeBy None d ys e = FirstBytes None d.at ys × (((d.at < 2 ^ 40) × (e ≡ Done)) ⊎ ((d.at ≡ 2 ^ 40) × (e ≡ Fault code.Endless)))
+ReadsWholeBy (Some c) d ys e = ReadsContent c ys e
 
-abbrev pub ReadsBy : Option (List ℕ) → DeviceTold → Outcomes
-ReadsBy None d = ReadsUntold d
-ReadsBy (Some c) d = ReadsContent d c
+-- a device of which no read fails is read whole; of one that tells no content as many bytes come as its place says
+abbrev pub ReadsWhole : DeviceTold → Outcomes
+ReadsWhole d = ReadsWholeBy d.content d
 
-abbrev pub Reads : DeviceTold → Outcomes
-Reads d = ReadsBy d.content d
-
--- a device is opened and then A runs, or its open failed and A, which never ran, did nothing
+-- a device is opened and then A runs, or its one open failed and A, which never ran, did nothing
 abbrev pub Opens : DeviceTold → Outcomes → Type 0 → Outcomes
-Opens d A Idle ys e = ((d.opens ≡ 1) × A ys e) ⊎ ((0 < d.open_faults) × (ys ≡ []) × (e ≡ Fault code.Open) × Idle)
+Opens d A Idle ys e =
+    ((d.opens ≡ 1) × (d.open_faults ≡ 0) × A ys e)
+    ⊎ ((d.opens ≡ 0) × (d.open_faults ≡ 1) × (ys ≡ []) × (e ≡ Fault code.Open) × Idle)
 
 -- the end is a fault
 abbrev pub IsFault : End → Type 0
@@ -89,23 +102,23 @@ IsIdle w (OnFault' _ a _ b) = IsIdle w a × IsIdle w b
 IsIdle w (Through' _ a q) = IsIdle w a
 IsIdle w (Take' n _ a) = IsIdle w a
 
--- what the node may give, where each of its parts may be left as Left says
-abbrev pub Gives : (Outcomes → Outcomes) → (ℕ → DeviceTold) → Node → Outcomes
-Gives Left w Nil ys e = (ys ≡ []) × (e ≡ Done)
-Gives Left w (Emit l) ys e = (ys ≡ elements l) × (e ≡ Done)
-Gives Left w (Raise c) ys e = (ys ≡ []) × (e ≡ Fault (code.Raised c))
-Gives Left w (Read p) ys e = Reads (w p) ys e
-Gives Left w (Weak' p _ a) ys e = Opens (w p) (Left (Gives Left w a)) (IsIdle w a) ys e
-Gives Left w (Scope' _ a) ys e = Left (Gives Left w a) ys e
-Gives Left w (Append' _ a _ b) ys e = Follows (λ g. g ≡ Done) (Left (Gives Left w a)) (Left (Gives Left w b)) (IsIdle w b) ys e
-Gives Left w (OnFault' _ a _ b) ys e = Follows IsFault (Left (Gives Left w a)) (Left (Gives Left w b)) (IsIdle w b) ys e
-Gives Left w (Through' _ a q) ys e = Piped (part_of q) (all_of q) (Left (Gives Left w a)) ys e
-Gives Left w (Take' n _ a) ys e = Taken n (Left (Gives Left w a)) ys e
+-- what the node may give, where each of its parts may be left as Left says and each device is read as Reading says
+abbrev pub Gives : (Outcomes → Outcomes) → (DeviceTold → Outcomes) → (ℕ → DeviceTold) → Node → Outcomes
+Gives Left Reading w Nil ys e = (ys ≡ []) × (e ≡ Done)
+Gives Left Reading w (Emit l) ys e = (ys ≡ elements l) × (e ≡ Done)
+Gives Left Reading w (Raise c) ys e = (ys ≡ []) × (e ≡ Fault (code.Raised c))
+Gives Left Reading w (Read p) ys e = Reading (w p) ys e
+Gives Left Reading w (Weak' p _ a) ys e = Opens (w p) (Left (Gives Left Reading w a)) (IsIdle w a) ys e
+Gives Left Reading w (Scope' _ a) ys e = Left (Gives Left Reading w a) ys e
+Gives Left Reading w (Append' _ a _ b) ys e = Follows (λ g. g ≡ Done) (Left (Gives Left Reading w a)) (Left (Gives Left Reading w b)) (IsIdle w b) ys e
+Gives Left Reading w (OnFault' _ a _ b) ys e = Follows IsFault (Left (Gives Left Reading w a)) (Left (Gives Left Reading w b)) (IsIdle w b) ys e
+Gives Left Reading w (Through' _ a q) ys e = Piped (part_of q) (all_of q) (Left (Gives Left Reading w a)) ys e
+Gives Left Reading w (Take' n _ a) ys e = Taken n (Left (Gives Left Reading w a)) ys e
 
 -- a run of the node; it and each of its parts may be left at any time
 abbrev pub IsRun : (ℕ → DeviceTold) → Node → Outcomes
-IsRun w n = OrLeft (Gives OrLeft w n)
+IsRun w n = OrLeft (Gives OrLeft Reads w n)
 
--- a run in which nothing is left
+-- a run in which nothing is left, and no read fails
 abbrev pub IsIdealRun : (ℕ → DeviceTold) → Node → Outcomes
-IsIdealRun w n = Gives (λ R. R) w n
+IsIdealRun w n = Gives (λ R. R) ReadsWhole w n

@@ -1,8 +1,9 @@
 -- What was done in a first stretch and in a second was done in both.
-use Rattle.std.specs.Prelude.{◌+◌, Bool, length, refl}
-use Rattle.std.proofs.Common.{inl, inr, ◌∙◌, subst, ⊎_elim}
+use Rattle.std.specs.Prelude.{ℕ, ◌+◌, Bool, length, refl}
+use Rattle.std.proofs.Common.{inl, inr, ◌∙◌, subst, sym, ⊎_elim}
 use Rattle.chunk_core.specs.declared.code.Exit.{Exit}
 use Rattle.device_port.specs.Device.{DeviceTold}
+use Rattle.pull_turns.specs.Around.{IsUntried}
 use Rattle.row_seat.specs.declared.view.View.{View}
 use Rattle.row_seat.specs.Views.{IsWithin}
 use Rattle.tree_laws.specs.Called.Called.{none}
@@ -10,8 +11,8 @@ use Rattle.tree_laws.proofs.Alone.{alone_same, alone_then}
 use Rattle.tree_laws.proofs.Follows.{called_then}
 use Rattle.pull_stepper.specs.declared.resources.Resources.{Resources}
 use Rattle.pull_stepper.specs.Held.{Finishes}
-use Rattle.pull_stepper.specs.Resources.{Later}
-use Rattle.pull_stepper.specs.Sites.{Since, Site}
+use Rattle.pull_stepper.specs.Resources.{Later, seen, site}
+use Rattle.pull_stepper.specs.Sites.{Since, Site, pay_of, told_by}
 
 module _ {V : Type 0} (told : V → DeviceTold) (ends : V → Exit → Bool → V → Type 0) where
   pub since_same : (x : Site V) → Since told ends x x
@@ -38,6 +39,10 @@ module _ {V : Type 0} (told : V → DeviceTold) (ends : V → Exit → Bool → 
     same = λ p. let s = a.same p in let t = b.same p in record { number = t.number ∙ s.number; place = t.place ∙ s.place; present = t.present ∙ s.present; content = t.content ∙ s.content };
     taken = λ p e. b.taken p (a.taken p e);
   }
+
+-- a device that waits was never asked
+pub waits_untried : {S V D : Type 0} (view : S → View V) (told : V → DeviceTold) (o : Resources S V V D) (p : ℕ) → (seen view told o).waits p → IsUntried ((seen view told o).told p)
+waits_untried view told o p w = subst (λ s. IsUntried (told_by told s (pay_of (site view o).tree p))) (sym w.1) (record { opens = w.2.opens; open_faults = w.2.open_faults })
 
 module _ {S V D : Type 0} (view : S → View V) (told : V → DeviceTold) (fits : S → D → Type 0) where
   -- nothing was done

@@ -15,7 +15,7 @@ pub struct Resources<S: RowSeat, V> {
 }
 
 impl<V: Device, S: RowSeat<Pay = Held<V>>> Outside for Resources<S, V> {
-    ghost use Rattle.pull_stepper.specs.Laws.{later_same, later_then};
+    ghost use Rattle.pull_stepper.specs.Laws.{later_same, later_then, waits_untried};
     ghost use Rattle.pull_stepper.specs.Resources.{Later, Stands, seen};
 
     type Desk = S::Desk;
@@ -27,6 +27,8 @@ impl<V: Device, S: RowSeat<Pay = Held<V>>> Outside for Resources<S, V> {
     ghost since = { Later S.view V.told S.fits };
 
     ghost held = { λ o d f. f.held };
+
+    ghost untried = { λ o d f p w. waits_untried S.view V.told o p w };
 
     ghost begin = { later_same S.view V.told S.fits };
 

@@ -8,7 +8,7 @@ use Rattle.device_port.specs.Device.{DeviceTold}
 use Rattle.pull_nodes.specs.declared.node.Node.{Node}
 use Rattle.pull_nodes.specs.declared.node.Node.TheVariants as node
 use Rattle.pull_nodes.specs.Shape.{places_of}
-use Rattle.pull_turns.specs.Around.{Around, Acquires, Refuses, Enters}
+use Rattle.pull_turns.specs.Around.{Acquires, Around, Enters, IsUntried, Refuses}
 use Rattle.pull_turns.specs.Piping.{Standing}
 use Rattle.pull_turns.specs.Rest.{CanStep}
 use Rattle.pull_turns.specs.Turned.{Turned}
@@ -55,15 +55,16 @@ module _ {F : Type 0} (P : Standing F) where
   read_enter a s n p h = turned_same P a s n _ _ _ (λ p i. i) (omega arith) (omega arith) (omega arith)
       (λ g. (h.ready.0, h.ready.1, omega arith, none_left (a.told p).content, elim h.ready.2 [ inl i ↦ absurd i | inr i ↦ i ])) (λ g. tt) (λ k i. i) (λ g. inl (omega arith))
       (cause_none a.told a.told _ _ quiet_goes_on)
-      (λ w o. by_left (reads_start (w p).content (w p)) (some_run (w p).content 0 (w p) (omega arith)))
+      (λ w o. by_left (reads_start (w p)) (some_run (w p) 0 (omega arith)))
 
-  pub weak_enter : (a b : Around) (s n p : ℕ) (q : _) (x : Node) → CanStep P a s (Start (node.Weak' p q x)) → Acquires a s p b
+  pub weak_enter : (a b : Around) (s n p : ℕ) (q : _) (x : Node) → IsUntried (a.told p) → CanStep P a s (Start (node.Weak' p q x)) → Acquires a s p b
       → Turned P a b s n (Start (node.Weak' p q x)) (Start x) turn.Quiet
-  weak_enter a b s n p q x h k =
+  weak_enter a b s n p q x untried h k =
       let opens : (b.told p).opens ≡ 1 = ap (λ (d : DeviceTold). d.opens) k.told in
       let at : (b.told p).at ≡ (a.told p).at = ap (λ (d : DeviceTold). d.at) k.told in
+      let faults : (b.told p).open_faults ≡ (a.told p).open_faults = ap (λ (d : DeviceTold). d.open_faults) k.told in
       record {
-        moved = moved_place a b s p (Start (node.Weak' p q x)) (inl refl) (k.keeps s) (record { content = ap (λ (d : DeviceTold). d.content) k.told; at = omega (arith, at); opens = λ o. opens });
+        moved = moved_place a b s p (Start (node.Weak' p q x)) (inl refl) (k.keeps s) (record { content = ap (λ (d : DeviceTold). d.content) k.told; at = omega (arith, at); opens = λ o. (opens, faults) });
         once = once_same a.told b.told n
             (field_same (λ d. d.at) b.told a.told p at (λ r m. ap (λ (d : DeviceTold). d.at) ((k.keeps s).told r m)))
             (field_same (λ d. d.read_faults) b.told a.told p (ap (λ (d : DeviceTold). d.read_faults) k.told) (λ r m. ap (λ (d : DeviceTold). d.read_faults) ((k.keeps s).told r m)));
@@ -75,16 +76,16 @@ module _ {F : Type 0} (P : Standing F) where
         kinds = λ k i. i;
         caused = inl (omega arith);
         cause = cause_none a.told b.told _ _ quiet_goes_on;
-        gave = λ w e. record { gives = λ ys g i. inl (inl ((e.goes p).opens opens, i)) };
+        gave = λ w e. record { gives = λ ys g i. let o = (e.goes p).opens opens in inl (inl (o.0, o.1 ∙ (faults ∙ untried.open_faults), i)) };
       }
 
-  pub weak_refused : (a b : Around) (s n p : ℕ) (q : _) (x : Node) → Refuses a p b → Turned P a b s n (Start (node.Weak' p q x)) Nil (turn.Fault code.Open)
-  weak_refused a b s n p q x k =
+  pub weak_refused : (a b : Around) (s n p : ℕ) (q : _) (x : Node) → IsUntried (a.told p) → Refuses a p b → Turned P a b s n (Start (node.Weak' p q x)) Nil (turn.Fault code.Open)
+  weak_refused a b s n p q x untried k =
       let opens : (b.told p).opens ≡ (a.told p).opens = ap (λ (d : DeviceTold). d.opens) k.told in
       let at : (b.told p).at ≡ (a.told p).at = ap (λ (d : DeviceTold). d.at) k.told in
       let risen : (b.told p).open_faults ≡ (a.told p).open_faults + 1 = ap (λ (d : DeviceTold). d.open_faults) k.told in
       record {
-        moved = moved_place a b s p (Start (node.Weak' p q x)) (inl refl) (k.keeps s) (record { content = ap (λ (d : DeviceTold). d.content) k.told; at = omega (arith, at); opens = λ o. opens ∙ o });
+        moved = moved_place a b s p (Start (node.Weak' p q x)) (inl refl) (k.keeps s) (record { content = ap (λ (d : DeviceTold). d.content) k.told; at = omega (arith, at); opens = λ o. absurd (omega (arith, o, untried.opens)) });
         once = once_same a.told b.told n
             (field_same (λ d. d.at) b.told a.told p at (λ r m. ap (λ (d : DeviceTold). d.at) ((k.keeps s).told r m)))
             (field_same (λ d. d.read_faults) b.told a.told p (ap (λ (d : DeviceTold). d.read_faults) k.told) (λ r m. ap (λ (d : DeviceTold). d.read_faults) ((k.keeps s).told r m)));
@@ -96,7 +97,9 @@ module _ {F : Type 0} (P : Standing F) where
         kinds = λ k i. tt;
         caused = tt;
         cause = record { open_fault = λ e. (p, inl refl, omega (arith, risen)); read_fault = λ e. absurd (open_is_no_read e) };
-        gave = λ w o. inl (inr (omega (arith, risen, ap (λ (d : DeviceTold). d.open_faults) (o.over p (inl refl))), refl, refl, idle w x));
+        gave = λ w o.
+            let is = o.over p (inl refl) in
+            inl (inr (ap (λ (d : DeviceTold). d.opens) is ∙ (opens ∙ untried.opens), omega (arith, risen, ap (λ (d : DeviceTold). d.open_faults) is, untried.open_faults), refl, refl, idle w x));
       }
 
   pub scope_enter : (a b : Around) (s n c : ℕ) (q r : _) (x : Node) → CanStep P a s (Start (node.Scope' q x)) → Enters a s c b

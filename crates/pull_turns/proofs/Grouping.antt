@@ -5,7 +5,7 @@ use Rattle.chunk_core.specs.declared.load.Load.{Load}
 use Rattle.chunk_core.specs.Elements.{Element, LoadKind, elements}
 use Rattle.chunk_core.specs.Outcomes.{End, Outcomes}
 use Rattle.device_port.specs.Device.{DeviceTold}
-use Rattle.pull_nodes.specs.Runs.{Gives, OrLeft}
+use Rattle.pull_nodes.specs.Runs.{Gives, OrLeft, Reads}
 use Rattle.pull_nodes.specs.declared.node.Node.{Node}
 use Rattle.pull_nodes.specs.declared.node.Node.TheVariants as node
 use Rattle.pull_nodes.specs.declared.pipe.Pipe.{Pipe}
@@ -123,7 +123,7 @@ module _ {F : Type 0} (P : Standing F) (a : Around) (s n : ℕ) (p r : Box (Unit
     kinds = λ j i. (tt, h.kinds j i);
     caused = inl (omega arith);
     cause = h.cause;
-    gave = λ w e. left_once (IsRunOfRest P w (Through' r (Start x) q)) (Gives OrLeft w (node.Through' p x pipe)) (h.gave w (record { over = e.over; goes = e.goes }));
+    gave = λ w e. left_once (IsRunOfRest P w (Through' r (Start x) q)) (Gives OrLeft Reads w (node.Through' p x pipe)) (h.gave w (record { over = e.over; goes = e.goes }));
   }
 
   pub groups_entered : (o : Option ℕ) (y : Rest F) → IfSome o (λ k. 0 < k) → IsInGroups o (Through' r (Start x) q) y → Turned P a a s n (Start (node.Through' p x pipe)) (Through' r (Start x) q) turn.Quiet

@@ -8,15 +8,15 @@ use Rattle.pull_turns.specs.Around.{Around, Goes, Keeps, Acquires, gist}
 use Rattle.pull_turns.specs.Rest.{IsIn, IsAsked, IsFresh, IsHeldBy, NoPlace}
 
 pub goes_same : (d : DeviceTold) → Goes d d
-goes_same d = record { content = refl; at = omega arith; opens = λ o. o }
+goes_same d = record { content = refl; at = omega arith; opens = λ o. (o, refl) }
 
 pub goes_gist : (d e : DeviceTold) → gist e ≡ gist d → Goes d e
 goes_gist d e h =
     let at : e.at ≡ d.at = ap (λ (x : DeviceTold). x.at) h in
-    record { content = ap (λ (x : DeviceTold). x.content) h; at = omega (arith, at); opens = λ o. ap (λ (x : DeviceTold). x.opens) h ∙ o }
+    record { content = ap (λ (x : DeviceTold). x.content) h; at = omega (arith, at); opens = λ o. (ap (λ (x : DeviceTold). x.opens) h ∙ o, ap (λ (x : DeviceTold). x.open_faults) h) }
 
 pub goes_on : (d e f : DeviceTold) → Goes d e → Goes e f → Goes d f
-goes_on d e f h k = record { content = k.content ∙ h.content; at = omega (arith, h.at, k.at); opens = λ o. k.opens (h.opens o) }
+goes_on d e f h k = record { content = k.content ∙ h.content; at = omega (arith, h.at, k.at); opens = λ o. let i = h.opens o in let j = k.opens i.0 in (j.0, j.1 ∙ i.1) }
 
 pub keeps_same : (a : Around) (T : ℕ → Type 0) (s : ℕ) → Keeps a T s a
 keeps_same a T s = record { told = λ q n. refl; waits = λ q n h. h; holds = λ q k n l h. h; opened = λ k l h. h }

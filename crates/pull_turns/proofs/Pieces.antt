@@ -1,21 +1,21 @@
 -- The turn of a read.
-use Rattle.std.proofs.Common.{◌≡◌, ◌⊎◌, inl, inr, ℕ, zero, suc, ◌+◌, ◌-◌, ◌^◌, ◌<◌, ◌≤◌, List, ◌++◌, [], ◌∷◌, length, take, drop, map, refl, sym, ◌∙◌, ap, subst, ⊎_elim, arith, length-append, Option, None, Some, IfSome}
+use Rattle.std.proofs.Common.{◌≡◌, ◌⊎◌, true, inl, inr, ℕ, zero, suc, ◌+◌, ◌-◌, ◌^◌, ◌<◌, ◌≤◌, List, ◌++◌, [], ◌∷◌, length, take, drop, map, refl, sym, ◌∙◌, ap, subst, ⊎_elim, arith, length-append, Option, None, Some, IfSome}
 use Rattle.std.proofs.lemmas.Bool.{cases_lt}
 use Rattle.std.proofs.lemmas.List.{length-take, length-drop, length-map, take-append-drop, take-take, drop-take, drop-drop, drop_all, map-append}
 use Rattle.chunk_core.specs.declared.code.Code.TheVariants as code
 use Rattle.chunk_core.specs.Elements.{Element, Byte, elements}
-use Rattle.chunk_core.specs.Outcomes.{Done, Fault}
+use Rattle.chunk_core.specs.Outcomes.{Cut, Done, Fault}
 use Rattle.device_port.specs.Device.{DeviceTold}
-use Rattle.pull_nodes.specs.Runs.{ReadsBy}
+use Rattle.pull_nodes.specs.Runs.{FirstBytes, Reads}
 use Rattle.pull_turns.specs.Around.{Around}
 use Rattle.chunk_core.specs.Elements.LoadKind.{Bytes}
 use Rattle.chunk_core.specs.Elements.{kind_of, LoadKind}
 use Rattle.chunk_core.specs.declared.load.Load.{Load}
 use Rattle.chunk_core.specs.declared.load.Load.TheVariants as load
 use Rattle.pull_turns.specs.Piping.{Standing}
-use Rattle.pull_turns.specs.Rest.{IsReady, ReadsFromBy}
+use Rattle.pull_turns.specs.Rest.{BytesFrom, IsReady, ReadsFrom}
 use Rattle.pull_turns.specs.Moves.{IsPiece, ReadsPiece, ReadsPlace}
-use Rattle.pull_turns.specs.Turned.{Leads, Turned, Moved, HasCause, Gave, GivesKind, GoesOn, IsCaused, IsQuiet}
+use Rattle.pull_turns.specs.Turned.{Leads, Turned, Moved, HasCause, Gave, GivesKind, GoesOn, IsCaused}
 use Rattle.pull_turns.specs.declared.rest.Rest.TheVariants.{Read}
 use Rattle.pull_turns.specs.declared.turn.Turn.{Turn}
 use Rattle.pull_turns.specs.declared.turn.Turn.TheVariants as turn
@@ -27,29 +27,24 @@ some_list : (n : ℕ) → (bytes : List ℕ) × (length bytes ≡ n)
 some_list zero = ([], refl)
 some_list (suc n) = let more = some_list n in (0 ∷ more.0, omega (arith, more.1))
 
-pub some_run : (o : Option (List ℕ)) (from : ℕ) (d : DeviceTold) → from ≤ d.at → HasRun (ReadsFromBy o from d)
-some_run None from d le = let more = some_list (d.at - from) in (map Byte more.0, Done, (more.0, omega (arith, more.1, le), refl, inl refl))
-some_run (Some c) from d le =
-    ⊎_elim
-    (λ (small : length c < 2 ^ 40). (map Byte (drop from c), Done, inl (small, refl, refl)))
-    (λ (large : 2 ^ 40 ≤ length c). (map Byte (drop from (take (2 ^ 40) c)), Fault code.Endless, inr (inl (large, refl, refl))))
-    (cases_lt (length c) (2 ^ 40))
+some_bytes : (o : Option (List ℕ)) (from n : ℕ) → from ≤ n → (ys : List Element) × BytesFrom o from n ys
+some_bytes None from n le = let more = some_list (n - from) in (map Byte more.0, (more.0, omega (arith, more.1, le), refl))
+some_bytes (Some c) from n le = (map Byte (drop from (take n c)), refl)
+
+-- it may be left where it stands
+pub some_run : (d : DeviceTold) (from : ℕ) → from ≤ d.at → HasRun (ReadsFrom from d)
+some_run d from le = let some = some_bytes d.content from d.at le in (some.0, Cut, (some.1, tt))
 
 drop_none : (xs : List ℕ) → drop 0 xs ≡ xs
 drop_none [] = refl
 drop_none (x ∷ xs) = refl
 
-pub reads_start : (o : Option (List ℕ)) (d : DeviceTold) → Leads [] (ReadsFromBy o 0 d) (ReadsBy o d)
-reads_start None d = record { gives = λ ys e h. (h.0, omega (arith, h.1), h.2, h.3) }
-reads_start (Some c) d = record {
-  gives = λ ys e. elim [
-    | inl h ↦ inl (h.0, h.1 ∙ ap (λ xs. map Byte xs) (drop_none c), h.2)
-    | inr h ↦ inr (elim h [
-      | inl i ↦ inl (i.0, i.1 ∙ ap (λ xs. map Byte xs) (drop_none (take (2 ^ 40) c)), i.2)
-      | inr i ↦ inr (i.0, i.1 ∙ ap (λ xs. map Byte xs) (drop_none (take d.at c)), i.2)
-    ])
-  ];
-}
+from_start : (o : Option (List ℕ)) (n : ℕ) (ys : List Element) → BytesFrom o 0 n ys → FirstBytes o n ys
+from_start None n ys h = (h.0, omega (arith, h.1), h.2)
+from_start (Some c) n ys h = h ∙ ap (λ xs. map Byte xs) (drop_none (take n c))
+
+pub reads_start : (d : DeviceTold) → Leads [] (ReadsFrom 0 d) (Reads d)
+reads_start d = record { gives = λ ys e h. (from_start d.content d.at ys h.0, h.1) }
 
 -- a piece of what a list has from a place on
 cut : (c : List ℕ) (from m : ℕ) → drop from c ≡ take m (drop from c) ++ drop (from + m) c
@@ -77,41 +72,41 @@ joined bytes more ys e = ap (λ zs. map Byte bytes ++ zs) e ∙ sym (map-append 
 behind : (bytes : List ℕ) (xs ys zs : List Element) → ys ≡ xs → zs ≡ map Byte bytes ++ xs → map Byte bytes ++ ys ≡ zs
 behind bytes xs ys zs e f = ap (λ us. map Byte bytes ++ us) e ∙ sym f
 
-reads_lead : (o : Option (List ℕ)) (d : DeviceTold) (from to : ℕ) (bytes : List ℕ) → to ≡ from + length bytes → to ≤ 2 ^ 40 → to ≤ d.at → IsPiece o from bytes
-    → Leads (map Byte bytes) (ReadsFromBy o to d) (ReadsFromBy o from d)
-reads_lead None d from to bytes t m l p = record {
-  gives = λ ys e h. (bytes ++ h.0, omega (arith, t, h.1, length-append bytes h.0), joined bytes h.0 ys h.2, h.3);
-}
-reads_lead (Some c) d from to bytes t m l p = record {
-  gives = λ ys e. elim [
-    | inl h ↦ inl (h.0, behind bytes _ ys _ h.1 (cut_all c from to bytes t p), h.2)
-    | inr h ↦ inr (elim h [
-      | inl i ↦ inl (i.0, behind bytes _ ys _ i.1 (cut_front c (2 ^ 40) from to bytes t m p), i.2)
-      | inr i ↦ inr (i.0, behind bytes _ ys _ i.1 (cut_front c d.at from to bytes t l p), i.2)
-    ])
-  ];
-}
+bytes_lead : (o : Option (List ℕ)) (n from to : ℕ) (bytes : List ℕ) → to ≡ from + length bytes → to ≤ n → IsPiece o from bytes → (ys : List Element) → BytesFrom o to n ys → BytesFrom o from n (map Byte bytes ++ ys)
+bytes_lead None n from to bytes t l p ys h = (bytes ++ h.0, omega (arith, t, h.1, length-append bytes h.0), joined bytes h.0 ys h.2)
+bytes_lead (Some c) n from to bytes t l p ys h = behind bytes _ ys _ h (cut_front c n from to bytes t l p)
+
+reads_lead : (d : DeviceTold) (from to : ℕ) (bytes : List ℕ) → to ≡ from + length bytes → to ≤ d.at → IsPiece d.content from bytes → Leads (map Byte bytes) (ReadsFrom to d) (ReadsFrom from d)
+reads_lead d from to bytes t l p = record { gives = λ ys e h. (bytes_lead d.content d.at from to bytes t l p ys h.0, h.1) }
 
 -- a piece is no longer than what is left
 piece_fits : (o : Option (List ℕ)) (from to : ℕ) (bytes : List ℕ) → 0 < length bytes → to ≡ from + length bytes → IsPiece o from bytes → IfSome o (λ c. to ≤ length c)
 piece_fits None from to bytes pos t p = tt
 piece_fits (Some c) from to bytes pos t p = omega (arith, ap length p, length-take (length bytes) (drop from c), length-drop from c)
 
-done_reads : (o : Option (List ℕ)) (d : DeviceTold) (from : ℕ) → d.at ≡ from → from < 2 ^ 40 → IfSome o (λ c. length c ≤ from) → ReadsFromBy o from d [] Done
-done_reads None d from at m h = ([], omega (arith, at), refl, inl refl)
-done_reads (Some c) d from at m h = inl (omega (arith, h, m), sym (ap (λ xs. map Byte xs) (drop_all from c h)), refl)
+no_bytes : (o : Option (List ℕ)) (from n : ℕ) → n ≡ from → BytesFrom o from n []
+no_bytes None from n at = ([], omega (arith, at), refl)
+no_bytes (Some c) from n at =
+    let le : length (take n c) ≤ from = omega (arith, at, length-take n c) in
+    sym (ap (λ xs. map Byte xs) (drop_all from (take n c) le))
 
-endless_reads : (o : Option (List ℕ)) (d : DeviceTold) (from : ℕ) → d.at ≡ from → from ≡ 2 ^ 40 → IfSome o (λ c. from ≤ length c) → ReadsFromBy o from d [] (Fault code.Endless)
-endless_reads None d from at m h = ([], omega (arith, at), refl, inr (inl (at ∙ m, refl)))
-endless_reads (Some c) d from at m h =
-    let le : length (take (2 ^ 40) c) ≤ from = omega (arith, m, length-take (2 ^ 40) c) in
-    inr (inl (omega (arith, h, m), sym (ap (λ xs. map Byte xs) (drop_all from (take (2 ^ 40) c) le)), refl))
+-- a place that is not before the end and not behind it
+just_at : (o : Option (List ℕ)) (from n : ℕ) → n ≡ from → IfSome o (λ c. length c ≤ from) → IfSome o (λ c. from ≤ length c) → IfSome o (λ c. n ≡ length c)
+just_at None from n at h i = tt
+just_at (Some c) from n at h i = omega (arith, at, h, i)
 
-fault_reads : (o : Option (List ℕ)) (d : DeviceTold) (from : ℕ) → d.at ≡ from → 0 < d.read_faults → ReadsFromBy o from d [] (Fault code.Read)
-fault_reads None d from at h = ([], omega (arith, at), refl, inr (inr (h, refl)))
-fault_reads (Some c) d from at h =
-    let le : length (take d.at c) ≤ from = omega (arith, at, length-take d.at c) in
-    inr (inr (h, sym (ap (λ xs. map Byte xs) (drop_all from (take d.at c) le)), refl))
+far_enough : (o : Option (List ℕ)) (from : ℕ) → from ≡ 2 ^ 40 → IfSome o (λ c. from ≤ length c) → IfSome o (λ c. 2 ^ 40 ≤ length c)
+far_enough None from at h = tt
+far_enough (Some c) from at h = omega (arith, at, h)
+
+done_reads : (d : DeviceTold) (from : ℕ) → d.at ≡ from → from < 2 ^ 40 → d.ended ≡ true → d.read_faults ≡ 0 → IfSome d.content (λ c. length c ≤ from) → IfSome d.content (λ c. from ≤ length c) → ReadsFrom from d [] Done
+done_reads d from at m ended faults h i = (no_bytes d.content from d.at at, (ended, omega (arith, at, m), faults, just_at d.content from d.at at h i))
+
+endless_reads : (d : DeviceTold) (from : ℕ) → d.at ≡ from → from ≡ 2 ^ 40 → d.read_faults ≡ 0 → IfSome d.content (λ c. from ≤ length c) → ReadsFrom from d [] (Fault code.Endless)
+endless_reads d from at m faults h = (no_bytes d.content from d.at at, (at ∙ m, faults, far_enough d.content from m h))
+
+fault_reads : (d : DeviceTold) (from : ℕ) → d.at ≡ from → d.read_faults ≡ 1 → ReadsFrom from d [] (Fault code.Read)
+fault_reads d from at faults = (no_bytes d.content from d.at at, faults)
 
 endless_is_no_open : turn.Fault code.Endless ≡ turn.Fault code.Open → ⊥
 endless_is_no_open e = cc
@@ -123,7 +118,7 @@ read_is_no_open : turn.Fault code.Read ≡ turn.Fault code.Open → ⊥
 read_is_no_open e = cc
 
 pub read_moved : {F : Type 0} (a b : Around) (s p from : ℕ) → ReadsPlace a b p → Moved {F = F} a b s (Read p from)
-read_moved a b s p from h = moved_place a b s p (Read p from) refl (h.keeps s) (record { content = h.content; at = h.later; opens = λ o. h.opens ∙ o })
+read_moved a b s p from h = moved_place a b s p (Read p from) refl (h.keeps s) (record { content = h.content; at = h.later; opens = λ o. (h.opens ∙ o, h.open_faults) })
 
 -- a load of some bytes is of the kind of bytes
 bytes_kind : (l : Load) (bytes : List ℕ) → elements l ≡ map Byte bytes → 0 < length bytes → Bytes ≡ kind_of l
@@ -139,10 +134,10 @@ module _ {F : Type 0} (P : Standing F) where
   -- all but the outcome
   read_turned : (a b : Around) (s n p from to : ℕ) (t : Turn) → ReadsPlace a b p
       → ((((b.told p).at ≤ (a.told p).at + n) × ((b.told p).read_faults ≡ (a.told p).read_faults)) ⊎ (((b.told p).at ≡ (a.told p).at) × ((b.told p).read_faults ≡ (a.told p).read_faults + 1)))
-      → (GoesOn t → IsReady {F = F} b s (Read p to)) → ((k : LoadKind) → k ≡ Bytes → GivesKind P k (Read p to) t) → (GoesOn t → IsCaused P a.told b.told (Read p from) (Read p to)) → (IsQuiet t → ⊥)
+      → (GoesOn t → IsReady {F = F} b s (Read p to)) → ((k : LoadKind) → k ≡ Bytes → GivesKind P k (Read p to) t) → (GoesOn t → IsCaused P a.told b.told (Read p from) (Read p to))
       → HasCause {F = F} a.told b.told (Read p from) t → Gave P b.told (Read p from) (Read p to) t
       → Turned P a b s n (Read p from) (Read p to) t
-  read_turned a b s n p from to t h read ready kinds caused never cause gave = record {
+  read_turned a b s n p from to t h read ready kinds caused cause gave = record {
     moved = read_moved a b s p from h;
     once = record { place = p; others = λ q m. (ap (λ (d : DeviceTold). d.at) ((h.keeps s).told q m), ap (λ (d : DeviceTold). d.read_faults) ((h.keeps s).told q m)); read = read };
     live = λ q i. i;
@@ -165,37 +160,41 @@ module _ {F : Type 0} (P : Standing F) where
       (inl (omega (arith, r.0, h.piece.6, h.piece.4, h.piece.3), h.piece.7))
       (λ g. (h.piece.6, h.piece.7 ∙ r.1, h.piece.5, piece_fits (b.told p).content from to bytes h.piece.2 h.piece.4 piece, (r.4.0, r.4.1, h.piece.9 r.4.0 r.4.2)))
       (λ k e. (sym (bytes_kind l bytes h.piece.1 h.piece.2) ∙ sym e, e))
-      (λ g. inr (inl (p, refl, omega (arith, r.0, h.piece.6, h.piece.4, h.piece.2)))) (λ i. i)
+      (λ g. inr (inl (p, refl, omega (arith, r.0, h.piece.6, h.piece.4, h.piece.2))))
       (cause_none a.told b.told (Read p from) (turn.Chunk l) (chunk_goes_on l)) (
         some,
         λ w e.
             let mine : IsPiece (w p).content from bytes = subst (λ o. IsPiece o from bytes) (sym (e.goes p).content) piece in
             let far : to ≤ (w p).at = omega (arith, (e.goes p).at, h.piece.6) in
-            rw h.piece.1 (by_left (reads_lead (w p).content (w p) from to bytes h.piece.4 h.piece.5 far mine) (some_run (w p).content to (w p) far)),
+            rw h.piece.1 (by_left (reads_lead (w p) from to bytes h.piece.4 far mine) (some_run (w p) to far)),
       )
   read_step a b s n p from to turn.Quiet r h = absurd h.piece
   read_step a b s n p from to turn.Done r h =
       read_turned a b s n p from to turn.Done h.place
       (inl (omega (arith, r.0, h.piece.2), h.piece.3))
-      (λ g. absurd g) (λ k e. tt) (λ g. absurd g) (λ i. i)
+      (λ g. absurd g) (λ k e. tt) (λ g. absurd g)
       (cause_none a.told b.told (Read p from) turn.Done done_is_no_fault)
       (λ w o.
-      let end : IfSome (w p).content (λ c. length c ≤ from) = subst (λ c. IfSome c (λ d. length d ≤ from)) (sym ((o.goes p).content ∙ h.place.content)) h.piece.4 in
-      inl (done_reads (w p).content (w p) from (ap (λ (d : DeviceTold). d.at) (o.over p refl) ∙ h.piece.2) h.piece.1 end))
+      let is = o.over p refl in
+      let same : (w p).content ≡ (a.told p).content = (o.goes p).content ∙ h.place.content in
+      inl (done_reads (w p) from (ap (λ (d : DeviceTold). d.at) is ∙ h.piece.2) h.piece.1 (ap (λ (d : DeviceTold). d.ended) is ∙ h.piece.5) (ap (λ (d : DeviceTold). d.read_faults) is ∙ (h.piece.3 ∙ r.1))
+      (subst (λ c. IfSome c (λ d. length d ≤ from)) (sym same) h.piece.4) (subst (λ c. IfSome c (λ d. from ≤ length d)) (sym same) r.3)))
   read_step a b s n p from to (turn.Fault code.Endless) r h =
       read_turned a b s n p from to (turn.Fault code.Endless) h.place
       (inl (omega (arith, r.0, h.piece.2), h.piece.3))
-      (λ g. absurd g) (λ k e. tt) (λ g. absurd g) (λ i. i)
+      (λ g. absurd g) (λ k e. tt) (λ g. absurd g)
       (record { open_fault = λ e. absurd (endless_is_no_open e); read_fault = λ e. absurd (endless_is_no_read e) })
       (λ w o.
       let long : IfSome (w p).content (λ c. from ≤ length c) = subst (λ c. IfSome c (λ d. from ≤ length d)) (sym ((o.goes p).content ∙ h.place.content)) r.3 in
-      inl (endless_reads (w p).content (w p) from (ap (λ (d : DeviceTold). d.at) (o.over p refl) ∙ h.piece.2) (omega (arith, r.2, h.piece.1)) long))
+      let is = o.over p refl in
+      inl (endless_reads (w p) from (ap (λ (d : DeviceTold). d.at) is ∙ h.piece.2) (omega (arith, r.2, h.piece.1)) (ap (λ (d : DeviceTold). d.read_faults) is ∙ (h.piece.3 ∙ r.1)) long))
   read_step a b s n p from to (turn.Fault code.Read) r h =
       read_turned a b s n p from to (turn.Fault code.Read) h.place
       (inr (h.piece.1 ∙ sym r.0, h.piece.2))
-      (λ g. absurd g) (λ k e. tt) (λ g. absurd g) (λ i. i)
+      (λ g. absurd g) (λ k e. tt) (λ g. absurd g)
       (record { open_fault = λ e. absurd (read_is_no_open e); read_fault = λ e. (p, refl, omega (arith, h.piece.2)) })
       (λ w o.
-      let risen : 0 < (w p).read_faults = omega (arith, ap (λ (d : DeviceTold). d.read_faults) (o.over p refl), h.piece.2) in
-      inl (fault_reads (w p).content (w p) from (ap (λ (d : DeviceTold). d.at) (o.over p refl) ∙ h.piece.1) risen))
+      let is = o.over p refl in
+      let once : (w p).read_faults ≡ 1 = omega (arith, ap (λ (d : DeviceTold). d.read_faults) is, h.piece.2, r.1) in
+      inl (fault_reads (w p) from (ap (λ (d : DeviceTold). d.at) is ∙ h.piece.1) once))
   read_step a b s n p from to (turn.Fault c) r h = absurd h.piece

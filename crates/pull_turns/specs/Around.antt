@@ -24,7 +24,12 @@ gist d = record d { is_open = false; closes = 0; close_faults = 0; exit = None }
 pub record Goes (d e : DeviceTold) : Type 0 where
   pub content : e.content ≡ d.content
   pub at : d.at ≤ e.at
-  pub opens : d.opens ≡ 1 → e.opens ≡ 1
+  pub opens : d.opens ≡ 1 → (e.opens ≡ 1) × (e.open_faults ≡ d.open_faults)
+
+-- nobody tried to open the device
+pub record IsUntried (d : DeviceTold) : Type 0 where
+  pub opens : d.opens ≡ 0
+  pub open_faults : d.open_faults ≡ 0
 
 -- the place is held by a scope
 abbrev pub IsHeld : Around → ℕ → Type 0

@@ -79,7 +79,7 @@ PieceTurn before now n p from to (turn.Chunk l) =
 PieceTurn before now n p from to turn.Quiet = ⊥
 PieceTurn before now n p from to turn.Done =
     (to ≡ from) × (from < 2 ^ 40) × ((now.told p).at ≡ from) × ((now.told p).read_faults ≡ (before.told p).read_faults)
-    × IfSome (before.told p).content (λ c. length c ≤ from)
+    × IfSome (before.told p).content (λ c. length c ≤ from) × ((now.told p).ended ≡ true)
 PieceTurn before now n p from to (turn.Fault code.Endless) =
     (to ≡ from) × (2 ^ 40 ≤ from) × ((now.told p).at ≡ from) × ((now.told p).read_faults ≡ (before.told p).read_faults)
 PieceTurn before now n p from to (turn.Fault code.Read) =
@@ -92,6 +92,7 @@ pub record ReadsPlace (before now : Around) (p : ℕ) : Type 0 where
   pub affords : Affords before now
   pub content : (now.told p).content ≡ (before.told p).content
   pub opens : (now.told p).opens ≡ (before.told p).opens
+  pub open_faults : (now.told p).open_faults ≡ (before.told p).open_faults
   pub later : (before.told p).at ≤ (now.told p).at
 
 -- a read was made

@@ -1,14 +1,13 @@
 -- What is left of a node.
 use Rattle.std.specs.Prelude.{◌≡◌, ◌⊎◌, ℕ, ◌+◌, ◌*◌, ◌<◌, ◌≤◌, ◌^◌, List, [], drop, map, take, length, Option, Some, None, IfSome}
 use Rattle.chunk_core.specs.declared.code.Code.{Code}
-use Rattle.chunk_core.specs.declared.code.Code.TheVariants as code
 use Rattle.chunk_core.specs.Elements.{Byte, Element, LoadKind}
 use Rattle.chunk_core.specs.Feed.{Meaning}
 use Rattle.chunk_core.specs.Outcomes.{Done, Fault, Outcomes}
 use Rattle.device_port.specs.Device.{DeviceTold}
 use Rattle.pull_nodes.specs.declared.node.Node.{Node}
 use Rattle.pull_nodes.specs.declared.node.Node.TheVariants as node
-use Rattle.pull_nodes.specs.Runs.{OrLeft, Follows, Taken, IsFault, IsIdle, IsRun, end_by_fault}
+use Rattle.pull_nodes.specs.Runs.{OrLeft, Follows, Taken, IsFault, IsIdle, IsRun, StopsReading, end_by_fault}
 use Rattle.pull_nodes.specs.Shape.{node_count, places_of, scope_count}
 use Rattle.pull_turns.specs.Around.{Around}
 use Rattle.pull_turns.specs.Groups.{HasElements, HasNoGroups, waiting}
@@ -16,26 +15,14 @@ use Rattle.pull_turns.specs.Piping.{Standing, HasKind, PipesFit, PipedOn, Behind
 use Rattle.pull_turns.specs.declared.rest.Rest.{Rest}
 use Rattle.pull_turns.specs.declared.rest.Rest.TheVariants.{Nil, Start, Read, Within', Append', OnFault', Through', Finishing, Faulty, Groups', Take'}
 
--- the bytes of this content from a place on: to its end, to the limit, or to where a read failed
-abbrev pub ContentFrom : ℕ → DeviceTold → List ℕ → Outcomes
-ContentFrom from d c ys e =
-    ((length c < 2 ^ 40) × (ys ≡ map Byte (drop from c)) × (e ≡ Done))
-    ⊎ ((2 ^ 40 ≤ length c) × (ys ≡ map Byte (drop from (take (2 ^ 40) c))) × (e ≡ Fault code.Endless))
-    ⊎ ((0 < d.read_faults) × (ys ≡ map Byte (drop from (take d.at c))) × (e ≡ Fault code.Read))
-
--- a device that tells no content, from a place on: as many bytes as its place says
-abbrev pub UntoldFrom : ℕ → DeviceTold → Outcomes
-UntoldFrom from d ys e =
-    (bytes : List ℕ) × (from + length bytes ≡ d.at) × (ys ≡ map Byte bytes)
-    × ((e ≡ Done) ⊎ ((d.at ≡ 2 ^ 40) × (e ≡ Fault code.Endless)) ⊎ ((0 < d.read_faults) × (e ≡ Fault code.Read)))
-
-abbrev pub ReadsFromBy : Option (List ℕ) → ℕ → DeviceTold → Outcomes
-ReadsFromBy None from d = UntoldFrom from d
-ReadsFromBy (Some c) from d = ContentFrom from d c
+-- the bytes that a device gave from a place on up to the place n: those of its content where that is told
+abbrev pub BytesFrom : Option (List ℕ) → ℕ → ℕ → List Element → Type 0
+BytesFrom None from n ys = (bytes : List ℕ) × (from + length bytes ≡ n) × (ys ≡ map Byte bytes)
+BytesFrom (Some c) from n ys = ys ≡ map Byte (drop from (take n c))
 
 -- a device is read on from a place
 abbrev pub ReadsFrom : ℕ → DeviceTold → Outcomes
-ReadsFrom from d = ReadsFromBy d.content from d
+ReadsFrom from d ys e = BytesFrom d.content from d.at ys × StopsReading d e
 
 -- a run of what is left, by what the devices tell at the end; what a pipe still gives is so for each input that its state stands for, of a pipe that takes what comes to it
 abbrev pub IsRunOfRest : {F : Type 0} → Standing F → (ℕ → DeviceTold) → Rest F → Outcomes

@@ -5,7 +5,7 @@ use device_port::Failed;
 /// The devices of a stream by their places, and its scopes by their numbers.
 pub trait Outside {
     ghost use Rattle.std.specs.Prelude.{◌≡◌, ℕ, ◌-◌, ◌^◌, ◌<◌, ◌≤◌, length, IfOk, OnOk, OnErr};
-    ghost use Rattle.pull_turns.specs.Around.{Around, Acquires, Refuses, Gives, Fails, IsHeld, OpenAreHeld, Enters, Leaves};
+    ghost use Rattle.pull_turns.specs.Around.{Around, Acquires, Refuses, Gives, Fails, IsHeld, IsUntried, OpenAreHeld, Enters, Leaves};
 
     /// Where the rows are.
     type Desk;
@@ -20,6 +20,9 @@ pub trait Outside {
 
     // In order, no device is open but those that open scopes hold.
     ghost held: { (o : Self) (d : Self.Desk) → fits o d → OpenAreHeld (seen o) };
+
+    // A device that waits was never asked.
+    ghost untried: { (o : Self) (d : Self.Desk) → fits o d → (p : ℕ) → (seen o).waits p → IsUntried ((seen o).told p) };
 
     // No call leads to where it began.
     ghost begin: { (a : Self) (d : Self.Desk) → since a d a d };

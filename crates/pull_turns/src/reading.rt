@@ -1,5 +1,5 @@
 //! One read of a device.
-ghost use Rattle.std.specs.Prelude.{◌≡◌, ◌+◌, ◌-◌, ◌^◌, ◌<◌, ◌≤◌, IfOk, OnErr};
+ghost use Rattle.std.specs.Prelude.{◌≡◌, ◌-◌, ◌^◌, ◌<◌, min, IfOk, OnErr};
 ghost use Rattle.pull_turns.specs.Around.{IsHeld};
 ghost use Rattle.pull_turns.specs.Moves.{ReadsPiece, ReadsPlace};
 
@@ -12,7 +12,7 @@ use std::alloc::{AllocError, Global};
 /// The most bytes of one device.
 const ENDLESS: u64 = 1 << 40;
 
-/// Reads a piece of at most `chunk` bytes.
+/// Reads a piece of at most `chunk` bytes: asks for so many, or for what is left below the limit.
 pub(crate) fn read_piece<G: Outside>(
     alloc: Global,
     outside: &mut G,
@@ -47,13 +47,11 @@ pub(crate) fn read_piece<G: Outside>(
     }
 }
 
-/// How many bytes may be asked for.
+/// How many bytes are asked for: a whole piece, or what is left below the limit.
 fn room(given: u64, chunk: u32) -> usize
     requires limit { given < 2 ^ 40 }
     requires chunk { 0 < chunk }
-    ensures some { 0 < result }
-    ensures piece { result ≤ chunk }
-    ensures limit { given + result ≤ 2 ^ 40 }
+    ensures { result ≡ min chunk (2 ^ 40 - given) }
 {
     let left = ENDLESS - given;
     if left < chunk as u64 {

@@ -11,10 +11,14 @@ pub returns-in-Emit-clause-turned : goal.returns-in-Emit-clause-turned
 returns-in-Emit-clause-turned g c n = rw (c.in-Emit.is, c.give.ensures) (emit_enter _ _ _ n _ _ refl)
 
 pub returns-in-Ok-clause-turned : goal.returns-in-Ok-clause-turned
-returns-in-Ok-clause-turned g c n = rw (c.in-Weak.is, c.into_inner.ensures) (weak_enter _ _ _ _ n _ _ _ (rw c.in-Weak.is at c.requires.ready) c.in-Ok.ensures.ok)
+returns-in-Ok-clause-turned g c n =
+    let ready = rw c.in-Weak.is at c.requires.ready in
+    rw (c.in-Weak.is, c.into_inner.ensures) (weak_enter _ _ _ _ n _ _ _ (g.O.Outside.untried _ _ c.requires.fits _ ready.ready.0) ready c.in-Ok.ensures.ok)
 
 pub returns-in-Err-clause-turned : goal.returns-in-Err-clause-turned
-returns-in-Err-clause-turned g c n = rw c.in-Weak.is (weak_refused _ _ _ _ n _ _ _ c.in-Err.ensures.failed)
+returns-in-Err-clause-turned g c n =
+    let ready = rw c.in-Weak.is at c.requires.ready in
+    rw c.in-Weak.is (weak_refused _ _ _ _ n _ _ _ (g.O.Outside.untried _ _ c.requires.fits _ ready.ready.0) c.in-Err.ensures.failed)
 
 pub returns-in_ok-a-in-Scope-clause-turned : goal.returns-in_ok-a-in-Scope-clause-turned
 returns-in_ok-a-in-Scope-clause-turned g c n = rw (c.in-Scope.is, c.in_ok-a-in-Scope.ensures) (scope_enter _ _ _ _ n _ _ _ _ (rw c.in-Scope.is at c.requires.ready) c.enter-child.ensures.enters)
