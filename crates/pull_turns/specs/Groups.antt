@@ -130,9 +130,24 @@ module _ {F : Type 0} where
   WaitsOnly Q (Groups' n f _ a) = IfSome f (λ l. Q n)
   WaitsOnly Q (Take' n _ a) = Unit {0}
 
-  -- where each part gives at most k elements in a chunk, the turn did and what is left does; groups wait only behind a chunk that is a whole group
+  -- a chunk that comes of groups of n has at most n elements, whatever the other parts may give
+  abbrev pub GivesGroup : Rest F → Turn → Type 0
+  GivesGroup Nil t = Unit {0}
+  GivesGroup (Start n) t = Unit {0}
+  GivesGroup (Read p from) t = Unit {0}
+  GivesGroup (Within' s _ a) t = GivesGroup a t
+  GivesGroup (Append' _ a b) t = GivesGroup a t
+  GivesGroup (OnFault' _ a b) t = GivesGroup a t
+  GivesGroup (Through' _ a q) t = Unit {0}
+  GivesGroup (Finishing q) t = Unit {0}
+  GivesGroup (Faulty c) t = Unit {0}
+  GivesGroup (Groups' n f _ a) t = GivesAtMost n t
+  GivesGroup (Take' n _ a) t = Unit {0}
+
+  -- where each part gives at most k elements in a chunk, the turn did and what is left does; groups come one by one, and wait only behind a chunk that is a whole group
   pub record Grouped (old new : Rest F) (t : Turn) : Type 0 where
     pub most : (k : ℕ) → IsGrouped k old → IsGrouped k new × GivesAtMost k t
+    pub group : GivesGroup old t
     pub waits : WaitsOnly (GaveGroupOf t) new
 
   -- of the groups that waited these elements came, and the others wait; below nothing was done
