@@ -1,5 +1,5 @@
 -- What is left of the leases of rows that were left.
-use Rattle.std.proofs.Common.{◌≡◌, ℕ, Bool, List, [], ◌∷◌, refl, sym, ◌∙◌, subst, ⊎_elim}
+use Rattle.std.proofs.Common.{◌≡◌, ℕ, Bool, true, List, [], ◌∷◌, refl, sym, ap, ◌∙◌, subst, ⊎_elim}
 use Rattle.chunk_core.specs.declared.code.Exit.{Exit}
 use Rattle.chunk_core.specs.Lists.{IsAmong}
 use Rattle.chunk_core.specs.Lists.IsAmong.{here, there}
@@ -9,11 +9,12 @@ use Rattle.row_seat.specs.declared.view.Left.TheVariants.{Stays, Yours}
 use Rattle.row_seat.specs.declared.view.View.{View}
 use Rattle.row_seat.specs.Views.{without_pair}
 use Rattle.scope_tree.specs.declared.branch.Spent.{Spent}
-use Rattle.scope_tree.specs.Released.{LetsGo, Released, finalized}
+use Rattle.res_ledger.specs.Order.{firsts}
+use Rattle.scope_tree.specs.Released.{LetsGo, Released, finalized, said}
 use Rattle.scope_tree.specs.Released.Holder.{lease}
 use Rattle.scope_tree.specs.Released.Released.{done, stays, ends_so}
 use Rattle.scope_tree.proofs.Follows.{let_go, released_follows}
-use Rattle.scope_tree.proofs.Lists.{lost_pair, other_pair}
+use Rattle.scope_tree.proofs.Lists.{lose_pair, lost_pair, other_pair}
 
 no_pairs : (xs : List (ℕ × ℕ)) → ((y : ℕ × ℕ) → ¬ (IsAmong y xs)) → xs ≡ []
 no_pairs [] n = refl
@@ -61,3 +62,11 @@ module _ {P : Type 0} where
         (λ i. subst (λ (a : Spent P). (p : P) × ((q : P) → IsAmong (a.row, q) v.left → q ≡ p) × (a.exit ≡ x) × ends p x a.ok a.pay) (sym i) (f.pay, (λ q k. l.2.left q k ∙ e), f.exit, f.finish))
         (λ i. let a = lease_pays y t i in let g = let_go (lease j) v z.row Yours u l in (a.0, (λ q k. a.1 q (g.left (y.row, q) k)), a.2, a.3))
         (among_cons m)
+
+    -- where no other lease and no seat could hold a row, and nothing is open, each row ends
+    pub lease_ends_all : {T : List ℕ} {v w : View P} {ys : List (Spent P)} → Released ends x (lease j) T v ys w → v.main ≡ true → v.out ≡ [] → ((i r : ℕ) → IsAmong (i, r) v.pairs → i ≡ j) → v.opened ≡ [] → firsts (said ys) ≡ T
+    lease_ends_all (done v) m o p e = refl
+    lease_ends_all (stays v u r l t) m o p e = absurd (⊎_elim (λ h. among_nil (subst (λ z. IsAmong (r, h.0) z) e h.1)) (λ h. ⊎_elim (λ a. h.1 (p h.0 r a)) (λ a. among_nil (subst (λ z. IsAmong h.0 z) o a)) h.2.1) (l.1 m))
+    lease_ends_all (ends_so v u y n l f t) m o p e =
+        let g = let_go (lease j) v y.row Yours u l in
+        ap (λ z. y.row ∷ z) (lease_ends_all t (ap (λ z. z.main) g.same ∙ m) (ap (λ z. z.out) g.same ∙ o) (λ i r a. p i r (lose_pair j y.row (i, r) v.pairs (subst (λ z. IsAmong (i, r) z) g.pairs a))) (g.opened ∙ e))

@@ -23,6 +23,8 @@ pub mod Leasing
 pub mod Parting
 pub mod Statuses
 pub mod Calling
+pub mod Rights
+pub mod Taking
 pub mod Leased
 pub mod Tidy
 pub mod Lent

@@ -95,12 +95,16 @@ ends_shape (Close s x) f m = absurd (among_nil m)
 ends_shape (Final r x ok) f m = ⊎_elim (λ e. let q : ℕ × Bool = (r, ok) in (x, ap (λ (y : ℕ × Bool). Final y.0 x y.1) (sym e))) (λ n. absurd (among_nil n)) (among_cons m)
 
 module _ {P : Type 0} where
-  -- what is on the shelf has its Final
-  pub shelf_final : (v : View P) (hs : List Held) (xs : List (Spent P)) → Shelved v hs xs → (r : ℕ) → IsAmong r (firsts (said xs)) → (ok : Bool) × NotesFinal v.events v.by r ok
-  shelf_final v hs xs s r m =
-      let t = first_said r (said xs) m in let f = flat_found ends_of (words v) (r, t.0) (subst (λ l. IsAmong (r, t.0) l) (sym s.said_are) t.1) in
+  -- a row that ended has its Final
+  pub ended_final : (v : View P) (fs : List (ℕ × Bool)) → ended_rows (words v) ≡ fs → (r : ℕ) → IsAmong r (firsts fs) → (ok : Bool) × NotesFinal v.events v.by r ok
+  ended_final v fs s r m =
+      let t = first_said r fs m in let f = flat_found ends_of (words v) (r, t.0) (subst (λ l. IsAmong (r, t.0) l) (sym s) t.1) in
       let e = ends_shape f.0 (r, t.0) f.2 in
       (t.0, (e.0, own_notes v.events v.by (Final r e.0 t.0) (subst (λ w. IsAmong w (words v)) e.1 f.1)))
+
+  -- what is on the shelf has its Final
+  pub shelf_final : (v : View P) (hs : List Held) (xs : List (Spent P)) → Shelved v hs xs → (r : ℕ) → IsAmong r (firsts (said xs)) → (ok : Bool) × NotesFinal v.events v.by r ok
+  shelf_final v hs xs s r m = ended_final v (said xs) s.said_are r m
 
   -- a seat that is taken in notes nothing in the name of the main one
   pub join_words : (v w : View P) → AreApart v w → words (joined v w) ≡ words v

@@ -1,5 +1,5 @@
 -- What callers read off the clauses of a tree.
-use Rattle.std.proofs.Common.{flat_map, ◌≡◌, ℕ, ◌+◌, ◌⊎◌, Bool, List, [], ◌∷◌, ◌++◌, length, inl, inr, refl, sym, ap, ◌∙◌, subst, ⊎_elim, reverse}
+use Rattle.std.proofs.Common.{flat_map, ◌≡◌, ℕ, ◌+◌, ◌⊎◌, Bool, true, List, [], ◌∷◌, ◌++◌, length, inl, inr, refl, sym, ap, ◌∙◌, subst, ⊎_elim, reverse}
 use Rattle.res_ledger.specs.Ledger.LiesWithin.{same}
 use Rattle.res_ledger.specs.declared.event.StreamNo.{StreamNo}
 use Rattle.res_ledger.specs.declared.event.What.{What}
@@ -13,7 +13,7 @@ use Rattle.res_ledger.specs.Ledger.{Notes, IsClosed, IsUsable, Covers}
 use Rattle.chunk_core.proofs.Members.{among_nil, among_mid}
 use Rattle.chunk_core.specs.Lists.IsAmong.{here}
 use Rattle.res_ledger.specs.Own.{own, opens, closes, teardown, leased_of}
-use Rattle.res_ledger.proofs.Noted.{flat_holds, notes_closes}
+use Rattle.res_ledger.proofs.Noted.{flat_holds, notes_closes, only}
 use Rattle.res_ledger.specs.Order.{Picks, finals, firsts}
 use Rattle.res_ledger.specs.Order.Picks.{none, pick, pass}
 use Rattle.res_ledger.specs.Order.{IsInBlocks, IsAny}
@@ -21,11 +21,13 @@ use Rattle.res_ledger.proofs.Blocks.{picks_map, blocks_plain, blocks_close, bloc
 use Rattle.scope_tree.specs.Walks.{FirstOpen}
 use Rattle.scope_tree.specs.Walks.FirstOpen.{this_one, above_it}
 use Rattle.scope_tree.specs.Released.{said}
+use Rattle.scope_tree.specs.Rights.{HasNoLeaseBut}
 use Rattle.scope_tree.specs.Calls.{AtStart, Seen, Opens, Acquires, Closes, Cancels, Leases}
 use Rattle.scope_tree.specs.Words.{words, canceling, opening, acquiring, leasing, shutting}
 use Rattle.scope_tree.proofs.Bridge.{own_snoc, noted_in, in_noted, in_opens}
 use Rattle.scope_tree.proofs.Follows.{Follows, released_follows, same_by}
 use Rattle.scope_tree.proofs.Grown.{grown_closed, grown_release}
+use Rattle.scope_tree.proofs.Lessee.{lease_ends_all}
 use Rattle.scope_tree.proofs.Owning.{owner_pairs, owner_picks}
 use Rattle.scope_tree.proofs.Releasing.{released_picks}
 
@@ -92,6 +94,10 @@ module _ {P : Type 0} where
 
   pub cancel_follows : {ends : P → Exit → Bool → P → Type 0} {x : Exit} {a b : Seen P} {j : ℕ} {T : List ℕ} (c : Cancels ends a j T x b) → Follows (noted a.seat (canceling a.seat j x c.stamp)) b.seat
   cancel_follows c = released_follows c.left.2
+
+  -- where no other lease and no seat is left and nothing is open, a cancellation ends each of its rows
+  pub cancel_ends : {ends : P → Exit → Bool → P → Type 0} {x : Exit} {a b : Seen P} {j : ℕ} {T : List ℕ} (c : Cancels ends a j T x b) → a.seat.main ≡ true → a.seat.out ≡ [] → HasNoLeaseBut a.seat ((j, T) ∷ []) → a.seat.opened ≡ [] → firsts (said c.left.0) ≡ reverse T
+  cancel_ends {j = j} {T = T} c m o h e = lease_ends_all c.left.2 m o (λ i r p. let t = h.pairs i r p in ap (λ y. y.0) (only (i, t.0) (j, T) t.1)) e
 
   pub cancel_closed : {ends : P → Exit → Bool → P → Type 0} {x : Exit} {a b : Seen P} {j : ℕ} {T : List ℕ} (c : Cancels ends a j T x b) (s : ℕ) → IsClosed a.seat.events a.seat.by s → IsClosed b.seat.events b.seat.by s
   cancel_closed {x = x} {a = a} {j = j} c s i = grown_closed (grown_release a.seat c.stamp (Cancel j x) c.left.2) s i

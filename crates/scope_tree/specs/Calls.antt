@@ -55,6 +55,13 @@ module _ {P : Type 0} where
   abbrev pub used : Seen P → ℕ
   used a = length (rows (words a.seat)) + strangers (own_rows a.seat) (firsts (said a.shelf))
 
+  -- of the same room so many scopes and so many rows more are used
+  pub record TakesRoom (m n : ℕ) (a b : Seen P) : Type 0 where
+    pub opens : length (opens (words b.seat)) ≡ length (opens (words a.seat)) + m
+    pub used : used b ≡ used a + n
+    pub scopes : b.scopes ≡ a.scopes
+    pub rows : b.rows ≡ a.rows
+
   -- the scope c, the next number, was opened as a child of the first open scope from at upward
   pub record Opens (a : Seen P) (at c : ℕ) (b : Seen P) : Type 0 where
     pub stamp : ℕ

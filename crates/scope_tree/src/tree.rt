@@ -1,5 +1,5 @@
 //! Scopes in a tree, each with the rows that were acquired in it.
-ghost use Rattle.std.specs.Prelude.{◌≡◌, ◌≢◌, ℕ, ◌+◌, ◌<◌, ◌≤◌, ◌↔◌, length, [], true, false, IfOk, IfErr, reverse};
+ghost use Rattle.std.specs.Prelude.{◌≡◌, ◌≢◌, ℕ, List, ◌+◌, ◌<◌, ◌≤◌, ◌↔◌, length, [], true, false, IfOk, IfErr, reverse};
 ghost use Rattle.std.specs.Borrow.{Lends, sem};
 ghost use Rattle.chunk_core.specs.Lists.{IsAmong};
 ghost use Rattle.res_ledger.specs.Ledger.{IsAcquired, IsLeased};
@@ -9,11 +9,12 @@ ghost use Rattle.res_ledger.specs.Rising.{Rises};
 ghost use Rattle.res_ledger.specs.Streams.{by_stream};
 ghost use Rattle.res_ledger.specs.declared.event.StreamNo.TheVariants.{Inner};
 ghost use Rattle.res_ledger.specs.declared.event.What.TheVariants.{Cancel};
-ghost use Rattle.row_seat.specs.Views.{AreApart, CanJoin, CanSplit, HasRow, MayNote, OthersFit, joined, split_main, split_off};
+ghost use Rattle.row_seat.specs.Views.{AreApart, AtRest, CanFinish, CanJoin, CanSplit, HasRow, MayNote, OthersFit, joined, split_main, split_off};
 ghost use Rattle.scope_tree.specs.Rows.{strangers};
 ghost use Rattle.scope_tree.specs.Released.{away, said};
 ghost use Rattle.scope_tree.specs.Words.{ended_rows, owed, own_rows, words};
-ghost use Rattle.scope_tree.specs.Calls.{Acquires, AtStart, Cancels, Closes, IsClosedScope, IsOpenScope, KeepsScopes, Leases, Opens, WasOpened, used};
+ghost use Rattle.scope_tree.specs.Calls.{Acquires, AtStart, Cancels, Closes, IsClosedScope, IsOpenScope, KeepsScopes, Leases, Opens, TakesRoom, WasOpened, used};
+ghost use Rattle.scope_tree.specs.Rights.{AddsLease, DropsLease, HasNoLeaseBut, IsNewStream, IsSameSeat, KeepsLeases};
 ghost use Rattle.scope_tree.specs.Standings.{StandsAs};
 ghost use Rattle.scope_tree.specs.Trees.{Fits, IsSound, seen};
 ghost use Rattle.scope_tree.specs.Lending.{lends_pay, lent};
@@ -52,6 +53,10 @@ where
         requires start { AtStart (S.view seat) }
         ensures seen { seen S.view result ≡ record { seat = S.view seat; shelf = []; scopes = room.scopes; rows = room.rows } }
         ensures root { IsOpenScope (seen S.view result) 0 }
+        ensures empty { (r : ℕ) → IsAmong r (S.view seat).empty → IsAmong r (seen S.view result).seat.empty }
+        ensures rights { IsSameSeat (S.view seat) (seen S.view result).seat }
+        ensures leases { KeepsLeases (S.view seat) (seen S.view result).seat }
+        ensures used { (used (seen S.view result) ≡ 0) × (opens (words (seen S.view result).seat) ≡ []) }
         ensures owed { owed (seen S.view result).seat ≡ 1 }
         ensures fits { (d : S.Desk) → S.fits seat d → Fits S.view S.fits result d }
     {
@@ -86,6 +91,10 @@ where
         ensures opens { Opens (seen S.view self.old) at result (seen S.view self.new) }
         ensures child { IsOpenScope (seen S.view self.new) result }
         ensures scopes { KeepsScopes (seen S.view self.old) (seen S.view self.new) }
+        ensures empty { (r : ℕ) → IsAmong r (seen S.view self.old).seat.empty → IsAmong r (seen S.view self.new).seat.empty }
+        ensures rights { IsSameSeat (seen S.view self.old).seat (seen S.view self.new).seat }
+        ensures leases { KeepsLeases (seen S.view self.old).seat (seen S.view self.new).seat }
+        ensures room { TakesRoom 1 0 (seen S.view self.old) (seen S.view self.new) }
         ensures owed { owed (seen S.view self.new).seat ≡ owed (seen S.view self.old).seat + 1 }
         ensures fits { Fits S.view S.fits self.new desk.new }
         ensures others { OthersFit S.view S.fits (seen S.view self.old).seat.by desk.old desk.new }
@@ -111,6 +120,9 @@ where
         ensures acquires { Acquires (seen S.view self.old) scope row pay (seen S.view self.new) }
         ensures scopes { KeepsScopes (seen S.view self.old) (seen S.view self.new) }
         ensures empty { (r : ℕ) → r ≢ row → IsAmong r (seen S.view self.old).seat.empty → IsAmong r (seen S.view self.new).seat.empty }
+        ensures rights { IsSameSeat (seen S.view self.old).seat (seen S.view self.new).seat }
+        ensures leases { KeepsLeases (seen S.view self.old).seat (seen S.view self.new).seat }
+        ensures room { TakesRoom 0 1 (seen S.view self.old) (seen S.view self.new) }
         ensures owed { owed (seen S.view self.new).seat ≡ owed (seen S.view self.old).seat + 1 }
         ensures fits { Fits S.view S.fits self.new desk.new }
         ensures others { OthersFit S.view S.fits (seen S.view self.old).seat.by desk.old desk.new }
@@ -168,11 +180,16 @@ where
         requires fits { Fits S.view S.fits self.old desk.old }
         requires main { (seen S.view self.old).seat.main ≡ true }
         requires scope { IsOpenScope (seen S.view self.old) scope }
-        requires stream { ((seen S.view self.old).seat.by ≢ Inner stream) × ¬ (IsAmong stream (seen S.view self.old).seat.had) × ¬ (IsLeased (seen S.view self.old).seat.events stream) }
+        requires stream { IsNewStream (seen S.view self.old).seat stream }
         requires free { owed (seen S.view self.old).seat + 2 ≤ (seen S.view self.old).seat.spare }
         ensures ok { IfOk result (λ lease. (lease.stream ≡ stream) × Leases (seen S.view self.old) scope stream lease.rows.items (seen S.view self.new)) }
         ensures err { IfErr result (λ _. seen S.view self.new ≡ seen S.view self.old) }
         ensures scopes { KeepsScopes (seen S.view self.old) (seen S.view self.new) }
+        ensures empty { (r : ℕ) → IsAmong r (seen S.view self.old).seat.empty → IsAmong r (seen S.view self.new).seat.empty }
+        ensures rights { IsSameSeat (seen S.view self.old).seat (seen S.view self.new).seat }
+        ensures leases { IfOk result (λ lease. AddsLease (seen S.view self.old).seat lease.stream lease.rows.items (seen S.view self.new).seat) }
+        ensures kept { IfErr result (λ _. KeepsLeases (seen S.view self.old).seat (seen S.view self.new).seat) }
+        ensures room { TakesRoom 0 0 (seen S.view self.old) (seen S.view self.new) }
         ensures pairs { IfOk result (λ lease. (r : ℕ) → IsAmong r lease.rows.items → IsAmong (lease.stream, r) (seen S.view self.new).seat.pairs) }
         ensures owed { owed (seen S.view self.new).seat ≡ owed (seen S.view self.old).seat }
         ensures fits { Fits S.view S.fits self.new desk.new }
@@ -192,6 +209,10 @@ where
         ensures closes { Closes S.Pay.ends (seen S.view self.old) scope exit (seen S.view self.new) }
         ensures closed { IsClosedScope (seen S.view self.new) scope }
         ensures scopes { (s : ℕ) → IsClosedScope (seen S.view self.old) s → IsClosedScope (seen S.view self.new) s }
+        ensures empty { (r : ℕ) → IsAmong r (seen S.view self.old).seat.empty → IsAmong r (seen S.view self.new).seat.empty }
+        ensures rights { IsSameSeat (seen S.view self.old).seat (seen S.view self.new).seat }
+        ensures leases { KeepsLeases (seen S.view self.old).seat (seen S.view self.new).seat }
+        ensures room { TakesRoom 0 0 (seen S.view self.old) (seen S.view self.new) }
         ensures free { (seen S.view self.old).seat.spare + owed (seen S.view self.new).seat ≤ (seen S.view self.new).seat.spare + owed (seen S.view self.old).seat }
         ensures owed { scope ≡ 0 → owed (seen S.view self.new).seat ≡ 0 }
         ensures fits { Fits S.view S.fits self.new desk.new }
@@ -221,6 +242,11 @@ where
         requires free { owed (seen S.view self.old).seat + 1 + away lease.rows.items (seen S.view self.old).seat.opened ≤ (seen S.view self.old).seat.spare }
         ensures cancels { Cancels S.Pay.ends (seen S.view self.old) lease.stream lease.rows.items exit (seen S.view self.new) }
         ensures scopes { KeepsScopes (seen S.view self.old) (seen S.view self.new) }
+        ensures empty { (r : ℕ) → IsAmong r (seen S.view self.old).seat.empty → IsAmong r (seen S.view self.new).seat.empty }
+        ensures rights { IsSameSeat (seen S.view self.old).seat (seen S.view self.new).seat }
+        ensures leases { DropsLease (seen S.view self.old).seat lease.stream lease.rows.items (seen S.view self.new).seat }
+        ensures new { (j : ℕ) → IsNewStream (seen S.view self.old).seat j → IsNewStream (seen S.view self.new).seat j }
+        ensures room { (n : ℕ) × (n ≤ strangers (own_rows (seen S.view self.old).seat) lease.rows.items) × TakesRoom 0 n (seen S.view self.old) (seen S.view self.new) }
         ensures free { (seen S.view self.old).seat.spare ≤ (seen S.view self.new).seat.spare + 1 + away lease.rows.items (seen S.view self.old).seat.opened }
         ensures owed { owed (seen S.view self.new).seat ≡ owed (seen S.view self.old).seat }
         ensures fits { Fits S.view S.fits self.new desk.new }
@@ -248,6 +274,7 @@ where
         ensures start { IfOk result (λ seat. 1 ≤ events → AtStart (S.view seat)) }
         ensures err { IfErr result (λ _. seen S.view self.new ≡ seen S.view self.old) }
         ensures scopes { KeepsScopes (seen S.view self.old) (seen S.view self.new) }
+        ensures leases { IfOk result (λ _. (T : List ℕ) → DropsLease (seen S.view self.old).seat stream T (seen S.view self.new).seat) }
         ensures owed { owed (seen S.view self.new).seat ≡ owed (seen S.view self.old).seat }
         ensures fits { Fits S.view S.fits self.new desk.new }
         ensures others { OthersFit S.view S.fits (seen S.view self.old).seat.by desk.old desk.new }
@@ -263,6 +290,8 @@ where
         ensures seen { seen S.view self.new ≡ record (seen S.view self.old) { seat = joined (seen S.view self.old).seat (S.view other) } }
         ensures apart { AreApart (seen S.view self.old).seat (S.view other) }
         ensures scopes { KeepsScopes (seen S.view self.old) (seen S.view self.new) }
+        ensures empty { (r : ℕ) → IsAmong r (seen S.view self.old).seat.empty → IsAmong r (seen S.view self.new).seat.empty }
+        ensures leases { (Ls : List (ℕ × List ℕ)) → HasNoLeaseBut (seen S.view self.old).seat Ls → HasNoLeaseBut (seen S.view self.new).seat Ls }
         ensures owed { owed (seen S.view self.new).seat ≡ owed (seen S.view self.old).seat }
         ensures fits { Fits S.view S.fits self.new desk.new }
         ensures others { (o : S) → (S.view o).by ≢ (seen S.view self.old).seat.by → (S.view o).by ≢ (S.view other).by → S.fits o desk.old → S.fits o desk.new }
@@ -302,6 +331,8 @@ where
         ensures ended { (S.view result.0).main ≡ false → (r : ℕ) → IsAmong r (own_rows (S.view result.0)) → IsAmong r (firsts (said result.1)) }
         ensures rising { Rises (by_stream (S.view result.0).by (S.view result.0).events) }
         ensures rest { ((S.view result.0).opened ≡ []) × ((S.view result.0).handed ≡ []) × ((S.view result.0).taken ≡ []) × ((r : ℕ) → IsAmong r (S.view result.0).empty → ¬ (IsAcquired (S.view result.0).events r)) }
+        ensures at_rest { HasNoLeaseBut (seen S.view self).seat [] → AtRest (S.view result.0) }
+        ensures finish { (seen S.view self).seat.main ≡ true → (seen S.view self).seat.out ≡ [] → HasNoLeaseBut (seen S.view self).seat [] → CanFinish (S.view result.0) }
     {
         let Tree {
             seat,

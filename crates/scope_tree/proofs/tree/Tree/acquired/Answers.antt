@@ -16,6 +16,12 @@ use Rattle.scope_tree.proofs.Shelving.{acquire_shelved}
 use Rattle.scope_tree.proofs.Calling.{keeps_scopes}
 use Rattle.scope_tree.proofs.Grown.{grown_back}
 use Rattle.scope_tree.proofs.Grows.{acquire_keeps, rows_snoc, acquired_grown, acquired_owed}
+use Rattle.res_ledger.specs.declared.event.What.TheVariants.{Acquire}
+use Rattle.scope_tree.specs.Rights.{KeepsLeases}
+use Rattle.scope_tree.specs.Calls.{Acquires}
+use Rattle.scope_tree.specs.Trees.{seen}
+use Rattle.scope_tree.proofs.Rights.{note_leases}
+use Rattle.scope_tree.proofs.Taking.{acquire_takes}
 use Rattle.scope_tree.proofs.tree.Tree.acquired.Goals as goal
 
 pub place-requires-clause-row : goal.place-requires-clause-row
@@ -27,6 +33,13 @@ push_reserved-requires g c =
     let u = used_is (g.S.RowSeat.view t.seat) t.branches.items t.held.items k (firsts (said t.shelf.items)) in let z = t.held.ok.0 in
     omega (u, a, b, z, arith)
 
+pub returns-clause-room : goal.returns-clause-room
+returns-clause-room g c =
+    let t = c.args.self.now in let v = g.S.RowSeat.view t.seat in let r = c.args.row in
+    let e : g.S.RowSeat.view c.place.new.self ≡ placed (noted v (acquiring v r c.args.scope c.note.result)) r c.args.pay = rw (c.place.ensures.view, c.note.ensures.view) refl in
+    let o : Acquires (seen g.S.RowSeat.view t) c.args.scope r c.args.pay _ = record { stamp = c.note.result; fresh = c.note.ensures.stamp; seat = e; shelf = refl; scopes = refl; rows = refl } in
+    acquire_takes o (c.requires.fits.sound.shelved.empty r c.requires.row)
+
 pub returns-clause-fits : goal.returns-clause-fits
 returns-clause-fits g c =
     let t = c.args.self.now in let s = c.args.scope in let r = c.args.row in let hs = t.held.items in let bs = t.branches.items in let v = g.S.RowSeat.view t.seat in let n = c.note.result in
@@ -34,15 +47,13 @@ returns-clause-fits g c =
     let z = c.requires.fits.sound in
     let e : w ≡ w' = rw (c.place.ensures.view, c.note.ensures.view) refl in
     let k : Kept w bs (hs ++ h ∷ []) = subst (λ x. Kept x bs (hs ++ h ∷ [])) (sym e) (acquire_keeps v bs hs r s n c.args.pay z.kept c.requires.scope c.requires.row c.requires.free) in
-    let F = firsts (said t.shelf.items) in
-    let u = used_is v bs hs z.kept F in let u' = used_is w bs (hs ++ h ∷ []) k F in let a = c.requires.room in let l = length-append hs (h ∷ []) in
-    let m = strangers_less (held_rows hs) (held_rows (hs ++ h ∷ [])) F (λ q i. subst (λ l. IsAmong q l) (sym (rows_snoc hs h)) (among_left (r ∷ []) i)) in
+    let u = (returns-clause-room g c).used in let a = c.requires.room in
     let cap = c.push_reserved.ensures.capacity in let b = z.held in record {
       seat = c.place.ensures.fits;
       sound = record {
         kept = subst (λ x. Kept w bs x) (sym c.push_reserved.ensures.items) k;
         shelved = subst (λ x. Shelved w x t.shelf.items) (sym c.push_reserved.ensures.items) (subst (λ x. Shelved x (hs ++ h ∷ []) t.shelf.items) (sym e) (acquire_shelved v bs hs t.shelf.items z.kept z.shelved r s n c.args.pay c.requires.row c.note.ensures.stamp));
-        used = omega (u, u', a, l, m, arith);
+        used = omega (u, a, arith);
         branches = z.branches;
         held = omega (cap, b, arith);
         shelf = z.shelf;
@@ -66,3 +77,8 @@ returns-clause-owed g c =
     let t = c.args.self.now in let v = g.S.RowSeat.view t.seat in let s = c.args.scope in let r = c.args.row in let n = c.note.result in
     let w = placed (noted v (acquiring v r s n)) r c.args.pay in let e : g.S.RowSeat.view c.place.new.self ≡ w = rw (c.place.ensures.view, c.note.ensures.view) refl in
     ap owed e ∙ acquired_owed v t.branches.items t.held.items r s n c.args.pay c.requires.fits.sound.kept c.requires.scope c.requires.row c.requires.free
+
+pub returns-clause-leases : goal.returns-clause-leases
+returns-clause-leases g c =
+    let v = g.S.RowSeat.view c.args.self.now.seat in let k = note_leases v c.note.result (Acquire c.args.row c.args.scope) refl refl in
+    rw (c.place.ensures.view, c.note.ensures.view) (record { new = k.new; may = k.may; pairs = k.pairs; only = λ Ls h. let o = k.only Ls h in record { kept = o.kept; pairs = o.pairs } })

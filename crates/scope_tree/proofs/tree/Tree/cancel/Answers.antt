@@ -17,6 +17,9 @@ use Rattle.chunk_core.proofs.Distinct.{test_distinct, distinct_reverse}
 use Rattle.scope_tree.proofs.Releasing.{released_picks}
 use Rattle.scope_tree.proofs.Rooms.{away_reverse, cancel_count, rows_count, strangers_reverse, used_is}
 use Rattle.scope_tree.proofs.Shelving.{cancel_shelved}
+use Rattle.scope_tree.proofs.Follows.{released_follows, same_empty}
+use Rattle.scope_tree.proofs.Rights.{cancel_drops, cancel_new, cancel_seat}
+use Rattle.scope_tree.proofs.Taking.{cancel_takes}
 use Rattle.scope_tree.proofs.tree.Tree.cancel.Goals as goal
 
 free_reverse : {P : Type 0} (v : View P) (T : List ℕ) → owed v + 1 + away T v.opened ≤ v.spare → owed v + 1 + away (reverse T) v.opened ≤ v.spare
@@ -46,6 +49,9 @@ returns-clause-free g c = (cancel_leaves (returns-clause-cancels g c)).1
 pub returns-clause-owed : goal.returns-clause-owed
 returns-clause-owed g c = (cancel_leaves (returns-clause-cancels g c)).2
 
+pub returns-clause-room : goal.returns-clause-room
+returns-clause-room g c = cancel_takes (returns-clause-cancels g c)
+
 pub returns-clause-fits : goal.returns-clause-fits
 returns-clause-fits g c =
     let t = c.args.self.now in let v = g.S.RowSeat.view t.seat in let bs = t.branches.items in let hs = t.held.items in let z = c.requires.fits.sound in let n = c.note.result in
@@ -55,16 +61,12 @@ returns-clause-fits g c =
     let p : (r : ℕ) → IsAmong r (reverse T) → IsAmong (j, r) v.pairs = λ r m. c.requires.pairs r (among_reverse r T m) in
     let f = free_reverse v T c.requires.free in
     let k = cancel_keeps v bs hs j n (reverse T) c.args.exit z.kept d p f w xs all.2 in
-    let F = firsts (said t.shelf.items) in let F' = firsts (said shelf) in let own = held_rows hs in
-    let F_is : F' ≡ F ++ firsts (said xs) = ap (λ l. firsts (said l)) all.1 ∙ ap firsts (said_append t.shelf.items xs) ∙ firsts_append (said t.shelf.items) (said xs) in
-    let more : strangers own F' ≡ strangers own F + strangers own (firsts (said xs)) = ap (strangers own) F_is ∙ strangers_append own F (firsts (said xs)) in
-    let few = picks_strangers own (released_picks all.2) in let same = strangers_reverse own T in
-    let i = rows_count v bs hs z.kept in let u = used_is v bs hs z.kept F in let u2 = used_is v bs hs z.kept T in let u' = used_is w bs hs k F' in let a = c.requires.room in let b = z.shelf in let r = c.leave_all.ensures.room in record {
+    let y = returns-clause-room g c in let few = y.1 in let u = y.2.used in let a = c.requires.room in let b = z.shelf in let r = c.leave_all.ensures.room in record {
       seat = c.leave_all.ensures.fits;
       sound = record {
         kept = k;
         shelved = subst (λ l. Shelved w hs l) (sym all.1) (cancel_shelved v bs hs t.shelf.items z.kept z.shelved j n (reverse T) d p f c.note.ensures.stamp all.2);
-        used = omega (more, few, same, i, u, u2, u', a, arith);
+        used = omega (few, u, a, arith);
         branches = z.branches;
         held = z.held;
         shelf = omega (b, r, arith);
@@ -72,3 +74,15 @@ returns-clause-fits g c =
         rows_limit = z.rows_limit;
       };
     }
+
+pub returns-clause-empty : goal.returns-clause-empty
+returns-clause-empty g c = λ r m. subst (λ l. IsAmong r l) (sym (same_empty (released_follows (returns-clause-cancels g c).left.2))) m
+
+pub returns-clause-rights : goal.returns-clause-rights
+returns-clause-rights g c = cancel_seat (returns-clause-cancels g c)
+
+pub returns-clause-leases : goal.returns-clause-leases
+returns-clause-leases g c = cancel_drops (returns-clause-cancels g c)
+
+pub returns-clause-new : goal.returns-clause-new
+returns-clause-new g c = cancel_new (returns-clause-cancels g c)

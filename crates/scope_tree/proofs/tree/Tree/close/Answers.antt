@@ -22,6 +22,12 @@ use Rattle.res_ledger.specs.Ledger.{IsClosed}
 use Rattle.res_ledger.specs.declared.event.What.TheVariants.{Close}
 use Rattle.std.proofs.lemmas.List.{get_or_default}
 use Rattle.scope_tree.proofs.Releasing.{released_picks, releases_at}
+use Rattle.scope_tree.proofs.Rooms.{own_is}
+use Rattle.scope_tree.specs.Words.{own_rows}
+use Rattle.scope_tree.proofs.Follows.{released_follows, same_empty}
+use Rattle.scope_tree.proofs.Rights.{close_leases, close_seat}
+use Rattle.scope_tree.proofs.Taking.{close_takes}
+use Rattle.chunk_core.specs.Lists.{IsAmong}
 use Rattle.scope_tree.proofs.tree.Tree.close.Goals as goal
 
 pub note-requires-clause-room : goal.note-requires-clause-room
@@ -53,6 +59,11 @@ returns-clause-closes g c =
       rows = refl;
     }
 
+pub returns-clause-room : goal.returns-clause-room
+returns-clause-room g c =
+    let t = c.args.self.now in let v = g.S.RowSeat.view t.seat in let k = c.requires.fits.sound.kept in
+    close_takes t.branches.items t.held.items k (usable_scope v t.branches.items t.held.items k c.args.scope c.requires.scope) (returns-clause-closes g c)
+
 pub returns-clause-fits : goal.returns-clause-fits
 returns-clause-fits g c =
     let t = c.args.self.now in let s = c.args.scope in let bs = t.branches.items in let hs = t.held.items in let v = g.S.RowSeat.view t.seat in let w = g.S.RowSeat.view c.tear.new.seat in let z = c.requires.fits.sound in
@@ -60,15 +71,12 @@ returns-clause-fits g c =
     let all : Releases g.S.Pay.Finish.ends c.args.exit owner (whole bs hs s) (shutting v s c.args.exit n) t.shelf.items c.tear.new.shelf.items w = releases_at _ _ (ap (λ x. whole x c.deref-2.result.now s) c.deref.ensures.value ∙ ap (λ x. whole bs x s) c.deref-2.ensures.value) c.note.ensures.view c.tear.ensures.released in
     let xs = all.0 in let torn = all.2 in let shelf = c.tear.new.shelf.items in
     let k = close_keeps v w bs hs xs s n z.kept c.requires.scope torn _ (λ d. ap (λ b. b.parent) (get_or_default bs s d c.index_mut.result.now l ∙ sym c.index_mut.ensures.value)) refl in
-    let F = firsts (said t.shelf.items) in let F' = firsts (said shelf) in
-    let F_is : F' ≡ F ++ firsts (said xs) = ap (λ l. firsts (said l)) all.1 ∙ ap firsts (said_append t.shelf.items xs) ∙ firsts_append (said t.shelf.items) (said xs) in
-    let none : strangers (held_rows hs) F' ≡ strangers (held_rows hs) F = ap (strangers (held_rows hs)) F_is ∙ strangers_append (held_rows hs) F (firsts (said xs)) ∙ ap (λ n. strangers (held_rows hs) F + n) (strangers_none (held_rows hs) (firsts (said xs)) (λ r m. let y = whole_under bs hs r s l (picks_among r (released_picks torn) m) in row_of_pair r y.0 hs y.1)) ∙ add-zero _ in
-    let u = used_is v bs hs z.kept F in let u' = used_is w _ hs k F' in let a = z.used in let b = z.shelf in let d = c.tear.ensures.room in record {
+    let u = (returns-clause-room g c).used in let a = z.used in let b = z.shelf in let d = c.tear.ensures.room in record {
       seat = c.tear.ensures.fits;
       sound = record {
         kept = k;
         shelved = subst (λ l. Shelved w hs l) (sym all.1) (close_shelved v bs hs t.shelf.items z.kept z.shelved s n c.requires.scope c.note.ensures.stamp torn);
-        used = omega (u, u', a, none, arith);
+        used = omega (u, a, arith);
         branches = z.branches;
         held = z.held;
         shelf = omega (b, d, arith);
@@ -93,3 +101,12 @@ pub returns-clause-owed : goal.returns-clause-owed
 returns-clause-owed g c = λ e.
     let w = g.S.RowSeat.view c.tear.new.seat in let z = returns-clause-fits g c in
     nothing_owed w _ _ z.sound.kept (subst (λ s. IsClosed w.events w.by s) e (returns-clause-closed g c))
+
+pub returns-clause-empty : goal.returns-clause-empty
+returns-clause-empty g c = λ r m. subst (λ l. IsAmong r l) (sym (same_empty (released_follows (returns-clause-closes g c).torn.2))) m
+
+pub returns-clause-rights : goal.returns-clause-rights
+returns-clause-rights g c = close_seat (returns-clause-closes g c)
+
+pub returns-clause-leases : goal.returns-clause-leases
+returns-clause-leases g c = close_leases (returns-clause-closes g c)

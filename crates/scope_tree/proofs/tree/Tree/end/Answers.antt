@@ -4,6 +4,7 @@ use Rattle.chunk_core.proofs.Members.{among_nil}
 use Rattle.scope_tree.proofs.Grows.{pair_of_row}
 use Rattle.scope_tree.proofs.Keeps.{nothing_open}
 use Rattle.scope_tree.proofs.Rooms.{own_is}
+use Rattle.scope_tree.proofs.Rights.{at_rest}
 use Rattle.scope_tree.proofs.tree.Tree.end.Goals as goal
 
 pub returns-clause-finals : goal.returns-clause-finals
@@ -22,3 +23,9 @@ pub returns-clause-rest : goal.returns-clause-rest
 returns-clause-rest g c =
     let t = c.args.self in let k = c.requires.tree.kept in
     (nothing_open (g.S.RowSeat.view t.seat) t.branches.items t.held.items k c.requires.closed, k.rests.handed, k.rests.taken, k.rests.empty)
+
+pub returns-clause-at_rest : goal.returns-clause-at_rest
+returns-clause-at_rest g c = λ none. let r = returns-clause-rest g c in at_rest (g.S.RowSeat.view c.args.self.seat) none r.0 r.3 r.1 r.2
+
+pub returns-clause-finish : goal.returns-clause-finish
+returns-clause-finish g c = λ main out none. (main, returns-clause-at_rest g c none, out)

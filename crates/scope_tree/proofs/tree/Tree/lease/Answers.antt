@@ -13,6 +13,9 @@ use Rattle.chunk_core.proofs.Distinct.{distinct_test}
 use Rattle.scope_tree.proofs.Grown.{grown_back, owed_still}
 use Rattle.scope_tree.proofs.Leasing.{among_pairs}
 use Rattle.scope_tree.proofs.Leased.{lease_distinct, lease_event, lease_grown, lease_keeps, lease_none, lease_rows_open, lease_shelved}
+use Rattle.scope_tree.specs.Rights.{AddsLease, KeepsLeases}
+use Rattle.scope_tree.proofs.Rights.{lease_adds, leases_self}
+use Rattle.scope_tree.proofs.Taking.{lease_takes}
 use Rattle.scope_tree.proofs.tree.Tree.lease.Goals as goal
 
 pub lease_rows-requires-clause-rows : goal.lease_rows-requires-clause-rows
@@ -73,3 +76,11 @@ returns-clause-fits g c =
     let keeps = lease_keeps v bs hs xs z.kept z.shelved c.args.scope c.args.stream c.requires.scope o.stamp c.in_ok-rows.rows.items o.covered c.requires.free in
     let shelved = lease_shelved v bs hs xs z.kept z.shelved c.args.scope c.args.stream c.requires.scope o.stamp c.in_ok-rows.rows.items o.covered o.fresh in
     record { seat = c.note.ensures.fits; sound = seated g.S.RowSeat.view t c.note.new.self (subst (λ x. Kept x bs hs) (sym o.seat) keeps) (subst (λ x. Shelved x hs xs) (sym o.seat) shelved) z }
+
+pub returns-clause-leases : goal.returns-clause-leases
+returns-clause-leases g c =
+    let v = g.S.RowSeat.view c.args.self.now.seat in let j = c.args.stream in let T = c.in_ok-rows.rows.items in let o = (returns-clause-ok g c).1 in
+    subst (λ w. AddsLease v j T w) (sym o.seat) (lease_adds v c.args.scope j o.stamp T c.requires.stream.0)
+
+pub returns-clause-room : goal.returns-clause-room
+returns-clause-room g c = lease_takes (returns-clause-ok g c).1

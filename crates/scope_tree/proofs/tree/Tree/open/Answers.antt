@@ -18,6 +18,10 @@ use Rattle.row_seat.specs.declared.view.View.{View}
 use Rattle.res_ledger.specs.Ledger.{IsOpened}
 use Rattle.res_ledger.specs.Ledger.LiesWithin.{same}
 use Rattle.scope_tree.specs.declared.branch.Held.{Held}
+use Rattle.res_ledger.specs.declared.event.What.TheVariants.{Open}
+use Rattle.scope_tree.specs.Rights.{KeepsLeases}
+use Rattle.scope_tree.proofs.Rights.{note_leases}
+use Rattle.scope_tree.proofs.Taking.{open_takes}
 use Rattle.scope_tree.proofs.tree.Tree.open.Goals as goal
 
 pub overflow_cast-scope : goal.overflow_cast-scope
@@ -67,6 +71,9 @@ returns-clause-opens g c =
       rows = refl;
     }
 
+pub returns-clause-room : goal.returns-clause-room
+returns-clause-room g c = open_takes (returns-clause-opens g c)
+
 pub returns-clause-fits : goal.returns-clause-fits
 returns-clause-fits g c =
     let t = c.args.self.now in let z = c.requires.fits.sound in let p = c.first_open-parent.result in let hs = t.held.items in let bs = t.branches.items in let v = g.S.RowSeat.view t.seat in let w = g.S.RowSeat.view c.note.new.self in let n = c.note.result in
@@ -76,12 +83,12 @@ returns-clause-fits g c =
     let bs' = bs ++ record { parent = p; shut = false } ∷ [] in
     let f = nearest_first v bs hs z.kept c.args.at p (at_in v bs hs z.kept c.args.at c.requires.at) (rw c.deref.ensures.value at c.first_open-parent.ensures) in
     let k : Kept w bs' hs = subst (λ x. Kept x bs' hs) (sym e) (open_keeps v bs hs p n z.kept (first_usable v bs hs z.kept c.args.at p f.1 f.0) c.requires.free) in
-    let F = firsts (said t.shelf.items) in let u = used_is v bs hs z.kept F in let u' = used_is w bs' hs k F in let a = z.used in let cap = c.push_reserved.ensures.capacity in let b = z.branches in record {
+    let u = (returns-clause-room g c).used in let a = z.used in let cap = c.push_reserved.ensures.capacity in let b = z.branches in record {
       seat = c.note.ensures.fits;
       sound = record {
         kept = subst (λ x. Kept w x hs) (sym c.push_reserved.ensures.items) k;
         shelved = subst (λ x. Shelved x hs t.shelf.items) (sym e) (open_shelved v bs hs t.shelf.items z.kept z.shelved (length bs) p n c.note.ensures.stamp);
-        used = omega (u, u', a, arith);
+        used = omega (u, a, arith);
         branches = omega (cap, b, arith);
         held = z.held;
         shelf = z.shelf;
@@ -104,3 +111,6 @@ pub returns-clause-owed : goal.returns-clause-owed
 returns-clause-owed g c =
     let t = c.args.self.now in let bs = t.branches.items in let hs = t.held.items in let k = c.requires.fits.sound.kept in
     (open_leaves (returns-clause-opens g c) bs hs k (at_in (g.S.RowSeat.view t.seat) bs hs k c.args.at c.requires.at) c.requires.free).2
+
+pub returns-clause-leases : goal.returns-clause-leases
+returns-clause-leases g c = let v = g.S.RowSeat.view c.args.self.now.seat in subst (λ w. KeepsLeases v w) (sym c.note.ensures.view) (note_leases v c.note.result (Open c.len-scope.result c.first_open-parent.result) refl refl)

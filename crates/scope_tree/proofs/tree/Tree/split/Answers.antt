@@ -3,6 +3,8 @@ use Rattle.scope_tree.specs.Calls.{AtStart}
 use Rattle.scope_tree.specs.Kept.{Kept, Shelved}
 use Rattle.scope_tree.proofs.Calling.{seated}
 use Rattle.scope_tree.proofs.Parting.{split_keeps, split_shelved, split_start}
+use Rattle.scope_tree.specs.Rights.{DropsLease}
+use Rattle.scope_tree.proofs.Rights.{split_drops}
 use Rattle.scope_tree.proofs.tree.Tree.split.Goals as goal
 
 pub returns-clause-start : goal.returns-clause-start
@@ -25,3 +27,8 @@ pub returns-in_err-seat-clause-fits : goal.returns-in_err-seat-clause-fits
 returns-in_err-seat-clause-fits g c =
     let t = c.args.self.now in let bs = t.branches.items in let hs = t.held.items in let xs = t.shelf.items in let z = c.requires.fits.sound in let e = c.in_err-seat.ensures.err in
     record { seat = c.split.ensures.fits; sound = seated g.S.RowSeat.view t c.split.new.self (subst (λ x. Kept x bs hs) (sym e) z.kept) (subst (λ x. Shelved x hs xs) (sym e) z.shelved) z }
+
+pub returns-clause-leases : goal.returns-clause-leases
+returns-clause-leases g c = λ T.
+    let v = g.S.RowSeat.view c.args.self.now.seat in
+    subst (λ w. DropsLease v c.args.stream T w) (sym c.in_ok-seat.ensures.ok.0) (split_drops v c.args.stream c.args.rows.from c.args.rows.to c.args.events T)
