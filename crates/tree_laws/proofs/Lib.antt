@@ -18,3 +18,4 @@ pub mod Given
 pub mod Owed
 pub mod Used
 pub mod Refused
+pub mod Shelved

@@ -1,11 +1,11 @@
 -- What follows for the ledger, whatever calls were made of a tree.
-use Rattle.std.specs.Prelude.{◌≡◌, ◌↔◌, ◌⊎◌, ℕ, ◌+◌, ◌≤◌, Bool, false, List, [], ◌++◌, length}
+use Rattle.std.specs.Prelude.{◌≡◌, ◌≢◌, ◌↔◌, ◌⊎◌, ℕ, ◌+◌, ◌≤◌, Bool, false, List, [], ◌++◌, length}
 use Rattle.chunk_core.specs.declared.code.Exit.{Exit}
 use Rattle.chunk_core.specs.Lists.{IsAmong}
 use Rattle.res_ledger.specs.declared.event.Event.{Event}
 use Rattle.res_ledger.specs.declared.event.What.TheVariants.{Acquire}
 use Rattle.res_ledger.specs.Ledger.{IsFinalized, IsLegal, Notes, NotesCancel}
-use Rattle.res_ledger.specs.Order.{IsOrdered, covered_by}
+use Rattle.res_ledger.specs.Order.{IsOrdered, covered_by, firsts}
 use Rattle.res_ledger.specs.Own.{opens}
 use Rattle.res_ledger.specs.Streams.{by_stream}
 use Rattle.res_ledger.specs.Whole.{IsComplete}
@@ -42,6 +42,10 @@ module _ {P : Type 0} (ends : P → Exit → Bool → P → Type 0) where
   -- since the start, with an empty shelf, the shelf has the Finals that were noted, in order
   abbrev pub ShelfIsSaid : Type 0
   ShelfIsSaid = (a b : Seen P) (Cs : List (ℕ × List ℕ)) → AtStart a.seat → a.shelf ≡ [] → Called ends a Cs b → ended_rows (words b.seat) ≡ said b.shelf
+
+  -- no row stands on the shelves of two trees of different streams, which both began with an empty one, and whose events a finished ledger has
+  abbrev pub ShelvesAreApart : Type 0
+  ShelvesAreApart = (a b c d : Seen P) (Cs Ds : List (ℕ × List ℕ)) (u : View P) (L : List Event) → AtStart a.seat → a.shelf ≡ [] → Called ends a Cs b → IsFinished b u L → AtStart c.seat → c.shelf ≡ [] → Called ends c Ds d → IsFinished d u L → b.seat.by ≢ d.seat.by → (r : ℕ) → IsAmong r (firsts (said b.shelf)) → ¬ (IsAmong r (firsts (said d.shelf)))
 
   -- each of these Finals has the exit that the row on the shelf was finished with
   abbrev pub ShelfHasExits : Type 0

@@ -1,6 +1,6 @@
 //! Laws of all that was done to a tree, each the contract of a function that does nothing.
 ghost use Rattle.res_ledger.specs.declared.event.StreamNo.TheVariants.{Inner, Outer};
-ghost use Rattle.tree_laws.specs.Laws.{AloneCanFinish, AloneIsWhole, CallsAreTidy, CallsFollow, CallsStayAlone, CancelsAreLeaseless, CancelsAreNoted, EventsAreFloored, EventsAreNamed, EventsStay, GuestsRest, JoinedIsFinished, LeaseIsLent, LedgerHasEvents, LedgerIsComplete, LedgerIsInOrder, LedgerIsWhole, LentIsCovered, LentIsOwn, OneLeaseIsWhole, OwnLeasesAreCovered, RowsHaveEnded, ScopesFit, ShelfHasExits, ShelfIsGiven, ShelfIsSaid, SplitsMakeGuests, StampsRise, SubTrees, WholeForEach};
+ghost use Rattle.tree_laws.specs.Laws.{AloneCanFinish, AloneIsWhole, CallsAreTidy, CallsFollow, CallsStayAlone, CancelsAreLeaseless, CancelsAreNoted, EventsAreFloored, EventsAreNamed, EventsStay, GuestsRest, JoinedIsFinished, LeaseIsLent, LedgerHasEvents, LedgerIsComplete, LedgerIsInOrder, LedgerIsWhole, LentIsCovered, LentIsOwn, OneLeaseIsWhole, OwnLeasesAreCovered, RowsHaveEnded, ScopesFit, ShelfHasExits, ShelfIsGiven, ShelfIsSaid, ShelvesAreApart, SplitsMakeGuests, StampsRise, SubTrees, WholeForEach};
 ghost use Rattle.tree_laws.specs.Owing.{OwedStays, RootOwesNothing};
 ghost use Rattle.tree_laws.specs.Refused.{IsLegalButNotWhole, first_row_first, lease_left_over, row_left_over};
 ghost use Rattle.tree_laws.specs.Whole.{IsWholeFor};
@@ -28,6 +28,11 @@ pub fn what_is_noted<P: Finish>()
 pub fn events_are_named<P: Finish>()
     ensures named { EventsAreNamed P.ends }
     ensures floored { EventsAreFloored P.ends }
+{}
+
+/// No row stands on two trees' shelves.
+pub fn shelves_are_apart<P: Finish>()
+    ensures { ShelvesAreApart P.ends }
 {}
 
 /// What ends on a shelf was handed to the seat.
