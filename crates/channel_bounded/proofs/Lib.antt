@@ -1,0 +1,4 @@
+pub mod Streams
+pub mod Moves
+pub mod Causes
+pub mod Threads

@@ -1,0 +1,4 @@
+pub mod Streams
+pub mod Queue
+pub mod Ends
+pub mod Causes
