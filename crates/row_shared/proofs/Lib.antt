@@ -1,0 +1,11 @@
+pub mod Keeping
+pub mod Allowed
+pub mod Slots
+pub mod Pairs
+pub mod Openings
+pub mod Itself
+mod Ordering
+pub mod Sitting
+pub mod Called
+mod Calls
+mod Ledgers

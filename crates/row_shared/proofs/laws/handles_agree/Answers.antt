@@ -1,0 +1,5 @@
+use Rattle.row_shared.proofs.Sitting.{fits_other}
+use Rattle.row_shared.proofs.laws.handles_agree.Goals as goal
+
+pub returns : goal.returns
+returns g c = λ s o d e. fits_other s o d e

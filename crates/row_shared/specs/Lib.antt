@@ -1,0 +1,5 @@
+pub mod Places
+pub mod Told
+pub mod Orders
+pub mod Seats
+pub mod Laws
