@@ -1,16 +1,16 @@
 -- What the calls of a seat say of its view, and that it still fits.
 use Rattle.std.proofs.Common.{◌≡◌, ℕ, ◌≤◌, List, [], refl, sym, ap, ◌∙◌, ⊎_elim, arith}
+use Rattle.std.proofs.lemmas.Bool.{cases_Bool}
 use Rattle.std.specs.Prelude.{vec_capacity, vec_len}
 use Rattle.std.specs.Arc.{arc_value}
 use Rattle.chunk_core.specs.Lists.{IsAmong}
 use Rattle.row_seat.specs.declared.view.Left.{Left}
 use Rattle.row_seat.specs.declared.view.Left.TheVariants.{Stays, Yours}
-use Rattle.row_seat.specs.Hands.{rows_of}
+use Rattle.std.specs.Map.{keys_of}
 use Rattle.row_seat.specs.Rule.{seen}
 use Rattle.row_seat.specs.Steps.{gone, handed_over, joined, shut, without_one}
 use Rattle.row_seat.specs.Views.{CanJoin, Closes, HasRow, Leaves, without_row}
 use Rattle.row_seat.proofs.Hands.{row_among, rows_without}
-use Rattle.row_seat.proofs.Splits.{true_or}
 use Rattle.row_shared.specs.declared.seat.SharedSeat.{SharedSeat}
 use Rattle.row_shared.specs.declared.seat.TableRef.{TableRef}
 use Rattle.row_shared.specs.Places.{Seated, TookIn}
@@ -24,7 +24,7 @@ module _ {P : Type 0} {s : SharedSeat P} (d : TableRef P) (h : SharedFits s d) w
   in_hand r m = row_among r s.hands.items s.pass.me.0.token.opened h.held m
 
   pub none_open : s.hands.items ≡ [] → s.pass.me.0.token.opened ≡ []
-  none_open e = sym h.held ∙ ap rows_of e
+  none_open e = sym h.held ∙ ap keys_of e
 
   -- the lease is gone
   pub leaves_view : (rows j r : ℕ) (left : Left) (after : Seated P) → Gave rows j r left s.pass.me.0.token after → Leaves (shown s) j r left (seen after.0.token s.hands.items)
@@ -45,9 +45,9 @@ module _ {P : Type 0} {s : SharedSeat P} (d : TableRef P) (h : SharedFits s d) w
   pub closes_fits : (s' : SharedSeat P) (r : ℕ) (p : P) (left : Left) → s'.pass.table_id ≡ s.pass.table_id → s'.by ≡ s.by → s'.events ≡ s.events → s'.hands.items ≡ without_row r s.hands.items → vec_len s'.hands ≤ vec_len s.hands → vec_capacity s'.hands ≡ vec_capacity s.hands
       → Closed (arc_value d.table).shared.table_id.slots r p left s.pass.me.0.token s'.pass.me → SharedFits s' d
   closes_fits s' r p Stays table by events items less same g = let t = s.pass.me.0.token in fits_put d (shut t r p) (table ∙ h.table.0, h.table.1, h.table.2) g.0.0 h.calm.1 (by ∙ h.by) h.first g.0.1 (shut_itself t h.itself r p)
-      (ap rows_of items ∙ (rows_without r s.hands.items ∙ ap (without_one r) h.held)) (rw events h.noted) (λ m. let a = h.whole m in omega arith) (λ m. let a = h.hold m in omega arith) (rw events h.pages) (rw events h.leaves)
+      (ap keys_of items ∙ (rows_without r s.hands.items ∙ ap (without_one r) h.held)) (rw events h.noted) (λ m. let a = h.whole m in omega arith) (λ m. let a = h.hold m in omega arith) (rw events h.pages) (rw events h.leaves)
   closes_fits s' r p Yours table by events items less same g = let t = s.pass.me.0.token in let u = shut t r p in fits_put d (handed_over u r p) (table ∙ h.table.0, h.table.1, h.table.2) g.0.0 h.calm.1 (by ∙ h.by) h.first g.0.1 (handed_itself u (shut_itself t h.itself r p) r p)
-      (ap rows_of items ∙ (rows_without r s.hands.items ∙ ap (without_one r) h.held)) (rw events h.noted) (λ m. let a = h.whole m in omega arith) (λ m. let a = h.hold m in omega arith) (rw events h.pages) (rw events h.leaves)
+      (ap keys_of items ∙ (rows_without r s.hands.items ∙ ap (without_one r) h.held)) (rw events h.noted) (λ m. let a = h.whole m in omega arith) (λ m. let a = h.hold m in omega arith) (rw events h.pages) (rw events h.leaves)
 
   -- the other seat comes back to this main one
   pub comes_back : {o : SharedSeat P} → SharedFits o d → CanJoin (shown s) (shown o) → TookIn (joined s.pass.me.0.token o.pass.me.0.token) s.pass.me.0.token o.pass.me.0.token
@@ -56,9 +56,9 @@ module _ {P : Type 0} {s : SharedSeat P} (d : TableRef P) (h : SharedFits s d) w
     name = can.1.0;
     by = can.1.1;
     out = can.1.2;
-    side = ⊎_elim (λ m. absurd ((h.itself.outs can.1.0 can.1.2).1 (h.first can.0 ∙ (sym (f.first m) ∙ can.1.1)))) (λ x. x) (true_or o.pass.me.0.token.main);
+    side = ⊎_elim (λ m. absurd ((h.itself.outs can.1.0 can.1.2).1 (h.first can.0 ∙ (sym (f.first m) ∙ can.1.1)))) (λ x. x) (cases_Bool o.pass.me.0.token.main);
     mine = h.itself;
     theirs = f.itself;
-    shut = sym f.held ∙ ap rows_of can.2.0;
+    shut = sym f.held ∙ ap keys_of can.2.0;
     unused = can.2.1;
   }

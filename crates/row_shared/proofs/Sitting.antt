@@ -4,7 +4,7 @@ use Rattle.std.specs.Prelude.{vec_capacity, vec_len}
 use Rattle.std.specs.Arc.{arc_value}
 use Rattle.chunk_core.proofs.Filters.{bool_not}
 use Rattle.row_seat.specs.declared.token.Token.{Token}
-use Rattle.row_seat.specs.Hands.{rows_of}
+use Rattle.std.specs.Map.{keys_of}
 use Rattle.row_seat.specs.Rule.{IsInside}
 use Rattle.row_shared.specs.declared.seat.SharedSeat.{SharedSeat}
 use Rattle.row_shared.specs.declared.seat.TableRef.{TableRef}
@@ -14,7 +14,7 @@ use Rattle.row_shared.specs.Seats.{SharedFits}
 -- the seat s' knows w
 module _ {P : Type 0} {s' : SharedSeat P} (d : TableRef P) (w : Token P) where
   pub fits_put : IsOfTable s'.pass.table_id (arc_value d.table).shared.table_id (arc_value d.table).shared.key → s'.pass.me ≡ idle w → w.live ≡ true → s'.by ≡ w.by → (w.main ≡ true → w.by ≡ (arc_value d.table).shared.key.by)
-      → IsInside (arc_value d.table).shared.table_id.slots w → KnowsItself w → rows_of s'.hands.items ≡ w.opened → s'.events.items ≡ w.events
+      → IsInside (arc_value d.table).shared.table_id.slots w → KnowsItself w → keys_of s'.hands.items ≡ w.opened → s'.events.items ≡ w.events
       → (w.main ≡ true → (arc_value d.table).shared.table_id.slots ≤ vec_capacity s'.hands) → (w.main ≡ false → length w.empty + vec_len s'.hands ≤ vec_capacity s'.hands)
       → (w.main ≡ true → (arc_value d.table).shared.key.events ≤ vec_capacity s'.events) → (w.main ≡ false → length w.events + w.spare ≤ vec_capacity s'.events)
       → SharedFits s' d

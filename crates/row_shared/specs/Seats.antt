@@ -5,7 +5,8 @@ use Rattle.std.specs.Arc.{arc_value}
 use Rattle.std.specs.Vec.{with_item}
 use Rattle.atomic_table.specs.Seated.{TableId}
 use Rattle.row_seat.specs.declared.view.View.{View}
-use Rattle.row_seat.specs.Hands.{rows_of, rows_with, set_spot, spot}
+use Rattle.row_seat.specs.Hands.{rows_with, set_spot, spot}
+use Rattle.std.specs.Map.{keys_of}
 use Rattle.row_seat.specs.Rule.{IsInside, seen}
 use Rattle.row_seat.specs.Views.{paid}
 use Rattle.row_shared.specs.declared.seat.SharedSeat.{SharedSeat}
@@ -32,7 +33,7 @@ module _ {P : Type 0} where
     pub first : s.pass.me.0.token.main ≡ true → s.pass.me.0.token.by ≡ k.by
     pub inside : IsInside z.slots s.pass.me.0.token
     pub itself : KnowsItself s.pass.me.0.token
-    pub held : rows_of s.hands.items ≡ s.pass.me.0.token.opened
+    pub held : keys_of s.hands.items ≡ s.pass.me.0.token.opened
     pub noted : s.events.items ≡ s.pass.me.0.token.events
     -- the main seat has room for all rows and events, each other for its own
     pub whole : s.pass.me.0.token.main ≡ true → z.slots ≤ vec_capacity s.hands
@@ -48,4 +49,4 @@ module _ {P : Type 0} where
   shown_lent s r w = ap (λ xs. seen s.pass.me.0.token xs) (set_spot r w s.hands.items)
 
   pub fits_lent : (s : SharedSeat P) (r : ℕ) (w : P) (d : TableRef P) → SharedFits s d → SharedFits (lent s r w) d
-  fits_lent s r w d h = record { table = h.table; calm = h.calm; by = h.by; first = h.first; inside = h.inside; itself = h.itself; held = ap rows_of (set_spot r w s.hands.items) ∙ (rows_with r w s.hands.items ∙ h.held); noted = h.noted; whole = h.whole; hold = h.hold; pages = h.pages; leaves = h.leaves }
+  fits_lent s r w d h = record { table = h.table; calm = h.calm; by = h.by; first = h.first; inside = h.inside; itself = h.itself; held = ap keys_of (set_spot r w s.hands.items) ∙ (rows_with r w s.hands.items ∙ h.held); noted = h.noted; whole = h.whole; hold = h.hold; pages = h.pages; leaves = h.leaves }

@@ -6,7 +6,7 @@ use Rattle.res_ledger.specs.declared.event.What.{What}
 use Rattle.row_seat.specs.declared.token.Token.{Token}
 use Rattle.row_seat.specs.declared.view.Left.{Left}
 use Rattle.row_seat.specs.declared.view.Left.TheVariants.{Stays, Yours}
-use Rattle.row_seat.specs.Hands.{rows_of}
+use Rattle.std.specs.Map.{keys_of}
 use Rattle.row_seat.specs.Rule.{IsInside, seen}
 use Rattle.row_seat.specs.Steps.{gone, handed_over, joined, leased, noted, placed, shut, took}
 use Rattle.row_seat.specs.Totals.{stamp_times}
@@ -40,8 +40,8 @@ module _ {P : Type 0} where
 
   -- the lease is gone. Stays: where the seat is the main one, the row is held still. Yours: it was the last on a closed row, which is handed over with what was left in it
   abbrev pub Gave : ℕ → ℕ → ℕ → Left → Token P → Seated P → Type 0
-  Gave rows j r Stays t after = Knows rows (gone t j r) after × (t.main ≡ true → (hands : List (ℕ × P)) → rows_of hands ≡ t.opened → IsHeldStill (seen t hands) j r)
-  Gave rows j r Yours t after = (p : P) × Knows rows (handed_over (gone t j r) r p) after × ((hands : List (ℕ × P)) → rows_of hands ≡ t.opened → IsLastLease (seen t hands) j r p)
+  Gave rows j r Stays t after = Knows rows (gone t j r) after × (t.main ≡ true → (hands : List (ℕ × P)) → keys_of hands ≡ t.opened → IsHeldStill (seen t hands) j r)
+  Gave rows j r Yours t after = (p : P) × Knows rows (handed_over (gone t j r) r p) after × ((hands : List (ℕ × P)) → keys_of hands ≡ t.opened → IsLastLease (seen t hands) j r p)
 
   -- a lease of the row r is given up, where the word was n: 7 is that of a closed row with one lease
   abbrev pub Quit : ℕ → ℕ → ℕ → Token P → ℕ → Seated P → Type 0

@@ -2,7 +2,7 @@ use Rattle.std.proofs.Common.{◌≡◌, ◌+◌, ◌-◌, ◌≤◌, length, re
 use Rattle.std.specs.Prelude.{vec_capacity}
 use Rattle.std.proofs.lemmas.List.{length-replicate}
 use Rattle.chunk_core.proofs.Filters.{bool_not}
-use Rattle.row_seat.specs.Hands.{rows_of}
+use Rattle.std.specs.Map.{keys_of}
 use Rattle.row_seat.specs.Rule.{IsInside}
 use Rattle.row_shared.specs.declared.table.Place.{Place}
 use Rattle.row_shared.specs.declared.table.Start.{Start}
@@ -27,7 +27,7 @@ returns g c = let k : Start = record { by = c.args.by; rows = c.args.rows; seats
       rw (t.4, hands.items) refl,
       fits_put (record { table = c.in_ok-table-2.table }) first.token (subst (λ a. IsOfTable c.in_ok-table.pass.table_id a.shared.table_id a.shared.key) ok (t.2, words, slots)) t.4 refl refl
           (λ m. subst (λ a. c.args.by ≡ a.shared.key.by) ok (sym (ap (λ (z : Start). z.by) t.5)))
-          (subst (λ a. IsInside a.shared.table_id.slots first.token) ok (subst (λ n. IsInside n first.token) (sym rows) (first_inside k))) (first_itself c.args.by c.args.rows c.args.events (c.args.seats - 1)) (ap rows_of hands.items) pages.items
+          (subst (λ a. IsInside a.shared.table_id.slots first.token) ok (subst (λ n. IsInside n first.token) (sym rows) (first_inside k))) (first_itself c.args.by c.args.rows c.args.events (c.args.seats - 1)) (ap keys_of hands.items) pages.items
           (λ m. subst (λ a. a.shared.table_id.slots ≤ vec_capacity c.in_ok-hands.hands) ok (let b = hands.capacity in omega arith))
           (λ m. absurd (bool_not m))
           (λ m. subst (λ a. a.shared.key.events ≤ vec_capacity c.in_ok-pages.pages) ok (let b = pages.capacity in omega arith))

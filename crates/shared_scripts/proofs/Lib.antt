@@ -1,0 +1,3 @@
+mod Scoping
+mod Racing
+mod Lent
