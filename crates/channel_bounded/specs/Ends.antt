@@ -6,6 +6,7 @@ use Rattle.crossbeam_queue.specs.declared.array_queue.Doing.{Doing}
 use Rattle.crossbeam_queue.specs.declared.array_queue.Slotted.{Slotted}
 use Rattle.channel_bounded.specs.declared.message.Msg.{Msg}
 use Rattle.channel_bounded.specs.declared.rule.View.{View}
+use Rattle.channel_bounded.specs.Queue.{KeptByGet, KeptBySend, ReceiverFinds, SenderFinds}
 
 -- which hub it is, and how many messages it can hold
 pub record HubSeen : Type 0 where
@@ -41,3 +42,19 @@ IsSending pass = (pass.me.1 ≡ []) × ((view pass).sends ≡ true)
 -- the pass has no slot out, and is the receiver's
 abbrev pub IsReceiving : Pass Msg View → Type 0
 IsReceiving pass = (pass.me.1 ≡ []) × ((view pass).gets ≡ true) × ((view pass).sends ≡ false)
+
+-- what the sender finds at one moment: these are queued
+abbrev pub SenderSees : (List Msg → List Msg → Type 0) → SenderSeen → List Msg → Type 0
+SenderSees may sender queued = SenderFinds may sender.stream sender.sent queued
+
+-- what the receiver finds at one moment: these are queued
+abbrev pub ReceiverSees : (List Msg → List Msg → Type 0) → ReceiverSeen → List Msg → Type 0
+ReceiverSees may receiver queued = ReceiverFinds may receiver.got receiver.made receiver.closed queued
+
+-- the sender's next message keeps the fact
+abbrev pub MaySend : (List Msg → List Msg → Type 0) → ℕ → SenderSeen → Msg → Type 0
+MaySend may capacity sender m = KeptBySend may capacity sender.stream sender.sent m
+
+-- the receiver's next receipt keeps the fact
+abbrev pub MayReceive : (List Msg → List Msg → Type 0) → ReceiverSeen → Type 0
+MayReceive may receiver = KeptByGet may receiver.got receiver.made receiver.closed

@@ -2,8 +2,7 @@
 ghost use Rattle.std.specs.Prelude.{◌≡◌, ℕ, [], ◌++◌, ◌∷◌, List, IfSome, IfNone};
 ghost use Rattle.chunk_core.specs.Lists.{IsAmong};
 ghost use Rattle.channel_bounded.specs.declared.message.Msg.{Msg};
-ghost use Rattle.channel_bounded.specs.Ends.{HubSeen, SenderSeen, ReceiverSeen, seen_receiver, IsReceiving};
-ghost use Rattle.channel_bounded.specs.Queue.{KeptByGet, ReceiverFinds};
+ghost use Rattle.channel_bounded.specs.Ends.{HubSeen, SenderSeen, ReceiverSeen, seen_receiver, IsReceiving, MayReceive, ReceiverSees};
 ghost use Rattle.channel_bounded.specs.Streams.{IsWhole};
 
 use crate::hub::Hub;
@@ -57,11 +56,11 @@ impl Receiver {
     /// The next message. `None` only where the queue was empty at one moment of the call.
     pub fn try_recv<A: May, R: Wait>(&mut self, rt: &R, hub: &Hub<A>) -> Option<Msg>
         requires fits { self.old.hub ≡ hub.now.id }
-        requires may { KeptByGet A.may self.old.got self.old.made self.old.closed }
+        requires may { MayReceive A.may self.old }
         ensures got { IfSome result (λ m. self.new ≡ record self.old { got = self.old.got ++ m ∷ [] }) }
-        ensures first { IfSome result (λ m. (rest : List Msg) × ReceiverFinds A.may self.old.got self.old.made self.old.closed (m ∷ rest)) }
+        ensures first { IfSome result (λ m. (rest : List Msg) × ReceiverSees A.may self.old (m ∷ rest)) }
         ensures same { IfNone result (self.new ≡ self.old) }
-        ensures empty { IfNone result (ReceiverFinds A.may self.old.got self.old.made self.old.closed []) }
+        ensures empty { IfNone result (ReceiverSees A.may self.old []) }
     {
         hub.queue.pop_as::<Gets<A>, R>(rt, &mut self.pass)
     }
@@ -70,7 +69,7 @@ impl Receiver {
     pub fn join<A: May>(&mut self, hub: &Hub<A>, sender: Sender)
         requires fits { (self.old.hub ≡ hub.now.id) × (sender.hub ≡ hub.now.id) }
         ensures receiver { self.new ≡ record self.old { closed = self.old.closed ++ (sender.stream, sender.sent) ∷ [] } }
-        ensures whole { (queued : List Msg) × IsWhole sender.stream sender.sent self.old.got queued × ReceiverFinds A.may self.new.got self.new.made self.new.closed queued }
+        ensures whole { (queued : List Msg) × IsWhole sender.stream sender.sent self.old.got queued × ReceiverSees A.may self.new queued }
     {
         let Sender { pass } = sender;
         hub.queue.absorb::<Closes>(&mut self.pass, pass);

@@ -1,8 +1,7 @@
 //! A stream's end of the channel.
 ghost use Rattle.std.specs.Prelude.{◌≡◌, ℕ, [], ◌++◌, ◌∷◌, length, List, OnOk, OnErr, IfErr};
 ghost use Rattle.channel_bounded.specs.declared.message.Msg.{Msg};
-ghost use Rattle.channel_bounded.specs.Ends.{HubSeen, SenderSeen, seen_sender, IsSending};
-ghost use Rattle.channel_bounded.specs.Queue.{KeptBySend, SenderFinds};
+ghost use Rattle.channel_bounded.specs.Ends.{HubSeen, SenderSeen, seen_sender, IsSending, MaySend, SenderSees};
 
 use crate::hub::Hub;
 use crate::message::{Full, Msg};
@@ -33,11 +32,11 @@ impl Sender {
     pub fn try_send<A: May, R: Wait>(&mut self, rt: &R, hub: &Hub<A>, m: Msg) -> Result<(), Full>
         requires fits { self.old.hub ≡ hub.now.id }
         requires stream { m.stream ≡ self.old.stream }
-        requires may { KeptBySend A.may hub.now.capacity self.old.stream self.old.sent m }
+        requires may { MaySend A.may hub.now.capacity self.old m }
         ensures sent { OnOk result (self.new ≡ record self.old { sent = self.old.sent ++ m ∷ [] }) }
         ensures back { IfErr result (λ full. full.0 ≡ m) }
         ensures unsent { OnErr result (self.new ≡ self.old) }
-        ensures full { OnErr result ((queued : List Msg) × (length queued ≡ hub.now.capacity) × SenderFinds A.may self.old.stream self.old.sent queued) }
+        ensures full { OnErr result ((queued : List Msg) × (length queued ≡ hub.now.capacity) × SenderSees A.may self.old queued) }
     {
         match hub.queue.push_as::<Sends<A>, R>(rt, &mut self.pass, m) {
             Ok(()) => Ok(()),

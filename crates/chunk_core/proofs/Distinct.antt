@@ -1,6 +1,6 @@
 -- Lists of numbers in which none stands twice.
 use Rattle.std.proofs.Common.{◌≡◌, ℕ, Bool, true, false, cond, not, ◌++◌, filter, nat_eq, List, [], ◌∷◌, reverse, refl, sym, ap, ◌∙◌, subst, ⊎_elim, ne_eqb}
-use Rattle.std.specs.List.{IsDistinct, AllByRecursion}
+use Rattle.std.specs.List.{IsDistinct}
 use Rattle.std.proofs.lemmas.Map.Keys.{IsDistinct-cons, IsDistinct-head, IsDistinct-IsPermutation, IsDistinct-tail}
 use Rattle.std.proofs.lemmas.List.Sorted.{IsPermutation-middle}
 use Rattle.std.proofs.lemmas.Cmp.{nat_eq_equiv}

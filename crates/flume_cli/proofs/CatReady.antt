@@ -1,7 +1,6 @@
 -- The device of cat: made, run over, and given back.
 use Rattle.std.proofs.Common.{◌≡◌, ℕ, List, [], ◌∷◌, ◌++◌, length, Option, refl, sym, ◌∙◌, ap, subst, ⊎_elim, arith, length-append}
 use Rattle.std.proofs.lemmas.List.Sorted.{IsPermutation-trans}
-use Rattle.std.specs.List.{IsDistinct}
 use Rattle.chunk_core.proofs.Members.{among_nil, among_cons}
 use Rattle.device_port.specs.declared.device.Mode.TheVariants as mode
 use Rattle.device_port.specs.Device.{DeviceTold}

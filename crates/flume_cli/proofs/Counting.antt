@@ -71,10 +71,10 @@ named_once row L apart = behind [] L refl
           | None ↦ λ n. rest
           | Some r ↦ λ n. distinct_cons r (rows_named row Q)
               (λ m.
-                let f = filter_map_from (λ (x : Event). row x.what) r Q m in
-                let parts = split_at f.0 Q f.1 in
-                apart (P ++ e ∷ parts.0) parts.1 f.0 r (is ∙ (ap (λ l. P ++ e ∷ l) parts.2 ∙ sym (append_assoc P (e ∷ parts.0) (f.0 ∷ parts.1)))) f.2
-                (filter_map_of (λ (x : Event). row x.what) r e (P ++ e ∷ parts.0) (among_mid P parts.0 e) n))
+              let f = filter_map_from (λ (x : Event). row x.what) r Q m in
+              let parts = split_at f.0 Q f.1 in
+              apart (P ++ e ∷ parts.0) parts.1 f.0 r (is ∙ (ap (λ l. P ++ e ∷ l) parts.2 ∙ sym (append_assoc P (e ∷ parts.0) (f.0 ∷ parts.1)))) f.2
+              (filter_map_of (λ (x : Event). row x.what) r e (P ++ e ∷ parts.0) (among_mid P parts.0 e) n))
               rest
         ]) refl
 

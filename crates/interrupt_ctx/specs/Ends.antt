@@ -33,7 +33,7 @@ HasFound old new context there = new ≡ record old { view = with_seen old.view 
 abbrev pub seen_board : {K P A : Type 0} → Table ℕ View K P A → BoardSeen
 seen_board t = record { id = t.shared.table_id; contexts = t.words }
 
--- the rule counts its words, and there is one
+-- its rule knows how many words it has, and there is at least one
 abbrev pub IsSized : {P A : Type 0} → Table ℕ View ℕ P A → Type 0
 IsSized t = (t.shared.key ≡ t.words) × (1 ≤ t.words)
 

@@ -25,7 +25,7 @@ pub record WordsAgree (contexts : ℕ) (words : List ℕ) (views : List View) : 
   pub once : (context : ℕ) → 1 ≤ slice_index words context → total (sets_of context) views ≡ 1
   pub told : (i : ℕ) (v : View) → IsAt views i v → (context : ℕ) (why : Why) → Knows v context why → slice_index words context ≡ code_of why
 
--- there is one first seat, which knows how many others are in use; one that isn't has nothing
+-- there is one first seat, which knows how many others are in use; a seat that is no longer in use has nothing
 pub record SeatsAgree (views : List View) : Type 0 where
   pub one : total first_count views ≡ 1
   pub out : (i : ℕ) (v : View) → IsAt views i v → v.first ≡ true → v.out ≡ total out_count views

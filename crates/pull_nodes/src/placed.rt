@@ -4,6 +4,7 @@ ghost use Rattle.std.specs.List.{list_any as any, list_all as all};
 ghost use Rattle.pull_nodes.specs.Shape.{places_of, uses_of};
 ghost use Rattle.pull_nodes.specs.Placed.{is_placed, is_within, are_apart, is_once, is_loose};
 ghost use Rattle.chunk_core.specs.Lists.{are_distinct};
+
 use crate::node::Node;
 use chunk_core::Span;
 

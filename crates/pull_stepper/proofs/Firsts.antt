@@ -1,14 +1,14 @@
 -- The least of some numbers.
-use Rattle.std.proofs.Common.{◌≡◌, ℕ, suc, ◌+◌, ◌-◌, ◌<◌, ◌≤◌, min, Bool, true, false, ◌||◌, zero, not, nat_eq, List, [], ◌∷◌, ◌++◌, length, ◌⊎◌, inl, inr, ⊎_elim, refl, sym, ap, subst, ◌∙◌, Option, Some, None, unwrap_or, arith}
-use Rattle.std.proofs.lemmas.Bool.{cases_lt, false≢true}
+use Rattle.std.proofs.Common.{◌≡◌, ℕ, suc, ◌+◌, ◌-◌, ◌<◌, ◌≤◌, min, true, zero, nat_eq, List, [], ◌∷◌, ◌++◌, length, ◌⊎◌, inl, inr, ⊎_elim, refl, sym, ap, subst, ◌∙◌, Option, Some, None, unwrap_or, arith}
+use Rattle.std.proofs.lemmas.Bool.{cases_lt}
 use Rattle.std.proofs.lemmas.Map.Made.{length-le_from_is_member}
 use Rattle.std.proofs.Math.Nat.{eq-or-lt_of_le}
 use Rattle.std.specs.Cmp.{nat_eq_equiv}
-use Rattle.std.specs.List.{IsDistinct, AllByRecursion, list_any as any}
+use Rattle.std.specs.List.{list_any as any}
 use Rattle.chunk_core.specs.Lists.{IsAmong, are_distinct}
 use Rattle.chunk_core.specs.Lists.IsAmong.{here, there}
 use Rattle.chunk_core.proofs.Members.{among_cons}
-use Rattle.chunk_core.proofs.Bools.{both, or_left, or_right, number, itself, any_found}
+use Rattle.chunk_core.proofs.Bools.{or_left, or_right, number, itself, any_found}
 use Rattle.chunk_core.proofs.Filters.{among_append}
 use Rattle.row_seat.specs.Views.{run}
 use Rattle.row_seat.proofs.Times.{run_length}

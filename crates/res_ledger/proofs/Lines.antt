@@ -1,15 +1,15 @@
 -- The lines of a text.
-use Rattle.std.proofs.Common.{◌≡◌, ◌≢◌, ℕ, ◌+◌, ◌<◌, ◌^◌, List, [], ◌∷◌, ◌++◌, All, length, take, get_or, map, codes, decimal, refl, sym, ap, ◌∙◌, subst, append_assoc, add-one, ⊎_elim}
+use Rattle.std.proofs.Common.{◌≡◌, ◌≢◌, ℕ, ◌+◌, ◌<◌, ◌^◌, List, [], ◌∷◌, ◌++◌, All, length, map, codes, decimal, refl, sym, ap, ◌∙◌, append_assoc, add-one, ⊎_elim}
 use Rattle.std.specs.List.{flat_map, onto_first, AllByRecursion}
 use Rattle.std.proofs.lemmas.Bool.{ne_eqb}
 use Rattle.std.proofs.lemmas.Bool.Decides.{eqb_tells}
-use Rattle.std.proofs.lemmas.List.{append-nil, length-map, flat_map_more, take_more}
+use Rattle.std.proofs.lemmas.List.{append-nil, length-map, flat_map_more}
 use Rattle.std.proofs.lemmas.List.Elements.{All-head, All-tail}
 use Rattle.res_ledger.specs.declared.event.Event.{Event}
 use Rattle.res_ledger.specs.Texts.{event_line, ledger_text}
 use Rattle.res_ledger.specs.Reading.{IsSmallEvent, IsEventLine, IsFirstBadLine, IsSpelled, cut_of, lines_of, head_line}
 use Rattle.res_ledger.proofs.Spelled.{body, body_lacks, head_lacks}
-use Rattle.chunk_core.proofs.Each.{each_last, each_left}
+use Rattle.chunk_core.proofs.Each.{each_last}
 
 -- a text is cut at its first LF
 pub cut_at : (xs ys : List ℕ) → All (λ x. x ≢ 10) xs → cut_of (xs ++ 10 ∷ ys) ≡ (xs ++ 10 ∷ []) ∷ cut_of ys

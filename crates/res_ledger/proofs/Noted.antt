@@ -1,8 +1,8 @@
 -- Between a ledger and what one stream noted in it.
-use Rattle.std.proofs.Common.{◌≡◌, ℕ, Bool, true, false, cond, nat_eq, List, [], ◌∷◌, ◌++◌, ◌⊎◌, inl, inr, refl, sym, ap, ◌∙◌, subst, ⊎_elim}
+use Rattle.std.proofs.Common.{◌≡◌, ℕ, Bool, true, false, cond, List, [], ◌∷◌, ◌⊎◌, refl, sym, ap, ◌∙◌, subst, ⊎_elim}
 use Rattle.std.specs.List.{flat_map}
 use Rattle.std.proofs.lemmas.Bool.{false≢true}
-use Rattle.chunk_core.specs.Lists.{IsAmong, has}
+use Rattle.chunk_core.specs.Lists.{IsAmong}
 use Rattle.chunk_core.specs.Lists.IsAmong.{here, there}
 use Rattle.chunk_core.proofs.Filters.{among_append, among_right}
 use Rattle.chunk_core.proofs.Members.{among_cons, among_nil, among_left}
@@ -17,7 +17,7 @@ use Rattle.res_ledger.specs.Streams.{same_stream}
 use Rattle.res_ledger.specs.Whole.{is_final, is_cancel}
 use Rattle.res_ledger.specs.Judge.{is_noted}
 use Rattle.res_ledger.proofs.Tests.{name, named}
-use Rattle.chunk_core.proofs.Bools.{number, itself, any_at, any_found}
+use Rattle.chunk_core.proofs.Bools.{number, any_at, any_found}
 
 own_found : (e : Event) (L : List Event) (k : StreamNo) (w : What) (b : Bool) → same_stream e.by k ≡ b → IsAmong w (cond b (e.what ∷ own k L) (own k L)) → (IsAmong w (own k L) → Notes L k w) → Notes (e ∷ L) k w
 own_found e L k w true t m rest = ⊎_elim (λ q. (e, here L, name e.by k t, sym q)) (λ n. let x = rest n in (x.0, there e x.1, x.2, x.3)) (among_cons m)

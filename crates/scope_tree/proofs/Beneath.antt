@@ -10,7 +10,7 @@ use Rattle.chunk_core.specs.Lists.{IsAmong, has}
 use Rattle.res_ledger.specs.Ledger.{Notes, LiesWithin, IsClosed, IsUsable, NotesClose}
 use Rattle.res_ledger.specs.Ledger.LiesWithin.{same, below}
 use Rattle.chunk_core.specs.Lists.IsAmong.{here, there}
-use Rattle.chunk_core.proofs.Members.{among_nil, among_cons, among_left, among_snoc}
+use Rattle.chunk_core.proofs.Members.{among_nil, among_cons, among_left}
 use Rattle.row_seat.specs.Views.{HasRow, noted}
 use Rattle.res_ledger.proofs.Growth.{noted_more, noted_new, within_more}
 use Rattle.res_ledger.specs.Own.{opens, rows, closes, up, above, is_closed, teardown, latest}

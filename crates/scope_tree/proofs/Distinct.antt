@@ -1,18 +1,15 @@
 -- Lists of rows: what is picked of them, and how many of them are foreign.
-use Rattle.std.proofs.Common.{◌≡◌, ℕ, ◌+◌, ◌≤◌, suc, Bool, true, false, cond, not, filter, List, [], ◌∷◌, ◌++◌, map, length, refl, sym, ap, ◌∙◌, subst, ⊎_elim, arith, nat_eq, reverse}
-use Rattle.chunk_core.specs.Lists.{IsAmong, has, are_distinct}
+use Rattle.std.proofs.Common.{◌≡◌, ℕ, ◌+◌, ◌≤◌, suc, Bool, true, false, cond, filter, List, [], ◌∷◌, ◌++◌, length, refl, sym, ap, subst, ⊎_elim, arith}
+use Rattle.chunk_core.specs.Lists.{IsAmong, has}
 use Rattle.chunk_core.specs.Lists.IsAmong.{here, there}
-use Rattle.chunk_core.proofs.Members.{among_nil, among_cons, among_last, among_left, among_snoc}
+use Rattle.chunk_core.proofs.Members.{among_cons}
 use Rattle.chunk_core.proofs.Filters.{among_filter}
-use Rattle.chunk_core.proofs.Bools.{both, and_true, has_in, in_has}
+use Rattle.chunk_core.proofs.Bools.{has_in, in_has}
 use Rattle.res_ledger.specs.Order.{Picks, firsts}
 use Rattle.res_ledger.specs.Order.Picks.{none, pick, pass}
-use Rattle.row_seat.specs.Views.{HasRow}
 use Rattle.scope_tree.specs.declared.branch.Spent.{Spent}
-use Rattle.scope_tree.specs.Rows.{Once, strangers}
-use Rattle.std.specs.List.{IsDistinct}
+use Rattle.scope_tree.specs.Rows.{strangers}
 use Rattle.scope_tree.specs.Released.{said}
-use Rattle.chunk_core.proofs.Distinct.{distinct_append}
 use Rattle.std.specs.Map.{keys_of}
 
 -- what is picked from a list is of it

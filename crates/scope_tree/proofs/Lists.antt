@@ -4,7 +4,7 @@ use Rattle.std.proofs.lemmas.Bool.{cases_eq}
 use Rattle.chunk_core.specs.Lists.{IsAmong}
 use Rattle.chunk_core.specs.Lists.IsAmong.{here, there}
 use Rattle.chunk_core.proofs.Filters.{among_filter}
-use Rattle.chunk_core.proofs.Members.{among_nil, among_cons, among_left}
+use Rattle.chunk_core.proofs.Members.{among_nil, among_cons}
 use Rattle.row_seat.specs.Views.{HasRow, without, without_pair, without_row}
 use Rattle.scope_tree.specs.Released.{away, is_here}
 use Rattle.std.specs.List.{IsDistinct}

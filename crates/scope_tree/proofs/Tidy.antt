@@ -1,6 +1,5 @@
 -- Each call of a tree keeps the order of what its stream notes, and so the ledger is in order.
 use Rattle.std.proofs.Common.{◌≡◌, ℕ, ◌↔◌, Bool, true, false, cond, filter, map, List, [], ◌∷◌, ◌++◌, length, length-append, reverse, refl, sym, ap, ◌∙◌, subst, ⊎_elim, arith, append_assoc}
-use Rattle.std.proofs.lemmas.List.{reverse-append}
 use Rattle.chunk_core.specs.declared.code.Exit.{Exit}
 use Rattle.chunk_core.specs.Lists.{IsAmong, has}
 use Rattle.chunk_core.specs.Lists.IsAmong.{here, there}

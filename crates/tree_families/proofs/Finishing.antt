@@ -8,7 +8,7 @@ use Rattle.chunk_core.specs.Lists.{IsAmong}
 use Rattle.chunk_core.specs.Lists.IsAmong.{here, there}
 use Rattle.chunk_core.proofs.Cuts.{two_places}
 use Rattle.chunk_core.proofs.Filters.{among_append, among_filter}
-use Rattle.chunk_core.proofs.Members.{among_cons, among_last, among_left, among_mid, among_nil, among_snoc}
+use Rattle.chunk_core.proofs.Members.{among_cons, among_last, among_left, among_nil, among_snoc}
 use Rattle.res_ledger.specs.declared.event.What.{What}
 use Rattle.res_ledger.specs.declared.event.What.TheVariants.{Acquire, Cancel, Close, Final, Lease, Open}
 use Rattle.res_ledger.specs.Order.{finals}
@@ -31,7 +31,7 @@ use Rattle.scope_tree.proofs.Leasing.{pairs_among}
 use Rattle.scope_tree.proofs.Lessee.{lease_gone}
 use Rattle.scope_tree.proofs.Owed.{number_among}
 use Rattle.scope_tree.proofs.Parting.{join_words}
-use Rattle.chunk_core.proofs.Distinct.{distinct_append, distinct_nil, distinct_one, distinct_tail, distinct_mid}
+use Rattle.chunk_core.proofs.Distinct.{distinct_append, distinct_nil, distinct_one, distinct_mid}
 use Rattle.scope_tree.proofs.Use.{acquired_said, cancel_follows, canceled_said, close_follows, close_pairs, closed_said, leased_said, leases, opened_said}
 use Rattle.tree_laws.specs.Alone.{HasNoOthers}
 use Rattle.tree_laws.specs.Called.{Called, MayCancel, MayLease}

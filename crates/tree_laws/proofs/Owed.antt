@@ -15,7 +15,6 @@ use Rattle.scope_tree.specs.Words.{leasing, numbers, open_scopes, owed, words}
 use Rattle.scope_tree.proofs.Beneath.{closed_sound, not_true', open_pos}
 use Rattle.scope_tree.proofs.Grown.{Grown, closes_finals, grown_note, grown_release, grown_scopes, opens_finals}
 use Rattle.scope_tree.proofs.Lessee.{lease_opened}
-use Rattle.scope_tree.proofs.Lists.{away_append}
 use Rattle.scope_tree.proofs.Owed.{nothing_owed}
 use Rattle.scope_tree.proofs.Owning.{owner_count}
 use Rattle.scope_tree.proofs.Parting.{join_words}

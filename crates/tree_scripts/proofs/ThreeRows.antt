@@ -1,7 +1,6 @@
 -- What the calls of a script leave.
-use Rattle.std.proofs.Common.{◌≡◌, ◌≢◌, ℕ, ◌+◌, ◌≤◌, ◌⊎◌, List, [], ◌∷◌, length, refl, sym, ap, ◌∙◌, subst, ⊎_elim}
+use Rattle.std.proofs.Common.{◌≡◌, ◌≢◌, ℕ, ◌+◌, ◌≤◌, ◌⊎◌, [], ◌∷◌, length, refl, sym, ap, ◌∙◌, subst}
 use Rattle.chunk_core.specs.Lists.{IsAmong}
-use Rattle.std.specs.List.{AllByRecursion}
 use Rattle.chunk_core.specs.Lists.IsAmong.{here, there}
 use Rattle.res_ledger.specs.declared.event.Event.{Event}
 use Rattle.res_ledger.specs.declared.event.What.TheVariants.{Lease}
@@ -16,7 +15,7 @@ use Rattle.tree_scripts.specs.Scripts.{IsThree, at_first, three, with_row, with_
 use Rattle.tree_scripts.specs.Waiting.{IsAlone}
 use Rattle.scope_tree.specs.Words.{words}
 use Rattle.scope_tree.proofs.Use.{all_open, first_is as first_open_is, seen_is}
-use Rattle.chunk_core.proofs.Members.{among_cons, among_nil}
+use Rattle.chunk_core.proofs.Members.{among_nil}
 use Rattle.chunk_core.proofs.Each.{among_each}
 
 outer_inner : (j : ℕ) → Outer ≡ Inner j → ⊥
