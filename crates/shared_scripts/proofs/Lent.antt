@@ -1,13 +1,13 @@
 -- A main seat that leases its one row, call by call.
-use Rattle.std.proofs.Common.{◌≡◌, ◌≢◌, ℕ, ◌≤◌, ◌↔◌, ◌⊎◌, List, [], ◌∷◌, inl, inr, refl, sym, ap, ◌∙◌, subst, ⊎_elim, arith, lit≤}
+use Rattle.std.proofs.Common.{◌≡◌, ◌≢◌, ℕ, ◌≤◌, ◌↔◌, List, [], ◌∷◌, inl, inr, refl, sym, ap, ◌∙◌, subst, ⊎_elim, arith, lit≤}
 use Rattle.chunk_core.specs.declared.code.Exit.{Exit}
 use Rattle.chunk_core.specs.Lists.{IsAmong}
 use Rattle.chunk_core.specs.Lists.IsAmong.{here, there}
 use Rattle.chunk_core.proofs.Members.{among_cons, among_nil}
 use Rattle.res_ledger.specs.declared.event.Event.{Event}
 use Rattle.res_ledger.specs.declared.event.What.TheVariants.{Acquire, Close, Lease}
-use Rattle.res_ledger.specs.declared.event.StreamNo.TheVariants.{Inner, Outer}
-use Rattle.res_ledger.specs.Ledger.{IsClosed, IsCoveredBy, IsLeased, IsUsable}
+use Rattle.res_ledger.specs.declared.event.StreamNo.TheVariants.{Outer}
+use Rattle.res_ledger.specs.Ledger.{IsClosed, IsCoveredBy, IsLeased}
 use Rattle.res_ledger.specs.Ledger.LiesWithin.{same}
 use Rattle.row_seat.specs.declared.view.View.{View}
 use Rattle.row_seat.specs.Views.{CanLease, CanPlace, CanSplit, MayNote, leased, noted, placed, split_main, split_off, start}

@@ -1,21 +1,19 @@
 -- Two seats with one row, call by call, and the handles that they come back with.
-use Rattle.std.proofs.Common.{◌≡◌, ◌≢◌, ℕ, ◌+◌, ◌-◌, ◌≤◌, ◌↔◌, ◌⊎◌, Bool, false, true, List, [], ◌∷◌, ◌++◌, inl, inr, refl, sym, ap, ◌∙◌, subst, ⊎_elim, arith, lit≤}
+use Rattle.std.proofs.Common.{◌≡◌, ◌≢◌, ℕ, ◌≤◌, Bool, false, [], ◌∷◌, ◌++◌, refl, sym, ap, ◌∙◌, subst, ⊎_elim, arith}
 use Rattle.std.proofs.lemmas.Bool.{cases_Bool}
-use Rattle.chunk_core.specs.declared.code.Exit.{Exit}
 use Rattle.chunk_core.specs.declared.code.Exit.TheVariants.{Succeeded}
 use Rattle.chunk_core.specs.Lists.{IsAmong}
 use Rattle.chunk_core.specs.Lists.IsAmong.{here}
-use Rattle.chunk_core.proofs.Members.{among_cons, among_last, among_left, among_nil}
+use Rattle.chunk_core.proofs.Members.{among_last, among_left, among_nil}
 use Rattle.res_ledger.specs.declared.event.Event.{Event}
 use Rattle.res_ledger.specs.declared.event.What.{What}
-use Rattle.res_ledger.specs.declared.event.What.TheVariants.{Acquire, Cancel, Close, Final, Lease, Open}
+use Rattle.res_ledger.specs.declared.event.What.TheVariants.{Cancel, Close, Final}
 use Rattle.res_ledger.specs.declared.event.StreamNo.TheVariants.{Inner, Outer}
-use Rattle.res_ledger.specs.Ledger.{IsAcquired, IsClosed, IsCoveredBy, IsLeased, IsUsable, LiesWithin, Notes}
+use Rattle.res_ledger.specs.Ledger.{IsAcquired}
 use Rattle.res_ledger.specs.Ledger.LiesWithin.{same}
-use Rattle.res_ledger.proofs.Apart.{apart}
 use Rattle.row_seat.specs.declared.view.Left.TheVariants.{Stays, Yours}
 use Rattle.row_seat.specs.declared.view.View.{View}
-use Rattle.row_seat.specs.Views.{CanClose, CanFinish, CanJoin, CanLease, CanLeave, CanPlace, CanSplit, CanTake, Closes, Leaves, MayNote, handed_over, joined, leased, name_of, noted, placed, shut, split_main, split_off, start, took, without, without_pair, without_row}
+use Rattle.row_seat.specs.Views.{CanClose, CanFinish, CanJoin, CanLeave, CanTake, Closes, Leaves, MayNote, joined, name_of, noted, took, without, without_pair, without_row}
 use Rattle.row_shared.specs.declared.seat.SharedSeat.{SharedSeat}
 use Rattle.row_shared.specs.declared.seat.TableRef.{TableRef}
 use Rattle.row_shared.specs.Seats.{SharedFits, shown}

@@ -1,4 +1,4 @@
-use Rattle.std.proofs.Common.{sym, ap, ◌∙◌}
+use Rattle.std.proofs.Common.{ap, ◌∙◌}
 use Rattle.res_ledger.specs.declared.event.What.TheVariants.{Acquire, Lease}
 use Rattle.row_seat.specs.Views.{leased, noted, placed, split_main, split_off}
 use Rattle.shared_scripts.proofs.Lent.{lessee_is, may_acquire, may_lease, may_note, may_place, may_split, owner_is}

@@ -1,0 +1,90 @@
+//! What `bench/seats.sh` measures seats beside, in Rust with nothing but std: single atomic steps.
+//!
+//! `steps` adds to a word in single steps, nine for each life of a row, as many as such a life has steps
+//! on words that change them. `notes` takes a stamp by a single step and appends an event, as a seat
+//! that threads share does.
+
+use std::hint::black_box;
+use std::sync::atomic::{AtomicU64, Ordering::SeqCst};
+use std::time::Duration;
+
+/// An event of a ledger has these numbers.
+#[derive(Clone, Copy)]
+#[allow(dead_code)]
+struct Event {
+    stamp: u64,
+    by: u32,
+    scope: u32,
+    parent: u32,
+}
+
+/// The steps of one life of a row that change a word: five stamps, and place, lease, close and leave.
+const STEPS: u64 = 9;
+
+fn steps(lives: u64) -> u64 {
+    let word = AtomicU64::new(0);
+    for _ in 0..lives * STEPS {
+        black_box(&word).fetch_add(1, SeqCst);
+    }
+    word.load(SeqCst)
+}
+
+fn notes(count: u64) -> u64 {
+    let word = AtomicU64::new(0);
+    let mut events = Vec::with_capacity(count as usize);
+    for scope in 0..count {
+        let stamp = black_box(&word).fetch_add(1, SeqCst);
+        events.push(Event {
+            stamp,
+            by: 0,
+            scope: scope as u32 + 1,
+            parent: 0,
+        });
+    }
+    black_box(&events).len() as u64
+}
+
+fn main() {
+    let words: Vec<String> = std::env::args().skip(1).collect();
+    let count = words.get(1).and_then(|word| word.parse().ok());
+    let (Some(name), Some(count)) = (words.first(), count) else {
+        eprintln!("usage: seats steps|notes COUNT");
+        std::process::exit(2);
+    };
+    let before = used();
+    let done = match name.as_str() {
+        "steps" => steps(count),
+        "notes" => notes(count),
+        _ => {
+            eprintln!("usage: seats steps|notes COUNT");
+            std::process::exit(2);
+        }
+    };
+    println!("{name} {done} {}", (used() - before).as_micros());
+}
+
+// ---- the clock ----
+
+#[repr(C)]
+struct Timespec {
+    seconds: i64,
+    nanos: i64,
+}
+
+unsafe extern "C" {
+    fn clock_gettime(clock: i32, time: *mut Timespec) -> i32;
+}
+
+const CLOCK_PROCESS_CPUTIME_ID: i32 = 2;
+
+/// The processor time that the process has used. std has no such clock; the C library that it stands
+/// on has.
+fn used() -> Duration {
+    let mut time = Timespec {
+        seconds: 0,
+        nanos: 0,
+    };
+    // The pointer is to a `timespec` of Linux on a 64-bit machine.
+    unsafe { clock_gettime(CLOCK_PROCESS_CPUTIME_ID, &mut time) };
+    Duration::new(time.seconds as u64, time.nanos as u32)
+}
