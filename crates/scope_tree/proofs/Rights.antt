@@ -1,5 +1,5 @@
 -- What calls of a tree leave of its leases.
-use Rattle.std.proofs.Common.{◌≡◌, ◌≢◌, ℕ, Bool, true, false, cond, not, eqb, List, [], ◌∷◌, ◌++◌, refl, sym, ap, ◌∙◌, subst, ⊎_elim, eq-eqb, ne_eqb}
+use Rattle.std.proofs.Common.{◌≡◌, ◌≢◌, ℕ, Bool, not, eqb, List, [], ◌∷◌, ◌++◌, refl, sym, ap, ◌∙◌, subst, ⊎_elim, eq-eqb, ne_eqb}
 use Rattle.chunk_core.specs.declared.code.Exit.{Exit}
 use Rattle.chunk_core.specs.Lists.{IsAmong}
 use Rattle.chunk_core.specs.Lists.IsAmong.{here, there}
@@ -7,19 +7,17 @@ use Rattle.chunk_core.proofs.Filters.{among_append, among_filter, filter_among}
 use Rattle.chunk_core.proofs.Members.{among_cons, among_last, among_left, among_nil, among_snoc}
 use Rattle.row_seat.proofs.Members.{among_kept, among_without}
 use Rattle.res_ledger.specs.declared.event.Event.{Event}
+use Rattle.res_ledger.specs.declared.event.StreamNo.{StreamNo}
 use Rattle.res_ledger.specs.declared.event.StreamNo.TheVariants.{Inner}
 use Rattle.res_ledger.specs.declared.event.What.{What}
-use Rattle.res_ledger.specs.declared.event.What.TheVariants.{Cancel, Close, Lease}
+use Rattle.res_ledger.specs.declared.event.What.TheVariants.{Close, Lease}
 use Rattle.res_ledger.specs.Ledger.{IsAcquired, IsLeased}
 use Rattle.res_ledger.specs.Own.{leased_of}
 use Rattle.res_ledger.proofs.Growth.{noted_snoc}
 use Rattle.row_seat.specs.declared.view.View.{View}
-use Rattle.row_seat.specs.Views.{AtRest, MayNote, joined, kept_after, noted, split_main, without}
-use Rattle.scope_tree.specs.declared.branch.Spent.{Spent}
+use Rattle.row_seat.specs.Views.{AtRest, joined, kept_after, noted, split_main, start, without}
 use Rattle.scope_tree.specs.Calls.{Cancels, Closes, Seen}
 use Rattle.scope_tree.specs.Leased.{leased_all, pairs_for}
-use Rattle.scope_tree.specs.Released.{Released}
-use Rattle.scope_tree.specs.Released.Holder.{lease, owner}
 use Rattle.scope_tree.specs.Rights.{AddsLease, DropsLease, HasNoLeaseBut, IsNewStream, IsSameSeat, KeepsLeases}
 use Rattle.scope_tree.specs.Words.{canceling, leasing}
 use Rattle.scope_tree.proofs.Beneath.{shut_not}
@@ -111,6 +109,7 @@ module _ {P : Type 0} where
   lease_adds v s j n T ne = record {
     new = λ i ni k. (k.0, k.1, (λ y. ⊎_elim (λ o. k.2 (y.0, y.1, o)) (λ q. ni (let z : What = Lease j s in let e : z ≡ Lease i y.1 = q.1 in let r : i ≡ j = cc in r)) (noted_snoc v.events (leasing v j s n) y.0 (Lease i y.1) y.2)));
     may = λ i x by m. (among_left (j ∷ []) m.0, λ e. absurd (by e));
+    other = ne;
     may_it = λ x. (among_last v.kept j, λ e. absurd (ne e));
     pairs = λ i r m. among_left (pairs_for j T) m;
     only = λ Ls h. record {
@@ -136,3 +135,14 @@ module _ {P : Type 0} where
   -- a seat with no lease is at rest where nothing is open
   pub at_rest : (v : View P) → HasNoLeaseBut v [] → v.opened ≡ [] → ((r : ℕ) → IsAmong r v.empty → ¬ (IsAcquired v.events r)) → v.handed ≡ [] → v.taken ≡ [] → AtRest v
   at_rest v h op e ha ta = (op, e, none_in v.pairs (λ y i. among_nil (h.pairs y.0 y.1 i).1), none_in v.kept (λ j i. among_nil (h.kept j i).1), ha, ta)
+
+  -- a first seat has no lease, and may lease for each other stream
+  pub start_leases : (v : View P) (k : StreamNo) (rows events splits : ℕ) → v ≡ start k rows events splits → HasNoLeaseBut v []
+  start_leases v k rows events splits e = record { kept = λ j m. absurd (among_nil (subst (λ l. IsAmong j l) (ap (λ v. v.kept) e) m)); pairs = λ j r m. absurd (among_nil (subst (λ l. IsAmong (j, r) l) (ap (λ v. v.pairs) e) m)) }
+
+  pub start_new : (v : View P) (k : StreamNo) (rows events splits j : ℕ) → k ≢ Inner j → v ≡ start k rows events splits → IsNewStream v j
+  start_new v k rows events splits j ne e = (
+    (λ b. ne (sym (ap (λ v. v.by) e) ∙ b)),
+    (λ m. among_nil (subst (λ l. IsAmong j l) (ap (λ v. v.had) e) m)),
+    (λ l. among_nil (subst (λ L. IsAmong l.2.0 L) (ap (λ v. v.events) e) l.2.1)),
+  )

@@ -19,7 +19,7 @@ use Rattle.scope_tree.specs.Rows.{strangers}
 use Rattle.scope_tree.specs.Words.{numbers, own_rows, words}
 use Rattle.scope_tree.proofs.Beneath.{shut_not, whole_is, whole_under}
 use Rattle.scope_tree.proofs.Bridge.{opens_append, rows_append}
-use Rattle.scope_tree.proofs.Distinct.{firsts_append, picks_among, picks_strangers, said_append, strangers_append}
+use Rattle.scope_tree.proofs.Distinct.{firsts_append, picks_among, picks_strangers, said_append, strangers_append, strangers_less}
 use Rattle.scope_tree.proofs.Grown.{opens_finals, rows_finals}
 use Rattle.scope_tree.proofs.Parts.{row_of_pair}
 use Rattle.scope_tree.proofs.Releasing.{released_picks}
@@ -52,7 +52,7 @@ module _ {P : Type 0} where
       let o : length (opens (words b.seat)) ≡ length (opens (words a.seat) ++ opens E) = ap (λ l. length (opens l)) w ∙ ap length (opens_append (words a.seat) E) in
       let l = length-append (opens (words a.seat)) (opens E) in let F = firsts (said b.shelf) in
       let u : length (rows (words b.seat)) + strangers (own_rows b.seat) F ≡ length (rows (words a.seat)) + strangers (own_rows a.seat) F = ap (λ z. length z + strangers (numbers z) F) R in
-      record { opens = omega (o, l, count, arith); used = omega (u, more, arith); scopes = s; rows = r }
+      record { opens = omega (o, l, count, arith); used = omega (u, more, arith); own = λ T. (let e = ap (λ z. strangers (numbers z) T) R in omega (e, arith)); scopes = s; rows = r }
 
   same_shelf : (a b : Seen P) → b.shelf ≡ a.shelf → strangers (own_rows a.seat) (firsts (said b.shelf)) ≡ strangers (own_rows a.seat) (firsts (said a.shelf)) + 0
   same_shelf a b e = let s = ap (λ l. strangers (own_rows a.seat) (firsts (said l))) e in omega (s, arith)
@@ -76,7 +76,7 @@ module _ {P : Type 0} where
       let l = length-append (rows (words a.seat)) ((r, s) ∷ []) in let F = firsts (said a.shelf) in let c = ap length O in
       let u : length (rows (words b.seat)) + strangers (own_rows b.seat) (firsts (said b.shelf)) ≡ length (rows (words a.seat) ++ (r, s) ∷ []) + strangers (own_rows a.seat ++ r ∷ []) F = ap (λ z. length z + strangers (numbers z) (firsts (said b.shelf))) R ∙ ap (λ z. length (rows (words a.seat) ++ (r, s) ∷ []) + strangers (numbers (rows (words a.seat) ++ (r, s) ∷ [])) (firsts (said z))) o.shelf ∙ ap (λ z. length (rows (words a.seat) ++ (r, s) ∷ []) + strangers z F) (numbers_snoc (rows (words a.seat)) (r, s)) in
       let t = strangers_snoc (own_rows a.seat) r F n in
-      record { opens = omega (c, arith); used = omega (u, l, t, arith); scopes = o.scopes; rows = o.rows }
+      record { opens = omega (c, arith); used = omega (u, l, t, arith); own = λ T. (let e = ap (λ z. strangers z T) (ap numbers R ∙ numbers_snoc (rows (words a.seat)) (r, s)) in let m = strangers_less (own_rows a.seat) (own_rows a.seat ++ r ∷ []) T (λ q i. among_left (r ∷ []) i) in omega (e, m, arith)); scopes = o.scopes; rows = o.rows }
 
   module _ {ends : P → Exit → Bool → P → Type 0} {x : Exit} {a b : Seen P} where
     -- the rows that a close ends are the tree's own

@@ -1,5 +1,5 @@
 -- What callers read off the clauses of a tree.
-use Rattle.std.proofs.Common.{flat_map, ◌≡◌, ℕ, ◌+◌, ◌⊎◌, Bool, true, List, [], ◌∷◌, ◌++◌, length, inl, inr, refl, sym, ap, ◌∙◌, subst, ⊎_elim, reverse}
+use Rattle.std.proofs.Common.{flat_map, ◌≡◌, ℕ, ◌+◌, ◌⊎◌, Bool, true, List, [], ◌∷◌, ◌++◌, length, inl, inr, refl, sym, ap, ◌∙◌, subst, ⊎_elim, arith, reverse}
 use Rattle.res_ledger.specs.Ledger.LiesWithin.{same}
 use Rattle.res_ledger.specs.declared.event.StreamNo.{StreamNo}
 use Rattle.res_ledger.specs.declared.event.What.{What}
@@ -23,7 +23,7 @@ use Rattle.scope_tree.specs.Walks.FirstOpen.{this_one, above_it}
 use Rattle.scope_tree.specs.Released.{said}
 use Rattle.scope_tree.specs.Rights.{HasNoLeaseBut}
 use Rattle.scope_tree.specs.Calls.{AtStart, Seen, Opens, Acquires, Closes, Cancels, Leases}
-use Rattle.scope_tree.specs.Words.{words, canceling, opening, acquiring, leasing, shutting}
+use Rattle.scope_tree.specs.Words.{owed, words, canceling, opening, acquiring, leasing, shutting}
 use Rattle.scope_tree.proofs.Bridge.{own_snoc, noted_in, in_noted, in_opens}
 use Rattle.scope_tree.proofs.Follows.{Follows, released_follows, same_by}
 use Rattle.scope_tree.proofs.Grown.{grown_closed, grown_release}
@@ -129,6 +129,10 @@ pub closed_now : {P : Type 0} {ends : P → Exit → Bool → P → Type 0} {x :
 closed_now {x = x} {a = a} {b = b} {s = s} c =
     (s, same s, (x, in_noted b.seat.by (Close s x) b.seat.events (subst (λ E. IsAmong (Close s x) E) (sym (closed_said c)) (among_mid (words a.seat) (finals x (said c.torn.0)) (Close s x)))))
 
+no_length : {A : Type 0} (xs : List A) → length xs ≡ 0 → xs ≡ []
+no_length [] e = refl
+no_length (x ∷ xs) e = absurd (omega arith)
+
 module _ {P : Type 0} where
   -- what the first calls of a tree say
   pub start_said : (v w : View P) → AtStart v → w ≡ v → words w ≡ []
@@ -142,3 +146,7 @@ module _ {P : Type 0} where
 
   pub acquire_more : {a b : Seen P} {s r : ℕ} {p : P} {E : List What} → words a.seat ≡ E → Acquires a s r p b → words b.seat ≡ E ++ Acquire r s ∷ []
   acquire_more {s = s} {r = r} w o = acquired_said o ∙ ap (λ E. E ++ Acquire r s ∷ []) w
+
+  -- where nothing is owed nothing is open
+  pub none_owed : (v : View P) → owed v ≡ 0 → v.opened ≡ []
+  none_owed v e = no_length v.opened (omega (e, arith))

@@ -55,10 +55,11 @@ module _ {P : Type 0} where
   abbrev pub used : Seen P → ℕ
   used a = length (rows (words a.seat)) + strangers (own_rows a.seat) (firsts (said a.shelf))
 
-  -- of the same room so many scopes and so many rows more are used
+  -- of the same room so many scopes and so many rows more are used, and no row became a stranger
   pub record TakesRoom (m n : ℕ) (a b : Seen P) : Type 0 where
     pub opens : length (opens (words b.seat)) ≡ length (opens (words a.seat)) + m
     pub used : used b ≡ used a + n
+    pub own : (T : List ℕ) → strangers (own_rows b.seat) T ≤ strangers (own_rows a.seat) T
     pub scopes : b.scopes ≡ a.scopes
     pub rows : b.rows ≡ a.rows
 

@@ -1,5 +1,5 @@
 -- Which leases a seat has, and what a call of a tree leaves of them to the next.
-use Rattle.std.specs.Prelude.{◌≡◌, ◌≢◌, ℕ, List, [], ◌∷◌}
+use Rattle.std.specs.Prelude.{◌≡◌, ◌≢◌, ℕ, List, ◌∷◌}
 use Rattle.chunk_core.specs.declared.code.Exit.{Exit}
 use Rattle.chunk_core.specs.Lists.{IsAmong}
 use Rattle.res_ledger.specs.declared.event.StreamNo.TheVariants.{Inner}
@@ -32,10 +32,11 @@ module _ {P : Type 0} where
     pub pairs : (j r : ℕ) → IsAmong (j, r) v.pairs → IsAmong (j, r) w.pairs
     pub only : (Ls : List (ℕ × List ℕ)) → HasNoLeaseBut v Ls → HasNoLeaseBut w Ls
 
-  -- a lease for the stream j on the rows T came
+  -- a lease for the stream j, which is another, came, on the rows T
   pub record AddsLease (v : View P) (j : ℕ) (T : List ℕ) (w : View P) : Type 0 where
     pub new : (i : ℕ) → i ≢ j → IsNewStream v i → IsNewStream w i
     pub may : (i : ℕ) (x : Exit) → v.by ≢ Inner i → MayNote v (Cancel i x) → MayNote w (Cancel i x)
+    pub other : w.by ≢ Inner j
     pub may_it : (x : Exit) → MayNote w (Cancel j x)
     pub pairs : (i r : ℕ) → IsAmong (i, r) v.pairs → IsAmong (i, r) w.pairs
     pub only : (Ls : List (ℕ × List ℕ)) → HasNoLeaseBut v Ls → HasNoLeaseBut w ((j, T) ∷ Ls)

@@ -191,6 +191,7 @@ where
         ensures kept { IfErr result (λ _. KeepsLeases (seen S.view self.old).seat (seen S.view self.new).seat) }
         ensures room { TakesRoom 0 0 (seen S.view self.old) (seen S.view self.new) }
         ensures pairs { IfOk result (λ lease. (r : ℕ) → IsAmong r lease.rows.items → IsAmong (lease.stream, r) (seen S.view self.new).seat.pairs) }
+        ensures own { IfOk result (λ lease. strangers (own_rows (seen S.view self.new).seat) lease.rows.items ≡ 0) }
         ensures owed { owed (seen S.view self.new).seat ≡ owed (seen S.view self.old).seat }
         ensures fits { Fits S.view S.fits self.new desk.new }
         ensures others { OthersFit S.view S.fits (seen S.view self.old).seat.by desk.old desk.new }

@@ -26,7 +26,12 @@ use Rattle.tree_laws.proofs.Covered.{lent_covered}
 use Rattle.tree_laws.proofs.Ends.{called_events, called_whole, own_leases_covered, whole_each}
 use Rattle.tree_laws.proofs.Follows.{called_then}
 use Rattle.tree_laws.proofs.Kept.{events_stay, lent_stays}
+use Rattle.tree_laws.proofs.Shelved.{shelves_apart}
 use Rattle.tree_families.specs.Families.{CameBack, IsFamily, Split, split_of}
+use Rattle.tree_families.specs.Laws.{ShelvesOfFamily}
+
+own_finished : {P : Type 0} (b : Seen P) (L : List Event) → IsLedgerOf b.seat L → IsFinished b b.seat L
+own_finished b L ledger = record { ledger = ledger; own = λ e i. ((λ m. m), (λ m. m)) }
 
 module _ {P : Type 0} {ends : P → Exit → Bool → P → Type 0} where
   pub family_starts : (a : Seen P) → AtStart a.seat → HasNoOthers a.seat → IsFamily ends a []
@@ -130,16 +135,26 @@ module _ {P : Type 0} {ends : P → Exit → Bool → P → Type 0} where
             (f.met m i);
       }
 
+  back_by : {b : Seen P} {j n : ℕ} (t : CameBack ends b j n) → t.last.seat.by ≡ Inner j
+  back_by t = (called_after t.visit.calls).by ∙ t.visit.guest.by
+
+  back_finished : (b : Seen P) (L : List Event) {j n : ℕ} (t : CameBack ends b j n) → IsLedgerOf b.seat L → IsFinished t.last b.seat L
+  back_finished b L t ledger = record { ledger = ledger; own = λ e i. t.own e (i ∙ back_by t) }
+
+  pub family_shelves : ShelvesOfFamily ends
+  family_shelves = record {
+    main = λ b ms L j n f t l x y r m. shelves_apart b.seat L f.start x f.calls (own_finished b L l) t.visit.guest.start y t.visit.calls (back_finished b L t l) (λ e. t.returned.2 (e ∙ back_by t)) r m;
+    back = λ b L i j m n s t ne l x y r o. shelves_apart b.seat L s.visit.guest.start x s.visit.calls (back_finished b L s l) t.visit.guest.start y t.visit.calls (back_finished b L t l) (λ e. ne (inner_is i j (sym (back_by s) ∙ e ∙ back_by t))) r o;
+  }
+
   -- the ledger of a tree that came back
   back_whole : (b : Seen P) (j n : ℕ) (L : List Event) → CameBack ends b j n → IsLedgerOf b.seat L → ((T : List ℕ) → Lent b.seat j T → AreCovered L ((j, T) ∷ [])) → IsWholeFor L (Inner j)
   back_whole b j n L t ledger covered =
-      let by : t.last.seat.by ≡ Inner j = (called_after t.visit.calls).by ∙ t.visit.guest.by in
-      let end : IsFinished t.last b.seat L = record { ledger = ledger; own = λ e i. t.own e (i ∙ by) } in
-      subst (λ q. IsWholeFor L q) by (called_whole b.seat L t.visit.guest.start t.visit.calls end t.visit.root (covered t.rows t.lent))
+      subst (λ q. IsWholeFor L q) (back_by t) (called_whole b.seat L t.visit.guest.start t.visit.calls (back_finished b L t ledger) t.visit.root (covered t.rows t.lent))
 
   pub family_whole : (b : Seen P) (ms : List Split) (L : List Event) → IsFamily ends b ms → b.seat.out ≡ [] → IsClosedScope b 0 → IsLedgerOf b.seat L → IsWhole L
   family_whole b ms L f out root ledger =
-      let end : IsFinished b b.seat L = record { ledger = ledger; own = λ e i. ((λ m. m), (λ m. m)) } in
+      let end = own_finished b L ledger in
       let own : IsWholeFor L b.seat.by = called_whole b.seat L f.start f.calls end root (own_leases_covered b.seat L f.start f.calls end f.lent) in
       let events = called_events b.seat L f.start f.calls end in
       let covered : (j : ℕ) (T : List ℕ) → Lent b.seat j T → AreCovered L ((j, T) ∷ []) = λ j T l i U m. (let x : ℕ × List ℕ = (i, U) in let y : ℕ × List ℕ = (j, T) in let q = only x y m in lent_covered b.seat L i U (subst (λ (z : ℕ × List ℕ). Lent b.seat z.0 z.1) (sym q) l) ledger.legal events) in

@@ -1,20 +1,22 @@
 -- What holds of a main tree with the seats that it split off, and of its ledger once all came back.
-use Rattle.std.specs.Prelude.{◌≡◌, ◌⊎◌, ℕ, ◌<◌, Bool, List, [], ◌∷◌, ◌++◌}
+use Rattle.std.specs.Prelude.{◌≡◌, ◌≢◌, ◌⊎◌, ℕ, ◌<◌, Bool, List, [], ◌∷◌, ◌++◌}
 use Rattle.chunk_core.specs.declared.code.Exit.{Exit}
 use Rattle.chunk_core.specs.Lists.{IsAmong}
 use Rattle.res_ledger.specs.declared.event.Event.{Event}
 use Rattle.res_ledger.specs.declared.event.StreamNo.TheVariants.{Inner, Outer}
 use Rattle.res_ledger.specs.declared.event.What.TheVariants.{Lease}
 use Rattle.res_ledger.specs.Ledger.{Notes, NotesCancel}
+use Rattle.res_ledger.specs.Order.{firsts}
 use Rattle.row_seat.specs.declared.view.View.{View}
 use Rattle.row_seat.specs.Views.{AreApart, CanFinish, CanJoin, CanSplit, IsLedgerOf, joined, split_main}
 use Rattle.scope_tree.specs.Calls.{AtStart, IsClosedScope, Seen}
+use Rattle.scope_tree.specs.Released.{said}
 use Rattle.tree_laws.specs.Alone.{HasNoOthers}
 use Rattle.tree_laws.specs.Called.{Called}
 use Rattle.tree_laws.specs.Lent.{Lent}
 use Rattle.tree_laws.specs.Visits.{HasNothingOpen, Visits}
 use Rattle.tree_laws.specs.Whole.{IsWhole}
-use Rattle.tree_families.specs.Families.{IsFamily, Split, split_of}
+use Rattle.tree_families.specs.Families.{CameBack, IsFamily, Split, split_of}
 use Rattle.tree_families.specs.Pace.{IsInPace, LeasesAhead, WithinWidth}
 
 module _ {P : Type 0} (ends : P → Exit → Bool → P → Type 0) where
@@ -31,6 +33,11 @@ module _ {P : Type 0} (ends : P → Exit → Bool → P → Type 0) where
   -- once the root is closed and all seats are back, the finished ledger is legal, complete and in order
   abbrev pub FamilyIsWhole : Type 0
   FamilyIsWhole = (b : Seen P) (ms : List Split) (L : List Event) → IsFamily ends b ms → b.seat.out ≡ [] → IsClosedScope b 0 → IsLedgerOf b.seat L → IsWhole L
+
+  -- where all trees of a family began with an empty shelf, no row stands on two of their shelves: not on the main tree's and on that of one whose seat came back, and not on those of two that came back
+  pub record ShelvesOfFamily : Type 0 where
+    pub main : (b : Seen P) (ms : List Split) (L : List Event) (j n : ℕ) (f : IsFamily ends b ms) (t : CameBack ends b j n) → IsLedgerOf b.seat L → f.first.shelf ≡ [] → t.visit.first.shelf ≡ [] → (r : ℕ) → IsAmong r (firsts (said b.shelf)) → ¬ (IsAmong r (firsts (said t.last.shelf)))
+    pub back : (b : Seen P) (L : List Event) (i j m n : ℕ) (s : CameBack ends b i m) (t : CameBack ends b j n) → i ≢ j → IsLedgerOf b.seat L → s.visit.first.shelf ≡ [] → t.visit.first.shelf ≡ [] → (r : ℕ) → IsAmong r (firsts (said s.last.shelf)) → ¬ (IsAmong r (firsts (said t.last.shelf)))
 
   -- where each seat was split off in pace, the leases of a finished ledger are ahead, and it is within the width
   pub record FamilyIsPaced : Type 0 where

@@ -1,6 +1,6 @@
 //! Laws of a main tree with the seats that it split off, each the contract of a function that does
 //! nothing.
-ghost use Rattle.tree_families.specs.Laws.{FamilyGrows, FamilyIsPaced, FamilyIsWhole, FamilyMayFinish};
+ghost use Rattle.tree_families.specs.Laws.{FamilyGrows, FamilyIsPaced, FamilyIsWhole, FamilyMayFinish, ShelvesOfFamily};
 
 use scope_tree::Finish;
 
@@ -23,4 +23,9 @@ pub fn family_is_whole<P: Finish>()
 /// no more streams open at once than the width.
 pub fn family_is_paced<P: Finish>()
     ensures { FamilyIsPaced P.ends }
+{}
+
+/// No row stands on the shelves of two trees of a family.
+pub fn shelves_of_family_are_apart<P: Finish>()
+    ensures { ShelvesOfFamily P.ends }
 {}

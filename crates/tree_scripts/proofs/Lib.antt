@@ -2,6 +2,7 @@ pub mod Alone
 pub mod Outcomes
 pub mod Waits
 pub mod Finished
+pub mod Telling
 pub mod Chain
 pub mod ThreeRows
 pub mod Endings

@@ -21,11 +21,13 @@
 //!
 //! `close_and_open` closes a scope and opens one at a scope that was closed with it, which then lies
 //! above. In `guests` a stream with a seat of its own takes over the lease of another's row and ends
-//! it. In `uses` two rows end in the order of their scopes, and an open row is given another payload.
+//! it. In `short` one function makes a lease and cancels it, and needs no lemma for what its calls
+//! ask. In `uses` two rows end in the order of their scopes, and an open row is given another payload.
 //!
 //! Trees and leases can't be dropped: the root is closed and the tree ended, a lease is cancelled.
 #![tactic(auto)]
 
 pub mod guests;
 pub mod scripts;
+pub mod short;
 pub mod uses;

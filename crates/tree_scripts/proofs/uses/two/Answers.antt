@@ -70,3 +70,6 @@ returns-clause-two g c =
       shelf_is = c.end.ensures.shelf ∙ k.torn.1 ∙ ap (λ l. l ++ xs) shelf ∙ t.2;
       events = ap words c.end.ensures.seat ∙ close_four w5 k ∙ ap (λ l. Four ++ finals Succeeded (said l)) t.2 ∙ ap (λ r. Four ++ Final r Succeeded t.0.ok ∷ Final t.1.row Succeeded t.1.ok ∷ []) t.3 ∙ ap (λ r. Four ++ Final 1 Succeeded t.0.ok ∷ Final r Succeeded t.1.ok ∷ []) t.4;
     }
+
+pub returns-clause-fits : goal.returns-clause-fits
+returns-clause-fits g c = c.end.ensures.fits c.close.new.desk c.close.ensures.fits

@@ -1,23 +1,19 @@
-use Rattle.std.proofs.Common.{◌≡◌, [], ◌∷◌, ◌++◌, refl, sym, ap, ◌∙◌, subst, arith, length-append}
+use Rattle.std.proofs.Common.{◌≡◌, [], ◌∷◌, ◌++◌, refl, sym, ap, ◌∙◌, subst, arith}
 use Rattle.row_seat.proofs.Members.{among_kept}
 use Rattle.chunk_core.proofs.Members.{among_last}
 use Rattle.row_seat.specs.Views.{placed, noted}
 use Rattle.scope_tree.specs.Words.{acquiring, owed}
 use Rattle.scope_tree.specs.Kept.{Kept}
-use Rattle.chunk_core.specs.Lists.{IsAmong}
-use Rattle.chunk_core.proofs.Members.{among_left}
 use Rattle.res_ledger.specs.Order.{firsts}
 use Rattle.scope_tree.specs.declared.branch.Held.{Held}
 use Rattle.scope_tree.specs.Released.{said}
-use Rattle.scope_tree.specs.Kept.{Shelved, held_rows}
-use Rattle.scope_tree.proofs.Distinct.{strangers_less}
+use Rattle.scope_tree.specs.Kept.{Shelved}
 use Rattle.scope_tree.proofs.Rooms.{used_is}
 use Rattle.scope_tree.proofs.Shelving.{acquire_shelved}
 use Rattle.scope_tree.proofs.Calling.{keeps_scopes}
 use Rattle.scope_tree.proofs.Grown.{grown_back}
-use Rattle.scope_tree.proofs.Grows.{acquire_keeps, rows_snoc, acquired_grown, acquired_owed}
+use Rattle.scope_tree.proofs.Grows.{acquire_keeps, acquired_grown, acquired_owed}
 use Rattle.res_ledger.specs.declared.event.What.TheVariants.{Acquire}
-use Rattle.scope_tree.specs.Rights.{KeepsLeases}
 use Rattle.scope_tree.specs.Calls.{Acquires}
 use Rattle.scope_tree.specs.Trees.{seen}
 use Rattle.scope_tree.proofs.Rights.{note_leases}

@@ -1,21 +1,18 @@
-use Rattle.std.proofs.Common.{◌≡◌, ℕ, ◌+◌, ◌≤◌, List, ◌++◌, refl, sym, ap, ◌∙◌, subst, arith, nat_eq, reverse}
+use Rattle.std.proofs.Common.{ℕ, ◌+◌, ◌≤◌, List, refl, sym, subst, arith, nat_eq, reverse}
 use Rattle.chunk_core.specs.Lists.{IsAmong}
 use Rattle.res_ledger.specs.Order.{firsts}
 use Rattle.row_seat.specs.declared.view.View.{View}
-use Rattle.scope_tree.specs.Rows.{strangers}
 use Rattle.std.specs.List.{IsDistinct}
 use Rattle.scope_tree.specs.Released.{Releases, away, said}
 use Rattle.scope_tree.specs.Released.Holder.{lease}
 use Rattle.row_seat.specs.Views.{noted}
 use Rattle.scope_tree.specs.Words.{canceling, owed}
-use Rattle.scope_tree.specs.Kept.{Shelved, held_rows}
+use Rattle.scope_tree.specs.Kept.{Shelved}
 use Rattle.scope_tree.proofs.Calling.{cancel_leaves}
 use Rattle.scope_tree.proofs.Cancelling.{cancel_can, cancel_keeps}
-use Rattle.scope_tree.proofs.Distinct.{firsts_append, picks_strangers, said_append, strangers_append}
 use Rattle.chunk_core.proofs.Reversed.{among_reverse}
 use Rattle.chunk_core.proofs.Distinct.{test_distinct, distinct_reverse}
-use Rattle.scope_tree.proofs.Releasing.{released_picks}
-use Rattle.scope_tree.proofs.Rooms.{away_reverse, cancel_count, rows_count, strangers_reverse, used_is}
+use Rattle.scope_tree.proofs.Rooms.{away_reverse, cancel_count, rows_count, used_is}
 use Rattle.scope_tree.proofs.Shelving.{cancel_shelved}
 use Rattle.scope_tree.proofs.Follows.{released_follows, same_empty}
 use Rattle.scope_tree.proofs.Rights.{cancel_drops, cancel_new, cancel_seat}

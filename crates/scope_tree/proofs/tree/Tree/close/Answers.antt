@@ -1,17 +1,12 @@
-use Rattle.std.proofs.Common.{◌≡◌, ◌+◌, ◌++◌, refl, sym, ap, ◌∙◌, subst, arith}
+use Rattle.std.proofs.Common.{refl, sym, ap, ◌∙◌, subst, arith}
 use Rattle.scope_tree.specs.Words.{shutting}
 use Rattle.scope_tree.specs.Released.{Releases}
 use Rattle.scope_tree.specs.Kids.{whole}
 use Rattle.scope_tree.specs.Released.Holder.{owner}
-use Rattle.std.proofs.Common.{add-zero}
 use Rattle.res_ledger.specs.Order.{firsts}
-use Rattle.scope_tree.specs.Rows.{strangers}
 use Rattle.scope_tree.specs.Released.{said}
-use Rattle.scope_tree.specs.Kept.{Shelved, held_rows}
-use Rattle.scope_tree.proofs.Distinct.{firsts_append, picks_among, said_append, strangers_append}
-use Rattle.scope_tree.proofs.Beneath.{whole_under}
-use Rattle.scope_tree.proofs.Parts.{row_of_pair}
-use Rattle.scope_tree.proofs.Rooms.{shelf_count, strangers_none, used_is}
+use Rattle.scope_tree.specs.Kept.{Shelved}
+use Rattle.scope_tree.proofs.Rooms.{shelf_count, used_is}
 use Rattle.scope_tree.proofs.Shelving.{close_shelved}
 use Rattle.scope_tree.proofs.Beneath.{close_spare, close_can, close_count, usable_scope, whole_is}
 use Rattle.scope_tree.proofs.Keeps.{close_free, close_keeps}
@@ -21,9 +16,7 @@ use Rattle.scope_tree.proofs.Use.{closed_now}
 use Rattle.res_ledger.specs.Ledger.{IsClosed}
 use Rattle.res_ledger.specs.declared.event.What.TheVariants.{Close}
 use Rattle.std.proofs.lemmas.List.{get_or_default}
-use Rattle.scope_tree.proofs.Releasing.{released_picks, releases_at}
-use Rattle.scope_tree.proofs.Rooms.{own_is}
-use Rattle.scope_tree.specs.Words.{own_rows}
+use Rattle.scope_tree.proofs.Releasing.{releases_at}
 use Rattle.scope_tree.proofs.Follows.{released_follows, same_empty}
 use Rattle.scope_tree.proofs.Rights.{close_leases, close_seat}
 use Rattle.scope_tree.proofs.Taking.{close_takes}

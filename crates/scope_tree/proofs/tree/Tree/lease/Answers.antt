@@ -1,4 +1,4 @@
-use Rattle.std.proofs.Common.{◌≡◌, refl, sym, ap, ◌∙◌, subst, nat_eq}
+use Rattle.std.proofs.Common.{◌≡◌, refl, sym, ap, ◌∙◌, subst, arith, nat_eq}
 use Rattle.res_ledger.specs.declared.event.What.TheVariants.{Lease}
 use Rattle.chunk_core.proofs.Filters.{among_right}
 use Rattle.res_ledger.specs.Own.{leased_rows}
@@ -7,15 +7,17 @@ use Rattle.row_seat.specs.Views.{MayNote, noted}
 use Rattle.scope_tree.specs.Kept.{Kept, Shelved}
 use Rattle.scope_tree.specs.Leased.{leased_all, pairs_for}
 use Rattle.std.specs.List.{IsDistinct}
-use Rattle.scope_tree.specs.Words.{owed, words}
+use Rattle.scope_tree.specs.Words.{owed, own_rows, words}
 use Rattle.scope_tree.proofs.Calling.{keeps_scopes, seated}
 use Rattle.chunk_core.proofs.Distinct.{distinct_test}
 use Rattle.scope_tree.proofs.Grown.{grown_back, owed_still}
 use Rattle.scope_tree.proofs.Leasing.{among_pairs}
 use Rattle.scope_tree.proofs.Leased.{lease_distinct, lease_event, lease_grown, lease_keeps, lease_none, lease_rows_open, lease_shelved}
-use Rattle.scope_tree.specs.Rights.{AddsLease, KeepsLeases}
-use Rattle.scope_tree.proofs.Rights.{lease_adds, leases_self}
+use Rattle.scope_tree.specs.Rights.{AddsLease}
+use Rattle.scope_tree.proofs.Rights.{lease_adds}
+use Rattle.scope_tree.proofs.Rooms.{open_held, own_is, strangers_none}
 use Rattle.scope_tree.proofs.Taking.{lease_takes}
+use Rattle.chunk_core.specs.Lists.{IsAmong}
 use Rattle.scope_tree.proofs.tree.Tree.lease.Goals as goal
 
 pub lease_rows-requires-clause-rows : goal.lease_rows-requires-clause-rows
@@ -84,3 +86,10 @@ returns-clause-leases g c =
 
 pub returns-clause-room : goal.returns-clause-room
 returns-clause-room g c = lease_takes (returns-clause-ok g c).1
+
+pub returns-clause-own : goal.returns-clause-own
+returns-clause-own g c =
+    let t = c.args.self.now in let v = g.S.RowSeat.view t.seat in let z = c.requires.fits.sound in let T = c.in_ok-rows.rows.items in let o = (returns-clause-ok g c).1 in
+    let few = (lease_takes o).own T in
+    let none = strangers_none (own_rows v) T (λ r m. subst (λ l. IsAmong r l) (sym (own_is v t.branches.items t.held.items z.kept)) (open_held v t.branches.items t.held.items z.kept r (lease_rows_open v t.branches.items t.held.items t.shelf.items z.kept z.shelved c.args.scope c.args.stream c.requires.scope r (subst (λ l. IsAmong r l) o.covered m)))) in
+    omega (few, none, arith)

@@ -4,10 +4,7 @@ use Rattle.res_ledger.specs.Own.{opens}
 use Rattle.scope_tree.specs.declared.branch.Branch.{Branch}
 use Rattle.scope_tree.specs.Words.{words, opening}
 use Rattle.scope_tree.specs.Kept.{Kept, marks}
-use Rattle.res_ledger.specs.Order.{firsts}
-use Rattle.scope_tree.specs.Released.{said}
 use Rattle.scope_tree.specs.Kept.{Shelved}
-use Rattle.scope_tree.proofs.Rooms.{used_is}
 use Rattle.scope_tree.proofs.Shelving.{open_shelved}
 use Rattle.scope_tree.proofs.Calling.{open_leaves}
 use Rattle.scope_tree.proofs.Grows.{open_keeps, length_marks}

@@ -1,0 +1,82 @@
+//! A short caller of a tree, which cancels its lease itself.
+ghost use Rattle.std.specs.Prelude.{◌≡◌, ◌≤◌, IfOk};
+ghost use Rattle.chunk_core.specs.declared.code.Exit.TheVariants.{Succeeded};
+ghost use Rattle.res_ledger.specs.declared.event.StreamNo.TheVariants.{Outer};
+ghost use Rattle.row_seat.specs.Views.{start};
+ghost use Rattle.tree_scripts.specs.Short.{IsLeasedAndCanceled};
+
+use crate::scripts::Coin;
+use chunk_core::Exit;
+use res_ledger::{Ledger, StreamNo, text};
+use row_seat::{PlainSeat, RowSeat};
+use scope_tree::{Finish, Room, Tree};
+use std::alloc::{AllocError, Global};
+use std::test::Fail;
+
+/// Two rows in two scopes. The root is leased for the stream 7, which covers both, and closed; the
+/// lease is cancelled, with which both end; and the seat finishes.
+pub fn lease_and_cancel<S: RowSeat>(
+    alloc: Global,
+    seat: S,
+    room: Room<S::Pay>,
+    desk: &mut S::Desk,
+    first: S::Pay,
+    second: S::Pay,
+) -> Result<Ledger, AllocError>
+where
+    S::Pay: Finish + Drop,
+    requires fits { S.fits seat desk.old }
+    requires start { S.view seat ≡ start Outer 2 16 (S.view seat).splits }
+    requires room { (2 ≤ room.scopes) × (2 ≤ room.rows) }
+    ensures { IfOk result (λ ledger. IsLeasedAndCanceled Succeeded ledger) }
+{
+    let mut tree = Tree::new(seat, room);
+    let child = tree.open(desk, 0);
+    tree.acquired(desk, 0, 0, first);
+    tree.acquired(desk, child, 1, second);
+    match tree.lease(alloc, desk, 0, 7) {
+        Ok(lease) => {
+            tree.close(desk, 0, Exit::Succeeded);
+            tree.cancel(desk, lease, Exit::Succeeded);
+            let (seat, _) = tree.end();
+            Ok(seat.finish(desk))
+        }
+        Err(error) => {
+            tree.close(desk, 0, Exit::Canceled);
+            let (seat, _) = tree.end();
+            seat.finish(desk);
+            Err(error)
+        }
+    }
+}
+
+/// The same over a plain seat, with two rows of which the second's finalizer fails.
+pub fn over_a_plain_seat(alloc: Global) -> Result<Ledger, AllocError>
+    ensures { IfOk result (λ ledger. IsLeasedAndCanceled Succeeded ledger) }
+{
+    let (seat, mut desk) = PlainSeat::new(alloc, StreamNo::Outer, 2, 16)?;
+    let room = Room::new(alloc, 2, 2)?;
+    let (first, second) = (Coin { good: true }, Coin { good: false });
+    lease_and_cancel(alloc, seat, room, &mut desk, first, second)
+}
+
+#[test]
+fn a_lease_holds_both_rows_until_it_is_cancelled(rt: HostRuntime) -> Result<(), Fail> {
+    let ledger = over_a_plain_seat(rt.alloc())?;
+    let printed = text(rt.alloc(), &ledger)?;
+    assert_eq!(rt;
+        printed.as_slice(),
+        b"ledger 8
+outer open 1 0
+outer acquire 0 0
+outer acquire 1 1
+outer lease 7 0
+outer close 0 succeeded
+outer cancel 7 succeeded
+outer final 1 succeeded fault
+outer final 0 succeeded ok
+"
+            .as_slice()
+    );
+    Ok(())
+}
