@@ -2,7 +2,8 @@
 //!
 //! `steps` adds to a word in single steps, nine for each life of a row, as many as such a life has steps
 //! on words that change them. `notes` takes a stamp by a single step and appends an event, as a seat
-//! that threads share does.
+//! that threads share does. `rows` does for each row of one table what its life does over such a seat,
+//! without the list of the open rows: six stamps and events, and four single steps on the row's word.
 
 use std::hint::black_box;
 use std::sync::atomic::{AtomicU64, Ordering::SeqCst};
@@ -44,19 +45,51 @@ fn notes(count: u64) -> u64 {
     black_box(&events).len() as u64
 }
 
+fn note(word: &AtomicU64, events: &mut Vec<Event>, scope: u32) {
+    let stamp = black_box(word).fetch_add(1, SeqCst);
+    events.push(Event {
+        stamp,
+        by: 0,
+        scope,
+        parent: 0,
+    });
+}
+
+fn rows(count: u64) -> u64 {
+    let stamp = AtomicU64::new(0);
+    let words: Vec<AtomicU64> = (0..count).map(|_| AtomicU64::new(0)).collect();
+    let mut events = Vec::with_capacity(7 * count as usize);
+    for (row, word) in words.iter().enumerate() {
+        let word = black_box(word);
+        let scope = row as u32 + 1;
+        note(&stamp, &mut events, scope);
+        note(&stamp, &mut events, scope);
+        word.store(1, SeqCst);
+        word.fetch_add(4, SeqCst);
+        note(&stamp, &mut events, scope);
+        note(&stamp, &mut events, scope);
+        black_box(word.fetch_or(2, SeqCst));
+        note(&stamp, &mut events, scope);
+        black_box(word.fetch_sub(4, SeqCst));
+        note(&stamp, &mut events, scope);
+    }
+    black_box(&events).len() as u64
+}
+
 fn main() {
     let words: Vec<String> = std::env::args().skip(1).collect();
     let count = words.get(1).and_then(|word| word.parse().ok());
     let (Some(name), Some(count)) = (words.first(), count) else {
-        eprintln!("usage: seats steps|notes COUNT");
+        eprintln!("usage: seats steps|notes|rows COUNT");
         std::process::exit(2);
     };
     let before = used();
     let done = match name.as_str() {
         "steps" => steps(count),
         "notes" => notes(count),
+        "rows" => rows(count),
         _ => {
-            eprintln!("usage: seats steps|notes COUNT");
+            eprintln!("usage: seats steps|notes|rows COUNT");
             std::process::exit(2);
         }
     };

@@ -1,7 +1,8 @@
 #!/usr/bin/env bash
 # Measures seats that threads share beside seats of one thread, and beside single atomic steps in Rust
 # with nothing but std (bench/seats.rs): user plus system time of whole lives of rows, each with a table
-# of its own, and of notes at one table.
+# of its own or all at one table, and of notes at one table; and how long threads take at one table, for
+# notes and for rows of their own.
 # It asserts nothing; the numbers are for a reader. Needs rt; without rustc it measures flume alone.
 #
 # usage: bench/seats.sh [LIVES [ROUNDS]]
@@ -42,21 +43,28 @@ build_rust() {
   rust=$work/seats
 }
 
-# The least microseconds of the rounds behind a warm one.
+# The least microseconds of the rounds behind a warm one: of the processor (field 3), or from beginning
+# to end (field 4).
 least_of() {
-  local least=999999999 round spent
+  local field=$1 least=999999999 round spent
+  shift
   for ((round = 0; round <= rounds; round++)); do
-    read -r _ _ spent < <("$@")
+    spent=$("$@" | cut -d ' ' -f "$field")
     if ((round > 0 && spent < least)); then least=$spent; fi
   done
   echo "$least"
 }
 
 # One line: the nanoseconds for one of the count.
-tell() {
-  local name=$1 count=$2
-  shift 2
-  least_of "$@" | awk -v name="$name" -v count="$count" '{ printf "%-34s %10.1f ms %9.1f ns each\n", name, $1 / 1000, $1 * 1000 / count }'
+tell() { tell_field 3 "$@"; }
+
+# The same from beginning to end.
+tell_wall() { tell_field 4 "$@"; }
+
+tell_field() {
+  local field=$1 name=$2 count=$3
+  shift 3
+  least_of "$field" "$@" | awk -v name="$name" -v count="$count" '{ printf "%-34s %10.1f ms %9.1f ns each\n", name, $1 / 1000, $1 * 1000 / count }'
 }
 
 build_flume
@@ -64,9 +72,17 @@ build_rust
 echo "$lives of each, least user plus system time of $rounds rounds"
 tell "lives, seats of one thread" "$lives" "$flume" plain "$lives" time
 tell "lives, seats that threads share" "$lives" "$flume" shared "$lives" time
+tell "rows, a seat of one thread" "$lives" "$flume" plain-rows "$lives" time
+tell "rows, a seat that threads share" "$lives" "$flume" shared-rows "$lives" time
 tell "notes, seats of one thread" "$lives" "$flume" plain-notes "$lives" time
 tell "notes, seats that threads share" "$lives" "$flume" shared-notes "$lives" time
 if [ -n "$rust" ]; then
   tell "Rust, nine steps a life" "$lives" "$rust" steps "$lives"
+  tell "Rust, ten steps and six events" "$lives" "$rust" rows "$lives"
   tell "Rust, notes" "$lives" "$rust" notes "$lives"
 fi
+echo "from beginning to end"
+tell_wall "notes of one thread" "$((lives * 2))" "$flume" shared-notes "$((lives * 2))" time
+tell_wall "notes of two threads, half each" "$((lives * 2))" "$flume" two-threads-note "$lives" time
+tell_wall "rows of one thread, not leased" "$lives" "$flume" one-works "$lives" time
+tell_wall "rows of four threads, a fourth each" "$lives" "$flume" four-work "$lives" time
