@@ -7,7 +7,7 @@ use Rattle.chunk_core.specs.Feed.{Meaning, Feeds, Extends}
 use Rattle.chunk_core.specs.declared.code.Code.{Code}
 use Rattle.chunk_core.specs.declared.feed.Fed.TheVariants as fed
 use Rattle.chunk_core.specs.declared.load.Load.{Load}
-use Rattle.any_pipe.specs.Pouring.{BreaksOff, FeedsAll, MakesUp, elements_of}
+use Rattle.any_pipe.specs.Pouring.{StopsAtFault, FeedsAll, MakesUp, elements_of}
 use Rattle.std.specs.Prelude.{Option}
 
 -- a load more was fed, and a load more came
@@ -33,7 +33,7 @@ fed_more m xs ys given load out Now New so_far answer =
 -- a load more was fed, and a fault came behind the last load
 pub broken_off : (m : Meaning) (xs : List Element) (loads ys given came : List Load) (load out : Load) (c : Code) (Now New : List Element → Type 0)
     → FeedsAll m xs ys given None Now → Feeds m (xs ++ elements_of ys) (elements load) (fed.Fault out c) New → (unfed : List Load) → loads ≡ (ys ++ load ∷ []) ++ unfed
-    → came ≡ given ++ out ∷ [] → BreaksOff m xs loads came c
+    → came ≡ given ++ out ∷ [] → StopsAtFault m xs loads came c
 broken_off m xs loads ys given came load out c Now New so_far answer unfed whole more =
     let made = made_more m xs ys given load out None (Some c) so_far.0 answer in
     record { front = ys ++ load ∷ []; unfed = unfed; whole = whole; made = subst (λ l. MakesUp m xs l (Some c) (m.part (xs ++ elements_of (ys ++ load ∷ [])))) (sym more) made }

@@ -17,8 +17,8 @@ abbrev pub AreOf : LoadKind → List Load → Type 0
 AreOf kind loads = All (λ load. kind_of load ≡ kind) loads
 
 -- the loads are of one kind, which the pipe takes
-abbrev pub Takes : Pipe → List Load → Type 0
-Takes p loads = (kind : LoadKind) × IsSome (gives_of p kind) × AreOf kind loads
+abbrev pub TakesLoads : Pipe → List Load → Type 0
+TakesLoads p loads = (kind : LoadKind) × IsSome (gives_of p kind) × AreOf kind loads
 
 -- the state stands for an input that may go on with these loads
 abbrev pub MayPour : (Meaning → List Element → Type 0) → List Load → Type 0
@@ -35,7 +35,7 @@ pub record MakesUp (m : Meaning) (xs : List Element) (given : List Load) (c : Op
   pub fault : c ≡ whole.fault
 
 -- a fault came before the end: no more than a front of the loads behind xs was fed
-pub record BreaksOff (m : Meaning) (xs : List Element) (loads given : List Load) (c : Code) : Type 0 where
+pub record StopsAtFault (m : Meaning) (xs : List Element) (loads given : List Load) (c : Code) : Type 0 where
   pub front : List Load
   pub unfed : List Load
   pub whole : loads ≡ front ++ unfed
@@ -44,7 +44,7 @@ pub record BreaksOff (m : Meaning) (xs : List Element) (loads given : List Load)
 -- the loads were fed behind xs, up to a fault
 abbrev pub FeedsAll : Meaning → List Element → List Load → List Load → Option Code → (List Element → Type 0) → Type 0
 FeedsAll m xs loads given None Stands = MakesUp m xs given None (m.part (xs ++ elements_of loads)) × Stands (xs ++ elements_of loads)
-FeedsAll m xs loads given (Some c) Stands = BreaksOff m xs loads given c
+FeedsAll m xs loads given (Some c) Stands = StopsAtFault m xs loads given c
 
 -- where xs is the whole input, all that was still to come came behind the loads before
 pub record FinishesAll (m : Meaning) (xs : List Element) (before given : List Load) (fault : Option Code) : Type 0 where
@@ -55,4 +55,4 @@ pub record FinishesAll (m : Meaning) (xs : List Element) (before given : List Lo
 -- the loads were fed behind xs and then the end was told: what came is what the pipe gives of the whole input, or of what was fed where a fault came before the end
 pub data Pours (m : Meaning) (xs : List Element) (loads given : List Load) (fault : Option Code) : Type 0 where
   whole : MakesUp m xs given fault (m.all (xs ++ elements_of loads)) → Pours m xs loads given fault
-  broken : (c : Code) → fault ≡ Some c → BreaksOff m xs loads given c → Pours m xs loads given fault
+  broken : (c : Code) → fault ≡ Some c → StopsAtFault m xs loads given c → Pours m xs loads given fault

@@ -4,7 +4,7 @@ ghost use Rattle.chunk_core.specs.Elements.{Element, LoadKind};
 ghost use Rattle.chunk_core.specs.Feed.{Meaning};
 ghost use Rattle.pull_nodes.specs.PipeKinds.{gives_of};
 ghost use Rattle.pull_nodes.specs.Pipes.{all_of};
-ghost use Rattle.any_pipe.specs.Pouring.{AreOf, FeedsAll, FinishesAll, MayEnd, MayPour, Pours, Takes, elements_of};
+ghost use Rattle.any_pipe.specs.Pouring.{AreOf, FeedsAll, FinishesAll, MayEnd, MayPour, Pours, TakesLoads, elements_of};
 
 use chunk_core::{Code, Fed, Feed, Load};
 use pull_nodes::{Pipe, PipeState};
@@ -90,7 +90,7 @@ pub fn pour_through<F: PipeState>(
     pipe: Pipe,
     loads: Vec<Load>,
 ) -> Result<Poured, AllocError>
-    requires { Takes pipe loads.items }
+    requires { TakesLoads pipe loads.items }
     ensures list { IfOk result (λ p. elements_of p.loads.items ≡ (all_of pipe (elements_of loads.items)).list) }
     ensures fault { IfOk result (λ p. p.fault ≡ (all_of pipe (elements_of loads.items)).fault) }
     ensures kind { IfOk result (λ p. (takes gives : LoadKind) → AreOf takes loads.items → gives_of pipe takes ≡ Some gives → AreOf gives p.loads.items) }

@@ -2,7 +2,7 @@
 ghost use Rattle.std.specs.Prelude.{◌≡◌, ◌∷◌, [], IfOk, IsSome};
 ghost use Rattle.chunk_core.specs.Elements.LoadKind.{Bytes, Lines};
 ghost use Rattle.pull_nodes.specs.PipeKinds.{gives_of};
-ghost use Rattle.any_pipe.specs.Pouring.{AreOf, Takes};
+ghost use Rattle.any_pipe.specs.Pouring.{AreOf, TakesLoads};
 
 use crate::{AnyPipe, pour_through};
 use chunk_core::{Chunk, Code, Line, Load, render};
@@ -56,7 +56,7 @@ fn two_of_lines(alloc: Global, front: &[u8], back: &[u8]) -> Result<Vec<Load>, A
 }
 
 fn run(alloc: Global, pipe: Pipe, loads: Vec<Load>) -> Result<Told, AllocError>
-    requires { Takes pipe loads.items }
+    requires { TakesLoads pipe loads.items }
 {
     let poured = pour_through::<AnyPipe>(alloc, pipe, loads)?;
     let mut text = Vec::new(alloc);

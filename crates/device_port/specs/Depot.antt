@@ -71,16 +71,16 @@ abbrev pub KeepsWritten : Option Files → DeviceTold → Type 0
 KeepsWritten files dev = dev.place.mode ≡ mode.Write → dev.opens ≡ 1 → IfSome files (λ f. f dev.place.path ≡ dev.written)
 
 -- the numbers of these devices
-abbrev pub numbers : List DeviceTold → List ℕ
-numbers ds = map (λ d. d.number) ds
+abbrev pub device_numbers : List DeviceTold → List ℕ
+device_numbers ds = map (λ d. d.number) ds
 
 -- no two of these devices have one number
-abbrev pub AreApart : List DeviceTold → Type 0
-AreApart ds = IsDistinct nat_eq (numbers ds)
+abbrev pub HaveOwnNumbers : List DeviceTold → Type 0
+HaveOwnNumbers ds = IsDistinct nat_eq (device_numbers ds)
 
 -- each of these devices has a number below n
 abbrev pub AreBelow : ℕ → List DeviceTold → Type 0
-AreBelow n ds = (q : ℕ) → list_any (nat_eq q) (numbers ds) ≡ true → q < n
+AreBelow n ds = (q : ℕ) → list_any (nat_eq q) (device_numbers ds) ≡ true → q < n
 
 -- what a depot that tells no files has come to
 pub record CourseTold : Type 0 where

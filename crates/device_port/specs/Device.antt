@@ -51,5 +51,5 @@ abbrev pub with_written : DeviceTold → List ℕ → DeviceTold
 with_written d bytes = record d { written = option_map (λ w. w ++ bytes) d.written }
 
 -- closed once more, with this exit
-abbrev pub shut : Exit → DeviceTold → DeviceTold
-shut exit d = record d { is_open = false; closes = d.closes + 1; exit = Some exit }
+abbrev pub closed_with : Exit → DeviceTold → DeviceTold
+closed_with exit d = record d { is_open = false; closes = d.closes + 1; exit = Some exit }

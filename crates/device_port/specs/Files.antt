@@ -2,14 +2,14 @@
 use Rattle.std.specs.Prelude.{◌≡◌, ℕ, Bool, cond, ◌&&◌, nat_eq, List, reverse, find, Option, None, Some, option_map}
 use Rattle.std.specs.Str.{bytes_eq}
 use Rattle.device_port.specs.Device.{Place, is_write}
-use Rattle.device_port.specs.Stage.{opens_of}
+use Rattle.device_port.specs.Stage.{times_opened}
 use Rattle.device_port.specs.declared.record.Record.{Record}
 use Rattle.device_port.specs.declared.files.FileOf.{FileOf}
 use Rattle.device_port.specs.declared.files.PlaceOf.{PlaceOf}
 
 -- a device that was opened for writing at the path
 abbrev pub wrote : List ℕ → Record → Bool
-wrote path r = is_write r.mode && (nat_eq (opens_of r.stage) 1 && bytes_eq r.path path)
+wrote path r = is_write r.mode && (nat_eq (times_opened r.stage) 1 && bytes_eq r.path path)
 
 -- the first, or else the second
 abbrev pub or_else : Option (List ℕ) → Option (List ℕ) → Option (List ℕ)

@@ -1,7 +1,7 @@
 -- What a record of a memory device tells.
 use Rattle.std.specs.Prelude.{Some}
 use Rattle.device_port.specs.Device.{DeviceTold}
-use Rattle.device_port.specs.Stage.{is_open_at, opens_of, closes_of, exit_at, close_faults_of}
+use Rattle.device_port.specs.Stage.{is_open_at, times_opened, times_closed, exit_at, close_faults_of}
 use Rattle.device_port.specs.declared.record.Record.{Record}
 
 -- its number, place, contents, state and counts
@@ -15,8 +15,8 @@ record_told r = record {
   ended = r.ended;
   written = Some r.written.items;
   is_open = is_open_at r.stage;
-  opens = opens_of r.stage;
-  closes = closes_of r.stage;
+  opens = times_opened r.stage;
+  closes = times_closed r.stage;
   exit = exit_at r.stage;
   open_faults = r.open_faults;
   read_faults = r.read_faults;

@@ -14,18 +14,18 @@ is_open_at (stage.Closed exit) = false
 is_open_at (stage.ClosedBadly exit) = false
 
 -- how often it was opened
-abbrev pub opens_of : Stage → ℕ
-opens_of stage.Unopened = 0
-opens_of stage.Open = 1
-opens_of (stage.Closed exit) = 1
-opens_of (stage.ClosedBadly exit) = 1
+abbrev pub times_opened : Stage → ℕ
+times_opened stage.Unopened = 0
+times_opened stage.Open = 1
+times_opened (stage.Closed exit) = 1
+times_opened (stage.ClosedBadly exit) = 1
 
 -- how often it was closed
-abbrev pub closes_of : Stage → ℕ
-closes_of stage.Unopened = 0
-closes_of stage.Open = 0
-closes_of (stage.Closed exit) = 1
-closes_of (stage.ClosedBadly exit) = 1
+abbrev pub times_closed : Stage → ℕ
+times_closed stage.Unopened = 0
+times_closed stage.Open = 0
+times_closed (stage.Closed exit) = 1
+times_closed (stage.ClosedBadly exit) = 1
 
 -- how what used it ended, where it was closed
 abbrev pub exit_at : Stage → Option Exit
@@ -42,14 +42,14 @@ close_faults_of (stage.Closed exit) = 0
 close_faults_of (stage.ClosedBadly exit) = 1
 
 -- an open device was opened once and never closed
-pub open_once_at : (s : Stage) → is_open_at s ≡ true → (opens_of s ≡ 1) × (closes_of s ≡ 0) × (close_faults_of s ≡ 0)
+pub open_once_at : (s : Stage) → is_open_at s ≡ true → (times_opened s ≡ 1) × (times_closed s ≡ 0) × (close_faults_of s ≡ 0)
 open_once_at stage.Unopened h = absurd (false≢true h)
 open_once_at stage.Open h = (refl, refl, refl)
 open_once_at (stage.Closed exit) h = absurd (false≢true h)
 open_once_at (stage.ClosedBadly exit) h = absurd (false≢true h)
 
 -- never closed, so without an exit
-pub no_exit_at : (s : Stage) → closes_of s ≡ 0 → exit_at s ≡ None
+pub no_exit_at : (s : Stage) → times_closed s ≡ 0 → exit_at s ≡ None
 no_exit_at stage.Unopened h = refl
 no_exit_at stage.Open h = refl
 no_exit_at (stage.Closed exit) h = absurd (suc-ne-zero 0 h)

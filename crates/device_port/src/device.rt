@@ -13,7 +13,7 @@ pub enum Mode {
 /// exactly where a call of that act fails; a call changes nothing that it isn't said to change.
 pub trait Device {
     ghost use Rattle.std.specs.Prelude.{◌≡◌, ◌+◌, ◌-◌, ◌^◌, ◌<◌, ◌≤◌, true, false, length, take, drop, Some, None, IfOk, OnOk, OnErr, IsErr, IfSome};
-    ghost use Rattle.device_port.specs.Device.{DeviceTold, moved, with_written, shut};
+    ghost use Rattle.device_port.specs.Device.{DeviceTold, moved, with_written, closed_with};
     ghost use Rattle.device_port.specs.declared.device.Mode.TheVariants as mode;
 
     /// The device's number, place, contents, state and counts.
@@ -62,8 +62,8 @@ pub trait Device {
     /// where the call fails.
     fn close(&mut self, exit: Exit) -> Result<(), Failed>
         requires open { (told self.old).is_open ≡ true }
-        ensures ok { OnOk result (told self.new ≡ shut exit (told self.old)) }
-        ensures failed { OnErr result (told self.new ≡ record (shut exit (told self.old)) { close_faults = 1 }) };
+        ensures ok { OnOk result (told self.new ≡ closed_with exit (told self.old)) }
+        ensures failed { OnErr result (told self.new ≡ record (closed_with exit (told self.old)) { close_faults = 1 }) };
 
     /// An open device was opened once and never closed.
     ghost open_once: { (d : Self) → (told d).is_open ≡ true → ((told d).opens ≡ 1) × ((told d).closes ≡ 0) × ((told d).close_faults ≡ 0) };

@@ -1,7 +1,7 @@
 //! Real files as devices.
 ghost use Rattle.std.specs.Prelude.{◌≡◌, nat_eq, length};
 ghost use Rattle.std.specs.List.{IsDistinct-prop};
-ghost use Rattle.device_port.specs.Depot.{numbers, AreApart, AreBelow};
+ghost use Rattle.device_port.specs.Depot.{device_numbers, HaveOwnNumbers, AreBelow};
 
 use crate::{Depot, FileDevice, Mode};
 use chunk_core::Word;
@@ -63,7 +63,7 @@ pub struct FileDepot<R> {
     count: u64,
     course: Known<Course>,
     ghost counted: { length course.made ≡ count },
-    ghost apart: { AreApart course.retired } by { IsDistinct-prop nat_eq (numbers course.retired) },
+    ghost apart: { HaveOwnNumbers course.retired } by { IsDistinct-prop nat_eq (device_numbers course.retired) },
     ghost below: { AreBelow count course.retired },
 }
 

@@ -13,7 +13,7 @@ use std::rt::Files;
 
 /// The file of a device while it is open, and else how far the device has come.
 #[derive(Drop)]
-enum Held<F> {
+enum FileState<F> {
     Unopened,
     Open(F),
     Closed(Exit),
@@ -28,7 +28,7 @@ pub struct FileDevice<R, F> {
     number: u64,
     path: Word,
     mode: Mode,
-    held: Held<F>,
+    held: FileState<F>,
     at: u64,
     ended: bool,
     open_faults: u64,
@@ -48,7 +48,7 @@ impl<R, F> FileDevice<R, F> {
             number,
             path,
             mode,
-            held: Held::Unopened,
+            held: FileState::Unopened,
             at: 0,
             ended: false,
             open_faults: 0,
@@ -77,7 +77,7 @@ where
     }
 
     fn is_open(&self) -> bool {
-        matches!(self.held, Held::Open(_))
+        matches!(self.held, FileState::Open(_))
     }
 
     /// For writing, the file is created, or emptied where it is there.
@@ -89,7 +89,7 @@ where
         };
         match opened {
             Ok(file) => {
-                self.held = Held::Open(file);
+                self.held = FileState::Open(file);
                 Ok(())
             }
             Err(_) => {
@@ -108,7 +108,7 @@ where
         ensures failed { OnErr result (file_told self.new ≡ record (file_told self.old) { read_faults = self.old.read_faults + 1 }) }
         ensures read { ReadConsumes (bytes_in F.remaining self.old.held) (bytes_in F.remaining self.new.held) result buf.new }
     {
-        let Held::Open(file) = &mut self.held else {
+        let FileState::Open(file) = &mut self.held else {
             unreachable!()
         };
         let count = if buf.len() as u64 <= u64::MAX - self.at {
@@ -135,7 +135,7 @@ where
         ensures failed { OnErr result (file_told self.new ≡ record (file_told self.old) { write_faults = self.old.write_faults + 1 }) }
         ensures written { WriteAppends (bytes_in F.contents self.old.held) (bytes_in F.contents self.new.held) result bytes.now }
     {
-        let Held::Open(file) = &mut self.held else {
+        let FileState::Open(file) = &mut self.held else {
             unreachable!()
         };
         let count = write_some(file, bytes);
@@ -148,11 +148,12 @@ where
     /// What was written is made safe before the file is closed, so that a lost write is a failed
     /// close. Closing itself is done by dropping, which tells no error.
     fn close(&mut self, exit: Exit) -> Result<(), Failed> {
-        let Held::Open(file) = std::mem::replace(&mut self.held, Held::Closed(exit)) else {
+        let FileState::Open(file) = std::mem::replace(&mut self.held, FileState::Closed(exit))
+        else {
             unreachable!()
         };
         if self.mode == Mode::Write && sync_written(&file).is_err() {
-            self.held = Held::ClosedBadly(exit);
+            self.held = FileState::ClosedBadly(exit);
             return Err(Failed);
         }
         Ok(())

@@ -1,7 +1,7 @@
 //! A depot in memory.
 ghost use Rattle.std.specs.Prelude.{map, nat_eq, vec_len, vec_capacity, ◌≤◌};
 ghost use Rattle.std.specs.List.{IsDistinct-prop};
-ghost use Rattle.device_port.specs.Depot.{numbers, AreApart, AreBelow};
+ghost use Rattle.device_port.specs.Depot.{device_numbers, HaveOwnNumbers, AreBelow};
 ghost use Rattle.device_port.specs.Records.{record_told};
 
 use crate::calls::ActCalls;
@@ -17,7 +17,7 @@ pub struct MemDepot {
     fail: List<Trip>,
     made: Vec<PlaceOf>,
     retired: Vec<Record>,
-    ghost apart: { AreApart (map record_told retired.items) } by { IsDistinct-prop nat_eq (numbers (map record_told retired.items)) },
+    ghost apart: { HaveOwnNumbers (map record_told retired.items) } by { IsDistinct-prop nat_eq (device_numbers (map record_told retired.items)) },
     ghost below: { AreBelow (vec_len made) (map record_told retired.items) },
     ghost room: { vec_len made ≤ vec_capacity retired },
 }

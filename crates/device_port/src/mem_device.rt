@@ -1,7 +1,7 @@
 //! A device in memory, of which named calls fail.
 ghost use Rattle.std.specs.Prelude.{◌≡◌, ◌+◌, ◌-◌, ◌^◌, ◌<◌, ◌≤◌, ◌↔◌, ◌||◌, ◌&&◌, not, min, length, take, drop, true, false, Some, IfOk, OnOk, OnErr, IsErr, IfSome, IsTrue};
 ghost use Rattle.device_port.specs.Trips.{is_next_named, counted};
-ghost use Rattle.device_port.specs.Device.{moved, with_written, shut, is_read};
+ghost use Rattle.device_port.specs.Device.{moved, with_written, closed_with, is_read};
 ghost use Rattle.device_port.specs.declared.device.Mode.TheVariants as mode;
 
 use crate::calls::ActCalls;
@@ -128,8 +128,8 @@ impl Device for MemDevice {
 
     fn close(&mut self, exit: Exit) -> Result<(), Failed>
         requires open { (record_told self.old.facts).is_open ≡ true }
-        ensures ok { OnOk result (record_told self.new.facts ≡ shut exit (record_told self.old.facts)) }
-        ensures failed { OnErr result (record_told self.new.facts ≡ record (shut exit (record_told self.old.facts)) { close_faults = 1 }) }
+        ensures ok { OnOk result (record_told self.new.facts ≡ closed_with exit (record_told self.old.facts)) }
+        ensures failed { OnErr result (record_told self.new.facts ≡ record (closed_with exit (record_told self.old.facts)) { close_faults = 1 }) }
         ensures named { IsErr result ↔ IsTrue (is_next_named self.old.calls.closes) }
         ensures starved { self.new.facts.starved ≡ self.old.facts.starved }
         ensures counted { self.new.calls ≡ record self.old.calls { closes = counted self.old.calls.closes } }

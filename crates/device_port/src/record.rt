@@ -1,6 +1,6 @@
 //! What a device has come to.
 ghost use Rattle.std.specs.Prelude.{◌≡◌, ◌≤◌};
-ghost use Rattle.device_port.specs.Stage.{opens_of, closes_of, exit_at, close_faults_of, is_open_at};
+ghost use Rattle.device_port.specs.Stage.{times_opened, times_closed, exit_at, close_faults_of, is_open_at};
 
 use crate::Mode;
 use chunk_core::{Exit, Word};
@@ -27,7 +27,7 @@ impl Stage {
 
     /// How often the device was opened.
     pub fn opens(self) -> u64
-        ensures { result ≡ opens_of self }
+        ensures { result ≡ times_opened self }
     {
         match self {
             Stage::Unopened => 0,
@@ -37,7 +37,7 @@ impl Stage {
 
     /// How often the device was closed.
     pub fn closes(self) -> u64
-        ensures { result ≡ closes_of self }
+        ensures { result ≡ times_closed self }
     {
         match self {
             Stage::Unopened | Stage::Open => 0,

@@ -26,8 +26,8 @@ use Rattle.res_ledger.proofs.Prefixes.{split_at}
 use Rattle.res_ledger.proofs.Tests.{exit_is, exit_same}
 use Rattle.chunk_core.proofs.Bools.{number, each_passes, any_at}
 use Rattle.device_port.specs.Device.{Place, DeviceTold}
-use Rattle.run_rules.specs.Facts.{at, below, acquired_row, ended_row, failed_row, leased_stream, is_failed, is_root_close, root_exit, has}
-use Rattle.run_rules.specs.Devices.{AreAsMany, IsRowBelow, is_closed_with, place_of}
+use Rattle.run_rules.specs.Facts.{at, first_numbers, acquired_row, ended_row, failed_row, leased_stream, is_failed, is_root_close, root_exit, has_event}
+use Rattle.run_rules.specs.Devices.{AreAsMany, IsRowBelow, is_closed_with, place_of_row}
 use Rattle.run_rules.specs.Run.{IsTied, is_named, is_owned, is_ours, root_exits}
 use Rattle.flume_cli.specs.Alone.{alone, IsAccount, IsAtRest}
 use Rattle.flume_cli.proofs.Counting.{as_many, filter_map_from, filter_map_of, named_once, rows_named}
@@ -132,18 +132,18 @@ module _ (count : ℕ) (w : ℕ → DeviceTold) (how : How) (L : List Event) (a 
   rows_below = each_among (λ (e : Event). IsRowBelow count (acquired_row e.what)) L (λ e i. row_below e.what (λ r s v. (a.acquired r s (e, i, by_0 e i, v)).0))
 
   -- where each device was closed well, so says each Final
-  pub clean : ((r : ℕ) → r < count → (w r).close_faults ≡ 0) → has is_failed L ≡ false
+  pub clean : ((r : ℕ) → r < count → (w r).close_faults ≡ 0) → has_event is_failed L ≡ false
   clean well = none_fails L (λ e i t.
       let f = failed_final e.what t in
       let bad = (a.ended f.0 f.1 false (e, i, by_0 e i, f.2)).1 in
       false≢true (bad ∙ ap (λ n. nat_eq n 0) (well f.0 (ended_below f.0 f.1 false e i f.2))))
     where
-      none_fails : (M : List Event) → ((e : Event) → IsAmong e M → is_failed e.what ≡ true → ⊥) → has is_failed M ≡ false
+      none_fails : (M : List Event) → ((e : Event) → IsAmong e M → is_failed e.what ≡ true → ⊥) → has_event is_failed M ≡ false
       none_fails [] h = refl
-      none_fails (e ∷ M) h = ap (λ b. b || has is_failed M) (false_from_ne_true (is_failed e.what) (h e (here M))) ∙ none_fails M (λ x i. h x (there e i))
+      none_fails (e ∷ M) h = ap (λ b. b || has_event is_failed M) (false_from_ne_true (is_failed e.what) (h e (here M))) ∙ none_fails M (λ x i. h x (there e i))
 
   -- the root was closed, and as the stream ended
-  pub root_closed : has is_root_close (by_stream (Inner 0) L) ≡ true
+  pub root_closed : has_event is_root_close (by_stream (Inner 0) L) ≡ true
   root_closed = let n = a.closed.1 in any_at (λ e. is_root_close e.what) n.0 (by_stream (Inner 0) L) (by_out (Inner 0) L n.0 n.1 n.2) (ap is_root_close n.3)
 
   pub root_as_ended : AllByRecursion (λ x. x ≡ exit_of how) (root_exits (Inner 0) L)
@@ -153,7 +153,7 @@ module _ (count : ℕ) (w : ℕ → DeviceTold) (how : How) (L : List Event) (a 
       a.exits x (f.0, i, by_0 f.0 i, closes_root x f.0.what f.2))
 
 module _ (places : List Place) (w : ℕ → DeviceTold) (how : How) (L : List Event) (a : IsAccount (length places) w how L) (rest : (r : ℕ) → r < length places → IsAtRest (w r))
-    (placed : (r : ℕ) → r < length places → place_of places (Some r) ≡ (w r).place ∷ []) (back : List DeviceTold) (each : IsPermutation (map w (below (length places))) back) where
+    (placed : (r : ℕ) → r < length places → place_of_row places (Some r) ≡ (w r).place ∷ []) (back : List DeviceTold) (each : IsPermutation (map w (first_numbers (length places))) back) where
   -- the rows acquired are those whose devices were opened
   pub acquired_devices : AreAsMany (λ d. nat_eq d.opens 1) acquired_row back places L
   acquired_devices = as_many places w placed (λ (d : DeviceTold). nat_eq d.opens 1) acquired_row back L each (acquired_once L a.legal)

@@ -15,10 +15,10 @@ use Rattle.device_port.specs.Sink.{SinkTold}
 use Rattle.run_rules.specs.declared.end.EndOf.{EndOf}
 use Rattle.run_rules.specs.Facts.{is_halted, is_memory}
 use Rattle.run_rules.specs.Devices.{DevicesAccounted}
-use Rattle.run_rules.specs.Work.{Work, Deed, names_of}
-use Rattle.run_rules.specs.Run.{IsOutput, AreOutputs, HaveOutputs, IsCaused, HaveEnds, NothingFailed, IsWhole, IsCutFrame, Performs, count_of, root_exits}
+use Rattle.run_rules.specs.Work.{Work, RunRecord, names_of}
+use Rattle.run_rules.specs.Run.{IsOutput, AreOutputs, HaveOutputs, EndIsCaused, HaveEnds, NothingFailed, IsWholeRun, IsCutFrame, Performs, count_of, root_exits}
 use Rattle.flume_cli.specs.declared.outcome.Outcome.{Outcome}
-use Rattle.flume_cli.specs.Alone.{alone, elements_of, frame_of, IsPiece, IsCutAt, RunsAlone}
+use Rattle.flume_cli.specs.Alone.{alone, elements_in_pieces, frame_of, IsSmallPiece, IsCutAt, RunsAlone}
 use Rattle.flume_cli.specs.Cat.{deed_of}
 use Rattle.flume_cli.proofs.Accounts.{clean, root_as_ended, root_closed}
 use Rattle.flume_cli.proofs.AloneWork.{accounted, keeps_rules, homes, shown, faultless}
@@ -34,11 +34,11 @@ module _ (places : List Place) (runs ideal : (ℕ → DeviceTold) → Outcomes) 
   abbrev frames : List Frame
   frames = map frame_of r.printed.pieces
 
-  abbrev deed : Deed
+  abbrev deed : RunRecord
   deed = deed_of old new frames r.printed.rest o
 
   abbrev given : List Element
-  given = elements_of r.printed.pieces
+  given = elements_in_pieces r.printed.pieces
 
   abbrev end_0 : EndOf
   end_0 = record { who = Inner 0; how = r.how }
@@ -59,7 +59,7 @@ module _ (places : List Place) (runs ideal : (ℕ → DeviceTold) → Outcomes) 
   cut_frame : (b : Bool) → o.sink_failed ≡ b → (r.printed.rest ≡ []) ⊎ ((o.sink_failed ≡ true) × IsCutFrame work r.home frames r.printed.rest)
   cut_frame false e = let c = subst (λ b. IsCutAt b r.printed.next r.printed.rest) e r.printed.cut in inl c.1
   cut_frame true e =
-      let c : IsPiece r.printed.next × (more : List ℕ) × (0 < length more) × _ = subst (λ b. IsCutAt b r.printed.next r.printed.rest) e r.printed.cut in
+      let c : IsSmallPiece r.printed.next × (more : List ℕ) × (0 < length more) × _ = subst (λ b. IsCutAt b r.printed.next r.printed.rest) e r.printed.cut in
       inr (
         e,
         (
@@ -88,7 +88,7 @@ module _ (places : List Place) (runs ideal : (ℕ → DeviceTold) → Outcomes) 
   ends : IsCovered → HaveEnds work deed
   ends h = record {
     named = subst (λ es. map (λ (e : EndOf). e.who) es ≡ names_of work) (sym r.ends) refl;
-    caused = subst (λ es. AllByRecursion (IsCaused work deed) es) (sym r.ends) (
+    caused = subst (λ es. AllByRecursion (EndIsCaused work deed) es) (sym r.ends) (
       record {
         halted = λ t. ⊎_elim (λ f. inl f) (λ m. inr (inl m)) (r.run.halted t);
         fault = shown places runs ideal old new r.home r.how o.ledger r.devices r.account r.how h.shown;
@@ -99,7 +99,7 @@ module _ (places : List Place) (runs ideal : (ℕ → DeviceTold) → Outcomes) 
     memory = λ t. r.run.remembered (or_false (is_memory r.how) (subst (λ es. any (λ (e : EndOf). is_memory e.how) es ≡ true) r.ends t));
   }
 
-  complete : IsCovered → o.memory ≡ false → NothingFailed work deed r.home → IsWhole work deed r.home
+  complete : IsCovered → o.memory ≡ false → NothingFailed work deed r.home → IsWholeRun work deed r.home
   complete h m n =
       let calm = faultless places runs ideal old new r.home r.how o.ledger r.devices r.account n.devices in
       let running : is_halted r.how ≡ false = false_from_ne_true (is_halted r.how) (λ t. ⊎_elim (λ f. both_ways o.sink_failed n.written f) (λ f. both_ways o.memory m f) (r.run.halted t)) in

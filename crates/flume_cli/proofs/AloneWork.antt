@@ -14,10 +14,10 @@ use Rattle.chunk_core.specs.declared.code.How.{How}
 use Rattle.chunk_core.specs.declared.code.How.TheVariants as how
 use Rattle.res_ledger.specs.declared.event.Event.{Event}
 use Rattle.device_port.specs.Device.{Place, DeviceTold, faults_of}
-use Rattle.device_port.specs.Depot.{AreApart, DepotTold, content_at}
-use Rattle.run_rules.specs.Facts.{acquired_row, at, below, ended_row, failed_row, is_place}
-use Rattle.run_rules.specs.Devices.{AreAsMany, DevicesAccounted, came_back, is_closed_with, made_for, named, numbered, place_of}
-use Rattle.run_rules.specs.Work.{Work, Deed}
+use Rattle.device_port.specs.Depot.{HaveOwnNumbers, DepotTold, content_at}
+use Rattle.run_rules.specs.Facts.{acquired_row, at, first_numbers, ended_row, failed_row, is_place}
+use Rattle.run_rules.specs.Devices.{AreAsMany, DevicesAccounted, came_back, is_closed_with, made_for, named, numbered, place_of_row}
+use Rattle.run_rules.specs.Work.{Work, RunRecord}
 use Rattle.run_rules.specs.Run.{AreAtHome, HaveHomes, KeepsRules, IsTied, is_shown, is_tried, count_of}
 use Rattle.flume_cli.specs.declared.outcome.Outcome.{Outcome}
 use Rattle.flume_cli.specs.Alone.{alone, frame_of, IsAtRest, AreReturned, ComesBack, IsAccount}
@@ -44,7 +44,7 @@ module _ (places : List Place) (runs ideal : (ℕ → DeviceTold) → Outcomes) 
   work = alone places runs ideal
 
   abbrev devices : List DeviceTold
-  devices = map w (below (length places))
+  devices = map w (first_numbers (length places))
 
   made_is : made_for old new ≡ places
   made_is = ap (λ ps. drop (length old.made) ps) d.made ∙ drop-append_seam old.made places
@@ -54,7 +54,7 @@ module _ (places : List Place) (runs ideal : (ℕ → DeviceTold) → Outcomes) 
 
   -- the device of a row came back
   stood : (r : ℕ) → r < length places → IsAmong (w r) d.back
-  stood r l = among_permuted devices d.back d.each (w r) (map_among w r (below (length places)) (range_among 0 (length places) r (omega arith) (omega arith)))
+  stood r l = among_permuted devices d.back d.each (w r) (map_among w r (first_numbers (length places)) (range_among 0 (length places) r (omega arith) (omega arith)))
 
   at_rest : (r : ℕ) → r < length places → IsAtRest (w r)
   at_rest r l = (row_of old.files w (length old.made) 0 places d.devices r r (omega arith) l).3.rest
@@ -66,7 +66,7 @@ module _ (places : List Place) (runs ideal : (ℕ → DeviceTold) → Outcomes) 
   each_shut [] inside = tt
   each_shut (r ∷ rs) inside = (shut r (inside r (here rs)), each_shut rs (λ q m. inside q (there r m)))
 
-  in_place : (r : ℕ) → r < length places → place_of places (Some r) ≡ (w r).place ∷ []
+  in_place : (r : ℕ) → r < length places → place_of_row places (Some r) ≡ (w r).place ∷ []
   in_place r l = placed old.files w (length old.made) places d.devices r l
 
   pub accounted : DevicesAccounted old new places L
@@ -78,7 +78,7 @@ module _ (places : List Place) (runs ideal : (ℕ → DeviceTold) → Outcomes) 
         (subst (λ xs. IsPermutation xs (map named d.back)) (names_are old.files w (length old.made) 0 places d.devices) (IsPermutation-map named devices d.back d.each)));
     shut = subst (λ ds. AllByRecursion (λ (x : DeviceTold). (x.is_open ≡ false) × (x.closes ≡ x.opens)) ds) (sym back_is)
         (each_permuted (λ (x : DeviceTold). (x.is_open ≡ false) × (x.closes ≡ x.opens)) devices d.back d.each
-        (each_shut (below (length places)) (λ r m. let b = among_range 0 (length places) r m in omega (arith, b.1))));
+        (each_shut (first_numbers (length places)) (λ r m. let b = among_range 0 (length places) r m in omega (arith, b.1))));
     rows = rows_below (length places) w h L a;
     acquired = subst (λ ds. AreAsMany (λ d. nat_eq d.opens 1) acquired_row ds places L) (sym back_is) (acquired_devices places w h L a at_rest in_place d.back d.each);
     failed = subst (λ ds. AreAsMany (λ d. nat_lt 0 d.close_faults) failed_row ds places L) (sym back_is) (failed_devices places w h L a at_rest in_place d.back d.each);
@@ -90,7 +90,7 @@ module _ (places : List Place) (runs ideal : (ℕ → DeviceTold) → Outcomes) 
   keeps_rules = record { legal = a.legal; complete = a.complete; ordered = a.ordered; ours = ours places w h L a runs ideal }
 
   -- the rows are at home
-  at_home : (c : Deed) → c.depot_old ≡ old → came_back c.depot_old c.depot_new ≡ d.back → (n r : ℕ) (ps : List Place) → AreReturned old.files n w r ps → ((q : ℕ) → r ≤ q → q < r + length ps → IsAmong (w q) d.back) → AreAtHome c w r ps
+  at_home : (c : RunRecord) → c.depot_old ≡ old → came_back c.depot_old c.depot_new ≡ d.back → (n r : ℕ) (ps : List Place) → AreReturned old.files n w r ps → ((q : ℕ) → r ≤ q → q < r + length ps → IsAmong (w q) d.back) → AreAtHome c w r ps
   at_home c same came n r [] g o = tt
   at_home c same came n r (p ∷ ps) g o = (
     g.0.place_is,
@@ -105,7 +105,7 @@ module _ (places : List Place) (runs ideal : (ℕ → DeviceTold) → Outcomes) 
       let all = append-nil places in
       record {
         at_home = subst (λ ps. AreAtHome c w 0 ps) (sym all) (at_home c refl back_is (length old.made) 0 places d.devices (λ q l m. stood q (omega arith)));
-        apart = subst (λ ps. AreApart (filter is_tried (map w (below (length ps))))) (sym all) (apart old.files w (length old.made) places is_tried d.devices);
+        apart = subst (λ ps. HaveOwnNumbers (filter is_tried (map w (first_numbers (length ps))))) (sym all) (apart old.files w (length old.made) places is_tried d.devices);
         tied = subst (λ (l : List Event). AllByRecursion (λ e. IsTied w e.what) l) (sym is) (tied (length places) w h L a);
       }
 

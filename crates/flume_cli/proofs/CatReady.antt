@@ -4,7 +4,7 @@ use Rattle.std.proofs.lemmas.List.Sorted.{IsPermutation-trans}
 use Rattle.chunk_core.proofs.Members.{among_nil, among_cons}
 use Rattle.device_port.specs.declared.device.Mode.TheVariants as mode
 use Rattle.device_port.specs.Device.{DeviceTold}
-use Rattle.device_port.specs.Depot.{AreApart, DepotTold, Files, Makes, IsUnknown, KeepsFilesBut, content_at}
+use Rattle.device_port.specs.Depot.{HaveOwnNumbers, DepotTold, Files, Makes, IsUnknown, KeepsFilesBut, content_at}
 use Rattle.device_port.specs.Sink.{SinkTold}
 use Rattle.pull_nodes.specs.declared.node.Node.{Node}
 use Rattle.pull_nodes.specs.declared.node.Node.TheVariants.{Read, Weak'}
@@ -33,7 +33,7 @@ module _ {V : Type 0} (told : V → DeviceTold) where
     unused = λ x m. ⊎_elim (λ e. subst (λ y. IsUnused (told y)) (sym e) unused) (λ i. absurd (among_nil i)) (among_cons m);
   })
 
-one_apart : (d : DeviceTold) → AreApart (d ∷ [])
+one_apart : (d : DeviceTold) → HaveOwnNumbers (d ∷ [])
 one_apart d = distinct_one d.number
 
 -- a device that was just made is unused

@@ -12,12 +12,12 @@ use Rattle.device_port.specs.Device.{DeviceTold, faults_of}
 use Rattle.res_ledger.specs.declared.event.StreamNo.TheVariants.{Inner}
 use Rattle.device_port.specs.Depot.{DepotTold}
 use Rattle.device_port.specs.Sink.{SinkTold}
-use Rattle.pull_nodes.specs.Runs.{FirstBytes, OrLeft, Reads, ReadsWhole, ReadsWholeBy, Opens, StopsReading}
+use Rattle.pull_nodes.specs.Runs.{FirstBytes, OrLeft, Reads, ReadsWhole, ReadsWholeBy, OpensThen, StopsReading}
 use Rattle.run_rules.specs.declared.end.EndOf.{EndOf}
 use Rattle.run_rules.specs.Facts.{is_halted, is_memory}
 use Rattle.run_rules.specs.Run.{IsReported, count_of}
 use Rattle.flume_cli.specs.declared.outcome.Outcome.{Outcome}
-use Rattle.flume_cli.specs.Alone.{elements_of, frame_of, IsPiece, IsCutAt, RunsAlone}
+use Rattle.flume_cli.specs.Alone.{elements_in_pieces, frame_of, IsSmallPiece, IsCutAt, RunsAlone}
 use Rattle.flume_cli.specs.Cat.{to_read, FileRuns, IdealFileRuns, IsFrontWithin, RunsCat}
 use Rattle.flume_cli.proofs.AlonePerforms.{IsCovered, performs_alone}
 use Rattle.chunk_core.proofs.Each.{each_left, each_right}
@@ -34,12 +34,12 @@ left_bytes R h ys e (inl r) = h ys e r
 left_bytes R h ys e (inr (c, inl n)) = subst (λ xs. AllByRecursion IsByte xs) (sym n) tt
 left_bytes R h ys e (inr (c, inr (more, g, r))) = each_left IsByte ys more (h (ys ++ more) g r)
 
-opens_bytes : (d : DeviceTold) (ys : List Element) (e : End) → Opens d (OrLeft (Reads d)) (Unit {0}) ys e → AllByRecursion IsByte ys
+opens_bytes : (d : DeviceTold) (ys : List Element) (e : End) → OpensThen d (OrLeft (Reads d)) (Unit {0}) ys e → AllByRecursion IsByte ys
 opens_bytes d ys e (inl r) = left_bytes (Reads d) (λ xs g h. first_bytes d.content d.at xs h.0) ys e r.2
 opens_bytes d ys e (inr r) = subst (λ xs. AllByRecursion IsByte xs) (sym r.2) tt
 
 pub file_bytes : (d : DeviceTold) (ys : List Element) (e : End) → FileRuns d ys e → AllByRecursion IsByte ys
-file_bytes d ys e r = left_bytes (Opens d (OrLeft (Reads d)) (Unit {0})) (opens_bytes d) ys e r
+file_bytes d ys e r = left_bytes (OpensThen d (OrLeft (Reads d)) (Unit {0})) (opens_bytes d) ys e r
 
 -- A fault shows on its device.
 
@@ -113,7 +113,7 @@ module _ (path : List ℕ) (size : ℕ) (old new : DepotTold) (so sn : SinkTold)
   d = r.home 0
 
   abbrev given : List Element
-  given = elements_of r.printed.pieces
+  given = elements_in_pieces r.printed.pieces
 
   shown_by : (e : End) (h : How) → IsReported e h → FileRuns d given e → (c : Code) → h ≡ how.Fault c → 0 < count_of c d
   shown_by Done h is run c f = absurd (let e : how.Done ≡ how.Fault c = sym is ∙ f in cc)
@@ -138,7 +138,7 @@ module _ (path : List ℕ) (size : ℕ) (old new : DepotTold) (so sn : SinkTold)
   front_by : (b : Bool) → o.sink_failed ≡ b → IsFrontWithin size r.printed.rest
   front_by false e = let c = subst (λ b. IsCutAt b r.printed.next r.printed.rest) e r.printed.cut in inl c.1
   front_by true e =
-      let c : IsPiece r.printed.next × (more : List ℕ) × (0 < length more) × _ = subst (λ b. IsCutAt b r.printed.next r.printed.rest) e r.printed.cut in
+      let c : IsSmallPiece r.printed.next × (more : List ℕ) × (0 < length more) × _ = subst (λ b. IsCutAt b r.printed.next r.printed.rest) e r.printed.cut in
       let bytes = each_right IsByte given r.printed.next (file_bytes d (given ++ r.printed.next) Cut (r.run.goes_on e)) in
       let counted = bytes_length r.printed.next bytes in
       inr (rendering_of r.printed.next, omega (arith, counted, r.small.next_fits), c.1, c.3)

@@ -22,8 +22,8 @@ use Rattle.row_seat.specs.declared.view.View.{View}
 use Rattle.row_seat.specs.Views.{IsLedgerOf}
 use Rattle.scope_tree.specs.declared.branch.Spent.{Spent}
 use Rattle.scope_tree.specs.Words.{words}
-use Rattle.tree_laws.specs.Shelves.{end_of, noted_ends, shelf_ends}
-use Rattle.tree_laws.specs.Whole.{IsWhole}
+use Rattle.tree_laws.specs.Shelves.{finals_of, noted_ends, shelf_ends}
+use Rattle.tree_laws.specs.Whole.{IsWholeLedger}
 use Rattle.run_rules.specs.Facts.{leased_stream}
 use Rattle.flume_cli.specs.Alone.{IsAccount}
 use Rattle.chunk_core.proofs.Each.{each_among}
@@ -32,7 +32,7 @@ not_leased : (w : What) → leased_of w ≡ [] → leased_stream w ≡ None
 not_leased (Lease j s) e = absurd (let f : (j, s) ∷ [] ≡ [] = e in cc)
 not_leased w e = refl
 
-end_shape : (w : What) (f : ℕ × Exit × Bool) → IsAmong f (end_of w) → w ≡ Final f.0 f.1 f.2
+end_shape : (w : What) (f : ℕ × Exit × Bool) → IsAmong f (finals_of w) → w ≡ Final f.0 f.1 f.2
 end_shape (Final r x ok) f m = ⊎_elim (λ e. ap (λ (y : ℕ × Exit × Bool). Final y.0 y.1 y.2) (sym e)) (λ n. absurd (among_nil n)) (among_cons m)
 end_shape w f m = absurd (among_nil m)
 
@@ -59,7 +59,7 @@ module _ {P : Type 0} where
     pub rows : (x : Spent P) → IsAmong x shelf → (x.row < count) × ((w x.row).opens ≡ 1) × ((w x.row).exit ≡ Some x.exit) × (x.ok ≡ nat_eq (w x.row).close_faults 0)
     pub each : (r : ℕ) → r < count → (w r).opens ≡ 1 → (x : Spent P) × IsAmong x shelf × (x.row ≡ r)
 
-  module _ (v : View P) (L : List Event) (shelf : List (Spent P)) (count : ℕ) (w : ℕ → DeviceTold) (how : How) (name : v.by ≡ Inner 0) (ledger : IsLedgerOf v L) (whole : IsWhole L)
+  module _ (v : View P) (L : List Event) (shelf : List (Spent P)) (count : ℕ) (w : ℕ → DeviceTold) (how : How) (name : v.by ≡ Inner 0) (ledger : IsLedgerOf v L) (whole : IsWholeLedger L)
       (own : (e : Event) → IsAmong e v.events → (e.by ≡ v.by) × (leased_of e.what ≡ [])) (finals : noted_ends (words v) ≡ shelf_ends shelf) (closed : IsClosed v.events v.by 0) (exits : (x : Exit) → Notes v.events v.by (Close 0 x) → x ≡ exit_of how)
       (tells : ShelfTells count w shelf) where
     to_ledger : (x : What) → Notes v.events v.by x → Notes L v.by x
@@ -75,11 +75,11 @@ module _ {P : Type 0} where
     final_row : (k : StreamNo) (r : ℕ) (x : Exit) (ok : Bool) → Notes L k (Final r x ok) → (y : Spent P) × IsAmong y shelf × (ended_as y ≡ (r, x, ok))
     final_row k r x ok n =
         let here_it : IsAmong (Final r x ok) (words v) = notes_own v.events v.by (Final r x ok) (from_ledger k (Final r x ok) n) in
-        on_shelf shelf (r, x, ok) (subst (λ l. IsAmong (r, x, ok) l) finals (flat_holds end_of (Final r x ok) (words v) (r, x, ok) here_it (here [])))
+        on_shelf shelf (r, x, ok) (subst (λ l. IsAmong (r, x, ok) l) finals (flat_holds finals_of (Final r x ok) (words v) (r, x, ok) here_it (here [])))
 
     row_acquired : (x : Spent P) → IsAmong x shelf → IsAcquired L x.row
     row_acquired x m =
-        let f = flat_found end_of (words v) (ended_as x) (subst (λ l. IsAmong (ended_as x) l) (sym finals) (shelf_on x shelf m)) in
+        let f = flat_found finals_of (words v) (ended_as x) (subst (λ l. IsAmong (ended_as x) l) (sym finals) (shelf_on x shelf m)) in
         let n : Notes L v.by (Final x.row x.exit x.ok) = to_ledger (Final x.row x.exit x.ok) (own_notes v.events v.by (Final x.row x.exit x.ok) (subst (λ y. IsAmong y (words v)) (end_shape f.0 (ended_as x) f.2) f.1)) in
         let parts = split_at n.0 L n.1 in
         let c = whole.complete.after_close parts.0 parts.1 n.0 x.row x.exit x.ok parts.2 n.3 in

@@ -12,8 +12,8 @@ use Rattle.res_ledger.proofs.Prefixes.{split_at}
 use Rattle.res_ledger.specs.declared.event.What.{What}
 use Rattle.res_ledger.specs.declared.event.Event.{Event}
 use Rattle.device_port.specs.Device.{Place, DeviceTold}
-use Rattle.run_rules.specs.Facts.{below, is_place}
-use Rattle.run_rules.specs.Devices.{AreAsMany, place_of}
+use Rattle.run_rules.specs.Facts.{first_numbers, is_place}
+use Rattle.run_rules.specs.Devices.{AreAsMany, place_of_row}
 use Rattle.chunk_core.proofs.Distinct.{distinct_filter, distinct_cons, distinct_nil}
 use Rattle.chunk_core.proofs.Each.{each_of}
 use Rattle.flume_cli.proofs.Permuted.{same_elements, range_among, among_range, range_distinct}
@@ -79,31 +79,31 @@ named_once row L apart = behind [] L refl
         ]) refl
 
 -- the places of rows, where each has one
-module _ (places : List Place) (w : ℕ → DeviceTold) (placed : (r : ℕ) → r < length places → place_of places (Some r) ≡ (w r).place ∷ []) where
-  places_named : (row : What → Option ℕ) (L : List Event) → ((r : ℕ) → IsAmong r (rows_named row L) → r < length places) → flat_map (λ e. place_of places (row e.what)) L ≡ map (λ r. (w r).place) (rows_named row L)
+module _ (places : List Place) (w : ℕ → DeviceTold) (placed : (r : ℕ) → r < length places → place_of_row places (Some r) ≡ (w r).place ∷ []) where
+  places_named : (row : What → Option ℕ) (L : List Event) → ((r : ℕ) → IsAmong r (rows_named row L) → r < length places) → flat_map (λ e. place_of_row places (row e.what)) L ≡ map (λ r. (w r).place) (rows_named row L)
   places_named row [] h = refl
   places_named row (e ∷ L) h =
-      (elim (row e.what) as (λ o. ((r : ℕ) → IsAmong r (cons_option o (rows_named row L)) → r < length places) → place_of places o ++ flat_map (λ x. place_of places (row x.what)) L ≡ map (λ r. (w r).place) (cons_option o (rows_named row L))) [
+      (elim (row e.what) as (λ o. ((r : ℕ) → IsAmong r (cons_option o (rows_named row L)) → r < length places) → place_of_row places o ++ flat_map (λ x. place_of_row places (row x.what)) L ≡ map (λ r. (w r).place) (cons_option o (rows_named row L))) [
         | None ↦ λ l. places_named row L l
-        | Some r ↦ λ l. ap (λ l. l ++ flat_map (λ x. place_of places (row x.what)) L) (placed r (l r (here (rows_named row L)))) ∙ ap (λ l. (w r).place ∷ l) (places_named row L (λ q m. l q (there r m)))
+        | Some r ↦ λ l. ap (λ l. l ++ flat_map (λ x. place_of_row places (row x.what)) L) (placed r (l r (here (rows_named row L)))) ∙ ap (λ l. (w r).place ∷ l) (places_named row L (λ q m. l q (there r m)))
       ]) h
 
   -- the devices that pass are as many as the rows named, where a row is named exactly if its device passes
-  pub as_many : (passes : DeviceTold → Bool) (row : What → Option ℕ) (back : List DeviceTold) (L : List Event) → IsPermutation (map w (below (length places))) back → IsDistinct nat_eq (rows_named row L)
+  pub as_many : (passes : DeviceTold → Bool) (row : What → Option ℕ) (back : List DeviceTold) (L : List Event) → IsPermutation (map w (first_numbers (length places))) back → IsDistinct nat_eq (rows_named row L)
       → ((r : ℕ) → IsAmong r (rows_named row L) → (r < length places) × (passes (w r) ≡ true)) → ((r : ℕ) → r < length places → passes (w r) ≡ true → IsAmong r (rows_named row L)) → AreAsMany passes row back places L
   as_many passes row back L each once only all =
-      let ns = below (length places) in
+      let ns = first_numbers (length places) in
       let these = filter (λ r. passes (w r)) ns in
       let same : IsPermutation these (rows_named row L) = same_elements these (rows_named row L) (distinct_filter (λ r. passes (w r)) ns (range_distinct 0 (length places))) once
       (λ r m. let f = among_filter (λ q. passes (w q)) r ns m in let b = among_range 0 (length places) r f.0 in all r (omega (arith, b.1)) f.1)
       (λ r m. let o = only r m in filter_among (λ q. passes (w q)) r ns (range_among 0 (length places) r (omega arith) (omega (arith, o.0))) o.1) in
-      each_of (λ (p : Place). count_by (is_place p) (map (λ (d : DeviceTold). d.place) (filter passes back)) ≡ count_by (is_place p) (flat_map (λ e. place_of places (row e.what)) L))
+      each_of (λ (p : Place). count_by (is_place p) (map (λ (d : DeviceTold). d.place) (filter passes back)) ≡ count_by (is_place p) (flat_map (λ e. place_of_row places (row e.what)) L))
       (λ p. count_permuted passes (λ (d : DeviceTold). d.place) (is_place p) (map w ns) back each
       ∙ (ap (λ (ds : List DeviceTold). count_by (is_place p) (map (λ d. d.place) ds)) (filter_map_is passes w ns)
       ∙ (ap (λ ps. count_by (is_place p) ps) (map_twice these)
       ∙ (sym (sum_by-IsPermutation (λ q. cond (is_place p q) 1 0) (map (λ r. (w r).place) these) (map (λ r. (w r).place) (rows_named row L)) (IsPermutation-map (λ r. (w r).place) these (rows_named row L) same))
       ∙ ap (λ ps. count_by (is_place p) ps) (sym (places_named row L (λ r m. (only r m).0)))))))
-      (map (λ (d : DeviceTold). d.place) (filter passes back) ++ flat_map (λ e. place_of places (row e.what)) L)
+      (map (λ (d : DeviceTold). d.place) (filter passes back) ++ flat_map (λ e. place_of_row places (row e.what)) L)
     where
       map_twice : (rs : List ℕ) → map (λ (d : DeviceTold). d.place) (map w rs) ≡ map (λ r. (w r).place) rs
       map_twice [] = refl

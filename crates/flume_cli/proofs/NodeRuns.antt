@@ -17,11 +17,11 @@ use Rattle.device_port.proofs.Puts.{with_bytes_none}
 use Rattle.pull_nodes.specs.Runs.{IsRun}
 use Rattle.pull_nodes.specs.Shape.{places_of}
 use Rattle.pull_nodes.specs.declared.node.Node.{Node}
-use Rattle.pull_turns.specs.Piping.{Standing}
+use Rattle.pull_turns.specs.Piping.{StateMeaning}
 use Rattle.pull_turns.specs.Sizes.{HasNoPipeOf, widest_of}
 use Rattle.res_ledger.specs.Order.{firsts}
 use Rattle.row_seat.specs.Views.{IsWithin}
-use Rattle.scope_tree.specs.Calls.{Closes, Seen}
+use Rattle.scope_tree.specs.Calls.{ClosesScope, Seen}
 use Rattle.scope_tree.specs.Released.{said}
 use Rattle.scope_tree.proofs.Owning.{owner_pays}
 use Rattle.scope_tree.proofs.Use.{closed_now}
@@ -29,10 +29,10 @@ use Rattle.tree_laws.specs.Alone.{StaysAlone}
 use Rattle.tree_laws.specs.Called.{Called}
 use Rattle.tree_laws.specs.Called.Called.{none, closed}
 use Rattle.tree_laws.proofs.Alone.{alone_closes}
-use Rattle.pull_stepper.specs.Held.{Finishes}
+use Rattle.pull_stepper.specs.Held.{FinishesDevice}
 use Rattle.pull_stepper.specs.Placing.{first_of}
 use Rattle.pull_stepper.specs.Sites.{Parted, Since, told_at}
-use Rattle.pull_stepper.specs.Stepping.{Ends, HasRoomFor, IsSupplied, Stepping, begun, site_of}
+use Rattle.pull_stepper.specs.Stepping.{StepperEnds, HasRoomFor, IsSupplied, Stepping, begun, site_of}
 use Rattle.pull_stepper.proofs.Beginning.{begun_in_order}
 use Rattle.pull_stepper.proofs.Closing.{closed_as}
 use Rattle.pull_stepper.proofs.Parting.{parted}
@@ -48,7 +48,7 @@ nothing_in (x ∷ xs) h = absurd (h x (here xs))
 
 module _ {P : Type 0} {ends : P → Exit → Bool → P → Type 0} {x : Exit} {a b : Seen P} where
   -- where no row is open none is taken down
-  none_torn : a.seat.opened ≡ [] → (c : Closes ends a 0 x b) → c.torn.0 ≡ []
+  none_torn : a.seat.opened ≡ [] → (c : ClosesScope ends a 0 x b) → c.torn.0 ≡ []
   none_torn e c = nothing_in c.torn.0 (λ y m. let p = owner_pays y c.torn.2 m in among_nil (subst (λ l. IsAmong (y.row, p.0) l) e p.1))
 
 module _ {V : Type 0} (told : V → DeviceTold) (n : Node) (devices : List V) (chunk : ℕ) (a b : Seen V) (old new : SinkTold) (empty : a.shelf ≡ []) where
@@ -56,7 +56,7 @@ module _ {V : Type 0} (told : V → DeviceTold) (n : Node) (devices : List V) (c
   first = first_of (places_of n)
 
   -- the node was run to its end
-  node_ran_from : {F : Type 0} (P : Standing F) (z : Stepping V F) (h : How) (ds : List V) (r : Result (Unit {0}) NotPut) → PrintsAll P told (begun n a devices chunk) z old new r → Since told (Finishes told) (site_of n a devices) z.site → Ends told z b h ds
+  node_ran_from : {F : Type 0} (P : StateMeaning F) (z : Stepping V F) (h : How) (ds : List V) (r : Result (Unit {0}) NotPut) → PrintsAll P told (begun n a devices chunk) z old new r → Since told (FinishesDevice told) (site_of n a devices) z.site → StepperEnds told z b h ds
       → RunsNode told n devices chunk a b old new h ds r
   node_ran_from P z h ds r prints since end =
       let count : length z.site.slots ≡ length devices = since.places ∙ length-map devices Some in
@@ -75,21 +75,21 @@ module _ {V : Type 0} (told : V → DeviceTold) (n : Node) (devices : List V) (c
             (since.shelf x (subst (λ (t : Seen V). IsAmong x t.shelf) end.tree m));
         root = end.root;
         exits = end.exit;
-        calls = subst (λ t. Called (Finishes told) a [] t) (sym end.tree) since.calls;
+        calls = subst (λ t. Called (FinishesDevice told) a [] t) (sym end.tree) since.calls;
         alone = subst (λ (t : Seen V). StaysAlone a.seat t.seat) (sym end.tree) since.alone;
       }
 
-  pub node_ran : {F : Type 0} (P : Standing F) (x z : Stepping V F) (h : How) (ds : List V) (r : Result (Unit {0}) NotPut) → x ≡ begun n a devices chunk → PrintsAll P told x z old new r → Since told (Finishes told) x.site z.site → Ends told z b h ds
+  pub node_ran : {F : Type 0} (P : StateMeaning F) (x z : Stepping V F) (h : How) (ds : List V) (r : Result (Unit {0}) NotPut) → x ≡ begun n a devices chunk → PrintsAll P told x z old new r → Since told (FinishesDevice told) x.site z.site → StepperEnds told z b h ds
       → RunsNode told n devices chunk a b old new h ds r
   node_ran {F = F} P x z h ds r e prints since end =
-      node_ran_from P z h ds r (subst (λ (y : Stepping V F). PrintsAll P told y z old new r) e prints) (subst (λ (y : Stepping V F). Since told (Finishes told) y.site z.site) e since) end
+      node_ran_from P z h ds r (subst (λ (y : Stepping V F). PrintsAll P told y z old new r) e prints) (subst (λ (y : Stepping V F). Since told (FinishesDevice told) y.site z.site) e since) end
 
   filtered : (ds : List V) → filter_map (λ o. o) (map Some ds) ≡ ds
   filtered [] = refl
   filtered (d ∷ ds) = ap (λ l. d ∷ l) (filtered ds)
 
   -- the node couldn't be begun, and the root was closed
-  pub node_unmade : IsSupplied told n devices → HasRoomFor a n → Closes (Finishes told) a 0 exit.Canceled b → new ≡ old → RunsNode {T = Unit {0}} told n devices chunk a b old new how.Memory devices (Err why.Memory)
+  pub node_unmade : IsSupplied told n devices → HasRoomFor a n → ClosesScope (FinishesDevice told) a 0 exit.Canceled b → new ≡ old → RunsNode {T = Unit {0}} told n devices chunk a b old new how.Memory devices (Err why.Memory)
   node_unmade supplied room closes quiet =
       let x = site_of n a devices in
       let bare : b.shelf ≡ [] = closes.torn.1 ∙ (ap (λ xs. a.shelf ++ xs) (none_torn room.opened closes) ∙ (append-nil a.shelf ∙ empty)) in

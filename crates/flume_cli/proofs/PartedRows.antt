@@ -17,7 +17,7 @@ use Rattle.scope_tree.specs.Released.{said}
 use Rattle.chunk_core.proofs.Distinct.{distinct_filter, distinct_head, distinct_tail}
 use Rattle.pull_stepper.specs.Sites.{IsUnopened, IsSpent, Parted}
 use Rattle.pull_stepper.specs.Sites.Parted.{none, unopened, ended}
-use Rattle.run_rules.specs.Facts.{below}
+use Rattle.run_rules.specs.Facts.{first_numbers}
 use Rattle.flume_cli.specs.Alone.{IsAtRest}
 use Rattle.flume_cli.proofs.Closing.{ShelfTells}
 use Rattle.flume_cli.proofs.Permuted.{same_elements, range_among, range_distinct}
@@ -103,9 +103,9 @@ module _ {V : Type 0} (told : V → DeviceTold) (w : ℕ → DeviceTold) (n : �
     shelved (x ∷ xs) h = ap (λ z. z ∷ map w (firsts (said xs))) (sym (h x (here xs))) ∙ ap (λ l. told x.pay ∷ l) (shelved xs (λ y m. h y (there x m)))
 
     -- the devices of the places are those on the shelf and those that were never opened
-    pub all_parted : IsPermutation (map w (below n)) (map (λ x. told x.pay) shelf ++ map told ds)
+    pub all_parted : IsPermutation (map w (first_numbers n)) (map (λ x. told x.pay) shelf ++ map told ds)
     all_parted =
-        let ns = below n in
+        let ns = first_numbers n in
         let rows = firsts (said shelf) in
         let same : IsPermutation (filter stands ns) rows = same_elements (filter stands ns) rows (distinct_filter stands ns (range_distinct 0 n)) once
         (λ r m. has_in r rows (among_filter stands r ns m).1)

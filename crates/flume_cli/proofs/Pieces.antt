@@ -5,7 +5,7 @@ use Rattle.std.specs.List.{AllByRecursion}
 use Rattle.chunk_core.specs.Elements.{Element, element_text, rendering_of}
 use Rattle.chunk_core.specs.Elements.Element.{Byte, Line, Row}
 use Rattle.chunk_core.specs.Texts.{payloads_of}
-use Rattle.flume_cli.specs.Alone.{elements_of, frame_of, IsPiece}
+use Rattle.flume_cli.specs.Alone.{elements_in_pieces, frame_of, IsSmallPiece}
 use Rattle.chunk_core.proofs.Each.{each_left, each_right}
 
 -- each element has some text
@@ -19,11 +19,11 @@ rendering_some [] l = l
 rendering_some (x ∷ xs) l = omega (arith, text_some x, length-append (element_text x) (rendering_of xs))
 
 -- the payloads render the elements
-pub payloads_pieces : (pieces : List (List Element)) → payloads_of 0 (map frame_of pieces) ≡ rendering_of (elements_of pieces)
+pub payloads_pieces : (pieces : List (List Element)) → payloads_of 0 (map frame_of pieces) ≡ rendering_of (elements_in_pieces pieces)
 payloads_pieces [] = refl
-payloads_pieces (p ∷ pieces) = ap (λ b. rendering_of p ++ b) (payloads_pieces pieces) ∙ sym (flat_map-append element_text p (elements_of pieces))
+payloads_pieces (p ∷ pieces) = ap (λ b. rendering_of p ++ b) (payloads_pieces pieces) ∙ sym (flat_map-append element_text p (elements_in_pieces pieces))
 
-pub pieces_numbers : (pieces : List (List Element)) → AllByRecursion IsPiece pieces → AllByRecursion (λ f. (f.stream < 1) × (0 < length f.payload)) (map frame_of pieces)
+pub pieces_numbers : (pieces : List (List Element)) → AllByRecursion IsSmallPiece pieces → AllByRecursion (λ f. (f.stream < 1) × (0 < length f.payload)) (map frame_of pieces)
 pieces_numbers [] h = tt
 pieces_numbers (p ∷ pieces) h = ((omega arith, rendering_some p h.0), pieces_numbers pieces h.1)
 
@@ -44,6 +44,6 @@ bytes_length (x ∷ xs) h =
     omega (arith, one, rest, length-append (element_text x) (rendering_of xs))
 
 -- each frame of bytes has at most size of them
-pub pieces_fit : (size : ℕ) (pieces : List (List Element)) → AllByRecursion (λ xs. length xs ≤ size) pieces → AllByRecursion IsByte (elements_of pieces) → AllByRecursion (λ f. length f.payload ≤ size) (map frame_of pieces)
+pub pieces_fit : (size : ℕ) (pieces : List (List Element)) → AllByRecursion (λ xs. length xs ≤ size) pieces → AllByRecursion IsByte (elements_in_pieces pieces) → AllByRecursion (λ f. length f.payload ≤ size) (map frame_of pieces)
 pieces_fit size [] h b = tt
-pieces_fit size (p ∷ pieces) h b = (omega (arith, h.0, bytes_length p (each_left IsByte p (elements_of pieces) b)), pieces_fit size pieces h.1 (each_right IsByte p (elements_of pieces) b))
+pieces_fit size (p ∷ pieces) h b = (omega (arith, h.0, bytes_length p (each_left IsByte p (elements_in_pieces pieces) b)), pieces_fit size pieces h.1 (each_right IsByte p (elements_in_pieces pieces) b))

@@ -14,8 +14,8 @@ use Rattle.device_port.specs.Device.{DeviceTold}
 use Rattle.device_port.specs.Sink.{SinkTold, with_bytes, BreaksOff}
 use Rattle.device_port.proofs.Puts.{with_bytes_none, with_bytes_twice}
 use Rattle.pull_turns.specs.Around.{Around}
-use Rattle.pull_turns.specs.Led.{Led, Tells, Turns}
-use Rattle.pull_turns.specs.Piping.{Standing}
+use Rattle.pull_turns.specs.Led.{Led, TouchesOnly, Turns}
+use Rattle.pull_turns.specs.Piping.{StateMeaning}
 use Rattle.pull_turns.specs.Rest.{IsRunOfRest}
 use Rattle.pull_turns.specs.Sizes.{HasNoPipe, Sized, widest}
 use Rattle.pull_turns.specs.declared.rest.Rest.{Rest}
@@ -25,7 +25,7 @@ use Rattle.pull_turns.proofs.Leads.{can_stop}
 use Rattle.pull_turns.proofs.Led.{led_start, led_chunk, led_quiet, led_done, led_fault, over_now, tells_on}
 use Rattle.flume_cli.specs.declared.frame.NotPut.{NotPut}
 use Rattle.flume_cli.specs.declared.frame.NotPut.TheVariants as why
-use Rattle.flume_cli.specs.Alone.{AreSmall, elements_of, frame_of, IsPiece, PrintsPieces}
+use Rattle.flume_cli.specs.Alone.{AreSmall, elements_in_pieces, frame_of, IsSmallPiece, PrintsPieces}
 use Rattle.flume_cli.specs.Frame.{PutsLoad}
 use Rattle.flume_cli.specs.Printing.{PrintsRun}
 use Rattle.chunk_core.proofs.Each.{each_snoc}
@@ -37,15 +37,15 @@ pub record StaysSmall {F : Type 0} (n : ℕ) (start rest : Rest F) (pieces : Lis
   pub fits : AllByRecursion (λ xs. length xs ≤ widest n start) pieces
 
 -- so far turns gave these pieces, and each was printed
-pub record PrintsOn {F : Type 0} (P : Standing F) (first now : ℕ → DeviceTold) (n : ℕ) (start rest : Rest F) (old new : SinkTold) : Type 0 where
+pub record PrintsOn {F : Type 0} (P : StateMeaning F) (first now : ℕ → DeviceTold) (n : ℕ) (start rest : Rest F) (old new : SinkTold) : Type 0 where
   pub pieces : List (List Element)
-  pub some : AllByRecursion IsPiece pieces
+  pub some : AllByRecursion IsSmallPiece pieces
   pub small : HasNoPipe start → StaysSmall n start rest pieces
-  pub led : Led P first now start rest (elements_of pieces)
+  pub led : Led P first now start rest (elements_in_pieces pieces)
   pub wrote : new ≡ with_bytes old (frames_text (map frame_of pieces))
 
-elements_snoc : (pieces : List (List Element)) (xs : List Element) → elements_of (pieces ++ xs ∷ []) ≡ elements_of pieces ++ xs
-elements_snoc pieces xs = flat_map-append (λ (ys : List Element). ys) pieces (xs ∷ []) ∙ ap (λ b. elements_of pieces ++ b) (append-nil xs)
+elements_snoc : (pieces : List (List Element)) (xs : List Element) → elements_in_pieces (pieces ++ xs ∷ []) ≡ elements_in_pieces pieces ++ xs
+elements_snoc pieces xs = flat_map-append (λ (ys : List Element). ys) pieces (xs ∷ []) ∙ ap (λ b. elements_in_pieces pieces ++ b) (append-nil xs)
 
 frames_snoc : (pieces : List (List Element)) (xs : List Element) → frames_text (map frame_of (pieces ++ xs ∷ [])) ≡ frames_text (map frame_of pieces) ++ frame_text 0 (rendering_of xs)
 frames_snoc pieces xs =
@@ -56,21 +56,21 @@ frames_snoc pieces xs =
 rest_of : (xs : List ℕ) (k : ℕ) → k < length xs → (0 < length (drop k xs)) × (take k xs ++ drop k xs ≡ xs)
 rest_of xs k l = (omega (arith, length-drop k xs), take-append-drop k xs)
 
-pub prints_start : {F : Type 0} (P : Standing F) (now : ℕ → DeviceTold) (n : ℕ) (start : Rest F) (old : SinkTold) → PrintsOn P now now n start start old old
+pub prints_start : {F : Type 0} (P : StateMeaning F) (now : ℕ → DeviceTold) (n : ℕ) (start : Rest F) (old : SinkTold) → PrintsOn P now now n start start old old
 prints_start P now n start old = record { pieces = []; some = tt; small = λ f. record { plain = f; wide = omega arith; fits = tt }; led = led_start P now start; wrote = sym (with_bytes_none old) }
 
 -- what was printed is a front of a run, whatever the devices come to tell
-cut_later : {F : Type 0} (P : Standing F) (first now last : ℕ → DeviceTold) (start rest : Rest F) (xs : List Element) → Led P first now start rest xs → Tells now last rest → IsRunOfRest P last start xs Cut
+cut_later : {F : Type 0} (P : StateMeaning F) (first now last : ℕ → DeviceTold) (start rest : Rest F) (xs : List Element) → Led P first now start rest xs → TouchesOnly now last rest → IsRunOfRest P last start xs Cut
 cut_later P first now last start rest xs h t = subst (λ (ys : List Element). IsRunOfRest P last start ys Cut) (append-nil xs)
     ((h.lead last (record { over = λ p l n. t.others p n; goes = t.goes })).gives [] Cut (can_stop P last rest))
 
-tells_later : {F : Type 0} (a b c : ℕ → DeviceTold) (r : Rest F) → Tells a b r → Tells {F = F} b c Nil → Tells a c r
+tells_later : {F : Type 0} (a b c : ℕ → DeviceTold) (r : Rest F) → TouchesOnly a b r → TouchesOnly {F = F} b c Nil → TouchesOnly a c r
 tells_later a b c r h i = tells_on a b c r Nil (λ p l. absurd l) h i
 
-tells_of : {F : Type 0} (a b : ℕ → DeviceTold) (r : Rest F) → Tells {F = F} a b Nil → Tells a b r
+tells_of : {F : Type 0} (a b : ℕ → DeviceTold) (r : Rest F) → TouchesOnly {F = F} a b Nil → TouchesOnly a b r
 tells_of a b r h = record { goes = h.goes; others = λ p n. h.others p (λ l. l) }
 
-module _ {F : Type 0} (P : Standing F) (first before : ℕ → DeviceTold) (n : ℕ) (start rest : Rest F) (old mid : SinkTold) (p : PrintsOn P first before n start rest old mid) where
+module _ {F : Type 0} (P : StateMeaning F) (first before : ℕ → DeviceTold) (n : ℕ) (start rest : Rest F) (old mid : SinkTold) (p : PrintsOn P first before n start rest old mid) where
   -- nothing was cut
   abbrev whole : PrintsPieces old mid false
   whole = record {
@@ -85,11 +85,11 @@ module _ {F : Type 0} (P : Standing F) (first before : ℕ → DeviceTold) (n : 
   whole_small : HasNoPipe start → AreSmall (widest n start) p.pieces []
   whole_small f = record { fits = (p.small f).fits; next_fits = omega arith }
 
-  stopped : (now last : ℕ → DeviceTold) → Tells before now rest → Tells {F = F} now last Nil → IsRunOfRest P last start (elements_of p.pieces) Cut
-  stopped now last h t = cut_later P first before last start rest (elements_of p.pieces) p.led (tells_later before now last rest h t)
+  stopped : (now last : ℕ → DeviceTold) → TouchesOnly before now rest → TouchesOnly {F = F} now last Nil → IsRunOfRest P last start (elements_in_pieces p.pieces) Cut
+  stopped now last h t = cut_later P first before last start rest (elements_in_pieces p.pieces) p.led (tells_later before now last rest h t)
 
   -- memory was wanting in a turn
-  pub prints_wanting : (now last : ℕ → DeviceTold) → Tells before now rest → Tells {F = F} now last Nil → PrintsRun {T = Unit {0}} (IsRunOfRest P last start) (HasNoPipe start) (widest n start) old mid (Some how.Memory) (Err why.Memory)
+  pub prints_wanting : (now last : ℕ → DeviceTold) → TouchesOnly before now rest → TouchesOnly {F = F} now last Nil → PrintsRun {T = Unit {0}} (IsRunOfRest P last start) (HasNoPipe start) (widest n start) old mid (Some how.Memory) (Err why.Memory)
   prints_wanting now last h t = record {
     how = how.Memory;
     ended_is = refl;
@@ -98,7 +98,7 @@ module _ {F : Type 0} (P : Standing F) (first before : ℕ → DeviceTold) (n : 
     run = record { end = Cut; run = stopped now last h t; goes_on = λ e. absurd (false≢true e); reported = inr refl; halted = λ e. absurd (false≢true e); remembered = λ e. refl };
   }
 
-module _ {F : Type 0} (P : Standing F) (first : ℕ → DeviceTold) (before now : Around) (n : ℕ) (start rest next : Rest F) (old mid : SinkTold) (p : PrintsOn P first before.told n start rest old mid) where
+module _ {F : Type 0} (P : StateMeaning F) (first : ℕ → DeviceTold) (before now : Around) (n : ℕ) (start rest next : Rest F) (old mid : SinkTold) (p : PrintsOn P first before.told n start rest old mid) where
   small_next : (xs : List Element) → (HasNoPipe rest → Sized n rest next xs) → (f : HasNoPipe start) → length xs ≤ widest n start
   small_next xs s f = let i = p.small f in let h = s i.plain in omega (arith, h.piece, i.wide)
 
@@ -106,18 +106,18 @@ module _ {F : Type 0} (P : Standing F) (first : ℕ → DeviceTold) (before now 
       → PrintsOn P first now.told n start next old new
   prints_chunk new l k s w = record {
     pieces = p.pieces ++ elements l ∷ [];
-    some = each_snoc IsPiece p.pieces (elements l) p.some k.gave.0;
+    some = each_snoc IsSmallPiece p.pieces (elements l) p.some k.gave.0;
     small = λ f.
         let i = p.small f in
         let h = s i.plain in
         record { plain = h.plain; wide = omega (arith, h.pieces, i.wide); fits = each_snoc (λ xs. length xs ≤ widest n start) p.pieces (elements l) i.fits (small_next (elements l) s f) };
-    led = subst (λ xs. Led P first now.told start next xs) (sym (elements_snoc p.pieces (elements l))) (led_chunk P first before now n start rest next (elements_of p.pieces) p.led l k);
+    led = subst (λ xs. Led P first now.told start next xs) (sym (elements_snoc p.pieces (elements l))) (led_chunk P first before now n start rest next (elements_in_pieces p.pieces) p.led l k);
     wrote = w ∙ (ap (λ s. with_bytes s (frame_text 0 (rendering_of (elements l)))) p.wrote
         ∙ (with_bytes_twice old (frames_text (map frame_of p.pieces)) (frame_text 0 (rendering_of (elements l))) ∙ ap (λ b. with_bytes old b) (sym (frames_snoc p.pieces (elements l)))));
   }
 
   pub prints_quiet : Turns P before now n rest next turn.Quiet → (HasNoPipe rest → Sized n rest next []) → PrintsOn P first now.told n start next old mid
-  prints_quiet k s = record { pieces = p.pieces; some = p.some; small = λ f. let i = p.small f in let h = s i.plain in record { plain = h.plain; wide = omega (arith, h.pieces, i.wide); fits = i.fits }; led = led_quiet P first before now n start rest next (elements_of p.pieces) p.led k; wrote = p.wrote }
+  prints_quiet k s = record { pieces = p.pieces; some = p.some; small = λ f. let i = p.small f in let h = s i.plain in record { plain = h.plain; wide = omega (arith, h.pieces, i.wide); fits = i.fits }; led = led_quiet P first before now n start rest next (elements_in_pieces p.pieces) p.led k; wrote = p.wrote }
 
   pub prints_done : Turns P before now n rest next turn.Done → PrintsRun {T = Unit {0}} (IsRunOfRest P now.told start) (HasNoPipe start) (widest n start) old mid (Some how.Done) (Ok tt)
   prints_done k = record {
@@ -127,7 +127,7 @@ module _ {F : Type 0} (P : Standing F) (first : ℕ → DeviceTold) (before now 
     small = whole_small P first before.told n start rest old mid p;
     run = record {
       end = Done;
-      run = led_done P first before now n start rest next (elements_of p.pieces) p.led k now.told (over_now now.told start);
+      run = led_done P first before now n start rest next (elements_in_pieces p.pieces) p.led k now.told (over_now now.told start);
       goes_on = λ e. absurd (false≢true e);
       reported = refl;
       halted = λ e. absurd (false≢true e);
@@ -143,7 +143,7 @@ module _ {F : Type 0} (P : Standing F) (first : ℕ → DeviceTold) (before now 
     small = whole_small P first before.told n start rest old mid p;
     run = record {
       end = Fault c;
-      run = led_fault P first before now n start rest next (elements_of p.pieces) p.led c k now.told (over_now now.told start);
+      run = led_fault P first before now n start rest next (elements_in_pieces p.pieces) p.led c k now.told (over_now now.told start);
       goes_on = λ e. absurd (false≢true e);
       reported = refl;
       halted = λ e. absurd (false≢true e);
@@ -151,7 +151,7 @@ module _ {F : Type 0} (P : Standing F) (first : ℕ → DeviceTold) (before now 
     };
   }
 
-  module _ (last : ℕ → DeviceTold) (t : Tells {F = F} now.told last Nil) where
+  module _ (last : ℕ → DeviceTold) (t : TouchesOnly {F = F} now.told last Nil) where
     -- memory was wanting for the text of a piece
     pub prints_unrendered : (new : SinkTold) (l : Load) → Turns P before now n rest next (turn.Chunk l) → new ≡ mid → PrintsRun {T = Unit {0}} (IsRunOfRest P last start) (HasNoPipe start) (widest n start) old new (Some how.Halted) (Err why.Memory)
     prints_unrendered new l k e = subst (λ s. PrintsRun {T = Unit {0}} (IsRunOfRest P last start) (HasNoPipe start) (widest n start) old s (Some how.Halted) (Err why.Memory)) (sym e) (record {
@@ -184,7 +184,7 @@ module _ {F : Type 0} (P : Standing F) (first : ℕ → DeviceTold) (before now 
           run = record {
             end = Cut;
             run = stopped P first before.told n start rest old mid p now.told last k.tells t;
-            goes_on = λ e. cut_later P first now.told last start next (elements_of p.pieces ++ elements l) (led_chunk P first before now n start rest next (elements_of p.pieces) p.led l k) (tells_of now.told last next t);
+            goes_on = λ e. cut_later P first now.told last start next (elements_in_pieces p.pieces ++ elements l) (led_chunk P first before now n start rest next (elements_in_pieces p.pieces) p.led l k) (tells_of now.told last next t);
             reported = inl refl;
             halted = λ e. inl refl;
             remembered = λ e. absurd (false≢true e);

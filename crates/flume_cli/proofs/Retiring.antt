@@ -10,7 +10,7 @@ use Rattle.std.specs.List.Sorted.{IsPermutation}
 use Rattle.chunk_core.proofs.Bools.{itself}
 use Rattle.device_port.specs.declared.device.Mode.TheVariants as mode
 use Rattle.device_port.specs.Device.{DeviceTold}
-use Rattle.device_port.specs.Depot.{AreApart, DepotTold, Files, MayReturn, IsUnknown, KeepsFilesBut, KeepsOtherFiles, numbers}
+use Rattle.device_port.specs.Depot.{HaveOwnNumbers, DepotTold, Files, MayReturn, IsUnknown, KeepsFilesBut, KeepsOtherFiles, device_numbers}
 use Rattle.flume_cli.specs.Retire.{MayReturnAll, Returns}
 use Rattle.chunk_core.proofs.Each.{each_among, among_each, each_left, each_right, each_append, each_permuted}
 
@@ -39,12 +39,12 @@ read_keeps (Some f) None d r k = absurd k
 
 -- Two lists of devices of which no two have one number.
 
-parts_of : (n : ℕ) (xs ys : List DeviceTold) → AllByRecursion (λ k. nat_eq n k ≡ false) (numbers (xs ++ ys)) → AllByRecursion (λ k. nat_eq n k ≡ false) (numbers xs) × AllByRecursion (λ y. n ≢ y.number) ys
+parts_of : (n : ℕ) (xs ys : List DeviceTold) → AllByRecursion (λ k. nat_eq n k ≡ false) (device_numbers (xs ++ ys)) → AllByRecursion (λ k. nat_eq n k ≡ false) (device_numbers xs) × AllByRecursion (λ y. n ≢ y.number) ys
 parts_of n [] [] h = (tt, tt)
 parts_of n [] (y ∷ ys) h = (tt, (λ e. both_ways (nat_eq n y.number) h.0 (subst (λ k. nat_eq n k ≡ true) e (itself n)), (parts_of n [] ys h.1).1))
 parts_of n (x ∷ xs) ys h = let rest = parts_of n xs ys h.1 in ((h.0, rest.0), rest.1)
 
-apart_parts : (xs ys : List DeviceTold) → AreApart (xs ++ ys) → AreApart xs × AreApart ys × AllByRecursion (λ x. AllByRecursion (λ y. x.number ≢ y.number) ys) xs
+apart_parts : (xs ys : List DeviceTold) → HaveOwnNumbers (xs ++ ys) → HaveOwnNumbers xs × HaveOwnNumbers ys × AllByRecursion (λ x. AllByRecursion (λ y. x.number ≢ y.number) ys) xs
 unfolding IsDistinct
 apart_parts [] ys h = (tt, h, tt)
 apart_parts (x ∷ xs) ys h = let rest = apart_parts xs ys h.1 in let here = parts_of x.number xs ys h.0 in ((here.0, rest.0), rest.1, (here.1, rest.2))
@@ -53,7 +53,7 @@ apart_parts (x ∷ xs) ys h = let rest = apart_parts xs ys h.1 in let here = par
 pub may_permuted : (depot : DepotTold) (xs ys : List DeviceTold) → IsPermutation xs ys → MayReturnAll depot xs → MayReturnAll depot ys
 may_permuted depot xs ys p h = record {
   each = each_permuted (λ (x : DeviceTold). MayReturn depot x × (x.place.mode ≡ mode.Read)) xs ys p h.each;
-  apart = IsDistinct-IsPermutation nat_eq nat_eq_equiv.symm (numbers xs) (numbers ys) (IsPermutation-map (λ (x : DeviceTold). x.number) xs ys p) h.apart;
+  apart = IsDistinct-IsPermutation nat_eq nat_eq_equiv.symm (device_numbers xs) (device_numbers ys) (IsPermutation-map (λ (x : DeviceTold). x.number) xs ys p) h.apart;
 }
 
 -- since the start the devices ds came back but for these, which still may

@@ -17,7 +17,7 @@ use Rattle.scope_tree.specs.declared.branch.Spent.{Spent}
 use Rattle.scope_tree.specs.Calls.{AtStart, Seen}
 use Rattle.tree_laws.proofs.Alone.{alone_whole, first_at_start}
 use Rattle.tree_laws.proofs.Said.{called_ends}
-use Rattle.tree_laws.specs.Whole.{IsWhole}
+use Rattle.tree_laws.specs.Whole.{IsWholeLedger}
 use Rattle.pull_stepper.specs.Placing.{first_of}
 use Rattle.pull_stepper.specs.Sites.{Parted, SameDevice, pay_of, slot_of, told_by}
 use Rattle.pull_stepper.specs.Stepping.{HasRoomFor}
@@ -92,7 +92,7 @@ module _ {V : Type 0} (told : V → DeviceTold) where
     begins : AtStart a.seat
     begins = first_at_start a.seat (Inner 0) places events splits fresh some
 
-    whole : IsWhole L
+    whole : IsWholeLedger L
     whole = alone_whole L begins runs.calls runs.alone runs.root ledger
 
     accounted : IsAccount (length devices) runs.home how L

@@ -11,7 +11,7 @@ use Rattle.device_port.specs.Depot.{DepotTold}
 use Rattle.device_port.specs.Sink.{SinkTold, with_bytes, BreaksOff}
 use Rattle.device_port.proofs.Puts.{with_bytes_twice}
 use Rattle.run_rules.specs.declared.end.EndOf.{EndOf}
-use Rattle.run_rules.specs.Facts.{is_fault, is_memory, is_failed, has}
+use Rattle.run_rules.specs.Facts.{is_fault, is_memory, is_failed, has_event}
 use Rattle.run_rules.specs.Run.{Ran, IsUnmade}
 use Rattle.res_ledger.specs.Texts.{ledger_text}
 use Rattle.run_rules.specs.Texts.{end_line, tail_text}
@@ -72,7 +72,7 @@ module _ (words : List (List ℕ)) (path : List ℕ) (src : SourceTold) (dold dn
   told s = call_of words src src dold dnew so sn eold enew (record { status = s; ends = o.ends; ledger = o.ledger })
 
   abbrev causes : Bool → Causes
-  causes m = record { words = true; unwritten = nat_lt so.faults sn.faults; memory = m; faulty = any (λ (e : EndOf). is_fault e.how) o.ends; unclean = has is_failed o.ledger }
+  causes m = record { words = true; unwritten = nat_lt so.faults sn.faults; memory = m; faulty = any (λ (e : EndOf). is_fault e.how) o.ends; unclean = has_event is_failed o.ledger }
 
   remembered : any (λ (e : EndOf). is_memory e.how) o.ends ≡ true → o.memory ≡ true
   remembered h = ⊎_elim (λ (x : IsUnmade (deed_of dold dnew runs.frames runs.rest o)). x.memory) (λ (x : Ran (cat_work path) (deed_of dold dnew runs.frames runs.rest o)). x.ends.memory h) runs.performs.ran
@@ -163,7 +163,7 @@ module _ (words : List (List ℕ)) (path : List ℕ) (src : SourceTold) (dold dn
   tells_memory : o.sink_failed ≡ false → sn ≡ mid → IsToldLine eold enew (line_of status.Memory) → Headline (told status.Memory)
   tells_memory f e line =
       let same : sn.faults ≡ so.faults = ap (λ (x : SinkTold). x.faults) e ∙ mid_kept f in
-      headline status.Memory true (λ h. refl) (λ h. absurd (both_ways o.sink_failed f h)) (memory_is (nat_lt so.faults sn.faults) (any (λ (x : EndOf). is_fault x.how) o.ends) (has is_failed o.ledger) (kept so.faults sn.faults same)) (record {
+      headline status.Memory true (λ h. refl) (λ h. absurd (both_ways o.sink_failed f h)) (memory_is (nat_lt so.faults sn.faults) (any (λ (x : EndOf). is_fault x.how) o.ends) (has_event is_failed o.ledger) (kept so.faults sn.faults same)) (record {
         said = [];
         written = silent e;
         tail = inl refl;

@@ -16,7 +16,7 @@ use Rattle.res_ledger.specs.Order.{IsOrdered}
 use Rattle.device_port.specs.Device.{Place, DeviceTold}
 use Rattle.device_port.specs.Depot.{DepotTold, Files, KeepsFilesBut, content_at}
 use Rattle.device_port.specs.Sink.{SinkTold, with_bytes}
-use Rattle.run_rules.specs.Facts.{is_halted, is_memory, leased_stream, below}
+use Rattle.run_rules.specs.Facts.{is_halted, is_memory, leased_stream, first_numbers}
 use Rattle.run_rules.specs.Devices.{IsWritten}
 use Rattle.run_rules.specs.Run.{IsReported}
 use Rattle.run_rules.specs.Work.{Work}
@@ -33,12 +33,12 @@ and_one failed n = cond failed (n + 1) n
 -- What was printed.
 
 -- the elements of pieces, one piece after another
-abbrev pub elements_of : List (List Element) → List Element
-elements_of pieces = flat_map (λ xs. xs) pieces
+abbrev pub elements_in_pieces : List (List Element) → List Element
+elements_in_pieces pieces = flat_map (λ xs. xs) pieces
 
 -- a piece has elements
-abbrev pub IsPiece : List Element → Type 0
-IsPiece xs = 0 < length xs
+abbrev pub IsSmallPiece : List Element → Type 0
+IsSmallPiece xs = 0 < length xs
 
 -- the frame of a piece of stream 0
 abbrev pub frame_of : List Element → Frame
@@ -47,12 +47,12 @@ frame_of xs = record { stream = 0; payload = rendering_of xs }
 -- where a write failed, rest is a proper front of the frame of one further piece
 abbrev pub IsCutAt : Bool → List Element → List ℕ → Type 0
 IsCutAt false next rest = (next ≡ []) × (rest ≡ [])
-IsCutAt true next rest = IsPiece next × (more : List ℕ) × (0 < length more) × (rest ++ more ≡ frame_text 0 (rendering_of next))
+IsCutAt true next rest = IsSmallPiece next × (more : List ℕ) × (0 < length more) × (rest ++ more ≡ frame_text 0 (rendering_of next))
 
 -- pieces were printed, each in a frame, and where a write failed a front of the frame of the next one
 pub record PrintsPieces (old new : SinkTold) (failed : Bool) : Type 0 where
   pub pieces : List (List Element)
-  pub some : AllByRecursion IsPiece pieces
+  pub some : AllByRecursion IsSmallPiece pieces
   pub next : List Element
   pub rest : List ℕ
   pub cut : IsCutAt failed next rest
@@ -66,8 +66,8 @@ pub record AreSmall (size : ℕ) (pieces : List (List Element)) (next : List Ele
 -- the pieces are those of a run with the end that is reported, and what the next one goes on with may be left there
 pub record IsRunIn (runs : Outcomes) (pieces : List (List Element)) (next : List Element) (failed memory : Bool) (how : How) : Type 0 where
   pub end : End
-  pub run : runs (elements_of pieces) end
-  pub goes_on : failed ≡ true → runs (elements_of pieces ++ next) Cut
+  pub run : runs (elements_in_pieces pieces) end
+  pub goes_on : failed ≡ true → runs (elements_in_pieces pieces ++ next) Cut
   pub reported : IsReported end how
   pub halted : is_halted how ≡ true → (failed ≡ true) ⊎ (memory ≡ true)
   pub remembered : is_memory how ≡ true → memory ≡ true
@@ -96,7 +96,7 @@ pub record ComesBack (old new : DepotTold) (places : List Place) (w : ℕ → De
   pub made : new.made ≡ old.made ++ places
   pub back : List DeviceTold
   pub retired : new.retired ≡ old.retired ++ back
-  pub each : IsPermutation (map w (below (length places))) back
+  pub each : IsPermutation (map w (first_numbers (length places))) back
   pub devices : AreReturned old.files (length old.made) w 0 places
   pub files : KeepsFilesBut (IsWritten places) old.files new.files
 

@@ -4,7 +4,7 @@ use Rattle.std.specs.List.{list_any as any}
 use Rattle.res_ledger.specs.declared.event.Event.{Event}
 use Rattle.device_port.specs.Sink.{SinkTold, with_bytes, BreaksOff}
 use Rattle.run_rules.specs.declared.end.EndOf.{EndOf}
-use Rattle.run_rules.specs.Facts.{is_fault, is_failed, has}
+use Rattle.run_rules.specs.Facts.{is_fault, is_failed, has_event}
 use Rattle.run_rules.specs.Texts.{tail_text}
 use Rattle.flume_cli.specs.declared.status.Status.{Status}
 use Rattle.flume_cli.specs.declared.status.Status.TheVariants as status
@@ -15,7 +15,7 @@ use Rattle.flume_cli.specs.Headline.{IsToldLine}
 
 -- the status of a run of which all was printed
 abbrev pub status_by : List EndOf → List Event → Status
-status_by ends L = if any (λ e. is_fault e.how) ends then status.Faulty else (if has is_failed L then status.Unclean else status.Good)
+status_by ends L = if any (λ e. is_fault e.how) ends then status.Faulty else (if has_event is_failed L then status.Unclean else status.Good)
 
 -- where nothing failed so far, the tail is printed
 abbrev pub Prints : Outcome → SinkTold → SinkTold → Status → Type 0

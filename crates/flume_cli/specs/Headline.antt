@@ -7,15 +7,15 @@ use Rattle.device_port.specs.Source.{SourceTold}
 use Rattle.device_port.specs.Sink.{SinkTold, with_bytes, BreaksOff}
 use Rattle.device_port.specs.Depot.{DepotTold}
 use Rattle.run_rules.specs.declared.end.EndOf.{EndOf}
-use Rattle.run_rules.specs.Facts.{is_fault, is_memory, is_failed, has}
-use Rattle.run_rules.specs.Work.{Work, Deed}
+use Rattle.run_rules.specs.Facts.{is_fault, is_memory, is_failed, has_event}
+use Rattle.run_rules.specs.Work.{Work, RunRecord}
 use Rattle.run_rules.specs.Run.{Performs}
 use Rattle.run_rules.specs.Texts.{tail_text}
 use Rattle.flume_cli.specs.declared.status.Status.{Status}
 use Rattle.flume_cli.specs.declared.status.Status.TheVariants as status
 use Rattle.flume_cli.specs.Words.{Command, Cat, Nothing, is_meant, command_of}
 use Rattle.flume_cli.specs.Status.{Causes, status_of, line_of}
-use Rattle.flume_cli.specs.Cat.{cat_work, AreWithin}
+use Rattle.flume_cli.specs.Cat.{cat_work, FramesAreWithin}
 
 -- a call: its words, the outside before and after, and its report
 pub record Call : Type 0 where
@@ -42,18 +42,18 @@ pub record HasStatus (c : Call) (k : Causes) : Type 0 where
   pub unwritten : k.unwritten ≡ nat_lt c.out_old.faults c.out_new.faults
   pub memory : any (λ e. is_memory e.how) c.ends ≡ true → k.memory ≡ true
   pub faulty : k.faulty ≡ any (λ e. is_fault e.how) c.ends
-  pub unclean : k.unclean ≡ has is_failed c.events
+  pub unclean : k.unclean ≡ has_event is_failed c.events
   pub status : c.status ≡ status_of k
   pub line : IsToldLine c.err_old c.err_new (line_of c.status)
 
 -- nothing was done: no device was made, nothing was written to the output, and the report is empty
-pub record IsIdle (c : Call) : Type 0 where
+pub record DidNothing (c : Call) : Type 0 where
   pub depot : c.depot_new ≡ c.depot_old
   pub out : c.out_new ≡ c.out_old
   pub ends : c.ends ≡ []
   pub events : c.events ≡ []
 
-abbrev pub deed_of_call : Call → Causes → List Frame → List ℕ → Deed
+abbrev pub deed_of_call : Call → Causes → List Frame → List ℕ → RunRecord
 deed_of_call c k frames rest =
     record { depot_old = c.depot_old; depot_new = c.depot_new; ends = c.ends; events = c.events; frames = frames; rest = rest; unwritten = k.unwritten; memory = k.memory }
 
@@ -81,7 +81,7 @@ pub record IsText (c : Call) (frames : List Frame) (rest : List ℕ) : Type 0 wh
   pub once : c.out_new.faults ≤ c.out_old.faults + 1
 
 -- a work was done and told
-pub record Tells (work : Work) (c : Call) (k : Causes) : Type 0 where
+pub record TellsWork (work : Work) (c : Call) (k : Causes) : Type 0 where
   pub frames : List Frame
   pub rest : List ℕ
   pub performs : Performs work (deed_of_call c k frames rest)
@@ -89,8 +89,8 @@ pub record Tells (work : Work) (c : Call) (k : Causes) : Type 0 where
 
 -- what was done for a command
 abbrev pub Does : Call → Causes → Command → Type 0
-Does c k (Cat path) = (t : Tells (cat_work path) c k) × AreWithin 4096 t.frames t.rest
-Does c k Nothing = IsIdle c
+Does c k (Cat path) = (t : TellsWork (cat_work path) c k) × FramesAreWithin 4096 t.frames t.rest
+Does c k Nothing = DidNothing c
 
 -- The whole contract. What it says of devices, ledger, outputs, ends and completeness stands in `Performs`.
 pub record Headline (c : Call) : Type 0 where

@@ -20,7 +20,7 @@ use Rattle.std.specs.List.{IsDistinct}
 use Rattle.scope_tree.specs.Released.{said}
 use Rattle.tree_laws.specs.Alone.{StaysAlone}
 use Rattle.tree_laws.specs.Called.{Called}
-use Rattle.pull_stepper.specs.Held.{Finishes}
+use Rattle.pull_stepper.specs.Held.{FinishesDevice}
 use Rattle.pull_stepper.specs.Placing.{first_of}
 use Rattle.pull_stepper.specs.Sites.{Parted, SameDevice, told_at}
 use Rattle.pull_stepper.specs.Stepping.{site_of}
@@ -39,5 +39,5 @@ module _ {V T : Type 0} where
     pub rows : (x : Spent V) → IsAmong x b.shelf → IsWithin (first_of (places_of n)) (first_of (places_of n) + length devices) x.row
     pub root : IsClosedScope b 0
     pub exits : (x : Exit) → Notes b.seat.events b.seat.by (Close 0 x) → x ≡ exit_of how
-    pub calls : Called (Finishes told) a [] b
+    pub calls : Called (FinishesDevice told) a [] b
     pub alone : StaysAlone a.seat b.seat

@@ -6,7 +6,7 @@ use Rattle.device_port.specs.Sink.{SinkTold}
 use Rattle.flume_cli.specs.declared.frame.NotPut.{NotPut}
 use Rattle.flume_cli.specs.declared.frame.NotPut.TheVariants as why
 use Rattle.device_port.specs.Device.{DeviceTold}
-use Rattle.pull_turns.specs.Piping.{Standing}
+use Rattle.pull_turns.specs.Piping.{StateMeaning}
 use Rattle.pull_turns.specs.Rest.{IsRunOfRest}
 use Rattle.pull_turns.specs.Sizes.{HasNoPipe, widest}
 use Rattle.pull_stepper.specs.Sites.{told_at}
@@ -34,5 +34,5 @@ pub record PrintsRun {T : Type 0} (runs : Outcomes) (Plain : Type 0) (size : ℕ
   pub run : IsRunIn runs printed.pieces printed.next (is_unwritten r) (is_wanting r) how
 
 -- a stepper was run to its end: what was printed are pieces of a run of what was left of its node
-abbrev pub PrintsAll : {V F T : Type 0} → Standing F → (V → DeviceTold) → Stepping V F → Stepping V F → SinkTold → SinkTold → Result T NotPut → Type 0
+abbrev pub PrintsAll : {V F T : Type 0} → StateMeaning F → (V → DeviceTold) → Stepping V F → Stepping V F → SinkTold → SinkTold → Result T NotPut → Type 0
 PrintsAll P told a b old new r = PrintsRun (IsRunOfRest P (told_at told b.site) a.rest) (HasNoPipe a.rest) (widest a.chunk a.rest) old new b.how r

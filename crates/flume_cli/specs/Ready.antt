@@ -10,7 +10,7 @@ abbrev pub IsCatNode : Node → Type 0
 IsCatNode n = (b : _) × (n ≡ Weak' 0 b (Read 0))
 
 -- the node of cat, room for it, and room for its device
-pub record IsReady {P : Type 0} (ready : Ready P) : Type 0 where
+pub record IsReadyForCat {P : Type 0} (ready : Ready P) : Type 0 where
   pub node : IsCatNode ready.node
   pub room : IsRoomFor ready.node ready.room
   pub devices : ready.devices.items ≡ []

@@ -16,13 +16,13 @@ abbrev pub status_of : Causes → Status
 status_of k =
     if not k.words then status.BadWords else (if k.unwritten then status.NotWritten else (if k.memory then status.Memory else (if k.faulty then status.Faulty else (if k.unclean then status.Unclean else status.Good))))
 
-abbrev pub number_of : Status → ℕ
-number_of status.Good = 0
-number_of status.Faulty = 1
-number_of status.BadWords = 2
-number_of status.NotWritten = 4
-number_of status.Memory = 5
-number_of status.Unclean = 7
+abbrev pub status_number : Status → ℕ
+status_number status.Good = 0
+status_number status.Faulty = 1
+status_number status.BadWords = 2
+status_number status.NotWritten = 4
+status_number status.Memory = 5
+status_number status.Unclean = 7
 
 -- what standard error is told
 abbrev pub line_of : Status → List ℕ

@@ -12,7 +12,7 @@ use Rattle.pull_turns.specs.Sizes.{HasNoPipeOf, widest_of}
 use Rattle.row_seat.specs.PlainSeats.{shown, Sits}
 use Rattle.row_seat.specs.Views.{start}
 use Rattle.pull_stepper.specs.Sites.{SameDevice}
-use Rattle.run_rules.specs.Facts.{below}
+use Rattle.run_rules.specs.Facts.{first_numbers}
 use Rattle.flume_cli.specs.declared.alone.Ran.{Ran}
 use Rattle.flume_cli.specs.declared.alone.StreamRoom.{StreamRoom}
 use Rattle.flume_cli.specs.Alone.{AreSmall, IsAccount, IsAtRest, PrintsPieces, IsRunIn}
@@ -38,7 +38,7 @@ module _ {V : Type 0} (told : V → DeviceTold) where
     pub home : ℕ → DeviceTold
     pub how : How
     pub same : AreSame home 0 devices
-    pub each : IsPermutation (map home (below (length devices))) (devices_of told r.shelf r.unopened)
+    pub each : IsPermutation (map home (first_numbers (length devices))) (devices_of told r.shelf r.unopened)
     pub rest : (k : ℕ) → k < length devices → IsAtRest (home k)
     pub account : IsAccount (length devices) home how r.outcome.ledger
     pub printed : PrintsPieces old new r.outcome.sink_failed

@@ -2,7 +2,7 @@
 ghost use Rattle.std.specs.Prelude.{◌≡◌, ◌-◌, ◌^◌, ◌<◌, ◌++◌, [], ◌∷◌, IfOk, map};
 ghost use Rattle.pull_stepper.specs.Stepping.{IsSupplied};
 ghost use Rattle.flume_cli.specs.Cat.{RunsCat};
-ghost use Rattle.flume_cli.specs.Ready.{IsCatNode, IsReady};
+ghost use Rattle.flume_cli.specs.Ready.{IsCatNode, IsReadyForCat};
 ghost use Rattle.flume_cli.specs.Retire.{MayReturnAll, Returns, devices_of};
 ghost use Rattle.flume_cli.specs.Streams.{IsRoomFor, RunsStream};
 
@@ -34,7 +34,7 @@ fn cat_node(alloc: Global) -> Result<Node, AllocError>
 
 /// Makes the node, a seat with room for its row and its events, and the rest.
 fn make_ready<V: Drop>(alloc: Global) -> Result<Ready<V>, AllocError>
-    ensures { IfOk result IsReady }
+    ensures { IfOk result IsReadyForCat }
 {
     let node = cat_node(alloc)?;
     let devices = Vec::with_capacity(alloc, 1)?;
@@ -87,7 +87,7 @@ fn run_ready<V: Device + Drop, K: Sink>(
     chunk: u32,
     out: &mut K,
 ) -> Ran<V>
-    requires ready { IsReady ready }
+    requires ready { IsReadyForCat ready }
     requires device { IsSupplied V.told ready.node (device ∷ []) }
     requires chunk { 0 < chunk }
     requires sink { (K.told out.old).faults < 2 ^ 64 - 1 }

@@ -2,9 +2,9 @@
 ghost use Rattle.std.specs.Prelude.{◌≡◌, ◌-◌, ◌^◌, ◌<◌, ◌≤◌, []};
 ghost use Rattle.chunk_core.specs.declared.code.Exit.TheVariants as exit;
 ghost use Rattle.chunk_core.specs.declared.code.How.TheVariants as how;
-ghost use Rattle.scope_tree.specs.Calls.{Closes, IsOpenScope};
+ghost use Rattle.scope_tree.specs.Calls.{ClosesScope, IsOpenScope};
 ghost use Rattle.scope_tree.specs.Trees.{Fits, seen};
-ghost use Rattle.pull_stepper.specs.Held.{Finishes};
+ghost use Rattle.pull_stepper.specs.Held.{FinishesDevice};
 ghost use Rattle.pull_stepper.specs.Stepping.{HasRoomFor, IsSupplied};
 ghost use Rattle.flume_cli.specs.Nodes.{RunsNode};
 
@@ -56,7 +56,7 @@ fn close<V: Device, S: RowSeat<Pay = Held<V>>>(
 ) -> Ended<S, V>
     requires fits { Fits S.view S.fits unmade.tree desk.old }
     requires root { IsOpenScope (seen S.view unmade.tree) 0 }
-    ensures closes { Closes (Finishes V.told) (seen S.view unmade.tree) 0 exit.Canceled (seen S.view result.tree) }
+    ensures closes { ClosesScope (FinishesDevice V.told) (seen S.view unmade.tree) 0 exit.Canceled (seen S.view result.tree) }
     ensures how { result.how ≡ how.Memory }
     ensures unopened { result.unopened ≡ unmade.devices }
     ensures fits { Fits S.view S.fits result.tree desk.new }

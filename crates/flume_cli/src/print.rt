@@ -3,7 +3,7 @@ ghost use Rattle.std.specs.Prelude.{◌≡◌, ◌-◌, ◌^◌, ◌<◌, None, 
 ghost use Rattle.chunk_core.specs.Elements.{elements};
 ghost use Rattle.pull_turns.specs.Piping.{standing};
 ghost use Rattle.scope_tree.specs.Calls.{IsOpenScope};
-ghost use Rattle.pull_stepper.specs.Held.{Finishes};
+ghost use Rattle.pull_stepper.specs.Held.{FinishesDevice};
 ghost use Rattle.pull_stepper.specs.Sites.{Since};
 ghost use Rattle.pull_stepper.specs.Steppers.{Works, stepping};
 ghost use Rattle.pull_stepper.specs.Stepping.{CanGo, Halts, IsOver};
@@ -32,7 +32,7 @@ pub(crate) fn print_all<V: Device, S: RowSeat<Pay = Held<V>>, F: PipeState, K: S
     ensures prints { PrintsAll (standing F.stands F.comes) V.told (stepping S.view stepper.old) (stepping S.view stepper.new) (K.told out.old) (K.told out.new) result }
     ensures over { IsOver V.told (stepping S.view stepper.new) }
     ensures fits { Works S.view V.told S.fits stepper.new desk.new }
-    ensures since { Since V.told (Finishes V.told) (stepping S.view stepper.old).site (stepping S.view stepper.new).site }
+    ensures since { Since V.told (FinishesDevice V.told) (stepping S.view stepper.old).site (stepping S.view stepper.new).site }
 {
     'turns: loop {
         match stepper.turn(desk) {
@@ -60,7 +60,7 @@ fn stop<V: Device, S: RowSeat<Pay = Held<V>>, F: PipeState>(
     ensures cause { result ≡ Err cause }
     ensures halts { Halts V.told (stepping S.view stepper.old) (stepping S.view stepper.new) }
     ensures fits { Works S.view V.told S.fits stepper.new desk.new }
-    ensures since { Since V.told (Finishes V.told) (stepping S.view stepper.old).site (stepping S.view stepper.new).site }
+    ensures since { Since V.told (FinishesDevice V.told) (stepping S.view stepper.old).site (stepping S.view stepper.new).site }
 {
     stepper.halt(desk);
     Err(cause)

@@ -1,6 +1,6 @@
 //! How a call ended, as a number.
 ghost use Rattle.std.specs.Prelude.{◌≡◌};
-ghost use Rattle.flume_cli.specs.Status.{number_of, line_of};
+ghost use Rattle.flume_cli.specs.Status.{status_number, line_of};
 
 /// How a call ended. The program ends with the number.
 #[derive(Clone, Copy, Debug, PartialEq, Eq)]
@@ -21,7 +21,7 @@ pub enum Status {
 
 impl Status {
     pub fn number(self) -> u8
-        ensures { result ≡ number_of self }
+        ensures { result ≡ status_number self }
     {
         match self {
             Status::Good => 0,

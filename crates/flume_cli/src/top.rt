@@ -3,7 +3,7 @@ ghost use Rattle.std.specs.Prelude.{◌≡◌, ◌-◌, ◌^◌, ◌<◌, false}
 ghost use Rattle.flume_cli.specs.Call.{call_of};
 ghost use Rattle.flume_cli.specs.Headline.{Headline};
 ghost use Rattle.flume_cli.specs.Finish.{Reports, PrintsTail, status_by as status_by_of};
-ghost use Rattle.run_rules.specs.Facts.{is_fault as is_fault_end, is_failed as is_failed_final, has};
+ghost use Rattle.run_rules.specs.Facts.{is_fault as is_fault_end, is_failed as is_failed_final, has_event};
 ghost use Rattle.std.specs.List.{list_any as any};
 
 use crate::cat::run_cat;
@@ -122,7 +122,7 @@ fn is_fault(how: How) -> bool
 }
 
 fn has_failed(ledger: &Ledger) -> bool
-    ensures { result ≡ has is_failed_final ledger.now }
+    ensures { result ≡ has_event is_failed_final ledger.now }
 {
     for event in ledger.as_slice() {
         if is_failed(event.what) {

@@ -19,15 +19,15 @@ use Rattle.res_ledger.specs.Order.{is_ordered}
 use Rattle.res_ledger.proofs.Judged.{legal_sound, complete_sound}
 use Rattle.res_ledger.proofs.Ordering.{ordered_sound}
 use Rattle.device_port.specs.Device.{DeviceTold}
-use Rattle.device_port.specs.Depot.{AreApart}
+use Rattle.device_port.specs.Depot.{HaveOwnNumbers}
 use Rattle.run_rules.specs.Devices.{AreAsMany, is_closed_with}
 use Rattle.run_rules.specs.Facts.{ended_row, failed_row}
 use Rattle.run_rules.specs.Texts.{tail_text}
-use Rattle.run_rules.specs.Run.{HaveEnds, HaveOutputs, IsWhole, KeepsRules, NothingFailed, Performs, is_ours}
-use Rattle.run_rules.specs.Work.{Deed}
+use Rattle.run_rules.specs.Run.{HaveEnds, HaveOutputs, IsWholeRun, KeepsRules, NothingFailed, Performs, is_ours}
+use Rattle.run_rules.specs.Work.{RunRecord}
 use Rattle.flume_cli.specs.Cat.{cat_work, to_read}
 use Rattle.flume_cli.specs.Headline.{Headline}
-use Rattle.headline_laws.specs.Calls.{a, closed_device, depot_after, depot_before, end_of_0, one_row}
+use Rattle.headline_laws.specs.Calls.{a, closed_device, depot_after, depot_before, end_of_0, one_row_ledger}
 use Rattle.headline_laws.specs.Worked.{missing_device, whole_file, empty_file, missing_file, read_fault, failed_close, failed_write}
 use Rattle.chunk_core.proofs.Distinct.{distinct_one}
 use Rattle.chunk_core.specs.Lists.IsAmong.{here}
@@ -40,21 +40,21 @@ no_nil x xs e = cc
 rules_of : (L : List Event) → is_legal L ≡ true → is_complete L ≡ true → is_ordered L ≡ true → all (is_ours (cat_work a)) L ≡ true → KeepsRules (cat_work a) L
 rules_of L legal complete ordered ours = record { legal = legal_sound L legal; complete = complete_sound L (legal_sound L legal) complete; ordered = ordered_sound L ordered; ours = ours }
 
-row_rules : (x : Exit) (ok : Bool) → KeepsRules (cat_work a) (one_row x ok)
-row_rules Succeeded ok = rules_of (one_row Succeeded ok) refl refl refl refl
-row_rules Errored ok = rules_of (one_row Errored ok) refl refl refl refl
-row_rules Canceled ok = rules_of (one_row Canceled ok) refl refl refl refl
+row_rules : (x : Exit) (ok : Bool) → KeepsRules (cat_work a) (one_row_ledger x ok)
+row_rules Succeeded ok = rules_of (one_row_ledger Succeeded ok) refl refl refl refl
+row_rules Errored ok = rules_of (one_row_ledger Errored ok) refl refl refl refl
+row_rules Canceled ok = rules_of (one_row_ledger Canceled ok) refl refl refl refl
 
 -- A file that was opened and closed.
 
-one_apart : (d : DeviceTold) → AreApart (d ∷ [])
+one_apart : (d : DeviceTold) → HaveOwnNumbers (d ∷ [])
 one_apart d = distinct_one d.number
 
 abbrev hello_frame : Frame
 hello_frame = record { stream = 0; payload = codes "hello\n" }
 
 -- the one device has the exit of its row
-exits_of : (bytes : List ℕ) (at reads closes : ℕ) (ended ok : Bool) (x y : Exit) → AreAsMany (is_closed_with y) (ended_row y) (closed_device bytes at ended x reads closes ∷ []) (to_read a ∷ []) (one_row x ok)
+exits_of : (bytes : List ℕ) (at reads closes : ℕ) (ended ok : Bool) (x y : Exit) → AreAsMany (is_closed_with y) (ended_row y) (closed_device bytes at ended x reads closes ∷ []) (to_read a ∷ []) (one_row_ledger x ok)
 exits_of bytes at reads closes ended ok Succeeded Succeeded = (refl, (refl, tt))
 exits_of bytes at reads closes ended ok Errored Errored = (refl, (refl, tt))
 exits_of bytes at reads closes ended ok Canceled Canceled = (refl, (refl, tt))
@@ -64,12 +64,12 @@ module _ (bytes : List ℕ) (at : ℕ) (ended : Bool) (x : Exit) (reads closes :
   abbrev device : DeviceTold
   device = closed_device bytes at ended x reads closes
 
-  abbrev deed : Deed
+  abbrev deed : RunRecord
   deed = record {
     depot_old = depot_before bytes;
     depot_new = depot_after bytes (device ∷ []);
     ends = end_of_0 h ∷ [];
-    events = one_row x ok;
+    events = one_row_ledger x ok;
     frames = frames;
     rest = [];
     unwritten = unwritten;
@@ -77,8 +77,8 @@ module _ (bytes : List ℕ) (at : ℕ) (ended : Bool) (x : Exit) (reads closes :
   }
 
   -- the work was done, where its parts were that differ from call to call
-  row_performs : AreAsMany (λ d. nat_lt 0 d.close_faults) failed_row (device ∷ []) (to_read a ∷ []) (one_row x ok) → ok ≡ nat_eq closes 0 → x ≡ exit_of h → HaveOutputs (cat_work a) deed (λ r. device) → HaveEnds (cat_work a) deed
-      → (NothingFailed (cat_work a) deed (λ r. device) → IsWhole (cat_work a) deed (λ r. device)) → Performs (cat_work a) deed
+  row_performs : AreAsMany (λ d. nat_lt 0 d.close_faults) failed_row (device ∷ []) (to_read a ∷ []) (one_row_ledger x ok) → ok ≡ nat_eq closes 0 → x ≡ exit_of h → HaveOutputs (cat_work a) deed (λ r. device) → HaveEnds (cat_work a) deed
+      → (NothingFailed (cat_work a) deed (λ r. device) → IsWholeRun (cat_work a) deed (λ r. device)) → Performs (cat_work a) deed
   row_performs failed tied exit outputs ends whole = record {
     devices = record {
       made = refl;

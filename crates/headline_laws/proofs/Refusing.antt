@@ -13,7 +13,7 @@ use Rattle.chunk_core.specs.declared.code.How.{How}
 use Rattle.chunk_core.specs.declared.code.How.TheVariants as how
 use Rattle.device_port.specs.Device.{DeviceTold}
 use Rattle.pull_nodes.specs.Runs.{FirstBytes, OrLeft, Reads}
-use Rattle.run_rules.specs.Run.{IsReported, IsUnmade, Ran, IsBlank}
+use Rattle.run_rules.specs.Run.{IsReported, IsUnmade, Ran, IsUntouched}
 use Rattle.res_ledger.proofs.Judged.{legal_found, complete_found}
 use Rattle.res_ledger.proofs.Ordering.{ordered_complete}
 use Rattle.run_rules.specs.declared.end.EndOf.{EndOf}
@@ -21,19 +21,19 @@ use Rattle.device_port.specs.Sink.{SinkTold, BreaksOff}
 use Rattle.run_rules.specs.Texts.{tail_text}
 use Rattle.flume_cli.specs.declared.status.Status.{Status}
 use Rattle.flume_cli.specs.declared.status.Status.TheVariants as status
-use Rattle.flume_cli.specs.Status.{Causes, status_of, number_of, line_of}
+use Rattle.flume_cli.specs.Status.{Causes, status_of, status_number, line_of}
 use Rattle.flume_cli.specs.Cat.{cat_work, FileRuns}
-use Rattle.flume_cli.specs.Headline.{Call, Headline, Tells, deed_of_call}
+use Rattle.flume_cli.specs.Headline.{Call, Headline, TellsWork, deed_of_call}
 use Rattle.headline_laws.specs.Calls.{a}
-use Rattle.headline_laws.specs.Refused.{end_never_met, failed_read_forgotten, invented_output, cut_output, row_of_no_plan, event_of_no_stream, lease_of_no_stream, kept_device, failure_not_told, halted_without_a_cause, row_without_a_final, final_before_close, closed_twice, left_open, fault_without_a_fault, failed_close_not_told, done_told_as_errored, fault_told_as_succeeded, halt_told_as_succeeded, final_unlike_its_close, device_told_otherwise, silent_call}
+use Rattle.headline_laws.specs.Refused.{end_never_met, failed_read_forgotten, invented_output, cut_output, row_of_no_plan, event_of_no_stream, lease_of_no_stream, kept_device, failure_not_told, halted_without_a_cause, call_with_row_without_a_final, call_with_final_before_close, closed_twice, left_open, fault_without_a_fault, failed_close_not_told, done_told_as_errored, fault_told_as_succeeded, halt_told_as_succeeded, final_unlike_its_close, device_told_otherwise, silent_call}
 use Rattle.chunk_core.proofs.Members.{among_cons, among_nil}
 
 peel : (b : Bool) (x y s : Status) → (x ≡ s → ⊥) → s ≡ (if b then x else y) → (b ≡ false) × (s ≡ y)
 peel true x y s n e = absurd (n (sym e))
 peel false x y s n e = (refl, e)
 
-differ : (s t : Status) → number_of s ≢ number_of t → s ≡ t → ⊥
-differ s t n e = n (ap number_of e)
+differ : (s t : Status) → status_number s ≢ status_number t → s ≡ t → ⊥
+differ s t n e = n (ap status_number e)
 
 -- what status 0 tells of its causes
 pub record Good (k : Causes) : Type 0 where
@@ -50,7 +50,7 @@ good k e =
     record { unwritten = q.0; memory = r.0; faulty = t.0 }
 
 -- the stream ran, where memory wasn't wanting
-ran : (c : Call) (k : Causes) → (t : Tells (cat_work a) c k) → k.memory ≡ false → Ran (cat_work a) (deed_of_call c k t.frames t.rest)
+ran : (c : Call) (k : Causes) → (t : TellsWork (cat_work a) c k) → k.memory ≡ false → Ran (cat_work a) (deed_of_call c k t.frames t.rest)
 ran c k t m = ⊎_elim (λ (u : IsUnmade (deed_of_call c k t.frames t.rest)). absurd (false≢true (sym m ∙ u.memory))) (λ r. r) t.performs.ran
 
 abbrev number : How → ℕ
@@ -82,7 +82,7 @@ invented_output_refused h =
     let g = good h.causes h.status.status in
     let r = ran invented_output h.causes h.does.0 g.memory in
     let o = opened (r.home 0) r.outputs.outputs.0.elements r.outputs.outputs.0.end (done r.outputs.outputs.0.end r.outputs.outputs.0.reported) r.outputs.outputs.0.run in
-    ⊎_elim among_nil (λ (x : IsBlank (r.home 0)). let z = x.opens in omega (arith, o, z)) r.rows.at_home.2
+    ⊎_elim among_nil (λ (x : IsUntouched (r.home 0)). let z = x.opens in omega (arith, o, z)) r.rows.at_home.2
 
 pub row_of_no_plan_refused : ¬ (Headline row_of_no_plan)
 row_of_no_plan_refused h = let l = h.does.0.performs.devices.rows.1.0 in omega (arith, l)
@@ -162,11 +162,11 @@ cut_output_refused h =
     let f : 12 ≤ length (frames_text h.does.0.frames) = omega (arith, n, within 0 h.does.0.frames) in
     too_short _ (frames_text h.does.0.frames) h.does.0.rest h.does.0.text.said _ (ap (λ x. bytes_of x) h.does.0.text.written) h.does.0.text.tail.0 h.does.0.text.tail.1 tail_is_long f
 
-pub row_without_a_final_refused : ¬ (Headline row_without_a_final)
-row_without_a_final_refused h = let l = h.does.0.performs.ledger in false≢true (complete_found row_without_a_final.events l.legal l.complete)
+pub row_without_a_final_refused : ¬ (Headline call_with_row_without_a_final)
+row_without_a_final_refused h = let l = h.does.0.performs.ledger in false≢true (complete_found call_with_row_without_a_final.events l.legal l.complete)
 
-pub final_before_close_refused : ¬ (Headline final_before_close)
-final_before_close_refused h = false≢true (legal_found final_before_close.events h.does.0.performs.ledger.legal)
+pub final_before_close_refused : ¬ (Headline call_with_final_before_close)
+final_before_close_refused h = false≢true (legal_found call_with_final_before_close.events h.does.0.performs.ledger.legal)
 
 -- The exits.
 
@@ -177,7 +177,7 @@ not_canceled : Succeeded ≢ Canceled
 not_canceled e = cc
 
 -- where there are ends, something was begun
-ran_with_ends : (c : Call) (k : Causes) (t : Tells (cat_work a) c k) → c.ends ≢ [] → Ran (cat_work a) (deed_of_call c k t.frames t.rest)
+ran_with_ends : (c : Call) (k : Causes) (t : TellsWork (cat_work a) c k) → c.ends ≢ [] → Ran (cat_work a) (deed_of_call c k t.frames t.rest)
 ran_with_ends c k t some = ⊎_elim (λ (u : IsUnmade (deed_of_call c k t.frames t.rest)). absurd (some u.ends)) (λ r. r) t.performs.ran
 
 an_end : (e : EndOf) (es : List EndOf) → (e ∷ es) ≢ []
@@ -223,7 +223,7 @@ failed_read_forgotten_refused h =
     let n = opened (r.home 0) o.elements o.end (done o.end o.reported) o.run in
     ⊎_elim
     (λ b. ⊎_elim (λ e. let f = ap (λ (d : DeviceTold). d.read_faults) e in let z = m.1 in omega (arith, f, z)) among_nil (among_cons b))
-    (λ (x : IsBlank (r.home 0)). let z = x.opens in omega (arith, n, z))
+    (λ (x : IsUntouched (r.home 0)). let z = x.opens in omega (arith, n, z))
     r.rows.at_home.2
 
 pub end_never_met_refused : ¬ (Headline end_never_met)
@@ -235,7 +235,7 @@ end_never_met_refused h =
     let n = opened (r.home 0) o.elements o.end (done o.end o.reported) o.run in
     ⊎_elim
     (λ b. ⊎_elim (λ e. false≢true (ap (λ (d : DeviceTold). d.ended) (sym e) ∙ m.0)) among_nil (among_cons b))
-    (λ (x : IsBlank (r.home 0)). let z = x.opens in omega (arith, n, z))
+    (λ (x : IsUntouched (r.home 0)). let z = x.opens in omega (arith, n, z))
     r.rows.at_home.2
 
 -- what status 1 tells of memory

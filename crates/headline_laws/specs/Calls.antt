@@ -59,15 +59,15 @@ depot_before bytes = record { files = Some (file a bytes); made = []; retired = 
 abbrev pub depot_after : List ℕ → List DeviceTold → DepotTold
 depot_after bytes ds = record { files = Some (file a bytes); made = to_read a ∷ []; retired = ds }
 
-abbrev pub wrote : List ℕ → ℕ → SinkTold
-wrote bytes faults = record { written = Some bytes; faults = faults }
+abbrev pub output_of : List ℕ → ℕ → SinkTold
+output_of bytes faults = record { written = Some bytes; faults = faults }
 
 abbrev pub no_input : SourceTold
 no_input = record { left = Some []; faults = 0 }
 
 -- a row was acquired, closed and finalized, with this exit
-abbrev pub one_row : Exit → Bool → List Event
-one_row exit ok = event 0 (Inner 0) (Acquire 0 0) ∷ event 1 (Inner 0) (Close 0 exit) ∷ event 2 (Inner 0) (Final 0 exit ok) ∷ []
+abbrev pub one_row_ledger : Exit → Bool → List Event
+one_row_ledger exit ok = event 0 (Inner 0) (Acquire 0 0) ∷ event 1 (Inner 0) (Close 0 exit) ∷ event 2 (Inner 0) (Final 0 exit ok) ∷ []
 
 -- cat a
 abbrev pub cat_call : DepotTold → DepotTold → SinkTold → Status → How → List Event → Call
@@ -77,10 +77,10 @@ cat_call before after out s how L = record {
   source_new = no_input;
   depot_old = before;
   depot_new = after;
-  out_old = wrote [] 0;
+  out_old = output_of [] 0;
   out_new = out;
-  err_old = wrote [] 0;
-  err_new = wrote [] 0;
+  err_old = output_of [] 0;
+  err_new = output_of [] 0;
   status = s;
   ends = end_of_0 how ∷ [];
   events = L;

@@ -10,7 +10,7 @@ use Rattle.device_port.specs.Device.{DeviceTold}
 use Rattle.flume_cli.specs.declared.status.Status.TheVariants as status
 use Rattle.flume_cli.specs.Cat.{to_read}
 use Rattle.flume_cli.specs.Headline.{Call}
-use Rattle.headline_laws.specs.Calls.{a, event, closed_device, wrote, one_row, cat_call, file_call}
+use Rattle.headline_laws.specs.Calls.{a, event, closed_device, output_of, one_row_ledger, cat_call, file_call}
 
 abbrev pub hello_device : ℕ → Bool → Exit → ℕ → ℕ → DeviceTold
 hello_device at ended exit read_faults close_faults = closed_device (codes "hello\n") at ended exit read_faults close_faults
@@ -18,12 +18,12 @@ hello_device at ended exit read_faults close_faults = closed_device (codes "hell
 -- a file of one line
 abbrev pub whole_file : Call
 whole_file = file_call (codes "hello\n") (hello_device 6 true Succeeded 0 0)
-    (wrote (codes "0 6\nhello\n\nend 0 done\nledger 3\n0 acquire 0 0\n0 close 0 succeeded\n0 final 0 succeeded ok\n") 0) status.Good how.Done (one_row Succeeded true)
+    (output_of (codes "0 6\nhello\n\nend 0 done\nledger 3\n0 acquire 0 0\n0 close 0 succeeded\n0 final 0 succeeded ok\n") 0) status.Good how.Done (one_row_ledger Succeeded true)
 
 -- a file of no bytes
 abbrev pub empty_file : Call
 empty_file = file_call [] (closed_device [] 0 true Succeeded 0 0)
-    (wrote (codes "end 0 done\nledger 3\n0 acquire 0 0\n0 close 0 succeeded\n0 final 0 succeeded ok\n") 0) status.Good how.Done (one_row Succeeded true)
+    (output_of (codes "end 0 done\nledger 3\n0 acquire 0 0\n0 close 0 succeeded\n0 final 0 succeeded ok\n") 0) status.Good how.Done (one_row_ledger Succeeded true)
 
 -- the device of a path that isn't there
 abbrev pub missing_device : DeviceTold
@@ -48,18 +48,18 @@ missing_device = record {
 -- a path that isn't there
 abbrev pub missing_file : Call
 missing_file = cat_call (record { files = Some (λ p. None); made = []; retired = [] }) (record { files = Some (λ p. None); made = to_read a ∷ []; retired = missing_device ∷ [] })
-    (wrote (codes "end 0 fault open\nledger 1\n0 close 0 errored\n") 0) status.Faulty (how.Fault code.Open) (event 0 (Inner 0) (Close 0 Errored) ∷ [])
+    (output_of (codes "end 0 fault open\nledger 1\n0 close 0 errored\n") 0) status.Faulty (how.Fault code.Open) (event 0 (Inner 0) (Close 0 Errored) ∷ [])
 
 -- a read that failed when two bytes were printed
 abbrev pub read_fault : Call
 read_fault = file_call (codes "hello\n") (hello_device 2 false Errored 1 0)
-    (wrote (codes "0 2\nhe\nend 0 fault read\nledger 3\n0 acquire 0 0\n0 close 0 errored\n0 final 0 errored ok\n") 0) status.Faulty (how.Fault code.Read) (one_row Errored true)
+    (output_of (codes "0 2\nhe\nend 0 fault read\nledger 3\n0 acquire 0 0\n0 close 0 errored\n0 final 0 errored ok\n") 0) status.Faulty (how.Fault code.Read) (one_row_ledger Errored true)
 
 -- a close that failed
 abbrev pub failed_close : Call
 failed_close = file_call (codes "hello\n") (hello_device 6 true Succeeded 0 1)
-    (wrote (codes "0 6\nhello\n\nend 0 done\nledger 3\n0 acquire 0 0\n0 close 0 succeeded\n0 final 0 succeeded fault\n") 0) status.Unclean how.Done (one_row Succeeded false)
+    (output_of (codes "0 6\nhello\n\nend 0 done\nledger 3\n0 acquire 0 0\n0 close 0 succeeded\n0 final 0 succeeded fault\n") 0) status.Unclean how.Done (one_row_ledger Succeeded false)
 
 -- an output whose first write failed
 abbrev pub failed_write : Call
-failed_write = file_call (codes "hello\n") (hello_device 6 false Canceled 0 0) (wrote [] 1) status.NotWritten how.Halted (one_row Canceled true)
+failed_write = file_call (codes "hello\n") (hello_device 6 false Canceled 0 0) (output_of [] 1) status.NotWritten how.Halted (one_row_ledger Canceled true)

@@ -1,6 +1,6 @@
 //! Calls with one thing wrong each.
 ghost use Rattle.flume_cli.specs.Headline.{Headline};
-ghost use Rattle.headline_laws.specs.Refused.{end_never_met, failed_read_forgotten, invented_output, cut_output, row_of_no_plan, event_of_no_stream, lease_of_no_stream, row_without_a_final, final_before_close, kept_device, closed_twice, left_open, failure_not_told, halted_without_a_cause, fault_without_a_fault, failed_close_not_told, done_told_as_errored, fault_told_as_succeeded, halt_told_as_succeeded, final_unlike_its_close, device_told_otherwise, silent_call};
+ghost use Rattle.headline_laws.specs.Refused.{end_never_met, failed_read_forgotten, invented_output, cut_output, row_of_no_plan, event_of_no_stream, lease_of_no_stream, call_with_row_without_a_final, call_with_final_before_close, kept_device, closed_twice, left_open, failure_not_told, halted_without_a_cause, fault_without_a_fault, failed_close_not_told, done_told_as_errored, fault_told_as_succeeded, halt_told_as_succeeded, final_unlike_its_close, device_told_otherwise, silent_call};
 
 /// Outputs that no device gave.
 pub fn invented_outputs()
@@ -13,8 +13,8 @@ pub fn wrong_ledgers()
     ensures is_row_of_no_plan { ¬ (Headline row_of_no_plan) }
     ensures is_event_of_no_stream { ¬ (Headline event_of_no_stream) }
     ensures is_lease_of_no_stream { ¬ (Headline lease_of_no_stream) }
-    ensures is_row_without_a_final { ¬ (Headline row_without_a_final) }
-    ensures is_final_before_close { ¬ (Headline final_before_close) }
+    ensures is_row_without_a_final { ¬ (Headline call_with_row_without_a_final) }
+    ensures is_final_before_close { ¬ (Headline call_with_final_before_close) }
 {}
 
 /// Devices that didn't come back, or not as they should.

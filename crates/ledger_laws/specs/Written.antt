@@ -8,8 +8,8 @@ use Rattle.res_ledger.specs.Order.{IsOrdered}
 use Rattle.res_ledger.specs.Whole.{IsComplete}
 
 -- the ledger that notes these events
-abbrev pub written : List (StreamNo × What) → List Event
-written xs = stamped 0 xs
+abbrev pub ledger_of : List (StreamNo × What) → List Event
+ledger_of xs = stamped 0 xs
 
 -- the ledger of a run that went right
 abbrev pub IsRight : List Event → Type 0

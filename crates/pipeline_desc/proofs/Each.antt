@@ -3,7 +3,7 @@ use Rattle.std.proofs.Common.{◌≡◌, ℕ, ◌+◌, ◌≤◌, Bool, true, Li
 use Rattle.std.specs.List.{list_all}
 use Rattle.std.proofs.lemmas.List.{append-nil, drop_all}
 use Rattle.std.proofs.lemmas.List.Folds.{list_all-append}
-use Rattle.pipeline_desc.specs.Reading.{Reading, ◌>>=◌, each_from, Fails, Gives}
+use Rattle.pipeline_desc.specs.Reading.{Reading, ◌>>=◌, each_from, RefusesAs, ReadsAs}
 use Rattle.pipeline_desc.specs.declared.refusal.Refused.{Refused}
 use Rattle.pipeline_desc.specs.declared.refusal.Refused.TheVariants as refused
 
@@ -24,7 +24,7 @@ module _ {A B : Type 0} (f : ℕ → A → Reading B) (xs : List A) (whole : Rea
       read ∙ after_one found y (each_from f (i + 1) (drop (i + 1) xs))
 
   -- an element that is refused
-  pub each_fails : (x : A) (e : Refused) → drop i xs ≡ x ∷ drop (i + 1) xs → Fails e (f i x) → Fails e whole
+  pub each_fails : (x : A) (e : Refused) → drop i xs ≡ x ∷ drop (i + 1) xs → RefusesAs e (f i x) → RefusesAs e whole
   each_fails x refused.Memory at h = tt
   each_fails x (refused.Desc e) at h =
       let here : whole ≡ after found (f i x >>= (λ z. each_from f (i + 1) (drop (i + 1) xs) >>= (λ zs. Ok (z ∷ zs)))) = so_far ∙ ap (λ zs. after found (each_from f i zs)) at in
@@ -39,6 +39,6 @@ pub all_and : {B : Type 0} (p : B → Bool) (found : List B) (y : B) → list_al
 all_and p found y all one = list_all-append p found (y ∷ []) ∙ rw (all, one) refl
 
 -- a refusal is handed on
-pub handed_on : {X Y : Type 0} (view : X → Y) (answer : Result X Refused) (e : Refused) (reading : Reading Y) → IsErrAnd answer (λ d. d ≡ e) → Fails e reading → Gives view answer reading
+pub handed_on : {X Y : Type 0} (view : X → Y) (answer : Result X Refused) (e : Refused) (reading : Reading Y) → IsErrAnd answer (λ d. d ≡ e) → RefusesAs e reading → ReadsAs view answer reading
 handed_on view (Ok x) e reading is fails = absurd is
-handed_on view (Err d) e reading is fails = subst (λ y. Fails y reading) (sym is) fails
+handed_on view (Err d) e reading is fails = subst (λ y. RefusesAs y reading) (sym is) fails

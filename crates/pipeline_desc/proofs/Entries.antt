@@ -4,7 +4,7 @@ use Rattle.std.specs.Prelude.{is_some}
 use Rattle.toml.specs.Data.{Data}
 use Rattle.toml.specs.View.{view, items_view}
 use Rattle.toml.specs.declared.value.Value.{Value}
-use Rattle.pipeline_desc.specs.Reading.{Reading, each_from, Fails}
+use Rattle.pipeline_desc.specs.Reading.{Reading, each_from, RefusesAs}
 use Rattle.pipeline_desc.specs.Values.{each_as, seen_as}
 use Rattle.pipeline_desc.specs.declared.refusal.Refused.{Refused}
 use Rattle.pipeline_desc.proofs.Each.{after, each_ends, each_fails, each_next}
@@ -26,7 +26,7 @@ module _ {A B : Type 0} (g : Data → Option A) (f : ℕ → A → Reading B) (v
   entry_next v x y h at some is = each_next f (seen_as g vs) whole found i so_far x y (entry_at g vs all i v h at x some) is
 
   -- a value that is refused
-  pub entry_fails : (v : Value) (x : A) (e : Refused) → i < length vs → v ≡ get_or vs i v → Some x ≡ g (view v) → Fails e (f i x) → Fails e whole
+  pub entry_fails : (v : Value) (x : A) (e : Refused) → i < length vs → v ≡ get_or vs i v → Some x ≡ g (view v) → RefusesAs e (f i x) → RefusesAs e whole
   entry_fails v x e h at some fails = each_fails f (seen_as g vs) whole found i so_far x e (entry_at g vs all i v h at x some) fails
 
   -- no value is left

@@ -4,7 +4,7 @@ use Rattle.std.specs.Prelude.{is_some, option_and_then}
 use Rattle.std.proofs.lemmas.Bool.{and_parts, eq-eqb, le-leb, lt-ltb, leb-true}
 use Rattle.std.proofs.lemmas.List.{append-nil}
 use Rattle.chunk_core.specs.declared.code.Span.{Span}
-use Rattle.pull_nodes.specs.Kinds.{kind_of, load_kind, joined_kind}
+use Rattle.pull_nodes.specs.Kinds.{node_kind, load_kind, joined_kind}
 use Rattle.pull_nodes.specs.Placed.{is_placed, is_within, is_inside}
 use Rattle.pull_nodes.specs.Shape.{node_count, scope_count, places_of, uses_of}
 use Rattle.pull_nodes.specs.declared.kind.Kind.{Kind}
@@ -12,7 +12,7 @@ use Rattle.pull_nodes.specs.declared.kind.Kind.TheVariants as kind
 use Rattle.pull_nodes.specs.declared.node.Node.{Node}
 use Rattle.pull_nodes.specs.declared.node.Node.TheVariants.{Read}
 use Rattle.std.specs.List.{list_all}
-use Rattle.pipeline_desc.specs.Limits.{are_few, is_short, is_sized, is_sound_step, is_sound_stream, put_one_between, kind_behind, kind_behind_step}
+use Rattle.pipeline_desc.specs.Limits.{are_few, is_short, is_sized, is_sound_step, is_sound_stream, put_one_between, kind_behind_steps, kind_behind_step}
 use Rattle.pipeline_desc.specs.Nodes.{IsBehind, IsBehindStep, IsBody, IsOrText, IsStreamNode, event_count, load_of, stream_events}
 use Rattle.pipeline_desc.specs.declared.step.Step.{Step}
 use Rattle.pipeline_desc.specs.declared.step.Step.TheVariants as step
@@ -47,20 +47,20 @@ steps_count [] a n e = ap node_count e ∙ omega arith
 steps_count (s ∷ steps) a n (m, one, more) = omega (arith, step_count s a m one, steps_count steps m n more)
 
 -- the kind behind a step
-step_kind : (s : Step) (a n : Node) (j : Kind) → kind_of a ≡ Some j → IsBehindStep s a n → kind_of n ≡ kind_behind_step s j
-step_kind (step.Take k) a n j is (b, e) = ap kind_of e ∙ is
-step_kind (step.Pipe p) a n j is (b, e) = ap kind_of e ∙ rw is refl
+step_kind : (s : Step) (a n : Node) (j : Kind) → node_kind a ≡ Some j → IsBehindStep s a n → node_kind n ≡ kind_behind_step s j
+step_kind (step.Take k) a n j is (b, e) = ap node_kind e ∙ is
+step_kind (step.Pipe p) a n j is (b, e) = ap node_kind e ∙ rw is refl
 
 no_kind : (k : Kind) → ◌≡◌ {A = Option Kind} None (Some k) → ⊥
 no_kind k e = cc
 
-steps_kind : (steps : List Step) (a n : Node) (j k : Kind) → kind_of a ≡ Some j → kind_behind steps j ≡ Some k → IsBehind steps a n → kind_of n ≡ Some k
-steps_kind [] a n j k is fits e = ap kind_of e ∙ is ∙ fits
+steps_kind : (steps : List Step) (a n : Node) (j k : Kind) → node_kind a ≡ Some j → kind_behind_steps steps j ≡ Some k → IsBehind steps a n → node_kind n ≡ Some k
+steps_kind [] a n j k is fits e = ap node_kind e ∙ is ∙ fits
 steps_kind (s ∷ steps) a n j k is fits (m, one, more) = go (λ i. steps_kind steps m n i k) (kind_behind_step s j) refl
   where
-    go : ((i : Kind) → kind_of m ≡ Some i → kind_behind steps i ≡ Some k → IsBehind steps m n → kind_of n ≡ Some k) → (o : Option Kind) → kind_behind_step s j ≡ o → kind_of n ≡ Some k
-    go rest None e = absurd (no_kind k (sym (ap (option_and_then (kind_behind steps)) e) ∙ fits))
-    go rest (Some i) e = rest i (step_kind s a m j is one ∙ e) (sym (ap (option_and_then (kind_behind steps)) e) ∙ fits) more
+    go : ((i : Kind) → node_kind m ≡ Some i → kind_behind_steps steps i ≡ Some k → IsBehind steps m n → node_kind n ≡ Some k) → (o : Option Kind) → kind_behind_step s j ≡ o → node_kind n ≡ Some k
+    go rest None e = absurd (no_kind k (sym (ap (option_and_then (kind_behind_steps steps)) e) ∙ fits))
+    go rest (Some i) e = rest i (step_kind s a m j is one ∙ e) (sym (ap (option_and_then (kind_behind_steps steps)) e) ∙ fits) more
 
 -- what the node of a stream is like, at a place
 record IsSeen (place : ℕ) (n : Node) : Type 0 where
@@ -82,8 +82,8 @@ body_seen place s n (m, b, behind, e) =
       ap node_count e ∙ omega (arith, count),
     )
 
-body_kind : (place : ℕ) (s : StreamSpec) (n : Node) (k : Kind) → IsBody place s n → kind_behind s.steps kind.Bytes ≡ Some k → kind_of n ≡ Some k
-body_kind place s n k (m, b, behind, e) fits = ap kind_of e ∙ steps_kind s.steps (Read place) m kind.Bytes k refl fits behind
+body_kind : (place : ℕ) (s : StreamSpec) (n : Node) (k : Kind) → IsBody place s n → kind_behind_steps s.steps kind.Bytes ≡ Some k → node_kind n ≡ Some k
+body_kind place s n k (m, b, behind, e) fits = ap node_kind e ∙ steps_kind s.steps (Read place) m kind.Bytes k refl fits behind
 
 -- a text of a node's kind joins with it
 text_joins : (k : Kind) (text : List ℕ) → is_some (joined_kind k (load_kind (load_of k text))) ≡ true
@@ -100,9 +100,9 @@ or_text_seen place k (Some text) a n (b, c, d, e) seen = record {
   inside = ap (is_inside []) e ∙ rw seen.inside refl;
 }
 
-or_text_kind : (k : Kind) (o : Option (List ℕ)) (a n : Node) → IsOrText k o a n → kind_of a ≡ Some k → is_some (kind_of n) ≡ true
-or_text_kind k None a n e is = ap (λ m. is_some (kind_of m)) e ∙ ap is_some is
-or_text_kind k (Some text) a n (b, c, d, e) is = ap (λ m. is_some (kind_of m)) e ∙ rw is (text_joins k text)
+or_text_kind : (k : Kind) (o : Option (List ℕ)) (a n : Node) → IsOrText k o a n → node_kind a ≡ Some k → is_some (node_kind n) ≡ true
+or_text_kind k None a n e is = ap (λ m. is_some (node_kind m)) e ∙ ap is_some is
+or_text_kind k (Some text) a n (b, c, d, e) is = ap (λ m. is_some (node_kind m)) e ∙ rw is (text_joins k text)
 
 or_text_count : (k : Kind) (o : Option (List ℕ)) (a n : Node) → IsOrText k o a n → node_count n ≤ node_count a + 3
 or_text_count k None a n e = omega (arith, ap node_count e)
@@ -120,7 +120,7 @@ module _ (place : ℕ) (s : StreamSpec) (n : Node) (h : IsStreamNode place s n) 
   abbrev seen : IsSeen place n
   seen = or_text_seen place h.1 s.on_fault h.0 n h.4 (body_seen place s h.0 h.2).0
 
-  pub has_kind : is_some (kind_of n) ≡ true
+  pub has_kind : is_some (node_kind n) ≡ true
   has_kind = or_text_kind h.1 s.on_fault h.0 n h.4 (body_kind place s h.0 h.1 h.2 h.3)
 
   pub is_one_placed : (to : ℕ) → place < to → is_placed (record { from = place; to = to }) n ≡ true
@@ -135,7 +135,7 @@ module _ (place : ℕ) (s : StreamSpec) (n : Node) (h : IsStreamNode place s n) 
 -- a stream within its limits has few steps
 pub few_steps : (s : StreamSpec) → is_sound_stream s ≡ true → length s.steps ≤ 16
 few_steps s sound =
-    let fits = is_some (kind_behind s.steps kind.Bytes) in
+    let fits = is_some (kind_behind_steps s.steps kind.Bytes) in
     let between = put_one_between s.steps && fits in
     let few = are_few s.steps && between in
     let short = is_short s.on_fault && few in
@@ -147,7 +147,7 @@ few_steps s sound =
     leb-true (length s.steps) 16 at_few.0
 
 -- a node that is given, where its text is
-pub node_with_text : {E : Type 0} (place : ℕ) (s : StreamSpec) (k : Kind) (a : Node) (text : List ℕ) (r : Result Node E) → s.on_fault ≡ Some text → IsBody place s a → kind_behind s.steps kind.Bytes ≡ Some k
+pub node_with_text : {E : Type 0} (place : ℕ) (s : StreamSpec) (k : Kind) (a : Node) (text : List ℕ) (r : Result Node E) → s.on_fault ≡ Some text → IsBody place s a → kind_behind_steps s.steps kind.Bytes ≡ Some k
     → IfOk r (λ n. IsOrText k (Some text) a n) → IfOk r (λ n. IsStreamNode place s n)
 node_with_text place s k a text (Ok n) on body fits h = (a, k, body, fits, subst (λ o. IsOrText k o a n) (sym on) h)
 node_with_text place s k a text (Err e) on body fits h = tt

@@ -5,7 +5,7 @@ use Rattle.std.specs.List.{list_all}
 use Rattle.std.specs.Str.Parse.{ParsesUnsigned, digits_value}
 use Rattle.std.proofs.lemmas.Bool.{and_parts, and_from, leb-true, le-leb}
 use Rattle.std.proofs.lemmas.Str.Parse.{IsDigitsTest, IsNumeralModel, numerals_by_value, digits_value_short, parse_gives}
-use Rattle.pipeline_desc.specs.Steps.{is_number, number_of}
+use Rattle.pipeline_desc.specs.Steps.{is_number, written_number}
 
 abbrev are_digits : List ℕ → Type 0
 are_digits ds = list_all is_ascii_digit ds ≡ true
@@ -29,13 +29,13 @@ number_read text r h e =
     parse_gives own 32 text r h digits (omega (arith, leb-true 1 (length text) low)) (omega (arith, small))
 
 module _ {E : Type 0} (text : List ℕ) (r : Result ℕ E) (h : ParsesUnsigned 32 10 text r) (e : is_number text ≡ true) where
-  pub number_ok : (n : ℕ) → r ≡ Ok n → Some n ≡ number_of text
+  pub number_ok : (n : ℕ) → r ≡ Ok n → Some n ≡ written_number text
   number_ok n is =
       let read : Ok n ≡ Ok (digits_value 10 text) = sym is ∙ number_read text r h e in
       let same : n ≡ digits_value 10 text = cc in
       rw e (ap (λ m. Some m) same)
 
-  pub number_err : (f : E) → r ≡ Err f → None ≡ number_of text
+  pub number_err : (f : E) → r ≡ Err f → None ≡ written_number text
   number_err f is =
       let read : Err f ≡ Ok (digits_value 10 text) = sym is ∙ number_read text r h e in
       cc

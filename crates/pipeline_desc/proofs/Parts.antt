@@ -3,7 +3,7 @@ use Rattle.std.proofs.Common.{◌≡◌, ℕ, suc, ◌<◌, ◌==◌, Bool, true
 use Rattle.std.specs.List.{position_or_len, before_first, after_first}
 use Rattle.std.proofs.lemmas.Bool.{cases_Bool}
 use Rattle.std.proofs.lemmas.Str.Pattern.{IsSplitOnceResult, split_once_first}
-use Rattle.pipeline_desc.specs.Steps.{name_of, argument_of}
+use Rattle.pipeline_desc.specs.Steps.{step_name, argument_of}
 
 abbrev is_space : ℕ → Bool
 is_space b = b == 32
@@ -16,7 +16,7 @@ first_here : (b : ℕ) (word : List ℕ) → (b == 32) ≡ true → position_or_
 first_here b word e = rw e refl
 
 -- where a space stands: the name before it, and the argument behind it
-with_space : (word : List ℕ) → position_or_len is_space word < length word → (name_of word ≡ before_first is_space word) × (argument_of word ≡ Some (after_first is_space word))
+with_space : (word : List ℕ) → position_or_len is_space word < length word → (step_name word ≡ before_first is_space word) × (argument_of word ≡ Some (after_first is_space word))
 with_space [] h = absurd (omega arith)
 with_space (b ∷ word) h =
     elim (cases_Bool (b == 32)) [
@@ -27,7 +27,7 @@ with_space (b ∷ word) h =
     ]
 
 -- where none stands, the word is the name
-without_space : (word : List ℕ) → position_or_len is_space word ≡ length word → (name_of word ≡ word) × (argument_of word ≡ None)
+without_space : (word : List ℕ) → position_or_len is_space word ≡ length word → (step_name word ≡ word) × (argument_of word ≡ None)
 without_space [] h = (refl, refl)
 without_space (b ∷ word) h =
     elim (cases_Bool (b == 32)) [
@@ -38,13 +38,13 @@ without_space (b ∷ word) h =
     ]
 
 -- the standard library cuts a word so
-pub cut_found : (word : List ℕ) (r : Option (Bor (List ℕ) × Bor (List ℕ))) (x : Bor (List ℕ) × Bor (List ℕ)) → IsSplitOnceResult 32 word r → r ≡ Some x → (x.0.now ≡ name_of word) × (Some x.1.now ≡ argument_of word)
+pub cut_found : (word : List ℕ) (r : Option (Bor (List ℕ) × Bor (List ℕ))) (x : Bor (List ℕ) × Bor (List ℕ)) → IsSplitOnceResult 32 word r → r ≡ Some x → (x.0.now ≡ step_name word) × (Some x.1.now ≡ argument_of word)
 cut_found word r x h is =
     let (inside, front, back) = rw is at (split_once_first 32 word r h (lit< tt)) in
     let (name, argument) = with_space word inside in
     (front ∙ sym name, ap (λ t. Some t) back ∙ sym argument)
 
-pub cut_none : (word : List ℕ) (r : Option (Bor (List ℕ) × Bor (List ℕ))) → IsSplitOnceResult 32 word r → r ≡ None → (word ≡ name_of word) × (None ≡ argument_of word)
+pub cut_none : (word : List ℕ) (r : Option (Bor (List ℕ) × Bor (List ℕ))) → IsSplitOnceResult 32 word r → r ≡ None → (word ≡ step_name word) × (None ≡ argument_of word)
 cut_none word r h is =
     let none = rw is at (split_once_first 32 word r h (lit< tt)) in
     let (name, argument) = without_space word none in

@@ -12,19 +12,19 @@ use Rattle.pipeline_desc.specs.declared.stream.StreamSpec.{StreamSpec}
 use Rattle.std.specs.Prelude.{[], ◌∷◌}
 
 -- the number is none below the first nor above the second
-abbrev pub is_within : ℕ → ℕ → ℕ → Bool
-is_within low high n = nat_le low n && nat_le n high
+abbrev pub is_between : ℕ → ℕ → ℕ → Bool
+is_between low high n = nat_le low n && nat_le n high
 
 -- so is the number of the text's bytes
 abbrev pub is_sized : ℕ → ℕ → List ℕ → Bool
-is_sized low high text = is_within low high (length text)
+is_sized low high text = is_between low high (length text)
 
 -- the step's argument is in its range
 abbrev pub is_sound_pipe : Pipe → Bool
 is_sound_pipe (pipe.Drop n) = nat_le n 999999999
 is_sound_pipe (pipe.Filter text) = is_sized 1 1024 text
 is_sound_pipe (pipe.Intersperse text) = is_sized 0 64 text
-is_sound_pipe (pipe.ChunkN n) = is_within 1 64 n
+is_sound_pipe (pipe.ChunkN n) = is_between 1 64 n
 is_sound_pipe _ = true
 
 abbrev pub is_sound_step : Step → Bool
@@ -51,9 +51,9 @@ kind_behind_step (step.Take n) k = Some k
 kind_behind_step (step.Pipe p) k = piped_kind p k
 
 -- the kind behind steps, the first of which gets this kind
-abbrev pub kind_behind : List Step → Kind → Option Kind
-kind_behind [] k = Some k
-kind_behind (s ∷ steps) k = option_and_then (kind_behind steps) (kind_behind_step s k)
+abbrev pub kind_behind_steps : List Step → Kind → Option Kind
+kind_behind_steps [] k = Some k
+kind_behind_steps (s ∷ steps) k = option_and_then (kind_behind_steps steps) (kind_behind_step s k)
 
 -- the text, where there is one, has at most 1,024 bytes
 abbrev pub is_short : Option (List ℕ) → Bool
@@ -66,4 +66,4 @@ is_sound_stream s =
     is_sized 1 1024 s.path
     && (list_all is_sound_step s.steps
     && (is_short s.on_fault
-    && (are_few s.steps && (put_one_between s.steps && is_some (kind_behind s.steps kind.Bytes)))))
+    && (are_few s.steps && (put_one_between s.steps && is_some (kind_behind_steps s.steps kind.Bytes)))))

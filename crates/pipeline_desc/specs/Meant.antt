@@ -25,7 +25,7 @@ is_taken None = true
 is_taken (Some n) = nat_le n 1000000000
 
 -- the plan is within all limits
-pub record IsSound (p : PlanMeant) : Type 0 where
+pub record IsWithinLimits (p : PlanMeant) : Type 0 where
   pub some_open : 1 ≤ p.max_open
   pub few_open : p.max_open ≤ 64
   pub some_wait : 1 ≤ p.queue

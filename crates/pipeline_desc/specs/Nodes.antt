@@ -9,7 +9,7 @@ use Rattle.pull_nodes.specs.declared.kind.Kind.{Kind}
 use Rattle.pull_nodes.specs.declared.kind.Kind.TheVariants as kind
 use Rattle.pull_nodes.specs.declared.node.Node.{Node}
 use Rattle.pull_nodes.specs.declared.node.Node.TheVariants.{Emit, Read, Weak', Scope', OnFault', Through', Take'}
-use Rattle.pipeline_desc.specs.Limits.{kind_behind}
+use Rattle.pipeline_desc.specs.Limits.{kind_behind_steps}
 use Rattle.pipeline_desc.specs.Meant.{PlanMeant, most_tables}
 use Rattle.pipeline_desc.specs.declared.step.Step.{Step}
 use Rattle.pipeline_desc.specs.declared.step.Step.TheVariants as step
@@ -48,7 +48,7 @@ IsOrText k (Some text) a n = (b c d : Boxed) × (n ≡ OnFault' b (Scope' c a) d
 -- n is the node of a stream whose device has this place; the text has the kind of what the stream gives
 abbrev pub IsStreamNode : ℕ → StreamSpec → Node → Type 0
 IsStreamNode place s n =
-    (a : Node) × (k : Kind) × IsBody place s a × (kind_behind s.steps kind.Bytes ≡ Some k) × IsOrText k s.on_fault a n
+    (a : Node) × (k : Kind) × IsBody place s a × (kind_behind_steps s.steps kind.Bytes ≡ Some k) × IsOrText k s.on_fault a n
 
 -- the rows of stream k: tables come first, and then each stream has one, for its path
 abbrev pub rows_of : ℕ → Span

@@ -34,11 +34,11 @@ each_from f i [] = Ok []
 each_from f i (x ∷ xs) = f i x >>= (λ y. each_from f (i + 1) xs >>= (λ ys. Ok (y ∷ ys)))
 
 -- the failure is what is read; memory may be wanting at any time
-abbrev pub Fails : {Y : Type 0} → Refused → Reading Y → Type 0
-Fails refused.Memory reading = Unit {0}
-Fails (refused.Desc e) reading = reading ≡ Err e
+abbrev pub RefusesAs : {Y : Type 0} → Refused → Reading Y → Type 0
+RefusesAs refused.Memory reading = Unit {0}
+RefusesAs (refused.Desc e) reading = reading ≡ Err e
 
 -- the answer, seen by view, is what is read, or memory was wanting
-abbrev pub Gives : {X Y : Type 0} → (X → Y) → Result X Refused → Reading Y → Type 0
-Gives view (Ok x) reading = reading ≡ Ok (view x)
-Gives view (Err e) reading = Fails e reading
+abbrev pub ReadsAs : {X Y : Type 0} → (X → Y) → Result X Refused → Reading Y → Type 0
+ReadsAs view (Ok x) reading = reading ≡ Ok (view x)
+ReadsAs view (Err e) reading = RefusesAs e reading

@@ -8,7 +8,7 @@ use Rattle.toml.specs.Data.{Data, as_str}
 use Rattle.pull_nodes.specs.declared.kind.Kind.{Kind}
 use Rattle.pull_nodes.specs.declared.pipe.Pipe.{Pipe}
 use Rattle.pull_nodes.specs.declared.pipe.Pipe.TheVariants as pipe
-use Rattle.pipeline_desc.specs.Limits.{is_within, is_sized, kind_behind_step}
+use Rattle.pipeline_desc.specs.Limits.{is_between, is_sized, kind_behind_step}
 use Rattle.pipeline_desc.specs.Reading.{Reading, refuse, ◌>>=◌, present, each_from}
 use Rattle.pipeline_desc.specs.Values.{list_at}
 use Rattle.pipeline_desc.specs.declared.refusal.RefusalKind.TheVariants as refused
@@ -16,9 +16,9 @@ use Rattle.pipeline_desc.specs.declared.step.Step.{Step}
 use Rattle.pipeline_desc.specs.declared.step.Step.TheVariants as step
 
 -- what stands before the first space
-abbrev pub name_of : List ℕ → List ℕ
-name_of [] = []
-name_of (b ∷ word) = if b == 32 then [] else (b ∷ name_of word)
+abbrev pub step_name : List ℕ → List ℕ
+step_name [] = []
+step_name (b ∷ word) = if b == 32 then [] else (b ∷ step_name word)
 
 -- what stands behind the first space, where there is one
 abbrev pub argument_of : List ℕ → Option (List ℕ)
@@ -30,14 +30,14 @@ abbrev pub is_number : List ℕ → Bool
 is_number text = is_sized 1 9 text && list_all is_ascii_digit text
 
 -- the number that a text writes, where it writes one
-abbrev pub number_of : List ℕ → Option ℕ
-number_of text = if is_number text then Some (digits_value 10 text) else None
+abbrev pub written_number : List ℕ → Option ℕ
+written_number text = if is_number text then Some (digits_value 10 text) else None
 
 -- a number within limits, as the argument of step i of stream k
 abbrev pub number_argument : ℕ → ℕ → ℕ → ℕ → List ℕ → Reading ℕ
 number_argument k i low high text =
-    present (number_of text) refused.OutOfRange (Some k) (Some i) >>= (λ n.
-    if is_within low high n then Ok n else refuse refused.OutOfRange (Some k) (Some i))
+    present (written_number text) refused.OutOfRange (Some k) (Some i) >>= (λ n.
+    if is_between low high n then Ok n else refuse refused.OutOfRange (Some k) (Some i))
 
 -- a text of so many bytes, as the argument of step i of stream k
 abbrev pub text_argument : ℕ → ℕ → ℕ → ℕ → List ℕ → Reading (List ℕ)
@@ -77,7 +77,7 @@ step_named k i name (Some text) = step_with k i name text
 
 -- the word of step i of stream k
 abbrev pub step_meant : ℕ → ℕ → List ℕ → Reading Step
-step_meant k i word = step_named k i (name_of word) (argument_of word)
+step_meant k i word = step_named k i (step_name word) (argument_of word)
 
 -- the steps of stream k
 abbrev pub steps_at : ℕ → Option Data → Reading (List Step)

@@ -5,7 +5,7 @@ use Rattle.std.specs.Str.{bytes_eq}
 use Rattle.toml.specs.Data.{Data, Items, no_items, item, Members, no_members, member, as_integer, as_str, as_array, as_table}
 use Rattle.toml.specs.View.{items_view}
 use Rattle.toml.specs.declared.value.Value.{Value}
-use Rattle.pipeline_desc.specs.Limits.{is_within, is_sized}
+use Rattle.pipeline_desc.specs.Limits.{is_between, is_sized}
 use Rattle.pipeline_desc.specs.Reading.{Reading, refuse, ◌>>=◌, passes, present}
 use Rattle.pipeline_desc.specs.declared.refusal.RefusalKind.TheVariants as refused
 
@@ -20,7 +20,7 @@ known_keys names stream ms = passes (all_known names ms) refused.UnknownKey stre
 
 -- the number, where it is within limits
 abbrev pub limited : ℕ → ℕ → ℤ → Reading (Option ℕ)
-limited low high (pos n) = if is_within low high n then Ok (Some n) else refuse refused.OutOfRange None None
+limited low high (pos n) = if is_between low high n then Ok (Some n) else refuse refused.OutOfRange None None
 limited low high (negsuc n) = refuse refused.OutOfRange None None
 
 -- a number within limits, where there is a value

@@ -1,9 +1,9 @@
 //! The nodes, the rows and the events of a plan's streams.
 ghost use Rattle.std.specs.Prelude.{◌≡◌, ◌+◌, ◌≤◌, ◌<◌, true, Some, is_some, length, IfOk};
-ghost use Rattle.pull_nodes.specs.Kinds.{kind_of};
+ghost use Rattle.pull_nodes.specs.Kinds.{node_kind};
 ghost use Rattle.pull_nodes.specs.Placed.{is_placed};
 ghost use Rattle.pull_nodes.specs.Shape.{node_count};
-ghost use Rattle.pipeline_desc.specs.Limits.{is_sound_stream, kind_behind};
+ghost use Rattle.pipeline_desc.specs.Limits.{is_sound_stream, kind_behind_steps};
 ghost use Rattle.pipeline_desc.specs.Meant.{most_tables};
 ghost use Rattle.pipeline_desc.specs.Nodes.{IsBehind, IsBehindStep, IsBody, IsNodeOf, IsOrText, IsStreamNode, event_count, events_of, load_of, rows_of};
 
@@ -73,8 +73,8 @@ fn load_of(alloc: Global, kind: Kind, text: &[u8]) -> Result<Load, AllocError>
 
 /// The kind of what the stream gives.
 fn kind_given(steps: &[Step]) -> Kind
-    requires { is_some (kind_behind steps.now Kind.Bytes) ≡ true }
-    ensures { kind_behind steps.now Kind.Bytes ≡ Some result }
+    requires { is_some (kind_behind_steps steps.now Kind.Bytes) ≡ true }
+    ensures { kind_behind_steps steps.now Kind.Bytes ≡ Some result }
 {
     let mut kind = Kind::Bytes;
     for step in steps {
@@ -123,7 +123,7 @@ pub fn rows(plan: &Plan, k: u32) -> Span
 pub fn node(alloc: Global, plan: &Plan, k: u32) -> Result<Node, AllocError>
     requires { k < length plan.now.streams }
     ensures node { IfOk result (IsNodeOf plan.now k) }
-    ensures kind { IfOk result (λ n. is_some (kind_of n) ≡ true) }
+    ensures kind { IfOk result (λ n. is_some (node_kind n) ≡ true) }
     ensures placed { IfOk result (λ n. is_placed (rows_of k) n ≡ true) }
     ensures few { IfOk result (λ n. node_count n ≤ 21) }
     ensures events { IfOk result (λ n. events_of plan.now k ≡ Some (event_count n + 1 + most_tables)) }

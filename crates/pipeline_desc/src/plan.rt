@@ -1,7 +1,7 @@
 //! What a description asks for.
 ghost use Rattle.std.specs.Prelude.{◌≡◌, ◌≤◌, ◌<◌, true, Some, length, slice_get};
 ghost use Rattle.pipeline_desc.specs.Limits.{is_sound_stream};
-ghost use Rattle.pipeline_desc.specs.Meant.{IsSound, is_taken, most_streams};
+ghost use Rattle.pipeline_desc.specs.Meant.{IsWithinLimits, is_taken, most_streams};
 
 use crate::stream::StreamSpec;
 use chunk_core::List;
@@ -18,13 +18,13 @@ pub struct Plan {
 }
 
 impl Model for Plan {
-    ghost use Rattle.pipeline_desc.specs.Meant.{PlanMeant, IsSound};
+    ghost use Rattle.pipeline_desc.specs.Meant.{PlanMeant, IsWithinLimits};
 
     ghost Value = { PlanMeant };
 
     ghost view = { λ p. record { max_open = p.max_open; queue = p.queue; chunk = p.chunk; take = p.take; streams = p.streams } };
 
-    ghost invariant = { λ p. IsSound (record { max_open = p.max_open; queue = p.queue; chunk = p.chunk; take = p.take; streams = p.streams }) };
+    ghost invariant = { λ p. IsWithinLimits (record { max_open = p.max_open; queue = p.queue; chunk = p.chunk; take = p.take; streams = p.streams }) };
 }
 
 impl Plan {
@@ -35,7 +35,7 @@ impl Plan {
         take: Option<u64>,
         streams: List<StreamSpec>,
     ) -> Plan
-        requires { IsSound (record { max_open = max_open; queue = queue; chunk = chunk; take = take; streams = streams }) }
+        requires { IsWithinLimits (record { max_open = max_open; queue = queue; chunk = chunk; take = take; streams = streams }) }
         ensures { result ≡ record { max_open = max_open; queue = queue; chunk = chunk; take = take; streams = streams } }
     {
         Plan {

@@ -2,7 +2,7 @@
 ghost use Rattle.std.specs.Prelude.{◌≡◌};
 ghost use Rattle.toml.specs.View.{table_view};
 ghost use Rattle.pipeline_desc.specs.Plans.{plan_meant, plan_of};
-ghost use Rattle.pipeline_desc.specs.Reading.{Gives};
+ghost use Rattle.pipeline_desc.specs.Reading.{ReadsAs};
 
 use crate::plan::Plan;
 use crate::refusal::{RefusalKind, Refused, refuse};
@@ -16,7 +16,7 @@ const LONGEST: usize = 1_048_576;
 
 /// The plan of a table.
 fn plan_of_table(alloc: Global, table: &Table) -> Result<Plan, Refused>
-    ensures { Gives (λ p. p) result (plan_meant (table_view table.now)) }
+    ensures { ReadsAs (λ p. p) result (plan_meant (table_view table.now)) }
 {
     check_keys(
         table,
@@ -44,7 +44,7 @@ fn plan_of_table(alloc: Global, table: &Table) -> Result<Plan, Refused>
 
 /// The plan that a description means, or the first reason to refuse it.
 pub fn read(alloc: Global, bytes: &[u8]) -> Result<Plan, Refused>
-    ensures { Gives (λ p. p) result (plan_of bytes.now) }
+    ensures { ReadsAs (λ p. p) result (plan_of bytes.now) }
 {
     if bytes.len() > LONGEST {
         return Err(refuse(RefusalKind::TooLong));

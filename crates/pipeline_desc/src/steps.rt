@@ -4,8 +4,8 @@ ghost use Rattle.std.specs.List.{list_all};
 ghost use Rattle.std.specs.Result.{result_ok};
 ghost use Rattle.toml.specs.Data.{as_str};
 ghost use Rattle.toml.specs.View.{items_view, view};
-ghost use Rattle.pipeline_desc.specs.Limits.{are_few, is_sound_step, kind_behind, kind_behind_step, put_one_between, puts_between};
-ghost use Rattle.pipeline_desc.specs.Reading.{Gives, each_from};
+ghost use Rattle.pipeline_desc.specs.Limits.{are_few, is_sound_step, kind_behind_steps, kind_behind_step, put_one_between, puts_between};
+ghost use Rattle.pipeline_desc.specs.Reading.{ReadsAs, each_from};
 ghost use Rattle.pipeline_desc.specs.Steps.{kind_from, step_meant, steps_at};
 ghost use Rattle.pipeline_desc.specs.Values.{each_as, seen_as};
 
@@ -21,7 +21,7 @@ use toml::Value;
 /// The step of each text, in order.
 fn each_step(alloc: Global, words: &[Value], k: u32) -> Result<List<Step>, Refused>
     requires { is_some (each_as as_str (items_view words.now)) ≡ true }
-    ensures meant { Gives (λ s. s) result (each_from (step_meant k) 0 (seen_as as_str words.now)) }
+    ensures meant { ReadsAs (λ s. s) result (each_from (step_meant k) 0 (seen_as as_str words.now)) }
     ensures sound { IfOk result (λ s. list_all is_sound_step s ≡ true) }
 {
     // A description is too short for 2^32 steps.
@@ -41,7 +41,7 @@ fn each_step(alloc: Global, words: &[Value], k: u32) -> Result<List<Step>, Refus
 
 /// The steps of stream k.
 pub(crate) fn steps(alloc: Global, value: Option<&Value>, k: u32) -> Result<List<Step>, Refused>
-    ensures meant { Gives (λ s. s) result (steps_at k (option_map (λ v. view v.now) value.entry)) }
+    ensures meant { ReadsAs (λ s. s) result (steps_at k (option_map (λ v. view v.now) value.entry)) }
     ensures sound { IfOk result (λ s. list_all is_sound_step s ≡ true) }
 {
     let words = texts(value, Some(k))?;
@@ -85,8 +85,8 @@ pub(crate) fn kind_behind_step(step: &Step, kind: Kind) -> Result<Kind, KindFaul
 /// The kind behind the steps of stream k.
 pub(crate) fn kind_behind(steps: &[Step], k: u32) -> Result<Kind, Refused>
     requires { are_few steps.now ≡ true }
-    ensures meant { Gives (λ j. j) result (kind_from k 0 steps.now Kind.Bytes) }
-    ensures kind { IfOk result (λ j. kind_behind steps.now Kind.Bytes ≡ Some j) }
+    ensures meant { ReadsAs (λ j. j) result (kind_from k 0 steps.now Kind.Bytes) }
+    ensures kind { IfOk result (λ j. kind_behind_steps steps.now Kind.Bytes ≡ Some j) }
 {
     let mut kind = Kind::Bytes;
     for i in 0..steps.len() {

@@ -6,7 +6,7 @@ ghost use Rattle.toml.specs.View.{items_view, table_view};
 ghost use Rattle.pipeline_desc.specs.Limits.{is_sound_stream};
 ghost use Rattle.pipeline_desc.specs.Meant.{most_streams};
 ghost use Rattle.pipeline_desc.specs.Plans.{stream_meant};
-ghost use Rattle.pipeline_desc.specs.Reading.{Gives, each_from};
+ghost use Rattle.pipeline_desc.specs.Reading.{ReadsAs, each_from};
 ghost use Rattle.pipeline_desc.specs.Values.{each_as, seen_as};
 
 use crate::refusal::{RefusalKind, Refused, refuse_in};
@@ -19,7 +19,7 @@ use toml::{Table, Value};
 
 /// Stream k by its table.
 fn stream(alloc: Global, table: &Table, k: u32) -> Result<StreamSpec, Refused>
-    ensures meant { Gives (λ s. s) result (stream_meant k (table_view table.now)) }
+    ensures meant { ReadsAs (λ s. s) result (stream_meant k (table_view table.now)) }
     ensures sound { IfOk result (λ s. is_sound_stream s ≡ true) }
 {
     check_keys(table, &["path", "steps", "on_fault"], Some(k))?;
@@ -44,7 +44,7 @@ fn stream(alloc: Global, table: &Table, k: u32) -> Result<StreamSpec, Refused>
 pub(crate) fn each_stream(alloc: Global, tables: &[Value]) -> Result<List<StreamSpec>, Refused>
     requires seen { is_some (each_as as_table (items_view tables.now)) ≡ true }
     requires few { length tables.now ≤ most_streams }
-    ensures meant { Gives (λ s. s) result (each_from stream_meant 0 (seen_as as_table tables.now)) }
+    ensures meant { ReadsAs (λ s. s) result (each_from stream_meant 0 (seen_as as_table tables.now)) }
     ensures sound { IfOk result (λ s. list_all is_sound_stream s ≡ true) }
     ensures few { IfOk result (λ s. length s ≤ most_streams) }
 {

@@ -6,7 +6,7 @@ ghost use Rattle.std.specs.BTreeMap.{keys};
 ghost use Rattle.toml.specs.Data.{as_str, as_table, get_member};
 ghost use Rattle.toml.specs.View.{items_view, table_view, view};
 ghost use Rattle.pipeline_desc.specs.Limits.{is_sized};
-ghost use Rattle.pipeline_desc.specs.Reading.{Gives};
+ghost use Rattle.pipeline_desc.specs.Reading.{ReadsAs};
 ghost use Rattle.pipeline_desc.specs.Values.{all_known, array_at, each_as, known_keys, list_at, number_at, seen_as, tables_at, text_at, text_or_none_at};
 
 use crate::refusal::{RefusalKind, Refused, refuse, refuse_in};
@@ -44,7 +44,7 @@ fn has_only(table: &Table, names: &[&str]) -> bool
 
 /// No key has another name.
 pub(crate) fn check_keys(table: &Table, names: &[&str], stream: Option<u32>) -> Result<(), Refused>
-    ensures { Gives (λ u. u) result (known_keys (map (λ s. s.now) names.now) stream (table_view table.now)) }
+    ensures { ReadsAs (λ u. u) result (known_keys (map (λ s. s.now) names.now) stream (table_view table.now)) }
 {
     if !has_only(table, names) {
         return Err(refuse_in(RefusalKind::UnknownKey, stream));
@@ -54,7 +54,7 @@ pub(crate) fn check_keys(table: &Table, names: &[&str], stream: Option<u32>) -> 
 
 /// A number within limits, where there is a value.
 pub(crate) fn number(value: Option<&Value>, low: u32, high: u32) -> Result<Option<u32>, Refused>
-    ensures meant { Gives (λ n. n) result (number_at low high (option_map (λ v. view v.now) value.entry)) }
+    ensures meant { ReadsAs (λ n. n) result (number_at low high (option_map (λ v. view v.now) value.entry)) }
     ensures within { IfOk result (λ n. IfSome n (λ m. (low ≤ m) × (m ≤ high))) }
 {
     let Some(value) = value else {
@@ -77,7 +77,7 @@ fn text(
     high: usize,
     stream: Option<u32>,
 ) -> Result<&str, Refused>
-    ensures meant { Gives (λ s. s.now) result (text_at low high stream (option_map (λ v. view v.now) value.entry)) }
+    ensures meant { ReadsAs (λ s. s.now) result (text_at low high stream (option_map (λ v. view v.now) value.entry)) }
     ensures sound { IfOk result (λ s. is_sized low high s.now ≡ true) }
 {
     let Some(value) = value else {
@@ -101,7 +101,7 @@ pub(crate) fn word(
     high: usize,
     stream: Option<u32>,
 ) -> Result<Word, Refused>
-    ensures meant { Gives (λ w. w) result (text_at low high stream (option_map (λ v. view v.now) value.entry)) }
+    ensures meant { ReadsAs (λ w. w) result (text_at low high stream (option_map (λ v. view v.now) value.entry)) }
     ensures sound { IfOk result (λ w. is_sized low high w ≡ true) }
 {
     let text = text(value, low, high, stream)?;
@@ -116,7 +116,7 @@ pub(crate) fn line(
     high: usize,
     stream: Option<u32>,
 ) -> Result<Option<Line>, Refused>
-    ensures meant { Gives (λ o. o) result (text_or_none_at low high stream (option_map (λ v. view v.now) value.entry)) }
+    ensures meant { ReadsAs (λ o. o) result (text_or_none_at low high stream (option_map (λ v. view v.now) value.entry)) }
     ensures sound { IfOk result (λ o. IfSome o (λ x. is_sized low high x ≡ true)) }
 {
     if value.is_none() {
@@ -142,7 +142,7 @@ fn are_texts(values: &[Value]) -> bool
 
 /// The values of an array, or none where there is no value.
 fn array(value: Option<&Value>, stream: Option<u32>) -> Result<&[Value], Refused>
-    ensures { Gives (λ s. items_view s.now) result (array_at stream (option_map (λ v. view v.now) value.entry)) }
+    ensures { ReadsAs (λ s. items_view s.now) result (array_at stream (option_map (λ v. view v.now) value.entry)) }
 {
     let Some(value) = value else {
         return Ok(&[]);
@@ -155,7 +155,7 @@ fn array(value: Option<&Value>, stream: Option<u32>) -> Result<&[Value], Refused
 
 /// The texts of an array, or none where there is no value.
 pub(crate) fn texts(value: Option<&Value>, stream: Option<u32>) -> Result<&[Value], Refused>
-    ensures meant { Gives (λ s. seen_as as_str s.now) result (list_at as_str stream (option_map (λ v. view v.now) value.entry)) }
+    ensures meant { ReadsAs (λ s. seen_as as_str s.now) result (list_at as_str stream (option_map (λ v. view v.now) value.entry)) }
     ensures seen { IfOk result (λ s. is_some (each_as as_str (items_view s.now)) ≡ true) }
 {
     let values = array(value, stream)?;
@@ -167,7 +167,7 @@ pub(crate) fn texts(value: Option<&Value>, stream: Option<u32>) -> Result<&[Valu
 
 /// The tables of an array of at most so many, or none where there is no value.
 pub(crate) fn tables(value: Option<&Value>, most: usize) -> Result<&[Value], Refused>
-    ensures meant { Gives (λ s. seen_as as_table s.now) result (tables_at most (option_map (λ v. view v.now) value.entry)) }
+    ensures meant { ReadsAs (λ s. seen_as as_table s.now) result (tables_at most (option_map (λ v. view v.now) value.entry)) }
     ensures seen { IfOk result (λ s. is_some (each_as as_table (items_view s.now)) ≡ true) }
     ensures few { IfOk result (λ s. length s.now ≤ most) }
 {

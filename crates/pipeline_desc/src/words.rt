@@ -3,8 +3,8 @@ ghost use Rattle.std.specs.Prelude.{◌≡◌, ◌≤◌, ◌<◌, ◌^◌, true
 ghost use Rattle.std.specs.List.{list_all};
 ghost use Rattle.std.specs.Char.{is_ascii_digit};
 ghost use Rattle.pipeline_desc.specs.Limits.{is_sized, is_sound_step};
-ghost use Rattle.pipeline_desc.specs.Reading.{Gives};
-ghost use Rattle.pipeline_desc.specs.Steps.{argument_of, is_number, name_of, number_argument, number_of, plain_pipe, step_meant, step_named, step_with, step_without, text_argument};
+ghost use Rattle.pipeline_desc.specs.Reading.{ReadsAs};
+ghost use Rattle.pipeline_desc.specs.Steps.{argument_of, is_number, step_name, number_argument, written_number, plain_pipe, step_meant, step_named, step_with, step_without, text_argument};
 
 use crate::refusal::{RefusalKind, Refused, refuse_step};
 use crate::step::Step;
@@ -28,7 +28,7 @@ fn is_number(text: &str) -> bool
 
 /// The number that one to nine digits write.
 fn number(text: &str) -> Option<u32>
-    ensures { result ≡ number_of text.now }
+    ensures { result ≡ written_number text.now }
 {
     if !is_number(text) {
         return None;
@@ -41,7 +41,7 @@ fn number(text: &str) -> Option<u32>
 
 /// The number within limits that is the argument of step i of stream k.
 fn number_in(text: &str, low: u32, high: u32, k: u32, i: u32) -> Result<u32, Refused>
-    ensures meant { Gives (λ n. n) result (number_argument k i low high text.now) }
+    ensures meant { ReadsAs (λ n. n) result (number_argument k i low high text.now) }
     ensures low { IfOk result (λ n. low ≤ n) }
     ensures high { IfOk result (λ n. n ≤ high) }
 {
@@ -64,7 +64,7 @@ fn text_in(
     k: u32,
     i: u32,
 ) -> Result<Line, Refused>
-    ensures meant { Gives (λ x. x) result (text_argument k i low high text.now) }
+    ensures meant { ReadsAs (λ x. x) result (text_argument k i low high text.now) }
     ensures sound { IfOk result (λ x. is_sized low high x ≡ true) }
 {
     if text.len() >= low && text.len() <= high {
@@ -101,7 +101,7 @@ fn plain(name: &str) -> Option<Pipe>
 
 /// A step without an argument.
 fn without(name: &str, k: u32, i: u32) -> Result<Step, Refused>
-    ensures meant { Gives (λ s. s) result (step_without k i name.now) }
+    ensures meant { ReadsAs (λ s. s) result (step_without k i name.now) }
     ensures sound { IfOk result (λ s. is_sound_step s ≡ true) }
 {
     match plain(name) {
@@ -112,7 +112,7 @@ fn without(name: &str, k: u32, i: u32) -> Result<Step, Refused>
 
 /// A step with an argument.
 fn with(alloc: Global, name: &str, argument: &str, k: u32, i: u32) -> Result<Step, Refused>
-    ensures meant { Gives (λ s. s) result (step_with k i name.now argument.now) }
+    ensures meant { ReadsAs (λ s. s) result (step_with k i name.now argument.now) }
     ensures sound { IfOk result (λ s. is_sound_step s ≡ true) }
 {
     if name == "take" {
@@ -140,7 +140,7 @@ fn with(alloc: Global, name: &str, argument: &str, k: u32, i: u32) -> Result<Ste
 
 /// A word cut at its first space: the name, and the argument where there is one.
 fn cut(word: &str) -> (&str, Option<&str>)
-    ensures name { result.0.now ≡ name_of word.now }
+    ensures name { result.0.now ≡ step_name word.now }
     ensures argument { option_map (λ s. s.now) result.1 ≡ argument_of word.now }
 {
     match word.split_once(' ') {
@@ -151,7 +151,7 @@ fn cut(word: &str) -> (&str, Option<&str>)
 
 /// The step that a word means, as step i of stream k.
 pub(crate) fn step(alloc: Global, word: &str, k: u32, i: u32) -> Result<Step, Refused>
-    ensures meant { Gives (λ s. s) result (step_meant k i word.now) }
+    ensures meant { ReadsAs (λ s. s) result (step_meant k i word.now) }
     ensures sound { IfOk result (λ s. is_sound_step s ≡ true) }
 {
     match cut(word) {

@@ -6,7 +6,7 @@ use Rattle.chunk_core.specs.Feed.{Given}
 use Rattle.chunk_core.specs.Outcomes.{End, Done, Fault, Cut, Outcomes}
 use Rattle.device_port.specs.Device.{DeviceTold, faults_of}
 use Rattle.pull_nodes.specs.Pipes.{part_of, all_of}
-use Rattle.pull_nodes.specs.Runs.{IsIdealRun, ReadsContent, ReadsWhole, ReadsWholeBy, Opens, Follows, Taken, GivesAtEnd, GivesBy, Piped}
+use Rattle.pull_nodes.specs.Runs.{IsIdealRun, ReadsContent, ReadsWhole, ReadsWholeBy, OpensThen, Follows, Taken, GivesAtEnd, GivesBy, Piped}
 use Rattle.pull_nodes.specs.Laws.{IsClean, TellSame, TellSameOf}
 use Rattle.pull_nodes.specs.declared.node.Node.{Node}
 use Rattle.pull_nodes.specs.declared.node.Node.TheVariants.{Nil, Emit, Raise, Read, Weak', Scope', Append', OnFault', Through', Take'}
@@ -21,7 +21,7 @@ one_content c xs ys e g r s = grind arith
 one_read : (d f : DeviceTold) → TellSame d f → OneRun (ReadsWhole d) (ReadsWhole f)
 one_read d f same xs ys e g r s = one_content same.0 xs ys e g (subst (λ o. ReadsWholeBy o d xs e) same.1 r) (subst (λ o. ReadsWholeBy o f ys g) same.2 s)
 
-one_opens : (d f : DeviceTold) → faults_of d ≡ 0 → faults_of f ≡ 0 → (A B : Outcomes) (P Q : Type 0) → OneRun A B → OneRun (Opens d A P) (Opens f B Q)
+one_opens : (d f : DeviceTold) → faults_of d ≡ 0 → faults_of f ≡ 0 → (A B : Outcomes) (P Q : Type 0) → OneRun A B → OneRun (OpensThen d A P) (OpensThen f B Q)
 one_opens d f cd cf A B P Q h xs ys e g (inl r) (inl s) = h xs ys e g r.2 s.2
 one_opens d f cd cf A B P Q h xs ys e g (inr r) s = absurd (omega (arith, cd, r.1))
 one_opens d f cd cf A B P Q h xs ys e g (inl r) (inr s) = absurd (omega (arith, cf, s.1))

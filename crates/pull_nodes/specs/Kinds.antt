@@ -43,14 +43,14 @@ kind_behind q None = None
 kind_behind q (Some k) = piped_kind q k
 
 -- the kind of a node's elements, or none where a step gets a kind that it doesn't take
-abbrev pub kind_of : Node → Option Kind
-kind_of Nil = Some kind.Any
-kind_of (Emit l) = Some (load_kind l)
-kind_of (Raise c) = Some kind.Any
-kind_of (Read p) = Some kind.Bytes
-kind_of (Weak' p _ a) = kind_of a
-kind_of (Scope' _ a) = kind_of a
-kind_of (Append' _ a _ b) = kind_of_sides (kind_of a) (kind_of b)
-kind_of (OnFault' _ a _ b) = kind_of_sides (kind_of a) (kind_of b)
-kind_of (Through' _ a q) = kind_behind q (kind_of a)
-kind_of (Take' n _ a) = kind_of a
+abbrev pub node_kind : Node → Option Kind
+node_kind Nil = Some kind.Any
+node_kind (Emit l) = Some (load_kind l)
+node_kind (Raise c) = Some kind.Any
+node_kind (Read p) = Some kind.Bytes
+node_kind (Weak' p _ a) = node_kind a
+node_kind (Scope' _ a) = node_kind a
+node_kind (Append' _ a _ b) = kind_of_sides (node_kind a) (node_kind b)
+node_kind (OnFault' _ a _ b) = kind_of_sides (node_kind a) (node_kind b)
+node_kind (Through' _ a q) = kind_behind q (node_kind a)
+node_kind (Take' n _ a) = node_kind a

@@ -46,8 +46,8 @@ abbrev pub ReadsWhole : DeviceTold → Outcomes
 ReadsWhole d = ReadsWholeBy d.content d
 
 -- a device is opened and then A runs, or its one open failed and A, which never ran, did nothing
-abbrev pub Opens : DeviceTold → Outcomes → Type 0 → Outcomes
-Opens d A Idle ys e =
+abbrev pub OpensThen : DeviceTold → Outcomes → Type 0 → Outcomes
+OpensThen d A Idle ys e =
     ((d.opens ≡ 1) × (d.open_faults ≡ 0) × A ys e)
     ⊎ ((d.opens ≡ 0) × (d.open_faults ≡ 1) × (ys ≡ []) × (e ≡ Fault code.Open) × Idle)
 
@@ -108,7 +108,7 @@ Gives Left Reading w Nil ys e = (ys ≡ []) × (e ≡ Done)
 Gives Left Reading w (Emit l) ys e = (ys ≡ elements l) × (e ≡ Done)
 Gives Left Reading w (Raise c) ys e = (ys ≡ []) × (e ≡ Fault (code.Raised c))
 Gives Left Reading w (Read p) ys e = Reading (w p) ys e
-Gives Left Reading w (Weak' p _ a) ys e = Opens (w p) (Left (Gives Left Reading w a)) (IsIdle w a) ys e
+Gives Left Reading w (Weak' p _ a) ys e = OpensThen (w p) (Left (Gives Left Reading w a)) (IsIdle w a) ys e
 Gives Left Reading w (Scope' _ a) ys e = Left (Gives Left Reading w a) ys e
 Gives Left Reading w (Append' _ a _ b) ys e = Follows (λ g. g ≡ Done) (Left (Gives Left Reading w a)) (Left (Gives Left Reading w b)) (IsIdle w b) ys e
 Gives Left Reading w (OnFault' _ a _ b) ys e = Follows IsFault (Left (Gives Left Reading w a)) (Left (Gives Left Reading w b)) (IsIdle w b) ys e

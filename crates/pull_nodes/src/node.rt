@@ -1,7 +1,7 @@
 //! The nodes of a stream.
 ghost use Rattle.std.specs.Prelude.{◌≡◌, ◌+◌, ◌*◌, ◌<◌, ◌^◌, length};
 ghost use Rattle.std.specs.Result.{result_ok};
-ghost use Rattle.pull_nodes.specs.Kinds.{kind_of};
+ghost use Rattle.pull_nodes.specs.Kinds.{node_kind};
 ghost use Rattle.pull_nodes.specs.Shape.{node_count, scope_count, places_of};
 
 use crate::kind::{Kind, KindFault};
@@ -39,7 +39,7 @@ impl Node {
     /// The kind of its elements, or the fault where the two sides of a join have different
     /// kinds, or a pipe doesn't take the kind that it gets.
     pub fn kind(&self) -> Result<Kind, KindFault>
-        ensures { result_ok result ≡ kind_of self.now }
+        ensures { result_ok result ≡ node_kind self.now }
     {
         match self {
             Node::Nil | Node::Raise(_) => Ok(Kind::Any),

@@ -7,7 +7,7 @@ use Rattle.chunk_core.specs.Lists.IsAmong.{here, there}
 use Rattle.chunk_core.proofs.Members.{among_cons, among_nil, among_last, among_left, among_snoc}
 use Rattle.device_port.specs.Device.{DeviceTold}
 use Rattle.device_port.specs.declared.device.Mode.TheVariants as mode
-use Rattle.pull_turns.specs.Around.{Acquires, Keeps, gist}
+use Rattle.pull_turns.specs.Around.{AcquiresDevice, Keeps, gist}
 use Rattle.res_ledger.specs.declared.event.Event.{Event}
 use Rattle.res_ledger.specs.declared.event.What.TheVariants.{Close, Open}
 use Rattle.res_ledger.specs.Ledger.{Covers}
@@ -19,8 +19,8 @@ use Rattle.res_ledger.proofs.Ledgers.{covers_acquired, covers_snoc}
 use Rattle.row_seat.specs.Views.{HasRow, noted, placed}
 use Rattle.row_seat.proofs.Members.{among_kept}
 use Rattle.scope_tree.specs.declared.branch.Branch.{Branch}
-use Rattle.scope_tree.specs.declared.branch.Held.{Held}
-use Rattle.scope_tree.specs.Calls.{Acquires as Acquired, IsOpenScope, Seen, used}
+use Rattle.scope_tree.specs.declared.branch.AcquiredRow.{AcquiredRow}
+use Rattle.scope_tree.specs.Calls.{AcquiresRow as Acquired, IsOpenScope, Seen, used}
 use Rattle.scope_tree.specs.Kept.{Kept}
 use Rattle.scope_tree.specs.Released.{said}
 use Rattle.scope_tree.specs.Words.{acquiring, numbers, own_rows, owed, words}
@@ -41,7 +41,7 @@ numbers_more : (xs : List (ℕ × ℕ)) (y : ℕ × ℕ) (r : ℕ) → IsAmong r
 numbers_more [] y r i = absurd (among_nil i)
 numbers_more (x ∷ xs) y r i = ⊎_elim (λ e. subst (λ z. IsAmong z (numbers (x ∷ (xs ++ y ∷ [])))) (sym e) (here (numbers (xs ++ y ∷ [])))) (λ m. there x.0 (numbers_more xs y r m)) (among_cons i)
 
-module _ {V : Type 0} (told : V → DeviceTold) (x : Site V) (s p n : ℕ) (d e : V) (bs : List Branch) (hs : List Held) (k : Kept x.tree.seat bs hs) (is : slot x p ≡ Some (Some d)) (order : InOrder told x) (u : IsOpenScope x.tree s) (read : (told d).place.mode ≡ mode.Read) (open' : told e ≡ record (told d) { is_open = true; opens = 1 }) (free : owed x.tree.seat + 2 ≤ x.tree.seat.spare) where
+module _ {V : Type 0} (told : V → DeviceTold) (x : Site V) (s p n : ℕ) (d e : V) (bs : List Branch) (hs : List AcquiredRow) (k : Kept x.tree.seat bs hs) (is : slot x p ≡ Some (Some d)) (order : InOrder told x) (u : IsOpenScope x.tree s) (read : (told d).place.mode ≡ mode.Read) (open' : told e ≡ record (told d) { is_open = true; opens = 1 }) (free : owed x.tree.seat + 2 ≤ x.tree.seat.spare) where
   -- the tree with the row
   abbrev after : Seen V
   after = record x.tree { seat = placed (noted x.tree.seat (acquiring x.tree.seat p s n)) p e }
@@ -106,7 +106,7 @@ module _ {V : Type 0} (told : V → DeviceTold) (x : Site V) (s p n : ℕ) (d e 
       let m = strangers_less own (own_rows after.seat) F (λ r i. subst (λ l. IsAmong r (numbers l)) (sym rows_now) (numbers_more (rows (words x.tree.seat)) (p, s) r i)) in
       omega (l, m, arith)
 
-  acquires : Acquires (around told x) s p (around told site')
+  acquires : AcquiresDevice (around told x) s p (around told site')
   acquires =
       let os : length (opens (words after.seat)) ≡ length (opens (words x.tree.seat)) = ap length (acquired_opens x.tree.seat bs hs p s n e k u empty free) in
       let sc = acquired_scopes x.tree.seat bs hs p s n e k u empty free in let l = length-append x.tree.seat.opened ((p, e) ∷ []) in let us = used_now in record {
@@ -150,7 +150,7 @@ module _ {V : Type 0} (told : V → DeviceTold) (x : Site V) (s p n : ℕ) (d e 
   }
 
 -- the device was opened, and its row acquired in an open scope
-module _ {V : Type 0} (told : V → DeviceTold) (ends : V → Exit → Bool → V → Type 0) (x : Site V) (b : Seen V) (s p : ℕ) (d e : V) (bs : List Branch) (hs : List Held) (k : Kept x.tree.seat bs hs) (is : slot x p ≡ Some (Some d)) (order : InOrder told x) (u : IsOpenScope x.tree s) (read : (told d).place.mode ≡ mode.Read) (open' : told e ≡ record (told d) { is_open = true; opens = 1 }) (free : owed x.tree.seat + 2 ≤ x.tree.seat.spare) (o : Acquired x.tree s p e b) where
+module _ {V : Type 0} (told : V → DeviceTold) (ends : V → Exit → Bool → V → Type 0) (x : Site V) (b : Seen V) (s p : ℕ) (d e : V) (bs : List Branch) (hs : List AcquiredRow) (k : Kept x.tree.seat bs hs) (is : slot x p ≡ Some (Some d)) (order : InOrder told x) (u : IsOpenScope x.tree s) (read : (told d).place.mode ≡ mode.Read) (open' : told e ≡ record (told d) { is_open = true; opens = 1 }) (free : owed x.tree.seat + 2 ≤ x.tree.seat.spare) (o : Acquired x.tree s p e b) where
   is_after : b ≡ after told x s p o.stamp d e bs hs k is order u read open' free
   is_after = seen_is x.tree b _ o.seat o.shelf o.scopes o.rows
 
@@ -160,8 +160,8 @@ module _ {V : Type 0} (told : V → DeviceTold) (ends : V → Exit → Bool → 
   pub acquire_order : InOrder told acquired_site
   acquire_order = subst (λ t. InOrder told (record x { tree = t; slots = refilled x p d is None })) (sym is_after) (acquired_order told x s p o.stamp d e bs hs k is order u read open' free)
 
-  pub acquire_acquires : Acquires (around told x) s p (around told acquired_site)
-  acquire_acquires = subst (λ t. Acquires (around told x) s p (around told (record x { tree = t; slots = refilled x p d is None }))) (sym is_after) (acquires told x s p o.stamp d e bs hs k is order u read open' free)
+  pub acquire_acquires : AcquiresDevice (around told x) s p (around told acquired_site)
+  acquire_acquires = subst (λ t. AcquiresDevice (around told x) s p (around told (record x { tree = t; slots = refilled x p d is None }))) (sym is_after) (acquires told x s p o.stamp d e bs hs k is order u read open' free)
 
   same : (q : ℕ) → SameDevice (told_at told x q) (told_at told (site' told x s p o.stamp d e bs hs k is order u read open' free) q)
   same q = ⊎_elim
@@ -185,8 +185,8 @@ module _ {V : Type 0} (told : V → DeviceTold) (ends : V → Exit → Bool → 
     abbrev pub now_site : Site V
     now_site = record x { tree = b; slots = l }
 
-    pub now_acquires : Acquires (around told x) s p (around told now_site)
-    now_acquires = subst (λ m. Acquires (around told x) s p (around told (record x { tree = b; slots = m }))) (sym emptied) acquire_acquires
+    pub now_acquires : AcquiresDevice (around told x) s p (around told now_site)
+    now_acquires = subst (λ m. AcquiresDevice (around told x) s p (around told (record x { tree = b; slots = m }))) (sym emptied) acquire_acquires
 
     pub now_order : InOrder told now_site
     now_order = subst (λ m. InOrder told (record x { tree = b; slots = m })) (sym emptied) acquire_order

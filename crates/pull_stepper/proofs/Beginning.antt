@@ -8,11 +8,11 @@ use Rattle.chunk_core.proofs.Members.{among_nil}
 use Rattle.device_port.specs.Depot.{DepotTold, fresh}
 use Rattle.device_port.specs.Device.{DeviceTold}
 use Rattle.device_port.specs.declared.device.Mode.TheVariants as mode
-use Rattle.pull_nodes.specs.Kinds.{kind_of}
+use Rattle.pull_nodes.specs.Kinds.{node_kind}
 use Rattle.pull_nodes.specs.declared.kind.Kind.{Kind}
 use Rattle.pull_nodes.specs.declared.node.Node.{Node}
 use Rattle.pull_turns.specs.Around.{OpenAreHeld}
-use Rattle.pull_turns.specs.Piping.{Standing, PipesFitOf}
+use Rattle.pull_turns.specs.Piping.{StateMeaning, PipesFitOf}
 use Rattle.pull_turns.proofs.NodeKinds.{fits_kind}
 use Rattle.row_seat.specs.Views.{HasRow}
 use Rattle.scope_tree.specs.Calls.{Seen}
@@ -25,10 +25,10 @@ unopened : (d : DeviceTold) → IsUnused d → IsUnopened d
 unopened d u = record { is_open = u.is_open; opens = u.opens; closes = u.closes; exit = u.exit; close_faults = u.close_faults }
 
 -- the pipes of a node that has a kind fit
-pipes_fit : (n : Node) → IsSome (kind_of n) → PipesFitOf n
-pipes_fit n = by (kind_of n) refl
+pipes_fit : (n : Node) → IsSome (node_kind n) → PipesFitOf n
+pipes_fit n = by (node_kind n) refl
   where
-    by : (o : Option Kind) → kind_of n ≡ o → IsSome o → PipesFitOf n
+    by : (o : Option Kind) → node_kind n ≡ o → IsSome o → PipesFitOf n
     by None e some = absurd (false≢true some)
     by (Some j) e some = fits_kind n j e
 
@@ -85,7 +85,7 @@ module _ {V : Type 0} (told : V → DeviceTold) (n : Node) (a : Seen V) (devices
           let u = h.unused d (slot_from p first.from d devices s) in
           absurd (false≢true (sym u.is_open ∙ (sym (ap (λ o. (told_by told o (pay_of a p)).is_open) s) ∙ e)))
 
-  pub begun_can : {F : Type 0} (P : Standing F) (chunk : ℕ) → 1 ≤ chunk → CanGo P told (begun n a devices chunk)
+  pub begun_can : {F : Type 0} (P : StateMeaning F) (chunk : ℕ) → 1 ≤ chunk → CanGo P told (begun n a devices chunk)
   begun_can P chunk some = record {
     how = refl;
     memory = refl;

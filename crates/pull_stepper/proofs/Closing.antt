@@ -11,7 +11,7 @@ use Rattle.res_ledger.specs.Ledger.LiesWithin.{same}
 use Rattle.res_ledger.specs.Order.{finals}
 use Rattle.res_ledger.specs.Own.{closes_of}
 use Rattle.res_ledger.proofs.Noted.{flat_holds, notes_own, own_notes}
-use Rattle.scope_tree.specs.Calls.{Closes, IsOpenScope, Seen}
+use Rattle.scope_tree.specs.Calls.{ClosesScope, IsOpenScope, Seen}
 use Rattle.scope_tree.specs.Released.{said}
 use Rattle.scope_tree.specs.Words.{words}
 use Rattle.scope_tree.proofs.Grown.{closes_finals}
@@ -20,7 +20,7 @@ use Rattle.scope_tree.proofs.Use.{closed_said}
 same_close : (m s : ℕ) (y e : Exit) → Close m y ≡ Close s e → (m ≡ s) × (y ≡ e)
 same_close m s y e i = (cc, cc)
 
-module _ {P : Type 0} {ends : P → Exit → Bool → P → Type 0} {a b : Seen P} {s : ℕ} {e : Exit} (c : Closes ends a s e b) where
+module _ {P : Type 0} {ends : P → Exit → Bool → P → Type 0} {a b : Seen P} {s : ℕ} {e : Exit} (c : ClosesScope ends a s e b) where
   -- a Close that stands there now stood there before, or is this one
   pub known_close : (m : ℕ) (y : Exit) → Notes b.seat.events b.seat.by (Close m y) → Notes a.seat.events a.seat.by (Close m y) ⊎ ((m ≡ s) × (y ≡ e))
   known_close m y n =

@@ -24,7 +24,7 @@ use Rattle.scope_tree.proofs.Follows.{LetGo, let_go}
 use Rattle.scope_tree.proofs.Lists.{keep_row, lose_row}
 use Rattle.scope_tree.proofs.Once.{gone_without, once_without}
 use Rattle.scope_tree.proofs.Owning.{finished_open, owner_pays}
-use Rattle.pull_stepper.specs.Held.{Finishes, closed_as}
+use Rattle.pull_stepper.specs.Held.{FinishesDevice, closed_as}
 use Rattle.pull_stepper.specs.Sites.{IsSpent, pay_in, pays, told_or}
 use Rattle.pull_stepper.proofs.Payloads.{pay_back, pay_front, pay_here, pay_left, pay_once, pay_past, pay_right, pay_without, pays_append}
 use Rattle.pull_stepper.proofs.Tellings.{IsSameOrShut, shut_then}
@@ -102,18 +102,18 @@ module _ {V : Type 0} where
           bare_noted v (finalized e u y n) z (λ j s i. apart i refl) (ap (λ t. t.by) g.same) (ap (λ t. t.events ++ z ∷ []) g.same) (λ q h. (h.0, less_open v u y n l q h.0 h.1)) b
 
       -- each device that ended was opened, and closed with this exit
-      pub ended_spent : {T : List ℕ} {v w : View V} {ys : List (Spent V)} (y : Spent V) → Released (Finishes told) e owner T v ys w → HasOpen told v → IsAmong y ys → IsSpent (told y.pay) y.exit y.ok
+      pub ended_spent : {T : List ℕ} {v w : View V} {ys : List (Spent V)} (y : Spent V) → Released (FinishesDevice told) e owner T v ys w → HasOpen told v → IsAmong y ys → IsSpent (told y.pay) y.exit y.ok
       ended_spent y t o i =
           let a = owner_pays y t i in
           subst (λ x. IsSpent (told y.pay) x y.ok) (sym a.2) (closed_spent e a.0 y.pay y.ok (o y.row a.0 a.1) (a.3.closed (o y.row a.0 a.1)))
 
-      pub ended_bare : {T : List ℕ} {v w : View V} {ys : List (Spent V)} → Released (Finishes told) e owner T v ys w → IsBare v → IsBare w
+      pub ended_bare : {T : List ℕ} {v w : View V} {ys : List (Spent V)} → Released (FinishesDevice told) e owner T v ys w → IsBare v → IsBare w
       ended_bare (done v) b = b
       ended_bare (stays v u r l t) b = absurd (b l.3.1.0 r (l.0, l.1) l.3.1.1.0)
       ended_bare (ends_so v u y n l f t) b = ended_bare t (bare_next v u y n l b)
 
       -- each row that was open is open or ended
-      pub open_or_ended : {T : List ℕ} {v w : View V} {ys : List (Spent V)} (q : ℕ) → Released (Finishes told) e owner T v ys w → IsBare v → HasRow v.opened q → HasRow w.opened q ⊎ ((y : Spent V) × IsAmong y ys × (y.row ≡ q))
+      pub open_or_ended : {T : List ℕ} {v w : View V} {ys : List (Spent V)} (q : ℕ) → Released (FinishesDevice told) e owner T v ys w → IsBare v → HasRow v.opened q → HasRow w.opened q ⊎ ((y : Spent V) × IsAmong y ys × (y.row ≡ q))
       open_or_ended q (done v) b h = inl h
       open_or_ended q (stays v u r l t) b h = absurd (b l.3.1.0 r (l.0, l.1) l.3.1.1.0)
       open_or_ended q (ends_so {ys = ys} v u y n l f t) b h =
@@ -124,7 +124,7 @@ module _ {V : Type 0} where
           (cases_eq q y.row)
 
       -- each device tells what it told, or was closed with this exit
-      pub ended_told : {T : List ℕ} {v w : View V} {ys : List (Spent V)} (q : ℕ) (old : List (Spent V)) → Released (Finishes told) e owner T v ys w → IsBare v → HasOpen told v → Once v.opened → ((r : ℕ) → HasRow v.opened r → ¬ (HasRow (pays old) r))
+      pub ended_told : {T : List ℕ} {v w : View V} {ys : List (Spent V)} (q : ℕ) (old : List (Spent V)) → Released (FinishesDevice told) e owner T v ys w → IsBare v → HasOpen told v → Once v.opened → ((r : ℕ) → HasRow v.opened r → ¬ (HasRow (pays old) r))
           → IsSameOrShut e (told_or told (pay_in q (v.opened ++ pays old))) (told_or told (pay_in q (w.opened ++ pays (old ++ ys))))
       ended_told q old (done v) b o k n = inl (ap (λ l. told_or told (pay_in q (v.opened ++ pays l))) (append-nil old))
       ended_told q old (stays v u r l t) b o k n = absurd (b l.3.1.0 r (l.0, l.1) l.3.1.1.0)

@@ -15,8 +15,8 @@ use Rattle.res_ledger.proofs.Noted.{notes_closes}
 use Rattle.row_seat.specs.declared.view.View.{View}
 use Rattle.row_seat.specs.Views.{noted}
 use Rattle.scope_tree.specs.declared.branch.Branch.{Branch}
-use Rattle.scope_tree.specs.declared.branch.Held.{Held}
-use Rattle.scope_tree.specs.Calls.{IsOpenScope, Opens, Seen, used}
+use Rattle.scope_tree.specs.declared.branch.AcquiredRow.{AcquiredRow}
+use Rattle.scope_tree.specs.Calls.{IsOpenScope, OpensScope, Seen, used}
 use Rattle.scope_tree.specs.Kept.{Kept}
 use Rattle.res_ledger.specs.Order.{firsts}
 use Rattle.scope_tree.specs.Rows.{strangers}
@@ -37,10 +37,10 @@ open_under : (c p d q : ℕ) → Open c p ≡ Open d q → p ≡ q
 open_under c p d q e = cc
 
 -- where a scope is open, so is the root
-pub root_open : {V : Type 0} (v : View V) (bs : List Branch) (hs : List Held) (k : Kept v bs hs) (s : ℕ) → IsUsable v.events v.by s → ¬ (IsClosed v.events v.by 0)
+pub root_open : {V : Type 0} (v : View V) (bs : List Branch) (hs : List AcquiredRow) (k : Kept v bs hs) (s : ℕ) → IsUsable v.events v.by s → ¬ (IsClosed v.events v.by 0)
 root_open v bs hs k s u c = u.1 (c.0, within_trans (under_root v bs hs k s s (omega arith) (usable_scope v bs hs k s u)) c.1, c.2)
 
-module _ {V : Type 0} (told : V → DeviceTold) (x : Site V) (at n : ℕ) (bs : List Branch) (hs : List Held) (k : Kept x.tree.seat bs hs) (order : InOrder told x) (u : IsOpenScope x.tree at) (free : owed x.tree.seat + 2 ≤ x.tree.seat.spare) where
+module _ {V : Type 0} (told : V → DeviceTold) (x : Site V) (at n : ℕ) (bs : List Branch) (hs : List AcquiredRow) (k : Kept x.tree.seat bs hs) (order : InOrder told x) (u : IsOpenScope x.tree at) (free : owed x.tree.seat + 2 ≤ x.tree.seat.spare) where
   -- the tree with a scope more
   abbrev after : Seen V
   after = record x.tree { seat = noted x.tree.seat (opening x.tree.seat (length bs) at n) }
@@ -101,7 +101,7 @@ module _ {V : Type 0} (told : V → DeviceTold) (x : Site V) (at n : ℕ) (bs : 
       }
 
 -- a scope of this number was opened in an open scope
-module _ {V : Type 0} (told : V → DeviceTold) (ends : V → Exit → Bool → V → Type 0) (x : Site V) (b : Seen V) (at c : ℕ) (bs : List Branch) (hs : List Held) (k : Kept x.tree.seat bs hs) (order : InOrder told x) (u : IsOpenScope x.tree at) (free : owed x.tree.seat + 2 ≤ x.tree.seat.spare) (o : Opens x.tree at c b) where
+module _ {V : Type 0} (told : V → DeviceTold) (ends : V → Exit → Bool → V → Type 0) (x : Site V) (b : Seen V) (at c : ℕ) (bs : List Branch) (hs : List AcquiredRow) (k : Kept x.tree.seat bs hs) (order : InOrder told x) (u : IsOpenScope x.tree at) (free : owed x.tree.seat + 2 ≤ x.tree.seat.spare) (o : OpensScope x.tree at c b) where
   number : c ≡ length bs
   number = let n = ap length k.mirrors.opens in let m = length_marks bs k.mirrors.size in let i = o.number in omega (n, m, i, arith)
 

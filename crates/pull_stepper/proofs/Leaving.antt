@@ -5,7 +5,7 @@ use Rattle.chunk_core.specs.Lists.{IsAmong}
 use Rattle.chunk_core.proofs.Members.{among_left}
 use Rattle.chunk_core.proofs.Filters.{among_append, among_right}
 use Rattle.device_port.specs.Device.{DeviceTold}
-use Rattle.pull_turns.specs.Around.{Affords, IsClosedWith, Keeps, Leaves, gist}
+use Rattle.pull_turns.specs.Around.{Affords, IsClosedWith, Keeps, LeavesScope, gist}
 use Rattle.res_ledger.specs.Ledger.{IsClosed, LiesWithin}
 use Rattle.res_ledger.specs.Order.{firsts}
 use Rattle.res_ledger.specs.Own.{rows}
@@ -13,8 +13,8 @@ use Rattle.res_ledger.proofs.Apart.{apart}
 use Rattle.res_ledger.proofs.Noted.{notes_opens, opens_notes}
 use Rattle.row_seat.specs.Views.{HasRow}
 use Rattle.scope_tree.specs.declared.branch.Branch.{Branch}
-use Rattle.scope_tree.specs.declared.branch.Held.{Held}
-use Rattle.scope_tree.specs.Calls.{Closes, IsOpenScope, Seen, used}
+use Rattle.scope_tree.specs.declared.branch.AcquiredRow.{AcquiredRow}
+use Rattle.scope_tree.specs.Calls.{ClosesScope, IsOpenScope, Seen, used}
 use Rattle.scope_tree.specs.Kept.{Kept, Shelved}
 use Rattle.scope_tree.specs.Kids.{whole}
 use Rattle.scope_tree.specs.Released.{Released, said}
@@ -36,7 +36,7 @@ use Rattle.scope_tree.proofs.Walking.{above_le, within_stands}
 use Rattle.tree_laws.proofs.Alone.{calls_alone}
 use Rattle.tree_laws.specs.Laws.{CallsStayAlone}
 use Rattle.tree_laws.specs.Called.Called.{none, closed}
-use Rattle.pull_stepper.specs.Held.{Finishes}
+use Rattle.pull_stepper.specs.Held.{FinishesDevice}
 use Rattle.pull_stepper.specs.Sites.{InOrder, Since, Site, around, pay_in, pay_of, pays, slot, told_at, told_or}
 use Rattle.pull_stepper.proofs.Closing.{close_noted, closed_as, known_close}
 use Rattle.pull_stepper.proofs.Ending.{HasOpen, IsBare, bare_noted, ended_bare, ended_spent, ended_told, open_or_ended}
@@ -50,7 +50,7 @@ under_le : (bs : List Branch) (s t : ℕ) → ((c : ℕ) (d : Branch) → 1 ≤ 
 under_le bs s t f self = omega arith
 under_le bs s t f (child c p one l sh pa u) = let d : Branch = record { parent = 0; shut = false } in let q = f c d one l in let e = pa d in let i = under_le bs s p f u in omega (q, e, i, arith)
 
-module _ {V : Type 0} (told : V → DeviceTold) (once : (d : V) → (told d).is_open ≡ true → ((told d).opens ≡ 1) × ((told d).closes ≡ 0) × ((told d).close_faults ≡ 0)) (x : Site V) (b : Seen V) (s : ℕ) (e : Exit) (bs : List Branch) (hs : List Held) (k : Kept x.tree.seat bs hs) (shelved : Shelved x.tree.seat hs x.tree.shelf) (order : InOrder told x) (u : IsOpenScope x.tree s) (c : Closes (Finishes told) x.tree s e b) where
+module _ {V : Type 0} (told : V → DeviceTold) (once : (d : V) → (told d).is_open ≡ true → ((told d).opens ≡ 1) × ((told d).closes ≡ 0) × ((told d).close_faults ≡ 0)) (x : Site V) (b : Seen V) (s : ℕ) (e : Exit) (bs : List Branch) (hs : List AcquiredRow) (k : Kept x.tree.seat bs hs) (shelved : Shelved x.tree.seat hs x.tree.shelf) (order : InOrder told x) (u : IsOpenScope x.tree s) (c : ClosesScope (FinishesDevice told) x.tree s e b) where
   shut_bare : IsBare (shutting x.tree.seat s e c.stamp)
   shut_bare = bare_noted x.tree.seat (shutting x.tree.seat s e c.stamp) (closing x.tree.seat s e c.stamp) (λ j t i. apart i refl) refl refl (λ r h. h) order.bare
 
@@ -61,8 +61,8 @@ module _ {V : Type 0} (told : V → DeviceTold) (once : (d : V) → (told d).is_
   kept_scope : s < length bs
   kept_scope = usable_scope x.tree.seat bs hs k s u
 
-  closed_whole : Released (Finishes told) e owner (whole bs hs s) (shutting x.tree.seat s e c.stamp) c.torn.0 b.seat
-  closed_whole = subst (λ T. Released (Finishes told) e owner T (shutting x.tree.seat s e c.stamp) c.torn.0 b.seat) (sym (whole_is x.tree.seat bs hs k s kept_scope)) c.torn.2
+  closed_whole : Released (FinishesDevice told) e owner (whole bs hs s) (shutting x.tree.seat s e c.stamp) c.torn.0 b.seat
+  closed_whole = subst (λ T. Released (FinishesDevice told) e owner T (shutting x.tree.seat s e c.stamp) c.torn.0 b.seat) (sym (whole_is x.tree.seat bs hs k s kept_scope)) c.torn.2
 
   was_in : (y : ℕ × V) → IsAmong y b.seat.opened → IsAmong y x.tree.seat.opened
   was_in y m = (close_follows c).opened y m
@@ -168,7 +168,7 @@ module _ {V : Type 0} (told : V → DeviceTold) (once : (d : V) → (told d).is_
       o.1 (shut.0, within_trans now shut.1, shut.2)
 
   -- each scope lies within the root
-  module _ (bs' : List Branch) (hs' : List Held) (k' : Kept b.seat bs' hs') where
+  module _ (bs' : List Branch) (hs' : List AcquiredRow) (k' : Kept b.seat bs' hs') where
     root_shut : s ≡ 0 → (m : ℕ) → IsOpenScope b m → ⊥
     root_shut i m o =
         let shut : IsClosed b.seat.events b.seat.by 0 = subst (λ z. IsClosed b.seat.events b.seat.by z) i (closed_now c) in
@@ -181,7 +181,7 @@ module _ {V : Type 0} (told : V → DeviceTold) (once : (d : V) → (told d).is_
         let i : t.0 ≡ m = one_scope q t.0 m hs' k'.mirrors.distinct (subst (λ l. IsAmong (q, t.0) l) k'.mirrors.rows t.1) (subst (λ l. IsAmong (q, m) l) (sym left_rows ∙ k'.mirrors.rows) h.0) in
         subst (λ z. IsOpenScope b z) i t.2
 
-    pub left_leaves : Shelved b.seat hs' b.shelf → Leaves (around told x) s e (around told (record x { tree = b }))
+    pub left_leaves : Shelved b.seat hs' b.shelf → LeavesScope (around told x) s e (around told (record x { tree = b }))
     left_leaves shelved' = record {
       told = left_gist;
       keeps = left_keeps;
@@ -198,10 +198,10 @@ module _ {V : Type 0} (told : V → DeviceTold) (once : (d : V) → (told d).is_
       affords = left_affords;
     }
 
-  pub left_since : Since told (Finishes told) x (record x { tree = b })
+  pub left_since : Since told (FinishesDevice told) x (record x { tree = b })
   left_since = record {
     calls = closed x.tree b s e none u c;
-    alone = (let t : CallsStayAlone (Finishes told) = calls_alone in t.closes x.tree b s e c);
+    alone = (let t : CallsStayAlone (FinishesDevice told) = calls_alone in t.closes x.tree b s e c);
     shelf = λ y m. ⊎_elim
         (λ i. inl i)
         (λ i. let a = owner_pays y c.torn.2 i in inr (slot_place y.row x.from None x.slots (order.places y.row (a.0, a.1))))

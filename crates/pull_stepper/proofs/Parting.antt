@@ -10,7 +10,7 @@ use Rattle.res_ledger.specs.Order.{firsts}
 use Rattle.res_ledger.specs.Own.{is_closed}
 use Rattle.row_seat.specs.declared.view.View.{View}
 use Rattle.scope_tree.specs.declared.branch.Branch.{Branch}
-use Rattle.scope_tree.specs.declared.branch.Held.{Held}
+use Rattle.scope_tree.specs.declared.branch.AcquiredRow.{AcquiredRow}
 use Rattle.scope_tree.specs.declared.branch.Spent.{Spent}
 use Rattle.scope_tree.specs.Kept.{Kept}
 use Rattle.scope_tree.specs.Rows.{Once}
@@ -26,7 +26,7 @@ use Rattle.chunk_core.proofs.Distinct.{distinct_head, distinct_nil, distinct_tai
 use Rattle.scope_tree.proofs.Once.{once_cons}
 
 -- a tree whose root isn't open has closed it
-pub root_closed : {P : Type 0} (v : View P) (bs : List Branch) (hs : List Held) → Kept v bs hs → (IsUsable v.events v.by 0 → ⊥) → IsClosed v.events v.by 0
+pub root_closed : {P : Type 0} (v : View P) (bs : List Branch) (hs : List AcquiredRow) → Kept v bs hs → (IsUsable v.events v.by 0 → ⊥) → IsClosed v.events v.by 0
 root_closed v bs hs k shut = by (is_closed (words v) 0) refl
   where
     by : (b : Bool) → is_closed (words v) 0 ≡ b → IsClosed v.events v.by 0

@@ -5,7 +5,7 @@ use Rattle.std.proofs.lemmas.Bool.{cases_eq}
 use Rattle.chunk_core.specs.declared.code.Exit.{Exit}
 use Rattle.chunk_core.specs.Lists.{IsAmong}
 use Rattle.device_port.specs.Device.{DeviceTold, moved}
-use Rattle.pull_turns.specs.Around.{Affords, Fails, Gives, Keeps, gist}
+use Rattle.pull_turns.specs.Around.{Affords, FailsToRead, GivesPiece, Keeps, gist}
 use Rattle.row_seat.specs.declared.view.View.{View}
 use Rattle.row_seat.specs.Views.{HasRow, paid, with_row}
 use Rattle.scope_tree.specs.Rows.{Once}
@@ -88,7 +88,7 @@ unread_same d e h = subst (λ t. SameDevice d t) (sym h) (record { number = refl
 
 module _ {V : Type 0} (told : V → DeviceTold) (ends : V → Exit → Bool → V → Type 0) (x : Site V) (p : ℕ) (d e : V) (once : Once x.tree.seat.opened) (order : InOrder told x) (held : IsAmong (p, d) x.tree.seat.opened) where
   module _ (n : ℕ) (buf : List ℕ) (h : told e ≡ moved n (told d)) where
-    pub gives : n ≤ length buf → IfSome (told d).content (λ c. take n buf ≡ take n (drop (told d).at c)) → (n ≡ 0 → IfSome (told d).content (λ c. length c ≤ (told d).at)) → Gives (around told x) p n buf (around told (changed told ends x p d e once order held (ap (λ t. t.is_open) h) (read_same (told d) (told e) n h)))
+    pub gives : n ≤ length buf → IfSome (told d).content (λ c. take n buf ≡ take n (drop (told d).at c)) → (n ≡ 0 → IfSome (told d).content (λ c. length c ≤ (told d).at)) → GivesPiece (around told x) p n buf (around told (changed told ends x p d e once order held (ap (λ t. t.is_open) h) (read_same (told d) (told e) n h)))
     gives count bytes end =
         let o = ap (λ t. t.is_open) h in let s = read_same (told d) (told e) n h in
         let before = told_before told x p d once order held in record {
@@ -102,7 +102,7 @@ module _ {V : Type 0} (told : V → DeviceTold) (ends : V → Exit → Bool → 
         }
 
   module _ (h : told e ≡ record (told d) { read_faults = (told d).read_faults + 1 }) where
-    pub fails : Fails (around told x) p (around told (changed told ends x p d e once order held (ap (λ t. t.is_open) h) (unread_same (told d) (told e) h)))
+    pub fails : FailsToRead (around told x) p (around told (changed told ends x p d e once order held (ap (λ t. t.is_open) h) (unread_same (told d) (told e) h)))
     fails =
         let o = ap (λ t. t.is_open) h in let s = unread_same (told d) (told e) h in record {
           told = told_after told ends x p d e once order held o s ∙ h ∙ ap (λ (t : DeviceTold). record t { read_faults = t.read_faults + 1 }) (sym (told_before told x p d once order held));
@@ -121,13 +121,13 @@ module _ {V : Type 0} (told : V → DeviceTold) (ends : V → Exit → Bool → 
   abbrev pub seated : View V → Site V
   seated w = record x { tree = record x.tree { seat = w } }
 
-  pub gives_if : {F : Type 0} (r : Result ℕ F) (buf : List ℕ) → IfOk r (λ n. n ≤ length buf) → IfOk r (λ n. told e ≡ moved n (told d)) → IfOk r (λ n. IfSome (told d).content (λ c. take n buf ≡ take n (drop (told d).at c))) → IfOk r (λ n. n ≡ 0 → IfSome (told d).content (λ c. length c ≤ (told d).at)) → IfOk r (λ n. Gives (around told x) p n buf (around told (seated v)))
-  gives_if (Ok n) buf count h bytes end = subst (λ w. Gives (around told x) p n buf (around told (seated w))) (sym is) (gives told ends x p d e once order held n buf h count bytes end)
+  pub gives_if : {F : Type 0} (r : Result ℕ F) (buf : List ℕ) → IfOk r (λ n. n ≤ length buf) → IfOk r (λ n. told e ≡ moved n (told d)) → IfOk r (λ n. IfSome (told d).content (λ c. take n buf ≡ take n (drop (told d).at c))) → IfOk r (λ n. n ≡ 0 → IfSome (told d).content (λ c. length c ≤ (told d).at)) → IfOk r (λ n. GivesPiece (around told x) p n buf (around told (seated v)))
+  gives_if (Ok n) buf count h bytes end = subst (λ w. GivesPiece (around told x) p n buf (around told (seated w))) (sym is) (gives told ends x p d e once order held n buf h count bytes end)
   gives_if (Err z) buf count h bytes end = tt
 
-  pub fails_if : {F : Type 0} (r : Result ℕ F) → OnErr r (told e ≡ record (told d) { read_faults = (told d).read_faults + 1 }) → OnErr r (Fails (around told x) p (around told (seated v)))
+  pub fails_if : {F : Type 0} (r : Result ℕ F) → OnErr r (told e ≡ record (told d) { read_faults = (told d).read_faults + 1 }) → OnErr r (FailsToRead (around told x) p (around told (seated v)))
   fails_if (Ok n) h = tt
-  fails_if (Err z) h = subst (λ w. Fails (around told x) p (around told (seated w))) (sym is) (fails told ends x p d e once order held h)
+  fails_if (Err z) h = subst (λ w. FailsToRead (around told x) p (around told (seated w))) (sym is) (fails told ends x p d e once order held h)
 
   pub seated_order : ((told e).is_open ≡ (told d).is_open) × SameDevice (told d) (told e) → InOrder told (seated v)
   seated_order t = subst (λ w. InOrder told (seated w)) (sym is) (changed_order told ends x p d e once order held t.0 t.1)

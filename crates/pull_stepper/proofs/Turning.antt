@@ -8,7 +8,7 @@ use Rattle.device_port.specs.Device.{DeviceTold}
 use Rattle.pull_turns.specs.Around.{Around, IsClosedWith}
 use Rattle.pull_turns.specs.Led.{ComesWithin, GoesOnFor, Turns, Uncons}
 use Rattle.pull_turns.specs.Moves.{how_of}
-use Rattle.pull_turns.specs.Piping.{Standing}
+use Rattle.pull_turns.specs.Piping.{StateMeaning}
 use Rattle.pull_turns.specs.Sizes.{HasNoPipe, Sized, given, given_first}
 use Rattle.pull_turns.specs.Turned.{GoesOn, Moved, Spends, SpendsWithin}
 use Rattle.pull_turns.specs.declared.rest.Rest.{Rest}
@@ -18,7 +18,7 @@ use Rattle.pull_turns.specs.declared.turn.Turn.{Turn}
 use Rattle.pull_turns.specs.declared.turn.Turn.TheVariants as turn
 use Rattle.pull_turns.proofs.Led.{moved_tells}
 use Rattle.pull_stepper.specs.Sites.{Site, around}
-use Rattle.pull_stepper.specs.Stepping.{Halts, IsOver, Leaves, Stepping, Steps, Unconses, Wants, stopped_by}
+use Rattle.pull_stepper.specs.Stepping.{Halts, IsOver, LeavesItRunning, Stepping, Steps, Unconses, Wants, stopped_by}
 
 -- a turn that goes on is no end
 runs_on : (t : Turn) → GoesOn t → how_of t ≡ None
@@ -27,7 +27,7 @@ runs_on turn.Quiet g = refl
 runs_on turn.Done g = absurd g
 runs_on (turn.Fault c) g = absurd g
 
-module _ {F : Type 0} (P : Standing F) {O Q : Type 0} (view : O → Q) (seen : Q → Around) (n : ℕ) where
+module _ {F : Type 0} (P : StateMeaning F) {O Q : Type 0} (view : O → Q) (seen : Q → Around) (n : ℕ) where
   -- the states between the turns, as they are seen
   goes_on_seen : (k : ℕ) (a b : O) (old new : Rest F) (loads : List Load) → GoesOnFor P (λ o. seen (view o)) n k a old b new loads → GoesOnFor P seen n k (view a) old (view b) new loads
   goes_on_seen zero a b old new loads h = (ap view h.0, h.1, h.2)
@@ -41,7 +41,7 @@ module _ {F : Type 0} (P : Standing F) {O Q : Type 0} (view : O → Q) (seen : Q
   uncons_seen k a b old new how (End e) h = (h.0, h.1, h.2, h.3, h.4, (h.5.0, h.5.1, within_seen k a b old new h.5.0 h.5.2))
   uncons_seen k a b old new how Again h = (goes_on_seen k a b old new [] h.0, h.1, h.2, h.3)
 
-module _ {V F : Type 0} (P : Standing F) (told : V → DeviceTold) (a b : Stepping V F) (chunk : b.chunk ≡ a.chunk) (some : 0 < a.chunk) where
+module _ {V F : Type 0} (P : StateMeaning F) (told : V → DeviceTold) (a b : Stepping V F) (chunk : b.chunk ≡ a.chunk) (some : 0 < a.chunk) where
   still : 0 < b.chunk
   still = omega (arith, chunk, some)
 
@@ -57,7 +57,7 @@ module _ {V F : Type 0} (P : Standing F) (told : V → DeviceTold) (a b : Steppi
   }
   steps_by (Err e) turns sized how sound = tt
 
-  leaves_by : (k : ℕ) (u : Unconsed) → Uncons P (around told) a.chunk k a.site b.site a.rest b.rest b.how u → b.wanting ≡ false → Leaves P told u b
+  leaves_by : (k : ℕ) (u : Unconsed) → Uncons P (around told) a.chunk k a.site b.site a.rest b.rest b.how u → b.wanting ≡ false → LeavesItRunning P told u b
   leaves_by k (Chunk l) h sound = record { how = h.1; memory = sound; chunk = still; step = h.2 }
   leaves_by k (End e) h sound = (h.0, h.1, h.2)
   leaves_by k Again h sound = record { how = h.1; memory = sound; chunk = still; step = h.2 }

@@ -10,8 +10,8 @@ use Rattle.tree_laws.specs.Called.Called.{none}
 use Rattle.tree_laws.proofs.Alone.{alone_same, alone_then}
 use Rattle.tree_laws.proofs.Follows.{called_then}
 use Rattle.pull_stepper.specs.declared.resources.Resources.{Resources}
-use Rattle.pull_stepper.specs.Held.{Finishes}
-use Rattle.pull_stepper.specs.Resources.{Later, seen, site}
+use Rattle.pull_stepper.specs.Held.{FinishesDevice}
+use Rattle.pull_stepper.specs.Resources.{Later, around_of, site}
 use Rattle.pull_stepper.specs.Sites.{Since, Site, pay_of, told_by}
 
 module _ {V : Type 0} (told : V → DeviceTold) (ends : V → Exit → Bool → V → Type 0) where
@@ -41,17 +41,17 @@ module _ {V : Type 0} (told : V → DeviceTold) (ends : V → Exit → Bool → 
   }
 
 -- a device that waits was never asked
-pub waits_untried : {S V D : Type 0} (view : S → View V) (told : V → DeviceTold) (o : Resources S V V D) (p : ℕ) → (seen view told o).waits p → IsUntried ((seen view told o).told p)
+pub waits_untried : {S V D : Type 0} (view : S → View V) (told : V → DeviceTold) (o : Resources S V V D) (p : ℕ) → (around_of view told o).waits p → IsUntried ((around_of view told o).told p)
 waits_untried view told o p w = subst (λ s. IsUntried (told_by told s (pay_of (site view o).tree p))) (sym w.1) (record { opens = w.2.opens; open_faults = w.2.open_faults })
 
 module _ {S V D : Type 0} (view : S → View V) (told : V → DeviceTold) (fits : S → D → Type 0) where
   -- nothing was done
   pub later_same : (a : Resources S V V D) (d : D) → Later view told fits a d a d
-  later_same a d = record { since = since_same told (Finishes told) _; others = λ o n f. f }
+  later_same a d = record { since = since_same told (FinishesDevice told) _; others = λ o n f. f }
 
   -- one stretch after the other
   pub later_then : (a b c : Resources S V V D) (d e f : D) → Later view told fits a d b e → Later view told fits b e c f → Later view told fits a d c f
   later_then a b c d e f h i = record {
-    since = since_then told (Finishes told) _ _ _ h.since i.since;
+    since = since_then told (FinishesDevice told) _ _ _ h.since i.since;
     others = λ o n t. i.others o (λ q. n (q ∙ h.since.alone.by)) (h.others o n t);
   }

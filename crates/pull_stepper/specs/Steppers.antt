@@ -3,7 +3,7 @@ use Rattle.std.specs.Prelude.{◌≡◌, ◌≤◌, [], vec_len, vec_capacity}
 use Rattle.device_port.specs.Device.{DeviceTold}
 use Rattle.row_seat.specs.declared.view.View.{View}
 use Rattle.pull_stepper.specs.declared.stepper.Stepper.{Stepper}
-use Rattle.pull_stepper.specs.Resources.{Stands, site}
+use Rattle.pull_stepper.specs.Resources.{AreInOrder, site}
 use Rattle.pull_stepper.specs.Stepping.{Stepping}
 
 module _ {S V F D : Type 0} (view : S → View V) where
@@ -19,6 +19,6 @@ module _ {S V F D : Type 0} (view : S → View V) where
 
   -- its tree fits the desk, its devices are in order, and there is room to give them back
   pub record Works (told : V → DeviceTold) (fits : S → D → Type 0) (s : Stepper S V F V D) (d : D) : Type 0 where
-    pub stands : Stands view told fits s.runner.outside d
+    pub stands : AreInOrder view told fits s.runner.outside d
     pub empty : s.room.items ≡ []
     pub enough : vec_len s.runner.outside.slots ≤ vec_capacity s.room

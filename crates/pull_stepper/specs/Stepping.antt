@@ -8,14 +8,14 @@ use Rattle.chunk_core.specs.declared.code.Span.{Span}
 use Rattle.chunk_core.specs.Lists.{IsAmong}
 use Rattle.chunk_core.specs.Outcomes.{exit_of}
 use Rattle.device_port.specs.Device.{DeviceTold}
-use Rattle.pull_nodes.specs.Kinds.{kind_of}
+use Rattle.pull_nodes.specs.Kinds.{node_kind}
 use Rattle.pull_nodes.specs.Placed.{is_placed}
 use Rattle.pull_nodes.specs.Shape.{node_count, places_of, scope_count}
 use Rattle.pull_nodes.specs.declared.node.Node.{Node}
 use Rattle.pull_turns.specs.Around.{Affords, IsClosedWith}
-use Rattle.pull_turns.specs.Led.{IsShut, Tells, Turns, Uncons}
+use Rattle.pull_turns.specs.Led.{IsShut, TouchesOnly, Turns, Uncons}
 use Rattle.pull_turns.specs.Moves.{how_of}
-use Rattle.pull_turns.specs.Piping.{Standing}
+use Rattle.pull_turns.specs.Piping.{StateMeaning}
 use Rattle.pull_turns.specs.Rest.{CanStep}
 use Rattle.pull_turns.specs.Sizes.{HasNoPipe, Sized, given, given_first}
 use Rattle.pull_turns.specs.Turned.{GoesOn, Spends, SpendsWithin}
@@ -75,7 +75,7 @@ module _ {V : Type 0} where
 
   -- each place of the node has one device, which nothing was done with, and is acquired once and read once; each pipe takes what comes to it
   pub record IsSupplied (told : V → DeviceTold) (n : Node) (devices : List V) : Type 0 where
-    pub kind : IsSome (kind_of n)
+    pub kind : IsSome (node_kind n)
     pub few : node_count n < 2 ^ 32
     pub placed : is_placed (span_of n (length devices)) n ≡ true
     pub count : length devices ≡ length (places_of n)
@@ -86,7 +86,7 @@ abbrev pub stopped_by : Bool → How
 stopped_by true = how.Memory
 stopped_by false = how.Halted
 
-module _ {V F : Type 0} (P : Standing F) (told : V → DeviceTold) where
+module _ {V F : Type 0} (P : StateMeaning F) (told : V → DeviceTold) where
   -- turns may be made
   pub record CanGo (a : Stepping V F) : Type 0 where
     pub how : a.how ≡ None
@@ -103,17 +103,17 @@ module _ {V F : Type 0} (P : Standing F) (told : V → DeviceTold) where
     pub chunk : b.chunk ≡ a.chunk
 
   -- whether turns may be made after it
-  abbrev pub Leaves : Unconsed → Stepping V F → Type 0
-  Leaves (unconsed.Chunk l) b = CanGo b
-  Leaves (unconsed.End h) b = (b.how ≡ Some h) × IsShut (around told b.site) × IsClosedWith (around told b.site) 0 (exit_of h)
-  Leaves unconsed.Again b = CanGo b
+  abbrev pub LeavesItRunning : Unconsed → Stepping V F → Type 0
+  LeavesItRunning (unconsed.Chunk l) b = CanGo b
+  LeavesItRunning (unconsed.End h) b = (b.how ≡ Some h) × IsShut (around told b.site) × IsClosedWith (around told b.site) 0 (exit_of h)
+  LeavesItRunning unconsed.Again b = CanGo b
 
   -- turns were made to the first load or the end, but not more than n; where neither came, n turns were made, and each was quiet
   pub record Unconses (n : ℕ) (a b : Stepping V F) (u : Unconsed) : Type 0 where
     pub first : Uncons P (around told) a.chunk n a.site b.site a.rest b.rest b.how u
     pub sized : HasNoPipe a.rest → Sized a.chunk a.rest b.rest (given_first u)
     pub spends : Spends (around told a.site) (around told b.site) a.rest b.rest
-    pub leaves : Leaves u b
+    pub leaves : LeavesItRunning u b
     pub chunk : b.chunk ≡ a.chunk
 
 module _ {V F : Type 0} (told : V → DeviceTold) where
@@ -129,7 +129,7 @@ module _ {V F : Type 0} (told : V → DeviceTold) where
     pub memory : b.wanting ≡ true
     pub how : b.how ≡ None
     pub root : IsOpenScope b.site.tree 0
-    pub tells : Tells (told_at told a.site) (told_at told b.site) a.rest
+    pub tells : TouchesOnly (told_at told a.site) (told_at told b.site) a.rest
     pub spends : SpendsWithin (around told a.site) (around told b.site) a.rest
 
   -- it was stopped, and the root was closed as canceled
@@ -137,11 +137,11 @@ module _ {V F : Type 0} (told : V → DeviceTold) where
     pub how : b.how ≡ Some (stopped_by a.wanting)
     pub shut : IsShut (around told b.site)
     pub exit : IsClosedWith (around told b.site) 0 exit.Canceled
-    pub tells : Tells {F = F} (told_at told a.site) (told_at told b.site) rest.Nil
+    pub tells : TouchesOnly {F = F} (told_at told a.site) (told_at told b.site) rest.Nil
     pub affords : Affords (around told a.site) (around told b.site)
 
   -- the root is closed, each Close of it has the exit of the end, and each device was never opened and comes back, or stands on the shelf, where no row stands twice
-  pub record Ends (a : Stepping V F) (left : Seen V) (h : How) (unopened : List V) : Type 0 where
+  pub record StepperEnds (a : Stepping V F) (left : Seen V) (h : How) (unopened : List V) : Type 0 where
     pub tree : left ≡ a.site.tree
     pub how : a.how ≡ Some h
     pub root : IsClosedScope left 0

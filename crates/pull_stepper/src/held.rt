@@ -45,9 +45,9 @@ impl<V> Held<V> {
 }
 
 impl<V: Device> Finish for Held<V> {
-    ghost use Rattle.pull_stepper.specs.Held.{Finishes};
+    ghost use Rattle.pull_stepper.specs.Held.{FinishesDevice};
 
-    ghost ends = { Finishes V.told };
+    ghost ends = { FinishesDevice V.told };
 
     fn finish(&mut self, exit: Exit) -> bool {
         if !self.device.is_open() {

@@ -16,13 +16,13 @@ pub struct Resources<S: RowSeat, V> {
 
 impl<V: Device, S: RowSeat<Pay = Held<V>>> Outside for Resources<S, V> {
     ghost use Rattle.pull_stepper.specs.Laws.{later_same, later_then, waits_untried};
-    ghost use Rattle.pull_stepper.specs.Resources.{Later, Stands, seen};
+    ghost use Rattle.pull_stepper.specs.Resources.{Later, AreInOrder, around_of};
 
     type Desk = S::Desk;
 
-    ghost seen = { seen S.view V.told };
+    ghost seen = { around_of S.view V.told };
 
-    ghost fits = { Stands S.view V.told S.fits };
+    ghost fits = { AreInOrder S.view V.told S.fits };
 
     ghost since = { Later S.view V.told S.fits };
 

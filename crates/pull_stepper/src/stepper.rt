@@ -4,8 +4,8 @@ ghost use Rattle.pull_turns.specs.Piping.{standing};
 ghost use Rattle.pull_turns.specs.Work.{Lessens};
 ghost use Rattle.row_seat.specs.Views.{OthersFit};
 ghost use Rattle.scope_tree.specs.Calls.{IsOpenScope};
-ghost use Rattle.scope_tree.specs.Trees.{Fits, IsSound, seen};
-ghost use Rattle.pull_stepper.specs.Held.{Finishes};
+ghost use Rattle.scope_tree.specs.Trees.{Fits, IsConsistent, seen};
+ghost use Rattle.pull_stepper.specs.Held.{FinishesDevice};
 ghost use Rattle.pull_stepper.specs.Sites.{Since};
 
 use crate::held::Held;
@@ -44,7 +44,7 @@ pub struct Ended<S: RowSeat, V> {
 
 impl<V: Device, S: RowSeat<Pay = Held<V>>, F: PipeState> Stepper<S, V, F> {
     ghost use Rattle.pull_stepper.specs.Steppers.{Works, stepping};
-    ghost use Rattle.pull_stepper.specs.Stepping.{CanGo, Ends, Halts, HasRoomFor, IsOver, IsSupplied, Steps, Unconses, Wants, begun};
+    ghost use Rattle.pull_stepper.specs.Stepping.{CanGo, StepperEnds, Halts, HasRoomFor, IsOver, IsSupplied, Steps, Unconses, Wants, begun};
 
     /// A node that is about to run in the root of the tree, with reads of at most `chunk` bytes. The
     /// devices are those of the node's places from the least on. Needs memory.
@@ -55,7 +55,7 @@ impl<V: Device, S: RowSeat<Pay = Held<V>>, F: PipeState> Stepper<S, V, F> {
         devices: List<V>,
         chunk: u32,
     ) -> Result<Stepper<S, V, F>, Unmade<S, V>>
-        requires tree { IsSound S.view tree }
+        requires tree { IsConsistent S.view tree }
         requires supplied { IsSupplied V.told node devices }
         requires room { HasRoomFor (seen S.view tree) node }
         requires chunk { 1 ≤ chunk }
@@ -85,7 +85,7 @@ impl<V: Device, S: RowSeat<Pay = Held<V>>, F: PipeState> Stepper<S, V, F> {
         ensures work { IfOk result (λ t. Lessens F.due (stepping S.view self.old).rest (stepping S.view self.new).rest t) }
         ensures wants { OnErr result (Wants V.told (stepping S.view self.old) (stepping S.view self.new)) }
         ensures fits { Works S.view V.told S.fits self.new desk.new }
-        ensures since { Since V.told (Finishes V.told) (stepping S.view self.old).site (stepping S.view self.new).site }
+        ensures since { Since V.told (FinishesDevice V.told) (stepping S.view self.old).site (stepping S.view self.new).site }
         ensures others { OthersFit S.view S.fits (stepping S.view self.old).site.tree.seat.by desk.old desk.new }
     {
         self.runner.turn(desk)
@@ -99,7 +99,7 @@ impl<V: Device, S: RowSeat<Pay = Held<V>>, F: PipeState> Stepper<S, V, F> {
         ensures first { IfOk result (λ u. Unconses (standing F.stands F.comes) V.told turns (stepping S.view self.old) (stepping S.view self.new) u) }
         ensures wants { OnErr result (Wants V.told (stepping S.view self.old) (stepping S.view self.new)) }
         ensures fits { Works S.view V.told S.fits self.new desk.new }
-        ensures since { Since V.told (Finishes V.told) (stepping S.view self.old).site (stepping S.view self.new).site }
+        ensures since { Since V.told (FinishesDevice V.told) (stepping S.view self.old).site (stepping S.view self.new).site }
         ensures others { OthersFit S.view S.fits (stepping S.view self.old).site.tree.seat.by desk.old desk.new }
     {
         self.runner.uncons(desk, turns)
@@ -119,7 +119,7 @@ impl<V: Device, S: RowSeat<Pay = Held<V>>, F: PipeState> Stepper<S, V, F> {
         requires root { IsOpenScope (stepping S.view self.old).site.tree 0 }
         ensures halts { Halts V.told (stepping S.view self.old) (stepping S.view self.new) }
         ensures fits { Works S.view V.told S.fits self.new desk.new }
-        ensures since { Since V.told (Finishes V.told) (stepping S.view self.old).site (stepping S.view self.new).site }
+        ensures since { Since V.told (FinishesDevice V.told) (stepping S.view self.old).site (stepping S.view self.new).site }
         ensures others { OthersFit S.view S.fits (stepping S.view self.old).site.tree.seat.by desk.old desk.new }
     {
         self.runner.halt(desk)
@@ -130,7 +130,7 @@ impl<V: Device, S: RowSeat<Pay = Held<V>>, F: PipeState> Stepper<S, V, F> {
     pub fn end(self) -> Ended<S, V>
         requires fits { (d : S.Desk) × Works S.view V.told S.fits self d }
         requires over { IsOver V.told (stepping S.view self) }
-        ensures ends { Ends V.told (stepping S.view self) (seen S.view result.tree) result.how result.unopened }
+        ensures ends { StepperEnds V.told (stepping S.view self) (seen S.view result.tree) result.how result.unopened }
         ensures fits { (d : S.Desk) → Works S.view V.told S.fits self d → Fits S.view S.fits result.tree d }
     {
         let Stepper { runner, mut room } = self;

@@ -17,8 +17,8 @@ use Rattle.pull_nodes.proofs.Beginnings.{part_of-nil}
 use Rattle.pull_nodes.proofs.Meanings.{meaning_is}
 use Rattle.pull_turns.specs.Around.{Around}
 use Rattle.pull_turns.specs.Moves.{load_or_quiet}
-use Rattle.pull_turns.specs.Passing.{IsFinished, after_fed, after_pipe, load_or_fault, same_or_faulty, turn_of_fed}
-use Rattle.pull_turns.specs.Piping.{Exactly, HasKind, PipedOn, PipesFit, Standing}
+use Rattle.pull_turns.specs.Passing.{PipeGaveMore, after_fed, after_pipe, load_or_fault, same_or_faulty, turn_of_fed}
+use Rattle.pull_turns.specs.Piping.{Exactly, HasKind, PipedOn, PipesFit, StateMeaning}
 use Rattle.pull_turns.specs.Rest.{CanStep}
 use Rattle.pull_turns.specs.Turned.{Leads, Turned}
 use Rattle.pull_turns.specs.Turned.HasFinished.{next, last}
@@ -33,7 +33,7 @@ use Rattle.pull_turns.proofs.Passed.{own_cause}
 use Rattle.pull_turns.proofs.Piped.{more_comes, some_piped}
 use Rattle.pull_turns.proofs.Turns.{cause_none, chunk_goes_on, done_is_no_fault, quiet_goes_on, turned_same}
 
-module _ {F : Type 0} (P : Standing F) (a : Around) (s n : ℕ) where
+module _ {F : Type 0} (P : StateMeaning F) (a : Around) (s n : ℕ) where
   pub faulty_step : (c : Code) → PipesFit P (Faulty c) → Turned P a a s n (Faulty c) (Faulty c) (turn.Fault c)
   faulty_step c fit = turned_same P a s n _ _ _ (λ p i. i) (omega arith) (omega arith) (omega arith) (λ g. absurd g) (λ g. absurd g) (λ k i. tt) (λ g. absurd g)
       (own_cause a.told a.told (Faulty c) c fit) (λ w o. inl (refl, refl))
@@ -104,7 +104,7 @@ module _ {F : Type 0} (P : Standing F) (a : Around) (s n : ℕ) where
     more_by fed.End f = end_step f
     more_by (fed.Fault o d) f = failed_step o d f (length (elements o)) refl
 
-    pub finishing_step : (u : Turn) (z : After) → IsFinished P q r u z → Turned P a a s n (Finishing q) (after_pipe z (Finishing r)) u
+    pub finishing_step : (u : Turn) (z : After) → PipeGaveMore P q r u z → Turned P a a s n (Finishing q) (after_pipe z (Finishing r)) u
     finishing_step u z f = rw (f.turn, f.after) (more_by f.answer f.next)
 
 -- before a pipe gets anything it gives what it gives of the whole input
@@ -116,7 +116,7 @@ at_first p m A h = record {
       (run.0, run.1, run.2, subst (λ us. GivesBy (part_of p run.0).fault (part_of p) (all_of p) run.0 run.1 (us ++ ys) e) (part_of-nil p) run.3);
 }
 
-pub through_enter : {F : Type 0} (P : Standing F) (sound : (q : F) → IsSound (P.stands q)) (a : Around) (s n : ℕ) (p r : Box (Unit {0}) Global) (x : Node) (pipe : Pipe) (q : F) → CanStep P a s (Start (node.Through' p x pipe))
+pub through_enter : {F : Type 0} (P : StateMeaning F) (sound : (q : F) → IsSound (P.stands q)) (a : Around) (s n : ℕ) (p r : Box (Unit {0}) Global) (x : Node) (pipe : Pipe) (q : F) → CanStep P a s (Start (node.Through' p x pipe))
     → ((m : Meaning) → IsMeaningOf pipe m → P.stands q m []) → Turned P a a s n (Start (node.Through' p x pipe)) (Through' r (Start x) q) turn.Quiet
 through_enter P sound a s n p r x pipe q h of = turned_same P a s n _ _ _ (λ k i. i) (omega arith) (omega arith) (omega arith) (λ g. (h.ready, tt))
     (λ g. (h.pipes.0, (pipe, h.pipes.1.0, [], h.pipes.1.1, of h.pipes.1.0 h.pipes.1.1, h.pipes.1.2)))

@@ -8,8 +8,8 @@ use Rattle.device_port.specs.Device.{DeviceTold}
 use Rattle.pull_nodes.specs.declared.node.Node.{Node}
 use Rattle.pull_nodes.specs.declared.node.Node.TheVariants as node
 use Rattle.pull_nodes.specs.Shape.{places_of}
-use Rattle.pull_turns.specs.Around.{Acquires, Around, Enters, IsUntried, Refuses}
-use Rattle.pull_turns.specs.Piping.{Standing}
+use Rattle.pull_turns.specs.Around.{AcquiresDevice, Around, Enters, IsUntried, Refuses}
+use Rattle.pull_turns.specs.Piping.{StateMeaning}
 use Rattle.pull_turns.specs.Rest.{CanStep}
 use Rattle.pull_turns.specs.Turned.{Turned}
 use Rattle.pull_turns.specs.Moves.{load_or_quiet}
@@ -34,7 +34,7 @@ none_left : (o : Option (List ℕ)) → IfSome o (λ c. 0 ≤ length c)
 none_left None = tt
 none_left (Some c) = omega arith
 
-module _ {F : Type 0} (P : Standing F) where
+module _ {F : Type 0} (P : StateMeaning F) where
   pub nil_enter : (a : Around) (s n : ℕ) → Turned P a a s n (Start node.Nil) Nil turn.Done
   nil_enter a s n = turned_same P a s n _ _ _ (λ p i. i) (omega arith) (omega arith) (omega arith) (λ g. absurd g) (λ g. absurd g) (λ k h. tt) (λ g. absurd g)
       (cause_none a.told a.told _ _ done_is_no_fault) (λ w o. inl (refl, refl))
@@ -57,7 +57,7 @@ module _ {F : Type 0} (P : Standing F) where
       (cause_none a.told a.told _ _ quiet_goes_on)
       (λ w o. by_left (reads_start (w p)) (some_run (w p) 0 (omega arith)))
 
-  pub weak_enter : (a b : Around) (s n p : ℕ) (q : _) (x : Node) → IsUntried (a.told p) → CanStep P a s (Start (node.Weak' p q x)) → Acquires a s p b
+  pub weak_enter : (a b : Around) (s n p : ℕ) (q : _) (x : Node) → IsUntried (a.told p) → CanStep P a s (Start (node.Weak' p q x)) → AcquiresDevice a s p b
       → Turned P a b s n (Start (node.Weak' p q x)) (Start x) turn.Quiet
   weak_enter a b s n p q x untried h k =
       let opens : (b.told p).opens ≡ 1 = ap (λ (d : DeviceTold). d.opens) k.told in

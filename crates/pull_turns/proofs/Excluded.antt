@@ -7,13 +7,13 @@ use Rattle.pull_nodes.specs.declared.node.Node.{Node}
 use Rattle.pull_nodes.specs.declared.node.Node.TheVariants as node
 use Rattle.pull_turns.specs.Around.{Around, IsClosedWith}
 use Rattle.pull_turns.specs.Moves.{how_of}
-use Rattle.pull_turns.specs.Piping.{Standing}
+use Rattle.pull_turns.specs.Piping.{StateMeaning}
 use Rattle.pull_turns.specs.Scoped.{Scoped}
 use Rattle.pull_turns.specs.declared.rest.Rest.{Rest}
 use Rattle.pull_turns.specs.declared.rest.Rest.TheVariants.{Start, Within'}
 use Rattle.pull_turns.specs.declared.turn.Turn.{Turn}
 
-module _ {F : Type 0} (P : Standing F) (a b : Around) where
+module _ {F : Type 0} (P : StateMeaning F) (a b : Around) where
   pub scope_opens_nothing : (s : ℕ) (q : Box (Unit {0}) Global) (n m : Node) (t : Turn) → Scoped P a b s (Start (node.Scope' q n)) (Start m) t → ⊥
   scope_opens_nothing s q n m t h = let is = h.2 in cc
 

@@ -13,8 +13,8 @@ use Rattle.pull_nodes.proofs.OwnFaults.{own_faults}
 use Rattle.pull_turns.specs.Around.{Around}
 use Rattle.pull_turns.specs.Groups.{HasNoGroups}
 use Rattle.pull_turns.specs.Moves.{load_or_quiet}
-use Rattle.pull_turns.specs.Passing.{IsFinished, Passes, after_fed, after_pipe, load_or_fault, same_or_faulty, turn_of_fed}
-use Rattle.pull_turns.specs.Piping.{Exactly, HasKind, PipedOn, PipesFit, Standing}
+use Rattle.pull_turns.specs.Passing.{PipeGaveMore, Passes, after_fed, after_pipe, load_or_fault, same_or_faulty, turn_of_fed}
+use Rattle.pull_turns.specs.Piping.{Exactly, HasKind, PipedOn, PipesFit, StateMeaning}
 use Rattle.pull_turns.specs.Rest.{IsRunOfRest}
 use Rattle.pull_turns.specs.Turned.{Leads, Turned}
 use Rattle.pull_turns.specs.declared.piping.After.{After}
@@ -33,7 +33,7 @@ use Rattle.pull_turns.proofs.Turns.{cause_none, chunk_goes_on, done_is_no_fault}
 whole_list : (given all rest xs ys : List Element) → given ++ rest ≡ all → rest ≡ xs ++ ys → given ++ (xs ++ ys) ≡ all
 whole_list given all rest xs ys w e = ap (λ us. given ++ us) (sym e) ∙ w
 
-module _ {F : Type 0} (P : Standing F) (sound : (q : F) → IsSound (P.stands q)) (a b : Around) (s n : ℕ) (p p' : Box (Unit {0}) Global) (x new : Rest F) (q r : F) (fit : PipesFit P (Through' p x q)) (plain : HasNoGroups x) (still : HasNoGroups new) (h : Turned P a b s n x new turn.Done) where
+module _ {F : Type 0} (P : StateMeaning F) (sound : (q : F) → IsSound (P.stands q)) (a b : Around) (s n : ℕ) (p p' : Box (Unit {0}) Global) (x new : Rest F) (q r : F) (fit : PipesFit P (Through' p x q)) (plain : HasNoGroups x) (still : HasNoGroups new) (h : Turned P a b s n x new turn.Done) where
   abbrev Answered : Fed → Type 0
   Answered answer = (m : Meaning) (xs : List Element) → P.stands q m xs → Finishes m xs answer (P.comes r m.gives)
 
@@ -128,10 +128,10 @@ module _ {F : Type 0} (P : Standing F) (sound : (q : F) → IsSound (P.stands q)
   ended_by fed.End f = end_step f
   ended_by (fed.Fault o c) f = failed_step o c f (length (elements o)) refl
 
-  ended_step : (u : Turn) (z : After) → IsFinished P q r u z → Turned P a b s n (Through' p x q) (after_pipe z (Through' p' new r)) u
+  ended_step : (u : Turn) (z : After) → PipeGaveMore P q r u z → Turned P a b s n (Through' p x q) (after_pipe z (Through' p' new r)) u
   ended_step u z f = rw (f.turn, f.after) (ended_by f.answer f.first)
 
-module _ {F : Type 0} (P : Standing F) (sound : (q : F) → IsSound (P.stands q)) (a b : Around) (s n : ℕ) (p p' : Box (Unit {0}) Global) (x new : Rest F) (q r : F) (fit : PipesFit P (Through' p x q)) (plain : HasNoGroups x) (still : HasNoGroups new) where
+module _ {F : Type 0} (P : StateMeaning F) (sound : (q : F) → IsSound (P.stands q)) (a b : Around) (s n : ℕ) (p p' : Box (Unit {0}) Global) (x new : Rest F) (q r : F) (fit : PipesFit P (Through' p x q)) (plain : HasNoGroups x) (still : HasNoGroups new) where
   kept : (z : After) (u t : Turn) → r ≡ q → u ≡ t → z ≡ after.Same → Turned P a b s n (Through' p x q) (Through' p' new q) t → Turned P a b s n (Through' p x q) (after_pipe z (Through' p' new r)) u
   kept z u t e i j h = rw (e, i, j) h
 

@@ -4,7 +4,7 @@ use Rattle.pull_nodes.specs.declared.node.Node.{Node}
 use Rattle.pull_nodes.specs.declared.pipe.Pipe.{Pipe}
 use Rattle.pull_nodes.specs.declared.pipe.Pipe.TheVariants as pipe
 use Rattle.pull_turns.specs.Groups.{GivesGroup, Grouped, size_above}
-use Rattle.pull_turns.specs.Moves.{append_turn, guard_turn, is_done, is_fault}
+use Rattle.pull_turns.specs.Moves.{append_turn, guard_turn, is_done, turn_is_fault}
 use Rattle.pull_turns.specs.declared.rest.Rest.{Rest}
 use Rattle.pull_turns.specs.declared.rest.Rest.TheVariants.{Nil, Start, Read, Within', Append', OnFault', Through', Finishing, Faulty, Groups', Take'}
 use Rattle.pull_turns.specs.declared.turn.Turn.{Turn}
@@ -39,7 +39,7 @@ module _ {F : Type 0} where
   append_grouped p q m x new turn.Done h = record { most = λ k i. (i.1, tt); group = quiet_group x; waits = tt }
   append_grouped p q m x new (turn.Fault c) h = record { most = λ k i. ((((h.most k i.0).0), i.1), tt); group = h.group; waits = h.waits }
 
-  pub guard_grouped : (p q : Box (Unit {0}) Global) (m : Box Node Global) (x new : Rest F) (t : Turn) → Grouped x new t → Grouped (OnFault' p x m) (cond (is_fault t) (Start m.value) (OnFault' q new m)) (guard_turn t)
+  pub guard_grouped : (p q : Box (Unit {0}) Global) (m : Box Node Global) (x new : Rest F) (t : Turn) → Grouped x new t → Grouped (OnFault' p x m) (cond (turn_is_fault t) (Start m.value) (OnFault' q new m)) (guard_turn t)
   guard_grouped p q m x new (turn.Chunk l) h = record { most = λ k i. let j = h.most k i.0 in ((j.0, i.1), j.1); group = h.group; waits = h.waits }
   guard_grouped p q m x new turn.Quiet h = record { most = λ k i. ((((h.most k i.0).0), i.1), tt); group = h.group; waits = h.waits }
   guard_grouped p q m x new turn.Done h = record { most = λ k i. ((((h.most k i.0).0), i.1), tt); group = h.group; waits = h.waits }

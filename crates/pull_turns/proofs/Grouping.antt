@@ -13,7 +13,7 @@ use Rattle.pull_nodes.proofs.Left.{left as left_earlier}
 use Rattle.pull_turns.specs.Around.{Around}
 use Rattle.pull_turns.specs.Groups.{GroupedOf, HasElements, HasNoGroups, IsFirstGroup, IsInGroups, IsOfKind, waiting}
 use Rattle.pull_turns.specs.Groups.GaveGroup.{group}
-use Rattle.pull_turns.specs.Piping.{Behind, HasKind, Standing}
+use Rattle.pull_turns.specs.Piping.{Behind, HasKind, StateMeaning}
 use Rattle.pull_turns.specs.Rest.{CanStep, IsRunOfRest}
 use Rattle.pull_turns.specs.Turned.{Gave, GivesKind, GoesOn, HasCause, Leads, Turned}
 use Rattle.pull_turns.specs.Turned.HasFinished.{grouped}
@@ -45,7 +45,7 @@ whole_load k l m g h = ap (λ xs. xs ++ waiting g) h.front ∙ (ap (λ xs. take 
 some_group : (k : ℕ) (l m : Load) (g : Option Load) → 0 < k → 0 < length (elements l) → IsFirstGroup k l m g → 0 < length (elements m)
 some_group k l m g some long h = omega (arith, ap length h.front, length-take k (elements l), some, long)
 
-module _ {F : Type 0} (P : Standing F) where
+module _ {F : Type 0} (P : StateMeaning F) where
   leads_on : (w : ℕ → DeviceTold) (x new : Rest F) (xs us vs zs : List Element) → xs ++ us ≡ vs ++ zs → Leads zs (IsRunOfRest P w new) (IsRunOfRest P w x)
       → Leads xs (OrLeft (Behind us (IsRunOfRest P w new))) (OrLeft (Behind vs (IsRunOfRest P w x)))
   leads_on w x new xs us vs zs e f = by_left (behind_lead xs us vs zs (IsRunOfRest P w new) (IsRunOfRest P w x) e f) (some_behind us (IsRunOfRest P w new) (stopped P w new))
@@ -108,7 +108,7 @@ left_once A B f = record { gives = by }
     by ys e (inr (is, inl none)) = inr (is, inl none)
     by ys e (inr (is, inr (more, g, h))) = subst (λ d. OrLeft B ys d) (sym is) (left_earlier B ys more g (now (ys ++ more) g h))
 
-module _ {F : Type 0} (P : Standing F) (a : Around) (s n : ℕ) (p r : Box (Unit {0}) Global) (x : Node) (pipe : Pipe) (q : F) where
+module _ {F : Type 0} (P : StateMeaning F) (a : Around) (s n : ℕ) (p r : Box (Unit {0}) Global) (x : Node) (pipe : Pipe) (q : F) where
   -- a pipe is entered whose groups leave the run one by one
   pub groups_enter : (k : ℕ) (c : Box (Unit {0}) Global) → 0 < k → Turned P a a s n (Start (node.Through' p x pipe)) (Through' r (Start x) q) turn.Quiet
       → Turned P a a s n (Start (node.Through' p x pipe)) (Groups' k None c (Through' r (Start x) q)) turn.Quiet

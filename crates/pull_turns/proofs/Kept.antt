@@ -4,7 +4,7 @@ use Rattle.std.proofs.lemmas.Bool.Decides.{eqb_tells}
 use Rattle.device_port.specs.Device.{DeviceTold}
 use Rattle.pull_nodes.specs.declared.node.Node.{Node}
 use Rattle.pull_nodes.specs.declared.node.Node.TheVariants as node
-use Rattle.pull_turns.specs.Around.{Around, Goes, Keeps, Acquires, gist}
+use Rattle.pull_turns.specs.Around.{Around, Goes, Keeps, AcquiresDevice, gist}
 use Rattle.pull_turns.specs.Rest.{IsIn, IsAsked, IsFresh, IsHeldBy, NoPlace}
 
 pub goes_same : (d : DeviceTold) → Goes d d
@@ -84,7 +84,7 @@ module _ (a b : Around) (s t : ℕ) (le : s ≤ t) where
 pub field_same : (f : DeviceTold → ℕ) (b a : ℕ → DeviceTold) (p : ℕ) → f (b p) ≡ f (a p) → ((q : ℕ) → q ≢ p → f (b q) ≡ f (a q)) → (q : ℕ) → f (b q) ≡ f (a q)
 field_same f b a p e o q = elim (eqb_tells q p) [ inl m ↦ subst (λ r. f (b r) ≡ f (a r)) (sym m.1) e | inr m ↦ o q m.1 ]
 
-module _ (a b : Around) (s p : ℕ) (h : Acquires a s p b) where
+module _ (a b : Around) (s p : ℕ) (h : AcquiresDevice a s p b) where
   at_p : (b.told p).at ≡ (a.told p).at
   at_p = ap (λ (d : DeviceTold). d.at) h.told
 

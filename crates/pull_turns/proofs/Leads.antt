@@ -8,7 +8,7 @@ use Rattle.device_port.specs.Device.{DeviceTold}
 use Rattle.pull_nodes.specs.declared.node.Node.{Node}
 use Rattle.pull_nodes.specs.declared.node.Node.TheVariants as node
 use Rattle.pull_nodes.specs.Runs.{OrLeft, Follows, Taken, IsIdle}
-use Rattle.pull_turns.specs.Piping.{Standing}
+use Rattle.pull_turns.specs.Piping.{StateMeaning}
 use Rattle.pull_turns.specs.Rest.{IsRunOfRest}
 use Rattle.pull_turns.specs.Turned.{Leads}
 use Rattle.pull_turns.specs.declared.rest.Rest.{Rest}
@@ -19,7 +19,7 @@ abbrev pub HasRun : Outcomes → Type 0
 HasRun A = (ys : List Element) × (e : End) × A ys e
 
 -- what is left may be left at once
-pub can_stop : {F : Type 0} (P : Standing F) (w : ℕ → DeviceTold) (r : Rest F) → IsRunOfRest P w r [] Cut
+pub can_stop : {F : Type 0} (P : StateMeaning F) (w : ℕ → DeviceTold) (r : Rest F) → IsRunOfRest P w r [] Cut
 can_stop P w Nil = inr (refl, inl refl)
 can_stop P w (Start n) = inr (refl, inl refl)
 can_stop P w (Read p from) = inr (refl, inl refl)
@@ -32,7 +32,7 @@ can_stop P w (Faulty c) = inr (refl, inl refl)
 can_stop P w (Groups' n f _ a) = inr (refl, inl refl)
 can_stop P w (Take' n _ a) = inr (refl, inl refl)
 
-pub stopped : {F : Type 0} (P : Standing F) (w : ℕ → DeviceTold) (r : Rest F) → HasRun (IsRunOfRest P w r)
+pub stopped : {F : Type 0} (P : StateMeaning F) (w : ℕ → DeviceTold) (r : Rest F) → HasRun (IsRunOfRest P w r)
 stopped P w r = ([], Cut, can_stop P w r)
 
 -- nothing writes

@@ -8,14 +8,14 @@ use Rattle.chunk_core.specs.declared.load.Load.{Load}
 use Rattle.chunk_core.specs.Elements.{Element, LoadKind, elements}
 use Rattle.chunk_core.specs.Outcomes.{Cut, Done, End, Fault}
 use Rattle.device_port.specs.Device.{DeviceTold}
-use Rattle.pull_turns.specs.Around.{Affords, Around, OpenAreHeld, Leaves, gist}
+use Rattle.pull_turns.specs.Around.{Affords, Around, OpenAreHeld, LeavesScope, gist}
 use Rattle.pull_turns.specs.Groups.{Grouped}
-use Rattle.pull_turns.specs.Piping.{Standing, HasKind}
+use Rattle.pull_turns.specs.Piping.{StateMeaning, HasKind}
 use Rattle.pull_turns.specs.Rest.{IsRunOfRest, IsLive, CanStep}
-use Rattle.pull_turns.specs.Turned.{Leads, Ends, Over, Moved, Turned, Gave, GoesOn, Spends}
+use Rattle.pull_turns.specs.Turned.{Leads, TellsAtEnd, Over, Moved, Turned, Gave, GoesOn, Spends}
 use Rattle.pull_turns.specs.Moves.{LeavesAtEnd}
 use Rattle.pull_turns.specs.Scoped.{ClosesAtEnd, Scoped}
-use Rattle.pull_turns.specs.Led.{GoesOnFor, IsShut, Led, Tells, Turns, loads_of}
+use Rattle.pull_turns.specs.Led.{GoesOnFor, IsShut, Led, TouchesOnly, Turns, loads_of}
 use Rattle.pull_turns.specs.declared.rest.Rest.{Rest}
 use Rattle.pull_turns.specs.declared.turn.Turn.{Turn}
 use Rattle.pull_turns.specs.declared.turn.Turn.TheVariants as turn
@@ -31,22 +31,22 @@ closed_by false never = refl
 pub shut_so : (a : Around) → OpenAreHeld a → ((k : ℕ) → a.opened k → ⊥) → IsShut a
 shut_so a tidy never = record { scopes = never; devices = λ p. closed_by (a.told p).is_open (λ e. let held = tidy p e in never held.0 held.2) }
 
-pub tells_same : {F : Type 0} (now : ℕ → DeviceTold) (r : Rest F) → Tells now now r
+pub tells_same : {F : Type 0} (now : ℕ → DeviceTold) (r : Rest F) → TouchesOnly now now r
 tells_same now r = record { goes = λ p. goes_same (now p); others = λ p n. refl }
 
-pub tells_gist : {F : Type 0} (a b : ℕ → DeviceTold) (r : Rest F) → ((p : ℕ) → gist (b p) ≡ gist (a p)) → Tells a b r
+pub tells_gist : {F : Type 0} (a b : ℕ → DeviceTold) (r : Rest F) → ((p : ℕ) → gist (b p) ≡ gist (a p)) → TouchesOnly a b r
 tells_gist a b r same = record { goes = λ p. goes_gist (a p) (b p) (same p); others = λ p n. same p }
 
-pub tells_on : {F : Type 0} (a b c : ℕ → DeviceTold) (start old : Rest F) → ((p : ℕ) → IsLive p old → IsLive p start) → Tells a b start → Tells b c old → Tells a c start
+pub tells_on : {F : Type 0} (a b c : ℕ → DeviceTold) (start old : Rest F) → ((p : ℕ) → IsLive p old → IsLive p start) → TouchesOnly a b start → TouchesOnly b c old → TouchesOnly a c start
 tells_on a b c start old l h i = record {
   goes = λ p. goes_on (a p) (b p) (c p) (h.goes p) (i.goes p);
   others = λ p n. i.others p (λ j. n (l p j)) ∙ h.others p n;
 }
 
-pub moved_tells : {F : Type 0} (a b : Around) (s : ℕ) (r : Rest F) → Moved a b s r → Tells a.told b.told r
+pub moved_tells : {F : Type 0} (a b : Around) (s : ℕ) (r : Rest F) → Moved a b s r → TouchesOnly a.told b.told r
 moved_tells a b s r m = record { goes = m.goes; others = m.keeps.told }
 
-can_on : {F : Type 0} (P : Standing F) (a b : Around) (n : ℕ) (old new : Rest F) (t : Turn) → CanStep P a 0 old → Turned P a b 0 n old new t → GoesOn t → CanStep P b 0 new
+can_on : {F : Type 0} (P : StateMeaning F) (a b : Around) (n : ℕ) (old new : Rest F) (t : Turn) → CanStep P a 0 old → Turned P a b 0 n old new t → GoesOn t → CanStep P b 0 new
 can_on P a b n old new t c h g = record {
   ready = h.ready g;
   pipes = h.pipes g;
@@ -66,7 +66,7 @@ spends_then a b c old mid new h i = record { events = omega (arith, h.events, i.
 pub spends_none : {F : Type 0} (a : Around) (r : Rest F) → Spends a a r r
 spends_none a r = record { events = omega arith; scopes = omega arith; rows = omega arith }
 
-module _ {F : Type 0} (P : Standing F) {O : Type 0} (seen : O → Around) (a : Around) (y z : O) (n : ℕ) (old new : Rest F) (c : CanStep P a 0 old) (tidy : OpenAreHeld (seen z)) where
+module _ {F : Type 0} (P : StateMeaning F) {O : Type 0} (seen : O → Around) (a : Around) (y z : O) (n : ℕ) (old new : Rest F) (c : CanStep P a 0 old) (tidy : OpenAreHeld (seen z)) where
   runs : (t : Turn) → z ≡ y → GoesOn t → ClosesAtEnd (seen y) 0 t → Grouped old new t → Scoped P a (seen y) 0 old new t → Turned P a (seen y) 0 n old new t → Turns P a (seen z) n old new t
   runs t e g k q r h = subst (λ (o : O). Turns P a (seen o) n old new t) (sym e) (record {
     tells = moved_tells a (seen y) 0 old h.moved;
@@ -88,13 +88,13 @@ module _ {F : Type 0} (P : Standing F) {O : Type 0} (seen : O → Around) (a : A
   still_open : (t : Turn) → Turned P a (seen y) 0 n old new t → (seen y).opened 0
   still_open t h = h.moved.keeps.opened 0 (omega arith) c.opened
 
-  over_before : (x : Exit) → Leaves (seen y) 0 x (seen z) → (w : ℕ → DeviceTold) → Over (seen z).told w old → Over (seen y).told w old
+  over_before : (x : Exit) → LeavesScope (seen y) 0 x (seen z) → (w : ℕ → DeviceTold) → Over (seen z).told w old → Over (seen y).told w old
   over_before x l w o = record {
     over = λ k i. o.over k i ∙ l.told k;
     goes = λ k. goes_on ((seen y).told k) ((seen z).told k) (w k) (goes_gist ((seen y).told k) ((seen z).told k) (l.told k)) (o.goes k);
   }
 
-  ends : (t : Turn) (x : Exit) → (GoesOn t → ⊥) → Leaves (seen y) 0 x (seen z) → ClosesAtEnd (seen z) 0 t → Grouped old new t → Scoped P a (seen z) 0 old new t → Turned P a (seen y) 0 n old new t → Gave P (seen z).told old new t → Turns P a (seen z) n old new t
+  ends : (t : Turn) (x : Exit) → (GoesOn t → ⊥) → LeavesScope (seen y) 0 x (seen z) → ClosesAtEnd (seen z) 0 t → Grouped old new t → Scoped P a (seen z) 0 old new t → Turned P a (seen y) 0 n old new t → Gave P (seen z).told old new t → Turns P a (seen z) n old new t
   ends t x never e k q r h g = record {
     tells = tells_on a.told (seen y).told (seen z).told old old (λ p i. i) (moved_tells a (seen y) 0 old h.moved) (tells_gist (seen y).told (seen z).told old e.told);
     once = once_on a.told (seen y).told (seen z).told n h.once e.told;
@@ -118,21 +118,21 @@ module _ {F : Type 0} (P : Standing F) {O : Type 0} (seen : O → Around) (a : A
   turns_end turn.Done e q r h = ends turn.Done Succeeded (λ i. i) e e.closed q (scoped_on P a (seen y) (seen z) 0 Succeeded e (still_open turn.Done h) 0 old new turn.Done (λ i. i) r) h (λ w i. h.gave w (over_before Succeeded e w i))
   turns_end (turn.Fault d) e q r h = ends (turn.Fault d) Errored (λ i. i) e e.closed q (scoped_on P a (seen y) (seen z) 0 Errored e (still_open (turn.Fault d) h) 0 old new (turn.Fault d) (λ i. i) r) h (λ w i. h.gave w (over_before Errored e w i))
 
-pub led_start : {F : Type 0} (P : Standing F) (now : ℕ → DeviceTold) (r : Rest F) → Led P now now r r []
+pub led_start : {F : Type 0} (P : StateMeaning F) (now : ℕ → DeviceTold) (r : Rest F) → Led P now now r r []
 led_start P now r = record { tells = tells_same now r; live = λ p l. l; kinds = λ k i. i; grouped = λ k i. i; lead = λ w e. record { gives = λ ys g h. h } }
 
 -- what holds at the end held of the turn before
-ends_before : {F : Type 0} (before now w : ℕ → DeviceTold) (start old new : Rest F) → Tells before now old → ((p : ℕ) → IsLive p new → IsLive p old) → Ends now w start new → Ends before w start old
+ends_before : {F : Type 0} (before now w : ℕ → DeviceTold) (start old new : Rest F) → TouchesOnly before now old → ((p : ℕ) → IsLive p new → IsLive p old) → TellsAtEnd now w start new → TellsAtEnd before w start old
 ends_before before now w start old new h l e = record {
   over = λ p i n. e.over p i (λ m. n (l p m)) ∙ h.others p n;
   goes = λ p. goes_on (before p) (now p) (w p) (h.goes p) (e.goes p);
 }
 
-joined : {F : Type 0} (P : Standing F) (xs ys : List Element) (w : ℕ → DeviceTold) (start old new : Rest F) → Leads xs (IsRunOfRest P w old) (IsRunOfRest P w start) → Leads ys (IsRunOfRest P w new) (IsRunOfRest P w old) → Leads (xs ++ ys) (IsRunOfRest P w new) (IsRunOfRest P w start)
+joined : {F : Type 0} (P : StateMeaning F) (xs ys : List Element) (w : ℕ → DeviceTold) (start old new : Rest F) → Leads xs (IsRunOfRest P w old) (IsRunOfRest P w start) → Leads ys (IsRunOfRest P w new) (IsRunOfRest P w old) → Leads (xs ++ ys) (IsRunOfRest P w new) (IsRunOfRest P w start)
 joined P xs ys w start old new f g = record { gives = λ zs e h. rw append_assoc (f.gives (ys ++ zs) e (g.gives zs e h)) }
 
 -- what came in a first stretch, and behind it what came in a second
-pub led_then : {F : Type 0} (P : Standing F) (first mid last : ℕ → DeviceTold) (start old new : Rest F) (xs ys : List Element) → Led P first mid start old xs → Led P mid last old new ys → Led P first last start new (xs ++ ys)
+pub led_then : {F : Type 0} (P : StateMeaning F) (first mid last : ℕ → DeviceTold) (start old new : Rest F) (xs ys : List Element) → Led P first mid start old xs → Led P mid last old new ys → Led P first last start new (xs ++ ys)
 led_then P first mid last start old new xs ys h k = record {
   tells = tells_on first mid last start old h.live h.tells k.tells;
   live = λ p m. h.live p (k.live p m);
@@ -143,17 +143,17 @@ led_then P first mid last start old new xs ys h k = record {
 }
 
 -- what came, and then the end of what was left
-pub led_ends : {F : Type 0} (P : Standing F) (first mid last : ℕ → DeviceTold) (start old : Rest F) (xs : List Element) (e : End) → Led P first mid start old xs → Tells mid last old
+pub led_ends : {F : Type 0} (P : StateMeaning F) (first mid last : ℕ → DeviceTold) (start old : Rest F) (xs : List Element) (e : End) → Led P first mid start old xs → TouchesOnly mid last old
     → ((w : ℕ → DeviceTold) → Over last w old → IsRunOfRest P w old [] e) → (w : ℕ → DeviceTold) → Over last w start → IsRunOfRest P w start xs e
 led_ends P first mid last start old xs e h k f w o =
-    let before : Ends mid w start old = record {
+    let before : TellsAtEnd mid w start old = record {
       over = λ p i m. o.over p i ∙ k.others p m;
       goes = λ p. goes_on (mid p) (last p) (w p) (k.goes p) (o.goes p);
     } in
     subst (λ (ys : List Element). IsRunOfRest P w start ys e) (append-nil xs) ((h.lead w before).gives [] e (f w (record { over = λ p i. o.over p (h.live p i); goes = o.goes })))
 
-module _ {F : Type 0} (P : Standing F) (first : ℕ → DeviceTold) (before now : Around) (n : ℕ) (start old new : Rest F) (xs : List Element) (h : Led P first before.told start old xs) where
-  led_on : (t : Turn) (ys : List Element) → Turns P before now n old new t → ((k : LoadKind) → HasKind P k old → HasKind P k new) → ((w : ℕ → DeviceTold) → Ends now.told w old new → Leads ys (IsRunOfRest P w new) (IsRunOfRest P w old))
+module _ {F : Type 0} (P : StateMeaning F) (first : ℕ → DeviceTold) (before now : Around) (n : ℕ) (start old new : Rest F) (xs : List Element) (h : Led P first before.told start old xs) where
+  led_on : (t : Turn) (ys : List Element) → Turns P before now n old new t → ((k : LoadKind) → HasKind P k old → HasKind P k new) → ((w : ℕ → DeviceTold) → TellsAtEnd now.told w old new → Leads ys (IsRunOfRest P w new) (IsRunOfRest P w old))
       → Led P first now.told start new (xs ++ ys)
   led_on t ys k i f = led_then P first before.told now.told start old new xs ys h (record { tells = k.tells; live = k.live; kinds = i; grouped = λ j g. (k.grouped.most j g).0; lead = f })
 
@@ -163,7 +163,7 @@ module _ {F : Type 0} (P : Standing F) (first : ℕ → DeviceTold) (before now 
   pub led_quiet : Turns P before now n old new turn.Quiet → Led P first now.told start new xs
   led_quiet k = subst (λ (ys : List Element). Led P first now.told start new ys) (append-nil xs) (led_on turn.Quiet [] k k.kinds k.gave)
 
-  pub led_tells : (t : Turn) → Turns P before now n old new t → Tells first now.told start
+  pub led_tells : (t : Turn) → Turns P before now n old new t → TouchesOnly first now.told start
   led_tells t k = tells_on first before.told now.told start old h.live h.tells k.tells
 
   pub led_done : Turns P before now n old new turn.Done → (w : ℕ → DeviceTold) → Over now.told w start → IsRunOfRest P w start xs Done
@@ -172,17 +172,17 @@ module _ {F : Type 0} (P : Standing F) (first : ℕ → DeviceTold) (before now 
   pub led_fault : (c : Code) → Turns P before now n old new (turn.Fault c) → (w : ℕ → DeviceTold) → Over now.told w start → IsRunOfRest P w start xs (Fault c)
   led_fault c k = led_ends P first before.told now.told start old xs (Fault c) h k.tells k.gave
 
-pub led_pushed : {F : Type 0} (P : Standing F) (first : ℕ → DeviceTold) (before now : Around) (n : ℕ) (start old new : Rest F) (ls : List Load) (l : Load) → Led P first before.told start old (flat_map elements ls)
+pub led_pushed : {F : Type 0} (P : StateMeaning F) (first : ℕ → DeviceTold) (before now : Around) (n : ℕ) (start old new : Rest F) (ls : List Load) (l : Load) → Led P first before.told start old (flat_map elements ls)
     → Turns P before now n old new (turn.Chunk l) → Led P first now.told start new (flat_map elements (ls ++ l ∷ []))
 led_pushed P first before now n start old new ls l h k = rw (flat_map-append elements ls (l ∷ []), append-nil) (led_chunk P first before now n start old new (flat_map elements ls) h l k)
 
 -- one turn more, that goes on
-pub goes_on_more : {F : Type 0} (P : Standing F) {O : Type 0} (seen : O → Around) (n k : ℕ) (a b c : O) (start old new : Rest F) (ls more : List Load) (t : Turn)
+pub goes_on_more : {F : Type 0} (P : StateMeaning F) {O : Type 0} (seen : O → Around) (n k : ℕ) (a b c : O) (start old new : Rest F) (ls more : List Load) (t : Turn)
     → GoesOnFor P seen n k a start b old ls → Turns P (seen b) (seen c) n old new t → GoesOn t → more ≡ ls ++ loads_of t → GoesOnFor P seen n (k + 1) a start c new more
 goes_on_more P seen n k a b c start old new ls more t h i g e = rw add-one (b, old, ls, t, h, i, g, e)
 
 pub over_now : {F : Type 0} (now : ℕ → DeviceTold) (r : Rest F) → Over now now r
 over_now now r = record { over = λ p l. refl; goes = λ p. goes_same (now p) }
 
-pub led_cut : {F : Type 0} (P : Standing F) (first now : ℕ → DeviceTold) (start old : Rest F) (xs : List Element) → Led P first now start old xs → IsRunOfRest P now start xs Cut
+pub led_cut : {F : Type 0} (P : StateMeaning F) (first now : ℕ → DeviceTold) (start old : Rest F) (xs : List Element) → Led P first now start old xs → IsRunOfRest P now start xs Cut
 led_cut P first now start old xs h = led_ends P first now now start old xs Cut h (tells_same now old) (λ w o. can_stop P w old) now (over_now now start)

@@ -5,7 +5,7 @@ use Rattle.chunk_core.specs.Elements.LoadKind.{Bytes, Lines, Rows}
 use Rattle.chunk_core.specs.Feed.{Meaning}
 use Rattle.chunk_core.specs.declared.load.Load.{Load}
 use Rattle.chunk_core.specs.declared.load.Load.TheVariants as load
-use Rattle.pull_nodes.specs.Kinds.{joined_kind, kind_behind, kind_of as kind_of_node, kind_of_sides, load_kind}
+use Rattle.pull_nodes.specs.Kinds.{joined_kind, kind_behind, node_kind as kind_of_node, kind_of_sides, load_kind}
 use Rattle.pull_nodes.specs.PipeKinds.{gives_of, kind_of_nothing, piped_kind, stream_kind}
 use Rattle.pull_nodes.specs.Pipes.{IsMeaningOf, meaning}
 use Rattle.std.specs.Prelude.{option_map}

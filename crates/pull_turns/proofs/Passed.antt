@@ -16,9 +16,9 @@ use Rattle.pull_turns.specs.Around.{Around}
 use Rattle.pull_turns.specs.Groups.{HasNoGroups}
 use Rattle.pull_turns.specs.Moves.{load_or_quiet}
 use Rattle.pull_turns.specs.Passing.{IsFed, after_fed, after_pipe, load_or_fault, same_or_faulty, turn_of_fed}
-use Rattle.pull_turns.specs.Piping.{HasKind, PipedOn, PipesFit, Standing}
+use Rattle.pull_turns.specs.Piping.{HasKind, PipedOn, PipesFit, StateMeaning}
 use Rattle.pull_turns.specs.Rest.{IsLive, IsReady, IsRunOfRest, left, rows_left, scopes_left}
-use Rattle.pull_turns.specs.Turned.{Ends, Gave, GivesKind, GoesOn, HasCause, IsCaused, Over, Turned}
+use Rattle.pull_turns.specs.Turned.{TellsAtEnd, Gave, GivesKind, GoesOn, HasCause, TurnIsCaused, Over, Turned}
 use Rattle.pull_turns.specs.Turned.HasFinished.{through}
 use Rattle.pull_turns.specs.declared.piping.After.{After}
 use Rattle.pull_turns.specs.declared.piping.After.TheVariants as after
@@ -42,10 +42,10 @@ own_cause a b r c h = record {
 one_kind : (l : Load) → ((k : LoadKind) → kind_of l ≡ k) → ⊥
 one_kind l f = let a : kind_of l ≡ Bytes = f Bytes in let b : kind_of l ≡ Lines = f Lines in cc
 
-module _ {F : Type 0} (P : Standing F) (sound : (q : F) → IsSound (P.stands q)) (a b : Around) (s n : ℕ) (p p' : Box (Unit {0}) Global) (x new : Rest F) (q r : F) (fit : PipesFit P (Through' p x q)) (plain : HasNoGroups x) (still : HasNoGroups new) where
+module _ {F : Type 0} (P : StateMeaning F) (sound : (q : F) → IsSound (P.stands q)) (a b : Around) (s n : ℕ) (p p' : Box (Unit {0}) Global) (x new : Rest F) (q r : F) (fit : PipesFit P (Through' p x q)) (plain : HasNoGroups x) (still : HasNoGroups new) where
   -- the pipe stays where it is, or stands alone
   pub whole : (z : Rest F) (t u : Turn) → Turned P a b s n x new t → ((k : ℕ) → IsLive k z → IsLive k new) → left z ≤ left new + 1 → rows_left z ≤ rows_left new → scopes_left z ≤ scopes_left new
-      → (GoesOn u → IsReady b s z) → (GoesOn u → PipesFit P z) → ((k : LoadKind) → HasKind P k (Through' p x q) → GivesKind P k z u) → (GoesOn u → IsCaused P a.told b.told (Through' p x q) z)
+      → (GoesOn u → IsReady b s z) → (GoesOn u → PipesFit P z) → ((k : LoadKind) → HasKind P k (Through' p x q) → GivesKind P k z u) → (GoesOn u → TurnIsCaused P a.told b.told (Through' p x q) z)
       → HasCause a.told b.told x u → Gave P b.told (Through' p x q) z u → Turned P a b s n (Through' p x q) z u
   whole z t u h live fewer rows scopes ready pipes kinds caused cause gave = record {
     moved = record { keeps = h.moved.keeps; goes = h.moved.goes };
@@ -69,19 +69,19 @@ module _ {F : Type 0} (P : Standing F) (sound : (q : F) → IsSound (P.stands q)
       cause gave
 
   -- what is below is asked no more
-  pub ends_alone : (w : ℕ → DeviceTold) (z : Rest F) → ((k : ℕ) → IsLive k z → ⊥) → Ends b.told w (Through' p x q) z → Ends b.told w x new
+  pub ends_alone : (w : ℕ → DeviceTold) (z : Rest F) → ((k : ℕ) → IsLive k z → ⊥) → TellsAtEnd b.told w (Through' p x q) z → TellsAtEnd b.told w x new
   ends_alone w z none e = record { over = λ k i never. e.over k i (none k); goes = e.goes }
 
-  over_ends : (w : ℕ → DeviceTold) → Over b.told w (Through' p x q) → Ends b.told w x new
+  over_ends : (w : ℕ → DeviceTold) → Over b.told w (Through' p x q) → TellsAtEnd b.told w x new
   over_ends w o = record { over = λ k i never. o.over k i; goes = o.goes }
 
   pub over_below : (w : ℕ → DeviceTold) → Over b.told w (Through' p x q) → Over b.told w x
   over_below w o = record { over = o.over; goes = o.goes }
 
-  pub ends_over : (w : ℕ → DeviceTold) (z : Rest F) → ((k : ℕ) → IsLive k z → ⊥) → Ends b.told w (Through' p x q) z → Over b.told w x
+  pub ends_over : (w : ℕ → DeviceTold) (z : Rest F) → ((k : ℕ) → IsLive k z → ⊥) → TellsAtEnd b.told w (Through' p x q) z → Over b.told w x
   ends_over w z none e = record { over = λ k i. e.over k i (none k); goes = e.goes }
 
-  ends_below : (w : ℕ → DeviceTold) (f : F) → Ends b.told w (Through' p x q) (Through' p' new f) → Ends b.told w x new
+  ends_below : (w : ℕ → DeviceTold) (f : F) → TellsAtEnd b.told w (Through' p x q) (Through' p' new f) → TellsAtEnd b.told w x new
   ends_below w f e = record { over = e.over; goes = e.goes }
 
   pub quiet_step : Turned P a b s n x new turn.Quiet → Turned P a b s n (Through' p x q) (Through' p' new q) turn.Quiet
@@ -104,7 +104,7 @@ module _ {F : Type 0} (P : Standing F) (sound : (q : F) → IsSound (P.stands q)
     Answered answer = (m : Meaning) (xs : List Element) → P.stands q m xs → m.takes ≡ kind_of l → Feeds m xs (elements l) answer (P.stands r m)
 
     -- the load was all that came of what is below
-    stopped_below : (w : ℕ → DeviceTold) → Ends b.told w x new → IsRunOfRest P w x (elements l) Cut
+    stopped_below : (w : ℕ → DeviceTold) → TellsAtEnd b.told w x new → IsRunOfRest P w x (elements l) Cut
     stopped_below w e = subst (λ zs. IsRunOfRest P w x zs Cut) (append-nil (elements l)) ((h.gave.1 w e).gives [] Cut (can_stop P w new))
 
     out_kinds : (o : Load) → Answered (fed.Out o)

@@ -11,10 +11,10 @@ use Rattle.chunk_core.specs.Elements.LoadKind.{Bytes}
 use Rattle.chunk_core.specs.Elements.{kind_of, LoadKind}
 use Rattle.chunk_core.specs.declared.load.Load.{Load}
 use Rattle.chunk_core.specs.declared.load.Load.TheVariants as load
-use Rattle.pull_turns.specs.Piping.{Standing}
+use Rattle.pull_turns.specs.Piping.{StateMeaning}
 use Rattle.pull_turns.specs.Rest.{BytesFrom, IsReady, ReadsFrom}
 use Rattle.pull_turns.specs.Moves.{IsPiece, ReadsPiece, ReadsPlace}
-use Rattle.pull_turns.specs.Turned.{Leads, Turned, Moved, HasCause, Gave, GivesKind, GoesOn, IsCaused}
+use Rattle.pull_turns.specs.Turned.{Leads, Turned, Moved, HasCause, Gave, GivesKind, GoesOn, TurnIsCaused}
 use Rattle.pull_turns.specs.declared.rest.Rest.TheVariants.{Read}
 use Rattle.pull_turns.specs.declared.turn.Turn.{Turn}
 use Rattle.pull_turns.specs.declared.turn.Turn.TheVariants as turn
@@ -129,11 +129,11 @@ bytes_kind (load.Rows (l ∷ ls)) (x ∷ bytes) e h = (cc)
 bytes_kind (load.Lines ls) [] e h = absurd (omega (arith, h))
 bytes_kind (load.Rows ls) [] e h = absurd (omega (arith, h))
 
-module _ {F : Type 0} (P : Standing F) where
+module _ {F : Type 0} (P : StateMeaning F) where
   -- all but the outcome
   read_turned : (a b : Around) (s n p from to : ℕ) (t : Turn) → ReadsPlace a b p
       → ((((b.told p).at ≤ (a.told p).at + n) × ((b.told p).read_faults ≡ (a.told p).read_faults)) ⊎ (((b.told p).at ≡ (a.told p).at) × ((b.told p).read_faults ≡ (a.told p).read_faults + 1)))
-      → (GoesOn t → IsReady {F = F} b s (Read p to)) → ((k : LoadKind) → k ≡ Bytes → GivesKind P k (Read p to) t) → (GoesOn t → IsCaused P a.told b.told (Read p from) (Read p to))
+      → (GoesOn t → IsReady {F = F} b s (Read p to)) → ((k : LoadKind) → k ≡ Bytes → GivesKind P k (Read p to) t) → (GoesOn t → TurnIsCaused P a.told b.told (Read p from) (Read p to))
       → HasCause {F = F} a.told b.told (Read p from) t → Gave P b.told (Read p from) (Read p to) t
       → Turned P a b s n (Read p from) (Read p to) t
   read_turned a b s n p from to t h read ready kinds caused cause gave = record {

@@ -7,11 +7,11 @@ use Rattle.chunk_core.specs.Outcomes.{exit_of}
 use Rattle.chunk_core.specs.declared.load.Load.{Load}
 use Rattle.pull_nodes.specs.declared.node.Node.{Node}
 use Rattle.pull_nodes.specs.declared.node.Node.TheVariants as node
-use Rattle.pull_turns.specs.Around.{Around, IsClosedWith, Leaves}
+use Rattle.pull_turns.specs.Around.{Around, IsClosedWith, LeavesScope}
 use Rattle.pull_turns.specs.Groups.{GroupedOf}
 use Rattle.pull_turns.specs.Moves.{LeavesAtEnd, TakenOf, append_turn, guard_turn, how_of}
 use Rattle.pull_turns.specs.Passing.{Passes}
-use Rattle.pull_turns.specs.Piping.{Standing}
+use Rattle.pull_turns.specs.Piping.{StateMeaning}
 use Rattle.pull_turns.specs.Scoped.{ClosesAtEnd, EntersIn, Scoped}
 use Rattle.pull_turns.specs.Turned.{IsQuiet, Turned}
 use Rattle.pull_turns.specs.declared.piping.After.{After}
@@ -21,7 +21,7 @@ use Rattle.pull_turns.specs.declared.turn.Turn.{Turn}
 use Rattle.pull_turns.specs.declared.turn.Turn.TheVariants as turn
 
 -- a scope that was closed before is another one
-closed_on : (b c : Around) (k : ℕ) (x : Exit) → Leaves b k x c → b.opened k → (j : ℕ) (y : Exit) → IsClosedWith b j y → IsClosedWith c j y
+closed_on : (b c : Around) (k : ℕ) (x : Exit) → LeavesScope b k x c → b.opened k → (j : ℕ) (y : Exit) → IsClosedWith b j y → IsClosedWith c j y
 closed_on b c k x l o j y h =
     let other : j ≢ k = λ e. h.gone (subst (λ n. b.opened n) (sym e) o) in
     record { gone = λ i. h.gone (l.only j i); exit = λ e. (λ i. (h.exit e).0 ((l.others j e other).0 i), λ i. (l.others j e other).1 ((h.exit e).1 i)) }
@@ -51,14 +51,14 @@ quiet_grouped n g turn.Quiet t h i = subst IsQuiet (sym h.1) i
 quiet_grouped n g turn.Done t h i = absurd i
 quiet_grouped n g (turn.Fault c) t h i = absurd i
 
-module _ {F : Type 0} (P : Standing F) where
+module _ {F : Type 0} (P : StateMeaning F) where
   quiet_passed : (q r : F) (u t : Turn) (z : After) → Passes P q r u t z → IsQuiet u → IsQuiet t
   quiet_passed q r (turn.Chunk l) t z h i = absurd i
   quiet_passed q r turn.Quiet t z h i = subst IsQuiet (sym h.1) i
   quiet_passed q r turn.Done t z h i = absurd i
   quiet_passed q r (turn.Fault c) t z h i = absurd i
 
-  module _ (a b c : Around) (k : ℕ) (x : Exit) (l : Leaves b k x c) (o : b.opened k) where
+  module _ (a b c : Around) (k : ℕ) (x : Exit) (l : LeavesScope b k x c) (o : b.opened k) where
     closes_on : (j : ℕ) (h : Option How) → IfSome h (λ e. IsClosedWith b j (exit_of e)) → IfSome h (λ e. IsClosedWith c j (exit_of e))
     closes_on j None i = i
     closes_on j (Some e) i = closed_on b c k x l o j (exit_of e) i
@@ -93,7 +93,7 @@ module _ {F : Type 0} (P : Standing F) where
     stays : (t : Turn) → z ≡ y → ClosesAtEnd (seen y) c t → Scoped P a (seen y) c x new t → Scoped P a (seen z) s (Within' c q x) (Within' c q new) t
     stays t e k h = subst (λ (v : O). Scoped P a (seen v) s (Within' c q x) (Within' c q new) t) (sym e) (q, new, t, h, (refl, refl, k))
 
-    closes : (t : Turn) (j : Exit) → Leaves (seen y) c j (seen z) → ClosesAtEnd (seen z) c t → (IsQuiet t → ⊥) → Turned P a (seen y) c n x new t → Scoped P a (seen y) c x new t → Scoped P a (seen z) s (Within' c q x) (Within' c q new) t
+    closes : (t : Turn) (j : Exit) → LeavesScope (seen y) c j (seen z) → ClosesAtEnd (seen z) c t → (IsQuiet t → ⊥) → Turned P a (seen y) c n x new t → Scoped P a (seen y) c x new t → Scoped P a (seen z) s (Within' c q x) (Within' c q new) t
     closes t j e k loud m h = (q, new, t, scoped_on a (seen y) (seen z) c j e (m.moved.keeps.opened c (omega arith) is_open) c x new t loud h, (refl, refl, k))
 
     pub within_scoped : (t : Turn) → LeavesAtEnd seen y c t z → Turned P a (seen y) c n x new t → Scoped P a (seen y) c x new t → Scoped P a (seen z) s (Within' c q x) (Within' c q new) t

@@ -5,7 +5,7 @@ use Rattle.chunk_core.specs.declared.code.Code.TheVariants as code
 use Rattle.chunk_core.specs.declared.load.Load.{Load}
 use Rattle.chunk_core.specs.Elements.{Element, Byte, elements}
 use Rattle.pull_turns.specs.Around.{Around}
-use Rattle.pull_turns.specs.Moves.{is_done, is_fault, append_turn, guard_turn, giving, load_or_quiet, PieceTurn, ReadsPiece, TakenOf}
+use Rattle.pull_turns.specs.Moves.{is_done, turn_is_fault, append_turn, guard_turn, giving, load_or_quiet, PieceTurn, ReadsPiece, TakenOf}
 use Rattle.pull_turns.specs.Sizes.{given, HasNoPipe, HasNoPipeOf, Sized}
 use Rattle.pull_turns.specs.declared.rest.Rest.{Rest}
 use Rattle.pull_turns.specs.declared.rest.Rest.TheVariants.{Nil, Start, Read, Append', OnFault', Take'}
@@ -28,7 +28,7 @@ module _ {F : Type 0} where
   append_sized n p q m x new turn.Done f h = record { plain = f; piece = omega arith; pieces = omega arith }
   append_sized n p q m x new (turn.Fault c) f h = record { plain = (h.plain, f); piece = omega (arith, h.piece); pieces = omega (arith, h.pieces) }
 
-  pub guard_sized : (n : ℕ) (p q : Box (Unit {0}) Global) (m : Box Node Global) (x new : Rest F) (t : Turn) → HasNoPipeOf m.value → Sized n x new (given t) → Sized n (OnFault' p x m) (cond (is_fault t) (Start m.value) (OnFault' q new m)) (given (guard_turn t))
+  pub guard_sized : (n : ℕ) (p q : Box (Unit {0}) Global) (m : Box Node Global) (x new : Rest F) (t : Turn) → HasNoPipeOf m.value → Sized n x new (given t) → Sized n (OnFault' p x m) (cond (turn_is_fault t) (Start m.value) (OnFault' q new m)) (given (guard_turn t))
   guard_sized n p q m x new (turn.Chunk l) f h = record { plain = (h.plain, f); piece = omega (arith, h.piece); pieces = omega (arith, h.pieces) }
   guard_sized n p q m x new turn.Quiet f h = record { plain = (h.plain, f); piece = omega (arith, h.piece); pieces = omega (arith, h.pieces) }
   guard_sized n p q m x new turn.Done f h = record { plain = (h.plain, f); piece = omega (arith, h.piece); pieces = omega (arith, h.pieces) }

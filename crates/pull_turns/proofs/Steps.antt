@@ -8,14 +8,14 @@ use Rattle.chunk_core.specs.Elements.{Element, LoadKind, elements}
 use Rattle.chunk_core.specs.Outcomes.{Done, Fault, Cut}
 use Rattle.device_port.specs.Device.{DeviceTold}
 use Rattle.pull_nodes.specs.Runs.{IsRun}
-use Rattle.pull_turns.specs.Around.{Around, Leaves, gist}
+use Rattle.pull_turns.specs.Around.{Around, LeavesScope, gist}
 use Rattle.pull_turns.specs.Groups.{HasNoGroups}
 use Rattle.pull_turns.specs.Groups.GaveGroup.{group_within, group_first, group_guarded}
-use Rattle.pull_turns.specs.Piping.{Standing, HasKind}
+use Rattle.pull_turns.specs.Piping.{StateMeaning, HasKind}
 use Rattle.pull_turns.specs.Rest.{CanStep, IsLive, IsRunOfRest}
 use Rattle.pull_turns.specs.Turned.HasFinished.{within, first, guarded, taken}
-use Rattle.pull_turns.specs.Turned.{Leads, Ends, Over, Moved, Turned, Gave, GivesKind, GoesOn, HasCause}
-use Rattle.pull_turns.specs.Moves.{is_done, is_fault, append_turn, guard_turn, TakenOf, LeavesAtEnd}
+use Rattle.pull_turns.specs.Turned.{Leads, TellsAtEnd, Over, Moved, Turned, Gave, GivesKind, GoesOn, HasCause}
+use Rattle.pull_turns.specs.Moves.{is_done, turn_is_fault, append_turn, guard_turn, TakenOf, LeavesAtEnd}
 use Rattle.pull_turns.specs.declared.rest.Rest.{Rest}
 use Rattle.pull_turns.specs.declared.rest.Rest.TheVariants.{Nil, Start, Within', Append', OnFault', Through', Take'}
 use Rattle.pull_turns.specs.declared.turn.Turn.{Turn}
@@ -41,7 +41,7 @@ take_none (suc k) = refl
 pub taken_moved : {F : Type 0} (a b : Around) (s k : ℕ) (p : Box (Unit {0}) Global) (x : Rest F) → 0 < k → Moved a b s x → Moved a b s (Take' k p x)
 taken_moved a b s k p x some h = moved_part a b s s x (Take' k p x) (omega arith) (λ r i. (some, i)) h
 
-module _ {F : Type 0} (P : Standing F) where
+module _ {F : Type 0} (P : StateMeaning F) where
   pub nil_step : (a : Around) (s n : ℕ) → Turned P a a s n Nil Nil turn.Done
   nil_step a s n = turned_same P a s n _ _ _ (λ p i. i) (omega arith) (omega arith) (omega arith) (λ g. absurd g) (λ g. absurd g) (λ k h. tt) (λ g. absurd g)
       (cause_none a.told a.told _ _ done_is_no_fault) (λ w o. inl (refl, refl))
@@ -65,7 +65,7 @@ module _ {F : Type 0} (P : Standing F) where
       → Turned P a b s n (Append' p x m) (cond (is_done t) (Start m.value) (Append' q new m)) (append_turn t)
   append_step a b s n p q m x new t r h = by_turn t h
     where
-      ends_first : (w : ℕ → DeviceTold) → Ends b.told w (Append' p x m) (Append' q new m) → Ends b.told w x new
+      ends_first : (w : ℕ → DeviceTold) → TellsAtEnd b.told w (Append' p x m) (Append' q new m) → TellsAtEnd b.told w x new
       ends_first w e = record { over = λ k i never. e.over k (inl i) (elim [ inl j ↦ never j | inr j ↦ r.ready.0 k i j ]); goes = e.goes }
 
       on : (t : Turn) → Turned P a b s n x new t → ((k : LoadKind) → HasKind P k (Append' p x m) → GivesKind P k (Append' q new m) t)
@@ -85,7 +85,7 @@ module _ {F : Type 0} (P : Standing F) where
       }
 
       -- the second part is all that is left
-      behind : (t : Turn) → Turned P a b s n x new t → ((w : ℕ → DeviceTold) → Ends b.told w (Append' p x m) (Start m.value) → Leads [] (IsRun w m.value) (IsRunOfRest P w (Append' p x m)))
+      behind : (t : Turn) → Turned P a b s n x new t → ((w : ℕ → DeviceTold) → TellsAtEnd b.told w (Append' p x m) (Start m.value) → Leads [] (IsRun w m.value) (IsRunOfRest P w (Append' p x m)))
           → Turned P a b s n (Append' p x m) (Start m.value) turn.Quiet
       behind t h g = record {
         moved = moved_part a b s s x (Append' p x m) (omega arith) (λ k i. inl i) h.moved;
@@ -112,10 +112,10 @@ module _ {F : Type 0} (P : Standing F) where
           (λ w o. inl (inl (h.gave w (record { over = λ k i. o.over k (inl i); goes = o.goes }), fault_is_not_done c, idle w m.value)))
 
   pub guard_step : (a b : Around) (s n : ℕ) (p q m : _) (x new : Rest F) (t : Turn) → CanStep P a s (OnFault' p x m) → Turned P a b s n x new t
-      → Turned P a b s n (OnFault' p x m) (cond (is_fault t) (Start m.value) (OnFault' q new m)) (guard_turn t)
+      → Turned P a b s n (OnFault' p x m) (cond (turn_is_fault t) (Start m.value) (OnFault' q new m)) (guard_turn t)
   guard_step a b s n p q m x new t r h = by_turn t h
     where
-      ends_first : (w : ℕ → DeviceTold) → Ends b.told w (OnFault' p x m) (OnFault' q new m) → Ends b.told w x new
+      ends_first : (w : ℕ → DeviceTold) → TellsAtEnd b.told w (OnFault' p x m) (OnFault' q new m) → TellsAtEnd b.told w x new
       ends_first w e = record { over = λ k i never. e.over k (inl i) (elim [ inl j ↦ never j | inr j ↦ r.ready.0 k i j ]); goes = e.goes }
 
       on : (t : Turn) → Turned P a b s n x new t → ((k : LoadKind) → HasKind P k (OnFault' p x m) → GivesKind P k (OnFault' q new m) t)
@@ -135,7 +135,7 @@ module _ {F : Type 0} (P : Standing F) where
       }
 
       -- the second part is all that is left
-      behind : (t : Turn) → Turned P a b s n x new t → ((w : ℕ → DeviceTold) → Ends b.told w (OnFault' p x m) (Start m.value) → Leads [] (IsRun w m.value) (IsRunOfRest P w (OnFault' p x m)))
+      behind : (t : Turn) → Turned P a b s n x new t → ((w : ℕ → DeviceTold) → TellsAtEnd b.told w (OnFault' p x m) (Start m.value) → Leads [] (IsRun w m.value) (IsRunOfRest P w (OnFault' p x m)))
           → Turned P a b s n (OnFault' p x m) (Start m.value) turn.Quiet
       behind t h g = record {
         moved = moved_part a b s s x (OnFault' p x m) (omega arith) (λ k i. inl i) h.moved;
@@ -151,7 +151,7 @@ module _ {F : Type 0} (P : Standing F) where
         gave = g;
       }
 
-      by_turn : (t : Turn) → Turned P a b s n x new t → Turned P a b s n (OnFault' p x m) (cond (is_fault t) (Start m.value) (OnFault' q new m)) (guard_turn t)
+      by_turn : (t : Turn) → Turned P a b s n x new t → Turned P a b s n (OnFault' p x m) (cond (turn_is_fault t) (Start m.value) (OnFault' q new m)) (guard_turn t)
       by_turn (turn.Chunk l) h = on (turn.Chunk l) h (λ k i. let j = h.kinds k i.0 in (j.0, (j.1, i.1)))
           (h.gave.0, λ w e. by_left (by_first (h.gave.1 w (ends_first w e))) ([], Cut, inl (can_stop P w new, no_fault, idle w m.value)))
       by_turn turn.Quiet h = on turn.Quiet h (λ k i. (h.kinds k i.0, i.1))
@@ -179,7 +179,7 @@ module _ {F : Type 0} (P : Standing F) where
     })
 
     -- the scope is closed
-    ends : (t : Turn) (j : Exit) → (GoesOn t → ⊥) → Leaves (seen y) c j (seen z) → Turned P a (seen y) c n x new t → ((k : LoadKind) → HasKind P k x → GivesKind P k (Within' c q new) t) → Gave P (seen z).told (Within' c p x) (Within' c q new) t
+    ends : (t : Turn) (j : Exit) → (GoesOn t → ⊥) → LeavesScope (seen y) c j (seen z) → Turned P a (seen y) c n x new t → ((k : LoadKind) → HasKind P k x → GivesKind P k (Within' c q new) t) → Gave P (seen z).told (Within' c p x) (Within' c q new) t
         → Turned P a (seen z) s n (Within' c p x) (Within' c q new) t
     ends t j never l h kinds g =
         let same : (k : ℕ) → gist ((seen z).told k) ≡ gist ((seen y).told k) = λ k. (l.keeps s below).told k (λ i. i) in
@@ -203,7 +203,7 @@ module _ {F : Type 0} (P : Standing F) where
         }
 
     -- what is over at the end was over before the scope was closed
-    over_part : (j : Exit) → Leaves (seen y) c j (seen z) → (w : ℕ → DeviceTold) → Over (seen z).told w (Within' c p x) → Over (seen y).told w x
+    over_part : (j : Exit) → LeavesScope (seen y) c j (seen z) → (w : ℕ → DeviceTold) → Over (seen z).told w (Within' c p x) → Over (seen y).told w x
     over_part j l w o = record {
       over = λ k i. o.over k i ∙ (l.keeps s below).told k (λ i. i);
       goes = λ k. goes_on ((seen y).told k) ((seen z).told k) (w k) (goes_gist ((seen y).told k) ((seen z).told k) ((l.keeps s below).told k (λ i. i))) (o.goes k);
@@ -217,7 +217,7 @@ module _ {F : Type 0} (P : Standing F) where
 
   -- a taker is left with m elements to take
   module _ (a b : Around) (s n k m : ℕ) (p q : Box (Unit {0}) Global) (x new : Rest F) (plain : HasNoGroups x) (still : HasNoGroups new) (some : 0 < k) where
-    ends_taken : (w : ℕ → DeviceTold) (j : ℕ) → Ends b.told w (Take' k p x) (Take' j q new) → Ends b.told w x new
+    ends_taken : (w : ℕ → DeviceTold) (j : ℕ) → TellsAtEnd b.told w (Take' k p x) (Take' j q new) → TellsAtEnd b.told w x new
     ends_taken w j e = record { over = λ r i never. e.over r (some, i) (λ l. never l.1); goes = e.goes }
 
     over_taken : (w : ℕ → DeviceTold) → Over b.told w (Take' k p x) → Over b.told w x

@@ -9,9 +9,9 @@ use Rattle.device_port.specs.Device.{DeviceTold}
 use Rattle.pull_turns.specs.Around.{Around, Goes, Keeps, gist}
 use Rattle.pull_turns.specs.Groups.{GaveGroup, HasNoGroups}
 use Rattle.pull_turns.specs.Groups.GaveGroup.{group, group_within, group_first, group_guarded}
-use Rattle.pull_turns.specs.Piping.{Standing, HasKind, PipesFit}
+use Rattle.pull_turns.specs.Piping.{StateMeaning, HasKind, PipesFit}
 use Rattle.pull_turns.specs.Rest.{IsLive, IsReady, left, rows_left, scopes_left}
-use Rattle.pull_turns.specs.Turned.{HasFinished, Moved, ReadsOnce, HasCause, Turned, Gave, GivesKind, GoesOn, IsCaused, IsCausedBy}
+use Rattle.pull_turns.specs.Turned.{HasFinished, Moved, ReadsOnce, HasCause, Turned, Gave, GivesKind, GoesOn, TurnIsCaused, IsCausedBy}
 use Rattle.pull_turns.specs.declared.rest.Rest.{Rest}
 use Rattle.pull_turns.specs.declared.turn.Turn.{Turn}
 use Rattle.pull_turns.specs.declared.turn.Turn.TheVariants as turn
@@ -74,7 +74,7 @@ cause_on a b c x y t f same h = record {
 }
 
 -- one of the three causes is one of each turn
-pub by_three : {F : Type 0} (P : Standing F) (a b : ℕ → DeviceTold) (old new : Rest F) (t : Turn) → (GoesOn t → IsCaused P a b old new) → IsCausedBy P a b old new t
+pub by_three : {F : Type 0} (P : StateMeaning F) (a b : ℕ → DeviceTold) (old new : Rest F) (t : Turn) → (GoesOn t → TurnIsCaused P a b old new) → IsCausedBy P a b old new t
 by_three P a b old new (turn.Chunk l) f = inl (f tt)
 by_three P a b old new turn.Quiet f = f tt
 by_three P a b old new turn.Done f = tt
@@ -88,14 +88,14 @@ no_group xs _ _ none (group_first p q a b m h) = no_group xs a b none h
 no_group xs _ _ none (group_guarded p q a b m h) = no_group xs a b none h
 
 -- where no part is grouped, a turn that goes on has one of the three causes
-pub one_of_three : {F : Type 0} (P : Standing F) (a b : ℕ → DeviceTold) (x new : Rest F) (t : Turn) → HasNoGroups x → IsCausedBy P a b x new t → GoesOn t → IsCaused P a b x new
+pub one_of_three : {F : Type 0} (P : StateMeaning F) (a b : ℕ → DeviceTold) (x new : Rest F) (t : Turn) → HasNoGroups x → IsCausedBy P a b x new t → GoesOn t → TurnIsCaused P a b x new
 one_of_three P a b x new (turn.Chunk l) none h g = elim h [ inl i ↦ i | inr i ↦ absurd (no_group _ x new none i) ]
 one_of_three P a b x new turn.Quiet none h g = h
 one_of_three P a b x new turn.Done none h g = absurd g
 one_of_three P a b x new (turn.Fault c) none h g = absurd g
 
 -- a turn that touches nothing
-pub turned_by : {F : Type 0} (P : Standing F) (a : Around) (s n : ℕ) (old new : Rest F) (t : Turn) → ((p : ℕ) → IsLive p new → IsLive p old) → left new ≤ left old
+pub turned_by : {F : Type 0} (P : StateMeaning F) (a : Around) (s n : ℕ) (old new : Rest F) (t : Turn) → ((p : ℕ) → IsLive p new → IsLive p old) → left new ≤ left old
     → rows_left new ≤ rows_left old → scopes_left new ≤ scopes_left old → (GoesOn t → IsReady a s new) → (GoesOn t → PipesFit P new)
     → ((k : LoadKind) → HasKind P k old → GivesKind P k new t) → IsCausedBy P a.told a.told old new t
     → HasCause a.told a.told old t → Gave P a.told old new t → Turned P a a s n old new t
@@ -114,23 +114,23 @@ turned_by P a s n old new t live fewer rows scopes ready pipes kinds caused caus
 }
 
 -- the same by one of the three causes
-pub turned_same : {F : Type 0} (P : Standing F) (a : Around) (s n : ℕ) (old new : Rest F) (t : Turn) → ((p : ℕ) → IsLive p new → IsLive p old) → left new ≤ left old
+pub turned_same : {F : Type 0} (P : StateMeaning F) (a : Around) (s n : ℕ) (old new : Rest F) (t : Turn) → ((p : ℕ) → IsLive p new → IsLive p old) → left new ≤ left old
     → rows_left new ≤ rows_left old → scopes_left new ≤ scopes_left old → (GoesOn t → IsReady a s new) → (GoesOn t → PipesFit P new)
-    → ((k : LoadKind) → HasKind P k old → GivesKind P k new t) → (GoesOn t → IsCaused P a.told a.told old new)
+    → ((k : LoadKind) → HasKind P k old → GivesKind P k new t) → (GoesOn t → TurnIsCaused P a.told a.told old new)
     → HasCause a.told a.told old t → Gave P a.told old new t → Turned P a a s n old new t
 turned_same P a s n old new t live fewer rows scopes ready pipes kinds caused cause gave =
     turned_by P a s n old new t live fewer rows scopes ready pipes kinds (by_three P a.told a.told old new t caused) cause gave
 
 -- what caused a turn of a part caused the turn of the whole
-pub caused_part : {F : Type 0} (P : Standing F) (a b : ℕ → DeviceTold) (x new y z : Rest F) → (left new < left x → left z < left y) → ((p : ℕ) → IsLive p x → IsLive p y)
-    → (HasFinished P x new → HasFinished P y z) → IsCaused P a b x new → IsCaused P a b y z
+pub caused_part : {F : Type 0} (P : StateMeaning F) (a b : ℕ → DeviceTold) (x new y z : Rest F) → (left new < left x → left z < left y) → ((p : ℕ) → IsLive p x → IsLive p y)
+    → (HasFinished P x new → HasFinished P y z) → TurnIsCaused P a b x new → TurnIsCaused P a b y z
 caused_part P a b x new y z f g h = elim [
   | inl i ↦ inl (f i)
   | inr i ↦ inr (elim i [ inl j ↦ inl (j.0, g j.0 j.1, j.2) | inr j ↦ inr (h j) ])
 ]
 
 -- the same of each turn
-pub caused_whole : {F : Type 0} (P : Standing F) (a b : ℕ → DeviceTold) (x new y z : Rest F) (t : Turn) → (left new < left x → left z < left y) → ((p : ℕ) → IsLive p x → IsLive p y)
+pub caused_whole : {F : Type 0} (P : StateMeaning F) (a b : ℕ → DeviceTold) (x new y z : Rest F) (t : Turn) → (left new < left x → left z < left y) → ((p : ℕ) → IsLive p x → IsLive p y)
     → (HasFinished P x new → HasFinished P y z) → ((xs : List Element) → GaveGroup xs x new → GaveGroup xs y z) → IsCausedBy P a b x new t → IsCausedBy P a b y z t
 caused_whole P a b x new y z (turn.Chunk l) f g h k i = elim i [ inl j ↦ inl (caused_part P a b x new y z f g h j) | inr j ↦ inr (k _ j) ]
 caused_whole P a b x new y z turn.Quiet f g h k i = caused_part P a b x new y z f g h i

@@ -12,9 +12,9 @@ use Rattle.pull_nodes.specs.declared.node.Node.TheVariants as node
 use Rattle.pull_nodes.specs.declared.pipe.Pipe.{Pipe}
 use Rattle.pull_turns.specs.Around.{Around}
 use Rattle.pull_turns.specs.Groups.{GroupedOf, HasNoGroups, IsFirstGroup, IsInGroups, waiting}
-use Rattle.pull_turns.specs.Moves.{PieceTurn, ReadsPiece, TakenOf, append_turn, guard_turn, is_done, is_fault}
-use Rattle.pull_turns.specs.Passing.{IsFinished, Passes, after_fed, after_pipe, load_or_fault, same_or_faulty, turn_of_fed}
-use Rattle.pull_turns.specs.Piping.{PipesFit, Standing}
+use Rattle.pull_turns.specs.Moves.{PieceTurn, ReadsPiece, TakenOf, append_turn, guard_turn, is_done, turn_is_fault}
+use Rattle.pull_turns.specs.Passing.{PipeGaveMore, Passes, after_fed, after_pipe, load_or_fault, same_or_faulty, turn_of_fed}
+use Rattle.pull_turns.specs.Piping.{PipesFit, StateMeaning}
 use Rattle.pull_turns.specs.Turned.{GoesOn}
 use Rattle.pull_turns.specs.Work.{Lessens, groups_left, work_left}
 use Rattle.pull_turns.specs.declared.piping.After.{After}
@@ -73,7 +73,7 @@ module _ {F : Type 0} (due : F → ℕ) where
   append_work p q m x new turn.Done h = record { falls = λ g. omega arith }
   append_work p q m x new (turn.Fault c) h = record { falls = λ g. absurd g }
 
-  pub guard_work : (p q : Box (Unit {0}) Global) (m : Box Node Global) (x new : Rest F) (t : Turn) → Lessens due x new t → Lessens due (OnFault' p x m) (cond (is_fault t) (Start m.value) (OnFault' q new m)) (guard_turn t)
+  pub guard_work : (p q : Box (Unit {0}) Global) (m : Box Node Global) (x new : Rest F) (t : Turn) → Lessens due x new t → Lessens due (OnFault' p x m) (cond (turn_is_fault t) (Start m.value) (OnFault' q new m)) (guard_turn t)
   guard_work p q m x new (turn.Chunk l) h = record { falls = λ g. omega (arith, h.falls tt) }
   guard_work p q m x new turn.Quiet h = record { falls = λ g. omega (arith, h.falls tt) }
   guard_work p q m x new turn.Done h = record { falls = λ g. absurd g }
@@ -101,11 +101,11 @@ module _ {F : Type 0} (due : F → ℕ) where
   pub waited_work : (k : ℕ) (p q : Box (Unit {0}) Global) (x : Rest F) (l m : Load) (o : Option Load) → 0 < k → 0 < length (elements l) → IsFirstGroup k l m o → Lessens due (Groups' k (Some l) p x) (Groups' k o q x) (turn.Chunk m)
   waited_work k p q x l m o some long w = record { falls = λ g. omega (arith, ap length w.behind, length-drop k (elements l), some, long) }
 
-  module _ (P : Standing F) (dues : (q : F) (k : LoadKind) (ys : List Element) (c : Option Code) → P.comes q k ys c → (length ys ≡ due q) × (due q < 2 ^ 64)) where
+  module _ (P : StateMeaning F) (dues : (q : F) (k : LoadKind) (ys : List Element) (c : Option Code) → P.comes q k ys c → (length ys ≡ due q) × (due q < 2 ^ 64)) where
     -- A pipe whose input had ended before.
 
     module _ (q r : F) (fit : PipesFit P (Finishing q)) where
-      finishing_by : (u : Turn) (z : After) (f : IsFinished P q r u z) (answer : Fed) → answer ≡ f.answer → Lessens due (Finishing q) (after_pipe (after_fed answer after.Finishing) (Finishing r)) (turn_of_fed answer)
+      finishing_by : (u : Turn) (z : After) (f : PipeGaveMore P q r u z) (answer : Fed) → answer ≡ f.answer → Lessens due (Finishing q) (after_pipe (after_fed answer after.Finishing) (Finishing r)) (turn_of_fed answer)
       finishing_by u z f (fed.Out o) e = record {
         falls = λ g.
             let h = rw (← e) at (f.next fit.0 fit.1 fit.2 fit.3) in
@@ -120,7 +120,7 @@ module _ {F : Type 0} (due : F → ℕ) where
           by_length zero e le = record { falls = λ g. absurd g }
           by_length (suc k) e le = record { falls = λ g. omega (arith, le) }
 
-      pub finishing_work : (u : Turn) (z : After) → IsFinished P q r u z → Lessens due (Finishing q) (after_pipe z (Finishing r)) u
+      pub finishing_work : (u : Turn) (z : After) → PipeGaveMore P q r u z → Lessens due (Finishing q) (after_pipe z (Finishing r)) u
       finishing_work u z f = rw (f.turn, f.after) (finishing_by u z f f.answer refl)
 
     module _ (p p' : Box (Unit {0}) Global) (x new : Rest F) (q r : F) (fit : PipesFit P (Through' p x q)) where
@@ -134,7 +134,7 @@ module _ {F : Type 0} (due : F → ℕ) where
       fed_by fed.End h = record { falls = λ g. absurd g }
       fed_by (fed.Fault o c) h = faulty_work o c (length (elements o))
 
-      ended_by : (u : Turn) (z : After) (f : IsFinished P q r u z) (answer : Fed) → answer ≡ f.answer → Lessens due (Through' p x q) (after_pipe (after_fed answer after.Finishing) (Through' p' new r)) (turn_of_fed answer)
+      ended_by : (u : Turn) (z : After) (f : PipeGaveMore P q r u z) (answer : Fed) → answer ≡ f.answer → Lessens due (Through' p x q) (after_pipe (after_fed answer after.Finishing) (Through' p' new r)) (turn_of_fed answer)
       ended_by u z f (fed.Out o) e = record {
         falls = λ g.
             let h = rw (← e) at (f.first fit.1.1 fit.1.2 fit.1.4).given in

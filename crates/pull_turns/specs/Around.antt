@@ -53,7 +53,7 @@ pub record Affords (a b : Around) : Type 0 where
   pub rows : a.rows ≤ b.rows
 
 -- the device of p was opened, and the scope s holds it
-pub record Acquires (a : Around) (s p : ℕ) (b : Around) : Type 0 where
+pub record AcquiresDevice (a : Around) (s p : ℕ) (b : Around) : Type 0 where
   pub told : b.told p ≡ record (a.told p) { is_open = true; opens = 1 }
   pub keeps : (k : ℕ) → Keeps a (λ q. q ≡ p) k b
   pub holds : (q k : ℕ) → a.holds q k → b.holds q k
@@ -69,7 +69,7 @@ pub record Refuses (a : Around) (p : ℕ) (b : Around) : Type 0 where
   pub affords : Affords a b
 
 -- the device of p gave the first n bytes of the buffer, and none only at its end
-pub record Gives (a : Around) (p n : ℕ) (buf : List ℕ) (b : Around) : Type 0 where
+pub record GivesPiece (a : Around) (p n : ℕ) (buf : List ℕ) (b : Around) : Type 0 where
   pub count : n ≤ length buf
   pub told : b.told p ≡ moved n (a.told p)
   pub bytes : IfSome (a.told p).content (λ c. take n buf ≡ take n (drop (a.told p).at c))
@@ -79,7 +79,7 @@ pub record Gives (a : Around) (p n : ℕ) (buf : List ℕ) (b : Around) : Type 0
   pub affords : Affords a b
 
 -- the device of p could not be read
-pub record Fails (a : Around) (p : ℕ) (b : Around) : Type 0 where
+pub record FailsToRead (a : Around) (p : ℕ) (b : Around) : Type 0 where
   pub told : b.told p ≡ record (a.told p) { read_faults = (a.told p).read_faults + 1 }
   pub keeps : (k : ℕ) → Keeps a (λ q. q ≡ p) k b
   pub affords : Affords a b
@@ -102,7 +102,7 @@ pub record IsClosedWith (a : Around) (c : ℕ) (x : Exit) : Type 0 where
 
 -- the scope c was closed with the exit x and with what it held, and no other scope for itself, but each scope within it;
 -- a device of a scope that was closed with it is closed, each that was closed tells that exit, and with the root each scope is closed
-pub record Leaves (a : Around) (c : ℕ) (x : Exit) (b : Around) : Type 0 where
+pub record LeavesScope (a : Around) (c : ℕ) (x : Exit) (b : Around) : Type 0 where
   pub told : (q : ℕ) → gist (b.told q) ≡ gist (a.told q)
   pub keeps : (k : ℕ) → k < c → Keeps a (λ q. ⊥) k b
   pub closed : IsClosedWith b c x

@@ -70,9 +70,9 @@ module _ {F : Type 0} where
   HasNoGroups (Take' n _ a) = HasNoGroups a
 
 -- groups of this size, where there are groups, have at most k elements
-abbrev pub AreWithin : ℕ → Option ℕ → Type 0
-AreWithin k None = ⊥
-AreWithin k (Some n) = n ≤ k
+abbrev pub GroupIsWithin : ℕ → Option ℕ → Type 0
+GroupIsWithin k None = ⊥
+GroupIsWithin k (Some n) = n ≤ k
 
 -- each part of the node that gives elements gives at most k in a chunk, by a pipe that groups or by a load that is no longer
 abbrev pub IsGroupedOf : ℕ → Node → Type 0
@@ -84,7 +84,7 @@ IsGroupedOf k (node.Weak' p _ a) = IsGroupedOf k a
 IsGroupedOf k (node.Scope' _ a) = IsGroupedOf k a
 IsGroupedOf k (node.Append' _ a _ b) = IsGroupedOf k a × IsGroupedOf k b
 IsGroupedOf k (node.OnFault' _ a _ b) = IsGroupedOf k a × IsGroupedOf k b
-IsGroupedOf k (node.Through' _ a q) = AreWithin k (groups_of q)
+IsGroupedOf k (node.Through' _ a q) = GroupIsWithin k (groups_of q)
 IsGroupedOf k (node.Take' n _ a) = ⊥
 
 -- the chunk has at most k elements

@@ -8,9 +8,9 @@ use Rattle.chunk_core.specs.Outcomes.{End, Done, Fault, Cut, exit_of}
 use Rattle.device_port.specs.Device.{DeviceTold}
 use Rattle.pull_turns.specs.Around.{Around, Goes, IsClosedWith, gist}
 use Rattle.pull_turns.specs.Groups.{Grouped, IsGrouped}
-use Rattle.pull_turns.specs.Piping.{Standing, HasKind}
+use Rattle.pull_turns.specs.Piping.{StateMeaning, HasKind}
 use Rattle.pull_turns.specs.Rest.{IsRunOfRest, IsLive, CanStep, left}
-use Rattle.pull_turns.specs.Turned.{Leads, Ends, Over, ReadsOnce, HasCause, Gave, GivesKind, GoesOn, IsCausedBy, Spends}
+use Rattle.pull_turns.specs.Turned.{Leads, TellsAtEnd, Over, ReadsOnce, HasCause, Gave, GivesKind, GoesOn, IsCausedBy, Spends}
 use Rattle.pull_turns.specs.Moves.{how_of}
 use Rattle.pull_turns.specs.Scoped.{ClosesAtEnd, Scoped}
 use Rattle.pull_turns.specs.declared.rest.Rest.{Rest}
@@ -25,7 +25,7 @@ pub record IsShut (a : Around) : Type 0 where
   pub devices : (p : ℕ) → (a.told p).is_open ≡ false
 
 -- only devices of what was left were touched
-pub record Tells {F : Type 0} (before now : ℕ → DeviceTold) (old : Rest F) : Type 0 where
+pub record TouchesOnly {F : Type 0} (before now : ℕ → DeviceTold) (old : Rest F) : Type 0 where
   pub goes : (p : ℕ) → Goes (before p) (now p)
   pub others : (p : ℕ) → (IsLive p old → ⊥) → gist (now p) ≡ gist (before p)
 
@@ -48,10 +48,10 @@ loads_of turn.Quiet = []
 loads_of turn.Done = []
 loads_of (turn.Fault c) = []
 
-module _ {F : Type 0} (P : Standing F) where
+module _ {F : Type 0} (P : StateMeaning F) where
   -- a turn of the whole was made, with reads of at most n bytes; at an end each scope and each device is closed, the root with the exit of that end
   pub record Turns (before now : Around) (n : ℕ) (old new : Rest F) (t : Turn) : Type 0 where
-    pub tells : Tells before.told now.told old
+    pub tells : TouchesOnly before.told now.told old
     pub once : ReadsOnce before.told now.told n
     pub live : (p : ℕ) → IsLive p new → IsLive p old
     pub fewer : left new ≤ left old
@@ -68,11 +68,11 @@ module _ {F : Type 0} (P : Standing F) where
 
   -- since the start turns gave these elements
   pub record Led (before now : ℕ → DeviceTold) (start rest : Rest F) (xs : List Element) : Type 0 where
-    pub tells : Tells before now start
+    pub tells : TouchesOnly before now start
     pub live : (p : ℕ) → IsLive p rest → IsLive p start
     pub kinds : (k : LoadKind) → HasKind P k start → HasKind P k rest
     pub grouped : (k : ℕ) → IsGrouped k start → IsGrouped k rest
-    pub lead : (w : ℕ → DeviceTold) → Ends now w start rest → Leads xs (IsRunOfRest P w rest) (IsRunOfRest P w start)
+    pub lead : (w : ℕ → DeviceTold) → TellsAtEnd now w start rest → Leads xs (IsRunOfRest P w rest) (IsRunOfRest P w start)
 
   module _ {O : Type 0} (seen : O → Around) (n : ℕ) where
     -- so many turns were made, with reads of at most n bytes; none was the end, and they gave these loads
@@ -93,7 +93,7 @@ module _ {F : Type 0} (P : Standing F) where
         × ((kind : LoadKind) → HasKind P kind old → kind_of l ≡ kind) × ComesWithin k a old b new (turn.Chunk l)
         × ((j : ℕ) → IsGrouped j old → length (elements l) ≤ j)
     Uncons k a b old new h (unconsed.End e) =
-        (h ≡ Some e) × IsShut (seen b) × IsClosedWith (seen b) 0 (exit_of e) × Tells (seen a).told (seen b).told old × ((w : ℕ → DeviceTold) → Over (seen b).told w old → IsRunOfRest P w old [] (end_of e))
+        (h ≡ Some e) × IsShut (seen b) × IsClosedWith (seen b) 0 (exit_of e) × TouchesOnly (seen a).told (seen b).told old × ((w : ℕ → DeviceTold) → Over (seen b).told w old → IsRunOfRest P w old [] (end_of e))
         × ((t : Turn) × (how_of t ≡ Some e) × ComesWithin k a old b new t)
     Uncons k a b old new h unconsed.Again =
         GoesOnFor k a old b new [] × (h ≡ None) × CanStep P (seen b) 0 new × Led (seen a).told (seen b).told old new []

@@ -6,7 +6,7 @@ use Rattle.chunk_core.specs.declared.code.How.TheVariants as how
 use Rattle.chunk_core.specs.declared.load.Load.{Load}
 use Rattle.chunk_core.specs.Elements.{elements, kind_of, Byte}
 use Rattle.chunk_core.specs.Outcomes.{exit_of}
-use Rattle.pull_turns.specs.Around.{Around, Affords, Keeps, Leaves}
+use Rattle.pull_turns.specs.Around.{Around, Affords, Keeps, LeavesScope}
 use Rattle.pull_turns.specs.declared.rest.Rest.{Rest}
 use Rattle.pull_turns.specs.declared.rest.Rest.TheVariants.{Start, Append', OnFault'}
 use Rattle.pull_turns.specs.declared.turn.Turn.{Turn}
@@ -20,11 +20,11 @@ is_done turn.Done = true
 is_done (turn.Fault c) = false
 
 -- the turn ends the run by a fault
-abbrev pub is_fault : Turn → Bool
-is_fault (turn.Chunk l) = false
-is_fault turn.Quiet = false
-is_fault turn.Done = false
-is_fault (turn.Fault c) = true
+abbrev pub turn_is_fault : Turn → Bool
+turn_is_fault (turn.Chunk l) = false
+turn_is_fault turn.Quiet = false
+turn_is_fault turn.Done = false
+turn_is_fault (turn.Fault c) = true
 
 -- how a run has ended after a turn
 abbrev pub how_of : Turn → Option How
@@ -102,7 +102,7 @@ pub record ReadsPiece (before now : Around) (n p from to : ℕ) (t : Turn) : Typ
 
 module _ {O : Type 0} where
   abbrev pub LeavesIf : Option How → (O → Around) → O → ℕ → O → Type 0
-  LeavesIf (Some h) seen a c b = Leaves (seen a) c (exit_of h) (seen b)
+  LeavesIf (Some h) seen a c b = LeavesScope (seen a) c (exit_of h) (seen b)
   LeavesIf None seen a c b = b ≡ a
 
   -- where the turn ends what ran in the scope c, the scope was closed with the exit of that end

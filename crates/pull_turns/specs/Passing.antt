@@ -6,7 +6,7 @@ use Rattle.chunk_core.specs.declared.feed.Fed.TheVariants as fed
 use Rattle.chunk_core.specs.declared.load.Load.{Load}
 use Rattle.chunk_core.specs.Elements.{Element, LoadKind, elements, kind_of}
 use Rattle.chunk_core.specs.Feed.{Meaning, Feeds, Finishes, Continues}
-use Rattle.pull_turns.specs.Piping.{Standing}
+use Rattle.pull_turns.specs.Piping.{StateMeaning}
 use Rattle.pull_turns.specs.Moves.{giving}
 use Rattle.pull_turns.specs.declared.piping.After.{After}
 use Rattle.pull_turns.specs.declared.piping.After.TheVariants as after
@@ -47,9 +47,9 @@ module _ {F : Type 0} where
   after_pipe after.Finishing r = finishing r
   after_pipe (after.Faulty c) r = Faulty c
 
-module _ {F : Type 0} (P : Standing F) where
+module _ {F : Type 0} (P : StateMeaning F) where
   -- the input has ended or had ended before, and the pipe gave the next of what is still to come
-  pub record IsFinished (old new : F) (t : Turn) (a : After) : Type 0 where
+  pub record PipeGaveMore (old new : F) (t : Turn) (a : After) : Type 0 where
     pub answer : Fed
     pub turn : t ≡ turn_of_fed answer
     pub after : a ≡ after_fed answer after.Finishing
@@ -67,5 +67,5 @@ module _ {F : Type 0} (P : Standing F) where
   abbrev pub Passes : F → F → Turn → Turn → After → Type 0
   Passes old new (turn.Chunk l) t a = IsFed old new l t a
   Passes old new turn.Quiet t a = (new ≡ old) × (t ≡ turn.Quiet) × (a ≡ after.Same)
-  Passes old new turn.Done t a = IsFinished old new t a
+  Passes old new turn.Done t a = PipeGaveMore old new t a
   Passes old new (turn.Fault c) t a = (new ≡ old) × (t ≡ turn.Fault c) × (a ≡ after.Same)

@@ -18,11 +18,11 @@ use Rattle.pull_turns.specs.declared.turn.Turn.{Turn}
 use Rattle.pull_turns.specs.declared.turn.Turn.TheVariants as turn
 
 -- for which inputs of which pipes a state stands, and what is still to come of a pipe whose input has ended
-pub record Standing (F : Type 0) : Type 1 where
+pub record StateMeaning (F : Type 0) : Type 1 where
   pub stands : F → Meaning → List Element → Type 0
   pub comes : F → LoadKind → List Element → Option Code → Type 0
 
-abbrev pub standing : {F : Type 0} → (F → Meaning → List Element → Type 0) → (F → LoadKind → List Element → Option Code → Type 0) → Standing F
+abbrev pub standing : {F : Type 0} → (F → Meaning → List Element → Type 0) → (F → LoadKind → List Element → Option Code → Type 0) → StateMeaning F
 standing stands comes = record { stands = stands; comes = comes }
 
 -- each load that the node may give is of this kind: no load comes through a pipe that gets none and makes nothing of nothing
@@ -65,7 +65,7 @@ Behind xs A ys e = (zs : List Element) × A zs e × (ys ≡ xs ++ zs)
 abbrev pub Exactly : List Element → End → Outcomes
 Exactly xs g ys e = (ys ≡ xs) × (e ≡ g)
 
-module _ {F : Type 0} (P : Standing F) where
+module _ {F : Type 0} (P : StateMeaning F) where
   -- the state stands for a pipe that makes nothing of nothing
   abbrev pub GivesNothing : F → Type 0
   GivesNothing q = (m : Meaning) × P.stands q m [] × ((m.all []).list ≡ [])
@@ -87,8 +87,8 @@ module _ {F : Type 0} (P : Standing F) where
   HasKind k (Take' n _ a) = HasKind k a
 
   -- the state stands for an input of a pipe that takes what is left below it
-  abbrev pub Stands : F → Rest F → Type 0
-  Stands q a = (p : Pipe) × (m : Meaning) × (xs : List Element) × IsMeaningOf p m × P.stands q m xs × HasKind m.takes a
+  abbrev pub PipeStands : F → Rest F → Type 0
+  PipeStands q a = (p : Pipe) × (m : Meaning) × (xs : List Element) × IsMeaningOf p m × P.stands q m xs × HasKind m.takes a
 
   -- something is still to come of a pipe whose input has ended
   abbrev pub Comes : F → Type 0
@@ -102,19 +102,19 @@ module _ {F : Type 0} (P : Standing F) where
   PipesFit (Within' s _ a) = PipesFit a
   PipesFit (Append' _ a b) = PipesFit a × PipesFitOf b.value
   PipesFit (OnFault' _ a b) = PipesFit a × PipesFitOf b.value
-  PipesFit (Through' _ a q) = PipesFit a × Stands q a
+  PipesFit (Through' _ a q) = PipesFit a × PipeStands q a
   PipesFit (Finishing q) = Comes q
   PipesFit (Faulty c) = IsNoDeviceFault (Some c)
   PipesFit (Groups' n f _ a) = PipesFit a
   PipesFit (Take' n _ a) = PipesFit a
 
   -- the pipe may be told of the end of its input, or asked for more after it
-  abbrev pub CanFinish : F → Type 0
-  CanFinish q = MayFinish (P.stands q) (P.comes q)
+  abbrev pub PipeCanFinish : F → Type 0
+  PipeCanFinish q = MayFinish (P.stands q) (P.comes q)
 
   -- the pipe may get what this turn of what is below it gave
   abbrev pub CanPass : F → Turn → Type 0
   CanPass q (turn.Chunk l) = MayFeed (P.stands q) (kind_of l)
   CanPass q turn.Quiet = Unit {0}
-  CanPass q turn.Done = CanFinish q
+  CanPass q turn.Done = PipeCanFinish q
   CanPass q (turn.Fault c) = Unit {0}

@@ -11,7 +11,7 @@ use Rattle.pull_nodes.specs.Runs.{OrLeft, Follows, Taken, IsFault, IsIdle, IsRun
 use Rattle.pull_nodes.specs.Shape.{node_count, places_of, scope_count}
 use Rattle.pull_turns.specs.Around.{Around}
 use Rattle.pull_turns.specs.Groups.{HasElements, HasNoGroups, waiting}
-use Rattle.pull_turns.specs.Piping.{Standing, HasKind, PipesFit, PipedOn, Behind, Exactly}
+use Rattle.pull_turns.specs.Piping.{StateMeaning, HasKind, PipesFit, PipedOn, Behind, Exactly}
 use Rattle.pull_turns.specs.declared.rest.Rest.{Rest}
 use Rattle.pull_turns.specs.declared.rest.Rest.TheVariants.{Nil, Start, Read, Within', Append', OnFault', Through', Finishing, Faulty, Groups', Take'}
 
@@ -25,7 +25,7 @@ abbrev pub ReadsFrom : ℕ → DeviceTold → Outcomes
 ReadsFrom from d ys e = BytesFrom d.content from d.at ys × StopsReading d e
 
 -- a run of what is left, by what the devices tell at the end; what a pipe still gives is so for each input that its state stands for, of a pipe that takes what comes to it
-abbrev pub IsRunOfRest : {F : Type 0} → Standing F → (ℕ → DeviceTold) → Rest F → Outcomes
+abbrev pub IsRunOfRest : {F : Type 0} → StateMeaning F → (ℕ → DeviceTold) → Rest F → Outcomes
 IsRunOfRest P w Nil = OrLeft (Exactly [] Done)
 IsRunOfRest P w (Start n) = IsRun w n
 IsRunOfRest P w (Read p from) = OrLeft (ReadsFrom from (w p))
@@ -157,7 +157,7 @@ scopes_left (Groups' n f _ a) = scopes_left a
 scopes_left (Take' n _ a) = scopes_left a
 
 -- what is left may be run on, and there is room for it
-pub record CanStep {F : Type 0} (P : Standing F) (a : Around) (s : ℕ) (r : Rest F) : Type 0 where
+pub record CanStep {F : Type 0} (P : StateMeaning F) (a : Around) (s : ℕ) (r : Rest F) : Type 0 where
   pub ready : IsReady a s r
   pub pipes : PipesFit P r
   pub opened : a.opened s

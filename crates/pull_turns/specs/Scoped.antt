@@ -7,9 +7,9 @@ use Rattle.pull_nodes.specs.declared.node.Node.{Node}
 use Rattle.pull_nodes.specs.declared.node.Node.TheVariants as node
 use Rattle.pull_turns.specs.Around.{Around, IsClosedWith}
 use Rattle.pull_turns.specs.Groups.{GroupedOf}
-use Rattle.pull_turns.specs.Moves.{TakenOf, append_turn, guard_turn, how_of, is_done, is_fault}
+use Rattle.pull_turns.specs.Moves.{TakenOf, append_turn, guard_turn, how_of, is_done, turn_is_fault}
 use Rattle.pull_turns.specs.Passing.{Passes, after_pipe}
-use Rattle.pull_turns.specs.Piping.{Standing}
+use Rattle.pull_turns.specs.Piping.{StateMeaning}
 use Rattle.pull_turns.specs.declared.piping.After.{After}
 use Rattle.pull_turns.specs.declared.rest.Rest.{Rest}
 use Rattle.pull_turns.specs.declared.rest.Rest.TheVariants.{Nil, Start, Read, Within', Append', OnFault', Through', Finishing, Faulty, Groups', Take'}
@@ -34,7 +34,7 @@ module _ {F : Type 0} where
   abbrev pub ComesOf : (Rest F → Turn → Type 0) → (Box (Unit {0}) Global → Rest F → Turn → Type 0) → Type 0
   ComesOf Part Whole = (q : Box (Unit {0}) Global) × (b : Rest F) × (u : Turn) × Part b u × Whole q b u
 
-module _ {F : Type 0} (P : Standing F) (before now : Around) where
+module _ {F : Type 0} (P : StateMeaning F) (before now : Around) where
   -- a turn in the scope s opened a scope for each Scope that it entered, and closed that scope where what ran in it has ended, with the exit of that end
   abbrev pub Scoped : ℕ → Rest F → Rest F → Turn → Type 0
   Scoped s Nil y t = Unit {0}
@@ -42,7 +42,7 @@ module _ {F : Type 0} (P : Standing F) (before now : Around) where
   Scoped s (Read p from) y t = Unit {0}
   Scoped s (Within' c _ a) y t = ComesOf (Scoped c a) (λ q b u. (y ≡ Within' c q b) × (t ≡ u) × ClosesAtEnd now c u)
   Scoped s (Append' _ a m) y t = ComesOf (Scoped s a) (λ q b u. (y ≡ (if is_done u then Start m.value else Append' q b m)) × (t ≡ append_turn u))
-  Scoped s (OnFault' _ a m) y t = ComesOf (Scoped s a) (λ q b u. (y ≡ (if is_fault u then Start m.value else OnFault' q b m)) × (t ≡ guard_turn u))
+  Scoped s (OnFault' _ a m) y t = ComesOf (Scoped s a) (λ q b u. (y ≡ (if turn_is_fault u then Start m.value else OnFault' q b m)) × (t ≡ guard_turn u))
   Scoped s (Through' _ a x) y t = ComesOf (Scoped s a) (λ q b u. (z : F) × (k : After) × Passes P x z u t k × (y ≡ after_pipe k (Through' q b z)))
   Scoped s (Finishing x) y t = Unit {0}
   Scoped s (Faulty c) y t = Unit {0}

@@ -9,7 +9,7 @@ use Rattle.chunk_core.specs.Outcomes.{End, Done, Fault, Outcomes}
 use Rattle.device_port.specs.Device.{DeviceTold}
 use Rattle.pull_turns.specs.Around.{Around, Goes, Keeps, gist}
 use Rattle.pull_turns.specs.Groups.{GaveGroup}
-use Rattle.pull_turns.specs.Piping.{Standing, HasKind, PipesFit}
+use Rattle.pull_turns.specs.Piping.{StateMeaning, HasKind, PipesFit}
 use Rattle.pull_turns.specs.Rest.{IsRunOfRest, IsLive, IsReady, left, rows_left, scopes_left}
 use Rattle.pull_turns.specs.declared.rest.Rest.{Rest}
 use Rattle.pull_turns.specs.declared.rest.Rest.TheVariants.{Nil, Within', Append', OnFault', Through', Finishing, Faulty, Groups', Take'}
@@ -22,7 +22,7 @@ pub record Leads (xs : List Element) (New Old : Outcomes) : Type 0 where
   pub gives : (ys : List Element) (e : End) → New ys e → Old (xs ++ ys) e
 
 -- at the end the devices tell w: those of places that were left, what they tell now
-pub record Ends {F : Type 0} (now w : ℕ → DeviceTold) (old new : Rest F) : Type 0 where
+pub record TellsAtEnd {F : Type 0} (now w : ℕ → DeviceTold) (old new : Rest F) : Type 0 where
   pub over : (p : ℕ) → IsLive p old → (IsLive p new → ⊥) → gist (w p) ≡ gist (now p)
   pub goes : (p : ℕ) → Goes (now p) (w p)
 
@@ -32,9 +32,9 @@ pub record Over {F : Type 0} (now w : ℕ → DeviceTold) (old : Rest F) : Type 
   pub goes : (p : ℕ) → Goes (now p) (w p)
 
 -- what the turn gave is a front of each run of what was left before, and an end is its end
-abbrev pub Gave : {F : Type 0} → Standing F → (ℕ → DeviceTold) → Rest F → Rest F → Turn → Type 0
-Gave P now old new (turn.Chunk l) = (0 < length (elements l)) × ((w : ℕ → DeviceTold) → Ends now w old new → Leads (elements l) (IsRunOfRest P w new) (IsRunOfRest P w old))
-Gave P now old new turn.Quiet = (w : ℕ → DeviceTold) → Ends now w old new → Leads [] (IsRunOfRest P w new) (IsRunOfRest P w old)
+abbrev pub Gave : {F : Type 0} → StateMeaning F → (ℕ → DeviceTold) → Rest F → Rest F → Turn → Type 0
+Gave P now old new (turn.Chunk l) = (0 < length (elements l)) × ((w : ℕ → DeviceTold) → TellsAtEnd now w old new → Leads (elements l) (IsRunOfRest P w new) (IsRunOfRest P w old))
+Gave P now old new turn.Quiet = (w : ℕ → DeviceTold) → TellsAtEnd now w old new → Leads [] (IsRunOfRest P w new) (IsRunOfRest P w old)
 Gave P now old new turn.Done = (w : ℕ → DeviceTold) → Over now w old → IsRunOfRest P w old [] Done
 Gave P now old new (turn.Fault c) = (w : ℕ → DeviceTold) → Over now w old → IsRunOfRest P w old [] (Fault c)
 
@@ -80,13 +80,13 @@ abbrev pub SpendsWithin : {F : Type 0} → Around → Around → Rest F → Type
 SpendsWithin before now old = Spends before now old Nil
 
 -- the load is of the kind of all loads that may come, and so is what may come after it
-abbrev pub GivesKind : {F : Type 0} → Standing F → LoadKind → Rest F → Turn → Type 0
+abbrev pub GivesKind : {F : Type 0} → StateMeaning F → LoadKind → Rest F → Turn → Type 0
 GivesKind P k new (turn.Chunk l) = (kind_of l ≡ k) × HasKind P k new
 GivesKind P k new turn.Quiet = HasKind P k new
 GivesKind P k new turn.Done = Unit {0}
 GivesKind P k new (turn.Fault c) = Unit {0}
 
-module _ {F : Type 0} (P : Standing F) where
+module _ {F : Type 0} (P : StateMeaning F) where
   -- of all that was still to come of a pipe, some elements at its front came, and the rest is still to come
   abbrev pub GaveNext : F → F → Type 0
   GaveNext q r = (k : LoadKind) (ys : List Element) (c : Option Code) → P.comes q k ys c
@@ -108,16 +108,16 @@ module _ {F : Type 0} (P : Standing F) where
     taken : (i j : ℕ) (p q : Box (Unit {0}) Global) (a b : Rest F) → HasFinished a b → HasFinished (Take' i p a) (Take' j q b)
 
   -- a turn has one of three causes: a node was entered or left, a device gave a byte, or a pipe whose input has ended gave a load
-  abbrev pub IsCaused : (ℕ → DeviceTold) → (ℕ → DeviceTold) → Rest F → Rest F → Type 0
-  IsCaused before now old new =
+  abbrev pub TurnIsCaused : (ℕ → DeviceTold) → (ℕ → DeviceTold) → Rest F → Rest F → Type 0
+  TurnIsCaused before now old new =
       (left new < left old)
       ⊎ ((p : ℕ) × IsLive p old × ((before p).at < (now p).at))
       ⊎ HasFinished old new
 
   -- a turn that gives nothing has one of the three causes, and a chunk too, or it is of the groups that waited
   abbrev pub IsCausedBy : (ℕ → DeviceTold) → (ℕ → DeviceTold) → Rest F → Rest F → Turn → Type 0
-  IsCausedBy before now old new (turn.Chunk l) = IsCaused before now old new ⊎ GaveGroup (elements l) old new
-  IsCausedBy before now old new turn.Quiet = IsCaused before now old new
+  IsCausedBy before now old new (turn.Chunk l) = TurnIsCaused before now old new ⊎ GaveGroup (elements l) old new
+  IsCausedBy before now old new turn.Quiet = TurnIsCaused before now old new
   IsCausedBy before now old new turn.Done = Unit {0}
   IsCausedBy before now old new (turn.Fault c) = Unit {0}
 

@@ -5,7 +5,7 @@ use device_port::Failed;
 /// The devices of a stream by their places, and its scopes by their numbers.
 pub trait Outside {
     ghost use Rattle.std.specs.Prelude.{◌≡◌, ℕ, ◌-◌, ◌^◌, ◌<◌, ◌≤◌, length, IfOk, OnOk, OnErr};
-    ghost use Rattle.pull_turns.specs.Around.{Around, Acquires, Refuses, Gives, Fails, IsHeld, IsUntried, OpenAreHeld, Enters, Leaves};
+    ghost use Rattle.pull_turns.specs.Around.{Around, AcquiresDevice, Refuses, GivesPiece, FailsToRead, IsHeld, IsUntried, OpenAreHeld, Enters, LeavesScope};
 
     /// Where the rows are.
     type Desk;
@@ -37,7 +37,7 @@ pub trait Outside {
         requires place { (seen self.old).waits place }
         requires events { 2 ≤ (seen self.old).events }
         requires rows { 1 ≤ (seen self.old).rows }
-        ensures ok { OnOk result (Acquires (seen self.old) scope place (seen self.new)) }
+        ensures ok { OnOk result (AcquiresDevice (seen self.old) scope place (seen self.new)) }
         ensures failed { OnErr result (Refuses (seen self.old) place (seen self.new)) }
         ensures fits { fits self.new desk.new }
         ensures since { since self.old desk.old self.new desk.new };
@@ -49,8 +49,8 @@ pub trait Outside {
         requires held { IsHeld (seen self.old) place }
         requires some { 0 < length buf.old }
         requires room { ((seen self.old).told place).read_faults < 2 ^ 64 - 1 }
-        ensures ok { IfOk result (λ n. Gives (seen self.old) place n buf.new (seen self.new)) }
-        ensures failed { OnErr result (Fails (seen self.old) place (seen self.new)) }
+        ensures ok { IfOk result (λ n. GivesPiece (seen self.old) place n buf.new (seen self.new)) }
+        ensures failed { OnErr result (FailsToRead (seen self.old) place (seen self.new)) }
         ensures fits { fits self.new desk.new }
         ensures since { since self.old desk.old self.new desk.new };
 
@@ -68,7 +68,7 @@ pub trait Outside {
     fn leave(&mut self, desk: &mut Self::Desk, scope: u32, exit: Exit)
         requires fits { fits self.old desk.old }
         requires scope { (seen self.old).opened scope }
-        ensures leaves { Leaves (seen self.old) scope exit (seen self.new) }
+        ensures leaves { LeavesScope (seen self.old) scope exit (seen self.new) }
         ensures fits { fits self.new desk.new }
         ensures since { since self.old desk.old self.new desk.new };
 }

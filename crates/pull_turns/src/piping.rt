@@ -2,8 +2,8 @@
 ghost use Rattle.std.specs.Prelude.{◌≡◌, IfOk};
 ghost use Rattle.chunk_core.specs.Elements.{Element, LoadKind, elements, kind_of};
 ghost use Rattle.chunk_core.specs.Feed.{Continues, Feeds, Finishes, Meaning};
-ghost use Rattle.pull_turns.specs.Piping.{standing, CanFinish, CanPass};
-ghost use Rattle.pull_turns.specs.Passing.{after_fed, after_pipe, IsFinished, Passes, turn_of_fed};
+ghost use Rattle.pull_turns.specs.Piping.{standing, PipeCanFinish, CanPass};
+ghost use Rattle.pull_turns.specs.Passing.{after_fed, after_pipe, PipeGaveMore, Passes, turn_of_fed};
 ghost use Rattle.pull_turns.specs.declared.piping.After.TheVariants as after;
 
 use crate::loads::give;
@@ -50,8 +50,8 @@ pub(crate) fn finish<F: PipeState>(
     alloc: Global,
     state: &mut F,
 ) -> Result<(Turn, After), AllocError>
-    requires { CanFinish (standing F.stands F.comes) state.old }
-    ensures { IfOk result (λ r. IsFinished (standing F.stands F.comes) state.old state.new r.0 r.1) }
+    requires { PipeCanFinish (standing F.stands F.comes) state.old }
+    ensures { IfOk result (λ r. PipeGaveMore (standing F.stands F.comes) state.old state.new r.0 r.1) }
 {
     let fed = state.finish(alloc)?;
     Ok(answer(fed, After::Finishing))

@@ -8,7 +8,7 @@ ghost use Rattle.pull_turns.specs.Rest.{CanStep};
 ghost use Rattle.pull_turns.specs.Sizes.{HasNoPipe, Sized, given, given_first};
 ghost use Rattle.pull_turns.specs.Turned.{Moved, Spends, SpendsWithin};
 ghost use Rattle.pull_turns.specs.Moves.{how_of};
-ghost use Rattle.pull_turns.specs.Led.{IsShut, Tells, Turns, Uncons};
+ghost use Rattle.pull_turns.specs.Led.{IsShut, TouchesOnly, Turns, Uncons};
 ghost use Rattle.pull_turns.specs.Work.{Lessens};
 ghost use Rattle.pull_turns.specs.declared.rest.Rest.TheVariants as rest;
 
@@ -110,7 +110,7 @@ impl<O: Outside, F: PipeState> Runner<O, F> {
         ensures sound { IfOk result (λ u. self.new.wanting ≡ false) }
         ensures wanting { OnErr result ((self.new.wanting ≡ true) × (self.new.how ≡ None)) }
         ensures spent { OnErr result (SpendsWithin (O.seen self.old.outside) (O.seen self.new.outside) self.old.rest) }
-        ensures stopped { OnErr result ((O.seen self.new.outside).opened 0 × Tells (O.seen self.old.outside).told (O.seen self.new.outside).told self.old.rest) }
+        ensures stopped { OnErr result ((O.seen self.new.outside).opened 0 × TouchesOnly (O.seen self.old.outside).told (O.seen self.new.outside).told self.old.rest) }
         ensures chunk { self.new.chunk ≡ self.old.chunk }
         ensures fits { O.fits self.new.outside desk.new }
         ensures since { O.since self.old.outside desk.old self.new.outside desk.new }
@@ -140,7 +140,7 @@ impl<O: Outside, F: PipeState> Runner<O, F> {
         requires root { (O.seen self.old.outside).opened 0 }
         ensures shut { IsShut (O.seen self.new.outside) }
         ensures exit { IsClosedWith (O.seen self.new.outside) 0 exit.Canceled }
-        ensures tells { Tells {F = F} (O.seen self.old.outside).told (O.seen self.new.outside).told rest.Nil }
+        ensures tells { TouchesOnly {F = F} (O.seen self.old.outside).told (O.seen self.new.outside).told rest.Nil }
         ensures affords { Affords (O.seen self.old.outside) (O.seen self.new.outside) }
         ensures halted { self.old.wanting ≡ false → self.new.how ≡ Some how.Halted }
         ensures memory { self.old.wanting ≡ true → self.new.how ≡ Some how.Memory }

@@ -6,7 +6,7 @@ ghost use Rattle.pull_turns.specs.Rest.{CanStep};
 ghost use Rattle.pull_turns.specs.Scoped.{Scoped};
 ghost use Rattle.pull_turns.specs.Sizes.{HasNoPipe, Sized, given};
 ghost use Rattle.pull_turns.specs.Turned.{Moved, SpendsWithin, Turned};
-ghost use Rattle.pull_turns.specs.Moves.{is_done, is_fault, behind, append_turn, guard_turn, LeavesAtEnd};
+ghost use Rattle.pull_turns.specs.Moves.{is_done, turn_is_fault, behind, append_turn, guard_turn, LeavesAtEnd};
 ghost use Rattle.pull_turns.specs.Work.{Lessens};
 
 use crate::enter::enter;
@@ -142,7 +142,7 @@ fn after_first<F: Drop>(rest: &mut Rest<F>, turn: Turn) -> Turn
 }
 
 fn after_guarded<F: Drop>(rest: &mut Rest<F>, turn: Turn) -> Turn
-    ensures rest { rest.new ≡ (if is_fault turn then behind rest.old else rest.old) }
+    ensures rest { rest.new ≡ (if turn_is_fault turn then behind rest.old else rest.old) }
     ensures turn { result ≡ guard_turn turn }
 {
     match turn {

@@ -9,7 +9,7 @@ use Rattle.res_ledger.specs.declared.event.StreamNo.{StreamNo}
 use Rattle.res_ledger.specs.declared.event.What.TheVariants.{Close}
 use Rattle.res_ledger.specs.declared.event.Event.{Event}
 use Rattle.res_ledger.specs.Ledger.{Notes, NotesClose, LiesWithin, IsClosed, IsRowClosed, IsLegal}
-use Rattle.res_ledger.specs.Own.{own, closes_of, above}
+use Rattle.res_ledger.specs.Own.{own, closes_of, ancestors}
 use Rattle.res_ledger.specs.Streams.{same_stream}
 use Rattle.res_ledger.specs.Closing.{IsCoveringClose, ClosedHasCoveringClose, CoveringCloseIsOne, FinalsFollowCoveringClose}
 use Rattle.res_ledger.proofs.Tests.{name, named}
@@ -20,19 +20,19 @@ use Rattle.res_ledger.proofs.Prefixes.{front_notes, front_within, split_append, 
 
 -- the event closes s or a scope above it
 abbrev closes_above : List Event → StreamNo → ℕ → Event → Bool
-closes_above L k s e = same_stream e.by k && any (λ a. has a (above (own k L) s)) (closes_of e.what)
+closes_above L k s e = same_stream e.by k && any (λ a. has a (ancestors (own k L) s)) (closes_of e.what)
 
 closing_event : (L P Q : List Event) (e : Event) (k : StreamNo) (s : ℕ) → L ≡ P ++ e ∷ Q → ((a : ℕ) → LiesWithin L k s a → ¬ (NotesClose P k a)) → closes_above L k s e ≡ true → IsCoveringClose L k s P
 closing_event L P Q e k s q n h =
-    let b = both (same_stream e.by k) (any (λ a. has a (above (own k L) s)) (closes_of e.what)) h in
-    let f = any_found (λ a. has a (above (own k L) s)) (closes_of e.what) b.1 in
+    let b = both (same_stream e.by k) (any (λ a. has a (ancestors (own k L) s)) (closes_of e.what)) h in
+    let f = any_found (λ a. has a (ancestors (own k L) s)) (closes_of e.what) b.1 in
     let c = closes_shape e.what f.0 f.1 in
     record { rest = Q; event = e; scope = f.0; exit = c.0; stands = q; by = name e.by k b.0; closes = c.1; above = above_within L k s f.0 f.2; first = n }
 
 closes_found : (L : List Event) → IsLegal L → (e : Event) (k : StreamNo) (s a : ℕ) (x : Exit) → LiesWithin L k s a → e.by ≡ k → e.what ≡ Close a x → closes_above L k s e ≡ true
 closes_found L l e k s a x w b c =
-    and_true (same_stream e.by k) (any (λ a. has a (above (own k L) s)) (closes_of e.what)) (subst (λ x. same_stream x k ≡ true) (sym b) (named k))
-    (any_at (λ a. has a (above (own k L) s)) a (closes_of e.what) (subst (λ x. IsAmong a (closes_of x)) (sym c) (here [])) (within_above L l k s a w))
+    and_true (same_stream e.by k) (any (λ a. has a (ancestors (own k L) s)) (closes_of e.what)) (subst (λ x. same_stream x k ≡ true) (sym b) (named k))
+    (any_at (λ a. has a (ancestors (own k L) s)) a (closes_of e.what) (subst (λ x. IsAmong a (closes_of x)) (sym c) (here [])) (within_above L l k s a w))
 
 still_none : (L : List Event) → IsLegal L → (P : List Event) (e : Event) (k : StreamNo) (s : ℕ) → ((a : ℕ) → LiesWithin L k s a → ¬ (NotesClose P k a)) → (closes_above L k s e ≡ true → ⊥) → (a : ℕ) → LiesWithin L k s a → ¬ (NotesClose (P ++ e ∷ []) k a)
 still_none L l P e k s n t a w m = ⊎_elim

@@ -12,7 +12,7 @@ use Rattle.res_ledger.specs.declared.event.What.{What}
 use Rattle.res_ledger.specs.declared.event.What.TheVariants.{Open, Acquire, Lease, Cancel, Close, Final}
 use Rattle.res_ledger.specs.declared.event.Event.{Event}
 use Rattle.res_ledger.specs.Ledger.{Notes, NotesCancel, IsOpened, IsUsable, IsAcquired, IsFinalized, IsLeased, IsCanceled, Covers, IsRowClosed, IsHanded, MayFollow, IsLegal}
-use Rattle.res_ledger.specs.Own.{own, opens, rows, rows_of, leased_of, canceled_of, is_closed}
+use Rattle.res_ledger.specs.Own.{own, opens, rows, acquires_of, leased_of, canceled_of, is_closed}
 use Rattle.res_ledger.specs.Streams.{same_stream}
 use Rattle.res_ledger.specs.Order.{covered_by}
 use Rattle.res_ledger.specs.Whole.{is_final, is_cancel, final_count, cancel_count, IsComplete}
@@ -48,12 +48,12 @@ opened_found P k s o = let q : ℕ × ℕ = (s, o.0) in any_at (is_of s) q (open
 
 pub acquired_in : (P : List Event) (r : ℕ) → is_acquired P r ≡ true → IsAcquired P r
 acquired_in P r h =
-    let f = noted_found (λ w. any (is_of r) (rows_of w)) P h in
-    let x = any_found (is_of r) (rows_of f.1) f.3 in
+    let f = noted_found (λ w. any (is_of r) (acquires_of w)) P h in
+    let x = any_found (is_of r) (acquires_of f.1) f.3 in
     (f.0, x.0.1, (f.2.0, f.2.1, f.2.2, f.2.3 ∙ rows_shape f.1 x.0 x.1 ∙ ap (λ y. Acquire y x.0.1) (number x.0.0 r x.2)))
 
 acquired_found : (P : List Event) (r : ℕ) → IsAcquired P r → is_acquired P r ≡ true
-acquired_found P r o = noted_at (λ w. any (is_of r) (rows_of w)) P o.0 (Acquire r o.1) o.2 (or_left (nat_eq r r) false (itself r))
+acquired_found P r o = noted_at (λ w. any (is_of r) (acquires_of w)) P o.0 (Acquire r o.1) o.2 (or_left (nat_eq r r) false (itself r))
 
 leased_in : (P : List Event) (j : ℕ) → is_leased P j ≡ true → IsLeased P j
 leased_in P j h =
@@ -90,9 +90,9 @@ usable_found P k s u = and_true (nat_eq s 0 || any (is_of s) (opens (own k P))) 
 
 pub row_closed_sound : (P : List Event) (r : ℕ) → is_row_closed P r ≡ true → IsRowClosed P r
 row_closed_sound P r h =
-    let f = any_found (λ e. any (λ x. nat_eq x.0 r && is_closed (own e.by P) x.1) (rows_of e.what)) P h in
+    let f = any_found (λ e. any (λ x. nat_eq x.0 r && is_closed (own e.by P) x.1) (acquires_of e.what)) P h in
     let e = f.0 in
-    let x = any_found (λ x. nat_eq x.0 r && is_closed (own e.by P) x.1) (rows_of e.what) f.2 in
+    let x = any_found (λ x. nat_eq x.0 r && is_closed (own e.by P) x.1) (acquires_of e.what) f.2 in
     let b = both (nat_eq x.0.0 r) (is_closed (own e.by P) x.0.1) x.2 in
     (e.by, x.0.1, (e, f.1, refl, rows_shape e.what x.0 x.1 ∙ ap (λ y. Acquire y x.0.1) (number x.0.0 r b.0)), closed_sound P e.by x.0.1 b.1)
 
@@ -102,9 +102,9 @@ row_closed_found P l r c =
     let q : ℕ × ℕ = (r, s) in
     let t : any (λ x. nat_eq x.0 r && is_closed (own k P) x.1) (q ∷ []) ≡ true =
     or_left (nat_eq r r && is_closed (own k P) s) false (and_true (nat_eq r r) (is_closed (own k P) s) (itself r) (closed_found P l k s c.3)) in
-    let u : any (λ x. nat_eq x.0 r && is_closed (own n.0.by P) x.1) (rows_of n.0.what) ≡ true =
-    subst (λ j. any (λ x. nat_eq x.0 r && is_closed (own j P) x.1) (rows_of n.0.what) ≡ true) (sym n.2) (subst (λ w. any (λ x. nat_eq x.0 r && is_closed (own k P) x.1) (rows_of w) ≡ true) (sym n.3) t) in
-    any_at (λ e. any (λ x. nat_eq x.0 r && is_closed (own e.by P) x.1) (rows_of e.what)) n.0 P n.1 u
+    let u : any (λ x. nat_eq x.0 r && is_closed (own n.0.by P) x.1) (acquires_of n.0.what) ≡ true =
+    subst (λ j. any (λ x. nat_eq x.0 r && is_closed (own j P) x.1) (acquires_of n.0.what) ≡ true) (sym n.2) (subst (λ w. any (λ x. nat_eq x.0 r && is_closed (own k P) x.1) (acquires_of w) ≡ true) (sym n.3) t) in
+    any_at (λ e. any (λ x. nat_eq x.0 r && is_closed (own e.by P) x.1) (acquires_of e.what)) n.0 P n.1 u
 
 -- each lease that covers a released row was canceled
 pub released_sound : (L : List Event) → IsLegal L → (P : List Event) (r : ℕ) → is_released L P r ≡ true → (j : ℕ) (k : StreamNo) → Covers L j k r → IsCanceled P j

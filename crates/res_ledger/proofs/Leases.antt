@@ -7,7 +7,7 @@ use Rattle.res_ledger.specs.declared.event.StreamNo.{StreamNo}
 use Rattle.res_ledger.specs.declared.event.What.TheVariants.{Open, Lease}
 use Rattle.res_ledger.specs.declared.event.Event.{Event}
 use Rattle.res_ledger.specs.Ledger.{Notes, LiesWithin, IsClosed, IsCoveredBy, Covers, IsLegal}
-use Rattle.res_ledger.specs.Own.{own, opens, rows, leased_of, above, is_closed, is_child, reaches, picked, leased_rows}
+use Rattle.res_ledger.specs.Own.{own, opens, rows, leased_of, ancestors, is_closed, is_child, reaches, picked, leased_rows}
 use Rattle.res_ledger.specs.Order.{gathered, covered_for, covered_at, covered_by, covered}
 use Rattle.chunk_core.proofs.Bools.{both, either, no, or_left, or_right, and_true, tested, number, itself, any_at, any_found}
 use Rattle.res_ledger.proofs.Noted.{opens_notes, rows_notes, notes_opens, notes_rows, leased_shape, flat_found, flat_holds}
@@ -53,12 +53,12 @@ leased_sound L h k s r m =
     let f = picked_found (reaches (own k L) s) (rows (own k L)) r m in
     let t = f.0 in
     let q : ℕ × ℕ = (r, t) in
-    let b = both (not (is_closed (own k L) t)) (has t (above (own k L) s) || is_child (opens (own k L)) t s) f.2 in
-    (t, rows_notes L k q f.1, elim (either (has t (above (own k L) s)) (is_child (opens (own k L)) t s) b.1) [ inl g ↦ inr (above_within L k s t g) | inr g ↦ inl (child_in L k s t g) ], λ c. no (is_closed (own k L) t) b.0 (closed_found L h k t c))
+    let b = both (not (is_closed (own k L) t)) (has t (ancestors (own k L) s) || is_child (opens (own k L)) t s) f.2 in
+    (t, rows_notes L k q f.1, elim (either (has t (ancestors (own k L) s)) (is_child (opens (own k L)) t s) b.1) [ inl g ↦ inr (above_within L k s t g) | inr g ↦ inl (child_in L k s t g) ], λ c. no (is_closed (own k L) t) b.0 (closed_found L h k t c))
 
-reached : (L : List Event) → IsLegal L → (k : StreamNo) (s t : ℕ) → Notes L k (Open t s) ⊎ LiesWithin L k s t → (has t (above (own k L) s) || is_child (opens (own k L)) t s) ≡ true
-reached L h k s t (inl o) = or_right (has t (above (own k L) s)) (is_child (opens (own k L)) t s) (in_child L k s t o)
-reached L h k s t (inr w) = or_left (has t (above (own k L) s)) (is_child (opens (own k L)) t s) (within_above L h k s t w)
+reached : (L : List Event) → IsLegal L → (k : StreamNo) (s t : ℕ) → Notes L k (Open t s) ⊎ LiesWithin L k s t → (has t (ancestors (own k L) s) || is_child (opens (own k L)) t s) ≡ true
+reached L h k s t (inl o) = or_right (has t (ancestors (own k L) s)) (is_child (opens (own k L)) t s) (in_child L k s t o)
+reached L h k s t (inr w) = or_left (has t (ancestors (own k L) s)) (is_child (opens (own k L)) t s) (within_above L h k s t w)
 
 unclosed : (L : List Event) (k : StreamNo) (t : ℕ) → ¬ (IsClosed L k t) → not (is_closed (own k L) t) ≡ true
 unclosed L k t n = ⊎_elim (λ g. absurd (n (closed_sound L k t g))) (λ g. g) (tested (is_closed (own k L) t))
@@ -68,7 +68,7 @@ pub leased_found : (L : List Event) → IsLegal L → (k : StreamNo) (s r : ℕ)
 leased_found L h k s r c =
     let t = c.0 in
     picked_holds (reaches (own k L) s) (rows (own k L)) r t (notes_rows L k r t c.1)
-    (and_true (not (is_closed (own k L) t)) (has t (above (own k L) s) || is_child (opens (own k L)) t s) (unclosed L k t c.3) (reached L h k s t c.2))
+    (and_true (not (is_closed (own k L) t)) (has t (ancestors (own k L) s) || is_child (opens (own k L)) t s) (unclosed L k t c.3) (reached L h k s t c.2))
 
 gathered_found : (of : List Event → Event → List ℕ) (P L : List Event) (y : ℕ) → IsAmong y (gathered of P L) → (A B : List Event) × (e : Event) × (L ≡ A ++ e ∷ B) × IsAmong y (of (P ++ A) e)
 gathered_found of P [] y m = absurd (among_nil m)

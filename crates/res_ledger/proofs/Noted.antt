@@ -12,7 +12,7 @@ use Rattle.res_ledger.specs.declared.event.What.{What}
 use Rattle.res_ledger.specs.declared.event.What.TheVariants.{Open, Acquire, Lease, Cancel, Close, Final}
 use Rattle.res_ledger.specs.declared.event.Event.{Event}
 use Rattle.res_ledger.specs.Ledger.{Notes, NotesClose, NotesCancel}
-use Rattle.res_ledger.specs.Own.{own, opens, opens_of, rows, rows_of, closes, closes_of, leased_of, canceled_of}
+use Rattle.res_ledger.specs.Own.{own, opens, opens_of, rows, acquires_of, closes, closes_of, leased_of, canceled_of}
 use Rattle.res_ledger.specs.Streams.{same_stream}
 use Rattle.res_ledger.specs.Whole.{is_final, is_cancel}
 use Rattle.res_ledger.specs.Judge.{is_noted}
@@ -55,7 +55,7 @@ pub opens_shape : (w : What) (o : ℕ × ℕ) → IsAmong o (opens_of w) → w �
 opens_shape (Open s p) o m = let q : ℕ × ℕ = (s, p) in ap (λ x. Open x.0 x.1) (sym (only o q m))
 opens_shape w o m = absurd (among_nil m)
 
-pub rows_shape : (w : What) (x : ℕ × ℕ) → IsAmong x (rows_of w) → w ≡ Acquire x.0 x.1
+pub rows_shape : (w : What) (x : ℕ × ℕ) → IsAmong x (acquires_of w) → w ≡ Acquire x.0 x.1
 rows_shape (Acquire r s) x m = let q : ℕ × ℕ = (r, s) in ap (λ y. Acquire y.0 y.1) (sym (only x q m))
 rows_shape w x m = absurd (among_nil m)
 
@@ -87,7 +87,7 @@ pub opens_notes : (P : List Event) (k : StreamNo) (o : ℕ × ℕ) → IsAmong o
 opens_notes P k o m = listed_notes opens_of (λ x. Open x.0 x.1) opens_shape P k o m
 
 pub rows_notes : (P : List Event) (k : StreamNo) (x : ℕ × ℕ) → IsAmong x (rows (own k P)) → Notes P k (Acquire x.0 x.1)
-rows_notes P k x m = listed_notes rows_of (λ y. Acquire y.0 y.1) rows_shape P k x m
+rows_notes P k x m = listed_notes acquires_of (λ y. Acquire y.0 y.1) rows_shape P k x m
 
 pub leased_notes : (P : List Event) (k : StreamNo) (l : ℕ × ℕ) → IsAmong l (flat_map leased_of (own k P)) → Notes P k (Lease l.0 l.1)
 leased_notes P k l m = listed_notes leased_of (λ y. Lease y.0 y.1) leased_shape P k l m
@@ -106,7 +106,7 @@ pub notes_opens : (P : List Event) (k : StreamNo) (s p : ℕ) → Notes P k (Ope
 notes_opens P k s p n = flat_holds opens_of (Open s p) (own k P) (s, p) (notes_own P k (Open s p) n) (here [])
 
 pub notes_rows : (P : List Event) (k : StreamNo) (r s : ℕ) → Notes P k (Acquire r s) → IsAmong (r, s) (rows (own k P))
-notes_rows P k r s n = flat_holds rows_of (Acquire r s) (own k P) (r, s) (notes_own P k (Acquire r s) n) (here [])
+notes_rows P k r s n = flat_holds acquires_of (Acquire r s) (own k P) (r, s) (notes_own P k (Acquire r s) n) (here [])
 
 pub notes_closes : (P : List Event) (k : StreamNo) (c : ℕ) → NotesClose P k c → IsAmong c (closes (own k P))
 notes_closes P k c n = flat_holds closes_of (Close c n.0) (own k P) c (notes_own P k (Close c n.0) n.1) (here [])

@@ -12,7 +12,7 @@ use Rattle.res_ledger.specs.declared.event.What.TheVariants.{Open}
 use Rattle.res_ledger.specs.declared.event.Event.{Event}
 use Rattle.res_ledger.specs.Ledger.{Notes, LiesWithin, IsClosed, MayFollow, IsLegal}
 use Rattle.res_ledger.specs.Ledger.LiesWithin.{same, below}
-use Rattle.res_ledger.specs.Own.{own, opens, opens_of, closes, up, above, is_closed}
+use Rattle.res_ledger.specs.Own.{own, opens, opens_of, closes, up, ancestors, is_closed}
 use Rattle.res_ledger.specs.Streams.{same_stream}
 use Rattle.res_ledger.proofs.Tests.{name}
 use Rattle.chunk_core.proofs.Bools.{number, itself, any_at, any_found, has_in, in_has}
@@ -27,13 +27,13 @@ up_within P k [] h s a m = ⊎_elim (λ e. subst (λ x. LiesWithin P k s x) (sym
 up_within P k (o ∷ os) h s a m = up_cases P k o os s a (nat_eq o.0 s) refl (h o (here os)) m (λ t i. up_within P k os (λ x n. h x (there o n)) t a i)
 
 -- what stands above a scope lies above it
-pub above_within : (P : List Event) (k : StreamNo) (s a : ℕ) → has a (above (own k P) s) ≡ true → LiesWithin P k s a
-above_within P k s a h = up_within P k (reverse (opens (own k P))) (λ o m. opens_notes P k o (among_reverse o (opens (own k P)) m)) s a (has_in a (above (own k P) s) h)
+pub above_within : (P : List Event) (k : StreamNo) (s a : ℕ) → has a (ancestors (own k P) s) ≡ true → LiesWithin P k s a
+above_within P k s a h = up_within P k (reverse (opens (own k P))) (λ o m. opens_notes P k o (among_reverse o (opens (own k P)) m)) s a (has_in a (ancestors (own k P) s) h)
 
 pub closed_sound : (P : List Event) (k : StreamNo) (s : ℕ) → is_closed (own k P) s ≡ true → IsClosed P k s
 closed_sound P k s h =
-    let f = any_found (λ a. has a (closes (own k P))) (above (own k P) s) h in
-    (f.0, above_within P k s f.0 (in_has f.0 (above (own k P) s) f.1), closes_notes P k f.0 (has_in f.0 (closes (own k P)) f.2))
+    let f = any_found (λ a. has a (closes (own k P))) (ancestors (own k P) s) h in
+    (f.0, above_within P k s f.0 (in_has f.0 (ancestors (own k P) s) f.1), closes_notes P k f.0 (has_in f.0 (closes (own k P)) f.2))
 
 -- x was opened
 abbrev IsIn : ℕ → List (ℕ × ℕ) → Type 0
@@ -118,9 +118,9 @@ tree_from P (e ∷ Q) k h t =
     subst (λ l. IsTree (scopes l k)) (append_assoc P (e ∷ []) Q) (tree_from (P ++ e ∷ []) Q k (subst IsLegal (sym (append_assoc P (e ∷ []) Q)) h) next)
 
 -- what lies above a scope stands above it
-pub within_above : (L : List Event) → IsLegal L → (k : StreamNo) (s a : ℕ) → LiesWithin L k s a → has a (above (own k L) s) ≡ true
-within_above L h k s a w = in_has a (above (own k L) s) (within_up L k (scopes L k) (tree_from [] L k h tt) (λ s p n. let q : ℕ × ℕ = (s, p) in reverse_among q (opens (own k L)) (notes_opens L k s p n)) w)
+pub within_above : (L : List Event) → IsLegal L → (k : StreamNo) (s a : ℕ) → LiesWithin L k s a → has a (ancestors (own k L) s) ≡ true
+within_above L h k s a w = in_has a (ancestors (own k L) s) (within_up L k (scopes L k) (tree_from [] L k h tt) (λ s p n. let q : ℕ × ℕ = (s, p) in reverse_among q (opens (own k L)) (notes_opens L k s p n)) w)
 
 pub closed_found : (L : List Event) → IsLegal L → (k : StreamNo) (s : ℕ) → IsClosed L k s → is_closed (own k L) s ≡ true
 closed_found L h k s c =
-    any_at (λ a. has a (closes (own k L))) c.0 (above (own k L) s) (has_in c.0 (above (own k L) s) (within_above L h k s c.0 c.1)) (in_has c.0 (closes (own k L)) (notes_closes L k c.0 c.2))
+    any_at (λ a. has a (closes (own k L))) c.0 (ancestors (own k L) s) (has_in c.0 (ancestors (own k L) s) (within_above L h k s c.0 c.1)) (in_has c.0 (closes (own k L)) (notes_closes L k c.0 c.2))

@@ -7,7 +7,7 @@ use Rattle.res_ledger.specs.declared.event.What.{What}
 use Rattle.res_ledger.specs.declared.event.What.TheVariants.{Open, Acquire, Lease, Cancel, Close, Final}
 use Rattle.res_ledger.specs.declared.event.Event.{Event}
 use Rattle.res_ledger.specs.Ledger.{IsClosed, IsCoveredBy, Covers, IsLegal}
-use Rattle.res_ledger.specs.Own.{own, opens, rows, rows_of, leased_of, canceled_of, is_closed, leased_rows}
+use Rattle.res_ledger.specs.Own.{own, opens, rows, acquires_of, leased_of, canceled_of, is_closed, leased_rows}
 use Rattle.chunk_core.specs.Lists.{has}
 use Rattle.res_ledger.specs.Streams.{same_stream}
 use Rattle.res_ledger.specs.Order.{covered, covered_by}
@@ -28,7 +28,7 @@ is_of x y = nat_eq y.0 x
 
 -- the row r was acquired
 abbrev pub is_acquired : List Event → ℕ → Bool
-is_acquired P r = is_noted (λ w. any (is_of r) (rows_of w)) P
+is_acquired P r = is_noted (λ w. any (is_of r) (acquires_of w)) P
 
 -- there is a lease for j
 abbrev pub is_leased : List Event → ℕ → Bool
@@ -40,7 +40,7 @@ is_usable E s = (nat_eq s 0 || any (is_of s) (opens E)) && not (is_closed E s)
 
 -- the scope in which r was acquired is closed
 abbrev pub is_row_closed : List Event → ℕ → Bool
-is_row_closed P r = any (λ e. any (λ x. nat_eq x.0 r && is_closed (own e.by P) x.1) (rows_of e.what)) P
+is_row_closed P r = any (λ e. any (λ x. nat_eq x.0 r && is_closed (own e.by P) x.1) (acquires_of e.what)) P
 
 -- each lease in L that covers the row r was canceled in P
 abbrev pub is_released : List Event → List Event → ℕ → Bool

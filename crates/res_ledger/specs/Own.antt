@@ -19,9 +19,9 @@ opens_of (Open s p) = (s, p) ∷ []
 opens_of w = []
 
 -- the row that an event acquires, with its scope
-abbrev pub rows_of : What → List (ℕ × ℕ)
-rows_of (Acquire r s) = (r, s) ∷ []
-rows_of w = []
+abbrev pub acquires_of : What → List (ℕ × ℕ)
+acquires_of (Acquire r s) = (r, s) ∷ []
+acquires_of w = []
 
 -- the scope that an event closes
 abbrev pub closes_of : What → List ℕ
@@ -44,7 +44,7 @@ opens E = flat_map opens_of E
 
 -- the rows that were acquired, each with its scope, in order
 abbrev pub rows : List What → List (ℕ × ℕ)
-rows E = flat_map rows_of E
+rows E = flat_map acquires_of E
 
 -- the scopes that have a Close of their own
 abbrev pub closes : List What → List ℕ
@@ -56,13 +56,13 @@ latest [] s = []
 latest (x ∷ xs) s = latest xs s ++ (if nat_eq x.1 s then x.0 ∷ [] else [])
 
 -- the rows of the scopes below s that were opened in os and are open, latest opened first; a scope below another is opened after it
-abbrev pub below : List (ℕ × ℕ) → (ℕ → Bool) → List (ℕ × ℕ) → ℕ → List ℕ
-below [] shut xs s = []
-below (o ∷ os) shut xs s = below os shut xs s ++ (if nat_eq o.1 s && not (shut o.0) then below os shut xs o.0 ++ latest xs o.0 else [])
+abbrev pub rows_beneath : List (ℕ × ℕ) → (ℕ → Bool) → List (ℕ × ℕ) → ℕ → List ℕ
+rows_beneath [] shut xs s = []
+rows_beneath (o ∷ os) shut xs s = rows_beneath os shut xs s ++ (if nat_eq o.1 s && not (shut o.0) then rows_beneath os shut xs o.0 ++ latest xs o.0 else [])
 
 -- what a Close of s after E takes down: the open children of s, latest opened first, and then the rows of s, latest acquired first
 abbrev pub teardown : List What → ℕ → List ℕ
-teardown E s = below (opens E) (λ c. has c (closes E)) (rows E) s ++ latest (rows E) s
+teardown E s = rows_beneath (opens E) (λ c. has c (closes E)) (rows E) s ++ latest (rows E) s
 
 -- s and the scopes above it, by the scopes os that were opened, the latest first
 abbrev pub up : List (ℕ × ℕ) → ℕ → List ℕ
@@ -70,12 +70,12 @@ up [] s = s ∷ []
 up (o ∷ os) s = if nat_eq o.0 s then s ∷ up os o.1 else up os s
 
 -- s and the scopes above it
-abbrev pub above : List What → ℕ → List ℕ
-above E s = up (reverse (opens E)) s
+abbrev pub ancestors : List What → ℕ → List ℕ
+ancestors E s = up (reverse (opens E)) s
 
 -- s or a scope above it has a Close
 abbrev pub is_closed : List What → ℕ → Bool
-is_closed E s = any (λ a. has a (closes E)) (above E s)
+is_closed E s = any (λ a. has a (closes E)) (ancestors E s)
 
 -- c was opened as a child of s
 abbrev pub is_child : List (ℕ × ℕ) → ℕ → ℕ → Bool
@@ -83,7 +83,7 @@ is_child os c s = any (λ o. nat_eq o.0 c && nat_eq o.1 s) os
 
 -- a Lease on s after E covers rows of the scope t: t is s, a child of s or above s, and isn't closed
 abbrev pub reaches : List What → ℕ → ℕ → Bool
-reaches E s t = not (is_closed E t) && (has t (above E s) || is_child (opens E) t s)
+reaches E s t = not (is_closed E t) && (has t (ancestors E s) || is_child (opens E) t s)
 
 -- the rows in the scopes that pass
 abbrev pub picked : (ℕ → Bool) → List (ℕ × ℕ) → List ℕ

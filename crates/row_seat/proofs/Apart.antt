@@ -7,7 +7,7 @@ use Rattle.res_ledger.specs.declared.event.Event.{Event}
 use Rattle.res_ledger.specs.declared.event.StreamNo.TheVariants.{Inner}
 use Rattle.res_ledger.proofs.Ledgers.{by_in, by_out}
 use Rattle.row_seat.specs.declared.token.Token.{Token}
-use Rattle.row_seat.specs.Rule.{IsSeated, RuleHolds, Work, book, deed, seen, who, work}
+use Rattle.row_seat.specs.Rule.{IsSeated, RuleHolds, Holdings, book, deed, view_of, who, work}
 use Rattle.row_seat.specs.Totals.{IsAt, row_times, times}
 use Rattle.row_seat.specs.Views.{AreApart}
 use Rattle.row_seat.proofs.Rows.{is_vacant}
@@ -27,7 +27,7 @@ module _ {P : Type 0} {rows room : ℕ} {word : ℕ → ℕ} {slot : ℕ → Opt
       (λ f. f)
       (cases_Bool w.main)
 
-  pub seats_apart : (mine theirs : List (ℕ × P)) → AreApart (seen v mine) (seen w theirs)
+  pub seats_apart : (mine theirs : List (ℕ × P)) → AreApart (view_of v mine) (view_of w theirs)
   seats_apart mine theirs =
       let bv = at_map book views id v at in let bw = at_map book views jd w other.at in record {
         events = λ e m b. foreign (sym b ∙ (rule.books.pure jd (book w) e bw side m ∙ by));
@@ -37,10 +37,10 @@ module _ {P : Type 0} {rows room : ℕ} {word : ℕ → ℕ} {slot : ℕ → Opt
         kept = λ r m a. (a.0, a.1, rule.deeds.fresh id r a.1 a.0 (deed v) (at_map deed views id v at) m (a.2.0, rule.books.inside jd (book w) a.2.0 bw a.2.1, a.2.2, a.2.3));
         taken = λ r m a. (a.0, a.1, rule.deeds.fresh jd r a.1 a.0 (deed w) (at_map deed views jd w other.at) m (a.2.0, rule.books.inside id (book v) a.2.0 bv a.2.1, a.2.2, a.2.3));
         vacant = λ r m.
-            let l = total_at (λ (u : Work). times r u.empty) (map work views) jd (work w) (at_map work views jd w other.at) in let o = times_some r w.empty m in
+            let l = total_at (λ (u : Holdings). times r u.empty) (map work views) jd (work w) (at_map work views jd w other.at) in let o = times_some r w.empty m in
             let s = is_vacant (rule.words r) (omega (l, o, arith)) in (
               (λ f. s.6 (f.0, f.1, (f.2.0, (f.2.1.0, rule.books.inside id (book v) f.2.1.0 bv f.2.1.1, f.2.1.2, f.2.1.3)))),
               λ j p.
-                  let k = total_at (λ (u : Work). row_times r u.pairs) (map work views) id (work v) (at_map work views id v at) in let q = row_some j r v.pairs p in let z = s.4 in absurd (omega (k, q, z, arith)),
+                  let k = total_at (λ (u : Holdings). row_times r u.pairs) (map work views) id (work v) (at_map work views id v at) in let q = row_some j r v.pairs p in let z = s.4 in absurd (omega (k, q, z, arith)),
             );
       }

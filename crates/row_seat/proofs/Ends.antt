@@ -2,7 +2,7 @@
 use Rattle.std.proofs.Common.{◌≡◌, ◌≢◌, ℕ, ◌≤◌, ◌⊎◌, ◌↔◌, true, map, List, [], length, inl, inr, sym, ap, ◌∙◌, subst, ⊎_elim, arith}
 use Rattle.std.specs.Prelude.{Option}
 use Rattle.row_seat.specs.Totals.{IsAt, row_times, times}
-use Rattle.row_seat.specs.Rule.{Book, GivenIn, Hold, LeftIn, Purse, IsBlank, IsSeated, RuleHolds, Stands, Who, Work, book, deed, hold, purse, seen, who, work}
+use Rattle.row_seat.specs.Rule.{Book, GivenIn, Hold, LeftIn, Purse, IsBlankView, IsSeated, RuleHolds, RowStands, Who, Holdings, book, deed, hold, purse, view_of, who, work}
 use Rattle.row_seat.specs.Views.{MayStay}
 use Rattle.res_ledger.specs.Ledger.{Covers, IsAcquired, IsCanceled, IsFinalized, IsLeased, Notes}
 use Rattle.res_ledger.specs.declared.event.Event.{Event}
@@ -12,7 +12,7 @@ use Rattle.row_seat.specs.declared.token.Token.{Token}
 use Rattle.chunk_core.proofs.Members.{among_nil}
 use Rattle.row_seat.proofs.Ticked.{at_book, at_deed, at_purse, at_who, at_work, own_is}
 use Rattle.chunk_core.proofs.Places.{at_map}
-use Rattle.row_seat.specs.Rule.Stands.{awaits, beyond, final, handed, opened, vacant}
+use Rattle.row_seat.specs.Rule.RowStands.{awaits, beyond, final, handed, opened, vacant}
 use Rattle.res_ledger.proofs.Ledgers.{covers_acquired, covers_leased, covers_own, inner_is, one_acquire}
 use Rattle.row_seat.proofs.Rows.{is_open}
 use Rattle.row_seat.proofs.Tells.{all_told}
@@ -21,7 +21,7 @@ use Rattle.row_seat.proofs.Times.{row_in, times_in, times_some}
 use Rattle.std.proofs.lemmas.Bool.{cases_Bool}
 
 -- where no view has the row it is final
-ends : {rows r word e o n h : ℕ} {A C F : Type 0} → Stands rows r word e o n h A C F → (1 ≤ e → ⊥) → (1 ≤ o → ⊥) → (1 ≤ n → ⊥) → (1 ≤ h → ⊥) → A → F
+ends : {rows r word e o n h : ℕ} {A C F : Type 0} → RowStands rows r word e o n h A C F → (1 ≤ e → ⊥) → (1 ≤ o → ⊥) → (1 ≤ n → ⊥) → (1 ≤ h → ⊥) → A → F
 ends (vacant a b c d i j k) ve vo vn vh x = absurd (ve (omega arith))
 ends (opened a b c d i j k) ve vo vn vh x = absurd (vo (omega arith))
 ends (awaits a b c d i j k m) ve vo vn vh x = absurd (vn (omega arith))
@@ -33,15 +33,15 @@ module _ {P : Type 0} {rows room : ℕ} {word : ℕ → ℕ} {slot : ℕ → Opt
   open seat use {at, live}
 
   -- a close leaves the row to a lease: the seat is the main one, and a Lease of its own covers the row, which it has a pair of or whose stream's seat is out
-  pub close_cause : (r : ℕ) → IsAmong r v.opened → word r ≢ 1 → ((j : ℕ) → IsAmong (j, r) v.pairs → (t : ℕ) × Notes v.events v.by (Lease j t)) → MayStay (seen v []) r
+  pub close_cause : (r : ℕ) → IsAmong r v.opened → word r ≢ 1 → ((j : ℕ) → IsAmong (j, r) v.pairs → (t : ℕ) × Notes v.events v.by (Lease j t)) → MayStay (view_of v []) r
   close_cause r mine more named =
       let ws = map work views in let ak = at_work rule seat in
-      let l = total_at (λ (u : Work). times r u.opened) ws id (work v) ak in let t = times_some r v.opened mine in
+      let l = total_at (λ (u : Holdings). times r u.opened) ws id (work v) ak in let t = times_some r v.opened mine in
       let was = is_open (rule.words r) (omega arith) in let w1 = was.1 in let w3 = was.3 in
-      let x = total_some (λ (u : Work). row_times r u.pairs) ws (omega arith) in
+      let x = total_some (λ (u : Holdings). row_times r u.pairs) ws (omega arith) in
       let y = map_back work views x.0 x.1 x.2 in let u = y.0 in
       let p = row_in r x.1.pairs x.3 in let j = p.0 in
-      let m : IsAmong (j, r) u.pairs = subst (λ (z : Work). IsAmong (j, r) z.pairs) (sym y.2) p.1 in
+      let m : IsAmong (j, r) u.pairs = subst (λ (z : Holdings). IsAmong (j, r) z.pairs) (sym y.2) p.1 in
       let gh = at_map hold views x.0 u y.1 in
       let here_main : (i : ℕ) (z : Token P) → IsAt views i z → z.main ≡ true → v.by ≡ z.by → v.main ≡ true = λ i z g mz s.
       let e = rule.seats.names id i (who v) (who z) (at_who rule seat) (at_map who views i z g) live (rule.seats.alive i (who z) (at_map who views i z g) mz) s in
@@ -54,7 +54,7 @@ module _ {P : Type 0} {rows room : ℕ} {word : ℕ → ℕ} {slot : ℕ → Opt
       let mt : mz.0.main ≡ true = ap (λ (z : Who). z.main) mz.2 ∙ mm.3 in
       let bm = rule.leases.by_main mm.0 j b.0 o.0 (hold mz.0) (at_map hold views mm.0 mz.0 mz.1) mt b.1 in
       (here_main mm.0 mz.0 mz.1 mt (sym same ∙ bm), subst (λ k. Covers log j k r) same o.1))
-      (λ o. let e = total_one (λ (z : Work). times r z.opened) ws x.0 id (work u) (work v) (omega arith) (at_map work views x.0 u y.1) ak (times_some r u.opened o.2) (times_some r v.opened mine) in
+      (λ o. let e = total_one (λ (z : Holdings). times r z.opened) ws x.0 id (work u) (work v) (omega arith) (at_map work views x.0 u y.1) ak (times_some r u.opened o.2) (times_some r v.opened mine) in
       let same : u ≡ v = one_at views id u v (subst (λ n. IsAt views n u) e y.1) at in
       let n = named j (subst (λ (z : Token P). IsAmong (j, r) z.pairs) same m) in
       absurd (o.0 (v.by, n.0, (n.1.0, rule.books.inside id (book v) n.1.0 (at_book rule seat) n.1.1, n.1.2, n.1.3))))
@@ -84,7 +84,7 @@ module _ {P : Type 0} {rows room : ℕ} {word : ℕ → ℕ} {slot : ℕ → Opt
 
   module _ (main : v.main ≡ true) (no_out : v.out ≡ []) where
     -- every other seat is spent
-    pub alone : (i : ℕ) (u : Token P) → IsAt views i u → ((i ≡ id) × (u ≡ v)) ⊎ IsBlank u
+    pub alone : (i : ℕ) (u : Token P) → IsAt views i u → ((i ≡ id) × (u ≡ v)) ⊎ IsBlankView u
     alone i u g = ⊎_elim
         (λ l. ⊎_elim
         (λ m. let e = rule.seats.one i id (who u) (who v) (at_map who views i u g) (at_who rule seat) m main in inl (e, one_at views id u v (subst (λ n. IsAt views n u) e g) at))
@@ -116,21 +116,21 @@ module _ {P : Type 0} {rows room : ℕ} {word : ℕ → ℕ} {slot : ℕ → Opt
         (rule.leases.keeper j l)
 
     module _ (no_open : v.opened ≡ []) (no_pair : v.pairs ≡ []) (no_hand : v.handed ≡ []) (unused : (r : ℕ) → IsAmong r v.empty → ¬ (IsAcquired v.events r)) where
-      none_in : (f : Token P → List ℕ) (r : ℕ) (i : ℕ) (u : Token P) → IsAt views i u → (u ≡ v → f u ≡ []) → (IsBlank u → f u ≡ []) → 1 ≤ times r (f u) → ⊥
+      none_in : (f : Token P → List ℕ) (r : ℕ) (i : ℕ) (u : Token P) → IsAt views i u → (u ≡ v → f u ≡ []) → (IsBlankView u → f u ≡ []) → 1 ≤ times r (f u) → ⊥
       none_in f r i u g a b l = let e = ⊎_elim (λ s. a s.1) b (alone i u g) in let z : times r (f u) ≡ 0 = ap (λ l. times r l) e in omega arith
 
       -- each acquired row is final
       pub all_final : (r : ℕ) → IsAcquired log r → IsFinalized log r
       all_final r acq = let ws = map work views in ends (rule.words r)
-          (λ l. let x = total_some (λ (u : Work). times r u.empty) ws l in let y = map_back work views x.0 x.1 x.2 in let l' : 1 ≤ times r y.0.empty = subst (λ (z : Work). 1 ≤ times r z.empty) (sym y.2) x.3 in
+          (λ l. let x = total_some (λ (u : Holdings). times r u.empty) ws l in let y = map_back work views x.0 x.1 x.2 in let l' : 1 ≤ times r y.0.empty = subst (λ (z : Holdings). 1 ≤ times r z.empty) (sym y.2) x.3 in
           ⊎_elim (λ s. let m : IsAmong r v.empty = times_in r v.empty (subst (λ (z : Token P). 1 ≤ times r z.empty) s.1 l') in unused r m (acq.0, acq.1, rule.deeds.fresh id r acq.1 acq.0 (deed v) (at_deed rule seat) m acq.2))
           (λ s. let z : times r y.0.empty ≡ 0 = ap (λ l. times r l) s.empty in omega arith) (alone x.0 y.0 y.1))
-          (λ l. let x = total_some (λ (u : Work). times r u.opened) ws l in let y = map_back work views x.0 x.1 x.2 in
-          none_in (λ (z : Token P). z.opened) r x.0 y.0 y.1 (λ s. ap (λ (z : Token P). z.opened) s ∙ no_open) (λ s. s.opened) (subst (λ (z : Work). 1 ≤ times r z.opened) (sym y.2) x.3))
-          (λ l. let x = total_some (λ (u : Work). row_times r u.pairs) ws l in let y = map_back work views x.0 x.1 x.2 in let l' : 1 ≤ row_times r y.0.pairs = subst (λ (z : Work). 1 ≤ row_times r z.pairs) (sym y.2) x.3 in
+          (λ l. let x = total_some (λ (u : Holdings). times r u.opened) ws l in let y = map_back work views x.0 x.1 x.2 in
+          none_in (λ (z : Token P). z.opened) r x.0 y.0 y.1 (λ s. ap (λ (z : Token P). z.opened) s ∙ no_open) (λ s. s.opened) (subst (λ (z : Holdings). 1 ≤ times r z.opened) (sym y.2) x.3))
+          (λ l. let x = total_some (λ (u : Holdings). row_times r u.pairs) ws l in let y = map_back work views x.0 x.1 x.2 in let l' : 1 ≤ row_times r y.0.pairs = subst (λ (z : Holdings). 1 ≤ row_times r z.pairs) (sym y.2) x.3 in
           let e : y.0.pairs ≡ [] = ⊎_elim (λ s. ap (λ (z : Token P). z.pairs) s.1 ∙ no_pair) (λ s. s.pairs) (alone x.0 y.0 y.1) in let z : row_times r y.0.pairs ≡ 0 = ap (λ l. row_times r l) e in omega arith)
-          (λ l. let x = total_some (λ (u : Work). times r u.handed) ws l in let y = map_back work views x.0 x.1 x.2 in
-          none_in (λ (z : Token P). z.handed) r x.0 y.0 y.1 (λ s. ap (λ (z : Token P). z.handed) s ∙ no_hand) (λ s. s.handed) (subst (λ (z : Work). 1 ≤ times r z.handed) (sym y.2) x.3))
+          (λ l. let x = total_some (λ (u : Holdings). times r u.handed) ws l in let y = map_back work views x.0 x.1 x.2 in
+          none_in (λ (z : Token P). z.handed) r x.0 y.0 y.1 (λ s. ap (λ (z : Token P). z.handed) s ∙ no_hand) (λ s. s.handed) (subst (λ (z : Holdings). 1 ≤ times r z.handed) (sym y.2) x.3))
           acq
 
     given_mine : (r : ℕ) (x : P) → GivenIn (map purse views) r x → IsAmong (r, x) v.given

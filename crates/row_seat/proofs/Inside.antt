@@ -6,7 +6,7 @@ use Rattle.chunk_core.proofs.Filters.{among_append}
 use Rattle.chunk_core.proofs.Places.{at_map}
 use Rattle.res_ledger.specs.declared.event.Event.{Event}
 use Rattle.row_seat.specs.declared.token.Token.{Token}
-use Rattle.row_seat.specs.Rule.{IsInside, IsSeated, PaysAgree, Purse, RuleHolds, Work, purse, work}
+use Rattle.row_seat.specs.Rule.{IsInside, IsSeated, PaysAgree, Purse, RuleHolds, Holdings, purse, work}
 use Rattle.row_seat.specs.Totals.{IsAt, times, total}
 use Rattle.row_seat.proofs.Moves.{row_empty, row_handed, row_leased, row_open}
 use Rattle.row_seat.proofs.Rows.{one_place}
@@ -14,8 +14,8 @@ use Rattle.row_seat.proofs.Times.{few_below, times_both, times_some}
 use Rattle.row_seat.proofs.Totals.{total_at, total_one, total_sum}
 
 module _ {P : Type 0} {rows room : ℕ} {word : ℕ → ℕ} {slot : ℕ → Option P} {log : List Event} {views : List (Token P)} (rule : RuleHolds rows room word slot log views) where
-  held_once : (r : ℕ) → total (λ (u : Work). times r u.opened + times r u.handed) (map work views) ≤ 1
-  held_once r = let s = one_place (rule.words r) in let t = total_sum (λ (u : Work). times r u.opened) (λ (u : Work). times r u.handed) (map work views) in omega arith
+  held_once : (r : ℕ) → total (λ (u : Holdings). times r u.opened + times r u.handed) (map work views) ≤ 1
+  held_once r = let s = one_place (rule.words r) in let t = total_sum (λ (u : Holdings). times r u.opened) (λ (u : Holdings). times r u.handed) (map work views) in omega arith
 
   module _ {id : ℕ} {v : Token P} (seat : IsSeated views id v) where
     open seat use {at}
@@ -29,12 +29,12 @@ module _ {P : Type 0} {rows room : ℕ} {word : ℕ → ℕ} {slot : ℕ → Opt
       few = let l = length-append v.empty v.opened in
           let t = few_below rows (v.empty ++ v.opened) (λ r m. ⊎_elim (e r) (o r) (among_append r v.empty v.opened m))
           (λ r. let b = times_both r v.empty v.opened in let s = one_place (rule.words r) in let k = at_map work views id v at in
-          let x = total_at (λ (u : Work). times r u.empty) (map work views) id (work v) k in let y = total_at (λ (u : Work). times r u.opened) (map work views) id (work v) k in omega arith) in omega arith;
+          let x = total_at (λ (u : Holdings). times r u.empty) (map work views) id (work v) k in let y = total_at (λ (u : Holdings). times r u.opened) (map work views) id (work v) k in omega arith) in omega arith;
     }
 
     -- no other seat has a row that this one has open or handed
     pub alone_at : (r i : ℕ) (u : Token P) → IsAmong r v.opened ⊎ IsAmong r v.handed → IsAt views i u → IsAmong r u.opened ⊎ IsAmong r u.handed → i ≡ id
-    alone_at r i u mine g theirs = let f = λ (u : Work). times r u.opened + times r u.handed in
+    alone_at r i u mine g theirs = let f = λ (u : Holdings). times r u.opened + times r u.handed in
         let one : (z : Token P) → IsAmong r z.opened ⊎ IsAmong r z.handed → 1 ≤ times r z.opened + times r z.handed = λ z. ⊎_elim (λ m. let t = times_some r z.opened m in omega arith) (λ m. let t = times_some r z.handed m in omega arith) in
         total_one f (map work views) i id (work u) (work v) (held_once r) (at_map work views i u g) (at_map work views id v at) (one u theirs) (one v mine)
 

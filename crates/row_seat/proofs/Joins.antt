@@ -3,7 +3,7 @@ use Rattle.std.proofs.Common.{◌≡◌, ◌≢◌, ℕ, ◌^◌, ◌<◌, ◌�
 use Rattle.std.specs.Prelude.{Some, Option}
 use Rattle.res_ledger.specs.declared.event.What.TheVariants.{Acquire, Lease}
 use Rattle.row_seat.specs.Totals.{IsAt, pair_times, row_times, stamp_times, times}
-use Rattle.row_seat.specs.Rule.{Book, BooksAgree, DeedsAgree, GivenIn, Hold, LeasesAgree, LeftIn, PaysAgree, Purse, RowsAgree, IsBlank, IsSeated, RuleHolds, SeatsAgree, Who, Work, book, deed, empties, hands, hold, leases, opens, purse, who, work}
+use Rattle.row_seat.specs.Rule.{Book, BooksAgree, DeedsAgree, GivenIn, Hold, LeasesAgree, LeftIn, PaysAgree, Purse, RowsAgree, IsBlankView, IsSeated, RuleHolds, SeatsAgree, Who, Holdings, book, deed, empties, hands, hold, leases, open_count, purse, who, work}
 use Rattle.res_ledger.specs.Ledger.{Covers, IsCanceled, IsLeased, Notes}
 use Rattle.res_ledger.specs.declared.event.Event.{Event}
 use Rattle.res_ledger.specs.Streams.{HasRight, by_stream}
@@ -109,12 +109,12 @@ module _ {P : Type 0} {rows room : ℕ} {word : ℕ → ℕ} {slot : ℕ → Opt
   words' : RowsAgree rows word log (slice_set (slice_set (map work views) id (work ma)) jd (work nb))
   words' r = let ws = map work views in let ak = at_map work views id v at in let ak' = at_map work views jd w other.at in
       let T = total_both ws id jd (work v) (work w) (work ma) (work nb) ak ak' apart in
-      let a = T (λ (u : Work). times r u.empty) in let b = T (λ (u : Work). times r u.opened) in let c = T (λ (u : Work). row_times r u.pairs) in let d = T (λ (u : Work). times r u.handed) in
+      let a = T (λ (u : Holdings). times r u.empty) in let b = T (λ (u : Holdings). times r u.opened) in let c = T (λ (u : Holdings). row_times r u.pairs) in let d = T (λ (u : Holdings). times r u.handed) in
       let m = times_both r v.empty w.empty in
       let zb : times r w.opened ≡ 0 = ap (λ l. times r l) no_open in let zc : row_times r w.pairs ≡ 0 = ap (λ l. row_times r l) no_pair in let zd : times r w.handed ≡ 0 = ap (λ l. times r l) no_hand in
       let new = slice_set (slice_set ws id (work ma)) jd (work nb) in
       let ea : empties r ws ≡ empties r new = omega arith in
-      let eb : opens r ws ≡ opens r new = omega arith in
+      let eb : open_count r ws ≡ open_count r new = omega arith in
       let ec : leases r ws ≡ leases r new = omega arith in
       let ed : hands r ws ≡ hands r new = omega arith in
       stands_is (rule.words r) refl ea eb ec ed
@@ -161,6 +161,6 @@ module _ {P : Type 0} {rows room : ℕ} {word : ℕ → ℕ} {slot : ℕ → Opt
     deeds = subst (λ l. DeedsAgree log l) (sym (map_two deed views id jd ma nb)) deeds';
     leases = subst (λ l. LeasesAgree log l) (sym (map_two hold views id jd ma nb)) leases';
     pays = subst (λ l. PaysAgree word slot log l) (sym (map_two purse views id jd ma nb)) pays';
-    spent = each_two views id jd v w ma nb at other.at apart (λ i u. u.live ≡ false → IsBlank u) (λ f. absurd (live_not live f)) (λ f. record { empty = refl; opened = refl; pairs = refl; kept = refl; handed = refl; given = refl; left = refl; events = refl }) (λ i u ne me g. rule.spent i u g);
+    spent = each_two views id jd v w ma nb at other.at apart (λ i u. u.live ≡ false → IsBlankView u) (λ f. absurd (live_not live f)) (λ f. record { empty = refl; opened = refl; pairs = refl; kept = refl; handed = refl; given = refl; left = refl; events = refl }) (λ i u ne me g. rule.spent i u g);
     small = λ i j r u. each_two views id jd v w ma nb at other.at apart (λ i u. IsAmong (j, r) u.pairs → j < 2 ^ 32) (rule.small id j r v at) (λ m. absurd (among_nil m)) (λ i u ne me g. rule.small i j r u g) i u;
   }

@@ -17,7 +17,7 @@ use Rattle.res_ledger.proofs.Orders.{rising_is}
 use Rattle.row_seat.specs.declared.view.View.{View}
 use Rattle.row_seat.specs.declared.view.Left.{Left}
 use Rattle.row_seat.specs.declared.view.Left.TheVariants.{Stays, Yours}
-use Rattle.row_seat.specs.Views.{CanSplit, start, noted, placed, paid, shut, handed_over, took, Closes, IsFresh, HasRow, MayNote, CanPlace, CanClose, CanTake, CanFinish}
+use Rattle.row_seat.specs.Views.{CanSplit, start, noted, placed, paid, shut, handed_over, took, ClosesRow, IsFreshStamp, HasRow, MayNote, CanPlace, CanClose, CanTake, CanFinish}
 
 abbrev pub event : ℕ → What → Event
 event n w = record { stamp = n; by = Outer; what = w }
@@ -44,7 +44,7 @@ no_lease : (a b j s : ℕ) → Notes (event a (Acquire 0 0) ∷ event b (Close 0
 no_lease a b j s n = ⊎_elim (λ e. cc) (λ e. cc) (two a b (Lease j s) n)
 
 -- the close hands the row over, since no Lease covers it
-pub closes_mine : (a b : ℕ) (left : Left) (w : View ℕ) → Closes (closed a b) 0 left w → w ≡ mine a b
+pub closes_mine : (a b : ℕ) (left : Left) (w : View ℕ) → ClosesRow (closed a b) 0 left w → w ≡ mine a b
 closes_mine a b Stays w c = absurd (let t = covers_leased (closed a b).events c.3.1.0 0 Outer c.3.1.1.0 in no_lease a b c.3.1.0 t.0 t.1)
 closes_mine a b Yours w c = c.2 ∙ ap (λ (p : ℕ). handed_over (shut (closed a b) 0 p) 0 p) (⊎_elim (λ e. ap (λ (x : ℕ × ℕ). x.1) e) (λ m. absurd (among_nil m)) (among_cons c.1))
 
@@ -61,8 +61,8 @@ was_noted u v w n x is e = e ∙ ap (λ (y : View ℕ). noting y n x) is
 pub was_written : (a : ℕ) (u v w : View ℕ) → u ≡ acquired a → v ≡ placed u 0 7 → w ≡ paid v 0 8 → w ≡ written a
 was_written a u v w is p q = q ∙ (ap (λ (y : View ℕ). paid y 0 8) p ∙ ap (λ (y : View ℕ). paid (placed y 0 7) 0 8) is)
 
-pub was_mine : (a b : ℕ) (left : Left) (u v : View ℕ) → u ≡ closed a b → Closes u 0 left v → v ≡ mine a b
-was_mine a b left u v is c = closes_mine a b left v (subst (λ (y : View ℕ). Closes y 0 left v) is c)
+pub was_mine : (a b : ℕ) (left : Left) (u v : View ℕ) → u ≡ closed a b → ClosesRow u 0 left v → v ≡ mine a b
+was_mine a b left u v is c = closes_mine a b left v (subst (λ (y : View ℕ). ClosesRow y 0 left v) is c)
 
 -- what each call asks
 pub may_acquire : MayNote first (Acquire 0 0)
@@ -102,7 +102,7 @@ only_below n e x m l = ⊎_elim (λ s. subst (λ (y : Event). n < y.stamp) (sym 
 rises : (a b d : ℕ) → a < b → b < d → Rises (life a b d)
 rises a b d l m = ((λ x h. ⊎_elim (λ s. subst (λ (y : Event). a < y.stamp) (sym s) l) (λ o. only_below a (event d (Final 0 Succeeded true)) x o (omega arith)) (among_cons h)), ((λ x h. only_below b (event d (Final 0 Succeeded true)) x h m), ((λ x h. absurd (among_nil h)), tt)))
 
-pub is_life : (L : List Event) (a b d : ℕ) → IsStamped L → ((x : Event) → IsAmong x L ↔ IsAmong x (life a b d)) → IsFresh (written a) b → IsFresh (took (mine a b) 0) d → L ≡ life 0 1 2
+pub is_life : (L : List Event) (a b d : ℕ) → IsStamped L → ((x : Event) → IsAmong x L ↔ IsAmong x (life a b d)) → IsFreshStamp (written a) b → IsFreshStamp (took (mine a b) 0) d → L ≡ life 0 1 2
 is_life L a b d stamped both second third =
     let l : a < b = second.1 (event a (Acquire 0 0)) (here []) in let m : b < d = third.1 (event b (Close 0 Succeeded)) (there _ (here [])) in
     let is = rising_is L (life a b d) stamped (rises a b d l m) both in

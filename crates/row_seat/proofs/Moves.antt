@@ -4,7 +4,7 @@ use Rattle.std.specs.Prelude.{Some, None, Option}
 use Rattle.std.proofs.lemmas.Bool.{cases_eq}
 use Rattle.res_ledger.specs.declared.event.What.TheVariants.{Acquire, Cancel, Lease}
 use Rattle.row_seat.specs.Totals.{IsAt, pair_times, row_times, times, total}
-use Rattle.row_seat.specs.Rule.{BooksAgree, DeedsAgree, GivenIn, Hold, LeasesAgree, LeftIn, PaysAgree, Purse, RowsAgree, IsSeated, RuleHolds, SeatsAgree, Stands, Who, Work, book, deed, empties, hands, hold, leases, opens, purse, who, work}
+use Rattle.row_seat.specs.Rule.{BooksAgree, DeedsAgree, GivenIn, Hold, LeasesAgree, LeftIn, PaysAgree, Purse, RowsAgree, IsSeated, RuleHolds, SeatsAgree, RowStands, Who, Holdings, book, deed, empties, hands, hold, leases, open_count, purse, who, work}
 use Rattle.res_ledger.specs.Ledger.{Covers, IsAcquired, IsCanceled, IsClosed, IsFinalized, IsLeased, IsRowClosed, Notes, NotesCancel}
 use Rattle.res_ledger.specs.declared.event.Event.{Event}
 use Rattle.res_ledger.specs.Streams.{HasRight}
@@ -16,7 +16,7 @@ use Rattle.chunk_core.proofs.Members.{among_last, among_left, among_snoc}
 use Rattle.row_seat.proofs.Members.{among_without}
 use Rattle.row_seat.proofs.Ticked.{at_book, at_deed, at_hold, at_purse, at_who, at_work, back, closed_forth, forth, keep, rule_put, small_put, spent_put}
 use Rattle.chunk_core.proofs.Places.{at_map}
-use Rattle.row_seat.specs.Rule.Stands.{awaits, handed, opened}
+use Rattle.row_seat.specs.Rule.RowStands.{awaits, handed, opened}
 use Rattle.res_ledger.proofs.Ledgers.{canceled_leased}
 use Rattle.row_seat.proofs.Parts.{close_pays, covered_leased, deed_step, give_pays, hold_step, pay_word, pays_same, shut_pays}
 use Rattle.row_seat.proofs.Totals.{total_one, each, map_back, one_at, some_back, some_put, total_at, total_set, total_some}
@@ -61,22 +61,22 @@ module _ {P : Type 0} {rows room : ℕ} {word : ℕ → ℕ} {slot : ℕ → Opt
   same_pays : (word' : ℕ → ℕ) → PaysAgree word' slot log (map purse views) → PaysAgree word' slot log (slice_set (map purse views) id (purse v))
   same_pays word' = keep (λ l. PaysAgree word' slot log l) (map purse views) id (purse v) ap'
 
-  abbrev ws : List Work
+  abbrev ws : List Holdings
   ws = map work views
 
   -- what the rule tells of a row that the seat has
-  empty_here : (r : ℕ) → IsAmong r v.empty → (r < rows) × (word r ≡ 0) × (empties r ws ≡ 1) × (opens r ws ≡ 0) × (leases r ws ≡ 0) × (hands r ws ≡ 0) × ¬ (IsFinalized log r)
-  empty_here r m = let l = total_at (λ (u : Work). times r u.empty) ws id (work v) ak in let t = times_some r v.empty m in is_vacant (rule.words r) (omega arith)
+  empty_here : (r : ℕ) → IsAmong r v.empty → (r < rows) × (word r ≡ 0) × (empties r ws ≡ 1) × (open_count r ws ≡ 0) × (leases r ws ≡ 0) × (hands r ws ≡ 0) × ¬ (IsFinalized log r)
+  empty_here r m = let l = total_at (λ (u : Holdings). times r u.empty) ws id (work v) ak in let t = times_some r v.empty m in is_vacant (rule.words r) (omega arith)
 
-  open_here : (r : ℕ) → IsAmong r v.opened → (r < rows) × (word r ≡ 1 + 4 * leases r ws) × (empties r ws ≡ 0) × (opens r ws ≡ 1) × (hands r ws ≡ 0) × IsAcquired log r × ¬ (IsFinalized log r)
-  open_here r m = let l = total_at (λ (u : Work). times r u.opened) ws id (work v) ak in let t = times_some r v.opened m in is_open (rule.words r) (omega arith)
+  open_here : (r : ℕ) → IsAmong r v.opened → (r < rows) × (word r ≡ 1 + 4 * leases r ws) × (empties r ws ≡ 0) × (open_count r ws ≡ 1) × (hands r ws ≡ 0) × IsAcquired log r × ¬ (IsFinalized log r)
+  open_here r m = let l = total_at (λ (u : Holdings). times r u.opened) ws id (work v) ak in let t = times_some r v.opened m in is_open (rule.words r) (omega arith)
 
-  leased_here : (j r : ℕ) → IsAmong (j, r) v.pairs → (r < rows) × (empties r ws ≡ 0) × (hands r ws ≡ 0) × ¬ (IsFinalized log r) × (((word r ≡ 1 + 4 * leases r ws) × (opens r ws ≡ 1) × IsAcquired log r) ⊎ ((word r ≡ 3 + 4 * leases r ws) × (opens r ws ≡ 0) × IsRowClosed log r)) × (1 ≤ leases r ws)
-  leased_here j r m = let l = total_at (λ (u : Work). row_times r u.pairs) ws id (work v) ak in let y = row_some j r v.pairs m in
+  leased_here : (j r : ℕ) → IsAmong (j, r) v.pairs → (r < rows) × (empties r ws ≡ 0) × (hands r ws ≡ 0) × ¬ (IsFinalized log r) × (((word r ≡ 1 + 4 * leases r ws) × (open_count r ws ≡ 1) × IsAcquired log r) ⊎ ((word r ≡ 3 + 4 * leases r ws) × (open_count r ws ≡ 0) × IsRowClosed log r)) × (1 ≤ leases r ws)
+  leased_here j r m = let l = total_at (λ (u : Holdings). row_times r u.pairs) ws id (work v) ak in let y = row_some j r v.pairs m in
       let many : 1 ≤ leases r ws = omega arith in let s = is_leased (rule.words r) many in (s.0, s.1, s.2, s.3, s.4, many)
 
   handed_here : (r : ℕ) → IsAmong r v.handed → (r < rows) × (word r ≡ 3) × (leases r ws ≡ 0) × (hands r ws ≡ 1)
-  handed_here r m = let l = total_at (λ (u : Work). times r u.handed) ws id (work v) ak in let t = times_some r v.handed m in handed_word (rule.words r) (omega arith)
+  handed_here r m = let l = total_at (λ (u : Holdings). times r u.handed) ws id (work v) ak in let t = times_some r v.handed m in handed_word (rule.words r) (omega arith)
 
   pub row_empty : (r : ℕ) → IsAmong r v.empty → (r < rows) × (word r ≡ 0)
   row_empty r m = let s = empty_here r m in (s.0, s.1)
@@ -92,13 +92,13 @@ module _ {P : Type 0} {rows room : ℕ} {word : ℕ → ℕ} {slot : ℕ → Opt
 
   -- no pair stands on an empty row
   pub no_pair_on : (r : ℕ) → IsAmong r v.empty → (i : ℕ) (u : Token P) → IsAt views i u → (j : ℕ) → ¬ (IsAmong (j, r) u.pairs)
-  no_pair_on r m i u g j p = let s4 = (empty_here r m).4 in let k = total_at (λ (u : Work). row_times r u.pairs) ws i (work u) (at_map work views i u g) in let q = row_some j r u.pairs p in omega arith
+  no_pair_on r m i u g j p = let s4 = (empty_here r m).4 in let k = total_at (λ (u : Holdings). row_times r u.pairs) ws i (work u) (at_map work views i u g) in let q = row_some j r u.pairs p in omega arith
 
   -- a handed row is handed to one seat
   pub one_hand : (r i : ℕ) (u : Purse P) → IsAt (map purse views) i u → IsAmong r v.handed → IsAmong r u.handed → i ≡ id
   one_hand r i u g m n =
       let y = map_back purse views i u g in let s3 = (handed_here r m).3 in
-      total_one (λ (u : Work). times r u.handed) ws i id (work y.0) (work v) (omega arith) (at_map work views i y.0 y.1) ak (times_some r y.0.handed (subst (λ (z : Purse P). IsAmong r z.handed) (sym y.2) n)) (times_some r v.handed m)
+      total_one (λ (u : Holdings). times r u.handed) ws i id (work y.0) (work v) (omega arith) (at_map work views i y.0 y.1) ak (times_some r y.0.handed (subst (λ (z : Purse P). IsAmong r z.handed) (sym y.2) n)) (times_some r v.handed m)
 
   -- the rule from its parts, where the seats and their events stay
   move : {word' : ℕ → ℕ} {slot' : ℕ → Option P} (w : Token P) → who w ≡ who v → book w ≡ book v → RowsAgree rows word' log (slice_set ws id (work w)) → DeedsAgree log (slice_set (map deed views) id (deed w)) → LeasesAgree log (slice_set (map hold views) id (hold w))
@@ -112,7 +112,7 @@ module _ {P : Type 0} {rows room : ℕ} {word : ℕ → ℕ} {slot : ℕ → Opt
   pub not_handed : (r n : ℕ) → word r ≡ 1 + 4 * n → (i : ℕ) (p : Purse P) → IsAt (map purse views) i p → ¬ (IsAmong r p.handed)
   not_handed r n is i p g m =
       let y = map_back purse views i p g in let t = times_some r y.0.handed (subst (λ (z : Purse P). IsAmong r z.handed) (sym y.2) m) in
-      let l = total_at (λ (u : Work). times r u.handed) ws i (work y.0) (at_map work views i y.0 y.1) in let w1 = (handed_word (rule.words r) (omega arith)).1 in omega arith
+      let l = total_at (λ (u : Holdings). times r u.handed) ws i (work y.0) (at_map work views i y.0 y.1) in let w1 = (handed_word (rule.words r) (omega arith)).1 in omega arith
 
   gone_leases : (j r : ℕ) → IsCanceled log j → let h : Hold = record { main = v.main; by = v.by; had = v.had; pairs = without_pair j r v.pairs; kept = v.kept; opened = v.opened } in LeasesAgree log (slice_set (map hold views) id h)
   gone_leases j r lost = let hs = map hold views in let h : Hold = record { main = v.main; by = v.by; had = v.had; pairs = without_pair j r v.pairs; kept = v.kept; opened = v.opened } in
@@ -127,12 +127,12 @@ module _ {P : Type 0} {rows room : ℕ} {word : ℕ → ℕ} {slot : ℕ → Opt
   module _ (word' : ℕ → ℕ) (r : ℕ) (other : (q : ℕ) → q ≢ r → word' q ≡ word q) where
     -- the rows, where this one alone changes: e, o, n, h are its counts after the step
     row_put : (w : Token P) → ((q : ℕ) → q ≢ r → (times q w.empty ≡ times q v.empty) × (times q w.opened ≡ times q v.opened) × (row_times q w.pairs ≡ row_times q v.pairs) × (times q w.handed ≡ times q v.handed))
-        → ((e o n h : ℕ) → e + times r v.empty ≡ empties r ws + times r w.empty → o + times r v.opened ≡ opens r ws + times r w.opened → n + row_times r v.pairs ≡ leases r ws + row_times r w.pairs → h + times r v.handed ≡ hands r ws + times r w.handed
-        → Stands rows r (word' r) e o n h (IsAcquired log r) (IsRowClosed log r) (IsFinalized log r)) → RowsAgree rows word' log (slice_set ws id (work w))
+        → ((e o n h : ℕ) → e + times r v.empty ≡ empties r ws + times r w.empty → o + times r v.opened ≡ open_count r ws + times r w.opened → n + row_times r v.pairs ≡ leases r ws + row_times r w.pairs → h + times r v.handed ≡ hands r ws + times r w.handed
+        → RowStands rows r (word' r) e o n h (IsAcquired log r) (IsRowClosed log r) (IsFinalized log r)) → RowsAgree rows word' log (slice_set ws id (work w))
     row_put w same now = row_step rows word word' log ws rule.words id r (work v) (work w) ak other same
-        (let new = slice_set ws id (work w) in now (empties r new) (opens r new) (leases r new) (hands r new)
-        (total_set (λ (u : Work). times r u.empty) ws id (work v) (work w) ak) (total_set (λ (u : Work). times r u.opened) ws id (work v) (work w) ak)
-        (total_set (λ (u : Work). row_times r u.pairs) ws id (work v) (work w) ak) (total_set (λ (u : Work). times r u.handed) ws id (work v) (work w) ak))
+        (let new = slice_set ws id (work w) in now (empties r new) (open_count r new) (leases r new) (hands r new)
+        (total_set (λ (u : Holdings). times r u.empty) ws id (work v) (work w) ak) (total_set (λ (u : Holdings). times r u.opened) ws id (work v) (work w) ak)
+        (total_set (λ (u : Holdings). row_times r u.pairs) ws id (work v) (work w) ak) (total_set (λ (u : Holdings). times r u.handed) ws id (work v) (work w) ak))
 
     pub place_keeps : word' r ≡ 1 → IsAmong r v.empty → (s : ℕ) → Notes v.events v.by (Acquire r s) → RuleHolds rows room word' slot log (slice_set views id (placed v r))
     place_keeps now can s noted =

@@ -9,7 +9,7 @@ use Rattle.res_ledger.specs.Ledger.{IsAcquired, IsFinalized}
 use Rattle.res_ledger.specs.declared.event.Event.{Event}
 use Rattle.res_ledger.specs.declared.event.StreamNo.TheVariants.{Inner}
 use Rattle.row_seat.specs.declared.token.Token.{Token}
-use Rattle.row_seat.specs.Rule.{RuleHolds, Work, book, purse, seen, work}
+use Rattle.row_seat.specs.Rule.{RuleHolds, Holdings, book, purse, view_of, work}
 use Rattle.row_seat.specs.Steps.{joined}
 use Rattle.row_seat.specs.Totals.{IsAt, row_times, times}
 use Rattle.row_seat.specs.Views.{AreApart}
@@ -36,9 +36,9 @@ module _ {P : Type 0} where
     empty_row : (r : ℕ) → 1 ≤ times r (v.empty ++ w.empty) → (word r ≡ 0) × (times r (v.empty ++ w.empty) ≤ 1) × (times r v.opened ≡ 0) × (row_times r v.pairs ≡ 0) × ¬ (IsFinalized log r)
     empty_row r m =
         let ws = map work views in
-        let l = total_at (λ (u : Work). times r u.empty) ws id (work (joined v w)) ak in
-        let o = total_at (λ (u : Work). times r u.opened) ws id (work (joined v w)) ak in
-        let k = total_at (λ (u : Work). row_times r u.pairs) ws id (work (joined v w)) ak in
+        let l = total_at (λ (u : Holdings). times r u.empty) ws id (work (joined v w)) ak in
+        let o = total_at (λ (u : Holdings). times r u.opened) ws id (work (joined v w)) ak in
+        let k = total_at (λ (u : Holdings). row_times r u.pairs) ws id (work (joined v w)) ak in
         let s = is_vacant (rule.words r) (omega (l, m, arith)) in let s2 = s.2 in let s3 = s.3 in let s4 = s.4 in
         (s.1, omega (l, s2, arith), omega (o, s3, arith), omega (k, s4, arith), s.6)
 
@@ -64,7 +64,7 @@ module _ {P : Type 0} where
         (λ b. ⊎_elim (λ o. let s = times_some r v.opened o in absurd (omega (s, e2, arith))) (λ l. not_left r l.0 (among_left w.left l.1) e.0) b)
         (mine r a)
 
-    pub were_apart : (hs ks : List (ℕ × P)) → AreApart (seen v hs) (seen w ks)
+    pub were_apart : (hs ks : List (ℕ × P)) → AreApart (view_of v hs) (view_of w ks)
     were_apart hs ks = record {
       events = λ e m b. foreign (sym b ∙ (pure e m ∙ by));
       own = pure;

@@ -18,7 +18,7 @@ use Rattle.row_seat.specs.PlainSeats.{IsTable, Sits, shown}
 use Rattle.row_seat.specs.Rule.{Book, IsSeated, RuleHolds, book, purse}
 use Rattle.row_seat.specs.Steps.{gone, handed_over, joined, leased, noted, placed, shut, spent, split_main, split_off, took}
 use Rattle.row_seat.specs.Totals.{IsAt}
-use Rattle.row_seat.specs.Views.{CanClose, CanJoin, CanLease, CanLeave, CanPlace, CanSplit, HasRow, IsFresh, MayNote, OthersFit, within}
+use Rattle.row_seat.specs.Views.{CanClose, CanJoin, CanLease, CanLeave, CanPlace, CanSplit, HasRow, IsFreshStamp, MayNote, OthersFit, within}
 use Rattle.row_seat.proofs.Changes.{more_else, more_here, more_last, total_both, total_more, two_else, two_first}
 use Rattle.row_seat.proofs.Hands.{row_among}
 use Rattle.row_seat.proofs.Joins.{apart, join_keeps}
@@ -151,7 +151,7 @@ module _ {P : Type 0} {s : PlainSeat P} {d : PlainTable P} (h : Sits s d) where
       let a = table.rule.books.sum in let e = table.enough in
       let t = total_at (λ (b : Book). b.spare) (map book d.views) s.id (book v) (at_map book d.views s.id v seated.at) in omega arith
 
-  pub fresh_stamp : IsFresh (shown s) (length d.events.items)
+  pub fresh_stamp : IsFreshStamp (shown s) (length d.events.items)
   fresh_stamp = let k = table.rule.books in let at = at_map book d.views s.id v seated.at in
       (k.floor s.id (book v) at, λ e m. stamp_below d.events.items e k.stamped (k.inside s.id (book v) e at m))
 

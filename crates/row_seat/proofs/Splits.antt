@@ -4,7 +4,7 @@ use Rattle.std.specs.Prelude.{Some, Option}
 use Rattle.std.proofs.lemmas.Bool.{cases_eq, le-leb, lt-leb, lt-ltb, le-ltb, leb-true, leb-false, cases_Bool}
 use Rattle.res_ledger.specs.declared.event.What.TheVariants.{Acquire, Lease}
 use Rattle.row_seat.specs.Totals.{IsAt, pair_times, row_times, stamp_times, times}
-use Rattle.row_seat.specs.Rule.{Book, BooksAgree, DeedsAgree, GivenIn, Hold, LeasesAgree, LeftIn, PaysAgree, Purse, RowsAgree, IsBlank, IsSeated, RuleHolds, SeatsAgree, Who, Work, book, deed, empties, hands, hold, leases, opens, purse, who, work}
+use Rattle.row_seat.specs.Rule.{Book, BooksAgree, DeedsAgree, GivenIn, Hold, LeasesAgree, LeftIn, PaysAgree, Purse, RowsAgree, IsBlankView, IsSeated, RuleHolds, SeatsAgree, Who, Holdings, book, deed, empties, hands, hold, leases, open_count, purse, who, work}
 use Rattle.res_ledger.specs.Ledger.{Covers, IsAcquired, IsCanceled, IsLeased, Notes}
 use Rattle.res_ledger.specs.declared.event.Event.{Event}
 use Rattle.res_ledger.specs.Streams.{HasRight, by_stream}
@@ -12,7 +12,7 @@ use Rattle.res_ledger.specs.declared.event.StreamNo.TheVariants.{Inner}
 use Rattle.chunk_core.specs.Lists.{IsAmong}
 use Rattle.res_ledger.specs.declared.event.StreamNo.{StreamNo}
 use Rattle.row_seat.specs.declared.token.Token.{Token}
-use Rattle.row_seat.specs.Views.{above, run, within}
+use Rattle.row_seat.specs.Views.{next_stamp, run, within}
 use Rattle.chunk_core.proofs.Members.{among_cons, among_last, among_left, among_nil, among_snoc}
 use Rattle.chunk_core.proofs.Filters.{among_filter, bool_not, filter_among}
 use Rattle.row_seat.proofs.Members.{all_there, among_kept, among_without, length_cut}
@@ -26,16 +26,16 @@ use Rattle.row_seat.proofs.Tick.{one_empty, stands_is}
 use Rattle.row_seat.specs.Steps.{split_main, split_off}
 use Rattle.row_seat.proofs.Totals.{total_at}
 
-pub above_le : (L : List Event) (n : ℕ) → ((e : Event) → IsAmong e L → e.stamp < n) → above L ≤ n
+pub above_le : (L : List Event) (n : ℕ) → ((e : Event) → IsAmong e L → e.stamp < n) → next_stamp L ≤ n
 above_le [] n h = omega arith
-above_le (e ∷ L) n h = let t = above_le L n (λ x m. h x (there e m)) in let s = h e (here L) in elim (leb (suc e.stamp) (above L)) as (λ b. cond b (above L) (suc e.stamp) ≤ n) [ true ↦ t | false ↦ omega arith ]
+above_le (e ∷ L) n h = let t = above_le L n (λ x m. h x (there e m)) in let s = h e (here L) in elim (leb (suc e.stamp) (next_stamp L)) as (λ b. cond b (next_stamp L) (suc e.stamp) ≤ n) [ true ↦ t | false ↦ omega arith ]
 
-pub above_each : (L : List Event) (e : Event) → IsAmong e L → e.stamp < above L
+pub above_each : (L : List Event) (e : Event) → IsAmong e L → e.stamp < next_stamp L
 above_each [] e m = absurd (among_nil m)
-above_each (x ∷ L) e m = let k : e.stamp < above L ⊎ (e ≡ x) = ⊎_elim (λ s. inr s) (λ n. inl (above_each L e n)) (among_cons m) in
-    (elim (leb (suc x.stamp) (above L)) as (λ b. leb (suc x.stamp) (above L) ≡ b → e.stamp < cond b (above L) (suc x.stamp)) [
-      | true ↦ λ t. let l = leb-true (suc x.stamp) (above L) t in ⊎_elim (λ s. s) (λ s. let q : e.stamp ≡ x.stamp = ap (λ (y : Event). y.stamp) s in omega arith) k
-      | false ↦ λ f. let l = leb-false (suc x.stamp) (above L) f in ⊎_elim (λ s. omega arith) (λ s. let q : e.stamp ≡ x.stamp = ap (λ (y : Event). y.stamp) s in omega arith) k
+above_each (x ∷ L) e m = let k : e.stamp < next_stamp L ⊎ (e ≡ x) = ⊎_elim (λ s. inr s) (λ n. inl (above_each L e n)) (among_cons m) in
+    (elim (leb (suc x.stamp) (next_stamp L)) as (λ b. leb (suc x.stamp) (next_stamp L) ≡ b → e.stamp < cond b (next_stamp L) (suc x.stamp)) [
+      | true ↦ λ t. let l = leb-true (suc x.stamp) (next_stamp L) t in ⊎_elim (λ s. s) (λ s. let q : e.stamp ≡ x.stamp = ap (λ (y : Event). y.stamp) s in omega arith) k
+      | false ↦ λ f. let l = leb-false (suc x.stamp) (next_stamp L) f in ⊎_elim (λ s. omega arith) (λ s. let q : e.stamp ≡ x.stamp = ap (λ (y : Event). y.stamp) s in omega arith) k
     ]) refl
 
 pub within_in : (from to r : ℕ) → from ≤ r → r < to → within from to r ≡ true
@@ -150,17 +150,17 @@ module _ {P : Type 0} {rows room : ℕ} {word : ℕ → ℕ} {slot : ℕ → Opt
   cut_rows r = let f = times_filter (λ x. not (within from to x)) r v.empty in ⊎_elim
       (λ s. let w = ap (λ b. if_so (not b) (times r v.empty)) (within_in from to r s.0 s.1) in let s0 = s.0 in let s1 = s.1 in
       let i = run_in r from (to - from) s.0 (omega arith) in let o = times_some r v.empty (IsWithin r s).0 in
-      let l = total_at (λ (u : Work). times r u.empty) (map work views) id (work v) ak in let m = one_empty (rule.words r) in omega arith)
+      let l = total_at (λ (u : Holdings). times r u.empty) (map work views) id (work v) ak in let m = one_empty (rule.words r) in omega arith)
       (λ s. let w = ap (λ b. if_so (not b) (times r v.empty)) (within_out from to r s) in
       let i = run_out r from (to - from) (⊎_elim (λ a. inl a) (λ b. far_or from to r b) s) in omega arith)
       (span_cases from to r)
 
   words' : RowsAgree rows word log (slice_set (map work views) id (work ma) ++ work nb ∷ [])
   words' r = let ws = map work views in let T = total_more ws id (work v) (work ma) (work nb) ak in
-      let a = T (λ (u : Work). times r u.empty) in let b = T (λ (u : Work). times r u.opened) in let c = T (λ (u : Work). row_times r u.pairs) in let d = T (λ (u : Work). times r u.handed) in
+      let a = T (λ (u : Holdings). times r u.empty) in let b = T (λ (u : Holdings). times r u.opened) in let c = T (λ (u : Holdings). row_times r u.pairs) in let d = T (λ (u : Holdings). times r u.handed) in
       let ca = cut_rows r in let cc' = row_cut (λ x. eqb x.0 j) r v.pairs in
       let ea : empties r ws ≡ empties r (slice_set ws id (work ma) ++ work nb ∷ []) = omega arith in
-      let eb : opens r ws ≡ opens r (slice_set ws id (work ma) ++ work nb ∷ []) = omega arith in
+      let eb : open_count r ws ≡ open_count r (slice_set ws id (work ma) ++ work nb ∷ []) = omega arith in
       let ec : leases r ws ≡ leases r (slice_set ws id (work ma) ++ work nb ∷ []) = omega arith in
       let ed : hands r ws ≡ hands r (slice_set ws id (work ma) ++ work nb ∷ []) = omega arith in
       stands_is (rule.words r) refl ea eb ec ed
@@ -218,6 +218,6 @@ module _ {P : Type 0} {rows room : ℕ} {word : ℕ → ℕ} {slot : ℕ → Opt
     deeds = subst (λ l. DeedsAgree log l) (sym (map_more deed views id ma nb)) deeds';
     leases = subst (λ l. LeasesAgree log l) (sym (map_more hold views id ma nb)) leases';
     pays = subst (λ l. PaysAgree word slot log l) (sym (map_more purse views id ma nb)) pays';
-    spent = each_more views id v ma nb at (λ i u. u.live ≡ false → IsBlank u) (λ f. absurd (live_not live f)) (λ i u ne g. rule.spent i u g) (λ f. absurd (bool_not f));
+    spent = each_more views id v ma nb at (λ i u. u.live ≡ false → IsBlankView u) (λ f. absurd (live_not live f)) (λ i u ne g. rule.spent i u g) (λ f. absurd (bool_not f));
     small = λ i q r u. each_more views id v ma nb at (λ i u. IsAmong (q, r) u.pairs → q < 2 ^ 32) (λ m. rule.small id q r v at (among_filter (λ (x : ℕ × ℕ). not (eqb x.0 j)) (q, r) v.pairs m).0) (λ i u ne g. rule.small i q r u g) (λ m. rule.small id q r v at (among_filter (λ (x : ℕ × ℕ). eqb x.0 j) (q, r) v.pairs m).0) i u;
   }

@@ -11,14 +11,14 @@ use Rattle.res_ledger.specs.Standing.Standing.{Open, Awaiting, Handed, Finalized
 use Rattle.res_ledger.proofs.Standings.{standing_is_exact}
 use Rattle.row_seat.specs.declared.token.Token.{Token}
 use Rattle.row_seat.specs.Laws.{WordTells}
-use Rattle.row_seat.specs.Rule.{Hold, RuleHolds, Stands, Work, hold, leases, work}
-use Rattle.row_seat.specs.Rule.Stands.{awaits, beyond, final, handed, opened, vacant}
+use Rattle.row_seat.specs.Rule.{Hold, RuleHolds, RowStands, Holdings, hold, leases, work}
+use Rattle.row_seat.specs.Rule.RowStands.{awaits, beyond, final, handed, opened, vacant}
 use Rattle.row_seat.specs.Totals.{row_times}
 use Rattle.row_seat.proofs.Times.{row_some}
 use Rattle.row_seat.proofs.Totals.{map_back, total_at}
 
 module _ {rows r w e o n h : ℕ} {A C F : Type 0} (low : r < rows) where
-  none_final : Stands rows r w e o n h A C F → w ≡ 0 → ¬ F
+  none_final : RowStands rows r w e o n h A C F → w ≡ 0 → ¬ F
   none_final (vacant a b c d i j k) z = k
   none_final (opened a b c d i j k) z = k
   none_final (awaits a b c d i j k m) z = m
@@ -26,7 +26,7 @@ module _ {rows r w e o n h : ℕ} {A C F : Type 0} (low : r < rows) where
   none_final (final a b c d i j k m) z = absurd (omega arith)
   none_final (beyond a b c d i j) z = absurd (omega arith)
 
-  by_open : Stands rows r w e o n h A C F → (m : ℕ) → w ≡ 1 + 4 * m → A × ¬ F
+  by_open : RowStands rows r w e o n h A C F → (m : ℕ) → w ≡ 1 + 4 * m → A × ¬ F
   by_open (vacant a b c d i j k) m z = absurd (omega arith)
   by_open (opened a b c d i j k) m z = (j, k)
   by_open (awaits a b c d i j k q) m z = absurd (omega arith)
@@ -34,7 +34,7 @@ module _ {rows r w e o n h : ℕ} {A C F : Type 0} (low : r < rows) where
   by_open (final a b c d i j k q) m z = absurd (omega arith)
   by_open (beyond a b c d i j) m z = absurd (omega arith)
 
-  by_waiting : Stands rows r w e o n h A C F → (m : ℕ) → w ≡ 3 + 4 * m → 1 ≤ m → C × ¬ F
+  by_waiting : RowStands rows r w e o n h A C F → (m : ℕ) → w ≡ 3 + 4 * m → 1 ≤ m → C × ¬ F
   by_waiting (vacant a b c d i j k) m z l = absurd (omega arith)
   by_waiting (opened a b c d i j k) m z l = absurd (omega arith)
   by_waiting (awaits a b c d i j k q) m z l = (k, q)
@@ -42,7 +42,7 @@ module _ {rows r w e o n h : ℕ} {A C F : Type 0} (low : r < rows) where
   by_waiting (final a b c d i j k q) m z l = absurd (omega arith)
   by_waiting (beyond a b c d i j) m z l = absurd (omega arith)
 
-  by_closed : Stands rows r w e o n h A C F → w ≡ 3 → C × (n ≡ 0) × (F ⊎ ¬ F)
+  by_closed : RowStands rows r w e o n h A C F → w ≡ 3 → C × (n ≡ 0) × (F ⊎ ¬ F)
   by_closed (vacant a b c d i j k) z = absurd (omega arith)
   by_closed (opened a b c d i j k) z = absurd (omega arith)
   by_closed (awaits a b c d i j k q) z = absurd (omega arith)
@@ -50,7 +50,7 @@ module _ {rows r w e o n h : ℕ} {A C F : Type 0} (low : r < rows) where
   by_closed (final a b c d i j k q) z = (k, i, inl q)
   by_closed (beyond a b c d i j) z = absurd (omega arith)
 
-  forms : Stands rows r w e o n h A C F → (w ≡ 0) ⊎ (((m : ℕ) × (w ≡ 1 + 4 * m)) ⊎ ((m : ℕ) × (w ≡ 3 + 4 * m)))
+  forms : RowStands rows r w e o n h A C F → (w ≡ 0) ⊎ (((m : ℕ) × (w ≡ 1 + 4 * m)) ⊎ ((m : ℕ) × (w ≡ 3 + 4 * m)))
   forms (vacant a b c d i j k) = inl b
   forms (opened a b c d i j k) = inr (inl (n, b))
   forms (awaits a b c d i j k q) = inr (inr (n, b))
@@ -75,7 +75,7 @@ module _ {P : Type 0} {rows room : ℕ} {word : ℕ → ℕ} {slot : ℕ → Opt
   released : (r : ℕ) → leases r (map work views) ≡ 0 → (j : ℕ) (k : StreamNo) → Covers log j k r → IsCanceled log j
   released r none j k c = ⊎_elim (λ x. x)
       (λ p. let y = map_back hold views p.0 p.1 p.2 in let m = row_some j r y.0.pairs (subst (λ (z : Hold). IsAmong (j, r) z.pairs) (sym y.2) p.3) in
-      let l = total_at (λ (u : Work). row_times r u.pairs) (map work views) p.0 (work y.0) (at_map work views p.0 y.0 y.1) in absurd (omega arith))
+      let l = total_at (λ (u : Holdings). row_times r u.pairs) (map work views) p.0 (work y.0) (at_map work views p.0 y.0 y.1) in absurd (omega arith))
       (rule.leases.stand j r k c)
 
   exact : (r : ℕ) → IsAcquired log r → HasStanding log r (standing_of log r)

@@ -3,7 +3,7 @@ use Rattle.std.proofs.Common.{◌≡◌, ℕ, zero, suc, ◌≤◌, true, false,
 use Rattle.std.specs.Prelude.{None, Option, slice_index, vec_capacity, vec_len}
 use mathlib.Core.Option.{some-ne-none, some-injective}
 use Rattle.row_seat.specs.Totals.{IsAt}
-use Rattle.row_seat.specs.Rule.{Book, Deed, Hold, Purse, RuleHolds, Who, book, deed, hold, purse, who}
+use Rattle.row_seat.specs.Rule.{Book, Ownership, Hold, Purse, RuleHolds, Who, book, deed, hold, purse, who}
 use Rattle.chunk_core.specs.Lists.{IsAmong}
 use Rattle.std.specs.Map.{keys_of}
 use Rattle.row_seat.specs.PlainSeats.{IsTable, Sits}
@@ -15,7 +15,7 @@ use Rattle.res_ledger.specs.declared.event.StreamNo.{StreamNo}
 use Rattle.row_seat.specs.declared.token.Token.{Token}
 use Rattle.res_ledger.specs.declared.event.What.{What}
 use Rattle.chunk_core.proofs.Members.{among_nil}
-use Rattle.row_seat.specs.Rule.Stands.{beyond, vacant}
+use Rattle.row_seat.specs.Rule.RowStands.{beyond, vacant}
 use Rattle.chunk_core.proofs.Filters.{bool_not}
 use Rattle.row_seat.proofs.Times.{run_in, run_length, run_out}
 use Rattle.row_seat.proofs.Splits.{span_cases}
@@ -75,8 +75,8 @@ module _ {P : Type 0} (by : StreamNo) (rows events splits : ℕ) (word : ℕ →
         (span_cases 0 rows r);
     deeds = record {
       fresh = λ i r t k d g m n. absurd (none_noted k _ n);
-      opened = λ i r d g m. absurd (among_nil (subst (λ (z : Deed). IsAmong r z.opened) (sym (only_one (deed f) d i g).1) m));
-      handed = λ i r d g m. absurd (among_nil (subst (λ (z : Deed). IsAmong r z.handed) (sym (only_one (deed f) d i g).1) m));
+      opened = λ i r d g m. absurd (among_nil (subst (λ (z : Ownership). IsAmong r z.opened) (sym (only_one (deed f) d i g).1) m));
+      handed = λ i r d g m. absurd (among_nil (subst (λ (z : Ownership). IsAmong r z.handed) (sym (only_one (deed f) d i g).1) m));
     };
     leases = record {
       by_main = λ i j s k h g m n. absurd (none_noted k _ n);

@@ -12,7 +12,7 @@ use Rattle.row_seat.specs.declared.token.Token.{Token}
 use Rattle.row_seat.specs.Totals.{IsAt, pair_times, row_times, times, total}
 use Rattle.std.specs.Map.{keys_of}
 use Rattle.row_seat.specs.Views.{IsHeldStill, without_pair}
-use Rattle.row_seat.specs.Rule.{Hold, IsSeated, RuleHolds, Work, deed, hold, seen, who, work}
+use Rattle.row_seat.specs.Rule.{Hold, IsSeated, RuleHolds, Holdings, deed, hold, view_of, who, work}
 use Rattle.row_seat.proofs.Hands.{row_held}
 use Rattle.row_seat.proofs.Rows.{is_leased}
 use Rattle.std.proofs.lemmas.Bool.{cases_Bool}
@@ -36,15 +36,15 @@ module _ {P : Type 0} {rows room : ℕ} {word : ℕ → ℕ} {slot : ℕ → Opt
       (rule.leases.paired x i r (hold u) (at_map hold views x u g) m)
 
   -- where the row doesn't become this seat's
-  pub leave_cause : (j r : ℕ) → IsAmong (j, r) v.pairs → word r ≢ 7 → (hands : List (ℕ × P)) → keys_of hands ≡ v.opened → IsHeldStill (seen v hands) j r
+  pub leave_cause : (j r : ℕ) → IsAmong (j, r) v.pairs → word r ≢ 7 → (hands : List (ℕ × P)) → keys_of hands ≡ v.opened → IsHeldStill (view_of v hands) j r
   leave_cause j r pair more hands held =
       let ws = map work views in let aw = at_map who views id v at in
-      let l = total_at (λ (u : Work). row_times r u.pairs) ws id (work v) (at_map work views id v at) in let y = row_some j r v.pairs pair in
+      let l = total_at (λ (u : Holdings). row_times r u.pairs) ws id (work v) (at_map work views id v at) in let y = row_some j r v.pairs pair in
       let s = is_leased (rule.words r) (omega (l, y, arith)) in ⊎_elim
       (λ a.
       let a1 = a.1 in
-      let x = total_some (λ (u : Work). times r u.opened) ws (omega (a1, arith)) in let b = map_back work views x.0 x.1 x.2 in let u = b.0 in
-      let m : IsAmong r u.opened = times_in r u.opened (subst (λ (z : Work). 1 ≤ times r z.opened) (sym b.2) x.3) in
+      let x = total_some (λ (u : Holdings). times r u.opened) ws (omega (a1, arith)) in let b = map_back work views x.0 x.1 x.2 in let u = b.0 in
+      let m : IsAmong r u.opened = times_in r u.opened (subst (λ (z : Holdings). 1 ≤ times r z.opened) (sym b.2) x.3) in
       let d = rule.deeds.opened x.0 r (deed u) (at_map deed views x.0 u b.1) m in
       let there : u.live ≡ true = ⊎_elim (λ t. t) (λ f. absurd (among_nil (subst (λ z. IsAmong r z) (rule.spent x.0 u b.1 f).opened m))) (cases_Bool u.live) in
       inl (row_held r hands v.opened held (⊎_elim
@@ -58,8 +58,8 @@ module _ {P : Type 0} {rows room : ℕ} {word : ℕ → ℕ} {slot : ℕ → Opt
       let a0 = a.0 in
       let c = cut j r views in
       let p : total (λ (t : Token P). pair_times j r t.pairs) views ≤ 1 = subst (λ n. n ≤ 1) (total_map hold (λ (h : Hold). pair_times j r h.pairs) views) (rule.leases.pair_once j r) in
-      let n : total (λ (u : Work). row_times r u.pairs) ws ≡ total (λ (t : Token P). row_times r t.pairs) views = total_map work (λ (u : Work). row_times r u.pairs) views in
-      let two : 2 ≤ total (λ (u : Work). row_times r u.pairs) ws = omega (a0, l, y, more, arith) in
+      let n : total (λ (u : Holdings). row_times r u.pairs) ws ≡ total (λ (t : Token P). row_times r t.pairs) views = total_map work (λ (u : Holdings). row_times r u.pairs) views in
+      let two : 2 ≤ total (λ (u : Holdings). row_times r u.pairs) ws = omega (a0, l, y, more, arith) in
       let x = total_some (λ (t : Token P). row_times r (without_pair j r t.pairs)) views (omega (c, p, n, two, arith)) in let u = x.1 in
       let q = row_in r (without_pair j r u.pairs) x.3 in let i = q.0 in let k = pair_among j r i r u.pairs q.1 in
       let m = k.0 in let ne : i ≢ j = λ e. k.1 e refl in ⊎_elim

@@ -12,7 +12,7 @@ use Rattle.row_seat.specs.declared.token.Token.{Token}
 use Rattle.row_seat.specs.Totals.{total, times, row_times, pair_times, stamp_times}
 use Rattle.std.specs.Map.{keys_of}
 use Rattle.row_seat.specs.Views.{IsLastLease, without_pair}
-use Rattle.row_seat.specs.Rule.{IsSeated, RuleHolds, Book, Work, Hold, book, work, hold, purse, seen, leases}
+use Rattle.row_seat.specs.Rule.{IsSeated, RuleHolds, Book, Holdings, Hold, book, work, hold, purse, view_of, leases}
 use Rattle.row_seat.proofs.Hands.{row_among}
 use Rattle.row_seat.proofs.Totals.{total_at, total_map, total_sum}
 use Rattle.row_seat.proofs.Times.{stamp_some, times_some, row_some, pair_some, row_less, pair_kept}
@@ -37,7 +37,7 @@ module _ {P : Type 0} {rows room : ℕ} {word : ℕ → ℕ} {slot : ℕ → Opt
   pub leases_below : (r : ℕ) → leases r (map work views) ≤ 2 ^ 32
   leases_below r =
       let a = pairs_below (λ (u : Token P). u.pairs) r (2 ^ 32) views (λ i j u g m. rule.small i j r u g m) (λ j. subst (λ n. n ≤ 1) (total_map hold (λ (h : Hold). pair_times j r h.pairs) views) (rule.leases.pair_once j r)) in
-      subst (λ n. n ≤ 2 ^ 32) (sym (total_map work (λ (u : Work). row_times r u.pairs) views)) a
+      subst (λ n. n ≤ 2 ^ 32) (sym (total_map work (λ (u : Holdings). row_times r u.pairs) views)) a
 
   -- each event stands in one view, once
   pub all_told : total (λ (b : Book). length b.events) (map book views) ≡ length log
@@ -55,13 +55,13 @@ module _ {P : Type 0} {rows room : ℕ} {word : ℕ → ℕ} {slot : ℕ → Opt
     open seat use {at, live}
 
     -- the last lease of a closed row: the slot has what was left in it
-    pub told_last : (j r : ℕ) (p : P) (hands : List (ℕ × P)) → keys_of hands ≡ v.opened → IsAmong (j, r) v.pairs → word r ≡ 7 → slot r ≡ Some p → IsLastLease (seen v hands) j r p
+    pub told_last : (j r : ℕ) (p : P) (hands : List (ℕ × P)) → keys_of hands ≡ v.opened → IsAmong (j, r) v.pairs → word r ≡ 7 → slot r ≡ Some p → IsLastLease (view_of v hands) j r p
     told_last j r p hands held m seven lies =
-        let ws = map work views in let at' = at_map work views id v at in let l = total_at (λ (u : Work). row_times r u.pairs) ws id (work v) at' in let y = row_some j r v.pairs m in
+        let ws = map work views in let at' = at_map work views id v at in let l = total_at (λ (u : Holdings). row_times r u.pairs) ws id (work v) at' in let y = row_some j r v.pairs m in
         let s = is_leased (rule.words r) (omega arith) in
         let c = ⊎_elim (λ a. let a0 = a.0 in absurd (omega arith)) (λ a. a) s.4 in let c0 = c.0 in let c1 = c.1 in
         let x = rule.pays.waits r 1 (let a : 7 ≡ 3 + 4 * 1 = refl in seven ∙ a) (omega arith) in record {
-          closed = λ o. let k = total_at (λ (u : Work). times r u.opened) ws id (work v) at' in let z = times_some r v.opened (row_among r hands v.opened held o) in omega arith;
+          closed = λ o. let k = total_at (λ (u : Holdings). times r u.opened) ws id (work v) at' in let z = times_some r v.opened (row_among r hands v.opened held o) in omega arith;
           alone = λ i n. ⊎_elim (λ e. e) (λ ne. let w = two_pairs i j r v.pairs ne n m in absurd (omega arith)) (cases_eq i j);
           left = λ q n. rule.pays.left_one r q x.0 (id, purse v, at_map purse views id v at, n) x.1 ∙ some_is x.0 p (sym x.2 ∙ lies);
         }

@@ -6,7 +6,7 @@ use Rattle.std.proofs.lemmas.Bool.{cases_eq}
 use Rattle.res_ledger.specs.declared.event.What.TheVariants.{Acquire, Cancel, Final, Lease}
 use Rattle.chunk_core.specs.declared.code.Exit.{Exit}
 use Rattle.row_seat.specs.Totals.{IsAt, pair_times, row_times, stamp_times, times, total}
-use Rattle.row_seat.specs.Rule.{Book, BooksAgree, Deed, DeedsAgree, GivenIn, Hold, LeasesAgree, LeftIn, PaysAgree, Purse, RowsAgree, SeatsAgree, Stands, Who, Work, empties, hands, leases, opens}
+use Rattle.row_seat.specs.Rule.{Book, BooksAgree, Ownership, DeedsAgree, GivenIn, Hold, LeasesAgree, LeftIn, PaysAgree, Purse, RowsAgree, SeatsAgree, RowStands, Who, Holdings, empties, hands, leases, open_count}
 use Rattle.res_ledger.specs.Ledger.{Covers, IsCanceled, IsCoveredBy, IsLeased, IsLegal, MayFollow, Notes}
 use Rattle.res_ledger.specs.declared.event.Event.{Event}
 use Rattle.res_ledger.specs.Streams.{HasRight, by_stream}
@@ -17,7 +17,7 @@ use Rattle.res_ledger.proofs.Apart.{apart as kinds_apart}
 use Rattle.res_ledger.proofs.Ledgers.{acquired_more, acquired_snoc, by_both, by_in, by_other, by_out, cancel_stream, canceled_leased, canceled_more, canceled_snoc, covers_more, covers_new, covers_snoc, final_row, lease_stream, leased_more, leased_snoc, right_more, stamp_below, stream_cases}
 use Rattle.row_seat.proofs.Members.{among_kept, among_without}
 use Rattle.chunk_core.proofs.Members.{among_last, among_left, among_snoc}
-use Rattle.row_seat.specs.Rule.Stands.{awaits, beyond, final, handed, opened, vacant}
+use Rattle.row_seat.specs.Rule.RowStands.{awaits, beyond, final, handed, opened, vacant}
 use Rattle.row_seat.proofs.Totals.{each, one_at, put_else, put_here, some_back, some_put, total_one, total_set, total_some}
 use Rattle.res_ledger.proofs.Growth.{finalized_more, finalized_snoc, legal_snoc, noted_more, noted_snoc, row_closed_more, stamped_snoc}
 use Rattle.row_seat.proofs.Parts.{pays_same}
@@ -26,7 +26,7 @@ use Rattle.row_seat.specs.Views.{without}
 
 -- what is read of the row's counts
 module _ {rows r word e o n h : ℕ} {A C F : Type 0} where
-  pub is_handed : Stands rows r word e o n h A C F → 1 ≤ h → (n ≡ 0) × C × ¬ F
+  pub is_handed : RowStands rows r word e o n h A C F → 1 ≤ h → (n ≡ 0) × C × ¬ F
   is_handed (vacant a b c d i j k) l = absurd (omega arith)
   is_handed (opened a b c d i j k) l = absurd (omega arith)
   is_handed (awaits a b c d i j k m) l = absurd (omega arith)
@@ -34,7 +34,7 @@ module _ {rows r word e o n h : ℕ} {A C F : Type 0} where
   is_handed (final a b c d i j k m) l = absurd (omega arith)
   is_handed (beyond a b c d i j) l = absurd (omega arith)
 
-  pub one_empty : Stands rows r word e o n h A C F → e ≤ 1
+  pub one_empty : RowStands rows r word e o n h A C F → e ≤ 1
   one_empty (vacant a b c d i j k) = omega arith
   one_empty (opened a b c d i j k) = omega arith
   one_empty (awaits a b c d i j k m) = omega arith
@@ -42,7 +42,7 @@ module _ {rows r word e o n h : ℕ} {A C F : Type 0} where
   one_empty (final a b c d i j k m) = omega arith
   one_empty (beyond a b c d i j) = omega arith
 
-  pub is_inside : Stands rows r word e o n h A C F → 1 ≤ e → r < rows
+  pub is_inside : RowStands rows r word e o n h A C F → 1 ≤ e → r < rows
   is_inside (vacant a b c d i j k) l = a
   is_inside (opened a b c d i j k) l = a
   is_inside (awaits a b c d i j k m) l = a
@@ -50,7 +50,7 @@ module _ {rows r word e o n h : ℕ} {A C F : Type 0} where
   is_inside (final a b c d i j k m) l = a
   is_inside (beyond a b c d i j) l = absurd (omega arith)
 
-  pub stands_more : {A' C' F' : Type 0} → Stands rows r word e o n h A C F → (A → A') → (C → C') → (F → F') → (F' → F) → (rows ≤ r → A' → A) → Stands rows r word e o n h A' C' F'
+  pub stands_more : {A' C' F' : Type 0} → RowStands rows r word e o n h A C F → (A → A') → (C → C') → (F → F') → (F' → F) → (rows ≤ r → A' → A) → RowStands rows r word e o n h A' C' F'
   stands_more (vacant a b c d i j k) fa fc ff fb fe = vacant a b c d i j (λ x. k (fb x))
   stands_more (opened a b c d i j k) fa fc ff fb fe = opened a b c d i (fa j) (λ x. k (fb x))
   stands_more (awaits a b c d i j k m) fa fc ff fb fe = awaits a b c d i j (fc k) (λ x. m (fb x))
@@ -58,7 +58,7 @@ module _ {rows r word e o n h : ℕ} {A C F : Type 0} where
   stands_more (final a b c d i j k m) fa fc ff fb fe = final a b c d i j (fc k) (ff m)
   stands_more (beyond a b c d i j) fa fc ff fb fe = beyond a b c d i (λ x. j (fe a x))
 
-  pub stands_final : {A' C' F' : Type 0} {g : ℕ} → Stands rows r word e o n h A C F → (t : ℕ) → 1 ≤ t → g + t ≡ h → (C → C') → F' → Stands rows r word e o n g A' C' F'
+  pub stands_final : {A' C' F' : Type 0} {g : ℕ} → RowStands rows r word e o n h A C F → (t : ℕ) → 1 ≤ t → g + t ≡ h → (C → C') → F' → RowStands rows r word e o n g A' C' F'
   stands_final (vacant a b c d i j k) t m l fc f = absurd (omega arith)
   stands_final (opened a b c d i j k) t m l fc f = absurd (omega arith)
   stands_final (awaits a b c d i j k x) t m l fc f = absurd (omega arith)
@@ -66,7 +66,7 @@ module _ {rows r word e o n h : ℕ} {A C F : Type 0} where
   stands_final (final a b c d i j k x) t m l fc f = absurd (omega arith)
   stands_final (beyond a b c d i j) t m l fc f = absurd (omega arith)
 
-  pub stands_is : {word' e' o' n' h' : ℕ} → Stands rows r word e o n h A C F → word ≡ word' → e ≡ e' → o ≡ o' → n ≡ n' → h ≡ h' → Stands rows r word' e' o' n' h' A C F
+  pub stands_is : {word' e' o' n' h' : ℕ} → RowStands rows r word e o n h A C F → word ≡ word' → e ≡ e' → o ≡ o' → n ≡ n' → h ≡ h' → RowStands rows r word' e' o' n' h' A C F
   stands_is (vacant a b c d i j k) p q s t u = vacant a (omega arith) (omega arith) (omega arith) (omega arith) (omega arith) k
   stands_is (opened a b c d i j k) p q s t u = opened a (omega arith) (omega arith) (omega arith) (omega arith) j k
   stands_is (awaits a b c d i j k m) p q s t u = awaits a (omega arith) (omega arith) (omega arith) (omega arith) (omega arith) k m
@@ -144,19 +144,19 @@ module _ (log : List Event) (e : Event) where
   }
 
   -- an event that ends no row
-  pub tick_rows : (rows : ℕ) (word : ℕ → ℕ) (ws : List Work) → RowsAgree rows word log ws → ((r : ℕ) (how : Exit) (ok : Bool) → e.what ≢ Final r how ok) → ((r s : ℕ) → e.what ≡ Acquire r s → r < rows) → RowsAgree rows word (log ++ e ∷ []) ws
+  pub tick_rows : (rows : ℕ) (word : ℕ → ℕ) (ws : List Holdings) → RowsAgree rows word log ws → ((r : ℕ) (how : Exit) (ok : Bool) → e.what ≢ Final r how ok) → ((r s : ℕ) → e.what ≡ Acquire r s → r < rows) → RowsAgree rows word (log ++ e ∷ []) ws
   tick_rows rows word ws k no_final within r =
       stands_more (k r) (acquired_more log e) (row_closed_more log e) (finalized_more log e) (λ f. ⊎_elim (λ o. o) (λ t. absurd (no_final r t.0 t.1 t.2)) (finalized_snoc log e r f))
       (λ far a. ⊎_elim (λ o. o) (λ t. let l = within r t.0 t.1 in absurd (omega arith)) (acquired_snoc log e r a))
 
-  pub tick_deeds : (ds : List Deed) → DeedsAgree log ds → (id : ℕ) (d d' : Deed) → IsAt ds id d → d'.by ≡ d.by → d'.events ≡ d.events ++ e ∷ [] → d'.empty ≡ d.empty → d'.opened ≡ d.opened → ((r : ℕ) → IsAmong r d'.handed → IsAmong r d.handed)
-      → ((i r s : ℕ) (u : Deed) → i ≢ id → IsAt ds i u → IsAmong r u.empty → e.what ≢ Acquire r s) → DeedsAgree (log ++ e ∷ []) (slice_set ds id d')
-  tick_deeds ds k id d d' at by events empty opens hands apart = record {
+  pub tick_deeds : (ds : List Ownership) → DeedsAgree log ds → (id : ℕ) (d d' : Ownership) → IsAt ds id d → d'.by ≡ d.by → d'.events ≡ d.events ++ e ∷ [] → d'.empty ≡ d.empty → d'.opened ≡ d.opened → ((r : ℕ) → IsAmong r d'.handed → IsAmong r d.handed)
+      → ((i r s : ℕ) (u : Ownership) → i ≢ id → IsAt ds i u → IsAmong r u.empty → e.what ≢ Acquire r s) → DeedsAgree (log ++ e ∷ []) (slice_set ds id d')
+  tick_deeds ds k id d d' at by events empty open_count hands apart = record {
     fresh = λ i r t q u. each ds id d' (λ i u. IsAmong r u.empty → Notes (log ++ e ∷ []) q (Acquire r t) → Notes u.events q (Acquire r t))
         (λ a n. subst (λ l. Notes l q (Acquire r t)) (sym events) (⊎_elim (λ o. noted_more d.events e (k.fresh id r t q d at (subst (λ l. IsAmong r l) empty a) o)) (λ x. (e, among_last d.events e, x.0, x.1)) (noted_snoc log e q (Acquire r t) n)))
         (λ i u ne g a n. ⊎_elim (λ o. k.fresh i r t q u g a o) (λ x. absurd (apart i r t u ne g a x.1)) (noted_snoc log e q (Acquire r t) n)) i u;
     opened = λ i r u. each ds id d' (λ i u. IsAmong r u.opened → (s : ℕ) × Notes (log ++ e ∷ []) u.by (Acquire r s))
-        (λ a. let t = k.opened id r d at (subst (λ l. IsAmong r l) opens a) in (t.0, noted_more log e (subst (λ b. Notes log b (Acquire r t.0)) (sym by) t.1)))
+        (λ a. let t = k.opened id r d at (subst (λ l. IsAmong r l) open_count a) in (t.0, noted_more log e (subst (λ b. Notes log b (Acquire r t.0)) (sym by) t.1)))
         (λ i u ne g a. let t = k.opened i r u g a in (t.0, noted_more log e t.1)) i u;
     handed = λ i r u. each ds id d' (λ i u. IsAmong r u.handed → HasRight (log ++ e ∷ []) u.by r)
         (λ a. right_more log e d'.by r (subst (λ b. HasRight log b r) (sym by) (k.handed id r d at (hands r a))))
@@ -249,16 +249,16 @@ module _ (log : List Event) (e : Event) where
         pair_once = λ a r. let t = total_set (λ (u : Hold). pair_times a r u.pairs) hs id h h' at in let o = k.pair_once a r in omega arith;
       }
 
-  pub final_rows : (rows : ℕ) (word : ℕ → ℕ) (ws : List Work) → RowsAgree rows word log ws → (id r : ℕ) (how : Exit) (ok : Bool) (w : Work) → IsAt ws id w → e.what ≡ Final r how ok → IsAmong r w.handed → RowsAgree rows word (log ++ e ∷ []) (slice_set ws id (record w { handed = without r w.handed }))
+  pub final_rows : (rows : ℕ) (word : ℕ → ℕ) (ws : List Holdings) → RowsAgree rows word log ws → (id r : ℕ) (how : Exit) (ok : Bool) (w : Holdings) → IsAt ws id w → e.what ≡ Final r how ok → IsAmong r w.handed → RowsAgree rows word (log ++ e ∷ []) (slice_set ws id (record w { handed = without r w.handed }))
   final_rows rows word ws k id r how ok w at is mine q =
-      let w' : Work = record w { handed = without r w.handed } in
-      let a = total_set (λ (u : Work). times q u.empty) ws id w w' at in
-      let b = total_set (λ (u : Work). times q u.opened) ws id w w' at in
-      let c = total_set (λ (u : Work). row_times q u.pairs) ws id w w' at in
-      let d = total_set (λ (u : Work). times q u.handed) ws id w w' at in
+      let w' : Holdings = record w { handed = without r w.handed } in
+      let a = total_set (λ (u : Holdings). times q u.empty) ws id w w' at in
+      let b = total_set (λ (u : Holdings). times q u.opened) ws id w w' at in
+      let c = total_set (λ (u : Holdings). row_times q u.pairs) ws id w w' at in
+      let d = total_set (λ (u : Holdings). times q u.handed) ws id w w' at in
       let ta = times q w.empty in let tb = times q w.opened in let tc = row_times q w.pairs in
       let ea : empties q ws ≡ empties q (slice_set ws id w') = omega arith in
-      let eb : opens q ws ≡ opens q (slice_set ws id w') = omega arith in
+      let eb : open_count q ws ≡ open_count q (slice_set ws id w') = omega arith in
       let ec : leases q ws ≡ leases q (slice_set ws id w') = omega arith in
       ⊎_elim
       (λ s. let z : times q (without r w.handed) ≡ 0 = subst (λ n. times n (without r w.handed) ≡ 0) (sym s) (without_same r w.handed) in

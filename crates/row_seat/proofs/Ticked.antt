@@ -4,7 +4,7 @@ use Rattle.std.specs.Prelude.{Option}
 use Rattle.res_ledger.specs.declared.event.What.TheVariants.{Acquire, Cancel, Close, Final, Lease, Open}
 use Rattle.chunk_core.specs.declared.code.Exit.{Exit}
 use Rattle.row_seat.specs.Totals.{IsAt, row_times, times}
-use Rattle.row_seat.specs.Rule.{Book, BooksAgree, Deed, DeedsAgree, Hold, LeasesAgree, PaysAgree, RowsAgree, IsBlank, IsSeated, RuleHolds, SeatsAgree, Work, book, deed, hold, leases, purse, seen, who, work}
+use Rattle.row_seat.specs.Rule.{Book, BooksAgree, Ownership, DeedsAgree, Hold, LeasesAgree, PaysAgree, RowsAgree, IsBlankView, IsSeated, RuleHolds, SeatsAgree, Holdings, book, deed, hold, leases, purse, view_of, who, work}
 use Rattle.res_ledger.specs.declared.event.Event.{Event}
 use Rattle.chunk_core.specs.Lists.{IsAmong}
 use Rattle.res_ledger.specs.Ledger.{IsClosed, IsHanded, IsUsable, MayFollow, Notes}
@@ -31,7 +31,7 @@ module _ {P : Type 0} (rows room : ℕ) (word : ℕ → ℕ) (slot : ℕ → Opt
   -- the rule from its parts, where one view is new
   pub rule_put : SeatsAgree log (slice_set (map who views) id (who w)) → BooksAgree room log (slice_set (map book views) id (book w)) → RowsAgree rows word log (slice_set (map work views) id (work w))
       → DeedsAgree log (slice_set (map deed views) id (deed w)) → LeasesAgree log (slice_set (map hold views) id (hold w)) → PaysAgree word slot log (slice_set (map purse views) id (purse w))
-      → ((i : ℕ) (v : Token P) → IsAt (slice_set views id w) i v → v.live ≡ false → IsBlank v)
+      → ((i : ℕ) (v : Token P) → IsAt (slice_set views id w) i v → v.live ≡ false → IsBlankView v)
       → ((i j r : ℕ) (v : Token P) → IsAt (slice_set views id w) i v → IsAmong (j, r) v.pairs → j < 2 ^ 32)
       → RuleHolds rows room word slot log (slice_set views id w)
   rule_put a b c d e f g h = record {
@@ -48,8 +48,8 @@ module _ {P : Type 0} (rows room : ℕ) (word : ℕ → ℕ) (slot : ℕ → Opt
 module _ {P : Type 0} {rows room : ℕ} {word : ℕ → ℕ} {slot : ℕ → Option P} {log : List Event} {views : List (Token P)} (rule : RuleHolds rows room word slot log views) {id : ℕ} {v : Token P} (seat : IsSeated views id v) where
   open seat use {at, live}
 
-  pub spent_put : (w : Token P) → w.live ≡ true → (i : ℕ) (u : Token P) → IsAt (slice_set views id w) i u → u.live ≡ false → IsBlank u
-  spent_put w l = each views id w (λ i u. u.live ≡ false → IsBlank u) (λ d. absurd (live_not l d)) (λ i u ne g. rule.spent i u g)
+  pub spent_put : (w : Token P) → w.live ≡ true → (i : ℕ) (u : Token P) → IsAt (slice_set views id w) i u → u.live ≡ false → IsBlankView u
+  spent_put w l = each views id w (λ i u. u.live ≡ false → IsBlankView u) (λ d. absurd (live_not l d)) (λ i u ne g. rule.spent i u g)
 
   pub small_put : (w : Token P) → ((j r : ℕ) → IsAmong (j, r) w.pairs → j < 2 ^ 32) → (i j r : ℕ) (u : Token P) → IsAt (slice_set views id w) i u → IsAmong (j, r) u.pairs → j < 2 ^ 32
   small_put w h i j r u = each views id w (λ i u. IsAmong (j, r) u.pairs → j < 2 ^ 32) (h j r) (λ i u ne g. rule.small i j r u g) i u
@@ -95,22 +95,22 @@ module _ {P : Type 0} {rows room : ℕ} {word : ℕ → ℕ} {slot : ℕ → Opt
   no_pair : (j r i : ℕ) (h : Hold) → IsAt (map hold views) i h → IsAmong (j, r) h.pairs → leases r (map work views) ≡ 0 → ⊥
   no_pair j r i h g m none =
       let t = map_back hold views i h g in
-      let l = total_at (λ (u : Work). row_times r u.pairs) (map work views) i (work t.0) (at_map work views i t.0 t.1) in
+      let l = total_at (λ (u : Holdings). row_times r u.pairs) (map work views) i (work t.0) (at_map work views i t.0 t.1) in
       let s = row_some j r t.0.pairs (subst (λ (x : Hold). IsAmong (j, r) x.pairs) (sym t.2) m) in omega arith
 
   pub handed_log : (r : ℕ) → IsAmong r v.handed → IsHanded log r
   handed_log r m =
-      let l = total_at (λ (u : Work). times r u.handed) (map work views) id (work v) at_work in
+      let l = total_at (λ (u : Holdings). times r u.handed) (map work views) id (work v) at_work in
       let s = times_some r v.handed m in
       let t = is_handed (rule.words r) (omega arith) in
       (t.1, (λ j k c. ⊎_elim (λ x. x) (λ x. absurd (no_pair j r x.0 x.1 x.2 x.3 t.0)) (rule.leases.stand j r k c)), t.2)
 
   pub one_right : (r i : ℕ) (u : Token P) → IsAt views i u → IsAmong r v.empty → IsAmong r u.empty → i ≡ id
-  one_right r i u g m n = total_one (λ (u : Work). times r u.empty) (map work views) i id (work u) (work v) (one_empty (rule.words r)) (at_map work views i u g) at_work (times_some r u.empty n) (times_some r v.empty m)
+  one_right r i u g m n = total_one (λ (u : Holdings). times r u.empty) (map work views) i id (work u) (work v) (one_empty (rule.words r)) (at_map work views i u g) at_work (times_some r u.empty n) (times_some r v.empty m)
 
   module _ (hands : List (ℕ × P)) where
     -- each event meets its condition on all events
-    pub meets : (w : What) → MayNote (seen v hands) w → MayFollow log v.by w
+    pub meets : (w : What) → MayNote (view_of v hands) w → MayFollow log v.by w
     meets (Open s p) m = (m.0, (λ o. m.1 (o.0, back (Open s o.0) o.1)), usable p m.2)
     meets (Acquire r s) m = ((λ a. m.1 (a.0, a.1, rule.deeds.fresh id r a.1 a.0 (deed v) at_deed m.0 a.2)), usable s m.2)
     meets (Lease j s) m = (
@@ -146,7 +146,7 @@ module _ {P : Type 0} {rows room : ℕ} {word : ℕ → ℕ} {slot : ℕ → Opt
       let t = map_back hold views i u g in
       rule.seats.one i id (who t.0) (who v) (at_map who views i t.0 t.1) (at_who rule seat) (ap (λ (x : Hold). x.main) t.2 ∙ n) m
 
-  new_books : (x : What) → MayNote (seen v hands) x → let e : Event = record { stamp = length log; by = v.by; what = x } in let b : Book = record { live = v.live; main = v.main; by = v.by; events = v.events ++ e ∷ []; floor = v.floor; spare = v.spare - 1 } in BooksAgree room (log ++ e ∷ []) (slice_set (map book views) id b)
+  new_books : (x : What) → MayNote (view_of v hands) x → let e : Event = record { stamp = length log; by = v.by; what = x } in let b : Book = record { live = v.live; main = v.main; by = v.by; events = v.events ++ e ∷ []; floor = v.floor; spare = v.spare - 1 } in BooksAgree room (log ++ e ∷ []) (slice_set (map book views) id b)
   new_books x may = let e : Event = record { stamp = length log; by = v.by; what = x } in
       tick_books log e room (map book views) rule.books id (book v) (at_book rule seat) live sp refl refl (meets rule seat hands x may) apart
 
@@ -155,16 +155,16 @@ module _ {P : Type 0} {rows room : ℕ} {word : ℕ → ℕ} {slot : ℕ → Opt
       keep (λ l. SeatsAgree (log ++ e ∷ []) l) (map who views) id (who v) g (tick_seats log e (map who views) rule.seats id (who v) g live refl)
 
   -- an event of no row is nobody's Acquire
-  new_deeds : (x : What) (d : Deed) → d.by ≡ v.by → d.events ≡ v.events ++ record { stamp = length log; by = v.by; what = x } ∷ [] → d.empty ≡ v.empty → d.opened ≡ v.opened → ((r : ℕ) → IsAmong r d.handed → IsAmong r v.handed) → ((r s : ℕ) → x ≡ Acquire r s → IsAmong r v.empty)
+  new_deeds : (x : What) (d : Ownership) → d.by ≡ v.by → d.events ≡ v.events ++ record { stamp = length log; by = v.by; what = x } ∷ [] → d.empty ≡ v.empty → d.opened ≡ v.opened → ((r : ℕ) → IsAmong r d.handed → IsAmong r v.handed) → ((r s : ℕ) → x ≡ Acquire r s → IsAmong r v.empty)
       → DeedsAgree (log ++ record { stamp = length log; by = v.by; what = x } ∷ []) (slice_set (map deed views) id d)
   new_deeds x d by events empty opened handed mine = let e : Event = record { stamp = length log; by = v.by; what = x } in
       tick_deeds log e (map deed views) rule.deeds id (deed v) d (at_deed rule seat) by events empty opened handed
-      (λ i r s u ne g m is. let t = map_back deed views i u g in ne (one_right rule seat r i t.0 t.1 (mine r s is) (subst (λ (y : Deed). IsAmong r y.empty) (sym t.2) m)))
+      (λ i r s u ne g m is. let t = map_back deed views i u g in ne (one_right rule seat r i t.0 t.1 (mine r s is) (subst (λ (y : Ownership). IsAmong r y.empty) (sym t.2) m)))
 
   new_rows : (x : What) → ((r : ℕ) (how : Exit) (ok : Bool) → x ≢ Final r how ok) → ((r s : ℕ) → x ≡ Acquire r s → IsAmong r v.empty) → RowsAgree rows word (log ++ record { stamp = length log; by = v.by; what = x } ∷ []) (slice_set (map work views) id (work v))
   new_rows x no_final mine = let e : Event = record { stamp = length log; by = v.by; what = x } in let g = at_work rule seat in
       keep (λ l. RowsAgree rows word (log ++ e ∷ []) l) (map work views) id (work v) g
-      (tick_rows log e rows word (map work views) rule.words no_final (λ r s is. let l = total_at (λ (u : Work). times r u.empty) (map work views) id (work v) g in let t = times_some r v.empty (mine r s is) in is_inside (rule.words r) (omega arith)))
+      (tick_rows log e rows word (map work views) rule.words no_final (λ r s is. let l = total_at (λ (u : Holdings). times r u.empty) (map work views) id (work v) g in let t = times_some r v.empty (mine r s is) in is_inside (rule.words r) (omega arith)))
 
   new_pays : (x : What) → ((r : ℕ) (how : Exit) (ok : Bool) → x ≢ Final r how ok) → PaysAgree word slot (log ++ record { stamp = length log; by = v.by; what = x } ∷ []) (slice_set (map purse views) id (purse v))
   new_pays x no_final = let e : Event = record { stamp = length log; by = v.by; what = x } in
@@ -175,14 +175,14 @@ module _ {P : Type 0} {rows room : ℕ} {word : ℕ → ℕ} {slot : ℕ → Opt
       keep (λ l. LeasesAgree (log ++ e ∷ []) l) (map hold views) id (hold v) (at_hold rule seat) (tick_leases log e (map hold views) rule.leases no_lease no_cancel)
 
   -- an event that changes no row and no lease
-  plain_tick : (x : What) → MayNote (seen v hands) x → ((r : ℕ) (how : Exit) (ok : Bool) → x ≢ Final r how ok) → ((r s : ℕ) → x ≡ Acquire r s → IsAmong r v.empty) → ((j s : ℕ) → x ≢ Lease j s) → ((j : ℕ) (how : Exit) → x ≢ Cancel j how)
+  plain_tick : (x : What) → MayNote (view_of v hands) x → ((r : ℕ) (how : Exit) (ok : Bool) → x ≢ Final r how ok) → ((r s : ℕ) → x ≡ Acquire r s → IsAmong r v.empty) → ((j s : ℕ) → x ≢ Lease j s) → ((j : ℕ) (how : Exit) → x ≢ Cancel j how)
       → let e : Event = record { stamp = length log; by = v.by; what = x } in let w : Token P = record v { events = v.events ++ e ∷ []; spare = v.spare - 1 } in RuleHolds rows room word slot (log ++ e ∷ []) (slice_set views id w)
   plain_tick x may no_final mine no_lease no_cancel = let e : Event = record { stamp = length log; by = v.by; what = x } in let w : Token P = record v { events = v.events ++ e ∷ []; spare = v.spare - 1 } in
       rule_put rows room word slot (log ++ e ∷ []) views id w (new_seats x) (new_books x may) (new_rows x no_final mine) (new_deeds x (deed w) refl refl refl refl (λ r m. m) mine) (new_leases x no_lease no_cancel) (new_pays x no_final)
       (spent_put rule seat w live) (small_put rule seat w (λ i q m. rule.small id i q v at m))
 
   -- every tick keeps the rule
-  pub tick_keeps : (x : What) → MayNote (seen v hands) x → let e : Event = record { stamp = length log; by = v.by; what = x } in RuleHolds rows room word slot (log ++ e ∷ []) (slice_set views id (noted v e))
+  pub tick_keeps : (x : What) → MayNote (view_of v hands) x → let e : Event = record { stamp = length log; by = v.by; what = x } in RuleHolds rows room word slot (log ++ e ∷ []) (slice_set views id (noted v e))
   tick_keeps (Open s p) may = plain_tick (Open s p) may (λ r how ok h. cc) (λ r t h. absurd (kinds_apart h refl)) (λ j t h. cc) (λ j how h. cc)
   tick_keeps (Acquire r s) may = plain_tick (Acquire r s) may (λ q how ok h. cc) (λ q t h. subst (λ n. IsAmong n v.empty) (acquire_row r s q t h) may.0) (λ j t h. cc) (λ j how h. cc)
   tick_keeps (Close s how) may = plain_tick (Close s how) may (λ q x ok h. cc) (λ q t h. absurd (kinds_apart h refl)) (λ j t h. cc) (λ j how h. cc)

@@ -6,7 +6,7 @@ use Rattle.row_seat.specs.Totals.{total}
 use Rattle.res_ledger.specs.declared.event.Event.{Event}
 use Rattle.row_seat.specs.declared.plain.PlainSeat.{PlainSeat}
 use Rattle.row_seat.specs.declared.plain.PlainTable.{PlainTable}
-use Rattle.row_seat.specs.Rule.{IsSeated, RuleHolds, seen}
+use Rattle.row_seat.specs.Rule.{IsSeated, RuleHolds, view_of}
 use Rattle.row_seat.specs.declared.token.Token.{Token}
 use Rattle.row_seat.specs.declared.view.View.{View}
 use Rattle.row_seat.specs.Views.{paid}
@@ -16,7 +16,7 @@ use Rattle.std.specs.Map.{keys_of}
 module _ {P : Type 0} where
   -- the seat's view
   abbrev pub shown : PlainSeat P → View P
-  shown s = seen s.token s.hands.items
+  shown s = view_of s.token s.hands.items
 
   -- the seat with another payload in an open row
   abbrev pub lent : PlainSeat P → ℕ → P → PlainSeat P
@@ -40,7 +40,7 @@ module _ {P : Type 0} where
     pub whole : s.token.main ≡ true → length d.slots.items ≤ vec_capacity s.hands
 
   pub shown_lent : (s : PlainSeat P) (r : ℕ) (w : P) → shown (lent s r w) ≡ paid (shown s) r w
-  shown_lent s r w = ap (λ xs. seen s.token xs) (set_spot r w s.hands.items)
+  shown_lent s r w = ap (λ xs. view_of s.token xs) (set_spot r w s.hands.items)
 
   pub fitting_lent : (s : PlainSeat P) (r : ℕ) (w : P) (d : PlainTable P) → Sits s d → Sits (lent s r w) d
   fitting_lent s r w d h = record { table = h.table; seated = h.seated; by = h.by; held = ap keys_of (set_spot r w s.hands.items) ∙ (rows_with r w s.hands.items ∙ h.held); hold = h.hold; whole = h.whole }

@@ -58,43 +58,43 @@ pub record BooksAgree (room : ℕ) (log : List Event) (bs : List Book) : Type 0 
   pub above : (i : ℕ) (b : Book) (e : Event) → IsAt bs i b → IsAmong e b.events → e.by ≡ b.by → b.floor ≤ e.stamp
 
 -- the rows' words. e, o, n, h: in how many views the row is empty, open, how many pairs are on it, in how many it is handed.
-pub data Stands (rows r word e o n h : ℕ) (A C F : Type 0) : Type 0 where
-  vacant : r < rows → word ≡ 0 → e ≡ 1 → o ≡ 0 → n ≡ 0 → h ≡ 0 → ¬ F → Stands rows r word e o n h A C F
-  opened : r < rows → word ≡ 1 + 4 * n → e ≡ 0 → o ≡ 1 → h ≡ 0 → A → ¬ F → Stands rows r word e o n h A C F
-  awaits : r < rows → word ≡ 3 + 4 * n → 1 ≤ n → e ≡ 0 → o ≡ 0 → h ≡ 0 → C → ¬ F → Stands rows r word e o n h A C F
-  handed : r < rows → word ≡ 3 → e ≡ 0 → o ≡ 0 → n ≡ 0 → h ≡ 1 → C → ¬ F → Stands rows r word e o n h A C F
-  final : r < rows → word ≡ 3 → e ≡ 0 → o ≡ 0 → n ≡ 0 → h ≡ 0 → C → F → Stands rows r word e o n h A C F
-  beyond : rows ≤ r → e ≡ 0 → o ≡ 0 → n ≡ 0 → h ≡ 0 → ¬ A → Stands rows r word e o n h A C F
+pub data RowStands (rows r word e o n h : ℕ) (A C F : Type 0) : Type 0 where
+  vacant : r < rows → word ≡ 0 → e ≡ 1 → o ≡ 0 → n ≡ 0 → h ≡ 0 → ¬ F → RowStands rows r word e o n h A C F
+  opened : r < rows → word ≡ 1 + 4 * n → e ≡ 0 → o ≡ 1 → h ≡ 0 → A → ¬ F → RowStands rows r word e o n h A C F
+  awaits : r < rows → word ≡ 3 + 4 * n → 1 ≤ n → e ≡ 0 → o ≡ 0 → h ≡ 0 → C → ¬ F → RowStands rows r word e o n h A C F
+  handed : r < rows → word ≡ 3 → e ≡ 0 → o ≡ 0 → n ≡ 0 → h ≡ 1 → C → ¬ F → RowStands rows r word e o n h A C F
+  final : r < rows → word ≡ 3 → e ≡ 0 → o ≡ 0 → n ≡ 0 → h ≡ 0 → C → F → RowStands rows r word e o n h A C F
+  beyond : rows ≤ r → e ≡ 0 → o ≡ 0 → n ≡ 0 → h ≡ 0 → ¬ A → RowStands rows r word e o n h A C F
 
 -- what a view has of rows
-pub record Work : Type 0 where
+pub record Holdings : Type 0 where
   pub empty : List ℕ
   pub opened : List ℕ
   pub pairs : List (ℕ × ℕ)
   pub handed : List ℕ
 
 -- in how many views the row is empty
-abbrev pub empties : ℕ → List Work → ℕ
-empties r ws = total (λ (w : Work). times r w.empty) ws
+abbrev pub empties : ℕ → List Holdings → ℕ
+empties r ws = total (λ (w : Holdings). times r w.empty) ws
 
 -- in how many it is open
-abbrev pub opens : ℕ → List Work → ℕ
-opens r ws = total (λ (w : Work). times r w.opened) ws
+abbrev pub open_count : ℕ → List Holdings → ℕ
+open_count r ws = total (λ (w : Holdings). times r w.opened) ws
 
 -- how many leases stand on it
-abbrev pub leases : ℕ → List Work → ℕ
-leases r ws = total (λ (w : Work). row_times r w.pairs) ws
+abbrev pub leases : ℕ → List Holdings → ℕ
+leases r ws = total (λ (w : Holdings). row_times r w.pairs) ws
 
 -- in how many it is handed
-abbrev pub hands : ℕ → List Work → ℕ
-hands r ws = total (λ (w : Work). times r w.handed) ws
+abbrev pub hands : ℕ → List Holdings → ℕ
+hands r ws = total (λ (w : Holdings). times r w.handed) ws
 
 -- each row stands in at most one way, and its word tells which
-abbrev pub RowsAgree : ℕ → (ℕ → ℕ) → List Event → List Work → Type 0
-RowsAgree rows word log ws = (r : ℕ) → Stands rows r (word r) (empties r ws) (opens r ws) (leases r ws) (hands r ws) (IsAcquired log r) (IsRowClosed log r) (IsFinalized log r)
+abbrev pub RowsAgree : ℕ → (ℕ → ℕ) → List Event → List Holdings → Type 0
+RowsAgree rows word log ws = (r : ℕ) → RowStands rows r (word r) (empties r ws) (open_count r ws) (leases r ws) (hands r ws) (IsAcquired log r) (IsRowClosed log r) (IsFinalized log r)
 
 -- whose the rows are
-pub record Deed : Type 0 where
+pub record Ownership : Type 0 where
   pub by : StreamNo
   pub events : List Event
   pub empty : List ℕ
@@ -102,10 +102,10 @@ pub record Deed : Type 0 where
   pub handed : List ℕ
 
 -- a row is placed by the stream that acquired it, and finalized by who has the right
-pub record DeedsAgree (log : List Event) (ds : List Deed) : Type 0 where
-  pub fresh : (i r t : ℕ) (k : StreamNo) (d : Deed) → IsAt ds i d → IsAmong r d.empty → Notes log k (Acquire r t) → Notes d.events k (Acquire r t)
-  pub opened : (i r : ℕ) (d : Deed) → IsAt ds i d → IsAmong r d.opened → (s : ℕ) × Notes log d.by (Acquire r s)
-  pub handed : (i r : ℕ) (d : Deed) → IsAt ds i d → IsAmong r d.handed → HasRight log d.by r
+pub record DeedsAgree (log : List Event) (ds : List Ownership) : Type 0 where
+  pub fresh : (i r t : ℕ) (k : StreamNo) (d : Ownership) → IsAt ds i d → IsAmong r d.empty → Notes log k (Acquire r t) → Notes d.events k (Acquire r t)
+  pub opened : (i r : ℕ) (d : Ownership) → IsAt ds i d → IsAmong r d.opened → (s : ℕ) × Notes log d.by (Acquire r s)
+  pub handed : (i r : ℕ) (d : Ownership) → IsAt ds i d → IsAmong r d.handed → HasRight log d.by r
 
 -- the leases
 pub record Hold : Type 0 where
@@ -167,7 +167,7 @@ module _ {P : Type 0} where
     pub few : length v.empty + length v.opened ≤ n
 
   -- a view of nothing
-  pub record IsBlank (v : Token P) : Type 0 where
+  pub record IsBlankView (v : Token P) : Type 0 where
     pub empty : v.empty ≡ []
     pub opened : v.opened ≡ []
     pub pairs : v.pairs ≡ []
@@ -184,10 +184,10 @@ module _ {P : Type 0} where
   abbrev pub book : Token P → Book
   book v = record { live = v.live; main = v.main; by = v.by; events = v.events; floor = v.floor; spare = v.spare }
 
-  abbrev pub work : Token P → Work
+  abbrev pub work : Token P → Holdings
   work v = record { empty = v.empty; opened = v.opened; pairs = v.pairs; handed = v.handed }
 
-  abbrev pub deed : Token P → Deed
+  abbrev pub deed : Token P → Ownership
   deed v = record { by = v.by; events = v.events; empty = v.empty; opened = v.opened; handed = v.handed }
 
   abbrev pub hold : Token P → Hold
@@ -197,8 +197,8 @@ module _ {P : Type 0} where
   purse v = record { handed = v.handed; taken = v.taken; left = v.left; given = v.given }
 
   -- a seat's view: what it knows, with the payloads in its hands
-  abbrev pub seen : Token P → List (ℕ × P) → View P
-  seen v mine = record { by = v.by; main = v.main; empty = v.empty; opened = mine; pairs = v.pairs; kept = v.kept; handed = v.handed; taken = v.taken; given = v.given; left = v.left; events = v.events; floor = v.floor; spare = v.spare; had = v.had; out = v.out; splits = v.splits }
+  abbrev pub view_of : Token P → List (ℕ × P) → View P
+  view_of v mine = record { by = v.by; main = v.main; empty = v.empty; opened = mine; pairs = v.pairs; kept = v.kept; handed = v.handed; taken = v.taken; given = v.given; left = v.left; events = v.events; floor = v.floor; spare = v.spare; had = v.had; out = v.out; splits = v.splits }
 
   -- what stands between two calls
   pub record RuleHolds (rows room : ℕ) (word : ℕ → ℕ) (slot : ℕ → Option P) (log : List Event) (views : List (Token P)) : Type 0 where
@@ -211,4 +211,4 @@ module _ {P : Type 0} where
     -- streams are numbered in 32 bits
     pub small : (i j r : ℕ) (v : Token P) → IsAt views i v → IsAmong (j, r) v.pairs → j < 2 ^ 32
     -- a spent seat has nothing
-    pub spent : (i : ℕ) (v : Token P) → IsAt views i v → v.live ≡ false → IsBlank v
+    pub spent : (i : ℕ) (v : Token P) → IsAt views i v → v.live ≡ false → IsBlankView v

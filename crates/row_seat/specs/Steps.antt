@@ -4,7 +4,7 @@ use Rattle.res_ledger.specs.declared.event.Event.{Event}
 use Rattle.res_ledger.specs.declared.event.StreamNo.{StreamNo}
 use Rattle.row_seat.specs.declared.token.Token.{Token}
 use Rattle.row_seat.specs.declared.view.View.{View}
-use Rattle.row_seat.specs.Rule.{seen}
+use Rattle.row_seat.specs.Rule.{view_of}
 use Rattle.row_seat.specs.Views as views
 
 -- without the first r
@@ -19,7 +19,7 @@ module _ {P : Type 0} where
 
   -- a step of the view, after which these rows are open
   abbrev pub stepped : Token P → List ℕ → (View P → View P) → Token P
-  stepped v rows step = token_of v.live rows (step (seen v []))
+  stepped v rows step = token_of v.live rows (step (view_of v []))
 
   -- what the first seat knows
   abbrev pub first_token : StreamNo → ℕ → ℕ → ℕ → Token P
@@ -68,11 +68,11 @@ module _ {P : Type 0} where
 
   -- what the seat that is split off gets
   abbrev pub split_off : Token P → ℕ → ℕ → ℕ → ℕ → Token P
-  split_off v j from to n = token_of true [] (views.split_off (seen v []) j from to n)
+  split_off v j from to n = token_of true [] (views.split_off (view_of v []) j from to n)
 
   -- a seat is taken in
   abbrev pub joined : Token P → Token P → Token P
-  joined v w = stepped v v.opened (λ u. views.joined u (seen w []))
+  joined v w = stepped v v.opened (λ u. views.joined u (view_of w []))
 
   -- a seat that was taken in
   abbrev pub spent : Token P → Token P

@@ -60,9 +60,9 @@ run n zero = []
 run n (suc k) = n ∷ run (suc n) k
 
 -- one more than the greatest stamp, and 0 where there is none
-abbrev pub above : List Event → ℕ
-above [] = 0
-above (e ∷ L) = cond (leb (suc e.stamp) (above L)) (above L) (suc e.stamp)
+abbrev pub next_stamp : List Event → ℕ
+next_stamp [] = 0
+next_stamp (e ∷ L) = cond (leb (suc e.stamp) (next_stamp L)) (next_stamp L) (suc e.stamp)
 
 module _ {P : Type 0} where
   -- without the first pair that has the row r
@@ -142,9 +142,9 @@ module _ {P : Type 0} where
     pub left : (q : P) → IsAmong (r, q) v.left → q ≡ p
 
   -- the lease is gone. Stays: where the seat is the main one, the row is held still. Yours: it was the last on a closed row, which is handed over with the payload that was left in it
-  abbrev pub Leaves : View P → ℕ → ℕ → Left → View P → Type 0
-  Leaves v j r Stays w = (w ≡ gone v j r) × (v.main ≡ true → IsHeldStill v j r)
-  Leaves v j r Yours w = (p : P) × (w ≡ handed_over (gone v j r) r p) × IsLastLease v j r p
+  abbrev pub LeavesRow : View P → ℕ → ℕ → Left → View P → Type 0
+  LeavesRow v j r Stays w = (w ≡ gone v j r) × (v.main ≡ true → IsHeldStill v j r)
+  LeavesRow v j r Yours w = (p : P) × (w ≡ handed_over (gone v j r) r p) × IsLastLease v j r p
 
   -- the row is open here, a Close that covers it is noted, and so is the Lease of each of its pairs here
   abbrev pub CanClose : View P → ℕ → Type 0
@@ -163,9 +163,9 @@ module _ {P : Type 0} where
   MayStay v r = (v.main ≡ true) × ((j : ℕ) × IsLeasedTo v j r)
 
   -- the row is closed. Stays: it is left to a lease. Yours: it is handed over
-  abbrev pub Closes : View P → ℕ → Left → View P → Type 0
-  Closes v r Stays w = (p : P) × IsAmong (r, p) v.opened × (w ≡ shut v r p) × MayStay v r
-  Closes v r Yours w = (p : P) × IsAmong (r, p) v.opened × (w ≡ handed_over (shut v r p) r p) × ¬ (HasPair v r)
+  abbrev pub ClosesRow : View P → ℕ → Left → View P → Type 0
+  ClosesRow v r Stays w = (p : P) × IsAmong (r, p) v.opened × (w ≡ shut v r p) × MayStay v r
+  ClosesRow v r Yours w = (p : P) × IsAmong (r, p) v.opened × (w ≡ handed_over (shut v r p) r p) × ¬ (HasPair v r)
 
   -- the row was handed over and is not taken
   abbrev pub CanTake : View P → ℕ → Type 0
@@ -193,8 +193,8 @@ module _ {P : Type 0} where
   noted v e = record (touched v e.what) { events = v.events ++ e ∷ []; spare = v.spare - 1 }
 
   -- the stamp is above those of the seat and not below its floor
-  abbrev pub IsFresh : View P → ℕ → Type 0
-  IsFresh v n = (v.floor ≤ n) × ((e : Event) → IsAmong e v.events → e.stamp < n)
+  abbrev pub IsFreshStamp : View P → ℕ → Type 0
+  IsFreshStamp v n = (v.floor ≤ n) × ((e : Event) → IsAmong e v.events → e.stamp < n)
 
   -- the main seat has the rows, empty and without an Acquire, and room for the events; the stream had no seat, and its Lease is noted where a lease of it is here
   abbrev pub CanSplit : View P → ℕ → ℕ → ℕ → ℕ → Type 0
@@ -214,7 +214,7 @@ module _ {P : Type 0} where
 
   -- the seat that is split off: its rows, the leases of its stream with their Lease, and room for its events
   abbrev pub split_off : View P → ℕ → ℕ → ℕ → ℕ → View P
-  split_off v j from to n = record { by = Inner j; main = false; empty = run from (to - from); opened = []; pairs = stream_pairs j v.pairs; kept = filter (λ x. nat_eq x j) v.kept; handed = []; taken = []; given = []; left = []; events = []; floor = above v.events; spare = n; had = []; out = []; splits = 0 }
+  split_off v j from to n = record { by = Inner j; main = false; empty = run from (to - from); opened = []; pairs = stream_pairs j v.pairs; kept = filter (λ x. nat_eq x j) v.kept; handed = []; taken = []; given = []; left = []; events = []; floor = next_stamp v.events; spare = n; had = []; out = []; splits = 0 }
 
   -- the other is a seat of this main one that is out, and is at rest
   abbrev pub CanJoin : View P → View P → Type 0

@@ -18,7 +18,7 @@ use std::alloc::{AllocError, Global};
 /// does to the seat's view. It leaves the fit of every other seat as it was.
 pub trait RowSeat: Sized {
     ghost use Rattle.row_seat.specs.declared.view.View.{View};
-    ghost use Rattle.row_seat.specs.Views.{CanPlace, placed, HasRow, HasPair, paid, CanLease, leased, CanLeave, Leaves, CanClose, Closes, CanTake, took, MayNote, noted, IsFresh, OthersFit, CanSplit, split_main, split_off, CanJoin, AreApart, joined, CanFinish, IsLedgerOf};
+    ghost use Rattle.row_seat.specs.Views.{CanPlace, placed, HasRow, HasPair, paid, CanLease, leased, CanLeave, LeavesRow, CanClose, ClosesRow, CanTake, took, MayNote, noted, IsFreshStamp, OthersFit, CanSplit, split_main, split_off, CanJoin, AreApart, joined, CanFinish, IsLedgerOf};
     ghost use Rattle.chunk_core.specs.Lists.{IsAmong};
 
     /// What a row holds.
@@ -64,7 +64,7 @@ pub trait RowSeat: Sized {
     fn leave(&mut self, desk: &mut Self::Desk, stream: u32, row: u32) -> Left
         requires fits { fits self.old desk.old }
         requires row { CanLeave (view self.old) stream row }
-        ensures view { Leaves (view self.old) stream row result (view self.new) }
+        ensures view { LeavesRow (view self.old) stream row result (view self.new) }
         ensures fits { fits self.new desk.new }
         ensures others { OthersFit view fits (view self.old).by desk.old desk.new };
 
@@ -73,7 +73,7 @@ pub trait RowSeat: Sized {
     fn close(&mut self, desk: &mut Self::Desk, row: u32) -> Left
         requires fits { fits self.old desk.old }
         requires row { CanClose (view self.old) row }
-        ensures view { Closes (view self.old) row result (view self.new) }
+        ensures view { ClosesRow (view self.old) row result (view self.new) }
         ensures fits { fits self.new desk.new }
         ensures others { OthersFit view fits (view self.old).by desk.old desk.new };
 
@@ -93,7 +93,7 @@ pub trait RowSeat: Sized {
         requires room { 1 ≤ (view self.old).spare }
         requires event { MayNote (view self.old) what }
         ensures view { view self.new ≡ noted (view self.old) (record { stamp = result; by = (view self.old).by; what = what }) }
-        ensures stamp { IsFresh (view self.old) result }
+        ensures stamp { IsFreshStamp (view self.old) result }
         ensures fits { fits self.new desk.new }
         ensures others { OthersFit view fits (view self.old).by desk.old desk.new };
 

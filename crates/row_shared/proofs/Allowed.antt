@@ -15,7 +15,7 @@ use Rattle.res_ledger.specs.declared.event.What.TheVariants.{Acquire}
 use Rattle.res_ledger.specs.Ledger.{IsAcquired, IsLeased, Notes, NotesCancel}
 use Rattle.res_ledger.proofs.Ledgers.{stamp_below}
 use Rattle.row_seat.specs.declared.token.Token.{Token}
-use Rattle.row_seat.specs.Rule.{Book, IsInside, RuleHolds, book, seen}
+use Rattle.row_seat.specs.Rule.{Book, IsInside, RuleHolds, book, view_of}
 use Rattle.row_seat.specs.Steps.{gone, handed_over, leased, noted, placed}
 use Rattle.row_seat.specs.Totals.{IsAt, stamp_times}
 use Rattle.row_seat.specs.Views.{MayNote}
@@ -44,7 +44,7 @@ less_four n low high =
 
 module _ {P : Type 0} (k : Start) (rows id : ℕ) (t : Token P) (live : t.live ≡ true) where
   -- an event is noted: the stamp is the word found, so it is the next in the ledger
-  pub tick_allows : (x : What) (hands : List (ℕ × P)) (room : ℕ) → k.events ≡ room → MayNote (seen t hands) x → 1 ≤ t.spare → Allows (λ s. IsRows k s) rows id (idle t) 0 (λ n. (n + 1) % 2 ^ 64) (λ n after. Ticked rows x room t n after)
+  pub tick_allows : (x : What) (hands : List (ℕ × P)) (room : ℕ) → k.events ≡ room → MayNote (view_of t hands) x → 1 ≤ t.spare → Allows (λ s. IsRows k s) rows id (idle t) 0 (λ n. (n + 1) % 2 ^ 64) (λ n after. Ticked rows x room t n after)
   tick_allows x hands room all may sp s h len at fits =
       let n = slice_index s.words 0 in let e : Event = record { stamp = n; by = t.by; what = x } in let m = (n + 1) % 2 ^ 64 in let ws = slice_set s.words 0 m in
       let seat = seated h id at live in let ts = map token_of s.views in let b = at_book h.rule seat in let books = h.rule.books in

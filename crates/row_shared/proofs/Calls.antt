@@ -7,9 +7,9 @@ use Rattle.chunk_core.specs.Lists.{IsAmong}
 use Rattle.row_seat.specs.declared.view.Left.{Left}
 use Rattle.row_seat.specs.declared.view.Left.TheVariants.{Stays, Yours}
 use Rattle.std.specs.Map.{keys_of}
-use Rattle.row_seat.specs.Rule.{seen}
+use Rattle.row_seat.specs.Rule.{view_of}
 use Rattle.row_seat.specs.Steps.{gone, handed_over, joined, shut, without_one}
-use Rattle.row_seat.specs.Views.{CanJoin, Closes, HasRow, Leaves, without_row}
+use Rattle.row_seat.specs.Views.{CanJoin, ClosesRow, HasRow, LeavesRow, without_row}
 use Rattle.row_seat.proofs.Hands.{row_among, rows_without}
 use Rattle.row_shared.specs.declared.seat.SharedSeat.{SharedSeat}
 use Rattle.row_shared.specs.declared.seat.TableRef.{TableRef}
@@ -27,9 +27,9 @@ module _ {P : Type 0} {s : SharedSeat P} (d : TableRef P) (h : SharedFits s d) w
   none_open e = sym h.held ∙ ap keys_of e
 
   -- the lease is gone
-  pub leaves_view : (rows j r : ℕ) (left : Left) (after : Seated P) → Gave rows j r left s.pass.me.0.token after → Leaves (shown s) j r left (seen after.0.token s.hands.items)
-  leaves_view rows j r Stays after g = (ap (λ (m : Seated P). seen m.0.token s.hands.items) g.0.0, λ main. g.1 main s.hands.items h.held)
-  leaves_view rows j r Yours after g = (g.0, ap (λ (m : Seated P). seen m.0.token s.hands.items) g.1.0, g.2 s.hands.items h.held)
+  pub leaves_view : (rows j r : ℕ) (left : Left) (after : Seated P) → Gave rows j r left s.pass.me.0.token after → LeavesRow (shown s) j r left (view_of after.0.token s.hands.items)
+  leaves_view rows j r Stays after g = (ap (λ (m : Seated P). view_of m.0.token s.hands.items) g.0.0, λ main. g.1 main s.hands.items h.held)
+  leaves_view rows j r Yours after g = (g.0, ap (λ (m : Seated P). view_of m.0.token s.hands.items) g.1.0, g.2 s.hands.items h.held)
 
   pub leaves_fits : (s' : SharedSeat P) (j r : ℕ) (left : Left) → s'.pass.table_id ≡ s.pass.table_id → s'.by ≡ s.by → s'.hands ≡ s.hands → s'.events ≡ s.events → Gave (arc_value d.table).shared.table_id.slots j r left s.pass.me.0.token s'.pass.me → SharedFits s' d
   leaves_fits s' j r Stays table by hands events g = let t = s.pass.me.0.token in fits_put d (gone t j r) (table ∙ h.table.0, h.table.1, h.table.2) g.0.0 h.calm.1 (by ∙ h.by) h.first g.0.1 (gone_itself t h.itself j r)
@@ -38,9 +38,9 @@ module _ {P : Type 0} {s : SharedSeat P} (d : TableRef P) (h : SharedFits s d) w
       (rw hands h.held) (rw events h.noted) (rw hands h.whole) (rw hands h.hold) (rw events h.pages) (rw events h.leaves)
 
   -- the row is closed
-  pub closes_view : (rows r : ℕ) (p : P) (left : Left) (after : Seated P) (hands : List (ℕ × P)) → IsAmong (r, p) s.hands.items → hands ≡ without_row r s.hands.items → Closed rows r p left s.pass.me.0.token after → Closes (shown s) r left (seen after.0.token hands)
-  closes_view rows r p Stays after hands m e g = (p, m, ap (λ (m : Seated P). seen m.0.token hands) g.0.0 ∙ ap (λ l. seen (shut s.pass.me.0.token r p) l) e, g.1)
-  closes_view rows r p Yours after hands m e g = (p, m, ap (λ (m : Seated P). seen m.0.token hands) g.0.0 ∙ ap (λ l. seen (handed_over (shut s.pass.me.0.token r p) r p) l) e, λ k. g.1 k.0 k.1)
+  pub closes_view : (rows r : ℕ) (p : P) (left : Left) (after : Seated P) (hands : List (ℕ × P)) → IsAmong (r, p) s.hands.items → hands ≡ without_row r s.hands.items → Closed rows r p left s.pass.me.0.token after → ClosesRow (shown s) r left (view_of after.0.token hands)
+  closes_view rows r p Stays after hands m e g = (p, m, ap (λ (m : Seated P). view_of m.0.token hands) g.0.0 ∙ ap (λ l. view_of (shut s.pass.me.0.token r p) l) e, g.1)
+  closes_view rows r p Yours after hands m e g = (p, m, ap (λ (m : Seated P). view_of m.0.token hands) g.0.0 ∙ ap (λ l. view_of (handed_over (shut s.pass.me.0.token r p) r p) l) e, λ k. g.1 k.0 k.1)
 
   pub closes_fits : (s' : SharedSeat P) (r : ℕ) (p : P) (left : Left) → s'.pass.table_id ≡ s.pass.table_id → s'.by ≡ s.by → s'.events ≡ s.events → s'.hands.items ≡ without_row r s.hands.items → vec_len s'.hands ≤ vec_len s.hands → vec_capacity s'.hands ≡ vec_capacity s.hands
       → Closed (arc_value d.table).shared.table_id.slots r p left s.pass.me.0.token s'.pass.me → SharedFits s' d

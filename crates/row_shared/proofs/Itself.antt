@@ -13,7 +13,7 @@ use Rattle.res_ledger.specs.declared.event.StreamNo.TheVariants.{Inner}
 use Rattle.res_ledger.specs.Ledger.{IsAcquired}
 use Rattle.res_ledger.proofs.Ledgers.{acquired_snoc}
 use Rattle.row_seat.specs.declared.token.Token.{Token}
-use Rattle.row_seat.specs.Rule.{seen}
+use Rattle.row_seat.specs.Rule.{view_of}
 use Rattle.row_seat.specs.Steps.{first_token, gone, handed_over, joined, leased, noted, placed, shut, split_main, split_off, took}
 use Rattle.row_seat.specs.Views.{IsWithin, MayNote, name_of, within}
 use Rattle.row_seat.proofs.Members.{among_kept, among_without}
@@ -32,11 +32,11 @@ module _ {P : Type 0} where
   first_itself by rows events splits = record { rows = λ r a. absurd (among_nil a.2.1); names = λ e m. absurd (among_nil m); pure = λ side e m. absurd (among_nil m); outs = λ m a. absurd (among_nil a) }
 
   -- the row that an event acquires was empty here
-  acquires : (v : Token P) (hands : List (ℕ × P)) (x y : What) (r s : ℕ) → MayNote (seen v hands) x → x ≡ y → y ≡ Acquire r s → IsAmong r v.empty
-  acquires v hands x y r s may is e = (subst (λ z. MayNote (seen v hands) z) (is ∙ e) may).0
+  acquires : (v : Token P) (hands : List (ℕ × P)) (x y : What) (r s : ℕ) → MayNote (view_of v hands) x → x ≡ y → y ≡ Acquire r s → IsAmong r v.empty
+  acquires v hands x y r s may is e = (subst (λ z. MayNote (view_of v hands) z) (is ∙ e) may).0
 
   module _ (v : Token P) (k : KnowsItself v) where
-    pub noted_itself : (e : Event) (hands : List (ℕ × P)) → e.by ≡ v.by → MayNote (seen v hands) e.what → KnowsItself (noted v e)
+    pub noted_itself : (e : Event) (hands : List (ℕ × P)) → e.by ≡ v.by → MayNote (view_of v hands) e.what → KnowsItself (noted v e)
     noted_itself e hands by may = record {
       rows = λ r a. ⊎_elim (k.rows r) (λ s. inl (acquires v hands e.what e.what r s.0 may refl s.1)) (acquired_snoc v.events e r a);
       names = λ d m. ⊎_elim (k.names d) (λ q. inl (ap (λ (z : Event). z.by) q ∙ by)) (among_snoc v.events d e m);

@@ -7,7 +7,7 @@ use Rattle.atomic_table.specs.Seated.{TableId}
 use Rattle.row_seat.specs.declared.view.View.{View}
 use Rattle.row_seat.specs.Hands.{rows_with, set_spot, spot}
 use Rattle.std.specs.Map.{keys_of}
-use Rattle.row_seat.specs.Rule.{IsInside, seen}
+use Rattle.row_seat.specs.Rule.{IsInside, view_of}
 use Rattle.row_seat.specs.Views.{paid}
 use Rattle.row_shared.specs.declared.seat.SharedSeat.{SharedSeat}
 use Rattle.row_shared.specs.declared.seat.TableRef.{TableRef}
@@ -18,7 +18,7 @@ use Rattle.row_shared.specs.Told.{IsIdle}
 module _ {P : Type 0} where
   -- the seat's view
   abbrev pub shown : SharedSeat P → View P
-  shown s = seen s.pass.me.0.token s.hands.items
+  shown s = view_of s.pass.me.0.token s.hands.items
 
   -- the seat with another payload in an open row
   abbrev pub lent : SharedSeat P → ℕ → P → SharedSeat P
@@ -46,7 +46,7 @@ module _ {P : Type 0} where
   SharedFits s d = SeatFits s (arc_value d.table).shared.table_id (arc_value d.table).shared.key
 
   pub shown_lent : (s : SharedSeat P) (r : ℕ) (w : P) → shown (lent s r w) ≡ paid (shown s) r w
-  shown_lent s r w = ap (λ xs. seen s.pass.me.0.token xs) (set_spot r w s.hands.items)
+  shown_lent s r w = ap (λ xs. view_of s.pass.me.0.token xs) (set_spot r w s.hands.items)
 
   pub fits_lent : (s : SharedSeat P) (r : ℕ) (w : P) (d : TableRef P) → SharedFits s d → SharedFits (lent s r w) d
   fits_lent s r w d h = record { table = h.table; calm = h.calm; by = h.by; first = h.first; inside = h.inside; itself = h.itself; held = ap keys_of (set_spot r w s.hands.items) ∙ (rows_with r w s.hands.items ∙ h.held); noted = h.noted; whole = h.whole; hold = h.hold; pages = h.pages; leaves = h.leaves }

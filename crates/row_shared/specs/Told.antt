@@ -7,10 +7,10 @@ use Rattle.row_seat.specs.declared.token.Token.{Token}
 use Rattle.row_seat.specs.declared.view.Left.{Left}
 use Rattle.row_seat.specs.declared.view.Left.TheVariants.{Stays, Yours}
 use Rattle.std.specs.Map.{keys_of}
-use Rattle.row_seat.specs.Rule.{IsInside, seen}
+use Rattle.row_seat.specs.Rule.{IsInside, view_of}
 use Rattle.row_seat.specs.Steps.{gone, handed_over, joined, leased, noted, placed, shut, took}
 use Rattle.row_seat.specs.Totals.{stamp_times}
-use Rattle.row_seat.specs.Views.{AreApart, IsFresh, IsHeldStill, IsLastLease, IsLedgerOf, MayStay}
+use Rattle.row_seat.specs.Views.{AreApart, IsFreshStamp, IsHeldStill, IsLastLease, IsLedgerOf, MayStay}
 use Rattle.row_shared.specs.Places.{Seated, TookIn, holding, idle}
 
 module _ {P : Type 0} where
@@ -28,7 +28,7 @@ module _ {P : Type 0} where
 
   -- the event x is noted with the stamp n
   abbrev pub Ticked : ℕ → What → ℕ → Token P → ℕ → Seated P → Type 0
-  Ticked rows x room t n after = let e : Event = record { stamp = n; by = t.by; what = x } in Knows rows (noted t e) after × IsFresh (seen t []) n × IsWithinRoom room t
+  Ticked rows x room t n after = let e : Event = record { stamp = n; by = t.by; what = x } in Knows rows (noted t e) after × IsFreshStamp (view_of t []) n × IsWithinRoom room t
 
   -- the row r is placed, and this seat has no lease on it
   abbrev pub Placed : ℕ → ℕ → Token P → Seated P → Type 0
@@ -40,8 +40,8 @@ module _ {P : Type 0} where
 
   -- the lease is gone. Stays: where the seat is the main one, the row is held still. Yours: it was the last on a closed row, which is handed over with what was left in it
   abbrev pub Gave : ℕ → ℕ → ℕ → Left → Token P → Seated P → Type 0
-  Gave rows j r Stays t after = Knows rows (gone t j r) after × (t.main ≡ true → (hands : List (ℕ × P)) → keys_of hands ≡ t.opened → IsHeldStill (seen t hands) j r)
-  Gave rows j r Yours t after = (p : P) × Knows rows (handed_over (gone t j r) r p) after × ((hands : List (ℕ × P)) → keys_of hands ≡ t.opened → IsLastLease (seen t hands) j r p)
+  Gave rows j r Stays t after = Knows rows (gone t j r) after × (t.main ≡ true → (hands : List (ℕ × P)) → keys_of hands ≡ t.opened → IsHeldStill (view_of t hands) j r)
+  Gave rows j r Yours t after = (p : P) × Knows rows (handed_over (gone t j r) r p) after × ((hands : List (ℕ × P)) → keys_of hands ≡ t.opened → IsLastLease (view_of t hands) j r p)
 
   -- a lease of the row r is given up, where the word was n: 7 is that of a closed row with one lease
   abbrev pub Quit : ℕ → ℕ → ℕ → Token P → ℕ → Seated P → Type 0
@@ -53,7 +53,7 @@ module _ {P : Type 0} where
 
   -- the row r is closed with p in its slot. Stays: the main seat closed it, and leased it. Yours: no lease stands on it, and it is handed over
   abbrev pub Closed : ℕ → ℕ → P → Left → Token P → Seated P → Type 0
-  Closed rows r p Stays t after = Knows rows (shut t r p) after × MayStay (seen t []) r
+  Closed rows r p Stays t after = Knows rows (shut t r p) after × MayStay (view_of t []) r
   Closed rows r p Yours t after = Knows rows (handed_over (shut t r p) r p) after × ((j : ℕ) → ¬ (IsAmong (j, r) t.pairs))
 
   -- the row r is closed, where the word was n, and its slot given back: 1 is the word of an open row with no lease
@@ -74,12 +74,12 @@ module _ {P : Type 0} where
 
   -- a seat that was taken in was apart from this one
   abbrev pub Met : ℕ → ℕ → Token P → Seated P → Type 0
-  Met rows room t after = Knows rows t after × IsWithinRoom room t × ((v w : Token P) → TookIn t v w → (mine theirs : List (ℕ × P)) → AreApart (seen v mine) (seen w theirs))
+  Met rows room t after = Knows rows t after × IsWithinRoom room t × ((v w : Token P) → TookIn t v w → (mine theirs : List (ℕ × P)) → AreApart (view_of v mine) (view_of w theirs))
 
   -- the seat of w is taken in
   abbrev pub Joined : ℕ → ℕ → Token P → Token P → Seated P → Type 0
-  Joined rows room v w after = Knows rows (joined v w) after × IsWithinRoom room (joined v w) × ((mine theirs : List (ℕ × P)) → AreApart (seen v mine) (seen w theirs))
+  Joined rows room v w after = Knows rows (joined v w) after × IsWithinRoom room (joined v w) × ((mine theirs : List (ℕ × P)) → AreApart (view_of v mine) (view_of w theirs))
 
   -- the ledger of all seats, of which each event is here once
   abbrev pub Ended : Token P → Seated P → Type 0
-  Ended t after = (after ≡ idle t) × ((log : List Event) × IsLedgerOf (seen t []) log × ((n : ℕ) → stamp_times n t.events ≤ 1))
+  Ended t after = (after ≡ idle t) × ((log : List Event) × IsLedgerOf (view_of t []) log × ((n : ℕ) → stamp_times n t.events ≤ 1))

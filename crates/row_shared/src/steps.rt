@@ -4,7 +4,7 @@ ghost use Rattle.chunk_core.specs.Lists.{IsAmong};
 ghost use Rattle.res_ledger.specs.declared.event.What.TheVariants.{Acquire, Lease};
 ghost use Rattle.res_ledger.specs.declared.event.StreamNo.TheVariants.{Inner};
 ghost use Rattle.res_ledger.specs.Ledger.{IsAcquired, IsClosed, IsLeased, Notes, NotesCancel};
-ghost use Rattle.row_seat.specs.Rule.{seen};
+ghost use Rattle.row_seat.specs.Rule.{view_of};
 ghost use Rattle.row_seat.specs.Views.{MayNote, IsWithin};
 ghost use Rattle.row_seat.specs.Steps.{joined, split_main, split_off, took};
 ghost use Rattle.row_shared.specs.Places.{IsOfTable, TookIn, holding, idle};
@@ -41,7 +41,7 @@ fn tick_as<P, W: About>(table: &RowShared<P>, pass: &mut RowPass<P>, what: What)
     requires table { IsOfTable pass.old.table_id table.now.table_id table.now.key }
     requires idle { IsIdle pass.old.me }
     requires room { 1 ≤ pass.old.me.0.token.spare }
-    requires event { (hands : List (ℕ × P)) × MayNote (seen pass.old.me.0.token hands) what }
+    requires event { (hands : List (ℕ × P)) × MayNote (view_of pass.old.me.0.token hands) what }
     ensures table { pass.new.table_id ≡ pass.old.table_id }
     ensures told { Ticked table.now.table_id.slots W.what W.room pass.old.me.0.token result pass.new.me }
 {
@@ -54,7 +54,7 @@ pub fn tick<P>(table: &RowShared<P>, pass: &mut RowPass<P>, what: What) -> u64
     requires table { IsOfTable pass.old.table_id table.now.table_id table.now.key }
     requires idle { IsIdle pass.old.me }
     requires room { 1 ≤ pass.old.me.0.token.spare }
-    requires event { (hands : List (ℕ × P)) × MayNote (seen pass.old.me.0.token hands) what }
+    requires event { (hands : List (ℕ × P)) × MayNote (view_of pass.old.me.0.token hands) what }
     ensures table { pass.new.table_id ≡ pass.old.table_id }
     ensures told { Ticked table.now.table_id.slots what table.now.key.events pass.old.me.0.token result pass.new.me }
 {

@@ -2,11 +2,11 @@
 use Rattle.std.proofs.Common.{◌≡◌, Bool, true, false, List, [], ◌∷◌, inl, inr, refl, sym, ⊎_elim}
 use Rattle.std.specs.List.{AllByRecursion}
 use Rattle.run_rules.specs.declared.end.EndOf.{EndOf}
-use Rattle.run_rules.specs.Work.{Work, Deed}
-use Rattle.run_rules.specs.Run.{IsCaused, HasCauseToHalt, Ran, IsUnmade, Performs}
+use Rattle.run_rules.specs.Work.{Work, RunRecord}
+use Rattle.run_rules.specs.Run.{EndIsCaused, HasCauseToHalt, Ran, IsUnmade, Performs}
 
 -- the same deed, with other words on what failed
-abbrev pub with_failures : Deed → Bool → Bool → Deed
+abbrev pub with_failures : RunRecord → Bool → Bool → RunRecord
 with_failures c u m = record c { unwritten = u; memory = m }
 
 still_false : (a b : Bool) → (a ≡ true → b ≡ true) → b ≡ false → a ≡ false
@@ -14,11 +14,11 @@ still_false true true h e = e
 still_false true false h e = sym (h refl)
 still_false false b h e = refl
 
-module _ (work : Work) (c : Deed) (u m : Bool) (unwritten : c.unwritten ≡ true → u ≡ true) (memory : c.memory ≡ true → m ≡ true) where
+module _ (work : Work) (c : RunRecord) (u m : Bool) (unwritten : c.unwritten ≡ true → u ≡ true) (memory : c.memory ≡ true → m ≡ true) where
   halts_more : HasCauseToHalt c → HasCauseToHalt (with_failures c u m)
   halts_more h = ⊎_elim (λ e. inl (unwritten e)) (λ i. ⊎_elim (λ e. inr (inl (memory e))) (λ e. inr (inr e)) i) h
 
-  caused_more : (es : List EndOf) → AllByRecursion (IsCaused work c) es → AllByRecursion (IsCaused work (with_failures c u m)) es
+  caused_more : (es : List EndOf) → AllByRecursion (EndIsCaused work c) es → AllByRecursion (EndIsCaused work (with_failures c u m)) es
   caused_more [] h = tt
   caused_more (e ∷ es) h = (record { halted = λ i. halts_more (h.0.halted i); fault = h.0.fault; root = h.0.root }, caused_more es h.1)
 

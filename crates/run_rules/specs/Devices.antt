@@ -37,13 +37,13 @@ abbrev pub StandAsOften : List Place → List Place → Type 0
 StandAsOften xs ys = AllByRecursion (λ p. count_by (is_place p) xs ≡ count_by (is_place p) ys) (xs ++ ys)
 
 -- the place of a row
-abbrev pub place_of : List Place → Option ℕ → List Place
-place_of ps None = []
-place_of ps (Some r) = elim (at ps r) [ Some p ↦ p ∷ [] | None ↦ [] ]
+abbrev pub place_of_row : List Place → Option ℕ → List Place
+place_of_row ps None = []
+place_of_row ps (Some r) = elim (at ps r) [ Some p ↦ p ∷ [] | None ↦ [] ]
 
 -- by path and mode, the devices that pass are as many as the rows that the events name
 abbrev pub AreAsMany : (DeviceTold → Bool) → (What → Option ℕ) → List DeviceTold → List Place → List Event → Type 0
-AreAsMany passes row ds places L = StandAsOften (map (λ d. d.place) (filter passes ds)) (flat_map (λ e. place_of places (row e.what)) L)
+AreAsMany passes row ds places L = StandAsOften (map (λ d. d.place) (filter passes ds)) (flat_map (λ e. place_of_row places (row e.what)) L)
 
 -- the row is one of the n rows
 abbrev pub IsRowBelow : ℕ → Option ℕ → Type 0

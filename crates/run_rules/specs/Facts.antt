@@ -30,8 +30,8 @@ at (x ∷ xs) zero = Some x
 at (x ∷ xs) (suc i) = at xs i
 
 -- the numbers below n
-abbrev pub below : ℕ → List ℕ
-below n = range_with_len 0 n
+abbrev pub first_numbers : ℕ → List ℕ
+first_numbers n = range_with_len 0 n
 
 abbrev pub is_fault : How → Bool
 is_fault (how.Fault c) = true
@@ -92,5 +92,5 @@ leased_stream (Lease j s) = Some j
 leased_stream w = None
 
 -- an event says so
-abbrev pub has : (What → Bool) → List Event → Bool
-has p L = any (λ e. p e.what) L
+abbrev pub has_event : (What → Bool) → List Event → Bool
+has_event p L = any (λ e. p e.what) L

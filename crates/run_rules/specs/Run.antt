@@ -20,30 +20,30 @@ use Rattle.res_ledger.specs.Ledger.{IsLegal}
 use Rattle.res_ledger.specs.Whole.{IsComplete}
 use Rattle.res_ledger.specs.Order.{IsOrdered}
 use Rattle.device_port.specs.Device.{Place, DeviceTold, faults_of}
-use Rattle.device_port.specs.Depot.{AreApart, content_at}
+use Rattle.device_port.specs.Depot.{HaveOwnNumbers, content_at}
 use Rattle.run_rules.specs.declared.end.EndOf.{EndOf}
-use Rattle.run_rules.specs.Facts.{is_place, at, below, is_fault, is_halted, is_memory, is_over, is_failed, is_root_close, root_exit, acquired_row, leased_stream, has}
-use Rattle.run_rules.specs.Work.{Work, Stream, Deed, places_of, names_of, owners_of}
+use Rattle.run_rules.specs.Facts.{is_place, at, first_numbers, is_fault, is_halted, is_memory, is_over, is_failed, is_root_close, root_exit, acquired_row, leased_stream, has_event}
+use Rattle.run_rules.specs.Work.{Work, Stream, RunRecord, all_places, names_of, owners_of}
 use Rattle.run_rules.specs.Devices.{DevicesAccounted, came_back}
 
 -- The rows: each has one device, its home.
 
 -- the device came back in the run
-abbrev pub IsBack : Deed → DeviceTold → Type 0
+abbrev pub IsBack : RunRecord → DeviceTold → Type 0
 IsBack c d = IsAmong d (came_back c.depot_old c.depot_new)
 
 -- no device was made for the row, and nothing was done on it
-pub record IsBlank (d : DeviceTold) : Type 0 where
+pub record IsUntouched (d : DeviceTold) : Type 0 where
   pub opens : d.opens ≡ 0
   pub at : d.at ≡ 0
   pub written : IfSome d.written (λ w. w ≡ [])
   pub faults : faults_of d ≡ 0
 
 -- the rows from r on have these places, and their contents are those of the files at the start
-abbrev pub AreAtHome : Deed → (ℕ → DeviceTold) → ℕ → List Place → Type 0
+abbrev pub AreAtHome : RunRecord → (ℕ → DeviceTold) → ℕ → List Place → Type 0
 AreAtHome c w r [] = Unit {0}
 AreAtHome c w r (p ∷ ps) =
-    ((w r).place ≡ p) × ((w r).content ≡ content_at c.depot_old.files p.path) × (IsBack c (w r) ⊎ IsBlank (w r)) × AreAtHome c w (r + 1) ps
+    ((w r).place ≡ p) × ((w r).content ≡ content_at c.depot_old.files p.path) × (IsBack c (w r) ⊎ IsUntouched (w r)) × AreAtHome c w (r + 1) ps
 
 -- something was tried on the device
 abbrev pub is_tried : DeviceTold → Bool
@@ -56,9 +56,9 @@ IsTied w (Final r x ok) = ((w r).exit ≡ Some x) × (ok ≡ nat_eq (w r).close_
 IsTied w v = Unit {0}
 
 -- no device that was tried is the home of two rows
-pub record HaveHomes (work : Work) (c : Deed) (w : ℕ → DeviceTold) : Type 0 where
-  pub at_home : AreAtHome c w 0 (places_of work)
-  pub apart : AreApart (filter is_tried (map w (below (length (places_of work)))))
+pub record HaveHomes (work : Work) (c : RunRecord) (w : ℕ → DeviceTold) : Type 0 where
+  pub at_home : AreAtHome c w 0 (all_places work)
+  pub apart : HaveOwnNumbers (filter is_tried (map w (first_numbers (length (all_places work)))))
   pub tied : AllByRecursion (λ e. IsTied w e.what) c.events
 
 -- The outputs.
@@ -84,15 +84,15 @@ AreOutputs work w F k (s ∷ ss) [] = ⊥
 AreOutputs work w F k (s ∷ ss) (e ∷ es) = IsOutput work w F k e.how × AreOutputs work w F (k + 1) ss es
 
 -- the payload b goes on with a run of stream k
-abbrev pub Continues : Work → (ℕ → DeviceTold) → List Frame → ℕ → List ℕ → Type 0
-Continues work w F k b = (k < length work.streams) × (elements : List Element) × work.runs k w elements Cut × (payloads_of k F ++ b ≡ rendering_of elements)
+abbrev pub ContinuesStream : Work → (ℕ → DeviceTold) → List Frame → ℕ → List ℕ → Type 0
+ContinuesStream work w F k b = (k < length work.streams) × (elements : List Element) × work.runs k w elements Cut × (payloads_of k F ++ b ≡ rendering_of elements)
 
 -- a proper front of one further frame, whose payload goes on with a run
 abbrev pub IsCutFrame : Work → (ℕ → DeviceTold) → List Frame → List ℕ → Type 0
 IsCutFrame work w F rest =
-    (k : ℕ) × (b more : List ℕ) × (rest ++ more ≡ frame_text k b) × (0 < length more) × (0 < length b) × Continues work w F k b
+    (k : ℕ) × (b more : List ℕ) × (rest ++ more ≡ frame_text k b) × (0 < length more) × (0 < length b) × ContinuesStream work w F k b
 
-pub record HaveOutputs (work : Work) (c : Deed) (w : ℕ → DeviceTold) : Type 0 where
+pub record HaveOutputs (work : Work) (c : RunRecord) (w : ℕ → DeviceTold) : Type 0 where
   pub numbers : AllByRecursion (λ f. (f.stream < length work.streams) × (0 < length f.payload)) c.frames
   pub outputs : AreOutputs work w c.frames 0 work.streams c.ends
   pub cut : (c.rest ≡ []) ⊎ ((c.unwritten ≡ true) × IsCutFrame work w c.frames c.rest)
@@ -100,7 +100,7 @@ pub record HaveOutputs (work : Work) (c : Deed) (w : ℕ → DeviceTold) : Type 
 -- The ends.
 
 -- why a stream may be halted: a write failed, memory was wanting, or a stream failed
-abbrev pub HasCauseToHalt : Deed → Type 0
+abbrev pub HasCauseToHalt : RunRecord → Type 0
 HasCauseToHalt c = (c.unwritten ≡ true) ⊎ (c.memory ≡ true) ⊎ (any (λ e. is_fault e.how) c.ends ≡ true)
 
 -- the count of the act that a fault names; a fault of another kind has no count
@@ -123,14 +123,14 @@ places_by work Outer = []
 places_by work (Inner k) = elim (at work.streams k) [ Some s ↦ s.places | None ↦ [] ]
 
 -- the end comes by its cause, and a stream that ended by itself closed its root
-pub record IsCaused (work : Work) (c : Deed) (e : EndOf) : Type 0 where
+pub record EndIsCaused (work : Work) (c : RunRecord) (e : EndOf) : Type 0 where
   pub halted : is_halted e.how ≡ true → HasCauseToHalt c
   pub fault : is_shown (came_back c.depot_old c.depot_new) (places_by work e.who) e.how ≡ true
-  pub root : is_over e.how ≡ true → has is_root_close (by_stream e.who c.events) ≡ true
+  pub root : is_over e.how ≡ true → has_event is_root_close (by_stream e.who c.events) ≡ true
 
-pub record HaveEnds (work : Work) (c : Deed) : Type 0 where
+pub record HaveEnds (work : Work) (c : RunRecord) : Type 0 where
   pub named : map (λ e. e.who) c.ends ≡ names_of work
-  pub caused : AllByRecursion (IsCaused work c) c.ends
+  pub caused : AllByRecursion (EndIsCaused work c) c.ends
   pub memory : any (λ e. is_memory e.how) c.ends ≡ true → c.memory ≡ true
 
 -- The exits.
@@ -140,42 +140,42 @@ abbrev pub root_exits : StreamNo → List Event → List Exit
 root_exits k L = filter_map (λ e. root_exit e.what) (by_stream k L)
 
 -- each Close of a stream's root has the exit of the stream's end
-abbrev pub HaveExits : Deed → Type 0
+abbrev pub HaveExits : RunRecord → Type 0
 HaveExits c = AllByRecursion (λ e. AllByRecursion (λ x. x ≡ exit_of e.how) (root_exits e.who c.events)) c.ends
 
 -- Completeness.
 
 -- no write failed, no device failed, and over these contents each stream's ideal runs end by themselves without a fault
-pub record NothingFailed (work : Work) (c : Deed) (w : ℕ → DeviceTold) : Type 0 where
+pub record NothingFailed (work : Work) (c : RunRecord) (w : ℕ → DeviceTold) : Type 0 where
   pub written : c.unwritten ≡ false
   pub devices : AllByRecursion (λ d. faults_of d ≡ 0) (came_back c.depot_old c.depot_new)
   pub ideal : AllByRecursion
       (λ k. (v : ℕ → DeviceTold) (ys : List Element) (e : End) → ((r : ℕ) → (faults_of (v r) ≡ 0) × ((v r).content ≡ (w r).content)) → work.ideal_runs k v ys e → e ≡ Done)
-      (below (length work.streams))
+      (first_numbers (length work.streams))
 
 -- each stream is done, no finalizer failed, and what was printed of each stream renders an ideal run
-pub record IsWhole (work : Work) (c : Deed) (w : ℕ → DeviceTold) : Type 0 where
+pub record IsWholeRun (work : Work) (c : RunRecord) (w : ℕ → DeviceTold) : Type 0 where
   pub done : AllByRecursion (λ e. e.how ≡ how.Done) c.ends
-  pub clean : has is_failed c.events ≡ false
-  pub output : AllByRecursion (λ k. (ys : List Element) × work.ideal_runs k w ys Done × (payloads_of k c.frames ≡ rendering_of ys)) (below (length work.streams))
+  pub clean : has_event is_failed c.events ≡ false
+  pub output : AllByRecursion (λ k. (ys : List Element) × work.ideal_runs k w ys Done × (payloads_of k c.frames ≡ rendering_of ys)) (first_numbers (length work.streams))
 
 -- The run.
 
 -- no seat could be made
-pub record IsUnmade (c : Deed) : Type 0 where
+pub record IsUnmade (c : RunRecord) : Type 0 where
   pub memory : c.memory ≡ true
   pub ends : c.ends ≡ []
   pub events : c.events ≡ []
   pub frames : c.frames ≡ []
   pub rest : c.rest ≡ []
 
-pub record Ran (work : Work) (c : Deed) : Type 0 where
+pub record Ran (work : Work) (c : RunRecord) : Type 0 where
   pub home : ℕ → DeviceTold
   pub rows : HaveHomes work c home
   pub outputs : HaveOutputs work c home
   pub ends : HaveEnds work c
   pub exits : HaveExits c
-  pub completeness : c.memory ≡ false → NothingFailed work c home → IsWhole work c home
+  pub completeness : c.memory ≡ false → NothingFailed work c home → IsWholeRun work c home
 
 -- an event is by a stream of the work, leases for one of them, and acquires a row of its own stream
 abbrev pub is_named : List StreamNo → Option ℕ → Bool
@@ -197,7 +197,7 @@ pub record KeepsRules (work : Work) (L : List Event) : Type 0 where
   pub ours : all (is_ours work) L ≡ true
 
 -- The deed did the work: its devices are accounted for, its ledger keeps the rules, and its streams ran, where a seat could be made.
-pub record Performs (work : Work) (c : Deed) : Type 0 where
-  pub devices : DevicesAccounted c.depot_old c.depot_new (places_of work) c.events
+pub record Performs (work : Work) (c : RunRecord) : Type 0 where
+  pub devices : DevicesAccounted c.depot_old c.depot_new (all_places work) c.events
   pub ledger : KeepsRules work c.events
   pub ran : IsUnmade c ⊎ Ran work c

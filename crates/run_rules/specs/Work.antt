@@ -20,8 +20,8 @@ pub record Work : Type 1 where
   pub ideal_runs : ℕ → (ℕ → DeviceTold) → Outcomes
 
 -- the places of all rows, in the order of the rows
-abbrev pub places_of : Work → List Place
-places_of work = flat_map (λ s. s.places) work.streams
+abbrev pub all_places : Work → List Place
+all_places work = flat_map (λ s. s.places) work.streams
 
 abbrev pub names_from : ℕ → List Stream → List StreamNo
 names_from k [] = []
@@ -41,7 +41,7 @@ owners_of work = owners_from 0 work.streams
 
 -- What a run did: the depot before and after, the ends, the ledger, the whole frames that were printed and what was
 -- written of a further one; whether a write failed, and whether memory was wanting.
-pub record Deed : Type 0 where
+pub record RunRecord : Type 0 where
   pub depot_old : DepotTold
   pub depot_new : DepotTold
   pub ends : List EndOf

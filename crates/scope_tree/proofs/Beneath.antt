@@ -13,11 +13,11 @@ use Rattle.chunk_core.specs.Lists.IsAmong.{here, there}
 use Rattle.chunk_core.proofs.Members.{among_nil, among_cons, among_left}
 use Rattle.row_seat.specs.Views.{HasRow, noted}
 use Rattle.res_ledger.proofs.Growth.{noted_more, noted_new, within_more}
-use Rattle.res_ledger.specs.Own.{opens, rows, closes, up, above, is_closed, teardown, latest}
+use Rattle.res_ledger.specs.Own.{opens, rows, closes, up, ancestors, is_closed, teardown, latest}
 use Rattle.std.specs.List.{list_any as any}
-use Rattle.res_ledger.specs.Own.{below as beneath}
+use Rattle.res_ledger.specs.Own.{rows_beneath as beneath}
 use Rattle.scope_tree.specs.declared.branch.Branch.{Branch}
-use Rattle.scope_tree.specs.declared.branch.Held.{Held}
+use Rattle.scope_tree.specs.declared.branch.AcquiredRow.{AcquiredRow}
 use Rattle.scope_tree.specs.Kids.{lasts, kids, whole}
 use Rattle.scope_tree.specs.Released.{CanRelease}
 use Rattle.scope_tree.specs.Released.Holder.{owner}
@@ -40,7 +40,7 @@ pub data Under (bs : List Branch) (s : ℕ) : ℕ → Type 0 where
 pub shut_not : true ≡ false → ⊥
 shut_not e = cc
 
-module _ (bs : List Branch) (hs : List Held) where
+module _ (bs : List Branch) (hs : List AcquiredRow) where
   -- each row below s is one of an open scope below s
   kids_under : (r s n : ℕ) (cs : List Branch) → 1 ≤ n → length cs + n ≡ length bs → ((i : ℕ) (d : Branch) → i < length cs → slice_index_or cs i d ≡ slice_index_or bs (i + n) d) → IsAmong r (kids n cs hs s) → (t : ℕ) × IsAmong (r, t) (held_pairs hs) × ((a : ℕ) → Under bs a s → Under bs a t)
   kids_under r s n [] one len at m = absurd (among_nil m)
@@ -68,7 +68,7 @@ at_drop zero i d xs = let e : i ≡ i + zero = omega arith in ap (λ k. slice_in
 at_drop (suc n) i d [] = refl
 at_drop (suc n) i d (x ∷ xs) = let e : suc (i + n) ≡ i + suc n = omega arith in at_drop n i d xs ∙ ap (λ k. slice_index_or (x ∷ xs) k d) e
 
-pub whole_under : (bs : List Branch) (hs : List Held) (r s : ℕ) → s < length bs → IsAmong r (whole bs hs s) → (t : ℕ) × IsAmong (r, t) (held_pairs hs) × Under bs s t
+pub whole_under : (bs : List Branch) (hs : List AcquiredRow) (r s : ℕ) → s < length bs → IsAmong r (whole bs hs s) → (t : ℕ) × IsAmong (r, t) (held_pairs hs) × Under bs s t
 whole_under bs hs r s l m =
     ⊎_elim
     (λ k. let t = kids_under bs hs r s (suc s) (drop (suc s) bs) (omega arith) (length-drop' (suc s) bs (omega arith)) (λ i d q. at_drop (suc s) i d bs) k in (t.0, t.1, t.2 s self))
@@ -110,7 +110,7 @@ number_in s p (o ∷ os) m = ⊎_elim (λ e. subst (λ z. IsAmong s (z ∷ numbe
 module _ {P : Type 0} (v : View P) where
   pub closed_sound : (s : ℕ) → is_closed (words v) s ≡ true → IsClosed v.events v.by s
   closed_sound s h =
-      let t = any_found (λ a. has a (closes (words v))) (above (words v) s) h in (
+      let t = any_found (λ a. has a (closes (words v))) (ancestors (words v) s) h in (
         t.0,
         up_within v.events v.by (reverse (opens (words v))) s t.0 (λ c p m. in_noted v.by (Open c p) v.events (in_opens c p (words v) (among_reverse (c, p) (opens (words v)) m))) t.1,
         closes_notes v.events v.by t.0 (has_in t.0 (closes (words v)) t.2),
@@ -122,7 +122,7 @@ module _ {P : Type 0} (v : View P) where
     ⊎_elim (λ e. subst (λ z. IsAmong z (0 ∷ numbers (opens (words v)))) (sym e) (here (numbers (opens (words v))))) (λ o. there 0 (number_in s o.0 (opens (words v)) (opens_in s o.0 (words v) (noted_in v.by (Open s o.0) v.events o.1)))) u.0,
   )
 
-module _ {P : Type 0} (v : View P) (bs : List Branch) (hs : List Held) (k : Kept v bs hs) where
+module _ {P : Type 0} (v : View P) (bs : List Branch) (hs : List AcquiredRow) (k : Kept v bs hs) where
   -- the parent of a scope is noted
   pub noted_parent : (c p : ℕ) → 1 ≤ c → c < length bs → ((d : Branch) → (slice_index_or bs c d).parent ≡ p) → Notes v.events v.by (Open c p)
   noted_parent c p one l h =

@@ -9,7 +9,7 @@ use Rattle.res_ledger.specs.Ledger.{Notes, LiesWithin}
 use Rattle.res_ledger.specs.Ledger.LiesWithin.{same, below}
 use Rattle.chunk_core.specs.Lists.IsAmong.{here, there}
 use Rattle.chunk_core.proofs.Members.{among_nil, among_cons}
-use Rattle.res_ledger.specs.Own.{own, opens, opens_of, rows, rows_of, closes, closes_of}
+use Rattle.res_ledger.specs.Own.{own, opens, opens_of, rows, acquires_of, closes, closes_of}
 use Rattle.res_ledger.specs.Streams.{same_stream}
 use Rattle.scope_tree.specs.declared.branch.Branch.{Branch}
 use Rattle.scope_tree.specs.Kept.{marks}
@@ -31,7 +31,7 @@ pub opens_append : (E F : List What) → opens (E ++ F) ≡ opens E ++ opens F
 opens_append E F = flat_map-append opens_of E F
 
 pub rows_append : (E F : List What) → rows (E ++ F) ≡ rows E ++ rows F
-rows_append E F = flat_map-append rows_of E F
+rows_append E F = flat_map-append acquires_of E F
 
 pub closes_append : (E F : List What) → closes (E ++ F) ≡ closes E ++ closes F
 closes_append E F = flat_map-append closes_of E F
@@ -43,10 +43,10 @@ pub opens_in : (s p : ℕ) (E : List What) → IsAmong (Open s p) E → IsAmong 
 opens_in s p E m = flat_holds opens_of (Open s p) E (s, p) m (here [])
 
 pub in_rows : (r s : ℕ) (E : List What) → IsAmong (r, s) (rows E) → IsAmong (Acquire r s) E
-in_rows r s E m = let f = flat_found rows_of E (r, s) m in subst (λ w. IsAmong w E) (rows_shape f.0 (r, s) f.2) f.1
+in_rows r s E m = let f = flat_found acquires_of E (r, s) m in subst (λ w. IsAmong w E) (rows_shape f.0 (r, s) f.2) f.1
 
 pub rows_in : (r s : ℕ) (E : List What) → IsAmong (Acquire r s) E → IsAmong (r, s) (rows E)
-rows_in r s E m = flat_holds rows_of (Acquire r s) E (r, s) m (here [])
+rows_in r s E m = flat_holds acquires_of (Acquire r s) E (r, s) m (here [])
 
 pub marks_at : (bs : List Branch) (n i : ℕ) (d : Branch) → i < length bs → IsAmong (i + n, (slice_index_or bs i d).parent) (marks n bs)
 marks_at [] n i d l = absurd (omega arith)

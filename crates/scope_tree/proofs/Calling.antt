@@ -10,12 +10,12 @@ use Rattle.res_ledger.specs.Ledger.{IsUsable}
 use Rattle.row_seat.specs.declared.view.View.{View}
 use Rattle.row_seat.specs.Views.{AreApart, joined, noted}
 use Rattle.scope_tree.specs.declared.branch.Branch.{Branch}
-use Rattle.scope_tree.specs.declared.branch.Held.{Held}
+use Rattle.scope_tree.specs.declared.branch.AcquiredRow.{AcquiredRow}
 use Rattle.scope_tree.specs.declared.tree.Tree.{Tree}
-use Rattle.scope_tree.specs.Calls.{Cancels, IsClosedScope, IsOpenScope, KeepsScopes, Opens, Seen}
+use Rattle.scope_tree.specs.Calls.{Cancels, IsClosedScope, IsOpenScope, KeepsScopes, OpensScope, Seen}
 use Rattle.scope_tree.specs.Kept.{Kept, Shelved}
 use Rattle.scope_tree.specs.Released.{away, said}
-use Rattle.scope_tree.specs.Trees.{IsSound}
+use Rattle.scope_tree.specs.Trees.{IsConsistent}
 use Rattle.scope_tree.specs.Walks.{FirstOpen}
 use Rattle.scope_tree.specs.Walks.FirstOpen.{above_it, this_one}
 use Rattle.scope_tree.specs.Words.{opening, owed}
@@ -36,14 +36,14 @@ module _ {P : Type 0} where
     closed = λ s c. grown_closed g s c;
   })
 
-  first_below : (v : View P) (bs : List Branch) (hs : List Held) → Kept v bs hs → (c q : ℕ) → c < length bs → FirstOpen v.events v.by c q → q < length bs
+  first_below : (v : View P) (bs : List Branch) (hs : List AcquiredRow) → Kept v bs hs → (c q : ℕ) → c < length bs → FirstOpen v.events v.by c q → q < length bs
   first_below v bs hs k c q l (this_one e n) = l
   first_below v bs hs k c q l (above_it e p r x n f) =
       let z = noted_scope v bs hs k e p n in let d : Branch = record { parent = 0; shut = false } in let less = k.mirrors.parents e d z.0 l in let i = z.2 d in
       first_below v bs hs k p r (omega (less, i, l, arith)) f
 
   -- an opening leaves each open scope open, and one more
-  pub open_leaves : {a b : Seen P} {at c : ℕ} (o : Opens a at c b) (bs : List Branch) (hs : List Held) → Kept a.seat bs hs → at < length bs → owed a.seat + 2 ≤ a.seat.spare → IsOpenScope b c × KeepsScopes a b × (owed b.seat ≡ owed a.seat + 1)
+  pub open_leaves : {a b : Seen P} {at c : ℕ} (o : OpensScope a at c b) (bs : List Branch) (hs : List AcquiredRow) → Kept a.seat bs hs → at < length bs → owed a.seat + 2 ≤ a.seat.spare → IsOpenScope b c × KeepsScopes a b × (owed b.seat ≡ owed a.seat + 1)
   open_leaves {a = a} {b = b} {at = at} {c = c} o bs hs k l f =
       let u = first_usable a.seat bs hs k at o.parent (first_below a.seat bs hs k at o.parent l o.nearest) o.nearest in
       let n : c ≡ length bs = (let z = o.number in let y = ap length k.mirrors.opens in let m = length_marks bs k.mirrors.size in omega (z, y, m, arith)) in
@@ -73,7 +73,7 @@ module _ {P : Type 0} where
 
 -- another seat, by which the tree keeps the same
 module _ {S P D : Type 0} (view : S → View P) where
-  pub seated : (t : Tree S P D) (s : S) → Kept (view s) t.branches.items t.held.items → Shelved (view s) t.held.items t.shelf.items → IsSound view t → IsSound view (record t { seat = s })
+  pub seated : (t : Tree S P D) (s : S) → Kept (view s) t.branches.items t.held.items → Shelved (view s) t.held.items t.shelf.items → IsConsistent view t → IsConsistent view (record t { seat = s })
   seated t s k h z =
       let F = firsts (said t.shelf.items) in let u = used_is (view t.seat) t.branches.items t.held.items z.kept F in let u' = used_is (view s) t.branches.items t.held.items k F in let a = z.used in
       record { kept = k; shelved = h; used = omega (u, u', a, arith); branches = z.branches; held = z.held; shelf = z.shelf; limit = z.limit; rows_limit = z.rows_limit }

@@ -8,7 +8,7 @@ use Rattle.res_ledger.proofs.Growth.{noted_new}
 use Rattle.row_seat.specs.declared.view.View.{View}
 use Rattle.row_seat.specs.Views.{HasRow, noted}
 use Rattle.scope_tree.specs.declared.branch.Branch.{Branch}
-use Rattle.scope_tree.specs.declared.branch.Held.{Held}
+use Rattle.scope_tree.specs.declared.branch.AcquiredRow.{AcquiredRow}
 use Rattle.scope_tree.specs.declared.branch.Spent.{Spent}
 use Rattle.scope_tree.specs.Kept.{Kept}
 use Rattle.scope_tree.specs.Released.{CanRelease, Released, away, said}
@@ -20,7 +20,7 @@ use Rattle.scope_tree.proofs.Grown.{Grown, closes_finals, grown_noted, grown_rel
 use Rattle.scope_tree.proofs.Lessee.{lease_opened}
 use Rattle.scope_tree.proofs.Releasing.{released_can, released_most, released_spare}
 
-module _ {P : Type 0} (v : View P) (bs : List Branch) (hs : List Held) (j n : ℕ) (T : List ℕ) (x : Exit) (k : Kept v bs hs) (d : IsDistinct nat_eq T) (p : (r : ℕ) → IsAmong r T → IsAmong (j, r) v.pairs) (f : owed v + 1 + away T v.opened ≤ v.spare) where
+module _ {P : Type 0} (v : View P) (bs : List Branch) (hs : List AcquiredRow) (j n : ℕ) (T : List ℕ) (x : Exit) (k : Kept v bs hs) (d : IsDistinct nat_eq T) (p : (r : ℕ) → IsAmong r T → IsAmong (j, r) v.pairs) (f : owed v + 1 + away T v.opened ≤ v.spare) where
   pub cancel_can : CanRelease (lease j) T (noted v (canceling v j x n))
   cancel_can = record {
     distinct = d;

@@ -9,9 +9,9 @@ use Rattle.chunk_core.specs.Lists.{IsAmong, has}
 use Rattle.res_ledger.specs.Ledger.{LiesWithin, IsClosed, IsCoveredBy, IsOpened}
 use Rattle.chunk_core.specs.Lists.IsAmong.{here, there}
 use Rattle.chunk_core.proofs.Members.{among_nil, among_cons}
-use Rattle.res_ledger.specs.Own.{opens, rows, closes, up, above, is_closed, is_child, reaches, picked, leased_rows}
+use Rattle.res_ledger.specs.Own.{opens, rows, closes, up, ancestors, is_closed, is_child, reaches, picked, leased_rows}
 use Rattle.scope_tree.specs.declared.branch.Branch.{Branch}
-use Rattle.scope_tree.specs.declared.branch.Held.{Held}
+use Rattle.scope_tree.specs.declared.branch.AcquiredRow.{AcquiredRow}
 use Rattle.scope_tree.specs.Kept.{marks, Kept}
 use Rattle.scope_tree.specs.Words.{words}
 use Rattle.scope_tree.proofs.Bridge.{noted_in, in_noted, in_opens, opens_in, in_rows, rows_in, within_cases}
@@ -77,7 +77,7 @@ reach_of false b c h = (refl, either b c h)
 reach_to : (a b c : Bool) → a ≡ false → (b ≡ true) ⊎ (c ≡ true) → (not a && (b || c)) ≡ true
 reach_to a b c e h = and_true (not a) (b || c) (ap not e) (⊎_elim (λ i. or_left b c i) (λ i. or_right b c i) h)
 
-module _ {P : Type 0} (v : View P) (bs : List Branch) (hs : List Held) (k : Kept v bs hs) where
+module _ {P : Type 0} (v : View P) (bs : List Branch) (hs : List AcquiredRow) (k : Kept v bs hs) where
   up_down : (n s a : ℕ) → n < length bs → s ≤ n → LiesWithin v.events v.by s a → IsAmong a (up (down bs n) s)
   up_down zero s a l q w = ⊎_elim (λ e. subst (λ z. IsAmong z (s ∷ [])) e (here [])) (λ t. absurd (let o = noted_scope v bs hs k s t.0 t.1 in let z = o.0 in omega arith)) (within_cases w)
   up_down (suc n) s a l q w =
@@ -94,13 +94,13 @@ module _ {P : Type 0} (v : View P) (bs : List Branch) (hs : List Held) (k : Kept
       (cases_eq (suc n) s)
 
   -- a scope above s is found
-  pub above_in : (s a : ℕ) → s < length bs → LiesWithin v.events v.by s a → IsAmong a (above (words v) s)
+  pub above_in : (s a : ℕ) → s < length bs → LiesWithin v.events v.by s a → IsAmong a (ancestors (words v) s)
   above_in s a l w =
       let n = length bs - 1 in let z = k.mirrors.size in
       subst (λ o. IsAmong a (up o s)) (sym (ap reverse k.mirrors.opens ∙ reverse_marks bs k.mirrors.size)) (up_down n s a (omega arith) (omega arith) w)
 
   pub closed_complete : (s : ℕ) → s < length bs → IsClosed v.events v.by s → is_closed (words v) s ≡ true
-  closed_complete s l c = any_at (λ a. has a (closes (words v))) c.0 (above (words v) s) (above_in s c.0 l c.1) (in_has c.0 (closes (words v)) (notes_closes v.events v.by c.0 c.2))
+  closed_complete s l c = any_at (λ a. has a (closes (words v))) c.0 (ancestors (words v) s) (above_in s c.0 l c.1) (in_has c.0 (closes (words v)) (notes_closes v.events v.by c.0 c.2))
 
   closed_range : (s : ℕ) → IsClosed v.events v.by s → s < length bs
   closed_range s c = ⊎_elim (λ e. subst (λ z. z < length bs) (sym e) (k.mirrors.ended c.0 (notes_closes v.events v.by c.0 c.2))) (λ t. (noted_scope v bs hs k s t.0 t.1).1) (within_cases c.1)
@@ -110,11 +110,11 @@ module _ {P : Type 0} (v : View P) (bs : List Branch) (hs : List Held) (k : Kept
   leased_is s r l =
       let E = words v in
       let to : IsAmong r (leased_rows E s) → IsCoveredBy v.events v.by s r = λ m.
-      let t = any_picked (reaches E s) (rows E) r m in let q = reach_of (is_closed E t.0) (has t.0 (above E s)) (is_child (opens E) t.0 s) t.2 in (
+      let t = any_picked (reaches E s) (rows E) r m in let q = reach_of (is_closed E t.0) (has t.0 (ancestors E s)) (is_child (opens E) t.0 s) t.2 in (
         t.0,
         in_noted v.by (Acquire r t.0) v.events (in_rows r t.0 E t.1),
         ⊎_elim
-            (λ i. inr (up_within v.events v.by (reverse (opens E)) s t.0 (λ c p n. in_noted v.by (Open c p) v.events (in_opens c p E (among_reverse (c, p) (opens E) n))) (has_in t.0 (above E s) i)))
+            (λ i. inr (up_within v.events v.by (reverse (opens E)) s t.0 (λ c p n. in_noted v.by (Open c p) v.events (in_opens c p E (among_reverse (c, p) (opens E) n))) (has_in t.0 (ancestors E s) i)))
             (λ i. inl (in_noted v.by (Open t.0 s) v.events (in_opens t.0 s E (child_in (opens E) t.0 s i))))
             q.1,
         λ c. shut_not (sym (closed_complete t.0 (closed_range t.0 c) c) ∙ q.0),
@@ -122,28 +122,28 @@ module _ {P : Type 0} (v : View P) (bs : List Branch) (hs : List Held) (k : Kept
       let from : IsCoveredBy v.events v.by s r → IsAmong r (leased_rows E s) = λ c.
       let t = c.0 in
       picked_any (reaches E s) (rows E) r t (rows_in r t E (noted_in v.by (Acquire r t) v.events c.1))
-      (reach_to (is_closed E t) (has t (above E s)) (is_child (opens E) t s) (not_true' (is_closed E t) (λ h. c.3 (closed_sound v t h)))
+      (reach_to (is_closed E t) (has t (ancestors E s)) (is_child (opens E) t s) (not_true' (is_closed E t) (λ h. c.3 (closed_sound v t h)))
       (⊎_elim
       (λ o. inr (in_child (opens E) t s (opens_in t s E (noted_in v.by (Open t s) v.events o))))
-      (λ w. inl (in_has t (above E s) (above_in s t l w)))
+      (λ w. inl (in_has t (ancestors E s) (above_in s t l w)))
       c.2)) in
       (to, from)
 
   -- what a lease on s reaches, by what the tree keeps
   pub reach_closed : (s t : ℕ) → t < length bs → Shaded bs t → reaches (words v) s t ≡ false
-  reach_closed s t l x = ap (λ b. not b && (has t (above (words v) s) || is_child (opens (words v)) t s)) (closed_complete t l (shaded_closed v bs hs k t l x))
+  reach_closed s t l x = ap (λ b. not b && (has t (ancestors (words v) s) || is_child (opens (words v)) t s)) (closed_complete t l (shaded_closed v bs hs k t l x))
 
   open_is : (t : ℕ) → t < length bs → Clear bs t → is_closed (words v) t ≡ false
   open_is t l x = not_true' (is_closed (words v) t) (λ h. clear_open v bs hs k t l x (closed_sound v t h))
 
   pub reach_above : (s t : ℕ) → s < length bs → t < length bs → Clear bs t → StandsAbove bs s t → reaches (words v) s t ≡ true
-  reach_above s t l m x a = reach_to (is_closed (words v) t) (has t (above (words v) s)) (is_child (opens (words v)) t s) (open_is t m x) (inl (in_has t (above (words v) s) (above_in s t l (stands_within v bs hs k s t l a))))
+  reach_above s t l m x a = reach_to (is_closed (words v) t) (has t (ancestors (words v) s)) (is_child (opens (words v)) t s) (open_is t m x) (inl (in_has t (ancestors (words v) s) (above_in s t l (stands_within v bs hs k s t l a))))
 
   pub reach_child : (s t : ℕ) → s < length bs → t < length bs → Clear bs t → ¬ (StandsAbove bs s t) → reaches (words v) s t ≡ is_child (opens (words v)) t s
   reach_child s t l m x n =
       let E = words v in
-      let none : has t (above E s) ≡ false = not_true' (has t (above E s)) (λ h. n (within_stands v bs hs k (up_within v.events v.by (reverse (opens E)) s t (λ c p m. in_noted v.by (Open c p) v.events (in_opens c p E (among_reverse (c, p) (opens E) m))) (has_in t (above E s) h)))) in
-      ap (λ b. not b && (has t (above E s) || is_child (opens E) t s)) (open_is t m x) ∙ ap (λ b. b || is_child (opens E) t s) none
+      let none : has t (ancestors E s) ≡ false = not_true' (has t (ancestors E s)) (λ h. n (within_stands v bs hs k (up_within v.events v.by (reverse (opens E)) s t (λ c p m. in_noted v.by (Open c p) v.events (in_opens c p E (among_reverse (c, p) (opens E) m))) (has_in t (ancestors E s) h)))) in
+      ap (λ b. not b && (has t (ancestors E s) || is_child (opens E) t s)) (open_is t m x) ∙ ap (λ b. b || is_child (opens E) t s) none
 
   pub child_is : (s t : ℕ) → t < length bs → 1 ≤ t → ((d : Branch) → (slice_index_or bs t d).parent ≡ s) → is_child (opens (words v)) t s ≡ true
   child_is s t l one h = in_child (opens (words v)) t s (opens_in t s (words v) (noted_in v.by (Open t s) v.events (noted_parent v bs hs k t s one l h)))

@@ -14,15 +14,15 @@ use Rattle.res_ledger.specs.declared.event.What.TheVariants.{Acquire, Lease, Ope
 use Rattle.res_ledger.specs.Ledger.{IsAcquired, IsClosed, LiesWithin, Notes}
 use Rattle.res_ledger.specs.Ledger.LiesWithin.{below, same}
 use Rattle.res_ledger.specs.Order.{finals}
-use Rattle.res_ledger.specs.Own.{closes, closes_of, is_closed, opens, opens_of, own, rows, rows_of, up}
+use Rattle.res_ledger.specs.Own.{closes, closes_of, is_closed, opens, opens_of, own, rows, acquires_of, up}
 use Rattle.res_ledger.proofs.Growth.{noted_snoc}
 use Rattle.res_ledger.proofs.Noted.{closes_notes, notes_closes, notes_opens, notes_own, opens_notes, own_notes}
 use Rattle.row_seat.specs.declared.view.View.{View}
 use Rattle.row_seat.specs.Views.{HasRow, noted}
 use Rattle.scope_tree.specs.declared.branch.Branch.{Branch}
-use Rattle.scope_tree.specs.declared.branch.Held.{Held}
+use Rattle.scope_tree.specs.declared.branch.AcquiredRow.{AcquiredRow}
 use Rattle.scope_tree.specs.declared.branch.Spent.{Spent}
-use Rattle.scope_tree.specs.Kept.{Holds, Kept, Lends, Mirrors, held_pairs}
+use Rattle.scope_tree.specs.Kept.{HoldsRows, Kept, Lends, Mirrors, held_pairs}
 use Rattle.scope_tree.specs.Released.{Holder, Released, said}
 use Rattle.scope_tree.specs.Words.{numbers, open_of, open_scopes, owed, words}
 use Rattle.scope_tree.specs.Rows.{Once}
@@ -83,7 +83,7 @@ module _ {P : Type 0} where
   grown_release {x = x} {w = w} {ys = ys} v n e t =
       let g = grown_note v n e in let f = released_follows t in record {
         words = ap (λ b. own b w.events) (same_by f) ∙ released_own v.by t refl ∙ ap (λ l. l ++ finals x (said ys)) g.words ∙ append_assoc (words v) (e ∷ []) (finals x (said ys));
-        acquired = λ r a. ⊎_elim (λ m. inl m) (λ m. inr (m.0, subst (λ l. IsAmong (r, m.0) (rows_of e ++ l)) (sym (rows_finals x (said ys))) m.1)) (g.acquired r (a.0, a.1, follows_old f refl a.2));
+        acquired = λ r a. ⊎_elim (λ m. inl m) (λ m. inr (m.0, subst (λ l. IsAmong (r, m.0) (acquires_of e ++ l)) (sym (rows_finals x (said ys))) m.1)) (g.acquired r (a.0, a.1, follows_old f refl a.2));
       }
 
   module _ {v w : View P} {E : List What} (g : Grown v w E) where
@@ -98,7 +98,7 @@ module _ {P : Type 0} where
     grown_opens none = ap opens g.words ∙ drawn_same opens_of (words v) E none
 
     pub grown_rows : rows E ≡ [] → rows (words w) ≡ rows (words v)
-    grown_rows none = ap rows g.words ∙ drawn_same rows_of (words v) E none
+    grown_rows none = ap rows g.words ∙ drawn_same acquires_of (words v) E none
 
     pub grown_closes : closes E ≡ [] → closes (words w) ≡ closes (words v)
     grown_closes none = ap closes g.words ∙ drawn_same closes_of (words v) E none
@@ -119,7 +119,7 @@ pub owed_still : {P : Type 0} {v w : View P} {E : List What} → Grown v w E →
 owed_still g o c still = let s = grown_scopes g o c in let l = ap length still in omega (s, l, arith)
 
 -- with the same Opens, Acquires and Closes
-pub mirrors_same : {E F : List What} {bs : List Branch} {hs : List Held} → opens F ≡ opens E → rows F ≡ rows E → closes F ≡ closes E → Mirrors E bs hs → Mirrors F bs hs
+pub mirrors_same : {E F : List What} {bs : List Branch} {hs : List AcquiredRow} → opens F ≡ opens E → rows F ≡ rows E → closes F ≡ closes E → Mirrors E bs hs → Mirrors F bs hs
 mirrors_same o r c m = record {
   size = m.size;
   opens = o ∙ m.opens;
@@ -133,7 +133,7 @@ mirrors_same o r c m = record {
 
 module _ {P : Type 0} where
   -- where the same held rows' scopes are closed and the same rows are open
-  pub holds_same : (v w : View P) {hs : List Held} → ((r t : ℕ) → IsAmong (r, t) (held_pairs hs) → IsClosed v.events v.by t ↔ IsClosed w.events w.by t) → ((r : ℕ) → HasRow v.opened r ↔ HasRow w.opened r) → Once w.opened → Holds v hs → Holds w hs
+  pub holds_same : (v w : View P) {hs : List AcquiredRow} → ((r t : ℕ) → IsAmong (r, t) (held_pairs hs) → IsClosed v.events v.by t ↔ IsClosed w.events w.by t) → ((r : ℕ) → HasRow v.opened r ↔ HasRow w.opened r) → Once w.opened → HoldsRows v hs → HoldsRows w hs
   holds_same v w c o once h = record {
     live = λ r t m n. (o r).0 (h.live r t m (λ x. n ((c r t m).0 x)));
     only = λ r i. let y = h.only r ((o r).1 i) in (y.0, y.1, λ x. y.2 ((c r y.0 y.1).1 x));
@@ -148,7 +148,7 @@ module _ {P : Type 0} where
   }
 
   -- where no scope was opened or closed and no row acquired, the same rows are open, and no more are empty
-  pub kept_still : (v w : View P) {bs : List Branch} {hs : List Held} {E : List What} → Grown v w E → opens E ≡ [] → rows E ≡ [] → closes E ≡ [] → w.opened ≡ v.opened → ((r : ℕ) → IsAmong r w.empty → IsAmong r v.empty) → w.handed ≡ [] → w.taken ≡ [] → owed v ≤ w.spare → Lends w → Kept v bs hs → Kept w bs hs
+  pub kept_still : (v w : View P) {bs : List Branch} {hs : List AcquiredRow} {E : List What} → Grown v w E → opens E ≡ [] → rows E ≡ [] → closes E ≡ [] → w.opened ≡ v.opened → ((r : ℕ) → IsAmong r w.empty → IsAmong r v.empty) → w.handed ≡ [] → w.taken ≡ [] → owed v ≤ w.spare → Lends w → Kept v bs hs → Kept w bs hs
   kept_still v w g o r c still less handed taken free lends k = record {
     mirrors = mirrors_same (grown_opens g o) (grown_rows g r) (grown_closes g c) k.mirrors;
     holds = holds_same v w (λ q t m. (grown_closed g t, grown_back g o c t)) (λ q. (subst (λ l. HasRow l q) (sym still), subst (λ l. HasRow l q) still)) (subst Once (sym still) k.holds.once) k.holds;

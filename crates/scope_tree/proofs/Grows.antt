@@ -12,7 +12,7 @@ use Rattle.row_seat.specs.Views.{HasRow, noted, placed}
 use Rattle.res_ledger.specs.Own.{own, opens, rows, closes, up, is_closed}
 use Rattle.std.specs.List.{list_any as any, IsDistinct}
 use Rattle.scope_tree.specs.declared.branch.Branch.{Branch}
-use Rattle.scope_tree.specs.declared.branch.Held.{Held}
+use Rattle.scope_tree.specs.declared.branch.AcquiredRow.{AcquiredRow}
 use Rattle.scope_tree.specs.Kept.{marks, held_pairs, held_rows, Kept}
 use Rattle.scope_tree.specs.Words.{words, owed, acquiring, opening, open_of, open_scopes, numbers}
 use Rattle.scope_tree.specs.Calls.{AtStart}
@@ -32,19 +32,19 @@ use Rattle.res_ledger.proofs.Noted.{closes_notes, notes_closes, notes_opens, ope
 use Rattle.chunk_core.proofs.Bools.{has_in}
 use Rattle.std.proofs.lemmas.List.{reverse-append}
 
-pub pairs_snoc : (hs : List Held) (h : Held) → held_pairs (hs ++ h ∷ []) ≡ held_pairs hs ++ (h.row, h.scope) ∷ []
+pub pairs_snoc : (hs : List AcquiredRow) (h : AcquiredRow) → held_pairs (hs ++ h ∷ []) ≡ held_pairs hs ++ (h.row, h.scope) ∷ []
 pairs_snoc [] h = refl
 pairs_snoc (x ∷ hs) h = ap (λ l. let y : ℕ × ℕ = (x.row, x.scope) in y ∷ l) (pairs_snoc hs h)
 
-pub rows_snoc : (hs : List Held) (h : Held) → held_rows (hs ++ h ∷ []) ≡ held_rows hs ++ h.row ∷ []
+pub rows_snoc : (hs : List AcquiredRow) (h : AcquiredRow) → held_rows (hs ++ h ∷ []) ≡ held_rows hs ++ h.row ∷ []
 rows_snoc [] h = refl
 rows_snoc (x ∷ hs) h = ap (λ l. x.row ∷ l) (rows_snoc hs h)
 
-pub pair_of_row : (r : ℕ) (hs : List Held) → IsAmong r (held_rows hs) → (t : ℕ) × IsAmong (r, t) (held_pairs hs)
+pub pair_of_row : (r : ℕ) (hs : List AcquiredRow) → IsAmong r (held_rows hs) → (t : ℕ) × IsAmong (r, t) (held_pairs hs)
 pair_of_row r [] m = absurd (among_nil m)
 pair_of_row r (h ∷ hs) m = ⊎_elim (λ e. (h.scope, subst (λ z. IsAmong (z, h.scope) (held_pairs (h ∷ hs))) (sym e) (here (held_pairs hs)))) (λ n. let t = pair_of_row r hs n in let y : ℕ × ℕ = (h.row, h.scope) in (t.0, there y t.1)) (among_cons m)
 
-module _ {P : Type 0} (v : View P) (bs : List Branch) (hs : List Held) (r s n : ℕ) (p : P) (k : Kept v bs hs) (u : IsUsable v.events v.by s) (m : IsAmong r v.empty) (f : owed v + 2 ≤ v.spare) where
+module _ {P : Type 0} (v : View P) (bs : List Branch) (hs : List AcquiredRow) (r s n : ℕ) (p : P) (k : Kept v bs hs) (u : IsUsable v.events v.by s) (m : IsAmong r v.empty) (f : owed v + 2 ≤ v.spare) where
   abbrev now : View P
   now = placed (noted v (acquiring v r s n)) r p
 
@@ -72,7 +72,7 @@ module _ {P : Type 0} (v : View P) (bs : List Branch) (hs : List Held) (r s n : 
 
   pub acquire_keeps : Kept now bs (hs ++ record { row = r; scope = s } ∷ [])
   acquire_keeps =
-      let h : Held = record { row = r; scope = s } in
+      let h : AcquiredRow = record { row = r; scope = s } in
       let held : (y : ℕ × ℕ) → IsAmong y (held_pairs (hs ++ h ∷ [])) → IsAmong y (held_pairs hs) ⊎ (y ≡ (r, s)) = λ y i. among_snoc (held_pairs hs) y (r, s) (subst (λ l. IsAmong y l) (pairs_snoc hs h) i) in
       let more : (y : ℕ × ℕ) → IsAmong y (held_pairs hs ++ (r, s) ∷ []) → IsAmong y (held_pairs (hs ++ h ∷ [])) = λ y i. subst (λ l. IsAmong y l) (sym (pairs_snoc hs h)) i in
       let back = grown_back acquired_grown refl refl in record {
@@ -112,7 +112,7 @@ module _ {P : Type 0} (v : View P) (bs : List Branch) (hs : List Held) (r s n : 
         };
       }
 
-pub length_pairs : (hs : List Held) → length (held_pairs hs) ≡ length hs
+pub length_pairs : (hs : List AcquiredRow) → length (held_pairs hs) ≡ length hs
 length_pairs [] = refl
 length_pairs (h ∷ hs) = ap suc (length_pairs hs)
 
@@ -156,7 +156,7 @@ open_push E F (y ∷ xs) x h n =
     ap (λ b. cond b (open_of F (xs ++ x ∷ [])) (suc (open_of F (xs ++ x ∷ [])))) (h y (here xs))
     ∙ (elim (is_closed E y) as (λ b. cond b (open_of F (xs ++ x ∷ [])) (suc (open_of F (xs ++ x ∷ []))) ≡ cond b (open_of E xs) (suc (open_of E xs)) + 1) [ true ↦ t | false ↦ (omega arith) ])
 
-module _ {P : Type 0} (v : View P) (bs : List Branch) (hs : List Held) (p n : ℕ) (k : Kept v bs hs) (u : IsUsable v.events v.by p) (f : owed v + 2 ≤ v.spare) where
+module _ {P : Type 0} (v : View P) (bs : List Branch) (hs : List AcquiredRow) (p n : ℕ) (k : Kept v bs hs) (u : IsUsable v.events v.by p) (f : owed v + 2 ≤ v.spare) where
   abbrev then : View P
   then = noted v (opening v (length bs) p n)
 

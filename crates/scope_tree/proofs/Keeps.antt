@@ -14,13 +14,13 @@ use Rattle.res_ledger.specs.declared.event.What.TheVariants.{Close}
 use Rattle.res_ledger.specs.Ledger.{LiesWithin, IsClosed, IsUsable, NotesClose}
 use Rattle.res_ledger.specs.Ledger.LiesWithin.{same, below}
 use Rattle.res_ledger.specs.Order.{finals}
-use Rattle.res_ledger.specs.Own.{opens, rows, closes, up, above, is_closed}
+use Rattle.res_ledger.specs.Own.{opens, rows, closes, up, ancestors, is_closed}
 use Rattle.res_ledger.proofs.Noted.{closes_notes, notes_closes, notes_opens, opens_notes}
 use Rattle.chunk_core.proofs.Bools.{has_in, in_has, any_at}
 use Rattle.row_seat.specs.declared.view.View.{View}
 use Rattle.row_seat.specs.Views.{HasRow}
 use Rattle.scope_tree.specs.declared.branch.Branch.{Branch}
-use Rattle.scope_tree.specs.declared.branch.Held.{Held}
+use Rattle.scope_tree.specs.declared.branch.AcquiredRow.{AcquiredRow}
 use Rattle.scope_tree.specs.declared.branch.Spent.{Spent}
 use Rattle.scope_tree.specs.Kept.{marks, Kept}
 use Rattle.scope_tree.specs.Kids.{kids, whole, lasts}
@@ -77,7 +77,7 @@ open_one_less E F (x ∷ xs) s h m e f =
     ] refl)
     (among_cons m)
 
-module _ {P : Type 0} {ends : P → Exit → Bool → P → Type 0} {x : Exit} (v w : View P) (bs : List Branch) (hs : List Held) (ys : List (Spent P)) (s n : ℕ) (k : Kept v bs hs) (u : IsUsable v.events v.by s) (t : Released ends x owner (whole bs hs s) (shutting v s x n) ys w) where
+module _ {P : Type 0} {ends : P → Exit → Bool → P → Type 0} {x : Exit} (v w : View P) (bs : List Branch) (hs : List AcquiredRow) (ys : List (Spent P)) (s n : ℕ) (k : Kept v bs hs) (u : IsUsable v.events v.by s) (t : Released ends x owner (whole bs hs s) (shutting v s x n) ys w) where
   pub close_grown : Grown v w (Close s x ∷ finals x (said ys))
   close_grown = grown_release v n (Close s x) t
 
@@ -96,7 +96,7 @@ module _ {P : Type 0} {ends : P → Exit → Bool → P → Type 0} {x : Exit} (
       (any_more (λ a. has a (closes (words v))) (λ a. has a (closes (words w))) (up (reverse (opens (words v))) c) (λ a q. subst (λ l. has a l ≡ true) (sym closes_same) (has_append a (closes (words v)) (s ∷ []) q)) h)
 
   now_closed : is_closed (words w) s ≡ true
-  now_closed = any_at (λ a. has a (closes (words w))) s (above (words w) s) (up_self (reverse (opens (words w))) s) (subst (λ l. has s l ≡ true) (sym closes_same) (in_has s (closes (words v) ++ s ∷ []) (among_last (closes (words v)) s)))
+  now_closed = any_at (λ a. has a (closes (words w))) s (ancestors (words w) s) (up_self (reverse (opens (words w))) s) (subst (λ l. has s l ≡ true) (sym closes_same) (in_has s (closes (words v) ++ s ∷ []) (among_last (closes (words v)) s)))
 
   now_noted : NotesClose w.events w.by s
   now_noted = closes_notes w.events w.by s (subst (λ l. IsAmong s l) (sym closes_same) (among_last (closes (words v)) s))
@@ -171,7 +171,7 @@ pub within_trans : {L : List Event} {k : StreamNo} {s t a : ℕ} → LiesWithin 
 within_trans (same s) w = w
 within_trans (below s p t n u) w = below s p _ n (within_trans u w)
 
-module _ {P : Type 0} (v : View P) (bs : List Branch) (hs : List Held) (k : Kept v bs hs) where
+module _ {P : Type 0} (v : View P) (bs : List Branch) (hs : List AcquiredRow) (k : Kept v bs hs) where
   -- each scope lies within the root
   pub under_root : (n t : ℕ) → t ≤ n → t < length bs → LiesWithin v.events v.by t 0
   under_root n zero q l = same 0

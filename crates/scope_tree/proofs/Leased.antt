@@ -10,9 +10,9 @@ use Rattle.res_ledger.specs.Ledger.{IsClosed, IsLeased, IsUsable, Notes}
 use Rattle.res_ledger.specs.Own.{leased_rows, picked, reaches}
 use Rattle.res_ledger.proofs.Growth.{noted_more, noted_new}
 use Rattle.row_seat.specs.declared.view.View.{View}
-use Rattle.row_seat.specs.Views.{HasRow, IsFresh, MayNote, noted}
+use Rattle.row_seat.specs.Views.{HasRow, IsFreshStamp, MayNote, noted}
 use Rattle.scope_tree.specs.declared.branch.Branch.{Branch}
-use Rattle.scope_tree.specs.declared.branch.Held.{Held}
+use Rattle.scope_tree.specs.declared.branch.AcquiredRow.{AcquiredRow}
 use Rattle.scope_tree.specs.declared.branch.Spent.{Spent}
 use Rattle.scope_tree.specs.Kept.{Kept, Lends, Shelved, held_pairs, held_rows}
 use Rattle.scope_tree.specs.Leased.{leased_all, pairs_for}
@@ -33,21 +33,21 @@ picked_append f [] ys = refl
 picked_append f (x ∷ xs) ys = elim (f x.1) as (λ b. cond b (x.0 ∷ picked f (xs ++ ys)) (picked f (xs ++ ys)) ≡ cond b (x.0 ∷ picked f xs) (picked f xs) ++ picked f ys) [ true ↦ ap (λ l. x.0 ∷ l) (picked_append f xs ys) | false ↦ picked_append f xs ys ]
 
 -- the rows of the first held ones that pass
-pub picked_next : (f : ℕ → Bool) (hs : List Held) (i n : ℕ) (d : Held) → n ≡ suc i → i < length hs → let h = slice_index_or hs i d in picked f (held_pairs (take n hs)) ≡ picked f (held_pairs (take i hs)) ++ cond (f h.scope) (h.row ∷ []) []
+pub picked_next : (f : ℕ → Bool) (hs : List AcquiredRow) (i n : ℕ) (d : AcquiredRow) → n ≡ suc i → i < length hs → let h = slice_index_or hs i d in picked f (held_pairs (take n hs)) ≡ picked f (held_pairs (take i hs)) ++ cond (f h.scope) (h.row ∷ []) []
 picked_next f hs i n d e l = let h = slice_index_or hs i d in ap (λ x. picked f (held_pairs x)) (take_next hs i n d e l) ∙ ap (picked f) (pairs_snoc (take i hs) h) ∙ picked_append f (held_pairs (take i hs)) ((h.row, h.scope) ∷ [])
 
-picked_held : (f : ℕ → Bool) (hs : List Held) (r : ℕ) → IsAmong r (picked f (held_pairs hs)) → IsAmong r (held_rows hs)
+picked_held : (f : ℕ → Bool) (hs : List AcquiredRow) (r : ℕ) → IsAmong r (picked f (held_pairs hs)) → IsAmong r (held_rows hs)
 picked_held f [] r m = absurd (among_nil m)
 picked_held f (h ∷ hs) r m = (elim (f h.scope) as (λ b. IsAmong r (cond b (h.row ∷ picked f (held_pairs hs)) (picked f (held_pairs hs))) → IsAmong r (held_rows (h ∷ hs))) [
   | true ↦ λ n. ⊎_elim (λ e. subst (λ z. IsAmong z (held_rows (h ∷ hs))) (sym e) (here (held_rows hs))) (λ i. there h.row (picked_held f hs r i)) (among_cons n)
   | false ↦ λ n. there h.row (picked_held f hs r n)
 ]) m
 
-picked_distinct : (f : ℕ → Bool) (hs : List Held) → IsDistinct nat_eq (held_rows hs) → IsDistinct nat_eq (picked f (held_pairs hs))
+picked_distinct : (f : ℕ → Bool) (hs : List AcquiredRow) → IsDistinct nat_eq (held_rows hs) → IsDistinct nat_eq (picked f (held_pairs hs))
 picked_distinct f [] d = distinct_nil
 picked_distinct f (h ∷ hs) d = elim (f h.scope) as (λ b. IsDistinct nat_eq (cond b (h.row ∷ picked f (held_pairs hs)) (picked f (held_pairs hs)))) [ true ↦ distinct_cons h.row (picked f (held_pairs hs)) (λ m. distinct_head h.row (held_rows hs) d (picked_held f hs h.row m)) (picked_distinct f hs (distinct_tail h.row (held_rows hs) d)) | false ↦ picked_distinct f hs (distinct_tail h.row (held_rows hs) d) ]
 
-module _ {P : Type 0} (v : View P) (bs : List Branch) (hs : List Held) (xs : List (Spent P)) (k : Kept v bs hs) (s : Shelved v hs xs) (c j : ℕ) (u : IsUsable v.events v.by c) where
+module _ {P : Type 0} (v : View P) (bs : List Branch) (hs : List AcquiredRow) (xs : List (Spent P)) (k : Kept v bs hs) (s : Shelved v hs xs) (c j : ℕ) (u : IsUsable v.events v.by c) where
   pub lease_rows_open : (r : ℕ) → IsAmong r (leased_rows (words v) c) → HasRow v.opened r
   lease_rows_open r m =
       let t = (leased_is v bs hs k c r (usable_scope v bs hs k c u)).0 m in
@@ -98,7 +98,7 @@ module _ {P : Type 0} (v : View P) (bs : List Branch) (hs : List Held) (xs : Lis
     pub lease_keeps : owed v + 2 ≤ v.spare → Kept w bs hs
     lease_keeps f = kept_still v w lease_grown refl refl refl refl (λ r m. m) k.rests.handed k.rests.taken (omega (f, arith)) lease_lends k
 
-    pub lease_shelved : IsFresh v n → Shelved w hs xs
+    pub lease_shelved : IsFreshStamp v n → Shelved w hs xs
     lease_shelved f =
         let a = note_shelved v hs xs n (Lease j c) refl f s in record {
           said_are = a.said_are;

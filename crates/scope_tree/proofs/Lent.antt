@@ -8,14 +8,14 @@ use Rattle.row_seat.specs.declared.view.View.{View}
 use Rattle.row_seat.specs.Views.{HasRow, paid, with_row}
 use Rattle.row_seat.proofs.Hands.{has_cons, has_nil}
 use Rattle.scope_tree.specs.declared.branch.Branch.{Branch}
-use Rattle.scope_tree.specs.declared.branch.Held.{Held}
+use Rattle.scope_tree.specs.declared.branch.AcquiredRow.{AcquiredRow}
 use Rattle.scope_tree.specs.declared.branch.Spent.{Spent}
 use Rattle.scope_tree.specs.declared.tree.Tree.{Tree}
 use Rattle.scope_tree.specs.Calls.{Seen, used}
 use Rattle.scope_tree.specs.Kept.{Kept, Shelved}
-use Rattle.scope_tree.specs.Lending.{lent}
+use Rattle.scope_tree.specs.Lending.{lent_tree}
 use Rattle.scope_tree.specs.Rows.{Once}
-use Rattle.scope_tree.specs.Trees.{Fits, IsSound, seen}
+use Rattle.scope_tree.specs.Trees.{Fits, IsConsistent, seen}
 use Rattle.scope_tree.proofs.Grown.{holds_same, lends_less}
 use Rattle.scope_tree.proofs.Once.{once_cons, once_head, once_tail}
 
@@ -64,7 +64,7 @@ module _ {P : Type 0} (r : ℕ) (w : P) where
       (λ ne. subst (λ b. IsAmong (r, w) (cond b ((x.0, w) ∷ xs) (x ∷ with_row r w xs))) (sym (ne_eqb x.0 r ne)) (there x (with_pay xs (⊎_elim (λ e. absurd (ne e)) (λ n. n) (has_cons x xs r h)))))
       (cases_eq x.0 r)
 
-  pub paid_keeps : (v : View P) (bs : List Branch) (hs : List Held) → Kept v bs hs → Kept (paid v r w) bs hs
+  pub paid_keeps : (v : View P) (bs : List Branch) (hs : List AcquiredRow) → Kept v bs hs → Kept (paid v r w) bs hs
   paid_keeps v bs hs k = record {
     mirrors = k.mirrors;
     holds = holds_same v (paid v r w) (λ q t m. ((λ c. c), (λ c. c))) (λ q. (has_with v.opened q, with_has v.opened q)) (once_with v.opened k.holds.once) k.holds;
@@ -72,7 +72,7 @@ module _ {P : Type 0} (r : ℕ) (w : P) where
     rests = record { handed = k.rests.handed; taken = k.rests.taken; empty = k.rests.empty; spare = let l = length_with v.opened in let s = k.rests.spare in omega (l, s, arith) };
   }
 
-  pub paid_shelved : (v : View P) (hs : List Held) (xs : List (Spent P)) → Shelved v hs xs → Shelved (paid v r w) hs xs
+  pub paid_shelved : (v : View P) (hs : List AcquiredRow) (xs : List (Spent P)) → Shelved v hs xs → Shelved (paid v r w) hs xs
   paid_shelved v hs xs s = record {
     said_are = s.said_are;
     distinct = s.distinct;
@@ -86,15 +86,15 @@ module _ {P : Type 0} (r : ℕ) (w : P) where
 
 -- by what a seat's laws say of a payload that was lent
 module _ {S P D : Type 0} (view : S → View P) (with_pay : S → ℕ → P → S) (pay_view : (s : S) (r : ℕ) (w : P) → view (with_pay s r w) ≡ paid (view s) r w) where
-  pub lent_seen : (t : Tree S P D) (r : ℕ) (w : P) → seen view (lent with_pay t r w) ≡ record (seen view t) { seat = paid (view t.seat) r w }
+  pub lent_seen : (t : Tree S P D) (r : ℕ) (w : P) → seen view (lent_tree with_pay t r w) ≡ record (seen view t) { seat = paid (view t.seat) r w }
   lent_seen t r w = ap (λ v. let a : Seen P = record { seat = v; shelf = t.shelf.items; scopes = t.scopes; rows = t.rows } in a) (pay_view t.seat r w)
 
-  lent_sound : (t : Tree S P D) (r : ℕ) (w : P) → IsSound view t → IsSound view (lent with_pay t r w)
+  lent_sound : (t : Tree S P D) (r : ℕ) (w : P) → IsConsistent view t → IsConsistent view (lent_tree with_pay t r w)
   lent_sound t r w s =
       let e = sym (pay_view t.seat r w) in record {
         kept = subst (λ v. Kept v t.branches.items t.held.items) e (paid_keeps r w (view t.seat) t.branches.items t.held.items s.kept);
         shelved = subst (λ v. Shelved v t.held.items t.shelf.items) e (paid_shelved r w (view t.seat) t.held.items t.shelf.items s.shelved);
-        used = let u : used (seen view (lent with_pay t r w)) ≡ used (seen view t) = ap used (lent_seen t r w) in let o = s.used in omega (u, o, arith);
+        used = let u : used (seen view (lent_tree with_pay t r w)) ≡ used (seen view t) = ap used (lent_seen t r w) in let o = s.used in omega (u, o, arith);
         branches = s.branches;
         held = s.held;
         shelf = s.shelf;
@@ -102,5 +102,5 @@ module _ {S P D : Type 0} (view : S → View P) (with_pay : S → ℕ → P → 
         rows_limit = s.rows_limit;
       }
 
-  pub lent_fits : (fits : S → D → Type 0) → ((s : S) (r : ℕ) (w : P) (d : D) → fits s d → fits (with_pay s r w) d) → (t : Tree S P D) (r : ℕ) (w : P) (d : D) → Fits view fits t d → Fits view fits (lent with_pay t r w) d
+  pub lent_fits : (fits : S → D → Type 0) → ((s : S) (r : ℕ) (w : P) (d : D) → fits s d → fits (with_pay s r w) d) → (t : Tree S P D) (r : ℕ) (w : P) (d : D) → Fits view fits t d → Fits view fits (lent_tree with_pay t r w) d
   lent_fits fits pay_fits t r w d f = record { seat = pay_fits t.seat r w d f.seat; sound = lent_sound t r w f.sound }

@@ -9,7 +9,7 @@ use Rattle.res_ledger.specs.Ledger.{IsClosed}
 use Rattle.res_ledger.specs.Own.{is_closed, opens}
 use Rattle.row_seat.specs.declared.view.View.{View}
 use Rattle.scope_tree.specs.declared.branch.Branch.{Branch}
-use Rattle.scope_tree.specs.declared.branch.Held.{Held}
+use Rattle.scope_tree.specs.declared.branch.AcquiredRow.{AcquiredRow}
 use Rattle.scope_tree.specs.Kept.{Kept}
 use Rattle.scope_tree.specs.Words.{numbers, open_of, open_scopes, owed, words}
 use Rattle.scope_tree.proofs.Beneath.{noted_scope}
@@ -25,7 +25,7 @@ none_open : (E : List What) (xs : List ℕ) → ((s : ℕ) → IsAmong s xs → 
 none_open E [] h = refl
 none_open E (x ∷ xs) h = ap (λ b. cond b (open_of E xs) (suc (open_of E xs))) (h x (here xs)) ∙ none_open E xs (λ s m. h s (there x m))
 
-pub nothing_owed : {P : Type 0} (v : View P) (bs : List Branch) (hs : List Held) → Kept v bs hs → IsClosed v.events v.by 0 → owed v ≡ 0
+pub nothing_owed : {P : Type 0} (v : View P) (bs : List Branch) (hs : List AcquiredRow) → Kept v bs hs → IsClosed v.events v.by 0 → owed v ≡ 0
 nothing_owed v bs hs k c =
     let shut : (s : ℕ) → s < length bs → is_closed (words v) s ≡ true = λ s l. closed_complete v bs hs k s l (root_closes v bs hs k s l c) in
     let a : open_scopes (words v) ≡ 0 = none_open (words v) (0 ∷ numbers (opens (words v))) (λ s m. ⊎_elim

@@ -23,7 +23,7 @@ use Rattle.res_ledger.proofs.Tests.{name}
 use Rattle.row_seat.specs.declared.view.View.{View}
 use Rattle.row_seat.specs.Views.{AreApart, AtRest, CanSplit, joined, run, split_main, split_off, within}
 use Rattle.scope_tree.specs.declared.branch.Branch.{Branch}
-use Rattle.scope_tree.specs.declared.branch.Held.{Held}
+use Rattle.scope_tree.specs.declared.branch.AcquiredRow.{AcquiredRow}
 use Rattle.scope_tree.specs.declared.branch.Spent.{Spent}
 use Rattle.scope_tree.specs.Calls.{AtStart}
 use Rattle.scope_tree.specs.Kept.{Kept, Shelved}
@@ -36,7 +36,7 @@ run_among : (r n k : ℕ) → IsAmong r (run n k) → (n ≤ r) × (r < n + k)
 run_among r n zero m = absurd (among_nil m)
 run_among r n (suc k) m = ⊎_elim (λ e. (omega (e, arith), omega (e, arith))) (λ i. let t = run_among r (suc n) k i in let a = t.0 in let b = t.1 in (omega (a, arith), omega (b, arith))) (among_cons m)
 
-module _ {P : Type 0} (v : View P) (bs : List Branch) (hs : List Held) (xs : List (Spent P)) (k : Kept v bs hs) (s : Shelved v hs xs) (j from to n : ℕ) where
+module _ {P : Type 0} (v : View P) (bs : List Branch) (hs : List AcquiredRow) (xs : List (Spent P)) (k : Kept v bs hs) (s : Shelved v hs xs) (j from to n : ℕ) where
   fewer_pairs : (y : ℕ × ℕ) → IsAmong y (split_main v j from to n).pairs → IsAmong y v.pairs
   fewer_pairs y m = (among_filter (λ x. not (eqb x.0 j)) y v.pairs m).0
 
@@ -103,7 +103,7 @@ module _ {P : Type 0} where
       (t.0, (e.0, own_notes v.events v.by (Final r e.0 t.0) (subst (λ w. IsAmong w (words v)) e.1 f.1)))
 
   -- what is on the shelf has its Final
-  pub shelf_final : (v : View P) (hs : List Held) (xs : List (Spent P)) → Shelved v hs xs → (r : ℕ) → IsAmong r (firsts (said xs)) → (ok : Bool) × NotesFinal v.events v.by r ok
+  pub shelf_final : (v : View P) (hs : List AcquiredRow) (xs : List (Spent P)) → Shelved v hs xs → (r : ℕ) → IsAmong r (firsts (said xs)) → (ok : Bool) × NotesFinal v.events v.by r ok
   shelf_final v hs xs s r m = ended_final v (said xs) s.said_are r m
 
   -- a seat that is taken in notes nothing in the name of the main one
@@ -113,7 +113,7 @@ module _ {P : Type 0} where
   pub join_owed : (v w : View P) → AreApart v w → owed (joined v w) ≡ owed v
   join_owed v w a = ap (λ E. open_scopes E + length v.opened) (join_words v w a)
 
-module _ {P : Type 0} (v w : View P) (bs : List Branch) (hs : List Held) (xs : List (Spent P)) (k : Kept v bs hs) (s : Shelved v hs xs) (a : AreApart v w) (rest : AtRest w) where
+module _ {P : Type 0} (v w : View P) (bs : List Branch) (hs : List AcquiredRow) (xs : List (Spent P)) (k : Kept v bs hs) (s : Shelved v hs xs) (a : AreApart v w) (rest : AtRest w) where
   same_words : words (joined v w) ≡ words v
   same_words = join_words v w a
 

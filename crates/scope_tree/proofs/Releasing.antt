@@ -14,7 +14,7 @@ use Rattle.row_seat.specs.declared.view.Left.TheVariants.{Stays, Yours}
 use Rattle.row_seat.specs.declared.view.View.{View}
 use Rattle.row_seat.specs.Views.{without}
 use Rattle.scope_tree.specs.declared.branch.Spent.{Spent}
-use Rattle.scope_tree.specs.Released.{CanLetGo, CanRelease, Finalizes, Holder, LetsGo, Released, Releases, away, finalized, most, said}
+use Rattle.scope_tree.specs.Released.{CanLetGo, CanRelease, Finalizes, Holder, LetsGo, Released, Releases, away, finalized, most_let_go, said}
 use Rattle.scope_tree.specs.Released.Holder.{owner, lease}
 use Rattle.scope_tree.specs.Released.Released.{done, stays, ends_so}
 use Rattle.scope_tree.proofs.Bridge.{own_snoc}
@@ -36,15 +36,15 @@ module _ {P : Type 0} where
   still_can (lease j) v w r q f o p ne c = (subst (λ l. IsAmong (j, q) l) (sym p) (other_pair j r (j, q) v.pairs (λ z. ne z.1) c.0), (c.1.0, follows_mine f c.1.1))
 
   -- what isn't open here ends at most once
-  most_stays : (h : Holder) (v u : View P) (r : ℕ) (T : List ℕ) → LetGo h v r Stays u → most h T u ≤ most h (r ∷ T) v
+  most_stays : (h : Holder) (v u : View P) (r : ℕ) (T : List ℕ) → LetGo h v r Stays u → most_let_go h T u ≤ most_let_go h (r ∷ T) v
   most_stays owner v u r T l = omega arith
   most_stays (lease j) v u r T l = let m = away_more r T v.opened in let e = ap (away T) l.opened in omega (m, e, arith)
 
-  most_ends : (h : Holder) (v u : View P) (r : ℕ) (T : List ℕ) → LetsGo h v r Yours u → suc (most h T u) ≤ most h (r ∷ T) v
+  most_ends : (h : Holder) (v u : View P) (r : ℕ) (T : List ℕ) → LetsGo h v r Yours u → suc (most_let_go h T u) ≤ most_let_go h (r ∷ T) v
   most_ends owner v u r T l = omega arith
   most_ends (lease j) v u r T l = let m = away_one r T v.opened l.2.closed in let e = ap (away T) (let_go (lease j) v r Yours u l).opened in omega (m, e, arith)
 
-  most_front : (h : Holder) (T U : List ℕ) (v : View P) → most h T v ≤ most h (T ++ U) v
+  most_front : (h : Holder) (T U : List ℕ) (v : View P) → most_let_go h T v ≤ most_let_go h (T ++ U) v
   most_front owner T U v = let l = length-append T U in omega arith
   most_front (lease j) T U v = let l = away_append T U v.opened in omega arith
 
@@ -60,7 +60,7 @@ module _ {P : Type 0} where
   pub can_ends : (h : Holder) (x : Exit) (v u : View P) (y : Spent P) (n : ℕ) (T : List ℕ) → LetsGo h v y.row Yours u → CanRelease h (y.row ∷ T) v → CanRelease h T (finalized x u y n)
   can_ends h x v u y n T l c =
       let g = let_go h v y.row Yours u l in let w = finalized x u y n in
-      let most_same : (k : Holder) → most k T w ≡ most k T u = elim [ owner ↦ refl | lease j ↦ refl ] in record {
+      let most_same : (k : Holder) → most_let_go k T w ≡ most_let_go k T u = elim [ owner ↦ refl | lease j ↦ refl ] in record {
         distinct = distinct_tail y.row T c.distinct;
         rows = λ q m. still_can h v w y.row q (follows_then (go_follows g) (end_follows x u y n)) g.opened g.pairs (other T y.row q (distinct_head y.row T c.distinct) m) (c.rows q (there y.row m));
         handed = ap (without y.row) g.handed ∙ without_self y.row v.handed c.handed;
@@ -89,12 +89,12 @@ module _ {P : Type 0} where
     released_append (ends_so v u y n l f t) s = ends_so v u y n l f (released_append t s)
 
     -- what ended, and what may end of further rows
-    pub released_most : {T : List ℕ} (U : List ℕ) {v w : View P} {ys : List (Spent P)} → Released ends x h T v ys w → length ys + most h U w ≤ most h (T ++ U) v
+    pub released_most : {T : List ℕ} (U : List ℕ) {v w : View P} {ys : List (Spent P)} → Released ends x h T v ys w → length ys + most_let_go h U w ≤ most_let_go h (T ++ U) v
     released_most U (done v) = omega arith
     released_most U (stays {T = T} v u r l t) = let a = released_most U t in let b = most_stays h v u r (T ++ U) (let_go h v r Stays u l) in omega (a, b, arith)
     released_most U (ends_so {T = T} v u y n l f t) =
         let a = released_most U t in let b = most_ends h v u y.row (T ++ U) l in
-        let same : (k : Holder) → most k (T ++ U) (finalized x u y n) ≡ most k (T ++ U) u = elim [ owner ↦ refl | lease j ↦ refl ] in
+        let same : (k : Holder) → most_let_go k (T ++ U) (finalized x u y n) ≡ most_let_go k (T ++ U) u = elim [ owner ↦ refl | lease j ↦ refl ] in
         let e = same h in omega (a, b, e, arith)
 
     pub released_spare : {T : List ℕ} {v w : View P} {ys : List (Spent P)} → Released ends x h T v ys w → v.spare ≤ w.spare + length ys
@@ -137,7 +137,7 @@ module _ {P : Type 0} where
     pub next_can : (W D N X : List ℕ) (v w : View P) (a b : List (Spent P)) → W ≡ (D ++ N) ++ X → CanRelease h W v → Releases ends x h D v a b w → CanRelease h N w
     next_can W D N X v w a b e c t = released_can t.2 (can_front h (D ++ N) X v (subst (λ l. CanRelease h l v) e c))
 
-    pub next_room : (W D N X : List ℕ) (v w : View P) (a b : List (Spent P)) → W ≡ (D ++ N) ++ X → Releases ends x h D v a b w → length b + most h N w ≤ length a + most h W v
+    pub next_room : (W D N X : List ℕ) (v w : View P) (a b : List (Spent P)) → W ≡ (D ++ N) ++ X → Releases ends x h D v a b w → length b + most_let_go h N w ≤ length a + most_let_go h W v
     next_room W D N X v w a b e t =
-        let m = released_most N t.2 in let f = most_front h (D ++ N) X v in let p = ap (λ l. most h l v) e in let q = ap length t.1 in let l = length-append a t.0 in
+        let m = released_most N t.2 in let f = most_front h (D ++ N) X v in let p = ap (λ l. most_let_go h l v) e in let q = ap length t.1 in let l = length-append a t.0 in
         omega (m, f, p, q, l, arith)

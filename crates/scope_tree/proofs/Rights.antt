@@ -16,7 +16,7 @@ use Rattle.res_ledger.specs.Own.{leased_of}
 use Rattle.res_ledger.proofs.Growth.{noted_snoc}
 use Rattle.row_seat.specs.declared.view.View.{View}
 use Rattle.row_seat.specs.Views.{AtRest, joined, kept_after, noted, split_main, start, without}
-use Rattle.scope_tree.specs.Calls.{Cancels, Closes, Seen}
+use Rattle.scope_tree.specs.Calls.{Cancels, ClosesScope, Seen}
 use Rattle.scope_tree.specs.Leased.{leased_all, pairs_for}
 use Rattle.scope_tree.specs.Rights.{AddsLease, DropsLease, HasNoLeaseBut, IsNewStream, IsSameSeat, KeepsLeases}
 use Rattle.scope_tree.specs.Words.{canceling, leasing}
@@ -69,10 +69,10 @@ module _ {P : Type 0} where
   follows_seat f = record { by = ap (λ z. z.by) f.same; main = ap (λ z. z.main) f.same; had = ap (λ z. z.had) f.same; out = ap (λ z. z.out) f.same }
 
   module _ {ends : P → Exit → Bool → P → Type 0} {x : Exit} {a b : Seen P} where
-    pub close_seat : {s : ℕ} → Closes ends a s x b → IsSameSeat a.seat b.seat
+    pub close_seat : {s : ℕ} → ClosesScope ends a s x b → IsSameSeat a.seat b.seat
     close_seat c = let f = follows_seat (released_follows c.torn.2) in record { by = f.by; main = f.main; had = f.had; out = f.out }
 
-    pub close_leases : {s : ℕ} → Closes ends a s x b → KeepsLeases a.seat b.seat
+    pub close_leases : {s : ℕ} → ClosesScope ends a s x b → KeepsLeases a.seat b.seat
     close_leases {s = s} c =
         let f = released_follows c.torn.2 in let o = follows_seat f in
         keeps a.seat b.seat o.by o.had (ap (λ z. z.kept) f.same) (owner_pairs c.torn.2) (λ j l. lease_before a.seat.events (record { stamp = c.stamp; by = a.seat.by; what = Close s x }) refl j (follows_leases f j l))

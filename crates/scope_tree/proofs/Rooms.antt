@@ -10,7 +10,7 @@ use Rattle.chunk_core.proofs.Bools.{in_has}
 use Rattle.row_seat.specs.declared.view.View.{View}
 use Rattle.row_seat.specs.Views.{HasRow}
 use Rattle.scope_tree.specs.declared.branch.Branch.{Branch}
-use Rattle.scope_tree.specs.declared.branch.Held.{Held}
+use Rattle.scope_tree.specs.declared.branch.AcquiredRow.{AcquiredRow}
 use Rattle.scope_tree.specs.declared.branch.Spent.{Spent}
 use Rattle.scope_tree.specs.Released.{away, is_here}
 use Rattle.scope_tree.specs.Rows.{strangers}
@@ -57,7 +57,7 @@ strangers_filter own f (r ∷ T) =
       | false ↦ elim (has r own) as (λ b. strangers own (filter f T) ≤ cond b (strangers own T) (suc (strangers own T))) [ true ↦ t | false ↦ omega (t, arith) ]
     ]
 
-module _ {P : Type 0} (v : View P) (bs : List Branch) (hs : List Held) (k : Kept v bs hs) where
+module _ {P : Type 0} (v : View P) (bs : List Branch) (hs : List AcquiredRow) (k : Kept v bs hs) where
   pub own_is : own_rows v ≡ held_rows hs
   own_is = ap numbers k.mirrors.rows ∙ numbers_held hs
 

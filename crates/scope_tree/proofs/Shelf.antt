@@ -20,8 +20,8 @@ use Rattle.res_ledger.specs.Rising.{Rises}
 use Rattle.row_seat.specs.declared.view.Left.{Left}
 use Rattle.row_seat.specs.declared.view.Left.TheVariants.{Stays, Yours}
 use Rattle.row_seat.specs.declared.view.View.{View}
-use Rattle.row_seat.specs.Views.{HasPair, HasRow, IsFresh, noted, without_pair}
-use Rattle.scope_tree.specs.declared.branch.Held.{Held}
+use Rattle.row_seat.specs.Views.{HasPair, HasRow, IsFreshStamp, noted, without_pair}
+use Rattle.scope_tree.specs.declared.branch.AcquiredRow.{AcquiredRow}
 use Rattle.scope_tree.specs.declared.branch.Spent.{Spent}
 use Rattle.scope_tree.specs.Rows.{Once}
 use Rattle.std.specs.List.{IsDistinct}
@@ -46,7 +46,7 @@ pub by_snoc : (k : StreamNo) (L : List Event) (e : Event) → e.by ≡ k → by_
 by_snoc k L e h = by_both k L (e ∷ []) ∙ ap (λ b. by_stream k L ++ cond b (e ∷ []) []) (ap (λ a. same_stream a k) h ∙ stream_same k)
 
 module _ {P : Type 0} where
-  pub rises_next : (v : View P) (n : ℕ) (w : What) → IsFresh v n → Rises (by_stream v.by v.events) → Rises (by_stream v.by (v.events ++ record { stamp = n; by = v.by; what = w } ∷ []))
+  pub rises_next : (v : View P) (n : ℕ) (w : What) → IsFreshStamp v n → Rises (by_stream v.by v.events) → Rises (by_stream v.by (v.events ++ record { stamp = n; by = v.by; what = w } ∷ []))
   rises_next v n w f r =
       let e : Event = record { stamp = n; by = v.by; what = w } in
       subst Rises (sym (by_snoc v.by v.events e refl)) (rises_snoc (by_stream v.by v.events) e r (λ x m. f.1 x (by_in v.by v.events x m).0))
@@ -57,7 +57,7 @@ module _ {P : Type 0} where
       ap ended_rows (own_snoc v.by v.events e refl) ∙ flat_map-append ends_of (words v) (w ∷ []) ∙ ap (λ l. ended_rows (words v) ++ l) (append-nil (ends_of w))
 
   -- an event that isn't a Final
-  pub note_shelved : (v : View P) (hs : List Held) (xs : List (Spent P)) (n : ℕ) (w : What) → ends_of w ≡ [] → IsFresh v n → Shelved v hs xs → Shelved (noted v (record { stamp = n; by = v.by; what = w })) hs xs
+  pub note_shelved : (v : View P) (hs : List AcquiredRow) (xs : List (Spent P)) (n : ℕ) (w : What) → ends_of w ≡ [] → IsFreshStamp v n → Shelved v hs xs → Shelved (noted v (record { stamp = n; by = v.by; what = w })) hs xs
   note_shelved v hs xs n w no' f k =
       let e : Event = record { stamp = n; by = v.by; what = w } in record {
         said_are = ended_next v n w ∙ ap (λ l. ended_rows (words v) ++ l) no' ∙ append-nil (ended_rows (words v)) ∙ k.said_are;
@@ -103,7 +103,7 @@ module _ {P : Type 0} where
   )
 
   -- from v to w the rows of ys ended
-  went_shelved : (v w : View P) (hs : List Held) (xs ys : List (Spent P)) → Follows v w → ended_rows (words w) ≡ ended_rows (words v) ++ said ys → IsDistinct nat_eq (firsts (said ys)) → ((r : ℕ) → IsAmong r (firsts (said ys)) → ¬ (HasRow w.opened r) × ¬ (HasPair w r) × ¬ (IsAmong r v.empty) × ¬ (IsAmong r (firsts (said xs)))) → ((q : ℕ) → HasRow v.opened q → HasRow w.opened q ⊎ (IsAmong q (firsts (said ys)) ⊎ MayWait v q)) → Rises (by_stream w.by w.events) → Shelved v hs xs → Shelved w hs (xs ++ ys)
+  went_shelved : (v w : View P) (hs : List AcquiredRow) (xs ys : List (Spent P)) → Follows v w → ended_rows (words w) ≡ ended_rows (words v) ++ said ys → IsDistinct nat_eq (firsts (said ys)) → ((r : ℕ) → IsAmong r (firsts (said ys)) → ¬ (HasRow w.opened r) × ¬ (HasPair w r) × ¬ (IsAmong r v.empty) × ¬ (IsAmong r (firsts (said xs)))) → ((q : ℕ) → HasRow v.opened q → HasRow w.opened q ⊎ (IsAmong q (firsts (said ys)) ⊎ MayWait v q)) → Rises (by_stream w.by w.events) → Shelved v hs xs → Shelved w hs (xs ++ ys)
   went_shelved v w hs xs ys f words_are once bare back rises k =
       let all : firsts (said (xs ++ ys)) ≡ firsts (said xs) ++ firsts (said ys) = ap firsts (said_append xs ys) ∙ firsts_append (said xs) (said ys) in
       let cases : (q : ℕ) → IsAmong q (firsts (said (xs ++ ys))) → IsAmong q (firsts (said xs)) ⊎ IsAmong q (firsts (said ys)) = λ q m. among_append q (firsts (said xs)) (firsts (said ys)) (subst (λ z. IsAmong q z) all m) in
@@ -122,7 +122,7 @@ module _ {P : Type 0} where
         rises = rises;
       }
 
-  module _ {ends : P → Exit → Bool → P → Type 0} {x : Exit} {h : Holder} (hs : List Held) where
+  module _ {ends : P → Exit → Bool → P → Type 0} {x : Exit} {h : Holder} (hs : List AcquiredRow) where
     pub released_shelved : {T : List ℕ} {v w : View P} {ys : List (Spent P)} (xs : List (Spent P)) → Released ends x h T v ys w → CanRelease h T v → Once v.opened → ((r : ℕ) → HasRow v.opened r ⊎ HasPair v r → ¬ (IsAmong r v.empty)) → Shelved v hs xs → Shelved w hs (xs ++ ys)
     released_shelved xs (done v) c once out k = subst (λ z. Shelved v hs z) (sym (append-nil xs)) k
     released_shelved xs (stays v u r l t) c once out k =

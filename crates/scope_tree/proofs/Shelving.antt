@@ -10,10 +10,10 @@ use Rattle.res_ledger.specs.Own.{own}
 use Rattle.res_ledger.specs.Streams.{by_stream}
 use Rattle.res_ledger.specs.Rising.{Rises}
 use Rattle.row_seat.specs.declared.view.View.{View}
-use Rattle.row_seat.specs.Views.{HasPair, HasRow, IsFresh, noted, placed}
+use Rattle.row_seat.specs.Views.{HasPair, HasRow, IsFreshStamp, noted, placed}
 use Rattle.row_seat.proofs.Members.{among_without}
 use Rattle.scope_tree.specs.declared.branch.Branch.{Branch}
-use Rattle.scope_tree.specs.declared.branch.Held.{Held}
+use Rattle.scope_tree.specs.declared.branch.AcquiredRow.{AcquiredRow}
 use Rattle.scope_tree.specs.declared.branch.Spent.{Spent}
 use Rattle.scope_tree.specs.Kids.{whole}
 use Rattle.std.specs.List.{IsDistinct}
@@ -41,13 +41,13 @@ start_shelved v a = record {
   rises = subst (λ L. Rises (by_stream v.by L)) (sym a.events) tt;
 }
 
-module _ {P : Type 0} (v : View P) (bs : List Branch) (hs : List Held) (xs : List (Spent P)) (k : Kept v bs hs) (s : Shelved v hs xs) where
-  pub open_shelved : (c p n : ℕ) → IsFresh v n → Shelved (noted v (opening v c p n)) hs xs
+module _ {P : Type 0} (v : View P) (bs : List Branch) (hs : List AcquiredRow) (xs : List (Spent P)) (k : Kept v bs hs) (s : Shelved v hs xs) where
+  pub open_shelved : (c p n : ℕ) → IsFreshStamp v n → Shelved (noted v (opening v c p n)) hs xs
   open_shelved c p n f = note_shelved v hs xs n (Open c p) refl f s
 
-  pub acquire_shelved : (r t n : ℕ) (p : P) → IsAmong r v.empty → IsFresh v n → Shelved (placed (noted v (acquiring v r t n)) r p) (hs ++ record { row = r; scope = t } ∷ []) xs
+  pub acquire_shelved : (r t n : ℕ) (p : P) → IsAmong r v.empty → IsFreshStamp v n → Shelved (placed (noted v (acquiring v r t n)) r p) (hs ++ record { row = r; scope = t } ∷ []) xs
   acquire_shelved r t n p m f =
-      let h : Held = record { row = r; scope = t } in let a = note_shelved v hs xs n (Acquire r t) refl f s in record {
+      let h : AcquiredRow = record { row = r; scope = t } in let a = note_shelved v hs xs n (Acquire r t) refl f s in record {
         said_are = a.said_are;
         distinct = a.distinct;
         opened = λ q o. ⊎_elim (λ i. s.opened q (o.0, i)) (λ i. subst (λ z. ¬ (IsAmong z (firsts (said xs)))) (sym (ap (λ y. y.0) i)) (s.empty r m)) (among_snoc v.opened (q, o.0) (r, p) o.1);
@@ -65,8 +65,8 @@ module _ {P : Type 0} (v : View P) (bs : List Branch) (hs : List Held) (xs : Lis
   occupied : (r : ℕ) → HasRow v.opened r ⊎ HasPair v r → ¬ (IsAmong r v.empty)
   occupied r a = ⊎_elim (λ o. open_taken v bs hs k r o) (λ p. k.lends.bare p.0 r p.1) a
 
-  pub close_shelved : {ends : P → Exit → Bool → P → Type 0} {x : Exit} {w : View P} {ys : List (Spent P)} (c n : ℕ) → IsUsable v.events v.by c → IsFresh v n → Released ends x owner (whole bs hs c) (shutting v c x n) ys w → Shelved w hs (xs ++ ys)
+  pub close_shelved : {ends : P → Exit → Bool → P → Type 0} {x : Exit} {w : View P} {ys : List (Spent P)} (c n : ℕ) → IsUsable v.events v.by c → IsFreshStamp v n → Released ends x owner (whole bs hs c) (shutting v c x n) ys w → Shelved w hs (xs ++ ys)
   close_shelved {x = x} c n u f t = released_shelved hs xs t (close_can v bs hs k c n x u) k.holds.once occupied (note_shelved v hs xs n (Close c x) refl f s)
 
-  pub cancel_shelved : {ends : P → Exit → Bool → P → Type 0} {x : Exit} {w : View P} {ys : List (Spent P)} (j n : ℕ) (T : List ℕ) → IsDistinct nat_eq T → ((r : ℕ) → IsAmong r T → IsAmong (j, r) v.pairs) → owed v + 1 + away T v.opened ≤ v.spare → IsFresh v n → Released ends x (lease j) T (noted v (canceling v j x n)) ys w → Shelved w hs (xs ++ ys)
+  pub cancel_shelved : {ends : P → Exit → Bool → P → Type 0} {x : Exit} {w : View P} {ys : List (Spent P)} (j n : ℕ) (T : List ℕ) → IsDistinct nat_eq T → ((r : ℕ) → IsAmong r T → IsAmong (j, r) v.pairs) → owed v + 1 + away T v.opened ≤ v.spare → IsFreshStamp v n → Released ends x (lease j) T (noted v (canceling v j x n)) ys w → Shelved w hs (xs ++ ys)
   cancel_shelved {x = x} j n T d p e f t = released_shelved hs xs t (cancel_can v bs hs j n T x k d p e) k.holds.once occupied (note_shelved v hs xs n (Cancel j x) refl f s)

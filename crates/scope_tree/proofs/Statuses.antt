@@ -8,7 +8,7 @@ use Rattle.res_ledger.specs.Ledger.{IsClosed}
 use Rattle.res_ledger.specs.Order.{firsts}
 use Rattle.row_seat.specs.Views.{HasRow}
 use Rattle.scope_tree.specs.declared.branch.Branch.{Branch}
-use Rattle.scope_tree.specs.declared.branch.Held.{Held}
+use Rattle.scope_tree.specs.declared.branch.AcquiredRow.{AcquiredRow}
 use Rattle.scope_tree.specs.declared.branch.Standing.TheVariants.{Empty, Open, Left, Final}
 use Rattle.scope_tree.specs.Calls.{Seen}
 use Rattle.scope_tree.specs.Kept.{Kept, Shelved, held_pairs, held_rows}
@@ -38,7 +38,7 @@ found_none {A = A} r y (x ∷ xs) h m = ⊎_elim
     (λ ne. ⊎_elim (λ i. ne (sym (ap (λ z. z.0) i))) (λ n. found_none r y xs (ap (λ b. cond b (Some x.1) (found r xs)) (sym (ne_eqb x.0 r ne)) ∙ h) n) (among_cons m))
     (cases_eq x.0 r)
 
-module _ {P : Type 0} (a : Seen P) (bs : List Branch) (hs : List Held) (k : Kept a.seat bs hs) (s : Shelved a.seat hs a.shelf) (r : ℕ) where
+module _ {P : Type 0} (a : Seen P) (bs : List Branch) (hs : List AcquiredRow) (k : Kept a.seat bs hs) (s : Shelved a.seat hs a.shelf) (r : ℕ) where
   pub stands_final : (ok : _) → IsAmong (r, ok) (said a.shelf) → StandsAs a r (Final ok)
   stands_final ok m = ((λ o. s.opened r o (first_of_said r ok (said a.shelf) m)), m)
 

@@ -9,9 +9,9 @@ use Rattle.res_ledger.specs.declared.event.What.TheVariants.{Acquire, Cancel, Cl
 use Rattle.res_ledger.specs.Order.{finals, firsts}
 use Rattle.res_ledger.specs.Own.{opens, rows}
 use Rattle.chunk_core.proofs.Bools.{has_in, in_has}
-use Rattle.scope_tree.specs.Calls.{Acquires, Cancels, Closes, Leases, Opens, Seen, TakesRoom}
+use Rattle.scope_tree.specs.Calls.{AcquiresRow, Cancels, ClosesScope, Leases, OpensScope, Seen, TakesRoom}
 use Rattle.scope_tree.specs.declared.branch.Branch.{Branch}
-use Rattle.scope_tree.specs.declared.branch.Held.{Held}
+use Rattle.scope_tree.specs.declared.branch.AcquiredRow.{AcquiredRow}
 use Rattle.scope_tree.specs.declared.branch.Spent.{Spent}
 use Rattle.scope_tree.specs.Kept.{Kept}
 use Rattle.scope_tree.specs.Released.{said}
@@ -62,14 +62,14 @@ module _ {P : Type 0} where
       let own = own_rows a.seat in
       ap (λ l. strangers own (firsts (said l))) e ∙ ap (λ l. strangers own (firsts l)) (said_append a.shelf xs) ∙ ap (strangers own) (firsts_append (said a.shelf) (said xs)) ∙ strangers_append own (firsts (said a.shelf)) (firsts (said xs))
 
-  pub open_takes : {a b : Seen P} {at c : ℕ} → Opens a at c b → TakesRoom 1 0 a b
+  pub open_takes : {a b : Seen P} {at c : ℕ} → OpensScope a at c b → TakesRoom 1 0 a b
   open_takes {a = a} {b = b} {c = c} o = takes (Open c o.parent ∷ []) (opened_said o) refl refl (same_shelf a b o.shelf) o.scopes o.rows
 
   pub lease_takes : {a b : Seen P} {s j : ℕ} {T : List ℕ} → Leases a s j T b → TakesRoom 0 0 a b
   lease_takes {a = a} {b = b} {s = s} {j = j} o = takes (Lease j s ∷ []) (leased_said o) refl refl (same_shelf a b o.shelf) o.scopes o.rows
 
   -- a row that isn't on the shelf
-  pub acquire_takes : {a b : Seen P} {s r : ℕ} {p : P} → Acquires a s r p b → ¬ (IsAmong r (firsts (said a.shelf))) → TakesRoom 0 1 a b
+  pub acquire_takes : {a b : Seen P} {s r : ℕ} {p : P} → AcquiresRow a s r p b → ¬ (IsAmong r (firsts (said a.shelf))) → TakesRoom 0 1 a b
   acquire_takes {a = a} {b = b} {s = s} {r = r} o n =
       let R : rows (words b.seat) ≡ rows (words a.seat) ++ (r, s) ∷ [] = ap rows (acquired_said o) ∙ rows_append (words a.seat) (Acquire r s ∷ []) in
       let O : opens (words b.seat) ≡ opens (words a.seat) = ap opens (acquired_said o) ∙ opens_append (words a.seat) (Acquire r s ∷ []) ∙ append-nil (opens (words a.seat)) in
@@ -80,14 +80,14 @@ module _ {P : Type 0} where
 
   module _ {ends : P → Exit → Bool → P → Type 0} {x : Exit} {a b : Seen P} where
     -- the rows that a close ends are the tree's own
-    close_own : {s : ℕ} (bs : List Branch) (hs : List Held) → Kept a.seat bs hs → s < length bs → (c : Closes ends a s x b) → strangers (own_rows a.seat) (firsts (said b.shelf)) ≡ strangers (own_rows a.seat) (firsts (said a.shelf))
+    close_own : {s : ℕ} (bs : List Branch) (hs : List AcquiredRow) → Kept a.seat bs hs → s < length bs → (c : ClosesScope ends a s x b) → strangers (own_rows a.seat) (firsts (said b.shelf)) ≡ strangers (own_rows a.seat) (firsts (said a.shelf))
     close_own {s = s} bs hs k l c =
         let xs = c.torn.0 in let own = own_rows a.seat in
         shelf_more a b xs c.torn.1
         ∙ ap (λ n. strangers own (firsts (said a.shelf)) + n) (strangers_none own (firsts (said xs)) (λ r m. let y = whole_under bs hs r s l (subst (λ T. IsAmong r T) (sym (whole_is a.seat bs hs k s l)) (picks_among r (released_picks c.torn.2) m)) in subst (λ T. IsAmong r T) (sym (own_is a.seat bs hs k)) (row_of_pair r y.0 hs y.1)))
         ∙ add-zero _
 
-    pub close_takes : {s : ℕ} (bs : List Branch) (hs : List Held) → Kept a.seat bs hs → s < length bs → (c : Closes ends a s x b) → TakesRoom 0 0 a b
+    pub close_takes : {s : ℕ} (bs : List Branch) (hs : List AcquiredRow) → Kept a.seat bs hs → s < length bs → (c : ClosesScope ends a s x b) → TakesRoom 0 0 a b
     close_takes {s = s} bs hs k l c = let e = close_own bs hs k l c in takes (Close s x ∷ finals x (said c.torn.0)) (closed_said c) (rows_finals x (said c.torn.0)) (ap length (opens_finals x (said c.torn.0))) (omega (e, arith)) c.scopes c.rows
 
     -- a cancellation uses no more than the rows that others acquired

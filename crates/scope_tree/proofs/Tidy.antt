@@ -22,7 +22,7 @@ use Rattle.chunk_core.proofs.Bools.{in_has}
 use Rattle.res_ledger.specs.Rising.{Rises}
 use Rattle.row_seat.specs.declared.view.View.{View}
 use Rattle.row_seat.specs.Views.{AreApart, IsLedgerOf, joined, split_main}
-use Rattle.scope_tree.specs.Calls.{Acquires, Cancels, Closes, Leases, Opens, Seen}
+use Rattle.scope_tree.specs.Calls.{AcquiresRow, Cancels, ClosesScope, Leases, OpensScope, Seen}
 use Rattle.scope_tree.specs.Tidy.{IsTidy}
 use Rattle.scope_tree.specs.Words.{acquiring, canceling, closing, leasing, opening, words}
 use Rattle.scope_tree.proofs.Follows.{follows_covers, released_follows, same_by}
@@ -37,10 +37,10 @@ module _ {P : Type 0} where
   pub start_tidy : (v : View P) → v.events ≡ [] → IsTidy v []
   start_tidy v e = λ may due m d. subst (λ L. IsInBlocks (λ r. may r ≡ true) due [] (own v.by L)) (sym e) (none [])
 
-  pub open_tidy : {a b : Seen P} {at c : ℕ} (Cs : List (ℕ × List ℕ)) → Opens a at c b → IsTidy a.seat Cs → IsTidy b.seat Cs
+  pub open_tidy : {a b : Seen P} {at c : ℕ} (Cs : List (ℕ × List ℕ)) → OpensScope a at c b → IsTidy a.seat Cs → IsTidy b.seat Cs
   open_tidy {a = a} {b = b} {c = c} Cs o t = λ may due m d. open_in_order o (t may due (λ j r x. m j r (covers_still a.seat b.seat (opening a.seat c o.parent o.stamp) a.seat.by (ap (λ v. v.by) o.seat) (ap (λ v. v.events) o.seat) j r x)) d)
 
-  pub acquire_tidy : {a b : Seen P} {s r : ℕ} {p : P} (Cs : List (ℕ × List ℕ)) → Acquires a s r p b → IsTidy a.seat Cs → IsTidy b.seat Cs
+  pub acquire_tidy : {a b : Seen P} {s r : ℕ} {p : P} (Cs : List (ℕ × List ℕ)) → AcquiresRow a s r p b → IsTidy a.seat Cs → IsTidy b.seat Cs
   acquire_tidy {a = a} {b = b} {s = s} {r = r} Cs o t = λ may due m d. acquire_in_order o (t may due (λ j q x. m j q (covers_still a.seat b.seat (acquiring a.seat r s o.stamp) a.seat.by (ap (λ v. v.by) o.seat) (ap (λ v. v.events) o.seat) j q x)) d)
 
   pub lease_tidy : {a b : Seen P} {s j : ℕ} {T : List ℕ} (Cs : List (ℕ × List ℕ)) → Leases a s j T b → IsTidy a.seat Cs → IsTidy b.seat Cs
@@ -48,7 +48,7 @@ module _ {P : Type 0} where
       subst (λ E. IsInBlocks (λ r. may r ≡ true) due [] E) (sym (leased_said o))
       (blocks_plain (words a.seat) (Lease j s) refl (t may due (λ i q x. m i q (covers_still a.seat b.seat (leasing a.seat j s o.stamp) a.seat.by (ap (λ v. v.by) o.seat) (ap (λ v. v.events) o.seat) i q x)) d))
 
-  pub close_tidy : {ends : P → Exit → Bool → P → Type 0} {x : Exit} {a b : Seen P} {s : ℕ} (Cs : List (ℕ × List ℕ)) → Closes ends a s x b → IsTidy a.seat Cs → IsTidy b.seat Cs
+  pub close_tidy : {ends : P → Exit → Bool → P → Type 0} {x : Exit} {a b : Seen P} {s : ℕ} (Cs : List (ℕ × List ℕ)) → ClosesScope ends a s x b → IsTidy a.seat Cs → IsTidy b.seat Cs
   close_tidy {x = e} {a = a} {b = b} {s = s} Cs c t = λ may due m d.
       let by : b.seat.by ≡ a.seat.by = same_by (released_follows c.torn.2) in
       let m' : (j r : ℕ) → Covers b.seat.events j a.seat.by r → may r ≡ true = λ j r x. m j r (subst (λ k. Covers b.seat.events j k r) (sym by) x) in

@@ -22,7 +22,7 @@ use Rattle.scope_tree.specs.Walks.{FirstOpen}
 use Rattle.scope_tree.specs.Walks.FirstOpen.{this_one, above_it}
 use Rattle.scope_tree.specs.Released.{said}
 use Rattle.scope_tree.specs.Rights.{HasNoLeaseBut}
-use Rattle.scope_tree.specs.Calls.{AtStart, Seen, Opens, Acquires, Closes, Cancels, Leases}
+use Rattle.scope_tree.specs.Calls.{AtStart, Seen, OpensScope, AcquiresRow, ClosesScope, Cancels, Leases}
 use Rattle.scope_tree.specs.Words.{owed, words, canceling, opening, acquiring, leasing, shutting}
 use Rattle.scope_tree.proofs.Bridge.{own_snoc, noted_in, in_noted, in_opens}
 use Rattle.scope_tree.proofs.Follows.{Follows, released_follows, same_by}
@@ -64,32 +64,32 @@ module _ {P : Type 0} where
     λ c. among_nil (subst (λ l. IsAmong c.0 l) e (notes_closes v.events v.by c.0 c.2)),
   )
 
-  pub opened_said : {a b : Seen P} {at c : ℕ} (o : Opens a at c b) → words b.seat ≡ words a.seat ++ Open c o.parent ∷ []
+  pub opened_said : {a b : Seen P} {at c : ℕ} (o : OpensScope a at c b) → words b.seat ≡ words a.seat ++ Open c o.parent ∷ []
   opened_said {a = a} {c = c} o = ap words o.seat ∙ own_snoc a.seat.by a.seat.events (opening a.seat c o.parent o.stamp) refl
 
-  pub acquired_said : {a b : Seen P} {s r : ℕ} {p : P} → Acquires a s r p b → words b.seat ≡ words a.seat ++ Acquire r s ∷ []
+  pub acquired_said : {a b : Seen P} {s r : ℕ} {p : P} → AcquiresRow a s r p b → words b.seat ≡ words a.seat ++ Acquire r s ∷ []
   acquired_said {a = a} {s = s} {r = r} o = ap words o.seat ∙ own_snoc a.seat.by a.seat.events (acquiring a.seat r s o.stamp) refl
 
   pub leased_said : {a b : Seen P} {s j : ℕ} {T : List ℕ} (o : Leases a s j T b) → words b.seat ≡ words a.seat ++ Lease j s ∷ []
   leased_said {a = a} {s = s} {j = j} o = ap words o.seat ∙ own_snoc a.seat.by a.seat.events (leasing a.seat j s o.stamp) refl
 
-  pub closed_said : {ends : P → Exit → Bool → P → Type 0} {x : Exit} {a b : Seen P} {s : ℕ} (c : Closes ends a s x b) → words b.seat ≡ words a.seat ++ Close s x ∷ finals x (said c.torn.0)
+  pub closed_said : {ends : P → Exit → Bool → P → Type 0} {x : Exit} {a b : Seen P} {s : ℕ} (c : ClosesScope ends a s x b) → words b.seat ≡ words a.seat ++ Close s x ∷ finals x (said c.torn.0)
   closed_said {x = x} {a = a} {s = s} c = (grown_release a.seat c.stamp (Close s x) c.torn.2).words
 
-  pub closed_picks : {ends : P → Exit → Bool → P → Type 0} {x : Exit} {a b : Seen P} {s : ℕ} (c : Closes ends a s x b) → Picks (λ r. (j : ℕ) × Covers b.seat.events j a.seat.by r) (firsts (said c.torn.0)) (teardown (words a.seat) s)
+  pub closed_picks : {ends : P → Exit → Bool → P → Type 0} {x : Exit} {a b : Seen P} {s : ℕ} (c : ClosesScope ends a s x b) → Picks (λ r. (j : ℕ) × Covers b.seat.events j a.seat.by r) (firsts (said c.torn.0)) (teardown (words a.seat) s)
   closed_picks {a = a} c = owner_picks a.seat.by c.torn.2 refl
 
-  pub closed_by : {ends : P → Exit → Bool → P → Type 0} {x : Exit} {a b : Seen P} {s : ℕ} (c : Closes ends a s x b) → b.seat.by ≡ a.seat.by
+  pub closed_by : {ends : P → Exit → Bool → P → Type 0} {x : Exit} {a b : Seen P} {s : ℕ} (c : ClosesScope ends a s x b) → b.seat.by ≡ a.seat.by
   closed_by c = same_by (released_follows c.torn.2)
 
   pub canceled_said : {ends : P → Exit → Bool → P → Type 0} {x : Exit} {a b : Seen P} {j : ℕ} {T : List ℕ} (c : Cancels ends a j T x b) → words b.seat ≡ words a.seat ++ Cancel j x ∷ finals x (said c.left.0)
   canceled_said {x = x} {a = a} {j = j} c = (grown_release a.seat c.stamp (Cancel j x) c.left.2).words
 
   -- what a close keeps after its event, and what a cancellation does
-  pub close_follows : {ends : P → Exit → Bool → P → Type 0} {x : Exit} {a b : Seen P} {s : ℕ} (c : Closes ends a s x b) → Follows (shutting a.seat s x c.stamp) b.seat
+  pub close_follows : {ends : P → Exit → Bool → P → Type 0} {x : Exit} {a b : Seen P} {s : ℕ} (c : ClosesScope ends a s x b) → Follows (shutting a.seat s x c.stamp) b.seat
   close_follows c = released_follows c.torn.2
 
-  pub close_pairs : {ends : P → Exit → Bool → P → Type 0} {x : Exit} {a b : Seen P} {s : ℕ} → Closes ends a s x b → b.seat.pairs ≡ a.seat.pairs
+  pub close_pairs : {ends : P → Exit → Bool → P → Type 0} {x : Exit} {a b : Seen P} {s : ℕ} → ClosesScope ends a s x b → b.seat.pairs ≡ a.seat.pairs
   close_pairs c = owner_pairs c.torn.2
 
   pub cancel_follows : {ends : P → Exit → Bool → P → Type 0} {x : Exit} {a b : Seen P} {j : ℕ} {T : List ℕ} (c : Cancels ends a j T x b) → Follows (noted a.seat (canceling a.seat j x c.stamp)) b.seat
@@ -104,13 +104,13 @@ module _ {P : Type 0} where
 
   -- each call keeps the order of the stream's own events
   module _ {may : ℕ → Type 0} {due : ℕ → List ℕ} where
-    pub open_in_order : {a b : Seen P} {p c : ℕ} → Opens a p c b → IsInBlocks may due [] (words a.seat) → IsInBlocks may due [] (words b.seat)
+    pub open_in_order : {a b : Seen P} {p c : ℕ} → OpensScope a p c b → IsInBlocks may due [] (words a.seat) → IsInBlocks may due [] (words b.seat)
     open_in_order {a = a} {c = c} o i = subst (λ E. IsInBlocks may due [] E) (sym (opened_said o)) (blocks_plain (words a.seat) (Open c o.parent) refl i)
 
-    pub acquire_in_order : {a b : Seen P} {s r : ℕ} {p : P} → Acquires a s r p b → IsInBlocks may due [] (words a.seat) → IsInBlocks may due [] (words b.seat)
+    pub acquire_in_order : {a b : Seen P} {s r : ℕ} {p : P} → AcquiresRow a s r p b → IsInBlocks may due [] (words a.seat) → IsInBlocks may due [] (words b.seat)
     acquire_in_order {a = a} {s = s} {r = r} o i = subst (λ E. IsInBlocks may due [] E) (sym (acquired_said o)) (blocks_plain (words a.seat) (Acquire r s) refl i)
 
-    pub close_in_order : {ends : P → Exit → Bool → P → Type 0} {x : Exit} {a b : Seen P} {s : ℕ} (c : Closes ends a s x b) → ((r j : ℕ) → Covers b.seat.events j a.seat.by r → may r) → IsInBlocks may due [] (words a.seat) → IsInBlocks may due [] (words b.seat)
+    pub close_in_order : {ends : P → Exit → Bool → P → Type 0} {x : Exit} {a b : Seen P} {s : ℕ} (c : ClosesScope ends a s x b) → ((r j : ℕ) → Covers b.seat.events j a.seat.by r → may r) → IsInBlocks may due [] (words a.seat) → IsInBlocks may due [] (words b.seat)
     close_in_order {x = x} {a = a} {s = s} c h i = subst (λ E. IsInBlocks may due [] E) (sym (closed_said c)) (blocks_close (words a.seat) s x (said c.torn.0) (picks_map (λ r m. h r m.0 m.1) (closed_picks c)) i)
 
     -- where the rows of the lease, latest first, are those that are due
@@ -125,7 +125,7 @@ first_is n (this_one c m) = refl
 first_is n (above_it c p q x o f) = absurd (n x)
 
 -- a scope that was just closed is closed
-pub closed_now : {P : Type 0} {ends : P → Exit → Bool → P → Type 0} {x : Exit} {a b : Seen P} {s : ℕ} → Closes ends a s x b → IsClosed b.seat.events b.seat.by s
+pub closed_now : {P : Type 0} {ends : P → Exit → Bool → P → Type 0} {x : Exit} {a b : Seen P} {s : ℕ} → ClosesScope ends a s x b → IsClosed b.seat.events b.seat.by s
 closed_now {x = x} {a = a} {b = b} {s = s} c =
     (s, same s, (x, in_noted b.seat.by (Close s x) b.seat.events (subst (λ E. IsAmong (Close s x) E) (sym (closed_said c)) (among_mid (words a.seat) (finals x (said c.torn.0)) (Close s x)))))
 
@@ -138,13 +138,13 @@ module _ {P : Type 0} where
   pub start_said : (v w : View P) → AtStart v → w ≡ v → words w ≡ []
   start_said v w a e = ap words e ∙ ap (own v.by) a.events
 
-  pub open_number : {a b : Seen P} {c : ℕ} → words a.seat ≡ [] → Opens a 0 c b → c ≡ 1
+  pub open_number : {a b : Seen P} {c : ℕ} → words a.seat ≡ [] → OpensScope a 0 c b → c ≡ 1
   open_number w o = o.number ∙ ap (λ E. length (opens E) + 1) w
 
-  pub open_one : {a b : Seen P} {c : ℕ} → words a.seat ≡ [] → Opens a 0 c b → words b.seat ≡ Open 1 0 ∷ []
+  pub open_one : {a b : Seen P} {c : ℕ} → words a.seat ≡ [] → OpensScope a 0 c b → words b.seat ≡ Open 1 0 ∷ []
   open_one {a = a} {c = c} w o = opened_said o ∙ ap (λ E. E ++ Open c o.parent ∷ []) w ∙ ap (λ n. Open c n ∷ []) (first_is (all_open a.seat 0 (ap closes w) (inl refl)).1 o.nearest) ∙ ap (λ n. Open n 0 ∷ []) (open_number w o)
 
-  pub acquire_more : {a b : Seen P} {s r : ℕ} {p : P} {E : List What} → words a.seat ≡ E → Acquires a s r p b → words b.seat ≡ E ++ Acquire r s ∷ []
+  pub acquire_more : {a b : Seen P} {s r : ℕ} {p : P} {E : List What} → words a.seat ≡ E → AcquiresRow a s r p b → words b.seat ≡ E ++ Acquire r s ∷ []
   acquire_more {s = s} {r = r} w o = acquired_said o ∙ ap (λ E. E ++ Acquire r s ∷ []) w
 
   -- where nothing is owed nothing is open

@@ -8,7 +8,7 @@ use Rattle.scope_tree.specs.Walks.FirstOpen.{this_one, above_it}
 use Rattle.scope_tree.specs.Walks.Nearest.{this, next}
 use Rattle.res_ledger.specs.Ledger.LiesWithin.{same, below as beneath}
 use Rattle.scope_tree.specs.declared.branch.Branch.{Branch}
-use Rattle.scope_tree.specs.declared.branch.Held.{Held}
+use Rattle.scope_tree.specs.declared.branch.AcquiredRow.{AcquiredRow}
 use Rattle.scope_tree.specs.Kept.{Kept}
 use Rattle.scope_tree.specs.Words.{words}
 use Rattle.res_ledger.specs.Own.{closes}
@@ -50,7 +50,7 @@ pub clear_zero : (bs : List Branch) (c : ℕ) (d : Branch) → c ≤ 0 → c < l
 clear_zero bs c d z l h = let e : c ≡ 0 = omega arith in subst (λ n. Clear bs n) (sym e) (root (λ x. subst (λ n. (slice_index_or bs n x).shut ≡ false) e (shut_any bs c d l false h x)))
 
 -- what is clear is open, what is shaded is closed
-module _ {P : Type 0} (v : View P) (bs : List Branch) (hs : List Held) (k : Kept v bs hs) where
+module _ {P : Type 0} (v : View P) (bs : List Branch) (hs : List AcquiredRow) (k : Kept v bs hs) where
   pub shaded_closed : (c : ℕ) → c < length bs → Shaded bs c → IsClosed v.events v.by c
   shaded_closed c l (own e h) = let d : Branch = record { parent = 0; shut = false } in (c, same c, closes_notes v.events v.by c (has_in c (closes (words v)) (sym (k.mirrors.shut c d l) ∙ h d)))
   shaded_closed c l (under e p one pa x) =
@@ -96,7 +96,7 @@ pub above_le : (bs : List Branch) (s a : ℕ) → Falls bs → s < length bs →
 above_le bs s a f l (itself q) = omega arith
 above_le bs s a f l (further q p b one pa x) = let d : Branch = record { parent = 0; shut = false } in let e = pa d in let g = f q d one l in let i = above_le bs p b f (omega (e, g, l, arith)) x in omega (e, g, i, arith)
 
-module _ {P : Type 0} (v : View P) (bs : List Branch) (hs : List Held) (k : Kept v bs hs) where
+module _ {P : Type 0} (v : View P) (bs : List Branch) (hs : List AcquiredRow) (k : Kept v bs hs) where
   pub stands_within : (s a : ℕ) → s < length bs → StandsAbove bs s a → LiesWithin v.events v.by s a
   stands_within s a l (itself q) = same q
   stands_within s a l (further q p b one pa x) =

@@ -7,7 +7,7 @@ use Rattle.res_ledger.specs.Ledger.{IsClosed, IsOpened, IsUsable}
 use Rattle.res_ledger.specs.Order.{firsts}
 use Rattle.res_ledger.specs.Own.{opens, rows, teardown, leased_rows}
 use Rattle.row_seat.specs.declared.view.View.{View}
-use Rattle.row_seat.specs.Views.{noted, placed, IsFresh}
+use Rattle.row_seat.specs.Views.{noted, placed, IsFreshStamp}
 use Rattle.scope_tree.specs.declared.branch.Spent.{Spent}
 use Rattle.scope_tree.specs.Rows.{strangers}
 use Rattle.scope_tree.specs.Leased.{leased_all}
@@ -64,11 +64,11 @@ module _ {P : Type 0} where
     pub rows : b.rows ≡ a.rows
 
   -- the scope c, the next number, was opened as a child of the first open scope from at upward
-  pub record Opens (a : Seen P) (at c : ℕ) (b : Seen P) : Type 0 where
+  pub record OpensScope (a : Seen P) (at c : ℕ) (b : Seen P) : Type 0 where
     pub stamp : ℕ
     pub parent : ℕ
     pub nearest : FirstOpen a.seat.events a.seat.by at parent
-    pub fresh : IsFresh a.seat stamp
+    pub fresh : IsFreshStamp a.seat stamp
     pub number : c ≡ length (opens (words a.seat)) + 1
     pub seat : b.seat ≡ noted a.seat (opening a.seat c parent stamp)
     pub shelf : b.shelf ≡ a.shelf
@@ -76,9 +76,9 @@ module _ {P : Type 0} where
     pub rows : b.rows ≡ a.rows
 
   -- the row r was acquired in the scope s with the payload p
-  pub record Acquires (a : Seen P) (s r : ℕ) (p : P) (b : Seen P) : Type 0 where
+  pub record AcquiresRow (a : Seen P) (s r : ℕ) (p : P) (b : Seen P) : Type 0 where
     pub stamp : ℕ
-    pub fresh : IsFresh a.seat stamp
+    pub fresh : IsFreshStamp a.seat stamp
     pub seat : b.seat ≡ placed (noted a.seat (acquiring a.seat r s stamp)) r p
     pub shelf : b.shelf ≡ a.shelf
     pub scopes : b.scopes ≡ a.scopes
@@ -88,7 +88,7 @@ module _ {P : Type 0} where
   pub record Leases (a : Seen P) (s j : ℕ) (T : List ℕ) (b : Seen P) : Type 0 where
     pub covered : T ≡ leased_rows (words a.seat) s
     pub stamp : ℕ
-    pub fresh : IsFresh a.seat stamp
+    pub fresh : IsFreshStamp a.seat stamp
     pub seat : b.seat ≡ noted (leased_all a.seat j T) (leasing a.seat j s stamp)
     pub shelf : b.shelf ≡ a.shelf
     pub scopes : b.scopes ≡ a.scopes
@@ -97,15 +97,15 @@ module _ {P : Type 0} where
   -- the Lease for j was cancelled with the exit x: its Cancel is noted, and then its rows are left, latest acquired first
   pub record Cancels (ends : P → Exit → Bool → P → Type 0) (a : Seen P) (j : ℕ) (T : List ℕ) (x : Exit) (b : Seen P) : Type 0 where
     pub stamp : ℕ
-    pub fresh : IsFresh a.seat stamp
+    pub fresh : IsFreshStamp a.seat stamp
     pub left : Releases ends x (lease j) (reverse T) (noted a.seat (canceling a.seat j x stamp)) a.shelf b.shelf b.seat
     pub scopes : b.scopes ≡ a.scopes
     pub rows : b.rows ≡ a.rows
 
   -- the scope s was closed with the exit x: its Close is noted, and then its teardown is closed
-  pub record Closes (ends : P → Exit → Bool → P → Type 0) (a : Seen P) (s : ℕ) (x : Exit) (b : Seen P) : Type 0 where
+  pub record ClosesScope (ends : P → Exit → Bool → P → Type 0) (a : Seen P) (s : ℕ) (x : Exit) (b : Seen P) : Type 0 where
     pub stamp : ℕ
-    pub fresh : IsFresh a.seat stamp
+    pub fresh : IsFreshStamp a.seat stamp
     pub torn : Releases ends x owner (teardown (words a.seat) s) (shutting a.seat s x stamp) a.shelf b.shelf b.seat
     pub scopes : b.scopes ≡ a.scopes
     pub rows : b.rows ≡ a.rows

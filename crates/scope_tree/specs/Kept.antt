@@ -10,7 +10,7 @@ use Rattle.res_ledger.specs.Own.{opens, rows, closes}
 use Rattle.row_seat.specs.declared.view.View.{View}
 use Rattle.row_seat.specs.Views.{HasRow}
 use Rattle.scope_tree.specs.declared.branch.Branch.{Branch}
-use Rattle.scope_tree.specs.declared.branch.Held.{Held}
+use Rattle.scope_tree.specs.declared.branch.AcquiredRow.{AcquiredRow}
 use Rattle.scope_tree.specs.declared.branch.Spent.{Spent}
 use Rattle.scope_tree.specs.Rows.{Once}
 use Rattle.std.specs.List.{IsDistinct}
@@ -25,17 +25,17 @@ marks n [] = []
 marks n (b ∷ bs) = (n, b.parent) ∷ marks (suc n) bs
 
 -- the rows that a tree holds
-abbrev pub held_rows : List Held → List ℕ
+abbrev pub held_rows : List AcquiredRow → List ℕ
 held_rows [] = []
 held_rows (h ∷ hs) = h.row ∷ held_rows hs
 
 -- the same with their scopes
-abbrev pub held_pairs : List Held → List (ℕ × ℕ)
+abbrev pub held_pairs : List AcquiredRow → List (ℕ × ℕ)
 held_pairs [] = []
 held_pairs (h ∷ hs) = (h.row, h.scope) ∷ held_pairs hs
 
 -- the branches are the scopes that E opened, each with whether it has a Close of its own, and the held rows are those that E acquired, each with its scope
-pub record Mirrors (E : List What) (bs : List Branch) (hs : List Held) : Type 0 where
+pub record Mirrors (E : List What) (bs : List Branch) (hs : List AcquiredRow) : Type 0 where
   pub size : 1 ≤ length bs
   pub opens : opens E ≡ marks 1 (drop 1 bs)
   pub shut : (c : ℕ) (d : Branch) → c < length bs → (slice_index_or bs c d).shut ≡ has c (closes E)
@@ -47,7 +47,7 @@ pub record Mirrors (E : List What) (bs : List Branch) (hs : List Held) : Type 0 
 
 module _ {P : Type 0} where
   -- the open rows are the held rows of the scopes that aren't closed
-  pub record Holds (v : View P) (hs : List Held) : Type 0 where
+  pub record HoldsRows (v : View P) (hs : List AcquiredRow) : Type 0 where
     pub live : (r t : ℕ) → IsAmong (r, t) (held_pairs hs) → ¬ (IsClosed v.events v.by t) → HasRow v.opened r
     pub only : (r : ℕ) → HasRow v.opened r → (t : ℕ) × IsAmong (r, t) (held_pairs hs) × ¬ (IsClosed v.events v.by t)
     pub once : Once v.opened
@@ -65,14 +65,14 @@ module _ {P : Type 0} where
     pub spare : owed v ≤ v.spare
 
   -- what a tree keeps agrees with the view of its seat
-  pub record Kept (v : View P) (bs : List Branch) (hs : List Held) : Type 0 where
+  pub record Kept (v : View P) (bs : List Branch) (hs : List AcquiredRow) : Type 0 where
     pub mirrors : Mirrors (words v) bs hs
-    pub holds : Holds v hs
+    pub holds : HoldsRows v hs
     pub lends : Lends v
     pub rests : Rests v
 
   -- the shelf has the rows whose Finals the stream noted, and none of them is open, leased or empty here
-  pub record Shelved (v : View P) (hs : List Held) (xs : List (Spent P)) : Type 0 where
+  pub record Shelved (v : View P) (hs : List AcquiredRow) (xs : List (Spent P)) : Type 0 where
     pub said_are : ended_rows (words v) ≡ said xs
     pub distinct : IsDistinct nat_eq (firsts (said xs))
     pub opened : (r : ℕ) → HasRow v.opened r → ¬ (IsAmong r (firsts (said xs)))

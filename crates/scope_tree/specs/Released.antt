@@ -7,7 +7,7 @@ use Rattle.res_ledger.specs.Ledger.{Covers}
 use Rattle.row_seat.specs.declared.view.Left.{Left}
 use Rattle.row_seat.specs.declared.view.Left.TheVariants.{Stays, Yours}
 use Rattle.row_seat.specs.declared.view.View.{View}
-use Rattle.row_seat.specs.Views.{CanClose, CanLeave, Closes, IsFresh, Leaves, noted, took}
+use Rattle.row_seat.specs.Views.{CanClose, CanLeave, ClosesRow, IsFreshStamp, LeavesRow, noted, took}
 use Rattle.scope_tree.specs.declared.branch.Spent.{Spent}
 use Rattle.std.specs.List.{IsDistinct}
 
@@ -34,13 +34,13 @@ module _ {P : Type 0} where
 
   -- the row r was let go with this answer
   abbrev pub LetsGo : Holder → View P → ℕ → Left → View P → Type 0
-  LetsGo owner v r a w = Closes v r a w
-  LetsGo (lease j) v r a w = Leaves v j r a w
+  LetsGo owner v r a w = ClosesRow v r a w
+  LetsGo (lease j) v r a w = LeavesRow v j r a w
 
   -- at most so many of the rows T end as they are let go: with a lease none that is open here
-  abbrev pub most : Holder → List ℕ → View P → ℕ
-  most owner T v = length T
-  most (lease j) T v = away T v.opened
+  abbrev pub most_let_go : Holder → List ℕ → View P → ℕ
+  most_let_go owner T v = length T
+  most_let_go (lease j) T v = away T v.opened
 
   -- the rows T can be let go
   pub record CanRelease (h : Holder) (T : List ℕ) (v : View P) : Type 0 where
@@ -48,7 +48,7 @@ module _ {P : Type 0} where
     pub rows : (r : ℕ) → IsAmong r T → CanLetGo h v r
     pub handed : v.handed ≡ []
     pub taken : v.taken ≡ []
-    pub spare : most h T v ≤ v.spare
+    pub spare : most_let_go h T v ≤ v.spare
 
   -- the row of y, which was handed to the seat, is taken, and its end is noted with the stamp n
   abbrev pub finalized : Exit → View P → Spent P → ℕ → View P
@@ -61,7 +61,7 @@ module _ {P : Type 0} where
     pub only : (q : P) → IsAmong (y.row, q) v.given → q ≡ pay
     pub exit : y.exit ≡ x
     pub finish : ends pay x y.ok y.pay
-    pub fresh : IsFresh v n
+    pub fresh : IsFreshStamp v n
 
   -- the row r, which was handed to the seat, is ended and put on the shelf
   abbrev pub Finalizes : (P → Exit → Bool → P → Type 0) → Exit → ℕ → View P → List (Spent P) → List (Spent P) → View P → Type 0

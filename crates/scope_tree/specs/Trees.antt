@@ -11,7 +11,7 @@ module _ {S P D : Type 0} where
   seen view t = record { seat = view t.seat; shelf = t.shelf.items; scopes = t.scopes; rows = t.rows }
 
   -- what the tree keeps agrees with its seat, and there is room for all that it may still keep
-  pub record IsSound (view : S → View P) (t : Tree S P D) : Type 0 where
+  pub record IsConsistent (view : S → View P) (t : Tree S P D) : Type 0 where
     pub kept : Kept (view t.seat) t.branches.items t.held.items
     pub shelved : Shelved (view t.seat) t.held.items t.shelf.items
     pub used : used (seen view t) ≤ t.rows
@@ -24,4 +24,4 @@ module _ {S P D : Type 0} where
   -- the tree is in order, and its seat and the desk come from one maker
   pub record Fits (view : S → View P) (fits : S → D → Type 0) (t : Tree S P D) (d : D) : Type 0 where
     pub seat : fits t.seat d
-    pub sound : IsSound view t
+    pub sound : IsConsistent view t

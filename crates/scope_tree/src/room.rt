@@ -1,7 +1,7 @@
 //! The room of a tree, made before its first call.
 ghost use Rattle.std.specs.Prelude.{◌≡◌, ◌≤◌, [], vec_capacity, IfOk};
 
-use crate::branch::{Branch, Held, Spent};
+use crate::branch::{AcquiredRow, Branch, Spent};
 use std::alloc::{AllocError, Global};
 
 /// Room for scopes and rows. Each row that a tree acquires uses one, and so does each row of
@@ -9,7 +9,7 @@ use std::alloc::{AllocError, Global};
 #[derive(Drop)]
 pub struct Room<P> {
     pub(crate) branches: Vec<Branch>,
-    pub(crate) held: Vec<Held>,
+    pub(crate) held: Vec<AcquiredRow>,
     pub(crate) shelf: Vec<Spent<P>>,
     pub(crate) scopes: u32,
     pub(crate) rows: u32,

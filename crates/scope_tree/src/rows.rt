@@ -4,7 +4,7 @@ ghost use Rattle.scope_tree.specs.Kept.{held_pairs};
 ghost use Rattle.scope_tree.specs.Released.{said};
 ghost use Rattle.scope_tree.specs.Standings.{found};
 
-use crate::branch::{Held, Spent};
+use crate::branch::{AcquiredRow, Spent};
 
 /// Whether the row ended well, if it ended here.
 pub fn outcome<P>(shelf: &[Spent<P>], row: u32) -> Option<bool>
@@ -19,7 +19,7 @@ pub fn outcome<P>(shelf: &[Spent<P>], row: u32) -> Option<bool>
 }
 
 /// The scope in which the row was acquired, if it was.
-pub fn scope_of(held: &[Held], row: u32) -> Option<u32>
+pub fn scope_of(held: &[AcquiredRow], row: u32) -> Option<u32>
     ensures { result ≡ found row (held_pairs held.now) }
 {
     'each: for one in held {

@@ -5,7 +5,7 @@ ghost use Rattle.scope_tree.specs.Kids.{lasts, whole};
 ghost use Rattle.scope_tree.specs.Released.{CanRelease, Releases};
 ghost use Rattle.scope_tree.specs.Released.Holder.{owner};
 
-use crate::branch::{Branch, Finish, Held, Spent};
+use crate::branch::{AcquiredRow, Branch, Finish, Spent};
 use crate::finalize::finalize;
 use chunk_core::Exit;
 use row_seat::{Left, RowSeat};
@@ -39,7 +39,7 @@ fn release_rows<S: RowSeat>(
     seat: &mut S,
     desk: &mut S::Desk,
     shelf: &mut Vec<Spent<S::Pay>>,
-    held: &[Held],
+    held: &[AcquiredRow],
     scope: usize,
     exit: Exit,
 )
@@ -69,7 +69,7 @@ pub fn tear<S: RowSeat>(
     desk: &mut S::Desk,
     shelf: &mut Vec<Spent<S::Pay>>,
     branches: &[Branch],
-    held: &[Held],
+    held: &[AcquiredRow],
     scope: usize,
     exit: Exit,
 )

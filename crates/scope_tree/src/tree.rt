@@ -13,13 +13,13 @@ ghost use Rattle.row_seat.specs.Views.{AreApart, AtRest, CanFinish, CanJoin, Can
 ghost use Rattle.scope_tree.specs.Rows.{strangers};
 ghost use Rattle.scope_tree.specs.Released.{away, said};
 ghost use Rattle.scope_tree.specs.Words.{ended_rows, owed, own_rows, words};
-ghost use Rattle.scope_tree.specs.Calls.{Acquires, AtStart, Cancels, Closes, IsClosedScope, IsOpenScope, KeepsScopes, Leases, Opens, TakesRoom, WasOpened, used};
+ghost use Rattle.scope_tree.specs.Calls.{AcquiresRow, AtStart, Cancels, ClosesScope, IsClosedScope, IsOpenScope, KeepsScopes, Leases, OpensScope, TakesRoom, WasOpened, used};
 ghost use Rattle.scope_tree.specs.Rights.{AddsLease, DropsLease, HasNoLeaseBut, IsNewStream, IsSameSeat, KeepsLeases};
 ghost use Rattle.scope_tree.specs.Standings.{StandsAs};
-ghost use Rattle.scope_tree.specs.Trees.{Fits, IsSound, seen};
-ghost use Rattle.scope_tree.specs.Lending.{lends_pay, lent};
+ghost use Rattle.scope_tree.specs.Trees.{Fits, IsConsistent, seen};
+ghost use Rattle.scope_tree.specs.Lending.{lends_pay, lent_tree};
 
-use crate::branch::{Branch, Finish, Held, Spent, Standing};
+use crate::branch::{AcquiredRow, Branch, Finish, Spent, Standing};
 use crate::leases::{Lease, lease_rows};
 use crate::leaving::leave_all;
 use crate::room::Room;
@@ -38,7 +38,7 @@ use std::alloc::{AllocError, Global};
 pub struct Tree<S: RowSeat> {
     seat: S,
     branches: Vec<Branch>,
-    held: Vec<Held>,
+    held: Vec<AcquiredRow>,
     shelf: Vec<Spent<S::Pay>>,
     scopes: u32,
     rows: u32,
@@ -88,7 +88,7 @@ where
         requires at { WasOpened (seen S.view self.old) at }
         requires room { length (opens (words (seen S.view self.old).seat)) + 1 < (seen S.view self.old).scopes }
         requires free { owed (seen S.view self.old).seat + 2 ≤ (seen S.view self.old).seat.spare }
-        ensures opens { Opens (seen S.view self.old) at result (seen S.view self.new) }
+        ensures opens { OpensScope (seen S.view self.old) at result (seen S.view self.new) }
         ensures child { IsOpenScope (seen S.view self.new) result }
         ensures scopes { KeepsScopes (seen S.view self.old) (seen S.view self.new) }
         ensures empty { (r : ℕ) → IsAmong r (seen S.view self.old).seat.empty → IsAmong r (seen S.view self.new).seat.empty }
@@ -117,7 +117,7 @@ where
         requires row { IsAmong row (seen S.view self.old).seat.empty }
         requires room { used (seen S.view self.old) + 1 ≤ (seen S.view self.old).rows }
         requires free { owed (seen S.view self.old).seat + 2 ≤ (seen S.view self.old).seat.spare }
-        ensures acquires { Acquires (seen S.view self.old) scope row pay (seen S.view self.new) }
+        ensures acquires { AcquiresRow (seen S.view self.old) scope row pay (seen S.view self.new) }
         ensures scopes { KeepsScopes (seen S.view self.old) (seen S.view self.new) }
         ensures empty { (r : ℕ) → r ≢ row → IsAmong r (seen S.view self.old).seat.empty → IsAmong r (seen S.view self.new).seat.empty }
         ensures rights { IsSameSeat (seen S.view self.old).seat (seen S.view self.new).seat }
@@ -129,7 +129,7 @@ where
     {
         self.seat.note(desk, What::Acquire { row, scope });
         self.seat.place(desk, row, pay);
-        self.held.push_reserved(Held { row, scope });
+        self.held.push_reserved(AcquiredRow { row, scope });
     }
 
     /// The payload of an open row, for reading and writing.
@@ -143,7 +143,7 @@ where
 
     // Whether a lease on the scope covers rows of `of`.
     fn reaches(&self, scope: u32, of: u32) -> bool
-        requires tree { IsSound S.view self.now }
+        requires tree { IsConsistent S.view self.now }
         requires scope { IsOpenScope (seen S.view self.now) scope }
         requires of { WasOpened (seen S.view self.now) of }
         ensures { result ≡ reaches (words (seen S.view self.now).seat) scope of }
@@ -155,7 +155,7 @@ where
 
     // The rows that a lease on the scope covers, in the order of their acquisition.
     fn covered(&self, alloc: Global, scope: u32) -> Result<Vec<u32>, AllocError>
-        requires tree { IsSound S.view self.now }
+        requires tree { IsConsistent S.view self.now }
         requires scope { IsOpenScope (seen S.view self.now) scope }
         ensures { IfOk result (λ rows. rows.items ≡ leased_rows (words (seen S.view self.now).seat) scope) }
     {
@@ -207,7 +207,7 @@ where
     pub fn close(&mut self, desk: &mut S::Desk, scope: u32, exit: Exit)
         requires fits { Fits S.view S.fits self.old desk.old }
         requires scope { IsOpenScope (seen S.view self.old) scope }
-        ensures closes { Closes S.Pay.ends (seen S.view self.old) scope exit (seen S.view self.new) }
+        ensures closes { ClosesScope S.Pay.ends (seen S.view self.old) scope exit (seen S.view self.new) }
         ensures closed { IsClosedScope (seen S.view self.new) scope }
         ensures scopes { (s : ℕ) → IsClosedScope (seen S.view self.old) s → IsClosedScope (seen S.view self.new) s }
         ensures empty { (r : ℕ) → IsAmong r (seen S.view self.old).seat.empty → IsAmong r (seen S.view self.new).seat.empty }
@@ -302,7 +302,7 @@ where
 
     /// How the row stands for this tree.
     pub fn status(&self, row: u32) -> Standing
-        requires tree { IsSound S.view self.now }
+        requires tree { IsConsistent S.view self.now }
         ensures { StandsAs (seen S.view self.now) row result }
     {
         if let Some(ok) = outcome(&self.shelf, row) {
@@ -323,7 +323,7 @@ where
     /// The seat and the rows that ended, in the order of their ends, once all scopes are closed. Where
     /// no other stream can hold a row back, these are all that were acquired.
     pub fn end(self) -> (S, List<Spent<S::Pay>>)
-        requires tree { IsSound S.view self }
+        requires tree { IsConsistent S.view self }
         requires closed { IsClosedScope (seen S.view self) 0 }
         ensures seat { S.view result.0 ≡ (seen S.view self).seat }
         ensures fits { (d : S.Desk) → Fits S.view S.fits self d → S.fits result.0 d }

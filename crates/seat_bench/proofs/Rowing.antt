@@ -15,7 +15,7 @@ use Rattle.res_ledger.specs.Ledger.{IsAcquired, IsClosed, IsCoveredBy, IsLeased,
 use Rattle.res_ledger.specs.Ledger.LiesWithin.{same, below}
 use Rattle.row_seat.specs.declared.view.Left.TheVariants.{Stays, Yours}
 use Rattle.row_seat.specs.declared.view.View.{View}
-use Rattle.row_seat.specs.Views.{CanClose, CanLease, CanLeave, CanSplit, split_main, split_off, within, CanPlace, CanTake, Closes, Leaves, MayNote, handed_over, leased, noted, placed, run, shut, start, took, without, without_pair, without_row}
+use Rattle.row_seat.specs.Views.{CanClose, CanLease, CanLeave, CanSplit, split_main, split_off, within, CanPlace, CanTake, ClosesRow, LeavesRow, MayNote, handed_over, leased, noted, placed, run, shut, start, took, without, without_pair, without_row}
 use Rattle.row_seat.proofs.Members.{among_kept}
 use Rattle.shared_scripts.specs.Races.{IsEnded}
 use Rattle.seat_bench.specs.Rows.{IsHost, IsIdle, IsLent, IsMain, IsOpen, IsPast, IsShut}
@@ -197,7 +197,7 @@ module _ {P : Type 0} where
     none_open : without_row n v.opened ≡ []
     none_open = ap (λ l. without_row n l) i.opened ∙ no_row n i.pay
 
-    pub close_stays : (w : View P) → Closes closing n Stays w → IsShut w n to
+    pub close_stays : (w : View P) → ClosesRow closing n Stays w → IsShut w n to
     close_stays w x = subst (λ z. IsShut z n to) (sym x.2) (record {
       at = record { past = past_close; empty = i.at.empty; handed = i.at.handed; taken = i.at.taken; had = i.at.had };
       opened = none_open;
@@ -206,10 +206,10 @@ module _ {P : Type 0} where
       room = (let room = i.room in omega arith);
     })
 
-    pub close_takes : (w : View P) → Closes closing n Yours w → CanTake w n × (1 ≤ w.spare)
+    pub close_takes : (w : View P) → ClosesRow closing n Yours w → CanTake w n × (1 ≤ w.spare)
     close_takes w x = let room = i.room in subst (λ z. CanTake z n × (1 ≤ z.spare)) (sym x.2) ((among_last v.handed n, λ m. among_nil (subst (λ l. IsAmong n l) i.at.taken m)), omega arith)
 
-    pub close_ends : (w u : View P) → Closes closing n Yours w → (ok : Bool) → IsEnded w n ok u → IsShut u n to
+    pub close_ends : (w u : View P) → ClosesRow closing n Yours w → (ok : Bool) → IsEnded w n ok u → IsShut u n to
     close_ends w u x ok is =
         let f : View P → View P = λ z. noted (took z n) (event (took z n) is.0 (Final n Succeeded ok)) in
         let g : View P = handed_over (shut closing n x.0) n x.0 in
@@ -246,7 +246,7 @@ module _ {P : Type 0} where
     none_kept : without n v.kept ≡ []
     none_kept = ap (λ l. without n l) i.kept ∙ none_left n
 
-    pub leave_stays : (w : View P) → Leaves leaving n n Stays w → IsIdle w (n + 1) to
+    pub leave_stays : (w : View P) → LeavesRow leaving n n Stays w → IsIdle w (n + 1) to
     leave_stays w x = subst (λ z. IsIdle z (n + 1) to) (sym x.0) (record {
       at = record { past = past_leave; empty = i.at.empty; handed = i.at.handed; taken = i.at.taken; had = i.at.had };
       opened = i.opened;
@@ -255,10 +255,10 @@ module _ {P : Type 0} where
       room = (let room = i.room in omega arith);
     })
 
-    pub leave_takes : (w : View P) → Leaves leaving n n Yours w → CanTake w n × (1 ≤ w.spare)
+    pub leave_takes : (w : View P) → LeavesRow leaving n n Yours w → CanTake w n × (1 ≤ w.spare)
     leave_takes w x = let room = i.room in subst (λ z. CanTake z n × (1 ≤ z.spare)) (sym x.1) ((among_last v.handed n, λ m. among_nil (subst (λ l. IsAmong n l) i.at.taken m)), omega arith)
 
-    pub leave_ends : (w u : View P) → Leaves leaving n n Yours w → (ok : Bool) → IsEnded w n ok u → IsIdle u (n + 1) to
+    pub leave_ends : (w u : View P) → LeavesRow leaving n n Yours w → (ok : Bool) → IsEnded w n ok u → IsIdle u (n + 1) to
     leave_ends w u x ok is =
         let f : View P → View P = λ z. noted (took z n) (event (took z n) is.0 (Final n Succeeded ok)) in
         subst (λ z. IsIdle z (n + 1) to) (sym (is.1 ∙ ap f x.1)) (record {
@@ -296,7 +296,7 @@ module _ {P : Type 0} where
     none_opened : without_row n v.opened ≡ []
     none_opened = ap (λ l. without_row n l) i.opened ∙ no_row n i.pay
 
-    pub end_stays : (w : View P) → Closes ending n Stays w → IsIdle w (n + 1) to
+    pub end_stays : (w : View P) → ClosesRow ending n Stays w → IsIdle w (n + 1) to
     end_stays w x = subst (λ z. IsIdle z (n + 1) to) (sym x.2) (record {
       at = record { past = past_end; empty = i.at.empty; handed = i.at.handed; taken = i.at.taken; had = i.at.had };
       opened = none_opened;
@@ -305,10 +305,10 @@ module _ {P : Type 0} where
       room = (let room = i.room in omega arith);
     })
 
-    pub end_takes : (w : View P) → Closes ending n Yours w → CanTake w n × (1 ≤ w.spare)
+    pub end_takes : (w : View P) → ClosesRow ending n Yours w → CanTake w n × (1 ≤ w.spare)
     end_takes w x = let room = i.room in subst (λ z. CanTake z n × (1 ≤ z.spare)) (sym x.2) ((among_last v.handed n, λ m. among_nil (subst (λ l. IsAmong n l) i.at.taken m)), omega arith)
 
-    pub end_ends : (w u : View P) → Closes ending n Yours w → (ok : Bool) → IsEnded w n ok u → IsIdle u (n + 1) to
+    pub end_ends : (w u : View P) → ClosesRow ending n Yours w → (ok : Bool) → IsEnded w n ok u → IsIdle u (n + 1) to
     end_ends w u x ok is =
         let f : View P → View P = λ z. noted (took z n) (event (took z n) is.0 (Final n Succeeded ok)) in
         subst (λ z. IsIdle z (n + 1) to) (sym (is.1 ∙ ap f x.2)) (record {

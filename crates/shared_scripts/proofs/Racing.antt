@@ -13,7 +13,7 @@ use Rattle.res_ledger.specs.Ledger.{IsAcquired}
 use Rattle.res_ledger.specs.Ledger.LiesWithin.{same}
 use Rattle.row_seat.specs.declared.view.Left.TheVariants.{Stays, Yours}
 use Rattle.row_seat.specs.declared.view.View.{View}
-use Rattle.row_seat.specs.Views.{CanClose, CanFinish, CanJoin, CanLeave, CanTake, Closes, Leaves, MayNote, joined, name_of, noted, took, without, without_pair, without_row}
+use Rattle.row_seat.specs.Views.{CanClose, CanFinish, CanJoin, CanLeave, CanTake, ClosesRow, LeavesRow, MayNote, joined, name_of, noted, took, without, without_pair, without_row}
 use Rattle.row_shared.specs.declared.seat.SharedSeat.{SharedSeat}
 use Rattle.row_shared.specs.declared.seat.TableRef.{TableRef}
 use Rattle.row_shared.specs.Seats.{SharedFits, shown}
@@ -46,7 +46,7 @@ module _ {P : Type 0} where
     no_row : without_row 0 v.opened ≡ []
     no_row = ap (λ l. without_row 0 l) o.opened
 
-    pub stays : (w : View P) → Closes closing 0 Stays w → HasClosed w
+    pub stays : (w : View P) → ClosesRow closing 0 Stays w → HasClosed w
     stays w c = let e = c.2 in record {
       main = ap (λ z. z.main) e ∙ o.main;
       by = ap (λ z. z.by) e ∙ o.by;
@@ -59,10 +59,10 @@ module _ {P : Type 0} where
       out = ap (λ z. z.out) e ∙ o.out;
     }
 
-    pub yours_takes : (w : View P) → Closes closing 0 Yours w → CanTake w 0 × (1 ≤ w.spare)
+    pub yours_takes : (w : View P) → ClosesRow closing 0 Yours w → CanTake w 0 × (1 ≤ w.spare)
     yours_takes w c = subst (λ z. CanTake z 0 × (1 ≤ z.spare)) (sym c.2) ((among_last v.handed 0, λ m. among_nil (subst (λ l. IsAmong 0 l) o.taken m)), (let s = o.spare in omega arith))
 
-    pub yours : (w u : View P) → Closes closing 0 Yours w → (ok : Bool) → IsEnded w 0 ok u → HasClosed u
+    pub yours : (w u : View P) → ClosesRow closing 0 Yours w → (ok : Bool) → IsEnded w 0 ok u → HasClosed u
     yours w u c ok is = let e = is.1 ∙ ap (λ z. ended z 0 is.0 ok) c.2 in record {
       main = ap (λ z. z.main) e ∙ o.main;
       by = ap (λ z. z.by) e ∙ o.by;
@@ -89,7 +89,7 @@ module _ {P : Type 0} where
     pub can_leave : CanLeave leaving 1 0
     can_leave = (subst (λ l. IsAmong (1, 0) l) (sym o.pairs) (here []), (Succeeded, (event v n (Cancel 1 Succeeded), among_last v.events (event v n (Cancel 1 Succeeded)), refl, refl)))
 
-    pub leave_stays : (w : View P) → Leaves leaving 1 0 Stays w → HasLeft w
+    pub leave_stays : (w : View P) → LeavesRow leaving 1 0 Stays w → HasLeft w
     leave_stays w c = let e = c.0 in record {
       by = ap (λ z. z.by) e ∙ o.by;
       empty = ap (λ z. z.empty) e ∙ o.empty;
@@ -100,10 +100,10 @@ module _ {P : Type 0} where
       taken = ap (λ z. z.taken) e ∙ o.taken;
     }
 
-    pub leave_takes : (w : View P) → Leaves leaving 1 0 Yours w → CanTake w 0 × (1 ≤ w.spare)
+    pub leave_takes : (w : View P) → LeavesRow leaving 1 0 Yours w → CanTake w 0 × (1 ≤ w.spare)
     leave_takes w c = subst (λ z. CanTake z 0 × (1 ≤ z.spare)) (sym c.1) ((among_last v.handed 0, λ m. among_nil (subst (λ l. IsAmong 0 l) o.taken m)), (let s = o.spare in omega arith))
 
-    pub leave_yours : (w u : View P) → Leaves leaving 1 0 Yours w → (ok : Bool) → IsEnded w 0 ok u → HasLeft u
+    pub leave_yours : (w u : View P) → LeavesRow leaving 1 0 Yours w → (ok : Bool) → IsEnded w 0 ok u → HasLeft u
     leave_yours w u c ok is = let e = is.1 ∙ ap (λ z. ended z 0 is.0 ok) c.1 in record {
       by = ap (λ z. z.by) e ∙ o.by;
       empty = ap (λ z. z.empty) e ∙ o.empty;

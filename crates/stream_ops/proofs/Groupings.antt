@@ -15,7 +15,7 @@ use Rattle.pull_nodes.specs.Plain.{multiple, ungrouped}
 use Rattle.pull_nodes.specs.declared.pipe.Pipe.TheVariants as pipe
 use Rattle.pull_nodes.proofs.Groups.{grouped_and_rest, in_groups-append, ungrouped-append}
 use Rattle.pull_nodes.proofs.Meanings.{meaning_is, extends_from, finishes_from}
-use Rattle.stream_ops.specs.ChunkNState.{in_groups, Holds, StandsFor, Comes}
+use Rattle.stream_ops.specs.ChunkNState.{in_groups, KeepsGroup, StandsFor, Comes}
 use Rattle.stream_ops.specs.declared.chunk_n.ChunkNPipe.{ChunkNPipe}
 
 module _ {A : Type 0} (n : ℕ) (held chunk : List A) (fits : length held < n) where
@@ -89,13 +89,13 @@ kind_feed el size n held chunk groups rest m xs came given h is at gives keeps c
     )
 
 module _ (q b : ChunkNPipe) (came : Load) (size : b.size ≡ q.size) (m : Meaning) (xs : List Element) where
-  stays : (n : ℕ) → IsMeaningOf (pipe.ChunkN n) m → q.size ≡ group_size n → (kind : LoadKind) → m.takes ≡ kind → Holds b kind (ungrouped q.size (xs ++ elements came)) → StandsFor b m (xs ++ elements came)
+  stays : (n : ℕ) → IsMeaningOf (pipe.ChunkN n) m → q.size ≡ group_size n → (kind : LoadKind) → m.takes ≡ kind → KeepsGroup b kind (ungrouped q.size (xs ++ elements came)) → StandsFor b m (xs ++ elements came)
   stays n h is kind takes holds =
-      let P : ℕ → LoadKind → Type 0 = λ s k. Holds b k (ungrouped s (xs ++ elements came)) in
+      let P : ℕ → LoadKind → Type 0 = λ s k. KeepsGroup b k (ungrouped s (xs ++ elements came)) in
       (n, h, size ∙ is, subst (P b.size) (sym takes) (subst (λ s. P s kind) (sym size) holds))
 
-  held_of : StandsFor q m xs → (kind : LoadKind) → m.takes ≡ kind → Holds q kind (ungrouped q.size xs)
-  held_of (n, h, is, holds) kind takes = subst (λ k. Holds q k (ungrouped q.size xs)) takes holds
+  held_of : StandsFor q m xs → (kind : LoadKind) → m.takes ≡ kind → KeepsGroup q kind (ungrouped q.size xs)
+  held_of (n, h, is, holds) kind takes = subst (λ k. KeepsGroup q k (ungrouped q.size xs)) takes holds
 
   pub bytes_feed : (chunk groups : List ℕ) → came ≡ load.Bytes chunk → groups ≡ in_groups q.size (q.bytes.items ++ chunk) → b.bytes.items ≡ ungrouped q.size (q.bytes.items ++ chunk)
       → b.lines.items ≡ q.lines.items → b.rows.items ≡ q.rows.items → StandsFor q m xs → m.takes ≡ kind_of came → Feeds m xs (elements came) (fed.Out (load.Bytes groups)) (StandsFor b m)
@@ -125,8 +125,8 @@ gives_same : (n : ℕ) (m : Meaning) → IsMeaningOf (pipe.ChunkN n) m → m.tak
 gives_same n m h = let e = (meaning_is (pipe.ChunkN n) m h).1 in (cc)
 
 -- what is held comes at the end
-pub groups_finish : (q b : ChunkNPipe) (rest : Load) → ((kind : LoadKind) (ys : List Element) → Holds q kind ys → elements rest ≡ ys)
-    → ((kind : LoadKind) (ys : List Element) → Holds q kind ys → 0 < length ys → kind_of rest ≡ kind) → ((kind : LoadKind) (ys : List Element) → Holds q kind ys → Holds b kind [])
+pub groups_finish : (q b : ChunkNPipe) (rest : Load) → ((kind : LoadKind) (ys : List Element) → KeepsGroup q kind ys → elements rest ≡ ys)
+    → ((kind : LoadKind) (ys : List Element) → KeepsGroup q kind ys → 0 < length ys → kind_of rest ≡ kind) → ((kind : LoadKind) (ys : List Element) → KeepsGroup q kind ys → KeepsGroup b kind [])
     → 0 < length (elements rest) → (m : Meaning) (xs : List Element) → StandsFor q m xs → Finishes m xs (fed.Out rest) (Comes b m.gives)
 groups_finish q b rest is kind none some m xs (n, h, size, holds) =
     let ys = ungrouped q.size xs in
@@ -135,4 +135,4 @@ groups_finish q b rest is kind none some m xs (n, h, size, holds) =
     let given : kind_of rest ≡ m.gives = kind m.takes ys holds (subst (λ (l : List Element). 0 < length l) all some) ∙ same in
     let P : ℕ → Type 0 = λ s. in_groups s xs ++ ungrouped q.size xs ≡ xs in
     finishes_from (pipe.ChunkN n) m h xs ys (fed.Out rest) (Comes b m.gives) (subst P size (grouped_and_rest q.size (size_pos q.size n size) xs))
-    (given, some, [], sym all ∙ sym (append-nil (elements rest)), (subst (λ k. Holds b k []) same (none m.takes ys holds), refl, refl))
+    (given, some, [], sym all ∙ sym (append-nil (elements rest)), (subst (λ k. KeepsGroup b k []) same (none m.takes ys holds), refl, refl))

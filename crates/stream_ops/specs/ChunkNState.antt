@@ -15,15 +15,15 @@ abbrev pub in_groups : {A : Type 0} → ℕ → List A → List A
 in_groups n xs = take (multiple n (length xs)) xs
 
 -- it keeps these elements of one kind, and none of another
-abbrev pub Holds : ChunkNPipe → LoadKind → List Element → Type 0
-Holds q Bytes ys = (map Byte q.bytes.items ≡ ys) × (q.lines.items ≡ []) × (q.rows.items ≡ [])
-Holds q Lines ys = (map Line q.lines.items ≡ ys) × (q.bytes.items ≡ []) × (q.rows.items ≡ [])
-Holds q Rows ys = (map Row q.rows.items ≡ ys) × (q.bytes.items ≡ []) × (q.lines.items ≡ [])
+abbrev pub KeepsGroup : ChunkNPipe → LoadKind → List Element → Type 0
+KeepsGroup q Bytes ys = (map Byte q.bytes.items ≡ ys) × (q.lines.items ≡ []) × (q.rows.items ≡ [])
+KeepsGroup q Lines ys = (map Line q.lines.items ≡ ys) × (q.bytes.items ≡ []) × (q.rows.items ≡ [])
+KeepsGroup q Rows ys = (map Row q.rows.items ≡ ys) × (q.bytes.items ≡ []) × (q.lines.items ≡ [])
 
 -- it keeps the elements behind the last whole group
 abbrev pub StandsFor : ChunkNPipe → Meaning → List Element → Type 0
-StandsFor q m xs = (n : ℕ) × IsMeaningOf (pipe.ChunkN n) m × (q.size ≡ group_size n) × Holds q m.takes (ungrouped q.size xs)
+StandsFor q m xs = (n : ℕ) × IsMeaningOf (pipe.ChunkN n) m × (q.size ≡ group_size n) × KeepsGroup q m.takes (ungrouped q.size xs)
 
 -- nothing is still to come: what it kept came as one load
 abbrev pub Comes : ChunkNPipe → LoadKind → List Element → Option Code → Type 0
-Comes q kind ys c = Holds q kind [] × (ys ≡ []) × (c ≡ None)
+Comes q kind ys c = KeepsGroup q kind [] × (ys ≡ []) × (c ≡ None)

@@ -5,7 +5,7 @@ ghost use Rattle.chunk_core.specs.Feed.{Meaning};
 ghost use Rattle.pull_nodes.specs.Pipes.{IsMeaningOf};
 ghost use Rattle.pull_nodes.specs.Plain.{ungrouped};
 ghost use Rattle.pull_nodes.specs.declared.pipe.Pipe.TheVariants as pipe;
-ghost use Rattle.stream_ops.specs.ChunkNState.{Holds, StandsFor, in_groups};
+ghost use Rattle.stream_ops.specs.ChunkNState.{KeepsGroup, StandsFor, in_groups};
 
 use crate::loads::{Appended, Spares};
 use chunk_core::{Chunk, Fed, Feed, Line, Load, Row};
@@ -89,9 +89,9 @@ impl ChunkNPipe {
     }
 
     fn take_rest(&mut self, alloc: Global) -> Result<Load, AllocError>
-        ensures rest { IfOk result (λ rest. (kind : LoadKind) (ys : List Element) → Holds self.old kind ys → elements rest ≡ ys) }
-        ensures kind { IfOk result (λ rest. (kind : LoadKind) (ys : List Element) → Holds self.old kind ys → 0 < length ys → kind_of rest ≡ kind) }
-        ensures none { OnOk result ((kind : LoadKind) (ys : List Element) → Holds self.old kind ys → Holds self.new kind []) }
+        ensures rest { IfOk result (λ rest. (kind : LoadKind) (ys : List Element) → KeepsGroup self.old kind ys → elements rest ≡ ys) }
+        ensures kind { IfOk result (λ rest. (kind : LoadKind) (ys : List Element) → KeepsGroup self.old kind ys → 0 < length ys → kind_of rest ≡ kind) }
+        ensures none { OnOk result ((kind : LoadKind) (ys : List Element) → KeepsGroup self.old kind ys → KeepsGroup self.new kind []) }
     {
         if !self.lines.is_empty() {
             return Ok(Load::Lines(take_all(alloc, &mut self.lines)?));

@@ -14,14 +14,14 @@ use Rattle.pull_nodes.specs.Pipes.{IsMeaningOf}
 use Rattle.pull_nodes.specs.Plain.{bytes_of, if_any}
 use Rattle.pull_nodes.specs.declared.pipe.Pipe.TheVariants as pipe
 use Rattle.pull_nodes.proofs.Meanings.{meaning_is, from_bytes-some, extends_from, finishes_from, bytes_of-load}
-use Rattle.text_pipes.specs.LinesState.{StandsAt, StandsFor, Comes, found_in, lines_given, Takes}
+use Rattle.text_pipes.specs.LinesState.{StandsAt, StandsFor, Comes, found_in, lines_given, TakesBytes}
 use Rattle.text_pipes.specs.declared.lines.LinesPipe.{LinesPipe}
 
 pub gives_lines : (m : Meaning) → IsMeaningOf pipe.Lines m → m.gives ≡ Lines
 gives_lines m h = (from_bytes-some Lines m.takes m.gives (meaning_is pipe.Lines m h).1).1
 
 -- the answer to a load
-pub lines_feed : (a b : LinesPipe) (bytes : List ℕ) (lines given : List (List ℕ)) (long : Bool) → Takes a bytes lines long b → given ≡ lines
+pub lines_feed : (a b : LinesPipe) (bytes : List ℕ) (lines given : List (List ℕ)) (long : Bool) → TakesBytes a bytes lines long b → given ≡ lines
     → (m : Meaning) (xs ys : List Element) → ys ≡ map Byte bytes → StandsFor a m xs
     → Extends m xs ys (load.Lines given) (long_fault long) × (long ≡ false → StandsFor b m (xs ++ ys))
 unfolding found_in

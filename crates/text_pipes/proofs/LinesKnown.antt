@@ -4,12 +4,12 @@ use Rattle.std.proofs.lemmas.Bool.{and_parts, eqb-true}
 use Rattle.std.proofs.lemmas.Bool.Decides.{nat_tests}
 use Rattle.std.proofs.lemmas.List.{append-nil}
 use Rattle.pull_nodes.specs.Lines.{IsFree, is_end, is_long}
-use Rattle.text_pipes.specs.LinesState.{StandsAt, StandsAfter, lines_given, Takes}
+use Rattle.text_pipes.specs.LinesState.{StandsAt, StandsAfter, lines_given, TakesBytes}
 use Rattle.text_pipes.specs.declared.lines.LinesPipe.{LinesPipe}
 use Rattle.text_pipes.proofs.LinesSteps.{line_step, skip_step, open_step, long_step}
 
 -- too many bytes without a line end
-pub long_from : (a : LinesPipe) (front : List ℕ) (n : ℕ) → IsFree front → 1048576 < n → n ≤ length a.held.items + length front → Takes a front [] true a
+pub long_from : (a : LinesPipe) (front : List ℕ) (n : ℕ) → IsFree front → 1048576 < n → n ≤ length a.held.items + length front → TakesBytes a front [] true a
 long_from a front n f long le xs s = (long_step a.held.items a.after_cr xs front s f (grind (arith, nat_tests, length-append)), λ e. (cc))
 
 abbrev pub SteppedTo : LinesPipe → List ℕ → List (List ℕ) → List (List ℕ) → List ℕ → Bool → List ℕ → Type 0

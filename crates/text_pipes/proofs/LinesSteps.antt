@@ -5,7 +5,7 @@ use Rattle.std.specs.List.{before_first}
 use Rattle.pull_nodes.specs.Lines.{IsFree, is_end, last_byte, without_pairs, ended_lines, open_line, is_long, has_long}
 use Rattle.pull_nodes.proofs.LineLaws.{short-append, long-append, long-free}
 use Rattle.pull_nodes.proofs.Texts.{last_byte-append, without_pairs-append, open_line-append, ended_lines-free, open_line-free, ended_lines-line, open_line-line, free-open_line, free-append, without_pairs-free, without_pairs-line, without_pairs-same, last_byte-free, last_byte-line}
-use Rattle.text_pipes.specs.LinesState.{StandsAt, StandsAfter, found_in, lines_given, Takes}
+use Rattle.text_pipes.specs.LinesState.{StandsAt, StandsAfter, found_in, lines_given, TakesBytes}
 use Rattle.text_pipes.specs.declared.lines.LinesPipe.{LinesPipe}
 
 -- the lines of a text that goes on
@@ -115,13 +115,13 @@ long_step line cr xs x s f long =
     rw found at (goes_on line cr xs x x s y)
 
 -- no step
-pub fed_none : (a : LinesPipe) → Takes a [] [] false a
+pub fed_none : (a : LinesPipe) → TakesBytes a [] [] false a
 fed_none a xs s =
     let none : lines_given xs ≡ ((lines_given xs).0, false) = ap (λ (b : Bool). ((lines_given xs).0, b)) (long_given xs ∙ s.short) in
     (ap lines_given (append-nil xs) ∙ (none ∙ ap (λ l. (l, false)) (sym (append-nil (lines_given xs).0))), λ _. subst (λ l. StandsAfter a l) (sym (append-nil xs)) s)
 
 -- one step after another
-pub fed_then : (a b c : LinesPipe) (x y : List ℕ) (ms ns : List (List ℕ)) (f : Bool) → Takes a x ms false b → Takes b y ns f c → Takes a (x ++ y) (ms ++ ns) f c
+pub fed_then : (a b c : LinesPipe) (x y : List ℕ) (ms ns : List (List ℕ)) (f : Bool) → TakesBytes a x ms false b → TakesBytes b y ns f c → TakesBytes a (x ++ y) (ms ++ ns) f c
 fed_then a b c x y ms ns f first next xs s =
     let (p, stands) = first xs s in
     let (q, more) = next (xs ++ x) (stands refl) in
@@ -129,7 +129,7 @@ fed_then a b c x y ms ns f first next xs s =
     (whole, rw (append_assoc xs x y) at more)
 
 -- after a line that is too long
-pub fed_long : (a b c : LinesPipe) (x y : List ℕ) (ms : List (List ℕ)) → Takes a x ms true b → Takes a (x ++ y) ms true c
+pub fed_long : (a b c : LinesPipe) (x y : List ℕ) (ms : List (List ℕ)) → TakesBytes a x ms true b → TakesBytes a (x ++ y) ms true c
 fed_long a b c x y ms first xs s =
     let (p, stands) = first xs s in
     let stays : lines_given ((xs ++ x) ++ y) ≡ lines_given (xs ++ x) = lines-stay (xs ++ x) y (ap (λ z. z.1) p) in

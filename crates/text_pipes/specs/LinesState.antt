@@ -42,10 +42,10 @@ abbrev pub Comes : LinesPipe → LoadKind → List Element → Option Code → T
 Comes q kind ys c = (kind ≡ Lines) × (ys ≡ map Line (if_any q.held.items)) × (c ≡ None)
 
 -- behind any bytes that the state stands for, the bytes x give these lines more, and tell whether a line is too long
-abbrev pub Takes : LinesPipe → List ℕ → List (List ℕ) → Bool → LinesPipe → Type 0
-Takes a x ms long b = (xs : List ℕ) → StandsAfter a xs → (lines_given (xs ++ x) ≡ ((lines_given xs).0 ++ ms, long)) × (long ≡ false → StandsAfter b (xs ++ x))
+abbrev pub TakesBytes : LinesPipe → List ℕ → List (List ℕ) → Bool → LinesPipe → Type 0
+TakesBytes a x ms long b = (xs : List ℕ) → StandsAfter a xs → (lines_given (xs ++ x) ≡ ((lines_given xs).0 ++ ms, long)) × (long ≡ false → StandsAfter b (xs ++ x))
 
 -- what one step did with a front of the bytes, before what is left of them
 abbrev pub Stepped : LinesPipe → List ℕ → List (List ℕ) → List (List ℕ) → LinesPipe → Option (List ℕ) → Type 0
-Stepped a bytes old new b (Some left) = (x : List ℕ) × (ms : List (List ℕ)) × (x ++ left ≡ bytes) × (length left < length bytes) × (new ≡ old ++ ms) × Takes a x ms false b
-Stepped a bytes old new b None = (x : List ℕ) × (left : List ℕ) × (x ++ left ≡ bytes) × (new ≡ old) × Takes a x [] true b
+Stepped a bytes old new b (Some left) = (x : List ℕ) × (ms : List (List ℕ)) × (x ++ left ≡ bytes) × (length left < length bytes) × (new ≡ old ++ ms) × TakesBytes a x ms false b
+Stepped a bytes old new b None = (x : List ℕ) × (left : List ℕ) × (x ++ left ≡ bytes) × (new ≡ old) × TakesBytes a x [] true b

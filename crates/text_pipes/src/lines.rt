@@ -4,7 +4,7 @@ ghost use Rattle.chunk_core.specs.Feed.{Meaning};
 ghost use Rattle.pull_nodes.specs.Lines.{IsFree};
 ghost use Rattle.pull_nodes.specs.Pipes.{IsMeaningOf};
 ghost use Rattle.pull_nodes.specs.declared.pipe.Pipe.TheVariants as pipe;
-ghost use Rattle.text_pipes.specs.LinesState.{StandsFor, StopsAtEnd, Takes, Stepped};
+ghost use Rattle.text_pipes.specs.LinesState.{StandsFor, StopsAtEnd, TakesBytes, Stepped};
 
 use crate::loads::{into_bytes, one_line};
 use chunk_core::{Code, Fed, Feed, Line, Load, Spare};
@@ -89,7 +89,7 @@ impl LinesPipe {
 
     /// The lines that end in these bytes, and whether a line is too long.
     fn take(&mut self, alloc: Global, bytes: &[u8]) -> Result<(Vec<Line>, bool), AllocError>
-        ensures { IfOk result (λ p. Takes self.old bytes.now p.0.items p.1 self.new) }
+        ensures { IfOk result (λ p. TakesBytes self.old bytes.now p.0.items p.1 self.new) }
     {
         let mut lines = Vec::new(alloc);
         let mut left = bytes;

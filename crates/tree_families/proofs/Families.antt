@@ -15,11 +15,11 @@ use Rattle.scope_tree.specs.Calls.{AtStart, IsClosedScope, Seen}
 use Rattle.tree_laws.specs.Alone.{HasNoOthers}
 use Rattle.tree_laws.specs.Called.{Called}
 use Rattle.tree_laws.specs.Called.Called.{none, split, taken_in}
-use Rattle.tree_laws.specs.Ends.{AreCovered, IsFinished}
+use Rattle.tree_laws.specs.Ends.{AreCovered, IsFinishedLedger}
 use Rattle.tree_laws.specs.Lent.{Lent}
 use Rattle.tree_laws.specs.Names.{HasReturned}
 use Rattle.tree_laws.specs.Visits.{Visits}
-use Rattle.tree_laws.specs.Whole.{IsWhole, IsWholeFor}
+use Rattle.tree_laws.specs.Whole.{IsWholeLedger, IsWholeFor}
 use Rattle.tree_laws.proofs.After.{IsAfter, folio}
 use Rattle.tree_laws.proofs.Along.{called_after}
 use Rattle.tree_laws.proofs.Covered.{lent_covered}
@@ -30,7 +30,7 @@ use Rattle.tree_laws.proofs.Shelved.{shelves_apart}
 use Rattle.tree_families.specs.Families.{CameBack, IsFamily, Split, split_of}
 use Rattle.tree_families.specs.Laws.{ShelvesOfFamily}
 
-own_finished : {P : Type 0} (b : Seen P) (L : List Event) → IsLedgerOf b.seat L → IsFinished b b.seat L
+own_finished : {P : Type 0} (b : Seen P) (L : List Event) → IsLedgerOf b.seat L → IsFinishedLedger b b.seat L
 own_finished b L ledger = record { ledger = ledger; own = λ e i. ((λ m. m), (λ m. m)) }
 
 module _ {P : Type 0} {ends : P → Exit → Bool → P → Type 0} where
@@ -138,7 +138,7 @@ module _ {P : Type 0} {ends : P → Exit → Bool → P → Type 0} where
   back_by : {b : Seen P} {j n : ℕ} (t : CameBack ends b j n) → t.last.seat.by ≡ Inner j
   back_by t = (called_after t.visit.calls).by ∙ t.visit.guest.by
 
-  back_finished : (b : Seen P) (L : List Event) {j n : ℕ} (t : CameBack ends b j n) → IsLedgerOf b.seat L → IsFinished t.last b.seat L
+  back_finished : (b : Seen P) (L : List Event) {j n : ℕ} (t : CameBack ends b j n) → IsLedgerOf b.seat L → IsFinishedLedger t.last b.seat L
   back_finished b L t ledger = record { ledger = ledger; own = λ e i. t.own e (i ∙ back_by t) }
 
   pub family_shelves : ShelvesOfFamily ends
@@ -152,7 +152,7 @@ module _ {P : Type 0} {ends : P → Exit → Bool → P → Type 0} where
   back_whole b j n L t ledger covered =
       subst (λ q. IsWholeFor L q) (back_by t) (called_whole b.seat L t.visit.guest.start t.visit.calls (back_finished b L t ledger) t.visit.root (covered t.rows t.lent))
 
-  pub family_whole : (b : Seen P) (ms : List Split) (L : List Event) → IsFamily ends b ms → b.seat.out ≡ [] → IsClosedScope b 0 → IsLedgerOf b.seat L → IsWhole L
+  pub family_whole : (b : Seen P) (ms : List Split) (L : List Event) → IsFamily ends b ms → b.seat.out ≡ [] → IsClosedScope b 0 → IsLedgerOf b.seat L → IsWholeLedger L
   family_whole b ms L f out root ledger =
       let end = own_finished b L ledger in
       let own : IsWholeFor L b.seat.by = called_whole b.seat L f.start f.calls end root (own_leases_covered b.seat L f.start f.calls end f.lent) in

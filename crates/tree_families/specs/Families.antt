@@ -5,7 +5,7 @@ use Rattle.chunk_core.specs.Lists.{IsAmong}
 use Rattle.res_ledger.specs.declared.event.Event.{Event}
 use Rattle.res_ledger.specs.declared.event.StreamNo.TheVariants.{Inner}
 use Rattle.row_seat.specs.declared.view.View.{View}
-use Rattle.row_seat.specs.Views.{above}
+use Rattle.row_seat.specs.Views.{next_stamp}
 use Rattle.scope_tree.specs.Calls.{AtStart, Seen}
 use Rattle.tree_laws.specs.Alone.{HasNoOthers}
 use Rattle.tree_laws.specs.Called.{Called}
@@ -22,7 +22,7 @@ pub record Split : Type 0 where
 module _ {P : Type 0} where
   -- the split of the seat of the stream j from the main seat v
   abbrev pub split_of : View P → ℕ → Split
-  split_of v j = record { stream = j; floor = above v.events; out = v.out }
+  split_of v j = record { stream = j; floor = next_stamp v.events; out = v.out }
 
   module _ (ends : P → Exit → Bool → P → Type 0) where
     -- the seat of the stream j, with the floor n, came back to the main tree b with all that its tree noted, and b had made the lease that this tree cancelled

@@ -15,7 +15,7 @@ use Rattle.tree_laws.specs.Alone.{HasNoOthers}
 use Rattle.tree_laws.specs.Called.{Called}
 use Rattle.tree_laws.specs.Lent.{Lent}
 use Rattle.tree_laws.specs.Visits.{HasNothingOpen, Visits}
-use Rattle.tree_laws.specs.Whole.{IsWhole}
+use Rattle.tree_laws.specs.Whole.{IsWholeLedger}
 use Rattle.tree_families.specs.Families.{CameBack, IsFamily, Split, split_of}
 use Rattle.tree_families.specs.Pace.{IsInPace, LeasesAhead, WithinWidth}
 
@@ -32,7 +32,7 @@ module _ {P : Type 0} (ends : P → Exit → Bool → P → Type 0) where
 
   -- once the root is closed and all seats are back, the finished ledger is legal, complete and in order
   abbrev pub FamilyIsWhole : Type 0
-  FamilyIsWhole = (b : Seen P) (ms : List Split) (L : List Event) → IsFamily ends b ms → b.seat.out ≡ [] → IsClosedScope b 0 → IsLedgerOf b.seat L → IsWhole L
+  FamilyIsWhole = (b : Seen P) (ms : List Split) (L : List Event) → IsFamily ends b ms → b.seat.out ≡ [] → IsClosedScope b 0 → IsLedgerOf b.seat L → IsWholeLedger L
 
   -- where all trees of a family began with an empty shelf, no row stands on two of their shelves: not on the main tree's and on that of one whose seat came back, and not on those of two that came back
   pub record ShelvesOfFamily : Type 0 where

@@ -17,7 +17,7 @@ use Rattle.res_ledger.proofs.Growth.{noted_more, noted_new}
 use Rattle.res_ledger.proofs.Ledgers.{by_both, by_in, by_none, inner_is}
 use Rattle.res_ledger.specs.Rising.{Rises}
 use Rattle.row_seat.specs.declared.view.View.{View}
-use Rattle.row_seat.specs.Views.{AreApart, CanJoin, CanSplit, IsFresh, joined, kept_after, name_of, noted, split_main}
+use Rattle.row_seat.specs.Views.{AreApart, CanJoin, CanSplit, IsFreshStamp, joined, kept_after, name_of, noted, split_main}
 use Rattle.row_seat.proofs.Members.{among_kept, among_without}
 use Rattle.scope_tree.proofs.Shelf.{by_snoc, rises_snoc}
 
@@ -143,7 +143,7 @@ after_event v n w low f plain =
     }
 
 module _ {P : Type 0} where
-  pub after_noted : (v : View P) (n : ℕ) (w : What) → IsFresh v n → (leased_of w ≡ []) ⊎ (v.main ≡ true) → IsAfter (folio v) (folio (noted v (record { stamp = n; by = v.by; what = w })))
+  pub after_noted : (v : View P) (n : ℕ) (w : What) → IsFreshStamp v n → (leased_of w ≡ []) ⊎ (v.main ≡ true) → IsAfter (folio v) (folio (noted v (record { stamp = n; by = v.by; what = w })))
   after_noted v n w f plain = after_event (folio v) n w f.0 f.1 plain
 
   pub after_split : (v : View P) (j from to n : ℕ) → CanSplit v j from to n → IsAfter (folio v) (folio (split_main v j from to n))

@@ -11,7 +11,7 @@ use Rattle.res_ledger.specs.declared.event.What.TheVariants.{Open, Acquire, Leas
 use Rattle.res_ledger.specs.Own.{leased_of}
 use Rattle.row_seat.specs.declared.view.View.{View}
 use Rattle.row_seat.specs.Views.{IsLedgerOf, kept_after, noted, start as first_view}
-use Rattle.scope_tree.specs.Calls.{Acquires, AtStart, Closes, IsClosedScope, Opens, Seen}
+use Rattle.scope_tree.specs.Calls.{AcquiresRow, AtStart, ClosesScope, IsClosedScope, OpensScope, Seen}
 use Rattle.scope_tree.specs.Words.{shutting}
 use Rattle.scope_tree.proofs.Follows.{is_end}
 use Rattle.scope_tree.proofs.Owning.{owner_pairs}
@@ -19,7 +19,7 @@ use Rattle.scope_tree.proofs.Use.{close_follows}
 use Rattle.tree_laws.specs.Alone.{HasNoOthers, StaysAlone}
 use Rattle.tree_laws.specs.Called.{Called}
 use Rattle.tree_laws.specs.Laws.{AloneCanFinish, CallsStayAlone}
-use Rattle.tree_laws.specs.Whole.{IsWhole, IsWholeFor}
+use Rattle.tree_laws.specs.Whole.{IsWholeLedger, IsWholeFor}
 use Rattle.tree_laws.proofs.Ends.{called_whole, whole_each}
 
 pub end_leaseless : (w : What) → is_end w ≡ true → leased_of w ≡ []
@@ -50,10 +50,10 @@ module _ {P : Type 0} where
       let x : Event = record { stamp = n; by = v.by; what = w } in
       record { by = refl; main = refl; pairs = refl; kept = k; had = refl; out = refl; events = λ e m. ⊎_elim (λ o. inl o) (λ i. inr (ap (λ (z : Event). z.by) i, ap (λ (z : Event). leased_of z.what) i ∙ l)) (among_snoc v.events e x m) }
 
-  pub alone_opens : {a b : Seen P} {at c : ℕ} → Opens a at c b → StaysAlone a.seat b.seat
+  pub alone_opens : {a b : Seen P} {at c : ℕ} → OpensScope a at c b → StaysAlone a.seat b.seat
   alone_opens {a = a} {c = c} o = subst (λ v. StaysAlone a.seat v) (sym o.seat) (alone_noted a.seat o.stamp (Open c o.parent) refl refl)
 
-  pub alone_acquires : {a b : Seen P} {s r : ℕ} {p : P} → Acquires a s r p b → StaysAlone a.seat b.seat
+  pub alone_acquires : {a b : Seen P} {s r : ℕ} {p : P} → AcquiresRow a s r p b → StaysAlone a.seat b.seat
   alone_acquires {a = a} {s = s} {r = r} o = subst (λ v. StaysAlone a.seat v) (sym o.seat) (let t = alone_noted a.seat o.stamp (Acquire r s) refl refl in record { by = t.by; main = t.main; pairs = t.pairs; kept = t.kept; had = t.had; out = t.out; events = t.events })
 
   -- the first seat of a run is at its start, alone
@@ -70,7 +70,7 @@ module _ {P : Type 0} where
   alone_can_finish v w h a rest = let o = no_others v w h a in (o.main, (rest.0, rest.3, o.pairs, o.kept, rest.1, rest.2), o.out)
 
 module _ {P : Type 0} {ends : P → Exit → Bool → P → Type 0} where
-  pub alone_closes : {x : Exit} {a b : Seen P} {s : ℕ} → Closes ends a s x b → StaysAlone a.seat b.seat
+  pub alone_closes : {x : Exit} {a b : Seen P} {s : ℕ} → ClosesScope ends a s x b → StaysAlone a.seat b.seat
   alone_closes {x = x} {a = a} {b = b} {s = s} c =
       let f = close_follows c in
       alone_then _ _ _ (alone_noted a.seat c.stamp (Close s x) refl refl) (record {
@@ -93,7 +93,7 @@ module _ {P : Type 0} {ends : P → Exit → Bool → P → Type 0} where
     follow = alone_then;
   }
 
-  pub alone_whole : {a b : Seen P} (L : List Event) → AtStart a.seat → Called ends a [] b → StaysAlone a.seat b.seat → IsClosedScope b 0 → IsLedgerOf b.seat L → IsWhole L
+  pub alone_whole : {a b : Seen P} (L : List Event) → AtStart a.seat → Called ends a [] b → StaysAlone a.seat b.seat → IsClosedScope b 0 → IsLedgerOf b.seat L → IsWholeLedger L
   alone_whole {a = a} {b = b} L start calls alone root ledger =
       let own : IsWholeFor L b.seat.by = called_whole b.seat L start calls (record { ledger = ledger; own = λ e k. ((λ m. m), (λ m. m)) }) root (λ j T m. absurd (among_nil m)) in
       let by : (e : Event) → IsAmong e L → e.by ≡ b.seat.by = λ e m. ⊎_elim (λ n. absurd (among_nil (subst (λ l. IsAmong e l) start.events n))) (λ k. k.0) (alone.events e ((ledger.whole e).0 m)) in

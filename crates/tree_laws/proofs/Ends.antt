@@ -20,7 +20,7 @@ use Rattle.scope_tree.specs.Calls.{AtStart, Cancels, IsClosedScope, Leases, Seen
 use Rattle.scope_tree.proofs.Tidy.{tidy_in_order}
 use Rattle.tree_laws.specs.Called.{Called, MayCancel, MayLease}
 use Rattle.tree_laws.specs.Called.Called.{cancelled, leased}
-use Rattle.tree_laws.specs.Ends.{AreCovered, IsFinished}
+use Rattle.tree_laws.specs.Ends.{AreCovered, IsFinishedLedger}
 use Rattle.tree_laws.specs.Laws.{WholeForEach}
 use Rattle.tree_laws.specs.Lent.{Lent}
 use Rattle.tree_laws.proofs.Covered.{lent_covered}
@@ -31,7 +31,7 @@ use Rattle.tree_laws.proofs.Follows.{called_then}
 use Rattle.tree_laws.proofs.Kept.{called_rises, leases_lent, lent_stays}
 use Rattle.tree_laws.proofs.Rising.{stamped_by}
 
-module _ {P : Type 0} {ends : P → Exit → Bool → P → Type 0} {a b : Seen P} {Cs : List (ℕ × List ℕ)} (u : View P) (L : List Event) (start : AtStart a.seat) (calls : Called ends a Cs b) (end : IsFinished b u L) where
+module _ {P : Type 0} {ends : P → Exit → Bool → P → Type 0} {a b : Seen P} {Cs : List (ℕ × List ℕ)} (u : View P) (L : List Event) (start : AtStart a.seat) (calls : Called ends a Cs b) (end : IsFinishedLedger b u L) where
   pub called_events : by_stream b.seat.by L ≡ by_stream b.seat.by b.seat.events
   called_events = stamped_by L b.seat.events b.seat.by end.ledger.stamped (called_rises start calls) (λ e k. ((λ m. (end.own e k).0 ((end.ledger.whole e).0 m)), (λ m. (end.ledger.whole e).1 ((end.own e k).1 m))))
 
@@ -52,7 +52,7 @@ module _ {P : Type 0} {ends : P → Exit → Bool → P → Type 0} {a b : Seen 
   called_whole root covered = record { legal = end.ledger.legal; order = called_in_order covered; complete = called_complete root }
 
 -- a lease that the tree made and cancelled
-pub one_lease_whole : {P : Type 0} {ends : P → Exit → Bool → P → Type 0} {a b c d e f : Seen P} {s j : ℕ} {T : List ℕ} {x : Exit} (u : View P) (L : List Event) → AtStart a.seat → Called ends a [] b → MayLease b s j → Leases b s j T c → Called ends c [] d → MayCancel d j T → Cancels ends d j T x e → Called ends e [] f → IsFinished f u L → IsClosedScope f 0 → IsWholeFor L f.seat.by
+pub one_lease_whole : {P : Type 0} {ends : P → Exit → Bool → P → Type 0} {a b c d e f : Seen P} {s j : ℕ} {T : List ℕ} {x : Exit} (u : View P) (L : List Event) → AtStart a.seat → Called ends a [] b → MayLease b s j → Leases b s j T c → Called ends c [] d → MayCancel d j T → Cancels ends d j T x e → Called ends e [] f → IsFinishedLedger f u L → IsClosedScope f 0 → IsWholeFor L f.seat.by
 one_lease_whole {b = b} {c = c} {d = d} {e = e} {f = f} {s = s} {j = j} {T = T} {x = x} u L start first may lease then may' cancel last end root =
     let calls = called_then (cancelled d e j T x (called_then (leased b c s j T first may lease) then) may' cancel) last in
     let lent : Lent f.seat j T = lent_stays (called_then (cancelled d e j T x then may' cancel) last) (leases_lent lease) in

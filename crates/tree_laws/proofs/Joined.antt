@@ -10,12 +10,12 @@ use Rattle.row_seat.specs.Views.{AreApart, CanJoin, IsLedgerOf, joined, name_of}
 use Rattle.row_seat.proofs.Members.{among_without}
 use Rattle.scope_tree.specs.Calls.{Seen}
 use Rattle.tree_laws.specs.Called.{Called}
-use Rattle.tree_laws.specs.Ends.{IsFinished}
+use Rattle.tree_laws.specs.Ends.{IsFinishedLedger}
 use Rattle.tree_laws.proofs.After.{IsAfter, IsBack, folio}
 use Rattle.tree_laws.proofs.Along.{called_after}
 
 -- the seat that was taken in has all that the main seat has in its name, and later calls note nothing in that name
-pub joined_finished : {P : Type 0} {ends : P → Exit → Bool → P → Type 0} {a b c d x : Seen P} {Cs Ds : List (ℕ × List ℕ)} (L : List Event) → a.seat.out ≡ [] → Called ends a Cs b → CanJoin b.seat x.seat → AreApart b.seat x.seat → c ≡ record b { seat = joined b.seat x.seat } → Called ends c Ds d → IsLedgerOf d.seat L → IsFinished x d.seat L
+pub joined_finished : {P : Type 0} {ends : P → Exit → Bool → P → Type 0} {a b c d x : Seen P} {Cs Ds : List (ℕ × List ℕ)} (L : List Event) → a.seat.out ≡ [] → Called ends a Cs b → CanJoin b.seat x.seat → AreApart b.seat x.seat → c ≡ record b { seat = joined b.seat x.seat } → Called ends c Ds d → IsLedgerOf d.seat L → IsFinishedLedger x d.seat L
 joined_finished {b = b} {d = d} {x = x} L none first can apart is then ledger =
     let v = b.seat in let w = x.seat in let j = can.1.0 in
     let named : w.by ≡ Inner j = can.1.1 in

@@ -13,7 +13,7 @@ use Rattle.res_ledger.specs.Rising.{Rises}
 use Rattle.row_seat.specs.declared.view.View.{View}
 use Rattle.scope_tree.specs.declared.tree.Tree.{Tree}
 use Rattle.scope_tree.specs.Calls.{AtStart, IsClosedScope, Leases, Seen}
-use Rattle.scope_tree.specs.Trees.{IsSound, seen}
+use Rattle.scope_tree.specs.Trees.{IsConsistent, seen}
 use Rattle.scope_tree.specs.Words.{leasing, numbers, own_rows, words}
 use Rattle.res_ledger.proofs.Noted.{notes_rows, rows_notes}
 use Rattle.res_ledger.proofs.Prefixes.{front_notes}
@@ -88,7 +88,7 @@ module _ {P : Type 0} {ends : P → Exit → Bool → P → Type 0} where
       ⊎_elim (λ x. absurd (among_nil (subst (λ l. IsAmong j l) k x))) (λ o. ⊎_elim (λ x. absurd (among_nil (subst (λ l. IsAmong j l) (f.had m ∙ h) x))) (λ x. x) o) (f.met j (inl i))
 
 -- a row of a closed root has ended, where no other seat holds it back
-pub closed_rows_end : {S P D : Type 0} (view : S → View P) (t : Tree S P D) → IsSound view t → (view t.seat).main ≡ false → IsClosedScope (seen view t) 0 → (r s : ℕ) → Notes (view t.seat).events (view t.seat).by (Acquire r s) → IsFinalized (view t.seat).events r
+pub closed_rows_end : {S P D : Type 0} (view : S → View P) (t : Tree S P D) → IsConsistent view t → (view t.seat).main ≡ false → IsClosedScope (seen view t) 0 → (r s : ℕ) → Notes (view t.seat).events (view t.seat).by (Acquire r s) → IsFinalized (view t.seat).events r
 closed_rows_end view t sound main closed r s n =
     let v = view t.seat in let bs = t.branches.items in let hs = t.held.items in
     let m = subst (λ l. IsAmong {A = ℕ × ℕ} (r, s) l) sound.kept.mirrors.rows (notes_rows v.events v.by r s n) in

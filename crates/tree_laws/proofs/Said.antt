@@ -16,11 +16,11 @@ use Rattle.scope_tree.proofs.Parting.{join_words}
 use Rattle.scope_tree.proofs.Use.{acquired_said, canceled_said, closed_said, leased_said, opened_said}
 use Rattle.tree_laws.specs.Called.{Called}
 use Rattle.tree_laws.specs.Called.Called.{none, opened, acquired, written, leased, cancelled, closed, split, taken_in}
-use Rattle.tree_laws.specs.Shelves.{end_of, noted_ends, shelf_ends}
+use Rattle.tree_laws.specs.Shelves.{finals_of, noted_ends, shelf_ends}
 
 -- an event that is no Final, and then further ones, behind what was noted
-ends_run : (E F G : List What) (w : What) → F ≡ E ++ w ∷ G → end_of w ≡ [] → noted_ends F ≡ noted_ends E ++ noted_ends G
-ends_run E F G w is plain = ap noted_ends is ∙ flat_map-append end_of E (w ∷ G) ∙ ap (λ l. noted_ends E ++ (l ++ noted_ends G)) plain
+ends_run : (E F G : List What) (w : What) → F ≡ E ++ w ∷ G → finals_of w ≡ [] → noted_ends F ≡ noted_ends E ++ noted_ends G
+ends_run E F G w is plain = ap noted_ends is ∙ flat_map-append finals_of E (w ∷ G) ∙ ap (λ l. noted_ends E ++ (l ++ noted_ends G)) plain
 
 -- without their exits
 abbrev bare : List (ℕ × Exit × Bool) → List (ℕ × Bool)
@@ -46,7 +46,7 @@ module _ {P : Type 0} where
   shelf_append (x ∷ xs) ys = ap (λ l. (x.row, x.exit, x.ok) ∷ l) (shelf_append xs ys)
 
   -- nothing ended
-  quiet : (b c : Seen P) (w : What) → words c.seat ≡ words b.seat ++ w ∷ [] → end_of w ≡ [] → c.shelf ≡ b.shelf → noted_ends (words b.seat) ≡ shelf_ends b.shelf → noted_ends (words c.seat) ≡ shelf_ends c.shelf
+  quiet : (b c : Seen P) (w : What) → words c.seat ≡ words b.seat ++ w ∷ [] → finals_of w ≡ [] → c.shelf ≡ b.shelf → noted_ends (words b.seat) ≡ shelf_ends b.shelf → noted_ends (words c.seat) ≡ shelf_ends c.shelf
   quiet b c w is plain shelf e = ends_run (words b.seat) (words c.seat) [] w is plain ∙ append-nil (noted_ends (words b.seat)) ∙ e ∙ ap shelf_ends (sym shelf)
 
 module _ {P : Type 0} {ends : P → Exit → Bool → P → Type 0} where
@@ -57,7 +57,7 @@ module _ {P : Type 0} {ends : P → Exit → Bool → P → Type 0} where
   released_ends {x = x} (ends_so {ys = ys} v u y n l f t) = ap (λ e. (y.row, e, y.ok) ∷ noted_ends (finals x (said ys))) (sym f.exit) ∙ ap (λ l. (y.row, y.exit, y.ok) ∷ l) (released_ends t)
 
   -- rows ended
-  ended : {x : Exit} {h : Holder} {T : List ℕ} {v u : View P} (b c : Seen P) (w : What) (ys : List (Spent P)) → words c.seat ≡ words b.seat ++ w ∷ finals x (said ys) → end_of w ≡ [] → c.shelf ≡ b.shelf ++ ys → Released ends x h T v ys u → noted_ends (words b.seat) ≡ shelf_ends b.shelf → noted_ends (words c.seat) ≡ shelf_ends c.shelf
+  ended : {x : Exit} {h : Holder} {T : List ℕ} {v u : View P} (b c : Seen P) (w : What) (ys : List (Spent P)) → words c.seat ≡ words b.seat ++ w ∷ finals x (said ys) → finals_of w ≡ [] → c.shelf ≡ b.shelf ++ ys → Released ends x h T v ys u → noted_ends (words b.seat) ≡ shelf_ends b.shelf → noted_ends (words c.seat) ≡ shelf_ends c.shelf
   ended {x = x} b c w ys is plain shelf t e = ends_run (words b.seat) (words c.seat) (finals x (said ys)) w is plain ∙ ap (λ l. l ++ noted_ends (finals x (said ys))) e ∙ ap (λ l. shelf_ends b.shelf ++ l) (released_ends t) ∙ sym (shelf_append b.shelf ys) ∙ ap shelf_ends (sym shelf)
 
   ends_along : {a b : Seen P} {Cs : List (ℕ × List ℕ)} → noted_ends (words a.seat) ≡ shelf_ends a.shelf → Called ends a Cs b → noted_ends (words b.seat) ≡ shelf_ends b.shelf

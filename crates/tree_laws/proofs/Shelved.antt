@@ -15,7 +15,7 @@ use Rattle.scope_tree.specs.Calls.{AtStart, Seen}
 use Rattle.scope_tree.specs.Released.{said}
 use Rattle.scope_tree.proofs.Parting.{ended_final}
 use Rattle.tree_laws.specs.Called.{Called}
-use Rattle.tree_laws.specs.Ends.{IsFinished}
+use Rattle.tree_laws.specs.Ends.{IsFinishedLedger}
 use Rattle.tree_laws.proofs.Said.{called_said}
 
 -- behind a Final of the row r stands none of it
@@ -38,12 +38,12 @@ one_final L e f r x y o p legal m n w v =
 
 module _ {P : Type 0} {ends : P → Exit → Bool → P → Type 0} where
   -- what stands on the shelf has its Final in the ledger, by the tree's stream
-  shelf_in : {a b : Seen P} {Cs : List (ℕ × List ℕ)} (u : View P) (L : List Event) → AtStart a.seat → a.shelf ≡ [] → Called ends a Cs b → IsFinished b u L → (r : ℕ) → IsAmong r (firsts (said b.shelf)) → (ok : Bool) × NotesFinal L b.seat.by r ok
+  shelf_in : {a b : Seen P} {Cs : List (ℕ × List ℕ)} (u : View P) (L : List Event) → AtStart a.seat → a.shelf ≡ [] → Called ends a Cs b → IsFinishedLedger b u L → (r : ℕ) → IsAmong r (firsts (said b.shelf)) → (ok : Bool) × NotesFinal L b.seat.by r ok
   shelf_in {b = b} u L start none calls end r m =
       let f = ended_final b.seat (said b.shelf) (called_said start none calls) r m in let n = f.1.1 in
       (f.0, (f.1.0, (n.0, (end.ledger.whole n.0).1 ((end.own n.0 n.2).1 n.1), n.2, n.3)))
 
-  pub shelves_apart : {a b c d : Seen P} {Cs Ds : List (ℕ × List ℕ)} (u : View P) (L : List Event) → AtStart a.seat → a.shelf ≡ [] → Called ends a Cs b → IsFinished b u L → AtStart c.seat → c.shelf ≡ [] → Called ends c Ds d → IsFinished d u L → b.seat.by ≢ d.seat.by → (r : ℕ) → IsAmong r (firsts (said b.shelf)) → ¬ (IsAmong r (firsts (said d.shelf)))
+  pub shelves_apart : {a b c d : Seen P} {Cs Ds : List (ℕ × List ℕ)} (u : View P) (L : List Event) → AtStart a.seat → a.shelf ≡ [] → Called ends a Cs b → IsFinishedLedger b u L → AtStart c.seat → c.shelf ≡ [] → Called ends c Ds d → IsFinishedLedger d u L → b.seat.by ≢ d.seat.by → (r : ℕ) → IsAmong r (firsts (said b.shelf)) → ¬ (IsAmong r (firsts (said d.shelf)))
   shelves_apart u L sa ea ka fa sc ec kc fc ne r m n =
       let x = shelf_in u L sa ea ka fa r m in let y = shelf_in u L sc ec kc fc r n in let i = x.1.1 in let j = y.1.1 in
       ne (sym i.2 ∙ ap (λ (e : Event). e.by) (one_final L i.0 j.0 r x.1.0 y.1.0 x.0 y.0 fa.ledger.legal i.1 j.1 i.3 j.3) ∙ j.2)

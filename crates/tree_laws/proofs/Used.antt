@@ -4,7 +4,7 @@ use Rattle.chunk_core.specs.declared.code.Exit.{Exit}
 use Rattle.chunk_core.specs.Lists.{IsAmong}
 use Rattle.chunk_core.specs.Lists.IsAmong.{here}
 use Rattle.res_ledger.specs.Own.{closes, opens}
-use Rattle.scope_tree.specs.Calls.{Acquires, AtStart, Closes, IsOpenScope, Opens, Seen}
+use Rattle.scope_tree.specs.Calls.{AcquiresRow, AtStart, ClosesScope, IsOpenScope, OpensScope, Seen}
 use Rattle.scope_tree.specs.Words.{words}
 use Rattle.scope_tree.proofs.Use.{acquire_more, open_number, open_one, start_said, all_open}
 use Rattle.tree_laws.specs.Alone.{StaysAlone}
@@ -12,7 +12,7 @@ use Rattle.tree_laws.specs.Called.{Called}
 use Rattle.tree_laws.specs.Called.Called.{none, opened, acquired, closed}
 use Rattle.tree_laws.proofs.Alone.{alone_acquires, alone_closes, alone_opens, alone_then}
 
-module _ {P : Type 0} (a b : Seen P) {c : ℕ} (start : AtStart a.seat) (o : Opens a 0 c b) where
+module _ {P : Type 0} (a b : Seen P) {c : ℕ} (start : AtStart a.seat) (o : OpensScope a 0 c b) where
   none_said : words a.seat ≡ []
   none_said = start_said a.seat a.seat start refl
 
@@ -24,11 +24,11 @@ module _ {P : Type 0} (a b : Seen P) {c : ℕ} (start : AtStart a.seat) (o : Ope
   pub still_empty : {r : ℕ} → IsAmong r a.seat.empty → IsAmong r b.seat.empty
   still_empty {r = r} m = subst (λ l. IsAmong r l) (sym (ap (λ v. v.empty) o.seat)) m
 
-  module _ (d : Seen P) {s r : ℕ} {p : P} (q : Acquires b s r p d) where
+  module _ (d : Seen P) {s r : ℕ} {p : P} (q : AcquiresRow b s r p d) where
     pub root_open : IsOpenScope d 0
     root_open = all_open d.seat 0 (ap closes (acquire_more (open_one none_said o) q)) (inl refl)
 
-    module _ {ends : P → Exit → Bool → P → Type 0} (e : Seen P) {y : Exit} (x : Closes ends d 0 y e) where
+    module _ {ends : P → Exit → Bool → P → Type 0} (e : Seen P) {y : Exit} (x : ClosesScope ends d 0 y e) where
       pub one_row_alone : StaysAlone a.seat e.seat
       one_row_alone = alone_then _ _ _ (alone_opens o) (alone_then _ _ _ (alone_acquires q) (alone_closes x))
 

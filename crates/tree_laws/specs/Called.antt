@@ -8,7 +8,7 @@ use Rattle.res_ledger.specs.Ledger.{IsFinalized, IsLeased, Notes}
 use Rattle.res_ledger.specs.Own.{opens}
 use Rattle.row_seat.specs.declared.view.View.{View}
 use Rattle.row_seat.specs.Views.{AreApart, CanJoin, CanSplit, HasRow, joined, paid, split_main}
-use Rattle.scope_tree.specs.Calls.{Acquires, Cancels, Closes, IsClosedScope, IsOpenScope, Leases, Opens, Seen, WasOpened}
+use Rattle.scope_tree.specs.Calls.{AcquiresRow, Cancels, ClosesScope, IsClosedScope, IsOpenScope, Leases, OpensScope, Seen, WasOpened}
 use Rattle.scope_tree.specs.Words.{words}
 
 module _ {P : Type 0} where
@@ -40,13 +40,13 @@ module _ {P : Type 0} where
 -- since a, calls of a tree were made, which stands as the last one now; Cs are the leases that it cancelled, each with its rows
 pub data Called {P : Type 0} (ends : P → Exit → Bool → P → Type 0) (a : Seen P) : List (ℕ × List ℕ) → Seen P → Type 0 where
   none : Called ends a [] a
-  opened : {Cs : List (ℕ × List ℕ)} (b c : Seen P) (at s : ℕ) → Called ends a Cs b → MayOpen b at → Opens b at s c → Called ends a Cs c
-  acquired : {Cs : List (ℕ × List ℕ)} (b c : Seen P) (s r : ℕ) (p : P) → Called ends a Cs b → MayAcquire b s r → Acquires b s r p c → Called ends a Cs c
+  opened : {Cs : List (ℕ × List ℕ)} (b c : Seen P) (at s : ℕ) → Called ends a Cs b → MayOpen b at → OpensScope b at s c → Called ends a Cs c
+  acquired : {Cs : List (ℕ × List ℕ)} (b c : Seen P) (s r : ℕ) (p : P) → Called ends a Cs b → MayAcquire b s r → AcquiresRow b s r p c → Called ends a Cs c
   -- an open row has another payload
   written : {Cs : List (ℕ × List ℕ)} (b c : Seen P) (r : ℕ) (p : P) → Called ends a Cs b → HasRow b.seat.opened r → c ≡ record b { seat = paid b.seat r p } → Called ends a Cs c
   leased : {Cs : List (ℕ × List ℕ)} (b c : Seen P) (s j : ℕ) (T : List ℕ) → Called ends a Cs b → MayLease b s j → Leases b s j T c → Called ends a Cs c
   cancelled : {Cs : List (ℕ × List ℕ)} (b c : Seen P) (j : ℕ) (T : List ℕ) (x : Exit) → Called ends a Cs b → MayCancel b j T → Cancels ends b j T x c → Called ends a (Cs ++ (j, T) ∷ []) c
-  closed : {Cs : List (ℕ × List ℕ)} (b c : Seen P) (s : ℕ) (x : Exit) → Called ends a Cs b → IsOpenScope b s → Closes ends b s x c → Called ends a Cs c
+  closed : {Cs : List (ℕ × List ℕ)} (b c : Seen P) (s : ℕ) (x : Exit) → Called ends a Cs b → IsOpenScope b s → ClosesScope ends b s x c → Called ends a Cs c
   -- the seat of the stream j was split off
   split : {Cs : List (ℕ × List ℕ)} (b c : Seen P) (j from to n : ℕ) → Called ends a Cs b → CanSplit b.seat j from to n → c ≡ record b { seat = split_main b.seat j from to n } → Called ends a Cs c
   -- a seat that was split off was taken in again

@@ -9,7 +9,7 @@ use Rattle.scope_tree.specs.Calls.{Seen}
 
 module _ {P : Type 0} where
   -- L is the ledger of a seat u that finished, and of the tree's stream u has the events that the tree noted; for a main tree u is its own seat
-  pub record IsFinished (b : Seen P) (u : View P) (L : List Event) : Type 0 where
+  pub record IsFinishedLedger (b : Seen P) (u : View P) (L : List Event) : Type 0 where
     pub ledger : IsLedgerOf u L
     pub own : (e : Event) → e.by ≡ b.seat.by → IsAmong e u.events ↔ IsAmong e b.seat.events
 

@@ -11,23 +11,23 @@ use Rattle.res_ledger.specs.Streams.{by_stream}
 use Rattle.res_ledger.specs.Whole.{IsComplete}
 use Rattle.res_ledger.specs.Rising.{Rises}
 use Rattle.row_seat.specs.declared.view.View.{View}
-use Rattle.row_seat.specs.Views.{AreApart, AtRest, CanFinish, CanJoin, IsLedgerOf, above, joined, paid, split_off}
-use Rattle.scope_tree.specs.Calls.{Acquires, AtStart, Cancels, Closes, IsClosedScope, Leases, Opens, Seen}
+use Rattle.row_seat.specs.Views.{AreApart, AtRest, CanFinish, CanJoin, IsLedgerOf, next_stamp, joined, paid, split_off}
+use Rattle.scope_tree.specs.Calls.{AcquiresRow, AtStart, Cancels, ClosesScope, IsClosedScope, Leases, OpensScope, Seen}
 use Rattle.scope_tree.specs.Tidy.{IsTidy}
 use Rattle.scope_tree.specs.declared.tree.Tree.{Tree}
 use Rattle.scope_tree.specs.declared.branch.Spent.{Spent}
 use Rattle.scope_tree.specs.Released.{said}
-use Rattle.scope_tree.specs.Trees.{IsSound, seen}
+use Rattle.scope_tree.specs.Trees.{IsConsistent, seen}
 use Rattle.scope_tree.specs.Words.{ended_rows, own_rows, words}
 use Rattle.tree_laws.specs.Called.{Called, MayCancel, MayLease}
 use Rattle.tree_laws.specs.Alone.{HasNoMoreLeases, HasNoOthers, StaysAlone}
-use Rattle.tree_laws.specs.Ends.{AreCovered, IsFinished}
+use Rattle.tree_laws.specs.Ends.{AreCovered, IsFinishedLedger}
 use Rattle.tree_laws.specs.Given.{WasGiven}
 use Rattle.tree_laws.specs.Lent.{Lent}
 use Rattle.tree_laws.specs.Shelves.{noted_ends, shelf_ends}
 use Rattle.tree_laws.specs.Names.{IsFloored, IsNamed}
 use Rattle.tree_laws.specs.Visits.{HasNothingOpen, IsNewGuest, Visits}
-use Rattle.tree_laws.specs.Whole.{IsCompleteFor, IsWhole, IsWholeFor}
+use Rattle.tree_laws.specs.Whole.{IsCompleteFor, IsWholeLedger, IsWholeFor}
 use Rattle.res_ledger.specs.Order.{IsInOrder}
 
 module _ {P : Type 0} (ends : P → Exit → Bool → P → Type 0) where
@@ -45,7 +45,7 @@ module _ {P : Type 0} (ends : P → Exit → Bool → P → Type 0) where
 
   -- no row stands on the shelves of two trees of different streams, which both began with an empty one, and whose events a finished ledger has
   abbrev pub ShelvesAreApart : Type 0
-  ShelvesAreApart = (a b c d : Seen P) (Cs Ds : List (ℕ × List ℕ)) (u : View P) (L : List Event) → AtStart a.seat → a.shelf ≡ [] → Called ends a Cs b → IsFinished b u L → AtStart c.seat → c.shelf ≡ [] → Called ends c Ds d → IsFinished d u L → b.seat.by ≢ d.seat.by → (r : ℕ) → IsAmong r (firsts (said b.shelf)) → ¬ (IsAmong r (firsts (said d.shelf)))
+  ShelvesAreApart = (a b c d : Seen P) (Cs Ds : List (ℕ × List ℕ)) (u : View P) (L : List Event) → AtStart a.seat → a.shelf ≡ [] → Called ends a Cs b → IsFinishedLedger b u L → AtStart c.seat → c.shelf ≡ [] → Called ends c Ds d → IsFinishedLedger d u L → b.seat.by ≢ d.seat.by → (r : ℕ) → IsAmong r (firsts (said b.shelf)) → ¬ (IsAmong r (firsts (said d.shelf)))
 
   -- each of these Finals has the exit that the row on the shelf was finished with
   abbrev pub ShelfHasExits : Type 0
@@ -85,7 +85,7 @@ module _ {P : Type 0} (ends : P → Exit → Bool → P → Type 0) where
 
   -- where a tree cancels only leases that it made, their rows are those that the ledger tells
   abbrev pub OwnLeasesAreCovered : Type 0
-  OwnLeasesAreCovered = (a b : Seen P) (Cs : List (ℕ × List ℕ)) (u : View P) (L : List Event) → AtStart a.seat → Called ends a Cs b → IsFinished b u L → ((j : ℕ) (T : List ℕ) → IsAmong (j, T) Cs → Lent b.seat j T) → AreCovered L Cs
+  OwnLeasesAreCovered = (a b : Seen P) (Cs : List (ℕ × List ℕ)) (u : View P) (L : List Event) → AtStart a.seat → Called ends a Cs b → IsFinishedLedger b u L → ((j : ℕ) (T : List ℕ) → IsAmong (j, T) Cs → Lent b.seat j T) → AreCovered L Cs
 
   -- the tree of a seat that isn't the main one: it notes events in its own name alone, no Lease among them, and where it keeps no Lease it has cancelled each that it kept at first
   pub record SubTrees : Type 0 where
@@ -99,34 +99,34 @@ module _ {P : Type 0} (ends : P → Exit → Bool → P → Type 0) where
 
   -- where a main tree, which had no seat out at first, took in the seat of another tree, the ledger of its own seat has of that tree's stream just the events that the tree noted
   abbrev pub JoinedIsFinished : Type 0
-  JoinedIsFinished = (a b c d x : Seen P) (Cs Ds : List (ℕ × List ℕ)) (L : List Event) → a.seat.out ≡ [] → Called ends a Cs b → CanJoin b.seat x.seat → AreApart b.seat x.seat → c ≡ record b { seat = joined b.seat x.seat } → Called ends c Ds d → IsLedgerOf d.seat L → IsFinished x d.seat L
+  JoinedIsFinished = (a b c d x : Seen P) (Cs Ds : List (ℕ × List ℕ)) (L : List Event) → a.seat.out ≡ [] → Called ends a Cs b → CanJoin b.seat x.seat → AreApart b.seat x.seat → c ≡ record b { seat = joined b.seat x.seat } → Called ends c Ds d → IsLedgerOf d.seat L → IsFinishedLedger x d.seat L
 
   -- the ledger has the stream's events as the tree noted them
   abbrev pub LedgerHasEvents : Type 0
-  LedgerHasEvents = (a b : Seen P) (Cs : List (ℕ × List ℕ)) (u : View P) (L : List Event) → AtStart a.seat → Called ends a Cs b → IsFinished b u L → by_stream b.seat.by L ≡ by_stream b.seat.by b.seat.events
+  LedgerHasEvents = (a b : Seen P) (Cs : List (ℕ × List ℕ)) (u : View P) (L : List Event) → AtStart a.seat → Called ends a Cs b → IsFinishedLedger b u L → by_stream b.seat.by L ≡ by_stream b.seat.by b.seat.events
 
   -- and in order
   abbrev pub LedgerIsInOrder : Type 0
-  LedgerIsInOrder = (a b : Seen P) (Cs : List (ℕ × List ℕ)) (u : View P) (L : List Event) → AtStart a.seat → Called ends a Cs b → IsFinished b u L → AreCovered L Cs → IsInOrder L b.seat.by
+  LedgerIsInOrder = (a b : Seen P) (Cs : List (ℕ × List ℕ)) (u : View P) (L : List Event) → AtStart a.seat → Called ends a Cs b → IsFinishedLedger b u L → AreCovered L Cs → IsInOrder L b.seat.by
 
   -- once the tree's root is closed the ledger is complete for its stream
   abbrev pub LedgerIsComplete : Type 0
-  LedgerIsComplete = (a b : Seen P) (Cs : List (ℕ × List ℕ)) (u : View P) (L : List Event) → AtStart a.seat → Called ends a Cs b → IsFinished b u L → IsClosedScope b 0 → IsCompleteFor L b.seat.by
+  LedgerIsComplete = (a b : Seen P) (Cs : List (ℕ × List ℕ)) (u : View P) (L : List Event) → AtStart a.seat → Called ends a Cs b → IsFinishedLedger b u L → IsClosedScope b 0 → IsCompleteFor L b.seat.by
 
   -- so it is legal, in order and complete for it
   abbrev pub LedgerIsWhole : Type 0
-  LedgerIsWhole = (a b : Seen P) (Cs : List (ℕ × List ℕ)) (u : View P) (L : List Event) → AtStart a.seat → Called ends a Cs b → IsFinished b u L → IsClosedScope b 0 → AreCovered L Cs → IsWholeFor L b.seat.by
+  LedgerIsWhole = (a b : Seen P) (Cs : List (ℕ × List ℕ)) (u : View P) (L : List Event) → AtStart a.seat → Called ends a Cs b → IsFinishedLedger b u L → IsClosedScope b 0 → AreCovered L Cs → IsWholeFor L b.seat.by
 
   -- so for a tree that made one lease and cancelled it itself
   abbrev pub OneLeaseIsWhole : Type 0
-  OneLeaseIsWhole = (a b c d e f : Seen P) (s j : ℕ) (T : List ℕ) (x : Exit) (u : View P) (L : List Event) → AtStart a.seat → Called ends a [] b → MayLease b s j → Leases b s j T c → Called ends c [] d → MayCancel d j T → Cancels ends d j T x e → Called ends e [] f → IsFinished f u L → IsClosedScope f 0 → IsWholeFor L f.seat.by
+  OneLeaseIsWhole = (a b c d e f : Seen P) (s j : ℕ) (T : List ℕ) (x : Exit) (u : View P) (L : List Event) → AtStart a.seat → Called ends a [] b → MayLease b s j → Leases b s j T c → Called ends c [] d → MayCancel d j T → Cancels ends d j T x e → Called ends e [] f → IsFinishedLedger f u L → IsClosedScope f 0 → IsWholeFor L f.seat.by
 
   -- each of these calls leaves a tree alone, and so do several
   pub record CallsStayAlone : Type 0 where
-    pub opens : (a b : Seen P) (at c : ℕ) → Opens a at c b → StaysAlone a.seat b.seat
-    pub acquires : (a b : Seen P) (s r : ℕ) (p : P) → Acquires a s r p b → StaysAlone a.seat b.seat
+    pub opens : (a b : Seen P) (at c : ℕ) → OpensScope a at c b → StaysAlone a.seat b.seat
+    pub acquires : (a b : Seen P) (s r : ℕ) (p : P) → AcquiresRow a s r p b → StaysAlone a.seat b.seat
     pub writes : (v : View P) (r : ℕ) (p : P) → StaysAlone v (paid v r p)
-    pub closes : (a b : Seen P) (s : ℕ) (x : Exit) → Closes ends a s x b → StaysAlone a.seat b.seat
+    pub closes : (a b : Seen P) (s : ℕ) (x : Exit) → ClosesScope ends a s x b → StaysAlone a.seat b.seat
     pub none : (v : View P) → StaysAlone v v
     pub follow : (u v w : View P) → StaysAlone u v → StaysAlone v w → StaysAlone u w
 
@@ -136,7 +136,7 @@ module _ {P : Type 0} (ends : P → Exit → Bool → P → Type 0) where
 
   -- once the root of a tree that stayed alone is closed the ledger is legal, complete and in order
   abbrev pub AloneIsWhole : Type 0
-  AloneIsWhole = (a b : Seen P) (L : List Event) → AtStart a.seat → Called ends a [] b → StaysAlone a.seat b.seat → IsClosedScope b 0 → IsLedgerOf b.seat L → IsWhole L
+  AloneIsWhole = (a b : Seen P) (L : List Event) → AtStart a.seat → Called ends a [] b → StaysAlone a.seat b.seat → IsClosedScope b 0 → IsLedgerOf b.seat L → IsWholeLedger L
 
 -- a tree that stayed alone may finish its seat once nothing is open
 abbrev pub AloneCanFinish : Type 0 → Type 0
@@ -144,7 +144,7 @@ AloneCanFinish P = (v w : View P) → HasNoOthers v → StaysAlone v w → HasNo
 
 -- where the main seat keeps the Lease for j, with leases on the rows T, the seat that it splits off for j is a guest
 abbrev pub SplitsMakeGuests : Type 0 → Type 0
-SplitsMakeGuests P = (v : View P) (j from to n : ℕ) (T : List ℕ) → AtStart (split_off v j from to n) → IsAmong j v.kept → ((r : ℕ) → IsAmong (j, r) v.pairs ↔ IsAmong r T) → IsNewGuest (split_off v j from to n) j (above v.events) T
+SplitsMakeGuests P = (v : View P) (j from to n : ℕ) (T : List ℕ) → AtStart (split_off v j from to n) → IsAmong j v.kept → ((r : ℕ) → IsAmong (j, r) v.pairs ↔ IsAmong r T) → IsNewGuest (split_off v j from to n) j (next_stamp v.events) T
 
 -- the rows of a lease that the tree made are rows that it acquired
 abbrev pub LentIsOwn : Type 0 → Type 0
@@ -160,4 +160,4 @@ WholeForEach = (L : List Event) → ((e : Event) → IsAmong e L → IsWholeFor 
 
 -- where no other seat can hold a row back and the root is closed, each row that the tree acquired has its Final
 abbrev pub RowsHaveEnded : {S P : Type 0} → (S → View P) → Type 0 → Type 0
-RowsHaveEnded {S} {P} view D = (t : Tree S P D) → IsSound view t → (seen view t).seat.main ≡ false → IsClosedScope (seen view t) 0 → (r s : ℕ) → Notes (seen view t).seat.events (seen view t).seat.by (Acquire r s) → IsFinalized (seen view t).seat.events r
+RowsHaveEnded {S} {P} view D = (t : Tree S P D) → IsConsistent view t → (seen view t).seat.main ≡ false → IsClosedScope (seen view t) 0 → (r s : ℕ) → Notes (seen view t).seat.events (seen view t).seat.by (Acquire r s) → IsFinalized (seen view t).seat.events r

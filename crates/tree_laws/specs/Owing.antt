@@ -3,9 +3,9 @@ use Rattle.std.specs.Prelude.{◌≡◌, ℕ, ◌+◌, ◌-◌, ◌≤◌, Bool,
 use Rattle.chunk_core.specs.declared.code.Exit.{Exit}
 use Rattle.row_seat.specs.declared.view.View.{View}
 use Rattle.row_seat.specs.Views.{AreApart, joined, split_main}
-use Rattle.scope_tree.specs.Calls.{Cancels, Closes, IsOpenScope, Leases, Seen}
+use Rattle.scope_tree.specs.Calls.{Cancels, ClosesScope, IsOpenScope, Leases, Seen}
 use Rattle.scope_tree.specs.Released.{away}
-use Rattle.scope_tree.specs.Trees.{IsSound, seen}
+use Rattle.scope_tree.specs.Trees.{IsConsistent, seen}
 use Rattle.scope_tree.specs.Words.{owed}
 use Rattle.scope_tree.specs.declared.tree.Tree.{Tree}
 
@@ -18,4 +18,4 @@ pub record OwedStays {P : Type 0} (ends : P → Exit → Bool → P → Type 0) 
 
 -- once the root is closed nothing is owed, and its close took no more than was owed
 abbrev pub RootOwesNothing : {S P : Type 0} → (P → Exit → Bool → P → Type 0) → (S → View P) → Type 0 → Type 0
-RootOwesNothing {S} {P} ends view D = (t u : Tree S P D) (x : Exit) → IsSound view t → IsSound view u → IsOpenScope (seen view t) 0 → Closes ends (seen view t) 0 x (seen view u) → (owed (seen view u).seat ≡ 0) × ((seen view t).seat.spare ≤ (seen view u).seat.spare + owed (seen view t).seat)
+RootOwesNothing {S} {P} ends view D = (t u : Tree S P D) (x : Exit) → IsConsistent view t → IsConsistent view u → IsOpenScope (seen view t) 0 → ClosesScope ends (seen view t) 0 x (seen view u) → (owed (seen view u).seat ≡ 0) × ((seen view t).seat.spare ≤ (seen view u).seat.spare + owed (seen view t).seat)

@@ -6,13 +6,13 @@ use Rattle.res_ledger.specs.declared.event.What.TheVariants.{Final}
 use Rattle.scope_tree.specs.declared.branch.Spent.{Spent}
 
 -- the row that an event ends, with its exit and its outcome
-abbrev pub end_of : What → List (ℕ × Exit × Bool)
-end_of (Final r x ok) = (r, x, ok) ∷ []
-end_of w = []
+abbrev pub finals_of : What → List (ℕ × Exit × Bool)
+finals_of (Final r x ok) = (r, x, ok) ∷ []
+finals_of w = []
 
 -- the Finals that were noted, in order
 abbrev pub noted_ends : List What → List (ℕ × Exit × Bool)
-noted_ends E = flat_map end_of E
+noted_ends E = flat_map finals_of E
 
 -- the rows on a shelf, in order
 abbrev pub shelf_ends : {P : Type 0} → List (Spent P) → List (ℕ × Exit × Bool)

@@ -24,7 +24,7 @@ pub record IsWholeFor (L : List Event) (k : StreamNo) : Type 0 where
   pub complete : IsCompleteFor L k
 
 -- it is legal, complete and in order
-pub record IsWhole (L : List Event) : Type 0 where
+pub record IsWholeLedger (L : List Event) : Type 0 where
   pub legal : IsLegal L
   pub complete : IsComplete L
   pub order : IsOrdered L

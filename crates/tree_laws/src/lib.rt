@@ -21,7 +21,7 @@
 //!     requires fits { S.fits seat desk.old }
 //!     requires start { S.view seat ≡ start Outer 1 8 (S.view seat).splits }
 //!     requires room { (2 ≤ room.scopes) × (1 ≤ room.rows) }
-//!     ensures whole { IsWhole result.0 }
+//!     ensures whole { IsWholeLedger result.0 }
 //! {
 //!     let mut tree = Tree::new(seat, room);
 //!     let child = tree.open(desk, 0);

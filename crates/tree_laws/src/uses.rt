@@ -2,7 +2,7 @@
 ghost use Rattle.std.specs.Prelude.{◌≡◌, ◌≤◌};
 ghost use Rattle.res_ledger.specs.declared.event.StreamNo.TheVariants.{Outer};
 ghost use Rattle.row_seat.specs.Views.{start};
-ghost use Rattle.tree_laws.specs.Whole.{IsWhole};
+ghost use Rattle.tree_laws.specs.Whole.{IsWholeLedger};
 
 use chunk_core::{Exit, List};
 use res_ledger::{Ledger, StreamNo};
@@ -22,7 +22,7 @@ where
     requires fits { S.fits seat desk.old }
     requires start { S.view seat ≡ start Outer 1 8 (S.view seat).splits }
     requires room { (2 ≤ room.scopes) × (1 ≤ room.rows) }
-    ensures whole { IsWhole result.0 }
+    ensures whole { IsWholeLedger result.0 }
 {
     let mut tree = Tree::new(seat, room);
     let child = tree.open(desk, 0);

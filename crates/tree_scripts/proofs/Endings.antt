@@ -15,7 +15,7 @@ use Rattle.res_ledger.specs.Order.{finals, firsts}
 use Rattle.res_ledger.specs.Own.{closes, leased_rows, opens, teardown}
 use Rattle.row_seat.specs.declared.view.View.{View}
 use Rattle.scope_tree.specs.declared.branch.Spent.{Spent}
-use Rattle.scope_tree.specs.Calls.{Closes, IsClosedScope, Opens, Seen, WasOpened}
+use Rattle.scope_tree.specs.Calls.{ClosesScope, IsClosedScope, OpensScope, Seen, WasOpened}
 use Rattle.scope_tree.specs.Leased.{pairs_for}
 use Rattle.scope_tree.specs.Rows.{Once}
 use Rattle.tree_scripts.specs.Scripts.{IsReopened, IsRootLeased, IsThree}
@@ -111,10 +111,10 @@ module _ {P : Type 0} where
       (λ y. o y.0 (opens_in 0 y.0 (words v) (noted_in v.by (Open 0 y.0) v.events y.1)))
       (within_cases x.1)
 
-  open_alone : {a b : Seen P} {at c : ℕ} → Opens a at c b → IsAlone a.seat → IsAlone b.seat
+  open_alone : {a b : Seen P} {at c : ℕ} → OpensScope a at c b → IsAlone a.seat → IsAlone b.seat
   open_alone {a = a} {c = c} o al = subst IsAlone (sym o.seat) (record { main = al.main; pairs = al.pairs; kept = al.kept; out = al.out; events = alone_more a.seat o.stamp (Open c o.parent) al.events })
 
-  module _ {ends : P → Exit → Bool → P → Type 0} {a m : Seen P} {p q r : P} (t : IsThree a p q r) (c : Closes ends a 1 Errored m) where
+  module _ {ends : P → Exit → Bool → P → Type 0} {a m : Seen P} {p q r : P} (t : IsThree a p q r) (c : ClosesScope ends a 1 Errored m) where
     rows_two : firsts (said c.torn.0) ≡ 2 ∷ 1 ∷ []
     rows_two = close_unleased c (ap (λ (x : Seen P). x.seat.out) t.6) ∙ ap (λ l. unleased l (teardown (words a.seat) 1)) (ap (λ (x : Seen P). x.seat.pairs) t.6) ∙ ap (λ E. unleased [] (teardown E 1)) (three_words t)
 
@@ -164,7 +164,7 @@ module _ {P : Type 0} where
     parent_in : (s z : ℕ) → Notes m.seat.events m.seat.by (Open s z) → s ≡ z + 1
     parent_in s z n = parent_of s z (subst (λ l. IsAmong (s, z) l) two_opens (opens_in s z (words m.seat) (noted_in m.seat.by (Open s z) m.seat.events n)))
 
-    module _ {b : Seen P} {s : ℕ} (o : Opens m 2 s b) where
+    module _ {b : Seen P} {s : ℕ} (o : OpensScope m 2 s b) where
       pub three_number : s ≡ 3
       three_number = o.number ∙ ap (λ l. length l + 1) two_opens
 

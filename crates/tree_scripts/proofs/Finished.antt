@@ -19,7 +19,7 @@ use Rattle.res_ledger.specs.Rising.{Rises}
 use Rattle.res_ledger.specs.Ledger.{stamped}
 use Rattle.row_seat.specs.declared.view.View.{View}
 use Rattle.row_seat.specs.Views.{IsLedgerOf, without}
-use Rattle.scope_tree.specs.declared.branch.Held.{Held}
+use Rattle.scope_tree.specs.declared.branch.AcquiredRow.{AcquiredRow}
 use Rattle.scope_tree.specs.Calls.{Cancels, Seen}
 use Rattle.scope_tree.specs.Kept.{Shelved}
 use Rattle.std.specs.List.{IsDistinct}
@@ -90,7 +90,7 @@ module _ {P : Type 0} where
           )
 
       -- each row of the lease ends
-      pub cancel_settles : (hs : List Held) (L : List Event) → Shelved a.seat hs a.shelf → IsDistinct nat_eq T → IsLedgerOf b.seat L → Rises (by_stream b.seat.by b.seat.events) → Settles ends a j T x L b.shelf
+      pub cancel_settles : (hs : List AcquiredRow) (L : List Event) → Shelved a.seat hs a.shelf → IsDistinct nat_eq T → IsLedgerOf b.seat L → Rises (by_stream b.seat.by b.seat.events) → Settles ends a j T x L b.shelf
       cancel_settles hs L sh d is ri =
           let g = cancel_follows c in let xs = c.left.0 in
           let alone : NotesAlone b.seat = follows_alone g (alone_more a.seat c.stamp (Cancel j x) w.events) in

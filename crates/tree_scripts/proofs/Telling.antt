@@ -15,7 +15,7 @@ use Rattle.res_ledger.specs.Rising.{Rises}
 use Rattle.res_ledger.specs.Streams.{by_stream}
 use Rattle.row_seat.specs.declared.view.View.{View}
 use Rattle.row_seat.specs.Views.{HasPair, IsLedgerOf}
-use Rattle.scope_tree.specs.Calls.{Acquires, AtStart, Cancels, Closes, Leases, Opens, Seen}
+use Rattle.scope_tree.specs.Calls.{AcquiresRow, AtStart, Cancels, ClosesScope, Leases, OpensScope, Seen}
 use Rattle.scope_tree.specs.Leased.{leased_all}
 use Rattle.scope_tree.specs.Released.{said}
 use Rattle.scope_tree.specs.Words.{words}
@@ -37,18 +37,18 @@ module _ {P : Type 0} {k : StreamNo} where
   pub new_tells : {v w : View P} → AtStart v → w ≡ v → v.by ≡ k → Tells k [] w
   new_tells {v = v} {w = w} a e b = record { by = ap (λ z. z.by) e ∙ b; said = start_said v w a e; alone = λ x m. absurd (among_nil (subst (λ l. IsAmong x l) (ap (λ z. z.events) e ∙ a.events) m)) }
 
-  pub first_tells : {a b : Seen P} {c : ℕ} → Tells k [] a.seat → (o : Opens a 0 c b) → Tells k (Open 1 0 ∷ []) b.seat
+  pub first_tells : {a b : Seen P} {c : ℕ} → Tells k [] a.seat → (o : OpensScope a 0 c b) → Tells k (Open 1 0 ∷ []) b.seat
   first_tells {a = a} {b = b} {c = c} t o = record { by = ap (λ v. v.by) o.seat ∙ t.by; said = open_one t.said o; alone = subst (λ v. NotesAlone v) (sym o.seat) (alone_more a.seat o.stamp (Open c o.parent) t.alone) }
 
 module _ {P : Type 0} {k : StreamNo} {E : List What} where
-  pub open_tells : {a b : Seen P} {at c : ℕ} → Tells k E a.seat → (o : Opens a at c b) → Tells k (E ++ Open c o.parent ∷ []) b.seat
+  pub open_tells : {a b : Seen P} {at c : ℕ} → Tells k E a.seat → (o : OpensScope a at c b) → Tells k (E ++ Open c o.parent ∷ []) b.seat
   open_tells {a = a} {b = b} {c = c} t o = record {
     by = ap (λ v. v.by) o.seat ∙ t.by;
     said = opened_said o ∙ ap (λ l. l ++ Open c o.parent ∷ []) t.said;
     alone = subst (λ v. NotesAlone v) (sym o.seat) (alone_more a.seat o.stamp (Open c o.parent) t.alone);
   }
 
-  pub acquire_tells : {a b : Seen P} {s r : ℕ} {p : P} → Tells k E a.seat → Acquires a s r p b → Tells k (E ++ Acquire r s ∷ []) b.seat
+  pub acquire_tells : {a b : Seen P} {s r : ℕ} {p : P} → Tells k E a.seat → AcquiresRow a s r p b → Tells k (E ++ Acquire r s ∷ []) b.seat
   acquire_tells {a = a} {b = b} {s = s} {r = r} t o = record {
     by = ap (λ v. v.by) o.seat ∙ t.by;
     said = acquired_said o ∙ ap (λ l. l ++ Acquire r s ∷ []) t.said;
@@ -62,7 +62,7 @@ module _ {P : Type 0} {k : StreamNo} {E : List What} where
     alone = subst (λ v. NotesAlone v) (sym o.seat) (alone_more (leased_all a.seat j T) o.stamp (Lease j s) t.alone);
   }
 
-  pub close_tells : {ends : P → Exit → Bool → P → Type 0} {x : Exit} {a b : Seen P} {s : ℕ} → Tells k E a.seat → (c : Closes ends a s x b) → Tells k (E ++ Close s x ∷ finals x (said c.torn.0)) b.seat
+  pub close_tells : {ends : P → Exit → Bool → P → Type 0} {x : Exit} {a b : Seen P} {s : ℕ} → Tells k E a.seat → (c : ClosesScope ends a s x b) → Tells k (E ++ Close s x ∷ finals x (said c.torn.0)) b.seat
   close_tells {x = x} {a = a} {s = s} t c = record {
     by = closed_by c ∙ t.by;
     said = closed_said c ∙ ap (λ l. l ++ Close s x ∷ finals x (said c.torn.0)) t.said;
@@ -91,7 +91,7 @@ none_said [] e = refl
 none_said (f ∷ fs) e = absurd (let q : f.0 ∷ firsts fs ≡ [] = e in cc)
 
 -- where no seat is out, a close whose rows are all leased ends none
-pub close_waits : {P : Type 0} {ends : P → Exit → Bool → P → Type 0} {x : Exit} {a b : Seen P} {s : ℕ} (c : Closes ends a s x b) → a.seat.out ≡ [] → ((r : ℕ) → IsAmong r (teardown (words a.seat) s) → HasPair a.seat r) → said c.torn.0 ≡ []
+pub close_waits : {P : Type 0} {ends : P → Exit → Bool → P → Type 0} {x : Exit} {a b : Seen P} {s : ℕ} (c : ClosesScope ends a s x b) → a.seat.out ≡ [] → ((r : ℕ) → IsAmong r (teardown (words a.seat) s) → HasPair a.seat r) → said c.torn.0 ≡ []
 close_waits {a = a} {s = s} c o h = none_said (said c.torn.0) (close_unleased c o ∙ unleased_all a.seat (teardown (words a.seat) s) h)
 
 -- two rows that ended, with their outcomes

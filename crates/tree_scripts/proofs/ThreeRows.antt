@@ -10,8 +10,8 @@ use Rattle.res_ledger.specs.Ledger.{IsClosed, IsLeased}
 use Rattle.res_ledger.specs.Own.{leased_of, opens}
 use Rattle.row_seat.specs.declared.view.View.{View}
 use Rattle.row_seat.specs.Views.{HasRow, start}
-use Rattle.scope_tree.specs.Calls.{Acquires, AtStart, IsOpenScope, Opens, Seen}
-use Rattle.tree_scripts.specs.Scripts.{IsThree, at_first, three, with_row, with_scope}
+use Rattle.scope_tree.specs.Calls.{AcquiresRow, AtStart, IsOpenScope, OpensScope, Seen}
+use Rattle.tree_scripts.specs.Scripts.{IsThree, at_first, three, after_acquire, with_scope}
 use Rattle.tree_scripts.specs.Waiting.{IsAlone}
 use Rattle.scope_tree.specs.Words.{words}
 use Rattle.scope_tree.proofs.Use.{all_open, first_is as first_open_is, seen_is}
@@ -33,10 +33,10 @@ module _ {P : Type 0} where
       e ∙ ap (λ i. let z : Seen P = record { seat = i; shelf = []; scopes = m; rows = n } in z) s
       ∙ ap (λ i. let z : Seen P = record { seat = start Outer 3 16 splits; shelf = []; scopes = i; rows = n } in z) x ∙ ap (λ i. let z : Seen P = record { seat = start Outer 3 16 splits; shelf = []; scopes = 4; rows = i } in z) y
 
-  pub acquires_is : {a b : Seen P} {s r : ℕ} {p : P} (A : Seen P) → a ≡ A → (o : Acquires a s r p b) → b ≡ with_row A r s o.stamp p
-  acquires_is {a = a} {b = b} {s = s} {r = r} {p = p} A e o = seen_is a b _ o.seat o.shelf o.scopes o.rows ∙ ap (λ x. with_row x r s o.stamp p) e
+  pub acquires_is : {a b : Seen P} {s r : ℕ} {p : P} (A : Seen P) → a ≡ A → (o : AcquiresRow a s r p b) → b ≡ after_acquire A r s o.stamp p
+  acquires_is {a = a} {b = b} {s = s} {r = r} {p = p} A e o = seen_is a b _ o.seat o.shelf o.scopes o.rows ∙ ap (λ x. after_acquire x r s o.stamp p) e
 
-  pub opens_is : {a b : Seen P} {at c : ℕ} (A : Seen P) → a ≡ A → ¬ (IsClosed A.seat.events A.seat.by at) → (o : Opens a at c b) → b ≡ with_scope A (length (opens (words A.seat)) + 1) at o.stamp
+  pub opens_is : {a b : Seen P} {at c : ℕ} (A : Seen P) → a ≡ A → ¬ (IsClosed A.seat.events A.seat.by at) → (o : OpensScope a at c b) → b ≡ with_scope A (length (opens (words A.seat)) + 1) at o.stamp
   opens_is {a = a} {b = b} {at = at} {c = c} A e n o =
       let q : o.parent ≡ at = first_open_is (subst (λ x. ¬ (IsClosed x.seat.events x.seat.by at)) (sym e) n) o.nearest in
       seen_is a b _ o.seat o.shelf o.scopes o.rows

@@ -13,7 +13,7 @@ use Rattle.res_ledger.proofs.Growth.{noted_new}
 use Rattle.row_seat.specs.declared.view.View.{View}
 use Rattle.row_seat.specs.Views.{AtRest, CanFinish, CanJoin, CanSplit, IsWithin, MayNote, joined, name_of, noted, placed, split_main, start, without}
 use Rattle.scope_tree.specs.declared.branch.Spent.{Spent}
-use Rattle.scope_tree.specs.Calls.{Acquires, Cancels, Closes, IsOpenScope, Leases, Seen, used}
+use Rattle.scope_tree.specs.Calls.{AcquiresRow, Cancels, ClosesScope, IsOpenScope, Leases, Seen, used}
 use Rattle.tree_scripts.specs.Guests.{HasVisited, IsGuest, IsHost}
 use Rattle.scope_tree.specs.Leased.{leased_all}
 use Rattle.scope_tree.specs.Rows.{strangers}
@@ -49,7 +49,7 @@ module _ {P : Type 0} where
   abbrev host_lease : ℕ → P → ℕ → ℕ → View P
   host_lease splits p n k = noted (leased_all (host_row splits p n) 5 (0 ∷ [])) (leasing (host_row splits p n) 5 0 k)
 
-  pub host_acquired : {splits : ℕ} {a b : Seen P} {p : P} → a.seat ≡ start Outer 2 16 splits → (o : Acquires a 0 0 p b) → b.seat ≡ host_row splits p o.stamp
+  pub host_acquired : {splits : ℕ} {a b : Seen P} {p : P} → a.seat ≡ start Outer 2 16 splits → (o : AcquiresRow a 0 0 p b) → b.seat ≡ host_row splits p o.stamp
   host_acquired {splits = splits} {p = p} e o = o.seat ∙ ap (λ v. placed (noted v (acquiring v 0 0 o.stamp)) 0 p) e
 
   pub host_covers : {splits : ℕ} {v : View P} {p : P} {n : ℕ} → v ≡ host_row splits p n → leased_rows (words v) 0 ≡ 0 ∷ []
@@ -86,7 +86,7 @@ module _ {P : Type 0} where
   host_open a v {splits = splits} {p = p} {n = n} {k = k} e s =
       let f : a.seat ≡ split_main (host_lease splits p n k) 5 1 2 5 = s ∙ ap (λ x. split_main x 5 1 2 5) e in all_open a.seat 0 (ap (λ x. closes (words x)) f) (inl refl)
 
-  pub host_of : {ends : P → Exit → Bool → P → Type 0} {splits : ℕ} {a b : Seen P} {v : View P} {p : P} {n k : ℕ} → v ≡ host_lease splits p n k → a.seat ≡ split_main v 5 1 2 5 → Closes ends a 0 Succeeded b → IsHost b.seat
+  pub host_of : {ends : P → Exit → Bool → P → Type 0} {splits : ℕ} {a b : Seen P} {v : View P} {p : P} {n k : ℕ} → v ≡ host_lease splits p n k → a.seat ≡ split_main v 5 1 2 5 → ClosesScope ends a 0 Succeeded b → IsHost b.seat
   host_of {splits = splits} {a = a} {p = p} {n = n} {k = k} e s c =
       let f : a.seat ≡ split_main (host_lease splits p n k) 5 1 2 5 = s ∙ ap (λ x. split_main x 5 1 2 5) e in let g = close_follows c in record {
         main = same_main g ∙ ap (λ x. x.main) f;
@@ -112,7 +112,7 @@ module _ {P : Type 0} where
   )
 
   -- the guest acquired the row 1
-  module _ {a b : Seen P} {p : P} (g : IsGuest a.seat) (o : Acquires a 0 1 p b) where
+  module _ {a b : Seen P} {p : P} (g : IsGuest a.seat) (o : AcquiresRow a 0 1 p b) where
     acquired_words : words b.seat ≡ Acquire 1 0 ∷ []
     acquired_words = acquire_more (start_said a.seat a.seat g.start refl) o
 
@@ -123,7 +123,7 @@ module _ {P : Type 0} where
     guest_open = all_open b.seat 0 (ap closes acquired_words) (inl refl)
 
     -- and closed its root
-    module _ {ends : P → Exit → Bool → P → Type 0} {x : Exit} {d : Seen P} (c : Closes ends b 0 x d) where
+    module _ {ends : P → Exit → Bool → P → Type 0} {x : Exit} {d : Seen P} (c : ClosesScope ends b 0 x d) where
       one_ended : (x : Spent P) × (c.torn.0 ≡ x ∷ []) × (x.row ≡ 1)
       one_ended = one_of c.torn.0 1 (close_unleased c (ap (λ v. v.out) o.seat ∙ g.out) ∙ ap (λ l. unleased l (teardown (words b.seat) 0)) acquired_pairs ∙ ap (λ E. unleased ((5, 0) ∷ []) (teardown E 0)) acquired_words)
 

@@ -15,8 +15,8 @@ use Rattle.res_ledger.proofs.Ledgers.{usable_map}
 use Rattle.res_ledger.proofs.Growth.{noted_more}
 use Rattle.row_seat.specs.Views.{HasPair, HasRow, noted}
 use Rattle.scope_tree.specs.declared.branch.Branch.{Branch}
-use Rattle.scope_tree.specs.declared.branch.Held.{Held}
-use Rattle.scope_tree.specs.Calls.{Closes, IsOpenScope, Leases, Seen}
+use Rattle.scope_tree.specs.declared.branch.AcquiredRow.{AcquiredRow}
+use Rattle.scope_tree.specs.Calls.{ClosesScope, IsOpenScope, Leases, Seen}
 use Rattle.scope_tree.specs.Kept.{Kept, Shelved}
 use Rattle.scope_tree.specs.Leased.{leased_all, pairs_for}
 use Rattle.std.specs.List.{IsDistinct}
@@ -51,7 +51,7 @@ distinct_back [] U d = d
 distinct_back (x ∷ T) U d = distinct_back T U (distinct_tail x (T ++ U) d)
 
 module _ {P : Type 0} where
-  pub close_alone : {ends : P → Exit → Bool → P → Type 0} {x : Exit} {a b : Seen P} {s : ℕ} → Closes ends a s x b → IsAlone a.seat → IsAlone b.seat
+  pub close_alone : {ends : P → Exit → Bool → P → Type 0} {x : Exit} {a b : Seen P} {s : ℕ} → ClosesScope ends a s x b → IsAlone a.seat → IsAlone b.seat
   close_alone {x = x} {a = a} {s = s} c al = let f = close_follows c in record {
     main = ap (λ z. z.main) f.same ∙ al.main;
     pairs = close_pairs c ∙ al.pairs;
@@ -61,20 +61,20 @@ module _ {P : Type 0} where
   }
 
   -- where no seat is out, it ends the rows on which no lease stands
-  pub close_unleased : {ends : P → Exit → Bool → P → Type 0} {x : Exit} {a b : Seen P} {s : ℕ} (c : Closes ends a s x b) → a.seat.out ≡ [] → firsts (said c.torn.0) ≡ unleased a.seat.pairs (teardown (words a.seat) s)
+  pub close_unleased : {ends : P → Exit → Bool → P → Type 0} {x : Exit} {a b : Seen P} {s : ℕ} (c : ClosesScope ends a s x b) → a.seat.out ≡ [] → firsts (said c.torn.0) ≡ unleased a.seat.pairs (teardown (words a.seat) s)
   close_unleased c o = owner_unleased c.torn.2 o
 
   -- what was open and isn't is taken down
-  pub close_takes : {ends : P → Exit → Bool → P → Type 0} {x : Exit} {a b : Seen P} {s : ℕ} (r : ℕ) → Closes ends a s x b → HasRow a.seat.opened r → ¬ (HasRow b.seat.opened r) → IsAmong r (teardown (words a.seat) s)
+  pub close_takes : {ends : P → Exit → Bool → P → Type 0} {x : Exit} {a b : Seen P} {s : ℕ} (r : ℕ) → ClosesScope ends a s x b → HasRow a.seat.opened r → ¬ (HasRow b.seat.opened r) → IsAmong r (teardown (words a.seat) s)
   close_takes {a = a} {s = s} r c h n =
       let T = teardown (words a.seat) s in
       elim (has r T) as (λ x. has r T ≡ x → IsAmong r T) [ true ↦ λ e. has_in r T e | false ↦ λ e. absurd (n (owner_has r c.torn.2 (λ m. shut_not (sym (in_has r T m) ∙ e)) h)) ] refl
 
   -- where no other stream has a seat or a lease, it ends all that it takes down
-  pub close_all : {ends : P → Exit → Bool → P → Type 0} {x : Exit} {a b : Seen P} {s : ℕ} (c : Closes ends a s x b) → IsAlone a.seat → firsts (said c.torn.0) ≡ teardown (words a.seat) s
+  pub close_all : {ends : P → Exit → Bool → P → Type 0} {x : Exit} {a b : Seen P} {s : ℕ} (c : ClosesScope ends a s x b) → IsAlone a.seat → firsts (said c.torn.0) ≡ teardown (words a.seat) s
   close_all {a = a} {s = s} c al = close_unleased c al.out ∙ ap (λ l. unleased l (teardown (words a.seat) s)) al.pairs ∙ unleased_none (teardown (words a.seat) s)
 
-  module _ {a m : Seen P} {s j : ℕ} {T : List ℕ} (bs : List Branch) (hs : List Held) (k : Kept a.seat bs hs) (sh : Shelved a.seat hs a.shelf) (u : IsOpenScope a s) (o : Leases a s j T m) where
+  module _ {a m : Seen P} {s j : ℕ} {T : List ℕ} (bs : List Branch) (hs : List AcquiredRow) (k : Kept a.seat bs hs) (sh : Shelved a.seat hs a.shelf) (u : IsOpenScope a s) (o : Leases a s j T m) where
     -- a lease leaves each scope open
     pub lease_open : (t : ℕ) → IsOpenScope a t → IsOpenScope m t
     lease_open t y =
@@ -86,7 +86,7 @@ module _ {P : Type 0} where
     root_open = (inl refl, λ c. u.1 (root_closes a.seat bs hs k s (usable_scope a.seat bs hs k s u) c))
 
     -- once the root is closed the lease waits alone
-    pub lease_waits : {b : Seen P} {ends : P → Exit → Bool → P → Type 0} {x : Exit} (cs : List Branch) (is : List Held) → Kept b.seat cs is → Shelved b.seat is b.shelf → IsAlone a.seat → a.seat.by ≢ Inner j → owed a.seat + 2 ≤ a.seat.spare → Closes ends m 0 x b → Waits b j T
+    pub lease_waits : {b : Seen P} {ends : P → Exit → Bool → P → Type 0} {x : Exit} (cs : List Branch) (is : List AcquiredRow) → Kept b.seat cs is → Shelved b.seat is b.shelf → IsAlone a.seat → a.seat.by ≢ Inner j → owed a.seat + 2 ≤ a.seat.spare → ClosesScope ends m 0 x b → Waits b j T
     lease_waits {b = b} {x = x} cs is k' sh' al ne f c =
         let g = close_follows c in let v = noted (leased_all a.seat j T) (leasing a.seat j s o.stamp) in
         let open' : (r : ℕ) → IsAmong r T → HasRow a.seat.opened r = λ r i. lease_rows_open a.seat bs hs a.shelf k sh s j u r (subst (λ l. IsAmong r l) o.covered i) in

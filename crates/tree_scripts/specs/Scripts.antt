@@ -14,8 +14,8 @@ use Rattle.scope_tree.specs.Words.{acquiring, opening, words}
 
 module _ {P : Type 0} where
   -- the row r is acquired in the scope s with p
-  abbrev pub with_row : Seen P → ℕ → ℕ → ℕ → P → Seen P
-  with_row a r s n p = record a { seat = placed (noted a.seat (acquiring a.seat r s n)) r p }
+  abbrev pub after_acquire : Seen P → ℕ → ℕ → ℕ → P → Seen P
+  after_acquire a r s n p = record a { seat = placed (noted a.seat (acquiring a.seat r s n)) r p }
 
   -- the scope c is opened under p
   abbrev pub with_scope : Seen P → ℕ → ℕ → ℕ → Seen P
@@ -27,7 +27,7 @@ module _ {P : Type 0} where
 
   -- the row 0 in the root, the row 1 in the scope 1 below it, the row 2 in the scope 2 below that
   abbrev pub three : P → P → P → ℕ → ℕ → ℕ → ℕ → ℕ → ℕ → Seen P
-  three p q r splits n1 n2 n3 n4 n5 = with_row (with_scope (with_row (with_scope (with_row (at_first splits) 0 0 n1 p) 1 0 n2) 1 1 n3 q) 2 1 n4) 2 2 n5 r
+  three p q r splits n1 n2 n3 n4 n5 = after_acquire (with_scope (after_acquire (with_scope (after_acquire (at_first splits) 0 0 n1 p) 1 0 n2) 1 1 n3 q) 2 1 n4) 2 2 n5 r
 
   -- a tree stands so
   abbrev pub IsThree : Seen P → P → P → P → Type 0

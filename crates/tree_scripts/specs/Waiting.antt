@@ -11,7 +11,7 @@ use Rattle.res_ledger.specs.Ledger.{stamped}
 use Rattle.res_ledger.specs.Order.{finals, firsts}
 use Rattle.row_seat.specs.declared.view.View.{View}
 use Rattle.scope_tree.specs.declared.branch.Spent.{Spent}
-use Rattle.scope_tree.specs.Calls.{Closes, IsClosedScope, Leases, Seen}
+use Rattle.scope_tree.specs.Calls.{ClosesScope, IsClosedScope, Leases, Seen}
 use Rattle.scope_tree.specs.Leased.{pairs_for}
 use Rattle.scope_tree.specs.Released.{said}
 use Rattle.scope_tree.specs.Words.{own_rows, words}
@@ -35,7 +35,7 @@ module _ {P : Type 0} where
 
   -- the scope s was leased for the stream j, and then the root was closed with the exit x
   abbrev pub LeasesAndCloses : (P → Exit → Bool → P → Type 0) → Seen P → ℕ → ℕ → List ℕ → Exit → Seen P → Type 0
-  LeasesAndCloses ends a s j T x b = (m : Seen P) × Leases a s j T m × Closes ends m 0 x b
+  LeasesAndCloses ends a s j T x b = (m : Seen P) × Leases a s j T m × ClosesScope ends m 0 x b
 
   -- the root is closed, and only the rows T of the lease for j, acquired here, are left
   pub record Waits (a : Seen P) (j : ℕ) (T : List ℕ) : Type 0 where
@@ -58,8 +58,8 @@ module _ {P : Type 0} where
     pub ledger : L ≡ stamped 0 (noted_by a.seat.by (words a.seat ++ Cancel j x ∷ finals x (said last)))
 
   -- the root was closed with the exit x, and L is the whole ledger
-  pub record Finishes (ends : P → Exit → Bool → P → Type 0) (a : Seen P) (x : Exit) (L : List Event) (shelf : List (Spent P)) : Type 0 where
+  pub record FinishesLedger (ends : P → Exit → Bool → P → Type 0) (a : Seen P) (x : Exit) (L : List Event) (shelf : List (Spent P)) : Type 0 where
     pub last : Seen P
-    pub closes : Closes ends a 0 x last
+    pub closes : ClosesScope ends a 0 x last
     pub shelf_is : shelf ≡ last.shelf
     pub ledger : L ≡ stamped 0 (noted_by a.seat.by (words last.seat))

@@ -8,7 +8,7 @@ ghost use Rattle.row_seat.specs.Views.{start};
 ghost use Rattle.scope_tree.specs.Calls.{IsOpenScope};
 ghost use Rattle.tree_scripts.specs.Scripts.{IsReopened, IsRootLeased, IsThree, IsThreeOfSome};
 ghost use Rattle.scope_tree.specs.Trees.{Fits, seen};
-ghost use Rattle.tree_scripts.specs.Waiting.{Finishes, IsAlone, LeasesAndCloses, Settles, Waits};
+ghost use Rattle.tree_scripts.specs.Waiting.{FinishesLedger, IsAlone, LeasesAndCloses, Settles, Waits};
 ghost use Rattle.scope_tree.specs.Words.{owed};
 
 use chunk_core::{Exit, List};
@@ -99,7 +99,7 @@ where
     requires fits { Fits S.view S.fits tree desk.old }
     requires alone { IsAlone (seen S.view tree).seat }
     requires root { IsOpenScope (seen S.view tree) 0 }
-    ensures { Finishes S.Pay.ends (seen S.view tree) exit result.0 result.1 }
+    ensures { FinishesLedger S.Pay.ends (seen S.view tree) exit result.0 result.1 }
 {
     tree.close(desk, 0, exit);
     let (seat, shelf) = tree.end();

@@ -7,8 +7,8 @@ use Rattle.device_port.specs.Device.{DeviceTold}
 use Rattle.pull_nodes.specs.Runs.{IsRun}
 use Rattle.pull_nodes.specs.declared.node.Node.{Node}
 use Rattle.pull_turns.specs.Around.{Affords}
-use Rattle.pull_turns.specs.Led.{Tells, end_by}
-use Rattle.pull_turns.specs.Piping.{Standing}
+use Rattle.pull_turns.specs.Led.{TouchesOnly, end_by}
+use Rattle.pull_turns.specs.Piping.{StateMeaning}
 use Rattle.pull_turns.specs.Turned.{SpendsWithin}
 use Rattle.pull_turns.specs.declared.rest.Rest.TheVariants.{Nil}
 use Rattle.row_seat.specs.declared.view.View.{View}
@@ -17,7 +17,7 @@ use Rattle.res_ledger.specs.declared.event.StreamNo.{StreamNo}
 use Rattle.res_ledger.specs.declared.event.StreamNo.TheVariants.{Inner}
 use Rattle.scope_tree.proofs.Use.{all_open}
 use Rattle.chunk_core.specs.Lists.{IsAmong}
-use Rattle.pull_nodes.specs.Kinds.{kind_of}
+use Rattle.pull_nodes.specs.Kinds.{node_kind}
 use Rattle.pull_nodes.specs.Placed.{is_placed}
 use Rattle.pull_nodes.specs.Shape.{node_count, places_of, scope_count}
 use Rattle.pull_stepper.specs.Placing.{first_of}
@@ -27,11 +27,11 @@ use Rattle.scope_tree.specs.Calls.{Seen, used}
 use Rattle.tree_laws.specs.Alone.{StaysAlone}
 use Rattle.tree_laws.specs.Called.{Called}
 use Rattle.tree_laws.proofs.Room.{room_along}
-use Rattle.pull_stepper.specs.Held.{Finishes}
+use Rattle.pull_stepper.specs.Held.{FinishesDevice}
 use Rattle.pull_stepper.specs.Laws.{since_then}
 use Rattle.pull_stepper.specs.Sites.{IsUnused, Parted, Since, around, told_at}
-use Rattle.pull_stepper.specs.Stepping.{Ends, HasRoomFor, IsSupplied, Stepping, begun, span_of}
-use Rattle.worked_nodes.specs.Uses.{Gathers, Ran}
+use Rattle.pull_stepper.specs.Stepping.{StepperEnds, HasRoomFor, IsSupplied, Stepping, begun, span_of}
+use Rattle.worked_nodes.specs.Uses.{Gathers, RanNode}
 
 -- what leaves other seats alone twice does so
 pub others_then : {S V D : Type 0} (view : S → View V) (fits : S → D → Type 0) (k j : StreamNo) (d e f : D) → j ≡ k → OthersFit view fits k d e → OthersFit view fits j e f → OthersFit view fits k d f
@@ -55,16 +55,16 @@ start_room {P = P} n a v scopes rows splits is e first many held =
     } in
     subst (λ x. HasRoomFor x n) (sym (e ∙ ap (λ w. let x : Seen P = record { seat = w; shelf = []; scopes = scopes; rows = rows } in x) is)) h
 
-module _ {V F : Type 0} (P : Standing F) (told : V → DeviceTold) (n : Node) (devices : List V) (a : Seen V) (room : HasRoomFor a n) (m z : Stepping V F) (xs : List Element) where
+module _ {V F : Type 0} (P : StateMeaning F) (told : V → DeviceTold) (n : Node) (devices : List V) (a : Seen V) (room : HasRoomFor a n) (m z : Stepping V F) (xs : List Element) where
   abbrev Goes : Stepping V F → Type 0
-  Goes b = Gathers P told b m xs → SpendsWithin (around told b.site) (around told m.site) b.rest → Since told (Finishes told) b.site m.site
-      → (left : Seen V) (h : How) (ds : List V) → end_by z.how ≡ end_by m.how → Tells {F = F} (told_at told m.site) (told_at told z.site) Nil → Affords (around told m.site) (around told z.site)
-      → Since told (Finishes told) m.site z.site → Ends told z left h ds → used left ≤ left.rows → Ran told n devices a left xs h ds
+  Goes b = Gathers P told b m xs → SpendsWithin (around told b.site) (around told m.site) b.rest → Since told (FinishesDevice told) b.site m.site
+      → (left : Seen V) (h : How) (ds : List V) → end_by z.how ≡ end_by m.how → TouchesOnly {F = F} (told_at told m.site) (told_at told z.site) Nil → Affords (around told m.site) (around told z.site)
+      → Since told (FinishesDevice told) m.site z.site → StepperEnds told z left h ds → used left ≤ left.rows → RanNode told n devices a left xs h ds
 
   goes_begun : (chunk : ℕ) → Goes (begun n a devices chunk)
   goes_begun chunk gathers spends first left h ds how tells affords second end sound =
       let b : Stepping V F = begun n a devices chunk in
-      let since = since_then told (Finishes told) b.site m.site z.site first second in
+      let since = since_then told (FinishesDevice told) b.site m.site z.site first second in
       let rows : z.site.tree.rows ≡ a.rows = (room_along (omega (arith, room.scopes)) since.calls).2 in
       let ended : end_by m.how ≡ end_by (Some h) = sym how ∙ ap end_by end.how in
       let count : length z.site.slots ≡ length devices = since.places ∙ length-map devices Some in
@@ -80,7 +80,7 @@ module _ {V F : Type 0} (P : Standing F) (told : V → DeviceTold) (n : Node) (d
             (subst (λ t. Parted told (told_at told z.site) left.shelf t z.site.from ds) to end.parted);
         root = end.root;
         exit = end.exit;
-        calls = subst (λ t. Called (Finishes told) a [] t) (sym end.tree) since.calls;
+        calls = subst (λ t. Called (FinishesDevice told) a [] t) (sym end.tree) since.calls;
         alone = subst (λ (t : Seen V). StaysAlone a.seat t.seat) (sym end.tree) since.alone;
         events = omega (arith, spends.events, affords.events, room.owed, spare);
         rows = omega (arith, spends.rows, affords.rows, rows, same_rows, same_used, sound, room.rows);
@@ -101,7 +101,7 @@ module _ (k : ℕ) (n : Node) (placed : is_placed (record { from = 0; to = k }) 
           first_is (places_of n) 0 (placed_distinct (record { from = 0; to = k }) n placed) some
           (λ q i. let w = placed_within (record { from = 0; to = k }) n placed q i in (w.0, omega (arith, w.1, count)))
 
-  pub placed_supplied : {V : Type 0} (told : V → DeviceTold) (devices : List V) → IsSome (kind_of n) → node_count n < 2 ^ 32 → length devices ≡ k
+  pub placed_supplied : {V : Type 0} (told : V → DeviceTold) (devices : List V) → IsSome (node_kind n) → node_count n < 2 ^ 32 → length devices ≡ k
       → ((d : V) → IsAmong d devices → IsUnused (told d)) → IsSupplied told n devices
   placed_supplied told devices kind few same unused =
       let to : k ≡ first_of (places_of n) + length devices = omega (arith, placed_first, same) in

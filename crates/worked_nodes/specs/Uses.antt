@@ -10,7 +10,7 @@ use Rattle.pull_nodes.specs.Shape.{places_of, scope_count}
 use Rattle.pull_nodes.specs.declared.node.Node.{Node}
 use Rattle.pull_turns.specs.Around.{IsClosedWith}
 use Rattle.pull_turns.specs.Led.{IsShut, end_by, end_of}
-use Rattle.pull_turns.specs.Piping.{Standing}
+use Rattle.pull_turns.specs.Piping.{StateMeaning}
 use Rattle.pull_turns.specs.Rest.{IsRunOfRest}
 use Rattle.pull_turns.specs.Turned.{Over}
 use Rattle.res_ledger.specs.declared.event.What.TheVariants.{Close}
@@ -18,7 +18,7 @@ use Rattle.res_ledger.specs.Ledger.{Notes}
 use Rattle.scope_tree.specs.Calls.{IsClosedScope, IsOpenScope, Seen, used}
 use Rattle.tree_laws.specs.Alone.{StaysAlone}
 use Rattle.tree_laws.specs.Called.{Called}
-use Rattle.pull_stepper.specs.Held.{Finishes}
+use Rattle.pull_stepper.specs.Held.{FinishesDevice}
 use Rattle.pull_stepper.specs.Sites.{Parted, SameDevice, around, told_at}
 use Rattle.pull_stepper.specs.Stepping.{Stepping, site_of, span_of}
 
@@ -26,7 +26,7 @@ use Rattle.pull_stepper.specs.Stepping.{Stepping, site_of, span_of}
 abbrev pub HasExit : {V : Type 0} → Seen V → Exit → Type 0
 HasExit a x = (y : Exit) → Notes a.seat.events a.seat.by (Close 0 y) → y ≡ x
 
-module _ {V F : Type 0} (P : Standing F) (told : V → DeviceTold) where
+module _ {V F : Type 0} (P : StateMeaning F) (told : V → DeviceTold) where
   -- what was given since a, and how it ended, if it has, is a run of what was left
   abbrev pub Gathers : Stepping V F → Stepping V F → List Element → Type 0
   Gathers a b xs = (w : ℕ → DeviceTold) → Over (told_at told b.site) w a.rest → IsRunOfRest P w a.rest xs (end_by b.how)
@@ -41,14 +41,14 @@ module _ {V : Type 0} (told : V → DeviceTold) where
   IsLeft a = IsLeftBy a.how a
 
   -- the node was run over these devices, gave xs and ended with h, which the Close of the root tells, and used no more room of the tree than the node counts
-  pub record Ran (n : Node) (devices : List V) (a b : Seen V) (xs : List Element) (h : How) (unopened : List V) : Type 0 where
+  pub record RanNode (n : Node) (devices : List V) (a b : Seen V) (xs : List Element) (h : How) (unopened : List V) : Type 0 where
     pub w : ℕ → DeviceTold
     pub run : IsRun w n xs (end_of h)
     pub same : (p : ℕ) → SameDevice (told_at told (site_of n a devices) p) (w p)
     pub parted : Parted told w b.shelf (span_of n (length devices)).to (span_of n (length devices)).from unopened
     pub root : IsClosedScope b 0
     pub exit : HasExit b (exit_of h)
-    pub calls : Called (Finishes told) a [] b
+    pub calls : Called (FinishesDevice told) a [] b
     pub alone : StaysAlone a.seat b.seat
     pub events : a.seat.spare ≤ b.seat.spare + (2 * length (places_of n) + 2 * scope_count n + 1)
     pub rows : used b ≤ used a + length (places_of n)

@@ -2,7 +2,7 @@
 ghost use Rattle.std.specs.Prelude.{◌≡◌, ◌<◌, ◌≤◌, ◌^◌, true, IfOk, IsSome, OnOk, length};
 ghost use Rattle.chunk_core.specs.Lists.{IsAmong};
 ghost use Rattle.device_port.specs.Records.{record_told};
-ghost use Rattle.pull_nodes.specs.Kinds.{kind_of};
+ghost use Rattle.pull_nodes.specs.Kinds.{node_kind};
 ghost use Rattle.pull_nodes.specs.Placed.{is_placed};
 ghost use Rattle.pull_nodes.specs.Shape.{node_count, places_of};
 ghost use Rattle.pull_stepper.specs.Sites.{IsUnused};
@@ -68,7 +68,7 @@ fn devices(
 /// Refuses a node whose places aren't the first `count` rows.
 fn fits_rows(node: &Node, count: u32) -> Result<(), &'static str>
     requires few { node_count node.now < 2 ^ 16 }
-    ensures kind { OnOk result (IsSome (kind_of node.now)) }
+    ensures kind { OnOk result (IsSome (node_kind node.now)) }
     ensures placed { OnOk result (is_placed (record { from = 0; to = count }) node.now ≡ true) }
     ensures count { OnOk result (length (places_of node.now) ≡ count) }
 {

@@ -3,7 +3,7 @@ ghost use Rattle.std.specs.Prelude.{◌≡◌, ℕ, ◌+◌, ◌*◌, ◌≤◌,
 ghost use Rattle.chunk_core.specs.Elements.{elements};
 ghost use Rattle.chunk_core.specs.Outcomes.{exit_of};
 ghost use Rattle.pull_turns.specs.Around.{Affords};
-ghost use Rattle.pull_turns.specs.Led.{Tells, end_by};
+ghost use Rattle.pull_turns.specs.Led.{TouchesOnly, end_by};
 ghost use Rattle.pull_turns.specs.Piping.{standing};
 ghost use Rattle.pull_turns.specs.Turned.{SpendsWithin};
 ghost use Rattle.pull_turns.specs.declared.rest.Rest.TheVariants as rest;
@@ -14,13 +14,13 @@ ghost use Rattle.scope_tree.specs.Calls.{IsClosedScope};
 ghost use Rattle.scope_tree.specs.Trees.{Fits, seen};
 ghost use Rattle.tree_laws.specs.Alone.{StaysAlone};
 ghost use Rattle.tree_laws.specs.Called.{Called};
-ghost use Rattle.tree_laws.specs.Whole.{IsWhole};
-ghost use Rattle.pull_stepper.specs.Held.{Finishes};
+ghost use Rattle.tree_laws.specs.Whole.{IsWholeLedger};
+ghost use Rattle.pull_stepper.specs.Held.{FinishesDevice};
 ghost use Rattle.pull_stepper.specs.Placing.{first_of};
 ghost use Rattle.pull_stepper.specs.Sites.{Since, around, told_at};
 ghost use Rattle.pull_stepper.specs.Steppers.{Works, stepping};
 ghost use Rattle.pull_stepper.specs.Stepping.{CanGo, HasRoomFor, IsOver, IsSupplied};
-ghost use Rattle.worked_nodes.specs.Uses.{Gathers, HasExit, IsLeft, Ran};
+ghost use Rattle.worked_nodes.specs.Uses.{Gathers, HasExit, IsLeft, RanNode};
 
 use chunk_core::{Exit, How, List, Load};
 use device_port::Device;
@@ -61,7 +61,7 @@ pub fn gather<V: Device, S: RowSeat<Pay = Held<V>>, F: PipeState>(
     ensures left { IsLeft V.told (stepping S.view stepper.new) }
     ensures spends { SpendsWithin (around V.told (stepping S.view stepper.old).site) (around V.told (stepping S.view stepper.new).site) (stepping S.view stepper.old).rest }
     ensures fits { Works S.view V.told S.fits stepper.new desk.new }
-    ensures since { Since V.told (Finishes V.told) (stepping S.view stepper.old).site (stepping S.view stepper.new).site }
+    ensures since { Since V.told (FinishesDevice V.told) (stepping S.view stepper.old).site (stepping S.view stepper.new).site }
     ensures others { OthersFit S.view S.fits (stepping S.view stepper.old).site.tree.seat.by desk.old desk.new }
 {
     let mut quiet = 0;
@@ -84,10 +84,10 @@ pub fn close<V: Device, S: RowSeat<Pay = Held<V>>, F: PipeState>(
     requires left { IsLeft V.told (stepping S.view stepper.old) }
     ensures over { IsOver V.told (stepping S.view stepper.new) }
     ensures how { end_by (stepping S.view stepper.new).how ≡ end_by (stepping S.view stepper.old).how }
-    ensures tells { Tells {F = F} (told_at V.told (stepping S.view stepper.old).site) (told_at V.told (stepping S.view stepper.new).site) rest.Nil }
+    ensures tells { TouchesOnly {F = F} (told_at V.told (stepping S.view stepper.old).site) (told_at V.told (stepping S.view stepper.new).site) rest.Nil }
     ensures affords { Affords (around V.told (stepping S.view stepper.old).site) (around V.told (stepping S.view stepper.new).site) }
     ensures fits { Works S.view V.told S.fits stepper.new desk.new }
-    ensures since { Since V.told (Finishes V.told) (stepping S.view stepper.old).site (stepping S.view stepper.new).site }
+    ensures since { Since V.told (FinishesDevice V.told) (stepping S.view stepper.old).site (stepping S.view stepper.new).site }
     ensures others { OthersFit S.view S.fits (stepping S.view stepper.old).site.tree.seat.by desk.old desk.new }
 {
     if stepper.how().is_none() {
@@ -108,7 +108,7 @@ pub fn run_whole<V: Device, S: RowSeat<Pay = Held<V>>, F: PipeState>(
     requires supplied { IsSupplied V.told node devices }
     requires room { HasRoomFor (seen S.view tree) node }
     requires pace { (1 ≤ pace.chunk) × (1 ≤ pace.turns) }
-    ensures ran { IfOk result (λ r. Ran V.told node devices (seen S.view tree) (seen S.view r.ended.tree) (flat_map elements r.loads.items) r.ended.how r.ended.unopened) }
+    ensures ran { IfOk result (λ r. RanNode V.told node devices (seen S.view tree) (seen S.view r.ended.tree) (flat_map elements r.loads.items) r.ended.how r.ended.unopened) }
     ensures unmade { IfErr result (λ u. (u.tree ≡ tree) × (u.devices ≡ devices)) }
     ensures fits { IfOk result (λ r. Fits S.view S.fits r.ended.tree desk.new) }
     ensures same { OnErr result (desk.new ≡ desk.old) }
@@ -138,7 +138,7 @@ pub fn run_or_close<V: Device, S: RowSeat<Pay = Held<V>>, F: PipeState>(
     requires supplied { IsSupplied V.told node devices }
     requires room { HasRoomFor (seen S.view tree) node }
     requires pace { (1 ≤ pace.chunk) × (1 ≤ pace.turns) }
-    ensures calls { Called (Finishes V.told) (seen S.view tree) [] (seen S.view result.ended.tree) }
+    ensures calls { Called (FinishesDevice V.told) (seen S.view tree) [] (seen S.view result.ended.tree) }
     ensures alone { StaysAlone (S.view tree.seat) (S.view result.ended.tree.seat) }
     ensures root { IsClosedScope (seen S.view result.ended.tree) 0 }
     ensures exit { HasExit (seen S.view result.ended.tree) (exit_of result.ended.how) }
@@ -191,7 +191,7 @@ pub fn run_alone<V: Device, S: RowSeat<Pay = Held<V>>, F: PipeState>(
     requires start { (splits : ℕ) × (S.view seat ≡ start (Inner 0) (length (places_of node)) (2 * length (places_of node) + 2 * scope_count node + 1) splits) }
     requires room { (scope_count node + 1 ≤ room.scopes) × (length (places_of node) ≤ room.rows) }
     requires pace { (1 ≤ pace.chunk) × (1 ≤ pace.turns) }
-    ensures whole { IsWhole result.ledger }
+    ensures whole { IsWholeLedger result.ledger }
 {
     let tree = Tree::new(seat, room);
     let Whole {

@@ -3,9 +3,9 @@ use Rattle.std.proofs.Common.{refl, subst, ◌∙◌}
 use Rattle.any_pipe.specs.AnyState.{StandsFor, Comes}
 use Rattle.chunk_core.specs.declared.code.Exit.TheVariants as exit
 use Rattle.pull_turns.specs.Piping.{standing}
-use Rattle.scope_tree.specs.Calls.{Closes}
+use Rattle.scope_tree.specs.Calls.{ClosesScope}
 use Rattle.scope_tree.specs.Trees.{seen}
-use Rattle.pull_stepper.specs.Held.{Finishes}
+use Rattle.pull_stepper.specs.Held.{FinishesDevice}
 use Rattle.pull_stepper.specs.Steppers.{stepping}
 use Rattle.flume_cli.proofs.NodeRuns.{node_ran, node_unmade}
 use Rattle.flume_cli.proofs.node.run_node.Goals as goal
@@ -30,4 +30,4 @@ returns-in-Err-clause-runs g c =
     let e = c.close.ensures in
     rw (e.how, e.unopened ∙ u.1)
     (node_unmade g.V.Device.told c.args.node c.args.devices c.args.chunk (seen view c.args.tree) (seen view c.close.result.tree) (g.K.Sink.told c.args.out.now) (g.K.Sink.told c.args.out.now) c.requires.shelf c.requires.supplied c.requires.room
-    (subst (λ t. Closes (Finishes g.V.Device.told) (seen view t) 0 exit.Canceled (seen view c.close.result.tree)) u.0 e.closes) refl)
+    (subst (λ t. ClosesScope (FinishesDevice g.V.Device.told) (seen view t) 0 exit.Canceled (seen view c.close.result.tree)) u.0 e.closes) refl)

@@ -1,6 +1,6 @@
 -- Each turn prints one piece more, makes an entry or a leaving, or is the last.
 use Rattle.std.proofs.Common.{Some, ap, arith, refl, ◌∙◌}
-use Rattle.pull_stepper.specs.Held.{Finishes}
+use Rattle.pull_stepper.specs.Held.{FinishesDevice}
 use Rattle.pull_stepper.specs.Laws.{since_same, since_then}
 use Rattle.pull_stepper.specs.Stepping.{stopped_by}
 use Rattle.flume_cli.proofs.Printing.{prints_start, prints_chunk, prints_quiet, prints_done, prints_fault, prints_wanting, prints_put}
@@ -9,7 +9,7 @@ use Rattle.flume_cli.proofs.print.print_all.Goals as goal
 pub turns-init : goal.turns-init
 turns-init g c = record {
   fits = c.requires.fits;
-  since = since_same g.V.Device.told (Finishes g.V.Device.told) _;
+  since = since_same g.V.Device.told (FinishesDevice g.V.Device.told) _;
   can = c.requires.can;
   chunk = refl;
   prints = prints_start _ _ _ _ _;
@@ -21,7 +21,7 @@ turns-preserved-in-Ok g c =
     let k = rw c.in-Ok-Chunk.field-0-is at c.in-Ok-Chunk.ensures.steps in
     record {
       fits = c.in-Ok-Chunk.ensures.fits;
-      since = since_then g.V.Device.told (Finishes g.V.Device.told) _ _ _ i.since c.in-Ok-Chunk.ensures.since;
+      since = since_then g.V.Device.told (FinishesDevice g.V.Device.told) _ _ _ i.since c.in-Ok-Chunk.ensures.since;
       can = k.can tt;
       chunk = k.chunk ∙ i.chunk;
       prints = prints_chunk _ _ _ _ _ _ _ _ _ _ i.prints _ c.in-Ok-Chunk.load (rw i.chunk at k.turns) (rw i.chunk at k.sized) c.in-Ok.ensures;
@@ -33,7 +33,7 @@ turns-preserved g c =
     let k = rw c.in-Ok-Quiet.field-0-is at c.in-Ok-Quiet.ensures.steps in
     record {
       fits = c.in-Ok-Quiet.ensures.fits;
-      since = since_then g.V.Device.told (Finishes g.V.Device.told) _ _ _ i.since c.in-Ok-Quiet.ensures.since;
+      since = since_then g.V.Device.told (FinishesDevice g.V.Device.told) _ _ _ i.since c.in-Ok-Quiet.ensures.since;
       can = k.can tt;
       chunk = k.chunk ∙ i.chunk;
       prints = prints_quiet _ _ _ _ _ _ _ _ _ _ i.prints (rw i.chunk at k.turns) (rw i.chunk at k.sized);
@@ -54,7 +54,7 @@ returns-in-Err-print_load-clause-prints g c =
 
 pub returns-in-Err-print_load-clause-since : goal.returns-in-Err-print_load-clause-since
 returns-in-Err-print_load-clause-since g c =
-    since_then g.V.Device.told (Finishes g.V.Device.told) _ _ _ (since_then g.V.Device.told (Finishes g.V.Device.told) _ _ _ c.turns.invariant.since c.in-Ok-Chunk.ensures.since) c.stop.ensures.since
+    since_then g.V.Device.told (FinishesDevice g.V.Device.told) _ _ _ (since_then g.V.Device.told (FinishesDevice g.V.Device.told) _ _ _ c.turns.invariant.since c.in-Ok-Chunk.ensures.since) c.stop.ensures.since
 
 pub returns-in-Ok-Done-clause-prints : goal.returns-in-Ok-Done-clause-prints
 returns-in-Ok-Done-clause-prints g c =
@@ -63,7 +63,7 @@ returns-in-Ok-Done-clause-prints g c =
     rw k.how (prints_done _ _ _ _ _ _ _ _ _ _ i.prints (rw i.chunk at k.turns))
 
 pub returns-in-Ok-Done-clause-since : goal.returns-in-Ok-Done-clause-since
-returns-in-Ok-Done-clause-since g c = since_then g.V.Device.told (Finishes g.V.Device.told) _ _ _ c.turns.invariant.since c.in-Ok-Done.ensures.since
+returns-in-Ok-Done-clause-since g c = since_then g.V.Device.told (FinishesDevice g.V.Device.told) _ _ _ c.turns.invariant.since c.in-Ok-Done.ensures.since
 
 pub returns-in-Ok-Fault-clause-prints : goal.returns-in-Ok-Fault-clause-prints
 returns-in-Ok-Fault-clause-prints g c =
@@ -72,7 +72,7 @@ returns-in-Ok-Fault-clause-prints g c =
     rw k.how (prints_fault _ _ _ _ _ _ _ _ _ _ i.prints _ (rw i.chunk at k.turns))
 
 pub returns-in-Ok-Fault-clause-since : goal.returns-in-Ok-Fault-clause-since
-returns-in-Ok-Fault-clause-since g c = since_then g.V.Device.told (Finishes g.V.Device.told) _ _ _ c.turns.invariant.since c.in-Ok-Fault.ensures.since
+returns-in-Ok-Fault-clause-since g c = since_then g.V.Device.told (FinishesDevice g.V.Device.told) _ _ _ c.turns.invariant.since c.in-Ok-Fault.ensures.since
 
 pub returns-in-Err-clause-prints : goal.returns-in-Err-clause-prints
 returns-in-Err-clause-prints g c =
@@ -83,4 +83,4 @@ returns-in-Err-clause-prints g c =
 
 pub returns-in-Err-clause-since : goal.returns-in-Err-clause-since
 returns-in-Err-clause-since g c =
-    since_then g.V.Device.told (Finishes g.V.Device.told) _ _ _ (since_then g.V.Device.told (Finishes g.V.Device.told) _ _ _ c.turns.invariant.since c.in-Err.ensures.since) c.stop-in-Err.ensures.since
+    since_then g.V.Device.told (FinishesDevice g.V.Device.told) _ _ _ (since_then g.V.Device.told (FinishesDevice g.V.Device.told) _ _ _ c.turns.invariant.since c.in-Err.ensures.since) c.stop-in-Err.ensures.since

@@ -1,7 +1,7 @@
 use Rattle.std.proofs.Common.{◌≡◌}
 use Rattle.pull_turns.specs.Piping.{standing}
 use Rattle.pull_turns.specs.Work.{work_left}
-use Rattle.pull_stepper.specs.Held.{Finishes}
+use Rattle.pull_stepper.specs.Held.{FinishesDevice}
 use Rattle.pull_stepper.specs.Sites.{Since, told_at}
 use Rattle.pull_stepper.specs.Steppers.{Works, stepping}
 use Rattle.pull_stepper.specs.Stepping.{CanGo}
@@ -16,7 +16,7 @@ invariant-turns g l =
     let P = standing g.F.Feed.stands g.F.Feed.comes in
     record {
       fits : Works g.S.RowSeat.view g.V.Device.told g.S.RowSeat.fits l.stepper l.desk;
-      since : Since told (Finishes told) a.site b.site;
+      since : Since told (FinishesDevice told) a.site b.site;
       can : CanGo P told b;
       chunk : b.chunk ≡ a.chunk;
       prints : PrintsOn P (told_at told a.site) (told_at told b.site) a.chunk a.rest b.rest (g.K.Sink.told l.fn.out) (g.K.Sink.told l.out);

@@ -1,7 +1,7 @@
 use Rattle.std.proofs.Common.{◌≡◌, ◌+◌, ◌<◌, ◌≤◌, Some, true, refl, ap, subst, arith}
 use Rattle.std.specs.Prelude.{is_some}
 use Rattle.chunk_core.specs.declared.code.Span.{Span}
-use Rattle.pull_nodes.specs.Kinds.{kind_of}
+use Rattle.pull_nodes.specs.Kinds.{node_kind}
 use Rattle.pull_nodes.specs.Placed.{is_placed}
 use Rattle.pull_nodes.specs.Shape.{node_count}
 use Rattle.pipeline_desc.specs.Meant.{most_tables}
@@ -13,7 +13,7 @@ pub returns-clause-kind : goal.returns-clause-kind
 returns-clause-kind c =
     let place = c.rows-rows.result.from in
     let s = c.stream-stream.result.now in
-    of_given (IsStreamNode place s) (λ n. is_some (kind_of n) ≡ true) c.stream_node.result c.stream_node.ensures (λ n h. has_kind place s n h)
+    of_given (IsStreamNode place s) (λ n. is_some (node_kind n) ≡ true) c.stream_node.result c.stream_node.ensures (λ n h. has_kind place s n h)
 
 pub returns-clause-placed : goal.returns-clause-placed
 returns-clause-placed c =

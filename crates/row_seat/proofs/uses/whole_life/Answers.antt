@@ -3,7 +3,7 @@ use Rattle.chunk_core.specs.Lists.{IsAmong}
 use Rattle.chunk_core.specs.declared.code.Exit.TheVariants.{Succeeded}
 use Rattle.res_ledger.specs.declared.event.What.TheVariants.{Acquire, Close, Final}
 use Rattle.row_seat.specs.declared.view.View.{View}
-use Rattle.row_seat.specs.Views.{MayNote, CanPlace, CanClose, CanTake, CanFinish, IsFresh, took}
+use Rattle.row_seat.specs.Views.{MayNote, CanPlace, CanClose, CanTake, CanFinish, IsFreshStamp, took}
 use Rattle.row_seat.specs.PlainSeats.{shown_lent}
 use Rattle.row_seat.proofs.Life.{first, written, mine, was_noted, was_written, was_mine, may_acquire, may_place, may_write, may_close, can_close, can_take, may_final, can_finish, given_eight, is_life}
 use Rattle.row_seat.proofs.uses.whole_life.Goals as goal
@@ -69,4 +69,4 @@ returns-clause-events c = let is1 = was_noted _ _ first c.note.result (Acquire 0
     let is6 = c.take-pay.ensures.view ∙ ap (λ (v : View ℕ). took v 0) is5 in
     let is7 = was_noted _ _ (took (mine c.note.result c.note-2.result) 0) c.note-3.result (Final 0 Succeeded true) is6 c.note-3.ensures.view in
     is_life c.finish-ledger.result c.note.result c.note-2.result c.note-3.result c.finish-ledger.ensures.stamped (λ x. subst (λ (v : View ℕ). IsAmong x c.finish-ledger.result ↔ IsAmong x v.events) is7 (c.finish-ledger.ensures.whole x))
-    (subst (λ (v : View ℕ). IsFresh v c.note-2.result) is3 c.note-2.ensures.stamp) (subst (λ (v : View ℕ). IsFresh v c.note-3.result) is6 c.note-3.ensures.stamp)
+    (subst (λ (v : View ℕ). IsFreshStamp v c.note-2.result) is3 c.note-2.ensures.stamp) (subst (λ (v : View ℕ). IsFreshStamp v c.note-3.result) is6 c.note-3.ensures.stamp)

@@ -1,5 +1,5 @@
 use Rattle.std.proofs.Common.{◌≡◌, ◌-◌, ◌<◌, suc, length, drop, [], ◌∷◌, slice_index_or, sym, ◌∙◌, subst, arith}
-use Rattle.scope_tree.specs.declared.branch.Held.{Held}
+use Rattle.scope_tree.specs.declared.branch.AcquiredRow.{AcquiredRow}
 use Rattle.scope_tree.specs.Kids.{lasts}
 use Rattle.scope_tree.specs.Released.{Releases}
 use Rattle.scope_tree.specs.Released.Holder.{owner}
@@ -19,7 +19,7 @@ rows-init g c = record {
 
 pub release-requires-clause-can : goal.release-requires-clause-can
 release-requires-clause-can g c =
-    let hs = c.args.held.now in let s = c.args.scope in let k = c.rows.at - 1 in let d : Held = record { row = 0; scope = 0 } in
+    let hs = c.args.held.now in let s = c.args.scope in let k = c.rows.at - 1 in let d : AcquiredRow = record { row = 0; scope = 0 } in
     let e : c.rows.at ≡ suc k = let t = c.rows-test.true in omega arith in
     let l : k < length hs = let t = c.rows-test.true in let w = c.rows.invariant.within in omega arith in
     let x = lasts_next hs s c.rows.at k d e l c.if-one-scope.true in
@@ -27,7 +27,7 @@ release-requires-clause-can g c =
 
 pub release-requires-clause-room : goal.release-requires-clause-room
 release-requires-clause-room g c =
-    let hs = c.args.held.now in let s = c.args.scope in let k = c.rows.at - 1 in let d : Held = record { row = 0; scope = 0 } in
+    let hs = c.args.held.now in let s = c.args.scope in let k = c.rows.at - 1 in let d : AcquiredRow = record { row = 0; scope = 0 } in
     let e : c.rows.at ≡ suc k = let t = c.rows-test.true in omega arith in
     let l : k < length hs = let t = c.rows-test.true in let w = c.rows.invariant.within in omega arith in
     let x = lasts_next hs s c.rows.at k d e l c.if-one-scope.true in
@@ -36,7 +36,7 @@ release-requires-clause-room g c =
 
 pub rows-preserved-then-one-scope : goal.rows-preserved-then-one-scope
 rows-preserved-then-one-scope g c =
-    let hs = c.args.held.now in let s = c.args.scope in let k = c.rows.at - 1 in let d : Held = record { row = 0; scope = 0 } in
+    let hs = c.args.held.now in let s = c.args.scope in let k = c.rows.at - 1 in let d : AcquiredRow = record { row = 0; scope = 0 } in
     let e : c.rows.at ≡ suc k = let t = c.rows-test.true in omega arith in
     let l : k < length hs = let t = c.rows-test.true in let w = c.rows.invariant.within in omega arith in
     record {

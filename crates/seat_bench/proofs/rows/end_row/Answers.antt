@@ -1,6 +1,6 @@
 use Rattle.std.proofs.Common.{sym, subst}
 use Rattle.row_seat.specs.declared.view.Left.TheVariants.{Stays, Yours}
-use Rattle.row_seat.specs.Views.{CanClose, Closes}
+use Rattle.row_seat.specs.Views.{CanClose, ClosesRow}
 use Rattle.seat_bench.proofs.Rowing.{can_end, end_ends, end_stays, end_takes, may_end}
 use Rattle.seat_bench.proofs.rows.end_row.Goals as goal
 
@@ -15,16 +15,16 @@ close-requires-clause-row g c = let i = c.requires.open in subst (λ v. CanClose
 
 pub finalize-requires-clause-row : goal.finalize-requires-clause-row
 finalize-requires-clause-row g c = let i = c.requires.open in let r = c.args.row in let w = g.S.RowSeat.view c.close.new.self in
-    (end_takes _ r i.0 i.1 i.2 c.note.result w (subst (λ v. Closes v r Yours w) c.note.ensures.view c.in-Yours.ensures.view)).0
+    (end_takes _ r i.0 i.1 i.2 c.note.result w (subst (λ v. ClosesRow v r Yours w) c.note.ensures.view c.in-Yours.ensures.view)).0
 
 pub finalize-requires-clause-room : goal.finalize-requires-clause-room
 finalize-requires-clause-room g c = let i = c.requires.open in let r = c.args.row in let w = g.S.RowSeat.view c.close.new.self in
-    (end_takes _ r i.0 i.1 i.2 c.note.result w (subst (λ v. Closes v r Yours w) c.note.ensures.view c.in-Yours.ensures.view)).1
+    (end_takes _ r i.0 i.1 i.2 c.note.result w (subst (λ v. ClosesRow v r Yours w) c.note.ensures.view c.in-Yours.ensures.view)).1
 
 pub returns-in-Stays-clause-idle : goal.returns-in-Stays-clause-idle
 returns-in-Stays-clause-idle g c = λ to lt i. let r = c.args.row in let w = g.S.RowSeat.view c.close.new.self in
-    end_stays _ r to lt i c.note.result w (subst (λ v. Closes v r Stays w) c.note.ensures.view c.in-Stays.ensures.view)
+    end_stays _ r to lt i c.note.result w (subst (λ v. ClosesRow v r Stays w) c.note.ensures.view c.in-Stays.ensures.view)
 
 pub returns-in-Yours-clause-idle : goal.returns-in-Yours-clause-idle
 returns-in-Yours-clause-idle g c = λ to lt i. let r = c.args.row in let w = g.S.RowSeat.view c.close.new.self in let f = c.finalize.ensures.pay in
-    end_ends _ r to lt i c.note.result w (g.S.RowSeat.view c.finalize.new.seat) (subst (λ v. Closes v r Yours w) c.note.ensures.view c.in-Yours.ensures.view) f.2 f.5
+    end_ends _ r to lt i c.note.result w (g.S.RowSeat.view c.finalize.new.seat) (subst (λ v. ClosesRow v r Yours w) c.note.ensures.view c.in-Yours.ensures.view) f.2 f.5

@@ -5,7 +5,7 @@ use Rattle.res_ledger.specs.declared.event.StreamNo.TheVariants.{Outer}
 use Rattle.res_ledger.specs.Own.{opens}
 use Rattle.row_seat.specs.Views.{start}
 use Rattle.scope_tree.specs.Calls.{IsClosedScope, IsOpenScope, Seen, WasOpened, used}
-use Rattle.tree_scripts.specs.Scripts.{at_first, with_row, with_scope}
+use Rattle.tree_scripts.specs.Scripts.{at_first, after_acquire, with_scope}
 use Rattle.scope_tree.specs.Words.{owed, words}
 use Rattle.tree_scripts.proofs.ThreeRows.{acquires_is, first_is, opens_is, script_start}
 use Rattle.scope_tree.proofs.Use.{all_open}
@@ -30,7 +30,7 @@ pub open-requires : goal.open-requires
 open-requires g c =
     let splits = (g.S.RowSeat.view c.args.seat).splits in let first = c.args.first in let second = c.args.second in let third = c.args.third in
     let a0 = first_is c.new-tree.ensures.seen c.requires.start c.requires.room.0 c.requires.room.1 in
-    let A1 = with_row (at_first splits) 0 0 c.acquired.ensures.acquires.stamp first in let a1 = acquires_is (at_first splits) a0 c.acquired.ensures.acquires in
+    let A1 = after_acquire (at_first splits) 0 0 c.acquired.ensures.acquires.stamp first in let a1 = acquires_is (at_first splits) a0 c.acquired.ensures.acquires in
     record {
       fits = c.acquired.ensures.fits;
       root = subst (λ a. ¬ (IsClosedScope a 0)) (sym a1) (all_open A1.seat 0 refl (inl refl)).1;
@@ -43,7 +43,7 @@ pub acquired-requires-2 : goal.acquired-requires-2
 acquired-requires-2 g c =
     let splits = (g.S.RowSeat.view c.args.seat).splits in let first = c.args.first in let second = c.args.second in let third = c.args.third in
     let a0 = first_is c.new-tree.ensures.seen c.requires.start c.requires.room.0 c.requires.room.1 in
-    let A1 = with_row (at_first splits) 0 0 c.acquired.ensures.acquires.stamp first in let a1 = acquires_is (at_first splits) a0 c.acquired.ensures.acquires in
+    let A1 = after_acquire (at_first splits) 0 0 c.acquired.ensures.acquires.stamp first in let a1 = acquires_is (at_first splits) a0 c.acquired.ensures.acquires in
     let A2 = with_scope A1 1 0 c.open.ensures.opens.stamp in let a2 = opens_is A1 a1 (all_open A1.seat 0 refl (inl refl)).1 c.open.ensures.opens in
     record {
       fits = c.open.ensures.fits;
@@ -57,9 +57,9 @@ pub open-requires-2 : goal.open-requires-2
 open-requires-2 g c =
     let splits = (g.S.RowSeat.view c.args.seat).splits in let first = c.args.first in let second = c.args.second in let third = c.args.third in
     let a0 = first_is c.new-tree.ensures.seen c.requires.start c.requires.room.0 c.requires.room.1 in
-    let A1 = with_row (at_first splits) 0 0 c.acquired.ensures.acquires.stamp first in let a1 = acquires_is (at_first splits) a0 c.acquired.ensures.acquires in
+    let A1 = after_acquire (at_first splits) 0 0 c.acquired.ensures.acquires.stamp first in let a1 = acquires_is (at_first splits) a0 c.acquired.ensures.acquires in
     let A2 = with_scope A1 1 0 c.open.ensures.opens.stamp in let a2 = opens_is A1 a1 (all_open A1.seat 0 refl (inl refl)).1 c.open.ensures.opens in
-    let A3 = with_row A2 1 1 c.acquired-2.ensures.acquires.stamp second in let a3 = acquires_is A2 a2 c.acquired-2.ensures.acquires in
+    let A3 = after_acquire A2 1 1 c.acquired-2.ensures.acquires.stamp second in let a3 = acquires_is A2 a2 c.acquired-2.ensures.acquires in
     record {
       fits = c.acquired-2.ensures.fits;
       root = subst (λ a. ¬ (IsClosedScope a 0)) (sym a3) (all_open A3.seat 0 refl (inl refl)).1;
@@ -72,9 +72,9 @@ pub acquired-requires-3 : goal.acquired-requires-3
 acquired-requires-3 g c =
     let splits = (g.S.RowSeat.view c.args.seat).splits in let first = c.args.first in let second = c.args.second in let third = c.args.third in
     let a0 = first_is c.new-tree.ensures.seen c.requires.start c.requires.room.0 c.requires.room.1 in
-    let A1 = with_row (at_first splits) 0 0 c.acquired.ensures.acquires.stamp first in let a1 = acquires_is (at_first splits) a0 c.acquired.ensures.acquires in
+    let A1 = after_acquire (at_first splits) 0 0 c.acquired.ensures.acquires.stamp first in let a1 = acquires_is (at_first splits) a0 c.acquired.ensures.acquires in
     let A2 = with_scope A1 1 0 c.open.ensures.opens.stamp in let a2 = opens_is A1 a1 (all_open A1.seat 0 refl (inl refl)).1 c.open.ensures.opens in
-    let A3 = with_row A2 1 1 c.acquired-2.ensures.acquires.stamp second in let a3 = acquires_is A2 a2 c.acquired-2.ensures.acquires in
+    let A3 = after_acquire A2 1 1 c.acquired-2.ensures.acquires.stamp second in let a3 = acquires_is A2 a2 c.acquired-2.ensures.acquires in
     let A4 = with_scope A3 2 1 c.open-2.ensures.opens.stamp in let a4 = opens_is A3 a3 (all_open A3.seat 1 refl (inr (0, here []))).1 c.open-2.ensures.opens in
     record {
       fits = c.open-2.ensures.fits;
@@ -88,9 +88,9 @@ pub returns-clause-three : goal.returns-clause-three
 returns-clause-three g c =
     let splits = (g.S.RowSeat.view c.args.seat).splits in let first = c.args.first in let second = c.args.second in let third = c.args.third in
     let a0 = first_is c.new-tree.ensures.seen c.requires.start c.requires.room.0 c.requires.room.1 in
-    let A1 = with_row (at_first splits) 0 0 c.acquired.ensures.acquires.stamp first in let a1 = acquires_is (at_first splits) a0 c.acquired.ensures.acquires in
+    let A1 = after_acquire (at_first splits) 0 0 c.acquired.ensures.acquires.stamp first in let a1 = acquires_is (at_first splits) a0 c.acquired.ensures.acquires in
     let A2 = with_scope A1 1 0 c.open.ensures.opens.stamp in let a2 = opens_is A1 a1 (all_open A1.seat 0 refl (inl refl)).1 c.open.ensures.opens in
-    let A3 = with_row A2 1 1 c.acquired-2.ensures.acquires.stamp second in let a3 = acquires_is A2 a2 c.acquired-2.ensures.acquires in
+    let A3 = after_acquire A2 1 1 c.acquired-2.ensures.acquires.stamp second in let a3 = acquires_is A2 a2 c.acquired-2.ensures.acquires in
     let A4 = with_scope A3 2 1 c.open-2.ensures.opens.stamp in let a4 = opens_is A3 a3 (all_open A3.seat 1 refl (inr (0, here []))).1 c.open-2.ensures.opens in
     let a5 = acquires_is A4 a4 c.acquired-3.ensures.acquires in
     (splits, c.acquired.ensures.acquires.stamp, c.open.ensures.opens.stamp, c.acquired-2.ensures.acquires.stamp, c.open-2.ensures.opens.stamp, c.acquired-3.ensures.acquires.stamp, a5)

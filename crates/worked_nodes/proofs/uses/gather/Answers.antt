@@ -7,7 +7,7 @@ use Rattle.pull_turns.specs.Piping.{standing}
 use Rattle.pull_turns.specs.Rest.{IsRunOfRest}
 use Rattle.pull_turns.proofs.Leads.{can_stop}
 use Rattle.pull_turns.proofs.Led.{led_ends, led_start, led_then, spends_none, spends_then, tells_same}
-use Rattle.pull_stepper.specs.Held.{Finishes}
+use Rattle.pull_stepper.specs.Held.{FinishesDevice}
 use Rattle.pull_stepper.specs.Laws.{since_same, since_then}
 use Rattle.pull_stepper.specs.Sites.{told_at}
 use Rattle.pull_stepper.specs.Steppers.{stepping}
@@ -24,7 +24,7 @@ loop-ask-init g c =
       can = c.requires.can;
       led = subst (λ ls. Led P (told_at told a.site) (told_at told a.site) a.rest a.rest (flat_map elements ls)) (sym c.requires.empty) (led_start P (told_at told a.site) a.rest);
       spends = spends_none _ a.rest;
-      since = since_same told (Finishes told) a.site;
+      since = since_same told (FinishesDevice told) a.site;
       others = λ o n f. f;
     }
 
@@ -37,7 +37,7 @@ returns-in_err-load-clause-gathers g c =
     (led_ends P (told_at told a.site) (told_at told b.site) (told_at told z.site) a.rest b.rest xs Cut c.loop-ask.invariant.led k.tells (λ v p. can_stop P v b.rest) w o)
 
 pub returns-in_err-load-clause-since : goal.returns-in_err-load-clause-since
-returns-in_err-load-clause-since g c = let told = g.V.Device.told in since_then told (Finishes told) _ _ _ c.loop-ask.invariant.since c.in_err-load.ensures.since
+returns-in_err-load-clause-since g c = let told = g.V.Device.told in since_then told (FinishesDevice told) _ _ _ c.loop-ask.invariant.since c.in_err-load.ensures.since
 
 pub returns-in_err-push-in-Chunk-clause-gathers : goal.returns-in_err-push-in-Chunk-clause-gathers
 returns-in_err-push-in-Chunk-clause-gathers g c =
@@ -49,7 +49,7 @@ returns-in_err-push-in-Chunk-clause-gathers g c =
     (led_ends P (told_at told a.site) (told_at told b.site) (told_at told z.site) a.rest b.rest xs Cut c.loop-ask.invariant.led k.3.tells (λ v p. can_stop P v b.rest) w o))
 
 pub returns-in_err-push-in-Chunk-clause-since : goal.returns-in_err-push-in-Chunk-clause-since
-returns-in_err-push-in-Chunk-clause-since g c = let told = g.V.Device.told in since_then told (Finishes told) _ _ _ c.loop-ask.invariant.since c.in_ok-load.ensures.since
+returns-in_err-push-in-Chunk-clause-since g c = let told = g.V.Device.told in since_then told (FinishesDevice told) _ _ _ c.loop-ask.invariant.since c.in_ok-load.ensures.since
 
 pub returns-in-End-clause-gathers : goal.returns-in-End-clause-gathers
 returns-in-End-clause-gathers g c =
@@ -60,7 +60,7 @@ returns-in-End-clause-gathers g c =
     (led_ends P (told_at told a.site) (told_at told b.site) (told_at told z.site) a.rest b.rest xs (end_of c.in-End.field-0) c.loop-ask.invariant.led k.3 k.4 w o)
 
 pub returns-in-End-clause-since : goal.returns-in-End-clause-since
-returns-in-End-clause-since g c = let told = g.V.Device.told in since_then told (Finishes told) _ _ _ c.loop-ask.invariant.since c.in_ok-load.ensures.since
+returns-in-End-clause-since g c = let told = g.V.Device.told in since_then told (FinishesDevice told) _ _ _ c.loop-ask.invariant.since c.in_ok-load.ensures.since
 
 pub loop-ask-preserved : goal.loop-ask-preserved
 loop-ask-preserved g c =
@@ -68,7 +68,7 @@ loop-ask-preserved g c =
     let a = stepping view c.args.stepper.now in let b = stepping view c.loop-ask.stepper in let z = stepping view c.uncons.new.self in
     let i = c.loop-ask.invariant in let xs = flat_map elements c.loop-ask.out.items in
     let others = others_then view g.S.RowSeat.fits _ _ _ _ _ i.since.alone.by i.others c.in_ok-load.ensures.others in
-    let since = since_then told (Finishes told) a.site b.site z.site i.since c.in_ok-load.ensures.since in
+    let since = since_then told (FinishesDevice told) a.site b.site z.site i.since c.in_ok-load.ensures.since in
     let led = led_then P (told_at told a.site) (told_at told b.site) (told_at told z.site) a.rest b.rest z.rest in
     elim c.match-branch-2.branch [
       | in-Chunk+in_ok-push-in-Chunk w ↦

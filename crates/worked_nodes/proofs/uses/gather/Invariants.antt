@@ -4,7 +4,7 @@ use Rattle.pull_turns.specs.Led.{Led}
 use Rattle.pull_turns.specs.Piping.{standing}
 use Rattle.pull_turns.specs.Turned.{Spends}
 use Rattle.row_seat.specs.Views.{OthersFit}
-use Rattle.pull_stepper.specs.Held.{Finishes}
+use Rattle.pull_stepper.specs.Held.{FinishesDevice}
 use Rattle.pull_stepper.specs.Sites.{Since, around, told_at}
 use Rattle.pull_stepper.specs.Steppers.{Works, stepping}
 use Rattle.pull_stepper.specs.Stepping.{CanGo}
@@ -20,6 +20,6 @@ invariant-loop-ask g l =
       can : CanGo P told b;
       led : Led P (told_at told a.site) (told_at told b.site) a.rest b.rest (flat_map elements l.out.items);
       spends : Spends (around told a.site) (around told b.site) a.rest b.rest;
-      since : Since told (Finishes told) a.site b.site;
+      since : Since told (FinishesDevice told) a.site b.site;
       others : OthersFit view g.S.RowSeat.fits a.site.tree.seat.by l.fn.desk l.desk;
     }

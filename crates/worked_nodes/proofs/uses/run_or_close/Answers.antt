@@ -7,7 +7,7 @@ use Rattle.tree_laws.specs.Alone.{StaysAlone}
 use Rattle.tree_laws.specs.Called.{Called}
 use Rattle.tree_laws.specs.Called.Called.{none, closed}
 use Rattle.tree_laws.proofs.Alone.{alone_closes}
-use Rattle.pull_stepper.specs.Held.{Finishes}
+use Rattle.pull_stepper.specs.Held.{FinishesDevice}
 use Rattle.pull_stepper.proofs.Closing.{closed_as}
 use Rattle.worked_nodes.proofs.uses.run_or_close.Goals as goal
 
@@ -16,7 +16,7 @@ returns-in-Err-clause-calls g c =
     let view = g.S.RowSeat.view in let same = c.in-Err.ensures.unmade.0 in
     let a = seen view c.in-Err.field-0.tree in let b = seen view c.close.new.self in
     let root = subst (λ t. IsOpenScope (seen view t) 0) (sym same) c.requires.room.root in
-    subst (λ t. Called (Finishes g.V.Device.told) (seen view t) [] b) same (closed a b 0 Canceled none root c.close.ensures.closes)
+    subst (λ t. Called (FinishesDevice g.V.Device.told) (seen view t) [] b) same (closed a b 0 Canceled none root c.close.ensures.closes)
 
 pub returns-in-Err-clause-alone : goal.returns-in-Err-clause-alone
 returns-in-Err-clause-alone g c =

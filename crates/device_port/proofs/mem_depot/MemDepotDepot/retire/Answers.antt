@@ -1,6 +1,6 @@
 use Rattle.std.proofs.Common.{◌≡◌, ◌<◌, ◌++◌, ◌∷◌, [], List, map, sym, ap, ◌∙◌, arith, subst, length, vec_len}
 use Rattle.std.proofs.lemmas.List.{length-map, map-append}
-use Rattle.device_port.specs.Depot.{AreApart, AreBelow}
+use Rattle.device_port.specs.Depot.{HaveOwnNumbers, AreBelow}
 use Rattle.device_port.specs.Records.{record_told}
 use Rattle.device_port.specs.Files.{place_of, bytes_at}
 use Rattle.device_port.specs.declared.record.Record.{Record}
@@ -19,8 +19,8 @@ pub invariant_of-self-clause-apart : goal.invariant_of-self-clause-apart
 invariant_of-self-clause-apart c =
     let d = c.args.self.now in
     let items : c.push_reserved.new.self.items ≡ d.retired.items ++ c.args.dev.facts ∷ [] = c.push_reserved.ensures.items ∙ ap (λ r. d.retired.items ++ r ∷ []) c.into_facts.ensures in
-    subst (λ (rs : List Record). AreApart (map record_told rs)) (sym items)
-    (subst AreApart (sym (map-append record_told d.retired.items (c.args.dev.facts ∷ []))) (apart_more (map record_told d.retired.items) (record_told c.args.dev.facts) d.apart c.requires.unknown))
+    subst (λ (rs : List Record). HaveOwnNumbers (map record_told rs)) (sym items)
+    (subst HaveOwnNumbers (sym (map-append record_told d.retired.items (c.args.dev.facts ∷ []))) (apart_more (map record_told d.retired.items) (record_told c.args.dev.facts) d.apart c.requires.unknown))
 
 pub invariant_of-self-clause-below : goal.invariant_of-self-clause-below
 invariant_of-self-clause-below c =

@@ -4,7 +4,7 @@ use Rattle.std.specs.Vec.{with_item}
 use Rattle.device_port.specs.declared.device.Mode.TheVariants as mode
 use Rattle.scope_tree.specs.Trees.{seen as tree_seen}
 use Rattle.scope_tree.specs.Words.{owed}
-use Rattle.pull_stepper.specs.Held.{Finishes}
+use Rattle.pull_stepper.specs.Held.{FinishesDevice}
 use Rattle.pull_stepper.specs.Resources.{site}
 use Rattle.pull_stepper.specs.Sites.{slot}
 use Rattle.pull_stepper.proofs.Acquiring.{now_acquires, now_order, now_since}
@@ -48,20 +48,20 @@ pub returns-in_err-open-clause-failed : goal.returns-in_err-open-clause-failed
 returns-in_err-open-clause-failed g c =
     let w = c.requires.place in let x = site g.S.RowSeat.view c.args.self.now in
     let is : slot x c.args.place ≡ Some (Some c.in-Some.device) = slot_same x c.args.place w.0 w.1 _ c.index_mut.result.now c.in-Some.device c.index_mut.ensures.value c.in-Some.is in
-    on_err c.from_residual.result (refuses g.V.Device.told (Finishes g.V.Device.told) x c.args.place c.in-Some.device c.open.new.self is c.requires.fits.order c.in_err-open.ensures.failed)
+    on_err c.from_residual.result (refuses g.V.Device.told (FinishesDevice g.V.Device.told) x c.args.place c.in-Some.device c.open.new.self is c.requires.fits.order c.in_err-open.ensures.failed)
 
 pub returns-in_err-open-clause-fits : goal.returns-in_err-open-clause-fits
 returns-in_err-open-clause-fits g c =
     let o = c.args.self.now in let w = c.requires.place in let x = site g.S.RowSeat.view o in
     let is : slot x c.args.place ≡ Some (Some c.in-Some.device) = slot_same x c.args.place w.0 w.1 _ c.index_mut.result.now c.in-Some.device c.index_mut.ensures.value c.in-Some.is in
     stands g.S.RowSeat.view g.V.Device.told g.S.RowSeat.fits (record o { slots = with_item o.slots (c.args.place - o.from) (Some c.open.new.self) }) c.args.desk.now c.requires.fits.tree
-    (refused_order g.V.Device.told (Finishes g.V.Device.told) x c.args.place c.in-Some.device c.open.new.self is c.requires.fits.order c.in_err-open.ensures.failed)
+    (refused_order g.V.Device.told (FinishesDevice g.V.Device.told) x c.args.place c.in-Some.device c.open.new.self is c.requires.fits.order c.in_err-open.ensures.failed)
 
 pub returns-in_err-open-clause-since : goal.returns-in_err-open-clause-since
 returns-in_err-open-clause-since g c =
     let w = c.requires.place in let x = site g.S.RowSeat.view c.args.self.now in
     let is : slot x c.args.place ≡ Some (Some c.in-Some.device) = slot_same x c.args.place w.0 w.1 _ c.index_mut.result.now c.in-Some.device c.index_mut.ensures.value c.in-Some.is in record {
-      since = refused_since g.V.Device.told (Finishes g.V.Device.told) x c.args.place c.in-Some.device c.open.new.self is c.requires.fits.order c.in_err-open.ensures.failed;
+      since = refused_since g.V.Device.told (FinishesDevice g.V.Device.told) x c.args.place c.in-Some.device c.open.new.self is c.requires.fits.order c.in_err-open.ensures.failed;
       others = λ t n f. f;
     }
 
@@ -72,7 +72,7 @@ returns-clause-ok g c =
     let read : (told c.in-Some.device).place.mode ≡ mode.Read = ap (λ d. (told d).place.mode) (same_item x p w.0 w.1 _ c.index_mut.result.now c.in-Some.device c.index_mut.ensures.value c.in-Some.is) ∙ w.2.mode_is in
     let acquired : c.new.result ≡ c.open.new.self = c.new.ensures ∙ taken_out x p w.0 w.1 c.open.new.self _ c.index_mut-2.result.now c.in-Some-take.device c.index_mut-2.ensures.value (sym c.take.ensures.value ∙ c.in-Some-take.is) in
     let free : owed (g.S.RowSeat.view o.tree.seat) + 2 ≤ (g.S.RowSeat.view o.tree.seat).spare = omega arith in
-    now_acquires told (Finishes told) x (tree_seen g.S.RowSeat.view c.acquired.new.self) c.args.scope p c.in-Some.device c.new.result o.tree.branches.items o.tree.held.items c.requires.fits.tree.sound.kept is c.requires.fits.order c.requires.scope
+    now_acquires told (FinishesDevice told) x (tree_seen g.S.RowSeat.view c.acquired.new.self) c.args.scope p c.in-Some.device c.new.result o.tree.branches.items o.tree.held.items c.requires.fits.tree.sound.kept is c.requires.fits.order c.requires.scope
     read (ap told acquired ∙ c.in_ok-open.ensures.ok) free c.acquired.ensures.acquires _ (emptied x p c.in-Some.device is (Some c.open.new.self) c.take.new.self c.take.ensures.after)
 
 pub returns-clause-fits : goal.returns-clause-fits
@@ -83,7 +83,7 @@ returns-clause-fits g c =
     let acquired : c.new.result ≡ c.open.new.self = c.new.ensures ∙ taken_out x p w.0 w.1 c.open.new.self _ c.index_mut-2.result.now c.in-Some-take.device c.index_mut-2.ensures.value (sym c.take.ensures.value ∙ c.in-Some-take.is) in
     let free : owed (g.S.RowSeat.view o.tree.seat) + 2 ≤ (g.S.RowSeat.view o.tree.seat).spare = omega arith in
     stands g.S.RowSeat.view told g.S.RowSeat.fits _ c.acquired.new.desk c.acquired.ensures.fits
-    (now_order told (Finishes told) x (tree_seen g.S.RowSeat.view c.acquired.new.self) c.args.scope p c.in-Some.device c.new.result o.tree.branches.items o.tree.held.items c.requires.fits.tree.sound.kept is c.requires.fits.order c.requires.scope
+    (now_order told (FinishesDevice told) x (tree_seen g.S.RowSeat.view c.acquired.new.self) c.args.scope p c.in-Some.device c.new.result o.tree.branches.items o.tree.held.items c.requires.fits.tree.sound.kept is c.requires.fits.order c.requires.scope
     read (ap told acquired ∙ c.in_ok-open.ensures.ok) free c.acquired.ensures.acquires _ (emptied x p c.in-Some.device is (Some c.open.new.self) c.take.new.self c.take.ensures.after))
 
 pub returns-clause-since : goal.returns-clause-since
@@ -93,7 +93,7 @@ returns-clause-since g c =
     let read : (told c.in-Some.device).place.mode ≡ mode.Read = ap (λ d. (told d).place.mode) (same_item x p w.0 w.1 _ c.index_mut.result.now c.in-Some.device c.index_mut.ensures.value c.in-Some.is) ∙ w.2.mode_is in
     let acquired : c.new.result ≡ c.open.new.self = c.new.ensures ∙ taken_out x p w.0 w.1 c.open.new.self _ c.index_mut-2.result.now c.in-Some-take.device c.index_mut-2.ensures.value (sym c.take.ensures.value ∙ c.in-Some-take.is) in
     let free : owed (g.S.RowSeat.view o.tree.seat) + 2 ≤ (g.S.RowSeat.view o.tree.seat).spare = omega arith in record {
-      since = now_since told (Finishes told) x (tree_seen g.S.RowSeat.view c.acquired.new.self) c.args.scope p c.in-Some.device c.new.result o.tree.branches.items o.tree.held.items c.requires.fits.tree.sound.kept is c.requires.fits.order c.requires.scope
+      since = now_since told (FinishesDevice told) x (tree_seen g.S.RowSeat.view c.acquired.new.self) c.args.scope p c.in-Some.device c.new.result o.tree.branches.items o.tree.held.items c.requires.fits.tree.sound.kept is c.requires.fits.order c.requires.scope
           read (ap told acquired ∙ c.in_ok-open.ensures.ok) free c.acquired.ensures.acquires _ (emptied x p c.in-Some.device is (Some c.open.new.self) c.take.new.self c.take.ensures.after);
       others = c.acquired.ensures.others;
     }

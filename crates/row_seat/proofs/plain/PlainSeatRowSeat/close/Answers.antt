@@ -3,7 +3,7 @@ use Rattle.std.specs.Prelude.{Some}
 use Rattle.std.proofs.lemmas.List.{length-set}
 use Rattle.row_seat.specs.declared.token.Token.{Token}
 use Rattle.std.specs.Map.{keys_of}
-use Rattle.row_seat.specs.Rule.{seen}
+use Rattle.row_seat.specs.Rule.{view_of}
 use Rattle.row_seat.specs.Steps.{handed_over, shut, without_one}
 use Rattle.row_seat.proofs.Ends.{close_cause}
 use Rattle.row_seat.proofs.Hands.{rows_without}
@@ -35,7 +35,7 @@ returns-then-word-eq-HANDED g c =
     let t = yours_table h row x p can e last in
     let is : c.step-then-word-eq-HANDED.result ≡ w = rw (c.step-then-word-eq-HANDED.ensures, c.step.ensures) refl in
     let views : c.put.result ≡ slice_set d.views s.id w = c.put.ensures ∙ ap (λ t. slice_set d.views s.id t) is in let less = out.less in let room = out.room in let many = length-set d.slots.items row (Some p) in record {
-      view = (p, out.pay, ap (λ (t : Token g.row.P.Denot). seen t hands) is ∙ ap (λ l. seen w l) out.rest, λ q. let k = (leased_row h q.0 row q.1).1 in omega arith);
+      view = (p, out.pay, ap (λ (t : Token g.row.P.Denot). view_of t hands) is ∙ ap (λ l. view_of w l) out.rest, λ q. let k = (leased_row h q.0 row q.1).1 in omega arith);
       fits = sits_put h w views t many refl is h.seated.live h.by (ap keys_of out.rest ∙ (rows_without row s.hands.items ∙ ap (λ l. without_one row l) h.held)) (let m = h.hold in omega arith) (λ m. let q = h.whole m in omega arith);
       others = others_put h w views t many;
     }
@@ -48,7 +48,7 @@ returns-else-word-eq-HANDED g c =
     let w = shut v row p in
     let t = stays_table h row x p can e more in
     let views : c.put-else-word-eq-HANDED.result ≡ slice_set d.views s.id w = c.put-else-word-eq-HANDED.ensures ∙ ap (λ t. slice_set d.views s.id t) c.step.ensures in let less = out.less in let room = out.room in let many = length-set d.slots.items row (Some p) in record {
-      view = (p, out.pay, ap (λ (t : Token g.row.P.Denot). seen t hands) c.step.ensures ∙ ap (λ l. seen w l) out.rest, close_cause h.table.rule h.seated row (in_hand h row can.0) (λ q. more (omega (e, q, arith))) can.2);
+      view = (p, out.pay, ap (λ (t : Token g.row.P.Denot). view_of t hands) c.step.ensures ∙ ap (λ l. view_of w l) out.rest, close_cause h.table.rule h.seated row (in_hand h row can.0) (λ q. more (omega (e, q, arith))) can.2);
       fits = sits_put h w views t many refl c.step.ensures h.seated.live h.by (ap keys_of out.rest ∙ (rows_without row s.hands.items ∙ ap (λ l. without_one row l) h.held)) (let m = h.hold in omega arith) (λ m. let q = h.whole m in omega arith);
       others = others_put h w views t many;
     }

@@ -1,6 +1,6 @@
 use Rattle.std.proofs.Common.{◌≡◌, slice_set, refl, ap, ◌∙◌, arith}
 use Rattle.row_seat.specs.declared.token.Token.{Token}
-use Rattle.row_seat.specs.Rule.{seen}
+use Rattle.row_seat.specs.Rule.{view_of}
 use Rattle.row_seat.specs.Steps.{leased}
 use Rattle.row_seat.proofs.Sitting.{has_place, lease_table, open_row, others_put, sits_put, word_read, word_small}
 use Rattle.row_seat.proofs.plain.PlainSeatRowSeat.lease.Goals as goal
@@ -17,7 +17,7 @@ returns g c = let s = c.args.self.now in let d = c.args.desk.now in let h = c.re
     let x = c.index_mut.result.now in let w = leased s.token j row in
     let t = lease_table h j row x c.ranges.stream.fits can (word_read h row x (open_row h row can.1) c.index_mut.ensures.value) in
     let views : c.put.result ≡ slice_set d.views s.id w = c.put.ensures ∙ ap (λ t. slice_set d.views s.id t) c.step.ensures in record {
-      view = ap (λ (t : Token g.row.P.Denot). seen t s.hands.items) c.step.ensures;
+      view = ap (λ (t : Token g.row.P.Denot). view_of t s.hands.items) c.step.ensures;
       fits = sits_put h w views t refl refl c.step.ensures h.seated.live h.by h.held h.hold h.whole;
       others = others_put h w views t refl;
     }

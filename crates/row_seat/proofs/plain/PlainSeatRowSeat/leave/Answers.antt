@@ -1,7 +1,7 @@
 use Rattle.std.proofs.Common.{◌≡◌, ◌≢◌, ◌-◌, slice_set, refl, ap, ◌∙◌, arith}
 use Rattle.std.specs.Prelude.{slice_index, Some}
 use Rattle.row_seat.specs.declared.token.Token.{Token}
-use Rattle.row_seat.specs.Rule.{seen}
+use Rattle.row_seat.specs.Rule.{view_of}
 use Rattle.row_seat.specs.Steps.{gone, handed_over}
 use Rattle.row_seat.proofs.Sitting.{has_place, last_slot, last_table, leased_row, leave_table, others_put, sits_put, slot_read, word_read}
 use Rattle.row_seat.proofs.Stayed.{leave_cause}
@@ -31,7 +31,7 @@ returns-then-rest-eq-HANDED g c = let s = c.args.self.now in let d = c.args.desk
     let t = last_table h j row x can e p.0 last p.1 in
     let is : c.step-then-rest-eq-HANDED.result ≡ w = rw (c.step-then-rest-eq-HANDED.ensures, c.step.ensures, y) refl in
     let views : c.put.result ≡ slice_set d.views s.id w = c.put.ensures ∙ ap (λ t. slice_set d.views s.id t) is in record {
-      view = (p.0, ap (λ (t : Token g.row.P.Denot). seen t s.hands.items) is, told_last h.table.rule h.seated j row p.0 s.hands.items h.held can.0 seven p.1);
+      view = (p.0, ap (λ (t : Token g.row.P.Denot). view_of t s.hands.items) is, told_last h.table.rule h.seated j row p.0 s.hands.items h.held can.0 seven p.1);
       fits = sits_put h w views t refl refl is h.seated.live h.by h.held h.hold h.whole;
       others = others_put h w views t refl;
     }
@@ -43,7 +43,7 @@ returns-else-rest-eq-HANDED g c = let s = c.args.self.now in let d = c.args.desk
     let w = gone v j row in
     let t = leave_table h j row x can e more in
     let views : c.put-else-rest-eq-HANDED.result ≡ slice_set d.views s.id w = c.put-else-rest-eq-HANDED.ensures ∙ ap (λ t. slice_set d.views s.id t) c.step.ensures in record {
-      view = (ap (λ (t : Token g.row.P.Denot). seen t s.hands.items) c.step.ensures, λ m. leave_cause h.table.rule h.seated m j row can.0 (λ seven. more (omega (e, seven, arith))) s.hands.items h.held);
+      view = (ap (λ (t : Token g.row.P.Denot). view_of t s.hands.items) c.step.ensures, λ m. leave_cause h.table.rule h.seated m j row can.0 (λ seven. more (omega (e, seven, arith))) s.hands.items h.held);
       fits = sits_put h w views t refl refl c.step.ensures h.seated.live h.by h.held h.hold h.whole;
       others = others_put h w views t refl;
     }

@@ -1,6 +1,6 @@
 use Rattle.std.proofs.Common.{◌≡◌, ◌-◌, ◌≤◌, ◌++◌, ◌∷◌, [], slice_set, refl, ap, arith}
 use Rattle.row_seat.specs.declared.token.Token.{Token}
-use Rattle.row_seat.specs.Rule.{seen}
+use Rattle.row_seat.specs.Rule.{view_of}
 use Rattle.row_seat.specs.Steps.{split_main, split_off}
 use Rattle.row_seat.proofs.Sitting.{split_new, split_others, split_sits, split_table}
 use Rattle.row_seat.proofs.plain.PlainSeatRowSeat.split.Goals.{then-rows, else-rows}
@@ -13,7 +13,7 @@ returns g c = let s = c.args.self.now in let d = c.args.desk.now in let h = c.re
     let count : to - from ≤ c.if-rows.count = elim c.if-rows.branch [ then-rows w ↦ let a = w.if-rows in let b = w.count-is in grind arith | else-rows w ↦ let a = w.if-rows in let b = w.count-is in grind arith ] in
     let t = split_table h can in record {
       ok = (
-        ap (λ (t : Token g.row.P.Denot). seen t s.hands.items) c.step.ensures,
+        ap (λ (t : Token g.row.P.Denot). view_of t s.hands.items) c.step.ensures,
         rw (c.step-token.ensures, hands.items) refl,
         split_new h can views t refl _ c.know-id.ensures c.step-token.ensures refl hands.items hands.len (let k = hands.capacity in omega arith),
       );

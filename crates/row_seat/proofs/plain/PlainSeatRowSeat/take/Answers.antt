@@ -2,7 +2,7 @@ use Rattle.std.proofs.Common.{◌≡◌, slice_set, refl, sym, ap, ◌∙◌, su
 use Rattle.std.proofs.lemmas.List.{length-set}
 use Rattle.chunk_core.specs.Lists.{IsAmong}
 use Rattle.row_seat.specs.declared.token.Token.{Token}
-use Rattle.row_seat.specs.Rule.{seen}
+use Rattle.row_seat.specs.Rule.{view_of}
 use Rattle.row_seat.specs.Steps.{took}
 use Rattle.row_seat.proofs.Ends.{given_one}
 use Rattle.row_seat.proofs.Moves.{some_is, some_none}
@@ -23,7 +23,7 @@ returns g c = let s = c.args.self.now in let d = c.args.desk.now in let h = c.re
     let pay = subst (λ p. IsAmong (row, p) s.token.given) is x.1 in
     let views : c.put.result ≡ slice_set d.views s.id w = c.put.ensures ∙ ap (λ t. slice_set d.views s.id t) c.step.ensures in
     let t = take_table h row can.0 in let many = length-set d.slots.items row c.take.new.self in record {
-      view = ap (λ (t : Token g.row.P.Denot). seen t s.hands.items) c.step.ensures;
+      view = ap (λ (t : Token g.row.P.Denot). view_of t s.hands.items) c.step.ensures;
       pay = pay;
       only = λ q m. given_one h.table.rule h.seated row q c.in-Some.pay m pay;
       fits = sits_put h w views (rw c.take.ensures.after t) many refl c.step.ensures h.seated.live h.by h.held h.hold (λ m. let l = h.whole m in omega arith);

@@ -5,7 +5,7 @@ use Rattle.row_seat.specs.Views.{placed, noted}
 use Rattle.scope_tree.specs.Words.{acquiring, owed}
 use Rattle.scope_tree.specs.Kept.{Kept}
 use Rattle.res_ledger.specs.Order.{firsts}
-use Rattle.scope_tree.specs.declared.branch.Held.{Held}
+use Rattle.scope_tree.specs.declared.branch.AcquiredRow.{AcquiredRow}
 use Rattle.scope_tree.specs.Released.{said}
 use Rattle.scope_tree.specs.Kept.{Shelved}
 use Rattle.scope_tree.proofs.Rooms.{used_is}
@@ -14,7 +14,7 @@ use Rattle.scope_tree.proofs.Calling.{keeps_scopes}
 use Rattle.scope_tree.proofs.Grown.{grown_back}
 use Rattle.scope_tree.proofs.Grows.{acquire_keeps, acquired_grown, acquired_owed}
 use Rattle.res_ledger.specs.declared.event.What.TheVariants.{Acquire}
-use Rattle.scope_tree.specs.Calls.{Acquires}
+use Rattle.scope_tree.specs.Calls.{AcquiresRow}
 use Rattle.scope_tree.specs.Trees.{seen}
 use Rattle.scope_tree.proofs.Rights.{note_leases}
 use Rattle.scope_tree.proofs.Taking.{acquire_takes}
@@ -33,13 +33,13 @@ pub returns-clause-room : goal.returns-clause-room
 returns-clause-room g c =
     let t = c.args.self.now in let v = g.S.RowSeat.view t.seat in let r = c.args.row in
     let e : g.S.RowSeat.view c.place.new.self ≡ placed (noted v (acquiring v r c.args.scope c.note.result)) r c.args.pay = rw (c.place.ensures.view, c.note.ensures.view) refl in
-    let o : Acquires (seen g.S.RowSeat.view t) c.args.scope r c.args.pay _ = record { stamp = c.note.result; fresh = c.note.ensures.stamp; seat = e; shelf = refl; scopes = refl; rows = refl } in
+    let o : AcquiresRow (seen g.S.RowSeat.view t) c.args.scope r c.args.pay _ = record { stamp = c.note.result; fresh = c.note.ensures.stamp; seat = e; shelf = refl; scopes = refl; rows = refl } in
     acquire_takes o (c.requires.fits.sound.shelved.empty r c.requires.row)
 
 pub returns-clause-fits : goal.returns-clause-fits
 returns-clause-fits g c =
     let t = c.args.self.now in let s = c.args.scope in let r = c.args.row in let hs = t.held.items in let bs = t.branches.items in let v = g.S.RowSeat.view t.seat in let n = c.note.result in
-    let w = g.S.RowSeat.view c.place.new.self in let w' = placed (noted v (acquiring v r s n)) r c.args.pay in let h : Held = record { row = r; scope = s } in
+    let w = g.S.RowSeat.view c.place.new.self in let w' = placed (noted v (acquiring v r s n)) r c.args.pay in let h : AcquiredRow = record { row = r; scope = s } in
     let z = c.requires.fits.sound in
     let e : w ≡ w' = rw (c.place.ensures.view, c.note.ensures.view) refl in
     let k : Kept w bs (hs ++ h ∷ []) = subst (λ x. Kept x bs (hs ++ h ∷ [])) (sym e) (acquire_keeps v bs hs r s n c.args.pay z.kept c.requires.scope c.requires.row c.requires.free) in

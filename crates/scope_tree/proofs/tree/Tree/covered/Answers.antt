@@ -1,6 +1,6 @@
 use Rattle.std.proofs.Common.{◌≡◌, ◌+◌, ◌<◌, suc, cond, take, length, [], ◌∷◌, ◌++◌, slice_index_or, sym, ap, ◌∙◌, subst, arith, append-nil}
 use Rattle.res_ledger.specs.Own.{picked, reaches}
-use Rattle.scope_tree.specs.declared.branch.Held.{Held}
+use Rattle.scope_tree.specs.declared.branch.AcquiredRow.{AcquiredRow}
 use Rattle.scope_tree.specs.Calls.{WasOpened}
 use Rattle.scope_tree.specs.Kept.{held_pairs}
 use Rattle.scope_tree.specs.Trees.{seen}
@@ -17,14 +17,14 @@ each-init g c = c.new-rows.ensures.items
 
 pub reaches-requires-clause-of : goal.reaches-requires-clause-of
 reaches-requires-clause-of g c =
-    let t = c.args.self.now in let v = g.S.RowSeat.view t.seat in let bs = t.branches.items in let hs = t.held.items in let k = c.requires.tree.kept in let i = c.each.one-index in let d : Held = record { row = 0; scope = 0 } in
+    let t = c.args.self.now in let v = g.S.RowSeat.view t.seat in let bs = t.branches.items in let hs = t.held.items in let k = c.requires.tree.kept in let i = c.each.one-index in let d : AcquiredRow = record { row = 0; scope = 0 } in
     let e = c.deref-one-items.ensures.value in
     let l : i < length hs = subst (λ h. i < length h) e c.each-test.true in
     subst (λ h. WasOpened (seen g.S.RowSeat.view t) (slice_index_or h i d).scope) (sym e) (was_opened v bs hs k (slice_index_or hs i d).scope (k.mirrors.ranged (slice_index_or hs i d).row (slice_index_or hs i d).scope (pair_at hs i d l)))
 
 pub each-preserved : goal.each-preserved
 each-preserved g c =
-    let t = c.args.self.now in let v = g.S.RowSeat.view t.seat in let hs = t.held.items in let i = c.each.one-index in let d : Held = record { row = 0; scope = 0 } in
+    let t = c.args.self.now in let v = g.S.RowSeat.view t.seat in let hs = t.held.items in let i = c.each.one-index in let d : AcquiredRow = record { row = 0; scope = 0 } in
     let e = c.deref-one-items.ensures.value in let f = reaches (words v) c.args.scope in let h = slice_index_or hs i d in
     let l : i < length hs = subst (λ h. i < length h) e c.each-test.true in let n : i + 1 ≡ suc i = omega arith in
     let next = picked_next f hs i (i + 1) d n l in

@@ -14,7 +14,7 @@ use Rattle.std.proofs.Common.{◌⊎◌, ⊎_elim}
 use Rattle.row_seat.specs.declared.view.View.{View}
 use Rattle.res_ledger.specs.Ledger.{IsOpened}
 use Rattle.res_ledger.specs.Ledger.LiesWithin.{same}
-use Rattle.scope_tree.specs.declared.branch.Held.{Held}
+use Rattle.scope_tree.specs.declared.branch.AcquiredRow.{AcquiredRow}
 use Rattle.res_ledger.specs.declared.event.What.TheVariants.{Open}
 use Rattle.scope_tree.specs.Rights.{KeepsLeases}
 use Rattle.scope_tree.proofs.Rights.{note_leases}
@@ -27,7 +27,7 @@ overflow_cast-scope g c =
     let n : length (opens (words (g.S.RowSeat.view t.seat))) ≡ length (marks 1 (drop 1 t.branches.items)) = ap length k.mirrors.opens in let m = length_marks t.branches.items k.mirrors.size in
     let l = c.len-scope.ensures in let z = t.branches.ok.0 in let a = c.requires.room in let d = c.requires.fits.sound.limit in omega arith
 
-at_in : {P : Type 0} (v : View P) (bs : List Branch) (hs : List Held) (k : Kept v bs hs) (c : ℕ) → (c ≡ 0) ⊎ IsOpened v.events v.by c → c < length bs
+at_in : {P : Type 0} (v : View P) (bs : List Branch) (hs : List AcquiredRow) (k : Kept v bs hs) (c : ℕ) → (c ≡ 0) ⊎ IsOpened v.events v.by c → c < length bs
 at_in v bs hs k c a = ⊎_elim (λ e. let z = k.mirrors.size in omega arith) (λ o. (noted_scope v bs hs k c o.0 o.1).1) a
 
 pub first_open-parent-requires-clause-scope : goal.first_open-parent-requires-clause-scope
