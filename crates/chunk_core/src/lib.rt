@@ -51,8 +51,3 @@ pub use load::{Load, render};
 pub use queue::ChunkQueue;
 pub use spare::{Spare, SpareRows};
 pub use word::Word;
-
-#[cfg(test)]
-mod spare_tests;
-#[cfg(test)]
-mod tests;

@@ -60,8 +60,6 @@ pub mod real;
 pub mod record;
 pub mod sink;
 pub mod source;
-#[cfg(test)]
-mod tests;
 pub mod trip;
 
 pub use depot::Depot;

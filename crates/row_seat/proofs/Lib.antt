@@ -20,4 +20,3 @@ pub mod Standings
 pub mod Rejoined
 mod Sitting
 pub mod Starts
-mod Life

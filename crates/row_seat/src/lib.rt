@@ -46,8 +46,6 @@ pub mod laws;
 pub mod plain;
 pub mod seat;
 pub mod token;
-#[cfg(test)]
-mod uses;
 pub mod view;
 
 pub use plain::{PlainSeat, PlainTable};

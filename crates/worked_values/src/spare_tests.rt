@@ -1,4 +1,4 @@
-use crate::{Line, Load, Row, Spare, SpareRows, render};
+use chunk_core::{Line, Load, Row, Spare, SpareRows, render};
 use std::alloc::{AllocError, Global};
 use std::test::Fail;
 

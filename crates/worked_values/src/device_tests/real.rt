@@ -1,8 +1,8 @@
 //! The adapters of real files and streams, over files of the tests' own and over real ones.
 use super::{read_at, sends, write_at};
-use crate::tests::fakes::{Answer, Scripted, Scripts};
-use crate::*;
+use crate::device_tests::fakes::{Answer, Scripted, Scripts};
 use chunk_core::{Exit, Word};
+use device_port::*;
 use std::alloc::{AllocError, Global};
 use std::io::ErrorKind;
 use std::test::Fail;

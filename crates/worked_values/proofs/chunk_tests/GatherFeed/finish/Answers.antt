@@ -3,7 +3,7 @@ use Rattle.std.proofs.lemmas.Grind.{common_steps}
 use Rattle.chunk_core.specs.Elements.Element.{Byte}
 use Rattle.chunk_core.specs.Elements.LoadKind.{Bytes}
 use Rattle.chunk_core.proofs.Gathering.{gathered}
-use Rattle.chunk_core.proofs.tests.GatherFeed.finish.Goals as goal
+use Rattle.worked_values.proofs.chunk_tests.GatherFeed.finish.Goals as goal
 
 pub returns-clause-first : goal.returns-clause-first
 returns-clause-first c m xs h =

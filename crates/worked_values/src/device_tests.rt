@@ -5,8 +5,8 @@ ghost use Rattle.device_port.specs.declared.device.Mode.TheVariants as mode;
 mod fakes;
 mod real;
 
-use crate::*;
 use chunk_core::{Exit, Line, List, Word};
+use device_port::*;
 use std::alloc::{AllocError, Global};
 use std::test::Fail;
 

@@ -5,8 +5,8 @@ use Rattle.res_ledger.specs.declared.event.What.TheVariants.{Acquire, Close, Fin
 use Rattle.row_seat.specs.declared.view.View.{View}
 use Rattle.row_seat.specs.Views.{MayNote, CanPlace, CanClose, CanTake, CanFinish, IsFreshStamp, took}
 use Rattle.row_seat.specs.PlainSeats.{shown_lent}
-use Rattle.row_seat.proofs.Life.{first, written, mine, was_noted, was_written, was_mine, may_acquire, may_place, may_write, may_close, can_close, can_take, may_final, can_finish, given_eight, is_life}
-use Rattle.row_seat.proofs.uses.whole_life.Goals as goal
+use Rattle.worked_values.proofs.Life.{first, written, mine, was_noted, was_written, was_mine, may_acquire, may_place, may_write, may_close, can_close, can_take, may_final, can_finish, given_eight, is_life}
+use Rattle.worked_values.proofs.seat_lives.whole_life.Goals as goal
 
 pub note-requires-clause-event : goal.note-requires-clause-event
 note-requires-clause-event c = subst (λ (v : View ℕ). MayNote v (Acquire 0 0)) (sym c.in_ok-seat.ensures.0) may_acquire

@@ -3,7 +3,7 @@ use Rattle.res_ledger.specs.declared.event.Event.{Event}
 use Rattle.chunk_core.proofs.Members.{among_last, among_cons, among_nil}
 use Rattle.res_ledger.proofs.Apart.{apart}
 use Rattle.row_seat.specs.Views.{stream_pairs}
-use Rattle.row_seat.proofs.uses.hand_out.Goals as goal
+use Rattle.worked_values.proofs.seat_lives.hand_out.Goals as goal
 
 pub join-requires-clause-can : goal.join-requires-clause-can
 join-requires-clause-can g c = let o = c.in_ok-other.ensures.ok in let can = c.requires.can in let j = c.args.stream in

@@ -2,7 +2,7 @@ ghost use Rattle.std.specs.Prelude.{◌≡◌, IfOk};
 ghost use Rattle.chunk_core.specs.Elements.{kind_of};
 ghost use Rattle.chunk_core.specs.Feed.{MayFeed};
 
-use crate::{Chunk, ChunkQueue, Code, Fed, Feed, How, Line, List, Load, Row, Word, render};
+use chunk_core::{Chunk, ChunkQueue, Code, Fed, Feed, How, Line, List, Load, Row, Word, render};
 use std::alloc::{AllocError, Global};
 use std::mem;
 use std::test::Fail;

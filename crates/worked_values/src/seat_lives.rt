@@ -7,10 +7,9 @@ ghost use Rattle.chunk_core.specs.declared.code.Exit.TheVariants.{Succeeded};
 ghost use Rattle.res_ledger.specs.declared.event.StreamNo.TheVariants.{Outer};
 ghost use Rattle.res_ledger.specs.declared.event.What.TheVariants.{Acquire, Close, Final};
 
-use crate::plain::PlainSeat;
-use crate::seat::RowSeat;
 use chunk_core::{Exit, Span};
 use res_ledger::{Ledger, StreamNo, What};
+use row_seat::{PlainSeat, RowSeat};
 use std::alloc::{AllocError, Global};
 use std::test::Fail;
 
