@@ -2,7 +2,7 @@
 # Measures seats that threads share beside seats of one thread, and beside single atomic steps in Rust
 # with nothing but std (bench/seats.rs): user plus system time of whole lives of rows, each with a table
 # of its own or all at one table, and of notes at one table; and how long threads take at one table, for
-# notes and for rows of their own.
+# notes and for rows of their own, beside what as many single steps of as many threads take in Rust.
 # It asserts nothing; the numbers are for a reader. Needs rt; without rustc it measures flume alone.
 #
 # usage: bench/seats.sh [LIVES [ROUNDS]]
@@ -86,3 +86,11 @@ tell_wall "notes of one thread" "$((lives * 2))" "$flume" shared-notes "$((lives
 tell_wall "notes of two threads, half each" "$((lives * 2))" "$flume" two-threads-note "$lives" time
 tell_wall "rows of one thread, not leased" "$lives" "$flume" one-works "$lives" time
 tell_wall "rows of four threads, a fourth each" "$lives" "$flume" four-work "$lives" time
+if [ -n "$rust" ]; then
+  tell_wall "Rust, rows of one thread" "$lives" "$rust" one-works "$lives"
+  tell_wall "Rust, rows of four, one stamp word" "$lives" "$rust" four-work "$lives"
+  tell_wall "Rust, rows of four, a word each" "$lives" "$rust" four-work-apart "$lives"
+  tell_wall "Rust, steps of one thread" "$((lives * 4))" "$rust" one-adds "$((lives * 4))"
+  tell_wall "Rust, steps of four, one word" "$((lives * 4))" "$rust" four-add "$((lives * 4))"
+  tell_wall "Rust, steps of four, a word each" "$((lives * 4))" "$rust" four-add-apart "$((lives * 4))"
+fi

@@ -18,74 +18,21 @@ use Rattle.row_seat.specs.declared.view.View.{View}
 use Rattle.row_seat.specs.Views.{CanClose, CanLease, CanLeave, CanSplit, split_main, split_off, within, CanPlace, CanTake, ClosesRow, LeavesRow, MayNote, handed_over, leased, noted, placed, run, shut, start, took, without, without_pair, without_row}
 use Rattle.row_seat.proofs.Members.{among_kept}
 use Rattle.shared_scripts.specs.Races.{IsEnded}
-use Rattle.seat_bench.specs.Rows.{IsHost, IsIdle, IsLent, IsMain, IsOpen, IsPast, IsShut}
+use Rattle.shared_scripts.specs.Rows.{CanOpenRow, CanShutRow, IsPast, QuitsRow, ShutsRow}
+use Rattle.shared_scripts.proofs.Lendings.{no_row, none_left}
+use Rattle.shared_scripts.proofs.Pasts.{among_run, covered, grow, more_notes, not_acquired, not_closed, not_leased, not_opened, root_open}
+use Rattle.seat_bench.specs.Rows.{IsHost, IsIdle, IsLent, IsMain, IsOpen, IsShut}
 
 abbrev pub event : {P : Type 0} → View P → ℕ → What → Event
 event v n x = record { stamp = n; by = v.by; what = x }
 
-outer_inner : (n : ℕ) → Outer ≢ Inner n
+pub outer_inner : (n : ℕ) → Outer ≢ Inner n
 outer_inner n e = cc
-
-widen : {o a l c : ℕ} (q b m d : ℕ) → o ≤ q → a ≤ b → l ≤ m → c ≤ d → (w : What) → IsPast o a l c w → IsPast q b m d w
-widen q b m d x y z u (Open s p) t = let k = t.1 in (t.0, omega arith, t.2)
-widen q b m d x y z u (Acquire r s) t = let k = t.0 in (omega arith, t.1)
-widen q b m d x y z u (Lease j s) t = omega arith
-widen q b m d x y z u (Cancel j how) t = tt
-widen q b m d x y z u (Close s how) t = let k = t.1 in (t.0, omega arith)
-widen q b m d x y z u (Final r how ok) t = tt
-
-module _ {o a l c : ℕ} (L : List Event) (h : (e : Event) → IsAmong e L → IsPast o a l c e.what) where
-  past_note : (k : StreamNo) (w : What) → Notes L k w → IsPast o a l c w
-  past_note k w n = subst (λ z. IsPast o a l c z) n.3 (h n.0 n.1)
-
-  up_to : {k : StreamNo} {s t : ℕ} → LiesWithin L k s t → (t ≡ s) ⊎ (t ≡ 0)
-  up_to (same s) = inl refl
-  up_to {k = k} (below s p t n w) = inr (⊎_elim (λ e. e ∙ (past_note k (Open s p) n).2) (λ z. z) (up_to w))
-
-  root_open : (k : StreamNo) → ¬ (IsClosed L k 0)
-  root_open k x = let b = past_note k (Close x.0 x.2.0) x.2.1 in let p = b.0 in ⊎_elim (λ e. omega arith) (λ e. omega arith) (up_to x.1)
-
-  not_closed : (k : StreamNo) (s : ℕ) → c < s → ¬ (IsClosed L k s)
-  not_closed k s more x = let b = past_note k (Close x.0 x.2.0) x.2.1 in let p = b.0 in let q = b.1 in ⊎_elim (λ e. omega arith) (λ e. omega arith) (up_to x.1)
-
-  not_opened : (k : StreamNo) (s : ℕ) → o < s → ¬ (IsOpened L k s)
-  not_opened k s more x = let q = (past_note k (Open s x.0) x.1).1 in omega arith
-
-  not_acquired : (r : ℕ) → a ≤ r → ¬ (IsAcquired L r)
-  not_acquired r more x = let q = (past_note x.0 (Acquire r x.1) x.2).0 in omega arith
-
-  not_leased : (j : ℕ) → l ≤ j → ¬ (IsLeased L j)
-  not_leased j more x = let q = past_note x.0 (Lease j x.1) x.2 in omega arith
-
-  covered : (k : StreamNo) (n r : ℕ) → IsCoveredBy L k (n + 1) r → r ≡ n
-  covered k n r x = let q = (past_note k (Acquire r x.0) x.1).1 in ⊎_elim
-      (λ e. let z = (past_note k (Open x.0 (n + 1)) e).2 in absurd (omega arith))
-      (λ w. ⊎_elim (λ e. omega arith) (λ e. absurd (omega arith)) (up_to w))
-      x.2
-
-  grow : (q b m d : ℕ) → o ≤ q → a ≤ b → l ≤ m → c ≤ d → (e : Event) → IsPast q b m d e.what → (x : Event) → IsAmong x (L ++ e ∷ []) → IsPast q b m d x.what
-  grow q b m d s t u w e new x i = ⊎_elim (λ j. widen q b m d s t u w x.what (h x j)) (λ is. subst (λ (z : Event). IsPast q b m d z.what) (sym is) new) (among_snoc L x e i)
-
-more_notes : {L : List Event} {k : StreamNo} {w : What} (M : List Event) → Notes L k w → Notes (L ++ M) k w
-more_notes M n = (n.0, among_left M n.1, n.2, n.3)
-
-none_left : (n : ℕ) → without n (n ∷ []) ≡ []
-none_left n = rw (eq-eqb n n refl) refl
 
 no_pair : (n : ℕ) → without_pair n n ((n, n) ∷ []) ≡ []
 no_pair n = rw (eq-eqb n n refl) refl
 
-pub among_run : (k from r : ℕ) → from ≤ r → r < from + k → IsAmong r (run from k)
-among_run zero from r a b = absurd (omega arith)
-among_run (suc k) from r a b = ⊎_elim (λ e. subst (λ x. IsAmong x (run from (suc k))) e (here (run (suc from) k))) (λ l. there from (among_run k (suc from) r (omega arith) (omega arith))) (nat_cases from r a)
-  where
-    nat_cases : (x y : ℕ) → x ≤ y → (x ≡ y) ⊎ (x < y)
-    nat_cases x y p = grind arith
-
 module _ {P : Type 0} where
-  no_row : (n : ℕ) (p : P) → without_row n ((n, p) ∷ []) ≡ []
-  no_row n p = rw (eq-eqb n n refl) refl
-
   last_note : (v : View P) (s : ℕ) (w : What) → Notes (v.events ++ event v s w ∷ []) v.by w
   last_note v s w = (event v s w, among_last v.events (event v s w), refl, refl)
 
@@ -96,20 +43,11 @@ module _ {P : Type 0} where
     abbrev pub acquiring : View P
     acquiring = noted opening (event opening t (Acquire n (n + 1)))
 
-    pub may_open : MayNote v (Open (n + 1) 0) × (1 ≤ v.spare)
-    may_open = let room = i.room in (((λ e. omega arith), not_opened v.events i.at.past v.by (n + 1) (omega arith), (inl refl, root_open v.events i.at.past v.by)), omega arith)
+    pub can_open : CanOpenRow v n
+    can_open = let room = i.room in (n, i.at.past, i.at.empty n (omega arith) lt, omega arith)
 
     past_open : (x : Event) → IsAmong x opening.events → IsPast (n + 1) n n n x.what
     past_open = grow v.events i.at.past (n + 1) n n n (omega arith) (omega arith) (omega arith) (omega arith) (event v s (Open (n + 1) 0)) (omega arith, omega arith, refl)
-
-    empty_still : IsAmong n v.empty
-    empty_still = i.at.empty n (omega arith) lt
-
-    pub may_acquire : MayNote opening (Acquire n (n + 1)) × (1 ≤ opening.spare)
-    may_acquire = let room = i.room in ((empty_still, not_acquired opening.events past_open n (omega arith), (inr (0, last_note v s (Open (n + 1) 0)), not_closed opening.events past_open v.by (n + 1) (omega arith))), omega arith)
-
-    pub can_place : CanPlace acquiring n
-    can_place = (empty_still, (n + 1, last_note opening t (Acquire n (n + 1))))
 
     pub is_open : IsOpen (placed acquiring n p) n to
     is_open = record {
@@ -178,17 +116,17 @@ module _ {P : Type 0} where
     abbrev pub closing : View P
     closing = noted v (event v s (Close (n + 1) Succeeded))
 
-    pub may_close : MayNote v (Close (n + 1) Succeeded) × (1 ≤ v.spare)
-    may_close = let room = i.room in ((inr (0, i.scope), not_closed v.events i.at.past v.by (n + 1) (omega arith)), omega arith)
-
     one_lease : (j : ℕ) → IsAmong (j, n) v.pairs → j ≡ n
     one_lease j m = ⊎_elim (λ e. ap (λ (x : ℕ × ℕ). x.0) e) (λ z. absurd (among_nil z)) (among_cons (subst (λ l. IsAmong (j, n) l) i.pairs m))
 
-    pub can_close : CanClose closing n
-    can_close = (
+    pub can_shut : CanShutRow v n
+    can_shut = let room = i.room in (
       (i.pay, subst (λ l. IsAmong (n, i.pay) l) (sym i.opened) (here [])),
-      (n + 1, more_notes (event v s (Close (n + 1) Succeeded) ∷ []) i.row, (n + 1, same (n + 1), (Succeeded, last_note v s (Close (n + 1) Succeeded)))),
-      λ j m. subst (λ (x : ℕ). (t : ℕ) × Notes closing.events closing.by (Lease x t)) (sym (one_lease j m)) (n + 1, more_notes (event v s (Close (n + 1) Succeeded) ∷ []) i.lease),
+      i.row,
+      (inr (0, i.scope), not_closed v.events i.at.past v.by (n + 1) (omega arith)),
+      (λ j m. subst (λ (x : ℕ). (t : ℕ) × Notes v.events v.by (Lease x t)) (sym (one_lease j m)) (n + 1, i.lease)),
+      (λ m. among_nil (subst (λ l. IsAmong n l) i.at.taken m)),
+      omega arith,
     )
 
     past_close : (x : Event) → IsAmong x closing.events → IsPast (n + 1) (n + 1) (n + 1) (n + 1) x.what
@@ -197,7 +135,7 @@ module _ {P : Type 0} where
     none_open : without_row n v.opened ≡ []
     none_open = ap (λ l. without_row n l) i.opened ∙ no_row n i.pay
 
-    pub close_stays : (w : View P) → ClosesRow closing n Stays w → IsShut w n to
+    close_stays : (w : View P) → ClosesRow closing n Stays w → IsShut w n to
     close_stays w x = subst (λ z. IsShut z n to) (sym x.2) (record {
       at = record { past = past_close; empty = i.at.empty; handed = i.at.handed; taken = i.at.taken; had = i.at.had };
       opened = none_open;
@@ -206,10 +144,7 @@ module _ {P : Type 0} where
       room = (let room = i.room in omega arith);
     })
 
-    pub close_takes : (w : View P) → ClosesRow closing n Yours w → CanTake w n × (1 ≤ w.spare)
-    close_takes w x = let room = i.room in subst (λ z. CanTake z n × (1 ≤ z.spare)) (sym x.2) ((among_last v.handed n, λ m. among_nil (subst (λ l. IsAmong n l) i.at.taken m)), omega arith)
-
-    pub close_ends : (w u : View P) → ClosesRow closing n Yours w → (ok : Bool) → IsEnded w n ok u → IsShut u n to
+    close_ends : (w u : View P) → ClosesRow closing n Yours w → (ok : Bool) → IsEnded w n ok u → IsShut u n to
     close_ends w u x ok is =
         let f : View P → View P = λ z. noted (took z n) (event (took z n) is.0 (Final n Succeeded ok)) in
         let g : View P = handed_over (shut closing n x.0) n x.0 in
@@ -237,6 +172,12 @@ module _ {P : Type 0} where
     pub can_leave : CanLeave leaving n n
     can_leave = (subst (λ l. IsAmong (n, n) l) (sym i.pairs) (here []), (Succeeded, last_note v s (Cancel n Succeeded)))
 
+    pub none_taken : ¬ (IsAmong n leaving.taken)
+    none_taken m = among_nil (subst (λ l. IsAmong n l) i.at.taken m)
+
+    pub room_left : 1 ≤ leaving.spare
+    room_left = let room = i.room in omega arith
+
     past_leave : (x : Event) → IsAmong x leaving.events → IsPast (n + 1) (n + 1) (n + 1) (n + 1) x.what
     past_leave = grow v.events i.at.past (n + 1) (n + 1) (n + 1) (n + 1) (omega arith) (omega arith) (omega arith) (omega arith) (event v s (Cancel n Succeeded)) tt
 
@@ -246,7 +187,7 @@ module _ {P : Type 0} where
     none_kept : without n v.kept ≡ []
     none_kept = ap (λ l. without n l) i.kept ∙ none_left n
 
-    pub leave_stays : (w : View P) → LeavesRow leaving n n Stays w → IsIdle w (n + 1) to
+    leave_stays : (w : View P) → LeavesRow leaving n n Stays w → IsIdle w (n + 1) to
     leave_stays w x = subst (λ z. IsIdle z (n + 1) to) (sym x.0) (record {
       at = record { past = past_leave; empty = i.at.empty; handed = i.at.handed; taken = i.at.taken; had = i.at.had };
       opened = i.opened;
@@ -255,10 +196,7 @@ module _ {P : Type 0} where
       room = (let room = i.room in omega arith);
     })
 
-    pub leave_takes : (w : View P) → LeavesRow leaving n n Yours w → CanTake w n × (1 ≤ w.spare)
-    leave_takes w x = let room = i.room in subst (λ z. CanTake z n × (1 ≤ z.spare)) (sym x.1) ((among_last v.handed n, λ m. among_nil (subst (λ l. IsAmong n l) i.at.taken m)), omega arith)
-
-    pub leave_ends : (w u : View P) → LeavesRow leaving n n Yours w → (ok : Bool) → IsEnded w n ok u → IsIdle u (n + 1) to
+    leave_ends : (w u : View P) → LeavesRow leaving n n Yours w → (ok : Bool) → IsEnded w n ok u → IsIdle u (n + 1) to
     leave_ends w u x ok is =
         let f : View P → View P = λ z. noted (took z n) (event (took z n) is.0 (Final n Succeeded ok)) in
         subst (λ z. IsIdle z (n + 1) to) (sym (is.1 ∙ ap f x.1)) (record {
@@ -280,14 +218,14 @@ module _ {P : Type 0} where
     abbrev pub ending : View P
     ending = noted v (event v s (Close (n + 1) Succeeded))
 
-    pub may_end : MayNote v (Close (n + 1) Succeeded) × (1 ≤ v.spare)
-    may_end = let room = i.room in ((inr (0, i.scope), not_closed v.events i.at.past v.by (n + 1) (omega arith)), omega arith)
-
-    pub can_end : CanClose ending n
-    can_end = (
+    pub can_end : CanShutRow v n
+    can_end = let room = i.room in (
       (i.pay, subst (λ l. IsAmong (n, i.pay) l) (sym i.opened) (here [])),
-      (n + 1, more_notes (event v s (Close (n + 1) Succeeded) ∷ []) i.row, (n + 1, same (n + 1), (Succeeded, last_note v s (Close (n + 1) Succeeded)))),
-      λ j m. absurd (among_nil (subst (λ l. IsAmong (j, n) l) i.pairs m)),
+      i.row,
+      (inr (0, i.scope), not_closed v.events i.at.past v.by (n + 1) (omega arith)),
+      (λ j m. absurd (among_nil (subst (λ l. IsAmong (j, n) l) i.pairs m))),
+      (λ m. among_nil (subst (λ l. IsAmong n l) i.at.taken m)),
+      omega arith,
     )
 
     past_end : (x : Event) → IsAmong x ending.events → IsPast (n + 1) (n + 1) (n + 1) (n + 1) x.what
@@ -296,7 +234,7 @@ module _ {P : Type 0} where
     none_opened : without_row n v.opened ≡ []
     none_opened = ap (λ l. without_row n l) i.opened ∙ no_row n i.pay
 
-    pub end_stays : (w : View P) → ClosesRow ending n Stays w → IsIdle w (n + 1) to
+    end_stays : (w : View P) → ClosesRow ending n Stays w → IsIdle w (n + 1) to
     end_stays w x = subst (λ z. IsIdle z (n + 1) to) (sym x.2) (record {
       at = record { past = past_end; empty = i.at.empty; handed = i.at.handed; taken = i.at.taken; had = i.at.had };
       opened = none_opened;
@@ -305,10 +243,7 @@ module _ {P : Type 0} where
       room = (let room = i.room in omega arith);
     })
 
-    pub end_takes : (w : View P) → ClosesRow ending n Yours w → CanTake w n × (1 ≤ w.spare)
-    end_takes w x = let room = i.room in subst (λ z. CanTake z n × (1 ≤ z.spare)) (sym x.2) ((among_last v.handed n, λ m. among_nil (subst (λ l. IsAmong n l) i.at.taken m)), omega arith)
-
-    pub end_ends : (w u : View P) → ClosesRow ending n Yours w → (ok : Bool) → IsEnded w n ok u → IsIdle u (n + 1) to
+    end_ends : (w u : View P) → ClosesRow ending n Yours w → (ok : Bool) → IsEnded w n ok u → IsIdle u (n + 1) to
     end_ends w u x ok is =
         let f : View P → View P = λ z. noted (took z n) (event (took z n) is.0 (Final n Succeeded ok)) in
         subst (λ z. IsIdle z (n + 1) to) (sym (is.1 ∙ ap f x.2)) (record {
@@ -325,8 +260,30 @@ module _ {P : Type 0} where
           room = (let room = i.room in omega arith);
         })
 
+  -- what the row's steps leave
+  pub shuts_on : (v : View P) (n to : ℕ) → n < to → IsLent v n to → (w : View P) → ShutsRow v n w → IsShut w n to
+  shuts_on v n to lt i w x = ⊎_elim (λ stays. close_stays v n to lt i x.0 w stays) (λ ends. close_ends v n to lt i x.0 ends.0 w ends.1 ends.2.0 ends.2.1) x.1
+
+  pub ends_on : (v : View P) (n to : ℕ) → n < to → IsOpen v n to → (w : View P) → ShutsRow v n w → IsIdle w (n + 1) to
+  ends_on v n to lt i w x = ⊎_elim (λ stays. end_stays v n to lt i x.0 w stays) (λ ends. end_ends v n to lt i x.0 ends.0 w ends.1 ends.2.0 ends.2.1) x.1
+
+  pub quits_on : (v : View P) (n to : ℕ) → n < to → IsShut v n to → (s : ℕ) (w : View P) → QuitsRow (noted v (event v s (Cancel n Succeeded))) n n w → IsIdle w (n + 1) to
+  quits_on v n to lt i s w x = ⊎_elim (λ stays. leave_stays v n to lt i s w stays) (λ ends. leave_ends v n to lt i s ends.0 w ends.1 ends.2.0 ends.2.1) x
+
   pub main_still : (v w : View P) → w.main ≡ v.main → w.by ≡ v.by → IsMain v → IsMain w
   main_still v w e f m = record { main = e ∙ m.main; by = f ∙ m.by }
+
+  pub main_shuts : (v : View P) (n : ℕ) (w : View P) → ShutsRow v n w → IsMain v → IsMain w
+  main_shuts v n w x = ⊎_elim
+      (λ stays. main_still v w (ap (λ z. z.main) stays.2) (ap (λ z. z.by) stays.2))
+      (λ ends. main_still v w (ap (λ z. z.main) ends.2.1.1 ∙ ap (λ z. z.main) ends.1.2) (ap (λ z. z.by) ends.2.1.1 ∙ ap (λ z. z.by) ends.1.2))
+      x.1
+
+  pub main_quits : (v : View P) (j n : ℕ) (w : View P) → QuitsRow v j n w → IsMain v → IsMain w
+  main_quits v j n w x = ⊎_elim
+      (λ stays. main_still v w (ap (λ z. z.main) stays.0) (ap (λ z. z.by) stays.0))
+      (λ ends. main_still v w (ap (λ z. z.main) ends.2.1.1 ∙ ap (λ z. z.main) ends.1.1) (ap (λ z. z.by) ends.2.1.1 ∙ ap (λ z. z.by) ends.1.1))
+      x
 
   -- the main seat splits off a seat with rows and room for its events
   module _ (v : View P) (j a b to room splits : ℕ) (h : IsHost v j a to room (splits + 1)) (le : a ≤ b) (end : b ≤ to) (most : 7 * (b - a) ≤ room) where

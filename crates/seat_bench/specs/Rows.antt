@@ -3,19 +3,10 @@ use Rattle.std.specs.Prelude.{◌≡◌, ℕ, ◌+◌, ◌*◌, ◌<◌, ◌≤�
 use Rattle.chunk_core.specs.Lists.{IsAmong}
 use Rattle.res_ledger.specs.declared.event.Event.{Event}
 use Rattle.res_ledger.specs.declared.event.StreamNo.TheVariants.{Outer}
-use Rattle.res_ledger.specs.declared.event.What.{What}
-use Rattle.res_ledger.specs.declared.event.What.TheVariants.{Acquire, Cancel, Close, Final, Lease, Open}
+use Rattle.res_ledger.specs.declared.event.What.TheVariants.{Acquire, Lease, Open}
 use Rattle.res_ledger.specs.Ledger.{Notes}
 use Rattle.row_seat.specs.declared.view.View.{View}
-
--- an event of scopes up to o under the root, of rows below a, each row in the scope above its number, of leases for streams below l, or of closed scopes up to c, the root not among them
-abbrev pub IsPast : ℕ → ℕ → ℕ → ℕ → What → Type 0
-IsPast o a l c (Open s p) = (1 ≤ s) × (s ≤ o) × (p ≡ 0)
-IsPast o a l c (Acquire r s) = (r < a) × (s ≡ r + 1)
-IsPast o a l c (Lease j s) = j < l
-IsPast o a l c (Cancel j how) = Unit {0}
-IsPast o a l c (Close s how) = (1 ≤ s) × (s ≤ c)
-IsPast o a l c (Final r how ok) = Unit {0}
+use Rattle.shared_scripts.specs.Rows.{IsPast}
 
 module _ {P : Type 0} where
   -- the seat noted such events alone, the rows from a to `to` - 1 are empty, no row is handed to it, and no seat was split off

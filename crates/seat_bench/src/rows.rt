@@ -6,10 +6,10 @@ ghost use Rattle.seat_bench.specs.Rows.{IsIdle, IsLent, IsMain, IsOpen, IsShut};
 
 use chunk_core::Exit;
 use res_ledger::{StreamNo, What};
-use row_seat::{Left, PlainSeat, RowSeat};
+use row_seat::{PlainSeat, RowSeat};
 use row_shared::SharedSeat;
 use scope_tree::Finish;
-use shared_scripts::races::finalize;
+use shared_scripts::rows;
 use std::alloc::{AllocError, Global};
 use tree_scripts::scripts::Coin;
 
@@ -22,10 +22,7 @@ fn open_row<S: RowSeat>(seat: &mut S, desk: &mut S::Desk, row: u32, pay: S::Pay)
     ensures main { IsMain (S.view seat.old) → IsMain (S.view seat.new) }
     ensures fits { S.fits seat.new desk.new }
 {
-    let scope = row + 1;
-    seat.note(desk, What::Open { scope, parent: 0 });
-    seat.note(desk, What::Acquire { row, scope });
-    seat.place(desk, row, pay);
+    rows::open_row(seat, desk, row, pay)
 }
 
 /// Leases the row's scope for the stream of its number.
@@ -59,13 +56,7 @@ where
     ensures main { IsMain (S.view seat.old) → IsMain (S.view seat.new) }
     ensures fits { S.fits seat.new desk.new }
 {
-    let exit = Exit::Succeeded;
-    let scope = row + 1;
-    seat.note(desk, What::Close { scope, exit });
-    match seat.close(desk, row) {
-        Left::Stays => {}
-        Left::Yours => finalize(seat, desk, row),
-    }
+    rows::shut_row(seat, desk, row)
 }
 
 /// Cancels the lease and lets go of the row.
@@ -81,10 +72,7 @@ where
 {
     let exit = Exit::Succeeded;
     seat.note(desk, What::Cancel { stream: row, exit });
-    match seat.leave(desk, row, row) {
-        Left::Stays => {}
-        Left::Yours => finalize(seat, desk, row),
-    }
+    rows::quit_row(seat, desk, row, row)
 }
 
 /// Closes the row's scope and the row, which nobody leased.
@@ -97,13 +85,7 @@ where
     ensures idle { (to : ℕ) → row < to → IsOpen (S.view seat.old) row to → IsIdle (S.view seat.new) (row + 1) to }
     ensures fits { S.fits seat.new desk.new }
 {
-    let exit = Exit::Succeeded;
-    let scope = row + 1;
-    seat.note(desk, What::Close { scope, exit });
-    match seat.close(desk, row) {
-        Left::Stays => {}
-        Left::Yours => finalize(seat, desk, row),
-    }
+    rows::shut_row(seat, desk, row)
 }
 
 /// The lives of the rows of the span, which nobody leases, one after another.

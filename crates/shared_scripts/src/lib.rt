@@ -2,9 +2,14 @@
 //!
 //! In `same` the scripts of `tree_scripts` run over a shared seat and leave the ledgers that they leave
 //! over a plain one. In `notes` two threads note at one table. In `races` one thread closes a row while
-//! another lets go of its last lease.
+//! another lets go of its last lease. In `crowds` eight threads live through rows of their own and let
+//! go of rows that all of them leased, while a ninth closes these.
 #![tactic(auto)]
 
+pub mod crowds;
+pub mod hosting;
 pub mod notes;
 pub mod races;
+pub mod rows;
 pub mod same;
+pub mod staying;

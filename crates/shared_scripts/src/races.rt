@@ -112,7 +112,7 @@ pub fn finish_both<S: RowSeat>(mut seat: S, desk: &mut S::Desk, other: S) -> Led
 /// A payload that counts the calls of its finalizer.
 #[derive(Drop)]
 pub struct Bell {
-    rings: Arc<AtomicU64>,
+    pub(crate) rings: Arc<AtomicU64>,
 }
 
 impl Finish for Bell {
