@@ -8,7 +8,8 @@ use Rattle.chunk_core.specs.Feed.{Meaning}
 use Rattle.chunk_core.specs.declared.code.Code.{Code}
 use Rattle.chunk_core.specs.declared.load.Load.{Load}
 use Rattle.pull_nodes.specs.PipeKinds.{gives_of}
-use Rattle.pull_nodes.specs.Pipes.{meaning, IsMeaningOf, part_of, all_of}
+use Rattle.pull_nodes.specs.Pipes.{meaning_over, IsMeaningOver, part_of, all_of}
+use Rattle.chunk_core.specs.Tables.{Values}
 use Rattle.pull_nodes.specs.declared.pipe.Pipe.{Pipe}
 use Rattle.pull_nodes.proofs.Beginnings.{part_of-nil}
 use Rattle.pull_nodes.proofs.PipeLaws.{steady}
@@ -42,28 +43,28 @@ some_of None h = absurd (cc)
 some_of (Some x) h = (x, refl)
 
 -- the meaning of a pipe that takes a kind
-pub is_meaning : (p : Pipe) (takes gives : LoadKind) → gives_of p takes ≡ Some gives → IsMeaningOf p (meaning p takes gives)
-is_meaning p takes gives e = ap (option_map (meaning p takes)) e
+pub is_meaning : (t : Values) (p : Pipe) (takes gives : LoadKind) → gives_of p takes ≡ Some gives → IsMeaningOver t p (meaning_over t p takes gives)
+is_meaning t p takes gives e = ap (option_map (meaning_over t p takes)) e
 
 -- a pipe that was fed nothing before gives what it gives of the whole input, also where a fault came before its end
-all_given : (p : Pipe) (takes gives : LoadKind) → gives_of p takes ≡ Some gives → (loads given : List Load) (c : Option Code)
-    → Pours (meaning p takes gives) [] loads given c → MakesUp (meaning p takes gives) [] given c (all_of p (elements_of loads))
-all_given p takes gives e loads given c (whole made) = made
-all_given p takes gives e loads given c (broken d is b) =
-    let m = meaning p takes gives in
-    let stops = ((steady p m (is_meaning p takes gives e)).stops (elements_of b.front) (elements_of b.unfed) d (sym b.made.fault)).1 in
-    let same : part_of p (elements_of b.front) ≡ all_of p (elements_of loads) = sym stops ∙ ap (all_of p) (sym (ap elements_of b.whole ∙ flat_map-append elements b.front b.unfed)) in
+all_given : (t : Values) (p : Pipe) (takes gives : LoadKind) → gives_of p takes ≡ Some gives → (loads given : List Load) (c : Option Code)
+    → Pours (meaning_over t p takes gives) [] loads given c → MakesUp (meaning_over t p takes gives) [] given c (all_of t p (elements_of loads))
+all_given t p takes gives e loads given c (whole made) = made
+all_given t p takes gives e loads given c (broken d is b) =
+    let m = meaning_over t p takes gives in
+    let stops = ((steady t p m (is_meaning t p takes gives e)).stops (elements_of b.front) (elements_of b.unfed) d (sym b.made.fault)).1 in
+    let same : part_of t p (elements_of b.front) ≡ all_of t p (elements_of loads) = sym stops ∙ ap (all_of t p) (sym (ap elements_of b.whole ∙ flat_map-append elements b.front b.unfed)) in
     let made = subst (λ w. MakesUp m [] given (Some d) w) same b.made in
-    subst (λ f. MakesUp m [] given f (all_of p (elements_of loads))) (sym is) made
+    subst (λ f. MakesUp m [] given f (all_of t p (elements_of loads))) (sym is) made
 
 -- what came, and the fault
-pub record GivesAll (p : Pipe) (gives : LoadKind) (xs : List Element) (given : List Load) (c : Option Code) : Type 0 where
+pub record GivesAll (t : Values) (p : Pipe) (gives : LoadKind) (xs : List Element) (given : List Load) (c : Option Code) : Type 0 where
   pub kinds : AreOf gives given
-  pub list : elements_of given ≡ (all_of p xs).list
-  pub fault : c ≡ (all_of p xs).fault
+  pub list : elements_of given ≡ (all_of t p xs).list
+  pub fault : c ≡ (all_of t p xs).fault
 
-pub gives_all : (p : Pipe) (takes gives : LoadKind) → gives_of p takes ≡ Some gives → (loads given : List Load) (c : Option Code)
-    → Pours (meaning p takes gives) [] loads given c → GivesAll p gives (elements_of loads) given c
-gives_all p takes gives e loads given c poured =
-    let made = all_given p takes gives e loads given c poured in
-    record { kinds = made.kinds; list = sym (ap (λ l. l ++ elements_of given) (part_of-nil p)) ∙ made.list; fault = made.fault }
+pub gives_all : (t : Values) (p : Pipe) (takes gives : LoadKind) → gives_of p takes ≡ Some gives → (loads given : List Load) (c : Option Code)
+    → Pours (meaning_over t p takes gives) [] loads given c → GivesAll t p gives (elements_of loads) given c
+gives_all t p takes gives e loads given c poured =
+    let made = all_given t p takes gives e loads given c poured in
+    record { kinds = made.kinds; list = sym (ap (λ l. l ++ elements_of given) (part_of-nil t p)) ∙ made.list; fault = made.fault }

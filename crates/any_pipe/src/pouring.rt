@@ -84,17 +84,18 @@ pub fn pour<F: Feed>(alloc: Global, mut pipe: F, loads: Vec<Load>) -> Result<Pou
     finish_all(alloc, pipe, fed.loads)
 }
 
-/// Puts a whole input through a pipe. What comes is the same however the input is cut into loads.
+/// Puts a whole input through a pipe over these tables. What comes is the same however the input is cut into loads.
 pub fn pour_through<F: PipeState>(
     alloc: Global,
+    tables: &F::Tables,
     pipe: Pipe,
     loads: Vec<Load>,
 ) -> Result<Poured, AllocError>
     requires { TakesLoads pipe loads.items }
-    ensures list { IfOk result (λ p. elements_of p.loads.items ≡ (all_of pipe (elements_of loads.items)).list) }
-    ensures fault { IfOk result (λ p. p.fault ≡ (all_of pipe (elements_of loads.items)).fault) }
+    ensures list { IfOk result (λ p. elements_of p.loads.items ≡ (all_of (F.values tables.now) pipe (elements_of loads.items)).list) }
+    ensures fault { IfOk result (λ p. p.fault ≡ (all_of (F.values tables.now) pipe (elements_of loads.items)).fault) }
     ensures kind { IfOk result (λ p. (takes gives : LoadKind) → AreOf takes loads.items → gives_of pipe takes ≡ Some gives → AreOf gives p.loads.items) }
 {
-    let state = F::of(alloc, pipe)?;
+    let state = F::of(alloc, tables, pipe)?;
     pour(alloc, state, loads)
 }

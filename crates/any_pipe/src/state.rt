@@ -7,6 +7,10 @@ use stream_ops::{
 };
 use text_pipes::{HexPipe, LinesPipe, LossyPipe, UpperPipe, Utf8Pipe};
 
+/// No tables: no pipe looks anything up.
+#[derive(Drop)]
+pub struct NoTables;
+
 /// The state of any pipe: that of the pipe itself.
 #[derive(Drop)]
 pub enum AnyPipe {
@@ -70,12 +74,17 @@ impl Feed for AnyPipe {
 
 impl PipeState for AnyPipe {
     ghost use Rattle.any_pipe.specs.Dues.{due, any_owes};
+    ghost use Rattle.chunk_core.specs.Tables.{no_values};
+
+    type Tables = NoTables;
+
+    ghost values = { λ t. no_values };
 
     ghost due = { due };
 
     ghost dues = { any_owes };
 
-    fn of(alloc: Global, pipe: Pipe) -> Result<AnyPipe, AllocError> {
+    fn of(alloc: Global, _tables: &NoTables, pipe: Pipe) -> Result<AnyPipe, AllocError> {
         Ok(match pipe {
             Pipe::Utf8 => AnyPipe::Utf8(Utf8Pipe::new(alloc)?),
             Pipe::Lossy => AnyPipe::Lossy(LossyPipe::new(alloc)?),

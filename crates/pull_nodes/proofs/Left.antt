@@ -8,7 +8,7 @@ no_front : {A : Type 0} (xs ys : List A) → xs ++ ys ≡ [] → xs ≡ []
 no_front [] ys h = refl
 no_front (x ∷ xs) ys h = cc
 
-pub left : (R : Outcomes) (ys more : List Element) (e : End) → OrLeft R (ys ++ more) e → OrLeft R ys Cut
-left R ys more e (inl r) = inr (refl, inr (more, e, r))
-left R ys more e (inr (is, inl none)) = inr (refl, inl (no_front ys more none))
-left R ys more e (inr (is, inr (rest, g, r))) = inr (refl, inr (more ++ rest, g, rw (← append_assoc) r))
+pub left : (Idle : Type 0) (R : Outcomes) (ys more : List Element) (e : End) → OrLeft Idle R (ys ++ more) e → OrLeft Idle R ys Cut
+left Idle R ys more e (inl r) = inr (refl, inr (more, e, r))
+left Idle R ys more e (inr (is, inl (none, idle))) = inr (refl, inl (no_front ys more none, idle))
+left Idle R ys more e (inr (is, inr (rest, g, r))) = inr (refl, inr (more ++ rest, g, rw (← append_assoc) r))

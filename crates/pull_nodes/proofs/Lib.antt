@@ -6,6 +6,7 @@ pub mod Count
 pub mod Counts
 pub mod Drop
 pub mod Filter
+pub mod Folds
 pub mod Fronts
 pub mod Groups
 pub mod Hex
@@ -26,9 +27,11 @@ pub mod Number
 pub mod OwnFaults
 mod PipeExamples
 pub mod PipeLaws
+mod RunExamples
 pub mod Sequences
 pub mod Steady
 pub mod Texts
+pub mod Told
 pub mod Upper
 pub mod Utf8
 pub mod Utf8Cuts

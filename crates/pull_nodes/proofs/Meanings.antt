@@ -9,20 +9,24 @@ use Rattle.chunk_core.specs.declared.feed.Fed.{Fed}
 use Rattle.chunk_core.specs.declared.load.Load.{Load}
 use Rattle.pull_nodes.specs.PipeKinds.{gives_of}
 use Rattle.pull_nodes.specs.PipeRule.{from_bytes, from_lines}
-use Rattle.pull_nodes.specs.Pipes.{meaning, IsMeaningOf, part_of, all_of}
+use Rattle.pull_nodes.specs.Pipes.{meaning, meaning_over, IsMeaningOf, IsMeaningOver, part_of, all_of}
 use Rattle.pull_nodes.specs.Plain.{bytes_of}
+use Rattle.chunk_core.specs.Tables.{Values, no_values}
 use Rattle.pull_nodes.specs.declared.pipe.Pipe.{Pipe}
 
-from_some : (p : Pipe) (m : Meaning) (o : Option LoadKind) → option_map (meaning p m.takes) o ≡ Some m → (m ≡ meaning p m.takes m.gives) × (o ≡ Some m.gives)
-from_some p m None h = (cc)
-from_some p m (Some g) h =
-    let is : meaning p m.takes g ≡ m = cc in
+from_some : (t : Values) (p : Pipe) (m : Meaning) (o : Option LoadKind) → option_map (meaning_over t p m.takes) o ≡ Some m → (m ≡ meaning_over t p m.takes m.gives) × (o ≡ Some m.gives)
+from_some t p m None h = (cc)
+from_some t p m (Some g) h =
+    let is : meaning_over t p m.takes g ≡ m = cc in
     let gives : g ≡ m.gives = ap (λ (x : Meaning). x.gives) is in
-    (sym is ∙ ap (meaning p m.takes) gives, ap (λ k. Some k) gives)
+    (sym is ∙ ap (meaning_over t p m.takes) gives, ap (λ k. Some k) gives)
 
 -- a meaning of a pipe is what the pipe gives
+pub is_meaning_over : (t : Values) (p : Pipe) (m : Meaning) → IsMeaningOver t p m → (m ≡ meaning_over t p m.takes m.gives) × (gives_of p m.takes ≡ Some m.gives)
+is_meaning_over t p m h = from_some t p m (gives_of p m.takes) h
+
 pub meaning_is : (p : Pipe) (m : Meaning) → IsMeaningOf p m → (m ≡ meaning p m.takes m.gives) × (gives_of p m.takes ≡ Some m.gives)
-meaning_is p m h = from_some p m (gives_of p m.takes) h
+meaning_is p m h = is_meaning_over no_values p m h
 
 -- a pipe that takes bytes alone, and one that takes lines alone
 pub from_bytes-some : (gives kind g : LoadKind) → from_bytes gives kind ≡ Some g → (kind ≡ Bytes) × (g ≡ gives)
@@ -37,22 +41,22 @@ from_lines-some gives Rows g h = (cc)
 
 -- the pipe gave this load of ys behind xs, and then this fault or none
 pub extends_from : (p : Pipe) (m : Meaning) → IsMeaningOf p m → (xs ys : List Element) (load : Load) (c : Option Code) → gives_of p m.takes ≡ Some (kind_of load)
-    → (part_of p xs).list ++ elements load ≡ (part_of p (xs ++ ys)).list → (part_of p (xs ++ ys)).fault ≡ c → Extends m xs ys load c
+    → (part_of no_values p xs).list ++ elements load ≡ (part_of no_values p (xs ++ ys)).list → (part_of no_values p (xs ++ ys)).fault ≡ c → Extends m xs ys load c
 extends_from p m h xs ys load c kind list fault =
     let is = meaning_is p m h in
     let same : kind_of load ≡ m.gives = cc in
-    let part : m.part ≡ part_of p = ap (λ (n : Meaning). n.part) is.0 in
+    let part : m.part ≡ part_of no_values p = ap (λ (n : Meaning). n.part) is.0 in
     let P : (List Element → Given) → Type 0 = λ f. ((f xs).list ++ elements load ≡ (f (xs ++ ys)).list) × ((f (xs ++ ys)).fault ≡ c) in
     let both = subst P (sym part) (list, fault) in
     record { kind = same; list = both.0; fault = both.1 }
 
 -- the pipe's first answer where xs is the whole input
 pub finishes_from : (p : Pipe) (m : Meaning) → IsMeaningOf p m → (xs rest : List Element) (answer : Fed) (Comes : List Element → Option Code → Type 0)
-    → (part_of p xs).list ++ rest ≡ (all_of p xs).list → Continues m.gives rest (all_of p xs).fault answer Comes → Finishes m xs answer Comes
+    → (part_of no_values p xs).list ++ rest ≡ (all_of no_values p xs).list → Continues m.gives rest (all_of no_values p xs).fault answer Comes → Finishes m xs answer Comes
 finishes_from p m h xs rest answer Comes whole given =
     let is = meaning_is p m h in
-    let part : m.part ≡ part_of p = ap (λ (n : Meaning). n.part) is.0 in
-    let all : m.all ≡ all_of p = ap (λ (n : Meaning). n.all) is.0 in
+    let part : m.part ≡ part_of no_values p = ap (λ (n : Meaning). n.part) is.0 in
+    let all : m.all ≡ all_of no_values p = ap (λ (n : Meaning). n.all) is.0 in
     record {
       rest = rest;
       whole = ap (λ (f : List Element → Given). (f xs).list ++ rest) part ∙ (whole ∙ ap (λ (f : List Element → Given). (f xs).list) (sym all));
@@ -60,7 +64,7 @@ finishes_from p m h xs rest answer Comes whole given =
     }
 
 -- no fault was given yet
-pub sound_from : (p : Pipe) (m : Meaning) → IsMeaningOf p m → (xs : List Element) → (part_of p xs).fault ≡ None → (m.part xs).fault ≡ None
+pub sound_from : (p : Pipe) (m : Meaning) → IsMeaningOf p m → (xs : List Element) → (part_of no_values p xs).fault ≡ None → (m.part xs).fault ≡ None
 sound_from p m h xs none = ap (λ (n : Meaning). (n.part xs).fault) (meaning_is p m h).0 ∙ none
 
 pub bytes_of-append : (xs zs : List Element) → bytes_of (xs ++ zs) ≡ bytes_of xs ++ bytes_of zs

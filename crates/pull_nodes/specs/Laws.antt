@@ -1,27 +1,25 @@
 -- What holds of the runs of every node, and of what every pipe gives.
-use Rattle.std.specs.Prelude.{◌≡◌, ◌↔◌, ℕ, true, List, ◌++◌, length, Option, Some, None}
+use Rattle.std.specs.Prelude.{◌≡◌, ◌↔◌, ℕ, true, List, ◌++◌, length, Option, Some, None, IfSome}
 use Rattle.chunk_core.specs.Elements.{Element}
 use Rattle.chunk_core.specs.Feed.{Meaning}
 use Rattle.chunk_core.specs.Outcomes.{End, Cut}
 use Rattle.chunk_core.specs.declared.code.Code.{Code}
-use Rattle.device_port.specs.Device.{DeviceTold, faults_of}
+use Rattle.device_port.specs.Device.{DeviceTold}
 use Rattle.chunk_core.specs.declared.code.Code.TheVariants as code
 use Rattle.pull_nodes.specs.Lines.{IsFree, lines_part}
-use Rattle.pull_nodes.specs.Pipes.{IsMeaningOf}
+use Rattle.pull_nodes.specs.Pipes.{IsMeaningOver}
+pub use Rattle.pull_nodes.specs.Plain.{IsFront}
 use Rattle.pull_nodes.specs.Changes.{same_element}
 use Rattle.pull_nodes.specs.Runs.{IsRun, IsIdealRun}
+use Rattle.pull_nodes.specs.Shape.{EachRead, EachWrite, HasNoMerge}
+use Rattle.chunk_core.specs.Tables.{Values}
 use Rattle.pull_nodes.specs.Utf8.{IsMalformed, is_malformed, utf8_rest}
 use Rattle.pull_nodes.specs.declared.node.Node.{Node}
-use Rattle.pull_nodes.specs.declared.node.Node.TheVariants.{Nil, Emit, Raise, Read, Weak', Scope', Append', OnFault', Through', Take'}
 use Rattle.pull_nodes.specs.declared.pipe.Pipe.{Pipe}
 
 -- a front of what a run gives is what a run gives that was left
 abbrev pub CanBeLeft : Type 0
-CanBeLeft = (w : ℕ → DeviceTold) (n : Node) (ys more : List Element) (e : End) → IsRun w n (ys ++ more) e → IsRun w n ys Cut
-
--- no act of a device failed
-abbrev pub IsClean : (ℕ → DeviceTold) → Type 0
-IsClean w = (p : ℕ) → faults_of (w p) ≡ 0
+CanBeLeft = (t : Values) (w : ℕ → DeviceTold) (n : Node) (ys more : List Element) (e : End) → IsRun t w n (ys ++ more) e → IsRun t w n ys Cut
 
 -- both tell this content
 abbrev pub TellSame : DeviceTold → DeviceTold → Type 0
@@ -29,26 +27,34 @@ TellSame d e = (content : List ℕ) × (d.content ≡ Some content) × (e.conten
 
 -- at each place that the node reads, both tell the same content
 abbrev pub TellSameOf : (ℕ → DeviceTold) → (ℕ → DeviceTold) → Node → Type 0
-TellSameOf v w Nil = Unit {0}
-TellSameOf v w (Emit l) = Unit {0}
-TellSameOf v w (Raise c) = Unit {0}
-TellSameOf v w (Read p) = TellSame (v p) (w p)
-TellSameOf v w (Weak' p _ a) = TellSameOf v w a
-TellSameOf v w (Scope' _ a) = TellSameOf v w a
-TellSameOf v w (Append' _ a _ b) = TellSameOf v w a × TellSameOf v w b
-TellSameOf v w (OnFault' _ a _ b) = TellSameOf v w a × TellSameOf v w b
-TellSameOf v w (Through' _ a q) = TellSameOf v w a
-TellSameOf v w (Take' n _ a) = TellSameOf v w a
+TellSameOf v w n = EachRead (λ p. TellSame (v p) (w p)) n
 
--- two ideal runs of a node, where nothing failed and the contents are the same, are one
+-- at each place that the node writes, the same was written, where both tell it
+abbrev pub WroteSameOf : (ℕ → DeviceTold) → (ℕ → DeviceTold) → Node → Type 0
+WroteSameOf v w n = EachWrite (λ p. IfSome (v p).written (λ bytes. IfSome (w p).written (λ others. bytes ≡ others))) n
+
+-- two ideal runs give the same, end alike and write the same
+pub record IsSameRun (v w : ℕ → DeviceTold) (n : Node) (xs ys : List Element) (e g : End) : Type 0 where
+  pub list : xs ≡ ys
+  pub end : e ≡ g
+  pub wrote : WroteSameOf v w n
+
+-- two ideal runs of a node without a merge, over the same contents, are one
 abbrev pub HasOneIdealRun : Type 0
 HasOneIdealRun =
-    (v w : ℕ → DeviceTold) (n : Node) (xs ys : List Element) (e g : End) → IsClean v → IsClean w → TellSameOf v w n
-    → IsIdealRun v n xs e → IsIdealRun w n ys g → (xs ≡ ys) × (e ≡ g)
+    (t : Values) (v w : ℕ → DeviceTold) (n : Node) (xs ys : List Element) (e g : End) → HasNoMerge n → TellSameOf v w n
+    → IsIdealRun t v n xs e → IsIdealRun t w n ys g → IsSameRun v w n xs ys e g
 
--- the second list is the first one and maybe more
-abbrev pub IsFront : {A : Type 0} → List A → List A → Type 0
-IsFront {A} ys zs = (more : List A) × (zs ≡ ys ++ more)
+-- at each place that the node writes, the same was written, or neither tells it
+abbrev pub TellWrittenSame : (ℕ → DeviceTold) → (ℕ → DeviceTold) → Node → Type 0
+TellWrittenSame v w n = EachWrite (λ p. (v p).written ≡ (w p).written) n
+
+-- an ideal run is told by the contents and by what was written alone: whether a device was opened, and how far it was read, makes no difference,
+-- so that a part that never ran, and whose devices were never opened, has the runs that it would have had
+abbrev pub IsToldByContents : Type 0
+IsToldByContents =
+    (t : Values) (v w : ℕ → DeviceTold) (n : Node) (ys : List Element) (e : End) → TellSameOf v w n → TellWrittenSame v w n
+    → IsIdealRun t v n ys e → IsIdealRun t w n ys e
 
 -- what was given is a front of what is given when the input goes on or ends, and after a fault nothing more is given
 pub record IsSteady (m : Meaning) : Type 0 where
@@ -56,9 +62,9 @@ pub record IsSteady (m : Meaning) : Type 0 where
   pub ends : (xs : List Element) → (m.part xs).fault ≡ None → IsFront (m.part xs).list (m.all xs).list
   pub stops : (xs zs : List Element) (c : Code) → (m.part xs).fault ≡ Some c → (m.part (xs ++ zs) ≡ m.part xs) × (m.all (xs ++ zs) ≡ m.part xs)
 
--- each pipe is so at each kind that it takes
+-- each pipe is so at each kind that it takes, whatever the tables have
 abbrev pub PipesAreSteady : Type 0
-PipesAreSteady = (p : Pipe) (m : Meaning) → IsMeaningOf p m → IsSteady m
+PipesAreSteady = (t : Values) (p : Pipe) (m : Meaning) → IsMeaningOver t p m → IsSteady m
 
 -- no device has such a fault
 pub record IsNoDeviceFault (c : Option Code) : Type 0 where

@@ -1,5 +1,5 @@
 -- Words on elements and lists that several pipes share.
-use Rattle.std.specs.Prelude.{ℕ, zero, suc, ◌-◌, ◌*◌, ◌/◌, ◌^◌, min, List, [], ◌∷◌, length, take, drop}
+use Rattle.std.specs.Prelude.{◌≡◌, ℕ, zero, suc, ◌-◌, ◌*◌, ◌/◌, ◌^◌, min, List, [], ◌∷◌, ◌++◌, length, take, drop}
 use Rattle.chunk_core.specs.Elements.{Element, Byte, Line, Row}
 
 -- the bytes among the elements
@@ -8,6 +8,10 @@ bytes_of [] = []
 bytes_of (Byte b ∷ xs) = b ∷ bytes_of xs
 bytes_of (Line line ∷ xs) = bytes_of xs
 bytes_of (Row fields ∷ xs) = bytes_of xs
+
+-- the second list is the first one and maybe more
+abbrev pub IsFront : {A : Type 0} → List A → List A → Type 0
+IsFront {A} ys zs = (more : List A) × (zs ≡ ys ++ more)
 
 -- the greatest multiple of n up to a number
 abbrev pub multiple : ℕ → ℕ → ℕ

@@ -1,4 +1,4 @@
--- Which rule a pipe has: the one row that a pipe has here.
+-- Which rule a pipe has over the tables: the one row that a pipe has here.
 use Rattle.pull_nodes.specs.Changes.{changes_rule}
 use Rattle.pull_nodes.specs.ChunkN.{chunk_rule}
 use Rattle.pull_nodes.specs.Count.{count_rule}
@@ -9,21 +9,22 @@ use Rattle.pull_nodes.specs.Intersperse.{intersperse_rule}
 use Rattle.pull_nodes.specs.Lines.{lines_rule}
 use Rattle.pull_nodes.specs.Number.{number_rule}
 use Rattle.pull_nodes.specs.PipeRule.{PipeRule}
+use Rattle.chunk_core.specs.Tables.{Values}
 use Rattle.pull_nodes.specs.Upper.{upper_rule}
 use Rattle.pull_nodes.specs.Utf8.{utf8_rule, lossy_rule}
 use Rattle.pull_nodes.specs.declared.pipe.Pipe.{Pipe}
 use Rattle.pull_nodes.specs.declared.pipe.Pipe.TheVariants as pipe
 
-abbrev pub rule_of : Pipe → PipeRule
-rule_of pipe.Utf8 = utf8_rule
-rule_of pipe.Lossy = lossy_rule
-rule_of pipe.Lines = lines_rule
-rule_of pipe.Hex = hex_rule
-rule_of pipe.Upper = upper_rule
-rule_of (pipe.Drop n) = drop_rule n
-rule_of (pipe.Filter text) = filter_rule text
-rule_of pipe.Changes = changes_rule
-rule_of pipe.Number = number_rule
-rule_of pipe.Count = count_rule
-rule_of (pipe.Intersperse line) = intersperse_rule line
-rule_of (pipe.ChunkN n) = chunk_rule n
+abbrev pub rule_of : Values → Pipe → PipeRule
+rule_of v pipe.Utf8 = utf8_rule
+rule_of v pipe.Lossy = lossy_rule
+rule_of v pipe.Lines = lines_rule
+rule_of v pipe.Hex = hex_rule
+rule_of v pipe.Upper = upper_rule
+rule_of v (pipe.Drop n) = drop_rule n
+rule_of v (pipe.Filter text) = filter_rule text
+rule_of v pipe.Changes = changes_rule
+rule_of v pipe.Number = number_rule
+rule_of v pipe.Count = count_rule
+rule_of v (pipe.Intersperse line) = intersperse_rule line
+rule_of v (pipe.ChunkN n) = chunk_rule n

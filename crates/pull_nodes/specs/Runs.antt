@@ -1,18 +1,26 @@
 -- What a node may give and how it may end, over what the device of each place tells at the end.
-use Rattle.std.specs.Prelude.{◌≡◌, ◌⊎◌, ℕ, ◌<◌, ◌≤◌, ◌^◌, true, List, [], ◌++◌, map, take, length, Option, Some, None, IfSome}
+use Rattle.std.specs.Prelude.{◌≡◌, ◌⊎◌, ℕ, ◌<◌, ◌≤◌, ◌^◌, true, List, [], ◌∷◌, ◌++◌, map, take, length, Option, Some, None, IfSome}
 use Rattle.chunk_core.specs.declared.code.Code.{Code}
 use Rattle.chunk_core.specs.declared.code.Code.TheVariants as code
-use Rattle.chunk_core.specs.Elements.{Element, Byte, elements}
+use Rattle.chunk_core.specs.Elements.{Element, Byte, elements, rendering_of}
 use Rattle.chunk_core.specs.Feed.{Given}
 use Rattle.chunk_core.specs.Outcomes.{End, Done, Fault, Cut, Outcomes}
+use Rattle.pull_nodes.specs.Pairs.{pairs_of}
 use Rattle.device_port.specs.Device.{DeviceTold}
 use Rattle.pull_nodes.specs.Pipes.{part_of, all_of}
+use Rattle.pull_nodes.specs.Plain.{IsFront}
+use Rattle.pull_nodes.specs.Shape.{EachWrite}
+use Rattle.chunk_core.specs.Tables.{Values}
 use Rattle.pull_nodes.specs.declared.node.Node.{Node}
-use Rattle.pull_nodes.specs.declared.node.Node.TheVariants.{Nil, Emit, Raise, Read, Weak', Scope', Append', OnFault', Through', Take'}
+use Rattle.pull_nodes.specs.declared.node.Node.TheVariants.{Nil, Emit, Raise, Read, Weak', Scope', Append', OnFault', Through', Take', Zip', Merge', Into'}
 
--- or left by whoever ran it: nothing, or a front of what it may give
-abbrev pub OrLeft : Outcomes → Outcomes
-OrLeft R ys e = R ys e ⊎ ((e ≡ Cut) × ((ys ≡ []) ⊎ ((more : List Element) × (g : End) × R (ys ++ more) g)))
+-- or left by whoever ran it: before it did anything, or with a front of what it may give
+abbrev pub OrLeft : Type 0 → Outcomes → Outcomes
+OrLeft Idle R ys e = R ys e ⊎ ((e ≡ Cut) × (((ys ≡ []) × Idle) ⊎ ((more : List Element) × (g : End) × R (ys ++ more) g)))
+
+-- these elements and this end
+abbrev pub Exactly : List Element → End → Outcomes
+Exactly xs g ys e = (ys ≡ xs) × (e ≡ g)
 
 -- the first n bytes that a device gave: those of its content where that is told
 abbrev pub FirstBytes : Option (List ℕ) → ℕ → List Element → Type 0
@@ -89,36 +97,90 @@ GivesBy None part all xs g ys e = GivesAtEnd part all xs g ys e
 abbrev pub Piped : (List Element → Given) → (List Element → Given) → Outcomes → Outcomes
 Piped part all A ys e = (xs : List Element) × (g : End) × A xs g × GivesBy (part xs).fault part all xs g ys e
 
+-- A and B run side by side, and what they give comes in pairs, as far as both go. It ends as the side that had no more when an element of it
+-- was wanted: A is asked first, and B for the partner of what A gave.
+abbrev pub Zipped : Outcomes → Outcomes → Outcomes
+Zipped A B zs h =
+    (xs ys : List Element) × (e g : End) × A xs e × B ys g × (zs ≡ pairs_of xs ys)
+    × (((length xs ≤ length ys) × (h ≡ e)) ⊎ ((length ys < length xs) × (h ≡ g)))
+
+-- the third list has the elements of both, those of each in their order
+abbrev pub IsInterleaving : List Element → List Element → List Element → Type 0
+IsInterleaving xs ys [] = (xs ≡ []) × (ys ≡ [])
+IsInterleaving xs ys (z ∷ zs) =
+    ((more : List Element) × (xs ≡ z ∷ more) × IsInterleaving more ys zs)
+    ⊎ ((more : List Element) × (ys ≡ z ∷ more) × IsInterleaving xs more zs)
+
+-- how two sides that end so end together: both are done, or one failed, or one was left and none failed
+abbrev pub EndsTogether : End → End → End → Type 0
+EndsTogether e g Done = (e ≡ Done) × (g ≡ Done)
+EndsTogether e g (Fault c) = (e ≡ Fault c) ⊎ (g ≡ Fault c)
+EndsTogether e g Cut = ((e ≡ Cut) ⊎ (g ≡ Cut)) × (IsFault e → ⊥) × (IsFault g → ⊥)
+
+-- A runs beside what ended so: where that is a fault, A may be left
+abbrev pub Beside : End → Outcomes → Type 0 → Outcomes
+Beside g A Idle xs e = A xs e ⊎ (IsFault g × OrLeft Idle A xs e)
+
+-- A and B run side by side, and what they give comes in any order that keeps that of each
+abbrev pub Merged : Outcomes → Type 0 → Outcomes → Type 0 → Outcomes
+Merged A IdleA B IdleB zs h =
+    (xs ys : List Element) × (e g : End) × Beside g A IdleA xs e × Beside e B IdleB ys g × IsInterleaving xs ys zs × EndsTogether e g h
+
+-- the text of what A gives is written to a device, and nothing is given on: no write failed, or one did behind a front of the text, and this is the end
+abbrev pub Written : DeviceTold → Outcomes → Outcomes
+Written d A ys e =
+    (xs : List Element) × (g : End) × A xs g × (ys ≡ [])
+    × (((d.write_faults ≡ 0) × IfSome d.written (λ bytes. bytes ≡ rendering_of xs) × (e ≡ g))
+    ⊎ ((d.write_faults ≡ 1) × IfSome d.written (λ bytes. IsFront bytes (rendering_of xs)) × (e ≡ Fault code.Write)))
+
+-- the whole text is written
+abbrev pub WrittenWhole : DeviceTold → Outcomes → Outcomes
+WrittenWhole d A ys e = (xs : List Element) × A xs e × (ys ≡ []) × IfSome d.written (λ bytes. bytes ≡ rendering_of xs)
+
+-- nothing was written to the device, where it tells what was
+abbrev pub IsUnwritten : DeviceTold → Type 0
+IsUnwritten d = IfSome d.written (λ bytes. bytes ≡ [])
+
 -- the node never ran: nothing was written at its places
 abbrev pub IsIdle : (ℕ → DeviceTold) → Node → Type 0
-IsIdle w Nil = Unit {0}
-IsIdle w (Emit l) = Unit {0}
-IsIdle w (Raise c) = Unit {0}
-IsIdle w (Read p) = Unit {0}
-IsIdle w (Weak' p _ a) = IsIdle w a
-IsIdle w (Scope' _ a) = IsIdle w a
-IsIdle w (Append' _ a _ b) = IsIdle w a × IsIdle w b
-IsIdle w (OnFault' _ a _ b) = IsIdle w a × IsIdle w b
-IsIdle w (Through' _ a q) = IsIdle w a
-IsIdle w (Take' n _ a) = IsIdle w a
+IsIdle w n = EachWrite (λ p. IsUnwritten (w p)) n
 
--- what the node may give, where each of its parts may be left as Left says and each device is read as Reading says
-abbrev pub Gives : (Outcomes → Outcomes) → (DeviceTold → Outcomes) → (ℕ → DeviceTold) → Node → Outcomes
-Gives Left Reading w Nil ys e = (ys ≡ []) × (e ≡ Done)
-Gives Left Reading w (Emit l) ys e = (ys ≡ elements l) × (e ≡ Done)
-Gives Left Reading w (Raise c) ys e = (ys ≡ []) × (e ≡ Fault (code.Raised c))
-Gives Left Reading w (Read p) ys e = Reading (w p) ys e
-Gives Left Reading w (Weak' p _ a) ys e = OpensThen (w p) (Left (Gives Left Reading w a)) (IsIdle w a) ys e
-Gives Left Reading w (Scope' _ a) ys e = Left (Gives Left Reading w a) ys e
-Gives Left Reading w (Append' _ a _ b) ys e = Follows (λ g. g ≡ Done) (Left (Gives Left Reading w a)) (Left (Gives Left Reading w b)) (IsIdle w b) ys e
-Gives Left Reading w (OnFault' _ a _ b) ys e = Follows IsFault (Left (Gives Left Reading w a)) (Left (Gives Left Reading w b)) (IsIdle w b) ys e
-Gives Left Reading w (Through' _ a q) ys e = Piped (part_of q) (all_of q) (Left (Gives Left Reading w a)) ys e
-Gives Left Reading w (Take' n _ a) ys e = Taken n (Left (Gives Left Reading w a)) ys e
+-- what may come between in a run: how a part may be left, and how a device may be opened, read and written
+pub record Leeway : Type 1 where
+  pub left : Type 0 → Outcomes → Outcomes
+  pub opens : DeviceTold → Outcomes → Type 0 → Outcomes
+  pub reads : DeviceTold → Outcomes
+  pub writes : DeviceTold → Outcomes → Outcomes
+
+-- each part may be left at any time, and each device may fail
+abbrev pub any_leeway : Leeway
+any_leeway = record { left = OrLeft; opens = OpensThen; reads = Reads; writes = Written }
+
+-- nothing is left, and no device fails
+abbrev pub no_leeway : Leeway
+no_leeway = record { left = λ Idle R. R; opens = λ d A Idle. A; reads = ReadsWhole; writes = WrittenWhole }
+
+-- what the node may give, with this leeway, where the tables have these values and the devices tell this at the end
+abbrev pub Gives : Leeway → Values → (ℕ → DeviceTold) → Node → Outcomes
+Gives l t w Nil = Exactly [] Done
+Gives l t w (Emit load) = Exactly (elements load) Done
+Gives l t w (Raise c) = Exactly [] (Fault (code.Raised c))
+Gives l t w (Read p) = l.reads (w p)
+Gives l t w (Weak' p _ a) = l.opens (w p) (l.left (IsIdle w a) (Gives l t w a)) (IsIdle w a)
+Gives l t w (Scope' _ a) = l.left (IsIdle w a) (Gives l t w a)
+Gives l t w (Append' _ a _ b) = Follows (λ g. g ≡ Done) (l.left (IsIdle w a) (Gives l t w a)) (l.left (IsIdle w b) (Gives l t w b)) (IsIdle w b)
+Gives l t w (OnFault' _ a _ b) = Follows IsFault (l.left (IsIdle w a) (Gives l t w a)) (l.left (IsIdle w b) (Gives l t w b)) (IsIdle w b)
+Gives l t w (Through' _ a q) = Piped (part_of t q) (all_of t q) (l.left (IsIdle w a) (Gives l t w a))
+Gives l t w (Take' n _ a) = Taken n (l.left (IsIdle w a) (Gives l t w a))
+Gives l t w (Zip' _ a _ b) = Zipped (l.left (IsIdle w a) (Gives l t w a)) (l.left (IsIdle w b) (Gives l t w b))
+Gives l t w (Merge' _ a _ b) = Merged (l.left (IsIdle w a) (Gives l t w a)) (IsIdle w a) (l.left (IsIdle w b) (Gives l t w b)) (IsIdle w b)
+Gives l t w (Into' p _ a) = l.writes (w p) (l.left (IsIdle w a) (Gives l t w a))
 
 -- a run of the node; it and each of its parts may be left at any time
-abbrev pub IsRun : (ℕ → DeviceTold) → Node → Outcomes
-IsRun w n = OrLeft (Gives OrLeft Reads w n)
+abbrev pub IsRun : Values → (ℕ → DeviceTold) → Node → Outcomes
+IsRun t w n = OrLeft (IsIdle w n) (Gives any_leeway t w n)
 
--- a run in which nothing is left, and no read fails
-abbrev pub IsIdealRun : (ℕ → DeviceTold) → Node → Outcomes
-IsIdealRun w n = Gives (λ R. R) ReadsWhole w n
+-- a run in which nothing is left and no device fails. It takes from a device only what it holds and what was written to it, so that a part that
+-- never ran, as behind a taker that had enough, gives what it would have given.
+abbrev pub IsIdealRun : Values → (ℕ → DeviceTold) → Node → Outcomes
+IsIdealRun t w n = Gives no_leeway t w n

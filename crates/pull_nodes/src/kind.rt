@@ -1,7 +1,7 @@
 //! What a stream's elements are.
 ghost use Rattle.std.specs.Prelude.{◌≡◌};
 ghost use Rattle.std.specs.Result.{result_ok};
-ghost use Rattle.pull_nodes.specs.Kinds.{joined_kind, load_kind};
+ghost use Rattle.pull_nodes.specs.Kinds.{joined_kind, load_kind, merged_kind, paired_kind};
 
 use chunk_core::Load;
 
@@ -41,6 +41,26 @@ impl Kind {
             (Kind::Lines, Kind::Lines) => Ok(Kind::Lines),
             (Kind::Rows, Kind::Rows) => Ok(Kind::Rows),
             _ => Err(KindFault),
+        }
+    }
+
+    /// The kind of pairs of such elements: lines become rows.
+    pub(crate) fn paired(self) -> Result<Kind, KindFault>
+        ensures { result_ok result ≡ paired_kind self }
+    {
+        match self {
+            Kind::Lines | Kind::Any => Ok(Kind::Rows),
+            Kind::Bytes | Kind::Rows => Err(KindFault),
+        }
+    }
+
+    /// The kind of a merge of such elements: bytes aren't merged.
+    pub(crate) fn merged(self) -> Result<Kind, KindFault>
+        ensures { result_ok result ≡ merged_kind self }
+    {
+        match self {
+            Kind::Lines | Kind::Rows | Kind::Any => Ok(self),
+            Kind::Bytes => Err(KindFault),
         }
     }
 }

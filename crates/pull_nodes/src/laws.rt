@@ -1,14 +1,19 @@
 //! What holds of the runs of every node, and of every pipe.
-ghost use Rattle.pull_nodes.specs.Laws.{CanBeLeft, HasOneIdealRun, ComparesElements, PipesAreSteady, TellsLongLines, TellsMalformed};
+ghost use Rattle.pull_nodes.specs.Laws.{CanBeLeft, HasOneIdealRun, IsToldByContents, ComparesElements, PipesAreSteady, TellsLongLines, TellsMalformed};
 
 /// A run may be left early: then a front of it was given.
 pub fn can_be_left()
     ensures { CanBeLeft }
 {}
 
-/// Over the same contents a node has one ideal run.
+/// Over the same contents a node without a merge has one ideal run.
 pub fn has_one_ideal_run()
     ensures { HasOneIdealRun }
+{}
+
+/// An ideal run takes from a device only its content and what was written to it.
+pub fn is_told_by_contents()
+    ensures { IsToldByContents }
 {}
 
 /// What a pipe gave is a front of what it gives of more input, and a fault is final.

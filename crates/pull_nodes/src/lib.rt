@@ -2,9 +2,9 @@
 //! give and how it may end, and what each pipe gives.
 //!
 //! - `Node` is a stream as plain data. A device is named by its place, which is the row that it will
-//!   have: `Weak` acquires it and `Read` reads it.
+//!   have: `Weak` acquires it, `Read` reads it and `Into` writes it.
 //! - `kind` tells what its elements are, or `KindFault` where a pipe gets a kind that it doesn't
-//!   take, or a join two kinds. `placed` tells whether each device is acquired in one place and read
+//!   take, or a join two kinds. `placed` tells whether each device is acquired in one place and used
 //!   in one, and `places`, `scopes` and `events` how many rows, scopes and events a run needs.
 //! - `Pipe` is a step as plain data. `PipeState::of` makes the state that runs it, which needs
 //!   memory; no other call does.

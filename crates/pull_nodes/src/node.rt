@@ -8,7 +8,7 @@ use crate::kind::{Kind, KindFault};
 use crate::pipe::Pipe;
 use chunk_core::Load;
 
-/// A stream as plain data. The number in `Read` and `Weak` is a place: the row of a device.
+/// A stream as plain data. The number in `Read`, `Weak` and `Into` is a place: the row of a device.
 #[derive(Drop)]
 pub enum Node {
     /// The end at once.
@@ -33,21 +33,58 @@ pub enum Node {
     Through(Box<Node>, Pipe),
     /// The first so many elements, and then the end: the node is asked no more.
     Take(u64, Box<Node>),
+    /// Lines of the first node and of the second in pairs, as rows of two fields, until one side
+    /// ends.
+    Zip(Box<Node>, Box<Node>),
+    /// The elements of both nodes, in any order between the two, until both have ended or one ends
+    /// in a fault.
+    Merge(Box<Node>, Box<Node>),
+    /// Writes the node's elements as text to a device that is open, and gives nothing.
+    Into(u32, Box<Node>),
 }
+
+/// Whatever the node is: what is said of a node with no part, with one, or with two.
+macro_rules! by_parts {
+    ($node:expr, $none:expr, |$part:ident| $one:expr, |$first:ident, $second:ident| $two:expr) => {
+        match $node {
+            Node::Nil | Node::Emit(_) | Node::Raise(_) | Node::Read(_) => $none,
+            Node::Weak(_, $part)
+            | Node::Scope($part)
+            | Node::Through($part, _)
+            | Node::Take(_, $part)
+            | Node::Into(_, $part) => $one,
+            Node::Append($first, $second)
+            | Node::OnFault($first, $second)
+            | Node::Zip($first, $second)
+            | Node::Merge($first, $second) => $two,
+        }
+    };
+}
+
+pub(crate) use by_parts;
 
 impl Node {
     /// The kind of its elements, or the fault where the two sides of a join have different
-    /// kinds, or a pipe doesn't take the kind that it gets.
+    /// kinds, or a join or a pipe doesn't take the kind that it gets.
     pub fn kind(&self) -> Result<Kind, KindFault>
         ensures { result_ok result ≡ node_kind self.now }
     {
         match self {
-            Node::Nil | Node::Raise(_) => Ok(Kind::Any),
             Node::Emit(load) => Ok(Kind::of_load(load)),
             Node::Read(_) => Ok(Kind::Bytes),
-            Node::Weak(_, a) | Node::Scope(a) | Node::Take(_, a) => a.kind(),
-            Node::Append(a, b) | Node::OnFault(a, b) => a.kind()?.join(b.kind()?),
             Node::Through(a, pipe) => pipe.kind(a.kind()?),
+            Node::Zip(a, b) => a.kind()?.join(b.kind()?)?.paired(),
+            Node::Merge(a, b) => a.kind()?.join(b.kind()?)?.merged(),
+            Node::Into(_, a) => {
+                a.kind()?;
+                Ok(Kind::Any)
+            }
+            node => by_parts!(
+                node,
+                Ok(Kind::Any),
+                |a| a.kind(),
+                |a, b| a.kind()?.join(b.kind()?)
+            ),
         }
     }
 
@@ -58,10 +95,8 @@ impl Node {
         ensures { result ≡ length (places_of self.now) }
     {
         match self {
-            Node::Nil | Node::Emit(_) | Node::Raise(_) | Node::Read(_) => 0,
             Node::Weak(_, a) => a.places() + 1,
-            Node::Scope(a) | Node::Through(a, _) | Node::Take(_, a) => a.places(),
-            Node::Append(a, b) | Node::OnFault(a, b) => a.places() + b.places(),
+            node => by_parts!(node, 0, |a| a.places(), |a, b| a.places() + b.places()),
         }
     }
 
@@ -72,10 +107,8 @@ impl Node {
         ensures { result ≡ scope_count self.now }
     {
         match self {
-            Node::Nil | Node::Emit(_) | Node::Raise(_) | Node::Read(_) => 0,
             Node::Scope(a) => a.scopes() + 1,
-            Node::Weak(_, a) | Node::Through(a, _) | Node::Take(_, a) => a.scopes(),
-            Node::Append(a, b) | Node::OnFault(a, b) => a.scopes() + b.scopes(),
+            node => by_parts!(node, 0, |a| a.scopes(), |a, b| a.scopes() + b.scopes()),
         }
     }
 

@@ -5,12 +5,12 @@ ghost use Rattle.pull_nodes.specs.Shape.{places_of, uses_of};
 ghost use Rattle.pull_nodes.specs.Placed.{is_placed, is_within, are_apart, is_once, is_loose};
 ghost use Rattle.chunk_core.specs.Lists.{are_distinct};
 
-use crate::node::Node;
+use crate::node::{Node, by_parts};
 use chunk_core::Span;
 
 impl Node {
-    /// Each place is within the span, acquired by one `Weak` alone and used by one `Read` alone,
-    /// which stands in the part of that `Weak`.
+    /// Each place is within the span, acquired by one `Weak` alone and used by one `Read` or
+    /// `Into` alone, which stands in the part of that `Weak`.
     pub fn placed(&self, span: Span) -> bool
         ensures { result ≡ is_placed span self.now }
     {
@@ -26,10 +26,13 @@ impl Node {
         ensures { result ≡ all (is_within span) (places_of self.now) }
     {
         match self {
-            Node::Nil | Node::Emit(_) | Node::Raise(_) | Node::Read(_) => true,
             Node::Weak(place, a) => span.from <= *place && *place < span.to && a.is_within(span),
-            Node::Scope(a) | Node::Through(a, _) | Node::Take(_, a) => a.is_within(span),
-            Node::Append(a, b) | Node::OnFault(a, b) => a.is_within(span) && b.is_within(span),
+            node => by_parts!(
+                node,
+                true,
+                |a| a.is_within(span),
+                |a, b| a.is_within(span) && b.is_within(span)
+            ),
         }
     }
 
@@ -39,12 +42,13 @@ impl Node {
         ensures { result ≡ are_distinct (places_of self.now) }
     {
         match self {
-            Node::Nil | Node::Emit(_) | Node::Raise(_) | Node::Read(_) => true,
             Node::Weak(place, a) => !a.acquires(*place) && a.is_distinct(),
-            Node::Scope(a) | Node::Through(a, _) | Node::Take(_, a) => a.is_distinct(),
-            Node::Append(a, b) | Node::OnFault(a, b) => {
-                a.is_distinct() && b.is_distinct() && a.is_apart_from(b)
-            }
+            node => by_parts!(
+                node,
+                true,
+                |a| a.is_distinct(),
+                |a, b| { a.is_distinct() && b.is_distinct() && a.is_apart_from(b) }
+            ),
         }
     }
 
@@ -54,12 +58,13 @@ impl Node {
         ensures { result ≡ are_apart (places_of self.now) (places_of other.now) }
     {
         match self {
-            Node::Nil | Node::Emit(_) | Node::Raise(_) | Node::Read(_) => true,
             Node::Weak(place, a) => !other.acquires(*place) && a.is_apart_from(other),
-            Node::Scope(a) | Node::Through(a, _) | Node::Take(_, a) => a.is_apart_from(other),
-            Node::Append(a, b) | Node::OnFault(a, b) => {
-                a.is_apart_from(other) && b.is_apart_from(other)
-            }
+            node => by_parts!(
+                node,
+                true,
+                |a| a.is_apart_from(other),
+                |a, b| { a.is_apart_from(other) && b.is_apart_from(other) }
+            ),
         }
     }
 
@@ -69,10 +74,13 @@ impl Node {
         ensures { result ≡ any (nat_eq place) (places_of self.now) }
     {
         match self {
-            Node::Nil | Node::Emit(_) | Node::Raise(_) | Node::Read(_) => false,
             Node::Weak(at, a) => place == *at || a.acquires(place),
-            Node::Scope(a) | Node::Through(a, _) | Node::Take(_, a) => a.acquires(place),
-            Node::Append(a, b) | Node::OnFault(a, b) => a.acquires(place) || b.acquires(place),
+            node => by_parts!(
+                node,
+                false,
+                |a| a.acquires(place),
+                |a, b| a.acquires(place) || b.acquires(place)
+            ),
         }
     }
 
@@ -82,12 +90,13 @@ impl Node {
         ensures { result ≡ all (is_once (uses_of whole.now)) (places_of self.now) }
     {
         match self {
-            Node::Nil | Node::Emit(_) | Node::Raise(_) | Node::Read(_) => true,
             Node::Weak(place, a) => whole.uses_once(*place) && a.each_is_used_once(whole),
-            Node::Scope(a) | Node::Through(a, _) | Node::Take(_, a) => a.each_is_used_once(whole),
-            Node::Append(a, b) | Node::OnFault(a, b) => {
-                a.each_is_used_once(whole) && b.each_is_used_once(whole)
-            }
+            node => by_parts!(
+                node,
+                true,
+                |a| a.each_is_used_once(whole),
+                |a, b| { a.each_is_used_once(whole) && b.each_is_used_once(whole) }
+            ),
         }
     }
 
@@ -97,13 +106,16 @@ impl Node {
         ensures { result ≡ is_once (uses_of self.now) place }
     {
         match self {
-            Node::Nil | Node::Emit(_) | Node::Raise(_) => false,
             Node::Read(at) => place == *at,
-            Node::Weak(_, a) | Node::Scope(a) | Node::Through(a, _) | Node::Take(_, a) =>
-                a.uses_once(place),
-            Node::Append(a, b) | Node::OnFault(a, b) => {
-                (a.uses_once(place) && !b.uses(place)) || (!a.uses(place) && b.uses_once(place))
-            }
+            Node::Into(at, a) if place == *at => !a.uses(place),
+            node => by_parts!(
+                node,
+                false,
+                |a| a.uses_once(place),
+                |a, b| {
+                    (a.uses_once(place) && !b.uses(place)) || (!a.uses(place) && b.uses_once(place))
+                }
+            ),
         }
     }
 
@@ -113,12 +125,14 @@ impl Node {
         ensures { result ≡ any (nat_eq place) (uses_of self.now) }
     {
         match self {
-            Node::Nil | Node::Emit(_) | Node::Raise(_) => false,
             Node::Read(at) => place == *at,
-            Node::Weak(_, a) | Node::Scope(a) | Node::Through(a, _) | Node::Take(_, a) => a.uses(
-                place,
+            Node::Into(at, a) => place == *at || a.uses(place),
+            node => by_parts!(
+                node,
+                false,
+                |a| a.uses(place),
+                |a, b| a.uses(place) || b.uses(place)
             ),
-            Node::Append(a, b) | Node::OnFault(a, b) => a.uses(place) || b.uses(place),
         }
     }
 
@@ -128,13 +142,14 @@ impl Node {
         ensures { result ≡ all (λ p. not (is_loose p whole.now)) (uses_of self.now) }
     {
         match self {
-            Node::Nil | Node::Emit(_) | Node::Raise(_) => true,
             Node::Read(place) => !whole.is_loose(*place),
-            Node::Weak(_, a) | Node::Scope(a) | Node::Through(a, _) | Node::Take(_, a) =>
-                a.each_use_is_tied(whole),
-            Node::Append(a, b) | Node::OnFault(a, b) => {
-                a.each_use_is_tied(whole) && b.each_use_is_tied(whole)
-            }
+            Node::Into(place, a) => !whole.is_loose(*place) && a.each_use_is_tied(whole),
+            node => by_parts!(
+                node,
+                true,
+                |a| a.each_use_is_tied(whole),
+                |a, b| { a.each_use_is_tied(whole) && b.each_use_is_tied(whole) }
+            ),
         }
     }
 
@@ -143,11 +158,15 @@ impl Node {
         ensures { result ≡ is_loose place self.now }
     {
         match self {
-            Node::Nil | Node::Emit(_) | Node::Raise(_) => false,
             Node::Read(at) => place == *at,
             Node::Weak(at, a) => place != *at && a.is_loose(place),
-            Node::Scope(a) | Node::Through(a, _) | Node::Take(_, a) => a.is_loose(place),
-            Node::Append(a, b) | Node::OnFault(a, b) => a.is_loose(place) || b.is_loose(place),
+            Node::Into(at, a) => place == *at || a.is_loose(place),
+            node => by_parts!(
+                node,
+                false,
+                |a| a.is_loose(place),
+                |a, b| a.is_loose(place) || b.is_loose(place)
+            ),
         }
     }
 }

@@ -94,6 +94,95 @@ fn misplaced_nodes_are_told(rt: HostRuntime) -> Result<(), Fail> {
 }
 
 #[test]
+fn pairs_and_merges_have_the_kind_of_their_sides(rt: HostRuntime) -> Result<(), Fail> {
+    let alloc = rt.alloc();
+    let pairs = Node::Zip(no_lines(alloc)?, no_lines(alloc)?);
+    assert_eq!(rt; pairs.kind(), Ok(Kind::Rows));
+    let one_side = Node::Zip(Box::new(alloc, Node::Raise(2))?, no_lines(alloc)?);
+    assert_eq!(rt; one_side.kind(), Ok(Kind::Rows));
+    let bytes = Node::Zip(source(alloc, 0)?, source(alloc, 1)?);
+    assert_eq!(rt; bytes.kind(), Err(KindFault));
+    let rows = Node::Zip(Box::new(alloc, pairs)?, Box::new(alloc, Node::Nil)?);
+    assert_eq!(rt; rows.kind(), Err(KindFault));
+    let lines = Node::Merge(no_lines(alloc)?, Box::new(alloc, Node::Nil)?);
+    assert_eq!(rt; lines.kind(), Ok(Kind::Lines));
+    let merged_pairs = Node::Merge(Box::new(alloc, one_side)?, Box::new(alloc, Node::Nil)?);
+    assert_eq!(rt; merged_pairs.kind(), Ok(Kind::Rows));
+    let merged_bytes = Node::Merge(source(alloc, 0)?, Box::new(alloc, Node::Nil)?);
+    assert_eq!(rt; merged_bytes.kind(), Err(KindFault));
+    let of_two_kinds = Node::Merge(source(alloc, 0)?, no_lines(alloc)?);
+    assert_eq!(rt; of_two_kinds.kind(), Err(KindFault));
+    Ok(())
+}
+
+/// Reads place 0 and writes it to place 1, which is acquired around.
+fn written(alloc: Global) -> Result<Box<Node>, AllocError>
+    ensures { IfOk result (λ node. node_count node.value ≡ 4) }
+{
+    let part = Box::new(alloc, Node::Into(1, source(alloc, 0)?))?;
+    Ok(Box::new(alloc, Node::Weak(1, part))?)
+}
+
+#[test]
+fn a_written_stream_gives_nothing(rt: HostRuntime) -> Result<(), Fail> {
+    let alloc = rt.alloc();
+    assert_eq!(rt; written(alloc)?.kind(), Ok(Kind::Any));
+    let misfit = Node::Zip(source(alloc, 0)?, no_lines(alloc)?);
+    assert_eq!(rt;
+        Node::Into(1, Box::new(alloc, misfit)?).kind(),
+        Err(KindFault)
+    );
+    Ok(())
+}
+
+#[test]
+fn both_devices_of_a_written_stream_are_counted(rt: HostRuntime) -> Result<(), Fail> {
+    let alloc = rt.alloc();
+    let node = written(alloc)?;
+    assert_eq!(rt; node.places(), 2);
+    assert_eq!(rt; node.scopes(), 0);
+    assert_eq!(rt; node.events(), 5);
+    Ok(())
+}
+
+#[test]
+fn a_written_stream_has_a_device_of_its_own(rt: HostRuntime) -> Result<(), Fail> {
+    let alloc = rt.alloc();
+    let span = Span { from: 0, to: 2 };
+    assert!(rt; written(alloc)?.placed(span));
+    assert!(rt; !Node::Into(1, source(alloc, 0)?).placed(span));
+    let back = Node::Weak(0, Box::new(alloc, Node::Into(0, read(alloc, 0)?))?);
+    assert!(rt; !back.placed(span));
+    let twice = Node::Into(
+        1,
+        Box::new(alloc, Node::Into(1, Box::new(alloc, Node::Nil)?))?,
+    );
+    assert!(rt; !Node::Weak(1, Box::new(alloc, twice)?).placed(span));
+    Ok(())
+}
+
+#[test]
+fn both_sides_of_a_zip_and_a_merge_are_counted(rt: HostRuntime) -> Result<(), Fail> {
+    let alloc = rt.alloc();
+    let sides = Node::Merge(source(alloc, 0)?, source(alloc, 1)?);
+    let scope = Node::Scope(Box::new(alloc, sides)?);
+    let node = Node::Zip(Box::new(alloc, scope)?, source(alloc, 2)?);
+    assert_eq!(rt; node.places(), 3);
+    assert_eq!(rt; node.scopes(), 1);
+    Ok(())
+}
+
+#[test]
+fn no_place_stands_on_both_sides_of_a_zip_or_a_merge(rt: HostRuntime) -> Result<(), Fail> {
+    let alloc = rt.alloc();
+    let span = Span { from: 0, to: 2 };
+    assert!(rt; Node::Zip(source(alloc, 0)?, source(alloc, 1)?).placed(span));
+    assert!(rt; !Node::Zip(source(alloc, 1)?, source(alloc, 1)?).placed(span));
+    assert!(rt; !Node::Merge(source(alloc, 1)?, source(alloc, 1)?).placed(span));
+    Ok(())
+}
+
+#[test]
 fn a_pipe_gives_a_kind_of_what_it_takes(rt: HostRuntime) -> Result<(), Fail> {
     let alloc = rt.alloc();
     assert_eq!(rt; Pipe::Lines.kind(Kind::Bytes), Ok(Kind::Lines));

@@ -4,7 +4,8 @@
 //! elements that are equal to the one before them; `NumberPipe` puts its number before each line,
 //! `CountPipe` gives the number of elements at the end, `InterspersePipe` a line between each two,
 //! and `ChunkNPipe` groups of a size. Each is made by `new`, is fed load by load (`feed`), and told
-//! the end again and again (`finish`) until it answers `Fed::End`.
+//! the end again and again (`finish`) until it answers `Fed::End`. `ZipState` and `MergeState`, with
+//! `Side`, are those of `stream_sides`.
 //!
 //! None of them knows a fault. After the end or `AllocError` a pipe may only be dropped.
 //!
@@ -40,6 +41,4 @@ pub use count::CountPipe;
 pub use filter::FilterPipe;
 pub use intersperse::InterspersePipe;
 pub use number::NumberPipe;
-
-#[cfg(test)]
-mod tests;
+pub use stream_sides::{MergeState, Side, ZipState};

@@ -37,8 +37,3 @@ pub use lines::LinesPipe;
 pub use lossy::LossyPipe;
 pub use upper::UpperPipe;
 pub use utf8::Utf8Pipe;
-
-#[cfg(test)]
-mod tests;
-#[cfg(test)]
-mod utf8_tests;

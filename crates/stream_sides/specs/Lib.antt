@@ -1,0 +1,3 @@
+pub mod Sides
+pub mod MergeTurns
+pub mod Waiting
