@@ -7,10 +7,10 @@ use Rattle.chunk_core.specs.Lists.IsAmong.{here, there}
 use Rattle.chunk_core.proofs.Members.{among_cons, among_nil, among_last, among_left, among_snoc}
 use Rattle.device_port.specs.Device.{DeviceTold}
 use Rattle.device_port.specs.declared.device.Mode.TheVariants as mode
-use Rattle.pull_turns.specs.Around.{AcquiresDevice, Keeps, gist}
+use Rattle.pull_turns.specs.Around.{AcquiresDevice, KeepsBut, gist}
 use Rattle.res_ledger.specs.declared.event.Event.{Event}
 use Rattle.res_ledger.specs.declared.event.What.TheVariants.{Close, Open}
-use Rattle.res_ledger.specs.Ledger.{Covers}
+use Rattle.res_ledger.specs.Ledger.{Covers, LiesWithin}
 use Rattle.res_ledger.specs.Order.{firsts}
 use Rattle.res_ledger.specs.Own.{opens, rows}
 use Rattle.res_ledger.proofs.Apart.{apart}
@@ -41,7 +41,7 @@ numbers_more : (xs : List (ℕ × ℕ)) (y : ℕ × ℕ) (r : ℕ) → IsAmong r
 numbers_more [] y r i = absurd (among_nil i)
 numbers_more (x ∷ xs) y r i = ⊎_elim (λ e. subst (λ z. IsAmong z (numbers (x ∷ (xs ++ y ∷ [])))) (sym e) (here (numbers (xs ++ y ∷ [])))) (λ m. there x.0 (numbers_more xs y r m)) (among_cons i)
 
-module _ {V : Type 0} (told : V → DeviceTold) (x : Site V) (s p n : ℕ) (d e : V) (bs : List Branch) (hs : List AcquiredRow) (k : Kept x.tree.seat bs hs) (is : slot x p ≡ Some (Some d)) (order : InOrder told x) (u : IsOpenScope x.tree s) (read : (told d).place.mode ≡ mode.Read) (open' : told e ≡ record (told d) { is_open = true; opens = 1 }) (free : owed x.tree.seat + 2 ≤ x.tree.seat.spare) where
+module _ {V : Type 0} (told : V → DeviceTold) (x : Site V) (s p n : ℕ) (d e : V) (bs : List Branch) (hs : List AcquiredRow) (k : Kept x.tree.seat bs hs) (is : slot x p ≡ Some (Some d)) (order : InOrder told x) (u : IsOpenScope x.tree s) (open' : told e ≡ record (told d) { is_open = true; opens = 1 }) (free : owed x.tree.seat + 2 ≤ x.tree.seat.spare) where
   -- the tree with the row
   abbrev after : Seen V
   after = record x.tree { seat = placed (noted x.tree.seat (acquiring x.tree.seat p s n)) p e }
@@ -80,23 +80,29 @@ module _ {V : Type 0} (told : V → DeviceTold) (x : Site V) (s p n : ℕ) (d e 
   holds_still : (q i : ℕ) → (around told x).holds q i → (around told site').holds q i
   holds_still q i h = (subst (λ l. IsAmong (q, i) l) (sym rows_now) (among_left ((p, s) ∷ []) h.0), (h.1.0, among_left ((p, e) ∷ []) h.1.1))
 
+  -- no scope was opened
+  was_within : {i j : ℕ} → LiesWithin after.seat.events x.tree.seat.by i j → LiesWithin x.tree.seat.events x.tree.seat.by i j
+  was_within w =
+      let v = x.tree.seat in let a : Event = acquiring v p s n in
+      within_opens (λ f g m. ⊎_elim (λ z. z) (λ z. absurd (apart z.1 refl)) (noted_snoc v.events a v.by (Open f g) m)) w
+
   opened_still : (i : ℕ) → IsOpenScope x.tree i → IsOpenScope after i
   opened_still i o =
       let v = x.tree.seat in let a : Event = acquiring v p s n in (
         ⊎_elim (λ z. inl z) (λ z. inr (z.0, noted_more v.events a z.1)) o.0,
         λ c. o.1 (
           c.0,
-          within_opens (λ f g m. ⊎_elim (λ z. z) (λ z. absurd (apart z.1 refl)) (noted_snoc v.events a v.by (Open f g) m)) c.1,
+          was_within c.1,
           (c.2.0, ⊎_elim (λ z. z) (λ z. absurd (apart z.1 refl)) (noted_snoc v.events a v.by (Close c.0 c.2.0) c.2.1)),
         ),
       )
 
-  keeps : (i : ℕ) → Keeps (around told x) (λ q. q ≡ p) i (around told site')
-  keeps i = record {
+  keeps : KeepsBut (around told x) p (around told site')
+  keeps = record {
     told = λ q ne. ap gist (told_other q ne);
     waits = λ q ne w. (w.0, slot_still x p d is None q ne ∙ w.1, w.2);
-    holds = λ q j ne l h. holds_still q j h;
-    opened = λ j l o. opened_still j o;
+    holds = λ q j ne i h. holds_still q j h;
+    stays = λ j i. record { opened = opened_still j i.0; within = λ c. (was_within, within_opens (λ f g m. noted_more x.tree.seat.events (acquiring x.tree.seat p s n) m)) };
   }
 
   used_now : used after ≤ used x.tree + 1
@@ -136,7 +142,7 @@ module _ {V : Type 0} (told : V → DeviceTold) (x : Site V) (s p n : ℕ) (d e 
         (among_snoc x.tree.seat.opened (r, h.0) (p, e) h.1);
     opened = λ r f m. ⊎_elim
         (λ o. order.opened r f o)
-        (λ o. let i : f ≡ e = ap (λ y. y.1) o in (ap (λ z. (told z).is_open) i ∙ ap (λ t. t.is_open) open', ap (λ z. (told z).place.mode) i ∙ ap (λ t. t.place.mode) open' ∙ read))
+        (λ o. let i : f ≡ e = ap (λ y. y.1) o in ap (λ z. (told z).is_open) i ∙ ap (λ t. t.is_open) open')
         (among_snoc x.tree.seat.opened (r, f) (p, e) m);
     bare = bare_now;
     waits = λ q f h. ⊎_elim
@@ -150,23 +156,23 @@ module _ {V : Type 0} (told : V → DeviceTold) (x : Site V) (s p n : ℕ) (d e 
   }
 
 -- the device was opened, and its row acquired in an open scope
-module _ {V : Type 0} (told : V → DeviceTold) (ends : V → Exit → Bool → V → Type 0) (x : Site V) (b : Seen V) (s p : ℕ) (d e : V) (bs : List Branch) (hs : List AcquiredRow) (k : Kept x.tree.seat bs hs) (is : slot x p ≡ Some (Some d)) (order : InOrder told x) (u : IsOpenScope x.tree s) (read : (told d).place.mode ≡ mode.Read) (open' : told e ≡ record (told d) { is_open = true; opens = 1 }) (free : owed x.tree.seat + 2 ≤ x.tree.seat.spare) (o : Acquired x.tree s p e b) where
-  is_after : b ≡ after told x s p o.stamp d e bs hs k is order u read open' free
+module _ {V : Type 0} (told : V → DeviceTold) (ends : V → Exit → Bool → V → Type 0) (x : Site V) (b : Seen V) (s p : ℕ) (d e : V) (bs : List Branch) (hs : List AcquiredRow) (k : Kept x.tree.seat bs hs) (is : slot x p ≡ Some (Some d)) (order : InOrder told x) (u : IsOpenScope x.tree s) (open' : told e ≡ record (told d) { is_open = true; opens = 1 }) (free : owed x.tree.seat + 2 ≤ x.tree.seat.spare) (o : Acquired x.tree s p e b) where
+  is_after : b ≡ after told x s p o.stamp d e bs hs k is order u open' free
   is_after = seen_is x.tree b _ o.seat o.shelf o.scopes o.rows
 
   abbrev pub acquired_site : Site V
   acquired_site = record x { tree = b; slots = refilled x p d is None }
 
   pub acquire_order : InOrder told acquired_site
-  acquire_order = subst (λ t. InOrder told (record x { tree = t; slots = refilled x p d is None })) (sym is_after) (acquired_order told x s p o.stamp d e bs hs k is order u read open' free)
+  acquire_order = subst (λ t. InOrder told (record x { tree = t; slots = refilled x p d is None })) (sym is_after) (acquired_order told x s p o.stamp d e bs hs k is order u open' free)
 
   pub acquire_acquires : AcquiresDevice (around told x) s p (around told acquired_site)
-  acquire_acquires = subst (λ t. AcquiresDevice (around told x) s p (around told (record x { tree = t; slots = refilled x p d is None }))) (sym is_after) (acquires told x s p o.stamp d e bs hs k is order u read open' free)
+  acquire_acquires = subst (λ t. AcquiresDevice (around told x) s p (around told (record x { tree = t; slots = refilled x p d is None }))) (sym is_after) (acquires told x s p o.stamp d e bs hs k is order u open' free)
 
-  same : (q : ℕ) → SameDevice (told_at told x q) (told_at told (site' told x s p o.stamp d e bs hs k is order u read open' free) q)
+  same : (q : ℕ) → SameDevice (told_at told x q) (told_at told (site' told x s p o.stamp d e bs hs k is order u open' free) q)
   same q = ⊎_elim
-      (λ i. subst (λ z. SameDevice (told_at told x z) (told_at told (site' told x s p o.stamp d e bs hs k is order u read open' free) z)) (sym i) (subst (λ t. SameDevice (told_at told x p) t) (sym (told_now told x s p o.stamp d e bs hs k is order u read open' free)) (record { number = refl; place = refl; present = refl; content = refl })))
-      (λ n. subst (λ t. SameDevice (told_at told x q) t) (sym (told_other told x s p o.stamp d e bs hs k is order u read open' free q n)) (same_device (told_at told x q)))
+      (λ i. subst (λ z. SameDevice (told_at told x z) (told_at told (site' told x s p o.stamp d e bs hs k is order u open' free) z)) (sym i) (subst (λ t. SameDevice (told_at told x p) t) (sym (told_now told x s p o.stamp d e bs hs k is order u open' free)) (record { number = refl; place = refl; present = refl; content = refl })))
+      (λ n. subst (λ t. SameDevice (told_at told x q) t) (sym (told_other told x s p o.stamp d e bs hs k is order u open' free q n)) (same_device (told_at told x q)))
       (cases_eq q p)
 
   pub acquire_since : Since told ends x acquired_site

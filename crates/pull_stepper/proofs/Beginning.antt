@@ -5,32 +5,37 @@ use Rattle.std.proofs.lemmas.List.{length-map}
 use Rattle.chunk_core.specs.Lists.{IsAmong}
 use Rattle.chunk_core.specs.Lists.IsAmong.{here, there}
 use Rattle.chunk_core.proofs.Members.{among_nil}
-use Rattle.device_port.specs.Depot.{DepotTold, fresh}
-use Rattle.device_port.specs.Device.{DeviceTold}
+use Rattle.device_port.specs.Depot.{DepotTold, Files, fresh}
+use Rattle.std.specs.Prelude.{IfSome, option_map}
+use Rattle.device_port.specs.Device.{DeviceTold, Place}
 use Rattle.device_port.specs.declared.device.Mode.TheVariants as mode
 use Rattle.pull_nodes.specs.Kinds.{node_kind}
+use Rattle.pull_nodes.specs.Shape.{places_of, uses_of}
+use Rattle.chunk_core.specs.Tables.{Values}
 use Rattle.pull_nodes.specs.declared.kind.Kind.{Kind}
 use Rattle.pull_nodes.specs.declared.node.Node.{Node}
 use Rattle.pull_turns.specs.Around.{OpenAreHeld}
 use Rattle.pull_turns.specs.Piping.{StateMeaning, PipesFitOf}
+use Rattle.pull_turns.specs.Rest.{IsToRead, IsToWrite}
 use Rattle.pull_turns.proofs.NodeKinds.{fits_kind}
 use Rattle.row_seat.specs.Views.{HasRow}
 use Rattle.scope_tree.specs.Calls.{Seen}
+use Rattle.pull_stepper.specs.Laws.{around_nested}
 use Rattle.pull_stepper.specs.Sites.{InOrder, IsPlace, IsUnopened, IsUnused, Site, around, pay_of, slot, slot_of, told_at, told_by}
-use Rattle.pull_stepper.specs.Stepping.{CanGo, HasRoomFor, IsSupplied, begun, site_of, span_of}
-use Rattle.pull_stepper.proofs.Placing.{placed_fresh, placed_within}
+use Rattle.pull_stepper.specs.Stepping.{CanGo, HasRoomFor, IsFor, IsSupplied, begun, site_of, span_of}
+use Rattle.pull_stepper.proofs.Placing.{each_read, each_write, placed_fresh, placed_within, used_placed}
 use Rattle.pull_stepper.proofs.Slots.{slot_here, slot_past, slot_place}
 
 unopened : (d : DeviceTold) → IsUnused d → IsUnopened d
 unopened d u = record { is_open = u.is_open; opens = u.opens; closes = u.closes; exit = u.exit; close_faults = u.close_faults }
 
 -- the pipes of a node that has a kind fit
-pipes_fit : (n : Node) → IsSome (node_kind n) → PipesFitOf n
-pipes_fit n = by (node_kind n) refl
+pipes_fit : (t : Values) (n : Node) → IsSome (node_kind n) → PipesFitOf t n
+pipes_fit t n = by (node_kind n) refl
   where
-    by : (o : Option Kind) → node_kind n ≡ o → IsSome o → PipesFitOf n
+    by : (o : Option Kind) → node_kind n ≡ o → IsSome o → PipesFitOf t n
     by None e some = absurd (false≢true some)
-    by (Some j) e some = fits_kind n j e
+    by (Some j) e some = fits_kind t n j e
 
 module _ {V : Type 0} where
   -- each device waits in the slot of a place
@@ -85,19 +90,37 @@ module _ {V : Type 0} (told : V → DeviceTold) (n : Node) (a : Seen V) (devices
           let u = h.unused d (slot_from p first.from d devices s) in
           absurd (false≢true (sym u.is_open ∙ (sym (ap (λ o. (told_by told o (pay_of a p)).is_open) s) ∙ e)))
 
+  -- the device of a place
+  device_of : (p : ℕ) → IsAmong p (places_of n) → (d : V) × (slot first p ≡ Some (Some d)) × IsAmong d devices
+  device_of p i = let w = placed_within (span_of n (length devices)) n h.placed p i in at_place p (w.0, omega (arith, w.1, length-map devices Some))
+
+  used_of : (p : ℕ) → IsAmong p (uses_of n) → IsAmong p (places_of n)
+  used_of p i = used_placed (around told first) 0 (span_of n (length devices)) n h.placed p i
+
+  told_of : (p : ℕ) (i : IsAmong p (places_of n)) → told_at told first p ≡ told (device_of p i).0
+  told_of p i = ap (λ o. told_by told o (pay_of a p)) (device_of p i).1
+
+  reads_of : (p : ℕ) → IsAmong p (places_of n) → IsFor told first.from devices mode.Read p → IsToRead (told_at told first p)
+  reads_of p i f =
+      let t = device_of p i in let u = h.unused t.0 t.2 in
+      subst IsToRead (sym (told_of p i)) (record { mode = f t.0 t.1; at = u.at; faults = u.read_faults })
+
+  writes_of : (p : ℕ) → IsAmong p (places_of n) → IsFor told first.from devices mode.Write p → IsToWrite (told_at told first p)
+  writes_of p i f =
+      let t = device_of p i in let u = h.unused t.0 t.2 in
+      subst IsToWrite (sym (told_of p i)) (record { mode = f t.0 t.1; written = u.written; faults = u.write_faults })
+
   pub begun_can : {F : Type 0} (P : StateMeaning F) (chunk : ℕ) → 1 ≤ chunk → CanGo P told (begun n a devices chunk)
   begun_can P chunk some = record {
     how = refl;
     memory = refl;
     chunk = omega (arith, some);
     step = record {
-      ready = placed_fresh (around told first) 0 (span_of n (length devices)) n h.placed (λ p i.
-          let w = placed_within (span_of n (length devices)) n h.placed p i in
-          let t = at_place p (w.0, omega (arith, w.1, length-map devices Some)) in
-          let u = h.unused t.0 t.2 in
-          let e : told_at told first p ≡ told t.0 = ap (λ o. told_by told o (pay_of a p)) t.1 in
-          ((t.0, t.1, u), (ap (λ (d : DeviceTold). d.at) e ∙ u.at, ap (λ (d : DeviceTold). d.read_faults) e ∙ u.read_faults)));
-      pipes = pipes_fit n h.kind;
+      ready = placed_fresh (around told first) 0 (span_of n (length devices)) n h.placed (λ p i. let t = device_of p i in (t.0, t.1, h.unused t.0 t.2))
+          (each_read (IsFor told first.from devices mode.Read) (λ p. IsToRead (told_at told first p)) n (λ p i. reads_of p (used_of p i)) h.reads)
+          (each_write (IsFor told first.from devices mode.Write) (λ p. IsToWrite (told_at told first p)) n (λ p i. writes_of p (used_of p i)) h.writes);
+      pipes = pipes_fit P.values n h.kind;
+      nested = around_nested told first;
       opened = r.root;
       events = omega (arith, r.events, r.owed);
       scopes = omega (arith, r.scopes);
@@ -105,15 +128,19 @@ module _ {V : Type 0} (told : V → DeviceTold) (n : Node) (a : Seen V) (devices
     };
   }
 
--- a device that was just made for reading
-pub fresh_unused : (depot : DepotTold) (path : List ℕ) (d : DeviceTold) → d ≡ fresh depot (record { path = path; mode = mode.Read }) → IsUnused d
-fresh_unused depot path d e = subst IsUnused (sym e) (record {
-  mode_is = refl;
+made_unwritten : (o : Option Files) → IfSome (option_map (λ f. []) o) (λ bytes. ◌≡◌ {A = List ℕ} bytes [])
+made_unwritten None = tt
+made_unwritten (Some f) = refl
+
+-- a device that was just made
+pub fresh_unused : (depot : DepotTold) (place : Place) (d : DeviceTold) → d ≡ fresh depot place → IsUnused d
+fresh_unused depot place d e = subst IsUnused (sym e) (record {
   is_open = refl;
   opens = refl;
   closes = refl;
   exit = refl;
   at = refl;
+  written = made_unwritten depot.files;
   open_faults = refl;
   read_faults = refl;
   write_faults = refl;

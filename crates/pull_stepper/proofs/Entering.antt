@@ -1,5 +1,5 @@
 -- What a site is after a scope was opened.
-use Rattle.std.proofs.Common.{◌≡◌, Bool, ℕ, ◌+◌, ◌<◌, ◌≤◌, List, [], ◌∷◌, length, inl, inr, refl, sym, ap, ◌∙◌, subst, ⊎_elim, arith, length-append}
+use Rattle.std.proofs.Common.{◌≡◌, ◌⊎◌, ◌↔◌, Bool, ℕ, ◌+◌, ◌<◌, ◌≤◌, List, [], ◌∷◌, length, inl, inr, refl, sym, ap, ◌∙◌, subst, ⊎_elim, arith, length-append}
 use Rattle.chunk_core.specs.declared.code.Exit.{Exit}
 use Rattle.chunk_core.specs.Lists.{IsAmong}
 use Rattle.device_port.specs.Device.{DeviceTold}
@@ -23,10 +23,12 @@ use Rattle.scope_tree.specs.Rows.{strangers}
 use Rattle.scope_tree.specs.Released.{said}
 use Rattle.scope_tree.specs.Words.{numbers, opening, owed, words}
 use Rattle.scope_tree.proofs.Bridge.{within_cases}
-use Rattle.scope_tree.proofs.Grows.{back_closed, length_marks, opened_opens, opened_rows, opened_scopes}
+use Rattle.scope_tree.proofs.Grows.{back_closed, back_within, length_marks, opened_opens, opened_rows, opened_scopes}
 use Rattle.scope_tree.proofs.Beneath.{noted_scope, usable_scope}
+use Rattle.scope_tree.proofs.Grown.{within_opens}
 use Rattle.scope_tree.proofs.Keeps.{under_root, within_trans}
 use Rattle.scope_tree.proofs.Use.{first_is, seen_is}
+use Rattle.scope_tree.proofs.Walking.{above_le, within_stands}
 use Rattle.tree_laws.specs.Called.Called.{none, opened}
 use Rattle.tree_laws.proofs.Alone.{alone_opens}
 use Rattle.pull_stepper.specs.Sites.{InOrder, SameDevice, Since, Site, around, told_at}
@@ -75,24 +77,50 @@ module _ {V : Type 0} (told : V → DeviceTold) (x : Site V) (at n : ℕ) (bs : 
       let v = x.tree.seat in let e : Event = opening v (length bs) at n in
       (⊎_elim (λ z. inl z) (λ p. inr (p.0, noted_more v.events e p.1)) o.0, λ c. o.1 (back_closed v bs hs at n k u free i (usable_scope v bs hs k i o) c))
 
-  entered_keeps : (m : ℕ) → Keeps (around told x) (λ q. ⊥) m (around told (record x { tree = after }))
-  entered_keeps m = record {
+  -- what lay within a scope does so still
+  more_within : {i j : ℕ} → LiesWithin x.tree.seat.events x.tree.seat.by i j → LiesWithin after.seat.events x.tree.seat.by i j
+  more_within w = within_opens (λ f g m. noted_more x.tree.seat.events (opening x.tree.seat (length bs) at n) m) w
+
+  -- of a scope that was there before nothing has changed in where it lies
+  was_within : {i j : ℕ} → i < length bs → LiesWithin after.seat.events x.tree.seat.by i j → LiesWithin x.tree.seat.events x.tree.seat.by i j
+  was_within l w = back_within x.tree.seat bs hs at n k u free l w
+
+  entered_keeps : Keeps (around told x) (λ q. ⊥) (λ c. ⊥) (around told (record x { tree = after }))
+  entered_keeps = record {
     told = λ q t. refl;
     waits = λ q t h. h;
     holds = λ q i t j h. (subst (λ l. IsAmong (q, i) l) (sym (opened_rows x.tree.seat bs hs at n k u free)) h.0, h.1);
-    opened = λ i j o. stays_open i o;
+    stays = λ i j. record { opened = stays_open i j.0; within = λ c. (was_within (usable_scope x.tree.seat bs hs k i j.0), more_within) };
   }
+
+  -- the new scope lies within itself and where that lies in which it was opened
+  new_within : (i : ℕ) → LiesWithin after.seat.events x.tree.seat.by (length bs) i ↔ ((i ≡ length bs) ⊎ LiesWithin x.tree.seat.events x.tree.seat.by at i)
+  new_within i = (to, ⊎_elim (λ e. subst (λ j. LiesWithin after.seat.events x.tree.seat.by (length bs) j) (sym e) (same (length bs))) (λ w. below (length bs) at i (noted_new x.tree.seat.events (opening x.tree.seat (length bs) at n)) (more_within w)))
+    where
+      to : LiesWithin after.seat.events x.tree.seat.by (length bs) i → (i ≡ length bs) ⊎ LiesWithin x.tree.seat.events x.tree.seat.by at i
+      to w = ⊎_elim
+          (λ e. inl (sym e))
+          (λ p.
+          let at_parent : p.0 ≡ at = ⊎_elim
+          (λ o. absurd (let l = (noted_scope x.tree.seat bs hs k (length bs) p.0 o).1 in omega (l, arith)))
+          (λ o. sym (open_under (length bs) at (length bs) p.0 o.1))
+          (noted_snoc x.tree.seat.events (opening x.tree.seat (length bs) at n) x.tree.seat.by (Open (length bs) p.0) p.1) in
+          inr (was_within (usable_scope x.tree.seat bs hs k at u) (subst (λ q. LiesWithin after.seat.events x.tree.seat.by q i) at_parent p.2)))
+          (within_cases w)
+
+  -- no scope that was there before lies within the new one
+  new_fresh : (i : ℕ) → i < length bs → LiesWithin after.seat.events x.tree.seat.by i (length bs) → ⊥
+  new_fresh i l w = let v = x.tree.seat in let g = above_le bs i (length bs) k.mirrors.parents l (within_stands v bs hs k (was_within l w)) in omega (g, l, arith)
 
   entered_used : used after ≡ used x.tree
   entered_used = ap (λ l. length l + strangers (numbers l) (firsts (said x.tree.shelf))) (opened_rows x.tree.seat bs hs at n k u free)
 
   entered : Enters (around told x) at (length bs) (around told (record x { tree = after }))
   entered =
-      let s = opened_scopes x.tree.seat bs hs at n k u free in let p = k.rests.spare in let l = usable_scope x.tree.seat bs hs k at u in let us = entered_used in
+      let s = opened_scopes x.tree.seat bs hs at n k u free in let p = k.rests.spare in let us = entered_used in
       let os : length (opens (words after.seat)) ≡ length (opens (words x.tree.seat)) + 1 = ap length (opened_opens x.tree.seat bs hs at n k u free) ∙ length-append (opens (words x.tree.seat)) ((length bs, at) ∷ []) in record {
-        below = l;
-        within = below (length bs) at at (noted_new x.tree.seat.events (opening x.tree.seat (length bs) at n)) (same at);
-        fresh = λ o. let i = usable_scope x.tree.seat bs hs k (length bs) o in omega (i, arith);
+        within = new_within;
+        fresh = λ i o w. new_fresh i (usable_scope x.tree.seat bs hs k i o) w;
         opened = new_open;
         keeps = entered_keeps;
         events = omega (s, p, arith);

@@ -21,8 +21,7 @@ use Rattle.scope_tree.specs.Released.{Released, said}
 use Rattle.scope_tree.specs.Released.Holder.{owner}
 use Rattle.scope_tree.specs.Rows.{strangers}
 use Rattle.scope_tree.specs.Words.{closing, numbers, own_rows, shutting, words}
-use Rattle.scope_tree.proofs.Beneath.{not_true', Under, usable_scope, whole_is, whole_under}
-use Rattle.scope_tree.proofs.Beneath.Under.{self, child}
+use Rattle.scope_tree.proofs.Beneath.{not_true', under_within, usable_scope, whole_is, whole_under}
 use Rattle.scope_tree.proofs.Distinct.{firsts_append, picks_among, said_append, strangers_append}
 use Rattle.scope_tree.proofs.Follows.{same_empty}
 use Rattle.scope_tree.proofs.Grown.{grown_closed, grown_noted, within_opens}
@@ -32,7 +31,6 @@ use Rattle.scope_tree.proofs.Parts.{one_scope, row_of_pair}
 use Rattle.scope_tree.proofs.Releasing.{released_most, released_picks, released_spare}
 use Rattle.scope_tree.proofs.Rooms.{own_is, strangers_none}
 use Rattle.scope_tree.proofs.Use.{close_follows, closed_now}
-use Rattle.scope_tree.proofs.Walking.{above_le, within_stands}
 use Rattle.tree_laws.proofs.Alone.{calls_alone}
 use Rattle.tree_laws.specs.Laws.{CallsStayAlone}
 use Rattle.tree_laws.specs.Called.Called.{none, closed}
@@ -45,17 +43,12 @@ use Rattle.pull_stepper.proofs.Slots.{slot_place}
 use Rattle.pull_stepper.proofs.Standing.{open_row, row_scope}
 use Rattle.pull_stepper.proofs.Tellings.{IsSameOrShut, same_gist, shut_exit, shut_gist, told_shut}
 
--- a scope that stands below another has no smaller number
-under_le : (bs : List Branch) (s t : ℕ) → ((c : ℕ) (d : Branch) → 1 ≤ c → c < length bs → (slice_index_or bs c d).parent < c) → Under bs s t → s ≤ t
-under_le bs s t f self = omega arith
-under_le bs s t f (child c p one l sh pa u) = let d : Branch = record { parent = 0; shut = false } in let q = f c d one l in let e = pa d in let i = under_le bs s p f u in omega (q, e, i, arith)
-
 module _ {V : Type 0} (told : V → DeviceTold) (once : (d : V) → (told d).is_open ≡ true → ((told d).opens ≡ 1) × ((told d).closes ≡ 0) × ((told d).close_faults ≡ 0)) (x : Site V) (b : Seen V) (s : ℕ) (e : Exit) (bs : List Branch) (hs : List AcquiredRow) (k : Kept x.tree.seat bs hs) (shelved : Shelved x.tree.seat hs x.tree.shelf) (order : InOrder told x) (u : IsOpenScope x.tree s) (c : ClosesScope (FinishesDevice told) x.tree s e b) where
   shut_bare : IsBare (shutting x.tree.seat s e c.stamp)
   shut_bare = bare_noted x.tree.seat (shutting x.tree.seat s e c.stamp) (closing x.tree.seat s e c.stamp) (λ j t i. apart i refl) refl refl (λ r h. h) order.bare
 
   shut_open : HasOpen told (shutting x.tree.seat s e c.stamp)
-  shut_open r d m = (order.opened r d m).0
+  shut_open r d m = order.opened r d m
 
   -- the scope's number is one that the tree keeps
   kept_scope : s < length bs
@@ -96,21 +89,21 @@ module _ {V : Type 0} (told : V → DeviceTold) (once : (d : V) → (told d).is_
   left_gist : (q : ℕ) → gist (told_at told (record x { tree = b }) q) ≡ gist (told_at told x q)
   left_gist q = shut_gist e (told_at told x q) (told_at told (record x { tree = b }) q) (left_told q)
 
-  -- a row of an earlier scope isn't closed
-  kept_row : (q m : ℕ) → m < s → IsAmong (q, m) (rows (words x.tree.seat)) → HasRow x.tree.seat.opened q → HasRow b.seat.opened q
+  -- a row of a scope that isn't closed isn't either
+  kept_row : (q m : ℕ) → (LiesWithin x.tree.seat.events x.tree.seat.by m s → ⊥) → IsAmong (q, m) (rows (words x.tree.seat)) → HasRow x.tree.seat.opened q → HasRow b.seat.opened q
   kept_row q m l i h =
       owner_has q closed_whole
-      (λ j. let w = whole_under bs hs q s kept_scope j in let z = one_scope q w.0 m hs k.mirrors.distinct w.1 (subst (λ y. IsAmong (q, m) y) k.mirrors.rows i) in let n = under_le bs s w.0 k.mirrors.parents w.2 in omega (z, n, l, arith))
+      (λ j. let w = whole_under bs hs q s kept_scope j in let z = one_scope q w.0 m hs k.mirrors.distinct w.1 (subst (λ y. IsAmong (q, m) y) k.mirrors.rows i) in l (subst (λ y. LiesWithin x.tree.seat.events x.tree.seat.by y s) z (under_within x.tree.seat bs hs k s w.0 w.2)))
       h
 
-  still_open : (m : ℕ) → m < s → IsOpenScope x.tree m → IsOpenScope b m
+  still_open : (m : ℕ) → (LiesWithin x.tree.seat.events x.tree.seat.by m s → ⊥) → IsOpenScope x.tree m → IsOpenScope b m
   still_open m l o = (
     ⊎_elim (λ z. inl z) (λ n. inr (n.0, grown_noted (close_grown x.tree.seat b.seat bs hs c.torn.0 s c.stamp k u closed_whole) n.1)) o.0,
     λ d.
         let w = old_within x.tree.seat b.seat bs hs c.torn.0 s c.stamp k u closed_whole d.1 in
         ⊎_elim
         (λ n. o.1 (d.0, w, n))
-        (λ z. let g = above_le bs m d.0 k.mirrors.parents (usable_scope x.tree.seat bs hs k m o) (within_stands x.tree.seat bs hs k w) in omega (z, g, l, arith))
+        (λ z. l (subst (λ y. LiesWithin x.tree.seat.events x.tree.seat.by m y) z w))
         (old_close x.tree.seat b.seat bs hs c.torn.0 s c.stamp k u closed_whole d.0 d.2),
   )
 
@@ -132,12 +125,18 @@ module _ {V : Type 0} (told : V → DeviceTold) (once : (d : V) → (told d).is_
   left_rows : rows (words b.seat) ≡ rows (words x.tree.seat)
   left_rows = rows_same x.tree.seat b.seat bs hs c.torn.0 s c.stamp k u closed_whole
 
-  left_keeps : (m : ℕ) → m < s → Keeps (around told x) (λ q. ⊥) m (around told (record x { tree = b }))
-  left_keeps m l = record {
+  left_keeps : Keeps (around told x) (λ q. ⊥) (λ c. c ≡ s) (around told (record x { tree = b }))
+  left_keeps = record {
     told = λ q n. left_gist q;
     waits = λ q n h. h;
-    holds = λ q i n j h. (subst (λ y. IsAmong (q, i) y) (sym left_rows) h.0, kept_row q i (omega (l, j, arith)) h.0 h.1);
-    opened = λ i j o. still_open i (omega (l, j, arith)) o;
+    holds = λ q i n j h. (subst (λ y. IsAmong (q, i) y) (sym left_rows) h.0, kept_row q i (j.1 s refl) h.0 h.1);
+    stays = λ i j. record {
+      opened = still_open i (j.1 s refl) j.0;
+      within = λ d. (
+        old_within x.tree.seat b.seat bs hs c.torn.0 s c.stamp k u closed_whole,
+        within_opens (λ f g m. grown_noted (close_grown x.tree.seat b.seat bs hs c.torn.0 s c.stamp k u closed_whole) m),
+      );
+    };
   }
 
   -- each row that ended is one of the tree's own

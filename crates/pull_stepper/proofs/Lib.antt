@@ -9,6 +9,7 @@ pub mod Entering
 pub mod Opening
 pub mod Acquiring
 pub mod Reading
+pub mod Writing
 pub mod Closing
 pub mod Leaving
 pub mod Beginning

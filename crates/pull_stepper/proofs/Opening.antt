@@ -96,11 +96,11 @@ module _ {V : Type 0} (told : V → DeviceTold) (ends : V → Exit → Bool → 
   pub refuses : Refuses (around told x) p (around told refused)
   refuses = record {
     told = refused_told;
-    keeps = λ k. record {
+    keeps = record {
       told = λ q n. ap gist (refused_other q n);
       waits = λ q n w. (w.0, slot_still x p d is (Some e) q n ∙ w.1, w.2);
-      holds = λ q i n l h. h;
-      opened = λ i l o. o;
+      holds = λ q i n j h. h;
+      stays = λ i j. record { opened = j.0; within = λ c. (λ w. w, λ w. w) };
     };
     affords = record { events = omega arith; scopes = omega arith; rows = omega arith };
   }

@@ -1,6 +1,6 @@
 -- A node whose places are in order may be run over devices that wait.
-use Rattle.std.proofs.Common.{◌≡◌, ℕ, ◌<◌, ◌≤◌, nat_le, nat_lt, Bool, true, ◌&&◌, not, nat_eq, List, [], ◌∷◌, ◌++◌, ◌⊎◌, inl, inr, sym, subst, ◌∙◌}
-use Rattle.std.proofs.lemmas.Bool.{leb-true, ltb-true}
+use Rattle.std.proofs.Common.{◌≡◌, ℕ, ◌<◌, ◌≤◌, nat_le, nat_lt, Bool, true, false, cond, refl, ◌&&◌, not, nat_eq, List, [], ◌∷◌, ◌++◌, ◌⊎◌, inl, inr, sym, subst, ◌∙◌}
+use Rattle.std.proofs.lemmas.Bool.{cases_eq, leb-true, ltb-true}
 use Rattle.std.specs.List.{list_any as any, list_all as all}
 use Rattle.chunk_core.specs.declared.code.Span.{Span}
 use Rattle.chunk_core.specs.Lists.{IsAmong, are_distinct}
@@ -8,13 +8,13 @@ use Rattle.chunk_core.specs.Lists.IsAmong.{here, there}
 use Rattle.chunk_core.proofs.Members.{among_cons, among_left}
 use Rattle.chunk_core.proofs.Filters.{among_append, among_right}
 use Rattle.chunk_core.proofs.Bools.{both, either, no, number, itself, all_at, any_at, any_found}
-use Rattle.pull_nodes.specs.Shape.{places_of, uses_of}
+use Rattle.pull_nodes.specs.Shape.{EachRead, EachWrite, places_of, uses_of}
 use Rattle.pull_nodes.specs.Placed.{are_apart, is_inside, is_once, is_placed, is_within}
 use Rattle.pull_nodes.proofs.Joins.{distinct_append, once_append}
 use Rattle.pull_nodes.specs.declared.node.Node.{Node}
-use Rattle.pull_nodes.specs.declared.node.Node.TheVariants.{Nil, Emit, Raise, Read, Weak', Scope', Append', OnFault', Through', Take'}
+use Rattle.pull_nodes.specs.declared.node.Node.TheVariants.{Nil, Emit, Raise, Read, Weak', Scope', Append', OnFault', Through', Take', Into', Zip', Merge'}
 use Rattle.pull_turns.specs.Around.{Around}
-use Rattle.pull_turns.specs.Rest.{IsAsked, IsFresh, IsIn, NoPlace}
+use Rattle.pull_turns.specs.Rest.{IsAsked, IsFresh, IsIn, IsToRead, IsToWrite, NoPlace}
 
 -- no number stands in both lists
 abbrev Apart : List ℕ → List ℕ → Type 0
@@ -43,6 +43,22 @@ once_left us vs p h i =
       | inr r ↦ absurd (absent p us (both (not (any (nat_eq p) us)) (is_once vs p) r).0 i)
     ]
 
+same_number : (p q : ℕ) → p ≡ q → nat_eq p q ≡ true
+same_number p q e = subst (λ r. nat_eq p r ≡ true) e (itself p)
+
+other_number : (p q : ℕ) → (p ≡ q → ⊥) → nat_eq p q ≡ false
+other_number p q n = by (nat_eq p q) refl
+  where
+    by : (b : Bool) → nat_eq p q ≡ b → nat_eq p q ≡ false
+    by true e = absurd (n (number p q e))
+    by false e = e
+
+once_first : (p q : ℕ) (us : List ℕ) → p ≡ q → is_once (q ∷ us) p ≡ true → not (any (nat_eq p) us) ≡ true
+once_first p q us e h = subst (λ b. cond b (not (any (nat_eq p) us)) (is_once us p) ≡ true) (same_number p q e) h
+
+once_later : (p q : ℕ) (us : List ℕ) → (p ≡ q → ⊥) → is_once (q ∷ us) p ≡ true → is_once us p ≡ true
+once_later p q us n h = subst (λ b. cond b (not (any (nat_eq p) us)) (is_once us p) ≡ true) (other_number p q n) h
+
 once_right : (us vs : List ℕ) (p : ℕ) → is_once (us ++ vs) p ≡ true → IsAmong p vs → is_once vs p ≡ true
 once_right us vs p h i =
     elim (either (is_once us p && not (any (nat_eq p) vs)) (not (any (nat_eq p) us) && is_once vs p) (sym (once_append p us vs) ∙ h)) [
@@ -70,8 +86,14 @@ module _ (p : ℕ) where
   in_lists (Append' _ a _ b) (inr h) = of_join (places_of a) (places_of b) (uses_of a) (uses_of b) (inr (in_lists b h))
   in_lists (OnFault' _ a _ b) (inl h) = of_join (places_of a) (places_of b) (uses_of a) (uses_of b) (inl (in_lists a h))
   in_lists (OnFault' _ a _ b) (inr h) = of_join (places_of a) (places_of b) (uses_of a) (uses_of b) (inr (in_lists b h))
+  in_lists (Zip' _ a _ b) (inl h) = of_join (places_of a) (places_of b) (uses_of a) (uses_of b) (inl (in_lists a h))
+  in_lists (Zip' _ a _ b) (inr h) = of_join (places_of a) (places_of b) (uses_of a) (uses_of b) (inr (in_lists b h))
+  in_lists (Merge' _ a _ b) (inl h) = of_join (places_of a) (places_of b) (uses_of a) (uses_of b) (inl (in_lists a h))
+  in_lists (Merge' _ a _ b) (inr h) = of_join (places_of a) (places_of b) (uses_of a) (uses_of b) (inr (in_lists b h))
   in_lists (Through' _ a q) h = in_lists a h
   in_lists (Take' n _ a) h = in_lists a h
+  in_lists (Into' q _ a) (inl h) = inr (subst (λ x. IsAmong p (x ∷ uses_of a)) h (here (uses_of a)))
+  in_lists (Into' q _ a) (inr h) = elim (in_lists a h) [ inl i ↦ inl i | inr i ↦ inr (there q i) ]
 
   asked_places : (n : Node) → IsAsked p n → IsAmong p (places_of n)
   asked_places Nil h = absurd h
@@ -85,8 +107,13 @@ module _ (p : ℕ) where
   asked_places (Append' _ a _ b) (inr h) = among_right _ (places_of a) _ (asked_places b h)
   asked_places (OnFault' _ a _ b) (inl h) = among_left (places_of b) (asked_places a h)
   asked_places (OnFault' _ a _ b) (inr h) = among_right _ (places_of a) _ (asked_places b h)
+  asked_places (Zip' _ a _ b) (inl h) = among_left (places_of b) (asked_places a h)
+  asked_places (Zip' _ a _ b) (inr h) = among_right _ (places_of a) _ (asked_places b h)
+  asked_places (Merge' _ a _ b) (inl h) = among_left (places_of b) (asked_places a h)
+  asked_places (Merge' _ a _ b) (inr h) = among_right _ (places_of a) _ (asked_places b h)
   asked_places (Through' _ a q) h = asked_places a h
   asked_places (Take' n _ a) h = asked_places a h
+  asked_places (Into' q _ a) h = asked_places a h
 
   above_join : (ps qs rs us vs : List ℕ) → (IsAmong p us → IsAmong p ps ⊎ IsAmong p qs) → (IsAmong p vs → IsAmong p ps ⊎ IsAmong p rs)
       → IsAmong p (us ++ vs) → IsAmong p ps ⊎ IsAmong p (qs ++ rs)
@@ -96,7 +123,7 @@ module _ (p : ℕ) where
         | inr j ↦ elim (g j) [ inl k ↦ inl k | inr k ↦ inr (among_right _ qs _ k) ]
       ]
 
-  -- what is read stands in the part of a Weak of its place, here or above
+  -- what is read or written stands in the part of a Weak of its place, here or above
   used_above : (ps : List ℕ) (n : Node) → is_inside ps n ≡ true → IsAmong p (uses_of n) → IsAmong p ps ⊎ IsAmong p (places_of n)
   used_above ps Nil h i = elim i [ ]
   used_above ps (Emit l) h i = elim i [ ]
@@ -115,10 +142,19 @@ module _ (p : ℕ) where
   used_above ps (OnFault' _ a _ b) h i =
       let s = both (is_inside ps a) (is_inside ps b) h in
       above_join ps (places_of a) (places_of b) (uses_of a) (uses_of b) (used_above ps a s.0) (used_above ps b s.1) i
+  used_above ps (Zip' _ a _ b) h i =
+      let s = both (is_inside ps a) (is_inside ps b) h in
+      above_join ps (places_of a) (places_of b) (uses_of a) (uses_of b) (used_above ps a s.0) (used_above ps b s.1) i
+  used_above ps (Merge' _ a _ b) h i =
+      let s = both (is_inside ps a) (is_inside ps b) h in
+      above_join ps (places_of a) (places_of b) (uses_of a) (uses_of b) (used_above ps a s.0) (used_above ps b s.1) i
   used_above ps (Through' _ a q) h i = used_above ps a h i
   used_above ps (Take' n _ a) h i = used_above ps a h i
+  used_above ps (Into' q _ a) h i =
+      let s = both (any (nat_eq q) ps) (is_inside ps a) h in
+      elim (among_cons i) [ inl e ↦ inl (subst (λ x. IsAmong x ps) (sym e) (found q ps s.0)) | inr j ↦ used_above ps a s.1 j ]
 
--- of a node in the parts of the Weaks of ps: it acquires none of these again and no place twice, each Read is the only one of its place, and all are inside
+-- of a node in the parts of the Weaks of ps: it acquires none of these again and no place twice, each Read and each Into is the only one of its place, and all are inside
 record IsPart (ps places uses : List ℕ) (inside : Bool) : Type 0 where
   above : Apart ps places
   distinct : are_distinct places ≡ true
@@ -172,35 +208,98 @@ part_inside ps q a h =
       all_inside = h.all_inside;
     }
 
-module _ (a : Around) (s : ℕ) where
-  -- nothing was read of the device of p, nor tried to
-  abbrev IsUnread : ℕ → Type 0
-  IsUnread p = ((a.told p).at ≡ 0) × ((a.told p).read_faults ≡ 0)
+-- what is written to a device stands behind it
+part_written : (ps : List ℕ) (q : ℕ) (a : Node) → IsPart ps (places_of a) (q ∷ uses_of a) (any (nat_eq q) ps && is_inside ps a) → Part ps a
+part_written ps q a h = record {
+  above = h.above;
+  distinct = h.distinct;
+  once = λ p i. elim (cases_eq p q) [
+    | inl e ↦ absurd (absent q (uses_of a) (once_first q q (uses_of a) refl (h.once q (here (uses_of a)))) (subst (λ x. IsAmong x (uses_of a)) e i))
+    | inr n ↦ once_later p q (uses_of a) n (h.once p (there q i))
+  ];
+  all_inside = (both (any (nat_eq q) ps) (is_inside ps a) h.all_inside).1;
+}
 
+-- and it is not acquired, read or written there again
+written_once : (ps : List ℕ) (q : ℕ) (a : Node) → IsPart ps (places_of a) (q ∷ uses_of a) (any (nat_eq q) ps && is_inside ps a) → IsIn q a → ⊥
+written_once ps q a h i = elim (in_lists q a i) [
+  | inl j ↦ h.above q (found q ps (both (any (nat_eq q) ps) (is_inside ps a) h.all_inside).0) j
+  | inr j ↦ absent q (uses_of a) (once_first q q (uses_of a) refl (h.once q (here (uses_of a)))) j
+]
+
+-- this holds at each Read, or at each Into
+module _ (P Q : ℕ → Type 0) where
+  pub each_read : (n : Node) → ((p : ℕ) → IsAmong p (uses_of n) → P p → Q p) → EachRead P n → EachRead Q n
+  each_read Nil f h = tt
+  each_read (Emit l) f h = tt
+  each_read (Raise c) f h = tt
+  each_read (Read p) f h = (f p (here []) h.0, tt)
+  each_read (Weak' p _ a) f h = each_read a f h
+  each_read (Scope' _ a) f h = each_read a f h
+  each_read (Append' _ a _ b) f h = (each_read a (λ p i. f p (among_left (uses_of b) i)) h.0, each_read b (λ p i. f p (among_right _ (uses_of a) _ i)) h.1)
+  each_read (OnFault' _ a _ b) f h = (each_read a (λ p i. f p (among_left (uses_of b) i)) h.0, each_read b (λ p i. f p (among_right _ (uses_of a) _ i)) h.1)
+  each_read (Zip' _ a _ b) f h = (each_read a (λ p i. f p (among_left (uses_of b) i)) h.0, each_read b (λ p i. f p (among_right _ (uses_of a) _ i)) h.1)
+  each_read (Merge' _ a _ b) f h = (each_read a (λ p i. f p (among_left (uses_of b) i)) h.0, each_read b (λ p i. f p (among_right _ (uses_of a) _ i)) h.1)
+  each_read (Through' _ a q) f h = each_read a f h
+  each_read (Take' n _ a) f h = each_read a f h
+  each_read (Into' p _ a) f h = each_read a (λ q i. f q (there p i)) h
+
+  pub each_write : (n : Node) → ((p : ℕ) → IsAmong p (uses_of n) → P p → Q p) → EachWrite P n → EachWrite Q n
+  each_write Nil f h = tt
+  each_write (Emit l) f h = tt
+  each_write (Raise c) f h = tt
+  each_write (Read p) f h = tt
+  each_write (Weak' p _ a) f h = each_write a f h
+  each_write (Scope' _ a) f h = each_write a f h
+  each_write (Append' _ a _ b) f h = (each_write a (λ p i. f p (among_left (uses_of b) i)) h.0, each_write b (λ p i. f p (among_right _ (uses_of a) _ i)) h.1)
+  each_write (OnFault' _ a _ b) f h = (each_write a (λ p i. f p (among_left (uses_of b) i)) h.0, each_write b (λ p i. f p (among_right _ (uses_of a) _ i)) h.1)
+  each_write (Zip' _ a _ b) f h = (each_write a (λ p i. f p (among_left (uses_of b) i)) h.0, each_write b (λ p i. f p (among_right _ (uses_of a) _ i)) h.1)
+  each_write (Merge' _ a _ b) f h = (each_write a (λ p i. f p (among_left (uses_of b) i)) h.0, each_write b (λ p i. f p (among_right _ (uses_of a) _ i)) h.1)
+  each_write (Through' _ a q) f h = each_write a f h
+  each_write (Take' n _ a) f h = each_write a f h
+  each_write (Into' p _ a) f h = (f p (here (uses_of a)) h.0, each_write a (λ q i. f q (there p i)) h.1)
+
+module _ (a : Around) (s : ℕ) where
   part_fresh : (P : ℕ → Type 0) (ps : List ℕ) (n : Node) → Part ps n
-      → ((p : ℕ) → IsAmong p (places_of n) → a.waits p) → ((p : ℕ) → IsAmong p (uses_of n) → IsUnread p) → ((p : ℕ) → IsAmong p ps → P p) → IsFresh a P s n
-  part_fresh P ps Nil h w t u = tt
-  part_fresh P ps (Emit l) h w t u = tt
-  part_fresh P ps (Raise c) h w t u = tt
-  part_fresh P ps (Read q) h w t u = let r = t q (here []) in (r.0, r.1, inl (u q (found q ps h.all_inside)))
-  part_fresh P ps (Weak' q _ n) h w t u = (
+      → ((p : ℕ) → IsAmong p (places_of n) → a.waits p) → EachRead (λ p. IsToRead (a.told p)) n → EachWrite (λ p. IsToWrite (a.told p)) n → ((p : ℕ) → IsAmong p ps → P p) → IsFresh a P s n
+  part_fresh P ps Nil h w r t u = tt
+  part_fresh P ps (Emit l) h w r t u = tt
+  part_fresh P ps (Raise c) h w r t u = tt
+  part_fresh P ps (Read q) h w r t u = (r.0, inl (u q (found q ps h.all_inside)))
+  part_fresh P ps (Weak' q _ n) h w r t u = (
     w q (here (places_of n)),
     (λ i. absent q (places_of n) (both (not (any (nat_eq q) (places_of n))) (are_distinct (places_of n)) h.distinct).0 (asked_places q n i)),
-    part_fresh (λ r. (r ≡ q) ⊎ P r) (q ∷ ps) n (part_inside ps q n h) (λ p i. w p (there q i)) t (λ p i. elim (among_cons i) [ inl e ↦ inl e | inr j ↦ inr (u p j) ]),
+    part_fresh (λ r. (r ≡ q) ⊎ P r) (q ∷ ps) n (part_inside ps q n h) (λ p i. w p (there q i)) r t (λ p i. elim (among_cons i) [ inl e ↦ inl e | inr j ↦ inr (u p j) ]),
   )
-  part_fresh P ps (Scope' _ n) h w t u = part_fresh P ps n h w t u
-  part_fresh P ps (Append' _ n _ m) h w t u = (
+  part_fresh P ps (Scope' _ n) h w r t u = part_fresh P ps n h w r t u
+  part_fresh P ps (Append' _ n _ m) h w r t u = (
     (λ p i j. sides_apart ps n m h p (in_lists p n i) (in_lists p m j)),
-    part_fresh P ps n (first_part ps n m h) (λ p i. w p (among_left (places_of m) i)) (λ p i. t p (among_left (uses_of m) i)) u,
-    part_fresh P ps m (second_part ps n m h) (λ p i. w p (among_right _ (places_of n) _ i)) (λ p i. t p (among_right _ (uses_of n) _ i)) u,
+    part_fresh P ps n (first_part ps n m h) (λ p i. w p (among_left (places_of m) i)) r.0 t.0 u,
+    part_fresh P ps m (second_part ps n m h) (λ p i. w p (among_right _ (places_of n) _ i)) r.1 t.1 u,
   )
-  part_fresh P ps (OnFault' _ n _ m) h w t u = (
+  part_fresh P ps (OnFault' _ n _ m) h w r t u = (
     (λ p i j. sides_apart ps n m h p (in_lists p n i) (in_lists p m j)),
-    part_fresh P ps n (first_part ps n m h) (λ p i. w p (among_left (places_of m) i)) (λ p i. t p (among_left (uses_of m) i)) u,
-    part_fresh P ps m (second_part ps n m h) (λ p i. w p (among_right _ (places_of n) _ i)) (λ p i. t p (among_right _ (uses_of n) _ i)) u,
+    part_fresh P ps n (first_part ps n m h) (λ p i. w p (among_left (places_of m) i)) r.0 t.0 u,
+    part_fresh P ps m (second_part ps n m h) (λ p i. w p (among_right _ (places_of n) _ i)) r.1 t.1 u,
   )
-  part_fresh P ps (Through' _ n q) h w t u = part_fresh P ps n h w t u
-  part_fresh P ps (Take' _ _ n) h w t u = part_fresh P ps n h w t u
+  part_fresh P ps (Zip' _ n _ m) h w r t u = (
+    (λ p i j. sides_apart ps n m h p (in_lists p n i) (in_lists p m j)),
+    part_fresh P ps n (first_part ps n m h) (λ p i. w p (among_left (places_of m) i)) r.0 t.0 u,
+    part_fresh P ps m (second_part ps n m h) (λ p i. w p (among_right _ (places_of n) _ i)) r.1 t.1 u,
+  )
+  part_fresh P ps (Merge' _ n _ m) h w r t u = (
+    (λ p i j. sides_apart ps n m h p (in_lists p n i) (in_lists p m j)),
+    part_fresh P ps n (first_part ps n m h) (λ p i. w p (among_left (places_of m) i)) r.0 t.0 u,
+    part_fresh P ps m (second_part ps n m h) (λ p i. w p (among_right _ (places_of n) _ i)) r.1 t.1 u,
+  )
+  part_fresh P ps (Through' _ n q) h w r t u = part_fresh P ps n h w r t u
+  part_fresh P ps (Take' _ _ n) h w r t u = part_fresh P ps n h w r t u
+  part_fresh P ps (Into' q _ n) h w r t u = (
+    t.0,
+    inl (u q (found q ps (both (any (nat_eq q) ps) (is_inside ps n) h.all_inside).0)),
+    written_once ps q n h,
+    part_fresh P ps n (part_written ps q n h) w r t.1 u,
+  )
 
   module _ (span : Span) (n : Node) (h : is_placed span n ≡ true) where
     tests_of : (all (is_within span) (places_of n) ≡ true) × ((are_distinct (places_of n) ≡ true) × ((all (is_once (uses_of n)) (places_of n) ≡ true) × (is_inside [] n ≡ true)))
@@ -209,12 +308,12 @@ module _ (a : Around) (s : ℕ) where
         let y = both (are_distinct (places_of n)) (all (is_once (uses_of n)) (places_of n) && is_inside [] n) x.1 in
         (x.0, (y.0, both (all (is_once (uses_of n)) (places_of n)) (is_inside [] n) y.1))
 
-    used_placed : (p : ℕ) → IsAmong p (uses_of n) → IsAmong p (places_of n)
+    pub used_placed : (p : ℕ) → IsAmong p (uses_of n) → IsAmong p (places_of n)
     used_placed p i = elim (used_above p [] n tests_of.1.1.1 i) [ inl j ↦ elim j [ ] | inr j ↦ j ]
 
     -- a placed node may be run where the devices of its places wait
-    pub placed_fresh : ((p : ℕ) → IsAmong p (places_of n) → a.waits p × IsUnread p) → IsFresh a NoPlace s n
-    placed_fresh f =
+    pub placed_fresh : ((p : ℕ) → IsAmong p (places_of n) → a.waits p) → EachRead (λ p. IsToRead (a.told p)) n → EachWrite (λ p. IsToWrite (a.told p)) n → IsFresh a NoPlace s n
+    placed_fresh f reads writes =
         part_fresh NoPlace [] n
         (record {
           above = λ p i j. elim i [ ];
@@ -222,7 +321,7 @@ module _ (a : Around) (s : ℕ) where
           once = λ p i. all_at (is_once (uses_of n)) p (places_of n) (used_placed p i) tests_of.1.1.0;
           all_inside = tests_of.1.1.1;
         })
-        (λ p i. (f p i).0) (λ p i. (f p (used_placed p i)).1) (λ p i. elim i [ ])
+        f reads writes (λ p i. elim i [ ])
 
 -- each place of a placed node is within the span
 pub placed_within : (span : Span) (n : Node) → is_placed span n ≡ true → (p : ℕ) → IsAmong p (places_of n) → (span.from ≤ p) × (p < span.to)

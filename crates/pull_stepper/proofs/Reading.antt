@@ -5,7 +5,7 @@ use Rattle.std.proofs.lemmas.Bool.{cases_eq}
 use Rattle.chunk_core.specs.declared.code.Exit.{Exit}
 use Rattle.chunk_core.specs.Lists.{IsAmong}
 use Rattle.device_port.specs.Device.{DeviceTold, moved}
-use Rattle.pull_turns.specs.Around.{Affords, FailsToRead, GivesPiece, Keeps, gist}
+use Rattle.pull_turns.specs.Around.{Affords, FailsToRead, GivesPiece, KeepsBut, gist}
 use Rattle.row_seat.specs.declared.view.View.{View}
 use Rattle.row_seat.specs.Views.{HasRow, paid, with_row}
 use Rattle.scope_tree.specs.Rows.{Once}
@@ -41,12 +41,12 @@ module _ {V : Type 0} (told : V → DeviceTold) (ends : V → Exit → Bool → 
   pub changed_holds : (q k : ℕ) → (around told x).holds q k → (around told changed).holds q k
   changed_holds q k h = (h.0, has_with p e x.tree.seat.opened q h.1)
 
-  pub changed_keeps : (k : ℕ) → Keeps (around told x) (λ q. q ≡ p) k (around told changed)
-  changed_keeps k = record {
+  pub changed_keeps : KeepsBut (around told x) p (around told changed)
+  changed_keeps = record {
     told = λ q n. ap gist (told_other q n);
     waits = λ q n h. h;
-    holds = λ q j n l h. changed_holds q j h;
-    opened = λ j l o. o;
+    holds = λ q j n i h. changed_holds q j h;
+    stays = λ j i. record { opened = i.0; within = λ c. (λ w. w, λ w. w) };
   }
 
   pub changed_affords : Affords (around told x) (around told changed)
@@ -58,7 +58,7 @@ module _ {V : Type 0} (told : V → DeviceTold) (ends : V → Exit → Bool → 
         places = λ r h. order.places r (had r h);
         opened = λ r f m. ⊎_elim
             (λ i. order.opened r f i)
-            (λ i. let f_is : f ≡ e = ap (λ t. t.1) i in (ap (λ z. (told z).is_open) f_is ∙ open' ∙ o.0, ap (λ z. (told z).place.mode) f_is ∙ ap (λ z. z.mode) same.place ∙ o.1))
+            (λ i. let f_is : f ≡ e = ap (λ t. t.1) i in ap (λ z. (told z).is_open) f_is ∙ open' ∙ o)
             (with_among p e (r, f) x.tree.seat.opened m);
         bare = λ j r h. order.bare j r (had r h);
         waits = order.waits;

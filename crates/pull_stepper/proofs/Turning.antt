@@ -6,9 +6,10 @@ use Rattle.chunk_core.specs.declared.load.Load.{Load}
 use Rattle.chunk_core.specs.Outcomes.{exit_of}
 use Rattle.device_port.specs.Device.{DeviceTold}
 use Rattle.pull_turns.specs.Around.{Around, IsClosedWith}
-use Rattle.pull_turns.specs.Led.{ComesWithin, GoesOnFor, Turns, Uncons}
+use Rattle.pull_turns.specs.Led.{CanBeCut, ComesWithin, GoesOnFor, Turns, Uncons}
 use Rattle.pull_turns.specs.Moves.{how_of}
 use Rattle.pull_turns.specs.Piping.{StateMeaning}
+use Rattle.pull_turns.specs.Rest.{CanStep}
 use Rattle.pull_turns.specs.Sizes.{HasNoPipe, Sized, given, given_first}
 use Rattle.pull_turns.specs.Turned.{GoesOn, Moved, Spends, SpendsWithin}
 use Rattle.pull_turns.specs.declared.rest.Rest.{Rest}
@@ -16,8 +17,8 @@ use Rattle.pull_turns.specs.declared.runner.Unconsed.{Unconsed}
 use Rattle.pull_turns.specs.declared.runner.Unconsed.TheVariants.{Chunk, End, Again}
 use Rattle.pull_turns.specs.declared.turn.Turn.{Turn}
 use Rattle.pull_turns.specs.declared.turn.Turn.TheVariants as turn
-use Rattle.pull_turns.proofs.Led.{moved_tells}
-use Rattle.pull_stepper.specs.Sites.{Site, around}
+use Rattle.pull_turns.proofs.Led.{moved_tells, stays_open}
+use Rattle.pull_stepper.specs.Sites.{Site, around, told_at}
 use Rattle.pull_stepper.specs.Stepping.{Halts, IsOver, LeavesItRunning, Stepping, Steps, Unconses, Wants, stopped_by}
 
 -- a turn that goes on is no end
@@ -72,16 +73,17 @@ module _ {V F : Type 0} (P : StateMeaning F) (told : V → DeviceTold) (a b : St
       record { first = seen; sized = sized; spends = spends; leaves = leaves_by k u seen sound; chunk = chunk }
   unconses_by view x y k (Err e) is to first sized spends sound = tt
 
-module _ {V F : Type 0} (told : V → DeviceTold) (a b : Stepping V F) (root : (around told a.site).opened 0) where
+module _ {V F : Type 0} (P : StateMeaning F) (told : V → DeviceTold) (a b : Stepping V F) (can : CanStep P (around told a.site) 0 a.rest) where
   pub wants_by : {E : Type 0} (r : Result Turn E) → OnErr r ((b.wanting ≡ true) × (b.how ≡ None)) → OnErr r (SpendsWithin (around told a.site) (around told b.site) a.rest)
-      → OnErr r (Moved (around told a.site) (around told b.site) 0 a.rest) → OnErr r (Wants told a b)
-  wants_by (Ok t) wanting spent moved = tt
-  wants_by (Err e) wanting spent moved = record {
+      → OnErr r (Moved (around told a.site) (around told b.site) a.rest) → OnErr r (CanBeCut P (told_at told b.site) a.rest) → OnErr r (Wants P told a b)
+  wants_by (Ok t) wanting spent moved cut = tt
+  wants_by (Err e) wanting spent moved cut = record {
     memory = wanting.0;
     how = wanting.1;
-    root = moved.keeps.opened 0 (omega arith) root;
-    tells = moved_tells _ _ _ _ moved;
+    root = stays_open _ _ _ _ can.nested can.opened can.ready moved;
+    tells = moved_tells _ _ _ moved;
     spends = spent;
+    cut = cut;
   }
 
 exit_stopped : (b : Bool) → Canceled ≡ exit_of (stopped_by b)

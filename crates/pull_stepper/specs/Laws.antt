@@ -3,16 +3,19 @@ use Rattle.std.specs.Prelude.{ℕ, ◌+◌, Bool, length, refl}
 use Rattle.std.proofs.Common.{inl, inr, ◌∙◌, subst, sym, ⊎_elim}
 use Rattle.chunk_core.specs.declared.code.Exit.{Exit}
 use Rattle.device_port.specs.Device.{DeviceTold}
-use Rattle.pull_turns.specs.Around.{IsUntried}
+use Rattle.pull_turns.specs.Around.{IsNested, IsUntried}
+use Rattle.pull_turns.specs.Around.IsNested.{nesting}
+use Rattle.res_ledger.specs.Ledger.LiesWithin.{same}
 use Rattle.row_seat.specs.declared.view.View.{View}
 use Rattle.row_seat.specs.Views.{IsWithin}
+use Rattle.scope_tree.proofs.Keeps.{within_trans}
 use Rattle.tree_laws.specs.Called.Called.{none}
 use Rattle.tree_laws.proofs.Alone.{alone_same, alone_then}
 use Rattle.tree_laws.proofs.Follows.{called_then}
 use Rattle.pull_stepper.specs.declared.resources.Resources.{Resources}
 use Rattle.pull_stepper.specs.Held.{FinishesDevice}
 use Rattle.pull_stepper.specs.Resources.{Later, around_of, site}
-use Rattle.pull_stepper.specs.Sites.{Since, Site, pay_of, told_by}
+use Rattle.pull_stepper.specs.Sites.{Since, Site, around, pay_of, told_by}
 
 module _ {V : Type 0} (told : V → DeviceTold) (ends : V → Exit → Bool → V → Type 0) where
   pub since_same : (x : Site V) → Since told ends x x
@@ -39,6 +42,10 @@ module _ {V : Type 0} (told : V → DeviceTold) (ends : V → Exit → Bool → 
     same = λ p. let s = a.same p in let t = b.same p in record { number = t.number ∙ s.number; place = t.place ∙ s.place; present = t.present ∙ s.present; content = t.content ∙ s.content };
     taken = λ p e. b.taken p (a.taken p e);
   }
+
+-- what lies within a scope lies within all that that lies in
+pub around_nested : {V : Type 0} (told : V → DeviceTold) (x : Site V) → IsNested (around told x)
+around_nested told x = nesting (λ k. same k) (λ i j k w v. within_trans w v)
 
 -- a device that waits was never asked
 pub waits_untried : {S V D : Type 0} (view : S → View V) (told : V → DeviceTold) (o : Resources S V V D) (p : ℕ) → (around_of view told o).waits p → IsUntried ((around_of view told o).told p)

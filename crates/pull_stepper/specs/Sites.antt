@@ -4,6 +4,7 @@ use Rattle.chunk_core.specs.declared.code.Exit.{Exit}
 use Rattle.chunk_core.specs.Lists.{IsAmong}
 use Rattle.device_port.specs.Device.{DeviceTold}
 use Rattle.device_port.specs.declared.device.Mode.TheVariants as mode
+use Rattle.pull_nodes.specs.Runs.{IsUnwritten}
 use Rattle.pull_turns.specs.Around.{Around}
 use Rattle.res_ledger.specs.Ledger.{Covers, LiesWithin, Notes}
 use Rattle.res_ledger.specs.declared.event.What.TheVariants.{Close}
@@ -37,14 +38,14 @@ blank = record {
   close_faults = 0;
 }
 
--- a device for reading that nothing was done with
+-- a device that nothing was done with
 pub record IsUnused (d : DeviceTold) : Type 0 where
-  pub mode_is : d.place.mode ≡ mode.Read
   pub is_open : d.is_open ≡ false
   pub opens : d.opens ≡ 0
   pub closes : d.closes ≡ 0
   pub exit : d.exit ≡ None
   pub at : d.at ≡ 0
+  pub written : IsUnwritten d
   pub open_faults : d.open_faults ≡ 0
   pub read_faults : d.read_faults ≡ 0
   pub write_faults : d.write_faults ≡ 0
@@ -143,7 +144,7 @@ module _ {V : Type 0} where
     -- each place's device waits and its row is empty, or its row is open or ended; no row else is open, and no lease keeps an open one
     pub record InOrder (x : Site V) : Type 0 where
       pub places : (r : ℕ) → HasRow x.tree.seat.opened r → slot x r ≡ Some None
-      pub opened : (r : ℕ) (d : V) → IsAmong (r, d) x.tree.seat.opened → ((told d).is_open ≡ true) × ((told d).place.mode ≡ mode.Read)
+      pub opened : (r : ℕ) (d : V) → IsAmong (r, d) x.tree.seat.opened → (told d).is_open ≡ true
       pub bare : (j r : ℕ) → HasRow x.tree.seat.opened r → ¬ (Covers x.tree.seat.events j x.tree.seat.by r)
       pub waits : (p : ℕ) (d : V) → slot x p ≡ Some (Some d) → IsAmong p x.tree.seat.empty × IsUnopened (told d)
       pub gone : (p : ℕ) → slot x p ≡ Some None → HasRow x.tree.seat.opened p ⊎ HasEnded x.tree p

@@ -8,12 +8,14 @@ use Rattle.chunk_core.specs.declared.code.Span.{Span}
 use Rattle.chunk_core.specs.Lists.{IsAmong}
 use Rattle.chunk_core.specs.Outcomes.{exit_of}
 use Rattle.device_port.specs.Device.{DeviceTold}
+use Rattle.device_port.specs.declared.device.Mode.{Mode}
+use Rattle.device_port.specs.declared.device.Mode.TheVariants as mode
 use Rattle.pull_nodes.specs.Kinds.{node_kind}
 use Rattle.pull_nodes.specs.Placed.{is_placed}
-use Rattle.pull_nodes.specs.Shape.{node_count, places_of, scope_count}
+use Rattle.pull_nodes.specs.Shape.{EachRead, EachWrite, node_count, places_of, scope_count}
 use Rattle.pull_nodes.specs.declared.node.Node.{Node}
 use Rattle.pull_turns.specs.Around.{Affords, IsClosedWith}
-use Rattle.pull_turns.specs.Led.{IsShut, TouchesOnly, Turns, Uncons}
+use Rattle.pull_turns.specs.Led.{CanBeCut, IsShut, TouchesOnly, Turns, Uncons}
 use Rattle.pull_turns.specs.Moves.{how_of}
 use Rattle.pull_turns.specs.Piping.{StateMeaning}
 use Rattle.pull_turns.specs.Rest.{CanStep}
@@ -34,7 +36,7 @@ use Rattle.std.specs.List.{IsDistinct}
 use Rattle.scope_tree.specs.Released.{said}
 use Rattle.scope_tree.specs.Words.{owed, words}
 use Rattle.pull_stepper.specs.Placing.{first_of}
-use Rattle.pull_stepper.specs.Sites.{IsUnused, Parted, Site, around, told_at}
+use Rattle.pull_stepper.specs.Sites.{IsUnused, Parted, Site, around, slot_of, told_at}
 
 -- its tree and devices, what is left of the node, the most bytes of a read, how it ended, and whether memory was wanting
 pub record Stepping (V F : Type 0) : Type 0 where
@@ -73,13 +75,20 @@ module _ {V : Type 0} where
     wanting = false;
   }
 
-  -- each place of the node has one device, which nothing was done with, and is acquired once and read once; each pipe takes what comes to it
+  -- the device of the place p, where the devices are those of the places from i on, is for this
+  abbrev pub IsFor : (V → DeviceTold) → ℕ → List V → Mode → ℕ → Type 0
+  IsFor told i devices m p = (d : V) → slot_of p i (map Some devices) ≡ Some (Some d) → (told d).place.mode ≡ m
+
+  -- each place of the node has one device, which nothing was done with and which is for what the node does there, and is acquired once and read or
+  -- written once; each pipe takes what comes to it
   pub record IsSupplied (told : V → DeviceTold) (n : Node) (devices : List V) : Type 0 where
     pub kind : IsSome (node_kind n)
     pub few : node_count n < 2 ^ 32
     pub placed : is_placed (span_of n (length devices)) n ≡ true
     pub count : length devices ≡ length (places_of n)
     pub unused : (d : V) → IsAmong d devices → IsUnused (told d)
+    pub reads : EachRead (IsFor told (first_of (places_of n)) devices mode.Read) n
+    pub writes : EachWrite (IsFor told (first_of (places_of n)) devices mode.Write) n
 
 -- how a run ends that is stopped
 abbrev pub stopped_by : Bool → How
@@ -116,6 +125,15 @@ module _ {V F : Type 0} (P : StateMeaning F) (told : V → DeviceTold) where
     pub leaves : LeavesItRunning u b
     pub chunk : b.chunk ≡ a.chunk
 
+  -- memory was wanting; it may only be halted, and what was left was left so
+  pub record Wants (a b : Stepping V F) : Type 0 where
+    pub memory : b.wanting ≡ true
+    pub how : b.how ≡ None
+    pub root : IsOpenScope b.site.tree 0
+    pub tells : TouchesOnly (told_at told a.site) (told_at told b.site) a.rest
+    pub spends : SpendsWithin (around told a.site) (around told b.site) a.rest
+    pub cut : CanBeCut P (told_at told b.site) a.rest
+
 module _ {V F : Type 0} (told : V → DeviceTold) where
   -- it has ended, and each scope and each device is closed, the root with the exit of its end
   pub record IsOver (a : Stepping V F) : Type 0 where
@@ -123,14 +141,6 @@ module _ {V F : Type 0} (told : V → DeviceTold) where
     pub ended : a.how ≡ Some how
     pub shut : IsShut (around told a.site)
     pub exit : IsClosedWith (around told a.site) 0 (exit_of how)
-
-  -- memory was wanting; it may only be halted
-  pub record Wants (a b : Stepping V F) : Type 0 where
-    pub memory : b.wanting ≡ true
-    pub how : b.how ≡ None
-    pub root : IsOpenScope b.site.tree 0
-    pub tells : TouchesOnly (told_at told a.site) (told_at told b.site) a.rest
-    pub spends : SpendsWithin (around told a.site) (around told b.site) a.rest
 
   -- it was stopped, and the root was closed as canceled
   pub record Halts (a b : Stepping V F) : Type 0 where

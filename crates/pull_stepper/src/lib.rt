@@ -1,8 +1,9 @@
 //! A node that is run over a tree of scopes and its devices, turn by turn.
 //!
 //! `Stepper::new` takes a node, a tree of which only the root is open, and a device for each place;
-//! where memory is wanting it gives tree and devices back (`Unmade`). `turn` does one thing, and
-//! `uncons` makes turns until elements or the end come (`Unconsed`); a fault is an end. Where one of
+//! where memory is wanting it gives tree and devices back (`Unmade`). `turn` does one thing, over the
+//! tables in which pipes look up, and `uncons` makes turns until elements or the end come (`Unconsed`);
+//! a fault is an end. Where one of
 //! them answers `AllocError` the run may only be halted. `halt` closes all that is open, as
 //! canceled. `how` tells how the run ended, and `end` takes it apart: the tree, with the devices
 //! that were acquired on its shelf, and those that were never opened (`Ended`). `Held` is a device
@@ -15,7 +16,7 @@
 //! ```
 //! let mut quiet = 0;
 //! for _ask in 0..pace.asks {
-//!     match stepper.uncons(desk, pace.turns)? {
+//!     match stepper.uncons(tables, desk, pace.turns)? {
 //!         Unconsed::Chunk(load) => out.push(load)?,
 //!         Unconsed::End(_) => return Ok(quiet),
 //!         Unconsed::Again => quiet += 1,
@@ -27,7 +28,7 @@
 //! ```
 //! let mut stepper = Stepper::<S, V, F>::new(alloc, node, tree, devices, pace.chunk)?;
 //! let mut loads = Vec::new(alloc);
-//! let quiet = gather(&mut stepper, desk, &mut loads, pace);
+//! let quiet = gather(&mut stepper, tables, desk, &mut loads, pace);
 //! close(&mut stepper, desk);
 //! Ok(Whole {
 //!     loads,

@@ -13,8 +13,11 @@ pub(crate) fn first_place(node: &Node) -> Option<u32>
     match node {
         Node::Nil | Node::Emit(_) | Node::Raise(_) | Node::Read(_) => None,
         Node::Weak(place, a) => lesser(Some(*place), first_place(a)),
-        Node::Scope(a) | Node::Through(a, _) | Node::Take(_, a) => first_place(a),
-        Node::Append(a, b) | Node::OnFault(a, b) => lesser(first_place(a), first_place(b)),
+        Node::Scope(a) | Node::Take(_, a) | Node::Into(_, a) => first_place(a),
+        Node::Through(a, _) => first_place(a),
+        Node::Append(a, b) | Node::OnFault(a, b) | Node::Zip(a, b) | Node::Merge(a, b) => {
+            lesser(first_place(a), first_place(b))
+        }
     }
 }
 

@@ -15,8 +15,8 @@ pub struct Resources<S: RowSeat, V> {
 }
 
 impl<V: Device, S: RowSeat<Pay = Held<V>>> Outside for Resources<S, V> {
-    ghost use Rattle.pull_stepper.specs.Laws.{later_same, later_then, waits_untried};
-    ghost use Rattle.pull_stepper.specs.Resources.{Later, AreInOrder, around_of};
+    ghost use Rattle.pull_stepper.specs.Laws.{around_nested, later_same, later_then, waits_untried};
+    ghost use Rattle.pull_stepper.specs.Resources.{Later, AreInOrder, around_of, site};
 
     type Desk = S::Desk;
 
@@ -27,6 +27,8 @@ impl<V: Device, S: RowSeat<Pay = Held<V>>> Outside for Resources<S, V> {
     ghost since = { Later S.view V.told S.fits };
 
     ghost held = { λ o d f. f.held };
+
+    ghost nested = { λ o d f. around_nested V.told (site S.view o) };
 
     ghost untried = { λ o d f p w. waits_untried S.view V.told o p w };
 
@@ -49,6 +51,10 @@ impl<V: Device, S: RowSeat<Pay = Held<V>>> Outside for Resources<S, V> {
 
     fn read(&mut self, _desk: &mut S::Desk, place: u32, buf: &mut [u8]) -> Result<usize, Failed> {
         self.tree.pay_mut(place).device_mut().read(buf)
+    }
+
+    fn write(&mut self, _desk: &mut S::Desk, place: u32, bytes: &[u8]) -> Result<usize, Failed> {
+        self.tree.pay_mut(place).device_mut().write(bytes)
     }
 
     fn enter(&mut self, desk: &mut S::Desk, at: u32) -> u32 {

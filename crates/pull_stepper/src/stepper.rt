@@ -1,12 +1,14 @@
 //! A node that is run over a tree of scopes and its devices.
 ghost use Rattle.std.specs.Prelude.{◌≡◌, ◌≤◌, None, IfErr, IfOk, OnErr};
+ghost use Rattle.chunk_core.specs.Tables.{Values};
+ghost use Rattle.pull_turns.specs.Led.{CanBeCut};
 ghost use Rattle.pull_turns.specs.Piping.{standing};
 ghost use Rattle.pull_turns.specs.Work.{Lessens};
 ghost use Rattle.row_seat.specs.Views.{OthersFit};
 ghost use Rattle.scope_tree.specs.Calls.{IsOpenScope};
 ghost use Rattle.scope_tree.specs.Trees.{Fits, IsConsistent, seen};
 ghost use Rattle.pull_stepper.specs.Held.{FinishesDevice};
-ghost use Rattle.pull_stepper.specs.Sites.{Since};
+ghost use Rattle.pull_stepper.specs.Sites.{Since, told_at};
 
 use crate::held::Held;
 use crate::places::{first_place, from_slots, to_slots};
@@ -60,7 +62,7 @@ impl<V: Device, S: RowSeat<Pay = Held<V>>, F: PipeState> Stepper<S, V, F> {
         requires room { HasRoomFor (seen S.view tree) node }
         requires chunk { 1 ≤ chunk }
         ensures begun { IfOk result (λ s. stepping S.view s ≡ begun node (seen S.view tree) devices chunk) }
-        ensures can { IfOk result (λ s. CanGo (standing F.stands F.comes) V.told (stepping S.view s)) }
+        ensures can { IfOk result (λ s. (t : Values) → CanGo (standing F.stands F.comes t) V.told (stepping S.view s)) }
         ensures fits { IfOk result (λ s. (d : S.Desk) → Fits S.view S.fits tree d → Works S.view V.told S.fits s d) }
         ensures unmade { IfErr result (λ u. (u.tree ≡ tree) × (u.devices ≡ devices)) }
     {
@@ -78,31 +80,36 @@ impl<V: Device, S: RowSeat<Pay = Held<V>>, F: PipeState> Stepper<S, V, F> {
     }
 
     /// Makes one turn. At the end each scope is closed, and each device.
-    pub fn turn(&mut self, desk: &mut S::Desk) -> Result<Turn, AllocError>
+    pub fn turn(&mut self, tables: &F::Tables, desk: &mut S::Desk) -> Result<Turn, AllocError>
         requires fits { Works S.view V.told S.fits self.old desk.old }
-        requires can { CanGo (standing F.stands F.comes) V.told (stepping S.view self.old) }
-        ensures steps { IfOk result (λ t. Steps (standing F.stands F.comes) V.told (stepping S.view self.old) (stepping S.view self.new) t) }
+        requires can { CanGo (standing F.stands F.comes (F.values tables.now)) V.told (stepping S.view self.old) }
+        ensures steps { IfOk result (λ t. Steps (standing F.stands F.comes (F.values tables.now)) V.told (stepping S.view self.old) (stepping S.view self.new) t) }
         ensures work { IfOk result (λ t. Lessens F.due (stepping S.view self.old).rest (stepping S.view self.new).rest t) }
-        ensures wants { OnErr result (Wants V.told (stepping S.view self.old) (stepping S.view self.new)) }
+        ensures wants { OnErr result (Wants (standing F.stands F.comes (F.values tables.now)) V.told (stepping S.view self.old) (stepping S.view self.new)) }
         ensures fits { Works S.view V.told S.fits self.new desk.new }
         ensures since { Since V.told (FinishesDevice V.told) (stepping S.view self.old).site (stepping S.view self.new).site }
         ensures others { OthersFit S.view S.fits (stepping S.view self.old).site.tree.seat.by desk.old desk.new }
     {
-        self.runner.turn(desk)
+        self.runner.turn(tables, desk)
     }
 
     /// Makes turns until one gives elements or the end, but not more than `turns`.
-    pub fn uncons(&mut self, desk: &mut S::Desk, turns: u64) -> Result<Unconsed, AllocError>
+    pub fn uncons(
+        &mut self,
+        tables: &F::Tables,
+        desk: &mut S::Desk,
+        turns: u64,
+    ) -> Result<Unconsed, AllocError>
         requires fits { Works S.view V.told S.fits self.old desk.old }
-        requires can { CanGo (standing F.stands F.comes) V.told (stepping S.view self.old) }
+        requires can { CanGo (standing F.stands F.comes (F.values tables.now)) V.told (stepping S.view self.old) }
         requires turns { 1 ≤ turns }
-        ensures first { IfOk result (λ u. Unconses (standing F.stands F.comes) V.told turns (stepping S.view self.old) (stepping S.view self.new) u) }
-        ensures wants { OnErr result (Wants V.told (stepping S.view self.old) (stepping S.view self.new)) }
+        ensures first { IfOk result (λ u. Unconses (standing F.stands F.comes (F.values tables.now)) V.told turns (stepping S.view self.old) (stepping S.view self.new) u) }
+        ensures wants { OnErr result (Wants (standing F.stands F.comes (F.values tables.now)) V.told (stepping S.view self.old) (stepping S.view self.new)) }
         ensures fits { Works S.view V.told S.fits self.new desk.new }
         ensures since { Since V.told (FinishesDevice V.told) (stepping S.view self.old).site (stepping S.view self.new).site }
         ensures others { OthersFit S.view S.fits (stepping S.view self.old).site.tree.seat.by desk.old desk.new }
     {
-        self.runner.uncons(desk, turns)
+        self.runner.uncons(tables, desk, turns)
     }
 
     /// How it has ended, where it has.
@@ -118,6 +125,7 @@ impl<V: Device, S: RowSeat<Pay = Held<V>>, F: PipeState> Stepper<S, V, F> {
         requires runs { (stepping S.view self.old).how ≡ None }
         requires root { IsOpenScope (stepping S.view self.old).site.tree 0 }
         ensures halts { Halts V.told (stepping S.view self.old) (stepping S.view self.new) }
+        ensures cut { (t : Values) → CanGo (standing F.stands F.comes t) V.told (stepping S.view self.old) → CanBeCut (standing F.stands F.comes t) (told_at V.told (stepping S.view self.new).site) (stepping S.view self.old).rest }
         ensures fits { Works S.view V.told S.fits self.new desk.new }
         ensures since { Since V.told (FinishesDevice V.told) (stepping S.view self.old).site (stepping S.view self.new).site }
         ensures others { OthersFit S.view S.fits (stepping S.view self.old).site.tree.seat.by desk.old desk.new }

@@ -8,13 +8,13 @@ use Rattle.chunk_core.specs.Elements.{Element, LoadKind, elements, kind_of}
 use Rattle.chunk_core.specs.Feed.{Finishes, IsSound, Meaning}
 use Rattle.chunk_core.specs.Outcomes.{Done, Fault}
 use Rattle.pull_nodes.specs.Laws.{IsNoDeviceFault}
-use Rattle.pull_nodes.specs.Runs.{end_by_fault}
 use Rattle.pull_nodes.proofs.OwnFaults.{own_faults}
 use Rattle.pull_turns.specs.Around.{Around}
 use Rattle.pull_turns.specs.Groups.{HasNoGroups}
 use Rattle.pull_turns.specs.Moves.{load_or_quiet}
 use Rattle.pull_turns.specs.Passing.{PipeGaveMore, Passes, after_fed, after_pipe, load_or_fault, same_or_faulty, turn_of_fed}
-use Rattle.pull_turns.specs.Piping.{Exactly, HasKind, PipedOn, PipesFit, StateMeaning}
+use Rattle.pull_nodes.specs.Runs.{Exactly, end_by_fault}
+use Rattle.pull_turns.specs.Piping.{HasKind, PipedOn, PipesFit, StateMeaning}
 use Rattle.pull_turns.specs.Rest.{IsRunOfRest}
 use Rattle.pull_turns.specs.Turned.{Leads, Turned}
 use Rattle.pull_turns.specs.declared.piping.After.{After}
@@ -62,12 +62,12 @@ module _ {F : Type 0} (P : StateMeaning F) (sound : (q : F) → IsSound (P.stand
   ]
 
   end_own : IsNoDeviceFault (fit.1.1.all fit.1.2).fault
-  end_own = (own_faults fit.1.0 fit.1.1 fit.1.3 fit.1.2).1
+  end_own = (own_faults P.values fit.1.0 fit.1.1 fit.1.3 fit.1.2).1
 
   out_step : (o : Load) → Answered (fed.Out o) → (k : ℕ) → length (elements o) ≡ k → Turned P a b s n (Through' p x q) (Finishing r) (load_or_quiet k o)
   out_step o f zero e = absurd (let g = f fit.1.1 fit.1.2 fit.1.4 in let some : 0 < length (elements o) = g.given.1 in omega (arith, e, some))
   out_step o f (suc k) e =
-      whole P sound a b s n p p' x new q r fit plain still (Finishing r) turn.Done (turn.Chunk o) h (λ k i. absurd i) (omega arith) (omega arith) (omega arith) (λ i. tt)
+      whole P sound a b s n p p' x new q r fit plain still (Finishing r) turn.Done (turn.Chunk o) h (λ i. tt) (λ k i. absurd i) (omega arith) (omega arith) (omega arith) (λ i. tt) (λ i c j. absurd j)
       (λ i. let g = f fit.1.1 fit.1.2 fit.1.4 in (fit.1.1.gives, g.given.2, (fit.1.1.all fit.1.2).fault, g.given.4, end_own))
       (out_kinds o f) (λ i. inl (omega arith)) (cause_none a.told b.told _ _ (chunk_goes_on o)) (
         omega (arith, e),
@@ -79,7 +79,7 @@ module _ {F : Type 0} (P : StateMeaning F) (sound : (q : F) → IsSound (P.stand
                     at_end m xs (IsRunOfRest P w x) (elements o ++ zs) g2 (sound q m xs st) (h.gave w (ends_over P sound a b s n p p' x new q r fit plain still w (Finishing r) (λ i j. j) d))
                     (ap (λ us. (m.part xs).list ++ (elements o ++ us)) i.0 ∙ whole_list (m.part xs).list (m.all xs).list g.rest (elements o) g.given.2 g.whole g.given.3) i.1;
               } in
-              (by_left to (g.given.2, end_by_fault (m.all xs).fault Done, (refl, refl))).gives ys end (run m.gives g.given.2 (m.all xs).fault g.given.4);
+              (by_left to (λ i. (g.given.2, end_by_fault (m.all xs).fault Done, (refl, refl)))).gives ys end (run m.gives g.given.2 (m.all xs).fault g.given.4);
         },
       )
 
@@ -96,12 +96,12 @@ module _ {F : Type 0} (P : StateMeaning F) (sound : (q : F) → IsSound (P.stand
   failed_step : (o : Load) (c : Code) → Answered (fed.Fault o c) → (k : ℕ) → length (elements o) ≡ k
       → Turned P a b s n (Through' p x q) (after_pipe (same_or_faulty k c) (Through' p' new r)) (load_or_fault k o c)
   failed_step o c f zero e =
-      same P sound a b s n p p' x new q r fit plain still turn.Done (turn.Fault c) r h (λ i. absurd i) (λ i. absurd i) (λ k i. tt) (own_cause a.told b.told x c (fault_own o c f))
+      same P sound a b s n p p' x new q r fit plain still turn.Done (turn.Fault c) r h (λ i. absurd i) (λ i. tt) (λ i. absurd i) (λ k i. tt) (own_cause a.told b.told x c (fault_own o c f))
       (λ w d m xs st k.
       let list : (m.part xs).list ++ [] ≡ (m.all xs).list = ap (λ us. (m.part xs).list ++ us) (sym (no_length (elements o) e)) ∙ last_list o c f m xs st in
       inl (at_end m xs (IsRunOfRest P w x) [] (Fault c) (sound q m xs st) (h.gave w (over_below P sound a b s n p p' x new q r fit plain still w d)) list (last_fault o c f m xs st)))
   failed_step o c f (suc k) e =
-      whole P sound a b s n p p' x new q r fit plain still (Faulty c) turn.Done (turn.Chunk o) h (λ k i. absurd i) (omega arith) (omega arith) (omega arith) (λ i. tt) (λ i. fault_own o c f)
+      whole P sound a b s n p p' x new q r fit plain still (Faulty c) turn.Done (turn.Chunk o) h (λ i. tt) (λ k i. absurd i) (omega arith) (omega arith) (omega arith) (λ i. tt) (λ i d j. absurd j) (λ i. fault_own o c f)
       (λ k i. (fault_kinds o c f (omega (arith, e)) k i, tt)) (λ i. inl (omega arith)) (cause_none a.told b.told _ _ (chunk_goes_on o)) (
         omega (arith, e),
         λ w d. record {
@@ -111,13 +111,13 @@ module _ {F : Type 0} (P : StateMeaning F) (sound : (q : F) → IsSound (P.stand
                     at_end m xs (IsRunOfRest P w x) (elements o ++ zs) g (sound q m xs st) (h.gave w (ends_over P sound a b s n p p' x new q r fit plain still w (Faulty c) (λ i j. j) d))
                     (ap (λ us. (m.part xs).list ++ (elements o ++ us)) i.0 ∙ (ap (λ us. (m.part xs).list ++ us) (append-nil (elements o)) ∙ last_list o c f m xs st)) (i.1 ∙ last_fault o c f m xs st);
               } in
-              (by_left to ([], Fault c, (refl, refl))).gives ys end run;
+              (by_left to (λ i. ([], Fault c, (refl, refl)))).gives ys end run;
         },
       )
 
   end_step : Answered fed.End → Turned P a b s n (Through' p x q) (Through' p' new r) turn.Done
   end_step f =
-      same P sound a b s n p p' x new q r fit plain still turn.Done turn.Done r h (λ i. i) (λ i. absurd i) (λ k i. tt) (cause_none a.told b.told _ _ done_is_no_fault)
+      same P sound a b s n p p' x new q r fit plain still turn.Done turn.Done r h (λ i. i) (λ i. i) (λ i. absurd i) (λ k i. tt) (cause_none a.told b.told _ _ done_is_no_fault)
       (λ w d m xs st k.
       let g = f m xs st in
       let list : (m.part xs).list ++ [] ≡ (m.all xs).list = ap (λ us. (m.part xs).list ++ us) (sym g.given.0) ∙ g.whole in

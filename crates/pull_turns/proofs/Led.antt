@@ -8,21 +8,22 @@ use Rattle.chunk_core.specs.declared.load.Load.{Load}
 use Rattle.chunk_core.specs.Elements.{Element, LoadKind, elements}
 use Rattle.chunk_core.specs.Outcomes.{Cut, Done, End, Fault}
 use Rattle.device_port.specs.Device.{DeviceTold}
-use Rattle.pull_turns.specs.Around.{Affords, Around, OpenAreHeld, LeavesScope, gist}
+use Rattle.pull_turns.specs.Around.{Affords, Around, IsNested, OpenAreHeld, LeavesScope, WritesNothing, gist}
 use Rattle.pull_turns.specs.Groups.{Grouped}
 use Rattle.pull_turns.specs.Piping.{StateMeaning, HasKind}
-use Rattle.pull_turns.specs.Rest.{IsRunOfRest, IsLive, CanStep}
+use Rattle.pull_turns.specs.Rest.{IsRunOfRest, IsLive, IsReady, CanStep}
 use Rattle.pull_turns.specs.Turned.{Leads, TellsAtEnd, Over, Moved, Turned, Gave, GoesOn, Spends}
 use Rattle.pull_turns.specs.Moves.{LeavesAtEnd}
 use Rattle.pull_turns.specs.Scoped.{ClosesAtEnd, Scoped}
-use Rattle.pull_turns.specs.Led.{GoesOnFor, IsShut, Led, TouchesOnly, Turns, loads_of}
+use Rattle.pull_turns.specs.Led.{CanBeCut, GoesOnFor, IsShut, Led, TouchesOnly, Turns, loads_of}
 use Rattle.pull_turns.specs.declared.rest.Rest.{Rest}
 use Rattle.pull_turns.specs.declared.turn.Turn.{Turn}
 use Rattle.pull_turns.specs.declared.turn.Turn.TheVariants as turn
-use Rattle.pull_turns.proofs.Leads.{can_stop}
-use Rattle.pull_turns.proofs.Kept.{goes_same, goes_on, goes_gist}
+use Rattle.pull_turns.proofs.Leads.{can_stop, left_earlier}
+use Rattle.pull_turns.proofs.Kept.{goes_same, goes_on, goes_gist, own_spared}
 use Rattle.pull_turns.proofs.Scoped.{scoped_on}
 use Rattle.pull_turns.proofs.Turns.{by_three, once_on, cause_on}
+use Rattle.pull_turns.proofs.Unwritten.{writes_no_more, writes_same, writes_then}
 
 closed_by : (x : Bool) → (x ≡ true → ⊥) → x ≡ false
 closed_by true never = absurd (never refl)
@@ -43,14 +44,19 @@ tells_on a b c start old l h i = record {
   others = λ p n. i.others p (λ j. n (l p j)) ∙ h.others p n;
 }
 
-pub moved_tells : {F : Type 0} (a b : Around) (s : ℕ) (r : Rest F) → Moved a b s r → TouchesOnly a.told b.told r
-moved_tells a b s r m = record { goes = m.goes; others = m.keeps.told }
+pub moved_tells : {F : Type 0} (a b : Around) (r : Rest F) → Moved a b r → TouchesOnly a.told b.told r
+moved_tells a b r m = record { goes = m.goes; others = m.keeps.told }
 
-can_on : {F : Type 0} (P : StateMeaning F) (a b : Around) (n : ℕ) (old new : Rest F) (t : Turn) → CanStep P a 0 old → Turned P a b 0 n old new t → GoesOn t → CanStep P b 0 new
-can_on P a b n old new t c h g = record {
+-- the scope in which it runs stays open
+pub stays_open : {F : Type 0} (a b : Around) (s : ℕ) (r : Rest F) → IsNested a → a.opened s → IsReady a s r → Moved a b r → b.opened s
+stays_open a b s r nested o h m = (m.keeps.stays s (own_spared a nested s r o h)).opened
+
+can_on : {F : Type 0} (P : StateMeaning F) (a b : Around) (n : ℕ) (old new : Rest F) (t : Turn) → IsNested b → CanStep P a 0 old → Turned P a b 0 n old new t → GoesOn t → CanStep P b 0 new
+can_on P a b n old new t nested c h g = record {
   ready = h.ready g;
   pipes = h.pipes g;
-  opened = h.moved.keeps.opened 0 (omega arith) c.opened;
+  nested = nested;
+  opened = stays_open a b 0 old c.nested c.opened c.ready h.moved;
   events = omega (arith, c.events, h.spends.events);
   scopes = omega (arith, c.scopes, h.spends.scopes);
   rows = omega (arith, c.rows, h.spends.rows);
@@ -66,15 +72,16 @@ spends_then a b c old mid new h i = record { events = omega (arith, h.events, i.
 pub spends_none : {F : Type 0} (a : Around) (r : Rest F) → Spends a a r r
 spends_none a r = record { events = omega arith; scopes = omega arith; rows = omega arith }
 
-module _ {F : Type 0} (P : StateMeaning F) {O : Type 0} (seen : O → Around) (a : Around) (y z : O) (n : ℕ) (old new : Rest F) (c : CanStep P a 0 old) (tidy : OpenAreHeld (seen z)) where
+module _ {F : Type 0} (P : StateMeaning F) {O : Type 0} (seen : O → Around) (a : Around) (y z : O) (n : ℕ) (old new : Rest F) (c : CanStep P a 0 old) (tidy : OpenAreHeld (seen z)) (nested : IsNested (seen z)) where
   runs : (t : Turn) → z ≡ y → GoesOn t → ClosesAtEnd (seen y) 0 t → Grouped old new t → Scoped P a (seen y) 0 old new t → Turned P a (seen y) 0 n old new t → Turns P a (seen z) n old new t
   runs t e g k q r h = subst (λ (o : O). Turns P a (seen o) n old new t) (sym e) (record {
-    tells = moved_tells a (seen y) 0 old h.moved;
+    tells = moved_tells a (seen y) old h.moved;
     once = h.once;
+    writes = h.writes;
     live = h.live;
     fewer = h.fewer;
     spends = h.spends;
-    can = can_on P a (seen y) n old new t c h;
+    can = can_on P a (seen y) n old new t (subst (λ (o : O). IsNested (seen o)) e nested) c h;
     shut = λ i. absurd (i g);
     closed = k;
     scoped = r;
@@ -86,7 +93,7 @@ module _ {F : Type 0} (P : StateMeaning F) {O : Type 0} (seen : O → Around) (a
   })
 
   still_open : (t : Turn) → Turned P a (seen y) 0 n old new t → (seen y).opened 0
-  still_open t h = h.moved.keeps.opened 0 (omega arith) c.opened
+  still_open t h = stays_open a (seen y) 0 old c.nested c.opened c.ready h.moved
 
   over_before : (x : Exit) → LeavesScope (seen y) 0 x (seen z) → (w : ℕ → DeviceTold) → Over (seen z).told w old → Over (seen y).told w old
   over_before x l w o = record {
@@ -96,8 +103,9 @@ module _ {F : Type 0} (P : StateMeaning F) {O : Type 0} (seen : O → Around) (a
 
   ends : (t : Turn) (x : Exit) → (GoesOn t → ⊥) → LeavesScope (seen y) 0 x (seen z) → ClosesAtEnd (seen z) 0 t → Grouped old new t → Scoped P a (seen z) 0 old new t → Turned P a (seen y) 0 n old new t → Gave P (seen z).told old new t → Turns P a (seen z) n old new t
   ends t x never e k q r h g = record {
-    tells = tells_on a.told (seen y).told (seen z).told old old (λ p i. i) (moved_tells a (seen y) 0 old h.moved) (tells_gist (seen y).told (seen z).told old e.told);
+    tells = tells_on a.told (seen y).told (seen z).told old old (λ p i. i) (moved_tells a (seen y) old h.moved) (tells_gist (seen y).told (seen z).told old e.told);
     once = once_on a.told (seen y).told (seen z).told n h.once e.told;
+    writes = λ i k. writes_then (a.told k) ((seen y).told k) ((seen z).told k) (h.writes i k) (writes_same ((seen y).told k) ((seen z).told k) (e.told k));
     live = h.live;
     fewer = h.fewer;
     spends = spends_on a (seen y) (seen z) old new h.spends e.affords;
@@ -184,5 +192,19 @@ goes_on_more P seen n k a b c start old new ls more t h i g e = rw add-one (b, o
 pub over_now : {F : Type 0} (now : ℕ → DeviceTold) (r : Rest F) → Over now now r
 over_now now r = record { over = λ p l. refl; goes = λ p. goes_same (now p) }
 
-pub led_cut : {F : Type 0} (P : StateMeaning F) (first now : ℕ → DeviceTold) (start old : Rest F) (xs : List Element) → Led P first now start old xs → IsRunOfRest P now start xs Cut
-led_cut P first now start old xs h = led_ends P first now now start old xs Cut h (tells_same now old) (λ w o. can_stop P w old) now (over_now now start)
+-- where nothing was written since, what was left may be left
+pub cut_unwritten : {F : Type 0} (P : StateMeaning F) (before now : Around) (s : ℕ) (old : Rest F) → CanStep P before s old → WritesNothing before.told now.told → CanBeCut P now.told old
+cut_unwritten P before now s old can none w o =
+    can_stop P w old (writes_no_more before w s old can.ready (λ p i. writes_then (before.told p) (now.told p) (w p) (none p) (writes_same (now.told p) (w p) (o.over p i))))
+
+-- after turns that gave xs, what was left before them may be left with nothing
+pub led_short : {F : Type 0} (P : StateMeaning F) (before now : Around) (s : ℕ) (start rest : Rest F) (xs : List Element) → CanStep P now s rest → Led P before.told now.told start rest xs → CanBeCut P now.told start
+led_short P before now s start rest xs can led w o =
+    let ends : TellsAtEnd now.told w start rest = record { over = λ p i n. o.over p i; goes = o.goes } in
+    let below = cut_unwritten P now now s rest can (λ p. (refl, refl)) w (record { over = λ p i. o.over p (led.live p i); goes = o.goes }) in
+    left_earlier P w start [] (xs ++ []) Cut ((led.lead w ends).gives [] Cut below)
+
+-- the same after turns, none of which was the end
+pub led_cut : {F : Type 0} (P : StateMeaning F) (first before now : Around) (start old : Rest F) (xs : List Element) → Led P first.told before.told start old xs → TouchesOnly before.told now.told old → CanBeCut P now.told old
+    → (w : ℕ → DeviceTold) → Over now.told w start → IsRunOfRest P w start xs Cut
+led_cut P first before now start old xs h k f = led_ends P first.told before.told now.told start old xs Cut h k f

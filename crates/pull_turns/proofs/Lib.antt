@@ -1,6 +1,13 @@
 pub mod Leads
+pub mod Unwritten
+pub mod Written
 pub mod Lists
 pub mod Kept
+pub mod Apart
+pub mod Zips
+pub mod Zipping
+pub mod Merges
+pub mod Merging
 pub mod NodeKinds
 pub mod Turns
 pub mod Entering
@@ -13,6 +20,8 @@ pub mod Steps
 pub mod Grouping
 pub mod Grouped
 pub mod Scoped
+pub mod Into
+pub mod Writes
 pub mod Excluded
 pub mod Led
 pub mod Work

@@ -16,9 +16,9 @@ use Rattle.pull_turns.specs.Around.{Around}
 use Rattle.pull_turns.specs.Groups.{HasNoGroups}
 use Rattle.pull_turns.specs.Moves.{load_or_quiet}
 use Rattle.pull_turns.specs.Passing.{IsFed, after_fed, after_pipe, load_or_fault, same_or_faulty, turn_of_fed}
-use Rattle.pull_turns.specs.Piping.{HasKind, PipedOn, PipesFit, StateMeaning}
+use Rattle.pull_turns.specs.Piping.{CanPass, HasKind, PipeStands, PipedOn, PipesFit, StateMeaning}
 use Rattle.pull_turns.specs.Rest.{IsLive, IsReady, IsRunOfRest, left, rows_left, scopes_left}
-use Rattle.pull_turns.specs.Turned.{TellsAtEnd, Gave, GivesKind, GoesOn, HasCause, TurnIsCaused, Over, Turned}
+use Rattle.pull_turns.specs.Turned.{OwnScopes, TellsAtEnd, Gave, GivesKind, GoesOn, HasCause, IsLoadOrDone, Moved, TurnIsCaused, Over, Turned}
 use Rattle.pull_turns.specs.Turned.HasFinished.{through}
 use Rattle.pull_turns.specs.declared.piping.After.{After}
 use Rattle.pull_turns.specs.declared.piping.After.TheVariants as after
@@ -29,6 +29,7 @@ use Rattle.pull_turns.specs.declared.turn.Turn.TheVariants as turn
 use Rattle.pull_turns.proofs.Leads.{by_left, can_stop}
 use Rattle.pull_turns.proofs.Lists.{no_length}
 use Rattle.pull_turns.proofs.Piped.{at_fault, fault_fed, load_fed, none_fed, nothing_fed, some_piped}
+use Rattle.pull_turns.proofs.Unwritten.{writes_no_more, writes_same}
 use Rattle.pull_turns.proofs.Turns.{by_three, cause_none, cause_part, caused_part, one_of_three, chunk_goes_on, quiet_goes_on}
 
 -- a fault of a pipe is none of a device
@@ -36,24 +37,38 @@ pub own_cause : {F : Type 0} (a b : ℕ → DeviceTold) (r : Rest F) (c : Code) 
 own_cause a b r c h = record {
   open_fault = λ e. let i : Some c ≡ Some code.Open = cc in absurd (h.opening i);
   read_fault = λ e. let i : Some c ≡ Some code.Read = cc in absurd (h.reading i);
+  write_fault = λ e. let i : Some c ≡ Some code.Write = cc in absurd (h.writing i);
 }
 
 -- no load is of two kinds
 one_kind : (l : Load) → ((k : LoadKind) → kind_of l ≡ k) → ⊥
 one_kind l f = let a : kind_of l ≡ Bytes = f Bytes in let b : kind_of l ≡ Lines = f Lines in cc
 
+-- what was touched below a pipe
+pub below_moved : {F : Type 0} (a b : Around) (p : Box (Unit {0}) Global) (x : Rest F) (q : F) → Moved a b x → Moved a b (Through' p x q)
+below_moved a b p x q h = record { keeps = h.keeps; goes = h.goes }
+
+-- the pipe may get what came of a turn below it
+pub can_pass : {F : Type 0} (P : StateMeaning F) (a b : Around) (s n : ℕ) (x new : Rest F) (q : F) → PipeStands P q x → (t : Turn) → Turned P a b s n x new t → CanPass P q t
+can_pass P a b s n x new q fit (turn.Chunk l) h = (fit.1, fit.2, fit.4, sym (h.kinds fit.1.takes fit.5).0)
+can_pass P a b s n x new q fit turn.Quiet h = tt
+can_pass P a b s n x new q fit turn.Done h = inl (fit.1, fit.2, fit.4)
+can_pass P a b s n x new q fit (turn.Fault c) h = tt
+
 module _ {F : Type 0} (P : StateMeaning F) (sound : (q : F) → IsSound (P.stands q)) (a b : Around) (s n : ℕ) (p p' : Box (Unit {0}) Global) (x new : Rest F) (q r : F) (fit : PipesFit P (Through' p x q)) (plain : HasNoGroups x) (still : HasNoGroups new) where
   -- the pipe stays where it is, or stands alone
-  pub whole : (z : Rest F) (t u : Turn) → Turned P a b s n x new t → ((k : ℕ) → IsLive k z → IsLive k new) → left z ≤ left new + 1 → rows_left z ≤ rows_left new → scopes_left z ≤ scopes_left new
-      → (GoesOn u → IsReady b s z) → (GoesOn u → PipesFit P z) → ((k : LoadKind) → HasKind P k (Through' p x q) → GivesKind P k z u) → (GoesOn u → TurnIsCaused P a.told b.told (Through' p x q) z)
+  pub whole : (z : Rest F) (t u : Turn) → Turned P a b s n x new t → (IsLoadOrDone u → IsLoadOrDone t) → ((k : ℕ) → IsLive k z → IsLive k new) → left z ≤ left new + 1 → rows_left z ≤ rows_left new → scopes_left z ≤ scopes_left new
+      → (GoesOn u → IsReady b s z) → (GoesOn u → OwnScopes a b s x z) → (GoesOn u → PipesFit P z) → ((k : LoadKind) → HasKind P k (Through' p x q) → GivesKind P k z u) → (GoesOn u → TurnIsCaused P a.told b.told (Through' p x q) z)
       → HasCause a.told b.told x u → Gave P b.told (Through' p x q) z u → Turned P a b s n (Through' p x q) z u
-  whole z t u h live fewer rows scopes ready pipes kinds caused cause gave = record {
-    moved = record { keeps = h.moved.keeps; goes = h.moved.goes };
+  whole z t u h gives live fewer rows rooms ready scopes pipes kinds caused cause gave = record {
+    moved = below_moved a b p x q h.moved;
     once = h.once;
+    writes = λ i. h.writes (gives i);
     live = λ k i. h.live k (live k i);
     fewer = omega (arith, fewer, h.fewer);
-    spends = record { events = omega (arith, rows, scopes, h.spends.events); scopes = omega (arith, scopes, h.spends.scopes); rows = omega (arith, rows, h.spends.rows) };
+    spends = record { events = omega (arith, rows, rooms, h.spends.events); scopes = omega (arith, rooms, h.spends.scopes); rows = omega (arith, rows, h.spends.rows) };
     ready = ready;
+    scopes = scopes;
     pipes = pipes;
     kinds = kinds;
     caused = by_three P a.told b.told (Through' p x q) z u caused;
@@ -61,20 +76,14 @@ module _ {F : Type 0} (P : StateMeaning F) (sound : (q : F) → IsSound (P.stand
     gave = gave;
   }
 
-  pub same : (t u : Turn) (f : F) → Turned P a b s n x new t → (GoesOn u → GoesOn t) → (GoesOn u → PipesFit P (Through' p' new f)) → ((k : LoadKind) → HasKind P k (Through' p x q) → GivesKind P k (Through' p' new f) u)
+  pub same : (t u : Turn) (f : F) → Turned P a b s n x new t → (GoesOn u → GoesOn t) → (IsLoadOrDone u → IsLoadOrDone t) → (GoesOn u → PipesFit P (Through' p' new f)) → ((k : LoadKind) → HasKind P k (Through' p x q) → GivesKind P k (Through' p' new f) u)
       → HasCause a.told b.told x u → Gave P b.told (Through' p x q) (Through' p' new f) u → Turned P a b s n (Through' p x q) (Through' p' new f) u
-  same t u f h on pipes kinds cause gave =
-      whole (Through' p' new f) t u h (λ k i. i) (omega arith) (omega arith) (omega arith) (λ i. (h.ready (on i), still)) pipes kinds
+  same t u f h on gives pipes kinds cause gave =
+      whole (Through' p' new f) t u h gives (λ k i. i) (omega arith) (omega arith) (omega arith) (λ i. (h.ready (on i), still)) (λ i. h.scopes (on i)) pipes kinds
       (λ i. caused_part P a.told b.told x new (Through' p x q) (Through' p' new f) (λ l. omega (arith, l)) (λ k j. j) (λ e. through p p' x new q f e) (one_of_three P a.told b.told x new t plain h.caused (on i)))
       cause gave
 
   -- what is below is asked no more
-  pub ends_alone : (w : ℕ → DeviceTold) (z : Rest F) → ((k : ℕ) → IsLive k z → ⊥) → TellsAtEnd b.told w (Through' p x q) z → TellsAtEnd b.told w x new
-  ends_alone w z none e = record { over = λ k i never. e.over k i (none k); goes = e.goes }
-
-  over_ends : (w : ℕ → DeviceTold) → Over b.told w (Through' p x q) → TellsAtEnd b.told w x new
-  over_ends w o = record { over = λ k i never. o.over k i; goes = o.goes }
-
   pub over_below : (w : ℕ → DeviceTold) → Over b.told w (Through' p x q) → Over b.told w x
   over_below w o = record { over = o.over; goes = o.goes }
 
@@ -85,17 +94,17 @@ module _ {F : Type 0} (P : StateMeaning F) (sound : (q : F) → IsSound (P.stand
   ends_below w f e = record { over = e.over; goes = e.goes }
 
   pub quiet_step : Turned P a b s n x new turn.Quiet → Turned P a b s n (Through' p x q) (Through' p' new q) turn.Quiet
-  quiet_step h = same turn.Quiet turn.Quiet q h (λ i. i)
+  quiet_step h = same turn.Quiet turn.Quiet q h (λ i. i) (λ i. i)
       (λ i. (h.pipes tt, (fit.1.0, fit.1.1, fit.1.2, fit.1.3, fit.1.4, h.kinds fit.1.1.takes fit.1.5)))
       (λ k. elim [ inl i ↦ inl (i.0, i.1, i.2, h.kinds i.0.takes i.3, i.4) | inr i ↦ inr (λ j. h.kinds j (i.0 j), i.1) ])
       (cause_none a.told b.told _ _ quiet_goes_on)
       (λ w e. record {
         gives = λ ys g run m xs st k.
-            (by_left (none_fed m xs (IsRunOfRest P w new) (IsRunOfRest P w x) (h.gave w (ends_below w q e))) (some_piped m xs (IsRunOfRest P w new) (sound q m xs st) (can_stop P w new))).gives ys g (run m xs st (h.kinds m.takes k));
+            (by_left (none_fed m xs (IsRunOfRest P w new) (IsRunOfRest P w x) (h.gave w (ends_below w q e))) (λ i. some_piped m xs (IsRunOfRest P w new) (sound q m xs st) (can_stop P w new i))).gives ys g (run m xs st (h.kinds m.takes k));
       })
 
   pub fault_step : (c : Code) → Turned P a b s n x new (turn.Fault c) → Turned P a b s n (Through' p x q) (Through' p' new q) (turn.Fault c)
-  fault_step c h = same (turn.Fault c) (turn.Fault c) q h (λ i. i) (λ i. absurd i) (λ k i. tt) h.cause
+  fault_step c h = same (turn.Fault c) (turn.Fault c) q h (λ i. i) (λ i. i) (λ i. absurd i) (λ k i. tt) h.cause
       (λ w o m xs st k. inl (at_fault m xs (IsRunOfRest P w x) c (sound q m xs st) (h.gave w (over_below w o))))
 
   -- what is below gave a load, which the pipe was fed
@@ -104,8 +113,11 @@ module _ {F : Type 0} (P : StateMeaning F) (sound : (q : F) → IsSound (P.stand
     Answered answer = (m : Meaning) (xs : List Element) → P.stands q m xs → m.takes ≡ kind_of l → Feeds m xs (elements l) answer (P.stands r m)
 
     -- the load was all that came of what is below
-    stopped_below : (w : ℕ → DeviceTold) → TellsAtEnd b.told w x new → IsRunOfRest P w x (elements l) Cut
-    stopped_below w e = subst (λ zs. IsRunOfRest P w x zs Cut) (append-nil (elements l)) ((h.gave.1 w e).gives [] Cut (can_stop P w new))
+    stopped_below : (w : ℕ → DeviceTold) → Over b.told w x → IsRunOfRest P w x (elements l) Cut
+    stopped_below w o =
+        let ends : TellsAtEnd b.told w x new = record { over = λ k i never. o.over k i; goes = o.goes } in
+        let none = writes_no_more b w s new (h.ready tt) (λ k i. writes_same (b.told k) (w k) (o.over k (h.live k i))) in
+        subst (λ zs. IsRunOfRest P w x zs Cut) (append-nil (elements l)) ((h.gave.1 w ends).gives [] Cut (can_stop P w new none))
 
     out_kinds : (o : Load) → Answered (fed.Out o)
         → (k : LoadKind) → HasKind P k (Through' p x q) → (kind_of o ≡ k) × HasKind P k (Through' p' new r)
@@ -133,46 +145,46 @@ module _ {F : Type 0} (P : StateMeaning F) (sound : (q : F) → IsSound (P.stand
     fault_own : (o : Load) (c : Code) → Answered (fed.Fault o c) → IsNoDeviceFault (Some c)
     fault_own o c f =
         let g = f fit.1.1 fit.1.2 fit.1.4 (sym (h.kinds fit.1.1.takes fit.1.5).0) in
-        subst IsNoDeviceFault g.fault (own_faults fit.1.0 fit.1.1 fit.1.3 (fit.1.2 ++ elements l)).0
+        subst IsNoDeviceFault g.fault (own_faults P.values fit.1.0 fit.1.1 fit.1.3 (fit.1.2 ++ elements l)).0
 
     out_step : (o : Load) → Answered (fed.Out o)
         → (k : ℕ) → length (elements o) ≡ k → Turned P a b s n (Through' p x q) (Through' p' new r) (load_or_quiet k o)
     out_step o f zero e =
-        same (turn.Chunk l) turn.Quiet r h (λ i. tt) (λ i. out_fits o f) (λ k i. (out_kinds o f k i).1) (cause_none a.told b.told _ _ quiet_goes_on)
+        same (turn.Chunk l) turn.Quiet r h (λ i. tt) (λ i. tt) (λ i. out_fits o f) (λ k i. (out_kinds o f k i).1) (cause_none a.told b.told _ _ quiet_goes_on)
         (λ w d. record {
           gives = λ ys g run m xs st k.
               let j = h.kinds m.takes k in
               let fed = f m xs st (sym j.0) in
               (by_left (nothing_fed m xs (elements l) o (IsRunOfRest P w new) (IsRunOfRest P w x) (no_length (elements o) e) fed.0 (h.gave.1 w (ends_below w r d)))
-              (some_piped m (xs ++ elements l) (IsRunOfRest P w new) fed.0.fault (can_stop P w new))).gives ys g (run m (xs ++ elements l) fed.1 j.1);
+              (λ i. some_piped m (xs ++ elements l) (IsRunOfRest P w new) fed.0.fault (can_stop P w new i))).gives ys g (run m (xs ++ elements l) fed.1 j.1);
         })
     out_step o f (suc k) e =
-        same (turn.Chunk l) (turn.Chunk o) r h (λ i. tt) (λ i. out_fits o f) (out_kinds o f) (cause_none a.told b.told _ _ (chunk_goes_on o)) (
+        same (turn.Chunk l) (turn.Chunk o) r h (λ i. tt) (λ i. tt) (λ i. out_fits o f) (out_kinds o f) (cause_none a.told b.told _ _ (chunk_goes_on o)) (
           omega (arith, e),
           λ w d. record {
             gives = λ ys g run m xs st k.
                 let j = h.kinds m.takes k in
                 let fed = f m xs st (sym j.0) in
                 (by_left (load_fed m xs (elements l) o (IsRunOfRest P w new) (IsRunOfRest P w x) fed.0 (h.gave.1 w (ends_below w r d)))
-                (some_piped m (xs ++ elements l) (IsRunOfRest P w new) fed.0.fault (can_stop P w new))).gives ys g (run m (xs ++ elements l) fed.1 j.1);
+                (λ i. some_piped m (xs ++ elements l) (IsRunOfRest P w new) fed.0.fault (can_stop P w new i))).gives ys g (run m (xs ++ elements l) fed.1 j.1);
           },
         )
 
     failed_step : (o : Load) (c : Code) → Answered (fed.Fault o c) → (k : ℕ) → length (elements o) ≡ k
         → Turned P a b s n (Through' p x q) (after_pipe (same_or_faulty k c) (Through' p' new r)) (load_or_fault k o c)
     failed_step o c f zero e =
-        same (turn.Chunk l) (turn.Fault c) r h (λ i. absurd i) (λ i. absurd i) (λ k i. tt) (own_cause a.told b.told x c (fault_own o c f))
+        same (turn.Chunk l) (turn.Fault c) r h (λ i. absurd i) (λ i. tt) (λ i. absurd i) (λ k i. tt) (own_cause a.told b.told x c (fault_own o c f))
         (λ w d m xs st k.
-        let lead = fault_fed m xs (elements l) o c (IsRunOfRest P w x) (f m xs st (sym (h.kinds m.takes k).0)) (stopped_below w (over_ends w d)) in
+        let lead = fault_fed m xs (elements l) o c (IsRunOfRest P w x) (f m xs st (sym (h.kinds m.takes k).0)) (stopped_below w (over_below w d)) in
         let run : PipedOn m xs (IsRunOfRest P w x) (elements o ++ []) (Fault c) = lead.gives [] (Fault c) (refl, refl) in
         inl (subst (λ zs. PipedOn m xs (IsRunOfRest P w x) zs (Fault c)) (append-nil (elements o) ∙ no_length (elements o) e) run))
     failed_step o c f (suc k) e =
-        whole (Faulty c) (turn.Chunk l) (turn.Chunk o) h (λ k i. absurd i) (omega arith) (omega arith) (omega arith) (λ i. tt) (λ i. fault_own o c f) (λ k i. (fault_kinds o c f k i, tt))
+        whole (Faulty c) (turn.Chunk l) (turn.Chunk o) h (λ i. tt) (λ k i. absurd i) (omega arith) (omega arith) (omega arith) (λ i. tt) (λ i d j. absurd j) (λ i. fault_own o c f) (λ k i. (fault_kinds o c f k i, tt))
         (λ i. inl (omega arith)) (cause_none a.told b.told _ _ (chunk_goes_on o)) (
           omega (arith, e),
           λ w d. record {
             gives = λ ys g run m xs st k.
-                (by_left (fault_fed m xs (elements l) o c (IsRunOfRest P w x) (f m xs st (sym (h.kinds m.takes k).0)) (stopped_below w (ends_alone w (Faulty c) (λ i j. j) d))) ([], Fault c, (refl, refl))).gives ys g run;
+                (by_left (fault_fed m xs (elements l) o c (IsRunOfRest P w x) (f m xs st (sym (h.kinds m.takes k).0)) (stopped_below w (ends_over w (Faulty c) (λ i j. j) d))) (λ i. ([], Fault c, (refl, refl)))).gives ys g run;
           },
         )
 

@@ -1,24 +1,27 @@
 -- The turn of a read.
 use Rattle.std.proofs.Common.{◌≡◌, ◌⊎◌, true, inl, inr, ℕ, zero, suc, ◌+◌, ◌-◌, ◌^◌, ◌<◌, ◌≤◌, List, ◌++◌, [], ◌∷◌, length, take, drop, map, refl, sym, ◌∙◌, ap, subst, arith, length-append, Option, None, Some, IfSome}
 use Rattle.std.proofs.lemmas.List.{length-take, length-drop, length-map, take-append-drop, take-take, drop-take, drop-drop, drop_all, map-append}
+use Rattle.std.proofs.lemmas.Bool.Decides.{eqb_tells}
 use Rattle.chunk_core.specs.declared.code.Code.TheVariants as code
 use Rattle.chunk_core.specs.Elements.{Element, Byte, elements}
 use Rattle.chunk_core.specs.Outcomes.{Cut, Done, Fault}
-use Rattle.device_port.specs.Device.{DeviceTold}
+use Rattle.device_port.specs.Device.{DeviceTold, Place}
 use Rattle.pull_nodes.specs.Runs.{FirstBytes, Reads}
-use Rattle.pull_turns.specs.Around.{Around}
+use Rattle.pull_turns.specs.Around.{Around, KeepsBut}
 use Rattle.chunk_core.specs.Elements.LoadKind.{Bytes}
 use Rattle.chunk_core.specs.Elements.{kind_of, LoadKind}
 use Rattle.chunk_core.specs.declared.load.Load.{Load}
 use Rattle.chunk_core.specs.declared.load.Load.TheVariants as load
 use Rattle.pull_turns.specs.Piping.{StateMeaning}
-use Rattle.pull_turns.specs.Rest.{BytesFrom, IsReady, ReadsFrom}
+use Rattle.pull_turns.specs.Rest.{BytesFrom, IsHeldBy, IsReady, ReadsFrom}
 use Rattle.pull_turns.specs.Moves.{IsPiece, ReadsPiece, ReadsPlace}
 use Rattle.pull_turns.specs.Turned.{Leads, Turned, Moved, HasCause, Gave, GivesKind, GoesOn, TurnIsCaused}
 use Rattle.pull_turns.specs.declared.rest.Rest.TheVariants.{Read}
 use Rattle.pull_turns.specs.declared.turn.Turn.{Turn}
 use Rattle.pull_turns.specs.declared.turn.Turn.TheVariants as turn
+use Rattle.pull_turns.proofs.Kept.{all_spared}
 use Rattle.pull_turns.proofs.Leads.{HasRun, by_left}
+use Rattle.pull_turns.proofs.Unwritten.{writes_same}
 use Rattle.pull_turns.proofs.Turns.{moved_place, by_three, chunk_goes_on, done_is_no_fault, cause_none}
 
 -- a list of so many numbers
@@ -113,11 +116,21 @@ endless_is_no_open e = cc
 endless_is_no_read : turn.Fault code.Endless ≡ turn.Fault code.Read → ⊥
 endless_is_no_read e = cc
 
+endless_is_no_write : turn.Fault code.Endless ≡ turn.Fault code.Write → ⊥
+endless_is_no_write e = cc
+
+read_is_no_write : turn.Fault code.Read ≡ turn.Fault code.Write → ⊥
+read_is_no_write e = cc
+
 read_is_no_open : turn.Fault code.Read ≡ turn.Fault code.Open → ⊥
 read_is_no_open e = cc
 
-pub read_moved : {F : Type 0} (a b : Around) (s p from : ℕ) → ReadsPlace a b p → Moved {F = F} a b s (Read p from)
-read_moved a b s p from h = moved_place a b s p (Read p from) refl (h.keeps s) (record { content = h.content; at = h.later; opens = λ o. (h.opens ∙ o, h.open_faults) })
+pub read_moved : {F : Type 0} (a b : Around) (p from : ℕ) → ReadsPlace a b p → Moved {F = F} a b (Read p from)
+read_moved a b p from h = moved_place a b p (Read p from) refl h.keeps (record { content = h.content; place = h.place; at = h.later; opens = λ o. (h.opens ∙ o, h.open_faults) })
+
+-- the scope that holds the device holds it on
+pub read_held : (a b : Around) (s p : ℕ) → KeepsBut a p b → a.opened s → ((k : ℕ) → a.holds p k → b.holds p k) → IsHeldBy a s p → IsHeldBy b s p
+read_held a b s p keeps open' still (k, is_open, within, held) = (k, (keeps.stays k (all_spared a k is_open)).opened, ((keeps.stays s (all_spared a s open')).within k).1 within, still k held)
 
 -- a load of some bytes is of the kind of bytes
 bytes_kind : (l : Load) (bytes : List ℕ) → elements l ≡ map Byte bytes → 0 < length bytes → Bytes ≡ kind_of l
@@ -137,12 +150,17 @@ module _ {F : Type 0} (P : StateMeaning F) where
       → HasCause {F = F} a.told b.told (Read p from) t → Gave P b.told (Read p from) (Read p to) t
       → Turned P a b s n (Read p from) (Read p to) t
   read_turned a b s n p from to t h read ready kinds caused cause gave = record {
-    moved = read_moved a b s p from h;
-    once = record { place = p; others = λ q m. (ap (λ (d : DeviceTold). d.at) ((h.keeps s).told q m), ap (λ (d : DeviceTold). d.read_faults) ((h.keeps s).told q m)); read = read };
+    moved = read_moved a b p from h;
+    once = record { place = p; others = λ q m. (ap (λ (d : DeviceTold). d.at) (h.keeps.told q m), ap (λ (d : DeviceTold). d.read_faults) (h.keeps.told q m)); read = read };
+    writes = λ i q. elim (eqb_tells q p) [
+      | inl m ↦ subst (λ r. ((b.told r).written ≡ (a.told r).written) × ((b.told r).write_faults ≡ (a.told r).write_faults)) (sym m.1) (h.written, h.write_faults)
+      | inr m ↦ writes_same (a.told q) (b.told q) (h.keeps.told q m.1)
+    ];
     live = λ q i. i;
     fewer = omega arith;
     spends = record { events = omega (arith, h.affords.events); scopes = omega (arith, h.affords.scopes); rows = omega (arith, h.affords.rows) };
     ready = ready;
+    scopes = λ g c i. absurd i;
     pipes = λ g. tt;
     kinds = kinds;
     caused = by_three P a.told b.told (Read p from) (Read p to) t caused;
@@ -150,14 +168,14 @@ module _ {F : Type 0} (P : StateMeaning F) where
     gave = gave;
   }
 
-  pub read_step : (a b : Around) (s n p from to : ℕ) (t : Turn) → IsReady {F = F} a s (Read p from) → ReadsPiece a b n p from to t → Turned P a b s n (Read p from) (Read p to) t
-  read_step a b s n p from to (turn.Chunk l) r h =
+  pub read_step : (a b : Around) (s n p from to : ℕ) (t : Turn) → a.opened s → IsReady {F = F} a s (Read p from) → ReadsPiece a b n p from to t → Turned P a b s n (Read p from) (Read p to) t
+  read_step a b s n p from to (turn.Chunk l) open' r h =
       let bytes = h.piece.0 in
       let piece : IsPiece (b.told p).content from bytes = subst (λ o. IsPiece o from bytes) (sym h.place.content) h.piece.8 in
       let some : 0 < length (elements l) = omega (arith, ap length h.piece.1, length-map bytes Byte, h.piece.2) in
       read_turned a b s n p from to (turn.Chunk l) h.place
       (inl (omega (arith, r.0, h.piece.6, h.piece.4, h.piece.3), h.piece.7))
-      (λ g. (h.piece.6, h.piece.7 ∙ r.1, h.piece.5, piece_fits (b.told p).content from to bytes h.piece.2 h.piece.4 piece, (r.4.0, r.4.1, h.piece.9 r.4.0 r.4.2)))
+      (λ g. (h.piece.6, h.piece.7 ∙ r.1, h.piece.5, piece_fits (b.told p).content from to bytes h.piece.2 h.piece.4 piece, read_held a b s p h.place.keeps open' h.piece.9 r.4, ap (λ (x : Place). x.mode) h.place.place ∙ r.5))
       (λ k e. (sym (bytes_kind l bytes h.piece.1 h.piece.2) ∙ sym e, e))
       (λ g. inr (inl (p, refl, omega (arith, r.0, h.piece.6, h.piece.4, h.piece.2))))
       (cause_none a.told b.told (Read p from) (turn.Chunk l) (chunk_goes_on l)) (
@@ -165,10 +183,10 @@ module _ {F : Type 0} (P : StateMeaning F) where
         λ w e.
             let mine : IsPiece (w p).content from bytes = subst (λ o. IsPiece o from bytes) (sym (e.goes p).content) piece in
             let far : to ≤ (w p).at = omega (arith, (e.goes p).at, h.piece.6) in
-            rw h.piece.1 (by_left (reads_lead (w p) from to bytes h.piece.4 far mine) (some_run (w p) to far)),
+            rw h.piece.1 (by_left (reads_lead (w p) from to bytes h.piece.4 far mine) (λ i. some_run (w p) to far)),
       )
-  read_step a b s n p from to turn.Quiet r h = absurd h.piece
-  read_step a b s n p from to turn.Done r h =
+  read_step a b s n p from to turn.Quiet open' r h = absurd h.piece
+  read_step a b s n p from to turn.Done open' r h =
       read_turned a b s n p from to turn.Done h.place
       (inl (omega (arith, r.0, h.piece.2), h.piece.3))
       (λ g. absurd g) (λ k e. tt) (λ g. absurd g)
@@ -178,22 +196,22 @@ module _ {F : Type 0} (P : StateMeaning F) where
       let same : (w p).content ≡ (a.told p).content = (o.goes p).content ∙ h.place.content in
       inl (done_reads (w p) from (ap (λ (d : DeviceTold). d.at) is ∙ h.piece.2) h.piece.1 (ap (λ (d : DeviceTold). d.ended) is ∙ h.piece.5) (ap (λ (d : DeviceTold). d.read_faults) is ∙ (h.piece.3 ∙ r.1))
       (subst (λ c. IfSome c (λ d. length d ≤ from)) (sym same) h.piece.4) (subst (λ c. IfSome c (λ d. from ≤ length d)) (sym same) r.3)))
-  read_step a b s n p from to (turn.Fault code.Endless) r h =
+  read_step a b s n p from to (turn.Fault code.Endless) open' r h =
       read_turned a b s n p from to (turn.Fault code.Endless) h.place
       (inl (omega (arith, r.0, h.piece.2), h.piece.3))
       (λ g. absurd g) (λ k e. tt) (λ g. absurd g)
-      (record { open_fault = λ e. absurd (endless_is_no_open e); read_fault = λ e. absurd (endless_is_no_read e) })
+      (record { open_fault = λ e. absurd (endless_is_no_open e); read_fault = λ e. absurd (endless_is_no_read e); write_fault = λ e. absurd (endless_is_no_write e) })
       (λ w o.
       let long : IfSome (w p).content (λ c. from ≤ length c) = subst (λ c. IfSome c (λ d. from ≤ length d)) (sym ((o.goes p).content ∙ h.place.content)) r.3 in
       let is = o.over p refl in
       inl (endless_reads (w p) from (ap (λ (d : DeviceTold). d.at) is ∙ h.piece.2) (omega (arith, r.2, h.piece.1)) (ap (λ (d : DeviceTold). d.read_faults) is ∙ (h.piece.3 ∙ r.1)) long))
-  read_step a b s n p from to (turn.Fault code.Read) r h =
+  read_step a b s n p from to (turn.Fault code.Read) open' r h =
       read_turned a b s n p from to (turn.Fault code.Read) h.place
       (inr (h.piece.1 ∙ sym r.0, h.piece.2))
       (λ g. absurd g) (λ k e. tt) (λ g. absurd g)
-      (record { open_fault = λ e. absurd (read_is_no_open e); read_fault = λ e. (p, refl, omega (arith, h.piece.2)) })
+      (record { open_fault = λ e. absurd (read_is_no_open e); read_fault = λ e. (p, refl, omega (arith, h.piece.2)); write_fault = λ e. absurd (read_is_no_write e) })
       (λ w o.
       let is = o.over p refl in
       let once : (w p).read_faults ≡ 1 = omega (arith, ap (λ (d : DeviceTold). d.read_faults) is, h.piece.2, r.1) in
       inl (fault_reads (w p) from (ap (λ (d : DeviceTold). d.at) is ∙ h.piece.1) once))
-  read_step a b s n p from to (turn.Fault c) r h = absurd h.piece
+  read_step a b s n p from to (turn.Fault c) open' r h = absurd h.piece

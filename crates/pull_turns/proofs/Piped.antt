@@ -5,8 +5,8 @@ use Rattle.chunk_core.specs.declared.load.Load.{Load}
 use Rattle.chunk_core.specs.Elements.{Element, elements}
 use Rattle.chunk_core.specs.Feed.{Extends, Meaning}
 use Rattle.chunk_core.specs.Outcomes.{End, Done, Fault, Cut, Outcomes}
-use Rattle.pull_nodes.specs.Runs.{GivesAtEnd, GivesBy, end_by_fault}
-use Rattle.pull_turns.specs.Piping.{Exactly, PipedOn}
+use Rattle.pull_nodes.specs.Runs.{Exactly, GivesAtEnd, GivesBy, end_by_fault}
+use Rattle.pull_turns.specs.Piping.{PipedOn}
 use Rattle.pull_turns.specs.Turned.{Leads}
 use Rattle.pull_turns.proofs.Leads.{HasRun}
 

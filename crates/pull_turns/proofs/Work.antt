@@ -1,5 +1,5 @@
 -- The work that is left after a turn.
-use Rattle.std.proofs.Common.{◌≡◌, ℕ, zero, suc, ◌^◌, ◌<◌, ◌≤◌, List, length, Option, Some, None, refl, sym, ap, subst, cond, arith, length-append, Box, Global}
+use Rattle.std.proofs.Common.{◌≡◌, Bool, true, false, ℕ, zero, suc, ◌^◌, ◌<◌, ◌≤◌, List, length, Option, Some, None, refl, sym, ap, subst, cond, arith, length-append, Box, Global}
 use Rattle.std.proofs.lemmas.List.{length-drop}
 use Rattle.chunk_core.specs.declared.code.Code.{Code}
 use Rattle.chunk_core.specs.declared.feed.Fed.{Fed}
@@ -12,15 +12,20 @@ use Rattle.pull_nodes.specs.declared.node.Node.TheVariants as node
 use Rattle.pull_nodes.specs.declared.pipe.Pipe.{Pipe}
 use Rattle.pull_turns.specs.Around.{Around}
 use Rattle.pull_turns.specs.Groups.{GroupedOf, HasNoGroups, IsFirstGroup, IsInGroups, waiting}
-use Rattle.pull_turns.specs.Moves.{PieceTurn, ReadsPiece, TakenOf, append_turn, guard_turn, is_done, turn_is_fault}
+use Rattle.pull_turns.specs.Moves.{IntoTurn, MergeTurn, PieceTurn, ReadsPiece, TakenOf, ZipTurn, begins, end_of_sides, side_left, turn_of_first}
 use Rattle.pull_turns.specs.Passing.{PipeGaveMore, Passes, after_fed, after_pipe, load_or_fault, same_or_faulty, turn_of_fed}
 use Rattle.pull_turns.specs.Piping.{PipesFit, StateMeaning}
 use Rattle.pull_turns.specs.Turned.{GoesOn}
 use Rattle.pull_turns.specs.Work.{Lessens, groups_left, work_left}
 use Rattle.pull_turns.specs.declared.piping.After.{After}
 use Rattle.pull_turns.specs.declared.piping.After.TheVariants as after
+use Rattle.stream_sides.specs.Sides.{Sides}
+use Rattle.stream_sides.specs.MergeTurns.{MergeTurns, with_ended}
+use Rattle.stream_sides.specs.declared.side.Side.TheVariants.{Left, Right}
 use Rattle.pull_turns.specs.declared.rest.Rest.{Rest}
-use Rattle.pull_turns.specs.declared.rest.Rest.TheVariants.{Nil, Start, Read, Within', Append', OnFault', Through', Finishing, Faulty, Groups', Take'}
+use Rattle.pull_turns.specs.declared.rest.Rest.TheVariants.{Nil, Start, Read, Within', Then', Through', Finishing, Faulty, Groups', Take', Into', Zip', Merge'}
+use Rattle.pull_turns.specs.declared.rest.When.{When}
+use Rattle.pull_turns.specs.declared.rest.When.TheVariants as when
 use Rattle.pull_turns.specs.declared.turn.Turn.{Turn}
 use Rattle.pull_turns.specs.declared.turn.Turn.TheVariants as turn
 
@@ -31,21 +36,23 @@ module _ {F : Type 0} (due : F → ℕ) where
   no_groups_left (Start n) h = refl
   no_groups_left (Read p from) h = refl
   no_groups_left (Within' s _ a) h = no_groups_left a h
-  no_groups_left (Append' _ a b) h = no_groups_left a h
-  no_groups_left (OnFault' _ a b) h = no_groups_left a h
+  no_groups_left (Then' v _ a b) h = omega (arith, no_groups_left a h)
   no_groups_left (Through' _ a q) h = no_groups_left a h
   no_groups_left (Finishing q) h = refl
   no_groups_left (Faulty c) h = refl
   no_groups_left (Groups' n f _ a) h = absurd h
   no_groups_left (Take' n _ a) h = no_groups_left a h
+  no_groups_left (Into' p v _ a) h = no_groups_left a h
+  no_groups_left (Zip' z _ a _ b) h = omega (arith, no_groups_left a h.0, no_groups_left b h.1)
+  no_groups_left (Merge' m _ a _ b) h = omega (arith, no_groups_left a h.0, no_groups_left b h.1)
 
   pub emit_work : (l : Load) (t : Turn) → Lessens due (Start (node.Emit l)) Nil t
   emit_work l t = record { falls = λ g. omega arith }
 
-  pub append_enter_work : (p q r : Box (Unit {0}) Global) (x : Node) (b : Box Node Global) → Lessens due (Start (node.Append' p x q b.value)) (Append' r (Start x) b) turn.Quiet
+  pub append_enter_work : (p q r : Box (Unit {0}) Global) (x : Node) (b : Box Node Global) → Lessens due (Start (node.Append' p x q b.value)) (Then' when.Done r (Start x) b) turn.Quiet
   append_enter_work p q r x b = record { falls = λ g. omega (arith, length-append (uses_of x) (uses_of b.value)) }
 
-  pub guard_enter_work : (p q r : Box (Unit {0}) Global) (x : Node) (b : Box Node Global) → Lessens due (Start (node.OnFault' p x q b.value)) (OnFault' r (Start x) b) turn.Quiet
+  pub guard_enter_work : (p q r : Box (Unit {0}) Global) (x : Node) (b : Box Node Global) → Lessens due (Start (node.OnFault' p x q b.value)) (Then' when.Fault r (Start x) b) turn.Quiet
   guard_enter_work p q r x b = record { falls = λ g. omega (arith, length-append (uses_of x) (uses_of b.value)) }
 
   through_enter_in : (p r : Box (Unit {0}) Global) (x : Node) (pipe : Pipe) (q : F) → work_left due (Through' r (Start x) q) < work_left due (Start (node.Through' p x pipe))
@@ -67,23 +74,67 @@ module _ {F : Type 0} (due : F → ℕ) where
   pub within_work : (c : ℕ) (p q : Box (Unit {0}) Global) (x new : Rest F) (t : Turn) → Lessens due x new t → Lessens due (Within' c p x) (Within' c q new) t
   within_work c p q x new t h = record { falls = λ g. omega (arith, h.falls g) }
 
-  pub append_work : (p q : Box (Unit {0}) Global) (m : Box Node Global) (x new : Rest F) (t : Turn) → Lessens due x new t → Lessens due (Append' p x m) (cond (is_done t) (Start m.value) (Append' q new m)) (append_turn t)
-  append_work p q m x new (turn.Chunk l) h = record { falls = λ g. omega (arith, h.falls tt) }
-  append_work p q m x new turn.Quiet h = record { falls = λ g. omega (arith, h.falls tt) }
-  append_work p q m x new turn.Done h = record { falls = λ g. omega arith }
-  append_work p q m x new (turn.Fault c) h = record { falls = λ g. absurd g }
-
-  pub guard_work : (p q : Box (Unit {0}) Global) (m : Box Node Global) (x new : Rest F) (t : Turn) → Lessens due x new t → Lessens due (OnFault' p x m) (cond (turn_is_fault t) (Start m.value) (OnFault' q new m)) (guard_turn t)
-  guard_work p q m x new (turn.Chunk l) h = record { falls = λ g. omega (arith, h.falls tt) }
-  guard_work p q m x new turn.Quiet h = record { falls = λ g. omega (arith, h.falls tt) }
-  guard_work p q m x new turn.Done h = record { falls = λ g. absurd g }
-  guard_work p q m x new (turn.Fault c) h = record { falls = λ g. omega arith }
+  pub then_work : (v : When) (p q : Box (Unit {0}) Global) (m : Box Node Global) (x new : Rest F) (t : Turn) → Lessens due x new t → Lessens due (Then' v p x m) (cond (begins v t) (Start m.value) (Then' v q new m)) (turn_of_first v t)
+  then_work v p q m x new (turn.Chunk l) h = record { falls = λ g. omega (arith, h.falls tt) }
+  then_work v p q m x new turn.Quiet h = record { falls = λ g. omega (arith, h.falls tt) }
+  then_work when.Done p q m x new turn.Done h = record { falls = λ g. omega arith }
+  then_work when.Fault p q m x new turn.Done h = record { falls = λ g. absurd g }
+  then_work when.Done p q m x new (turn.Fault c) h = record { falls = λ g. absurd g }
+  then_work when.Fault p q m x new (turn.Fault c) h = record { falls = λ g. omega arith }
 
   pub take_work : (k j : ℕ) (p q : Box (Unit {0}) Global) (x new : Rest F) (t u : Turn) → TakenOf k j t u → Lessens due x new t → Lessens due (Take' k p x) (Take' j q new) u
   take_work k j p q x new (turn.Chunk l) u w h = record { falls = λ g. omega (arith, h.falls tt) }
   take_work k j p q x new turn.Quiet u w h = record { falls = λ g. omega (arith, h.falls tt) }
   take_work k j p q x new turn.Done u w h = record { falls = λ g. absurd (subst GoesOn w.1 g) }
   take_work k j p q x new (turn.Fault c) u w h = record { falls = λ g. absurd (subst GoesOn w.1 g) }
+
+  pub zip_enter_work : (z : Sides) (p q u v : Box (Unit {0}) Global) (x y : Node) → Lessens due (Start (node.Zip' p x q y)) (Zip' z u (Start x) v (Start y)) turn.Quiet
+  zip_enter_work z p q u v x y = record { falls = λ g. omega (arith, length-append (uses_of x) (uses_of y)) }
+
+  pub merge_enter_work : (p q u v : Box (Unit {0}) Global) (x y : Node)
+      → Lessens due (Start (node.Merge' p x q y)) (Merge' (record { turn = Left; left_ended = false; right_ended = false }) u (Start x) v (Start y)) turn.Quiet
+  merge_enter_work p q u v x y = record { falls = λ g. omega (arith, length-append (uses_of x) (uses_of y)) }
+
+  pub zip_left_work : (z w : Sides) (p q u v : Box (Unit {0}) Global) (x new y : Rest F) (t o : Turn) → ZipTurn z Left w t o → Lessens due x new t → Lessens due (Zip' z p x q y) (Zip' w u new v y) o
+  zip_left_work z w p q u v x new y (turn.Chunk l) o is h = record { falls = λ g. omega (arith, h.falls tt) }
+  zip_left_work z w p q u v x new y turn.Quiet o is h = record { falls = λ g. omega (arith, h.falls tt) }
+  zip_left_work z w p q u v x new y turn.Done o is h = record { falls = λ g. absurd (subst GoesOn is.1 g) }
+  zip_left_work z w p q u v x new y (turn.Fault c) o is h = record { falls = λ g. absurd (subst GoesOn is.1 g) }
+
+  pub zip_right_work : (z w : Sides) (p q u v : Box (Unit {0}) Global) (x y new : Rest F) (t o : Turn) → ZipTurn z Right w t o → Lessens due y new t → Lessens due (Zip' z p x q y) (Zip' w u x v new) o
+  zip_right_work z w p q u v x y new (turn.Chunk l) o is h = record { falls = λ g. omega (arith, h.falls tt) }
+  zip_right_work z w p q u v x y new turn.Quiet o is h = record { falls = λ g. omega (arith, h.falls tt) }
+  zip_right_work z w p q u v x y new turn.Done o is h = record { falls = λ g. absurd (subst GoesOn is.1 g) }
+  zip_right_work z w p q u v x y new (turn.Fault c) o is h = record { falls = λ g. absurd (subst GoesOn is.1 g) }
+
+  merge_done_left : (m : MergeTurns) (p q u v : Box (Unit {0}) Global) (x y : Rest F) (e : Bool) → m.left_ended ≡ false → m.right_ended ≡ e → Lessens due (Merge' m p x q y) (Merge' (with_ended m Left) u Nil v y) (end_of_sides true e)
+  merge_done_left m p q u v x y true i j = record { falls = λ g. absurd g }
+  merge_done_left m p q u v x y false i j = record { falls = λ g. rw (i, j) (omega arith) }
+
+  merge_done_right : (m : MergeTurns) (p q u v : Box (Unit {0}) Global) (x y : Rest F) (e : Bool) → m.right_ended ≡ false → m.left_ended ≡ e → Lessens due (Merge' m p x q y) (Merge' (with_ended m Right) u x v Nil) (end_of_sides e true)
+  merge_done_right m p q u v x y true i j = record { falls = λ g. absurd g }
+  merge_done_right m p q u v x y false i j = record { falls = λ g. rw (i, j) (omega arith) }
+
+  pub merge_left_work : (m k : MergeTurns) (p q u v : Box (Unit {0}) Global) (x new y : Rest F) (t o : Turn) → m.left_ended ≡ false → MergeTurn m Left k t o → Lessens due x new t → Lessens due (Merge' m p x q y) (Merge' k u (side_left t new) v y) o
+  merge_left_work m k p q u v x new y (turn.Chunk l) o i is h = record { falls = λ g. rw is.0 (omega (arith, h.falls tt)) }
+  merge_left_work m k p q u v x new y turn.Quiet o i is h = record { falls = λ g. rw is.0 (omega (arith, h.falls tt)) }
+  merge_left_work m k p q u v x new y turn.Done o i is h = rw (is.0, is.1) (merge_done_left m p q u v x y m.right_ended i refl)
+  merge_left_work m k p q u v x new y (turn.Fault c) o i is h = record { falls = λ g. absurd (subst GoesOn is.1 g) }
+
+  pub merge_right_work : (m k : MergeTurns) (p q u v : Box (Unit {0}) Global) (x y new : Rest F) (t o : Turn) → m.right_ended ≡ false → MergeTurn m Right k t o → Lessens due y new t → Lessens due (Merge' m p x q y) (Merge' k u x v (side_left t new)) o
+  merge_right_work m k p q u v x y new (turn.Chunk l) o i is h = record { falls = λ g. rw is.0 (omega (arith, h.falls tt)) }
+  merge_right_work m k p q u v x y new turn.Quiet o i is h = record { falls = λ g. rw is.0 (omega (arith, h.falls tt)) }
+  merge_right_work m k p q u v x y new turn.Done o i is h = rw (is.0, is.1) (merge_done_right m p q u v x y m.left_ended i refl)
+  merge_right_work m k p q u v x y new (turn.Fault c) o i is h = record { falls = λ g. absurd (subst GoesOn is.1 g) }
+
+  pub into_enter_work : (i : ℕ) (v : Option (List ℕ)) (p q : Box (Unit {0}) Global) (x : Node) → Lessens due (Start (node.Into' i p x)) (Into' i v q (Start x)) turn.Quiet
+  into_enter_work i v p q x = record { falls = λ g. omega arith }
+
+  pub into_work : (i : ℕ) (v z : Option (List ℕ)) (p q : Box (Unit {0}) Global) (x new : Rest F) (t u : Turn) → IntoTurn t u → Lessens due x new t → Lessens due (Into' i v p x) (Into' i z q new) u
+  into_work i v z p q x new (turn.Chunk l) u w h = record { falls = λ g. omega (arith, h.falls tt) }
+  into_work i v z p q x new turn.Quiet u w h = record { falls = λ g. omega (arith, h.falls tt) }
+  into_work i v z p q x new turn.Done u w h = record { falls = λ g. absurd (subst GoesOn w g) }
+  into_work i v z p q x new (turn.Fault c) u w h = record { falls = λ g. absurd (subst GoesOn w g) }
 
   -- what is left falls by a whole byte at least, and a load has fewer elements
   grouping_work : (k : ℕ) (p q : Box (Unit {0}) Global) (x new : Rest F) (o : Option Load) → HasNoGroups x → HasNoGroups new → length (waiting o) < 2 ^ 64 → work_left due new < work_left due x → work_left due (Groups' k o q new) < work_left due (Groups' k None p x)

@@ -7,8 +7,10 @@ use Rattle.pull_nodes.specs.Pipes.{groups_of}
 use Rattle.pull_nodes.specs.declared.node.Node.{Node}
 use Rattle.pull_nodes.specs.declared.node.Node.TheVariants as node
 use Rattle.pull_nodes.specs.declared.pipe.Pipe.{Pipe}
+use Rattle.stream_sides.specs.MergeTurns.{MergeTurns}
 use Rattle.pull_turns.specs.declared.rest.Rest.{Rest}
-use Rattle.pull_turns.specs.declared.rest.Rest.TheVariants.{Nil, Start, Read, Within', Append', OnFault', Through', Finishing, Faulty, Groups', Take'}
+use Rattle.pull_turns.specs.declared.rest.Rest.TheVariants.{Nil, Start, Read, Within', Then', Through', Finishing, Faulty, Groups', Take', Into', Zip', Merge'}
+use Rattle.pull_turns.specs.declared.rest.When.{When}
 use Rattle.pull_turns.specs.declared.turn.Turn.{Turn}
 use Rattle.pull_turns.specs.declared.turn.Turn.TheVariants as turn
 
@@ -61,13 +63,15 @@ module _ {F : Type 0} where
   HasNoGroups (Start n) = Unit {0}
   HasNoGroups (Read p from) = Unit {0}
   HasNoGroups (Within' s _ a) = HasNoGroups a
-  HasNoGroups (Append' _ a b) = HasNoGroups a
-  HasNoGroups (OnFault' _ a b) = HasNoGroups a
+  HasNoGroups (Then' w _ a b) = HasNoGroups a
   HasNoGroups (Through' _ a q) = HasNoGroups a
   HasNoGroups (Finishing q) = Unit {0}
   HasNoGroups (Faulty c) = Unit {0}
   HasNoGroups (Groups' n f _ a) = ⊥
   HasNoGroups (Take' n _ a) = HasNoGroups a
+  HasNoGroups (Into' p v _ a) = HasNoGroups a
+  HasNoGroups (Zip' z _ a _ b) = HasNoGroups a × HasNoGroups b
+  HasNoGroups (Merge' m _ a _ b) = HasNoGroups a × HasNoGroups b
 
 -- groups of this size, where there are groups, have at most k elements
 abbrev pub GroupIsWithin : ℕ → Option ℕ → Type 0
@@ -86,6 +90,9 @@ IsGroupedOf k (node.Append' _ a _ b) = IsGroupedOf k a × IsGroupedOf k b
 IsGroupedOf k (node.OnFault' _ a _ b) = IsGroupedOf k a × IsGroupedOf k b
 IsGroupedOf k (node.Through' _ a q) = GroupIsWithin k (groups_of q)
 IsGroupedOf k (node.Take' n _ a) = ⊥
+IsGroupedOf k (node.Into' p _ a) = Unit {0}
+IsGroupedOf k (node.Zip' _ a _ b) = ⊥
+IsGroupedOf k (node.Merge' _ a _ b) = IsGroupedOf k a × IsGroupedOf k b
 
 -- the chunk has at most k elements
 abbrev pub GivesAtMost : ℕ → Turn → Type 0
@@ -108,27 +115,31 @@ module _ {F : Type 0} where
   IsGrouped k (Start n) = IsGroupedOf k n
   IsGrouped k (Read p from) = ⊥
   IsGrouped k (Within' s _ a) = IsGrouped k a
-  IsGrouped k (Append' _ a b) = IsGrouped k a × IsGroupedOf k b.value
-  IsGrouped k (OnFault' _ a b) = IsGrouped k a × IsGroupedOf k b.value
+  IsGrouped k (Then' w _ a b) = IsGrouped k a × IsGroupedOf k b.value
   IsGrouped k (Through' _ a q) = ⊥
   IsGrouped k (Finishing q) = ⊥
   IsGrouped k (Faulty c) = Unit {0}
   IsGrouped k (Groups' n f _ a) = n ≤ k
   IsGrouped k (Take' n _ a) = ⊥
+  IsGrouped k (Into' p v _ a) = Unit {0}
+  IsGrouped k (Zip' z _ a _ b) = ⊥
+  IsGrouped k (Merge' m _ a _ b) = IsGrouped k a × IsGrouped k b
 
-  -- groups of n wait only where Q n; below a step none wait
+  -- groups of n wait only where Q n; below a step none wait, and in a side of a merge they may wait while the other side is asked
   abbrev pub WaitsOnly : (ℕ → Type 0) → Rest F → Type 0
   WaitsOnly Q Nil = Unit {0}
   WaitsOnly Q (Start n) = Unit {0}
   WaitsOnly Q (Read p from) = Unit {0}
   WaitsOnly Q (Within' s _ a) = WaitsOnly Q a
-  WaitsOnly Q (Append' _ a b) = WaitsOnly Q a
-  WaitsOnly Q (OnFault' _ a b) = WaitsOnly Q a
+  WaitsOnly Q (Then' w _ a b) = WaitsOnly Q a
   WaitsOnly Q (Through' _ a q) = Unit {0}
   WaitsOnly Q (Finishing q) = Unit {0}
   WaitsOnly Q (Faulty c) = Unit {0}
   WaitsOnly Q (Groups' n f _ a) = IfSome f (λ l. Q n)
   WaitsOnly Q (Take' n _ a) = Unit {0}
+  WaitsOnly Q (Into' p v _ a) = Unit {0}
+  WaitsOnly Q (Zip' z _ a _ b) = Unit {0}
+  WaitsOnly Q (Merge' m _ a _ b) = Unit {0}
 
   -- a chunk that comes of groups of n has at most n elements, whatever the other parts may give
   abbrev pub GivesGroup : Rest F → Turn → Type 0
@@ -136,13 +147,15 @@ module _ {F : Type 0} where
   GivesGroup (Start n) t = Unit {0}
   GivesGroup (Read p from) t = Unit {0}
   GivesGroup (Within' s _ a) t = GivesGroup a t
-  GivesGroup (Append' _ a b) t = GivesGroup a t
-  GivesGroup (OnFault' _ a b) t = GivesGroup a t
+  GivesGroup (Then' w _ a b) t = GivesGroup a t
   GivesGroup (Through' _ a q) t = Unit {0}
   GivesGroup (Finishing q) t = Unit {0}
   GivesGroup (Faulty c) t = Unit {0}
   GivesGroup (Groups' n f _ a) t = GivesAtMost n t
   GivesGroup (Take' n _ a) t = Unit {0}
+  GivesGroup (Into' p v _ a) t = Unit {0}
+  GivesGroup (Zip' z _ a _ b) t = Unit {0}
+  GivesGroup (Merge' m _ a _ b) t = Unit {0}
 
   -- where each part gives at most k elements in a chunk, the turn did and what is left does; groups come one by one, and wait only behind a chunk that is a whole group
   pub record Grouped (old new : Rest F) (t : Turn) : Type 0 where
@@ -154,5 +167,6 @@ module _ {F : Type 0} where
   pub data GaveGroup (xs : List Element) : Rest F → Rest F → Type 0 where
     group : (n : ℕ) (p q : Box (Unit {0}) Global) (a : Rest F) (l : Load) (g : Option Load) → elements l ≡ xs ++ waiting g → GaveGroup xs (Groups' n (Some l) p a) (Groups' n g q a)
     group_within : (c : ℕ) (p q : Box (Unit {0}) Global) (a b : Rest F) → GaveGroup xs a b → GaveGroup xs (Within' c p a) (Within' c q b)
-    group_first : (p q : Box (Unit {0}) Global) (a b : Rest F) (m : Box Node Global) → GaveGroup xs a b → GaveGroup xs (Append' p a m) (Append' q b m)
-    group_guarded : (p q : Box (Unit {0}) Global) (a b : Rest F) (m : Box Node Global) → GaveGroup xs a b → GaveGroup xs (OnFault' p a m) (OnFault' q b m)
+    group_first : (w : When) (p q : Box (Unit {0}) Global) (a b : Rest F) (m : Box Node Global) → GaveGroup xs a b → GaveGroup xs (Then' w p a m) (Then' w q b m)
+    group_left : (m n : MergeTurns) (p q u v : Box (Unit {0}) Global) (a b y : Rest F) → GaveGroup xs a b → GaveGroup xs (Merge' m p a q y) (Merge' n u b v y)
+    group_right : (m n : MergeTurns) (p q u v : Box (Unit {0}) Global) (x a b : Rest F) → GaveGroup xs a b → GaveGroup xs (Merge' m p x q a) (Merge' n u x v b)

@@ -6,11 +6,11 @@ use Rattle.chunk_core.specs.declared.load.Load.{Load}
 use Rattle.chunk_core.specs.Elements.{Element, LoadKind, elements, kind_of}
 use Rattle.chunk_core.specs.Outcomes.{End, Done, Fault, Cut, exit_of}
 use Rattle.device_port.specs.Device.{DeviceTold}
-use Rattle.pull_turns.specs.Around.{Around, Goes, IsClosedWith, gist}
+use Rattle.pull_turns.specs.Around.{Around, Goes, IsClosedWith, WritesNothing, gist}
 use Rattle.pull_turns.specs.Groups.{Grouped, IsGrouped}
 use Rattle.pull_turns.specs.Piping.{StateMeaning, HasKind}
 use Rattle.pull_turns.specs.Rest.{IsRunOfRest, IsLive, CanStep, left}
-use Rattle.pull_turns.specs.Turned.{Leads, TellsAtEnd, Over, ReadsOnce, HasCause, Gave, GivesKind, GoesOn, IsCausedBy, Spends}
+use Rattle.pull_turns.specs.Turned.{Leads, TellsAtEnd, Over, ReadsOnce, HasCause, Gave, GivesKind, GoesOn, IsCausedBy, IsLoadOrDone, Spends}
 use Rattle.pull_turns.specs.Moves.{how_of}
 use Rattle.pull_turns.specs.Scoped.{ClosesAtEnd, Scoped}
 use Rattle.pull_turns.specs.declared.rest.Rest.{Rest}
@@ -28,6 +28,10 @@ pub record IsShut (a : Around) : Type 0 where
 pub record TouchesOnly {F : Type 0} (before now : ℕ → DeviceTold) (old : Rest F) : Type 0 where
   pub goes : (p : ℕ) → Goes (before p) (now p)
   pub others : (p : ℕ) → (IsLive p old → ⊥) → gist (now p) ≡ gist (before p)
+
+-- whoever ran what was left may leave it now: it gave nothing, and was cut
+abbrev pub CanBeCut : {F : Type 0} → StateMeaning F → (ℕ → DeviceTold) → Rest F → Type 0
+CanBeCut P now old = (w : ℕ → DeviceTold) → Over now w old → IsRunOfRest P w old [] Cut
 
 -- the end of a run that ended so
 abbrev pub end_of : How → End
@@ -53,6 +57,7 @@ module _ {F : Type 0} (P : StateMeaning F) where
   pub record Turns (before now : Around) (n : ℕ) (old new : Rest F) (t : Turn) : Type 0 where
     pub tells : TouchesOnly before.told now.told old
     pub once : ReadsOnce before.told now.told n
+    pub writes : IsLoadOrDone t → WritesNothing before.told now.told
     pub live : (p : ℕ) → IsLive p new → IsLive p old
     pub fewer : left new ≤ left old
     pub spends : Spends before now old new

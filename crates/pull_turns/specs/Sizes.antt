@@ -4,7 +4,7 @@ use Rattle.chunk_core.specs.Elements.{Element, elements}
 use Rattle.pull_nodes.specs.declared.node.Node.{Node}
 use Rattle.pull_nodes.specs.declared.node.Node.TheVariants as node
 use Rattle.pull_turns.specs.declared.rest.Rest.{Rest}
-use Rattle.pull_turns.specs.declared.rest.Rest.TheVariants.{Nil, Start, Read, Within', Append', OnFault', Through', Finishing, Faulty, Groups', Take'}
+use Rattle.pull_turns.specs.declared.rest.Rest.TheVariants.{Nil, Start, Read, Within', Then', Through', Finishing, Faulty, Groups', Take', Into', Zip', Merge'}
 use Rattle.pull_turns.specs.declared.runner.Unconsed.{Unconsed}
 use Rattle.pull_turns.specs.declared.runner.Unconsed.TheVariants as unconsed
 use Rattle.pull_turns.specs.declared.turn.Turn.{Turn}
@@ -22,6 +22,9 @@ HasNoPipeOf (node.Append' _ a _ b) = HasNoPipeOf a × HasNoPipeOf b
 HasNoPipeOf (node.OnFault' _ a _ b) = HasNoPipeOf a × HasNoPipeOf b
 HasNoPipeOf (node.Through' _ a q) = ⊥
 HasNoPipeOf (node.Take' n _ a) = HasNoPipeOf a
+HasNoPipeOf (node.Into' p _ a) = HasNoPipeOf a
+HasNoPipeOf (node.Zip' _ a _ b) = HasNoPipeOf a × HasNoPipeOf b
+HasNoPipeOf (node.Merge' _ a _ b) = HasNoPipeOf a × HasNoPipeOf b
 
 -- no pipe is in what is left
 abbrev pub HasNoPipe : {F : Type 0} → Rest F → Type 0
@@ -29,13 +32,15 @@ HasNoPipe Nil = Unit {0}
 HasNoPipe (Start n) = HasNoPipeOf n
 HasNoPipe (Read p from) = Unit {0}
 HasNoPipe (Within' s _ a) = HasNoPipe a
-HasNoPipe (Append' _ a b) = HasNoPipe a × HasNoPipeOf b.value
-HasNoPipe (OnFault' _ a b) = HasNoPipe a × HasNoPipeOf b.value
+HasNoPipe (Then' w _ a b) = HasNoPipe a × HasNoPipeOf b.value
 HasNoPipe (Through' _ a q) = ⊥
 HasNoPipe (Finishing q) = ⊥
 HasNoPipe (Faulty c) = ⊥
 HasNoPipe (Groups' n f _ a) = ⊥
 HasNoPipe (Take' n _ a) = HasNoPipe a
+HasNoPipe (Into' p v _ a) = HasNoPipe a
+HasNoPipe (Zip' z _ a _ b) = HasNoPipe a × HasNoPipe b
+HasNoPipe (Merge' m _ a _ b) = HasNoPipe a × HasNoPipe b
 
 -- the most elements of one piece of a node, where a read has at most n bytes
 abbrev pub widest_of : ℕ → Node → ℕ
@@ -49,6 +54,9 @@ widest_of n (node.Append' _ a _ b) = max (widest_of n a) (widest_of n b)
 widest_of n (node.OnFault' _ a _ b) = max (widest_of n a) (widest_of n b)
 widest_of n (node.Through' _ a q) = widest_of n a
 widest_of n (node.Take' k _ a) = widest_of n a
+widest_of n (node.Into' p _ a) = 0
+widest_of n (node.Zip' _ a _ b) = max (widest_of n a) (widest_of n b)
+widest_of n (node.Merge' _ a _ b) = max (widest_of n a) (widest_of n b)
 
 -- the same of what is left
 abbrev pub widest : {F : Type 0} → ℕ → Rest F → ℕ
@@ -56,13 +64,15 @@ widest n Nil = 0
 widest n (Start m) = widest_of n m
 widest n (Read p from) = n
 widest n (Within' s _ a) = widest n a
-widest n (Append' _ a b) = max (widest n a) (widest_of n b.value)
-widest n (OnFault' _ a b) = max (widest n a) (widest_of n b.value)
+widest n (Then' w _ a b) = max (widest n a) (widest_of n b.value)
 widest n (Through' _ a q) = widest n a
 widest n (Finishing q) = 0
 widest n (Faulty c) = 0
 widest n (Groups' k f _ a) = k
 widest n (Take' k _ a) = widest n a
+widest n (Into' p v _ a) = 0
+widest n (Zip' z _ a _ b) = max (widest n a) (widest n b)
+widest n (Merge' m _ a _ b) = max (widest n a) (widest n b)
 
 -- the elements that a turn gives
 abbrev pub given : Turn → List Element

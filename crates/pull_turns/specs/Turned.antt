@@ -7,13 +7,16 @@ use Rattle.chunk_core.specs.Elements.{Element, LoadKind, elements, kind_of}
 use Rattle.chunk_core.specs.declared.load.Load.{Load}
 use Rattle.chunk_core.specs.Outcomes.{End, Done, Fault, Outcomes}
 use Rattle.device_port.specs.Device.{DeviceTold}
-use Rattle.pull_turns.specs.Around.{Around, Goes, Keeps, gist}
+use Rattle.pull_turns.specs.Around.{Around, Goes, Keeps, LiesAsBefore, WritesNothing, gist}
 use Rattle.pull_turns.specs.Groups.{GaveGroup}
 use Rattle.pull_turns.specs.Piping.{StateMeaning, HasKind, PipesFit}
-use Rattle.pull_turns.specs.Rest.{IsRunOfRest, IsLive, IsReady, left, rows_left, scopes_left}
+use Rattle.pull_turns.specs.Rest.{IsRunOfRest, IsLive, IsReady, IsScopeOf, left, rows_left, scopes_left}
+use Rattle.stream_sides.specs.Sides.{Sides}
+use Rattle.stream_sides.specs.MergeTurns.{MergeTurns}
 use Rattle.pull_turns.specs.declared.rest.Rest.{Rest}
-use Rattle.pull_turns.specs.declared.rest.Rest.TheVariants.{Nil, Within', Append', OnFault', Through', Finishing, Faulty, Groups', Take'}
+use Rattle.pull_turns.specs.declared.rest.Rest.TheVariants.{Nil, Within', Then', Through', Finishing, Faulty, Groups', Take', Into', Zip', Merge'}
 use Rattle.pull_nodes.specs.declared.node.Node.{Node}
+use Rattle.pull_turns.specs.declared.rest.When.{When}
 use Rattle.pull_turns.specs.declared.turn.Turn.{Turn}
 use Rattle.pull_turns.specs.declared.turn.Turn.TheVariants as turn
 
@@ -52,6 +55,13 @@ IsQuiet turn.Quiet = Unit {0}
 IsQuiet turn.Done = ⊥
 IsQuiet (turn.Fault c) = ⊥
 
+-- the turn gave a load, or it is the end and no fault
+abbrev pub IsLoadOrDone : Turn → Type 0
+IsLoadOrDone (turn.Chunk l) = Unit {0}
+IsLoadOrDone turn.Quiet = ⊥
+IsLoadOrDone turn.Done = Unit {0}
+IsLoadOrDone (turn.Fault c) = ⊥
+
 -- at most one read was made, of at most n bytes
 pub record ReadsOnce (before now : ℕ → DeviceTold) (n : ℕ) : Type 0 where
   pub place : ℕ
@@ -63,11 +73,21 @@ pub record ReadsOnce (before now : ℕ → DeviceTold) (n : ℕ) : Type 0 where
 pub record HasCause {F : Type 0} (before now : ℕ → DeviceTold) (old : Rest F) (t : Turn) : Type 0 where
   pub open_fault : t ≡ turn.Fault code.Open → (p : ℕ) × IsLive p old × ((before p).open_faults < (now p).open_faults)
   pub read_fault : t ≡ turn.Fault code.Read → (p : ℕ) × IsLive p old × ((before p).read_faults < (now p).read_faults)
+  pub write_fault : t ≡ turn.Fault code.Write → (p : ℕ) × IsLive p old × ((before p).write_faults < (now p).write_faults)
 
--- only what is left and the scopes below s were touched
-pub record Moved {F : Type 0} (before now : Around) (s : ℕ) (old : Rest F) : Type 0 where
-  pub keeps : Keeps before (λ p. IsLive p old) s now
+-- only devices of what is left were touched, and only what lay within a scope of what is left was closed
+pub record Moved {F : Type 0} (before now : Around) (old : Rest F) : Type 0 where
+  pub keeps : Keeps before (λ p. IsLive p old) (λ c. IsScopeOf c old) now
   pub goes : (p : ℕ) → Goes (before.told p) (now.told p)
+
+-- the scope c, within which no scope lies that was open, was opened in s or in one of these
+pub record IsOpenedIn (before now : Around) (s : ℕ) (Own : ℕ → Type 0) (c : ℕ) : Type 0 where
+  pub fresh : (k : ℕ) → before.opened k → now.within k c → ⊥
+  pub inside : (k : ℕ) → now.within c k → (k ≡ c) ⊎ ((e : ℕ) × ((e ≡ s) ⊎ Own e) × before.within e k)
+
+-- each scope of what is left was one before, and lies where it lay, or was opened for it
+abbrev pub OwnScopes : {F : Type 0} → Around → Around → ℕ → Rest F → Rest F → Type 0
+OwnScopes before now s old new = (c : ℕ) → IsScopeOf c new → (IsScopeOf c old × LiesAsBefore before c now) ⊎ IsOpenedIn before now s (λ e. IsScopeOf e old) c
 
 -- there is as much room beyond what is left as there was
 pub record Spends {F : Type 0} (before now : Around) (old new : Rest F) : Type 0 where
@@ -101,11 +121,15 @@ module _ {F : Type 0} (P : StateMeaning F) where
     next : (q r : F) → GaveNext q r → HasFinished (Finishing q) (Finishing r)
     last : (q : F) (d : Code) → GaveLast q d → HasFinished (Finishing q) (Faulty d)
     within : (c : ℕ) (p q : Box (Unit {0}) Global) (a b : Rest F) → HasFinished a b → HasFinished (Within' c p a) (Within' c q b)
-    first : (p q : Box (Unit {0}) Global) (a b : Rest F) (m : Box Node Global) → HasFinished a b → HasFinished (Append' p a m) (Append' q b m)
-    guarded : (p q : Box (Unit {0}) Global) (a b : Rest F) (m : Box Node Global) → HasFinished a b → HasFinished (OnFault' p a m) (OnFault' q b m)
+    first : (w : When) (p q : Box (Unit {0}) Global) (a b : Rest F) (m : Box Node Global) → HasFinished a b → HasFinished (Then' w p a m) (Then' w q b m)
     through : (p q : Box (Unit {0}) Global) (a b : Rest F) (s t : F) → HasFinished a b → HasFinished (Through' p a s) (Through' q b t)
     grouped : (n : ℕ) (p q : Box (Unit {0}) Global) (a b : Rest F) (f g : Option Load) → HasFinished a b → HasFinished (Groups' n f p a) (Groups' n g q b)
     taken : (i j : ℕ) (p q : Box (Unit {0}) Global) (a b : Rest F) → HasFinished a b → HasFinished (Take' i p a) (Take' j q b)
+    written : (i : ℕ) (v z : Option (List ℕ)) (p q : Box (Unit {0}) Global) (a b : Rest F) → HasFinished a b → HasFinished (Into' i v p a) (Into' i z q b)
+    zip_left : (y z : Sides) (p q u v : Box (Unit {0}) Global) (a b r : Rest F) → HasFinished a b → HasFinished (Zip' y p a q r) (Zip' z u b v r)
+    zip_right : (y z : Sides) (p q u v : Box (Unit {0}) Global) (r a b : Rest F) → HasFinished a b → HasFinished (Zip' y p r q a) (Zip' z u r v b)
+    merge_left : (m n : MergeTurns) (p q u v : Box (Unit {0}) Global) (a b r : Rest F) → HasFinished a b → HasFinished (Merge' m p a q r) (Merge' n u b v r)
+    merge_right : (m n : MergeTurns) (p q u v : Box (Unit {0}) Global) (r a b : Rest F) → HasFinished a b → HasFinished (Merge' m p r q a) (Merge' n u r v b)
 
   -- a turn has one of three causes: a node was entered or left, a device gave a byte, or a pipe whose input has ended gave a load
   abbrev pub TurnIsCaused : (ℕ → DeviceTold) → (ℕ → DeviceTold) → Rest F → Rest F → Type 0
@@ -121,14 +145,16 @@ module _ {F : Type 0} (P : StateMeaning F) where
   IsCausedBy before now old new turn.Done = Unit {0}
   IsCausedBy before now old new (turn.Fault c) = Unit {0}
 
-  -- a turn was made in the scope s, with reads of at most n bytes
+  -- a turn was made in the scope s, with reads of at most n bytes; one that gave a load, or is the end and no fault, wrote nothing
   pub record Turned (before now : Around) (s n : ℕ) (old new : Rest F) (t : Turn) : Type 0 where
-    pub moved : Moved before now s old
+    pub moved : Moved before now old
     pub once : ReadsOnce before.told now.told n
+    pub writes : IsLoadOrDone t → WritesNothing before.told now.told
     pub live : (p : ℕ) → IsLive p new → IsLive p old
     pub fewer : left new ≤ left old
     pub spends : Spends before now old new
     pub ready : GoesOn t → IsReady now s new
+    pub scopes : GoesOn t → OwnScopes before now s old new
     pub pipes : GoesOn t → PipesFit P new
     pub kinds : (k : LoadKind) → HasKind P k old → GivesKind P k new t
     pub caused : IsCausedBy before.told now.told old new t

@@ -1,5 +1,6 @@
 //! A node is entered.
 ghost use Rattle.std.specs.Prelude.{◌≡◌, ℕ, true, false, IfOk, OnErr};
+ghost use Rattle.pull_turns.specs.Around.{WritesNothing};
 ghost use Rattle.pull_turns.specs.Groups.{Grouped, HasNoGroups};
 ghost use Rattle.pull_turns.specs.Piping.{standing};
 ghost use Rattle.pull_turns.specs.Rest.{CanStep};
@@ -12,17 +13,20 @@ ghost use Rattle.pull_turns.specs.declared.rest.Rest.TheVariants as rest;
 use crate::groups::{group_size, in_groups};
 use crate::loads::give;
 use crate::outside::Outside;
-use crate::rest::Rest;
+use crate::rest::{Rest, When};
 use crate::turn::Turn;
+use crate::writing::written_at;
 use chunk_core::Code;
 use device_port::Failed;
 use pull_nodes::{Node, PipeState};
 use std::alloc::{AllocError, Global};
+use stream_sides::{MergeState, ZipState};
 
 /// Enters a node in an open scope: what is left of it, and what that turn gives. Where a step stands
 /// above, which gets each load whole, no part is grouped.
 pub(crate) fn enter<O: Outside, F: PipeState>(
     alloc: Global,
+    tables: &F::Tables,
     node: Node,
     outside: &mut O,
     desk: &mut O::Desk,
@@ -30,15 +34,16 @@ pub(crate) fn enter<O: Outside, F: PipeState>(
     whole: bool,
 ) -> Result<(Rest<F>, Turn), AllocError>
     requires fits { O.fits outside.old desk.old }
-    requires ready { CanStep (standing F.stands F.comes) (O.seen outside.old) scope (rest.Start node) }
-    ensures turned { IfOk result (λ r. (n : ℕ) → Turned (standing F.stands F.comes) (O.seen outside.old) (O.seen outside.new) scope n (rest.Start node) r.0 r.1) }
+    requires ready { CanStep (standing F.stands F.comes (F.values tables.now)) (O.seen outside.old) scope (rest.Start node) }
+    ensures turned { IfOk result (λ r. (n : ℕ) → Turned (standing F.stands F.comes (F.values tables.now)) (O.seen outside.old) (O.seen outside.new) scope n (rest.Start node) r.0 r.1) }
     ensures work { IfOk result (λ r. Lessens F.due (rest.Start node) r.0 r.1) }
     ensures sized { IfOk result (λ r. HasNoPipe {F = F} (rest.Start node) → (n : ℕ) → Sized n (rest.Start node) r.0 (given r.1)) }
     ensures whole { IfOk result (λ r. whole ≡ true → HasNoGroups r.0) }
     ensures grouped { IfOk result (λ r. whole ≡ false → Grouped (rest.Start node) r.0 r.1) }
     ensures scoped { IfOk result (λ r. EntersIn (O.seen outside.old) (O.seen outside.new) scope node r.0 r.1) }
+    ensures unwritten { OnErr result (WritesNothing (O.seen outside.old).told (O.seen outside.new).told) }
     ensures spent { OnErr result (SpendsWithin {F = F} (O.seen outside.old) (O.seen outside.new) (rest.Start node)) }
-    ensures stopped { OnErr result (Moved {F = F} (O.seen outside.old) (O.seen outside.new) scope (rest.Start node)) }
+    ensures stopped { OnErr result (Moved {F = F} (O.seen outside.old) (O.seen outside.new) (rest.Start node)) }
     ensures fits { O.fits outside.new desk.new }
     ensures since { O.since outside.old desk.old outside.new desk.new }
 {
@@ -58,22 +63,37 @@ pub(crate) fn enter<O: Outside, F: PipeState>(
         }
         Node::Append(a, b) => {
             let a = begin(alloc, a)?;
-            Ok((Rest::Append(a, b), Turn::Quiet))
+            Ok((Rest::Then(When::Done, a, b), Turn::Quiet))
         }
         Node::OnFault(a, b) => {
             let a = begin(alloc, a)?;
-            Ok((Rest::OnFault(a, b), Turn::Quiet))
+            Ok((Rest::Then(When::Fault, a, b), Turn::Quiet))
         }
         Node::Through(a, pipe) => {
             let size = group_size(&pipe, whole);
-            let state = F::of(alloc, pipe)?;
+            let state = F::of(alloc, tables, pipe)?;
             let a = begin(alloc, a)?;
             let rest = in_groups(alloc, size, Rest::Through(a, state))?;
             Ok((rest, Turn::Quiet))
         }
+        Node::Zip(a, b) => {
+            let a = begin(alloc, a)?;
+            let b = begin(alloc, b)?;
+            Ok((Rest::Zip(ZipState::new(alloc), a, b), Turn::Quiet))
+        }
+        Node::Merge(a, b) => {
+            let a = begin(alloc, a)?;
+            let b = begin(alloc, b)?;
+            Ok((Rest::Merge(MergeState::new(), a, b), Turn::Quiet))
+        }
         Node::Take(wanted, a) => {
             let a = begin(alloc, a)?;
             Ok((Rest::Take(wanted, a), Turn::Quiet))
+        }
+        Node::Into(place, a) => {
+            let a = begin(alloc, a)?;
+            let written = written_at(outside, place);
+            Ok((Rest::Into(place, written, a), Turn::Quiet))
         }
     }
 }

@@ -1,6 +1,7 @@
 //! Groups that leave the run one by one.
-ghost use Rattle.std.specs.Prelude.{◌≡◌, ◌<◌, ◌^◌, length, IfOk};
+ghost use Rattle.std.specs.Prelude.{◌≡◌, ◌<◌, ◌^◌, length, IfOk, OnErr};
 ghost use Rattle.chunk_core.specs.Elements.{elements, kind_of};
+ghost use Rattle.pull_turns.specs.Turned.{IsLoadOrDone};
 ghost use Rattle.pull_turns.specs.Groups.{GroupedOf, HasElements, IsFirstGroup, IsInGroups, IsOfKind, size_above, waiting};
 
 use crate::rest::Rest;
@@ -62,7 +63,8 @@ fn some_load(load: Load) -> Option<Load>
 
 /// What comes of a turn below: of a load the first group.
 pub(crate) fn grouped(size: u32, waits: &mut Option<Load>, turn: Turn) -> Result<Turn, AllocError>
-    ensures { IfOk result (λ t. GroupedOf size waits.old waits.new turn t) }
+    ensures groups { IfOk result (λ t. GroupedOf size waits.old waits.new turn t) }
+    ensures wants { OnErr result (IsLoadOrDone turn) }
 {
     match turn {
         Turn::Chunk(load) => Ok(Turn::Chunk(first_group(size, waits, load)?)),

@@ -1,10 +1,10 @@
 //! Runs a node turn by turn: each turn does one thing, and tells what came of it.
 //!
 //! `Runner::over` takes a node, what it is run over (`Outside`: devices by their places, and
-//! scopes), and the most bytes of a read. `turn` makes one turn (`Turn`), `uncons` turns until
-//! elements or the end come (`Unconsed`), and `run_all` turns to the end, neither more than so many;
-//! a fault is an end. Where one of them answers `AllocError`, the one error, the run may only be
-//! halted. `halt` closes all that is open, as canceled; `how` tells how the run ended, and `end`
+//! scopes), and the most bytes of a read. `turn` makes one turn (`Turn`), over the tables in which
+//! pipes look up, and `uncons` turns until elements or the end come (`Unconsed`), not more than so
+//! many; a fault is an end. Where one of them answers `AllocError`, the one error, the run may only
+//! be halted. `halt` closes all that is open, as canceled; `how` tells how the run ended, and `end`
 //! gives the outside back. `Rest` is what is left of a node that runs.
 #![tactic(auto)]
 
@@ -16,10 +16,12 @@ pub(crate) mod piping;
 pub(crate) mod reading;
 pub mod rest;
 pub mod runner;
+pub(crate) mod sided;
 pub(crate) mod step;
 pub mod turn;
+pub mod writing;
 
 pub use outside::Outside;
-pub use rest::Rest;
+pub use rest::{Rest, When};
 pub use runner::{Runner, Unconsed};
 pub use turn::Turn;

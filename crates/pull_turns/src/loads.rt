@@ -1,6 +1,7 @@
 //! Loads that are given, and fronts of them.
-ghost use Rattle.std.specs.Prelude.{◌≡◌, IfOk};
+ghost use Rattle.std.specs.Prelude.{◌≡◌, IfOk, OnErr};
 ghost use Rattle.pull_turns.specs.Moves.{TakenOf, giving};
+ghost use Rattle.pull_turns.specs.Turned.{IsLoadOrDone};
 
 use crate::turn::Turn;
 use chunk_core::Load;
@@ -18,7 +19,8 @@ pub(crate) fn give(load: Load) -> Turn
 
 /// What a taker passes on: no more than is wanted.
 pub(crate) fn taken(wanted: &mut u64, turn: Turn) -> Result<Turn, AllocError>
-    ensures { IfOk result (λ t. TakenOf wanted.old wanted.new turn t) }
+    ensures taken { IfOk result (λ t. TakenOf wanted.old wanted.new turn t) }
+    ensures wants { OnErr result (IsLoadOrDone turn) }
 {
     match turn {
         Turn::Chunk(mut load) => {

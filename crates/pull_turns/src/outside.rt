@@ -5,7 +5,8 @@ use device_port::Failed;
 /// The devices of a stream by their places, and its scopes by their numbers.
 pub trait Outside {
     ghost use Rattle.std.specs.Prelude.{◌≡◌, ℕ, ◌-◌, ◌^◌, ◌<◌, ◌≤◌, length, IfOk, OnOk, OnErr};
-    ghost use Rattle.pull_turns.specs.Around.{Around, AcquiresDevice, Refuses, GivesPiece, FailsToRead, IsHeld, IsUntried, OpenAreHeld, Enters, LeavesScope};
+    ghost use Rattle.pull_turns.specs.Around.{Around, AcquiresDevice, Refuses, GivesPiece, FailsToRead, TakesPiece, FailsToWrite, IsHeld, IsNested, IsUntried, OpenAreHeld, Enters, LeavesScope};
+    ghost use Rattle.device_port.specs.declared.device.Mode.TheVariants as mode;
 
     /// Where the rows are.
     type Desk;
@@ -20,6 +21,9 @@ pub trait Outside {
 
     // In order, no device is open but those that open scopes hold.
     ghost held: { (o : Self) (d : Self.Desk) → fits o d → OpenAreHeld (seen o) };
+
+    // In order, what lies within a scope lies within all that that lies in.
+    ghost nested: { (o : Self) (d : Self.Desk) → fits o d → IsNested (seen o) };
 
     // A device that waits was never asked.
     ghost untried: { (o : Self) (d : Self.Desk) → fits o d → (p : ℕ) → (seen o).waits p → IsUntried ((seen o).told p) };
@@ -47,10 +51,23 @@ pub trait Outside {
     fn read(&mut self, desk: &mut Self::Desk, place: u32, buf: &mut [u8]) -> Result<usize, Failed>
         requires fits { fits self.old desk.old }
         requires held { IsHeld (seen self.old) place }
+        requires mode { ((seen self.old).told place).place.mode ≡ mode.Read }
         requires some { 0 < length buf.old }
         requires room { ((seen self.old).told place).read_faults < 2 ^ 64 - 1 }
         ensures ok { IfOk result (λ n. GivesPiece (seen self.old) place n buf.new (seen self.new)) }
         ensures failed { OnErr result (FailsToRead (seen self.old) place (seen self.new)) }
+        ensures fits { fits self.new desk.new }
+        ensures since { since self.old desk.old self.new desk.new };
+
+    /// Writes a front of the bytes that isn't empty to a device that is held, and tells its length.
+    fn write(&mut self, desk: &mut Self::Desk, place: u32, bytes: &[u8]) -> Result<usize, Failed>
+        requires fits { fits self.old desk.old }
+        requires held { IsHeld (seen self.old) place }
+        requires mode { ((seen self.old).told place).place.mode ≡ mode.Write }
+        requires some { 0 < length bytes.now }
+        requires room { ((seen self.old).told place).write_faults < 2 ^ 64 - 1 }
+        ensures ok { IfOk result (λ n. TakesPiece (seen self.old) place n bytes.now (seen self.new)) }
+        ensures failed { OnErr result (FailsToWrite (seen self.old) place (seen self.new)) }
         ensures fits { fits self.new desk.new }
         ensures since { since self.old desk.old self.new desk.new };
 

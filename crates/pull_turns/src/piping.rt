@@ -1,9 +1,11 @@
 //! A pipe's part of a turn.
-ghost use Rattle.std.specs.Prelude.{◌≡◌, IfOk};
+ghost use Rattle.std.specs.Prelude.{◌≡◌, IfOk, OnErr};
 ghost use Rattle.chunk_core.specs.Elements.{Element, LoadKind, elements, kind_of};
 ghost use Rattle.chunk_core.specs.Feed.{Continues, Feeds, Finishes, Meaning};
 ghost use Rattle.pull_turns.specs.Piping.{standing, PipeCanFinish, CanPass};
 ghost use Rattle.pull_turns.specs.Passing.{after_fed, after_pipe, PipeGaveMore, Passes, turn_of_fed};
+ghost use Rattle.pull_turns.specs.Turned.{IsLoadOrDone};
+ghost use Rattle.chunk_core.specs.Tables.{Values, no_values};
 ghost use Rattle.pull_turns.specs.declared.piping.After.TheVariants as after;
 
 use crate::loads::give;
@@ -31,8 +33,9 @@ pub(crate) fn pass<F: PipeState>(
     state: &mut F,
     below: Turn,
 ) -> Result<(Turn, After), AllocError>
-    requires { CanPass (standing F.stands F.comes) state.old below }
-    ensures { IfOk result (λ r. Passes (standing F.stands F.comes) state.old state.new below r.0 r.1) }
+    requires { CanPass (standing F.stands F.comes no_values) state.old below }
+    ensures passes { IfOk result (λ r. (t : Values) → Passes (standing F.stands F.comes t) state.old state.new below r.0 r.1) }
+    ensures wants { OnErr result (IsLoadOrDone below) }
 {
     match below {
         Turn::Chunk(load) => {
@@ -50,8 +53,8 @@ pub(crate) fn finish<F: PipeState>(
     alloc: Global,
     state: &mut F,
 ) -> Result<(Turn, After), AllocError>
-    requires { PipeCanFinish (standing F.stands F.comes) state.old }
-    ensures { IfOk result (λ r. PipeGaveMore (standing F.stands F.comes) state.old state.new r.0 r.1) }
+    requires { PipeCanFinish (standing F.stands F.comes no_values) state.old }
+    ensures { IfOk result (λ r. (t : Values) → PipeGaveMore (standing F.stands F.comes t) state.old state.new r.0 r.1) }
 {
     let fed = state.finish(alloc)?;
     Ok(answer(fed, After::Finishing))

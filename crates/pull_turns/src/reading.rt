@@ -1,5 +1,6 @@
 //! One read of a device.
 ghost use Rattle.std.specs.Prelude.{◌≡◌, ◌-◌, ◌^◌, ◌<◌, min, IfOk, OnErr};
+ghost use Rattle.device_port.specs.declared.device.Mode.TheVariants as mode;
 ghost use Rattle.pull_turns.specs.Around.{IsHeld};
 ghost use Rattle.pull_turns.specs.Moves.{ReadsPiece, ReadsPlace};
 
@@ -23,6 +24,7 @@ pub(crate) fn read_piece<G: Outside>(
 ) -> Result<Turn, AllocError>
     requires fits { G.fits outside.old desk.old }
     requires held { IsHeld (G.seen outside.old) place }
+    requires mode { ((G.seen outside.old).told place).place.mode ≡ mode.Read }
     requires room { ((G.seen outside.old).told place).read_faults < 2 ^ 64 - 1 }
     requires at { ((G.seen outside.old).told place).at ≡ given.old }
     requires chunk { 0 < chunk }

@@ -1,6 +1,34 @@
 //! What is left of a node.
+ghost use Rattle.std.specs.Prelude.{◌≡◌};
+ghost use Rattle.pull_turns.specs.Moves.{begins};
+
+use crate::turn::Turn;
+use crate::writing::Written;
 use chunk_core::{Code, Load};
+use known::Known;
 use pull_nodes::Node;
+use stream_sides::{MergeState, ZipState};
+
+/// Which end of the first part begins the second.
+#[derive(Clone, Copy, Debug, PartialEq, Eq)]
+pub enum When {
+    /// The end with all elements given.
+    Done,
+    /// A fault.
+    Fault,
+}
+
+impl When {
+    /// This turn of the first part begins the second.
+    pub(crate) fn begins(self, turn: &Turn) -> bool
+        ensures { result ≡ begins self turn.now }
+    {
+        match self {
+            When::Done => matches!(turn, Turn::Done),
+            When::Fault => matches!(turn, Turn::Fault(_)),
+        }
+    }
+}
 
 /// What is left of a node that was begun, over pipes with states of the type `F`.
 #[derive(Drop)]
@@ -13,10 +41,8 @@ pub enum Rest<F> {
     Read(u32, u64),
     /// What is left in a scope of its own.
     Within(u32, Box<Rest<F>>),
-    /// What is left of the first part, and the second.
-    Append(Box<Rest<F>>, Box<Node>),
-    /// What is left of the first part, and what runs where that ends in a fault.
-    OnFault(Box<Rest<F>>, Box<Node>),
+    /// What is left of the first part, and the second, which runs where the first ends so.
+    Then(When, Box<Rest<F>>, Box<Node>),
     /// What is left below a pipe, and the pipe's state.
     Through(Box<Rest<F>>, F),
     /// A pipe whose input has ended, and which has more to give.
@@ -28,4 +54,10 @@ pub enum Rest<F> {
     Groups(u32, Option<Load>, Box<Rest<F>>),
     /// How many elements are still wanted.
     Take(u64, Box<Rest<F>>),
+    /// A place at which is written what is left gives, and what was written there.
+    Into(u32, Known<Written>, Box<Rest<F>>),
+    /// Two sides whose lines are paired, and what waits of one of them.
+    Zip(ZipState, Box<Rest<F>>, Box<Rest<F>>),
+    /// Two sides that are merged, and which is next.
+    Merge(MergeState, Box<Rest<F>>, Box<Rest<F>>),
 }

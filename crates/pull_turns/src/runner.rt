@@ -3,12 +3,13 @@ ghost use Rattle.std.specs.Prelude.{◌≡◌, ◌<◌, ◌≤◌, true, false, 
 ghost use Rattle.chunk_core.specs.declared.code.Exit.TheVariants as exit;
 ghost use Rattle.chunk_core.specs.declared.code.How.TheVariants as how;
 ghost use Rattle.pull_turns.specs.Around.{Affords, IsClosedWith};
+ghost use Rattle.chunk_core.specs.Tables.{Values};
 ghost use Rattle.pull_turns.specs.Piping.{standing};
 ghost use Rattle.pull_turns.specs.Rest.{CanStep};
 ghost use Rattle.pull_turns.specs.Sizes.{HasNoPipe, Sized, given, given_first};
 ghost use Rattle.pull_turns.specs.Turned.{Moved, Spends, SpendsWithin};
 ghost use Rattle.pull_turns.specs.Moves.{how_of};
-ghost use Rattle.pull_turns.specs.Led.{IsShut, TouchesOnly, Turns, Uncons};
+ghost use Rattle.pull_turns.specs.Led.{CanBeCut, IsShut, TouchesOnly, Turns, Uncons};
 ghost use Rattle.pull_turns.specs.Work.{Lessens};
 ghost use Rattle.pull_turns.specs.declared.rest.Rest.TheVariants as rest;
 
@@ -64,19 +65,20 @@ impl<O: Outside, F: PipeState> Runner<O, F> {
     }
 
     /// Makes one turn. At the end each scope is closed, and each device, with the exit of the end.
-    pub fn turn(&mut self, desk: &mut O::Desk) -> Result<Turn, AllocError>
+    pub fn turn(&mut self, tables: &F::Tables, desk: &mut O::Desk) -> Result<Turn, AllocError>
         requires fits { O.fits self.old.outside desk.old }
         requires runs { (self.old.how ≡ None) × (self.old.wanting ≡ false) }
-        requires can { CanStep (standing F.stands F.comes) (O.seen self.old.outside) 0 self.old.rest }
+        requires can { CanStep (standing F.stands F.comes (F.values tables.now)) (O.seen self.old.outside) 0 self.old.rest }
         requires chunk { 0 < self.old.chunk }
-        ensures turned { IfOk result (λ t. Turns (standing F.stands F.comes) (O.seen self.old.outside) (O.seen self.new.outside) self.old.chunk self.old.rest self.new.rest t) }
+        ensures turned { IfOk result (λ t. Turns (standing F.stands F.comes (F.values tables.now)) (O.seen self.old.outside) (O.seen self.new.outside) self.old.chunk self.old.rest self.new.rest t) }
         ensures work { IfOk result (λ t. Lessens F.due self.old.rest self.new.rest t) }
         ensures sized { IfOk result (λ t. HasNoPipe self.old.rest → Sized self.old.chunk self.old.rest self.new.rest (given t)) }
         ensures how { IfOk result (λ t. self.new.how ≡ how_of t) }
         ensures sound { IfOk result (λ t. self.new.wanting ≡ false) }
         ensures wanting { OnErr result ((self.new.wanting ≡ true) × (self.new.how ≡ None)) }
         ensures spent { OnErr result (SpendsWithin (O.seen self.old.outside) (O.seen self.new.outside) self.old.rest) }
-        ensures stopped { OnErr result (Moved (O.seen self.old.outside) (O.seen self.new.outside) 0 self.old.rest) }
+        ensures stopped { OnErr result (Moved (O.seen self.old.outside) (O.seen self.new.outside) self.old.rest) }
+        ensures cut { OnErr result (CanBeCut (standing F.stands F.comes (F.values tables.now)) (O.seen self.new.outside).told self.old.rest) }
         ensures chunk { self.new.chunk ≡ self.old.chunk }
         ensures fits { O.fits self.new.outside desk.new }
         ensures since { O.since self.old.outside desk.old self.new.outside desk.new }
@@ -84,6 +86,7 @@ impl<O: Outside, F: PipeState> Runner<O, F> {
         self.wanting = true;
         let turn = step(
             self.alloc,
+            tables,
             &mut self.rest,
             &mut self.outside,
             desk,
@@ -98,25 +101,31 @@ impl<O: Outside, F: PipeState> Runner<O, F> {
     }
 
     /// Makes turns until one gives elements or the end, but not more than `turns`.
-    pub fn uncons(&mut self, desk: &mut O::Desk, turns: u64) -> Result<Unconsed, AllocError>
+    pub fn uncons(
+        &mut self,
+        tables: &F::Tables,
+        desk: &mut O::Desk,
+        turns: u64,
+    ) -> Result<Unconsed, AllocError>
         requires fits { O.fits self.old.outside desk.old }
         requires runs { (self.old.how ≡ None) × (self.old.wanting ≡ false) }
-        requires can { CanStep (standing F.stands F.comes) (O.seen self.old.outside) 0 self.old.rest }
+        requires can { CanStep (standing F.stands F.comes (F.values tables.now)) (O.seen self.old.outside) 0 self.old.rest }
         requires chunk { 0 < self.old.chunk }
         requires turns { 1 ≤ turns }
-        ensures first { IfOk result (λ u. Uncons (standing F.stands F.comes) O.seen self.old.chunk turns self.old.outside self.new.outside self.old.rest self.new.rest self.new.how u) }
+        ensures first { IfOk result (λ u. Uncons (standing F.stands F.comes (F.values tables.now)) O.seen self.old.chunk turns self.old.outside self.new.outside self.old.rest self.new.rest self.new.how u) }
         ensures sized { IfOk result (λ u. HasNoPipe self.old.rest → Sized self.old.chunk self.old.rest self.new.rest (given_first u)) }
         ensures spends { IfOk result (λ u. Spends (O.seen self.old.outside) (O.seen self.new.outside) self.old.rest self.new.rest) }
         ensures sound { IfOk result (λ u. self.new.wanting ≡ false) }
         ensures wanting { OnErr result ((self.new.wanting ≡ true) × (self.new.how ≡ None)) }
         ensures spent { OnErr result (SpendsWithin (O.seen self.old.outside) (O.seen self.new.outside) self.old.rest) }
         ensures stopped { OnErr result ((O.seen self.new.outside).opened 0 × TouchesOnly (O.seen self.old.outside).told (O.seen self.new.outside).told self.old.rest) }
+        ensures cut { OnErr result (CanBeCut (standing F.stands F.comes (F.values tables.now)) (O.seen self.new.outside).told self.old.rest) }
         ensures chunk { self.new.chunk ≡ self.old.chunk }
         ensures fits { O.fits self.new.outside desk.new }
         ensures since { O.since self.old.outside desk.old self.new.outside desk.new }
     {
         for _turn in 0..turns {
-            match self.turn(desk)? {
+            match self.turn(tables, desk)? {
                 Turn::Chunk(load) => return Ok(Unconsed::Chunk(load)),
                 Turn::Quiet => (),
                 Turn::Done => return Ok(Unconsed::End(How::Done)),
@@ -142,6 +151,7 @@ impl<O: Outside, F: PipeState> Runner<O, F> {
         ensures exit { IsClosedWith (O.seen self.new.outside) 0 exit.Canceled }
         ensures tells { TouchesOnly {F = F} (O.seen self.old.outside).told (O.seen self.new.outside).told rest.Nil }
         ensures affords { Affords (O.seen self.old.outside) (O.seen self.new.outside) }
+        ensures cut { (t : Values) → CanStep (standing F.stands F.comes t) (O.seen self.old.outside) 0 self.old.rest → CanBeCut (standing F.stands F.comes t) (O.seen self.new.outside).told self.old.rest }
         ensures halted { self.old.wanting ≡ false → self.new.how ≡ Some how.Halted }
         ensures memory { self.old.wanting ≡ true → self.new.how ≡ Some how.Memory }
         ensures wanting { self.new.wanting ≡ self.old.wanting }

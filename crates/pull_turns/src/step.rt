@@ -1,12 +1,13 @@
 //! One turn of what is left of a node.
 ghost use Rattle.std.specs.Prelude.{◌≡◌, ℕ, ◌<◌, true, false, IfOk, OnErr, if◌then◌else◌};
+ghost use Rattle.pull_turns.specs.Around.{WritesNothing};
 ghost use Rattle.pull_turns.specs.Groups.{Grouped, HasNoGroups};
 ghost use Rattle.pull_turns.specs.Piping.{standing};
 ghost use Rattle.pull_turns.specs.Rest.{CanStep};
 ghost use Rattle.pull_turns.specs.Scoped.{Scoped};
 ghost use Rattle.pull_turns.specs.Sizes.{HasNoPipe, Sized, given};
 ghost use Rattle.pull_turns.specs.Turned.{Moved, SpendsWithin, Turned};
-ghost use Rattle.pull_turns.specs.Moves.{is_done, turn_is_fault, behind, append_turn, guard_turn, LeavesAtEnd};
+ghost use Rattle.pull_turns.specs.Moves.{begins, behind, turn_of_first, LeavesAtEnd};
 ghost use Rattle.pull_turns.specs.Work.{Lessens};
 
 use crate::enter::enter;
@@ -15,16 +16,20 @@ use crate::loads::taken;
 use crate::outside::Outside;
 use crate::piping::{finish, go_through, pass};
 use crate::reading::read_piece;
-use crate::rest::Rest;
+use crate::rest::{Rest, When};
+use crate::sided::{merged, zipped};
 use crate::turn::Turn;
+use crate::writing::write_load;
 use pull_nodes::{Node, PipeState};
 use std::alloc::{AllocError, Global};
 use std::mem;
+use stream_sides::Side;
 
 /// One turn in an open scope, with a read of at most `chunk` bytes. Where a step stands above, which
 /// gets each load whole, no part is grouped.
 pub(crate) fn step<O: Outside, F: PipeState>(
     alloc: Global,
+    tables: &F::Tables,
     rest: &mut Rest<F>,
     outside: &mut O,
     desk: &mut O::Desk,
@@ -33,17 +38,18 @@ pub(crate) fn step<O: Outside, F: PipeState>(
     whole: bool,
 ) -> Result<Turn, AllocError>
     requires fits { O.fits outside.old desk.old }
-    requires ready { CanStep (standing F.stands F.comes) (O.seen outside.old) scope rest.old }
+    requires ready { CanStep (standing F.stands F.comes (F.values tables.now)) (O.seen outside.old) scope rest.old }
     requires chunk { 0 < chunk }
     requires whole { whole ≡ true → HasNoGroups rest.old }
-    ensures turned { IfOk result (λ t. Turned (standing F.stands F.comes) (O.seen outside.old) (O.seen outside.new) scope chunk rest.old rest.new t) }
+    ensures turned { IfOk result (λ t. Turned (standing F.stands F.comes (F.values tables.now)) (O.seen outside.old) (O.seen outside.new) scope chunk rest.old rest.new t) }
     ensures work { IfOk result (λ t. Lessens F.due rest.old rest.new t) }
     ensures sized { IfOk result (λ t. HasNoPipe rest.old → Sized chunk rest.old rest.new (given t)) }
     ensures whole { IfOk result (λ t. whole ≡ true → HasNoGroups rest.new) }
     ensures grouped { IfOk result (λ t. whole ≡ false → Grouped rest.old rest.new t) }
-    ensures scoped { IfOk result (λ t. Scoped (standing F.stands F.comes) (O.seen outside.old) (O.seen outside.new) scope rest.old rest.new t) }
+    ensures scoped { IfOk result (λ t. Scoped (standing F.stands F.comes (F.values tables.now)) (O.seen outside.old) (O.seen outside.new) scope rest.old rest.new t) }
+    ensures unwritten { OnErr result (WritesNothing (O.seen outside.old).told (O.seen outside.new).told) }
     ensures spent { OnErr result (SpendsWithin (O.seen outside.old) (O.seen outside.new) rest.old) }
-    ensures stopped { OnErr result (Moved (O.seen outside.old) (O.seen outside.new) scope rest.old) }
+    ensures stopped { OnErr result (Moved (O.seen outside.old) (O.seen outside.new) rest.old) }
     ensures fits { O.fits outside.new desk.new }
     ensures since { O.since outside.old desk.old outside.new desk.new }
 {
@@ -51,7 +57,7 @@ pub(crate) fn step<O: Outside, F: PipeState>(
         Rest::Nil => Ok(Turn::Done),
         Rest::Start(node) => {
             let node = mem::replace(node, Node::Nil);
-            let (new, turn) = enter(alloc, node, outside, desk, scope, whole)?;
+            let (new, turn) = enter(alloc, tables, node, outside, desk, scope, whole)?;
             *rest = new;
             Ok(turn)
         }
@@ -60,20 +66,17 @@ pub(crate) fn step<O: Outside, F: PipeState>(
             Ok(turn)
         }
         Rest::Within(child, a) => {
-            let turn = step(alloc, a, outside, desk, *child, chunk, whole)?;
+            let turn = step(alloc, tables, a, outside, desk, *child, chunk, whole)?;
             leave_at_end(outside, desk, *child, &turn);
             Ok(turn)
         }
-        Rest::Append(a, _) => {
-            let turn = step(alloc, a, outside, desk, scope, chunk, whole)?;
-            Ok(after_first(rest, turn))
-        }
-        Rest::OnFault(a, _) => {
-            let turn = step(alloc, a, outside, desk, scope, chunk, whole)?;
-            Ok(after_guarded(rest, turn))
+        Rest::Then(when, a, _) => {
+            let when = *when;
+            let turn = step(alloc, tables, a, outside, desk, scope, chunk, whole)?;
+            Ok(after_first(rest, when, turn))
         }
         Rest::Through(a, state) => {
-            let below = step(alloc, a, outside, desk, scope, chunk, true)?;
+            let below = step(alloc, tables, a, outside, desk, scope, chunk, true)?;
             let (turn, after) = pass(alloc, state, below)?;
             go_through(rest, after);
             Ok(turn)
@@ -89,7 +92,7 @@ pub(crate) fn step<O: Outside, F: PipeState>(
                 let group = first_group(*size, waits, load)?;
                 return Ok(Turn::Chunk(group));
             }
-            let turn = step(alloc, a, outside, desk, scope, chunk, true)?;
+            let turn = step(alloc, tables, a, outside, desk, scope, chunk, true)?;
             let turn = grouped(*size, waits, turn)?;
             Ok(turn)
         }
@@ -97,10 +100,37 @@ pub(crate) fn step<O: Outside, F: PipeState>(
             if *wanted == 0 {
                 return Ok(Turn::Done);
             }
-            let turn = step(alloc, a, outside, desk, scope, chunk, true)?;
+            let turn = step(alloc, tables, a, outside, desk, scope, chunk, true)?;
             let turn = taken(wanted, turn)?;
             Ok(turn)
         }
+        Rest::Into(place, written, a) => {
+            let below = step(alloc, tables, a, outside, desk, scope, chunk, true)?;
+            let turn = write_load(alloc, outside, desk, *place, written, below)?;
+            Ok(turn)
+        }
+        Rest::Zip(state, a, b) => match state.need() {
+            Side::Left => {
+                let below = step(alloc, tables, a, outside, desk, scope, chunk, true)?;
+                let turn = zipped(state, Side::Left, below)?;
+                Ok(turn)
+            }
+            Side::Right => {
+                let below = step(alloc, tables, b, outside, desk, scope, chunk, true)?;
+                let turn = zipped(state, Side::Right, below)?;
+                Ok(turn)
+            }
+        },
+        Rest::Merge(state, a, b) => match state.next() {
+            Side::Left => {
+                let below = step(alloc, tables, a, outside, desk, scope, chunk, whole)?;
+                Ok(merged(state, Side::Left, a, below))
+            }
+            Side::Right => {
+                let below = step(alloc, tables, b, outside, desk, scope, chunk, whole)?;
+                Ok(merged(state, Side::Right, b, below))
+            }
+        },
     }
 }
 
@@ -122,34 +152,19 @@ fn go_on<F: Drop>(rest: &mut Rest<F>)
     ensures { rest.new ≡ behind rest.old }
 {
     match mem::replace(rest, Rest::Nil) {
-        Rest::Append(_a, b) => *rest = Rest::Start(Box::into_inner(b)),
-        Rest::OnFault(_a, b) => *rest = Rest::Start(Box::into_inner(b)),
+        Rest::Then(_when, _a, b) => *rest = Rest::Start(Box::into_inner(b)),
         other => *rest = other,
     }
 }
 
-fn after_first<F: Drop>(rest: &mut Rest<F>, turn: Turn) -> Turn
-    ensures rest { rest.new ≡ (if is_done turn then behind rest.old else rest.old) }
-    ensures turn { result ≡ append_turn turn }
+/// A turn of the first part, or where it begins the second a quiet turn.
+fn after_first<F: Drop>(rest: &mut Rest<F>, when: When, turn: Turn) -> Turn
+    ensures rest { rest.new ≡ (if begins when turn then behind rest.old else rest.old) }
+    ensures turn { result ≡ turn_of_first when turn }
 {
-    match turn {
-        Turn::Done => {
-            go_on(rest);
-            Turn::Quiet
-        }
-        turn => turn,
+    if when.begins(&turn) {
+        go_on(rest);
+        return Turn::Quiet;
     }
-}
-
-fn after_guarded<F: Drop>(rest: &mut Rest<F>, turn: Turn) -> Turn
-    ensures rest { rest.new ≡ (if turn_is_fault turn then behind rest.old else rest.old) }
-    ensures turn { result ≡ guard_turn turn }
-{
-    match turn {
-        Turn::Fault(_) => {
-            go_on(rest);
-            Turn::Quiet
-        }
-        turn => turn,
-    }
+    turn
 }

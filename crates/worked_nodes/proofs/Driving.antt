@@ -4,6 +4,7 @@ use Rattle.std.proofs.lemmas.List.{length-map}
 use Rattle.chunk_core.specs.declared.code.How.{How}
 use Rattle.chunk_core.specs.Elements.{Element}
 use Rattle.device_port.specs.Device.{DeviceTold}
+use Rattle.device_port.specs.declared.device.Mode.TheVariants as mode
 use Rattle.pull_nodes.specs.Runs.{IsRun}
 use Rattle.pull_nodes.specs.declared.node.Node.{Node}
 use Rattle.pull_turns.specs.Around.{Affords}
@@ -19,7 +20,7 @@ use Rattle.scope_tree.proofs.Use.{all_open}
 use Rattle.chunk_core.specs.Lists.{IsAmong}
 use Rattle.pull_nodes.specs.Kinds.{node_kind}
 use Rattle.pull_nodes.specs.Placed.{is_placed}
-use Rattle.pull_nodes.specs.Shape.{node_count, places_of, scope_count}
+use Rattle.pull_nodes.specs.Shape.{EachRead, EachWrite, node_count, places_of, scope_count}
 use Rattle.pull_stepper.specs.Placing.{first_of}
 use Rattle.pull_stepper.proofs.Firsts.{among_run, first_is}
 use Rattle.pull_stepper.proofs.Placing.{placed_distinct, placed_within}
@@ -30,7 +31,7 @@ use Rattle.tree_laws.proofs.Room.{room_along}
 use Rattle.pull_stepper.specs.Held.{FinishesDevice}
 use Rattle.pull_stepper.specs.Laws.{since_then}
 use Rattle.pull_stepper.specs.Sites.{IsUnused, Parted, Since, around, told_at}
-use Rattle.pull_stepper.specs.Stepping.{StepperEnds, HasRoomFor, IsSupplied, Stepping, begun, span_of}
+use Rattle.pull_stepper.specs.Stepping.{StepperEnds, HasRoomFor, IsFor, IsSupplied, Stepping, begun, span_of}
 use Rattle.worked_nodes.specs.Uses.{Gathers, RanNode}
 
 -- what leaves other seats alone twice does so
@@ -59,7 +60,7 @@ module _ {V F : Type 0} (P : StateMeaning F) (told : V → DeviceTold) (n : Node
   abbrev Goes : Stepping V F → Type 0
   Goes b = Gathers P told b m xs → SpendsWithin (around told b.site) (around told m.site) b.rest → Since told (FinishesDevice told) b.site m.site
       → (left : Seen V) (h : How) (ds : List V) → end_by z.how ≡ end_by m.how → TouchesOnly {F = F} (told_at told m.site) (told_at told z.site) Nil → Affords (around told m.site) (around told z.site)
-      → Since told (FinishesDevice told) m.site z.site → StepperEnds told z left h ds → used left ≤ left.rows → RanNode told n devices a left xs h ds
+      → Since told (FinishesDevice told) m.site z.site → StepperEnds told z left h ds → used left ≤ left.rows → RanNode told P.values n devices a left xs h ds
 
   goes_begun : (chunk : ℕ) → Goes (begun n a devices chunk)
   goes_begun chunk gathers spends first left h ds how tells affords second end sound =
@@ -74,7 +75,7 @@ module _ {V F : Type 0} (P : StateMeaning F) (told : V → DeviceTold) (n : Node
       let spare : left.seat.spare ≡ z.site.tree.seat.spare = ap (λ t. t.seat.spare) end.tree in
       record {
         w = told_at told z.site;
-        run = subst (λ e. IsRun (told_at told z.site) n xs e) ended (gathers (told_at told z.site) (record { over = λ p i. tells.others p (λ l. l); goes = tells.goes }));
+        run = subst (λ e. IsRun P.values (told_at told z.site) n xs e) ended (gathers (told_at told z.site) (record { over = λ p i. tells.others p (λ l. l); goes = tells.goes }));
         same = since.same;
         parted = subst (λ f. Parted told (told_at told z.site) left.shelf (span_of n (length devices)).to f ds) since.from
             (subst (λ t. Parted told (told_at told z.site) left.shelf t z.site.from ds) to end.parted);
@@ -102,8 +103,8 @@ module _ (k : ℕ) (n : Node) (placed : is_placed (record { from = 0; to = k }) 
           (λ q i. let w = placed_within (record { from = 0; to = k }) n placed q i in (w.0, omega (arith, w.1, count)))
 
   pub placed_supplied : {V : Type 0} (told : V → DeviceTold) (devices : List V) → IsSome (node_kind n) → node_count n < 2 ^ 32 → length devices ≡ k
-      → ((d : V) → IsAmong d devices → IsUnused (told d)) → IsSupplied told n devices
-  placed_supplied told devices kind few same unused =
+      → ((d : V) → IsAmong d devices → IsUnused (told d)) → EachRead (IsFor told 0 devices mode.Read) n → EachWrite (IsFor told 0 devices mode.Write) n → IsSupplied told n devices
+  placed_supplied told devices kind few same unused reads writes =
       let to : k ≡ first_of (places_of n) + length devices = omega (arith, placed_first, same) in
       record {
         kind = kind;
@@ -111,4 +112,6 @@ module _ (k : ℕ) (n : Node) (placed : is_placed (record { from = 0; to = k }) 
         placed = subst (λ m. is_placed (record { from = first_of (places_of n); to = m }) n ≡ true) to (subst (λ m. is_placed (record { from = m; to = k }) n ≡ true) (sym placed_first) placed);
         count = same ∙ sym count;
         unused = unused;
+        reads = subst (λ m. EachRead (IsFor told m devices mode.Read) n) (sym placed_first) reads;
+        writes = subst (λ m. EachWrite (IsFor told m devices mode.Write) n) (sym placed_first) writes;
       }

@@ -7,6 +7,7 @@ use Rattle.chunk_core.specs.Outcomes.{exit_of}
 use Rattle.device_port.specs.Device.{DeviceTold}
 use Rattle.pull_nodes.specs.Runs.{IsRun}
 use Rattle.pull_nodes.specs.Shape.{places_of, scope_count}
+use Rattle.chunk_core.specs.Tables.{Values}
 use Rattle.pull_nodes.specs.declared.node.Node.{Node}
 use Rattle.pull_turns.specs.Around.{IsClosedWith}
 use Rattle.pull_turns.specs.Led.{IsShut, end_by, end_of}
@@ -40,10 +41,10 @@ module _ {V : Type 0} (told : V → DeviceTold) where
   abbrev pub IsLeft : {F : Type 0} → Stepping V F → Type 0
   IsLeft a = IsLeftBy a.how a
 
-  -- the node was run over these devices, gave xs and ended with h, which the Close of the root tells, and used no more room of the tree than the node counts
-  pub record RanNode (n : Node) (devices : List V) (a b : Seen V) (xs : List Element) (h : How) (unopened : List V) : Type 0 where
+  -- the node was run over these devices and tables with these values, gave xs and ended with h, which the Close of the root tells, and used no more room of the tree than the node counts
+  pub record RanNode (t : Values) (n : Node) (devices : List V) (a b : Seen V) (xs : List Element) (h : How) (unopened : List V) : Type 0 where
     pub w : ℕ → DeviceTold
-    pub run : IsRun w n xs (end_of h)
+    pub run : IsRun t w n xs (end_of h)
     pub same : (p : ℕ) → SameDevice (told_at told (site_of n a devices) p) (w p)
     pub parted : Parted told w b.shelf (span_of n (length devices)).to (span_of n (length devices)).from unopened
     pub root : IsClosedScope b 0

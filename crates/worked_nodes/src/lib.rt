@@ -3,9 +3,13 @@
 #![tactic(auto)]
 
 #[cfg(test)]
+mod into_tests;
+#[cfg(test)]
 mod pipe_tests;
 #[cfg(test)]
 mod runs;
+#[cfg(test)]
+mod side_tests;
 #[cfg(test)]
 mod tests;
 pub mod uses;

@@ -1,14 +1,16 @@
 //! Runs of nodes over a plain seat, devices in memory and any pipes, and what they show as text.
-ghost use Rattle.std.specs.Prelude.{◌≡◌, ◌<◌, ◌≤◌, ◌^◌, true, IfOk, IsSome, OnOk, length};
+ghost use Rattle.std.specs.Prelude.{◌≡◌, ◌+◌, ◌<◌, ◌≤◌, ◌^◌, true, IfOk, IsSome, OnOk, length};
 ghost use Rattle.chunk_core.specs.Lists.{IsAmong};
 ghost use Rattle.device_port.specs.Records.{record_told};
 ghost use Rattle.pull_nodes.specs.Kinds.{node_kind};
 ghost use Rattle.pull_nodes.specs.Placed.{is_placed};
-ghost use Rattle.pull_nodes.specs.Shape.{node_count, places_of};
+ghost use Rattle.pull_nodes.specs.Shape.{EachRead, EachWrite, node_count, places_of};
+ghost use Rattle.device_port.specs.declared.device.Mode.TheVariants as mode;
+ghost use Rattle.pull_stepper.specs.Stepping.{IsFor};
 ghost use Rattle.pull_stepper.specs.Sites.{IsUnused};
 
 use crate::uses::{Alone, Pace, run_alone};
-use any_pipe::AnyPipe;
+use any_pipe::{AnyPipe, NoTables};
 use chunk_core::{Chunk, Line, List, Load, Span, Word, render};
 use device_port::{Act, Depot, FileOf, MemDepot, MemDevice, Mode, Trip};
 use pull_nodes::Node;
@@ -48,21 +50,70 @@ pub fn depot(alloc: Global, a: &[u8], fail: Option<(Act, u32)>) -> Result<MemDep
     MemDepot::new(alloc, files, trips)
 }
 
-/// Devices that read these paths.
+/// The node writes the place.
+fn writes(node: &Node, place: u32) -> bool {
+    match node {
+        Node::Nil | Node::Emit(_) | Node::Raise(_) | Node::Read(_) => false,
+        Node::Into(at, a) => *at == place || writes(a, place),
+        Node::Weak(_, a) | Node::Scope(a) | Node::Through(a, _) | Node::Take(_, a) => {
+            writes(a, place)
+        }
+        Node::Append(a, b) | Node::OnFault(a, b) | Node::Zip(a, b) | Node::Merge(a, b) => {
+            writes(a, place) || writes(b, place)
+        }
+    }
+}
+
+/// Devices of these paths, each for writing where the node writes its place.
 fn devices(
     alloc: Global,
     depot: &mut MemDepot,
+    node: &Node,
     paths: &[&str],
 ) -> Result<List<MemDevice>, AllocError>
+    requires paths { length paths.now < 2 ^ 16 }
     ensures count { IfOk result (λ ds. length ds ≡ length paths.now) }
     ensures unused { IfOk result (λ ds. (d : MemDevice) → IsAmong d ds → IsUnused (record_told d.facts)) }
 {
     let mut devices = List::new(alloc);
-    for path in paths {
-        let device = depot.make(alloc, &Word::of(alloc, path)?, Mode::Read)?;
+    for (place, path) in paths.iter().enumerate() {
+        let mode = if writes(node, place as u32) {
+            Mode::Write
+        } else {
+            Mode::Read
+        };
+        let device = depot.make(alloc, &Word::of(alloc, path)?, mode)?;
         devices.push(device)?;
     }
     Ok(devices)
+}
+
+/// The device of the place is for this.
+fn is_for(devices: &List<MemDevice>, place: u32, mode: Mode) -> bool
+    ensures { result ≡ true → IsFor (λ (d : MemDevice). record_told d.facts) 0 devices.now mode place }
+{
+    match devices.get(place as usize) {
+        Some(device) => device.facts().mode == mode,
+        None => false,
+    }
+}
+
+/// Each device is for what the node does with it.
+fn are_for(node: &Node, devices: &List<MemDevice>) -> bool
+    ensures reads { result ≡ true → EachRead (IsFor (λ (d : MemDevice). record_told d.facts) 0 devices.now mode.Read) node.now }
+    ensures writes { result ≡ true → EachWrite (IsFor (λ (d : MemDevice). record_told d.facts) 0 devices.now mode.Write) node.now }
+{
+    match node {
+        Node::Nil | Node::Emit(_) | Node::Raise(_) => true,
+        Node::Read(place) => is_for(devices, *place, Mode::Read),
+        Node::Into(place, a) => is_for(devices, *place, Mode::Write) && are_for(a, devices),
+        Node::Weak(_, a) | Node::Scope(a) | Node::Through(a, _) | Node::Take(_, a) => {
+            are_for(a, devices)
+        }
+        Node::Append(a, b) | Node::OnFault(a, b) | Node::Zip(a, b) | Node::Merge(a, b) => {
+            are_for(a, devices) && are_for(b, devices)
+        }
+    }
 }
 
 /// Refuses a node whose places aren't the first `count` rows.
@@ -114,15 +165,19 @@ pub fn run_in(
     requires pace { (1 ≤ pace.chunk) × (1 ≤ pace.turns) }
 {
     fits_rows(&node, paths.len() as u32)?;
-    let devices = devices(alloc, depot, paths)?;
+    let devices = devices(alloc, depot, &node, paths)?;
+    if !are_for(&node, &devices) {
+        return Err("a device is for something else".into());
+    }
     let (seat, mut desk) = PlainSeat::new(alloc, StreamNo::Inner(0), node.places(), node.events())?;
     let room = Room::new(alloc, node.scopes() + 1, node.places())?;
     Ok(run_alone::<MemDevice, PlainSeat<Held<MemDevice>>, AnyPipe>(
-        alloc, &mut desk, node, seat, room, devices, pace,
+        alloc, &NoTables, &mut desk, node, seat, room, devices, pace,
     ))
 }
 
-/// The path of a device, how often it was opened and closed, and the exit that it was closed with.
+/// The path of a device, how often it was opened and closed, the exit that it was closed with, and
+/// what was written to it.
 fn push_device(alloc: Global, out: &mut Vec<u8>, device: &MemDevice) -> Result<(), AllocError> {
     let facts = device.facts();
     let path = facts.path.as_str();
@@ -130,6 +185,11 @@ fn push_device(alloc: Global, out: &mut Vec<u8>, device: &MemDevice) -> Result<(
     out.extend_from_slice(format!(in alloc; "{path} {opens} {closes}")?.as_bytes())?;
     if let Some(exit) = facts.exit() {
         out.extend_from_slice(format!(in alloc; " {exit}")?.as_bytes())?;
+    }
+    if facts.mode == Mode::Write {
+        out.extend_from_slice(b" <")?;
+        out.extend_from_slice(&facts.written)?;
+        out.extend_from_slice(b">")?;
     }
     out.extend_from_slice(b"\n")
 }
@@ -169,4 +229,12 @@ pub fn lines(alloc: Global) -> Result<Load, AllocError> {
         lines.push(Line::of_vec(Vec::from_slice(alloc, line)?))?;
     }
     Ok(Load::Lines(Chunk::of_vec(alloc, lines)?))
+}
+
+/// Acquires a place, and writes there what comes.
+pub fn into(alloc: Global, place: u32, part: Node) -> Result<Node, AllocError>
+    ensures { IfOk result (λ node. node_count node ≡ node_count part + 2) }
+{
+    let write = Node::Into(place, Box::new(alloc, part)?);
+    Ok(Node::Weak(place, Box::new(alloc, write)?))
 }

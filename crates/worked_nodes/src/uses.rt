@@ -49,15 +49,16 @@ pub struct Whole<S: RowSeat, V> {
 /// Asks for the first of what is left, again and again, and counts how often nothing came.
 pub fn gather<V: Device, S: RowSeat<Pay = Held<V>>, F: PipeState>(
     stepper: &mut Stepper<S, V, F>,
+    tables: &F::Tables,
     desk: &mut S::Desk,
     out: &mut Vec<Load>,
     pace: Pace,
 ) -> Result<u64, AllocError>
     requires fits { Works S.view V.told S.fits stepper.old desk.old }
-    requires can { CanGo (standing F.stands F.comes) V.told (stepping S.view stepper.old) }
+    requires can { CanGo (standing F.stands F.comes (F.values tables.now)) V.told (stepping S.view stepper.old) }
     requires empty { out.old.items ≡ [] }
     requires turns { 1 ≤ pace.turns }
-    ensures gathers { Gathers (standing F.stands F.comes) V.told (stepping S.view stepper.old) (stepping S.view stepper.new) (flat_map elements out.new.items) }
+    ensures gathers { Gathers (standing F.stands F.comes (F.values tables.now)) V.told (stepping S.view stepper.old) (stepping S.view stepper.new) (flat_map elements out.new.items) }
     ensures left { IsLeft V.told (stepping S.view stepper.new) }
     ensures spends { SpendsWithin (around V.told (stepping S.view stepper.old).site) (around V.told (stepping S.view stepper.new).site) (stepping S.view stepper.old).rest }
     ensures fits { Works S.view V.told S.fits stepper.new desk.new }
@@ -66,7 +67,7 @@ pub fn gather<V: Device, S: RowSeat<Pay = Held<V>>, F: PipeState>(
 {
     let mut quiet = 0;
     for _ask in 0..pace.asks {
-        match stepper.uncons(desk, pace.turns)? {
+        match stepper.uncons(tables, desk, pace.turns)? {
             Unconsed::Chunk(load) => out.push(load)?,
             Unconsed::End(_) => return Ok(quiet),
             Unconsed::Again => quiet += 1,
@@ -98,6 +99,7 @@ pub fn close<V: Device, S: RowSeat<Pay = Held<V>>, F: PipeState>(
 /// Runs a node to its end, or halts it.
 pub fn run_whole<V: Device, S: RowSeat<Pay = Held<V>>, F: PipeState>(
     alloc: Global,
+    tables: &F::Tables,
     desk: &mut S::Desk,
     node: Node,
     tree: Tree<S>,
@@ -108,7 +110,7 @@ pub fn run_whole<V: Device, S: RowSeat<Pay = Held<V>>, F: PipeState>(
     requires supplied { IsSupplied V.told node devices }
     requires room { HasRoomFor (seen S.view tree) node }
     requires pace { (1 ≤ pace.chunk) × (1 ≤ pace.turns) }
-    ensures ran { IfOk result (λ r. RanNode V.told node devices (seen S.view tree) (seen S.view r.ended.tree) (flat_map elements r.loads.items) r.ended.how r.ended.unopened) }
+    ensures ran { IfOk result (λ r. RanNode V.told (F.values tables.now) node devices (seen S.view tree) (seen S.view r.ended.tree) (flat_map elements r.loads.items) r.ended.how r.ended.unopened) }
     ensures unmade { IfErr result (λ u. (u.tree ≡ tree) × (u.devices ≡ devices)) }
     ensures fits { IfOk result (λ r. Fits S.view S.fits r.ended.tree desk.new) }
     ensures same { OnErr result (desk.new ≡ desk.old) }
@@ -116,7 +118,7 @@ pub fn run_whole<V: Device, S: RowSeat<Pay = Held<V>>, F: PipeState>(
 {
     let mut stepper = Stepper::<S, V, F>::new(alloc, node, tree, devices, pace.chunk)?;
     let mut loads = Vec::new(alloc);
-    let quiet = gather(&mut stepper, desk, &mut loads, pace);
+    let quiet = gather(&mut stepper, tables, desk, &mut loads, pace);
     close(&mut stepper, desk);
     Ok(Whole {
         loads,
@@ -128,6 +130,7 @@ pub fn run_whole<V: Device, S: RowSeat<Pay = Held<V>>, F: PipeState>(
 /// Runs a node to its end, or closes the tree as canceled where there was no memory to begin.
 pub fn run_or_close<V: Device, S: RowSeat<Pay = Held<V>>, F: PipeState>(
     alloc: Global,
+    tables: &F::Tables,
     desk: &mut S::Desk,
     node: Node,
     tree: Tree<S>,
@@ -144,7 +147,7 @@ pub fn run_or_close<V: Device, S: RowSeat<Pay = Held<V>>, F: PipeState>(
     ensures exit { HasExit (seen S.view result.ended.tree) (exit_of result.ended.how) }
     ensures fits { Fits S.view S.fits result.ended.tree desk.new }
 {
-    match run_whole::<V, S, F>(alloc, desk, node, tree, devices, pace) {
+    match run_whole::<V, S, F>(alloc, tables, desk, node, tree, devices, pace) {
         Ok(whole) => whole,
         Err(Unmade { tree, devices }) => {
             let mut tree = tree;
@@ -178,6 +181,7 @@ pub struct Alone<V> {
 /// counts, and finishes the seat.
 pub fn run_alone<V: Device, S: RowSeat<Pay = Held<V>>, F: PipeState>(
     alloc: Global,
+    tables: &F::Tables,
     desk: &mut S::Desk,
     node: Node,
     seat: S,
@@ -198,7 +202,7 @@ pub fn run_alone<V: Device, S: RowSeat<Pay = Held<V>>, F: PipeState>(
         loads,
         quiet,
         ended,
-    } = run_or_close::<V, S, F>(alloc, desk, node, tree, devices, pace);
+    } = run_or_close::<V, S, F>(alloc, tables, desk, node, tree, devices, pace);
     let Ended {
         tree,
         how,

@@ -1,10 +1,10 @@
 use Rattle.std.proofs.Common.{refl}
-use Rattle.pull_turns.proofs.Entering.{emit_enter, weak_enter, weak_refused, scope_enter, append_enter, guard_enter}
+use Rattle.pull_turns.proofs.Entering.{emit_enter, weak_enter, weak_refused, scope_enter, append_enter, guard_enter, into_enter, nil_enter, take_enter, merge_enter, zip_enter}
 use Rattle.pull_turns.proofs.Coming.{through_enter}
 use Rattle.pull_turns.proofs.Grouping.{groups_entered}
 use Rattle.pull_turns.proofs.Grouped.{some_size}
 use Rattle.pull_turns.proofs.Sized.{emit_sized}
-use Rattle.pull_turns.proofs.Work.{append_enter_work, emit_work, guard_enter_work, through_enter_work}
+use Rattle.pull_turns.proofs.Work.{append_enter_work, emit_work, guard_enter_work, into_enter_work, through_enter_work}
 use Rattle.pull_turns.proofs.enter.enter.Goals as goal
 
 pub returns-in-Emit-clause-turned : goal.returns-in-Emit-clause-turned
@@ -18,7 +18,7 @@ returns-in-Ok-clause-turned g c n =
 pub returns-in-Err-clause-turned : goal.returns-in-Err-clause-turned
 returns-in-Err-clause-turned g c n =
     let ready = rw c.in-Weak.is at c.requires.ready in
-    rw c.in-Weak.is (weak_refused _ _ _ _ n _ _ _ (g.O.Outside.untried _ _ c.requires.fits _ ready.ready.0) c.in-Err.ensures.failed)
+    rw c.in-Weak.is (weak_refused _ _ _ _ n _ _ _ (g.O.Outside.untried _ _ c.requires.fits _ ready.ready.0) ready c.in-Err.ensures.failed)
 
 pub returns-in_ok-a-in-Scope-clause-turned : goal.returns-in_ok-a-in-Scope-clause-turned
 returns-in_ok-a-in-Scope-clause-turned g c n = rw (c.in-Scope.is, c.in_ok-a-in-Scope.ensures) (scope_enter _ _ _ _ n _ _ _ _ (rw c.in-Scope.is at c.requires.ready) c.enter-child.ensures.enters)
@@ -52,3 +52,21 @@ pub returns-in_ok-rest-in-Through-clause-work : goal.returns-in_ok-rest-in-Throu
 returns-in_ok-rest-in-Through-clause-work g c =
     let made = rw c.in_ok-a-in-Through.ensures at c.in_ok-rest-in-Through.ensures in
     rw c.in-Through.is (through_enter_work _ _ _ _ _ _ _ _ made)
+
+pub returns-in_ok-a-in-Into-clause-turned : goal.returns-in_ok-a-in-Into-clause-turned
+returns-in_ok-a-in-Into-clause-turned g c n = rw (c.in-Into.is, c.in_ok-a-in-Into.ensures) (into_enter _ _ _ n _ _ _ _ _ c.written_at-written.ensures (rw c.in-Into.is at c.requires.ready))
+
+pub returns-in_ok-a-in-Into-clause-work : goal.returns-in_ok-a-in-Into-clause-work
+returns-in_ok-a-in-Into-clause-work g c = rw (c.in-Into.is, c.in_ok-a-in-Into.ensures) (into_enter_work _ _ _ _ _ _)
+
+pub returns-in-Nil-clause-turned : goal.returns-in-Nil-clause-turned
+returns-in-Nil-clause-turned g c n = rw c.in-Nil.is (nil_enter _ _ _ n)
+
+pub returns-in_ok-a-in-Take-clause-turned : goal.returns-in_ok-a-in-Take-clause-turned
+returns-in_ok-a-in-Take-clause-turned g c n = rw (c.in-Take.is, c.in_ok-a-in-Take.ensures) (take_enter _ _ _ n _ _ _ _ (rw c.in-Take.is at c.requires.ready))
+
+pub returns-in_ok-b-in-Zip-clause-turned : goal.returns-in_ok-b-in-Zip-clause-turned
+returns-in_ok-b-in-Zip-clause-turned g c n = rw (c.in-Zip.is, c.in_ok-a-in-Zip.ensures, c.in_ok-b-in-Zip.ensures, c.new.ensures) (zip_enter _ _ _ n _ _ _ _ _ _ (rw c.in-Zip.is at c.requires.ready))
+
+pub returns-in_ok-b-in-Merge-clause-turned : goal.returns-in_ok-b-in-Merge-clause-turned
+returns-in_ok-b-in-Merge-clause-turned g c n = rw (c.in-Merge.is, c.in_ok-a-in-Merge.ensures, c.in_ok-b-in-Merge.ensures, c.new-in-Merge.ensures) (merge_enter _ _ _ n _ _ _ _ _ _ (rw c.in-Merge.is at c.requires.ready))

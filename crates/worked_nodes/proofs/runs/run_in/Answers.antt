@@ -1,4 +1,4 @@
-use Rattle.std.proofs.Common.{◌∙◌, ◌-◌, ◌^◌, ap, arith, length}
+use Rattle.std.proofs.Common.{◌∙◌, ◌-◌, ◌^◌, ap, arith, length, refl}
 use Rattle.pull_nodes.specs.Shape.{places_of}
 use Rattle.pull_nodes.proofs.Counts.{places_le, scopes_le}
 use Rattle.res_ledger.specs.declared.event.StreamNo.TheVariants.{Inner}
@@ -15,7 +15,7 @@ overflow_add-scopes c = omega (arith, c.scopes.ensures, scopes_le c.args.node)
 pub run_alone-requires-clause-supplied : goal.run_alone-requires-clause-supplied
 run_alone-requires-clause-supplied c =
     let fits = c.in_ok-fits_rows.ensures in
-    placed_supplied _ c.args.node fits.placed fits.count _ _ fits.kind (omega arith) c.in_ok-devices.ensures.count c.in_ok-devices.ensures.unused
+    placed_supplied _ c.args.node fits.placed fits.count _ _ fits.kind (omega arith) c.in_ok-devices.ensures.count c.in_ok-devices.ensures.unused (c.if-not-are_for.ensures.reads refl) (c.if-not-are_for.ensures.writes refl)
 
 pub run_alone-requires-clause-first : goal.run_alone-requires-clause-first
 run_alone-requires-clause-first c = let fits = c.in_ok-fits_rows.ensures in placed_first _ c.args.node fits.placed fits.count

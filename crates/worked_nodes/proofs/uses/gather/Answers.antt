@@ -1,15 +1,14 @@
-use Rattle.std.proofs.Common.{arith, [], ◌∷◌, sym, subst, flat_map, append-nil}
+use Rattle.std.proofs.Common.{arith, refl, [], ◌∷◌, sym, subst, flat_map, append-nil}
 use Rattle.std.proofs.lemmas.Grind.{flat_map-append}
 use Rattle.chunk_core.specs.Elements.{elements}
 use Rattle.chunk_core.specs.Outcomes.{Cut}
 use Rattle.pull_turns.specs.Led.{Led, end_by, end_of}
 use Rattle.pull_turns.specs.Piping.{standing}
 use Rattle.pull_turns.specs.Rest.{IsRunOfRest}
-use Rattle.pull_turns.proofs.Leads.{can_stop}
-use Rattle.pull_turns.proofs.Led.{led_ends, led_start, led_then, spends_none, spends_then, tells_same}
+use Rattle.pull_turns.proofs.Led.{cut_unwritten, led_ends, led_short, led_start, led_then, spends_none, spends_then, tells_same}
 use Rattle.pull_stepper.specs.Held.{FinishesDevice}
 use Rattle.pull_stepper.specs.Laws.{since_same, since_then}
-use Rattle.pull_stepper.specs.Sites.{told_at}
+use Rattle.pull_stepper.specs.Sites.{around, told_at}
 use Rattle.pull_stepper.specs.Steppers.{stepping}
 use Rattle.worked_nodes.proofs.Driving.{others_then}
 use Rattle.worked_nodes.proofs.uses.gather.Goals as goal
@@ -17,7 +16,7 @@ use Rattle.worked_nodes.proofs.uses.gather.Goals.{in-Chunk+in_ok-push-in-Chunk, 
 
 pub loop-ask-init : goal.loop-ask-init
 loop-ask-init g c =
-    let P = standing g.F.Feed.stands g.F.Feed.comes in let told = g.V.Device.told in let a = stepping g.S.RowSeat.view c.args.stepper.now in
+    let P = standing g.F.Feed.stands g.F.Feed.comes (g.F.PipeState.values c.args.tables.now) in let told = g.V.Device.told in let a = stepping g.S.RowSeat.view c.args.stepper.now in
     record {
       quiet = omega arith;
       fits = c.requires.fits;
@@ -30,30 +29,30 @@ loop-ask-init g c =
 
 pub returns-in_err-load-clause-gathers : goal.returns-in_err-load-clause-gathers
 returns-in_err-load-clause-gathers g c =
-    let P = standing g.F.Feed.stands g.F.Feed.comes in let told = g.V.Device.told in let view = g.S.RowSeat.view in
+    let P = standing g.F.Feed.stands g.F.Feed.comes (g.F.PipeState.values c.args.tables.now) in let told = g.V.Device.told in let view = g.S.RowSeat.view in
     let a = stepping view c.args.stepper.now in let b = stepping view c.loop-ask.stepper in let z = stepping view c.uncons.new.self in
     let xs = flat_map elements c.loop-ask.out.items in let k = c.in_err-load.ensures.wants in
     λ w o. subst (λ h. IsRunOfRest P w a.rest xs (end_by h)) (sym k.how)
-    (led_ends P (told_at told a.site) (told_at told b.site) (told_at told z.site) a.rest b.rest xs Cut c.loop-ask.invariant.led k.tells (λ v p. can_stop P v b.rest) w o)
+    (led_ends P (told_at told a.site) (told_at told b.site) (told_at told z.site) a.rest b.rest xs Cut c.loop-ask.invariant.led k.tells k.cut w o)
 
 pub returns-in_err-load-clause-since : goal.returns-in_err-load-clause-since
 returns-in_err-load-clause-since g c = let told = g.V.Device.told in since_then told (FinishesDevice told) _ _ _ c.loop-ask.invariant.since c.in_err-load.ensures.since
 
 pub returns-in_err-push-in-Chunk-clause-gathers : goal.returns-in_err-push-in-Chunk-clause-gathers
 returns-in_err-push-in-Chunk-clause-gathers g c =
-    let P = standing g.F.Feed.stands g.F.Feed.comes in let told = g.V.Device.told in let view = g.S.RowSeat.view in
+    let P = standing g.F.Feed.stands g.F.Feed.comes (g.F.PipeState.values c.args.tables.now) in let told = g.V.Device.told in let view = g.S.RowSeat.view in
     let a = stepping view c.args.stepper.now in let b = stepping view c.loop-ask.stepper in let z = stepping view c.uncons.new.self in
     let xs = flat_map elements c.loop-ask.out.items in let k = (rw c.in-Chunk.is at c.in_ok-load.ensures.first).first in
     λ w o. subst (λ ls. IsRunOfRest P w a.rest (flat_map elements ls) (end_by z.how)) (sym c.in_err-push-in-Chunk.ensures.items)
     (subst (λ h. IsRunOfRest P w a.rest xs (end_by h)) (sym k.1)
-    (led_ends P (told_at told a.site) (told_at told b.site) (told_at told z.site) a.rest b.rest xs Cut c.loop-ask.invariant.led k.3.tells (λ v p. can_stop P v b.rest) w o))
+    (led_ends P (told_at told a.site) (told_at told b.site) (told_at told z.site) a.rest b.rest xs Cut c.loop-ask.invariant.led k.3.tells (led_short P (around told b.site) (around told z.site) 0 b.rest z.rest (elements c.in-Chunk.load) k.2 k.3) w o))
 
 pub returns-in_err-push-in-Chunk-clause-since : goal.returns-in_err-push-in-Chunk-clause-since
 returns-in_err-push-in-Chunk-clause-since g c = let told = g.V.Device.told in since_then told (FinishesDevice told) _ _ _ c.loop-ask.invariant.since c.in_ok-load.ensures.since
 
 pub returns-in-End-clause-gathers : goal.returns-in-End-clause-gathers
 returns-in-End-clause-gathers g c =
-    let P = standing g.F.Feed.stands g.F.Feed.comes in let told = g.V.Device.told in let view = g.S.RowSeat.view in
+    let P = standing g.F.Feed.stands g.F.Feed.comes (g.F.PipeState.values c.args.tables.now) in let told = g.V.Device.told in let view = g.S.RowSeat.view in
     let a = stepping view c.args.stepper.now in let b = stepping view c.loop-ask.stepper in let z = stepping view c.uncons.new.self in
     let xs = flat_map elements c.loop-ask.out.items in let k = (rw c.in-End.is at c.in_ok-load.ensures.first).first in
     λ w o. subst (λ h. IsRunOfRest P w a.rest xs (end_by h)) (sym k.0)
@@ -64,7 +63,7 @@ returns-in-End-clause-since g c = let told = g.V.Device.told in since_then told 
 
 pub loop-ask-preserved : goal.loop-ask-preserved
 loop-ask-preserved g c =
-    let P = standing g.F.Feed.stands g.F.Feed.comes in let told = g.V.Device.told in let view = g.S.RowSeat.view in
+    let P = standing g.F.Feed.stands g.F.Feed.comes (g.F.PipeState.values c.args.tables.now) in let told = g.V.Device.told in let view = g.S.RowSeat.view in
     let a = stepping view c.args.stepper.now in let b = stepping view c.loop-ask.stepper in let z = stepping view c.uncons.new.self in
     let i = c.loop-ask.invariant in let xs = flat_map elements c.loop-ask.out.items in
     let others = others_then view g.S.RowSeat.fits _ _ _ _ _ i.since.alone.by i.others c.in_ok-load.ensures.others in
@@ -97,8 +96,8 @@ loop-ask-preserved g c =
 
 pub returns-clause-gathers : goal.returns-clause-gathers
 returns-clause-gathers g c =
-    let P = standing g.F.Feed.stands g.F.Feed.comes in let told = g.V.Device.told in let view = g.S.RowSeat.view in
+    let P = standing g.F.Feed.stands g.F.Feed.comes (g.F.PipeState.values c.args.tables.now) in let told = g.V.Device.told in let view = g.S.RowSeat.view in
     let a = stepping view c.args.stepper.now in let b = stepping view c.loop-ask.stepper in
     let xs = flat_map elements c.loop-ask.out.items in let i = c.loop-ask.invariant in
     λ w o. subst (λ h. IsRunOfRest P w a.rest xs (end_by h)) (sym i.can.how)
-    (led_ends P (told_at told a.site) (told_at told b.site) (told_at told b.site) a.rest b.rest xs Cut i.led (tells_same (told_at told b.site) b.rest) (λ v p. can_stop P v b.rest) w o)
+    (led_ends P (told_at told a.site) (told_at told b.site) (told_at told b.site) a.rest b.rest xs Cut i.led (tells_same (told_at told b.site) b.rest) (cut_unwritten P (around told b.site) (around told b.site) 0 b.rest i.can.step (λ p. (refl, refl))) w o)

@@ -12,7 +12,7 @@ use Rattle.worked_nodes.proofs.uses.gather.Given as goal
 
 abbrev pub invariant-loop-ask : goal.invariant-loop-ask
 invariant-loop-ask g l =
-    let P = standing g.F.Feed.stands g.F.Feed.comes in let told = g.V.Device.told in let view = g.S.RowSeat.view in
+    let P = standing g.F.Feed.stands g.F.Feed.comes (g.F.PipeState.values l.fn.tables) in let told = g.V.Device.told in let view = g.S.RowSeat.view in
     let a = stepping view l.fn.stepper in let b = stepping view l.stepper in
     record {
       quiet : l.quiet ≤ l._ask;

@@ -9,10 +9,13 @@ use Rattle.worked_nodes.proofs.uses.run_whole.Goals as goal
 pub gather-quiet-requires-clause-fits : goal.gather-quiet-requires-clause-fits
 gather-quiet-requires-clause-fits g c = c.in_ok-stepper.ensures.fits c.args.desk.now c.requires.fits
 
+pub gather-quiet-requires-clause-can : goal.gather-quiet-requires-clause-can
+gather-quiet-requires-clause-can g c = c.in_ok-stepper.ensures.can (g.F.PipeState.values c.args.tables.now)
+
 pub returns-clause-ran : goal.returns-clause-ran
 returns-clause-ran g c =
     let told = g.V.Device.told in let view = g.S.RowSeat.view in
-    goes (standing g.F.Feed.stands g.F.Feed.comes) told c.args.node c.args.devices (seen view c.args.tree) c.requires.room (stepping view c.gather-quiet.new.stepper) (stepping view c.close.new.stepper) (flat_map elements c.gather-quiet.new.out.items)
+    goes (standing g.F.Feed.stands g.F.Feed.comes (g.F.PipeState.values c.args.tables.now)) told c.args.node c.args.devices (seen view c.args.tree) c.requires.room (stepping view c.gather-quiet.new.stepper) (stepping view c.close.new.stepper) (flat_map elements c.gather-quiet.new.out.items)
     (stepping view c.in_ok-stepper.stepper) c.args.pace.chunk c.in_ok-stepper.ensures.begun c.gather-quiet.ensures.gathers c.gather-quiet.ensures.spends c.gather-quiet.ensures.since
     (seen view c.end.result.tree) c.end.result.how c.end.result.unopened c.close.ensures.how c.close.ensures.tells c.close.ensures.affords c.close.ensures.since c.end.ensures.ends
     (c.end.ensures.fits c.close.new.desk c.close.ensures.fits).sound.used

@@ -1,6 +1,7 @@
 -- The device in the open row is the one that is read.
-use Rattle.std.proofs.Common.{◌<◌, sym, subst}
+use Rattle.std.proofs.Common.{◌≡◌, ◌<◌, sym, subst}
 use Rattle.chunk_core.specs.Lists.{IsAmong}
+use Rattle.device_port.specs.declared.device.Mode.TheVariants as mode
 use Rattle.scope_tree.specs.Lending.{lent_tree}
 use Rattle.scope_tree.proofs.Lent.{lent_fits}
 use Rattle.pull_stepper.specs.Held.{FinishesDevice}
@@ -48,3 +49,10 @@ returns-clause-since g c =
           (g.S.RowSeat.view (g.S.RowSeat.with_pay o.tree.seat c.args.place w)) (g.met.S.RowSeat.pay_view o.tree.seat c.args.place w) (after_read g.V.Device.told c.device_mut.result.now w c.read.result c.read.ensures.ok c.read.ensures.failed);
       others = λ s n f. f;
     }
+
+pub read-requires-clause-mode : goal.read-requires-clause-mode
+read-requires-clause-mode g c =
+    let o = c.args.self.now in
+    let held : IsAmong (c.args.place, c.device_mut.result.now) (g.S.RowSeat.view o.tree.seat).opened = subst (λ d. IsAmong (c.args.place, d) (g.S.RowSeat.view o.tree.seat).opened) (sym c.device_mut.ensures.value) c.pay_mut.ensures.value in
+    let told = told_before g.V.Device.told (site g.S.RowSeat.view o) c.args.place c.device_mut.result.now c.requires.fits.tree.sound.kept.holds.once c.requires.fits.order held in
+    subst (λ t. t.place.mode ≡ mode.Read) told c.requires.mode
