@@ -9,26 +9,28 @@ use Rattle.chunk_core.specs.Lists.IsAmong.{here, there}
 use Rattle.chunk_core.specs.Outcomes.{exit_of}
 use Rattle.chunk_core.specs.declared.code.Exit.{Exit}
 use Rattle.chunk_core.specs.declared.code.How.{How}
-use Rattle.chunk_core.proofs.Members.{among_left}
-use Rattle.chunk_core.proofs.Filters.{among_filter}
+use Rattle.chunk_core.proofs.Members.{among_left, among_mid}
 use Rattle.res_ledger.specs.declared.event.StreamNo.{StreamNo}
 use Rattle.res_ledger.specs.declared.event.StreamNo.TheVariants.{Inner}
 use Rattle.res_ledger.specs.declared.event.What.{What}
-use Rattle.res_ledger.specs.declared.event.What.TheVariants.{Acquire, Close, Final}
+use Rattle.res_ledger.specs.declared.event.What.TheVariants.{Acquire, Cancel, Close, Final, Lease}
 use Rattle.res_ledger.specs.declared.event.Event.{Event}
 use Rattle.res_ledger.specs.Ledger.{Notes, IsLegal, MayFollow}
 use Rattle.res_ledger.specs.Order.{same_exit}
 use Rattle.res_ledger.specs.Streams.{by_stream, same_stream}
 use Rattle.res_ledger.specs.Whole.{is_final}
-use Rattle.res_ledger.proofs.Ledgers.{by_out}
+use Rattle.res_ledger.proofs.Ledgers.{by_in, by_out, canceled_leased}
 use Rattle.res_ledger.proofs.Noted.{is_final_shape}
 use Rattle.res_ledger.proofs.Prefixes.{split_at}
 use Rattle.res_ledger.proofs.Tests.{exit_is, exit_same}
 use Rattle.chunk_core.proofs.Bools.{number, each_passes, any_at}
 use Rattle.device_port.specs.Device.{Place, DeviceTold}
-use Rattle.run_rules.specs.Facts.{at, first_numbers, acquired_row, ended_row, failed_row, leased_stream, is_failed, is_root_close, root_exit, has_event}
+use Rattle.run_rules.specs.Facts.{at, first_numbers, acquired_row, ended_row, failed_row, leased_stream, is_failed, is_root_close, has_event}
 use Rattle.run_rules.specs.Devices.{AreAsMany, IsRowBelow, is_closed_with, place_of_row}
-use Rattle.run_rules.specs.Run.{IsTied, is_named, is_owned, is_ours, root_exits}
+use Rattle.run_rules.specs.declared.end.EndOf.{EndOf}
+use Rattle.run_rules.specs.Exits.{HasExit}
+use Rattle.run_rules.specs.Homes.{IsTied}
+use Rattle.run_rules.specs.Rules.{ClosesBeforeLeaving, is_owned, is_ours, may_lease}
 use Rattle.flume_cli.specs.Alone.{alone, IsAccount, IsAtRest}
 use Rattle.flume_cli.proofs.Counting.{as_many, filter_map_from, filter_map_of, named_once, rows_named}
 use Rattle.chunk_core.proofs.Each.{each_among, among_each}
@@ -52,13 +54,6 @@ ends_with x r (Final q y ok) h = (elim (same_exit x y) as (λ b. same_exit x y �
   | false ↦ λ e k. cc
 ]) refl h
 ends_with x r v h = cc
-
-closes_root : (x : Exit) (v : What) → root_exit v ≡ Some x → v ≡ Close 0 x
-closes_root x (Close s y) h = (elim (nat_eq s 0) as (λ b. nat_eq s 0 ≡ b → cond b (Some y) None ≡ Some x → Close s y ≡ Close 0 x) [
-  | true ↦ λ e k. ap (λ z. Close z y) (number s 0 e) ∙ ap (λ z. Close 0 z) (some_is y x k)
-  | false ↦ λ e k. cc
-]) refl h
-closes_root x v h = cc
 
 failed_final : (v : What) → is_failed v ≡ true → (r : ℕ) × (x : Exit) × (v ≡ Final r x false)
 failed_final (Final r x false) t = (r, x, refl)
@@ -94,7 +89,7 @@ module _ (L : List Event) (legal : IsLegal L) where
       let may : MayFollow P e.by (Final r a.0 a.1) = subst (λ v. MayFollow P e.by v) a.2 (legal P Q e is) in
       may.0.2 (f.0.by, b.1, (b.0, (f.0, f.1, refl, b.2))))
 
-module _ (count : ℕ) (w : ℕ → DeviceTold) (how : How) (L : List Event) (a : IsAccount count w how L) where
+module _ (count scopes : ℕ) (w : ℕ → DeviceTold) (how : How) (L : List Event) (a : IsAccount count scopes w how L) where
   by_0 : (e : Event) → IsAmong e L → e.by ≡ Inner 0
   by_0 e i = (among_each (λ x. (x.by ≡ Inner 0) × (leased_stream x.what ≡ None)) e L a.own i).0
 
@@ -146,13 +141,34 @@ module _ (count : ℕ) (w : ℕ → DeviceTold) (how : How) (L : List Event) (a 
   pub root_closed : has_event is_root_close (by_stream (Inner 0) L) ≡ true
   root_closed = let n = a.closed.1 in any_at (λ e. is_root_close e.what) n.0 (by_stream (Inner 0) L) (by_out (Inner 0) L n.0 n.1 n.2) (ap is_root_close n.3)
 
-  pub root_as_ended : AllByRecursion (λ x. x ≡ exit_of how) (root_exits (Inner 0) L)
-  root_as_ended = each_among (λ x. x ≡ exit_of how) (root_exits (Inner 0) L) (λ x m.
-      let f = filter_map_from (λ (e : Event). root_exit e.what) x (by_stream (Inner 0) L) m in
-      let i = (among_filter (λ (e : Event). same_stream e.by (Inner 0)) f.0 L f.1).0 in
-      a.exits x (f.0, i, by_0 f.0 i, closes_root x f.0.what f.2))
+  -- nothing was leased, so no lease was cancelled
+  no_cancel : (e : Event) → IsAmong e L → (j : ℕ) (x : Exit) → e.what ≡ Cancel j x → ⊥
+  no_cancel e i j x is =
+      let n = canceled_leased L j a.legal (e.by, (x, (e, i, refl, is))) in
+      let m : Event = n.2.0 in
+      none_leased j n.1 (sym (ap leased_stream n.2.3) ∙ (among_each (λ x. (x.by ≡ Inner 0) × (leased_stream x.what ≡ None)) m L a.own n.2.1).1)
+    where
+      none_leased : (j s : ℕ) → leased_stream (Lease j s) ≡ None → ⊥
+      none_leased j s e = cc
 
-module _ (places : List Place) (w : ℕ → DeviceTold) (how : How) (L : List Event) (a : IsAccount (length places) w how L) (rest : (r : ℕ) → r < length places → IsAtRest (w r))
+  pub leaves_closed : ClosesBeforeLeaving L
+  leaves_closed P Q e j x is by what = absurd (no_cancel e (subst (λ l. IsAmong e l) (sym is) (among_mid P Q e)) j x what)
+
+  abbrev end_0 : EndOf
+  end_0 = record { who = Inner 0; how = how }
+
+  exit_what : (v : What) → ((x : Exit) → v ≡ Close 0 x → x ≡ exit_of how) → ((j : ℕ) (x : Exit) → v ≡ Cancel j x → ⊥) → HasExit end_0 v
+  exit_what (Close zero x) p q = p x refl
+  exit_what (Close (suc s) x) p q = tt
+  exit_what (Cancel j x) p q = absurd (q j x refl)
+  exit_what v p q = tt
+
+  pub told_as_ended : AllByRecursion (λ e. HasExit end_0 e.what) (by_stream (Inner 0) L)
+  told_as_ended = each_among (λ (e : Event). HasExit end_0 e.what) (by_stream (Inner 0) L) (λ e m.
+      let i = by_in (Inner 0) L e m in
+      exit_what e.what (λ x v. a.exits x (e, i.0, i.1, v)) (λ j x v. no_cancel e i.0 j x v))
+
+module _ (places : List Place) (scopes : ℕ) (w : ℕ → DeviceTold) (how : How) (L : List Event) (a : IsAccount (length places) scopes w how L) (rest : (r : ℕ) → r < length places → IsAtRest (w r))
     (placed : (r : ℕ) → r < length places → place_of_row places (Some r) ≡ (w r).place ∷ []) (back : List DeviceTold) (each : IsPermutation (map w (first_numbers (length places))) back) where
   -- the rows acquired are those whose devices were opened
   pub acquired_devices : AreAsMany (λ d. nat_eq d.opens 1) acquired_row back places L
@@ -160,14 +176,14 @@ module _ (places : List Place) (w : ℕ → DeviceTold) (how : How) (L : List Ev
       (λ r m.
       let f = filter_map_from (λ (e : Event). acquired_row e.what) r L m in
       let s = acquires r f.0.what f.2 in
-      let o = a.acquired r s.0 (f.0, f.1, by_0 (length places) w how L a f.0 f.1, s.1) in (o.0, ap (λ n. nat_eq n 1) o.1))
+      let o = a.acquired r s.0 (f.0, f.1, by_0 (length places) scopes w how L a f.0 f.1, s.1) in (o.0, ap (λ n. nat_eq n 1) o.1))
       (λ r l t. let n = a.each r l (number (w r).opens 1 t) in filter_map_of (λ (e : Event). acquired_row e.what) r n.2.0 L n.2.1 (ap acquired_row n.2.3))
 
   -- a row whose device isn't one that was never opened has a Final with the device's exit and answer
   final_opened : (r : ℕ) → r < length places → (((w r).opens ≡ 0) × ((w r).closes ≡ 0) × ((w r).close_faults ≡ 0) × ((w r).exit ≡ None) → ⊥)
       → (x : Exit) × (ok : Bool) × Notes L (Inner 0) (Final r x ok) × ((w r).exit ≡ Some x) × (ok ≡ nat_eq (w r).close_faults 0)
   final_opened r l not_idle =
-      ⊎_elim (λ s. absurd (not_idle s)) (λ s. let n = final_of (length places) w how L a r l s.0 in let e = a.ended r n.0 n.1 n.2 in (n.0, n.1, n.2, e.0, e.1)) (rest r l).stage
+      ⊎_elim (λ s. absurd (not_idle s)) (λ s. let n = final_of (length places) scopes w how L a r l s.0 in let e = a.ended r n.0 n.1 n.2 in (n.0, n.1, n.2, e.0, e.1)) (rest r l).stage
 
   -- the rows whose Final isn't ok are those whose devices couldn't be closed well
   pub failed_devices : AreAsMany (λ d. nat_lt 0 d.close_faults) failed_row back places L
@@ -176,8 +192,8 @@ module _ (places : List Place) (w : ℕ → DeviceTold) (how : How) (L : List Ev
       (λ r m.
       let f = filter_map_from (λ (e : Event). failed_row e.what) r L m in
       let v = fails r f.0.what f.2 in
-      let bad = (a.ended r v.0 false (f.0, f.1, by_0 (length places) w how L a f.0 f.1, v.1)).1 in
-      (ended_below (length places) w how L a r v.0 false f.0 f.1 v.1, let faults = eqb-false (w r).close_faults 0 (sym bad) in lt-ltb 0 (w r).close_faults (omega (arith, faults))))
+      let bad = (a.ended r v.0 false (f.0, f.1, by_0 (length places) scopes w how L a f.0 f.1, v.1)).1 in
+      (ended_below (length places) scopes w how L a r v.0 false f.0 f.1 v.1, let faults = eqb-false (w r).close_faults 0 (sym bad) in lt-ltb 0 (w r).close_faults (omega (arith, faults))))
       (λ r l t.
       let some = ltb-true 0 (w r).close_faults t in
       let n = final_opened r l (λ s. let z = s.2 in absurd (omega (arith, z, some))) in
@@ -190,8 +206,8 @@ module _ (places : List Place) (w : ℕ → DeviceTold) (how : How) (L : List Ev
       (λ r m.
       let f = filter_map_from (λ (e : Event). ended_row x e.what) r L m in
       let v = ends_with x r f.0.what f.2 in
-      let told = (a.ended r x v.0 (f.0, f.1, by_0 (length places) w how L a f.0 f.1, v.1)).0 in
-      (ended_below (length places) w how L a r x v.0 f.0 f.1 v.1, ap (λ (o : Option Exit). elim o [ Some y ↦ same_exit x y | None ↦ false ]) told ∙ exit_same x))
+      let told = (a.ended r x v.0 (f.0, f.1, by_0 (length places) scopes w how L a f.0 f.1, v.1)).0 in
+      (ended_below (length places) scopes w how L a r x v.0 f.0 f.1 v.1, ap (λ (o : Option Exit). elim o [ Some y ↦ same_exit x y | None ↦ false ]) told ∙ exit_same x))
       (λ r l t.
       let told = told_exit x (w r).exit t in
       let n = final_opened r l (λ s. none_told (sym s.3 ∙ told)) in
@@ -215,10 +231,10 @@ module _ (places : List Place) where
   owned_what v h = refl
 
   -- no event is of a stream or of a row that isn't there
-  pub ours : (w : ℕ → DeviceTold) (how : How) (L : List Event) → IsAccount (length places) w how L → (runs ideal : _) → all (is_ours (alone places runs ideal)) L ≡ true
-  ours w how L a runs ideal =
-      each_passes (is_ours (alone places runs ideal)) L (λ e i.
+  pub ours : (scopes : ℕ) (w : ℕ → DeviceTold) (how : How) (L : List Event) → IsAccount (length places) scopes w how L → (runs ideal : _) → all (is_ours (alone places scopes runs ideal)) L ≡ true
+  ours scopes w how L a runs ideal =
+      each_passes (is_ours (alone places scopes runs ideal)) L (λ e i.
       let own = among_each (λ x. (x.by ≡ Inner 0) × (leased_stream x.what ≡ None)) e L a.own i in
-      subst (λ k. (any (same_stream k) (Inner 0 ∷ []) && (is_named (Inner 0 ∷ []) (leased_stream e.what) && is_owned owners k (acquired_row e.what))) ≡ true) (sym own.0)
-      (subst (λ o. (is_named (Inner 0 ∷ []) o && is_owned owners (Inner 0) (acquired_row e.what)) ≡ true) (sym own.1)
+      subst (λ k. (any (same_stream k) (Inner 0 ∷ []) && (may_lease 1 k (leased_stream e.what) && is_owned owners k (acquired_row e.what))) ≡ true) (sym own.0)
+      (subst (λ o. (may_lease 1 (Inner 0) o && is_owned owners (Inner 0) (acquired_row e.what)) ≡ true) (sym own.1)
       (owned_what e.what (λ r s v. (a.acquired r s (e, i, own.0, v)).0))))

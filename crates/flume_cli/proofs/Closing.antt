@@ -1,5 +1,5 @@
 -- The ledger of a tree that stayed alone, by what stands on its shelf.
-use Rattle.std.proofs.Common.{◌≡◌, ℕ, ◌<◌, Bool, nat_eq, List, [], ◌∷◌, None, Some, refl, sym, ◌∙◌, ap, subst, ⊎_elim}
+use Rattle.std.proofs.Common.{◌≡◌, ℕ, ◌<◌, ◌≤◌, Bool, nat_eq, List, [], ◌∷◌, length, None, Some, refl, sym, ◌∙◌, ap, subst, ⊎_elim}
 use Rattle.chunk_core.specs.Lists.{IsAmong}
 use Rattle.chunk_core.specs.Lists.IsAmong.{here, there}
 use Rattle.chunk_core.proofs.Members.{among_nil, among_cons, among_left}
@@ -13,7 +13,7 @@ use Rattle.res_ledger.specs.declared.event.What.TheVariants.{Open, Lease, Close,
 use Rattle.res_ledger.specs.declared.event.Event.{Event}
 use Rattle.res_ledger.specs.Ledger.{Notes, NotesClose, LiesWithin, IsAcquired, IsClosed, IsLegal}
 use Rattle.res_ledger.specs.Ledger.LiesWithin.{same, below}
-use Rattle.res_ledger.specs.Own.{leased_of}
+use Rattle.res_ledger.specs.Own.{leased_of, opens, own}
 use Rattle.res_ledger.proofs.Ledgers.{at_noted, closed_map}
 use Rattle.res_ledger.proofs.Noted.{flat_found, flat_holds, notes_own, own_notes}
 use Rattle.res_ledger.proofs.Prefixes.{split_at}
@@ -59,14 +59,14 @@ module _ {P : Type 0} where
     pub rows : (x : Spent P) → IsAmong x shelf → (x.row < count) × ((w x.row).opens ≡ 1) × ((w x.row).exit ≡ Some x.exit) × (x.ok ≡ nat_eq (w x.row).close_faults 0)
     pub each : (r : ℕ) → r < count → (w r).opens ≡ 1 → (x : Spent P) × IsAmong x shelf × (x.row ≡ r)
 
-  module _ (v : View P) (L : List Event) (shelf : List (Spent P)) (count : ℕ) (w : ℕ → DeviceTold) (how : How) (name : v.by ≡ Inner 0) (ledger : IsLedgerOf v L) (whole : IsWholeLedger L)
-      (own : (e : Event) → IsAmong e v.events → (e.by ≡ v.by) × (leased_of e.what ≡ [])) (finals : noted_ends (words v) ≡ shelf_ends shelf) (closed : IsClosed v.events v.by 0) (exits : (x : Exit) → Notes v.events v.by (Close 0 x) → x ≡ exit_of how)
+  module _ (v : View P) (L : List Event) (shelf : List (Spent P)) (count scopes : ℕ) (w : ℕ → DeviceTold) (how : How) (name : v.by ≡ Inner 0) (ledger : IsLedgerOf v L) (whole : IsWholeLedger L) (opened : length (opens (own (Inner 0) L)) ≤ scopes)
+      (alone : (e : Event) → IsAmong e v.events → (e.by ≡ v.by) × (leased_of e.what ≡ [])) (finals : noted_ends (words v) ≡ shelf_ends shelf) (closed : IsClosed v.events v.by 0) (exits : (x : Exit) → Notes v.events v.by (Close 0 x) → x ≡ exit_of how)
       (tells : ShelfTells count w shelf) where
     to_ledger : (x : What) → Notes v.events v.by x → Notes L v.by x
     to_ledger x n = (n.0, (ledger.whole n.0).1 n.1, n.2, n.3)
 
     from_ledger : (k : StreamNo) (x : What) → Notes L k x → Notes v.events v.by x
-    from_ledger k x n = let m = (ledger.whole n.0).0 n.1 in (n.0, m, (own n.0 m).0, n.3)
+    from_ledger k x n = let m = (ledger.whole n.0).0 n.1 in (n.0, m, (alone n.0 m).0, n.3)
 
     to_0 : (x : What) → Notes L v.by x → Notes L (Inner 0) x
     to_0 x n = subst (λ k. Notes L k x) name n
@@ -85,12 +85,14 @@ module _ {P : Type 0} where
         let c = whole.complete.after_close parts.0 parts.1 n.0 x.row x.exit x.ok parts.2 n.3 in
         (c.0, c.1, (c.2.0, subst (λ l. IsAmong c.2.0 l) (sym parts.2) (among_left (n.0 ∷ parts.1) c.2.1), c.2.2, c.2.3))
 
-    pub account : IsAccount count w how L
+    pub account : IsAccount count scopes w how L
     account = record {
+      stamped = ledger.stamped;
       legal = whole.legal;
       complete = whole.complete;
       ordered = whole.order;
-      own = each_among (λ (e : Event). (e.by ≡ Inner 0) × (leased_stream e.what ≡ None)) L (λ e m. let o = own e ((ledger.whole e).0 m) in (o.0 ∙ name, not_leased e.what o.1));
+      own = each_among (λ (e : Event). (e.by ≡ Inner 0) × (leased_stream e.what ≡ None)) L (λ e m. let o = alone e ((ledger.whole e).0 m) in (o.0 ∙ name, not_leased e.what o.1));
+      opened = opened;
       acquired = λ r s n.
           let f = ledger.ended r (Inner 0, s, n) in
           let x = final_row f.0 r f.2.0 f.1 f.2.1 in

@@ -1,5 +1,5 @@
 -- A node that was run to its end, or that couldn't be begun.
-use Rattle.std.proofs.Common.{◌≡◌, ℕ, ◌+◌, Bool, List, [], ◌∷◌, ◌++◌, inl, inr, map, length, Some, Result, Err, refl, sym, ◌∙◌, ap, subst, ⊎_elim, arith, append-nil, nat_eq}
+use Rattle.std.proofs.Common.{◌≡◌, ℕ, ◌+◌, Bool, List, [], ◌∷◌, ◌++◌, inl, inr, map, length, Some, Result, Err, refl, sym, ◌≤◌, ◌∙◌, ap, subst, ⊎_elim, arith, append-nil, nat_eq}
 use Rattle.std.proofs.lemmas.Bool.{false≢true}
 use Rattle.std.proofs.lemmas.List.{length-map}
 use Rattle.std.specs.List.{filter_map, IsDistinct}
@@ -31,9 +31,11 @@ use Rattle.tree_laws.specs.Called.Called.{none, closed}
 use Rattle.tree_laws.proofs.Alone.{alone_closes}
 use Rattle.pull_stepper.specs.Held.{FinishesDevice}
 use Rattle.pull_stepper.specs.Placing.{first_of}
-use Rattle.pull_stepper.specs.Sites.{Parted, Since, told_at}
+use Rattle.pull_stepper.specs.Sites.{Parted, Since, around, told_at}
 use Rattle.pull_stepper.specs.Stepping.{StepperEnds, HasRoomFor, IsSupplied, Stepping, begun, site_of}
-use Rattle.pull_stepper.proofs.Beginning.{begun_in_order}
+use Rattle.pull_turns.specs.declared.rest.Rest.TheVariants as rest
+use Rattle.pull_turns.proofs.Led.{cut_unwritten, over_now}
+use Rattle.pull_stepper.proofs.Beginning.{begun_in_order, begun_can}
 use Rattle.pull_stepper.proofs.Closing.{closed_as}
 use Rattle.pull_stepper.proofs.Parting.{parted}
 use Rattle.flume_cli.specs.declared.frame.NotPut.{NotPut}
@@ -57,7 +59,7 @@ module _ {V : Type 0} (told : V → DeviceTold) (n : Node) (devices : List V) (c
 
   -- the node was run to its end
   node_ran_from : {F : Type 0} (P : StateMeaning F) (z : Stepping V F) (h : How) (ds : List V) (r : Result (Unit {0}) NotPut) → PrintsAll P told (begun n a devices chunk) z old new r → Since told (FinishesDevice told) (site_of n a devices) z.site → StepperEnds told z b h ds
-      → RunsNode told n devices chunk a b old new h ds r
+      → RunsNode told P.values n devices chunk a b old new h ds r
   node_ran_from P z h ds r prints since end =
       let count : length z.site.slots ≡ length devices = since.places ∙ length-map devices Some in
       let to : z.site.from + length z.site.slots ≡ first + length devices = omega (arith, since.from, count) in
@@ -65,7 +67,7 @@ module _ {V : Type 0} (told : V → DeviceTold) (n : Node) (devices : List V) (c
       record {
         home = told_at told z.site;
         same = since.same;
-        prints = subst (λ e. PrintsRun (IsRun (told_at told z.site) n) (HasNoPipeOf n) (widest_of chunk n) old new e r) end.how prints;
+        prints = subst (λ e. PrintsRun (IsRun P.values (told_at told z.site) n) (HasNoPipeOf n) (widest_of chunk n) old new e r) end.how prints;
         parted = subst (λ f. Parted told (told_at told z.site) b.shelf (first + length devices) f ds) since.from (subst (λ t. Parted told (told_at told z.site) b.shelf t z.site.from ds) to end.parted);
         once = end.once;
         rows = λ x m.
@@ -80,7 +82,7 @@ module _ {V : Type 0} (told : V → DeviceTold) (n : Node) (devices : List V) (c
       }
 
   pub node_ran : {F : Type 0} (P : StateMeaning F) (x z : Stepping V F) (h : How) (ds : List V) (r : Result (Unit {0}) NotPut) → x ≡ begun n a devices chunk → PrintsAll P told x z old new r → Since told (FinishesDevice told) x.site z.site → StepperEnds told z b h ds
-      → RunsNode told n devices chunk a b old new h ds r
+      → RunsNode told P.values n devices chunk a b old new h ds r
   node_ran {F = F} P x z h ds r e prints since end =
       node_ran_from P z h ds r (subst (λ (y : Stepping V F). PrintsAll P told y z old new r) e prints) (subst (λ (y : Stepping V F). Since told (FinishesDevice told) y.site z.site) e since) end
 
@@ -89,8 +91,8 @@ module _ {V : Type 0} (told : V → DeviceTold) (n : Node) (devices : List V) (c
   filtered (d ∷ ds) = ap (λ l. d ∷ l) (filtered ds)
 
   -- the node couldn't be begun, and the root was closed
-  pub node_unmade : IsSupplied told n devices → HasRoomFor a n → ClosesScope (FinishesDevice told) a 0 exit.Canceled b → new ≡ old → RunsNode {T = Unit {0}} told n devices chunk a b old new how.Memory devices (Err why.Memory)
-  node_unmade supplied room closes quiet =
+  pub node_unmade : {F : Type 0} (P : StateMeaning F) → 1 ≤ chunk → IsSupplied told n devices → HasRoomFor a n → ClosesScope (FinishesDevice told) a 0 exit.Canceled b → new ≡ old → RunsNode {T = Unit {0}} told P.values n devices chunk a b old new how.Memory devices (Err why.Memory)
+  node_unmade {F = F} P some supplied room closes quiet =
       let x = site_of n a devices in
       let bare : b.shelf ≡ [] = closes.torn.1 ∙ (ap (λ xs. a.shelf ++ xs) (none_torn room.opened closes) ∙ (append-nil a.shelf ∙ empty)) in
       let distinct : IsDistinct nat_eq (firsts (said a.shelf)) = subst (λ l. IsDistinct nat_eq (firsts (said l))) (sym empty) distinct_nil in
@@ -105,7 +107,7 @@ module _ {V : Type 0} (told : V → DeviceTold) (n : Node) (devices : List V) (c
           ended_is = refl;
           printed = record { pieces = []; some = tt; next = []; rest = []; cut = (refl, refl); wrote = quiet ∙ sym (with_bytes_none old) };
           small = λ plain. record { fits = tt; next_fits = omega arith };
-          run = record { end = Cut; run = inr (refl, inl refl); goes_on = λ e. absurd (false≢true e); reported = inr refl; halted = λ e. absurd (false≢true e); remembered = λ e. refl };
+          run = record { end = Cut; run = cut_unwritten P (around told x) (around told x) 0 (rest.Start n) (begun_can told n a devices supplied room P chunk some).step (λ p. (refl, refl)) (told_at told x) (over_now (told_at told x) (rest.Start n)); goes_on = λ e. absurd (false≢true e); reported = inr refl; halted = λ e. absurd (false≢true e); remembered = λ e. refl };
         };
         parted = subst (λ l. Parted told (told_at told x) l (first + length devices) first devices) (empty ∙ sym bare)
             (subst (λ k. Parted told (told_at told x) a.shelf (first + k) first devices) within (subst (λ ds. Parted told (told_at told x) a.shelf (first + length (map Some devices)) first ds) (filtered devices) all));

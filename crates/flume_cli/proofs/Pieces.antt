@@ -1,10 +1,10 @@
 -- The frames of pieces, and their bytes.
-use Rattle.std.proofs.Common.{◌≡◌, ℕ, ◌<◌, ◌≤◌, List, [], ◌∷◌, ◌++◌, length, map, refl, sym, ◌∙◌, ap, arith, length-append}
+use Rattle.std.proofs.Common.{◌≡◌, ℕ, ◌<◌, ◌≤◌, Bool, true, false, List, [], ◌∷◌, ◌++◌, length, map, Option, Some, None, is_some, refl, sym, ◌∙◌, ap, arith, length-append}
 use Rattle.std.proofs.lemmas.Grind.{flat_map-append}
 use Rattle.std.specs.List.{AllByRecursion}
 use Rattle.chunk_core.specs.Elements.{Element, element_text, rendering_of}
 use Rattle.chunk_core.specs.Elements.Element.{Byte, Line, Row}
-use Rattle.chunk_core.specs.Texts.{payloads_of}
+use Rattle.chunk_core.specs.Texts.{Frame, payloads_of}
 use Rattle.flume_cli.specs.Alone.{elements_in_pieces, frame_of, IsSmallPiece}
 use Rattle.chunk_core.proofs.Each.{each_left, each_right}
 
@@ -26,6 +26,15 @@ payloads_pieces (p ∷ pieces) = ap (λ b. rendering_of p ++ b) (payloads_pieces
 pub pieces_numbers : (pieces : List (List Element)) → AllByRecursion IsSmallPiece pieces → AllByRecursion (λ f. (f.stream < 1) × (0 < length f.payload)) (map frame_of pieces)
 pieces_numbers [] h = tt
 pieces_numbers (p ∷ pieces) h = ((omega arith, rendering_some p h.0), pieces_numbers pieces h.1)
+
+-- the frame of the piece that was next, where its write failed
+abbrev pub cut_of : Bool → List Element → Option Frame
+cut_of true next = Some (frame_of next)
+cut_of false next = None
+
+pub cut_is : (failed : Bool) (next : List Element) → is_some (cut_of failed next) ≡ failed
+cut_is true next = refl
+cut_is false next = refl
 
 -- Bytes.
 

@@ -14,15 +14,16 @@ use Rattle.device_port.specs.Device.{DeviceTold}
 use Rattle.device_port.specs.Sink.{SinkTold, with_bytes, BreaksOff}
 use Rattle.device_port.proofs.Puts.{with_bytes_none, with_bytes_twice}
 use Rattle.pull_turns.specs.Around.{Around}
-use Rattle.pull_turns.specs.Led.{Led, TouchesOnly, Turns}
+use Rattle.pull_turns.specs.Led.{CanBeCut, Led, TouchesOnly, Turns}
+use Rattle.pull_turns.specs.Turned.{Over}
 use Rattle.pull_turns.specs.Piping.{StateMeaning}
 use Rattle.pull_turns.specs.Rest.{IsRunOfRest}
 use Rattle.pull_turns.specs.Sizes.{HasNoPipe, Sized, widest}
 use Rattle.pull_turns.specs.declared.rest.Rest.{Rest}
 use Rattle.pull_turns.specs.declared.rest.Rest.TheVariants.{Nil}
 use Rattle.pull_turns.specs.declared.turn.Turn.TheVariants as turn
-use Rattle.pull_turns.proofs.Leads.{can_stop}
-use Rattle.pull_turns.proofs.Led.{led_start, led_chunk, led_quiet, led_done, led_fault, over_now, tells_on}
+use Rattle.pull_turns.proofs.Leads.{left_earlier}
+use Rattle.pull_turns.proofs.Led.{cut_unwritten, led_start, led_chunk, led_quiet, led_done, led_ends, led_fault, over_now, tells_same}
 use Rattle.flume_cli.specs.declared.frame.NotPut.{NotPut}
 use Rattle.flume_cli.specs.declared.frame.NotPut.TheVariants as why
 use Rattle.flume_cli.specs.Alone.{AreSmall, elements_in_pieces, frame_of, IsSmallPiece, PrintsPieces}
@@ -59,16 +60,14 @@ rest_of xs k l = (omega (arith, length-drop k xs), take-append-drop k xs)
 pub prints_start : {F : Type 0} (P : StateMeaning F) (now : ℕ → DeviceTold) (n : ℕ) (start : Rest F) (old : SinkTold) → PrintsOn P now now n start start old old
 prints_start P now n start old = record { pieces = []; some = tt; small = λ f. record { plain = f; wide = omega arith; fits = tt }; led = led_start P now start; wrote = sym (with_bytes_none old) }
 
--- what was printed is a front of a run, whatever the devices come to tell
-cut_later : {F : Type 0} (P : StateMeaning F) (first now last : ℕ → DeviceTold) (start rest : Rest F) (xs : List Element) → Led P first now start rest xs → TouchesOnly now last rest → IsRunOfRest P last start xs Cut
-cut_later P first now last start rest xs h t = subst (λ (ys : List Element). IsRunOfRest P last start ys Cut) (append-nil xs)
-    ((h.lead last (record { over = λ p l n. t.others p n; goes = t.goes })).gives [] Cut (can_stop P last rest))
+-- what happens to the devices later is no more than their closes
+over_later : {F : Type 0} (now last : ℕ → DeviceTold) (r : Rest F) → TouchesOnly {F = F} now last Nil → Over now last r
+over_later now last r t = record { over = λ p l. t.others p (λ m. m); goes = t.goes }
 
-tells_later : {F : Type 0} (a b c : ℕ → DeviceTold) (r : Rest F) → TouchesOnly a b r → TouchesOnly {F = F} b c Nil → TouchesOnly a c r
-tells_later a b c r h i = tells_on a b c r Nil (λ p l. absurd l) h i
-
-tells_of : {F : Type 0} (a b : ℕ → DeviceTold) (r : Rest F) → TouchesOnly {F = F} a b Nil → TouchesOnly a b r
-tells_of a b r h = record { goes = h.goes; others = λ p n. h.others p (λ l. l) }
+-- what was printed is a front of a run, where what was left may be left, whatever the devices come to tell by their closes
+cut_later : {F : Type 0} (P : StateMeaning F) (first before now last : ℕ → DeviceTold) (start rest : Rest F) (xs : List Element) → Led P first before start rest xs → TouchesOnly before now rest → CanBeCut P now rest → TouchesOnly {F = F} now last Nil
+    → IsRunOfRest P last start xs Cut
+cut_later P first before now last start rest xs h t cut closes = led_ends P first before now start rest xs Cut h t cut last (over_later now last start closes)
 
 module _ {F : Type 0} (P : StateMeaning F) (first before : ℕ → DeviceTold) (n : ℕ) (start rest : Rest F) (old mid : SinkTold) (p : PrintsOn P first before n start rest old mid) where
   -- nothing was cut
@@ -85,17 +84,14 @@ module _ {F : Type 0} (P : StateMeaning F) (first before : ℕ → DeviceTold) (
   whole_small : HasNoPipe start → AreSmall (widest n start) p.pieces []
   whole_small f = record { fits = (p.small f).fits; next_fits = omega arith }
 
-  stopped : (now last : ℕ → DeviceTold) → TouchesOnly before now rest → TouchesOnly {F = F} now last Nil → IsRunOfRest P last start (elements_in_pieces p.pieces) Cut
-  stopped now last h t = cut_later P first before last start rest (elements_in_pieces p.pieces) p.led (tells_later before now last rest h t)
-
   -- memory was wanting in a turn
-  pub prints_wanting : (now last : ℕ → DeviceTold) → TouchesOnly before now rest → TouchesOnly {F = F} now last Nil → PrintsRun {T = Unit {0}} (IsRunOfRest P last start) (HasNoPipe start) (widest n start) old mid (Some how.Memory) (Err why.Memory)
-  prints_wanting now last h t = record {
+  pub prints_wanting : (now last : ℕ → DeviceTold) → TouchesOnly before now rest → CanBeCut P now rest → TouchesOnly {F = F} now last Nil → PrintsRun {T = Unit {0}} (IsRunOfRest P last start) (HasNoPipe start) (widest n start) old mid (Some how.Memory) (Err why.Memory)
+  prints_wanting now last h cut t = record {
     how = how.Memory;
     ended_is = refl;
     printed = whole;
     small = whole_small;
-    run = record { end = Cut; run = stopped now last h t; goes_on = λ e. absurd (false≢true e); reported = inr refl; halted = λ e. absurd (false≢true e); remembered = λ e. refl };
+    run = record { end = Cut; run = cut_later P first before now last start rest (elements_in_pieces p.pieces) p.led h cut t; goes_on = λ e. absurd (false≢true e); reported = inr refl; halted = λ e. absurd (false≢true e); remembered = λ e. refl };
   }
 
 module _ {F : Type 0} (P : StateMeaning F) (first : ℕ → DeviceTold) (before now : Around) (n : ℕ) (start rest next : Rest F) (old mid : SinkTold) (p : PrintsOn P first before.told n start rest old mid) where
@@ -152,6 +148,15 @@ module _ {F : Type 0} (P : StateMeaning F) (first : ℕ → DeviceTold) (before 
   }
 
   module _ (last : ℕ → DeviceTold) (t : TouchesOnly {F = F} now.told last Nil) where
+    -- the stream may be left behind the piece that came, and behind those before it
+    left_behind : (l : Load) → Turns P before now n rest next (turn.Chunk l) → IsRunOfRest P last start (elements_in_pieces p.pieces ++ elements l) Cut
+    left_behind l k =
+        cut_later P first now.told now.told last start next (elements_in_pieces p.pieces ++ elements l) (led_chunk P first before now n start rest next (elements_in_pieces p.pieces) p.led l k) (tells_same now.told next)
+        (cut_unwritten P now now 0 next (k.can tt) (λ q. (refl, refl))) t
+
+    left_before : (l : Load) → Turns P before now n rest next (turn.Chunk l) → IsRunOfRest P last start (elements_in_pieces p.pieces) Cut
+    left_before l k = left_earlier P last start (elements_in_pieces p.pieces) (elements l) Cut (left_behind l k)
+
     -- memory was wanting for the text of a piece
     pub prints_unrendered : (new : SinkTold) (l : Load) → Turns P before now n rest next (turn.Chunk l) → new ≡ mid → PrintsRun {T = Unit {0}} (IsRunOfRest P last start) (HasNoPipe start) (widest n start) old new (Some how.Halted) (Err why.Memory)
     prints_unrendered new l k e = subst (λ s. PrintsRun {T = Unit {0}} (IsRunOfRest P last start) (HasNoPipe start) (widest n start) old s (Some how.Halted) (Err why.Memory)) (sym e) (record {
@@ -159,7 +164,7 @@ module _ {F : Type 0} (P : StateMeaning F) (first : ℕ → DeviceTold) (before 
       ended_is = refl;
       printed = whole P first before.told n start rest old mid p;
       small = whole_small P first before.told n start rest old mid p;
-      run = record { end = Cut; run = stopped P first before.told n start rest old mid p now.told last k.tells t; goes_on = λ e. absurd (false≢true e); reported = inl refl; halted = λ e. inr refl; remembered = λ e. absurd (false≢true e) };
+      run = record { end = Cut; run = left_before l k; goes_on = λ e. absurd (false≢true e); reported = inl refl; halted = λ e. inr refl; remembered = λ e. absurd (false≢true e) };
     })
 
     -- a write failed
@@ -183,8 +188,8 @@ module _ {F : Type 0} (P : StateMeaning F) (first : ℕ → DeviceTold) (before 
           small = λ f. record { fits = (p.small f).fits; next_fits = small_next (elements l) s f };
           run = record {
             end = Cut;
-            run = stopped P first before.told n start rest old mid p now.told last k.tells t;
-            goes_on = λ e. cut_later P first now.told last start next (elements_in_pieces p.pieces ++ elements l) (led_chunk P first before now n start rest next (elements_in_pieces p.pieces) p.led l k) (tells_of now.told last next t);
+            run = left_before l k;
+            goes_on = λ e. left_behind l k;
             reported = inl refl;
             halted = λ e. inl refl;
             remembered = λ e. absurd (false≢true e);

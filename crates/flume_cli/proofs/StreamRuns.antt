@@ -11,11 +11,17 @@ use Rattle.device_port.specs.Device.{DeviceTold}
 use Rattle.device_port.specs.Sink.{SinkTold}
 use Rattle.pull_nodes.specs.Runs.{IsRun}
 use Rattle.pull_nodes.specs.Shape.{places_of, scope_count}
+use Rattle.chunk_core.specs.Tables.{no_values}
 use Rattle.pull_nodes.specs.declared.node.Node.{Node}
 use Rattle.row_seat.specs.Views.{IsLedgerOf, run, start}
 use Rattle.scope_tree.specs.declared.branch.Spent.{Spent}
 use Rattle.scope_tree.specs.Calls.{AtStart, Seen}
+use Rattle.res_ledger.specs.Own.{opens, own}
+use Rattle.scope_tree.specs.Words.{words}
+use Rattle.scope_tree.proofs.Tidy.{ledger_by, own_by}
 use Rattle.tree_laws.proofs.Alone.{alone_whole, first_at_start}
+use Rattle.tree_laws.proofs.Kept.{called_rises}
+use Rattle.tree_laws.proofs.Room.{called_room}
 use Rattle.tree_laws.proofs.Said.{called_ends}
 use Rattle.tree_laws.specs.Whole.{IsWholeLedger}
 use Rattle.pull_stepper.specs.Placing.{first_of}
@@ -79,7 +85,7 @@ module _ {V : Type 0} (told : V → DeviceTold) where
   )
 
   module _ (n : Node) (devices : List V) (chunk : ℕ) (so sn : SinkTold) (a b : Seen V) (how : How) (unopened : List V) (r : Result (Unit {0}) NotPut) (L : List Event) (places events splits : ℕ) (zero_is : first_of (places_of n) ≡ 0) (fresh : a.seat ≡ start (Inner 0) places events splits)
-      (some : 1 ≤ events) (runs : RunsNode told n devices chunk a b so sn how unopened r) (ledger : IsLedgerOf b.seat L) (bare : a.shelf ≡ []) where
+      (some : 1 ≤ events) (just : a.scopes ≡ scope_count n + 1) (runs : RunsNode told no_values n devices chunk a b so sn how unopened r) (ledger : IsLedgerOf b.seat L) (bare : a.shelf ≡ []) where
     count : first_of (places_of n) + length devices ≡ length devices
     count = omega (arith, zero_is)
 
@@ -95,8 +101,21 @@ module _ {V : Type 0} (told : V → DeviceTold) where
     whole : IsWholeLedger L
     whole = alone_whole L begins runs.calls runs.alone runs.root ledger
 
-    accounted : IsAccount (length devices) runs.home how L
-    accounted = account b.seat L b.shelf (length devices) runs.home how (runs.alone.by ∙ ap (λ v. v.by) fresh) ledger whole
+    named : b.seat.by ≡ Inner 0
+    named = runs.alone.by ∙ ap (λ v. v.by) fresh
+
+    -- what the ledger has of the stream is what it noted
+    noted_is : own b.seat.by L ≡ words b.seat
+    noted_is = own_by b.seat.by L ∙ ap (map (λ (e : Event). e.what)) (ledger_by b.seat L b.seat.by ledger (called_rises begins runs.calls)) ∙ sym (own_by b.seat.by b.seat.events)
+
+    -- no more scopes were opened than there was room for
+    opened : length (opens (own (Inner 0) L)) ≤ scope_count n
+    opened =
+        let room = called_room begins (omega (arith, just)) runs.calls in
+        subst (λ k. length (opens (own k L)) ≤ scope_count n) named (subst (λ E. length (opens E) ≤ scope_count n) (sym noted_is) (let l = room.0 in let s = room.1 in omega (arith, l, s, just)))
+
+    accounted : IsAccount (length devices) (scope_count n) runs.home how L
+    accounted = account b.seat L b.shelf (length devices) (scope_count n) runs.home how named ledger whole opened
         (λ e m. ⊎_elim (λ i. absurd (among_nil (subst (λ v. IsAmong e v.events) fresh i))) (λ k. k) (runs.alone.events e m))
         (called_ends begins bare runs.calls) runs.root runs.exits (shelf_tells told runs.home (length devices) b.shelf parted_here runs.once rows_here)
 
@@ -110,6 +129,6 @@ module _ {V : Type 0} (told : V → DeviceTold) where
       account = accounted;
       printed = runs.prints.printed;
       small = runs.prints.small;
-      run = subst (λ h. IsRunIn (IsRun runs.home n) runs.prints.printed.pieces runs.prints.printed.next (is_unwritten r) (is_wanting r) h) (same_how runs.prints.how how runs.prints.ended_is) runs.prints.run;
+      run = subst (λ h. IsRunIn (IsRun no_values runs.home n) runs.prints.printed.pieces runs.prints.printed.next (is_unwritten r) (is_wanting r) h) (same_how runs.prints.how how runs.prints.ended_is) runs.prints.run;
       ends = refl;
     }

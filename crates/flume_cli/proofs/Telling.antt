@@ -1,10 +1,9 @@
 -- A call, from the work that was done and how it was told.
-use Rattle.std.proofs.Common.{◌≡◌, ◌≢◌, ℕ, ◌+◌, ◌<◌, Bool, true, false, not, nat_lt, List, [], ◌∷◌, ◌++◌, inl, inr, length, map, flat_map, take, drop, Option, Some, None, refl, sym, ◌∙◌, ap, subst, ⊎_elim, arith, append-nil, append_assoc, length-append, length-take}
+use Rattle.std.proofs.Common.{◌≡◌, ℕ, ◌+◌, ◌<◌, Bool, true, false, nat_lt, List, [], ◌++◌, length, take, drop, Option, Some, None, is_some, refl, sym, ◌∙◌, ap, subst, ⊎_elim, arith, append-nil, append_assoc, length-drop}
 use Rattle.std.proofs.lemmas.Bool.{both_ways, cases_Bool, le-ltb, lt-ltb}
 use Rattle.std.proofs.lemmas.List.{take-append-drop}
 use Rattle.std.specs.List.{list_any as any}
 use Rattle.chunk_core.specs.Texts.{frames_text}
-use Rattle.res_ledger.specs.declared.event.StreamNo.TheVariants.{Inner}
 use Rattle.res_ledger.specs.declared.event.Event.{Event}
 use Rattle.device_port.specs.Source.{SourceTold}
 use Rattle.device_port.specs.Depot.{DepotTold}
@@ -13,9 +12,7 @@ use Rattle.device_port.proofs.Puts.{with_bytes_twice}
 use Rattle.run_rules.specs.declared.end.EndOf.{EndOf}
 use Rattle.run_rules.specs.Facts.{is_fault, is_memory, is_failed, has_event}
 use Rattle.run_rules.specs.Run.{Ran, IsUnmade}
-use Rattle.res_ledger.specs.Texts.{ledger_text}
-use Rattle.run_rules.specs.Texts.{end_line, tail_text}
-use Rattle.run_rules.proofs.More.{performs_more}
+use Rattle.run_rules.specs.Texts.{tail_text}
 use Rattle.flume_cli.specs.declared.status.Status.{Status}
 use Rattle.flume_cli.specs.declared.status.Status.TheVariants as status
 use Rattle.flume_cli.specs.declared.report.Report.{Report}
@@ -23,7 +20,7 @@ use Rattle.flume_cli.specs.declared.outcome.Outcome.{Outcome}
 use Rattle.flume_cli.specs.Words.{cat_path_of, command_by, is_meant}
 use Rattle.flume_cli.specs.Status.{Causes, status_of, line_of}
 use Rattle.flume_cli.specs.Cat.{cat_work, deed_of, and_one, RunsCat}
-use Rattle.flume_cli.specs.Headline.{Call, Headline, Does, IsText, SaysTail, IsToldLine, is_tellable}
+use Rattle.flume_cli.specs.Headline.{Call, Headline, Does, IsText, IsToldLine, SaysBegun, SaysTail}
 use Rattle.flume_cli.specs.Call.{call_of}
 use Rattle.flume_cli.specs.Finish.{Reports, PrintsTail, Prints, status_by}
 
@@ -33,21 +30,11 @@ rose a b e = lt-ltb a b (omega arith)
 kept : (a b : ℕ) → b ≡ a → nat_lt a b ≡ false
 kept a b e = le-ltb a b (omega arith)
 
-none_some : {A : Type 0} (x : A) (xs : List A) → [] ≢ (x ∷ xs)
-none_some x xs e = cc
-
 pub report_is : (r : Report) (s : Status) (es : List EndOf) (L : List Event) → r.status ≡ s → r.ends ≡ es → r.ledger ≡ L → r ≡ record { status = s; ends = es; ledger = L }
 report_is r s es L p q t =
     ap (λ (x : Status). let y : Report = record { status = x; ends = r.ends; ledger = r.ledger } in y) p
     ∙ (ap (λ (x : List EndOf). let y : Report = record { status = s; ends = x; ledger = r.ledger } in y) q
     ∙ ap (λ (x : List Event). let y : Report = record { status = s; ends = es; ledger = x } in y) t)
-
--- the tail isn't empty
-tail_some : (es : List EndOf) (L : List Event) → 0 < length (tail_text es L)
-tail_some es L =
-    let behind = length-append (flat_map end_line es) (ledger_text L) in
-    let head : 0 < length (ledger_text L) = omega arith in
-    omega (arith, behind)
 
 abbrev by_flags : Bool → Bool → Bool → Bool → Status
 by_flags u m f n = status_of (record { words = true; unwritten = u; memory = m; faulty = f; unclean = n })
@@ -75,30 +62,11 @@ module _ (words : List (List ℕ)) (path : List ℕ) (src : SourceTold) (dold dn
   causes m = record { words = true; unwritten = nat_lt so.faults sn.faults; memory = m; faulty = any (λ (e : EndOf). is_fault e.how) o.ends; unclean = has_event is_failed o.ledger }
 
   remembered : any (λ (e : EndOf). is_memory e.how) o.ends ≡ true → o.memory ≡ true
-  remembered h = ⊎_elim (λ (x : IsUnmade (deed_of dold dnew runs.frames runs.rest o)). x.memory) (λ (x : Ran (cat_work path) (deed_of dold dnew runs.frames runs.rest o)). x.ends.memory h) runs.performs.ran
-
-  uncut : o.sink_failed ≡ false → runs.rest ≡ []
-  uncut f =
-      ⊎_elim
-      (λ (x : IsUnmade (deed_of dold dnew runs.frames runs.rest o)). x.rest)
-      (λ (x : Ran (cat_work path) (deed_of dold dnew runs.frames runs.rest o)). ⊎_elim (λ e. e) (λ y. absurd (both_ways o.sink_failed f y.0)) x.outputs.cut)
-      runs.performs.ran
-
-  tellable_ends : (es : List EndOf) → map (λ (e : EndOf). e.who) es ≡ Inner 0 ∷ [] → any (λ (e : EndOf). is_memory e.how) es ≡ false → is_tellable es ≡ true
-  tellable_ends [] n a = absurd (none_some (Inner 0) [] n)
-  tellable_ends (e ∷ es) n a = ap (λ b. not b) a
-
-  tellable : o.memory ≡ false → is_tellable o.ends ≡ true
-  tellable f =
-      ⊎_elim
-      (λ (x : IsUnmade (deed_of dold dnew runs.frames runs.rest o)). absurd (both_ways o.memory f x.memory))
-      (λ (x : Ran (cat_work path) (deed_of dold dnew runs.frames runs.rest o)).
-      tellable_ends o.ends x.ends.named (⊎_elim (λ t. absurd (both_ways o.memory f (remembered t))) (λ e. e) (cases_Bool (any (λ (e : EndOf). is_memory e.how) o.ends))))
-      runs.performs.ran
+  remembered h = ⊎_elim (λ (x : IsUnmade (deed_of dold dnew runs.frames runs.cut runs.rest o)). x.memory) (λ (x : Ran (cat_work path) (deed_of dold dnew runs.frames runs.cut runs.rest o)). x.ends.memory h) runs.performs.ran
 
   -- the headline, from the parts that differ by how the call was told
-  headline : (s : Status) (m : Bool) → (o.memory ≡ true → m ≡ true) → (o.sink_failed ≡ true → nat_lt so.faults sn.faults ≡ true) → s ≡ status_of (causes m) → IsText (told s) runs.frames runs.rest → IsToldLine eold enew (line_of s) → Headline (told s)
-  headline s m more failed is text line = record {
+  headline : (s : Status) (m : Bool) → (o.memory ≡ true → m ≡ true) → s ≡ status_of (causes m) → IsText (told s) (causes m) runs.frames runs.cut runs.rest o.memory → IsToldLine eold enew (line_of s) → Headline (told s)
+  headline s m more is text line = record {
     causes = causes m;
     status = record {
       words = ap (λ p. is_meant (command_by p)) (sym known);
@@ -113,8 +81,10 @@ module _ (words : List (List ℕ)) (path : List ℕ) (src : SourceTold) (dold dn
     does = subst (λ p. Does (told s) (causes m) (command_by p)) (sym known) (
       record {
         frames = runs.frames;
+        cut = runs.cut;
         rest = runs.rest;
-        performs = performs_more (cat_work path) (deed_of dold dnew runs.frames runs.rest o) (nat_lt so.faults sn.faults) m failed more runs.performs;
+        wanted = o.memory;
+        performs = runs.performs;
         text = text;
       },
       runs.within,
@@ -149,13 +119,22 @@ module _ (words : List (List ℕ)) (path : List ℕ) (src : SourceTold) (dold dn
   never_none : o.memory ≡ false → o.ends ≡ [] → ⊥
   never_none f e = both_ways o.memory f (runs.begun e).1
 
+  -- no frame was cut and memory wasn't wanting in the work
+  begun : (said : List ℕ) (s : Status) (k : Causes) → o.sink_failed ≡ false → o.memory ≡ false → SaysBegun said tail s → SaysTail k said tail s (is_some runs.cut) o.memory
+  begun said s k f g h = subst (λ b. SaysTail k said tail s b o.memory) (sym (runs.broke ∙ f)) (subst (λ w. SaysTail k said tail s false w) (sym g) h)
+
+  -- memory was wanting in the work or for the tail
+  says_nothing : o.sink_failed ≡ false → nat_lt so.faults sn.faults ≡ false → (w : Bool) → o.memory ≡ w → SaysTail (causes true) [] tail status.Memory (is_some runs.cut) o.memory
+  says_nothing f u true e = subst (λ b. SaysTail (causes true) [] tail status.Memory b o.memory) (sym (runs.broke ∙ f)) (subst (λ w. SaysTail (causes true) [] tail status.Memory false w) (sym e) (u, refl, refl))
+  says_nothing f u false e = begun [] status.Memory (causes true) f e refl
+
   tells_failed : o.sink_failed ≡ true → sn ≡ mid → IsToldLine eold enew (line_of status.NotWritten) → Headline (told status.NotWritten)
   tells_failed t e line =
       let up : nat_lt so.faults sn.faults ≡ true = rose so.faults sn.faults (ap (λ (x : SinkTold). x.faults) e ∙ mid_rose t) in
-      headline status.NotWritten o.memory (λ h. h) (λ h. up) (failed_is _ _ _ _ up) (record {
+      headline status.NotWritten o.memory (λ h. h) (failed_is _ _ _ _ up) (record {
         said = [];
         written = silent e;
-        tail = (inl refl, tail_some o.ends o.ledger);
+        tail = subst (λ b. SaysTail (causes o.memory) [] tail status.NotWritten b o.memory) (sym (runs.broke ∙ t)) (up, refl);
         spoke = λ n. absurd (never_idle t n);
         once = let same : sn.faults ≡ mid.faults = ap (λ (x : SinkTold). x.faults) e in let m : mid.faults ≡ so.faults + 1 = mid_rose t in omega arith;
       }) line
@@ -163,10 +142,10 @@ module _ (words : List (List ℕ)) (path : List ℕ) (src : SourceTold) (dold dn
   tells_memory : o.sink_failed ≡ false → sn ≡ mid → IsToldLine eold enew (line_of status.Memory) → Headline (told status.Memory)
   tells_memory f e line =
       let same : sn.faults ≡ so.faults = ap (λ (x : SinkTold). x.faults) e ∙ mid_kept f in
-      headline status.Memory true (λ h. refl) (λ h. absurd (both_ways o.sink_failed f h)) (memory_is (nat_lt so.faults sn.faults) (any (λ (x : EndOf). is_fault x.how) o.ends) (has_event is_failed o.ledger) (kept so.faults sn.faults same)) (record {
+      headline status.Memory true (λ h. refl) (memory_is (nat_lt so.faults sn.faults) (any (λ (x : EndOf). is_fault x.how) o.ends) (has_event is_failed o.ledger) (kept so.faults sn.faults same)) (record {
         said = [];
         written = silent e;
-        tail = inl refl;
+        tail = says_nothing f (kept so.faults sn.faults same) o.memory refl;
         spoke = λ n. refl;
         once = omega arith;
       }) line
@@ -175,22 +154,21 @@ module _ (words : List (List ℕ)) (path : List ℕ) (src : SourceTold) (dold dn
   tells_broken f g b line =
       let more : sn.faults ≡ so.faults + 1 = ap (λ (x : SinkTold). x.faults) b.told ∙ ap (λ n. n + 1) (mid_kept f) in
       let up : nat_lt so.faults sn.faults ≡ true = rose so.faults sn.faults more in
-      let short : length (take b.count tail) < length tail = let l : b.count < length tail = b.front in omega (arith, length-take b.count tail) in
-      headline status.NotWritten o.memory (λ h. h) (λ h. up) (failed_is _ _ _ _ up) (record {
+      headline status.NotWritten o.memory (λ h. h) (failed_is _ _ _ _ up) (record {
         said = take b.count tail;
         written = said_behind (take b.count tail) (ap (λ (x : SinkTold). x.written) b.told);
-        tail = (inr (uncut f, tellable g, drop b.count tail, take-append-drop b.count tail), short);
+        tail = begun (take b.count tail) status.NotWritten (causes o.memory) f g (drop b.count tail, let d = length-drop b.count tail in let l : b.count < length tail = b.front in omega (arith, d, l), take-append-drop b.count tail);
         spoke = λ n. absurd (never_none g n);
         once = omega arith;
       }) line
 
-  told_whole : (s : Status) → o.sink_failed ≡ false → o.memory ≡ false → sn ≡ with_bytes mid tail → s ≡ status_by o.ends o.ledger → SaysTail (told s) runs.rest tail s → IsToldLine eold enew (line_of s) → Headline (told s)
+  told_whole : (s : Status) → o.sink_failed ≡ false → o.memory ≡ false → sn ≡ with_bytes mid tail → s ≡ status_by o.ends o.ledger → SaysBegun tail tail s → IsToldLine eold enew (line_of s) → Headline (told s)
   told_whole s f g e is says line =
       let same : sn.faults ≡ so.faults = ap (λ (x : SinkTold). x.faults) e ∙ mid_kept f in
-      headline s false (λ h. absurd (both_ways o.memory g h)) (λ h. absurd (both_ways o.sink_failed f h)) (is ∙ printed_is _ _ _ (kept so.faults sn.faults same)) (record {
+      headline s false (λ h. absurd (both_ways o.memory g h)) (is ∙ printed_is _ _ _ (kept so.faults sn.faults same)) (record {
         said = tail;
         written = said_behind tail (ap (λ (x : SinkTold). x.written) e);
-        tail = says;
+        tail = begun tail s (causes false) f g says;
         spoke = λ n. absurd (never_none g n);
         once = omega arith;
       }) line
@@ -199,9 +177,9 @@ module _ (words : List (List ℕ)) (path : List ℕ) (src : SourceTold) (dold dn
   tells_printed status.NotWritten f g p line = tells_broken f g p line
   tells_printed status.Memory f g p line = tells_memory f p line
   tells_printed status.BadWords f g p line = absurd p
-  tells_printed status.Good f g p line = told_whole status.Good f g p.0 p.1 (uncut f, refl) line
-  tells_printed status.Faulty f g p line = told_whole status.Faulty f g p.0 p.1 (uncut f, refl) line
-  tells_printed status.Unclean f g p line = told_whole status.Unclean f g p.0 p.1 (uncut f, refl) line
+  tells_printed status.Good f g p line = told_whole status.Good f g p.0 p.1 refl line
+  tells_printed status.Faulty f g p line = told_whole status.Faulty f g p.0 p.1 refl line
+  tells_printed status.Unclean f g p line = told_whole status.Unclean f g p.0 p.1 refl line
 
   tells_any : (s : Status) → PrintsTail o mid sn s → IsToldLine eold enew (line_of s) → Headline (told s)
   tells_any s p line =

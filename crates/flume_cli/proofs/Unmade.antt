@@ -1,5 +1,5 @@
 -- A cat of which nothing was begun.
-use Rattle.std.proofs.Common.{◌≡◌, ℕ, Bool, true, false, nat_eq, nat_lt, List, [], ◌∷◌, ◌++◌, inr, inl, length, drop, map, Option, Some, None, refl, sym, ◌∙◌, ap, subst, append-nil}
+use Rattle.std.proofs.Common.{◌≡◌, ℕ, Bool, true, false, nat_eq, nat_lt, List, [], ◌∷◌, ◌++◌, inr, inl, length, drop, map, Option, Some, None, refl, sym, ◌∙◌, ap, subst, append-nil, arith}
 use Rattle.std.proofs.Math.Seq.{drop-append_seam}
 use Rattle.std.proofs.lemmas.List.Sorted.{IsPermutation-refl}
 use Rattle.std.specs.List.Sorted.{IsPermutation}
@@ -8,18 +8,32 @@ use Rattle.res_ledger.specs.declared.event.Event.{Event}
 use Rattle.res_ledger.proofs.Judged.{legal_sound, complete_sound}
 use Rattle.res_ledger.proofs.Ordering.{ordered_sound}
 use Rattle.device_port.specs.Device.{DeviceTold}
-use Rattle.device_port.specs.Depot.{DepotTold, Files, KeepsFilesBut}
+use Rattle.device_port.specs.Depot.{DepotTold, Files, KeepsFilesBut, KeepsWritten}
 use Rattle.device_port.specs.Sink.{SinkTold, with_bytes}
 use Rattle.device_port.proofs.Puts.{with_bytes_none}
 use Rattle.run_rules.specs.declared.end.EndOf.{EndOf}
 use Rattle.run_rules.specs.Facts.{acquired_row, ended_row, failed_row}
-use Rattle.run_rules.specs.Devices.{AreAsMany, IsWritten, came_back, is_closed_with, named, numbered}
-use Rattle.run_rules.specs.Run.{KeepsRules}
+use Rattle.run_rules.specs.Devices.{AreAsMany, AreNoMore, IsWritten, came_back, is_closed_with, named, numbered}
+use Rattle.run_rules.specs.Rules.{KeepsRules}
+use Rattle.res_ledger.proofs.Stamps.{stamped_sound}
 use Rattle.flume_cli.specs.declared.outcome.Outcome.{Outcome}
 use Rattle.flume_cli.specs.Cat.{to_read, cat_work, RunsCat}
 
+no_middle : {A : Type 0} (P Q : List A) (e : A) → [] ≡ P ++ e ∷ Q → ⊥
+no_middle [] Q e is = cc
+no_middle (x ∷ P) Q e is = cc
+
 none_rules : (path : List ℕ) → KeepsRules (cat_work path) []
-none_rules path = record { legal = legal_sound [] refl; complete = complete_sound [] (legal_sound [] refl) refl; ordered = ordered_sound [] refl; ours = refl }
+none_rules path = record {
+  stamped = stamped_sound [] [] refl refl;
+  legal = legal_sound [] refl;
+  complete = complete_sound [] (legal_sound [] refl) refl;
+  ordered = ordered_sound [] refl;
+  ours = refl;
+  scopes = (omega arith, tt);
+  leaving = λ P Q e j x is by what. absurd (no_middle P Q e is);
+  pace = tt;
+}
 
 pub outcome_is : (o : Outcome) (es : List EndOf) (L : List Event) (s m : Bool) → o.ends ≡ es → o.ledger ≡ L → o.sink_failed ≡ s → o.memory ≡ m → o ≡ record { ends = es; ledger = L; sink_failed = s; memory = m }
 outcome_is o es L s m p q r t =
@@ -46,11 +60,14 @@ pub cat_makes_nothing : (path : List ℕ) (old new : DepotTold) (so sn : SinkTol
 cat_makes_nothing path old new so sn size e quiet =
     subst (λ x. RunsCat path size old x so sn (record { ends = []; ledger = []; sink_failed = false; memory = true })) (sym e) (record {
       frames = [];
+      cut = None;
       rest = [];
-      within = record { fits = tt; front = inl refl };
+      broke = refl;
+      within = record { fits = tt; cut_fits = tt };
       performs = record {
         devices = record {
           made = and_nothing old.made;
+          few = subst (λ ps. AreNoMore ps (to_read path ∷ [])) (sym (dropped_all old.made)) tt;
           retired = and_nothing old.retired;
           once = subst (λ ps. IsPermutation (numbered (length old.made) ps) (map named (came_back old old))) (sym (dropped_all old.made)) (subst (λ ds. IsPermutation [] (map named ds)) (sym (dropped_all old.retired)) (IsPermutation-refl []));
           shut = subst (λ ds. AllByRecursion (λ (x : DeviceTold). (x.is_open ≡ false) × (x.closes ≡ x.opens)) ds) (sym (dropped_all old.retired)) tt;
@@ -59,9 +76,10 @@ cat_makes_nothing path old new so sn size e quiet =
           failed = subst (λ ds. AreAsMany (λ d. nat_lt 0 d.close_faults) failed_row ds (to_read path ∷ []) []) (sym (dropped_all old.retired)) tt;
           exits = λ x. subst (λ ds. AreAsMany (is_closed_with x) (ended_row x) ds (to_read path ∷ []) []) (sym (dropped_all old.retired)) tt;
           files = keeps_same (IsWritten (to_read path ∷ [])) old.files;
+          stored = subst (λ ds. AllByRecursion (KeepsWritten old.files) ds) (sym (dropped_all old.retired)) tt;
         };
         ledger = none_rules path;
-        ran = inl (record { memory = refl; ends = refl; events = refl; frames = refl; rest = refl });
+        ran = inl (record { memory = refl; ends = refl; events = refl; frames = refl; cut = refl; rest = refl });
       };
       wrote = wrote_none so sn quiet;
       begun = λ e. (refl, refl);

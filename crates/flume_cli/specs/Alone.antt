@@ -10,21 +10,22 @@ use Rattle.chunk_core.specs.declared.code.How.{How}
 use Rattle.res_ledger.specs.declared.event.StreamNo.TheVariants.{Inner}
 use Rattle.res_ledger.specs.declared.event.What.TheVariants.{Acquire, Close, Final}
 use Rattle.res_ledger.specs.declared.event.Event.{Event}
-use Rattle.res_ledger.specs.Ledger.{Notes, NotesClose, IsAcquired, IsLegal}
+use Rattle.res_ledger.specs.Ledger.{Notes, NotesClose, IsAcquired, IsLegal, IsStamped}
+use Rattle.res_ledger.specs.Own.{opens, own}
 use Rattle.res_ledger.specs.Whole.{IsComplete}
 use Rattle.res_ledger.specs.Order.{IsOrdered}
 use Rattle.device_port.specs.Device.{Place, DeviceTold}
-use Rattle.device_port.specs.Depot.{DepotTold, Files, KeepsFilesBut, content_at}
+use Rattle.device_port.specs.Depot.{DepotTold, Files, KeepsFilesBut, KeepsWritten, content_at}
 use Rattle.device_port.specs.Sink.{SinkTold, with_bytes}
 use Rattle.run_rules.specs.Facts.{is_halted, is_memory, leased_stream, first_numbers}
 use Rattle.run_rules.specs.Devices.{IsWritten}
-use Rattle.run_rules.specs.Run.{IsReported}
+use Rattle.run_rules.specs.Outputs.{IsReported}
 use Rattle.run_rules.specs.Work.{Work}
 use Rattle.flume_cli.specs.declared.outcome.Outcome.{Outcome}
 
--- one stream, with a row for each of these places
-abbrev pub alone : List Place → ((ℕ → DeviceTold) → Outcomes) → ((ℕ → DeviceTold) → Outcomes) → Work
-alone places runs ideal_runs = record { streams = record { places = places } ∷ []; runs = λ k w. runs w; ideal_runs = λ k w. ideal_runs w }
+-- one stream, with a row for each of these places, and at most so many scopes
+abbrev pub alone : List Place → ℕ → ((ℕ → DeviceTold) → Outcomes) → ((ℕ → DeviceTold) → Outcomes) → Work
+alone places scopes runs ideal_runs = record { opener = None; streams = record { places = places; scopes = scopes; until = None } ∷ []; runs = λ k v w. runs w; ideal_runs = λ k v w. ideal_runs w }
 
 -- one more where a call failed
 abbrev pub and_one : Bool → ℕ → ℕ
@@ -91,7 +92,7 @@ abbrev pub AreReturned : Option Files → ℕ → (ℕ → DeviceTold) → ℕ �
 AreReturned files n w r [] = Unit {0}
 AreReturned files n w r (p ∷ ps) = IsReturned files n p (w r) × AreReturned files (n + 1) w (r + 1) ps
 
--- the depot made a device for each place, and each came back, in any order
+-- the depot made a device for each place, and each came back, in any order, with what was written to it kept
 pub record ComesBack (old new : DepotTold) (places : List Place) (w : ℕ → DeviceTold) : Type 0 where
   pub made : new.made ≡ old.made ++ places
   pub back : List DeviceTold
@@ -99,11 +100,14 @@ pub record ComesBack (old new : DepotTold) (places : List Place) (w : ℕ → De
   pub each : IsPermutation (map w (first_numbers (length places))) back
   pub devices : AreReturned old.files (length old.made) w 0 places
   pub files : KeepsFilesBut (IsWritten places) old.files new.files
+  pub stored : AllByRecursion (KeepsWritten new.files) back
 
 -- What was noted.
 
--- the ledger of stream 0 alone: it acquired the rows whose devices were opened and ended them as those were closed, leased nothing, and closed its root as it ended
-pub record IsAccount (count : ℕ) (w : ℕ → DeviceTold) (how : How) (L : List Event) : Type 0 where
+-- the ledger of stream 0 alone: it acquired the rows whose devices were opened and ended them as those were closed, leased nothing, opened at most so many scopes, and closed its root as it ended
+pub record IsAccount (count scopes : ℕ) (w : ℕ → DeviceTold) (how : How) (L : List Event) : Type 0 where
+  pub stamped : IsStamped L
+  pub opened : length (opens (own (Inner 0) L)) ≤ scopes
   pub legal : IsLegal L
   pub complete : IsComplete L
   pub ordered : IsOrdered L
@@ -114,12 +118,12 @@ pub record IsAccount (count : ℕ) (w : ℕ → DeviceTold) (how : How) (L : Lis
   pub closed : NotesClose L (Inner 0) 0
   pub exits : (x : Exit) → Notes L (Inner 0) (Close 0 x) → x ≡ exit_of how
 
--- the stream ran over devices for these places, in pieces of at most size elements
-pub record RunsAlone (places : List Place) (runs : (ℕ → DeviceTold) → Outcomes) (size : ℕ) (depot_old depot_new : DepotTold) (old new : SinkTold) (o : Outcome) : Type 0 where
+-- the stream ran over devices for these places, with at most so many scopes, in pieces of at most size elements
+pub record RunsAlone (places : List Place) (scopes : ℕ) (runs : (ℕ → DeviceTold) → Outcomes) (size : ℕ) (depot_old depot_new : DepotTold) (old new : SinkTold) (o : Outcome) : Type 0 where
   pub home : ℕ → DeviceTold
   pub how : How
   pub devices : ComesBack depot_old depot_new places home
-  pub account : IsAccount (length places) home how o.ledger
+  pub account : IsAccount (length places) scopes home how o.ledger
   pub printed : PrintsPieces old new o.sink_failed
   pub small : AreSmall size printed.pieces printed.next
   pub run : IsRunIn (runs home) printed.pieces printed.next o.sink_failed o.memory how

@@ -1,5 +1,5 @@
 -- The contract of the top call, over all that it reads, writes and reports.
-use Rattle.std.specs.Prelude.{◌≡◌, ◌⊎◌, ℕ, ◌+◌, ◌<◌, ◌≤◌, Bool, true, false, not, nat_lt, List, [], ◌∷◌, ◌++◌, length}
+use Rattle.std.specs.Prelude.{◌≡◌, ◌⊎◌, ℕ, ◌+◌, ◌<◌, ◌≤◌, Bool, true, false, nat_lt, is_some, List, [], ◌++◌, length, Option}
 use Rattle.std.specs.List.{list_any as any}
 use Rattle.chunk_core.specs.Texts.{Frame, frames_text}
 use Rattle.res_ledger.specs.declared.event.Event.{Event}
@@ -53,43 +53,43 @@ pub record DidNothing (c : Call) : Type 0 where
   pub ends : c.ends ≡ []
   pub events : c.events ≡ []
 
-abbrev pub deed_of_call : Call → Causes → List Frame → List ℕ → RunRecord
-deed_of_call c k frames rest =
-    record { depot_old = c.depot_old; depot_new = c.depot_new; ends = c.ends; events = c.events; frames = frames; rest = rest; unwritten = k.unwritten; memory = k.memory }
+-- the run of a call, where these frames were printed, and memory was wanting or wasn't in the work itself
+abbrev pub run_of_call : Call → List Frame → Option Frame → List ℕ → Bool → RunRecord
+run_of_call c frames cut rest wanted =
+    record { depot_old = c.depot_old; depot_new = c.depot_new; ends = c.ends; events = c.events; frames = frames; cut = cut; rest = rest; memory = wanted }
 
--- the ends can be printed: there are some, and none is for want of memory
-abbrev pub is_tellable : List EndOf → Bool
-is_tellable [] = false
-is_tellable (e ∷ es) = not (any (λ x. is_memory x.how) (e ∷ es))
+-- what was said where the tail was begun: a proper front of it where a write failed, nothing where there was no memory for it, else all of it
+abbrev pub SaysBegun : List ℕ → List ℕ → Status → Type 0
+SaysBegun said tail status.NotWritten = (more : List ℕ) × (0 < length more) × (said ++ more ≡ tail)
+SaysBegun said tail status.Memory = said ≡ []
+SaysBegun said tail _ = said ≡ tail
 
--- a front of the tail, where no frame was cut
-abbrev pub IsCutTail : Call → List ℕ → List ℕ → Type 0
-IsCutTail c rest said = (said ≡ []) ⊎ ((rest ≡ []) × (is_tellable c.ends ≡ true) × (more : List ℕ) × (said ++ more ≡ tail_text c.ends c.events))
+-- what was said behind the frames: nothing where the write of a frame failed or memory was wanting in the work, else the tail
+abbrev pub SaysTail : Causes → List ℕ → List ℕ → Status → Bool → Bool → Type 0
+SaysTail k said tail s true wanted = (k.unwritten ≡ true) × (said ≡ [])
+SaysTail k said tail s false true = (k.unwritten ≡ false) × (k.memory ≡ true) × (said ≡ [])
+SaysTail k said tail s false false = SaysBegun said tail s
 
--- what was said behind the frames: the tail, or where the call broke off a front of it
-abbrev pub SaysTail : Call → List ℕ → List ℕ → Status → Type 0
-SaysTail c rest said status.NotWritten = IsCutTail c rest said × (length said < length (tail_text c.ends c.events))
-SaysTail c rest said status.Memory = IsCutTail c rest said
-SaysTail c rest said _ = (rest ≡ []) × (said ≡ tail_text c.ends c.events)
-
--- what was written to the output: the frames, what was written of a further one, and what was said behind them
-pub record IsText (c : Call) (frames : List Frame) (rest : List ℕ) : Type 0 where
+-- what was written to the output: the frames, what was written of the one whose write failed, and what was said behind them
+pub record IsText (c : Call) (k : Causes) (frames : List Frame) (cut : Option Frame) (rest : List ℕ) (wanted : Bool) : Type 0 where
   pub said : List ℕ
   pub written : c.out_new.written ≡ (with_bytes c.out_old (frames_text frames ++ (rest ++ said))).written
-  pub tail : SaysTail c rest said c.status
+  pub tail : SaysTail k said (tail_text c.ends c.events) c.status (is_some cut) wanted
   pub spoke : c.ends ≡ [] → c.status ≡ status.Memory
   pub once : c.out_new.faults ≤ c.out_old.faults + 1
 
 -- a work was done and told
 pub record TellsWork (work : Work) (c : Call) (k : Causes) : Type 0 where
   pub frames : List Frame
+  pub cut : Option Frame
   pub rest : List ℕ
-  pub performs : Performs work (deed_of_call c k frames rest)
-  pub text : IsText c frames rest
+  pub wanted : Bool
+  pub performs : Performs work (run_of_call c frames cut rest wanted)
+  pub text : IsText c k frames cut rest wanted
 
 -- what was done for a command
 abbrev pub Does : Call → Causes → Command → Type 0
-Does c k (Cat path) = (t : TellsWork (cat_work path) c k) × FramesAreWithin 4096 t.frames t.rest
+Does c k (Cat path) = (t : TellsWork (cat_work path) c k) × FramesAreWithin 4096 t.frames t.cut
 Does c k Nothing = DidNothing c
 
 -- The whole contract. What it says of devices, ledger, outputs, ends and completeness stands in `Performs`.

@@ -8,6 +8,7 @@ use Rattle.device_port.specs.Device.{DeviceTold}
 use Rattle.device_port.specs.Sink.{SinkTold}
 use Rattle.pull_nodes.specs.Runs.{IsRun}
 use Rattle.pull_nodes.specs.Shape.{places_of}
+use Rattle.chunk_core.specs.Tables.{Values}
 use Rattle.pull_nodes.specs.declared.node.Node.{Node}
 use Rattle.pull_turns.specs.Sizes.{HasNoPipeOf, widest_of}
 use Rattle.res_ledger.specs.declared.event.What.TheVariants.{Close}
@@ -28,12 +29,12 @@ use Rattle.flume_cli.specs.declared.frame.NotPut.{NotPut}
 use Rattle.flume_cli.specs.Printing.{PrintsRun}
 
 module _ {V T : Type 0} where
-  -- The node was run over the devices and a tree whose shelf was empty, and pieces of a run were printed. The root is closed as
+  -- The node was run over tables with these values, the devices and a tree whose shelf was empty, and pieces of a run were printed. The root is closed as
   -- the node ended, the tree was left alone, and each device stands on the shelf or was never opened.
-  pub record RunsNode (told : V → DeviceTold) (n : Node) (devices : List V) (chunk : ℕ) (a b : Seen V) (old new : SinkTold) (how : How) (unopened : List V) (r : Result T NotPut) : Type 0 where
+  pub record RunsNode (told : V → DeviceTold) (t : Values) (n : Node) (devices : List V) (chunk : ℕ) (a b : Seen V) (old new : SinkTold) (how : How) (unopened : List V) (r : Result T NotPut) : Type 0 where
     pub home : ℕ → DeviceTold
     pub same : (p : ℕ) → SameDevice (told_at told (site_of n a devices) p) (home p)
-    pub prints : PrintsRun (IsRun home n) (HasNoPipeOf n) (widest_of chunk n) old new (Some how) r
+    pub prints : PrintsRun (IsRun t home n) (HasNoPipeOf n) (widest_of chunk n) old new (Some how) r
     pub parted : Parted told home b.shelf (first_of (places_of n) + length devices) (first_of (places_of n)) unopened
     pub once : IsDistinct nat_eq (firsts (said b.shelf))
     pub rows : (x : Spent V) → IsAmong x b.shelf → IsWithin (first_of (places_of n)) (first_of (places_of n) + length devices) x.row

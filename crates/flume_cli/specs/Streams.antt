@@ -7,6 +7,7 @@ use Rattle.device_port.specs.Device.{DeviceTold}
 use Rattle.device_port.specs.Sink.{SinkTold}
 use Rattle.pull_nodes.specs.Runs.{IsRun}
 use Rattle.pull_nodes.specs.Shape.{places_of, scope_count}
+use Rattle.chunk_core.specs.Tables.{no_values}
 use Rattle.pull_nodes.specs.declared.node.Node.{Node}
 use Rattle.pull_turns.specs.Sizes.{HasNoPipeOf, widest_of}
 use Rattle.row_seat.specs.PlainSeats.{shown, Sits}
@@ -18,11 +19,11 @@ use Rattle.flume_cli.specs.declared.alone.StreamRoom.{StreamRoom}
 use Rattle.flume_cli.specs.Alone.{AreSmall, IsAccount, IsAtRest, PrintsPieces, IsRunIn}
 use Rattle.flume_cli.specs.Retire.{devices_of}
 
--- a fresh seat of stream 0 at its table, with a row for each place of the node and room for all its events, scopes and its end
+-- a fresh seat of stream 0 at its table, with a row for each place of the node and room for all its events, just its scopes and its end
 pub record IsRoomFor {P : Type 0} (n : Node) (room : StreamRoom P) : Type 0 where
   pub seat : shown room.seat ≡ start (Inner 0) (length (places_of n)) (2 * length (places_of n) + 2 * scope_count n + 1) (2 ^ 32 - 1)
   pub sits : Sits room.seat room.table
-  pub scopes : scope_count n + 1 ≤ room.scopes.scopes
+  pub scopes : room.scopes.scopes ≡ scope_count n + 1
   pub rows : length (places_of n) ≤ room.scopes.rows
   pub ends : room.ends.items ≡ []
   pub capacity : vec_capacity room.ends ≡ 1
@@ -40,8 +41,8 @@ module _ {V : Type 0} (told : V → DeviceTold) where
     pub same : AreSame home 0 devices
     pub each : IsPermutation (map home (first_numbers (length devices))) (devices_of told r.shelf r.unopened)
     pub rest : (k : ℕ) → k < length devices → IsAtRest (home k)
-    pub account : IsAccount (length devices) home how r.outcome.ledger
+    pub account : IsAccount (length devices) (scope_count n) home how r.outcome.ledger
     pub printed : PrintsPieces old new r.outcome.sink_failed
     pub small : HasNoPipeOf n → AreSmall (widest_of chunk n) printed.pieces printed.next
-    pub run : IsRunIn (IsRun home n) printed.pieces printed.next r.outcome.sink_failed r.outcome.memory how
+    pub run : IsRunIn (IsRun no_values home n) printed.pieces printed.next r.outcome.sink_failed r.outcome.memory how
     pub ends : r.outcome.ends ≡ record { who = Inner 0; how = how } ∷ []

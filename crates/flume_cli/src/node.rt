@@ -6,11 +6,12 @@ ghost use Rattle.scope_tree.specs.Calls.{ClosesScope, IsOpenScope};
 ghost use Rattle.scope_tree.specs.Trees.{Fits, seen};
 ghost use Rattle.pull_stepper.specs.Held.{FinishesDevice};
 ghost use Rattle.pull_stepper.specs.Stepping.{HasRoomFor, IsSupplied};
+ghost use Rattle.chunk_core.specs.Tables.{no_values};
 ghost use Rattle.flume_cli.specs.Nodes.{RunsNode};
 
 use crate::frame::NotPut;
 use crate::print::print_all;
-use any_pipe::AnyPipe;
+use any_pipe::{AnyPipe, NoTables};
 use chunk_core::{Exit, How, List};
 use device_port::{Device, Sink};
 use pull_nodes::Node;
@@ -36,13 +37,13 @@ pub(crate) fn run_node<V: Device, S: RowSeat<Pay = Held<V>>, K: Sink>(
     requires shelf { (seen S.view tree).shelf ≡ [] }
     requires chunk { 1 ≤ chunk }
     requires sink { (K.told out.old).faults < 2 ^ 64 - 1 }
-    ensures runs { RunsNode V.told node devices chunk (seen S.view tree) (seen S.view result.0.tree) (K.told out.old) (K.told out.new) result.0.how result.0.unopened result.1 }
+    ensures runs { RunsNode V.told no_values node devices chunk (seen S.view tree) (seen S.view result.0.tree) (K.told out.old) (K.told out.new) result.0.how result.0.unopened result.1 }
     ensures fits { Fits S.view S.fits result.0.tree desk.new }
 {
     match Stepper::<S, V, AnyPipe>::new(alloc, node, tree, devices, chunk) {
         Ok(stepper) => {
             let mut stepper = stepper;
-            let printed = print_all(alloc, &mut stepper, desk, out);
+            let printed = print_all(alloc, &mut stepper, &NoTables, desk, out);
             (stepper.end(), printed)
         }
         Err(unmade) => (close(desk, unmade), Err(NotPut::Memory)),

@@ -23,19 +23,20 @@ use std::alloc::{AllocError, Global};
 pub(crate) fn print_all<V: Device, S: RowSeat<Pay = Held<V>>, F: PipeState, K: Sink>(
     alloc: Global,
     stepper: &mut Stepper<S, V, F>,
+    tables: &F::Tables,
     desk: &mut S::Desk,
     out: &mut K,
 ) -> Result<(), NotPut>
     requires fits { Works S.view V.told S.fits stepper.old desk.old }
-    requires can { CanGo (standing F.stands F.comes) V.told (stepping S.view stepper.old) }
+    requires can { CanGo (standing F.stands F.comes (F.values tables.now)) V.told (stepping S.view stepper.old) }
     requires room { (K.told out.old).faults < 2 ^ 64 - 1 }
-    ensures prints { PrintsAll (standing F.stands F.comes) V.told (stepping S.view stepper.old) (stepping S.view stepper.new) (K.told out.old) (K.told out.new) result }
+    ensures prints { PrintsAll (standing F.stands F.comes (F.values tables.now)) V.told (stepping S.view stepper.old) (stepping S.view stepper.new) (K.told out.old) (K.told out.new) result }
     ensures over { IsOver V.told (stepping S.view stepper.new) }
     ensures fits { Works S.view V.told S.fits stepper.new desk.new }
     ensures since { Since V.told (FinishesDevice V.told) (stepping S.view stepper.old).site (stepping S.view stepper.new).site }
 {
     'turns: loop {
-        match stepper.turn(desk) {
+        match stepper.turn(tables, desk) {
             Ok(Turn::Chunk(load)) => match print_load(alloc, load, out) {
                 Ok(()) => {}
                 Err(cause) => return stop(stepper, desk, cause),

@@ -1,11 +1,11 @@
 -- Each call that went as it should meets the contract.
-use Rattle.std.proofs.Common.{◌≡◌, ◌≢◌, ◌<◌, ℕ, Bool, true, false, List, [], ◌∷◌, ◌++◌, map, length, nat_eq, nat_lt, refl, sym, inl, inr, arith, Some}
+use Rattle.std.proofs.Common.{◌≡◌, ◌≢◌, ◌<◌, ℕ, Bool, true, false, List, [], ◌∷◌, ◌++◌, map, length, nat_eq, nat_lt, refl, sym, ap, ◌∙◌, inl, inr, arith, ◌≤◌, Option, Some, None}
 use Rattle.std.specs.Prelude.{codes}
 use Rattle.std.specs.Fmt.{digits}
 use Rattle.std.specs.List.{list_all as all}
 use Rattle.std.proofs.lemmas.Bool.{false≢true}
 use Rattle.std.proofs.lemmas.List.Sorted.{IsPermutation-refl}
-use Rattle.chunk_core.specs.Texts.{Frame, frames_text}
+use Rattle.chunk_core.specs.Texts.{Frame, frame_text, frames_text}
 use Rattle.chunk_core.specs.Elements.{Byte}
 use Rattle.chunk_core.specs.Outcomes.{Done, Fault, Cut, exit_of}
 use Rattle.chunk_core.specs.declared.code.Code.TheVariants as code
@@ -15,6 +15,8 @@ use Rattle.chunk_core.specs.declared.code.How.{How}
 use Rattle.chunk_core.specs.declared.code.How.TheVariants as how
 use Rattle.res_ledger.specs.declared.event.Event.{Event}
 use Rattle.res_ledger.specs.Judge.{is_legal, is_complete}
+use Rattle.res_ledger.specs.declared.event.What.{What}
+use Rattle.res_ledger.specs.declared.event.What.TheVariants.{Cancel}
 use Rattle.res_ledger.specs.Order.{is_ordered}
 use Rattle.res_ledger.proofs.Judged.{legal_sound, complete_sound}
 use Rattle.res_ledger.proofs.Ordering.{ordered_sound}
@@ -23,8 +25,18 @@ use Rattle.device_port.specs.Depot.{HaveOwnNumbers}
 use Rattle.run_rules.specs.Devices.{AreAsMany, is_closed_with}
 use Rattle.run_rules.specs.Facts.{ended_row, failed_row}
 use Rattle.run_rules.specs.Texts.{tail_text}
-use Rattle.run_rules.specs.Run.{HaveEnds, HaveOutputs, IsWholeRun, KeepsRules, NothingFailed, Performs, is_ours}
-use Rattle.run_rules.specs.Work.{RunRecord}
+use Rattle.run_rules.specs.Ends.{HaveEnds}
+use Rattle.run_rules.specs.Outputs.{HaveOutputs}
+use Rattle.run_rules.specs.Rules.{ClosesBeforeLeaving, KeepsRules, is_ours}
+use Rattle.run_rules.specs.Run.{Performs}
+use Rattle.run_rules.specs.Wholeness.{IsWholeRun, NothingFailed}
+use Rattle.run_rules.specs.Work.{RunRecord, Values}
+use Rattle.res_ledger.specs.Judge.{each_after}
+use Rattle.res_ledger.specs.Own.{opens, own}
+use Rattle.res_ledger.specs.declared.event.StreamNo.TheVariants.{Inner}
+use Rattle.res_ledger.proofs.Judged.{each_event}
+use Rattle.res_ledger.proofs.Stamps.{stamped_sound}
+use Rattle.device_port.specs.declared.device.Mode.TheVariants as mode
 use Rattle.flume_cli.specs.Cat.{cat_work, to_read}
 use Rattle.flume_cli.specs.Headline.{Headline}
 use Rattle.headline_laws.specs.Calls.{a, closed_device, depot_after, depot_before, end_of_0, one_row_ledger}
@@ -32,18 +44,45 @@ use Rattle.headline_laws.specs.Worked.{missing_device, whole_file, empty_file, m
 use Rattle.chunk_core.proofs.Distinct.{distinct_one}
 use Rattle.chunk_core.specs.Lists.IsAmong.{here}
 
+some_none : {A : Type 0} {x : A} → Some x ≢ None
+some_none e = cc
+
 no_nil : {A : Type 0} (x : A) (xs : List A) → (x ∷ xs) ≢ []
 no_nil x xs e = cc
 
 -- The rules, by the tests of a ledger.
 
-rules_of : (L : List Event) → is_legal L ≡ true → is_complete L ≡ true → is_ordered L ≡ true → all (is_ours (cat_work a)) L ≡ true → KeepsRules (cat_work a) L
-rules_of L legal complete ordered ours = record { legal = legal_sound L legal; complete = complete_sound L (legal_sound L legal) complete; ordered = ordered_sound L ordered; ours = ours }
+-- the event cancels nothing
+abbrev cancels_nothing : What → Bool
+cancels_nothing (Cancel j x) = false
+cancels_nothing w = true
+
+never_leaves : (L : List Event) → each_after (λ P e. cancels_nothing e.what) [] L ≡ true → ClosesBeforeLeaving L
+never_leaves L h P Q e j x is by what = absurd (false≢true (ap cancels_nothing (sym what) ∙ each_event (λ P e. cancels_nothing e.what) L P Q e h is))
+
+rules_of : (L : List Event) → each_after (λ P e. nat_eq e.stamp (length P)) [] L ≡ true → is_legal L ≡ true → is_complete L ≡ true → is_ordered L ≡ true → all (is_ours (cat_work a)) L ≡ true → length (opens (own (Inner 0) L)) ≤ 0 → each_after (λ P e. cancels_nothing e.what) [] L ≡ true → KeepsRules (cat_work a) L
+rules_of L stamped legal complete ordered ours scopes none = record {
+  stamped = stamped_sound L L refl stamped;
+  legal = legal_sound L legal;
+  complete = complete_sound L (legal_sound L legal) complete;
+  ordered = ordered_sound L ordered;
+  ours = ours;
+  scopes = (scopes, tt);
+  leaving = never_leaves L none;
+  pace = tt;
+}
 
 row_rules : (x : Exit) (ok : Bool) → KeepsRules (cat_work a) (one_row_ledger x ok)
-row_rules Succeeded ok = rules_of (one_row_ledger Succeeded ok) refl refl refl refl
-row_rules Errored ok = rules_of (one_row_ledger Errored ok) refl refl refl refl
-row_rules Canceled ok = rules_of (one_row_ledger Canceled ok) refl refl refl refl
+row_rules Succeeded ok = rules_of (one_row_ledger Succeeded ok) refl refl refl refl refl (omega arith) refl
+row_rules Errored ok = rules_of (one_row_ledger Errored ok) refl refl refl refl refl (omega arith) refl
+row_rules Canceled ok = rules_of (one_row_ledger Canceled ok) refl refl refl refl refl (omega arith) refl
+
+-- cat has no tables
+abbrev no_values : Values
+no_values t key = None
+
+reads_only : mode.Read ≢ mode.Write
+reads_only e = cc
 
 -- A file that was opened and closed.
 
@@ -60,7 +99,7 @@ exits_of bytes at reads closes ended ok Errored Errored = (refl, (refl, tt))
 exits_of bytes at reads closes ended ok Canceled Canceled = (refl, (refl, tt))
 exits_of bytes at reads closes ended ok x y = tt
 
-module _ (bytes : List ℕ) (at : ℕ) (ended : Bool) (x : Exit) (reads closes : ℕ) (ok : Bool) (frames : List Frame) (h : How) (unwritten : Bool) where
+module _ (bytes : List ℕ) (at : ℕ) (ended : Bool) (x : Exit) (reads closes : ℕ) (ok : Bool) (frames : List Frame) (cut : Option Frame) (h : How) where
   abbrev device : DeviceTold
   device = closed_device bytes at ended x reads closes
 
@@ -71,17 +110,18 @@ module _ (bytes : List ℕ) (at : ℕ) (ended : Bool) (x : Exit) (reads closes :
     ends = end_of_0 h ∷ [];
     events = one_row_ledger x ok;
     frames = frames;
+    cut = cut;
     rest = [];
-    unwritten = unwritten;
     memory = false;
   }
 
   -- the work was done, where its parts were that differ from call to call
-  row_performs : AreAsMany (λ d. nat_lt 0 d.close_faults) failed_row (device ∷ []) (to_read a ∷ []) (one_row_ledger x ok) → ok ≡ nat_eq closes 0 → x ≡ exit_of h → HaveOutputs (cat_work a) deed (λ r. device) → HaveEnds (cat_work a) deed
-      → (NothingFailed (cat_work a) deed (λ r. device) → IsWholeRun (cat_work a) deed (λ r. device)) → Performs (cat_work a) deed
+  row_performs : AreAsMany (λ d. nat_lt 0 d.close_faults) failed_row (device ∷ []) (to_read a ∷ []) (one_row_ledger x ok) → ok ≡ nat_eq closes 0 → x ≡ exit_of h → HaveOutputs (cat_work a) deed no_values (λ r. device) → HaveEnds (cat_work a) deed (λ r. device)
+      → (NothingFailed (cat_work a) deed no_values (λ r. device) → IsWholeRun (cat_work a) deed no_values (λ r. device)) → Performs (cat_work a) deed
   row_performs failed tied exit outputs ends whole = record {
     devices = record {
       made = refl;
+      few = (omega arith, tt);
       retired = refl;
       once = IsPermutation-refl _;
       shut = ((refl, refl), tt);
@@ -90,14 +130,16 @@ module _ (bytes : List ℕ) (at : ℕ) (ended : Bool) (x : Exit) (reads closes :
       failed = failed;
       exits = exits_of bytes at reads closes ended ok x;
       files = λ path. inr refl;
+      stored = ((λ writes. absurd (reads_only writes)), tt);
     };
     ledger = row_rules x ok;
     ran = inr (record {
+      values = no_values;
       home = λ r. device;
-      rows = record { at_home = (refl, refl, inl (here []), tt); apart = one_apart device; tied = (refl, (tt, ((refl, tied), tt))) };
+      rows = record { at_home = (refl, refl, inl (here []), tt); apart = one_apart device; tied = (refl, (tt, ((refl, tied), tt))); values = tt };
       outputs = outputs;
       ends = ends;
-      exits = ((exit, tt), tt);
+      exits = ((λ e. (tt, (exit, (tt, tt)))), tt);
       completeness = λ m n. whole n;
     });
   }
@@ -124,9 +166,9 @@ text_of_failed_close : failed_close.out_new.written ≡ Some ([] ++ (frames_text
 unfolding digits
 text_of_failed_close = refl
 
-failed_tail : 0 < length (tail_text failed_write.ends failed_write.events)
+failed_frame : 0 < length (frame_text 0 (codes "hello\n"))
 unfolding digits
-failed_tail = omega arith
+failed_frame = omega arith
 
 -- The calls.
 
@@ -138,14 +180,16 @@ whole_file_holds = record {
   does = (
     record {
       frames = hello_frame ∷ [];
+      cut = None;
       rest = [];
-      performs = row_performs (codes "hello\n") 6 true Succeeded 0 0 true (hello_frame ∷ []) how.Done false tt refl refl
-          (record { numbers = ((omega arith, omega arith), tt); outputs = (record { elements = map Byte (codes "hello\n"); end = Done; run = inl (inl (refl, refl, inl (refl, (refl, omega arith, refl, refl)))); printed = refl; reported = refl }, refl); cut = inl refl })
-          (record { named = refl; caused = (record { halted = λ h. absurd (false≢true h); fault = refl; root = λ h. refl }, tt); memory = λ h. absurd (false≢true h) })
-          (λ n. record { done = (refl, tt); clean = refl; output = ((map Byte (codes "hello\n"), inl (refl, refl, inl (omega arith, refl, refl)), refl), tt) });
-      text = record { said = tail_text whole_file.ends whole_file.events; written = text_of_whole_file; tail = (refl, refl); spoke = λ e. absurd (no_nil _ _ e); once = omega arith };
+      wanted = false;
+      performs = row_performs (codes "hello\n") 6 true Succeeded 0 0 true (hello_frame ∷ []) None how.Done tt refl refl
+          (record { numbers = ((omega arith, omega arith), tt); few = tt; outputs = (record { elements = map Byte (codes "hello\n"); end = Done; run = inl (inl (refl, refl, inl (refl, (refl, omega arith, refl, refl)))); printed = refl; reported = refl }, refl); rest = refl })
+          (record { named = refl; caused = (record { halted = λ h. absurd (false≢true h); fault = refl; root = λ h. refl }, tt); outer = tt; stopped = record { in_turn = λ e. absurd (false≢true e); nobody = λ e. absurd (false≢true e) }; memory = λ h. absurd (false≢true h) })
+          (λ n. record { done = (refl, tt); clean = refl; output = ((map Byte (codes "hello\n"), inl (omega arith, refl, refl), refl), tt) });
+      text = record { said = tail_text whole_file.ends whole_file.events; written = text_of_whole_file; tail = refl; spoke = λ e. absurd (no_nil _ _ e); once = omega arith };
     },
-    record { fits = (omega arith, tt); front = inl refl },
+    record { fits = (omega arith, tt); cut_fits = tt },
   );
 }
 
@@ -157,14 +201,16 @@ empty_file_holds = record {
   does = (
     record {
       frames = [];
+      cut = None;
       rest = [];
-      performs = row_performs [] 0 true Succeeded 0 0 true ([]) how.Done false tt refl refl
-          (record { numbers = tt; outputs = (record { elements = []; end = Done; run = inl (inl (refl, refl, inl (refl, (refl, omega arith, refl, refl)))); printed = refl; reported = refl }, refl); cut = inl refl })
-          (record { named = refl; caused = (record { halted = λ h. absurd (false≢true h); fault = refl; root = λ h. refl }, tt); memory = λ h. absurd (false≢true h) })
-          (λ n. record { done = (refl, tt); clean = refl; output = (([], inl (refl, refl, inl (omega arith, refl, refl)), refl), tt) });
-      text = record { said = tail_text empty_file.ends empty_file.events; written = text_of_empty_file; tail = (refl, refl); spoke = λ e. absurd (no_nil _ _ e); once = omega arith };
+      wanted = false;
+      performs = row_performs [] 0 true Succeeded 0 0 true [] None how.Done tt refl refl
+          (record { numbers = tt; few = tt; outputs = (record { elements = []; end = Done; run = inl (inl (refl, refl, inl (refl, (refl, omega arith, refl, refl)))); printed = refl; reported = refl }, refl); rest = refl })
+          (record { named = refl; caused = (record { halted = λ h. absurd (false≢true h); fault = refl; root = λ h. refl }, tt); outer = tt; stopped = record { in_turn = λ e. absurd (false≢true e); nobody = λ e. absurd (false≢true e) }; memory = λ h. absurd (false≢true h) })
+          (λ n. record { done = (refl, tt); clean = refl; output = (([], inl (omega arith, refl, refl), refl), tt) });
+      text = record { said = tail_text empty_file.ends empty_file.events; written = text_of_empty_file; tail = refl; spoke = λ e. absurd (no_nil _ _ e); once = omega arith };
     },
-    record { fits = tt; front = inl refl },
+    record { fits = tt; cut_fits = tt },
   );
 }
 
@@ -176,14 +222,16 @@ read_fault_holds = record {
   does = (
     record {
       frames = record { stream = 0; payload = codes "he" } ∷ [];
+      cut = None;
       rest = [];
-      performs = row_performs (codes "hello\n") 2 false Errored 1 0 true (record { stream = 0; payload = codes "he" } ∷ []) (how.Fault code.Read) false tt refl refl
-          (record { numbers = ((omega arith, omega arith), tt); outputs = (record { elements = map Byte (codes "he"); end = Fault code.Read; run = inl (inl (refl, refl, inl (refl, refl))); printed = refl; reported = refl }, refl); cut = inl refl })
-          (record { named = refl; caused = (record { halted = λ h. absurd (false≢true h); fault = refl; root = λ h. refl }, tt); memory = λ h. absurd (false≢true h) })
+      wanted = false;
+      performs = row_performs (codes "hello\n") 2 false Errored 1 0 true (record { stream = 0; payload = codes "he" } ∷ []) None (how.Fault code.Read) tt refl refl
+          (record { numbers = ((omega arith, omega arith), tt); few = tt; outputs = (record { elements = map Byte (codes "he"); end = Fault code.Read; run = inl (inl (refl, refl, inl (refl, refl))); printed = refl; reported = refl }, refl); rest = refl })
+          (record { named = refl; caused = (record { halted = λ h. absurd (false≢true h); fault = refl; root = λ h. refl }, tt); outer = tt; stopped = record { in_turn = λ e. absurd (false≢true e); nobody = λ e. absurd (false≢true e) }; memory = λ h. absurd (false≢true h) })
           (λ n. let z = n.devices.0 in absurd (omega (arith, z)));
-      text = record { said = tail_text read_fault.ends read_fault.events; written = text_of_read_fault; tail = (refl, refl); spoke = λ e. absurd (no_nil _ _ e); once = omega arith };
+      text = record { said = tail_text read_fault.ends read_fault.events; written = text_of_read_fault; tail = refl; spoke = λ e. absurd (no_nil _ _ e); once = omega arith };
     },
-    record { fits = (omega arith, tt); front = inl refl },
+    record { fits = (omega arith, tt); cut_fits = tt },
   );
 }
 
@@ -195,14 +243,16 @@ failed_close_holds = record {
   does = (
     record {
       frames = hello_frame ∷ [];
+      cut = None;
       rest = [];
-      performs = row_performs (codes "hello\n") 6 true Succeeded 0 1 false (hello_frame ∷ []) how.Done false (refl, (refl, tt)) refl refl
-          (record { numbers = ((omega arith, omega arith), tt); outputs = (record { elements = map Byte (codes "hello\n"); end = Done; run = inl (inl (refl, refl, inl (refl, (refl, omega arith, refl, refl)))); printed = refl; reported = refl }, refl); cut = inl refl })
-          (record { named = refl; caused = (record { halted = λ h. absurd (false≢true h); fault = refl; root = λ h. refl }, tt); memory = λ h. absurd (false≢true h) })
+      wanted = false;
+      performs = row_performs (codes "hello\n") 6 true Succeeded 0 1 false (hello_frame ∷ []) None how.Done (refl, (refl, tt)) refl refl
+          (record { numbers = ((omega arith, omega arith), tt); few = tt; outputs = (record { elements = map Byte (codes "hello\n"); end = Done; run = inl (inl (refl, refl, inl (refl, (refl, omega arith, refl, refl)))); printed = refl; reported = refl }, refl); rest = refl })
+          (record { named = refl; caused = (record { halted = λ h. absurd (false≢true h); fault = refl; root = λ h. refl }, tt); outer = tt; stopped = record { in_turn = λ e. absurd (false≢true e); nobody = λ e. absurd (false≢true e) }; memory = λ h. absurd (false≢true h) })
           (λ n. let z = n.devices.0 in absurd (omega (arith, z)));
-      text = record { said = tail_text failed_close.ends failed_close.events; written = text_of_failed_close; tail = (refl, refl); spoke = λ e. absurd (no_nil _ _ e); once = omega arith };
+      text = record { said = tail_text failed_close.ends failed_close.events; written = text_of_failed_close; tail = refl; spoke = λ e. absurd (no_nil _ _ e); once = omega arith };
     },
-    record { fits = (omega arith, tt); front = inl refl },
+    record { fits = (omega arith, tt); cut_fits = tt },
   );
 }
 
@@ -214,14 +264,16 @@ failed_write_holds = record {
   does = (
     record {
       frames = [];
+      cut = Some hello_frame;
       rest = [];
-      performs = row_performs (codes "hello\n") 6 false Canceled 0 0 true ([]) how.Halted true tt refl refl
-          (record { numbers = tt; outputs = (record { elements = []; end = Cut; run = inr (refl, inl refl); printed = refl; reported = inl refl }, refl); cut = inl refl })
-          (record { named = refl; caused = (record { halted = λ h. inl refl; fault = refl; root = λ h. refl }, tt); memory = λ h. absurd (false≢true h) })
-          (λ n. absurd (false≢true (sym n.written)));
-      text = record { said = []; written = refl; tail = (inl refl, failed_tail); spoke = λ e. absurd (no_nil _ _ e); once = omega arith };
+      wanted = false;
+      performs = row_performs (codes "hello\n") 6 false Canceled 0 0 true [] (Some hello_frame) how.Halted tt refl refl
+          (record { numbers = tt; few = tt; outputs = (record { elements = []; end = Cut; run = inr (refl, inl (refl, tt)); printed = refl; reported = inl refl }, refl); rest = record { stream = omega arith; some = omega arith; more = frame_text 0 (codes "hello\n"); front = failed_frame; text = refl; elements = map Byte (codes "hello\n"); run = inl (inl (refl, refl, inl (refl, tt))); goes_on = refl } })
+          (record { named = refl; caused = (record { halted = λ h. inl refl; fault = refl; root = λ h. refl }, tt); outer = tt; stopped = record { in_turn = λ e. absurd (false≢true e); nobody = λ e. absurd (false≢true e) }; memory = λ h. absurd (false≢true h) })
+          (λ n. absurd (some_none n.written));
+      text = record { said = []; written = refl; tail = (refl, refl); spoke = λ e. absurd (no_nil _ _ e); once = omega arith };
     },
-    record { fits = tt; front = inl refl },
+    record { fits = tt; cut_fits = omega arith },
   );
 }
 
@@ -233,21 +285,24 @@ missing_file_holds = record {
   does = (
     record {
       frames = [];
+      cut = None;
       rest = [];
+      wanted = false;
       performs = record {
-        devices = record { made = refl; retired = refl; once = IsPermutation-refl _; shut = ((refl, refl), tt); rows = (tt, tt); acquired = tt; failed = tt; exits = λ x. tt; files = λ path. inr refl };
-        ledger = rules_of missing_file.events refl refl refl refl;
+        devices = record { made = refl; few = (omega arith, tt); retired = refl; once = IsPermutation-refl _; shut = ((refl, refl), tt); rows = (tt, tt); acquired = tt; failed = tt; exits = λ x. tt; files = λ path. inr refl; stored = ((λ writes. absurd (reads_only writes)), tt) };
+        ledger = rules_of missing_file.events refl refl refl refl refl (omega arith) refl;
         ran = inr (record {
+          values = no_values;
           home = λ r. missing_device;
-          rows = record { at_home = (refl, refl, inl (here []), tt); apart = one_apart missing_device; tied = (tt, tt) };
-          outputs = record { numbers = tt; outputs = (record { elements = []; end = Fault code.Open; run = inl (inr (refl, refl, refl, refl, tt)); printed = refl; reported = refl }, refl); cut = inl refl };
-          ends = record { named = refl; caused = (record { halted = λ h. absurd (false≢true h); fault = refl; root = λ h. refl }, tt); memory = λ h. absurd (false≢true h) };
-          exits = ((refl, tt), tt);
+          rows = record { at_home = (refl, refl, inl (here []), tt); apart = one_apart missing_device; tied = (tt, tt); values = tt };
+          outputs = record { numbers = tt; few = tt; outputs = (record { elements = []; end = Fault code.Open; run = inl (inr (refl, refl, refl, refl, tt)); printed = refl; reported = refl }, refl); rest = refl };
+          ends = record { named = refl; caused = (record { halted = λ h. absurd (false≢true h); fault = refl; root = λ h. refl }, tt); outer = tt; stopped = record { in_turn = λ e. absurd (false≢true e); nobody = λ e. absurd (false≢true e) }; memory = λ h. absurd (false≢true h) };
+          exits = ((λ e. (refl, tt)), tt);
           completeness = λ m n. let z = n.devices.0 in absurd (omega (arith, z));
         });
       };
-      text = record { said = tail_text missing_file.ends missing_file.events; written = text_of_missing_file; tail = (refl, refl); spoke = λ e. absurd (no_nil _ _ e); once = omega arith };
+      text = record { said = tail_text missing_file.ends missing_file.events; written = text_of_missing_file; tail = refl; spoke = λ e. absurd (no_nil _ _ e); once = omega arith };
     },
-    record { fits = tt; front = inl refl },
+    record { fits = tt; cut_fits = tt },
   );
 }

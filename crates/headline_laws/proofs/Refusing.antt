@@ -1,5 +1,5 @@
 -- Each call with one thing wrong is refused.
-use Rattle.std.proofs.Common.{◌≡◌, ◌≢◌, ◌<◌, ◌≤◌, ℕ, ◌+◌, Bool, true, false, not, if◌then◌else◌, List, [], ◌∷◌, ◌++◌, map, take, length, filter, flat_map, nat_eq, cond, Option, Some, None, IfSome, refl, sym, ap, ◌∙◌, subst, inl, inr, arith, ⊎_elim, length-append}
+use Rattle.std.proofs.Common.{◌≡◌, ◌≢◌, ◌<◌, ◌≤◌, ℕ, ◌+◌, Bool, true, false, not, if◌then◌else◌, List, [], ◌∷◌, ◌++◌, map, take, length, filter, flat_map, nat_eq, cond, Option, Some, None, IfSome, is_some, refl, sym, ap, ◌∙◌, subst, inl, inr, arith, ⊎_elim, length-append}
 use Rattle.std.specs.Prelude.{codes, decimal}
 use Rattle.std.specs.Fmt.{digits}
 use Rattle.std.proofs.lemmas.Bool.{false≢true}
@@ -13,7 +13,12 @@ use Rattle.chunk_core.specs.declared.code.How.{How}
 use Rattle.chunk_core.specs.declared.code.How.TheVariants as how
 use Rattle.device_port.specs.Device.{DeviceTold}
 use Rattle.pull_nodes.specs.Runs.{FirstBytes, OrLeft, Reads}
-use Rattle.run_rules.specs.Run.{IsReported, IsUnmade, Ran, IsUntouched}
+use Rattle.run_rules.specs.Ends.{HasCauseToHalt, fault_stops, is_silenced, last_stream, may_stop}
+use Rattle.run_rules.specs.Homes.{IsUntouched}
+use Rattle.run_rules.specs.Outputs.{IsReported, IsRest}
+use Rattle.run_rules.specs.Run.{IsUnmade, Ran}
+use Rattle.run_rules.specs.Work.{RunRecord, Values}
+use Rattle.res_ledger.specs.declared.event.StreamNo.TheVariants.{Inner}
 use Rattle.res_ledger.proofs.Judged.{legal_found, complete_found}
 use Rattle.res_ledger.proofs.Ordering.{ordered_complete}
 use Rattle.run_rules.specs.declared.end.EndOf.{EndOf}
@@ -23,10 +28,11 @@ use Rattle.flume_cli.specs.declared.status.Status.{Status}
 use Rattle.flume_cli.specs.declared.status.Status.TheVariants as status
 use Rattle.flume_cli.specs.Status.{Causes, status_of, status_number, line_of}
 use Rattle.flume_cli.specs.Cat.{cat_work, FileRuns}
-use Rattle.flume_cli.specs.Headline.{Call, Headline, TellsWork, deed_of_call}
+use Rattle.flume_cli.specs.Headline.{Call, Headline, SaysTail, TellsWork, run_of_call}
 use Rattle.headline_laws.specs.Calls.{a}
 use Rattle.headline_laws.specs.Refused.{end_never_met, failed_read_forgotten, invented_output, cut_output, row_of_no_plan, event_of_no_stream, lease_of_no_stream, kept_device, failure_not_told, halted_without_a_cause, call_with_row_without_a_final, call_with_final_before_close, closed_twice, left_open, fault_without_a_fault, failed_close_not_told, done_told_as_errored, fault_told_as_succeeded, halt_told_as_succeeded, final_unlike_its_close, device_told_otherwise, silent_call}
 use Rattle.chunk_core.proofs.Members.{among_cons, among_nil}
+use Rattle.chunk_core.proofs.Bools.{both, either}
 
 peel : (b : Bool) (x y s : Status) → (x ≡ s → ⊥) → s ≡ (if b then x else y) → (b ≡ false) × (s ≡ y)
 peel true x y s n e = absurd (n (sym e))
@@ -49,9 +55,31 @@ good k e =
     let t = peel k.faulty _ _ status.Good (differ _ _ (omega arith)) r.1 in
     record { unwritten = q.0; memory = r.0; faulty = t.0 }
 
--- the stream ran, where memory wasn't wanting
-ran : (c : Call) (k : Causes) → (t : TellsWork (cat_work a) c k) → k.memory ≡ false → Ran (cat_work a) (deed_of_call c k t.frames t.rest)
-ran c k t m = ⊎_elim (λ (u : IsUnmade (deed_of_call c k t.frames t.rest)). absurd (false≢true (sym m ∙ u.memory))) (λ r. r) t.performs.ran
+-- the stream ran, where there are ends
+pub ran_with_ends : (c : Call) (k : Causes) (t : TellsWork (cat_work a) c k) → c.ends ≢ [] → Ran (cat_work a) (run_of_call c t.frames t.cut t.rest t.wanted)
+ran_with_ends c k t some = ⊎_elim (λ (u : IsUnmade (run_of_call c t.frames t.cut t.rest t.wanted)). absurd (some u.ends)) (λ r. r) t.performs.ran
+
+pub an_end : (e : EndOf) (es : List EndOf) → (e ∷ es) ≢ []
+an_end e es q = cc
+
+-- no write of a frame failed and memory wasn't wanting in the work, and all of the tail was said
+pub record Went (broke wanted : Bool) (said tail : List ℕ) : Type 0 where
+  pub broke_is : broke ≡ false
+  pub wanted_is : wanted ≡ false
+  pub said_is : said ≡ tail
+
+-- so it is at status 0
+went : (k : Causes) → Good k → (said tail : List ℕ) (broke wanted : Bool) → SaysTail k said tail status.Good broke wanted → Went broke wanted said tail
+went k g said tail true wanted h = absurd (false≢true (sym g.unwritten ∙ h.0))
+went k g said tail false true h = absurd (false≢true (sym g.memory ∙ h.1))
+went k g said tail false false h = record { broke_is = refl; wanted_is = refl; said_is = h }
+
+-- a stream of cat that didn't fail has no cause to halt, where no write of a frame failed and memory wasn't wanting
+pub no_cause : (c : RunRecord) → is_some c.cut ≡ false → c.memory ≡ false → fault_stops (cat_work a) c (Inner 0) ≡ false → HasCauseToHalt (cat_work a) c (Inner 0) → ⊥
+no_cause c whole there f (inl x) = let e = both (is_silenced (cat_work a) c) (elim (last_stream c) [ Some j ↦ may_stop (cat_work a) (Inner j) (Inner 0) | None ↦ true ]) x in ⊎_elim (λ y. false≢true (sym whole ∙ y)) (λ y. false≢true y) (either (is_some c.cut) false e.0)
+no_cause c whole there f (inr (inl x)) = false≢true (sym there ∙ x)
+no_cause c whole there f (inr (inr (inl x))) = false≢true (sym f ∙ x)
+no_cause c whole there f (inr (inr (inr x))) = false≢true x
 
 abbrev number : How → ℕ
 number how.Done = 0
@@ -80,7 +108,7 @@ opened d ys e q (inr x) = let h = ap place (sym q ∙ x.0) in absurd (omega (ari
 pub invented_output_refused : ¬ (Headline invented_output)
 invented_output_refused h =
     let g = good h.causes h.status.status in
-    let r = ran invented_output h.causes h.does.0 g.memory in
+    let r = ran_with_ends invented_output h.causes h.does.0 (an_end _ []) in
     let o = opened (r.home 0) r.outputs.outputs.0.elements r.outputs.outputs.0.end (done r.outputs.outputs.0.end r.outputs.outputs.0.reported) r.outputs.outputs.0.run in
     ⊎_elim among_nil (λ (x : IsUntouched (r.home 0)). let z = x.opens in omega (arith, o, z)) r.rows.at_home.2
 
@@ -102,8 +130,10 @@ failure_not_told_refused h = let g = good h.causes h.status.status in false≢tr
 pub halted_without_a_cause_refused : ¬ (Headline halted_without_a_cause)
 halted_without_a_cause_refused h =
     let g = good h.causes h.status.status in
-    let r = ran halted_without_a_cause h.causes h.does.0 g.memory in
-    ⊎_elim (λ e. false≢true (sym g.unwritten ∙ e)) (⊎_elim (λ e. false≢true (sym g.memory ∙ e)) (λ e. false≢true e)) (r.ends.caused.0.halted refl)
+    let t = h.does.0 in
+    let w = went h.causes g t.text.said _ (is_some t.cut) t.wanted t.text.tail in
+    let r = ran_with_ends halted_without_a_cause h.causes t (an_end _ []) in
+    no_cause (run_of_call halted_without_a_cause t.frames t.cut t.rest t.wanted) w.broke_is w.wanted_is refl (r.ends.caused.0.halted refl)
 
 -- the payloads stand in the text of their frames
 holds : (k : ℕ) (p : List ℕ) → length p ≤ length (frame_text k p)
@@ -130,7 +160,7 @@ read_whole c d is ys e q r =
     let at : d.at ≡ length c = subst (λ o. IfSome o (λ b. d.at ≡ length b)) is done.1.3 in
     given ∙ ap (λ xs. map Byte xs) (take_all d.at c (omega (arith, at)))
 
-read_left : (c : List ℕ) (d : DeviceTold) → d.content ≡ Some c → (ys : List Element) (e : End) → e ≡ Done → OrLeft (Reads d) ys e → ys ≡ map Byte c
+read_left : (c : List ℕ) (d : DeviceTold) → d.content ≡ Some c → (ys : List Element) (e : End) → e ≡ Done → OrLeft (Unit {0}) (Reads d) ys e → ys ≡ map Byte c
 read_left c d is ys e q (inl x) = read_whole c d is ys e q x
 read_left c d is ys e q (inr x) = let h = ap place (sym q ∙ x.0) in absurd (omega (arith, h))
 
@@ -139,7 +169,7 @@ given_whole c d is ys e q (inl (inl x)) = read_left c d is ys e q x.2
 given_whole c d is ys e q (inl (inr x)) = let h = ap place (sym q ∙ x.3) in absurd (omega (arith, h))
 given_whole c d is ys e q (inr x) = let h = ap place (sym q ∙ x.0) in absurd (omega (arith, h))
 
-abbrev bytes_of : Option (List ℕ) → List ℕ
+abbrev pub bytes_of : Option (List ℕ) → List ℕ
 bytes_of None = []
 bytes_of (Some b) = b
 
@@ -148,6 +178,11 @@ too_short text frames rest said tail e p q l m =
     let n = ap (λ x. length x) e in let u = ap (λ x. length x) p in let v = ap (λ x. length x) q in
     omega (arith, n, u, v, l, m, length-append frames (rest ++ said), length-append rest said)
 
+-- nothing was written behind the whole frames
+pub rest_none : (v : Values) (w : ℕ → DeviceTold) (F : List Frame) (rest : List ℕ) (cut : Option Frame) → is_some cut ≡ false → IsRest (cat_work a) v w F cut rest → rest ≡ []
+rest_none v w F rest None e h = h
+rest_none v w F rest (Some f) e h = absurd (false≢true (sym e))
+
 tail_is_long : length (bytes_of cut_output.out_new.written) < 12 + length (tail_text cut_output.ends cut_output.events)
 unfolding digits
 tail_is_long = omega arith
@@ -155,12 +190,14 @@ tail_is_long = omega arith
 pub cut_output_refused : ¬ (Headline cut_output)
 cut_output_refused h =
     let g = good h.causes h.status.status in
-    let r = ran cut_output h.causes h.does.0 g.memory in
+    let t = h.does.0 in
+    let w = went h.causes g t.text.said _ (is_some t.cut) t.wanted t.text.tail in
+    let r = ran_with_ends cut_output h.causes t (an_end _ []) in
     let o = r.outputs.outputs.0 in
     let ys = given_whole (codes "hello world\n") (r.home 0) r.rows.at_home.1 o.elements o.end (done o.end o.reported) o.run in
     let n : length (payloads_of 0 h.does.0.frames) ≡ 12 = ap (λ x. length x) (o.printed ∙ ap (λ x. rendering_of x) ys) in
     let f : 12 ≤ length (frames_text h.does.0.frames) = omega (arith, n, within 0 h.does.0.frames) in
-    too_short _ (frames_text h.does.0.frames) h.does.0.rest h.does.0.text.said _ (ap (λ x. bytes_of x) h.does.0.text.written) h.does.0.text.tail.0 h.does.0.text.tail.1 tail_is_long f
+    too_short _ (frames_text h.does.0.frames) h.does.0.rest h.does.0.text.said _ (ap (λ x. bytes_of x) h.does.0.text.written) (rest_none r.values r.home t.frames t.rest t.cut w.broke_is r.outputs.rest) w.said_is tail_is_long f
 
 pub row_without_a_final_refused : ¬ (Headline call_with_row_without_a_final)
 row_without_a_final_refused h = let l = h.does.0.performs.ledger in false≢true (complete_found call_with_row_without_a_final.events l.legal l.complete)
@@ -176,21 +213,14 @@ not_errored e = cc
 not_canceled : Succeeded ≢ Canceled
 not_canceled e = cc
 
--- where there are ends, something was begun
-ran_with_ends : (c : Call) (k : Causes) (t : TellsWork (cat_work a) c k) → c.ends ≢ [] → Ran (cat_work a) (deed_of_call c k t.frames t.rest)
-ran_with_ends c k t some = ⊎_elim (λ (u : IsUnmade (deed_of_call c k t.frames t.rest)). absurd (some u.ends)) (λ r. r) t.performs.ran
-
-an_end : (e : EndOf) (es : List EndOf) → (e ∷ es) ≢ []
-an_end e es q = cc
-
 pub done_told_as_errored_refused : ¬ (Headline done_told_as_errored)
-done_told_as_errored_refused h = let r = ran_with_ends done_told_as_errored h.causes h.does.0 (an_end _ []) in not_errored (sym r.exits.0.0)
+done_told_as_errored_refused h = let r = ran_with_ends done_told_as_errored h.causes h.does.0 (an_end _ []) in not_errored (sym ((r.exits.0 refl).1.0))
 
 pub fault_told_as_succeeded_refused : ¬ (Headline fault_told_as_succeeded)
-fault_told_as_succeeded_refused h = let r = ran_with_ends fault_told_as_succeeded h.causes h.does.0 (an_end _ []) in not_errored r.exits.0.0
+fault_told_as_succeeded_refused h = let r = ran_with_ends fault_told_as_succeeded h.causes h.does.0 (an_end _ []) in not_errored ((r.exits.0 refl).1.0)
 
 pub halt_told_as_succeeded_refused : ¬ (Headline halt_told_as_succeeded)
-halt_told_as_succeeded_refused h = let r = ran_with_ends halt_told_as_succeeded h.causes h.does.0 (an_end _ []) in not_canceled r.exits.0.0
+halt_told_as_succeeded_refused h = let r = ran_with_ends halt_told_as_succeeded h.causes h.does.0 (an_end _ []) in not_canceled ((r.exits.0 refl).1.0)
 
 pub final_unlike_its_close_refused : ¬ (Headline final_unlike_its_close)
 final_unlike_its_close_refused h = false≢true (ordered_complete final_unlike_its_close.events h.does.0.performs.ledger.ordered)
@@ -205,7 +235,7 @@ pub left_open_refused : ¬ (Headline left_open)
 left_open_refused h = let e = h.does.0.performs.devices.shut.0.1 in omega (arith, e)
 
 -- a run that is done met the end, and no read failed
-read_met : (d : DeviceTold) (ys : List Element) (e : End) → e ≡ Done → OrLeft (Reads d) ys e → (d.ended ≡ true) × (d.read_faults ≡ 0)
+read_met : (d : DeviceTold) (ys : List Element) (e : End) → e ≡ Done → OrLeft (Unit {0}) (Reads d) ys e → (d.ended ≡ true) × (d.read_faults ≡ 0)
 read_met d ys e q (inl x) = let r = subst (λ (g : End). Reads d ys g) q x in (r.1.0, r.1.2)
 read_met d ys e q (inr x) = let h = ap place (sym q ∙ x.0) in absurd (omega (arith, h))
 
@@ -217,7 +247,7 @@ met d ys e q (inr x) = let h = ap place (sym q ∙ x.0) in absurd (omega (arith,
 pub failed_read_forgotten_refused : ¬ (Headline failed_read_forgotten)
 failed_read_forgotten_refused h =
     let g = good h.causes h.status.status in
-    let r = ran failed_read_forgotten h.causes h.does.0 g.memory in
+    let r = ran_with_ends failed_read_forgotten h.causes h.does.0 (an_end _ []) in
     let o = r.outputs.outputs.0 in
     let m = met (r.home 0) o.elements o.end (done o.end o.reported) o.run in
     let n = opened (r.home 0) o.elements o.end (done o.end o.reported) o.run in
@@ -229,7 +259,7 @@ failed_read_forgotten_refused h =
 pub end_never_met_refused : ¬ (Headline end_never_met)
 end_never_met_refused h =
     let g = good h.causes h.status.status in
-    let r = ran end_never_met h.causes h.does.0 g.memory in
+    let r = ran_with_ends end_never_met h.causes h.does.0 (an_end _ []) in
     let o = r.outputs.outputs.0 in
     let m = met (r.home 0) o.elements o.end (done o.end o.reported) o.run in
     let n = opened (r.home 0) o.elements o.end (done o.end o.reported) o.run in
@@ -238,16 +268,9 @@ end_never_met_refused h =
     (λ (x : IsUntouched (r.home 0)). let z = x.opens in omega (arith, n, z))
     r.rows.at_home.2
 
--- what status 1 tells of memory
-faulty : (k : Causes) → status.Faulty ≡ status_of k → k.memory ≡ false
-faulty k e =
-    let p = peel (not k.words) _ _ status.Faulty (differ _ _ (omega arith)) e in
-    let q = peel k.unwritten _ _ status.Faulty (differ _ _ (omega arith)) p.1 in
-    (peel k.memory _ _ status.Faulty (differ _ _ (omega arith)) q.1).0
-
 pub fault_without_a_fault_refused : ¬ (Headline fault_without_a_fault)
 fault_without_a_fault_refused h =
-    let r = ran fault_without_a_fault h.causes h.does.0 (faulty h.causes h.status.status) in
+    let r = ran_with_ends fault_without_a_fault h.causes h.does.0 (an_end _ []) in
     false≢true r.ends.caused.0.fault
 
 pub failed_close_not_told_refused : ¬ (Headline failed_close_not_told)

@@ -1,3 +1,4 @@
 pub mod Calls
 pub mod Refused
+pub mod Surplus
 pub mod Worked

@@ -1,6 +1,7 @@
 //! Calls with one thing wrong each.
 ghost use Rattle.flume_cli.specs.Headline.{Headline};
 ghost use Rattle.headline_laws.specs.Refused.{end_never_met, failed_read_forgotten, invented_output, cut_output, row_of_no_plan, event_of_no_stream, lease_of_no_stream, call_with_row_without_a_final, call_with_final_before_close, kept_device, closed_twice, left_open, failure_not_told, halted_without_a_cause, fault_without_a_fault, failed_close_not_told, done_told_as_errored, fault_told_as_succeeded, halt_told_as_succeeded, final_unlike_its_close, device_told_otherwise, silent_call};
+ghost use Rattle.headline_laws.specs.Surplus.{halted_by_the_tail, halted_for_memory, idle_devices, invented_scopes, memory_at_the_end, opened_again, writes_on};
 
 /// Outputs that no device gave.
 pub fn invented_outputs()
@@ -31,6 +32,18 @@ pub fn wrong_exits()
     ensures is_halt_told_as_succeeded { ¬ (Headline halt_told_as_succeeded) }
     ensures is_final_unlike_its_close { ¬ (Headline final_unlike_its_close) }
     ensures is_device_told_otherwise { ¬ (Headline device_told_otherwise) }
+{}
+
+/// Devices, scopes and writes beyond what the command asks for, and what befell the tail told of
+/// the run.
+pub fn surplus()
+    ensures is_idle_devices { ¬ (Headline idle_devices) }
+    ensures is_opened_again { ¬ (Headline opened_again) }
+    ensures is_invented_scopes { ¬ (Headline invented_scopes) }
+    ensures is_writes_on { ¬ (Headline writes_on) }
+    ensures is_halted_by_the_tail { ¬ (Headline halted_by_the_tail) }
+    ensures is_memory_at_the_end { ¬ (Headline memory_at_the_end) }
+    ensures is_halted_for_memory { ¬ (Headline halted_for_memory) }
 {}
 
 /// Ends and statuses without their causes, and causes that nobody was told.

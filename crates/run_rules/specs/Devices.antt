@@ -1,5 +1,5 @@
 -- The devices that a run made.
-use Rattle.std.specs.Prelude.{◌≡◌, ℕ, ◌+◌, ◌<◌, Bool, false, nat_eq, nat_lt, List, [], ◌∷◌, ◌++◌, map, length, drop, filter, count_by, flat_map, Option, Some, None}
+use Rattle.std.specs.Prelude.{◌≡◌, ℕ, ◌+◌, ◌<◌, ◌≤◌, Bool, false, nat_eq, nat_lt, List, [], ◌∷◌, ◌++◌, map, length, drop, filter, count_by, flat_map, Option, Some, None}
 use Rattle.std.specs.List.Sorted.{IsPermutation}
 use Rattle.chunk_core.specs.Lists.{IsAmong}
 use Rattle.std.specs.List.{AllByRecursion}
@@ -7,10 +7,9 @@ use Rattle.chunk_core.specs.declared.code.Exit.{Exit}
 use Rattle.res_ledger.specs.declared.event.What.{What}
 use Rattle.res_ledger.specs.declared.event.Event.{Event}
 use Rattle.res_ledger.specs.Order.{same_exit}
-use Rattle.device_port.specs.declared.device.Mode.TheVariants as mode
 use Rattle.device_port.specs.Device.{Place, DeviceTold}
-use Rattle.device_port.specs.Depot.{DepotTold, KeepsFilesBut}
-use Rattle.run_rules.specs.Facts.{is_place, at, acquired_row, failed_row, ended_row}
+use Rattle.device_port.specs.Depot.{DepotTold, KeepsFilesBut, KeepsWritten}
+use Rattle.run_rules.specs.Facts.{is_place, to_write, at, acquired_row, failed_row, ended_row}
 
 -- the devices that came back in this run, and the places that devices were made for
 abbrev pub came_back : DepotTold → DepotTold → List DeviceTold
@@ -45,6 +44,10 @@ place_of_row ps (Some r) = elim (at ps r) [ Some p ↦ p ∷ [] | None ↦ [] ]
 abbrev pub AreAsMany : (DeviceTold → Bool) → (What → Option ℕ) → List DeviceTold → List Place → List Event → Type 0
 AreAsMany passes row ds places L = StandAsOften (map (λ d. d.place) (filter passes ds)) (flat_map (λ e. place_of_row places (row e.what)) L)
 
+-- of no place there are more than of the rows
+abbrev pub AreNoMore : List Place → List Place → Type 0
+AreNoMore made places = AllByRecursion (λ p. count_by (is_place p) made ≤ count_by (is_place p) places) made
+
 -- the row is one of the n rows
 abbrev pub IsRowBelow : ℕ → Option ℕ → Type 0
 IsRowBelow n None = Unit {0}
@@ -52,13 +55,15 @@ IsRowBelow n (Some r) = r < n
 
 -- a path that is written by the run
 abbrev pub IsWritten : List Place → List ℕ → Type 0
-IsWritten ps path = IsAmong (record { path = path; mode = mode.Write }) ps
+IsWritten ps path = IsAmong (to_write path) ps
 
--- Each device made in the run came back once, isn't open, and was closed as often as it was opened. By path and mode, the
--- devices that were opened are as many as the rows acquired, those whose close failed as the rows whose Final isn't ok, and
--- those closed with an exit as the rows whose Final has it. Files change at the written paths alone.
+-- Each device made in the run came back once, isn't open, and was closed as often as it was opened; no more were made than there are
+-- rows. By path and mode, the devices that were opened are as many as the rows acquired, those whose close failed as the rows whose
+-- Final isn't ok, and those closed with an exit as the rows whose Final has it. Files change at the written paths alone, which hold
+-- what was written.
 pub record DevicesAccounted (old new : DepotTold) (places : List Place) (L : List Event) : Type 0 where
   pub made : new.made ≡ old.made ++ made_for old new
+  pub few : AreNoMore (made_for old new) places
   pub retired : new.retired ≡ old.retired ++ came_back old new
   pub once : IsPermutation (numbered (length old.made) (made_for old new)) (map named (came_back old new))
   pub shut : AllByRecursion (λ d. (d.is_open ≡ false) × (d.closes ≡ d.opens)) (came_back old new)
@@ -67,3 +72,4 @@ pub record DevicesAccounted (old new : DepotTold) (places : List Place) (L : Lis
   pub failed : AreAsMany (λ d. nat_lt 0 d.close_faults) failed_row (came_back old new) places L
   pub exits : (exit : Exit) → AreAsMany (is_closed_with exit) (ended_row exit) (came_back old new) places L
   pub files : KeepsFilesBut (IsWritten places) old.files new.files
+  pub stored : AllByRecursion (KeepsWritten new.files) (came_back old new)

@@ -8,7 +8,11 @@ use Rattle.chunk_core.specs.declared.code.How.TheVariants as how
 use Rattle.res_ledger.specs.declared.event.What.{What}
 use Rattle.res_ledger.specs.declared.event.What.TheVariants.{Acquire, Lease, Close, Final}
 use Rattle.res_ledger.specs.declared.event.Event.{Event}
+use Rattle.res_ledger.specs.declared.event.StreamNo.{StreamNo}
+use Rattle.res_ledger.specs.declared.event.StreamNo.TheVariants.{Inner}
 use Rattle.res_ledger.specs.Order.{same_exit}
+use Rattle.res_ledger.specs.Streams.{same_stream, by_stream}
+use Rattle.res_ledger.specs.Whole.{is_cancel}
 use Rattle.device_port.specs.declared.device.Mode.{Mode}
 use Rattle.device_port.specs.declared.device.Mode.TheVariants as mode
 use Rattle.device_port.specs.Device.{Place}
@@ -23,11 +27,22 @@ is_mode mode.Write mode.Read = false
 abbrev pub is_place : Place → Place → Bool
 is_place p q = bytes_eq p.path q.path && is_mode p.mode q.mode
 
+-- the path is read, or written
+abbrev pub to_read : List ℕ → Place
+to_read path = record { path = path; mode = mode.Read }
+
+abbrev pub to_write : List ℕ → Place
+to_write path = record { path = path; mode = mode.Write }
+
 -- the element at a place, from 0
 abbrev pub at : {A : Type 0} → List A → ℕ → Option A
 at [] i = None
 at (x ∷ xs) zero = Some x
 at (x ∷ xs) (suc i) = at xs i
+
+-- the number is there, and is n
+abbrev pub is_number : Option ℕ → ℕ → Bool
+is_number o n = elim o [ Some m ↦ nat_eq m n | None ↦ false ]
 
 -- the numbers below n
 abbrev pub first_numbers : ℕ → List ℕ
@@ -94,3 +109,11 @@ leased_stream w = None
 -- an event says so
 abbrev pub has_event : (What → Bool) → List Event → Bool
 has_event p L = any (λ e. p e.what) L
+
+-- the stream noted an event
+abbrev pub acts : StreamNo → List Event → Bool
+acts k L = any (λ e. same_stream e.by k) L
+
+-- the stream j cancelled its own lease, as each does that has ended
+abbrev pub has_left : ℕ → List Event → Bool
+has_left j L = has_event (is_cancel j) (by_stream (Inner j) L)

@@ -1,5 +1,13 @@
 pub mod Facts
 pub mod Work
 pub mod Devices
+pub mod Pace
+pub mod Rules
+pub mod Homes
+pub mod Opening
+pub mod Outputs
+pub mod Ends
+pub mod Exits
+pub mod Wholeness
 pub mod Run
 pub mod Texts

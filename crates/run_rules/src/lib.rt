@@ -2,10 +2,10 @@
 //! its streams ended. The commands above meet one contract, which is stated here.
 //!
 //! All but `EndOf` are definitions in the specs, and nothing here runs or fails. A command says
-//! which streams it runs, of which rows and with which runs (`Work`), and what it did (`Deed`);
+//! which streams it runs, of which rows and with which runs (`Work`), and what it did (`RunRecord`);
 //! `Performs` is the relation of the two that its function ensures. It has three parts: the devices
-//! (`DevicesAccounted`), the ledger (`KeepsRules`), and what was run with its outputs, ends and
-//! exits (`Ran`), or that for want of memory nothing was begun (`IsUnmade`). `EndOf` is how one
+//! (`DevicesAccounted`), the ledger (`KeepsRules`), and what was run with its rows, outputs, ends
+//! and exits (`Ran`), or that for want of memory nothing was begun (`IsUnmade`). `EndOf` is how one
 //! stream ended, as a report tells it:
 //!
 //! ```

@@ -1,10 +1,19 @@
 -- At most as many pass as a list has that holds all that pass.
-use Rattle.std.proofs.Common.{◌≡◌, ◌≢◌, ◌<◌, ◌≤◌, ◌+◌, ℕ, zero, suc, Bool, true, false, cond, nat_eq, List, [], ◌∷◌, length, count_by, refl, sym, ap, ◌∙◌, subst, inl, inr, ◌⊎◌, ⊎_elim, arith, ne_eqb, eq-eqb}
+use Rattle.std.proofs.Common.{◌≡◌, ◌≢◌, ◌<◌, ◌≤◌, ◌+◌, ℕ, zero, suc, Bool, true, false, cond, nat_eq, List, [], ◌∷◌, ◌++◌, length, count_by, refl, sym, ap, ◌∙◌, subst, inl, inr, ◌⊎◌, ⊎_elim, arith, ne_eqb, eq-eqb}
 use Rattle.std.proofs.lemmas.Bool.{cases_eq}
 use Rattle.std.proofs.lemmas.List.Sums.{sum_by-append}
 use Rattle.chunk_core.specs.Lists.{IsAmong}
 use Rattle.chunk_core.specs.Lists.IsAmong.{here, there}
-use Rattle.tree_families.specs.Pace.{numbers_below}
+use Rattle.std.specs.List.{range_with_len}
+use Rattle.run_rules.specs.Facts.{first_numbers}
+
+range_snoc : (a n : ℕ) → range_with_len a (suc n) ≡ range_with_len a n ++ (a + n) ∷ []
+range_snoc a zero = ap (λ x. x ∷ []) (omega arith)
+range_snoc a (suc n) = ap (λ xs. a ∷ xs) (range_snoc (a + 1) n ∙ ap (λ x. range_with_len (a + 1) n ++ x ∷ []) (omega arith))
+
+-- the last of the first numbers
+last_number : (n : ℕ) → first_numbers (suc n) ≡ first_numbers n ++ n ∷ []
+last_number n = range_snoc 0 n ∙ ap (λ x. range_with_len 0 n ++ x ∷ []) (omega arith)
 
 -- the list without its first n
 abbrev drop_one : ℕ → List ℕ → List ℕ
@@ -30,20 +39,21 @@ still n k (x ∷ xs) h ne = ⊎_elim
     (⊎_elim (λ s. subst (λ z. IsAmong z (x ∷ drop_one n xs)) (sym s) (here (drop_one n xs))) (λ d. there x (still n k xs (rest k x xs h d) ne)) (cases_eq k x)))
     (cases_eq x n)
 
-step : (p : ℕ → Bool) (n : ℕ) (b : Bool) → p n ≡ b → (os : List ℕ) → (b ≡ true → IsAmong n os) → ((os' : List ℕ) → ((k : ℕ) → k < n → p k ≡ true → IsAmong k os') → count_by p (numbers_below n) ≤ length os')
-    → ((k : ℕ) → k < n → p k ≡ true → IsAmong k os) → count_by p (numbers_below n) + cond b 1 0 ≤ length os
+step : (p : ℕ → Bool) (n : ℕ) (b : Bool) → p n ≡ b → (os : List ℕ) → (b ≡ true → IsAmong n os) → ((os' : List ℕ) → ((k : ℕ) → k < n → p k ≡ true → IsAmong k os') → count_by p (first_numbers n) ≤ length os')
+    → ((k : ℕ) → k < n → p k ≡ true → IsAmong k os) → count_by p (first_numbers n) + cond b 1 0 ≤ length os
 step p n true e os m ih f =
     let i = ih (drop_one n os) (λ k l t. still n k os (f k l t) (λ s. omega (arith, l, s))) in
     let l = shorter n os (m refl) in omega (arith, i, l)
 step p n false e os m ih f = let i = ih os f in omega (arith, i)
 
 -- at most as many numbers below n pass as a list has that holds all that pass
-pub covered_count : (p : ℕ → Bool) (n : ℕ) (os : List ℕ) → ((k : ℕ) → k < n → p k ≡ true → IsAmong k os) → count_by p (numbers_below n) ≤ length os
+pub covered_count : (p : ℕ → Bool) (n : ℕ) (os : List ℕ) → ((k : ℕ) → k < n → p k ≡ true → IsAmong k os) → count_by p (first_numbers n) ≤ length os
 covered_count p zero os f = omega arith
 covered_count p (suc n) os f =
-    let s = sum_by-append (λ x. cond (p x) 1 0) (numbers_below n) (n ∷ []) in
+    subst (λ xs. count_by p xs ≤ length os) (sym (last_number n)) (
+    let s = sum_by-append (λ x. cond (p x) 1 0) (first_numbers n) (n ∷ []) in
     let t = step p n (p n) refl os (λ t. f n (omega arith) t) (λ qs g. covered_count p n qs g) (λ k l t. f k (omega (arith, l)) t) in
-    omega (arith, s, t)
+    omega (arith, s, t))
 
 -- of the numbers below n that pass there is none, or one is the last
 pub last_passing : (p : ℕ → Bool) (n : ℕ) → ((k : ℕ) → k < n → p k ≡ true → ⊥) ⊎ ((k : ℕ) × (k < n) × (p k ≡ true) × ((i : ℕ) → i < n → p i ≡ true → i ≤ k))

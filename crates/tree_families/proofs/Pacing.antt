@@ -1,5 +1,5 @@
 -- How far the outer stream is ahead, and how many streams are open at once.
-use Rattle.std.proofs.Common.{◌≡◌, ℕ, ◌+◌, ◌<◌, ◌≤◌, Bool, true, not, List, [], ◌∷◌, ◌++◌, length, count_by, length-append, sym, ap, ◌∙◌, subst, ⊎_elim, append_assoc, arith}
+use Rattle.std.proofs.Common.{◌≡◌, ℕ, ◌+◌, ◌<◌, ◌≤◌, Bool, true, not, List, [], ◌∷◌, ◌++◌, length, count_by, length-append, inl, inr, sym, ap, ◌∙◌, subst, ⊎_elim, append_assoc, arith}
 use Rattle.std.proofs.lemmas.Bool.{cases_eq}
 use Rattle.std.specs.List.{list_any as any}
 use Rattle.chunk_core.specs.declared.code.Exit.{Exit}
@@ -23,7 +23,9 @@ use Rattle.row_seat.specs.Views.{IsLedgerOf}
 use Rattle.scope_tree.specs.Calls.{Seen}
 use Rattle.tree_laws.proofs.Along.{called_after}
 use Rattle.tree_families.specs.Families.{CameBack, IsFamily, Split}
-use Rattle.tree_families.specs.Pace.{IsAnnounced, IsInPace, LeasesAhead, NotesBelow, WithinWidth, is_active, numbers_below}
+use Rattle.run_rules.specs.Facts.{first_numbers}
+use Rattle.run_rules.specs.Pace.{IsAnnounced, LeasesAhead, WithinWidth, is_active}
+use Rattle.tree_families.specs.Pace.{IsInPace, NotesBelow}
 use Rattle.tree_families.proofs.Counting.{covered_count, last_passing}
 use Rattle.tree_laws.proofs.Names.{events_floored}
 
@@ -69,7 +71,7 @@ active_open P e k q h n = no (any (λ x. is_cancel k x.what) P)
     (both (any (λ x. same_stream x.by (Inner k)) (P ++ e ∷ [])) (not (any (λ x. is_cancel k x.what) P)) h).1
     (any_at (λ x. is_cancel k x.what) n.1.0 P n.1.1 (cancel_is k n.0 n.1.0.what n.1.3))
 
-module _ {P : Type 0} {ends : P → Exit → Bool → P → Type 0} (b : Seen P) (ms : List Split) (L : List Event) (width n : ℕ) (f : IsFamily ends b ms) (outer : b.seat.by ≡ Outer) (out : b.seat.out ≡ []) (ledger : IsLedgerOf b.seat L) (paced : (m : Split) → IsAmong m ms → IsInPace width n b.seat.events Outer ms m) where
+module _ {P : Type 0} {ends : P → Exit → Bool → P → Type 0} (b : Seen P) (ms : List Split) (L : List Event) (width : ℕ) (f : IsFamily ends b ms) (outer : b.seat.by ≡ Outer) (out : b.seat.out ≡ []) (ledger : IsLedgerOf b.seat L) (paced : (m : Split) → IsAmong m ms → IsInPace width b.seat.events Outer ms m) where
   -- each event of an inner stream stands at or above the floor of its seat
   mark_at : (e : Event) (k : ℕ) → IsAmong e L → e.by ≡ Inner k → (m : Split) × IsAmong m ms × (m.stream ≡ k) × (m.floor ≤ e.stamp)
   mark_at e k i is =
@@ -90,19 +92,21 @@ module _ {P : Type 0} {ends : P → Exit → Bool → P → Type 0} (b : Seen P)
   noted_before : (R S : List Event) (e : Event) (k : StreamNo) (w : What) (x : ℕ) → L ≡ R ++ e ∷ S → x ≤ length R → NotesBelow x b.seat.events k w → Notes R k w
   noted_before R S e k w x is l h = (h.0, before L R S e h.0 ledger.stamped is ((ledger.whole h.0).1 h.1) (let s = h.4 in omega arith), h.2, h.3)
 
-  pub family_ahead : LeasesAhead Outer n L
+  pub family_ahead : LeasesAhead L
   family_ahead R S e k is by =
       let t = mark_at e k (subst (λ l. IsAmong e l) (sym is) (among_mid R S e)) by in
       let low : t.0.floor ≤ length R = subst (λ x. t.0.floor ≤ x) (ledger.stamped R S e is) t.3 in
       let p = paced t.0 t.1 in
-      subst (λ q. IsAnnounced R Outer n q) t.2 (record {
+      subst (λ q. IsAnnounced R q) t.2 (record {
         lease = (p.lease.0, noted_before R S e Outer (Lease t.0.stream p.lease.0) t.0.floor is low p.lease.1);
-        next = λ l. let q = p.next l in (q.0, noted_before R S e Outer (Lease (t.0.stream + 1) q.0) t.0.floor is low q.1);
-        last = λ l. let q = p.last l in (q.0, noted_before R S e Outer (Close 0 q.0) t.0.floor is low q.1);
+        next = ⊎_elim
+            (λ q. inl (q.0, noted_before R S e Outer (Lease (t.0.stream + 1) q.0) t.0.floor is low q.1))
+            (λ q. inr (q.0, noted_before R S e Outer (Close 0 q.0) t.0.floor is low q.1))
+            p.next;
       })
 
-  narrow_at : (R S : List Event) (e : Event) → L ≡ R ++ e ∷ S → (k : ℕ) → is_active R e k ≡ true → ((i : ℕ) → i < n → is_active R e i ≡ true → i ≤ k) → count_by (is_active R e) (numbers_below n) ≤ width
-  narrow_at R S e is k a most =
+  narrow_at : (n : ℕ) (R S : List Event) (e : Event) → L ≡ R ++ e ∷ S → (k : ℕ) → is_active R e k ≡ true → ((i : ℕ) → i < n → is_active R e i ≡ true → i ≤ k) → count_by (is_active R e) (first_numbers n) ≤ width
+  narrow_at n R S e is k a most =
       let x = active_event R e k a in
       let t = mark_at x.0 k (in_whole L R S e x.0 is x.1) x.2 in
       let low : t.0.floor ≤ length R = (let s = stamp_in L R S e x.0 ledger.stamped is x.1 in let u = t.3 in omega arith) in
@@ -120,8 +124,8 @@ module _ {P : Type 0} {ends : P → Exit → Bool → P → Type 0} (b : Seen P)
       (cases_eq i k)) in
       let m = p.narrow in omega arith
 
-  pub family_within : WithinWidth width n L
-  family_within R S e is = ⊎_elim
+  pub family_within : (n : ℕ) → WithinWidth width n L
+  family_within n R S e is = ⊎_elim
       (λ h. let c = covered_count (is_active R e) n [] (λ k l t. absurd (h k l t)) in omega arith)
-      (λ h. narrow_at R S e is h.0 h.2 h.3)
+      (λ h. narrow_at n R S e is h.0 h.2 h.3)
       (last_passing (is_active R e) n)

@@ -17,7 +17,8 @@ use Rattle.tree_laws.specs.Lent.{Lent}
 use Rattle.tree_laws.specs.Visits.{HasNothingOpen, Visits}
 use Rattle.tree_laws.specs.Whole.{IsWholeLedger}
 use Rattle.tree_families.specs.Families.{CameBack, IsFamily, Split, split_of}
-use Rattle.tree_families.specs.Pace.{IsInPace, LeasesAhead, WithinWidth}
+use Rattle.run_rules.specs.Pace.{LeasesAhead, WithinWidth}
+use Rattle.tree_families.specs.Pace.{IsInPace}
 
 module _ {P : Type 0} (ends : P → Exit → Bool → P → Type 0) where
   -- how a family begins, and what keeps it one
@@ -41,8 +42,8 @@ module _ {P : Type 0} (ends : P → Exit → Bool → P → Type 0) where
 
   -- where each seat was split off in pace, the leases of a finished ledger are ahead, and it is within the width
   pub record FamilyIsPaced : Type 0 where
-    pub ahead : (b : Seen P) (ms : List Split) (L : List Event) (width n : ℕ) → IsFamily ends b ms → b.seat.by ≡ Outer → b.seat.out ≡ [] → IsLedgerOf b.seat L → ((m : Split) → IsAmong m ms → IsInPace width n b.seat.events Outer ms m) → LeasesAhead Outer n L
-    pub within : (b : Seen P) (ms : List Split) (L : List Event) (width n : ℕ) → IsFamily ends b ms → b.seat.by ≡ Outer → b.seat.out ≡ [] → IsLedgerOf b.seat L → ((m : Split) → IsAmong m ms → IsInPace width n b.seat.events Outer ms m) → WithinWidth width n L
+    pub ahead : (b : Seen P) (ms : List Split) (L : List Event) (width : ℕ) → IsFamily ends b ms → b.seat.by ≡ Outer → b.seat.out ≡ [] → IsLedgerOf b.seat L → ((m : Split) → IsAmong m ms → IsInPace width b.seat.events Outer ms m) → LeasesAhead L
+    pub within : (b : Seen P) (ms : List Split) (L : List Event) (width n : ℕ) → IsFamily ends b ms → b.seat.by ≡ Outer → b.seat.out ≡ [] → IsLedgerOf b.seat L → ((m : Split) → IsAmong m ms → IsInPace width b.seat.events Outer ms m) → WithinWidth width n L
 
   -- the main seat may finish once nothing is open, all seats are back, and of each lease that it made it cancelled it or split the seat of its stream off
   abbrev pub FamilyMayFinish : Type 0

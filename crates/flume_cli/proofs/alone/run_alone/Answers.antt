@@ -18,7 +18,7 @@ run_node-ended-requires-clause-fits g c = c.new-tree.ensures.fits c.args.room.ta
 pub run_node-ended-requires-clause-room : goal.run_node-ended-requires-clause-room
 run_node-ended-requires-clause-room g c =
     let is = c.new-tree.ensures.seen ∙ ap (λ v. let x : Seen g.row.V.Denot = record { seat = v; shelf = []; scopes = c.args.room.scopes.scopes; rows = c.args.room.scopes.rows } in x) c.requires.room.seat in
-    start_room c.args.node (seen shown c.new-tree.result) c.args.room.scopes.scopes c.args.room.scopes.rows is c.requires.first c.requires.room.scopes c.requires.room.rows
+    start_room c.args.node (seen shown c.new-tree.result) c.args.room.scopes.scopes c.args.room.scopes.rows is c.requires.first (omega (arith, c.requires.room.scopes)) c.requires.room.rows
 
 pub returns : goal.returns
 returns g c =
@@ -28,8 +28,9 @@ returns g c =
     let fresh = ap (λ x. x.seat) c.new-tree.ensures.seen ∙ c.requires.room.seat in
     let ledger = subst (λ v. IsLedgerOf v c.finish.result) c.end-seat.ensures.seat c.finish.ensures in
     let bare = ap (λ x. x.shelf) c.new-tree.ensures.seen in
+    let just = ap (λ x. x.scopes) c.new-tree.ensures.seen ∙ c.requires.room.scopes in
     rw (c.ends_of.ensures, c.is_unwritten.ensures, c.is_wanting.ensures, c.end-seat.ensures.shelf)
-    (stream_ran g.V.Device.told c.args.node c.args.devices c.args.chunk (g.K.Sink.told c.args.out.now) (g.K.Sink.told run.new.out) a b run.result.0.how run.result.0.unopened run.result.1 c.finish.result _ _ _ c.requires.first fresh (omega arith) run.ensures.runs ledger bare)
+    (stream_ran g.V.Device.told c.args.node c.args.devices c.args.chunk (g.K.Sink.told c.args.out.now) (g.K.Sink.told run.new.out) a b run.result.0.how run.result.0.unopened run.result.1 c.finish.result _ _ _ c.requires.first fresh (omega arith) just run.ensures.runs ledger bare)
 
 pub finish-requires-clause-fits : goal.finish-requires-clause-fits
 finish-requires-clause-fits g c = c.end-seat.ensures.fits c.run_node-ended.new.desk c.run_node-ended.ensures.fits

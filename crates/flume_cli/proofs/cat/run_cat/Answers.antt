@@ -1,7 +1,7 @@
 -- Whatever became of the device, the work of cat was done.
 use Rattle.std.proofs.Common.{refl, sym, subst}
 use Rattle.flume_cli.specs.Cat.{RunsCat}
-use Rattle.flume_cli.proofs.CatReady.{cat_ran, cat_supplied, made_unused, may_return}
+use Rattle.flume_cli.proofs.CatReady.{cat_ran, cat_supplied, made_reads, made_unused, may_return}
 use Rattle.flume_cli.proofs.Unmade.{cat_makes_nothing, outcome_is}
 use Rattle.flume_cli.proofs.cat.run_cat.Goals as goal
 
@@ -13,7 +13,7 @@ returns-in_default g c =
     (cat_makes_nothing c.args.path.now (g.D.Depot.told c.args.depot.now) (g.D.Depot.told c.args.depot.now) (g.K.Sink.told c.args.out.now) (g.K.Sink.told c.args.out.now) c.args.chunk refl refl)
 
 pub run_ready-ran-requires-clause-device : goal.run_ready-ran-requires-clause-device
-run_ready-ran-requires-clause-device g c = cat_supplied g.D.Dev.Device.told c.in-Ok.ready.node c.in-Ok-make.device c.in-Ok.ensures.node (made_unused _ _ _ _ c.in-Ok-make.ensures.made)
+run_ready-ran-requires-clause-device g c = cat_supplied g.D.Dev.Device.told c.in-Ok.ready.node c.in-Ok-make.device c.in-Ok.ensures.node (made_unused _ _ _ _ c.in-Ok-make.ensures.made) (made_reads _ _ _ _ c.in-Ok-make.ensures.made)
 
 pub retire-requires : goal.retire-requires
 retire-requires g c =

@@ -1,5 +1,5 @@
 -- Each turn prints one piece more, makes an entry or a leaving, or is the last.
-use Rattle.std.proofs.Common.{Some, ap, arith, refl, ◌∙◌}
+use Rattle.std.proofs.Common.{Some, ap, refl, ◌∙◌}
 use Rattle.pull_stepper.specs.Held.{FinishesDevice}
 use Rattle.pull_stepper.specs.Laws.{since_same, since_then}
 use Rattle.pull_stepper.specs.Stepping.{stopped_by}
@@ -79,7 +79,7 @@ returns-in-Err-clause-prints g c =
     let i = c.turns.invariant in
     let w = c.in-Err.ensures.wants in
     let h = c.stop-in-Err.ensures.halts.how ∙ ap (λ b. Some (stopped_by b)) w.memory in
-    rw (c.stop-in-Err.ensures.cause, h) (prints_wanting _ _ _ _ _ _ _ _ i.prints _ _ w.tells c.stop-in-Err.ensures.halts.tells)
+    rw (c.stop-in-Err.ensures.cause, h) (prints_wanting _ _ _ _ _ _ _ _ i.prints _ _ w.tells w.cut c.stop-in-Err.ensures.halts.tells)
 
 pub returns-in-Err-clause-since : goal.returns-in-Err-clause-since
 returns-in-Err-clause-since g c =

@@ -13,7 +13,7 @@ invariant-turns g l =
     let a = stepping g.S.RowSeat.view l.fn.stepper in
     let b = stepping g.S.RowSeat.view l.stepper in
     let told = g.V.Device.told in
-    let P = standing g.F.Feed.stands g.F.Feed.comes in
+    let P = standing g.F.Feed.stands g.F.Feed.comes (g.F.PipeState.values l.fn.tables) in
     record {
       fits : Works g.S.RowSeat.view g.V.Device.told g.S.RowSeat.fits l.stepper l.desk;
       since : Since told (FinishesDevice told) a.site b.site;

@@ -1,0 +1,9 @@
+pub mod Tested
+pub mod Performing
+pub mod Devices
+pub mod FileRuns
+pub mod Files
+pub mod Tables
+pub mod Others
+pub mod Refusing
+pub mod Left

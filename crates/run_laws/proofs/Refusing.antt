@@ -1,0 +1,233 @@
+-- Each run with one thing wrong is refused.
+use Rattle.std.proofs.Common.{◌≡◌, ◌≢◌, ◌⊎◌, ◌+◌, ℕ, List, [], ◌∷◌, length, Option, Some, None, IfSome, refl, sym, ap, ◌∙◌, subst, inl, inr, arith, ⊎_elim}
+use Rattle.std.specs.Prelude.{codes, unwrap_or}
+use Rattle.std.proofs.lemmas.Bool.{false≢true, lt-ltb}
+use Rattle.chunk_core.specs.Elements.{Element, Row, rendering_of}
+use Rattle.chunk_core.specs.Lists.{IsAmong}
+use Rattle.chunk_core.specs.Feed.{Given}
+use Rattle.chunk_core.specs.Outcomes.{End, Cut, Done, Fault}
+use Rattle.chunk_core.specs.declared.code.Exit.{Exit}
+use Rattle.chunk_core.specs.declared.code.Exit.TheVariants.{Succeeded, Errored, Canceled}
+use Rattle.chunk_core.specs.declared.code.How.{How}
+use Rattle.chunk_core.specs.declared.code.How.TheVariants as how
+use Rattle.chunk_core.proofs.Members.{among_cons, among_nil}
+use Rattle.res_ledger.specs.declared.event.Event.{Event}
+use Rattle.res_ledger.specs.declared.event.What.TheVariants.{Acquire, Close, Lease}
+use Rattle.res_ledger.specs.Ledger.{IsAcquired, IsLeased}
+use Rattle.res_ledger.specs.Own.{acquires_of, leased_of}
+use Rattle.res_ledger.proofs.Judged.{legal_found}
+use Rattle.res_ledger.proofs.Ordering.{ordered_complete}
+use Rattle.device_port.specs.Device.{Place, DeviceTold}
+use Rattle.pull_nodes.specs.Runs.{GivesAtEnd, Reads}
+use Rattle.run_rules.specs.Facts.{to_read}
+use Rattle.run_rules.specs.Homes.{IsUntouched}
+use Rattle.run_rules.specs.Outputs.{IsReported}
+use Rattle.run_rules.specs.Run.{IsUnmade, Performs, Ran}
+use Rattle.run_rules.specs.Work.{RunRecord, Work}
+use Rattle.run_laws.specs.Others.{copy_work, no_streams, silent_work, stopped_work, u_csv}
+use Rattle.run_laws.specs.Refused.{another_value, begins_behind_a_failed_write, begins_behind_a_fault, begins_in_silence, cancel_told_otherwise, cut_behind_the_last, fault_of_no_device, first_table_first, halted_by_a_later_one, in_turn_work, invented_scope, lease_by_a_stream, leased_table_ended, left_before_closing, next_table_tried, nobody_given, one_frame_too_many, one_frame_work, other_bytes_stored, root_never_closed, root_told_otherwise, second_device, stolen_row, stopped_by_nothing, stopped_one_begins, tables_never_acquired, two_open, without_lease}
+use Rattle.run_laws.specs.Streams.{Gathered, InFile, Leaves, value_in, whole_list}
+use Rattle.run_laws.specs.Tables.{looked_up, lookup_work, t_csv, table_bytes, unread_table_device}
+use Rattle.run_laws.specs.Written.{read_device}
+use Rattle.run_laws.proofs.Tables.{row_texts}
+use Rattle.run_laws.proofs.Tested.{ahead_found, leaving_found, within_found}
+
+no_nil : {A : Type 0} (x : A) (xs : List A) → (x ∷ xs) ≢ []
+no_nil x xs e = cc
+
+-- a run with ends was begun
+ran : (work : Work) (c : RunRecord) → (c.ends ≡ [] → ⊥) → Performs work c → Ran work c
+ran work c some h = ⊎_elim (λ (u : IsUnmade c). absurd (some u.ends)) (λ r. r) h.ran
+
+-- nothing gave a cause
+no_cause : {A B C D : Type 0} → (A → ⊥) → (B → ⊥) → (C → ⊥) → (D → ⊥) → A ⊎ B ⊎ C ⊎ D → ⊥
+no_cause a b c d (inl x) = a x
+no_cause a b c d (inr (inl x)) = b x
+no_cause a b c d (inr (inr (inl x))) = c x
+no_cause a b c d (inr (inr (inr x))) = d x
+
+-- How far the outer stream is ahead, and how many are open.
+
+pub without_lease_refused : ¬ (Performs stopped_work without_lease)
+without_lease_refused h = false≢true (ahead_found without_lease.events h.ledger.pace.0)
+
+pub two_open_refused : ¬ (Performs in_turn_work two_open)
+two_open_refused h = false≢true (within_found 1 2 two_open.events h.ledger.pace.1)
+
+-- Rows.
+
+pub first_table_first_refused : ¬ (Performs (no_streams (t_csv ∷ u_csv ∷ [])) first_table_first)
+first_table_first_refused h = false≢true (ordered_complete first_table_first.events h.ledger.ordered)
+
+pub leased_table_ended_refused : ¬ (Performs lookup_work leased_table_ended)
+leased_table_ended_refused h = false≢true (legal_found leased_table_ended.events h.ledger.legal)
+
+pub stolen_row_refused : ¬ (Performs stopped_work stolen_row)
+stolen_row_refused h = false≢true h.ledger.ours
+
+pub invented_scope_refused : ¬ (Performs copy_work invented_scope)
+invented_scope_refused h = let l = h.ledger.scopes.1.0 in omega (arith, l)
+
+pub lease_by_a_stream_refused : ¬ (Performs stopped_work lease_by_a_stream)
+lease_by_a_stream_refused h = false≢true h.ledger.ours
+
+pub left_before_closing_refused : ¬ (Performs copy_work left_before_closing)
+left_before_closing_refused h = false≢true (leaving_found left_before_closing.events h.ledger.leaving)
+
+-- Devices.
+
+pub second_device_refused : ¬ (Performs copy_work second_device)
+second_device_refused h = let l = h.devices.few.1.0 in omega (arith, l)
+
+abbrev size_of : Option (List ℕ) → ℕ
+size_of (Some bytes) = length bytes
+size_of None = 0
+
+pub other_bytes_stored_refused : ¬ (Performs copy_work other_bytes_stored)
+other_bytes_stored_refused h = let e : Some (codes "hell") ≡ Some (codes "hello\n") = h.devices.stored.0 refl refl in let l = ap size_of e in omega (arith, l)
+
+-- Outputs.
+
+pub one_frame_too_many_refused : ¬ (Performs silent_work one_frame_too_many)
+one_frame_too_many_refused h = let r = ran silent_work one_frame_too_many (no_nil _ _) h in let l = r.outputs.few in omega (arith, l)
+
+pub cut_behind_the_last_refused : ¬ (Performs one_frame_work cut_behind_the_last)
+cut_behind_the_last_refused h = let r = ran one_frame_work cut_behind_the_last (no_nil _ _) h in let l = r.outputs.few in omega (arith, l)
+
+abbrev end_number : End → ℕ
+end_number Done = 0
+end_number (Fault c) = 1
+end_number Cut = 2
+
+abbrev how_number : How → ℕ
+how_number how.Done = 0
+how_number how.Halted = 1
+how_number (how.Fault c) = 2
+how_number how.Memory = 3
+
+-- an end that is reported as done is Done
+done : (e : End) → IsReported e how.Done → e ≡ Done
+done Done r = refl
+done (Fault c) r = let h = ap how_number r in absurd (omega (arith, h))
+done Cut (inl r) = let h = ap how_number r in absurd (omega (arith, h))
+done Cut (inr r) = let h = ap how_number r in absurd (omega (arith, h))
+
+-- what was gathered to the end is given
+given_at_end : (given : Given) (xs : List Element) (g : End) (ys : List Element) (e : End) → e ≡ Done → GivesAtEnd (λ zs. whole_list []) (λ zs. given) xs g ys e → ys ≡ given.list
+given_at_end given xs Done ys e q h = h.0
+given_at_end given xs (Fault c) ys e q h = let n = ap end_number (sym q ∙ h.1) in absurd (omega (arith, n))
+given_at_end given xs Cut ys e q h = let n = ap end_number (sym q ∙ h.1) in absurd (omega (arith, n))
+
+gathered_done : (d : DeviceTold) (given : Given) (ys : List Element) (e : End) → e ≡ Done → InFile d (Gathered (Leaves (Reads d)) given) ys e → ys ≡ given.list
+gathered_done d given ys e q (inl (inl (o, f, inl x))) = given_at_end given x.0 x.1 ys e q x.3
+gathered_done d given ys e q (inl (inl (o, f, inr x))) = let n = ap end_number (sym q ∙ x.0) in absurd (omega (arith, n))
+gathered_done d given ys e q (inl (inr x)) = let n = ap end_number (sym q ∙ x.3) in absurd (omega (arith, n))
+gathered_done d given ys e q (inr x) = let n = ap end_number (sym q ∙ x.0) in absurd (omega (arith, n))
+
+abbrev third_of : List ℕ → ℕ
+third_of (a ∷ b ∷ c ∷ xs) = c
+third_of xs = 0
+
+-- the rows, by the values of the two keys
+abbrev rows_by : Option (List ℕ) → Option (List ℕ) → List Element
+rows_by k z = Row (codes "k" ∷ unwrap_or k [] ∷ []) ∷ Row (codes "z" ∷ unwrap_or z [] ∷ []) ∷ []
+
+pub another_value_refused : ¬ (Performs lookup_work another_value)
+another_value_refused h =
+    let r = ran lookup_work another_value (no_nil _ _) h in
+    let o = r.outputs.outputs.0 in
+    let content : (r.home 0).content ≡ Some table_bytes = r.rows.at_home.1 in
+    let at_key : (key : List ℕ) → r.values 0 key ≡ value_in table_bytes key = λ key. subst (λ c. IfSome c (λ bytes. r.values 0 key ≡ value_in bytes key)) content (r.rows.values 0 key (omega arith)) in
+    let rows : o.elements ≡ (looked_up r.values).list = gathered_done (r.home 1) (looked_up r.values) o.elements o.end (done o.end o.reported) o.run in
+    let same : (looked_up r.values).list ≡ rows_by (Some (codes "v")) None = ap (λ x. rows_by x (r.values 0 (codes "z"))) (at_key (codes "k")) ∙ ap (λ x. rows_by (Some (codes "v")) x) (at_key (codes "z")) in
+    let text : codes "k,w\nz,\n" ≡ codes "k,v\nz,\n" = o.printed ∙ (ap rendering_of (rows ∙ same) ∙ sym row_texts) in
+    let n = ap third_of text in omega (arith, n)
+
+-- Ends.
+
+pub halted_by_a_later_one_refused : ¬ (Performs in_turn_work halted_by_a_later_one)
+halted_by_a_later_one_refused h = let r = ran in_turn_work halted_by_a_later_one (no_nil _ _) h in no_cause false≢true false≢true false≢true false≢true (r.ends.caused.1.0.halted refl)
+
+pub stopped_by_nothing_refused : ¬ (Performs copy_work stopped_by_nothing)
+stopped_by_nothing_refused h = let r = ran copy_work stopped_by_nothing (no_nil _ _) h in no_cause false≢true false≢true false≢true false≢true (r.ends.caused.1.0.halted refl)
+
+pub fault_of_no_device_refused : ¬ (Performs lookup_work fault_of_no_device)
+fault_of_no_device_refused h = let r = ran lookup_work fault_of_no_device (no_nil _ _) h in false≢true r.ends.caused.1.0.fault
+
+pub root_never_closed_refused : ¬ (Performs silent_work root_never_closed)
+root_never_closed_refused h = let r = ran silent_work root_never_closed (no_nil _ _) h in false≢true (r.ends.caused.0.root refl)
+
+-- the only event is a Close
+close_acquires : (r s : ℕ) (x : Exit) → Close 0 x ≡ Acquire r s → ⊥
+close_acquires r s x e = no_nil (r, s) [] (sym (ap acquires_of e))
+
+pub tables_never_acquired_refused : ¬ (Performs (no_streams (t_csv ∷ u_csv ∷ [])) tables_never_acquired)
+tables_never_acquired_refused h =
+    let r = ran (no_streams (t_csv ∷ u_csv ∷ [])) tables_never_acquired (no_nil _ _) h in
+    let a : IsAcquired tables_never_acquired.events 0 = r.ends.outer.0.0.acquired in
+    ⊎_elim (λ e. close_acquires 0 a.1 Succeeded (ap (λ (x : Event). x.what) (sym e) ∙ a.2.3)) among_nil (among_cons a.2.1)
+
+close_leases : (j s : ℕ) (x : Exit) → Close 0 x ≡ Lease j s → ⊥
+close_leases j s x e = no_nil (j, s) [] (sym (ap leased_of e))
+
+pub nobody_given_refused : ¬ (Performs in_turn_work nobody_given)
+nobody_given_refused h =
+    let r = ran in_turn_work nobody_given (no_nil _ _) h in
+    let a : IsLeased nobody_given.events 0 = r.ends.outer.1.0 in
+    ⊎_elim (λ e. close_leases 0 a.1 Succeeded (ap (λ (x : Event). x.what) (sym e) ∙ a.2.3)) among_nil (among_cons a.2.1)
+
+abbrev first_of : List ℕ → ℕ
+first_of [] = 0
+first_of (b ∷ bs) = b
+
+-- the device is one of the two, and is the one for t.csv
+first_device : (d x y : DeviceTold) → d.place ≡ to_read t_csv → y.place ≡ to_read u_csv → IsAmong d (x ∷ y ∷ []) → d ≡ x
+first_device d x y at other m = ⊎_elim
+    (λ e. e)
+    (λ n. ⊎_elim
+    (λ e. let p : to_read t_csv ≡ to_read u_csv = sym at ∙ (ap (λ (z : DeviceTold). z.place) e ∙ other) in let b = ap (λ (z : Place). first_of z.path) p in absurd (omega (arith, b)))
+    (λ k. absurd (among_nil k))
+    (among_cons n))
+    (among_cons m)
+
+pub next_table_tried_refused : ¬ (Performs (no_streams (t_csv ∷ u_csv ∷ [])) next_table_tried)
+next_table_tried_refused h =
+    let r = ran (no_streams (t_csv ∷ u_csv ∷ [])) next_table_tried (no_nil _ _) h in
+    let opened : (r.home 1).opens ≡ 1 = r.rows.tied.1.0 in
+    ⊎_elim
+    (λ x. false≢true (sym x.1.0 ∙ lt-ltb 0 ((r.home 1).opens + (r.home 1).open_faults) (omega (arith, opened))))
+    (λ x. ⊎_elim
+    (λ b.
+    let d = first_device (r.home 0) (record unread_table_device { number = 0 }) (read_device 1 u_csv (codes "k,w\n") Errored) r.rows.at_home.0 refl b in
+    let f = ap (λ (z : DeviceTold). z.read_faults) d in
+    let u : (r.home 0).read_faults ≡ 0 = x.0.unfailed in omega (arith, f, u))
+    (λ (n : IsUntouched (r.home 0)). let z = n.opens in let o : (r.home 0).opens ≡ 1 = r.rows.tied.0 in omega (arith, z, o))
+    r.rows.at_home.2)
+    r.ends.outer
+
+-- Stopping.
+
+pub stopped_one_begins_refused : ¬ (Performs stopped_work stopped_one_begins)
+stopped_one_begins_refused h = let r = ran stopped_work stopped_one_begins (no_nil _ _) h in false≢true (r.ends.stopped.in_turn refl)
+
+pub begins_behind_a_fault_refused : ¬ (Performs in_turn_work begins_behind_a_fault)
+begins_behind_a_fault_refused h = let r = ran in_turn_work begins_behind_a_fault (no_nil _ _) h in false≢true (r.ends.stopped.in_turn refl)
+
+pub begins_behind_a_failed_write_refused : ¬ (Performs in_turn_work begins_behind_a_failed_write)
+begins_behind_a_failed_write_refused h = let r = ran in_turn_work begins_behind_a_failed_write (no_nil _ _) h in false≢true (r.ends.stopped.in_turn refl)
+
+pub begins_in_silence_refused : ¬ (Performs silent_work begins_in_silence)
+begins_in_silence_refused h = let r = ran silent_work begins_in_silence (no_nil _ _) h in false≢true (r.ends.stopped.nobody refl)
+
+-- Exits.
+
+abbrev exit_number : Exit → ℕ
+exit_number Succeeded = 0
+exit_number Errored = 1
+exit_number Canceled = 2
+
+pub root_told_otherwise_refused : ¬ (Performs copy_work root_told_otherwise)
+root_told_otherwise_refused h = let r = ran copy_work root_told_otherwise (no_nil _ _) h in let e = ap exit_number ((r.exits.0 refl).1.0) in omega (arith, e)
+
+pub cancel_told_otherwise_refused : ¬ (Performs copy_work cancel_told_otherwise)
+cancel_told_otherwise_refused h = let r = ran copy_work cancel_told_otherwise (no_nil _ _) h in let e = ap exit_number ((r.exits.1.0 refl).1.1.1.1.1.0) in omega (arith, e)

@@ -1,0 +1,46 @@
+//! Runs that went as they should, each with what it prints.
+ghost use Rattle.run_laws.specs.Files.{cut_line_end, cut_line_end_text, filtered_log, filtered_log_text, filtered_log_work, lines_work, lossy_hexadecimal, lossy_hexadecimal_text, lossy_hexadecimal_work, malformed_character, malformed_character_text, second_field, second_field_text, second_field_work, taker_stops, taker_stops_text, taker_stops_work, truncated_character, truncated_character_text, uneven_records, uneven_records_text, uneven_records_work, utf8_work, whole_character, whole_character_text};
+ghost use Rattle.run_laws.specs.Others.{copy_work, handled_work, no_streams, silent_work, stopped_work, u_csv, two_tables, nothing_described, silent, stopped, handled, copied, uncopied, two_tables_text, nothing_described_text, silent_text, stopped_text, handled_text, copied_text, uncopied_text};
+ghost use Rattle.run_laws.specs.Tables.{lookup_work, t_csv, lookup, unread_table, refused_table, missing_table, unopened_file, unread_file, unclean_table, unclean_file, lookup_text, unread_table_text, refused_table_text, missing_table_text, unopened_file_text, unread_file_text, unclean_table_text, unclean_file_text};
+ghost use Rattle.run_laws.specs.Written.{IsRightRun};
+ghost use Rattle.std.specs.Prelude.{[], ◌∷◌};
+
+/// One file through steps.
+pub fn one_file()
+    ensures is_cut_line_end { IsRightRun lines_work cut_line_end cut_line_end_text }
+    ensures is_whole_character { IsRightRun utf8_work whole_character whole_character_text }
+    ensures is_truncated_character { IsRightRun utf8_work truncated_character truncated_character_text }
+    ensures is_malformed_character { IsRightRun utf8_work malformed_character malformed_character_text }
+    ensures is_lossy_hexadecimal { IsRightRun lossy_hexadecimal_work lossy_hexadecimal lossy_hexadecimal_text }
+    ensures is_filtered_log { IsRightRun filtered_log_work filtered_log filtered_log_text }
+    ensures is_taker_stops { IsRightRun taker_stops_work taker_stops taker_stops_text }
+    ensures is_second_field { IsRightRun second_field_work second_field second_field_text }
+    ensures is_uneven_records { IsRightRun uneven_records_work uneven_records uneven_records_text }
+{}
+
+/// A lookup through a lease, and its devices that can't be closed well.
+pub fn lookups()
+    ensures is_lookup { IsRightRun lookup_work lookup lookup_text }
+    ensures is_unclean_table { IsRightRun lookup_work unclean_table unclean_table_text }
+    ensures is_unclean_file { IsRightRun lookup_work unclean_file unclean_file_text }
+{}
+
+/// A lookup whose table or file fails.
+pub fn failed_lookups()
+    ensures is_unread_table { IsRightRun lookup_work unread_table unread_table_text }
+    ensures is_refused_table { IsRightRun lookup_work refused_table refused_table_text }
+    ensures is_missing_table { IsRightRun lookup_work missing_table missing_table_text }
+    ensures is_unopened_file { IsRightRun lookup_work unopened_file unopened_file_text }
+    ensures is_unread_file { IsRightRun lookup_work unread_file unread_file_text }
+{}
+
+/// No stream, two streams, a text for a fault, and a stream that is written to a file.
+pub fn other_runs()
+    ensures is_two_tables { IsRightRun (no_streams (t_csv ∷ u_csv ∷ [])) two_tables two_tables_text }
+    ensures is_nothing_described { IsRightRun (no_streams []) nothing_described nothing_described_text }
+    ensures is_silent { IsRightRun silent_work silent silent_text }
+    ensures is_stopped { IsRightRun stopped_work stopped stopped_text }
+    ensures is_handled { IsRightRun handled_work handled handled_text }
+    ensures is_copied { IsRightRun copy_work copied copied_text }
+    ensures is_uncopied { IsRightRun copy_work uncopied uncopied_text }
+{}

@@ -1,0 +1,54 @@
+-- What was printed.
+use Rattle.std.specs.Prelude.{◌≡◌, ◌⊎◌, ℕ, ◌+◌, ◌<◌, ◌≤◌, List, [], ◌∷◌, ◌++◌, length, Option, Some, None, IfSome}
+use Rattle.std.specs.List.{AllByRecursion}
+use Rattle.chunk_core.specs.Texts.{Frame, frame_text, payloads_of}
+use Rattle.chunk_core.specs.Elements.{Element, rendering_of}
+use Rattle.chunk_core.specs.Outcomes.{End, Done, Fault, Cut}
+use Rattle.chunk_core.specs.declared.code.How.{How}
+use Rattle.chunk_core.specs.declared.code.How.TheVariants as how
+use Rattle.device_port.specs.Device.{DeviceTold}
+use Rattle.run_rules.specs.declared.end.EndOf.{EndOf}
+use Rattle.run_rules.specs.Work.{Work, Stream, Values, RunRecord, begun_frames, inner_ends, most_of}
+
+-- the end of a run, as it is reported
+abbrev pub IsReported : End → How → Type 0
+IsReported Done h = h ≡ how.Done
+IsReported (Fault c) h = h ≡ how.Fault c
+IsReported Cut h = (h ≡ how.Halted) ⊎ (h ≡ how.Memory)
+
+module _ (work : Work) (v : Values) (w : ℕ → DeviceTold) (F : List Frame) where
+  -- what was printed of stream k renders a run with the end that is reported
+  pub record IsOutput (k : ℕ) (h : How) : Type 0 where
+    pub elements : List Element
+    pub end : End
+    pub run : work.runs k v w elements end
+    pub printed : payloads_of k F ≡ rendering_of elements
+    pub reported : IsReported end h
+
+  -- each stream from k on has its output
+  abbrev pub AreOutputs : ℕ → List Stream → List EndOf → Type 0
+  AreOutputs k [] es = es ≡ []
+  AreOutputs k (s ∷ ss) [] = ⊥
+  AreOutputs k (s ∷ ss) (e ∷ es) = IsOutput k e.how × AreOutputs (k + 1) ss es
+
+  -- the rest is a proper front of the text of a frame, whose payload goes on with a run of its stream
+  pub record IsCutFrame (f : Frame) (rest : List ℕ) : Type 0 where
+    pub stream : f.stream < length work.streams
+    pub some : 0 < length f.payload
+    pub more : List ℕ
+    pub front : 0 < length more
+    pub text : rest ++ more ≡ frame_text f.stream f.payload
+    pub elements : List Element
+    pub run : work.runs f.stream v w elements Cut
+    pub goes_on : payloads_of f.stream F ++ f.payload ≡ rendering_of elements
+
+  -- what was written behind the whole frames: a front of the frame whose write failed, else nothing
+  abbrev pub IsRest : Option Frame → List ℕ → Type 0
+  IsRest None rest = rest ≡ []
+  IsRest (Some f) rest = IsCutFrame f rest
+
+pub record HaveOutputs (work : Work) (c : RunRecord) (v : Values) (w : ℕ → DeviceTold) : Type 0 where
+  pub numbers : AllByRecursion (λ f. (f.stream < length work.streams) × (0 < length f.payload)) c.frames
+  pub few : IfSome (most_of work) (λ n. length (begun_frames c) ≤ n)
+  pub outputs : AreOutputs work v w c.frames 0 work.streams (inner_ends work c.ends)
+  pub rest : IsRest work v w c.frames c.cut c.rest
