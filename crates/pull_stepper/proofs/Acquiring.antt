@@ -6,7 +6,6 @@ use Rattle.chunk_core.specs.Lists.{IsAmong}
 use Rattle.chunk_core.specs.Lists.IsAmong.{here, there}
 use Rattle.chunk_core.proofs.Members.{among_cons, among_nil, among_last, among_left, among_snoc}
 use Rattle.device_port.specs.Device.{DeviceTold}
-use Rattle.device_port.specs.declared.device.Mode.TheVariants as mode
 use Rattle.pull_turns.specs.Around.{AcquiresDevice, KeepsBut, gist}
 use Rattle.res_ledger.specs.declared.event.Event.{Event}
 use Rattle.res_ledger.specs.declared.event.What.TheVariants.{Close, Open}

@@ -110,8 +110,8 @@ module _ {V : Type 0} (told : V → DeviceTold) (n : Node) (a : Seen V) (devices
       let t = device_of p i in let u = h.unused t.0 t.2 in
       subst IsToWrite (sym (told_of p i)) (record { mode = f t.0 t.1; written = u.written; faults = u.write_faults })
 
-  pub begun_can : {F : Type 0} (P : StateMeaning F) (chunk : ℕ) → 1 ≤ chunk → CanGo P told (begun n a devices chunk)
-  begun_can P chunk some = record {
+  pub begun_can : {F : Type 0} (P : Values → StateMeaning F) (t : Values) (chunk : ℕ) → 1 ≤ chunk → CanGo P told (begun n a devices t chunk)
+  begun_can P t chunk some = record {
     how = refl;
     memory = refl;
     chunk = omega (arith, some);
@@ -119,7 +119,7 @@ module _ {V : Type 0} (told : V → DeviceTold) (n : Node) (a : Seen V) (devices
       ready = placed_fresh (around told first) 0 (span_of n (length devices)) n h.placed (λ p i. let t = device_of p i in (t.0, t.1, h.unused t.0 t.2))
           (each_read (IsFor told first.from devices mode.Read) (λ p. IsToRead (told_at told first p)) n (λ p i. reads_of p (used_of p i)) h.reads)
           (each_write (IsFor told first.from devices mode.Write) (λ p. IsToWrite (told_at told first p)) n (λ p i. writes_of p (used_of p i)) h.writes);
-      pipes = pipes_fit P.values n h.kind;
+      pipes = pipes_fit (P t).values n h.kind;
       nested = around_nested told first;
       opened = r.root;
       events = omega (arith, r.events, r.owed);

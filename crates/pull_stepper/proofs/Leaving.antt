@@ -1,5 +1,5 @@
 -- What a site is after a scope was closed.
-use Rattle.std.proofs.Common.{◌≡◌, ℕ, ◌+◌, ◌<◌, ◌≤◌, List, [], ◌++◌, length, slice_index_or, true, false, None, inl, inr, refl, sym, ap, ◌∙◌, subst, ⊎_elim, arith, add-zero, append-nil}
+use Rattle.std.proofs.Common.{◌≡◌, ℕ, ◌+◌, ◌<◌, List, [], ◌++◌, length, true, None, inl, inr, refl, sym, ap, ◌∙◌, subst, ⊎_elim, arith, add-zero, append-nil}
 use Rattle.chunk_core.specs.declared.code.Exit.{Exit}
 use Rattle.chunk_core.specs.Lists.{IsAmong}
 use Rattle.chunk_core.proofs.Members.{among_left}

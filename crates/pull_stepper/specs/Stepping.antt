@@ -7,6 +7,7 @@ use Rattle.chunk_core.specs.declared.code.How.TheVariants as how
 use Rattle.chunk_core.specs.declared.code.Span.{Span}
 use Rattle.chunk_core.specs.Lists.{IsAmong}
 use Rattle.chunk_core.specs.Outcomes.{exit_of}
+use Rattle.chunk_core.specs.Tables.{Values}
 use Rattle.device_port.specs.Device.{DeviceTold}
 use Rattle.device_port.specs.declared.device.Mode.{Mode}
 use Rattle.device_port.specs.declared.device.Mode.TheVariants as mode
@@ -38,10 +39,11 @@ use Rattle.scope_tree.specs.Words.{owed, words}
 use Rattle.pull_stepper.specs.Placing.{first_of}
 use Rattle.pull_stepper.specs.Sites.{IsUnused, Parted, Site, around, slot_of, told_at}
 
--- its tree and devices, what is left of the node, the most bytes of a read, how it ended, and whether memory was wanting
+-- its tree and devices, what is left of the node, the values of its tables, the most bytes of a read, how it ended, and whether memory was wanting
 pub record Stepping (V F : Type 0) : Type 0 where
   pub site : Site V
   pub rest : Rest F
+  pub tables : Values
   pub chunk : ℕ
   pub how : Option How
   pub wanting : Bool
@@ -66,10 +68,11 @@ module _ {V : Type 0} where
   site_of n a devices = record { tree = a; from = first_of (places_of n); slots = map Some devices }
 
   -- a stepper that made no turn
-  abbrev pub begun : {F : Type 0} → Node → Seen V → List V → ℕ → Stepping V F
-  begun n a devices chunk = record {
+  abbrev pub begun : {F : Type 0} → Node → Seen V → List V → Values → ℕ → Stepping V F
+  begun n a devices tables chunk = record {
     site = site_of n a devices;
     rest = rest.Start n;
+    tables = tables;
     chunk = chunk;
     how = None;
     wanting = false;
@@ -95,20 +98,22 @@ abbrev pub stopped_by : Bool → How
 stopped_by true = how.Memory
 stopped_by false = how.Halted
 
-module _ {V F : Type 0} (P : StateMeaning F) (told : V → DeviceTold) where
+-- P: what the states of pipes mean, over tables with these values
+module _ {V F : Type 0} (P : Values → StateMeaning F) (told : V → DeviceTold) where
   -- turns may be made
   pub record CanGo (a : Stepping V F) : Type 0 where
     pub how : a.how ≡ None
     pub memory : a.wanting ≡ false
     pub chunk : 0 < a.chunk
-    pub step : CanStep P (around told a.site) 0 a.rest
+    pub step : CanStep (P a.tables) (around told a.site) 0 a.rest
 
   -- a turn was made
   pub record Steps (a b : Stepping V F) (t : Turn) : Type 0 where
-    pub turns : Turns P (around told a.site) (around told b.site) a.chunk a.rest b.rest t
+    pub turns : Turns (P a.tables) (around told a.site) (around told b.site) a.chunk a.rest b.rest t
     pub sized : HasNoPipe a.rest → Sized a.chunk a.rest b.rest (given t)
     pub how : b.how ≡ how_of t
     pub can : GoesOn t → CanGo b
+    pub tables : b.tables ≡ a.tables
     pub chunk : b.chunk ≡ a.chunk
 
   -- whether turns may be made after it
@@ -119,10 +124,11 @@ module _ {V F : Type 0} (P : StateMeaning F) (told : V → DeviceTold) where
 
   -- turns were made to the first load or the end, but not more than n; where neither came, n turns were made, and each was quiet
   pub record Unconses (n : ℕ) (a b : Stepping V F) (u : Unconsed) : Type 0 where
-    pub first : Uncons P (around told) a.chunk n a.site b.site a.rest b.rest b.how u
+    pub first : Uncons (P a.tables) (around told) a.chunk n a.site b.site a.rest b.rest b.how u
     pub sized : HasNoPipe a.rest → Sized a.chunk a.rest b.rest (given_first u)
     pub spends : Spends (around told a.site) (around told b.site) a.rest b.rest
     pub leaves : LeavesItRunning u b
+    pub tables : b.tables ≡ a.tables
     pub chunk : b.chunk ≡ a.chunk
 
   -- memory was wanting; it may only be halted, and what was left was left so
@@ -132,7 +138,8 @@ module _ {V F : Type 0} (P : StateMeaning F) (told : V → DeviceTold) where
     pub root : IsOpenScope b.site.tree 0
     pub tells : TouchesOnly (told_at told a.site) (told_at told b.site) a.rest
     pub spends : SpendsWithin (around told a.site) (around told b.site) a.rest
-    pub cut : CanBeCut P (told_at told b.site) a.rest
+    pub cut : CanBeCut (P a.tables) (told_at told b.site) a.rest
+    pub tables : b.tables ≡ a.tables
 
 module _ {V F : Type 0} (told : V → DeviceTold) where
   -- it has ended, and each scope and each device is closed, the root with the exit of its end
@@ -149,6 +156,7 @@ module _ {V F : Type 0} (told : V → DeviceTold) where
     pub exit : IsClosedWith (around told b.site) 0 exit.Canceled
     pub tells : TouchesOnly {F = F} (told_at told a.site) (told_at told b.site) rest.Nil
     pub affords : Affords (around told a.site) (around told b.site)
+    pub tables : b.tables ≡ a.tables
 
   -- the root is closed, each Close of it has the exit of the end, and each device was never opened and comes back, or stands on the shelf, where no row stands twice
   pub record StepperEnds (a : Stepping V F) (left : Seen V) (h : How) (unopened : List V) : Type 0 where

@@ -1,13 +1,13 @@
 //! A node that is run over a tree of scopes and its devices, turn by turn.
 //!
-//! `Stepper::new` takes a node, a tree of which only the root is open, and a device for each place;
-//! where memory is wanting it gives tree and devices back (`Unmade`). `turn` does one thing, over the
-//! tables in which pipes look up, and `uncons` makes turns until elements or the end come (`Unconsed`);
-//! a fault is an end. Where one of
-//! them answers `AllocError` the run may only be halted. `halt` closes all that is open, as
-//! canceled. `how` tells how the run ended, and `end` takes it apart: the tree, with the devices
-//! that were acquired on its shelf, and those that were never opened (`Ended`). `Held` is a device
-//! as the payload of a row, which is closed as the row ends; `Resources` is a stream's tree with its
+//! `Stepper::new` takes a node, a tree of which only the root is open, a device for each place, and the
+//! tables in which pipes look up, which it keeps; where memory is wanting it gives tree and devices
+//! back (`Unmade`). `turn` does one thing, and `uncons` makes turns until elements or the end come
+//! (`Unconsed`); a fault is an end. Where one of them answers `AllocError` the run may only be
+//! halted. `halt` closes all that is open, as canceled. `how` tells how the run ended, and `end` takes
+//! it apart: the tree, with the devices that were acquired on its shelf, and those that were never
+//! opened (`Ended`). Only `new` and `end` ask that the tables may be dropped. `Held` is a device as
+//! the payload of a row, which is closed as the row ends; `Resources` is a stream's tree with its
 //! devices, as what `pull_turns` runs a node over.
 //!
 //! In `worked_nodes`, `gather` asks for the first of what is left again and again, and `run_whole`
@@ -16,7 +16,7 @@
 //! ```
 //! let mut quiet = 0;
 //! for _ask in 0..pace.asks {
-//!     match stepper.uncons(tables, desk, pace.turns)? {
+//!     match stepper.uncons(desk, pace.turns)? {
 //!         Unconsed::Chunk(load) => out.push(load)?,
 //!         Unconsed::End(_) => return Ok(quiet),
 //!         Unconsed::Again => quiet += 1,
@@ -26,9 +26,9 @@
 //! ```
 //!
 //! ```
-//! let mut stepper = Stepper::<S, V, F>::new(alloc, node, tree, devices, pace.chunk)?;
+//! let mut stepper = Stepper::<S, V, F>::new(alloc, node, tree, devices, tables, pace.chunk)?;
 //! let mut loads = Vec::new(alloc);
-//! let quiet = gather(&mut stepper, tables, desk, &mut loads, pace);
+//! let quiet = gather(&mut stepper, desk, &mut loads, pace);
 //! close(&mut stepper, desk);
 //! Ok(Whole {
 //!     loads,

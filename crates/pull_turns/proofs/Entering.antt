@@ -78,7 +78,7 @@ module _ {F : Type 0} (P : StateMeaning F) where
       let at : (b.told p).at ≡ (a.told p).at = ap (λ (d : DeviceTold). d.at) k.told in
       let faults : (b.told p).open_faults ≡ (a.told p).open_faults = ap (λ (d : DeviceTold). d.open_faults) k.told in
       record {
-        moved = moved_place a b p (Start (node.Weak' p q x)) (inl refl) k.keeps (record { content = ap (λ (d : DeviceTold). d.content) k.told; place = ap (λ (d : DeviceTold). d.place) k.told; at = omega (arith, at); opens = λ o. (opens, faults) });
+        moved = moved_place a b p (Start (node.Weak' p q x)) (inl refl) k.keeps (record { content = ap (λ (d : DeviceTold). d.content) k.told; place = ap (λ (d : DeviceTold). d.place) k.told; at = omega (arith, at); within = λ w. omega (arith, at, w); opens = λ o. (opens, faults) });
         once = once_same a.told b.told n
             (field_same (λ d. d.at) b.told a.told p at (λ r m. ap (λ (d : DeviceTold). d.at) (k.keeps.told r m)))
             (field_same (λ d. d.read_faults) b.told a.told p (ap (λ (d : DeviceTold). d.read_faults) k.told) (λ r m. ap (λ (d : DeviceTold). d.read_faults) (k.keeps.told r m)));
@@ -103,7 +103,7 @@ module _ {F : Type 0} (P : StateMeaning F) where
       let refused_same : (r : ℕ) → (b.told r).written ≡ (a.told r).written =
       λ r. elim (eqb_tells r p) [ inl m ↦ subst (λ j. (b.told j).written ≡ (a.told j).written) (sym m.1) (ap (λ (d : DeviceTold). d.written) k.told) | inr m ↦ written_same (a.told r) (b.told r) (k.keeps.told r m.1) ] in
       record {
-        moved = moved_place a b p (Start (node.Weak' p q x)) (inl refl) k.keeps (record { content = ap (λ (d : DeviceTold). d.content) k.told; place = ap (λ (d : DeviceTold). d.place) k.told; at = omega (arith, at); opens = λ o. absurd (omega (arith, o, untried.opens)) });
+        moved = moved_place a b p (Start (node.Weak' p q x)) (inl refl) k.keeps (record { content = ap (λ (d : DeviceTold). d.content) k.told; place = ap (λ (d : DeviceTold). d.place) k.told; at = omega (arith, at); within = λ w. omega (arith, at, w); opens = λ o. absurd (omega (arith, o, untried.opens)) });
         once = once_same a.told b.told n
             (field_same (λ d. d.at) b.told a.told p at (λ r m. ap (λ (d : DeviceTold). d.at) (k.keeps.told r m)))
             (field_same (λ d. d.read_faults) b.told a.told p (ap (λ (d : DeviceTold). d.read_faults) k.told) (λ r m. ap (λ (d : DeviceTold). d.read_faults) (k.keeps.told r m)));

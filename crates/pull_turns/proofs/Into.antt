@@ -75,6 +75,7 @@ module _ (m b : Around) (p : ℕ) (text : List ℕ) (faults : ℕ) (h : Writes m
         content = ap (λ (d : DeviceTold). d.content) h.told;
         place = ap (λ (d : DeviceTold). d.place) h.told;
         at = omega (arith, at);
+        within = λ w. omega (arith, at, w);
         opens = λ o. (ap (λ (d : DeviceTold). d.opens) h.told ∙ o, ap (λ (d : DeviceTold). d.open_faults) h.told);
       }
 

@@ -12,15 +12,15 @@ use Rattle.pull_turns.specs.declared.rest.Rest.{Rest}
 use Rattle.pull_turns.specs.declared.rest.Rest.TheVariants.{Nil, Start, Read, Within', Then', Through', Finishing, Faulty, Groups', Take', Into', Zip', Merge'}
 
 pub goes_same : (d : DeviceTold) → Goes d d
-goes_same d = record { content = refl; place = refl; at = omega arith; opens = λ o. (o, refl) }
+goes_same d = record { content = refl; place = refl; at = omega arith; within = λ w. w; opens = λ o. (o, refl) }
 
 pub goes_gist : (d e : DeviceTold) → gist e ≡ gist d → Goes d e
 goes_gist d e h =
     let at : e.at ≡ d.at = ap (λ (x : DeviceTold). x.at) h in
-    record { content = ap (λ (x : DeviceTold). x.content) h; place = ap (λ (x : DeviceTold). x.place) h; at = omega (arith, at); opens = λ o. (ap (λ (x : DeviceTold). x.opens) h ∙ o, ap (λ (x : DeviceTold). x.open_faults) h) }
+    record { content = ap (λ (x : DeviceTold). x.content) h; place = ap (λ (x : DeviceTold). x.place) h; at = omega (arith, at); within = λ w. omega (arith, at, w); opens = λ o. (ap (λ (x : DeviceTold). x.opens) h ∙ o, ap (λ (x : DeviceTold). x.open_faults) h) }
 
 pub goes_on : (d e f : DeviceTold) → Goes d e → Goes e f → Goes d f
-goes_on d e f h k = record { content = k.content ∙ h.content; place = k.place ∙ h.place; at = omega (arith, h.at, k.at); opens = λ o. let i = h.opens o in let j = k.opens i.0 in (j.0, j.1 ∙ i.1) }
+goes_on d e f h k = record { content = k.content ∙ h.content; place = k.place ∙ h.place; at = omega (arith, h.at, k.at); within = λ w. k.within (h.within w); opens = λ o. let i = h.opens o in let j = k.opens i.0 in (j.0, j.1 ∙ i.1) }
 
 pub keeps_same : (a : Around) (T C : ℕ → Type 0) → Keeps a T C a
 keeps_same a T C = record { told = λ q n. refl; waits = λ q n h. h; holds = λ q k n i h. h; stays = λ k i. record { opened = i.0; within = λ c. (λ w. w, λ w. w) } }

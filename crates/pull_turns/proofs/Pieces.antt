@@ -126,7 +126,7 @@ read_is_no_open : turn.Fault code.Read ≡ turn.Fault code.Open → ⊥
 read_is_no_open e = cc
 
 pub read_moved : {F : Type 0} (a b : Around) (p from : ℕ) → ReadsPlace a b p → Moved {F = F} a b (Read p from)
-read_moved a b p from h = moved_place a b p (Read p from) refl h.keeps (record { content = h.content; place = h.place; at = h.later; opens = λ o. (h.opens ∙ o, h.open_faults) })
+read_moved a b p from h = moved_place a b p (Read p from) refl h.keeps (record { content = h.content; place = h.place; at = h.later; within = h.within; opens = λ o. (h.opens ∙ o, h.open_faults) })
 
 -- the scope that holds the device holds it on
 pub read_held : (a b : Around) (s p : ℕ) → KeepsBut a p b → a.opened s → ((k : ℕ) → a.holds p k → b.holds p k) → IsHeldBy a s p → IsHeldBy b s p

@@ -1,5 +1,5 @@
 -- What a node is run over: devices by their places, scopes, and the room that there is.
-use Rattle.std.specs.Prelude.{◌≡◌, ◌≢◌, ◌⊎◌, ◌↔◌, ℕ, ◌+◌, ◌<◌, ◌≤◌, true, false, List, take, drop, length, Some, None, IfSome}
+use Rattle.std.specs.Prelude.{◌≡◌, ◌≢◌, ◌⊎◌, ◌↔◌, ℕ, ◌+◌, ◌<◌, ◌≤◌, ◌^◌, true, false, List, take, drop, length, Some, None, IfSome}
 use Rattle.chunk_core.specs.declared.code.Exit.{Exit}
 use Rattle.device_port.specs.Device.{DeviceTold, moved, with_written}
 
@@ -25,6 +25,7 @@ pub record Goes (d e : DeviceTold) : Type 0 where
   pub content : e.content ≡ d.content
   pub place : e.place ≡ d.place
   pub at : d.at ≤ e.at
+  pub within : d.at ≤ 2 ^ 40 → e.at ≤ 2 ^ 40
   pub opens : d.opens ≡ 1 → (e.opens ≡ 1) × (e.open_faults ≡ d.open_faults)
 
 -- nobody tried to open the device

@@ -113,6 +113,7 @@ pub record ReadsPlace (before now : Around) (p : ℕ) : Type 0 where
   pub opens : (now.told p).opens ≡ (before.told p).opens
   pub open_faults : (now.told p).open_faults ≡ (before.told p).open_faults
   pub later : (before.told p).at ≤ (now.told p).at
+  pub within : (before.told p).at ≤ 2 ^ 40 → (now.told p).at ≤ 2 ^ 40
 
 -- a read was made
 pub record ReadsPiece (before now : Around) (n p from to : ℕ) (t : Turn) : Type 0 where

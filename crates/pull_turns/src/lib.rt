@@ -6,6 +6,20 @@
 //! many; a fault is an end. Where one of them answers `AllocError`, the one error, the run may only
 //! be halted. `halt` closes all that is open, as canceled; `how` tells how the run ended, and `end`
 //! gives the outside back. `Rest` is what is left of a node that runs.
+//!
+//! In `worked_nodes`, `advance` makes turns to the first that gives elements or is the end, over any
+//! outside, and knows that what it gives is a front of each run of the node:
+//!
+//! ```
+//! for _turn in 0..turns {
+//!     let turn = runner.turn(tables, desk)?;
+//!     match turn {
+//!         Turn::Quiet => {}
+//!         Turn::Chunk(_) | Turn::Done | Turn::Fault(_) => return Ok(turn),
+//!     }
+//! }
+//! Ok(Turn::Quiet)
+//! ```
 #![tactic(auto)]
 
 pub(crate) mod enter;

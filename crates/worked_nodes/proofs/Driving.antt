@@ -3,15 +3,17 @@ use Rattle.std.proofs.Common.{◌≡◌, ℕ, ◌+◌, ◌*◌, ◌<◌, ◌≤�
 use Rattle.std.proofs.lemmas.List.{length-map}
 use Rattle.chunk_core.specs.declared.code.How.{How}
 use Rattle.chunk_core.specs.Elements.{Element}
+use Rattle.chunk_core.specs.Tables.{Values}
 use Rattle.device_port.specs.Device.{DeviceTold}
 use Rattle.device_port.specs.declared.device.Mode.TheVariants as mode
 use Rattle.pull_nodes.specs.Runs.{IsRun}
 use Rattle.pull_nodes.specs.declared.node.Node.{Node}
 use Rattle.pull_turns.specs.Around.{Affords}
-use Rattle.pull_turns.specs.Led.{TouchesOnly, end_by}
+use Rattle.pull_turns.specs.Led.{TouchesOnly, Uncons, end_by}
 use Rattle.pull_turns.specs.Piping.{StateMeaning}
 use Rattle.pull_turns.specs.Turned.{SpendsWithin}
 use Rattle.pull_turns.specs.declared.rest.Rest.TheVariants.{Nil}
+use Rattle.pull_turns.specs.declared.runner.Unconsed.{Unconsed}
 use Rattle.row_seat.specs.declared.view.View.{View}
 use Rattle.row_seat.specs.Views.{OthersFit, start}
 use Rattle.res_ledger.specs.declared.event.StreamNo.{StreamNo}
@@ -31,12 +33,17 @@ use Rattle.tree_laws.proofs.Room.{room_along}
 use Rattle.pull_stepper.specs.Held.{FinishesDevice}
 use Rattle.pull_stepper.specs.Laws.{since_then}
 use Rattle.pull_stepper.specs.Sites.{IsUnused, Parted, Since, around, told_at}
-use Rattle.pull_stepper.specs.Stepping.{StepperEnds, HasRoomFor, IsFor, IsSupplied, Stepping, begun, span_of}
+use Rattle.pull_stepper.specs.Stepping.{StepperEnds, HasRoomFor, IsFor, IsSupplied, Stepping, Unconses, begun, span_of}
 use Rattle.worked_nodes.specs.Uses.{Gathers, RanNode}
 
 -- what leaves other seats alone twice does so
 pub others_then : {S V D : Type 0} (view : S → View V) (fits : S → D → Type 0) (k j : StreamNo) (d e f : D) → j ≡ k → OthersFit view fits k d e → OthersFit view fits j e f → OthersFit view fits k d f
 others_then view fits k j d e f same h i o n t = i o (λ q. n (q ∙ same)) (h o n t)
+
+-- what comes first, told over the tables that the run began with
+pub uncons_at : {V F : Type 0} (M : Values → StateMeaning F) (told : V → DeviceTold) (a b z : Stepping V F) (k : ℕ) (u : Unconsed) → b.tables ≡ a.tables → Unconses M told k b z u
+    → Uncons (M a.tables) (around told) b.chunk k b.site z.site b.rest z.rest z.how u
+uncons_at M told a b z k u e h = subst (λ t. Uncons (M t) (around told) b.chunk k b.site z.site b.rest z.rest z.how u) e h.first
 
 -- the first seat of a run, with a row for each place and room for as many events as the node counts, has room for the node
 pub start_room : {P : Type 0} (n : Node) (a : Seen P) (v : View P) (scopes rows splits : ℕ)
@@ -56,15 +63,15 @@ start_room {P = P} n a v scopes rows splits is e first many held =
     } in
     subst (λ x. HasRoomFor x n) (sym (e ∙ ap (λ w. let x : Seen P = record { seat = w; shelf = []; scopes = scopes; rows = rows } in x) is)) h
 
-module _ {V F : Type 0} (P : StateMeaning F) (told : V → DeviceTold) (n : Node) (devices : List V) (a : Seen V) (room : HasRoomFor a n) (m z : Stepping V F) (xs : List Element) where
-  abbrev Goes : Stepping V F → Type 0
-  Goes b = Gathers P told b m xs → SpendsWithin (around told b.site) (around told m.site) b.rest → Since told (FinishesDevice told) b.site m.site
+module _ {V F : Type 0} (P : Values → StateMeaning F) (told : V → DeviceTold) (n : Node) (devices : List V) (a : Seen V) (room : HasRoomFor a n) (m z : Stepping V F) (xs : List Element) where
+  abbrev Goes : Values → Stepping V F → Type 0
+  Goes t b = Gathers P told b m xs → SpendsWithin (around told b.site) (around told m.site) b.rest → Since told (FinishesDevice told) b.site m.site
       → (left : Seen V) (h : How) (ds : List V) → end_by z.how ≡ end_by m.how → TouchesOnly {F = F} (told_at told m.site) (told_at told z.site) Nil → Affords (around told m.site) (around told z.site)
-      → Since told (FinishesDevice told) m.site z.site → StepperEnds told z left h ds → used left ≤ left.rows → RanNode told P.values n devices a left xs h ds
+      → Since told (FinishesDevice told) m.site z.site → StepperEnds told z left h ds → used left ≤ left.rows → RanNode told (P t).values n devices a left xs h ds
 
-  goes_begun : (chunk : ℕ) → Goes (begun n a devices chunk)
-  goes_begun chunk gathers spends first left h ds how tells affords second end sound =
-      let b : Stepping V F = begun n a devices chunk in
+  goes_begun : (t : Values) (chunk : ℕ) → Goes t (begun n a devices t chunk)
+  goes_begun t chunk gathers spends first left h ds how tells affords second end sound =
+      let b : Stepping V F = begun n a devices t chunk in
       let since = since_then told (FinishesDevice told) b.site m.site z.site first second in
       let rows : z.site.tree.rows ≡ a.rows = (room_along (omega (arith, room.scopes)) since.calls).2 in
       let ended : end_by m.how ≡ end_by (Some h) = sym how ∙ ap end_by end.how in
@@ -75,7 +82,7 @@ module _ {V F : Type 0} (P : StateMeaning F) (told : V → DeviceTold) (n : Node
       let spare : left.seat.spare ≡ z.site.tree.seat.spare = ap (λ t. t.seat.spare) end.tree in
       record {
         w = told_at told z.site;
-        run = subst (λ e. IsRun P.values (told_at told z.site) n xs e) ended (gathers (told_at told z.site) (record { over = λ p i. tells.others p (λ l. l); goes = tells.goes }));
+        run = subst (λ e. IsRun (P t).values (told_at told z.site) n xs e) ended (gathers (told_at told z.site) (record { over = λ p i. tells.others p (λ l. l); goes = tells.goes }));
         same = since.same;
         parted = subst (λ f. Parted told (told_at told z.site) left.shelf (span_of n (length devices)).to f ds) since.from
             (subst (λ t. Parted told (told_at told z.site) left.shelf t z.site.from ds) to end.parted);
@@ -87,8 +94,8 @@ module _ {V F : Type 0} (P : StateMeaning F) (told : V → DeviceTold) (n : Node
         rows = omega (arith, spends.rows, affords.rows, rows, same_rows, same_used, sound, room.rows);
       }
 
-  pub goes : (b : Stepping V F) (chunk : ℕ) → b ≡ begun n a devices chunk → Goes b
-  goes b chunk e = subst Goes (sym e) (goes_begun chunk)
+  pub goes : (b : Stepping V F) (t : Values) (chunk : ℕ) → b ≡ begun n a devices t chunk → Goes t b
+  goes b t chunk e = subst (Goes t) (sym e) (goes_begun t chunk)
 
 -- a node whose places are the first k rows, as many as it has
 module _ (k : ℕ) (n : Node) (placed : is_placed (record { from = 0; to = k }) n ≡ true) (count : length (places_of n) ≡ k) where

@@ -1,2 +1,3 @@
 mod Driving
 mod Modes
+mod Turning

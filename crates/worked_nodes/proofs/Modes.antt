@@ -1,5 +1,5 @@
 -- What a device is for, by its place.
-use Rattle.std.proofs.Common.{◌≡◌, ℕ, zero, suc, ◌+◌, List, [], ◌∷◌, map, Option, Some, None, refl, sym, ◌∙◌, arith}
+use Rattle.std.proofs.Common.{◌≡◌, ℕ, zero, suc, ◌+◌, List, [], ◌∷◌, map, Some, None, sym, ◌∙◌, arith}
 use Rattle.std.specs.List.{slice_get}
 use Rattle.pull_stepper.specs.Sites.{slot_of}
 use Rattle.pull_stepper.proofs.Slots.{slot_here, slot_past}

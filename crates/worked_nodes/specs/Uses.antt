@@ -27,10 +27,10 @@ use Rattle.pull_stepper.specs.Stepping.{Stepping, site_of, span_of}
 abbrev pub HasExit : {V : Type 0} → Seen V → Exit → Type 0
 HasExit a x = (y : Exit) → Notes a.seat.events a.seat.by (Close 0 y) → y ≡ x
 
-module _ {V F : Type 0} (P : StateMeaning F) (told : V → DeviceTold) where
+module _ {V F : Type 0} (P : Values → StateMeaning F) (told : V → DeviceTold) where
   -- what was given since a, and how it ended, if it has, is a run of what was left
   abbrev pub Gathers : Stepping V F → Stepping V F → List Element → Type 0
-  Gathers a b xs = (w : ℕ → DeviceTold) → Over (told_at told b.site) w a.rest → IsRunOfRest P w a.rest xs (end_by b.how)
+  Gathers a b xs = (w : ℕ → DeviceTold) → Over (told_at told b.site) w a.rest → IsRunOfRest (P a.tables) w a.rest xs (end_by b.how)
 
 module _ {V : Type 0} (told : V → DeviceTold) where
   abbrev pub IsLeftBy : {F : Type 0} → Option How → Stepping V F → Type 0

@@ -1,19 +1,41 @@
 //! Nodes that write what comes to a device in memory.
 ghost use Rattle.std.specs.Prelude.{◌≤◌};
 
-use crate::runs::{FREELY, into, lines, run, shown, source};
+use crate::runs::{FREELY, depot, into, lines, run, run_narrow, shown, source};
 use crate::uses::Pace;
 use device_port::Act;
 use pull_nodes::Node;
 use std::alloc::Global;
 use std::test::Fail;
 
+/// Halted after one load.
+const ONCE: Pace = Pace {
+    chunk: 4,
+    asks: 1,
+    turns: 5,
+};
+
 /// Writes what `b` has to `a`, at which a call may be named to fail.
 fn copied(alloc: Global, fail: Option<(Act, u32)>, pace: Pace) -> Result<Vec<u8>, Fail>
     requires pace { (1 ≤ pace.chunk) × (1 ≤ pace.turns) }
 {
+    copied_by(alloc, usize::MAX, fail, pace)
+}
+
+/// The same, by at most so many bytes a write.
+fn copied_by(
+    alloc: Global,
+    most: usize,
+    fail: Option<(Act, u32)>,
+    pace: Pace,
+) -> Result<Vec<u8>, Fail>
+    requires most { 1 ≤ most }
+    requires pace { (1 ≤ pace.chunk) × (1 ≤ pace.turns) }
+{
     let node = into(alloc, 0, Box::into_inner(source(alloc, 1)?))?;
-    Ok(shown(alloc, run(alloc, node, &["a", "b"], fail, pace)?)?)
+    let mut depot = depot(alloc, b"", fail)?;
+    let run = run_narrow(alloc, &mut depot, node, &["a", "b"], pace, most)?;
+    Ok(shown(alloc, run)?)
 }
 
 #[test]
@@ -36,12 +58,36 @@ fn a_write_that_fails_is_the_end(rt: HostRuntime) -> Result<(), Fail> {
 
 #[test]
 fn a_run_that_is_stopped_has_written_what_came(rt: HostRuntime) -> Result<(), Fail> {
-    let once = Pace {
-        chunk: 4,
-        asks: 1,
-        turns: 5,
-    };
-    let out = copied(rt.alloc(), None, once)?;
+    let out = copied(rt.alloc(), None, ONCE)?;
+    let front =
+        b"Halted\nledger 5\n0 acquire 0 0\n0 acquire 1 0\n0 close 0 canceled\n0 final 1 canceled ok\n0 final 0 canceled ok\nb 1 1 canceled\na 1 1 canceled <worl>\n";
+    assert_eq!(rt; out.as_slice(), front.as_slice());
+    Ok(())
+}
+
+#[test]
+fn short_writes_go_on_where_they_stopped(rt: HostRuntime) -> Result<(), Fail> {
+    let out = copied_by(rt.alloc(), 3, None, FREELY)?;
+    let all =
+        b"Done\nledger 5\n0 acquire 0 0\n0 acquire 1 0\n0 close 0 succeeded\n0 final 1 succeeded ok\n0 final 0 succeeded ok\nb 1 1 succeeded\na 1 1 succeeded <world>\n";
+    assert_eq!(rt; out.as_slice(), all.as_slice());
+    Ok(())
+}
+
+#[test]
+fn a_write_that_fails_behind_a_short_one_leaves_a_part_of_a_load(
+    rt: HostRuntime,
+) -> Result<(), Fail> {
+    let out = copied_by(rt.alloc(), 3, Some((Act::Write, 2)), FREELY)?;
+    let part =
+        b"Fault(Write)\nledger 5\n0 acquire 0 0\n0 acquire 1 0\n0 close 0 errored\n0 final 1 errored ok\n0 final 0 errored ok\nb 1 1 errored\na 1 1 errored <wor>\n";
+    assert_eq!(rt; out.as_slice(), part.as_slice());
+    Ok(())
+}
+
+#[test]
+fn a_run_that_is_stopped_has_written_each_load_whole(rt: HostRuntime) -> Result<(), Fail> {
+    let out = copied_by(rt.alloc(), 3, None, ONCE)?;
     let front =
         b"Halted\nledger 5\n0 acquire 0 0\n0 acquire 1 0\n0 close 0 canceled\n0 final 1 canceled ok\n0 final 0 canceled ok\nb 1 1 canceled\na 1 1 canceled <worl>\n";
     assert_eq!(rt; out.as_slice(), front.as_slice());

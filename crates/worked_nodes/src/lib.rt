@@ -1,9 +1,11 @@
-//! Nodes that are run whole over a stepper, by callers that see its public clauses alone, and what they
-//! show over devices in memory.
+//! Nodes that are run over a runner, and whole over a stepper, by callers that see public clauses alone,
+//! and what they show over devices in memory.
 #![tactic(auto)]
 
 #[cfg(test)]
 mod into_tests;
+#[cfg(test)]
+mod narrow;
 #[cfg(test)]
 mod pipe_tests;
 #[cfg(test)]
@@ -12,4 +14,5 @@ mod runs;
 mod side_tests;
 #[cfg(test)]
 mod tests;
+pub mod turns;
 pub mod uses;

@@ -9,10 +9,11 @@ ghost use Rattle.device_port.specs.declared.device.Mode.TheVariants as mode;
 ghost use Rattle.pull_stepper.specs.Stepping.{IsFor};
 ghost use Rattle.pull_stepper.specs.Sites.{IsUnused};
 
+use crate::narrow::Narrow;
 use crate::uses::{Alone, Pace, run_alone};
 use any_pipe::{AnyPipe, NoTables};
 use chunk_core::{Chunk, Line, List, Load, Span, Word, render};
-use device_port::{Act, Depot, FileOf, MemDepot, MemDevice, Mode, Trip};
+use device_port::{Act, Depot, FileOf, MemDepot, Mode, Trip};
 use pull_nodes::Node;
 use pull_stepper::Held;
 use res_ledger::{StreamNo, text};
@@ -64,16 +65,19 @@ fn writes(node: &Node, place: u32) -> bool {
     }
 }
 
-/// Devices of these paths, each for writing where the node writes its place.
+/// Devices of these paths, each for writing where the node writes its place, and at most so many bytes
+/// a write.
 fn devices(
     alloc: Global,
     depot: &mut MemDepot,
     node: &Node,
     paths: &[&str],
-) -> Result<List<MemDevice>, AllocError>
+    most: usize,
+) -> Result<List<Narrow>, AllocError>
     requires paths { length paths.now < 2 ^ 16 }
+    requires most { 1 ≤ most }
     ensures count { IfOk result (λ ds. length ds ≡ length paths.now) }
-    ensures unused { IfOk result (λ ds. (d : MemDevice) → IsAmong d ds → IsUnused (record_told d.facts)) }
+    ensures unused { IfOk result (λ ds. (d : Narrow) → IsAmong d ds → IsUnused (record_told d.device.facts)) }
 {
     let mut devices = List::new(alloc);
     for (place, path) in paths.iter().enumerate() {
@@ -83,14 +87,14 @@ fn devices(
             Mode::Read
         };
         let device = depot.make(alloc, &Word::of(alloc, path)?, mode)?;
-        devices.push(device)?;
+        devices.push(Narrow::new(device, most))?;
     }
     Ok(devices)
 }
 
 /// The device of the place is for this.
-fn is_for(devices: &List<MemDevice>, place: u32, mode: Mode) -> bool
-    ensures { result ≡ true → IsFor (λ (d : MemDevice). record_told d.facts) 0 devices.now mode place }
+fn is_for(devices: &List<Narrow>, place: u32, mode: Mode) -> bool
+    ensures { result ≡ true → IsFor (λ (d : Narrow). record_told d.device.facts) 0 devices.now mode place }
 {
     match devices.get(place as usize) {
         Some(device) => device.facts().mode == mode,
@@ -99,9 +103,9 @@ fn is_for(devices: &List<MemDevice>, place: u32, mode: Mode) -> bool
 }
 
 /// Each device is for what the node does with it.
-fn are_for(node: &Node, devices: &List<MemDevice>) -> bool
-    ensures reads { result ≡ true → EachRead (IsFor (λ (d : MemDevice). record_told d.facts) 0 devices.now mode.Read) node.now }
-    ensures writes { result ≡ true → EachWrite (IsFor (λ (d : MemDevice). record_told d.facts) 0 devices.now mode.Write) node.now }
+fn are_for(node: &Node, devices: &List<Narrow>) -> bool
+    ensures reads { result ≡ true → EachRead (IsFor (λ (d : Narrow). record_told d.device.facts) 0 devices.now mode.Read) node.now }
+    ensures writes { result ≡ true → EachWrite (IsFor (λ (d : Narrow). record_told d.device.facts) 0 devices.now mode.Write) node.now }
 {
     match node {
         Node::Nil | Node::Emit(_) | Node::Raise(_) => true,
@@ -143,7 +147,7 @@ pub fn run(
     paths: &[&str],
     fail: Option<(Act, u32)>,
     pace: Pace,
-) -> Result<Alone<MemDevice>, Fail>
+) -> Result<Alone<Narrow>, Fail>
     requires few { node_count node < 2 ^ 16 }
     requires paths { length paths.now < 2 ^ 16 }
     requires pace { (1 ≤ pace.chunk) × (1 ≤ pace.turns) }
@@ -159,26 +163,43 @@ pub fn run_in(
     node: Node,
     paths: &[&str],
     pace: Pace,
-) -> Result<Alone<MemDevice>, Fail>
+) -> Result<Alone<Narrow>, Fail>
     requires few { node_count node < 2 ^ 16 }
     requires paths { length paths.now < 2 ^ 16 }
     requires pace { (1 ≤ pace.chunk) × (1 ≤ pace.turns) }
 {
+    run_narrow(alloc, depot, node, paths, pace, usize::MAX)
+}
+
+/// Runs a node over devices of a depot that take at most so many bytes a write.
+pub fn run_narrow(
+    alloc: Global,
+    depot: &mut MemDepot,
+    node: Node,
+    paths: &[&str],
+    pace: Pace,
+    most: usize,
+) -> Result<Alone<Narrow>, Fail>
+    requires few { node_count node < 2 ^ 16 }
+    requires paths { length paths.now < 2 ^ 16 }
+    requires pace { (1 ≤ pace.chunk) × (1 ≤ pace.turns) }
+    requires most { 1 ≤ most }
+{
     fits_rows(&node, paths.len() as u32)?;
-    let devices = devices(alloc, depot, &node, paths)?;
+    let devices = devices(alloc, depot, &node, paths, most)?;
     if !are_for(&node, &devices) {
         return Err("a device is for something else".into());
     }
     let (seat, mut desk) = PlainSeat::new(alloc, StreamNo::Inner(0), node.places(), node.events())?;
     let room = Room::new(alloc, node.scopes() + 1, node.places())?;
-    Ok(run_alone::<MemDevice, PlainSeat<Held<MemDevice>>, AnyPipe>(
-        alloc, &NoTables, &mut desk, node, seat, room, devices, pace,
+    Ok(run_alone::<Narrow, PlainSeat<Held<Narrow>>, AnyPipe>(
+        alloc, &mut desk, node, seat, room, devices, NoTables, pace,
     ))
 }
 
 /// The path of a device, how often it was opened and closed, the exit that it was closed with, and
 /// what was written to it.
-fn push_device(alloc: Global, out: &mut Vec<u8>, device: &MemDevice) -> Result<(), AllocError> {
+fn push_device(alloc: Global, out: &mut Vec<u8>, device: &Narrow) -> Result<(), AllocError> {
     let facts = device.facts();
     let path = facts.path.as_str();
     let (opens, closes) = (facts.opens(), facts.closes());
@@ -196,7 +217,7 @@ fn push_device(alloc: Global, out: &mut Vec<u8>, device: &MemDevice) -> Result<(
 
 /// The loads, each with a bar behind it, the end, the ledger and the devices: those that were
 /// acquired as they ended, and then the others.
-pub fn shown(alloc: Global, run: Alone<MemDevice>) -> Result<Vec<u8>, AllocError> {
+pub fn shown(alloc: Global, run: Alone<Narrow>) -> Result<Vec<u8>, AllocError> {
     let mut out = Vec::new(alloc);
     for load in &run.loads {
         out.extend_from_slice(render(alloc, load)?.as_slice())?;

@@ -49,25 +49,24 @@ pub struct Whole<S: RowSeat, V> {
 /// Asks for the first of what is left, again and again, and counts how often nothing came.
 pub fn gather<V: Device, S: RowSeat<Pay = Held<V>>, F: PipeState>(
     stepper: &mut Stepper<S, V, F>,
-    tables: &F::Tables,
     desk: &mut S::Desk,
     out: &mut Vec<Load>,
     pace: Pace,
 ) -> Result<u64, AllocError>
     requires fits { Works S.view V.told S.fits stepper.old desk.old }
-    requires can { CanGo (standing F.stands F.comes (F.values tables.now)) V.told (stepping S.view stepper.old) }
+    requires can { CanGo (standing F.stands F.comes) V.told (stepping S.view F.values stepper.old) }
     requires empty { out.old.items ≡ [] }
     requires turns { 1 ≤ pace.turns }
-    ensures gathers { Gathers (standing F.stands F.comes (F.values tables.now)) V.told (stepping S.view stepper.old) (stepping S.view stepper.new) (flat_map elements out.new.items) }
-    ensures left { IsLeft V.told (stepping S.view stepper.new) }
-    ensures spends { SpendsWithin (around V.told (stepping S.view stepper.old).site) (around V.told (stepping S.view stepper.new).site) (stepping S.view stepper.old).rest }
+    ensures gathers { Gathers (standing F.stands F.comes) V.told (stepping S.view F.values stepper.old) (stepping S.view F.values stepper.new) (flat_map elements out.new.items) }
+    ensures left { IsLeft V.told (stepping S.view F.values stepper.new) }
+    ensures spends { SpendsWithin (around V.told (stepping S.view F.values stepper.old).site) (around V.told (stepping S.view F.values stepper.new).site) (stepping S.view F.values stepper.old).rest }
     ensures fits { Works S.view V.told S.fits stepper.new desk.new }
-    ensures since { Since V.told (FinishesDevice V.told) (stepping S.view stepper.old).site (stepping S.view stepper.new).site }
-    ensures others { OthersFit S.view S.fits (stepping S.view stepper.old).site.tree.seat.by desk.old desk.new }
+    ensures since { Since V.told (FinishesDevice V.told) (stepping S.view F.values stepper.old).site (stepping S.view F.values stepper.new).site }
+    ensures others { OthersFit S.view S.fits (stepping S.view F.values stepper.old).site.tree.seat.by desk.old desk.new }
 {
     let mut quiet = 0;
     for _ask in 0..pace.asks {
-        match stepper.uncons(tables, desk, pace.turns)? {
+        match stepper.uncons(desk, pace.turns)? {
             Unconsed::Chunk(load) => out.push(load)?,
             Unconsed::End(_) => return Ok(quiet),
             Unconsed::Again => quiet += 1,
@@ -82,14 +81,14 @@ pub fn close<V: Device, S: RowSeat<Pay = Held<V>>, F: PipeState>(
     desk: &mut S::Desk,
 )
     requires fits { Works S.view V.told S.fits stepper.old desk.old }
-    requires left { IsLeft V.told (stepping S.view stepper.old) }
-    ensures over { IsOver V.told (stepping S.view stepper.new) }
-    ensures how { end_by (stepping S.view stepper.new).how ≡ end_by (stepping S.view stepper.old).how }
-    ensures tells { TouchesOnly {F = F} (told_at V.told (stepping S.view stepper.old).site) (told_at V.told (stepping S.view stepper.new).site) rest.Nil }
-    ensures affords { Affords (around V.told (stepping S.view stepper.old).site) (around V.told (stepping S.view stepper.new).site) }
+    requires left { IsLeft V.told (stepping S.view F.values stepper.old) }
+    ensures over { IsOver V.told (stepping S.view F.values stepper.new) }
+    ensures how { end_by (stepping S.view F.values stepper.new).how ≡ end_by (stepping S.view F.values stepper.old).how }
+    ensures tells { TouchesOnly {F = F} (told_at V.told (stepping S.view F.values stepper.old).site) (told_at V.told (stepping S.view F.values stepper.new).site) rest.Nil }
+    ensures affords { Affords (around V.told (stepping S.view F.values stepper.old).site) (around V.told (stepping S.view F.values stepper.new).site) }
     ensures fits { Works S.view V.told S.fits stepper.new desk.new }
-    ensures since { Since V.told (FinishesDevice V.told) (stepping S.view stepper.old).site (stepping S.view stepper.new).site }
-    ensures others { OthersFit S.view S.fits (stepping S.view stepper.old).site.tree.seat.by desk.old desk.new }
+    ensures since { Since V.told (FinishesDevice V.told) (stepping S.view F.values stepper.old).site (stepping S.view F.values stepper.new).site }
+    ensures others { OthersFit S.view S.fits (stepping S.view F.values stepper.old).site.tree.seat.by desk.old desk.new }
 {
     if stepper.how().is_none() {
         stepper.halt(desk);
@@ -99,26 +98,28 @@ pub fn close<V: Device, S: RowSeat<Pay = Held<V>>, F: PipeState>(
 /// Runs a node to its end, or halts it.
 pub fn run_whole<V: Device, S: RowSeat<Pay = Held<V>>, F: PipeState>(
     alloc: Global,
-    tables: &F::Tables,
     desk: &mut S::Desk,
     node: Node,
     tree: Tree<S>,
     devices: List<V>,
+    tables: F::Tables,
     pace: Pace,
 ) -> Result<Whole<S, V>, Unmade<S, V>>
+where
+    F::Tables: Drop,
     requires fits { Fits S.view S.fits tree desk.old }
     requires supplied { IsSupplied V.told node devices }
     requires room { HasRoomFor (seen S.view tree) node }
     requires pace { (1 ≤ pace.chunk) × (1 ≤ pace.turns) }
-    ensures ran { IfOk result (λ r. RanNode V.told (F.values tables.now) node devices (seen S.view tree) (seen S.view r.ended.tree) (flat_map elements r.loads.items) r.ended.how r.ended.unopened) }
+    ensures ran { IfOk result (λ r. RanNode V.told (F.values tables) node devices (seen S.view tree) (seen S.view r.ended.tree) (flat_map elements r.loads.items) r.ended.how r.ended.unopened) }
     ensures unmade { IfErr result (λ u. (u.tree ≡ tree) × (u.devices ≡ devices)) }
     ensures fits { IfOk result (λ r. Fits S.view S.fits r.ended.tree desk.new) }
     ensures same { OnErr result (desk.new ≡ desk.old) }
     ensures others { OthersFit S.view S.fits (S.view tree.seat).by desk.old desk.new }
 {
-    let mut stepper = Stepper::<S, V, F>::new(alloc, node, tree, devices, pace.chunk)?;
+    let mut stepper = Stepper::<S, V, F>::new(alloc, node, tree, devices, tables, pace.chunk)?;
     let mut loads = Vec::new(alloc);
-    let quiet = gather(&mut stepper, tables, desk, &mut loads, pace);
+    let quiet = gather(&mut stepper, desk, &mut loads, pace);
     close(&mut stepper, desk);
     Ok(Whole {
         loads,
@@ -130,13 +131,15 @@ pub fn run_whole<V: Device, S: RowSeat<Pay = Held<V>>, F: PipeState>(
 /// Runs a node to its end, or closes the tree as canceled where there was no memory to begin.
 pub fn run_or_close<V: Device, S: RowSeat<Pay = Held<V>>, F: PipeState>(
     alloc: Global,
-    tables: &F::Tables,
     desk: &mut S::Desk,
     node: Node,
     tree: Tree<S>,
     devices: List<V>,
+    tables: F::Tables,
     pace: Pace,
 ) -> Whole<S, V>
+where
+    F::Tables: Drop,
     requires fits { Fits S.view S.fits tree desk.old }
     requires supplied { IsSupplied V.told node devices }
     requires room { HasRoomFor (seen S.view tree) node }
@@ -147,7 +150,7 @@ pub fn run_or_close<V: Device, S: RowSeat<Pay = Held<V>>, F: PipeState>(
     ensures exit { HasExit (seen S.view result.ended.tree) (exit_of result.ended.how) }
     ensures fits { Fits S.view S.fits result.ended.tree desk.new }
 {
-    match run_whole::<V, S, F>(alloc, tables, desk, node, tree, devices, pace) {
+    match run_whole::<V, S, F>(alloc, desk, node, tree, devices, tables, pace) {
         Ok(whole) => whole,
         Err(Unmade { tree, devices }) => {
             let mut tree = tree;
@@ -181,14 +184,16 @@ pub struct Alone<V> {
 /// counts, and finishes the seat.
 pub fn run_alone<V: Device, S: RowSeat<Pay = Held<V>>, F: PipeState>(
     alloc: Global,
-    tables: &F::Tables,
     desk: &mut S::Desk,
     node: Node,
     seat: S,
     room: Room<Held<V>>,
     devices: List<V>,
+    tables: F::Tables,
     pace: Pace,
 ) -> Alone<V>
+where
+    F::Tables: Drop,
     requires fits { S.fits seat desk.old }
     requires supplied { IsSupplied V.told node devices }
     requires first { first_of (places_of node) ≡ 0 }
@@ -202,7 +207,7 @@ pub fn run_alone<V: Device, S: RowSeat<Pay = Held<V>>, F: PipeState>(
         loads,
         quiet,
         ended,
-    } = run_or_close::<V, S, F>(alloc, tables, desk, node, tree, devices, pace);
+    } = run_or_close::<V, S, F>(alloc, desk, node, tree, devices, tables, pace);
     let Ended {
         tree,
         how,

@@ -11,8 +11,8 @@ pub loop-place-preserved : goal.loop-place-preserved
 loop-place-preserved c =
     let i = c.loop-place.invariant in let device = c.in_ok-device.device in let pushed = c.in_ok-push.ensures.ok in
     record {
-      count = omega (arith, i.count, ap length pushed, length-append c.loop-place.devices (device ∷ []));
+      count = omega (arith, i.count, ap length pushed, length-append c.loop-place.devices (c.new.result ∷ []));
       unused = λ d m.
-          ⊎_elim (i.unused d) (λ e. subst (λ y. IsUnused (record_told y.facts)) (sym e) (fresh_unused (depot_told c.loop-place.depot) _ (record_told device.facts) c.in_ok-device.ensures.made.device))
-          (among_snoc c.loop-place.devices d device (subst (λ l. IsAmong d l) pushed m));
+          ⊎_elim (i.unused d) (λ e. subst (λ y. IsUnused (record_told y.device.facts)) (sym e) (subst (λ y. IsUnused (record_told y.facts)) (sym c.new.ensures) (fresh_unused (depot_told c.loop-place.depot) _ (record_told device.facts) c.in_ok-device.ensures.made.device)))
+          (among_snoc c.loop-place.devices d c.new.result (subst (λ l. IsAmong d l) pushed m));
     }

@@ -11,11 +11,11 @@ use Rattle.pull_stepper.proofs.Beginning.{begun_can, begun_held, begun_in_order}
 use Rattle.pull_stepper.proofs.stepper.Stepper.new.Goals as goal
 
 pub returns-clause-can : goal.returns-clause-can
-returns-clause-can g c t =
-    let P = standing g.F.Feed.stands g.F.Feed.comes t in
+returns-clause-can g c =
+    let P = standing g.F.Feed.stands g.F.Feed.comes in let values = g.F.PipeState.values in
     let tree = seen g.S.RowSeat.view c.args.tree in
-    let e : stepping g.S.RowSeat.view (record { runner = c.over.result; room = c.to_slots.new.devices }) ≡ begun c.args.node tree c.args.devices c.args.chunk = search rules in
-    subst (λ s. CanGo P g.V.Device.told s) (sym e) (begun_can g.V.Device.told c.args.node tree c.args.devices c.requires.supplied c.requires.room P c.args.chunk c.requires.chunk)
+    let e : stepping g.S.RowSeat.view values (record { runner = c.over.result; room = c.to_slots.new.devices; tables = c.args.tables }) ≡ begun c.args.node tree c.args.devices (values c.args.tables) c.args.chunk = search rules in
+    subst (λ s. CanGo P g.V.Device.told s) (sym e) (begun_can g.V.Device.told c.args.node tree c.args.devices c.requires.supplied c.requires.room P (values c.args.tables) c.args.chunk c.requires.chunk)
 
 pub returns-clause-fits : goal.returns-clause-fits
 returns-clause-fits g c =

@@ -4,7 +4,7 @@ use Rattle.pull_nodes.proofs.Counts.{places_le, scopes_le}
 use Rattle.res_ledger.specs.declared.event.StreamNo.TheVariants.{Inner}
 use Rattle.row_seat.specs.Views.{start}
 use Rattle.worked_nodes.proofs.Driving.{placed_first, placed_supplied}
-use Rattle.worked_nodes.proofs.runs.run_in.Goals as goal
+use Rattle.worked_nodes.proofs.runs.run_narrow.Goals as goal
 
 pub new-requires : goal.new-requires
 new-requires c = omega (arith, c.events.ensures, places_le c.args.node, scopes_le c.args.node)
