@@ -5,4 +5,7 @@ pub mod KindLaws
 pub mod NodeLaws
 pub mod Numerals
 pub mod Parts
+pub mod RunsAlike
 pub mod Seen
+pub mod Settings
+pub mod Uses

@@ -9,6 +9,8 @@ use Rattle.toml.specs.View.{view, items_view, members_view}
 use Rattle.toml.specs.declared.value.Value.{Value}
 use Rattle.pipeline_desc.specs.Reading.{present, refuse}
 use Rattle.pipeline_desc.specs.Values.{all_known, array_at, each_as, both_or_none, list_at, seen_as, tables_at}
+use Rattle.pipeline_desc.specs.declared.refusal.Position.{Position}
+use Rattle.pipeline_desc.specs.declared.refusal.Position.TheVariants.{Nowhere}
 use Rattle.pipeline_desc.specs.declared.refusal.RefusalKind.{RefusalKind}
 use Rattle.pipeline_desc.specs.declared.refusal.RefusalKind.TheVariants as refused
 
@@ -32,13 +34,13 @@ pub all_seen : {A : Type 0} (f : Data → Option A) (vs : List Value) → list_a
 all_seen f [] = refl
 all_seen f (v ∷ vs) = rw (all_seen f vs) (both_some (f (view v)) (each_as f (items_view vs)))
 
-pub present_some : {A : Type 0} (o : Option (List A)) (kind : RefusalKind) (stream step : Option ℕ) → is_some o ≡ true → present o kind stream step ≡ Ok (unwrap_or o [])
-present_some None kind stream step h = absurd (false≢true h)
-present_some (Some xs) kind stream step h = refl
+pub present_some : {A : Type 0} (o : Option (List A)) (kind : RefusalKind) (position : Position) → is_some o ≡ true → present o kind position ≡ Ok (unwrap_or o [])
+present_some None kind position h = absurd (false≢true h)
+present_some (Some xs) kind position h = refl
 
-pub present_none : {A : Type 0} (o : Option (List A)) (kind : RefusalKind) (stream step : Option ℕ) → is_some o ≡ false → present o kind stream step ≡ refuse kind stream step
-present_none None kind stream step h = refl
-present_none (Some xs) kind stream step h = absurd (false≢true (sym h))
+pub present_none : {A : Type 0} (o : Option (List A)) (kind : RefusalKind) (position : Position) → is_some o ≡ false → present o kind position ≡ refuse kind position
+present_none None kind position h = refl
+present_none (Some xs) kind position h = absurd (false≢true (sym h))
 
 both_parts : {A : Type 0} (o : Option A) (more : Option (List A)) → is_some (both_or_none o more) ≡ true → (x : A) × (xs : List A) × (o ≡ Some x) × (more ≡ Some xs)
 both_parts None more h = absurd (false≢true h)
@@ -77,24 +79,24 @@ seen_at f (w ∷ vs) (suc i) v h lt at =
     let (y, is, rest) = seen_at f vs i v (ap is_some more) (omega arith) at in
     (y, is, ap (drop (suc i)) both ∙ ap (drop i) (sym same) ∙ rest ∙ ap (λ ys. y ∷ drop (i + 1) ys) same ∙ ap (λ ys. y ∷ ys) (sym (drop_behind i x xs)) ∙ ap (λ ys. y ∷ drop (suc i + 1) ys) (sym both))
 
-module _ {A : Type 0} (f : Data → Option A) (stream : Option ℕ) (d : Option Data) (vs : List Value) (array : array_at stream d ≡ Ok (items_view vs)) where
+module _ {A : Type 0} (f : Data → Option A) (position : Position) (d : Option Data) (vs : List Value) (array : array_at position d ≡ Ok (items_view vs)) where
   -- an array of which one value isn't such a thing
-  pub list_refused : list_all (λ v. is_some (f (view v))) vs ≡ false → list_at f stream d ≡ refuse refused.WrongType stream None
-  list_refused none = rw array (present_none (each_as f (items_view vs)) refused.WrongType stream None (sym (all_seen f vs) ∙ none))
+  pub list_refused : list_all (λ v. is_some (f (view v))) vs ≡ false → list_at f position d ≡ refuse refused.WrongType position
+  list_refused none = rw array (present_none (each_as f (items_view vs)) refused.WrongType position (sym (all_seen f vs) ∙ none))
 
   -- an array of such things
-  pub list_found : list_all (λ v. is_some (f (view v))) vs ≡ true → list_at f stream d ≡ Ok (seen_as f vs)
-  list_found all = rw array (present_some (each_as f (items_view vs)) refused.WrongType stream None (sym (all_seen f vs) ∙ all))
+  pub list_found : list_all (λ v. is_some (f (view v))) vs ≡ true → list_at f position d ≡ Ok (seen_as f vs)
+  list_found all = rw array (present_some (each_as f (items_view vs)) refused.WrongType position (sym (all_seen f vs) ∙ all))
 
-module _ (most : ℕ) (d : Option Data) (vs : List Value) (array : array_at None d ≡ Ok (items_view vs)) where
+module _ (most : ℕ) (d : Option Data) (vs : List Value) (array : array_at Nowhere d ≡ Ok (items_view vs)) where
   -- not each value is a table
-  pub tables_refused : list_all (λ v. is_some (as_table (view v))) vs ≡ false → tables_at most d ≡ refuse refused.WrongType None None
-  tables_refused none = rw (list_refused as_table None d vs array none) refl
+  pub tables_refused : list_all (λ v. is_some (as_table (view v))) vs ≡ false → tables_at most d ≡ refuse refused.WrongType Nowhere
+  tables_refused none = rw (list_refused as_table Nowhere d vs array none) refl
 
   -- more tables than may stand there
-  pub tables_many : list_all (λ v. is_some (as_table (view v))) vs ≡ true → most < length vs → tables_at most d ≡ refuse refused.OutOfRange None None
-  tables_many all more = rw (list_found as_table None d vs array all, length_seen as_table vs (sym (all_seen as_table vs) ∙ all), lt-leb (length vs) most more) refl
+  pub tables_many : list_all (λ v. is_some (as_table (view v))) vs ≡ true → most < length vs → tables_at most d ≡ refuse refused.OutOfRange Nowhere
+  tables_many all more = rw (list_found as_table Nowhere d vs array all, length_seen as_table vs (sym (all_seen as_table vs) ∙ all), lt-leb (length vs) most more) refl
 
   -- no more tables than may stand there
   pub tables_few : list_all (λ v. is_some (as_table (view v))) vs ≡ true → length vs ≤ most → tables_at most d ≡ Ok (seen_as as_table vs)
-  tables_few all few = rw (list_found as_table None d vs array all, length_seen as_table vs (sym (all_seen as_table vs) ∙ all), le-leb (length vs) most few) refl
+  tables_few all few = rw (list_found as_table Nowhere d vs array all, length_seen as_table vs (sym (all_seen as_table vs) ∙ all), le-leb (length vs) most few) refl

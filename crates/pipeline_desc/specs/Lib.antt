@@ -1,9 +1,12 @@
+pub mod Laws
 pub mod Limits
 pub mod Meant
 pub mod Nodes
 pub mod Plans
 pub mod Reading
 pub mod Refusals
+pub mod Sound
 pub mod Steps
+pub mod Streams
 pub mod Values
 pub mod Worked

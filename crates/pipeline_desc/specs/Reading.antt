@@ -1,5 +1,7 @@
 -- Reading that stops at the first refusal.
 use Rattle.std.specs.Prelude.{◌≡◌, ℕ, ◌+◌, Bool, List, [], ◌∷◌, Option, Some, None, Result, Ok, Err, if◌then◌else◌}
+use Rattle.pipeline_desc.specs.declared.refusal.Position.{Position}
+use Rattle.pipeline_desc.specs.declared.refusal.Position.TheVariants.{Nowhere, InStream, AtStep}
 use Rattle.pipeline_desc.specs.declared.refusal.Refusal.{Refusal}
 use Rattle.pipeline_desc.specs.declared.refusal.RefusalKind.{RefusalKind}
 use Rattle.pipeline_desc.specs.declared.refusal.Refused.{Refused}
@@ -9,9 +11,15 @@ use Rattle.pipeline_desc.specs.declared.refusal.Refused.TheVariants as refused
 abbrev pub Reading : Type 0 → Type 0
 Reading A = Result A Refusal
 
--- a refusal with the numbers of the stream and the step that it carries
-abbrev pub refuse : {A : Type 0} → RefusalKind → Option ℕ → Option ℕ → Reading A
-refuse kind stream step = Err (record { kind = kind; stream = stream; step = step })
+-- the refusal of what stands there, with the numbers that it carries
+abbrev pub refusal_of : RefusalKind → Position → Refusal
+refusal_of kind Nowhere = record { kind = kind; stream = None; step = None }
+refusal_of kind (InStream k) = record { kind = kind; stream = Some k; step = None }
+refusal_of kind (AtStep k i) = record { kind = kind; stream = Some k; step = Some i }
+
+-- no value, and this refusal
+abbrev pub refuse : {A : Type 0} → RefusalKind → Position → Reading A
+refuse kind position = Err (refusal_of kind position)
 
 -- what is read next, where nothing was refused before
 infixl 10 ◌>>=◌
@@ -20,13 +28,13 @@ abbrev pub ◌>>=◌ : {A B : Type 0} → Reading A → (A → Reading B) → Re
 (Err e) >>= f = Err e
 
 -- nothing, where the test passes
-abbrev pub passes : Bool → RefusalKind → Option ℕ → Option ℕ → Reading (Unit {0})
-passes test kind stream step = if test then Ok tt else refuse kind stream step
+abbrev pub passes : Bool → RefusalKind → Position → Reading (Unit {0})
+passes test kind position = if test then Ok tt else refuse kind position
 
 -- the value, where there is one
-abbrev pub present : {A : Type 0} → Option A → RefusalKind → Option ℕ → Option ℕ → Reading A
-present None kind stream step = refuse kind stream step
-present (Some x) kind stream step = Ok x
+abbrev pub present : {A : Type 0} → Option A → RefusalKind → Position → Reading A
+present None kind position = refuse kind position
+present (Some x) kind position = Ok x
 
 -- what each element means, in order; the first has the number i
 abbrev pub each_from : {A B : Type 0} → (ℕ → A → Reading B) → ℕ → List A → Reading (List B)

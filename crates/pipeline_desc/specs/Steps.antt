@@ -1,29 +1,34 @@
--- What the words of a stream's steps mean.
-use Rattle.std.specs.Prelude.{ℕ, ◌+◌, Bool, ◌&&◌, ◌==◌, List, [], ◌∷◌, codes, Option, Some, None, Ok, if◌then◌else◌}
+-- What the words of steps mean, and the kinds between steps.
+use Rattle.std.specs.Prelude.{ℕ, ◌+◌, Bool, true, false, ◌&&◌, ◌==◌, nat_le, List, [], ◌∷◌, length, codes, count_by, Option, Some, None, Ok, if◌then◌else◌}
 use Rattle.std.specs.Char.{is_ascii_digit}
 use Rattle.std.specs.List.{list_all}
 use Rattle.std.specs.Str.{bytes_eq}
 use Rattle.std.specs.Str.Parse.{digits_value}
 use Rattle.toml.specs.Data.{Data, as_str}
+use Rattle.pull_nodes.specs.PipeKinds.{piped_kind}
 use Rattle.pull_nodes.specs.declared.kind.Kind.{Kind}
+use Rattle.pull_nodes.specs.declared.kind.Kind.TheVariants as kind
 use Rattle.pull_nodes.specs.declared.pipe.Pipe.{Pipe}
 use Rattle.pull_nodes.specs.declared.pipe.Pipe.TheVariants as pipe
-use Rattle.pipeline_desc.specs.Limits.{is_between, is_sized, kind_behind_step}
-use Rattle.pipeline_desc.specs.Reading.{Reading, refuse, ◌>>=◌, present, each_from}
+use Rattle.pipeline_desc.specs.Limits.{is_between, is_sized, most_steps}
+use Rattle.pipeline_desc.specs.Meant.{SettingMeant}
+use Rattle.pipeline_desc.specs.Reading.{Reading, refuse, ◌>>=◌, passes, present, each_from}
 use Rattle.pipeline_desc.specs.Values.{list_at}
+use Rattle.pipeline_desc.specs.declared.refusal.Position.{Position}
+use Rattle.pipeline_desc.specs.declared.refusal.Position.TheVariants.{InStream, AtStep}
 use Rattle.pipeline_desc.specs.declared.refusal.RefusalKind.TheVariants as refused
 use Rattle.pipeline_desc.specs.declared.step.Step.{Step}
 use Rattle.pipeline_desc.specs.declared.step.Step.TheVariants as step
 
 -- what stands before the first space
-abbrev pub step_name : List ℕ → List ℕ
-step_name [] = []
-step_name (b ∷ word) = if b == 32 then [] else (b ∷ step_name word)
+abbrev pub before_space : List ℕ → List ℕ
+before_space [] = []
+before_space (b ∷ word) = if b == 32 then [] else (b ∷ before_space word)
 
 -- what stands behind the first space, where there is one
-abbrev pub argument_of : List ℕ → Option (List ℕ)
-argument_of [] = None
-argument_of (b ∷ word) = if b == 32 then Some word else argument_of word
+abbrev pub behind_space : List ℕ → Option (List ℕ)
+behind_space [] = None
+behind_space (b ∷ word) = if b == 32 then Some word else behind_space word
 
 -- one to nine decimal digits
 abbrev pub is_number : List ℕ → Bool
@@ -33,15 +38,15 @@ is_number text = is_sized 1 9 text && list_all is_ascii_digit text
 abbrev pub written_number : List ℕ → Option ℕ
 written_number text = if is_number text then Some (digits_value 10 text) else None
 
--- a number within limits, as the argument of step i of stream k
-abbrev pub number_argument : ℕ → ℕ → ℕ → ℕ → List ℕ → Reading ℕ
-number_argument k i low high text =
-    present (written_number text) refused.OutOfRange (Some k) (Some i) >>= (λ n.
-    if is_between low high n then Ok n else refuse refused.OutOfRange (Some k) (Some i))
+-- the argument as a number within limits
+abbrev pub number_argument : ℕ → ℕ → Position → List ℕ → Reading ℕ
+number_argument low high position text =
+    present (written_number text) refused.OutOfRange position >>= (λ n.
+    passes (is_between low high n) refused.OutOfRange position >>= (λ _. Ok n))
 
--- a text of so many bytes, as the argument of step i of stream k
-abbrev pub text_argument : ℕ → ℕ → ℕ → ℕ → List ℕ → Reading (List ℕ)
-text_argument k i low high text = if is_sized low high text then Ok text else refuse refused.OutOfRange (Some k) (Some i)
+-- the argument as a text of so many bytes
+abbrev pub text_argument : ℕ → ℕ → Position → List ℕ → Reading (List ℕ)
+text_argument low high position text = passes (is_sized low high text) refused.OutOfRange position >>= (λ _. Ok text)
 
 -- the steps that take no argument
 abbrev pub plain_pipe : List ℕ → Option Pipe
@@ -56,34 +61,58 @@ plain_pipe name =
     else if bytes_eq name (codes "count") then Some pipe.Count
     else None
 
--- the steps that take one, as step i of stream k
-abbrev pub step_with : ℕ → ℕ → List ℕ → List ℕ → Reading Step
-step_with k i name text =
-    if bytes_eq name (codes "take") then number_argument k i 0 999999999 text >>= (λ n. Ok (step.Take n))
-    else if bytes_eq name (codes "drop") then number_argument k i 0 999999999 text >>= (λ n. Ok (step.Pipe (pipe.Drop n)))
-    else if bytes_eq name (codes "filter") then text_argument k i 1 1024 text >>= (λ t. Ok (step.Pipe (pipe.Filter t)))
-    else if bytes_eq name (codes "intersperse") then text_argument k i 0 64 text >>= (λ t. Ok (step.Pipe (pipe.Intersperse t)))
-    else if bytes_eq name (codes "chunk") then number_argument k i 1 64 text >>= (λ n. Ok (step.Pipe (pipe.ChunkN n)))
-    else refuse refused.UnknownStep (Some k) (Some i)
-
--- a step without an argument
-abbrev pub step_without : ℕ → ℕ → List ℕ → Reading Step
-step_without k i name = present (plain_pipe name) refused.UnknownStep (Some k) (Some i) >>= (λ p. Ok (step.Pipe p))
+-- the steps that take one
+abbrev pub step_with : Position → List ℕ → List ℕ → Reading Step
+step_with position name text =
+    if bytes_eq name (codes "take") then number_argument 0 999999999 position text >>= (λ n. Ok (step.Take n))
+    else if bytes_eq name (codes "drop") then number_argument 0 999999999 position text >>= (λ n. Ok (step.Pipe (pipe.Drop n)))
+    else if bytes_eq name (codes "filter") then text_argument 1 1024 position text >>= (λ t. Ok (step.Pipe (pipe.Filter t)))
+    else if bytes_eq name (codes "intersperse") then text_argument 0 64 position text >>= (λ t. Ok (step.Pipe (pipe.Intersperse t)))
+    else if bytes_eq name (codes "chunk") then number_argument 1 64 position text >>= (λ n. Ok (step.Pipe (pipe.ChunkN n)))
+    else refuse refused.UnknownStep position
 
 -- a step by its name, and its argument where it has one
-abbrev pub step_named : ℕ → ℕ → List ℕ → Option (List ℕ) → Reading Step
-step_named k i name None = step_without k i name
-step_named k i name (Some text) = step_with k i name text
+abbrev pub step_named : Position → List ℕ → Option (List ℕ) → Reading Step
+step_named position name None = present (plain_pipe name) refused.UnknownStep position >>= (λ p. Ok (step.Pipe p))
+step_named position name (Some text) = step_with position name text
 
--- the word of step i of stream k
-abbrev pub step_meant : ℕ → ℕ → List ℕ → Reading Step
-step_meant k i word = step_named k i (step_name word) (argument_of word)
+-- the word of step i of stream k; no step names a table as yet
+abbrev pub step_meant : SettingMeant → ℕ → ℕ → List ℕ → Reading Step
+step_meant setting k i word = step_named (AtStep k i) (before_space word) (behind_space word)
 
--- the steps of stream k
-abbrev pub steps_at : ℕ → Option Data → Reading (List Step)
-steps_at k d = list_at as_str (Some k) d >>= each_from (step_meant k) 0
+-- the words at a key, as the steps of stream k
+abbrev pub steps_at : SettingMeant → ℕ → Option Data → Reading (List Step)
+steps_at setting k d = list_at as_str (InStream k) d >>= each_from (step_meant setting k) 0
+
+-- the step puts a line between each two
+abbrev pub puts_between : Step → Bool
+puts_between (step.Take n) = false
+puts_between (step.Pipe (pipe.Intersperse text)) = true
+puts_between (step.Pipe _) = false
+
+-- the steps of a stream are few
+abbrev pub are_few : List Step → Bool
+are_few steps = nat_le (length steps) most_steps
+
+-- at most one of them puts a line between each two
+abbrev pub put_one_between : List Step → Bool
+put_one_between steps = nat_le (count_by puts_between steps) 1
+
+-- stream k may have these steps
+abbrev pub are_fitting : ℕ → List Step → Reading (Unit {0})
+are_fitting k steps =
+    passes (are_few steps) refused.OutOfRange (InStream k) >>= (λ _. passes (put_one_between steps) refused.OutOfRange (InStream k))
+
+-- the kind behind a step, or none where the step doesn't take the kind that it gets
+abbrev pub kind_behind_step : Step → Kind → Option Kind
+kind_behind_step (step.Take n) j = Some j
+kind_behind_step (step.Pipe p) j = piped_kind p j
 
 -- the kind behind the steps from number i of stream k on, the first of which gets this kind
 abbrev pub kind_from : ℕ → ℕ → List Step → Kind → Reading Kind
 kind_from k i [] j = Ok j
-kind_from k i (s ∷ steps) j = present (kind_behind_step s j) refused.KindClash (Some k) (Some i) >>= kind_from k (i + 1) steps
+kind_from k i (s ∷ steps) j = present (kind_behind_step s j) refused.KindClash (AtStep k i) >>= kind_from k (i + 1) steps
+
+-- the kind behind all steps of stream k, which begins with the bytes of its file
+abbrev pub kind_given : ℕ → List Step → Reading Kind
+kind_given k steps = kind_from k 0 steps kind.Bytes

@@ -36,10 +36,12 @@ pub mod nodes;
 pub mod plan;
 pub mod reader;
 pub mod refusal;
+pub(crate) mod setting;
 pub mod step;
 pub(crate) mod steps;
 pub mod stream;
 pub(crate) mod streams;
+pub mod table;
 pub(crate) mod values;
 pub(crate) mod words;
 
@@ -49,6 +51,7 @@ pub use reader::read;
 pub use refusal::{Refusal, RefusalKind, Refused};
 pub use step::Step;
 pub use stream::StreamSpec;
+pub use table::TableSpec;
 
 #[cfg(test)]
 mod tests;

@@ -1,9 +1,11 @@
 //! What a description asks for.
-ghost use Rattle.std.specs.Prelude.{◌≡◌, ◌≤◌, ◌<◌, true, Some, length, slice_get};
-ghost use Rattle.pipeline_desc.specs.Limits.{is_sound_stream};
-ghost use Rattle.pipeline_desc.specs.Meant.{IsWithinLimits, is_taken, most_streams};
+ghost use Rattle.std.specs.Prelude.{◌≡◌, ◌≤◌, ◌<◌, Some, IfSome, length, slice_get};
+ghost use Rattle.pipeline_desc.specs.Limits.{most_streams, most_tables};
+ghost use Rattle.pipeline_desc.specs.Meant.{setting_of};
+ghost use Rattle.pipeline_desc.specs.Sound.{IsSoundPlan, IsSoundStream};
 
 use crate::stream::StreamSpec;
+use crate::table::TableSpec;
 use chunk_core::List;
 use std::marker::Model;
 
@@ -14,17 +16,19 @@ pub struct Plan {
     queue: u32,
     chunk: u32,
     take: Option<u64>,
+    tables: List<TableSpec>,
     streams: List<StreamSpec>,
 }
 
 impl Model for Plan {
-    ghost use Rattle.pipeline_desc.specs.Meant.{PlanMeant, IsWithinLimits};
+    ghost use Rattle.pipeline_desc.specs.Meant.{PlanMeant};
+    ghost use Rattle.pipeline_desc.specs.Sound.{IsSoundPlan};
 
     ghost Value = { PlanMeant };
 
-    ghost view = { λ p. record { max_open = p.max_open; queue = p.queue; chunk = p.chunk; take = p.take; streams = p.streams } };
+    ghost view = { λ p. record { max_open = p.max_open; queue = p.queue; chunk = p.chunk; take = p.take; tables = p.tables; streams = p.streams } };
 
-    ghost invariant = { λ p. IsWithinLimits (record { max_open = p.max_open; queue = p.queue; chunk = p.chunk; take = p.take; streams = p.streams }) };
+    ghost invariant = { λ p. IsSoundPlan (record { max_open = p.max_open; queue = p.queue; chunk = p.chunk; take = p.take; tables = p.tables; streams = p.streams }) };
 }
 
 impl Plan {
@@ -33,18 +37,27 @@ impl Plan {
         queue: u32,
         chunk: u32,
         take: Option<u64>,
+        tables: List<TableSpec>,
         streams: List<StreamSpec>,
     ) -> Plan
-        requires { IsWithinLimits (record { max_open = max_open; queue = queue; chunk = chunk; take = take; streams = streams }) }
-        ensures { result ≡ record { max_open = max_open; queue = queue; chunk = chunk; take = take; streams = streams } }
+        requires { IsSoundPlan (record { max_open = max_open; queue = queue; chunk = chunk; take = take; tables = tables; streams = streams }) }
+        ensures { result ≡ record { max_open = max_open; queue = queue; chunk = chunk; take = take; tables = tables; streams = streams } }
     {
         Plan {
             max_open,
             queue,
             chunk,
             take,
+            tables,
             streams,
         }
+    }
+
+    /// A plan is within all limits.
+    pub fn limits(&self)
+        ensures { IsSoundPlan self.now }
+    {
+        let _ = &self.streams;
     }
 
     /// How many streams may be open at a time.
@@ -62,7 +75,14 @@ impl Plan {
         requires high { max_open ≤ 64 }
         ensures { result ≡ record self { max_open = max_open } }
     {
-        Plan::of(max_open, self.queue, self.chunk, self.take, self.streams)
+        Plan::of(
+            max_open,
+            self.queue,
+            self.chunk,
+            self.take,
+            self.tables,
+            self.streams,
+        )
     }
 
     /// How many loads may wait to be printed.
@@ -86,9 +106,17 @@ impl Plan {
     /// The most frames that are printed, where there is such a number.
     pub fn take(&self) -> Option<u64>
         ensures value { result ≡ self.now.take }
-        ensures high { is_taken result ≡ true }
+        ensures high { IfSome result (λ n. n ≤ 1000000000) }
     {
         self.take
+    }
+
+    /// The tables in order.
+    pub fn tables(&self) -> &List<TableSpec>
+        ensures value { result.now ≡ self.now.tables }
+        ensures few { length result.now ≤ most_tables }
+    {
+        &self.tables
     }
 
     /// The streams in order.
@@ -103,7 +131,7 @@ impl Plan {
     pub fn stream(&self, k: u32) -> &StreamSpec
         requires { k < length self.now.streams }
         ensures value { slice_get self.now.streams k ≡ Some result.now }
-        ensures sound { is_sound_stream result.now ≡ true }
+        ensures sound { IsSoundStream (setting_of self.now.tables (length self.now.streams)) k result.now }
     {
         &self.streams.as_slice()[k as usize]
     }

@@ -1,5 +1,6 @@
 //! Why a description is refused.
 ghost use Rattle.std.specs.Prelude.{◌≡◌};
+ghost use Rattle.pipeline_desc.specs.Reading.{refusal_of};
 ghost use Rattle.pipeline_desc.specs.Refusals.{number_of_kind};
 
 use std::alloc::AllocError;
@@ -77,35 +78,25 @@ impl From<AllocError> for Refused {
     }
 }
 
-/// The refusal of something that stands in no stream.
-pub(crate) fn refuse(kind: RefusalKind) -> Refused
-    ensures { result ≡ Refused.Desc (record { kind = kind; stream = None; step = None }) }
-{
-    Refused::Desc(Refusal {
-        kind,
-        stream: None,
-        step: None,
-    })
+/// Where something stands in a description.
+#[derive(Clone, Copy)]
+pub(crate) enum Position {
+    /// In no stream.
+    Nowhere,
+    /// In the stream of a number.
+    InStream(u32),
+    /// In a stream's step, by the numbers of both.
+    AtStep(u32, u32),
 }
 
-/// The refusal of something in a stream, where one is given.
-pub(crate) fn refuse_in(kind: RefusalKind, stream: Option<u32>) -> Refused
-    ensures { result ≡ Refused.Desc (record { kind = kind; stream = stream; step = None }) }
+/// The refusal of what stands there.
+pub(crate) fn refuse(kind: RefusalKind, position: Position) -> Refused
+    ensures { result ≡ Refused.Desc (refusal_of kind position) }
 {
-    Refused::Desc(Refusal {
-        kind,
-        stream,
-        step: None,
-    })
-}
-
-/// The refusal of a step of a stream.
-pub(crate) fn refuse_step(kind: RefusalKind, stream: u32, step: u32) -> Refused
-    ensures { result ≡ Refused.Desc (record { kind = kind; stream = Some stream; step = Some step }) }
-{
-    Refused::Desc(Refusal {
-        kind,
-        stream: Some(stream),
-        step: Some(step),
-    })
+    let (stream, step) = match position {
+        Position::Nowhere => (None, None),
+        Position::InStream(stream) => (Some(stream), None),
+        Position::AtStep(stream, step) => (Some(stream), Some(step)),
+    };
+    Refused::Desc(Refusal { kind, stream, step })
 }

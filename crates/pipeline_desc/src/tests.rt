@@ -68,6 +68,26 @@ fn texts_that_are_no_documents(rt: HostRuntime) -> Result<(), Fail> {
 }
 
 #[test]
+fn documents_beyond_the_first_toml(rt: HostRuntime) -> Result<(), Fail> {
+    let alloc = rt.alloc();
+    is(&rt, alloc, "\u{FEFF}chunk = 1\n", 0);
+    is(&rt, alloc, "take = 07:32\n", 3);
+    is(&rt, alloc, "[[stream]]\npath = \"\\x41\\e\"\n", 0);
+    is(&rt, alloc, "stream = [{\npath = 'a',\n}]\n", 0);
+    let (open, close) = ("[".repeat(alloc, 80)?, "]".repeat(alloc, 80)?);
+    let deep = format!(in alloc; "table = {open}{close}\n")?;
+    is(&rt, alloc, deep.as_str(), 3);
+    let deep = format!(in alloc; "table = [{open}{close}]\n")?;
+    is(&rt, alloc, deep.as_str(), 1);
+    let parts = "a.".repeat(alloc, 79)?;
+    let key = format!(in alloc; "{parts}a = 1\n")?;
+    is(&rt, alloc, key.as_str(), 2);
+    let key = format!(in alloc; "{parts}a.a = 1\n")?;
+    is(&rt, alloc, key.as_str(), 1);
+    Ok(())
+}
+
+#[test]
 fn values_of_the_top(rt: HostRuntime) {
     let alloc = rt.alloc();
     is(&rt, alloc, "chunks = 1", 2);

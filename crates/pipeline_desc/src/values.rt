@@ -7,9 +7,9 @@ ghost use Rattle.toml.specs.Data.{as_str, as_table, get_member};
 ghost use Rattle.toml.specs.View.{items_view, table_view, view};
 ghost use Rattle.pipeline_desc.specs.Limits.{is_sized};
 ghost use Rattle.pipeline_desc.specs.Reading.{ReadsAs};
-ghost use Rattle.pipeline_desc.specs.Values.{all_known, array_at, each_as, known_keys, list_at, number_at, seen_as, tables_at, text_at, text_or_none_at};
+ghost use Rattle.pipeline_desc.specs.Values.{all_known, array_at, each_as, known_keys, list_at, number_within, required, seen_as, tables_at, text_that, where_given};
 
-use crate::refusal::{RefusalKind, Refused, refuse, refuse_in};
+use crate::refusal::{Position, RefusalKind, Refused, refuse};
 use chunk_core::{Line, Word};
 use std::alloc::Global;
 use toml::{Table, Value};
@@ -43,53 +43,59 @@ fn has_only(table: &Table, names: &[&str]) -> bool
 }
 
 /// No key has another name.
-pub(crate) fn check_keys(table: &Table, names: &[&str], stream: Option<u32>) -> Result<(), Refused>
-    ensures { ReadsAs (λ u. u) result (known_keys (map (λ s. s.now) names.now) stream (table_view table.now)) }
+pub(crate) fn check_keys(table: &Table, names: &[&str], position: Position) -> Result<(), Refused>
+    ensures { ReadsAs (λ u. u) result (known_keys (map (λ s. s.now) names.now) position (table_view table.now)) }
 {
     if !has_only(table, names) {
-        return Err(refuse_in(RefusalKind::UnknownKey, stream));
+        return Err(refuse(RefusalKind::UnknownKey, position));
     }
     Ok(())
 }
 
-/// A number within limits, where there is a value.
-pub(crate) fn number(value: Option<&Value>, low: u32, high: u32) -> Result<Option<u32>, Refused>
-    ensures meant { ReadsAs (λ n. n) result (number_at low high (option_map (λ v. view v.now) value.entry)) }
-    ensures within { IfOk result (λ n. IfSome n (λ m. (low ≤ m) × (m ≤ high))) }
+/// A number within limits.
+fn number(value: &Value, low: u32, high: u32, position: Position) -> Result<u32, Refused>
+    ensures meant { ReadsAs (λ n. n) result (number_within low high position (view value.now)) }
+    ensures low { IfOk result (λ n. low ≤ n) }
+    ensures high { IfOk result (λ n. n ≤ high) }
 {
-    let Some(value) = value else {
-        return Ok(None);
-    };
     let Some(n) = value.as_integer() else {
-        return Err(refuse(RefusalKind::WrongType));
+        return Err(refuse(RefusalKind::WrongType, position));
     };
     if n >= i64::from(low) && n <= i64::from(high) {
-        Ok(Some(n as u32))
+        Ok(n as u32)
     } else {
-        Err(refuse(RefusalKind::OutOfRange))
+        Err(refuse(RefusalKind::OutOfRange, position))
     }
 }
 
-/// A text of so many bytes, which has to be there.
-fn text(
+/// A number within limits, where there is a value.
+pub(crate) fn number_or_none(
     value: Option<&Value>,
-    low: usize,
-    high: usize,
-    stream: Option<u32>,
-) -> Result<&str, Refused>
-    ensures meant { ReadsAs (λ s. s.now) result (text_at low high stream (option_map (λ v. view v.now) value.entry)) }
+    low: u32,
+    high: u32,
+    position: Position,
+) -> Result<Option<u32>, Refused>
+    ensures meant { ReadsAs (λ n. n) result (where_given (number_within low high position) (option_map (λ v. view v.now) value.entry)) }
+    ensures within { IfOk result (λ n. IfSome n (λ m. (low ≤ m) × (m ≤ high))) }
+{
+    match value {
+        Some(value) => Ok(Some(number(value, low, high, position)?)),
+        None => Ok(None),
+    }
+}
+
+/// A text of so many bytes.
+fn text(value: &Value, low: usize, high: usize, position: Position) -> Result<&str, Refused>
+    ensures meant { ReadsAs (λ s. s.now) result (text_that (is_sized low high) position (view value.now)) }
     ensures sound { IfOk result (λ s. is_sized low high s.now ≡ true) }
 {
-    let Some(value) = value else {
-        return Err(refuse_in(RefusalKind::WrongType, stream));
-    };
     let Some(text) = value.as_str() else {
-        return Err(refuse_in(RefusalKind::WrongType, stream));
+        return Err(refuse(RefusalKind::WrongType, position));
     };
     if text.len() >= low && text.len() <= high {
         Ok(text)
     } else {
-        Err(refuse_in(RefusalKind::OutOfRange, stream))
+        Err(refuse(RefusalKind::OutOfRange, position))
     }
 }
 
@@ -99,30 +105,33 @@ pub(crate) fn word(
     value: Option<&Value>,
     low: usize,
     high: usize,
-    stream: Option<u32>,
+    position: Position,
 ) -> Result<Word, Refused>
-    ensures meant { ReadsAs (λ w. w) result (text_at low high stream (option_map (λ v. view v.now) value.entry)) }
+    ensures meant { ReadsAs (λ w. w) result (required (text_that (is_sized low high) position) position (option_map (λ v. view v.now) value.entry)) }
     ensures sound { IfOk result (λ w. is_sized low high w ≡ true) }
 {
-    let text = text(value, low, high, stream)?;
+    let Some(value) = value else {
+        return Err(refuse(RefusalKind::WrongType, position));
+    };
+    let text = text(value, low, high, position)?;
     Ok(Word::of(alloc, text)?)
 }
 
 /// A text of so many bytes, where there is a value, as a line.
-pub(crate) fn line(
+pub(crate) fn line_or_none(
     alloc: Global,
     value: Option<&Value>,
     low: usize,
     high: usize,
-    stream: Option<u32>,
+    position: Position,
 ) -> Result<Option<Line>, Refused>
-    ensures meant { ReadsAs (λ o. o) result (text_or_none_at low high stream (option_map (λ v. view v.now) value.entry)) }
+    ensures meant { ReadsAs (λ o. o) result (where_given (text_that (is_sized low high) position) (option_map (λ v. view v.now) value.entry)) }
     ensures sound { IfOk result (λ o. IfSome o (λ x. is_sized low high x ≡ true)) }
 {
-    if value.is_none() {
+    let Some(value) = value else {
         return Ok(None);
-    }
-    let text = text(value, low, high, stream)?;
+    };
+    let text = text(value, low, high, position)?;
     Ok(Some(Line::copy_of(alloc, text.as_bytes())?))
 }
 
@@ -141,26 +150,26 @@ fn are_texts(values: &[Value]) -> bool
 }
 
 /// The values of an array, or none where there is no value.
-fn array(value: Option<&Value>, stream: Option<u32>) -> Result<&[Value], Refused>
-    ensures { ReadsAs (λ s. items_view s.now) result (array_at stream (option_map (λ v. view v.now) value.entry)) }
+fn array(value: Option<&Value>, position: Position) -> Result<&[Value], Refused>
+    ensures { ReadsAs (λ s. items_view s.now) result (array_at position (option_map (λ v. view v.now) value.entry)) }
 {
     let Some(value) = value else {
         return Ok(&[]);
     };
     match value.as_array() {
         Some(values) => Ok(values.as_slice()),
-        None => Err(refuse_in(RefusalKind::WrongType, stream)),
+        None => Err(refuse(RefusalKind::WrongType, position)),
     }
 }
 
 /// The texts of an array, or none where there is no value.
-pub(crate) fn texts(value: Option<&Value>, stream: Option<u32>) -> Result<&[Value], Refused>
-    ensures meant { ReadsAs (λ s. seen_as as_str s.now) result (list_at as_str stream (option_map (λ v. view v.now) value.entry)) }
+pub(crate) fn texts(value: Option<&Value>, position: Position) -> Result<&[Value], Refused>
+    ensures meant { ReadsAs (λ s. seen_as as_str s.now) result (list_at as_str position (option_map (λ v. view v.now) value.entry)) }
     ensures seen { IfOk result (λ s. is_some (each_as as_str (items_view s.now)) ≡ true) }
 {
-    let values = array(value, stream)?;
+    let values = array(value, position)?;
     if !are_texts(values) {
-        return Err(refuse_in(RefusalKind::WrongType, stream));
+        return Err(refuse(RefusalKind::WrongType, position));
     }
     Ok(values)
 }
@@ -171,12 +180,12 @@ pub(crate) fn tables(value: Option<&Value>, most: usize) -> Result<&[Value], Ref
     ensures seen { IfOk result (λ s. is_some (each_as as_table (items_view s.now)) ≡ true) }
     ensures few { IfOk result (λ s. length s.now ≤ most) }
 {
-    let values = array(value, None)?;
+    let values = array(value, Position::Nowhere)?;
     if !are_tables(values) {
-        return Err(refuse(RefusalKind::WrongType));
+        return Err(refuse(RefusalKind::WrongType, Position::Nowhere));
     }
     if values.len() > most {
-        return Err(refuse(RefusalKind::OutOfRange));
+        return Err(refuse(RefusalKind::OutOfRange, Position::Nowhere));
     }
     Ok(values)
 }

@@ -1,161 +1,182 @@
 //! The word of one step.
-ghost use Rattle.std.specs.Prelude.{◌≡◌, ◌≤◌, ◌<◌, ◌^◌, true, length, option_map, IfOk};
-ghost use Rattle.std.specs.List.{list_all};
+ghost use Rattle.std.specs.Prelude.{◌≡◌, ◌≤◌, ◌==◌, true, option_map, IfOk};
+ghost use Rattle.std.specs.List.{list_all, position};
 ghost use Rattle.std.specs.Char.{is_ascii_digit};
-ghost use Rattle.pipeline_desc.specs.Limits.{is_sized, is_sound_step};
+ghost use Rattle.pipeline_desc.specs.Limits.{is_sized};
 ghost use Rattle.pipeline_desc.specs.Reading.{ReadsAs};
-ghost use Rattle.pipeline_desc.specs.Steps.{argument_of, is_number, step_name, number_argument, written_number, plain_pipe, step_meant, step_named, step_with, step_without, text_argument};
+ghost use Rattle.pipeline_desc.specs.Sound.{is_sound_step};
+ghost use Rattle.pipeline_desc.specs.Steps.{before_space, behind_space, is_number, number_argument, plain_pipe, step_meant, step_named, step_with, text_argument, written_number};
 
-use crate::refusal::{RefusalKind, Refused, refuse_step};
+use crate::refusal::{Position, RefusalKind, Refused, refuse};
+use crate::setting::Setting;
 use crate::step::Step;
 use chunk_core::Line;
 use pull_nodes::Pipe;
 use std::alloc::Global;
 
 /// Each byte is a decimal digit.
-fn are_digits(text: &str) -> bool
+fn are_digits(text: &[u8]) -> bool
     ensures { result ≡ list_all is_ascii_digit text.now }
 {
-    text.bytes().all(|b| b.is_ascii_digit())
+    text.iter().all(|b| b.is_ascii_digit())
 }
 
 /// The text is one to nine decimal digits.
-fn is_number(text: &str) -> bool
+fn is_number(text: &[u8]) -> bool
     ensures { result ≡ is_number text.now }
 {
     text.len() >= 1 && text.len() <= 9 && are_digits(text)
 }
 
 /// The number that one to nine digits write.
-fn number(text: &str) -> Option<u32>
+fn number(text: &[u8]) -> Option<u32>
     ensures { result ≡ written_number text.now }
 {
     if !is_number(text) {
         return None;
     }
-    match text.parse::<u32>() {
-        Ok(n) => Some(n),
-        Err(_) => None,
+    let mut n: u32 = 0;
+    for digit in text {
+        n = 10 * n + u32::from(*digit - b'0');
     }
+    Some(n)
 }
 
-/// The number within limits that is the argument of step i of stream k.
-fn number_in(text: &str, low: u32, high: u32, k: u32, i: u32) -> Result<u32, Refused>
-    ensures meant { ReadsAs (λ n. n) result (number_argument k i low high text.now) }
+/// The number within limits that is a step's argument.
+fn number_in(text: &[u8], low: u32, high: u32, position: Position) -> Result<u32, Refused>
+    ensures meant { ReadsAs (λ n. n) result (number_argument low high position text.now) }
     ensures low { IfOk result (λ n. low ≤ n) }
     ensures high { IfOk result (λ n. n ≤ high) }
 {
     let Some(n) = number(text) else {
-        return Err(refuse_step(RefusalKind::OutOfRange, k, i));
+        return Err(refuse(RefusalKind::OutOfRange, position));
     };
     if n >= low && n <= high {
         Ok(n)
     } else {
-        Err(refuse_step(RefusalKind::OutOfRange, k, i))
+        Err(refuse(RefusalKind::OutOfRange, position))
     }
 }
 
-/// The text of so many bytes that is the argument of step i of stream k.
+/// The text of so many bytes that is a step's argument.
 fn text_in(
     alloc: Global,
-    text: &str,
+    text: &[u8],
     low: usize,
     high: usize,
-    k: u32,
-    i: u32,
+    position: Position,
 ) -> Result<Line, Refused>
-    ensures meant { ReadsAs (λ x. x) result (text_argument k i low high text.now) }
+    ensures meant { ReadsAs (λ x. x) result (text_argument low high position text.now) }
     ensures sound { IfOk result (λ x. is_sized low high x ≡ true) }
 {
     if text.len() >= low && text.len() <= high {
-        Ok(Line::copy_of(alloc, text.as_bytes())?)
+        Ok(Line::copy_of(alloc, text)?)
     } else {
-        Err(refuse_step(RefusalKind::OutOfRange, k, i))
+        Err(refuse(RefusalKind::OutOfRange, position))
     }
 }
 
 /// The pipe of a step that takes no argument.
-fn plain(name: &str) -> Option<Pipe>
+fn plain(name: &[u8]) -> Option<Pipe>
     ensures { result ≡ plain_pipe name.now }
 {
-    if name == "utf8" {
+    if name == b"utf8".as_slice() {
         Some(Pipe::Utf8)
-    } else if name == "lossy" {
+    } else if name == b"lossy".as_slice() {
         Some(Pipe::Lossy)
-    } else if name == "upper" {
+    } else if name == b"upper".as_slice() {
         Some(Pipe::Upper)
-    } else if name == "hex" {
+    } else if name == b"hex".as_slice() {
         Some(Pipe::Hex)
-    } else if name == "lines" {
+    } else if name == b"lines".as_slice() {
         Some(Pipe::Lines)
-    } else if name == "changes" {
+    } else if name == b"changes".as_slice() {
         Some(Pipe::Changes)
-    } else if name == "number" {
+    } else if name == b"number".as_slice() {
         Some(Pipe::Number)
-    } else if name == "count" {
+    } else if name == b"count".as_slice() {
         Some(Pipe::Count)
     } else {
         None
     }
 }
 
-/// A step without an argument.
-fn without(name: &str, k: u32, i: u32) -> Result<Step, Refused>
-    ensures meant { ReadsAs (λ s. s) result (step_without k i name.now) }
+/// A step with an argument.
+fn with(alloc: Global, name: &[u8], argument: &[u8], position: Position) -> Result<Step, Refused>
+    ensures meant { ReadsAs (λ s. s) result (step_with position name.now argument.now) }
     ensures sound { IfOk result (λ s. is_sound_step s ≡ true) }
 {
+    if name == b"take".as_slice() {
+        let n = number_in(argument, 0, 999_999_999, position)?;
+        return Ok(Step::Take(u64::from(n)));
+    }
+    if name == b"drop".as_slice() {
+        let n = number_in(argument, 0, 999_999_999, position)?;
+        return Ok(Step::Pipe(Pipe::Drop(u64::from(n))));
+    }
+    if name == b"filter".as_slice() {
+        let text = text_in(alloc, argument, 1, 1024, position)?;
+        return Ok(Step::Pipe(Pipe::Filter(text)));
+    }
+    if name == b"intersperse".as_slice() {
+        let text = text_in(alloc, argument, 0, 64, position)?;
+        return Ok(Step::Pipe(Pipe::Intersperse(text)));
+    }
+    if name == b"chunk".as_slice() {
+        let n = number_in(argument, 1, 64, position)?;
+        return Ok(Step::Pipe(Pipe::ChunkN(n)));
+    }
+    Err(refuse(RefusalKind::UnknownStep, position))
+}
+
+/// A step by its name, and its argument where there is one.
+fn named(
+    alloc: Global,
+    name: &[u8],
+    argument: Option<&[u8]>,
+    position: Position,
+) -> Result<Step, Refused>
+    ensures meant { ReadsAs (λ s. s) result (step_named position name.now (option_map (λ t. t.now) argument.entry)) }
+    ensures sound { IfOk result (λ s. is_sound_step s ≡ true) }
+{
+    if let Some(argument) = argument {
+        return with(alloc, name, argument, position);
+    }
     match plain(name) {
         Some(pipe) => Ok(Step::Pipe(pipe)),
-        None => Err(refuse_step(RefusalKind::UnknownStep, k, i)),
+        None => Err(refuse(RefusalKind::UnknownStep, position)),
     }
 }
 
-/// A step with an argument.
-fn with(alloc: Global, name: &str, argument: &str, k: u32, i: u32) -> Result<Step, Refused>
-    ensures meant { ReadsAs (λ s. s) result (step_with k i name.now argument.now) }
-    ensures sound { IfOk result (λ s. is_sound_step s ≡ true) }
+/// Where the first space stands.
+fn first_space(word: &[u8]) -> Option<usize>
+    ensures { result ≡ position (λ b. b == 32) word.now }
 {
-    if name == "take" {
-        let n = number_in(argument, 0, 999_999_999, k, i)?;
-        return Ok(Step::Take(u64::from(n)));
-    }
-    if name == "drop" {
-        let n = number_in(argument, 0, 999_999_999, k, i)?;
-        return Ok(Step::Pipe(Pipe::Drop(u64::from(n))));
-    }
-    if name == "filter" {
-        let text = text_in(alloc, argument, 1, 1024, k, i)?;
-        return Ok(Step::Pipe(Pipe::Filter(text)));
-    }
-    if name == "intersperse" {
-        let text = text_in(alloc, argument, 0, 64, k, i)?;
-        return Ok(Step::Pipe(Pipe::Intersperse(text)));
-    }
-    if name == "chunk" {
-        let n = number_in(argument, 1, 64, k, i)?;
-        return Ok(Step::Pipe(Pipe::ChunkN(n)));
-    }
-    Err(refuse_step(RefusalKind::UnknownStep, k, i))
+    word.iter().position(|b| *b == b' ')
 }
 
 /// A word cut at its first space: the name, and the argument where there is one.
-fn cut(word: &str) -> (&str, Option<&str>)
-    ensures name { result.0.now ≡ step_name word.now }
-    ensures argument { option_map (λ s. s.now) result.1 ≡ argument_of word.now }
+fn cut(word: &[u8]) -> (&[u8], Option<&[u8]>)
+    ensures name { result.0.now ≡ before_space word.now }
+    ensures argument { option_map (λ t. t.now) result.1 ≡ behind_space word.now }
 {
-    match word.split_once(' ') {
-        Some((name, argument)) => (name, Some(argument)),
+    match first_space(word) {
+        Some(at) => (&word[..at], Some(&word[at + 1..])),
         None => (word, None),
     }
 }
 
-/// The step that a word means, as step i of stream k.
-pub(crate) fn step(alloc: Global, word: &str, k: u32, i: u32) -> Result<Step, Refused>
-    ensures meant { ReadsAs (λ s. s) result (step_meant k i word.now) }
+/// The step that a word means, as step i of stream k. No step names a table as yet.
+pub(crate) fn step(
+    alloc: Global,
+    _setting: &Setting<'_>,
+    word: &[u8],
+    k: u32,
+    i: u32,
+) -> Result<Step, Refused>
+    ensures meant { ReadsAs (λ s. s) result (step_meant _setting.now k i word.now) }
     ensures sound { IfOk result (λ s. is_sound_step s ≡ true) }
 {
-    match cut(word) {
-        (name, None) => without(name, k, i),
-        (name, Some(argument)) => with(alloc, name, argument, k, i),
-    }
+    let (name, argument) = cut(word);
+    named(alloc, name, argument, Position::AtStep(k, i))
 }

@@ -1,7 +1,7 @@
-use Rattle.std.proofs.Common.{◌≡◌, ◌∷◌, ◌++◌, [], arith, rules}
+use Rattle.std.proofs.Common.{◌≡◌, ◌∷◌, ◌++◌, ◌∙◌, ℕ, List, [], Some, ap, arith, rules}
 use Rattle.toml.specs.Data.{as_str}
 use Rattle.pipeline_desc.specs.Steps.{step_meant}
-use Rattle.pipeline_desc.specs.Limits.{is_sound_step}
+use Rattle.pipeline_desc.specs.Sound.{is_sound_step}
 use Rattle.pipeline_desc.proofs.Each.{all_and, handed_on}
 use Rattle.pipeline_desc.proofs.Entries.{entries_end, entry_fails, entry_next, entry_there}
 use Rattle.pipeline_desc.proofs.steps.each_step.Goals as goal
@@ -13,8 +13,8 @@ unreachable-requires c =
 pub returns-in_err-step-clause-meant : goal.returns-in_err-step-clause-meant
 returns-in_err-step-clause-meant c =
     handed_on (λ s. s) c.from_residual.result _ _ c.from_residual.ensures.1
-    (entry_fails as_str (step_meant c.args.k) c.args.words.now c.requires c.loop-i.steps c.loop-i.i _ c.loop-i.invariant.read
-    c.index-words-i.result c.in-Some.word.now _ (omega arith) c.index-words-i.is c.in-Some.ensures c.in_err-step.ensures.meant)
+    (entry_fails as_str (step_meant c.args.setting.now c.args.k) c.args.words.now c.requires c.loop-i.steps c.loop-i.i _ c.loop-i.invariant.read
+    c.index-words-i.result c.as_bytes.result.now _ (omega arith) c.index-words-i.is (ap (λ (t : List ℕ). Some t) c.as_bytes.ensures.value ∙ c.in-Some.ensures) c.in_err-step.ensures.meant)
 
 pub loop-i-preserved : goal.loop-i-preserved
 loop-i-preserved c =
@@ -22,11 +22,11 @@ loop-i-preserved c =
     record {
       count = c.loop-i.invariant.count;
       read = rw pushed
-          (entry_next as_str (step_meant c.args.k) c.args.words.now c.requires c.loop-i.steps c.loop-i.i _ c.loop-i.invariant.read
-          c.index-words-i.result c.in-Some.word.now c.in_ok-step.step (omega arith) c.index-words-i.is c.in-Some.ensures c.in_ok-step.ensures.meant);
+          (entry_next as_str (step_meant c.args.setting.now c.args.k) c.args.words.now c.requires c.loop-i.steps c.loop-i.i _ c.loop-i.invariant.read
+          c.index-words-i.result c.as_bytes.result.now c.in_ok-step.step (omega arith) c.index-words-i.is (ap (λ (t : List ℕ). Some t) c.as_bytes.ensures.value ∙ c.in-Some.ensures) c.in_ok-step.ensures.meant);
       sound = rw pushed (all_and is_sound_step c.loop-i.steps c.in_ok-step.step c.loop-i.invariant.sound c.in_ok-step.ensures.sound);
     }
 
 pub returns-clause-meant : goal.returns-clause-meant
 returns-clause-meant c =
-    entries_end as_str (step_meant c.args.k) c.args.words.now c.requires c.loop-i.steps c.loop-i.i _ c.loop-i.invariant.read (omega arith)
+    entries_end as_str (step_meant c.args.setting.now c.args.k) c.args.words.now c.requires c.loop-i.steps c.loop-i.i _ c.loop-i.invariant.read (omega arith)

@@ -1,7 +1,7 @@
 use Rattle.std.proofs.Common.{◌≡◌, drop, length, true}
 use Rattle.std.specs.List.{list_all}
 use Rattle.toml.specs.Data.{as_str}
-use Rattle.pipeline_desc.specs.Limits.{is_sound_step}
+use Rattle.pipeline_desc.specs.Sound.{is_sound_step}
 use Rattle.pipeline_desc.specs.Reading.{each_from}
 use Rattle.pipeline_desc.specs.Steps.{step_meant}
 use Rattle.pipeline_desc.specs.Values.{seen_as}
@@ -11,6 +11,6 @@ use Rattle.pipeline_desc.proofs.steps.each_step.Given as goal
 abbrev pub invariant-loop-i : goal.invariant-loop-i
 invariant-loop-i l = record {
   count : l.count ≡ length l.words;
-  read : each_from (step_meant l.k) 0 (seen_as as_str l.words) ≡ after l.steps (each_from (step_meant l.k) l.i (drop l.i (seen_as as_str l.words)));
+  read : each_from (step_meant l.setting l.k) 0 (seen_as as_str l.words) ≡ after l.steps (each_from (step_meant l.setting l.k) l.i (drop l.i (seen_as as_str l.words)));
   sound : list_all is_sound_step l.steps ≡ true;
 }

@@ -1,18 +1,15 @@
-use Rattle.std.proofs.Common.{sym, Some, None, subst}
+use Rattle.std.proofs.Common.{Some, None}
 use Rattle.std.proofs.lemmas.Bool.{both_ways}
 use Rattle.toml.specs.View.{table_view}
-use Rattle.pipeline_desc.specs.Meant.{PlanMeant}
-use Rattle.pipeline_desc.specs.Reading.{Reading, ReadsAs}
 use Rattle.pipeline_desc.proofs.Documents.{not_text, of_text}
-use Rattle.pipeline_desc.proofs.reader.read.Goals as goal
+use Rattle.pipeline_desc.proofs.reader.document.Goals as goal
 
 pub returns-in_default : goal.returns-in_default
 returns-in_default c = rw c.refuse-in_default.ensures (not_text c.args.bytes.now c.if-bytes-gt-LONGEST.false c.in_default.ensures.cases.0)
 
 pub returns-in-Ok-table_from_str : goal.returns-in-Ok-table_from_str
 returns-in-Ok-table_from_str c =
-    let same = of_text c.args.bytes.now (Some (table_view c.in-Ok-table_from_str.table)) c.if-bytes-gt-LONGEST.false c.in-Ok.ensures.cases.1 (rw c.in-Ok.ensures.cases.0 at c.in-Ok-table_from_str.ensures.ok) in
-    subst (λ (q : Reading PlanMeant). ReadsAs (λ p. p) c.plan_of_table.result q) (sym same) c.plan_of_table.ensures
+    of_text c.args.bytes.now (Some (table_view c.in-Ok-table_from_str.table)) c.if-bytes-gt-LONGEST.false c.in-Ok.ensures.cases.1 (rw c.in-Ok.ensures.cases.0 at c.in-Ok-table_from_str.ensures.ok)
 
 pub returns-else-is_memory : goal.returns-else-is_memory
 returns-else-is_memory c =
