@@ -1,0 +1,9 @@
+pub mod Queue
+pub mod Telling
+pub mod Ending
+pub mod Growing
+pub mod Passing
+pub mod Keeping
+pub mod Outs
+pub mod Settling
+pub mod Leavers

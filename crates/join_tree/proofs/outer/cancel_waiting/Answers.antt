@@ -1,0 +1,25 @@
+use Rattle.std.proofs.Common.{arith}
+use Rattle.scope_tree.specs.Trees.{seen}
+use Rattle.join_tree.proofs.Growing.{main_cancels, main_may_cancel}
+use Rattle.join_tree.proofs.Keeping.{keeps_cancels, main_no_strangers}
+use Rattle.join_tree.proofs.outer.cancel_waiting.Goals as goal
+
+pub cancel-requires-clause-may : goal.cancel-requires-clause-may
+cancel-requires-clause-may g c = let m = c.requires.main in let a = main_may_cancel (seen g.S.RowSeat.view c.args.tree.now) m.2 m.3 c.args.lease.stream c.args.lease.rows.items m.4 m.5 in (a.kept, a.ended)
+
+pub cancel-requires-clause-pairs : goal.cancel-requires-clause-pairs
+cancel-requires-clause-pairs g c = let m = c.requires.main in (main_may_cancel (seen g.S.RowSeat.view c.args.tree.now) m.2 m.3 c.args.lease.stream c.args.lease.rows.items m.4 m.5).pairs
+
+pub cancel-requires-clause-room : goal.cancel-requires-clause-room
+cancel-requires-clause-room g c =
+    let m = c.requires.main in
+    let n = main_no_strangers (seen g.S.RowSeat.view c.args.tree.now) m.2 m.3 c.args.lease.stream c.args.lease.rows.items m.4 m.5 in
+    let u = c.requires.fits.sound.used in omega (n, u, arith)
+
+pub returns-clause-main : goal.returns-clause-main
+returns-clause-main g c width n p us h is = main_cancels (seen g.S.RowSeat.view c.args.tree.now) (seen g.S.RowSeat.view c.cancel.new.self) p us c.args.lease.stream c.args.lease.rows.items h is c.cancel.ensures.cancels c.cancel.ensures.scopes
+
+pub returns-clause-guests : goal.returns-clause-guests
+returns-clause-guests g c =
+    let m = c.requires.main in
+    keeps_cancels (seen g.S.RowSeat.view c.args.tree.now) (seen g.S.RowSeat.view c.cancel.new.self) m.2 m.3 c.args.lease.stream c.args.lease.rows.items m.4 m.5 c.cancel.ensures.cancels

@@ -1,0 +1,12 @@
+use Rattle.scope_tree.specs.Trees.{seen}
+use Rattle.join_tree.proofs.Growing.{main_closes}
+use Rattle.join_tree.proofs.Keeping.{keeps_closes}
+use Rattle.join_tree.proofs.outer.close_outer.Goals as goal
+
+pub returns-clause-main : goal.returns-clause-main
+returns-clause-main g c width n p h root = main_closes (seen g.S.RowSeat.view c.args.tree.now) (seen g.S.RowSeat.view c.close.new.self) p c.args.exit h root c.close.ensures.closes c.close.ensures.closed
+
+pub returns-clause-guests : goal.returns-clause-guests
+returns-clause-guests g c =
+    let m = c.requires.main in
+    keeps_closes (seen g.S.RowSeat.view c.args.tree.now) (seen g.S.RowSeat.view c.close.new.self) m.2 c.args.exit m.3 m.4 c.close.ensures.closes

@@ -1,0 +1,8 @@
+pub mod Progress
+pub mod Told
+pub mod Mains
+pub mod Guests
+pub mod Steps
+pub mod Settled
+pub mod Leaving
+pub mod Laws

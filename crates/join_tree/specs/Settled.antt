@@ -1,0 +1,39 @@
+-- What the ledger tells once all streams are back.
+use Rattle.std.specs.Prelude.{◌≡◌, ◌⊎◌, ℕ, ◌+◌, ◌<◌, ◌≤◌, List, length}
+use Rattle.chunk_core.specs.Lists.{IsAmong}
+use Rattle.res_ledger.specs.declared.event.Event.{Event}
+use Rattle.res_ledger.specs.declared.event.StreamNo.TheVariants.{Inner, Outer}
+use Rattle.res_ledger.specs.declared.event.What.TheVariants.{Acquire}
+use Rattle.res_ledger.specs.Order.{firsts}
+use Rattle.res_ledger.specs.Own.{opens, own}
+use Rattle.row_seat.specs.Views.{IsLedgerOf}
+use Rattle.run_rules.specs.Pace.{LeasesAhead, WithinWidth}
+use Rattle.scope_tree.specs.Calls.{Seen}
+use Rattle.scope_tree.specs.Released.{said}
+use Rattle.tree_families.specs.Families.{Split}
+use Rattle.tree_laws.specs.Ends.{IsFinishedLedger}
+use Rattle.tree_laws.specs.Whole.{IsWholeLedger}
+use Rattle.join_tree.specs.Progress.{Progress}
+use Rattle.join_tree.specs.Told.{IsTold}
+
+-- L is the ledger of the main tree b, which is as far as p says, once all streams are back
+pub record Settles {P : Type 0} (width n : ℕ) (b : Seen P) (p : Progress P) (L : List Event) : Type 0 where
+  -- it is lawful, complete and in order; leases are ahead, and no more than `width` of the n streams are open at once
+  pub ledger : IsLedgerOf b.seat L
+  pub whole : IsWholeLedger L
+  pub ahead : LeasesAhead L
+  pub within : WithinWidth width n L
+  -- what its events tell; the outer stream opened no more scopes than it had room for
+  pub told : IsTold p L
+  pub scopes : length (opens (own Outer L)) + 1 ≤ b.scopes
+  -- each event is the outer stream's or one of the n's
+  pub names : (e : Event) → IsAmong e L → (e.by ≡ Outer) ⊎ ((j : ℕ) × (j < n) × (e.by ≡ Inner j))
+  -- the streams that were leased for are among the n, and those that were dealt with among these
+  pub few : p.leased ≤ n
+  pub dealt : p.next ≤ p.leased
+  pub older : (m : Split) → IsAmong m p.splits → m.stream < p.next
+  -- the tree of each seat that was split off came back, and of its stream the ledger has just the events that it noted
+  pub met : (m : Split) → IsAmong m p.splits → (y : Seen P) × IsAmong y p.back × (y.seat.by ≡ Inner m.stream)
+  pub back : (y : Seen P) → IsAmong y p.back → IsFinishedLedger y b.seat L
+  -- each row on the shelf is one of the tables
+  pub shelf : (r : ℕ) → IsAmong r (firsts (said b.shelf)) → (s : ℕ) × IsAmong (Acquire r s) p.tables

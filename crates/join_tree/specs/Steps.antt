@@ -1,0 +1,40 @@
+-- What the calls of a main tree give.
+use Rattle.std.specs.Prelude.{◌≡◌, ℕ, ◌+◌, ◌<◌, ◌≤◌, Bool, List, Option, Some, None, Result, Ok, Err}
+use Rattle.std.specs.declared.alloc.AllocError.{AllocError}
+use Rattle.chunk_core.specs.declared.code.Exit.{Exit}
+use Rattle.chunk_core.specs.declared.code.Exit.TheVariants.{Succeeded}
+use Rattle.chunk_core.specs.Lists.{IsAmong}
+use Rattle.res_ledger.specs.declared.event.What.TheVariants.{Acquire}
+use Rattle.res_ledger.specs.Own.{leased_rows}
+use Rattle.row_seat.specs.declared.view.View.{View}
+use Rattle.row_seat.specs.Views.{next_stamp}
+use Rattle.scope_tree.specs.Calls.{Seen}
+use Rattle.scope_tree.specs.declared.leases.Lease.{Lease}
+use Rattle.scope_tree.specs.Words.{owed, words}
+use Rattle.tree_laws.specs.Lent.{Lent}
+use Rattle.join_tree.specs.Guests.{Guest}
+use Rattle.join_tree.specs.Mains.{IsMain}
+use Rattle.join_tree.specs.Progress.{Progress, closing, leasing}
+
+module _ {P : Type 0} where
+  -- beyond the events that are owed, at most n fewer may be noted
+  abbrev pub TakesEvents : ℕ → Seen P → Seen P → Type 0
+  TakesEvents n a b = a.seat.spare + owed b.seat ≤ b.seat.spare + n + owed a.seat
+
+  -- no seat went out or came in, and no right to an empty row and no lease that the tree made was lost
+  pub record KeepsGuests (a b : Seen P) : Type 0 where
+    pub out : b.seat.out ≡ a.seat.out
+    pub splits : b.seat.splits ≡ a.seat.splits
+    pub empty : (r : ℕ) → IsAmong r a.seat.empty → IsAmong r b.seat.empty
+    pub lent : (j : ℕ) (T : List ℕ) → Lent a.seat j T → Lent b.seat j T
+
+  -- the stream j as a guest, whose seat is split off now, with a lease on the rows T
+  abbrev pub guest_of : View P → ℕ → List ℕ → Guest
+  guest_of v j T = record { stream = j; floor = next_stamp v.events; rows = T }
+
+module _ {P : Type 0} (ends : P → Exit → Bool → P → Type 0) (width n : ℕ) (b c : Seen P) (p : Progress P) where
+  -- a pull leased the root for the next stream, with the rows that are open in it, which are those of tables, or closed it as no stream was left; where memory was wanting nothing was done
+  abbrev pub Pulls : Result (Option Lease) AllocError → Type 0
+  Pulls (Ok (Some l)) = (p.leased < n) × (l.stream ≡ p.leased) × (l.rows.items ≡ leased_rows (words b.seat) 0) × ((r : ℕ) → IsAmong r l.rows.items → (s : ℕ) × IsAmong (Acquire r s) p.tables) × IsMain ends width n c (leasing p l.rows.items)
+  Pulls (Ok None) = (p.leased ≡ n) × IsMain ends width n c (closing p Succeeded)
+  Pulls (Err e) = (p.leased < n) × (c ≡ b)

@@ -1,0 +1,51 @@
+-- What the events of a main tree tell.
+use Rattle.std.specs.Prelude.{◌≡◌, ◌⊎◌, ◌↔◌, ℕ, zero, suc, ◌<◌, Bool, true, false, List, Some}
+use Rattle.chunk_core.specs.declared.code.Exit.{Exit}
+use Rattle.chunk_core.specs.declared.code.Exit.TheVariants.{Canceled}
+use Rattle.chunk_core.specs.Lists.{IsAmong}
+use Rattle.res_ledger.specs.declared.event.Event.{Event}
+use Rattle.res_ledger.specs.declared.event.StreamNo.{StreamNo}
+use Rattle.res_ledger.specs.declared.event.StreamNo.TheVariants.{Inner, Outer}
+use Rattle.res_ledger.specs.declared.event.What.{What}
+use Rattle.res_ledger.specs.declared.event.What.TheVariants.{Acquire, Cancel, Close, Final, Lease}
+use Rattle.res_ledger.specs.Ledger.{Notes}
+use Rattle.scope_tree.specs.Calls.{Seen}
+use Rattle.tree_families.specs.Families.{Split}
+use Rattle.join_tree.specs.Progress.{Progress}
+
+-- what the outer stream may note of its tables: no Lease, no Cancel and no Close of its root
+abbrev pub is_table_word : What → Bool
+is_table_word (Lease j s) = false
+is_table_word (Cancel j x) = false
+is_table_word (Close zero x) = false
+is_table_word w = true
+
+module _ {P : Type 0} (p : Progress P) where
+  -- what the outer stream may have noted: Leases of its root for the streams below `leased`, Cancels of streams that were dealt with, as canceled, the Close of its root with the exit that is told, Finals of its tables' rows, and what else it noted of its tables
+  abbrev pub IsOuterWord : What → Type 0
+  IsOuterWord (Lease j s) = (s ≡ 0) × (j < p.leased)
+  IsOuterWord (Cancel j x) = (x ≡ Canceled) × (j < p.next)
+  IsOuterWord (Close zero x) = p.root ≡ Some x
+  IsOuterWord (Close (suc s) x) = IsAmong (Close (suc s) x) p.tables
+  IsOuterWord (Final r x ok) = (s : ℕ) × IsAmong (Acquire r s) p.tables
+  IsOuterWord w = IsAmong w p.tables
+
+  -- the seat of the stream j was split off
+  abbrev pub IsBegun : ℕ → Type 0
+  IsBegun j = (m : Split) × IsAmong m p.splits × (m.stream ≡ j)
+
+  -- what the events L tell of a main tree that is as far as p
+  pub record IsTold (L : List Event) : Type 0 where
+    -- what the outer stream noted, and that no other noted a Lease
+    pub outer : (w : What) → Notes L Outer w → IsOuterWord w
+    pub lessor : (k : StreamNo) (j s : ℕ) → Notes L k (Lease j s) → k ≡ Outer
+    -- it leased for each stream below `leased`, and closed its root as is told
+    pub leases : (j : ℕ) → j < p.leased → Notes L Outer (Lease j 0)
+    pub root : (x : Exit) → p.root ≡ Some x → Notes L Outer (Close 0 x)
+    -- of the streams that were dealt with it cancelled those that weren't begun, and no others
+    pub dealt : (j : ℕ) → j < p.next → IsBegun j ⊎ Notes L Outer (Cancel j Canceled)
+    pub skipped : (j : ℕ) (x : Exit) → Notes L Outer (Cancel j x) → ¬ (IsBegun j)
+    -- each other event is of a stream whose tree came back, and is one that the tree noted
+    pub whose : (e : Event) → IsAmong e L → (e.by ≡ Outer) ⊎ ((y : Seen P) × IsAmong y p.back × (e.by ≡ y.seat.by))
+    pub own : (y : Seen P) → IsAmong y p.back → (e : Event) → e.by ≡ y.seat.by → IsAmong e L ↔ IsAmong e y.seat.events
+    pub back : (y : Seen P) → IsAmong y p.back → (j : ℕ) × (y.seat.by ≡ Inner j) × IsBegun j

@@ -1,0 +1,92 @@
+//! What the outer stream does: it begins, is pulled, and ends.
+ghost use Rattle.std.specs.Prelude.{◌≡◌, ℕ, ◌+◌, ◌<◌, ◌≤◌, ◌∷◌, List, Some, None};
+ghost use Rattle.chunk_core.specs.declared.code.Exit.{Exit};
+ghost use Rattle.res_ledger.specs.declared.event.StreamNo.TheVariants.{Outer};
+ghost use Rattle.row_seat.specs.Views.{OthersFit, start};
+ghost use Rattle.scope_tree.specs.Calls.{KeepsScopes, Seen};
+ghost use Rattle.scope_tree.specs.Released.{away};
+ghost use Rattle.scope_tree.specs.Trees.{Fits, seen};
+ghost use Rattle.scope_tree.specs.Words.{owed};
+ghost use Rattle.join_tree.specs.Mains.{IsMain};
+ghost use Rattle.join_tree.specs.Progress.{Progress, closing, none_done, skipping};
+ghost use Rattle.join_tree.specs.Steps.{KeepsGuests, Pulls, TakesEvents};
+
+use chunk_core::Exit;
+use row_seat::RowSeat;
+use scope_tree::{Finish, Lease, Room, Tree};
+use std::alloc::{AllocError, Global};
+
+/// The main tree of a run, over the first seat, with its root open.
+pub fn begin<S: RowSeat>(seat: S, room: Room<S::Pay>) -> Tree<S>
+where
+    S::Pay: Finish,
+    requires start { (rows events : ℕ) × (1 ≤ events) × (S.view seat ≡ start Outer rows events (S.view seat).splits) }
+    ensures main { (width n : ℕ) → IsMain S.Pay.ends width n (seen S.view result) (none_done S.Pay) }
+    ensures seat { (seen S.view result).seat ≡ S.view seat }
+    ensures room { ((seen S.view result).scopes ≡ room.scopes) × ((seen S.view result).rows ≡ room.rows) }
+    ensures owed { owed (seen S.view result).seat ≡ 1 }
+    ensures fits { (d : S.Desk) → S.fits seat d → Fits S.view S.fits result d }
+{
+    Tree::new(seat, room)
+}
+
+/// Leases the root for the next stream, or closes it as succeeded where none is left. Where memory
+/// is wanting for the lease nothing was done.
+pub fn pull<S: RowSeat>(
+    alloc: Global,
+    tree: &mut Tree<S>,
+    desk: &mut S::Desk,
+    leased: u32,
+    streams: u32,
+) -> Result<Option<Lease>, AllocError>
+where
+    S::Pay: Finish,
+    requires fits { Fits S.view S.fits tree.old desk.old }
+    requires main { (width : ℕ) × (p : Progress S.Pay) × IsMain S.Pay.ends width streams (seen S.view tree.old) p × (p.root ≡ None) × (p.leased ≡ leased) }
+    requires free { leased < streams → owed (seen S.view tree.old).seat + 2 ≤ (seen S.view tree.old).seat.spare }
+    ensures pulls { (width : ℕ) (p : Progress S.Pay) → IsMain S.Pay.ends width streams (seen S.view tree.old) p → p.root ≡ None → p.leased ≡ leased → Pulls S.Pay.ends width streams (seen S.view tree.old) (seen S.view tree.new) p result }
+    ensures guests { KeepsGuests (seen S.view tree.old) (seen S.view tree.new) }
+    ensures events { TakesEvents 1 (seen S.view tree.old) (seen S.view tree.new) }
+    ensures fits { Fits S.view S.fits tree.new desk.new }
+    ensures others { OthersFit S.view S.fits Outer desk.old desk.new }
+{
+    if leased < streams {
+        let lease = tree.lease(alloc, desk, 0, leased)?;
+        Ok(Some(lease))
+    } else {
+        tree.close(desk, 0, Exit::Succeeded);
+        Ok(None)
+    }
+}
+
+/// Cancels the lease of the next stream, which is never begun.
+pub fn cancel_waiting<S: RowSeat>(tree: &mut Tree<S>, desk: &mut S::Desk, lease: Lease)
+where
+    S::Pay: Finish,
+    requires fits { Fits S.view S.fits tree.old desk.old }
+    requires main { (width n : ℕ) × (p : Progress S.Pay) × (us : List (ℕ × List ℕ)) × IsMain S.Pay.ends width n (seen S.view tree.old) p × (p.waits ≡ (lease.stream, lease.rows.items) ∷ us) }
+    requires free { owed (seen S.view tree.old).seat + 1 + away lease.rows.items (seen S.view tree.old).seat.opened ≤ (seen S.view tree.old).seat.spare }
+    ensures main { (width n : ℕ) (p : Progress S.Pay) (us : List (ℕ × List ℕ)) → IsMain S.Pay.ends width n (seen S.view tree.old) p → p.waits ≡ (lease.stream, lease.rows.items) ∷ us → IsMain S.Pay.ends width n (seen S.view tree.new) (skipping p us) }
+    ensures guests { KeepsGuests (seen S.view tree.old) (seen S.view tree.new) }
+    ensures events { TakesEvents (1 + away lease.rows.items (seen S.view tree.old).seat.opened) (seen S.view tree.old) (seen S.view tree.new) }
+    ensures fits { Fits S.view S.fits tree.new desk.new }
+    ensures others { OthersFit S.view S.fits Outer desk.old desk.new }
+{
+    tree.cancel(desk, lease, Exit::Canceled);
+}
+
+/// Closes the root with the exit of the outer stream, which gives no further stream.
+pub fn close_outer<S: RowSeat>(tree: &mut Tree<S>, desk: &mut S::Desk, exit: Exit)
+where
+    S::Pay: Finish,
+    requires fits { Fits S.view S.fits tree.old desk.old }
+    requires main { (width n : ℕ) × (p : Progress S.Pay) × IsMain S.Pay.ends width n (seen S.view tree.old) p × (p.root ≡ None) }
+    ensures main { (width n : ℕ) (p : Progress S.Pay) → IsMain S.Pay.ends width n (seen S.view tree.old) p → p.root ≡ None → IsMain S.Pay.ends width n (seen S.view tree.new) (closing p exit) }
+    ensures guests { KeepsGuests (seen S.view tree.old) (seen S.view tree.new) }
+    ensures events { TakesEvents 0 (seen S.view tree.old) (seen S.view tree.new) }
+    ensures owed { owed (seen S.view tree.new).seat ≡ 0 }
+    ensures fits { Fits S.view S.fits tree.new desk.new }
+    ensures others { OthersFit S.view S.fits Outer desk.old desk.new }
+{
+    tree.close(desk, 0, exit);
+}
