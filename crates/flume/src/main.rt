@@ -1,8 +1,8 @@
 //! The program: hands the real outside to the top call, and ends with its status.
 #![tactic(auto)]
 
-use chunk_core::{List, Word};
-use device_port::{FileDepot, MemSource, OpenGate, StdSink, put};
+use chunk_core::Word;
+use device_port::{FileDepot, OpenGate, StdSink, StdSource, put};
 use flume_cli::{Status, flume};
 use std::fs::File;
 use std::process::ExitCode;
@@ -49,9 +49,7 @@ fn status_of(error: &io::Error) -> Status {
 /// Makes the outside and does what the words say.
 fn run<R: Threads + Wait + Sync>(rt: HostRuntime, workers: &R, words: &[Word]) -> Status {
     let alloc = rt.alloc();
-    let Ok(mut src) = MemSource::new(alloc, &[], List::new(alloc)) else {
-        return refuse(&rt, Status::Memory);
-    };
+    let mut src = StdSource::new(rt.stdin());
     let mut depot = FileDepot::new(rt);
     let mut out = StdSink::new(rt.stdout());
     let mut err = StdSink::new(rt.stderr());
@@ -63,6 +61,9 @@ fn run<R: Threads + Wait + Sync>(rt: HostRuntime, workers: &R, words: &[Word]) -
 
 /// Tells standard error the line of the status.
 fn refuse(rt: &HostRuntime, status: Status) -> Status {
-    let _ = put(&mut StdSink::new(rt.stderr()), status.line().as_bytes());
+    let _ = put(
+        &mut StdSink::new(rt.stderr()),
+        status.line().as_str().as_bytes(),
+    );
     status
 }

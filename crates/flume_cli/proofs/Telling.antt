@@ -1,9 +1,9 @@
 -- A call, from the work that was done and how it was told.
-use Rattle.std.proofs.Common.{◌≡◌, ℕ, ◌+◌, ◌<◌, Bool, true, false, nat_lt, List, [], ◌++◌, length, take, drop, Option, Some, None, is_some, refl, sym, ◌∙◌, ap, subst, ⊎_elim, arith, append-nil, append_assoc, length-drop}
+use Rattle.std.proofs.Common.{◌≡◌, ℕ, ◌+◌, ◌<◌, Bool, true, false, nat_lt, List, [], ◌++◌, length, take, drop, Option, None, is_some, refl, sym, ◌∙◌, ap, subst, ⊎_elim, arith, append-nil, append_assoc, length-drop}
 use Rattle.std.proofs.lemmas.Bool.{both_ways, cases_Bool, le-ltb, lt-ltb}
 use Rattle.std.proofs.lemmas.List.{take-append-drop}
 use Rattle.std.specs.List.{list_any as any}
-use Rattle.chunk_core.specs.Texts.{frames_text}
+use Rattle.chunk_core.specs.Texts.{Frame, frames_text}
 use Rattle.res_ledger.specs.declared.event.Event.{Event}
 use Rattle.device_port.specs.Source.{SourceTold}
 use Rattle.device_port.specs.Depot.{DepotTold}
@@ -11,23 +11,26 @@ use Rattle.device_port.specs.Sink.{SinkTold, with_bytes, BreaksOff}
 use Rattle.device_port.proofs.Puts.{with_bytes_twice}
 use Rattle.run_rules.specs.declared.end.EndOf.{EndOf}
 use Rattle.run_rules.specs.Facts.{is_fault, is_memory, is_failed, has_event}
-use Rattle.run_rules.specs.Run.{Ran, IsUnmade}
+use Rattle.run_rules.specs.Run.{Performs, Ran, IsUnmade}
 use Rattle.run_rules.specs.Texts.{tail_text}
+use Rattle.run_rules.specs.Work.{Work}
+use Rattle.par_join.specs.Cat.{deed_of, and_one}
+use Rattle.par_join.specs.declared.outcome.Outcome.{Outcome}
 use Rattle.flume_cli.specs.declared.status.Status.{Status}
 use Rattle.flume_cli.specs.declared.status.Status.TheVariants as status
 use Rattle.flume_cli.specs.declared.report.Report.{Report}
-use Rattle.flume_cli.specs.declared.outcome.Outcome.{Outcome}
-use Rattle.flume_cli.specs.Words.{cat_path_of, command_by, is_meant}
+use Rattle.flume_cli.specs.Words.{Command, is_meant, command_of}
 use Rattle.flume_cli.specs.Status.{Causes, status_of, line_of}
-use Rattle.flume_cli.specs.Cat.{cat_work, deed_of, and_one, RunsCat}
-use Rattle.flume_cli.specs.Headline.{Call, Headline, Does, IsText, IsToldLine, SaysBegun, SaysTail}
+use Rattle.flume_cli.specs.Headline.{Call, HasStatus, IsText, IsToldLine, SaysBegun, SaysTail, TellsWork}
 use Rattle.flume_cli.specs.Call.{call_of}
-use Rattle.flume_cli.specs.Finish.{Reports, PrintsTail, Prints, status_by}
+use Rattle.flume_cli.specs.Finish.{PrintsTail, Prints, Tells, status_by}
 
-rose : (a b : ℕ) → b ≡ a + 1 → nat_lt a b ≡ true
+-- a count rose by one
+pub rose : (a b : ℕ) → b ≡ a + 1 → nat_lt a b ≡ true
 rose a b e = lt-ltb a b (omega arith)
 
-kept : (a b : ℕ) → b ≡ a → nat_lt a b ≡ false
+-- a count stayed
+pub kept : (a b : ℕ) → b ≡ a → nat_lt a b ≡ false
 kept a b e = le-ltb a b (omega arith)
 
 pub report_is : (r : Report) (s : Status) (es : List EndOf) (L : List Event) → r.status ≡ s → r.ends ≡ es → r.ledger ≡ L → r ≡ record { status = s; ends = es; ledger = L }
@@ -37,7 +40,7 @@ report_is r s es L p q t =
     ∙ ap (λ (x : List Event). let y : Report = record { status = s; ends = es; ledger = x } in y) t)
 
 abbrev by_flags : Bool → Bool → Bool → Bool → Status
-by_flags u m f n = status_of (record { words = true; unwritten = u; memory = m; faulty = f; unclean = n })
+by_flags u m f n = status_of (record { words = true; unread = false; refused = None; unwritten = u; memory = m; faulty = f; unclean = n })
 
 failed_is : (u m f n : Bool) → u ≡ true → status.NotWritten ≡ by_flags u m f n
 failed_is u m f n e = ap (λ b. by_flags b m f n) (sym e)
@@ -48,28 +51,46 @@ memory_is u f n e = ap (λ b. by_flags b true f n) (sym e)
 printed_is : (u f n : Bool) → u ≡ false → by_flags false false f n ≡ by_flags u false f n
 printed_is u f n e = ap (λ b. by_flags b false f n) (sym e)
 
-module _ (words : List (List ℕ)) (path : List ℕ) (src : SourceTold) (dold dnew : DepotTold) (so mid sn : SinkTold) (eold enew : SinkTold) (o : Outcome) (known : cat_path_of words ≡ Some path) (runs : RunsCat path 4096 dold dnew so mid o) where
+-- a work was done, of which these frames were printed
+pub record DoesWork (work : Work) (depot_old depot_new : DepotTold) (old new : SinkTold) (o : Outcome) (frames : List Frame) (cut : Option Frame) (rest : List ℕ) : Type 0 where
+  pub broke : is_some cut ≡ o.sink_failed
+  pub performs : Performs work (deed_of depot_old depot_new frames cut rest o)
+  pub wrote : new ≡ record (with_bytes old (frames_text frames ++ rest)) { faults = and_one o.sink_failed old.faults }
+  pub begun : o.ends ≡ [] → (o.sink_failed ≡ false) × (o.memory ≡ true)
+
+-- the work was told, with these frames
+pub record IsTold (work : Work) (c : Call) (frames : List Frame) (cut : Option Frame) : Type 0 where
+  pub causes : Causes
+  pub refused : causes.refused ≡ None
+  pub status : HasStatus c causes
+  pub tells : TellsWork work c causes
+  pub same_frames : tells.frames ≡ frames
+  pub same_cut : tells.cut ≡ cut
+
+module _ (words : List (List ℕ)) (command : Command) (src src' : SourceTold) (dold dnew : DepotTold) (so mid sn : SinkTold) (eold enew : SinkTold) (o : Outcome) (work : Work) (frames : List Frame) (cut : Option Frame) (rest : List ℕ) (asked : command_of words ≡ command) (meant : is_meant command ≡ true) (quiet : nat_lt src.faults src'.faults ≡ false) (runs : DoesWork work dold dnew so mid o frames cut rest) where
   abbrev tail : List ℕ
   tail = tail_text o.ends o.ledger
 
   abbrev front : List ℕ
-  front = frames_text runs.frames ++ runs.rest
+  front = frames_text frames ++ rest
 
   abbrev told : Status → Call
-  told s = call_of words src src dold dnew so sn eold enew (record { status = s; ends = o.ends; ledger = o.ledger })
+  told s = call_of words src src' dold dnew so sn eold enew (record { status = s; ends = o.ends; ledger = o.ledger })
 
   abbrev causes : Bool → Causes
-  causes m = record { words = true; unwritten = nat_lt so.faults sn.faults; memory = m; faulty = any (λ (e : EndOf). is_fault e.how) o.ends; unclean = has_event is_failed o.ledger }
+  causes m = record { words = true; unread = false; refused = None; unwritten = nat_lt so.faults sn.faults; memory = m; faulty = any (λ (e : EndOf). is_fault e.how) o.ends; unclean = has_event is_failed o.ledger }
 
   remembered : any (λ (e : EndOf). is_memory e.how) o.ends ≡ true → o.memory ≡ true
-  remembered h = ⊎_elim (λ (x : IsUnmade (deed_of dold dnew runs.frames runs.cut runs.rest o)). x.memory) (λ (x : Ran (cat_work path) (deed_of dold dnew runs.frames runs.cut runs.rest o)). x.ends.memory h) runs.performs.ran
+  remembered h = ⊎_elim (λ (x : IsUnmade (deed_of dold dnew frames cut rest o)). x.memory) (λ (x : Ran work (deed_of dold dnew frames cut rest o)). x.ends.memory h) runs.performs.ran
 
-  -- the headline, from the parts that differ by how the call was told
-  headline : (s : Status) (m : Bool) → (o.memory ≡ true → m ≡ true) → s ≡ status_of (causes m) → IsText (told s) (causes m) runs.frames runs.cut runs.rest o.memory → IsToldLine eold enew (line_of s) → Headline (told s)
-  headline s m more is text line = record {
+  -- the call was told, from the parts that differ by how
+  tells : (s : Status) (m : Bool) → (o.memory ≡ true → m ≡ true) → s ≡ status_of (causes m) → IsText (told s) (causes m) frames cut rest o.memory → IsToldLine eold enew (line_of s) → IsTold work (told s) frames cut
+  tells s m more is text line = record {
     causes = causes m;
+    refused = refl;
     status = record {
-      words = ap (λ p. is_meant (command_by p)) (sym known);
+      words = sym (ap is_meant asked ∙ meant);
+      unread = sym quiet;
       unwritten = refl;
       memory = λ h. more (remembered h);
       faulty = refl;
@@ -77,18 +98,16 @@ module _ (words : List (List ℕ)) (path : List ℕ) (src : SourceTold) (dold dn
       status = is;
       line = line;
     };
-    source = refl;
-    does = subst (λ p. Does (told s) (causes m) (command_by p)) (sym known) (
-      record {
-        frames = runs.frames;
-        cut = runs.cut;
-        rest = runs.rest;
-        wanted = o.memory;
-        performs = runs.performs;
-        text = text;
-      },
-      runs.within,
-    );
+    tells = record {
+      frames = frames;
+      cut = cut;
+      rest = rest;
+      wanted = o.memory;
+      performs = runs.performs;
+      text = text;
+    };
+    same_frames = refl;
+    same_cut = refl;
   }
 
   mid_faults : mid.faults ≡ and_one o.sink_failed so.faults
@@ -104,14 +123,14 @@ module _ (words : List (List ℕ)) (path : List ℕ) (src : SourceTold) (dold dn
   mid_written = ap (λ (x : SinkTold). x.written) runs.wrote
 
   -- nothing was said behind the frames
-  silent : sn ≡ mid → sn.written ≡ (with_bytes so (frames_text runs.frames ++ (runs.rest ++ []))).written
-  silent e = ap (λ (x : SinkTold). x.written) e ∙ (mid_written ∙ ap (λ b. (with_bytes so b).written) (ap (λ b. frames_text runs.frames ++ b) (sym (append-nil runs.rest))))
+  silent : sn ≡ mid → sn.written ≡ (with_bytes so (frames_text frames ++ (rest ++ []))).written
+  silent e = ap (λ (x : SinkTold). x.written) e ∙ (mid_written ∙ ap (λ b. (with_bytes so b).written) (ap (λ b. frames_text frames ++ b) (sym (append-nil rest))))
 
   -- these bytes were said behind the frames
-  said_behind : (bytes : List ℕ) → sn.written ≡ (with_bytes mid bytes).written → sn.written ≡ (with_bytes so (frames_text runs.frames ++ (runs.rest ++ bytes))).written
+  said_behind : (bytes : List ℕ) → sn.written ≡ (with_bytes mid bytes).written → sn.written ≡ (with_bytes so (frames_text frames ++ (rest ++ bytes))).written
   said_behind bytes e =
       e ∙ (ap (λ (w : Option (List ℕ)). (with_bytes (record { written = w; faults = so.faults }) bytes).written) mid_written
-      ∙ (ap (λ (x : SinkTold). x.written) (with_bytes_twice so front bytes) ∙ ap (λ b. (with_bytes so b).written) (append_assoc (frames_text runs.frames) runs.rest bytes)))
+      ∙ (ap (λ (x : SinkTold). x.written) (with_bytes_twice so front bytes) ∙ ap (λ b. (with_bytes so b).written) (append_assoc (frames_text frames) rest bytes)))
 
   never_idle : o.sink_failed ≡ true → o.ends ≡ [] → ⊥
   never_idle t e = both_ways o.sink_failed (runs.begun e).0 t
@@ -120,18 +139,18 @@ module _ (words : List (List ℕ)) (path : List ℕ) (src : SourceTold) (dold dn
   never_none f e = both_ways o.memory f (runs.begun e).1
 
   -- no frame was cut and memory wasn't wanting in the work
-  begun : (said : List ℕ) (s : Status) (k : Causes) → o.sink_failed ≡ false → o.memory ≡ false → SaysBegun said tail s → SaysTail k said tail s (is_some runs.cut) o.memory
+  begun : (said : List ℕ) (s : Status) (k : Causes) → o.sink_failed ≡ false → o.memory ≡ false → SaysBegun said tail s → SaysTail k said tail s (is_some cut) o.memory
   begun said s k f g h = subst (λ b. SaysTail k said tail s b o.memory) (sym (runs.broke ∙ f)) (subst (λ w. SaysTail k said tail s false w) (sym g) h)
 
   -- memory was wanting in the work or for the tail
-  says_nothing : o.sink_failed ≡ false → nat_lt so.faults sn.faults ≡ false → (w : Bool) → o.memory ≡ w → SaysTail (causes true) [] tail status.Memory (is_some runs.cut) o.memory
+  says_nothing : o.sink_failed ≡ false → nat_lt so.faults sn.faults ≡ false → (w : Bool) → o.memory ≡ w → SaysTail (causes true) [] tail status.Memory (is_some cut) o.memory
   says_nothing f u true e = subst (λ b. SaysTail (causes true) [] tail status.Memory b o.memory) (sym (runs.broke ∙ f)) (subst (λ w. SaysTail (causes true) [] tail status.Memory false w) (sym e) (u, refl, refl))
   says_nothing f u false e = begun [] status.Memory (causes true) f e refl
 
-  tells_failed : o.sink_failed ≡ true → sn ≡ mid → IsToldLine eold enew (line_of status.NotWritten) → Headline (told status.NotWritten)
+  tells_failed : o.sink_failed ≡ true → sn ≡ mid → IsToldLine eold enew (line_of status.NotWritten) → IsTold work (told status.NotWritten) frames cut
   tells_failed t e line =
       let up : nat_lt so.faults sn.faults ≡ true = rose so.faults sn.faults (ap (λ (x : SinkTold). x.faults) e ∙ mid_rose t) in
-      headline status.NotWritten o.memory (λ h. h) (failed_is _ _ _ _ up) (record {
+      tells status.NotWritten o.memory (λ h. h) (failed_is _ _ _ _ up) (record {
         said = [];
         written = silent e;
         tail = subst (λ b. SaysTail (causes o.memory) [] tail status.NotWritten b o.memory) (sym (runs.broke ∙ t)) (up, refl);
@@ -139,10 +158,10 @@ module _ (words : List (List ℕ)) (path : List ℕ) (src : SourceTold) (dold dn
         once = let same : sn.faults ≡ mid.faults = ap (λ (x : SinkTold). x.faults) e in let m : mid.faults ≡ so.faults + 1 = mid_rose t in omega arith;
       }) line
 
-  tells_memory : o.sink_failed ≡ false → sn ≡ mid → IsToldLine eold enew (line_of status.Memory) → Headline (told status.Memory)
+  tells_memory : o.sink_failed ≡ false → sn ≡ mid → IsToldLine eold enew (line_of status.Memory) → IsTold work (told status.Memory) frames cut
   tells_memory f e line =
       let same : sn.faults ≡ so.faults = ap (λ (x : SinkTold). x.faults) e ∙ mid_kept f in
-      headline status.Memory true (λ h. refl) (memory_is (nat_lt so.faults sn.faults) (any (λ (x : EndOf). is_fault x.how) o.ends) (has_event is_failed o.ledger) (kept so.faults sn.faults same)) (record {
+      tells status.Memory true (λ h. refl) (memory_is (nat_lt so.faults sn.faults) (any (λ (x : EndOf). is_fault x.how) o.ends) (has_event is_failed o.ledger) (kept so.faults sn.faults same)) (record {
         said = [];
         written = silent e;
         tail = says_nothing f (kept so.faults sn.faults same) o.memory refl;
@@ -150,11 +169,11 @@ module _ (words : List (List ℕ)) (path : List ℕ) (src : SourceTold) (dold dn
         once = omega arith;
       }) line
 
-  tells_broken : o.sink_failed ≡ false → o.memory ≡ false → BreaksOff mid sn tail → IsToldLine eold enew (line_of status.NotWritten) → Headline (told status.NotWritten)
+  tells_broken : o.sink_failed ≡ false → o.memory ≡ false → BreaksOff mid sn tail → IsToldLine eold enew (line_of status.NotWritten) → IsTold work (told status.NotWritten) frames cut
   tells_broken f g b line =
       let more : sn.faults ≡ so.faults + 1 = ap (λ (x : SinkTold). x.faults) b.told ∙ ap (λ n. n + 1) (mid_kept f) in
       let up : nat_lt so.faults sn.faults ≡ true = rose so.faults sn.faults more in
-      headline status.NotWritten o.memory (λ h. h) (failed_is _ _ _ _ up) (record {
+      tells status.NotWritten o.memory (λ h. h) (failed_is _ _ _ _ up) (record {
         said = take b.count tail;
         written = said_behind (take b.count tail) (ap (λ (x : SinkTold). x.written) b.told);
         tail = begun (take b.count tail) status.NotWritten (causes o.memory) f g (drop b.count tail, let d = length-drop b.count tail in let l : b.count < length tail = b.front in omega (arith, d, l), take-append-drop b.count tail);
@@ -162,10 +181,10 @@ module _ (words : List (List ℕ)) (path : List ℕ) (src : SourceTold) (dold dn
         once = omega arith;
       }) line
 
-  told_whole : (s : Status) → o.sink_failed ≡ false → o.memory ≡ false → sn ≡ with_bytes mid tail → s ≡ status_by o.ends o.ledger → SaysBegun tail tail s → IsToldLine eold enew (line_of s) → Headline (told s)
+  told_whole : (s : Status) → o.sink_failed ≡ false → o.memory ≡ false → sn ≡ with_bytes mid tail → s ≡ status_by o.ends o.ledger → SaysBegun tail tail s → IsToldLine eold enew (line_of s) → IsTold work (told s) frames cut
   told_whole s f g e is says line =
       let same : sn.faults ≡ so.faults = ap (λ (x : SinkTold). x.faults) e ∙ mid_kept f in
-      headline s false (λ h. absurd (both_ways o.memory g h)) (is ∙ printed_is _ _ _ (kept so.faults sn.faults same)) (record {
+      tells s false (λ h. absurd (both_ways o.memory g h)) (is ∙ printed_is _ _ _ (kept so.faults sn.faults same)) (record {
         said = tail;
         written = said_behind tail (ap (λ (x : SinkTold). x.written) e);
         tail = begun tail s (causes false) f g says;
@@ -173,43 +192,27 @@ module _ (words : List (List ℕ)) (path : List ℕ) (src : SourceTold) (dold dn
         once = omega arith;
       }) line
 
-  tells_printed : (s : Status) → o.sink_failed ≡ false → o.memory ≡ false → Prints o mid sn s → IsToldLine eold enew (line_of s) → Headline (told s)
+  tells_printed : (s : Status) → o.sink_failed ≡ false → o.memory ≡ false → Prints o mid sn s → IsToldLine eold enew (line_of s) → IsTold work (told s) frames cut
   tells_printed status.NotWritten f g p line = tells_broken f g p line
   tells_printed status.Memory f g p line = tells_memory f p line
   tells_printed status.BadWords f g p line = absurd p
+  tells_printed (status.Refused e) f g p line = told_whole (status.Refused e) f g p.0 p.1 refl line
+  tells_printed status.Unread f g p line = told_whole status.Unread f g p.0 p.1 refl line
   tells_printed status.Good f g p line = told_whole status.Good f g p.0 p.1 refl line
   tells_printed status.Faulty f g p line = told_whole status.Faulty f g p.0 p.1 refl line
   tells_printed status.Unclean f g p line = told_whole status.Unclean f g p.0 p.1 refl line
 
-  tells_any : (s : Status) → PrintsTail o mid sn s → IsToldLine eold enew (line_of s) → Headline (told s)
+  tells_any : (s : Status) → PrintsTail o mid sn s → IsToldLine eold enew (line_of s) → IsTold work (told s) frames cut
   tells_any s p line =
       ⊎_elim
-      (λ t. let q = p.failed t in subst (λ x. Headline (told x)) (sym q.0) (tells_failed t q.1 (subst (λ x. IsToldLine eold enew (line_of x)) q.0 line)))
+      (λ t. let q = p.failed t in subst (λ x. IsTold work (told x) frames cut) (sym q.0) (tells_failed t q.1 (subst (λ x. IsToldLine eold enew (line_of x)) q.0 line)))
       (λ f. ⊎_elim
-      (λ t. let q = p.memory f t in subst (λ x. Headline (told x)) (sym q.0) (tells_memory f q.1 (subst (λ x. IsToldLine eold enew (line_of x)) q.0 line)))
+      (λ t. let q = p.memory f t in subst (λ x. IsTold work (told x) frames cut) (sym q.0) (tells_memory f q.1 (subst (λ x. IsToldLine eold enew (line_of x)) q.0 line)))
       (λ g. tells_printed s f g (p.printed f g) line)
       (cases_Bool o.memory))
       (cases_Bool o.sink_failed)
 
-  -- cat was run and told
-  pub cat_told : (s : Status) (r : Report) → PrintsTail o mid sn s → Reports s o.ends o.ledger eold enew r → Headline (call_of words src src dold dnew so sn eold enew r)
-  cat_told s r p f =
-      subst (λ x. Headline (call_of words src src dold dnew so sn eold enew x)) (sym (report_is r s o.ends o.ledger f.status_is f.ends_are f.ledger_is)) (tells_any s p f.line)
-
--- the words mean nothing
-pub nothing_told : (words : List (List ℕ)) (src : SourceTold) (depot : DepotTold) (out eold enew : SinkTold) (r : Report) → cat_path_of words ≡ None → Reports status.BadWords [] [] eold enew r → Headline (call_of words src src depot depot out out eold enew r)
-nothing_told words src depot out eold enew r known f =
-    subst (λ x. Headline (call_of words src src depot depot out out eold enew x)) (sym (report_is r status.BadWords [] [] f.status_is f.ends_are f.ledger_is)) (record {
-      causes = record { words = false; unwritten = false; memory = false; faulty = false; unclean = false };
-      status = record {
-        words = ap (λ p. is_meant (command_by p)) (sym known);
-        unwritten = sym (kept out.faults out.faults refl);
-        memory = λ h. h;
-        faulty = refl;
-        unclean = refl;
-        status = refl;
-        line = f.line;
-      };
-      source = refl;
-      does = subst (λ p. Does (call_of words src src depot depot out out eold enew (record { status = status.BadWords; ends = []; ledger = [] })) (record { words = false; unwritten = false; memory = false; faulty = false; unclean = false }) (command_by p)) (sym known) (record { depot = refl; out = refl; ends = refl; events = refl });
-    })
+  -- the work was done and told
+  pub work_told : (r : Report) → Tells o mid sn eold enew r → IsTold work (call_of words src src' dold dnew so sn eold enew r) frames cut
+  work_told r t =
+      subst (λ x. IsTold work (call_of words src src' dold dnew so sn eold enew x) frames cut) (sym (report_is r r.status o.ends o.ledger refl t.report.ends_are t.report.ledger_is)) (tells_any r.status t.tail t.report.line)

@@ -9,7 +9,7 @@ use Rattle.run_rules.specs.Texts.{tail_text}
 use Rattle.flume_cli.specs.declared.status.Status.{Status}
 use Rattle.flume_cli.specs.declared.status.Status.TheVariants as status
 use Rattle.flume_cli.specs.declared.report.Report.{Report}
-use Rattle.flume_cli.specs.declared.outcome.Outcome.{Outcome}
+use Rattle.par_join.specs.declared.outcome.Outcome.{Outcome}
 use Rattle.flume_cli.specs.Status.{line_of}
 use Rattle.flume_cli.specs.Headline.{IsToldLine}
 
@@ -36,3 +36,8 @@ pub record Reports (s : Status) (ends : List EndOf) (L : List Event) (old new : 
   pub ends_are : r.ends ≡ ends
   pub ledger_is : r.ledger ≡ L
   pub line : IsToldLine old new (line_of s)
+
+-- how a run ended was told: the tail was printed as far as it could be, and the status of that was reported
+pub record Tells (o : Outcome) (out_old out_new err_old err_new : SinkTold) (r : Report) : Type 0 where
+  pub tail : PrintsTail o out_old out_new r.status
+  pub report : Reports r.status o.ends o.ledger err_old err_new r

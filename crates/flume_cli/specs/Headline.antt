@@ -1,5 +1,5 @@
 -- The contract of the top call, over all that it reads, writes and reports.
-use Rattle.std.specs.Prelude.{◌≡◌, ◌⊎◌, ℕ, ◌+◌, ◌<◌, ◌≤◌, Bool, true, false, nat_lt, is_some, List, [], ◌++◌, length, Option}
+use Rattle.std.specs.Prelude.{◌≡◌, ◌⊎◌, ℕ, ◌+◌, ◌<◌, ◌≤◌, Bool, true, false, nat_lt, is_some, List, [], ◌++◌, length, Option, Some, None, Ok, Err}
 use Rattle.std.specs.List.{list_any as any}
 use Rattle.chunk_core.specs.Texts.{Frame, frames_text}
 use Rattle.res_ledger.specs.declared.event.Event.{Event}
@@ -11,11 +11,16 @@ use Rattle.run_rules.specs.Facts.{is_fault, is_memory, is_failed, has_event}
 use Rattle.run_rules.specs.Work.{Work, RunRecord}
 use Rattle.run_rules.specs.Run.{Performs}
 use Rattle.run_rules.specs.Texts.{tail_text}
+use Rattle.pipeline_desc.specs.Meant.{PlanMeant}
+use Rattle.pipeline_desc.specs.Plans.{plan_of}
+use Rattle.pipeline_desc.specs.Reading.{Reading}
+use Rattle.par_join.specs.Cat.{cat_work, FramesAreWithin}
+use Rattle.par_join.specs.Plans.{run_work}
+use Rattle.flume_cli.specs.Input.{IsInput, TakesSome}
 use Rattle.flume_cli.specs.declared.status.Status.{Status}
 use Rattle.flume_cli.specs.declared.status.Status.TheVariants as status
-use Rattle.flume_cli.specs.Words.{Command, Cat, Nothing, is_meant, command_of}
+use Rattle.flume_cli.specs.Words.{Command, Cat, Run, Nothing, is_meant, command_of}
 use Rattle.flume_cli.specs.Status.{Causes, status_of, line_of}
-use Rattle.flume_cli.specs.Cat.{cat_work, FramesAreWithin}
 
 -- a call: its words, the outside before and after, and its report
 pub record Call : Type 0 where
@@ -39,6 +44,7 @@ IsToldLine old new text = (new ≡ with_bytes old text) ⊎ BreaksOff old new te
 -- the status is that of the causes, each cause is seen in the call's own data, and standard error was told its line
 pub record HasStatus (c : Call) (k : Causes) : Type 0 where
   pub words : k.words ≡ is_meant (command_of c.words)
+  pub unread : k.unread ≡ nat_lt c.source_old.faults c.source_new.faults
   pub unwritten : k.unwritten ≡ nat_lt c.out_old.faults c.out_new.faults
   pub memory : any (λ e. is_memory e.how) c.ends ≡ true → k.memory ≡ true
   pub faulty : k.faulty ≡ any (λ e. is_fault e.how) c.ends
@@ -87,14 +93,44 @@ pub record TellsWork (work : Work) (c : Call) (k : Causes) : Type 0 where
   pub performs : Performs work (run_of_call c frames cut rest wanted)
   pub text : IsText c k frames cut rest wanted
 
+-- what the bytes of a description mean was done: its plan was run, or nothing was done where it is refused
+abbrev pub DoesPlan : Call → Causes → Reading PlanMeant → Type 0
+DoesPlan c k (Ok plan) = (k.refused ≡ None) × TellsWork (run_work plan) c k
+DoesPlan c k (Err refusal) = (k.refused ≡ Some refusal) × DidNothing c
+
+-- the source was read whole, and what its bytes mean was done
+pub record RunsInput (c : Call) (k : Causes) : Type 0 where
+  pub bytes : List ℕ
+  pub input : IsInput c.source_old c.source_new bytes
+  pub plan : DoesPlan c k (plan_of bytes)
+
+-- a read of the source failed, which was the last, or memory was wanting before the run; nothing was done
+pub record StopsBefore (c : Call) (k : Causes) : Type 0 where
+  pub cause : (k.unread ≡ true) ⊎ (k.memory ≡ true)
+  pub taken : TakesSome k.unread c.source_old c.source_new
+  pub refused : k.refused ≡ None
+  pub nothing : DidNothing c
+
 -- what was done for a command
 abbrev pub Does : Call → Causes → Command → Type 0
 Does c k (Cat path) = (t : TellsWork (cat_work path) c k) × FramesAreWithin 4096 t.frames t.cut
+Does c k Run = StopsBefore c k ⊎ RunsInput c k
 Does c k Nothing = DidNothing c
+
+-- no description was read: the source is as it was, and nothing is refused
+pub record ReadsNothing (c : Call) (k : Causes) : Type 0 where
+  pub kept : c.source_new ≡ c.source_old
+  pub refused : k.refused ≡ None
+
+-- only a run reads the source
+abbrev pub KeepsSource : Call → Causes → Command → Type 0
+KeepsSource c k (Cat path) = ReadsNothing c k
+KeepsSource c k Run = Unit {0}
+KeepsSource c k Nothing = ReadsNothing c k
 
 -- The whole contract. What it says of devices, ledger, outputs, ends and completeness stands in `Performs`.
 pub record Headline (c : Call) : Type 0 where
   pub causes : Causes
   pub status : HasStatus c causes
-  pub source : c.source_new ≡ c.source_old
+  pub source : KeepsSource c causes (command_of c.words)
   pub does : Does c causes (command_of c.words)

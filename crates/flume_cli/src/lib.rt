@@ -1,10 +1,12 @@
-//! The top call: what the words of a command line mean, the commands, and how a call ended.
+//! The top call: what the words of a command line mean, and how a call ended.
 //!
 //! `flume` does what the words say, over any source, sink, depot and gate: so a test runs the whole
 //! program in memory. It answers a `Report`: the `Status` that the program ends with, how each
 //! stream ended, and the ledger. Nothing is an error of the call itself: what failed is told by the
-//! status, the output and standard error. Below it `run_cat` is the work of the command `cat`, which
-//! answers an `Outcome`, and `put_frame` and `put_load` print one frame.
+//! status, the output and standard error. `Status::Refused` has the reason why a description is
+//! refused. Only `run` reads the source, whole and before anything else; the description that it has
+//! is read by `pipeline_desc`. The work of a command is `par_join`'s; behind its frames `tail_of`
+//! tells how each stream ended, and the ledger.
 //!
 //! ```
 //! let alloc = rt.alloc();
@@ -28,22 +30,14 @@
 //! ```
 #![tactic(auto)]
 
-pub(crate) mod alone;
-pub mod cat;
-pub mod frame;
-pub(crate) mod node;
-pub mod outcome;
-pub(crate) mod print;
+pub(crate) mod description;
 pub mod report;
-pub(crate) mod retire;
+pub(crate) mod source;
 pub mod status;
 pub mod tail;
 pub mod top;
 pub mod words;
 
-pub use cat::run_cat;
-pub use frame::{NotPut, put_frame, put_load};
-pub use outcome::Outcome;
 pub use report::Report;
-pub use status::Status;
+pub use status::{Status, StatusLine};
 pub use top::flume;

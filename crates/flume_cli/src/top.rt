@@ -1,19 +1,19 @@
 //! The top call.
-ghost use Rattle.std.specs.Prelude.{◌≡◌, ◌-◌, ◌^◌, ◌<◌, false};
+ghost use Rattle.std.specs.Prelude.{◌≡◌, ◌-◌, ◌^◌, ◌<◌, false, []};
 ghost use Rattle.flume_cli.specs.Call.{call_of};
 ghost use Rattle.flume_cli.specs.Headline.{Headline};
-ghost use Rattle.flume_cli.specs.Finish.{Reports, PrintsTail, status_by as status_by_of};
+ghost use Rattle.flume_cli.specs.Finish.{Reports, PrintsTail, Tells, status_by as status_by_of};
 ghost use Rattle.run_rules.specs.Facts.{is_fault as is_fault_end, is_failed as is_failed_final, has_event};
 ghost use Rattle.std.specs.List.{list_any as any};
 
-use crate::cat::run_cat;
-use crate::outcome::Outcome;
+use crate::description::read_plan;
 use crate::report::Report;
 use crate::status::Status;
 use crate::tail::tail_of;
-use crate::words::cat_path;
+use crate::words::{Asked, asked_by};
 use chunk_core::{How, List, Word};
 use device_port::{Depot, Failed, Gate, Sink, Source, put};
+use par_join::{Outcome, run_cat, run_streams};
 use res_ledger::{Ledger, What};
 use run_rules::EndOf;
 use std::alloc::Global;
@@ -43,19 +43,38 @@ where
     requires err { (E.told err.old).faults < 2 ^ 64 - 1 }
     ensures { Headline (call_of words.now (S.told src.old) (S.told src.new) (D.told depot.old) (D.told depot.new) (K.told out.old) (K.told out.new) (E.told err.old) (E.told err.new) result) }
 {
-    match cat_path(words) {
-        Some(path) => {
+    match asked_by(words) {
+        Some(Asked::Cat(path)) => {
             let outcome = run_cat(alloc, path, CHUNK, depot, out);
-            let status = print_tail(alloc, &outcome, out);
-            finish(status, outcome.ends, outcome.ledger, err)
+            tell(alloc, outcome, out, err)
         }
-        None => finish(
-            Status::BadWords,
-            List::new(alloc),
-            Ledger::empty(alloc),
-            err,
-        ),
+        Some(Asked::Run) => match read_plan(alloc, src) {
+            Ok(plan) => {
+                let outcome = run_streams(rt, alloc, &plan, depot, out, gate);
+                tell(alloc, outcome, out, err)
+            }
+            Err(status) => refuse(alloc, status, err),
+        },
+        None => refuse(alloc, Status::BadWords, err),
     }
+}
+
+/// Tells how a run ended: prints the tail where it can, and reports.
+fn tell<K: Sink, E: Sink>(alloc: Global, outcome: Outcome, out: &mut K, err: &mut E) -> Report
+    requires out { outcome.sink_failed ≡ false → (K.told out.old).faults < 2 ^ 64 - 1 }
+    requires err { (E.told err.old).faults < 2 ^ 64 - 1 }
+    ensures { Tells outcome (K.told out.old) (K.told out.new) (E.told err.old) (E.told err.new) result }
+{
+    let status = print_tail(alloc, &outcome, out);
+    finish(status, outcome.ends, outcome.ledger, err)
+}
+
+/// Tells and reports that nothing was done.
+fn refuse<E: Sink>(alloc: Global, status: Status, err: &mut E) -> Report
+    requires room { (E.told err.old).faults < 2 ^ 64 - 1 }
+    ensures { Reports status [] [] (E.told err.old) (E.told err.new) result }
+{
+    finish(status, List::new(alloc), Ledger::empty(alloc), err)
 }
 
 /// Tells standard error the line of the status, and reports.
@@ -63,7 +82,7 @@ fn finish<E: Sink>(status: Status, ends: List<EndOf>, ledger: Ledger, err: &mut 
     requires room { (E.told err.old).faults < 2 ^ 64 - 1 }
     ensures { Reports status ends ledger (E.told err.old) (E.told err.new) result }
 {
-    let _ = put(err, status.line().as_bytes());
+    let _ = put(err, status.line().as_str().as_bytes());
     Report {
         status,
         ends,

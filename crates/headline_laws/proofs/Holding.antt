@@ -37,7 +37,7 @@ use Rattle.res_ledger.specs.declared.event.StreamNo.TheVariants.{Inner}
 use Rattle.res_ledger.proofs.Judged.{each_event}
 use Rattle.res_ledger.proofs.Stamps.{stamped_sound}
 use Rattle.device_port.specs.declared.device.Mode.TheVariants as mode
-use Rattle.flume_cli.specs.Cat.{cat_work, to_read}
+use Rattle.par_join.specs.Cat.{cat_work, to_read}
 use Rattle.flume_cli.specs.Headline.{Headline}
 use Rattle.headline_laws.specs.Calls.{a, closed_device, depot_after, depot_before, end_of_0, one_row_ledger}
 use Rattle.headline_laws.specs.Worked.{missing_device, whole_file, empty_file, missing_file, read_fault, failed_close, failed_write}
@@ -174,9 +174,9 @@ failed_frame = omega arith
 
 pub whole_file_holds : Headline whole_file
 whole_file_holds = record {
-  causes = record { words = true; unwritten = false; memory = false; faulty = false; unclean = false };
-  status = record { words = refl; unwritten = refl; memory = λ h. absurd (false≢true h); faulty = refl; unclean = refl; status = refl; line = inl refl };
-  source = refl;
+  causes = record { words = true; unread = false; refused = None; unwritten = false; memory = false; faulty = false; unclean = false };
+  status = record { words = refl; unread = refl; unwritten = refl; memory = λ h. absurd (false≢true h); faulty = refl; unclean = refl; status = refl; line = inl refl };
+  source = record { kept = refl; refused = refl };
   does = (
     record {
       frames = hello_frame ∷ [];
@@ -195,9 +195,9 @@ whole_file_holds = record {
 
 pub empty_file_holds : Headline empty_file
 empty_file_holds = record {
-  causes = record { words = true; unwritten = false; memory = false; faulty = false; unclean = false };
-  status = record { words = refl; unwritten = refl; memory = λ h. absurd (false≢true h); faulty = refl; unclean = refl; status = refl; line = inl refl };
-  source = refl;
+  causes = record { words = true; unread = false; refused = None; unwritten = false; memory = false; faulty = false; unclean = false };
+  status = record { words = refl; unread = refl; unwritten = refl; memory = λ h. absurd (false≢true h); faulty = refl; unclean = refl; status = refl; line = inl refl };
+  source = record { kept = refl; refused = refl };
   does = (
     record {
       frames = [];
@@ -216,9 +216,9 @@ empty_file_holds = record {
 
 pub read_fault_holds : Headline read_fault
 read_fault_holds = record {
-  causes = record { words = true; unwritten = false; memory = false; faulty = true; unclean = false };
-  status = record { words = refl; unwritten = refl; memory = λ h. absurd (false≢true h); faulty = refl; unclean = refl; status = refl; line = inl refl };
-  source = refl;
+  causes = record { words = true; unread = false; refused = None; unwritten = false; memory = false; faulty = true; unclean = false };
+  status = record { words = refl; unread = refl; unwritten = refl; memory = λ h. absurd (false≢true h); faulty = refl; unclean = refl; status = refl; line = inl refl };
+  source = record { kept = refl; refused = refl };
   does = (
     record {
       frames = record { stream = 0; payload = codes "he" } ∷ [];
@@ -237,9 +237,9 @@ read_fault_holds = record {
 
 pub failed_close_holds : Headline failed_close
 failed_close_holds = record {
-  causes = record { words = true; unwritten = false; memory = false; faulty = false; unclean = true };
-  status = record { words = refl; unwritten = refl; memory = λ h. absurd (false≢true h); faulty = refl; unclean = refl; status = refl; line = inl refl };
-  source = refl;
+  causes = record { words = true; unread = false; refused = None; unwritten = false; memory = false; faulty = false; unclean = true };
+  status = record { words = refl; unread = refl; unwritten = refl; memory = λ h. absurd (false≢true h); faulty = refl; unclean = refl; status = refl; line = inl refl };
+  source = record { kept = refl; refused = refl };
   does = (
     record {
       frames = hello_frame ∷ [];
@@ -258,9 +258,9 @@ failed_close_holds = record {
 
 pub failed_write_holds : Headline failed_write
 failed_write_holds = record {
-  causes = record { words = true; unwritten = true; memory = false; faulty = false; unclean = false };
-  status = record { words = refl; unwritten = refl; memory = λ h. absurd (false≢true h); faulty = refl; unclean = refl; status = refl; line = inl refl };
-  source = refl;
+  causes = record { words = true; unread = false; refused = None; unwritten = true; memory = false; faulty = false; unclean = false };
+  status = record { words = refl; unread = refl; unwritten = refl; memory = λ h. absurd (false≢true h); faulty = refl; unclean = refl; status = refl; line = inl refl };
+  source = record { kept = refl; refused = refl };
   does = (
     record {
       frames = [];
@@ -279,9 +279,9 @@ failed_write_holds = record {
 
 pub missing_file_holds : Headline missing_file
 missing_file_holds = record {
-  causes = record { words = true; unwritten = false; memory = false; faulty = true; unclean = false };
-  status = record { words = refl; unwritten = refl; memory = λ h. absurd (false≢true h); faulty = refl; unclean = refl; status = refl; line = inl refl };
-  source = refl;
+  causes = record { words = true; unread = false; refused = None; unwritten = false; memory = false; faulty = true; unclean = false };
+  status = record { words = refl; unread = refl; unwritten = refl; memory = λ h. absurd (false≢true h); faulty = refl; unclean = refl; status = refl; line = inl refl };
+  source = record { kept = refl; refused = refl };
   does = (
     record {
       frames = [];

@@ -1,3 +1,5 @@
 pub mod Holding
 pub mod Refusing
 pub mod Stopping
+pub mod Describing
+pub mod Misdescribing

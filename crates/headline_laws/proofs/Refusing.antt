@@ -24,21 +24,24 @@ use Rattle.res_ledger.proofs.Ordering.{ordered_complete}
 use Rattle.run_rules.specs.declared.end.EndOf.{EndOf}
 use Rattle.device_port.specs.Sink.{SinkTold, BreaksOff}
 use Rattle.run_rules.specs.Texts.{tail_text}
+use Rattle.pipeline_desc.specs.declared.refusal.Refusal.{Refusal}
 use Rattle.flume_cli.specs.declared.status.Status.{Status}
 use Rattle.flume_cli.specs.declared.status.Status.TheVariants as status
-use Rattle.flume_cli.specs.Status.{Causes, status_of, status_number, line_of}
-use Rattle.flume_cli.specs.Cat.{cat_work, FileRuns}
+use Rattle.flume_cli.specs.Status.{Causes, status_done, status_of, status_number, line_of}
+use Rattle.par_join.specs.Cat.{cat_work, FileRuns}
 use Rattle.flume_cli.specs.Headline.{Call, Headline, SaysTail, TellsWork, run_of_call}
 use Rattle.headline_laws.specs.Calls.{a}
 use Rattle.headline_laws.specs.Refused.{end_never_met, failed_read_forgotten, invented_output, cut_output, row_of_no_plan, event_of_no_stream, lease_of_no_stream, kept_device, failure_not_told, halted_without_a_cause, call_with_row_without_a_final, call_with_final_before_close, closed_twice, left_open, fault_without_a_fault, failed_close_not_told, done_told_as_errored, fault_told_as_succeeded, halt_told_as_succeeded, final_unlike_its_close, device_told_otherwise, silent_call}
 use Rattle.chunk_core.proofs.Members.{among_cons, among_nil}
 use Rattle.chunk_core.proofs.Bools.{both, either}
 
-peel : (b : Bool) (x y s : Status) → (x ≡ s → ⊥) → s ≡ (if b then x else y) → (b ≡ false) × (s ≡ y)
+-- the test of a choice that came out otherwise
+pub peel : (b : Bool) (x y s : Status) → (x ≡ s → ⊥) → s ≡ (if b then x else y) → (b ≡ false) × (s ≡ y)
 peel true x y s n e = absurd (n (sym e))
 peel false x y s n e = (refl, e)
 
-differ : (s t : Status) → status_number s ≢ status_number t → s ≡ t → ⊥
+-- statuses of two numbers
+pub differ : (s t : Status) → status_number s ≢ status_number t → s ≡ t → ⊥
 differ s t n e = n (ap status_number e)
 
 -- what status 0 tells of its causes
@@ -47,10 +50,17 @@ pub record Good (k : Causes) : Type 0 where
   pub memory : k.memory ≡ false
   pub faulty : k.faulty ≡ false
 
+-- no refusal was told, so what was done decides
+pub status_if_taken : (s : Status) → status_number s ≢ 3 → (k : Causes) (refused : Option Refusal) → s ≡ elim refused [ Some refusal ↦ status.Refused refusal | None ↦ status_done k ] → (refused ≡ None) × (s ≡ status_done k)
+status_if_taken s n k (Some refusal) e = absurd (n (ap status_number e))
+status_if_taken s n k None e = (refl, e)
+
 good : (k : Causes) → status.Good ≡ status_of k → Good k
 good k e =
     let p = peel (not k.words) _ _ status.Good (differ _ _ (omega arith)) e in
-    let q = peel k.unwritten _ _ status.Good (differ _ _ (omega arith)) p.1 in
+    let o = peel k.unread _ _ status.Good (differ _ _ (omega arith)) p.1 in
+    let d = status_if_taken status.Good (omega arith) k k.refused o.1 in
+    let q = peel k.unwritten _ _ status.Good (differ _ _ (omega arith)) d.1 in
     let r = peel k.memory _ _ status.Good (differ _ _ (omega arith)) q.1 in
     let t = peel k.faulty _ _ status.Good (differ _ _ (omega arith)) r.1 in
     record { unwritten = q.0; memory = r.0; faulty = t.0 }

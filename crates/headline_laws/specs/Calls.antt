@@ -14,7 +14,7 @@ use Rattle.device_port.specs.Sink.{SinkTold}
 use Rattle.device_port.specs.Source.{SourceTold}
 use Rattle.run_rules.specs.declared.end.EndOf.{EndOf}
 use Rattle.flume_cli.specs.declared.status.Status.{Status}
-use Rattle.flume_cli.specs.Cat.{to_read}
+use Rattle.par_join.specs.Cat.{to_read}
 use Rattle.flume_cli.specs.Headline.{Call}
 
 -- one file

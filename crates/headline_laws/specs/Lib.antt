@@ -1,4 +1,5 @@
 pub mod Calls
+pub mod Described
 pub mod Refused
 pub mod Surplus
 pub mod Worked

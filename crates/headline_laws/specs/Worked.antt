@@ -8,7 +8,7 @@ use Rattle.res_ledger.specs.declared.event.StreamNo.TheVariants.{Inner}
 use Rattle.res_ledger.specs.declared.event.What.TheVariants.{Close}
 use Rattle.device_port.specs.Device.{DeviceTold}
 use Rattle.flume_cli.specs.declared.status.Status.TheVariants as status
-use Rattle.flume_cli.specs.Cat.{to_read}
+use Rattle.par_join.specs.Cat.{to_read}
 use Rattle.flume_cli.specs.Headline.{Call}
 use Rattle.headline_laws.specs.Calls.{a, event, closed_device, output_of, one_row_ledger, cat_call, file_call}
 

@@ -1,6 +1,8 @@
 //! Calls with one thing wrong each.
 ghost use Rattle.flume_cli.specs.Headline.{Headline};
 ghost use Rattle.headline_laws.specs.Refused.{end_never_met, failed_read_forgotten, invented_output, cut_output, row_of_no_plan, event_of_no_stream, lease_of_no_stream, call_with_row_without_a_final, call_with_final_before_close, kept_device, closed_twice, left_open, failure_not_told, halted_without_a_cause, fault_without_a_fault, failed_close_not_told, done_told_as_errored, fault_told_as_succeeded, halt_told_as_succeeded, final_unlike_its_close, device_told_otherwise, silent_call};
+ghost use Rattle.std.specs.Prelude.{ℕ, ◌<◌, List, length};
+ghost use Rattle.headline_laws.specs.Described.{drained, made_though_refused, never_read, next_stream_refused, read_by_cat, read_on, refusal_printed, refused_though_good, stream_left_out, unread_but_refused, unread_without_a_fault};
 ghost use Rattle.headline_laws.specs.Surplus.{halted_by_the_tail, halted_for_memory, idle_devices, invented_scopes, memory_at_the_end, opened_again, writes_on};
 
 /// Outputs that no device gave.
@@ -55,4 +57,19 @@ pub fn missing_causes()
     ensures is_end_never_met { ¬ (Headline end_never_met) }
     ensures is_failed_close_not_told { ¬ (Headline failed_close_not_told) }
     ensures is_silent_call { ¬ (Headline silent_call) }
+{}
+
+/// Refusals that aren't the description's, and sources that were read otherwise than is told.
+pub fn wrong_descriptions()
+    ensures is_next_stream_refused { ¬ (Headline next_stream_refused) }
+    ensures is_stream_left_out { ¬ (Headline stream_left_out) }
+    ensures is_unread_without_a_fault { ¬ (Headline unread_without_a_fault) }
+    ensures is_unread_but_refused { ¬ (Headline unread_but_refused) }
+    ensures is_read_on { ¬ (Headline read_on) }
+    ensures is_drained { (bytes : List ℕ) → 1048577 < length bytes → ¬ (Headline (drained bytes)) }
+    ensures is_refused_though_good { ¬ (Headline refused_though_good) }
+    ensures is_never_read { ¬ (Headline never_read) }
+    ensures is_read_by_cat { ¬ (Headline read_by_cat) }
+    ensures is_made_though_refused { ¬ (Headline made_though_refused) }
+    ensures is_refusal_printed { ¬ (Headline refusal_printed) }
 {}

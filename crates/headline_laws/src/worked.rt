@@ -1,5 +1,6 @@
 //! Calls that went as they should.
 ghost use Rattle.flume_cli.specs.Headline.{Headline};
+ghost use Rattle.headline_laws.specs.Described.{empty_description, no_memory, refused_description, unread_source};
 ghost use Rattle.headline_laws.specs.Worked.{whole_file, empty_file, missing_file, read_fault, failed_close, failed_write};
 
 /// Files that were read whole.
@@ -18,4 +19,12 @@ pub fn failed_devices()
 /// An output that failed at once.
 pub fn failed_outputs()
     ensures { Headline failed_write }
+{}
+
+/// Descriptions that were refused, not read, or of no stream.
+pub fn descriptions()
+    ensures is_refused_description { Headline refused_description }
+    ensures is_unread_source { Headline unread_source }
+    ensures is_no_memory { Headline no_memory }
+    ensures is_empty_description { Headline empty_description }
 {}

@@ -1,20 +1,19 @@
--- The words are a cat, or they mean nothing.
-use Rattle.std.proofs.Common.{◌≡◌, Some, None, List, [], sym, subst}
-use Rattle.res_ledger.specs.declared.event.Event.{Event}
-use Rattle.run_rules.specs.declared.end.EndOf.{EndOf}
-use Rattle.flume_cli.specs.declared.status.Status.TheVariants as status
-use Rattle.flume_cli.specs.Words.{cat_path_of}
-use Rattle.flume_cli.specs.Finish.{Reports}
-use Rattle.flume_cli.proofs.Telling.{cat_told, nothing_told}
+-- What the words ask for was done and told.
+use Rattle.std.proofs.Common.{Some, sym, ap, ◌∙◌}
+use Rattle.flume_cli.specs.Asked.{command_asked}
+use Rattle.flume_cli.proofs.Calling.{cat_told, nothing_told, run_told, stopped_told}
 use Rattle.flume_cli.proofs.top.flume.Goals as goal
 
-pub returns-in-Some : goal.returns-in-Some
-returns-in-Some g c =
-    let known : cat_path_of c.args.words.now ≡ Some c.in-Some.path.now = sym c.in-Some.ensures in
-    cat_told _ _ _ _ _ _ _ _ _ _ c.run_cat-outcome.result known c.run_cat-outcome.ensures c.print_tail-status.result _ c.print_tail-status.ensures c.finish.ensures
+pub returns-in-Some-Cat : goal.returns-in-Some-Cat
+returns-in-Some-Cat g c =
+    cat_told _ c.in-Some-Cat.path.now _ _ _ _ _ _ _ _ _ c.tell.result (sym c.in-Some-Cat.ensures ∙ ap (λ x. command_asked (Some x)) c.in-Some-Cat.field-0-is) c.run_cat-outcome.ensures c.tell.ensures
+
+pub returns-in-Ok : goal.returns-in-Ok
+returns-in-Ok g c =
+    run_told _ _ _ _ _ _ _ _ _ _ _ c.tell-in-Ok.result c.in-Ok.plan (sym c.in-Some-Run.ensures ∙ ap (λ x. command_asked (Some x)) c.in-Some-Run.field-0-is) c.in-Ok.ensures c.run_streams-outcome.ensures c.tell-in-Ok.ensures
+
+pub returns-in-Err : goal.returns-in-Err
+returns-in-Err g c = stopped_told _ _ _ _ _ _ _ c.in-Err.status c.refuse.result (sym c.in-Some-Run.ensures ∙ ap (λ x. command_asked (Some x)) c.in-Some-Run.field-0-is) c.in-Err.ensures c.refuse.ensures
 
 pub returns-in-None : goal.returns-in-None
-returns-in-None g c =
-    let known : cat_path_of c.args.words.now ≡ None = sym c.in-None.ensures in
-    let told = λ (es : List EndOf) (L : List Event). Reports status.BadWords es L (g.E.Sink.told c.args.err.now) (g.E.Sink.told c.finish-in-None.new.err) c.finish-in-None.result in
-    nothing_told _ _ _ _ _ _ _ known (subst (λ es. told es []) c.new.ensures (subst (λ L. told c.new.result L) c.empty.ensures c.finish-in-None.ensures))
+returns-in-None g c = nothing_told _ _ _ _ _ _ c.refuse-in-None.result (sym c.in-None.ensures) c.refuse-in-None.ensures

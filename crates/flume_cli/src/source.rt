@@ -1,0 +1,62 @@
+//! The source is read to its end.
+ghost use Rattle.std.specs.Prelude.{◌-◌, ◌^◌, ◌<◌};
+ghost use Rattle.flume_cli.specs.Input.{ReadsSource};
+
+use chunk_core::Line;
+use device_port::{Failed, Source};
+use std::alloc::{AllocError, Global};
+
+/// The most bytes that are read: one more than a description may have.
+const MOST: usize = 1_048_577;
+
+/// The most bytes that one read asks for.
+const PIECE: usize = 4096;
+
+/// Why a source wasn't read to its end.
+#[derive(Clone, Copy)]
+pub(crate) enum NotRead {
+    /// A read failed, and none was tried after it.
+    Failed,
+    /// Memory was wanting.
+    Memory,
+}
+
+impl From<Failed> for NotRead {
+    ghost use Rattle.std.specs.Prelude.{◌≡◌};
+    ghost use Rattle.flume_cli.specs.declared.source.NotRead.TheVariants as why;
+
+    ghost from_gives = { λ _ e. e ≡ why.Failed };
+
+    fn from(_: Failed) -> NotRead {
+        NotRead::Failed
+    }
+}
+
+impl From<AllocError> for NotRead {
+    ghost use Rattle.std.specs.Prelude.{◌≡◌};
+    ghost use Rattle.flume_cli.specs.declared.source.NotRead.TheVariants as why;
+
+    ghost from_gives = { λ _ e. e ≡ why.Memory };
+
+    fn from(_: AllocError) -> NotRead {
+        NotRead::Memory
+    }
+}
+
+/// All that the source gives, or its first 1,048,577 bytes where that is more.
+pub(crate) fn read_source<S: Source>(alloc: Global, src: &mut S) -> Result<Line, NotRead>
+    requires room { (S.told src.old).faults < 2 ^ 64 - 1 }
+    ensures { ReadsSource (S.told src.old) (S.told src.new) result }
+{
+    let mut bytes = Vec::new(alloc);
+    let mut piece = [0; PIECE];
+    while bytes.len() < MOST {
+        let room = PIECE.min(MOST - bytes.len());
+        let count = src.read(&mut piece[..room])?;
+        if count == 0 {
+            break;
+        }
+        bytes.extend_from_slice(&piece[..count])?;
+    }
+    Ok(Line::of_vec(bytes))
+}

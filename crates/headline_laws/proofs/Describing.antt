@@ -1,0 +1,151 @@
+-- Each call of run that went as it should meets the contract.
+use Rattle.std.proofs.Common.{◌≡◌, ℕ, true, false, List, [], ◌∷◌, ◌++◌, length, Some, None, Ok, Err, refl, sym, ◌∙◌, ap, subst, inl, inr, arith, Result}
+use Rattle.std.specs.Fmt.{digits}
+use Rattle.std.specs.Str.{is_utf8, chars}
+use Rattle.std.proofs.lemmas.Bool.{false≢true}
+use Rattle.std.proofs.lemmas.List.Sorted.{IsPermutation-refl}
+use Rattle.toml.proofs.OnLiterals.{toml_on_literals}
+use Rattle.chunk_core.specs.Texts.{frames_text}
+use Rattle.chunk_core.proofs.Distinct.{distinct_nil}
+use Rattle.res_ledger.specs.declared.event.Event.{Event}
+use Rattle.res_ledger.specs.declared.event.StreamNo.TheVariants.{Inner, Outer}
+use Rattle.res_ledger.specs.Streams.{same_stream}
+use Rattle.res_ledger.proofs.Judged.{complete_sound, each_event, legal_sound}
+use Rattle.res_ledger.proofs.Ordering.{ordered_sound}
+use Rattle.res_ledger.proofs.Stamps.{stamped_sound}
+use Rattle.device_port.specs.Sink.{with_bytes}
+use Rattle.pipeline_desc.specs.Meant.{PlanMeant}
+use Rattle.pipeline_desc.specs.Plans.{plan_of}
+use Rattle.pipeline_desc.specs.Worked.{plan_by_default}
+use Rattle.pipeline_desc.specs.declared.refusal.Refusal.{Refusal}
+use Rattle.run_rules.specs.Rules.{KeepsRules}
+use Rattle.run_rules.specs.Run.{Performs}
+use Rattle.run_rules.specs.Texts.{tail_text}
+use Rattle.run_rules.specs.Work.{Values}
+use Rattle.par_join.specs.Plans.{run_work}
+use Rattle.flume_cli.specs.declared.status.Status.TheVariants as status
+use Rattle.flume_cli.specs.Status.{Causes, line_of}
+use Rattle.flume_cli.specs.Headline.{DoesPlan, Headline, TellsWork, run_of_call}
+use Rattle.headline_laws.specs.Described.{clash, clash_refusal, empty_description, no_memory, outer_ledger, refused_description, unread_source}
+use Rattle.headline_laws.specs.Worked.{missing_device}
+
+-- What the descriptions mean.
+
+pub clash_means : plan_of clash ≡ Err (clash_refusal 0)
+unfolding toml_on_literals is_utf8 chars
+clash_means = refl
+
+pub nothing_means : plan_of [] ≡ Ok (plan_by_default [])
+unfolding toml_on_literals is_utf8 chars
+nothing_means = refl
+
+-- Where nothing was done.
+
+refusal_told : refused_description.err_new ≡ with_bytes refused_description.err_old (line_of (status.Refused (clash_refusal 0)))
+unfolding digits
+refusal_told = refl
+
+abbrev causes_of_refusal : Causes
+causes_of_refusal = record { words = true; unread = false; refused = Some (clash_refusal 0); unwritten = false; memory = false; faulty = false; unclean = false }
+
+pub refused_description_holds : Headline refused_description
+refused_description_holds = record {
+  causes = causes_of_refusal;
+  status = record { words = refl; unread = refl; unwritten = refl; memory = λ h. absurd (false≢true h); faulty = refl; unclean = refl; status = refl; line = inl refusal_told };
+  source = tt;
+  does = inr (record {
+    bytes = clash;
+    input = record { few = omega arith; told = refl; given = refl };
+    plan = subst (λ (q : Result PlanMeant Refusal). DoesPlan refused_description causes_of_refusal q) (sym clash_means) (refl, record { depot = refl; out = refl; ends = refl; events = refl });
+  });
+}
+
+pub unread_source_holds : Headline unread_source
+unread_source_holds = record {
+  causes = record { words = true; unread = true; refused = None; unwritten = false; memory = false; faulty = false; unclean = false };
+  status = record { words = refl; unread = refl; unwritten = refl; memory = λ h. absurd (false≢true h); faulty = refl; unclean = refl; status = refl; line = inl refl };
+  source = tt;
+  does = inl (record { cause = inl refl; taken = record { count = 10; few = omega arith; told = refl }; refused = refl; nothing = record { depot = refl; out = refl; ends = refl; events = refl } });
+}
+
+pub no_memory_holds : Headline no_memory
+no_memory_holds = record {
+  causes = record { words = true; unread = false; refused = None; unwritten = false; memory = true; faulty = false; unclean = false };
+  status = record { words = refl; unread = refl; unwritten = refl; memory = λ h. refl; faulty = refl; unclean = refl; status = refl; line = inl refl };
+  source = tt;
+  does = inl (record { cause = inr refl; taken = record { count = length clash; few = omega arith; told = refl }; refused = refl; nothing = record { depot = refl; out = refl; ends = refl; events = refl } });
+}
+
+-- Where no stream is described.
+
+text_of_empty_description : empty_description.out_new.written ≡ Some ([] ++ (frames_text [] ++ ([] ++ tail_text empty_description.ends empty_description.events)))
+unfolding digits
+text_of_empty_description = refl
+
+-- no inner stream noted anything
+outer_alone : (P Q : List Event) (e : Event) (k : ℕ) → outer_ledger ≡ P ++ e ∷ Q → e.by ≡ Inner k → ⊥
+outer_alone P Q e k is by = false≢true (ap (λ s. same_stream s Outer) (sym by) ∙ each_event (λ P e. same_stream e.by Outer) outer_ledger P Q e refl is)
+
+rules_of_none : KeepsRules (run_work (plan_by_default [])) outer_ledger
+rules_of_none = record {
+  stamped = stamped_sound outer_ledger outer_ledger refl refl;
+  legal = legal_sound outer_ledger refl;
+  complete = complete_sound outer_ledger (legal_sound outer_ledger refl) refl;
+  ordered = ordered_sound outer_ledger refl;
+  ours = refl;
+  scopes = (omega arith, tt);
+  leaving = λ P Q e j x is by what. absurd (outer_alone P Q e j is by);
+  pace = (λ P Q e k is by. absurd (outer_alone P Q e k is by), λ P Q e is. omega arith);
+}
+
+abbrev no_values : Values
+no_values t key = None
+
+abbrev causes_of_none : Causes
+causes_of_none = record { words = true; unread = false; refused = None; unwritten = false; memory = false; faulty = false; unclean = false }
+
+none_performs : Performs (run_work (plan_by_default [])) (run_of_call empty_description [] None [] false)
+none_performs = record {
+  devices = record { made = refl; few = tt; retired = refl; once = IsPermutation-refl _; shut = tt; rows = (tt, tt); acquired = tt; failed = tt; exits = λ x. tt; files = λ path. inr refl; stored = tt };
+  ledger = rules_of_none;
+  ran = inr (record {
+    values = no_values;
+    home = λ r. missing_device;
+    rows = record { at_home = tt; apart = distinct_nil; tied = (tt, tt); values = λ t key l. absurd (omega (arith, l)) };
+    outputs = record { numbers = tt; few = tt; outputs = refl; rest = refl };
+    ends = record {
+      named = refl;
+      caused = (record { halted = λ h. absurd (false≢true h); fault = refl; root = λ h. refl }, tt);
+      outer = (tt, tt);
+      stopped = record { in_turn = λ e. absurd (false≢true e); nobody = λ e. absurd (false≢true e) };
+      memory = λ h. absurd (false≢true h);
+    };
+    exits = (λ e. (refl, tt), tt);
+    completeness = λ m n. record { done = (refl, tt); clean = refl; output = tt };
+  });
+}
+
+none_told : TellsWork (run_work (plan_by_default [])) empty_description causes_of_none
+none_told = record {
+  frames = [];
+  cut = None;
+  rest = [];
+  wanted = false;
+  performs = none_performs;
+  text = record { said = tail_text empty_description.ends empty_description.events; written = text_of_empty_description; tail = refl; spoke = λ e. absurd (some_end e); once = omega arith };
+}
+  where
+    some_end : empty_description.ends ≡ [] → ⊥
+    some_end e = cc
+
+pub empty_description_holds : Headline empty_description
+empty_description_holds = record {
+  causes = causes_of_none;
+  status = record { words = refl; unread = refl; unwritten = refl; memory = λ h. absurd (false≢true h); faulty = refl; unclean = refl; status = refl; line = inl refl };
+  source = tt;
+  does = inr (record {
+    bytes = [];
+    input = record { few = omega arith; told = refl; given = refl };
+    plan = subst (λ (q : Result PlanMeant Refusal). DoesPlan empty_description causes_of_none q) (sym nothing_means) (refl, none_told);
+  });
+}

@@ -1,0 +1,89 @@
+-- The work of one stream, from what it has done.
+use Rattle.std.proofs.Common.{◌≡◌, ℕ, suc, ◌+◌, ◌<◌, true, List, [], ◌∷◌, ◌++◌, map, length, Option, Some, IfSome, refl, sym, ◌∙◌, ap, arith, append-nil}
+use Rattle.std.specs.List.{AllByRecursion, range_with_len}
+use Rattle.chunk_core.specs.Elements.{Element}
+use Rattle.chunk_core.specs.Texts.{Frame}
+use Rattle.chunk_core.specs.Outcomes.{Outcomes}
+use Rattle.chunk_core.specs.declared.code.Code.{Code}
+use Rattle.chunk_core.specs.declared.code.How.{How}
+use Rattle.chunk_core.specs.declared.code.How.TheVariants as how
+use Rattle.res_ledger.specs.declared.event.Event.{Event}
+use Rattle.device_port.specs.Device.{Place, DeviceTold, faults_of}
+use Rattle.device_port.specs.Depot.{DepotTold, Files}
+use Rattle.run_rules.specs.Facts.{at, first_numbers}
+use Rattle.run_rules.specs.Devices.{DevicesAccounted, came_back}
+use Rattle.run_rules.specs.Work.{Work, Values}
+use Rattle.run_rules.specs.Ends.{act_count, is_shown}
+use Rattle.run_rules.specs.Homes.{HaveHomes}
+use Rattle.run_rules.specs.Rules.{KeepsRules}
+use Rattle.par_join.specs.declared.outcome.Outcome.{Outcome}
+use Rattle.par_join.specs.Alone.{alone, frame_of, AreReturned, ComesBack, IsAccount}
+use Rattle.par_join.specs.Cat.{deed_of}
+use Rattle.par_join.specs.Joined.{AreMade, MadeComeBack}
+use Rattle.par_join.proofs.Accounts.{kept, leaves_closed, ours}
+use Rattle.par_join.proofs.MadeRows as made
+use Rattle.par_join.proofs.MadeRows.{at_below}
+use Rattle.par_join.proofs.Permuted.{range_among, range_distinct}
+
+-- A device was made for each row.
+
+module _ (files : Option Files) (w : ℕ → DeviceTold) where
+  are_made : (places : List Place) (n r : ℕ) (ps : List Place) → AreReturned files n w r ps → ((i : ℕ) (p : Place) → at ps i ≡ Some p → at places (r + i) ≡ Some p) → AreMade files places n w (range_with_len r (length ps))
+  are_made places n r [] h in_place = tt
+  are_made places n r (p ∷ ps) h in_place =
+      let first : r ≡ r + 0 = omega arith in (
+        (p, ap (λ k. at places k) first ∙ in_place 0 p refl, h.0),
+        are_made places (n + 1) (r + 1) ps h.1 (λ i q e. let next : r + 1 + i ≡ r + suc i = omega arith in ap (λ k. at places k) next ∙ in_place (suc i) q e),
+      )
+
+  places_are : (n r : ℕ) (ps : List Place) → AreReturned files n w r ps → map (λ q. (w q).place) (range_with_len r (length ps)) ≡ ps
+  places_are n r [] h = refl
+  places_are n r (p ∷ ps) h = ap (λ q. q ∷ map (λ k. (w k).place) (range_with_len (r + 1) (length ps))) h.0.place_is ∙ ap (λ l. p ∷ l) (places_are (n + 1) (r + 1) ps h.1)
+
+all_made : (old new : DepotTold) (places : List Place) (w : ℕ → DeviceTold) → ComesBack old new places w → MadeComeBack old new places w
+all_made old new places w d = record {
+  rows = first_numbers (length places);
+  apart = range_distinct 0 (length places);
+  made = d.made ∙ ap (λ ps. old.made ++ ps) (sym (places_are old.files w (length old.made) 0 places d.devices));
+  back = d.back;
+  retired = d.retired;
+  each = d.each;
+  devices = are_made old.files w places (length old.made) 0 places d.devices (λ i p e. let same : 0 + i ≡ i = omega arith in ap (λ k. at places k) same ∙ e);
+  others = λ r p e n. let l = at_below places r p e in absurd (n (range_among 0 (length places) r (omega arith) (omega (arith, l))));
+  files = d.files;
+  stored = d.stored;
+}
+
+module _ (places : List Place) (scopes : ℕ) (runs ideal : (ℕ → DeviceTold) → Outcomes) (old new : DepotTold) (w : ℕ → DeviceTold) (h : How) (L : List Event) (d : ComesBack old new places w) (a : IsAccount (length places) scopes w h L) where
+  abbrev work : Work
+  work = alone places scopes runs ideal
+
+  abbrev every : MadeComeBack old new places w
+  every = all_made old new places w d
+
+  pub accounted : DevicesAccounted old new places L
+  accounted = made.accounted places old new w every L (kept (length places) scopes w h L a)
+
+  pub keeps_rules : KeepsRules work L
+  keeps_rules = record {
+    stamped = a.stamped;
+    legal = a.legal;
+    complete = a.complete;
+    ordered = a.ordered;
+    ours = ours places scopes w h L a runs ideal;
+    scopes = (a.opened, tt);
+    leaving = leaves_closed (length places) scopes w h L a;
+    pace = tt;
+  }
+
+  -- the rows are at home
+  pub homes : (v : Values) (pieces : List (List Element)) (cut : Option Frame) (rest : List ℕ) (o : Outcome) → o.ledger ≡ L → HaveHomes work (deed_of old new (map (frame_of 0) pieces) cut rest o) v w
+  homes v pieces cut rest o is = made.homes places old new w every L (kept (length places) scopes w h L a) work (deed_of old new (map (frame_of 0) pieces) cut rest o) v (append-nil places) refl refl is tt
+
+  -- a fault of an act has a device of a row that shows it
+  pub shown : (e : How) → ((c : Code) → e ≡ how.Fault c → IfSome (act_count c) (λ n. (r : ℕ) × (r < length places) × (0 < n (w r)))) → is_shown (came_back old new) places e ≡ true
+  shown = made.shown places old new w every
+
+  -- where nothing failed each device is without a fault
+  pub faultless : AllByRecursion (λ x. faults_of x ≡ 0) (came_back old new) → (r : ℕ) → r < length places → faults_of (w r) ≡ 0
+  faultless = made.faultless places old new w every

@@ -1,0 +1,13 @@
+pub mod Frame
+pub mod Alone
+pub mod Printing
+pub mod Nodes
+pub mod Streams
+pub mod Retire
+pub mod Cat
+pub mod Ready
+pub mod Joined
+pub mod Plans
+pub mod Room
+pub mod Begun
+pub mod Course

@@ -1,0 +1,118 @@
+//! What a stream gives, printed piece by piece.
+ghost use Rattle.std.specs.Prelude.{◌≡◌, ℕ, ◌-◌, ◌^◌, ◌<◌, ◌≤◌, None, IfSome, length};
+ghost use Rattle.chunk_core.specs.Elements.{elements};
+ghost use Rattle.pull_turns.specs.Around.{Goes};
+ghost use Rattle.pull_turns.specs.Piping.{standing};
+ghost use Rattle.pull_turns.specs.Turned.{SpendsWithin};
+ghost use Rattle.row_seat.specs.Views.{OthersFit};
+ghost use Rattle.scope_tree.specs.Calls.{IsOpenScope};
+ghost use Rattle.pull_stepper.specs.Held.{FinishesDevice};
+ghost use Rattle.pull_stepper.specs.Sites.{Since, around, told_at};
+ghost use Rattle.pull_stepper.specs.Steppers.{Works, stepping};
+ghost use Rattle.pull_stepper.specs.Stepping.{CanGo, Halts, IsOver};
+ghost use Rattle.par_join.specs.Printing.{CountsDown, PrintsAll, PrintsOne};
+
+use crate::frame::{NotPut, put_load};
+use crate::stopped::Stopped;
+use crate::terms::Terms;
+use chunk_core::Load;
+use device_port::{Device, Gate, Sink};
+use pull_nodes::PipeState;
+use pull_stepper::{Held, Stepper, Turn};
+use row_seat::RowSeat;
+use std::alloc::{AllocError, Global};
+
+/// Runs a stream to its end and prints each piece as a frame; it passes the gate before each turn.
+/// The stream is halted behind the last frame that may be printed, and where a write fails or
+/// memory is wanting.
+pub(crate) fn print_all<V: Device, S: RowSeat<Pay = Held<V>>, F: PipeState, K: Sink, G: Gate>(
+    alloc: Global,
+    stepper: &mut Stepper<S, V, F>,
+    desk: &mut S::Desk,
+    terms: Terms,
+    gate: &G,
+    out: &mut K,
+) -> Stopped
+    requires fits { Works S.view V.told S.fits stepper.old desk.old }
+    requires can { CanGo (standing F.stands F.comes) V.told (stepping S.view F.values stepper.old) }
+    requires most { IfSome terms.most (λ n. 1 ≤ n) }
+    requires room { (K.told out.old).faults < 2 ^ 64 - 1 }
+    ensures prints { PrintsAll (standing F.stands F.comes) V.told terms.stream terms.most (stepping S.view F.values stepper.old) (stepping S.view F.values stepper.new) (K.told out.old) (K.told out.new) result }
+    ensures over { IsOver V.told (stepping S.view F.values stepper.new) }
+    ensures goes { (p : ℕ) → Goes (told_at V.told (stepping S.view F.values stepper.old).site p) (told_at V.told (stepping S.view F.values stepper.new).site p) }
+    ensures spends { SpendsWithin (around V.told (stepping S.view F.values stepper.old).site) (around V.told (stepping S.view F.values stepper.new).site) (stepping S.view F.values stepper.old).rest }
+    ensures fits { Works S.view V.told S.fits stepper.new desk.new }
+    ensures since { Since V.told (FinishesDevice V.told) (stepping S.view F.values stepper.old).site (stepping S.view F.values stepper.new).site }
+    ensures others { OthersFit S.view S.fits (stepping S.view F.values stepper.old).site.tree.seat.by desk.old desk.new }
+{
+    let stream = terms.stream;
+    let mut left = terms.most;
+    'turns: loop {
+        gate.pass(stream);
+        match stepper.turn(desk) {
+            Ok(Turn::Chunk(load)) => match print_load(alloc, stream, load, &mut left, out) {
+                Ok(()) => {}
+                Err(cause) => return stop(stepper, desk, cause),
+            },
+            Ok(Turn::Quiet) => {}
+            Ok(Turn::Done) => return Stopped::Ended,
+            Ok(Turn::Fault(_)) => return Stopped::Ended,
+            Err(AllocError) => return stop(stepper, desk, Stopped::Memory),
+        }
+    }
+}
+
+/// Halts a stream, and tells why.
+fn stop<V: Device, S: RowSeat<Pay = Held<V>>, F: PipeState>(
+    stepper: &mut Stepper<S, V, F>,
+    desk: &mut S::Desk,
+    cause: Stopped,
+) -> Stopped
+    requires fits { Works S.view V.told S.fits stepper.old desk.old }
+    requires runs { (stepping S.view F.values stepper.old).how ≡ None }
+    requires root { IsOpenScope (stepping S.view F.values stepper.old).site.tree 0 }
+    ensures cause { result ≡ cause }
+    ensures halts { Halts V.told (stepping S.view F.values stepper.old) (stepping S.view F.values stepper.new) }
+    ensures fits { Works S.view V.told S.fits stepper.new desk.new }
+    ensures since { Since V.told (FinishesDevice V.told) (stepping S.view F.values stepper.old).site (stepping S.view F.values stepper.new).site }
+    ensures others { OthersFit S.view S.fits (stepping S.view F.values stepper.old).site.tree.seat.by desk.old desk.new }
+{
+    stepper.halt(desk);
+    cause
+}
+
+/// Prints a load as a frame of a stream, of which so many may still be printed, and counts it.
+/// Where nothing may be printed behind it the cause is told.
+fn print_load<K: Sink>(
+    alloc: Global,
+    stream: u32,
+    load: Load,
+    left: &mut Option<u64>,
+    out: &mut K,
+) -> Result<(), Stopped>
+    requires some { 0 < length (elements load) }
+    requires left { IfSome left.old (λ n. 1 ≤ n) }
+    requires room { (K.told out.old).faults < 2 ^ 64 - 1 }
+    ensures { PrintsOne (K.told out.old) (K.told out.new) stream load left.old left.new result }
+{
+    match put_load(alloc, out, stream, &load) {
+        Ok(()) => count_down(left),
+        Err(NotPut::Unwritten) => Err(Stopped::Unwritten),
+        Err(NotPut::Memory) => Err(Stopped::Memory),
+    }
+}
+
+/// Counts one frame of those that may still be printed, and tells where it was the last.
+fn count_down(left: &mut Option<u64>) -> Result<(), Stopped>
+    requires { IfSome left.old (λ n. 1 ≤ n) }
+    ensures { CountsDown left.old left.new result }
+{
+    match left {
+        None => Ok(()),
+        Some(1) => Err(Stopped::Enough),
+        Some(count) => {
+            *count -= 1;
+            Ok(())
+        }
+    }
+}
