@@ -3,7 +3,7 @@ use crate::outside::{cat_of, depot_of, filled, run, sink_of};
 use chunk_core::{Code, Exit, How, List, Word};
 use device_port::Failed;
 use flume_cli::tail::tail_of;
-use flume_cli::{put_frame, run_cat};
+use par_join::{put_frame, run_cat};
 use res_ledger::{LedgerRefused, StreamNo, What, read, text};
 use run_rules::EndOf;
 use std::test::Fail;

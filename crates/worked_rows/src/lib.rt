@@ -4,11 +4,21 @@
 #[cfg(test)]
 mod calls;
 #[cfg(test)]
+mod described;
+#[cfg(test)]
 mod failing;
 #[cfg(test)]
 mod memory;
 #[cfg(test)]
 mod outside;
+#[cfg(test)]
+mod reports;
+#[cfg(test)]
+mod run_faults;
+#[cfg(test)]
+mod run_whole;
+#[cfg(test)]
+mod slow;
 #[cfg(test)]
 mod whole;
 #[cfg(test)]

@@ -1,9 +1,9 @@
 //! An outside in memory, and one call over it.
-ghost use Rattle.std.specs.Prelude.{◌≡◌, IfOk};
+ghost use Rattle.std.specs.Prelude.{◌≡◌, ◌-◌, ◌^◌, ◌<◌, IfOk};
 ghost use Rattle.device_port.specs.Memory.{sink_told};
 
 use chunk_core::{Exit, How, Line, List, Word};
-use device_port::{Act, FileOf, MemDepot, MemSink, MemSource, OpenGate, Trip};
+use device_port::{Act, FileOf, MemDepot, MemSink, MemSource, OpenGate, Source, Trip};
 use flume_cli::{Report, Status, flume};
 use res_ledger::{Event, StreamNo, What};
 use run_rules::EndOf;
@@ -16,6 +16,10 @@ use std::thread::Threads;
 #[derive(Clone, Copy, Debug)]
 pub struct Case<'a> {
     pub words: &'a [&'a str],
+    /// What standard input gives.
+    pub source: &'a [u8],
+    /// The numbers, from 1, of the reads of standard input that fail.
+    pub source_fails: &'a [u32],
     pub file: &'a [u8],
     /// The calls on the file that fail.
     pub trips: &'a [(Act, u32)],
@@ -29,10 +33,21 @@ pub struct Case<'a> {
 pub fn cat_of(file: &[u8]) -> Case<'_> {
     Case {
         words: &["cat", "a"],
+        source: b"not read",
+        source_fails: &[],
         file,
         trips: &[],
         out_fails: &[],
         err_fails: &[],
+    }
+}
+
+/// `run` of a description, of which nothing fails.
+pub fn run_of<'a>(description: &'a str, file: &'a [u8]) -> Case<'a> {
+    Case {
+        words: &["run"],
+        source: description.as_bytes(),
+        ..cat_of(file)
     }
 }
 
@@ -49,6 +64,14 @@ fn words_of(alloc: Global, words: &[&str]) -> Result<Vec<Word>, AllocError> {
     let mut list = Vec::new(alloc);
     for word in words {
         list.push(Word::of(alloc, word)?)?;
+    }
+    Ok(list)
+}
+
+fn numbers_of(alloc: Global, numbers: &[u32]) -> Result<List<u32>, AllocError> {
+    let mut list = List::new(alloc);
+    for number in numbers {
+        list.push(*number)?;
     }
     Ok(list)
 }
@@ -85,11 +108,7 @@ pub fn depot_of(alloc: Global, case: &Case) -> Result<MemDepot, AllocError> {
 pub fn sink_of(alloc: Global, fails: &[u32]) -> Result<MemSink, AllocError>
     ensures { IfOk result (λ s. (sink_told s).faults ≡ 0) }
 {
-    let mut list = List::new(alloc);
-    for nth in fails {
-        list.push(*nth)?;
-    }
-    MemSink::new(alloc, list)
+    MemSink::new(alloc, numbers_of(alloc, fails)?)
 }
 
 /// Makes the outside and calls the top call once.
@@ -98,13 +117,26 @@ pub fn run<R: Threads + Wait + Sync>(
     alloc: Global,
     case: &Case,
 ) -> Result<Seen, AllocError> {
+    let fails = numbers_of(alloc, case.source_fails)?;
+    let mut src = MemSource::new(alloc, case.source, fails)?;
+    run_from(rt, alloc, &mut src, case)
+}
+
+/// Makes the rest of the outside, and calls the top call once with this source.
+pub fn run_from<R: Threads + Wait + Sync, S: Source>(
+    rt: &R,
+    alloc: Global,
+    src: &mut S,
+    case: &Case,
+) -> Result<Seen, AllocError>
+    requires { (S.told src.old).faults < 2 ^ 64 - 1 }
+{
     let words = words_of(alloc, case.words)?;
-    let mut src = MemSource::new(alloc, b"not read", List::new(alloc))?;
     let mut depot = depot_of(alloc, case)?;
     let mut out = sink_of(alloc, case.out_fails)?;
     let mut err = sink_of(alloc, case.err_fails)?;
     let report = flume(
-        rt, alloc, &words, &mut src, &mut depot, &mut out, &mut err, &OpenGate,
+        rt, alloc, &words, src, &mut depot, &mut out, &mut err, &OpenGate,
     );
     Ok(Seen {
         report,
@@ -112,6 +144,16 @@ pub fn run<R: Threads + Wait + Sync>(
         out,
         err,
     })
+}
+
+/// Nothing was done: no device was made, nothing printed, and standard error was told this.
+pub fn assert_idle(rt: &impl Abort, seen: &Seen, status: Status, line: &str) {
+    assert_eq!(rt; seen.report.status, status);
+    assert_eq!(rt; seen.err.written(), line.as_bytes());
+    assert_eq!(rt; seen.out.written(), b"".as_slice());
+    assert_eq!(rt; seen.depot.made().len(), 0);
+    assert!(rt; seen.report.ends.is_empty());
+    assert!(rt; seen.report.ledger.is_empty());
 }
 
 /// The call ended with this status and printed this, and nothing stands on standard error.

@@ -1,30 +1,21 @@
 //! Words that mean nothing, and the longest path.
-use crate::outside::{Case, Seen, assert_device, assert_printed, cat_of, filled, run};
+use crate::outside::{Case, assert_device, assert_idle, assert_printed, cat_of, filled, run};
 use flume_cli::Status;
-use std::process::Abort;
 use std::test::Fail;
 
-const REFUSAL: &[u8] = b"flume: bad command line\n";
+const REFUSAL: &str = "flume: bad command line\n";
 
-const MEANINGLESS: [&[&str]; 8] = [
+const MEANINGLESS: [&[&str]; 9] = [
     &[],
     &["cat"],
     &["cat", "-x"],
     &["cat", "-"],
     &["cat", ""],
     &["cat", "a", "b"],
-    &["run"],
+    &["run", "a"],
+    &["cat", "a", "run"],
     &["dog", "a"],
 ];
-
-fn assert_refused(rt: &impl Abort, seen: &Seen, words: &[&str]) {
-    assert_eq!(rt; seen.report.status, Status::BadWords, "at {words:?}");
-    assert_eq!(rt; seen.err.written(), REFUSAL, "at {words:?}");
-    assert_eq!(rt; seen.out.written(), b"".as_slice(), "at {words:?}");
-    assert_eq!(rt; seen.depot.made().len(), 0, "at {words:?}");
-    assert!(rt; seen.report.ends.is_empty(), "at {words:?}");
-    assert!(rt; seen.report.ledger.is_empty(), "at {words:?}");
-}
 
 #[test]
 fn other_words_mean_nothing(rt: HostRuntime) -> Result<(), Fail> {
@@ -34,7 +25,7 @@ fn other_words_mean_nothing(rt: HostRuntime) -> Result<(), Fail> {
             ..cat_of(b"hello\n")
         };
         let seen = run(&rt, rt.alloc(), &case)?;
-        assert_refused(&rt, &seen, words);
+        assert_idle(&rt, &seen, Status::BadWords, REFUSAL);
         assert_eq!(rt; seen.report.status.number(), 2);
     }
     Ok(())
@@ -48,7 +39,7 @@ fn too_long_a_path_means_nothing(rt: HostRuntime) -> Result<(), Fail> {
         ..cat_of(b"hello\n")
     };
     let seen = run(&rt, rt.alloc(), &case)?;
-    assert_refused(&rt, &seen, case.words);
+    assert_idle(&rt, &seen, Status::BadWords, REFUSAL);
     Ok(())
 }
 

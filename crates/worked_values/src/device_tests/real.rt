@@ -177,3 +177,10 @@ fn standard_streams(rt: HostRuntime) -> Result<(), Fail> {
     assert_eq!(rt; source.read(&mut buf), Ok(0));
     Ok(())
 }
+
+#[test]
+fn a_folder_is_no_source(rt: HostRuntime) -> Result<(), Fail> {
+    let mut source = StdSource::new(fs::open(&rt, "/")?);
+    assert_eq!(rt; source.read(&mut [0u8; 8]), Err(Failed));
+    Ok(())
+}

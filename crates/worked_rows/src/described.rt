@@ -1,0 +1,206 @@
+//! Descriptions that are refused or can't be read: nothing is done, and standard error is told.
+use crate::outside::{Case, assert_idle, filled, run, run_from, run_of};
+use crate::reports::{DONE, NONE, assert_runs, assert_whole, stream_of};
+use crate::slow::OneByOne;
+use flume_cli::Status;
+use pipeline_desc::{Refusal, RefusalKind};
+use std::test::Fail;
+
+const UNREAD: &str = "flume: cannot read the description\n";
+
+fn refused(kind: RefusalKind, stream: Option<u32>, step: Option<u32>) -> Status {
+    Status::Refused(Refusal { kind, stream, step })
+}
+
+/// Of the text, and of the top.
+#[test]
+fn refusals_without_a_stream(rt: HostRuntime) -> Result<(), Fail> {
+    let table: [(&[u8], RefusalKind, &str); 8] = [
+        (b"\xFF", RefusalKind::NotUtf8, "10"),
+        (b"[[", RefusalKind::NotToml, "1"),
+        (b"x = 1", RefusalKind::UnknownKey, "2"),
+        (b"max_open = 4.0", RefusalKind::WrongType, "3"),
+        (b"max_open = 0", RefusalKind::OutOfRange, "4"),
+        (b"take = 1000000001", RefusalKind::OutOfRange, "4"),
+        (
+            b"[[table]]\nname = 't'\npath = 'a'\n",
+            RefusalKind::OutOfRange,
+            "4",
+        ),
+        (
+            b"[[stream]]\npath = 'a'\n[[stream]]\npath = 'b'\n",
+            RefusalKind::OutOfRange,
+            "4",
+        ),
+    ];
+    for (source, kind, number) in table {
+        let case = Case {
+            source,
+            ..run_of("", b"hello\n")
+        };
+        let line = format!(in rt.alloc(); "flume: description refused {number}\n")?;
+        let seen = run(&rt, rt.alloc(), &case)?;
+        assert_idle(&rt, &seen, refused(kind, None, None), line.as_str());
+        assert_eq!(rt; seen.report.status.number(), 3);
+    }
+    Ok(())
+}
+
+#[test]
+fn refusals_in_a_stream(rt: HostRuntime) -> Result<(), Fail> {
+    let table: [(&str, RefusalKind, &str); 8] = [
+        (
+            "path = 'a'\nwith = 'b'\njoin = 'zip'\n",
+            RefusalKind::UnknownKey,
+            "2",
+        ),
+        ("path = 'a'\nto = 'b'\n", RefusalKind::UnknownKey, "2"),
+        ("path = 'a'\nuntil = 0\n", RefusalKind::UnknownKey, "2"),
+        ("", RefusalKind::WrongType, "3"),
+        ("path = 'a'\nsteps = 'lines'\n", RefusalKind::WrongType, "3"),
+        ("path = 'a'\non_fault = 1\n", RefusalKind::WrongType, "3"),
+        ("path = ''\n", RefusalKind::OutOfRange, "4"),
+        (
+            "path = 'a'\nsteps = ['lines', 'intersperse a', 'intersperse b']\n",
+            RefusalKind::OutOfRange,
+            "4",
+        ),
+    ];
+    for (keys, kind, number) in table {
+        let text = format!(in rt.alloc(); "[[stream]]\n{keys}")?;
+        let line = format!(in rt.alloc(); "flume: description refused {number} stream 0\n")?;
+        let seen = run(&rt, rt.alloc(), &run_of(text.as_str(), b"hello\n"))?;
+        assert_idle(&rt, &seen, refused(kind, Some(0), None), line.as_str());
+    }
+    Ok(())
+}
+
+#[test]
+fn refusals_of_a_step(rt: HostRuntime) -> Result<(), Fail> {
+    let table: [(&str, RefusalKind, u32, &str); 7] = [
+        ("'take x'", RefusalKind::OutOfRange, 0, "4 stream 0 step 0"),
+        (
+            "'utf8', 'chunk 65'",
+            RefusalKind::OutOfRange,
+            1,
+            "4 stream 0 step 1",
+        ),
+        ("'frob'", RefusalKind::UnknownStep, 0, "5 stream 0 step 0"),
+        ("'csv'", RefusalKind::UnknownStep, 0, "5 stream 0 step 0"),
+        (
+            "'lines', 'take'",
+            RefusalKind::UnknownStep,
+            1,
+            "5 stream 0 step 1",
+        ),
+        ("'filter a'", RefusalKind::KindClash, 0, "6 stream 0 step 0"),
+        (
+            "'lines', 'utf8'",
+            RefusalKind::KindClash,
+            1,
+            "6 stream 0 step 1",
+        ),
+    ];
+    for (steps, kind, step, tells) in table {
+        let text = stream_of(rt.alloc(), steps)?;
+        let line = format!(in rt.alloc(); "flume: description refused {tells}\n")?;
+        let seen = run(&rt, rt.alloc(), &run_of(text.as_str(), b"hello\n"))?;
+        assert_idle(
+            &rt,
+            &seen,
+            refused(kind, Some(0), Some(step)),
+            line.as_str(),
+        );
+    }
+    Ok(())
+}
+
+#[test]
+fn longest_line_has_room(rt: HostRuntime) {
+    let status = refused(RefusalKind::NotUtf8, Some(u32::MAX), Some(u32::MAX));
+    assert_eq!(rt;
+        status.line().as_str(),
+        "flume: description refused 10 stream 4294967295 step 4294967295\n"
+    );
+}
+
+/// A description has 1,048,576 bytes at most, and nothing is read behind the first that is too
+/// many.
+#[test]
+fn longest_description(rt: HostRuntime) -> Result<(), Fail> {
+    let most = filled(rt.alloc(), &[("#", 1_048_575)])?;
+    let case = Case {
+        source: &most,
+        ..run_of("", b"hello\n")
+    };
+    assert_runs(&rt, rt.alloc(), &case, Status::Good, b"", NONE)?;
+
+    let more = filled(rt.alloc(), &[("#", 1_048_580)])?;
+    let mut src = OneByOne::new(rt.alloc(), &more, None)?;
+    let seen = run_from(&rt, rt.alloc(), &mut src, &case)?;
+    let status = refused(RefusalKind::TooLong, None, None);
+    assert_idle(&rt, &seen, status, "flume: description refused 9\n");
+    assert_eq!(rt; src.given(), 1_048_577);
+    Ok(())
+}
+
+/// Whatever was read before, and whether that would be refused or not.
+#[test]
+fn source_that_fails(rt: HostRuntime) -> Result<(), Fail> {
+    let long = filled(rt.alloc(), &[("#", 10_000)])?;
+    let table: [(&[u8], u32); 7] = [
+        (b"", 1),
+        (b"[[", 1),
+        (b"[[", 2),
+        (&long, 1),
+        (&long, 2),
+        (&long, 3),
+        (&long, 4),
+    ];
+    for (source, nth) in table {
+        let case = Case {
+            source,
+            source_fails: &[nth],
+            ..run_of("", b"hello\n")
+        };
+        let seen = run(&rt, rt.alloc(), &case)?;
+        assert_idle(&rt, &seen, Status::Unread, UNREAD);
+        assert_eq!(rt; seen.report.status.number(), 6);
+    }
+    Ok(())
+}
+
+/// It is read on to its end, or to a failure and no further.
+#[test]
+fn source_that_gives_one_byte_a_read(rt: HostRuntime) -> Result<(), Fail> {
+    let case = run_of("[[stream]]\npath = 'a'\n", b"hello\n");
+    let mut src = OneByOne::new(rt.alloc(), case.source, None)?;
+    let seen = run_from(&rt, rt.alloc(), &mut src, &case)?;
+    let frames = b"0 6\nhello\n\n";
+    assert_whole(&rt, rt.alloc(), &seen, Status::Good, frames, DONE)?;
+
+    let mut src = OneByOne::new(rt.alloc(), case.source, Some(10))?;
+    let seen = run_from(&rt, rt.alloc(), &mut src, &case)?;
+    assert_idle(&rt, &seen, Status::Unread, UNREAD);
+    assert_eq!(rt; src.given(), 10);
+    Ok(())
+}
+
+/// `cat` reads no description, and neither do words that mean nothing.
+#[test]
+fn source_is_read_by_run_alone(rt: HostRuntime) -> Result<(), Fail> {
+    let table: [(&[&str], Status); 2] = [
+        (&["cat", "a"], Status::Good),
+        (&["run", "a"], Status::BadWords),
+    ];
+    for (words, status) in table {
+        let case = Case {
+            words,
+            source_fails: &[1],
+            ..run_of("", b"")
+        };
+        let seen = run(&rt, rt.alloc(), &case)?;
+        assert_eq!(rt; seen.report.status, status, "at {words:?}");
+    }
+    Ok(())
+}

@@ -1,0 +1,90 @@
+//! What a run of a description printed and reported.
+use crate::outside::{Case, Seen, assert_printed, run};
+use flume_cli::Status;
+use flume_cli::tail::tail_of;
+use std::alloc::{AllocError, Global};
+use std::process::Abort;
+use std::sync::Wait;
+use std::thread::Threads;
+
+/// The tail of a run without a stream.
+pub const NONE: &str = "end outer done\nledger 1\nouter close 0 succeeded\n";
+
+/// The tail of a run whose one stream ended well.
+pub const DONE: &str = "end outer done\nend 0 done\nledger 6\n\
+    outer lease 0 0\nouter close 0 succeeded\n0 acquire 0 0\n0 close 0 succeeded\n\
+    0 final 0 succeeded ok\n0 cancel 0 succeeded\n";
+
+/// The tail of a run whose one stream was halted when its file was open.
+pub const HALTED: &str = "end outer done\nend 0 halted\nledger 6\n\
+    outer lease 0 0\nouter close 0 succeeded\n0 acquire 0 0\n0 close 0 canceled\n\
+    0 final 0 canceled ok\n0 cancel 0 canceled\n";
+
+/// The tail of a run whose one stream has a text for its fault, which came when its file was open.
+pub const CAUGHT: &str = "end outer done\nend 0 done\nledger 8\n\
+    outer lease 0 0\nouter close 0 succeeded\n0 open 1 0\n0 acquire 0 1\n0 close 1 errored\n\
+    0 final 0 errored ok\n0 close 0 succeeded\n0 cancel 0 succeeded\n";
+
+/// The tail of a run whose one stream ended with this fault when its file was open.
+pub fn faulty(alloc: Global, fault: &str) -> Result<String, AllocError> {
+    format!(in alloc;
+        "end outer done\nend 0 fault {fault}\nledger 6\n\
+        outer lease 0 0\nouter close 0 succeeded\n0 acquire 0 0\n0 close 0 errored\n\
+        0 final 0 errored ok\n0 cancel 0 errored\n"
+    )
+}
+
+/// A description with one stream, of the file `a` through these steps.
+pub fn stream_of(alloc: Global, steps: &str) -> Result<String, AllocError> {
+    format!(in alloc; "[[stream]]\npath = 'a'\nsteps = [{steps}]\n")
+}
+
+/// The case ends with this status, and all is printed and reported.
+pub fn assert_runs<R: Threads + Wait + Sync + Abort>(
+    rt: &R,
+    alloc: Global,
+    case: &Case,
+    status: Status,
+    frames: &[u8],
+    tail: &str,
+) -> Result<(), AllocError> {
+    let seen = run(rt, alloc, case)?;
+    assert_whole(rt, alloc, &seen, status, frames, tail)
+}
+
+/// The run ended with this status, and printed and reported all.
+pub fn assert_whole(
+    rt: &impl Abort,
+    alloc: Global,
+    seen: &Seen,
+    status: Status,
+    frames: &[u8],
+    tail: &str,
+) -> Result<(), AllocError> {
+    let mut text = Vec::from_slice(alloc, frames)?;
+    text.extend_from_slice(tail.as_bytes())?;
+    assert_printed(rt, seen, status, &text);
+    assert_reported(rt, alloc, seen, tail)
+}
+
+/// The ends and the ledger of the report have this text, and each device came back.
+pub fn assert_reported(
+    rt: &impl Abort,
+    alloc: Global,
+    seen: &Seen,
+    tail: &str,
+) -> Result<(), AllocError> {
+    let told = tail_of(alloc, &seen.report.ends, &seen.report.ledger)?;
+    assert_eq!(rt; told.as_slice(), tail.as_bytes());
+    assert_returned(rt, seen);
+    Ok(())
+}
+
+/// Each device that was made came back once, closed as often as it was opened.
+pub fn assert_returned(rt: &impl Abort, seen: &Seen) {
+    let records = seen.depot.retired();
+    assert_eq!(rt; seen.depot.made().len(), records.len());
+    for record in records {
+        assert_eq!(rt; record.closes(), record.opens());
+    }
+}
