@@ -14,6 +14,7 @@ use Rattle.chunk_core.specs.declared.code.Code.{Code}
 use Rattle.chunk_core.specs.declared.code.Code.TheVariants as code
 use Rattle.chunk_core.specs.declared.code.How.TheVariants as how
 use Rattle.device_port.specs.Device.{DeviceTold}
+use Rattle.pull_nodes.specs.PipeRule.{without_fault}
 use Rattle.pull_nodes.specs.Lines.{without_pairs, ended_lines, open_line}
 use Rattle.chunk_core.specs.Tables.{no_values}
 use Rattle.pull_nodes.specs.Pipes.{part_of, all_of}
@@ -22,7 +23,7 @@ use Rattle.pull_nodes.specs.declared.pipe.Pipe.{Pipe}
 use Rattle.pull_nodes.specs.declared.pipe.Pipe.TheVariants as pipe
 use Rattle.run_rules.specs.Texts.{tail_text}
 use Rattle.run_laws.specs.Files.{path_a, euro, file_device, log_text, cut_line_end, cut_line_end_text, filtered_log, filtered_log_text, filtered_log_work, lines_work, lossy_hexadecimal, lossy_hexadecimal_text, lossy_hexadecimal_work, malformed_character, malformed_character_text, second_field, second_field_text, second_field_work, taker_stops, taker_stops_text, taker_stops_work, truncated_character, truncated_character_text, uneven_records, uneven_records_text, uneven_records_work, utf8_work, whole_character, whole_character_text}
-use Rattle.run_laws.specs.Streams.{InFile, Leaves, Gathered, ThroughPipe, ThroughPipes, ThroughWhole, whole_list}
+use Rattle.run_laws.specs.Streams.{InFile, Leaves, Gathered, ThroughPipe, ThroughPipes, ThroughWhole}
 use Rattle.run_laws.specs.Written.{IsRightRun}
 use Rattle.run_laws.proofs.FileRuns.{file_done, file_fault}
 use Rattle.run_laws.proofs.Performing.{piped_at_end, piped_before, piped_done, piped_left}
@@ -80,7 +81,7 @@ cut_part : (part_of no_values pipe.Lines (bytes_of (codes "a\r\nb"))).fault ≡ 
 unfolding without_pairs ended_lines open_line
 cut_part = refl
 
-cut_all : all_of no_values pipe.Lines (bytes_of (codes "a\r\nb")) ≡ whole_list (lines_of (path_a ∷ codes "b" ∷ []))
+cut_all : all_of no_values pipe.Lines (bytes_of (codes "a\r\nb")) ≡ without_fault (lines_of (path_a ∷ codes "b" ∷ []))
 unfolding without_pairs ended_lines open_line
 cut_all = refl
 
@@ -88,7 +89,7 @@ euro_part : (part_of no_values pipe.Utf8 (bytes_of euro)).fault ≡ None
 unfolding utf8_valid_len is_utf8 chars encode_utf8 utf8_error_len
 euro_part = refl
 
-euro_all : all_of no_values pipe.Utf8 (bytes_of euro) ≡ whole_list (bytes_of euro)
+euro_all : all_of no_values pipe.Utf8 (bytes_of euro) ≡ without_fault (bytes_of euro)
 unfolding utf8_valid_len is_utf8 chars encode_utf8 utf8_error_len
 euro_all = refl
 
@@ -108,7 +109,7 @@ lossy_part : (part_of no_values pipe.Lossy (bytes_of (97 ∷ 255 ∷ 226 ∷ 130
 unfolding utf8_valid_len is_utf8 chars encode_utf8 utf8_error_len utf8_lossy
 lossy_part = refl
 
-lossy_all : all_of no_values pipe.Lossy (bytes_of (97 ∷ 255 ∷ 226 ∷ 130 ∷ 98 ∷ [])) ≡ whole_list (bytes_of (97 ∷ 239 ∷ 191 ∷ 189 ∷ 239 ∷ 191 ∷ 189 ∷ 98 ∷ []))
+lossy_all : all_of no_values pipe.Lossy (bytes_of (97 ∷ 255 ∷ 226 ∷ 130 ∷ 98 ∷ [])) ≡ without_fault (bytes_of (97 ∷ 239 ∷ 191 ∷ 189 ∷ 239 ∷ 191 ∷ 189 ∷ 98 ∷ []))
 unfolding utf8_valid_len is_utf8 chars encode_utf8 utf8_error_len utf8_lossy
 lossy_all = refl
 
@@ -116,7 +117,7 @@ log_utf8_part : (part_of no_values pipe.Utf8 (bytes_of log_text)).fault ≡ None
 unfolding utf8_valid_len is_utf8 chars encode_utf8 utf8_error_len
 log_utf8_part = refl
 
-log_utf8_all : all_of no_values pipe.Utf8 (bytes_of log_text) ≡ whole_list (bytes_of log_text)
+log_utf8_all : all_of no_values pipe.Utf8 (bytes_of log_text) ≡ without_fault (bytes_of log_text)
 unfolding utf8_valid_len is_utf8 chars encode_utf8 utf8_error_len
 log_utf8_all = refl
 
@@ -133,11 +134,11 @@ log_lines_part : (part_of no_values pipe.Lines (bytes_of log_text)).fault ≡ No
 unfolding without_pairs ended_lines open_line
 log_lines_part = refl
 
-log_lines_all : all_of no_values pipe.Lines (bytes_of log_text) ≡ whole_list log_lines
+log_lines_all : all_of no_values pipe.Lines (bytes_of log_text) ≡ without_fault log_lines
 unfolding without_pairs ended_lines open_line
 log_lines_all = refl
 
-log_numbered_all : all_of no_values pipe.Number log_errors ≡ whole_list log_numbered
+log_numbered_all : all_of no_values pipe.Number log_errors ≡ without_fault log_numbered
 unfolding digits
 log_numbered_all = refl
 
@@ -149,7 +150,7 @@ taken_part_fault : (part_of no_values pipe.Lines (bytes_of (codes "a\nb\n"))).fa
 unfolding without_pairs ended_lines open_line
 taken_part_fault = refl
 
-taken_all : all_of no_values pipe.Lines (bytes_of (codes "a\nb\n")) ≡ whole_list (lines_of (path_a ∷ codes "b" ∷ []))
+taken_all : all_of no_values pipe.Lines (bytes_of (codes "a\nb\n")) ≡ without_fault (lines_of (path_a ∷ codes "b" ∷ []))
 unfolding without_pairs ended_lines open_line
 taken_all = refl
 
@@ -159,7 +160,7 @@ uneven_printed = refl
 
 -- The runs.
 
-pipe_done : (p : Pipe) (A : Outcomes) (xs ys : List Element) → A xs Done → (part_of no_values p xs).fault ≡ None → all_of no_values p xs ≡ whole_list ys → ThroughPipe A p ys Done
+pipe_done : (p : Pipe) (A : Outcomes) (xs ys : List Element) → A xs Done → (part_of no_values p xs).fault ≡ None → all_of no_values p xs ≡ without_fault ys → ThroughPipe A p ys Done
 pipe_done p A xs ys run part all = piped_done (part_of no_values p) (all_of no_values p) A xs ys run part all
 
 abbrev runs_of : List Pipe → DeviceTold → Outcomes
@@ -274,7 +275,7 @@ second_field_right =
     let ys = lines_of (codes "c" ∷ []) in
     let d : DeviceTold = file_device bytes 8 true how.Done in
     record {
-      performs = file_done (λ d. InFile d (Gathered (Leaves (Reads d)) (whole_list ys))) (λ d. Gathered (ReadsWhole d) (whole_list ys)) bytes 8 true how.Done second_field.frames ys ((omega arith, omega arith), tt) refl refl
+      performs = file_done (λ d. InFile d (Gathered (Leaves (Reads d)) (without_fault ys))) (λ d. Gathered (ReadsWhole d) (without_fault ys)) bytes 8 true how.Done second_field.frames ys ((omega arith, omega arith), tt) refl refl
           (inl (inl (refl, refl, inl (bytes_of bytes, Done, inl (refl, (refl, omega arith, refl, refl)), (refl, refl)))))
           (bytes_of bytes, Done, inl (omega arith, refl, refl), (refl, refl));
       printed = printed_second_field;

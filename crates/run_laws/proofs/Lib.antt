@@ -5,5 +5,9 @@ pub mod FileRuns
 pub mod Files
 pub mod Tables
 pub mod Others
+pub mod Within
+pub mod Sides
+pub mod OneStream
+pub mod FiveFiles
 pub mod Refusing
 pub mod Left

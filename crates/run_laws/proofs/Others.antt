@@ -237,7 +237,7 @@ uncopied_right = record {
       values = values_of (record (used_device 0 (to_write path_b) [] Errored) { write_faults = 1 } ∷ record (used_device 1 (to_read path_a) hello Errored) { at = 6 } ∷ []);
       home = homes_of (record (used_device 0 (to_write path_b) [] Errored) { write_faults = 1 } ∷ record (used_device 1 (to_read path_a) hello Errored) { at = 6 } ∷ []);
       rows = record { at_home = (refl, refl, inl (here _), (refl, refl, inl (there _ (here _)), tt)); apart = test_distinct (0 ∷ 1 ∷ []) refl; tied = (tt, (tt, (refl, (refl, (tt, ((refl, refl), ((refl, refl), (tt, tt)))))))); values = λ t key l. by_content (homes_of (record (used_device 0 (to_write path_b) [] Errored) { write_faults = 1 } ∷ record (used_device 1 (to_read path_a) hello Errored) { at = 6 } ∷ []) t).content key };
-      outputs = record { numbers = tt; few = tt; outputs = (record { elements = []; end = Fault code.Write; run = inl (inl (refl, refl, inl (bytes_of hello, Cut, inl (inl (refl, refl, inl (refl, tt))), refl, inr (refl, hello, refl, refl)))); printed = refl; reported = refl }, refl); rest = refl };
+      outputs = record { numbers = tt; few = tt; outputs = (record { elements = []; end = Fault code.Write; run = inl (inl (refl, refl, inl (bytes_of hello, Cut, inl (inl (refl, refl, inl (refl, tt))), refl, inr (refl, (hello, refl), refl)))); printed = refl; reported = refl }, refl); rest = refl };
       ends = record {
         named = refl;
         caused = (record { halted = λ e. absurd (false≢true e); fault = refl; root = λ e. refl }, (record { halted = λ e. absurd (false≢true e); fault = refl; root = λ e. refl }, tt));

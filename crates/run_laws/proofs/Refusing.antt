@@ -1,11 +1,12 @@
 -- Each run with one thing wrong is refused.
-use Rattle.std.proofs.Common.{◌≡◌, ◌≢◌, ◌⊎◌, ◌+◌, ℕ, List, [], ◌∷◌, length, Option, Some, None, IfSome, refl, sym, ap, ◌∙◌, subst, inl, inr, arith, ⊎_elim}
+use Rattle.std.proofs.Common.{◌≡◌, ◌≢◌, ◌⊎◌, ◌+◌, ℕ, List, [], ◌∷◌, ◌++◌, map, length, Option, Some, None, IfSome, refl, sym, ap, ◌∙◌, subst, inl, inr, arith, ⊎_elim}
 use Rattle.std.specs.Prelude.{codes, unwrap_or}
 use Rattle.std.proofs.lemmas.Bool.{false≢true, lt-ltb}
-use Rattle.chunk_core.specs.Elements.{Element, Row, rendering_of}
+use Rattle.chunk_core.specs.Elements.{Byte, Element, Row, rendering_of}
 use Rattle.chunk_core.specs.Lists.{IsAmong}
 use Rattle.chunk_core.specs.Feed.{Given}
-use Rattle.chunk_core.specs.Outcomes.{End, Cut, Done, Fault}
+use Rattle.chunk_core.specs.Outcomes.{End, Cut, Done, Fault, Outcomes}
+use Rattle.chunk_core.specs.Tables.{no_values}
 use Rattle.chunk_core.specs.declared.code.Exit.{Exit}
 use Rattle.chunk_core.specs.declared.code.Exit.TheVariants.{Succeeded, Errored, Canceled}
 use Rattle.chunk_core.specs.declared.code.How.{How}
@@ -18,19 +19,31 @@ use Rattle.res_ledger.specs.Own.{acquires_of, leased_of}
 use Rattle.res_ledger.proofs.Judged.{legal_found}
 use Rattle.res_ledger.proofs.Ordering.{ordered_complete}
 use Rattle.device_port.specs.Device.{Place, DeviceTold}
-use Rattle.pull_nodes.specs.Runs.{GivesAtEnd, Reads}
+use Rattle.pull_nodes.specs.PipeRule.{without_fault}
+use Rattle.pull_nodes.specs.Pairs.{pair_of, pairs_of}
+use Rattle.pull_nodes.specs.Pipes.{all_of, part_of}
+use Rattle.pull_nodes.specs.Plain.{IsFront}
+use Rattle.pull_nodes.specs.Runs.{GivesAtEnd, Reads, Zipped}
+use Rattle.pull_nodes.specs.declared.pipe.Pipe.TheVariants as pipe
+use Rattle.pull_nodes.proofs.Fronts.{front_cons}
+use Rattle.pull_nodes.proofs.Lines.{lines_lawful}
 use Rattle.run_rules.specs.Facts.{to_read}
 use Rattle.run_rules.specs.Homes.{IsUntouched}
 use Rattle.run_rules.specs.Outputs.{IsReported}
 use Rattle.run_rules.specs.Run.{IsUnmade, Performs, Ran}
 use Rattle.run_rules.specs.Work.{RunRecord, Work}
+use Rattle.run_laws.specs.FiveFiles.{five_work}
+use Rattle.run_laws.specs.OneStream.{one_stream_work}
 use Rattle.run_laws.specs.Others.{copy_work, no_streams, silent_work, stopped_work, u_csv}
-use Rattle.run_laws.specs.Refused.{another_value, begins_behind_a_failed_write, begins_behind_a_fault, begins_in_silence, cancel_told_otherwise, cut_behind_the_last, fault_of_no_device, first_table_first, halted_by_a_later_one, in_turn_work, invented_scope, lease_by_a_stream, leased_table_ended, left_before_closing, next_table_tried, nobody_given, one_frame_too_many, one_frame_work, other_bytes_stored, root_never_closed, root_told_otherwise, second_device, stolen_row, stopped_by_nothing, stopped_one_begins, tables_never_acquired, two_open, without_lease}
-use Rattle.run_laws.specs.Streams.{Gathered, InFile, Leaves, value_in, whole_list}
+use Rattle.run_laws.specs.Refused.{another_number, another_value, begins_behind_a_failed_write, begins_behind_a_fault, begins_in_silence, begins_unwanted, cancel_told_otherwise, canceled_by_another, crossed_pairs, cut_behind_the_last, done_without_close, fault_of_no_device, first_table_first, halted_by_a_later_one, in_turn_work, invented_scope, lease_by_a_stream, leased_table_ended, left_before_closing, next_table_tried, nobody_given, one_frame_too_many, one_frame_work, other_bytes_stored, root_never_closed, root_told_otherwise, second_device, side_left_open, stolen_row, stopped_by_nothing, stopped_one_begins, tables_never_acquired, third_pair, third_too_early, two_open, with_text, without_lease}
+use Rattle.run_laws.specs.Sides.{LinesIn, paired, pairs_work, three_lines, two_lines}
+use Rattle.run_laws.specs.Streams.{Gathered, InFile, Leaves, ThroughPipe, value_in}
 use Rattle.run_laws.specs.Tables.{looked_up, lookup_work, t_csv, table_bytes, unread_table_device}
 use Rattle.run_laws.specs.Written.{read_device}
+use Rattle.run_laws.proofs.Sides.{pairs, pairs_text, three, three_all, three_fault, two, two_all, two_fault}
 use Rattle.run_laws.proofs.Tables.{row_texts}
 use Rattle.run_laws.proofs.Tested.{ahead_found, leaving_found, within_found}
+use Rattle.run_laws.proofs.Within.{IsWithin, file_within, front_trans, left_within, piped_within, reads_within, rendered_front}
 
 no_nil : {A : Type 0} (x : A) (xs : List A) → (x ∷ xs) ≢ []
 no_nil x xs e = cc
@@ -113,7 +126,7 @@ done Cut (inl r) = let h = ap how_number r in absurd (omega (arith, h))
 done Cut (inr r) = let h = ap how_number r in absurd (omega (arith, h))
 
 -- what was gathered to the end is given
-given_at_end : (given : Given) (xs : List Element) (g : End) (ys : List Element) (e : End) → e ≡ Done → GivesAtEnd (λ zs. whole_list []) (λ zs. given) xs g ys e → ys ≡ given.list
+given_at_end : (given : Given) (xs : List Element) (g : End) (ys : List Element) (e : End) → e ≡ Done → GivesAtEnd (λ zs. without_fault []) (λ zs. given) xs g ys e → ys ≡ given.list
 given_at_end given xs Done ys e q h = h.0
 given_at_end given xs (Fault c) ys e q h = let n = ap end_number (sym q ∙ h.1) in absurd (omega (arith, n))
 given_at_end given xs Cut ys e q h = let n = ap end_number (sym q ∙ h.1) in absurd (omega (arith, n))
@@ -231,3 +244,74 @@ root_told_otherwise_refused h = let r = ran copy_work root_told_otherwise (no_ni
 
 pub cancel_told_otherwise_refused : ¬ (Performs copy_work cancel_told_otherwise)
 cancel_told_otherwise_refused h = let r = ran copy_work cancel_told_otherwise (no_nil _ _) h in let e = ap exit_number ((r.exits.1.0 refl).1.1.1.1.1.0) in omega (arith, e)
+
+-- Two sides.
+
+-- the pairs of fronts are a front of the pairs
+pairs_front : (xs ys us vs : List Element) → IsFront (pairs_of xs ys) (pairs_of (xs ++ us) (ys ++ vs))
+pairs_front [] ys us vs = (pairs_of us (ys ++ vs), refl)
+pairs_front (x ∷ xs) [] us vs = (pairs_of (x ∷ (xs ++ us)) vs, refl)
+pairs_front (x ∷ xs) (y ∷ ys) us vs = front_cons (pair_of (x, y)) (pairs_of xs ys) (pairs_of (xs ++ us) (ys ++ vs)) (pairs_front xs ys us vs)
+
+pairs_within : (xs ys vs ws : List Element) → IsFront xs vs → IsFront ys ws → IsFront (pairs_of xs ys) (pairs_of vs ws)
+pairs_within xs ys vs ws f g = subst (λ l. IsFront (pairs_of xs ys) (pairs_of l ws)) (sym f.1) (subst (λ l. IsFront (pairs_of xs ys) (pairs_of (xs ++ f.0) l)) (sym g.1) (pairs_front xs ys f.0 g.0))
+
+-- what two files give in pairs is a front of their pairs
+zipped_front : (A B : Outcomes) (vs ws zs : List Element) (h : End) → IsWithin A vs → IsWithin B ws → Zipped A B zs h → IsFront zs (pairs_of vs ws)
+zipped_front A B vs ws zs h a b z = subst (λ l. IsFront l (pairs_of vs ws)) (sym z.6) (pairs_within z.0 z.1 vs ws (a z.0 z.2 z.4).0 (b z.1 z.3 z.5).0)
+
+zipped_left : (A B : Outcomes) (vs ws zs : List Element) (h : End) → IsWithin A vs → IsWithin B ws → Leaves (Zipped A B) zs h → IsFront zs (pairs_of vs ws)
+zipped_left A B vs ws zs h a b (inl z) = zipped_front A B vs ws zs h a b z
+zipped_left A B vs ws zs h a b (inr (c, inl n)) = subst (λ l. IsFront l (pairs_of vs ws)) (sym n.0) (pairs_of vs ws, refl)
+zipped_left A B vs ws zs h a b (inr (c, inr m)) = front_trans zs (zs ++ m.0) (pairs_of vs ws) (m.0, refl) (zipped_front A B vs ws (zs ++ m.0) m.1 a b m.2)
+
+-- a file of these bytes gives these lines or a front of them
+lines_within : (d : DeviceTold) (bytes : List ℕ) (lines : List Element) → d.content ≡ Some bytes → (part_of no_values pipe.Lines (map Byte bytes)).fault ≡ None → all_of no_values pipe.Lines (map Byte bytes) ≡ without_fault lines → IsWithin (LinesIn d) lines
+lines_within d bytes lines k good e =
+    subst (λ l. IsWithin (LinesIn d) l) (ap (λ (g : Given). g.list) e)
+    (file_within d (ThroughPipe (Leaves (Reads d)) pipe.Lines) (all_of no_values pipe.Lines (map Byte bytes)).list
+    (piped_within (part_of no_values pipe.Lines) (all_of no_values pipe.Lines) lines_lawful.steady (map Byte bytes) good (Leaves (Reads d)) (left_within (Reads d) (map Byte bytes) (reads_within d bytes k))))
+
+-- a text of pairs is a front of that of the two
+pairs_printed : (text : List ℕ) → Performs pairs_work (with_text paired text) → IsFront (text ++ []) (codes "a,1\nb,2\n")
+pairs_printed text h =
+    let r = ran pairs_work (with_text paired text) (no_nil _ _) h in
+    let o = r.outputs.outputs.0 in
+    let left : (r.home 0).content ≡ Some three_lines = r.rows.at_home.1 in
+    let right : (r.home 1).content ≡ Some two_lines = r.rows.at_home.3.1 in
+    let front = zipped_left (LinesIn (r.home 0)) (LinesIn (r.home 1)) three two o.elements o.end (lines_within (r.home 0) three_lines three left three_fault three_all) (lines_within (r.home 1) two_lines two right two_fault two_all) o.run in
+    subst (λ t. IsFront t (codes "a,1\nb,2\n")) (sym o.printed) (subst (λ t. IsFront (rendering_of o.elements) t) (sym pairs_text) (rendered_front o.elements pairs front))
+
+pub third_pair_refused : ¬ (Performs pairs_work third_pair)
+third_pair_refused h = let f = pairs_printed (codes "a,1\nb,2\nc,\n") h in let l = ap length f.1 in omega (arith, l)
+
+pub crossed_pairs_refused : ¬ (Performs pairs_work crossed_pairs)
+crossed_pairs_refused h = let f = pairs_printed (codes "a,2\nb,1\n") h in let l = ap third_of f.1 in omega (arith, l)
+
+pub side_left_open_refused : ¬ (Performs pairs_work side_left_open)
+side_left_open_refused h = let n = h.devices.shut.1.0.1 in omega (arith, n)
+
+-- Five files.
+
+pub third_too_early_refused : ¬ (Performs five_work third_too_early)
+third_too_early_refused h = false≢true (within_found 1 5 third_too_early.events h.ledger.pace.1)
+
+pub another_number_refused : ¬ (Performs five_work another_number)
+another_number_refused h =
+    let r = ran five_work another_number (no_nil _ _) h in
+    let o = r.outputs.outputs.1.0 in
+    let nothing : (r.home 1).content ≡ Some [] = r.rows.at_home.3.1 in
+    let front = rendered_front o.elements [] (file_within (r.home 1) (Reads (r.home 1)) [] (reads_within (r.home 1) [] nothing) o.elements o.end o.run).0 in
+    let f : IsFront (codes "a") [] = subst (λ t. IsFront t []) (sym o.printed) front in
+    no_nil 97 f.0 (sym f.1)
+
+-- One stream.
+
+pub done_without_close_refused : ¬ (Performs (one_stream_work None) done_without_close)
+done_without_close_refused h = let r = ran (one_stream_work None) done_without_close (no_nil _ _) h in false≢true (r.ends.caused.0.root refl)
+
+pub begins_unwanted_refused : ¬ (Performs (one_stream_work (Some 0)) begins_unwanted)
+begins_unwanted_refused h = let r = ran (one_stream_work (Some 0)) begins_unwanted (no_nil _ _) h in false≢true (r.ends.stopped.nobody refl)
+
+pub canceled_by_another_refused : ¬ (Performs (one_stream_work None) canceled_by_another)
+canceled_by_another_refused h = false≢true (legal_found canceled_by_another.events h.ledger.legal)

@@ -14,11 +14,12 @@ use Rattle.res_ledger.specs.declared.event.StreamNo.TheVariants.{Outer, Inner}
 use Rattle.res_ledger.specs.declared.event.What.{What}
 use Rattle.res_ledger.specs.declared.event.What.TheVariants.{Acquire, Lease, Cancel, Close, Final}
 use Rattle.device_port.specs.Device.{DeviceTold}
+use Rattle.pull_nodes.specs.PipeRule.{without_fault}
 use Rattle.pull_nodes.specs.declared.pipe.Pipe.TheVariants as pipe
 use Rattle.pull_nodes.specs.Runs.{Reads, ReadsWhole, Taken}
 use Rattle.run_rules.specs.Facts.{to_read}
 use Rattle.run_rules.specs.Work.{RunRecord, Work}
-use Rattle.run_laws.specs.Streams.{Gathered, InFile, Leaves, ThroughPipe, file_stream, opener, piped_work, whole_list}
+use Rattle.run_laws.specs.Streams.{Gathered, InFile, Leaves, ThroughPipe, file_stream, opener, piped_work}
 use Rattle.run_laws.specs.Written.{ends_of, frame, run_of, used_device}
 
 abbrev pub path_a : List ℕ
@@ -123,7 +124,7 @@ abbrev pub second_field_text : List ℕ
 second_field_text = codes "0 2\nc\n\nend outer done\nend 0 done\nledger 6\nouter lease 0 0\nouter close 0 succeeded\n0 acquire 0 0\n0 close 0 succeeded\n0 final 0 succeeded ok\n0 cancel 0 succeeded\n"
 
 abbrev pub second_field_work : Work
-second_field_work = gathered_work (whole_list (Line (codes "c") ∷ []))
+second_field_work = gathered_work (without_fault (Line (codes "c") ∷ []))
 
 -- records of different lengths: those before the first other one come out
 abbrev pub uneven_records : RunRecord

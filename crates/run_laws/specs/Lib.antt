@@ -3,5 +3,8 @@ pub mod Streams
 pub mod Files
 pub mod Tables
 pub mod Others
+pub mod Sides
+pub mod FiveFiles
+pub mod OneStream
 pub mod Refused
 pub mod Laws

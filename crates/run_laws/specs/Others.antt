@@ -1,5 +1,5 @@
 -- Runs of no stream, of two, of a stream with a text for its fault, and of one that is written to a file.
-use Rattle.std.specs.Prelude.{◌≡◌, ℕ, ◌+◌, true, List, [], ◌∷◌, None, Some, codes}
+use Rattle.std.specs.Prelude.{ℕ, ◌+◌, true, List, [], ◌∷◌, None, Some, codes}
 use Rattle.chunk_core.specs.Elements.{Line}
 use Rattle.chunk_core.specs.Outcomes.{Done, Outcomes}
 use Rattle.chunk_core.specs.declared.code.Code.TheVariants as code
@@ -11,12 +11,12 @@ use Rattle.res_ledger.specs.declared.event.StreamNo.TheVariants.{Outer, Inner}
 use Rattle.res_ledger.specs.declared.event.What.{What}
 use Rattle.res_ledger.specs.declared.event.What.TheVariants.{Open, Acquire, Lease, Cancel, Close, Final}
 use Rattle.device_port.specs.Device.{DeviceTold}
-use Rattle.pull_nodes.specs.Runs.{Exactly, Follows, IsFault, IsUnwritten, OpensThen, OrLeft, Reads, ReadsWhole}
+use Rattle.pull_nodes.specs.Runs.{Exactly, Follows, IsFault, IsUnwritten, OpensThen, OrLeft, Reads, ReadsWhole, Written, WrittenWhole}
 use Rattle.pull_nodes.specs.declared.pipe.Pipe.TheVariants as pipe
 use Rattle.run_rules.specs.Facts.{to_read, to_write}
 use Rattle.run_rules.specs.Work.{RunRecord, Work}
 use Rattle.run_laws.specs.Files.{file_work, path_a}
-use Rattle.run_laws.specs.Streams.{CopiesTo, CopiesWhole, InFile, Leaves, ThroughPipe, opener, two_files}
+use Rattle.run_laws.specs.Streams.{InFile, Leaves, ThroughPipe, opener, two_files}
 use Rattle.run_laws.specs.Tables.{path_b, t_csv, table_bytes}
 use Rattle.run_laws.specs.Written.{Listing, ends_of, frame, read_device, run_of, used_device}
 
@@ -104,23 +104,23 @@ abbrev pub copy_work : Work
 copy_work = record {
   opener = Some (opener [] 4 None);
   streams = record { places = to_write path_b ∷ to_read path_a ∷ []; scopes = 0; until = None } ∷ [];
-  runs = λ k v w. OrLeft (IsUnwritten (w 0)) (OpensThen (w 0) (OrLeft (IsUnwritten (w 0)) (CopiesTo (w 0) (w 1))) (IsUnwritten (w 0)));
-  ideal_runs = λ k v w. CopiesWhole (w 0) (w 1);
+  runs = λ k v w. OrLeft (IsUnwritten (w 0)) (OpensThen (w 0) (OrLeft (IsUnwritten (w 0)) (Written (w 0) (InFile (w 1) (Reads (w 1))))) (IsUnwritten (w 0)));
+  ideal_runs = λ k v w. WrittenWhole (w 0) (ReadsWhole (w 1));
 }
 
--- what is written to is acquired first and ends last
-abbrev pub copy_events : Exit → List (StreamNo × What)
-copy_events exit = (Outer, Lease 0 0) ∷ (Outer, Close 0 Succeeded) ∷ (Inner 0, Acquire 0 0) ∷ (Inner 0, Acquire 1 0) ∷ (Inner 0, Close 0 exit) ∷ (Inner 0, Final 1 exit true) ∷ (Inner 0, Final 0 exit true) ∷ (Inner 0, Cancel 0 exit) ∷ []
+-- a stream of two rows: the one that was acquired first ends last
+abbrev pub two_row_events : Exit → List (StreamNo × What)
+two_row_events exit = (Outer, Lease 0 0) ∷ (Outer, Close 0 Succeeded) ∷ (Inner 0, Acquire 0 0) ∷ (Inner 0, Acquire 1 0) ∷ (Inner 0, Close 0 exit) ∷ (Inner 0, Final 1 exit true) ∷ (Inner 0, Final 0 exit true) ∷ (Inner 0, Cancel 0 exit) ∷ []
 
 abbrev pub copied : RunRecord
-copied = run_of ((path_a, hello) ∷ []) ((path_a, hello) ∷ (path_b, hello) ∷ []) (record (used_device 0 (to_write path_b) [] Succeeded) { written = Some hello } ∷ read_device 1 path_a hello Succeeded ∷ []) (ends_of how.Done (how.Done ∷ [])) (copy_events Succeeded) []
+copied = run_of ((path_a, hello) ∷ []) ((path_a, hello) ∷ (path_b, hello) ∷ []) (record (used_device 0 (to_write path_b) [] Succeeded) { written = Some hello } ∷ read_device 1 path_a hello Succeeded ∷ []) (ends_of how.Done (how.Done ∷ [])) (two_row_events Succeeded) []
 
 abbrev pub copied_text : List ℕ
 copied_text = codes "end outer done\nend 0 done\nledger 8\nouter lease 0 0\nouter close 0 succeeded\n0 acquire 0 0\n0 acquire 1 0\n0 close 0 succeeded\n0 final 1 succeeded ok\n0 final 0 succeeded ok\n0 cancel 0 succeeded\n"
 
 -- its first write failed
 abbrev pub uncopied : RunRecord
-uncopied = run_of ((path_a, hello) ∷ []) ((path_a, hello) ∷ (path_b, []) ∷ []) (record (used_device 0 (to_write path_b) [] Errored) { write_faults = 1 } ∷ record (used_device 1 (to_read path_a) hello Errored) { at = 6 } ∷ []) (ends_of how.Done (how.Fault code.Write ∷ [])) (copy_events Errored) []
+uncopied = run_of ((path_a, hello) ∷ []) ((path_a, hello) ∷ (path_b, []) ∷ []) (record (used_device 0 (to_write path_b) [] Errored) { write_faults = 1 } ∷ record (used_device 1 (to_read path_a) hello Errored) { at = 6 } ∷ []) (ends_of how.Done (how.Fault code.Write ∷ [])) (two_row_events Errored) []
 
 abbrev pub uncopied_text : List ℕ
 uncopied_text = codes "end outer done\nend 0 fault write\nledger 8\nouter lease 0 0\nouter close 0 succeeded\n0 acquire 0 0\n0 acquire 1 0\n0 close 0 errored\n0 final 1 errored ok\n0 final 0 errored ok\n0 cancel 0 errored\n"

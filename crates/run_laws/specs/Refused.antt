@@ -1,5 +1,5 @@
 -- Runs with one thing wrong each.
-use Rattle.std.specs.Prelude.{true, List, [], ◌∷◌, ◌++◌, None, Some, codes}
+use Rattle.std.specs.Prelude.{ℕ, true, false, List, [], ◌∷◌, ◌++◌, drop, None, Some, codes}
 use Rattle.chunk_core.specs.declared.code.Code.TheVariants as code
 use Rattle.chunk_core.specs.declared.code.Exit.TheVariants.{Succeeded, Errored, Canceled}
 use Rattle.chunk_core.specs.declared.code.How.TheVariants as how
@@ -11,7 +11,10 @@ use Rattle.res_ledger.specs.Ledger.{stamped}
 use Rattle.run_rules.specs.Facts.{to_read, to_write}
 use Rattle.run_rules.specs.Work.{RunRecord, Work}
 use Rattle.run_laws.specs.Files.{path_a}
-use Rattle.run_laws.specs.Others.{copied, hello, silent, stopped, table_files, two_listing, two_tables, u_csv}
+use Rattle.run_laws.specs.FiveFiles.{five, visit}
+use Rattle.run_laws.specs.OneStream.{unbegun, ungiven, x_listing}
+use Rattle.run_laws.specs.Others.{copied, hello, silent, stopped, table_files, two_listing, two_tables, u_csv, x_device}
+use Rattle.run_laws.specs.Sides.{paired, path_p, path_q, three_lines, two_lines}
 use Rattle.run_laws.specs.Streams.{opener, two_files}
 use Rattle.run_laws.specs.Tables.{a_csv, keys_bytes, lookup, path_b, t_csv, table_bytes, unread_file, unread_table_device}
 use Rattle.run_laws.specs.Written.{ends_of, files_of, frame, idle_device, read_device, run_of, used_device}
@@ -145,3 +148,48 @@ root_told_otherwise = with_events copied ((Outer, Lease 0 0) ∷ (Outer, Close 0
 -- the stream is done, and cancels its lease as if it had been halted
 abbrev pub cancel_told_otherwise : RunRecord
 cancel_told_otherwise = with_events copied ((Outer, Lease 0 0) ∷ (Outer, Close 0 Succeeded) ∷ (Inner 0, Acquire 0 0) ∷ (Inner 0, Acquire 1 0) ∷ (Inner 0, Close 0 Succeeded) ∷ (Inner 0, Final 1 Succeeded true) ∷ (Inner 0, Final 0 Succeeded true) ∷ (Inner 0, Cancel 0 Canceled) ∷ [])
+
+-- Two sides.
+
+-- the run with another text for its only frame
+abbrev pub with_text : RunRecord → List ℕ → RunRecord
+with_text c text = record c { frames = frame 0 text ∷ [] }
+
+-- the third line is printed as a pair, though it has no partner
+abbrev pub third_pair : RunRecord
+third_pair = with_text paired (codes "a,1\nb,2\nc,\n")
+
+-- lines that stand at unequal places come as a pair
+abbrev pub crossed_pairs : RunRecord
+crossed_pairs = with_text paired (codes "a,2\nb,1\n")
+
+-- the second file is never closed
+abbrev pub side_left_open : RunRecord
+side_left_open = record paired { depot_new = record paired.depot_new { retired = record (read_device 0 path_p three_lines Succeeded) { ended = false } ∷ record (read_device 1 path_q two_lines Succeeded) { is_open = true; closes = 0; exit = None } ∷ [] } }
+
+-- Five files.
+
+-- the third stream begins before the second one has left, where one may be open
+abbrev pub third_too_early : RunRecord
+third_too_early = with_events five
+    ((Outer, Lease 0 0) ∷ (Outer, Lease 1 0) ∷ (visit 0 ++ ((Outer, Lease 2 0) ∷ (Outer, Lease 3 0) ∷ (Inner 1, Acquire 1 0) ∷ (Inner 2, Acquire 2 0) ∷ (Inner 1, Close 0 Succeeded) ∷ (Inner 1, Final 1 Succeeded true) ∷ (Inner 1, Cancel 1 Succeeded)
+    ∷ (Inner 2, Close 0 Succeeded) ∷ (Inner 2, Final 2 Succeeded true) ∷ (Inner 2, Cancel 2 Succeeded) ∷ (Outer, Lease 4 0) ∷ (visit 3 ++ ((Outer, Close 0 Succeeded) ∷ visit 4)))))
+
+-- what the first stream gave is printed as of the second, whose file is empty
+abbrev pub another_number : RunRecord
+another_number = record five { frames = frame 1 (codes "a") ∷ drop 1 five.frames }
+
+-- One stream.
+
+-- the outer stream is done, and never closed its root
+abbrev pub done_without_close : RunRecord
+done_without_close = with_events unbegun ((Outer, Lease 0 0) ∷ (Outer, Cancel 0 Canceled) ∷ [])
+
+-- the stream begins, though nothing may be printed
+abbrev pub begins_unwanted : RunRecord
+begins_unwanted = with_events ungiven ((Outer, Lease 0 0) ∷ (Outer, Close 0 Canceled) ∷ (Inner 0, Close 0 Canceled) ∷ (Inner 0, Cancel 0 Canceled) ∷ [])
+
+-- the outer stream cancels the lease of a stream that was begun
+abbrev pub canceled_by_another : RunRecord
+canceled_by_another = run_of x_listing x_listing (x_device ∷ []) (ends_of how.Done (how.Done ∷ []))
+    ((Outer, Lease 0 0) ∷ (Outer, Close 0 Succeeded) ∷ (Inner 0, Acquire 0 0) ∷ (Inner 0, Close 0 Succeeded) ∷ (Inner 0, Final 0 Succeeded true) ∷ (Outer, Cancel 0 Canceled) ∷ []) (frame 0 (codes "x\n") ∷ [])

@@ -1,13 +1,13 @@
 -- What the streams of these runs may give: files through steps, and what few other forms they need.
-use Rattle.std.specs.Prelude.{◌≡◌, ◌⊎◌, ℕ, if◌then◌else◌, List, [], ◌∷◌, ◌++◌, Option, Some, None, IfSome, codes}
+use Rattle.std.specs.Prelude.{ℕ, if◌then◌else◌, List, [], ◌∷◌, Option, Some, None, codes}
 use Rattle.std.specs.Str.{bytes_eq}
-use Rattle.chunk_core.specs.Elements.{Element, rendering_of}
 use Rattle.chunk_core.specs.Feed.{Given}
-use Rattle.chunk_core.specs.Outcomes.{End, Done, Fault, Outcomes}
+use Rattle.chunk_core.specs.Outcomes.{Outcomes}
 use Rattle.chunk_core.specs.declared.code.Code.{Code}
 use Rattle.chunk_core.specs.declared.code.Code.TheVariants as code
 use Rattle.device_port.specs.Device.{DeviceTold}
 use Rattle.chunk_core.specs.Tables.{no_values}
+use Rattle.pull_nodes.specs.PipeRule.{without_fault}
 use Rattle.pull_nodes.specs.Pipes.{part_of, all_of}
 use Rattle.pull_nodes.specs.Runs.{OpensThen, OrLeft, Piped, Reads, ReadsWhole}
 use Rattle.pull_nodes.specs.declared.pipe.Pipe.{Pipe}
@@ -36,23 +36,9 @@ abbrev pub ThroughWhole : Outcomes → List Pipe → Outcomes
 ThroughWhole A [] = A
 ThroughWhole A (p ∷ ps) = ThroughWhole (ThroughPipe A p) ps
 
-abbrev pub whole_list : List Element → Given
-whole_list ys = record { list = ys; fault = None }
-
 -- what A gives is gathered, and at its end this is given, and then a fault or none
 abbrev pub Gathered : Outcomes → Given → Outcomes
-Gathered A given = Piped (λ xs. whole_list []) (λ xs. given) A
-
--- the file is copied to the device d: the whole text, or a front of it where a write failed
-abbrev pub CopiesTo : DeviceTold → DeviceTold → Outcomes
-CopiesTo d file ys e =
-    (xs : List Element) × (g : End) × InFile file (Reads file) xs g × (ys ≡ [])
-    × (((d.write_faults ≡ 0) × IfSome d.written (λ bytes. bytes ≡ rendering_of xs) × (e ≡ g))
-    ⊎ ((d.write_faults ≡ 1) × (more : List ℕ) × IfSome d.written (λ bytes. bytes ++ more ≡ rendering_of xs) × (e ≡ Fault code.Write)))
-
--- the whole file is copied
-abbrev pub CopiesWhole : DeviceTold → DeviceTold → Outcomes
-CopiesWhole d file ys e = (xs : List Element) × ReadsWhole file xs e × (ys ≡ []) × IfSome d.written (λ bytes. bytes ≡ rendering_of xs)
+Gathered A given = Piped (λ xs. without_fault []) (λ xs. given) A
 
 -- The works.
 

@@ -12,10 +12,11 @@ use Rattle.res_ledger.specs.declared.event.StreamNo.TheVariants.{Outer, Inner}
 use Rattle.res_ledger.specs.declared.event.What.{What}
 use Rattle.res_ledger.specs.declared.event.What.TheVariants.{Acquire, Lease, Cancel, Close, Final}
 use Rattle.device_port.specs.Device.{DeviceTold}
+use Rattle.pull_nodes.specs.PipeRule.{without_fault}
 use Rattle.pull_nodes.specs.Runs.{Reads, ReadsWhole}
 use Rattle.run_rules.specs.Facts.{to_read}
 use Rattle.run_rules.specs.Work.{RunRecord, Values, Work}
-use Rattle.run_laws.specs.Streams.{Gathered, InFile, Leaves, file_stream, opener, whole_list}
+use Rattle.run_laws.specs.Streams.{Gathered, InFile, Leaves, file_stream, opener}
 use Rattle.run_laws.specs.Written.{Listing, ends_of, frame, idle_device, missing_device, read_device, run_of, used_device}
 
 abbrev pub path_b : List ℕ
@@ -40,7 +41,7 @@ lookup_files = (t_csv, table_bytes) ∷ (a_csv, keys_bytes) ∷ []
 
 -- the two keys, each with its value
 abbrev pub looked_up : Values → Given
-looked_up v = whole_list (Row (codes "k" ∷ unwrap_or (v 0 (codes "k")) [] ∷ []) ∷ Row (codes "z" ∷ unwrap_or (v 0 (codes "z")) [] ∷ []) ∷ [])
+looked_up v = without_fault (Row (codes "k" ∷ unwrap_or (v 0 (codes "k")) [] ∷ []) ∷ Row (codes "z" ∷ unwrap_or (v 0 (codes "z")) [] ∷ []) ∷ [])
 
 abbrev pub lookup_work : Work
 lookup_work = record {

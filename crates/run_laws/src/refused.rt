@@ -1,9 +1,12 @@
 //! Runs with one thing wrong each.
+ghost use Rattle.run_laws.specs.FiveFiles.{five_work};
+ghost use Rattle.run_laws.specs.OneStream.{one_stream_work};
 ghost use Rattle.run_laws.specs.Others.{copy_work, no_streams, silent_work, stopped_work, u_csv};
-ghost use Rattle.run_laws.specs.Refused.{another_value, begins_behind_a_failed_write, begins_behind_a_fault, begins_in_silence, cancel_told_otherwise, cut_behind_the_last, fault_of_no_device, first_table_first, halted_by_a_later_one, in_turn_work, invented_scope, lease_by_a_stream, leased_table_ended, left_before_closing, next_table_tried, nobody_given, one_frame_too_many, one_frame_work, other_bytes_stored, root_never_closed, root_told_otherwise, second_device, stolen_row, stopped_by_nothing, stopped_one_begins, tables_never_acquired, two_open, without_lease};
+ghost use Rattle.run_laws.specs.Refused.{another_number, another_value, begins_behind_a_failed_write, begins_behind_a_fault, begins_in_silence, begins_unwanted, cancel_told_otherwise, canceled_by_another, crossed_pairs, cut_behind_the_last, done_without_close, fault_of_no_device, first_table_first, halted_by_a_later_one, in_turn_work, invented_scope, lease_by_a_stream, leased_table_ended, left_before_closing, next_table_tried, nobody_given, one_frame_too_many, one_frame_work, other_bytes_stored, root_never_closed, root_told_otherwise, second_device, side_left_open, stolen_row, stopped_by_nothing, stopped_one_begins, tables_never_acquired, third_pair, third_too_early, two_open, without_lease};
+ghost use Rattle.run_laws.specs.Sides.{pairs_work};
 ghost use Rattle.run_laws.specs.Tables.{lookup_work, t_csv};
 ghost use Rattle.run_rules.specs.Run.{Performs};
-ghost use Rattle.std.specs.Prelude.{[], ◌∷◌};
+ghost use Rattle.std.specs.Prelude.{[], ◌∷◌, None, Some};
 
 /// The outer stream isn't ahead, or too many streams are open.
 pub fn wrong_pace()
@@ -57,4 +60,25 @@ pub fn begun_too_late()
 pub fn told_otherwise()
     ensures is_root_told_otherwise { ¬ (Performs copy_work root_told_otherwise) }
     ensures is_cancel_told_otherwise { ¬ (Performs copy_work cancel_told_otherwise) }
+{}
+
+/// Pairs that aren't those of the two files, and a file of the two that is never closed.
+pub fn wrong_sides()
+    ensures is_third_pair { ¬ (Performs pairs_work third_pair) }
+    ensures is_crossed_pairs { ¬ (Performs pairs_work crossed_pairs) }
+    ensures is_side_left_open { ¬ (Performs pairs_work side_left_open) }
+{}
+
+/// Streams that aren't one after another, and an output under another stream's number.
+pub fn wrong_files()
+    ensures is_third_too_early { ¬ (Performs five_work third_too_early) }
+    ensures is_another_number { ¬ (Performs five_work another_number) }
+{}
+
+/// An outer stream that never closed its root, that gives a stream where nothing may be printed, and
+/// that cancels for a stream which was begun.
+pub fn wrong_stream()
+    ensures is_done_without_close { ¬ (Performs (one_stream_work None) done_without_close) }
+    ensures is_begins_unwanted { ¬ (Performs (one_stream_work (Some 0)) begins_unwanted) }
+    ensures is_canceled_by_another { ¬ (Performs (one_stream_work None) canceled_by_another) }
 {}

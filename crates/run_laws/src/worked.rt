@@ -1,9 +1,13 @@
 //! Runs that went as they should, each with what it prints.
 ghost use Rattle.run_laws.specs.Files.{cut_line_end, cut_line_end_text, filtered_log, filtered_log_text, filtered_log_work, lines_work, lossy_hexadecimal, lossy_hexadecimal_text, lossy_hexadecimal_work, malformed_character, malformed_character_text, second_field, second_field_text, second_field_work, taker_stops, taker_stops_text, taker_stops_work, truncated_character, truncated_character_text, uneven_records, uneven_records_text, uneven_records_work, utf8_work, whole_character, whole_character_text};
+ghost use Rattle.run_laws.specs.FiveFiles.{five, five_text, five_work};
+ghost use Rattle.run_laws.specs.OneStream.{one_stream_work, unbegun, ungiven, ungiven_text};
 ghost use Rattle.run_laws.specs.Others.{copy_work, handled_work, no_streams, silent_work, stopped_work, u_csv, two_tables, nothing_described, silent, stopped, handled, copied, uncopied, two_tables_text, nothing_described_text, silent_text, stopped_text, handled_text, copied_text, uncopied_text};
+ghost use Rattle.run_laws.specs.Sides.{merge_work, merged, merged_back, merged_back_text, merged_text, paired, paired_text, pairs_work};
 ghost use Rattle.run_laws.specs.Tables.{lookup_work, t_csv, lookup, unread_table, refused_table, missing_table, unopened_file, unread_file, unclean_table, unclean_file, lookup_text, unread_table_text, refused_table_text, missing_table_text, unopened_file_text, unread_file_text, unclean_table_text, unclean_file_text};
 ghost use Rattle.run_laws.specs.Written.{IsRightRun};
-ghost use Rattle.std.specs.Prelude.{[], ◌∷◌};
+ghost use Rattle.run_rules.specs.Run.{Performs};
+ghost use Rattle.std.specs.Prelude.{[], ◌∷◌, None, Some};
 
 /// One file through steps.
 pub fn one_file()
@@ -43,4 +47,23 @@ pub fn other_runs()
     ensures is_handled { IsRightRun handled_work handled handled_text }
     ensures is_copied { IsRightRun copy_work copied copied_text }
     ensures is_uncopied { IsRightRun copy_work uncopied uncopied_text }
+{}
+
+/// Two files in pairs, and as a merge in either order.
+pub fn two_sides()
+    ensures is_paired { IsRightRun pairs_work paired paired_text }
+    ensures is_merged { IsRightRun merge_work merged merged_text }
+    ensures is_merged_back { IsRightRun merge_work merged_back merged_back_text }
+{}
+
+/// Five files of different sizes, one after another.
+pub fn several_files()
+    ensures is_five { IsRightRun five_work five five_text }
+{}
+
+/// One stream that is never begun: nothing may be printed, or there is no memory for it, and then
+/// nothing is said behind the frames.
+pub fn one_stream()
+    ensures is_ungiven { IsRightRun (one_stream_work (Some 0)) ungiven ungiven_text }
+    ensures is_unbegun { Performs (one_stream_work None) unbegun }
 {}
