@@ -9,8 +9,8 @@
 //! in pace (`IsInPace`), `family_is_paced` says that each stream's lease and the next one's stand
 //! before its first event, and that no more streams are open at once than the width.
 //!
-//! Each law is the contract of a function that does nothing, and has no error. No command splits a
-//! seat off as yet, so no caller stands here.
+//! Each law is the contract of a function that does nothing, and has no error. The calls of
+//! `join_tree` keep a family by them.
 #![tactic(auto)]
 
 pub mod laws;
