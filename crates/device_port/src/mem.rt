@@ -22,6 +22,7 @@ pub(crate) fn copy_front(from: &[u8], to: &mut [u8]) -> usize
 pub struct MemSource {
     bytes: Vec<u8>,
     at: usize,
+    ended: bool,
     reads: Calls,
     faults: u64,
     ghost within: { at ≤ vec_len bytes },
@@ -32,12 +33,13 @@ impl MemSource {
 
     /// A source of these bytes. The reads whose numbers, from 1, stand in `fail` fail.
     pub fn new(alloc: Global, bytes: &[u8], fail: List<u32>) -> Result<MemSource, AllocError>
-        ensures told { IfOk result (λ s. source_told s ≡ record { left = Some bytes.now; faults = 0 }) }
+        ensures told { IfOk result (λ s. source_told s ≡ record { left = Some bytes.now; ended = false; faults = 0 }) }
         ensures reads { IfOk result (λ s. s.reads ≡ record { fail = fail; made = 0 }) }
     {
         Ok(MemSource {
             bytes: Vec::from_slice(alloc, bytes)?,
             at: 0,
+            ended: false,
             reads: Calls::new(fail),
             faults: 0,
         })
@@ -70,6 +72,7 @@ impl Source for MemSource {
         }
         let count = copy_front(&self.bytes[self.at..], buf);
         self.at += count;
+        self.ended = count == 0;
         Ok(count)
     }
 }

@@ -55,35 +55,41 @@ pub(crate) fn sync_written<F: OpenFile>(file: &F) -> Result<(), Failed> {
 #[derive(Drop)]
 pub struct StdSource<R> {
     reader: R,
+    ended: bool,
     faults: u64,
 }
 
 impl<R: Read> StdSource<R> {
-    ghost use Rattle.std.specs.Prelude.{None};
+    ghost use Rattle.std.specs.Prelude.{None, false};
 
     pub fn new(reader: R) -> StdSource<R>
-        ensures { ⟦<StdSource<R> as Source>⟧.told result ≡ record { left = None; faults = 0 } }
+        ensures { ⟦<StdSource<R> as Source>⟧.told result ≡ record { left = None; ended = false; faults = 0 } }
     {
-        StdSource { reader, faults: 0 }
+        StdSource {
+            reader,
+            ended: false,
+            faults: 0,
+        }
     }
 }
 
 impl<R: Read> Source for StdSource<R> {
-    ghost use Rattle.std.specs.Prelude.{None};
+    ghost use Rattle.std.specs.Prelude.{None, nat_eq};
 
-    ghost told = { λ s. record { left = None; faults = s.faults } };
+    ghost told = { λ s. record { left = None; ended = s.ended; faults = s.faults } };
 
     fn read(&mut self, buf: &mut [u8]) -> Result<usize, Failed>
         requires some { 0 < length buf.old }
         requires room { self.old.faults < 2 ^ 64 - 1 }
         ensures count { IfOk result (λ n. n ≤ length buf.new) }
-        ensures ok { IfOk result (λ n. self.new.faults ≡ self.old.faults) }
-        ensures failed { OnErr result (self.new.faults ≡ self.old.faults + 1) }
+        ensures ok { IfOk result (λ n. (self.new.faults ≡ self.old.faults) × (self.new.ended ≡ nat_eq n 0)) }
+        ensures failed { OnErr result ((self.new.faults ≡ self.old.faults + 1) × (self.new.ended ≡ self.old.ended)) }
         ensures read { ReadConsumes (R.remaining self.old.reader) (R.remaining self.new.reader) result buf.new }
     {
         let count = read_some(&mut self.reader, buf);
-        if count.is_err() {
-            self.faults += 1;
+        match count {
+            Ok(count) => self.ended = count == 0,
+            Err(_) => self.faults += 1,
         }
         count
     }

@@ -6,10 +6,12 @@ pub trait Source {
     ghost use Rattle.std.specs.Prelude.{◌≡◌, ◌+◌, ◌-◌, ◌^◌, ◌<◌, ◌≤◌, [], length, take, IfOk, OnErr, IfSome};
     ghost use Rattle.device_port.specs.Source.{SourceTold, without_front};
 
-    /// The bytes still to come, where they are told, and how often a call failed.
+    /// The bytes still to come, where they are told, whether the last read gave none, and how often
+    /// a call failed.
     ghost told: { Self → SourceTold };
 
-    /// Reads some of the next bytes to the front of the buffer, and none only at the end.
+    /// Reads some of the next bytes to the front of the buffer, and none only at the end. The
+    /// source has ended where its last read gave none.
     fn read(&mut self, buf: &mut [u8]) -> Result<usize, Failed>
         requires some { 0 < length buf.old }
         requires room { (told self.old).faults < 2 ^ 64 - 1 }
