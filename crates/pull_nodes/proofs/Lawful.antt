@@ -38,6 +38,18 @@ own_truncated = record { opening = λ e. (cc); reading = λ e. (cc); writing = �
 pub own_long : IsNoDeviceFault (Some code.LongLine)
 own_long = record { opening = λ e. (cc); reading = λ e. (cc); writing = λ e. (cc) }
 
+pub own_too_large : IsNoDeviceFault (Some code.TooLarge)
+own_too_large = record { opening = λ e. (cc); reading = λ e. (cc); writing = λ e. (cc) }
+
+pub own_not_utf8 : IsNoDeviceFault (Some code.NotUtf8)
+own_not_utf8 = record { opening = λ e. (cc); reading = λ e. (cc); writing = λ e. (cc) }
+
+pub own_uneven : IsNoDeviceFault (Some code.Uneven)
+own_uneven = record { opening = λ e. (cc); reading = λ e. (cc); writing = λ e. (cc) }
+
+pub own_no_field : IsNoDeviceFault (Some code.NoField)
+own_no_field = record { opening = λ e. (cc); reading = λ e. (cc); writing = λ e. (cc) }
+
 pub own_if : (b : Bool) (c d : Option Code) → IsNoDeviceFault c → IsNoDeviceFault d → IsNoDeviceFault (cond b c d)
 own_if true c d h i = h
 own_if false c d h i = i

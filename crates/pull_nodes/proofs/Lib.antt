@@ -4,7 +4,9 @@ pub mod Characters
 pub mod ChunkN
 pub mod Count
 pub mod Counts
+pub mod Csv
 pub mod Drop
+pub mod Field
 pub mod Filter
 pub mod Folds
 pub mod Fronts
@@ -19,6 +21,7 @@ pub mod Left
 pub mod LineLaws
 pub mod Lines
 pub mod LongLines
+pub mod Lookup
 pub mod LossyCuts
 pub mod LossyLaws
 pub mod Malformed

@@ -1,10 +1,12 @@
 -- What pipes mean, computed on a few inputs.
-use Rattle.std.proofs.Common.{◌≡◌, ℕ, List, [], ◌∷◌, ◌++◌, map, Some, refl, codes}
+use Rattle.std.proofs.Common.{◌≡◌, ℕ, zero, suc, if◌then◌else◌, List, [], ◌∷◌, ◌++◌, map, Option, Some, None, refl, codes}
 use Rattle.std.specs.Char.{encode_utf8}
 use Rattle.std.specs.Fmt.{digits}
-use Rattle.std.specs.Str.{is_utf8, chars}
+use Rattle.std.specs.Str.{bytes_eq, is_utf8, chars}
 use Rattle.std.specs.Str.Lossy.{utf8_valid_len, utf8_error_len, utf8_lossy}
 use Prim.Native.String.{String}
+use Rattle.csv.specs.Machine.{next_record}
+use Rattle.csv.specs.Reading.{records_from, strip_bom}
 use Rattle.chunk_core.specs.Elements.{Element, Byte, Line, Row}
 use Rattle.chunk_core.specs.Feed.{Given}
 use Rattle.chunk_core.specs.declared.code.Code.{Code}
@@ -12,7 +14,7 @@ use Rattle.chunk_core.specs.declared.code.Code.TheVariants as code
 use Rattle.pull_nodes.specs.Lines.{without_pairs, ended_lines, open_line}
 use Rattle.pull_nodes.specs.PipeRule.{without_fault}
 use Rattle.pull_nodes.specs.Pipes.{part_of, all_of}
-use Rattle.chunk_core.specs.Tables.{no_values}
+use Rattle.chunk_core.specs.Tables.{Values, no_values}
 use Rattle.pull_nodes.specs.declared.pipe.Pipe.TheVariants as pipe
 
 abbrev bytes : String → List Element
@@ -97,6 +99,63 @@ hex_4 = refl
 
 upper_1 : part_of no_values pipe.Upper (bytes "`azAZ{" ++ lines (codes "a-z" ∷ [])) ≡ without_fault (bytes "`AZAZ{" ++ lines (codes "A-Z" ∷ []))
 upper_1 = refl
+
+abbrev rows : List (List (List ℕ)) → List Element
+rows fields = map Row fields
+
+abbrev row : List String → List (List ℕ)
+row fields = map codes fields
+
+-- nothing comes before the end
+csv_1 : part_of no_values pipe.Csv (bytes "a,b\nc,d\n") ≡ without_fault []
+csv_1 = refl
+
+csv_2 : all_of no_values pipe.Csv (bytes "a,b\r\n\r\n\"c,\"\"\n\",d") ≡ without_fault (rows (row ("a" ∷ "b" ∷ []) ∷ row ("c,\"\n" ∷ "d" ∷ []) ∷ []))
+unfolding is_utf8 chars encode_utf8 strip_bom records_from next_record
+csv_2 = refl
+
+-- a record with a field more: those before it, and not those behind
+csv_3 : all_of no_values pipe.Csv (bytes "a\nb\nc,d\ne\n") ≡ failed (rows (row ("a" ∷ []) ∷ row ("b" ∷ []) ∷ [])) code.Uneven
+unfolding is_utf8 chars encode_utf8 strip_bom records_from next_record
+csv_3 = refl
+
+-- a byte order mark, a line of two quotes, and quotes that stay open
+csv_4 : all_of no_values pipe.Csv (map Byte (0xEF ∷ 0xBB ∷ 0xBF ∷ []) ++ bytes "\"\"\na\rb\"c\n\"d\n") ≡ without_fault (rows (row ("" ∷ []) ∷ row ("a" ∷ []) ∷ row ("b\"c" ∷ []) ∷ row ("d\n" ∷ []) ∷ []))
+unfolding is_utf8 chars encode_utf8 strip_bom records_from next_record
+csv_4 = refl
+
+-- no row comes of what isn't UTF-8
+csv_5 : all_of no_values pipe.Csv (bytes "a\n" ++ map Byte (0xFF ∷ [])) ≡ failed [] code.NotUtf8
+unfolding is_utf8 chars encode_utf8 strip_bom records_from next_record
+csv_5 = refl
+
+csv_6 : all_of no_values pipe.Csv [] ≡ without_fault []
+unfolding is_utf8 chars encode_utf8 strip_bom records_from next_record
+csv_6 = refl
+
+field_1 : part_of no_values (pipe.Field 1) (rows (row ("a" ∷ "b" ∷ []) ∷ row ("c" ∷ "" ∷ "d" ∷ []) ∷ [])) ≡ without_fault (lines (codes "b" ∷ codes "" ∷ []))
+field_1 = refl
+
+-- a row without the field: those before it, and not those behind
+field_2 : part_of no_values (pipe.Field 1) (rows (row ("a" ∷ "b" ∷ []) ∷ row ("c" ∷ []) ∷ row ("d" ∷ "e" ∷ []) ∷ [])) ≡ failed (lines (codes "b" ∷ [])) code.NoField
+field_2 = refl
+
+field_3 : all_of no_values (pipe.Field 0) (rows ([] ∷ [])) ≡ failed [] code.NoField
+field_3 = refl
+
+-- a table 0 whose key k has the value v, and a table 1 whose key k has the value w
+abbrev of_key : List ℕ → List ℕ → Option (List ℕ)
+of_key value key = if bytes_eq key (codes "k") then Some value else None
+
+abbrev two_tables : Values
+two_tables zero = of_key (codes "v")
+two_tables (suc t) = of_key (codes "w")
+
+lookup_1 : part_of two_tables (pipe.Lookup 0 0) (rows (row ("k" ∷ []) ∷ row ("z" ∷ []) ∷ [])) ≡ without_fault (rows (row ("k" ∷ "v" ∷ []) ∷ row ("z" ∷ "" ∷ []) ∷ []))
+lookup_1 = refl
+
+lookup_2 : all_of two_tables (pipe.Lookup 1 1) (rows (row ("a" ∷ "k" ∷ []) ∷ row ("k" ∷ []) ∷ row ("a" ∷ "k" ∷ []) ∷ [])) ≡ failed (rows (row ("a" ∷ "k" ∷ "w" ∷ []) ∷ [])) code.NoField
+lookup_2 = refl
 
 drop_1 : part_of no_values (pipe.Drop 2) (bytes "abc") ≡ without_fault (bytes "c")
 drop_1 = refl

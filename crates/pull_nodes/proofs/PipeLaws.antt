@@ -10,12 +10,15 @@ use Rattle.pull_nodes.specs.declared.pipe.Pipe.TheVariants as pipe
 use Rattle.pull_nodes.proofs.Changes.{changes_lawful}
 use Rattle.pull_nodes.proofs.ChunkN.{chunk_lawful}
 use Rattle.pull_nodes.proofs.Count.{count_lawful}
+use Rattle.pull_nodes.proofs.Csv.{csv_lawful}
 use Rattle.pull_nodes.proofs.Drop.{drop_lawful}
+use Rattle.pull_nodes.proofs.Field.{field_lawful}
 use Rattle.pull_nodes.proofs.Filter.{filter_lawful}
 use Rattle.pull_nodes.proofs.Hex.{hex_lawful}
 use Rattle.pull_nodes.proofs.Intersperse.{intersperse_lawful}
 use Rattle.pull_nodes.proofs.Lawful.{IsLawful}
 use Rattle.pull_nodes.proofs.Lines.{lines_lawful}
+use Rattle.pull_nodes.proofs.Lookup.{lookup_lawful}
 use Rattle.pull_nodes.proofs.Meanings.{is_meaning_over}
 use Rattle.pull_nodes.proofs.Number.{number_lawful}
 use Rattle.pull_nodes.proofs.Steady.{steady_by}
@@ -28,6 +31,9 @@ lawful_pipe t pipe.Lossy = lossy_lawful
 lawful_pipe t pipe.Lines = lines_lawful
 lawful_pipe t pipe.Hex = hex_lawful
 lawful_pipe t pipe.Upper = upper_lawful
+lawful_pipe t pipe.Csv = csv_lawful
+lawful_pipe t (pipe.Field i) = field_lawful i
+lawful_pipe t (pipe.Lookup n i) = lookup_lawful (t n) i
 lawful_pipe t (pipe.Drop n) = drop_lawful n
 lawful_pipe t (pipe.Filter text) = filter_lawful text
 lawful_pipe t pipe.Changes = changes_lawful

@@ -1,8 +1,9 @@
 -- What a pipe is, as plain data.
-use Rattle.std.specs.Prelude.{List, Option, Some, None}
+use Rattle.std.specs.Prelude.{List, [], Option, Some, None}
 use Rattle.chunk_core.specs.Elements.{Element, LoadKind}
 use Rattle.chunk_core.specs.Elements.LoadKind.{Bytes, Lines, Rows}
 use Rattle.chunk_core.specs.Feed.{Given}
+use Rattle.chunk_core.specs.declared.code.Code.{Code}
 use Rattle.pull_nodes.specs.declared.kind.Kind.{Kind}
 
 -- the kinds that a pipe takes and gives, and what it gives of elements
@@ -28,6 +29,12 @@ from_lines gives Bytes = None
 from_lines gives Lines = Some gives
 from_lines gives Rows = None
 
+-- a pipe that takes rows alone gives this kind of them
+abbrev pub from_rows : LoadKind → LoadKind → Option LoadKind
+from_rows gives Bytes = None
+from_rows gives Lines = None
+from_rows gives Rows = Some gives
+
 -- a pipe that takes each kind gives the same
 abbrev pub same_kind : LoadKind → Option LoadKind
 same_kind k = Some k
@@ -35,3 +42,7 @@ same_kind k = Some k
 -- the elements and no fault
 abbrev pub without_fault : List Element → Given
 without_fault xs = record { list = xs; fault = None }
+
+-- no element and this fault
+abbrev pub only_fault : Code → Given
+only_fault c = record { list = []; fault = Some c }

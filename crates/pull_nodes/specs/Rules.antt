@@ -2,11 +2,14 @@
 use Rattle.pull_nodes.specs.Changes.{changes_rule}
 use Rattle.pull_nodes.specs.ChunkN.{chunk_rule}
 use Rattle.pull_nodes.specs.Count.{count_rule}
+use Rattle.pull_nodes.specs.Csv.{csv_rule}
 use Rattle.pull_nodes.specs.Drop.{drop_rule}
+use Rattle.pull_nodes.specs.Field.{field_rule}
 use Rattle.pull_nodes.specs.Filter.{filter_rule}
 use Rattle.pull_nodes.specs.Hex.{hex_rule}
 use Rattle.pull_nodes.specs.Intersperse.{intersperse_rule}
 use Rattle.pull_nodes.specs.Lines.{lines_rule}
+use Rattle.pull_nodes.specs.Lookup.{lookup_rule}
 use Rattle.pull_nodes.specs.Number.{number_rule}
 use Rattle.pull_nodes.specs.PipeRule.{PipeRule}
 use Rattle.chunk_core.specs.Tables.{Values}
@@ -21,6 +24,9 @@ rule_of v pipe.Lossy = lossy_rule
 rule_of v pipe.Lines = lines_rule
 rule_of v pipe.Hex = hex_rule
 rule_of v pipe.Upper = upper_rule
+rule_of v pipe.Csv = csv_rule
+rule_of v (pipe.Field i) = field_rule i
+rule_of v (pipe.Lookup t i) = lookup_rule (v t) i
 rule_of v (pipe.Drop n) = drop_rule n
 rule_of v (pipe.Filter text) = filter_rule text
 rule_of v pipe.Changes = changes_rule

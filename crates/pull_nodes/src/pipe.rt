@@ -28,6 +28,16 @@ pub enum Pipe {
     Hex,
     /// Bytes or lines to the same: a to z become A to Z.
     Upper,
+    /// Bytes to rows: the records of the whole input, read at its end as comma-separated values, the
+    /// first one as the others. Faults `TooLarge` above 16,777,216 bytes, `NotUtf8`, and `Uneven` at
+    /// the first record with another number of fields than the first.
+    Csv,
+    /// Rows to lines: the field of each row, from 0. Fault `NoField` at the first row without it.
+    Field(u32),
+    /// Rows to rows: each row and at its end one field more, the value that the table has for its
+    /// field, or an empty one. The first number is the table's, the second the field's, from 0.
+    /// Fault `NoField` at the first row without it.
+    Lookup(u32, u32),
     /// Any kind to the same: all but the first so many elements.
     Drop(u64),
     /// Lines to lines: those that contain the text.
@@ -56,6 +66,9 @@ impl Pipe {
             Pipe::Lines => Pipe::Lines,
             Pipe::Hex => Pipe::Hex,
             Pipe::Upper => Pipe::Upper,
+            Pipe::Csv => Pipe::Csv,
+            Pipe::Field(field) => Pipe::Field(*field),
+            Pipe::Lookup(table, field) => Pipe::Lookup(*table, *field),
             Pipe::Drop(n) => Pipe::Drop(*n),
             Pipe::Filter(text) => Pipe::Filter(Line::copy_of(alloc, text.as_slice())?),
             Pipe::Changes => Pipe::Changes,
@@ -80,6 +93,9 @@ impl Pipe {
             (Pipe::Filter(_) | Pipe::Number | Pipe::Intersperse(_), Kind::Lines | Kind::Any) => {
                 Ok(Kind::Lines)
             }
+            (Pipe::Csv, Kind::Bytes | Kind::Any) => Ok(Kind::Rows),
+            (Pipe::Field(_), Kind::Rows | Kind::Any) => Ok(Kind::Lines),
+            (Pipe::Lookup(_, _), Kind::Rows | Kind::Any) => Ok(Kind::Rows),
             (Pipe::Count, _) => Ok(Kind::Lines),
             _ => Err(KindFault),
         }

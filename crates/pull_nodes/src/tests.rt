@@ -191,6 +191,12 @@ fn a_pipe_gives_a_kind_of_what_it_takes(rt: HostRuntime) -> Result<(), Fail> {
     assert_eq!(rt; Pipe::ChunkN(2).kind(Kind::Any), Ok(Kind::Any));
     assert_eq!(rt; Pipe::Utf8.kind(Kind::Any), Ok(Kind::Bytes));
     assert_eq!(rt; Pipe::Changes.kind(Kind::Bytes), Err(KindFault));
+    assert_eq!(rt; Pipe::Csv.kind(Kind::Bytes), Ok(Kind::Rows));
+    assert_eq!(rt; Pipe::Csv.kind(Kind::Lines), Err(KindFault));
+    assert_eq!(rt; Pipe::Field(0).kind(Kind::Rows), Ok(Kind::Lines));
+    assert_eq!(rt; Pipe::Field(0).kind(Kind::Any), Ok(Kind::Lines));
+    assert_eq!(rt; Pipe::Lookup(1, 0).kind(Kind::Rows), Ok(Kind::Rows));
+    assert_eq!(rt; Pipe::Lookup(1, 0).kind(Kind::Bytes), Err(KindFault));
     assert_eq!(rt; Pipe::ChunkN(2).group_size(), Some(2));
     assert_eq!(rt; Pipe::ChunkN(0).group_size(), Some(1));
     assert_eq!(rt; Pipe::Drop(2).group_size(), None);

@@ -8,13 +8,15 @@ use Rattle.chunk_core.specs.declared.load.Load.TheVariants as load
 use Rattle.pull_nodes.specs.Kinds.{joined_kind, kind_behind, merged_kind, node_kind as kind_of_node, kind_of_sides, load_kind, paired_kind}
 use Rattle.pull_nodes.specs.PipeKinds.{gives_of, kind_of_nothing, piped_kind, stream_kind}
 use Rattle.pull_nodes.specs.Pipes.{IsMeaningOver, meaning_over}
-use Rattle.chunk_core.specs.Tables.{Values}
+use Rattle.chunk_core.specs.Tables.{Values, no_values}
 use Rattle.std.specs.Prelude.{option_and_then, option_map}
 use Rattle.pull_nodes.specs.declared.kind.Kind.{Kind}
 use Rattle.pull_nodes.specs.declared.kind.Kind.TheVariants as kind
 use Rattle.pull_nodes.specs.declared.node.Node.{Node}
 use Rattle.pull_nodes.specs.declared.node.Node.TheVariants as node
 use Rattle.pull_nodes.specs.declared.pipe.Pipe.{Pipe}
+use Rattle.pull_nodes.specs.declared.pipe.Pipe.TheVariants as pipe
+use Rattle.pull_nodes.specs.Rules.{rule_of}
 use Rattle.pull_nodes.proofs.PipeLaws.{lawful_pipe}
 use Rattle.pull_turns.specs.Piping.{HasKindOf, PipesFitOf}
 
@@ -78,6 +80,28 @@ takes_lines (Some kind.Bytes) h = absurd (let e : None ≡ Some h.0 = h.1 in cc)
 takes_lines (Some kind.Lines) h = refl
 takes_lines (Some kind.Rows) h = absurd (let e : None ≡ Some h.0 = h.1 in cc)
 
+-- the kinds of a pipe don't depend on what the tables have
+record HasFixedKinds (v : Values) (q : Pipe) : Type 0 where
+  gives : (rule_of v q).gives ≡ (rule_of no_values q).gives
+  of_nothing : (rule_of v q).of_nothing ≡ (rule_of no_values q).of_nothing
+
+fixed_kinds : (v : Values) (q : Pipe) → HasFixedKinds v q
+fixed_kinds v pipe.Utf8 = record { gives = refl; of_nothing = refl }
+fixed_kinds v pipe.Lossy = record { gives = refl; of_nothing = refl }
+fixed_kinds v pipe.Lines = record { gives = refl; of_nothing = refl }
+fixed_kinds v pipe.Hex = record { gives = refl; of_nothing = refl }
+fixed_kinds v pipe.Upper = record { gives = refl; of_nothing = refl }
+fixed_kinds v pipe.Csv = record { gives = refl; of_nothing = refl }
+fixed_kinds v (pipe.Field i) = record { gives = refl; of_nothing = refl }
+fixed_kinds v (pipe.Lookup t i) = record { gives = refl; of_nothing = refl }
+fixed_kinds v (pipe.Drop n) = record { gives = refl; of_nothing = refl }
+fixed_kinds v (pipe.Filter text) = record { gives = refl; of_nothing = refl }
+fixed_kinds v pipe.Changes = record { gives = refl; of_nothing = refl }
+fixed_kinds v pipe.Number = record { gives = refl; of_nothing = refl }
+fixed_kinds v pipe.Count = record { gives = refl; of_nothing = refl }
+fixed_kinds v (pipe.Intersperse line) = record { gives = refl; of_nothing = refl }
+fixed_kinds v (pipe.ChunkN n) = record { gives = refl; of_nothing = refl }
+
 module _ (v : Values) where
   -- what a pipe makes of loads, or of nothing
   abbrev Behind : (LoadKind → Type 0) → Pipe → LoadKind → Type 0
@@ -90,10 +114,13 @@ module _ (v : Values) where
   admits_stream Lines k h = sym h
   admits_stream Rows k h = sym h
 
+  takes_as : (q : Pipe) (takes gives : LoadKind) → (rule_of v q).gives takes ≡ Some gives → IsMeaningOver v q (meaning_over v q takes gives)
+  takes_as q takes gives e = ap (option_map (meaning_over v q takes)) (subst (λ g. g takes ≡ Some gives) (fixed_kinds v q).gives e)
+
   behind_nothing : (Below : LoadKind → Type 0) (q : Pipe) (k : LoadKind) → ((j : LoadKind) → Below j) → Admits (kind_of_nothing q) k → Behind Below q k
   behind_nothing Below q k f h = elim (lawful_pipe v q).behind_nothing [
-    | inl b ↦ inl (meaning_over v q b.0 b.1, ap (option_map (meaning_over v q b.0)) b.2, f b.0, admits_stream b.1 k (subst (λ i. Admits i k) b.3 h))
-    | inr b ↦ inr (f, (meaning_over v q b.0 b.1, ap (option_map (meaning_over v q b.0)) b.2, b.3))
+    | inl b ↦ inl (meaning_over v q b.0 b.1, takes_as q b.0 b.1 b.2, f b.0, admits_stream b.1 k (subst (λ i. Admits i k) (subst (λ i. i ≡ stream_kind b.1) (fixed_kinds v q).of_nothing b.3) h))
+    | inr b ↦ inr (f, (meaning_over v q b.0 b.1, takes_as q b.0 b.1 b.2, b.3))
   ]
 
   behind_some : (Below : LoadKind → Type 0) (q : Pipe) (j k : LoadKind) (o : Option LoadKind) → gives_of q j ≡ o → Below j → AdmitsBy (option_map stream_kind o) k → Behind Below q k
