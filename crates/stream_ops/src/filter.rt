@@ -33,7 +33,7 @@ fn keep(
 ) -> Result<Vec<Line>, AllocError>
     ensures { IfOk result (λ kept. kept.items ≡ filter (contains finder.now) lines.now) }
 {
-    let mut kept = Vec::new(alloc);
+    let mut kept = Vec::with_capacity(alloc, lines.len())?;
     for line in lines {
         if is_match(finder, line) {
             push_copy(alloc, spare, &mut kept, line)?;

@@ -3,6 +3,7 @@ pub mod LinesFeeds
 pub mod LinesKnown
 pub mod LinesSteps
 pub mod LossyFeeds
+pub mod LossyParts
 pub mod LossyTails
 pub mod UpperFeeds
 pub mod Utf8Feeds

@@ -1,5 +1,5 @@
 //! Bytes read as UTF-8, whatever they are.
-ghost use Rattle.std.specs.Prelude.{◌≡◌, ◌+◌, ◌≤◌, length, take, drop, IfOk};
+ghost use Rattle.std.specs.Prelude.{◌≡◌, ◌+◌, ◌++◌, ◌≤◌, length, take, drop, IfOk, OnOk};
 ghost use Rattle.std.specs.Str.Lossy.{utf8_lossy};
 ghost use Rattle.pull_nodes.specs.Utf8.{is_unfinished, finished_front, unfinished_rest};
 
@@ -10,6 +10,9 @@ use std::alloc::{AllocError, Global};
 
 /// The most bytes of a sequence that isn't whole.
 const LONGEST: usize = 3;
+
+/// So many bytes are read at once where a load has faults: those without one are copied as a whole.
+const PART: usize = 512;
 
 /// `Lossy`: the bytes of a sequence that isn't whole yet.
 #[derive(Drop)]
@@ -33,6 +36,7 @@ fn finished_len(bytes: &[u8]) -> usize
     ensures front { take result bytes.now ≡ finished_front bytes.now }
     ensures rest { drop result bytes.now ≡ unfinished_rest bytes.now }
     ensures short { length bytes.now ≤ result + 3 }
+    ensures within { result ≤ length bytes.now }
 {
     let mut at = bytes.len().saturating_sub(LONGEST);
     'tails: while at < bytes.len() {
@@ -44,6 +48,33 @@ fn finished_len(bytes: &[u8]) -> usize
     at
 }
 
+/// Appends the bytes as text.
+fn push_part(alloc: Global, text: &mut Vec<u8>, part: &[u8]) -> Result<(), AllocError>
+    ensures { OnOk result (text.new.items ≡ text.old.items ++ utf8_lossy part.now) }
+{
+    if simdutf8::is_utf8(part) {
+        text.extend_from_slice(part)?;
+        return Ok(());
+    }
+    let read = String::from_utf8_lossy(alloc, part)?;
+    text.extend_from_slice(read.as_bytes())
+}
+
+/// The same in parts, each cut where no sequence goes on.
+fn push_lossy(alloc: Global, text: &mut Vec<u8>, bytes: &[u8]) -> Result<(), AllocError>
+    ensures { OnOk result (text.new.items ≡ text.old.items ++ utf8_lossy bytes.now) }
+{
+    let mut left = bytes;
+    'parts: while left.len() > PART {
+        let (window, _) = left.split_at(PART);
+        let (part, more) = left.split_at(finished_len(window));
+        push_part(alloc, text, part)?;
+        left = more;
+    }
+    push_part(alloc, text, left)?;
+    Ok(())
+}
+
 /// The bytes as text, without a copy where they are UTF-8.
 fn read_lossy(alloc: Global, bytes: Chunk<u8>) -> Result<Chunk<u8>, AllocError>
     ensures { IfOk result (λ text. text ≡ utf8_lossy bytes) }
@@ -51,8 +82,9 @@ fn read_lossy(alloc: Global, bytes: Chunk<u8>) -> Result<Chunk<u8>, AllocError>
     if simdutf8::is_utf8(bytes.as_slice()) {
         return Ok(bytes);
     }
-    let text = String::from_utf8_lossy(alloc, bytes.as_slice())?;
-    Chunk::of_vec(alloc, text.into_bytes())
+    let mut text = Vec::with_capacity(alloc, bytes.len().saturating_add(PART))?;
+    push_lossy(alloc, &mut text, bytes.as_slice())?;
+    Chunk::of_vec(alloc, text)
 }
 
 impl LossyPipe {
