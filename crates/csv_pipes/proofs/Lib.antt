@@ -1,0 +1,9 @@
+pub mod Dictionaries
+pub mod Extended
+pub mod Gathering
+pub mod MadeRows
+pub mod Owing
+pub mod Rests
+pub mod Tables
+pub mod Taken
+pub mod Walks
