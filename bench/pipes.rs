@@ -5,6 +5,7 @@
 //! Bytes that pass through a pipe unchanged are borrowed, as flume's windows share; all else that a
 //! pipe gives is owned by its answer: a vector or a string for each line.
 use std::borrow::Cow;
+use std::collections::HashMap;
 use std::fmt::Write as _;
 use std::hint::black_box;
 use std::io::Write as _;
@@ -18,6 +19,9 @@ const LONGEST: usize = 1_048_576;
 const LEFT_OUT: usize = 1000;
 const GROUP: usize = 10;
 const HEX_GROUP: usize = 16;
+const MOST_GATHERED: usize = 16_777_216;
+const ROWS: usize = 1024;
+const FIELD: usize = 3;
 const NEEDLE: &str = "needle";
 const BETWEEN: &str = "--";
 
@@ -47,10 +51,32 @@ fn put_line(text: &mut Vec<u8>, line: u32) {
         if place > 0 {
             text.push(b' ');
         }
-        let number = mixed(line.wrapping_mul(WORDS_A_LINE).wrapping_add(place));
-        text.extend_from_slice(WORDS[number as usize % 32].as_bytes());
+        text.extend_from_slice(word_of(line, place).as_bytes());
     }
     text.push(b'\n');
+}
+
+fn rows_text() -> Vec<u8> {
+    let mut text = Vec::new();
+    for line in 0..LINES {
+        let words = if line % 4 == 3 { line - 1 } else { line };
+        if line % 8 == 0 {
+            text.extend_from_slice(b"\"in, \"\"quotes\"\"\"");
+        } else {
+            text.extend_from_slice(word_of(words, 0).as_bytes());
+        }
+        for place in 1..WORDS_A_LINE {
+            text.push(b',');
+            text.extend_from_slice(word_of(words, place).as_bytes());
+        }
+        text.push(b'\n');
+    }
+    text
+}
+
+fn word_of(line: u32, place: u32) -> &'static str {
+    let number = mixed(line.wrapping_mul(WORDS_A_LINE).wrapping_add(place));
+    WORDS[number as usize % 32]
 }
 
 fn mixed(number: u32) -> u32 {
@@ -87,10 +113,24 @@ impl Tally {
     fn put_lines<L: AsRef<[u8]>>(&mut self, lines: &[L]) {
         let lines = black_box(lines);
         self.count += lines.len() as u64;
-        for line in lines {
-            self.put_bytes(line.as_ref());
+        self.put_texts(lines, b'\n');
+    }
+
+    /// Rows, which are an element each.
+    fn put_rows(&mut self, rows: &[Row]) {
+        let rows = black_box(rows);
+        self.count += rows.len() as u64;
+        for row in rows {
+            self.put_texts(row, b',');
+            self.put_number(u64::from(b'\n'));
+        }
+    }
+
+    fn put_texts<L: AsRef<[u8]>>(&mut self, texts: &[L], end: u8) {
+        for text in texts {
+            self.put_bytes(text.as_ref());
             if !self.quick {
-                self.put_number(u64::from(b'\n'));
+                self.put_number(u64::from(end));
             }
         }
     }
@@ -279,6 +319,146 @@ impl Pipe for Upper {
     fn feed(&mut self, load: &[u8], tally: &mut Tally) -> bool {
         tally.put_text(&load.to_ascii_uppercase());
         true
+    }
+
+    fn finish(self, _tally: &mut Tally) {}
+}
+
+type Row = Vec<String>;
+
+#[derive(Default)]
+struct Csv {
+    text: Vec<u8>,
+}
+
+/// The next record from a place on, which then stands behind it.
+fn next_row(text: &str, at: &mut usize) -> Option<Row> {
+    while matches!(text.as_bytes().get(*at), Some(b'\n' | b'\r')) {
+        *at += 1;
+    }
+    if *at == text.len() {
+        return None;
+    }
+    let mut row = Row::new();
+    loop {
+        row.push(next_field(text, at));
+        if text.as_bytes().get(*at) != Some(&b',') {
+            return Some(row);
+        }
+        *at += 1;
+    }
+}
+
+fn next_field(text: &str, at: &mut usize) -> String {
+    if text.as_bytes().get(*at) != Some(&b'"') {
+        return plain(text, at).to_string();
+    }
+    let mut field = String::new();
+    loop {
+        *at += 1;
+        let rest = &text[*at..];
+        let end = rest.find('"').unwrap_or(rest.len());
+        field.push_str(&rest[..end]);
+        *at = text.len().min(*at + end + 1);
+        if text.as_bytes().get(*at) != Some(&b'"') {
+            field.push_str(plain(text, at));
+            return field;
+        }
+        field.push('"');
+    }
+}
+
+/// What stands before the next comma or line end.
+fn plain<'a>(text: &'a str, at: &mut usize) -> &'a str {
+    let rest = &text[*at..];
+    let end = rest
+        .bytes()
+        .position(|byte| matches!(byte, b',' | b'\n' | b'\r'));
+    let front = &rest[..end.unwrap_or(rest.len())];
+    *at += front.len();
+    front
+}
+
+impl Pipe for Csv {
+    type Item = u8;
+
+    fn feed(&mut self, load: &[u8], tally: &mut Tally) -> bool {
+        tally.put_rows(&[]);
+        self.text.extend_from_slice(load);
+        self.text.len() <= MOST_GATHERED
+    }
+
+    fn finish(self, tally: &mut Tally) {
+        let Ok(text) = str::from_utf8(&self.text) else {
+            return;
+        };
+        let text = text.strip_prefix('\u{FEFF}').unwrap_or(text);
+        let mut at = 0;
+        let mut width = None;
+        let mut rows = Vec::new();
+        while let Some(row) = next_row(text, &mut at) {
+            if *width.get_or_insert(row.len()) != row.len() {
+                break;
+            }
+            rows.push(row);
+            if rows.len() == ROWS {
+                tally.put_rows(&mem::take(&mut rows));
+            }
+        }
+        tally.put_rows(&rows);
+    }
+}
+
+#[derive(Default)]
+struct Field;
+
+impl Pipe for Field {
+    type Item = Row;
+
+    fn feed(&mut self, load: &[Row], tally: &mut Tally) -> bool {
+        let fields: Vec<String> = load
+            .iter()
+            .map_while(|row| row.get(FIELD).cloned())
+            .collect();
+        tally.put_lines(&fields);
+        fields.len() == load.len()
+    }
+
+    fn finish(self, _tally: &mut Tally) {}
+}
+
+struct Lookup {
+    values: HashMap<String, String>,
+}
+
+impl Default for Lookup {
+    fn default() -> Lookup {
+        let values = WORDS.iter().enumerate().step_by(2);
+        Lookup {
+            values: values
+                .map(|(number, word)| (word.to_string(), number.to_string()))
+                .collect(),
+        }
+    }
+}
+
+impl Lookup {
+    fn longer(&self, row: &Row) -> Option<Row> {
+        let value = self.values.get(row.get(FIELD)?);
+        let mut longer = Row::with_capacity(row.len() + 1);
+        longer.extend_from_slice(row);
+        longer.push(value.cloned().unwrap_or_default());
+        Some(longer)
+    }
+}
+
+impl Pipe for Lookup {
+    type Item = Row;
+
+    fn feed(&mut self, load: &[Row], tally: &mut Tally) -> bool {
+        let rows: Vec<Row> = load.iter().map_while(|row| self.longer(row)).collect();
+        tally.put_rows(&rows);
+        rows.len() == load.len()
     }
 
     fn finish(self, _tally: &mut Tally) {}
@@ -473,6 +653,13 @@ fn lines_of(text: &[u8]) -> Arc<Vec<String>> {
     Arc::new(text.lines().map(str::to_string).collect())
 }
 
+/// A block of rows, each with fields in memory of their own.
+fn rows_of(text: &[u8]) -> Arc<Vec<Row>> {
+    let text = str::from_utf8(text).expect("the text is UTF-8");
+    let row = |line: &str| line.split(' ').map(str::to_string).collect();
+    Arc::new(text.lines().map(row).collect())
+}
+
 /// Runs a pipe over as many blocks as are asked for. Making a block, and dropping it, isn't timed.
 fn run<P: Pipe>(
     order: &Order,
@@ -495,6 +682,24 @@ fn run<P: Pipe>(
     let before = used();
     pipe.finish(&mut tally);
     spent += used().saturating_sub(before);
+    (tally, spent)
+}
+
+/// Runs a pipe of comma-separated values over each of as many blocks as are asked for.
+fn run_each(order: &Order) -> (Tally, Duration) {
+    let text = rows_text();
+    let mut tally = Tally::new(order.timed);
+    let mut spent = Duration::ZERO;
+    for _ in 0..order.megabytes {
+        let mut pipe = Csv::default();
+        let block = bytes_of(&text);
+        let before = used();
+        for load in block.chunks(order.chunk) {
+            pipe.feed(load, &mut tally);
+        }
+        pipe.finish(&mut tally);
+        spent += used().saturating_sub(before);
+    }
     (tally, spent)
 }
 
@@ -526,6 +731,15 @@ fn over_lines<P: Pipe<Item = String> + Default>(order: &Order, name: &str) {
     });
 }
 
+fn over_rows<P: Pipe<Item = Row> + Default>(order: &Order, name: &str) {
+    tell(order, name, || {
+        let text = text(false);
+        run(order, P::default(), order.chunk.div_ceil(LINE), || {
+            rows_of(&text)
+        })
+    });
+}
+
 fn main() {
     let Some(order) = order() else {
         eprintln!("usage: pipes PIPE|all|text MEGABYTES [CHUNK [time]]");
@@ -543,6 +757,9 @@ fn main() {
     over_bytes::<Lines>(&order, "lines", false);
     over_bytes::<Hex>(&order, "hex", false);
     over_bytes::<Upper>(&order, "upper", false);
+    tell(&order, "csv", || run_each(&order));
+    over_rows::<Field>(&order, "field");
+    over_rows::<Lookup>(&order, "lookup");
     over_lines::<Drop>(&order, "drop");
     over_lines::<Filter>(&order, "filter");
     over_lines::<Changes>(&order, "changes");

@@ -4,6 +4,9 @@ use Rattle.std.proofs.Common.{refl, ap}
 use Rattle.chunk_core.specs.Elements.{Element, LoadKind}
 use Rattle.chunk_core.specs.Feed.{Meaning, IsSound}
 use Rattle.chunk_core.specs.declared.code.Code.{Code}
+use Rattle.csv_pipes.specs.CsvState as csv
+use Rattle.csv_pipes.specs.FieldState as field
+use Rattle.csv_pipes.specs.LookupState as lookup
 use Rattle.pull_nodes.specs.Lines.{long_fault}
 use Rattle.pull_nodes.specs.declared.pipe.Pipe.TheVariants as pipe
 use Rattle.pull_nodes.proofs.Meanings.{sound_from}
@@ -36,6 +39,9 @@ standing_of (any.Lossy q) = record { stands = lossy.StandsFor q; comes = lossy.C
 standing_of (any.Lines q) = record { stands = lines.StandsFor q; comes = lines.Comes q; sound = λ m xs h. sound_from pipe.Lines m h.0 xs (ap long_fault h.1.short) }
 standing_of (any.Hex q) = record { stands = hexadecimal.StandsFor q; comes = hexadecimal.Comes q; sound = λ m xs h. sound_from pipe.Hex m h.0 xs refl }
 standing_of (any.Upper q) = record { stands = upper.StandsFor q; comes = upper.Comes q; sound = λ m xs h. sound_from pipe.Upper m h xs refl }
+standing_of (any.Csv q) = record { stands = csv.StandsFor q; comes = csv.Comes q; sound = λ m xs h. sound_from pipe.Csv m h.0 xs (ap csv.fault_where h.2) }
+standing_of (any.Field q) = record { stands = field.StandsFor q; comes = field.NothingComes q; sound = λ m xs h. sound_from (pipe.Field q.field) m h.0 xs h.1 }
+standing_of (any.Lookup q) = record { stands = lookup.StandsFor q; comes = field.NothingComes q; sound = lookup.sound q }
 standing_of (any.Drop q) = record { stands = drop.StandsFor q; comes = NothingComes q; sound = λ m xs h. sound_from (pipe.Drop h.0) m h.1 xs refl }
 standing_of (any.Filter q) = record { stands = filter.StandsFor q; comes = NothingComes q; sound = λ m xs h. sound_from (pipe.Filter q.finder.value) m h xs refl }
 standing_of (any.Changes q) = record { stands = changes.StandsFor q; comes = NothingComes q; sound = λ m xs h. sound_from pipe.Changes m h.0 xs refl }

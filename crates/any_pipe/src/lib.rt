@@ -1,7 +1,8 @@
 //! One state for every pipe, and what a pipe gives of a whole input, however the input is cut.
 //!
 //! `AnyPipe` is the state of a `Pipe`, whichever it is: it is made of the pipe as plain data and the
-//! tables in which pipes look up (`PipeState::of`; it has none, `NoTables`, since no pipe does), fed and told the end as any other (`Feed`). `pour` feeds loads to a state one
+//! dictionaries of the tables in which pipes look up (`PipeState::of`; a table that isn't among these
+//! has no values), and fed and told the end as any other (`Feed`). `pour` feeds loads to a state one
 //! after another and then tells the end, and `pour_through` does so for a pipe. `Poured` has the
 //! loads that came, and the fault where the input has one; a fault is no error. The one error is
 //! `AllocError`, after which nothing is kept.
@@ -16,7 +17,8 @@
 //!     let mut loads = Vec::new(alloc);
 //!     loads.push(bytes(alloc, front)?)?;
 //!     loads.push(bytes(alloc, back)?)?;
-//!     let Poured { loads, fault } = pour_through::<AnyPipe>(alloc, &NoTables, Pipe::Utf8, loads)?;
+//!     let tables = Dicts::new(alloc);
+//!     let Poured { loads, fault } = pour_through::<AnyPipe>(alloc, &tables, Pipe::Utf8, loads)?;
 //!     Ok((text_of(alloc, loads.as_slice())?, fault))
 //! }
 //! ```
@@ -26,4 +28,4 @@ pub mod pouring;
 pub mod state;
 
 pub use pouring::{Poured, pour, pour_through};
-pub use state::{AnyPipe, NoTables};
+pub use state::AnyPipe;

@@ -1,15 +1,12 @@
 //! The state of a pipe, whichever it is.
 use chunk_core::{Fed, Feed, Load};
+use csv_pipes::{CsvPipe, Dicts, FieldPipe, LookupPipe};
 use pull_nodes::{Pipe, PipeState};
 use std::alloc::{AllocError, Global};
 use stream_ops::{
     ChangesPipe, ChunkNPipe, CountPipe, DropPipe, FilterPipe, InterspersePipe, NumberPipe,
 };
 use text_pipes::{HexPipe, LinesPipe, LossyPipe, UpperPipe, Utf8Pipe};
-
-/// No tables: no pipe looks anything up.
-#[derive(Drop)]
-pub struct NoTables;
 
 /// The state of any pipe: that of the pipe itself.
 #[derive(Drop)]
@@ -19,6 +16,9 @@ pub enum AnyPipe {
     Lines(LinesPipe),
     Hex(HexPipe),
     Upper(UpperPipe),
+    Csv(CsvPipe),
+    Field(FieldPipe),
+    Lookup(LookupPipe),
     Drop(DropPipe),
     Filter(FilterPipe),
     Changes(ChangesPipe),
@@ -44,6 +44,9 @@ impl Feed for AnyPipe {
             AnyPipe::Lines(pipe) => pipe.feed(alloc, load),
             AnyPipe::Hex(pipe) => pipe.feed(alloc, load),
             AnyPipe::Upper(pipe) => pipe.feed(alloc, load),
+            AnyPipe::Csv(pipe) => pipe.feed(alloc, load),
+            AnyPipe::Field(pipe) => pipe.feed(alloc, load),
+            AnyPipe::Lookup(pipe) => pipe.feed(alloc, load),
             AnyPipe::Drop(pipe) => pipe.feed(alloc, load),
             AnyPipe::Filter(pipe) => pipe.feed(alloc, load),
             AnyPipe::Changes(pipe) => pipe.feed(alloc, load),
@@ -61,6 +64,9 @@ impl Feed for AnyPipe {
             AnyPipe::Lines(pipe) => pipe.finish(alloc),
             AnyPipe::Hex(pipe) => pipe.finish(alloc),
             AnyPipe::Upper(pipe) => pipe.finish(alloc),
+            AnyPipe::Csv(pipe) => pipe.finish(alloc),
+            AnyPipe::Field(pipe) => pipe.finish(alloc),
+            AnyPipe::Lookup(pipe) => pipe.finish(alloc),
             AnyPipe::Drop(pipe) => pipe.finish(alloc),
             AnyPipe::Filter(pipe) => pipe.finish(alloc),
             AnyPipe::Changes(pipe) => pipe.finish(alloc),
@@ -74,23 +80,29 @@ impl Feed for AnyPipe {
 
 impl PipeState for AnyPipe {
     ghost use Rattle.any_pipe.specs.Dues.{due, any_owes};
-    ghost use Rattle.chunk_core.specs.Tables.{no_values};
+    ghost use Rattle.csv_pipes.specs.Dictionaries.{values_of};
 
-    type Tables = NoTables;
+    type Tables = Dicts;
 
-    ghost values = { λ t. no_values };
+    ghost values = { values_of };
 
     ghost due = { due };
 
     ghost dues = { any_owes };
 
-    fn of(alloc: Global, _tables: &NoTables, pipe: Pipe) -> Result<AnyPipe, AllocError> {
+    fn of(alloc: Global, tables: &Dicts, pipe: Pipe) -> Result<AnyPipe, AllocError> {
         Ok(match pipe {
             Pipe::Utf8 => AnyPipe::Utf8(Utf8Pipe::new(alloc)?),
             Pipe::Lossy => AnyPipe::Lossy(LossyPipe::new(alloc)?),
             Pipe::Lines => AnyPipe::Lines(LinesPipe::new(alloc)?),
             Pipe::Hex => AnyPipe::Hex(HexPipe::new(alloc)?),
             Pipe::Upper => AnyPipe::Upper(UpperPipe::new(alloc)?),
+            Pipe::Csv => AnyPipe::Csv(CsvPipe::new(alloc)?),
+            Pipe::Field(field) => AnyPipe::Field(FieldPipe::new(alloc, field)?),
+            Pipe::Lookup(table, field) => {
+                let table = tables.dict(alloc, table)?;
+                AnyPipe::Lookup(LookupPipe::new(alloc, table, field)?)
+            }
             Pipe::Drop(n) => AnyPipe::Drop(DropPipe::new(alloc, n)?),
             Pipe::Filter(text) => AnyPipe::Filter(FilterPipe::new(alloc, text)?),
             Pipe::Changes => AnyPipe::Changes(ChangesPipe::new(alloc)?),

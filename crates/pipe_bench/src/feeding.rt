@@ -3,10 +3,11 @@ ghost use Rattle.std.specs.Prelude.{◌≡◌, ◌<◌, IfOk, IsTrue};
 ghost use Rattle.chunk_core.specs.Elements.{kind_of};
 ghost use Rattle.chunk_core.specs.Feed.{MayFeed, MayFinish};
 
-use crate::inputs::Input;
+use crate::inputs::{Input, RowBytes};
 use crate::order::Order;
 use crate::tally::Tally;
 use chunk_core::{Fed, Feed, Load};
+use csv_pipes::CsvPipe;
 use std::alloc::{AllocError, Global};
 use std::time::{CpuClock, Duration};
 
@@ -89,5 +90,28 @@ pub fn run<I: Input, P: Feed, C: CpuClock>(
     let before = used(clock);
     finish(alloc, pipe, &mut tally)?;
     spent = spent.saturating_add(used(clock).saturating_sub(before));
+    Ok(Told { tally, spent })
+}
+
+/// Runs a pipe of comma-separated values over each of as many blocks as are asked for. It gathers its
+/// input, so that each block is a whole one.
+pub fn run_each<C: CpuClock>(
+    alloc: Global,
+    clock: &C,
+    order: &Order<'_>,
+) -> Result<Told, AllocError> {
+    let text = RowBytes::text(alloc)?;
+    let piece = RowBytes::piece(order.chunk());
+    let mut tally = Tally::new(order.is_timed());
+    let mut spent = Duration::ZERO;
+    for _ in 0..order.megabytes() {
+        let mut pipe = CsvPipe::new(alloc)?;
+        let mut block = RowBytes::block(alloc, text.as_slice())?;
+        let before = used(clock);
+        if feed_block(alloc, &mut pipe, &mut block, piece, &mut tally)? {
+            finish(alloc, pipe, &mut tally)?;
+        }
+        spent = spent.saturating_add(used(clock).saturating_sub(before));
+    }
     Ok(Told { tally, spent })
 }

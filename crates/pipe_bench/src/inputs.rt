@@ -1,10 +1,10 @@
 //! What pipes are fed: the text as loads of one kind.
 ghost use Rattle.std.specs.Prelude.{◌≡◌, IfOk};
 ghost use Rattle.chunk_core.specs.Elements.{kind_of};
-ghost use Rattle.chunk_core.specs.Elements.LoadKind.{Bytes, Lines};
+ghost use Rattle.chunk_core.specs.Elements.LoadKind.{Bytes, Lines, Rows};
 
 use crate::text;
-use chunk_core::{Chunk, Line, Load};
+use chunk_core::{Chunk, Line, Load, Row};
 use std::alloc::{AllocError, Global};
 
 /// How many bytes are counted for a line.
@@ -36,8 +36,14 @@ pub struct PlainBytes;
 /// The text with bytes that aren't UTF-8.
 pub struct BrokenBytes;
 
+/// Comma-separated values.
+pub struct RowBytes;
+
 /// The lines of the text.
 pub struct TextLines;
+
+/// The words of each line of the text.
+pub struct TextRows;
 
 fn bytes_of(alloc: Global, text: &[u8]) -> Result<Load, AllocError>
     ensures { IfOk result (λ load. kind_of load ≡ Bytes) }
@@ -58,6 +64,26 @@ fn lines_of(alloc: Global, text: &[u8]) -> Result<Load, AllocError>
         }
     }
     Ok(Load::Lines(Chunk::of_vec(alloc, lines)?))
+}
+
+fn row_of(alloc: Global, line: &[u8]) -> Result<Row, AllocError> {
+    let mut row = Row::new(alloc);
+    for word in line.split(|byte| *byte == b' ') {
+        row.push(Line::copy_of(alloc, word)?)?;
+    }
+    Ok(row)
+}
+
+fn rows_of(alloc: Global, text: &[u8]) -> Result<Load, AllocError>
+    ensures { IfOk result (λ load. kind_of load ≡ Rows) }
+{
+    let mut rows = Vec::new(alloc);
+    for line in text.split(|byte| *byte == b'\n') {
+        if !line.is_empty() {
+            rows.push(row_of(alloc, line)?)?;
+        }
+    }
+    Ok(Load::Rows(Chunk::of_vec(alloc, rows)?))
 }
 
 impl Input for PlainBytes {
@@ -96,6 +122,24 @@ impl Input for BrokenBytes {
     }
 }
 
+impl Input for RowBytes {
+    ghost use Rattle.chunk_core.specs.Elements.LoadKind.{Bytes};
+
+    ghost kind = { Bytes };
+
+    fn text(alloc: Global) -> Result<Vec<u8>, AllocError> {
+        text::rows_text(alloc)
+    }
+
+    fn block(alloc: Global, text: &[u8]) -> Result<Load, AllocError> {
+        bytes_of(alloc, text)
+    }
+
+    fn piece(chunk: usize) -> usize {
+        chunk
+    }
+}
+
 impl Input for TextLines {
     ghost use Rattle.chunk_core.specs.Elements.LoadKind.{Lines};
 
@@ -107,6 +151,24 @@ impl Input for TextLines {
 
     fn block(alloc: Global, text: &[u8]) -> Result<Load, AllocError> {
         lines_of(alloc, text)
+    }
+
+    fn piece(chunk: usize) -> usize {
+        chunk.div_ceil(LINE)
+    }
+}
+
+impl Input for TextRows {
+    ghost use Rattle.chunk_core.specs.Elements.LoadKind.{Rows};
+
+    ghost kind = { Rows };
+
+    fn text(alloc: Global) -> Result<Vec<u8>, AllocError> {
+        text::text(alloc)
+    }
+
+    fn block(alloc: Global, text: &[u8]) -> Result<Load, AllocError> {
+        rows_of(alloc, text)
     }
 
     fn piece(chunk: usize) -> usize {

@@ -1,9 +1,12 @@
 //! The pipes that are run, each over its kind of input.
-use crate::feeding::{Told, run};
-use crate::inputs::{BrokenBytes, PlainBytes, TextLines};
+use crate::feeding::{Told, run, run_each};
+use crate::inputs::{BrokenBytes, PlainBytes, TextLines, TextRows};
 use crate::order::Order;
+use crate::text;
 use chunk_core::Line;
+use csv_pipes::{Dict, FieldPipe, LookupPipe, table_of};
 use std::alloc::{AllocError, Global};
+use std::sync::Arc;
 use std::time::CpuClock;
 use stream_ops::{
     ChangesPipe, ChunkNPipe, CountPipe, DropPipe, FilterPipe, InterspersePipe, NumberPipe,
@@ -16,6 +19,9 @@ const LEFT_OUT: u64 = 1000;
 /// How many lines a group of `ChunkN` has.
 const GROUP: u32 = 10;
 
+/// The place of the field that `Field` gives and that is the key of `Lookup`.
+const FIELD: u32 = 3;
+
 /// A pipe and what it is fed.
 #[derive(Clone, Copy)]
 pub enum Subject {
@@ -26,6 +32,9 @@ pub enum Subject {
     Lines,
     Hex,
     Upper,
+    Csv,
+    Field,
+    Lookup,
     Drop,
     Filter,
     Changes,
@@ -35,13 +44,16 @@ pub enum Subject {
     ChunkN,
 }
 
-pub static SUBJECTS: [Subject; 13] = [
+pub static SUBJECTS: [Subject; 16] = [
     Subject::Utf8,
     Subject::Lossy,
     Subject::Mended,
     Subject::Lines,
     Subject::Hex,
     Subject::Upper,
+    Subject::Csv,
+    Subject::Field,
+    Subject::Lookup,
     Subject::Drop,
     Subject::Filter,
     Subject::Changes,
@@ -60,6 +72,9 @@ impl Subject {
             Subject::Lines => "lines",
             Subject::Hex => "hex",
             Subject::Upper => "upper",
+            Subject::Csv => "csv",
+            Subject::Field => "field",
+            Subject::Lookup => "lookup",
             Subject::Drop => "drop",
             Subject::Filter => "filter",
             Subject::Changes => "changes",
@@ -84,6 +99,9 @@ impl Subject {
             Subject::Lines => lines(alloc, clock, order),
             Subject::Hex => hexadecimal(alloc, clock, order),
             Subject::Upper => upper(alloc, clock, order),
+            Subject::Csv => run_each(alloc, clock, order),
+            Subject::Field => field(alloc, clock, order),
+            Subject::Lookup => looked_up(alloc, clock, order),
             Subject::Drop => dropped(alloc, clock, order),
             Subject::Filter => filtered(alloc, clock, order),
             Subject::Changes => changed(alloc, clock, order),
@@ -125,6 +143,25 @@ fn hexadecimal<C: CpuClock>(
 
 fn upper<C: CpuClock>(alloc: Global, clock: &C, order: &Order<'_>) -> Result<Told, AllocError> {
     run::<PlainBytes, UpperPipe, C>(alloc, clock, order, UpperPipe::new(alloc)?)
+}
+
+fn field<C: CpuClock>(alloc: Global, clock: &C, order: &Order<'_>) -> Result<Told, AllocError> {
+    run::<TextRows, FieldPipe, C>(alloc, clock, order, FieldPipe::new(alloc, FIELD)?)
+}
+
+/// A table of the words.
+fn words_table(alloc: Global) -> Result<Dict, AllocError> {
+    let text = text::table_text(alloc)?;
+    match table_of(alloc, text.as_slice()) {
+        Ok(table) => Ok(table),
+        Err(_) => Err(AllocError),
+    }
+}
+
+fn looked_up<C: CpuClock>(alloc: Global, clock: &C, order: &Order<'_>) -> Result<Told, AllocError> {
+    let table = Arc::new(alloc, words_table(alloc)?)?;
+    let pipe = LookupPipe::new(alloc, table, FIELD)?;
+    run::<TextRows, LookupPipe, C>(alloc, clock, order, pipe)
 }
 
 fn dropped<C: CpuClock>(alloc: Global, clock: &C, order: &Order<'_>) -> Result<Told, AllocError> {

@@ -1,5 +1,5 @@
 //! What a pipe gave, in two numbers.
-use chunk_core::{Line, Load};
+use chunk_core::{Line, Load, Row};
 
 /// How many elements came, and a checksum of them: of each byte, or, where time is measured, of
 /// lengths and last bytes alone.
@@ -32,16 +32,23 @@ impl Tally {
         self.count = self.count.wrapping_add(load.len() as u64);
         match load {
             Load::Bytes(bytes) => self.put_bytes(bytes.as_slice()),
-            Load::Lines(lines) => self.put_lines(lines.as_slice()),
-            Load::Rows(_) => {}
+            Load::Lines(lines) => self.put_lines(lines.as_slice(), b'\n'),
+            Load::Rows(rows) => self.put_rows(rows.as_slice()),
         }
     }
 
-    fn put_lines(&mut self, lines: &[Line]) {
+    fn put_rows(&mut self, rows: &[Row]) {
+        for row in rows {
+            self.put_lines(row.as_slice(), b',');
+            self.put_number(b'\n' as u64);
+        }
+    }
+
+    fn put_lines(&mut self, lines: &[Line], end: u8) {
         for line in lines {
             self.put_bytes(line.as_slice());
             if !self.quick {
-                self.put_number(b'\n' as u64);
+                self.put_number(end as u64);
             }
         }
     }

@@ -40,20 +40,52 @@ fn words_of(line: u32) -> u32 {
     if line % 4 == 3 { line - 1 } else { line }
 }
 
+/// The words of the same lines as comma-separated values, where each eighth line begins with a field
+/// in quotes.
+pub fn rows_text(alloc: Global) -> Result<Vec<u8>, AllocError> {
+    let mut text = Vec::new(alloc);
+    for line in 0..LINES {
+        let words = words_of(line);
+        if line % 8 == 0 {
+            text.extend_from_slice(b"\"in, \"\"quotes\"\"\"")?;
+        } else {
+            text.extend_from_slice(word_of(words, 0).as_bytes())?;
+        }
+        for place in 1..WORDS_A_LINE {
+            text.push(b',')?;
+            text.extend_from_slice(word_of(words, place).as_bytes())?;
+        }
+        text.push(b'\n')?;
+    }
+    Ok(text)
+}
+
+/// A table of the words: a number for each second one.
+pub fn table_text(alloc: Global) -> Result<Vec<u8>, AllocError> {
+    let mut text = Vec::new(alloc);
+    for (number, word) in WORDS.iter().enumerate() {
+        if number % 2 == 0 {
+            text.extend_from_slice(format!(in alloc; "{word},{number}\n")?.as_bytes())?;
+        }
+    }
+    Ok(text)
+}
+
 fn put_line(text: &mut Vec<u8>, line: u32) -> Result<(), AllocError> {
     for place in 0..WORDS_A_LINE {
         if place > 0 {
             text.push(b' ')?;
         }
-        let word = word_at(line.wrapping_mul(WORDS_A_LINE).wrapping_add(place));
-        text.extend_from_slice(word.as_bytes())?;
+        text.extend_from_slice(word_of(line, place).as_bytes())?;
     }
     text.push(b'\n')?;
     Ok(())
 }
 
-fn word_at(place: u32) -> &'static str {
-    WORDS[mixed(place) as usize % 32]
+/// The word of a line at a place.
+fn word_of(line: u32, place: u32) -> &'static str {
+    let number = mixed(line.wrapping_mul(WORDS_A_LINE).wrapping_add(place));
+    WORDS[number as usize % 32]
 }
 
 /// A number in which each bit depends on each bit of the given one.

@@ -2,7 +2,7 @@
 ghost use Rattle.std.specs.Prelude.{◌≤◌, length};
 ghost use Rattle.chunk_core.specs.Feed.{MayFeed};
 
-use chunk_core::{Chunk, Fed, Feed, Line, Load, Row, render};
+use chunk_core::{Chunk, Code, Fed, Feed, Line, Load, Row, render};
 use std::alloc::{AllocError, Global};
 
 /// Loads of one kind, made of texts.
@@ -76,11 +76,12 @@ impl Made for AsBytes {
 }
 
 /// What came of an input: bytes as they are, lines and rows with `|` behind each, fields with `,`;
-/// and the lengths of the loads that aren't empty.
+/// the lengths of the loads that aren't empty, and the fault.
 #[derive(Drop)]
 pub(crate) struct Told {
     pub(crate) text: Vec<u8>,
     pub(crate) lens: Vec<usize>,
+    pub(crate) fault: Option<Code>,
 }
 
 impl Told {
@@ -110,6 +111,13 @@ impl Told {
             Load::Rows(rows) => self.put_rows(rows.as_slice()),
         }
     }
+
+    /// The same with the last load and the fault behind it.
+    fn with_fault(mut self, load: Load, code: Code) -> Result<Told, AllocError> {
+        self.put(load)?;
+        self.fault = Some(code);
+        Ok(self)
+    }
 }
 
 /// Feeds the pieces and then the end.
@@ -123,17 +131,20 @@ pub(crate) fn answers<M: Made, P: Feed>(
     let mut told = Told {
         text: Vec::new(alloc),
         lens: Vec::new(alloc),
+        fault: None,
     };
     for piece in pieces {
         match pipe.feed(alloc, M::load(alloc, piece)?)? {
             Fed::Out(load) => told.put(load)?,
-            _ => return Ok(told),
+            Fed::End => return Ok(told),
+            Fed::Fault(load, code) => return told.with_fault(load, code),
         }
     }
     for _ in 0..4 {
         match pipe.finish(alloc)? {
             Fed::Out(load) => told.put(load)?,
-            _ => return Ok(told),
+            Fed::End => return Ok(told),
+            Fed::Fault(load, code) => return told.with_fault(load, code),
         }
     }
     Ok(told)

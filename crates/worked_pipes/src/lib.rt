@@ -5,7 +5,11 @@
 #[cfg(test)]
 mod feeding;
 #[cfg(test)]
+mod lookups;
+#[cfg(test)]
 mod operators;
+#[cfg(test)]
+mod rows;
 #[cfg(test)]
 mod texts;
 #[cfg(test)]

@@ -1,11 +1,12 @@
 //! Each pipe over an input that is cut in two.
 ghost use Rattle.std.specs.Prelude.{◌≡◌, ◌∷◌, [], IfOk, IsSome};
-ghost use Rattle.chunk_core.specs.Elements.LoadKind.{Bytes, Lines};
+ghost use Rattle.chunk_core.specs.Elements.LoadKind.{Bytes, Lines, Rows};
 ghost use Rattle.pull_nodes.specs.PipeKinds.{gives_of};
 ghost use Rattle.any_pipe.specs.Pouring.{AreOf, TakesLoads};
 
-use any_pipe::{AnyPipe, NoTables, pour_through};
+use any_pipe::{AnyPipe, pour_through};
 use chunk_core::{Chunk, Code, Line, Load, render};
+use csv_pipes::{Dicts, TableRefused, table_of};
 use pull_nodes::Pipe;
 use std::alloc::{AllocError, Global};
 use std::test::Fail;
@@ -58,7 +59,13 @@ fn two_of_lines(alloc: Global, front: &[u8], back: &[u8]) -> Result<Vec<Load>, A
 fn run(alloc: Global, pipe: Pipe, loads: Vec<Load>) -> Result<Told, AllocError>
     requires { TakesLoads pipe loads.items }
 {
-    let poured = pour_through::<AnyPipe>(alloc, &NoTables, pipe, loads)?;
+    run_over(alloc, &Dicts::new(alloc), pipe, loads)
+}
+
+fn run_over(alloc: Global, tables: &Dicts, pipe: Pipe, loads: Vec<Load>) -> Result<Told, AllocError>
+    requires { TakesLoads pipe loads.items }
+{
+    let poured = pour_through::<AnyPipe>(alloc, tables, pipe, loads)?;
     let mut text = Vec::new(alloc);
     for load in &poured.loads {
         text.extend_from_slice(render(alloc, load)?.as_slice())?;
@@ -82,6 +89,34 @@ fn of_lines(alloc: Global, pipe: Pipe, front: &[u8], back: &[u8]) -> Result<Told
     requires { IsSome (gives_of pipe Lines) }
 {
     run(alloc, pipe, two_of_lines(alloc, front, back)?)
+}
+
+/// What comes of rows of comma-separated values that are cut in two.
+fn of_rows(
+    alloc: Global,
+    tables: &Dicts,
+    pipe: Pipe,
+    front: &[u8],
+    back: &[u8],
+) -> Result<Told, AllocError>
+    requires { IsSome (gives_of pipe Rows) }
+{
+    let text = two_of_bytes(alloc, front, back)?;
+    let rows = pour_through::<AnyPipe>(alloc, tables, Pipe::Csv, text)?;
+    run_over(alloc, tables, pipe, rows.loads)
+}
+
+/// The dictionaries of two tables.
+fn two_tables(alloc: Global) -> Result<Dicts, Fail> {
+    let mut tables = Dicts::new(alloc);
+    for text in [b"k,v\n".as_slice(), b"k,w\nz,y\n".as_slice()] {
+        match table_of(alloc, text) {
+            Ok(table) => tables.push(alloc, table)?,
+            Err(TableRefused::Memory) => return Err(AllocError.into()),
+            Err(TableRefused::Data(_)) => return Err("a table is refused".into()),
+        }
+    }
+    Ok(tables)
 }
 
 #[test]
@@ -146,5 +181,38 @@ fn the_end_gives_the_count(rt: HostRuntime) -> Result<(), Fail> {
     assert_eq!(rt; counted.text.as_slice(), b"//3\n/".as_slice());
     let nothing = run(alloc, Pipe::Count, Vec::new(alloc))?;
     assert_eq!(rt; nothing.text.as_slice(), b"0\n/".as_slice());
+    Ok(())
+}
+
+#[test]
+fn a_record_cut_in_two(rt: HostRuntime) -> Result<(), Fail> {
+    let alloc = rt.alloc();
+    let rows = of_bytes(alloc, Pipe::Csv, b"a,\"b\"", b"\"\"\nc,d\n")?;
+    assert_eq!(rt; rows.text.as_slice(), b"//a,\"b\"\"\"\nc,d\n/".as_slice());
+    assert_eq!(rt; rows.fault, None);
+    let uneven = of_bytes(alloc, Pipe::Csv, b"a\nb", b",c\n")?;
+    assert_eq!(rt; uneven.text.as_slice(), b"//a\n/".as_slice());
+    assert_eq!(rt; uneven.fault, Some(Code::Uneven));
+    let broken = of_bytes(alloc, Pipe::Csv, b"a\n\xC3", b"b\n")?;
+    assert_eq!(rt; broken.text.as_slice(), b"///".as_slice());
+    assert_eq!(rt; broken.fault, Some(Code::NotUtf8));
+    Ok(())
+}
+
+#[test]
+fn rows_and_tables(rt: HostRuntime) -> Result<(), Fail> {
+    let alloc = rt.alloc();
+    let tables = two_tables(alloc)?;
+    let field = of_rows(alloc, &tables, Pipe::Field(1), b"k,a\nz", b",b\n")?;
+    assert_eq!(rt; field.text.as_slice(), b"//a\nb\n/".as_slice());
+    let first = of_rows(alloc, &tables, Pipe::Lookup(0, 0), b"k\nz", b"\n")?;
+    assert_eq!(rt; first.text.as_slice(), b"//k,v\nz,\n/".as_slice());
+    let second = of_rows(alloc, &tables, Pipe::Lookup(1, 0), b"k\nz", b"\n")?;
+    assert_eq!(rt; second.text.as_slice(), b"//k,w\nz,y\n/".as_slice());
+    let beyond = of_rows(alloc, &tables, Pipe::Lookup(2, 0), b"k\nz", b"\n")?;
+    assert_eq!(rt; beyond.text.as_slice(), b"//k,\nz,\n/".as_slice());
+    let missing = of_rows(alloc, &tables, Pipe::Lookup(0, 1), b"k\nz", b"\n")?;
+    assert_eq!(rt; missing.text.as_slice(), b"///".as_slice());
+    assert_eq!(rt; missing.fault, Some(Code::NoField));
     Ok(())
 }

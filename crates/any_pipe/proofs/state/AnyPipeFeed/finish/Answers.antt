@@ -20,3 +20,15 @@ returns-in-Count-clause-first c = rw c.in-Count.is c.finish-in-Count.ensures.fir
 
 pub returns-in-ChunkN-clause-first : goal.returns-in-ChunkN-clause-first
 returns-in-ChunkN-clause-first c = rw c.in-ChunkN.is c.finish-in-ChunkN.ensures.first
+
+pub finish-requires-in-Csv : goal.finish-requires-in-Csv
+finish-requires-in-Csv c = rw c.in-Csv.is at c.requires
+
+pub returns-in-Csv-clause-first : goal.returns-in-Csv-clause-first
+returns-in-Csv-clause-first c = rw c.in-Csv.is c.finish-in-Csv.ensures.first
+
+pub returns-in-Csv-clause-next : goal.returns-in-Csv-clause-next
+returns-in-Csv-clause-next c = rw c.in-Csv.is c.finish-in-Csv.ensures.next
+
+pub returns-in-Lookup-clause-first : goal.returns-in-Lookup-clause-first
+returns-in-Lookup-clause-first c = rw c.in-Lookup.is c.finish-in-Lookup.ensures.first
