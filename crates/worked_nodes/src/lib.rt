@@ -13,6 +13,8 @@ mod runs;
 #[cfg(test)]
 mod side_tests;
 #[cfg(test)]
+mod table_tests;
+#[cfg(test)]
 mod tests;
 pub mod turns;
 pub mod uses;

@@ -11,8 +11,9 @@ ghost use Rattle.pull_stepper.specs.Sites.{IsUnused};
 
 use crate::narrow::Narrow;
 use crate::uses::{Alone, Pace, run_alone};
-use any_pipe::{AnyPipe, NoTables};
+use any_pipe::AnyPipe;
 use chunk_core::{Chunk, Line, List, Load, Span, Word, render};
+use csv_pipes::Dicts;
 use device_port::{Act, Depot, FileOf, MemDepot, Mode, Trip};
 use pull_nodes::Node;
 use pull_stepper::Held;
@@ -171,6 +172,23 @@ pub fn run_in(
     run_narrow(alloc, depot, node, paths, pace, usize::MAX)
 }
 
+/// Runs a node over devices of a depot and these tables.
+pub fn run_over(
+    alloc: Global,
+    depot: &mut MemDepot,
+    node: Node,
+    paths: &[&str],
+    tables: Dicts,
+    pace: Pace,
+) -> Result<Alone<Narrow>, Fail>
+    requires few { node_count node < 2 ^ 16 }
+    requires paths { length paths.now < 2 ^ 16 }
+    requires pace { (1 ≤ pace.chunk) × (1 ≤ pace.turns) }
+{
+    let devices = devices(alloc, depot, &node, paths, usize::MAX)?;
+    run_on(alloc, node, devices, tables, pace)
+}
+
 /// Runs a node over devices of a depot that take at most so many bytes a write.
 pub fn run_narrow(
     alloc: Global,
@@ -185,15 +203,31 @@ pub fn run_narrow(
     requires pace { (1 ≤ pace.chunk) × (1 ≤ pace.turns) }
     requires most { 1 ≤ most }
 {
-    fits_rows(&node, paths.len() as u32)?;
     let devices = devices(alloc, depot, &node, paths, most)?;
+    run_on(alloc, node, devices, Dicts::new(alloc), pace)
+}
+
+/// Runs a node over devices that nobody used, and these tables.
+fn run_on(
+    alloc: Global,
+    node: Node,
+    devices: List<Narrow>,
+    tables: Dicts,
+    pace: Pace,
+) -> Result<Alone<Narrow>, Fail>
+    requires few { node_count node < 2 ^ 16 }
+    requires count { length devices < 2 ^ 16 }
+    requires unused { (d : Narrow) → IsAmong d devices → IsUnused (record_told d.device.facts) }
+    requires pace { (1 ≤ pace.chunk) × (1 ≤ pace.turns) }
+{
+    fits_rows(&node, devices.len() as u32)?;
     if !are_for(&node, &devices) {
         return Err("a device is for something else".into());
     }
     let (seat, mut desk) = PlainSeat::new(alloc, StreamNo::Inner(0), node.places(), node.events())?;
     let room = Room::new(alloc, node.scopes() + 1, node.places())?;
     Ok(run_alone::<Narrow, PlainSeat<Held<Narrow>>, AnyPipe>(
-        alloc, &mut desk, node, seat, room, devices, NoTables, pace,
+        alloc, &mut desk, node, seat, room, devices, tables, pace,
     ))
 }
 
