@@ -1,11 +1,15 @@
+pub mod Alone
+pub mod Bodies
 pub mod Documents
 pub mod Each
 pub mod Entries
-pub mod KindLaws
 pub mod NodeLaws
 pub mod Numerals
 pub mod Parts
+pub mod Consecutive
 pub mod RunsAlike
 pub mod Seen
 pub mod Settings
+pub mod TableNames
 pub mod Uses
+pub mod Written

@@ -1,21 +1,26 @@
 -- Nodes of one stream run alike.
-use Rattle.std.proofs.Common.{◌≡◌, ℕ, List, [], ◌∷◌, Option, Some, None, refl, ap, ◌∙◌, sym, subst}
-use Rattle.std.specs.Prelude.{◌↔◌}
+use Rattle.std.proofs.Common.{◌≡◌, ℕ, ◌+◌, List, [], ◌∷◌, Option, Some, None, refl, ap, ◌∙◌, sym, subst}
+use Rattle.std.specs.Prelude.{◌↔◌, option_and_then, option_map}
 use Rattle.chunk_core.specs.Elements.{Element}
-use Rattle.chunk_core.specs.Outcomes.{End, Outcomes}
+use Rattle.chunk_core.specs.Outcomes.{End, Done, Outcomes}
 use Rattle.chunk_core.specs.Tables.{Values}
 use Rattle.device_port.specs.Device.{DeviceTold}
-use Rattle.pull_nodes.specs.Kinds.{kind_behind, kind_of_sides, node_kind}
+use Rattle.pull_nodes.specs.Kinds.{kind_behind, kind_of_sides, merged_kind, node_kind, paired_kind}
 use Rattle.pull_nodes.specs.Pipes.{all_of, part_of}
-use Rattle.pull_nodes.specs.Runs.{Follows, Gives, IsFault, IsIdealRun, IsIdle, IsRun, Leeway, Piped, Taken, any_leeway, no_leeway}
+use Rattle.pull_nodes.specs.Runs.{Follows, Gives, IsFault, IsIdealRun, IsIdle, IsRun, IsUnwritten, Leeway, Merged, Piped, Taken, Zipped, any_leeway, no_leeway}
 use Rattle.pull_nodes.specs.declared.kind.Kind.{Kind}
+use Rattle.pull_nodes.specs.declared.kind.Kind.TheVariants as kind
 use Rattle.pull_nodes.specs.declared.node.Node.{Node}
-use Rattle.pull_nodes.specs.declared.node.Node.TheVariants.{Emit, Read}
+use Rattle.pull_nodes.specs.declared.node.Node.TheVariants.{Emit, Read, Weak', Into'}
 use Rattle.pipeline_desc.specs.Laws.{NodesRunAlike, RunAlike}
 use Rattle.pipeline_desc.specs.Meant.{PlanMeant}
-use Rattle.pipeline_desc.specs.Nodes.{IsBehind, IsBehindStep, IsBody, IsNodeOf, IsOrText, IsStreamNode, first_row, load_of}
+use Rattle.pipeline_desc.specs.Nodes.{Boxed, IsBehind, IsBehindStep, IsBeside, IsBody, IsCore, IsJoined, IsNodeOf, IsOrText, IsStreamNode, IsWritten, load_of, path_row}
+use Rattle.pipeline_desc.specs.Places.{first_row}
+use Rattle.pipeline_desc.specs.declared.join.Join.{Join}
+use Rattle.pipeline_desc.specs.declared.join.Join.TheVariants as join
 use Rattle.pipeline_desc.specs.declared.step.Step.{Step}
 use Rattle.pipeline_desc.specs.declared.step.Step.TheVariants as step
+use Rattle.pipeline_desc.specs.declared.stream.Second.{Second}
 use Rattle.pipeline_desc.specs.declared.stream.StreamSpec.{StreamSpec}
 
 module _ (l : Leeway) (t : Values) (w : ℕ → DeviceTold) where
@@ -36,6 +41,9 @@ module _ (l : Leeway) (t : Values) (w : ℕ → DeviceTold) where
   left_alike : (m n : Node) → GiveAlike m n → l.left (IsIdle w m) (Gives l t w m) ≡ l.left (IsIdle w n) (Gives l t w n)
   left_alike m n h = ap (λ I. l.left I (Gives l t w m)) h.idle ∙ ap (λ G. l.left (IsIdle w n) G) h.gives
 
+  both_idle : (a b c d : Node) → GiveAlike a c → GiveAlike b d → (IsIdle w a × IsIdle w b) ≡ (IsIdle w c × IsIdle w d)
+  both_idle a b c d h k = ap (λ I. I × IsIdle w b) h.idle ∙ ap (λ I. IsIdle w c × I) k.idle
+
   step_alike : (s : Step) (a b m n : Node) → GiveAlike a b → IsBehindStep s a m → IsBehindStep s b n → GiveAlike m n
   step_alike (step.Take k) a b m n h (x, d) (y, e) =
       along _ _ m n d e (record { gives = ap (λ A. Taken k A) (left_alike a b h); idle = h.idle; kind = h.kind })
@@ -46,14 +54,52 @@ module _ (l : Leeway) (t : Values) (w : ℕ → DeviceTold) where
   steps_alike [] a b m n h d e = along a b m n d e h
   steps_alike (s ∷ steps) a b m n h (x, d, f) (y, e, g) = steps_alike steps x y m n (step_alike s a b x y h d e) f g
 
-  body_alike : (place : ℕ) (s : StreamSpec) (m n : Node) → IsBody place s m → IsBody place s n → GiveAlike m n
-  body_alike place s m n (a, x, f, d) (b, y, g, e) =
-      let h = steps_alike s.steps (Read place) (Read place) a b (itself (Read place)) f g in
-      along _ _ m n d e (record {
-        gives = ap (λ A. l.opens (w place) A (IsIdle w a)) (left_alike a b h) ∙ ap (λ I. l.opens (w place) (l.left (IsIdle w b) (Gives l t w b)) I) h.idle;
+  joined_alike : (j : Join) (a b c d m n : Node) → GiveAlike a c → GiveAlike b d → IsJoined j a b m → IsJoined j c d n → GiveAlike m n
+  joined_alike join.Append a b c d m n h k (x, y, e) (u, v, f) =
+      along _ _ m n e f (record {
+        gives = ap (λ A. Follows (λ g. g ≡ Done) A (l.left (IsIdle w b) (Gives l t w b)) (IsIdle w b)) (left_alike a c h)
+            ∙ (ap (λ B. Follows (λ g. g ≡ Done) (l.left (IsIdle w c) (Gives l t w c)) B (IsIdle w b)) (left_alike b d k)
+            ∙ ap (λ I. Follows (λ g. g ≡ Done) (l.left (IsIdle w c) (Gives l t w c)) (l.left (IsIdle w d) (Gives l t w d)) I) k.idle);
+        idle = both_idle a b c d h k;
+        kind = ap (λ o. kind_of_sides o (node_kind b)) h.kind ∙ ap (λ o. kind_of_sides (node_kind c) o) k.kind;
+      })
+  joined_alike join.Zip a b c d m n h k (x, y, e) (u, v, f) =
+      along _ _ m n e f (record {
+        gives = ap (λ A. Zipped A (l.left (IsIdle w b) (Gives l t w b))) (left_alike a c h) ∙ ap (λ B. Zipped (l.left (IsIdle w c) (Gives l t w c)) B) (left_alike b d k);
+        idle = both_idle a b c d h k;
+        kind = ap (λ o. option_and_then paired_kind (kind_of_sides o (node_kind b))) h.kind ∙ ap (λ o. option_and_then paired_kind (kind_of_sides (node_kind c) o)) k.kind;
+      })
+  joined_alike join.Merge a b c d m n h k (x, y, e) (u, v, f) =
+      along _ _ m n e f (record {
+        gives = ap (λ A. Merged A (IsIdle w a) (l.left (IsIdle w b) (Gives l t w b)) (IsIdle w b)) (left_alike a c h)
+            ∙ (ap (λ I. Merged (l.left (IsIdle w c) (Gives l t w c)) I (l.left (IsIdle w b) (Gives l t w b)) (IsIdle w b)) h.idle
+            ∙ (ap (λ B. Merged (l.left (IsIdle w c) (Gives l t w c)) (IsIdle w c) B (IsIdle w b)) (left_alike b d k)
+            ∙ ap (λ I. Merged (l.left (IsIdle w c) (Gives l t w c)) (IsIdle w c) (l.left (IsIdle w d) (Gives l t w d)) I) k.idle));
+        idle = both_idle a b c d h k;
+        kind = ap (λ o. option_and_then merged_kind (kind_of_sides o (node_kind b))) h.kind ∙ ap (λ o. option_and_then merged_kind (kind_of_sides (node_kind c) o)) k.kind;
+      })
+
+  core_alike : (place : ℕ) (steps : List Step) (o : Option Second) (m n : Node) → IsCore place steps o m → IsCore place steps o n → GiveAlike m n
+  core_alike place steps None m n f g = steps_alike steps (Read place) (Read place) m n (itself (Read place)) f g
+  core_alike place steps (Some second) m n (a, b, x, f, g, i, j) (c, d, y, f', g', i', j') =
+      steps_alike second.after x y m n
+      (joined_alike second.join a b c d x y (steps_alike steps (Read place) (Read place) a c (itself (Read place)) f f')
+      (steps_alike steps (Read (place + 1)) (Read (place + 1)) b d (itself (Read (place + 1))) g g') i i') j j'
+
+  weak_alike : (p : ℕ) (b c : Boxed) (a d m n : Node) → m ≡ Weak' p b a → n ≡ Weak' p c d → GiveAlike a d → GiveAlike m n
+  weak_alike p b c a d m n e f h =
+      along _ _ m n e f (record {
+        gives = ap (λ A. l.opens (w p) A (IsIdle w a)) (left_alike a d h) ∙ ap (λ I. l.opens (w p) (l.left (IsIdle w d) (Gives l t w d)) I) h.idle;
         idle = h.idle;
         kind = h.kind;
       })
+
+  beside_alike : (place : ℕ) (o : Option Second) (a b m n : Node) → IsBeside place o a m → IsBeside place o b n → GiveAlike a b → GiveAlike m n
+  beside_alike place None a b m n e f h = along a b m n e f h
+  beside_alike place (Some second) a b m n (x, e) (y, f) h = weak_alike (place + 1) x y a b m n e f h
+
+  body_alike : (place : ℕ) (s : StreamSpec) (m n : Node) → IsBody place s m → IsBody place s n → GiveAlike m n
+  body_alike place s m n (a, c, x, f, i, e) (b, d, y, g, j, k) = weak_alike place x y c d m n e k (beside_alike place s.second a b c d i j (core_alike place s.steps s.second a b f g))
 
   -- so are they in a scope
   scope_left : (m n : Node) → GiveAlike m n → l.left (IsIdle w m) (l.left (IsIdle w m) (Gives l t w m)) ≡ l.left (IsIdle w n) (l.left (IsIdle w n) (Gives l t w n))
@@ -68,12 +114,23 @@ module _ (l : Leeway) (t : Values) (w : ℕ → DeviceTold) where
         kind = ap (λ j. kind_of_sides j (node_kind (Emit (load_of k text)))) h.kind;
       })
 
+  into_alike : (p : ℕ) (b c : Boxed) (a d : Node) → GiveAlike a d → GiveAlike (Into' p b a) (Into' p c d)
+  into_alike p b c a d h = record {
+    gives = ap (λ A. l.writes (w p) A) (left_alike a d h);
+    idle = ap (λ I. IsUnwritten (w p) × I) h.idle;
+    kind = ap (λ o. option_map (λ j. kind.Any) o) h.kind;
+  }
+
+  written_alike : (p : ℕ) (o : Option (List ℕ)) (a b m n : Node) → GiveAlike a b → IsWritten p o a m → IsWritten p o b n → GiveAlike m n
+  written_alike p None a b m n h d e = along a b m n d e h
+  written_alike p (Some to) a b m n h (x, y, d) (u, v, e) = weak_alike p x u (Into' p y a) (Into' p v b) m n d e (into_alike p y v a b h)
+
   pub stream_alike : (place : ℕ) (s : StreamSpec) (m n : Node) → IsStreamNode place s m → IsStreamNode place s n → GiveAlike m n
-  stream_alike place s m n (a, j, f, is, d) (b, k, g, are, e) =
-      let h = body_alike place s a b f g in
+  stream_alike place s m n (a, x, j, f, is, d, i) (b, y, k, g, are, e, q) =
+      let h = body_alike (path_row place s) s a b f g in
       let both : Some j ≡ Some k = sym is ∙ h.kind ∙ are in
       let same : j ≡ k = cc in
-      or_text_alike k s.on_fault a b m n h (subst (λ i. IsOrText i s.on_fault a m) same d) e
+      written_alike place s.to x y m n (or_text_alike k s.on_fault a b x y h (subst (λ z. IsOrText z s.on_fault a x) same d) e) i q
 
   pub node_alike : (p : PlanMeant) (k : ℕ) (m n : Node) → IsNodeOf p k m → IsNodeOf p k n → GiveAlike m n
   node_alike p k m n (r, is, d) (s, are, e) =

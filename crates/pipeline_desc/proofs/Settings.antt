@@ -1,12 +1,15 @@
 -- Streams beside tables, one after another.
-use Rattle.std.proofs.Common.{◌≡◌, ◌⊎◌, ℕ, zero, suc, List, [], ◌∷◌, ◌++◌, length, Some, Result, Ok, Err, IfOk, inl, inr, arith, true, refl, ap, ◌∙◌, sym, subst, ⊎_elim}
+use Rattle.std.proofs.Common.{◌≡◌, ◌⊎◌, ℕ, zero, suc, ◌≤◌, List, [], ◌∷◌, ◌++◌, length, take, Some, Result, Ok, Err, IfOk, inl, inr, arith, true, refl, ap, ◌∙◌, sym, subst, ⊎_elim}
 use Rattle.std.specs.Prelude.{is_some, slice_get}
+use Rattle.std.proofs.Math.Seq.{take-append_seam}
+use Rattle.std.proofs.lemmas.List.{take-append-le}
+use Rattle.std.proofs.lemmas.Option.{slice_get_within}
 use Rattle.toml.specs.Data.{as_table}
 use Rattle.toml.specs.View.{items_view}
 use Rattle.toml.specs.declared.value.Value.{Value}
 use Rattle.pipeline_desc.specs.Meant.{SettingMeant, setting_of}
 use Rattle.pipeline_desc.specs.Reading.{each_from}
-use Rattle.pipeline_desc.specs.Sound.{AreSoundStreams, IsSoundStream}
+use Rattle.pipeline_desc.specs.Sound.{AreSoundStreams, AreSoundTables, IsSoundStream, IsSoundTable}
 use Rattle.pipeline_desc.specs.Streams.{stream_meant, streams_meant}
 use Rattle.pipeline_desc.specs.Values.{each_as, seen_as}
 use Rattle.pipeline_desc.specs.declared.stream.StreamSpec.{StreamSpec}
@@ -26,6 +29,13 @@ sound_more setting found i s count sound one k x is =
     ⊎_elim (λ before. sound k x before)
     (λ last. subst (λ (y : StreamSpec). IsSoundStream setting k y) last.1 (subst (λ n. IsSoundStream setting n s) (sym (last.0 ∙ count)) one))
     (get_more found s k x is)
+
+-- one more table
+pub tables_more : (before found : List TableSpec) (t : TableSpec) → before ≡ found → AreSoundTables found → IsSoundTable before t → AreSoundTables (found ++ t ∷ [])
+tables_more before found t same sound one i x is =
+    ⊎_elim (λ before. let within : i ≤ length found = omega (arith, slice_get_within found i x before) in rw (take-append-le i found (t ∷ []) within) (sound i x before))
+    (λ last. subst (λ (y : TableSpec). IsSoundTable (take i (found ++ t ∷ [])) y) last.1 (subst (λ b. IsSoundTable b t) (same ∙ sym (ap (λ n. take n (found ++ t ∷ [])) last.0 ∙ take-append_seam found (t ∷ []))) one))
+    (get_more found t i x is)
 
 -- as many streams are counted as are described
 pub setting_is : (tables : List TableSpec) (vs : List Value) → is_some (each_as as_table (items_view vs)) ≡ true

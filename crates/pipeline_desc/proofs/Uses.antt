@@ -22,6 +22,6 @@ module _ (P : ℕ → Type 0) where
   pub each_read : (n : Node) (rows : List ℕ) → reads_of n ≡ rows → AllByRecursion P rows → EachRead P n
   each_read n rows is h = each_listed read_place n (subst (AllByRecursion P) (sym is) h)
 
-  -- a node that writes none
-  pub none_written : (n : Node) → writes_of n ≡ [] → EachWrite P n
-  none_written n none = each_listed written_place n (subst (AllByRecursion P) (sym none) tt)
+  -- a node that writes these rows
+  pub each_written : (n : Node) (rows : List ℕ) → writes_of n ≡ rows → AllByRecursion P rows → EachWrite P n
+  each_written n rows is h = each_listed written_place n (subst (AllByRecursion P) (sym is) h)

@@ -2,11 +2,14 @@ pub mod Laws
 pub mod Limits
 pub mod Meant
 pub mod Nodes
+pub mod Outputs
+pub mod Places
 pub mod Plans
 pub mod Reading
 pub mod Refusals
 pub mod Sound
 pub mod Steps
 pub mod Streams
+pub mod Tables
 pub mod Values
 pub mod Worked

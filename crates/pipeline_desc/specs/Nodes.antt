@@ -1,8 +1,6 @@
--- The nodes, the rows and the events of a plan's streams.
-use Rattle.std.specs.Prelude.{◌≡◌, ℕ, ◌+◌, ◌-◌, ◌*◌, List, [], ◌∷◌, length, take, Option, Some, None, option_map, option_to_list, slice_get}
-use Rattle.std.specs.List.{range_with_len, sum_by}
+-- The nodes and the events of a plan's streams.
+use Rattle.std.specs.Prelude.{◌≡◌, ℕ, ◌+◌, ◌*◌, Bool, List, [], ◌∷◌, length, Option, Some, None, option_map, option_to_list, slice_get}
 use Rattle.std.specs.Global.{Box}
-use Rattle.chunk_core.specs.declared.code.Span.{Span}
 use Rattle.chunk_core.specs.declared.load.Load.{Load}
 use Rattle.chunk_core.specs.declared.load.Load.TheVariants as load
 use Rattle.pull_nodes.specs.Kinds.{node_kind}
@@ -10,10 +8,15 @@ use Rattle.pull_nodes.specs.Shape.{places_of, scope_count}
 use Rattle.pull_nodes.specs.declared.kind.Kind.{Kind}
 use Rattle.pull_nodes.specs.declared.kind.Kind.TheVariants as kind
 use Rattle.pull_nodes.specs.declared.node.Node.{Node}
-use Rattle.pull_nodes.specs.declared.node.Node.TheVariants.{Emit, Read, Weak', Scope', OnFault', Through', Take'}
+use Rattle.pull_nodes.specs.declared.node.Node.TheVariants.{Emit, Read, Weak', Scope', Append', OnFault', Through', Take', Zip', Merge', Into'}
+use Rattle.device_port.specs.declared.device.Mode.{Mode}
 use Rattle.pipeline_desc.specs.Meant.{PlanMeant}
+use Rattle.pipeline_desc.specs.Places.{first_row, row_count, rows_that, stream_places}
+use Rattle.pipeline_desc.specs.declared.join.Join.{Join}
+use Rattle.pipeline_desc.specs.declared.join.Join.TheVariants as join
 use Rattle.pipeline_desc.specs.declared.step.Step.{Step}
 use Rattle.pipeline_desc.specs.declared.step.Step.TheVariants as step
+use Rattle.pipeline_desc.specs.declared.stream.Second.{Second}
 use Rattle.pipeline_desc.specs.declared.stream.StreamSpec.{StreamSpec}
 
 -- where the part of a node lies, which says nothing of the node
@@ -30,9 +33,26 @@ abbrev pub IsBehind : List Step → Node → Node → Type 0
 IsBehind [] a n = n ≡ a
 IsBehind (s ∷ steps) a n = (m : Node) × IsBehindStep s a m × IsBehind steps m n
 
--- n acquires the device at a place and reads it, and the bytes go through the stream's steps
+-- n is the join of two sides
+abbrev pub IsJoined : Join → Node → Node → Node → Type 0
+IsJoined join.Append a b n = (x y : Boxed) × (n ≡ Append' x a y b)
+IsJoined join.Zip a b n = (x y : Boxed) × (n ≡ Zip' x a y b)
+IsJoined join.Merge a b n = (x y : Boxed) × (n ≡ Merge' x a y b)
+
+-- n reads the device at a place, and its bytes go through the steps; where there is a second side, it is joined with the same of the device behind it
+abbrev pub IsCore : ℕ → List Step → Option Second → Node → Type 0
+IsCore place steps None n = IsBehind steps (Read place) n
+IsCore place steps (Some second) n =
+    (a b m : Node) × IsBehind steps (Read place) a × IsBehind steps (Read (place + 1)) b × IsJoined second.join a b m × IsBehind second.after m n
+
+-- n acquires the device at the place of the second side, where there is one, and then is a
+abbrev pub IsBeside : ℕ → Option Second → Node → Node → Type 0
+IsBeside place None a n = n ≡ a
+IsBeside place (Some second) a n = (b : Boxed) × (n ≡ Weak' (place + 1) b a)
+
+-- n acquires the devices from a place on, reads them, and their bytes go through the stream's steps
 abbrev pub IsBody : ℕ → StreamSpec → Node → Type 0
-IsBody place s n = (m : Node) × (b : Boxed) × IsBehind s.steps (Read place) m × (n ≡ Weak' place b m)
+IsBody place s n = (a m : Node) × (b : Boxed) × IsCore place s.steps s.second a × IsBeside place s.second a m × (n ≡ Weak' place b m)
 
 -- a text as a load of this kind: its bytes, one line, or one row of one field
 abbrev pub load_of : Kind → List ℕ → Load
@@ -46,26 +66,19 @@ abbrev pub IsOrText : Kind → Option (List ℕ) → Node → Node → Type 0
 IsOrText k None a n = n ≡ a
 IsOrText k (Some text) a n = (b c d : Boxed) × (n ≡ OnFault' b (Scope' c a) d (Emit (load_of k text)))
 
--- n is the node of a stream whose device has this place; the text has the kind of what the stream gives
+-- n is a, or where there is a path to write, a written to the device at a place, which is acquired first and released last
+abbrev pub IsWritten : ℕ → Option (List ℕ) → Node → Node → Type 0
+IsWritten place None a n = n ≡ a
+IsWritten place (Some to) a n = (b c : Boxed) × (n ≡ Weak' place b (Into' place c a))
+
+-- the row of a stream's path, which stands behind that of its `to`; the stream's first row is this
+abbrev pub path_row : ℕ → StreamSpec → ℕ
+path_row place s = place + length (option_to_list s.to)
+
+-- n is the node of a stream whose first row is this; the text has the kind of what the stream gives
 abbrev pub IsStreamNode : ℕ → StreamSpec → Node → Type 0
 IsStreamNode place s n =
-    (a : Node) × (k : Kind) × IsBody place s a × (node_kind a ≡ Some k) × IsOrText k s.on_fault a n
-
--- how many rows a stream has: one, for its path
-abbrev pub row_count : StreamSpec → ℕ
-row_count s = 1
-
--- the first row of stream k: those of the tables come first, and then those of each stream
-abbrev pub first_row : PlanMeant → ℕ → ℕ
-first_row p k = length p.tables + sum_by row_count (take k p.streams)
-
--- the rows of stream k, which end where those of the next one begin
-abbrev pub rows_of : PlanMeant → ℕ → Span
-rows_of p k = record { from = first_row p k; to = first_row p (k + 1) }
-
--- the rows of a span, in order
-abbrev pub rows_within : Span → List ℕ
-rows_within span = range_with_len span.from (span.to - span.from)
+    (a m : Node) × (k : Kind) × IsBody (path_row place s) s a × (node_kind a ≡ Some k) × IsOrText k s.on_fault a m × IsWritten place s.to m n
 
 -- n is the node of stream k
 abbrev pub IsNodeOf : PlanMeant → ℕ → Node → Type 0
@@ -74,6 +87,10 @@ IsNodeOf p k n = (s : StreamSpec) × (slice_get p.streams k ≡ Some s) × IsStr
 -- the most events that a run of a node notes: two for each place, two for each scope, and the close of the root
 abbrev pub event_count : Node → ℕ
 event_count n = 2 * length (places_of n) + 2 * scope_count n + 1
+
+-- the rows of stream k whose mode passes
+abbrev pub rows_for : (Mode → Bool) → PlanMeant → ℕ → Option (List ℕ)
+rows_for test p k = option_map (λ s. rows_that test (first_row p k) (stream_places s)) (slice_get p.streams k)
 
 -- how many scopes the node of a stream has: one around it, where a text stands in for a fault
 abbrev pub scopes_in : StreamSpec → ℕ

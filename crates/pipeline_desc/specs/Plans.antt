@@ -6,7 +6,9 @@ use Rattle.toml.specs.Parse.{parse_document}
 use Rattle.pipeline_desc.specs.Limits.{most_bytes, most_tables, most_streams}
 use Rattle.pipeline_desc.specs.Meant.{PlanMeant}
 use Rattle.pipeline_desc.specs.Reading.{Reading, ◌>>=◌, passes, present}
+use Rattle.pipeline_desc.specs.Outputs.{outputs_alone}
 use Rattle.pipeline_desc.specs.Streams.{streams_meant}
+use Rattle.pipeline_desc.specs.Tables.{tables_meant}
 use Rattle.pipeline_desc.specs.Values.{known_keys, number_within, tables_at, where_given}
 use Rattle.pipeline_desc.specs.declared.refusal.Position.TheVariants.{Nowhere}
 use Rattle.pipeline_desc.specs.declared.refusal.RefusalKind.TheVariants as refused
@@ -52,18 +54,20 @@ top_meant ms =
       streams = streams;
     })))))))))
 
--- what is described below the top; no table is described as yet
+-- what is described below the top: the tables, the streams, and then what holds of all paths
 abbrev pub plan_of_top : Top → Reading PlanMeant
 plan_of_top top =
-    streams_meant [] top.streams >>= (λ streams.
+    tables_meant top.tables >>= (λ tables.
+    streams_meant tables top.streams >>= (λ streams.
+    outputs_alone tables streams >>= (λ _.
     Ok (record {
       max_open = top.max_open;
       queue = top.queue;
       chunk = top.chunk;
       take = top.take;
-      tables = [];
+      tables = tables;
       streams = streams;
-    }))
+    }))))
 
 -- the table of a description
 abbrev pub plan_meant : Members → Reading PlanMeant

@@ -1,5 +1,5 @@
 -- Reading that stops at the first refusal.
-use Rattle.std.specs.Prelude.{◌≡◌, ℕ, ◌+◌, Bool, List, [], ◌∷◌, Option, Some, None, Result, Ok, Err, if◌then◌else◌}
+use Rattle.std.specs.Prelude.{◌≡◌, ℕ, ◌+◌, Bool, List, [], ◌∷◌, ◌++◌, Option, Some, None, Result, Ok, Err, if◌then◌else◌}
 use Rattle.pipeline_desc.specs.declared.refusal.Position.{Position}
 use Rattle.pipeline_desc.specs.declared.refusal.Position.TheVariants.{Nowhere, InStream, AtStep}
 use Rattle.pipeline_desc.specs.declared.refusal.Refusal.{Refusal}
@@ -40,6 +40,11 @@ present (Some x) kind position = Ok x
 abbrev pub each_from : {A B : Type 0} → (ℕ → A → Reading B) → ℕ → List A → Reading (List B)
 each_from f i [] = Ok []
 each_from f i (x ∷ xs) = f i x >>= (λ y. each_from f (i + 1) xs >>= (λ ys. Ok (y ∷ ys)))
+
+-- what each element means beside what those before it mean, in order; these were found before the first
+abbrev pub each_behind : {A B : Type 0} → (List B → A → Reading B) → List B → List A → Reading (List B)
+each_behind f found [] = Ok found
+each_behind f found (x ∷ xs) = f found x >>= (λ y. each_behind f (found ++ y ∷ []) xs)
 
 -- the failure is what is read; memory may be wanting at any time
 abbrev pub RefusesAs : {Y : Type 0} → Refused → Reading Y → Type 0

@@ -1,29 +1,67 @@
 -- What the table of a stream means.
-use Rattle.std.specs.Prelude.{ℕ, List, [], ◌∷◌, length, codes, Ok}
-use Rattle.toml.specs.Data.{Members, get_member}
-use Rattle.pipeline_desc.specs.Limits.{is_path, is_short}
+use Rattle.std.specs.Prelude.{ℕ, ◌+◌, List, [], ◌∷◌, ◌++◌, length, codes, Option, Some, None, Ok, if◌then◌else◌}
+use Rattle.std.specs.Str.{bytes_eq}
+use Rattle.toml.specs.Data.{Data, Members, as_str, get_member}
+use Rattle.pipeline_desc.specs.Limits.{is_another_stream, is_path, is_short}
 use Rattle.pipeline_desc.specs.Meant.{SettingMeant, setting_of}
-use Rattle.pipeline_desc.specs.Reading.{Reading, ◌>>=◌, each_from}
-use Rattle.pipeline_desc.specs.Steps.{are_fitting, kind_given, steps_at}
-use Rattle.pipeline_desc.specs.Values.{known_keys, required, text_that, where_given}
+use Rattle.pipeline_desc.specs.Reading.{Reading, refuse, ◌>>=◌, present, each_from}
+use Rattle.pipeline_desc.specs.Steps.{are_fitting, kind_given, steps_at, steps_behind}
+use Rattle.pipeline_desc.specs.Values.{known_keys, number_or, required, text_that, where_given}
+use Rattle.pipeline_desc.specs.declared.join.Join.{Join}
+use Rattle.pipeline_desc.specs.declared.join.Join.TheVariants as join
+use Rattle.pipeline_desc.specs.declared.refusal.Position.{Position}
 use Rattle.pipeline_desc.specs.declared.refusal.Position.TheVariants.{InStream}
+use Rattle.pipeline_desc.specs.declared.refusal.RefusalKind.TheVariants as refused
+use Rattle.pipeline_desc.specs.declared.step.Step.{Step}
+use Rattle.pipeline_desc.specs.declared.stream.Second.{Second}
 use Rattle.pipeline_desc.specs.declared.stream.StreamSpec.{StreamSpec}
 use Rattle.pipeline_desc.specs.declared.table.TableSpec.{TableSpec}
 
 -- the keys of a stream
 abbrev pub stream_keys : List (List ℕ)
-stream_keys = codes "path" ∷ codes "steps" ∷ codes "on_fault" ∷ []
+stream_keys =
+    codes "path" ∷ codes "steps" ∷ codes "with" ∷ codes "join" ∷ codes "after" ∷ codes "on_fault" ∷ codes "to" ∷ codes "until" ∷ []
+
+-- a join by its name
+abbrev pub join_named : List ℕ → Option Join
+join_named name =
+    if bytes_eq name (codes "append") then Some join.Append
+    else if bytes_eq name (codes "zip") then Some join.Zip
+    else if bytes_eq name (codes "merge") then Some join.Merge
+    else None
+
+-- a text as the name of a join
+abbrev pub join_meant : Position → Data → Reading Join
+join_meant position d = present (as_str d) refused.WrongType position >>= (λ name. present (join_named name) refused.OutOfRange position)
+
+-- a second side is whole or not there: a path and a join, and steps behind it only then
+abbrev pub second_meant : Position → Option (List ℕ) → Option Join → List Step → Reading (Option Second)
+second_meant position None None [] = Ok None
+second_meant position None None (s ∷ steps) = refuse refused.OutOfRange position
+second_meant position None (Some j) after = refuse refused.OutOfRange position
+second_meant position (Some path) None after = refuse refused.OutOfRange position
+second_meant position (Some path) (Some j) after = Ok (Some (record { join = j; path = path; after = after }))
+
+-- the number of a stream other than stream k, where there are so many
+abbrev pub until_meant : ℕ → ℕ → Data → Reading ℕ
+until_meant count k d = number_or refused.BadUntil (is_another_stream count k) (InStream k) d
 
 -- the table of stream k: its keys in their order, and then what holds of several of them
 abbrev pub stream_meant : SettingMeant → ℕ → Members → Reading StreamSpec
 stream_meant setting k ms =
     known_keys stream_keys (InStream k) ms >>= (λ _.
     required (text_that is_path (InStream k)) (InStream k) (get_member (codes "path") ms) >>= (λ path.
-    steps_at setting k (get_member (codes "steps") ms) >>= (λ steps.
+    steps_at setting k 0 (get_member (codes "steps") ms) >>= (λ steps.
+    where_given (text_that is_path (InStream k)) (get_member (codes "with") ms) >>= (λ side.
+    where_given (join_meant (InStream k)) (get_member (codes "join") ms) >>= (λ joined.
+    steps_at setting k (length steps + 1) (get_member (codes "after") ms) >>= (λ after.
     where_given (text_that is_short (InStream k)) (get_member (codes "on_fault") ms) >>= (λ on_fault.
-    are_fitting k steps >>= (λ _.
-    kind_given k steps >>= (λ _.
-    Ok (record { path = path; steps = steps; on_fault = on_fault })))))))
+    where_given (text_that is_path (InStream k)) (get_member (codes "to") ms) >>= (λ to.
+    where_given (until_meant setting.count k) (get_member (codes "until") ms) >>= (λ until.
+    second_meant (InStream k) side joined after >>= (λ second.
+    are_fitting k (steps ++ steps_behind second) >>= (λ _.
+    kind_given k steps second >>= (λ _.
+    Ok (record { path = path; steps = steps; second = second; on_fault = on_fault; to = to; until = until })))))))))))))
 
 -- the tables of all streams, beside these tables of records
 abbrev pub streams_meant : List TableSpec → List Members → Reading (List StreamSpec)

@@ -31,8 +31,11 @@
 //! ```
 #![tactic(auto)]
 
+pub mod join;
+pub(crate) mod kinds;
 pub mod laws;
 pub mod nodes;
+pub(crate) mod outputs;
 pub mod plan;
 pub mod reader;
 pub mod refusal;
@@ -42,15 +45,17 @@ pub(crate) mod steps;
 pub mod stream;
 pub(crate) mod streams;
 pub mod table;
+pub(crate) mod tables;
 pub(crate) mod values;
 pub(crate) mod words;
 
+pub use join::Join;
 pub use nodes::{events, node, rows};
 pub use plan::Plan;
 pub use reader::read;
 pub use refusal::{Refusal, RefusalKind, Refused};
 pub use step::Step;
-pub use stream::StreamSpec;
+pub use stream::{Second, StreamSpec};
 pub use table::TableSpec;
 
 #[cfg(test)]

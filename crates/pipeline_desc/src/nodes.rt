@@ -1,16 +1,20 @@
 //! The nodes, the rows and the events of a plan's streams.
-ghost use Rattle.std.specs.Prelude.{◌≡◌, ℕ, ◌+◌, ◌^◌, ◌≤◌, ◌<◌, true, [], Some, IsOk, IsSome, length, IfOk};
+ghost use Rattle.std.specs.Prelude.{◌≡◌, ℕ, ◌+◌, ◌^◌, ◌≤◌, ◌<◌, true, Some, IsOk, IsSome, length, IfOk};
 ghost use Rattle.std.specs.List.{sum_by};
 ghost use Rattle.pull_nodes.specs.Kinds.{node_kind};
 ghost use Rattle.pull_nodes.specs.Placed.{is_placed};
 ghost use Rattle.pull_nodes.specs.Shape.{node_count, places_of, reads_of, scope_count, writes_of};
 ghost use Rattle.pipeline_desc.specs.Steps.{kind_given};
-ghost use Rattle.pipeline_desc.specs.Nodes.{IsBehind, IsBehindStep, IsBody, IsNodeOf, IsOrText, IsStreamNode, event_count, events_of, first_row, load_of, row_count, rows_within, rows_of, scopes_in, scopes_of};
+ghost use Rattle.pull_nodes.specs.declared.kind.Kind.{Kind};
+ghost use Rattle.device_port.specs.Device.{is_read, is_write};
+ghost use Rattle.pipeline_desc.specs.Nodes.{IsBehind, IsBehindStep, IsBeside, IsBody, IsCore, IsJoined, IsNodeOf, IsOrText, IsStreamNode, IsWritten, event_count, events_of, load_of, path_row, rows_for, scopes_in, scopes_of};
+ghost use Rattle.pipeline_desc.specs.Places.{first_row, row_count, rows_within, rows_of};
 
+use crate::join::Join;
 use crate::plan::Plan;
 use crate::step::Step;
-use crate::stream::StreamSpec;
-use chunk_core::{Chunk, Line, List, Load, Span};
+use crate::stream::{Second, StreamSpec};
+use chunk_core::{Chunk, Line, List, Load, Span, Word};
 use pull_nodes::{Kind, Node, Pipe};
 use std::alloc::{AllocError, Global};
 
@@ -38,12 +42,58 @@ fn behind(alloc: Global, steps: &[Step], part: Node) -> Result<Node, AllocError>
     Ok(node)
 }
 
-/// The node that acquires the device at a place, reads it, and goes through the stream's steps.
+/// A join of two sides.
+fn joined(alloc: Global, join: Join, first: Node, second: Node) -> Result<Node, AllocError>
+    ensures { IfOk result (λ n. IsJoined join first second n) }
+{
+    let (first, second) = (Box::new(alloc, first)?, Box::new(alloc, second)?);
+    Ok(match join {
+        Join::Append => Node::Append(first, second),
+        Join::Zip => Node::Zip(first, second),
+        Join::Merge => Node::Merge(first, second),
+    })
+}
+
+/// The node that reads the device at a place, and with a second side the one behind it.
+fn core_of(alloc: Global, place: u32, stream: &StreamSpec) -> Result<Node, AllocError>
+    requires { place + 1 < 2 ^ 32 }
+    ensures { IfOk result (λ n. IsCore place stream.now.steps stream.now.second n) }
+{
+    let steps = stream.steps.as_slice();
+    let first = behind(alloc, steps, Node::Read(place))?;
+    let Some(second) = &stream.second else {
+        return Ok(first);
+    };
+    let other = behind(alloc, steps, Node::Read(place + 1))?;
+    let both = joined(alloc, second.join, first, other)?;
+    behind(alloc, second.after.as_slice(), both)
+}
+
+/// The node, behind the acquisition of the second side's device, where there is one.
+fn beside(
+    alloc: Global,
+    place: u32,
+    second: &Option<Second>,
+    part: Node,
+) -> Result<Node, AllocError>
+    requires { place + 1 < 2 ^ 32 }
+    ensures { IfOk result (λ n. IsBeside place second.now part n) }
+{
+    match second {
+        Some(_) => Ok(Node::Weak(place + 1, Box::new(alloc, part)?)),
+        None => Ok(part),
+    }
+}
+
+/// The node that acquires the devices from a place on, reads them, and goes through the stream's
+/// steps.
 fn body_of(alloc: Global, place: u32, stream: &StreamSpec) -> Result<Node, AllocError>
+    requires { place + 1 < 2 ^ 32 }
     ensures { IfOk result (λ n. IsBody place stream.now n) }
 {
-    let core = behind(alloc, stream.steps.as_slice(), Node::Read(place))?;
-    Ok(Node::Weak(place, Box::new(alloc, core)?))
+    let core = core_of(alloc, place, stream)?;
+    let inner = beside(alloc, place, &stream.second, core)?;
+    Ok(Node::Weak(place, Box::new(alloc, inner)?))
 }
 
 /// A text as a load of a kind: its bytes, one line, or one row of one field.
@@ -70,7 +120,7 @@ fn load_of(alloc: Global, kind: Kind, text: &[u8]) -> Result<Load, AllocError>
     }
 }
 
-/// The node, or in its place after a fault the text.
+/// The node in a scope of its own, or in its place after a fault the text.
 fn or_text(alloc: Global, kind: Kind, text: &[u8], part: Node) -> Result<Node, AllocError>
     ensures { IfOk result (λ n. IsOrText kind (Some text.now) part n) }
 {
@@ -80,26 +130,70 @@ fn or_text(alloc: Global, kind: Kind, text: &[u8], part: Node) -> Result<Node, A
     Ok(Node::OnFault(Box::new(alloc, scope)?, Box::new(alloc, other)?))
 }
 
-/// The node of a stream whose device has this place.
-fn stream_node(alloc: Global, place: u32, stream: &StreamSpec) -> Result<Node, AllocError>
-    requires { (k : ℕ) × IsOk (kind_given k stream.now.steps) }
-    ensures { IfOk result (λ n. IsStreamNode place stream.now n) }
+/// The node, or in its place after a fault the text, where there is one.
+fn with_text(alloc: Global, text: &Option<Line>, body: Node) -> Result<Node, AllocError>
+    requires { IsSome (node_kind body) }
+    ensures { IfOk result (λ n. (k : Kind) × (node_kind body ≡ Some k) × IsOrText k text.now body n) }
 {
-    let body = body_of(alloc, place, stream)?;
     let Ok(kind) = body.kind() else {
         unreachable!()
     };
-    match &stream.on_fault {
+    match text {
         Some(text) => or_text(alloc, kind, text.as_slice(), body),
         None => Ok(body),
     }
 }
 
-/// How many rows a stream has: one, for its path.
-fn row_count(_stream: &StreamSpec) -> u32
-    ensures { result ≡ row_count _stream.now }
+/// The node, written to the device at a place, where there is a path to write.
+fn written(alloc: Global, place: u32, to: &Option<Word>, part: Node) -> Result<Node, AllocError>
+    ensures { IfOk result (λ n. IsWritten place to.now part n) }
 {
-    1
+    match to {
+        Some(_) => {
+            let into = Node::Into(place, Box::new(alloc, part)?);
+            Ok(Node::Weak(place, Box::new(alloc, into)?))
+        }
+        None => Ok(part),
+    }
+}
+
+/// The node of a stream whose first row is this.
+fn stream_node(alloc: Global, place: u32, stream: &StreamSpec) -> Result<Node, AllocError>
+    requires kind { (k : ℕ) × IsOk (kind_given k stream.now.steps stream.now.second) }
+    requires few { place + 2 < 2 ^ 32 }
+    ensures { IfOk result (λ n. IsStreamNode place stream.now n) }
+{
+    let body = body_of(alloc, path_row(place, stream), stream)?;
+    let part = with_text(alloc, &stream.on_fault, body)?;
+    written(alloc, place, &stream.to, part)
+}
+
+/// The row of a stream's path: behind that of its `to`.
+fn path_row(place: u32, stream: &StreamSpec) -> u32
+    requires { place + 1 < 2 ^ 32 }
+    ensures value { result ≡ path_row place stream.now }
+    ensures next { result ≤ place + 1 }
+{
+    match stream.to {
+        Some(_) => place + 1,
+        None => place,
+    }
+}
+
+/// How many rows a stream has: one each for its `to`, its `path` and its `with`, where they are
+/// given.
+fn row_count(stream: &StreamSpec) -> u32
+    ensures { result ≡ row_count stream.now }
+{
+    let written = match stream.to {
+        Some(_) => 1,
+        None => 0,
+    };
+    let read = match stream.second {
+        Some(_) => 2,
+        None => 1,
+    };
+    written + read
 }
 
 /// How many rows streams have.
@@ -107,13 +201,18 @@ fn rows_of_all(streams: &[StreamSpec]) -> u32
     requires { sum_by row_count streams.now < 2 ^ 32 }
     ensures { result ≡ sum_by row_count streams.now }
 {
-    streams.iter().map(row_count).sum()
+    let mut rows = 0;
+    for stream in streams {
+        rows += row_count(stream);
+    }
+    rows
 }
 
 /// The first row of stream k, or behind the last stream the one behind its rows.
 fn first_row(plan: &Plan, k: usize) -> u32
     requires { k ≤ length plan.now.streams }
-    ensures { result ≡ first_row plan.now k }
+    ensures row { result ≡ first_row plan.now k }
+    ensures few { result + 2 < 2 ^ 32 }
 {
     let before = &plan.streams().as_slice()[..k];
     plan.tables().len() as u32 + rows_of_all(before)
@@ -132,7 +231,7 @@ pub fn rows(plan: &Plan, k: u32) -> Span
 }
 
 /// The node of stream k. It has a kind and acquires the devices of the stream's rows in their
-/// order, each of which it reads.
+/// order: it writes the first where the stream has a `to`, and reads the others.
 pub fn node(alloc: Global, plan: &Plan, k: u32) -> Result<Node, AllocError>
     requires { k < length plan.now.streams }
     ensures node { IfOk result (IsNodeOf plan.now k) }
@@ -140,8 +239,8 @@ pub fn node(alloc: Global, plan: &Plan, k: u32) -> Result<Node, AllocError>
     ensures few { IfOk result (λ n. node_count n < 2 ^ 32) }
     ensures placed { IfOk result (λ n. is_placed (rows_of plan.now k) n ≡ true) }
     ensures places { IfOk result (λ n. places_of n ≡ rows_within (rows_of plan.now k)) }
-    ensures reads { IfOk result (λ n. reads_of n ≡ rows_within (rows_of plan.now k)) }
-    ensures writes { IfOk result (λ n. writes_of n ≡ []) }
+    ensures reads { IfOk result (λ n. rows_for is_read plan.now k ≡ Some (reads_of n)) }
+    ensures writes { IfOk result (λ n. rows_for is_write plan.now k ≡ Some (writes_of n)) }
     ensures scopes { IfOk result (λ n. scopes_of plan.now k ≡ Some (scope_count n)) }
     ensures events { IfOk result (λ n. events_of plan.now k ≡ Some (event_count n + 1 + length plan.now.tables)) }
 {

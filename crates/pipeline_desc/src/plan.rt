@@ -32,7 +32,9 @@ impl Model for Plan {
 }
 
 impl Plan {
-    pub(crate) fn of(
+    /// A plan of parts that are within all limits. What a description has where it doesn't give them
+    /// is 4 for `max_open`, 16 for `queue`, 4,096 for `chunk`, no `take`, no table and no stream.
+    pub fn of(
         max_open: u32,
         queue: u32,
         chunk: u32,

@@ -4,11 +4,12 @@ ghost use Rattle.toml.specs.View.{table_view};
 ghost use Rattle.pipeline_desc.specs.Plans.{document_of, plan_meant, plan_of};
 ghost use Rattle.pipeline_desc.specs.Reading.{ReadsAs};
 
+use crate::outputs::check_outputs;
 use crate::plan::Plan;
 use crate::refusal::{Position, RefusalKind, Refused, refuse};
 use crate::streams::streams;
-use crate::values::{check_keys, member, number_or_none, tables};
-use chunk_core::List;
+use crate::tables::record_tables;
+use crate::values::{check_keys, number_or_none, tables};
 use std::alloc::Global;
 use toml::Table;
 
@@ -16,10 +17,10 @@ use toml::Table;
 const LONGEST: usize = 1_048_576;
 
 /// The most tables of a description.
-const MOST_TABLES: usize = 0;
+const MOST_TABLES: usize = 8;
 
 /// The most streams of a description.
-const MOST_STREAMS: usize = 1;
+const MOST_STREAMS: usize = 1024;
 
 /// The table of a document.
 fn document(alloc: Global, bytes: &[u8]) -> Result<Table, Refused>
@@ -55,15 +56,16 @@ fn plan_of_table(alloc: Global, table: &Table) -> Result<Plan, Refused>
         ],
         top,
     )?;
-    number_or_none(member(table, "version"), 1, 1, top)?;
-    let max_open = number_or_none(member(table, "max_open"), 1, 64, top)?;
-    let queue = number_or_none(member(table, "queue"), 1, 64, top)?;
-    let chunk = number_or_none(member(table, "chunk"), 1, 65536, top)?;
-    let take = number_or_none(member(table, "take"), 0, 1_000_000_000, top)?;
-    tables(member(table, "table"), MOST_TABLES)?;
-    let described = tables(member(table, "stream"), MOST_STREAMS)?;
-    let tables = List::new(alloc);
-    let streams = streams(alloc, tables.as_slice(), described)?;
+    number_or_none(table, "version", 1, 1, top)?;
+    let max_open = number_or_none(table, "max_open", 1, 64, top)?;
+    let queue = number_or_none(table, "queue", 1, 64, top)?;
+    let chunk = number_or_none(table, "chunk", 1, 65536, top)?;
+    let take = number_or_none(table, "take", 0, 1_000_000_000, top)?;
+    let of_records = tables(table, "table", MOST_TABLES)?;
+    let of_streams = tables(table, "stream", MOST_STREAMS)?;
+    let tables = record_tables(alloc, of_records)?;
+    let streams = streams(alloc, tables.as_slice(), of_streams)?;
+    check_outputs(tables.as_slice(), streams.as_slice())?;
     Ok(Plan::of(
         max_open.unwrap_or(4),
         queue.unwrap_or(16),

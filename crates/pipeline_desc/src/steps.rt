@@ -1,66 +1,73 @@
 //! The steps of one stream.
-ghost use Rattle.std.specs.Prelude.{◌≡◌, ◌≤◌, true, count_by, is_some, option_map, length, IfOk, IsOk};
+ghost use Rattle.std.specs.Prelude.{◌≡◌, ◌+◌, ◌^◌, ◌<◌, ◌≤◌, true, ◌&&◌, ◌++◌, count_by, is_some, length, IfOk};
 ghost use Rattle.std.specs.List.{list_all};
-ghost use Rattle.std.specs.Result.{result_ok};
-ghost use Rattle.toml.specs.Data.{as_str};
-ghost use Rattle.toml.specs.View.{items_view, view};
+ghost use Rattle.toml.specs.Data.{as_str, get_member};
+ghost use Rattle.toml.specs.View.{items_view, table_view};
 ghost use Rattle.pipeline_desc.specs.Limits.{most_steps};
 ghost use Rattle.pipeline_desc.specs.Reading.{ReadsAs, each_from};
 ghost use Rattle.pipeline_desc.specs.Sound.{is_sound_step};
-ghost use Rattle.pipeline_desc.specs.Steps.{are_few, are_fitting, kind_behind_step, kind_given, put_one_between, puts_between, step_meant, steps_at};
+ghost use Rattle.pipeline_desc.specs.Steps.{are_few, are_fitting, put_one_between, puts_between, step_meant, steps_at, steps_behind};
 ghost use Rattle.pipeline_desc.specs.Values.{each_as, seen_as};
 
 use crate::refusal::{Position, RefusalKind, Refused, refuse};
 use crate::setting::Setting;
 use crate::step::Step;
+use crate::stream::Second;
 use crate::values::texts;
 use crate::words::step;
 use chunk_core::List;
-use pull_nodes::{Kind, KindFault, Pipe};
+use pull_nodes::Pipe;
 use std::alloc::Global;
-use toml::Value;
+use toml::{Table, Value};
 
 /// The most steps of a stream.
 const MOST_STEPS: usize = 16;
 
-/// The step of each text, in order.
+/// The step of each text, in order; the first has this number.
 fn each_step(
     alloc: Global,
     setting: &Setting<'_>,
     words: &[Value],
     k: u32,
+    first: usize,
 ) -> Result<List<Step>, Refused>
-    requires { is_some (each_as as_str (items_view words.now)) ≡ true }
-    ensures meant { ReadsAs (λ s. s) result (each_from (step_meant setting.now k) 0 (seen_as as_str words.now)) }
-    ensures sound { IfOk result (λ s. list_all is_sound_step s ≡ true) }
+    requires seen { is_some (each_as as_str (items_view words.now)) ≡ true }
+    requires first { first < 2 ^ 32 }
+    ensures meant { ReadsAs (λ s. s) result (each_from (step_meant setting.now k) first (seen_as as_str words.now)) }
+    ensures sound { IfOk result (λ s. list_all (is_sound_step (length setting.now.tables)) s ≡ true) }
+    ensures few { IfOk result (λ s. first + length s + 1 < 2 ^ 32) }
 {
     // A description is too short for 2^32 steps.
-    let Ok(count) = u32::try_from(words.len()) else {
+    if words.len() >= u32::MAX as usize - first {
         return Err(Refused::Memory);
-    };
+    }
     let mut steps = List::new(alloc);
-    for i in 0..count {
-        let Some(word) = words[i as usize].as_str() else {
+    for i in 0..words.len() {
+        let Some(word) = words[i].as_str() else {
             unreachable!()
         };
-        let step = step(alloc, setting, word.as_bytes(), k, i)?;
+        let step = step(alloc, setting, word.as_bytes(), k, (first + i) as u32)?;
         steps.push(step)?;
     }
     Ok(steps)
 }
 
-/// The steps of stream k.
+/// The steps of stream k at a key, the first of which has this number.
 pub(crate) fn steps(
     alloc: Global,
     setting: &Setting<'_>,
-    value: Option<&Value>,
+    table: &Table,
+    key: &str,
     k: u32,
+    first: usize,
 ) -> Result<List<Step>, Refused>
-    ensures meant { ReadsAs (λ s. s) result (steps_at setting.now k (option_map (λ v. view v.now) value.entry)) }
-    ensures sound { IfOk result (λ s. list_all is_sound_step s ≡ true) }
+    requires { first < 2 ^ 32 }
+    ensures meant { ReadsAs (λ s. s) result (steps_at setting.now k first (get_member key.now (table_view table.now))) }
+    ensures sound { IfOk result (λ s. list_all (is_sound_step (length setting.now.tables)) s ≡ true) }
+    ensures few { IfOk result (λ s. first + length s + 1 < 2 ^ 32) }
 {
-    let words = texts(value, Position::InStream(k))?;
-    each_step(alloc, setting, words, k)
+    let words = texts(table, key, Position::InStream(k))?;
+    each_step(alloc, setting, words, k, first)
 }
 
 /// The step puts a line between each two.
@@ -73,57 +80,42 @@ fn puts_between(step: &Step) -> bool
     }
 }
 
-/// A stream may have so many steps.
-fn are_few(steps: &[Step]) -> bool
-    ensures { result ≡ are_few steps.now }
+/// How many steps put a line between each two.
+fn between_count(steps: &[Step]) -> usize
+    ensures { result ≡ count_by puts_between steps.now }
 {
-    steps.len() <= MOST_STEPS
+    steps.iter().filter(|step| puts_between(step)).count()
 }
 
-/// At most one step puts a line between each two.
-fn put_one_between(steps: &[Step]) -> bool
-    ensures { result ≡ put_one_between steps.now }
+/// The steps behind a second side, where there is one.
+fn steps_behind(second: &Option<Second>) -> &[Step]
+    ensures { result.now ≡ steps_behind second.now }
 {
-    steps.iter().filter(|step| puts_between(step)).count() <= 1
-}
-
-/// Stream k may have these steps.
-pub(crate) fn check_steps(steps: &[Step], k: u32) -> Result<(), Refused>
-    ensures fitting { ReadsAs (λ u. u) result (are_fitting k steps.now) }
-    ensures few { IfOk result (λ u. length steps.now ≤ most_steps) }
-    ensures between { IfOk result (λ u. count_by puts_between steps.now ≤ 1) }
-{
-    if !are_few(steps) {
-        return Err(refuse(RefusalKind::OutOfRange, Position::InStream(k)));
+    match second {
+        Some(second) => second.after.as_slice(),
+        None => &[],
     }
-    if !put_one_between(steps) {
+}
+
+/// A stream may have so many steps, and at most one of them puts a line between each two.
+fn are_fitting(steps: &[Step], behind: &[Step]) -> bool
+    ensures { result ≡ (are_few (steps.now ++ behind.now) && put_one_between (steps.now ++ behind.now)) }
+{
+    steps.len() + behind.len() <= MOST_STEPS && between_count(steps) + between_count(behind) <= 1
+}
+
+/// Stream k may have these steps, and a second side with the steps behind it.
+pub(crate) fn check_steps(
+    steps: &List<Step>,
+    second: &Option<Second>,
+    k: u32,
+) -> Result<(), Refused>
+    ensures fitting { ReadsAs (λ u. u) result (are_fitting k (steps.now ++ steps_behind second.now)) }
+    ensures few { IfOk result (λ u. length (steps.now ++ steps_behind second.now) ≤ most_steps) }
+    ensures between { IfOk result (λ u. count_by puts_between (steps.now ++ steps_behind second.now) ≤ 1) }
+{
+    if !are_fitting(steps.as_slice(), steps_behind(second)) {
         return Err(refuse(RefusalKind::OutOfRange, Position::InStream(k)));
     }
     Ok(())
-}
-
-/// The kind behind a step.
-fn kind_behind_step(step: &Step, kind: Kind) -> Result<Kind, KindFault>
-    ensures { result_ok result ≡ kind_behind_step step.now kind }
-{
-    match step {
-        Step::Take(_) => Ok(kind),
-        Step::Pipe(pipe) => pipe.kind(kind),
-    }
-}
-
-/// The kind of what the steps of stream k give.
-pub(crate) fn kind_given(steps: &[Step], k: u32) -> Result<Kind, Refused>
-    requires { length steps.now ≤ most_steps }
-    ensures meant { ReadsAs (λ j. j) result (kind_given k steps.now) }
-    ensures kind { IfOk result (λ j. IsOk (kind_given k steps.now)) }
-{
-    let mut kind = Kind::Bytes;
-    for i in 0..steps.len() {
-        match kind_behind_step(&steps[i], kind) {
-            Ok(next) => kind = next,
-            Err(_) => return Err(refuse(RefusalKind::KindClash, Position::AtStep(k, i as u32))),
-        }
-    }
-    Ok(kind)
 }

@@ -1,9 +1,12 @@
-use crate::{RefusalKind, Refused, Step, events, node, read, rows};
-use pull_nodes::{Kind, Pipe};
+use crate::{RefusalKind, Refused, read};
 use std::alloc::Global;
-use std::fmt::Write;
 use std::process::Abort;
 use std::test::Fail;
+
+mod plans;
+mod several;
+mod sides;
+mod tables;
 
 /// The number, the stream and the step of the refusal; 0 where there is a plan.
 fn answer(alloc: Global, bytes: &[u8]) -> (u8, Option<u32>, Option<u32>) {
@@ -109,17 +112,11 @@ fn values_of_the_top(rt: HostRuntime) {
     is(&rt, alloc, "table = []", 0);
     is(&rt, alloc, "table = 1", 3);
     is(&rt, alloc, "table = [1]", 3);
-    is(&rt, alloc, "[[table]]\nname = 't'\npath = 'a'\n", 4);
+    is(&rt, alloc, "table = [{}]\n", 3);
     is(&rt, alloc, "stream = []", 0);
     is(&rt, alloc, "stream = 1", 3);
     is(&rt, alloc, "stream = [1]", 3);
     is(&rt, alloc, "[stream]\npath = 'a'\n", 3);
-    is(
-        &rt,
-        alloc,
-        "[[stream]]\npath = 'a'\n[[stream]]\npath = 'b'\n",
-        4,
-    );
 }
 
 #[test]
@@ -131,10 +128,9 @@ fn the_first_fault_of_the_top(rt: HostRuntime) {
     is(&rt, alloc, "queue = 0\nchunk = 'a'", 4);
     is(&rt, alloc, "chunk = 'a'\ntake = -1", 3);
     is(&rt, alloc, "take = -1\ntable = 1", 4);
-    is(&rt, alloc, "stream = 1\n[[table]]\n", 4);
+    is(&rt, alloc, "stream = 1\n[[table]]\n", 3);
     is(&rt, alloc, "table = 1\nstream = [{}, {}]", 3);
     is(&rt, alloc, "stream = [1, {}]", 3);
-    is(&rt, alloc, "stream = [{}, {}]", 4);
     is_in_stream(&rt, alloc, "stream = [{}]", 3);
     is(&rt, alloc, "chunk = 0\nstream = [{}]", 4);
 }
@@ -145,11 +141,7 @@ fn values_of_a_stream(rt: HostRuntime) {
     is_in_stream(&rt, alloc, "[[stream]]\n", 3);
     is_in_stream(&rt, alloc, "[[stream]]\npath = 1\n", 3);
     is_in_stream(&rt, alloc, "[[stream]]\npath = ''\n", 4);
-    is_in_stream(&rt, alloc, "[[stream]]\npath = 'a'\nwith = 'b'\n", 2);
-    is_in_stream(&rt, alloc, "[[stream]]\npath = 'a'\njoin = 'zip'\n", 2);
-    is_in_stream(&rt, alloc, "[[stream]]\npath = 'a'\nafter = []\n", 2);
-    is_in_stream(&rt, alloc, "[[stream]]\npath = 'a'\nto = 'b'\n", 2);
-    is_in_stream(&rt, alloc, "[[stream]]\npath = 'a'\nuntil = 0\n", 2);
+    is_in_stream(&rt, alloc, "[[stream]]\npath = 'a'\nuntil = 0\n", 8);
     is_in_stream(&rt, alloc, "[[stream]]\npath = 'a'\nsteps = 'lines'\n", 3);
     is_in_stream(
         &rt,
@@ -205,9 +197,12 @@ fn steps_that_are_refused(rt: HostRuntime) {
     is_at_step(&rt, alloc, "'lines '", 5, 0);
     is_at_step(&rt, alloc, "'Lines'", 5, 0);
     is_at_step(&rt, alloc, "'lines', 'take'", 5, 1);
-    is_at_step(&rt, alloc, "'csv'", 5, 0);
-    is_at_step(&rt, alloc, "'field 1'", 5, 0);
-    is_at_step(&rt, alloc, "'lookup t 0'", 5, 0);
+    is_at_step(&rt, alloc, "'csv 1'", 5, 0);
+    is_at_step(&rt, alloc, "'field'", 5, 0);
+    is_at_step(&rt, alloc, "'lookup'", 5, 0);
+    is_at_step(&rt, alloc, "'field -1'", 4, 0);
+    is_at_step(&rt, alloc, "'field 1000000000'", 4, 0);
+    is_at_step(&rt, alloc, "'lookup t 0'", 7, 0);
     is_at_step(&rt, alloc, "'take '", 4, 0);
     is_at_step(&rt, alloc, "'take -1'", 4, 0);
     is_at_step(&rt, alloc, "'take +1'", 4, 0);
@@ -236,6 +231,10 @@ fn steps_that_get_another_kind(rt: HostRuntime) {
         4,
     );
     is_at_step(&rt, alloc, "'count', 'hex'", 6, 1);
+    is_at_step(&rt, alloc, "'lines', 'csv'", 6, 1);
+    is_at_step(&rt, alloc, "'field 0'", 6, 0);
+    is_at_step(&rt, alloc, "'csv', 'number'", 6, 1);
+    is_at_step(&rt, alloc, "'csv', 'field 0', 'field 0'", 6, 2);
     is_at_step(&rt, alloc, "'hex', 'utf8', 'shout'", 5, 2);
 }
 
@@ -253,152 +252,5 @@ fn too_many_steps(rt: HostRuntime) -> Result<(), Fail> {
     is_in_stream(&rt, alloc, text.as_str(), 3);
     let twice = "[[stream]]\npath = 'a'\nsteps = ['intersperse a', 'intersperse b']\n";
     is_in_stream(&rt, alloc, twice, 4);
-    Ok(())
-}
-
-fn write_step(out: &mut String, step: &Step) -> Result<(), Fail> {
-    match step {
-        Step::Take(n) => write!(out, " take {n}")?,
-        Step::Pipe(pipe) => match pipe {
-            Pipe::Utf8 => out.push_str(" utf8")?,
-            Pipe::Lossy => out.push_str(" lossy")?,
-            Pipe::Lines => out.push_str(" lines")?,
-            Pipe::Hex => out.push_str(" hex")?,
-            Pipe::Upper => out.push_str(" upper")?,
-            Pipe::Drop(n) => write!(out, " drop {n}")?,
-            Pipe::Filter(text) => write!(out, " filter {:?}", text.as_slice())?,
-            Pipe::Changes => out.push_str(" changes")?,
-            Pipe::Number => out.push_str(" number")?,
-            Pipe::Count => out.push_str(" count")?,
-            Pipe::Intersperse(text) => write!(out, " intersperse {:?}", text.as_slice())?,
-            Pipe::ChunkN(n) => write!(out, " chunk {n}")?,
-        },
-    }
-    Ok(())
-}
-
-/// The plan of a description, written out.
-fn told(alloc: Global, text: &str) -> Result<String, Fail> {
-    let plan = read(alloc, text.as_bytes())?;
-    let mut out = format!(in alloc; "{} {} {}", plan.max_open(), plan.queue(), plan.chunk())?;
-    if let Some(n) = plan.take() {
-        write!(out, " take {n}")?;
-    }
-    for stream in plan.streams().as_slice() {
-        write!(out, " / {}", stream.path.as_str())?;
-        for step in stream.steps.as_slice() {
-            write_step(&mut out, step)?;
-        }
-        if let Some(text) = &stream.on_fault {
-            write!(out, " or {:?}", text.as_slice())?;
-        }
-    }
-    Ok(out)
-}
-
-fn tells(rt: &impl Abort, alloc: Global, text: &str, wanted: &str) -> Result<(), Fail> {
-    let out = told(alloc, text)?;
-    assert_eq!(rt; out.as_str(), wanted);
-    Ok(())
-}
-
-#[test]
-fn plans_of_descriptions(rt: HostRuntime) -> Result<(), Fail> {
-    let alloc = rt.alloc();
-    tells(&rt, alloc, "", "4 16 4096")?;
-    tells(
-        &rt,
-        alloc,
-        "version = 1\nmax_open = 64\nqueue = 1\nchunk = 0x10\ntake = 1_000",
-        "64 1 16 take 1000",
-    )?;
-    tells(&rt, alloc, "take = 0", "4 16 4096 take 0")?;
-    tells(
-        &rt,
-        alloc,
-        "chunk = 2\n[[stream]]\npath = \"a\"\nsteps = [\"lines\"]\n",
-        "4 16 2 / a lines",
-    )?;
-    tells(
-        &rt,
-        alloc,
-        "chunk = 1\n[[stream]]\npath = \"a\"\nsteps = [\"utf8\"]\n",
-        "4 16 1 / a utf8",
-    )?;
-    tells(
-        &rt,
-        alloc,
-        "[[stream]]\npath = \"a\"\nsteps = [\"lossy\", \"hex\"]\n",
-        "4 16 4096 / a lossy hex",
-    )?;
-    tells(
-        &rt,
-        alloc,
-        "[[stream]]\npath = \"a\"\nsteps = [\"lines\"]\non_fault = \"lost\"\n",
-        "4 16 4096 / a lines or [108, 111, 115, 116]",
-    )?;
-    tells(
-        &rt,
-        alloc,
-        "[[stream]]\npath = \"a\"\nsteps = [\"lines\", \"take 2\"]\n",
-        "4 16 4096 / a lines take 2",
-    )?;
-    tells(
-        &rt,
-        alloc,
-        "[[stream]]\npath = \"a\"\nsteps = [\"utf8\", \"lines\", \"filter ERROR\", \"number\"]\n",
-        "4 16 4096 / a utf8 lines filter [69, 82, 82, 79, 82] number",
-    )?;
-    tells(
-        &rt,
-        alloc,
-        "[[stream]]\npath = 'a b'\nsteps = ['upper', 'drop 000000007', 'chunk 064', 'lines', 'changes', 'intersperse ', 'filter a b', 'count', 'take 999999999']\n",
-        "4 16 4096 / a b upper drop 7 chunk 64 lines changes intersperse [] filter [97, 32, 98] count take 999999999",
-    )?;
-    Ok(())
-}
-
-/// The kind, the events and the row of a plan's stream.
-fn stream_is(
-    rt: &impl Abort,
-    alloc: Global,
-    text: &str,
-    kind: Kind,
-    most: u64,
-) -> Result<(), Fail> {
-    let plan = read(alloc, text.as_bytes())?;
-    assert!(rt; !plan.streams().is_empty());
-    let rows = rows(&plan, 0);
-    assert_eq!(rt; (rows.from, rows.to), (0, 1));
-    assert_eq!(rt; events(&plan, 0), most);
-    let node = node(alloc, &plan, 0)?;
-    assert_eq!(rt; node.kind(), Ok(kind));
-    assert!(rt; node.placed(rows));
-    assert_eq!(rt; node.events() + 1, most);
-    Ok(())
-}
-
-#[test]
-fn nodes_of_streams(rt: HostRuntime) -> Result<(), Fail> {
-    let alloc = rt.alloc();
-    stream_is(&rt, alloc, "[[stream]]\npath = 'a'\n", Kind::Bytes, 4)?;
-    stream_is(
-        &rt,
-        alloc,
-        "[[stream]]\npath = 'a'\non_fault = ''\n",
-        Kind::Bytes,
-        6,
-    )?;
-    let lines =
-        "[[stream]]\npath = 'a'\nsteps = ['lines', 'take 2', 'filter E', 'intersperse -']\non_fault = 'lost'\n";
-    stream_is(&rt, alloc, lines, Kind::Lines, 6)
-}
-
-#[test]
-fn another_number_of_open_streams(rt: HostRuntime) -> Result<(), Fail> {
-    let alloc = rt.alloc();
-    let plan = read(alloc, b"max_open = 2\nqueue = 3\n")?.with_max_open(64);
-    assert_eq!(rt; plan.max_open(), 64);
-    assert_eq!(rt; plan.queue(), 3);
     Ok(())
 }

@@ -14,6 +14,9 @@ use chunk_core::{Line, Word};
 use std::alloc::Global;
 use toml::{Table, Value};
 
+/// The most bytes of a path.
+pub(crate) const LONGEST_PATH: usize = 1024;
+
 /// The value at a key.
 pub(crate) fn member<'a>(table: &'a Table, key: &str) -> Option<&'a Value>
     ensures { option_map (λ v. view v.now) result ≡ get_member key.now (table_view table.now) }
@@ -68,17 +71,18 @@ fn number(value: &Value, low: u32, high: u32, position: Position) -> Result<u32,
     }
 }
 
-/// A number within limits, where there is a value.
+/// The number within limits at a key, where there is one.
 pub(crate) fn number_or_none(
-    value: Option<&Value>,
+    table: &Table,
+    key: &str,
     low: u32,
     high: u32,
     position: Position,
 ) -> Result<Option<u32>, Refused>
-    ensures meant { ReadsAs (λ n. n) result (where_given (number_within low high position) (option_map (λ v. view v.now) value.entry)) }
+    ensures meant { ReadsAs (λ n. n) result (where_given (number_within low high position) (get_member key.now (table_view table.now))) }
     ensures within { IfOk result (λ n. IfSome n (λ m. (low ≤ m) × (m ≤ high))) }
 {
-    match value {
+    match member(table, key) {
         Some(value) => Ok(Some(number(value, low, high, position)?)),
         None => Ok(None),
     }
@@ -99,36 +103,57 @@ fn text(value: &Value, low: usize, high: usize, position: Position) -> Result<&s
     }
 }
 
-/// A text of so many bytes, which has to be there, as a word.
+/// The text of so many bytes at a key, which has to be there, as a word.
 pub(crate) fn word(
     alloc: Global,
-    value: Option<&Value>,
+    table: &Table,
+    key: &str,
     low: usize,
     high: usize,
     position: Position,
 ) -> Result<Word, Refused>
-    ensures meant { ReadsAs (λ w. w) result (required (text_that (is_sized low high) position) position (option_map (λ v. view v.now) value.entry)) }
+    ensures meant { ReadsAs (λ w. w) result (required (text_that (is_sized low high) position) position (get_member key.now (table_view table.now))) }
     ensures sound { IfOk result (λ w. is_sized low high w ≡ true) }
 {
-    let Some(value) = value else {
+    let Some(value) = member(table, key) else {
         return Err(refuse(RefusalKind::WrongType, position));
     };
     let text = text(value, low, high, position)?;
     Ok(Word::of(alloc, text)?)
 }
 
-/// A text of so many bytes, where there is a value, as a line.
+/// The text of so many bytes at a key, where there is one, as a word.
+pub(crate) fn word_or_none(
+    alloc: Global,
+    table: &Table,
+    key: &str,
+    low: usize,
+    high: usize,
+    position: Position,
+) -> Result<Option<Word>, Refused>
+    ensures meant { ReadsAs (λ o. o) result (where_given (text_that (is_sized low high) position) (get_member key.now (table_view table.now))) }
+    ensures sound { IfOk result (λ o. IfSome o (λ w. is_sized low high w ≡ true)) }
+{
+    let Some(value) = member(table, key) else {
+        return Ok(None);
+    };
+    let text = text(value, low, high, position)?;
+    Ok(Some(Word::of(alloc, text)?))
+}
+
+/// The text of so many bytes at a key, where there is one, as a line.
 pub(crate) fn line_or_none(
     alloc: Global,
-    value: Option<&Value>,
+    table: &Table,
+    key: &str,
     low: usize,
     high: usize,
     position: Position,
 ) -> Result<Option<Line>, Refused>
-    ensures meant { ReadsAs (λ o. o) result (where_given (text_that (is_sized low high) position) (option_map (λ v. view v.now) value.entry)) }
+    ensures meant { ReadsAs (λ o. o) result (where_given (text_that (is_sized low high) position) (get_member key.now (table_view table.now))) }
     ensures sound { IfOk result (λ o. IfSome o (λ x. is_sized low high x ≡ true)) }
 {
-    let Some(value) = value else {
+    let Some(value) = member(table, key) else {
         return Ok(None);
     };
     let text = text(value, low, high, position)?;
@@ -149,11 +174,11 @@ fn are_texts(values: &[Value]) -> bool
     values.iter().all(|value| value.is_str())
 }
 
-/// The values of an array, or none where there is no value.
-fn array(value: Option<&Value>, position: Position) -> Result<&[Value], Refused>
-    ensures { ReadsAs (λ s. items_view s.now) result (array_at position (option_map (λ v. view v.now) value.entry)) }
+/// The values of the array at a key, or none where there is no value.
+fn array<'a>(table: &'a Table, key: &str, position: Position) -> Result<&'a [Value], Refused>
+    ensures { ReadsAs (λ s. items_view s.now) result (array_at position (get_member key.now (table_view table.now))) }
 {
-    let Some(value) = value else {
+    let Some(value) = member(table, key) else {
         return Ok(&[]);
     };
     match value.as_array() {
@@ -162,25 +187,29 @@ fn array(value: Option<&Value>, position: Position) -> Result<&[Value], Refused>
     }
 }
 
-/// The texts of an array, or none where there is no value.
-pub(crate) fn texts(value: Option<&Value>, position: Position) -> Result<&[Value], Refused>
-    ensures meant { ReadsAs (λ s. seen_as as_str s.now) result (list_at as_str position (option_map (λ v. view v.now) value.entry)) }
+/// The texts of the array at a key, or none where there is no value.
+pub(crate) fn texts<'a>(
+    table: &'a Table,
+    key: &str,
+    position: Position,
+) -> Result<&'a [Value], Refused>
+    ensures meant { ReadsAs (λ s. seen_as as_str s.now) result (list_at as_str position (get_member key.now (table_view table.now))) }
     ensures seen { IfOk result (λ s. is_some (each_as as_str (items_view s.now)) ≡ true) }
 {
-    let values = array(value, position)?;
+    let values = array(table, key, position)?;
     if !are_texts(values) {
         return Err(refuse(RefusalKind::WrongType, position));
     }
     Ok(values)
 }
 
-/// The tables of an array of at most so many, or none where there is no value.
-pub(crate) fn tables(value: Option<&Value>, most: usize) -> Result<&[Value], Refused>
-    ensures meant { ReadsAs (λ s. seen_as as_table s.now) result (tables_at most (option_map (λ v. view v.now) value.entry)) }
+/// The tables of the array at a key, of at most so many, or none where there is no value.
+pub(crate) fn tables<'a>(table: &'a Table, key: &str, most: usize) -> Result<&'a [Value], Refused>
+    ensures meant { ReadsAs (λ s. seen_as as_table s.now) result (tables_at most (get_member key.now (table_view table.now))) }
     ensures seen { IfOk result (λ s. is_some (each_as as_table (items_view s.now)) ≡ true) }
     ensures few { IfOk result (λ s. length s.now ≤ most) }
 {
-    let values = array(value, Position::Nowhere)?;
+    let values = array(table, key, Position::Nowhere)?;
     if !are_tables(values) {
         return Err(refuse(RefusalKind::WrongType, Position::Nowhere));
     }

@@ -1,11 +1,11 @@
 //! The word of one step.
-ghost use Rattle.std.specs.Prelude.{◌≡◌, ◌≤◌, ◌==◌, true, option_map, IfOk};
+ghost use Rattle.std.specs.Prelude.{◌≡◌, ◌≤◌, ◌==◌, true, option_map, length, IfOk};
 ghost use Rattle.std.specs.List.{list_all, position};
 ghost use Rattle.std.specs.Char.{is_ascii_digit};
 ghost use Rattle.pipeline_desc.specs.Limits.{is_sized};
 ghost use Rattle.pipeline_desc.specs.Reading.{ReadsAs};
-ghost use Rattle.pipeline_desc.specs.Sound.{is_sound_step};
-ghost use Rattle.pipeline_desc.specs.Steps.{before_space, behind_space, is_number, number_argument, plain_pipe, step_meant, step_named, step_with, text_argument, written_number};
+ghost use Rattle.pipeline_desc.specs.Sound.{is_sound_pipe, is_sound_step};
+ghost use Rattle.pipeline_desc.specs.Steps.{before_space, behind_space, is_number, lookup_argument, number_argument, plain_pipe, step_meant, step_named, step_with, text_argument, written_number};
 
 use crate::refusal::{Position, RefusalKind, Refused, refuse};
 use crate::setting::Setting;
@@ -76,6 +76,22 @@ fn text_in(
     }
 }
 
+/// The name of a table, one space, and a number, which are a step's argument.
+fn lookup(setting: &Setting<'_>, text: &[u8], position: Position) -> Result<Pipe, Refused>
+    ensures meant { ReadsAs (λ p. p) result (lookup_argument setting.now.tables position text.now) }
+    ensures sound { IfOk result (λ p. is_sound_pipe (length setting.now.tables) p ≡ true) }
+{
+    let (name, number) = cut(text);
+    let Some(number) = number else {
+        return Err(refuse(RefusalKind::OutOfRange, position));
+    };
+    let field = number_in(number, 0, 999_999_999, position)?;
+    match setting.table(name) {
+        Some(table) => Ok(Pipe::Lookup(table, field)),
+        None => Err(refuse(RefusalKind::UnknownTable, position)),
+    }
+}
+
 /// The pipe of a step that takes no argument.
 fn plain(name: &[u8]) -> Option<Pipe>
     ensures { result ≡ plain_pipe name.now }
@@ -90,6 +106,8 @@ fn plain(name: &[u8]) -> Option<Pipe>
         Some(Pipe::Hex)
     } else if name == b"lines".as_slice() {
         Some(Pipe::Lines)
+    } else if name == b"csv".as_slice() {
+        Some(Pipe::Csv)
     } else if name == b"changes".as_slice() {
         Some(Pipe::Changes)
     } else if name == b"number".as_slice() {
@@ -102,9 +120,15 @@ fn plain(name: &[u8]) -> Option<Pipe>
 }
 
 /// A step with an argument.
-fn with(alloc: Global, name: &[u8], argument: &[u8], position: Position) -> Result<Step, Refused>
-    ensures meant { ReadsAs (λ s. s) result (step_with position name.now argument.now) }
-    ensures sound { IfOk result (λ s. is_sound_step s ≡ true) }
+fn with(
+    alloc: Global,
+    setting: &Setting<'_>,
+    name: &[u8],
+    argument: &[u8],
+    position: Position,
+) -> Result<Step, Refused>
+    ensures meant { ReadsAs (λ s. s) result (step_with setting.now.tables position name.now argument.now) }
+    ensures sound { IfOk result (λ s. is_sound_step (length setting.now.tables) s ≡ true) }
 {
     if name == b"take".as_slice() {
         let n = number_in(argument, 0, 999_999_999, position)?;
@@ -113,6 +137,13 @@ fn with(alloc: Global, name: &[u8], argument: &[u8], position: Position) -> Resu
     if name == b"drop".as_slice() {
         let n = number_in(argument, 0, 999_999_999, position)?;
         return Ok(Step::Pipe(Pipe::Drop(u64::from(n))));
+    }
+    if name == b"field".as_slice() {
+        let i = number_in(argument, 0, 999_999_999, position)?;
+        return Ok(Step::Pipe(Pipe::Field(i)));
+    }
+    if name == b"lookup".as_slice() {
+        return Ok(Step::Pipe(lookup(setting, argument, position)?));
     }
     if name == b"filter".as_slice() {
         let text = text_in(alloc, argument, 1, 1024, position)?;
@@ -132,15 +163,16 @@ fn with(alloc: Global, name: &[u8], argument: &[u8], position: Position) -> Resu
 /// A step by its name, and its argument where there is one.
 fn named(
     alloc: Global,
+    setting: &Setting<'_>,
     name: &[u8],
     argument: Option<&[u8]>,
     position: Position,
 ) -> Result<Step, Refused>
-    ensures meant { ReadsAs (λ s. s) result (step_named position name.now (option_map (λ t. t.now) argument.entry)) }
-    ensures sound { IfOk result (λ s. is_sound_step s ≡ true) }
+    ensures meant { ReadsAs (λ s. s) result (step_named setting.now.tables position name.now (option_map (λ t. t.now) argument.entry)) }
+    ensures sound { IfOk result (λ s. is_sound_step (length setting.now.tables) s ≡ true) }
 {
     if let Some(argument) = argument {
-        return with(alloc, name, argument, position);
+        return with(alloc, setting, name, argument, position);
     }
     match plain(name) {
         Some(pipe) => Ok(Step::Pipe(pipe)),
@@ -166,17 +198,17 @@ fn cut(word: &[u8]) -> (&[u8], Option<&[u8]>)
     }
 }
 
-/// The step that a word means, as step i of stream k. No step names a table as yet.
+/// The step that a word means, as step i of stream k.
 pub(crate) fn step(
     alloc: Global,
-    _setting: &Setting<'_>,
+    setting: &Setting<'_>,
     word: &[u8],
     k: u32,
     i: u32,
 ) -> Result<Step, Refused>
-    ensures meant { ReadsAs (λ s. s) result (step_meant _setting.now k i word.now) }
-    ensures sound { IfOk result (λ s. is_sound_step s ≡ true) }
+    ensures meant { ReadsAs (λ s. s) result (step_meant setting.now k i word.now) }
+    ensures sound { IfOk result (λ s. is_sound_step (length setting.now.tables) s ≡ true) }
 {
     let (name, argument) = cut(word);
-    named(alloc, name, argument, Position::AtStep(k, i))
+    named(alloc, setting, name, argument, Position::AtStep(k, i))
 }

@@ -10,8 +10,8 @@ returns c =
     let k = c.args.k in
     let s = c.stream-stream.result.now in
     let r = c.stream_node.result in
-    let given = subst (λ q. IfOk r (IsStreamNode q s)) c.first_row-place.ensures c.stream_node.ensures in
-    let told = of_given (IsStreamNode _ s) (IsTold p k) r given (λ n h. told_of p k s n c.requires c.stream-stream.ensures.value c.stream-stream.ensures.sound.few h) in
+    let given = subst (λ q. IfOk r (IsStreamNode q s)) c.first_row-place.ensures.row c.stream_node.ensures in
+    let told = of_given (IsStreamNode _ s) (IsTold p k) r given (λ n h. told_of p k s n c.stream-stream.ensures.value c.stream-stream.ensures.sound.few h) in
     record {
       node = of_given (IsTold p k) _ r told (λ n t. t.node);
       kind = of_given (IsTold p k) _ r told (λ n t. t.kind);

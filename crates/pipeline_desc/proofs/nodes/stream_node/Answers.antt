@@ -1,17 +1,14 @@
-use Rattle.std.proofs.Common.{◌∙◌, ℕ, List, Some, ap, sym}
-use Rattle.std.specs.Prelude.{is_some}
-use Rattle.std.specs.Result.{result_ok}
-use Rattle.std.proofs.lemmas.Bool.{false≢true}
-use Rattle.pipeline_desc.proofs.NodeLaws.{body_has_kind, node_with_text}
+use Rattle.std.proofs.Common.{subst}
+use Rattle.pipeline_desc.specs.Nodes.{IsBody}
+use Rattle.pipeline_desc.proofs.NodeLaws.{body_has_kind, node_written}
 use Rattle.pipeline_desc.proofs.nodes.stream_node.Goals as goal
 
-pub unreachable-requires : goal.unreachable-requires
-unreachable-requires c =
-    let some = body_has_kind c.args.place c.requires.0 c.args.stream.now c.in_ok-body.body c.requires.1 c.in_ok-body.ensures in
-    false≢true (ap is_some (sym (ap result_ok c.in_default.is) ∙ c.kind.ensures) ∙ some)
+pub with_text-requires : goal.with_text-requires
+with_text-requires c =
+    body_has_kind _ c.requires.kind.0 c.args.stream.now c.in_ok-body.body c.requires.kind.1 c.in_ok-body.ensures
 
-pub returns-in-Some : goal.returns-in-Some
-returns-in-Some c =
-    let given = c.in-Some.is ∙ ap (λ (t : List ℕ). Some t) (sym c.as_slice.ensures) in
-    node_with_text c.args.place c.args.stream.now c.in-Ok.kind c.in_ok-body.body c.as_slice.result.now c.or_text.result given c.in_ok-body.ensures
-    (sym c.kind.ensures ∙ ap result_ok c.in-Ok.is) c.or_text.ensures
+pub returns : goal.returns
+returns c =
+    let text = c.in_ok-part.ensures in
+    let body = subst (λ r. IsBody r c.args.stream.now c.in_ok-body.body) c.path_row.ensures.value c.in_ok-body.ensures in
+    node_written c.args.place c.args.stream.now c.in_ok-body.body c.in_ok-part.part text.0 c.written.result body text.1 text.2 c.written.ensures

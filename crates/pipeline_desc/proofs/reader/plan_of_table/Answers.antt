@@ -15,5 +15,7 @@ of-requires c = record {
   few_taken = search rules;
   few_tables = search rules;
   few_streams = search rules;
+  tables = search rules;
   streams = let s = c.in_ok-streams.streams in subst (λ (t : List TableSpec). AreSoundStreams (setting_of t (length s)) s) c.as_slice.ensures c.in_ok-streams.ensures.sound;
+  alone = search rules;
 }

@@ -1,4 +1,4 @@
-use Rattle.std.proofs.Common.{◌≡◌, drop, length, true}
+use Rattle.std.proofs.Common.{◌≡◌, ◌+◌, drop, length, true}
 use Rattle.std.specs.List.{list_all}
 use Rattle.toml.specs.Data.{as_str}
 use Rattle.pipeline_desc.specs.Sound.{is_sound_step}
@@ -10,7 +10,7 @@ use Rattle.pipeline_desc.proofs.steps.each_step.Given as goal
 
 abbrev pub invariant-loop-i : goal.invariant-loop-i
 invariant-loop-i l = record {
-  count : l.count ≡ length l.words;
-  read : each_from (step_meant l.setting l.k) 0 (seen_as as_str l.words) ≡ after l.steps (each_from (step_meant l.setting l.k) l.i (drop l.i (seen_as as_str l.words)));
-  sound : list_all is_sound_step l.steps ≡ true;
+  read : each_from (step_meant l.setting l.k) l.first (seen_as as_str l.words) ≡ after l.steps (each_from (step_meant l.setting l.k) (l.first + l.i) (drop l.i (seen_as as_str l.words)));
+  sound : list_all (is_sound_step (length l.setting.tables)) l.steps ≡ true;
+  count : length l.steps ≡ l.i;
 }

@@ -1,0 +1,56 @@
+-- The rows of a plan, each with its place: a path, and whether it is read or written.
+use Rattle.std.specs.Prelude.{ℕ, ◌+◌, ◌-◌, Bool, List, [], ◌∷◌, ◌++◌, length, map, take, Option, option_map, option_to_list, if◌then◌else◌}
+use Rattle.std.specs.List.{flat_map, range_with_len, sum_by}
+use Rattle.chunk_core.specs.declared.code.Span.{Span}
+use Rattle.device_port.specs.Device.{Place}
+use Rattle.device_port.specs.declared.device.Mode.{Mode}
+use Rattle.device_port.specs.declared.device.Mode.TheVariants as mode
+use Rattle.pipeline_desc.specs.Meant.{PlanMeant}
+use Rattle.pipeline_desc.specs.declared.stream.Second.{Second}
+use Rattle.pipeline_desc.specs.declared.stream.StreamSpec.{StreamSpec}
+use Rattle.pipeline_desc.specs.declared.table.TableSpec.{TableSpec}
+
+-- a path is read
+abbrev pub read_at : List ℕ → Place
+read_at path = record { path = path; mode = mode.Read }
+
+-- a path is written
+abbrev pub write_at : List ℕ → Place
+write_at path = record { path = path; mode = mode.Write }
+
+-- the path of a second side, where there is one
+abbrev pub second_path : Option Second → Option (List ℕ)
+second_path second = option_map (λ x. x.path) second
+
+-- the places of a stream's rows, in order: its `to`, its `path` and its `with`, without those that aren't given
+abbrev pub stream_places : StreamSpec → List Place
+stream_places s = option_to_list (option_map write_at s.to) ++ read_at s.path ∷ option_to_list (option_map read_at (second_path s.second))
+
+-- the places of the tables' rows
+abbrev pub table_places : List TableSpec → List Place
+table_places tables = map (λ t. read_at t.path) tables
+
+-- the places of all rows, in the order of the rows: those of the tables come first, and then those of each stream
+abbrev pub all_places : List TableSpec → List StreamSpec → List Place
+all_places tables streams = table_places tables ++ flat_map stream_places streams
+
+-- how many rows a stream has
+abbrev pub row_count : StreamSpec → ℕ
+row_count s = length (stream_places s)
+
+-- the first row of stream k
+abbrev pub first_row : PlanMeant → ℕ → ℕ
+first_row p k = length p.tables + sum_by row_count (take k p.streams)
+
+-- the rows of stream k, which end where those of the next one begin
+abbrev pub rows_of : PlanMeant → ℕ → Span
+rows_of p k = record { from = first_row p k; to = first_row p (k + 1) }
+
+-- the rows of a span, in order
+abbrev pub rows_within : Span → List ℕ
+rows_within span = range_with_len span.from (span.to - span.from)
+
+-- of places, the first of which is that of this row, the rows whose mode passes
+abbrev pub rows_that : (Mode → Bool) → ℕ → List Place → List ℕ
+rows_that test row [] = []
+rows_that test row (p ∷ places) = if test p.mode then (row ∷ rows_that test (row + 1) places) else rows_that test (row + 1) places
