@@ -1,0 +1,33 @@
+-- What a command of clap matches in words that it takes.
+use Rattle.std.proofs.Common.{◌≡◌, true, List, [], Option, Some, ap, ◌∙◌}
+use Rattle.std.proofs.lemmas.Bool.{and_parts}
+use Rattle.std.specs.Prelude.{codes, option_and_then}
+use Rattle.clap.specs.Words.{App, Row, Text, fault_of, first_of, first_value, is_simple, is_simple_and_free, matches_of, rows_of}
+use Rattle.clap.specs.declared.parser.matches.Found.{Found}
+use Rattle.clap.proofs.WalkLemmas.{first_value-rows}
+use Rattle.command_words.specs.Words.{cat_app, cat_at, cat_of, gen_app, gen_at, gen_of, rows_read, run_app, run_at, run_of}
+
+pub simple_if_free : (app : App) → is_simple_and_free app ≡ true → is_simple app ≡ true
+simple_if_free app e = (and_parts (is_simple app) _ e).0
+
+pub read_if_taken : (app : App) (words : List Text) (rows : List Row) → fault_of app words ≡ [] → rows ≡ matches_of app words → Some rows ≡ rows_read app words
+read_if_taken app words rows free is = rw (free, is)
+
+-- the command and the words by their other names
+pub rows_at : (called app : App) (given words : List Text) (rows : Option (List Row)) → called ≡ app → given ≡ words → rows ≡ rows_read called given → rows ≡ rows_read app words
+rows_at called app given words rows e i h = h ∙ (ap (λ a. rows_read a given) e ∙ ap (λ ws. rows_read app ws) i)
+
+-- what the getters give is what the words ask for
+pub cat_read : (words : List Text) (f : Found) (chunk path : Option Text) → Some (rows_of f) ≡ rows_read cat_app words → chunk ≡ first_value f (codes "chunk") → path ≡ first_value f (codes "path") → cat_at chunk path ≡ cat_of words
+cat_read words f chunk path is c p =
+    rw (c, p, first_value-rows f (codes "chunk"), first_value-rows f (codes "path"))
+    (ap (λ rows. option_and_then (λ (rs : List Row). cat_at (first_of (codes "chunk") rs) (first_of (codes "path") rs)) rows) is)
+
+pub run_read : (words : List Text) (f : Found) (most : Option Text) → Some (rows_of f) ≡ rows_read run_app words → most ≡ first_value f (codes "max-open") → run_at most ≡ run_of words
+run_read words f most is m = rw (m, first_value-rows f (codes "max-open")) (ap (λ rows. option_and_then (λ (rs : List Row). run_at (first_of (codes "max-open") rs)) rows) is)
+
+pub gen_read : (words : List Text) (f : Found) (seed streams lines : Option Text) → Some (rows_of f) ≡ rows_read gen_app words → seed ≡ first_value f (codes "seed") → streams ≡ first_value f (codes "streams")
+    → lines ≡ first_value f (codes "lines") → gen_at seed streams lines ≡ gen_of words
+gen_read words f seed streams lines is s n l =
+    rw (s, n, l, first_value-rows f (codes "seed"), first_value-rows f (codes "streams"), first_value-rows f (codes "lines"))
+    (ap (λ rows. option_and_then (λ (rs : List Row). gen_at (first_of (codes "seed") rs) (first_of (codes "streams") rs) (first_of (codes "lines") rs)) rows) is)

@@ -1,0 +1,92 @@
+-- What the words of a command line mean, by what `clap` says of a simple command for each.
+use Rattle.std.specs.Prelude.{ℕ, ◌≤◌, Bool, true, ◌&&◌, List, [], ◌∷◌, length, nat_le, Option, Some, None, option_and_then, option_map, IfSome, if◌then◌else◌, codes}
+use Rattle.std.specs.Str.{bytes_eq}
+use Rattle.clap.specs.Words.{App, Row, Rule, Text, fault_of, first_of, matches_of, new_app, new_rule, with_rule}
+use Rattle.clap.specs.Simple.{on_top}
+use Rattle.clap.specs.Walk.{is_empty}
+use Rattle.command_words.specs.Numbers.{number_within}
+use Rattle.command_words.specs.declared.asked.Asked.{Asked}
+use Rattle.command_words.specs.declared.asked.Asked.TheVariants.{Cat, Run, Gen}
+
+-- what a command matches in the words, unless it refuses them
+abbrev pub rows_read : App → List Text → Option (List Row)
+rows_read app words = if is_empty (fault_of app words) then Some (matches_of app words) else None
+
+-- a command of this name that gives no help
+abbrev pub silent_app : Text → App
+silent_app name = on_top (λ s. record s { disable_help_flag = true }) (new_app name)
+
+-- an option of this name, with a value
+abbrev pub option_rule : Text → Rule
+option_rule name = record (new_rule name) { long = Some name }
+
+-- a word that has to stand
+abbrev pub word_rule : Text → Rule
+word_rule name = record (new_rule name) { required = true }
+
+-- cat [--chunk N] PATH
+abbrev pub cat_app : App
+cat_app = with_rule (with_rule (silent_app (codes "cat")) (option_rule (codes "chunk"))) (word_rule (codes "path"))
+
+-- run [--max-open N]
+abbrev pub run_app : App
+run_app = with_rule (silent_app (codes "run")) (option_rule (codes "max-open"))
+
+-- gen SEED STREAMS LINES
+abbrev pub gen_app : App
+gen_app = with_rule (with_rule (with_rule (silent_app (codes "gen")) (word_rule (codes "seed"))) (word_rule (codes "streams"))) (word_rule (codes "lines"))
+
+-- a path of 1 to 1,024 bytes
+abbrev pub is_file_path : Text → Bool
+is_file_path path = nat_le 1 (length path) && nat_le (length path) 1024
+
+-- how many bytes a frame has at most, by the text of the option
+abbrev pub chunk_of : Option Text → Option ℕ
+chunk_of None = Some 4096
+chunk_of (Some text) = number_within 1 65536 text
+
+-- one file, by the texts of the option and of the path
+abbrev pub cat_at : Option Text → Option Text → Option Asked
+cat_at chunk None = None
+cat_at chunk (Some path) = option_and_then (λ n. if is_file_path path then Some (Cat n path) else None) (chunk_of chunk)
+
+-- a description, by the text of the option
+abbrev pub run_at : Option Text → Option Asked
+run_at None = Some (Run None)
+run_at (Some text) = option_map (λ n. Run (Some n)) (number_within 1 64 text)
+
+-- a case, by its three numbers
+abbrev pub gen_of_numbers : Option ℕ → Option ℕ → Option ℕ → Option Asked
+gen_of_numbers (Some seed) (Some streams) (Some lines) = Some (Gen seed streams lines)
+gen_of_numbers (Some seed) (Some streams) None = None
+gen_of_numbers (Some seed) None lines = None
+gen_of_numbers None streams lines = None
+
+-- a case, by the texts of its numbers
+abbrev pub gen_at : Option Text → Option Text → Option Text → Option Asked
+gen_at seed streams lines =
+    gen_of_numbers (option_and_then (number_within 0 4294967295) seed) (option_and_then (number_within 1 64) streams) (option_and_then (number_within 0 100000) lines)
+
+-- what the words of `cat` ask for
+abbrev pub cat_of : List Text → Option Asked
+cat_of words = option_and_then (λ rows. cat_at (first_of (codes "chunk") rows) (first_of (codes "path") rows)) (rows_read cat_app words)
+
+-- what the words of `run` ask for
+abbrev pub run_of : List Text → Option Asked
+run_of words = option_and_then (λ rows. run_at (first_of (codes "max-open") rows)) (rows_read run_app words)
+
+-- what the words of `gen` ask for
+abbrev pub gen_of : List Text → Option Asked
+gen_of words = option_and_then (λ rows. gen_at (first_of (codes "seed") rows) (first_of (codes "streams") rows) (first_of (codes "lines") rows)) (rows_read gen_app words)
+
+-- what the words ask for; the first one names the command
+abbrev pub command_of : List Text → Option Asked
+command_of [] = None
+command_of (name ∷ rest) =
+    if bytes_eq name (codes "cat") then cat_of (name ∷ rest) else (if bytes_eq name (codes "run") then run_of (name ∷ rest) else (if bytes_eq name (codes "gen") then gen_of (name ∷ rest) else None))
+
+-- the numbers that are asked for are within their limits
+abbrev pub IsLimited : Asked → Type 0
+IsLimited (Cat chunk path) = (1 ≤ chunk) × (chunk ≤ 65536)
+IsLimited (Run most) = IfSome most (λ n. (1 ≤ n) × (n ≤ 64))
+IsLimited (Gen seed streams lines) = (seed ≤ 4294967295) × (1 ≤ streams) × (streams ≤ 64) × (lines ≤ 100000)

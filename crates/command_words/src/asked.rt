@@ -1,0 +1,45 @@
+//! The commands, and which of them the words ask for.
+ghost use Rattle.std.specs.Prelude.{◌≡◌, IfOk, IfSome};
+ghost use Rattle.std.specs.Str.{bytes_eq};
+ghost use Rattle.command_words.specs.Words.{IsLimited, command_of};
+
+use crate::cat::asked_of_cat;
+use crate::generated::asked_of_gen;
+use crate::run::asked_of_run;
+use chunk_core::Word;
+use std::alloc::{AllocError, Global};
+
+/// What is asked of the program.
+#[derive(Drop)]
+pub enum Asked {
+    /// The file at this path is to be printed, in frames of so many bytes at most.
+    Cat { chunk: u32, path: Word },
+    /// The description that the source has is to be run, with so many streams open at most where
+    /// that is told.
+    Run { max_open: Option<u32> },
+    /// The case of this seed is to be made, run and summed up, with so many streams and so many
+    /// lines in the file of each.
+    Gen { seed: u32, streams: u32, lines: u32 },
+}
+
+/// What the words ask for: `cat [--chunk N] PATH`, with N from 1 to 65,536 (4,096 where it isn't
+/// told) and a PATH of 1 to 1,024 bytes, `run [--max-open N]`, with N from 1 to 64, or
+/// `gen SEED STREAMS LINES`, with 0 to 4,294,967,295, 1 to 64 and 0 to 100,000. Other words mean
+/// nothing.
+pub fn asked_by(alloc: Global, words: &[Word]) -> Result<Option<Asked>, AllocError>
+    ensures asked { IfOk result (λ asked. asked ≡ command_of words.now) }
+    ensures limits { IfOk result (λ asked. IfSome asked IsLimited) }
+{
+    let [name, ..] = words else {
+        return Ok(None);
+    };
+    if name.as_str() == "cat" {
+        asked_of_cat(alloc, words)
+    } else if name.as_str() == "run" {
+        asked_of_run(alloc, words)
+    } else if name.as_str() == "gen" {
+        asked_of_gen(alloc, words)
+    } else {
+        Ok(None)
+    }
+}

@@ -1,0 +1,140 @@
+//! What command lines that are written out ask for, each law the contract of a function that does
+//! nothing.
+ghost use Rattle.std.specs.Prelude.{◌≡◌, ◌≢◌, ◌≤◌, ◌<◌, ℕ, List, [], ◌∷◌, length, codes, Some, None};
+ghost use Rattle.command_words.specs.Spelled.{Asks, AsksNothing};
+ghost use Rattle.command_words.specs.Words.{command_of};
+ghost use Rattle.command_words.specs.declared.asked.Asked.TheVariants.{Cat, Run, Gen};
+
+/// How an option and its number are spelled.
+pub fn chunks_are_spelled()
+    ensures is_default { Asks (codes "cat a") (Cat 4096 (codes "a")) }
+    ensures is_apart { Asks (codes "cat --chunk 4 a") (Cat 4 (codes "a")) }
+    ensures is_attached { Asks (codes "cat --chunk=4 a") (Cat 4 (codes "a")) }
+    ensures is_apart_behind { Asks (codes "cat a --chunk 4") (Cat 4 (codes "a")) }
+    ensures is_attached_behind { Asks (codes "cat a --chunk=4") (Cat 4 (codes "a")) }
+    ensures has_a_plus { Asks (codes "cat --chunk +0004 a") (Cat 4 (codes "a")) }
+    ensures has_two_plus { AsksNothing (codes "cat --chunk ++4 a") }
+    ensures is_attached_plus { Asks (codes "cat --chunk=+4 a") (Cat 4 (codes "a")) }
+    ensures is_word { AsksNothing (codes "cat --chunk four a") }
+    ensures is_attached_twice { AsksNothing (codes "cat --chunk=4=4 a") }
+    ensures is_given_twice { AsksNothing (codes "cat --chunk=4 --chunk=4 a") }
+    ensures is_given_before_and_behind { AsksNothing (codes "cat --chunk 4 a --chunk 5") }
+    ensures is_empty { AsksNothing (codes "cat --chunk= a") }
+    ensures is_without_a_value { AsksNothing (codes "cat a --chunk") }
+    ensures has_the_path_for_its_value { AsksNothing (codes "cat --chunk a") }
+    ensures is_negative { AsksNothing (codes "cat --chunk -4 a") }
+    ensures has_a_hyphen_for_its_value { AsksNothing (codes "cat --chunk - a") }
+    ensures is_behind_two_hyphens { AsksNothing (codes "cat --chunk -- 4 a") }
+    ensures is_shortened { AsksNothing (codes "cat --chun 4 a") }
+{}
+
+/// The least and the most that a frame may have.
+pub fn chunks_are_limited()
+    ensures is_least { Asks (codes "cat --chunk 1 a") (Cat 1 (codes "a")) }
+    ensures is_below_the_least { AsksNothing (codes "cat --chunk 0 a") }
+    ensures is_most { Asks (codes "cat --chunk 65536 a") (Cat 65536 (codes "a")) }
+    ensures is_above_the_most { AsksNothing (codes "cat --chunk 65537 a") }
+    ensures is_beyond_64_bits { AsksNothing (codes "cat --chunk 18446744073709551620 a") }
+{}
+
+/// Which word is a path.
+pub fn paths_are_words()
+    ensures is_hyphen { Asks (codes "cat -") (Cat 4096 (codes "-")) }
+    ensures is_behind_two_hyphens { Asks (codes "cat -- -a") (Cat 4096 (codes "-a")) }
+    ensures is_two_hyphens { Asks (codes "cat -- --") (Cat 4096 (codes "--")) }
+    ensures is_spelled_as_an_option { Asks (codes "cat -- --chunk=4") (Cat 4096 (codes "--chunk=4")) }
+    ensures is_before_two_hyphens { Asks (codes "cat a --") (Cat 4096 (codes "a")) }
+    ensures is_help { Asks (codes "cat help") (Cat 4096 (codes "help")) }
+    ensures is_missing { AsksNothing (codes "cat") }
+    ensures is_missing_behind_an_option { AsksNothing (codes "cat --chunk 4") }
+    ensures is_missing_behind_two_hyphens { AsksNothing (codes "cat --") }
+    ensures is_empty { AsksNothing (codes "cat ") }
+    ensures is_one_of_two { AsksNothing (codes "cat a b") }
+    ensures is_one_of_two_behind_two_hyphens { AsksNothing (codes "cat -- a --") }
+    ensures is_short_option { AsksNothing (codes "cat -a") }
+    ensures is_long_option { AsksNothing (codes "cat --- a") }
+    ensures asks_for_help { AsksNothing (codes "cat --help") }
+    ensures asks_shortly_for_help { AsksNothing (codes "cat -h") }
+    ensures asks_for_the_version { AsksNothing (codes "cat --version") }
+    ensures asks_shortly_for_the_version { AsksNothing (codes "cat -V") }
+{}
+
+/// Each word that doesn't begin with a hyphen is a path, unless it is too long.
+pub fn paths_are_limited()
+    ensures is_path { (c : ℕ) (rest : List ℕ) → c ≢ 45 → length rest ≤ 1023 → command_of (codes "cat" ∷ (c ∷ rest) ∷ []) ≡ Some (Cat 4096 (c ∷ rest)) }
+    ensures is_too_long { (c : ℕ) (rest : List ℕ) → c ≢ 45 → 1023 < length rest → command_of (codes "cat" ∷ (c ∷ rest) ∷ []) ≡ None }
+{}
+
+/// How many streams may be open, as `run` is told.
+pub fn runs_are_spelled()
+    ensures is_default { Asks (codes "run") (Run None) }
+    ensures is_default_before_two_hyphens { Asks (codes "run --") (Run None) }
+    ensures is_apart { Asks (codes "run --max-open 4") (Run (Some 4)) }
+    ensures is_attached { Asks (codes "run --max-open=+04") (Run (Some 4)) }
+    ensures is_least { Asks (codes "run --max-open 1") (Run (Some 1)) }
+    ensures is_below_the_least { AsksNothing (codes "run --max-open 0") }
+    ensures is_most { Asks (codes "run --max-open 64") (Run (Some 64)) }
+    ensures is_above_the_most { AsksNothing (codes "run --max-open 65") }
+    ensures is_given_twice { AsksNothing (codes "run --max-open 4 --max-open 4") }
+    ensures is_empty { AsksNothing (codes "run --max-open=") }
+    ensures is_without_a_value { AsksNothing (codes "run --max-open") }
+    ensures is_negative { AsksNothing (codes "run --max-open -4") }
+    ensures is_shortened { AsksNothing (codes "run --max 4") }
+    ensures is_the_option_of_cat { AsksNothing (codes "run --chunk 4") }
+    ensures has_another_word { AsksNothing (codes "run a") }
+    ensures has_a_hyphen { AsksNothing (codes "run -") }
+    ensures has_a_word_behind_two_hyphens { AsksNothing (codes "run -- a") }
+    ensures asks_for_help { AsksNothing (codes "run --help") }
+    ensures asks_shortly_for_help { AsksNothing (codes "run -h") }
+    ensures asks_for_the_version { AsksNothing (codes "run -V") }
+{}
+
+/// The three numbers of a case.
+pub fn cases_are_spelled()
+    ensures is_case { Asks (codes "gen 7 8 1000") (Gen 7 8 1000) }
+    ensures is_behind_two_hyphens { Asks (codes "gen -- 7 8 1000") (Gen 7 8 1000) }
+    ensures has_two_hyphens_within { Asks (codes "gen 7 -- 8 1000") (Gen 7 8 1000) }
+    ensures is_before_two_hyphens { Asks (codes "gen 7 8 1000 --") (Gen 7 8 1000) }
+    ensures has_a_plus { Asks (codes "gen +7 +08 +1000") (Gen 7 8 1000) }
+    ensures has_zeros { Asks (codes "gen 0007 008 0") (Gen 7 8 0) }
+    ensures has_two_words { AsksNothing (codes "gen 7 8") }
+    ensures has_one_word { AsksNothing (codes "gen 7") }
+    ensures has_no_word { AsksNothing (codes "gen") }
+    ensures has_four_words { AsksNothing (codes "gen 7 8 1000 1") }
+    ensures has_an_empty_word { AsksNothing (codes "gen 7 8 ") }
+    ensures has_a_word_for_a_number { AsksNothing (codes "gen seven 8 1000") }
+    ensures has_a_point { AsksNothing (codes "gen 7 8.0 1000") }
+    ensures has_a_separator { AsksNothing (codes "gen 7 8 100_000") }
+    ensures has_two_plus { AsksNothing (codes "gen ++7 8 1000") }
+    ensures is_negative { AsksNothing (codes "gen -7 8 1000") }
+    ensures is_negative_behind_two_hyphens { AsksNothing (codes "gen -- -7 8 1000") }
+    ensures has_a_hyphen { AsksNothing (codes "gen - 8 1000") }
+    ensures has_an_option { AsksNothing (codes "gen --seed 7 8 1000") }
+    ensures has_the_option_of_cat { AsksNothing (codes "gen --chunk 4 7 8 1000") }
+    ensures asks_for_help { AsksNothing (codes "gen --help") }
+    ensures asks_shortly_for_help { AsksNothing (codes "gen -h") }
+    ensures asks_for_the_version { AsksNothing (codes "gen -V") }
+{}
+
+/// The least and the most of each number.
+pub fn cases_are_limited()
+    ensures has_least_numbers { Asks (codes "gen 0 1 0") (Gen 0 1 0) }
+    ensures has_most_numbers { Asks (codes "gen 4294967295 64 100000") (Gen 4294967295 64 100000) }
+    ensures seed_is_above_the_most { AsksNothing (codes "gen 4294967296 1 0") }
+    ensures seed_is_beyond_64_bits { AsksNothing (codes "gen 18446744073709551616 1 0") }
+    ensures streams_are_below_the_least { AsksNothing (codes "gen 0 0 0") }
+    ensures streams_are_above_the_most { AsksNothing (codes "gen 0 65 0") }
+    ensures lines_are_above_the_most { AsksNothing (codes "gen 0 1 100001") }
+{}
+
+/// Words that name no command.
+pub fn other_words_mean_nothing()
+    ensures is_no_word { command_of [] ≡ None }
+    ensures is_empty { AsksNothing [] }
+    ensures is_other { AsksNothing (codes "dog a") }
+    ensures is_capital { AsksNothing (codes "Cat a") }
+    ensures is_shortened { AsksNothing (codes "ca a") }
+    ensures is_longer { AsksNothing (codes "cats a") }
+    ensures is_option { AsksNothing (codes "--chunk 4 cat a") }
+    ensures asks_for_help { AsksNothing (codes "--help") }
+{}
