@@ -1,0 +1,76 @@
+-- What keeps a tale where an end is received.
+use Rattle.std.proofs.Common.{◌≡◌, ℕ, true, false, ◌||◌, List, [], ◌∷◌, ◌++◌, Some, inl, inr, refl, sym, ap, ◌∙◌, subst, ⊎_elim}
+use Rattle.chunk_core.specs.Lists.{IsAmong}
+use Rattle.chunk_core.proofs.Bools.{or_left, or_right}
+use Rattle.chunk_core.proofs.Members.{among_left, among_nil}
+use Rattle.chunk_core.specs.declared.code.How.{How}
+use Rattle.chunk_core.specs.declared.code.How.TheVariants as how
+use Rattle.interrupt_ctx.specs.declared.view.Interruption.{Interruption}
+use Rattle.res_ledger.specs.declared.event.StreamNo.TheVariants.{Inner}
+use Rattle.run_rules.specs.Facts.{is_memory}
+use Rattle.run_rules.specs.Work.{Work, until_by}
+use Rattle.join_tale.specs.Keeping.{IsLast, IsTale, IsToldToHalt}
+use Rattle.join_tale.specs.Steps.{TellsEnd, ended, ended_late, learned}
+use Rattle.join_tale.specs.Tales.{HasCome, IsOpen, Tale, end_of}
+use Rattle.join_tale.proofs.Framing.{frames_end_front, frames_end_late, not_met, open_last}
+use Rattle.join_tale.proofs.Growing.{AreFresh, Grows, caused_more, ends_kept, fates_stay, found_more, known_more}
+use Rattle.join_tale.proofs.Parts.{end_before_end}
+use Rattle.join_tale.proofs.Places.{not_both}
+use Rattle.join_tale.proofs.Steps.{memory_is}
+
+module _ (work : Work) (t : Tale) (k : ℕ) (h : How) (vs cs : List Interruption) (i : IsTale work t) (o : IsOpen t k) where
+  last : IsLast work t k
+  last = open_last work t k i.ends o
+
+  -- this end alone comes
+  abbrev New : ℕ → How → Type 0
+  New j g = (j ≡ k) × (g ≡ h)
+
+  new_fresh : (u : Tale) → TellsEnd work u k h vs → IsLast work u k → (h ≡ how.Memory → u.memory ≡ true) → AreFresh work t u New
+  new_fresh u tells above memory = record {
+    halted = λ j n. subst (λ z. IsToldToHalt work u z) (sym n.0) (⊎_elim (λ f. inr (f, above)) (λ f. inl f) (tells.halted (sym n.1)));
+    fault = λ j c n. tells.fault c (sym n.1);
+    memory = λ j n. memory (sym n.1);
+    until = λ j m g n is. tells.until m (subst (λ z. until_by work (Inner m) ≡ Some z) n.0 is);
+    last = λ j g n. subst (λ z. IsLast work t z) (sym n.0) last;
+    alone = λ j g n c. o.1 (subst (λ z. HasCome t z) n.0 c);
+    one = λ j g q n m. n.1 ∙ sym m.1;
+  }
+
+  pub ends : t.ceased ≡ false → TellsEnd work (learned (ended t k h) vs cs) k h vs → IsTale work (learned (ended t k h) vs cs)
+  ends c tells =
+      let u : Tale = learned (ended t k h) vs cs in
+      let empty : t.late ≡ [] = (i.frames.quiet c).0 in
+      let g : Grows t u = record {
+        begun = λ j b. b;
+        came = λ j q m. ⊎_elim (λ a. inl (among_left (end_of k h ∷ []) a)) (λ a. inr a) m;
+        found = found_more t vs cs;
+        known = known_more t vs cs;
+        memory = λ e. absurd (not_both t.memory (i.frames.quiet c).2 e);
+      } in
+      record {
+        frames = frames_end_front work t i.frames k h o (t.set ++ vs) (t.seen ++ cs) (is_memory h) c;
+        ends = ends_kept work t u g New (new_fresh u tells last (λ e. ap is_memory e)) i.ends (λ j q m. end_before_end j k q h t.front m) (λ j q m. inl m) (λ j q r m n. among_nil (subst (λ l. IsAmong (end_of j r) l) empty n));
+        fates = fates_stay work t u g i.fates refl refl;
+        caused = caused_more work t u g vs (λ m. absurd (not_met work t i.frames c m)) (λ z. z) (λ a e. e) i.caused tells.caused;
+        stop = λ e. tells.memory (memory_is h e);
+      }
+
+  pub ends_late : t.ceased ≡ true → TellsEnd work (learned (ended_late t k h) vs cs) k h vs → IsTale work (learned (ended_late t k h) vs cs)
+  ends_late c tells =
+      let u : Tale = learned (ended_late t k h) vs cs in
+      let g : Grows t u = record {
+        begun = λ j b. b;
+        came = λ j q m. ⊎_elim (λ a. inl a) (λ a. inr (among_left (end_of k h ∷ []) a)) m;
+        found = found_more t vs cs;
+        known = known_more t vs cs;
+        memory = or_left t.memory (is_memory h);
+      } in
+      record {
+        frames = frames_end_late work t i.frames k h o (t.set ++ vs) (t.seen ++ cs) (t.memory || is_memory h) c (or_left t.memory (is_memory h));
+        ends = ends_kept work t u g New (new_fresh u tells last (λ e. or_right t.memory (is_memory h) (ap is_memory e))) i.ends (λ j q m. inl m) (λ j q m. end_before_end j k q h t.late m)
+            (λ j q r m n. ⊎_elim (λ a. i.ends.apart j q r m a) (λ e. o.1 (subst (λ z. HasCome t z) e.0 (q, inl m))) (end_before_end j k r h t.late n));
+        fates = fates_stay work t u g i.fates refl refl;
+        caused = caused_more work t u g vs (λ z. z) (λ z. z) (λ a e. e) i.caused tells.caused;
+        stop = λ e. known_more t vs cs 0 (i.stop c);
+      }

@@ -1,0 +1,133 @@
+-- What stays known while a tale goes on.
+use Rattle.std.proofs.Common.{◌≡◌, ◌⊎◌, ℕ, suc, true, List, ◌++◌, Some, is_some, inl, inr, sym, ◌∙◌, ap, subst, ⊎_elim}
+use Rattle.chunk_core.specs.Lists.{IsAmong}
+use Rattle.chunk_core.proofs.Filters.{among_append}
+use Rattle.chunk_core.proofs.Members.{among_cons, among_last, among_left, among_nil}
+use Rattle.chunk_core.specs.declared.code.Code.{Code}
+use Rattle.chunk_core.specs.declared.code.How.{How}
+use Rattle.chunk_core.specs.declared.code.How.TheVariants as how
+use Rattle.interrupt_ctx.specs.Views.{interruption}
+use Rattle.interrupt_ctx.specs.declared.view.Interruption.{Interruption}
+use Rattle.interrupt_ctx.specs.declared.why.Why.{Why}
+use Rattle.interrupt_ctx.specs.declared.why.Why.TheVariants as why
+use Rattle.res_ledger.specs.declared.event.StreamNo.TheVariants.{Inner}
+use Rattle.run_rules.specs.Facts.{at}
+use Rattle.run_rules.specs.Work.{Work, until_by}
+use Rattle.join_tale.specs.Keeping.{IsLast, IsOuterStopped, IsToldToHalt, KeepsEnds, KeepsFates}
+use Rattle.join_tale.specs.Steps.{Marks, learned}
+use Rattle.join_tale.specs.Steps.Marks.{fresh, stale}
+use Rattle.join_tale.specs.Tales.{AreCaused, Came, Fate, HasCome, HasMet, IsBegun, IsCaused, IsFoundSet, IsKnown, Tale, end_of}
+use Rattle.join_tale.specs.Tales.Fate.{Skipped, Unmade}
+
+pub found_more : (t : Tale) (vs cs : List Interruption) (c : ℕ) → IsFoundSet t c → IsFoundSet (learned t vs cs) c
+found_more t vs cs c f = (f.0, among_left cs f.1)
+
+pub known_more : (t : Tale) (vs cs : List Interruption) (c : ℕ) → IsKnown t c → IsKnown (learned t vs cs) c
+known_more t vs cs c k = ⊎_elim (λ s. inl (s.0, among_left vs s.1)) (λ f. inr (found_more t vs cs c f)) k
+
+-- what is marked is known, and set for its cause
+pub marked_known : (t : Tale) (c : ℕ) (w : Why) (vs cs : List Interruption) → Marks c w vs cs → IsKnown (learned t vs cs) c
+marked_known t c w vs cs fresh = inl (w, among_last t.set (interruption c w))
+marked_known t c w vs cs (stale there) = inr (there, among_last t.seen (interruption c there))
+
+pub marked_caused : (work : Work) (u : Tale) (c : ℕ) (w : Why) (vs cs : List Interruption) → Marks c w vs cs → IsCaused work u c w → AreCaused work u vs
+marked_caused work u c w vs cs fresh is d v m = ⊎_elim (λ e. subst (λ (z : Interruption). IsCaused work u z.context z.why) (sym e) is) (λ n. absurd (among_nil n)) (among_cons m)
+marked_caused work u c w vs cs (stale there) is d v m = absurd (among_nil m)
+
+-- nothing is begun, and what came and what is known stay
+pub record Grows (t u : Tale) : Type 0 where
+  pub begun : (k : ℕ) → IsBegun u k → IsBegun t k
+  pub came : (k : ℕ) (h : How) → Came t k h → Came u k h
+  pub found : (c : ℕ) → IsFoundSet t c → IsFoundSet u c
+  pub known : (c : ℕ) → IsKnown t c → IsKnown u c
+  pub memory : t.memory ≡ true → u.memory ≡ true
+
+-- ends that came anew
+pub record AreFresh (work : Work) (t u : Tale) (N : ℕ → How → Type 0) : Type 0 where
+  pub halted : (k : ℕ) → N k how.Halted → IsToldToHalt work u k
+  pub fault : (k : ℕ) (c : Code) → N k (how.Fault c) → IsKnown u 0
+  pub memory : (k : ℕ) → N k how.Memory → u.memory ≡ true
+  pub until : (j k : ℕ) (h : How) → N j h → until_by work (Inner k) ≡ Some j → IsKnown u (suc k)
+  pub last : (k : ℕ) (h : How) → N k h → IsLast work t k
+  pub alone : (k : ℕ) (h : How) → N k h → ¬ (HasCome t k)
+  pub one : (k : ℕ) (h g : How) → N k h → N k g → h ≡ g
+
+-- no end came
+abbrev pub NoEnd : ℕ → How → Type 0
+NoEnd k h = ⊥
+
+pub none_fresh : (work : Work) (t u : Tale) → AreFresh work t u NoEnd
+none_fresh work t u = record {
+  halted = λ k n. absurd n;
+  fault = λ k c n. absurd n;
+  memory = λ k n. absurd n;
+  until = λ j k h n. absurd n;
+  last = λ k h n. absurd n;
+  alone = λ k h n. absurd n;
+  one = λ k h g n. absurd n;
+}
+
+module _ (work : Work) (t u : Tale) (g : Grows t u) where
+  pub last_grows : (k : ℕ) → IsLast work t k → IsLast work u k
+  last_grows k l w j b = l w j (g.begun j b)
+
+  pub told_grows : (k : ℕ) → IsToldToHalt work t k → IsToldToHalt work u k
+  told_grows k h = ⊎_elim (λ f. inl (g.found (suc k) f)) (λ f. inr (g.found 0 f.0, last_grows k f.1)) h
+
+  -- the ends, where these came anew
+  pub ends_kept : (N : ℕ → How → Type 0) → AreFresh work t u N → KeepsEnds work t → ((k : ℕ) (h : How) → IsAmong (end_of k h) u.front → IsAmong (end_of k h) t.front ⊎ N k h) → ((k : ℕ) (h : How) → IsAmong (end_of k h) u.late → IsAmong (end_of k h) t.late ⊎ N k h)
+      → ((k : ℕ) (h q : How) → IsAmong (end_of k h) u.front → ¬ (IsAmong (end_of k q) u.late)) → KeepsEnds work u
+  ends_kept N f i front late apart =
+      let back : (k : ℕ) (h : How) → Came u k h → Came t k h ⊎ N k h = λ k h c. ⊎_elim (λ m. ⊎_elim (λ o. inl (inl o)) (λ n. inr n) (front k h m)) (λ m. ⊎_elim (λ o. inl (inr o)) (λ n. inr n) (late k h m)) c in
+      record {
+        halted = λ k c. ⊎_elim (λ o. told_grows k (i.halted k o)) (λ n. f.halted k n) (back k how.Halted c);
+        fault = λ k c m. ⊎_elim (λ o. let q = i.fault k c o in (g.known 0 q.0, last_grows k q.1)) (λ n. (f.fault k c n, last_grows k (f.last k (how.Fault c) n))) (back k (how.Fault c) m);
+        memory = λ k m. ⊎_elim (λ o. let q = i.memory k o in (g.memory q.0, last_grows k q.1)) (λ n. (f.memory k n, last_grows k (f.last k how.Memory n))) (back k how.Memory m);
+        until = λ j k c is. ⊎_elim
+            (λ o. let q = i.until j k (c.0, o) is in (g.known (suc k) q.0, λ w b. q.1 w (g.begun k b)))
+            (λ n. (f.until j k c.0 n is, λ w b. f.last j c.0 n w k (g.begun k b)))
+            (back j c.0 c.1);
+        late = λ k h m. ⊎_elim (λ o. last_grows k (i.late k h o)) (λ n. last_grows k (f.last k h n)) (late k h m);
+        in_turn = λ w k b. ⊎_elim (λ c. inl (c.0, g.came k c.0 c.1)) (λ l. inr (λ j d. l j (g.begun j d))) (i.in_turn w k (g.begun k b));
+        once = λ k h q c d. ⊎_elim
+            (λ o. ⊎_elim (λ p. i.once k h q o p) (λ n. absurd (f.alone k q n (h, o))) (back k q d))
+            (λ n. ⊎_elim (λ p. absurd (f.alone k h n (q, p))) (λ m. f.one k h q n m) (back k q d))
+            (back k h c);
+        apart = apart;
+      }
+
+  -- what became of the streams, where these weren't begun anew, and of the outer one
+  pub fates_kept : KeepsFates work t → ((k : ℕ) → at u.fates k ≡ Some Skipped → (at t.fates k ≡ Some Skipped) ⊎ (IsToldToHalt work u k ⊎ (IsOuterStopped u × IsLast work u k))) → ((k : ℕ) → at u.fates k ≡ Some Unmade → (at t.fates k ≡ Some Unmade) ⊎ ((u.memory ≡ true) × IsLast work u k)) → (IsOuterStopped t → IsOuterStopped u)
+      → (u.outer ≡ Some how.Halted → IsFoundSet u 0) → ((c : Code) → u.outer ≡ Some (how.Fault c) → IsKnown u 0) → (u.outer ≡ Some how.Memory → u.memory ≡ true) → KeepsFates work u
+  fates_kept i skipped unmade outer halted fault memory = record {
+    skipped = λ k e. ⊎_elim
+        (λ o. ⊎_elim (λ h. inl (told_grows k h)) (λ s. inr (outer s.0, last_grows k s.1)) (i.skipped k o))
+        (λ n. n)
+        (skipped k e);
+    unmade = λ k e. ⊎_elim (λ o. let q = i.unmade k o in (g.memory q.0, last_grows k q.1)) (λ n. n) (unmade k e);
+    nobody = λ m. let q = i.nobody m in (g.known 0 q.0, λ k b. q.1 k (g.begun k b));
+    outer_halted = halted;
+    outer_fault = fault;
+    outer_memory = memory;
+  }
+
+  -- nothing became of one, nor of the outer one
+  pub fates_stay : KeepsFates work t → u.fates ≡ t.fates → u.outer ≡ t.outer → KeepsFates work u
+  fates_stay i same outer = fates_kept i
+      (λ k e. inl (sym (ap (λ (l : List Fate). at l k) same) ∙ e))
+      (λ k e. inl (sym (ap (λ (l : List Fate). at l k) same) ∙ e))
+      (λ s. (s.0, outer ∙ s.1, s.2))
+      (λ e. g.found 0 (i.outer_halted (sym outer ∙ e)))
+      (λ c e. g.known 0 (i.outer_fault c (sym outer ∙ e)))
+      (λ e. g.memory (i.outer_memory (sym outer ∙ e)))
+
+  -- a cause stays one
+  pub cause_grows : (HasMet work t → HasMet work u) → (is_some t.cut ≡ true → is_some u.cut ≡ true) → ((c : Code) → t.outer ≡ Some (how.Fault c) → u.outer ≡ Some (how.Fault c)) → (c : ℕ) (w : Why) → IsCaused work t c w → IsCaused work u c w
+  cause_grows met cut outer c why.Take i = (i.0, met i.1)
+  cause_grows met cut outer c why.Until i = (i.0, i.1, i.2, i.3, (i.4.0, g.came i.1 i.4.0 i.4.1))
+  cause_grows met cut outer c why.Sink i = (i.0, cut i.1)
+  cause_grows met cut outer c why.Memory i = (i.0, g.memory i.1)
+  cause_grows met cut outer c why.Fault i = (i.0, ⊎_elim (λ x. inl (x.0, x.1, g.came x.0 (how.Fault x.1) x.2)) (λ x. inr (x.0, outer x.0 x.1)) i.1)
+
+  pub caused_more : (vs : List Interruption) → (HasMet work t → HasMet work u) → (is_some t.cut ≡ true → is_some u.cut ≡ true) → ((c : Code) → t.outer ≡ Some (how.Fault c) → u.outer ≡ Some (how.Fault c)) → AreCaused work t t.set → AreCaused work u vs → AreCaused work u (t.set ++ vs)
+  caused_more vs met cut outer old new c w m = ⊎_elim (λ o. cause_grows met cut outer c w (old c w o)) (λ n. new c w n) (among_append (interruption c w) t.set vs m)

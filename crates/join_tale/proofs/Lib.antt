@@ -1,0 +1,13 @@
+pub mod Places
+pub mod Parts
+pub mod Growing
+pub mod Framing
+pub mod Steps
+pub mod Receiving
+pub mod Ending
+pub mod Endings
+pub mod Causes
+pub mod Stopping
+pub mod Undisturbed
+pub mod Worked
+pub mod Loads

@@ -1,0 +1,242 @@
+-- How a tale begins, and what keeps it but messages.
+use Rattle.std.proofs.Common.{◌≡◌, ◌≢◌, ◌⊎◌, ℕ, suc, ◌≤◌, Bool, true, false, ◌||◌, List, [], ◌∷◌, ◌++◌, length, Option, Some, None, IfSome, is_some, inl, inr, refl, sym, ap, ◌∙◌, subst, ⊎_elim, arith}
+use Rattle.chunk_core.specs.Lists.{IsAmong}
+use Rattle.chunk_core.proofs.Bools.{either, or_left, or_right}
+use Rattle.chunk_core.proofs.Members.{among_nil}
+use Rattle.chunk_core.specs.declared.code.How.{How}
+use Rattle.chunk_core.specs.declared.code.How.TheVariants as how
+use Rattle.interrupt_ctx.specs.declared.view.Interruption.{Interruption}
+use Rattle.interrupt_ctx.specs.declared.why.Why.{Why}
+use Rattle.interrupt_ctx.specs.declared.why.Why.TheVariants as why
+use Rattle.run_rules.specs.Facts.{is_memory}
+use Rattle.run_rules.specs.Work.{Work, most_of}
+use Rattle.join_tale.specs.Keeping.{IsLast, IsOuterStopped, IsTale, KeepsEnds, KeepsFates, KeepsFrames}
+use Rattle.join_tale.specs.Steps.{Marks, MayBegin, TellsOuter, fated, first_tale, learned, outer_ended, unmade}
+use Rattle.join_tale.specs.Tales.{AreCaused, Fate, IsBegun, IsCaused, IsFoundSet, IsKnown, Message, Tale}
+use Rattle.join_tale.specs.Tales.Fate.{Begun, Skipped, Unmade}
+use Rattle.join_tale.proofs.Framing.{frames_stay}
+use Rattle.join_tale.proofs.Growing.{Grows, NoEnd, cause_grows, caused_more, ends_kept, fates_kept, fates_stay, found_more, known_more, marked_caused, marked_known, none_fresh}
+use Rattle.join_tale.proofs.Places.{at_below, at_left, at_snoc, none_is_some, none_some, not_both, or_false, some_is}
+
+pub memory_is : (h : How) → is_memory h ≡ true → h ≡ how.Memory
+memory_is how.Memory e = refl
+memory_is how.Done e = absurd (not_both false refl e)
+memory_is how.Halted e = absurd (not_both false refl e)
+memory_is (how.Fault c) e = absurd (not_both false refl e)
+
+-- Nothing was received yet.
+
+few_zero : (o : Option ℕ) → IfSome o (λ n. 0 ≤ n)
+few_zero None = tt
+few_zero (Some n) = omega arith
+
+module _ (work : Work) (vs cs : List Interruption) (b : Bool) where
+  first_frames : (b ≡ true → most_of work ≡ Some 0) → (most_of work ≡ Some 0 → b ≡ true) → KeepsFrames work (record first_tale { set = vs; seen = cs; ceased = b })
+  first_frames ceased met = record {
+    quiet = λ e. (refl, refl, refl);
+    ceased = λ e. inl (ceased e);
+    met = met;
+    few = few_zero (most_of work);
+    cut = λ f e. absurd (none_some e);
+    last = λ h f e. absurd (none_some e);
+    whole = λ k h m. refl;
+    ours = λ m h. absurd (⊎_elim (λ n. among_nil n) (λ n. among_nil n) h);
+  }
+
+  first_ends : KeepsEnds work (record first_tale { set = vs; seen = cs; ceased = b })
+  first_ends = record {
+    halted = λ k c. absurd (⊎_elim (λ n. among_nil n) (λ n. among_nil n) c);
+    fault = λ k c m. absurd (⊎_elim (λ n. among_nil n) (λ n. among_nil n) m);
+    memory = λ k c. absurd (⊎_elim (λ n. among_nil n) (λ n. among_nil n) c);
+    until = λ j k c is. absurd (⊎_elim (λ n. among_nil n) (λ n. among_nil n) c.1);
+    late = λ k h m. absurd (among_nil m);
+    in_turn = λ w k e. absurd (none_some e);
+    once = λ k h g c d. absurd (⊎_elim (λ n. among_nil n) (λ n. among_nil n) c);
+    apart = λ k h g m n. among_nil m;
+  }
+
+  first_fates : (most_of work ≡ Some 0 → IsKnown (learned first_tale vs cs) 0) → KeepsFates work (record first_tale { set = vs; seen = cs; ceased = b })
+  first_fates known = record {
+    skipped = λ k e. absurd (none_some e);
+    unmade = λ k e. absurd (none_some e);
+    nobody = λ m. (known m, λ k e. none_some e);
+    outer_halted = λ e. absurd (none_some e);
+    outer_fault = λ c e. absurd (none_some e);
+    outer_memory = λ e. absurd (none_some e);
+  }
+
+pub starts : (work : Work) → most_of work ≢ Some 0 → IsTale work first_tale
+starts work doesnt = record {
+  frames = first_frames work [] [] false (λ e. absurd (not_both false refl e)) (λ m. absurd (doesnt m));
+  ends = first_ends work [] [] false;
+  fates = first_fates work [] [] false (λ m. absurd (doesnt m));
+  caused = λ c w m. absurd (among_nil m);
+  stop = λ e. absurd (not_both false refl e);
+}
+
+pub starts_met : (work : Work) (vs cs : List Interruption) → Marks 0 why.Take vs cs → most_of work ≡ Some 0 → IsTale work (record (learned first_tale vs cs) { ceased = true })
+starts_met work vs cs mark does =
+    let known : IsKnown (learned first_tale vs cs) 0 = marked_known first_tale 0 why.Take vs cs mark in
+    record {
+      frames = first_frames work vs cs true (λ e. does) (λ e. refl);
+      ends = first_ends work vs cs true;
+      fates = first_fates work vs cs true (λ m. known);
+      caused = marked_caused work (record (learned first_tale vs cs) { ceased = true }) 0 why.Take vs cs mark (refl, does);
+      stop = λ e. known;
+    }
+
+-- What is known of a tale.
+
+module _ (work : Work) (t : Tale) (i : IsTale work t) where
+  by_ceased : (b : Bool) → (b ≡ false → ⊥) → b ≡ true
+  by_ceased true n = refl
+  by_ceased false n = absurd (n refl)
+
+  pub late_ceased : (m : Message) → IsAmong m t.late → t.ceased ≡ true
+  late_ceased m n = by_ceased t.ceased (λ e. among_nil (subst (λ l. IsAmong m l) (i.frames.quiet e).0 n))
+
+  pub cut_ceased : is_some t.cut ≡ true → t.ceased ≡ true
+  cut_ceased c = by_ceased t.ceased (λ e. none_is_some t.cut (i.frames.quiet e).1 c)
+
+  pub memory_ceased : t.memory ≡ true → t.ceased ≡ true
+  memory_ceased m = by_ceased t.ceased (λ e. not_both t.memory (i.frames.quiet e).2 m)
+
+  outer_by : (h : How) → t.outer ≡ Some h → h ≢ how.Done → IsKnown t 0
+  outer_by how.Halted e n = inr (i.fates.outer_halted e)
+  outer_by (how.Fault c) e n = i.fates.outer_fault c e
+  outer_by how.Memory e n = i.stop (memory_ceased (i.fates.outer_memory e))
+  outer_by how.Done e n = absurd (n refl)
+
+  -- where the outer stream was stopped, the code for all streams is known
+  pub outer_known : IsOuterStopped t → IsKnown t 0
+  outer_known s = outer_by s.0 s.1 s.2
+
+  -- more is set and found set
+  pub learns : (vs cs : List Interruption) → AreCaused work t vs → IsTale work (learned t vs cs)
+  learns vs cs new =
+      let u : Tale = learned t vs cs in
+      let g : Grows t u = record { begun = λ k b. b; came = λ k h c. c; found = found_more t vs cs; known = known_more t vs cs; memory = λ e. e } in
+      record {
+        frames = frames_stay work t i.frames t.fates t.outer (t.set ++ vs) (t.seen ++ cs) t.ceased t.memory (λ e. (e, (i.frames.quiet e).2)) i.frames.ceased (λ e. e) (λ k b. b) (λ h k b. b);
+        ends = ends_kept work t u g NoEnd (none_fresh work t u) i.ends (λ k h m. inl m) (λ k h m. inl m) i.ends.apart;
+        fates = fates_stay work t u g i.fates refl refl;
+        caused = caused_more work t u g vs (λ m. m) (λ c. c) (λ c e. e) i.caused (λ c w m. cause_grows work t u g (λ z. z) (λ z. z) (λ d e. e) c w (new c w m));
+        stop = λ e. known_more t vs cs 0 (i.stop e);
+      }
+
+  cause_begun : (c : ℕ) (w : Why) → IsCaused work t c w → IsCaused work (fated t Begun) c w
+  cause_begun c why.Take h = h
+  cause_begun c why.Until h = h
+  cause_begun c why.Sink h = h
+  cause_begun c why.Memory h = h
+  cause_begun c why.Fault h = h
+
+  -- a stream is begun
+  module _ (may : MayBegin work t) where
+    begun_frames : KeepsFrames work (fated t Begun)
+    begun_frames = frames_stay work t i.frames (t.fates ++ Begun ∷ []) t.outer t.set t.seen t.ceased t.memory (λ e. (e, (i.frames.quiet e).2)) i.frames.ceased (λ e. e) (λ k b. at_left t.fates (Begun ∷ []) k Begun b)
+        (λ h k b. absurd (may.run (i.stop (⊎_elim (λ m. i.frames.met m) (λ c. cut_ceased c) h))))
+
+    begun_ends : KeepsEnds work (fated t Begun)
+    begun_ends = record {
+      halted = λ k c. ⊎_elim (λ f. inl f) (λ f. absurd (may.run (inr f.0))) (i.ends.halted k c);
+      fault = λ k c m. absurd (may.run (i.ends.fault k c m).0);
+      memory = λ k m. absurd (may.run (i.stop (memory_ceased (i.ends.memory k m).0)));
+      until = λ j k c is. let q = i.ends.until j k c is in (q.0, λ w b. ⊎_elim (λ o. q.1 w o) (λ e. absurd (may.own (subst (λ z. IsKnown t (suc z)) e.0 q.0))) (at_snoc t.fates Begun k Begun b));
+      late = λ k h m. absurd (may.run (i.stop (late_ceased _ m)));
+      in_turn = λ w k b. ⊎_elim
+          (λ o. inl (may.alone w k o))
+          (λ e. inr (λ j d. ⊎_elim (λ o. let l = at_below t.fates j Begun o in omega (arith, l, e.0)) (λ o. omega (arith, o.0, e.0)) (at_snoc t.fates Begun j Begun d)))
+          (at_snoc t.fates Begun k Begun b);
+      once = i.ends.once;
+      apart = i.ends.apart;
+    }
+
+    begun_fates : KeepsFates work (fated t Begun)
+    begun_fates = record {
+      skipped = λ k e. ⊎_elim
+          (λ o. ⊎_elim (λ h. inl (⊎_elim (λ f. inl f) (λ f. absurd (may.run (inr f.0))) h)) (λ s. absurd (may.run (outer_known s.0))) (i.fates.skipped k o))
+          (λ n. absurd (let q : Skipped ≡ Begun = n.1 in cc))
+          (at_snoc t.fates Begun k Skipped e);
+      unmade = λ k e. ⊎_elim
+          (λ o. absurd (may.run (i.stop (memory_ceased (i.fates.unmade k o).0))))
+          (λ n. absurd (let q : Unmade ≡ Begun = n.1 in cc))
+          (at_snoc t.fates Begun k Unmade e);
+      nobody = λ m. absurd (may.run (i.fates.nobody m).0);
+      outer_halted = i.fates.outer_halted;
+      outer_fault = i.fates.outer_fault;
+      outer_memory = i.fates.outer_memory;
+    }
+
+    pub begins : IsTale work (fated t Begun)
+    begins = record { frames = begun_frames; ends = begun_ends; fates = begun_fates; caused = λ c w m. cause_begun c w (i.caused c w m); stop = i.stop }
+
+  -- a stream isn't begun
+  module _ (f : Fate) (other : Begun ≡ f → ⊥) where
+    back : (k : ℕ) → IsBegun (fated t f) k → IsBegun t k
+    back k b = ⊎_elim (λ o. o) (λ n. absurd (other n.1)) (at_snoc t.fates f k Begun b)
+
+    above : (k : ℕ) → k ≡ length t.fates → IsLast work (fated t f) k
+    above k is w j b = let l = at_below t.fates j Begun (back j b) in omega (arith, l, is)
+
+  not_skipped : Begun ≡ Skipped → ⊥
+  not_skipped e = cc
+
+  not_unmade : Begun ≡ Unmade → ⊥
+  not_unmade e = cc
+
+  pub skips : IsFoundSet t 0 ⊎ IsFoundSet t (suc (length t.fates)) ⊎ IsOuterStopped t → IsTale work (fated t Skipped)
+  skips cause =
+      let u : Tale = fated t Skipped in
+      let g : Grows t u = record { begun = back Skipped not_skipped; came = λ k h c. c; found = λ c h. h; known = λ c h. h; memory = λ e. e } in
+      record {
+        frames = frames_stay work t i.frames (t.fates ++ Skipped ∷ []) t.outer t.set t.seen t.ceased t.memory (λ e. (e, (i.frames.quiet e).2)) i.frames.ceased (λ e. e) (λ k b. at_left t.fates (Skipped ∷ []) k Begun b) (λ h k b. back Skipped not_skipped k b);
+        ends = ends_kept work t u g NoEnd (none_fresh work t u) i.ends (λ k h m. inl m) (λ k h m. inl m) i.ends.apart;
+        fates = fates_kept work t u g i.fates
+            (λ k e. ⊎_elim
+            (λ o. inl o)
+            (λ n. inr (⊎_elim
+            (λ h. inl (inr (h, above Skipped not_skipped k n.0)))
+            (λ z. ⊎_elim (λ h. inl (inl (subst (λ y. IsFoundSet t (suc y)) (sym n.0) h))) (λ s. inr (s, above Skipped not_skipped k n.0)) z)
+            cause))
+            (at_snoc t.fates Skipped k Skipped e))
+            (λ k e. ⊎_elim (λ o. inl o) (λ n. absurd (let q : Unmade ≡ Skipped = n.1 in cc)) (at_snoc t.fates Skipped k Unmade e))
+            (λ s. s) i.fates.outer_halted i.fates.outer_fault i.fates.outer_memory;
+        caused = λ c w m. cause_grows work t u g (λ z. z) (λ z. z) (λ d e. e) c w (i.caused c w m);
+        stop = i.stop;
+      }
+
+  pub wants : (vs cs : List Interruption) → Marks 0 why.Memory vs cs → IsTale work (learned (unmade t) vs cs)
+  wants vs cs mark =
+      let u : Tale = learned (unmade t) vs cs in
+      let g : Grows t u = record { begun = back Unmade not_unmade; came = λ k h c. c; found = found_more t vs cs; known = known_more t vs cs; memory = λ e. refl } in
+      record {
+        frames = frames_stay work t i.frames (t.fates ++ Unmade ∷ []) t.outer (t.set ++ vs) (t.seen ++ cs) true true (λ e. absurd (not_both true e refl)) (λ e. inr (inr refl)) (λ e. refl) (λ k b. at_left t.fates (Unmade ∷ []) k Begun b) (λ h k b. back Unmade not_unmade k b);
+        ends = ends_kept work t u g NoEnd (none_fresh work t u) i.ends (λ k h m. inl m) (λ k h m. inl m) i.ends.apart;
+        fates = fates_kept work t u g i.fates
+            (λ k e. ⊎_elim (λ o. inl o) (λ n. absurd (let q : Skipped ≡ Unmade = n.1 in cc)) (at_snoc t.fates Unmade k Skipped e))
+            (λ k e. ⊎_elim (λ o. inl o) (λ n. inr (refl, above Unmade not_unmade k n.0)) (at_snoc t.fates Unmade k Unmade e))
+            (λ s. s) (λ e. g.found 0 (i.fates.outer_halted e)) (λ c e. g.known 0 (i.fates.outer_fault c e)) (λ e. refl);
+        caused = caused_more work t u g vs (λ m. m) (λ c. c) (λ c e. e) i.caused (marked_caused work u 0 why.Memory vs cs mark (refl, refl));
+        stop = λ e. marked_known t 0 why.Memory vs cs mark;
+      }
+
+  -- the outer stream ends
+  pub outer_ends : (h : How) (vs cs : List Interruption) → t.outer ≡ None → TellsOuter work (learned (outer_ended t h) vs cs) h vs → IsTale work (learned (outer_ended t h) vs cs)
+  outer_ends h vs cs none tells =
+      let u : Tale = learned (outer_ended t h) vs cs in
+      let g : Grows t u = record { begun = λ k b. b; came = λ k j c. c; found = found_more t vs cs; known = known_more t vs cs; memory = or_left t.memory (is_memory h) } in
+      record {
+        frames = frames_stay work t i.frames t.fates (Some h) (t.set ++ vs) (t.seen ++ cs) (t.ceased || is_memory h) (t.memory || is_memory h)
+            (λ e. let q = or_false t.ceased (is_memory h) e in (q.0, ap (λ b. b || is_memory h) (i.frames.quiet q.0).2 ∙ q.1))
+            (λ e. ⊎_elim
+            (λ c. ⊎_elim (λ z. inl z) (λ z. ⊎_elim (λ y. inr (inl y)) (λ y. inr (inr (or_left t.memory (is_memory h) y))) z) (i.frames.ceased c))
+            (λ y. inr (inr (or_right t.memory (is_memory h) y)))
+            (either t.ceased (is_memory h) e))
+            (or_left t.ceased (is_memory h)) (λ k b. b) (λ z k b. b);
+        ends = ends_kept work t u g NoEnd (none_fresh work t u) i.ends (λ k j m. inl m) (λ k j m. inl m) i.ends.apart;
+        fates = fates_kept work t u g i.fates (λ k e. inl e) (λ k e. inl e) (λ s. absurd (none_some (sym none ∙ s.1)))
+            (λ e. tells.halted (some_is h how.Halted e)) (λ c e. tells.fault c (some_is h (how.Fault c) e)) (λ e. or_right t.memory (is_memory h) (ap is_memory (some_is h how.Memory e)));
+        caused = caused_more work t u g vs (λ m. m) (λ c. c) (λ c e. absurd (none_some (sym none ∙ e))) i.caused tells.caused;
+        stop = λ e. ⊎_elim (λ c. known_more t vs cs 0 (i.stop c)) (λ m. tells.memory (memory_is h m)) (either t.ceased (is_memory h) e);
+      }

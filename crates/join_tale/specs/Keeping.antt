@@ -1,0 +1,73 @@
+-- What holds of a tale at any time.
+use Rattle.std.specs.Prelude.{◌≡◌, ◌≢◌, ◌⊎◌, ℕ, suc, ◌<◌, ◌≤◌, true, false, List, [], ◌∷◌, length, Some, None, is_some, IfSome}
+use Rattle.std.specs.List.{last_or}
+use Rattle.chunk_core.specs.Lists.{IsAmong}
+use Rattle.chunk_core.specs.Texts.{Frame}
+use Rattle.chunk_core.specs.declared.code.Code.{Code}
+use Rattle.chunk_core.specs.declared.code.How.{How}
+use Rattle.chunk_core.specs.declared.code.How.TheVariants as how
+use Rattle.res_ledger.specs.declared.event.StreamNo.TheVariants.{Inner}
+use Rattle.run_rules.specs.Facts.{at}
+use Rattle.run_rules.specs.Work.{Work, most_of, runs_in_turn, until_by}
+use Rattle.join_tale.specs.Tales.{AreCaused, Body, Came, HasCome, HasMet, IsBegun, IsFoundSet, IsKnown, Message, Tale, end_of, frames_begun, load_of, loads_of}
+use Rattle.join_tale.specs.Tales.Body.{End, Load}
+use Rattle.join_tale.specs.Tales.Fate.{Skipped, Unmade}
+
+-- where one stream is open at a time, none above k was begun
+abbrev pub IsLast : Work → Tale → ℕ → Type 0
+IsLast work t k = runs_in_turn work ≡ true → (j : ℕ) → IsBegun t j → j ≤ k
+
+-- a code was found that is for k: its own, or that of all streams, behind which none was begun
+abbrev pub IsToldToHalt : Work → Tale → ℕ → Type 0
+IsToldToHalt work t k = IsFoundSet t (suc k) ⊎ (IsFoundSet t 0 × IsLast work t k)
+
+-- the outer stream has ended, and not by itself
+abbrev pub IsOuterStopped : Tale → Type 0
+IsOuterStopped t = (h : How) × (t.outer ≡ Some h) × (h ≢ how.Done)
+
+-- a load isn't empty
+abbrev pub IsFull : Body → Type 0
+IsFull (Load x) = 0 < length x
+IsFull (End h) = Unit {0}
+
+-- no more frames are written since enough were, a write failed, or memory was wanting
+abbrev pub HasCeased : Work → Tale → Type 0
+HasCeased work t = HasMet work t ⊎ (is_some t.cut ≡ true) ⊎ (t.memory ≡ true)
+
+-- the frames and the loads that came too late to be written
+pub record KeepsFrames (work : Work) (t : Tale) : Type 0 where
+  pub quiet : t.ceased ≡ false → (t.late ≡ []) × (t.cut ≡ None) × (t.memory ≡ false)
+  pub ceased : t.ceased ≡ true → HasCeased work t
+  pub met : HasMet work t → t.ceased ≡ true
+  pub few : IfSome (most_of work) (λ n. length (frames_begun t) ≤ n)
+  pub cut : (f : Frame) → t.cut ≡ Some f → (ms : List Message) × (t.late ≡ load_of f.stream f.payload ∷ ms)
+  pub last : HasMet work t ⊎ (is_some t.cut ≡ true) → (f : Frame) → last_or None (frames_begun t) ≡ Some f → IsLast work t f.stream
+  pub whole : (k : ℕ) (h : How) → IsAmong (end_of k h) t.front → loads_of k t.late ≡ []
+  pub ours : (m : Message) → IsAmong m t.front ⊎ IsAmong m t.late → IsBegun t m.stream × IsFull m.body
+
+-- the ends of the streams: each has one, and where one stream is open at a time nothing begins behind an end that stops the run
+pub record KeepsEnds (work : Work) (t : Tale) : Type 0 where
+  pub halted : (k : ℕ) → Came t k how.Halted → IsToldToHalt work t k
+  pub fault : (k : ℕ) (c : Code) → Came t k (how.Fault c) → IsKnown t 0 × IsLast work t k
+  pub memory : (k : ℕ) → Came t k how.Memory → (t.memory ≡ true) × IsLast work t k
+  pub until : (j k : ℕ) → HasCome t j → until_by work (Inner k) ≡ Some j → IsKnown t (suc k) × (runs_in_turn work ≡ true → IsBegun t k → k ≤ j)
+  pub late : (k : ℕ) (h : How) → IsAmong (end_of k h) t.late → IsLast work t k
+  pub in_turn : runs_in_turn work ≡ true → (k : ℕ) → IsBegun t k → HasCome t k ⊎ ((j : ℕ) → IsBegun t j → j ≤ k)
+  pub once : (k : ℕ) (h g : How) → Came t k h → Came t k g → h ≡ g
+  pub apart : (k : ℕ) (h g : How) → IsAmong (end_of k h) t.front → ¬ (IsAmong (end_of k g) t.late)
+
+-- the streams that weren't begun, and the outer one
+pub record KeepsFates (work : Work) (t : Tale) : Type 0 where
+  pub skipped : (k : ℕ) → at t.fates k ≡ Some Skipped → IsToldToHalt work t k ⊎ (IsOuterStopped t × IsLast work t k)
+  pub unmade : (k : ℕ) → at t.fates k ≡ Some Unmade → (t.memory ≡ true) × IsLast work t k
+  pub nobody : most_of work ≡ Some 0 → IsKnown t 0 × ((k : ℕ) → ¬ (IsBegun t k))
+  pub outer_halted : t.outer ≡ Some how.Halted → IsFoundSet t 0
+  pub outer_fault : (c : Code) → t.outer ≡ Some (how.Fault c) → IsKnown t 0
+  pub outer_memory : t.outer ≡ Some how.Memory → t.memory ≡ true
+
+pub record IsTale (work : Work) (t : Tale) : Type 0 where
+  pub frames : KeepsFrames work t
+  pub ends : KeepsEnds work t
+  pub fates : KeepsFates work t
+  pub caused : AreCaused work t t.set
+  pub stop : t.ceased ≡ true → IsKnown t 0

@@ -1,0 +1,58 @@
+-- What a run did, against its tale.
+use Rattle.std.specs.Prelude.{◌≡◌, ℕ, ◌<◌, ◌≤◌, true, false, not, List, map, length, Option, Some, None, is_some, IfSome}
+use Rattle.std.specs.List.{list_any as any, list_all as all, AllByRecursion}
+use Rattle.chunk_core.specs.Lists.{IsAmong}
+use Rattle.chunk_core.specs.declared.code.How.{How}
+use Rattle.interrupt_ctx.specs.Views.{interruption}
+use Rattle.interrupt_ctx.specs.declared.why.Why.{Why}
+use Rattle.res_ledger.specs.declared.event.Event.{Event}
+use Rattle.res_ledger.specs.declared.event.StreamNo.{StreamNo}
+use Rattle.res_ledger.specs.declared.event.StreamNo.TheVariants.{Outer, Inner}
+use Rattle.run_rules.specs.declared.end.EndOf.{EndOf}
+use Rattle.run_rules.specs.Ends.{HasCauseToHalt, IsStopped}
+use Rattle.run_rules.specs.Facts.{has_left, is_fault, is_halted, is_memory}
+use Rattle.run_rules.specs.Work.{Work, Opener, RunRecord, Stream, begun_frames, most_of, names_of}
+use Rattle.join_tale.specs.Ended.{Ended}
+use Rattle.join_tale.specs.Tales.{HasCome, IsBegun, IsSet, Tale, frames_of}
+
+-- a run of which it isn't said what its streams give: a tale, why a stream may be halted and what may begin don't depend on that
+abbrev pub bare : Option Opener → List Stream → Work
+bare o ss = record { opener = o; streams = ss; runs = λ k v w ys e. ⊥; ideal_runs = λ k v w ys e. ⊥ }
+
+-- each context that was found set has been set, as is known once all seats are in
+abbrev pub IsSettled : Tale → Type 0
+IsSettled t = (context : ℕ) (w : Why) → IsAmong (interruption context w) t.seen → IsSet t context
+
+-- the stream ended so
+abbrev pub EndedSo : Tale → StreamNo → How → Type 0
+EndedSo t Outer h = t.outer ≡ Some h
+EndedSo t (Inner k) h = Ended t k h
+
+-- the record tells what the tale does: its ends, the frames, and of its events that only streams that were begun noted some, and those left whose end was received
+pub record IsRecordOf (work : Work) (t : Tale) (c : RunRecord) : Type 0 where
+  pub frames : c.frames ≡ frames_of t.front
+  pub cut : c.cut ≡ t.cut
+  pub memory : t.memory ≡ true → c.memory ≡ true
+  pub opener : is_some work.opener ≡ true
+  pub named : map (λ e. e.who) c.ends ≡ names_of work
+  pub told : (e : EndOf) → IsAmong e c.ends → EndedSo t e.who e.how
+  pub count : length t.fates ≤ length work.streams
+  pub begun : (e : Event) (k : ℕ) → IsAmong e c.events → e.by ≡ Inner k → IsBegun t k
+  pub left : (j : ℕ) → has_left j c.events ≡ true → HasCome t j
+  pub leaves : (j : ℕ) → HasCome t j → has_left j c.events ≡ true
+
+-- what follows of the record
+pub record Follows (work : Work) (c : RunRecord) : Type 0 where
+  pub halted : (e : EndOf) → IsAmong e c.ends → is_halted e.how ≡ true → HasCauseToHalt work c e.who
+  pub stopped : IsStopped work c
+  pub memory : any (λ e. is_memory e.how) c.ends ≡ true → c.memory ≡ true
+  pub numbers : AllByRecursion (λ f. (f.stream < length work.streams) × (0 < length f.payload)) c.frames
+  pub few : IfSome (most_of work) (λ n. length (begun_frames c) ≤ n)
+
+-- nothing that stops a stream came about: all was written, memory was never wanting, fewer frames were printed than may be, no stream ends with another, and none failed
+pub record IsUndisturbed (work : Work) (c : RunRecord) : Type 0 where
+  pub written : c.cut ≡ None
+  pub memory : c.memory ≡ false
+  pub most : IfSome (most_of work) (λ n. length c.frames < n)
+  pub until : all (λ s. not (is_some s.until)) work.streams ≡ true
+  pub faultless : any (λ e. is_fault e.how) c.ends ≡ false

@@ -1,0 +1,111 @@
+-- What a collector does, and what keeps its tale.
+use Rattle.std.specs.Prelude.{◌≡◌, ◌≢◌, ◌⊎◌, ℕ, suc, ◌<◌, true, false, ◌||◌, List, [], ◌∷◌, ◌++◌, length, Some, None}
+use Rattle.chunk_core.specs.declared.code.Code.{Code}
+use Rattle.chunk_core.specs.declared.code.How.{How}
+use Rattle.chunk_core.specs.declared.code.How.TheVariants as how
+use Rattle.interrupt_ctx.specs.Views.{interruption}
+use Rattle.interrupt_ctx.specs.declared.view.Interruption.{Interruption}
+use Rattle.interrupt_ctx.specs.declared.why.Why.{Why}
+use Rattle.interrupt_ctx.specs.declared.why.Why.TheVariants as why
+use Rattle.res_ledger.specs.declared.event.StreamNo.TheVariants.{Inner}
+use Rattle.run_rules.specs.Facts.{is_memory}
+use Rattle.run_rules.specs.Work.{Work, most_of, runs_in_turn, until_by}
+use Rattle.join_tale.specs.Keeping.{IsOuterStopped, IsTale}
+use Rattle.join_tale.specs.Tales.{AreCaused, Fate, HasCome, IsBegun, IsCaused, IsFoundSet, IsKnown, IsOpen, Tale, end_of, frames_of, load_of}
+use Rattle.join_tale.specs.Tales.Fate.{Begun, Skipped, Unmade}
+
+-- before the first message
+abbrev pub first_tale : Tale
+first_tale = record { front = []; late = []; fates = []; outer = None; set = []; seen = []; ceased = false; cut = None; memory = false }
+
+-- these were set, and those found set
+abbrev pub learned : Tale → List Interruption → List Interruption → Tale
+learned t vs cs = record t { set = t.set ++ vs; seen = t.seen ++ cs }
+
+-- the next stream has this fate
+abbrev pub fated : Tale → Fate → Tale
+fated t f = record t { fates = t.fates ++ f ∷ [] }
+
+-- a load is written as a frame
+abbrev pub written : Tale → ℕ → List ℕ → Tale
+written t k x = record t { front = t.front ++ load_of k x ∷ [] }
+
+-- a load comes too late to be written
+abbrev pub dropped : Tale → ℕ → List ℕ → Tale
+dropped t k x = record t { late = t.late ++ load_of k x ∷ [] }
+
+-- the write of a load fails
+abbrev pub failed : Tale → ℕ → List ℕ → Tale
+failed t k x = record t { late = load_of k x ∷ []; cut = Some (record { stream = k; payload = x }); ceased = true }
+
+-- a load comes and there is no memory to render it: it is the first that comes too late to be written
+abbrev pub lacked : Tale → ℕ → List ℕ → Tale
+lacked t k x = record t { late = load_of k x ∷ []; ceased = true; memory = true }
+
+-- an end comes while frames are written
+abbrev pub ended : Tale → ℕ → How → Tale
+ended t k h = record t { front = t.front ++ end_of k h ∷ []; ceased = is_memory h; memory = is_memory h }
+
+-- an end comes later
+abbrev pub ended_late : Tale → ℕ → How → Tale
+ended_late t k h = record t { late = t.late ++ end_of k h ∷ []; memory = t.memory || is_memory h }
+
+-- there was no memory to make the next stream
+abbrev pub unmade : Tale → Tale
+unmade t = record (fated t Unmade) { ceased = true; memory = true }
+
+-- the outer stream ended
+abbrev pub outer_ended : Tale → How → Tale
+outer_ended t h = record t { outer = Some h; ceased = t.ceased || is_memory h; memory = t.memory || is_memory h }
+
+-- the code was set in the context, or one was found there
+pub data Marks (context : ℕ) (w : Why) : List Interruption → List Interruption → Type 0 where
+  fresh : Marks context w (interruption context w ∷ []) []
+  stale : (there : Why) → Marks context w [] (interruption context there ∷ [])
+
+-- what is known when the end h of stream k is received: u is the tale behind it, and vs was set since
+pub record TellsEnd (work : Work) (u : Tale) (k : ℕ) (h : How) (vs : List Interruption) : Type 0 where
+  pub caused : AreCaused work u vs
+  pub halted : h ≡ how.Halted → IsFoundSet u 0 ⊎ IsFoundSet u (suc k)
+  pub fault : (c : Code) → h ≡ how.Fault c → IsKnown u 0
+  pub memory : h ≡ how.Memory → IsKnown u 0
+  pub until : (i : ℕ) → until_by work (Inner i) ≡ Some k → IsKnown u (suc i)
+
+-- what is known when the outer stream has ended so
+pub record TellsOuter (work : Work) (u : Tale) (h : How) (vs : List Interruption) : Type 0 where
+  pub caused : AreCaused work u vs
+  pub halted : h ≡ how.Halted → IsFoundSet u 0
+  pub fault : (c : Code) → h ≡ how.Fault c → IsKnown u 0
+  pub memory : h ≡ how.Memory → IsKnown u 0
+
+-- a stream may begin: its contexts aren't set, and where one stream is open at a time all that were begun have ended
+pub record MayBegin (work : Work) (t : Tale) : Type 0 where
+  pub run : ¬ (IsKnown t 0)
+  pub own : ¬ (IsKnown t (suc (length t.fates)))
+  pub alone : runs_in_turn work ≡ true → (j : ℕ) → IsBegun t j → HasCome t j
+
+-- how a tale begins, and what keeps it
+pub record StepsKeepTale (work : Work) : Type 0 where
+  pub starts : most_of work ≢ Some 0 → IsTale work first_tale
+  pub starts_met : (vs cs : List Interruption) → Marks 0 why.Take vs cs → most_of work ≡ Some 0 → IsTale work (record (learned first_tale vs cs) { ceased = true })
+  pub learns : (t : Tale) (vs cs : List Interruption) → IsTale work t → AreCaused work t vs → IsTale work (learned t vs cs)
+  pub begins : (t : Tale) → IsTale work t → MayBegin work t → IsTale work (fated t Begun)
+  pub skips : (t : Tale) → IsTale work t → IsFoundSet t 0 ⊎ IsFoundSet t (suc (length t.fates)) ⊎ IsOuterStopped t → IsTale work (fated t Skipped)
+  pub wants : (t : Tale) (vs cs : List Interruption) → Marks 0 why.Memory vs cs → IsTale work t → IsTale work (learned (unmade t) vs cs)
+  pub writes : (t : Tale) (k : ℕ) (x : List ℕ) → IsTale work t → t.ceased ≡ false → IsOpen t k → 0 < length x → most_of work ≢ Some (suc (length (frames_of t.front))) → IsTale work (written t k x)
+  pub meets : (t : Tale) (k : ℕ) (x : List ℕ) (vs cs : List Interruption) → Marks 0 why.Take vs cs → IsTale work t → t.ceased ≡ false → IsOpen t k → 0 < length x → most_of work ≡ Some (suc (length (frames_of t.front))) → IsTale work (record (learned (written t k x) vs cs) { ceased = true })
+  pub fails : (t : Tale) (k : ℕ) (x : List ℕ) (vs cs : List Interruption) → Marks 0 why.Sink vs cs → IsTale work t → t.ceased ≡ false → IsOpen t k → 0 < length x → IsTale work (learned (failed t k x) vs cs)
+  pub lacks : (t : Tale) (k : ℕ) (x : List ℕ) (vs cs : List Interruption) → Marks 0 why.Memory vs cs → IsTale work t → t.ceased ≡ false → IsOpen t k → 0 < length x → IsTale work (learned (lacked t k x) vs cs)
+  pub drops : (t : Tale) (k : ℕ) (x : List ℕ) → IsTale work t → t.ceased ≡ true → IsOpen t k → 0 < length x → IsTale work (dropped t k x)
+  pub ends : (t : Tale) (k : ℕ) (h : How) (vs cs : List Interruption) → IsTale work t → t.ceased ≡ false → IsOpen t k → TellsEnd work (learned (ended t k h) vs cs) k h vs → IsTale work (learned (ended t k h) vs cs)
+  pub ends_late : (t : Tale) (k : ℕ) (h : How) (vs cs : List Interruption) → IsTale work t → t.ceased ≡ true → IsOpen t k → TellsEnd work (learned (ended_late t k h) vs cs) k h vs → IsTale work (learned (ended_late t k h) vs cs)
+  pub outer_ends : (t : Tale) (h : How) (vs cs : List Interruption) → IsTale work t → t.outer ≡ None → TellsOuter work (learned (outer_ended t h) vs cs) h vs → IsTale work (learned (outer_ended t h) vs cs)
+
+-- a code that was set or found for its cause
+pub record IsMarked (work : Work) (t : Tale) (context : ℕ) (vs : List Interruption) : Type 0 where
+  pub caused : AreCaused work t vs
+  pub known : IsKnown t context
+
+-- what is marked is known, and caused
+abbrev pub MarksAreKnown : Work → Type 0
+MarksAreKnown work = (t : Tale) (context : ℕ) (w : Why) (vs cs : List Interruption) → Marks context w vs cs → IsCaused work (learned t vs cs) context w → IsMarked work (learned t vs cs) context vs
