@@ -1,0 +1,188 @@
+-- The rules of a ledger that an outer stream and the streams that it gives share.
+use Rattle.std.proofs.Common.{◌≡◌, ◌⊎◌, ℕ, suc, ◌+◌, ◌<◌, ◌≤◌, Bool, true, false, ◌&&◌, nat_eq, if◌then◌else◌, List, [], ◌∷◌, ◌++◌, map, flat_map, length, Option, Some, None, refl, sym, ◌∙◌, ap, subst, ⊎_elim, arith, length-append}
+use Rattle.std.proofs.lemmas.Bool.{cases_lt, lt-ltb, or_right}
+use Rattle.std.specs.List.{list_any as any, AllByRecursion}
+use Rattle.chunk_core.specs.Lists.{IsAmong}
+use Rattle.chunk_core.specs.Lists.IsAmong.{here, there}
+use Rattle.chunk_core.specs.Outcomes.{Outcomes}
+use Rattle.chunk_core.specs.declared.code.Exit.{Exit}
+use Rattle.chunk_core.specs.declared.code.How.{How}
+use Rattle.chunk_core.proofs.Bools.{and_true, each_passes, itself, or_left}
+use Rattle.chunk_core.proofs.Members.{among_mid}
+use Rattle.res_ledger.specs.declared.event.StreamNo.{StreamNo}
+use Rattle.res_ledger.specs.declared.event.StreamNo.TheVariants.{Inner, Outer}
+use Rattle.res_ledger.specs.declared.event.What.{What}
+use Rattle.res_ledger.specs.declared.event.What.TheVariants.{Acquire, Cancel, Close, Final, Lease}
+use Rattle.res_ledger.specs.declared.event.Event.{Event}
+use Rattle.res_ledger.specs.Ledger.{IsAcquired, Notes}
+use Rattle.res_ledger.specs.Own.{opens, opens_of, own}
+use Rattle.res_ledger.specs.Streams.{same_stream}
+use Rattle.res_ledger.proofs.Prefixes.{split_append, split_at}
+use Rattle.device_port.specs.Device.{DeviceTold}
+use Rattle.run_rules.specs.Facts.{acquired_row, at, leased_stream}
+use Rattle.run_rules.specs.Rules.{ClosesBeforeLeaving, HaveScopes, KeepsRules, is_owned, is_ours, may_lease}
+use Rattle.run_rules.specs.Work.{Opener, Stream, Values, Work, names_from, names_of, owners_from, scopes_by}
+use Rattle.plan_work.specs.Joined.{joined, places_in}
+use Rattle.joined_runs.specs.Shares.{AreTablesKept, ClosesRootBelow, IsJoinedLedger, IsOuterWord}
+use Rattle.joined_runs.proofs.MadeRows.{at_some}
+use Rattle.joined_runs.proofs.RowAccounts.{AreRowsKept}
+use Rattle.joined_runs.proofs.RowPlaces.{owner_left}
+
+-- whose the rows are: those of the tables come first
+abbrev pub owners_in : Opener → List Stream → List StreamNo
+owners_in opener streams = map (λ p. Outer) opener.tables ++ owners_from 0 streams
+
+-- what the streams noted, each of rows of its own, and of rows of tables that it was the last to leave
+pub record AreSharesKept (opener : Opener) (streams : List Stream) (w : ℕ → DeviceTold) (L : List Event) : Type 0 where
+  pub acquired : (k r s : ℕ) → k < length streams → Notes L (Inner k) (Acquire r s) → (r < length (places_in opener streams)) × ((w r).opens ≡ 1) × (at (owners_in opener streams) r ≡ Some (Inner k))
+  pub each : (r : ℕ) → length opener.tables ≤ r → r < length (places_in opener streams) → (w r).opens ≡ 1 → IsAcquired L r
+  pub ended : (k r : ℕ) (x : Exit) (ok : Bool) → k < length streams → Notes L (Inner k) (Final r x ok) → ((w r).exit ≡ Some x) × (ok ≡ nat_eq (w r).close_faults 0)
+  pub leases : (k : ℕ) (e : Event) → k < length streams → IsAmong e L → e.by ≡ Inner k → leased_stream e.what ≡ None
+  pub opened : (k : ℕ) (s : Stream) → at streams k ≡ Some s → length (opens (own (Inner k) L)) ≤ s.scopes
+  pub leaves : (k : ℕ) (e : Event) (j : ℕ) (x : Exit) → k < length streams → IsAmong e L → e.by ≡ Inner k → e.what ≡ Cancel j x → (j ≡ k) × ClosesRootBelow e.stamp L (Inner k)
+
+-- stream k is one of the streams from j on
+name_found : (k j : ℕ) (ss : List Stream) → j ≤ k → k < j + length ss → any (same_stream (Inner k)) (names_from j ss) ≡ true
+name_found k j [] l m = absurd (omega arith)
+name_found k j (s ∷ ss) l m =
+    ⊎_elim
+    (λ (n : j < k). or_right (nat_eq k j) (any (same_stream (Inner k)) (names_from (suc j) ss)) (name_found k (suc j) ss (omega arith) (omega arith)))
+    (λ (n : k ≤ j). let e : k ≡ j = omega arith in or_left (nat_eq k j) (any (same_stream (Inner k)) (names_from (suc j) ss)) (subst (λ i. nat_eq k i ≡ true) e (itself k)))
+    (le_or j k)
+  where
+    le_or : (a b : ℕ) → (a < b) ⊎ (b ≤ a)
+    le_or a b = grind arith
+
+-- what holds of each stream holds of each name
+each_name : (P : StreamNo → Type 0) (j : ℕ) (ss : List Stream) → ((i : ℕ) → i < length ss → P (Inner (j + i))) → AllByRecursion P (names_from j ss)
+each_name P j [] h = tt
+each_name P j (s ∷ ss) h =
+    let first : j + 0 ≡ j = omega arith in
+    (subst (λ i. P (Inner i)) first (h 0 (omega arith)), each_name P (suc j) ss (λ i l. let next : j + suc i ≡ suc j + i = omega arith in subst (λ k. P (Inner k)) next (h (suc i) (omega arith))))
+
+same_inner : (j k : ℕ) → Inner j ≡ Inner k → j ≡ k
+same_inner j k e = cc
+
+not_outer : (k : ℕ) → Outer ≡ Inner k → ⊥
+not_outer k e = cc
+
+module _ (t n : ℕ) (how : How) (owners : List StreamNo) where
+  -- what the outer stream notes it may note, where the first t rows are its own
+  outer_ours : ((r : ℕ) → r < t → at owners r ≡ Some Outer) → (v : What) → IsOuterWord t n how v → (may_lease n Outer (leased_stream v) && is_owned owners Outer (acquired_row v)) ≡ true
+  outer_ours first (Acquire r s) h = ap (λ (o : Option StreamNo). elim o [ Some q ↦ same_stream q Outer | None ↦ false ]) (first r h.0)
+  outer_ours first (Final r x ok) h = refl
+  outer_ours first (Lease j s) h = ap (λ b. (true && b) && true) (lt-ltb j n h.0)
+  outer_ours first (Close s x) h = refl
+  outer_ours first (Cancel j x) h = refl
+  outer_ours first v h = absurd h
+
+  opens_none : (v : What) → IsOuterWord t n how v → opens_of v ≡ []
+  opens_none (Acquire r s) h = refl
+  opens_none (Final r x ok) h = refl
+  opens_none (Lease j s) h = refl
+  opens_none (Close s x) h = refl
+  opens_none (Cancel j x) h = refl
+  opens_none v h = absurd h
+
+  no_opens : (M : List Event) → ((e : Event) → IsAmong e M → e.by ≡ Outer → IsOuterWord t n how e.what) → opens (own Outer M) ≡ []
+  no_opens [] h = refl
+  no_opens (e ∷ M) h =
+      let rest = no_opens M (λ x i. h x (there e i)) in
+      (elim e.by as (λ b. e.by ≡ b → opens (if same_stream b Outer then e.what ∷ own Outer M else own Outer M) ≡ []) [
+        | Outer ↦ λ q. ap (λ l. l ++ opens (own Outer M)) (opens_none e.what (h e (here M) q)) ∙ rest
+        | Inner j ↦ λ q. rest
+      ]) refl
+
+  -- a row is acquired by its owner
+  owned_what : (k : ℕ) (v : What) → ((r s : ℕ) → v ≡ Acquire r s → at owners r ≡ Some (Inner k)) → is_owned owners (Inner k) (acquired_row v) ≡ true
+  owned_what k (Acquire r s) h = ap (λ (o : Option StreamNo). elim o [ Some q ↦ same_stream q (Inner k) | None ↦ false ]) (h r s refl) ∙ itself k
+  owned_what k v h = refl
+
+module _ (opener : Opener) (streams : List Stream) (runs ideal : ℕ → Values → (ℕ → DeviceTold) → Outcomes) (w : ℕ → DeviceTold) (how : How) (L : List Event)
+    (a : IsJoinedLedger opener.max_open (length opener.tables) (length streams) how L) (t : AreTablesKept (length opener.tables) w L) (k : AreSharesKept opener streams w L) where
+  abbrev work : Work
+  work = joined opener streams runs ideal
+
+  abbrev n : ℕ
+  n = length streams
+
+  abbrev count : ℕ
+  count = length (places_in opener streams)
+
+  -- whose an event is
+  by_whom : (P : StreamNo → Type 0) (e : Event) → IsAmong e L → (e.by ≡ Outer → P Outer) → ((j : ℕ) → j < n → e.by ≡ Inner j → P (Inner j)) → P e.by
+  by_whom P e i p q = ⊎_elim (λ o. subst P (sym o) (p o)) (λ x. subst P (sym x.2) (q x.0 x.1 x.2)) (a.names e i)
+
+  -- the rows of the tables are rows
+  table_row : (r : ℕ) → r < length opener.tables → r < count
+  table_row r l = let sum = length-append opener.tables (flat_map (λ (s : Stream). s.places) streams) in omega (arith, l, sum)
+
+  acquired : (q : StreamNo) (r s : ℕ) → Notes L q (Acquire r s) → (r < count) × ((w r).opens ≡ 1)
+  acquired q r s m =
+      by_whom (λ b. (r < count) × ((w r).opens ≡ 1)) m.0 m.1
+      (λ o. let x : IsOuterWord (length opener.tables) n how (Acquire r s) = subst (λ v. IsOuterWord (length opener.tables) n how v) m.3 (a.words m.0 m.1 o) in (table_row r x.0, t.acquired r s (m.0, m.1, o, m.3)))
+      (λ j l o. let x = k.acquired j r s l (m.0, m.1, o, m.3) in (x.0, x.1))
+
+  each : (r : ℕ) → r < count → (w r).opens ≡ 1 → IsAcquired L r
+  each r l o = ⊎_elim (λ (b : r < length opener.tables). (Outer, 0, t.each r b o)) (λ (b : length opener.tables ≤ r). k.each r b l o) (cases_lt r (length opener.tables))
+
+  ended : (q : StreamNo) (r : ℕ) (x : Exit) (ok : Bool) → Notes L q (Final r x ok) → ((w r).exit ≡ Some x) × (ok ≡ nat_eq (w r).close_faults 0)
+  ended q r x ok m =
+      by_whom (λ b. ((w r).exit ≡ Some x) × (ok ≡ nat_eq (w r).close_faults 0)) m.0 m.1
+      (λ o. t.ended r x ok (m.0, m.1, o, m.3))
+      (λ j l o. k.ended j r x ok l (m.0, m.1, o, m.3))
+
+  pub rows_kept : AreRowsKept count w L
+  rows_kept = record { legal = a.legal; complete = a.complete; acquired = acquired; each = each; ended = ended }
+
+  ours : (e : Event) → IsAmong e L → is_ours work e ≡ true
+  ours e i =
+      by_whom (λ b. (any (same_stream b) (names_of work) && (may_lease n b (leased_stream e.what) && is_owned (owners_in opener streams) b (acquired_row e.what))) ≡ true) e i
+      (λ o. outer_ours (length opener.tables) n how (owners_in opener streams) (owner_left Outer opener.tables (owners_from 0 streams)) e.what (a.words e i o))
+      (λ j l o. and_true (any (same_stream (Inner j)) (names_from 0 streams)) (may_lease n (Inner j) (leased_stream e.what) && is_owned (owners_in opener streams) (Inner j) (acquired_row e.what)) (name_found j 0 streams (omega arith) (omega (arith, l)))
+      (subst (λ b. (may_lease n (Inner j) b && is_owned (owners_in opener streams) (Inner j) (acquired_row e.what)) ≡ true) (sym (k.leases j e l i o))
+      (owned_what (length opener.tables) n how (owners_in opener streams) j e.what (λ r s v. (k.acquired j r s l (e, i, o, v)).2))))
+
+  scopes : HaveScopes work L
+  scopes = (
+    let none = ap length (no_opens (length opener.tables) n how (owners_in opener streams) L a.words) in omega (arith, none),
+    each_name (λ q. length (opens (own q L)) ≤ scopes_by work q) 0 streams (λ i l.
+        let s = at_some streams i l in
+        let same : i ≡ 0 + i = omega arith in
+        subst (λ j. length (opens (own (Inner j) L)) ≤ scopes_by work (Inner j)) same
+        (subst (λ (o : Option Stream). length (opens (own (Inner i) L)) ≤ elim o [ Some s ↦ s.scopes | None ↦ 0 ]) (sym s.1) (k.opened i s.0 s.1))),
+  )
+
+  -- what has a lower stamp stands before
+  stands_before : (P Q : List Event) (e f : Event) → L ≡ P ++ e ∷ Q → IsAmong f L → f.stamp < e.stamp → IsAmong f P
+  stands_before P Q e f is i less =
+      let parts = split_at f L i in
+      let at_f = a.stamped parts.0 parts.1 f parts.2 in
+      let at_e = a.stamped P Q e is in
+      ⊎_elim
+      (λ x. subst (λ l. IsAmong f l) (sym x.1) (among_mid parts.0 x.0 f))
+      (λ x. let long = ap length x.1 in let sum = length-append P x.0 in absurd (omega (arith, at_f, at_e, less, long, sum)))
+      (split_append P (e ∷ Q) parts.0 parts.1 f (sym is ∙ parts.2))
+
+  leaving : ClosesBeforeLeaving L
+  leaving P Q e j x is by what =
+      let i : IsAmong e L = subst (λ l. IsAmong e l) (sym is) (among_mid P Q e) in
+      ⊎_elim
+      (λ o. absurd (not_outer j (sym o ∙ by)))
+      (λ m.
+      let c = k.leaves m.0 e j x m.1 i m.2 what in
+      let f = c.1 in
+      (f.1, (f.0, stands_before P Q e f.0 is f.2 f.5, f.3 ∙ ap (λ z. Inner z) (sym c.0), f.4)))
+      (a.names e i)
+
+  pub keeps_rules : KeepsRules work L
+  keeps_rules = record {
+    stamped = a.stamped;
+    legal = a.legal;
+    complete = a.complete;
+    ordered = a.ordered;
+    ours = each_passes (is_ours work) L ours;
+    scopes = scopes;
+    leaving = leaving;
+    pace = (a.ahead, a.narrow);
+  }

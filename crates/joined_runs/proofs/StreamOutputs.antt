@@ -1,0 +1,158 @@
+-- What was printed of streams that ran side by side.
+use Rattle.std.proofs.Common.{◌≡◌, ℕ, suc, ◌+◌, ◌<◌, List, [], ◌∷◌, ◌++◌, inl, map, flat_map, drop, length, Option, Some, None, refl, sym, ◌∙◌, ap, subst, ⊎_elim, arith, append-nil, append_assoc}
+use Rattle.std.proofs.lemmas.Grind.{flat_map-append}
+use Rattle.chunk_core.specs.Elements.{Element, rendering_of}
+use Rattle.chunk_core.specs.Lists.{IsAmong}
+use Rattle.chunk_core.specs.Lists.IsAmong.{here, there}
+use Rattle.chunk_core.specs.Outcomes.{Cut, Outcomes}
+use Rattle.chunk_core.specs.Tables.{Values}
+use Rattle.chunk_core.specs.Texts.{Frame, payloads_of}
+use Rattle.chunk_core.specs.declared.code.How.{How}
+use Rattle.res_ledger.specs.declared.event.StreamNo.TheVariants.{Inner, Outer}
+use Rattle.device_port.specs.Device.{DeviceTold}
+use Rattle.run_rules.specs.declared.end.EndOf.{EndOf}
+use Rattle.run_rules.specs.Facts.{at}
+use Rattle.run_rules.specs.Outputs.{AreOutputs, HaveOutputs, IsOutput, IsReported, IsRest}
+use Rattle.run_rules.specs.Work.{Opener, RunRecord, Stream, Work, names_from}
+use Rattle.join_tale.specs.Ended.{Ended}
+use Rattle.join_tale.specs.Laws.{OutputsFollow}
+use Rattle.join_tale.specs.Records.{EndedSo, Follows, bare}
+use Rattle.join_tale.specs.Tales.{Came, IsBegun, loads_of}
+use Rattle.join_tale.proofs.Endings.{come_begun, outputs_follow}
+use Rattle.join_tale.proofs.Stopping.{record_follows}
+use Rattle.plan_work.specs.Joined.{joined}
+use Rattle.joined_runs.specs.Together.{HasNotRun, HasRun, IsRestOf, RunsTogether, elements_in_pieces, first_row_in}
+use Rattle.joined_runs.proofs.Covered.{AreCovered}
+use Rattle.joined_runs.proofs.MadeRows.{at_below, at_some}
+use Rattle.joined_runs.proofs.Parted.{elements_both, loads_none, map_parts, rendered}
+
+-- the loads one after another
+abbrev together : List (List ℕ) → List ℕ
+together loads = flat_map (λ x. x) loads
+
+together_snoc : (loads : List (List ℕ)) (x : List ℕ) → together loads ++ x ≡ together (loads ++ x ∷ [])
+together_snoc loads x = sym (flat_map-append (λ (y : List ℕ). y) loads (x ∷ []) ∙ ap (λ l. together loads ++ l) (append-nil x))
+
+module _ (work : Work) (v : Values) (w : ℕ → DeviceTold) (F : List Frame) where
+  -- the outputs of streams by their ends, of which these are the names
+  pub outputs_from : (j : ℕ) (ss : List Stream) (es : List EndOf) → map (λ e. e.who) es ≡ names_from j ss
+      → ((k i : ℕ) (s : Stream) (e : EndOf) → k ≡ j + i → at ss i ≡ Some s → IsAmong e es → e.who ≡ Inner k → IsOutput work v w F k e.how) → AreOutputs work v w F j ss es
+  outputs_from j [] [] n h = refl
+  outputs_from j [] (e ∷ es) n h = cc
+  outputs_from j (s ∷ ss) [] n h = cc
+  outputs_from j (s ∷ ss) (e ∷ es) n h =
+      let who : e.who ≡ Inner j = cc in
+      let rest : map (λ (x : EndOf). x.who) es ≡ names_from (suc j) ss = cc in
+      let next : suc j ≡ j + 1 = omega arith in (
+        h j 0 s e (omega arith) refl (here es) who,
+        outputs_from (j + 1) ss es (subst (λ q. map (λ (x : EndOf). x.who) es ≡ names_from q ss) next rest) (λ k i t x is stands m by. h k (suc i) t x (omega (arith, is)) stands (there e m) by),
+      )
+
+module _ (opener : Opener) (ss : List Stream) (runs ideal : ℕ → Values → (ℕ → DeviceTold) → Outcomes) (c : RunRecord) (r : RunsTogether opener ss runs c) where
+  abbrev pub work : Work
+  work = joined opener ss runs ideal
+
+  -- the work, of which it isn't said what its streams give
+  abbrev pub plain_work : Work
+  plain_work = bare (Some opener) ss
+
+  pub outputs_law : OutputsFollow plain_work
+  outputs_law = outputs_follow plain_work
+
+  pub follows : Follows plain_work c
+  follows = record_follows plain_work r.tale c r.is_tale r.recorded r.settled
+
+  -- stream k was begun, or it was not
+  abbrev pub Ran : ℕ → Stream → Type 0
+  Ran k s = HasRun (runs k r.values r.home) r.home r.tale c.events k (first_row_in opener ss k) s
+
+  abbrev pub NotRan : ℕ → Stream → Type 0
+  NotRan k s = HasNotRun r.home r.tale k (first_row_in opener ss k) s
+
+  -- a stream that was begun is one of the streams
+  pub begun_below : (k : ℕ) → IsBegun r.tale k → k < length ss
+  begun_below k b = let l = at_below r.tale.fates k _ b in let n = r.recorded.count in omega (arith, l, n)
+
+  -- of a stream that wasn't begun no end came
+  pub never_came : (k : ℕ) (s : Stream) → NotRan k s → (h : How) → Came r.tale k h → ⊥
+  never_came k s u h m = u.unbegun (come_begun plain_work r.tale k r.is_tale h m)
+
+  -- so it was left
+  pub left_undone : (k : ℕ) (s : Stream) → NotRan k s → (h : How) → Ended r.tale k h → IsReported Cut h
+  left_undone k s u h e = ⊎_elim (λ w. absurd (never_came k s u h w.0)) (λ x. x) (outputs_law.ended r.tale k h r.is_tale e)
+
+  -- a stream whose end came ended so
+  pub ended_as : (k : ℕ) (s : Stream) (x : Ran k s) (h : How) → Came r.tale k h → x.how ≡ h
+  ended_as k s x h m = r.is_tale.ends.once k x.how h x.came m
+
+  printed_loads : (k : ℕ) → payloads_of k c.frames ≡ together (loads_of k r.tale.front)
+  printed_loads k = ap (payloads_of k) r.recorded.frames ∙ outputs_law.payloads k r.tale.front
+
+  -- where no load came too late, all pieces were printed
+  pub whole_printed : (k : ℕ) (s : Stream) (x : Ran k s) → loads_of k r.tale.late ≡ [] → payloads_of k c.frames ≡ rendering_of (elements_in_pieces x.pieces)
+  whole_printed k s x none =
+      let all : loads_of k r.tale.front ≡ map rendering_of x.pieces = sym (append-nil (loads_of k r.tale.front)) ∙ (ap (λ l. loads_of k r.tale.front ++ l) (sym none) ∙ x.received) in
+      printed_loads k ∙ (ap together all ∙ rendered x.pieces)
+
+  -- a front of the pieces is that of a run that was left
+  module _ (covers : AreCovered opener ss runs ideal r.values r.home) where
+    front_run : (k : ℕ) (s : Stream) → at ss k ≡ Some s → (x : Ran k s) (ps qs : List (List Element)) → x.pieces ≡ ps ++ qs → runs k r.values r.home (elements_in_pieces ps) Cut
+    front_run k s is x ps qs e =
+        (covers k s is).left (elements_in_pieces ps) (elements_in_pieces qs) x.end (subst (λ l. runs k r.values r.home l x.end) (ap elements_in_pieces e ∙ elements_both ps qs) x.run)
+
+    ran_output : (k : ℕ) (s : Stream) → at ss k ≡ Some s → Ran k s → (h : How) → Ended r.tale k h → IsOutput work r.values r.home c.frames k h
+    ran_output k s is x h e =
+        ⊎_elim
+        (λ w. record { elements = elements_in_pieces x.pieces; end = x.end; run = x.run; printed = whole_printed k s x w.1; reported = subst (λ z. IsReported x.end z) (ended_as k s x h w.0) x.reported })
+        (λ cut.
+        let p = map_parts rendering_of x.pieces (loads_of k r.tale.front) (loads_of k r.tale.late) (sym x.received) in
+        record { elements = elements_in_pieces p.0; end = Cut; run = front_run k s is x p.0 p.1 p.2; printed = printed_loads k ∙ (ap together (sym p.3) ∙ rendered p.0); reported = cut })
+        (outputs_law.ended r.tale k h r.is_tale e)
+
+    unbegun_output : (k : ℕ) (s : Stream) → at ss k ≡ Some s → NotRan k s → (h : How) → Ended r.tale k h → IsOutput work r.values r.home c.frames k h
+    unbegun_output k s is u h e = record {
+      elements = [];
+      end = Cut;
+      run = (covers k s is).idle u.untouched;
+      printed = printed_loads k ∙ ap together (loads_none k r.tale.front (λ m i q. u.unbegun (subst (λ j. IsBegun r.tale j) q (r.is_tale.frames.ours m (inl i)).0)));
+      reported = left_undone k s u h e;
+    }
+
+    output_of : (k : ℕ) (s : Stream) → at ss k ≡ Some s → (h : How) → Ended r.tale k h → IsOutput work r.values r.home c.frames k h
+    output_of k s is h e = ⊎_elim (λ x. ran_output k s is x h e) (λ u. unbegun_output k s is u h e) (r.each k s is)
+
+    -- the frame whose write failed goes on with a run of its stream
+    rest_of : (o : Option Frame) → c.cut ≡ o → IsRestOf o c.rest → IsRest work r.values r.home c.frames o c.rest
+    rest_of None e h = h
+    rest_of (Some f) e h =
+        let q = outputs_law.cut r.tale f r.is_tale (sym r.recorded.cut ∙ e) in
+        let l = begun_below f.stream q.0 in
+        let s = at_some ss f.stream l in
+        let front = loads_of f.stream r.tale.front in
+        ⊎_elim
+        (λ x.
+        let loads : map rendering_of x.pieces ≡ (front ++ f.payload ∷ []) ++ q.2.0 = sym x.received ∙ (ap (λ l. front ++ l) q.2.1 ∙ sym (append_assoc front (f.payload ∷ []) q.2.0)) in
+        let p = map_parts rendering_of x.pieces (front ++ f.payload ∷ []) q.2.0 loads in
+        record {
+          stream = l;
+          some = q.1;
+          more = h.0;
+          front = h.1;
+          text = h.2;
+          elements = elements_in_pieces p.0;
+          run = front_run f.stream s.0 s.1 x p.0 p.1 p.2;
+          goes_on = ap (λ l. l ++ f.payload) (printed_loads f.stream) ∙ (together_snoc front f.payload ∙ (ap together (sym p.3) ∙ rendered p.0));
+        })
+        (λ u. absurd (u.unbegun q.0))
+        (r.each f.stream s.0 s.1)
+
+    outputs_by : (es : List EndOf) → c.ends ≡ es → map (λ e. e.who) es ≡ Outer ∷ names_from 0 ss → AreOutputs work r.values r.home c.frames 0 ss (drop 1 es)
+    outputs_by [] is names = cc
+    outputs_by (e ∷ es) is names =
+        let rest : map (λ (x : EndOf). x.who) es ≡ names_from 0 ss = cc in
+        outputs_from work r.values r.home c.frames 0 ss es rest (λ k i s x same stands m who.
+        let number : i ≡ k = omega (arith, same) in
+        output_of k s (subst (λ n. at ss n ≡ Some s) number stands) x.how (subst (λ q. EndedSo r.tale q x.how) who (r.recorded.told x (subst (λ l. IsAmong x l) (sym is) (there e m)))))
+
+    pub stream_outputs : HaveOutputs work c r.values r.home
+    stream_outputs = record { numbers = follows.numbers; few = follows.few; outputs = outputs_by c.ends refl r.recorded.named; rest = rest_of c.cut refl r.rest }

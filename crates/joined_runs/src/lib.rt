@@ -1,0 +1,12 @@
+//! What a collector of many streams leaves, as plain data, and that it did the work of its plan.
+//!
+//! All is plain data that only contracts see, and nothing here runs. `RunsTogether` says what is left
+//! of a run once all its streams have ended: the devices that were made came back
+//! (`MadeComeBack`), the ledger is whole (`IsJoinedLedger`), the outer stream read its tables
+//! (`AreTablesKept`), the collector's tale is told by the record (`IsRecordOf`), and each stream was
+//! begun, noted its share and gave pieces of a run (`HasRun`), or was never begun (`HasNotRun`). It
+//! names no tree, no seat and no job. The law is that such a run did the work of its plan
+//! (`Performs`).
+#![tactic(auto)]
+
+pub mod laws;
