@@ -7,3 +7,4 @@ pub mod Keeping
 pub mod Outs
 pub mod Settling
 pub mod Leavers
+pub mod Paying

@@ -1,9 +1,10 @@
 -- What the calls of a main tree give.
-use Rattle.std.specs.Prelude.{◌≡◌, ℕ, ◌+◌, ◌<◌, ◌≤◌, Bool, List, Option, Some, None, Result, Ok, Err}
+use Rattle.std.specs.Prelude.{◌≡◌, ◌⊎◌, ℕ, ◌+◌, ◌<◌, ◌≤◌, Bool, List, Option, Some, None, Result, Ok, Err}
 use Rattle.std.specs.declared.alloc.AllocError.{AllocError}
 use Rattle.chunk_core.specs.declared.code.Exit.{Exit}
 use Rattle.chunk_core.specs.declared.code.Exit.TheVariants.{Succeeded}
 use Rattle.chunk_core.specs.Lists.{IsAmong}
+use Rattle.res_ledger.specs.declared.event.Event.{Event}
 use Rattle.res_ledger.specs.declared.event.What.TheVariants.{Acquire}
 use Rattle.res_ledger.specs.Own.{leased_rows}
 use Rattle.row_seat.specs.declared.view.View.{View}
@@ -27,6 +28,13 @@ module _ {P : Type 0} where
     pub splits : b.seat.splits ≡ a.seat.splits
     pub empty : (r : ℕ) → IsAmong r a.seat.empty → IsAmong r b.seat.empty
     pub lent : (j : ℕ) (T : List ℕ) → Lent a.seat j T → Lent b.seat j T
+
+  -- what was noted stays noted, what was left in a row stays left, what was handed over stays so, and the payload of an open row stays there or is left in it
+  pub record KeepsRows (v w : View P) : Type 0 where
+    pub noted : (e : Event) → IsAmong e v.events → IsAmong e w.events
+    pub left : (y : ℕ × P) → IsAmong y v.left → IsAmong y w.left
+    pub given : (y : ℕ × P) → IsAmong y v.given → IsAmong y w.given
+    pub opened : (y : ℕ × P) → IsAmong y v.opened → IsAmong y w.opened ⊎ IsAmong y w.left
 
   -- the stream j as a guest, whose seat is split off now, with a lease on the rows T
   abbrev pub guest_of : View P → ℕ → List ℕ → Guest

@@ -3,13 +3,13 @@ ghost use Rattle.std.specs.Prelude.{◌≡◌, ℕ, ◌+◌, ◌<◌, ◌≤◌,
 ghost use Rattle.chunk_core.specs.declared.code.Exit.{Exit};
 ghost use Rattle.res_ledger.specs.declared.event.StreamNo.TheVariants.{Outer};
 ghost use Rattle.row_seat.specs.Views.{OthersFit, start};
-ghost use Rattle.scope_tree.specs.Calls.{KeepsScopes, Seen};
+ghost use Rattle.scope_tree.specs.Calls.{KeepsScopes, Seen, used};
 ghost use Rattle.scope_tree.specs.Released.{away};
 ghost use Rattle.scope_tree.specs.Trees.{Fits, seen};
 ghost use Rattle.scope_tree.specs.Words.{owed};
 ghost use Rattle.join_tree.specs.Mains.{IsMain};
 ghost use Rattle.join_tree.specs.Progress.{Progress, closing, none_done, skipping};
-ghost use Rattle.join_tree.specs.Steps.{KeepsGuests, Pulls, TakesEvents};
+ghost use Rattle.join_tree.specs.Steps.{KeepsGuests, KeepsRows, Pulls, TakesEvents};
 
 use chunk_core::Exit;
 use row_seat::RowSeat;
@@ -24,6 +24,7 @@ where
     ensures main { (width n : ℕ) → IsMain S.Pay.ends width n (seen S.view result) (none_done S.Pay) }
     ensures seat { (seen S.view result).seat ≡ S.view seat }
     ensures room { ((seen S.view result).scopes ≡ room.scopes) × ((seen S.view result).rows ≡ room.rows) }
+    ensures used { used (seen S.view result) ≡ 0 }
     ensures owed { owed (seen S.view result).seat ≡ 1 }
     ensures fits { (d : S.Desk) → S.fits seat d → Fits S.view S.fits result d }
 {
@@ -46,6 +47,7 @@ where
     requires free { leased < streams → owed (seen S.view tree.old).seat + 2 ≤ (seen S.view tree.old).seat.spare }
     ensures pulls { (width : ℕ) (p : Progress S.Pay) → IsMain S.Pay.ends width streams (seen S.view tree.old) p → p.root ≡ None → p.leased ≡ leased → Pulls S.Pay.ends width streams (seen S.view tree.old) (seen S.view tree.new) p result }
     ensures guests { KeepsGuests (seen S.view tree.old) (seen S.view tree.new) }
+    ensures rows { KeepsRows (seen S.view tree.old).seat (seen S.view tree.new).seat }
     ensures events { TakesEvents 1 (seen S.view tree.old) (seen S.view tree.new) }
     ensures fits { Fits S.view S.fits tree.new desk.new }
     ensures others { OthersFit S.view S.fits Outer desk.old desk.new }
@@ -68,6 +70,7 @@ where
     requires free { owed (seen S.view tree.old).seat + 1 + away lease.rows.items (seen S.view tree.old).seat.opened ≤ (seen S.view tree.old).seat.spare }
     ensures main { (width n : ℕ) (p : Progress S.Pay) (us : List (ℕ × List ℕ)) → IsMain S.Pay.ends width n (seen S.view tree.old) p → p.waits ≡ (lease.stream, lease.rows.items) ∷ us → IsMain S.Pay.ends width n (seen S.view tree.new) (skipping p us) }
     ensures guests { KeepsGuests (seen S.view tree.old) (seen S.view tree.new) }
+    ensures rows { KeepsRows (seen S.view tree.old).seat (seen S.view tree.new).seat }
     ensures events { TakesEvents (1 + away lease.rows.items (seen S.view tree.old).seat.opened) (seen S.view tree.old) (seen S.view tree.new) }
     ensures fits { Fits S.view S.fits tree.new desk.new }
     ensures others { OthersFit S.view S.fits Outer desk.old desk.new }
@@ -83,6 +86,7 @@ where
     requires main { (width n : ℕ) × (p : Progress S.Pay) × IsMain S.Pay.ends width n (seen S.view tree.old) p × (p.root ≡ None) }
     ensures main { (width n : ℕ) (p : Progress S.Pay) → IsMain S.Pay.ends width n (seen S.view tree.old) p → p.root ≡ None → IsMain S.Pay.ends width n (seen S.view tree.new) (closing p exit) }
     ensures guests { KeepsGuests (seen S.view tree.old) (seen S.view tree.new) }
+    ensures rows { KeepsRows (seen S.view tree.old).seat (seen S.view tree.new).seat }
     ensures events { TakesEvents 0 (seen S.view tree.old) (seen S.view tree.new) }
     ensures owed { owed (seen S.view tree.new).seat ≡ 0 }
     ensures fits { Fits S.view S.fits tree.new desk.new }

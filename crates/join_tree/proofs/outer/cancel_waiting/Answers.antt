@@ -1,7 +1,9 @@
 use Rattle.std.proofs.Common.{arith}
+use Rattle.chunk_core.specs.declared.code.Exit.TheVariants.{Canceled}
 use Rattle.scope_tree.specs.Trees.{seen}
 use Rattle.join_tree.proofs.Growing.{main_cancels, main_may_cancel}
 use Rattle.join_tree.proofs.Keeping.{keeps_cancels, main_no_strangers}
+use Rattle.join_tree.proofs.Paying.{cancel_pays}
 use Rattle.join_tree.proofs.outer.cancel_waiting.Goals as goal
 
 pub cancel-requires-clause-may : goal.cancel-requires-clause-may
@@ -23,3 +25,6 @@ pub returns-clause-guests : goal.returns-clause-guests
 returns-clause-guests g c =
     let m = c.requires.main in
     keeps_cancels (seen g.S.RowSeat.view c.args.tree.now) (seen g.S.RowSeat.view c.cancel.new.self) m.2 m.3 c.args.lease.stream c.args.lease.rows.items m.4 m.5 c.cancel.ensures.cancels
+
+pub returns-clause-rows : goal.returns-clause-rows
+returns-clause-rows g c = cancel_pays (seen g.S.RowSeat.view c.args.tree.now) (seen g.S.RowSeat.view c.cancel.new.self) c.args.lease.stream c.args.lease.rows.items Canceled c.requires.fits.sound.kept.holds.once c.cancel.ensures.cancels

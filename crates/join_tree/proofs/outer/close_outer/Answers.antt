@@ -1,6 +1,7 @@
 use Rattle.scope_tree.specs.Trees.{seen}
 use Rattle.join_tree.proofs.Growing.{main_closes}
 use Rattle.join_tree.proofs.Keeping.{keeps_closes}
+use Rattle.join_tree.proofs.Paying.{close_pays}
 use Rattle.join_tree.proofs.outer.close_outer.Goals as goal
 
 pub returns-clause-main : goal.returns-clause-main
@@ -10,3 +11,6 @@ pub returns-clause-guests : goal.returns-clause-guests
 returns-clause-guests g c =
     let m = c.requires.main in
     keeps_closes (seen g.S.RowSeat.view c.args.tree.now) (seen g.S.RowSeat.view c.close.new.self) m.2 c.args.exit m.3 m.4 c.close.ensures.closes
+
+pub returns-clause-rows : goal.returns-clause-rows
+returns-clause-rows g c = close_pays (seen g.S.RowSeat.view c.args.tree.now) (seen g.S.RowSeat.view c.close.new.self) 0 c.args.exit c.requires.fits.sound.kept.holds.once c.close.ensures.closes

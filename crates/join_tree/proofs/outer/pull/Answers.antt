@@ -5,6 +5,7 @@ use Rattle.tree_laws.specs.Called.{MayLease}
 use Rattle.scope_tree.specs.Trees.{seen}
 use Rattle.join_tree.proofs.Growing.{main_closes, main_leases, main_main, main_may_lease}
 use Rattle.join_tree.proofs.Keeping.{keeps_closes, keeps_leases, leased_tables, leases_take}
+use Rattle.join_tree.proofs.Paying.{close_pays, lease_pays}
 use Rattle.join_tree.proofs.outer.pull.Goals as goal
 
 pub lease-requires-clause-main : goal.lease-requires-clause-main
@@ -46,3 +47,9 @@ pub returns-else-leased-streams-clause-guests : goal.returns-else-leased-streams
 returns-else-leased-streams-clause-guests g c =
     let m = c.requires.main in
     keeps_closes (seen g.S.RowSeat.view c.args.tree.now) (seen g.S.RowSeat.view c.close.new.self) m.1 Succeeded m.2 m.3 c.close.ensures.closes
+
+pub returns-in_ok-lease-clause-rows : goal.returns-in_ok-lease-clause-rows
+returns-in_ok-lease-clause-rows g c = lease_pays (seen g.S.RowSeat.view c.args.tree.now) (seen g.S.RowSeat.view c.lease.new.self) 0 c.args.leased c.in_ok-lease.lease.rows.items c.in_ok-lease.ensures.ok.1
+
+pub returns-else-leased-streams-clause-rows : goal.returns-else-leased-streams-clause-rows
+returns-else-leased-streams-clause-rows g c = close_pays (seen g.S.RowSeat.view c.args.tree.now) (seen g.S.RowSeat.view c.close.new.self) 0 Succeeded c.requires.fits.sound.kept.holds.once c.close.ensures.closes

@@ -1,0 +1,174 @@
+-- Rows that are acquired one after another.
+use Rattle.std.proofs.Common.{◌≡◌, ◌↔◌, ℕ, zero, suc, ◌+◌, ◌-◌, ◌<◌, ◌≤◌, Bool, cond, List, [], ◌∷◌, ◌++◌, length, map, refl, sym, ◌∙◌, ap, subst, ⊎_elim, arith, eq-eqb, ne_eqb, append-nil, length-append}
+use Rattle.std.proofs.lemmas.List.{map-append}
+use Rattle.std.specs.List.{AllByRecursion}
+use Rattle.chunk_core.specs.declared.code.Exit.{Exit}
+use Rattle.chunk_core.specs.Lists.{IsAmong}
+use Rattle.chunk_core.specs.Lists.IsAmong.{here, there}
+use Rattle.chunk_core.proofs.Cuts.{append_assoc}
+use Rattle.chunk_core.proofs.Each.{each_append}
+use Rattle.chunk_core.proofs.Members.{among_last, among_snoc}
+use Rattle.res_ledger.specs.declared.event.Event.{Event}
+use Rattle.res_ledger.specs.declared.event.What.TheVariants.{Acquire}
+use Rattle.row_seat.specs.declared.view.View.{View}
+use Rattle.row_seat.specs.Views.{HasRow, IsWithin, noted, paid, placed, run, with_row, without}
+use Rattle.row_seat.proofs.Members.{among_kept, among_without}
+use Rattle.scope_tree.specs.Calls.{AcquiresRow as Acquired, KeepsScopes, Seen, TakesRoom}
+use Rattle.scope_tree.specs.Words.{acquiring, owed}
+use Rattle.scope_tree.proofs.Lent.{length_with}
+use Rattle.scope_tree.proofs.Use.{seen_is}
+use Rattle.tree_laws.specs.Called.{MayAcquire}
+use Rattle.tree_laws.specs.Called.Called.{none, acquired, written}
+use Rattle.tree_laws.proofs.Follows.{called_then}
+use Rattle.outer_tables.specs.Rows.{AcquiresRows, acquires, rows_from}
+
+run_append : (r m n : ℕ) → run r (m + n) ≡ run r m ++ run (r + m) n
+run_append r zero n = ap (λ k. run r k) (let e : 0 + n ≡ n = omega arith in e) ∙ ap (λ k. run k n) (let e : r ≡ r + 0 = omega arith in e)
+run_append r (suc m) n =
+    let t = run_append (suc r) m n in
+    ap (λ k. run r k) (let e : suc m + n ≡ suc (m + n) = omega arith in e) ∙ ap (λ l. r ∷ l) (t ∙ ap (λ k. run (suc r) m ++ run k n) (let e : suc r + m ≡ r + suc m = omega arith in e))
+
+acquires_append : (r m n : ℕ) → acquires r (m + n) ≡ acquires r m ++ acquires (r + m) n
+acquires_append r m n = ap (map (λ q. Acquire q 0)) (run_append r m n) ∙ map-append (λ q. Acquire q 0) (run r m) (run (r + m) n)
+
+module _ {P : Type 0} where
+  rows_append : (r : ℕ) (ps qs : List P) → rows_from r (ps ++ qs) ≡ rows_from r ps ++ rows_from (r + length ps) qs
+  rows_append r [] qs = ap (λ k. rows_from k qs) (let e : r ≡ r + 0 = omega arith in e)
+  rows_append r (p ∷ ps) qs =
+      let y : ℕ × P = (r, p) in
+      ap (λ l. y ∷ l) (rows_append (suc r) ps qs ∙ ap (λ k. rows_from (suc r) ps ++ rows_from k qs) (let e : suc r + length ps ≡ r + suc (length ps) = omega arith in e))
+
+  -- another payload in the row that was acquired last
+  with_last : (r : ℕ) (p q : P) (xs : List (ℕ × P)) → ¬ (HasRow xs r) → with_row r q (xs ++ (r, p) ∷ []) ≡ xs ++ (r, q) ∷ []
+  with_last r p q [] h = ap (λ b. let y : ℕ × P = (r, q) in let z : ℕ × P = (r, p) in cond b (y ∷ []) (z ∷ [])) (eq-eqb r r refl)
+  with_last r p q (x ∷ xs) h =
+      ap (λ b. let y : ℕ × P = (x.0, q) in let z : ℕ × P = (r, p) in cond b (y ∷ (xs ++ z ∷ [])) (x ∷ with_row r q (xs ++ z ∷ []))) (ne_eqb x.0 r (λ e. h (x.1, subst (λ i. IsAmong (i, x.1) (x ∷ xs)) e (here xs))))
+      ∙ ap (λ l. x ∷ l) (with_last r p q xs (λ i. h (i.0, there x i.1)))
+
+  keeps_scopes : (a b c : Seen P) → KeepsScopes a b → KeepsScopes b c → KeepsScopes a c
+  keeps_scopes a b c k l = record { usable = λ s u. l.usable s (k.usable s u); closed = λ s u. l.closed s (k.closed s u) }
+
+  takes_room : (m n : ℕ) (a b c : Seen P) → TakesRoom 0 m a b → TakesRoom 0 n b c → TakesRoom 0 (m + n) a c
+  takes_room m n a b c k l = record {
+    opens = let x = k.opens in let y = l.opens in omega (x, y, arith);
+    used = let x = k.used in let y = l.used in omega (x, y, arith);
+    own = λ T. let x = k.own T in let y = l.own T in omega (x, y, arith);
+    scopes = l.scopes ∙ k.scopes;
+    rows = l.rows ∙ k.rows;
+  }
+
+  module _ (ends : P → Exit → Bool → P → Type 0) where
+    -- the tree with rows more
+    abbrev more : (a b : Seen P) → List (ℕ × P) → List Event → ℕ → Seen P
+    more a b rows events n = record a { seat = record a.seat { empty = b.seat.empty; opened = a.seat.opened ++ rows; events = a.seat.events ++ events; spare = a.seat.spare - n } }
+
+    pub acquires_none : (r : ℕ) (a : Seen P) → AcquiresRows ends r [] a a
+    acquires_none r a = record {
+      events = [];
+      noted = refl;
+      own = tt;
+      tree = ap (λ x. let v : View P = record a.seat { opened = x } in let s : Seen P = record a { seat = v } in s) (sym (append-nil a.seat.opened))
+          ∙ ap (λ x. let v : View P = record a.seat { opened = a.seat.opened ++ []; events = x } in let s : Seen P = record a { seat = v } in s) (sym (append-nil a.seat.events))
+          ∙ ap (λ x. let v : View P = record a.seat { opened = a.seat.opened ++ []; events = a.seat.events ++ []; spare = x } in let s : Seen P = record a { seat = v } in s) (let e : a.seat.spare ≡ a.seat.spare - 0 = omega arith in e);
+      empty = λ q. (λ m. (m, λ w. absurd (let x = w.0 in let y = w.1 in omega (x, y, arith))), λ m. m.0);
+      calls = none;
+      scopes = record { usable = λ s u. u; closed = λ s u. u };
+      room = record { opens = omega arith; used = omega arith; own = λ T. omega arith; scopes = refl; rows = refl };
+      owed = omega arith;
+    }
+
+    -- one row, as the tree acquired it
+    pub acquires_one : (a b : Seen P) (r : ℕ) (p : P) → MayAcquire a 0 r → Acquired a 0 r p b → KeepsScopes a b → TakesRoom 0 1 a b → owed b.seat ≡ owed a.seat + 1 → AcquiresRows ends r (p ∷ []) a b
+    acquires_one a b r p may o scopes room owes =
+        let e = acquiring a.seat r 0 o.stamp in
+        let rest : b.seat.empty ≡ without r a.seat.empty = ap (λ v. v.empty) o.seat in record {
+          events = e ∷ [];
+          noted = refl;
+          own = (refl, tt);
+          tree = seen_is a b (placed (noted a.seat e) r p) o.seat o.shelf o.scopes o.rows ∙ ap (λ l. let v : View P = record (placed (noted a.seat e) r p) { empty = l } in let s : Seen P = record a { seat = v } in s) (sym rest);
+          empty = λ q. (
+            λ m. let t = among_without r a.seat.empty q (subst (λ l. IsAmong q l) rest m) in (t.0, λ w. t.1 (let x = w.0 in let y = w.1 in omega (x, y, arith))),
+            λ m. subst (λ l. IsAmong q l) (sym rest) (among_kept r a.seat.empty q m.0 (λ i. m.1 (omega (i, arith), omega (i, arith)))),
+          );
+          calls = acquired a b 0 r p none may o;
+          scopes = scopes;
+          room = room;
+          owed = owes;
+        }
+
+    -- and then with another payload
+    module _ (a b : Seen P) (r : ℕ) (p q : P) (one : AcquiresRows ends r (p ∷ []) a b) (new : ¬ (HasRow a.seat.opened r)) where
+      abbrev changed : Seen P
+      changed = record b { seat = paid b.seat r q }
+
+      opened_is : b.seat.opened ≡ a.seat.opened ++ (r, p) ∷ []
+      opened_is = ap (λ s. s.seat.opened) one.tree
+
+      changed_is : changed ≡ more a b ((r, q) ∷ []) one.events 1
+      changed_is =
+          let y : ℕ × P = (r, q) in
+          ap (λ (s : Seen P). let t : Seen P = record s { seat = record s.seat { opened = with_row r q b.seat.opened } } in t) one.tree
+          ∙ ap (λ l. let v : View P = record (more a b (y ∷ []) one.events 1).seat { opened = l } in let s : Seen P = record a { seat = v } in s) (ap (with_row r q) opened_is ∙ with_last r p q a.seat.opened new)
+
+      changed_acquires : AcquiresRows ends r (q ∷ []) a changed
+      changed_acquires =
+          let l = length_with r q b.seat.opened in record {
+            events = one.events;
+            noted = one.noted;
+            own = one.own;
+            tree = changed_is;
+            empty = one.empty;
+            calls = written b changed r q one.calls (p, subst (λ l. IsAmong (r, p) l) (sym opened_is) (among_last a.seat.opened (r, p))) refl;
+            scopes = record { usable = one.scopes.usable; closed = one.scopes.closed };
+            room = record { opens = one.room.opens; used = one.room.used; own = one.room.own; scopes = one.room.scopes; rows = one.room.rows };
+            owed = let o = one.owed in omega (l, o, arith);
+          }
+
+      pub acquires_changed : (c : Seen P) → c ≡ changed → AcquiresRows ends r (q ∷ []) a c
+      acquires_changed c is = subst (λ s. AcquiresRows ends r (q ∷ []) a s) (sym is) changed_acquires
+
+    -- the row that was acquired last has this payload
+    pub the_last : (r : ℕ) (p q : P) (a b : Seen P) → AcquiresRows ends r (p ∷ []) a b → ¬ (HasRow a.seat.opened r) → IsAmong (r, q) b.seat.opened → q ≡ p
+    the_last r p q a b one new m =
+        ⊎_elim (λ i. absurd (new (q, i))) (λ e. ap (λ (y : ℕ × P). y.1) e) (among_snoc a.seat.opened (r, q) (r, p) (subst (λ l. IsAmong (r, q) l) (ap (λ s. s.seat.opened) one.tree) m))
+
+    -- rows, and then the rows behind them
+    module _ (a b c : Seen P) (r : ℕ) (ps qs : List P) (f : AcquiresRows ends r ps a b) (g : AcquiresRows ends (r + length ps) qs b c) where
+      all_noted : map (λ (e : Event). e.what) (f.events ++ g.events) ≡ acquires r (length (ps ++ qs))
+      all_noted =
+          map-append (λ (e : Event). e.what) f.events g.events ∙ ap (λ l. l ++ map (λ (e : Event). e.what) g.events) f.noted ∙ ap (λ l. acquires r (length ps) ++ l) g.noted
+          ∙ sym (acquires_append r (length ps) (length qs)) ∙ ap (acquires r) (sym (length-append ps qs))
+
+      by_same : (e : Event) → e.by ≡ b.seat.by → e.by ≡ a.seat.by
+      by_same e h = h ∙ ap (λ s. s.seat.by) f.tree
+
+      whose : (L : List Event) → AllByRecursion (λ e. e.by ≡ b.seat.by) L → AllByRecursion (λ e. e.by ≡ a.seat.by) L
+      whose [] h = tt
+      whose (e ∷ L) h = (by_same e h.0, whose L h.1)
+
+      tree_is : c ≡ more a c (rows_from r (ps ++ qs)) (f.events ++ g.events) (length (ps ++ qs))
+      tree_is =
+          g.tree ∙ ap (λ (s : Seen P). more s c (rows_from (r + length ps) qs) g.events (length qs)) f.tree
+          ∙ ap (λ l. let v : View P = record a.seat { empty = c.seat.empty; opened = l; events = a.seat.events ++ f.events ++ g.events; spare = a.seat.spare - length ps - length qs } in let s : Seen P = record a { seat = v } in s) (append_assoc a.seat.opened (rows_from r ps) (rows_from (r + length ps) qs) ∙ ap (λ l. a.seat.opened ++ l) (sym (rows_append r ps qs)))
+          ∙ ap (λ l. let v : View P = record a.seat { empty = c.seat.empty; opened = a.seat.opened ++ rows_from r (ps ++ qs); events = l; spare = a.seat.spare - length ps - length qs } in let s : Seen P = record a { seat = v } in s) (append_assoc a.seat.events f.events g.events)
+          ∙ ap (λ n. let v : View P = record a.seat { empty = c.seat.empty; opened = a.seat.opened ++ rows_from r (ps ++ qs); events = a.seat.events ++ (f.events ++ g.events); spare = n } in let s : Seen P = record a { seat = v } in s) (let l = length-append ps qs in let e : a.seat.spare - length ps - length qs ≡ a.seat.spare - length (ps ++ qs) = omega (l, arith) in e)
+
+      still_empty : (q : ℕ) → IsAmong q c.seat.empty ↔ (IsAmong q a.seat.empty × ¬ (IsWithin r (r + length (ps ++ qs)) q))
+      still_empty q =
+          let l = length-append ps qs in let back = f.empty q in let on = g.empty q in (
+            λ m. let t = on.0 m in let u = back.0 t.0 in (u.0, λ w. let x = w.0 in let y = w.1 in let n : ¬ (r + length ps ≤ q) = λ h. t.1 (h, omega (l, y, arith)) in u.1 (x, let z : q < r + length ps = omega (n, arith) in z)),
+            λ m. on.1 (back.1 (m.0, λ w. m.1 (w.0, let y = w.1 in omega (l, y, arith))), λ w. m.1 (let x = w.0 in omega (x, arith), let y = w.1 in omega (l, y, arith))),
+          )
+
+      pub acquires_then : AcquiresRows ends r (ps ++ qs) a c
+      acquires_then = record {
+        events = f.events ++ g.events;
+        noted = all_noted;
+        own = each_append (λ (e : Event). e.by ≡ a.seat.by) f.events g.events f.own (whose g.events g.own);
+        tree = tree_is;
+        empty = still_empty;
+        calls = called_then f.calls g.calls;
+        scopes = keeps_scopes a b c f.scopes g.scopes;
+        room = subst (λ n. TakesRoom 0 n a c) (sym (length-append ps qs)) (takes_room (length ps) (length qs) a b c f.room g.room);
+        owed = let x = f.owed in let y = g.owed in let l = length-append ps qs in omega (x, y, l, arith);
+      }

@@ -1,0 +1,45 @@
+-- The rows of tables.
+use Rattle.std.specs.Prelude.{◌≡◌, ◌↔◌, ℕ, suc, ◌+◌, ◌-◌, Bool, List, [], ◌∷◌, ◌++◌, length, map, Result}
+use Rattle.std.specs.List.{AllByRecursion}
+use Rattle.chunk_core.specs.declared.code.Exit.{Exit}
+use Rattle.chunk_core.specs.Lists.{IsAmong}
+use Rattle.device_port.specs.Device.{DeviceTold}
+use Rattle.res_ledger.specs.declared.event.Event.{Event}
+use Rattle.res_ledger.specs.declared.event.What.{What}
+use Rattle.res_ledger.specs.declared.event.What.TheVariants.{Acquire}
+use Rattle.row_seat.specs.Views.{IsWithin, paid, run}
+use Rattle.scope_tree.specs.Calls.{KeepsScopes, Seen, TakesRoom}
+use Rattle.scope_tree.specs.Words.{owed}
+use Rattle.tree_laws.specs.Called.{Called}
+use Rattle.outer_tables.specs.declared.not_read.NotRead.{NotRead}
+use Rattle.outer_tables.specs.Whole.{ReadsWhole}
+
+-- so many rows are acquired in the root, from the row r on
+abbrev pub acquires : ℕ → ℕ → List What
+acquires r n = map (λ q. Acquire q 0) (run r n)
+
+module _ {P : Type 0} where
+  -- the payloads in the rows from r on
+  abbrev pub rows_from : ℕ → List P → List (ℕ × P)
+  rows_from r [] = []
+  rows_from r (p ∷ ps) = (r, p) ∷ rows_from (suc r) ps
+
+  -- The rows from r on were acquired in the root with these payloads, by calls of the tree. Their Acquires were noted, and they are empty no more.
+  pub record AcquiresRows (ends : P → Exit → Bool → P → Type 0) (r : ℕ) (ps : List P) (a b : Seen P) : Type 0 where
+    pub events : List Event
+    pub noted : map (λ e. e.what) events ≡ acquires r (length ps)
+    pub own : AllByRecursion (λ e. e.by ≡ a.seat.by) events
+    pub tree : b ≡ record a { seat = record a.seat { empty = b.seat.empty; opened = a.seat.opened ++ rows_from r ps; events = a.seat.events ++ events; spare = a.seat.spare - length ps } }
+    pub empty : (q : ℕ) → IsAmong q b.seat.empty ↔ (IsAmong q a.seat.empty × ¬ (IsWithin r (r + length ps) q))
+    pub calls : Called ends a [] b
+    pub scopes : KeepsScopes a b
+    pub room : TakesRoom 0 (length ps) a b
+    pub owed : owed b.seat ≡ owed a.seat + length ps
+
+  -- the device in the row r was read, and the row has it still
+  pub record ReadsRow (told : P → DeviceTold) (r : ℕ) (a b : Seen P) (result : Result (List ℕ) NotRead) : Type 0 where
+    pub before : P
+    pub after : P
+    pub held : IsAmong (r, before) a.seat.opened
+    pub read : ReadsWhole (told before) (told after) result
+    pub tree : b ≡ record a { seat = paid a.seat r after }

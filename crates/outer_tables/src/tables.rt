@@ -1,0 +1,48 @@
+//! All tables are read.
+ghost use Rattle.std.specs.Prelude.{◌≡◌, ℕ, ◌+◌, ◌*◌, ◌<◌, ◌≤◌, length, map, None};
+ghost use Rattle.chunk_core.specs.Lists.{IsAmong};
+ghost use Rattle.res_ledger.specs.declared.event.StreamNo.TheVariants.{Outer};
+ghost use Rattle.row_seat.specs.Views.{OthersFit};
+ghost use Rattle.scope_tree.specs.Calls.{used};
+ghost use Rattle.scope_tree.specs.Trees.{Fits, seen};
+ghost use Rattle.scope_tree.specs.Words.{owed};
+ghost use Rattle.join_tree.specs.Mains.{IsMain};
+ghost use Rattle.join_tree.specs.Progress.{Progress};
+ghost use Rattle.pull_stepper.specs.Held.{FinishesDevice};
+ghost use Rattle.outer_tables.specs.Tables.{ReadsTables};
+
+use crate::not_read::NotRead;
+use crate::table::read_table;
+use csv_pipes::Dicts;
+use device_port::Depot;
+use pipeline_desc::TableSpec;
+use pull_stepper::Held;
+use row_seat::RowSeat;
+use scope_tree::Tree;
+use std::alloc::Global;
+
+/// Opens the tables in order as the first rows of the root, each of which is read whole before the
+/// next is opened, and gives their dictionaries. The root stays open also where a table isn't read.
+pub fn read_tables<D: Depot, S: RowSeat<Pay = Held<D::Dev>>>(
+    alloc: Global,
+    tree: &mut Tree<S>,
+    desk: &mut S::Desk,
+    tables: &[TableSpec],
+    depot: &mut D,
+) -> Result<Dicts, NotRead>
+    requires fits { Fits S.view S.fits tree.old desk.old }
+    requires main { (width n : ℕ) × (p : Progress D.Dev) × IsMain (FinishesDevice D.Dev.Device.told) width n (seen S.view tree.old) p × (p.root ≡ None) }
+    requires rows { (r : ℕ) → r < length tables.now → IsAmong r (seen S.view tree.old).seat.empty }
+    requires room { used (seen S.view tree.old) + length tables.now ≤ (seen S.view tree.old).rows }
+    requires free { owed (seen S.view tree.old).seat + 2 * length tables.now ≤ (seen S.view tree.old).seat.spare }
+    ensures reads { ReadsTables D.Dev.Device.told (FinishesDevice D.Dev.Device.told) (map (λ t. t.path) tables.now) (D.told depot.old) (D.told depot.new) (seen S.view tree.old) (seen S.view tree.new) result }
+    ensures fits { Fits S.view S.fits tree.new desk.new }
+    ensures others { OthersFit S.view S.fits Outer desk.old desk.new }
+{
+    let mut dicts = Dicts::new(alloc);
+    for (row, table) in tables.iter().enumerate() {
+        let dict = read_table(alloc, tree, desk, row as u32, &table.path, depot)?;
+        dicts.push(alloc, dict)?;
+    }
+    Ok(dicts)
+}
