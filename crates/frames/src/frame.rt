@@ -1,0 +1,109 @@
+//! One frame of the output.
+ghost use Rattle.std.specs.Prelude.{◌≡◌, ◌≢◌, ◌+◌, ◌-◌, ◌^◌, ◌<◌, ◌≤◌, ◌++◌, [], ◌∷◌, length};
+ghost use Rattle.chunk_core.specs.Elements.{elements};
+ghost use Rattle.chunk_core.specs.Texts.{frame_text};
+ghost use Rattle.device_port.specs.Sink.{Puts};
+ghost use Rattle.frames.specs.Frame.{PutsLoad, PutsText, header_text};
+
+use arrayvec::ArrayVec;
+use chunk_core::{Load, render};
+use device_port::{Failed, Sink, put};
+use itoa::Buffer;
+use std::alloc::{AllocError, Global};
+
+/// The longest payload that is written in one call with its header.
+const LONGEST_GATHERED: usize = 8000;
+
+/// Why a load wasn't printed.
+#[derive(Clone, Copy, Debug, PartialEq, Eq)]
+pub enum NotPut {
+    /// A write failed.
+    Unwritten,
+    /// Memory was wanting, and nothing was written.
+    Memory,
+}
+
+/// The first line of a frame: the stream's number and the payload's length in bytes.
+fn header_of(stream: u32, size: usize) -> ArrayVec<u8, 96>
+    ensures text { result.items ≡ header_text stream size }
+    ensures fits { length result.items ≤ 96 }
+{
+    let mut header = ArrayVec::new();
+    let mut digits = Buffer::new();
+    let _ = header.try_extend_from_slice(digits.format(stream).as_bytes());
+    let _ = header.try_extend_from_slice(b" ");
+    let _ = header.try_extend_from_slice(digits.format(size).as_bytes());
+    let _ = header.try_extend_from_slice(b"\n");
+    header
+}
+
+/// Writes one frame, without memory: the stream's number, the payload's length, the payload and
+/// a line end. A frame of a short payload is one write call.
+pub fn put_frame<K: Sink>(out: &mut K, stream: u32, payload: &[u8]) -> Result<(), Failed>
+    requires some { 0 < length payload.now }
+    requires room { (K.told out.old).faults < 2 ^ 64 - 1 }
+    ensures { Puts (K.told out.old) (K.told out.new) (frame_text stream payload.now) result }
+{
+    let header = header_of(stream, payload.len());
+    if payload.len() <= LONGEST_GATHERED {
+        put_gathered(out, header.as_slice(), payload)
+    } else {
+        put_in_parts(out, header.as_slice(), payload)
+    }
+}
+
+fn put_gathered<K: Sink>(out: &mut K, header: &[u8], payload: &[u8]) -> Result<(), Failed>
+    requires header { length header.now ≤ 96 }
+    requires payload { length payload.now ≤ 8000 }
+    requires room { (K.told out.old).faults < 2 ^ 64 - 1 }
+    ensures { Puts (K.told out.old) (K.told out.new) (header.now ++ (payload.now ++ 10 ∷ [])) result }
+{
+    let mut frame = ArrayVec::<u8, 8192>::new();
+    let _ = frame.try_extend_from_slice(header);
+    let _ = frame.try_extend_from_slice(payload);
+    let _ = frame.try_extend_from_slice(b"\n");
+    put(out, frame.as_slice())
+}
+
+fn put_in_parts<K: Sink>(out: &mut K, header: &[u8], payload: &[u8]) -> Result<(), Failed>
+    requires room { (K.told out.old).faults < 2 ^ 64 - 1 }
+    ensures { Puts (K.told out.old) (K.told out.new) (header.now ++ (payload.now ++ 10 ∷ [])) result }
+{
+    put(out, header)?;
+    put_line(out, payload)
+}
+
+fn put_line<K: Sink>(out: &mut K, payload: &[u8]) -> Result<(), Failed>
+    requires room { (K.told out.old).faults < 2 ^ 64 - 1 }
+    ensures { Puts (K.told out.old) (K.told out.new) (payload.now ++ 10 ∷ []) result }
+{
+    put(out, payload)?;
+    put(out, b"\n")
+}
+
+/// Prints a load as one frame. Bytes are written as they are, and take no memory; another load is
+/// rendered first.
+pub fn put_load<K: Sink>(alloc: Global, out: &mut K, stream: u32, load: &Load) -> Result<(), NotPut>
+    requires some { 0 < length (elements load.now) }
+    requires room { (K.told out.old).faults < 2 ^ 64 - 1 }
+    ensures { PutsLoad (K.told out.old) (K.told out.new) stream load.now result }
+{
+    match load {
+        Load::Bytes(bytes) => put_text(out, stream, bytes.as_slice()),
+        _ => match render(alloc, load) {
+            Ok(text) => put_text(out, stream, text.as_slice()),
+            Err(AllocError) => Err(NotPut::Memory),
+        },
+    }
+}
+
+fn put_text<K: Sink>(out: &mut K, stream: u32, text: &[u8]) -> Result<(), NotPut>
+    requires some { 0 < length text.now }
+    requires room { (K.told out.old).faults < 2 ^ 64 - 1 }
+    ensures { PutsText (K.told out.old) (K.told out.new) (frame_text stream text.now) result }
+{
+    match put_frame(out, stream, text) {
+        Ok(()) => Ok(()),
+        Err(Failed) => Err(NotPut::Unwritten),
+    }
+}

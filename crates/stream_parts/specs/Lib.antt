@@ -1,0 +1,4 @@
+pub mod Retire
+pub mod Made
+pub mod Same
+pub mod Parts

@@ -1,0 +1,108 @@
+//! Devices that are made for the rows of a stream.
+ghost use Rattle.std.specs.Prelude.{◌≡◌, ◌+◌, ◌<◌, ◌≤◌, ◌∷◌, [], IfOk, OnErr, map, option_map, option_to_list, vec_capacity, vec_len};
+ghost use Rattle.pipeline_desc.specs.Places.{read_at, second_path, stream_places, write_at};
+ghost use Rattle.stream_parts.specs.Made.{MakesEach, MakesFirst, MakesInVain, MakesMore};
+
+use crate::retire::retire_all;
+use chunk_core::{List, Word};
+use device_port::{Depot, Mode};
+use pipeline_desc::{Second, StreamSpec};
+use std::alloc::{AllocError, Global};
+
+/// How many rows a stream has at most.
+const MOST_ROWS: usize = 3;
+
+/// Makes a device for a path, behind those that were made.
+fn make_next<D: Depot>(
+    alloc: Global,
+    path: &Word,
+    mode: Mode,
+    depot: &mut D,
+    devices: &mut Vec<D::Dev>,
+) -> Result<(), AllocError>
+    requires { vec_len devices.old < vec_capacity devices.old }
+    ensures made { IfOk result (λ u. MakesMore D.Dev.Device.told (D.told depot.old) (D.told depot.new) (record { path = path.now; mode = mode } ∷ []) devices.old.items devices.new.items) }
+    ensures depot { OnErr result (D.told depot.new ≡ D.told depot.old) }
+    ensures devices { OnErr result (devices.new.items ≡ devices.old.items) }
+    ensures len { vec_len devices.new ≤ vec_len devices.old + 1 }
+    ensures capacity { vec_capacity devices.new ≡ vec_capacity devices.old }
+{
+    let device = depot.make(alloc, path, mode)?;
+    devices.push_reserved(device);
+    Ok(())
+}
+
+/// Makes a device to write to, where there is a path for it.
+fn make_to<D: Depot>(
+    alloc: Global,
+    to: &Option<Word>,
+    depot: &mut D,
+    devices: &mut Vec<D::Dev>,
+) -> Result<(), AllocError>
+    requires { vec_len devices.old < vec_capacity devices.old }
+    ensures made { IfOk result (λ u. MakesMore D.Dev.Device.told (D.told depot.old) (D.told depot.new) (option_to_list (option_map write_at to.now)) devices.old.items devices.new.items) }
+    ensures depot { OnErr result (D.told depot.new ≡ D.told depot.old) }
+    ensures devices { OnErr result (devices.new.items ≡ devices.old.items) }
+    ensures len { vec_len devices.new ≤ vec_len devices.old + 1 }
+    ensures capacity { vec_capacity devices.new ≡ vec_capacity devices.old }
+{
+    match to {
+        Some(path) => make_next(alloc, path, Mode::Write, depot, devices),
+        None => Ok(()),
+    }
+}
+
+/// Makes the device of a second side, where there is one.
+fn make_second<D: Depot>(
+    alloc: Global,
+    second: &Option<Second>,
+    depot: &mut D,
+    devices: &mut Vec<D::Dev>,
+) -> Result<(), AllocError>
+    requires { vec_len devices.old < vec_capacity devices.old }
+    ensures made { IfOk result (λ u. MakesMore D.Dev.Device.told (D.told depot.old) (D.told depot.new) (option_to_list (option_map read_at (second_path second.now))) devices.old.items devices.new.items) }
+    ensures depot { OnErr result (D.told depot.new ≡ D.told depot.old) }
+    ensures devices { OnErr result (devices.new.items ≡ devices.old.items) }
+{
+    match second {
+        Some(second) => make_next(alloc, &second.path, Mode::Read, depot, devices),
+        None => Ok(()),
+    }
+}
+
+/// Makes a device for each of a stream's rows, in their order.
+fn make_each<D: Depot>(
+    alloc: Global,
+    stream: &StreamSpec,
+    depot: &mut D,
+    devices: &mut Vec<D::Dev>,
+) -> Result<(), AllocError>
+    requires none { devices.old.items ≡ [] }
+    requires room { 3 ≤ vec_capacity devices.old }
+    ensures made { IfOk result (λ u. MakesMore D.Dev.Device.told (D.told depot.old) (D.told depot.new) (stream_places stream.now) [] devices.new.items) }
+    ensures first { OnErr result (MakesFirst D.Dev.Device.told (D.told depot.old) (D.told depot.new) (stream_places stream.now) devices.new.items) }
+{
+    make_to(alloc, &stream.to, depot, devices)?;
+    make_next(alloc, &stream.path, Mode::Read, depot, devices)?;
+    make_second(alloc, &stream.second, depot, devices)
+}
+
+/// Makes the devices of a stream, one for each of its rows. Where there is no memory for one, those
+/// that were made go back.
+pub(crate) fn make_devices<D: Depot>(
+    alloc: Global,
+    stream: &StreamSpec,
+    depot: &mut D,
+) -> Result<List<D::Dev>, AllocError>
+    ensures made { IfOk result (λ devices. MakesEach (D.told depot.old) (D.told depot.new) (stream_places stream.now) (map (λ d. D.Dev.Device.told d) devices)) }
+    ensures unmade { OnErr result (MakesInVain (D.told depot.old) (D.told depot.new) (stream_places stream.now)) }
+{
+    let mut devices = Vec::with_capacity(alloc, MOST_ROWS)?;
+    match make_each(alloc, stream, depot, &mut devices) {
+        Ok(()) => Ok(List::of_vec(devices)),
+        Err(AllocError) => {
+            retire_all(depot, List::of_vec(devices));
+            Err(AllocError)
+        }
+    }
+}
