@@ -1,0 +1,5 @@
+pub mod Closing
+pub mod PartedRows
+pub mod Visiting
+pub mod Ended
+pub mod Begins

@@ -1,0 +1,76 @@
+-- A stream goes on, or leaves.
+use Rattle.std.proofs.Common.{◌≡◌, ℕ, Bool, true, false, List, [], ◌∷◌, ◌++◌, Option, Some, None, refl, sym, ◌∙◌, ap, subst, ⊎_elim}
+use Rattle.chunk_core.specs.Outcomes.{exit_of}
+use Rattle.chunk_core.specs.Tables.{Values}
+use Rattle.chunk_core.specs.declared.code.How.{How}
+use Rattle.chunk_core.specs.declared.code.How.TheVariants as how
+use Rattle.chunk_core.specs.declared.load.Load.{Load}
+use Rattle.channel_bounded.specs.declared.message.Msg.{Msg}
+use Rattle.device_port.specs.Device.{DeviceTold}
+use Rattle.interrupt_ctx.specs.declared.why.Why.{Why}
+use Rattle.pull_turns.specs.Around.{IsClosedWith}
+use Rattle.pull_turns.specs.Piping.{StateMeaning}
+use Rattle.pull_turns.specs.declared.turn.Turn.{Turn}
+use Rattle.pull_turns.specs.declared.turn.Turn.TheVariants as turn
+use Rattle.row_seat.specs.declared.view.View.{View}
+use Rattle.scope_tree.specs.declared.branch.Spent.{Spent}
+use Rattle.tree_laws.specs.Visits.{IsNewGuest}
+use Rattle.pull_stepper.specs.Held.{FinishesDevice}
+use Rattle.pull_stepper.specs.Sites.{Since, Site, around}
+use Rattle.pull_stepper.specs.Stepping.{Halts, IsOver, Stepping, Steps, stopped_by}
+use Rattle.stream_jobs.specs.Leaving.{IsVisiting, Leaves}
+use Rattle.stream_jobs.specs.Messages.{end_message, held, load_messages, news}
+use Rattle.stream_jobs.specs.Running.{HasLeft, HasRun, IsBegun, Origin}
+use Rattle.stream_jobs.specs.Steps.{ObeysFound}
+use Rattle.stream_jobs.proofs.Runs.{none_is_not_some, same_end, said_more}
+
+-- a stop closes the root as canceled
+stopped_exit : (m : Bool) → exit_of (stopped_by m) ≡ exit_of how.Halted
+stopped_exit true = refl
+stopped_exit false = refl
+
+module _ {V F : Type 0} (told : V → DeviceTold) (P : Values → StateMeaning F) where
+  halted_over : (a b : Stepping V F) → Halts told a b → IsOver told b
+  halted_over a b h = record {
+    how = stopped_by a.wanting;
+    ended = h.how;
+    shut = h.shut;
+    exit = subst (λ x. IsClosedWith (around told b.site) 0 x) (sym (stopped_exit a.wanting)) h.exit;
+  }
+
+  turn_over : (a b : Stepping V F) (t : Turn) → Steps P told a b t → (h : How) → b.how ≡ Some h → IsOver told b
+  turn_over a b (turn.Chunk l) k h e = absurd (none_is_not_some b.how h k.how e)
+  turn_over a b turn.Quiet k h e = absurd (none_is_not_some b.how h k.how e)
+  turn_over a b turn.Done k h e = record { how = how.Done; ended = k.how; shut = k.turns.shut (λ n. n); exit = k.turns.closed }
+  turn_over a b (turn.Fault c) k h e = record { how = how.Fault c; ended = k.how; shut = k.turns.shut (λ n. n); exit = k.turns.closed }
+
+  -- where the stepper has ended each scope and each device is closed
+  pub obeyed_over : (a b : Stepping V F) (found : Option Why) (load : Option Load) → ObeysFound P told found a b load → (h : How) → b.how ≡ Some h → IsOver told b
+  obeyed_over a b (Some cause) load o h e = halted_over a b o.0
+  obeyed_over a b None load o h e = ⊎_elim (λ k. turn_over a b k.0 k.1 h e) (λ k. halted_over k.0 b k.2) o
+
+  -- its tree is that of a stream that has a lease on the rows T
+  pub visiting_at : (j : ℕ) (T : List ℕ) (w : Origin V F) (y : Site V) → j ≡ w.stream → T ≡ w.leased → IsBegun told w → Since told (FinishesDevice told) w.start.site y → IsVisiting told j T w.start.site y
+  visiting_at j T w y stream leased b since = record {
+    guest = subst (λ k. IsNewGuest w.start.site.tree.seat k w.start.site.tree.seat.floor T) (sym stream) (subst (λ R. IsNewGuest w.start.site.tree.seat w.stream w.start.site.tree.seat.floor R) (sym leased) b.guest);
+    since = since;
+  }
+
+  -- the loads so far, and the one that came, were said
+  pub said_on : (j k : ℕ) (loads : List Load) (load : Option Load) (said : List Msg) (message : Option Msg) → j ≡ k → said ≡ load_messages k loads → held message ≡ news j None load → said ++ held message ≡ load_messages k (loads ++ held load)
+  said_on j k loads load said message same is n = ap (λ s. s ++ held message) is ∙ (ap (λ m. load_messages k loads ++ m) (n ∙ ap (λ i. load_messages i (held load)) same) ∙ said_more k loads load)
+
+  -- the end was said behind the loads, and the stream has left
+  pub left_so : (w : Origin V F) (a b : Stepping V F) (loads : List Load) (said : List Msg) (j : ℕ) (T : List ℕ) (h g : How) (seat : View V) (shelf : List (Spent V)) (unopened : List V) (message : Msg)
+      → IsBegun told w → said ≡ load_messages w.stream loads → j ≡ w.stream → T ≡ w.leased → HasRun told P w b h loads → b.how ≡ Some h → Leaves told j T w.start.site b seat shelf unopened g → message ≡ end_message w.stream h
+      → HasLeft told P w seat shelf unopened g (said ++ message ∷ [])
+  left_so w a b loads said j T h g seat shelf unopened message begun is stream leased run how_is l m =
+      let same : h ≡ g = same_end b.how h g how_is l.ended.how in
+      record {
+        begun = begun;
+        loads = loads;
+        said_is = ap (λ s. s ++ message ∷ []) is ∙ ap (λ x. load_messages w.stream loads ++ x ∷ []) (m ∙ ap (λ x. end_message w.stream x) same);
+        last_step = b;
+        run = subst (λ x. HasRun told P w b x loads) same run;
+        leaves = subst (λ R. Leaves told w.stream R w.start.site b seat shelf unopened g) leased (subst (λ i. Leaves told i T w.start.site b seat shelf unopened g) stream l);
+      }

@@ -1,0 +1,129 @@
+-- The stepper goes on, or the stream leaves.
+use Rattle.std.proofs.Common.{◌≡◌, ◌++◌, None, Some, ap, sym, subst, ◌∙◌}
+use Rattle.std.specs.Option.{option_or}
+use Rattle.chunk_core.specs.declared.code.How.TheVariants as how
+use Rattle.pull_turns.specs.Piping.{standing}
+use Rattle.row_seat.specs.Views.{OthersFit}
+use Rattle.pull_stepper.specs.Steppers.{stepping}
+use Rattle.res_ledger.specs.declared.event.StreamNo.TheVariants.{Inner}
+use Rattle.stream_jobs.specs.Leaving.{CanLeave}
+use Rattle.stream_jobs.specs.Learned.{HasLearned}
+use Rattle.stream_jobs.specs.Messages.{end_message, held}
+use Rattle.stream_jobs.proofs.Advancing.{left_so, obeyed_over, said_on, visiting_at}
+use Rattle.stream_jobs.proofs.Learning.{FoundCode, end_learns, halted_for, look_finds, look_learns}
+use Rattle.stream_jobs.proofs.Runs.{obeyed_ends, obeyed_on, room_to_leave, same_end}
+use Rattle.stream_jobs.proofs.running.Running.advance.Goals as goal
+
+pub look_and_step-load-requires-clause-can : goal.look_and_step-load-requires-clause-can
+look_and_step-load-requires-clause-can g c = c.requires.runs.2.given.can
+
+pub leave-requires-clause-over : goal.leave-requires-clause-over
+leave-requires-clause-over g c =
+    let look = c.look_and_step-load in
+    let last = look.new.seat.view.last in
+    let a = stepping g.S.RowSeat.view g.F.PipeState.values c.args.self.stepper in
+    let b = stepping g.S.RowSeat.view g.F.PipeState.values look.new.stepper in
+    obeyed_over g.V.Device.told (standing g.F.Feed.stands g.F.Feed.comes) a b (option_or last.own last.root) look.result look.ensures.obeys c.in-Some.how (sym c.in-Some.ensures)
+
+pub leave-requires-clause-visiting : goal.leave-requires-clause-visiting
+leave-requires-clause-visiting g c =
+    let look = c.look_and_step-load in
+    let r = c.requires.runs.2 in
+    let told = g.V.Device.told in
+    let last = look.new.seat.view.last in
+    let a = stepping g.S.RowSeat.view g.F.PipeState.values c.args.self.stepper in
+    let b = stepping g.S.RowSeat.view g.F.PipeState.values look.new.stepper in
+    let w = c.requires.runs.0 in
+    let run = obeyed_ends told (standing g.F.Feed.stands g.F.Feed.comes) w a b r.loads r.given look.ensures.since (option_or last.own last.root) look.result look.ensures.obeys c.in-Some.how (sym c.in-Some.ensures) in
+    (w.start.site, visiting_at told (standing g.F.Feed.stands g.F.Feed.comes) c.args.self.lease.stream c.args.self.lease.rows.items w b.site r.lease r.leased r.begun run.since)
+
+pub leave-requires-clause-room : goal.leave-requires-clause-room
+leave-requires-clause-room g c =
+    let look = c.look_and_step-load in
+    let r = c.requires.runs.2 in
+    let told = g.V.Device.told in
+    let P = standing g.F.Feed.stands g.F.Feed.comes in
+    let last = look.new.seat.view.last in
+    let a = stepping g.S.RowSeat.view g.F.PipeState.values c.args.self.stepper in
+    let b = stepping g.S.RowSeat.view g.F.PipeState.values look.new.stepper in
+    let w = c.requires.runs.0 in
+    let run = obeyed_ends told P w a b r.loads r.given look.ensures.since (option_or last.own last.root) look.result look.ensures.obeys c.in-Some.how (sym c.in-Some.ensures) in
+    subst (λ T. CanLeave told T b.site) (sym r.leased) (room_to_leave told P w b c.in-Some.how r.loads r.begun run)
+
+pub returns-in-None-clause-stands : goal.returns-in-None-clause-stands
+returns-in-None-clause-stands g c w said r =
+    let look = c.look_and_step-load in
+    let told = g.V.Device.told in
+    let P = standing g.F.Feed.stands g.F.Feed.comes in
+    let last = look.new.seat.view.last in
+    let a = stepping g.S.RowSeat.view g.F.PipeState.values c.args.self.stepper in
+    let b = stepping g.S.RowSeat.view g.F.PipeState.values look.new.stepper in
+    record {
+      stream = r.stream;
+      lease = r.lease;
+      leased = r.leased;
+      begun = r.begun;
+      loads = r.loads ++ held look.result;
+      given = obeyed_on told P w a b r.loads r.given look.ensures.since (option_or last.own last.root) look.result look.ensures.obeys (sym c.in-None.ensures);
+      said_is = said_on told P c.args.self.stream w.stream r.loads look.result said c.message_of.result r.stream r.said_is c.message_of.ensures;
+    }
+
+pub returns-in-None-clause-learned : goal.returns-in-None-clause-learned
+returns-in-None-clause-learned g c w said r l =
+    let look = c.look_and_step-load in
+    subst (λ k. HasLearned k w.board look.new.seat None) r.stream (look_learns c.args.self.stream w.board c.args.seat.now look.new.seat look.ensures.looks (subst (λ k. HasLearned k w.board c.args.seat.now None) (sym r.stream) l))
+
+pub returns-in-None-clause-others : goal.returns-in-None-clause-others
+returns-in-None-clause-others g c =
+    let look = c.look_and_step-load in
+    let r = c.requires.runs.2 in
+    let by = r.given.since.alone.by ∙ (r.begun.guest.by ∙ sym (ap Inner r.stream)) in
+    subst (λ k. OthersFit g.S.RowSeat.view g.S.RowSeat.fits k c.args.desk.now look.new.desk) by look.ensures.others
+
+pub returns-in-Some-clause-stands : goal.returns-in-Some-clause-stands
+returns-in-Some-clause-stands g c w said r =
+    let look = c.look_and_step-load in
+    let told = g.V.Device.told in
+    let P = standing g.F.Feed.stands g.F.Feed.comes in
+    let last = look.new.seat.view.last in
+    let a = stepping g.S.RowSeat.view g.F.PipeState.values c.args.self.stepper in
+    let b = stepping g.S.RowSeat.view g.F.PipeState.values look.new.stepper in
+    let l = c.args.self.lease in
+    let h = c.in-Some.how in
+    let run = obeyed_ends told P w a b r.loads r.given look.ensures.since (option_or last.own last.root) look.result look.ensures.obeys h (sym c.in-Some.ensures) in
+    let left = c.leave.result in
+    left_so told P w a b r.loads said l.stream l.rows.items h left.how (g.S.RowSeat.view left.seat) left.shelf left.unopened c.end_of.result r.begun r.said_is r.lease r.leased run (sym c.in-Some.ensures)
+    (c.leave.ensures.leaves w.start.site (visiting_at told P l.stream l.rows.items w b.site r.lease r.leased r.begun run.since))
+    (c.end_of.ensures ∙ ap (λ i. end_message i h) r.stream)
+
+pub returns-in-Some-clause-learned : goal.returns-in-Some-clause-learned
+returns-in-Some-clause-learned g c w said r l =
+    let look = c.look_and_step-load in
+    let told = g.V.Device.told in
+    let P = standing g.F.Feed.stands g.F.Feed.comes in
+    let k = c.args.self.stream in
+    let old = c.args.seat.now in
+    let looked = look.new.seat in
+    let last = looked.view.last in
+    let a = stepping g.S.RowSeat.view g.F.PipeState.values c.args.self.stepper in
+    let b = stepping g.S.RowSeat.view g.F.PipeState.values look.new.stepper in
+    let j = c.args.self.lease in
+    let h = c.in-Some.how in
+    let found = option_or last.own last.root in
+    let run = obeyed_ends told P w a b r.loads r.given look.ensures.since found look.result look.ensures.obeys h (sym c.in-Some.ensures) in
+    let left = c.leave.ensures.leaves w.start.site (visiting_at told P j.stream j.rows.items w b.site r.lease r.leased r.begun run.since) in
+    let after = look_learns k w.board old looked look.ensures.looks (subst (λ i. HasLearned i w.board old None) (sym r.stream) l) in
+    let finds : h ≡ how.Halted → FoundCode k looked = λ e. let f = halted_for P told a b found look.result look.ensures.obeys (sym c.in-Some.ensures ∙ ap (λ x. Some x) e) in look_finds k w.board old looked look.ensures.looks f.0 f.1 in
+    subst (λ i. HasLearned i w.board c.interrupt_run.new.seat (Some c.leave.result.how)) r.stream
+    (subst (λ x. HasLearned k w.board c.interrupt_run.new.seat (Some x)) (same_end b.how h c.leave.result.how (sym c.in-Some.ensures) left.ended.how) (end_learns k w.board looked c.interrupt_run.new.seat after h c.interrupt_run.ensures finds))
+
+pub returns-in-Some-clause-others : goal.returns-in-Some-clause-others
+returns-in-Some-clause-others g c =
+    let look = c.look_and_step-load in
+    let view = g.S.RowSeat.view in
+    let fits = g.S.RowSeat.fits in
+    let r = c.requires.runs.2 in
+    let by = r.given.since.alone.by ∙ (r.begun.guest.by ∙ sym (ap Inner r.stream)) in
+    let first = subst (λ k. OthersFit view fits k c.args.desk.now look.new.desk) by look.ensures.others in
+    let second = subst (λ k. OthersFit view fits k look.new.desk c.leave.new.desk) (ap Inner (r.lease ∙ sym r.stream)) c.leave.ensures.others in
+    λ o ne f. second o ne (first o ne f)

@@ -1,0 +1,119 @@
+//! A stream on its way, and how one call takes it further.
+ghost use Rattle.std.specs.Prelude.{◌≡◌, ℕ, ◌+◌, ◌<◌, ◌^◌, ◌++◌, List, None};
+ghost use Rattle.channel_bounded.specs.declared.message.Msg.{Msg};
+ghost use Rattle.res_ledger.specs.declared.event.StreamNo.TheVariants.{Inner};
+ghost use Rattle.row_seat.specs.Views.{OthersFit};
+ghost use Rattle.pull_turns.specs.Piping.{standing};
+ghost use Rattle.pull_stepper.specs.Steppers.{Works, stepping};
+ghost use Rattle.stream_jobs.specs.Learned.{HasLearned};
+ghost use Rattle.stream_jobs.specs.Messages.{end_message, held, load_message, news};
+ghost use Rattle.stream_jobs.specs.Running.{FitsStage, Origin, RunsOn, Stands, ended_at, running_at};
+ghost use Rattle.stream_jobs.specs.Steps.{MovesOn};
+
+use crate::leaving::{Left, leave};
+use crate::stepping::{interrupt_run, look_and_step};
+use channel_bounded::{Body, Msg};
+use chunk_core::{How, Load};
+use device_port::{Device, Gate};
+use interrupt_ctx::{Board, BoardSeat};
+use pull_nodes::PipeState;
+use pull_stepper::{Held, Stepper};
+use row_seat::RowSeat;
+use scope_tree::Lease;
+
+/// A stream whose stepper hasn't ended.
+pub(crate) struct Running<S: RowSeat, V, F: PipeState> {
+    pub(crate) stream: u32,
+    pub(crate) stepper: Stepper<S, V, F>,
+    pub(crate) lease: Lease,
+}
+
+/// How far a stream is.
+pub(crate) enum Stage<S: RowSeat, V, F: PipeState> {
+    Running(Running<S, V, F>),
+    Left(Left<S, V>),
+}
+
+/// How far a stream is behind a turn, and what is to be said of it.
+pub(crate) struct Advanced<S: RowSeat, V, F: PipeState> {
+    pub(crate) stage: Stage<S, V, F>,
+    pub(crate) message: Option<Msg>,
+}
+
+fn load_of(stream: u32, load: Load) -> Msg
+    ensures { result ≡ load_message stream load }
+{
+    Msg {
+        stream,
+        body: Body::Load(load),
+    }
+}
+
+pub(crate) fn end_of(stream: u32, how: How) -> Msg
+    ensures { result ≡ end_message stream how }
+{
+    Msg {
+        stream,
+        body: Body::End(how),
+    }
+}
+
+fn message_of(stream: u32, load: Option<Load>) -> Option<Msg>
+    ensures { held result ≡ news stream None load }
+{
+    match load {
+        Some(load) => Some(load_of(stream, load)),
+        None => None,
+    }
+}
+
+impl<V: Device, S: RowSeat<Pay = Held<V>>, F: PipeState> Running<S, V, F> {
+    /// Passes the gate, looks at the stream's context once, and halts the stepper where it is
+    /// interrupted, or makes one turn. Where the stepper has ended then, the whole run is interrupted
+    /// by a fault or want of memory, and the lease is cancelled.
+    pub(crate) fn advance<G: Gate>(
+        self,
+        desk: &mut S::Desk,
+        seat: &mut BoardSeat,
+        board: &Board,
+        gate: &G,
+    ) -> Advanced<S, V, F>
+    where
+        F::Tables: Drop,
+        requires fits { Works S.view V.told S.fits self.stepper desk.old }
+        requires runs { (w : Origin V F) × (said : List Msg) × RunsOn V.told (standing F.stands F.comes) S.view F.values w self said }
+        requires board { seat.old.board ≡ board.now.id }
+        requires context { 1 + self.stream < board.now.contexts }
+        requires number { 1 + self.stream < 2 ^ 32 }
+        ensures stands { (w : Origin V F) (said : List Msg) → RunsOn V.told (standing F.stands F.comes) S.view F.values w self said → Stands V.told (standing F.stands F.comes) S.view F.values w result.stage (said ++ held result.message) }
+        ensures learned { (w : Origin V F) (said : List Msg) → RunsOn V.told (standing F.stands F.comes) S.view F.values w self said → HasLearned w.stream w.board seat.old None → HasLearned w.stream w.board seat.new (ended_at result.stage) }
+        ensures moves { MovesOn (standing F.stands F.comes) V.told self.stream (stepping S.view F.values self.stepper) (running_at S.view F.values result.stage) seat.old seat.new (held result.message) }
+        ensures fits { FitsStage V.told S.view S.fits result.stage desk.new }
+        ensures others { OthersFit S.view S.fits (Inner self.stream) desk.old desk.new }
+    {
+        let Running {
+            stream,
+            mut stepper,
+            lease,
+        } = self;
+        gate.pass(stream);
+        let load = look_and_step(&mut stepper, desk, seat, board, 1 + stream);
+        match stepper.how() {
+            None => Advanced {
+                message: message_of(stream, load),
+                stage: Stage::Running(Running {
+                    stream,
+                    stepper,
+                    lease,
+                }),
+            },
+            Some(how) => {
+                interrupt_run(seat, board, how);
+                Advanced {
+                    stage: Stage::Left(leave(stepper, lease, desk)),
+                    message: Some(end_of(stream, how)),
+                }
+            }
+        }
+    }
+}
