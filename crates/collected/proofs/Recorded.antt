@@ -1,0 +1,165 @@
+-- The record of a run tells its tale.
+use Rattle.std.proofs.Common.{◌≡◌, ◌⊎◌, ℕ, zero, suc, ◌+◌, ◌-◌, ◌<◌, true, List, [], ◌∷◌, inl, inr, map, length, Some, None, refl, sym, ◌∙◌, ap, subst, ⊎_elim, arith}
+use Rattle.std.proofs.lemmas.List.{length-map}
+use Rattle.std.specs.Prelude.{slice_index_or}
+use Rattle.std.specs.List.{range_with_len}
+use Rattle.channel_bounded.specs.Ends.{ReceiverSeen}
+use Rattle.chunk_core.specs.Lists.{IsAmong}
+use Rattle.chunk_core.specs.Tables.{Values}
+use Rattle.chunk_core.specs.declared.code.Exit.{Exit}
+use Rattle.chunk_core.specs.declared.code.How.{How}
+use Rattle.chunk_core.specs.declared.code.How.TheVariants as how
+use Rattle.chunk_core.proofs.Bools.{any_at, any_found, itself}
+use Rattle.chunk_core.proofs.Members.{among_cons, among_nil}
+use Rattle.device_port.specs.Device.{DeviceTold}
+use Rattle.device_port.specs.Depot.{DepotTold}
+use Rattle.join_report.specs.Accounts.{names_below}
+use Rattle.join_report.specs.Reports.{how_of}
+use Rattle.join_report.proofs.Listing.{names_agree}
+use Rattle.join_report.proofs.Steps.{reports_ends}
+use Rattle.join_tale.specs.Ended.{Ended}
+use Rattle.join_tale.specs.Records.{EndedSo, IsRecordOf}
+use Rattle.join_tale.specs.Tales as tales
+use Rattle.join_tale.specs.Tales.{HasCome, Tale}
+use Rattle.join_tree.specs.Settled.{Settles}
+use Rattle.pipeline_desc.specs.Meant.{PlanMeant}
+use Rattle.pipeline_desc.specs.Sound.{IsSoundPlan}
+use Rattle.plan_work.specs.Plans.{stream_of}
+use Rattle.pull_turns.specs.Piping.{StateMeaning}
+use Rattle.res_ledger.specs.declared.event.Event.{Event}
+use Rattle.res_ledger.specs.declared.event.StreamNo.{StreamNo}
+use Rattle.res_ledger.specs.declared.event.StreamNo.TheVariants.{Inner, Outer}
+use Rattle.res_ledger.specs.declared.event.What.TheVariants.{Cancel}
+use Rattle.res_ledger.specs.Ledger.{NotesCancel}
+use Rattle.res_ledger.specs.Streams.{by_stream}
+use Rattle.res_ledger.specs.Whole.{is_cancel}
+use Rattle.res_ledger.proofs.Ledgers.{by_in, by_out}
+use Rattle.row_seat.specs.declared.view.View.{View}
+use Rattle.run_rules.specs.Facts.{at, has_left}
+use Rattle.run_rules.specs.Work.{RunRecord}
+use Rattle.run_rules.specs.declared.end.EndOf.{EndOf}
+use Rattle.scope_tree.specs.Calls.{Seen}
+use Rattle.tree_families.specs.Families.{Split}
+use Rattle.collected.specs.Collected.{IsCollected, IsRunOf}
+use Rattle.collector.specs.Collecting.{bare_work}
+use Rattle.collector.specs.declared.collector.Left.{Left}
+use Rattle.collector.specs.Parts.{fate_of}
+use Rattle.collected.proofs.Core.{few_parts}
+use Rattle.collected.proofs.Each.{share}
+use Rattle.collected.proofs.Passed.{begun_before, begun_still, longer, longer_count, longer_report}
+use Rattle.collected.proofs.Standing.{begun_at, come_begun}
+
+-- Ends.
+
+-- an end stands with its name and with how it is reported
+zipped : (es : List EndOf) (ks : List StreamNo) (hs : List How) → map (λ e. e.who) es ≡ ks → map (λ e. e.how) es ≡ hs → (e : EndOf) → IsAmong e es → (i : ℕ) × (at ks i ≡ Some e.who) × (at hs i ≡ Some e.how)
+zipped es ks hs a c e m = subst (λ l. (i : ℕ) × (at l i ≡ Some e.who) × (at hs i ≡ Some e.how)) a (subst (λ l. (i : ℕ) × (at (map (λ e. e.who) es) i ≡ Some e.who) × (at l i ≡ Some e.how)) c (found es m))
+  where
+    found : (es : List EndOf) → IsAmong e es → (i : ℕ) × (at (map (λ e. e.who) es) i ≡ Some e.who) × (at (map (λ e. e.how) es) i ≡ Some e.how)
+    found [] m = absurd (among_nil m)
+    found (x ∷ es) m = ⊎_elim (λ s. (0, ap (λ (y : EndOf). Some y.who) (sym s), ap (λ (y : EndOf). Some y.how) (sym s))) (λ i. let f = found es i in (suc f.0, f.1, f.2)) (among_cons m)
+
+name_at : (i n k : ℕ) (x : StreamNo) → at (map Inner (range_with_len i n)) k ≡ Some x → (x ≡ Inner (i + k)) × (k < n)
+name_at i zero k x e = absurd (let f : None ≡ Some x = e in cc)
+name_at i (suc n) zero x e = let z : i + 0 ≡ i = omega arith in let s : Inner i ≡ x = cc in (sym s ∙ ap Inner (sym z), omega arith)
+name_at i (suc n) (suc k) x e = let r = name_at (i + 1) n k x e in let l = r.1 in let z : i + 1 + k ≡ i + suc k = omega arith in (r.0 ∙ ap Inner z, omega (arith, l))
+
+index_at : (hs : List How) (k : ℕ) (h : How) → at hs k ≡ Some h → slice_index_or hs k how.Halted ≡ h
+index_at [] k h e = cc
+index_at (x ∷ hs) zero h e = let s : x ≡ h = cc in s
+index_at (x ∷ hs) (suc k) h e = index_at hs k h e
+
+outer_name : (n : ℕ) (i : ℕ) (x : StreamNo) → at (Outer ∷ names_below n) i ≡ Some x → ((i ≡ 0) × (x ≡ Outer)) ⊎ ((k : ℕ) × (i ≡ suc k) × (x ≡ Inner k) × (k < n))
+outer_name n zero x e = let s : Outer ≡ x = cc in inl (refl, sym s)
+outer_name n (suc k) x e = let r = name_at 0 n k x e in let z : 0 + k ≡ k = omega arith in inr (k, refl, r.0 ∙ ap Inner z, r.1)
+
+inner_number : (j k : ℕ) → Inner j ≡ Inner k → j ≡ k
+inner_number j k e = cc
+
+module _ {S V F : Type 0} (view : S → View V) (told : V → DeviceTold) (P : Values → StateMeaning F) (says : (v : Values) → (P v).values ≡ v) (p : PlanMeant) (limits : IsSoundPlan p) (d0 now : DepotTold) (t : Values) (outer : How) (b : Seen V) (left : List (Left V)) (receiver : ReceiverSeen) (tale : Tale)
+    (h : IsCollected view told P p d0 now t outer b left receiver tale) (L : List Event) (s : Settles p.max_open (length p.streams) b h.progress L) where
+  -- Which streams noted something.
+
+  pub began : (e : Event) (k : ℕ) → IsAmong e L → e.by ≡ Inner k → tales.IsBegun tale k
+  began e k m by =
+      ⊎_elim
+      (λ o. absurd (let f : Outer ≡ Inner k = sym o ∙ by in cc))
+      (λ y.
+      let r = s.told.back y.0 y.1 in
+      let same : r.0 ≡ k = inner_number r.0 k (sym r.1 ∙ (sym y.2 ∙ by)) in
+      subst (λ j. tales.IsBegun tale j) same ((h.streams.begun r.0).1 r.2))
+      (s.told.whose e m)
+
+  -- a stream that has come back left
+  pub left_so : (k : ℕ) → HasCome tale k → has_left k L ≡ true
+  left_so k come =
+      let begun = come_begun view told P p d0 now t outer b left receiver tale h k come in
+      let x = (h.streams.begun k).0 begun in
+      let older = s.older x.0 x.1 in
+      let is = x.2 in
+      let d = s.dealt in
+      let leased = s.told.leases k (omega (arith, older, is, d)) in
+      let c = s.ledger.canceled k (Outer, 0, leased) in
+      by_whom c.0 c.1 x
+    where
+      cancels : (e : Event) (x : Exit) → e.what ≡ Cancel k x → is_cancel k e.what ≡ true
+      cancels e x w = ap (is_cancel k) w ∙ itself k
+
+      by_whom : (who : StreamNo) → NotesCancel L who k → (m : Split) × IsAmong m h.progress.splits × (m.stream ≡ k) → has_left k L ≡ true
+      by_whom Outer n x = absurd (s.told.skipped k n.0 n.1 x)
+      by_whom (Inner j) n x =
+          let e = n.1.0 in
+          let g = begun_at view told P p d0 now t outer b left receiver tale h j (began e j n.1.1 n.1.2) in
+          let l = (share view told P says p limits d0 now t outer b left receiver tale h L s j g.0 g.1 g.2 g.3).leaves e k n.0 n.1.1 n.1.2 n.1.3 in
+          any_at (λ (y : Event). is_cancel k y.what) e (by_stream (Inner k) L) (by_out (Inner k) L e n.1.1 (n.1.2 ∙ ap Inner (sym l.0))) (cancels e n.0 n.1.3)
+
+  left_come : (k : ℕ) → has_left k L ≡ true → HasCome tale k
+  left_come k e =
+      let f = any_found (λ (y : Event). is_cancel k y.what) (by_stream (Inner k) L) e in
+      let i = by_in (Inner k) L f.0 f.1 in
+      h.streams.come k (began f.0 k i.0 i.1)
+
+  module _ (last : DepotTold) (c : RunRecord) (r : IsRunOf p outer tale L d0 last c) where
+    abbrev more : ℕ
+    more = length p.streams - length h.parts
+
+    abbrev pub long : Tale
+    long = longer tale more
+
+    all_fates : length long.fates ≡ length p.streams
+    all_fates =
+        let f = ap (λ (l : List tales.Fate). length l) h.fates_are in
+        let m = length-map h.parts fate_of in
+        let few = few_parts view told P p d0 now t outer b left receiver tale h L s in
+        let g = longer_count tale more in
+        omega (arith, f, m, few, g)
+
+    ended_at : (k : ℕ) → k < length p.streams → Ended long k (how_of r.report k)
+    ended_at k l =
+        reports_ends p.take (length p.streams) long r.report (longer_report p.take (length p.streams) tale r.report more r.report_is) (λ j i. h.streams.come j (begun_before tale more j i)) k l (let f = all_fates in omega (arith, l, f))
+
+    told_end : (e : EndOf) → IsAmong e c.ends → EndedSo long e.who e.how
+    told_end e m =
+        let z = zipped c.ends (Outer ∷ names_below (length p.streams)) (outer ∷ r.report.streams.hows) r.names r.hows e m in
+        ⊎_elim
+        (λ o.
+        let is : at (outer ∷ r.report.streams.hows) 0 ≡ Some e.how = subst (λ i. at (outer ∷ r.report.streams.hows) i ≡ Some e.how) o.0 z.2 in
+        subst (λ w. EndedSo long w e.how) (sym o.1) (h.outer_is ∙ is))
+        (λ i.
+        let is : at r.report.streams.hows i.0 ≡ Some e.how = subst (λ q. at (outer ∷ r.report.streams.hows) q ≡ Some e.how) i.1 z.2 in
+        subst (λ w. EndedSo long w e.how) (sym i.2) (subst (λ q. Ended long i.0 q) (index_at r.report.streams.hows i.0 e.how is) (ended_at i.0 i.3)))
+        (outer_name (length p.streams) z.0 e.who z.1)
+
+    pub recorded : IsRecordOf (bare_work p) long c
+    recorded = record {
+      frames = r.frames;
+      cut = r.cut;
+      memory = λ e. r.memory ∙ e;
+      opener = refl;
+      named = r.names ∙ ap (λ l. Outer ∷ l) (ap names_below (sym (length-map p.streams stream_of)) ∙ names_agree (map stream_of p.streams));
+      told = told_end;
+      count = let f = all_fates in let m = length-map p.streams stream_of in omega (arith, f, m);
+      begun = λ e k m by. begun_still tale more k (began e k (subst (λ E. IsAmong e E) r.events m) by);
+      left = λ j e. left_come j (subst (λ E. has_left j E ≡ true) r.events e);
+      leaves = λ j d. subst (λ E. has_left j E ≡ true) (sym r.events) (left_so j d);
+    }

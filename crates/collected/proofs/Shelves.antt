@@ -1,0 +1,244 @@
+-- The rows of tables that have ended, on the shelf of the main tree and on those of the streams that were the last to leave them.
+use Rattle.std.proofs.Common.{◌≡◌, ◌≢◌, ◌⊎◌, ◌↔◌, ℕ, ◌<◌, nat_eq, List, [], ◌∷◌, ◌++◌, inl, inr, map, length, Option, Some, None, refl, sym, ◌∙◌, ap, subst, ⊎_elim, arith}
+use Rattle.std.specs.List.{IsDistinct}
+use Rattle.channel_bounded.specs.Ends.{ReceiverSeen}
+use Rattle.chunk_core.specs.Lists.{IsAmong}
+use Rattle.chunk_core.specs.Lists.IsAmong.{here, there}
+use Rattle.chunk_core.specs.Tables.{Values}
+use Rattle.chunk_core.specs.declared.code.How.{How}
+use Rattle.chunk_core.proofs.Distinct.{distinct_append, distinct_head, distinct_nil, distinct_tail}
+use Rattle.chunk_core.proofs.Filters.{among_append, among_right}
+use Rattle.chunk_core.proofs.Members.{among_left, among_nil}
+use Rattle.device_port.specs.Device.{DeviceTold}
+use Rattle.device_port.specs.Depot.{DepotTold}
+use Rattle.join_tale.specs.Tales.{Tale}
+use Rattle.join_tree.specs.Settled.{Settles}
+use Rattle.outer_tables.specs.declared.not_read.NotRead.{NotRead}
+use Rattle.pipeline_desc.specs.Meant.{PlanMeant}
+use Rattle.pipeline_desc.specs.Places.{first_row}
+use Rattle.pull_nodes.specs.declared.node.Node.{Node}
+use Rattle.pull_stepper.specs.Held.{FinishesDevice}
+use Rattle.pull_turns.specs.Piping.{StateMeaning}
+use Rattle.res_ledger.specs.Order.{firsts}
+use Rattle.res_ledger.specs.declared.event.Event.{Event}
+use Rattle.res_ledger.specs.declared.event.StreamNo.TheVariants.{Inner, Outer}
+use Rattle.res_ledger.proofs.Noted.{flat_found, flat_holds}
+use Rattle.row_seat.specs.declared.view.View.{View}
+use Rattle.run_rules.specs.Facts.{at}
+use Rattle.scope_tree.specs.Calls.{AtStart, Seen}
+use Rattle.scope_tree.specs.Released.{said}
+use Rattle.scope_tree.specs.declared.branch.Spent.{Spent}
+use Rattle.stream_jobs.specs.Running.{Origin}
+use Rattle.stream_parts.proofs.Mapped.{map_among}
+use Rattle.stream_parts.proofs.PartsMade.{first_place}
+use Rattle.std.proofs.lemmas.Option.{slice_get_within}
+use Rattle.tree_laws.specs.Called.{Called}
+use Rattle.tree_laws.specs.Ends.{IsFinishedLedger}
+use Rattle.tree_laws.proofs.Along.{called_after}
+use Rattle.tree_laws.proofs.Shelved.{shelves_apart}
+use Rattle.job_runs.proofs.Closing.{in_row, row_in}
+use Rattle.job_runs.specs.Rows.{from_row}
+use Rattle.outer_tables.proofs.Outcomes.{all_opened}
+use Rattle.outer_tables.specs.Outcomes.{ComeOut}
+use Rattle.collected.specs.Collected.{IsCollected}
+use Rattle.collected.specs.Kept.{IsKept}
+use Rattle.collector.specs.Collecting.{Gone}
+use Rattle.collector.specs.declared.collector.Left.{Left}
+use Rattle.collector.specs.Collecting.Gone.{Came, Missed}
+use Rattle.collector.specs.Parts.{IsMadeOf}
+use Rattle.collector.specs.Parts.Part.{Begun}
+use Rattle.collected.proofs.Rested.{Rested, among_rest, job_of, lent_of, rest_among, rest_of}
+use Rattle.collected.proofs.Settling.{shelf_tables}
+use Rattle.collected.proofs.Standing.{made, made_so, zs, zs_apart}
+use Rattle.collected.proofs.TableEnds.{CameIn, StandsAt}
+use Rattle.collected.proofs.TablesTold.{paths_count}
+
+said_both : {P : Type 0} (xs ys : List (Spent P)) → firsts (said (xs ++ ys)) ≡ firsts (said xs) ++ firsts (said ys)
+said_both [] ys = refl
+said_both (x ∷ xs) ys = ap (λ l. x.row ∷ l) (said_both xs ys)
+
+module _ {V : Type 0} (told : V → DeviceTold) (b : Seen V) (L : List Event) where
+  -- what the tree of a stream did from its start, of which the ledger has all that it noted, and on whose shelf these rows of tables stand
+  pub record IsTree (z : Rested V) : Type 0 where
+    pub first : Seen V
+    pub last : Seen V
+    pub by : last.seat.by ≡ Inner z.number
+    pub start : AtStart first.seat
+    pub bare : first.shelf ≡ []
+    pub cancelled : List (ℕ × List ℕ)
+    pub calls : Called (FinishesDevice told) first cancelled last
+    pub finished : IsFinishedLedger last b.seat L
+    pub lent_on : (x : Spent V) → IsAmong x z.lent → IsAmong x last.shelf
+
+  -- a stream left no row of a table last, or its tree is such
+  abbrev pub HasTree : Rested V → Type 0
+  HasTree z = (z.lent ≡ []) ⊎ IsTree z
+
+  lent_row : (z : Rested V) (y : IsTree z) (r : ℕ) → IsAmong r (firsts (said z.lent)) → IsAmong r (firsts (said y.last.shelf))
+  lent_row z y r m = let x = in_row r z.lent m in subst (λ k. IsAmong k (firsts (said y.last.shelf))) x.2 (row_in x.0 y.last.shelf (y.lent_on x.0 x.1))
+
+  none_lent : (z : Rested V) (r : ℕ) → z.lent ≡ [] → IsAmong r (firsts (said z.lent)) → ⊥
+  none_lent z r e m = among_nil (subst (λ l. IsAmong r (firsts (said l))) e m)
+
+  inner_apart : (j k : ℕ) → j ≢ k → Inner j ≢ Inner k
+  inner_apart j k n e = n cc
+
+  -- no row stands on the shelves of two streams
+  lents_apart : (y z : Rested V) → HasTree y → HasTree z → y.number ≢ z.number → (r : ℕ) → IsAmong r (firsts (said y.lent)) → IsAmong r (firsts (said z.lent)) → ⊥
+  lents_apart y z hy hz n r i j =
+      ⊎_elim
+      (λ e. none_lent y r e i)
+      (λ ty. ⊎_elim
+      (λ e. none_lent z r e j)
+      (λ tz. shelves_apart b.seat L ty.start ty.bare ty.calls ty.finished tz.start tz.bare tz.calls tz.finished (λ e. inner_apart y.number z.number n (sym ty.by ∙ (e ∙ tz.by))) r (lent_row y ty r i) (lent_row z tz r j))
+      hz)
+      hy
+
+  pub in_lents : (zs : List (Rested V)) (x : Spent V) → IsAmong x (lent_of told zs) → (z : Rested V) × IsAmong z zs × IsAmong x z.lent
+  in_lents zs x m = let f = flat_found (λ (z : Rested V). z.lent) zs x m in (f.0, f.1, f.2)
+
+  pub lents_in : (zs : List (Rested V)) (z : Rested V) (x : Spent V) → IsAmong z zs → IsAmong x z.lent → IsAmong x (lent_of told zs)
+  lents_in zs z x i j = flat_holds (λ (y : Rested V). y.lent) z zs x i j
+
+  pub lents_once : (zs : List (Rested V)) → IsDistinct nat_eq (map (λ z. z.number) zs) → ((z : Rested V) → IsAmong z zs → HasTree z × IsDistinct nat_eq (firsts (said z.lent))) → IsDistinct nat_eq (firsts (said (lent_of told zs)))
+  lents_once [] d each = distinct_nil
+  lents_once (z ∷ zs) d each =
+      subst (IsDistinct nat_eq) (sym (said_both z.lent (lent_of told zs)))
+      (distinct_append (firsts (said z.lent)) (firsts (said (lent_of told zs))) (each z (here zs)).1 (lents_once zs (distinct_tail z.number (map (λ y. y.number) zs) d) (λ y m. each y (there z m)))
+      (λ r i j.
+      let x = in_row r (lent_of told zs) j in
+      let y = in_lents zs x.0 x.1 in
+      lents_apart z y.0 (each z (here zs)).0 (each y.0 (there z y.1)).0 (λ e. distinct_head z.number (map (λ q. q.number) zs) d (subst (λ k. IsAmong k (map (λ q. q.number) zs)) (sym e) (map_among (λ q. q.number) y.0 zs y.1))) r i
+      (subst (λ k. IsAmong k (firsts (said y.0.lent))) x.2 (row_in x.0 y.0.lent y.2))))
+
+module _ {S V F : Type 0} (view : S → View V) (told : V → DeviceTold) (P : Values → StateMeaning F) (p : PlanMeant) (d0 now : DepotTold) (t : Values) (outer : How) (b : Seen V) (left : List (Left V)) (receiver : ReceiverSeen) (tale : Tale) (h : IsCollected view told P p d0 now t outer b left receiver tale)
+    (L : List Event) (s : Settles p.max_open (length p.streams) b h.progress L) where
+  abbrev made' : (k : ℕ) (n : Node) (ds : List V) (w : Origin V F) → at h.parts k ≡ Some (Begun n ds w) → IsMadeOf told p t k n ds w
+  made' = made view told P p d0 now t outer b left receiver tale h
+
+  abbrev rest' : (x : Left V) (g : Gone S V F) → IsKept view told P h.parts h.progress receiver tale x g → Rested V
+  rest' = rest_of view told P p t h.parts h.progress receiver tale made'
+
+  abbrev zs' : List (Rested V)
+  zs' = zs view told P p d0 now t outer b left receiver tale h
+
+  -- the ledger has all that the tree noted whose seat came back
+  pub finished_so : (y last : Seen V) → IsAmong y h.progress.back → y.seat ≡ last.seat → IsFinishedLedger last b.seat L
+  finished_so y last m e = let f = s.back y m in record { ledger = f.ledger; own = subst (λ (v : View V). (x : Event) → x.by ≡ v.by → IsAmong x b.seat.events ↔ IsAmong x v.events) e f.own }
+
+  tree_of : (x : Left V) (g : Gone S V F) (k : IsKept view told P h.parts h.progress receiver tale x g) → HasTree told b L (rest' x g k) × IsDistinct nat_eq (firsts (said (rest' x g k).lent))
+  tree_of x (Came n ds w e) k =
+      let v = (job_of view told P p t h.parts h.progress receiver tale made' x n ds w e k).visited in
+      let both = subst (IsDistinct nat_eq) (ap (λ l. firsts (said l)) v.parts ∙ said_both v.mine v.lent) v.once in (
+        inr (record {
+          first = v.visit.first;
+          last = v.last;
+          by = (called_after v.visit.calls).by ∙ v.visit.guest.by;
+          start = v.visit.guest.start;
+          bare = v.bare;
+          cancelled = (w.stream, w.leased) ∷ [];
+          calls = v.visit.calls;
+          finished = finished_so k.back v.last k.taken_in (sym k.seat_is ∙ v.seat_is);
+          lent_on = λ y m. subst (λ l. IsAmong y l) (sym v.parts ∙ v.shelf_is) (among_right y v.mine v.lent m);
+        }),
+        distinct_behind (firsts (said v.mine)) (firsts (said v.lent)) both,
+      )
+    where
+      distinct_behind : (xs ys : List ℕ) → IsDistinct nat_eq (xs ++ ys) → IsDistinct nat_eq ys
+      distinct_behind [] ys d = d
+      distinct_behind (x ∷ xs) ys d = distinct_behind xs ys (distinct_tail x (xs ++ ys) d)
+  tree_of x (Missed k ds) e = (inl refl, distinct_nil)
+
+  pub has_tree : (z : Rested V) → IsAmong z zs' → HasTree told b L z × IsDistinct nat_eq (firsts (said z.lent))
+  has_tree z m =
+      let r = among_rest view told P p t h.parts h.progress receiver tale made' left h.streams.gone h.streams.kept z m in
+      subst (λ y. HasTree told b L y × IsDistinct nat_eq (firsts (said y.lent))) (sym r.4) (tree_of r.0 r.1 r.2)
+
+  -- the rows that have ended
+  abbrev pub shelf : List (Spent V)
+  shelf = b.shelf ++ lent_of told zs'
+
+  pub once : IsDistinct nat_eq (firsts (said shelf))
+  once =
+      subst (IsDistinct nat_eq) (sym (said_both b.shelf (lent_of told zs')))
+      (distinct_append (firsts (said b.shelf)) (firsts (said (lent_of told zs'))) h.once (lents_once told b L zs' (zs_apart view told P p d0 now t outer b left receiver tale h) has_tree)
+      (λ r i j.
+      let x = in_row r (lent_of told zs') j in
+      let y = in_lents told b L zs' x.0 x.1 in
+      ⊎_elim
+      (λ e. among_nil (subst (λ l. IsAmong x.0 l) e y.2))
+      (λ z.
+      let own : IsFinishedLedger b b.seat L = record { ledger = s.ledger; own = λ e by. (λ m. m, λ m. m) } in
+      shelves_apart b.seat L h.main.family.start h.main.shelf h.main.family.calls own z.start z.bare z.calls z.finished (λ e. outer_inner y.0.number (sym h.main.by ∙ (e ∙ z.by))) r i
+      (subst (λ k. IsAmong k (firsts (said z.last.shelf))) x.2 (row_in x.0 z.last.shelf (z.lent_on x.0 y.2))))
+      (has_tree y.0 y.1).0))
+    where
+      outer_inner : (k : ℕ) → Outer ≢ Inner k
+      outer_inner k e = cc
+
+  -- what the tree of a stream did whose seat came back
+  pub guests : (y : Seen V) → IsAmong y h.progress.back → CameIn (FinishesDevice told) b y
+  guests y m =
+      let g = h.streams.home y m in
+      let r = rest_among view told P p t h.parts h.progress receiver tale made' left h.streams.gone h.streams.kept (Came g.0 g.1 g.2 g.3) g.4 in
+      let v = (job_of view told P p t h.parts h.progress receiver tale made' r.0 g.0 g.1 g.2 g.3 r.1).visited in
+      let same : y.seat ≡ v.last.seat = g.5 ∙ v.seat_is in
+      record {
+        first = v.visit.first;
+        last = v.last;
+        seat = same;
+        start = v.visit.guest.start;
+        bare = v.bare;
+        cancelled = (g.2.stream, g.2.leased) ∷ [];
+        calls = v.visit.calls;
+        given = λ z i. h.streams.given y m z (subst (λ (u : View V). IsAmong z u.given) (sym same) i);
+      }
+
+  -- where a stream was begun all tables were read
+  pub all_read : (k : ℕ) (n : Node) (ds : List V) (w : Origin V F) → at h.parts k ≡ Some (Begun n ds w) → h.o ≡ None
+  all_read k n ds w e = by_cases h.o refl
+    where
+      some_none : (o : NotRead) → Some o ≢ None
+      some_none o q = cc
+
+      by_cases : (o : Option NotRead) → h.o ≡ o → h.o ≡ None
+      by_cases None q = q
+      by_cases (Some o) q = absurd (let f : None ≡ Some (Begun n ds w) = sym (ap (λ l. at l k) (h.unread (λ u. some_none o (sym q ∙ u))).0) ∙ e in cc)
+
+  pub read_count : h.o ≡ None → length h.tables.devices ≡ length p.tables
+  read_count none = all_opened (subst (λ x. ComeOut told d0.files (length d0.made) (map (λ t. t.path) p.tables) h.tables.devices h.tables.back h.tables.contents x) none h.tables.out) ∙ paths_count p
+
+  lent_below : (x : Left V) (g : Gone S V F) (k : IsKept view told P h.parts h.progress receiver tale x g) (y : Spent V) → IsAmong y (rest' x g k).lent → y.row < length h.tables.devices
+  lent_below x (Came n ds w e) k y m =
+      let v = (job_of view told P p t h.parts h.progress receiver tale made' x n ds w e k).visited in
+      let l = (made' w.stream n ds w k.begun).leased.below y.row (v.leased y m) in
+      let c = read_count (all_read w.stream n ds w k.begun) in
+      omega (arith, l, c)
+  lent_below x (Missed k ds) e y m = absurd (among_nil m)
+
+  pub below : (x : Spent V) → IsAmong x shelf → x.row < length h.tables.devices
+  below x m =
+      ⊎_elim
+      (λ i. shelf_tables p.max_open (length p.streams) (length h.tables.devices) b h.progress L s h.tables.tables x.row (row_in x b.shelf i))
+      (λ i.
+      let z = in_lents told b L zs' x i in
+      let r = among_rest view told P p t h.parts h.progress receiver tale made' left h.streams.gone h.streams.kept z.0 z.1 in
+      lent_below r.0 r.1 r.2 x (subst (λ (y : Rested V). IsAmong x y.lent) r.4 z.2))
+      (among_append x b.shelf (lent_of told zs') m)
+
+  -- a table's row that has ended stands there
+  pub all_there : (x : Spent V) → StandsAt told p.max_open (length p.streams) b h.progress L h.main s guests x → x.row < length h.tables.devices → IsAmong x shelf
+  unfolding guests
+  all_there x (inl m) l = among_left (lent_of told zs') m
+  all_there x (inr (y, m, i)) l =
+      let g = h.streams.home y m in
+      let r = rest_among view told P p t h.parts h.progress receiver tale made' left h.streams.gone h.streams.kept (Came g.0 g.1 g.2 g.3) g.4 in
+      let v = (job_of view told P p t h.parts h.progress receiver tale made' r.0 g.0 g.1 g.2 g.3 r.1).visited in
+      let w = g.2 in
+      let d = made_so view told P p d0 now t outer b left receiver tale h w.stream g.0 g.1 w r.1.begun in
+      let first : from_row g.0 ≡ first_row p w.stream = first_place p w.stream d.0.0 (slice_get_within p.streams w.stream d.0.0 d.0.1) d.0.1 g.0 d.1.places in
+      let c = read_count (all_read w.stream g.0 g.1 w r.1.begun) in
+      ⊎_elim
+      (λ j. absurd (let a = (v.stood x j).0.0 in omega (arith, a, first, l, c)))
+      (λ j. among_right x b.shelf (lent_of told zs') (lents_in told b L zs' (rest' r.0 (Came g.0 g.1 g.2 g.3) r.1) x r.2 j))
+      (among_append x v.mine v.lent (subst (λ q. IsAmong x q) (sym v.shelf_is ∙ v.parts) i))

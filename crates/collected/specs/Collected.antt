@@ -1,0 +1,98 @@
+-- What stands once the outer stream and all that it gave have ended.
+use Rattle.std.specs.Prelude.{◌≡◌, ◌≢◌, ◌⊎◌, ◌↔◌, ℕ, ◌+◌, nat_eq, List, [], ◌∷◌, ◌++◌, map, flat_map, length, Option, Some, None}
+use Rattle.std.specs.List.{IsDistinct}
+use Rattle.channel_bounded.specs.Ends.{ReceiverSeen}
+use Rattle.chunk_core.specs.Lists.{IsAmong}
+use Rattle.chunk_core.specs.Outcomes.{exit_of}
+use Rattle.chunk_core.specs.Tables.{Values}
+use Rattle.chunk_core.specs.declared.code.How.{How}
+use Rattle.device_port.specs.Device.{DeviceTold}
+use Rattle.device_port.specs.Depot.{DepotTold}
+use Rattle.join_report.specs.Accounts.{names_below}
+use Rattle.join_report.specs.Reports.{IsReport}
+use Rattle.join_report.specs.declared.report.Report.{Report}
+use Rattle.join_tale.specs.Keeping.{IsTale}
+use Rattle.join_tale.specs.Records.{IsSettled}
+use Rattle.join_tale.specs.Tales as tales
+use Rattle.join_tale.specs.Tales.{HasCome, Tale, frames_of}
+use Rattle.join_tree.specs.Mains.{IsMain}
+use Rattle.join_tree.specs.Progress.{Progress}
+use Rattle.joined_runs.specs.Together.{IsRestOf}
+use Rattle.outer_tables.specs.declared.not_read.NotRead.{NotRead}
+use Rattle.pipeline_desc.specs.Meant.{PlanMeant}
+use Rattle.pull_nodes.specs.declared.node.Node.{Node}
+use Rattle.pull_stepper.specs.Held.{FinishesDevice}
+use Rattle.pull_turns.specs.Piping.{StateMeaning}
+use Rattle.res_ledger.specs.declared.event.Event.{Event}
+use Rattle.res_ledger.specs.declared.event.StreamNo.TheVariants.{Outer}
+use Rattle.res_ledger.specs.Order.{firsts}
+use Rattle.row_seat.specs.declared.view.View.{View}
+use Rattle.run_rules.specs.Facts.{at}
+use Rattle.run_rules.specs.Work.{RunRecord}
+use Rattle.scope_tree.specs.Calls.{Seen}
+use Rattle.scope_tree.specs.Released.{said}
+use Rattle.scope_tree.specs.declared.branch.Spent.{Spent}
+use Rattle.stream_jobs.specs.declared.job.JobEnd.{JobEnd}
+use Rattle.stream_jobs.specs.Running.{Origin}
+use Rattle.stream_parts.specs.Retire.{devices_of}
+use Rattle.tree_families.specs.Families.{Split}
+use Rattle.collected.specs.Kept.{AreKept}
+use Rattle.collector.specs.Collecting.{bare_work, EndsRead, Gone, HasTables, HaveValuesOf, IsStoppedBy, number_of, told_message}
+use Rattle.collector.specs.declared.collector.Left.{Left}
+use Rattle.collector.specs.Collecting.Gone.{Came}
+use Rattle.collector.specs.Parts.{AreDealt, Part, fate_of}
+
+module _ {S V F : Type 0} (view : S → View V) (told : V → DeviceTold) (P : Values → StateMeaning F) where
+  -- No stream is open: each that was begun has come back, and the main seat has what the seats were handed that came back. What came through the channel is what the tale tells.
+  pub record EndsStreams (b : Seen V) (left : List (Left V)) (receiver : ReceiverSeen) (parts : List (Part V F)) (progress : Progress V) (tale : Tale) : Type 0 where
+    pub begun : (k : ℕ) → tales.IsBegun tale k ↔ ((m : Split) × IsAmong m progress.splits × (m.stream ≡ k))
+    pub come : (k : ℕ) → tales.IsBegun tale k → HasCome tale k
+    pub gone : List (Gone S V F)
+    pub kept : AreKept view told P parts progress receiver tale left gone
+    pub apart : IsDistinct nat_eq (map number_of gone)
+    pub numbers : (k : ℕ) → IsAmong k (map number_of gone) ↔ (HasCome tale k ⊎ (at tale.fates k ≡ Some tales.Fate.Unmade))
+    pub home : (y : Seen V) → IsAmong y progress.back → (n : Node) × (ds : List V) × (w : Origin V F) × (e : JobEnd S V) × IsAmong (Came n ds w e) gone × (y.seat ≡ view e.seat)
+    pub given : (y : Seen V) → IsAmong y progress.back → (z : ℕ × V) → IsAmong z y.seat.given → IsAmong z b.seat.given
+    pub got : map told_message receiver.got ≡ tale.front ++ tale.late
+
+  -- A collector of the plan has come to its end, since the depot stood as d0: the outer stream ended so, no lease waits and no stream is open. The main tree stands as b, and has no open
+  -- row. The tables were tried, and where all of them were read, which have the values t then, streams were begun.
+  pub record IsCollected (p : PlanMeant) (d0 depot : DepotTold) (t : Values) (outer : How) (b : Seen V) (left : List (Left V)) (receiver : ReceiverSeen) (tale : Tale) : Type 0 where
+    pub parts : List (Part V F)
+    pub progress : Progress V
+    pub mid : DepotTold
+    pub o : Option NotRead
+    pub main : IsMain (FinishesDevice told) p.max_open (length p.streams) b progress
+    pub next : progress.next ≡ length parts
+    pub waits : progress.waits ≡ []
+    pub root : progress.root ≡ Some (exit_of outer)
+    pub shut : b.seat.opened ≡ []
+    pub once : IsDistinct nat_eq (firsts (said b.shelf))
+    pub tables : HasTables told p d0 mid o b progress
+    pub read : o ≡ None → HaveValuesOf told p tables.contents t
+    pub ended : o ≡ None → EndsRead p progress.leased outer
+    pub unread : o ≢ None → (parts ≡ []) × IsStoppedBy told p o (length tables.devices + length tables.back) tale.memory outer
+    pub dealt : AreDealt told p t 0 mid parts depot
+    pub streams : EndsStreams b left receiver parts progress tale
+    pub is_tale : IsTale (bare_work p) tale
+    pub fates_are : tale.fates ≡ map fate_of parts
+    pub outer_is : tale.outer ≡ Some outer
+    pub settled : IsSettled tale
+
+-- all devices that are to go back once the ledger is there: those on the main tree's shelf, and those that are left of the streams
+abbrev pub all_left : {V : Type 0} → (V → DeviceTold) → List (Spent V) → List (Left V) → List DeviceTold
+all_left told shelf left = map (λ x. told x.pay) shelf ++ flat_map (λ x. devices_of told x.shelf x.unopened) left
+
+-- The record is that of a run of the plan between these depots with this ledger, of which the report tells the tale: its frames, the rest of the one whose write failed, and the ends.
+pub record IsRunOf (p : PlanMeant) (outer : How) (tale : Tale) (L : List Event) (d0 last : DepotTold) (c : RunRecord) : Type 0 where
+  pub depot_old : c.depot_old ≡ d0
+  pub depot_new : c.depot_new ≡ last
+  pub events : c.events ≡ L
+  pub frames : c.frames ≡ frames_of tale.front
+  pub cut : c.cut ≡ tale.cut
+  pub rest : IsRestOf tale.cut c.rest
+  pub memory : c.memory ≡ tale.memory
+  pub report : Report
+  pub report_is : IsReport p.take (length p.streams) tale report
+  pub names : map (λ e. e.who) c.ends ≡ Outer ∷ names_below (length p.streams)
+  pub hows : map (λ e. e.how) c.ends ≡ outer ∷ report.streams.hows

@@ -1,0 +1,252 @@
+-- The end of a stream is dealt with, and the collector goes on.
+use Rattle.std.proofs.Common.{◌≡◌, ◌≢◌, ◌⊎◌, ℕ, ◌+◌, ◌<◌, List, [], ◌∷◌, ◌++◌, map, length, Option, Some, refl, sym, ◌∙◌, ap, subst, inl, inr, ⊎_elim, arith, append_assoc, length-append}
+use Rattle.std.specs.Prelude.{vec_capacity}
+use Rattle.std.specs.Global.{Global}
+use Rattle.chunk_core.specs.Lists.{IsAmong}
+use Rattle.chunk_core.specs.Lists.IsAmong.{here, there}
+use Rattle.chunk_core.specs.Tables.{Values}
+use Rattle.chunk_core.specs.declared.code.How.{How}
+use Rattle.chunk_core.proofs.Distinct.{distinct_head}
+use Rattle.chunk_core.proofs.Filters.{among_right}
+use Rattle.chunk_core.proofs.Members.{among_left}
+use Rattle.channel_bounded.specs.Ends.{ReceiverSeen}
+use Rattle.channel_bounded.specs.Streams.{IsWhole}
+use Rattle.channel_bounded.specs.declared.message.Msg.{Msg}
+use Rattle.device_port.specs.Depot.{DepotTold}
+use Rattle.device_port.specs.Device.{DeviceTold}
+use Rattle.device_port.specs.Sink.{SinkTold}
+use Rattle.interrupt_ctx.specs.Ends.{BoardSeen}
+use Rattle.join_report.specs.Calls.{EndsStream, after_end}
+use Rattle.join_report.specs.Reports.{HasStream}
+use Rattle.join_report.specs.Stopping.{IsSeated, TellsKnown, view_of, with_seat_in}
+use Rattle.join_report.specs.declared.report.Report.{Report}
+use Rattle.join_report.specs.declared.stops.Stops.{Stops}
+use Rattle.join_report.proofs.Steps.{learns}
+use Rattle.join_tale.specs.Tales.{IsOpen, Tale}
+use Rattle.join_tree.specs.Guests.{AreOut, Guest, IsOut}
+use Rattle.join_tree.specs.Mains.{IsMain}
+use Rattle.join_tree.specs.Progress.{Progress, joining}
+use Rattle.outer_tables.specs.declared.not_read.NotRead.{NotRead}
+use Rattle.pipeline_desc.specs.Meant.{PlanMeant}
+use Rattle.pull_stepper.specs.Held.{FinishesDevice}
+use Rattle.pull_turns.specs.Piping.{StateMeaning}
+use Rattle.res_ledger.specs.declared.event.StreamNo.TheVariants.{Inner, Outer}
+use Rattle.row_seat.specs.declared.view.View.{View}
+use Rattle.row_seat.specs.Views.{OthersFit, joined}
+use Rattle.scope_tree.specs.Calls.{Seen}
+use Rattle.scope_tree.specs.Trees.{Fits, seen}
+use Rattle.scope_tree.specs.Words.{owed}
+use Rattle.scope_tree.specs.declared.leases.Lease.{Lease}
+use Rattle.scope_tree.specs.declared.tree.Tree.{Tree}
+use Rattle.scope_tree.proofs.Follows.{released_follows, same_by}
+use Rattle.std.specs.declared.vec.Vec.{Vec}
+use Rattle.stream_jobs.specs.declared.job.Job.{Job}
+use Rattle.stream_jobs.specs.declared.job.JobEnd.{JobEnd}
+use Rattle.stream_jobs.specs.Jobs.{EndsJob, FitsJob, IsAt, IsJob, seen_job}
+use Rattle.stream_jobs.specs.Messages.{end_message}
+use Rattle.stream_jobs.specs.Learned.{HasSetFor}
+use Rattle.stream_jobs.specs.Running.{Origin}
+use Rattle.stream_jobs.proofs.Others.{others_leave}
+use Rattle.collector.specs.declared.collector.Collector.{Collector}
+use Rattle.collector.specs.declared.collector.Left.{Left}
+use Rattle.collector.specs.Collecting.{AreJobs, HasTables, IsCollectingWith, IsJobOf, KeepsStreams, KeepsTree, guest_of}
+use Rattle.collector.specs.Receiving.{HasGot, StopsThose}
+use Rattle.collector.proofs.EndTaken.{GotAll, behind, got_all, streams_end}
+use Rattle.collector.proofs.EndTold.{EndComes, comes, end_sets, is_tale, v}
+use Rattle.collector.proofs.LoadTaken.{grown, some_part}
+use Rattle.collector.proofs.Loads.{wrote_same}
+use Rattle.collector.proofs.Opening.{is_open}
+use Rattle.collector.proofs.Rotating.{jobs_stay}
+use Rattle.collector.proofs.Turning.{first_job, outer_fits}
+
+module _ {V : Type 0} (told : V → DeviceTold) (p : PlanMeant) (old mid : DepotTold) (o : Option NotRead) (q : Progress V) where
+  -- what is known of the tables stays known where the tree of a stream comes back
+  abbrev tables_joined : (a b y : Seen V) (w : View V) → b ≡ record a { seat = joined a.seat w } → HasTables told p old mid o a q → HasTables told p old mid o b (joining q y)
+  tables_joined a b y w is h = record {
+    devices = h.devices;
+    back = h.back;
+    contents = h.contents;
+    out = h.out;
+    made = h.made;
+    unknown = h.unknown;
+    noted = λ i l. let n = h.noted i l in (n.0, subst (λ (x : Seen V). IsAmong n.0 x.seat.events) (sym is) (among_left w.events n.1), n.2, n.3);
+    pays = λ i d e. ⊎_elim (λ m. inl (subst (λ (x : Seen V). IsAmong (i, d) x.seat.opened) (sym is) m)) (λ m. inr (subst (λ (x : Seen V). IsAmong (i, d) x.seat.left) (sym is) (among_left w.left m))) (h.pays i d e);
+    tables = h.tables;
+  }
+
+  -- and so does what is known of the tree
+  tree_joined : (waits : ℕ) (a b y : Seen V) (w : View V) (outer : Option How) (leased : ℕ) (ws : List Lease) {F : Type 0} (parts : List _) → b ≡ record a { seat = joined a.seat w } → owed b.seat ≡ owed a.seat → IsMain (FinishesDevice told) p.max_open (length p.streams) b (joining q y) → KeepsTree p {V = V} {F = F} told waits a outer leased ws parts q → KeepsTree p {V = V} {F = F} told waits b outer leased ws parts (joining q y)
+  tree_joined waits a b y w outer leased ws parts is owes main h =
+      let empty : b.seat.empty ≡ a.seat.empty ++ w.empty = ap (λ (x : Seen V). x.seat.empty) is in
+      let splits : b.seat.splits ≡ a.seat.splits = ap (λ (x : Seen V). x.seat.splits) is in
+      let spare : b.seat.spare ≡ a.seat.spare + w.spare = ap (λ (x : Seen V). x.seat.spare) is in
+      record {
+        main = main;
+        leased_is = h.leased_is;
+        next_is = h.next_is;
+        root_is = h.root_is;
+        waits_are = h.waits_are;
+        rows = h.rows;
+        few = h.few;
+        some = h.some;
+        empty = λ k r l m i. subst (λ xs. IsAmong r xs) (sym empty) (among_left w.empty (h.empty k r l m i));
+        splits = let s = h.splits in omega (arith, s, splits);
+        spare = let s = h.spare in omega (arith, s, spare, owes);
+      }
+
+module _ {S V F D T : Type 0} (view : S → View V) (told : V → DeviceTold) (fits : S → D → Type 0) (values : T → Values) (P : Values → StateMeaning F) (p : PlanMeant) (d0 : DepotTold) (s0 : SinkTold) (t : Values) (waits : ℕ) (ws : List Lease) (job : Job S V F V D T) (js : List (Job S V F V D T)) (had : ReceiverSeen) (depot : DepotTold) (sink : SinkTold) (d : D) (c : Collector S V F V D T) (i : IsCollectingWith view told fits values P p d0 s0 t waits ws (job ∷ js) had depot sink d c) (k : ℕ) (h : How) (r : ReceiverSeen) (got : HasGot had (end_message k h) r) (number : job.sender.stream ≡ k) where
+  pub first : (w : Origin V F) × (os : List (Origin V F)) × (i.streams.origins ≡ w ∷ os) × IsJobOf view told fits values P c.hub c.stops.board d i.parts job w × AreJobs view told fits values P c.hub c.stops.board d i.parts js os
+  first = first_job view told fits values P c.hub c.stops.board d i.parts job js i.streams.origins i.streams.jobs_are
+
+  abbrev pub w : Origin V F
+  w = first.0
+
+  abbrev pub os : List (Origin V F)
+  os = first.1
+
+  pub w_is : w.stream ≡ k
+  w_is = sym first.3.job.sender ∙ number
+
+  pub open_end : IsOpen i.tale k
+  open_end = is_open view told fits values P c.hub c.stops.board d (seen view c.tree) (job ∷ js) c.left.items had i.parts i.progress i.tale i.streams i.telling.fates_are (end_message k h) r got
+
+  abbrev pub some_job : (x : Origin V F) × IsJob view values told P x job
+  some_job = (w, first.3.job)
+
+  pub job_fits : FitsJob view told fits job d
+  job_fits = first.3.fits_desk
+
+  pub job_place : IsAt (seen_job view values job) c.hub c.stops.board
+  job_place = first.3.place
+
+  pub ends_below : k < length p.streams
+  ends_below = let e = job_place.context in let n = i.telling.contexts in omega (arith, e, n, number)
+
+  pub has_stream : HasStream c.report k
+  has_stream = let n = i.telling.report_is.unwritten in let b = ends_below in omega (arith, n, b)
+
+  pub left_room : length c.left.items < vec_capacity c.left
+  left_room = let l = i.room.left in omega (arith, l)
+
+  pub hub_is : r.hub ≡ c.hub.id
+  hub_is = ap (λ (x : ReceiverSeen). x.hub) got.is ∙ i.streams.hub_is
+
+  pub out_first : AreOut (seen view c.tree) i.progress.splits (guest_of w ∷ map guest_of os)
+  out_first = subst (λ l. AreOut (seen view c.tree) i.progress.splits (map guest_of l)) first.2 i.streams.out
+
+  pub guest_out : IsOut (seen view c.tree) i.progress.splits (guest_of w)
+  guest_out = out_first.each (guest_of w) (here (map guest_of os))
+
+  apart : (x : Origin V F) → IsAmong x os → k ≢ x.stream
+  apart x m e = distinct_head w.stream (map (λ (g : Guest). g.stream) (map guest_of os)) out_first.apart (subst (λ j. IsAmong j (map (λ (g : Guest). g.stream) (map guest_of os))) (sym e ∙ sym w_is) (in_guests os m))
+    where
+      in_guests : (xs : List (Origin V F)) → IsAmong x xs → IsAmong x.stream (map (λ (g : Guest). g.stream) (map guest_of xs))
+      in_guests xs (here ys) = here (map (λ (g : Guest). g.stream) (map guest_of ys))
+      in_guests xs (there {xs = ys} y n) = there y.stream (in_guests ys n)
+
+  module _ (d1 : D) (others : OthersFit view fits (Inner job.sender.stream) d d1) where
+    pub tree_fits : Fits view fits c.tree d1
+    tree_fits = outer_fits view fits c.tree d d1 job.sender.stream others i.tree.main.by i.fits_desk
+
+    module _ (e : JobEnd S V) (ends : EndsJob view told P w e) where
+      end_by : (view e.seat).by ≡ Inner w.stream
+      end_by = let l = ends.left in ap (λ (x : View V). x.by) l.leaves.seat_is ∙ (same_by (released_follows l.leaves.cancels.left.2) ∙ (l.run.since.alone.by ∙ l.begun.guest.by))
+
+      module _ (d2 : D) (B : Tree S V D) (back : (o : S) → (view o).by ≢ Outer → (view o).by ≢ (view e.seat).by → fits o d1 → fits o d2) where
+        -- the jobs that are open still
+        jobs_on : AreJobs view told fits values P c.hub c.stops.board d2 i.parts js os
+        jobs_on = jobs_stay view told fits values P c.hub c.stops.board d i.parts d2 js os (λ j x m q. record {
+          node = q.node;
+          devices = q.devices;
+          begun = q.begun;
+          job = q.job;
+          fits_desk =
+              let ne : job.sender.stream ≢ x.stream = λ z. apart x m (sym number ∙ z) in
+              let law = others_leave view values told P fits in
+              let one = law.inner x job.sender.stream ne j d d1 q.job q.fits_desk others in
+              law.both x job.sender.stream ne j d1 d2 q.job one (λ o a b f. back o a (λ z. b (z ∙ (end_by ∙ ap Inner (w_is ∙ sym number)))) f);
+          place = q.place;
+        }) first.4
+
+        module _ (main : IsMain (FinishesDevice told) p.max_open (length p.streams) (seen view B) (joining i.progress ends.left.leaves.last)) (out : AreOut (seen view B) i.progress.splits (map guest_of os)) (B_is : seen view B ≡ record (seen view c.tree) { seat = joined (seen view c.tree).seat (view e.seat) }) (owes : owed (seen view B).seat ≡ owed (seen view c.tree).seat) (B_fits : Fits view fits B d2) (queued : List Msg) (whole : IsWhole e.sender.stream e.sender.sent r.got queued) (L : Vec (Left V) Global) (L_is : L.items ≡ c.left.items ++ record { shelf = e.shelf; unopened = e.unopened } ∷ []) (L_room : vec_capacity L ≡ vec_capacity c.left) (report : Report) (reported : EndsStream k h c.report report) (stops : Stops) (those : StopsThose p k (length p.streams) (with_seat_in c.stops e.board) stops) (seated : IsSeated stops) where
+          whole_had : IsWhole e.sender.stream e.sender.sent (had.got ++ end_message k h ∷ []) queued
+          whole_had = subst (λ (x : ReceiverSeen). IsWhole e.sender.stream e.sender.sent x.got queued) got.is whole
+
+          all : GotAll k h had.got e
+          all = got_all view told P w e ends k w_is h had.got queued whole_had
+
+          set_for : HasSetFor k e.board.view (Some h)
+          set_for = subst (λ x. HasSetFor k e.board.view (Some x)) all.how_so (subst (λ x. HasSetFor x e.board.view (Some e.how)) w_is ends.learned.set)
+
+          abbrev tale : Tale
+          tale = v p i.tale k h i.telling.is_tale open_end e.board.view set_for (with_seat_in c.stops e.board) stops those
+
+          ending : EndComes i.tale (after_end i.tale k h) k h
+          ending = comes p i.tale k h i.telling.is_tale open_end e.board.view set_for (with_seat_in c.stops e.board) stops those
+
+          ending_learned : EndComes i.tale tale k h
+          ending_learned = record {
+            fates = ending.fates;
+            outer = ending.outer;
+            cut = ending.cut;
+            frames = ending.frames;
+            memory = ending.memory;
+            came = ending.came;
+            kept = ending.kept;
+            back = ending.back;
+            got = ending.got;
+          }
+
+          abbrev R : ReceiverSeen
+          R = record r { closed = r.closed ++ (e.sender.stream, e.sender.sent) ∷ [] }
+
+          R_is : R ≡ behind view told fits values P i.parts i.progress had i.tale tale k h ending_learned open_end ends.left.leaves.last e.sender.sent
+          R_is = ap (λ (x : ReceiverSeen). record x { closed = x.closed ++ (e.sender.stream, e.sender.sent) ∷ [] }) got.is ∙ ap (λ j. record (grown had (end_message k h)) { closed = had.closed ++ (j, e.sender.sent) ∷ [] }) (ends.sender ∙ w_is)
+
+          handed : (z : ℕ × V) → IsAmong z (seen view c.tree).seat.given ⊎ IsAmong z ends.left.leaves.last.seat.given → IsAmong z (seen view B).seat.given
+          handed z m = subst (λ (u : Seen V). IsAmong z u.seat.given) (sym B_is) (⊎_elim (λ q. among_left (view e.seat).given q) (λ q. among_right z (seen view c.tree).seat.given (view e.seat).given (subst (λ (u : View V). IsAmong z u.given) (sym ends.left.leaves.seat_is) q)) m)
+
+          streams_now : KeepsStreams view told fits values P c.hub c.stops.board d2 (seen view B) js L.items R i.parts (joining i.progress ends.left.leaves.last) tale
+          streams_now = subst (λ l. KeepsStreams view told fits values P c.hub c.stops.board d2 (seen view B) js l R i.parts (joining i.progress ends.left.leaves.last) tale) (sym L_is) (subst (λ x. KeepsStreams view told fits values P c.hub c.stops.board d2 (seen view B) js (c.left.items ++ record { shelf = e.shelf; unopened = e.unopened } ∷ []) x i.parts (joining i.progress ends.left.leaves.last) tale) (sym R_is)
+              (streams_end view told fits values P i.parts i.progress had i.tale tale k h ending_learned open_end ends.left.leaves.last e.sender.sent c.hub c.stops.board d d2 (seen view c.tree) (seen view B) job js c.left.items i.streams w os first.2 w_is jobs_on out handed first.3.node first.3.devices e first.3.begun ends all refl ends.left.leaves.seat_is))
+
+          known : TellsKnown tale stops
+          known = record {
+            set = ap (λ l. l ++ (e.board.view.set ++ those.set)) ((end_sets i.tale k h).0 ∙ i.telling.known.set) ∙ (sym (append_assoc (view_of c.stops).set e.board.view.set those.set) ∙ sym those.learns.set);
+            seen = ap (λ l. l ++ (e.board.view.seen ++ those.seen)) ((end_sets i.tale k h).1 ∙ i.telling.known.seen) ∙ (sym (append_assoc (view_of c.stops).seen e.board.view.seen those.seen) ∙ sym those.learns.seen);
+          }
+
+          pub ended_collecting : IsCollectingWith view told fits values P p d0 s0 t waits ws js R depot sink d2 (record c { tree = B; stops = stops; receiver = R; report = report; left = L })
+          ended_collecting = record {
+            fits_desk = B_fits;
+            parts = i.parts;
+            progress = joining i.progress ends.left.leaves.last;
+            tale = tale;
+            mid = i.mid;
+            o = i.o;
+            tree = tree_joined told p d0 i.mid i.o i.progress waits (seen view c.tree) (seen view B) ends.left.leaves.last (view e.seat) c.outer c.leased ws i.parts B_is owes main i.tree;
+            next = i.next;
+            tables = tables_joined told p d0 i.mid i.o i.progress (seen view c.tree) (seen view B) ends.left.leaves.last (view e.seat) B_is i.tables;
+            read = i.read;
+            unread = λ ne. absurd (some_part i.parts i.tale k i.telling.fates_are open_end (i.unread ne).1);
+            ended = i.ended;
+            dealt = i.dealt;
+            streams = subst (λ b. KeepsStreams view told fits values P c.hub b d2 (seen view B) js L.items R i.parts (joining i.progress ends.left.leaves.last) tale) (sym those.learns.board) streams_now;
+            telling = record {
+              is_tale = is_tale p i.tale k h i.telling.is_tale open_end e.board.view set_for (with_seat_in c.stops e.board) stops those;
+              fates_are = ending.fates ∙ i.telling.fates_are;
+              outer_is = ending.outer ∙ i.telling.outer_is;
+              report_is = learns p.take (length p.streams) (after_end i.tale k h) report (reported p.take (length p.streams) i.tale i.telling.report_is open_end) (e.board.view.set ++ those.set) (e.board.view.seen ++ those.seen);
+              known = known;
+              seated = seated;
+              seats = let n = i.telling.seats in let o = those.learns.out in omega (arith, n, o);
+              contexts = ap (λ (b : BoardSeen). b.contexts) those.learns.board ∙ i.telling.contexts;
+              wrote = wrote_same s0 sink i.tale tale ending.cut ending.frames i.telling.wrote;
+            };
+            room = record {
+              waiting = i.room.waiting;
+              jobs_room = i.room.jobs_room;
+              few = let f = i.room.few in omega (arith, f);
+              left = let f = i.room.left in let l = ap (λ xs. length xs) L_is ∙ length-append c.left.items (record { shelf = e.shelf; unopened = e.unopened } ∷ []) in let n = L_room in omega (arith, f, l, n);
+            };
+          }

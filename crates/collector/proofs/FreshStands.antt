@@ -1,0 +1,157 @@
+-- How a collector stands before its first stream.
+use Rattle.std.proofs.Common.{◌≡◌, ◌≢◌, ℕ, ◌+◌, Bool, false, ◌||◌, List, [], ◌++◌, map, length, Option, Some, None, IfSome, refl, sym, ◌∙◌, ap, subst, ⊎_elim, arith}
+use Rattle.chunk_core.specs.Outcomes.{exit_of}
+use Rattle.chunk_core.specs.Tables.{Values}
+use Rattle.chunk_core.specs.declared.code.Exit.{Exit}
+use Rattle.chunk_core.specs.declared.code.How.{How}
+use Rattle.chunk_core.specs.declared.code.How.TheVariants as how
+use Rattle.chunk_core.proofs.Distinct.{distinct_nil}
+use Rattle.chunk_core.proofs.Members.{among_nil}
+use Rattle.channel_bounded.specs.Ends.{HubSeen, ReceiverSeen}
+use Rattle.device_port.specs.Device.{DeviceTold}
+use Rattle.device_port.specs.Depot.{DepotTold}
+use Rattle.device_port.specs.Sink.{SinkTold}
+use Rattle.interrupt_ctx.specs.Ends.{BoardSeen}
+use Rattle.interrupt_ctx.specs.declared.view.Interruption.{Interruption}
+use Rattle.interrupt_ctx.specs.declared.why.Why.TheVariants as why
+use Rattle.join_report.specs.Calls.{EndsOuter}
+use Rattle.join_report.specs.Stopping.{Interrupts, IsSeated, Learns, Reaches}
+use Rattle.join_report.specs.declared.report.Report.{Report}
+use Rattle.join_report.specs.declared.stops.Stops.{Stops}
+use Rattle.join_tale.specs.Steps.{TellsOuter, first_tale, learned, outer_ended}
+use Rattle.join_tale.specs.Tales as tales
+use Rattle.join_tale.specs.Tales.{Fate}
+use Rattle.join_tree.specs.Mains.{IsMain}
+use Rattle.join_tree.specs.Progress.{none_done}
+use Rattle.join_tree.proofs.Outs.{guests_stay}
+use Rattle.outer_tables.specs.declared.not_read.NotRead.{NotRead}
+use Rattle.outer_tables.specs.declared.not_read.NotRead.TheVariants as lack
+use Rattle.outer_tables.specs.Outcomes.{values_in}
+use Rattle.outer_tables.specs.Rows.{acquires}
+use Rattle.outer_tables.specs.Tables.{TriesTables}
+use Rattle.pipeline_desc.specs.Meant.{PlanMeant}
+use Rattle.pull_stepper.specs.Held.{FinishesDevice}
+use Rattle.pull_turns.specs.Piping.{StateMeaning}
+use Rattle.res_ledger.specs.declared.event.What.{What}
+use Rattle.row_seat.specs.declared.view.View.{View}
+use Rattle.run_rules.specs.Facts.{at, is_memory}
+use Rattle.scope_tree.specs.Calls.{Seen}
+use Rattle.scope_tree.specs.Trees.{Fits, seen}
+use Rattle.scope_tree.specs.declared.leases.Lease.{Lease}
+use Rattle.scope_tree.specs.declared.tree.Tree.{Tree}
+use Rattle.stream_jobs.specs.declared.job.Job.{Job}
+use Rattle.collector.specs.declared.collector.Collector.{Collector}
+use Rattle.collector.specs.declared.collector.Left.{Left}
+use Rattle.collector.specs.Collecting.{EndsRead, HasTables, HaveValuesOf, IsCollecting, IsCollectingWith, IsStoppedBy, KeepsStreams, KeepsTale, KeepsTree, bare_work}
+use Rattle.collector.specs.Starting.{ClosesOuter, IsFresh, room_of}
+use Rattle.collector.proofs.Fresh.{first_out, tried, tried_out, tried_tree, untouched_tree, untried}
+use Rattle.collector.proofs.FreshTale.{halted, tale_halted, tale_starts}
+use Rattle.collector.proofs.OuterSteps.{more_now}
+use Rattle.collector.proofs.Steps.{tables_kept}
+use Rattle.collector.proofs.Streams.{moved, retold}
+use Rattle.collector.proofs.Telling.{tale_closes}
+use Rattle.collector.proofs.Tree.{closed}
+
+-- no stream was dealt with
+no_fate : (k : ℕ) (f : Fate) → at [] k ≡ Some f → ⊥
+no_fate k f e = cc
+
+module _ {S V F D T : Type 0} (view : S → View V) (told : V → DeviceTold) (fits : S → D → Type 0) (values : T → Values) (P : Values → StateMeaning F) (p : PlanMeant) where
+  -- no stream is open, and none is left
+  pub streams_none : (hub : HubSeen) (board : BoardSeen) (d : D) (b : Seen V) (tables : List What) (root : Option Exit) (outer : Option How) (set found : List Interruption) (ceased memory : Bool) → b.seat.out ≡ []
+      → KeepsStreams view told fits values P hub board d b [] [] (record { hub = hub.id; got = []; made = []; closed = [] }) [] (moved (none_done V) [] 0 0 tables root) (retold first_tale outer set found ceased memory)
+  streams_none hub board d b tables root outer set found ceased memory out = record {
+    origins = [];
+    jobs_are = tt;
+    out = (guests_stay V).none b [] out;
+    opens = λ k. (λ m. absurd (among_nil m), λ o. absurd (no_fate k tales.Fate.Begun o.0));
+    begun = λ k. (λ i. absurd (no_fate k tales.Fate.Begun i), λ m. absurd (among_nil m.1));
+    gone = [];
+    kept = tt;
+    apart = distinct_nil;
+    numbers = λ k. (λ m. absurd (among_nil m), λ o. absurd (⊎_elim (λ h. ⊎_elim (λ m. among_nil m) (λ m. among_nil m) h.1) (λ i. no_fate k tales.Fate.Unmade i) o));
+    home = λ y m. absurd (among_nil m);
+    given = λ y m. absurd (among_nil m);
+    hub_is = refl;
+    got = refl;
+    made = λ k. (λ m. absurd (among_nil m), λ i. absurd (no_fate k tales.Fate.Begun i));
+    closed = λ k sent m. absurd (among_nil m);
+  }
+
+  module _ (d0 : DepotTold) (s0 : SinkTold) (t : Values) (d : D) (c : Collector S V F V D T) (fr : IsFresh view told fits p d c) where
+    -- it stands so before its first stream
+    pub stands : (waits : ℕ) (depot : DepotTold) (e : D) (tree : Tree S V D) (stops : Stops) (report : Report) (outer : Option How) (o : Option NotRead) (tables : List What) (root : Option Exit) (set found : List Interruption) (ceased memory : Bool) → Fits view fits tree e
+        → KeepsTree p {F = F} told waits (seen view tree) outer 0 [] [] (moved (none_done V) [] 0 0 tables root) → (ht : HasTables told p d0 depot o (seen view tree) (moved (none_done V) [] 0 0 tables root)) → (o ≡ None → HaveValuesOf told p ht.contents t) → (o ≡ None → outer ≡ None)
+        → (o ≢ None → (h : How) × (outer ≡ Some h) × IsStoppedBy told p o (length ht.devices + length ht.back) memory h) → (seen view tree).seat.out ≡ [] → KeepsTale p outer report stops 0 s0 s0 [] (retold first_tale outer set found ceased memory)
+        → IsCollecting view told fits values P p d0 s0 t waits depot s0 e (record c { tree = tree; stops = stops; report = report; outer = outer })
+    stands waits depot e tree stops report outer o tables root set found ceased memory fit kt ht read only stopped out telling =
+        let z : Collector S V F V D T = record c { tree = tree; stops = stops; report = report; outer = outer } in
+        let q = moved (none_done V) [] 0 0 tables root in
+        let tale = retold first_tale outer set found ceased memory in
+        let With = λ (ws : List Lease) (js : List (Job S V F V D T)). IsCollectingWith view told fits values P p d0 s0 t waits ws js c.receiver depot s0 e z in
+        let k : With [] [] = record {
+          fits_desk = fit;
+          parts = [];
+          progress = q;
+          tale = tale;
+          mid = depot;
+          o = o;
+          tree = subst (λ n. KeepsTree p {F = F} told waits (seen view tree) outer n [] [] q) (sym fr.leased) kt;
+          next = fr.next;
+          tables = ht;
+          read = read;
+          ended = λ n. subst (λ (x : Option How). IfSome x (EndsRead p c.leased)) (sym (only n)) tt;
+          unread = λ n. (refl, refl, stopped n);
+          dealt = refl;
+          streams = subst (λ (r : ReceiverSeen). KeepsStreams view told fits values P c.hub stops.board e (seen view tree) [] c.left.items r [] q tale) (sym fr.room.receiver)
+              (subst (λ (xs : List (Left V)). KeepsStreams view told fits values P c.hub stops.board e (seen view tree) [] xs (record { hub = c.hub.id; got = []; made = []; closed = [] }) [] q tale) (sym fr.room.left)
+              (streams_none c.hub stops.board e (seen view tree) tables root outer set found ceased memory out));
+          telling = telling;
+          room = record { waiting = fr.room.waiting_room; jobs_room = fr.room.jobs_room; few = omega arith; left = let n = ap (λ (xs : List (Left V)). length xs) fr.room.left in let m = fr.room.left_room in omega (arith, n, m) };
+        } in
+        subst (λ (ws : List Lease). With ws c.jobs.items) (sym fr.room.waiting) (subst (λ (js : List (Job S V F V D T)). With [] js) (sym fr.room.jobs) k)
+
+    -- no frame is wanted
+    pub unwanted_stands : (none : p.take ≡ Some 0) (again : Stops) (m : Interrupts c.stops again 0 why.Take) (seated : IsSeated again) (e : D) (z : Collector S V F V D T) (last : Stops) (cs : List Interruption) (l : Learns again last [] cs) (sits : IsSeated last) → (r : Reaches 0 cs) → (ends : EndsOuter how.Halted c.report z.report)
+        → ClosesOuter (FinishesDevice told) how.Halted (seen view c.tree) (seen view z.tree) → Fits view fits z.tree e → z ≡ record c { tree = z.tree; stops = last; report = z.report; outer = Some how.Halted } → IsCollecting view told fits values P p d0 s0 t 1 d0 s0 e z
+    unwanted_stands none again m seated e z last cs l sits r ends close fit same =
+        let a = seen view c.tree in
+        let b = seen view z.tree in
+        let q = moved (none_done V) [] 0 0 [] None in
+        let u = moved (none_done V) [] 0 0 [] (Some (exit_of how.Halted)) in
+        let tale = halted p (room_of c) fr.room s0 none again m seated last cs l sits r z.report ends in
+        let h = stands 0 d0 e z.tree last z.report (Some how.Halted) (Some lack.Memory) [] (Some (exit_of how.Halted)) tale.set tale.seen tale.ceased tale.memory fit
+        (closed {F = F} told p 0 a None 0 [] [] q (untouched_tree told p d0 d0 a fr.seat 0 refl fr.main) how.Halted b refl close)
+        (tables_kept told p d0 d0 (Some lack.Memory) q u a b close.rows refl (untried told p d0 d0 a fr.seat)) (λ n. cc) (λ n. cc) (λ n. (how.Halted, refl, (none, refl))) (close.guests.out ∙ first_out p a.seat fr.seat)
+        (tale_halted p (room_of c) fr.room s0 none again m seated last cs l sits r z.report ends) in
+        subst (λ (y : Collector S V F V D T). IsCollecting view told fits values P p d0 s0 t 1 d0 s0 e y) (sym same)
+        (more_now view told fits values P p d0 s0 t 0 1 d0 s0 e (record c { tree = z.tree; stops = last; report = z.report; outer = Some how.Halted }) h (omega arith) (λ n. cc))
+
+    -- its tables were tried
+    module _ (some : p.take ≢ Some 0) (depot : DepotTold) (tree : Tree S V D) (o : Option NotRead) (tr : TriesTables told (FinishesDevice told) 0 (map (λ x. x.path) p.tables) d0 depot (seen view c.tree) (seen view tree) o)
+        (main : IsMain (FinishesDevice told) p.max_open (length p.streams) (seen view tree) (moved (none_done V) [] 0 0 (acquires 0 (length tr.devices)) None)) where
+      -- and all were read
+      pub read_stands : o ≡ None → ((k : ℕ) (key : List ℕ) → t k key ≡ values_in tr.contents k key) → (e : D) → Fits view fits tree e → IsCollecting view told fits values P p d0 s0 t (length c.waiting.items) depot s0 e (record c { tree = tree })
+      read_stands read same e fit =
+          let n = ap (λ (ws : List Lease). length ws) fr.room.waiting in
+          let a = seen view c.tree in
+          let b = seen view tree in
+          let h = stands (length c.waiting.items) depot e tree c.stops c.report None o (acquires 0 (length tr.devices)) None [] [] false false fit
+          (tried_tree told p d0 depot a fr.seat b o tr (length c.waiting.items) n main) (tried told p d0 depot a fr.seat b o tr) (λ z. same) (λ z. refl) (λ z. absurd (z read)) (tried_out told p d0 depot a fr.seat b o tr) (tale_starts p (room_of c) fr.room s0 some) in
+          subst (λ (x : Option How). IsCollecting view told fits values P p d0 s0 t (length c.waiting.items) depot s0 e (record c { tree = tree; outer = x })) (sym fr.outer) h
+
+      -- and one wasn't read
+      pub stopped_stands : (h : How) (e : D) (z : Collector S V F V D T) (vs cs : List Interruption) → Learns c.stops z.stops vs cs → IsSeated z.stops → EndsOuter h c.report z.report → TellsOuter (bare_work p) (learned (outer_ended first_tale h) vs cs) h vs → ClosesOuter (FinishesDevice told) h (seen view tree) (seen view z.tree) → Fits view fits z.tree e
+          → z ≡ record c { tree = z.tree; stops = z.stops; report = z.report; outer = Some h } → (o ≡ None → ⊥) → IsStoppedBy told p o (length tr.devices + length tr.back) (false || is_memory h) h → IsCollecting view told fits values P p d0 s0 t 1 depot s0 e z
+      stopped_stands h e z vs cs l sits ends tells close fit same unread cause =
+          let a = seen view c.tree in
+          let m = seen view tree in
+          let b = seen view z.tree in
+          let q = moved (none_done V) [] 0 0 (acquires 0 (length tr.devices)) None in
+          let u = moved (none_done V) [] 0 0 (acquires 0 (length tr.devices)) (Some (exit_of h)) in
+          let kt = tale_closes p None c.report c.stops 0 s0 s0 [] first_tale (tale_starts p (room_of c) fr.room s0 some) h z.stops z.report vs cs refl l sits ends tells in
+          let k = stands 0 depot e z.tree z.stops z.report (Some h) o (acquires 0 (length tr.devices)) (Some (exit_of h)) ([] ++ vs) ([] ++ cs) (false || is_memory h) (false || is_memory h) fit
+          (closed {F = F} told p 0 m None 0 [] [] q (tried_tree told p d0 depot a fr.seat m o tr 0 refl main) h b refl close)
+          (tables_kept told p d0 depot o q u m b close.rows refl (tried told p d0 depot a fr.seat m o tr)) (λ n. absurd (unread n)) (λ n. absurd (unread n)) (λ n. (h, refl, cause)) (close.guests.out ∙ tried_out told p d0 depot a fr.seat m o tr) kt in
+          subst (λ (y : Collector S V F V D T). IsCollecting view told fits values P p d0 s0 t 1 depot s0 e y) (sym same)
+          (more_now view told fits values P p d0 s0 t 0 1 depot s0 e (record c { tree = z.tree; stops = z.stops; report = z.report; outer = Some h }) k (omega arith) (λ n. cc))

@@ -1,0 +1,209 @@
+-- A load that came is taken, and the collector goes on.
+use Rattle.std.proofs.Common.{◌≡◌, ℕ, ◌<◌, List, [], ◌∷◌, ◌++◌, ◌-◌, ◌^◌, false, map, length, Option, Some, None, refl, sym, ◌∙◌, ap, subst, inl, inr, ⊎_elim, arith}
+use Rattle.std.proofs.lemmas.List.{map-append}
+use Rattle.chunk_core.specs.Elements.{elements, rendering_of}
+use Rattle.chunk_core.specs.Tables.{Values}
+use Rattle.chunk_core.specs.declared.load.Load.{Load}
+use Rattle.chunk_core.proofs.Each.{each_right}
+use Rattle.channel_bounded.specs.Ends.{HubSeen, ReceiverSeen}
+use Rattle.channel_bounded.specs.declared.message.Msg.{Msg}
+use Rattle.device_port.specs.Depot.{DepotTold}
+use Rattle.device_port.specs.Device.{DeviceTold}
+use Rattle.device_port.specs.Sink.{SinkTold}
+use Rattle.interrupt_ctx.specs.Ends.{BoardSeen}
+use Rattle.interrupt_ctx.specs.declared.why.Why.{Why}
+use Rattle.join_report.specs.Calls.{Writes, WritesLoad}
+use Rattle.join_report.specs.Calls.Writes.{late, some, last, sink, memory}
+use Rattle.join_report.specs.Reports.{HasStream, IsReport}
+use Rattle.join_report.specs.Stopping.{Interrupts, IsSeated, TellsKnown, view_of}
+use Rattle.join_report.specs.declared.report.Report.{Report}
+use Rattle.join_report.specs.declared.stops.Stops.{Stops}
+use Rattle.join_report.proofs.Learning.{learns_known}
+use Rattle.join_report.proofs.Steps.{learns}
+use Rattle.join_tale.specs.Steps.{learned}
+use Rattle.join_tale.specs.Tales as tales
+use Rattle.join_tale.specs.Tales.{HasCome, IsBegun, IsOpen, Tale, load_of}
+use Rattle.join_tree.specs.Progress.{Progress}
+use Rattle.pipeline_desc.specs.Meant.{PlanMeant}
+use Rattle.pull_turns.specs.Piping.{StateMeaning}
+use Rattle.row_seat.specs.declared.view.View.{View}
+use Rattle.run_rules.specs.Facts.{at}
+use Rattle.scope_tree.specs.Calls.{Seen}
+use Rattle.scope_tree.specs.Trees.{seen}
+use Rattle.scope_tree.specs.declared.leases.Lease.{Lease}
+use Rattle.stream_jobs.specs.declared.job.Job.{Job}
+use Rattle.stream_jobs.specs.Messages.{IsFullMessage, load_message}
+use Rattle.stream_jobs.specs.Running.{Origin}
+use Rattle.frames.proofs.Rendered.{rendering_some}
+use Rattle.collector.specs.declared.collector.Collector.{Collector}
+use Rattle.collector.specs.declared.collector.Left.{Left}
+use Rattle.collector.specs.Collecting.{AreKept, Gone, IsCollectingWith, IsKept, KeepsStreams, bare_work, told_message}
+use Rattle.collector.specs.Collecting.Gone.{Came, Missed}
+use Rattle.collector.specs.Parts.{Part, fate_of}
+use Rattle.collector.specs.Receiving.{HasGot}
+use Rattle.collector.proofs.Loads.{LoadGoes, SameEnds, goes_on, goes_on_stopped, wrote_none}
+use Rattle.collector.proofs.Mapped.{among_map}
+use Rattle.collector.proofs.Turning.{job_at}
+use Rattle.collector.proofs.Opening.{is_open}
+use Rattle.collector.proofs.OneStream.{of_rest}
+
+-- a receiver that got m too
+abbrev pub grown : ReceiverSeen → Msg → ReceiverSeen
+grown had m = record had { got = had.got ++ m ∷ [] }
+
+none_begun : (fs : List tales.Fate) (k : ℕ) → fs ≡ [] → at fs k ≡ Some tales.Fate.Begun → ⊥
+none_begun fs k e b = let f : at [] k ≡ Some tales.Fate.Begun = subst (λ xs. at xs k ≡ Some tales.Fate.Begun) e b in cc
+
+-- what was said of no stream isn't asked for once one is open
+pub some_part : {V F : Type 0} (parts : List (Part V F)) (t : Tale) (k : ℕ) → t.fates ≡ map fate_of parts → IsOpen t k → parts ≡ [] → ⊥
+some_part parts t k fates o e = none_begun t.fates k (fates ∙ ap (λ ps. map fate_of ps) e) o.0
+
+pub got_map : (had : List Msg) (m : Msg) (ms : List tales.Message) → map told_message had ≡ ms → map told_message (had ++ m ∷ []) ≡ ms ++ told_message m ∷ []
+got_map had m ms e = map-append told_message had (m ∷ []) ∙ ap (λ xs. xs ++ told_message m ∷ []) e
+
+pub same_set : {most : Option ℕ} {t : Tale} {k : ℕ} {l : Load} {old new : SinkTold} {answer : Option Why} {u : Tale} → Writes most t k l old new answer u → (u.set ≡ t.set) × (u.seen ≡ t.seen)
+same_set (late a b) = (refl, refl)
+same_set (some a b c) = (refl, refl)
+same_set (last a b c) = (refl, refl)
+same_set (sink a b) = (refl, refl)
+same_set (memory a b c) = (refl, refl)
+
+module _ {S V F D T : Type 0} (view : S → View V) (told : V → DeviceTold) (fits : S → D → Type 0) (values : T → Values) (P : Values → StateMeaning F) where
+  module _ (parts : List (Part V F)) (progress : Progress V) (had : ReceiverSeen) (m : Msg) (t v : Tale) (same : SameEnds t v) (o : IsOpen t m.stream) where
+    back_stays : (x : Left V) (g : Gone S V F) → IsKept view told fits values P parts progress had t x g → IsKept view told fits values P parts progress (grown had m) v x g
+    back_stays x (Came n ds w e) h = record {
+      begun = h.begun;
+      ends = h.ends;
+      came = same.came w.stream e.how h.came;
+      got = of_rest had.got m w.stream (λ q. o.1 (subst (λ k. HasCome t k) (sym q) (e.how, h.came))) ∙ h.got;
+      closed = h.closed;
+      back = h.back;
+      taken_in = h.taken_in;
+      seat_is = h.seat_is;
+      shelf_is = h.shelf_is;
+      unopened_is = h.unopened_is;
+    }
+    back_stays x (Missed k ds) h = h
+
+    kept_stays : (xs : List (Left V)) (gs : List (Gone S V F)) → AreKept view told fits values P parts progress had t xs gs → AreKept view told fits values P parts progress (grown had m) v xs gs
+    kept_stays [] [] h = tt
+    kept_stays [] (g ∷ gs) h = absurd h
+    kept_stays (x ∷ xs) [] h = absurd h
+    kept_stays (x ∷ xs) (g ∷ gs) h = (back_stays x g h.0, kept_stays xs gs h.1)
+
+    begun_on : (k : ℕ) → IsBegun t k → IsBegun v k
+    begun_on k b = subst (λ fs. at fs k ≡ Some tales.Fate.Begun) (sym same.fates) b
+
+    begun_back : (k : ℕ) → IsBegun v k → IsBegun t k
+    begun_back k b = subst (λ fs. at fs k ≡ Some tales.Fate.Begun) same.fates b
+
+    come_on : (k : ℕ) → HasCome t k → HasCome v k
+    come_on k h = (h.0, same.came k h.0 h.1)
+
+    come_back : (k : ℕ) → HasCome v k → HasCome t k
+    come_back k h = (h.0, same.back k h.0 h.1)
+
+    pub streams_on : (hub : HubSeen) (board : BoardSeen) (d : D) (b : Seen V) (js : List (Job S V F V D T)) (left : List (Left V)) → (v.front ++ v.late ≡ (t.front ++ t.late) ++ told_message m ∷ [])
+        → KeepsStreams view told fits values P hub board d b js left had parts progress t → KeepsStreams view told fits values P hub board d b js left (grown had m) parts progress v
+    streams_on hub board d b js left got s = record {
+      origins = s.origins;
+      jobs_are = s.jobs_are;
+      out = s.out;
+      opens = λ k. (λ a. let q = (s.opens k).0 a in (begun_on k q.0, λ c. q.1 (come_back k c)), λ q. (s.opens k).1 (begun_back k q.0, λ c. q.1 (come_on k c)));
+      begun = λ k. (λ q. (s.begun k).0 (begun_back k q), λ q. begun_on k ((s.begun k).1 q));
+      gone = s.gone;
+      kept = kept_stays left s.gone s.kept;
+      apart = s.apart;
+      numbers = λ k. (λ a. ⊎_elim (λ c. inl (come_on k c)) (λ u. inr (subst (λ fs. at fs k ≡ Some tales.Fate.Unmade) (sym same.fates) u)) ((s.numbers k).0 a), λ q. (s.numbers k).1 (⊎_elim (λ c. inl (come_back k c)) (λ u. inr (subst (λ fs. at fs k ≡ Some tales.Fate.Unmade) same.fates u)) q));
+      given = s.given;
+      home = s.home;
+      hub_is = s.hub_is;
+      got = got_map had.got m (t.front ++ t.late) s.got ∙ sym got;
+      made = λ k. (λ a. begun_on k ((s.made k).0 a), λ q. (s.made k).1 (begun_back k q));
+      closed = λ k sent a. come_on k (s.closed k sent a);
+    }
+
+  module _ (p : PlanMeant) (d0 : DepotTold) (s0 : SinkTold) (t : Values) (waits : ℕ) (ws : List Lease) (js : List (Job S V F V D T)) (had : ReceiverSeen) (depot : DepotTold) (sink now : SinkTold) (d : D) (c : Collector S V F V D T) (i : IsCollectingWith view told fits values P p d0 s0 t waits ws js had depot sink d c) (k : ℕ) (l : Load) (r : ReceiverSeen) (h : HasGot had (load_message k l) r) where
+    abbrev m : Msg
+    m = load_message k l
+
+    pub open_load : IsOpen i.tale k
+    open_load = is_open view told fits values P c.hub c.stops.board d (seen view c.tree) js c.left.items had i.parts i.progress i.tale i.streams i.telling.fates_are m r h
+
+    -- the collector behind it
+    with_load : (v : Tale) (report : Report) (stops : Stops) → LoadGoes (bare_work p) i.tale v k (rendering_of (elements l)) s0 now → IsReport p.take (length p.streams) v report → TellsKnown v stops → IsSeated stops → stops.board ≡ c.stops.board → (view_of stops).out ≡ (view_of c.stops).out
+        → IsCollectingWith view told fits values P p d0 s0 t waits ws js r depot now d (record c { report = report; stops = stops })
+    with_load v report stops g is known seated board out = subst (λ x. IsCollectingWith view told fits values P p d0 s0 t waits ws js x depot now d (record c { report = report; stops = stops })) (sym h.is) (record {
+      fits_desk = i.fits_desk;
+      parts = i.parts;
+      progress = i.progress;
+      tale = v;
+      mid = i.mid;
+      o = i.o;
+      tree = i.tree;
+      next = i.next;
+      tables = i.tables;
+      read = i.read;
+      unread = λ ne. absurd (some_part i.parts i.tale k i.telling.fates_are open_load (i.unread ne).1);
+      ended = i.ended;
+      dealt = i.dealt;
+      streams = subst (λ b. KeepsStreams view told fits values P c.hub b d (seen view c.tree) js c.left.items (grown had m) i.parts i.progress v) (sym board) (streams_on i.parts i.progress had m i.tale v g.same open_load c.hub c.stops.board d (seen view c.tree) js c.left.items g.got i.streams);
+      telling = record {
+        is_tale = g.is_tale;
+        fates_are = g.same.fates ∙ i.telling.fates_are;
+        outer_is = g.same.outer ∙ i.telling.outer_is;
+        report_is = is;
+        known = known;
+        seated = seated;
+        seats = out ∙ i.telling.seats;
+        contexts = ap (λ (b : BoardSeen). b.contexts) board ∙ i.telling.contexts;
+        wrote = g.wrote;
+      };
+      room = record { waiting = i.room.waiting; jobs_room = i.room.jobs_room; few = i.room.few; left = i.room.left };
+    })
+
+    pub full_elements : 0 < length (elements l)
+    full_elements = (each_right IsFullMessage had.got (m ∷ h.rest) h.sees.1).0
+
+    full : 0 < length (rendering_of (elements l))
+    full = rendering_some (elements l) full_elements
+
+    -- its number is that of a stream of the plan
+    pub number_below : k < length p.streams
+    number_below =
+        let a = among_map (λ (w : Origin V F). w.stream) k i.streams.origins ((i.streams.opens k).1 open_load) in
+        let j = job_at view told fits values P c.hub c.stops.board d i.parts js i.streams.origins a.0 i.streams.jobs_are a.1 in
+        let number = j.2.job.sender in
+        let is = a.2 in
+        let context = j.2.place.context in
+        let contexts = i.telling.contexts in
+        omega (arith, number, is, context, contexts)
+
+    pub has_stream : HasStream c.report k
+    has_stream = let n = i.telling.report_is.unwritten in let b = number_below in omega (arith, n, b)
+
+    pub some_context : 0 < c.stops.board.contexts
+    some_context = let e = i.telling.contexts in omega (arith, e)
+
+    -- while frames are written no write failed
+    pub room_while : s0.faults < 2 ^ 64 - 1 → c.report.ceased ≡ false → sink.faults < 2 ^ 64 - 1
+    room_while few ceased =
+        let quiet = i.telling.is_tale.frames.quiet (sym i.telling.report_is.ceased ∙ ceased) in
+        subst (λ n. n < 2 ^ 64 - 1) (sym (ap (λ (s : SinkTold). s.faults) (wrote_none s0 sink i.tale quiet.1 i.telling.wrote))) few
+
+    module _ (report : Report) (answer : Option Why) (writes : WritesLoad k l c.report report sink now answer) where
+      abbrev goes : (u : Tale) × Writes p.take i.tale k l sink now answer u × IsReport p.take (length p.streams) u report
+      goes = writes p.take (length p.streams) i.tale i.telling.report_is open_load
+
+      pub load_taken : answer ≡ None → IsCollectingWith view told fits values P p d0 s0 t waits ws js r depot now d (record c { report = report })
+      load_taken e =
+          let w = subst (λ a. Writes p.take i.tale k l sink now a goes.0) e goes.1 in
+          let same = same_set goes.1 in
+          with_load goes.0 report c.stops (goes_on (bare_work p) i.tale k l s0 sink now i.telling.is_tale open_load full i.telling.wrote goes.0 w) goes.2 (record { set = same.0 ∙ i.telling.known.set; seen = same.1 ∙ i.telling.known.seen }) i.telling.seated refl refl
+
+      pub load_stopped : (w : Why) (stops : Stops) → answer ≡ Some w → Interrupts c.stops stops 0 w → IsSeated stops → IsCollectingWith view told fits values P p d0 s0 t waits ws js r depot now d (record c { report = report; stops = stops })
+      load_stopped w stops e (vs, cs, marks, learned_so) seated =
+          let wr = subst (λ a. Writes p.take i.tale k l sink now a goes.0) e goes.1 in
+          let same = same_set goes.1 in
+          let known : TellsKnown goes.0 c.stops = record { set = same.0 ∙ i.telling.known.set; seen = same.1 ∙ i.telling.known.seen } in
+          with_load (learned goes.0 vs cs) report stops (goes_on_stopped (bare_work p) i.tale k l s0 sink now i.telling.is_tale open_load full i.telling.wrote goes.0 w vs cs wr marks) (learns p.take (length p.streams) goes.0 report goes.2 vs cs) (learns_known goes.0 c.stops stops vs cs known learned_so) seated learned_so.board learned_so.out

@@ -1,0 +1,109 @@
+-- The outer stream is pulled once more, unless it has ended.
+use Rattle.std.proofs.Common.{◌+◌, [], arith, inl, length, sym, ◌∙◌}
+use Rattle.pull_turns.specs.Piping.{standing}
+use Rattle.scope_tree.specs.Trees.{seen}
+use Rattle.collector.proofs.OuterSteps.{halted_now, looked_now, more_now, found_still, open_so, whole_found}
+use Rattle.collector.proofs.Tree.{root_open}
+use Rattle.collector.proofs.collector.Collector.pull.Goals as goal
+
+pub returns-then-is_some-clause-collecting : goal.returns-then-is_some-clause-collecting
+returns-then-is_some-clause-collecting g c d0 s0 t depot sink k =
+    let P = standing g.F.Feed.stands g.F.Feed.comes in
+    let a = c.args.self.now in
+    more_now g.S.RowSeat.view g.V.Device.told g.S.RowSeat.fits g.F.PipeState.values P c.args.plan.now d0 s0 t 1 2 depot sink c.args.desk.now a k (omega arith) (λ n. k.tree.some n (omega arith))
+
+pub skip-requires-clause-collecting : goal.skip-requires-clause-collecting
+skip-requires-clause-collecting g c =
+    let P = standing g.F.Feed.stands g.F.Feed.comes in
+    let a = c.args.self.now in
+    let r = c.requires.collecting in
+    let none = open_so a.outer (sym c.is_some.ensures ∙ c.if-is_some.false) in
+    let looks = c.if-is_set.ensures.looks in
+    let k = r.5 in (
+      c.args.plan.now,
+      r.0,
+      r.1,
+      r.2,
+      r.3,
+      r.4,
+      c.requires.limits,
+      looked_now g.S.RowSeat.view g.V.Device.told g.S.RowSeat.fits g.F.PipeState.values P c.args.plan.now r.0 r.1 r.2 1 1 r.3 r.4 c.args.desk.now a c.is_set.new.self looks.0 k looks.1 c.is_set.ensures.seated k.tree.few (λ l. k.tree.some none l),
+    )
+
+pub skip-requires-clause-may : goal.skip-requires-clause-may
+skip-requires-clause-may g c =
+    let looks = c.if-is_set.ensures.looks in
+    inl (whole_found c.args.self.now.stops c.is_set.new.self looks.0 looks.1 looks.2)
+
+pub close-requires-clause-fits : goal.close-requires-clause-fits
+close-requires-clause-fits g c =
+    let P = standing g.F.Feed.stands g.F.Feed.comes in
+    let a = c.args.self.now in
+    let r = c.requires.collecting in
+    let none = open_so a.outer (sym c.is_some.ensures ∙ c.if-is_some.false) in
+    let looks = c.if-is_set.ensures.looks in
+    let k = r.5 in
+    let looked = looked_now g.S.RowSeat.view g.V.Device.told g.S.RowSeat.fits g.F.PipeState.values P c.args.plan.now r.0 r.1 r.2 1 1 r.3 r.4 c.args.desk.now a c.is_set.new.self looks.0 k looks.1 c.is_set.ensures.seated k.tree.few (λ l. k.tree.some none l) in
+    (c.skip.ensures.collecting c.args.plan.now r.0 r.1 r.2 r.3 r.4 c.requires.limits looked).fits_desk
+
+pub close-requires-clause-main : goal.close-requires-clause-main
+close-requires-clause-main g c =
+    let P = standing g.F.Feed.stands g.F.Feed.comes in
+    let a = c.args.self.now in
+    let r = c.requires.collecting in
+    let none = open_so a.outer (sym c.is_some.ensures ∙ c.if-is_some.false) in
+    let looks = c.if-is_set.ensures.looks in
+    let k = r.5 in
+    let p = c.args.plan.now in
+    let looked = looked_now g.S.RowSeat.view g.V.Device.told g.S.RowSeat.fits g.F.PipeState.values P p r.0 r.1 r.2 1 1 r.3 r.4 c.args.desk.now a c.is_set.new.self looks.0 k looks.1 c.is_set.ensures.seated k.tree.few (λ l. k.tree.some none l) in
+    let s = c.skip.ensures.collecting p r.0 r.1 r.2 r.3 r.4 c.requires.limits looked in
+    let z = c.skip.new.self in
+    (p.max_open, length p.streams, s.progress, s.tree.main, root_open g.V.Device.told p 0 (seen g.S.RowSeat.view z.tree) z.outer z.leased z.waiting.items s.parts s.progress s.tree (c.skip.ensures.outer ∙ none))
+
+pub returns-then-is_set-clause-collecting : goal.returns-then-is_set-clause-collecting
+returns-then-is_set-clause-collecting g c d0 s0 t depot sink k =
+    let view = g.S.RowSeat.view in
+    let told = g.V.Device.told in
+    let fits = g.S.RowSeat.fits in
+    let values = g.F.PipeState.values in
+    let P = standing g.F.Feed.stands g.F.Feed.comes in
+    let a = c.args.self.now in
+    let p = c.args.plan.now in
+    let none = open_so a.outer (sym c.is_some.ensures ∙ c.if-is_some.false) in
+    let looks = c.if-is_set.ensures.looks in
+    let looked = looked_now view told fits values P p d0 s0 t 1 1 depot sink c.args.desk.now a c.is_set.new.self looks.0 k looks.1 c.is_set.ensures.seated k.tree.few (λ l. k.tree.some none l) in
+    let s = c.skip.ensures.collecting p d0 s0 t depot sink c.requires.limits looked in
+    let found = whole_found a.stops c.is_set.new.self looks.0 looks.1 looks.2 in
+    let few = s.tree.few in
+    let e = c.close.ensures in
+    halted_now view told fits values P p d0 s0 t 0 2 depot sink c.skip.new.desk c.close.new.desk c.skip.new.self c.close.new.self s (omega (arith, few)) (c.skip.ensures.outer ∙ none) e.fits
+    (found_still c.is_set.new.self c.skip.new.self.stops found c.skip.ensures.stops) e.closes e.report e.others e.same
+
+pub lease_next-requires-clause-collecting : goal.lease_next-requires-clause-collecting
+lease_next-requires-clause-collecting g c =
+    let P = standing g.F.Feed.stands g.F.Feed.comes in
+    let a = c.args.self.now in
+    let r = c.requires.collecting in
+    let looks = c.if-is_set.ensures.looks in (
+      r.0,
+      r.1,
+      r.2,
+      r.3,
+      r.4,
+      looked_now g.S.RowSeat.view g.V.Device.told g.S.RowSeat.fits g.F.PipeState.values P c.args.plan.now r.0 r.1 r.2 1 (length a.waiting.items) r.3 r.4 c.args.desk.now a c.is_set.new.self [] r.5 looks.0 c.is_set.ensures.seated (omega arith) (λ l. omega (arith, l)),
+    )
+
+pub returns-else-is_set-clause-collecting : goal.returns-else-is_set-clause-collecting
+returns-else-is_set-clause-collecting g c d0 s0 t depot sink k =
+    let view = g.S.RowSeat.view in
+    let told = g.V.Device.told in
+    let fits = g.S.RowSeat.fits in
+    let values = g.F.PipeState.values in
+    let P = standing g.F.Feed.stands g.F.Feed.comes in
+    let a = c.args.self.now in
+    let p = c.args.plan.now in
+    let looks = c.if-is_set.ensures.looks in
+    let looked = looked_now view told fits values P p d0 s0 t 1 (length a.waiting.items) depot sink c.args.desk.now a c.is_set.new.self [] k looks.0 c.is_set.ensures.seated (omega arith) (λ l. omega (arith, l)) in
+    let n = c.lease_next.ensures.collecting d0 s0 t depot sink looked in
+    let few = k.tree.few in
+    more_now view told fits values P p d0 s0 t (1 + length a.waiting.items) 2 depot sink c.lease_next.new.desk c.lease_next.new.self n (omega (arith, few)) (λ o. n.tree.some o (omega arith))

@@ -1,0 +1,5 @@
+pub mod Parts
+pub mod Collecting
+pub mod Starting
+pub mod Filled
+pub mod Receiving

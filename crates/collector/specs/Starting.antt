@@ -1,0 +1,134 @@
+-- How a collector begins, and what its small calls do.
+use Rattle.std.specs.Prelude.{◌≡◌, ◌≢◌, ◌⊎◌, ℕ, ◌+◌, ◌*◌, ◌≤◌, Bool, true, List, [], ◌∷◌, ◌++◌, length, Some, None, vec_capacity}
+use Rattle.std.specs.VecDeque.{deque_capacity}
+use Rattle.chunk_core.specs.Lists.{IsAmong}
+use Rattle.chunk_core.specs.Outcomes.{exit_of}
+use Rattle.chunk_core.specs.Tables.{Values}
+use Rattle.chunk_core.specs.declared.code.Exit.{Exit}
+use Rattle.chunk_core.specs.declared.code.How.{How}
+use Rattle.chunk_core.specs.declared.code.How.TheVariants as how
+use Rattle.device_port.specs.Device.{DeviceTold}
+use Rattle.interrupt_ctx.specs.Ends.{first_seat}
+use Rattle.interrupt_ctx.specs.Views.{interruption, split_off}
+use Rattle.interrupt_ctx.specs.declared.why.Why.{Why}
+use Rattle.join_report.specs.Reports.{IsReport}
+use Rattle.join_report.specs.Stopping.{IsSeated, IsUnknown, view_of, with_seat_out}
+use Rattle.join_tale.specs.Steps.{first_tale}
+use Rattle.join_tree.specs.Mains.{IsMain}
+use Rattle.join_tree.specs.Progress.{Progress, closing, none_done, skipping}
+use Rattle.join_tree.specs.Steps.{KeepsGuests, KeepsRows, TakesEvents}
+use Rattle.pipeline_desc.specs.Meant.{PlanMeant}
+use Rattle.pipeline_desc.specs.Places.{first_row}
+use Rattle.pull_nodes.specs.Shape.{places_of, scope_count}
+use Rattle.pull_nodes.specs.declared.node.Node.{Node}
+use Rattle.pull_stepper.specs.Held.{FinishesDevice}
+use Rattle.pull_stepper.specs.Placing.{first_of}
+use Rattle.pull_stepper.specs.Stepping.{begun}
+use Rattle.pull_turns.specs.Piping.{StateMeaning}
+use Rattle.res_ledger.specs.declared.event.StreamNo.TheVariants.{Outer}
+use Rattle.row_seat.specs.declared.view.View.{View}
+use Rattle.row_seat.specs.Views.{IsWithin, start}
+use Rattle.scope_tree.specs.Calls.{Seen, used}
+use Rattle.scope_tree.specs.Released.{away}
+use Rattle.scope_tree.specs.declared.room.Room.{Room}
+use Rattle.scope_tree.specs.Trees.{Fits, seen}
+use Rattle.stream_jobs.specs.declared.job.Job.{Job}
+use Rattle.stream_jobs.specs.Jobs.{FitsJob, IsAt, IsJob, seen_job}
+use Rattle.stream_jobs.specs.Running.{Origin}
+use Rattle.stream_jobs.specs.Unmade.{IsOfNode}
+use Rattle.collector.specs.declared.collector.Collector.{Collector}
+use Rattle.collector.specs.declared.collector.JoinRoom.{JoinRoom}
+use Rattle.collector.specs.Collecting.{events_from}
+
+-- Room for the streams of a plan: the board, on which nothing is set, with its first seat; a channel in which nothing was sent; a report in which nothing was noted; and no lease, no job and nothing that was left.
+pub record IsRoomFor {S V F D T : Type 0} (p : PlanMeant) (r : JoinRoom S V F V D T) : Type 0 where
+  pub seated : IsSeated r.stops
+  pub seat : r.stops.seat ≡ first_seat r.stops.board.id
+  pub contexts : r.stops.board.contexts ≡ length p.streams + 1
+  pub receiver : r.receiver ≡ record { hub = r.hub.id; got = []; made = []; closed = [] }
+  pub some : p.take ≢ Some 0 → IsReport p.take (length p.streams) first_tale r.report
+  pub none : p.take ≡ Some 0 → IsReport p.take (length p.streams) (record first_tale { ceased = true }) r.report
+  pub waiting : r.queues.waiting.items ≡ []
+  pub waiting_room : deque_capacity r.queues.waiting ≡ 2
+  pub jobs : r.queues.jobs.items ≡ []
+  pub jobs_room : deque_capacity r.queues.jobs ≡ p.max_open
+  pub left : r.left.items ≡ []
+  pub left_room : length p.streams ≤ vec_capacity r.left
+
+-- what a collector took for good
+abbrev pub room_of : {S V F P D T : Type 0} → Collector S V F P D T → JoinRoom S V F P D T
+room_of c = record { stops = c.stops; hub = c.hub; receiver = c.receiver; report = c.report; queues = record { waiting = c.waiting; jobs = c.jobs }; left = c.left }
+
+-- The seat is the main one, with all rows of a plan, and room for all events and seats of its streams and for those of its tables.
+pub record IsFirstSeat {P : Type 0} (p : PlanMeant) (v : View P) : Type 0 where
+  pub rows : ℕ
+  pub events : ℕ
+  pub splits : ℕ
+  pub is : v ≡ start Outer rows events splits
+  pub all_rows : first_row p (length p.streams) ≤ rows
+  pub all_events : 2 * length p.tables + 1 + length p.streams + events_from p 0 ≤ events
+  pub all_splits : length p.streams ≤ splits
+
+-- the collector of a plan is about to begin, over a main tree that has just begun, with room for the rows of the tables
+pub record IsFresh {S V F D T : Type 0} (view : S → View V) (told : V → DeviceTold) (fits : S → D → Type 0) (p : PlanMeant) (d : D) (c : Collector S V F V D T) : Type 0 where
+  pub fits_desk : Fits view fits c.tree d
+  pub main : IsMain (FinishesDevice told) p.max_open (length p.streams) (seen view c.tree) (none_done V)
+  pub seat : IsFirstSeat p (seen view c.tree).seat
+  pub rows : length p.tables ≤ (seen view c.tree).rows
+  pub used : used (seen view c.tree) ≡ 0
+  pub outer : c.outer ≡ None
+  pub leased : c.leased ≡ 0
+  pub next : c.next ≡ 0
+  pub room : IsRoomFor p (room_of c)
+
+module _ {P : Type 0} (ends : P → Exit → Bool → P → Type 0) where
+  -- the lease of the next stream, on the rows T, was cancelled
+  pub record PassesOver (j : ℕ) (T : List ℕ) (a b : Seen P) : Type 0 where
+    pub main : (width n : ℕ) (p : Progress P) (us : List (ℕ × List ℕ)) → IsMain ends width n a p → p.waits ≡ (j, T) ∷ us → IsMain ends width n b (skipping p us)
+    pub guests : KeepsGuests a b
+    pub rows : KeepsRows a.seat b.seat
+    pub events : TakesEvents (1 + away T a.seat.opened) a b
+
+  -- the root was closed as the outer stream ended
+  pub record ClosesOuter (h : How) (a b : Seen P) : Type 0 where
+    pub main : (width n : ℕ) (p : Progress P) → IsMain ends width n a p → p.root ≡ None → IsMain ends width n b (closing p (exit_of h))
+    pub guests : KeepsGuests a b
+    pub rows : KeepsRows a.seat b.seat
+    pub events : TakesEvents 0 a b
+
+-- a code was found for the next stream, its own or that of the whole run, or the outer stream was stopped
+abbrev pub MaySkip : {S V F P D T : Type 0} → Collector S V F P D T → Type 0
+MaySkip c = ((w : Why) × IsAmong (interruption 0 w) (view_of c.stops).seen) ⊎ ((w : Why) × IsAmong (interruption (1 + c.next) w) (view_of c.stops).seen) ⊎ ((h : How) × (c.outer ≡ Some h) × (h ≢ how.Done))
+
+-- a further stream waits, or the outer stream has ended
+abbrev pub IsAhead : {S V F P D T : Type 0} → Collector S V F P D T → Type 0
+IsAhead c = c.outer ≡ None → 1 ≤ length c.waiting.items
+
+-- neither the whole run nor the next stream is interrupted
+abbrev pub MayBegin : {S V F P D T : Type 0} → Collector S V F P D T → Type 0
+MayBegin c = IsUnknown (view_of c.stops) 0 × IsUnknown (view_of c.stops) (1 + c.next)
+
+-- the rows of a node are empty in the seat of a stream, which has room for all its events, for the Cancel of its lease on the rows T and for their Finals; its tree has room for just its scopes, and for its rows and these
+pub record HasRoomAsGuest {V P : Type 0} (v : View V) (n : Node) (room : Room P) (T : List ℕ) : Type 0 where
+  pub empty : (r : ℕ) → IsWithin (first_of (places_of n)) (first_of (places_of n) + length (places_of n)) r → IsAmong r v.empty
+  pub events : 2 * length (places_of n) + 2 * scope_count n + 1 + 1 + length T ≤ v.spare
+  pub scopes : room.scopes ≡ scope_count n + 1
+  pub rows : length (places_of n) + length T ≤ room.rows
+
+-- the next stream of a collector, with a lease on the rows T, is about to run a node over this tree, these devices and tables with these values, in reads of at most so many bytes
+abbrev pub origin_of : {S V F D T : Type 0} → Collector S V F V D T → List ℕ → Node → Seen V → List V → Values → ℕ → Origin V F
+origin_of c rows n a ds values chunk = record { stream = c.next; leased = rows; start = begun n a ds values chunk; board = record c.stops.seat { view = split_off (view_of c.stops) } }
+
+-- a seat at the board and a sender are out for the next stream
+abbrev pub with_seats_out : {S V F P D T : Type 0} → Collector S V F P D T → Collector S V F P D T
+with_seats_out c = record c { stops = with_seat_out c.stops; receiver = record c.receiver { made = c.receiver.made ++ c.next ∷ [] } }
+
+-- The job of the next stream was made over a tree whose seat stood so: it is of such an origin, fits the desk, and is at the hub and at the board.
+pub record MakesJob {S V F D T : Type 0} (view : S → View V) (told : V → DeviceTold) (fits : S → D → Type 0) (values : T → Values) (P : Values → StateMeaning F) (c : Collector S V F V D T) (v : View V) (rows : List ℕ) (n : Node) (ds : List V) (t : Values) (chunk : ℕ) (d : D) (j : Job S V F V D T) : Type 0 where
+  pub site : Seen V
+  pub seat : site.seat ≡ v
+  pub scopes : site.scopes ≡ scope_count n + 1
+  pub is_of : IsOfNode told n site ds (origin_of c rows n site ds t chunk)
+  pub job : IsJob view values told P (origin_of c rows n site ds t chunk) j
+  pub fits_desk : FitsJob view told fits j d
+  pub place : IsAt (seen_job view values j) c.hub c.stops.board

@@ -1,0 +1,175 @@
+//! The rounds.
+ghost use Rattle.std.specs.Prelude.{◌≡◌, ◌⊎◌, ℕ, ◌-◌, ◌^◌, ◌<◌, ◌≤◌, [], List, length, true, false};
+ghost use Rattle.chunk_core.specs.Tables.{Values};
+ghost use Rattle.csv_pipes.specs.Dictionaries.{Dictionary, values_of};
+ghost use Rattle.device_port.specs.Depot.{DepotTold};
+ghost use Rattle.device_port.specs.Sink.{SinkTold};
+ghost use Rattle.pipeline_desc.specs.Meant.{PlanMeant};
+ghost use Rattle.pipeline_desc.specs.Sound.{IsSoundPlan};
+ghost use Rattle.pull_turns.specs.Piping.{standing};
+ghost use Rattle.res_ledger.specs.declared.event.StreamNo.TheVariants.{Inner};
+ghost use Rattle.row_seat.specs.Views.{OthersFit};
+ghost use Rattle.stream_jobs.specs.Jobs.{FitsJob, IsAt, IsJob, IsSameJob, seen_job};
+ghost use Rattle.stream_jobs.specs.Running.{Origin};
+ghost use Rattle.collector.specs.Collecting.{IsCollecting};
+ghost use Rattle.collector.specs.Starting.{IsFresh};
+
+use crate::collector::Collector;
+use csv_pipes::Dicts;
+use device_port::{Depot, Device, Gate, Sink};
+use pipeline_desc::Plan;
+use pull_nodes::PipeState;
+use pull_stepper::Held;
+use row_seat::RowSeat;
+use std::alloc::Global;
+use std::sync::Wait;
+use stream_jobs::Job;
+
+impl<V: Device + Drop, S: RowSeat<Pay = Held<V>>, F: PipeState> Collector<S, V, F> {
+    /// Gives each open stream a turn.
+    fn give_turns<R: Wait, G: Gate>(&mut self, rt: &R, desk: &mut S::Desk, gate: &G)
+    where
+        F::Tables: Drop,
+        requires collecting { (p : PlanMeant) × (d0 : DepotTold) × (s0 : SinkTold) × (t : Values) × (depot : DepotTold) × (sink : SinkTold) × IsCollecting S.view V.told S.fits F.values (standing F.stands F.comes) p d0 s0 t 1 depot sink desk.old self.old }
+        ensures collecting { (p : PlanMeant) (d0 : DepotTold) (s0 : SinkTold) (t : Values) (depot : DepotTold) (sink : SinkTold) → IsCollecting S.view V.told S.fits F.values (standing F.stands F.comes) p d0 s0 t 1 depot sink desk.old self.old → IsCollecting S.view V.told S.fits F.values (standing F.stands F.comes) p d0 s0 t 1 depot sink desk.new self.new }
+    {
+        'turns: for _ in 0..self.jobs.len() {
+            self.give_turn(rt, desk, gate);
+        }
+    }
+
+    /// Gives the first open stream a turn, which is the last one then.
+    fn give_turn<R: Wait, G: Gate>(&mut self, rt: &R, desk: &mut S::Desk, gate: &G)
+    where
+        F::Tables: Drop,
+        requires collecting { (p : PlanMeant) × (d0 : DepotTold) × (s0 : SinkTold) × (t : Values) × (depot : DepotTold) × (sink : SinkTold) × IsCollecting S.view V.told S.fits F.values (standing F.stands F.comes) p d0 s0 t 1 depot sink desk.old self.old }
+        ensures collecting { (p : PlanMeant) (d0 : DepotTold) (s0 : SinkTold) (t : Values) (depot : DepotTold) (sink : SinkTold) → IsCollecting S.view V.told S.fits F.values (standing F.stands F.comes) p d0 s0 t 1 depot sink desk.old self.old → IsCollecting S.view V.told S.fits F.values (standing F.stands F.comes) p d0 s0 t 1 depot sink desk.new self.new }
+    {
+        match self.jobs.pop_front() {
+            Some(job) => {
+                let job = self.turn(rt, desk, gate, job);
+                self.jobs.push_back_reserved(job);
+            }
+            None => {}
+        }
+    }
+
+    /// Gives the job a turn, unless it is over.
+    fn turn<R: Wait, G: Gate>(
+        &self,
+        rt: &R,
+        desk: &mut S::Desk,
+        gate: &G,
+        job: Job<S, V, F>,
+    ) -> Job<S, V, F>
+    where
+        F::Tables: Drop,
+        requires job { (w : Origin V F) × IsJob S.view F.values V.told (standing F.stands F.comes) w job }
+        requires fits { FitsJob S.view V.told S.fits job desk.old }
+        requires at { IsAt (seen_job S.view F.values job) self.now.hub self.now.stops.board }
+        ensures job { (w : Origin V F) → IsJob S.view F.values V.told (standing F.stands F.comes) w job → IsJob S.view F.values V.told (standing F.stands F.comes) w result }
+        ensures same { IsSameJob (seen_job S.view F.values job) (seen_job S.view F.values result) }
+        ensures fits { FitsJob S.view V.told S.fits result desk.new }
+        ensures others { OthersFit S.view S.fits (Inner job.sender.stream) desk.old desk.new }
+    {
+        let mut job = job;
+        if !job.is_over() {
+            job.turn(rt, desk, &self.hub, self.stops.board(), gate);
+        }
+        job
+    }
+}
+
+impl<V: Device + Drop, S: RowSeat<Pay = Held<V>>, F: PipeState<Tables = Dicts>> Collector<S, V, F> {
+    /// Runs the outer stream and all that it gives to their ends.
+    pub fn run<R: Wait, D: Depot<Dev = V>, K: Sink, G: Gate>(
+        &mut self,
+        rt: &R,
+        alloc: Global,
+        desk: &mut S::Desk,
+        plan: &Plan,
+        depot: &mut D,
+        out: &mut K,
+        gate: &G,
+    )
+        requires limits { IsSoundPlan plan.now }
+        requires fresh { IsFresh S.view V.told S.fits plan.now desk.old self.old }
+        requires values { (tables : List Dictionary) → F.values tables ≡ values_of tables }
+        requires sink { (K.told out.old).faults < 2 ^ 64 - 1 }
+        ensures collecting { (t : Values) × IsCollecting S.view V.told S.fits F.values (standing F.stands F.comes) plan.now (D.told depot.old) (K.told out.old) t 1 (D.told depot.new) (K.told out.new) desk.new self.new }
+        ensures waiting { self.new.waiting.items ≡ [] }
+        ensures jobs { self.new.jobs.items ≡ [] }
+    {
+        match self.open(alloc, desk, plan, depot) {
+            Some(tables) => self.run_rounds(rt, alloc, desk, &tables, plan, depot, out, gate),
+            None => {}
+        }
+    }
+
+    /// Goes round until no stream waits and none is open.
+    fn run_rounds<R: Wait, D: Depot<Dev = V>, K: Sink, G: Gate>(
+        &mut self,
+        rt: &R,
+        alloc: Global,
+        desk: &mut S::Desk,
+        tables: &Dicts,
+        plan: &Plan,
+        depot: &mut D,
+        out: &mut K,
+        gate: &G,
+    )
+        requires limits { IsSoundPlan plan.now }
+        requires collecting { (d0 : DepotTold) × (s0 : SinkTold) × (s0.faults < 2 ^ 64 - 1) × IsCollecting S.view V.told S.fits F.values (standing F.stands F.comes) plan.now d0 s0 (F.values tables.now) 1 (D.told depot.old) (K.told out.old) desk.old self.old }
+        ensures collecting { (d0 : DepotTold) (s0 : SinkTold) → s0.faults < 2 ^ 64 - 1 → IsCollecting S.view V.told S.fits F.values (standing F.stands F.comes) plan.now d0 s0 (F.values tables.now) 1 (D.told depot.old) (K.told out.old) desk.old self.old → IsCollecting S.view V.told S.fits F.values (standing F.stands F.comes) plan.now d0 s0 (F.values tables.now) 1 (D.told depot.new) (K.told out.new) desk.new self.new }
+        ensures waiting { self.new.waiting.items ≡ [] }
+        ensures jobs { self.new.jobs.items ≡ [] }
+    {
+        'rounds: for _ in rt.forever() {
+            if !self.round(rt, alloc, desk, tables, plan, depot, out, gate) {
+                return;
+            }
+        }
+        unreachable!()
+    }
+
+    /// Begins the stream that waits where there is room for one, and else gives the open ones a turn each
+    /// and receives what they sent. Whether there was anything to do.
+    fn round<R: Wait, D: Depot<Dev = V>, K: Sink, G: Gate>(
+        &mut self,
+        rt: &R,
+        alloc: Global,
+        desk: &mut S::Desk,
+        tables: &Dicts,
+        plan: &Plan,
+        depot: &mut D,
+        out: &mut K,
+        gate: &G,
+    ) -> bool
+        requires limits { IsSoundPlan plan.now }
+        requires collecting { (d0 : DepotTold) × (s0 : SinkTold) × (s0.faults < 2 ^ 64 - 1) × IsCollecting S.view V.told S.fits F.values (standing F.stands F.comes) plan.now d0 s0 (F.values tables.now) 1 (D.told depot.old) (K.told out.old) desk.old self.old }
+        ensures collecting { (d0 : DepotTold) (s0 : SinkTold) → s0.faults < 2 ^ 64 - 1 → IsCollecting S.view V.told S.fits F.values (standing F.stands F.comes) plan.now d0 s0 (F.values tables.now) 1 (D.told depot.old) (K.told out.old) desk.old self.old → IsCollecting S.view V.told S.fits F.values (standing F.stands F.comes) plan.now d0 s0 (F.values tables.now) 1 (D.told depot.new) (K.told out.new) desk.new self.new }
+        ensures over { result ≡ false → (self.new.waiting.items ≡ []) × (self.new.jobs.items ≡ []) }
+    {
+        if self.may_begin(plan) {
+            self.start(alloc, desk, tables, plan, depot);
+            return true;
+        }
+        if self.jobs.len() == 0 {
+            return false;
+        }
+        self.give_turns(rt, desk, gate);
+        self.receive_all(rt, alloc, desk, plan, out, gate);
+        true
+    }
+
+    /// Whether a stream waits, and one more may be open.
+    fn may_begin(&self, plan: &Plan) -> bool
+        ensures yes { result ≡ true → (1 ≤ length self.now.waiting.items) × (length self.now.jobs.items < plan.now.max_open) }
+        ensures no { result ≡ false → (length self.now.waiting.items ≡ 0) ⊎ (plan.now.max_open ≤ length self.now.jobs.items) }
+    {
+        if self.waiting.len() == 0 {
+            return false;
+        }
+        self.jobs.len() < plan.max_open() as usize
+    }
+}

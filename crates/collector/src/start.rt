@@ -1,0 +1,225 @@
+//! How streams begin.
+ghost use Rattle.std.specs.Prelude.{◌≡◌, ◌≢◌, ℕ, ◌+◌, ◌-◌, ◌^◌, ◌<◌, ◌≤◌, ◌∷◌, [], length, slice_get, IfOk, OnErr, None, Some};
+ghost use Rattle.chunk_core.specs.Lists.{IsAmong};
+ghost use Rattle.chunk_core.specs.Tables.{Values};
+ghost use Rattle.device_port.specs.Depot.{DepotTold};
+ghost use Rattle.device_port.specs.Sink.{SinkTold};
+ghost use Rattle.join_report.specs.Stopping.{IsSeated};
+ghost use Rattle.pipeline_desc.specs.Sound.{IsSoundPlan};
+ghost use Rattle.pipeline_desc.specs.declared.stream.StreamSpec.{StreamSpec};
+ghost use Rattle.pull_stepper.specs.Stepping.{IsSupplied};
+ghost use Rattle.pull_turns.specs.Piping.{standing};
+ghost use Rattle.res_ledger.specs.declared.event.StreamNo.TheVariants.{Inner};
+ghost use Rattle.row_seat.specs.Views.{OthersFit};
+ghost use Rattle.stream_parts.specs.Parts.{MakesNoParts, MakesParts};
+ghost use Rattle.tree_laws.specs.Visits.{IsNewGuest};
+ghost use Rattle.collector.specs.Collecting.{IsCollecting, IsCollectingWith};
+ghost use Rattle.collector.specs.Parts.{MakesUnmade};
+ghost use Rattle.collector.specs.Starting.{HasRoomAsGuest, IsAhead, MakesJob, MayBegin, with_seats_out};
+
+use crate::collector::{Collector, Left};
+use chunk_core::List;
+use csv_pipes::Dicts;
+use device_port::{Depot, Device};
+use interrupt_ctx::Why;
+use join_tree::split_off;
+use pipeline_desc::{Plan, events, rows};
+use pull_nodes::PipeState;
+use pull_stepper::{Held, Stepper, Unmade};
+use row_seat::RowSeat;
+use scope_tree::{Lease, Tree};
+use std::alloc::{AllocError, Global};
+use stream_jobs::Job;
+use stream_parts::{StreamParts, make_parts};
+
+/// What a stream is made of, beside its seat.
+pub(crate) struct Made<V> {
+    pub(crate) tables: Dicts,
+    pub(crate) parts: StreamParts<V>,
+}
+
+impl<V: Device + Drop> Made<V> {
+    /// The devices of a stream that isn't begun.
+    fn into_devices(self) -> List<V>
+        ensures { result ≡ self.parts.devices }
+    {
+        let Made { tables: _, parts } = self;
+        let StreamParts {
+            node: _,
+            room: _,
+            devices,
+        } = parts;
+        devices
+    }
+}
+
+/// Makes what stream k takes, and shares the tables with it.
+fn make_one<D: Depot>(
+    alloc: Global,
+    tables: &Dicts,
+    plan: &Plan,
+    k: u32,
+    depot: &mut D,
+) -> Result<Made<D::Dev>, AllocError>
+    requires { k < length plan.now.streams }
+    ensures tables { IfOk result (λ made. made.tables ≡ tables.now) }
+    ensures parts { IfOk result (λ made. MakesParts D.Dev.Device.told plan.now k (D.told depot.old) (D.told depot.new) made.parts) }
+    ensures unmade { OnErr result (MakesNoParts plan.now k (D.told depot.old) (D.told depot.new)) }
+{
+    let tables = tables.share(alloc)?;
+    let parts = make_parts(alloc, plan, k, depot)?;
+    Ok(Made { tables, parts })
+}
+
+impl<V: Device + Drop, S: RowSeat<Pay = Held<V>>, F: PipeState<Tables = Dicts>> Collector<S, V, F> {
+    /// Begins the stream that waits, once the outer stream was pulled for the one behind it. Where
+    /// it is interrupted by then, or memory is wanting, its lease is cancelled instead.
+    pub(crate) fn start<D: Depot<Dev = V>>(
+        &mut self,
+        alloc: Global,
+        desk: &mut S::Desk,
+        tables: &Dicts,
+        plan: &Plan,
+        depot: &mut D,
+    )
+        requires limits { IsSoundPlan plan.now }
+        requires waits { 1 ≤ length self.old.waiting.items }
+        requires few { length self.old.jobs.items < plan.now.max_open }
+        requires collecting { (d0 : DepotTold) × (s0 : SinkTold) × (sink : SinkTold) × IsCollecting S.view V.told S.fits F.values (standing F.stands F.comes) plan.now d0 s0 (F.values tables.now) 1 (D.told depot.old) sink desk.old self.old }
+        ensures collecting { (d0 : DepotTold) (s0 : SinkTold) (sink : SinkTold) → IsCollecting S.view V.told S.fits F.values (standing F.stands F.comes) plan.now d0 s0 (F.values tables.now) 1 (D.told depot.old) sink desk.old self.old → IsCollecting S.view V.told S.fits F.values (standing F.stands F.comes) plan.now d0 s0 (F.values tables.now) 1 (D.told depot.new) sink desk.new self.new }
+    {
+        self.pull(alloc, desk, plan);
+        if let Some(lease) = self.waiting.pop_front() {
+            self.start_leased(alloc, desk, lease, tables, plan, depot);
+        }
+    }
+
+    /// Begins the stream that is next, which has this lease.
+    fn start_leased<D: Depot<Dev = V>>(
+        &mut self,
+        alloc: Global,
+        desk: &mut S::Desk,
+        lease: Lease,
+        tables: &Dicts,
+        plan: &Plan,
+        depot: &mut D,
+    )
+        requires limits { IsSoundPlan plan.now }
+        requires ahead { IsAhead self.old }
+        requires few { length self.old.jobs.items < plan.now.max_open }
+        requires collecting { (d0 : DepotTold) × (s0 : SinkTold) × (sink : SinkTold) × IsCollectingWith S.view V.told S.fits F.values (standing F.stands F.comes) plan.now d0 s0 (F.values tables.now) 2 (lease ∷ self.old.waiting.items) self.old.jobs.items self.old.receiver (D.told depot.old) sink desk.old self.old }
+        ensures collecting { (d0 : DepotTold) (s0 : SinkTold) (sink : SinkTold) → IsCollectingWith S.view V.told S.fits F.values (standing F.stands F.comes) plan.now d0 s0 (F.values tables.now) 2 (lease ∷ self.old.waiting.items) self.old.jobs.items self.old.receiver (D.told depot.old) sink desk.old self.old → IsCollecting S.view V.told S.fits F.values (standing F.stands F.comes) plan.now d0 s0 (F.values tables.now) 1 (D.told depot.new) sink desk.new self.new }
+    {
+        if self.stops.is_set(1 + self.next) {
+            self.pass_over(desk, lease);
+            return;
+        }
+        match make_one(alloc, tables, plan, self.next, depot) {
+            Ok(made) => self.begin(alloc, desk, lease, made, plan),
+            Err(AllocError) => self.miss(alloc, desk, plan, lease, List::new(alloc)),
+        }
+    }
+
+    /// There is no memory for the stream that is next: it is never begun, and the run is interrupted.
+    /// The devices that were made for it are kept.
+    fn miss(
+        &mut self,
+        alloc: Global,
+        desk: &mut S::Desk,
+        plan: &Plan,
+        lease: Lease,
+        unopened: List<V>,
+    )
+        requires limits { IsSoundPlan plan.now }
+        requires ahead { IsAhead self.old }
+        requires collecting { (d0 : DepotTold) × (s0 : SinkTold) × (t : Values) × (before : DepotTold) × (sink : SinkTold) × IsCollectingWith S.view V.told S.fits F.values (standing F.stands F.comes) plan.now d0 s0 t 2 (lease ∷ self.old.waiting.items) self.old.jobs.items self.old.receiver before sink desk.old self.old }
+        ensures collecting { (d0 : DepotTold) (s0 : SinkTold) (t : Values) (before now : DepotTold) (sink : SinkTold) → IsCollectingWith S.view V.told S.fits F.values (standing F.stands F.comes) plan.now d0 s0 t 2 (lease ∷ self.old.waiting.items) self.old.jobs.items self.old.receiver before sink desk.old self.old → (s : StreamSpec) → slice_get plan.now.streams self.old.next ≡ Some s → MakesUnmade V.told s before now unopened → IsCollecting S.view V.told S.fits F.values (standing F.stands F.comes) plan.now d0 s0 t 1 now sink desk.new self.new }
+    {
+        self.stops.interrupt(0, Why::Memory);
+        self.report.miss(self.next);
+        self.pass_over(desk, lease);
+        self.left.push_reserved(Left {
+            shelf: List::new(alloc),
+            unopened,
+        });
+    }
+
+    /// Splits off the seat of the stream that is next, and makes its job.
+    fn begin(&mut self, alloc: Global, desk: &mut S::Desk, lease: Lease, made: Made<V>, plan: &Plan)
+        requires limits { IsSoundPlan plan.now }
+        requires ahead { IsAhead self.old }
+        requires may { MayBegin self.old }
+        requires few { length self.old.jobs.items < plan.now.max_open }
+        requires collecting { (d0 : DepotTold) × (s0 : SinkTold) × (before now : DepotTold) × (sink : SinkTold) × IsCollectingWith S.view V.told S.fits F.values (standing F.stands F.comes) plan.now d0 s0 (F.values made.tables) 2 (lease ∷ self.old.waiting.items) self.old.jobs.items self.old.receiver before sink desk.old self.old × MakesParts V.told plan.now self.old.next before now made.parts }
+        ensures collecting { (d0 : DepotTold) (s0 : SinkTold) (before now : DepotTold) (sink : SinkTold) → IsCollectingWith S.view V.told S.fits F.values (standing F.stands F.comes) plan.now d0 s0 (F.values made.tables) 2 (lease ∷ self.old.waiting.items) self.old.jobs.items self.old.receiver before sink desk.old self.old → MakesParts V.told plan.now self.old.next before now made.parts → IsCollecting S.view V.told S.fits F.values (standing F.stands F.comes) plan.now d0 s0 (F.values made.tables) 1 now sink desk.new self.new }
+    {
+        let k = self.next;
+        match split_off(
+            alloc,
+            &mut self.tree,
+            desk,
+            k,
+            rows(plan, k),
+            events(plan, k),
+        ) {
+            Ok(seat) => {
+                let job = self.job_of(alloc, desk, seat, lease, made, plan.chunk());
+                self.jobs.push_back_reserved(job);
+                self.next += 1;
+            }
+            Err(AllocError) => self.miss(alloc, desk, plan, lease, made.into_devices()),
+        }
+    }
+
+    /// The job of the stream that is next over its seat, which is over at once where there is no memory for its stepper.
+    fn job_of(
+        &mut self,
+        alloc: Global,
+        desk: &mut S::Desk,
+        seat: S,
+        lease: Lease,
+        made: Made<V>,
+        chunk: u32,
+    ) -> Job<S, V, F>
+        requires seated { IsSeated self.old.stops }
+        requires hub { self.old.receiver.hub ≡ self.old.hub.id }
+        requires fresh { ¬ (IsAmong self.old.next self.old.receiver.made) }
+        requires context { 1 + self.old.next < self.old.stops.board.contexts }
+        requires number { 1 + self.old.next < 2 ^ 32 }
+        requires lease { lease.stream ≡ self.old.next }
+        requires guest { IsNewGuest (S.view seat) self.old.next (S.view seat).floor lease.rows.items }
+        requires supplied { IsSupplied V.told made.parts.node made.parts.devices }
+        requires room { HasRoomAsGuest (S.view seat) made.parts.node made.parts.room lease.rows.items }
+        requires chunk { 1 ≤ chunk }
+        requires fits { S.fits seat desk.old }
+        ensures makes { MakesJob S.view V.told S.fits F.values (standing F.stands F.comes) self.old (S.view seat) lease.rows.items made.parts.node made.parts.devices (F.values made.tables) chunk desk.new result }
+        ensures same { self.new ≡ with_seats_out self.old }
+        ensures others { OthersFit S.view S.fits (Inner self.old.next) desk.old desk.new }
+    {
+        let Made { tables, parts } = made;
+        let StreamParts {
+            node,
+            room,
+            devices,
+        } = parts;
+        let k = self.next;
+        let board = self.stops.seat_for();
+        let sender = self.receiver.split(&self.hub, k);
+        let tree = Tree::new(seat, room);
+        match Stepper::new(alloc, node, tree, devices, tables, chunk) {
+            Ok(stepper) => Job::new(k, stepper, board, sender, lease),
+            Err(Unmade { tree, devices }) => {
+                Job::unmade(
+                    k,
+                    tree,
+                    devices,
+                    board,
+                    self.stops.board(),
+                    sender,
+                    lease,
+                    desk,
+                )
+            }
+        }
+    }
+}
