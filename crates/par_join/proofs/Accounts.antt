@@ -21,8 +21,8 @@ use Rattle.run_rules.specs.declared.end.EndOf.{EndOf}
 use Rattle.run_rules.specs.Exits.{HasExit}
 use Rattle.run_rules.specs.Rules.{ClosesBeforeLeaving, is_owned, is_ours, may_lease}
 use Rattle.par_join.specs.Alone.{alone, IsAccount}
-use Rattle.par_join.proofs.RowAccounts as rows
-use Rattle.par_join.proofs.RowAccounts.{AreRowsKept}
+use Rattle.joined_runs.proofs.RowAccounts as rows
+use Rattle.joined_runs.proofs.RowAccounts.{AreRowsKept}
 
 module _ (count scopes : ℕ) (w : ℕ → DeviceTold) (how : How) (L : List Event) (a : IsAccount count scopes w how L) where
   by_0 : (e : Event) → IsAmong e L → e.by ≡ Inner 0

@@ -24,7 +24,8 @@ use Rattle.run_rules.specs.Work.{Work, RunRecord, names_of}
 use Rattle.res_ledger.specs.declared.event.Event.{Event}
 use Rattle.res_ledger.specs.Streams.{by_stream}
 use Rattle.par_join.specs.declared.outcome.Outcome.{Outcome}
-use Rattle.par_join.specs.Alone.{alone, elements_in_pieces, frame_of, IsEnough, RunsAlone}
+use Rattle.joined_runs.specs.Together.{elements_in_pieces}
+use Rattle.par_join.specs.Alone.{alone, frame_of, IsEnough, RunsAlone}
 use Rattle.par_join.specs.Cat.{deed_of}
 use Rattle.par_join.proofs.Accounts.{clean, root_closed, told_as_ended}
 use Rattle.par_join.proofs.AloneWork.{accounted, keeps_rules, homes, shown, faultless}

@@ -1,5 +1,5 @@
 -- The work of one stream, from what it has done.
-use Rattle.std.proofs.Common.{◌≡◌, ℕ, suc, ◌+◌, ◌<◌, true, List, [], ◌∷◌, ◌++◌, map, length, Option, Some, IfSome, refl, sym, ◌∙◌, ap, arith, append-nil}
+use Rattle.std.proofs.Common.{◌≡◌, ℕ, suc, ◌+◌, ◌<◌, true, List, [], ◌∷◌, ◌++◌, map, length, Option, Some, None, IfSome, refl, sym, ◌∙◌, ap, arith, append-nil}
 use Rattle.std.specs.List.{AllByRecursion, range_with_len}
 use Rattle.chunk_core.specs.Elements.{Element}
 use Rattle.chunk_core.specs.Texts.{Frame}
@@ -16,19 +16,19 @@ use Rattle.run_rules.specs.Work.{Work, Values}
 use Rattle.run_rules.specs.Ends.{act_count, is_shown}
 use Rattle.run_rules.specs.Homes.{HaveHomes}
 use Rattle.run_rules.specs.Rules.{KeepsRules}
+use Rattle.stream_parts.proofs.Permuted.{range_among, range_distinct}
 use Rattle.par_join.specs.declared.outcome.Outcome.{Outcome}
 use Rattle.par_join.specs.Alone.{alone, frame_of, AreReturned, ComesBack, IsAccount}
 use Rattle.par_join.specs.Cat.{deed_of}
-use Rattle.par_join.specs.Joined.{AreMade, MadeComeBack}
+use Rattle.joined_runs.specs.Devices.{AreMade, MadeComeBack}
 use Rattle.par_join.proofs.Accounts.{kept, leaves_closed, ours}
-use Rattle.par_join.proofs.MadeRows as made
-use Rattle.par_join.proofs.MadeRows.{at_below}
-use Rattle.par_join.proofs.Permuted.{range_among, range_distinct}
+use Rattle.joined_runs.proofs.MadeRows as made
+use Rattle.joined_runs.proofs.MadeRows.{at_below, at_some, place_found}
 
 -- A device was made for each row.
 
 module _ (files : Option Files) (w : ℕ → DeviceTold) where
-  are_made : (places : List Place) (n r : ℕ) (ps : List Place) → AreReturned files n w r ps → ((i : ℕ) (p : Place) → at ps i ≡ Some p → at places (r + i) ≡ Some p) → AreMade files places n w (range_with_len r (length ps))
+  pub are_made : (places : List Place) (n r : ℕ) (ps : List Place) → AreReturned files n w r ps → ((i : ℕ) (p : Place) → at ps i ≡ Some p → at places (r + i) ≡ Some p) → AreMade files places n w (range_with_len r (length ps))
   are_made places n r [] h in_place = tt
   are_made places n r (p ∷ ps) h in_place =
       let first : r ≡ r + 0 = omega arith in (
@@ -36,7 +36,7 @@ module _ (files : Option Files) (w : ℕ → DeviceTold) where
         are_made places (n + 1) (r + 1) ps h.1 (λ i q e. let next : r + 1 + i ≡ r + suc i = omega arith in ap (λ k. at places k) next ∙ in_place (suc i) q e),
       )
 
-  places_are : (n r : ℕ) (ps : List Place) → AreReturned files n w r ps → map (λ q. (w q).place) (range_with_len r (length ps)) ≡ ps
+  pub places_are : (n r : ℕ) (ps : List Place) → AreReturned files n w r ps → map (λ q. (w q).place) (range_with_len r (length ps)) ≡ ps
   places_are n r [] h = refl
   places_are n r (p ∷ ps) h = ap (λ q. q ∷ map (λ k. (w k).place) (range_with_len (r + 1) (length ps))) h.0.place_is ∙ ap (λ l. p ∷ l) (places_are (n + 1) (r + 1) ps h.1)
 
@@ -82,7 +82,11 @@ module _ (places : List Place) (scopes : ℕ) (runs ideal : (ℕ → DeviceTold)
 
   -- a fault of an act has a device of a row that shows it
   pub shown : (e : How) → ((c : Code) → e ≡ how.Fault c → IfSome (act_count c) (λ n. (r : ℕ) × (r < length places) × (0 < n (w r)))) → is_shown (came_back old new) places e ≡ true
-  shown = made.shown places old new w every
+  shown e h = made.shown places old new w every places e (λ c is. counted_so (act_count c) (h c is))
+    where
+      counted_so : (o : Option (DeviceTold → ℕ)) → IfSome o (λ n. (r : ℕ) × (r < length places) × (0 < n (w r))) → IfSome o (made.IsCountedRow places old new w every places)
+      counted_so None c = tt
+      counted_so (Some n) c = let p = at_some places c.0 c.1 in (c.0, p.0, p.1, place_found places c.0 p.0 p.1, c.2)
 
   -- where nothing failed each device is without a fault
   pub faultless : AllByRecursion (λ x. faults_of x ≡ 0) (came_back old new) → (r : ℕ) → r < length places → faults_of (w r) ≡ 0

@@ -1,61 +1,63 @@
 -- The device of cat: made, run over, and given back.
-use Rattle.std.proofs.Common.{◌≡◌, ◌≢◌, ℕ, List, [], ◌∷◌, ◌++◌, length, Option, refl, sym, ◌∙◌, ap, subst, ⊎_elim, arith, length-append}
+use Rattle.std.proofs.Common.{◌≡◌, ℕ, zero, suc, List, [], ◌∷◌, refl, sym, ap, subst, ⊎_elim, arith}
 use Rattle.std.proofs.lemmas.List.Sorted.{IsPermutation-trans}
 use Rattle.chunk_core.proofs.Members.{among_nil, among_cons}
 use Rattle.device_port.specs.declared.device.Mode.TheVariants as mode
-use Rattle.device_port.specs.Device.{DeviceTold}
-use Rattle.device_port.specs.Depot.{HaveOwnNumbers, DepotTold, Files, Makes, IsUnknown, KeepsFilesBut, KeepsWritten, content_at}
+use Rattle.device_port.specs.Device.{Place, DeviceTold}
+use Rattle.device_port.specs.Depot.{DepotTold, Makes}
 use Rattle.device_port.specs.Sink.{SinkTold}
 use Rattle.pull_nodes.specs.declared.node.Node.{Node}
 use Rattle.pull_nodes.specs.declared.node.Node.TheVariants.{Read, Weak'}
 use Rattle.pull_stepper.proofs.Beginning.{fresh_unused}
 use Rattle.pull_stepper.specs.Sites.{IsUnused}
 use Rattle.pull_stepper.specs.Stepping.{IsSupplied}
-use Rattle.run_rules.specs.Devices.{IsWritten}
+use Rattle.stream_parts.specs.Made.{MakesEach}
+use Rattle.stream_parts.specs.Retire.{AreWrittenAlone, MayReturnAll, Returns, devices_of}
+use Rattle.stream_parts.proofs.Exchanged.{exchanges_then, may_permuted}
+use Rattle.stream_parts.proofs.Making.{made_exchanges, made_may_return, makes_one, same_may_return}
 use Rattle.par_join.specs.declared.alone.Ran.{Ran}
 use Rattle.par_join.specs.Alone.{ComesBack, RunsAlone}
 use Rattle.par_join.specs.Cat.{to_read, FileRuns, RunsCat}
 use Rattle.par_join.specs.Ready.{IsCatNode}
-use Rattle.par_join.specs.Retire.{MayReturnAll, Returns, devices_of}
 use Rattle.par_join.specs.Streams.{RunsStream}
-use Rattle.par_join.proofs.Accounting.{keeps_more}
 use Rattle.par_join.proofs.CatRuns.{cat_runs_alone}
-use Rattle.par_join.proofs.OneMade.{each_back, files_back, made_back, may_go as one_may_go, retired_back, returned_so, stored_back}
-use Rattle.chunk_core.proofs.Distinct.{distinct_one}
-use Rattle.chunk_core.proofs.Each.{each_permuted}
+use Rattle.par_join.proofs.ComingBack.{all_come_back}
+use Rattle.par_join.proofs.Returned.{made_returned}
 
 module _ {V : Type 0} (told : V → DeviceTold) where
   -- one device for the node of cat
-  pub cat_supplied : (n : Node) (d : V) → IsCatNode n → IsUnused (told d) → (told d).place.mode ≡ mode.Read → IsSupplied told n (d ∷ [])
-  cat_supplied n d is unused read = subst (λ m. IsSupplied told m (d ∷ [])) (sym is.1) (record {
+  pub cat_supplied : (old new : DepotTold) (path : List ℕ) (n : Node) (d : V) → IsCatNode n → Makes old new path mode.Read (told d) → IsSupplied told n (d ∷ [])
+  cat_supplied old new path n d is makes = subst (λ m. IsSupplied told m (d ∷ [])) (sym is.1) (record {
     kind = refl;
     few = omega arith;
     placed = refl;
     count = refl;
-    unused = λ x m. ⊎_elim (λ e. subst (λ y. IsUnused (told y)) (sym e) unused) (λ i. absurd (among_nil i)) (among_cons m);
-    reads = ((λ e s. let same : d ≡ e = cc in subst (λ x. (told x).place.mode ≡ mode.Read) same read), tt);
+    unused = λ x m. ⊎_elim (λ e. subst (λ y. IsUnused (told y)) (sym e) (fresh_unused old (to_read path) (told d) makes.device)) (λ i. absurd (among_nil i)) (among_cons m);
+    reads = ((λ e s. let same : d ≡ e = cc in subst (λ x. (told x).place.mode ≡ mode.Read) same (ap (λ (x : DeviceTold). x.place.mode) makes.device)), tt);
     writes = tt;
   })
 
+-- one row stands alone
+one_alone : (p : Place) → AreWrittenAlone (p ∷ [])
+one_alone p zero zero a b e f writes same = refl
+one_alone p zero (suc q) a b e f writes same = absurd cc
+one_alone p (suc r) q a b e f writes same = absurd cc
+
 module _ {V : Type 0} (told : V → DeviceTold) (path : List ℕ) (chunk : ℕ) (old mid : DepotTold) (so sn : SinkTold) (b : _) (d : V) (makes : Makes old mid path mode.Read (told d)) (r : Ran V) (ran : RunsStream told (Weak' 0 b (Read 0)) (d ∷ []) chunk so sn r) where
-  abbrev home : DeviceTold
-  home = ran.home 0
+  made : MakesEach old mid (to_read path ∷ []) (told d ∷ [])
+  made = makes_one old mid (to_read path) (told d) makes
 
   -- the device may go back
   may_go : MayReturnAll mid (devices_of told r.shelf r.unopened)
-  may_go = one_may_go old mid path (told d) home makes ran.same.0 (ran.rest 0 (omega arith)) (devices_of told r.shelf r.unopened) ran.each
+  may_go = may_permuted mid (ran.home 0 ∷ []) (devices_of told r.shelf r.unopened) ran.each
+      (same_may_return told ran.home mid 0 (d ∷ []) (made_may_return old mid (to_read path ∷ []) (told d ∷ []) made) ran.same (λ q l m. (ran.rest q m).shut))
 
   module _ (new : DepotTold) (back : Returns mid new (devices_of told r.shelf r.unopened)) where
     comes_back : ComesBack old new (to_read path ∷ []) ran.home
-    comes_back = record {
-      made = made_back old mid path (told d) home makes ran.same.0 (ran.rest 0 (omega arith)) (devices_of told r.shelf r.unopened) ran.each new back;
-      back = back.back;
-      retired = retired_back old mid path (told d) home makes ran.same.0 (ran.rest 0 (omega arith)) (devices_of told r.shelf r.unopened) ran.each new back;
-      each = each_back old mid path (told d) home makes ran.same.0 (ran.rest 0 (omega arith)) (devices_of told r.shelf r.unopened) ran.each new back;
-      devices = (returned_so old mid path (told d) home makes ran.same.0 (ran.rest 0 (omega arith)), tt);
-      files = files_back old mid path (told d) home makes ran.same.0 (ran.rest 0 (omega arith)) (devices_of told r.shelf r.unopened) ran.each new back;
-      stored = stored_back old mid path (told d) home makes ran.same.0 (ran.rest 0 (omega arith)) (devices_of told r.shelf r.unopened) ran.each new back;
-    }
+    comes_back = all_come_back (to_read path ∷ []) ran.home (one_alone (to_read path)) old new back.back
+        (exchanges_then old mid new (to_read path ∷ []) [] [] back.back (made_exchanges old mid (to_read path ∷ []) (told d ∷ []) made) back.exchanges)
+        (IsPermutation-trans (ran.home 0 ∷ []) (devices_of told r.shelf r.unopened) back.back ran.each back.each)
+        (made_returned told ran.home old 0 (to_read path ∷ []) (d ∷ []) made.devices ran.same (λ q l m. ran.rest q m))
 
     -- the stream ran over its file
     runs_alone : RunsAlone (to_read path ∷ []) 0 (λ w. FileRuns (w 0)) chunk old new so sn r.outcome

@@ -17,12 +17,13 @@ use Rattle.run_rules.specs.Facts.{is_halted, is_memory}
 use Rattle.run_rules.specs.Ends.{act_count}
 use Rattle.run_rules.specs.Outputs.{IsReported}
 use Rattle.par_join.specs.declared.outcome.Outcome.{Outcome}
-use Rattle.par_join.specs.Alone.{elements_in_pieces, frame_of, RunsAlone}
+use Rattle.joined_runs.specs.Together.{elements_in_pieces}
+use Rattle.par_join.specs.Alone.{frame_of, RunsAlone}
 use Rattle.par_join.specs.Cat.{to_read, FileRuns, IdealFileRuns, RunsCat}
 use Rattle.par_join.proofs.AlonePerforms.{IsCovered, performs_alone}
 use Rattle.chunk_core.proofs.Each.{each_left, each_right}
 use Rattle.par_join.proofs.Pieces.{IsByte, bytes_are, bytes_length, cut_is, cut_of, pieces_fit}
-use Rattle.par_join.proofs.Reading.{IsCounted, clean_but, clean_each, counted_as, fault_cut, fault_done, fault_is, fault_run, stops_shows, whole_is}
+use Rattle.joined_runs.proofs.Reading.{IsCounted, clean_but, clean_each, counted_as, fault_cut, fault_done, fault_is, fault_run, stops_shows, whole_is}
 
 -- What a file gives are bytes.
 
@@ -53,7 +54,7 @@ file_shows : (d : DeviceTold) (ys : List Element) (c : Code) → FileRuns d ys (
 file_shows d ys c (inr h) = absurd (fault_cut c h.0)
 file_shows d ys c (inl (inl (o, f, inl r))) = stops_shows d c r.1
 file_shows d ys c (inl (inl (o, f, inr h))) = absurd (fault_cut c h.0)
-file_shows d ys c (inl (inr r)) = counted_as d c code.Open (fault_is c code.Open r.3) (omega (arith, r.1))
+file_shows d ys c (inl (inr r)) = counted_as (λ n. 0 < n d) c code.Open (fault_is c code.Open r.3) (omega (arith, r.1))
 
 -- A run that was not left, of a device of which no act failed, is an ideal one.
 

@@ -6,8 +6,10 @@ use Rattle.chunk_core.specs.Outcomes.{Cut}
 use Rattle.device_port.specs.Device.{DeviceTold}
 use Rattle.run_rules.specs.Outputs.{IsRest}
 use Rattle.run_rules.specs.Work.{Values, Work}
-use Rattle.par_join.specs.Alone.{IsCutAt, elements_in_pieces, frame_of}
-use Rattle.par_join.proofs.Pieces.{cut_of, payloads_pieces, rendering_some}
+use Rattle.frames.proofs.Rendered.{rendering_some}
+use Rattle.par_join.specs.Alone.{IsCutAt, frame_of}
+use Rattle.joined_runs.specs.Together.{elements_in_pieces}
+use Rattle.par_join.proofs.Pieces.{cut_of, payloads_pieces}
 
 module _ (work : Work) (v : Values) (w : ℕ → DeviceTold) (pieces : List (List Element)) (next : List Element) (rest : List ℕ) where
   -- where no write failed, nothing was written behind the whole frames

@@ -3,21 +3,13 @@ use Rattle.std.proofs.Common.{◌≡◌, ℕ, ◌<◌, ◌≤◌, Bool, true, fa
 use Rattle.std.proofs.lemmas.Grind.{flat_map-append}
 use Rattle.std.specs.List.{AllByRecursion}
 use Rattle.chunk_core.specs.Elements.{Element, element_text, rendering_of}
-use Rattle.chunk_core.specs.Elements.Element.{Byte, Line, Row}
+use Rattle.chunk_core.specs.Elements.Element.{Byte}
 use Rattle.chunk_core.specs.Texts.{Frame, payloads_of}
-use Rattle.par_join.specs.Alone.{elements_in_pieces, frame_of, IsSmallPiece}
+use Rattle.frames.proofs.Rendered.{rendering_some}
+use Rattle.joined_runs.specs.Together.{elements_in_pieces}
+use Rattle.par_join.specs.Alone.{IsSmallPiece, frame_of}
 use Rattle.chunk_core.proofs.Bools.{itself}
 use Rattle.chunk_core.proofs.Each.{each_left, each_right}
-
--- each element has some text
-text_some : (x : Element) → 0 < length (element_text x)
-text_some (Byte b) = omega arith
-text_some (Line line) = omega (arith, length-append line (10 ∷ []))
-text_some (Row fields) = simp length-append (omega arith)
-
-pub rendering_some : (xs : List Element) → 0 < length xs → 0 < length (rendering_of xs)
-rendering_some [] l = l
-rendering_some (x ∷ xs) l = omega (arith, text_some x, length-append (element_text x) (rendering_of xs))
 
 -- the payloads render the elements
 pub payloads_pieces : (k : ℕ) (pieces : List (List Element)) → payloads_of k (map (frame_of k) pieces) ≡ rendering_of (elements_in_pieces pieces)

@@ -26,7 +26,8 @@ use Rattle.pull_turns.proofs.Leads.{left_earlier}
 use Rattle.pull_turns.proofs.Led.{cut_unwritten, led_start, led_chunk, led_quiet, led_done, led_ends, led_fault, over_now, tells_same}
 use Rattle.par_join.specs.declared.stopped.Stopped.{Stopped}
 use Rattle.par_join.specs.declared.stopped.Stopped.TheVariants as stopped
-use Rattle.par_join.specs.Alone.{AreSmall, elements_in_pieces, frame_of, IsEnough, IsSmallPiece, PrintsPieces, and_one}
+use Rattle.joined_runs.specs.Together.{elements_in_pieces}
+use Rattle.par_join.specs.Alone.{AreSmall, frame_of, IsEnough, IsSmallPiece, PrintsPieces, and_one}
 use Rattle.par_join.specs.Printing.{LeavesMore, PrintsOne, PrintsRun}
 use Rattle.par_join.proofs.Limits.{IsLeft, few_left, last_one, left_more, left_none, left_start, not_enough, not_yet}
 use Rattle.chunk_core.proofs.Each.{each_snoc}

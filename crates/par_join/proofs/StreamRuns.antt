@@ -28,14 +28,15 @@ use Rattle.pull_stepper.specs.Placing.{first_of}
 use Rattle.pull_stepper.specs.Sites.{Parted, SameDevice, pay_of, slot_of, told_by}
 use Rattle.pull_stepper.specs.Stepping.{HasRoomFor}
 use Rattle.pull_stepper.proofs.Slots.{slot_here, slot_past}
+use Rattle.stream_parts.specs.Same.{AreSame}
 use Rattle.par_join.specs.declared.stopped.Stopped.{Stopped}
 use Rattle.par_join.specs.declared.terms.Terms.{Terms}
 use Rattle.par_join.specs.Alone.{IsAccount, IsRunIn}
 use Rattle.par_join.specs.Nodes.{RunsNode}
 use Rattle.par_join.specs.Printing.{is_unwritten, is_wanting}
-use Rattle.par_join.specs.Streams.{AreSame, RunsStream}
+use Rattle.par_join.specs.Streams.{RunsStream}
 use Rattle.par_join.proofs.Closing.{account}
-use Rattle.par_join.proofs.PartedRows.{all_parted, each_spent, shelf_tells}
+use Rattle.job_runs.proofs.PartedRows.{all_parted, each_spent, shelf_tells}
 
 pub same_how : (h k : How) → Some k ≡ Some h → h ≡ k
 same_how h k e = cc

@@ -1,5 +1,5 @@
 -- What one stream that ran alone has done.
-use Rattle.std.specs.Prelude.{◌≡◌, ◌⊎◌, ℕ, ◌+◌, ◌<◌, ◌≤◌, Bool, true, false, cond, nat_eq, List, [], ◌∷◌, ◌++◌, map, length, flat_map, Option, Some, None, IfSome}
+use Rattle.std.specs.Prelude.{◌≡◌, ◌⊎◌, ℕ, ◌+◌, ◌<◌, ◌≤◌, Bool, true, false, cond, nat_eq, List, [], ◌∷◌, ◌++◌, map, length, Option, Some, None, IfSome}
 use Rattle.std.specs.List.Sorted.{IsPermutation}
 use Rattle.std.specs.List.{AllByRecursion}
 use Rattle.chunk_core.specs.Elements.{Element, rendering_of}
@@ -15,12 +15,14 @@ use Rattle.res_ledger.specs.Own.{opens, own}
 use Rattle.res_ledger.specs.Whole.{IsComplete}
 use Rattle.res_ledger.specs.Order.{IsOrdered}
 use Rattle.device_port.specs.Device.{Place, DeviceTold}
-use Rattle.device_port.specs.Depot.{DepotTold, Files, KeepsFilesBut, KeepsWritten, content_at}
+use Rattle.device_port.specs.Depot.{DepotTold, Files, KeepsFilesBut, KeepsWritten}
 use Rattle.device_port.specs.Sink.{SinkTold, with_bytes}
 use Rattle.run_rules.specs.Facts.{is_halted, is_memory, leased_stream, first_numbers}
 use Rattle.run_rules.specs.Devices.{IsWritten}
 use Rattle.run_rules.specs.Outputs.{IsReported}
 use Rattle.run_rules.specs.Work.{Work}
+use Rattle.joined_runs.specs.Devices.{IsReturned}
+use Rattle.joined_runs.specs.Together.{elements_in_pieces}
 use Rattle.par_join.specs.declared.outcome.Outcome.{Outcome}
 
 -- one stream, with a row for each of these places, and at most so many scopes
@@ -32,10 +34,6 @@ abbrev pub and_one : Bool → ℕ → ℕ
 and_one failed n = cond failed (n + 1) n
 
 -- What was printed.
-
--- the elements of pieces, one piece after another
-abbrev pub elements_in_pieces : List (List Element) → List Element
-elements_in_pieces pieces = flat_map (λ xs. xs) pieces
 
 -- a piece has elements
 abbrev pub IsSmallPiece : List Element → Type 0
@@ -81,18 +79,6 @@ pub record IsRunIn (runs : Outcomes) (most : Option ℕ) (pieces : List (List El
   pub remembered : is_memory how ≡ true → memory ≡ true
 
 -- What became of the devices.
-
--- it isn't open: it was never opened, or opened once and closed
-pub record IsAtRest (d : DeviceTold) : Type 0 where
-  pub shut : d.is_open ≡ false
-  pub stage : ((d.opens ≡ 0) × (d.closes ≡ 0) × (d.close_faults ≡ 0) × (d.exit ≡ None)) ⊎ ((d.opens ≡ 1) × (d.closes ≡ 1))
-
--- the device with this number was made for the place, and is at rest
-pub record IsReturned (files : Option Files) (number : ℕ) (place : Place) (d : DeviceTold) : Type 0 where
-  pub number_is : d.number ≡ number
-  pub place_is : d.place ≡ place
-  pub content_is : d.content ≡ content_at files place.path
-  pub rest : IsAtRest d
 
 -- the rows from r on have such devices, with the numbers from n on
 abbrev pub AreReturned : Option Files → ℕ → (ℕ → DeviceTold) → ℕ → List Place → Type 0

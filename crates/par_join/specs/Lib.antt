@@ -1,13 +1,9 @@
-pub mod Frame
 pub mod Alone
 pub mod Printing
 pub mod Nodes
 pub mod Streams
-pub mod Retire
 pub mod Cat
 pub mod Ready
-pub mod Joined
 pub mod Plans
+pub mod Left
 pub mod Room
-pub mod Begun
-pub mod Course

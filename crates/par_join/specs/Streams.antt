@@ -1,5 +1,5 @@
 -- What running a stream alone, over a seat of its own, does.
-use Rattle.std.specs.Prelude.{◌≡◌, ℕ, suc, ◌+◌, ◌-◌, ◌*◌, ◌^◌, ◌<◌, ◌≤◌, List, [], ◌∷◌, map, length, None, vec_capacity}
+use Rattle.std.specs.Prelude.{◌≡◌, ℕ, ◌+◌, ◌-◌, ◌*◌, ◌^◌, ◌<◌, ◌≤◌, List, [], ◌∷◌, map, length, None, vec_capacity}
 use Rattle.std.specs.List.Sorted.{IsPermutation}
 use Rattle.chunk_core.specs.declared.code.How.{How}
 use Rattle.res_ledger.specs.declared.event.StreamNo.TheVariants.{Inner}
@@ -12,12 +12,13 @@ use Rattle.pull_nodes.specs.declared.node.Node.{Node}
 use Rattle.pull_turns.specs.Sizes.{HasNoPipeOf, widest_of}
 use Rattle.row_seat.specs.PlainSeats.{shown, Sits}
 use Rattle.row_seat.specs.Views.{start}
-use Rattle.pull_stepper.specs.Sites.{SameDevice}
 use Rattle.run_rules.specs.Facts.{first_numbers}
+use Rattle.stream_parts.specs.Retire.{devices_of}
+use Rattle.stream_parts.specs.Same.{AreSame}
 use Rattle.par_join.specs.declared.alone.Ran.{Ran}
 use Rattle.par_join.specs.declared.alone.StreamRoom.{StreamRoom}
-use Rattle.par_join.specs.Alone.{AreSmall, IsAccount, IsAtRest, PrintsPieces, IsRunIn}
-use Rattle.par_join.specs.Retire.{devices_of}
+use Rattle.par_join.specs.Alone.{AreSmall, IsAccount, IsRunIn, PrintsPieces}
+use Rattle.joined_runs.specs.Devices.{IsAtRest}
 
 -- a fresh seat of stream 0 at its table, with a row for each place of the node and room for all its events, just its scopes and its end
 pub record IsRoomFor {P : Type 0} (n : Node) (room : StreamRoom P) : Type 0 where
@@ -29,16 +30,11 @@ pub record IsRoomFor {P : Type 0} (n : Node) (room : StreamRoom P) : Type 0 wher
   pub capacity : vec_capacity room.ends ≡ 1
 
 module _ {V : Type 0} (told : V → DeviceTold) where
-  -- the devices of the rows from r on are these
-  abbrev pub AreSame : (ℕ → DeviceTold) → ℕ → List V → Type 0
-  AreSame w r [] = Unit {0}
-  AreSame w r (d ∷ ds) = SameDevice (told d) (w r) × AreSame w (suc r) ds
-
   -- the node was run over these devices, each of which stands on the shelf or was never opened
   pub record RunsStream (n : Node) (devices : List V) (chunk : ℕ) (old new : SinkTold) (r : Ran V) : Type 0 where
     pub home : ℕ → DeviceTold
     pub how : How
-    pub same : AreSame home 0 devices
+    pub same : AreSame told home 0 devices
     pub each : IsPermutation (map home (first_numbers (length devices))) (devices_of told r.shelf r.unopened)
     pub rest : (k : ℕ) → k < length devices → IsAtRest (home k)
     pub account : IsAccount (length devices) (scope_count n) home how r.outcome.ledger

@@ -10,6 +10,7 @@ use crate::node::run_node;
 use crate::outcome::Outcome;
 use crate::terms::Terms;
 use chunk_core::{How, List};
+use csv_pipes::Dicts;
 use device_port::{Device, OpenGate, Sink};
 use pull_nodes::Node;
 use pull_stepper::{Ended, Held};
@@ -64,8 +65,9 @@ pub(crate) fn run_alone<V: Device + Drop, K: Sink>(
         chunk,
         most: None,
     };
+    let tables = Dicts::new(alloc);
     let (ended, stopped) = run_node(
-        alloc, &mut table, node, tree, devices, terms, &OpenGate, out,
+        alloc, &mut table, node, tree, devices, tables, terms, &OpenGate, out,
     );
     let Ended {
         tree,

@@ -1,20 +1,20 @@
 //! The command `cat`: one file, printed in frames.
 ghost use Rattle.std.specs.Prelude.{◌≡◌, ◌-◌, ◌^◌, ◌<◌, ◌++◌, [], ◌∷◌, IfOk, map};
 ghost use Rattle.pull_stepper.specs.Stepping.{IsSupplied};
+ghost use Rattle.stream_parts.specs.Retire.{MayReturnAll, Returns, devices_of};
 ghost use Rattle.par_join.specs.Cat.{RunsCat};
 ghost use Rattle.par_join.specs.Ready.{IsCatNode, IsReadyForCat};
-ghost use Rattle.par_join.specs.Retire.{MayReturnAll, Returns, devices_of};
 ghost use Rattle.par_join.specs.Streams.{IsRoomFor, RunsStream};
 
 use crate::alone::{Ran, StreamRoom, run_alone};
 use crate::outcome::Outcome;
-use crate::retire::{retire_all, retire_shelf};
 use chunk_core::{List, Word};
 use device_port::{Depot, Device, Mode, Sink};
 use pull_nodes::Node;
 use res_ledger::StreamNo;
 use row_seat::PlainSeat;
 use std::alloc::{AllocError, Global};
+use stream_parts::{retire_all, retire_shelf};
 
 /// What `cat` makes before its device: the node, its room, and room for the device.
 #[derive(Drop)]

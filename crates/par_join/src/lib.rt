@@ -3,9 +3,10 @@
 //! `run_cat` is the work of the command `cat`: one file, printed in frames of stream 0. It answers
 //! an `Outcome`: how each stream ended, the ledger, and whether a write failed or memory was
 //! wanting. Nothing is an error of the call itself. `run_streams` answers the same of a plan, whose
-//! streams an outer stream gives: the first end is the outer stream's. `put_frame` prints bytes as
-//! one frame of a stream, and answers `Failed` where a write failed; `put_load` prints what a stream
-//! gives, and answers why it wasn't printed (`NotPut`).
+//! streams an outer stream gives once it has read the tables in which they look up: the first end is
+//! the outer stream's. `put_frame` prints bytes as one frame of a stream, and answers `Failed` where
+//! a write failed; `put_load` prints what a stream gives, and answers why it wasn't printed
+//! (`NotPut`).
 //!
 //! ```
 //! let mut depot = depot_of(rt.alloc(), &cat_of(b"hello\n"))?;
@@ -21,20 +22,17 @@
 #![tactic(auto)]
 
 pub(crate) mod alone;
-pub(crate) mod begun;
 pub mod cat;
-pub(crate) mod course;
-pub mod frame;
+pub(crate) mod left;
 pub(crate) mod node;
 pub mod outcome;
 pub(crate) mod print;
-pub(crate) mod retire;
 pub(crate) mod room;
 pub(crate) mod stopped;
 pub mod streams;
 pub(crate) mod terms;
 
 pub use cat::run_cat;
-pub use frame::{NotPut, put_frame, put_load};
+pub use frames::{NotPut, put_frame, put_load};
 pub use outcome::Outcome;
 pub use streams::run_streams;

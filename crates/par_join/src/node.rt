@@ -8,14 +8,15 @@ ghost use Rattle.scope_tree.specs.Trees.{Fits, seen};
 ghost use Rattle.scope_tree.specs.Words.{owed};
 ghost use Rattle.pull_stepper.specs.Held.{FinishesDevice};
 ghost use Rattle.pull_stepper.specs.Stepping.{HasRoomFor, IsSupplied};
-ghost use Rattle.chunk_core.specs.Tables.{no_values};
+ghost use Rattle.csv_pipes.specs.Dictionaries.{values_of};
 ghost use Rattle.par_join.specs.Nodes.{RunsNode};
 
 use crate::print::print_all;
 use crate::stopped::Stopped;
 use crate::terms::Terms;
-use any_pipe::{AnyPipe, NoTables};
+use any_pipe::AnyPipe;
 use chunk_core::{Exit, How, List};
+use csv_pipes::Dicts;
 use device_port::{Device, Gate, Sink};
 use pull_nodes::Node;
 use pull_stepper::{Ended, Held, Stepper, Unmade};
@@ -23,7 +24,7 @@ use row_seat::RowSeat;
 use scope_tree::Tree;
 use std::alloc::Global;
 
-/// Runs a node to its end, and prints each piece that it gives as a frame. Where there is no memory
+/// Runs a node to its end over these tables, and prints each piece that it gives as a frame. Where there is no memory
 /// to begin, the root is closed.
 pub(crate) fn run_node<V: Device, S: RowSeat<Pay = Held<V>>, K: Sink, G: Gate>(
     alloc: Global,
@@ -31,6 +32,7 @@ pub(crate) fn run_node<V: Device, S: RowSeat<Pay = Held<V>>, K: Sink, G: Gate>(
     node: Node,
     tree: Tree<S>,
     devices: List<V>,
+    tables: Dicts,
     terms: Terms,
     gate: &G,
     out: &mut K,
@@ -42,11 +44,11 @@ pub(crate) fn run_node<V: Device, S: RowSeat<Pay = Held<V>>, K: Sink, G: Gate>(
     requires chunk { 1 ≤ terms.chunk }
     requires most { IfSome terms.most (λ n. 1 ≤ n) }
     requires sink { (K.told out.old).faults < 2 ^ 64 - 1 }
-    ensures runs { RunsNode V.told no_values node devices terms (seen S.view tree) (seen S.view result.0.tree) (K.told out.old) (K.told out.new) result.0.how result.0.unopened result.1 }
+    ensures runs { RunsNode V.told (values_of tables) node devices terms (seen S.view tree) (seen S.view result.0.tree) (K.told out.old) (K.told out.new) result.0.how result.0.unopened result.1 }
     ensures fits { Fits S.view S.fits result.0.tree desk.new }
     ensures others { OthersFit S.view S.fits (seen S.view tree).seat.by desk.old desk.new }
 {
-    match Stepper::<S, V, AnyPipe>::new(alloc, node, tree, devices, NoTables, terms.chunk) {
+    match Stepper::<S, V, AnyPipe>::new(alloc, node, tree, devices, tables, terms.chunk) {
         Ok(stepper) => {
             let mut stepper = stepper;
             let stopped = print_all(alloc, &mut stepper, desk, terms, gate, out);

@@ -12,11 +12,11 @@ ghost use Rattle.pull_stepper.specs.Steppers.{Works, stepping};
 ghost use Rattle.pull_stepper.specs.Stepping.{CanGo, Halts, IsOver};
 ghost use Rattle.par_join.specs.Printing.{CountsDown, PrintsAll, PrintsOne};
 
-use crate::frame::{NotPut, put_load};
 use crate::stopped::Stopped;
 use crate::terms::Terms;
 use chunk_core::Load;
 use device_port::{Device, Gate, Sink};
+use frames::{NotPut, put_load};
 use pull_nodes::PipeState;
 use pull_stepper::{Held, Stepper, Turn};
 use row_seat::RowSeat;

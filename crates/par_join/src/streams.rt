@@ -1,25 +1,31 @@
 //! The streams of a plan, which an outer stream gives.
-ghost use Rattle.std.specs.Prelude.{◌≡◌, ◌-◌, ◌^◌, ◌<◌, ◌≤◌, [], length, vec_capacity};
+ghost use Rattle.std.specs.Prelude.{◌≡◌, ◌-◌, ◌^◌, ◌<◌, []};
+ghost use Rattle.chunk_core.specs.Tables.{Values};
+ghost use Rattle.collector.specs.Collecting.{IsCollecting};
+ghost use Rattle.device_port.specs.Depot.{DepotTold};
+ghost use Rattle.device_port.specs.Sink.{SinkTold};
 ghost use Rattle.pipeline_desc.specs.Sound.{IsSoundPlan};
-ghost use Rattle.par_join.specs.Course.{JoinsPlan, ends_of};
+ghost use Rattle.pull_turns.specs.Piping.{standing};
 ghost use Rattle.par_join.specs.Plans.{RunsPlan};
 ghost use Rattle.par_join.specs.Room.{IsRoomOfRun};
 
-use crate::course::{Course, give_streams};
+use crate::left::retire_left;
 use crate::outcome::Outcome;
 use crate::room::{RunRoom, make_room};
-use chunk_core::List;
+use collector::{Collector, Ended};
 use device_port::{Depot, Gate, Sink};
 use join_tree::{begin, settle};
 use pipeline_desc::Plan;
-use res_ledger::StreamNo;
-use run_rules::EndOf;
+use pull_nodes::PipeState;
+use pull_stepper::Held;
+use row_seat::RowSeat;
 use std::alloc::{AllocError, Global};
 use std::sync::Wait;
 use std::thread::Threads;
+use stream_parts::retire_shelf;
 
-/// Runs the streams of a plan, and prints what they give in frames of their numbers. All room for
-/// what is noted and closed is made before the first stream begins.
+/// Runs the streams of a plan, and prints what they give in frames of their numbers. The tables are
+/// read first. All room for what is noted and closed is made before that.
 pub fn run_streams<R: Threads + Wait + Sync, D: Depot, K: Sink, G: Gate + Sync>(
     rt: &R,
     alloc: Global,
@@ -33,16 +39,16 @@ where
     requires room { (K.told out.old).faults < 2 ^ 64 - 1 }
     ensures { RunsPlan plan.now (D.told depot.old) (D.told depot.new) (K.told out.old) (K.told out.new) result }
 {
-    let _ = rt;
     plan.limits();
     match make_room(alloc, plan) {
-        Ok(room) => run_in(alloc, room, plan, depot, out, gate),
+        Ok(room) => run_in(rt, alloc, room, plan, depot, out, gate),
         Err(AllocError) => Outcome::unmade(alloc),
     }
 }
 
 /// Runs the streams in the room that was made for them.
-fn run_in<D: Depot, K: Sink, G: Gate>(
+fn run_in<R: Wait, D: Depot, K: Sink, G: Gate>(
+    rt: &R,
     alloc: Global,
     room: RunRoom<D::Dev>,
     plan: &Plan,
@@ -53,41 +59,46 @@ fn run_in<D: Depot, K: Sink, G: Gate>(
     requires limits { IsSoundPlan plan.now }
     requires room { IsRoomOfRun plan.now room }
     requires sink { (K.told out.old).faults < 2 ^ 64 - 1 }
-    ensures { JoinsPlan plan.now (D.told depot.old) (D.told depot.new) (K.told out.old) (K.told out.new) result }
+    ensures { RunsPlan plan.now (D.told depot.old) (D.told depot.new) (K.told out.old) (K.told out.new) result }
 {
     let RunRoom {
         seat,
         mut table,
         scopes,
-        ends,
+        streams,
     } = room;
-    let mut tree = begin(seat, scopes);
-    let course = give_streams(alloc, &mut tree, &mut table, plan, depot, out, gate);
-    let (ledger, _shelf) = settle(tree, &mut table);
-    Outcome {
-        sink_failed: course.sink_failed,
-        memory: course.memory,
-        ends: list_ends(ends, course),
-        ledger,
-    }
+    let mut collector = Collector::new(begin(seat, scopes), streams);
+    collector.run(rt, alloc, &mut table, plan, depot, out, gate);
+    end_run(collector, &mut table, plan, depot)
 }
 
-/// The ends of the outer stream and of the one that it gave, in the room that was made for them.
-fn list_ends(ends: Vec<EndOf>, course: Course) -> List<EndOf>
-    requires none { ends.items ≡ [] }
-    requires room { length (ends_of course) ≤ vec_capacity ends }
-    ensures { result ≡ ends_of course }
+/// Settles the ledger of a collector at its end, and gives all devices that are left back.
+fn end_run<S: RowSeat<Pay = Held<D::Dev>>, D: Depot, F: PipeState>(
+    collector: Collector<S, D::Dev, F>,
+    desk: &mut S::Desk,
+    plan: &Plan,
+    depot: &mut D,
+) -> Outcome
+    requires limits { IsSoundPlan plan.now }
+    requires collecting { (d0 : DepotTold) × (s0 : SinkTold) × (t : Values) × (sink : SinkTold) × IsCollecting S.view D.Dev.Device.told S.fits F.values (standing F.stands F.comes) plan.now d0 s0 t 1 (D.told depot.old) sink desk.old collector }
+    requires waiting { collector.waiting.items ≡ [] }
+    requires jobs { collector.jobs.items ≡ [] }
+    ensures { (d0 : DepotTold) (s0 : SinkTold) (t : Values) (sink : SinkTold) → IsCollecting S.view D.Dev.Device.told S.fits F.values (standing F.stands F.comes) plan.now d0 s0 t 1 (D.told depot.old) sink desk.old collector → RunsPlan plan.now d0 (D.told depot.new) s0 sink result }
 {
-    let mut ends = ends;
-    ends.push_reserved(EndOf {
-        who: StreamNo::Outer,
-        how: course.outer,
-    });
-    if let Some(how) = course.inner {
-        ends.push_reserved(EndOf {
-            who: StreamNo::Inner(0),
-            how,
-        });
+    let _ = plan;
+    let Ended {
+        tree,
+        report,
+        outer,
+        left,
+    } = collector.into_ended();
+    let (ledger, shelf) = settle(tree, desk);
+    retire_shelf(depot, shelf);
+    retire_left(depot, left);
+    Outcome {
+        sink_failed: report.sink_failed(),
+        memory: report.memory(),
+        ends: report.into_ends(outer),
+        ledger,
     }
-    List::of_vec(ends)
 }

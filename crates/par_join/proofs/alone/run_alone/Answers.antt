@@ -6,7 +6,9 @@ use Rattle.row_seat.specs.Views.{IsLedgerOf}
 use Rattle.scope_tree.specs.Calls.{Seen}
 use Rattle.scope_tree.specs.Trees.{seen}
 use Rattle.tree_laws.proofs.Alone.{first_at_start}
-use Rattle.par_join.proofs.StreamRuns.{start_room, stream_ran}
+use Rattle.csv_pipes.specs.Dictionaries.{values_of}
+use Rattle.par_join.specs.Nodes.{RunsNode}
+use Rattle.par_join.proofs.StreamRuns.{alone_terms, start_room, stream_ran}
 use Rattle.par_join.proofs.alone.run_alone.Goals as goal
 
 pub new-tree-requires : goal.new-tree-requires
@@ -29,8 +31,9 @@ returns g c =
     let ledger = subst (λ v. IsLedgerOf v c.finish.result) c.end-seat.ensures.seat c.finish.ensures in
     let bare = ap (λ x. x.shelf) c.new-tree.ensures.seen in
     let just = ap (λ x. x.scopes) c.new-tree.ensures.seen ∙ c.requires.room.scopes in
+    let runs = subst (λ d. RunsNode g.V.Device.told (values_of d) c.args.node c.args.devices (alone_terms c.args.chunk) a b (g.K.Sink.told c.args.out.now) (g.K.Sink.told run.new.out) run.result.0.how run.result.0.unopened run.result.1) c.new-tables.ensures run.ensures.runs in
     rw (c.ends_of.ensures, c.is_unwritten.ensures, c.is_wanting.ensures, c.end-seat.ensures.shelf)
-    (stream_ran g.V.Device.told c.args.node c.args.devices c.args.chunk (g.K.Sink.told c.args.out.now) (g.K.Sink.told run.new.out) a b run.result.0.how run.result.0.unopened run.result.1 c.finish.result _ _ _ c.requires.first fresh (omega arith) just run.ensures.runs ledger bare)
+    (stream_ran g.V.Device.told c.args.node c.args.devices c.args.chunk (g.K.Sink.told c.args.out.now) (g.K.Sink.told run.new.out) a b run.result.0.how run.result.0.unopened run.result.1 c.finish.result _ _ _ c.requires.first fresh (omega arith) just runs ledger bare)
 
 pub finish-requires-clause-fits : goal.finish-requires-clause-fits
 finish-requires-clause-fits g c = c.end-seat.ensures.fits c.run_node-ended.new.desk c.run_node-ended.ensures.fits

@@ -2,7 +2,6 @@
 use Rattle.std.proofs.Common.{refl, sym, subst}
 use Rattle.par_join.specs.Cat.{RunsCat}
 use Rattle.par_join.proofs.CatReady.{cat_ran, cat_supplied, may_return}
-use Rattle.par_join.proofs.OneMade.{made_reads, made_unused}
 use Rattle.par_join.proofs.Unmade.{cat_makes_nothing, outcome_is}
 use Rattle.par_join.proofs.cat.run_cat.Goals as goal
 
@@ -14,7 +13,7 @@ returns-in_default g c =
     (cat_makes_nothing c.args.path.now (g.D.Depot.told c.args.depot.now) (g.D.Depot.told c.args.depot.now) (g.K.Sink.told c.args.out.now) (g.K.Sink.told c.args.out.now) c.args.chunk refl refl)
 
 pub run_ready-ran-requires-clause-device : goal.run_ready-ran-requires-clause-device
-run_ready-ran-requires-clause-device g c = cat_supplied g.D.Dev.Device.told c.in-Ok.ready.node c.in-Ok-make.device c.in-Ok.ensures.node (made_unused _ _ _ _ c.in-Ok-make.ensures.made) (made_reads _ _ _ _ c.in-Ok-make.ensures.made)
+run_ready-ran-requires-clause-device g c = cat_supplied g.D.Dev.Device.told _ (g.D.Depot.told c.make.new.self) c.args.path.now c.in-Ok.ready.node c.in-Ok-make.device c.in-Ok.ensures.node c.in-Ok-make.ensures.made
 
 pub retire-requires : goal.retire-requires
 retire-requires g c =

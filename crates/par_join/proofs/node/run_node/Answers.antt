@@ -1,8 +1,7 @@
 -- The stepper was run to its end, or the tree was closed as it was.
 use Rattle.std.proofs.Common.{ap, refl, subst, ◌∙◌}
 use Rattle.any_pipe.specs.AnyState.{StandsFor, Comes}
-use Rattle.any_pipe.specs.declared.state.NoTables.{NoTables}
-use Rattle.chunk_core.specs.Tables.{no_values}
+use Rattle.csv_pipes.specs.Dictionaries.{values_of}
 use Rattle.pull_turns.specs.Piping.{standing}
 use Rattle.row_seat.specs.Views.{OthersFit}
 use Rattle.scope_tree.specs.Trees.{seen}
@@ -20,12 +19,12 @@ print_all-stopped-requires-clause-can g c = c.in-Ok.ensures.can
 pub returns-in-Ok-clause-runs : goal.returns-in-Ok-clause-runs
 returns-in-Ok-clause-runs g c =
     let view = g.S.RowSeat.view in
-    let values = λ (t : NoTables). no_values in
+    let values = values_of in
     let p = c.print_all-stopped.ensures in
     let tree = c.end.result.tree in
     let sound = (c.end.ensures.fits c.print_all-stopped.new.desk p.fits).sound in
     node_ran g.V.Device.told c.args.node c.args.devices c.args.terms (seen view c.args.tree) (seen view tree) (g.K.Sink.told c.args.out.now) (g.K.Sink.told c.print_all-stopped.new.out) c.requires.shelf c.requires.room sound.used
-    (nothing_owed (view tree.seat) tree.branches.items tree.held.items sound.kept c.end.ensures.ends.root) (standing StandsFor Comes) no_values (stepping view values c.in-Ok.stepper) (stepping view values c.print_all-stopped.new.stepper) c.end.result.how c.end.result.unopened c.print_all-stopped.result c.in-Ok.ensures.begun
+    (nothing_owed (view tree.seat) tree.branches.items tree.held.items sound.kept c.end.ensures.ends.root) (standing StandsFor Comes) (values_of c.args.tables) (stepping view values c.in-Ok.stepper) (stepping view values c.print_all-stopped.new.stepper) c.end.result.how c.end.result.unopened c.print_all-stopped.result c.in-Ok.ensures.begun
     p.prints p.spends p.since p.goes c.requires.supplied c.end.ensures.ends
 
 pub returns-in-Ok-clause-fits : goal.returns-in-Ok-clause-fits
@@ -40,7 +39,7 @@ returns-in-Err-clause-runs g c =
     let u = c.in-Err.ensures.unmade in
     let e = c.close.ensures in
     rw (e.how, e.unopened ∙ u.1)
-    (node_unmade g.V.Device.told c.args.node c.args.devices c.args.terms (seen view c.args.tree) (seen view c.close.result.tree) (g.K.Sink.told c.args.out.now) (g.K.Sink.told c.args.out.now) c.requires.shelf c.requires.room e.fits.sound.used e.owed (standing StandsFor Comes) no_values c.requires.chunk c.requires.most c.requires.supplied
+    (node_unmade g.V.Device.told c.args.node c.args.devices c.args.terms (seen view c.args.tree) (seen view c.close.result.tree) (g.K.Sink.told c.args.out.now) (g.K.Sink.told c.args.out.now) c.requires.shelf c.requires.room e.fits.sound.used e.owed (standing StandsFor Comes) (values_of c.args.tables) c.requires.chunk c.requires.most c.requires.supplied
     _ (ap (seen view) u.0) e.closes e.room e.free refl)
 
 pub returns-in-Err-clause-others : goal.returns-in-Err-clause-others

@@ -1,19 +1,24 @@
--- The course comes to its ends, and the main seat finishes into the ledger.
-use Rattle.std.proofs.Common.{arith, length}
-use Rattle.chunk_core.specs.Outcomes.{exit_of}
+-- The collector begins over the room of the run, and what it did to its end is what the plan does.
+use Rattle.std.proofs.Common.{length, refl, ◌∙◌, arith}
+use Rattle.par_join.proofs.FirstSeat.{first_seat}
 use Rattle.par_join.proofs.streams.run_in.Goals as goal
 
-pub give_streams-course-requires-clause-fits : goal.give_streams-course-requires-clause-fits
-give_streams-course-requires-clause-fits g c = c.begin-tree.ensures.fits c.args.room.table c.requires.room.sits
-
-pub give_streams-course-requires-clause-main : goal.give_streams-course-requires-clause-main
-give_streams-course-requires-clause-main g c = c.begin-tree.ensures.main c.args.plan.now.max_open (length c.args.plan.now.streams)
-
-pub list_ends-requires-clause-room : goal.list_ends-requires-clause-room
-list_ends-requires-clause-room g c = let few = c.give_streams-course.ensures.ends.few in let room = c.requires.room.capacity in omega (arith, few, room)
+pub run-requires-clause-fresh : goal.run-requires-clause-fresh
+run-requires-clause-fresh g c =
+    let p = c.args.plan.now in
+    let b = c.begin.ensures in
+    let r = c.requires.room in
+    rw c.new-collector.ensures (record {
+      fits_desk = b.fits c.args.room.table r.sits;
+      main = b.main p.max_open (length p.streams);
+      seat = first_seat p _ c.requires.limits.few_streams (b.seat ∙ r.seat);
+      rows = (let n = b.room.1 in let m = r.rows in omega (arith, n, m));
+      used = b.used;
+      outer = refl;
+      leased = refl;
+      next = refl;
+      room = r.streams;
+    })
 
 pub returns : goal.returns
-returns g c =
-    let p = c.args.plan.now in
-    let e = c.give_streams-course.ensures.ends in
-    rw c.list_ends.ensures (e.joins c.settle-ledger.result.0 (c.settle-ledger.ensures.settles p.max_open (length p.streams) e.progress (exit_of c.give_streams-course.result.outer) e.main e.root))
+returns g c = c.end_run.ensures (g.D.Depot.told c.args.depot.now) (g.K.Sink.told c.args.out.now) c.run.ensures.collecting.0 (g.K.Sink.told c.run.new.out) c.run.ensures.collecting.1
