@@ -1,0 +1,10 @@
+pub mod Case
+pub mod Plan
+pub mod Tally
+pub mod Noted
+pub mod Summary
+pub mod Ideal
+pub mod Rendering
+pub mod Runs
+pub mod Sure
+pub mod SureTold
