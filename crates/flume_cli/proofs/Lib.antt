@@ -1,3 +1,5 @@
 pub mod Telling
 pub mod Calling
 pub mod Inputs
+mod CaseRuns
+mod Generating

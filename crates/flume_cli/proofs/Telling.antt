@@ -9,6 +9,7 @@ use Rattle.device_port.specs.Source.{SourceTold}
 use Rattle.device_port.specs.Depot.{DepotTold}
 use Rattle.device_port.specs.Sink.{SinkTold, with_bytes, BreaksOff}
 use Rattle.device_port.proofs.Puts.{with_bytes_twice}
+use Rattle.command_words.specs.Words.{command_of}
 use Rattle.run_rules.specs.declared.end.EndOf.{EndOf}
 use Rattle.run_rules.specs.Facts.{is_fault, is_memory, is_failed, has_event}
 use Rattle.run_rules.specs.Run.{Performs, Ran, IsUnmade}
@@ -19,7 +20,6 @@ use Rattle.par_join.specs.declared.outcome.Outcome.{Outcome}
 use Rattle.flume_cli.specs.declared.status.Status.{Status}
 use Rattle.flume_cli.specs.declared.status.Status.TheVariants as status
 use Rattle.flume_cli.specs.declared.report.Report.{Report}
-use Rattle.flume_cli.specs.Words.{Command, is_meant, command_of}
 use Rattle.flume_cli.specs.Status.{Causes, status_of, line_of}
 use Rattle.flume_cli.specs.Headline.{Call, HasStatus, IsText, IsToldLine, SaysBegun, SaysTail, TellsWork}
 use Rattle.flume_cli.specs.Call.{call_of}
@@ -40,7 +40,7 @@ report_is r s es L p q t =
     ∙ ap (λ (x : List Event). let y : Report = record { status = s; ends = es; ledger = x } in y) t)
 
 abbrev by_flags : Bool → Bool → Bool → Bool → Status
-by_flags u m f n = status_of (record { words = true; unread = false; refused = None; unwritten = u; memory = m; faulty = f; unclean = n })
+by_flags u m f n = status_of (record { early = false; words = true; unread = false; refused = None; unwritten = u; memory = m; faulty = f; unclean = n })
 
 failed_is : (u m f n : Bool) → u ≡ true → status.NotWritten ≡ by_flags u m f n
 failed_is u m f n e = ap (λ b. by_flags b m f n) (sym e)
@@ -61,13 +61,14 @@ pub record DoesWork (work : Work) (depot_old depot_new : DepotTold) (old new : S
 -- the work was told, with these frames
 pub record IsTold (work : Work) (c : Call) (frames : List Frame) (cut : Option Frame) : Type 0 where
   pub causes : Causes
+  pub early : causes.early ≡ false
   pub refused : causes.refused ≡ None
   pub status : HasStatus c causes
   pub tells : TellsWork work c causes
   pub same_frames : tells.frames ≡ frames
   pub same_cut : tells.cut ≡ cut
 
-module _ (words : List (List ℕ)) (command : Command) (src src' : SourceTold) (dold dnew : DepotTold) (so mid sn : SinkTold) (eold enew : SinkTold) (o : Outcome) (work : Work) (frames : List Frame) (cut : Option Frame) (rest : List ℕ) (asked : command_of words ≡ command) (meant : is_meant command ≡ true) (quiet : nat_lt src.faults src'.faults ≡ false) (runs : DoesWork work dold dnew so mid o frames cut rest) where
+module _ (words : List (List ℕ)) (src src' : SourceTold) (dold dnew : DepotTold) (so mid sn : SinkTold) (eold enew : SinkTold) (o : Outcome) (work : Work) (frames : List Frame) (cut : Option Frame) (rest : List ℕ) (meant : is_some (command_of words) ≡ true) (quiet : nat_lt src.faults src'.faults ≡ false) (runs : DoesWork work dold dnew so mid o frames cut rest) where
   abbrev tail : List ℕ
   tail = tail_text o.ends o.ledger
 
@@ -78,7 +79,7 @@ module _ (words : List (List ℕ)) (command : Command) (src src' : SourceTold) (
   told s = call_of words src src' dold dnew so sn eold enew (record { status = s; ends = o.ends; ledger = o.ledger })
 
   abbrev causes : Bool → Causes
-  causes m = record { words = true; unread = false; refused = None; unwritten = nat_lt so.faults sn.faults; memory = m; faulty = any (λ (e : EndOf). is_fault e.how) o.ends; unclean = has_event is_failed o.ledger }
+  causes m = record { early = false; words = true; unread = false; refused = None; unwritten = nat_lt so.faults sn.faults; memory = m; faulty = any (λ (e : EndOf). is_fault e.how) o.ends; unclean = has_event is_failed o.ledger }
 
   remembered : any (λ (e : EndOf). is_memory e.how) o.ends ≡ true → o.memory ≡ true
   remembered h = ⊎_elim (λ (x : IsUnmade (deed_of dold dnew frames cut rest o)). x.memory) (λ (x : Ran work (deed_of dold dnew frames cut rest o)). x.ends.memory h) runs.performs.ran
@@ -87,9 +88,10 @@ module _ (words : List (List ℕ)) (command : Command) (src src' : SourceTold) (
   tells : (s : Status) (m : Bool) → (o.memory ≡ true → m ≡ true) → s ≡ status_of (causes m) → IsText (told s) (causes m) frames cut rest o.memory → IsToldLine eold enew (line_of s) → IsTold work (told s) frames cut
   tells s m more is text line = record {
     causes = causes m;
+    early = refl;
     refused = refl;
     status = record {
-      words = sym (ap is_meant asked ∙ meant);
+      words = sym meant;
       unread = sym quiet;
       unwritten = refl;
       memory = λ h. more (remembered h);

@@ -1,11 +1,16 @@
 -- What is read of a description.
-use Rattle.std.specs.Prelude.{◌≡◌, ℕ, true, false, List, Result, Ok, Err}
+use Rattle.std.specs.Prelude.{◌≡◌, ℕ, true, false, List, Option, Some, None, Result, Ok, Err}
 use Rattle.device_port.specs.Source.{SourceTold}
 use Rattle.pipeline_desc.specs.Meant.{PlanMeant}
 use Rattle.pipeline_desc.specs.Plans.{plan_of}
 use Rattle.flume_cli.specs.declared.status.Status.{Status}
 use Rattle.flume_cli.specs.declared.status.Status.TheVariants as status
 use Rattle.flume_cli.specs.Input.{IsInput, TakesSome}
+
+-- the plan, with as many streams open at a time as the words tell
+abbrev pub with_most : Option ℕ → PlanMeant → PlanMeant
+with_most None plan = plan
+with_most (Some most) plan = record plan { max_open = most }
 
 -- the plan that these bytes mean, or the status of a call whose description is refused or found no memory
 abbrev pub GivesPlan : List ℕ → Result PlanMeant Status → Type 0

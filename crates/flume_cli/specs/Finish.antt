@@ -1,5 +1,5 @@
 -- How a run is told.
-use Rattle.std.specs.Prelude.{◌≡◌, true, false, if◌then◌else◌, List}
+use Rattle.std.specs.Prelude.{◌≡◌, ◌⊎◌, ℕ, true, false, if◌then◌else◌, List, Option, Some, None}
 use Rattle.std.specs.List.{list_any as any}
 use Rattle.res_ledger.specs.declared.event.Event.{Event}
 use Rattle.device_port.specs.Sink.{SinkTold, with_bytes, BreaksOff}
@@ -40,4 +40,14 @@ pub record Reports (s : Status) (ends : List EndOf) (L : List Event) (old new : 
 -- how a run ended was told: the tail was printed as far as it could be, and the status of that was reported
 pub record Tells (o : Outcome) (out_old out_new err_old err_new : SinkTold) (r : Report) : Type 0 where
   pub tail : PrintsTail o out_old out_new r.status
+  pub report : Reports r.status o.ends o.ledger err_old err_new r
+
+-- the status of a case whose summary was printed, or of one of which nothing was since memory was wanting
+abbrev pub PrintsText : Option (List ℕ) → SinkTold → SinkTold → Status → Type 0
+PrintsText None old new s = (s ≡ status.Memory) × (new ≡ old)
+PrintsText (Some text) old new s = ((s ≡ status.Good) × (new ≡ with_bytes old text)) ⊎ ((s ≡ status.NotWritten) × BreaksOff old new text)
+
+-- how a case ended was told: the summary was printed as far as it could be, and the status of that was reported
+pub record TellsText (text : Option (List ℕ)) (o : Outcome) (out_old out_new err_old err_new : SinkTold) (r : Report) : Type 0 where
+  pub printed : PrintsText text out_old out_new r.status
   pub report : Reports r.status o.ends o.ledger err_old err_new r

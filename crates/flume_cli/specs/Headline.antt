@@ -1,11 +1,14 @@
 -- The contract of the top call, over all that it reads, writes and reports.
-use Rattle.std.specs.Prelude.{◌≡◌, ◌⊎◌, ℕ, ◌+◌, ◌<◌, ◌≤◌, Bool, true, false, nat_lt, is_some, List, [], ◌++◌, length, Option, Some, None, Ok, Err}
+use Rattle.std.specs.Prelude.{◌≡◌, ◌⊎◌, ℕ, ◌+◌, ◌<◌, ◌≤◌, Bool, true, false, nat_lt, if◌then◌else◌, is_some, List, [], ◌++◌, length, Option, Some, None, Ok, Err}
 use Rattle.std.specs.List.{list_any as any}
 use Rattle.chunk_core.specs.Texts.{Frame, frames_text}
 use Rattle.res_ledger.specs.declared.event.Event.{Event}
 use Rattle.device_port.specs.Source.{SourceTold}
 use Rattle.device_port.specs.Sink.{SinkTold, with_bytes, BreaksOff}
 use Rattle.device_port.specs.Depot.{DepotTold}
+use Rattle.command_words.specs.Words.{command_of}
+use Rattle.command_words.specs.declared.asked.Asked.{Asked}
+use Rattle.command_words.specs.declared.asked.Asked.TheVariants.{Cat, Run, Gen}
 use Rattle.run_rules.specs.declared.end.EndOf.{EndOf}
 use Rattle.run_rules.specs.Facts.{is_fault, is_memory, is_failed, has_event}
 use Rattle.run_rules.specs.Work.{Work, RunRecord}
@@ -15,11 +18,13 @@ use Rattle.pipeline_desc.specs.Meant.{PlanMeant}
 use Rattle.pipeline_desc.specs.Plans.{plan_of}
 use Rattle.pipeline_desc.specs.Reading.{Reading}
 use Rattle.par_join.specs.Cat.{cat_work, FramesAreWithin}
-use Rattle.par_join.specs.Plans.{run_work}
+use Rattle.plan_work.specs.Plans.{run_work}
 use Rattle.flume_cli.specs.Input.{IsInput, TakesSome}
 use Rattle.flume_cli.specs.declared.status.Status.{Status}
 use Rattle.flume_cli.specs.declared.status.Status.TheVariants as status
-use Rattle.flume_cli.specs.Words.{Command, Cat, Run, Nothing, is_meant, command_of}
+use Rattle.flume_cli.specs.Description.{with_most}
+use Rattle.gen_case.specs.declared.case.Case.{Case}
+use Rattle.flume_cli.specs.Generated.{IsWholeCase, RunsCase, text_of_run}
 use Rattle.flume_cli.specs.Status.{Causes, status_of, line_of}
 
 -- a call: its words, the outside before and after, and its report
@@ -43,7 +48,7 @@ IsToldLine old new text = (new ≡ with_bytes old text) ⊎ BreaksOff old new te
 
 -- the status is that of the causes, each cause is seen in the call's own data, and standard error was told its line
 pub record HasStatus (c : Call) (k : Causes) : Type 0 where
-  pub words : k.words ≡ is_meant (command_of c.words)
+  pub words : k.words ≡ is_some (command_of c.words)
   pub unread : k.unread ≡ nat_lt c.source_old.faults c.source_new.faults
   pub unwritten : k.unwritten ≡ nat_lt c.out_old.faults c.out_new.faults
   pub memory : any (λ e. is_memory e.how) c.ends ≡ true → k.memory ≡ true
@@ -93,16 +98,16 @@ pub record TellsWork (work : Work) (c : Call) (k : Causes) : Type 0 where
   pub performs : Performs work (run_of_call c frames cut rest wanted)
   pub text : IsText c k frames cut rest wanted
 
--- what the bytes of a description mean was done: its plan was run, or nothing was done where it is refused
-abbrev pub DoesPlan : Call → Causes → Reading PlanMeant → Type 0
-DoesPlan c k (Ok plan) = (k.refused ≡ None) × TellsWork (run_work plan) c k
-DoesPlan c k (Err refusal) = (k.refused ≡ Some refusal) × DidNothing c
+-- what the bytes of a description mean was done: its plan was run, with as many streams open at a time as the words tell, or nothing was done where it is refused
+abbrev pub DoesPlan : Call → Causes → Option ℕ → Reading PlanMeant → Type 0
+DoesPlan c k most (Ok plan) = (k.refused ≡ None) × TellsWork (run_work (with_most most plan)) c k
+DoesPlan c k most (Err refusal) = (k.refused ≡ Some refusal) × DidNothing c
 
 -- the source was read whole, and what its bytes mean was done
-pub record RunsInput (c : Call) (k : Causes) : Type 0 where
+pub record RunsInput (c : Call) (k : Causes) (most : Option ℕ) : Type 0 where
   pub bytes : List ℕ
   pub input : IsInput c.source_old c.source_new bytes
-  pub plan : DoesPlan c k (plan_of bytes)
+  pub plan : DoesPlan c k most (plan_of bytes)
 
 -- a read of the source failed, which was the last, or memory was wanting before the run; nothing was done
 pub record StopsBefore (c : Call) (k : Causes) : Type 0 where
@@ -111,11 +116,34 @@ pub record StopsBefore (c : Call) (k : Causes) : Type 0 where
   pub refused : k.refused ≡ None
   pub nothing : DidNothing c
 
--- what was done for a command
-abbrev pub Does : Call → Causes → Command → Type 0
-Does c k (Cat path) = (t : TellsWork (cat_work path) c k) × FramesAreWithin 4096 t.frames t.cut
-Does c k Run = StopsBefore c k ⊎ RunsInput c k
-Does c k Nothing = DidNothing c
+-- memory was wanting, and nothing was printed
+pub record PrintsNothing (c : Call) (k : Causes) : Type 0 where
+  pub memory : k.memory ≡ true
+  pub out : c.out_new ≡ c.out_old
+
+-- memory wasn't wanting: all of the case was printed in memory, and the summary of that to the output, or a proper front of it and then a write failed
+pub record PrintsSummary (case : Case) (c : Call) (k : Causes) (frames : List Frame) : Type 0 where
+  pub memory : k.memory ≡ false
+  pub whole : IsWholeCase case c.ends c.events frames
+  pub printed : IsToldLine c.out_old c.out_new (text_of_run case frames c.events)
+
+-- A case was run over files of its own and summed up; of the depot no device was made. The numbers `bytes` and `digits` of the summary follow of the case
+-- by `whole`; `frames` and the numbers of events are those of the run.
+pub record TellsCase (case : Case) (c : Call) (k : Causes) : Type 0 where
+  pub kept : c.depot_new ≡ c.depot_old
+  pub runs : RunsCase case c.ends c.events
+  pub told : PrintsNothing c k ⊎ PrintsSummary case c k runs.frames
+
+-- what the words ask for, where there was memory to read them
+abbrev pub asked_of : Call → Causes → Option Asked
+asked_of c k = if k.early then None else command_of c.words
+
+-- what was done for what is asked
+abbrev pub Does : Call → Causes → Option Asked → Type 0
+Does c k (Some (Cat chunk path)) = (t : TellsWork (cat_work path) c k) × FramesAreWithin chunk t.frames t.cut
+Does c k (Some (Run most)) = StopsBefore c k ⊎ RunsInput c k most
+Does c k (Some (Gen seed streams lines)) = TellsCase (record { seed = seed; streams = streams; lines = lines }) c k
+Does c k None = DidNothing c
 
 -- no description was read: the source is as it was, and nothing is refused
 pub record ReadsNothing (c : Call) (k : Causes) : Type 0 where
@@ -123,14 +151,15 @@ pub record ReadsNothing (c : Call) (k : Causes) : Type 0 where
   pub refused : k.refused ≡ None
 
 -- only a run reads the source
-abbrev pub KeepsSource : Call → Causes → Command → Type 0
-KeepsSource c k (Cat path) = ReadsNothing c k
-KeepsSource c k Run = Unit {0}
-KeepsSource c k Nothing = ReadsNothing c k
+abbrev pub KeepsSource : Call → Causes → Option Asked → Type 0
+KeepsSource c k (Some (Cat chunk path)) = ReadsNothing c k
+KeepsSource c k (Some (Run most)) = Unit {0}
+KeepsSource c k (Some (Gen seed streams lines)) = ReadsNothing c k
+KeepsSource c k None = ReadsNothing c k
 
 -- The whole contract. What it says of devices, ledger, outputs, ends and completeness stands in `Performs`.
 pub record Headline (c : Call) : Type 0 where
   pub causes : Causes
   pub status : HasStatus c causes
-  pub source : KeepsSource c causes (command_of c.words)
-  pub does : Does c causes (command_of c.words)
+  pub source : KeepsSource c causes (asked_of c causes)
+  pub does : Does c causes (asked_of c causes)

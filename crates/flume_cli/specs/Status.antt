@@ -5,9 +5,10 @@ use Rattle.pipeline_desc.specs.declared.refusal.Refusal.{Refusal}
 use Rattle.flume_cli.specs.declared.status.Status.{Status}
 use Rattle.flume_cli.specs.declared.status.Status.TheVariants as status
 
--- What a status comes from: the words mean something; a read of the source failed; why the description is refused, where it is;
+-- What a status comes from: memory was wanting to read the words; the words mean something; a read of the source failed; why the description is refused, where it is;
 -- a write to the output failed; memory was wanting; a stream's end is a fault; a finalizer failed.
 pub record Causes : Type 0 where
+  pub early : Bool
   pub words : Bool
   pub unread : Bool
   pub refused : Option Refusal
@@ -21,10 +22,10 @@ abbrev pub status_done : Causes → Status
 status_done k =
     if k.unwritten then status.NotWritten else (if k.memory then status.Memory else (if k.faulty then status.Faulty else (if k.unclean then status.Unclean else status.Good)))
 
--- what comes first decides: the words, the source, the description, and then what was done
+-- what comes first decides: memory for the words, the words, the source, the description, and then what was done
 abbrev pub status_of : Causes → Status
 status_of k =
-    if not k.words then status.BadWords else (if k.unread then status.Unread else elim k.refused [ Some refusal ↦ status.Refused refusal | None ↦ status_done k ])
+    if k.early then status.Memory else (if not k.words then status.BadWords else (if k.unread then status.Unread else elim k.refused [ Some refusal ↦ status.Refused refusal | None ↦ status_done k ]))
 
 -- the number that the program ends with
 abbrev pub status_number : Status → ℕ

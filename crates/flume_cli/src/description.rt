@@ -1,6 +1,6 @@
 //! The description that the source has.
-ghost use Rattle.std.specs.Prelude.{◌-◌, ◌^◌, ◌<◌};
-ghost use Rattle.flume_cli.specs.Description.{GivesPlan, ReadsPlan};
+ghost use Rattle.std.specs.Prelude.{◌≡◌, ◌-◌, ◌^◌, ◌<◌, ◌≤◌, IfSome};
+ghost use Rattle.flume_cli.specs.Description.{GivesPlan, ReadsPlan, with_most as with_most_of};
 
 use crate::source::{NotRead, read_source};
 use crate::status::Status;
@@ -28,5 +28,16 @@ fn plan_of(alloc: Global, bytes: &[u8]) -> Result<Plan, Status>
         Ok(plan) => Ok(plan),
         Err(Refused::Desc(refusal)) => Err(Status::Refused(refusal)),
         Err(Refused::Memory) => Err(Status::Memory),
+    }
+}
+
+/// The plan, with as many streams open at a time as the words tell.
+pub(crate) fn with_most(plan: Plan, most: Option<u32>) -> Plan
+    requires { IfSome most (λ n. (1 ≤ n) × (n ≤ 64)) }
+    ensures { result ≡ with_most_of most plan }
+{
+    match most {
+        Some(most) => plan.with_max_open(most),
+        None => plan,
     }
 }

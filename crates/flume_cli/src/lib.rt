@@ -1,4 +1,4 @@
-//! The top call: what the words of a command line mean, and how a call ended.
+//! The top call: what the words of a command line ask for is done, and how it ended is told.
 //!
 //! `flume` does what the words say, over any source, sink, depot and gate: so a test runs the whole
 //! program in memory. It answers a `Report`: the `Status` that the program ends with, how each
@@ -6,7 +6,8 @@
 //! status, the output and standard error. `Status::Refused` has the reason why a description is
 //! refused. Only `run` reads the source, whole and before anything else; the description that it has
 //! is read by `pipeline_desc`. The work of a command is `par_join`'s; behind its frames `tail_of`
-//! tells how each stream ended, and the ledger.
+//! tells how each stream ended, and the ledger. `gen` runs a case of `gen_case` in memory, over files of
+//! its own, and prints a summary of it.
 //!
 //! ```
 //! let alloc = rt.alloc();
@@ -31,12 +32,12 @@
 #![tactic(auto)]
 
 pub(crate) mod description;
+pub(crate) mod generated;
 pub mod report;
 pub(crate) mod source;
 pub mod status;
 pub mod tail;
 pub mod top;
-pub mod words;
 
 pub use report::Report;
 pub use status::{Status, StatusLine};

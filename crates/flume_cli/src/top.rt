@@ -1,27 +1,26 @@
 //! The top call.
-ghost use Rattle.std.specs.Prelude.{◌≡◌, ◌-◌, ◌^◌, ◌<◌, false, []};
+ghost use Rattle.std.specs.Prelude.{◌≡◌, ◌-◌, ◌^◌, ◌<◌, false, [], option_map};
 ghost use Rattle.flume_cli.specs.Call.{call_of};
 ghost use Rattle.flume_cli.specs.Headline.{Headline};
-ghost use Rattle.flume_cli.specs.Finish.{Reports, PrintsTail, Tells, status_by as status_by_of};
+ghost use Rattle.flume_cli.specs.Finish.{Reports, PrintsTail, PrintsText, Tells, TellsText, status_by as status_by_of};
 ghost use Rattle.run_rules.specs.Facts.{is_fault as is_fault_end, is_failed as is_failed_final, has_event};
 ghost use Rattle.std.specs.List.{list_any as any};
 
-use crate::description::read_plan;
+use crate::description::{read_plan, with_most};
+use crate::generated::{Generated, generate};
 use crate::report::Report;
 use crate::status::Status;
 use crate::tail::tail_of;
-use crate::words::{Asked, asked_by};
-use chunk_core::{How, List, Word};
+use chunk_core::{How, Line, List, Word};
+use command_words::{Asked, asked_by};
 use device_port::{Depot, Failed, Gate, Sink, Source, put};
+use gen_case::Case;
 use par_join::{Outcome, run_cat, run_streams};
 use res_ledger::{Ledger, What};
 use run_rules::EndOf;
-use std::alloc::Global;
+use std::alloc::{AllocError, Global};
 use std::sync::Wait;
 use std::thread::Threads;
-
-/// How many bytes of a file one frame has at most.
-const CHUNK: u32 = 4096;
 
 /// Does what the words say: reads from `src` and the depot's devices, prints to `out`, tells
 /// `err` what went wrong, and reports how it ended. Nothing is written to `out` after its first
@@ -43,19 +42,38 @@ where
     requires err { (E.told err.old).faults < 2 ^ 64 - 1 }
     ensures { Headline (call_of words.now (S.told src.old) (S.told src.new) (D.told depot.old) (D.told depot.new) (K.told out.old) (K.told out.new) (E.told err.old) (E.told err.new) result) }
 {
-    match asked_by(words) {
-        Some(Asked::Cat(path)) => {
-            let outcome = run_cat(alloc, path, CHUNK, depot, out);
+    match asked_by(alloc, words) {
+        Ok(Some(Asked::Cat { chunk, path })) => {
+            let outcome = run_cat(alloc, &path, chunk, depot, out);
             tell(alloc, outcome, out, err)
         }
-        Some(Asked::Run) => match read_plan(alloc, src) {
+        Ok(Some(Asked::Run { max_open })) => match read_plan(alloc, src) {
             Ok(plan) => {
+                let plan = with_most(plan, max_open);
                 let outcome = run_streams(rt, alloc, &plan, depot, out, gate);
                 tell(alloc, outcome, out, err)
             }
             Err(status) => refuse(alloc, status, err),
         },
-        None => refuse(alloc, Status::BadWords, err),
+        Ok(
+            Some(
+                Asked::Gen {
+                    seed,
+                    streams,
+                    lines,
+                },
+            ),
+        ) => {
+            let case = Case {
+                seed,
+                streams,
+                lines,
+            };
+            let generated = generate(rt, alloc, case, gate);
+            tell_summary(generated, out, err)
+        }
+        Ok(None) => refuse(alloc, Status::BadWords, err),
+        Err(AllocError) => refuse(alloc, Status::Memory, err),
     }
 }
 
@@ -67,6 +85,17 @@ fn tell<K: Sink, E: Sink>(alloc: Global, outcome: Outcome, out: &mut K, err: &mu
 {
     let status = print_tail(alloc, &outcome, out);
     finish(status, outcome.ends, outcome.ledger, err)
+}
+
+/// Tells how a case ended: prints its summary where there is one, and reports.
+fn tell_summary<K: Sink, E: Sink>(generated: Generated, out: &mut K, err: &mut E) -> Report
+    requires out { (K.told out.old).faults < 2 ^ 64 - 1 }
+    requires err { (E.told err.old).faults < 2 ^ 64 - 1 }
+    ensures { TellsText generated.text generated.outcome (K.told out.old) (K.told out.new) (E.told err.old) (E.told err.new) result }
+{
+    let Generated { outcome, text } = generated;
+    let Outcome { ends, ledger, .. } = outcome;
+    finish(print_text(text.as_ref(), out), ends, ledger, err)
 }
 
 /// Tells and reports that nothing was done.
@@ -107,6 +136,20 @@ fn print_tail<K: Sink>(alloc: Global, outcome: &Outcome, out: &mut K) -> Status
             Err(Failed) => Status::NotWritten,
         },
         Err(_) => Status::Memory,
+    }
+}
+
+/// Prints the text of a summary, where memory wasn't wanting for it, and gives the status.
+fn print_text<K: Sink>(text: Option<&Line>, out: &mut K) -> Status
+    requires room { (K.told out.old).faults < 2 ^ 64 - 1 }
+    ensures { PrintsText (option_map (λ text. text.now) text.entry) (K.told out.old) (K.told out.new) result }
+{
+    match text {
+        Some(text) => match put(out, text.as_slice()) {
+            Ok(()) => Status::Good,
+            Err(Failed) => Status::NotWritten,
+        },
+        None => Status::Memory,
     }
 }
 

@@ -22,12 +22,13 @@ use Rattle.run_rules.specs.Rules.{KeepsRules}
 use Rattle.run_rules.specs.Run.{Performs}
 use Rattle.run_rules.specs.Texts.{tail_text}
 use Rattle.run_rules.specs.Work.{Values}
-use Rattle.par_join.specs.Plans.{run_work}
+use Rattle.plan_work.specs.Plans.{run_work}
 use Rattle.flume_cli.specs.declared.status.Status.TheVariants as status
 use Rattle.flume_cli.specs.Status.{Causes, line_of}
 use Rattle.flume_cli.specs.Headline.{DoesPlan, Headline, TellsWork, run_of_call}
 use Rattle.headline_laws.specs.Described.{clash, clash_refusal, empty_description, no_memory, outer_ledger, refused_description, unread_source}
 use Rattle.headline_laws.specs.Worked.{missing_device}
+use Rattle.headline_laws.proofs.Asked.{run_holds, run_means}
 
 -- What the descriptions mean.
 
@@ -46,35 +47,29 @@ unfolding digits
 refusal_told = refl
 
 abbrev causes_of_refusal : Causes
-causes_of_refusal = record { words = true; unread = false; refused = Some (clash_refusal 0); unwritten = false; memory = false; faulty = false; unclean = false }
+causes_of_refusal = record { early = false; words = true; unread = false; refused = Some (clash_refusal 0); unwritten = false; memory = false; faulty = false; unclean = false }
 
 pub refused_description_holds : Headline refused_description
-refused_description_holds = record {
-  causes = causes_of_refusal;
-  status = record { words = refl; unread = refl; unwritten = refl; memory = λ h. absurd (false≢true h); faulty = refl; unclean = refl; status = refl; line = inl refusal_told };
-  source = tt;
-  does = inr (record {
-    bytes = clash;
-    input = record { few = omega arith; told = refl; given = refl };
-    plan = subst (λ (q : Result PlanMeant Refusal). DoesPlan refused_description causes_of_refusal q) (sym clash_means) (refl, record { depot = refl; out = refl; ends = refl; events = refl });
-  });
-}
+refused_description_holds =
+    run_holds refused_description causes_of_refusal refl refl
+    (record { words = run_means; unread = refl; unwritten = refl; memory = λ h. absurd (false≢true h); faulty = refl; unclean = refl; status = refl; line = inl refusal_told })
+    (inr (record {
+      bytes = clash;
+      input = record { few = omega arith; told = refl; given = refl };
+      plan = subst (λ (q : Result PlanMeant Refusal). DoesPlan refused_description causes_of_refusal None q) (sym clash_means) (refl, record { depot = refl; out = refl; ends = refl; events = refl });
+    }))
 
 pub unread_source_holds : Headline unread_source
-unread_source_holds = record {
-  causes = record { words = true; unread = true; refused = None; unwritten = false; memory = false; faulty = false; unclean = false };
-  status = record { words = refl; unread = refl; unwritten = refl; memory = λ h. absurd (false≢true h); faulty = refl; unclean = refl; status = refl; line = inl refl };
-  source = tt;
-  does = inl (record { cause = inl refl; taken = record { count = 10; few = omega arith; told = refl }; refused = refl; nothing = record { depot = refl; out = refl; ends = refl; events = refl } });
-}
+unread_source_holds =
+    run_holds unread_source (record { early = false; words = true; unread = true; refused = None; unwritten = false; memory = false; faulty = false; unclean = false }) refl refl
+    (record { words = run_means; unread = refl; unwritten = refl; memory = λ h. absurd (false≢true h); faulty = refl; unclean = refl; status = refl; line = inl refl })
+    (inl (record { cause = inl refl; taken = record { count = 10; few = omega arith; told = refl; ended = λ h. refl }; refused = refl; nothing = record { depot = refl; out = refl; ends = refl; events = refl } }))
 
 pub no_memory_holds : Headline no_memory
-no_memory_holds = record {
-  causes = record { words = true; unread = false; refused = None; unwritten = false; memory = true; faulty = false; unclean = false };
-  status = record { words = refl; unread = refl; unwritten = refl; memory = λ h. refl; faulty = refl; unclean = refl; status = refl; line = inl refl };
-  source = tt;
-  does = inl (record { cause = inr refl; taken = record { count = length clash; few = omega arith; told = refl }; refused = refl; nothing = record { depot = refl; out = refl; ends = refl; events = refl } });
-}
+no_memory_holds =
+    run_holds no_memory (record { early = false; words = true; unread = false; refused = None; unwritten = false; memory = true; faulty = false; unclean = false }) refl refl
+    (record { words = run_means; unread = refl; unwritten = refl; memory = λ h. refl; faulty = refl; unclean = refl; status = refl; line = inl refl })
+    (inl (record { cause = inr refl; taken = record { count = length clash; few = omega arith; told = refl; ended = λ h. absurd (false≢true h) }; refused = refl; nothing = record { depot = refl; out = refl; ends = refl; events = refl } }))
 
 -- Where no stream is described.
 
@@ -102,7 +97,7 @@ abbrev no_values : Values
 no_values t key = None
 
 abbrev causes_of_none : Causes
-causes_of_none = record { words = true; unread = false; refused = None; unwritten = false; memory = false; faulty = false; unclean = false }
+causes_of_none = record { early = false; words = true; unread = false; refused = None; unwritten = false; memory = false; faulty = false; unclean = false }
 
 none_performs : Performs (run_work (plan_by_default [])) (run_of_call empty_description [] None [] false)
 none_performs = record {
@@ -139,13 +134,11 @@ none_told = record {
     some_end e = cc
 
 pub empty_description_holds : Headline empty_description
-empty_description_holds = record {
-  causes = causes_of_none;
-  status = record { words = refl; unread = refl; unwritten = refl; memory = λ h. absurd (false≢true h); faulty = refl; unclean = refl; status = refl; line = inl refl };
-  source = tt;
-  does = inr (record {
-    bytes = [];
-    input = record { few = omega arith; told = refl; given = refl };
-    plan = subst (λ (q : Result PlanMeant Refusal). DoesPlan empty_description causes_of_none q) (sym nothing_means) (refl, none_told);
-  });
-}
+empty_description_holds =
+    run_holds empty_description causes_of_none refl refl
+    (record { words = run_means; unread = refl; unwritten = refl; memory = λ h. absurd (false≢true h); faulty = refl; unclean = refl; status = refl; line = inl refl })
+    (inr (record {
+      bytes = [];
+      input = record { few = omega arith; told = refl; given = refl };
+      plan = subst (λ (q : Result PlanMeant Refusal). DoesPlan empty_description causes_of_none None q) (sym nothing_means) (refl, none_told);
+    }))

@@ -40,7 +40,8 @@ use Rattle.device_port.specs.declared.device.Mode.TheVariants as mode
 use Rattle.par_join.specs.Cat.{cat_work, to_read}
 use Rattle.flume_cli.specs.Headline.{Headline}
 use Rattle.headline_laws.specs.Calls.{a, closed_device, depot_after, depot_before, end_of_0, one_row_ledger}
-use Rattle.headline_laws.specs.Worked.{missing_device, whole_file, empty_file, missing_file, read_fault, failed_close, failed_write}
+use Rattle.headline_laws.specs.Worked.{words_not_read, missing_device, whole_file, empty_file, missing_file, read_fault, failed_close, failed_write}
+use Rattle.headline_laws.proofs.Asked.{cat_holds, cat_means}
 use Rattle.chunk_core.proofs.Distinct.{distinct_one}
 use Rattle.chunk_core.specs.Lists.IsAmong.{here}
 
@@ -173,136 +174,132 @@ failed_frame = omega arith
 -- The calls.
 
 pub whole_file_holds : Headline whole_file
-whole_file_holds = record {
-  causes = record { words = true; unread = false; refused = None; unwritten = false; memory = false; faulty = false; unclean = false };
-  status = record { words = refl; unread = refl; unwritten = refl; memory = λ h. absurd (false≢true h); faulty = refl; unclean = refl; status = refl; line = inl refl };
-  source = record { kept = refl; refused = refl };
-  does = (
-    record {
-      frames = hello_frame ∷ [];
-      cut = None;
-      rest = [];
-      wanted = false;
-      performs = row_performs (codes "hello\n") 6 true Succeeded 0 0 true (hello_frame ∷ []) None how.Done tt refl refl
-          (record { numbers = ((omega arith, omega arith), tt); few = tt; outputs = (record { elements = map Byte (codes "hello\n"); end = Done; run = inl (inl (refl, refl, inl (refl, (refl, omega arith, refl, refl)))); printed = refl; reported = refl }, refl); rest = refl })
-          (record { named = refl; caused = (record { halted = λ h. absurd (false≢true h); fault = refl; root = λ h. refl }, tt); outer = tt; stopped = record { in_turn = λ e. absurd (false≢true e); nobody = λ e. absurd (false≢true e) }; memory = λ h. absurd (false≢true h) })
-          (λ n. record { done = (refl, tt); clean = refl; output = ((map Byte (codes "hello\n"), inl (omega arith, refl, refl), refl), tt) });
-      text = record { said = tail_text whole_file.ends whole_file.events; written = text_of_whole_file; tail = refl; spoke = λ e. absurd (no_nil _ _ e); once = omega arith };
-    },
-    record { fits = (omega arith, tt); cut_fits = tt },
-  );
-}
+whole_file_holds =
+    cat_holds whole_file (record { early = false; words = true; unread = false; refused = None; unwritten = false; memory = false; faulty = false; unclean = false }) refl refl
+    (record { words = cat_means; unread = refl; unwritten = refl; memory = λ h. absurd (false≢true h); faulty = refl; unclean = refl; status = refl; line = inl refl })
+    (record { kept = refl; refused = refl }) (
+      record {
+        frames = hello_frame ∷ [];
+        cut = None;
+        rest = [];
+        wanted = false;
+        performs = row_performs (codes "hello\n") 6 true Succeeded 0 0 true (hello_frame ∷ []) None how.Done tt refl refl
+            (record { numbers = ((omega arith, omega arith), tt); few = tt; outputs = (record { elements = map Byte (codes "hello\n"); end = Done; run = inl (inl (refl, refl, inl (refl, (refl, omega arith, refl, refl)))); printed = refl; reported = refl }, refl); rest = refl })
+            (record { named = refl; caused = (record { halted = λ h. absurd (false≢true h); fault = refl; root = λ h. refl }, tt); outer = tt; stopped = record { in_turn = λ e. absurd (false≢true e); nobody = λ e. absurd (false≢true e) }; memory = λ h. absurd (false≢true h) })
+            (λ n. record { done = (refl, tt); clean = refl; output = ((map Byte (codes "hello\n"), inl (omega arith, refl, refl), refl), tt) });
+        text = record { said = tail_text whole_file.ends whole_file.events; written = text_of_whole_file; tail = refl; spoke = λ e. absurd (no_nil _ _ e); once = omega arith };
+      },
+      record { fits = (omega arith, tt); cut_fits = tt },
+    )
 
 pub empty_file_holds : Headline empty_file
-empty_file_holds = record {
-  causes = record { words = true; unread = false; refused = None; unwritten = false; memory = false; faulty = false; unclean = false };
-  status = record { words = refl; unread = refl; unwritten = refl; memory = λ h. absurd (false≢true h); faulty = refl; unclean = refl; status = refl; line = inl refl };
-  source = record { kept = refl; refused = refl };
-  does = (
-    record {
-      frames = [];
-      cut = None;
-      rest = [];
-      wanted = false;
-      performs = row_performs [] 0 true Succeeded 0 0 true [] None how.Done tt refl refl
-          (record { numbers = tt; few = tt; outputs = (record { elements = []; end = Done; run = inl (inl (refl, refl, inl (refl, (refl, omega arith, refl, refl)))); printed = refl; reported = refl }, refl); rest = refl })
-          (record { named = refl; caused = (record { halted = λ h. absurd (false≢true h); fault = refl; root = λ h. refl }, tt); outer = tt; stopped = record { in_turn = λ e. absurd (false≢true e); nobody = λ e. absurd (false≢true e) }; memory = λ h. absurd (false≢true h) })
-          (λ n. record { done = (refl, tt); clean = refl; output = (([], inl (omega arith, refl, refl), refl), tt) });
-      text = record { said = tail_text empty_file.ends empty_file.events; written = text_of_empty_file; tail = refl; spoke = λ e. absurd (no_nil _ _ e); once = omega arith };
-    },
-    record { fits = tt; cut_fits = tt },
-  );
-}
+empty_file_holds =
+    cat_holds empty_file (record { early = false; words = true; unread = false; refused = None; unwritten = false; memory = false; faulty = false; unclean = false }) refl refl
+    (record { words = cat_means; unread = refl; unwritten = refl; memory = λ h. absurd (false≢true h); faulty = refl; unclean = refl; status = refl; line = inl refl })
+    (record { kept = refl; refused = refl }) (
+      record {
+        frames = [];
+        cut = None;
+        rest = [];
+        wanted = false;
+        performs = row_performs [] 0 true Succeeded 0 0 true [] None how.Done tt refl refl
+            (record { numbers = tt; few = tt; outputs = (record { elements = []; end = Done; run = inl (inl (refl, refl, inl (refl, (refl, omega arith, refl, refl)))); printed = refl; reported = refl }, refl); rest = refl })
+            (record { named = refl; caused = (record { halted = λ h. absurd (false≢true h); fault = refl; root = λ h. refl }, tt); outer = tt; stopped = record { in_turn = λ e. absurd (false≢true e); nobody = λ e. absurd (false≢true e) }; memory = λ h. absurd (false≢true h) })
+            (λ n. record { done = (refl, tt); clean = refl; output = (([], inl (omega arith, refl, refl), refl), tt) });
+        text = record { said = tail_text empty_file.ends empty_file.events; written = text_of_empty_file; tail = refl; spoke = λ e. absurd (no_nil _ _ e); once = omega arith };
+      },
+      record { fits = tt; cut_fits = tt },
+    )
 
 pub read_fault_holds : Headline read_fault
-read_fault_holds = record {
-  causes = record { words = true; unread = false; refused = None; unwritten = false; memory = false; faulty = true; unclean = false };
-  status = record { words = refl; unread = refl; unwritten = refl; memory = λ h. absurd (false≢true h); faulty = refl; unclean = refl; status = refl; line = inl refl };
-  source = record { kept = refl; refused = refl };
-  does = (
-    record {
-      frames = record { stream = 0; payload = codes "he" } ∷ [];
-      cut = None;
-      rest = [];
-      wanted = false;
-      performs = row_performs (codes "hello\n") 2 false Errored 1 0 true (record { stream = 0; payload = codes "he" } ∷ []) None (how.Fault code.Read) tt refl refl
-          (record { numbers = ((omega arith, omega arith), tt); few = tt; outputs = (record { elements = map Byte (codes "he"); end = Fault code.Read; run = inl (inl (refl, refl, inl (refl, refl))); printed = refl; reported = refl }, refl); rest = refl })
-          (record { named = refl; caused = (record { halted = λ h. absurd (false≢true h); fault = refl; root = λ h. refl }, tt); outer = tt; stopped = record { in_turn = λ e. absurd (false≢true e); nobody = λ e. absurd (false≢true e) }; memory = λ h. absurd (false≢true h) })
-          (λ n. let z = n.devices.0 in absurd (omega (arith, z)));
-      text = record { said = tail_text read_fault.ends read_fault.events; written = text_of_read_fault; tail = refl; spoke = λ e. absurd (no_nil _ _ e); once = omega arith };
-    },
-    record { fits = (omega arith, tt); cut_fits = tt },
-  );
-}
+read_fault_holds =
+    cat_holds read_fault (record { early = false; words = true; unread = false; refused = None; unwritten = false; memory = false; faulty = true; unclean = false }) refl refl
+    (record { words = cat_means; unread = refl; unwritten = refl; memory = λ h. absurd (false≢true h); faulty = refl; unclean = refl; status = refl; line = inl refl })
+    (record { kept = refl; refused = refl }) (
+      record {
+        frames = record { stream = 0; payload = codes "he" } ∷ [];
+        cut = None;
+        rest = [];
+        wanted = false;
+        performs = row_performs (codes "hello\n") 2 false Errored 1 0 true (record { stream = 0; payload = codes "he" } ∷ []) None (how.Fault code.Read) tt refl refl
+            (record { numbers = ((omega arith, omega arith), tt); few = tt; outputs = (record { elements = map Byte (codes "he"); end = Fault code.Read; run = inl (inl (refl, refl, inl (refl, refl))); printed = refl; reported = refl }, refl); rest = refl })
+            (record { named = refl; caused = (record { halted = λ h. absurd (false≢true h); fault = refl; root = λ h. refl }, tt); outer = tt; stopped = record { in_turn = λ e. absurd (false≢true e); nobody = λ e. absurd (false≢true e) }; memory = λ h. absurd (false≢true h) })
+            (λ n. let z = n.devices.0 in absurd (omega (arith, z)));
+        text = record { said = tail_text read_fault.ends read_fault.events; written = text_of_read_fault; tail = refl; spoke = λ e. absurd (no_nil _ _ e); once = omega arith };
+      },
+      record { fits = (omega arith, tt); cut_fits = tt },
+    )
 
 pub failed_close_holds : Headline failed_close
-failed_close_holds = record {
-  causes = record { words = true; unread = false; refused = None; unwritten = false; memory = false; faulty = false; unclean = true };
-  status = record { words = refl; unread = refl; unwritten = refl; memory = λ h. absurd (false≢true h); faulty = refl; unclean = refl; status = refl; line = inl refl };
-  source = record { kept = refl; refused = refl };
-  does = (
-    record {
-      frames = hello_frame ∷ [];
-      cut = None;
-      rest = [];
-      wanted = false;
-      performs = row_performs (codes "hello\n") 6 true Succeeded 0 1 false (hello_frame ∷ []) None how.Done (refl, (refl, tt)) refl refl
-          (record { numbers = ((omega arith, omega arith), tt); few = tt; outputs = (record { elements = map Byte (codes "hello\n"); end = Done; run = inl (inl (refl, refl, inl (refl, (refl, omega arith, refl, refl)))); printed = refl; reported = refl }, refl); rest = refl })
-          (record { named = refl; caused = (record { halted = λ h. absurd (false≢true h); fault = refl; root = λ h. refl }, tt); outer = tt; stopped = record { in_turn = λ e. absurd (false≢true e); nobody = λ e. absurd (false≢true e) }; memory = λ h. absurd (false≢true h) })
-          (λ n. let z = n.devices.0 in absurd (omega (arith, z)));
-      text = record { said = tail_text failed_close.ends failed_close.events; written = text_of_failed_close; tail = refl; spoke = λ e. absurd (no_nil _ _ e); once = omega arith };
-    },
-    record { fits = (omega arith, tt); cut_fits = tt },
-  );
-}
+failed_close_holds =
+    cat_holds failed_close (record { early = false; words = true; unread = false; refused = None; unwritten = false; memory = false; faulty = false; unclean = true }) refl refl
+    (record { words = cat_means; unread = refl; unwritten = refl; memory = λ h. absurd (false≢true h); faulty = refl; unclean = refl; status = refl; line = inl refl })
+    (record { kept = refl; refused = refl }) (
+      record {
+        frames = hello_frame ∷ [];
+        cut = None;
+        rest = [];
+        wanted = false;
+        performs = row_performs (codes "hello\n") 6 true Succeeded 0 1 false (hello_frame ∷ []) None how.Done (refl, (refl, tt)) refl refl
+            (record { numbers = ((omega arith, omega arith), tt); few = tt; outputs = (record { elements = map Byte (codes "hello\n"); end = Done; run = inl (inl (refl, refl, inl (refl, (refl, omega arith, refl, refl)))); printed = refl; reported = refl }, refl); rest = refl })
+            (record { named = refl; caused = (record { halted = λ h. absurd (false≢true h); fault = refl; root = λ h. refl }, tt); outer = tt; stopped = record { in_turn = λ e. absurd (false≢true e); nobody = λ e. absurd (false≢true e) }; memory = λ h. absurd (false≢true h) })
+            (λ n. let z = n.devices.0 in absurd (omega (arith, z)));
+        text = record { said = tail_text failed_close.ends failed_close.events; written = text_of_failed_close; tail = refl; spoke = λ e. absurd (no_nil _ _ e); once = omega arith };
+      },
+      record { fits = (omega arith, tt); cut_fits = tt },
+    )
 
 pub failed_write_holds : Headline failed_write
-failed_write_holds = record {
-  causes = record { words = true; unread = false; refused = None; unwritten = true; memory = false; faulty = false; unclean = false };
-  status = record { words = refl; unread = refl; unwritten = refl; memory = λ h. absurd (false≢true h); faulty = refl; unclean = refl; status = refl; line = inl refl };
-  source = record { kept = refl; refused = refl };
-  does = (
-    record {
-      frames = [];
-      cut = Some hello_frame;
-      rest = [];
-      wanted = false;
-      performs = row_performs (codes "hello\n") 6 false Canceled 0 0 true [] (Some hello_frame) how.Halted tt refl refl
-          (record { numbers = tt; few = tt; outputs = (record { elements = []; end = Cut; run = inr (refl, inl (refl, tt)); printed = refl; reported = inl refl }, refl); rest = record { stream = omega arith; some = omega arith; more = frame_text 0 (codes "hello\n"); front = failed_frame; text = refl; elements = map Byte (codes "hello\n"); run = inl (inl (refl, refl, inl (refl, tt))); goes_on = refl } })
-          (record { named = refl; caused = (record { halted = λ h. inl refl; fault = refl; root = λ h. refl }, tt); outer = tt; stopped = record { in_turn = λ e. absurd (false≢true e); nobody = λ e. absurd (false≢true e) }; memory = λ h. absurd (false≢true h) })
-          (λ n. absurd (some_none n.written));
-      text = record { said = []; written = refl; tail = (refl, refl); spoke = λ e. absurd (no_nil _ _ e); once = omega arith };
-    },
-    record { fits = tt; cut_fits = omega arith },
-  );
-}
+failed_write_holds =
+    cat_holds failed_write (record { early = false; words = true; unread = false; refused = None; unwritten = true; memory = false; faulty = false; unclean = false }) refl refl
+    (record { words = cat_means; unread = refl; unwritten = refl; memory = λ h. absurd (false≢true h); faulty = refl; unclean = refl; status = refl; line = inl refl })
+    (record { kept = refl; refused = refl }) (
+      record {
+        frames = [];
+        cut = Some hello_frame;
+        rest = [];
+        wanted = false;
+        performs = row_performs (codes "hello\n") 6 false Canceled 0 0 true [] (Some hello_frame) how.Halted tt refl refl
+            (record { numbers = tt; few = tt; outputs = (record { elements = []; end = Cut; run = inr (refl, inl (refl, tt)); printed = refl; reported = inl refl }, refl); rest = record { stream = omega arith; some = omega arith; more = frame_text 0 (codes "hello\n"); front = failed_frame; text = refl; elements = map Byte (codes "hello\n"); run = inl (inl (refl, refl, inl (refl, tt))); goes_on = refl } })
+            (record { named = refl; caused = (record { halted = λ h. inl refl; fault = refl; root = λ h. refl }, tt); outer = tt; stopped = record { in_turn = λ e. absurd (false≢true e); nobody = λ e. absurd (false≢true e) }; memory = λ h. absurd (false≢true h) })
+            (λ n. absurd (some_none n.written));
+        text = record { said = []; written = refl; tail = (refl, refl); spoke = λ e. absurd (no_nil _ _ e); once = omega arith };
+      },
+      record { fits = tt; cut_fits = omega arith },
+    )
 
 pub missing_file_holds : Headline missing_file
-missing_file_holds = record {
-  causes = record { words = true; unread = false; refused = None; unwritten = false; memory = false; faulty = true; unclean = false };
-  status = record { words = refl; unread = refl; unwritten = refl; memory = λ h. absurd (false≢true h); faulty = refl; unclean = refl; status = refl; line = inl refl };
+missing_file_holds =
+    cat_holds missing_file (record { early = false; words = true; unread = false; refused = None; unwritten = false; memory = false; faulty = true; unclean = false }) refl refl
+    (record { words = cat_means; unread = refl; unwritten = refl; memory = λ h. absurd (false≢true h); faulty = refl; unclean = refl; status = refl; line = inl refl })
+    (record { kept = refl; refused = refl }) (
+      record {
+        frames = [];
+        cut = None;
+        rest = [];
+        wanted = false;
+        performs = record {
+          devices = record { made = refl; few = (omega arith, tt); retired = refl; once = IsPermutation-refl _; shut = ((refl, refl), tt); rows = (tt, tt); acquired = tt; failed = tt; exits = λ x. tt; files = λ path. inr refl; stored = ((λ writes. absurd (reads_only writes)), tt) };
+          ledger = rules_of missing_file.events refl refl refl refl refl (omega arith) refl;
+          ran = inr (record {
+            values = no_values;
+            home = λ r. missing_device;
+            rows = record { at_home = (refl, refl, inl (here []), tt); apart = one_apart missing_device; tied = (tt, tt); values = tt };
+            outputs = record { numbers = tt; few = tt; outputs = (record { elements = []; end = Fault code.Open; run = inl (inr (refl, refl, refl, refl, tt)); printed = refl; reported = refl }, refl); rest = refl };
+            ends = record { named = refl; caused = (record { halted = λ h. absurd (false≢true h); fault = refl; root = λ h. refl }, tt); outer = tt; stopped = record { in_turn = λ e. absurd (false≢true e); nobody = λ e. absurd (false≢true e) }; memory = λ h. absurd (false≢true h) };
+            exits = ((λ e. (refl, tt)), tt);
+            completeness = λ m n. let z = n.devices.0 in absurd (omega (arith, z));
+          });
+        };
+        text = record { said = tail_text missing_file.ends missing_file.events; written = text_of_missing_file; tail = refl; spoke = λ e. absurd (no_nil _ _ e); once = omega arith };
+      },
+      record { fits = tt; cut_fits = tt },
+    )
+
+pub words_not_read_holds : Headline words_not_read
+words_not_read_holds = record {
+  causes = record { early = true; words = true; unread = false; refused = None; unwritten = false; memory = true; faulty = false; unclean = false };
+  status = record { words = cat_means; unread = refl; unwritten = refl; memory = λ h. refl; faulty = refl; unclean = refl; status = refl; line = inl refl };
   source = record { kept = refl; refused = refl };
-  does = (
-    record {
-      frames = [];
-      cut = None;
-      rest = [];
-      wanted = false;
-      performs = record {
-        devices = record { made = refl; few = (omega arith, tt); retired = refl; once = IsPermutation-refl _; shut = ((refl, refl), tt); rows = (tt, tt); acquired = tt; failed = tt; exits = λ x. tt; files = λ path. inr refl; stored = ((λ writes. absurd (reads_only writes)), tt) };
-        ledger = rules_of missing_file.events refl refl refl refl refl (omega arith) refl;
-        ran = inr (record {
-          values = no_values;
-          home = λ r. missing_device;
-          rows = record { at_home = (refl, refl, inl (here []), tt); apart = one_apart missing_device; tied = (tt, tt); values = tt };
-          outputs = record { numbers = tt; few = tt; outputs = (record { elements = []; end = Fault code.Open; run = inl (inr (refl, refl, refl, refl, tt)); printed = refl; reported = refl }, refl); rest = refl };
-          ends = record { named = refl; caused = (record { halted = λ h. absurd (false≢true h); fault = refl; root = λ h. refl }, tt); outer = tt; stopped = record { in_turn = λ e. absurd (false≢true e); nobody = λ e. absurd (false≢true e) }; memory = λ h. absurd (false≢true h) };
-          exits = ((λ e. (refl, tt)), tt);
-          completeness = λ m n. let z = n.devices.0 in absurd (omega (arith, z));
-        });
-      };
-      text = record { said = tail_text missing_file.ends missing_file.events; written = text_of_missing_file; tail = refl; spoke = λ e. absurd (no_nil _ _ e); once = omega arith };
-    },
-    record { fits = tt; cut_fits = tt },
-  );
+  does = record { depot = refl; out = refl; ends = refl; events = refl };
 }

@@ -31,6 +31,7 @@ use Rattle.flume_cli.specs.Status.{Causes, status_done, status_of, status_number
 use Rattle.par_join.specs.Cat.{cat_work, FileRuns}
 use Rattle.flume_cli.specs.Headline.{Call, Headline, SaysTail, TellsWork, run_of_call}
 use Rattle.headline_laws.specs.Calls.{a}
+use Rattle.headline_laws.proofs.Asked.{work_of}
 use Rattle.headline_laws.specs.Refused.{end_never_met, failed_read_forgotten, invented_output, cut_output, row_of_no_plan, event_of_no_stream, lease_of_no_stream, kept_device, failure_not_told, halted_without_a_cause, call_with_row_without_a_final, call_with_final_before_close, closed_twice, left_open, fault_without_a_fault, failed_close_not_told, done_told_as_errored, fault_told_as_succeeded, halt_told_as_succeeded, final_unlike_its_close, device_told_otherwise, silent_call}
 use Rattle.chunk_core.proofs.Members.{among_cons, among_nil}
 use Rattle.chunk_core.proofs.Bools.{both, either}
@@ -46,6 +47,7 @@ differ s t n e = n (ap status_number e)
 
 -- what status 0 tells of its causes
 pub record Good (k : Causes) : Type 0 where
+  pub refused : k.refused ≡ None
   pub unwritten : k.unwritten ≡ false
   pub memory : k.memory ≡ false
   pub faulty : k.faulty ≡ false
@@ -55,15 +57,16 @@ pub status_if_taken : (s : Status) → status_number s ≢ 3 → (k : Causes) (r
 status_if_taken s n k (Some refusal) e = absurd (n (ap status_number e))
 status_if_taken s n k None e = (refl, e)
 
-good : (k : Causes) → status.Good ≡ status_of k → Good k
+pub good : (k : Causes) → status.Good ≡ status_of k → Good k
 good k e =
-    let p = peel (not k.words) _ _ status.Good (differ _ _ (omega arith)) e in
+    let w = peel k.early _ _ status.Good (differ _ _ (omega arith)) e in
+    let p = peel (not k.words) _ _ status.Good (differ _ _ (omega arith)) w.1 in
     let o = peel k.unread _ _ status.Good (differ _ _ (omega arith)) p.1 in
     let d = status_if_taken status.Good (omega arith) k k.refused o.1 in
     let q = peel k.unwritten _ _ status.Good (differ _ _ (omega arith)) d.1 in
     let r = peel k.memory _ _ status.Good (differ _ _ (omega arith)) q.1 in
     let t = peel k.faulty _ _ status.Good (differ _ _ (omega arith)) r.1 in
-    record { unwritten = q.0; memory = r.0; faulty = t.0 }
+    record { refused = d.0; unwritten = q.0; memory = r.0; faulty = t.0 }
 
 -- the stream ran, where there are ends
 pub ran_with_ends : (c : Call) (k : Causes) (t : TellsWork (cat_work a) c k) → c.ends ≢ [] → Ran (cat_work a) (run_of_call c t.frames t.cut t.rest t.wanted)
@@ -79,7 +82,7 @@ pub record Went (broke wanted : Bool) (said tail : List ℕ) : Type 0 where
   pub said_is : said ≡ tail
 
 -- so it is at status 0
-went : (k : Causes) → Good k → (said tail : List ℕ) (broke wanted : Bool) → SaysTail k said tail status.Good broke wanted → Went broke wanted said tail
+pub went : (k : Causes) → Good k → (said tail : List ℕ) (broke wanted : Bool) → SaysTail k said tail status.Good broke wanted → Went broke wanted said tail
 went k g said tail true wanted h = absurd (false≢true (sym g.unwritten ∙ h.0))
 went k g said tail false true h = absurd (false≢true (sym g.memory ∙ h.1))
 went k g said tail false false h = record { broke_is = refl; wanted_is = refl; said_is = h }
@@ -118,21 +121,21 @@ opened d ys e q (inr x) = let h = ap place (sym q ∙ x.0) in absurd (omega (ari
 pub invented_output_refused : ¬ (Headline invented_output)
 invented_output_refused h =
     let g = good h.causes h.status.status in
-    let r = ran_with_ends invented_output h.causes h.does.0 (an_end _ []) in
+    let r = ran_with_ends invented_output h.causes (work_of invented_output h refl (an_end _ [])) (an_end _ []) in
     let o = opened (r.home 0) r.outputs.outputs.0.elements r.outputs.outputs.0.end (done r.outputs.outputs.0.end r.outputs.outputs.0.reported) r.outputs.outputs.0.run in
     ⊎_elim among_nil (λ (x : IsUntouched (r.home 0)). let z = x.opens in omega (arith, o, z)) r.rows.at_home.2
 
 pub row_of_no_plan_refused : ¬ (Headline row_of_no_plan)
-row_of_no_plan_refused h = let l = h.does.0.performs.devices.rows.1.0 in omega (arith, l)
+row_of_no_plan_refused h = let l = (work_of row_of_no_plan h refl (an_end _ [])).performs.devices.rows.1.0 in omega (arith, l)
 
 pub event_of_no_stream_refused : ¬ (Headline event_of_no_stream)
-event_of_no_stream_refused h = false≢true h.does.0.performs.ledger.ours
+event_of_no_stream_refused h = false≢true (work_of event_of_no_stream h refl (an_end _ [])).performs.ledger.ours
 
 pub lease_of_no_stream_refused : ¬ (Headline lease_of_no_stream)
-lease_of_no_stream_refused h = false≢true h.does.0.performs.ledger.ours
+lease_of_no_stream_refused h = false≢true (work_of lease_of_no_stream h refl (an_end _ [])).performs.ledger.ours
 
 pub kept_device_refused : ¬ (Headline kept_device)
-kept_device_refused h = let e = length_permutation _ _ h.does.0.performs.devices.once in omega (arith, e)
+kept_device_refused h = let e = length_permutation _ _ (work_of kept_device h refl (an_end _ [])).performs.devices.once in omega (arith, e)
 
 pub failure_not_told_refused : ¬ (Headline failure_not_told)
 failure_not_told_refused h = let g = good h.causes h.status.status in false≢true (sym g.unwritten ∙ h.status.unwritten)
@@ -140,7 +143,7 @@ failure_not_told_refused h = let g = good h.causes h.status.status in false≢tr
 pub halted_without_a_cause_refused : ¬ (Headline halted_without_a_cause)
 halted_without_a_cause_refused h =
     let g = good h.causes h.status.status in
-    let t = h.does.0 in
+    let t = work_of halted_without_a_cause h refl (an_end _ []) in
     let w = went h.causes g t.text.said _ (is_some t.cut) t.wanted t.text.tail in
     let r = ran_with_ends halted_without_a_cause h.causes t (an_end _ []) in
     no_cause (run_of_call halted_without_a_cause t.frames t.cut t.rest t.wanted) w.broke_is w.wanted_is refl (r.ends.caused.0.halted refl)
@@ -200,20 +203,20 @@ tail_is_long = omega arith
 pub cut_output_refused : ¬ (Headline cut_output)
 cut_output_refused h =
     let g = good h.causes h.status.status in
-    let t = h.does.0 in
+    let t = work_of cut_output h refl (an_end _ []) in
     let w = went h.causes g t.text.said _ (is_some t.cut) t.wanted t.text.tail in
     let r = ran_with_ends cut_output h.causes t (an_end _ []) in
     let o = r.outputs.outputs.0 in
     let ys = given_whole (codes "hello world\n") (r.home 0) r.rows.at_home.1 o.elements o.end (done o.end o.reported) o.run in
-    let n : length (payloads_of 0 h.does.0.frames) ≡ 12 = ap (λ x. length x) (o.printed ∙ ap (λ x. rendering_of x) ys) in
-    let f : 12 ≤ length (frames_text h.does.0.frames) = omega (arith, n, within 0 h.does.0.frames) in
-    too_short _ (frames_text h.does.0.frames) h.does.0.rest h.does.0.text.said _ (ap (λ x. bytes_of x) h.does.0.text.written) (rest_none r.values r.home t.frames t.rest t.cut w.broke_is r.outputs.rest) w.said_is tail_is_long f
+    let n : length (payloads_of 0 (work_of cut_output h refl (an_end _ [])).frames) ≡ 12 = ap (λ x. length x) (o.printed ∙ ap (λ x. rendering_of x) ys) in
+    let f : 12 ≤ length (frames_text (work_of cut_output h refl (an_end _ [])).frames) = omega (arith, n, within 0 (work_of cut_output h refl (an_end _ [])).frames) in
+    too_short _ (frames_text (work_of cut_output h refl (an_end _ [])).frames) (work_of cut_output h refl (an_end _ [])).rest (work_of cut_output h refl (an_end _ [])).text.said _ (ap (λ x. bytes_of x) (work_of cut_output h refl (an_end _ [])).text.written) (rest_none r.values r.home t.frames t.rest t.cut w.broke_is r.outputs.rest) w.said_is tail_is_long f
 
 pub row_without_a_final_refused : ¬ (Headline call_with_row_without_a_final)
-row_without_a_final_refused h = let l = h.does.0.performs.ledger in false≢true (complete_found call_with_row_without_a_final.events l.legal l.complete)
+row_without_a_final_refused h = let l = (work_of call_with_row_without_a_final h refl (an_end _ [])).performs.ledger in false≢true (complete_found call_with_row_without_a_final.events l.legal l.complete)
 
 pub final_before_close_refused : ¬ (Headline call_with_final_before_close)
-final_before_close_refused h = false≢true (legal_found call_with_final_before_close.events h.does.0.performs.ledger.legal)
+final_before_close_refused h = false≢true (legal_found call_with_final_before_close.events (work_of call_with_final_before_close h refl (an_end _ [])).performs.ledger.legal)
 
 -- The exits.
 
@@ -224,25 +227,25 @@ not_canceled : Succeeded ≢ Canceled
 not_canceled e = cc
 
 pub done_told_as_errored_refused : ¬ (Headline done_told_as_errored)
-done_told_as_errored_refused h = let r = ran_with_ends done_told_as_errored h.causes h.does.0 (an_end _ []) in not_errored (sym ((r.exits.0 refl).1.0))
+done_told_as_errored_refused h = let r = ran_with_ends done_told_as_errored h.causes (work_of done_told_as_errored h refl (an_end _ [])) (an_end _ []) in not_errored (sym ((r.exits.0 refl).1.0))
 
 pub fault_told_as_succeeded_refused : ¬ (Headline fault_told_as_succeeded)
-fault_told_as_succeeded_refused h = let r = ran_with_ends fault_told_as_succeeded h.causes h.does.0 (an_end _ []) in not_errored ((r.exits.0 refl).1.0)
+fault_told_as_succeeded_refused h = let r = ran_with_ends fault_told_as_succeeded h.causes (work_of fault_told_as_succeeded h refl (an_end _ [])) (an_end _ []) in not_errored ((r.exits.0 refl).1.0)
 
 pub halt_told_as_succeeded_refused : ¬ (Headline halt_told_as_succeeded)
-halt_told_as_succeeded_refused h = let r = ran_with_ends halt_told_as_succeeded h.causes h.does.0 (an_end _ []) in not_canceled ((r.exits.0 refl).1.0)
+halt_told_as_succeeded_refused h = let r = ran_with_ends halt_told_as_succeeded h.causes (work_of halt_told_as_succeeded h refl (an_end _ [])) (an_end _ []) in not_canceled ((r.exits.0 refl).1.0)
 
 pub final_unlike_its_close_refused : ¬ (Headline final_unlike_its_close)
-final_unlike_its_close_refused h = false≢true (ordered_complete final_unlike_its_close.events h.does.0.performs.ledger.ordered)
+final_unlike_its_close_refused h = false≢true (ordered_complete final_unlike_its_close.events (work_of final_unlike_its_close h refl (an_end _ [])).performs.ledger.ordered)
 
 pub device_told_otherwise_refused : ¬ (Headline device_told_otherwise)
-device_told_otherwise_refused h = let e = (h.does.0.performs.devices.exits Errored).0 in omega (arith, e)
+device_told_otherwise_refused h = let e = ((work_of device_told_otherwise h refl (an_end _ [])).performs.devices.exits Errored).0 in omega (arith, e)
 
 pub closed_twice_refused : ¬ (Headline closed_twice)
-closed_twice_refused h = let e = h.does.0.performs.devices.shut.0.1 in omega (arith, e)
+closed_twice_refused h = let e = (work_of closed_twice h refl (an_end _ [])).performs.devices.shut.0.1 in omega (arith, e)
 
 pub left_open_refused : ¬ (Headline left_open)
-left_open_refused h = let e = h.does.0.performs.devices.shut.0.1 in omega (arith, e)
+left_open_refused h = let e = (work_of left_open h refl (an_end _ [])).performs.devices.shut.0.1 in omega (arith, e)
 
 -- a run that is done met the end, and no read failed
 read_met : (d : DeviceTold) (ys : List Element) (e : End) → e ≡ Done → OrLeft (Unit {0}) (Reads d) ys e → (d.ended ≡ true) × (d.read_faults ≡ 0)
@@ -257,7 +260,7 @@ met d ys e q (inr x) = let h = ap place (sym q ∙ x.0) in absurd (omega (arith,
 pub failed_read_forgotten_refused : ¬ (Headline failed_read_forgotten)
 failed_read_forgotten_refused h =
     let g = good h.causes h.status.status in
-    let r = ran_with_ends failed_read_forgotten h.causes h.does.0 (an_end _ []) in
+    let r = ran_with_ends failed_read_forgotten h.causes (work_of failed_read_forgotten h refl (an_end _ [])) (an_end _ []) in
     let o = r.outputs.outputs.0 in
     let m = met (r.home 0) o.elements o.end (done o.end o.reported) o.run in
     let n = opened (r.home 0) o.elements o.end (done o.end o.reported) o.run in
@@ -269,7 +272,7 @@ failed_read_forgotten_refused h =
 pub end_never_met_refused : ¬ (Headline end_never_met)
 end_never_met_refused h =
     let g = good h.causes h.status.status in
-    let r = ran_with_ends end_never_met h.causes h.does.0 (an_end _ []) in
+    let r = ran_with_ends end_never_met h.causes (work_of end_never_met h refl (an_end _ [])) (an_end _ []) in
     let o = r.outputs.outputs.0 in
     let m = met (r.home 0) o.elements o.end (done o.end o.reported) o.run in
     let n = opened (r.home 0) o.elements o.end (done o.end o.reported) o.run in
@@ -280,11 +283,11 @@ end_never_met_refused h =
 
 pub fault_without_a_fault_refused : ¬ (Headline fault_without_a_fault)
 fault_without_a_fault_refused h =
-    let r = ran_with_ends fault_without_a_fault h.causes h.does.0 (an_end _ []) in
+    let r = ran_with_ends fault_without_a_fault h.causes (work_of fault_without_a_fault h refl (an_end _ [])) (an_end _ []) in
     false≢true r.ends.caused.0.fault
 
 pub failed_close_not_told_refused : ¬ (Headline failed_close_not_told)
-failed_close_not_told_refused h = let e = h.does.0.performs.devices.failed.0 in omega (arith, e)
+failed_close_not_told_refused h = let e = (work_of failed_close_not_told h refl (an_end _ [])).performs.devices.failed.0 in omega (arith, e)
 
 pub silent_call_refused : ¬ (Headline silent_call)
 silent_call_refused h =

@@ -12,7 +12,7 @@ use Rattle.chunk_core.specs.Texts.{Frame, frame_text, frames_text, payloads_of}
 use Rattle.chunk_core.specs.declared.code.How.{How}
 use Rattle.chunk_core.specs.declared.code.How.TheVariants as how
 use Rattle.res_ledger.specs.declared.event.StreamNo.TheVariants.{Inner}
-use Rattle.device_port.specs.Depot.{content_at}
+use Rattle.device_port.specs.Depot.{DepotTold, content_at}
 use Rattle.device_port.specs.Device.{DeviceTold}
 use Rattle.pull_nodes.specs.Runs.{FirstBytes, OpensThen, OrLeft, Reads}
 use Rattle.run_rules.specs.Outputs.{AreOutputs, IsCutFrame, IsRest}
@@ -25,19 +25,20 @@ use Rattle.flume_cli.specs.Headline.{Call, Headline, SaysTail, TellsWork, run_of
 use Rattle.par_join.proofs.CatRuns.{file_bytes}
 use Rattle.par_join.proofs.Pieces.{bytes_length}
 use Rattle.headline_laws.specs.Calls.{a}
-use Rattle.headline_laws.specs.Surplus.{halted_by_the_tail, halted_for_memory, idle_devices, invented_scopes, memory_at_the_end, opened_again, writes_on}
-use Rattle.headline_laws.proofs.Refusing.{an_end, bytes_of, no_cause, ran_with_ends, rest_none}
+use Rattle.headline_laws.specs.Surplus.{halted_by_the_tail, halted_for_memory, idle_devices, invented_scopes, larger_frame, made_without_words, memory_at_the_end, opened_again, writes_on}
+use Rattle.headline_laws.proofs.Asked.{frames_of, idle_of, work_of}
+use Rattle.headline_laws.proofs.Refusing.{an_end, bytes_of, good, no_cause, ran_with_ends, rest_none, went}
 
 -- two devices more than there are rows
 pub idle_devices_refused : ¬ (Headline idle_devices)
-idle_devices_refused h = let l = h.does.0.performs.devices.few.1.0 in omega (arith, l)
+idle_devices_refused h = let l = (work_of idle_devices h refl (an_end _ [])).performs.devices.few.1.0 in omega (arith, l)
 
 -- two devices for one row
 pub opened_again_refused : ¬ (Headline opened_again)
-opened_again_refused h = let l = h.does.0.performs.devices.few.0 in omega (arith, l)
+opened_again_refused h = let l = (work_of opened_again h refl (an_end _ [])).performs.devices.few.0 in omega (arith, l)
 
 pub invented_scopes_refused : ¬ (Headline invented_scopes)
-invented_scopes_refused h = let l = h.does.0.performs.ledger.scopes.0 in omega (arith, l)
+invented_scopes_refused h = let l = (work_of invented_scopes h refl (an_end _ [])).performs.ledger.scopes.0 in omega (arith, l)
 
 -- What is written begins with a frame of stream 0, if with anything.
 
@@ -66,7 +67,7 @@ from (f ∷ fs) rest t n r s e =
 
 module _ (h : Headline writes_on) where
   abbrev t : TellsWork (cat_work a) writes_on h.causes
-  t = h.does.0
+  t = work_of writes_on h refl (an_end _ [])
 
   abbrev r : Ran (cat_work a) (run_of_call writes_on t.frames t.cut t.rest t.wanted)
   r = ran_with_ends writes_on h.causes t (an_end _ [])
@@ -90,7 +91,7 @@ module _ (h : Headline writes_on) where
       no_cause (run_of_call writes_on t.frames t.cut t.rest t.wanted) (subst (λ (o : Option Frame). is_some o ≡ false) (sym e) refl) m refl (r.ends.caused.0.halted refl)
 
 pub writes_on_refused : ¬ (Headline writes_on)
-writes_on_refused h = behind_none h (h.does.0.cut) (h.does.0.wanted) refl refl
+writes_on_refused h = behind_none h ((work_of writes_on h refl (an_end _ [])).cut) ((work_of writes_on h refl (an_end _ [])).wanted) refl refl
 
 -- How long the frames are of what a file gives.
 
@@ -182,13 +183,13 @@ too_long c h t r is none calm few =
 
 pub memory_at_the_end_refused : ¬ (Headline memory_at_the_end)
 memory_at_the_end_refused h =
-    let t = h.does.0 in
+    let t = work_of memory_at_the_end h refl (an_end _ []) in
     let r = ran_with_ends memory_at_the_end h.causes t (an_end _ []) in
     let l = too_long memory_at_the_end h t r refl refl refl (printed_few memory_at_the_end h.causes t (an_end _ []) how.Done refl refl) in omega (arith, l)
 
 pub halted_for_memory_refused : ¬ (Headline halted_for_memory)
 halted_for_memory_refused h =
-    let t = h.does.0 in
+    let t = work_of halted_for_memory h refl (an_end _ []) in
     let r = ran_with_ends halted_for_memory h.causes t (an_end _ []) in
     let l = too_long halted_for_memory h t r refl refl refl (printed_few halted_for_memory h.causes t (an_end _ []) how.Halted refl refl) in omega (arith, l)
 
@@ -224,7 +225,7 @@ six_bytes (g ∷ gs) f rest more n z some front text few is =
 
 module _ (h : Headline halted_by_the_tail) where
   abbrev tells : TellsWork (cat_work a) halted_by_the_tail h.causes
-  tells = h.does.0
+  tells = work_of halted_by_the_tail h refl (an_end _ [])
 
   abbrev ran_here : Ran (cat_work a) (run_of_call halted_by_the_tail tells.frames tells.cut tells.rest tells.wanted)
   ran_here = ran_with_ends halted_by_the_tail h.causes tells (an_end _ [])
@@ -249,4 +250,33 @@ module _ (h : Headline halted_by_the_tail) where
   by_tail None false e m = no_cause (run_of_call halted_by_the_tail tells.frames tells.cut tells.rest tells.wanted) (subst (λ (o : Option Frame). is_some o ≡ false) (sym e) refl) m refl (ran_here.ends.caused.0.halted refl)
 
 pub halted_by_the_tail_refused : ¬ (Headline halted_by_the_tail)
-halted_by_the_tail_refused h = by_tail h (h.does.0.cut) (h.does.0.wanted) refl refl
+halted_by_the_tail_refused h = by_tail h ((work_of halted_by_the_tail h refl (an_end _ [])).cut) ((work_of halted_by_the_tail h refl (an_end _ [])).wanted) refl refl
+
+-- What is asked of the frames.
+
+-- a frame of six bytes isn't the first of frames of at most four
+small_first : (F : List Frame) (zs : List ℕ) → AllByRecursion (λ (f : Frame). (f.stream < 1) × (0 < length f.payload)) F → AllByRecursion (λ (f : Frame). length f.payload ≤ 4) F → third_of zs ≢ 54 → third_of (frames_text F ++ zs) ≢ 54
+small_first [] zs n s other e = other e
+small_first (f ∷ fs) zs n s other e =
+    let y : 0 ≡ f.stream = let l = n.0.0 in omega (arith, l) in
+    let l = s.0 in
+    let third = ap third_of (append_assoc (frame_text f.stream f.payload) (frames_text fs) zs) ∙ third_by f.stream f.payload (frames_text fs ++ zs) y (omega (arith, l)) in
+    omega (arith, third, e, l)
+
+tail_begins : third_of (tail_text larger_frame.ends larger_frame.events) ≡ 100
+unfolding digits
+tail_begins = refl
+
+pub larger_frame_refused : ¬ (Headline larger_frame)
+larger_frame_refused h =
+    let g = good h.causes h.status.status in
+    let d = frames_of larger_frame h refl (an_end _ []) in
+    let t = d.0 in
+    let w = went h.causes g t.text.said _ (is_some t.cut) t.wanted t.text.tail in
+    let r = ran_with_ends larger_frame h.causes t (an_end _ []) in
+    let rest = rest_none r.values r.home t.frames t.rest t.cut w.broke_is r.outputs.rest in
+    let behind : third_of (t.rest ++ t.text.said) ≡ 100 = ap (λ xs. third_of (xs ++ t.text.said)) rest ∙ (ap third_of w.said_is ∙ tail_begins) in
+    small_first t.frames (t.rest ++ t.text.said) r.outputs.numbers d.1.fits (λ e. omega (arith, e, behind)) (sym (ap third_of (ap bytes_of t.text.written)))
+
+pub made_without_words_refused : ¬ (Headline made_without_words)
+made_without_words_refused h = let e = ap (λ (t : DepotTold). length t.made) (idle_of made_without_words h refl).depot in omega (arith, e)

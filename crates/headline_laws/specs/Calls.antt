@@ -62,8 +62,9 @@ depot_after bytes ds = record { files = Some (file a bytes); made = to_read a �
 abbrev pub output_of : List ℕ → ℕ → SinkTold
 output_of bytes faults = record { written = Some bytes; faults = faults }
 
+-- a source that was read to its end
 abbrev pub no_input : SourceTold
-no_input = record { left = Some []; faults = 0 }
+no_input = record { left = Some []; ended = true; faults = 0 }
 
 -- a row was acquired, closed and finalized, with this exit
 abbrev pub one_row_ledger : Exit → Bool → List Event

@@ -1,5 +1,5 @@
 -- Calls of run that are written out.
-use Rattle.std.specs.Prelude.{ℕ, List, [], ◌∷◌, drop, Some, codes}
+use Rattle.std.specs.Prelude.{ℕ, false, List, [], ◌∷◌, drop, Some, None, codes}
 use Rattle.chunk_core.specs.declared.code.Exit.TheVariants.{Succeeded}
 use Rattle.chunk_core.specs.declared.code.How.TheVariants as how
 use Rattle.res_ledger.specs.declared.event.StreamNo.TheVariants.{Outer}
@@ -16,9 +16,9 @@ use Rattle.flume_cli.specs.Headline.{Call}
 use Rattle.headline_laws.specs.Calls.{a, event, depot_before, no_input, output_of}
 use Rattle.headline_laws.specs.Worked.{whole_file}
 
--- a source that has these bytes, of whose reads so many failed
+-- a source that has these bytes and hasn't told its end, of whose reads so many failed
 abbrev pub source_of : List ℕ → ℕ → SourceTold
-source_of bytes faults = record { left = Some bytes; faults = faults }
+source_of bytes faults = record { left = Some bytes; ended = false; faults = faults }
 
 -- run, over one file, where nothing was done: the source had these bytes and came to this, and standard error was told so
 abbrev pub idle_run : List ℕ → SourceTold → Status → List ℕ → Call
@@ -113,3 +113,11 @@ refusal_printed = record refused_description { out_new = output_of (codes "flume
 -- a file is printed, and the source was read all the same
 abbrev pub read_by_cat : Call
 read_by_cat = record whole_file { source_old = source_of clash 0 }
+
+-- a source that doesn't tell what it has, and never told its end
+abbrev pub silent_source : SourceTold
+silent_source = record { left = None; ended = false; faults = 0 }
+
+-- the source of a description of no stream wasn't read to its end
+abbrev pub end_not_read : Call
+end_not_read = record empty_description { source_old = silent_source; source_new = silent_source }

@@ -3,3 +3,5 @@ pub mod Described
 pub mod Refused
 pub mod Surplus
 pub mod Worked
+pub mod Whole
+pub mod Cases

@@ -9,7 +9,7 @@ use Rattle.device_port.specs.Sink.{SinkTold}
 use Rattle.run_rules.specs.Facts.{to_read, to_write}
 use Rattle.flume_cli.specs.declared.status.Status.TheVariants as status
 use Rattle.flume_cli.specs.Headline.{Call}
-use Rattle.headline_laws.specs.Calls.{a, event, file, closed_device, depot_before, output_of, one_row_ledger, cat_call, file_call}
+use Rattle.headline_laws.specs.Calls.{a, event, file, closed_device, depot_after, depot_before, output_of, one_row_ledger, cat_call, file_call}
 use Rattle.headline_laws.specs.Refused.{whole_device, whole_text}
 use Rattle.headline_laws.specs.Worked.{missing_device}
 
@@ -55,3 +55,11 @@ memory_at_the_end = record (file_call (codes "hello\n") whole_device (output_of 
 abbrev pub halted_for_memory : Call
 halted_for_memory = record (file_call (codes "hello\n") (closed_device (codes "hello\n") 6 true Canceled 0 0)
     (output_of (codes "0 2\nhe\nend 0 halted\nledger 3\n0 acquire 0 0\n0 close 0 canceled\n0 final 0 canceled ok\n") 0) status.Memory how.Halted (one_row_ledger Canceled true)) { err_new = told_of_memory }
+
+-- at most four bytes a frame are asked for, and six are printed in one
+abbrev pub larger_frame : Call
+larger_frame = record (file_call (codes "hello\n") whole_device (output_of whole_text 0) status.Good how.Done (one_row_ledger Succeeded true)) { words = codes "cat" ∷ codes "--chunk" ∷ codes "4" ∷ a ∷ [] }
+
+-- the words mean nothing, there is said to have been no memory to read them, and a device was made
+abbrev pub made_without_words : Call
+made_without_words = record (cat_call (depot_before (codes "hello\n")) (depot_after (codes "hello\n") (idle_device_at 0 (to_read a) ∷ [])) (output_of [] 0) status.Memory how.Done []) { words = codes "dog" ∷ []; err_new = told_of_memory; ends = [] }

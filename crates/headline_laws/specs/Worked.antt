@@ -10,7 +10,7 @@ use Rattle.device_port.specs.Device.{DeviceTold}
 use Rattle.flume_cli.specs.declared.status.Status.TheVariants as status
 use Rattle.par_join.specs.Cat.{to_read}
 use Rattle.flume_cli.specs.Headline.{Call}
-use Rattle.headline_laws.specs.Calls.{a, event, closed_device, output_of, one_row_ledger, cat_call, file_call}
+use Rattle.headline_laws.specs.Calls.{a, event, closed_device, depot_before, output_of, one_row_ledger, cat_call, file_call}
 
 abbrev pub hello_device : ℕ → Bool → Exit → ℕ → ℕ → DeviceTold
 hello_device at ended exit read_faults close_faults = closed_device (codes "hello\n") at ended exit read_faults close_faults
@@ -19,6 +19,10 @@ hello_device at ended exit read_faults close_faults = closed_device (codes "hell
 abbrev pub whole_file : Call
 whole_file = file_call (codes "hello\n") (hello_device 6 true Succeeded 0 0)
     (output_of (codes "0 6\nhello\n\nend 0 done\nledger 3\n0 acquire 0 0\n0 close 0 succeeded\n0 final 0 succeeded ok\n") 0) status.Good how.Done (one_row_ledger Succeeded true)
+
+-- there was no memory to read the words
+abbrev pub words_not_read : Call
+words_not_read = record (cat_call (depot_before (codes "hello\n")) (depot_before (codes "hello\n")) (output_of [] 0) status.Memory how.Done []) { err_new = output_of (codes "flume: out of memory\n") 0; ends = [] }
 
 -- a file of no bytes
 abbrev pub empty_file : Call

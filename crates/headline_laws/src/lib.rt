@@ -3,4 +3,5 @@
 #![tactic(auto)]
 
 pub mod refused;
+pub mod sources;
 pub mod worked;

@@ -2,8 +2,9 @@
 ghost use Rattle.flume_cli.specs.Headline.{Headline};
 ghost use Rattle.headline_laws.specs.Refused.{end_never_met, failed_read_forgotten, invented_output, cut_output, row_of_no_plan, event_of_no_stream, lease_of_no_stream, call_with_row_without_a_final, call_with_final_before_close, kept_device, closed_twice, left_open, failure_not_told, halted_without_a_cause, fault_without_a_fault, failed_close_not_told, done_told_as_errored, fault_told_as_succeeded, halt_told_as_succeeded, final_unlike_its_close, device_told_otherwise, silent_call};
 ghost use Rattle.std.specs.Prelude.{ℕ, ◌<◌, List, length};
-ghost use Rattle.headline_laws.specs.Described.{drained, made_though_refused, never_read, next_stream_refused, read_by_cat, read_on, refusal_printed, refused_though_good, stream_left_out, unread_but_refused, unread_without_a_fault};
-ghost use Rattle.headline_laws.specs.Surplus.{halted_by_the_tail, halted_for_memory, idle_devices, invented_scopes, memory_at_the_end, opened_again, writes_on};
+ghost use Rattle.headline_laws.specs.Cases.{case_of_the_depot, case_of_the_source, failed_case, halted_case, nothing_summed, summary_of_another_seed, summary_without_memory};
+ghost use Rattle.headline_laws.specs.Described.{drained, end_not_read, made_though_refused, never_read, next_stream_refused, read_by_cat, read_on, refusal_printed, refused_though_good, stream_left_out, unread_but_refused, unread_without_a_fault};
+ghost use Rattle.headline_laws.specs.Surplus.{halted_by_the_tail, halted_for_memory, idle_devices, invented_scopes, larger_frame, made_without_words, memory_at_the_end, opened_again, writes_on};
 
 /// Outputs that no device gave.
 pub fn invented_outputs()
@@ -46,6 +47,8 @@ pub fn surplus()
     ensures is_halted_by_the_tail { ¬ (Headline halted_by_the_tail) }
     ensures is_memory_at_the_end { ¬ (Headline memory_at_the_end) }
     ensures is_halted_for_memory { ¬ (Headline halted_for_memory) }
+    ensures is_larger_frame { ¬ (Headline larger_frame) }
+    ensures is_made_without_words { ¬ (Headline made_without_words) }
 {}
 
 /// Ends and statuses without their causes, and causes that nobody was told.
@@ -70,6 +73,18 @@ pub fn wrong_descriptions()
     ensures is_refused_though_good { ¬ (Headline refused_though_good) }
     ensures is_never_read { ¬ (Headline never_read) }
     ensures is_read_by_cat { ¬ (Headline read_by_cat) }
+    ensures is_end_not_read { ¬ (Headline end_not_read) }
     ensures is_made_though_refused { ¬ (Headline made_though_refused) }
     ensures is_refusal_printed { ¬ (Headline refusal_printed) }
+{}
+
+/// Cases that took something from outside, failed, were left, or were summed up otherwise.
+pub fn wrong_cases()
+    ensures is_case_of_the_depot { ¬ (Headline case_of_the_depot) }
+    ensures is_case_of_the_source { ¬ (Headline case_of_the_source) }
+    ensures is_failed_case { ¬ (Headline failed_case) }
+    ensures is_halted_case { ¬ (Headline halted_case) }
+    ensures is_nothing_summed { ¬ (Headline nothing_summed) }
+    ensures is_summary_of_another_seed { ¬ (Headline summary_of_another_seed) }
+    ensures is_summary_without_memory { ¬ (Headline summary_without_memory) }
 {}

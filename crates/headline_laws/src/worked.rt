@@ -1,7 +1,8 @@
 //! Calls that went as they should.
 ghost use Rattle.flume_cli.specs.Headline.{Headline};
+ghost use Rattle.headline_laws.specs.Cases.{case_not_made};
 ghost use Rattle.headline_laws.specs.Described.{empty_description, no_memory, refused_description, unread_source};
-ghost use Rattle.headline_laws.specs.Worked.{whole_file, empty_file, missing_file, read_fault, failed_close, failed_write};
+ghost use Rattle.headline_laws.specs.Worked.{whole_file, empty_file, missing_file, read_fault, failed_close, failed_write, words_not_read};
 
 /// Files that were read whole.
 pub fn whole_files()
@@ -21,10 +22,20 @@ pub fn failed_outputs()
     ensures { Headline failed_write }
 {}
 
+/// Words for which there was no memory.
+pub fn words()
+    ensures { Headline words_not_read }
+{}
+
 /// Descriptions that were refused, not read, or of no stream.
 pub fn descriptions()
     ensures is_refused_description { Headline refused_description }
     ensures is_unread_source { Headline unread_source }
     ensures is_no_memory { Headline no_memory }
     ensures is_empty_description { Headline empty_description }
+{}
+
+/// A case for which there was no memory.
+pub fn cases()
+    ensures { Headline case_not_made }
 {}

@@ -10,7 +10,7 @@ use Rattle.flume_cli.proofs.source.read_source.Goals.{else-loop-piece-test, then
 pub loop-piece-preserved : goal.loop-piece-preserved
 loop-piece-preserved g c =
     let e = c.in_ok-count.ensures in
-    one_piece_more _ _ _ c.loop-piece.bytes.items c.read.new.buf (drop c.min-room.result c.loop-piece.piece) c.extend_from_slice.new.self.items c.in_ok-count.count c.loop-piece.invariant e.count
+    one_piece_more _ _ _ c.loop-piece.bytes.items c.read.new.buf (drop c.min-room.result c.loop-piece.piece) c.extend_from_slice.new.self.items c.in_ok-count.count c.loop-piece.invariant c.if-count-eq0.false e.count
     (omega (arith, e.count, c.read.auto.buf, length-take c.min-room.result c.loop-piece.piece, c.min-room.ensures)) e.ok e.bytes c.in_ok-extend_from_slice.ensures.items
 
 pub returns-in_err-extend_from_slice : goal.returns-in_err-extend_from_slice
@@ -23,5 +23,5 @@ returns g c =
     subst (λ x. IsInput (g.S.Source.told c.args.src.now) (g.S.Source.told c.loop-piece-test.src) x) (sym c.of_vec.ensures) (
     elim c.loop-piece-test.branch [
       | else-loop-piece-test w ↦ subst (λ s. IsInput (g.S.Source.told c.args.src.now) (g.S.Source.told s) c.loop-piece.bytes.items) (sym w.src-is) (read_enough _ _ _ c.loop-piece.invariant (omega arith))
-      | then-loop-piece-test+in_ok-count+then-count-eq0 w ↦ subst (λ s. IsInput (g.S.Source.told c.args.src.now) (g.S.Source.told s) c.loop-piece.bytes.items) (sym w.src-is) (read_to_end _ _ _ _ w.in_ok-count.count w.if-count-eq0.true c.loop-piece.invariant w.in_ok-count.ensures.ok (w.in_ok-count.ensures.end w.if-count-eq0.true))
+      | then-loop-piece-test+in_ok-count+then-count-eq0 w ↦ subst (λ s. IsInput (g.S.Source.told c.args.src.now) (g.S.Source.told s) c.loop-piece.bytes.items) (sym w.src-is) (read_to_end _ _ _ _ w.in_ok-count.count w.if-count-eq0.true (omega arith) c.loop-piece.invariant w.in_ok-count.ensures.ok (w.in_ok-count.ensures.end w.if-count-eq0.true))
     ])

@@ -1,19 +1,32 @@
 -- What the words ask for was done and told.
 use Rattle.std.proofs.Common.{Some, sym, ap, ◌∙◌}
-use Rattle.flume_cli.specs.Asked.{command_asked}
-use Rattle.flume_cli.proofs.Calling.{cat_told, nothing_told, run_told, stopped_told}
+use Rattle.flume_cli.proofs.Calling.{cat_told, early_told, nothing_told, run_told, stopped_told}
+use Rattle.flume_cli.proofs.Generating.{case_told}
 use Rattle.flume_cli.proofs.top.flume.Goals as goal
 
-pub returns-in-Some-Cat : goal.returns-in-Some-Cat
-returns-in-Some-Cat g c =
-    cat_told _ c.in-Some-Cat.path.now _ _ _ _ _ _ _ _ _ c.tell.result (sym c.in-Some-Cat.ensures ∙ ap (λ x. command_asked (Some x)) c.in-Some-Cat.field-0-is) c.run_cat-outcome.ensures c.tell.ensures
+pub returns-in-Ok-Some-Cat : goal.returns-in-Ok-Some-Cat
+returns-in-Ok-Some-Cat g c =
+    let w = c.in-Ok-Some-Cat in
+    cat_told _ w.chunk w.path _ _ _ _ _ _ _ _ _ c.tell.result (sym w.ensures.asked ∙ (w.field-0-is ∙ ap (λ x. Some x) w.field-0-0-is)) c.run_cat-outcome.ensures c.tell.ensures
 
 pub returns-in-Ok : goal.returns-in-Ok
 returns-in-Ok g c =
-    run_told _ _ _ _ _ _ _ _ _ _ _ c.tell-in-Ok.result c.in-Ok.plan (sym c.in-Some-Run.ensures ∙ ap (λ x. command_asked (Some x)) c.in-Some-Run.field-0-is) c.in-Ok.ensures c.run_streams-outcome.ensures c.tell-in-Ok.ensures
+    let w = c.in-Ok-Some-Run in
+    run_told _ w.max_open _ _ _ _ _ _ _ _ _ _ c.tell-in-Ok.result c.in-Ok.plan c.with_most-plan.result (sym w.ensures.asked ∙ (w.field-0-is ∙ ap (λ x. Some x) w.field-0-0-is)) c.in-Ok.ensures c.with_most-plan.ensures
+    c.run_streams-outcome.ensures c.tell-in-Ok.ensures
+
+pub returns-in-Err-read_plan : goal.returns-in-Err-read_plan
+returns-in-Err-read_plan g c =
+    let w = c.in-Ok-Some-Run in
+    stopped_told _ _ _ _ _ _ _ c.in-Err-read_plan.status w.max_open c.refuse.result (sym w.ensures.asked ∙ (w.field-0-is ∙ ap (λ x. Some x) w.field-0-0-is)) c.in-Err-read_plan.ensures c.refuse.ensures
+
+pub returns-in-Ok-None : goal.returns-in-Ok-None
+returns-in-Ok-None g c = nothing_told _ _ _ _ _ _ c.refuse-in-Ok-None.result (sym c.in-Ok-None.ensures.asked ∙ c.in-Ok-None.field-0-is) c.refuse-in-Ok-None.ensures
 
 pub returns-in-Err : goal.returns-in-Err
-returns-in-Err g c = stopped_told _ _ _ _ _ _ _ c.in-Err.status c.refuse.result (sym c.in-Some-Run.ensures ∙ ap (λ x. command_asked (Some x)) c.in-Some-Run.field-0-is) c.in-Err.ensures c.refuse.ensures
+returns-in-Err g c = early_told _ _ _ _ _ _ c.refuse-in-Err.result c.refuse-in-Err.ensures
 
-pub returns-in-None : goal.returns-in-None
-returns-in-None g c = nothing_told _ _ _ _ _ _ c.refuse-in-None.result (sym c.in-None.ensures) c.refuse-in-None.ensures
+pub returns-in-Ok-Some-Gen : goal.returns-in-Ok-Some-Gen
+returns-in-Ok-Some-Gen g c =
+    let w = c.in-Ok-Some-Gen in
+    case_told _ w.seed w.streams w.lines _ _ _ _ _ _ c.generate-generated.result.outcome (sym w.ensures.asked ∙ (w.field-0-is ∙ ap (λ x. Some x) w.field-0-0-is)) c.generate-generated.result.text c.tell_summary.result c.generate-generated.ensures c.tell_summary.ensures
