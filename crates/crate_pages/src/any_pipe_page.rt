@@ -1,7 +1,8 @@
 //! A whole input goes through a pipe that is given as plain data.
 use crate::loads::{bytes, text_of};
-use any_pipe::{AnyPipe, NoTables, Poured, pour_through};
+use any_pipe::{AnyPipe, Poured, pour_through};
 use chunk_core::Code;
+use csv_pipes::Dicts;
 use pull_nodes::Pipe;
 use std::alloc::{AllocError, Global};
 use std::test::Fail;
@@ -15,7 +16,8 @@ fn checked(
     let mut loads = Vec::new(alloc);
     loads.push(bytes(alloc, front)?)?;
     loads.push(bytes(alloc, back)?)?;
-    let Poured { loads, fault } = pour_through::<AnyPipe>(alloc, &NoTables, Pipe::Utf8, loads)?;
+    let tables = Dicts::new(alloc);
+    let Poured { loads, fault } = pour_through::<AnyPipe>(alloc, &tables, Pipe::Utf8, loads)?;
     Ok((text_of(alloc, loads.as_slice())?, fault))
 }
 

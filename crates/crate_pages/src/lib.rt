@@ -6,6 +6,10 @@ mod any_pipe_page;
 #[cfg(test)]
 mod chunk_core_page;
 #[cfg(test)]
+mod command_words_page;
+#[cfg(test)]
+mod csv_pipes_page;
+#[cfg(test)]
 mod device_port_page;
 #[cfg(test)]
 mod flume_cli_page;

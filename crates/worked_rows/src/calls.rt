@@ -1,5 +1,4 @@
 //! The calls below the top call: each once with ample memory.
-use crate::outside::{cat_of, depot_of, filled, run, sink_of};
 use chunk_core::{Code, Exit, How, List, Word};
 use device_port::Failed;
 use flume_cli::tail::tail_of;
@@ -7,6 +6,7 @@ use par_join::{put_frame, run_cat};
 use res_ledger::{LedgerRefused, StreamNo, What, read, text};
 use run_rules::EndOf;
 use std::test::Fail;
+use worked_calls::outside::{cat_of, depot_of, filled, run, sink_of};
 
 #[test]
 fn word_is_its_text(rt: HostRuntime) -> Result<(), Fail> {

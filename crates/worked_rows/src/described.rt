@@ -1,10 +1,10 @@
 //! Descriptions that are refused or can't be read: nothing is done, and standard error is told.
-use crate::outside::{Case, assert_idle, filled, run, run_from, run_of};
-use crate::reports::{DONE, NONE, assert_runs, assert_whole, stream_of};
-use crate::slow::OneByOne;
 use flume_cli::Status;
 use pipeline_desc::{Refusal, RefusalKind};
 use std::test::Fail;
+use worked_calls::outside::{Case, filled, run, run_from, run_of};
+use worked_calls::reports::{DONE, NONE, runs_as, stream_of};
+use worked_calls::slow::OneByOne;
 
 const UNREAD: &str = "flume: cannot read the description\n";
 
@@ -15,20 +15,37 @@ fn refused(kind: RefusalKind, stream: Option<u32>, step: Option<u32>) -> Status 
 /// Of the text, and of the top.
 #[test]
 fn refusals_without_a_stream(rt: HostRuntime) -> Result<(), Fail> {
-    let table: [(&[u8], RefusalKind, &str); 8] = [
+    let table: [(&[u8], RefusalKind, &str); 13] = [
         (b"\xFF", RefusalKind::NotUtf8, "10"),
         (b"[[", RefusalKind::NotToml, "1"),
         (b"x = 1", RefusalKind::UnknownKey, "2"),
         (b"max_open = 4.0", RefusalKind::WrongType, "3"),
         (b"max_open = 0", RefusalKind::OutOfRange, "4"),
         (b"take = 1000000001", RefusalKind::OutOfRange, "4"),
+        (b"[[table]]\npath = 'a'\n", RefusalKind::WrongType, "3"),
         (
-            b"[[table]]\nname = 't'\npath = 'a'\n",
+            b"[[table]]\nname = 't'\npath = 'a'\nkey = 0\n",
+            RefusalKind::UnknownKey,
+            "2",
+        ),
+        (
+            b"[[table]]\nname = 'T'\npath = 'a'\n",
             RefusalKind::OutOfRange,
             "4",
         ),
         (
-            b"[[stream]]\npath = 'a'\n[[stream]]\npath = 'b'\n",
+            b"[[table]]\nname = 't'\npath = ''\n",
+            RefusalKind::OutOfRange,
+            "4",
+        ),
+        (
+            b"[[table]]\nname = 't'\npath = 'a'\n[[table]]\nname = 't'\npath = 'b'\n",
+            RefusalKind::OutOfRange,
+            "4",
+        ),
+        (b"table = 1\n", RefusalKind::WrongType, "3"),
+        (
+            b"table = [{}, {}, {}, {}, {}, {}, {}, {}, {}]\n",
             RefusalKind::OutOfRange,
             "4",
         ),
@@ -40,7 +57,10 @@ fn refusals_without_a_stream(rt: HostRuntime) -> Result<(), Fail> {
         };
         let line = format!(in rt.alloc(); "flume: description refused {number}\n")?;
         let seen = run(&rt, rt.alloc(), &case)?;
-        assert_idle(&rt, &seen, refused(kind, None, None), line.as_str());
+        assert!(rt;
+            seen.is_idle(refused(kind, None, None), line.as_str()),
+            "at {source:?}"
+        );
         assert_eq!(rt; seen.report.status.number(), 3);
     }
     Ok(())
@@ -48,14 +68,28 @@ fn refusals_without_a_stream(rt: HostRuntime) -> Result<(), Fail> {
 
 #[test]
 fn refusals_in_a_stream(rt: HostRuntime) -> Result<(), Fail> {
-    let table: [(&str, RefusalKind, &str); 8] = [
+    let table: [(&str, RefusalKind, &str); 14] = [
+        ("path = 'a'\nwith = 'b'\n", RefusalKind::OutOfRange, "4"),
+        ("path = 'a'\njoin = 'zip'\n", RefusalKind::OutOfRange, "4"),
         (
-            "path = 'a'\nwith = 'b'\njoin = 'zip'\n",
-            RefusalKind::UnknownKey,
-            "2",
+            "path = 'a'\nafter = ['lines']\n",
+            RefusalKind::OutOfRange,
+            "4",
         ),
-        ("path = 'a'\nto = 'b'\n", RefusalKind::UnknownKey, "2"),
-        ("path = 'a'\nuntil = 0\n", RefusalKind::UnknownKey, "2"),
+        (
+            "path = 'a'\nwith = 'b'\njoin = 'cross'\n",
+            RefusalKind::OutOfRange,
+            "4",
+        ),
+        ("path = 'a'\nto = 1\n", RefusalKind::WrongType, "3"),
+        ("path = 'a'\nto = ''\n", RefusalKind::OutOfRange, "4"),
+        ("path = 'a'\nto = 'a'\n", RefusalKind::OutOfRange, "4"),
+        (
+            "path = 'a'\nwith = 'b'\njoin = 'append'\nto = 'b'\n",
+            RefusalKind::OutOfRange,
+            "4",
+        ),
+        ("path = 'a'\nuntil = 0\n", RefusalKind::BadUntil, "8"),
         ("", RefusalKind::WrongType, "3"),
         ("path = 'a'\nsteps = 'lines'\n", RefusalKind::WrongType, "3"),
         ("path = 'a'\non_fault = 1\n", RefusalKind::WrongType, "3"),
@@ -70,15 +104,43 @@ fn refusals_in_a_stream(rt: HostRuntime) -> Result<(), Fail> {
         let text = format!(in rt.alloc(); "[[stream]]\n{keys}")?;
         let line = format!(in rt.alloc(); "flume: description refused {number} stream 0\n")?;
         let seen = run(&rt, rt.alloc(), &run_of(text.as_str(), b"hello\n"))?;
-        assert_idle(&rt, &seen, refused(kind, Some(0), None), line.as_str());
+        assert!(rt;
+            seen.is_idle(refused(kind, Some(0), None), line.as_str()),
+            "at {keys:?}"
+        );
     }
     Ok(())
 }
 
 #[test]
 fn refusals_of_a_step(rt: HostRuntime) -> Result<(), Fail> {
-    let table: [(&str, RefusalKind, u32, &str); 7] = [
+    let table: [(&str, RefusalKind, u32, &str); 12] = [
         ("'take x'", RefusalKind::OutOfRange, 0, "4 stream 0 step 0"),
+        (
+            "'csv', 'field x'",
+            RefusalKind::OutOfRange,
+            1,
+            "4 stream 0 step 1",
+        ),
+        (
+            "'csv', 'lookup t'",
+            RefusalKind::OutOfRange,
+            1,
+            "4 stream 0 step 1",
+        ),
+        (
+            "'csv', 'lookup q 0'",
+            RefusalKind::UnknownTable,
+            1,
+            "7 stream 0 step 1",
+        ),
+        ("'csv 1'", RefusalKind::UnknownStep, 0, "5 stream 0 step 0"),
+        (
+            "'lines', 'csv'",
+            RefusalKind::KindClash,
+            1,
+            "6 stream 0 step 1",
+        ),
         (
             "'utf8', 'chunk 65'",
             RefusalKind::OutOfRange,
@@ -86,7 +148,7 @@ fn refusals_of_a_step(rt: HostRuntime) -> Result<(), Fail> {
             "4 stream 0 step 1",
         ),
         ("'frob'", RefusalKind::UnknownStep, 0, "5 stream 0 step 0"),
-        ("'csv'", RefusalKind::UnknownStep, 0, "5 stream 0 step 0"),
+        ("'field'", RefusalKind::UnknownStep, 0, "5 stream 0 step 0"),
         (
             "'lines', 'take'",
             RefusalKind::UnknownStep,
@@ -105,11 +167,62 @@ fn refusals_of_a_step(rt: HostRuntime) -> Result<(), Fail> {
         let text = stream_of(rt.alloc(), steps)?;
         let line = format!(in rt.alloc(); "flume: description refused {tells}\n")?;
         let seen = run(&rt, rt.alloc(), &run_of(text.as_str(), b"hello\n"))?;
-        assert_idle(
-            &rt,
-            &seen,
-            refused(kind, Some(0), Some(step)),
-            line.as_str(),
+        assert!(rt;
+            seen.is_idle(refused(kind, Some(0), Some(step)), line.as_str()),
+            "at {steps}"
+        );
+    }
+    Ok(())
+}
+
+/// Steps are numbered through a stream: those before the join, the join, and those after it.
+#[test]
+fn refusals_of_a_join(rt: HostRuntime) -> Result<(), Fail> {
+    let table: [(&str, RefusalKind, u32, &str); 6] = [
+        (
+            "join = 'zip'\n",
+            RefusalKind::KindClash,
+            0,
+            "6 stream 0 step 0",
+        ),
+        (
+            "join = 'merge'\nafter = ['lines']\n",
+            RefusalKind::KindClash,
+            0,
+            "6 stream 0 step 0",
+        ),
+        (
+            "steps = ['csv']\njoin = 'zip'\n",
+            RefusalKind::KindClash,
+            1,
+            "6 stream 0 step 1",
+        ),
+        (
+            "steps = ['lines']\njoin = 'zip'\nafter = ['lines']\n",
+            RefusalKind::KindClash,
+            2,
+            "6 stream 0 step 2",
+        ),
+        (
+            "steps = ['lines']\njoin = 'zip'\nafter = ['csv 1']\n",
+            RefusalKind::UnknownStep,
+            2,
+            "5 stream 0 step 2",
+        ),
+        (
+            "steps = ['lines']\njoin = 'append'\nafter = ['lookup q 0']\n",
+            RefusalKind::UnknownTable,
+            2,
+            "7 stream 0 step 2",
+        ),
+    ];
+    for (keys, kind, step, tells) in table {
+        let text = format!(in rt.alloc(); "[[stream]]\npath = 'a'\nwith = 'b'\n{keys}")?;
+        let line = format!(in rt.alloc(); "flume: description refused {tells}\n")?;
+        let seen = run(&rt, rt.alloc(), &run_of(text.as_str(), b"hello\n"))?;
+        assert!(rt;
+            seen.is_idle(refused(kind, Some(0), Some(step)), line.as_str()),
+            "at {keys:?}"
         );
     }
     Ok(())
@@ -133,13 +246,13 @@ fn longest_description(rt: HostRuntime) -> Result<(), Fail> {
         source: &most,
         ..run_of("", b"hello\n")
     };
-    assert_runs(&rt, rt.alloc(), &case, Status::Good, b"", NONE)?;
+    assert!(rt; runs_as(&rt, rt.alloc(), &case, Status::Good, b"", NONE)?);
 
     let more = filled(rt.alloc(), &[("#", 1_048_580)])?;
     let mut src = OneByOne::new(rt.alloc(), &more, None)?;
     let seen = run_from(&rt, rt.alloc(), &mut src, &case)?;
     let status = refused(RefusalKind::TooLong, None, None);
-    assert_idle(&rt, &seen, status, "flume: description refused 9\n");
+    assert!(rt; seen.is_idle(status, "flume: description refused 9\n"));
     assert_eq!(rt; src.given(), 1_048_577);
     Ok(())
 }
@@ -164,7 +277,11 @@ fn source_that_fails(rt: HostRuntime) -> Result<(), Fail> {
             ..run_of("", b"hello\n")
         };
         let seen = run(&rt, rt.alloc(), &case)?;
-        assert_idle(&rt, &seen, Status::Unread, UNREAD);
+        assert!(rt;
+            seen.is_idle(Status::Unread, UNREAD),
+            "at read {nth} of {} bytes",
+            source.len()
+        );
         assert_eq!(rt; seen.report.status.number(), 6);
     }
     Ok(())
@@ -177,11 +294,11 @@ fn source_that_gives_one_byte_a_read(rt: HostRuntime) -> Result<(), Fail> {
     let mut src = OneByOne::new(rt.alloc(), case.source, None)?;
     let seen = run_from(&rt, rt.alloc(), &mut src, &case)?;
     let frames = b"0 6\nhello\n\n";
-    assert_whole(&rt, rt.alloc(), &seen, Status::Good, frames, DONE)?;
+    assert!(rt; seen.is_whole(rt.alloc(), Status::Good, frames, DONE)?);
 
     let mut src = OneByOne::new(rt.alloc(), case.source, Some(10))?;
     let seen = run_from(&rt, rt.alloc(), &mut src, &case)?;
-    assert_idle(&rt, &seen, Status::Unread, UNREAD);
+    assert!(rt; seen.is_idle(Status::Unread, UNREAD));
     assert_eq!(rt; src.given(), 10);
     Ok(())
 }

@@ -1,11 +1,9 @@
 //! Runs of which a call on the outside fails.
-use crate::outside::{
-    Case, assert_device, assert_end, assert_one_row, assert_printed, cat_of, filled, run,
-};
 use chunk_core::{Code, Exit, How};
 use device_port::Act;
 use flume_cli::Status;
 use std::test::Fail;
+use worked_calls::outside::{Case, cat_of, filled, run};
 
 #[test]
 fn failed_read_ends_the_frames(rt: HostRuntime) -> Result<(), Fail> {
@@ -18,10 +16,10 @@ fn failed_read_ends_the_frames(rt: HostRuntime) -> Result<(), Fail> {
     let tail =
         "\nend 0 fault read\nledger 3\n0 acquire 0 0\n0 close 0 errored\n0 final 0 errored ok\n";
     let text = filled(rt.alloc(), &[("0 4096\n", 4096), (tail, 0)])?;
-    assert_printed(&rt, &seen, Status::Faulty, &text);
-    assert_end(&rt, &seen, How::Fault(Code::Read));
-    assert_one_row(&rt, &seen, Exit::Errored, true);
-    assert_device(&rt, &seen, Some(Exit::Errored));
+    assert!(rt; seen.printed(Status::Faulty, &text));
+    assert!(rt; seen.ended(How::Fault(Code::Read)));
+    assert!(rt; seen.has_one_row(Exit::Errored, true));
+    assert!(rt; seen.device_came_back(Some(Exit::Errored)));
     Ok(())
 }
 
@@ -34,11 +32,11 @@ fn failed_close_is_unclean(rt: HostRuntime) -> Result<(), Fail> {
     let seen = run(&rt, rt.alloc(), &case)?;
     let text =
         b"0 6\nhello\n\nend 0 done\nledger 3\n0 acquire 0 0\n0 close 0 succeeded\n0 final 0 succeeded fault\n";
-    assert_printed(&rt, &seen, Status::Unclean, text);
+    assert!(rt; seen.printed(Status::Unclean, text));
     assert_eq!(rt; seen.report.status.number(), 7);
-    assert_end(&rt, &seen, How::Done);
-    assert_one_row(&rt, &seen, Exit::Succeeded, false);
-    assert_device(&rt, &seen, Some(Exit::Succeeded));
+    assert!(rt; seen.ended(How::Done));
+    assert!(rt; seen.has_one_row(Exit::Succeeded, false));
+    assert!(rt; seen.device_came_back(Some(Exit::Succeeded)));
     Ok(())
 }
 
@@ -51,9 +49,9 @@ fn fault_tells_more_than_a_failed_close(rt: HostRuntime) -> Result<(), Fail> {
     let seen = run(&rt, rt.alloc(), &case)?;
     let text =
         b"end 0 fault read\nledger 3\n0 acquire 0 0\n0 close 0 errored\n0 final 0 errored fault\n";
-    assert_printed(&rt, &seen, Status::Faulty, text);
-    assert_one_row(&rt, &seen, Exit::Errored, false);
-    assert_device(&rt, &seen, Some(Exit::Errored));
+    assert!(rt; seen.printed(Status::Faulty, text));
+    assert!(rt; seen.has_one_row(Exit::Errored, false));
+    assert!(rt; seen.device_came_back(Some(Exit::Errored)));
     Ok(())
 }
 
@@ -64,12 +62,12 @@ fn failed_write_halts_the_stream(rt: HostRuntime) -> Result<(), Fail> {
         ..cat_of(b"hello\n")
     };
     let seen = run(&rt, rt.alloc(), &case)?;
-    assert_printed(&rt, &seen, Status::NotWritten, b"");
+    assert!(rt; seen.printed(Status::NotWritten, b""));
     assert_eq!(rt; seen.report.status.number(), 4);
     assert_eq!(rt; seen.out.faults(), 1);
-    assert_end(&rt, &seen, How::Halted);
-    assert_one_row(&rt, &seen, Exit::Canceled, true);
-    assert_device(&rt, &seen, Some(Exit::Canceled));
+    assert!(rt; seen.ended(How::Halted));
+    assert!(rt; seen.has_one_row(Exit::Canceled, true));
+    assert!(rt; seen.device_came_back(Some(Exit::Canceled)));
     Ok(())
 }
 
@@ -102,10 +100,10 @@ fn nothing_is_written_after_a_failed_write(rt: HostRuntime) -> Result<(), Fail> 
             Status::Good
         };
         assert!(rt; cut <= text.len());
-        assert_printed(&rt, &seen, status, &text[..cut]);
+        assert!(rt; seen.printed(status, &text[..cut]), "at {nth}");
         assert_eq!(rt; seen.out.faults(), u64::from(failed), "at {nth}");
-        assert_one_row(&rt, &seen, exit, true);
-        assert_device(&rt, &seen, Some(exit));
+        assert!(rt; seen.has_one_row(exit, true), "at {nth}");
+        assert!(rt; seen.device_came_back(Some(exit)), "at {nth}");
     }
     Ok(())
 }

@@ -1,4 +1,4 @@
-//! Runs of the top call over an outside in memory, and what they print, written out by hand.
+//! Calls of `cat`, words, and descriptions that are refused, over an outside in memory, with what they print written out by hand.
 #![tactic(auto)]
 
 #[cfg(test)]
@@ -9,16 +9,6 @@ mod described;
 mod failing;
 #[cfg(test)]
 mod memory;
-#[cfg(test)]
-mod outside;
-#[cfg(test)]
-mod reports;
-#[cfg(test)]
-mod run_faults;
-#[cfg(test)]
-mod run_whole;
-#[cfg(test)]
-mod slow;
 #[cfg(test)]
 mod whole;
 #[cfg(test)]

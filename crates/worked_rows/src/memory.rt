@@ -1,9 +1,9 @@
 //! What is seen where memory is wanting.
-use crate::outside::{Case, Seen, cat_of, run, run_of};
-use crate::reports::{CAUGHT, assert_returned};
 use device_port::Act;
 use flume_cli::Status;
 use std::process::Abort;
+use worked_calls::outside::{Case, Seen, cat_of, run, run_of};
+use worked_calls::reports::CAUGHT;
 
 /// The tail of a `cat` of which nothing failed.
 const TAIL: &str = "end 0 done\nledger 3\n0 acquire 0 0\n0 close 0 succeeded\n\
@@ -33,6 +33,28 @@ fn wanting_memory_of_a_run_is_told(rt: HostRuntime) {
     }
 }
 
+/// The same of words: they are read, or nothing is done.
+#[test]
+fn wanting_memory_of_words_is_told(rt: HostRuntime) {
+    let words: [&[&str]; 2] = [&["cat", "--chunk", "0", "a"], &["run", "--max-open=65"]];
+    for words in words {
+        let case = Case {
+            words,
+            ..cat_of(b"hello\n")
+        };
+        if let Ok(seen) = run(&rt, rt.alloc(), &case) {
+            let line = match seen.report.status {
+                Status::Memory => b"flume: out of memory\n".as_slice(),
+                _ => b"flume: bad command line\n".as_slice(),
+            };
+            assert!(rt; matches!(seen.report.status, Status::Memory | Status::BadWords));
+            assert!(rt; seen.err.written() == line || seen.err.starved() == 1);
+            assert!(rt; seen.out.written().is_empty());
+            assert_eq!(rt; seen.depot.made().len(), 0);
+        }
+    }
+}
+
 /// The same of a description that is refused: nothing is done.
 #[test]
 fn wanting_memory_of_a_refusal_is_told(rt: HostRuntime) {
@@ -52,7 +74,7 @@ fn wanting_memory_of_a_refusal_is_told(rt: HostRuntime) {
 fn assert_told(rt: &impl Abort, seen: &Seen, frames: &[u8], tail: &str) {
     let out = seen.out.written();
     let err = seen.err.written();
-    assert_returned(rt, seen);
+    assert!(rt; seen.returned());
     match seen.report.status {
         Status::Memory => {
             assert_eq!(rt; err, b"flume: out of memory\n".as_slice());

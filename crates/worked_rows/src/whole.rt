@@ -1,22 +1,21 @@
 //! Runs of which nothing fails, and a file that isn't there.
-use crate::outside::{
-    Case, assert_device, assert_end, assert_one_row, assert_printed, cat_of, event, filled, run,
-};
 use chunk_core::{Code, Exit, How};
 use flume_cli::Status;
-use res_ledger::What;
+use res_ledger::{StreamNo, What};
+use run_rules::EndOf;
 use std::test::Fail;
+use worked_calls::outside::{Case, cat_of, event, filled, run};
 
 #[test]
 fn hello_is_one_frame(rt: HostRuntime) -> Result<(), Fail> {
     let seen = run(&rt, rt.alloc(), &cat_of(b"hello\n"))?;
     let text =
         b"0 6\nhello\n\nend 0 done\nledger 3\n0 acquire 0 0\n0 close 0 succeeded\n0 final 0 succeeded ok\n";
-    assert_printed(&rt, &seen, Status::Good, text);
+    assert!(rt; seen.printed(Status::Good, text));
     assert_eq!(rt; seen.report.status.number(), 0);
-    assert_end(&rt, &seen, How::Done);
-    assert_one_row(&rt, &seen, Exit::Succeeded, true);
-    assert_device(&rt, &seen, Some(Exit::Succeeded));
+    assert!(rt; seen.ended(How::Done));
+    assert!(rt; seen.has_one_row(Exit::Succeeded, true));
+    assert!(rt; seen.device_came_back(Some(Exit::Succeeded)));
     Ok(())
 }
 
@@ -25,10 +24,10 @@ fn empty_file_has_no_frame(rt: HostRuntime) -> Result<(), Fail> {
     let seen = run(&rt, rt.alloc(), &cat_of(b""))?;
     let text =
         b"end 0 done\nledger 3\n0 acquire 0 0\n0 close 0 succeeded\n0 final 0 succeeded ok\n";
-    assert_printed(&rt, &seen, Status::Good, text);
-    assert_end(&rt, &seen, How::Done);
-    assert_one_row(&rt, &seen, Exit::Succeeded, true);
-    assert_device(&rt, &seen, Some(Exit::Succeeded));
+    assert!(rt; seen.printed(Status::Good, text));
+    assert!(rt; seen.ended(How::Done));
+    assert!(rt; seen.has_one_row(Exit::Succeeded, true));
+    assert!(rt; seen.device_came_back(Some(Exit::Succeeded)));
     Ok(())
 }
 
@@ -39,14 +38,19 @@ fn missing_file_is_a_fault_of_open(rt: HostRuntime) -> Result<(), Fail> {
         ..cat_of(b"hello\n")
     };
     let seen = run(&rt, rt.alloc(), &case)?;
-    assert_printed(
-        &rt,
-        &seen,
-        Status::Faulty,
-        b"end 0 fault open\nledger 1\n0 close 0 errored\n",
+    assert!(rt;
+        seen.printed(
+            Status::Faulty,
+            b"end 0 fault open\nledger 1\n0 close 0 errored\n"
+        )
     );
     assert_eq!(rt; seen.report.status.number(), 1);
-    assert_end(&rt, &seen, How::Fault(Code::Open));
+    let how = How::Fault(Code::Open);
+    let end = EndOf {
+        who: StreamNo::Inner(0),
+        how,
+    };
+    assert_eq!(rt; seen.report.ends.as_slice(), [end].as_slice());
     let closed = event(
         0,
         What::Close {
@@ -55,7 +59,7 @@ fn missing_file_is_a_fault_of_open(rt: HostRuntime) -> Result<(), Fail> {
         },
     );
     assert_eq!(rt; seen.report.ledger.as_slice(), [closed].as_slice());
-    assert_device(&rt, &seen, None);
+    assert!(rt; seen.device_came_back(None));
     Ok(())
 }
 
@@ -69,8 +73,8 @@ fn long_file_is_cut_into_frames(rt: HostRuntime) -> Result<(), Fail> {
         rt.alloc(),
         &[("0 4096\n", 4096), ("\n0 904\n", 904), (tail, 0)],
     )?;
-    assert_printed(&rt, &seen, Status::Good, &text);
-    assert_one_row(&rt, &seen, Exit::Succeeded, true);
-    assert_device(&rt, &seen, Some(Exit::Succeeded));
+    assert!(rt; seen.printed(Status::Good, &text));
+    assert!(rt; seen.has_one_row(Exit::Succeeded, true));
+    assert!(rt; seen.device_came_back(Some(Exit::Succeeded)));
     Ok(())
 }

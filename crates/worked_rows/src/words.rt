@@ -1,20 +1,48 @@
-//! Words that mean nothing, and the longest path.
-use crate::outside::{Case, assert_device, assert_idle, assert_printed, cat_of, filled, run};
+//! What the words ask for, and words that mean nothing.
+use chunk_core::{Exit, How};
 use flume_cli::Status;
 use std::test::Fail;
+use worked_calls::outside::{Case, cat_of, filled, run, run_of};
 
 const REFUSAL: &str = "flume: bad command line\n";
 
-const MEANINGLESS: [&[&str]; 9] = [
+const TAIL: &str =
+    "end 0 done\nledger 3\n0 acquire 0 0\n0 close 0 succeeded\n0 final 0 succeeded ok\n";
+
+const MEANINGLESS: [&[&str]; 33] = [
     &[],
+    &[""],
     &["cat"],
-    &["cat", "-x"],
-    &["cat", "-"],
     &["cat", ""],
+    &["cat", "-x"],
+    &["cat", "---", "a"],
+    &["cat", "--"],
     &["cat", "a", "b"],
-    &["run", "a"],
     &["cat", "a", "run"],
+    &["cat", "-h"],
+    &["cat", "--help"],
+    &["cat", "-V"],
+    &["cat", "--version"],
+    &["cat", "--chunk", "a"],
+    &["cat", "a", "--chunk"],
+    &["cat", "--chunk=", "a"],
+    &["cat", "--chunk", "0", "a"],
+    &["cat", "--chunk", "65537", "a"],
+    &["cat", "--chunk", "18446744073709551620", "a"],
+    &["cat", "--chunk", "-4", "a"],
+    &["cat", "--chunk", " 4", "a"],
+    &["cat", "--chunk=4", "--chunk=4", "a"],
+    &["cat", "--chunk", "4", "a", "--chunk", "5"],
+    &["cat", "--chun", "4", "a"],
+    &["run", "a"],
+    &["run", "-"],
+    &["run", "--max-open", "0"],
+    &["run", "--max-open", "65"],
+    &["run", "--max-open"],
+    &["run", "--chunk", "4"],
     &["dog", "a"],
+    &["help"],
+    &["--help"],
 ];
 
 #[test]
@@ -25,8 +53,8 @@ fn other_words_mean_nothing(rt: HostRuntime) -> Result<(), Fail> {
             ..cat_of(b"hello\n")
         };
         let seen = run(&rt, rt.alloc(), &case)?;
-        assert_idle(&rt, &seen, Status::BadWords, REFUSAL);
-        assert_eq!(rt; seen.report.status.number(), 2);
+        assert!(rt; seen.is_idle(Status::BadWords, REFUSAL), "at {words:?}");
+        assert_eq!(rt; seen.report.status.number(), 2, "at {words:?}");
     }
     Ok(())
 }
@@ -39,25 +67,122 @@ fn too_long_a_path_means_nothing(rt: HostRuntime) -> Result<(), Fail> {
         ..cat_of(b"hello\n")
     };
     let seen = run(&rt, rt.alloc(), &case)?;
-    assert_idle(&rt, &seen, Status::BadWords, REFUSAL);
+    assert!(rt; seen.is_idle(Status::BadWords, REFUSAL));
+    Ok(())
+}
+
+const PATHS: &[&[&str]] = &[
+    &["cat", "-"],
+    &["cat", "--", "-x"],
+    &["cat", "--", "--chunk=4"],
+    &["cat", "help"],
+];
+
+const NOT_THERE: &[u8] = b"end 0 fault open\nledger 1\n0 close 0 errored\n";
+
+#[test]
+fn other_words_are_paths(rt: HostRuntime) -> Result<(), Fail> {
+    for words in PATHS {
+        let case = Case {
+            words,
+            ..cat_of(b"hello\n")
+        };
+        let seen = run(&rt, rt.alloc(), &case)?;
+        assert!(rt; seen.printed(Status::Faulty, NOT_THERE), "at {words:?}");
+        assert!(rt; seen.device_came_back(None), "at {words:?}");
+    }
     Ok(())
 }
 
 #[test]
-fn longest_path_is_a_path(rt: HostRuntime) -> Result<(), Fail> {
+fn the_longest_path_is_one(rt: HostRuntime) -> Result<(), Fail> {
     let long = String::from_utf8(filled(rt.alloc(), &[("", 1024)])?)?;
     let case = Case {
         words: &["cat", long.as_str()],
         ..cat_of(b"hello\n")
     };
     let seen = run(&rt, rt.alloc(), &case)?;
-    assert_printed(
-        &rt,
-        &seen,
-        Status::Faulty,
-        b"end 0 fault open\nledger 1\n0 close 0 errored\n",
-    );
-    assert_device(&rt, &seen, None);
+    assert!(rt; seen.printed(Status::Faulty, NOT_THERE));
+    assert!(rt; seen.device_came_back(None));
+    Ok(())
+}
+
+/// Frames have as many bytes as the option tells, however it is spelled.
+#[test]
+fn chunk_limits_frames(rt: HostRuntime) -> Result<(), Fail> {
+    let table: [(&[&str], &str); 9] = [
+        (&["cat", "--chunk", "4", "a"], "0 4\nhell\n0 2\no\n\n"),
+        (&["cat", "--chunk=4", "a"], "0 4\nhell\n0 2\no\n\n"),
+        (&["cat", "a", "--chunk", "4"], "0 4\nhell\n0 2\no\n\n"),
+        (&["cat", "a", "--chunk=4"], "0 4\nhell\n0 2\no\n\n"),
+        (
+            &["cat", "--chunk", "+0004", "--", "a"],
+            "0 4\nhell\n0 2\no\n\n",
+        ),
+        (
+            &["cat", "--chunk", "1", "a"],
+            "0 1\nh\n0 1\ne\n0 1\nl\n0 1\nl\n0 1\no\n0 1\n\n\n",
+        ),
+        (&["cat", "--chunk", "6", "a"], "0 6\nhello\n\n"),
+        (&["cat", "--chunk", "65536", "a"], "0 6\nhello\n\n"),
+        (&["cat", "a", "--"], "0 6\nhello\n\n"),
+    ];
+    for (words, frames) in table {
+        let case = Case {
+            words,
+            ..cat_of(b"hello\n")
+        };
+        let seen = run(&rt, rt.alloc(), &case)?;
+        let text = format!(in rt.alloc(); "{frames}{TAIL}")?;
+        assert!(rt; seen.printed(Status::Good, text.as_bytes()), "at {words:?}");
+        assert!(rt; seen.ended(How::Done), "at {words:?}");
+        assert!(rt; seen.has_one_row(Exit::Succeeded, true), "at {words:?}");
+        assert!(rt;
+            seen.device_came_back(Some(Exit::Succeeded)),
+            "at {words:?}"
+        );
+    }
+    Ok(())
+}
+
+/// A frame may have as many bytes as are asked for, and no more.
+#[test]
+fn largest_chunk_is_one_frame(rt: HostRuntime) -> Result<(), Fail> {
+    let file = filled(rt.alloc(), &[("", 65_537)])?;
+    let case = Case {
+        words: &["cat", "--chunk", "65536", "a"],
+        ..cat_of(&file)
+    };
+    let seen = run(&rt, rt.alloc(), &case)?;
+    let mut text = filled(rt.alloc(), &[("0 65536\n", 65_536), ("\n0 1\nx\n", 0)])?;
+    text.extend_from_slice(TAIL.as_bytes())?;
+    assert!(rt; seen.printed(Status::Good, &text));
+    Ok(())
+}
+
+/// A description runs alike whatever number of open streams is told, as it has one stream.
+#[test]
+fn max_open_is_taken(rt: HostRuntime) -> Result<(), Fail> {
+    let description = "max_open = 2\n[[stream]]\npath = 'a'\n";
+    let plain = run(&rt, rt.alloc(), &run_of(description, b"hello\n"))?;
+    assert_eq!(rt; plain.report.status, Status::Good);
+    let table: [&[&str]; 4] = [
+        &["run", "--max-open", "1"],
+        &["run", "--max-open=64"],
+        &["run", "--max-open", "+1", "--"],
+        &["run", "--"],
+    ];
+    for words in table {
+        let case = Case {
+            words,
+            ..run_of(description, b"hello\n")
+        };
+        let seen = run(&rt, rt.alloc(), &case)?;
+        assert!(rt;
+            seen.printed(Status::Good, plain.out.written()),
+            "at {words:?}"
+        );
+    }
     Ok(())
 }
 

@@ -8,11 +8,10 @@ use flume_cli::{Report, Status, flume};
 use res_ledger::{Event, StreamNo, What};
 use run_rules::EndOf;
 use std::alloc::{AllocError, Global};
-use std::process::Abort;
 use std::sync::Wait;
 use std::thread::Threads;
 
-/// What is asked of the program, over one file with the path `a`.
+/// What is asked of the program, over a file with the path `a` and others.
 #[derive(Clone, Copy, Debug)]
 pub struct Case<'a> {
     pub words: &'a [&'a str],
@@ -21,8 +20,12 @@ pub struct Case<'a> {
     /// The numbers, from 1, of the reads of standard input that fail.
     pub source_fails: &'a [u32],
     pub file: &'a [u8],
-    /// The calls on the file that fail.
+    /// The other files, by path.
+    pub others: &'a [(&'a str, &'a [u8])],
+    /// The calls on the file `a` that fail.
     pub trips: &'a [(Act, u32)],
+    /// The calls on files of other paths that fail.
+    pub other_trips: &'a [(&'a str, Act, u32)],
     /// The numbers, from 1, of the writes to the output that fail.
     pub out_fails: &'a [u32],
     /// The numbers, from 1, of the writes to standard error that fail.
@@ -36,7 +39,9 @@ pub fn cat_of(file: &[u8]) -> Case<'_> {
         source: b"not read",
         source_fails: &[],
         file,
+        others: &[],
         trips: &[],
+        other_trips: &[],
         out_fails: &[],
         err_fails: &[],
     }
@@ -76,33 +81,53 @@ fn numbers_of(alloc: Global, numbers: &[u32]) -> Result<List<u32>, AllocError> {
     Ok(list)
 }
 
-fn files_of(alloc: Global, bytes: &[u8]) -> Result<List<FileOf>, AllocError> {
-    let mut files = List::new(alloc);
-    files.push(FileOf {
-        path: Word::of(alloc, "a")?,
+fn file_of(alloc: Global, path: &str, bytes: &[u8]) -> Result<FileOf, AllocError> {
+    Ok(FileOf {
+        path: Word::of(alloc, path)?,
         bytes: Line::of_vec(Vec::from_slice(alloc, bytes)?),
-    })?;
+    })
+}
+
+fn files_of(alloc: Global, case: &Case) -> Result<List<FileOf>, AllocError> {
+    let mut files = List::new(alloc);
+    files.push(file_of(alloc, "a", case.file)?)?;
+    for (path, bytes) in case.others {
+        files.push(file_of(alloc, path, bytes)?)?;
+    }
     Ok(files)
 }
 
-fn trips_of(alloc: Global, calls: &[(Act, u32)]) -> Result<List<Trip>, AllocError> {
-    let mut trips = List::new(alloc);
+fn trip_of(alloc: Global, path: &str, act: Act, nth: u32) -> Result<Trip, AllocError> {
+    Ok(Trip {
+        path: Word::of(alloc, path)?,
+        act,
+        nth,
+    })
+}
+
+fn add_trips(
+    alloc: Global,
+    trips: &mut List<Trip>,
+    path: &str,
+    calls: &[(Act, u32)],
+) -> Result<(), AllocError> {
     for (act, nth) in calls {
-        trips.push(Trip {
-            path: Word::of(alloc, "a")?,
-            act: *act,
-            nth: *nth,
-        })?;
+        trips.push(trip_of(alloc, path, *act, *nth)?)?;
+    }
+    Ok(())
+}
+
+fn trips_of(alloc: Global, case: &Case) -> Result<List<Trip>, AllocError> {
+    let mut trips = List::new(alloc);
+    add_trips(alloc, &mut trips, "a", case.trips)?;
+    for (path, act, nth) in case.other_trips {
+        trips.push(trip_of(alloc, path, *act, *nth)?)?;
     }
     Ok(trips)
 }
 
 pub fn depot_of(alloc: Global, case: &Case) -> Result<MemDepot, AllocError> {
-    MemDepot::new(
-        alloc,
-        files_of(alloc, case.file)?,
-        trips_of(alloc, case.trips)?,
-    )
+    MemDepot::new(alloc, files_of(alloc, case)?, trips_of(alloc, case)?)
 }
 
 pub fn sink_of(alloc: Global, fails: &[u32]) -> Result<MemSink, AllocError>
@@ -146,53 +171,55 @@ pub fn run_from<R: Threads + Wait + Sync, S: Source>(
     })
 }
 
-/// Nothing was done: no device was made, nothing printed, and standard error was told this.
-pub fn assert_idle(rt: &impl Abort, seen: &Seen, status: Status, line: &str) {
-    assert_eq!(rt; seen.report.status, status);
-    assert_eq!(rt; seen.err.written(), line.as_bytes());
-    assert_eq!(rt; seen.out.written(), b"".as_slice());
-    assert_eq!(rt; seen.depot.made().len(), 0);
-    assert!(rt; seen.report.ends.is_empty());
-    assert!(rt; seen.report.ledger.is_empty());
-}
+impl Seen {
+    /// Whether nothing was done: no device was made, nothing printed, and standard error was told
+    /// this.
+    pub fn is_idle(&self, status: Status, line: &str) -> bool {
+        self.report.status == status
+            && self.err.written() == line.as_bytes()
+            && self.out.written().is_empty()
+            && self.depot.made().is_empty()
+            && self.report.ends.is_empty()
+            && self.report.ledger.is_empty()
+    }
 
-/// The call ended with this status and printed this, and nothing stands on standard error.
-pub fn assert_printed(rt: &impl Abort, seen: &Seen, status: Status, out: &[u8]) {
-    assert_eq!(rt; seen.report.status, status);
-    assert_eq!(rt; seen.out.written(), out);
-    assert_eq!(rt; seen.err.written(), b"".as_slice());
-}
+    /// Whether the call ended with this status and printed this, and nothing stands on standard
+    /// error.
+    pub fn printed(&self, status: Status, out: &[u8]) -> bool {
+        self.report.status == status && self.out.written() == out && self.err.written().is_empty()
+    }
 
-/// The one device that was made came back: opened once and closed once with this exit, or never
-/// opened.
-pub fn assert_device(rt: &impl Abort, seen: &Seen, exit: Option<Exit>) {
-    assert_eq!(rt; seen.depot.made().len(), 1);
-    let records = seen.depot.retired();
-    assert_eq!(rt; records.len(), 1);
-    let times = u64::from(exit.is_some());
-    assert_eq!(rt; records[0].opens(), times);
-    assert_eq!(rt; records[0].closes(), times);
-    assert_eq!(rt; records[0].exit(), exit);
-}
+    /// Whether one device was made, and it came back: opened once and closed once with this exit,
+    /// or never opened.
+    pub fn device_came_back(&self, exit: Option<Exit>) -> bool {
+        let times = u64::from(exit.is_some());
+        match self.depot.retired() {
+            [record] => {
+                self.depot.made().len() == 1
+                    && record.opens() == times
+                    && record.closes() == times
+                    && record.exit() == exit
+            }
+            _ => false,
+        }
+    }
 
-/// The report has one end, that of stream 0.
-pub fn assert_end(rt: &impl Abort, seen: &Seen, how: How) {
-    let end = EndOf {
-        who: StreamNo::Inner(0),
-        how,
-    };
-    assert_eq!(rt; seen.report.ends.as_slice(), [end].as_slice());
-}
+    /// Whether the report has one end, that of stream 0, which ended so.
+    pub fn ended(&self, how: How) -> bool {
+        let end = EndOf {
+            who: StreamNo::Inner(0),
+            how,
+        };
+        self.report.ends.as_slice() == [end].as_slice()
+    }
 
-/// The ledger of a run that opened its file and ended so.
-pub fn assert_one_row(rt: &impl Abort, seen: &Seen, exit: Exit, ok: bool) {
-    let acquired = event(0, What::Acquire { row: 0, scope: 0 });
-    let closed = event(1, What::Close { scope: 0, exit });
-    let finalized = event(2, What::Final { row: 0, exit, ok });
-    assert_eq!(rt;
-        seen.report.ledger.as_slice(),
-        [acquired, closed, finalized].as_slice()
-    );
+    /// Whether the ledger is that of a run that opened its file and ended so.
+    pub fn has_one_row(&self, exit: Exit, ok: bool) -> bool {
+        let acquired = event(0, What::Acquire { row: 0, scope: 0 });
+        let closed = event(1, What::Close { scope: 0, exit });
+        let finalized = event(2, What::Final { row: 0, exit, ok });
+        self.report.ledger.as_slice() == [acquired, closed, finalized].as_slice()
+    }
 }
 
 pub fn event(stamp: u64, what: What) -> Event {

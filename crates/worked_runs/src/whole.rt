@@ -1,9 +1,9 @@
 //! Runs of a description of which nothing fails.
-use crate::outside::{Case, run, run_of};
-use crate::reports::{DONE, HALTED, NONE, assert_runs, assert_whole, faulty, stream_of};
 use device_port::Act;
 use flume_cli::Status;
 use std::test::Fail;
+use worked_calls::outside::{Case, run, run_of};
+use worked_calls::reports::{DONE, HALTED, NONE, faulty, runs_as, stream_of};
 
 const LOG: &[u8] = b"INFO start\nERROR disk\nINFO x\nERROR net\n";
 
@@ -17,14 +17,17 @@ fn stream_without_steps_is_its_file(rt: HostRuntime) -> Result<(), Fail> {
     ];
     for (top, file, frames) in table {
         let text = format!(in rt.alloc(); "{top}[[stream]]\npath = \"a\"\n")?;
-        assert_runs(
-            &rt,
-            rt.alloc(),
-            &run_of(text.as_str(), file),
-            Status::Good,
-            frames,
-            DONE,
-        )?;
+        assert!(rt;
+            runs_as(
+                &rt,
+                rt.alloc(),
+                &run_of(text.as_str(), file),
+                Status::Good,
+                frames,
+                DONE
+            )?,
+            "at {text:?}"
+        );
     }
     Ok(())
 }
@@ -44,14 +47,17 @@ fn steps_over_lines(rt: HostRuntime) -> Result<(), Fail> {
     ];
     for (steps, frames) in table {
         let text = stream_of(rt.alloc(), steps)?;
-        assert_runs(
-            &rt,
-            rt.alloc(),
-            &run_of(text.as_str(), b"a\na\nb\n"),
-            Status::Good,
-            frames,
-            DONE,
-        )?;
+        assert!(rt;
+            runs_as(
+                &rt,
+                rt.alloc(),
+                &run_of(text.as_str(), b"a\na\nb\n"),
+                Status::Good,
+                frames,
+                DONE
+            )?,
+            "at {steps}"
+        );
     }
     Ok(())
 }
@@ -76,14 +82,17 @@ fn steps_over_bytes(rt: HostRuntime) -> Result<(), Fail> {
     ];
     for (steps, file, frames) in table {
         let text = stream_of(rt.alloc(), steps)?;
-        assert_runs(
-            &rt,
-            rt.alloc(),
-            &run_of(text.as_str(), file),
-            Status::Good,
-            frames,
-            DONE,
-        )?;
+        assert!(rt;
+            runs_as(
+                &rt,
+                rt.alloc(),
+                &run_of(text.as_str(), file),
+                Status::Good,
+                frames,
+                DONE
+            )?,
+            "at {steps}"
+        );
     }
     Ok(())
 }
@@ -105,14 +114,17 @@ fn cuts_are_not_seen(rt: HostRuntime) -> Result<(), Fail> {
         let text = format!(in rt.alloc();
             "chunk = {chunk}\n[[stream]]\npath = 'a'\nsteps = [{steps}]\n"
         )?;
-        assert_runs(
-            &rt,
-            rt.alloc(),
-            &run_of(text.as_str(), file),
-            Status::Good,
-            frames,
-            DONE,
-        )?;
+        assert!(rt;
+            runs_as(
+                &rt,
+                rt.alloc(),
+                &run_of(text.as_str(), file),
+                Status::Good,
+                frames,
+                DONE
+            )?,
+            "at {steps}"
+        );
     }
     Ok(())
 }
@@ -127,14 +139,17 @@ fn log_is_filtered_and_numbered(rt: HostRuntime) -> Result<(), Fail> {
             "chunk = {chunk}\n[[stream]]\npath = 'a'\n\
             steps = ['utf8', 'lines', 'filter ERROR', 'number']\n"
         )?;
-        assert_runs(
-            &rt,
-            rt.alloc(),
-            &run_of(text.as_str(), LOG),
-            Status::Good,
-            frames,
-            DONE,
-        )?;
+        assert!(rt;
+            runs_as(
+                &rt,
+                rt.alloc(),
+                &run_of(text.as_str(), LOG),
+                Status::Good,
+                frames,
+                DONE
+            )?,
+            "at {chunk}"
+        );
     }
     Ok(())
 }
@@ -149,14 +164,17 @@ fn text_that_is_not_utf8(rt: HostRuntime) -> Result<(), Fail> {
                 "chunk = {chunk}\n[[stream]]\npath = 'a'\nsteps = ['utf8']\n"
             )?;
             let tail = faulty(rt.alloc(), fault)?;
-            assert_runs(
-                &rt,
-                rt.alloc(),
-                &run_of(text.as_str(), file),
-                Status::Faulty,
-                b"0 1\na\n",
-                tail.as_str(),
-            )?;
+            assert!(rt;
+                runs_as(
+                    &rt,
+                    rt.alloc(),
+                    &run_of(text.as_str(), file),
+                    Status::Faulty,
+                    b"0 1\na\n",
+                    tail.as_str()
+                )?,
+                "at {chunk} {fault}"
+            );
         }
     }
     Ok(())
@@ -176,7 +194,10 @@ fn taker_asks_no_more(rt: HostRuntime) -> Result<(), Fail> {
             trips: &[(Act::Read, 2)],
             ..run_of(text.as_str(), b"a\nb\n")
         };
-        assert_runs(&rt, rt.alloc(), &case, Status::Good, frames, DONE)?;
+        assert!(rt;
+            runs_as(&rt, rt.alloc(), &case, Status::Good, frames, DONE)?,
+            "at {steps}"
+        );
     }
     Ok(())
 }
@@ -196,7 +217,10 @@ fn frames_are_limited(rt: HostRuntime) -> Result<(), Fail> {
             trips: &[(Act::Read, 5)],
             ..run_of(text.as_str(), b"abc")
         };
-        assert_runs(&rt, rt.alloc(), &case, Status::Good, frames, tail)?;
+        assert!(rt;
+            runs_as(&rt, rt.alloc(), &case, Status::Good, frames, tail)?,
+            "at {take}"
+        );
     }
     Ok(())
 }
@@ -217,7 +241,10 @@ fn nothing_is_opened(rt: HostRuntime) -> Result<(), Fail> {
     ];
     for (text, tail) in table {
         let seen = run(&rt, rt.alloc(), &run_of(text, b"hello\n"))?;
-        assert_whole(&rt, rt.alloc(), &seen, Status::Good, b"", tail)?;
+        assert!(rt;
+            seen.is_whole(rt.alloc(), Status::Good, b"", tail)?,
+            "at {text:?}"
+        );
         assert_eq!(rt; seen.depot.made().len(), 0);
     }
     Ok(())

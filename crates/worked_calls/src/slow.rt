@@ -11,6 +11,7 @@ pub struct OneByOne {
     bytes: Vec<u8>,
     at: usize,
     fails_at: Option<usize>,
+    ended: bool,
     faults: u64,
 }
 
@@ -22,6 +23,7 @@ impl OneByOne {
             bytes: Vec::from_slice(alloc, bytes)?,
             at: 0,
             fails_at,
+            ended: false,
             faults: 0,
         })
     }
@@ -35,7 +37,7 @@ impl OneByOne {
 impl Source for OneByOne {
     ghost use Rattle.std.specs.Prelude.{None};
 
-    ghost told = { λ s. record { left = None; faults = s.faults } };
+    ghost told = { λ s. record { left = None; ended = s.ended; faults = s.faults } };
 
     fn read(&mut self, buf: &mut [u8]) -> Result<usize, Failed> {
         if self.fails_at == Some(self.at) {
@@ -47,9 +49,13 @@ impl Source for OneByOne {
             Some(byte) => {
                 buf[0] = *byte;
                 self.at += 1;
+                self.ended = false;
                 Ok(1)
             }
-            None => Ok(0),
+            None => {
+                self.ended = true;
+                Ok(0)
+            }
         }
     }
 }

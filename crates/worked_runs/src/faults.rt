@@ -1,9 +1,9 @@
 //! Runs of a description over a file or an output of which a call fails.
-use crate::outside::{Case, run, run_of};
-use crate::reports::{CAUGHT, DONE, assert_reported, assert_runs, faulty, stream_of};
 use device_port::Act;
 use flume_cli::Status;
 use std::test::Fail;
+use worked_calls::outside::{Case, run, run_of};
+use worked_calls::reports::{CAUGHT, DONE, faulty, runs_as, stream_of};
 
 /// What was read before a failure comes out, and an unfinished line doesn't.
 #[test]
@@ -18,14 +18,17 @@ fn failed_read_ends_the_stream(rt: HostRuntime) -> Result<(), Fail> {
                 b"a\nbcd",
             )
         };
-        assert_runs(
-            &rt,
-            rt.alloc(),
-            &case,
-            Status::Faulty,
-            frames,
-            tail.as_str(),
-        )?;
+        assert!(rt;
+            runs_as(
+                &rt,
+                rt.alloc(),
+                &case,
+                Status::Faulty,
+                frames,
+                tail.as_str()
+            )?,
+            "at {nth}"
+        );
     }
     Ok(())
 }
@@ -35,7 +38,7 @@ fn file_that_is_not_there(rt: HostRuntime) -> Result<(), Fail> {
     let case = run_of("[[stream]]\npath = 'b'\n", b"hello\n");
     let tail = "end outer done\nend 0 fault open\nledger 4\n\
         outer lease 0 0\nouter close 0 succeeded\n0 close 0 errored\n0 cancel 0 errored\n";
-    assert_runs(&rt, rt.alloc(), &case, Status::Faulty, b"", tail)?;
+    assert!(rt; runs_as(&rt, rt.alloc(), &case, Status::Faulty, b"", tail)?);
     Ok(())
 }
 
@@ -61,7 +64,10 @@ fn text_stands_in_for_a_fault(rt: HostRuntime) -> Result<(), Fail> {
             trips: &[(Act::Read, 2)],
             ..run_of(text.as_str(), file)
         };
-        assert_runs(&rt, rt.alloc(), &case, Status::Good, frames, CAUGHT)?;
+        assert!(rt;
+            runs_as(&rt, rt.alloc(), &case, Status::Good, frames, CAUGHT)?,
+            "at {text:?}"
+        );
     }
     Ok(())
 }
@@ -74,7 +80,7 @@ fn text_stands_in_for_a_file_that_is_not_there(rt: HostRuntime) -> Result<(), Fa
         0 close 0 succeeded\n0 cancel 0 succeeded\n";
     let case = run_of(text, b"hello\n");
     let frames = b"0 8\nno file\n\n";
-    assert_runs(&rt, rt.alloc(), &case, Status::Good, frames, tail)?;
+    assert!(rt; runs_as(&rt, rt.alloc(), &case, Status::Good, frames, tail)?);
     Ok(())
 }
 
@@ -87,7 +93,7 @@ fn text_without_a_fault(rt: HostRuntime) -> Result<(), Fail> {
         0 final 0 succeeded ok\n0 close 0 succeeded\n0 cancel 0 succeeded\n";
     let case = run_of(text, b"hello\n");
     let frames = b"0 6\nhello\n\n";
-    assert_runs(&rt, rt.alloc(), &case, Status::Good, frames, tail)?;
+    assert!(rt; runs_as(&rt, rt.alloc(), &case, Status::Good, frames, tail)?);
     Ok(())
 }
 
@@ -119,7 +125,10 @@ fn failed_close_of_a_stream(rt: HostRuntime) -> Result<(), Fail> {
             trips: &[(Act::Close, 1)],
             ..run_of(text.as_str(), b"a\xFF")
         };
-        assert_runs(&rt, rt.alloc(), &case, status, frames, tail)?;
+        assert!(rt;
+            runs_as(&rt, rt.alloc(), &case, status, frames, tail)?,
+            "at {keys:?}"
+        );
     }
     Ok(())
 }
@@ -153,7 +162,7 @@ fn failed_write_ends_the_run(rt: HostRuntime) -> Result<(), Fail> {
         assert_eq!(rt; seen.out.written(), out);
         assert_eq!(rt; seen.out.faults(), 1);
         assert_eq!(rt; seen.err.written(), b"".as_slice());
-        assert_reported(&rt, rt.alloc(), &seen, tail)?;
+        assert!(rt; seen.reported(rt.alloc(), tail)?, "at {nth}");
     }
     Ok(())
 }
@@ -169,6 +178,6 @@ fn failed_write_of_the_tail(rt: HostRuntime) -> Result<(), Fail> {
     let seen = run(&rt, rt.alloc(), &case)?;
     assert_eq!(rt; seen.report.status, Status::NotWritten);
     assert_eq!(rt; seen.out.written(), b"".as_slice());
-    assert_reported(&rt, rt.alloc(), &seen, DONE)?;
+    assert!(rt; seen.reported(rt.alloc(), DONE)?);
     Ok(())
 }

@@ -1,9 +1,8 @@
 //! What a run of a description printed and reported.
-use crate::outside::{Case, Seen, assert_printed, run};
+use crate::outside::{Case, Seen, run};
 use flume_cli::Status;
 use flume_cli::tail::tail_of;
 use std::alloc::{AllocError, Global};
-use std::process::Abort;
 use std::sync::Wait;
 use std::thread::Threads;
 
@@ -39,52 +38,45 @@ pub fn stream_of(alloc: Global, steps: &str) -> Result<String, AllocError> {
     format!(in alloc; "[[stream]]\npath = 'a'\nsteps = [{steps}]\n")
 }
 
-/// The case ends with this status, and all is printed and reported.
-pub fn assert_runs<R: Threads + Wait + Sync + Abort>(
+/// Whether the case ends with this status, and all is printed and reported.
+pub fn runs_as<R: Threads + Wait + Sync>(
     rt: &R,
     alloc: Global,
     case: &Case,
     status: Status,
     frames: &[u8],
     tail: &str,
-) -> Result<(), AllocError> {
+) -> Result<bool, AllocError> {
     let seen = run(rt, alloc, case)?;
-    assert_whole(rt, alloc, &seen, status, frames, tail)
+    seen.is_whole(alloc, status, frames, tail)
 }
 
-/// The run ended with this status, and printed and reported all.
-pub fn assert_whole(
-    rt: &impl Abort,
-    alloc: Global,
-    seen: &Seen,
-    status: Status,
-    frames: &[u8],
-    tail: &str,
-) -> Result<(), AllocError> {
-    let mut text = Vec::from_slice(alloc, frames)?;
-    text.extend_from_slice(tail.as_bytes())?;
-    assert_printed(rt, seen, status, &text);
-    assert_reported(rt, alloc, seen, tail)
-}
+impl Seen {
+    /// Whether the run ended with this status, and printed and reported all.
+    pub fn is_whole(
+        &self,
+        alloc: Global,
+        status: Status,
+        frames: &[u8],
+        tail: &str,
+    ) -> Result<bool, AllocError> {
+        let mut text = Vec::from_slice(alloc, frames)?;
+        text.extend_from_slice(tail.as_bytes())?;
+        Ok(self.printed(status, &text) && self.reported(alloc, tail)?)
+    }
 
-/// The ends and the ledger of the report have this text, and each device came back.
-pub fn assert_reported(
-    rt: &impl Abort,
-    alloc: Global,
-    seen: &Seen,
-    tail: &str,
-) -> Result<(), AllocError> {
-    let told = tail_of(alloc, &seen.report.ends, &seen.report.ledger)?;
-    assert_eq!(rt; told.as_slice(), tail.as_bytes());
-    assert_returned(rt, seen);
-    Ok(())
-}
+    /// Whether the ends and the ledger of the report have this text, and each device came back.
+    pub fn reported(&self, alloc: Global, tail: &str) -> Result<bool, AllocError> {
+        let told = tail_of(alloc, &self.report.ends, &self.report.ledger)?;
+        Ok(told.as_slice() == tail.as_bytes() && self.returned())
+    }
 
-/// Each device that was made came back once, closed as often as it was opened.
-pub fn assert_returned(rt: &impl Abort, seen: &Seen) {
-    let records = seen.depot.retired();
-    assert_eq!(rt; seen.depot.made().len(), records.len());
-    for record in records {
-        assert_eq!(rt; record.closes(), record.opens());
+    /// Whether each device that was made came back once, closed as often as it was opened.
+    pub fn returned(&self) -> bool {
+        let records = self.depot.retired();
+        self.depot.made().len() == records.len()
+            && records
+                .iter()
+                .all(|record| record.closes() == record.opens())
     }
 }

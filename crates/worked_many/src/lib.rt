@@ -1,0 +1,12 @@
+//! Runs of many streams, and of cases that are made of numbers, over an outside in memory, with what they
+//! print written out by hand.
+#![tactic(auto)]
+
+#[cfg(test)]
+mod crowd;
+#[cfg(test)]
+mod generated;
+#[cfg(test)]
+mod side_by_side;
+#[cfg(test)]
+mod stops;
