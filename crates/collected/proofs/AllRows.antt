@@ -25,10 +25,9 @@ use Rattle.scope_tree.specs.Released.{said}
 use Rattle.stream_parts.specs.Retire.{AreWrittenAlone, Exchanges, IsWrittenBy, MayReturnAll, Returns}
 use Rattle.stream_parts.proofs.Exchanged.{distinct_both, exchanges_then, files_same, may_after, may_both, may_permuted}
 use Rattle.stream_parts.proofs.Making.{laid, laid_outside}
-use Rattle.stream_parts.proofs.Mapped.{among_map}
-use Rattle.stream_parts.proofs.Permuted.{among_range, range_among, range_distinct}
-use Rattle.collected.proofs.Returned.{AreReturned}
-use Rattle.joined_runs.specs.Devices.{AreMade, IsReturned, IsUnmadeAt, MadeComeBack}
+use Rattle.res_ledger.proofs.Mapped.{among_map}
+use Rattle.res_ledger.proofs.Permuted.{among_range, range_among, range_distinct}
+use Rattle.joined_runs.specs.Devices.{AreMade, AreReturned, IsReturned, IsUnmadeAt, MadeComeBack}
 use Rattle.collected.proofs.Returned.{are_made, places_are}
 use Rattle.collected.proofs.ComingBack.{at_among, come_back, made_both}
 use Rattle.joined_runs.proofs.MadeRows.{at_below, at_some, distinct_map, map_twice}

@@ -15,7 +15,7 @@ use Rattle.run_rules.specs.Devices.{IsWritten}
 use Rattle.run_rules.specs.Facts.{at, to_write}
 use Rattle.stream_parts.specs.Retire.{AreWrittenAlone, Exchanges, HaveOwnOutputs, IsWrittenBy, write_alike}
 use Rattle.stream_parts.proofs.Exchanged.{alike_so, keeps_more, outputs_permuted}
-use Rattle.stream_parts.proofs.Mapped.{among_map}
+use Rattle.res_ledger.proofs.Mapped.{among_map}
 use Rattle.joined_runs.specs.Devices.{AreMade, IsUnmadeAt, MadeComeBack}
 
 pub at_among : {A : Type 0} (xs : List A) (i : ℕ) (x : A) → at xs i ≡ Some x → IsAmong x xs
@@ -32,7 +32,7 @@ same_content P (Some f) None path k n = absurd k
 
 module _ (places : List Place) (w : ℕ → DeviceTold) where
   module _ (files : Option Files) where
-    made_place : (r n : ℕ) (rows : List ℕ) → AreMade files places n w rows → IsAmong r rows → (p : Place) × (at places r ≡ Some p) × ((w r).place ≡ p)
+    pub made_place : (r n : ℕ) (rows : List ℕ) → AreMade files places n w rows → IsAmong r rows → (p : Place) × (at places r ≡ Some p) × ((w r).place ≡ p)
     made_place r n rows h (here rs) = (h.0.0, h.0.1, h.0.2.place_is)
     made_place r n rows h (there {xs = rs} q m) = made_place r (n + 1) rs h.1 m
 
@@ -76,13 +76,13 @@ module _ (places : List Place) (w : ℕ → DeviceTold) where
     place_to p path m e = ap (λ x. let q : Place = record { path = p.path; mode = x } in q) m ∙ ap (λ x. let q : Place = record { path = x; mode = mode.Write } in q) (sym e)
 
     module _ (old new : DepotTold) (ps : List Place) (rows : List ℕ) (back : List DeviceTold) (e : Exchanges old new ps back) (each : IsPermutation (map w rows) back) (placed : (r : ℕ) → IsAmong r rows → at places r ≡ Some (w r).place) where
-      files_so : KeepsFilesBut (IsWritten places) old.files new.files
+      pub files_so : KeepsFilesBut (IsWritten places) old.files new.files
       files_so = keeps_more (IsWrittenBy back) (IsWritten places) (λ path by.
           let r = among_map w by.0 rows (among_permuted back (map w rows) (IsPermutation-sym (map w rows) back each) by.0 by.1) in
           let is : (w r.0).place ≡ to_write path = ap (λ (d : DeviceTold). d.place) r.2 ∙ place_to by.0.place path by.2 by.4 in
           subst (λ p. IsAmong p places) is (at_among places r.0 (w r.0).place (placed r.0 r.1))) old.files new.files e.files
 
-      stored_so : IsDistinct nat_eq rows → AllByRecursion (KeepsWritten new.files) back
+      pub stored_so : IsDistinct nat_eq rows → AllByRecursion (KeepsWritten new.files) back
       stored_so apart = e.stored (outputs_permuted (map w rows) back each (own_outputs rows apart placed))
 
     -- the devices that were made for some rows came back, in any order

@@ -29,7 +29,7 @@ use Rattle.run_rules.specs.Facts.{at, to_read}
 use Rattle.run_rules.specs.Homes.{IsUntouched}
 use Rattle.scope_tree.specs.Calls.{Seen}
 use Rattle.scope_tree.specs.declared.branch.Spent.{Spent}
-use Rattle.stream_parts.proofs.Permuted.{range_among, range_distinct}
+use Rattle.res_ledger.proofs.Permuted.{range_among, range_distinct}
 use Rattle.stream_parts.specs.Retire.{AreWrittenAlone}
 use Rattle.job_runs.specs.Rows.{EndsAs}
 use Rattle.joined_runs.proofs.MadeRows.{at_below}

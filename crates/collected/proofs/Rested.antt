@@ -22,7 +22,7 @@ use Rattle.run_rules.specs.Facts.{at}
 use Rattle.scope_tree.specs.declared.branch.Spent.{Spent}
 use Rattle.stream_jobs.specs.declared.job.JobEnd.{JobEnd}
 use Rattle.stream_jobs.specs.Running.{Origin}
-use Rattle.stream_parts.proofs.Mapped.{map_among}
+use Rattle.res_ledger.proofs.Mapped.{map_among}
 use Rattle.stream_parts.specs.Retire.{devices_of}
 use Rattle.job_runs.specs.Runs.{RunsJob}
 use Rattle.job_runs.proofs.Ended.{jobs_end}

@@ -7,12 +7,7 @@ use Rattle.run_rules.specs.Facts.{at}
 use Rattle.stream_parts.specs.Made.{fresh_for, having_made}
 use Rattle.stream_parts.specs.Same.{AreSame}
 use Rattle.stream_parts.proofs.Making.{one_more}
-use Rattle.joined_runs.specs.Devices.{AreMade, IsAtRest, IsReturned}
-
--- the rows from r on have such devices, with the numbers from n on
-abbrev pub AreReturned : Option Files → ℕ → (ℕ → DeviceTold) → ℕ → List Place → Type 0
-AreReturned files n w r [] = Unit {0}
-AreReturned files n w r (p ∷ ps) = IsReturned files n p (w r) × AreReturned files (n + 1) w (r + 1) ps
+use Rattle.joined_runs.specs.Devices.{AreMade, AreReturned, IsAtRest}
 
 module _ (files : Option Files) (w : ℕ → DeviceTold) where
   pub are_made : (places : List Place) (n r : ℕ) (ps : List Place) → AreReturned files n w r ps → ((i : ℕ) (p : Place) → at ps i ≡ Some p → at places (r + i) ≡ Some p) → AreMade files places n w (range_with_len r (length ps))

@@ -18,8 +18,8 @@ use Rattle.run_rules.specs.Facts.{at}
 use Rattle.run_rules.specs.Homes.{IsUntouched}
 use Rattle.stream_parts.specs.Retire.{Exchanges, MayReturnAll}
 use Rattle.stream_parts.proofs.Exchanged.{distinct_both, exchanges_none, exchanges_then, may_after, may_both}
-use Rattle.stream_parts.proofs.Mapped.{among_map}
-use Rattle.stream_parts.proofs.Permuted.{among_range, range_among, range_distinct}
+use Rattle.res_ledger.proofs.Mapped.{among_map}
+use Rattle.res_ledger.proofs.Permuted.{among_range, range_among, range_distinct}
 use Rattle.joined_runs.specs.Devices.{AreMade, IsReturned, IsUnmadeAt}
 use Rattle.joined_runs.proofs.MadeRows.{at_below, at_some}
 use Rattle.joined_runs.proofs.RowPlaces.{at_left, at_right}

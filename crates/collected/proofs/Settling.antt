@@ -20,7 +20,7 @@ use Rattle.scope_tree.specs.Released.{said}
 use Rattle.join_tree.specs.Progress.{Progress}
 use Rattle.join_tree.specs.Settled.{Settles}
 use Rattle.outer_tables.specs.Rows.{acquires}
-use Rattle.stream_parts.proofs.Permuted.{among_range}
+use Rattle.res_ledger.proofs.Permuted.{among_range}
 use Rattle.job_runs.specs.Rows.{CoversNone}
 use Rattle.joined_runs.specs.Shares.{IsJoinedLedger, IsOuterWord}
 

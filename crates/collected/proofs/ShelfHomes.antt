@@ -14,7 +14,7 @@ use Rattle.res_ledger.specs.Order.{firsts}
 use Rattle.run_rules.specs.Facts.{at}
 use Rattle.scope_tree.specs.declared.branch.Spent.{Spent}
 use Rattle.scope_tree.specs.Released.{said}
-use Rattle.stream_parts.proofs.Permuted.{among_range, range_among, range_distinct, same_elements}
+use Rattle.res_ledger.proofs.Permuted.{among_range, range_among, range_distinct, same_elements}
 use Rattle.job_runs.specs.Rows.{EndsAs}
 use Rattle.job_runs.proofs.Closing.{in_row, row_in}
 use Rattle.joined_runs.proofs.MadeRows.{at_some}

@@ -29,7 +29,7 @@ use Rattle.scope_tree.specs.Calls.{AtStart, Seen}
 use Rattle.scope_tree.specs.Released.{said}
 use Rattle.scope_tree.specs.declared.branch.Spent.{Spent}
 use Rattle.stream_jobs.specs.Running.{Origin}
-use Rattle.stream_parts.proofs.Mapped.{map_among}
+use Rattle.res_ledger.proofs.Mapped.{map_among}
 use Rattle.stream_parts.proofs.PartsMade.{first_place}
 use Rattle.std.proofs.lemmas.Option.{slice_get_within}
 use Rattle.tree_laws.specs.Called.{Called}

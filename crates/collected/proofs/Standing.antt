@@ -21,7 +21,7 @@ use Rattle.run_rules.specs.Facts.{at}
 use Rattle.scope_tree.specs.Calls.{Seen}
 use Rattle.stream_jobs.specs.declared.job.JobEnd.{JobEnd}
 use Rattle.stream_jobs.specs.Running.{Origin}
-use Rattle.stream_parts.proofs.Mapped.{among_map}
+use Rattle.res_ledger.proofs.Mapped.{among_map}
 use Rattle.stream_parts.proofs.PartsMade.{first_place}
 use Rattle.stream_parts.specs.Same.{AreSame}
 use Rattle.job_runs.specs.Rows.{from_row}

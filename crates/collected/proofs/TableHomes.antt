@@ -24,8 +24,7 @@ use Rattle.run_rules.specs.Opening.{AreTablesFailed, AreTablesRead, AreUntried, 
 use Rattle.run_rules.specs.Work.{Opener, RunRecord}
 use Rattle.std.specs.List.{list_any as any}
 use Rattle.std.specs.Str.{is_utf8}
-use Rattle.joined_runs.specs.Devices.{IsReturned}
-use Rattle.collected.proofs.Returned.{AreReturned}
+use Rattle.joined_runs.specs.Devices.{AreReturned, IsReturned}
 
 -- One device.
 

@@ -34,7 +34,7 @@ use Rattle.scope_tree.specs.declared.branch.Spent.{Spent}
 use Rattle.scope_tree.specs.Calls.{Seen}
 use Rattle.scope_tree.specs.Released.{said}
 use Rattle.stream_parts.specs.Retire.{AreWrittenAlone, MayReturnAll, Returns}
-use Rattle.stream_parts.proofs.Mapped.{map_among}
+use Rattle.res_ledger.proofs.Mapped.{map_among}
 use Rattle.job_runs.specs.Rows.{EndsAs}
 use Rattle.collector.specs.Collecting.{HasTables}
 use Rattle.collected.proofs.AllRows as rows

@@ -36,7 +36,7 @@ use Rattle.stream_jobs.specs.Running.{Origin}
 use Rattle.stream_jobs.proofs.Others.{others_leave}
 use Rattle.stream_parts.specs.Parts.{MakesParts}
 use Rattle.stream_parts.specs.declared.parts.StreamParts.{StreamParts}
-use Rattle.stream_parts.proofs.Mapped.{map_among}
+use Rattle.res_ledger.proofs.Mapped.{map_among}
 use Rattle.tree_families.specs.Families.{split_of}
 use Rattle.collector.specs.declared.collector.Collector.{Collector}
 use Rattle.collector.specs.Collecting.{IsJobOf, KeepsStreams, KeepsTale, bare_work, guest_of, waiting_of}

@@ -1,5 +1,5 @@
 -- The end of a stream is dealt with, and the collector goes on.
-use Rattle.std.proofs.Common.{◌≡◌, ◌≢◌, ◌⊎◌, ℕ, ◌+◌, ◌<◌, List, [], ◌∷◌, ◌++◌, map, length, Option, Some, refl, sym, ◌∙◌, ap, subst, inl, inr, ⊎_elim, arith, append_assoc, length-append}
+use Rattle.std.proofs.Common.{◌≡◌, ◌≢◌, ◌⊎◌, ℕ, ◌+◌, ◌<◌, List, [], ◌∷◌, ◌++◌, map, length, Option, Some, refl, sym, ◌∙◌, ap, subst, inl, ⊎_elim, arith, append_assoc, length-append}
 use Rattle.std.specs.Prelude.{vec_capacity}
 use Rattle.std.specs.Global.{Global}
 use Rattle.chunk_core.specs.Lists.{IsAmong}
@@ -26,6 +26,7 @@ use Rattle.join_tale.specs.Tales.{IsOpen, Tale}
 use Rattle.join_tree.specs.Guests.{AreOut, Guest, IsOut}
 use Rattle.join_tree.specs.Mains.{IsMain}
 use Rattle.join_tree.specs.Progress.{Progress, joining}
+use Rattle.join_tree.specs.Steps.{KeepsRows}
 use Rattle.outer_tables.specs.declared.not_read.NotRead.{NotRead}
 use Rattle.pipeline_desc.specs.Meant.{PlanMeant}
 use Rattle.pull_stepper.specs.Held.{FinishesDevice}
@@ -57,22 +58,17 @@ use Rattle.collector.proofs.LoadTaken.{grown, some_part}
 use Rattle.collector.proofs.Loads.{wrote_same}
 use Rattle.collector.proofs.Opening.{is_open}
 use Rattle.collector.proofs.Rotating.{jobs_stay}
+use Rattle.collector.proofs.Steps.{tables_kept}
 use Rattle.collector.proofs.Turning.{first_job, outer_fits}
 
 module _ {V : Type 0} (told : V → DeviceTold) (p : PlanMeant) (old mid : DepotTold) (o : Option NotRead) (q : Progress V) where
-  -- what is known of the tables stays known where the tree of a stream comes back
+  -- no event and no payload is lost where the tree of a stream comes back
+  keeps : (a b : Seen V) (w : View V) → b ≡ record a { seat = joined a.seat w } → KeepsRows a.seat b.seat
+  keeps a b w is = subst (λ (x : Seen V). KeepsRows a.seat x.seat) (sym is) (record { noted = λ e m. among_left w.events m; left = λ y m. among_left w.left m; given = λ y m. among_left w.given m; opened = λ y m. inl m })
+
+  -- so what is known of the tables stays known
   abbrev tables_joined : (a b y : Seen V) (w : View V) → b ≡ record a { seat = joined a.seat w } → HasTables told p old mid o a q → HasTables told p old mid o b (joining q y)
-  tables_joined a b y w is h = record {
-    devices = h.devices;
-    back = h.back;
-    contents = h.contents;
-    out = h.out;
-    made = h.made;
-    unknown = h.unknown;
-    noted = λ i l. let n = h.noted i l in (n.0, subst (λ (x : Seen V). IsAmong n.0 x.seat.events) (sym is) (among_left w.events n.1), n.2, n.3);
-    pays = λ i d e. ⊎_elim (λ m. inl (subst (λ (x : Seen V). IsAmong (i, d) x.seat.opened) (sym is) m)) (λ m. inr (subst (λ (x : Seen V). IsAmong (i, d) x.seat.left) (sym is) (among_left w.left m))) (h.pays i d e);
-    tables = h.tables;
-  }
+  tables_joined a b y w is = tables_kept told p old mid o q (joining q y) a b (keeps a b w is) refl
 
   -- and so does what is known of the tree
   tree_joined : (waits : ℕ) (a b y : Seen V) (w : View V) (outer : Option How) (leased : ℕ) (ws : List Lease) {F : Type 0} (parts : List _) → b ≡ record a { seat = joined a.seat w } → owed b.seat ≡ owed a.seat → IsMain (FinishesDevice told) p.max_open (length p.streams) b (joining q y) → KeepsTree p {V = V} {F = F} told waits a outer leased ws parts q → KeepsTree p {V = V} {F = F} told waits b outer leased ws parts (joining q y)

@@ -25,7 +25,7 @@ use Rattle.row_seat.specs.Views.{IsWithin, run}
 use Rattle.run_rules.specs.Facts.{at}
 use Rattle.scope_tree.specs.Calls.{Seen}
 use Rattle.scope_tree.specs.Words.{owed}
-use Rattle.stream_parts.proofs.Mapped.{among_map, map_among}
+use Rattle.res_ledger.proofs.Mapped.{among_map, map_among}
 use Rattle.collector.specs.Collecting.{HasTables, KeepsTree, events_from}
 use Rattle.collector.specs.Starting.{IsFirstSeat}
 use Rattle.collector.proofs.Lists.{map_length, run_there}

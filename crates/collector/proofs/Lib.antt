@@ -18,7 +18,6 @@ pub mod Loads
 pub mod LoadTaken
 pub mod EndTold
 pub mod Turning
-pub mod Mapped
 pub mod EndTaken
 pub mod EndDealt
 pub mod Untils

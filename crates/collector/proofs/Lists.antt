@@ -1,16 +1,12 @@
 -- Lists that grow at their ends, and lists by place.
-use Rattle.std.proofs.Common.{◌≡◌, ◌⊎◌, ℕ, zero, suc, ◌+◌, ◌<◌, ◌≤◌, List, [], ◌∷◌, ◌++◌, map, length, drop, Some, nat_eq, refl, sym, ap, subst, ⊎_elim, arith, slice_get}
-use Rattle.std.proofs.lemmas.Cmp.{nat_eq_equiv}
-use Rattle.std.proofs.lemmas.Map.Made.{length-le_from_is_member}
-use Rattle.std.specs.List.{IsDistinct}
+use Rattle.std.proofs.Common.{◌≡◌, ◌⊎◌, ℕ, zero, suc, ◌+◌, ◌<◌, ◌≤◌, List, [], ◌∷◌, ◌++◌, map, length, drop, Some, refl, sym, ap, subst, ⊎_elim, arith, slice_get}
 use Rattle.chunk_core.specs.Lists.{IsAmong}
 use Rattle.chunk_core.specs.Lists.IsAmong.{here, there}
-use Rattle.chunk_core.proofs.Bools.{has_in, in_has}
 use Rattle.chunk_core.proofs.Members.{among_cons, among_nil}
 use Rattle.res_ledger.specs.declared.event.What.TheVariants.{Acquire}
 use Rattle.row_seat.specs.Views.{run}
 use Rattle.outer_tables.specs.Rows.{acquires}
-use Rattle.stream_parts.proofs.Mapped.{among_map}
+use Rattle.res_ledger.proofs.Mapped.{among_map}
 use Rattle.run_rules.specs.Facts.{at}
 
 module _ {A : Type 0} where
@@ -82,7 +78,3 @@ acquired_within n k r s m =
     let same : Acquire x.0 0 ≡ Acquire r s = x.2 in
     let is : x.0 ≡ r = cc in
     subst (λ q. q < n + k) is (run_within n k x.0 x.1).1
-
--- of numbers that all stand in another list there are no more than that has
-pub distinct_within : (xs ys : List ℕ) → IsDistinct nat_eq xs → ((x : ℕ) → IsAmong x xs → IsAmong x ys) → length xs ≤ length ys
-distinct_within xs ys d h = length-le_from_is_member nat_eq_equiv xs ys d (λ q m. in_has q ys (h q (has_in q xs m)))

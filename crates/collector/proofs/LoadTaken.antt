@@ -22,7 +22,7 @@ use Rattle.join_report.proofs.Learning.{learns_known}
 use Rattle.join_report.proofs.Steps.{learns}
 use Rattle.join_tale.specs.Steps.{learned}
 use Rattle.join_tale.specs.Tales as tales
-use Rattle.join_tale.specs.Tales.{HasCome, IsBegun, IsOpen, Tale, load_of}
+use Rattle.join_tale.specs.Tales.{HasCome, IsBegun, IsOpen, Tale}
 use Rattle.join_tree.specs.Progress.{Progress}
 use Rattle.pipeline_desc.specs.Meant.{PlanMeant}
 use Rattle.pull_turns.specs.Piping.{StateMeaning}
@@ -42,7 +42,7 @@ use Rattle.collector.specs.Collecting.Gone.{Came, Missed}
 use Rattle.collector.specs.Parts.{Part, fate_of}
 use Rattle.collector.specs.Receiving.{HasGot}
 use Rattle.collector.proofs.Loads.{LoadGoes, SameEnds, goes_on, goes_on_stopped, wrote_none}
-use Rattle.collector.proofs.Mapped.{among_map}
+use Rattle.res_ledger.proofs.Mapped.{among_map}
 use Rattle.collector.proofs.Turning.{job_at}
 use Rattle.collector.proofs.Opening.{is_open}
 use Rattle.collector.proofs.OneStream.{of_rest}

@@ -30,7 +30,8 @@ use Rattle.stream_parts.proofs.PartsMade.{row_behind}
 use Rattle.collector.specs.Collecting.{KeepsTree, events_from, waiting_of}
 use Rattle.collector.specs.Parts.{AreTableRows, Part}
 use Rattle.collector.specs.Starting.{ClosesOuter, PassesOver}
-use Rattle.collector.proofs.Lists.{acquired_within, distinct_within, drop_at, map_length, map_snoc, run_length, run_there, snoc_length, there_is}
+use Rattle.res_ledger.proofs.Permuted.{distinct_within}
+use Rattle.collector.proofs.Lists.{acquired_within, drop_at, map_length, map_snoc, run_length, run_there, snoc_length, there_is}
 
 -- so many leases wait
 pub follow_count : (next : ℕ) (ws : List (ℕ × List ℕ)) (leased : ℕ) → Follow next ws leased → next + length ws ≡ leased

@@ -41,7 +41,7 @@ use Rattle.collector.specs.Collecting.{AreJobs, IsCollectingWith, IsJobOf, Keeps
 use Rattle.collector.specs.Parts.{Part}
 use Rattle.collector.specs.Receiving.{TakesOut}
 use Rattle.chunk_core.proofs.Each.{among_each}
-use Rattle.collector.proofs.Mapped.{among_map}
+use Rattle.res_ledger.proofs.Mapped.{among_map}
 use Rattle.collector.proofs.Rotating.{among_swapped, jobs_joined, jobs_split, jobs_stay}
 
 -- a call of another stream's seat leaves the fit of the main tree

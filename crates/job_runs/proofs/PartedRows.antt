@@ -20,7 +20,7 @@ use Rattle.pull_stepper.specs.Sites.{IsUnopened, IsSpent, Parted}
 use Rattle.pull_stepper.specs.Sites.Parted.{none, unopened, ended}
 use Rattle.joined_runs.specs.Devices.{IsAtRest}
 use Rattle.job_runs.proofs.Closing.{ShelfTells, in_row, row_in}
-use Rattle.stream_parts.proofs.Permuted.{same_elements, range_among, range_distinct}
+use Rattle.res_ledger.proofs.Permuted.{same_elements, range_among, range_distinct}
 
 module _ {V : Type 0} where
   -- a row stands once, so what has its number is it

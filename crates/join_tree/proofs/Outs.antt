@@ -1,15 +1,14 @@
 -- Which seats are out.
-use Rattle.std.proofs.Common.{◌≡◌, ◌≢◌, ℕ, suc, ◌≤◌, Bool, nat_eq, List, [], ◌∷◌, ◌++◌, length, map, refl, sym, ap, ◌∙◌, subst, ⊎_elim, arith}
-use Rattle.std.proofs.lemmas.List.{map-append}
-use Rattle.std.proofs.lemmas.Cmp.{nat_eq_equiv}
-use Rattle.std.proofs.lemmas.Map.Made.{length-le_from_is_member}
+use Rattle.std.proofs.Common.{◌≡◌, ◌≢◌, ℕ, ◌≤◌, Bool, nat_eq, List, [], ◌∷◌, ◌++◌, length, map, sym, ap, ◌∙◌, subst, ⊎_elim, arith}
+use Rattle.std.proofs.lemmas.List.{length-map, map-append}
 use Rattle.std.specs.List.{IsDistinct}
 use Rattle.chunk_core.specs.declared.code.Exit.{Exit}
 use Rattle.chunk_core.specs.Lists.{IsAmong}
 use Rattle.chunk_core.specs.Lists.IsAmong.{here, there}
-use Rattle.chunk_core.proofs.Bools.{has_in, in_has}
 use Rattle.chunk_core.proofs.Distinct.{distinct_append, distinct_head, distinct_nil, distinct_one, distinct_tail}
 use Rattle.chunk_core.proofs.Members.{among_cons, among_last, among_left, among_nil, among_snoc}
+use Rattle.res_ledger.proofs.Mapped.{among_map, map_among}
+use Rattle.res_ledger.proofs.Permuted.{distinct_within}
 use Rattle.row_seat.specs.declared.view.View.{View}
 use Rattle.row_seat.specs.Views.{AreApart, CanJoin, CanSplit, joined, name_of, split_main, without}
 use Rattle.row_seat.proofs.Members.{among_kept, among_without}
@@ -27,22 +26,6 @@ use Rattle.join_tree.specs.Progress.{Follow, Progress}
 use Rattle.join_tree.specs.Steps.{KeepsGuests, guest_of}
 use Rattle.join_tree.proofs.Growing.{had_older, out_had}
 use Rattle.join_tree.proofs.Passing.{visit_by}
-
-among_map : {A B : Type 0} (f : A → B) (x : A) (xs : List A) → IsAmong x xs → IsAmong (f x) (map f xs)
-among_map f x [] m = absurd (among_nil m)
-among_map f x (y ∷ xs) m = ⊎_elim (λ e. subst (λ z. IsAmong (f z) (f y ∷ map f xs)) (sym e) (here (map f xs))) (λ n. there (f y) (among_map f x xs n)) (among_cons m)
-
-map_among : {A B : Type 0} (f : A → B) (xs : List A) (y : B) → IsAmong y (map f xs) → (x : A) × IsAmong x xs × (y ≡ f x)
-map_among f [] y m = absurd (among_nil m)
-map_among f (x ∷ xs) y m = ⊎_elim (λ e. (x, here xs, e)) (λ n. let t = map_among f xs y n in (t.0, there x t.1, t.2)) (among_cons m)
-
-map_length : {A B : Type 0} (f : A → B) (xs : List A) → length (map f xs) ≡ length xs
-map_length f [] = refl
-map_length f (x ∷ xs) = ap suc (map_length f xs)
-
--- of numbers that all stand in another list there are no more than that has
-distinct_within : (xs ys : List ℕ) → IsDistinct nat_eq xs → ((x : ℕ) → IsAmong x xs → IsAmong x ys) → length xs ≤ length ys
-distinct_within xs ys d h = length-le_from_is_member nat_eq_equiv xs ys d (λ q m. in_has q ys (h q (has_in q xs m)))
 
 abbrev streams : List Guest → List ℕ
 streams gs = map (λ g. g.stream) gs
@@ -71,8 +54,8 @@ module _ {P : Type 0} where
 
   outs_few : (b : Seen P) (ms : List Split) (gs : List Guest) → IsDistinct nat_eq b.seat.out → AreOut b ms gs → length b.seat.out ≤ length gs
   outs_few b ms gs d o =
-      let l = distinct_within b.seat.out (streams gs) d (λ j m. let t = o.all j m in subst (λ z. IsAmong z (streams gs)) t.2 (among_map (λ (g : Guest). g.stream) t.0 gs t.1)) in
-      let k = map_length (λ (g : Guest). g.stream) gs in omega (l, k, arith)
+      let l = distinct_within b.seat.out (streams gs) d (λ j m. let t = o.all j m in subst (λ z. IsAmong z (streams gs)) t.2 (map_among (λ (g : Guest). g.stream) t.0 gs t.1)) in
+      let k = length-map gs (λ (g : Guest). g.stream) in omega (l, k, arith)
 
   outs_empty : (b : Seen P) (ms : List Split) → AreOut b ms [] → b.seat.out ≡ []
   outs_empty b ms o = nothing_among b.seat.out (λ j m. among_nil (o.all j m).1)
@@ -109,7 +92,7 @@ module _ {P : Type 0} {ends : P → Exit → Bool → P → Type 0} {width n : �
             (λ z. (g, among_last gs g, sym z))
             (among_snoc b.seat.out i j (subst (λ l. IsAmong i l) out a));
         apart = subst (IsDistinct nat_eq) (sym (map-append (λ (y : Guest). y.stream) gs (g ∷ []))) (distinct_append (streams gs) (j ∷ []) o.apart (distinct_one j) (λ i a z. ⊎_elim
-            (λ e. let t = map_among (λ (y : Guest). y.stream) gs i a in older t.0.stream (o.each t.0 t.1).out (sym t.2 ∙ e))
+            (λ e. let t = among_map (λ (y : Guest). y.stream) i gs a in older t.0.stream (o.each t.0 t.1).out (t.2 ∙ e))
             (λ q. among_nil q)
             (among_cons z)));
       }
@@ -121,7 +104,7 @@ module _ {P : Type 0} {ends : P → Exit → Bool → P → Type 0} where
       let call : Called ends b [] c = taken_in b c y.seat none can apart made in
       let name : name_of y.seat.by ≡ g.stream = ap name_of (visit_by visit) in
       let out : c.seat.out ≡ without (name_of y.seat.by) b.seat.out = ap (λ z. z.seat.out) made in
-      let other : (k : Guest) → IsAmong k gs → k.stream ≢ g.stream = λ k m e. distinct_head g.stream (streams gs) o.apart (subst (λ z. IsAmong z (streams gs)) e (among_map (λ (z : Guest). z.stream) k gs m)) in
+      let other : (k : Guest) → IsAmong k gs → k.stream ≢ g.stream = λ k m e. distinct_head g.stream (streams gs) o.apart (subst (λ z. IsAmong z (streams gs)) e (map_among (λ (z : Guest). z.stream) k gs m)) in
       record {
         each = λ k m. let t = o.each k (there g m) in record {
           out = subst (λ l. IsAmong k.stream l) (sym out) (among_kept (name_of y.seat.by) b.seat.out k.stream t.out (λ e. other k m (e ∙ name)));

@@ -16,7 +16,7 @@ use Rattle.run_rules.specs.Facts.{is_place}
 use Rattle.run_rules.specs.Devices.{AreAsMany, place_of_row}
 use Rattle.chunk_core.proofs.Distinct.{distinct_filter, distinct_cons, distinct_nil}
 use Rattle.chunk_core.proofs.Each.{each_of}
-use Rattle.joined_runs.proofs.Permuted.{same_elements}
+use Rattle.res_ledger.proofs.Permuted.{same_elements}
 
 module _ {A B : Type 0} where
   pub filter_map_is : (t : B → Bool) (g : A → B) (xs : List A) → filter t (map g xs) ≡ map g (filter (λ x. t (g x)) xs)

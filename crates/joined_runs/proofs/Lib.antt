@@ -1,6 +1,4 @@
 pub mod Places
-pub mod Mapped
-pub mod Permuted
 pub mod Counting
 pub mod RowPlaces
 pub mod RowAccounts

@@ -25,8 +25,8 @@ use Rattle.run_rules.specs.Devices.{AreAsMany, AreNoMore, DevicesAccounted, came
 use Rattle.run_rules.specs.Work.{Work, Values, RunRecord, all_places}
 use Rattle.run_rules.specs.Ends.{act_count, is_shown}
 use Rattle.run_rules.specs.Homes.{AreAtHome, HaveHomes, HaveValues, IsBack, IsTied, IsUntouched, is_tried}
-use Rattle.joined_runs.proofs.Mapped.{among_map, map_among}
-use Rattle.joined_runs.proofs.Permuted.{among_range, range_among, range_distinct, same_elements}
+use Rattle.res_ledger.proofs.Mapped.{among_map, map_among}
+use Rattle.res_ledger.proofs.Permuted.{among_range, range_among, range_distinct, same_elements}
 use Rattle.joined_runs.specs.Devices.{AreMade, IsAtRest, IsMade, IsUnmadeAt, MadeComeBack}
 use Rattle.joined_runs.proofs.Places.{place_itself}
 use Rattle.joined_runs.proofs.Counting.{filter_map_is}

@@ -32,8 +32,8 @@ use Rattle.joined_runs.specs.Together.{RunsTogether, elements_in_pieces}
 use Rattle.joined_runs.proofs.Covered.{AreCovered, RefusesTables}
 use Rattle.joined_runs.proofs.JoinedRules.{AreSharesKept, keeps_rules, rows_kept}
 use Rattle.joined_runs.proofs.MadeRows.{accounted, at_below, at_some, faultless, homes}
-use Rattle.joined_runs.proofs.Mapped.{among_map}
-use Rattle.joined_runs.proofs.Permuted.{among_range, range_among}
+use Rattle.res_ledger.proofs.Mapped.{among_map}
+use Rattle.res_ledger.proofs.Permuted.{among_range, range_among}
 use Rattle.joined_runs.proofs.RowAccounts.{AreRowsKept, clean}
 use Rattle.joined_runs.proofs.SharesKept.{shares_kept}
 use Rattle.joined_runs.proofs.StreamEnds.{fault_run, no_fault_undone, outer_so, reported_done, stream_ends, stream_exits, stream_of_end}

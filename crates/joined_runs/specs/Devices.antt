@@ -30,6 +30,11 @@ abbrev pub AreMade : Option Files → List Place → ℕ → (ℕ → DeviceTold
 AreMade files places n w [] = Unit {0}
 AreMade files places n w (r ∷ rs) = IsMade files places n w r × AreMade files places (n + 1) w rs
 
+-- the rows from r on have such devices, with the numbers from n on
+abbrev pub AreReturned : Option Files → ℕ → (ℕ → DeviceTold) → ℕ → List Place → Type 0
+AreReturned files n w r [] = Unit {0}
+AreReturned files n w r (p ∷ ps) = IsReturned files n p (w r) × AreReturned files (n + 1) w (r + 1) ps
+
 -- no device was made for the place
 pub record IsUnmadeAt (files : Option Files) (place : Place) (d : DeviceTold) : Type 0 where
   pub place_is : d.place ≡ place

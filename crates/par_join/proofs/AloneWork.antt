@@ -1,6 +1,6 @@
 -- The work of one stream, from what it has done.
-use Rattle.std.proofs.Common.{◌≡◌, ℕ, suc, ◌+◌, ◌<◌, true, List, [], ◌∷◌, ◌++◌, map, length, Option, Some, None, IfSome, refl, sym, ◌∙◌, ap, arith, append-nil}
-use Rattle.std.specs.List.{AllByRecursion, range_with_len}
+use Rattle.std.proofs.Common.{◌≡◌, ℕ, ◌+◌, ◌<◌, true, List, ◌++◌, map, length, Option, Some, None, IfSome, refl, sym, ◌∙◌, ap, arith, append-nil}
+use Rattle.std.specs.List.{AllByRecursion}
 use Rattle.chunk_core.specs.Elements.{Element}
 use Rattle.chunk_core.specs.Texts.{Frame}
 use Rattle.chunk_core.specs.Outcomes.{Outcomes}
@@ -9,36 +9,22 @@ use Rattle.chunk_core.specs.declared.code.How.{How}
 use Rattle.chunk_core.specs.declared.code.How.TheVariants as how
 use Rattle.res_ledger.specs.declared.event.Event.{Event}
 use Rattle.device_port.specs.Device.{Place, DeviceTold, faults_of}
-use Rattle.device_port.specs.Depot.{DepotTold, Files}
+use Rattle.device_port.specs.Depot.{DepotTold}
 use Rattle.run_rules.specs.Facts.{at, first_numbers}
 use Rattle.run_rules.specs.Devices.{DevicesAccounted, came_back}
 use Rattle.run_rules.specs.Work.{Work, Values}
 use Rattle.run_rules.specs.Ends.{act_count, is_shown}
 use Rattle.run_rules.specs.Homes.{HaveHomes}
 use Rattle.run_rules.specs.Rules.{KeepsRules}
-use Rattle.stream_parts.proofs.Permuted.{range_among, range_distinct}
+use Rattle.res_ledger.proofs.Permuted.{range_among, range_distinct}
 use Rattle.par_join.specs.declared.outcome.Outcome.{Outcome}
-use Rattle.par_join.specs.Alone.{alone, frame_of, AreReturned, ComesBack, IsAccount}
+use Rattle.par_join.specs.Alone.{alone, frame_of, ComesBack, IsAccount}
 use Rattle.par_join.specs.Cat.{deed_of}
-use Rattle.joined_runs.specs.Devices.{AreMade, MadeComeBack}
+use Rattle.joined_runs.specs.Devices.{MadeComeBack}
+use Rattle.collected.proofs.Returned.{are_made, places_are}
 use Rattle.par_join.proofs.Accounts.{kept, leaves_closed, ours}
 use Rattle.joined_runs.proofs.MadeRows as made
 use Rattle.joined_runs.proofs.MadeRows.{at_below, at_some, place_found}
-
--- A device was made for each row.
-
-module _ (files : Option Files) (w : ℕ → DeviceTold) where
-  pub are_made : (places : List Place) (n r : ℕ) (ps : List Place) → AreReturned files n w r ps → ((i : ℕ) (p : Place) → at ps i ≡ Some p → at places (r + i) ≡ Some p) → AreMade files places n w (range_with_len r (length ps))
-  are_made places n r [] h in_place = tt
-  are_made places n r (p ∷ ps) h in_place =
-      let first : r ≡ r + 0 = omega arith in (
-        (p, ap (λ k. at places k) first ∙ in_place 0 p refl, h.0),
-        are_made places (n + 1) (r + 1) ps h.1 (λ i q e. let next : r + 1 + i ≡ r + suc i = omega arith in ap (λ k. at places k) next ∙ in_place (suc i) q e),
-      )
-
-  pub places_are : (n r : ℕ) (ps : List Place) → AreReturned files n w r ps → map (λ q. (w q).place) (range_with_len r (length ps)) ≡ ps
-  places_are n r [] h = refl
-  places_are n r (p ∷ ps) h = ap (λ q. q ∷ map (λ k. (w k).place) (range_with_len (r + 1) (length ps))) h.0.place_is ∙ ap (λ l. p ∷ l) (places_are (n + 1) (r + 1) ps h.1)
 
 all_made : (old new : DepotTold) (places : List Place) (w : ℕ → DeviceTold) → ComesBack old new places w → MadeComeBack old new places w
 all_made old new places w d = record {

@@ -22,7 +22,7 @@ use Rattle.par_join.specs.Ready.{IsCatNode}
 use Rattle.par_join.specs.Streams.{RunsStream}
 use Rattle.par_join.proofs.CatRuns.{cat_runs_alone}
 use Rattle.par_join.proofs.ComingBack.{all_come_back}
-use Rattle.par_join.proofs.Returned.{made_returned}
+use Rattle.collected.proofs.Returned.{made_returned}
 
 module _ {V : Type 0} (told : V → DeviceTold) where
   -- one device for the node of cat

@@ -10,7 +10,6 @@ pub mod Limits
 pub mod NodeRuns
 pub mod Pieces
 pub mod Printing
-pub mod Returned
 pub mod Spending
 pub mod StreamRuns
 pub mod Unmade

@@ -15,13 +15,13 @@ use Rattle.res_ledger.specs.Own.{opens, own}
 use Rattle.res_ledger.specs.Whole.{IsComplete}
 use Rattle.res_ledger.specs.Order.{IsOrdered}
 use Rattle.device_port.specs.Device.{Place, DeviceTold}
-use Rattle.device_port.specs.Depot.{DepotTold, Files, KeepsFilesBut, KeepsWritten}
+use Rattle.device_port.specs.Depot.{DepotTold, KeepsFilesBut, KeepsWritten}
 use Rattle.device_port.specs.Sink.{SinkTold, with_bytes}
 use Rattle.run_rules.specs.Facts.{is_halted, is_memory, leased_stream, first_numbers}
 use Rattle.run_rules.specs.Devices.{IsWritten}
 use Rattle.run_rules.specs.Outputs.{IsReported}
 use Rattle.run_rules.specs.Work.{Work}
-use Rattle.joined_runs.specs.Devices.{IsReturned}
+use Rattle.joined_runs.specs.Devices.{AreReturned}
 use Rattle.joined_runs.specs.Together.{elements_in_pieces}
 use Rattle.par_join.specs.declared.outcome.Outcome.{Outcome}
 
@@ -79,11 +79,6 @@ pub record IsRunIn (runs : Outcomes) (most : Option ℕ) (pieces : List (List El
   pub remembered : is_memory how ≡ true → memory ≡ true
 
 -- What became of the devices.
-
--- the rows from r on have such devices, with the numbers from n on
-abbrev pub AreReturned : Option Files → ℕ → (ℕ → DeviceTold) → ℕ → List Place → Type 0
-AreReturned files n w r [] = Unit {0}
-AreReturned files n w r (p ∷ ps) = IsReturned files n p (w r) × AreReturned files (n + 1) w (r + 1) ps
 
 -- the depot made a device for each place, and each came back, in any order, with what was written to it kept
 pub record ComesBack (old new : DepotTold) (places : List Place) (w : ℕ → DeviceTold) : Type 0 where

@@ -19,3 +19,5 @@ pub mod Standings
 pub mod Apart
 pub mod Beginnings
 pub mod Closing
+pub mod Mapped
+pub mod Permuted

@@ -20,7 +20,7 @@ use Rattle.device_port.specs.declared.device.Mode.TheVariants as mode
 use Rattle.device_port.specs.Device.{Place, DeviceTold, is_write}
 use Rattle.device_port.specs.Depot.{DepotTold, Files, IsUnknown, KeepsFilesBut, KeepsOtherFiles, KeepsWritten, MayReturn, device_numbers}
 use Rattle.stream_parts.specs.Retire.{Exchanges, HaveOwnOutputs, IsWrittenBy, MayReturnAll, Returns, write_alike}
-use Rattle.stream_parts.proofs.Mapped.{among_map, map_among}
+use Rattle.res_ledger.proofs.Mapped.{among_map, map_among}
 
 -- A list of which no two are alike, in two parts.
 module _ {K : Type 0} (e : K → K → Bool) where

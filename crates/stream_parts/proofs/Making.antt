@@ -16,8 +16,8 @@ use Rattle.stream_parts.specs.Made.{MakesEach, MakesFirst, MakesInVain, MakesMor
 use Rattle.stream_parts.specs.Retire.{Exchanges, IsWrittenBy, MayReturnAll, Returns}
 use Rattle.stream_parts.specs.Same.{AreSame}
 use Rattle.stream_parts.proofs.Exchanged.{exchanges_none, files_same}
-use Rattle.stream_parts.proofs.Mapped.{map_among}
-use Rattle.stream_parts.proofs.Permuted.{among_range, range_distinct}
+use Rattle.res_ledger.proofs.Mapped.{map_among}
+use Rattle.res_ledger.proofs.Permuted.{among_range, range_distinct}
 
 -- Devices that were just made.
 

@@ -32,8 +32,8 @@ use Rattle.pull_stepper.proofs.Slots.{slot_here, slot_past}
 use Rattle.stream_parts.specs.Made.{MakesEach, fresh_for, having_made}
 use Rattle.stream_parts.proofs.Exchanged.{is_writing}
 use Rattle.stream_parts.proofs.Making.{made_unused}
-use Rattle.stream_parts.proofs.Mapped.{map_among}
-use Rattle.stream_parts.proofs.Permuted.{among_range, range_distinct}
+use Rattle.res_ledger.proofs.Mapped.{map_among}
+use Rattle.res_ledger.proofs.Permuted.{among_range, range_distinct}
 
 is_reading : (m : Mode) → is_read m ≡ true → m ≡ mode.Read
 is_reading mode.Read h = refl

@@ -1,11 +1,14 @@
 -- Lists of numbers that have the same elements, and counts over them.
-use Rattle.std.proofs.Common.{◌≡◌, ℕ, zero, suc, ◌+◌, ◌<◌, ◌≤◌, List, [], ◌∷◌, ◌++◌, sym, subst, ⊎_elim, arith, nat_eq}
+use Rattle.std.proofs.Common.{◌≡◌, ℕ, zero, suc, ◌+◌, ◌<◌, ◌≤◌, List, [], ◌∷◌, ◌++◌, length, sym, subst, ⊎_elim, arith, nat_eq}
 use Rattle.std.proofs.lemmas.Bool.{cases_lt}
+use Rattle.std.proofs.lemmas.Cmp.{nat_eq_equiv}
+use Rattle.std.proofs.lemmas.Map.Made.{length-le_from_is_member}
 use Rattle.std.proofs.lemmas.List.Sorted.{IsPermutation-cons, IsPermutation-middle, IsPermutation-refl, IsPermutation-sym, IsPermutation-trans}
 use Rattle.std.specs.List.{range_with_len, IsDistinct}
 use Rattle.std.specs.List.Sorted.{IsPermutation}
 use Rattle.chunk_core.specs.Lists.{IsAmong}
 use Rattle.chunk_core.specs.Lists.IsAmong.{here, there}
+use Rattle.chunk_core.proofs.Bools.{has_in, in_has}
 use Rattle.chunk_core.proofs.Members.{among_nil, among_cons, among_left}
 use Rattle.chunk_core.proofs.Filters.{among_append, among_right}
 use Rattle.res_ledger.proofs.Prefixes.{split_at}
@@ -31,6 +34,10 @@ same_elements (x ∷ xs) ys d g to from =
     (λ y m. ⊎_elim (λ e. absurd (less.1 (subst (λ z. IsAmong z (A ++ B)) e m))) (λ i. i) (among_cons (from y (subst (λ l. IsAmong y l) (sym parts.2) (with_mid A B x y m))))) in
     subst (λ l. IsPermutation (x ∷ xs) l) (sym parts.2)
     (IsPermutation-trans (x ∷ xs) (x ∷ (A ++ B)) (A ++ x ∷ B) (IsPermutation-cons x xs (A ++ B) rest) (IsPermutation-sym (A ++ x ∷ B) (x ∷ (A ++ B)) (IsPermutation-middle A x B)))
+
+-- of numbers that all stand in another list there are no more than that has
+pub distinct_within : (xs ys : List ℕ) → IsDistinct nat_eq xs → ((x : ℕ) → IsAmong x xs → IsAmong x ys) → length xs ≤ length ys
+distinct_within xs ys d h = length-le_from_is_member nat_eq_equiv xs ys d (λ q m. in_has q ys (h q (has_in q xs m)))
 
 -- Numbers in succession.
 
