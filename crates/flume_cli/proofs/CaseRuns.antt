@@ -1,8 +1,7 @@
 -- A case that was run over its files.
-use Rattle.std.proofs.Common.{◌≡◌, ◌⊎◌, ℕ, zero, suc, ◌+◌, ◌<◌, ◌≤◌, ◌^◌, ◌&&◌, ◌||◌, Bool, true, false, not, nat_eq, is_some, List, [], ◌∷◌, ◌++◌, map, length, Option, Some, None, IfSome, refl, sym, ap, ◌∙◌, subst, inl, inr, ⊎_elim, arith, lit<}
+use Rattle.std.proofs.Common.{◌≡◌, ◌⊎◌, ℕ, zero, suc, ◌+◌, ◌<◌, ◌≤◌, ◌||◌, Bool, true, false, not, is_some, List, [], ◌∷◌, map, length, Option, Some, None, IfSome, refl, sym, ap, ◌∙◌, subst, inl, inr, ⊎_elim, arith, lit<}
 use Rattle.std.specs.Prelude.{flat_map}
 use Rattle.std.specs.List.{AllByRecursion, list_all as all, list_any as any, range_with_len}
-use Rattle.std.proofs.lemmas.Bool.{and_parts, both_ways, eqb-true}
 use Rattle.std.proofs.lemmas.List.{length-map}
 use Rattle.std.proofs.lemmas.List.FromFn.{length-map-range_with_len}
 use Rattle.chunk_core.proofs.Each.{among_each}
@@ -16,24 +15,21 @@ use Rattle.csv_pipes.specs.Dictionaries.{table_value}
 use Rattle.res_ledger.specs.declared.event.Event.{Event}
 use Rattle.device_port.specs.Depot.{DepotTold, content_at}
 use Rattle.device_port.specs.Device.{DeviceTold, faults_of}
-use Rattle.pipeline_desc.specs.declared.stream.StreamSpec.{StreamSpec}
 use Rattle.pull_nodes.specs.Runs.{IsFault}
 use Rattle.run_rules.specs.declared.end.EndOf.{EndOf}
 use Rattle.run_rules.specs.Devices.{came_back}
 use Rattle.run_rules.specs.Facts.{first_numbers, is_fault}
 use Rattle.run_rules.specs.Homes.{AreAtHome, IsBack, IsUntouched}
-use Rattle.run_rules.specs.Opening.{AreTablesFailed, HasOuterEnd, IsOuterEnd, IsRefusedBy, IsTableFailed}
+use Rattle.run_rules.specs.Opening.{HasOuterEnd, IsOuterEnd, IsRefusedBy, IsTableFailed}
 use Rattle.run_rules.specs.Outputs.{AreOutputs, IsOutput, IsReported, IsRest}
-use Rattle.run_rules.specs.Run.{IsUnmade, Performs, Ran}
+use Rattle.run_rules.specs.Run.{Ran}
 use Rattle.run_rules.specs.Wholeness.{AreUnfailed, IsWholeRun, NothingFailed}
 use Rattle.run_rules.specs.Work.{Opener, RunRecord, Stream, Work, inner_ends}
 use Rattle.plan_work.specs.Plans.{opener_of, run_work, stream_of}
-use Rattle.gen_case.specs.Case.{stream_path, stream_text, table_path, table_text}
+use Rattle.gen_case.specs.Case.{stream_path, table_path, table_text}
 use Rattle.gen_case.specs.Ideal.{AreIdeal, ideal_text}
 use Rattle.gen_case.specs.Plan.{plan_of, stream_spec}
-use Rattle.gen_case.specs.Rendering.{looked_up_rows}
 use Rattle.gen_case.specs.Runs.{FindsFiles, IsOverFiles, depot_of}
-use Rattle.gen_case.specs.Sure.{are_unfailed}
 use Rattle.gen_case.specs.Tally.{AreNumbered}
 use Rattle.gen_case.specs.declared.case.Case.{Case}
 use Rattle.gen_case.proofs.Found.{files_are_found}
@@ -41,11 +37,6 @@ use Rattle.gen_case.proofs.Ideal.{ideal_frames_add_up}
 use Rattle.gen_case.proofs.Nodes.{nodes_never_fail, nodes_run_ideal}
 use Rattle.gen_case.proofs.Rendering.{streams_render_ideal, table_is_read}
 use Rattle.flume_cli.specs.Generated.{IsWholeCase, case_run}
-
--- each device is one on which no call failed
-pub each_unfailed : (ds : List DeviceTold) → are_unfailed ds ≡ true → AllByRecursion (λ d. faults_of d ≡ 0) ds
-each_unfailed [] h = tt
-each_unfailed (d ∷ ds) h = let parts = and_parts (nat_eq (faults_of d) 0) (are_unfailed ds) h in (eqb-true (faults_of d) 0 parts.0, each_unfailed ds parts.1)
 
 -- what holds of each number below n
 module _ (P : ℕ → Type 0) where
@@ -91,7 +82,7 @@ never_stopped (suc n) a = never_stopped n (a + 1)
 streams_count : (n : ℕ) → length (streams_from 0 n) ≡ n
 streams_count n = length-map (map stream_spec (range_with_len 0 n)) stream_of ∙ length-map-range_with_len stream_spec 0 n
 
-module _ (case : Case) (few : case.streams ≤ 64) (short : case.lines ≤ 100000) (depot : DepotTold) (ends : List EndOf) (L : List Event) (F : List Frame) (cut : Option Frame) (rest : List ℕ) (memory : Bool) (quiet : are_unfailed depot.retired ≡ true) where
+module _ (case : Case) (few : case.streams ≤ 64) (short : case.lines ≤ 100000) (depot : DepotTold) (ends : List EndOf) (L : List Event) (F : List Frame) (cut : Option Frame) (rest : List ℕ) (memory : Bool) (sound : AllByRecursion (λ d. faults_of d ≡ 0) (came_back (depot_of case) depot)) where
   abbrev run : RunRecord
   run = case_run case depot ends L F cut rest memory
 
@@ -103,9 +94,6 @@ module _ (case : Case) (few : case.streams ≤ 64) (short : case.lines ≤ 10000
 
   found : FindsFiles case
   found = files_are_found case (omega (arith, few))
-
-  sound : AllByRecursion (λ d. faults_of d ≡ 0) (came_back (depot_of case) depot)
-  sound = each_unfailed depot.retired quiet
 
   module _ (ran : Ran work run) where
     abbrev home : ℕ → DeviceTold

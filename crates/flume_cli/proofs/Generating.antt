@@ -6,14 +6,16 @@ use Rattle.chunk_core.specs.Texts.{Frame, frames_text}
 use Rattle.chunk_core.specs.declared.code.How.TheVariants as how
 use Rattle.res_ledger.specs.declared.event.Event.{Event}
 use Rattle.device_port.specs.Depot.{DepotTold}
+use Rattle.device_port.specs.Device.{faults_of}
 use Rattle.device_port.specs.Sink.{BreaksOff, SinkTold, with_bytes}
 use Rattle.device_port.specs.Source.{SourceTold}
 use Rattle.command_words.specs.Words.{command_of}
 use Rattle.command_words.specs.declared.asked.Asked.TheVariants.{Gen}
 use Rattle.pipeline_desc.specs.Meant.{PlanMeant}
 use Rattle.run_rules.specs.declared.end.EndOf.{EndOf}
+use Rattle.run_rules.specs.Devices.{came_back}
 use Rattle.run_rules.specs.Facts.{has_event, is_failed, is_fault, is_memory}
-use Rattle.run_rules.specs.Run.{IsUnmade, Performs, Ran}
+use Rattle.run_rules.specs.Run.{IsUnmade, Ran}
 use Rattle.plan_work.specs.Plans.{run_work}
 use Rattle.par_join.specs.Plans.{RunsPlan}
 use Rattle.par_join.specs.declared.outcome.Outcome.{Outcome}
@@ -28,8 +30,9 @@ use Rattle.flume_cli.specs.declared.status.Status.TheVariants as status
 use Rattle.flume_cli.specs.Call.{call_of}
 use Rattle.flume_cli.specs.Finish.{PrintsText, TellsText}
 use Rattle.flume_cli.specs.Generated.{Generates, IsWholeCase, RunsCase, Sums, case_run, text_of_run}
-use Rattle.flume_cli.specs.Headline.{Call, Does, Headline, KeepsSource, IsToldLine, PrintsNothing, PrintsSummary, TellsCase}
+use Rattle.flume_cli.specs.Headline.{Call, Does, Headline, KeepsSource, IsToldLine, PrintsNothing, PrintsSummary}
 use Rattle.flume_cli.specs.Status.{Causes, line_of, status_of}
+use Rattle.flume_cli.proofs.CaseDevices.{no_faults}
 use Rattle.flume_cli.proofs.CaseRuns.{ends_unfailed, no_rest, numbered, whole}
 use Rattle.flume_cli.proofs.Telling.{kept, report_is, rose}
 
@@ -51,11 +54,14 @@ abbrev no_bytes : SinkTold
 no_bytes = record { written = Some []; faults = 0 }
 
 module _ (case : Case) (few : case.streams ≤ 64) (short : case.lines ≤ 100000) (depot : DepotTold) (sn : SinkTold) (o : Outcome) (quiet : are_unfailed depot.retired ≡ true) (did : RunsPlan (plan_of case) (depot_of case) depot no_bytes sn o) where
+  sound : AllByRecursion (λ d. faults_of d ≡ 0) (came_back (depot_of case) depot)
+  sound = no_faults case depot o.ledger quiet did.performs.devices
+
   unfailed : any (λ e. is_fault e.how) o.ends ≡ false
   unfailed =
       ⊎_elim
       (λ (u : IsUnmade (case_run case depot o.ends o.ledger did.frames did.cut did.rest o.memory)). ap (λ (es : List EndOf). any (λ (e : EndOf). is_fault e.how) es) u.ends)
-      (λ r. ends_unfailed case few short depot o.ends o.ledger did.frames did.cut did.rest o.memory quiet r)
+      (λ r. ends_unfailed case few short depot o.ends o.ledger did.frames did.cut did.rest o.memory sound r)
       did.performs.ran
 
   abbrev runs : RunsCase case o.ends o.ledger
@@ -70,13 +76,13 @@ module _ (case : Case) (few : case.streams ≤ 64) (short : case.lines ≤ 10000
 
     written : sn.written ≡ Some (frames_text did.frames)
     written =
-        let rest = no_rest case few short depot o.ends o.ledger did.frames did.cut did.rest o.memory quiet ran uncut sums.memory in
+        let rest = no_rest case few short depot o.ends o.ledger did.frames did.cut did.rest o.memory sound ran uncut sums.memory in
         ap (λ (s : SinkTold). s.written) did.wrote ∙ (ap (λ (r : List ℕ). Some (frames_text did.frames ++ r)) rest ∙ ap (λ (b : List ℕ). Some b) (append-nil (frames_text did.frames)))
 
     summed : IsWholeCase case o.ends o.ledger did.frames × (text ≡ text_of_run case did.frames o.ledger)
     summed = (
-      whole case few short depot o.ends o.ledger did.frames did.cut did.rest o.memory quiet ran uncut sums.memory,
-      sums.text did.frames (numbered case few short depot o.ends o.ledger did.frames did.cut did.rest o.memory quiet ran uncut sums.memory) written,
+      whole case few short depot o.ends o.ledger did.frames did.cut did.rest o.memory sound ran uncut sums.memory,
+      sums.text did.frames (numbered case few short depot o.ends o.ledger did.frames did.cut did.rest o.memory sound ran uncut sums.memory) written,
     )
 
   generated : (text : Option (List ℕ)) → Sums case o sn text → Generates case o.ends o.ledger text

@@ -5,7 +5,7 @@
 //! with its path: one for each stream, and behind them the table's. `plan_of` gives its plan, and
 //! `tables_of` and `streams_of` the table and the streams of it. `summary_of` counts what was
 //! printed and noted of a run, and `text` is what is printed of a summary. A `SureDepot` has files
-//! like these in memory, and none of its devices fails. The one error is
+//! like these in memory, and its devices fail at no open, read or close. The one error is
 //! `AllocError`, for want of memory. No number is too large for the files and the summary; a plan
 //! has at most 1,024 streams.
 //!

@@ -1,23 +1,23 @@
-//! A depot in memory whose devices don't fail.
-ghost use Rattle.std.specs.Prelude.{◌≡◌, true, []};
-ghost use Rattle.device_port.specs.Device.{faults_of};
+//! A depot in memory whose devices fail no open, read or close.
+ghost use Rattle.std.specs.Prelude.{◌≡◌, ◌&&◌, not, true, false, []};
+ghost use Rattle.device_port.specs.Device.{is_read};
 ghost use Rattle.device_port.specs.MemDepot.{depot_told};
 ghost use Rattle.device_port.specs.Records.{record_told};
-ghost use Rattle.device_port.specs.declared.device.Mode.TheVariants as mode;
-ghost use Rattle.gen_case.specs.Sure.{are_unfailed, is_spared};
+ghost use Rattle.gen_case.specs.Sure.{are_unfailed, faults_but_writes, is_spared, is_unwritten};
 
 use chunk_core::{Exit, List, Word};
 use device_port::{Depot, Device, Failed, FileOf, MemDepot, MemDevice, Mode};
 use std::alloc::{AllocError, Global};
 
-/// A device that reads a file that is there. None of its calls fails.
+/// A device in memory, which is there if it is to be read. A write fails for want of memory, and no
+/// other call fails.
 #[derive(Drop)]
 pub struct SureDevice {
     device: MemDevice,
-    ghost reads: { device.facts.mode ≡ mode.Read },
-    ghost present: { device.facts.present ≡ true },
+    ghost present: { is_read device.facts.mode && not device.facts.present ≡ false },
     ghost spared: { is_spared device.calls ≡ true },
-    ghost unfailed: { faults_of (record_told device.facts) ≡ 0 },
+    ghost unfailed: { faults_but_writes (record_told device.facts) ≡ 0 },
+    ghost reads: { is_unwritten (record_told device.facts) ≡ true },
 }
 
 impl Device for SureDevice {
@@ -55,7 +55,7 @@ impl Device for SureDevice {
     }
 }
 
-/// Files in memory that are read, and the devices that were made for them, of which none failed.
+/// Files in memory, and the devices that were made for them, of which none failed but at a write.
 #[derive(Drop)]
 pub struct SureDepot {
     depot: MemDepot,
@@ -84,10 +84,10 @@ impl Depot for SureDepot {
 
     ghost told = { sure_told };
 
-    /// Makes a device for a file that is there and is to be read. For another place it gives up as
-    /// for want of memory.
+    /// Makes a device to write to, or to read a file that is there. To read another one it gives up
+    /// as for want of memory.
     fn make(&mut self, alloc: Global, path: &Word, mode: Mode) -> Result<SureDevice, AllocError> {
-        if mode == Mode::Write || self.depot.file(path.as_str()).is_none() {
+        if mode == Mode::Read && self.depot.file(path.as_str()).is_none() {
             return Err(AllocError);
         }
         let device = self.depot.make(alloc, path, mode)?;
