@@ -82,8 +82,9 @@ fn rows_text(alloc: Global, rows: &[Row]) -> Result<Line, AllocError>
     let mut writer = WriterBuilder::new()
         .flexible(true)
         .from_writer(Vec::new(alloc));
+    let mut fields = Vec::new(alloc);
     for row in rows {
-        let fields = fields_of(alloc, row.as_slice())?;
+        view_fields(&mut fields, row.as_slice())?;
         if put_row(&mut writer, fields.as_slice()).is_err() {
             return Err(AllocError);
         }
@@ -94,14 +95,15 @@ fn rows_text(alloc: Global, rows: &[Row]) -> Result<Line, AllocError>
     }
 }
 
-fn fields_of<'a>(alloc: Global, row: &'a [Line]) -> Result<Vec<&'a [u8]>, AllocError>
-    ensures { IfOk result (λ fields. map (λ f. f.now) fields.items ≡ row.entry.now) }
+/// Views of a row's fields, in place of those of another row.
+fn view_fields<'a>(fields: &mut Vec<&'a [u8]>, row: &'a [Line]) -> Result<(), AllocError>
+    ensures { OnOk result (map (λ f. f.now) fields.new.items ≡ row.entry.now) }
 {
-    let mut fields = Vec::new(alloc);
+    fields.clear();
     for field in row {
         fields.push(field.as_slice())?;
     }
-    Ok(fields)
+    Ok(())
 }
 
 // Writing to a `Vec` fails only at want of memory.
