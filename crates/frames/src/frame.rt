@@ -14,6 +14,9 @@ use std::alloc::{AllocError, Global};
 /// The longest payload that is written in one call with its header.
 const LONGEST_GATHERED: usize = 8000;
 
+/// The longest of them that takes the smaller room, since room is cleared first: a whole read by default.
+const LONGEST_SMALL: usize = 4096;
+
 /// Why a load wasn't printed.
 #[derive(Clone, Copy, Debug, PartialEq, Eq)]
 pub enum NotPut {
@@ -45,20 +48,27 @@ pub fn put_frame<K: Sink>(out: &mut K, stream: u32, payload: &[u8]) -> Result<()
     ensures { Puts (K.told out.old) (K.told out.new) (frame_text stream payload.now) result }
 {
     let header = header_of(stream, payload.len());
-    if payload.len() <= LONGEST_GATHERED {
-        put_gathered(out, header.as_slice(), payload)
+    if payload.len() <= LONGEST_SMALL {
+        put_gathered::<K, 4224>(out, header.as_slice(), payload)
+    } else if payload.len() <= LONGEST_GATHERED {
+        put_gathered::<K, 8192>(out, header.as_slice(), payload)
     } else {
         put_in_parts(out, header.as_slice(), payload)
     }
 }
 
-fn put_gathered<K: Sink>(out: &mut K, header: &[u8], payload: &[u8]) -> Result<(), Failed>
-    requires header { length header.now ≤ 96 }
-    requires payload { length payload.now ≤ 8000 }
+/// Writes a frame as one text, which has room for it.
+fn put_gathered<K: Sink, const ROOM: usize>(
+    out: &mut K,
+    header: &[u8],
+    payload: &[u8],
+) -> Result<(), Failed>
+    requires fits { length header.now + length payload.now < ROOM }
+    requires small { ROOM ≤ 8192 }
     requires room { (K.told out.old).faults < 2 ^ 64 - 1 }
     ensures { Puts (K.told out.old) (K.told out.new) (header.now ++ (payload.now ++ 10 ∷ [])) result }
 {
-    let mut frame = ArrayVec::<u8, 8192>::new();
+    let mut frame = ArrayVec::<u8, ROOM>::new();
     let _ = frame.try_extend_from_slice(header);
     let _ = frame.try_extend_from_slice(payload);
     let _ = frame.try_extend_from_slice(b"\n");
