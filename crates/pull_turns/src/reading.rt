@@ -1,5 +1,5 @@
 //! One read of a device.
-ghost use Rattle.std.specs.Prelude.{◌≡◌, ◌-◌, ◌^◌, ◌<◌, min, IfOk, OnErr};
+ghost use Rattle.std.specs.Prelude.{◌≡◌, ◌-◌, ◌^◌, ◌<◌, length, min, IfOk, OnErr};
 ghost use Rattle.device_port.specs.declared.device.Mode.TheVariants as mode;
 ghost use Rattle.pull_turns.specs.Around.{IsHeld};
 ghost use Rattle.pull_turns.specs.Moves.{ReadsPiece, ReadsPlace};
@@ -13,6 +13,46 @@ use std::alloc::{AllocError, Global};
 /// The most bytes of one device.
 const ENDLESS: u64 = 1 << 40;
 
+/// The piece that was read last. Once nobody else has it, the next read fills its memory again. No
+/// clause speaks of it: each read answers as one that makes its piece anew.
+#[derive(Drop)]
+pub(crate) struct SparePiece {
+    last: Option<Chunk<u8>>,
+}
+
+impl SparePiece {
+    /// Nothing is spare.
+    pub(crate) fn new() -> SparePiece {
+        SparePiece { last: None }
+    }
+
+    /// So many bytes to read into, whatever they are.
+    fn buffer(&mut self, alloc: Global, size: usize) -> Result<Vec<u8>, AllocError>
+        ensures { IfOk result (λ bytes. length bytes.items ≡ size) }
+    {
+        let mut bytes = match self.regain() {
+            Some(bytes) => bytes,
+            None => Vec::new(alloc),
+        };
+        bytes.resize(size, 0)?;
+        Ok(bytes)
+    }
+
+    /// The bytes of the last piece, where nobody else has them.
+    fn regain(&mut self) -> Option<Vec<u8>> {
+        self.last.take()?.into_vec().ok()
+    }
+
+    /// The bytes as a chunk, of which a share is kept.
+    fn give(&mut self, alloc: Global, bytes: Vec<u8>) -> Result<Chunk<u8>, AllocError>
+        ensures { IfOk result (λ chunk. chunk ≡ bytes.items) }
+    {
+        let given = Chunk::of_vec(alloc, bytes)?;
+        self.last = given.share().ok();
+        Ok(given)
+    }
+}
+
 /// Reads a piece of at most `chunk` bytes: asks for so many, or for what is left below the limit.
 pub(crate) fn read_piece<G: Outside>(
     alloc: Global,
@@ -21,6 +61,7 @@ pub(crate) fn read_piece<G: Outside>(
     place: u32,
     given: &mut u64,
     chunk: u32,
+    spare: &mut SparePiece,
 ) -> Result<Turn, AllocError>
     requires fits { G.fits outside.old desk.old }
     requires held { IsHeld (G.seen outside.old) place }
@@ -36,14 +77,13 @@ pub(crate) fn read_piece<G: Outside>(
     if *given >= ENDLESS {
         return Ok(Turn::Fault(Code::Endless));
     }
-    let mut bytes = Vec::new(alloc);
-    bytes.resize(room(*given, chunk), 0)?;
+    let mut bytes = spare.buffer(alloc, room(*given, chunk))?;
     match outside.read(desk, place, &mut bytes) {
         Ok(0) => Ok(Turn::Done),
         Ok(count) => {
             bytes.truncate(count);
             *given += count as u64;
-            Ok(Turn::Chunk(Load::Bytes(Chunk::of_vec(alloc, bytes)?)))
+            Ok(Turn::Chunk(Load::Bytes(spare.give(alloc, bytes)?)))
         }
         Err(Failed) => Ok(Turn::Fault(Code::Read)),
     }

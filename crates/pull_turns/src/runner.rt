@@ -14,6 +14,7 @@ ghost use Rattle.pull_turns.specs.Work.{Lessens};
 ghost use Rattle.pull_turns.specs.declared.rest.Rest.TheVariants as rest;
 
 use crate::outside::Outside;
+use crate::reading::SparePiece;
 use crate::rest::Rest;
 use crate::step::{leave_at_end, step};
 use crate::turn::Turn;
@@ -31,6 +32,7 @@ pub struct Runner<O, F> {
     rest: Rest<F>,
     outside: O,
     chunk: u32,
+    spare: SparePiece,
     how: Option<How>,
     wanting: bool,
 }
@@ -59,6 +61,7 @@ impl<O: Outside, F: PipeState> Runner<O, F> {
             rest: Rest::Start(node),
             outside,
             chunk,
+            spare: SparePiece::new(),
             how: None,
             wanting: false,
         }
@@ -92,6 +95,7 @@ impl<O: Outside, F: PipeState> Runner<O, F> {
             desk,
             0,
             self.chunk,
+            &mut self.spare,
             false,
         )?;
         self.wanting = false;
@@ -178,6 +182,7 @@ impl<O: Outside, F: PipeState> Runner<O, F> {
             rest: _,
             outside,
             chunk: _,
+            spare: _,
             how,
             wanting: _,
         } = self;

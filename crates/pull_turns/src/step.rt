@@ -15,7 +15,7 @@ use crate::groups::{first_group, grouped};
 use crate::loads::taken;
 use crate::outside::Outside;
 use crate::piping::{finish, go_through, pass};
-use crate::reading::read_piece;
+use crate::reading::{SparePiece, read_piece};
 use crate::rest::{Rest, When};
 use crate::sided::{merged, zipped};
 use crate::turn::Turn;
@@ -35,6 +35,7 @@ pub(crate) fn step<O: Outside, F: PipeState>(
     desk: &mut O::Desk,
     scope: u32,
     chunk: u32,
+    spare: &mut SparePiece,
     whole: bool,
 ) -> Result<Turn, AllocError>
     requires fits { O.fits outside.old desk.old }
@@ -62,21 +63,21 @@ pub(crate) fn step<O: Outside, F: PipeState>(
             Ok(turn)
         }
         Rest::Read(place, given) => {
-            let turn = read_piece(alloc, outside, desk, *place, given, chunk)?;
+            let turn = read_piece(alloc, outside, desk, *place, given, chunk, spare)?;
             Ok(turn)
         }
         Rest::Within(child, a) => {
-            let turn = step(alloc, tables, a, outside, desk, *child, chunk, whole)?;
+            let turn = step(alloc, tables, a, outside, desk, *child, chunk, spare, whole)?;
             leave_at_end(outside, desk, *child, &turn);
             Ok(turn)
         }
         Rest::Then(when, a, _) => {
             let when = *when;
-            let turn = step(alloc, tables, a, outside, desk, scope, chunk, whole)?;
+            let turn = step(alloc, tables, a, outside, desk, scope, chunk, spare, whole)?;
             Ok(after_first(rest, when, turn))
         }
         Rest::Through(a, state) => {
-            let below = step(alloc, tables, a, outside, desk, scope, chunk, true)?;
+            let below = step(alloc, tables, a, outside, desk, scope, chunk, spare, true)?;
             let (turn, after) = pass(alloc, state, below)?;
             go_through(rest, after);
             Ok(turn)
@@ -92,7 +93,7 @@ pub(crate) fn step<O: Outside, F: PipeState>(
                 let group = first_group(*size, waits, load)?;
                 return Ok(Turn::Chunk(group));
             }
-            let turn = step(alloc, tables, a, outside, desk, scope, chunk, true)?;
+            let turn = step(alloc, tables, a, outside, desk, scope, chunk, spare, true)?;
             let turn = grouped(*size, waits, turn)?;
             Ok(turn)
         }
@@ -100,34 +101,34 @@ pub(crate) fn step<O: Outside, F: PipeState>(
             if *wanted == 0 {
                 return Ok(Turn::Done);
             }
-            let turn = step(alloc, tables, a, outside, desk, scope, chunk, true)?;
+            let turn = step(alloc, tables, a, outside, desk, scope, chunk, spare, true)?;
             let turn = taken(wanted, turn)?;
             Ok(turn)
         }
         Rest::Into(place, written, a) => {
-            let below = step(alloc, tables, a, outside, desk, scope, chunk, true)?;
+            let below = step(alloc, tables, a, outside, desk, scope, chunk, spare, true)?;
             let turn = write_load(alloc, outside, desk, *place, written, below)?;
             Ok(turn)
         }
         Rest::Zip(state, a, b) => match state.need() {
             Side::Left => {
-                let below = step(alloc, tables, a, outside, desk, scope, chunk, true)?;
+                let below = step(alloc, tables, a, outside, desk, scope, chunk, spare, true)?;
                 let turn = zipped(state, Side::Left, below)?;
                 Ok(turn)
             }
             Side::Right => {
-                let below = step(alloc, tables, b, outside, desk, scope, chunk, true)?;
+                let below = step(alloc, tables, b, outside, desk, scope, chunk, spare, true)?;
                 let turn = zipped(state, Side::Right, below)?;
                 Ok(turn)
             }
         },
         Rest::Merge(state, a, b) => match state.next() {
             Side::Left => {
-                let below = step(alloc, tables, a, outside, desk, scope, chunk, whole)?;
+                let below = step(alloc, tables, a, outside, desk, scope, chunk, spare, whole)?;
                 Ok(merged(state, Side::Left, a, below))
             }
             Side::Right => {
-                let below = step(alloc, tables, b, outside, desk, scope, chunk, whole)?;
+                let below = step(alloc, tables, b, outside, desk, scope, chunk, spare, whole)?;
                 Ok(merged(state, Side::Right, b, below))
             }
         },
