@@ -274,23 +274,31 @@ module _ (a : Around) (s : ℕ) where
   part_fresh P ps (Scope' _ n) h w r t u = part_fresh P ps n h w r t u
   part_fresh P ps (Append' _ n _ m) h w r t u = (
     (λ p i j. sides_apart ps n m h p (in_lists p n i) (in_lists p m j)),
-    part_fresh P ps n (first_part ps n m h) (λ p i. w p (among_left (places_of m) i)) r.0 t.0 u,
-    part_fresh P ps m (second_part ps n m h) (λ p i. w p (among_right _ (places_of n) _ i)) r.1 t.1 u,
+    (
+      part_fresh P ps n (first_part ps n m h) (λ p i. w p (among_left (places_of m) i)) r.0 t.0 u,
+      part_fresh P ps m (second_part ps n m h) (λ p i. w p (among_right _ (places_of n) _ i)) r.1 t.1 u,
+    ),
   )
   part_fresh P ps (OnFault' _ n _ m) h w r t u = (
     (λ p i j. sides_apart ps n m h p (in_lists p n i) (in_lists p m j)),
-    part_fresh P ps n (first_part ps n m h) (λ p i. w p (among_left (places_of m) i)) r.0 t.0 u,
-    part_fresh P ps m (second_part ps n m h) (λ p i. w p (among_right _ (places_of n) _ i)) r.1 t.1 u,
+    (
+      part_fresh P ps n (first_part ps n m h) (λ p i. w p (among_left (places_of m) i)) r.0 t.0 u,
+      part_fresh P ps m (second_part ps n m h) (λ p i. w p (among_right _ (places_of n) _ i)) r.1 t.1 u,
+    ),
   )
   part_fresh P ps (Zip' _ n _ m) h w r t u = (
     (λ p i j. sides_apart ps n m h p (in_lists p n i) (in_lists p m j)),
-    part_fresh P ps n (first_part ps n m h) (λ p i. w p (among_left (places_of m) i)) r.0 t.0 u,
-    part_fresh P ps m (second_part ps n m h) (λ p i. w p (among_right _ (places_of n) _ i)) r.1 t.1 u,
+    (
+      part_fresh P ps n (first_part ps n m h) (λ p i. w p (among_left (places_of m) i)) r.0 t.0 u,
+      part_fresh P ps m (second_part ps n m h) (λ p i. w p (among_right _ (places_of n) _ i)) r.1 t.1 u,
+    ),
   )
   part_fresh P ps (Merge' _ n _ m) h w r t u = (
     (λ p i j. sides_apart ps n m h p (in_lists p n i) (in_lists p m j)),
-    part_fresh P ps n (first_part ps n m h) (λ p i. w p (among_left (places_of m) i)) r.0 t.0 u,
-    part_fresh P ps m (second_part ps n m h) (λ p i. w p (among_right _ (places_of n) _ i)) r.1 t.1 u,
+    (
+      part_fresh P ps n (first_part ps n m h) (λ p i. w p (among_left (places_of m) i)) r.0 t.0 u,
+      part_fresh P ps m (second_part ps n m h) (λ p i. w p (among_right _ (places_of n) _ i)) r.1 t.1 u,
+    ),
   )
   part_fresh P ps (Through' _ n q) h w r t u = part_fresh P ps n h w r t u
   part_fresh P ps (Take' _ _ n) h w r t u = part_fresh P ps n h w r t u

@@ -145,12 +145,12 @@ module _ {F : Type 0} (P : StateMeaning F) where
 
   pub append_enter : (a : Around) (s n : ℕ) (p q r : Box (Unit {0}) Global) (b : Box Node Global) (x : Node) → CanStep P a s (Start (node.Append' p x q b.value)) → Turned P a a s n (Start (node.Append' p x q b.value)) (Then' when.Done r (Start x) b) turn.Quiet
   append_enter a s n p q r b x h = turned_same P a s n _ _ _ (λ p i. i) (omega arith)
-      (omega (arith, length-append (places_of x) (places_of b.value))) (omega arith) (λ c i. i) (λ g. h.ready) (λ g. h.pipes) (λ k i. i) (λ g. inl (omega arith))
+      (omega (arith, length-append (places_of x) (places_of b.value))) (omega arith) (λ c. elim [ inl i ↦ i | inr i ↦ i ]) (λ g. (h.ready.0, h.ready.1.0, h.ready.1.1)) (λ g. h.pipes) (λ k i. i) (λ g. inl (omega arith))
       (cause_none a.told a.told _ _ quiet_goes_on) (λ w o. record { gives = λ ys g i. i })
 
   pub guard_enter : (a : Around) (s n : ℕ) (p q r : Box (Unit {0}) Global) (b : Box Node Global) (x : Node) → CanStep P a s (Start (node.OnFault' p x q b.value)) → Turned P a a s n (Start (node.OnFault' p x q b.value)) (Then' when.Fault r (Start x) b) turn.Quiet
   guard_enter a s n p q r b x h = turned_same P a s n _ _ _ (λ p i. i) (omega arith)
-      (omega (arith, length-append (places_of x) (places_of b.value))) (omega arith) (λ c i. i) (λ g. h.ready) (λ g. h.pipes) (λ k i. i) (λ g. inl (omega arith))
+      (omega (arith, length-append (places_of x) (places_of b.value))) (omega arith) (λ c. elim [ inl i ↦ i | inr i ↦ i ]) (λ g. (h.ready.0, h.ready.1.0, h.ready.1.1)) (λ g. h.pipes) (λ k i. i) (λ g. inl (omega arith))
       (cause_none a.told a.told _ _ quiet_goes_on) (λ w o. record { gives = λ ys g i. i })
 
   pub take_enter : (a : Around) (s n m : ℕ) (p r : _) (x : Node) → CanStep P a s (Start (node.Take' m p x)) → Turned P a a s n (Start (node.Take' m p x)) (Take' m r (Start x)) turn.Quiet
@@ -178,7 +178,7 @@ module _ {F : Type 0} (P : StateMeaning F) where
   pub zip_enter : (a : Around) (s n : ℕ) (p q u v : Box (Unit {0}) Global) (x y : Node) → CanStep P a s (Start (node.Zip' p x q y)) → Turned P a a s n (Start (node.Zip' p x q y)) (Zip' (record { left = []; right = [] }) u (Start x) v (Start y)) turn.Quiet
   zip_enter a s n p q u v x y h = turned_same P a s n _ _ _ (λ p i. i) (omega arith)
       (omega (arith, length-append (places_of x) (places_of y))) (omega arith) (λ c. elim [ inl i ↦ i | inr i ↦ i ])
-      (λ g. (sides_ready a s x y h.ready.0, h.ready.1, h.ready.2, tt, tt)) (λ g. h.pipes) (λ k i. i) (λ g. inl (omega arith))
+      (λ g. (sides_ready a s x y h.ready.0, h.ready.1.0, h.ready.1.1, tt, tt)) (λ g. h.pipes) (λ k i. i) (λ g. inl (omega arith))
       (cause_none a.told a.told _ _ quiet_goes_on)
       (λ w o. by_left (by_zipped_first (IsRun P.values w x) (IsRun P.values w y)) (λ i. zipped_stops [] [] (IsRun P.values w x) (IsRun P.values w y) (inr (refl, inl (refl, i.0))) (inr (refl, inl (refl, i.1)))))
 
@@ -186,5 +186,5 @@ module _ {F : Type 0} (P : StateMeaning F) where
       → Turned P a a s n (Start (node.Merge' p x q y)) (Merge' (record { turn = Left; left_ended = false; right_ended = false }) u (Start x) v (Start y)) turn.Quiet
   merge_enter a s n p q u v x y h = turned_same P a s n _ _ _ (λ p i. i) (omega arith)
       (omega (arith, length-append (places_of x) (places_of y))) (omega arith) (λ c. elim [ inl i ↦ i | inr i ↦ i ])
-      (λ g. (sides_ready a s x y h.ready.0, h.ready.1, h.ready.2, inl refl, (λ i. absurd (false≢true i)), (λ i. absurd (false≢true i)))) (λ g. h.pipes) (λ k i. i) (λ g. inl (omega arith))
+      (λ g. (sides_ready a s x y h.ready.0, h.ready.1.0, h.ready.1.1, inl refl, (λ i. absurd (false≢true i)), (λ i. absurd (false≢true i)))) (λ g. h.pipes) (λ k i. i) (λ g. inl (omega arith))
       (cause_none a.told a.told _ _ quiet_goes_on) (λ w o. record { gives = λ ys g i. i })

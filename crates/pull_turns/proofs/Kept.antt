@@ -145,15 +145,15 @@ module _ (a b : Around) (s t : ℕ) where
   )
   fresh_on P Q (node.Scope' _ n) d w o f h = fresh_on P Q n d w o f h
   fresh_on P Q (node.Append' _ n _ m) d w o f h =
-      (h.0, fresh_on P Q n (λ p i. d p (inl i)) (λ p i. w p (inl i)) (λ p i. o p (inl i)) f h.1, fresh_on P Q m (λ p i. d p (inr i)) (λ p i. w p (inr i)) (λ p i. o p (inr i)) f h.2)
+      (h.0, (fresh_on P Q n (λ p i. d p (inl i)) (λ p i. w p (inl i)) (λ p i. o p (inl i)) f h.1.0, fresh_on P Q m (λ p i. d p (inr i)) (λ p i. w p (inr i)) (λ p i. o p (inr i)) f h.1.1))
   fresh_on P Q (node.OnFault' _ n _ m) d w o f h =
-      (h.0, fresh_on P Q n (λ p i. d p (inl i)) (λ p i. w p (inl i)) (λ p i. o p (inl i)) f h.1, fresh_on P Q m (λ p i. d p (inr i)) (λ p i. w p (inr i)) (λ p i. o p (inr i)) f h.2)
+      (h.0, (fresh_on P Q n (λ p i. d p (inl i)) (λ p i. w p (inl i)) (λ p i. o p (inl i)) f h.1.0, fresh_on P Q m (λ p i. d p (inr i)) (λ p i. w p (inr i)) (λ p i. o p (inr i)) f h.1.1))
   fresh_on P Q (node.Through' _ n q) d w o f h = fresh_on P Q n d w o f h
   fresh_on P Q (node.Take' n _ m) d w o f h = fresh_on P Q m d w o f h
   fresh_on P Q (node.Zip' _ n _ m) d w o f h =
-      (h.0, fresh_on P Q n (λ p i. d p (inl i)) (λ p i. w p (inl i)) (λ p i. o p (inl i)) f h.1, fresh_on P Q m (λ p i. d p (inr i)) (λ p i. w p (inr i)) (λ p i. o p (inr i)) f h.2)
+      (h.0, (fresh_on P Q n (λ p i. d p (inl i)) (λ p i. w p (inl i)) (λ p i. o p (inl i)) f h.1.0, fresh_on P Q m (λ p i. d p (inr i)) (λ p i. w p (inr i)) (λ p i. o p (inr i)) f h.1.1))
   fresh_on P Q (node.Merge' _ n _ m) d w o f h =
-      (h.0, fresh_on P Q n (λ p i. d p (inl i)) (λ p i. w p (inl i)) (λ p i. o p (inl i)) f h.1, fresh_on P Q m (λ p i. d p (inr i)) (λ p i. w p (inr i)) (λ p i. o p (inr i)) f h.2)
+      (h.0, (fresh_on P Q n (λ p i. d p (inl i)) (λ p i. w p (inl i)) (λ p i. o p (inl i)) f h.1.0, fresh_on P Q m (λ p i. d p (inr i)) (λ p i. w p (inr i)) (λ p i. o p (inr i)) f h.1.1))
   fresh_on P Q (node.Into' q _ n) d w o f h = (
     still_to_write (a.told q) (b.told q) (d q (inl refl)) h.0,
     elim h.1 [ inl i ↦ f q i | inr i ↦ inr (o q (inl refl) i) ],
@@ -179,7 +179,7 @@ scope_open a s c Nil h i = absurd i
 scope_open a s c (Start n) h i = absurd i
 scope_open a s c (Read p from) h i = absurd i
 scope_open a s c (Within' d _ r) h i = elim i [ inl e ↦ subst (λ k. a.opened k) (sym e) h.2 | inr j ↦ scope_open a d c r h.3 j ]
-scope_open a s c (Then' w _ r b) h i = scope_open a s c r h.1 i
+scope_open a s c (Then' w _ r b) h i = elim i [ inl j ↦ scope_open a s c r h.1 j | inr j ↦ absurd j ]
 scope_open a s c (Through' _ r q) h i = scope_open a s c r h.0 i
 scope_open a s c (Finishing q) h i = absurd i
 scope_open a s c (Faulty d) h i = absurd i
@@ -198,7 +198,7 @@ scope_inside a nested s c (Within' d _ r) h i = elim i [
   | inl e ↦ subst (λ k. a.within k s × (a.within s k → ⊥)) (sym e) (h.0, h.1)
   | inr j ↦ let k = scope_inside a nested d c r h.3 j in (in_further a nested c d s k.0 h.0, λ w. k.1 (in_further a nested d s c h.0 w))
 ]
-scope_inside a nested s c (Then' w _ r b) h i = scope_inside a nested s c r h.1 i
+scope_inside a nested s c (Then' w _ r b) h i = elim i [ inl j ↦ scope_inside a nested s c r h.1 j | inr j ↦ absurd j ]
 scope_inside a nested s c (Through' _ r q) h i = scope_inside a nested s c r h.0 i
 scope_inside a nested s c (Finishing q) h i = absurd i
 scope_inside a nested s c (Faulty d) h i = absurd i
@@ -266,7 +266,7 @@ ready_kept a b T C around k s (Within' c _ r) never spared own h =
     )
 ready_kept a b T C around k s (Then' w _ r m) never spared own h = (
   h.0,
-  ready_kept a b T C around k s r (λ p i. never p (inl i)) spared own h.1,
+  ready_kept a b T C around k s r (λ p i. never p (inl i)) spared (λ d i. own d (inl i)) h.1,
   fresh_kept a b T C s m.value around k (λ p i. never p (inr i)) spared h.2,
 )
 ready_kept a b T C around k s (Through' _ r q) never spared own h = (ready_kept a b T C around k s r never spared own h.0, h.1)

@@ -204,7 +204,7 @@ module _ (v : Values) where
       let sides = kind_of_sides (kind_of_node a) (kind_of_node b) in
       let s = some_sides (kind_of_node a) (kind_of_node b) (some_then paired_kind sides h) in
       let lines = admits_sides (kind_of_node a) (kind_of_node b) Lines (takes_lines sides h) in
-      (fits a s.0, fits b s.1, has_kind a Lines lines.0, has_kind b Lines lines.1)
+      ((fits a s.0, fits b s.1), has_kind a Lines lines.0, has_kind b Lines lines.1)
   fits (node.Merge' _ a _ b) h =
       let s = some_sides (kind_of_node a) (kind_of_node b) (some_then merged_kind (kind_of_sides (kind_of_node a) (kind_of_node b)) h) in (fits a s.0, fits b s.1)
 

@@ -75,14 +75,17 @@ module _ {F : Type 0} (P : StateMeaning F) where
     runs_on : (v : When) (t : Turn) → CanStep P a s (Then' v p x m) → Turned P a b s n x new t → ((k : LoadKind) → HasKind P k (Then' v p x m) → GivesKind P k (Then' v q new m) t)
         → Gave P b.told (Then' v p x m) (Then' v q new m) t → Turned P a b s n (Then' v p x m) (Then' v q new m) t
     runs_on v t r h kinds g = record {
-      moved = moved_part a b x (Then' v p x m) (λ k i. inl i) (λ c i. i) h.moved;
+      moved = moved_part a b x (Then' v p x m) (λ k i. inl i) (λ c i. inl i) h.moved;
       once = h.once;
       writes = h.writes;
       live = λ k. elim [ inl i ↦ inl (h.live k i) | inr i ↦ inr i ];
       fewer = omega (arith, h.fewer);
       spends = record { events = omega (arith, h.spends.events); scopes = omega (arith, h.spends.scopes); rows = omega (arith, h.spends.rows) };
       ready = λ i. (λ k l j. r.ready.0 k (h.live k l) j, h.ready i, fresh_kept a b (λ k. IsLive k x) (λ c. IsScopeOf c x) s m.value (spares_around a (λ c. IsScopeOf c x) r.nested) h.moved.keeps (λ k i j. r.ready.0 k j i) (own_spared a r.nested s x r.opened r.ready.1) r.ready.2);
-      scopes = h.scopes;
+      scopes = λ g c. elim [
+        | inl i ↦ elim (h.scopes g c i) [ inl k ↦ inl (inl k.0, k.1) | inr k ↦ inr (opened_in a b s (λ e. IsScopeOf e x) (λ e. IsScopeOf e (Then' v p x m)) c (λ e f. inl f) k) ]
+        | inr i ↦ absurd i
+      ];
       pipes = λ i. (h.pipes i, r.pipes.1);
       kinds = kinds;
       caused = caused_whole P a.told b.told x new (Then' v p x m) (Then' v q new m) t (λ l. omega (arith, l)) (λ k j. inl j) (λ f. first v p q x new m f) (λ xs f. group_first v p q x new m f) h.caused;
@@ -94,7 +97,7 @@ module _ {F : Type 0} (P : StateMeaning F) where
     begins_second : (v : When) (t : Turn) (e : End) → Begins v e → CanStep P a s (Then' v p x m) → Turned P a b s n x new t → ((w : ℕ → DeviceTold) → Over b.told w x → IsRunOfRest P w x [] e)
         → Turned P a b s n (Then' v p x m) (Start m.value) turn.Quiet
     begins_second v t e begun r h end = record {
-      moved = moved_part a b x (Then' v p x m) (λ k i. inl i) (λ c i. i) h.moved;
+      moved = moved_part a b x (Then' v p x m) (λ k i. inl i) (λ c i. inl i) h.moved;
       once = h.once;
       writes = λ i. absurd i;
       live = λ k i. inr i;

@@ -87,7 +87,7 @@ by_three P a b old new (turn.Fault c) f = tt
 no_group : {F : Type 0} (xs : List Element) (x new : Rest F) → HasNoGroups x → GaveGroup xs x new → ⊥
 no_group xs _ _ none (group n p q a l g e) = none
 no_group xs _ _ none (group_within c p q a b h) = no_group xs a b none h
-no_group xs _ _ none (group_first w p q a b m h) = no_group xs a b none h
+no_group xs _ _ none (group_first w p q a b m h) = no_group xs a b none.0 h
 no_group xs _ _ none (group_left m n p q u v a b y h) = no_group xs a b none.0 h
 no_group xs _ _ none (group_right m n p q u v x a b h) = no_group xs a b none.1 h
 

@@ -30,13 +30,13 @@ module _ (a : Around) (w : ℕ → DeviceTold) where
   idle_fresh P s (node.Read p) h f = tt
   idle_fresh P s (node.Weak' p _ n) h f = idle_fresh (λ q. (q ≡ p) ⊎ P q) s n h.2 (λ q i. f q (inr i))
   idle_fresh P s (node.Scope' _ n) h f = idle_fresh P s n h f
-  idle_fresh P s (node.Append' _ n _ m) h f = (idle_fresh P s n h.1 (λ p i. f p (inl i)), idle_fresh P s m h.2 (λ p i. f p (inr i)))
-  idle_fresh P s (node.OnFault' _ n _ m) h f = (idle_fresh P s n h.1 (λ p i. f p (inl i)), idle_fresh P s m h.2 (λ p i. f p (inr i)))
+  idle_fresh P s (node.Append' _ n _ m) h f = (idle_fresh P s n h.1.0 (λ p i. f p (inl i)), idle_fresh P s m h.1.1 (λ p i. f p (inr i)))
+  idle_fresh P s (node.OnFault' _ n _ m) h f = (idle_fresh P s n h.1.0 (λ p i. f p (inl i)), idle_fresh P s m h.1.1 (λ p i. f p (inr i)))
   idle_fresh P s (node.Through' _ n q) h f = idle_fresh P s n h f
   idle_fresh P s (node.Take' k _ n) h f = idle_fresh P s n h f
   idle_fresh P s (node.Into' p _ n) h f = (subst (λ o. IfSome o (λ bytes. bytes ≡ [])) (sym (f p (inl refl))) h.0.written, idle_fresh P s n h.3 (λ q i. f q (inr i)))
-  idle_fresh P s (node.Zip' _ n _ m) h f = (idle_fresh P s n h.1 (λ p i. f p (inl i)), idle_fresh P s m h.2 (λ p i. f p (inr i)))
-  idle_fresh P s (node.Merge' _ n _ m) h f = (idle_fresh P s n h.1 (λ p i. f p (inl i)), idle_fresh P s m h.2 (λ p i. f p (inr i)))
+  idle_fresh P s (node.Zip' _ n _ m) h f = (idle_fresh P s n h.1.0 (λ p i. f p (inl i)), idle_fresh P s m h.1.1 (λ p i. f p (inr i)))
+  idle_fresh P s (node.Merge' _ n _ m) h f = (idle_fresh P s n h.1.0 (λ p i. f p (inl i)), idle_fresh P s m h.1.1 (λ p i. f p (inr i)))
 
   pub writes_no_more : {F : Type 0} (s : ℕ) (r : Rest F) → IsReady a s r → ((p : ℕ) → IsLive p r → ((w p).written ≡ (a.told p).written) × ((w p).write_faults ≡ (a.told p).write_faults)) → WritesNoMore w r
   writes_no_more s Nil h f = tt

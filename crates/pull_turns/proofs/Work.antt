@@ -36,7 +36,7 @@ module _ {F : Type 0} (due : F → ℕ) where
   no_groups_left (Start n) h = refl
   no_groups_left (Read p from) h = refl
   no_groups_left (Within' s _ a) h = no_groups_left a h
-  no_groups_left (Then' v _ a b) h = omega (arith, no_groups_left a h)
+  no_groups_left (Then' v _ a b) h = omega (arith, no_groups_left a h.0)
   no_groups_left (Through' _ a q) h = no_groups_left a h
   no_groups_left (Finishing q) h = refl
   no_groups_left (Faulty c) h = refl

@@ -9,7 +9,7 @@ use Rattle.device_port.specs.Device.{DeviceTold}
 use Rattle.pull_nodes.specs.Runs.{Zipped}
 use Rattle.pull_turns.specs.Around.{Around}
 use Rattle.pull_turns.specs.Groups.{HasNoGroups}
-use Rattle.pull_turns.specs.Moves.{ZipTurn, load_or_quiet}
+use Rattle.pull_turns.specs.Moves.{GivesLines, ZipTurn, load_or_quiet}
 use Rattle.pull_turns.specs.Piping.{Behind, HasKind, StateMeaning}
 use Rattle.pull_turns.specs.Rest.{CanStep, IsRunOfRest, IsScopeOf, WritesNoMore}
 use Rattle.pull_turns.specs.Turned.{Gave, GivesKind, GoesOn, HasCause, IsLoadOrDone, Leads, Moved, Over, TellsAtEnd, Turned}
@@ -35,12 +35,19 @@ lines_on P new turn.Quiet g h = h
 lines_on P new turn.Done g h = absurd g
 lines_on P new (turn.Fault c) g h = absurd g
 
+-- a turn of a side that may give lines alone gives lines
+pub gives_lines : {F : Type 0} (P : StateMeaning F) (a b : Around) (s n : ℕ) (x new : Rest F) (t : Turn) → HasKind P Lines x → Turned P a b s n x new t → GivesLines t
+gives_lines P a b s n x new (turn.Chunk l) k h = (h.kinds Lines k).0
+gives_lines P a b s n x new turn.Quiet k h = tt
+gives_lines P a b s n x new turn.Done k h = tt
+gives_lines P a b s n x new (turn.Fault c) k h = tt
+
 module _ {F : Type 0} (P : StateMeaning F) (a b : Around) (s n : ℕ) (z : Sides) (p q u v : Box (Unit {0}) Global) (x y : Rest F) (r : CanStep P a s (Zip' z p x q y)) where
   pub can_zip_left : CanStep P a s x
-  can_zip_left = record { ready = r.ready.1; pipes = r.pipes.0; nested = r.nested; opened = r.opened; events = omega (arith, r.events); scopes = omega (arith, r.scopes); rows = omega (arith, r.rows) }
+  can_zip_left = record { ready = r.ready.1; pipes = r.pipes.0.0; nested = r.nested; opened = r.opened; events = omega (arith, r.events); scopes = omega (arith, r.scopes); rows = omega (arith, r.rows) }
 
   pub can_zip_right : CanStep P a s y
-  can_zip_right = record { ready = r.ready.2; pipes = r.pipes.1; nested = r.nested; opened = r.opened; events = omega (arith, r.events); scopes = omega (arith, r.scopes); rows = omega (arith, r.rows) }
+  can_zip_right = record { ready = r.ready.2; pipes = r.pipes.0.1; nested = r.nested; opened = r.opened; events = omega (arith, r.events); scopes = omega (arith, r.scopes); rows = omega (arith, r.rows) }
 
   module _ (new : Rest F) (still : HasNoGroups new) where
     ends_left : (d : ℕ → DeviceTold) (w : Sides) → TellsAtEnd b.told d (Zip' z p x q y) (Zip' w u new v y) → TellsAtEnd b.told d x new
@@ -67,7 +74,7 @@ module _ {F : Type 0} (P : StateMeaning F) (a b : Around) (s n : ℕ) (z : Sides
             | inl j ↦ elim (h.scopes (on i) c j) [ inl k ↦ inl (inl k.0, k.1) | inr k ↦ inr (opened_in a b s (λ e. IsScopeOf e x) (λ e. IsScopeOf e (Zip' z p x q y)) c (λ e g. inl g) k) ]
             | inr j ↦ inl (inr j, (h.moved.keeps.stays c (other_spared P a b s n x new y t can h r.ready.0 r.ready.2 c j)).within)
           ];
-          pipes = λ i. (h.pipes (on i), r.pipes.1, lines_on P new t (on i) (h.kinds Lines r.pipes.2), r.pipes.3);
+          pipes = λ i. ((h.pipes (on i), r.pipes.0.1), lines_on P new t (on i) (h.kinds Lines r.pipes.1), r.pipes.2);
           kinds = kinds;
           caused = by_three P a.told b.told (Zip' z p x q y) (Zip' w u new v y) o
               (λ i. caused_part P a.told b.told x new (Zip' z p x q y) (Zip' w u new v y) (λ l. omega (arith, l)) (λ k j. inl j) (λ e. zip_left z w p q u v x new y e) (one_of_three P a.told b.told x new t r.ready.3 h.caused (on i)));
@@ -129,7 +136,7 @@ module _ {F : Type 0} (P : StateMeaning F) (a b : Around) (s n : ℕ) (z : Sides
             | inl j ↦ inl (inl j, (h.moved.keeps.stays c (other_spared P a b s n y new x t can h (apart_across a x y r.ready.0) r.ready.1 c j)).within)
             | inr j ↦ elim (h.scopes (on i) c j) [ inl k ↦ inl (inr k.0, k.1) | inr k ↦ inr (opened_in a b s (λ e. IsScopeOf e y) (λ e. IsScopeOf e (Zip' z p x q y)) c (λ e g. inr g) k) ]
           ];
-          pipes = λ i. (r.pipes.0, h.pipes (on i), r.pipes.2, lines_on P new t (on i) (h.kinds Lines r.pipes.3));
+          pipes = λ i. ((r.pipes.0.0, h.pipes (on i)), r.pipes.1, lines_on P new t (on i) (h.kinds Lines r.pipes.2));
           kinds = kinds;
           caused = by_three P a.told b.told (Zip' z p x q y) (Zip' w u x v new) o
               (λ i. caused_part P a.told b.told y new (Zip' z p x q y) (Zip' w u x v new) (λ l. omega (arith, l)) (λ k j. inr j) (λ e. zip_right z w p q u v x y new e) (one_of_three P a.told b.told y new t r.ready.4 h.caused (on i)));

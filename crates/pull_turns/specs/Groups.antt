@@ -4,10 +4,12 @@ use Rattle.std.specs.Global.{Global}
 use Rattle.chunk_core.specs.declared.load.Load.{Load}
 use Rattle.chunk_core.specs.Elements.{Element, LoadKind, elements, kind_of}
 use Rattle.pull_nodes.specs.Pipes.{groups_of}
+use Rattle.pull_nodes.specs.Shape.{folded}
 use Rattle.pull_nodes.specs.declared.node.Node.{Node}
 use Rattle.pull_nodes.specs.declared.node.Node.TheVariants as node
 use Rattle.pull_nodes.specs.declared.pipe.Pipe.{Pipe}
 use Rattle.stream_sides.specs.MergeTurns.{MergeTurns}
+use Rattle.pull_turns.specs.Shape.{rest_folded}
 use Rattle.pull_turns.specs.declared.rest.Rest.{Rest}
 use Rattle.pull_turns.specs.declared.rest.Rest.TheVariants.{Nil, Start, Read, Within', Then', Through', Finishing, Faulty, Groups', Take', Into', Zip', Merge'}
 use Rattle.pull_turns.specs.declared.rest.When.{When}
@@ -57,42 +59,33 @@ module _ {F : Type 0} where
   IsInGroups None x y = y ≡ x
   IsInGroups (Some n) x y = (p : Box (Unit {0}) Global) × (y ≡ Groups' n None p x)
 
+  -- nothing holds of what gives groups, and of another part the fact does
+  abbrev pub NotGroups : Rest F → Type 0 → Type 0
+  NotGroups (Groups' n f _ a) Q = ⊥
+  NotGroups r Q = Q
+
   -- no part of what is left is grouped
   abbrev pub HasNoGroups : Rest F → Type 0
-  HasNoGroups Nil = Unit {0}
-  HasNoGroups (Start n) = Unit {0}
-  HasNoGroups (Read p from) = Unit {0}
-  HasNoGroups (Within' s _ a) = HasNoGroups a
-  HasNoGroups (Then' w _ a b) = HasNoGroups a
-  HasNoGroups (Through' _ a q) = HasNoGroups a
-  HasNoGroups (Finishing q) = Unit {0}
-  HasNoGroups (Faulty c) = Unit {0}
-  HasNoGroups (Groups' n f _ a) = ⊥
-  HasNoGroups (Take' n _ a) = HasNoGroups a
-  HasNoGroups (Into' p v _ a) = HasNoGroups a
-  HasNoGroups (Zip' z _ a _ b) = HasNoGroups a × HasNoGroups b
-  HasNoGroups (Merge' m _ a _ b) = HasNoGroups a × HasNoGroups b
+  HasNoGroups r = rest_folded (Unit {0}) (λ Q R. Q × R) (λ n. Unit {0}) NotGroups r
 
 -- groups of this size, where there are groups, have at most k elements
 abbrev pub GroupIsWithin : ℕ → Option ℕ → Type 0
 GroupIsWithin k None = ⊥
 GroupIsWithin k (Some n) = n ≤ k
 
+-- what a node's own elements ask, where this is asked of its parts
+abbrev pub IsGroupedAt : ℕ → Node → Type 0 → Type 0
+IsGroupedAt k (node.Emit l) Q = length (elements l) ≤ k
+IsGroupedAt k (node.Read p) Q = ⊥
+IsGroupedAt k (node.Through' _ a q) Q = GroupIsWithin k (groups_of q)
+IsGroupedAt k (node.Take' n _ a) Q = ⊥
+IsGroupedAt k (node.Into' p _ a) Q = Unit {0}
+IsGroupedAt k (node.Zip' _ a _ b) Q = ⊥
+IsGroupedAt k n Q = Q
+
 -- each part of the node that gives elements gives at most k in a chunk, by a pipe that groups or by a load that is no longer
 abbrev pub IsGroupedOf : ℕ → Node → Type 0
-IsGroupedOf k node.Nil = Unit {0}
-IsGroupedOf k (node.Emit l) = length (elements l) ≤ k
-IsGroupedOf k (node.Raise c) = Unit {0}
-IsGroupedOf k (node.Read p) = ⊥
-IsGroupedOf k (node.Weak' p _ a) = IsGroupedOf k a
-IsGroupedOf k (node.Scope' _ a) = IsGroupedOf k a
-IsGroupedOf k (node.Append' _ a _ b) = IsGroupedOf k a × IsGroupedOf k b
-IsGroupedOf k (node.OnFault' _ a _ b) = IsGroupedOf k a × IsGroupedOf k b
-IsGroupedOf k (node.Through' _ a q) = GroupIsWithin k (groups_of q)
-IsGroupedOf k (node.Take' n _ a) = ⊥
-IsGroupedOf k (node.Into' p _ a) = Unit {0}
-IsGroupedOf k (node.Zip' _ a _ b) = ⊥
-IsGroupedOf k (node.Merge' _ a _ b) = IsGroupedOf k a × IsGroupedOf k b
+IsGroupedOf k n = folded (Unit {0}) (λ Q R. Q × R) (IsGroupedAt k) n
 
 -- the chunk has at most k elements
 abbrev pub GivesAtMost : ℕ → Turn → Type 0
@@ -109,53 +102,34 @@ GaveGroupOf turn.Done n = ⊥
 GaveGroupOf (turn.Fault c) n = ⊥
 
 module _ {F : Type 0} where
+  -- the same of a part of what is left
+  abbrev pub IsRestGroupedAt : ℕ → Rest F → Type 0 → Type 0
+  IsRestGroupedAt k (Read p from) Q = ⊥
+  IsRestGroupedAt k (Through' _ a q) Q = ⊥
+  IsRestGroupedAt k (Finishing q) Q = ⊥
+  IsRestGroupedAt k (Groups' n f _ a) Q = n ≤ k
+  IsRestGroupedAt k (Take' n _ a) Q = ⊥
+  IsRestGroupedAt k (Into' p v _ a) Q = Unit {0}
+  IsRestGroupedAt k (Zip' z _ a _ b) Q = ⊥
+  IsRestGroupedAt k r Q = Q
+
   -- the same of what is left
   abbrev pub IsGrouped : ℕ → Rest F → Type 0
-  IsGrouped k Nil = Unit {0}
-  IsGrouped k (Start n) = IsGroupedOf k n
-  IsGrouped k (Read p from) = ⊥
-  IsGrouped k (Within' s _ a) = IsGrouped k a
-  IsGrouped k (Then' w _ a b) = IsGrouped k a × IsGroupedOf k b.value
-  IsGrouped k (Through' _ a q) = ⊥
-  IsGrouped k (Finishing q) = ⊥
-  IsGrouped k (Faulty c) = Unit {0}
-  IsGrouped k (Groups' n f _ a) = n ≤ k
-  IsGrouped k (Take' n _ a) = ⊥
-  IsGrouped k (Into' p v _ a) = Unit {0}
-  IsGrouped k (Zip' z _ a _ b) = ⊥
-  IsGrouped k (Merge' m _ a _ b) = IsGrouped k a × IsGrouped k b
+  IsGrouped k r = rest_folded (Unit {0}) (λ Q R. Q × R) (IsGroupedOf k) (IsRestGroupedAt k) r
 
   -- groups of n wait only where Q n; below a step none wait, and in a side of a merge they may wait while the other side is asked
   abbrev pub WaitsOnly : (ℕ → Type 0) → Rest F → Type 0
-  WaitsOnly Q Nil = Unit {0}
-  WaitsOnly Q (Start n) = Unit {0}
-  WaitsOnly Q (Read p from) = Unit {0}
   WaitsOnly Q (Within' s _ a) = WaitsOnly Q a
   WaitsOnly Q (Then' w _ a b) = WaitsOnly Q a
-  WaitsOnly Q (Through' _ a q) = Unit {0}
-  WaitsOnly Q (Finishing q) = Unit {0}
-  WaitsOnly Q (Faulty c) = Unit {0}
   WaitsOnly Q (Groups' n f _ a) = IfSome f (λ l. Q n)
-  WaitsOnly Q (Take' n _ a) = Unit {0}
-  WaitsOnly Q (Into' p v _ a) = Unit {0}
-  WaitsOnly Q (Zip' z _ a _ b) = Unit {0}
-  WaitsOnly Q (Merge' m _ a _ b) = Unit {0}
+  WaitsOnly Q r = Unit {0}
 
   -- a chunk that comes of groups of n has at most n elements, whatever the other parts may give
   abbrev pub GivesGroup : Rest F → Turn → Type 0
-  GivesGroup Nil t = Unit {0}
-  GivesGroup (Start n) t = Unit {0}
-  GivesGroup (Read p from) t = Unit {0}
   GivesGroup (Within' s _ a) t = GivesGroup a t
   GivesGroup (Then' w _ a b) t = GivesGroup a t
-  GivesGroup (Through' _ a q) t = Unit {0}
-  GivesGroup (Finishing q) t = Unit {0}
-  GivesGroup (Faulty c) t = Unit {0}
   GivesGroup (Groups' n f _ a) t = GivesAtMost n t
-  GivesGroup (Take' n _ a) t = Unit {0}
-  GivesGroup (Into' p v _ a) t = Unit {0}
-  GivesGroup (Zip' z _ a _ b) t = Unit {0}
-  GivesGroup (Merge' m _ a _ b) t = Unit {0}
+  GivesGroup r t = Unit {0}
 
   -- where each part gives at most k elements in a chunk, the turn did and what is left does; groups come one by one, and wait only behind a chunk that is a whole group
   pub record Grouped (old new : Rest F) (t : Turn) : Type 0 where

@@ -1,11 +1,12 @@
 pub mod Around
 pub mod Groups
-pub mod Piping
-pub mod Rest
-pub mod Turned
+pub mod Led
 pub mod Moves
 pub mod Passing
+pub mod Piping
+pub mod Rest
 pub mod Scoped
-pub mod Led
-pub mod Work
+pub mod Shape
 pub mod Sizes
+pub mod Turned
+pub mod Work

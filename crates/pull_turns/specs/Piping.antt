@@ -9,10 +9,12 @@ use Rattle.pull_nodes.specs.Laws.{IsNoDeviceFault}
 use Rattle.pull_nodes.specs.Pipes.{IsMeaningOver}
 use Rattle.pull_nodes.specs.Runs.{GivesBy}
 use Rattle.chunk_core.specs.Tables.{Values}
+use Rattle.pull_nodes.specs.Shape.{folded}
 use Rattle.pull_nodes.specs.declared.node.Node.{Node}
 use Rattle.pull_nodes.specs.declared.node.Node.TheVariants as node
 use Rattle.pull_nodes.specs.declared.pipe.Pipe.{Pipe}
 use Rattle.pull_turns.specs.Groups.{IsOfKind}
+use Rattle.pull_turns.specs.Shape.{rest_folded}
 use Rattle.pull_turns.specs.declared.rest.Rest.{Rest}
 use Rattle.pull_turns.specs.declared.rest.Rest.TheVariants.{Nil, Start, Read, Within', Then', Through', Finishing, Faulty, Groups', Take', Into', Zip', Merge'}
 use Rattle.pull_turns.specs.declared.turn.Turn.{Turn}
@@ -27,39 +29,30 @@ pub record StateMeaning (F : Type 0) : Type 1 where
 abbrev pub standing : {F : Type 0} → (F → Meaning → List Element → Type 0) → (F → LoadKind → List Element → Option Code → Type 0) → Values → StateMeaning F
 standing stands comes values = record { stands = stands; comes = comes; values = values }
 
--- each load that the node may give is of this kind: no load comes through a pipe that gets none and makes nothing of nothing
+-- what a node's own loads ask, where this is asked of its parts: no load comes through a pipe that gets none and makes nothing of nothing
+abbrev pub HasKindAt : Values → Node → (LoadKind → Type 0) → LoadKind → Type 0
+HasKindAt v (node.Emit l) Q k = kind_of l ≡ k
+HasKindAt v (node.Read p) Q k = k ≡ Bytes
+HasKindAt v (node.Through' _ a q) Q k =
+    ((m : Meaning) × IsMeaningOver v q m × Q m.takes × (m.gives ≡ k))
+    ⊎ (((j : LoadKind) → Q j) × ((m : Meaning) × IsMeaningOver v q m × ((m.all []).list ≡ [])))
+HasKindAt v (node.Into' p _ a) Q k = Unit {0}
+HasKindAt v (node.Zip' _ a _ b) Q k = k ≡ Rows
+HasKindAt v n Q k = Q k
+
+-- each load that the node may give is of this kind
 abbrev pub HasKindOf : Values → LoadKind → Node → Type 0
-HasKindOf v k node.Nil = Unit {0}
-HasKindOf v k (node.Emit l) = kind_of l ≡ k
-HasKindOf v k (node.Raise c) = Unit {0}
-HasKindOf v k (node.Read p) = k ≡ Bytes
-HasKindOf v k (node.Weak' p _ a) = HasKindOf v k a
-HasKindOf v k (node.Scope' _ a) = HasKindOf v k a
-HasKindOf v k (node.Append' _ a _ b) = HasKindOf v k a × HasKindOf v k b
-HasKindOf v k (node.OnFault' _ a _ b) = HasKindOf v k a × HasKindOf v k b
-HasKindOf v k (node.Through' _ a q) =
-    ((m : Meaning) × IsMeaningOver v q m × HasKindOf v m.takes a × (m.gives ≡ k))
-    ⊎ (((j : LoadKind) → HasKindOf v j a) × ((m : Meaning) × IsMeaningOver v q m × ((m.all []).list ≡ [])))
-HasKindOf v k (node.Take' n _ a) = HasKindOf v k a
-HasKindOf v k (node.Into' p _ a) = Unit {0}
-HasKindOf v k (node.Zip' _ a _ b) = k ≡ Rows
-HasKindOf v k (node.Merge' _ a _ b) = HasKindOf v k a × HasKindOf v k b
+HasKindOf v k n = folded (λ k. Unit {0}) (λ Q R k. Q k × R k) (HasKindAt v) n k
+
+-- what a pipe and a pairing ask beside what their parts do
+abbrev pub PipesFitAt : Values → Node → Type 0 → Type 0
+PipesFitAt v (node.Through' _ a q) Q = Q × ((m : Meaning) × IsMeaningOver v q m × HasKindOf v m.takes a)
+PipesFitAt v (node.Zip' _ a _ b) Q = Q × HasKindOf v Lines a × HasKindOf v Lines b
+PipesFitAt v n Q = Q
 
 -- each pipe of the node takes the kind of the loads that come to it, and what is paired is lines
 abbrev pub PipesFitOf : Values → Node → Type 0
-PipesFitOf v node.Nil = Unit {0}
-PipesFitOf v (node.Emit l) = Unit {0}
-PipesFitOf v (node.Raise c) = Unit {0}
-PipesFitOf v (node.Read p) = Unit {0}
-PipesFitOf v (node.Weak' p _ a) = PipesFitOf v a
-PipesFitOf v (node.Scope' _ a) = PipesFitOf v a
-PipesFitOf v (node.Append' _ a _ b) = PipesFitOf v a × PipesFitOf v b
-PipesFitOf v (node.OnFault' _ a _ b) = PipesFitOf v a × PipesFitOf v b
-PipesFitOf v (node.Through' _ a q) = PipesFitOf v a × ((m : Meaning) × IsMeaningOver v q m × HasKindOf v m.takes a)
-PipesFitOf v (node.Take' n _ a) = PipesFitOf v a
-PipesFitOf v (node.Into' p _ a) = PipesFitOf v a
-PipesFitOf v (node.Zip' _ a _ b) = PipesFitOf v a × PipesFitOf v b × HasKindOf v Lines a × HasKindOf v Lines b
-PipesFitOf v (node.Merge' _ a _ b) = PipesFitOf v a × PipesFitOf v b
+PipesFitOf v n = folded (Unit {0}) (λ Q R. Q × R) (PipesFitAt v) n
 
 -- what a pipe of this meaning gives of xs and then of what A gives, beyond what it gave of xs
 abbrev pub PipedOn : Meaning → List Element → Outcomes → Outcomes
@@ -74,23 +67,19 @@ module _ {F : Type 0} (P : StateMeaning F) where
   abbrev pub GivesNothing : F → Type 0
   GivesNothing q = (m : Meaning) × P.stands q m [] × ((m.all []).list ≡ [])
 
+  -- what the loads of a part itself ask, where this is asked of its parts
+  abbrev pub HasRestKindAt : Rest F → (LoadKind → Type 0) → LoadKind → Type 0
+  HasRestKindAt (Read p from) Q k = k ≡ Bytes
+  HasRestKindAt (Through' _ a q) Q k = ((m : Meaning) × (xs : List Element) × P.stands q m xs × Q m.takes × (m.gives ≡ k)) ⊎ (((j : LoadKind) → Q j) × GivesNothing q)
+  HasRestKindAt (Finishing q) Q k = ((ys : List Element) × (c : Option Code) × P.comes q k ys c) ⊎ ((j : LoadKind) × (c : Option Code) × P.comes q j [] c)
+  HasRestKindAt (Groups' n f _ a) Q k = IsOfKind k f × Q k
+  HasRestKindAt (Into' p v _ a) Q k = Unit {0}
+  HasRestKindAt (Zip' z _ a _ b) Q k = k ≡ Rows
+  HasRestKindAt r Q k = Q k
+
   -- each load that may still come is of this kind
   abbrev pub HasKind : LoadKind → Rest F → Type 0
-  HasKind k Nil = Unit {0}
-  HasKind k (Start n) = HasKindOf P.values k n
-  HasKind k (Read p from) = k ≡ Bytes
-  HasKind k (Within' s _ a) = HasKind k a
-  HasKind k (Then' w _ a b) = HasKind k a × HasKindOf P.values k b.value
-  HasKind k (Through' _ a q) =
-      ((m : Meaning) × (xs : List Element) × P.stands q m xs × HasKind m.takes a × (m.gives ≡ k))
-      ⊎ (((j : LoadKind) → HasKind j a) × GivesNothing q)
-  HasKind k (Finishing q) = ((ys : List Element) × (c : Option Code) × P.comes q k ys c) ⊎ ((j : LoadKind) × (c : Option Code) × P.comes q j [] c)
-  HasKind k (Faulty c) = Unit {0}
-  HasKind k (Groups' n f _ a) = IsOfKind k f × HasKind k a
-  HasKind k (Take' n _ a) = HasKind k a
-  HasKind k (Into' p v _ a) = Unit {0}
-  HasKind k (Zip' z _ a _ b) = k ≡ Rows
-  HasKind k (Merge' m _ a _ b) = HasKind k a × HasKind k b
+  HasKind k r = rest_folded (λ k. Unit {0}) (λ Q R k. Q k × R k) (λ n k. HasKindOf P.values k n) HasRestKindAt r k
 
   -- the state stands for an input of a pipe that takes what is left below it
   abbrev pub PipeStands : F → Rest F → Type 0
@@ -100,21 +89,17 @@ module _ {F : Type 0} (P : StateMeaning F) where
   abbrev pub Comes : F → Type 0
   Comes q = (k : LoadKind) × (ys : List Element) × (c : Option Code) × P.comes q k ys c × IsNoDeviceFault c
 
+  -- what a pipe, its end, a fault and a pairing ask beside what their parts do
+  abbrev pub RestPipesFitAt : Rest F → Type 0 → Type 0
+  RestPipesFitAt (Through' _ a q) Q = Q × PipeStands q a
+  RestPipesFitAt (Finishing q) Q = Comes q
+  RestPipesFitAt (Faulty c) Q = IsNoDeviceFault (Some c)
+  RestPipesFitAt (Zip' z _ a _ b) Q = Q × HasKind Lines a × HasKind Lines b
+  RestPipesFitAt r Q = Q
+
   -- each pipe takes the kind of the loads that come to it, and what is paired is lines
   abbrev pub PipesFit : Rest F → Type 0
-  PipesFit Nil = Unit {0}
-  PipesFit (Start n) = PipesFitOf P.values n
-  PipesFit (Read p from) = Unit {0}
-  PipesFit (Within' s _ a) = PipesFit a
-  PipesFit (Then' w _ a b) = PipesFit a × PipesFitOf P.values b.value
-  PipesFit (Through' _ a q) = PipesFit a × PipeStands q a
-  PipesFit (Finishing q) = Comes q
-  PipesFit (Faulty c) = IsNoDeviceFault (Some c)
-  PipesFit (Groups' n f _ a) = PipesFit a
-  PipesFit (Take' n _ a) = PipesFit a
-  PipesFit (Into' p v _ a) = PipesFit a
-  PipesFit (Zip' z _ a _ b) = PipesFit a × PipesFit b × HasKind Lines a × HasKind Lines b
-  PipesFit (Merge' m _ a _ b) = PipesFit a × PipesFit b
+  PipesFit r = rest_folded (Unit {0}) (λ Q R. Q × R) (PipesFitOf P.values) RestPipesFitAt r
 
   -- the pipe may be told of the end of its input, or asked for more after it
   abbrev pub PipeCanFinish : F → Type 0

@@ -11,10 +11,11 @@ use Rattle.pull_nodes.specs.Plain.{IsFront}
 use Rattle.pull_nodes.specs.declared.node.Node.{Node}
 use Rattle.pull_nodes.specs.declared.node.Node.TheVariants as node
 use Rattle.pull_nodes.specs.Runs.{OrLeft, Exactly, Follows, Merged, Taken, Zipped, IsFault, IsIdle, IsRun, IsUnwritten, StopsReading, end_by_fault}
-use Rattle.pull_nodes.specs.Shape.{node_count, places_of, scope_count}
+use Rattle.pull_nodes.specs.Shape.{SomePlace, acquired_place, folded, node_count, places_of, scope_count}
 use Rattle.pull_turns.specs.Around.{Around, IsNested}
 use Rattle.pull_turns.specs.Groups.{HasElements, HasNoGroups, waiting}
 use Rattle.pull_turns.specs.Piping.{StateMeaning, HasKind, PipesFit, PipedOn, Behind}
+use Rattle.pull_turns.specs.Shape.{rest_folded}
 use Rattle.stream_sides.specs.MergeTurns.{IsGoing, MergeTurns}
 use Rattle.stream_sides.specs.declared.side.Side.TheVariants.{Left, Right}
 use Rattle.pull_turns.specs.declared.rest.Rest.{Rest}
@@ -36,21 +37,15 @@ abbrev pub Begins : When → End → Type 0
 Begins when.Done g = g ≡ Done
 Begins when.Fault g = IsFault g
 
--- nothing more was written by what is left, and no write failed: at the place of a stream that is written stands at the end what stands there now
+-- below a taker that has all it wants nothing more is written; at the place of a stream that is written stands what stands there now, and no write failed
+abbrev pub WritesNoMoreAt : {F : Type 0} → (ℕ → DeviceTold) → Rest F → Type 0 → Type 0
+WritesNoMoreAt w (Take' n _ a) Q = 0 < n → Q
+WritesNoMoreAt w (Into' p v _ a) Q = ((w p).written ≡ v) × ((w p).write_faults ≡ 0) × Q
+WritesNoMoreAt w r Q = Q
+
+-- nothing more was written by what is left, and no write failed
 abbrev pub WritesNoMore : {F : Type 0} → (ℕ → DeviceTold) → Rest F → Type 0
-WritesNoMore w Nil = Unit {0}
-WritesNoMore w (Start n) = IsIdle w n
-WritesNoMore w (Read p from) = Unit {0}
-WritesNoMore w (Within' s _ a) = WritesNoMore w a
-WritesNoMore w (Then' v _ a b) = WritesNoMore w a × IsIdle w b.value
-WritesNoMore w (Through' _ a q) = WritesNoMore w a
-WritesNoMore w (Finishing q) = Unit {0}
-WritesNoMore w (Faulty c) = Unit {0}
-WritesNoMore w (Groups' n f _ a) = WritesNoMore w a
-WritesNoMore w (Take' n _ a) = 0 < n → WritesNoMore w a
-WritesNoMore w (Into' p v _ a) = ((w p).written ≡ v) × ((w p).write_faults ≡ 0) × WritesNoMore w a
-WritesNoMore w (Zip' z _ a _ b) = WritesNoMore w a × WritesNoMore w b
-WritesNoMore w (Merge' m _ a _ b) = WritesNoMore w a × WritesNoMore w b
+WritesNoMore w r = rest_folded (Unit {0}) (λ Q R. Q × R) (IsIdle w) (WritesNoMoreAt w) r
 
 -- the first n elements that A gives, or none, and A is asked no more, where none is wanted
 abbrev pub TakenOn : ℕ → Outcomes → Outcomes
@@ -83,69 +78,41 @@ IsRunOfRest P w (Into' p v _ a) = OrLeft (((w p).written ≡ v) × ((w p).write_
 IsRunOfRest P w (Zip' z _ a _ b) = OrLeft (WritesNoMore w a × WritesNoMore w b) (Zipped (Behind z.left (IsRunOfRest P w a)) (Behind z.right (IsRunOfRest P w b)))
 IsRunOfRest P w (Merge' m _ a _ b) = OrLeft (WritesNoMore w a × WritesNoMore w b) (Merged (IsRunOfRest P w a) (WritesNoMore w a) (IsRunOfRest P w b) (WritesNoMore w b))
 
+-- the place is the node's own, or the fact
+abbrev pub IsInAt : ℕ → Node → Type 0 → Type 0
+IsInAt p (node.Read q) Q = p ≡ q
+IsInAt p (node.Weak' q _ a) Q = (p ≡ q) ⊎ Q
+IsInAt p (node.Into' q _ a) Q = (p ≡ q) ⊎ Q
+IsInAt p n Q = Q
+
 -- the place is acquired, read or written in the node
 abbrev pub IsIn : ℕ → Node → Type 0
-IsIn p node.Nil = ⊥
-IsIn p (node.Emit l) = ⊥
-IsIn p (node.Raise c) = ⊥
-IsIn p (node.Read q) = p ≡ q
-IsIn p (node.Weak' q _ a) = (p ≡ q) ⊎ IsIn p a
-IsIn p (node.Scope' _ a) = IsIn p a
-IsIn p (node.Append' _ a _ b) = IsIn p a ⊎ IsIn p b
-IsIn p (node.OnFault' _ a _ b) = IsIn p a ⊎ IsIn p b
-IsIn p (node.Through' _ a q) = IsIn p a
-IsIn p (node.Take' n _ a) = IsIn p a
-IsIn p (node.Into' q _ a) = (p ≡ q) ⊎ IsIn p a
-IsIn p (node.Zip' _ a _ b) = IsIn p a ⊎ IsIn p b
-IsIn p (node.Merge' _ a _ b) = IsIn p a ⊎ IsIn p b
+IsIn p n = folded ⊥ ◌⊎◌ (IsInAt p) n
 
 -- the place is acquired in the node
 abbrev pub IsAsked : ℕ → Node → Type 0
-IsAsked p node.Nil = ⊥
-IsAsked p (node.Emit l) = ⊥
-IsAsked p (node.Raise c) = ⊥
-IsAsked p (node.Read q) = ⊥
-IsAsked p (node.Weak' q _ a) = (p ≡ q) ⊎ IsAsked p a
-IsAsked p (node.Scope' _ a) = IsAsked p a
-IsAsked p (node.Append' _ a _ b) = IsAsked p a ⊎ IsAsked p b
-IsAsked p (node.OnFault' _ a _ b) = IsAsked p a ⊎ IsAsked p b
-IsAsked p (node.Through' _ a q) = IsAsked p a
-IsAsked p (node.Take' n _ a) = IsAsked p a
-IsAsked p (node.Into' q _ a) = IsAsked p a
-IsAsked p (node.Zip' _ a _ b) = IsAsked p a ⊎ IsAsked p b
-IsAsked p (node.Merge' _ a _ b) = IsAsked p a ⊎ IsAsked p b
+IsAsked p n = SomePlace acquired_place (λ q. p ≡ q) n
 
--- the place is acquired, read or written in what is left; what is below a take that has all it wants is asked no more
+-- the place is the part's own, or the fact; what is below a take that has all it wants is asked no more
+abbrev pub IsLiveAt : {F : Type 0} → ℕ → Rest F → Type 0 → Type 0
+IsLiveAt p (Read q from) Q = p ≡ q
+IsLiveAt p (Take' n _ a) Q = (0 < n) × Q
+IsLiveAt p (Into' q v _ a) Q = (p ≡ q) ⊎ Q
+IsLiveAt p r Q = Q
+
+-- the place is acquired, read or written in what is left
 abbrev pub IsLive : {F : Type 0} → ℕ → Rest F → Type 0
-IsLive p Nil = ⊥
-IsLive p (Start n) = IsIn p n
-IsLive p (Read q from) = p ≡ q
-IsLive p (Within' s _ a) = IsLive p a
-IsLive p (Then' w _ a b) = IsLive p a ⊎ IsIn p b.value
-IsLive p (Through' _ a q) = IsLive p a
-IsLive p (Finishing q) = ⊥
-IsLive p (Faulty c) = ⊥
-IsLive p (Groups' n f _ a) = IsLive p a
-IsLive p (Take' n _ a) = (0 < n) × IsLive p a
-IsLive p (Into' q v _ a) = (p ≡ q) ⊎ IsLive p a
-IsLive p (Zip' z _ a _ b) = IsLive p a ⊎ IsLive p b
-IsLive p (Merge' m _ a _ b) = IsLive p a ⊎ IsLive p b
+IsLive p r = rest_folded ⊥ ◌⊎◌ (IsIn p) (IsLiveAt p) r
+
+-- the scope is the part's own, or the fact; what is below a take that has all it wants runs no more
+abbrev pub IsScopeOfAt : {F : Type 0} → ℕ → Rest F → Type 0 → Type 0
+IsScopeOfAt c (Within' s _ a) Q = (c ≡ s) ⊎ Q
+IsScopeOfAt c (Take' n _ a) Q = (0 < n) × Q
+IsScopeOfAt c r Q = Q
 
 -- the scope was opened for a part of what is left, that may still run
 abbrev pub IsScopeOf : {F : Type 0} → ℕ → Rest F → Type 0
-IsScopeOf c Nil = ⊥
-IsScopeOf c (Start n) = ⊥
-IsScopeOf c (Read q from) = ⊥
-IsScopeOf c (Within' s _ a) = (c ≡ s) ⊎ IsScopeOf c a
-IsScopeOf c (Then' w _ a b) = IsScopeOf c a
-IsScopeOf c (Through' _ a q) = IsScopeOf c a
-IsScopeOf c (Finishing q) = ⊥
-IsScopeOf c (Faulty d) = ⊥
-IsScopeOf c (Groups' n f _ a) = IsScopeOf c a
-IsScopeOf c (Take' n _ a) = (0 < n) × IsScopeOf c a
-IsScopeOf c (Into' p v _ a) = IsScopeOf c a
-IsScopeOf c (Zip' z _ a _ b) = IsScopeOf c a ⊎ IsScopeOf c b
-IsScopeOf c (Merge' m _ a _ b) = IsScopeOf c a ⊎ IsScopeOf c b
+IsScopeOf c r = rest_folded ⊥ ◌⊎◌ (λ n. ⊥) (IsScopeOfAt c) r
 
 -- the place is held by an open scope in which s lies
 abbrev pub IsHeldBy : Around → ℕ → ℕ → Type 0
@@ -169,22 +136,25 @@ pub record HasWritten (d : DeviceTold) (v : Option (List ℕ)) : Type 0 where
   pub written : d.written ≡ v
   pub faults : d.write_faults ≡ 0
 
+-- no place stands in both nodes
+abbrev pub HaveNoPlaceInCommon : Node → Node → Type 0
+HaveNoPlaceInCommon n m = (p : ℕ) → IsIn p n → IsIn p m → ⊥
+
+-- what a node's own place and its parts ask, where this is asked of its parts, by the places that will be held
+abbrev pub IsFreshAt : Around → ℕ → Node → ((ℕ → Type 0) → Type 0) → (ℕ → Type 0) → Type 0
+IsFreshAt a s (node.Read p) Q P = IsToRead (a.told p) × (P p ⊎ IsHeldBy a s p)
+IsFreshAt a s (node.Weak' p _ n) Q P = a.waits p × (IsAsked p n → ⊥) × Q (λ q. (q ≡ p) ⊎ P q)
+IsFreshAt a s (node.Append' _ n _ m) Q P = HaveNoPlaceInCommon n m × Q P
+IsFreshAt a s (node.OnFault' _ n _ m) Q P = HaveNoPlaceInCommon n m × Q P
+IsFreshAt a s (node.Into' p _ n) Q P = IsToWrite (a.told p) × (P p ⊎ IsHeldBy a s p) × (IsIn p n → ⊥) × Q P
+IsFreshAt a s (node.Zip' _ n _ m) Q P = HaveNoPlaceInCommon n m × Q P
+IsFreshAt a s (node.Merge' _ n _ m) Q P = HaveNoPlaceInCommon n m × Q P
+IsFreshAt a s n Q P = Q P
+
 -- a node that wasn't entered may be run in the scope s: its devices wait, nothing was done with one, and what it reads or writes is held,
 -- or is one of the places that will be held by then; no place stands on both sides of a join, or in what is written to it
 abbrev pub IsFresh : Around → (ℕ → Type 0) → ℕ → Node → Type 0
-IsFresh a P s node.Nil = Unit {0}
-IsFresh a P s (node.Emit l) = Unit {0}
-IsFresh a P s (node.Raise c) = Unit {0}
-IsFresh a P s (node.Read p) = IsToRead (a.told p) × (P p ⊎ IsHeldBy a s p)
-IsFresh a P s (node.Weak' p _ n) = a.waits p × (IsAsked p n → ⊥) × IsFresh a (λ q. (q ≡ p) ⊎ P q) s n
-IsFresh a P s (node.Scope' _ n) = IsFresh a P s n
-IsFresh a P s (node.Append' _ n _ m) = ((p : ℕ) → IsIn p n → IsIn p m → ⊥) × IsFresh a P s n × IsFresh a P s m
-IsFresh a P s (node.OnFault' _ n _ m) = ((p : ℕ) → IsIn p n → IsIn p m → ⊥) × IsFresh a P s n × IsFresh a P s m
-IsFresh a P s (node.Through' _ n q) = IsFresh a P s n
-IsFresh a P s (node.Take' n _ m) = IsFresh a P s m
-IsFresh a P s (node.Into' p _ n) = IsToWrite (a.told p) × (P p ⊎ IsHeldBy a s p) × (IsIn p n → ⊥) × IsFresh a P s n
-IsFresh a P s (node.Zip' _ n _ m) = ((p : ℕ) → IsIn p n → IsIn p m → ⊥) × IsFresh a P s n × IsFresh a P s m
-IsFresh a P s (node.Merge' _ n _ m) = ((p : ℕ) → IsIn p n → IsIn p m → ⊥) × IsFresh a P s n × IsFresh a P s m
+IsFresh a P s n = folded (λ P. Unit {0}) (λ Q R P. Q P × R P) (IsFreshAt a s) n P
 
 -- no place is held yet
 abbrev pub NoPlace : ℕ → Type 0
@@ -215,19 +185,7 @@ IsReady a s (Merge' m _ x _ y) = AreApart a x y × IsReady a s x × IsReady a s 
 
 -- what the nodes that weren't entered count, and what the parts add to what is left below them
 abbrev pub total : {F : Type 0} → (Node → ℕ) → (Rest F → ℕ → ℕ) → Rest F → ℕ
-total count add Nil = add Nil 0
-total count add (Start n) = count n
-total count add (Read p from) = add (Read p from) 0
-total count add (Within' s q a) = add (Within' s q a) (total count add a)
-total count add (Then' w q a b) = add (Then' w q a b) (total count add a + count b.value)
-total count add (Through' q a f) = add (Through' q a f) (total count add a)
-total count add (Finishing f) = add (Finishing f) 0
-total count add (Faulty c) = add (Faulty c) 0
-total count add (Groups' n f q a) = add (Groups' n f q a) (total count add a)
-total count add (Take' n q a) = add (Take' n q a) (total count add a)
-total count add (Into' p v q a) = add (Into' p v q a) (total count add a)
-total count add (Zip' z p a q b) = add (Zip' z p a q b) (total count add a + total count add b)
-total count add (Merge' m p a q b) = add (Merge' m p a q b) (total count add a + total count add b)
+total count add r = rest_folded 0 ◌+◌ count add r
 
 -- no part adds anything
 abbrev pub adds_none : {F : Type 0} → Rest F → ℕ → ℕ

@@ -8,7 +8,7 @@ use Rattle.pull_turns.proofs.Coming.{faulty_step, finishing_step}
 use Rattle.pull_turns.proofs.Finished.{through_step}
 use Rattle.pull_turns.proofs.Into.{can_write, into_moved, into_scoped, into_step}
 use Rattle.pull_turns.proofs.Scoped.{merge_left_scoped, merge_right_scoped, within_scoped, zip_left_scoped, zip_right_scoped}
-use Rattle.pull_turns.proofs.Zipping.{needs_right, zip_left_moved, zip_left_step, zip_right_moved, zip_right_step}
+use Rattle.pull_turns.proofs.Zipping.{gives_lines, needs_right, zip_left_moved, zip_left_step, zip_right_moved, zip_right_step}
 use Rattle.pull_turns.proofs.Merging.{merge_left_step, merge_right_step}
 use Rattle.pull_turns.proofs.Pieces.{read_step, read_moved}
 use Rattle.pull_turns.proofs.Sized.{then_sized, read_sized, take_sized, zip_left_sized, zip_right_sized}
@@ -232,6 +232,11 @@ returns-in_ok-turn-in-Through-clause-scoped g t c =
     rw (c.go_through.ensures, c.in-Through.is)
     (_, _, c.in_ok-below-in-Through.below, rw c.deref_mut-in-Through.ensures.value at c.in_ok-below-in-Through.ensures.scoped, (_, c.in_ok-turn-in-Through.after, c.in_ok-turn-in-Through.ensures.passes (g.F.PipeState.values c.args.tables.now), refl))
 
+pub zipped-requires-clause-lines : goal.zipped-requires-clause-lines
+zipped-requires-clause-lines g t c =
+    let ready = rw c.in-Zip.is at c.requires.ready in
+    gives_lines _ _ _ _ _ _ _ c.in_ok-below-in-Left.below ready.pipes.1 (rw c.deref_mut-in-Left.ensures.value at c.in_ok-below-in-Left.ensures.turned)
+
 pub returns-in_err-turn-in-Left-clause-unwritten : goal.returns-in_err-turn-in-Left-clause-unwritten
 returns-in_err-turn-in-Left-clause-unwritten g t c = on_err c.from_residual-in_err-turn-in-Left.result (c.in_ok-below-in-Left.ensures.turned.writes c.in_err-turn-in-Left.ensures.wants)
 
@@ -252,6 +257,11 @@ returns-in_ok-turn-in-Left-clause-sized g t c f = rw c.in-Zip.is
 pub returns-in_ok-turn-in-Left-clause-scoped : goal.returns-in_ok-turn-in-Left-clause-scoped
 returns-in_ok-turn-in-Left-clause-scoped g t c = rw c.in-Zip.is
     (zip_left_scoped _ (g.O.Outside.seen c.args.outside.now) (g.O.Outside.seen c.step-in-Left.new.outside) c.args.scope c.in-Zip.state _ _ _ _ _ _ c.in_ok-below-in-Left.below _ ((rw c.in-Left.is at c.need.ensures.left).0 refl) c.in_ok-turn-in-Left.ensures.turn (rw c.deref_mut-in-Left.ensures.value at c.in_ok-below-in-Left.ensures.scoped))
+
+pub zipped-requires-in-Right-clause-lines : goal.zipped-requires-in-Right-clause-lines
+zipped-requires-in-Right-clause-lines g t c =
+    let ready = rw c.in-Zip.is at c.requires.ready in
+    gives_lines _ _ _ _ _ _ _ c.in_ok-below-in-Right.below ready.pipes.2 (rw c.deref_mut-in-Right.ensures.value at c.in_ok-below-in-Right.ensures.turned)
 
 pub returns-in_err-turn-in-Right-clause-unwritten : goal.returns-in_err-turn-in-Right-clause-unwritten
 returns-in_err-turn-in-Right-clause-unwritten g t c = on_err c.from_residual-in_err-turn-in-Right.result (c.in_ok-below-in-Right.ensures.turned.writes c.in_err-turn-in-Right.ensures.wants)
