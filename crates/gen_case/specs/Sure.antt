@@ -1,4 +1,4 @@
--- Devices in memory that don't fail.
+-- Devices in memory of which no open, read or close fails.
 use Rattle.std.specs.Prelude.{ℕ, ◌+◌, Bool, ◌&&◌, ◌||◌, not, List, length, nat_eq}
 use Rattle.std.specs.List.{list_all}
 use Rattle.device_port.specs.Device.{DeviceTold, is_read}

@@ -1,4 +1,4 @@
--- What a depot whose devices don't fail tells.
+-- What a depot tells of whose devices no open, read or close fails.
 use Rattle.device_port.specs.Depot.{DepotTold}
 use Rattle.device_port.specs.MemDepot.{depot_told}
 use Rattle.gen_case.specs.declared.sure.SureDepot.{SureDepot}
