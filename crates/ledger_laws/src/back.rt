@@ -16,20 +16,3 @@ pub fn read_back(alloc: Global, ledger: &Ledger) -> Result<Ledger, LedgerRefused
     };
     read(alloc, line.as_slice())
 }
-
-#[cfg(test)]
-mod tests {
-    use super::*;
-    use std::test::Fail;
-
-    #[test]
-    fn reads_a_ledger_back(rt: HostRuntime) -> Result<(), Fail> {
-        let alloc = rt.alloc();
-        let written = b"ledger 2\nouter close 0 canceled\n7 final 3 errored fault\n".as_slice();
-        let ledger = read(alloc, written)?;
-        let back = read_back(alloc, &ledger)?;
-        assert_eq!(rt; back.len(), 2);
-        assert_eq!(rt; text(alloc, &back)?.as_slice(), written);
-        Ok(())
-    }
-}

@@ -2,10 +2,24 @@ ghost use Rattle.std.specs.Prelude.{◌≡◌, IfOk};
 ghost use Rattle.chunk_core.specs.Elements.{kind_of};
 ghost use Rattle.chunk_core.specs.Feed.{MayFeed};
 
-use chunk_core::{Chunk, ChunkQueue, Code, Fed, Feed, How, Line, List, Load, Row, Word, render};
+use crate::asserts::{holds, prints, renders, same};
+use chunk_core::{Chunk, ChunkQueue, Code, Fed, Feed, How, Line, List, Load, Row, Word};
 use std::alloc::{AllocError, Global};
 use std::mem;
+use std::process::Abort;
 use std::test::Fail;
+
+const CHUNKS: &[&[u8]] = &[&[1], &[2, 3]];
+
+const CHUNKS_WITH_AN_EMPTY_ONE: &[&[u8]] = &[&[1], &[], &[2], &[3]];
+
+const LINES: &[&[u8]] = &[b"ab", b"c"];
+
+const LINES_WITH_AN_EMPTY_ONE: &[&[u8]] = &[b"ab", b""];
+
+const ROW: &[&[&[u8]]] = &[&[b"a", b"b"]];
+
+const UNEVEN_ROWS: &[&[&[u8]]] = &[&[b"a,\"b", b"c d"], &[b"e"]];
 
 /// Keeps its bytes until the input ends.
 #[derive(Drop)]
@@ -59,188 +73,221 @@ fn bytes_of(alloc: Global, bytes: &[u8]) -> Result<Chunk<u8>, AllocError>
     Chunk::of_vec(alloc, Vec::from_slice(alloc, bytes)?)
 }
 
+/// The chunk, which must not come back as a vector: the text says what that would mean.
+fn still_chunk(chunk: Chunk<u8>, meaning: &'static str) -> Result<Chunk<u8>, Fail> {
+    match chunk.into_vec() {
+        Ok(_) => Err(Fail::from(meaning)),
+        Err(chunk) => Ok(chunk),
+    }
+}
+
+fn vector_of(chunk: Chunk<u8>) -> Result<Vec<u8>, Fail> {
+    match chunk.into_vec() {
+        Ok(bytes) => Ok(bytes),
+        Err(_) => Err(Fail::from("the vector didn't come back")),
+    }
+}
+
+/// The bytes, pushed to an empty list one by one.
+fn list_of(alloc: Global, bytes: &[u8]) -> Result<List<u8>, AllocError> {
+    let mut list = List::new(alloc);
+    for byte in bytes {
+        list.push(*byte)?;
+    }
+    Ok(list)
+}
+
+fn queue_of(alloc: Global, chunks: &[&[u8]]) -> Result<ChunkQueue<u8>, AllocError> {
+    let mut queue = ChunkQueue::new(alloc);
+    for bytes in chunks {
+        queue.push(bytes_of(alloc, bytes)?)?;
+    }
+    Ok(queue)
+}
+
+fn lines_of(alloc: Global, texts: &[&[u8]]) -> Result<Chunk<Line>, AllocError> {
+    let mut lines = Vec::new(alloc);
+    for text in texts {
+        lines.push(Line::copy_of(alloc, text)?)?;
+    }
+    Chunk::of_vec(alloc, lines)
+}
+
+fn rows_of(alloc: Global, rows: &[&[&[u8]]]) -> Result<Chunk<Row>, AllocError> {
+    let mut copies = Vec::new(alloc);
+    for fields in rows.iter().copied() {
+        let mut row = Row::new(alloc);
+        for field in fields {
+            row.push(Line::copy_of(alloc, field)?)?;
+        }
+        copies.push(row)?;
+    }
+    Chunk::of_vec(alloc, copies)
+}
+
 #[test]
 fn list_grows_at_its_end(rt: HostRuntime) -> Result<(), Fail> {
-    let mut list = List::new(rt.alloc());
-    assert!(rt; list.is_empty());
-    list.push(4u8)?;
-    list.push(5)?;
-    assert_eq!(rt; list.len(), 2);
-    assert_eq!(rt; list.get(1), Some(&5));
-    assert_eq!(rt; list.get(2), None);
-    assert_eq!(rt; list.as_slice(), [4, 5].as_slice());
-    assert_eq!(rt; list.into_vec().as_slice(), [4, 5].as_slice());
+    holds(&rt, list_of(rt.alloc(), &[])?.is_empty());
+    let list = list_of(rt.alloc(), &[4, 5])?;
+    same(&rt, list.len(), 2);
+    same(&rt, list.get(1), Some(&5));
+    same(&rt, list.get(2), None);
+    same(&rt, list.as_slice(), &[4, 5]);
+    same(&rt, list.into_vec().as_slice(), &[4, 5]);
     Ok(())
 }
 
 #[test]
 fn word_is_its_text(rt: HostRuntime) -> Result<(), Fail> {
     let word = Word::of(rt.alloc(), "né")?;
-    assert_eq!(rt; word.as_str(), "né");
-    assert_eq!(rt; word.as_bytes(), [110, 195, 169].as_slice());
+    same(&rt, word.as_str(), "né");
+    same(&rt, word.as_bytes(), &[110, 195, 169]);
     Ok(())
 }
 
 #[test]
 fn chunk_shows_the_vector(rt: HostRuntime) -> Result<(), Fail> {
-    let chunk = bytes_of(rt.alloc(), [1, 2, 3].as_slice())?;
-    assert_eq!(rt; chunk.len(), 3);
-    assert!(rt; !chunk.is_empty());
-    assert_eq!(rt; chunk.get(2), Some(&3));
-    assert_eq!(rt; chunk.get(3), None);
-    assert_eq!(rt; chunk.as_slice(), [1, 2, 3].as_slice());
+    let chunk = bytes_of(rt.alloc(), &[1, 2, 3])?;
+    same(&rt, chunk.len(), 3);
+    holds(&rt, !chunk.is_empty());
+    same(&rt, chunk.get(2), Some(&3));
+    same(&rt, chunk.get(3), None);
+    same(&rt, chunk.as_slice(), &[1, 2, 3]);
     let copy = chunk.iter().copied().collect::<Vec<u8>>(rt.alloc())?;
-    assert_eq!(rt; copy.as_slice(), [1, 2, 3].as_slice());
+    same(&rt, copy.as_slice(), &[1, 2, 3]);
     Ok(())
 }
 
 #[test]
 fn split_takes_off_the_front(rt: HostRuntime) -> Result<(), Fail> {
-    let mut chunk = bytes_of(rt.alloc(), [1, 2, 3].as_slice())?;
+    let mut chunk = bytes_of(rt.alloc(), &[1, 2, 3])?;
     let front = chunk.split(2)?;
-    assert_eq!(rt; front.as_slice(), [1, 2].as_slice());
-    assert_eq!(rt; chunk.as_slice(), [3].as_slice());
+    same(&rt, front.as_slice(), &[1, 2]);
+    same(&rt, chunk.as_slice(), &[3]);
     let rest = chunk.split(2)?;
-    assert_eq!(rt; rest.as_slice(), [3].as_slice());
-    assert!(rt; chunk.is_empty());
+    same(&rt, rest.as_slice(), &[3]);
+    holds(&rt, chunk.is_empty());
     Ok(())
 }
 
 #[test]
 fn a_share_is_the_same_window(rt: HostRuntime) -> Result<(), Fail> {
-    let mut chunk = bytes_of(rt.alloc(), [1, 2, 3].as_slice())?;
+    let mut chunk = bytes_of(rt.alloc(), &[1, 2, 3])?;
     chunk.split(1)?;
     let share = chunk.share()?;
-    assert_eq!(rt; share.as_slice(), [2, 3].as_slice());
-    assert_eq!(rt; chunk.as_slice(), [2, 3].as_slice());
+    same(&rt, share.as_slice(), &[2, 3]);
+    same(&rt, chunk.as_slice(), &[2, 3]);
     Ok(())
 }
 
 #[test]
 fn a_vector_comes_back_where_nobody_shares_it(rt: HostRuntime) -> Result<(), Fail> {
-    let chunk = bytes_of(rt.alloc(), [1, 2].as_slice())?;
+    let chunk = bytes_of(rt.alloc(), &[1, 2])?;
     let share = chunk.share()?;
-    let Err(chunk) = chunk.into_vec() else {
-        return Err(Fail::from("a shared vector came back"));
-    };
+    let chunk = still_chunk(chunk, "a shared vector came back")?;
     drop(share);
-    let Ok(bytes) = chunk.into_vec() else {
-        return Err(Fail::from("the vector didn't come back"));
-    };
-    assert_eq!(rt; bytes.as_slice(), [1, 2].as_slice());
+    same(&rt, vector_of(chunk)?.as_slice(), &[1, 2]);
     Ok(())
 }
 
 #[test]
 fn a_part_of_a_vector_stays_a_chunk(rt: HostRuntime) -> Result<(), Fail> {
-    let mut chunk = bytes_of(rt.alloc(), [1, 2, 3].as_slice())?;
+    let mut chunk = bytes_of(rt.alloc(), &[1, 2, 3])?;
     let front = chunk.split(2)?;
     drop(chunk);
-    let Err(front) = front.into_vec() else {
-        return Err(Fail::from("more than the window came back"));
-    };
-    assert_eq!(rt; front.as_slice(), [1, 2].as_slice());
+    let front = still_chunk(front, "more than the window came back")?;
+    same(&rt, front.as_slice(), &[1, 2]);
     Ok(())
 }
 
 #[test]
 fn concat_is_one_after_the_other(rt: HostRuntime) -> Result<(), Fail> {
-    let first = bytes_of(rt.alloc(), [1, 2].as_slice())?;
-    let second = bytes_of(rt.alloc(), [3].as_slice())?;
+    let first = bytes_of(rt.alloc(), &[1, 2])?;
+    let second = bytes_of(rt.alloc(), &[3])?;
     let both = first.concat(rt.alloc(), &second)?;
-    assert_eq!(rt; both.as_slice(), [1, 2, 3].as_slice());
+    same(&rt, both.as_slice(), &[1, 2, 3]);
+    Ok(())
+}
+
+/// Fails the test unless the queue gives these for so many.
+fn gives(
+    rt: &impl Abort,
+    queue: &mut ChunkQueue<u8>,
+    count: usize,
+    bytes: &[u8],
+) -> Result<(), AllocError> {
+    let front = queue.take(count)?;
+    same(rt, front.as_slice(), bytes);
+    same(rt, front.is_empty(), bytes.is_empty());
     Ok(())
 }
 
 #[test]
 fn queue_gives_what_it_was_given(rt: HostRuntime) -> Result<(), Fail> {
-    let mut queue = ChunkQueue::new(rt.alloc());
-    queue.push(bytes_of(rt.alloc(), [1].as_slice())?)?;
-    queue.push(bytes_of(rt.alloc(), [2, 3].as_slice())?)?;
-    assert_eq!(rt; queue.take(2)?.as_slice(), [1, 2].as_slice());
-    assert_eq!(rt; queue.take(2)?.as_slice(), [3].as_slice());
-    assert!(rt; queue.take(1)?.is_empty());
+    let mut queue = queue_of(rt.alloc(), CHUNKS)?;
+    gives(&rt, &mut queue, 2, &[1, 2])?;
+    gives(&rt, &mut queue, 2, &[3])?;
+    gives(&rt, &mut queue, 1, &[])?;
     Ok(())
 }
 
 #[test]
 fn queue_gives_its_first_chunk_without_a_copy(rt: HostRuntime) -> Result<(), Fail> {
     let mut queue = ChunkQueue::new(rt.alloc());
-    let chunk = bytes_of(rt.alloc(), [1, 2, 3].as_slice())?;
+    let chunk = bytes_of(rt.alloc(), &[1, 2, 3])?;
     let share = chunk.share()?;
     queue.push(chunk)?;
-    let Err(whole) = queue.take(9)?.into_vec() else {
-        return Err(Fail::from("the whole was copied"));
-    };
-    assert_eq!(rt; whole.as_slice(), share.as_slice());
+    let whole = still_chunk(queue.take(9)?, "the whole was copied")?;
+    same(&rt, whole.as_slice(), share.as_slice());
     queue.push(whole)?;
-    let Err(front) = queue.take(1)?.into_vec() else {
-        return Err(Fail::from("the front was copied"));
-    };
-    assert_eq!(rt; front.as_slice(), [1].as_slice());
-    assert_eq!(rt; queue.take(9)?.as_slice(), [2, 3].as_slice());
+    let front = still_chunk(queue.take(1)?, "the front was copied")?;
+    same(&rt, front.as_slice(), &[1]);
+    gives(&rt, &mut queue, 9, &[2, 3])?;
     Ok(())
 }
 
 #[test]
 fn queue_joins_over_empty_chunks(rt: HostRuntime) -> Result<(), Fail> {
-    let mut queue = ChunkQueue::new(rt.alloc());
-    for bytes in [
-        [1].as_slice(),
-        [].as_slice(),
-        [2].as_slice(),
-        [3].as_slice(),
-    ] {
-        queue.push(bytes_of(rt.alloc(), bytes)?)?;
-    }
-    assert!(rt; queue.take(0)?.is_empty());
-    assert_eq!(rt; queue.take(2)?.as_slice(), [1, 2].as_slice());
-    assert_eq!(rt; queue.take(2)?.as_slice(), [3].as_slice());
+    let mut queue = queue_of(rt.alloc(), CHUNKS_WITH_AN_EMPTY_ONE)?;
+    gives(&rt, &mut queue, 0, &[])?;
+    gives(&rt, &mut queue, 2, &[1, 2])?;
+    gives(&rt, &mut queue, 2, &[3])?;
     Ok(())
+}
+
+/// The first two lines, taken from a queue one by one and joined.
+fn joined(alloc: Global, lines: Chunk<Line>) -> Result<Chunk<Line>, AllocError> {
+    let mut queue = ChunkQueue::new(alloc);
+    queue.push(lines)?;
+    let first = queue.take(1)?;
+    first.concat(alloc, &queue.take(1)?)
 }
 
 #[test]
 fn lines_are_taken_and_joined(rt: HostRuntime) -> Result<(), Fail> {
-    let alloc = rt.alloc();
-    let mut lines = Vec::new(alloc);
-    lines.push(Line::copy_of(alloc, b"ab")?)?;
-    lines.push(Line::copy_of(alloc, b"c")?)?;
-    let mut queue = ChunkQueue::new(alloc);
-    queue.push(Chunk::of_vec(alloc, lines)?)?;
-    let first = queue.take(1)?;
-    let load = Load::Lines(first.concat(alloc, &queue.take(1)?)?);
-    assert_eq!(rt; render(alloc, &load)?.as_slice(), b"ab\nc\n".as_slice());
+    let both = joined(rt.alloc(), lines_of(rt.alloc(), LINES)?)?;
+    renders(&rt, rt.alloc(), &Load::Lines(both), b"ab\nc\n")?;
     Ok(())
 }
 
 #[test]
 fn rows_are_joined(rt: HostRuntime) -> Result<(), Fail> {
-    let alloc = rt.alloc();
-    let mut row = Row::new(alloc);
-    row.push(Line::copy_of(alloc, b"a")?)?;
-    row.push(Line::copy_of(alloc, b"b")?)?;
-    let mut rows = Vec::new(alloc);
-    rows.push(row)?;
-    let chunk = Chunk::of_vec(alloc, rows)?;
-    let load = Load::Rows(chunk.concat(alloc, &chunk)?);
-    assert_eq!(rt; render(alloc, &load)?.as_slice(), b"a,b\na,b\n".as_slice());
+    let chunk = rows_of(rt.alloc(), ROW)?;
+    let both = chunk.concat(rt.alloc(), &chunk)?;
+    renders(&rt, rt.alloc(), &Load::Rows(both), b"a,b\na,b\n")?;
     Ok(())
 }
 
 #[test]
 fn a_load_is_split_by_its_elements(rt: HostRuntime) -> Result<(), Fail> {
-    let alloc = rt.alloc();
-    let mut lines = Vec::new(alloc);
-    lines.push(Line::copy_of(alloc, b"ab")?)?;
-    lines.push(Line::copy_of(alloc, b"c")?)?;
-    let mut load = Load::Lines(Chunk::of_vec(alloc, lines)?);
-    assert_eq!(rt; load.len(), 2);
+    let mut load = Load::Lines(lines_of(rt.alloc(), LINES)?);
+    same(&rt, load.len(), 2);
     let front = load.split(1)?;
-    assert_eq!(rt; render(alloc, &front)?.as_slice(), b"ab\n".as_slice());
-    assert_eq!(rt; render(alloc, &load)?.as_slice(), b"c\n".as_slice());
-    assert!(rt; !load.is_empty());
+    renders(&rt, rt.alloc(), &front, b"ab\n")?;
+    renders(&rt, rt.alloc(), &load, b"c\n")?;
+    holds(&rt, !load.is_empty());
     load.split(1)?;
-    assert!(rt; load.is_empty());
+    holds(&rt, load.is_empty());
     Ok(())
 }
 
@@ -249,87 +296,65 @@ fn is_sendable<T: Send>(_value: &T) {}
 
 #[test]
 fn loads_go_to_other_threads(rt: HostRuntime) -> Result<(), Fail> {
-    let load = Load::Bytes(bytes_of(rt.alloc(), [1].as_slice())?);
+    let load = Load::Bytes(bytes_of(rt.alloc(), &[1])?);
     is_sendable(&load);
     Ok(())
 }
 
 #[test]
 fn codes_and_ends_have_their_names(rt: HostRuntime) -> Result<(), Fail> {
-    let how = How::Fault(Code::Raised(7));
-    let text = format!(in rt.alloc(); "{how}")?;
-    assert_eq!(rt; text.as_str(), "fault raised 7");
-    let code = Code::LongLine;
-    let text = format!(in rt.alloc(); "{code}")?;
-    assert_eq!(rt; text.as_str(), "longline");
+    prints(
+        &rt,
+        rt.alloc(),
+        &How::Fault(Code::Raised(7)),
+        "fault raised 7",
+    )?;
+    prints(&rt, rt.alloc(), &Code::LongLine, "longline")?;
     Ok(())
 }
 
 #[test]
 fn finalizers_are_told_how_it_ended(rt: HostRuntime) -> Result<(), Fail> {
-    for (how, text) in [
-        (How::Done, "succeeded"),
-        (How::Fault(Code::Read), "errored"),
-        (How::Halted, "canceled"),
-        (How::Memory, "canceled"),
-    ] {
-        let exit = how.exit();
-        let told = format!(in rt.alloc(); "{exit}")?;
-        assert_eq!(rt; told.as_str(), text);
-    }
+    prints(&rt, rt.alloc(), &How::Done.exit(), "succeeded")?;
+    prints(&rt, rt.alloc(), &How::Fault(Code::Read).exit(), "errored")?;
+    prints(&rt, rt.alloc(), &How::Halted.exit(), "canceled")?;
+    prints(&rt, rt.alloc(), &How::Memory.exit(), "canceled")?;
     Ok(())
 }
 
 #[test]
 fn bytes_render_as_they_are(rt: HostRuntime) -> Result<(), Fail> {
-    let load = Load::Bytes(bytes_of(rt.alloc(), [104, 10, 105].as_slice())?);
-    assert_eq!(rt;
-        render(rt.alloc(), &load)?.as_slice(),
-        [104, 10, 105].as_slice()
-    );
+    let load = Load::Bytes(bytes_of(rt.alloc(), &[104, 10, 105])?);
+    renders(&rt, rt.alloc(), &load, &[104, 10, 105])?;
     Ok(())
 }
 
 #[test]
 fn each_line_renders_with_its_line_feed(rt: HostRuntime) -> Result<(), Fail> {
-    let alloc = rt.alloc();
-    let mut lines = Vec::new(alloc);
-    lines.push(Line::copy_of(alloc, b"ab")?)?;
-    lines.push(Line::copy_of(alloc, b"")?)?;
-    let load = Load::Lines(Chunk::of_vec(alloc, lines)?);
-    assert_eq!(rt; render(alloc, &load)?.as_slice(), b"ab\n\n".as_slice());
+    let load = Load::Lines(lines_of(rt.alloc(), LINES_WITH_AN_EMPTY_ONE)?);
+    renders(&rt, rt.alloc(), &load, b"ab\n\n")?;
     Ok(())
 }
 
 #[test]
 fn a_row_renders_with_quotes_where_it_needs_them(rt: HostRuntime) -> Result<(), Fail> {
-    let alloc = rt.alloc();
-    let mut first = Row::new(alloc);
-    first.push(Line::copy_of(alloc, b"a,\"b")?)?;
-    first.push(Line::copy_of(alloc, b"c d")?)?;
-    let mut second = Row::new(alloc);
-    second.push(Line::copy_of(alloc, b"e")?)?;
-    let mut rows = Vec::new(alloc);
-    rows.push(first)?;
-    rows.push(second)?;
-    let load = Load::Rows(Chunk::of_vec(alloc, rows)?);
-    assert_eq!(rt;
-        render(alloc, &load)?.as_slice(),
-        b"\"a,\"\"b\",c d\ne\n".as_slice()
-    );
+    let load = Load::Rows(rows_of(rt.alloc(), UNEVEN_ROWS)?);
+    renders(&rt, rt.alloc(), &load, b"\"a,\"\"b\",c d\ne\n")?;
     Ok(())
+}
+
+/// What a pipe that gathers gives of the bytes, and then of their end.
+fn gathered(alloc: Global, bytes: &[u8]) -> Result<Fed, AllocError> {
+    let held = Vec::new(alloc);
+    let load = Load::Bytes(bytes_of(alloc, bytes)?);
+    give(alloc, &mut Gather { held }, load)
 }
 
 #[test]
 fn a_pipe_that_gathers_gives_all_at_the_end(rt: HostRuntime) -> Result<(), Fail> {
-    let alloc = rt.alloc();
-    let mut pipe = Gather {
-        held: Vec::new(alloc),
-    };
-    let load = Load::Bytes(bytes_of(alloc, [7, 8].as_slice())?);
-    let Fed::Out(load) = give(alloc, &mut pipe, load)? else {
+    let Fed::Out(load) = gathered(rt.alloc(), &[7, 8])? else {
         return Err(Fail::from("nothing came out"));
     };
-    assert_eq!(rt; render(alloc, &load)?.as_slice(), [7, 8].as_slice());
+    renders(&rt, rt.alloc(), &load, &[7, 8])?;
     Ok(())
 }

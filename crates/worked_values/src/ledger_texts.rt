@@ -1,8 +1,9 @@
 //! The text of ledgers.
+use crate::asserts::{prints, same};
 use chunk_core::Exit;
 use res_ledger::{Event, Ledger, StreamNo, What, text};
 use std::alloc::{AllocError, Global};
-use std::fmt;
+use std::process::Abort;
 use std::test::Fail;
 
 fn of_events(alloc: Global, by: StreamNo, steps: [What; 3]) -> Result<Ledger, AllocError> {
@@ -25,54 +26,41 @@ fn of_events(alloc: Global, by: StreamNo, steps: [What; 3]) -> Result<Ledger, Al
     Ok(Ledger::of_events(vec![in alloc; first, second, third]?))
 }
 
+/// Fails the test unless a ledger of these steps by the stream has this text.
+fn are_written(
+    rt: &impl Abort,
+    alloc: Global,
+    by: StreamNo,
+    steps: [What; 3],
+    written: &[u8],
+) -> Result<(), AllocError> {
+    let ledger = of_events(alloc, by, steps)?;
+    same(rt, text(alloc, &ledger)?.as_slice(), written);
+    Ok(())
+}
+
 #[test]
 fn prints_each_kind_of_event(rt: HostRuntime) -> Result<(), Fail> {
+    let (exit, ok) = (Exit::Succeeded, true);
     let one_row = [
         What::Acquire { row: 0, scope: 0 },
-        What::Close {
-            scope: 0,
-            exit: Exit::Succeeded,
-        },
-        What::Final {
-            row: 0,
-            exit: Exit::Succeeded,
-            ok: true,
-        },
+        What::Close { scope: 0, exit },
+        What::Final { row: 0, exit, ok },
     ];
-    let ledger = of_events(rt.alloc(), StreamNo::Inner(0), one_row)?;
-    let printed = text(rt.alloc(), &ledger)?;
-    assert_eq!(rt;
-        printed.as_slice(),
-        b"ledger 3\n0 acquire 0 0\n0 close 0 succeeded\n0 final 0 succeeded ok\n".as_slice()
-    );
+    let written = b"ledger 3\n0 acquire 0 0\n0 close 0 succeeded\n0 final 0 succeeded ok\n";
+    are_written(&rt, rt.alloc(), StreamNo::Inner(0), one_row, written)?;
+
+    let (stream, scope, exit) = (5, 1, Exit::Canceled);
     let leased = [
-        What::Open {
-            scope: 1,
-            parent: 0,
-        },
-        What::Lease {
-            stream: 5,
-            scope: 1,
-        },
-        What::Cancel {
-            stream: 5,
-            exit: Exit::Canceled,
-        },
+        What::Open { scope, parent: 0 },
+        What::Lease { stream, scope },
+        What::Cancel { stream, exit },
     ];
-    let ledger = of_events(rt.alloc(), StreamNo::Outer, leased)?;
-    let printed = text(rt.alloc(), &ledger)?;
-    assert_eq!(rt;
-        printed.as_slice(),
-        b"ledger 3\nouter open 1 0\nouter lease 5 1\nouter cancel 5 canceled\n".as_slice()
-    );
-    let line = format!(in rt.alloc();
-        "{}",
-        What::Final {
-            row: 4294967295,
-            exit: Exit::Errored,
-            ok: false
-        }
-    )?;
-    assert_eq!(rt; line.as_str(), "final 4294967295 errored fault");
+    let written = b"ledger 3\nouter open 1 0\nouter lease 5 1\nouter cancel 5 canceled\n";
+    are_written(&rt, rt.alloc(), StreamNo::Outer, leased, written)?;
+
+    let (row, exit, ok) = (4294967295, Exit::Errored, false);
+    let failed = What::Final { row, exit, ok };
+    prints(&rt, rt.alloc(), &failed, "final 4294967295 errored fault")?;
     Ok(())
 }

@@ -3,6 +3,8 @@
 #![tactic(auto)]
 
 #[cfg(test)]
+mod asserts;
+#[cfg(test)]
 mod chunk_tests;
 #[cfg(test)]
 mod device_tests;

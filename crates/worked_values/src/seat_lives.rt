@@ -7,6 +7,7 @@ ghost use Rattle.chunk_core.specs.declared.code.Exit.TheVariants.{Succeeded};
 ghost use Rattle.res_ledger.specs.declared.event.StreamNo.TheVariants.{Outer};
 ghost use Rattle.res_ledger.specs.declared.event.What.TheVariants.{Acquire, Close, Final};
 
+use crate::asserts::same;
 use chunk_core::{Exit, Span};
 use res_ledger::{Ledger, StreamNo, What};
 use row_seat::{PlainSeat, RowSeat};
@@ -81,8 +82,8 @@ fn hand_out<S: RowSeat>(
 #[test]
 fn finalizes_what_it_placed(rt: HostRuntime) -> Result<(), Fail> {
     let (pay, ledger) = whole_life(rt.alloc())?;
-    assert_eq!(rt; pay, 8);
-    assert_eq!(rt; ledger.len(), 3);
+    same(&rt, pay, 8);
+    same(&rt, ledger.len(), 3);
     Ok(())
 }
 

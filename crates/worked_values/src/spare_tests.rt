@@ -1,4 +1,5 @@
-use chunk_core::{Line, Load, Row, Spare, SpareRows, render};
+use crate::asserts::{holds, renders, same};
+use chunk_core::{Line, Load, Row, Spare, SpareRows};
 use std::alloc::{AllocError, Global};
 use std::test::Fail;
 
@@ -15,17 +16,14 @@ fn room_after(alloc: Global, bytes: &[u8]) -> Result<usize, AllocError> {
 
 #[test]
 fn a_line_that_was_let_go_is_filled_again(rt: HostRuntime) -> Result<(), Fail> {
-    let room = room_after(rt.alloc(), [7; 100].as_slice())?;
-    assert!(rt; room >= 100);
+    holds(&rt, room_after(rt.alloc(), &[7; 100])? >= 100);
     Ok(())
 }
 
 #[test]
 fn memory_of_more_than_1024_bytes_isnt_kept(rt: HostRuntime) -> Result<(), Fail> {
-    let room = room_after(rt.alloc(), [7; 1024].as_slice())?;
-    assert_eq!(rt; room, 1024);
-    let room = room_after(rt.alloc(), [7; 1025].as_slice())?;
-    assert_eq!(rt; room, 0);
+    same(&rt, room_after(rt.alloc(), &[7; 1024])?, 1024);
+    same(&rt, room_after(rt.alloc(), &[7; 1025])?, 0);
     Ok(())
 }
 
@@ -38,9 +36,9 @@ fn a_load_that_is_still_out_stays_as_it_is(rt: HostRuntime) -> Result<(), Fail> 
     let given = Load::Lines(spare.give(alloc, lines)?);
     spare.regain();
     let other = spare.line(alloc, b"c")?;
-    assert_eq!(rt; other.as_slice(), b"c".as_slice());
-    assert_eq!(rt; spare.empty(alloc).capacity(), 0);
-    assert_eq!(rt; render(alloc, &given)?.as_slice(), b"ab\n".as_slice());
+    same(&rt, other.as_slice(), b"c");
+    same(&rt, spare.empty(alloc).capacity(), 0);
+    renders(&rt, alloc, &given, b"ab\n")?;
     Ok(())
 }
 
@@ -59,7 +57,7 @@ fn a_longer_row_has_one_more_field(rt: HostRuntime) -> Result<(), Fail> {
     let mut rows = Vec::new(alloc);
     rows.push(row_of(alloc, &mut spare, b"a")?)?;
     let given = Load::Rows(spare.give(alloc, rows)?);
-    assert_eq!(rt; render(alloc, &given)?.as_slice(), b"a,a,c\n".as_slice());
+    renders(&rt, alloc, &given, b"a,a,c\n")?;
     Ok(())
 }
 
@@ -68,18 +66,18 @@ fn a_row_that_was_let_go_is_filled_again(rt: HostRuntime) -> Result<(), Fail> {
     let alloc = rt.alloc();
     let mut spare = SpareRows::new(alloc);
     let mut rows = Vec::new(alloc);
-    rows.push(row_of(alloc, &mut spare, [7; 100].as_slice())?)?;
+    rows.push(row_of(alloc, &mut spare, &[7; 100])?)?;
     let given = spare.give(alloc, rows)?;
     drop(given);
     spare.regain();
     let fields = spare.empty(alloc)?;
-    assert!(rt; fields.is_empty());
-    assert!(rt; fields.capacity() >= 3);
+    holds(&rt, fields.is_empty());
+    holds(&rt, fields.capacity() >= 3);
     let line = spare.line(alloc, b"c")?;
-    assert_eq!(rt; line.as_slice(), b"c".as_slice());
+    same(&rt, line.as_slice(), b"c");
     let line = spare.line(alloc, b"d")?.into_vec();
-    assert_eq!(rt; line.as_slice(), b"d".as_slice());
-    assert!(rt; line.capacity() >= 100);
-    assert!(rt; spare.empty(alloc)?.capacity() == 0);
+    same(&rt, line.as_slice(), b"d");
+    holds(&rt, line.capacity() >= 100);
+    same(&rt, spare.empty(alloc)?.capacity(), 0);
     Ok(())
 }

@@ -1,10 +1,11 @@
 //! The adapters of real files and streams, over files of the tests' own and over real ones.
-use super::{read_at, sends, write_at};
+use super::{Moves, close_at, moves, read_at, sends, write_at};
+use crate::asserts::{holds, same, same_at};
 use crate::device_tests::fakes::{Answer, Scripted, Scripts};
-use chunk_core::{Exit, Word};
 use device_port::*;
 use std::alloc::{AllocError, Global};
 use std::io::ErrorKind;
+use std::process::Abort;
 use std::test::Fail;
 use std::{fs, io};
 
@@ -20,12 +21,12 @@ fn interrupted_reads_are_tried_again(rt: HostRuntime) {
     ];
     let mut source = StdSource::new(Scripted::new(rt.alloc(), &answers, None));
     let mut buf = [0u8; 4];
-    assert_eq!(rt; source.read(&mut buf), Ok(1));
-    assert_eq!(rt; buf, [b'x', 0, 0, 0]);
-    assert_eq!(rt; source.read(&mut buf), Ok(0));
-    assert_eq!(rt; source.read(&mut buf), Err(Failed));
-    assert_eq!(rt; source.read(&mut buf), Ok(4));
-    assert_eq!(rt; buf, *b"xxxx");
+    same(&rt, source.read(&mut buf), Ok(1));
+    same(&rt, buf, [b'x', 0, 0, 0]);
+    same(&rt, source.read(&mut buf), Ok(0));
+    same(&rt, source.read(&mut buf), Err(Failed));
+    same(&rt, source.read(&mut buf), Ok(4));
+    same(&rt, buf, *b"xxxx");
 }
 
 #[test]
@@ -41,11 +42,11 @@ fn interrupted_writes_are_tried_again(rt: HostRuntime) {
     ];
     let mut file = Scripted::new(rt.alloc(), &answers, None);
     let mut sink = StdSink::new(&mut file);
-    assert_eq!(rt; put(&mut sink, b"hello"), Ok(()));
-    assert_eq!(rt; put(&mut sink, b"!"), Err(Failed));
-    assert_eq!(rt; put(&mut sink, b"!"), Err(Failed));
-    assert_eq!(rt; put(&mut sink, b"?"), Ok(()));
-    assert_eq!(rt; file.taken.as_slice(), b"hello?".as_slice());
+    same(&rt, put(&mut sink, b"hello"), Ok(()));
+    same(&rt, put(&mut sink, b"!"), Err(Failed));
+    same(&rt, put(&mut sink, b"!"), Err(Failed));
+    same(&rt, put(&mut sink, b"?"), Ok(()));
+    same(&rt, file.taken.as_slice(), b"hello?");
 }
 
 /// Whether a device that was opened at the path is closed well, where making its file safe fails
@@ -61,81 +62,101 @@ fn closes_well(
         answers: &[],
         sync,
     });
-    let mut dev = depot.make(alloc, &Word::of(alloc, path)?, mode)?;
-    let closed = dev.open().is_ok() && dev.close(Exit::Succeeded).is_ok();
-    depot.retire(dev);
-    Ok(closed)
+    close_at(&mut depot, alloc, path, mode)
+}
+
+/// Fails the test unless the device is closed as told, however making its file safe fails.
+fn are_closed(
+    rt: &impl Abort,
+    alloc: Global,
+    path: &str,
+    mode: Mode,
+    well: bool,
+    failures: &[ErrorKind],
+) -> Result<(), AllocError> {
+    for kind in failures {
+        let closed = closes_well(alloc, path, mode, Some(*kind))?;
+        same_at(rt, closed, well, kind);
+    }
+    Ok(())
 }
 
 #[test]
 fn lost_writes_are_failed_closes(rt: HostRuntime) -> Result<(), Fail> {
     let alloc = rt.alloc();
-    assert!(rt; closes_well(alloc, "written", Mode::Write, None)?);
     let without_disk = [
         ErrorKind::InvalidInput,
         ErrorKind::ReadOnlyFilesystem,
         ErrorKind::Unsupported,
     ];
-    for kind in without_disk {
-        assert!(rt; closes_well(alloc, "written", Mode::Write, Some(kind))?);
-    }
+    are_closed(&rt, alloc, "written", Mode::Write, true, &without_disk)?;
     let lost = [
         ErrorKind::StorageFull,
         ErrorKind::QuotaExceeded,
         ErrorKind::Uncategorized,
     ];
-    for kind in lost {
-        assert!(rt; !closes_well(alloc, "written", Mode::Write, Some(kind))?);
-        assert!(rt; closes_well(alloc, "read", Mode::Read, Some(kind))?);
-    }
-    assert!(rt; !closes_well(alloc, "written", Mode::Read, None)?);
-    assert!(rt; !closes_well(alloc, "read", Mode::Write, None)?);
+    are_closed(&rt, alloc, "written", Mode::Write, false, &lost)?;
+    are_closed(&rt, alloc, "read", Mode::Read, true, &lost)?;
+    holds(&rt, closes_well(alloc, "written", Mode::Write, None)?);
+    holds(&rt, !closes_well(alloc, "written", Mode::Read, None)?);
+    holds(&rt, !closes_well(alloc, "read", Mode::Write, None)?);
+    Ok(())
+}
+
+/// Fails the test unless a read and a write over files that answer so move so many bytes each, and
+/// the read leaves this in its buffer.
+fn each_moves(
+    rt: &impl Abort,
+    alloc: Global,
+    answers: &[Answer],
+    count: Option<usize>,
+    left: [u8; 4],
+) -> Result<(), AllocError> {
+    let sync = None;
+    let mut depot = FileDepot::new(Scripts {
+        alloc,
+        answers,
+        sync,
+    });
+    let mut buf = [0u8; 4];
+    same(rt, read_at(&mut depot, alloc, "read", &mut buf)?, count);
+    same(rt, buf, left);
+    same(rt, write_at(&mut depot, alloc, "written", b"hello")?, count);
     Ok(())
 }
 
 #[test]
 fn devices_read_and_write_as_their_files_do(rt: HostRuntime) -> Result<(), Fail> {
-    let alloc = rt.alloc();
     let moves = [Answer::Interrupted, Answer::Moves(2)];
-    let mut depot = FileDepot::new(Scripts {
-        alloc,
-        answers: &moves,
-        sync: None,
-    });
-    let mut buf = [0u8; 4];
-    assert_eq!(rt; read_at(&mut depot, alloc, "read", &mut buf)?, Some(2));
-    assert_eq!(rt; buf, [b'x', b'x', 0, 0]);
-    assert_eq!(rt; write_at(&mut depot, alloc, "written", b"hello")?, Some(2));
+    each_moves(&rt, rt.alloc(), &moves, Some(2), *b"xx\0\0")?;
     let fails = [Answer::Fails, Answer::Moves(2)];
-    let mut depot = FileDepot::new(Scripts {
-        alloc,
-        answers: &fails,
-        sync: None,
-    });
-    assert_eq!(rt; read_at(&mut depot, alloc, "read", &mut buf)?, None);
-    assert_eq!(rt; write_at(&mut depot, alloc, "written", b"hello")?, None);
+    each_moves(&rt, rt.alloc(), &fails, None, [0; 4])?;
     Ok(())
 }
 
 #[test]
 fn real_files_are_written_and_read(rt: HostRuntime) -> Result<(), Fail> {
-    let path = "device_port.tmp";
+    const PATH: &str = "device_port.tmp";
+    const MOVES: &[Moves] = &[
+        (PATH, Mode::Read, None),
+        (".", Mode::Read, None),
+        (".", Mode::Write, None),
+        ("/dev/null", Mode::Write, Some(5)),
+    ];
     let mut depot = FileDepot::new(rt);
     sends(&depot);
     let mut buf = [0u8; 8];
-    assert_eq!(rt; write_at(&mut depot, rt.alloc(), path, b"hello")?, Some(5));
-    assert_eq!(rt; read_at(&mut depot, rt.alloc(), path, &mut buf)?, Some(5));
-    assert_eq!(rt; buf, *b"hello\0\0\0");
-    assert_eq!(rt; write_at(&mut depot, rt.alloc(), path, b"he")?, Some(2));
-    assert_eq!(rt; read_at(&mut depot, rt.alloc(), path, &mut buf)?, Some(2));
-    std::fs::remove_file(&rt, path)?;
-    assert_eq!(rt; read_at(&mut depot, rt.alloc(), path, &mut buf)?, None);
-    assert_eq!(rt; read_at(&mut depot, rt.alloc(), ".", &mut buf)?, None);
-    assert_eq!(rt; write_at(&mut depot, rt.alloc(), ".", b"hello")?, None);
-    assert_eq!(rt;
-        write_at(&mut depot, rt.alloc(), "/dev/null", b"hello")?,
-        Some(5)
+    moves(&rt, rt.alloc(), &mut depot, &[(PATH, Mode::Write, Some(5))])?;
+    same(
+        &rt,
+        read_at(&mut depot, rt.alloc(), PATH, &mut buf)?,
+        Some(5),
     );
+    same(&rt, buf, *b"hello\0\0\0");
+    same(&rt, write_at(&mut depot, rt.alloc(), PATH, b"he")?, Some(2));
+    moves(&rt, rt.alloc(), &mut depot, &[(PATH, Mode::Read, Some(2))])?;
+    fs::remove_file(&rt, PATH)?;
+    moves(&rt, rt.alloc(), &mut depot, MOVES)?;
     Ok(())
 }
 
@@ -144,43 +165,61 @@ fn open_files(rt: &HostRuntime) -> Option<usize> {
     Some(fs::read_dir(rt, "/proc/self/fd").ok()?.count())
 }
 
+/// Writes the file 100 times and reads it 2,000 times.
+fn write_and_read_often<D: Depot>(
+    rt: &impl Abort,
+    alloc: Global,
+    depot: &mut D,
+    path: &str,
+) -> Result<(), AllocError> {
+    let mut buf = [0u8; 8];
+    for _ in 0..100 {
+        same(rt, write_at(depot, alloc, path, b"again")?, Some(5));
+    }
+    for _ in 0..2000 {
+        same(rt, read_at(depot, alloc, path, &mut buf)?, Some(5));
+    }
+    Ok(())
+}
+
 #[test]
 fn closed_files_give_their_descriptors_back(rt: HostRuntime) -> Result<(), Fail> {
     let path = "device_port_again.tmp";
     let mut depot = FileDepot::new(rt);
-    let mut buf = [0u8; 8];
     let before = open_files(&rt);
-    for _ in 0..100 {
-        assert_eq!(rt; write_at(&mut depot, rt.alloc(), path, b"again")?, Some(5));
-    }
-    for _ in 0..2000 {
-        assert_eq!(rt; read_at(&mut depot, rt.alloc(), path, &mut buf)?, Some(5));
-    }
-    std::fs::remove_file(&rt, path)?;
+    write_and_read_often(&rt, rt.alloc(), &mut depot, path)?;
+    fs::remove_file(&rt, path)?;
     let after = open_files(&rt);
-    assert!(rt; after.unwrap_or(0) < before.unwrap_or(0).saturating_add(50));
+    holds(
+        &rt,
+        after.unwrap_or(0) < before.unwrap_or(0).saturating_add(50),
+    );
     Ok(())
 }
 
 #[test]
 fn standard_streams(rt: HostRuntime) -> Result<(), Fail> {
     let mut out = StdSink::new(rt.stdout());
-    assert_eq!(rt; put(&mut out, b"written through\n"), Ok(()));
+    same(&rt, put(&mut out, b"written through\n"), Ok(()));
     let mut input = StdSource::new(rt.stdin());
-    assert!(rt; input.read(&mut [0u8; 8]).is_ok());
+    holds(&rt, input.read(&mut [0u8; 8]).is_ok());
     let (reader, writer) = io::pipe(&rt)?;
-    assert_eq!(rt; put(&mut StdSink::new(writer), b"through a pipe"), Ok(()));
+    same(
+        &rt,
+        put(&mut StdSink::new(writer), b"through a pipe"),
+        Ok(()),
+    );
     let mut source = StdSource::new(reader);
     let mut buf = [0u8; 16];
-    assert_eq!(rt; source.read(&mut buf), Ok(14));
-    assert_eq!(rt; buf, *b"through a pipe\0\0");
-    assert_eq!(rt; source.read(&mut buf), Ok(0));
+    same(&rt, source.read(&mut buf), Ok(14));
+    same(&rt, buf, *b"through a pipe\0\0");
+    same(&rt, source.read(&mut buf), Ok(0));
     Ok(())
 }
 
 #[test]
 fn a_folder_is_no_source(rt: HostRuntime) -> Result<(), Fail> {
     let mut source = StdSource::new(fs::open(&rt, "/")?);
-    assert_eq!(rt; source.read(&mut [0u8; 8]), Err(Failed));
+    same(&rt, source.read(&mut [0u8; 8]), Err(Failed));
     Ok(())
 }
