@@ -47,6 +47,3 @@ pub use dicts::Dicts;
 pub use field_pipe::FieldPipe;
 pub use lookup_pipe::LookupPipe;
 pub use table::{TableRefused, table_of};
-
-#[cfg(test)]
-mod tests;

@@ -1,5 +1,4 @@
 //! Inputs in pieces, fed to a pipe, and what came of them.
-ghost use Rattle.std.specs.Prelude.{◌≤◌, length};
 ghost use Rattle.chunk_core.specs.Feed.{MayFeed};
 
 use chunk_core::{Chunk, Code, Fed, Feed, Line, Load, Row, render};
@@ -21,6 +20,9 @@ pub(crate) struct AsLines;
 
 /// Each text is a row, with a field for each byte.
 pub(crate) struct AsRows;
+
+/// Each byte of the texts is a line.
+pub(crate) struct AsLetters;
 
 /// The texts one after another.
 pub(crate) struct AsBytes;
@@ -44,6 +46,22 @@ impl Made for AsLines {
             lines.push(Line::copy_of(alloc, text)?)?;
         }
         Ok(Load::Lines(Chunk::of_vec(alloc, lines)?))
+    }
+}
+
+impl Made for AsLetters {
+    ghost use Rattle.chunk_core.specs.Elements.LoadKind.{Lines};
+
+    ghost kind = { Lines };
+
+    fn load(alloc: Global, texts: &[&[u8]]) -> Result<Load, AllocError> {
+        let mut letters = Vec::new(alloc);
+        for text in texts {
+            for byte in *text {
+                letters.push(Line::copy_of(alloc, [*byte].as_slice())?)?;
+            }
+        }
+        Ok(Load::Lines(Chunk::of_vec(alloc, letters)?))
     }
 }
 
@@ -75,12 +93,25 @@ impl Made for AsBytes {
     }
 }
 
+/// A pipe as a test names it. It is made anew for each input of this kind.
+pub(crate) trait Recipe<M: Made> {
+    ghost use Rattle.std.specs.Prelude.{IfOk};
+    ghost use Rattle.chunk_core.specs.Feed.{MayFeed};
+
+    type Pipe: Feed;
+
+    fn pipe(&self, alloc: Global) -> Result<Self::Pipe, AllocError>
+        ensures { IfOk result (λ pipe. MayFeed (Self.Pipe.Feed.stands pipe) M.Made.kind) };
+}
+
 /// What came of an input: bytes as they are, lines and rows with `|` behind each, fields with `,`;
-/// the lengths of the loads that aren't empty, and the fault.
+/// the lengths of the loads that aren't empty; how much of the text came before the end was told; and
+/// the fault.
 #[derive(Drop)]
 pub(crate) struct Told {
     pub(crate) text: Vec<u8>,
     pub(crate) lens: Vec<usize>,
+    pub(crate) early: usize,
     pub(crate) fault: Option<Code>,
 }
 
@@ -131,6 +162,7 @@ pub(crate) fn answers<M: Made, P: Feed>(
     let mut told = Told {
         text: Vec::new(alloc),
         lens: Vec::new(alloc),
+        early: 0,
         fault: None,
     };
     for piece in pieces {
@@ -140,6 +172,7 @@ pub(crate) fn answers<M: Made, P: Feed>(
             Fed::Fault(load, code) => return told.with_fault(load, code),
         }
     }
+    told.early = told.text.len();
     for _ in 0..4 {
         match pipe.finish(alloc)? {
             Fed::Out(load) => told.put(load)?,
@@ -183,24 +216,4 @@ pub(crate) fn stay<M: Made, P: Feed>(
     }
     let after = text_of(alloc, held.as_slice())?;
     Ok(!given.is_empty() && after.as_slice() == given.as_slice())
-}
-
-/// The texts cut before each whose bit is set.
-pub(crate) fn cut<'a>(
-    alloc: Global,
-    texts: &'a [&'a [u8]],
-    bits: u32,
-) -> Result<Vec<&'a [&'a [u8]]>, AllocError>
-    requires { length texts.now ≤ 32 }
-{
-    let mut pieces = Vec::new(alloc);
-    let mut from = 0;
-    for at in 0..texts.len() {
-        if bits >> at & 1 == 1 {
-            pieces.push(&texts[from..at])?;
-            from = at;
-        }
-    }
-    pieces.push(&texts[from..])?;
-    Ok(pieces)
 }

@@ -3,6 +3,12 @@
 #![tactic(auto)]
 
 #[cfg(test)]
+mod asserts;
+#[cfg(test)]
+mod cuttings;
+#[cfg(test)]
+mod dictionaries;
+#[cfg(test)]
 mod feeding;
 #[cfg(test)]
 mod lookups;

@@ -1,100 +1,83 @@
 //! Pipes over rows, over cuttings of their input.
-use crate::feeding::{AsRows, Told, answers, cut, stay};
+use crate::cuttings::{each_cutting, held_loads_stay, text};
+use crate::dictionaries::dict_of;
+use crate::feeding::{AsRows, Recipe};
 use chunk_core::Code;
-use csv_pipes::{Dict, FieldPipe, LookupPipe, TableRefused, table_of};
+use csv_pipes::{Dict, FieldPipe, LookupPipe};
 use std::alloc::{AllocError, Global};
 use std::sync::Arc;
 use std::test::Fail;
 
 /// Rows with a field for each byte: two fields, two, one and two.
-const SHORT_THIRD: [&[u8]; 4] = [b"ak", b"bz", b"k", b"kk"];
+const SHORT_THIRD: &[&[u8]] = &[b"ak", b"bz", b"k", b"kk"];
 
-fn field(alloc: Global, place: u32, pieces: &[&[&[u8]]]) -> Result<Told, AllocError> {
-    answers::<AsRows, FieldPipe>(alloc, FieldPipe::new(alloc, place)?, pieces)
+#[derive(Drop)]
+struct Field(u32);
+
+impl Recipe<AsRows> for Field {
+    type Pipe = FieldPipe;
+
+    fn pipe(&self, alloc: Global) -> Result<FieldPipe, AllocError> {
+        Ok(FieldPipe::new(alloc, self.0)?)
+    }
+}
+
+#[derive(Drop)]
+struct Lookup {
+    table: Arc<Dict>,
+    field: u32,
+}
+
+impl Recipe<AsRows> for Lookup {
+    type Pipe = LookupPipe;
+
+    fn pipe(&self, alloc: Global) -> Result<LookupPipe, AllocError> {
+        let table = Arc::try_clone(&self.table)?;
+        Ok(LookupPipe::new(alloc, table, self.field)?)
+    }
+}
+
+/// The lookup of a field in the table of a text.
+fn lookup_in(alloc: Global, table: &[u8], field: u32) -> Result<Lookup, Fail> {
+    let table = Arc::new(alloc, dict_of(alloc, table)?)?;
+    Ok(Lookup { table, field })
 }
 
 #[test]
 fn each_row_gives_its_field_up_to_the_first_without_it(rt: HostRuntime) -> Result<(), Fail> {
-    let alloc = rt.alloc();
-    for bits in 0..16 {
-        let pieces = cut(alloc, SHORT_THIRD.as_slice(), bits)?;
-        let all = field(alloc, 0, pieces.as_slice())?;
-        assert_eq!(rt; all.text.as_slice(), b"a|b|k|k|".as_slice());
-        assert_eq!(rt; all.fault, None);
-        let two = field(alloc, 1, pieces.as_slice())?;
-        assert_eq!(rt; two.text.as_slice(), b"k|z|".as_slice());
-        assert_eq!(rt; two.fault, Some(Code::NoField));
-        let none = field(alloc, 2, pieces.as_slice())?;
-        assert!(rt; none.text.is_empty());
-        assert_eq!(rt; none.fault, Some(Code::NoField));
-    }
+    let no_field = Some(Code::NoField);
+    each_cutting(&rt, &Field(0), SHORT_THIRD, text(b"a|b|k|k|"))?;
+    each_cutting(
+        &rt,
+        &Field(1),
+        SHORT_THIRD,
+        text(b"k|z|").and_then(no_field),
+    )?;
+    each_cutting(&rt, &Field(2), SHORT_THIRD, text(b"").and_then(no_field))?;
     Ok(())
-}
-
-/// The dictionary of a table's text.
-fn table(alloc: Global, text: &[u8]) -> Result<Arc<Dict>, Fail> {
-    match table_of(alloc, text) {
-        Ok(dict) => Ok(Arc::new(alloc, dict)?),
-        Err(TableRefused::Memory) => Err(AllocError.into()),
-        Err(TableRefused::Data(_)) => Err("the table is refused".into()),
-    }
-}
-
-fn looked_up(
-    alloc: Global,
-    table: &Arc<Dict>,
-    place: u32,
-    pieces: &[&[&[u8]]],
-) -> Result<Told, AllocError> {
-    let table = Arc::try_clone(table)?;
-    answers::<AsRows, LookupPipe>(alloc, LookupPipe::new(alloc, table, place)?, pieces)
 }
 
 #[test]
 fn each_row_gets_the_value_for_its_field(rt: HostRuntime) -> Result<(), Fail> {
-    let alloc = rt.alloc();
-    let table = table(alloc, b"k,one,x\na,two,y\nk,three,z\n")?;
-    for bits in 0..16 {
-        let pieces = cut(alloc, SHORT_THIRD.as_slice(), bits)?;
-        let all = looked_up(alloc, &table, 0, pieces.as_slice())?;
-        assert_eq!(rt;
-            all.text.as_slice(),
-            b"a,k,two,|b,z,,|k,one,|k,k,one,|".as_slice()
-        );
-        assert_eq!(rt; all.fault, None);
-        let two = looked_up(alloc, &table, 1, pieces.as_slice())?;
-        assert_eq!(rt; two.text.as_slice(), b"a,k,one,|b,z,,|".as_slice());
-        assert_eq!(rt; two.fault, Some(Code::NoField));
-    }
+    let table = b"k,one,x\na,two,y\nk,three,z\n";
+    let all = text(b"a,k,two,|b,z,,|k,one,|k,k,one,|");
+    each_cutting(&rt, &lookup_in(rt.alloc(), table, 0)?, SHORT_THIRD, all)?;
+    let two = text(b"a,k,one,|b,z,,|").and_then(Some(Code::NoField));
+    each_cutting(&rt, &lookup_in(rt.alloc(), table, 1)?, SHORT_THIRD, two)?;
     Ok(())
 }
 
 #[test]
 fn a_table_without_records_has_no_values(rt: HostRuntime) -> Result<(), Fail> {
-    let alloc = rt.alloc();
-    let table = table(alloc, b"\n")?;
-    let pieces = cut(alloc, SHORT_THIRD.as_slice(), 0)?;
-    let told = looked_up(alloc, &table, 0, pieces.as_slice())?;
-    assert_eq!(rt; told.text.as_slice(), b"a,k,,|b,z,,|k,,|k,k,,|".as_slice());
+    let none = text(b"a,k,,|b,z,,|k,,|k,k,,|");
+    each_cutting(&rt, &lookup_in(rt.alloc(), b"\n", 0)?, SHORT_THIRD, none)?;
     Ok(())
-}
-
-/// Whether rows that are held stay as they were given while the pipe goes on.
-fn held_fields(alloc: Global, pieces: &[&[&[u8]]]) -> Result<bool, AllocError> {
-    stay::<AsRows, FieldPipe>(alloc, FieldPipe::new(alloc, 0)?, pieces)
-}
-
-fn held_values(alloc: Global, table: Arc<Dict>, pieces: &[&[&[u8]]]) -> Result<bool, AllocError> {
-    stay::<AsRows, LookupPipe>(alloc, LookupPipe::new(alloc, table, 0)?, pieces)
 }
 
 #[test]
 fn loads_that_are_held_stay_as_they_are(rt: HostRuntime) -> Result<(), Fail> {
-    let alloc = rt.alloc();
-    let texts: [&[u8]; 4] = [b"k", b"z", b"k", b"a"];
-    let pieces = cut(alloc, texts.as_slice(), 15)?;
-    assert!(rt; held_fields(alloc, pieces.as_slice())?);
-    let table = table(alloc, b"k,v\n")?;
-    assert!(rt; held_values(alloc, table, pieces.as_slice())?);
+    let pieces: [&[&[u8]]; 5] = [&[], &[b"k"], &[b"z"], &[b"k"], &[b"a"]];
+    held_loads_stay(&rt, &Field(0), &pieces)?;
+    held_loads_stay(&rt, &lookup_in(rt.alloc(), b"k,v\n", 0)?, &pieces)?;
     Ok(())
 }

@@ -1,12 +1,15 @@
 //! Comma-separated values, over cuttings of their text.
-use crate::feeding::{AsBytes, Told, answers};
+use crate::asserts::{same, same_at};
+use crate::cuttings::{byte_by_byte, each_cut_in_two, pieces_give, text};
+use crate::feeding::{AsBytes, Recipe, Told, answers};
 use chunk_core::Code;
 use csv_pipes::CsvPipe;
 use std::alloc::{AllocError, Global};
+use std::process::Abort;
 use std::test::Fail;
 
 /// Texts without a fault, and their rows: `,` behind each field and `|` behind each row.
-const SHAPES: [(&[u8], &[u8]); 23] = [
+const SHAPES: &[(&[u8], &[u8])] = &[
     (b"a,b\nc,d\n", b"a,b,|c,d,|"),
     (b"a,b\r\nc,d\r\n", b"a,b,|c,d,|"),
     (b"a,b\rc,d\r", b"a,b,|c,d,|"),
@@ -35,52 +38,83 @@ const SHAPES: [(&[u8], &[u8]); 23] = [
     ),
 ];
 
+/// Texts with a row of another length, and the rows before it.
+const UNEVEN: &[(&[u8], &[u8])] = &[
+    (b"a,b\nc,d\ne\nf,g\n", b"a,b,|c,d,|"),
+    (b"a,b\nc,d\ne,f,g\nh,i\n", b"a,b,|c,d,|"),
+];
+
+/// Bytes that aren't UTF-8, of which no row comes.
+const NOT_UTF8: &[(&[u8], &[u8])] = &[
+    (b"a\nb\xFF\n", b""),
+    (b"a\nb\n\xC3", b""),
+    (b"a\n\"\xED\xA0\x80\"\n", b""),
+];
+
+/// Numbers of rows, and the lengths of the loads in which they come.
+const LENGTHS: &[(usize, &[usize])] = &[
+    (1023, &[1023]),
+    (1024, &[1024]),
+    (1025, &[1024, 1]),
+    (2048, &[1024, 1024]),
+];
+
+#[derive(Drop)]
+struct Records;
+
+impl Recipe<AsBytes> for Records {
+    type Pipe = CsvPipe;
+
+    fn pipe(&self, alloc: Global) -> Result<CsvPipe, AllocError> {
+        Ok(CsvPipe::new(alloc)?)
+    }
+}
+
+/// What came of the pieces of a text.
 fn rows(alloc: Global, pieces: &[&[&[u8]]]) -> Result<Told, AllocError> {
-    answers::<AsBytes, CsvPipe>(alloc, CsvPipe::new(alloc)?, pieces)
+    answers::<AsBytes, CsvPipe>(alloc, Records.pipe(alloc)?, pieces)
 }
 
-/// The rows of a text that is cut in two.
-fn cut_at(alloc: Global, text: &[u8], at: usize) -> Result<Told, AllocError> {
-    match text.split_at_checked(at) {
-        Some((front, back)) => rows(alloc, &[&[front], &[back]]),
-        None => rows(alloc, &[&[text]]),
-    }
-}
-
-/// The rows of a text that comes byte by byte.
-fn by_bytes(alloc: Global, text: &[u8]) -> Result<Told, AllocError> {
-    let mut bytes = Vec::new(alloc);
-    for at in 0..text.len() {
-        bytes.push(&text[at..at + 1])?;
-    }
-    let mut pieces = Vec::new(alloc);
-    for at in 0..bytes.len() {
-        pieces.push(&bytes[at..at + 1])?;
-    }
-    rows(alloc, pieces.as_slice())
-}
-
-#[test]
-fn each_shape_of_a_record_in_any_cutting(rt: HostRuntime) -> Result<(), Fail> {
-    let alloc = rt.alloc();
-    for (text, expected) in SHAPES {
-        for at in 0..text.len() {
-            let told = cut_at(alloc, text, at)?;
-            assert_eq!(rt; told.text.as_slice(), expected);
-            assert_eq!(rt; told.fault, None);
-        }
-        let whole = rows(alloc, &[&[text]])?;
-        assert_eq!(rt; whole.text.as_slice(), expected);
-        assert_eq!(rt; whole.fault, None);
-        let told = by_bytes(alloc, text)?;
-        assert_eq!(rt; told.text.as_slice(), expected);
-        assert_eq!(rt; told.fault, None);
+/// Fails the test unless each text gives its rows and then the fault: whole, cut in two at each place,
+/// and byte by byte.
+fn give_rows(
+    rt: &(impl Abort + AllocGlobal),
+    shapes: &[(&[u8], &[u8])],
+    fault: Option<Code>,
+) -> Result<(), AllocError> {
+    for (bytes, expected) in shapes {
+        let wanted = text(expected).and_then(fault);
+        each_cut_in_two(rt, &Records, bytes, wanted)?;
+        byte_by_byte(rt, &Records, bytes, wanted)?;
     }
     Ok(())
 }
 
+#[test]
+fn each_shape_of_a_record_in_any_cutting(rt: HostRuntime) -> Result<(), Fail> {
+    give_rows(&rt, SHAPES, None)?;
+    Ok(())
+}
+
+#[test]
+fn a_row_of_another_length_ends_the_rows(rt: HostRuntime) -> Result<(), Fail> {
+    give_rows(&rt, UNEVEN, Some(Code::Uneven))?;
+    let mut bytes = records_of(rt.alloc(), 1024)?;
+    bytes.extend_from_slice(b"b,c\n")?;
+    let told = rows(rt.alloc(), &[&[bytes.as_slice()]])?;
+    same(&rt, told.lens.as_slice(), &[1024]);
+    same(&rt, told.fault, Some(Code::Uneven));
+    Ok(())
+}
+
+#[test]
+fn no_row_comes_of_what_is_not_utf8(rt: HostRuntime) -> Result<(), Fail> {
+    give_rows(&rt, NOT_UTF8, Some(Code::NotUtf8))?;
+    Ok(())
+}
+
 /// A text of so many records of one field.
-fn records(alloc: Global, count: usize) -> Result<Vec<u8>, AllocError> {
+fn records_of(alloc: Global, count: usize) -> Result<Vec<u8>, AllocError> {
     let mut text = Vec::new(alloc);
     for _ in 0..count {
         text.extend_from_slice(b"a\n")?;
@@ -88,55 +122,22 @@ fn records(alloc: Global, count: usize) -> Result<Vec<u8>, AllocError> {
     Ok(text)
 }
 
+/// Fails the test unless so many records come in loads of these lengths.
+fn come_in_loads(
+    rt: &(impl Abort + AllocGlobal),
+    cases: &[(usize, &[usize])],
+) -> Result<(), AllocError> {
+    for (count, lens) in cases {
+        let bytes = records_of(rt.alloc(), *count)?;
+        let told = rows(rt.alloc(), &[&[bytes.as_slice()]])?;
+        same_at(rt, told.lens.as_slice(), *lens, count);
+    }
+    Ok(())
+}
+
 #[test]
 fn rows_come_in_loads_of_1024(rt: HostRuntime) -> Result<(), Fail> {
-    let alloc = rt.alloc();
-    let less = rows(alloc, &[&[records(alloc, 1023)?.as_slice()]])?;
-    assert_eq!(rt; less.lens.as_slice(), [1023].as_slice());
-    let whole = rows(alloc, &[&[records(alloc, 1024)?.as_slice()]])?;
-    assert_eq!(rt; whole.lens.as_slice(), [1024].as_slice());
-    let more = rows(alloc, &[&[records(alloc, 1025)?.as_slice()]])?;
-    assert_eq!(rt; more.lens.as_slice(), [1024, 1].as_slice());
-    let twice = rows(alloc, &[&[records(alloc, 2048)?.as_slice()]])?;
-    assert_eq!(rt; twice.lens.as_slice(), [1024, 1024].as_slice());
-    Ok(())
-}
-
-#[test]
-fn a_row_of_another_length_ends_the_rows(rt: HostRuntime) -> Result<(), Fail> {
-    let alloc = rt.alloc();
-    for text in [
-        b"a,b\nc,d\ne\nf,g\n".as_slice(),
-        b"a,b\nc,d\ne,f,g\nh,i\n".as_slice(),
-    ] {
-        for at in 0..text.len() + 1 {
-            let told = cut_at(alloc, text, at)?;
-            assert_eq!(rt; told.text.as_slice(), b"a,b,|c,d,|".as_slice());
-            assert_eq!(rt; told.fault, Some(Code::Uneven));
-        }
-    }
-    let mut text = records(alloc, 1024)?;
-    text.extend_from_slice(b"b,c\n")?;
-    let told = rows(alloc, &[&[text.as_slice()]])?;
-    assert_eq!(rt; told.lens.as_slice(), [1024].as_slice());
-    assert_eq!(rt; told.fault, Some(Code::Uneven));
-    Ok(())
-}
-
-#[test]
-fn no_row_comes_of_what_is_not_utf8(rt: HostRuntime) -> Result<(), Fail> {
-    let alloc = rt.alloc();
-    for text in [
-        b"a\nb\xFF\n".as_slice(),
-        b"a\nb\n\xC3".as_slice(),
-        b"a\n\"\xED\xA0\x80\"\n".as_slice(),
-    ] {
-        for at in 0..text.len() + 1 {
-            let told = cut_at(alloc, text, at)?;
-            assert!(rt; told.text.is_empty());
-            assert_eq!(rt; told.fault, Some(Code::NotUtf8));
-        }
-    }
+    come_in_loads(&rt, LENGTHS)?;
     Ok(())
 }
 
@@ -152,20 +153,26 @@ fn largest(alloc: Global) -> Result<Vec<u8>, AllocError> {
     Ok(text)
 }
 
+/// Fails the test unless no row comes of the pieces, which are too large.
+fn are_too_large(rt: &(impl Abort + AllocGlobal), pieces: &[&[&[u8]]]) -> Result<(), AllocError> {
+    let told = rows(rt.alloc(), pieces)?;
+    same(rt, told.text.len(), 0);
+    same(rt, told.fault, Some(Code::TooLarge));
+    Ok(())
+}
+
 #[test]
 fn no_more_than_16777216_bytes_are_gathered(rt: HostRuntime) -> Result<(), Fail> {
-    let alloc = rt.alloc();
-    let mut text = largest(alloc)?;
-    assert_eq!(rt; text.len(), 16_777_216);
-    let whole = rows(alloc, &[&[text.as_slice()]])?;
-    assert_eq!(rt; whole.fault, None);
-    assert_eq!(rt; whole.lens.first(), Some(&1024));
-    text.push(b'\n')?;
-    let told = rows(alloc, &[&[text.as_slice()]])?;
-    assert!(rt; told.text.is_empty());
-    assert_eq!(rt; told.fault, Some(Code::TooLarge));
-    let told = cut_at(alloc, text.as_slice(), 16_777_216)?;
-    assert!(rt; told.text.is_empty());
-    assert_eq!(rt; told.fault, Some(Code::TooLarge));
+    let mut bytes = largest(rt.alloc())?;
+    same(&rt, bytes.len(), 16_777_216);
+    let whole = rows(rt.alloc(), &[&[bytes.as_slice()]])?;
+    same(&rt, whole.fault, None);
+    same(&rt, whole.lens.first(), Some(&1024));
+    bytes.push(b'\n')?;
+    are_too_large(&rt, &[&[bytes.as_slice()]])?;
+    let Some((most, rest)) = bytes.as_slice().split_at_checked(16_777_216) else {
+        return Err("the text is too short".into());
+    };
+    are_too_large(&rt, &[&[most], &[rest]])?;
     Ok(())
 }

@@ -1,8 +1,0 @@
-use Rattle.std.proofs.Common.{[], refl}
-use Rattle.chunk_core.specs.Elements.LoadKind.{Lines, Rows}
-use Rattle.pull_nodes.specs.Pipes.{meaning}
-use Rattle.pull_nodes.specs.declared.pipe.Pipe.TheVariants as pipe
-use Rattle.worked_pipes.proofs.lookups.field.Goals as goal
-
-pub answers-requires : goal.answers-requires
-answers-requires c = let m = meaning (pipe.Field c.args.place) Rows Lines in (m, [], c.in_ok-new.ensures m refl, refl)

@@ -1,8 +1,0 @@
-use Rattle.std.proofs.Common.{[], refl}
-use Rattle.chunk_core.specs.Elements.LoadKind.{Lines}
-use Rattle.pull_nodes.specs.Pipes.{meaning}
-use Rattle.pull_nodes.specs.declared.pipe.Pipe.TheVariants as pipe
-use Rattle.worked_pipes.proofs.operators.held_grouped.Goals as goal
-
-pub stay-requires : goal.stay-requires
-stay-requires c = let m = meaning (pipe.ChunkN 3) Lines Lines in (m, [], c.in_ok-new.ensures m refl, refl)

@@ -1,0 +1,8 @@
+use Rattle.std.proofs.Common.{[], refl}
+use Rattle.chunk_core.specs.Elements.LoadKind.{Bytes, Lines}
+use Rattle.pull_nodes.specs.Pipes.{meaning}
+use Rattle.pull_nodes.specs.declared.pipe.Pipe.TheVariants as pipe
+use Rattle.worked_pipes.proofs.texts.LinesRecipeAsBytes.pipe.Goals as goal
+
+pub returns : goal.returns
+returns c = let m = meaning pipe.Lines Bytes Lines in (m, [], c.in_ok-new.ensures m refl, refl)
