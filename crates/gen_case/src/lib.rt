@@ -34,6 +34,3 @@ pub use files::files_of;
 pub use plan::{plan_of, streams_of, tables_of};
 pub use summary::{Summary, summary_of, text};
 pub use sure::{SureDepot, SureDevice};
-
-#[cfg(test)]
-mod tests;

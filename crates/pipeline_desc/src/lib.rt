@@ -57,6 +57,3 @@ pub use refusal::{Refusal, RefusalKind, Refused};
 pub use step::Step;
 pub use stream::{Second, StreamSpec};
 pub use table::TableSpec;
-
-#[cfg(test)]
-mod tests;

@@ -1,6 +1,8 @@
-use crate::tally::tally_of;
-use crate::{Case, files_of, plan_of, streams_of, summary_of, tables_of, text};
+//! The case that three numbers make: its files, its plan and its summary.
+use crate::asserts::{holds, same};
 use device_port::FileOf;
+use gen_case::tally::tally_of;
+use gen_case::{Case, files_of, plan_of, streams_of, summary_of, tables_of, text};
 use res_ledger::{Ledger, LedgerRefused, read};
 use std::alloc::Global;
 use std::test::Fail;
@@ -24,14 +26,15 @@ fn three_lines(rt: HostRuntime) -> Result<(), Fail> {
         lines: 3,
     };
     let files = files_of(rt.alloc(), case)?;
-    assert_eq!(rt; files.len(), 2);
+    same(&rt, files.len(), 2);
     if let [file, table] = files.as_slice() {
-        assert_eq!(rt; file.path.as_str(), "g0");
-        assert_eq!(rt; file.bytes.as_slice(), b"000\n379\n758\n".as_slice());
-        assert_eq!(rt; table.path.as_str(), "gt");
-        assert_eq!(rt; table.bytes.len(), 6000);
-        assert!(rt; table.bytes.as_slice().starts_with(b"000,0\n001,1\n"));
-        assert!(rt; table.bytes.as_slice().ends_with(b"998,8\n999,9\n"));
+        same(&rt, file.path.as_str(), "g0");
+        same(&rt, file.bytes.as_slice(), b"000\n379\n758\n".as_slice());
+        same(&rt, table.path.as_str(), "gt");
+        let records = table.bytes.as_slice();
+        same(&rt, records.len(), 6000);
+        holds(&rt, records.starts_with(b"000,0\n001,1\n"));
+        holds(&rt, records.ends_with(b"998,8\n999,9\n"));
     }
     Ok(())
 }
@@ -43,17 +46,17 @@ fn numbers_of_a_seed(rt: HostRuntime) -> Result<(), Fail> {
         streams: 8,
         lines: 1000,
     };
-    assert_eq!(rt; case.number_on(0, 0), 7);
-    assert_eq!(rt; case.number_on(2, 3), 178);
+    same(&rt, case.number_on(0, 0), 7);
+    same(&rt, case.number_on(2, 3), 178);
     let last = Case {
         seed: u32::MAX,
         streams: 64,
         lines: 100_000,
     };
-    assert_eq!(rt; last.number_on(63, 99_999), 987);
+    same(&rt, last.number_on(63, 99_999), 987);
     let files = files_of(rt.alloc(), case)?;
-    assert_eq!(rt; files.len(), 9);
-    assert_eq!(rt; sizes(files.as_slice()), (32_000, 6000));
+    same(&rt, files.len(), 9);
+    same(&rt, sizes(files.as_slice()), (32_000, 6000));
     Ok(())
 }
 
@@ -66,37 +69,38 @@ fn parts_of_the_plan(rt: HostRuntime) -> Result<(), Fail> {
         lines: 3,
     };
     let streams = streams_of(alloc, case)?;
-    assert_eq!(rt; streams.len(), 12);
+    same(&rt, streams.len(), 12);
     if let Some(stream) = streams.get(11) {
-        assert_eq!(rt; stream.path.as_str(), "g11");
-        assert_eq!(rt; stream.steps.len(), 2);
+        same(&rt, stream.path.as_str(), "g11");
+        same(&rt, stream.steps.len(), 2);
     }
     let tables = tables_of(alloc)?;
+    same(&rt, tables.len(), 1);
     if let [table] = tables.as_slice() {
-        assert_eq!(rt; table.name.as_str(), "t");
-        assert_eq!(rt; table.path.as_str(), "gt");
+        same(&rt, table.name.as_str(), "t");
+        same(&rt, table.path.as_str(), "gt");
     }
     Ok(())
 }
 
 #[test]
 fn plan_of_a_case(rt: HostRuntime) -> Result<(), Fail> {
-    let alloc = rt.alloc();
     let case = Case {
         seed: 0,
         streams: 64,
         lines: 3,
     };
-    let plan = plan_of(alloc, case)?;
-    assert_eq!(rt;
+    let plan = plan_of(rt.alloc(), case)?;
+    same(
+        &rt,
         (plan.max_open(), plan.queue(), plan.chunk(), plan.take()),
-        (4, 16, 4096, None)
+        (4, 16, 4096, None),
     );
-    assert_eq!(rt; plan.tables().len(), 1);
-    assert_eq!(rt; plan.streams().len(), 64);
+    same(&rt, plan.tables().len(), 1);
+    same(&rt, plan.streams().len(), 64);
     if let Some(stream) = plan.streams().get(63) {
-        assert_eq!(rt; stream.path.as_str(), "g63");
-        assert_eq!(rt; stream.until, None);
+        same(&rt, stream.path.as_str(), "g63");
+        same(&rt, stream.until, None);
     }
     Ok(())
 }
@@ -129,5 +133,5 @@ fn summary_of_three_lines(rt: HostRuntime) -> Result<(), Fail> {
 #[test]
 fn frames_of_two_streams(rt: HostRuntime) {
     let tally = tally_of(b"1 3\n1\n2\n0 2\n77\n1 11\n0 2\n9 9\n\n55\n");
-    assert_eq!(rt; (tally.frames, tally.bytes, tally.digits), (3, 16, 47));
+    same(&rt, (tally.frames, tally.bytes, tally.digits), (3, 16, 47));
 }
