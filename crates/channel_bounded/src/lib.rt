@@ -22,6 +22,3 @@ pub use message::{Body, Full, Msg};
 pub use receiver::Receiver;
 pub use rule::{Anything, May};
 pub use sender::Sender;
-
-#[cfg(test)]
-mod tests;

@@ -7,8 +7,6 @@
 
 pub mod board;
 mod rule;
-#[cfg(test)]
-mod tests;
 pub mod view;
 pub mod why;
 

@@ -2,7 +2,7 @@ use Rattle.std.proofs.Common.{◌≡◌, ℕ, List, [], ◌∷◌, ◌++◌, ap,
 use Rattle.chunk_core.specs.Lists.{IsAmong}
 use Rattle.chunk_core.proofs.Members.{among_cons, among_nil}
 use Rattle.channel_bounded.specs.Ends.{ReceiverSeen}
-use Rattle.channel_bounded.proofs.tests.run_four.Goals as goal
+use Rattle.worked_threads.proofs.channels.run_four.Goals as goal
 
 made_more : (r s : ReceiverSeen) (k : ℕ) (xs : List ℕ) → s ≡ record r { made = r.made ++ k ∷ [] } → r.made ≡ xs → s.made ≡ xs ++ k ∷ []
 made_more r s k xs e f = ap (λ (x : ReceiverSeen). x.made) e ∙ ap (λ l. l ++ k ∷ []) f

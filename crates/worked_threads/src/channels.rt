@@ -1,4 +1,4 @@
-//! Each call once with ample memory, and four senders on threads of their own.
+//! Channels: each call once with ample memory, and four senders on threads of their own.
 ghost use Rattle.std.specs.Prelude.{◌≡◌, ℕ, ◌++◌, ◌∷◌, [], List, IsTrue, IfOk};
 ghost use Rattle.std.specs.Thread.{IsSync};
 ghost use Rattle.chunk_core.specs.Lists.{IsAmong};
@@ -6,7 +6,8 @@ ghost use Rattle.channel_bounded.specs.declared.message.Msg.{Msg};
 ghost use Rattle.channel_bounded.specs.Ends.{HubSeen, SenderSeen, ReceiverSeen};
 ghost use Rattle.channel_bounded.specs.Streams.{of_stream};
 
-use crate::{Body, Full, Msg, PlainHub, Receiver, Sender};
+use crate::asserts::{holds, same};
+use channel_bounded::{Body, Full, Msg, PlainHub, Receiver, Sender};
 use chunk_core::{Chunk, How, Load};
 use std::alloc::{AllocError, Global};
 use std::sync::Wait;
@@ -265,28 +266,48 @@ fn is_drained<R: Wait>(rt: &R, hub: &PlainHub, receiver: &mut Receiver) -> bool
 fn four_senders(rt: HostRuntime) -> Result<(), Fail> {
     let (hub, receiver) = PlainHub::new(rt.alloc(), 4)?;
     let (mut receiver, tally) = run_four(&rt, rt.alloc(), &hub, receiver);
-    assert_eq!(rt; tally.next, [MESSAGES; 4]);
-    assert_eq!(rt; tally.whole, 4);
-    assert_eq!(rt; tally.wrong, 0);
-    assert!(rt; is_drained(&rt, &hub, &mut receiver));
+    same(&rt, tally.next, [MESSAGES; 4]);
+    same(&rt, tally.whole, 4);
+    same(&rt, tally.wrong, 0);
+    holds(&rt, is_drained(&rt, &hub, &mut receiver));
     Ok(())
 }
 
 #[test]
 fn a_full_queue_and_an_empty_one(rt: HostRuntime) -> Result<(), Fail> {
     let (hub, mut receiver) = PlainHub::new(rt.alloc(), 2)?;
-    assert!(rt; receiver.try_recv(&rt, &hub).is_none());
+    holds(&rt, receiver.try_recv(&rt, &hub).is_none());
     let mut sender = receiver.split(&hub, 7);
     send_numbers(&rt, rt.alloc(), &hub, &mut sender, 7, 2)?;
     let m = numbered(rt.alloc(), 7, 2)?;
     let Err(Full(back)) = sender.try_send(&rt, &hub, m) else {
         return Err(Fail::from("a full queue took a message"));
     };
-    assert_eq!(rt; (back.stream, number_of(&back.body)), (7, Some(2)));
+    same(&rt, (back.stream, number_of(&back.body)), (7, Some(2)));
     receiver.join(&hub, sender);
-    assert!(rt; receives_numbers(&rt, &hub, &mut receiver, 2));
-    assert!(rt; is_drained(&rt, &hub, &mut receiver));
+    holds(&rt, receives_numbers(&rt, &hub, &mut receiver, 2));
+    holds(&rt, is_drained(&rt, &hub, &mut receiver));
     Ok(())
+}
+
+/// Whether the end of this stream is sent.
+fn sends_end<R: Wait>(rt: &R, hub: &PlainHub, sender: &mut Sender, stream: u32) -> bool
+    requires { (sender.old.hub ≡ hub.now.id) × (sender.old.stream ≡ stream) }
+    ensures { (sender.new.hub ≡ hub.now.id) × (sender.new.stream ≡ stream) }
+{
+    sender.try_send(rt, hub, ending(stream)).is_ok()
+}
+
+/// The stream of which the next message is the end.
+fn next_end<R: Wait>(rt: &R, hub: &PlainHub, receiver: &mut Receiver) -> Option<u32>
+    requires { receiver.old.hub ≡ hub.now.id }
+    ensures { receiver.new.hub ≡ hub.now.id }
+{
+    let Msg { stream, body } = receiver.try_recv(rt, hub)?;
+    match body {
+        Body::End(How::Done) => Some(stream),
+        _ => None,
+    }
 }
 
 #[test]
@@ -294,15 +315,13 @@ fn an_end_comes_last(rt: HostRuntime) -> Result<(), Fail> {
     let (hub, mut receiver) = PlainHub::new(rt.alloc(), 1)?;
     let mut first = receiver.split(&hub, 0);
     let mut second = receiver.split(&hub, u32::MAX);
-    assert!(rt; first.try_send(&rt, &hub, ending(0)).is_ok());
-    assert!(rt; second.try_send(&rt, &hub, ending(u32::MAX)).is_err());
-    let m = receiver.try_recv(&rt, &hub).ok_or("a message was lost")?;
-    assert!(rt; matches!(&m.body, Body::End(How::Done)) && m.stream == 0);
-    assert!(rt; second.try_send(&rt, &hub, ending(u32::MAX)).is_ok());
+    holds(&rt, sends_end(&rt, &hub, &mut first, 0));
+    holds(&rt, !sends_end(&rt, &hub, &mut second, u32::MAX));
+    same(&rt, next_end(&rt, &hub, &mut receiver), Some(0));
+    holds(&rt, sends_end(&rt, &hub, &mut second, u32::MAX));
     receiver.join(&hub, first);
     receiver.join(&hub, second);
-    let m = receiver.try_recv(&rt, &hub).ok_or("a message was lost")?;
-    assert_eq!(rt; m.stream, u32::MAX);
-    assert!(rt; is_drained(&rt, &hub, &mut receiver));
+    same(&rt, next_end(&rt, &hub, &mut receiver), Some(u32::MAX));
+    holds(&rt, is_drained(&rt, &hub, &mut receiver));
     Ok(())
 }

@@ -1,0 +1,10 @@
+//! Tests, by public calls alone, of what threads share: boards of interruption, and channels. They
+//! stand above the crates that they test, so that none of these is proved twice for its tests.
+#![tactic(auto)]
+
+#[cfg(test)]
+mod asserts;
+#[cfg(test)]
+mod boards;
+#[cfg(test)]
+mod channels;
