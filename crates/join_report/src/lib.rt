@@ -17,16 +17,16 @@
 //! let last = report.write(rt.alloc(), &mut out, 0, &first);
 //! let late = report.write(rt.alloc(), &mut out, 0, &second);
 //! report.end(0, How::Done);
-//! assert_eq!(rt; (last, late), (Some(Why::Take), None));
-//! assert_eq!(rt; out.written(), b"0 1\nA\n".as_slice());
-//! assert!(rt; report.is_ceased());
-//! assert!(rt; !report.sink_failed());
-//! assert!(rt; !report.memory());
+//! same(&rt, (last, late), (Some(Why::Take), None));
+//! same(&rt, out.written(), b"0 1\nA\n".as_slice());
+//! holds(&rt, report.is_ceased());
+//! holds(&rt, !report.sink_failed());
+//! holds(&rt, !report.memory());
 //! let mut hows = Vec::new(rt.alloc());
 //! for end in report.into_ends(How::Done).as_slice() {
 //!     hows.push(end.how)?;
 //! }
-//! assert_eq!(rt; hows.as_slice(), [How::Done, How::Halted].as_slice());
+//! same(&rt, hows.as_slice(), [How::Done, How::Halted].as_slice());
 //! ```
 #![tactic(auto)]
 
@@ -34,8 +34,6 @@ mod accounts;
 pub mod laws;
 pub mod report;
 pub mod stops;
-#[cfg(test)]
-mod tests;
 
 pub use accounts::Accounts;
 pub use report::Report;

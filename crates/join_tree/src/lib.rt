@@ -38,8 +38,6 @@ mod end;
 mod guests;
 pub mod laws;
 mod outer;
-#[cfg(test)]
-mod uses;
 
 pub use end::settle;
 pub use guests::{split_off, take_in};

@@ -34,8 +34,6 @@ pub mod not_read;
 pub(crate) mod opening;
 pub(crate) mod table;
 pub mod tables;
-#[cfg(test)]
-mod uses;
 pub(crate) mod whole;
 
 pub use not_read::NotRead;

@@ -16,6 +16,5 @@ pub mod Cancels
 pub mod Guests
 pub mod Given
 pub mod Owed
-pub mod Used
 pub mod Refused
 pub mod Shelved

@@ -6,7 +6,6 @@ use Rattle.chunk_core.proofs.Cuts.{among_parts}
 use Rattle.chunk_core.proofs.Filters.{among_append}
 use Rattle.chunk_core.proofs.Members.{among_cons, among_mid}
 use Rattle.res_ledger.specs.declared.event.Event.{Event}
-use Rattle.res_ledger.specs.declared.event.StreamNo.{StreamNo}
 use Rattle.res_ledger.specs.declared.event.What.TheVariants.{Final}
 use Rattle.res_ledger.specs.Ledger.{IsLegal, MayFollow, NotesFinal}
 use Rattle.res_ledger.specs.Order.{firsts}

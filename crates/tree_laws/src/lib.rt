@@ -35,5 +35,3 @@
 #![tactic(auto)]
 
 pub mod laws;
-#[cfg(test)]
-mod uses;

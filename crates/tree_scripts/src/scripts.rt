@@ -12,11 +12,10 @@ ghost use Rattle.tree_scripts.specs.Waiting.{FinishesLedger, IsAlone, LeasesAndC
 ghost use Rattle.scope_tree.specs.Words.{owed};
 
 use chunk_core::{Exit, List};
-use res_ledger::{Ledger, StreamNo, text};
+use res_ledger::{Ledger, StreamNo};
 use row_seat::{PlainSeat, PlainTable, RowSeat};
-use scope_tree::{Finish, Lease, Room, Spent, Standing, Tree};
+use scope_tree::{Finish, Lease, Room, Spent, Tree};
 use std::alloc::{AllocError, Global};
-use std::test::Fail;
 
 /// Three rows in three scopes, each below the other.
 pub fn three_rows<S: RowSeat>(
@@ -178,101 +177,4 @@ pub fn three_coins(
     let good = Coin { good: true };
     let tree = three_rows(seat, room, &mut desk, good, Coin { good: middle }, good);
     Ok((tree, desk))
-}
-
-#[test]
-fn closes_the_root_of_a_plain_seat(rt: HostRuntime) -> Result<(), Fail> {
-    let (mut tree, mut desk) = three_coins(rt.alloc(), false)?;
-    tree.close(&mut desk, 0, Exit::Errored);
-    assert!(rt; tree.status(2) == Standing::Final(true));
-    assert!(rt; tree.status(1) == Standing::Final(false));
-    let (_, shelf) = tree.end();
-    let rows = shelf.as_slice();
-    assert_eq!(rt; rows.len(), 3);
-    assert!(rt; rows[0].exit == Exit::Errored);
-    assert!(rt; rows[1].exit == Exit::Errored);
-    assert!(rt; rows[2].exit == Exit::Errored);
-    Ok(())
-}
-
-#[test]
-fn leased_rows_wait_for_the_lease(rt: HostRuntime) -> Result<(), Fail> {
-    let (mut tree, mut desk) = three_coins(rt.alloc(), true)?;
-    let leased = lease_and_close(rt.alloc(), &mut tree, &mut desk, 1, 5, Exit::Succeeded);
-    let lease = leased.expect(&rt, "memory");
-    assert!(rt; tree.status(1) == Standing::Left);
-    let (ledger, _) = cancel_and_finish(tree, &mut desk, lease, Exit::Canceled);
-    let printed = text(rt.alloc(), &ledger)?;
-    assert_eq!(rt;
-        printed.as_slice(),
-        b"ledger 11
-outer acquire 0 0
-outer open 1 0
-outer acquire 1 1
-outer open 2 1
-outer acquire 2 2
-outer lease 5 1
-outer close 0 succeeded
-outer cancel 5 canceled
-outer final 2 canceled ok
-outer final 1 canceled ok
-outer final 0 canceled ok
-"
-            .as_slice()
-    );
-    Ok(())
-}
-
-#[test]
-fn a_row_that_no_lease_covers_ends_at_once(rt: HostRuntime) -> Result<(), Fail> {
-    let (seat, mut desk) = PlainSeat::new(rt.alloc(), StreamNo::Outer, 3, 16)?;
-    let room = Room::new(rt.alloc(), 4, 3)?;
-    let good = Coin { good: true };
-    let (ledger, _) = lease_the_root(rt.alloc(), seat, room, &mut desk, good, good, good)?;
-    let printed = text(rt.alloc(), &ledger)?;
-    assert_eq!(rt;
-        printed.as_slice(),
-        b"ledger 11
-outer acquire 0 0
-outer open 1 0
-outer acquire 1 1
-outer open 2 1
-outer acquire 2 2
-outer lease 5 0
-outer close 0 errored
-outer final 2 errored ok
-outer cancel 5 canceled
-outer final 1 canceled ok
-outer final 0 canceled ok
-"
-            .as_slice()
-    );
-    Ok(())
-}
-
-#[test]
-fn a_scope_at_a_closed_one_is_opened_above_it(rt: HostRuntime) -> Result<(), Fail> {
-    let (mut tree, mut desk) = three_coins(rt.alloc(), true)?;
-    let scope = close_and_open(&mut tree, &mut desk);
-    assert_eq!(rt; scope, 3);
-    let (ledger, _) = close_and_finish(tree, &mut desk, Exit::Succeeded);
-    let printed = text(rt.alloc(), &ledger)?;
-    assert_eq!(rt;
-        printed.as_slice(),
-        b"ledger 11
-outer acquire 0 0
-outer open 1 0
-outer acquire 1 1
-outer open 2 1
-outer acquire 2 2
-outer close 1 errored
-outer final 2 errored ok
-outer final 1 errored ok
-outer open 3 0
-outer close 0 succeeded
-outer final 0 succeeded ok
-"
-            .as_slice()
-    );
-    Ok(())
 }

@@ -7,11 +7,10 @@ ghost use Rattle.tree_scripts.specs.Short.{IsLeasedAndCanceled};
 
 use crate::scripts::Coin;
 use chunk_core::Exit;
-use res_ledger::{Ledger, StreamNo, text};
+use res_ledger::{Ledger, StreamNo};
 use row_seat::{PlainSeat, RowSeat};
 use scope_tree::{Finish, Room, Tree};
 use std::alloc::{AllocError, Global};
-use std::test::Fail;
 
 /// Two rows in two scopes. The root is leased for the stream 7, which covers both, and closed; the
 /// lease is cancelled, with which both end; and the seat finishes.
@@ -58,25 +57,4 @@ pub fn over_a_plain_seat(alloc: Global) -> Result<Ledger, AllocError>
     let room = Room::new(alloc, 2, 2)?;
     let (first, second) = (Coin { good: true }, Coin { good: false });
     lease_and_cancel(alloc, seat, room, &mut desk, first, second)
-}
-
-#[test]
-fn a_lease_holds_both_rows_until_it_is_cancelled(rt: HostRuntime) -> Result<(), Fail> {
-    let ledger = over_a_plain_seat(rt.alloc())?;
-    let printed = text(rt.alloc(), &ledger)?;
-    assert_eq!(rt;
-        printed.as_slice(),
-        b"ledger 8
-outer open 1 0
-outer acquire 0 0
-outer acquire 1 1
-outer lease 7 0
-outer close 0 succeeded
-outer cancel 7 succeeded
-outer final 1 succeeded fault
-outer final 0 succeeded ok
-"
-            .as_slice()
-    );
-    Ok(())
 }

@@ -7,12 +7,9 @@ ghost use Rattle.scope_tree.specs.Trees.{Fits, seen};
 ghost use Rattle.tree_scripts.specs.Uses.{IsEndedWith, IsTwo};
 ghost use Rattle.tree_scripts.specs.Waiting.{IsAlone};
 
-use crate::scripts::{Coin, three_coins};
 use chunk_core::{Exit, List};
-use res_ledger::StreamNo;
-use row_seat::{PlainSeat, RowSeat};
+use row_seat::RowSeat;
 use scope_tree::{Finish, Room, Spent, Tree};
-use std::test::Fail;
 
 /// Two rows in two scopes, and the root is closed as succeeded.
 pub fn two<S: RowSeat>(
@@ -59,26 +56,4 @@ where
     *tree.pay_mut(row) = pay;
     tree.close(desk, 0, Exit::Canceled);
     tree.end()
-}
-
-#[test]
-fn ends_two_rows_of_a_plain_seat(rt: HostRuntime) -> Result<(), Fail> {
-    let (seat, mut desk) = PlainSeat::new(rt.alloc(), StreamNo::Outer, 2, 7)?;
-    let room = Room::new(rt.alloc(), 2, 2)?;
-    let (first, second) = (Coin { good: true }, Coin { good: false });
-    let (_, shelf) = two(seat, room, &mut desk, first, second);
-    let rows = shelf.as_slice();
-    assert_eq!(rt; rows.len(), 2);
-    assert!(rt; rows[0].row == 1 && !rows[0].ok && rows[1].row == 0 && rows[1].ok);
-    Ok(())
-}
-
-#[test]
-fn ends_a_row_as_it_was_written(rt: HostRuntime) -> Result<(), Fail> {
-    let (tree, mut desk) = three_coins(rt.alloc(), true)?;
-    let (_, shelf) = write_and_end(tree, &mut desk, 1, Coin { good: false });
-    let rows = shelf.as_slice();
-    assert_eq!(rt; rows.len(), 3);
-    assert!(rt; rows[0].ok && !rows[1].ok && rows[2].ok);
-    Ok(())
 }
