@@ -158,15 +158,25 @@ fn chunk_shows_the_vector(rt: HostRuntime) -> Result<(), Fail> {
     Ok(())
 }
 
+/// Fails the test unless two elements are split off as the one, and the other is left.
+fn splits(
+    rt: &impl Abort,
+    chunk: &mut Chunk<u8>,
+    front: &[u8],
+    left: &[u8],
+) -> Result<(), AllocError> {
+    let taken = chunk.split(2)?;
+    same(rt, taken.as_slice(), front);
+    same(rt, chunk.as_slice(), left);
+    same(rt, chunk.is_empty(), left.is_empty());
+    Ok(())
+}
+
 #[test]
 fn split_takes_off_the_front(rt: HostRuntime) -> Result<(), Fail> {
     let mut chunk = bytes_of(rt.alloc(), &[1, 2, 3])?;
-    let front = chunk.split(2)?;
-    same(&rt, front.as_slice(), &[1, 2]);
-    same(&rt, chunk.as_slice(), &[3]);
-    let rest = chunk.split(2)?;
-    same(&rt, rest.as_slice(), &[3]);
-    holds(&rt, chunk.is_empty());
+    splits(&rt, &mut chunk, &[1, 2], &[3])?;
+    splits(&rt, &mut chunk, &[3], &[])?;
     Ok(())
 }
 
@@ -231,18 +241,39 @@ fn queue_gives_what_it_was_given(rt: HostRuntime) -> Result<(), Fail> {
     Ok(())
 }
 
-#[test]
-fn queue_gives_its_first_chunk_without_a_copy(rt: HostRuntime) -> Result<(), Fail> {
-    let mut queue = ChunkQueue::new(rt.alloc());
-    let chunk = bytes_of(rt.alloc(), &[1, 2, 3])?;
+/// A queue of one chunk, and a share of it.
+fn queue_of_one(alloc: Global, bytes: &[u8]) -> Result<(ChunkQueue<u8>, Chunk<u8>), AllocError> {
+    let chunk = bytes_of(alloc, bytes)?;
     let share = chunk.share()?;
+    let mut queue = ChunkQueue::new(alloc);
     queue.push(chunk)?;
-    let whole = still_chunk(queue.take(9)?, "the whole was copied")?;
-    same(&rt, whole.as_slice(), share.as_slice());
-    queue.push(whole)?;
-    let front = still_chunk(queue.take(1)?, "the front was copied")?;
-    same(&rt, front.as_slice(), &[1]);
+    Ok((queue, share))
+}
+
+/// Fails the test unless the queue, whose first chunk is shared, gives these without a copy.
+fn gives_uncopied(
+    rt: &impl Abort,
+    queue: &mut ChunkQueue<u8>,
+    count: usize,
+    bytes: &[u8],
+) -> Result<(), Fail> {
+    let front = still_chunk(queue.take(count)?, "it was copied")?;
+    same(rt, front.as_slice(), bytes);
+    Ok(())
+}
+
+#[test]
+fn queue_gives_its_only_chunk_without_a_copy(rt: HostRuntime) -> Result<(), Fail> {
+    let (mut queue, share) = queue_of_one(rt.alloc(), &[1, 2, 3])?;
+    gives_uncopied(&rt, &mut queue, 9, share.as_slice())
+}
+
+#[test]
+fn queue_gives_a_front_without_a_copy(rt: HostRuntime) -> Result<(), Fail> {
+    let (mut queue, share) = queue_of_one(rt.alloc(), &[1, 2, 3])?;
+    gives_uncopied(&rt, &mut queue, 1, &[1])?;
     gives(&rt, &mut queue, 9, &[2, 3])?;
+    same(&rt, share.as_slice(), &[1, 2, 3]);
     Ok(())
 }
 
@@ -278,16 +309,27 @@ fn rows_are_joined(rt: HostRuntime) -> Result<(), Fail> {
     Ok(())
 }
 
+/// Fails the test unless one element is split off as the one text, and the other is left.
+fn gives_first(
+    rt: &impl Abort,
+    alloc: Global,
+    load: &mut Load,
+    first: &[u8],
+    left: &[u8],
+) -> Result<(), AllocError> {
+    let taken = load.split(1)?;
+    renders(rt, alloc, &taken, first)?;
+    renders(rt, alloc, load, left)?;
+    same(rt, load.is_empty(), left.is_empty());
+    Ok(())
+}
+
 #[test]
 fn a_load_is_split_by_its_elements(rt: HostRuntime) -> Result<(), Fail> {
     let mut load = Load::Lines(lines_of(rt.alloc(), LINES)?);
     same(&rt, load.len(), 2);
-    let front = load.split(1)?;
-    renders(&rt, rt.alloc(), &front, b"ab\n")?;
-    renders(&rt, rt.alloc(), &load, b"c\n")?;
-    holds(&rt, !load.is_empty());
-    load.split(1)?;
-    holds(&rt, load.is_empty());
+    gives_first(&rt, rt.alloc(), &mut load, b"ab\n", b"c\n")?;
+    gives_first(&rt, rt.alloc(), &mut load, b"c\n", b"")?;
     Ok(())
 }
 

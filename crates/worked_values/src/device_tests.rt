@@ -170,6 +170,14 @@ fn depot_of_one(alloc: Global) -> Result<MemDepot, AllocError> {
     MemDepot::new(alloc, files, fail)
 }
 
+/// Fails the test unless the first two devices and the last one came back at these stages.
+fn came_back(rt: &impl Abort, depot: &MemDepot) {
+    let mut stages = depot.retired().iter().map(|record| record.stage);
+    same(rt, stages.next(), Some(Stage::Closed(Exit::Canceled)));
+    same(rt, stages.next(), Some(Stage::Unopened));
+    same(rt, stages.last(), Some(Stage::ClosedBadly(Exit::Succeeded)));
+}
+
 #[test]
 fn depot_stores_what_came_back(rt: HostRuntime) -> Result<(), Fail> {
     const MOVES: &[Moves] = &[
@@ -185,13 +193,6 @@ fn depot_stores_what_came_back(rt: HostRuntime) -> Result<(), Fail> {
     same(&rt, depot.file("c"), Some(b"hello".as_slice()));
     same(&rt, depot.file("d"), None);
     same(&rt, depot.made().len(), 5);
-    let mut stages = depot.retired().iter().map(|record| record.stage);
-    same(&rt, stages.next(), Some(Stage::Closed(Exit::Canceled)));
-    same(&rt, stages.next(), Some(Stage::Unopened));
-    same(
-        &rt,
-        stages.last(),
-        Some(Stage::ClosedBadly(Exit::Succeeded)),
-    );
+    came_back(&rt, &depot);
     Ok(())
 }

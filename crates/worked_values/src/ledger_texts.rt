@@ -40,7 +40,7 @@ fn are_written(
 }
 
 #[test]
-fn prints_each_kind_of_event(rt: HostRuntime) -> Result<(), Fail> {
+fn prints_the_events_of_a_row(rt: HostRuntime) -> Result<(), Fail> {
     let (exit, ok) = (Exit::Succeeded, true);
     let one_row = [
         What::Acquire { row: 0, scope: 0 },
@@ -49,7 +49,11 @@ fn prints_each_kind_of_event(rt: HostRuntime) -> Result<(), Fail> {
     ];
     let written = b"ledger 3\n0 acquire 0 0\n0 close 0 succeeded\n0 final 0 succeeded ok\n";
     are_written(&rt, rt.alloc(), StreamNo::Inner(0), one_row, written)?;
+    Ok(())
+}
 
+#[test]
+fn prints_the_events_of_a_lease(rt: HostRuntime) -> Result<(), Fail> {
     let (stream, scope, exit) = (5, 1, Exit::Canceled);
     let leased = [
         What::Open { scope, parent: 0 },
@@ -58,7 +62,11 @@ fn prints_each_kind_of_event(rt: HostRuntime) -> Result<(), Fail> {
     ];
     let written = b"ledger 3\nouter open 1 0\nouter lease 5 1\nouter cancel 5 canceled\n";
     are_written(&rt, rt.alloc(), StreamNo::Outer, leased, written)?;
+    Ok(())
+}
 
+#[test]
+fn prints_a_finalizer_that_failed(rt: HostRuntime) -> Result<(), Fail> {
     let (row, exit, ok) = (4294967295, Exit::Errored, false);
     let failed = What::Final { row, exit, ok };
     prints(&rt, rt.alloc(), &failed, "final 4294967295 errored fault")?;

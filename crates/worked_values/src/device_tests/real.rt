@@ -103,34 +103,62 @@ fn lost_writes_are_failed_closes(rt: HostRuntime) -> Result<(), Fail> {
     Ok(())
 }
 
-/// Fails the test unless a read and a write over files that answer so move so many bytes each, and
-/// the read leaves this in its buffer.
-fn each_moves(
+/// Fails the test unless a read and a write move so many bytes each, and the read leaves this in its
+/// buffer.
+fn each_moves<D: Depot>(
     rt: &impl Abort,
     alloc: Global,
-    answers: &[Answer],
+    depot: &mut D,
     count: Option<usize>,
     left: [u8; 4],
 ) -> Result<(), AllocError> {
+    let mut buf = [0u8; 4];
+    same(rt, read_at(depot, alloc, "read", &mut buf)?, count);
+    same(rt, buf, left);
+    same(rt, write_at(depot, alloc, "written", b"hello")?, count);
+    Ok(())
+}
+
+/// A depot whose files answer so.
+fn depot_of<'a>(alloc: Global, answers: &'a [Answer]) -> FileDepot<Scripts<'a>> {
     let sync = None;
-    let mut depot = FileDepot::new(Scripts {
+    FileDepot::new(Scripts {
         alloc,
         answers,
         sync,
-    });
-    let mut buf = [0u8; 4];
-    same(rt, read_at(&mut depot, alloc, "read", &mut buf)?, count);
-    same(rt, buf, left);
-    same(rt, write_at(&mut depot, alloc, "written", b"hello")?, count);
-    Ok(())
+    })
 }
 
 #[test]
 fn devices_read_and_write_as_their_files_do(rt: HostRuntime) -> Result<(), Fail> {
     let moves = [Answer::Interrupted, Answer::Moves(2)];
-    each_moves(&rt, rt.alloc(), &moves, Some(2), *b"xx\0\0")?;
+    let mut depot = depot_of(rt.alloc(), &moves);
+    each_moves(&rt, rt.alloc(), &mut depot, Some(2), *b"xx\0\0")?;
+    Ok(())
+}
+
+#[test]
+fn devices_fail_as_their_files_do(rt: HostRuntime) -> Result<(), Fail> {
     let fails = [Answer::Fails, Answer::Moves(2)];
-    each_moves(&rt, rt.alloc(), &fails, None, [0; 4])?;
+    let mut depot = depot_of(rt.alloc(), &fails);
+    each_moves(&rt, rt.alloc(), &mut depot, None, [0; 4])?;
+    Ok(())
+}
+
+/// Fails the test unless what is written to the file is read back, and a shorter text then stands in
+/// its place.
+fn keeps_what_is_written<D: Depot>(
+    rt: &impl Abort,
+    alloc: Global,
+    depot: &mut D,
+    path: &str,
+) -> Result<(), AllocError> {
+    let mut buf = [0u8; 8];
+    same(rt, write_at(depot, alloc, path, b"hello")?, Some(5));
+    same(rt, read_at(depot, alloc, path, &mut buf)?, Some(5));
+    same(rt, buf, *b"hello\0\0\0");
+    same(rt, write_at(depot, alloc, path, b"he")?, Some(2));
+    same(rt, read_at(depot, alloc, path, &mut buf)?, Some(2));
     Ok(())
 }
 
@@ -145,16 +173,7 @@ fn real_files_are_written_and_read(rt: HostRuntime) -> Result<(), Fail> {
     ];
     let mut depot = FileDepot::new(rt);
     sends(&depot);
-    let mut buf = [0u8; 8];
-    moves(&rt, rt.alloc(), &mut depot, &[(PATH, Mode::Write, Some(5))])?;
-    same(
-        &rt,
-        read_at(&mut depot, rt.alloc(), PATH, &mut buf)?,
-        Some(5),
-    );
-    same(&rt, buf, *b"hello\0\0\0");
-    same(&rt, write_at(&mut depot, rt.alloc(), PATH, b"he")?, Some(2));
-    moves(&rt, rt.alloc(), &mut depot, &[(PATH, Mode::Read, Some(2))])?;
+    keeps_what_is_written(&rt, rt.alloc(), &mut depot, PATH)?;
     fs::remove_file(&rt, PATH)?;
     moves(&rt, rt.alloc(), &mut depot, MOVES)?;
     Ok(())
@@ -198,11 +217,15 @@ fn closed_files_give_their_descriptors_back(rt: HostRuntime) -> Result<(), Fail>
 }
 
 #[test]
-fn standard_streams(rt: HostRuntime) -> Result<(), Fail> {
+fn standard_streams(rt: HostRuntime) {
     let mut out = StdSink::new(rt.stdout());
     same(&rt, put(&mut out, b"written through\n"), Ok(()));
     let mut input = StdSource::new(rt.stdin());
     holds(&rt, input.read(&mut [0u8; 8]).is_ok());
+}
+
+#[test]
+fn a_pipe_of_the_system_is_a_source_and_a_sink(rt: HostRuntime) -> Result<(), Fail> {
     let (reader, writer) = io::pipe(&rt)?;
     same(
         &rt,
