@@ -40,6 +40,3 @@ pub use kind::{Kind, KindFault};
 pub use node::Node;
 pub use pipe::Pipe;
 pub use state::PipeState;
-
-#[cfg(test)]
-mod tests;

@@ -42,8 +42,6 @@ pub mod held;
 pub(crate) mod places;
 pub mod resources;
 pub mod stepper;
-#[cfg(test)]
-mod tests;
 
 pub use held::Held;
 pub use pull_turns::{Turn, Unconsed};

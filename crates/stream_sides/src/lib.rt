@@ -26,6 +26,3 @@ pub mod zip_state;
 pub use merge_state::MergeState;
 pub use side::Side;
 pub use zip_state::ZipState;
-
-#[cfg(test)]
-mod tests;

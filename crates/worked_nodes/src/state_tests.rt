@@ -1,11 +1,12 @@
+//! The states of nodes with two sides.
 ghost use Rattle.std.specs.Prelude.{◌≡◌, IfOk};
 ghost use Rattle.chunk_core.specs.Elements.{kind_of};
 ghost use Rattle.chunk_core.specs.Elements.LoadKind.{Lines};
 
-use crate::{MergeState, Side, ZipState};
 use chunk_core::{Chunk, Line, Load, render};
 use std::alloc::{AllocError, Global};
 use std::test::Fail;
+use stream_sides::{MergeState, Side, ZipState};
 
 /// A line of each byte.
 fn lines(alloc: Global, text: &[u8]) -> Result<Load, AllocError>

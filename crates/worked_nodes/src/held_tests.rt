@@ -1,7 +1,7 @@
 //! A device in a row.
-use crate::Held;
 use chunk_core::{Exit, Line, List, Word};
 use device_port::{Act, Depot, Device, FileOf, MemDepot, Mode, Stage, Trip};
+use pull_stepper::Held;
 use scope_tree::Finish;
 use std::alloc::{AllocError, Global};
 use std::test::Fail;

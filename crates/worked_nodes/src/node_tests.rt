@@ -1,8 +1,9 @@
+//! What a node tells of itself: its kind, its places and its counts; and the kinds of pipes.
 ghost use Rattle.std.specs.Prelude.{◌≡◌, IfOk};
 ghost use Rattle.pull_nodes.specs.Shape.{node_count};
 
-use crate::{Kind, KindFault, Node, Pipe};
 use chunk_core::{Chunk, List, Load, Span};
+use pull_nodes::{Kind, KindFault, Node, Pipe};
 use std::alloc::{AllocError, Global};
 use std::test::Fail;
 
