@@ -1,5 +1,5 @@
-//! Runs of nodes over a plain seat, devices in memory and any pipes, and what they show as text.
-ghost use Rattle.std.specs.Prelude.{◌≡◌, ◌+◌, ◌<◌, ◌≤◌, ◌^◌, true, IfOk, IsSome, OnOk, length};
+//! Runs of nodes over a plain seat, devices in memory and any pipes.
+ghost use Rattle.std.specs.Prelude.{◌≡◌, ◌<◌, ◌≤◌, ◌^◌, true, IfOk, IsSome, OnOk, length};
 ghost use Rattle.chunk_core.specs.Lists.{IsAmong};
 ghost use Rattle.device_port.specs.Records.{record_told};
 ghost use Rattle.pull_nodes.specs.Kinds.{node_kind};
@@ -9,48 +9,30 @@ ghost use Rattle.device_port.specs.declared.device.Mode.TheVariants as mode;
 ghost use Rattle.pull_stepper.specs.Stepping.{IsFor};
 ghost use Rattle.pull_stepper.specs.Sites.{IsUnused};
 
+use crate::files::{Files, depot};
 use crate::narrow::Narrow;
+use crate::parts::is_few;
+use crate::shown::is_shown;
 use crate::uses::{Alone, Pace, run_alone};
 use any_pipe::AnyPipe;
-use chunk_core::{Chunk, Line, List, Load, Span, Word, render};
+use chunk_core::{List, Span, Word};
 use csv_pipes::Dicts;
-use device_port::{Act, Depot, FileOf, MemDepot, Mode, Trip};
+use device_port::{Depot, MemDepot, Mode};
 use pull_nodes::Node;
 use pull_stepper::Held;
-use res_ledger::{StreamNo, text};
+use res_ledger::StreamNo;
 use row_seat::PlainSeat;
 use scope_tree::Room;
 use std::alloc::{AllocError, Global};
+use std::process::Abort;
 use std::test::Fail;
 
 /// Reads of four bytes, and as many turns as are wanted.
-pub const FREELY: Pace = Pace {
+pub(crate) const FREELY: Pace = Pace {
     chunk: 4,
     asks: 99,
     turns: 99,
 };
-
-/// A depot with the file `a`, of these bytes, and `b`. One call on `a` may be named to fail.
-pub fn depot(alloc: Global, a: &[u8], fail: Option<(Act, u32)>) -> Result<MemDepot, AllocError> {
-    let mut files = List::new(alloc);
-    files.push(FileOf {
-        path: Word::of(alloc, "a")?,
-        bytes: Line::of_vec(Vec::from_slice(alloc, a)?),
-    })?;
-    files.push(FileOf {
-        path: Word::of(alloc, "b")?,
-        bytes: Line::of_vec(Vec::from_slice(alloc, b"world")?),
-    })?;
-    let mut trips = List::new(alloc);
-    if let Some((act, nth)) = fail {
-        trips.push(Trip {
-            path: Word::of(alloc, "a")?,
-            act,
-            nth,
-        })?;
-    }
-    MemDepot::new(alloc, files, trips)
-}
 
 /// The node writes the place.
 fn writes(node: &Node, place: u32) -> bool {
@@ -91,6 +73,21 @@ fn devices(
         devices.push(Narrow::new(device, most))?;
     }
     Ok(devices)
+}
+
+/// The same devices of these files.
+fn devices_in(
+    alloc: Global,
+    files: Files<'_>,
+    node: &Node,
+    paths: &[&str],
+) -> Result<List<Narrow>, AllocError>
+    requires paths { length paths.now < 2 ^ 16 }
+    ensures count { IfOk result (λ ds. length ds ≡ length paths.now) }
+    ensures unused { IfOk result (λ ds. (d : Narrow) → IsAmong d ds → IsUnused (record_told d.device.facts)) }
+{
+    let mut depot = depot(alloc, files)?;
+    devices(alloc, &mut depot, node, paths, files.most.max(1))
 }
 
 /// The device of the place is for this.
@@ -140,73 +137,6 @@ fn fits_rows(node: &Node, count: u32) -> Result<(), &'static str>
     Ok(())
 }
 
-/// Runs a node, whose places are the first so many rows, over devices of these paths. `a` has the
-/// bytes of `hello`.
-pub fn run(
-    alloc: Global,
-    node: Node,
-    paths: &[&str],
-    fail: Option<(Act, u32)>,
-    pace: Pace,
-) -> Result<Alone<Narrow>, Fail>
-    requires few { node_count node < 2 ^ 16 }
-    requires paths { length paths.now < 2 ^ 16 }
-    requires pace { (1 ≤ pace.chunk) × (1 ≤ pace.turns) }
-{
-    let mut depot = depot(alloc, b"hello\n", fail)?;
-    run_in(alloc, &mut depot, node, paths, pace)
-}
-
-/// Runs a node over devices of a depot.
-pub fn run_in(
-    alloc: Global,
-    depot: &mut MemDepot,
-    node: Node,
-    paths: &[&str],
-    pace: Pace,
-) -> Result<Alone<Narrow>, Fail>
-    requires few { node_count node < 2 ^ 16 }
-    requires paths { length paths.now < 2 ^ 16 }
-    requires pace { (1 ≤ pace.chunk) × (1 ≤ pace.turns) }
-{
-    run_narrow(alloc, depot, node, paths, pace, usize::MAX)
-}
-
-/// Runs a node over devices of a depot and these tables.
-pub fn run_over(
-    alloc: Global,
-    depot: &mut MemDepot,
-    node: Node,
-    paths: &[&str],
-    tables: Dicts,
-    pace: Pace,
-) -> Result<Alone<Narrow>, Fail>
-    requires few { node_count node < 2 ^ 16 }
-    requires paths { length paths.now < 2 ^ 16 }
-    requires pace { (1 ≤ pace.chunk) × (1 ≤ pace.turns) }
-{
-    let devices = devices(alloc, depot, &node, paths, usize::MAX)?;
-    run_on(alloc, node, devices, tables, pace)
-}
-
-/// Runs a node over devices of a depot that take at most so many bytes a write.
-pub fn run_narrow(
-    alloc: Global,
-    depot: &mut MemDepot,
-    node: Node,
-    paths: &[&str],
-    pace: Pace,
-    most: usize,
-) -> Result<Alone<Narrow>, Fail>
-    requires few { node_count node < 2 ^ 16 }
-    requires paths { length paths.now < 2 ^ 16 }
-    requires pace { (1 ≤ pace.chunk) × (1 ≤ pace.turns) }
-    requires most { 1 ≤ most }
-{
-    let devices = devices(alloc, depot, &node, paths, most)?;
-    run_on(alloc, node, devices, Dicts::new(alloc), pace)
-}
-
 /// Runs a node over devices that nobody used, and these tables.
 fn run_on(
     alloc: Global,
@@ -231,65 +161,59 @@ fn run_on(
     ))
 }
 
-/// The path of a device, how often it was opened and closed, the exit that it was closed with, and
-/// what was written to it.
-fn push_device(alloc: Global, out: &mut Vec<u8>, device: &Narrow) -> Result<(), AllocError> {
-    let facts = device.facts();
-    let path = facts.path.as_str();
-    let (opens, closes) = (facts.opens(), facts.closes());
-    out.extend_from_slice(format!(in alloc; "{path} {opens} {closes}")?.as_bytes())?;
-    if let Some(exit) = facts.exit() {
-        out.extend_from_slice(format!(in alloc; " {exit}")?.as_bytes())?;
-    }
-    if facts.mode == Mode::Write {
-        out.extend_from_slice(b" <")?;
-        out.extend_from_slice(&facts.written)?;
-        out.extend_from_slice(b">")?;
-    }
-    out.extend_from_slice(b"\n")
-}
-
-/// The loads, each with a bar behind it, the end, the ledger and the devices: those that were
-/// acquired as they ended, and then the others.
-pub fn shown(alloc: Global, run: Alone<Narrow>) -> Result<Vec<u8>, AllocError> {
-    let mut out = Vec::new(alloc);
-    for load in &run.loads {
-        out.extend_from_slice(render(alloc, load)?.as_slice())?;
-        out.push(b'|')?;
-    }
-    let how = run.how;
-    out.extend_from_slice(format!(in alloc; "{how:?}\n")?.as_bytes())?;
-    out.extend_from_slice(text(alloc, &run.ledger)?.as_slice())?;
-    for spent in run.shelf.into_vec() {
-        push_device(alloc, &mut out, &spent.pay.into_device())?;
-    }
-    for device in run.unopened.into_vec() {
-        push_device(alloc, &mut out, &device)?;
-    }
-    Ok(out)
-}
-
-/// Acquires a place and reads it.
-pub fn source(alloc: Global, place: u32) -> Result<Box<Node>, AllocError>
-    ensures { IfOk result (λ node. node_count node.value ≡ 2) }
+/// Refuses what no run begins with.
+fn can_run(node: &Node, paths: &[&str], pace: Pace) -> Result<(), &'static str>
+    ensures few { OnOk result (node_count node.now < 2 ^ 16) }
+    ensures paths { OnOk result (length paths.now < 2 ^ 16) }
+    ensures pace { OnOk result ((1 ≤ pace.chunk) × (1 ≤ pace.turns)) }
 {
-    let part = Box::new(alloc, Node::Read(place))?;
-    Ok(Box::new(alloc, Node::Weak(place, part))?)
-}
-
-/// Two lines.
-pub fn lines(alloc: Global) -> Result<Load, AllocError> {
-    let mut lines = Vec::new(alloc);
-    for line in [b"a", b"b"] {
-        lines.push(Line::of_vec(Vec::from_slice(alloc, line)?))?;
+    if !is_few(node) {
+        return Err("there are too many nodes");
     }
-    Ok(Load::Lines(Chunk::of_vec(alloc, lines)?))
+    if paths.len() > 1000 {
+        return Err("there are too many paths");
+    }
+    if pace.chunk == 0 || pace.turns == 0 {
+        return Err("the pace is none");
+    }
+    Ok(())
 }
 
-/// Acquires a place, and writes there what comes.
-pub fn into(alloc: Global, place: u32, part: Node) -> Result<Node, AllocError>
-    ensures { IfOk result (λ node. node_count node ≡ node_count part + 2) }
-{
-    let write = Node::Into(place, Box::new(alloc, part)?);
-    Ok(Node::Weak(place, Box::new(alloc, write)?))
+/// Runs a node, whose places are the first so many rows, over devices of these paths and these
+/// tables.
+pub(crate) fn run_over(
+    alloc: Global,
+    files: Files<'_>,
+    tables: Dicts,
+    node: Node,
+    paths: &[&str],
+    pace: Pace,
+) -> Result<Alone<Narrow>, Fail> {
+    can_run(&node, paths, pace)?;
+    let devices = devices_in(alloc, files, &node, paths)?;
+    run_on(alloc, node, devices, tables, pace)
+}
+
+/// The same over no tables.
+pub(crate) fn run(
+    alloc: Global,
+    files: Files<'_>,
+    node: Node,
+    paths: &[&str],
+    pace: Pace,
+) -> Result<Alone<Narrow>, Fail> {
+    run_over(alloc, files, Dicts::new(alloc), node, paths, pace)
+}
+
+/// Fails the test unless a run over no tables is shown so.
+pub(crate) fn shows(
+    rt: &(impl Abort + AllocGlobal),
+    files: Files<'_>,
+    node: Node,
+    paths: &[&str],
+    pace: Pace,
+    want: &[u8],
+) -> Result<(), Fail> {
+    let run = run(rt.alloc(), files, node, paths, pace)?;
+    is_shown(rt, run, want)
 }

@@ -3,8 +3,10 @@ ghost use Rattle.std.specs.Prelude.{◌≡◌, IfOk};
 ghost use Rattle.chunk_core.specs.Elements.{kind_of};
 ghost use Rattle.chunk_core.specs.Elements.LoadKind.{Lines};
 
+use crate::asserts::{holds, same};
 use chunk_core::{Chunk, Line, Load, render};
 use std::alloc::{AllocError, Global};
+use std::process::Abort;
 use std::test::Fail;
 use stream_sides::{MergeState, Side, ZipState};
 
@@ -26,9 +28,21 @@ fn fed(alloc: Global, state: &mut ZipState, text: &[u8]) -> Result<Line, AllocEr
     render(alloc, &pairs)
 }
 
-#[test]
-fn lines_that_wait_are_paired_in_their_order(rt: HostRuntime) -> Result<(), Fail> {
-    let alloc = rt.alloc();
+/// Fails the test unless these lines of the side that is needed make these pairs whole.
+fn makes(
+    rt: &(impl Abort + AllocGlobal),
+    state: &mut ZipState,
+    text: &[u8],
+    pairs: &[u8],
+) -> Result<(), AllocError> {
+    let made = fed(rt.alloc(), state, text)?;
+    same(rt, made.as_slice(), pairs);
+    same(rt, made.is_empty(), pairs.is_empty());
+    Ok(())
+}
+
+/// Three lines waited for the other side, of which the first has its pair.
+fn first_of_three(rt: &impl Abort, alloc: Global) -> Result<ZipState, AllocError> {
     let mut state = ZipState::new(alloc);
     assert_eq!(rt; state.need(), Side::Left);
     let pairs = fed(alloc, &mut state, b"abc")?;
@@ -36,44 +50,44 @@ fn lines_that_wait_are_paired_in_their_order(rt: HostRuntime) -> Result<(), Fail
     assert_eq!(rt; state.need(), Side::Right);
     let pairs = fed(alloc, &mut state, b"x")?;
     assert_eq!(rt; pairs.as_slice(), b"a,x\n".as_slice());
-    assert_eq!(rt; state.need(), Side::Right);
-    let pairs = fed(alloc, &mut state, b"yzw")?;
-    assert_eq!(rt; pairs.as_slice(), b"b,y\nc,z\n".as_slice());
-    assert_eq!(rt; state.need(), Side::Left);
-    let pairs = fed(alloc, &mut state, b"d")?;
-    assert_eq!(rt; pairs.as_slice(), b"d,w\n".as_slice());
-    assert_eq!(rt; state.need(), Side::Left);
+    Ok(state)
+}
+
+#[test]
+fn lines_that_wait_are_paired_in_their_order(rt: HostRuntime) -> Result<(), Fail> {
+    let mut state = first_of_three(&rt, rt.alloc())?;
+    same(&rt, state.need(), Side::Right);
+    makes(&rt, &mut state, b"yzw", b"b,y\nc,z\n")?;
+    same(&rt, state.need(), Side::Left);
+    makes(&rt, &mut state, b"d", b"d,w\n")?;
+    same(&rt, state.need(), Side::Left);
     Ok(())
 }
 
 #[test]
 fn an_empty_load_changes_nothing(rt: HostRuntime) -> Result<(), Fail> {
-    let alloc = rt.alloc();
-    let mut state = ZipState::new(alloc);
-    let pairs = fed(alloc, &mut state, b"")?;
-    assert!(rt; pairs.is_empty());
-    assert_eq!(rt; state.need(), Side::Left);
-    fed(alloc, &mut state, b"a")?;
-    let pairs = fed(alloc, &mut state, b"")?;
-    assert!(rt; pairs.is_empty());
-    assert_eq!(rt; state.need(), Side::Right);
-    let pairs = fed(alloc, &mut state, b"x")?;
-    assert_eq!(rt; pairs.as_slice(), b"a,x\n".as_slice());
+    let mut state = ZipState::new(rt.alloc());
+    makes(&rt, &mut state, b"", b"")?;
+    same(&rt, state.need(), Side::Left);
+    fed(rt.alloc(), &mut state, b"a")?;
+    makes(&rt, &mut state, b"", b"")?;
+    same(&rt, state.need(), Side::Right);
+    makes(&rt, &mut state, b"x", b"a,x\n")?;
     Ok(())
 }
 
 #[test]
 fn sides_of_a_merge_take_turns_until_they_end(rt: HostRuntime) {
     let mut state = MergeState::new();
-    assert_eq!(rt; state.next(), Side::Left);
+    same(&rt, state.next(), Side::Left);
     state.gave(Side::Left);
-    assert_eq!(rt; state.next(), Side::Right);
+    same(&rt, state.next(), Side::Right);
     state.gave(Side::Right);
     state.ended(Side::Left);
-    assert_eq!(rt; state.next(), Side::Right);
+    same(&rt, state.next(), Side::Right);
     state.gave(Side::Right);
-    assert_eq!(rt; state.next(), Side::Right);
-    assert!(rt; !state.is_done());
+    same(&rt, state.next(), Side::Right);
+    holds(&rt, !state.is_done());
     state.ended(Side::Right);
-    assert!(rt; state.is_done());
+    holds(&rt, state.is_done());
 }
