@@ -6,7 +6,6 @@ use crate::uses::Pace;
 use device_port::Act;
 use pull_nodes::Node;
 use std::process::Abort;
-use std::test::Fail;
 
 /// `a` is empty.
 const EMPTY: Files<'static> = Files { a: b"", ..HELLO };
@@ -22,80 +21,73 @@ const ONCE: Pace = Pace {
 };
 
 /// Fails the test unless a node is shown so that writes what `b` has to `a`.
-fn copy_shows(
-    rt: &(impl Abort + AllocGlobal),
-    files: Files<'_>,
-    pace: Pace,
-    want: &[u8],
-) -> Result<(), Fail> {
+fn copy_shows(rt: &(impl Abort + AllocGlobal), files: Files<'_>, pace: Pace, want: &[u8]) {
     let node = into(rt, 0, source(rt, 1));
-    shows(rt, files, node, &["a", "b"], pace, want)
+    shows(rt, files, node, &["a", "b"], pace, want);
 }
 
 #[test]
-fn what_comes_is_written_and_nothing_is_given(rt: HostRuntime) -> Result<(), Fail> {
+fn what_comes_is_written_and_nothing_is_given(rt: HostRuntime) {
     copy_shows(
         &rt,
         EMPTY,
         FREELY,
         b"Done\nledger 5\n0 acquire 0 0\n0 acquire 1 0\n0 close 0 succeeded\n0 final 1 succeeded ok\n0 final 0 succeeded ok\nb 1 1 succeeded\na 1 1 succeeded <world>\n",
-    )
+    );
 }
 
 #[test]
-fn a_write_that_fails_is_the_end(rt: HostRuntime) -> Result<(), Fail> {
+fn a_write_that_fails_is_the_end(rt: HostRuntime) {
     copy_shows(
         &rt,
         EMPTY.failing(Act::Write, 2),
         FREELY,
         b"Fault(Write)\nledger 5\n0 acquire 0 0\n0 acquire 1 0\n0 close 0 errored\n0 final 1 errored ok\n0 final 0 errored ok\nb 1 1 errored\na 1 1 errored <worl>\n",
-    )
+    );
 }
 
 #[test]
-fn a_run_that_is_stopped_has_written_what_came(rt: HostRuntime) -> Result<(), Fail> {
+fn a_run_that_is_stopped_has_written_what_came(rt: HostRuntime) {
     copy_shows(
         &rt,
         EMPTY,
         ONCE,
         b"Halted\nledger 5\n0 acquire 0 0\n0 acquire 1 0\n0 close 0 canceled\n0 final 1 canceled ok\n0 final 0 canceled ok\nb 1 1 canceled\na 1 1 canceled <worl>\n",
-    )
+    );
 }
 
 #[test]
-fn short_writes_go_on_where_they_stopped(rt: HostRuntime) -> Result<(), Fail> {
+fn short_writes_go_on_where_they_stopped(rt: HostRuntime) {
     copy_shows(
         &rt,
         SHORT_WRITES,
         FREELY,
         b"Done\nledger 5\n0 acquire 0 0\n0 acquire 1 0\n0 close 0 succeeded\n0 final 1 succeeded ok\n0 final 0 succeeded ok\nb 1 1 succeeded\na 1 1 succeeded <world>\n",
-    )
+    );
 }
 
 #[test]
-fn a_write_that_fails_behind_a_short_one_leaves_a_part_of_a_load(
-    rt: HostRuntime,
-) -> Result<(), Fail> {
+fn a_write_that_fails_behind_a_short_one_leaves_a_part_of_a_load(rt: HostRuntime) {
     copy_shows(
         &rt,
         SHORT_WRITES.failing(Act::Write, 2),
         FREELY,
         b"Fault(Write)\nledger 5\n0 acquire 0 0\n0 acquire 1 0\n0 close 0 errored\n0 final 1 errored ok\n0 final 0 errored ok\nb 1 1 errored\na 1 1 errored <wor>\n",
-    )
+    );
 }
 
 #[test]
-fn a_run_that_is_stopped_has_written_each_load_whole(rt: HostRuntime) -> Result<(), Fail> {
+fn a_run_that_is_stopped_has_written_each_load_whole(rt: HostRuntime) {
     copy_shows(
         &rt,
         SHORT_WRITES,
         ONCE,
         b"Halted\nledger 5\n0 acquire 0 0\n0 acquire 1 0\n0 close 0 canceled\n0 final 1 canceled ok\n0 final 0 canceled ok\nb 1 1 canceled\na 1 1 canceled <worl>\n",
-    )
+    );
 }
 
 #[test]
-fn lines_are_written_with_their_ends(rt: HostRuntime) -> Result<(), Fail> {
+fn lines_are_written_with_their_ends(rt: HostRuntime) {
     shows(
         &rt,
         HELLO,
@@ -103,11 +95,11 @@ fn lines_are_written_with_their_ends(rt: HostRuntime) -> Result<(), Fail> {
         &["a"],
         FREELY,
         b"Done\nledger 3\n0 acquire 0 0\n0 close 0 succeeded\n0 final 0 succeeded ok\na 1 1 succeeded <a\nb\n>\n",
-    )
+    );
 }
 
 #[test]
-fn a_fault_below_is_passed_on(rt: HostRuntime) -> Result<(), Fail> {
+fn a_fault_below_is_passed_on(rt: HostRuntime) {
     let both = boxed(&rt, Node::Append(two_lines(&rt), fault(&rt)));
     shows(
         &rt,
@@ -116,5 +108,5 @@ fn a_fault_below_is_passed_on(rt: HostRuntime) -> Result<(), Fail> {
         &["a"],
         FREELY,
         b"Fault(Raised(9))\nledger 3\n0 acquire 0 0\n0 close 0 errored\n0 final 0 errored ok\na 1 1 errored <a\nb\n>\n",
-    )
+    );
 }

@@ -8,7 +8,6 @@ use crate::uses::Pace;
 use device_port::Act;
 use pull_nodes::{Node, Pipe};
 use std::process::Abort;
-use std::test::Fail;
 
 /// Reads of so many bytes, and as many turns as are wanted.
 fn by(chunk: u32) -> Pace {
@@ -22,62 +21,57 @@ fn node_shows(
     node: Box<Node>,
     pace: Pace,
     want: &[u8],
-) -> Result<(), Fail> {
-    shows(rt, files, Box::into_inner(node), &["a"], pace, want)
+) {
+    shows(rt, files, Box::into_inner(node), &["a"], pace, want);
 }
 
 /// Fails the test unless a pipe is shown so over reads of one byte of these.
-fn bytes_show(
-    rt: &(impl Abort + AllocGlobal),
-    bytes: &[u8],
-    pipe: Pipe,
-    want: &[u8],
-) -> Result<(), Fail> {
+fn bytes_show(rt: &(impl Abort + AllocGlobal), bytes: &[u8], pipe: Pipe, want: &[u8]) {
     let node = through(rt, source(rt, 0), pipe);
-    node_shows(rt, Files::of(bytes), node, by(1), want)
+    node_shows(rt, Files::of(bytes), node, by(1), want);
 }
 
 /// Fails the test unless a pipe is shown so over three lines, of which the first two are equal.
-fn lines_show(rt: &(impl Abort + AllocGlobal), pipe: Pipe, want: &[u8]) -> Result<(), Fail> {
+fn lines_show(rt: &(impl Abort + AllocGlobal), pipe: Pipe, want: &[u8]) {
     let node = through(rt, lines_of(rt, 0), pipe);
-    node_shows(rt, Files::of(b"a\na\nb\n"), node, by(16), want)
+    node_shows(rt, Files::of(b"a\na\nb\n"), node, by(16), want);
 }
 
 #[test]
-fn a_cut_line_end_is_one_line_end(rt: HostRuntime) -> Result<(), Fail> {
+fn a_cut_line_end_is_one_line_end(rt: HostRuntime) {
     node_shows(
         &rt,
         Files::of(b"a\r\nb"),
         lines_of(&rt, 0),
         by(2),
         b"a\n|b\n|Done\nledger 3\n0 acquire 0 0\n0 close 0 succeeded\n0 final 0 succeeded ok\na 1 1 succeeded\n",
-    )
+    );
 }
 
 #[test]
-fn characters_come_whole(rt: HostRuntime) -> Result<(), Fail> {
+fn characters_come_whole(rt: HostRuntime) {
     bytes_show(
         &rt,
         b"\xe2\x82\xac",
         Pipe::Utf8,
         b"\xe2\x82\xac|Done\nledger 3\n0 acquire 0 0\n0 close 0 succeeded\n0 final 0 succeeded ok\na 1 1 succeeded\n",
-    )?;
+    );
     bytes_show(
         &rt,
         b"a\xe2\x82",
         Pipe::Utf8,
         b"a|Fault(Truncated)\nledger 3\n0 acquire 0 0\n0 close 0 errored\n0 final 0 errored ok\na 1 1 errored\n",
-    )?;
+    );
     bytes_show(
         &rt,
         b"a\xff",
         Pipe::Utf8,
         b"a|Fault(Malformed)\nledger 3\n0 acquire 0 0\n0 close 0 errored\n0 final 0 errored ok\na 1 1 errored\n",
-    )
+    );
 }
 
 #[test]
-fn what_is_malformed_is_replaced(rt: HostRuntime) -> Result<(), Fail> {
+fn what_is_malformed_is_replaced(rt: HostRuntime) {
     let mended = through(&rt, source(&rt, 0), Pipe::Lossy);
     node_shows(
         &rt,
@@ -85,24 +79,22 @@ fn what_is_malformed_is_replaced(rt: HostRuntime) -> Result<(), Fail> {
         through(&rt, mended, Pipe::Hex),
         by(1),
         b"61efbfbdefbfbd62\n|Done\nledger 3\n0 acquire 0 0\n0 close 0 succeeded\n0 final 0 succeeded ok\na 1 1 succeeded\n",
-    )
+    );
 }
 
 #[test]
-fn what_is_held_back_is_not_given_at_a_fault(rt: HostRuntime) -> Result<(), Fail> {
+fn what_is_held_back_is_not_given_at_a_fault(rt: HostRuntime) {
     node_shows(
         &rt,
         Files::of(b"ab\ncd").failing(Act::Read, 2),
         lines_of(&rt, 0),
         by(5),
         b"ab\n|Fault(Read)\nledger 3\n0 acquire 0 0\n0 close 0 errored\n0 final 0 errored ok\na 1 1 errored\n",
-    )
+    );
 }
 
 #[test]
-fn a_failed_part_with_a_pipe_is_closed_before_its_handler_runs(
-    rt: HostRuntime,
-) -> Result<(), Fail> {
+fn a_failed_part_with_a_pipe_is_closed_before_its_handler_runs(rt: HostRuntime) {
     let part = scope(&rt, lines_of(&rt, 0));
     node_shows(
         &rt,
@@ -110,7 +102,7 @@ fn a_failed_part_with_a_pipe_is_closed_before_its_handler_runs(
         boxed(&rt, Node::OnFault(part, two_lines(&rt))),
         by(5),
         b"ab\n|a\nb\n|Done\nledger 5\n0 open 1 0\n0 acquire 0 1\n0 close 1 errored\n0 final 0 errored ok\n0 close 0 succeeded\na 1 1 errored\n",
-    )
+    );
 }
 
 /// Takes two lines of a file that has two, where the second read would fail.
@@ -120,20 +112,15 @@ fn taken_lines(rt: &(impl Abort + AllocGlobal)) -> (Files<'static>, Node) {
 }
 
 /// Fails the test unless no read of a device failed.
-fn no_read_fails(
-    rt: &(impl Abort + AllocGlobal),
-    files: Files<'_>,
-    node: Node,
-) -> Result<(), Fail> {
-    let run = run(rt.alloc(), files, node, &["a"], FREELY)?;
+fn no_read_fails(rt: &(impl Abort + AllocGlobal), files: Files<'_>, node: Node) {
+    let run = run(rt.alloc(), files, node, &["a"], FREELY).expect(rt, "a run");
     for spent in run.shelf.into_vec() {
         same(rt, spent.pay.into_device().facts().read_faults, 0);
     }
-    Ok(())
 }
 
 #[test]
-fn a_taker_of_lines_reads_no_further(rt: HostRuntime) -> Result<(), Fail> {
+fn a_taker_of_lines_reads_no_further(rt: HostRuntime) {
     let (files, node) = taken_lines(&rt);
     shows(
         &rt,
@@ -142,13 +129,13 @@ fn a_taker_of_lines_reads_no_further(rt: HostRuntime) -> Result<(), Fail> {
         &["a"],
         FREELY,
         b"a\nb\n|Done\nledger 3\n0 acquire 0 0\n0 close 0 succeeded\n0 final 0 succeeded ok\na 1 1 succeeded\n",
-    )?;
+    );
     let (files, node) = taken_lines(&rt);
-    no_read_fails(&rt, files, node)
+    no_read_fails(&rt, files, node);
 }
 
 #[test]
-fn errors_are_numbered(rt: HostRuntime) -> Result<(), Fail> {
+fn errors_are_numbered(rt: HostRuntime) {
     let valid = through(&rt, source(&rt, 0), Pipe::Utf8);
     let texts = through(&rt, valid, Pipe::Lines);
     let errors = through(&rt, texts, Pipe::Filter(line(&rt, b"ERROR")));
@@ -158,65 +145,65 @@ fn errors_are_numbered(rt: HostRuntime) -> Result<(), Fail> {
         through(&rt, errors, Pipe::Number),
         by(16),
         b"0 ERROR disk\n|1 ERROR net\n|Done\nledger 3\n0 acquire 0 0\n0 close 0 succeeded\n0 final 0 succeeded ok\na 1 1 succeeded\n",
-    )
+    );
 }
 
 #[test]
-fn each_pipe_over_lines(rt: HostRuntime) -> Result<(), Fail> {
+fn each_pipe_over_lines(rt: HostRuntime) {
     lines_show(
         &rt,
         Pipe::Upper,
         b"A\nA\nB\n|Done\nledger 3\n0 acquire 0 0\n0 close 0 succeeded\n0 final 0 succeeded ok\na 1 1 succeeded\n",
-    )?;
+    );
     lines_show(
         &rt,
         Pipe::Drop(2),
         b"b\n|Done\nledger 3\n0 acquire 0 0\n0 close 0 succeeded\n0 final 0 succeeded ok\na 1 1 succeeded\n",
-    )?;
+    );
     lines_show(
         &rt,
         Pipe::Changes,
         b"a\nb\n|Done\nledger 3\n0 acquire 0 0\n0 close 0 succeeded\n0 final 0 succeeded ok\na 1 1 succeeded\n",
-    )
+    );
 }
 
 #[test]
-fn lines_are_counted_and_parted(rt: HostRuntime) -> Result<(), Fail> {
+fn lines_are_counted_and_parted(rt: HostRuntime) {
     lines_show(
         &rt,
         Pipe::Count,
         b"3\n|Done\nledger 3\n0 acquire 0 0\n0 close 0 succeeded\n0 final 0 succeeded ok\na 1 1 succeeded\n",
-    )?;
+    );
     lines_show(
         &rt,
         Pipe::Intersperse(line(&rt, b"-")),
         b"a\n-\na\n-\nb\n|Done\nledger 3\n0 acquire 0 0\n0 close 0 succeeded\n0 final 0 succeeded ok\na 1 1 succeeded\n",
-    )
+    );
 }
 
 #[test]
-fn what_is_held_back_is_not_given_at_a_halt(rt: HostRuntime) -> Result<(), Fail> {
+fn what_is_held_back_is_not_given_at_a_halt(rt: HostRuntime) {
     node_shows(
         &rt,
         Files::of(b"ab\ncd"),
         lines_of(&rt, 0),
         Pace { asks: 1, ..by(5) },
         b"ab\n|Halted\nledger 3\n0 acquire 0 0\n0 close 0 canceled\n0 final 0 canceled ok\na 1 1 canceled\n",
-    )
+    );
 }
 
 #[test]
-fn groups_come_one_by_one(rt: HostRuntime) -> Result<(), Fail> {
+fn groups_come_one_by_one(rt: HostRuntime) {
     lines_show(
         &rt,
         Pipe::ChunkN(0),
         b"a\n|a\n|b\n|Done\nledger 3\n0 acquire 0 0\n0 close 0 succeeded\n0 final 0 succeeded ok\na 1 1 succeeded\n",
-    )?;
+    );
     lines_show(
         &rt,
         Pipe::ChunkN(2),
         b"a\na\n|b\n|Done\nledger 3\n0 acquire 0 0\n0 close 0 succeeded\n0 final 0 succeeded ok\na 1 1 succeeded\n",
-    )?;
+    );
     let groups = through(&rt, lines_of(&rt, 0), Pipe::ChunkN(1));
     node_shows(
         &rt,
@@ -224,5 +211,5 @@ fn groups_come_one_by_one(rt: HostRuntime) -> Result<(), Fail> {
         boxed(&rt, Node::Take(9, groups)),
         by(16),
         b"a\na\nb\n|Done\nledger 3\n0 acquire 0 0\n0 close 0 succeeded\n0 final 0 succeeded ok\na 1 1 succeeded\n",
-    )
+    );
 }

@@ -25,7 +25,25 @@ use row_seat::PlainSeat;
 use scope_tree::Room;
 use std::alloc::{AllocError, Global};
 use std::process::Abort;
-use std::test::Fail;
+
+/// Why a node wasn't run.
+#[derive(Clone, Copy, Debug)]
+pub(crate) enum NoRun {
+    Refused(&'static str),
+    Memory,
+}
+
+impl From<&'static str> for NoRun {
+    fn from(why: &'static str) -> NoRun {
+        NoRun::Refused(why)
+    }
+}
+
+impl From<AllocError> for NoRun {
+    fn from(_error: AllocError) -> NoRun {
+        NoRun::Memory
+    }
+}
 
 /// Reads of four bytes, and as many turns as are wanted.
 pub(crate) const FREELY: Pace = Pace {
@@ -144,7 +162,7 @@ fn run_on(
     devices: List<Narrow>,
     tables: Dicts,
     pace: Pace,
-) -> Result<Alone<Narrow>, Fail>
+) -> Result<Alone<Narrow>, NoRun>
     requires few { node_count node < 2 ^ 16 }
     requires count { length devices < 2 ^ 16 }
     requires unused { (d : Narrow) → IsAmong d devices → IsUnused (record_told d.device.facts) }
@@ -188,7 +206,7 @@ pub(crate) fn run_over(
     node: Node,
     paths: &[&str],
     pace: Pace,
-) -> Result<Alone<Narrow>, Fail> {
+) -> Result<Alone<Narrow>, NoRun> {
     can_run(&node, paths, pace)?;
     let devices = devices_in(alloc, files, &node, paths)?;
     run_on(alloc, node, devices, tables, pace)
@@ -201,7 +219,7 @@ pub(crate) fn run(
     node: Node,
     paths: &[&str],
     pace: Pace,
-) -> Result<Alone<Narrow>, Fail> {
+) -> Result<Alone<Narrow>, NoRun> {
     run_over(alloc, files, Dicts::new(alloc), node, paths, pace)
 }
 
@@ -213,7 +231,7 @@ pub(crate) fn shows(
     paths: &[&str],
     pace: Pace,
     want: &[u8],
-) -> Result<(), Fail> {
-    let run = run(rt.alloc(), files, node, paths, pace)?;
-    is_shown(rt, run, want)
+) {
+    let run = run(rt.alloc(), files, node, paths, pace).expect(rt, "a run");
+    is_shown(rt, run, want);
 }

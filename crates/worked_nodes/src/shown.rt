@@ -9,7 +9,6 @@ use res_ledger::{Ledger, text};
 use scope_tree::Spent;
 use std::alloc::{AllocError, Global};
 use std::process::Abort;
-use std::test::Fail;
 
 /// The path of a device, how often it was opened and closed, the exit that it was closed with, and
 /// what was written to it.
@@ -70,12 +69,7 @@ fn shown(alloc: Global, run: Alone<Narrow>) -> Result<Vec<u8>, AllocError> {
 }
 
 /// Fails the test unless the run is shown so.
-pub(crate) fn is_shown(
-    rt: &(impl Abort + AllocGlobal),
-    run: Alone<Narrow>,
-    want: &[u8],
-) -> Result<(), Fail> {
-    let shown = shown(rt.alloc(), run)?;
+pub(crate) fn is_shown(rt: &(impl Abort + AllocGlobal), run: Alone<Narrow>, want: &[u8]) {
+    let shown = shown(rt.alloc(), run).expect(rt, "memory");
     same(rt, shown.as_slice(), want);
-    Ok(())
 }

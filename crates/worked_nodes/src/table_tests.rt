@@ -4,12 +4,11 @@ use crate::parts::{source, through};
 use crate::runs::{FREELY, run_over};
 use crate::shown::is_shown;
 use crate::uses::Pace;
-use csv_pipes::{Dict, Dicts, TableRefused, table_of};
+use csv_pipes::{Dicts, TableRefused, table_of};
 use device_port::Act;
 use pull_nodes::{Node, Pipe};
-use std::alloc::{AllocError, Global};
+use std::alloc::Global;
 use std::process::Abort;
-use std::test::Fail;
 
 /// Reads of one byte, halted after the first elements that might have come.
 const FEW: Pace = Pace {
@@ -18,20 +17,11 @@ const FEW: Pace = Pace {
     turns: 8,
 };
 
-/// The dictionary of a text that is a table.
-fn dict_of(alloc: Global, text: &[u8]) -> Result<Dict, Fail> {
-    match table_of(alloc, text) {
-        Ok(dict) => Ok(dict),
-        Err(TableRefused::Memory) => Err(AllocError.into()),
-        Err(TableRefused::Data(_)) => Err("a table is refused".into()),
-    }
-}
-
 /// The dictionaries of two tables.
-fn two_tables(alloc: Global) -> Result<Dicts, Fail> {
+fn two_tables(alloc: Global) -> Result<Dicts, TableRefused> {
     let mut tables = Dicts::new(alloc);
-    tables.push(alloc, dict_of(alloc, b"k,v\n")?)?;
-    tables.push(alloc, dict_of(alloc, b"k,w\nz,y\n")?)?;
+    tables.push(alloc, table_of(alloc, b"k,v\n")?)?;
+    tables.push(alloc, table_of(alloc, b"k,w\nz,y\n")?)?;
     Ok(tables)
 }
 
@@ -42,16 +32,16 @@ fn rows_show(
     pipe: Pipe,
     pace: Pace,
     want: &[u8],
-) -> Result<(), Fail> {
-    let tables = two_tables(rt.alloc())?;
+) {
+    let tables = two_tables(rt.alloc()).expect(rt, "two tables");
     let rows = through(rt, source(rt, 0), Pipe::Csv);
     let node = Node::Through(rows, pipe);
-    let run = run_over(rt.alloc(), files, tables, node, &["a"], pace)?;
-    is_shown(rt, run, want)
+    let run = run_over(rt.alloc(), files, tables, node, &["a"], pace).expect(rt, "a run");
+    is_shown(rt, run, want);
 }
 
 #[test]
-fn each_table_has_values_of_its_own(rt: HostRuntime) -> Result<(), Fail> {
+fn each_table_has_values_of_its_own(rt: HostRuntime) {
     let keys = Files::of(b"k\nz\n");
     rows_show(
         &rt,
@@ -59,25 +49,25 @@ fn each_table_has_values_of_its_own(rt: HostRuntime) -> Result<(), Fail> {
         Pipe::Lookup(0, 0),
         FREELY,
         b"k,v\nz,\n|Done\nledger 3\n0 acquire 0 0\n0 close 0 succeeded\n0 final 0 succeeded ok\na 1 1 succeeded\n",
-    )?;
+    );
     rows_show(
         &rt,
         keys,
         Pipe::Lookup(1, 0),
         FREELY,
         b"k,w\nz,y\n|Done\nledger 3\n0 acquire 0 0\n0 close 0 succeeded\n0 final 0 succeeded ok\na 1 1 succeeded\n",
-    )?;
+    );
     rows_show(
         &rt,
         keys,
         Pipe::Lookup(2, 0),
         FREELY,
         b"k,\nz,\n|Done\nledger 3\n0 acquire 0 0\n0 close 0 succeeded\n0 final 0 succeeded ok\na 1 1 succeeded\n",
-    )
+    );
 }
 
 #[test]
-fn a_row_without_the_field_is_the_end(rt: HostRuntime) -> Result<(), Fail> {
+fn a_row_without_the_field_is_the_end(rt: HostRuntime) {
     let rows = Files::of(b"k,a\nz,b\n");
     rows_show(
         &rt,
@@ -85,29 +75,29 @@ fn a_row_without_the_field_is_the_end(rt: HostRuntime) -> Result<(), Fail> {
         Pipe::Field(1),
         FREELY,
         b"a\nb\n|Done\nledger 3\n0 acquire 0 0\n0 close 0 succeeded\n0 final 0 succeeded ok\na 1 1 succeeded\n",
-    )?;
+    );
     rows_show(
         &rt,
         rows,
         Pipe::Lookup(0, 2),
         FREELY,
         b"Fault(NoField)\nledger 3\n0 acquire 0 0\n0 close 0 errored\n0 final 0 errored ok\na 1 1 errored\n",
-    )
+    );
 }
 
 #[test]
-fn rows_before_an_uneven_one_go_through_the_pipe_above(rt: HostRuntime) -> Result<(), Fail> {
+fn rows_before_an_uneven_one_go_through_the_pipe_above(rt: HostRuntime) {
     rows_show(
         &rt,
         Files::of(b"k,a\nz\n"),
         Pipe::Field(0),
         FREELY,
         b"k\n|Fault(Uneven)\nledger 3\n0 acquire 0 0\n0 close 0 errored\n0 final 0 errored ok\na 1 1 errored\n",
-    )
+    );
 }
 
 #[test]
-fn what_is_gathered_is_not_given_before_the_end(rt: HostRuntime) -> Result<(), Fail> {
+fn what_is_gathered_is_not_given_before_the_end(rt: HostRuntime) {
     let rows = Files::of(b"k\nz\nz\n");
     rows_show(
         &rt,
@@ -115,12 +105,12 @@ fn what_is_gathered_is_not_given_before_the_end(rt: HostRuntime) -> Result<(), F
         Pipe::Field(0),
         FREELY,
         b"Fault(Read)\nledger 3\n0 acquire 0 0\n0 close 0 errored\n0 final 0 errored ok\na 1 1 errored\n",
-    )?;
+    );
     rows_show(
         &rt,
         rows,
         Pipe::Field(0),
         FEW,
         b"Halted\nledger 3\n0 acquire 0 0\n0 close 0 canceled\n0 final 0 canceled ok\na 1 1 canceled\n",
-    )
+    );
 }
