@@ -1,6 +1,6 @@
-//! Tests, by public calls alone, of trees of scopes, of the main tree of a run with the tables that its
-//! outer stream reads, and of what a collector reports. They stand above the crates that they test, so
-//! that none of these is proved twice for its tests.
+//! Tests, by public calls alone, of trees of scopes over plain and shared seats, of the main tree of a
+//! run with the tables that its outer stream reads, and of what a collector reports. They stand above
+//! the crates that they test, so that none of these is proved twice for its tests.
 #![tactic(auto)]
 
 #[cfg(test)]
@@ -17,5 +17,7 @@ mod main_tree;
 mod reports;
 #[cfg(test)]
 mod scripts;
+#[cfg(test)]
+mod shared;
 #[cfg(test)]
 mod tables;
