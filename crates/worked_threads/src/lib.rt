@@ -1,5 +1,6 @@
-//! Tests, by public calls alone, of what threads share: boards of interruption, and channels. They
-//! stand above the crates that they test, so that none of these is proved twice for its tests.
+//! Tests, by public calls alone, of what threads share: boards of interruption, channels, and tables
+//! of rows with a seat for each thread. They stand above the crates that they test, so that none of
+//! these is proved twice for its tests.
 #![tactic(auto)]
 
 #[cfg(test)]
@@ -8,3 +9,5 @@ mod asserts;
 mod boards;
 #[cfg(test)]
 mod channels;
+#[cfg(test)]
+mod seats;
