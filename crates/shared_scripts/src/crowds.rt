@@ -9,14 +9,12 @@ ghost use Rattle.shared_scripts.specs.Guests.{ComesHome, EarlierFit, IsHosting, 
 use crate::hosting::{COMMON, ROWS, STREAMS, lend, open_common, shut_common};
 use crate::races::Bell;
 use crate::staying::stay;
-use res_ledger::{Ledger, StreamNo, What};
+use res_ledger::{Ledger, StreamNo};
 use row_seat::RowSeat;
 use row_shared::{SharedSeat, TableRef};
 use std::alloc::{AllocError, Global};
 use std::sync::Arc;
 use std::sync::atomic::AtomicU64;
-use std::sync::atomic::Ordering::SeqCst;
-use std::test::Fail;
 use std::thread::{Threads, join};
 
 /// How often each payload was finalized.
@@ -160,53 +158,4 @@ pub fn crowd<R: Threads + Sync>(rt: &R, alloc: Global) -> Result<(Ledger, Counts
     let (host, counts) = crew(rt, alloc, Host { seat, desk }, 1, counts)?;
     let Host { seat, mut desk } = host;
     Ok((seat.finish(&mut desk), counts))
-}
-
-// How many events of the ledger are the Final of this row.
-#[cfg(test)]
-fn finals_of(ledger: &Ledger, wanted: u32) -> usize {
-    ledger
-        .as_slice()
-        .iter()
-        .filter(|event| matches!(event.what, What::Final { row, .. } if row == wanted))
-        .count()
-}
-
-// Where the last lease was cancelled.
-#[cfg(test)]
-fn last_cancel(ledger: &Ledger) -> Option<u64> {
-    ledger
-        .as_slice()
-        .iter()
-        .filter(|event| matches!(event.what, What::Cancel { .. }))
-        .map(|event| event.stamp)
-        .max()
-}
-
-// Where the first of the leased rows ended.
-#[cfg(test)]
-fn first_common_final(ledger: &Ledger) -> Option<u64> {
-    ledger
-        .as_slice()
-        .iter()
-        .filter(|event| matches!(event.what, What::Final { row, .. } if row < COMMON))
-        .map(|event| event.stamp)
-        .min()
-}
-
-#[test]
-fn eight_threads_end_their_rows_and_those_they_share(rt: HostRuntime) -> Result<(), Fail> {
-    for _ in 0..200 {
-        let (ledger, counts) = crowd(&rt, rt.alloc())?;
-        assert_eq!(rt; counts.len(), 520);
-        assert!(rt; counts.iter().all(|rings| rings.load(SeqCst) == 1));
-        assert_eq!(rt; ledger.len(), 2096);
-        for row in 0..520 {
-            assert_eq!(rt; finals_of(&ledger, row), 1);
-        }
-        let cancel = last_cancel(&ledger).ok_or("no lease was cancelled")?;
-        let end = first_common_final(&ledger).ok_or("no leased row ended")?;
-        assert!(rt; cancel < end);
-    }
-    Ok(())
 }

@@ -13,7 +13,6 @@ use res_ledger::{Ledger, StreamNo, What};
 use row_seat::RowSeat;
 use row_shared::{SharedSeat, TableRef};
 use std::alloc::{AllocError, Global};
-use std::test::Fail;
 use std::thread::{Threads, join};
 
 /// Notes the scopes 1 to `count`.
@@ -93,23 +92,4 @@ pub fn both_note<R: Threads + Sync>(rt: &R, alloc: Global, count: u32) -> Result
     seat.join(&mut desk, one);
     seat.join(&mut desk, two);
     Ok(seat.finish(&mut desk))
-}
-
-#[test]
-fn two_threads_note_a_thousand_scopes_each(rt: HostRuntime) -> Result<(), Fail> {
-    let ledger = both_note(&rt, rt.alloc(), 1000)?;
-    assert_eq!(rt; ledger.len(), 2000);
-    for (i, event) in ledger.as_slice().iter().enumerate() {
-        assert!(rt; event.stamp == i as u64);
-    }
-    for stream in 1..3 {
-        let by = StreamNo::Inner(stream);
-        let noted = ledger
-            .as_slice()
-            .iter()
-            .filter(|event| event.by == by)
-            .count();
-        assert_eq!(rt; noted, 1000);
-    }
-    Ok(())
 }

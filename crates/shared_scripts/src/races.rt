@@ -16,7 +16,6 @@ use std::alloc::{AllocError, Global};
 use std::sync::Arc;
 use std::sync::atomic::AtomicU64;
 use std::sync::atomic::Ordering::SeqCst;
-use std::test::Fail;
 use std::thread::{Threads, join};
 
 /// Takes the payload of a row that was handed to the seat, finalizes it, and notes how that ended.
@@ -251,19 +250,4 @@ pub fn race<R: Threads + Sync>(
     };
     let ledger = finish_both(owner, &mut desk, lessee);
     Ok((ledger, rings.load(SeqCst)))
-}
-
-#[test]
-fn one_of_closer_and_leaver_finalizes(rt: HostRuntime) -> Result<(), Fail> {
-    for turn in 0..1000 {
-        let (ledger, rings) = race(&rt, rt.alloc(), turn % 2 == 0)?;
-        assert_eq!(rt; rings, 1);
-        let finals = ledger
-            .as_slice()
-            .iter()
-            .filter(|event| matches!(event.what, What::Final { row: 0, .. }))
-            .count();
-        assert_eq!(rt; finals, 1);
-    }
-    Ok(())
 }
