@@ -1,9 +1,11 @@
 //! The ledger beside the closes of the devices.
+use crate::asserts::same_at;
 use chunk_core::{Exit, List, Word};
 use device_port::{Act, Depot, Device, Failed, MemDepot, MemSource, Mode, OpenGate};
 use flume_cli::{Report, Status, flume};
 use res_ledger::{Ledger, What};
 use std::alloc::{AllocError, Global};
+use std::process::Abort;
 use std::sync::atomic::AtomicU64;
 use std::sync::atomic::Ordering::SeqCst;
 use std::sync::{Arc, Wait};
@@ -99,24 +101,39 @@ impl<D: Depot> Depot for WatchedDepot<D> {
     }
 }
 
+/// A depot of the files of the case, of which nothing is closed yet.
+fn fresh_depot(alloc: Global, case: &Case) -> Result<WatchedDepot<MemDepot>, AllocError> {
+    Ok(WatchedDepot {
+        depot: depot_of(alloc, case)?,
+        count: Arc::new(alloc, AtomicU64::new(0))?,
+        closings: Vec::new(alloc),
+    })
+}
+
+/// Runs the description over the depot.
+fn report_of<R: Threads + Wait + Sync>(
+    rt: &R,
+    alloc: Global,
+    description: &[u8],
+    depot: &mut WatchedDepot<MemDepot>,
+) -> Result<Report, AllocError> {
+    let words = vec![in alloc; Word::of(alloc, "run")?]?;
+    let mut src = MemSource::new(alloc, description, List::new(alloc))?;
+    let mut out = sink_of(alloc, &[])?;
+    let mut err = sink_of(alloc, &[])?;
+    Ok(flume(
+        rt, alloc, &words, &mut src, depot, &mut out, &mut err, &OpenGate,
+    ))
+}
+
 /// Runs the case over a depot whose devices are watched. Its closes are in the order of the calls.
 fn watch<R: Threads + Wait + Sync>(
     rt: &R,
     alloc: Global,
     case: &Case,
 ) -> Result<(Report, WatchedDepot<MemDepot>), AllocError> {
-    let words = vec![in alloc; Word::of(alloc, "run")?]?;
-    let mut src = MemSource::new(alloc, case.source, List::new(alloc))?;
-    let mut depot = WatchedDepot {
-        depot: depot_of(alloc, case)?,
-        count: Arc::new(alloc, AtomicU64::new(0))?,
-        closings: Vec::new(alloc),
-    };
-    let mut out = sink_of(alloc, &[])?;
-    let mut err = sink_of(alloc, &[])?;
-    let report = flume(
-        rt, alloc, &words, &mut src, &mut depot, &mut out, &mut err, &OpenGate,
-    );
+    let mut depot = fresh_depot(alloc, case)?;
+    let report = report_of(rt, alloc, case.source, &mut depot)?;
     depot.closings.sort_unstable_by_key(|closing| closing.turn);
     Ok((report, depot))
 }
@@ -156,16 +173,13 @@ const STREAMS: &str = "chunk = 1\n\
     [[stream]]\npath = 'b'\nsteps = ['csv', 'lookup t 0', 'lookup u 0']\n\
     [[stream]]\npath = 'c'\nsteps = ['csv', 'lookup t 0', 'lookup u 0']\n";
 
-/// Whether a run of the streams, of which the last has the shortest file, ends with this status, its
-/// devices are closed so, and the Finals of its ledger tell the same.
-fn closes_as<R: Threads + Wait + Sync>(
+/// Runs the streams, of which so many may be open, and the last has the shortest file.
+fn watch_streams<R: Threads + Wait + Sync>(
     rt: &R,
     alloc: Global,
     max_open: &str,
     trips: &[(&str, Act, u32)],
-    status: Status,
-    closes: &str,
-) -> Result<bool, AllocError> {
+) -> Result<(Report, WatchedDepot<MemDepot>), AllocError> {
     let text = format!(in alloc; "max_open = {max_open}\n{STREAMS}")?;
     let case = Case {
         others: &[
@@ -177,54 +191,48 @@ fn closes_as<R: Threads + Wait + Sync>(
         other_trips: trips,
         ..run_of(text.as_str(), b"k\nz\nz\n")
     };
-    let (report, depot) = watch(rt, alloc, &case)?;
+    watch(rt, alloc, &case)
+}
+
+/// Fails the test unless a run of the streams ends with this status, its devices are closed so, and
+/// the Finals of its ledger tell the same.
+fn closes_as<R: Abort + Threads + Wait + Sync>(
+    rt: &R,
+    alloc: Global,
+    max_open: &str,
+    trips: &[(&str, Act, u32)],
+    status: Status,
+    closes: &str,
+) -> Result<(), AllocError> {
+    let (report, depot) = watch_streams(rt, alloc, max_open, trips)?;
+    same_at(rt, report.status, status, &max_open);
     let made = closes_of(alloc, &depot)?;
+    same_at(rt, made.as_str(), closes, &max_open);
     let told = finals_of(alloc, &report.ledger)?;
-    Ok(report.status == status && made.as_str() == closes && told.as_str() == closes)
+    same_at(rt, told.as_str(), closes, &max_open);
+    Ok(())
 }
 
 /// The Finals of the ledger tell each close of a device with its exit, in the order of the calls,
 /// whether the streams run one by one or side by side.
 #[test]
 fn finals_are_the_closes(rt: HostRuntime) -> Result<(), Fail> {
-    let table = [
-        (
-            "1",
-            "a succeeded\nb succeeded\nc succeeded\nu.csv succeeded\nt.csv succeeded\n",
-        ),
-        (
-            "64",
-            "c succeeded\nb succeeded\na succeeded\nu.csv succeeded\nt.csv succeeded\n",
-        ),
-    ];
-    for (max_open, closes) in table {
-        assert!(rt;
-            closes_as(&rt, rt.alloc(), max_open, &[], Status::Good, closes)?,
-            "at {max_open}"
-        );
-    }
+    let alloc = rt.alloc();
+    let one = "a succeeded\nb succeeded\nc succeeded\nu.csv succeeded\nt.csv succeeded\n";
+    closes_as(&rt, alloc, "1", &[], Status::Good, one)?;
+    let all = "c succeeded\nb succeeded\na succeeded\nu.csv succeeded\nt.csv succeeded\n";
+    closes_as(&rt, alloc, "64", &[], Status::Good, all)?;
     Ok(())
 }
 
 /// The same where a read of the second stream fails, which halts the others.
 #[test]
 fn finals_are_the_closes_behind_a_fault(rt: HostRuntime) -> Result<(), Fail> {
+    let alloc = rt.alloc();
     let trips = [("b", Act::Read, 2)];
-    let table = [
-        (
-            "1",
-            "a succeeded\nb errored\nu.csv canceled\nt.csv canceled\n",
-        ),
-        (
-            "64",
-            "b errored\nc canceled\na canceled\nu.csv canceled\nt.csv canceled\n",
-        ),
-    ];
-    for (max_open, closes) in table {
-        assert!(rt;
-            closes_as(&rt, rt.alloc(), max_open, &trips, Status::Faulty, closes)?,
-            "at {max_open}"
-        );
-    }
+    let one = "a succeeded\nb errored\nu.csv canceled\nt.csv canceled\n";
+    closes_as(&rt, alloc, "1", &trips, Status::Faulty, one)?;
+    let all = "b errored\nc canceled\na canceled\nu.csv canceled\nt.csv canceled\n";
+    closes_as(&rt, alloc, "64", &trips, Status::Faulty, all)?;
     Ok(())
 }

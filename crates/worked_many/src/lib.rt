@@ -3,11 +3,15 @@
 #![tactic(auto)]
 
 #[cfg(test)]
+mod asserts;
+#[cfg(test)]
 mod closes;
 #[cfg(test)]
 mod crowd;
 #[cfg(test)]
 mod generated;
+#[cfg(test)]
+mod reports;
 #[cfg(test)]
 mod side_by_side;
 #[cfg(test)]
