@@ -2,9 +2,13 @@
 #![tactic(auto)]
 
 #[cfg(test)]
+mod asserts;
+#[cfg(test)]
 mod faults;
 #[cfg(test)]
 mod outputs;
+#[cfg(test)]
+mod runs;
 #[cfg(test)]
 mod sides;
 #[cfg(test)]

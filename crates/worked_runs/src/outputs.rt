@@ -1,28 +1,96 @@
 //! Runs of streams whose output is written to a file.
+use crate::asserts::{holds_at, same_at};
+use crate::runs::{Row, Wanted, at_fault, good, is_not_written};
 use device_port::Act;
 use flume_cli::Status;
+use std::alloc::{AllocError, Global};
+use std::fmt::Debug;
+use std::process::Abort;
+use std::sync::Wait;
 use std::test::Fail;
-use worked_calls::outside::{Case, run, run_of};
+use std::thread::Threads;
+use worked_calls::outside::{Case, Seen, run, run_of};
 
 /// The tail of a run whose one stream was written to a file.
 const WRITTEN: &str = "end outer done\nend 0 done\nledger 8\n\
     outer lease 0 0\nouter close 0 succeeded\n0 acquire 0 0\n0 acquire 1 0\n\
     0 close 0 succeeded\n0 final 1 succeeded ok\n0 final 0 succeeded ok\n0 cancel 0 succeeded\n";
 
+/// One stream from the file `a` to the file `b`.
+const COPYING: &str = "[[stream]]\npath = 'a'\nto = 'b'\n";
+
 /// The tail of a run whose one stream failed when its source and its file to write were open.
-fn faulty_beside_a_file(rt: &HostRuntime, fault: &str) -> Result<String, Fail> {
-    Ok(format!(in rt.alloc();
+fn faulty_beside_a_file(alloc: Global, fault: &str) -> Result<String, AllocError> {
+    format!(in alloc;
         "end outer done\nend 0 fault {fault}\nledger 8\n\
         outer lease 0 0\nouter close 0 succeeded\n0 acquire 0 0\n0 acquire 1 0\n\
         0 close 0 errored\n0 final 1 errored ok\n0 final 0 errored ok\n0 cancel 0 errored\n"
-    )?)
+    )
+}
+
+/// Fails the test unless this was left, and tells the place.
+fn is_left(
+    rt: &impl Abort,
+    alloc: Global,
+    seen: &Seen,
+    wanted: Wanted<'_>,
+    place: &impl Debug,
+) -> Result<(), AllocError> {
+    let is_whole = seen.is_whole(alloc, wanted.status, wanted.frames, wanted.tail)?;
+    holds_at(rt, is_whole, place);
+    Ok(())
+}
+
+/// Fails the test unless the case leaves this, these bytes in the file `b`, and the file `a` as it
+/// was.
+fn writes(
+    rt: &(impl Abort + Threads + Wait + Sync),
+    alloc: Global,
+    case: &Case,
+    wanted: Wanted<'_>,
+    written: Option<&[u8]>,
+    place: &impl Debug,
+) -> Result<(), AllocError> {
+    let seen = run(rt, alloc, case)?;
+    same_at(rt, seen.depot.file("b"), written, place);
+    same_at(rt, seen.depot.file("a"), Some(case.file), place);
+    is_left(rt, alloc, &seen, wanted, place)
+}
+
+/// Fails the test unless a stream with the row's keys writes this of its file, whatever was there.
+fn row_writes(
+    rt: &(impl Abort + Threads + Wait + Sync),
+    alloc: Global,
+    row: &Row<'_>,
+) -> Result<(), AllocError> {
+    let (keys, file, written) = *row;
+    let text = format!(in alloc; "{COPYING}{keys}")?;
+    let case = run_of(text.as_str(), file);
+    let over_another = Case {
+        others: &[("b", b"older and longer")],
+        ..case
+    };
+    let wanted = good(b"", WRITTEN);
+    writes(rt, alloc, &case, wanted, Some(written), &keys)?;
+    writes(rt, alloc, &over_another, wanted, Some(written), &keys)
+}
+
+fn each_writes(
+    rt: &(impl Abort + Threads + Wait + Sync),
+    alloc: Global,
+    rows: &[Row<'_>],
+) -> Result<(), AllocError> {
+    for row in rows {
+        row_writes(rt, alloc, row)?;
+    }
+    Ok(())
 }
 
 /// The file holds what the stream gives and nothing else, whatever it held before; nothing is
 /// printed.
 #[test]
 fn output_is_written_to_a_file(rt: HostRuntime) -> Result<(), Fail> {
-    let table: [(&str, &[u8], &[u8]); 6] = [
+    const ROWS: &[Row<'static>] = &[
         ("", b"hello\n", b"hello\n"),
         ("", b"", b""),
         ("steps = ['lines', 'number']\n", b"a\nb", b"0 a\n1 b\n"),
@@ -34,25 +102,7 @@ fn output_is_written_to_a_file(rt: HostRuntime) -> Result<(), Fail> {
         ("steps = ['lines', 'chunk 1']\n", b"a\nb\nc\n", b"a\nb\nc\n"),
         ("steps = ['take 0']\n", b"hello\n", b""),
     ];
-    for (keys, file, written) in table {
-        for others in [
-            [].as_slice(),
-            [("b", b"older and longer".as_slice())].as_slice(),
-        ] {
-            let text = format!(in rt.alloc(); "[[stream]]\npath = 'a'\nto = 'b'\n{keys}")?;
-            let case = Case {
-                others,
-                ..run_of(text.as_str(), file)
-            };
-            let seen = run(&rt, rt.alloc(), &case)?;
-            assert!(rt;
-                seen.is_whole(rt.alloc(), Status::Good, b"", WRITTEN)?,
-                "at {text:?}"
-            );
-            assert_eq!(rt; seen.depot.file("b"), Some(written));
-            assert_eq!(rt; seen.depot.file("a"), Some(file));
-        }
-    }
+    each_writes(&rt, rt.alloc(), ROWS)?;
     Ok(())
 }
 
@@ -60,25 +110,22 @@ fn output_is_written_to_a_file(rt: HostRuntime) -> Result<(), Fail> {
 #[test]
 fn limit_of_frames_is_no_limit_of_a_file(rt: HostRuntime) -> Result<(), Fail> {
     let text = "take = 1\nchunk = 1\n[[stream]]\npath = 'a'\nto = 'b'\n";
-    let seen = run(&rt, rt.alloc(), &run_of(text, b"hello\n"))?;
-    assert!(rt; seen.is_whole(rt.alloc(), Status::Good, b"", WRITTEN)?);
-    assert_eq!(rt; seen.depot.file("b"), Some(b"hello\n".as_slice()));
+    let case = run_of(text, b"hello\n");
+    let wanted = good(b"", WRITTEN);
+    writes(&rt, rt.alloc(), &case, wanted, Some(b"hello\n"), &text)?;
     Ok(())
 }
 
 /// The file is opened first: where it can't be, the source isn't touched.
 #[test]
 fn file_that_cannot_be_made(rt: HostRuntime) -> Result<(), Fail> {
-    let text = "[[stream]]\npath = 'a'\nto = 'b'\n";
     let tail = "end outer done\nend 0 fault open\nledger 4\n\
         outer lease 0 0\nouter close 0 succeeded\n0 close 0 errored\n0 cancel 0 errored\n";
     let case = Case {
         other_trips: &[("b", Act::Open, 1)],
-        ..run_of(text, b"hello\n")
+        ..run_of(COPYING, b"hello\n")
     };
-    let seen = run(&rt, rt.alloc(), &case)?;
-    assert!(rt; seen.is_whole(rt.alloc(), Status::Faulty, b"", tail)?);
-    assert_eq!(rt; seen.depot.file("b"), None);
+    writes(&rt, rt.alloc(), &case, at_fault(b"", tail), None, &COPYING)?;
     Ok(())
 }
 
@@ -93,74 +140,81 @@ fn source_that_is_not_there(rt: HostRuntime) -> Result<(), Fail> {
         others: &[("b", b"older")],
         ..run_of(text, b"hello\n")
     };
-    let seen = run(&rt, rt.alloc(), &case)?;
-    assert!(rt; seen.is_whole(rt.alloc(), Status::Faulty, b"", tail)?);
-    assert_eq!(rt; seen.depot.file("b"), Some(b"".as_slice()));
+    writes(
+        &rt,
+        rt.alloc(),
+        &case,
+        at_fault(b"", tail),
+        Some(b""),
+        &text,
+    )?;
     Ok(())
+}
+
+/// Fails the test unless this call fails with this fault, when this was written.
+fn fails_beside_a_file(
+    rt: &(impl Abort + Threads + Wait + Sync),
+    alloc: Global,
+    trip: (&str, Act, u32),
+    fault: &str,
+    written: &[u8],
+) -> Result<(), AllocError> {
+    let tail = faulty_beside_a_file(alloc, fault)?;
+    let case = Case {
+        other_trips: &[trip],
+        ..run_of(
+            "chunk = 3\n[[stream]]\npath = 'a'\nsteps = ['lines']\nto = 'b'\n",
+            b"ab\ncd\n",
+        )
+    };
+    let wanted = at_fault(b"", tail.as_str());
+    writes(rt, alloc, &case, wanted, Some(written), &trip)
 }
 
 /// A call on the file or on the source fails: the file keeps what was written before.
 #[test]
 fn calls_fail_beside_a_file(rt: HostRuntime) -> Result<(), Fail> {
-    let table: [(&str, Act, u32, &str, &[u8]); 4] = [
-        ("b", Act::Write, 1, "write", b""),
-        ("b", Act::Write, 2, "write", b"ab\n"),
-        ("a", Act::Read, 1, "read", b""),
-        ("a", Act::Read, 2, "read", b"ab\n"),
-    ];
-    for (path, act, nth, fault, written) in table {
-        let case = Case {
-            other_trips: &[(path, act, nth)],
-            ..run_of(
-                "chunk = 3\n[[stream]]\npath = 'a'\nsteps = ['lines']\nto = 'b'\n",
-                b"ab\ncd\n",
-            )
-        };
-        let tail = faulty_beside_a_file(&rt, fault)?;
-        let seen = run(&rt, rt.alloc(), &case)?;
-        assert!(rt;
-            seen.is_whole(rt.alloc(), Status::Faulty, b"", tail.as_str())?,
-            "at {path} {act:?} {nth}"
-        );
-        assert_eq!(rt; seen.depot.file("b"), Some(written));
-    }
+    let alloc = rt.alloc();
+    fails_beside_a_file(&rt, alloc, ("b", Act::Write, 1), "write", b"")?;
+    fails_beside_a_file(&rt, alloc, ("b", Act::Write, 2), "write", b"ab\n")?;
+    fails_beside_a_file(&rt, alloc, ("a", Act::Read, 1), "read", b"")?;
+    fails_beside_a_file(&rt, alloc, ("a", Act::Read, 2), "read", b"ab\n")?;
     Ok(())
 }
 
 /// A close that fails is told, though the file has all that was written.
 #[test]
 fn failed_close_of_a_file(rt: HostRuntime) -> Result<(), Fail> {
-    let tail = "end outer done\nend 0 done\nledger 8\n\
-        outer lease 0 0\nouter close 0 succeeded\n0 acquire 0 0\n0 acquire 1 0\n\
-        0 close 0 succeeded\n0 final 1 succeeded ok\n0 final 0 succeeded fault\n\
-        0 cancel 0 succeeded\n";
+    let wanted = Wanted {
+        status: Status::Unclean,
+        frames: b"",
+        tail: "end outer done\nend 0 done\nledger 8\n\
+            outer lease 0 0\nouter close 0 succeeded\n0 acquire 0 0\n0 acquire 1 0\n\
+            0 close 0 succeeded\n0 final 1 succeeded ok\n0 final 0 succeeded fault\n\
+            0 cancel 0 succeeded\n",
+    };
     let case = Case {
         other_trips: &[("b", Act::Close, 1)],
-        ..run_of("[[stream]]\npath = 'a'\nto = 'b'\n", b"hello\n")
+        ..run_of(COPYING, b"hello\n")
     };
-    let seen = run(&rt, rt.alloc(), &case)?;
-    assert!(rt; seen.is_whole(rt.alloc(), Status::Unclean, b"", tail)?);
-    assert_eq!(rt; seen.depot.file("b"), Some(b"hello\n".as_slice()));
+    writes(&rt, rt.alloc(), &case, wanted, Some(b"hello\n"), &COPYING)?;
     Ok(())
 }
 
 /// The text that stands in for a fault is written behind what came before it.
 #[test]
 fn text_stands_in_within_a_file(rt: HostRuntime) -> Result<(), Fail> {
+    let text = "[[stream]]\npath = 'a'\nsteps = ['lines']\non_fault = 'lost'\nto = 'b'\n";
     let tail = "end outer done\nend 0 done\nledger 10\n\
         outer lease 0 0\nouter close 0 succeeded\n0 acquire 0 0\n0 open 1 0\n0 acquire 1 1\n\
         0 close 1 errored\n0 final 1 errored ok\n0 close 0 succeeded\n0 final 0 succeeded ok\n\
         0 cancel 0 succeeded\n";
     let case = Case {
         trips: &[(Act::Read, 2)],
-        ..run_of(
-            "[[stream]]\npath = 'a'\nsteps = ['lines']\non_fault = 'lost'\nto = 'b'\n",
-            b"ab\ncd",
-        )
+        ..run_of(text, b"ab\ncd")
     };
-    let seen = run(&rt, rt.alloc(), &case)?;
-    assert!(rt; seen.is_whole(rt.alloc(), Status::Good, b"", tail)?);
-    assert_eq!(rt; seen.depot.file("b"), Some(b"ab\nlost\n".as_slice()));
+    let wanted = good(b"", tail);
+    writes(&rt, rt.alloc(), &case, wanted, Some(b"ab\nlost\n"), &text)?;
     Ok(())
 }
 
@@ -179,11 +233,8 @@ fn all_at_once(rt: HostRuntime) -> Result<(), Fail> {
         others: &[("t.csv", b"k,v\nl,w\n"), ("c", b"l\nk\n")],
         ..run_of(text, b"k\nl\n")
     };
-    let seen = run(&rt, rt.alloc(), &case)?;
-    assert_eq!(rt; seen.report.status, Status::Good);
-    assert_eq!(rt; seen.out.written(), tail.as_bytes());
-    assert!(rt; seen.reported(rt.alloc(), tail)?);
-    assert_eq!(rt; seen.depot.file("b"), Some(b"v,w\nw,v\n".as_slice()));
+    let wanted = good(b"", tail);
+    writes(&rt, rt.alloc(), &case, wanted, Some(b"v,w\nw,v\n"), &text)?;
     Ok(())
 }
 
@@ -192,11 +243,15 @@ fn all_at_once(rt: HostRuntime) -> Result<(), Fail> {
 fn failed_write_of_the_tail_beside_a_file(rt: HostRuntime) -> Result<(), Fail> {
     let case = Case {
         out_fails: &[1],
-        ..run_of("[[stream]]\npath = 'a'\nto = 'b'\n", b"hello\n")
+        ..run_of(COPYING, b"hello\n")
     };
     let seen = run(&rt, rt.alloc(), &case)?;
-    assert_eq!(rt; seen.report.status, Status::NotWritten);
-    assert!(rt; seen.reported(rt.alloc(), WRITTEN)?);
-    assert_eq!(rt; seen.depot.file("b"), Some(b"hello\n".as_slice()));
+    same_at(
+        &rt,
+        seen.depot.file("b"),
+        Some(b"hello\n".as_slice()),
+        &COPYING,
+    );
+    is_not_written(&rt, rt.alloc(), &seen, b"", WRITTEN)?;
     Ok(())
 }

@@ -1,9 +1,16 @@
 //! Runs of streams with two sources.
+use crate::asserts::{holds, same};
+use crate::runs::{
+    Alike, Row, at_fault, each_leaves, ending_well, good, is_reported, leaves, leaves_at,
+};
 use device_port::Act;
 use flume_cli::Status;
+use std::alloc::{AllocError, Global};
+use std::process::Abort;
+use std::sync::Wait;
 use std::test::Fail;
-use worked_calls::outside::{Case, run, run_of};
-use worked_calls::reports::runs_as;
+use std::thread::Threads;
+use worked_calls::outside::{Case, Seen, run, run_of};
 
 /// The tail of a run whose one stream was done with both its sources.
 const BOTH: &str = "end outer done\nend 0 done\nledger 8\n\
@@ -11,17 +18,47 @@ const BOTH: &str = "end outer done\nend 0 done\nledger 8\n\
     0 close 0 succeeded\n0 final 1 succeeded ok\n0 final 0 succeeded ok\n0 cancel 0 succeeded\n";
 
 /// The tail of a run whose one stream ended with this fault when both its sources were open.
-fn both_faulty(rt: &HostRuntime, fault: &str) -> Result<String, Fail> {
-    Ok(format!(in rt.alloc();
+fn both_faulty(alloc: Global, fault: &str) -> Result<String, AllocError> {
+    format!(in alloc;
         "end outer done\nend 0 fault {fault}\nledger 8\n\
         outer lease 0 0\nouter close 0 succeeded\n0 acquire 0 0\n0 acquire 1 0\n\
         0 close 0 errored\n0 final 1 errored ok\n0 final 0 errored ok\n0 cancel 0 errored\n"
-    )?)
+    )
+}
+
+/// The further keys of a stream, the files on its two sides, and the frames.
+type Sides<'a> = (&'a str, &'a [u8], &'a [u8], &'a [u8]);
+
+/// Fails the test unless the sides are joined so.
+fn are_joined(
+    rt: &(impl Abort + Threads + Wait + Sync),
+    alloc: Global,
+    sides: &Sides<'_>,
+) -> Result<(), AllocError> {
+    let (keys, left, right, frames) = *sides;
+    let text = format!(in alloc; "[[stream]]\npath = 'a'\nwith = 'b'\n{keys}")?;
+    let others: [(&str, &[u8]); 1] = [("b", right)];
+    let case = Case {
+        others: &others,
+        ..run_of(text.as_str(), left)
+    };
+    leaves_at(rt, alloc, &case, good(frames, BOTH), &keys)
+}
+
+fn all_are_joined(
+    rt: &(impl Abort + Threads + Wait + Sync),
+    alloc: Global,
+    all: &[Sides<'_>],
+) -> Result<(), AllocError> {
+    for sides in all {
+        are_joined(rt, alloc, sides)?;
+    }
+    Ok(())
 }
 
 #[test]
 fn sides_are_joined(rt: HostRuntime) -> Result<(), Fail> {
-    let table: [(&str, &[u8], &[u8], &[u8]); 9] = [
+    const ALL: &[Sides<'static>] = &[
         (
             "steps = ['lines']\njoin = 'zip'\n",
             b"a\nb\nc\n",
@@ -67,19 +104,14 @@ fn sides_are_joined(rt: HostRuntime) -> Result<(), Fail> {
             b"0 2\n2\n\n",
         ),
     ];
-    for (keys, left, right, frames) in table {
-        let text = format!(in rt.alloc(); "[[stream]]\npath = 'a'\nwith = 'b'\n{keys}")?;
-        let others: [(&str, &[u8]); 1] = [("b", right)];
-        let case = Case {
-            others: &others,
-            ..run_of(text.as_str(), left)
-        };
-        assert!(rt;
-            runs_as(&rt, rt.alloc(), &case, Status::Good, frames, BOTH)?,
-            "at {keys:?}"
-        );
-    }
+    all_are_joined(&rt, rt.alloc(), ALL)?;
     Ok(())
+}
+
+/// Fails the test unless the output begins in one of these ways.
+fn begins_as_either(rt: &impl Abort, seen: &Seen, one: &[u8], other: &[u8]) {
+    let out = seen.out.written();
+    holds(rt, out.starts_with(one) || out.starts_with(other));
 }
 
 /// The lines of a merge come in one order or the other.
@@ -90,13 +122,12 @@ fn merge_gives_both_sides(rt: HostRuntime) -> Result<(), Fail> {
         others: &[("b", b"b\n")],
         ..run_of(text, b"a\n")
     };
+    let left_first = b"0 2\na\n\n0 2\nb\n\n";
+    let right_first = b"0 2\nb\n\n0 2\na\n\n";
     let seen = run(&rt, rt.alloc(), &case)?;
-    let out = seen.out.written();
-    let left_first = b"0 2\na\n\n0 2\nb\n\n".as_slice();
-    let right_first = b"0 2\nb\n\n0 2\na\n\n".as_slice();
-    assert_eq!(rt; seen.report.status, Status::Good);
-    assert!(rt; out.starts_with(left_first) || out.starts_with(right_first));
-    assert!(rt; seen.reported(rt.alloc(), BOTH)?);
+    same(&rt, seen.report.status, Status::Good);
+    begins_as_either(&rt, &seen, left_first, right_first);
+    is_reported(&rt, rt.alloc(), &seen, BOTH)?;
     Ok(())
 }
 
@@ -104,70 +135,57 @@ fn merge_gives_both_sides(rt: HostRuntime) -> Result<(), Fail> {
 #[test]
 fn one_file_on_both_sides(rt: HostRuntime) -> Result<(), Fail> {
     let text = "[[stream]]\npath = 'a'\nsteps = ['lines']\nwith = 'a'\njoin = 'zip'\n";
-    let frames = b"0 8\na,a\nb,b\n\n";
-    assert!(rt;
-        runs_as(
-            &rt,
-            rt.alloc(),
-            &run_of(text, b"a\nb\n"),
-            Status::Good,
-            frames,
-            BOTH
-        )?
-    );
+    let case = run_of(text, b"a\nb\n");
+    leaves(&rt, rt.alloc(), &case, good(b"0 8\na,a\nb,b\n\n", BOTH))?;
     Ok(())
 }
 
 /// The second source is opened behind the first, and before either is read.
 #[test]
 fn second_source_is_not_there(rt: HostRuntime) -> Result<(), Fail> {
-    let tail = "end outer done\nend 0 fault open\nledger 6\n\
-        outer lease 0 0\nouter close 0 succeeded\n0 acquire 0 0\n0 close 0 errored\n\
-        0 final 0 errored ok\n0 cancel 0 errored\n";
-    for join in ["append", "merge", "zip"] {
-        let text = format!(in rt.alloc();
-            "[[stream]]\npath = 'a'\nsteps = ['lines']\nwith = 'b'\njoin = '{join}'\n"
-        )?;
-        let case = run_of(text.as_str(), b"a\n");
-        assert!(rt;
-            runs_as(&rt, rt.alloc(), &case, Status::Faulty, b"", tail)?,
-            "at {join}"
-        );
-    }
+    const ROWS: &[Row<'static>] = &[
+        ("append", b"a\n", b""),
+        ("merge", b"a\n", b""),
+        ("zip", b"a\n", b""),
+    ];
+    let each = Alike {
+        status: Status::Faulty,
+        tail: "end outer done\nend 0 fault open\nledger 6\n\
+            outer lease 0 0\nouter close 0 succeeded\n0 acquire 0 0\n0 close 0 errored\n\
+            0 final 0 errored ok\n0 cancel 0 errored\n",
+        ..ending_well("[[stream]]\npath = 'a'\nsteps = ['lines']\nwith = 'b'\njoin = '@'\n")
+    };
+    each_leaves(&rt, rt.alloc(), &each, ROWS)?;
     Ok(())
+}
+
+/// Fails the test unless the first read of the file at this path fails behind these frames.
+fn side_fails(
+    rt: &(impl Abort + Threads + Wait + Sync),
+    alloc: Global,
+    text: &str,
+    path: &str,
+    frames: &[u8],
+) -> Result<(), AllocError> {
+    let tail = both_faulty(alloc, "read")?;
+    let case = Case {
+        others: &[("b", b"y\n")],
+        other_trips: &[(path, Act::Read, 1)],
+        ..run_of(text, b"x\n")
+    };
+    let wanted = at_fault(frames, tail.as_str());
+    leaves_at(rt, alloc, &case, wanted, &(text, path))
 }
 
 /// A side that fails ends the stream, and what was whole before comes out.
 #[test]
 fn side_that_fails(rt: HostRuntime) -> Result<(), Fail> {
-    let table: [(&str, &str, &[u8]); 4] = [
-        ("zip", "b", b""),
-        ("zip", "a", b""),
-        ("append", "b", b"0 2\nx\n\n"),
-        ("append", "a", b""),
-    ];
-    let tail = both_faulty(&rt, "read")?;
-    for (join, path, frames) in table {
-        let text = format!(in rt.alloc();
-            "[[stream]]\npath = 'a'\nsteps = ['lines']\nwith = 'b'\njoin = '{join}'\n"
-        )?;
-        let case = Case {
-            others: &[("b", b"y\n")],
-            other_trips: &[(path, Act::Read, 1)],
-            ..run_of(text.as_str(), b"x\n")
-        };
-        assert!(rt;
-            runs_as(
-                &rt,
-                rt.alloc(),
-                &case,
-                Status::Faulty,
-                frames,
-                tail.as_str()
-            )?,
-            "at {join} {path}"
-        );
-    }
+    let zip = "[[stream]]\npath = 'a'\nsteps = ['lines']\nwith = 'b'\njoin = 'zip'\n";
+    side_fails(&rt, rt.alloc(), zip, "b", b"")?;
+    side_fails(&rt, rt.alloc(), zip, "a", b"")?;
+    let append = "[[stream]]\npath = 'a'\nsteps = ['lines']\nwith = 'b'\njoin = 'append'\n";
+    side_fails(&rt, rt.alloc(), append, "b", b"0 2\nx\n\n")?;
+    side_fails(&rt, rt.alloc(), append, "a", b"")?;
     Ok(())
 }
 
@@ -186,6 +204,6 @@ fn text_stands_in_for_both_sides(rt: HostRuntime) -> Result<(), Fail> {
         ..run_of(text, b"x\nz\n")
     };
     let frames = b"0 4\nx,y\n\n0 7\n\"a, b\"\n\n";
-    assert!(rt; runs_as(&rt, rt.alloc(), &case, Status::Good, frames, tail)?);
+    leaves(&rt, rt.alloc(), &case, good(frames, tail))?;
     Ok(())
 }

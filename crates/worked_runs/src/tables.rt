@@ -1,10 +1,18 @@
 //! Runs with tables: each is read before the first stream begins, kept open by the leases of the
 //! streams, and closed once behind the last.
+use crate::runs::{
+    Alike, Row, STEPS, Wanted, at_fault, each_leaves, ending_well, good, leaves, leaves_at,
+    opens_nothing, row_leaves,
+};
 use device_port::Act;
 use flume_cli::Status;
+use std::alloc::{AllocError, Global};
+use std::process::Abort;
+use std::sync::Wait;
 use std::test::Fail;
-use worked_calls::outside::{Case, run, run_of};
-use worked_calls::reports::runs_as;
+use std::thread::Threads;
+use worked_calls::outside::{Case, run_of};
+use worked_calls::reports::{CAUGHT, faulty};
 
 /// The table `t` of the file `t.csv`, and a stream whose keys are looked up in it.
 const LOOKUP: &str = "[[table]]\nname = 't'\npath = 't.csv'\n\
@@ -25,16 +33,45 @@ fn lookup_in<'a>(others: &'a [(&'a str, &'a [u8])]) -> Case<'a> {
 }
 
 /// The tail of a run whose one table was opened and ended so.
-fn table_failed(rt: &HostRuntime, fault: &str) -> Result<String, Fail> {
-    Ok(format!(in rt.alloc();
+fn table_failed(alloc: Global, fault: &str) -> Result<String, AllocError> {
+    format!(in alloc;
         "end outer fault {fault}\nend 0 halted\nledger 3\n\
         outer acquire 0 0\nouter close 0 errored\nouter final 0 errored ok\n"
-    )?)
+    )
+}
+
+/// A table's file, the keys that are looked up in it, and the frames.
+type Search<'a> = (&'a [u8], &'a [u8], &'a [u8]);
+
+/// Fails the test unless the keys are looked up so.
+fn is_looked_up(
+    rt: &(impl Abort + Threads + Wait + Sync),
+    alloc: Global,
+    search: &Search<'_>,
+) -> Result<(), AllocError> {
+    let (bytes, keys, frames) = *search;
+    let others: [(&str, &[u8]); 1] = [("t.csv", bytes)];
+    let case = Case {
+        file: keys,
+        ..lookup_in(&others)
+    };
+    leaves_at(rt, alloc, &case, good(frames, LOOKED_UP), &bytes)
+}
+
+fn all_are_looked_up(
+    rt: &(impl Abort + Threads + Wait + Sync),
+    alloc: Global,
+    searches: &[Search<'_>],
+) -> Result<(), AllocError> {
+    for search in searches {
+        is_looked_up(rt, alloc, search)?;
+    }
+    Ok(())
 }
 
 #[test]
 fn keys_are_looked_up(rt: HostRuntime) -> Result<(), Fail> {
-    let table: [(&[u8], &[u8], &[u8]); 7] = [
+    const SEARCHES: &[Search<'static>] = &[
         (b"k,v\n", KEYS, b"0 7\nk,v\nz,\n\n"),
         (b"k,v\nk,w\n", b"k", b"0 4\nk,v\n\n"),
         (b"k,v,w\nz,,w\n", KEYS, b"0 7\nk,v\nz,\n\n"),
@@ -43,17 +80,7 @@ fn keys_are_looked_up(rt: HostRuntime) -> Result<(), Fail> {
         (b"\xEF\xBB\xBFk,v\n", b"\xEF\xBB\xBFk\n", b"0 4\nk,v\n\n"),
         (b"k,\"a,b\"\n", b"k,1\n", b"0 10\nk,1,\"a,b\"\n\n"),
     ];
-    for (bytes, keys, frames) in table {
-        let others: [(&str, &[u8]); 1] = [("t.csv", bytes)];
-        let case = Case {
-            file: keys,
-            ..lookup_in(&others)
-        };
-        assert!(rt;
-            runs_as(&rt, rt.alloc(), &case, Status::Good, frames, LOOKED_UP)?,
-            "at {bytes:?}"
-        );
-    }
+    all_are_looked_up(&rt, rt.alloc(), SEARCHES)?;
     Ok(())
 }
 
@@ -67,7 +94,7 @@ fn tables_without_a_stream(rt: HostRuntime) -> Result<(), Fail> {
         others: &[("t.csv", b"k,v\n"), ("u.csv", b"k,w\n")],
         ..run_of(text, b"")
     };
-    assert!(rt; runs_as(&rt, rt.alloc(), &case, Status::Good, b"", tail)?);
+    leaves(&rt, rt.alloc(), &case, good(b"", tail))?;
     Ok(())
 }
 
@@ -84,7 +111,7 @@ fn two_tables_and_one_stream(rt: HostRuntime) -> Result<(), Fail> {
         others: &[("t.csv", b"k,v\n"), ("u.csv", b"k,w\n")],
         ..run_of(text, KEYS)
     };
-    assert!(rt; runs_as(&rt, rt.alloc(), &case, Status::Good, b"0 3\nv\n\n\n", tail)?);
+    leaves(&rt, rt.alloc(), &case, good(b"0 3\nv\n\n\n", tail))?;
     Ok(())
 }
 
@@ -97,40 +124,41 @@ fn no_table_is_opened(rt: HostRuntime) -> Result<(), Fail> {
         ..run_of(text.as_str(), KEYS)
     };
     let tail = "end outer halted\nend 0 halted\nledger 1\nouter close 0 canceled\n";
-    assert!(rt; runs_as(&rt, rt.alloc(), &case, Status::Good, b"", tail)?);
-    let seen = run(&rt, rt.alloc(), &case)?;
-    assert_eq!(rt; seen.depot.made().len(), 0);
+    opens_nothing(&rt, rt.alloc(), &case, tail)?;
     Ok(())
 }
 
 #[test]
 fn table_that_is_not_there(rt: HostRuntime) -> Result<(), Fail> {
     let tail = "end outer fault open\nend 0 halted\nledger 1\nouter close 0 errored\n";
-    assert!(rt; runs_as(&rt, rt.alloc(), &lookup_in(&[]), Status::Faulty, b"", tail)?);
+    leaves(&rt, rt.alloc(), &lookup_in(&[]), at_fault(b"", tail))?;
     Ok(())
+}
+
+/// Fails the test unless a table of these bytes is refused so.
+fn is_refused(
+    rt: &(impl Abort + Threads + Wait + Sync),
+    alloc: Global,
+    bytes: &[u8],
+    fault: &str,
+) -> Result<(), AllocError> {
+    let tail = table_failed(alloc, fault)?;
+    let others: [(&str, &[u8]); 1] = [("t.csv", bytes)];
+    let case = lookup_in(&others);
+    leaves_at(rt, alloc, &case, at_fault(b"", tail.as_str()), &bytes)
 }
 
 /// What a table holds is refused by the first reason, and no stream begins.
 #[test]
 fn tables_that_are_refused(rt: HostRuntime) -> Result<(), Fail> {
-    let table: [(&[u8], &str); 7] = [
-        (b"k,v\n\xFF\n", "notutf8"),
-        (b"k\nz\n", "nofield"),
-        (b"k\nz,\xFF\n", "notutf8"),
-        (b"k\nz,v\n", "nofield"),
-        (b"k,v\nz\n", "uneven"),
-        (b"k,v\nz,w,x\n", "uneven"),
-        (b"\n\"\"\n", "nofield"),
-    ];
-    for (bytes, fault) in table {
-        let others: [(&str, &[u8]); 1] = [("t.csv", bytes)];
-        let tail = table_failed(&rt, fault)?;
-        let case = lookup_in(&others);
-        assert!(rt;
-            runs_as(&rt, rt.alloc(), &case, Status::Faulty, b"", tail.as_str())?,
-            "at {bytes:?}"
-        );
-    }
+    let alloc = rt.alloc();
+    is_refused(&rt, alloc, b"k,v\n\xFF\n", "notutf8")?;
+    is_refused(&rt, alloc, b"k\nz\n", "nofield")?;
+    is_refused(&rt, alloc, b"k\nz,\xFF\n", "notutf8")?;
+    is_refused(&rt, alloc, b"k\nz,v\n", "nofield")?;
+    is_refused(&rt, alloc, b"k,v\nz\n", "uneven")?;
+    is_refused(&rt, alloc, b"k,v\nz,w,x\n", "uneven")?;
+    is_refused(&rt, alloc, b"\n\"\"\n", "nofield")?;
     Ok(())
 }
 
@@ -146,93 +174,104 @@ fn second_table_fails(rt: HostRuntime) -> Result<(), Fail> {
         others: &[("t.csv", b"k,v\n"), ("u.csv", b"k\n")],
         ..run_of(text, KEYS)
     };
-    assert!(rt; runs_as(&rt, rt.alloc(), &case, Status::Faulty, b"", tail)?);
+    leaves(&rt, rt.alloc(), &case, at_fault(b"", tail))?;
     Ok(())
 }
 
-/// Each call on the table and on the file fails in turn, the first of its act.
+/// Fails the test unless a run of which the first such call fails leaves this.
+fn call_fails(
+    rt: &(impl Abort + Threads + Wait + Sync),
+    alloc: Global,
+    path: &str,
+    act: Act,
+    wanted: Wanted<'_>,
+) -> Result<(), AllocError> {
+    let case = Case {
+        other_trips: &[(path, act, 1)],
+        ..lookup_in(&[("t.csv", b"k,v\n")])
+    };
+    leaves_at(rt, alloc, &case, wanted, &(path, act))
+}
+
+/// What a run leaves whose keys were looked up, and of which a close failed.
+fn unclean(tail: &str) -> Wanted<'_> {
+    Wanted {
+        status: Status::Unclean,
+        frames: b"0 7\nk,v\nz,\n\n",
+        tail,
+    }
+}
+
+/// A call on the table fails, the first of its act.
 #[test]
-fn calls_fail_beside_a_table(rt: HostRuntime) -> Result<(), Fail> {
-    let unclean_table = "end outer done\nend 0 done\nledger 8\n\
+fn calls_fail_on_a_table(rt: HostRuntime) -> Result<(), Fail> {
+    let tail = table_failed(rt.alloc(), "read")?;
+    let unread = at_fault(b"", tail.as_str());
+    call_fails(&rt, rt.alloc(), "t.csv", Act::Read, unread)?;
+    let tail = "end outer done\nend 0 done\nledger 8\n\
         outer acquire 0 0\nouter lease 0 0\nouter close 0 succeeded\n0 acquire 1 0\n\
         0 close 0 succeeded\n0 final 1 succeeded ok\n0 cancel 0 succeeded\n\
         0 final 0 succeeded fault\n";
+    call_fails(&rt, rt.alloc(), "t.csv", Act::Close, unclean(tail))?;
+    Ok(())
+}
+
+/// A call on the file fails, the first of its act.
+#[test]
+fn calls_fail_beside_a_table(rt: HostRuntime) -> Result<(), Fail> {
     let unopened = "end outer done\nend 0 fault open\nledger 6\n\
         outer acquire 0 0\nouter lease 0 0\nouter close 0 succeeded\n0 close 0 errored\n\
         0 cancel 0 errored\n0 final 0 errored ok\n";
+    call_fails(&rt, rt.alloc(), "a", Act::Open, at_fault(b"", unopened))?;
     let unread = "end outer done\nend 0 fault read\nledger 8\n\
         outer acquire 0 0\nouter lease 0 0\nouter close 0 succeeded\n0 acquire 1 0\n\
         0 close 0 errored\n0 final 1 errored ok\n0 cancel 0 errored\n0 final 0 errored ok\n";
-    let unclean = "end outer done\nend 0 done\nledger 8\n\
+    call_fails(&rt, rt.alloc(), "a", Act::Read, at_fault(b"", unread))?;
+    let unclosed = "end outer done\nend 0 done\nledger 8\n\
         outer acquire 0 0\nouter lease 0 0\nouter close 0 succeeded\n0 acquire 1 0\n\
         0 close 0 succeeded\n0 final 1 succeeded fault\n0 cancel 0 succeeded\n\
         0 final 0 succeeded ok\n";
-    let unread_table = table_failed(&rt, "read")?;
-    let looked_up = b"0 7\nk,v\nz,\n\n".as_slice();
-    let table: [(&str, Act, Status, &[u8], &str); 5] = [
-        (
-            "t.csv",
-            Act::Read,
-            Status::Faulty,
-            b"",
-            unread_table.as_str(),
-        ),
-        (
-            "t.csv",
-            Act::Close,
-            Status::Unclean,
-            looked_up,
-            unclean_table,
-        ),
-        ("a", Act::Open, Status::Faulty, b"", unopened),
-        ("a", Act::Read, Status::Faulty, b"", unread),
-        ("a", Act::Close, Status::Unclean, looked_up, unclean),
-    ];
-    for (path, act, status, frames, tail) in table {
-        let case = Case {
-            other_trips: &[(path, act, 1)],
-            ..lookup_in(&[("t.csv", b"k,v\n")])
-        };
-        assert!(rt;
-            runs_as(&rt, rt.alloc(), &case, status, frames, tail)?,
-            "at {path} {act:?}"
-        );
-    }
+    call_fails(&rt, rt.alloc(), "a", Act::Close, unclean(unclosed))?;
     Ok(())
+}
+
+/// Fails the test unless records through the row's steps end with this fault behind its frames.
+fn records_fail(
+    rt: &(impl Abort + Threads + Wait + Sync),
+    alloc: Global,
+    row: &Row<'_>,
+    fault: &str,
+) -> Result<(), AllocError> {
+    let tail = faulty(alloc, fault)?;
+    let each = Alike {
+        status: Status::Faulty,
+        tail: tail.as_str(),
+        ..ending_well(STEPS)
+    };
+    row_leaves(rt, alloc, &each, row)
 }
 
 /// Records through steps, without a table.
 #[test]
 fn records_and_fields(rt: HostRuntime) -> Result<(), Fail> {
-    let table: [(&str, &[u8], &[u8], &str); 8] = [
-        ("'csv', 'field 1'", b"\"a\nb\",c\n", b"0 2\nc\n\n", ""),
-        ("'csv'", b"a,b\nc\n", b"0 4\na,b\n\n", "uneven"),
-        ("'csv'", b"a,b\n\xFF\n", b"", "notutf8"),
-        ("'csv', 'field 1'", b"a,b\nc,d", b"0 4\nb\nd\n\n", ""),
-        ("'csv', 'field 2'", b"a,b\nc,d\n", b"", "nofield"),
+    const ROWS: &[Row<'static>] = &[
+        ("'csv', 'field 1'", b"\"a\nb\",c\n", b"0 2\nc\n\n"),
+        ("'csv', 'field 1'", b"a,b\nc,d", b"0 4\nb\nd\n\n"),
         (
             "'csv', 'changes'",
             b"a,b\r\na,b\r\na,c\r\n",
             b"0 8\na,b\na,c\n\n",
-            "",
         ),
-        ("'csv', 'take 1'", b"a,b\nc,d\n", b"0 4\na,b\n\n", ""),
-        ("'csv', 'count'", b"\n\na\n", b"0 2\n1\n\n", ""),
+        ("'csv', 'take 1'", b"a,b\nc,d\n", b"0 4\na,b\n\n"),
+        ("'csv', 'count'", b"\n\na\n", b"0 2\n1\n\n"),
     ];
-    for (steps, file, frames, fault) in table {
-        let text = worked_calls::reports::stream_of(rt.alloc(), steps)?;
-        let faulty = worked_calls::reports::faulty(rt.alloc(), fault)?;
-        let case = run_of(text.as_str(), file);
-        let (status, tail) = if fault.is_empty() {
-            (Status::Good, worked_calls::reports::DONE)
-        } else {
-            (Status::Faulty, faulty.as_str())
-        };
-        assert!(rt;
-            runs_as(&rt, rt.alloc(), &case, status, frames, tail)?,
-            "at {steps}"
-        );
-    }
+    const UNEVEN: Row<'static> = ("'csv'", b"a,b\nc\n", b"0 4\na,b\n\n");
+    const NOT_UTF8: Row<'static> = ("'csv'", b"a,b\n\xFF\n", b"");
+    const NO_FIELD: Row<'static> = ("'csv', 'field 2'", b"a,b\nc,d\n", b"");
+    each_leaves(&rt, rt.alloc(), &ending_well(STEPS), ROWS)?;
+    records_fail(&rt, rt.alloc(), &UNEVEN, "uneven")?;
+    records_fail(&rt, rt.alloc(), &NOT_UTF8, "notutf8")?;
+    records_fail(&rt, rt.alloc(), &NO_FIELD, "nofield")?;
     Ok(())
 }
 
@@ -240,16 +279,8 @@ fn records_and_fields(rt: HostRuntime) -> Result<(), Fail> {
 #[test]
 fn row_stands_in_for_a_fault(rt: HostRuntime) -> Result<(), Fail> {
     let text = "[[stream]]\npath = 'a'\nsteps = ['csv']\non_fault = 'a, b'\n";
+    let frames = b"0 4\na,b\n\n0 7\n\"a, b\"\n\n";
     let case = run_of(text, b"a,b\nc\n");
-    assert!(rt;
-        runs_as(
-            &rt,
-            rt.alloc(),
-            &case,
-            Status::Good,
-            b"0 4\na,b\n\n0 7\n\"a, b\"\n\n",
-            worked_calls::reports::CAUGHT
-        )?
-    );
+    leaves(&rt, rt.alloc(), &case, good(frames, CAUGHT))?;
     Ok(())
 }
