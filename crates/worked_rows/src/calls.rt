@@ -1,16 +1,24 @@
 //! The calls below the top call: each once with ample memory.
+use crate::asserts::same;
 use chunk_core::{Code, Exit, How, List, Word};
 use device_port::Failed;
 use flume_cli::tail::tail_of;
 use par_join::{put_frame, run_cat};
-use res_ledger::{LedgerRefused, StreamNo, What, read, text};
+use res_ledger::{Event, Ledger, LedgerRefused, StreamNo, What, read, text};
 use run_rules::EndOf;
+use std::alloc::{AllocError, Global};
+use std::process::Abort;
+use std::sync::Wait;
 use std::test::Fail;
+use std::thread::Threads;
 use worked_calls::outside::{cat_of, depot_of, filled, run, sink_of};
+
+/// The ledger of a file that was opened and closed well, as it is printed.
+const PRINTED: &[u8] = b"ledger 3\n0 acquire 0 0\n0 close 0 succeeded\n0 final 0 succeeded ok\n";
 
 #[test]
 fn word_is_its_text(rt: HostRuntime) -> Result<(), Fail> {
-    assert_eq!(rt; Word::of(rt.alloc(), "cat")?.as_str(), "cat");
+    same(&rt, Word::of(rt.alloc(), "cat")?.as_str(), "cat");
     Ok(())
 }
 
@@ -29,9 +37,12 @@ fn long_payload_is_one_frame(rt: HostRuntime) -> Result<(), Fail> {
     Ok(())
 }
 
-#[test]
-fn tail_is_the_ends_and_the_ledger(rt: HostRuntime) -> Result<(), Fail> {
-    let mut ends = List::new(rt.alloc());
+fn ledger_of_a_run(rt: &(impl Threads + Wait + Sync), alloc: Global) -> Result<Ledger, AllocError> {
+    Ok(run(rt, alloc, &cat_of(b""))?.report.ledger)
+}
+
+fn two_ends(alloc: Global) -> Result<List<EndOf>, AllocError> {
+    let mut ends = List::new(alloc);
     ends.push(EndOf {
         who: StreamNo::Outer,
         how: How::Done,
@@ -40,16 +51,39 @@ fn tail_is_the_ends_and_the_ledger(rt: HostRuntime) -> Result<(), Fail> {
         who: StreamNo::Inner(12),
         how: How::Fault(Code::Endless),
     })?;
-    let ledger = run(&rt, rt.alloc(), &cat_of(b""))?.report.ledger;
-    let lines = text(rt.alloc(), &ledger)?;
-    assert_eq!(rt;
-        lines.as_slice(),
-        b"ledger 3\n0 acquire 0 0\n0 close 0 succeeded\n0 final 0 succeeded ok\n".as_slice()
-    );
-    let tail = tail_of(rt.alloc(), &ends, &ledger)?;
+    Ok(ends)
+}
+
+/// Fails the test unless the ledger is printed so.
+fn is_printed(
+    rt: &impl Abort,
+    alloc: Global,
+    ledger: &Ledger,
+    printed: &[u8],
+) -> Result<(), AllocError> {
+    same(rt, text(alloc, ledger)?.as_slice(), printed);
+    Ok(())
+}
+
+/// Fails the test unless the ledger is printed so behind two ends.
+fn is_printed_behind_ends(
+    rt: &impl Abort,
+    alloc: Global,
+    ledger: &Ledger,
+    printed: &[u8],
+) -> Result<(), AllocError> {
+    let ends = two_ends(alloc)?;
+    same(rt, tail_of(alloc, &ends, ledger)?.as_slice(), printed);
+    Ok(())
+}
+
+#[test]
+fn tail_is_the_ends_and_the_ledger(rt: HostRuntime) -> Result<(), Fail> {
     let want =
         b"end outer done\nend 12 fault endless\nledger 3\n0 acquire 0 0\n0 close 0 succeeded\n0 final 0 succeeded ok\n";
-    assert_eq!(rt; tail.as_slice(), want.as_slice());
+    let ledger = ledger_of_a_run(&rt, rt.alloc())?;
+    is_printed(&rt, rt.alloc(), &ledger, PRINTED)?;
+    is_printed_behind_ends(&rt, rt.alloc(), &ledger, want)?;
     Ok(())
 }
 
@@ -68,36 +102,47 @@ fn file_is_read_in_pieces(rt: HostRuntime) -> Result<(), Fail> {
     Ok(())
 }
 
-/// The printed ledger gives its events back, and other texts say why they are none.
+/// Fails the test unless the event is one of the file's stream, and the one noted at its place.
+fn is_noted(rt: &impl Abort, event: &Event, noted: &[What]) {
+    same(rt, event.by, StreamNo::Inner(0));
+    same(rt, noted.get(event.stamp as usize), Some(&event.what));
+}
+
+fn are_noted(rt: &impl Abort, events: &[Event], noted: &[What]) {
+    same(rt, events.len(), noted.len());
+    for event in events {
+        is_noted(rt, event, noted);
+    }
+}
+
+/// The printed ledger gives its events back.
 #[test]
 fn ledger_is_read_back(rt: HostRuntime) -> Result<(), Fail> {
-    let alloc = rt.alloc();
-    let printed = b"ledger 3\n0 acquire 0 0\n0 close 0 succeeded\n0 final 0 succeeded ok\n";
-    let ledger = read(alloc, printed.as_slice())?;
+    let exit = Exit::Succeeded;
     let noted = [
         What::Acquire { row: 0, scope: 0 },
-        What::Close {
-            scope: 0,
-            exit: Exit::Succeeded,
-        },
+        What::Close { scope: 0, exit },
         What::Final {
             row: 0,
-            exit: Exit::Succeeded,
+            exit,
             ok: true,
         },
     ];
-    assert_eq!(rt; ledger.len(), 3);
-    for event in ledger.as_slice() {
-        assert_eq!(rt; event.by, StreamNo::Inner(0));
-        assert_eq!(rt; noted.get(event.stamp as usize), Some(&event.what));
-    }
-    assert_eq!(rt;
-        read(alloc, b"ledger 2\n0 close 0 succeeded\n".as_slice()).err(),
-        Some(LedgerRefused::BadCount(2, 1))
-    );
-    assert_eq!(rt;
-        read(alloc, b"ledger 1\n0 shut 0\n".as_slice()).err(),
-        Some(LedgerRefused::BadLine(1))
-    );
+    let ledger = read(rt.alloc(), PRINTED)?;
+    are_noted(&rt, ledger.as_slice(), noted.as_slice());
     Ok(())
+}
+
+/// Fails the test unless the text is refused so as a ledger.
+fn is_refused(rt: &impl Abort, alloc: Global, text: &[u8], refused: LedgerRefused) {
+    same(rt, read(alloc, text).err(), Some(refused));
+}
+
+/// Other texts than a printed ledger say why they are none.
+#[test]
+fn text_that_is_no_ledger(rt: HostRuntime) {
+    let two_of_one = b"ledger 2\n0 close 0 succeeded\n";
+    is_refused(&rt, rt.alloc(), two_of_one, LedgerRefused::BadCount(2, 1));
+    let unknown = b"ledger 1\n0 shut 0\n";
+    is_refused(&rt, rt.alloc(), unknown, LedgerRefused::BadLine(1));
 }

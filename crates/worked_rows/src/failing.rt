@@ -1,25 +1,32 @@
 //! Runs of which a call on the outside fails.
+use crate::cats::{HALTED, Left, WELL, leaves, long_leaves, long_output};
 use chunk_core::{Code, Exit, How};
 use device_port::Act;
 use flume_cli::Status;
+use std::alloc::{AllocError, Global};
+use std::process::Abort;
+use std::sync::Wait;
 use std::test::Fail;
-use worked_calls::outside::{Case, cat_of, filled, run};
+use std::thread::Threads;
+use worked_calls::outside::{Case, cat_of, filled};
+
+/// What is left where a read fails.
+const UNREAD: Left = Left {
+    status: Status::Faulty,
+    number: 1,
+    how: How::Fault(Code::Read),
+    exit: Exit::Errored,
+    ok: true,
+    faults: 0,
+};
 
 #[test]
 fn failed_read_ends_the_frames(rt: HostRuntime) -> Result<(), Fail> {
-    let file = filled(rt.alloc(), &[("", 5000)])?;
-    let case = Case {
-        trips: &[(Act::Read, 2)],
-        ..cat_of(&file)
-    };
-    let seen = run(&rt, rt.alloc(), &case)?;
     let tail =
         "\nend 0 fault read\nledger 3\n0 acquire 0 0\n0 close 0 errored\n0 final 0 errored ok\n";
     let text = filled(rt.alloc(), &[("0 4096\n", 4096), (tail, 0)])?;
-    assert!(rt; seen.printed(Status::Faulty, &text));
-    assert!(rt; seen.ended(How::Fault(Code::Read)));
-    assert!(rt; seen.has_one_row(Exit::Errored, true));
-    assert!(rt; seen.device_came_back(Some(Exit::Errored)));
+    let trips = [(Act::Read, 2)];
+    long_leaves(&rt, rt.alloc(), &trips, &[], text.as_slice(), &UNREAD)?;
     Ok(())
 }
 
@@ -29,14 +36,15 @@ fn failed_close_is_unclean(rt: HostRuntime) -> Result<(), Fail> {
         trips: &[(Act::Close, 1)],
         ..cat_of(b"hello\n")
     };
-    let seen = run(&rt, rt.alloc(), &case)?;
     let text =
         b"0 6\nhello\n\nend 0 done\nledger 3\n0 acquire 0 0\n0 close 0 succeeded\n0 final 0 succeeded fault\n";
-    assert!(rt; seen.printed(Status::Unclean, text));
-    assert_eq!(rt; seen.report.status.number(), 7);
-    assert!(rt; seen.ended(How::Done));
-    assert!(rt; seen.has_one_row(Exit::Succeeded, false));
-    assert!(rt; seen.device_came_back(Some(Exit::Succeeded)));
+    let unclean = Left {
+        status: Status::Unclean,
+        number: 7,
+        ok: false,
+        ..WELL
+    };
+    leaves(&rt, rt.alloc(), &case, text, &unclean)?;
     Ok(())
 }
 
@@ -46,12 +54,13 @@ fn fault_tells_more_than_a_failed_close(rt: HostRuntime) -> Result<(), Fail> {
         trips: &[(Act::Read, 1), (Act::Close, 1)],
         ..cat_of(b"hello\n")
     };
-    let seen = run(&rt, rt.alloc(), &case)?;
     let text =
         b"end 0 fault read\nledger 3\n0 acquire 0 0\n0 close 0 errored\n0 final 0 errored fault\n";
-    assert!(rt; seen.printed(Status::Faulty, text));
-    assert!(rt; seen.has_one_row(Exit::Errored, false));
-    assert!(rt; seen.device_came_back(Some(Exit::Errored)));
+    let both = Left {
+        ok: false,
+        ..UNREAD
+    };
+    leaves(&rt, rt.alloc(), &case, text, &both)?;
     Ok(())
 }
 
@@ -61,49 +70,36 @@ fn failed_write_halts_the_stream(rt: HostRuntime) -> Result<(), Fail> {
         out_fails: &[1],
         ..cat_of(b"hello\n")
     };
-    let seen = run(&rt, rt.alloc(), &case)?;
-    assert!(rt; seen.printed(Status::NotWritten, b""));
-    assert_eq!(rt; seen.report.status.number(), 4);
-    assert_eq!(rt; seen.out.faults(), 1);
-    assert!(rt; seen.ended(How::Halted));
-    assert!(rt; seen.has_one_row(Exit::Canceled, true));
-    assert!(rt; seen.device_came_back(Some(Exit::Canceled)));
+    leaves(&rt, rt.alloc(), &case, b"", &HALTED)?;
     Ok(())
+}
+
+/// Fails the test unless, where this write of a long output fails, so many bytes of it are printed,
+/// and this is left.
+fn long_is_cut(
+    rt: &(impl Abort + Threads + Wait + Sync),
+    alloc: Global,
+    nth: u32,
+    cut: usize,
+    left: &Left,
+) -> Result<(), AllocError> {
+    let text = long_output(alloc)?;
+    assert!(rt; cut <= text.len());
+    long_leaves(rt, alloc, &[], &[nth], &text[..cut], left)
 }
 
 /// Two frames and the tail are three writes, so the fourth that fails is none of them.
 #[test]
 fn nothing_is_written_after_a_failed_write(rt: HostRuntime) -> Result<(), Fail> {
-    let file = filled(rt.alloc(), &[("", 5000)])?;
-    let tail =
-        "\nend 0 done\nledger 3\n0 acquire 0 0\n0 close 0 succeeded\n0 final 0 succeeded ok\n";
-    let text = filled(
-        rt.alloc(),
-        &[("0 4096\n", 4096), ("\n0 904\n", 904), (tail, 0)],
-    )?;
-    let table = [
-        (1u32, 0, Exit::Canceled),
-        (2, 4104, Exit::Canceled),
-        (3, 5015, Exit::Succeeded),
-        (4, 5092, Exit::Succeeded),
-    ];
-    for (nth, cut, exit) in table {
-        let case = Case {
-            out_fails: &[nth],
-            ..cat_of(&file)
-        };
-        let seen = run(&rt, rt.alloc(), &case)?;
-        let failed = nth < 4;
-        let status = if failed {
-            Status::NotWritten
-        } else {
-            Status::Good
-        };
-        assert!(rt; cut <= text.len());
-        assert!(rt; seen.printed(status, &text[..cut]), "at {nth}");
-        assert_eq!(rt; seen.out.faults(), u64::from(failed), "at {nth}");
-        assert!(rt; seen.has_one_row(exit, true), "at {nth}");
-        assert!(rt; seen.device_came_back(Some(exit)), "at {nth}");
-    }
+    let without_tail = Left {
+        status: Status::NotWritten,
+        number: 4,
+        faults: 1,
+        ..WELL
+    };
+    long_is_cut(&rt, rt.alloc(), 1, 0, &HALTED)?;
+    long_is_cut(&rt, rt.alloc(), 2, 4104, &HALTED)?;
+    long_is_cut(&rt, rt.alloc(), 3, 5015, &without_tail)?;
+    long_is_cut(&rt, rt.alloc(), 4, 5092, &WELL)?;
     Ok(())
 }

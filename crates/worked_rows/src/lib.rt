@@ -2,13 +2,19 @@
 #![tactic(auto)]
 
 #[cfg(test)]
+mod asserts;
+#[cfg(test)]
 mod calls;
+#[cfg(test)]
+mod cats;
 #[cfg(test)]
 mod described;
 #[cfg(test)]
 mod failing;
 #[cfg(test)]
 mod memory;
+#[cfg(test)]
+mod refusals;
 #[cfg(test)]
 mod whole;
 #[cfg(test)]

@@ -1,34 +1,43 @@
 //! Runs of which nothing fails, and a file that isn't there.
+use crate::asserts::{holds, same};
+use crate::cats::{WELL, leaves, long_leaves, long_output};
 use chunk_core::{Code, Exit, How};
 use flume_cli::Status;
 use res_ledger::{StreamNo, What};
 use run_rules::EndOf;
+use std::process::Abort;
 use std::test::Fail;
-use worked_calls::outside::{Case, cat_of, event, filled, run};
+use worked_calls::outside::{Case, Seen, cat_of, event, run};
 
 #[test]
 fn hello_is_one_frame(rt: HostRuntime) -> Result<(), Fail> {
-    let seen = run(&rt, rt.alloc(), &cat_of(b"hello\n"))?;
     let text =
         b"0 6\nhello\n\nend 0 done\nledger 3\n0 acquire 0 0\n0 close 0 succeeded\n0 final 0 succeeded ok\n";
-    assert!(rt; seen.printed(Status::Good, text));
-    assert_eq!(rt; seen.report.status.number(), 0);
-    assert!(rt; seen.ended(How::Done));
-    assert!(rt; seen.has_one_row(Exit::Succeeded, true));
-    assert!(rt; seen.device_came_back(Some(Exit::Succeeded)));
+    leaves(&rt, rt.alloc(), &cat_of(b"hello\n"), text, &WELL)?;
     Ok(())
 }
 
 #[test]
 fn empty_file_has_no_frame(rt: HostRuntime) -> Result<(), Fail> {
-    let seen = run(&rt, rt.alloc(), &cat_of(b""))?;
     let text =
         b"end 0 done\nledger 3\n0 acquire 0 0\n0 close 0 succeeded\n0 final 0 succeeded ok\n";
-    assert!(rt; seen.printed(Status::Good, text));
-    assert!(rt; seen.ended(How::Done));
-    assert!(rt; seen.has_one_row(Exit::Succeeded, true));
-    assert!(rt; seen.device_came_back(Some(Exit::Succeeded)));
+    leaves(&rt, rt.alloc(), &cat_of(b""), text, &WELL)?;
     Ok(())
+}
+
+/// Fails the test unless the report has one end, that of stream 0, which ended so.
+fn ended_alone(rt: &impl Abort, seen: &Seen, how: How) {
+    let end = EndOf {
+        who: StreamNo::Inner(0),
+        how,
+    };
+    assert_eq!(rt; seen.report.ends.as_slice(), [end].as_slice());
+}
+
+/// Fails the test unless the ledger has this event of stream 0 alone.
+fn noted_alone(rt: &impl Abort, seen: &Seen, what: What) {
+    let noted = [event(0, what)];
+    same(rt, seen.report.ledger.as_slice(), noted.as_slice());
 }
 
 #[test]
@@ -37,44 +46,23 @@ fn missing_file_is_a_fault_of_open(rt: HostRuntime) -> Result<(), Fail> {
         words: &["cat", "b"],
         ..cat_of(b"hello\n")
     };
-    let seen = run(&rt, rt.alloc(), &case)?;
-    assert!(rt;
-        seen.printed(
-            Status::Faulty,
-            b"end 0 fault open\nledger 1\n0 close 0 errored\n"
-        )
-    );
-    assert_eq!(rt; seen.report.status.number(), 1);
-    let how = How::Fault(Code::Open);
-    let end = EndOf {
-        who: StreamNo::Inner(0),
-        how,
+    let text = b"end 0 fault open\nledger 1\n0 close 0 errored\n";
+    let closed = What::Close {
+        scope: 0,
+        exit: Exit::Errored,
     };
-    assert_eq!(rt; seen.report.ends.as_slice(), [end].as_slice());
-    let closed = event(
-        0,
-        What::Close {
-            scope: 0,
-            exit: Exit::Errored,
-        },
-    );
-    assert_eq!(rt; seen.report.ledger.as_slice(), [closed].as_slice());
-    assert!(rt; seen.device_came_back(None));
+    let seen = run(&rt, rt.alloc(), &case)?;
+    holds(&rt, seen.printed(Status::Faulty, text));
+    same(&rt, seen.report.status.number(), 1);
+    ended_alone(&rt, &seen, How::Fault(Code::Open));
+    noted_alone(&rt, &seen, closed);
+    holds(&rt, seen.device_came_back(None));
     Ok(())
 }
 
 #[test]
 fn long_file_is_cut_into_frames(rt: HostRuntime) -> Result<(), Fail> {
-    let file = filled(rt.alloc(), &[("", 5000)])?;
-    let seen = run(&rt, rt.alloc(), &cat_of(&file))?;
-    let tail =
-        "\nend 0 done\nledger 3\n0 acquire 0 0\n0 close 0 succeeded\n0 final 0 succeeded ok\n";
-    let text = filled(
-        rt.alloc(),
-        &[("0 4096\n", 4096), ("\n0 904\n", 904), (tail, 0)],
-    )?;
-    assert!(rt; seen.printed(Status::Good, &text));
-    assert!(rt; seen.has_one_row(Exit::Succeeded, true));
-    assert!(rt; seen.device_came_back(Some(Exit::Succeeded)));
+    let text = long_output(rt.alloc())?;
+    long_leaves(&rt, rt.alloc(), &[], &[], text.as_slice(), &WELL)?;
     Ok(())
 }
