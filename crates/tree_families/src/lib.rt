@@ -9,8 +9,8 @@
 //! in pace (`IsInPace`), `family_is_paced` says that each stream's lease and the next one's stand
 //! before its first event, and that no more streams are open at once than the width.
 //!
-//! Each law is the contract of a function that does nothing, and has no error. The calls of
-//! `join_tree` keep a family by them.
+//! All is plain data that only contracts see, and nothing here runs: each law is the contract of a
+//! function that does nothing. The calls of `join_tree` keep a family by them.
 #![tactic(auto)]
 
 pub mod laws;
