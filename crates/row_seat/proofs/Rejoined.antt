@@ -9,7 +9,7 @@ use Rattle.res_ledger.specs.Ledger.{IsAcquired, IsFinalized}
 use Rattle.res_ledger.specs.declared.event.Event.{Event}
 use Rattle.res_ledger.specs.declared.event.StreamNo.TheVariants.{Inner}
 use Rattle.row_seat.specs.declared.token.Token.{Token}
-use Rattle.row_seat.specs.Rule.{RuleHolds, Holdings, book, purse, view_of, work}
+use Rattle.row_seat.specs.Rule.{RuleHolds, Holdings, KnowsRows, book, purse, view_of, work}
 use Rattle.row_seat.specs.Steps.{joined}
 use Rattle.row_seat.specs.Totals.{IsAt, row_times, times}
 use Rattle.row_seat.specs.Views.{AreApart}
@@ -19,10 +19,6 @@ use Rattle.row_seat.proofs.Totals.{total_at}
 use Rattle.res_ledger.proofs.Ledgers.{inner_is}
 
 module _ {P : Type 0} where
-  -- a row whose Acquire is among its events is empty here, open here, or was closed here or by a seat that it took in
-  abbrev pub KnowsRows : Token P → Type 0
-  KnowsRows v = (r : ℕ) → IsAcquired v.events r → IsAmong r v.empty ⊎ (IsAmong r v.opened ⊎ ((p : P) × IsAmong (r, p) v.left))
-
   -- each of its events is in its own name or in that of a stream whose seat isn't out
   abbrev pub KnowsNames : Token P → Type 0
   KnowsNames v = (e : Event) → IsAmong e v.events → (e.by ≡ v.by) ⊎ ((m : ℕ) × (e.by ≡ Inner m) × ¬ (IsAmong m v.out))

@@ -177,6 +177,10 @@ module _ {P : Type 0} where
     pub left : v.left ≡ []
     pub events : v.events ≡ []
 
+  -- a row whose Acquire is among its events is empty here, open here, or was closed here or by a seat that it took in
+  abbrev pub KnowsRows : Token P → Type 0
+  KnowsRows v = (r : ℕ) → IsAcquired v.events r → IsAmong r v.empty ⊎ (IsAmong r v.opened ⊎ ((p : P) × IsAmong (r, p) v.left))
+
   -- what the parts of the rule read of a view
   abbrev pub who : Token P → Who
   who v = record { live = v.live; main = v.main; by = v.by; had = v.had; out = v.out }

@@ -38,21 +38,14 @@ name_of (Inner j) = j
 
 -- the Leases that a seat keeps after an event of its own
 abbrev pub kept_after : What → List ℕ → List ℕ
-kept_after (Open s p) xs = xs
-kept_after (Acquire r s) xs = xs
 kept_after (Lease j s) xs = xs ++ j ∷ []
 kept_after (Cancel j how) xs = without j xs
-kept_after (Close s how) xs = xs
-kept_after (Final r how ok) xs = xs
+kept_after w xs = xs
 
 -- the rows handed to a seat, or taken by it, whose Final is not noted after an event of its own
 abbrev pub handed_after : What → List ℕ → List ℕ
-handed_after (Open s p) xs = xs
-handed_after (Acquire r s) xs = xs
-handed_after (Lease j s) xs = xs
-handed_after (Cancel j how) xs = xs
-handed_after (Close s how) xs = xs
 handed_after (Final r how ok) xs = without r xs
+handed_after w xs = xs
 
 -- k numbers from n on
 abbrev pub run : ℕ → ℕ → List ℕ

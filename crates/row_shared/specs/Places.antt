@@ -10,10 +10,9 @@ use Rattle.res_ledger.specs.declared.event.Event.{Event}
 use Rattle.res_ledger.specs.declared.event.StreamNo.{StreamNo}
 use Rattle.res_ledger.specs.declared.event.StreamNo.TheVariants.{Inner}
 use Rattle.row_seat.specs.declared.token.Token.{Token}
-use Rattle.row_seat.specs.Rule.{RuleHolds}
+use Rattle.row_seat.specs.Rule.{KnowsRows, RuleHolds}
 use Rattle.row_seat.specs.Steps.{first_token, joined}
 use Rattle.row_seat.specs.Totals.{IsAt}
-use Rattle.row_seat.proofs.Rejoined.{KnowsRows}
 use Rattle.row_shared.specs.declared.table.Place.{Place}
 use Rattle.row_shared.specs.declared.table.Start.{Start}
 

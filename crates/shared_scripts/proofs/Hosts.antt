@@ -23,7 +23,8 @@ use Rattle.std.specs.Map.{keys_of}
 use Rattle.shared_scripts.specs.Crowds.{IsGathered, IsHost, IsLiving, IsRested, lent, with_lent}
 use Rattle.shared_scripts.specs.Rows.{AllPast, CanOpenRow, CanShutRow, ShutsRow, with_note, with_row_open}
 use Rattle.shared_scripts.proofs.Lendings.{among_lent, keys_nil, lent_below, lent_mine, lent_none, lent_snoc, none_left, one_kept, run_snoc, run_without, without_last}
-use Rattle.shared_scripts.proofs.Noted.{acquire_row, acquired_before, close_acquire, final_acquire, lease_acquire, note_cases, open_acquire}
+use Rattle.shared_scripts.proofs.Noted.{acquired_before, note_cases}
+use Rattle.res_ledger.proofs.Ledgers.{acquire_row}
 use Rattle.shared_scripts.proofs.Pasts.{among_run, grow, more_notes, not_closed, not_leased, past_note, root_open, widen}
 use Rattle.shared_scripts.proofs.RowSteps.{last_note}
 use Rattle.shared_scripts.proofs.Racing.{outer_inner}
@@ -68,7 +69,7 @@ module _ {P : Type 0} where
       not_again : (r : ℕ) → r ≢ m → IsAcquired opened.events r → IsAcquired v.events r
       not_again r ne c =
           let d : IsAcquired opening.events r = ⊎_elim (λ o. (c.0, c.1, o)) (λ e. absurd (ne (sym (acquire_row m (m + 1) r c.1 e)))) (note_cases opening.events _ c.0 (Acquire r c.1) c.2) in
-          acquired_before v.events _ (open_acquire (m + 1) 0) r d
+          acquired_before v.events _ r d refl
 
       pub host_opened : IsHost opened out (m + 1) 0 1
       host_opened = let room = i.room in record {
@@ -129,7 +130,7 @@ module _ {P : Type 0} where
       lent_out = with_note lending n (Lease j 0)
 
       fresh_still : (r : ℕ) → IsAmong r v.empty → ¬ (IsAcquired lent_out.events r)
-      fresh_still r a b = i.fresh r a (acquired_before v.events _ (lease_acquire j 0) r b)
+      fresh_still r a b = i.fresh r a (acquired_before v.events _ r b refl)
 
       pub host_splits : CanSplit lent_out j (64 * j - 56) (64 * j - 56 + 64) 265
       host_splits = let room = i.room in let splits = i.splits in (
@@ -216,7 +217,7 @@ module _ {P : Type 0} where
         kept = i.kept;
         handed = i.handed;
         taken = i.taken;
-        fresh = λ r a b. i.fresh r a (acquired_before v.events _ (close_acquire (k + 1) Succeeded) r b);
+        fresh = λ r a b. i.fresh r a (acquired_before v.events _ r b refl);
         common = λ r a b. absurd (omega arith);
         empty = i.empty;
         had = i.had;
@@ -237,7 +238,7 @@ module _ {P : Type 0} where
         kept = i.kept;
         handed = ap (λ l. without k (l ++ k ∷ [])) i.handed ∙ none_left k;
         taken = ap (λ l. without k (l ++ k ∷ [])) i.taken ∙ none_left k;
-        fresh = λ r a b. i.fresh r a (acquired_before v.events _ (close_acquire (k + 1) Succeeded) r (acquired_before closing.events _ (final_acquire k Succeeded ok) r b));
+        fresh = λ r a b. i.fresh r a (acquired_before v.events _ r (acquired_before closing.events _ r b refl) refl);
         common = λ r a b. absurd (omega arith);
         empty = i.empty;
         had = i.had;

@@ -1,13 +1,14 @@
 -- A main seat that leases its one row, call by call.
-use Rattle.std.proofs.Common.{◌≡◌, ◌≢◌, ℕ, ◌≤◌, ◌↔◌, List, [], ◌∷◌, inl, inr, refl, sym, ap, ◌∙◌, subst, ⊎_elim, arith, lit≤}
-use Rattle.chunk_core.specs.declared.code.Exit.{Exit}
+use Rattle.std.proofs.Common.{◌≡◌, ℕ, ◌≤◌, ◌↔◌, List, [], ◌∷◌, inl, inr, refl, sym, ap, ◌∙◌, subst, ⊎_elim, arith, lit≤}
 use Rattle.chunk_core.specs.Lists.{IsAmong}
 use Rattle.chunk_core.specs.Lists.IsAmong.{here, there}
 use Rattle.chunk_core.proofs.Members.{among_cons, among_nil}
 use Rattle.res_ledger.specs.declared.event.Event.{Event}
-use Rattle.res_ledger.specs.declared.event.What.TheVariants.{Acquire, Close, Lease}
+use Rattle.res_ledger.specs.declared.event.What.TheVariants.{Acquire, Lease}
 use Rattle.res_ledger.specs.declared.event.StreamNo.TheVariants.{Outer}
 use Rattle.res_ledger.specs.Ledger.{IsClosed, IsCoveredBy, IsLeased}
+use Rattle.res_ledger.proofs.Apart.{apart}
+use Rattle.res_ledger.proofs.Ledgers.{acquire_row}
 use Rattle.res_ledger.specs.Ledger.LiesWithin.{same}
 use Rattle.row_seat.specs.declared.view.View.{View}
 use Rattle.row_seat.specs.Views.{CanLease, CanPlace, CanSplit, MayNote, leased, noted, placed, split_main, split_off, start}
@@ -20,28 +21,16 @@ acquire n = record { stamp = n; by = Outer; what = Acquire 0 0 }
 abbrev lease_event : ℕ → Event
 lease_event k = record { stamp = k; by = Outer; what = Lease 1 0 }
 
-acquire_lease : (j s : ℕ) → Acquire 0 0 ≢ Lease j s
-acquire_lease j s e = cc
-
-acquire_close : (s : ℕ) (x : Exit) → Acquire 0 0 ≢ Close s x
-acquire_close s x e = cc
-
-lease_close : (s : ℕ) (x : Exit) → Lease 1 0 ≢ Close s x
-lease_close s x e = cc
-
-acquire_row : (r t : ℕ) → Acquire 0 0 ≡ Acquire r t → 0 ≡ r
-acquire_row r t e = cc
-
 none_leased : (n : ℕ) → ¬ (IsLeased (acquire n ∷ []) 1)
-none_leased n a = ⊎_elim (λ e. acquire_lease 1 a.1 (sym (ap (λ (x : Event). x.what) e) ∙ a.2.3)) (λ m. among_nil m) (among_cons a.2.1)
+none_leased n a = ⊎_elim (λ e. apart (sym (ap (λ (x : Event). x.what) e) ∙ a.2.3) refl) (λ m. among_nil m) (among_cons a.2.1)
 
 none_closed : (n s : ℕ) → ¬ (IsClosed (acquire n ∷ []) Outer s)
-none_closed n s c = ⊎_elim (λ e. acquire_close c.0 c.2.0 (sym (ap (λ (x : Event). x.what) e) ∙ c.2.1.3)) (λ m. among_nil m) (among_cons c.2.1.1)
+none_closed n s c = ⊎_elim (λ e. apart (sym (ap (λ (x : Event). x.what) e) ∙ c.2.1.3) refl) (λ m. among_nil m) (among_cons c.2.1.1)
 
 still_open : (n k s : ℕ) → ¬ (IsClosed (acquire n ∷ lease_event k ∷ []) Outer s)
 still_open n k s c = ⊎_elim
-    (λ e. acquire_close c.0 c.2.0 (sym (ap (λ (x : Event). x.what) e) ∙ c.2.1.3))
-    (λ m. ⊎_elim (λ e. lease_close c.0 c.2.0 (sym (ap (λ (x : Event). x.what) e) ∙ c.2.1.3)) (λ z. among_nil z) (among_cons m))
+    (λ e. apart (sym (ap (λ (x : Event). x.what) e) ∙ c.2.1.3) refl)
+    (λ m. ⊎_elim (λ e. apart (sym (ap (λ (x : Event). x.what) e) ∙ c.2.1.3) refl) (λ z. among_nil z) (among_cons m))
     (among_cons c.2.1.1)
 
 abbrev one_pair : List (ℕ × ℕ)
@@ -50,7 +39,7 @@ one_pair = (1, 0) ∷ []
 covers : (n r : ℕ) → (let x : ℕ × ℕ = (1, r) in IsAmong x one_pair) ↔ IsCoveredBy (acquire n ∷ []) Outer 0 r
 covers n r = (
   (λ m. ⊎_elim (λ e. subst (λ (q : ℕ). IsCoveredBy (acquire n ∷ []) Outer 0 q) (sym (ap (λ (x : ℕ × ℕ). x.1) e)) (0, (acquire n, here [], refl, refl), inr (same 0), none_closed n 0)) (λ z. absurd (among_nil z)) (among_cons m)),
-  (λ c. ⊎_elim (λ e. subst (λ (q : ℕ). let x : ℕ × ℕ = (1, q) in IsAmong x one_pair) (acquire_row r c.0 (sym (ap (λ (x : Event). x.what) e) ∙ c.1.3)) (here [])) (λ z. absurd (among_nil z)) (among_cons c.1.1)),
+  (λ c. ⊎_elim (λ e. subst (λ (q : ℕ). let x : ℕ × ℕ = (1, q) in IsAmong x one_pair) (acquire_row 0 0 r c.0 (sym (ap (λ (x : Event). x.what) e) ∙ c.1.3)) (here [])) (λ z. absurd (among_nil z)) (among_cons c.1.1)),
 )
 
 module _ {P : Type 0} where

@@ -6,7 +6,7 @@ use Rattle.chunk_core.proofs.Members.{among_left, among_snoc}
 use Rattle.res_ledger.specs.declared.event.Event.{Event}
 use Rattle.res_ledger.specs.declared.event.StreamNo.{StreamNo}
 use Rattle.res_ledger.specs.declared.event.What.{What}
-use Rattle.res_ledger.specs.declared.event.What.TheVariants.{Acquire, Cancel, Close, Final, Lease, Open}
+use Rattle.res_ledger.specs.declared.event.What.TheVariants.{Acquire, Close, Lease, Open}
 use Rattle.res_ledger.specs.Ledger.{IsAcquired, IsClosed, IsCoveredBy, IsLeased, IsOpened, LiesWithin, Notes}
 use Rattle.res_ledger.specs.Ledger.LiesWithin.{same, below}
 use Rattle.row_seat.specs.Views.{run}
@@ -16,9 +16,8 @@ pub widen : {o a l c : ℕ} (q b m d : ℕ) → o ≤ q → a ≤ b → l ≤ m 
 widen q b m d x y z u (Open s p) t = let k = t.1 in (t.0, omega arith, t.2)
 widen q b m d x y z u (Acquire r s) t = let k = t.0 in (omega arith, t.1)
 widen q b m d x y z u (Lease j s) t = omega arith
-widen q b m d x y z u (Cancel j how) t = tt
 widen q b m d x y z u (Close s how) t = let k = t.1 in (t.0, omega arith)
-widen q b m d x y z u (Final r how ok) t = tt
+widen q b m d x y z u w t = tt
 
 module _ {o a l c : ℕ} (L : List Event) (h : (e : Event) → IsAmong e L → IsPast o a l c e.what) where
   pub past_note : (k : StreamNo) (w : What) → Notes L k w → IsPast o a l c w

@@ -1,24 +1,21 @@
 -- Scopes noted one by one.
 use Rattle.std.proofs.Common.{◌≡◌, ◌≢◌, ℕ, ◌+◌, ◌-◌, ◌*◌, ◌≤◌, List, [], ◌∷◌, ◌++◌, inl, refl, sym, ap, ◌∙◌, ⊎_elim, arith}
 use Rattle.std.proofs.lemmas.Bool.{cases_eq}
-use Rattle.chunk_core.specs.declared.code.Exit.{Exit}
 use Rattle.chunk_core.specs.Lists.IsAmong.{here}
 use Rattle.chunk_core.proofs.Filters.{among_right}
 use Rattle.res_ledger.specs.declared.event.StreamNo.TheVariants.{Inner, Outer}
 use Rattle.chunk_core.proofs.Members.{among_last, among_left, among_nil, among_snoc}
 use Rattle.res_ledger.specs.declared.event.Event.{Event}
 use Rattle.res_ledger.specs.declared.event.StreamNo.{StreamNo}
-use Rattle.res_ledger.specs.declared.event.What.TheVariants.{Open, Close}
+use Rattle.res_ledger.specs.declared.event.What.TheVariants.{Open}
 use Rattle.res_ledger.specs.Ledger.{Notes}
+use Rattle.res_ledger.proofs.Apart.{apart}
 use Rattle.row_seat.specs.declared.view.View.{View}
 use Rattle.row_seat.specs.Views.{CanFinish, CanJoin, IsLedgerOf, MayNote, joined, noted, split_main, split_off, start}
 use Rattle.shared_scripts.specs.Scopes.{HasScopes, after_scopes}
 
 open_is : (s p t q : ℕ) → Open s p ≡ Open t q → s ≡ t
 open_is s p t q e = cc
-
-open_close : (s p t : ℕ) (x : Exit) → Open s p ≢ Close t x
-open_close s p t x e = cc
 
 pub none_yet : (k : StreamNo) → HasScopes [] k 0
 none_yet k = record { only = λ e m. absurd (among_nil m); each = λ s a b. absurd (omega arith) }
@@ -28,7 +25,7 @@ module _ {P : Type 0} (v : View P) (E : List Event) (n : ℕ) (h : HasScopes E v
   may_open = (
     (λ e. omega arith),
     (λ o. let x = h.only o.1.0 o.1.1 in let e : x.0 ≡ n + 1 = open_is x.0 0 (n + 1) o.0 (sym x.2 ∙ o.1.3) in let l = x.1 in omega arith),
-    (inl refl, λ c. let x = h.only c.2.1.0 c.2.1.1 in open_close x.0 0 c.0 c.2.0 (sym x.2 ∙ c.2.1.3)),
+    (inl refl, λ c. let x = h.only c.2.1.0 c.2.1.1 in apart (sym x.2 ∙ c.2.1.3) refl),
   )
 
   pub one_more : (stamp : ℕ) → let e : Event = record { stamp = stamp; by = v.by; what = Open (n + 1) 0 } in HasScopes (E ++ e ∷ []) v.by (n + 1)

@@ -16,7 +16,8 @@ use Rattle.row_seat.proofs.Members.{among_kept, among_without}
 use Rattle.shared_scripts.specs.Crowds.{IsFreshBelow, IsLiving, IsQuitting, IsRested, lent}
 use Rattle.shared_scripts.specs.Rows.{AllPast, CanOpenRow, CanShutRow, EndsFrom, IsPast, QuitsRow, ShutsRow, with_note, with_row_open}
 use Rattle.shared_scripts.proofs.Lendings.{lent_below, lent_without, no_row, none_left}
-use Rattle.shared_scripts.proofs.Noted.{acquire_row, acquired_before, cancel_acquire, close_acquire, final_acquire, finalized_more, note_cases, open_acquire}
+use Rattle.shared_scripts.proofs.Noted.{acquired_before, finalized_more, note_before, note_cases}
+use Rattle.res_ledger.proofs.Ledgers.{acquire_row}
 use Rattle.shared_scripts.proofs.Pasts.{grow, more_notes, not_closed}
 use Rattle.shared_scripts.proofs.RowSteps.{last_note}
 
@@ -60,19 +61,19 @@ module _ {P : Type 0} where
 
         not_again : (r : ℕ) → r ≢ n → IsAcquired ended.events r → IsAcquired v.events r
         not_again r ne a =
-            let b = acquired_before closing.events _ (final_acquire n Succeeded ok) r a in
-            let c = acquired_before opened.events _ (close_acquire (n + 1) Succeeded) r b in
+            let b = acquired_before closing.events _ r a refl in
+            let c = acquired_before opened.events _ r b refl in
             let d : IsAcquired opening.events r = ⊎_elim (λ o. (c.0, c.1, o)) (λ e. absurd (ne (sym (acquire_row n (n + 1) r c.1 e)))) (note_cases opening.events _ c.0 (Acquire r c.1) c.2) in
-            acquired_before v.events _ (open_acquire (n + 1) 0) r d
+            acquired_before v.events _ r d refl
 
         all_final : (r s' : ℕ) → Notes ended.events v.by (Acquire r s') → IsFinalized ended.events r
         all_final r s' a =
-            ⊎_elim (λ b. ⊎_elim (λ c. ⊎_elim (λ d. ⊎_elim
-            (λ e. finalized_more closing.events _ r (finalized_more opened.events _ r (finalized_more opening.events _ r (finalized_more v.events _ r (i.final r s' e)))))
-            (λ e. absurd (open_acquire (n + 1) 0 r s' e)) (note_cases v.events _ v.by (Acquire r s') d))
-            (λ e. subst (λ z. IsFinalized ended.events z) (acquire_row n (n + 1) r s' e) (v.by, ok, (Succeeded, last_note (took (handed_over (shut closing n q) n q) n) m (Final n Succeeded ok)))) (note_cases opening.events _ v.by (Acquire r s') c))
-            (λ e. absurd (close_acquire (n + 1) Succeeded r s' e)) (note_cases opened.events _ v.by (Acquire r s') b))
-            (λ e. absurd (final_acquire n Succeeded ok r s' e)) (note_cases closing.events _ v.by (Acquire r s') a)
+            let b = note_before closing.events _ v.by (Acquire r s') a refl in
+            let c = note_before opened.events _ v.by (Acquire r s') b refl in
+            ⊎_elim
+            (λ d. finalized_more closing.events _ r (finalized_more opened.events _ r (finalized_more opening.events _ r (finalized_more v.events _ r (i.final r s' (note_before v.events _ v.by (Acquire r s') d refl))))))
+            (λ e. subst (λ z. IsFinalized ended.events z) (acquire_row n (n + 1) r s' e) (v.by, ok, (Succeeded, last_note (took (handed_over (shut closing n q) n q) n) m (Final n Succeeded ok))))
+            (note_cases opening.events _ v.by (Acquire r s') c)
 
         lived : IsLiving ended j (n + 1)
         lived = let room = i.room in let from = i.from in record {
@@ -112,7 +113,7 @@ module _ {P : Type 0} where
       kept = ap (λ l. without j l) i.kept ∙ none_left j;
       handed = i.handed;
       taken = i.taken;
-      fresh = λ r a b. i.fresh r a (acquired_before v.events _ (cancel_acquire j Succeeded) r b);
+      fresh = λ r a b. i.fresh r a (acquired_before v.events _ r b refl);
       canceled = (Succeeded, last_note v s (Cancel j Succeeded));
       room = omega arith;
     }
@@ -156,7 +157,7 @@ module _ {P : Type 0} where
       kept = i.kept;
       handed = ap (λ l. without m (l ++ m ∷ [])) i.handed ∙ none_left m;
       taken = ap (λ l. without m (l ++ m ∷ [])) i.taken ∙ none_left m;
-      fresh = λ r a b. i.fresh r a (acquired_before v.events _ (final_acquire m Succeeded ok) r b);
+      fresh = λ r a b. i.fresh r a (acquired_before v.events _ r b refl);
       canceled = (i.canceled.0, more_notes _ i.canceled.1);
       room = omega arith;
     }

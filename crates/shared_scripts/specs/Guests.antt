@@ -36,7 +36,7 @@ abbrev pub EarlierFit : ℕ → TableRef Bell → TableRef Bell → Type 0
 EarlierFit j old new = (s : SharedSeat Bell) → (shown s).by ≢ Outer → ((k : ℕ) → j ≤ k → (shown s).by ≢ Inner k) → SharedFits s old → SharedFits s new
 
 -- legal, with each row that was acquired finalized and each lease cancelled
-pub record IsWholeLedger (L : List Event) : Type 0 where
+pub record IsEndedLedger (L : List Event) : Type 0 where
   pub stamped : IsStamped L
   pub legal : IsLegal L
   pub ended : (r : ℕ) → IsAcquired L r → IsFinalized L r

@@ -4,7 +4,7 @@ use Rattle.chunk_core.specs.declared.code.Exit.TheVariants.{Succeeded}
 use Rattle.chunk_core.specs.Lists.{IsAmong}
 use Rattle.res_ledger.specs.declared.event.Event.{Event}
 use Rattle.res_ledger.specs.declared.event.What.{What}
-use Rattle.res_ledger.specs.declared.event.What.TheVariants.{Acquire, Cancel, Close, Final, Lease, Open}
+use Rattle.res_ledger.specs.declared.event.What.TheVariants.{Acquire, Close, Lease, Open}
 use Rattle.res_ledger.specs.Ledger.{IsUsable, Notes}
 use Rattle.row_seat.specs.declared.view.Left.TheVariants.{Stays, Yours}
 use Rattle.row_seat.specs.declared.view.View.{View}
@@ -16,9 +16,8 @@ abbrev pub IsPast : ℕ → ℕ → ℕ → ℕ → What → Type 0
 IsPast o a l c (Open s p) = (1 ≤ s) × (s ≤ o) × (p ≡ 0)
 IsPast o a l c (Acquire r s) = (r < a) × (s ≡ r + 1)
 IsPast o a l c (Lease j s) = j < l
-IsPast o a l c (Cancel j how) = Unit {0}
 IsPast o a l c (Close s how) = (1 ≤ s) × (s ≤ c)
-IsPast o a l c (Final r how ok) = Unit {0}
+IsPast o a l c w = Unit {0}
 
 module _ {P : Type 0} where
   -- each event of the seat is such a one

@@ -4,7 +4,7 @@ ghost use Rattle.std.specs.Thread.{IsSync};
 ghost use Rattle.chunk_core.specs.Lists.{IsAmong};
 ghost use Rattle.row_shared.specs.Seats.{SharedFits, shown};
 ghost use Rattle.shared_scripts.specs.Crowds.{IsGathered, IsRested};
-ghost use Rattle.shared_scripts.specs.Guests.{ComesHome, EarlierFit, IsHosting, IsReady, IsWholeLedger};
+ghost use Rattle.shared_scripts.specs.Guests.{ComesHome, EarlierFit, IsHosting, IsReady, IsEndedLedger};
 
 use crate::hosting::{COMMON, ROWS, STREAMS, lend, open_common, shut_common};
 use crate::races::Bell;
@@ -149,7 +149,7 @@ fn crew<R: Threads + Sync>(
 /// Eight threads live through 64 rows each and let go of eight rows that all of them leased, while
 /// these are closed: the ledger, and how often each payload was finalized.
 pub fn crowd<R: Threads + Sync>(rt: &R, alloc: Global) -> Result<(Ledger, Counts), AllocError>
-    ensures { IfOk result (λ t. IsWholeLedger t.0) }
+    ensures { IfOk result (λ t. IsEndedLedger t.0) }
 {
     let mut counts = Vec::new(alloc);
     let pays = bells(alloc, COMMON, &mut counts)?;
