@@ -113,10 +113,6 @@ impl Subject {
     }
 }
 
-fn line_of(alloc: Global, text: &str) -> Result<Line, AllocError> {
-    Ok(Line::of_vec(Vec::from_slice(alloc, text.as_bytes())?))
-}
-
 fn utf8<C: CpuClock>(alloc: Global, clock: &C, order: &Order<'_>) -> Result<Told, AllocError> {
     run::<PlainBytes, Utf8Pipe, C>(alloc, clock, order, Utf8Pipe::new(alloc)?)
 }
@@ -169,7 +165,7 @@ fn dropped<C: CpuClock>(alloc: Global, clock: &C, order: &Order<'_>) -> Result<T
 }
 
 fn filtered<C: CpuClock>(alloc: Global, clock: &C, order: &Order<'_>) -> Result<Told, AllocError> {
-    let text = line_of(alloc, "needle")?;
+    let text = Line::copy_of(alloc, b"needle")?;
     run::<TextLines, FilterPipe, C>(alloc, clock, order, FilterPipe::new(alloc, text)?)
 }
 
@@ -186,7 +182,7 @@ fn counted<C: CpuClock>(alloc: Global, clock: &C, order: &Order<'_>) -> Result<T
 }
 
 fn spread<C: CpuClock>(alloc: Global, clock: &C, order: &Order<'_>) -> Result<Told, AllocError> {
-    let line = line_of(alloc, "--")?;
+    let line = Line::copy_of(alloc, b"--")?;
     run::<TextLines, InterspersePipe, C>(alloc, clock, order, InterspersePipe::new(alloc, line)?)
 }
 

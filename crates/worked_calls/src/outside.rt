@@ -84,7 +84,7 @@ fn numbers_of(alloc: Global, numbers: &[u32]) -> Result<List<u32>, AllocError> {
 fn file_of(alloc: Global, path: &str, bytes: &[u8]) -> Result<FileOf, AllocError> {
     Ok(FileOf {
         path: Word::of(alloc, path)?,
-        bytes: Line::of_vec(Vec::from_slice(alloc, bytes)?),
+        bytes: Line::copy_of(alloc, bytes)?,
     })
 }
 
