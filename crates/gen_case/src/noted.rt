@@ -1,6 +1,6 @@
 //! How often each sort of event was noted.
 ghost use Rattle.std.specs.Prelude.{◌≡◌, count_by};
-ghost use Rattle.gen_case.specs.Noted.{is_acquire, is_cancel, is_close, is_final, is_lease, noted_in};
+ghost use Rattle.gen_case.specs.Noted.{noted_in, notes_acquire, notes_cancel, notes_close, notes_final, notes_lease};
 
 use res_ledger::{Event, What};
 use std::fmt;
@@ -36,64 +36,64 @@ impl fmt::Display for Noted {
     }
 }
 
-fn is_acquire(event: &Event) -> bool
-    ensures { result ≡ is_acquire event.now }
+fn notes_acquire(event: &Event) -> bool
+    ensures { result ≡ notes_acquire event.now }
 {
     matches!(event.what, What::Acquire { .. })
 }
 
 fn acquires(events: &[Event]) -> u64
-    ensures { result ≡ count_by is_acquire events.now }
+    ensures { result ≡ count_by notes_acquire events.now }
 {
-    events.iter().filter(|event| is_acquire(event)).count() as u64
+    events.iter().filter(|event| notes_acquire(event)).count() as u64
 }
 
-fn is_lease(event: &Event) -> bool
-    ensures { result ≡ is_lease event.now }
+fn notes_lease(event: &Event) -> bool
+    ensures { result ≡ notes_lease event.now }
 {
     matches!(event.what, What::Lease { .. })
 }
 
 fn leases(events: &[Event]) -> u64
-    ensures { result ≡ count_by is_lease events.now }
+    ensures { result ≡ count_by notes_lease events.now }
 {
-    events.iter().filter(|event| is_lease(event)).count() as u64
+    events.iter().filter(|event| notes_lease(event)).count() as u64
 }
 
-fn is_cancel(event: &Event) -> bool
-    ensures { result ≡ is_cancel event.now }
+fn notes_cancel(event: &Event) -> bool
+    ensures { result ≡ notes_cancel event.now }
 {
     matches!(event.what, What::Cancel { .. })
 }
 
 fn cancels(events: &[Event]) -> u64
-    ensures { result ≡ count_by is_cancel events.now }
+    ensures { result ≡ count_by notes_cancel events.now }
 {
-    events.iter().filter(|event| is_cancel(event)).count() as u64
+    events.iter().filter(|event| notes_cancel(event)).count() as u64
 }
 
-fn is_close(event: &Event) -> bool
-    ensures { result ≡ is_close event.now }
+fn notes_close(event: &Event) -> bool
+    ensures { result ≡ notes_close event.now }
 {
     matches!(event.what, What::Close { .. })
 }
 
 fn closes(events: &[Event]) -> u64
-    ensures { result ≡ count_by is_close events.now }
+    ensures { result ≡ count_by notes_close events.now }
 {
-    events.iter().filter(|event| is_close(event)).count() as u64
+    events.iter().filter(|event| notes_close(event)).count() as u64
 }
 
-fn is_final(event: &Event) -> bool
-    ensures { result ≡ is_final event.now }
+fn notes_final(event: &Event) -> bool
+    ensures { result ≡ notes_final event.now }
 {
     matches!(event.what, What::Final { .. })
 }
 
 fn finals(events: &[Event]) -> u64
-    ensures { result ≡ count_by is_final events.now }
+    ensures { result ≡ count_by notes_final events.now }
 {
-    events.iter().filter(|event| is_final(event)).count() as u64
+    events.iter().filter(|event| notes_final(event)).count() as u64
 }
 
 /// The numbers of these events.

@@ -13,7 +13,7 @@ use std::time::{CpuClock, Duration};
 
 /// What a pipe gave, and how long it took.
 #[derive(Clone, Copy)]
-pub struct Told {
+pub struct Measured {
     pub tally: Tally,
     pub spent: Duration,
 }
@@ -71,7 +71,7 @@ pub fn run<I: Input, P: Feed, C: CpuClock>(
     clock: &C,
     order: &Order<'_>,
     mut pipe: P,
-) -> Result<Told, AllocError>
+) -> Result<Measured, AllocError>
     requires { MayFeed (P.stands pipe) I.kind }
 {
     let text = I::text(alloc)?;
@@ -84,13 +84,13 @@ pub fn run<I: Input, P: Feed, C: CpuClock>(
         let goes_on = feed_block(alloc, &mut pipe, &mut block, piece, &mut tally)?;
         spent = spent.saturating_add(used(clock).saturating_sub(before));
         if !goes_on {
-            return Ok(Told { tally, spent });
+            return Ok(Measured { tally, spent });
         }
     }
     let before = used(clock);
     finish(alloc, pipe, &mut tally)?;
     spent = spent.saturating_add(used(clock).saturating_sub(before));
-    Ok(Told { tally, spent })
+    Ok(Measured { tally, spent })
 }
 
 /// Runs a pipe of comma-separated values over each of as many blocks as are asked for. It gathers its
@@ -99,7 +99,7 @@ pub fn run_each<C: CpuClock>(
     alloc: Global,
     clock: &C,
     order: &Order<'_>,
-) -> Result<Told, AllocError> {
+) -> Result<Measured, AllocError> {
     let text = RowBytes::text(alloc)?;
     let piece = RowBytes::piece(order.chunk());
     let mut tally = Tally::new(order.is_timed());
@@ -113,5 +113,5 @@ pub fn run_each<C: CpuClock>(
         }
         spent = spent.saturating_add(used(clock).saturating_sub(before));
     }
-    Ok(Told { tally, spent })
+    Ok(Measured { tally, spent })
 }

@@ -59,7 +59,7 @@ fn lines_of(alloc: Global, text: &[u8]) -> Result<Load, AllocError>
     let mut from = 0;
     for at in 0..text.len() {
         if text[at] == b'\n' {
-            lines.push(Line::of_vec(Vec::from_slice(alloc, &text[from..at])?))?;
+            lines.push(Line::copy_of(alloc, &text[from..at])?)?;
             from = at + 1;
         }
     }

@@ -46,12 +46,12 @@ fn tell<R: Print + AllocGlobal + CpuClock>(
     order: &Order<'_>,
     subject: Subject,
 ) -> io::Result<()> {
-    let told = subject.run(rt.alloc(), rt, order)?;
+    let measured = subject.run(rt.alloc(), rt, order)?;
     let name = subject.name();
-    let tally = told.tally;
+    let tally = measured.tally;
     print!(rt; "{name} {} {}", tally.count(), tally.sum())?;
     if order.is_timed() {
-        print!(rt; " {}", micros_of(told.spent))?;
+        print!(rt; " {}", micros_of(measured.spent))?;
     }
     println!(rt; "")
 }

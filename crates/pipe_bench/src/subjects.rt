@@ -1,5 +1,5 @@
 //! The pipes that are run, each over its kind of input.
-use crate::feeding::{Told, run, run_each};
+use crate::feeding::{Measured, run, run_each};
 use crate::inputs::{BrokenBytes, PlainBytes, TextLines, TextRows};
 use crate::order::Order;
 use crate::text;
@@ -91,7 +91,7 @@ impl Subject {
         alloc: Global,
         clock: &C,
         order: &Order<'_>,
-    ) -> Result<Told, AllocError> {
+    ) -> Result<Measured, AllocError> {
         match self {
             Subject::Utf8 => utf8(alloc, clock, order),
             Subject::Lossy => lossy(alloc, clock, order),
@@ -113,23 +113,23 @@ impl Subject {
     }
 }
 
-fn line_of(alloc: Global, text: &str) -> Result<Line, AllocError> {
-    Ok(Line::of_vec(Vec::from_slice(alloc, text.as_bytes())?))
-}
-
-fn utf8<C: CpuClock>(alloc: Global, clock: &C, order: &Order<'_>) -> Result<Told, AllocError> {
+fn utf8<C: CpuClock>(alloc: Global, clock: &C, order: &Order<'_>) -> Result<Measured, AllocError> {
     run::<PlainBytes, Utf8Pipe, C>(alloc, clock, order, Utf8Pipe::new(alloc)?)
 }
 
-fn lossy<C: CpuClock>(alloc: Global, clock: &C, order: &Order<'_>) -> Result<Told, AllocError> {
+fn lossy<C: CpuClock>(alloc: Global, clock: &C, order: &Order<'_>) -> Result<Measured, AllocError> {
     run::<PlainBytes, LossyPipe, C>(alloc, clock, order, LossyPipe::new(alloc)?)
 }
 
-fn mended<C: CpuClock>(alloc: Global, clock: &C, order: &Order<'_>) -> Result<Told, AllocError> {
+fn mended<C: CpuClock>(
+    alloc: Global,
+    clock: &C,
+    order: &Order<'_>,
+) -> Result<Measured, AllocError> {
     run::<BrokenBytes, LossyPipe, C>(alloc, clock, order, LossyPipe::new(alloc)?)
 }
 
-fn lines<C: CpuClock>(alloc: Global, clock: &C, order: &Order<'_>) -> Result<Told, AllocError> {
+fn lines<C: CpuClock>(alloc: Global, clock: &C, order: &Order<'_>) -> Result<Measured, AllocError> {
     run::<PlainBytes, LinesPipe, C>(alloc, clock, order, LinesPipe::new(alloc)?)
 }
 
@@ -137,15 +137,15 @@ fn hexadecimal<C: CpuClock>(
     alloc: Global,
     clock: &C,
     order: &Order<'_>,
-) -> Result<Told, AllocError> {
+) -> Result<Measured, AllocError> {
     run::<PlainBytes, HexPipe, C>(alloc, clock, order, HexPipe::new(alloc)?)
 }
 
-fn upper<C: CpuClock>(alloc: Global, clock: &C, order: &Order<'_>) -> Result<Told, AllocError> {
+fn upper<C: CpuClock>(alloc: Global, clock: &C, order: &Order<'_>) -> Result<Measured, AllocError> {
     run::<PlainBytes, UpperPipe, C>(alloc, clock, order, UpperPipe::new(alloc)?)
 }
 
-fn field<C: CpuClock>(alloc: Global, clock: &C, order: &Order<'_>) -> Result<Told, AllocError> {
+fn field<C: CpuClock>(alloc: Global, clock: &C, order: &Order<'_>) -> Result<Measured, AllocError> {
     run::<TextRows, FieldPipe, C>(alloc, clock, order, FieldPipe::new(alloc, FIELD)?)
 }
 
@@ -158,38 +158,70 @@ fn words_table(alloc: Global) -> Result<Dict, AllocError> {
     }
 }
 
-fn looked_up<C: CpuClock>(alloc: Global, clock: &C, order: &Order<'_>) -> Result<Told, AllocError> {
+fn looked_up<C: CpuClock>(
+    alloc: Global,
+    clock: &C,
+    order: &Order<'_>,
+) -> Result<Measured, AllocError> {
     let table = Arc::new(alloc, words_table(alloc)?)?;
     let pipe = LookupPipe::new(alloc, table, FIELD)?;
     run::<TextRows, LookupPipe, C>(alloc, clock, order, pipe)
 }
 
-fn dropped<C: CpuClock>(alloc: Global, clock: &C, order: &Order<'_>) -> Result<Told, AllocError> {
+fn dropped<C: CpuClock>(
+    alloc: Global,
+    clock: &C,
+    order: &Order<'_>,
+) -> Result<Measured, AllocError> {
     run::<TextLines, DropPipe, C>(alloc, clock, order, DropPipe::new(alloc, LEFT_OUT)?)
 }
 
-fn filtered<C: CpuClock>(alloc: Global, clock: &C, order: &Order<'_>) -> Result<Told, AllocError> {
-    let text = line_of(alloc, "needle")?;
+fn filtered<C: CpuClock>(
+    alloc: Global,
+    clock: &C,
+    order: &Order<'_>,
+) -> Result<Measured, AllocError> {
+    let text = Line::copy_of(alloc, b"needle")?;
     run::<TextLines, FilterPipe, C>(alloc, clock, order, FilterPipe::new(alloc, text)?)
 }
 
-fn changed<C: CpuClock>(alloc: Global, clock: &C, order: &Order<'_>) -> Result<Told, AllocError> {
+fn changed<C: CpuClock>(
+    alloc: Global,
+    clock: &C,
+    order: &Order<'_>,
+) -> Result<Measured, AllocError> {
     run::<TextLines, ChangesPipe, C>(alloc, clock, order, ChangesPipe::new(alloc)?)
 }
 
-fn numbered<C: CpuClock>(alloc: Global, clock: &C, order: &Order<'_>) -> Result<Told, AllocError> {
+fn numbered<C: CpuClock>(
+    alloc: Global,
+    clock: &C,
+    order: &Order<'_>,
+) -> Result<Measured, AllocError> {
     run::<TextLines, NumberPipe, C>(alloc, clock, order, NumberPipe::new(alloc)?)
 }
 
-fn counted<C: CpuClock>(alloc: Global, clock: &C, order: &Order<'_>) -> Result<Told, AllocError> {
+fn counted<C: CpuClock>(
+    alloc: Global,
+    clock: &C,
+    order: &Order<'_>,
+) -> Result<Measured, AllocError> {
     run::<TextLines, CountPipe, C>(alloc, clock, order, CountPipe::new(alloc)?)
 }
 
-fn spread<C: CpuClock>(alloc: Global, clock: &C, order: &Order<'_>) -> Result<Told, AllocError> {
-    let line = line_of(alloc, "--")?;
+fn spread<C: CpuClock>(
+    alloc: Global,
+    clock: &C,
+    order: &Order<'_>,
+) -> Result<Measured, AllocError> {
+    let line = Line::copy_of(alloc, b"--")?;
     run::<TextLines, InterspersePipe, C>(alloc, clock, order, InterspersePipe::new(alloc, line)?)
 }
 
-fn grouped<C: CpuClock>(alloc: Global, clock: &C, order: &Order<'_>) -> Result<Told, AllocError> {
+fn grouped<C: CpuClock>(
+    alloc: Global,
+    clock: &C,
+    order: &Order<'_>,
+) -> Result<Measured, AllocError> {
     run::<TextLines, ChunkNPipe, C>(alloc, clock, order, ChunkNPipe::new(alloc, GROUP)?)
 }

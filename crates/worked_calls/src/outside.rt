@@ -58,7 +58,7 @@ pub fn run_of<'a>(description: &'a str, file: &'a [u8]) -> Case<'a> {
 
 /// What a call left behind.
 #[derive(Drop)]
-pub struct Seen {
+pub struct Aftermath {
     pub report: Report,
     pub depot: MemDepot,
     pub out: MemSink,
@@ -84,7 +84,7 @@ fn numbers_of(alloc: Global, numbers: &[u32]) -> Result<List<u32>, AllocError> {
 fn file_of(alloc: Global, path: &str, bytes: &[u8]) -> Result<FileOf, AllocError> {
     Ok(FileOf {
         path: Word::of(alloc, path)?,
-        bytes: Line::of_vec(Vec::from_slice(alloc, bytes)?),
+        bytes: Line::copy_of(alloc, bytes)?,
     })
 }
 
@@ -141,7 +141,7 @@ pub fn run<R: Threads + Wait + Sync>(
     rt: &R,
     alloc: Global,
     case: &Case,
-) -> Result<Seen, AllocError> {
+) -> Result<Aftermath, AllocError> {
     let fails = numbers_of(alloc, case.source_fails)?;
     let mut src = MemSource::new(alloc, case.source, fails)?;
     run_from(rt, alloc, &mut src, case)
@@ -153,7 +153,7 @@ pub fn run_from<R: Threads + Wait + Sync, S: Source>(
     alloc: Global,
     src: &mut S,
     case: &Case,
-) -> Result<Seen, AllocError>
+) -> Result<Aftermath, AllocError>
     requires { (S.told src.old).faults < 2 ^ 64 - 1 }
 {
     let words = words_of(alloc, case.words)?;
@@ -163,7 +163,7 @@ pub fn run_from<R: Threads + Wait + Sync, S: Source>(
     let report = flume(
         rt, alloc, &words, src, &mut depot, &mut out, &mut err, &OpenGate,
     );
-    Ok(Seen {
+    Ok(Aftermath {
         report,
         depot,
         out,
@@ -171,7 +171,7 @@ pub fn run_from<R: Threads + Wait + Sync, S: Source>(
     })
 }
 
-impl Seen {
+impl Aftermath {
     /// Whether nothing was done: no device was made, nothing printed, and standard error was told
     /// this.
     pub fn is_idle(&self, status: Status, line: &str) -> bool {

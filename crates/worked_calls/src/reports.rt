@@ -1,5 +1,5 @@
 //! What a run of a description printed and reported.
-use crate::outside::{Case, Seen, run};
+use crate::outside::{Aftermath, Case, run};
 use flume_cli::Status;
 use flume_cli::tail::tail_of;
 use std::alloc::{AllocError, Global};
@@ -51,7 +51,7 @@ pub fn runs_as<R: Threads + Wait + Sync>(
     seen.is_whole(alloc, status, frames, tail)
 }
 
-impl Seen {
+impl Aftermath {
     /// Whether the run ended with this status, and printed and reported all.
     pub fn is_whole(
         &self,

@@ -8,7 +8,7 @@ use std::process::Abort;
 use std::sync::Wait;
 use std::test::Fail;
 use std::thread::Threads;
-use worked_calls::outside::{Seen, run, run_of};
+use worked_calls::outside::{Aftermath, run, run_of};
 
 /// 1,024 streams of one file, of which so many may be open at a time.
 fn crowd_of(alloc: Global, max_open: &str) -> Result<String, AllocError> {
@@ -19,7 +19,7 @@ fn crowd_of(alloc: Global, max_open: &str) -> Result<String, AllocError> {
     Ok(text)
 }
 
-fn is_whole(rt: &impl Abort, max_open: &str, seen: &Seen) {
+fn is_whole(rt: &impl Abort, max_open: &str, seen: &Aftermath) {
     let report = &seen.report;
     same_at(rt, report.status, Status::Good, &max_open);
     same_at(rt, report.ends.len(), 1025, &max_open);

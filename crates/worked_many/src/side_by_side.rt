@@ -7,7 +7,7 @@ use std::process::Abort;
 use std::sync::Wait;
 use std::test::Fail;
 use std::thread::Threads;
-use worked_calls::outside::{Case, Seen, filled, run, run_of};
+use worked_calls::outside::{Aftermath, Case, filled, run, run_of};
 use worked_calls::reports::runs_as;
 
 /// The tail of three streams that were done and looked up in two tables, which the last of them closed.
@@ -138,7 +138,7 @@ fn five_files_in_turn(rt: HostRuntime) -> Result<(), Fail> {
 }
 
 /// Fails the test unless three streams were done, and these are the first frames.
-fn begins_with(rt: &impl Abort, max_open: &str, seen: &Seen, frames: &str) {
+fn begins_with(rt: &impl Abort, max_open: &str, seen: &Aftermath, frames: &str) {
     same_at(rt, seen.report.status, Status::Good, &max_open);
     same_at(rt, seen.report.ledger.len(), 16, &max_open);
     holds_at(rt, seen.returned(), &max_open);

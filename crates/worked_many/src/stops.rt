@@ -9,7 +9,7 @@ use std::process::Abort;
 use std::sync::Wait;
 use std::test::Fail;
 use std::thread::Threads;
-use worked_calls::outside::{Case, Seen, run, run_of};
+use worked_calls::outside::{Aftermath, Case, run, run_of};
 
 const THREE: &str = "[[stream]]\npath = 'a'\n[[stream]]\npath = 'b'\n[[stream]]\npath = 'a'\n";
 
@@ -115,7 +115,7 @@ fn nothing_begins_behind_a_fault(rt: HostRuntime) -> Result<(), Fail> {
 }
 
 /// Fails the test unless the writes failed behind so many bytes, and each stream was done or halted.
-fn stopped_behind(rt: &impl Abort, nth: u32, seen: &Seen, written: usize) {
+fn stopped_behind(rt: &impl Abort, nth: u32, seen: &Aftermath, written: usize) {
     let report = &seen.report;
     same_at(rt, report.status, Status::NotWritten, &nth);
     holds_at(rt, seen.returned(), &nth);

@@ -15,10 +15,6 @@ use std::fmt::Debug;
 use std::process::Abort;
 use std::test::Fail;
 
-fn line_of(alloc: Global, text: &[u8]) -> Result<Line, AllocError> {
-    Ok(Line::of_vec(Vec::from_slice(alloc, text)?))
-}
-
 fn two(alloc: Global, front: Load, back: Load) -> Result<Vec<Load>, AllocError>
     ensures { IfOk result (λ loads. loads.items ≡ front ∷ back ∷ []) }
 {
@@ -40,7 +36,7 @@ fn two_of_bytes(alloc: Global, front: &[u8], back: &[u8]) -> Result<Vec<Load>, A
 fn lines_of(alloc: Global, text: &[u8]) -> Result<Chunk<Line>, AllocError> {
     let mut lines = Vec::new(alloc);
     for byte in text {
-        lines.push(line_of(alloc, [*byte].as_slice())?)?;
+        lines.push(Line::copy_of(alloc, [*byte].as_slice())?)?;
     }
     Chunk::of_vec(alloc, lines)
 }
@@ -153,9 +149,9 @@ fn whole_elements(rt: HostRuntime) -> Result<(), Fail> {
     bytes_give(&rt, Pipe::Drop(2), (b"a", b"bc"), text(b"/c/"))?;
     lines_give(&rt, Pipe::Changes, (b"aa", b"ab"), text(b"a\n/b\n/"))?;
     lines_give(&rt, Pipe::Number, (b"a", b"b"), text(b"0 a\n/1 b\n/"))?;
-    let kept = Pipe::Filter(line_of(rt.alloc(), b"b")?);
+    let kept = Pipe::Filter(Line::copy_of(rt.alloc(), b"b")?);
     lines_give(&rt, kept, (b"ab", b"cb"), text(b"b\n/b\n/"))?;
-    let spread = Pipe::Intersperse(line_of(rt.alloc(), b"-")?);
+    let spread = Pipe::Intersperse(Line::copy_of(rt.alloc(), b"-")?);
     lines_give(&rt, spread, (b"a", b"bc"), text(b"a\n/-\nb\n-\nc\n/"))?;
     Ok(())
 }

@@ -8,7 +8,7 @@ use std::fmt::Debug;
 use std::process::Abort;
 use std::sync::Wait;
 use std::thread::Threads;
-use worked_calls::outside::{Case, Seen, cat_of, filled, run};
+use worked_calls::outside::{Aftermath, Case, cat_of, filled, run};
 
 /// What a call leaves that opened its file, beside its output.
 #[derive(Clone, Copy)]
@@ -48,7 +48,7 @@ pub(crate) const TAIL: &str =
     "end 0 done\nledger 3\n0 acquire 0 0\n0 close 0 succeeded\n0 final 0 succeeded ok\n";
 
 /// Fails the test unless the call printed this and left this, and tells the place.
-fn is_left(rt: &impl Abort, seen: &Seen, out: &[u8], left: &Left, place: &impl Debug) {
+fn is_left(rt: &impl Abort, seen: &Aftermath, out: &[u8], left: &Left, place: &impl Debug) {
     holds_at(rt, seen.printed(left.status, out), place);
     same_at(rt, seen.report.status.number(), left.number, place);
     same_at(rt, seen.out.faults(), left.faults, place);

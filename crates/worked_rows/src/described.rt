@@ -8,7 +8,7 @@ use std::process::Abort;
 use std::sync::Wait;
 use std::test::Fail;
 use std::thread::Threads;
-use worked_calls::outside::{Case, Seen, filled, run, run_from, run_of};
+use worked_calls::outside::{Aftermath, Case, filled, run, run_from, run_of};
 use worked_calls::reports::{DONE, NONE, runs_as};
 use worked_calls::slow::OneByOne;
 
@@ -20,7 +20,7 @@ fn run_slowly(
     alloc: Global,
     bytes: &[u8],
     fails_at: Option<usize>,
-) -> Result<(Seen, usize), AllocError> {
+) -> Result<(Aftermath, usize), AllocError> {
     let mut src = OneByOne::new(alloc, bytes, fails_at)?;
     let seen = run_from(rt, alloc, &mut src, &run_of("", b"hello\n"))?;
     Ok((seen, src.given()))

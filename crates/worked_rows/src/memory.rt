@@ -7,7 +7,7 @@ use std::alloc::Global;
 use std::process::Abort;
 use std::sync::Wait;
 use std::thread::Threads;
-use worked_calls::outside::{Case, Seen, cat_of, run, run_of};
+use worked_calls::outside::{Aftermath, Case, cat_of, run, run_of};
 use worked_calls::reports::CAUGHT;
 
 const WANTING: &[u8] = b"flume: out of memory\n";
@@ -85,7 +85,7 @@ fn refuses(
 }
 
 /// Nothing is done but that standard error is told why, if there is room for that.
-fn assert_refused(rt: &impl Abort, seen: &Seen, number: u8, line: &[u8]) {
+fn assert_refused(rt: &impl Abort, seen: &Aftermath, number: u8, line: &[u8]) {
     let line = if seen.report.status == Status::Memory {
         WANTING
     } else {
@@ -98,7 +98,7 @@ fn assert_refused(rt: &impl Abort, seen: &Seen, number: u8, line: &[u8]) {
 }
 
 /// The output is whole with ample memory, and else a front of that.
-fn assert_told(rt: &impl Abort, seen: &Seen, frames: &[u8], tail: &str) {
+fn assert_told(rt: &impl Abort, seen: &Aftermath, frames: &[u8], tail: &str) {
     let out = seen.out.written();
     let err = seen.err.written();
     holds(rt, seen.returned());

@@ -7,7 +7,7 @@ use res_ledger::{StreamNo, What};
 use run_rules::EndOf;
 use std::process::Abort;
 use std::test::Fail;
-use worked_calls::outside::{Case, Seen, cat_of, event, run};
+use worked_calls::outside::{Aftermath, Case, cat_of, event, run};
 
 #[test]
 fn hello_is_one_frame(rt: HostRuntime) -> Result<(), Fail> {
@@ -26,7 +26,7 @@ fn empty_file_has_no_frame(rt: HostRuntime) -> Result<(), Fail> {
 }
 
 /// Fails the test unless the report has one end, that of stream 0, which ended so.
-fn ended_alone(rt: &impl Abort, seen: &Seen, how: How) {
+fn ended_alone(rt: &impl Abort, seen: &Aftermath, how: How) {
     let end = EndOf {
         who: StreamNo::Inner(0),
         how,
@@ -35,7 +35,7 @@ fn ended_alone(rt: &impl Abort, seen: &Seen, how: How) {
 }
 
 /// Fails the test unless the ledger has this event of stream 0 alone.
-fn noted_alone(rt: &impl Abort, seen: &Seen, what: What) {
+fn noted_alone(rt: &impl Abort, seen: &Aftermath, what: What) {
     let noted = [event(0, what)];
     same(rt, seen.report.ledger.as_slice(), noted.as_slice());
 }

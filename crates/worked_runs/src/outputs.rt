@@ -9,7 +9,7 @@ use std::process::Abort;
 use std::sync::Wait;
 use std::test::Fail;
 use std::thread::Threads;
-use worked_calls::outside::{Case, Seen, run, run_of};
+use worked_calls::outside::{Aftermath, Case, run, run_of};
 
 /// The tail of a run whose one stream was written to a file.
 const WRITTEN: &str = "end outer done\nend 0 done\nledger 8\n\
@@ -32,7 +32,7 @@ fn faulty_beside_a_file(alloc: Global, fault: &str) -> Result<String, AllocError
 fn is_left(
     rt: &impl Abort,
     alloc: Global,
-    seen: &Seen,
+    seen: &Aftermath,
     wanted: Wanted<'_>,
     place: &impl Debug,
 ) -> Result<(), AllocError> {

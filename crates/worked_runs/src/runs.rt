@@ -7,7 +7,7 @@ use std::fmt::Debug;
 use std::process::Abort;
 use std::sync::Wait;
 use std::thread::Threads;
-use worked_calls::outside::{Case, Seen, run, run_of};
+use worked_calls::outside::{Aftermath, Case, run, run_of};
 use worked_calls::reports::{DONE, runs_as};
 
 /// What a run leaves: its status, the frames that it prints, and its ends and ledger as text.
@@ -126,7 +126,7 @@ pub(crate) fn each_leaves(
 pub(crate) fn is_reported(
     rt: &impl Abort,
     alloc: Global,
-    seen: &Seen,
+    seen: &Aftermath,
     tail: &str,
 ) -> Result<(), AllocError> {
     holds(rt, seen.reported(alloc, tail)?);
@@ -137,7 +137,7 @@ pub(crate) fn is_reported(
 pub(crate) fn is_not_written(
     rt: &impl Abort,
     alloc: Global,
-    seen: &Seen,
+    seen: &Aftermath,
     out: &[u8],
     tail: &str,
 ) -> Result<(), AllocError> {

@@ -10,7 +10,7 @@ use std::process::Abort;
 use std::sync::Wait;
 use std::test::Fail;
 use std::thread::Threads;
-use worked_calls::outside::{Case, Seen, run, run_of};
+use worked_calls::outside::{Aftermath, Case, run, run_of};
 
 /// The tail of a run whose one stream was done with both its sources.
 const BOTH: &str = "end outer done\nend 0 done\nledger 8\n\
@@ -109,7 +109,7 @@ fn sides_are_joined(rt: HostRuntime) -> Result<(), Fail> {
 }
 
 /// Fails the test unless the output begins in one of these ways.
-fn begins_as_either(rt: &impl Abort, seen: &Seen, one: &[u8], other: &[u8]) {
+fn begins_as_either(rt: &impl Abort, seen: &Aftermath, one: &[u8], other: &[u8]) {
     let out = seen.out.written();
     holds(rt, out.starts_with(one) || out.starts_with(other));
 }

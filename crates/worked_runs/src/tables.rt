@@ -115,16 +115,30 @@ fn two_tables_and_one_stream(rt: HostRuntime) -> Result<(), Fail> {
     Ok(())
 }
 
-/// Where no frame is wanted no table is opened.
-#[test]
-fn no_table_is_opened(rt: HostRuntime) -> Result<(), Fail> {
-    let text = format!(in rt.alloc(); "take = 0\n{LOOKUP}")?;
+/// Fails the test unless the table isn't opened where no frame is wanted, and this is printed; other
+/// streams stand behind the one that looks up in it.
+fn leaves_tables(
+    rt: &(impl Abort + Threads + Wait + Sync),
+    alloc: Global,
+    others: &str,
+    tail: &str,
+) -> Result<(), AllocError> {
+    let text = format!(in alloc; "take = 0\n{LOOKUP}{others}")?;
     let case = Case {
         others: &[("t.csv", b"k,v\n")],
         ..run_of(text.as_str(), KEYS)
     };
-    let tail = "end outer halted\nend 0 halted\nledger 1\nouter close 0 canceled\n";
-    opens_nothing(&rt, rt.alloc(), &case, tail)?;
+    opens_nothing(rt, alloc, &case, tail)
+}
+
+/// Where no frame is wanted no table is opened.
+#[test]
+fn no_table_is_opened(rt: HostRuntime) -> Result<(), Fail> {
+    let one = "end outer halted\nend 0 halted\nledger 1\nouter close 0 canceled\n";
+    leaves_tables(&rt, rt.alloc(), "", one)?;
+    let two = "end outer halted\nend 0 halted\nend 1 halted\nledger 1\n\
+        outer close 0 canceled\n";
+    leaves_tables(&rt, rt.alloc(), "[[stream]]\npath = 'a'\n", two)?;
     Ok(())
 }
 

@@ -123,6 +123,7 @@ fn fails_as_text(
 #[test]
 fn text_that_is_not_utf8(rt: HostRuntime) -> Result<(), Fail> {
     fails_as_text(&rt, rt.alloc(), b"a\xE2\x82", "truncated")?;
+    fails_as_text(&rt, rt.alloc(), b"a\xFF", "malformed")?;
     fails_as_text(&rt, rt.alloc(), b"a\xFFb", "malformed")?;
     Ok(())
 }

@@ -118,3 +118,19 @@ fn a_row_that_was_let_go_is_filled_again(rt: HostRuntime) -> Result<(), Fail> {
     same(&rt, field_room(&rt, rt.alloc(), &mut spare)?, 0);
     Ok(())
 }
+
+/// The memory of the line that is made behind the last field's, once a row of fields of so many bytes
+/// was given and let go.
+fn next_room(rt: &impl Abort, alloc: Global, bytes: &[u8]) -> Result<usize, AllocError> {
+    let mut spare = spare_after(alloc, bytes)?;
+    let _fields = field_room(rt, alloc, &mut spare)?;
+    let _last = line_room(rt, alloc, &mut spare, b"c")?;
+    line_room(rt, alloc, &mut spare, b"d")
+}
+
+#[test]
+fn fields_of_more_than_1024_bytes_arent_kept(rt: HostRuntime) -> Result<(), Fail> {
+    same(&rt, next_room(&rt, rt.alloc(), &[7; 1024])?, 1024);
+    holds(&rt, next_room(&rt, rt.alloc(), &[7; 1025])? < 1024);
+    Ok(())
+}

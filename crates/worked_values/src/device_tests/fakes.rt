@@ -12,6 +12,8 @@ pub enum Answer {
     /// It gives or takes so many bytes, as far as there is room.
     Moves(usize),
     Fails,
+    /// It would have to wait, and so fails.
+    WouldBlock,
 }
 
 /// A file that answers its reads and writes in turn, and fails once there is no answer left. Each
@@ -41,6 +43,7 @@ impl<'a> Scripted<'a> {
         match answer {
             Some(Answer::Moves(count)) => Ok(*count),
             Some(Answer::Interrupted) => Err(io::Error::from(ErrorKind::Interrupted)),
+            Some(Answer::WouldBlock) => Err(io::Error::from(ErrorKind::WouldBlock)),
             Some(Answer::Fails) | None => Err(io::Error::from(ErrorKind::Other)),
         }
     }
