@@ -28,8 +28,8 @@ module _ {P : Type 0} {a m : Seen P} {T : List ℕ} (h : HasTwoRows a) where
   covers_two o = o.covered ∙ ap (λ E. leased_rows E 0) h.words_are
 
   -- once the root is closed there is room for the end of the lease
-  pub cancel_free : {b : Seen P} → Leases a 0 7 T m → owed m.seat ≡ owed a.seat → m.seat.spare + owed b.seat ≤ b.seat.spare + owed m.seat → owed b.seat ≡ 0 → owed b.seat + 1 + away T b.seat.opened ≤ b.seat.spare
-  cancel_free {b = b} o e f z =
+  pub cancel_free : {ends : P → Exit → Bool → P → Type 0} {b : Seen P} → Leases a 0 7 T m → owed m.seat ≡ owed a.seat → ClosesScope ends m 0 Succeeded b → m.seat.spare + owed b.seat ≤ b.seat.spare + owed m.seat → owed b.seat ≡ 0 → owed b.seat + 1 + away T b.seat.opened ≤ b.seat.spare
+  cancel_free {b = b} o e k f z =
       let l = away_le T b.seat.opened in let n = ap length (covers_two o) in let s = ap (λ v. v.spare) o.seat in let r = h.spare in omega (l, n, s, r, e, f, z, arith)
 
   pub leased_and_canceled : {ends : P → Exit → Bool → P → Type 0} {b d : Seen P} {j : ℕ} {L : List Event} → j ≡ 7 → Leases a 0 7 T m → IsSameSeat a.seat m.seat → ((r : ℕ) → IsAmong r T → IsAmong (j, r) m.seat.pairs) → ClosesScope ends m 0 Succeeded b → IsSameSeat m.seat b.seat → owed b.seat ≡ 0

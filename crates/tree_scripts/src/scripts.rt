@@ -73,10 +73,7 @@ where
 }
 
 /// Ends a tree whose root is closed and finishes its seat, where no lease and no other seat is left.
-pub fn finish_alone<S: RowSeat>(
-    tree: Tree<S>,
-    desk: &mut S::Desk,
-) -> (Ledger, List<Spent<S::Pay>>)
+pub fn finish_alone<S: RowSeat>(tree: Tree<S>, desk: &mut S::Desk) -> (Ledger, List<Spent<S::Pay>>)
 where
     S::Pay: Finish,
     requires fits { Fits S.view S.fits tree desk.old }

@@ -13,7 +13,7 @@ pub cancel-requires-clause-pairs : goal.cancel-requires-clause-pairs
 cancel-requires-clause-pairs g c = λ r m. c.close.ensures.leases.pairs c.in-Ok.lease.stream r (c.in-Ok.ensures.pairs r m)
 
 pub cancel-requires-clause-free : goal.cancel-requires-clause-free
-cancel-requires-clause-free g c = cancel_free c.two_rows-tree.ensures.two c.in-Ok.ensures.ok.1 c.lease.ensures.owed c.close.ensures.free (c.close.ensures.owed refl)
+cancel-requires-clause-free g c = cancel_free c.two_rows-tree.ensures.two c.in-Ok.ensures.ok.1 c.lease.ensures.owed c.close.ensures.closes c.close.ensures.free (c.close.ensures.owed refl)
 
 pub finish_alone-ledger-requires-clause-leases : goal.finish_alone-ledger-requires-clause-leases
 finish_alone-ledger-requires-clause-leases g c = c.cancel.ensures.leases.only [] (c.close.ensures.leases.only _ (c.in-Ok.ensures.leases.only [] c.two_rows-tree.ensures.two.leases))

@@ -1,6 +1,6 @@
-use Rattle.std.proofs.Common.{◌≡◌, ◌∷◌, [], ap, ◌∙◌, subst, arith, lit≤}
+use Rattle.std.proofs.Common.{◌∷◌, [], ap, ◌∙◌, subst, arith, lit≤}
 use Rattle.chunk_core.specs.Lists.IsAmong.{here, there}
-use Rattle.res_ledger.specs.declared.event.StreamNo.TheVariants.{Inner, Outer}
+use Rattle.res_ledger.specs.declared.event.StreamNo.TheVariants.{Outer}
 use Rattle.res_ledger.specs.declared.event.What.TheVariants.{Acquire, Open}
 use Rattle.scope_tree.proofs.Rights.{start_leases, start_new}
 use Rattle.scope_tree.proofs.Use.{open_number}
