@@ -5,23 +5,34 @@
 //! it was made for or by the one that made it.
 //!
 //! Each call says in its clauses what the next one asks. So a caller makes a tree over a seat, opens
-//! and acquires, leases, closes the root, cancels, ends the tree and finishes the seat:
+//! and acquires:
 //!
 //! ```
 //! let mut tree = Tree::new(seat, room);
 //! let child = tree.open(desk, 0);
 //! tree.acquired(desk, 0, 0, first);
 //! tree.acquired(desk, child, 1, second);
+//! ```
+//!
+//! It leases the root for the stream 7, closes it and cancels the lease, or where no memory is left
+//! for the lease closes it all the same:
+//!
+//! ```
 //! match tree.lease(alloc, desk, 0, 7) {
 //!     Ok(lease) => {
 //!         tree.close(desk, 0, Exit::Succeeded);
 //!         tree.cancel(desk, lease, Exit::Succeeded);
-//!         let (seat, _) = tree.end();
-//!         Ok(seat.finish(desk))
+//!         let (ledger, _) = finish_alone(tree, desk);
+//!         Ok(ledger)
 //!     }
 //! ```
 //!
-//! Where no memory is left for the lease, the root is closed and the rest done all the same.
+//! Both times it ends the tree and finishes the seat (`finish_alone`):
+//!
+//! ```
+//! let (seat, shelf) = tree.end();
+//! (seat.finish(desk), shelf)
+//! ```
 #![tactic(auto)]
 
 pub mod branch;

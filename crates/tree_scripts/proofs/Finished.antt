@@ -24,6 +24,7 @@ use Rattle.scope_tree.specs.Calls.{Cancels, Seen}
 use Rattle.scope_tree.specs.Kept.{Shelved}
 use Rattle.std.specs.List.{IsDistinct}
 use Rattle.scope_tree.specs.Released.{said}
+use Rattle.scope_tree.specs.Rights.{HasNoLeaseBut}
 use Rattle.tree_scripts.specs.Waiting.{NotesAlone, Settles, Waits, noted_by}
 use Rattle.scope_tree.specs.Words.{canceling, ends_of, words}
 use Rattle.scope_tree.proofs.Bridge.{in_noted, in_rows, noted_in}
@@ -72,6 +73,10 @@ stamped_is k A (e ∷ M) h b =
     ∙ ap (λ c. stamped (length A) (noted_by k (cond c (e.what ∷ own k M) (own k M)))) (sym (ap (λ x. same_stream x k) by ∙ stream_same k))
 
 module _ {P : Type 0} where
+  -- a seat on which no lease stands and that keeps none has none
+  pub no_leases : (v : View P) → v.pairs ≡ [] → v.kept ≡ [] → HasNoLeaseBut v []
+  no_leases v p k = record { kept = λ j m. absurd (among_nil (subst (λ l. IsAmong j l) k m)); pairs = λ j r m. absurd (among_nil (subst (λ l. IsAmong (j, r) l) p m)) }
+
   -- the ledger of a seat with no events but its own has what it noted
   pub ledger_stamped : (v : View P) (L : List Event) → IsLedgerOf v L → NotesAlone v → Rises (by_stream v.by v.events) → L ≡ stamped 0 (noted_by v.by (words v))
   ledger_stamped v L is a r =

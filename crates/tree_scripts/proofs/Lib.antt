@@ -3,6 +3,7 @@ pub mod Outcomes
 pub mod Waits
 pub mod Finished
 pub mod Telling
+pub mod Leased
 pub mod Chain
 pub mod ThreeRows
 pub mod Endings

@@ -1,11 +1,27 @@
 -- The ledger of a lease that was cancelled where it was made.
-use Rattle.std.specs.Prelude.{◌≡◌, Bool, List, [], ◌∷◌}
+use Rattle.std.specs.Prelude.{◌≡◌, ◌+◌, ◌≤◌, Bool, true, List, [], ◌∷◌}
 use Rattle.chunk_core.specs.declared.code.Exit.{Exit}
 use Rattle.res_ledger.specs.declared.event.Event.{Event}
 use Rattle.res_ledger.specs.declared.event.StreamNo.TheVariants.{Outer}
 use Rattle.res_ledger.specs.declared.event.What.TheVariants.{Acquire, Cancel, Close, Final, Lease, Open}
 use Rattle.res_ledger.specs.Ledger.{stamped}
-use Rattle.tree_scripts.specs.Waiting.{noted_by}
+use Rattle.scope_tree.specs.Calls.{IsOpenScope, Seen, used}
+use Rattle.scope_tree.specs.Rights.{HasNoLeaseBut, IsNewStream}
+use Rattle.scope_tree.specs.Words.{owed, words}
+use Rattle.tree_scripts.specs.Waiting.{NotesAlone, noted_by}
+
+-- the tree of the outer stream has the row 0 in the root and the row 1 in its child, nothing was leased or split off, and there is room for a lease and its end
+pub record HasTwoRows {P : Type 0} (a : Seen P) : Type 0 where
+  pub root : IsOpenScope a 0
+  pub new : IsNewStream a.seat 7
+  pub leases : HasNoLeaseBut a.seat []
+  pub main : a.seat.main ≡ true
+  pub out : a.seat.out ≡ []
+  pub by : a.seat.by ≡ Outer
+  pub words_are : words a.seat ≡ Open 1 0 ∷ Acquire 0 0 ∷ Acquire 1 1 ∷ []
+  pub events : NotesAlone a.seat
+  pub spare : owed a.seat + 9 ≤ a.seat.spare
+  pub room : used a ≤ a.rows
 
 -- the row 0 in the root and the row 1 in its child waited for the lease of the root, which was cancelled as the root was closed, with the exit x
 pub record IsLeasedAndCanceled (x : Exit) (L : List Event) : Type 0 where

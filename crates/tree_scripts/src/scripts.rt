@@ -1,11 +1,14 @@
 //! Scripts of calls over the seat of one stream, with the ledgers that they leave.
-ghost use Rattle.std.specs.Prelude.{◌≡◌, ◌≢◌, ◌+◌, ◌≤◌, IfOk, IfErr};
+ghost use Rattle.std.specs.Prelude.{◌≡◌, ◌≢◌, ◌+◌, ◌≤◌, true, [], IfOk, IfErr};
 ghost use Rattle.chunk_core.specs.Lists.{IsAmong};
 ghost use Rattle.res_ledger.specs.Ledger.{IsLeased};
+ghost use Rattle.res_ledger.specs.Rising.{Rises};
+ghost use Rattle.res_ledger.specs.Streams.{by_stream};
 ghost use Rattle.res_ledger.specs.declared.event.StreamNo.TheVariants.{Inner, Outer};
 ghost use Rattle.row_seat.specs.PlainSeats.{Sits, shown};
-ghost use Rattle.row_seat.specs.Views.{start};
-ghost use Rattle.scope_tree.specs.Calls.{IsOpenScope};
+ghost use Rattle.row_seat.specs.Views.{IsLedgerOf, start};
+ghost use Rattle.scope_tree.specs.Calls.{IsClosedScope, IsOpenScope};
+ghost use Rattle.scope_tree.specs.Rights.{HasNoLeaseBut};
 ghost use Rattle.tree_scripts.specs.Scripts.{IsReopened, IsRootLeased, IsThree, IsThreeOfSome};
 ghost use Rattle.scope_tree.specs.Trees.{Fits, seen};
 ghost use Rattle.tree_scripts.specs.Waiting.{FinishesLedger, IsAlone, LeasesAndCloses, Settles, Waits};
@@ -69,6 +72,23 @@ where
     Ok(lease)
 }
 
+/// Ends a tree whose root is closed and finishes its seat, where no lease and no other seat is left.
+pub fn finish_alone<S: RowSeat>(tree: Tree<S>, desk: &mut S::Desk) -> (Ledger, List<Spent<S::Pay>>)
+where
+    S::Pay: Finish,
+    requires fits { Fits S.view S.fits tree desk.old }
+    requires closed { IsClosedScope (seen S.view tree) 0 }
+    requires main { (seen S.view tree).seat.main ≡ true }
+    requires out { (seen S.view tree).seat.out ≡ [] }
+    requires leases { HasNoLeaseBut (seen S.view tree).seat [] }
+    ensures ledger { IsLedgerOf (seen S.view tree).seat result.0 }
+    ensures rising { Rises (by_stream (seen S.view tree).seat.by (seen S.view tree).seat.events) }
+    ensures shelf { result.1 ≡ (seen S.view tree).shelf }
+{
+    let (seat, shelf) = tree.end();
+    (seat.finish(desk), shelf)
+}
+
 /// Cancels the lease with an exit, ends the tree and finishes its seat.
 pub fn cancel_and_finish<S: RowSeat>(
     mut tree: Tree<S>,
@@ -83,8 +103,7 @@ where
     ensures { Settles S.Pay.ends (seen S.view tree) lease.stream lease.rows.items exit result.0 result.1 }
 {
     tree.cancel(desk, lease, exit);
-    let (seat, shelf) = tree.end();
-    (seat.finish(desk), shelf)
+    finish_alone(tree, desk)
 }
 
 /// Closes the root with an exit, ends the tree and finishes its seat.
@@ -101,8 +120,7 @@ where
     ensures { FinishesLedger S.Pay.ends (seen S.view tree) exit result.0 result.1 }
 {
     tree.close(desk, 0, exit);
-    let (seat, shelf) = tree.end();
-    (seat.finish(desk), shelf)
+    finish_alone(tree, desk)
 }
 
 /// The root is leased, which covers its row and its child's, and closed as errored before the lease

@@ -3,14 +3,38 @@ ghost use Rattle.std.specs.Prelude.{◌≡◌, ◌≤◌, IfOk};
 ghost use Rattle.chunk_core.specs.declared.code.Exit.TheVariants.{Succeeded};
 ghost use Rattle.res_ledger.specs.declared.event.StreamNo.TheVariants.{Outer};
 ghost use Rattle.row_seat.specs.Views.{start};
-ghost use Rattle.tree_scripts.specs.Short.{IsLeasedAndCanceled};
+ghost use Rattle.scope_tree.specs.Trees.{Fits, seen};
+ghost use Rattle.tree_scripts.specs.Short.{HasTwoRows, IsLeasedAndCanceled};
 
-use crate::scripts::Coin;
+use crate::scripts::{Coin, finish_alone};
 use chunk_core::Exit;
 use res_ledger::{Ledger, StreamNo};
 use row_seat::{PlainSeat, RowSeat};
 use scope_tree::{Finish, Room, Tree};
 use std::alloc::{AllocError, Global};
+
+/// A first tree with a row in the root and one in its child.
+pub fn two_rows<S: RowSeat>(
+    seat: S,
+    room: Room<S::Pay>,
+    desk: &mut S::Desk,
+    first: S::Pay,
+    second: S::Pay,
+) -> Tree<S>
+where
+    S::Pay: Finish,
+    requires fits { S.fits seat desk.old }
+    requires start { S.view seat ≡ start Outer 2 16 (S.view seat).splits }
+    requires room { (2 ≤ room.scopes) × (2 ≤ room.rows) }
+    ensures two { HasTwoRows (seen S.view result) }
+    ensures fits { Fits S.view S.fits result desk.new }
+{
+    let mut tree = Tree::new(seat, room);
+    let child = tree.open(desk, 0);
+    tree.acquired(desk, 0, 0, first);
+    tree.acquired(desk, child, 1, second);
+    tree
+}
 
 /// Two rows in two scopes. The root is leased for the stream 7, which covers both, and closed; the
 /// lease is cancelled, with which both end; and the seat finishes.
@@ -29,21 +53,17 @@ where
     requires room { (2 ≤ room.scopes) × (2 ≤ room.rows) }
     ensures { IfOk result (λ ledger. IsLeasedAndCanceled Succeeded ledger) }
 {
-    let mut tree = Tree::new(seat, room);
-    let child = tree.open(desk, 0);
-    tree.acquired(desk, 0, 0, first);
-    tree.acquired(desk, child, 1, second);
+    let mut tree = two_rows(seat, room, desk, first, second);
     match tree.lease(alloc, desk, 0, 7) {
         Ok(lease) => {
             tree.close(desk, 0, Exit::Succeeded);
             tree.cancel(desk, lease, Exit::Succeeded);
-            let (seat, _) = tree.end();
-            Ok(seat.finish(desk))
+            let (ledger, _) = finish_alone(tree, desk);
+            Ok(ledger)
         }
         Err(error) => {
             tree.close(desk, 0, Exit::Canceled);
-            let (seat, _) = tree.end();
-            seat.finish(desk);
+            finish_alone(tree, desk);
             Err(error)
         }
     }

@@ -1,4 +1,4 @@
-//! Callers that see public clauses alone.
+//! Callers over the seat of one stream: rows that end with their scopes, and a row that is written.
 ghost use Rattle.std.specs.Prelude.{◌≡◌, ℕ, ◌≤◌};
 ghost use Rattle.chunk_core.specs.Lists.{IsAmong};
 ghost use Rattle.row_seat.specs.Views.{HasRow};

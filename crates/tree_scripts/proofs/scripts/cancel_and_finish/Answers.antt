@@ -1,18 +1,16 @@
-use Rattle.std.proofs.Common.{[], sym, ap, ◌∙◌, subst, arith}
+use Rattle.std.proofs.Common.{[], sym, subst, arith}
 use Rattle.chunk_core.specs.Lists.{IsAmong}
 use Rattle.chunk_core.specs.Lists.IsAmong.{here}
-use Rattle.row_seat.specs.Views.{IsLedgerOf}
 use Rattle.scope_tree.specs.Trees.{seen}
 use Rattle.tree_scripts.specs.Waiting.{Settles}
 use Rattle.scope_tree.specs.Words.{own_rows}
 use Rattle.chunk_core.proofs.Distinct.{test_distinct}
-use Rattle.tree_scripts.proofs.Finished.{cancel_rest, cancel_settles}
+use Rattle.tree_scripts.proofs.Finished.{cancel_rest, cancel_settles, no_leases}
 use Rattle.scope_tree.proofs.Leasing.{among_pairs}
 use Rattle.scope_tree.proofs.Rooms.{strangers_none}
 use Rattle.scope_tree.proofs.Owed.{nothing_owed}
 use Rattle.tree_scripts.proofs.scripts.cancel_and_finish.Goals as goal
 use Rattle.scope_tree.proofs.Lists.{away_le}
-use Rattle.scope_tree.proofs.Use.{cancel_closed}
 
 pub cancel-requires-clause-may : goal.cancel-requires-clause-may
 cancel-requires-clause-may g c = (subst (λ l. IsAmong c.args.lease.stream l) (sym c.requires.waits.kept) (here []), λ e. absurd (c.requires.waits.by e))
@@ -29,18 +27,11 @@ cancel-requires-clause-free g c =
     let t = c.args.tree in let v = g.S.RowSeat.view t.seat in let T = c.args.lease.rows.items in
     let n = nothing_owed v t.branches.items t.held.items c.requires.fits.sound.kept c.requires.waits.closed in let a = away_le T v.opened in let s = c.requires.waits.spare in omega (n, a, s, arith)
 
-pub end-seat-requires-clause-closed : goal.end-seat-requires-clause-closed
-end-seat-requires-clause-closed g c = cancel_closed c.cancel.ensures.cancels 0 c.requires.waits.closed
-
-pub finish-requires-clause-can : goal.finish-requires-clause-can
-finish-requires-clause-can g c =
-    let r = cancel_rest c.cancel.ensures.cancels c.requires.waits in let e = c.end-seat.ensures.rest in
-    let is = c.end-seat.ensures.seat in
-    (ap (λ v. v.main) is ∙ r.0, (e.0, e.3, ap (λ v. v.pairs) is ∙ r.1, ap (λ v. v.kept) is ∙ r.2, e.1, e.2), ap (λ v. v.out) is ∙ r.3)
+pub finish_alone-requires-clause-leases : goal.finish_alone-requires-clause-leases
+finish_alone-requires-clause-leases g c = let r = cancel_rest c.cancel.ensures.cancels c.requires.waits in no_leases (g.S.RowSeat.view c.cancel.new.self.seat) r.1 r.2
 
 pub returns : goal.returns
 returns g c =
-    let t = c.args.tree in let z = c.requires.fits.sound in let T = c.args.lease.rows.items in
-    let is : IsLedgerOf (g.S.RowSeat.view c.cancel.new.self.seat) c.finish.result = subst (λ v. IsLedgerOf v c.finish.result) c.end-seat.ensures.seat c.finish.ensures in
-    subst (λ l. Settles g.S.Pay.Finish.ends (seen g.S.RowSeat.view t) c.args.lease.stream T c.args.exit c.finish.result l) (sym c.end-seat.ensures.shelf)
-    (cancel_settles c.cancel.ensures.cancels c.requires.waits t.held.items c.finish.result z.shelved (test_distinct T c.args.lease.distinct) is c.cancel.ensures.fits.sound.shelved.rises)
+    let t = c.args.tree in let z = c.requires.fits.sound in let T = c.args.lease.rows.items in let e = c.finish_alone.ensures in
+    subst (λ l. Settles g.S.Pay.Finish.ends (seen g.S.RowSeat.view t) c.args.lease.stream T c.args.exit c.finish_alone.result.0 l) (sym e.shelf)
+    (cancel_settles c.cancel.ensures.cancels c.requires.waits t.held.items c.finish_alone.result.0 z.shelved (test_distinct T c.args.lease.distinct) e.ledger e.rising)
