@@ -29,13 +29,13 @@ pub enum AnyPipe {
 }
 
 impl Feed for AnyPipe {
-    ghost use Rattle.any_pipe.specs.AnyState.{StandsFor, Comes, standing_of};
+    ghost use Rattle.any_pipe.specs.AnyState.{StandsFor, Comes, interpretation_of};
 
     ghost stands = { StandsFor };
 
     ghost comes = { Comes };
 
-    ghost sound = { λ q. (standing_of q).sound };
+    ghost sound = { λ q. (interpretation_of q).sound };
 
     fn feed(&mut self, alloc: Global, load: Load) -> Result<Fed, AllocError> {
         match self {

@@ -12,7 +12,7 @@ use Rattle.chunk_core.proofs.Totals.{each}
 use Rattle.channel_bounded.specs.declared.message.Msg.{Msg}
 use Rattle.channel_bounded.specs.declared.rule.View.{View}
 use Rattle.channel_bounded.specs.Streams.{of_stream, IsWhole}
-use Rattle.channel_bounded.specs.Queue.{spent_view, first_view, sender_view, with_sent, with_got, with_made, with_closed, Accounts, Books, FitsSender, FitsReceiver, Fits, QueueRule, SenderFinds, ReceiverFinds, KeptBySend, KeptByGet, Got}
+use Rattle.channel_bounded.specs.Queue.{blank_view, first_view, sender_view, with_sent, with_got, with_made, with_closed, Accounts, Books, FitsSender, FitsReceiver, Fits, QueueRule, SenderFinds, ReceiverFinds, KeptBySend, KeptByGet, Got}
 use Rattle.channel_bounded.proofs.Streams.{of_stream-append, of_stream-none, whole_sent, whole_beside, whole_got}
 
 off : false ≡ true → ⊥
@@ -148,7 +148,7 @@ module _ (may : List Msg → List Msg → Type 0) where
             );
       }
 
-  pub joins : (p : ℕ) (v : View) (other : ℕ) (u : View) → v.gets ≡ true → v.sends ≡ false → u.sends ≡ true → Merges (QueueRule may) p v other u (with_closed v u.stream u.sent) spent_view
+  pub joins : (p : ℕ) (v : View) (other : ℕ) (u : View) → v.gets ≡ true → v.sends ≡ false → u.sends ≡ true → Merges (QueueRule may) p v other u (with_closed v u.stream u.sent) blank_view
   joins p v other u g idle s queued views h at two at' =
       let b = h.books in
       let w = with_closed v u.stream u.sent in
@@ -166,7 +166,7 @@ module _ (may : List Msg → List Msg → Type 0) where
           senders = h.accounts.senders;
         };
         were_made = λ k sent a. ⊎_elim (λ o. h.were_made k sent o) (λ is. subst (λ (x : ℕ × List Msg). IsAmong x.0 b.made) (sym is) theirs.made) (old k sent a);
-        fits = each_two views p other v u w spent_view at was (λ e. two (sym e)) (Fits now queued)
+        fits = each_two views p other v u w blank_view at was (λ e. two (sym e)) (Fits now queued)
             ((λ t. absurd (true≢false (sym t ∙ idle))), (λ _. record { reader = mine.reader; got = mine.got; made = mine.made; closed = ap (λ l. l ++ (u.stream, u.sent) ∷ []) mine.closed }))
             ((λ t. absurd (off t)), (λ t. absurd (off t)))
             (λ j y far far' i. (

@@ -7,16 +7,16 @@ use Rattle.channel_bounded.specs.declared.rule.View.{View}
 use Rattle.channel_bounded.specs.Streams.{IsWhole}
 
 -- the view of an end that is no more
-abbrev pub spent_view : View
-spent_view = record { sends = false; gets = false; stream = 0; sent = []; got = []; made = []; closed = [] }
+abbrev pub blank_view : View
+blank_view = record { sends = false; gets = false; stream = 0; sent = []; got = []; made = []; closed = [] }
 
 -- the receiver's view at the start
 abbrev pub first_view : View
-first_view = record spent_view { gets = true }
+first_view = record blank_view { gets = true }
 
 -- the view of a new sender of stream k
 abbrev pub sender_view : ℕ → View
-sender_view k = record spent_view { sends = true; stream = k }
+sender_view k = record blank_view { sends = true; stream = k }
 
 -- m was sent
 abbrev pub with_sent : View → Msg → View

@@ -77,11 +77,11 @@ impl<N: Numbered> Split<View> for Opens<N> {
 pub struct Closes;
 
 impl Join<View> for Closes {
-    ghost use Rattle.channel_bounded.specs.Queue.{with_closed, spent_view};
+    ghost use Rattle.channel_bounded.specs.Queue.{with_closed, blank_view};
 
     ghost both = { λ v w. with_closed v w.stream w.sent };
 
-    ghost spent = { spent_view };
+    ghost spent = { blank_view };
 }
 
 /// A sender sends, or sees a full queue.

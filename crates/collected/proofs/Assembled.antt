@@ -42,7 +42,7 @@ use Rattle.joined_runs.proofs.StreamRows.{row_here}
 use Rattle.collected.specs.Collected.{IsCollected, IsRunOf, all_left}
 use Rattle.collector.specs.Collecting.{bare_work}
 use Rattle.collector.specs.Collecting.{EndsRead, HaveValuesOf, HasTables, IsStoppedBy}
-use Rattle.collector.specs.declared.collector.Left.{Left}
+use Rattle.collector.specs.declared.collector.Leftover.{Leftover}
 use Rattle.collected.specs.Laws.{CollectedRuns}
 use Rattle.collector.specs.Parts.{Part}
 use Rattle.collector.specs.Parts.Part.{Begun, Skipped, Unmade}
@@ -60,7 +60,7 @@ use Rattle.collected.proofs.TablesTold.{paths_are, paths_count, plan_places, tab
 some_spec : (a b : StreamSpec) → Some a ≡ Some b → a ≡ b
 some_spec a b e = cc
 
-module _ {S V F : Type 0} (view : S → View V) (told : V → DeviceTold) (P : Values → StateMeaning F) (says : (v : Values) → (P v).values ≡ v) (p : PlanMeant) (limits : IsSoundPlan p) (d0 now : DepotTold) (t : Values) (outer : How) (b : Seen V) (left : List (Left V)) (receiver : ReceiverSeen) (tale : Tale)
+module _ {S V F : Type 0} (view : S → View V) (told : V → DeviceTold) (P : Values → StateMeaning F) (says : (v : Values) → (P v).values ≡ v) (p : PlanMeant) (limits : IsSoundPlan p) (d0 now : DepotTold) (t : Values) (outer : How) (b : Seen V) (left : List (Leftover V)) (receiver : ReceiverSeen) (tale : Tale)
     (h : IsCollected view told P p d0 now t outer b left receiver tale) (L : List Event) (s : Settles p.max_open (length p.streams) b h.progress L) where
   abbrev W' : ℕ → DeviceTold
   W' = W view told P p d0 now t outer b left receiver tale h L s

@@ -10,7 +10,7 @@ use Rattle.chunk_core.specs.declared.code.Exit.{Exit}
 use Rattle.chunk_core.specs.declared.code.How.{How}
 use Rattle.chunk_core.proofs.Members.{among_cons, among_nil}
 use Rattle.collector.specs.declared.collector.Collector.{Collector}
-use Rattle.collector.specs.declared.collector.Left.{Left}
+use Rattle.collector.specs.declared.collector.Leftover.{Leftover}
 use Rattle.collector.specs.Collecting as collecting
 use Rattle.collector.specs.Collecting.{EndsRead, Gone, IsCollecting, IsStoppedBy, WritesTale}
 use Rattle.collector.specs.Collecting.Gone.{Came, Missed}
@@ -72,7 +72,7 @@ empty_so (x ∷ xs) e = absurd (omega (arith, e))
 
 -- once its root is closed no row of it is open, and each that ended stands on the shelf once
 closed_rests : {S P D : Type 0} (view : S → View P) (fits : S → D → Type 0) (t : Tree S P D) (d : D) → Fits view fits t d → IsClosedScope (seen view t) 0 → ((seen view t).seat.opened ≡ []) × IsDistinct nat_eq (firsts (said (seen view t).shelf))
-closed_rests view fits t d f root = (empty_so (view t.seat).opened (let z = nothing_owed (view t.seat) t.branches.items t.held.items f.sound.kept root in omega (arith, z)), f.sound.shelved.distinct)
+closed_rests view fits t d f root = (empty_so (view t.seat).opened (let z = nothing_owed (view t.seat) t.branches.items t.acquisitions.items f.sound.kept root in omega (arith, z)), f.sound.shelved.distinct)
 
 root_closed : {P : Type 0} (b : Seen P) (o : Option Exit) (x : Exit) → o ≡ Some x → IsRoot b o → IsClosedScope b 0
 root_closed b None x e r = absurd (let f : None ≡ Some x = e in cc)
@@ -111,7 +111,7 @@ module _ {S V F D T : Type 0} (view : S → View V) (told : V → DeviceTold) (f
       absurd (among_nil (subst (λ ws. IsAmong k (map (λ w. w.stream) ws)) (no_origins i.streams.origins i.streams.jobs_are) m)))
       (come_or i.tale k)
 
-  kept_one : (x : Left V) (g : Gone S V F) → collecting.IsKept view told fits values P i.parts i.progress c.receiver i.tale x g → kept.IsKept view told P i.parts i.progress c.receiver i.tale x g
+  kept_one : (x : Leftover V) (g : Gone S V F) → collecting.IsKept view told fits values P i.parts i.progress c.receiver i.tale x g → kept.IsKept view told P i.parts i.progress c.receiver i.tale x g
   kept_one x (Came n ds w e) h = record {
     begun = h.begun;
     ends = h.ends;
@@ -125,7 +125,7 @@ module _ {S V F D T : Type 0} (view : S → View V) (told : V → DeviceTold) (f
   }
   kept_one x (Missed k ds) h = h
 
-  kept_all : (xs : List (Left V)) (gs : List (Gone S V F)) → collecting.AreKept view told fits values P i.parts i.progress c.receiver i.tale xs gs → kept.AreKept view told P i.parts i.progress c.receiver i.tale xs gs
+  kept_all : (xs : List (Leftover V)) (gs : List (Gone S V F)) → collecting.AreKept view told fits values P i.parts i.progress c.receiver i.tale xs gs → kept.AreKept view told P i.parts i.progress c.receiver i.tale xs gs
   kept_all [] [] h = tt
   kept_all (x ∷ xs) (g ∷ gs) h = (kept_one x g h.0, kept_all xs gs h.1)
   kept_all [] (g ∷ gs) h = absurd h

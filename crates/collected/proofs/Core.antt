@@ -34,7 +34,7 @@ use Rattle.stream_parts.specs.Retire.{AreWrittenAlone}
 use Rattle.job_runs.specs.Rows.{EndsAs}
 use Rattle.joined_runs.proofs.MadeRows.{at_below}
 use Rattle.collected.specs.Collected.{IsCollected, all_left}
-use Rattle.collector.specs.declared.collector.Left.{Left}
+use Rattle.collector.specs.declared.collector.Leftover.{Leftover}
 use Rattle.collector.specs.Parts.{Part, fate_of}
 use Rattle.collected.proofs.Chosen.{flat_chosen}
 use Rattle.collected.proofs.DealtRows.{AllDealt, HaveHome, home_same, plan_rows, slice_some, rows_below, rows_grow}
@@ -71,7 +71,7 @@ flat_same f g name (z ∷ zs) h = ap (λ l. l ++ flat_map f (map name zs)) (h z 
 not_less : (a b : ℕ) → b ≤ a → nat_lt a b ≡ false
 not_less a b l = grind arith
 
-module _ {S V F : Type 0} (view : S → View V) (told : V → DeviceTold) (P : Values → StateMeaning F) (p : PlanMeant) (d0 now : DepotTold) (t : Values) (outer : How) (b : Seen V) (left : List (Left V)) (receiver : ReceiverSeen) (tale : Tale) (h : IsCollected view told P p d0 now t outer b left receiver tale)
+module _ {S V F : Type 0} (view : S → View V) (told : V → DeviceTold) (P : Values → StateMeaning F) (p : PlanMeant) (d0 now : DepotTold) (t : Values) (outer : How) (b : Seen V) (left : List (Leftover V)) (receiver : ReceiverSeen) (tale : Tale) (h : IsCollected view told P p d0 now t outer b left receiver tale)
     (L : List Event) (s : Settles p.max_open (length p.streams) b h.progress L) where
   pub few_parts : length h.parts ≤ length p.streams
   few_parts = let n = h.next in let d = s.dealt in let f = s.few in omega (arith, n, d, f)

@@ -40,7 +40,7 @@ use Rattle.joined_runs.specs.Together.{HasRun}
 use Rattle.joined_runs.proofs.PlanCovered.{stream_holds}
 use Rattle.outer_tables.proofs.Outcomes.{few_tried}
 use Rattle.collected.specs.Collected.{IsCollected}
-use Rattle.collector.specs.declared.collector.Left.{Left}
+use Rattle.collector.specs.declared.collector.Leftover.{Leftover}
 use Rattle.collector.specs.Collecting.Gone.{Came}
 use Rattle.collector.specs.Parts.{IsMadeOf}
 use Rattle.collector.specs.Parts.Part.{Begun}
@@ -65,7 +65,7 @@ some_count a b e = cc
 some_spec : (a b : StreamSpec) → Some a ≡ Some b → a ≡ b
 some_spec a b e = cc
 
-module _ {S V F : Type 0} (view : S → View V) (told : V → DeviceTold) (P : Values → StateMeaning F) (says : (v : Values) → (P v).values ≡ v) (p : PlanMeant) (limits : IsSoundPlan p) (d0 now : DepotTold) (t : Values) (outer : How) (b : Seen V) (left : List (Left V)) (receiver : ReceiverSeen) (tale : Tale)
+module _ {S V F : Type 0} (view : S → View V) (told : V → DeviceTold) (P : Values → StateMeaning F) (says : (v : Values) → (P v).values ≡ v) (p : PlanMeant) (limits : IsSoundPlan p) (d0 now : DepotTold) (t : Values) (outer : How) (b : Seen V) (left : List (Leftover V)) (receiver : ReceiverSeen) (tale : Tale)
     (h : IsCollected view told P p d0 now t outer b left receiver tale) (L : List Event) (s : Settles p.max_open (length p.streams) b h.progress L) where
   abbrev pub W' : ℕ → DeviceTold
   W' = W view told P p d0 now t outer b left receiver tale h L s

@@ -42,7 +42,7 @@ use Rattle.scope_tree.specs.Calls.{Seen}
 use Rattle.tree_families.specs.Families.{Split}
 use Rattle.collected.specs.Collected.{IsCollected, IsRunOf}
 use Rattle.collector.specs.Collecting.{bare_work}
-use Rattle.collector.specs.declared.collector.Left.{Left}
+use Rattle.collector.specs.declared.collector.Leftover.{Leftover}
 use Rattle.collector.specs.Parts.{fate_of}
 use Rattle.collected.proofs.Core.{few_parts}
 use Rattle.collected.proofs.Each.{share}
@@ -76,7 +76,7 @@ outer_name n (suc k) x e = let r = name_at 0 n k x e in let z : 0 + k ≡ k = om
 inner_number : (j k : ℕ) → Inner j ≡ Inner k → j ≡ k
 inner_number j k e = cc
 
-module _ {S V F : Type 0} (view : S → View V) (told : V → DeviceTold) (P : Values → StateMeaning F) (says : (v : Values) → (P v).values ≡ v) (p : PlanMeant) (limits : IsSoundPlan p) (d0 now : DepotTold) (t : Values) (outer : How) (b : Seen V) (left : List (Left V)) (receiver : ReceiverSeen) (tale : Tale)
+module _ {S V F : Type 0} (view : S → View V) (told : V → DeviceTold) (P : Values → StateMeaning F) (says : (v : Values) → (P v).values ≡ v) (p : PlanMeant) (limits : IsSoundPlan p) (d0 now : DepotTold) (t : Values) (outer : How) (b : Seen V) (left : List (Leftover V)) (receiver : ReceiverSeen) (tale : Tale)
     (h : IsCollected view told P p d0 now t outer b left receiver tale) (L : List Event) (s : Settles p.max_open (length p.streams) b h.progress L) where
   -- Which streams noted something.
 

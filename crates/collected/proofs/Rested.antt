@@ -28,7 +28,7 @@ use Rattle.job_runs.specs.Runs.{RunsJob}
 use Rattle.job_runs.proofs.Ended.{jobs_end}
 use Rattle.collected.specs.Kept.{AreKept, HasComeBack, IsKept}
 use Rattle.collector.specs.Collecting.{Gone, number_of}
-use Rattle.collector.specs.declared.collector.Left.{Left}
+use Rattle.collector.specs.declared.collector.Leftover.{Leftover}
 use Rattle.collector.specs.Collecting.Gone.{Came, Missed}
 use Rattle.collector.specs.Parts.{IsMadeOf, Part}
 use Rattle.collector.specs.Parts.Part.{Begun}
@@ -103,31 +103,31 @@ module _ {V : Type 0} where
 module _ {S V F : Type 0} (view : S → View V) (told : V → DeviceTold) (P : Values → StateMeaning F) (p : PlanMeant) (t : Values) (parts : List (Part V F)) (progress : Progress V) (receiver : ReceiverSeen) (tale : Tale)
     (made : (k : ℕ) (n : Node) (ds : List V) (w : Origin V F) → at parts k ≡ Some (Begun n ds w) → IsMadeOf told p t k n ds w) where
   -- what the job of a stream did that has come back
-  abbrev pub job_of : (x : Left V) (n : Node) (ds : List V) (w : Origin V F) (e : JobEnd S V) (h : HasComeBack view told P parts progress receiver tale x n ds w e) → RunsJob told view (P w.start.tables).values n ds w.stream (made w.stream n ds w h.begun).site.seat.floor w.leased e
+  abbrev pub job_of : (x : Leftover V) (n : Node) (ds : List V) (w : Origin V F) (e : JobEnd S V) (h : HasComeBack view told P parts progress receiver tale x n ds w e) → RunsJob told view (P w.start.tables).values n ds w.stream (made w.stream n ds w h.begun).site.seat.floor w.leased e
   job_of x n ds w e h = let m = made w.stream n ds w h.begun in jobs_end view told P n m.site ds w e m.is_of m.scopes h.ends
 
-  abbrev pub rest_of : (x : Left V) (g : Gone S V F) → IsKept view told P parts progress receiver tale x g → Rested V
+  abbrev pub rest_of : (x : Leftover V) (g : Gone S V F) → IsKept view told P parts progress receiver tale x g → Rested V
   rest_of x (Came n ds w e) h = let j = job_of x n ds w e h in record { number = w.stream; home = j.home; mine = j.visited.mine; lent = j.visited.lent; unopened = e.unopened }
   rest_of x (Missed k ds) h = record { number = k; home = λ r. blank; mine = []; lent = []; unopened = ds }
 
-  abbrev pub rests : (xs : List (Left V)) (gs : List (Gone S V F)) → AreKept view told P parts progress receiver tale xs gs → List (Rested V)
+  abbrev pub rests : (xs : List (Leftover V)) (gs : List (Gone S V F)) → AreKept view told P parts progress receiver tale xs gs → List (Rested V)
   rests [] [] h = []
   rests (x ∷ xs) (g ∷ gs) h = rest_of x g h.0 ∷ rests xs gs h.1
   rests [] (g ∷ gs) h = []
   rests (x ∷ xs) [] h = []
 
-  number_is : (x : Left V) (g : Gone S V F) (h : IsKept view told P parts progress receiver tale x g) → (rest_of x g h).number ≡ number_of g
+  number_is : (x : Leftover V) (g : Gone S V F) (h : IsKept view told P parts progress receiver tale x g) → (rest_of x g h).number ≡ number_of g
   number_is x (Came n ds w e) h = refl
   number_is x (Missed k ds) h = refl
 
-  pub numbers_are : (xs : List (Left V)) (gs : List (Gone S V F)) (h : AreKept view told P parts progress receiver tale xs gs) → map (λ z. z.number) (rests xs gs h) ≡ map number_of gs
+  pub numbers_are : (xs : List (Leftover V)) (gs : List (Gone S V F)) (h : AreKept view told P parts progress receiver tale xs gs) → map (λ z. z.number) (rests xs gs h) ≡ map number_of gs
   numbers_are [] [] h = refl
   numbers_are (x ∷ xs) (g ∷ gs) h = ap (λ k. k ∷ map (λ z. z.number) (rests xs gs h.1)) (number_is x g h.0) ∙ ap (λ l. number_of g ∷ l) (numbers_are xs gs h.1)
   numbers_are [] (g ∷ gs) h = absurd h
   numbers_are (x ∷ xs) [] h = absurd h
 
   -- each stands there
-  pub rest_among : (xs : List (Left V)) (gs : List (Gone S V F)) (h : AreKept view told P parts progress receiver tale xs gs) (g : Gone S V F) → IsAmong g gs → (x : Left V) × (k : IsKept view told P parts progress receiver tale x g) × IsAmong (rest_of x g k) (rests xs gs h)
+  pub rest_among : (xs : List (Leftover V)) (gs : List (Gone S V F)) (h : AreKept view told P parts progress receiver tale xs gs) (g : Gone S V F) → IsAmong g gs → (x : Leftover V) × (k : IsKept view told P parts progress receiver tale x g) × IsAmong (rest_of x g k) (rests xs gs h)
   rest_among [] gs h g m = absurd (none gs h m)
     where
       none : (gs : List (Gone S V F)) → AreKept view told P parts progress receiver tale [] gs → IsAmong g gs → ⊥
@@ -138,18 +138,18 @@ module _ {S V F : Type 0} (view : S → View V) (told : V → DeviceTold) (P : V
   rest_among (x ∷ xs) (y ∷ gs) h g (there {xs = zs} z m) = let r = rest_among xs gs h.1 g m in (r.0, r.1, there (rest_of x y h.0) r.2)
 
   -- and no other
-  pub among_rest : (xs : List (Left V)) (gs : List (Gone S V F)) (h : AreKept view told P parts progress receiver tale xs gs) (z : Rested V) → IsAmong z (rests xs gs h) → (x : Left V) × (g : Gone S V F) × (k : IsKept view told P parts progress receiver tale x g) × IsAmong g gs × (z ≡ rest_of x g k)
+  pub among_rest : (xs : List (Leftover V)) (gs : List (Gone S V F)) (h : AreKept view told P parts progress receiver tale xs gs) (z : Rested V) → IsAmong z (rests xs gs h) → (x : Leftover V) × (g : Gone S V F) × (k : IsKept view told P parts progress receiver tale x g) × IsAmong g gs × (z ≡ rest_of x g k)
   among_rest [] [] h z m = absurd (among_nil m)
   among_rest (x ∷ xs) (g ∷ gs) h z m = ⊎_elim (λ e. (x, g, h.0, here gs, e)) (λ i. let r = among_rest xs gs h.1 z i in (r.0, r.1, r.2, there g r.3, r.4)) (among_cons m)
   among_rest [] (g ∷ gs) h z m = absurd h
   among_rest (x ∷ xs) [] h z m = absurd h
 
-  one_left : (x : Left V) (g : Gone S V F) (h : IsKept view told P parts progress receiver tale x g) → devices_of told x.shelf x.unopened ≡ all_of told (rest_of x g h)
+  one_left : (x : Leftover V) (g : Gone S V F) (h : IsKept view told P parts progress receiver tale x g) → devices_of told x.shelf x.unopened ≡ all_of told (rest_of x g h)
   one_left x (Came n ds w e) h = ap (λ s. devices_of told s x.unopened) (h.shelf_is ∙ (job_of x n ds w e h).visited.parts) ∙ ap (λ u. devices_of told ((job_of x n ds w e h).visited.mine ++ (job_of x n ds w e h).visited.lent) u) h.unopened_is
   one_left x (Missed k ds) h = ap (λ s. devices_of told s x.unopened) h.1 ∙ ap (λ u. devices_of told [] u) h.2
 
   -- the devices that were left are theirs
-  pub left_are : (xs : List (Left V)) (gs : List (Gone S V F)) (h : AreKept view told P parts progress receiver tale xs gs) → flat_map (λ x. devices_of told x.shelf x.unopened) xs ≡ flat_map (all_of told) (rests xs gs h)
+  pub left_are : (xs : List (Leftover V)) (gs : List (Gone S V F)) (h : AreKept view told P parts progress receiver tale xs gs) → flat_map (λ x. devices_of told x.shelf x.unopened) xs ≡ flat_map (all_of told) (rests xs gs h)
   left_are [] [] h = refl
   left_are (x ∷ xs) (g ∷ gs) h = ap (λ l. l ++ flat_map (λ y. devices_of told y.shelf y.unopened) xs) (one_left x g h.0) ∙ ap (λ l. all_of told (rest_of x g h.0) ++ l) (left_are xs gs h.1)
   left_are [] (g ∷ gs) h = absurd h

@@ -22,7 +22,7 @@ use Rattle.join_tree.specs.Settled.{Settles}
 use Rattle.outer_tables.specs.Rows.{acquires}
 use Rattle.res_ledger.proofs.Permuted.{among_range}
 use Rattle.job_runs.specs.Rows.{CoversNone}
-use Rattle.joined_runs.specs.Shares.{IsJoinedLedger, IsOuterWord}
+use Rattle.joined_runs.specs.Shares.{IsJoinedLedger, IsOuterNote}
 
 outer_inner : (k : ℕ) → Outer ≢ Inner k
 outer_inner k e = cc
@@ -69,14 +69,14 @@ module _ {P : Type 0} (width n m : ℕ) (b : Seen P) (q : Progress P) (L : List 
   pub uncovered : (from to : ℕ) → m ≤ from → CoversNone from to L
   uncovered from to less j r k w c = let l = covers_tables j r k c in let f = w.0 in omega (arith, less, l, f)
 
-  word_so : (t : ℕ) (h : How) → m ≤ t → q.root ≡ Some (exit_of h) → (w : What) → Notes L Outer w → IsOuterWord t n h w
-  word_so t h few root (Lease j z) k = let o = s.told.outer (Lease j z) k in let l = o.1 in let f = s.few in (omega (arith, l, f), o.0)
-  word_so t h few root (Cancel j x) k = (s.told.outer (Cancel j x) k).0
-  word_so t h few root (Close zero x) k = (refl, some_exit x (exit_of h) (sym (s.told.outer (Close 0 x) k) ∙ root))
-  word_so t h few root (Close (suc z) x) k = let a = in_acquires 0 m (Close (suc z) x) (subst (λ l. IsAmong (Close (suc z) x) l) tables (s.told.outer (Close (suc z) x) k)) in absurd (let e : Close (suc z) x ≡ Acquire a.0 0 = a.1 in cc)
-  word_so t h few root (Open z p) k = let a = in_acquires 0 m (Open z p) (subst (λ l. IsAmong (Open z p) l) tables (s.told.outer (Open z p) k)) in absurd (let e : Open z p ≡ Acquire a.0 0 = a.1 in cc)
-  word_so t h few root (Acquire r z) k = let a = acquires_tables r z k in let l = a.0 in (omega (arith, l, few), a.1)
-  word_so t h few root (Final r x ok) k = let o = s.told.outer (Final r x ok) k in let l = (table_row r o.0 o.1).0 in omega (arith, l, few)
+  note_so : (t : ℕ) (h : How) → m ≤ t → q.root ≡ Some (exit_of h) → (w : What) → Notes L Outer w → IsOuterNote t n h w
+  note_so t h few root (Lease j z) k = let o = s.told.outer (Lease j z) k in let l = o.1 in let f = s.few in (omega (arith, l, f), o.0)
+  note_so t h few root (Cancel j x) k = (s.told.outer (Cancel j x) k).0
+  note_so t h few root (Close zero x) k = (refl, some_exit x (exit_of h) (sym (s.told.outer (Close 0 x) k) ∙ root))
+  note_so t h few root (Close (suc z) x) k = let a = in_acquires 0 m (Close (suc z) x) (subst (λ l. IsAmong (Close (suc z) x) l) tables (s.told.outer (Close (suc z) x) k)) in absurd (let e : Close (suc z) x ≡ Acquire a.0 0 = a.1 in cc)
+  note_so t h few root (Open z p) k = let a = in_acquires 0 m (Open z p) (subst (λ l. IsAmong (Open z p) l) tables (s.told.outer (Open z p) k)) in absurd (let e : Open z p ≡ Acquire a.0 0 = a.1 in cc)
+  note_so t h few root (Acquire r z) k = let a = acquires_tables r z k in let l = a.0 in (omega (arith, l, few), a.1)
+  note_so t h few root (Final r x ok) k = let o = s.told.outer (Final r x ok) k in let l = (table_row r o.0 o.1).0 in omega (arith, l, few)
 
   named : (e : Event) → IsAmong e L → (e.by ≡ Outer) ⊎ ((k : ℕ) × (k < n) × (e.by ≡ Inner k))
   named e i =
@@ -101,7 +101,7 @@ module _ {P : Type 0} (width n m : ℕ) (b : Seen P) (q : Progress P) (L : List 
     ahead = s.ahead;
     narrow = s.within;
     names = named;
-    words = λ e i by. word_so t h few root e.what (e, i, by, refl);
+    outer_notes = λ e i by. note_so t h few root e.what (e, i, by, refl);
     root = (exit_of h, s.told.root (exit_of h) root);
   }
 

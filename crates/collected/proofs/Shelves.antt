@@ -43,7 +43,7 @@ use Rattle.outer_tables.specs.Outcomes.{ComeOut}
 use Rattle.collected.specs.Collected.{IsCollected}
 use Rattle.collected.specs.Kept.{IsKept}
 use Rattle.collector.specs.Collecting.{Gone}
-use Rattle.collector.specs.declared.collector.Left.{Left}
+use Rattle.collector.specs.declared.collector.Leftover.{Leftover}
 use Rattle.collector.specs.Collecting.Gone.{Came, Missed}
 use Rattle.collector.specs.Parts.{IsMadeOf}
 use Rattle.collector.specs.Parts.Part.{Begun}
@@ -111,12 +111,12 @@ module _ {V : Type 0} (told : V → DeviceTold) (b : Seen V) (L : List Event) wh
       lents_apart z y.0 (each z (here zs)).0 (each y.0 (there z y.1)).0 (λ e. distinct_head z.number (map (λ q. q.number) zs) d (subst (λ k. IsAmong k (map (λ q. q.number) zs)) (sym e) (map_among (λ q. q.number) y.0 zs y.1))) r i
       (subst (λ k. IsAmong k (firsts (said y.0.lent))) x.2 (row_in x.0 y.0.lent y.2))))
 
-module _ {S V F : Type 0} (view : S → View V) (told : V → DeviceTold) (P : Values → StateMeaning F) (p : PlanMeant) (d0 now : DepotTold) (t : Values) (outer : How) (b : Seen V) (left : List (Left V)) (receiver : ReceiverSeen) (tale : Tale) (h : IsCollected view told P p d0 now t outer b left receiver tale)
+module _ {S V F : Type 0} (view : S → View V) (told : V → DeviceTold) (P : Values → StateMeaning F) (p : PlanMeant) (d0 now : DepotTold) (t : Values) (outer : How) (b : Seen V) (left : List (Leftover V)) (receiver : ReceiverSeen) (tale : Tale) (h : IsCollected view told P p d0 now t outer b left receiver tale)
     (L : List Event) (s : Settles p.max_open (length p.streams) b h.progress L) where
   abbrev made' : (k : ℕ) (n : Node) (ds : List V) (w : Origin V F) → at h.parts k ≡ Some (Begun n ds w) → IsMadeOf told p t k n ds w
   made' = made view told P p d0 now t outer b left receiver tale h
 
-  abbrev rest' : (x : Left V) (g : Gone S V F) → IsKept view told P h.parts h.progress receiver tale x g → Rested V
+  abbrev rest' : (x : Leftover V) (g : Gone S V F) → IsKept view told P h.parts h.progress receiver tale x g → Rested V
   rest' = rest_of view told P p t h.parts h.progress receiver tale made'
 
   abbrev zs' : List (Rested V)
@@ -126,7 +126,7 @@ module _ {S V F : Type 0} (view : S → View V) (told : V → DeviceTold) (P : V
   pub finished_so : (y last : Seen V) → IsAmong y h.progress.back → y.seat ≡ last.seat → IsFinishedLedger last b.seat L
   finished_so y last m e = let f = s.back y m in record { ledger = f.ledger; own = subst (λ (v : View V). (x : Event) → x.by ≡ v.by → IsAmong x b.seat.events ↔ IsAmong x v.events) e f.own }
 
-  tree_of : (x : Left V) (g : Gone S V F) (k : IsKept view told P h.parts h.progress receiver tale x g) → HasTree told b L (rest' x g k) × IsDistinct nat_eq (firsts (said (rest' x g k).lent))
+  tree_of : (x : Leftover V) (g : Gone S V F) (k : IsKept view told P h.parts h.progress receiver tale x g) → HasTree told b L (rest' x g k) × IsDistinct nat_eq (firsts (said (rest' x g k).lent))
   tree_of x (Came n ds w e) k =
       let v = (job_of view told P p t h.parts h.progress receiver tale made' x n ds w e k).visited in
       let both = subst (IsDistinct nat_eq) (ap (λ l. firsts (said l)) v.parts ∙ said_both v.mine v.lent) v.once in (
@@ -208,7 +208,7 @@ module _ {S V F : Type 0} (view : S → View V) (told : V → DeviceTold) (P : V
   pub read_count : h.o ≡ None → length h.tables.devices ≡ length p.tables
   read_count none = all_opened (subst (λ x. ComeOut told d0.files (length d0.made) (map (λ t. t.path) p.tables) h.tables.devices h.tables.back h.tables.contents x) none h.tables.out) ∙ paths_count p
 
-  lent_below : (x : Left V) (g : Gone S V F) (k : IsKept view told P h.parts h.progress receiver tale x g) (y : Spent V) → IsAmong y (rest' x g k).lent → y.row < length h.tables.devices
+  lent_below : (x : Leftover V) (g : Gone S V F) (k : IsKept view told P h.parts h.progress receiver tale x g) (y : Spent V) → IsAmong y (rest' x g k).lent → y.row < length h.tables.devices
   lent_below x (Came n ds w e) k y m =
       let v = (job_of view told P p t h.parts h.progress receiver tale made' x n ds w e k).visited in
       let l = (made' w.stream n ds w k.begun).leased.below y.row (v.leased y m) in

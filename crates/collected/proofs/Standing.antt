@@ -29,7 +29,7 @@ use Rattle.joined_runs.specs.Devices.{IsAtRest}
 use Rattle.collected.specs.Collected.{IsCollected}
 use Rattle.collected.specs.Kept.{HasComeBack}
 use Rattle.collector.specs.Collecting.{Gone, number_of}
-use Rattle.collector.specs.declared.collector.Left.{Left}
+use Rattle.collector.specs.declared.collector.Leftover.{Leftover}
 use Rattle.collector.specs.Collecting.Gone.{Came, Missed}
 use Rattle.collector.specs.Parts.{AreDealt, Deals, IsMadeOf, Part, fate_of}
 use Rattle.collector.specs.Parts.Part.{Begun, Skipped, Unmade}
@@ -84,7 +84,7 @@ module _ {V F : Type 0} where
       let z : suc k + i ≡ k + suc i = omega arith in
       subst (λ j. ((s : StreamSpec) × (slice_get p.streams j ≡ Some s)) × IsMadeOf told p t j n ds w) z (dealt_made told p t (suc k) parts d.0 new d.2 i n ds w e)
 
-module _ {S V F : Type 0} (view : S → View V) (told : V → DeviceTold) (P : Values → StateMeaning F) (p : PlanMeant) (d0 now : DepotTold) (t : Values) (outer : How) (b : Seen V) (left : List (Left V)) (receiver : ReceiverSeen) (tale : Tale) (h : IsCollected view told P p d0 now t outer b left receiver tale) where
+module _ {S V F : Type 0} (view : S → View V) (told : V → DeviceTold) (P : Values → StateMeaning F) (p : PlanMeant) (d0 now : DepotTold) (t : Values) (outer : How) (b : Seen V) (left : List (Leftover V)) (receiver : ReceiverSeen) (tale : Tale) (h : IsCollected view told P p d0 now t outer b left receiver tale) where
   pub made_so : (k : ℕ) (n : Node) (ds : List V) (w : Origin V F) → at h.parts k ≡ Some (Begun n ds w) → ((s : StreamSpec) × (slice_get p.streams k ≡ Some s)) × IsMadeOf told p t k n ds w
   made_so k n ds w e = let z : 0 + k ≡ k = omega arith in subst (λ j. ((s : StreamSpec) × (slice_get p.streams j ≡ Some s)) × IsMadeOf told p t j n ds w) z (dealt_made told p t 0 h.parts h.mid now h.dealt k n ds w e)
 
@@ -126,7 +126,7 @@ module _ {S V F : Type 0} (view : S → View V) (told : V → DeviceTold) (P : V
 
   -- what is kept of a stream that was begun
   pub record IsBack (k : ℕ) (n : Node) (ds : List V) (w : Origin V F) : Type 0 where
-    pub x : Left V
+    pub x : Leftover V
     pub e : JobEnd S V
     pub back : HasComeBack view told P h.parts h.progress receiver tale x n ds w e
     pub among : IsAmong (rest_of view told P p t h.parts h.progress receiver tale made x (Came n ds w e) back) zs
@@ -138,7 +138,7 @@ module _ {S V F : Type 0} (view : S → View V) (told : V → DeviceTold) (P : V
       let eq = same_begun m n es ds v w (sym r.1.begun ∙ (ap (at h.parts) same ∙ e)) in
       go m es v je r.0 r.1 r.2 same eq.0 eq.1 eq.2
     where
-      go : (m : Node) (es : List V) (v : Origin V F) (je : JobEnd S V) (x : Left V) (c : HasComeBack view told P h.parts h.progress receiver tale x m es v je) → IsAmong (rest_of view told P p t h.parts h.progress receiver tale made x (Came m es v je) c) zs → v.stream ≡ k → m ≡ n → es ≡ ds → v ≡ w → IsBack k n ds w
+      go : (m : Node) (es : List V) (v : Origin V F) (je : JobEnd S V) (x : Leftover V) (c : HasComeBack view told P h.parts h.progress receiver tale x m es v je) → IsAmong (rest_of view told P p t h.parts h.progress receiver tale made x (Came m es v je) c) zs → v.stream ≡ k → m ≡ n → es ≡ ds → v ≡ w → IsBack k n ds w
       go m es v je x c i st em ee ew =
           subst (λ y. IsBack k n ds y) ew (subst (λ y. IsBack k n y v) ee (subst (λ y. IsBack k y es v) em
           (record { x = x; e = je; back = c; among = i; is = ap (named zs) (sym st) ∙ named_is zs (rest_of view told P p t h.parts h.progress receiver tale made x (Came m es v je) c) zs_apart i })))

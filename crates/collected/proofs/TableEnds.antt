@@ -16,7 +16,7 @@ use Rattle.res_ledger.proofs.Noted.{flat_holds, notes_own}
 use Rattle.row_seat.specs.declared.view.View.{View}
 use Rattle.scope_tree.specs.declared.branch.Spent.{Spent}
 use Rattle.scope_tree.specs.Calls.{AtStart, Seen}
-use Rattle.scope_tree.specs.Words.{words}
+use Rattle.scope_tree.specs.Trace.{trace}
 use Rattle.tree_laws.specs.Called.{Called}
 use Rattle.tree_laws.specs.Shelves.{finals_of}
 use Rattle.tree_laws.proofs.Given.{called_given}
@@ -51,7 +51,7 @@ module _ {V : Type 0} (told : V → DeviceTold) (width n : ℕ) (b : Seen V) (q 
       → (z : Spent V) × IsAmong z c.shelf × (z.row ≡ i) × ((p : V) × IsAmong (z.row, p) c.seat.given × FinishesDevice told p z.exit z.ok z.pay)
   on_a_shelf first c Cs start bare calls i x ok m =
       let here_it = notes_own c.seat.events c.seat.by (Final i x ok) m in
-      let z = on_shelf c.shelf (i, x, ok) (subst (λ l. IsAmong (i, x, ok) l) (called_ends start bare calls) (flat_holds finals_of (Final i x ok) (words c.seat) (i, x, ok) here_it (here []))) in
+      let z = on_shelf c.shelf (i, x, ok) (subst (λ l. IsAmong (i, x, ok) l) (called_ends start bare calls) (flat_holds finals_of (Final i x ok) (trace c.seat) (i, x, ok) here_it (here []))) in
       (z.0, z.1, ap (λ (f : ℕ × Exit × Bool). f.0) z.2, called_given bare calls z.0 z.1)
 
   -- each row that has ended stands on a shelf
@@ -82,5 +82,5 @@ module _ {V : Type 0} (told : V → DeviceTold) (width n : ℕ) (b : Seen V) (q 
   pub outer_final : (r : ℕ) (x : Exit) (ok : Bool) → Notes L Outer (Final r x ok) → (z : Spent V) × IsAmong z b.shelf × (z.row ≡ r) × (z.exit ≡ x) × (z.ok ≡ ok)
   outer_final r x ok m =
       let here_it = notes_own b.seat.events b.seat.by (Final r x ok) (m.0, (s.ledger.whole m.0).0 m.1, m.2 ∙ sym main.by, m.3) in
-      let z = on_shelf b.shelf (r, x, ok) (subst (λ l. IsAmong (r, x, ok) l) (called_ends main.family.start main.shelf main.family.calls) (flat_holds finals_of (Final r x ok) (words b.seat) (r, x, ok) here_it (here []))) in
+      let z = on_shelf b.shelf (r, x, ok) (subst (λ l. IsAmong (r, x, ok) l) (called_ends main.family.start main.shelf main.family.calls) (flat_holds finals_of (Final r x ok) (trace b.seat) (r, x, ok) here_it (here []))) in
       (z.0, z.1, ap (λ (f : ℕ × Exit × Bool). f.0) z.2, ap (λ (f : ℕ × Exit × Bool). f.1) z.2, ap (λ (f : ℕ × Exit × Bool). f.2) z.2)

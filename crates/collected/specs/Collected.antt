@@ -38,13 +38,13 @@ use Rattle.stream_parts.specs.Retire.{devices_of}
 use Rattle.tree_families.specs.Families.{Split}
 use Rattle.collected.specs.Kept.{AreKept}
 use Rattle.collector.specs.Collecting.{bare_work, EndsRead, Gone, HasTables, HaveValuesOf, IsStoppedBy, number_of, told_message}
-use Rattle.collector.specs.declared.collector.Left.{Left}
+use Rattle.collector.specs.declared.collector.Leftover.{Leftover}
 use Rattle.collector.specs.Collecting.Gone.{Came}
 use Rattle.collector.specs.Parts.{AreDealt, Part, fate_of}
 
 module _ {S V F : Type 0} (view : S → View V) (told : V → DeviceTold) (P : Values → StateMeaning F) where
   -- No stream is open: each that was begun has come back, and the main seat has what the seats were handed that came back. What came through the channel is what the tale tells.
-  pub record EndsStreams (b : Seen V) (left : List (Left V)) (receiver : ReceiverSeen) (parts : List (Part V F)) (progress : Progress V) (tale : Tale) : Type 0 where
+  pub record EndsStreams (b : Seen V) (left : List (Leftover V)) (receiver : ReceiverSeen) (parts : List (Part V F)) (progress : Progress V) (tale : Tale) : Type 0 where
     pub begun : (k : ℕ) → tales.IsBegun tale k ↔ ((m : Split) × IsAmong m progress.splits × (m.stream ≡ k))
     pub come : (k : ℕ) → tales.IsBegun tale k → HasCome tale k
     pub gone : List (Gone S V F)
@@ -57,7 +57,7 @@ module _ {S V F : Type 0} (view : S → View V) (told : V → DeviceTold) (P : V
 
   -- A collector of the plan has come to its end, since the depot stood as d0: the outer stream ended so, no lease waits and no stream is open. The main tree stands as b, and has no open
   -- row. The tables were tried, and where all of them were read, which have the values t then, streams were begun.
-  pub record IsCollected (p : PlanMeant) (d0 depot : DepotTold) (t : Values) (outer : How) (b : Seen V) (left : List (Left V)) (receiver : ReceiverSeen) (tale : Tale) : Type 0 where
+  pub record IsCollected (p : PlanMeant) (d0 depot : DepotTold) (t : Values) (outer : How) (b : Seen V) (left : List (Leftover V)) (receiver : ReceiverSeen) (tale : Tale) : Type 0 where
     pub parts : List (Part V F)
     pub progress : Progress V
     pub mid : DepotTold
@@ -80,7 +80,7 @@ module _ {S V F : Type 0} (view : S → View V) (told : V → DeviceTold) (P : V
     pub settled : IsSettled tale
 
 -- all devices that are to go back once the ledger is there: those on the main tree's shelf, and those that are left of the streams
-abbrev pub all_left : {V : Type 0} → (V → DeviceTold) → List (Spent V) → List (Left V) → List DeviceTold
+abbrev pub all_left : {V : Type 0} → (V → DeviceTold) → List (Spent V) → List (Leftover V) → List DeviceTold
 all_left told shelf left = map (λ x. told x.pay) shelf ++ flat_map (λ x. devices_of told x.shelf x.unopened) left
 
 -- The record is that of a run of the plan between these depots with this ledger, of which the report tells the tale: its frames, the rest of the one whose write failed, and the ends.

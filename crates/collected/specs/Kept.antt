@@ -4,7 +4,7 @@ use Rattle.channel_bounded.specs.Ends.{ReceiverSeen}
 use Rattle.channel_bounded.specs.Streams.{of_stream}
 use Rattle.chunk_core.specs.Lists.{IsAmong}
 use Rattle.chunk_core.specs.Tables.{Values}
-use Rattle.collector.specs.declared.collector.Left.{Left}
+use Rattle.collector.specs.declared.collector.Leftover.{Leftover}
 use Rattle.collector.specs.Collecting.{Gone}
 use Rattle.collector.specs.Collecting.Gone.{Came, Missed}
 use Rattle.collector.specs.Parts.{Part}
@@ -24,7 +24,7 @@ use Rattle.stream_jobs.specs.Running.{Origin}
 
 module _ {S V F : Type 0} (view : S → View V) (told : V → DeviceTold) (P : Values → StateMeaning F) where
   -- what was left of a stream that was begun: its end was received, with all that was sent, its tree is among those that came back, and its devices were kept
-  pub record HasComeBack (parts : List (Part V F)) (progress : Progress V) (receiver : ReceiverSeen) (tale : Tale) (x : Left V) (n : Node) (ds : List V) (w : Origin V F) (e : JobEnd S V) : Type 0 where
+  pub record HasComeBack (parts : List (Part V F)) (progress : Progress V) (receiver : ReceiverSeen) (tale : Tale) (x : Leftover V) (n : Node) (ds : List V) (w : Origin V F) (e : JobEnd S V) : Type 0 where
     pub begun : at parts w.stream ≡ Some (Begun n ds w)
     pub ends : EndsJob view told P w e
     pub came : tales.Came tale w.stream e.how
@@ -36,11 +36,11 @@ module _ {S V F : Type 0} (view : S → View V) (told : V → DeviceTold) (P : V
     pub unopened_is : x.unopened ≡ e.unopened
 
   -- what is kept of a stream that is no longer open
-  abbrev pub IsKept : List (Part V F) → Progress V → ReceiverSeen → Tale → Left V → Gone S V F → Type 0
+  abbrev pub IsKept : List (Part V F) → Progress V → ReceiverSeen → Tale → Leftover V → Gone S V F → Type 0
   IsKept parts progress receiver tale x (Came n ds w e) = HasComeBack parts progress receiver tale x n ds w e
   IsKept parts progress receiver tale x (Missed k ds) = (at parts k ≡ Some (Unmade ds)) × (x.shelf ≡ []) × (x.unopened ≡ ds)
 
-  abbrev pub AreKept : List (Part V F) → Progress V → ReceiverSeen → Tale → List (Left V) → List (Gone S V F) → Type 0
+  abbrev pub AreKept : List (Part V F) → Progress V → ReceiverSeen → Tale → List (Leftover V) → List (Gone S V F) → Type 0
   AreKept parts progress receiver tale [] [] = Unit {0}
   AreKept parts progress receiver tale (x ∷ xs) (g ∷ gs) = IsKept parts progress receiver tale x g × AreKept parts progress receiver tale xs gs
   AreKept parts progress receiver tale _ _ = ⊥

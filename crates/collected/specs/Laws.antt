@@ -18,11 +18,11 @@ use Rattle.run_rules.specs.Work.{RunRecord}
 use Rattle.scope_tree.specs.Calls.{Seen}
 use Rattle.stream_parts.specs.Retire.{MayReturnAll, Returns}
 use Rattle.collected.specs.Collected.{IsCollected, IsRunOf, all_left}
-use Rattle.collector.specs.declared.collector.Left.{Left}
+use Rattle.collector.specs.declared.collector.Leftover.{Leftover}
 
 -- Once its main tree has settled into a ledger all devices that are left may go back, and once they went back the streams of the plan ran together.
 pub record CollectedRuns {S V F : Type 0} (view : S → View V) (told : V → DeviceTold) (P : Values → StateMeaning F) : Type 0 where
-  pub may_go : (p : PlanMeant) (d0 now : DepotTold) (t : Values) (outer : How) (b : Seen V) (left : List (Left V)) (receiver : ReceiverSeen) (tale : Tale) (L : List Event) → IsSoundPlan p → (h : IsCollected view told P p d0 now t outer b left receiver tale)
+  pub may_go : (p : PlanMeant) (d0 now : DepotTold) (t : Values) (outer : How) (b : Seen V) (left : List (Leftover V)) (receiver : ReceiverSeen) (tale : Tale) (L : List Event) → IsSoundPlan p → (h : IsCollected view told P p d0 now t outer b left receiver tale)
       → Settles p.max_open (length p.streams) b h.progress L → MayReturnAll now (all_left told b.shelf left)
-  pub runs : (p : PlanMeant) (d0 now last : DepotTold) (t : Values) (outer : How) (b : Seen V) (left : List (Left V)) (receiver : ReceiverSeen) (tale : Tale) (L : List Event) (c : RunRecord) → IsSoundPlan p → (h : IsCollected view told P p d0 now t outer b left receiver tale)
+  pub runs : (p : PlanMeant) (d0 now last : DepotTold) (t : Values) (outer : How) (b : Seen V) (left : List (Leftover V)) (receiver : ReceiverSeen) (tale : Tale) (L : List Event) (c : RunRecord) → IsSoundPlan p → (h : IsCollected view told P p d0 now t outer b left receiver tale)
       → Settles p.max_open (length p.streams) b h.progress L → Returns now last (all_left told b.shelf left) → IsRunOf p outer tale L d0 last c → RunsTogether (opener_of p) (map stream_of p.streams) (PlanRuns p) c

@@ -17,7 +17,7 @@ use Rattle.row_seat.specs.declared.view.View.{View}
 use Rattle.row_seat.specs.Views.{split_off}
 use Rattle.scope_tree.specs.declared.room.Room.{Room}
 use Rattle.scope_tree.specs.Calls.{IsOpenScope, Seen, used}
-use Rattle.scope_tree.specs.Words.{owed, words}
+use Rattle.scope_tree.specs.Trace.{owed, trace}
 use Rattle.res_ledger.specs.Own.{opens}
 use Rattle.stream_jobs.specs.Jobs.{IsAt}
 use Rattle.stream_jobs.specs.Running.{Origin}
@@ -30,7 +30,7 @@ use Rattle.collector.specs.Parts.{AreTableRows}
 use Rattle.collector.specs.Starting.{HasRoomAsGuest}
 use Rattle.collector.proofs.Lists.{run_there, there_is}
 
-module _ {V P : Type 0} (n : Node) (v : View V) (room : Room P) (a : Seen V) (is : a ≡ record { seat = v; shelf = []; scopes = room.scopes; rows = room.rows }) (root : IsOpenScope a 0) (owes : owed a.seat ≡ 1) (none : (used a ≡ 0) × (opens (words a.seat) ≡ [])) (opened : v.opened ≡ []) (T : List ℕ) (h : HasRoomAsGuest v n room T) where
+module _ {V P : Type 0} (n : Node) (v : View V) (room : Room P) (a : Seen V) (is : a ≡ record { seat = v; shelf = []; scopes = room.scopes; rows = room.rows }) (root : IsOpenScope a 0) (owes : owed a.seat ≡ 1) (none : (used a ≡ 0) × (opens (trace a.seat) ≡ [])) (opened : v.opened ≡ []) (T : List ℕ) (h : HasRoomAsGuest v n room T) where
   -- in the tree over such a seat there is room for the node
   pub guest_room : HasRoomFor a n
   guest_room =

@@ -29,7 +29,7 @@ use Rattle.row_seat.specs.declared.view.View.{View}
 use Rattle.row_seat.specs.Views.{OthersFit, next_stamp, split_main}
 use Rattle.run_rules.specs.Facts.{at}
 use Rattle.scope_tree.specs.Trees.{Fits, seen}
-use Rattle.scope_tree.specs.Words.{owed}
+use Rattle.scope_tree.specs.Trace.{owed}
 use Rattle.scope_tree.specs.declared.leases.Lease.{Lease}
 use Rattle.stream_jobs.specs.declared.job.Job.{Job}
 use Rattle.stream_jobs.specs.Running.{Origin}

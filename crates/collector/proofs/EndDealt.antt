@@ -36,7 +36,7 @@ use Rattle.row_seat.specs.declared.view.View.{View}
 use Rattle.row_seat.specs.Views.{OthersFit, joined}
 use Rattle.scope_tree.specs.Calls.{Seen}
 use Rattle.scope_tree.specs.Trees.{Fits, seen}
-use Rattle.scope_tree.specs.Words.{owed}
+use Rattle.scope_tree.specs.Trace.{owed}
 use Rattle.scope_tree.specs.declared.leases.Lease.{Lease}
 use Rattle.scope_tree.specs.declared.tree.Tree.{Tree}
 use Rattle.scope_tree.proofs.Follows.{released_follows, same_by}
@@ -49,7 +49,7 @@ use Rattle.stream_jobs.specs.Learned.{HasSetFor}
 use Rattle.stream_jobs.specs.Running.{Origin}
 use Rattle.stream_jobs.proofs.Others.{others_leave}
 use Rattle.collector.specs.declared.collector.Collector.{Collector}
-use Rattle.collector.specs.declared.collector.Left.{Left}
+use Rattle.collector.specs.declared.collector.Leftover.{Leftover}
 use Rattle.collector.specs.Collecting.{AreJobs, HasTables, IsCollectingWith, IsJobOf, KeepsStreams, KeepsTree, guest_of}
 use Rattle.collector.specs.Receiving.{HasGot, StopsThose}
 use Rattle.collector.proofs.EndTaken.{GotAll, behind, got_all, streams_end}
@@ -164,7 +164,7 @@ module _ {S V F D T : Type 0} (view : S → View V) (told : V → DeviceTold) (f
           place = q.place;
         }) first.4
 
-        module _ (main : IsMain (FinishesDevice told) p.max_open (length p.streams) (seen view B) (joining i.progress ends.left.leaves.last)) (out : AreOut (seen view B) i.progress.splits (map guest_of os)) (B_is : seen view B ≡ record (seen view c.tree) { seat = joined (seen view c.tree).seat (view e.seat) }) (owes : owed (seen view B).seat ≡ owed (seen view c.tree).seat) (B_fits : Fits view fits B d2) (queued : List Msg) (whole : IsWhole e.sender.stream e.sender.sent r.got queued) (L : Vec (Left V) Global) (L_is : L.items ≡ c.left.items ++ record { shelf = e.shelf; unopened = e.unopened } ∷ []) (L_room : vec_capacity L ≡ vec_capacity c.left) (report : Report) (reported : EndsStream k h c.report report) (stops : Stops) (those : StopsThose p k (length p.streams) (with_seat_in c.stops e.board) stops) (seated : IsSeated stops) where
+        module _ (main : IsMain (FinishesDevice told) p.max_open (length p.streams) (seen view B) (joining i.progress ends.left.leaves.last)) (out : AreOut (seen view B) i.progress.splits (map guest_of os)) (B_is : seen view B ≡ record (seen view c.tree) { seat = joined (seen view c.tree).seat (view e.seat) }) (owes : owed (seen view B).seat ≡ owed (seen view c.tree).seat) (B_fits : Fits view fits B d2) (queued : List Msg) (whole : IsWhole e.sender.stream e.sender.sent r.got queued) (L : Vec (Leftover V) Global) (L_is : L.items ≡ c.left.items ++ record { shelf = e.shelf; unopened = e.unopened } ∷ []) (L_room : vec_capacity L ≡ vec_capacity c.left) (report : Report) (reported : EndsStream k h c.report report) (stops : Stops) (those : StopsThose p k (length p.streams) (with_seat_in c.stops e.board) stops) (seated : IsSeated stops) where
           whole_had : IsWhole e.sender.stream e.sender.sent (had.got ++ end_message k h ∷ []) queued
           whole_had = subst (λ (x : ReceiverSeen). IsWhole e.sender.stream e.sender.sent x.got queued) got.is whole
 

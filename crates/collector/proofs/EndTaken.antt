@@ -28,7 +28,7 @@ use Rattle.stream_jobs.specs.declared.job.JobEnd.{JobEnd}
 use Rattle.stream_jobs.specs.Jobs.{EndsJob}
 use Rattle.stream_jobs.specs.Messages.{end_message, load_messages}
 use Rattle.stream_jobs.specs.Running.{Origin}
-use Rattle.collector.specs.declared.collector.Left.{Left}
+use Rattle.collector.specs.declared.collector.Leftover.{Leftover}
 use Rattle.collector.specs.Collecting.{AreJobs, AreKept, Gone, IsKept, KeepsStreams, guest_of, number_of}
 use Rattle.collector.specs.Collecting.Gone.{Came, Missed}
 use Rattle.collector.specs.Parts.{Part}
@@ -88,7 +88,7 @@ module _ {S V F D T : Type 0} (view : S → View V) (told : V → DeviceTold) (f
   come_back : (j : ℕ) → HasCome v j → HasCome t j ⊎ (j ≡ k)
   come_back j c = ⊎_elim (λ a. inl (c.0, a)) (λ e. inr e.0) (comes.back j c.0 c.1)
 
-  old_stays : (x : Left V) (g : Gone S V F) → IsKept view told fits values P parts progress had t x g → IsKept view told fits values P parts (joining progress last) behind v x g
+  old_stays : (x : Leftover V) (g : Gone S V F) → IsKept view told fits values P parts progress had t x g → IsKept view told fits values P parts (joining progress last) behind v x g
   old_stays x (Came n ds w e) c = record {
     begun = c.begun;
     ends = c.ends;
@@ -104,7 +104,7 @@ module _ {S V F D T : Type 0} (view : S → View V) (told : V → DeviceTold) (f
   old_stays x (Missed j ds) c = c
 
   -- and the new one behind them
-  kept_more : (y : Left V) (n : Gone S V F) → IsKept view told fits values P parts (joining progress last) behind v y n → (xs : List (Left V)) (gs : List (Gone S V F)) → AreKept view told fits values P parts progress had t xs gs → AreKept view told fits values P parts (joining progress last) behind v (xs ++ y ∷ []) (gs ++ n ∷ [])
+  kept_more : (y : Leftover V) (n : Gone S V F) → IsKept view told fits values P parts (joining progress last) behind v y n → (xs : List (Leftover V)) (gs : List (Gone S V F)) → AreKept view told fits values P parts progress had t xs gs → AreKept view told fits values P parts (joining progress last) behind v (xs ++ y ∷ []) (gs ++ n ∷ [])
   kept_more y n new [] [] c = (new, tt)
   kept_more y n new [] (g ∷ gs) c = absurd c
   kept_more y n new (x ∷ xs) [] c = absurd c
@@ -119,8 +119,8 @@ module _ {S V F D T : Type 0} (view : S → View V) (told : V → DeviceTold) (f
   unmade_not : at t.fates k ≡ Some tales.Fate.Unmade → ⊥
   unmade_not u = let q : Some tales.Fate.Begun ≡ Some tales.Fate.Unmade = sym o.0 ∙ u in cc
 
-  module _ (hub : HubSeen) (board : BoardSeen) (d d' : D) (b b' : Seen V) (job : Job S V F V D T) (js : List (Job S V F V D T)) (left : List (Left V)) (s : KeepsStreams view told fits values P hub board d b (job ∷ js) left had parts progress t) (w : Origin V F) (os : List (Origin V F)) (first : s.origins ≡ w ∷ os) (number : w.stream ≡ k) (stay : AreJobs view told fits values P hub board d' parts js os) (out : AreOut b' progress.splits (map guest_of os)) (handed : (z : ℕ × V) → IsAmong z b.seat.given ⊎ IsAmong z last.seat.given → IsAmong z b'.seat.given) (n : Node) (ds : List V) (e : JobEnd S V) (begun : at parts w.stream ≡ Some (Begun n ds w)) (ends : EndsJob view told P w e) (all : GotAll k h had.got e) (sent_is : sent ≡ e.sender.sent) (last_is : view e.seat ≡ last.seat) where
-    abbrev x : Left V
+  module _ (hub : HubSeen) (board : BoardSeen) (d d' : D) (b b' : Seen V) (job : Job S V F V D T) (js : List (Job S V F V D T)) (left : List (Leftover V)) (s : KeepsStreams view told fits values P hub board d b (job ∷ js) left had parts progress t) (w : Origin V F) (os : List (Origin V F)) (first : s.origins ≡ w ∷ os) (number : w.stream ≡ k) (stay : AreJobs view told fits values P hub board d' parts js os) (out : AreOut b' progress.splits (map guest_of os)) (handed : (z : ℕ × V) → IsAmong z b.seat.given ⊎ IsAmong z last.seat.given → IsAmong z b'.seat.given) (n : Node) (ds : List V) (e : JobEnd S V) (begun : at parts w.stream ≡ Some (Begun n ds w)) (ends : EndsJob view told P w e) (all : GotAll k h had.got e) (sent_is : sent ≡ e.sender.sent) (last_is : view e.seat ≡ last.seat) where
+    abbrev x : Leftover V
     x = record { shelf = e.shelf; unopened = e.unopened }
 
     abbrev g : Gone S V F

@@ -24,7 +24,7 @@ use Rattle.row_seat.specs.declared.view.View.{View}
 use Rattle.row_seat.specs.Views.{IsWithin, run}
 use Rattle.run_rules.specs.Facts.{at}
 use Rattle.scope_tree.specs.Calls.{Seen}
-use Rattle.scope_tree.specs.Words.{owed}
+use Rattle.scope_tree.specs.Trace.{owed}
 use Rattle.res_ledger.proofs.Mapped.{among_map, map_among}
 use Rattle.collector.specs.Collecting.{HasTables, KeepsTree, events_from}
 use Rattle.collector.specs.Starting.{IsFirstSeat}

@@ -41,7 +41,7 @@ use Rattle.scope_tree.specs.declared.leases.Lease.{Lease}
 use Rattle.scope_tree.specs.declared.tree.Tree.{Tree}
 use Rattle.stream_jobs.specs.declared.job.Job.{Job}
 use Rattle.collector.specs.declared.collector.Collector.{Collector}
-use Rattle.collector.specs.declared.collector.Left.{Left}
+use Rattle.collector.specs.declared.collector.Leftover.{Leftover}
 use Rattle.collector.specs.Collecting.{EndsRead, HasTables, HaveValuesOf, IsCollecting, IsCollectingWith, IsStoppedBy, KeepsStreams, KeepsTale, KeepsTree, bare_work}
 use Rattle.collector.specs.Starting.{ClosesOuter, IsFresh, room_of}
 use Rattle.collector.proofs.Fresh.{first_out, tried, tried_out, tried_tree, untouched_tree, untried}
@@ -104,10 +104,10 @@ module _ {S V F D T : Type 0} (view : S → View V) (told : V → DeviceTold) (f
           unread = λ n. (refl, refl, stopped n);
           dealt = refl;
           streams = subst (λ (r : ReceiverSeen). KeepsStreams view told fits values P c.hub stops.board e (seen view tree) [] c.left.items r [] q tale) (sym fr.room.receiver)
-              (subst (λ (xs : List (Left V)). KeepsStreams view told fits values P c.hub stops.board e (seen view tree) [] xs (record { hub = c.hub.id; got = []; made = []; closed = [] }) [] q tale) (sym fr.room.left)
+              (subst (λ (xs : List (Leftover V)). KeepsStreams view told fits values P c.hub stops.board e (seen view tree) [] xs (record { hub = c.hub.id; got = []; made = []; closed = [] }) [] q tale) (sym fr.room.left)
               (streams_none c.hub stops.board e (seen view tree) tables root outer set found ceased memory out));
           telling = telling;
-          room = record { waiting = fr.room.waiting_room; jobs_room = fr.room.jobs_room; few = omega arith; left = let n = ap (λ (xs : List (Left V)). length xs) fr.room.left in let m = fr.room.left_room in omega (arith, n, m) };
+          room = record { waiting = fr.room.waiting_room; jobs_room = fr.room.jobs_room; few = omega arith; left = let n = ap (λ (xs : List (Leftover V)). length xs) fr.room.left in let m = fr.room.left_room in omega (arith, n, m) };
         } in
         subst (λ (ws : List Lease). With ws c.jobs.items) (sym fr.room.waiting) (subst (λ (js : List (Job S V F V D T)). With [] js) (sym fr.room.jobs) k)
 

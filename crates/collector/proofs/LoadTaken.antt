@@ -36,7 +36,7 @@ use Rattle.stream_jobs.specs.Messages.{IsFullMessage, load_message}
 use Rattle.stream_jobs.specs.Running.{Origin}
 use Rattle.frames.proofs.Rendered.{rendering_some}
 use Rattle.collector.specs.declared.collector.Collector.{Collector}
-use Rattle.collector.specs.declared.collector.Left.{Left}
+use Rattle.collector.specs.declared.collector.Leftover.{Leftover}
 use Rattle.collector.specs.Collecting.{AreKept, Gone, IsCollectingWith, IsKept, KeepsStreams, bare_work, told_message}
 use Rattle.collector.specs.Collecting.Gone.{Came, Missed}
 use Rattle.collector.specs.Parts.{Part, fate_of}
@@ -70,7 +70,7 @@ same_set (memory a b c) = (refl, refl)
 
 module _ {S V F D T : Type 0} (view : S → View V) (told : V → DeviceTold) (fits : S → D → Type 0) (values : T → Values) (P : Values → StateMeaning F) where
   module _ (parts : List (Part V F)) (progress : Progress V) (had : ReceiverSeen) (m : Msg) (t v : Tale) (same : SameEnds t v) (o : IsOpen t m.stream) where
-    back_stays : (x : Left V) (g : Gone S V F) → IsKept view told fits values P parts progress had t x g → IsKept view told fits values P parts progress (grown had m) v x g
+    back_stays : (x : Leftover V) (g : Gone S V F) → IsKept view told fits values P parts progress had t x g → IsKept view told fits values P parts progress (grown had m) v x g
     back_stays x (Came n ds w e) h = record {
       begun = h.begun;
       ends = h.ends;
@@ -85,7 +85,7 @@ module _ {S V F D T : Type 0} (view : S → View V) (told : V → DeviceTold) (f
     }
     back_stays x (Missed k ds) h = h
 
-    kept_stays : (xs : List (Left V)) (gs : List (Gone S V F)) → AreKept view told fits values P parts progress had t xs gs → AreKept view told fits values P parts progress (grown had m) v xs gs
+    kept_stays : (xs : List (Leftover V)) (gs : List (Gone S V F)) → AreKept view told fits values P parts progress had t xs gs → AreKept view told fits values P parts progress (grown had m) v xs gs
     kept_stays [] [] h = tt
     kept_stays [] (g ∷ gs) h = absurd h
     kept_stays (x ∷ xs) [] h = absurd h
@@ -103,7 +103,7 @@ module _ {S V F D T : Type 0} (view : S → View V) (told : V → DeviceTold) (f
     come_back : (k : ℕ) → HasCome v k → HasCome t k
     come_back k h = (h.0, same.back k h.0 h.1)
 
-    pub streams_on : (hub : HubSeen) (board : BoardSeen) (d : D) (b : Seen V) (js : List (Job S V F V D T)) (left : List (Left V)) → (v.front ++ v.late ≡ (t.front ++ t.late) ++ told_message m ∷ [])
+    pub streams_on : (hub : HubSeen) (board : BoardSeen) (d : D) (b : Seen V) (js : List (Job S V F V D T)) (left : List (Leftover V)) → (v.front ++ v.late ≡ (t.front ++ t.late) ++ told_message m ∷ [])
         → KeepsStreams view told fits values P hub board d b js left had parts progress t → KeepsStreams view told fits values P hub board d b js left (grown had m) parts progress v
     streams_on hub board d b js left got s = record {
       origins = s.origins;

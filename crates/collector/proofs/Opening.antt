@@ -16,7 +16,7 @@ use Rattle.row_seat.specs.declared.view.View.{View}
 use Rattle.run_rules.specs.Facts.{at}
 use Rattle.scope_tree.specs.Calls.{Seen}
 use Rattle.stream_jobs.specs.declared.job.Job.{Job}
-use Rattle.collector.specs.declared.collector.Left.{Left}
+use Rattle.collector.specs.declared.collector.Leftover.{Leftover}
 use Rattle.collector.specs.Collecting.{AreKept, Gone, IsKept, KeepsStreams, number_of}
 use Rattle.collector.specs.Collecting.Gone.{Came, Missed}
 use Rattle.collector.specs.Parts.{Part, fate_of}
@@ -35,21 +35,21 @@ begun_made parts k ds b u = let e : Some tales.Fate.Begun ≡ Some tales.Fate.Un
 
 module _ {S V F D T : Type 0} (view : S → View V) (told : V → DeviceTold) (fits : S → D → Type 0) (values : T → Values) (P : Values → StateMeaning F) (parts : List (Part V F)) (progress : Progress V) (r : ReceiverSeen) (tale : Tale) where
   -- what is kept of a stream by its number
-  pub kept_at : (k : ℕ) (xs : List (Left V)) (gs : List (Gone S V F)) → AreKept view told fits values P parts progress r tale xs gs → IsAmong k (map number_of gs) → (x : Left V) × (g : Gone S V F) × IsKept view told fits values P parts progress r tale x g × (number_of g ≡ k)
+  pub kept_at : (k : ℕ) (xs : List (Leftover V)) (gs : List (Gone S V F)) → AreKept view told fits values P parts progress r tale xs gs → IsAmong k (map number_of gs) → (x : Leftover V) × (g : Gone S V F) × IsKept view told fits values P parts progress r tale x g × (number_of g ≡ k)
   kept_at k [] [] kept m = absurd (among_nil m)
   kept_at k [] (g ∷ gs) kept m = absurd kept
   kept_at k (x ∷ xs) [] kept m = absurd kept
   kept_at k (x ∷ xs) (g ∷ gs) kept m = ⊎_elim (λ e. (x, g, kept.0, sym e)) (λ n. kept_at k xs gs kept.1 n) (among_cons m)
 
   -- the stream of a message that was queued hasn't ended
-  not_kept : (m : Msg) (now : ReceiverSeen) (h : HasGot r m now) (x : Left V) (g : Gone S V F) → IsKept view told fits values P parts progress r tale x g → number_of g ≡ m.stream → at (map fate_of parts) m.stream ≡ Some tales.Fate.Begun → ⊥
+  not_kept : (m : Msg) (now : ReceiverSeen) (h : HasGot r m now) (x : Leftover V) (g : Gone S V F) → IsKept view told fits values P parts progress r tale x g → number_of g ≡ m.stream → at (map fate_of parts) m.stream ≡ Some tales.Fate.Begun → ⊥
   not_kept m now h x (Came n ds w e) kept is begun =
       let whole = h.sees.0.joined w.stream e.sender.sent kept.closed in
       let none = none_more (of_stream w.stream r.got) (of_stream w.stream (m ∷ h.rest)) (whole ∙ sym kept.got) in
       no_cons m (of_stream w.stream h.rest) (sym (of_own m w.stream h.rest (sym is)) ∙ none)
   not_kept m now h x (Missed k ds) kept is begun = begun_made parts m.stream ds begun (subst (λ i. at parts i ≡ Some (Unmade ds)) is kept.0)
 
-module _ {S V F D T : Type 0} (view : S → View V) (told : V → DeviceTold) (fits : S → D → Type 0) (values : T → Values) (P : Values → StateMeaning F) (hub : HubSeen) (board : BoardSeen) (d : D) (b : Seen V) (js : List (Job S V F V D T)) (left : List (Left V)) (had : ReceiverSeen) (parts : List (Part V F)) (progress : Progress V) (tale : Tale) (s : KeepsStreams view told fits values P hub board d b js left had parts progress tale) (fates : tale.fates ≡ map fate_of parts) (m : Msg) (now : ReceiverSeen) (h : HasGot had m now) where
+module _ {S V F D T : Type 0} (view : S → View V) (told : V → DeviceTold) (fits : S → D → Type 0) (values : T → Values) (P : Values → StateMeaning F) (hub : HubSeen) (board : BoardSeen) (d : D) (b : Seen V) (js : List (Job S V F V D T)) (left : List (Leftover V)) (had : ReceiverSeen) (parts : List (Part V F)) (progress : Progress V) (tale : Tale) (s : KeepsStreams view told fits values P hub board d b js left had parts progress tale) (fates : tale.fates ≡ map fate_of parts) (m : Msg) (now : ReceiverSeen) (h : HasGot had m now) where
   pub is_open : IsOpen tale m.stream
   is_open =
       let begun = (s.made m.stream).0 (h.sees.0.senders m (among_mid had.got h.rest m)) in

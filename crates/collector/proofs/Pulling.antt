@@ -20,7 +20,7 @@ use Rattle.join_tale.specs.Steps.{outer_ended}
 use Rattle.join_tale.specs.Tales.{IsFoundSet, Tale}
 use Rattle.join_tale.proofs.Growing.{found_more}
 use Rattle.join_tree.specs.Mains.{IsMain}
-use Rattle.join_tree.specs.Progress.{leasing}
+use Rattle.join_tree.specs.Progress.{leasing_next}
 use Rattle.join_tree.specs.Steps.{KeepsGuests, KeepsRows, TakesEvents}
 use Rattle.outer_tables.proofs.Outcomes.{few_tried}
 use Rattle.pipeline_desc.specs.Meant.{PlanMeant}
@@ -70,19 +70,19 @@ module _ {S V F D T : Type 0} (view : S → View V) (told : V → DeviceTold) (f
   few_tables = let f = few_tried k.tables.out in let n = map_length (λ x. x.path) p.tables in omega (arith, f, n)
 
   -- it gave the next stream
-  pub lease_step : (z : Collector S V F V D T) (e : D) (l : Lease) → k.progress.leased < length p.streams → l.stream ≡ k.progress.leased → ((q : ℕ) → IsAmong q l.rows.items → (s : ℕ) × IsAmong (Acquire q s) k.progress.tables) → IsMain (FinishesDevice told) p.max_open (length p.streams) (seen view z.tree) (leasing k.progress l.rows.items)
+  pub lease_step : (z : Collector S V F V D T) (e : D) (l : Lease) → k.progress.leased < length p.streams → l.stream ≡ k.progress.leased → ((q : ℕ) → IsAmong q l.rows.items → (s : ℕ) × IsAmong (Acquire q s) k.progress.tables) → IsMain (FinishesDevice told) p.max_open (length p.streams) (seen view z.tree) (leasing_next k.progress l.rows.items)
       → KeepsGuests (seen view c.tree) (seen view z.tree) → KeepsRows (seen view c.tree).seat (seen view z.tree).seat → TakesEvents 1 (seen view c.tree) (seen view z.tree) → Fits view fits z.tree e → OthersFit view fits Outer d e → c.outer ≡ None → deque_capacity z.waiting ≡ deque_capacity c.waiting
       → IsCollectingWith view told fits values P p d0 s0 t (1 + length ws) (ws ++ l ∷ []) js r depot sink e (record c { tree = z.tree; leased = c.leased + 1; waiting = z.waiting })
   lease_step z e l less stream tables main guests rows events fit others none capacity = record {
     fits_desk = fit;
     parts = k.parts;
-    progress = leasing k.progress l.rows.items;
+    progress = leasing_next k.progress l.rows.items;
     tale = k.tale;
     mid = k.mid;
     o = k.o;
     tree = pulled told p waits (seen view c.tree) c.outer c.leased ws k.parts k.progress k.tree (seen view z.tree) l less stream main guests events (table_rows k.progress (length k.tables.devices) (length p.tables) l.rows.items k.tables.tables few_tables (test_distinct l.rows.items l.distinct) tables);
     next = k.next;
-    tables = tables_kept told p d0 k.mid k.o k.progress (leasing k.progress l.rows.items) (seen view c.tree) (seen view z.tree) rows refl k.tables;
+    tables = tables_kept told p d0 k.mid k.o k.progress (leasing_next k.progress l.rows.items) (seen view c.tree) (seen view z.tree) rows refl k.tables;
     read = k.read;
     unread = λ not. absurd (not (all_read view told fits values P p d0 s0 t waits ws js r depot sink d c k none));
     ended = λ n. subst (λ o. IfSome o (EndsRead p (c.leased + 1))) (sym none) tt;

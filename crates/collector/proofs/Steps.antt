@@ -21,7 +21,7 @@ use Rattle.join_tale.specs.Keeping.{IsOuterStopped}
 use Rattle.join_tale.specs.Steps.{Marks, TellsOuter, fated, learned, outer_ended, unmade}
 use Rattle.join_tale.specs.Tales as tales
 use Rattle.join_tale.specs.Tales.{IsFoundSet, IsKnown, Tale}
-use Rattle.join_tree.specs.Progress.{Progress, closing, skipping}
+use Rattle.join_tree.specs.Progress.{Progress, closing_root, skipping}
 use Rattle.join_tree.specs.Steps.{KeepsGuests, KeepsRows}
 use Rattle.join_tree.proofs.Outs.{guests_stay}
 use Rattle.outer_tables.specs.declared.not_read.NotRead.{NotRead}
@@ -40,7 +40,7 @@ use Rattle.scope_tree.specs.declared.leases.Lease.{Lease}
 use Rattle.scope_tree.specs.declared.tree.Tree.{Tree}
 use Rattle.stream_jobs.specs.declared.job.Job.{Job}
 use Rattle.collector.specs.declared.collector.Collector.{Collector}
-use Rattle.collector.specs.declared.collector.Left.{Left}
+use Rattle.collector.specs.declared.collector.Leftover.{Leftover}
 use Rattle.collector.specs.Collecting.{EndsRead, HasTables, IsCollectingWith, KeepsStreams, KeepsTale, KeepsTree, bare_work, guest_of, waiting_of}
 use Rattle.collector.specs.Parts.{AreDealt, Deals, MakesUnmade, Part, fate_of}
 use Rattle.collector.specs.Parts.Part.{Skipped, Unmade}
@@ -204,13 +204,13 @@ module _ {S V F D T : Type 0} (view : S → View V) (told : V → DeviceTold) (f
     close_step h tree again report e vs cs none close fit others l seated ends tells read_so = record {
       fits_desk = fit;
       parts = k.parts;
-      progress = closing k.progress (exit_of h);
+      progress = closing_root k.progress (exit_of h);
       tale = learned (outer_ended k.tale h) vs cs;
       mid = k.mid;
       o = k.o;
       tree = closed told p waits (seen view c.tree) c.outer c.leased ws k.parts k.progress k.tree h (seen view tree) none close;
       next = k.next;
-      tables = tables_kept told p d0 k.mid k.o k.progress (closing k.progress (exit_of h)) (seen view c.tree) (seen view tree) close.rows refl k.tables;
+      tables = tables_kept told p d0 k.mid k.o k.progress (closing_root k.progress (exit_of h)) (seen view c.tree) (seen view tree) close.rows refl k.tables;
       read = k.read;
       unread = λ n. absurd (n (all_read none));
       ended = λ n. read_so;
@@ -271,7 +271,7 @@ module _ {S V F D T : Type 0} (view : S → View V) (told : V → DeviceTold) (f
         }
 
     -- there was no memory to make its stream, and what was made for it is kept
-    pub miss_step : (z : Collector S V F V D T) (e : D) (vs cs : List Interruption) (now : DepotTold) (ds : List V) (y : Left V) (s : StreamSpec) → PassesOver (FinishesDevice told) l.stream l.rows.items (seen view c.tree) (seen view z.tree) → Fits view fits z.tree e → OthersFit view fits Outer d e
+    pub miss_step : (z : Collector S V F V D T) (e : D) (vs cs : List Interruption) (now : DepotTold) (ds : List V) (y : Leftover V) (s : StreamSpec) → PassesOver (FinishesDevice told) l.stream l.rows.items (seen view c.tree) (seen view z.tree) → Fits view fits z.tree e → OthersFit view fits Outer d e
         → Marks 0 why.Memory vs cs → Learns c.stops z.stops vs cs → IsSeated z.stops → MissesStream c.next c.report z.report → slice_get p.streams c.next ≡ Some s → MakesUnmade told s depot now ds → y.shelf ≡ [] → y.unopened ≡ ds → z.left.items ≡ c.left.items ++ y ∷ [] → vec_capacity z.left ≡ vec_capacity c.left
         → (again : ℕ) → length ws ≤ again → (c.outer ≡ None → 0 < again → 1 ≤ length ws) → With again ws js r now sink e (record c { tree = z.tree; stops = z.stops; report = z.report; next = c.next + 1; left = z.left })
     miss_step z e vs cs now ds y s pass fit others mark l' seated misses is makes shelf unopened pushed capacity again few some =
@@ -301,6 +301,6 @@ module _ {S V F D T : Type 0} (view : S → View V) (told : V → DeviceTold) (f
             waiting = k.room.waiting;
             jobs_room = k.room.jobs_room;
             few = k.room.few;
-            left = let f = k.room.left in let g = ap (λ (xs : List (Left V)). length xs) pushed ∙ snoc_length c.left.items y in let b = below in omega (arith, f, g, more, capacity, b, n);
+            left = let f = k.room.left in let g = ap (λ (xs : List (Leftover V)). length xs) pushed ∙ snoc_length c.left.items y in let b = below in omega (arith, f, g, more, capacity, b, n);
           };
         }

@@ -34,7 +34,7 @@ use Rattle.stream_jobs.specs.Jobs.{FitsJob, IsAt, IsJob, seen_job}
 use Rattle.stream_jobs.specs.Running.{Origin}
 use Rattle.stream_jobs.proofs.Others.{others_leave}
 use Rattle.tree_families.specs.Families.{Split}
-use Rattle.collector.specs.declared.collector.Left.{Left}
+use Rattle.collector.specs.declared.collector.Leftover.{Leftover}
 use Rattle.collector.specs.Collecting.{AreJobs, AreKept, Gone, IsJobOf, IsKept, KeepsStreams, guest_of, number_of}
 use Rattle.collector.specs.Collecting.Gone.{Came as Back, Missed}
 use Rattle.collector.specs.Parts.{Part}
@@ -83,7 +83,7 @@ module _ {S V F D T : Type 0} (view : S → View V) (told : V → DeviceTold) (f
 
   -- what was left is kept
   pub kept_stays : (parts more : List (Part V F)) (q u : Progress V) (r s : ReceiverSeen) (t v : Tale) → ((k : ℕ) (x : Part V F) → at parts k ≡ Some x → at more k ≡ Some x) → u.back ≡ q.back → s.got ≡ r.got → s.closed ≡ r.closed → ((k : ℕ) (h : How) → Came t k h → Came v k h)
-      → (xs : List (Left V)) (gs : List (Gone S V F)) → AreKept view told fits values P parts q r t xs gs → AreKept view told fits values P more u s v xs gs
+      → (xs : List (Leftover V)) (gs : List (Gone S V F)) → AreKept view told fits values P parts q r t xs gs → AreKept view told fits values P more u s v xs gs
   kept_stays parts more q u r s t v grow back got closed came [] [] h = tt
   kept_stays parts more q u r s t v grow back got closed came [] (g ∷ gs) h = h
   kept_stays parts more q u r s t v grow back got closed came (x ∷ xs) [] h = h
@@ -105,14 +105,14 @@ module _ {S V F D T : Type 0} (view : S → View V) (told : V → DeviceTold) (f
         kept_stays parts more q u r s t v grow back got closed came xs gs h.1,
       )
 
-  pub kept_snoc : (parts : List (Part V F)) (q : Progress V) (r : ReceiverSeen) (t : Tale) (xs : List (Left V)) (gs : List (Gone S V F)) (x : Left V) (g : Gone S V F) → AreKept view told fits values P parts q r t xs gs → IsKept view told fits values P parts q r t x g
+  pub kept_snoc : (parts : List (Part V F)) (q : Progress V) (r : ReceiverSeen) (t : Tale) (xs : List (Leftover V)) (gs : List (Gone S V F)) (x : Leftover V) (g : Gone S V F) → AreKept view told fits values P parts q r t xs gs → IsKept view told fits values P parts q r t x g
       → AreKept view told fits values P parts q r t (xs ++ x ∷ []) (gs ++ g ∷ [])
   kept_snoc parts q r t [] [] x g h i = (i, tt)
   kept_snoc parts q r t [] (y ∷ gs) x g h i = absurd h
   kept_snoc parts q r t (y ∷ xs) [] x g h i = absurd h
   kept_snoc parts q r t (y ∷ xs) (z ∷ gs) x g h i = (h.0, kept_snoc parts q r t xs gs x g h.1 i)
 
-  module _ (hub : HubSeen) (board : BoardSeen) (d : D) (b : Seen V) (js : List (Job S V F V D T)) (left : List (Left V)) (r : ReceiverSeen) (parts : List (Part V F)) (q : Progress V) (t : Tale) (ks : KeepsStreams view told fits values P hub board d b js left r parts q t) where
+  module _ (hub : HubSeen) (board : BoardSeen) (d : D) (b : Seen V) (js : List (Job S V F V D T)) (left : List (Leftover V)) (r : ReceiverSeen) (parts : List (Part V F)) (q : Progress V) (t : Tale) (ks : KeepsStreams view told fits values P hub board d b js left r parts q t) where
     pub jobs_number : length js ≡ length ks.origins
     jobs_number = jobs_count hub board d parts js ks.origins ks.jobs_are
 
@@ -193,7 +193,7 @@ module _ {S V F D T : Type 0} (view : S → View V) (told : V → DeviceTold) (f
         }
 
         -- there was no memory to make it, and what was made for it is kept
-        pub streams_missed : f ≡ tales.Fate.Unmade → (ds : List V) (y : Left V) → x ≡ Unmade ds → y.shelf ≡ [] → y.unopened ≡ ds → length parts ≡ length t.fates → ((k : ℕ) → HasCome t k → at t.fates k ≡ Some tales.Fate.Begun) → (outer : Option How) (set seen : List Interruption) (ceased memory : Bool) (waits : List (ℕ × List ℕ)) (next leased : ℕ) (tables : List What) (root : Option Exit)
+        pub streams_missed : f ≡ tales.Fate.Unmade → (ds : List V) (y : Leftover V) → x ≡ Unmade ds → y.shelf ≡ [] → y.unopened ≡ ds → length parts ≡ length t.fates → ((k : ℕ) → HasCome t k → at t.fates k ≡ Some tales.Fate.Begun) → (outer : Option How) (set seen : List Interruption) (ceased memory : Bool) (waits : List (ℕ × List ℕ)) (next leased : ℕ) (tables : List What) (root : Option Exit)
             → KeepsStreams view told fits values P hub again e c js (left ++ y ∷ []) r (parts ++ x ∷ []) (moved q waits next leased tables root) (retold (fated t f) outer set seen ceased memory)
         streams_missed is ds y x_is shelf unopened count ours outer set seen ceased memory waits next leased tables root = record {
           origins = ks.origins;

@@ -11,7 +11,7 @@ use Rattle.chunk_core.proofs.Filters.{filter_among}
 use Rattle.device_port.specs.Device.{DeviceTold}
 use Rattle.join_tree.specs.Guests.{IsReady}
 use Rattle.join_tree.specs.Mains.{IsMain}
-use Rattle.join_tree.specs.Progress.{Follow, Progress, closing, leasing, skipping, splitting}
+use Rattle.join_tree.specs.Progress.{Follow, Progress, closing_root, leasing_next, skipping, splitting}
 use Rattle.join_tree.specs.Steps.{KeepsGuests, TakesEvents}
 use Rattle.outer_tables.specs.Rows.{acquires}
 use Rattle.pipeline_desc.specs.Meant.{PlanMeant}
@@ -23,7 +23,7 @@ use Rattle.res_ledger.specs.declared.event.What.TheVariants.{Acquire}
 use Rattle.row_seat.specs.Views.{IsWithin, run, split_main, within}
 use Rattle.scope_tree.specs.Calls.{Seen}
 use Rattle.scope_tree.specs.Released.{away}
-use Rattle.scope_tree.specs.Words.{owed}
+use Rattle.scope_tree.specs.Trace.{owed}
 use Rattle.scope_tree.specs.declared.leases.Lease.{Lease}
 use Rattle.scope_tree.proofs.Lists.{away_le}
 use Rattle.stream_parts.proofs.PartsMade.{row_behind}
@@ -203,7 +203,7 @@ module _ {V F : Type 0} (told : V → DeviceTold) (p : PlanMeant) where
         omega (arith, e, s, l)
 
     -- the outer stream ended
-    pub closed : (h : How) (c : Seen V) → outer ≡ None → ClosesOuter (FinishesDevice told) h b c → KeepsTree p told waits c (Some h) leased ws parts (closing progress (exit_of h))
+    pub closed : (h : How) (c : Seen V) → outer ≡ None → ClosesOuter (FinishesDevice told) h b c → KeepsTree p told waits c (Some h) leased ws parts (closing_root progress (exit_of h))
     closed h c none close = record {
       main = close.main p.max_open (length p.streams) progress kt.main (root_open none);
       leased_is = kt.leased_is;
@@ -219,8 +219,8 @@ module _ {V F : Type 0} (told : V → DeviceTold) (p : PlanMeant) where
     }
 
     -- the next stream was leased for
-    pub pulled : (c : Seen V) (l : Lease) → progress.leased < length p.streams → l.stream ≡ progress.leased → IsMain (FinishesDevice told) p.max_open (length p.streams) c (leasing progress l.rows.items) → KeepsGuests b c → TakesEvents 1 b c → AreTableRows (length p.tables) l.rows.items
-        → KeepsTree p told (1 + length ws) c outer (leased + 1) (ws ++ l ∷ []) parts (leasing progress l.rows.items)
+    pub pulled : (c : Seen V) (l : Lease) → progress.leased < length p.streams → l.stream ≡ progress.leased → IsMain (FinishesDevice told) p.max_open (length p.streams) c (leasing_next progress l.rows.items) → KeepsGuests b c → TakesEvents 1 b c → AreTableRows (length p.tables) l.rows.items
+        → KeepsTree p told (1 + length ws) c outer (leased + 1) (ws ++ l ∷ []) parts (leasing_next progress l.rows.items)
     pulled c l less stream main guests takes table =
         let more = snoc_length ws l in
         let is = kt.leased_is in

@@ -36,7 +36,7 @@ use Rattle.stream_jobs.specs.Jobs.{FitsJob, IsJob, IsSameJob, seen_job}
 use Rattle.stream_jobs.proofs.Others.{others_leave}
 use Rattle.stream_jobs.specs.Running.{Origin}
 use Rattle.collector.specs.declared.collector.Collector.{Collector}
-use Rattle.collector.specs.declared.collector.Left.{Left}
+use Rattle.collector.specs.declared.collector.Leftover.{Leftover}
 use Rattle.collector.specs.Collecting.{AreJobs, IsCollectingWith, IsJobOf, KeepsStreams, guest_of}
 use Rattle.collector.specs.Parts.{Part}
 use Rattle.collector.specs.Receiving.{TakesOut}
@@ -64,7 +64,7 @@ swapped_map : {A B : Type 0} (f : A → B) (x : B) (xs ys : List A) → IsAmong 
 swapped_map f x xs ys m = subst (λ l. IsAmong x l) (sym (map-append f ys xs)) (among_swapped x (map f xs) (map f ys) (subst (λ l. IsAmong x l) (map-append f xs ys) m))
 
 module _ {S V F D T : Type 0} (view : S → View V) (told : V → DeviceTold) (fits : S → D → Type 0) (values : T → Values) (P : Values → StateMeaning F) where
-  module _ (hub : HubSeen) (board : BoardSeen) (d : D) (b : Seen V) (left : List (Left V)) (r : ReceiverSeen) (parts : List (Part V F)) (progress : Progress V) (tale : Tale) where
+  module _ (hub : HubSeen) (board : BoardSeen) (d : D) (b : Seen V) (left : List (Leftover V)) (r : ReceiverSeen) (parts : List (Part V F)) (progress : Progress V) (tale : Tale) where
     streams_turned : (xs ys : List (Job S V F V D T)) → KeepsStreams view told fits values P hub board d b (xs ++ ys) left r parts progress tale → KeepsStreams view told fits values P hub board d b (ys ++ xs) left r parts progress tale
     streams_turned xs ys s =
         let q = jobs_split view told fits values P hub board d parts xs ys s.origins s.jobs_are in

@@ -49,7 +49,7 @@ use Rattle.run_rules.specs.Facts.{at}
 use Rattle.run_rules.specs.Work.{Work}
 use Rattle.scope_tree.specs.Calls.{Seen}
 use Rattle.scope_tree.specs.Trees.{Fits, seen}
-use Rattle.scope_tree.specs.Words.{owed}
+use Rattle.scope_tree.specs.Trace.{owed}
 use Rattle.scope_tree.specs.declared.leases.Lease.{Lease}
 use Rattle.stream_jobs.specs.declared.job.Job.{Job}
 use Rattle.stream_jobs.specs.declared.job.JobEnd.{JobEnd}
@@ -57,7 +57,7 @@ use Rattle.stream_jobs.specs.Jobs.{EndsJob, FitsJob, IsAt, IsJob, seen_job}
 use Rattle.stream_jobs.specs.Running.{Origin}
 use Rattle.tree_families.specs.Families.{Split}
 use Rattle.collector.specs.declared.collector.Collector.{Collector}
-use Rattle.collector.specs.declared.collector.Left.{Left}
+use Rattle.collector.specs.declared.collector.Leftover.{Leftover}
 use Rattle.collector.specs.Parts.{AreDealt, AreTableRows, Part, fate_of}
 use Rattle.collector.specs.Parts.Part.{Begun, Unmade}
 
@@ -128,7 +128,7 @@ module _ {S V F D T : Type 0} (view : S → View V) (told : V → DeviceTold) (f
   AreJobs hub board d parts _ _ = ⊥
 
   -- what was left of a stream that was begun: its end was received, with all that was sent, its tree is among those that came back, and its devices were kept
-  pub record HasComeBack (parts : List (Part V F)) (progress : Progress V) (receiver : ReceiverSeen) (tale : Tale) (x : Left V) (n : Node) (ds : List V) (w : Origin V F) (e : JobEnd S V) : Type 0 where
+  pub record HasComeBack (parts : List (Part V F)) (progress : Progress V) (receiver : ReceiverSeen) (tale : Tale) (x : Leftover V) (n : Node) (ds : List V) (w : Origin V F) (e : JobEnd S V) : Type 0 where
     pub begun : at parts w.stream ≡ Some (Begun n ds w)
     pub ends : EndsJob view told P w e
     pub came : tales.Came tale w.stream e.how
@@ -141,17 +141,17 @@ module _ {S V F D T : Type 0} (view : S → View V) (told : V → DeviceTold) (f
     pub unopened_is : x.unopened ≡ e.unopened
 
   -- what is kept of a stream that is no longer open
-  abbrev pub IsKept : List (Part V F) → Progress V → ReceiverSeen → Tale → Left V → Gone S V F → Type 0
+  abbrev pub IsKept : List (Part V F) → Progress V → ReceiverSeen → Tale → Leftover V → Gone S V F → Type 0
   IsKept parts progress receiver tale x (Came n ds w e) = HasComeBack parts progress receiver tale x n ds w e
   IsKept parts progress receiver tale x (Missed k ds) = (at parts k ≡ Some (Unmade ds)) × (x.shelf ≡ []) × (x.unopened ≡ ds)
 
-  abbrev pub AreKept : List (Part V F) → Progress V → ReceiverSeen → Tale → List (Left V) → List (Gone S V F) → Type 0
+  abbrev pub AreKept : List (Part V F) → Progress V → ReceiverSeen → Tale → List (Leftover V) → List (Gone S V F) → Type 0
   AreKept parts progress receiver tale [] [] = Unit {0}
   AreKept parts progress receiver tale (x ∷ xs) (g ∷ gs) = IsKept parts progress receiver tale x g × AreKept parts progress receiver tale xs gs
   AreKept parts progress receiver tale _ _ = ⊥
 
   -- The open streams, whose seats are out, and what is kept of those that are open no longer. What came through the channel is what the tale tells, and a stream that was begun has or had a sender.
-  pub record KeepsStreams (hub : HubSeen) (board : BoardSeen) (d : D) (b : Seen V) (jobs : List (Job S V F V D T)) (left : List (Left V)) (receiver : ReceiverSeen) (parts : List (Part V F)) (progress : Progress V) (tale : Tale) : Type 0 where
+  pub record KeepsStreams (hub : HubSeen) (board : BoardSeen) (d : D) (b : Seen V) (jobs : List (Job S V F V D T)) (left : List (Leftover V)) (receiver : ReceiverSeen) (parts : List (Part V F)) (progress : Progress V) (tale : Tale) : Type 0 where
     pub origins : List (Origin V F)
     pub jobs_are : AreJobs hub board d parts jobs origins
     pub out : AreOut b progress.splits (map guest_of origins)

@@ -15,7 +15,7 @@ use Rattle.join_report.specs.Reports.{IsReport}
 use Rattle.join_report.specs.Stopping.{IsSeated, IsUnknown, view_of, with_seat_out}
 use Rattle.join_tale.specs.Steps.{first_tale}
 use Rattle.join_tree.specs.Mains.{IsMain}
-use Rattle.join_tree.specs.Progress.{Progress, closing, none_done, skipping}
+use Rattle.join_tree.specs.Progress.{Progress, closing_root, none_done, skipping}
 use Rattle.join_tree.specs.Steps.{KeepsGuests, KeepsRows, TakesEvents}
 use Rattle.pipeline_desc.specs.Meant.{PlanMeant}
 use Rattle.pipeline_desc.specs.Places.{first_row}
@@ -91,7 +91,7 @@ module _ {P : Type 0} (ends : P → Exit → Bool → P → Type 0) where
 
   -- the root was closed as the outer stream ended
   pub record ClosesOuter (h : How) (a b : Seen P) : Type 0 where
-    pub main : (width n : ℕ) (p : Progress P) → IsMain ends width n a p → p.root ≡ None → IsMain ends width n b (closing p (exit_of h))
+    pub main : (width n : ℕ) (p : Progress P) → IsMain ends width n a p → p.root ≡ None → IsMain ends width n b (closing_root p (exit_of h))
     pub guests : KeepsGuests a b
     pub rows : KeepsRows a.seat b.seat
     pub events : TakesEvents 0 a b

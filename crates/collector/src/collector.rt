@@ -10,7 +10,7 @@ ghost use Rattle.res_ledger.specs.declared.event.StreamNo.TheVariants.{Outer};
 ghost use Rattle.row_seat.specs.Views.{OthersFit};
 ghost use Rattle.scope_tree.specs.Released.{away};
 ghost use Rattle.scope_tree.specs.Trees.{Fits, seen};
-ghost use Rattle.scope_tree.specs.Words.{owed};
+ghost use Rattle.scope_tree.specs.Trace.{owed};
 ghost use Rattle.collector.specs.Starting.{ClosesOuter, IsRoomFor, PassesOver};
 
 use crate::filled::Filled;
@@ -31,7 +31,7 @@ use stream_jobs::Job;
 /// The devices of a stream that has ended or that couldn't be begun: those that were acquired, on the
 /// shelf of its tree with the rows of tables that it was the last to leave, and those never opened.
 #[derive(Drop)]
-pub struct Left<V> {
+pub struct Leftover<V> {
     pub shelf: List<Spent<Held<V>>>,
     pub unopened: List<V>,
 }
@@ -66,7 +66,7 @@ pub struct JoinRoom<S: RowSeat, V, F: PipeState> {
     pub(crate) receiver: Receiver,
     pub(crate) report: Report,
     pub(crate) queues: Queues<S, V, F>,
-    pub(crate) left: Vec<Left<V>>,
+    pub(crate) left: Vec<Leftover<V>>,
 }
 
 impl<V: Device + Drop, S: RowSeat<Pay = Held<V>>, F: PipeState> JoinRoom<S, V, F> {
@@ -108,7 +108,7 @@ pub struct Collector<S: RowSeat, V, F: PipeState> {
     /// The leases of the streams that wait, of which there are at most two.
     pub(crate) waiting: VecDeque<Lease>,
     pub(crate) jobs: VecDeque<Job<S, V, F>>,
-    pub(crate) left: Vec<Left<V>>,
+    pub(crate) left: Vec<Leftover<V>>,
 }
 
 /// What is left of a collector: the main tree, which may be settled, what is reported, how the outer
@@ -117,7 +117,7 @@ pub struct Ended<S: RowSeat, V> {
     pub tree: Tree<S>,
     pub report: Report,
     pub outer: How,
-    pub left: Vec<Left<V>>,
+    pub left: Vec<Leftover<V>>,
 }
 
 impl<V: Device + Drop, S: RowSeat<Pay = Held<V>>, F: PipeState> Collector<S, V, F> {

@@ -13,7 +13,7 @@
 //!
 //! `Collector::into_ended` takes apart a collector that has come to its end (`Ended`): the main tree, which
 //! may be settled, the report, how the outer stream ended, and the devices of the streams, which are to go
-//! back to their depot once the ledger is finished (`Left`).
+//! back to their depot once the ledger is finished (`Leftover`).
 //!
 //! What holds between any two of these steps is `IsCollecting`. The main tree and the room were made before
 //! the first file is opened:
@@ -52,5 +52,5 @@ mod receive;
 mod rounds;
 mod start;
 
-pub use collector::{Collector, Ended, JoinRoom, Left};
+pub use collector::{Collector, Ended, JoinRoom, Leftover};
 pub use filled::Filled;

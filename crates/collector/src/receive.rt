@@ -20,7 +20,7 @@ ghost use Rattle.pull_turns.specs.Piping.{standing};
 ghost use Rattle.res_ledger.specs.declared.event.StreamNo.TheVariants.{Inner, Outer};
 ghost use Rattle.row_seat.specs.Views.{OthersFit, joined};
 ghost use Rattle.scope_tree.specs.Trees.{Fits, seen};
-ghost use Rattle.scope_tree.specs.Words.{owed};
+ghost use Rattle.scope_tree.specs.Trace.{owed};
 ghost use Rattle.stream_jobs.specs.Jobs.{EndsJob, FitsJob, IsAt, IsJob, seen_job};
 ghost use Rattle.stream_jobs.specs.Messages.{end_message, load_message};
 ghost use Rattle.stream_jobs.specs.Running.{Origin};
@@ -28,7 +28,7 @@ ghost use Rattle.tree_families.specs.Families.{Split};
 ghost use Rattle.collector.specs.Collecting.{IsCollecting, IsCollectingWith, guest_of};
 ghost use Rattle.collector.specs.Receiving.{EndsWith, GoesBehind, HasGot, StopsOne, StopsThose, TakesOut};
 
-use crate::collector::{Collector, Left};
+use crate::collector::{Collector, Leftover};
 use channel_bounded::{Body, Msg};
 use chunk_core::{How, Load};
 use device_port::{Device, Gate, Sink};
@@ -307,6 +307,6 @@ impl<V: Device + Drop, S: RowSeat<Pay = Held<V>>, F: PipeState> Collector<S, V, 
         take_in(&mut self.tree, desk, seat);
         self.stops.take_in(board);
         self.receiver.join(&self.hub, sender);
-        self.left.push_reserved(Left { shelf, unopened });
+        self.left.push_reserved(Leftover { shelf, unopened });
     }
 }

@@ -17,7 +17,7 @@ ghost use Rattle.collector.specs.Collecting.{IsCollecting, IsCollectingWith};
 ghost use Rattle.collector.specs.Parts.{MakesUnmade};
 ghost use Rattle.collector.specs.Starting.{HasRoomAsGuest, IsAhead, MakesJob, MayBegin, with_seats_out};
 
-use crate::collector::{Collector, Left};
+use crate::collector::{Collector, Leftover};
 use chunk_core::List;
 use csv_pipes::Dicts;
 use device_port::{Depot, Device};
@@ -138,7 +138,7 @@ impl<V: Device + Drop, S: RowSeat<Pay = Held<V>>, F: PipeState<Tables = Dicts>> 
         self.stops.interrupt(0, Why::Memory);
         self.report.miss(self.next);
         self.pass_over(desk, lease);
-        self.left.push_reserved(Left {
+        self.left.push_reserved(Leftover {
             shelf: List::new(alloc),
             unopened,
         });

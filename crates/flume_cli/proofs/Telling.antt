@@ -15,7 +15,7 @@ use Rattle.run_rules.specs.Facts.{is_fault, is_memory, is_failed, has_event}
 use Rattle.run_rules.specs.Run.{Performs, Ran, IsUnmade}
 use Rattle.run_rules.specs.Texts.{tail_text}
 use Rattle.run_rules.specs.Work.{Work}
-use Rattle.par_join.specs.Cat.{deed_of, and_one}
+use Rattle.par_join.specs.Cat.{run_record_of, and_one}
 use Rattle.par_join.specs.declared.outcome.Outcome.{Outcome}
 use Rattle.flume_cli.specs.declared.status.Status.{Status}
 use Rattle.flume_cli.specs.declared.status.Status.TheVariants as status
@@ -54,7 +54,7 @@ printed_is u f n e = ap (λ b. by_flags b false f n) (sym e)
 -- a work was done, of which these frames were printed
 pub record DoesWork (work : Work) (depot_old depot_new : DepotTold) (old new : SinkTold) (o : Outcome) (frames : List Frame) (cut : Option Frame) (rest : List ℕ) : Type 0 where
   pub broke : is_some cut ≡ o.sink_failed
-  pub performs : Performs work (deed_of depot_old depot_new frames cut rest o)
+  pub performs : Performs work (run_record_of depot_old depot_new frames cut rest o)
   pub wrote : new ≡ record (with_bytes old (frames_text frames ++ rest)) { faults = and_one o.sink_failed old.faults }
   pub begun : o.ends ≡ [] → (o.sink_failed ≡ false) × (o.memory ≡ true)
 
@@ -82,7 +82,7 @@ module _ (words : List (List ℕ)) (src src' : SourceTold) (dold dnew : DepotTol
   causes m = record { early = false; words = true; unread = false; refused = None; unwritten = nat_lt so.faults sn.faults; memory = m; faulty = any (λ (e : EndOf). is_fault e.how) o.ends; unclean = has_event is_failed o.ledger }
 
   remembered : any (λ (e : EndOf). is_memory e.how) o.ends ≡ true → o.memory ≡ true
-  remembered h = ⊎_elim (λ (x : IsUnmade (deed_of dold dnew frames cut rest o)). x.memory) (λ (x : Ran work (deed_of dold dnew frames cut rest o)). x.ends.memory h) runs.performs.ran
+  remembered h = ⊎_elim (λ (x : IsUnmade (run_record_of dold dnew frames cut rest o)). x.memory) (λ (x : Ran work (run_record_of dold dnew frames cut rest o)). x.ends.memory h) runs.performs.ran
 
   -- the call was told, from the parts that differ by how
   tells : (s : Status) (m : Bool) → (o.memory ≡ true → m ≡ true) → s ≡ status_of (causes m) → IsText (told s) (causes m) frames cut rest o.memory → IsToldLine eold enew (line_of s) → IsTold work (told s) frames cut

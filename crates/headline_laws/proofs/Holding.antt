@@ -104,8 +104,8 @@ module _ (bytes : List ℕ) (at : ℕ) (ended : Bool) (x : Exit) (reads closes :
   abbrev device : DeviceTold
   device = closed_device bytes at ended x reads closes
 
-  abbrev deed : RunRecord
-  deed = record {
+  abbrev run_record : RunRecord
+  run_record = record {
     depot_old = depot_before bytes;
     depot_new = depot_after bytes (device ∷ []);
     ends = end_of_0 h ∷ [];
@@ -117,8 +117,8 @@ module _ (bytes : List ℕ) (at : ℕ) (ended : Bool) (x : Exit) (reads closes :
   }
 
   -- the work was done, where its parts were that differ from call to call
-  row_performs : AreAsMany (λ d. nat_lt 0 d.close_faults) failed_row (device ∷ []) (to_read a ∷ []) (one_row_ledger x ok) → ok ≡ nat_eq closes 0 → x ≡ exit_of h → HaveOutputs (cat_work a) deed no_values (λ r. device) → HaveEnds (cat_work a) deed (λ r. device)
-      → (NothingFailed (cat_work a) deed no_values (λ r. device) → IsWholeRun (cat_work a) deed no_values (λ r. device)) → Performs (cat_work a) deed
+  row_performs : AreAsMany (λ d. nat_lt 0 d.close_faults) failed_row (device ∷ []) (to_read a ∷ []) (one_row_ledger x ok) → ok ≡ nat_eq closes 0 → x ≡ exit_of h → HaveOutputs (cat_work a) run_record no_values (λ r. device) → HaveEnds (cat_work a) run_record (λ r. device)
+      → (NothingFailed (cat_work a) run_record no_values (λ r. device) → IsWholeRun (cat_work a) run_record no_values (λ r. device)) → Performs (cat_work a) run_record
   row_performs failed tied exit outputs ends whole = record {
     devices = record {
       made = refl;

@@ -70,7 +70,7 @@ module _ {n : ℕ} {words : List ℕ} {views : List View} (h : BoardRule n words
   setter : (p : ℕ) (v : View) → IsAt views p v → v.first ≡ true → v.out ≡ 0 → (i q : ℕ) (u : View) → IsAt views q u → 1 ≤ sets_of i u → u.first ≡ true
   setter p v at first none i q u at' some = by_cases u.first u.live
       (λ f l. let o = out_one u l f in let t = total_at out_count views q u at' in let s = h.seats_agree.out p v at first in absurd (omega arith))
-      (λ l. let e : sets_of i u ≡ 0 = ap (sets_of i) (h.seats_agree.spent q u at' l) in absurd (omega arith))
+      (λ l. let e : sets_of i u ≡ 0 = ap (sets_of i) (h.seats_agree.taken_in q u at' l) in absurd (omega arith))
     where
       by_cases : (f l : Bool) → (f ≡ false → l ≡ true → ⊥) → (l ≡ false → ⊥) → f ≡ true
       by_cases true l a b = refl

@@ -20,7 +20,7 @@ use Rattle.interrupt_ctx.specs.declared.view.Interruption.{Interruption}
 use Rattle.interrupt_ctx.specs.declared.view.View.{View}
 use Rattle.interrupt_ctx.specs.declared.why.Why.{Why}
 use Rattle.interrupt_ctx.specs.Codes.{code_of, word_of}
-use Rattle.interrupt_ctx.specs.Views.{Knows, context_times, first_view, giving, interruption, joined, spent_view, split_off, with_seen, with_set}
+use Rattle.interrupt_ctx.specs.Views.{Knows, context_times, first_view, giving, interruption, joined, blank_view, split_off, with_seen, with_set}
 use Rattle.interrupt_ctx.specs.Rule.{BoardRule, SeatsAgree, WordsAgree, first_count, out_count, sets_of}
 use Rattle.interrupt_ctx.specs.Steps.{LearnTells, OwnTells, RootTells, SetTells, looked, looked_up}
 use Rattle.interrupt_ctx.proofs.Words.{code_of-positive}
@@ -40,7 +40,7 @@ begins n words e = record {
   seats_agree = record {
     one = refl;
     out = λ p v at f. ap (λ (u : View). u.out) (first p v at);
-    spent = λ p v at d. absurd (true≢false (sym (ap (λ (u : View). u.live) (first p v at)) ∙ d));
+    taken_in = λ p v at d. absurd (true≢false (sym (ap (λ (u : View). u.live) (first p v at)) ∙ d));
   };
 }
   where
@@ -62,7 +62,7 @@ seats_stay views p v w at h live f l o =
     record {
       one = firsts ∙ h.one;
       out = each views p w (λ i u. u.first ≡ true → u.out ≡ total out_count (slice_set views p w)) (λ g. o ∙ h.out p v at (sym f ∙ g) ∙ sym outs) (λ i u _ e g. h.out i u e g ∙ sym outs);
-      spent = each views p w (λ i u. u.live ≡ false → u ≡ spent_view) (λ d. absurd (true≢false (sym live ∙ sym l ∙ d))) (λ i u _ e. h.spent i u e);
+      taken_in = each views p w (λ i u. u.live ≡ false → u ≡ blank_view) (λ d. absurd (true≢false (sym live ∙ sym l ∙ d))) (λ i u _ e. h.taken_in i u e);
     }
 
 -- a view changes that has set what it had, and no word
@@ -187,39 +187,39 @@ splits n p v first live s h at =
             (λ _. let o = h.seats_agree.out p v at first in omega arith)
             (λ q u far e f. absurd (far (only s.views h.seats_agree q p u v e at f first)))
             (λ f. absurd (true≢false (sym f)));
-        spent = each_more s.views p v a b at (λ q u. u.live ≡ false → u ≡ spent_view) (λ d. absurd (true≢false (sym live ∙ d))) (λ q u _ e. h.seats_agree.spent q u e) (λ d. absurd (true≢false d));
+        taken_in = each_more s.views p v a b at (λ q u. u.live ≡ false → u ≡ blank_view) (λ d. absurd (true≢false (sym live ∙ d))) (λ q u _ e. h.seats_agree.taken_in q u e) (λ d. absurd (true≢false d));
       };
     }
 
-pub joins : (n p : ℕ) (v : View) (other : ℕ) (u : View) → v.first ≡ true → v.live ≡ true → u.live ≡ true → Joins (rule n) p v other u (joined v u) spent_view
+pub joins : (n p : ℕ) (v : View) (other : ℕ) (u : View) → v.first ≡ true → v.live ≡ true → u.live ≡ true → Joins (rule n) p v other u (joined v u) blank_view
 joins n p v other u first live live' s h at apart at'' =
     let a = joined v u in
     let ne : p ≢ other = λ e. apart (sym e) in
     let at' : IsAt s.views other u = ⊎_elim (λ x. absurd (apart x.0)) (λ x. x.1) (at_set s.views p other a u at'') in
-    let views = slice_set (slice_set s.views p a) other spent_view in
+    let views = slice_set (slice_set s.views p a) other blank_view in
     let rest : u.first ≡ false = not_first u.first (λ f. apart (only s.views h.seats_agree other p u v at' at f first)) in
-    let outs : total out_count views + 1 ≡ total out_count s.views = let t = total_both s.views p other v u a spent_view at at' ne out_count in let o = out_one u live' rest in omega arith in
+    let outs : total out_count views + 1 ≡ total out_count s.views = let t = total_both s.views p other v u a blank_view at at' ne out_count in let o = out_one u live' rest in omega arith in
     record {
       words_agree = record {
         count = h.words_agree.count;
         coded = h.words_agree.coded;
         once = λ i le.
-            let t = total_both s.views p other v u a spent_view at at' ne (sets_of i) in
+            let t = total_both s.views p other v u a blank_view at at' ne (sets_of i) in
             let both : sets_of i a ≡ sets_of i v + sets_of i u = total_append (λ (x : Interruption). cond (x.context == i) 1 0) v.set u.set in
             let o = h.words_agree.once i le in omega arith;
-        told = each_two s.views p other v u a spent_view at at' ne (λ q y. (i : ℕ) (why : Why) → Knows y i why → slice_index s.words i ≡ code_of why)
+        told = each_two s.views p other v u a blank_view at at' ne (λ q y. (i : ℕ) (why : Why) → Knows y i why → slice_index s.words i ≡ code_of why)
             (λ i why k. ⊎_elim (λ m. ⊎_elim (λ b. h.words_agree.told p v at i why (inl b)) (λ b. h.words_agree.told other u at' i why (inl b)) (among_append (interruption i why) v.set u.set m))
             (λ m. ⊎_elim (λ b. h.words_agree.told p v at i why (inr b)) (λ b. h.words_agree.told other u at' i why (inr b)) (among_append (interruption i why) v.seen u.seen m)) k)
             (λ i why k. ⊎_elim (λ m. absurd (among_nil m)) (λ m. absurd (among_nil m)) k)
             (λ q y _ _ e. h.words_agree.told q y e);
       };
       seats_agree = record {
-        one = let t = total_both s.views p other v u a spent_view at at' ne first_count in let o = h.seats_agree.one in let z : first_count u ≡ 0 = ap (λ b. cond b 1 0) rest in omega arith;
-        out = each_two s.views p other v u a spent_view at at' ne (λ q y. y.first ≡ true → y.out ≡ total out_count views)
+        one = let t = total_both s.views p other v u a blank_view at at' ne first_count in let o = h.seats_agree.one in let z : first_count u ≡ 0 = ap (λ b. cond b 1 0) rest in omega arith;
+        out = each_two s.views p other v u a blank_view at at' ne (λ q y. y.first ≡ true → y.out ≡ total out_count views)
             (λ _. let o = h.seats_agree.out p v at first in omega arith)
             (λ f. absurd (true≢false (sym f)))
             (λ q y far _ e f. absurd (far (only s.views h.seats_agree q p y v e at f first)));
-        spent = each_two s.views p other v u a spent_view at at' ne (λ q y. y.live ≡ false → y ≡ spent_view) (λ d. absurd (true≢false (sym live ∙ d))) (λ _. refl) (λ q y _ _ e. h.seats_agree.spent q y e);
+        taken_in = each_two s.views p other v u a blank_view at at' ne (λ q y. y.live ≡ false → y ≡ blank_view) (λ d. absurd (true≢false (sym live ∙ d))) (λ _. refl) (λ q y _ _ e. h.seats_agree.taken_in q y e);
       };
     }
   where

@@ -4,7 +4,7 @@ use Rattle.chunk_core.specs.Totals.{IsAt, total}
 use Rattle.interrupt_ctx.specs.declared.view.View.{View}
 use Rattle.interrupt_ctx.specs.declared.why.Why.{Why}
 use Rattle.interrupt_ctx.specs.Codes.{IsWord, code_of}
-use Rattle.interrupt_ctx.specs.Views.{Knows, context_times, spent_view}
+use Rattle.interrupt_ctx.specs.Views.{Knows, context_times, blank_view}
 
 -- how often a seat has set the context
 abbrev pub sets_of : ℕ → View → ℕ
@@ -29,7 +29,7 @@ pub record WordsAgree (contexts : ℕ) (words : List ℕ) (views : List View) : 
 pub record SeatsAgree (views : List View) : Type 0 where
   pub one : total first_count views ≡ 1
   pub out : (i : ℕ) (v : View) → IsAt views i v → v.first ≡ true → v.out ≡ total out_count views
-  pub spent : (i : ℕ) (v : View) → IsAt views i v → v.live ≡ false → v ≡ spent_view
+  pub taken_in : (i : ℕ) (v : View) → IsAt views i v → v.live ≡ false → v ≡ blank_view
 
 -- the rule of a board with so many contexts
 pub record BoardRule (contexts : ℕ) (words : List ℕ) (views : List View) : Type 0 where

@@ -20,8 +20,8 @@ abbrev pub first_view : View
 first_view = record { first = true; live = true; set = []; seen = []; out = 0; looks = 0; last = no_look }
 
 -- a seat that was taken in: it has nothing
-abbrev pub spent_view : View
-spent_view = record { first = false; live = false; set = []; seen = []; out = 0; looks = 0; last = no_look }
+abbrev pub blank_view : View
+blank_view = record { first = false; live = false; set = []; seen = []; out = 0; looks = 0; last = no_look }
 
 -- the first seat where one more is out
 abbrev pub giving : View → View

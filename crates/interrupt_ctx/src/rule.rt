@@ -60,9 +60,9 @@ impl Split<View> for Parts {
 }
 
 impl Join<View> for Parts {
-    ghost use Rattle.interrupt_ctx.specs.Views.{joined, spent_view};
+    ghost use Rattle.interrupt_ctx.specs.Views.{joined, blank_view};
 
     ghost both = { joined };
 
-    ghost spent = { spent_view };
+    ghost spent = { blank_view };
 }

@@ -23,7 +23,7 @@ use Rattle.row_seat.specs.declared.view.View.{View}
 use Rattle.row_seat.specs.Views.{IsLedgerOf, IsWithin}
 use Rattle.scope_tree.specs.declared.branch.Spent.{Spent}
 use Rattle.scope_tree.specs.Released.{said}
-use Rattle.scope_tree.specs.Words.{words}
+use Rattle.scope_tree.specs.Trace.{trace}
 use Rattle.tree_laws.specs.Shelves.{finals_of, noted_ends, shelf_ends}
 use Rattle.tree_laws.specs.Whole.{IsWholeLedger}
 use Rattle.run_rules.specs.Facts.{leased_stream}
@@ -102,7 +102,7 @@ module _ {P : Type 0} where
 
   -- The tree of a stream, which stands as v with this shelf, of its own rows and of others, closed its root; L is the ledger of the seat u, which has the events of v, and no lease covers a row of its own in it.
   module _ (v u : View P) (L : List Event) (shelf lent : List (Spent P)) (k : StreamNo) (from to scopes : ℕ) (w : ℕ → DeviceTold) (how : How) (name : v.by ≡ k) (ledger : IsLedgerOf u L) (mine : (e : Event) → e.by ≡ v.by → IsAmong e u.events ↔ IsAmong e v.events)
-      (whole : IsWholeLedger L) (uncovered : CoversNone from to L) (opened : length (opens (own k L)) ≤ scopes) (leaseless : (e : Event) → IsAmong e v.events → e.by ≡ v.by → leased_of e.what ≡ []) (finals : noted_ends (words v) ≡ shelf_ends (shelf ++ lent))
+      (whole : IsWholeLedger L) (uncovered : CoversNone from to L) (opened : length (opens (own k L)) ≤ scopes) (leaseless : (e : Event) → IsAmong e v.events → e.by ≡ v.by → leased_of e.what ≡ []) (finals : noted_ends (trace v) ≡ shelf_ends (shelf ++ lent))
       (over : (r s : ℕ) → Notes v.events v.by (Acquire r s) → IsAmong r (firsts (said shelf))) (closed : IsClosed v.events v.by 0) (exits : (x : Exit) → Notes v.events v.by (Close 0 x) → x ≡ exit_of how) (tells : ShelfTells from to w shelf)
       (others : (x : Spent P) → IsAmong x lent → EndsAs w x) where
     to_ledger : (x : What) → Notes v.events v.by x → Notes L v.by x
@@ -120,13 +120,13 @@ module _ {P : Type 0} where
     -- a row that has a Final stands on the shelf with its exit and its answer
     final_row : (r : ℕ) (x : Exit) (ok : Bool) → Notes L k (Final r x ok) → (y : Spent P) × IsAmong y (shelf ++ lent) × (ended_as y ≡ (r, x, ok))
     final_row r x ok n =
-        let here_it : IsAmong (Final r x ok) (words v) = notes_own v.events v.by (Final r x ok) (from_k (Final r x ok) n) in
-        on_shelf (shelf ++ lent) (r, x, ok) (subst (λ l. IsAmong (r, x, ok) l) finals (flat_holds finals_of (Final r x ok) (words v) (r, x, ok) here_it (here [])))
+        let here_it : IsAmong (Final r x ok) (trace v) = notes_own v.events v.by (Final r x ok) (from_k (Final r x ok) n) in
+        on_shelf (shelf ++ lent) (r, x, ok) (subst (λ l. IsAmong (r, x, ok) l) finals (flat_holds finals_of (Final r x ok) (trace v) (r, x, ok) here_it (here [])))
 
     row_final : (x : Spent P) → IsAmong x shelf → Notes L v.by (Final x.row x.exit x.ok)
     row_final x m =
-        let f = flat_found finals_of (words v) (ended_as x) (subst (λ l. IsAmong (ended_as x) l) (sym finals) (shelf_on x (shelf ++ lent) (among_left lent m))) in
-        to_ledger (Final x.row x.exit x.ok) (own_notes v.events v.by (Final x.row x.exit x.ok) (subst (λ y. IsAmong y (words v)) (end_shape f.0 (ended_as x) f.2) f.1))
+        let f = flat_found finals_of (trace v) (ended_as x) (subst (λ l. IsAmong (ended_as x) l) (sym finals) (shelf_on x (shelf ++ lent) (among_left lent m))) in
+        to_ledger (Final x.row x.exit x.ok) (own_notes v.events v.by (Final x.row x.exit x.ok) (subst (λ y. IsAmong y (trace v)) (end_shape f.0 (ended_as x) f.2) f.1))
 
     -- a row on the shelf was acquired here
     row_acquired : (x : Spent P) → IsAmong x shelf → (s : ℕ) × Notes L k (Acquire x.row s)

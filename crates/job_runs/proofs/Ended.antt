@@ -23,7 +23,7 @@ use Rattle.tree_laws.specs.Visits.{IsNewGuest}
 use Rattle.pull_stepper.specs.Placing.{first_of}
 use Rattle.pull_stepper.specs.Sites.{IsUnused, Parted, pay_of, slot_of, told_at, told_by}
 use Rattle.pull_stepper.specs.Stepping.{Stepping, begun}
-use Rattle.stream_jobs.specs.Running.{HasLeft, Origin}
+use Rattle.stream_jobs.specs.Running.{IsEndedJob, Origin}
 use Rattle.stream_jobs.specs.Unmade.{IsOfNode}
 use Rattle.job_runs.specs.Runs.{HasVisited, JobsEnd}
 use Rattle.job_runs.proofs.Visiting.{RunsTree, visited_so}
@@ -41,7 +41,7 @@ module _ {V F : Type 0} (told : V → DeviceTold) (P : Values → StateMeaning F
   w = record v { start = begun n a devices v.start.tables v.start.chunk }
 
   -- the stepper that ended ran the node in the tree
-  runs_tree : (seat : View V) (shelf : List (Spent V)) (unopened : List V) (h : How) (sent : List Msg) (l : HasLeft told P w seat shelf unopened h sent) → RunsTree told n devices (told_at told l.last_step.site) a l.last_step.site.tree h unopened
+  runs_tree : (seat : View V) (shelf : List (Spent V)) (unopened : List V) (h : How) (sent : List Msg) (l : IsEndedJob told P w seat shelf unopened h sent) → RunsTree told n devices (told_at told l.last_step.site) a l.last_step.site.tree h unopened
   runs_tree seat shelf unopened h sent l =
       let z = l.last_step in
       let since = l.run.since in
@@ -69,7 +69,7 @@ module _ {V F : Type 0} (told : V → DeviceTold) (P : Values → StateMeaning F
   new_guest : IsNewGuest a.seat v.stream a.seat.floor v.leased
   new_guest = subst (λ (s : Stepping V F). IsNewGuest s.site.tree.seat v.stream s.site.tree.seat.floor v.leased) u.start u.begun.guest
 
-  left_visited : a.scopes ≡ scope_count n + 1 → (seat : View V) (shelf : List (Spent V)) (unopened : List V) (h : How) (sent : List Msg) (l : HasLeft told P w seat shelf unopened h sent)
+  left_visited : a.scopes ≡ scope_count n + 1 → (seat : View V) (shelf : List (Spent V)) (unopened : List V) (h : How) (sent : List Msg) (l : IsEndedJob told P w seat shelf unopened h sent)
       → HasVisited told n devices v.stream a.seat.floor v.leased (told_at told l.last_step.site) seat shelf unopened h
   left_visited just seat shelf unopened h sent l =
       let e = l.leaves in
@@ -79,7 +79,7 @@ module _ {V F : Type 0} (told : V → DeviceTold) (P : Values → StateMeaning F
 pub jobs_end : {S V F : Type 0} (view : S → View V) (told : V → DeviceTold) (P : Values → StateMeaning F) → JobsEnd view told P
 jobs_end view told P n a devices w e u just o =
     let start = begun n a devices w.start.tables w.start.chunk in
-    let l : HasLeft told P (record w { start = start }) (view e.seat) e.shelf e.unopened e.how e.sender.sent = subst (λ s. HasLeft told P (record w { start = s }) (view e.seat) e.shelf e.unopened e.how e.sender.sent) u.start o.left in
+    let l : IsEndedJob told P (record w { start = start }) (view e.seat) e.shelf e.unopened e.how e.sender.sent = subst (λ s. IsEndedJob told P (record w { start = s }) (view e.seat) e.shelf e.unopened e.how e.sender.sent) u.start o.left in
     record {
       home = told_at told l.last_step.site;
       visited = left_visited told P n a devices w u just (view e.seat) e.shelf e.unopened e.how e.sender.sent l;

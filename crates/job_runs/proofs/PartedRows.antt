@@ -16,7 +16,7 @@ use Rattle.row_seat.specs.Views.{IsWithin}
 use Rattle.scope_tree.specs.declared.branch.Spent.{Spent}
 use Rattle.scope_tree.specs.Released.{said}
 use Rattle.chunk_core.proofs.Distinct.{distinct_filter, distinct_head, distinct_tail}
-use Rattle.pull_stepper.specs.Sites.{IsUnopened, IsSpent, Parted}
+use Rattle.pull_stepper.specs.Sites.{IsUnopened, IsClosedDevice, Parted}
 use Rattle.pull_stepper.specs.Sites.Parted.{none, unopened, ended}
 use Rattle.joined_runs.specs.Devices.{IsAtRest}
 use Rattle.job_runs.proofs.Closing.{ShelfTells, in_row, row_in}
@@ -41,7 +41,7 @@ shelved told w (x ∷ xs) h = ap (λ z. z ∷ map w (firsts (said xs))) (sym (h 
 module _ {V : Type 0} (told : V → DeviceTold) (w : ℕ → DeviceTold) (n : ℕ) (shelf : List (Spent V)) where
   -- the device of a place ended on the shelf, or waits
   abbrev Ended : ℕ → Type 0
-  Ended q = (x : Spent V) × IsAmong x shelf × (x.row ≡ q) × (told x.pay ≡ w q) × IsSpent (w q) x.exit x.ok
+  Ended q = (x : Spent V) × IsAmong x shelf × (x.row ≡ q) × (told x.pay ≡ w q) × IsClosedDevice (w q) x.exit x.ok
 
   abbrev Waits : ℕ → Type 0
   Waits q = IsUnopened (w q) × ¬ (IsAmong q (firsts (said shelf)))
@@ -87,11 +87,11 @@ module _ {V : Type 0} (told : V → DeviceTold) (w : ℕ → DeviceTold) (n : �
 
   module _ (from : ℕ) {ds : List V} (parted : Parted told w shelf n from ds) (once : IsDistinct nat_eq (firsts (said shelf))) (within : (x : Spent V) → IsAmong x shelf → IsWithin from n x.row) where
     -- what stands on the shelf is the device of its row
-    ended_so : (x : Spent V) → IsAmong x shelf → (told x.pay ≡ w x.row) × IsSpent (w x.row) x.exit x.ok
+    ended_so : (x : Spent V) → IsAmong x shelf → (told x.pay ≡ w x.row) × IsClosedDevice (w x.row) x.exit x.ok
     ended_so x m =
         ⊎_elim
         (λ (u : Waits x.row). absurd (u.1 (row_in x shelf m)))
-        (λ (e : Ended x.row). subst (λ (y : Spent V). (told y.pay ≡ w x.row) × IsSpent (w x.row) y.exit y.ok) (same_row shelf once e.0 x e.1 m e.2) (e.3, e.4))
+        (λ (e : Ended x.row). subst (λ (y : Spent V). (told y.pay ≡ w x.row) × IsClosedDevice (w x.row) y.exit y.ok) (same_row shelf once e.0 x e.1 m e.2) (e.3, e.4))
         (parted_at x.row parted (within x m).0 (within x m).1)
 
     pub stands_there : (x : Spent V) → IsAmong x shelf → told x.pay ≡ w x.row

@@ -28,7 +28,7 @@ use Rattle.scope_tree.specs.declared.branch.Spent.{Spent}
 use Rattle.scope_tree.specs.Calls.{Cancels, IsClosedScope, Seen}
 use Rattle.scope_tree.specs.Released.{Holder, Released, said}
 use Rattle.scope_tree.specs.Released.Released.{done, stays, ends_so}
-use Rattle.scope_tree.specs.Words.{canceling, words}
+use Rattle.scope_tree.specs.Trace.{canceling, trace}
 use Rattle.scope_tree.proofs.Follows.{is_end, released_follows, same_by, same_main}
 use Rattle.scope_tree.proofs.Tidy.{own_by}
 use Rattle.tree_laws.specs.Alone.{StaysAlone}
@@ -199,15 +199,15 @@ module _ {V : Type 0} (told : V → DeviceTold) (n : Node) (devices : List V) (k
       (cancel_noted cancels m.0 m.1) in
       let f = finalized q s acquired in
       let noted = f.2.1 in
-      let here_it : IsAmong (Final q f.2.0 f.1) (words b.seat) = notes_own b.seat.events b.seat.by (Final q f.2.0 f.1) (noted.0, noted.1, (own_before noted.0 noted.1).0, noted.3) in
-      shelf_has b.shelf q f.2.0 f.1 (subst (λ l. IsAmong (q, f.2.0, f.1) l) (called_ends guest.start bare runs.calls) (flat_holds finals_of (Final q f.2.0 f.1) (words b.seat) (q, f.2.0, f.1) here_it (here [])))
+      let here_it : IsAmong (Final q f.2.0 f.1) (trace b.seat) = notes_own b.seat.events b.seat.by (Final q f.2.0 f.1) (noted.0, noted.1, (own_before noted.0 noted.1).0, noted.3) in
+      shelf_has b.shelf q f.2.0 f.1 (subst (λ l. IsAmong (q, f.2.0, f.1) l) (called_ends guest.start bare runs.calls) (flat_holds finals_of (Final q f.2.0 f.1) (trace b.seat) (q, f.2.0, f.1) here_it (here [])))
 
   tells_b : ShelfTells (from_row n) (from_row n + length devices) home b.shelf
   tells_b = shelf_tells told home (from_row n + length devices) b.shelf (from_row n) runs.parted runs.once within_b
 
   module _ (w : ℕ → DeviceTold) (u : View V) (L : List Event) (fin : IsFinishedLedger y u L) (whole : IsWholeLedger L) (uncovered : CoversNone (from_row n) (to_row n) L) (agrees : (q : ℕ) → IsWithin (from_row n) (to_row n) q → w q ≡ home q) (others : (z : Spent V) → IsAmong z lent → EndsAs w z)
       (leaves : LeavesLast y) where
-    noted_is : own y.seat.by L ≡ words y.seat
+    noted_is : own y.seat.by L ≡ trace y.seat
     noted_is = own_by y.seat.by L ∙ ap (map (λ (e : Event). e.what)) (called_events u L guest.start calls fin) ∙ sym (own_by y.seat.by y.seat.events)
 
     few : length (opens (own (Inner k) L)) ≤ scope_count n

@@ -8,7 +8,7 @@ use Rattle.pull_nodes.specs.declared.node.Node.{Node}
 use Rattle.res_ledger.specs.Own.{opens}
 use Rattle.row_seat.specs.declared.view.View.{View}
 use Rattle.scope_tree.specs.Calls.{IsOpenScope, Seen, used}
-use Rattle.scope_tree.specs.Words.{owed, words}
+use Rattle.scope_tree.specs.Trace.{owed, trace}
 use Rattle.scope_tree.specs.declared.room.Room.{Room}
 use Rattle.tree_laws.specs.Visits.{IsNewGuest}
 use Rattle.pull_stepper.specs.Stepping.{HasRoomFor, IsSupplied, begun}
@@ -33,7 +33,7 @@ module _ {V F : Type 0} (told : V → DeviceTold) where
 pub record IsNewTree {V P : Type 0} (seat : View V) (room : Room P) (a : Seen V) : Type 0 where
   pub seen : a ≡ record { seat = seat; shelf = []; scopes = room.scopes; rows = room.rows }
   pub root : IsOpenScope a 0
-  pub used : (used a ≡ 0) × (opens (words a.seat) ≡ [])
+  pub used : (used a ≡ 0) × (opens (trace a.seat) ≡ [])
   pub owed : owed a.seat ≡ 1
 
 -- Over a new tree of the seat of stream k there is room for a node that has room in it as a guest; and what begins so is the origin of a job of this node.

@@ -15,12 +15,12 @@ use Rattle.res_ledger.specs.Order.{finals, firsts}
 use Rattle.res_ledger.specs.Own.{closes, latest, opens, own, rows, rows_beneath, teardown}
 use Rattle.scope_tree.specs.Calls.{AtStart, Seen}
 use Rattle.scope_tree.specs.Released.{said}
-use Rattle.scope_tree.specs.Words.{words}
+use Rattle.scope_tree.specs.Trace.{trace}
 use Rattle.scope_tree.proofs.Bridge.{in_noted, in_rows, noted_in}
 use Rattle.scope_tree.proofs.Distinct.{picks_among}
 use Rattle.scope_tree.proofs.Follows.{is_end}
 use Rattle.scope_tree.proofs.Owed.{number_among}
-use Rattle.scope_tree.proofs.Parting.{join_words}
+use Rattle.scope_tree.proofs.Parting.{join_trace}
 use Rattle.scope_tree.proofs.Releasing.{released_picks}
 use Rattle.scope_tree.proofs.Use.{acquired_said, canceled_said, closed_picks, closed_said, leased_said, opened_said}
 use Rattle.tree_laws.specs.Called.{Called}
@@ -72,23 +72,23 @@ own_run E F Cs Ds w y fs is plain more ends h r x ok m =
     (among_append (Final r x ok) E (w ∷ finals y fs) (subst (λ l. IsAmong (Final r x ok) l) is m))
 
 module _ {P : Type 0} {ends : P → Exit → Bool → P → Type 0} where
-  own_along : {a b : Seen P} {Cs : List (ℕ × List ℕ)} → EndsOwn (words a.seat) [] → Called ends a Cs b → EndsOwn (words b.seat) Cs
+  own_along : {a b : Seen P} {Cs : List (ℕ × List ℕ)} → EndsOwn (trace a.seat) [] → Called ends a Cs b → EndsOwn (trace b.seat) Cs
   own_along e none = e
-  own_along e (opened {Cs = Cs} b c at s h m o) = own_run (words b.seat) (words c.seat) Cs Cs (Open s o.parent) Succeeded [] (opened_said o) refl (λ i k. k) (λ r k. absurd (among_nil k)) (own_along e h)
-  own_along e (acquired {Cs = Cs} b c s r p h m o) = own_run (words b.seat) (words c.seat) Cs Cs (Acquire r s) Succeeded [] (acquired_said o) refl (λ i k. k) (λ q k. absurd (among_nil k)) (own_along e h)
-  own_along e (written {Cs = Cs} b c r p h m o) = subst (λ (x : Seen P). EndsOwn (words x.seat) Cs) (sym o) (own_along e h)
-  own_along e (leased {Cs = Cs} b c s j T h m o) = own_run (words b.seat) (words c.seat) Cs Cs (Lease j s) Succeeded [] (leased_said o) refl (λ i k. k) (λ r k. absurd (among_nil k)) (own_along e h)
-  own_along e (cancelled {Cs = Cs} b c j T x h m o) = own_run (words b.seat) (words c.seat) Cs (Cs ++ (j, T) ∷ []) (Cancel j x) x (said o.left.0) (canceled_said o) refl (λ i k. among_left ((j, T) ∷ []) k) (λ r k. inr (j, T, among_last Cs (j, T), among_reverse r T (picks_among r (released_picks o.left.2) k))) (own_along e h)
-  own_along e (closed {Cs = Cs} b c s x h m o) = own_run (words b.seat) (words c.seat) Cs Cs (Close s x) x (said o.torn.0) (closed_said o) refl (λ i k. k) (λ r k. inl (teardown_row r s (words b.seat) (picks_among r (closed_picks o) k))) (own_along e h)
-  own_along e (split {Cs = Cs} b c j from to n h m o) = subst (λ (x : Seen P). EndsOwn (words x.seat) Cs) (sym o) (own_along e h)
-  own_along e (taken_in {Cs = Cs} b c w h m p o) = subst (λ E. EndsOwn E Cs) (sym (ap (λ (x : Seen P). words x.seat) o ∙ join_words b.seat w p)) (own_along e h)
+  own_along e (opened {Cs = Cs} b c at s h m o) = own_run (trace b.seat) (trace c.seat) Cs Cs (Open s o.parent) Succeeded [] (opened_said o) refl (λ i k. k) (λ r k. absurd (among_nil k)) (own_along e h)
+  own_along e (acquired {Cs = Cs} b c s r p h m o) = own_run (trace b.seat) (trace c.seat) Cs Cs (Acquire r s) Succeeded [] (acquired_said o) refl (λ i k. k) (λ q k. absurd (among_nil k)) (own_along e h)
+  own_along e (written {Cs = Cs} b c r p h m o) = subst (λ (x : Seen P). EndsOwn (trace x.seat) Cs) (sym o) (own_along e h)
+  own_along e (leased {Cs = Cs} b c s j T h m o) = own_run (trace b.seat) (trace c.seat) Cs Cs (Lease j s) Succeeded [] (leased_said o) refl (λ i k. k) (λ r k. absurd (among_nil k)) (own_along e h)
+  own_along e (cancelled {Cs = Cs} b c j T x h m o) = own_run (trace b.seat) (trace c.seat) Cs (Cs ++ (j, T) ∷ []) (Cancel j x) x (said o.left.0) (canceled_said o) refl (λ i k. among_left ((j, T) ∷ []) k) (λ r k. inr (j, T, among_last Cs (j, T), among_reverse r T (picks_among r (released_picks o.left.2) k))) (own_along e h)
+  own_along e (closed {Cs = Cs} b c s x h m o) = own_run (trace b.seat) (trace c.seat) Cs Cs (Close s x) x (said o.torn.0) (closed_said o) refl (λ i k. k) (λ r k. inl (teardown_row r s (trace b.seat) (picks_among r (closed_picks o) k))) (own_along e h)
+  own_along e (split {Cs = Cs} b c j from to n h m o) = subst (λ (x : Seen P). EndsOwn (trace x.seat) Cs) (sym o) (own_along e h)
+  own_along e (taken_in {Cs = Cs} b c w h m p o) = subst (λ E. EndsOwn E Cs) (sym (ap (λ (x : Seen P). trace x.seat) o ∙ join_trace b.seat w p)) (own_along e h)
 
   -- a tree that cancelled only leases that it made ends only rows that it acquired
   pub ended_own : {a b : Seen P} {Cs : List (ℕ × List ℕ)} → AtStart a.seat → Called ends a Cs b → ((j : ℕ) (T : List ℕ) → IsAmong (j, T) Cs → Lent b.seat j T) → (r : ℕ) (x : Exit) (ok : Bool) → Notes b.seat.events b.seat.by (Final r x ok) → (s : ℕ) × Notes b.seat.events b.seat.by (Acquire r s)
   ended_own {a = a} {b = b} start calls lent r x ok n =
-      let first : EndsOwn (words a.seat) [] = subst (λ L. EndsOwn (own a.seat.by L) []) (sym start.events) (λ q y k m. absurd (among_nil m)) in
+      let first : EndsOwn (trace a.seat) [] = subst (λ L. EndsOwn (own a.seat.by L) []) (sym start.events) (λ q y k m. absurd (among_nil m)) in
       let t = ⊎_elim
       (λ t. t)
-      (λ t. let q = number_among r (rows (words b.seat)) (lent_own b.seat t.0 t.1 (lent t.0 t.1 t.2) r t.3) in (q.0, in_rows r q.0 (words b.seat) q.1))
+      (λ t. let q = number_among r (rows (trace b.seat)) (lent_own b.seat t.0 t.1 (lent t.0 t.1 t.2) r t.3) in (q.0, in_rows r q.0 (trace b.seat) q.1))
       (own_along first calls r x ok (noted_in b.seat.by (Final r x ok) b.seat.events n)) in
       (t.0, in_noted b.seat.by (Acquire r t.0) b.seat.events t.1)

@@ -20,7 +20,7 @@ use Rattle.row_seat.specs.declared.view.View.{View}
 use Rattle.row_seat.specs.Views.{noted, start as first_view, without}
 use Rattle.row_seat.proofs.Members.{among_kept, among_without}
 use Rattle.scope_tree.specs.Calls.{AtStart, Cancels, ClosesScope, IsClosedScope, IsOpenScope, KeepsScopes, Leases, Seen}
-use Rattle.scope_tree.specs.Words.{canceling, closing as closing_event, leasing as leasing_event}
+use Rattle.scope_tree.specs.Trace.{canceling, closing as closing_event, leasing as leasing_event}
 use Rattle.scope_tree.proofs.Follows.{Follows, is_end}
 use Rattle.scope_tree.proofs.Lessee.{lease_gone, lease_others}
 use Rattle.scope_tree.proofs.Use.{cancel_follows, close_follows, close_pairs}
@@ -36,11 +36,11 @@ use Rattle.tree_families.specs.Families.{IsFamily, Split}
 use Rattle.tree_families.specs.Pace.{IsInPace, NotesBelow}
 use Rattle.tree_families.proofs.Families.{family_calls}
 use Rattle.join_tree.specs.Mains.{IsMain, IsRoot, Waits}
-use Rattle.join_tree.specs.Progress.{Follow, Progress, closing, leasing, none_done, reading, skipping}
-use Rattle.join_tree.specs.Told.{IsOuterWord, IsTold, is_table_word}
+use Rattle.join_tree.specs.Progress.{Follow, Progress, closing_root, leasing_next, none_done, reading, skipping}
+use Rattle.join_tree.specs.Notes.{IsOuterNote, IsTold, is_table_note}
 use Rattle.join_tree.proofs.Ending.{ended_own}
 use Rattle.join_tree.proofs.Queue.{follow_least, follow_other, follow_snoc, waits_less, waits_more, waits_same}
-use Rattle.join_tree.proofs.Telling.{below_or, end_word, notes_more, some_is, table_word, told_calls, word_stays}
+use Rattle.join_tree.proofs.Telling.{below_or, end_note, notes_more, some_is, table_note, told_calls, note_stays}
 
 pub below_more : {x : ℕ} {L M : List Event} {k : StreamNo} {w : What} → ((e : Event) → IsAmong e L → IsAmong e M) → NotesBelow x L k w → NotesBelow x M k w
 below_more h n = (n.0, h n.0 n.1, n.2, n.3, n.4)
@@ -212,7 +212,7 @@ module _ {P : Type 0} {ends : P → Exit → Bool → P → Type 0} {width n : �
     unleased = λ m. (let l = leased_below h p.leased m in omega arith);
   }
 
-  pub main_leases : (b c : Seen P) (p : Progress P) (T : List ℕ) → IsMain ends width n b p → p.root ≡ None → p.leased < n → Leases b 0 p.leased T c → KeepsScopes b c → IsMain ends width n c (leasing p T)
+  pub main_leases : (b c : Seen P) (p : Progress P) (T : List ℕ) → IsMain ends width n b p → p.root ≡ None → p.leased < n → Leases b 0 p.leased T c → KeepsScopes b c → IsMain ends width n c (leasing_next p T)
   main_leases b c p T h none' less o keeps =
       let k = p.leased in
       let v = b.seat in
@@ -229,10 +229,10 @@ module _ {P : Type 0} {ends : P → Exit → Bool → P → Type 0} {width n : �
       (waits_more v c.seat p.waits k T (ap (λ u. u.kept) o.seat) (ap (λ u. u.pairs) o.seat) h.waits)
       (λ j U m. ⊎_elim (λ i. lent_stays call (h.lent j U i)) (λ e. subst (λ (z : ℕ × List ℕ). Lent c.seat z.0 z.1) (sym e) (leases_lent o)) (among_snoc p.waits (j, U) (k, T) m))
       (root_stays b c p.root keeps h.root)
-      (told_calls p (leasing p T) v.events c.seat.events h.told refl refl
-      (word_stays p (leasing p T) (omega arith) (omega arith) (λ y e. e) (λ w i. i))
+      (told_calls p (leasing_next p T) v.events c.seat.events h.told refl refl
+      (note_stays p (leasing_next p T) (omega arith) (omega arith) (λ y e. e) (λ w i. i))
       more
-      (λ e m. ⊎_elim (λ i. inl i) (λ i. inr (ap (λ (z : Event). z.by) i ∙ h.by, subst (λ (z : Event). IsOuterWord (leasing p T) z.what) (sym i) (refl, omega arith))) (old e m))
+      (λ e m. ⊎_elim (λ i. inl i) (λ i. inr (ap (λ (z : Event). z.by) i ∙ h.by, subst (λ (z : Event). IsOuterNote (leasing_next p T) z.what) (sym i) (refl, omega arith))) (old e m))
       (λ j l. ⊎_elim (λ i. notes_more more (h.told.leases j i)) (λ e. subst (λ i. Notes c.seat.events Outer (Lease i 0)) (sym e) now) (below_or j k l))
       (λ y e. notes_more more (h.told.root y e))
       (λ j l. ⊎_elim (λ i. inl i) (λ i. inr (notes_more more i)) (h.told.dealt j l))
@@ -242,10 +242,10 @@ module _ {P : Type 0} {ends : P → Exit → Bool → P → Type 0} {width n : �
       (old m.0 m.1)))
 
   -- the root was closed
-  pub main_closes : (b c : Seen P) (p : Progress P) (x : Exit) → IsMain ends width n b p → p.root ≡ None → ClosesScope ends b 0 x c → IsClosedScope c 0 → IsMain ends width n c (closing p x)
+  pub main_closes : (b c : Seen P) (p : Progress P) (x : Exit) → IsMain ends width n b p → p.root ≡ None → ClosesScope ends b 0 x c → IsClosedScope c 0 → IsMain ends width n c (closing_root p x)
   main_closes b c p x h none' o shut =
       let v = b.seat in
-      let q = closing p x in
+      let q = closing_root p x in
       let root : IsOpenScope b 0 = subst (λ i. IsRoot b i) none' h.root in
       let call : Called ends b [] c = closed b c 0 x none root o in
       let f = close_follows o in
@@ -262,13 +262,13 @@ module _ {P : Type 0} {ends : P → Exit → Bool → P → Type 0} {width n : �
       (λ j U m. lent_stays call (h.lent j U m))
       shut
       (told_calls p q v.events c.seat.events h.told refl refl
-      (word_stays p q (omega arith) (omega arith) (λ z e. absurd (let i : None ≡ Some z = sym none' ∙ e in cc)) (λ w i. i))
+      (note_stays p q (omega arith) (omega arith) (λ z e. absurd (let i : None ≡ Some z = sym none' ∙ e in cc)) (λ w i. i))
       more
       (λ e m. ⊎_elim
       (λ i. inl i)
       (λ i. ⊎_elim
-      (λ s. inr (ap (λ (z : Event). z.by) s ∙ h.by, subst (λ (z : Event). IsOuterWord q z.what) (sym s) refl))
-      (λ s. inr (s.0 ∙ h.by, end_word q c.seat.events ended e.what s.1 (e, m, s.0 ∙ h.by, refl)))
+      (λ s. inr (ap (λ (z : Event). z.by) s ∙ h.by, subst (λ (z : Event). IsOuterNote q z.what) (sym s) refl))
+      (λ s. inr (s.0 ∙ h.by, end_note q c.seat.events ended e.what s.1 (e, m, s.0 ∙ h.by, refl)))
       i)
       (old e m))
       (λ j l. notes_more more (h.told.leases j l))
@@ -325,13 +325,13 @@ module _ {P : Type 0} {ends : P → Exit → Bool → P → Type 0} {width n : �
       (λ i U m. lent_stays call (h.lent i U (among i U (there (j, T) m))))
       (root_stays b c p.root keeps h.root)
       (told_calls p q v.events c.seat.events h.told refl refl
-      (word_stays p q (omega arith) (omega arith) (λ z e. e) (λ w i. i))
+      (note_stays p q (omega arith) (omega arith) (λ z e. e) (λ w i. i))
       more
       (λ e m. ⊎_elim
       (λ i. inl i)
       (λ i. ⊎_elim
-      (λ s. inr (ap (λ (z : Event). z.by) s ∙ h.by, subst (λ (z : Event). IsOuterWord q z.what) (sym s) (refl, omega (first, arith))))
-      (λ s. inr (s.0 ∙ h.by, end_word q c.seat.events ended e.what s.1 (e, m, s.0 ∙ h.by, refl)))
+      (λ s. inr (ap (λ (z : Event). z.by) s ∙ h.by, subst (λ (z : Event). IsOuterNote q z.what) (sym s) (refl, omega (first, arith))))
+      (λ s. inr (s.0 ∙ h.by, end_note q c.seat.events ended e.what s.1 (e, m, s.0 ∙ h.by, refl)))
       i)
       (old e m))
       (λ i l. notes_more more (h.told.leases i l))
@@ -351,7 +351,7 @@ module _ {P : Type 0} {ends : P → Exit → Bool → P → Type 0} {width n : �
       (old m.0 m.1)))
 
   -- calls for the tables
-  pub main_reads : (b c : Seen P) (p : Progress P) (E : List What) → IsMain ends width n b p → p.root ≡ None → Called ends b [] c → StaysAlone b.seat c.seat → IsOpenScope c 0 → ((e : Event) → IsAmong e c.seat.events → IsAmong e b.seat.events ⊎ IsAmong e.what E) → ((w : What) → IsAmong w E → is_table_word w ≡ true) → IsMain ends width n c (reading p E)
+  pub main_reads : (b c : Seen P) (p : Progress P) (E : List What) → IsMain ends width n b p → p.root ≡ None → Called ends b [] c → StaysAlone b.seat c.seat → IsOpenScope c 0 → ((e : Event) → IsAmong e c.seat.events → IsAmong e b.seat.events ⊎ IsAmong e.what E) → ((w : What) → IsAmong w E → is_table_note w ≡ true) → IsMain ends width n c (reading p E)
   main_reads b c p E h none' call alone open' new table =
       let v = b.seat in
       let q = reading p E in
@@ -368,16 +368,16 @@ module _ {P : Type 0} {ends : P → Exit → Bool → P → Type 0} {width n : �
       (λ j U m. lent_stays call (h.lent j U m))
       (subst (λ o. IsRoot c o) (sym none') open')
       (told_calls p q v.events c.seat.events h.told refl refl
-      (word_stays p q (omega arith) (omega arith) (λ z e. e) (λ w i. among_left E i))
+      (note_stays p q (omega arith) (omega arith) (λ z e. e) (λ w i. among_left E i))
       more
       (λ e m. ⊎_elim
       (λ i. inl i)
-      (λ i. ⊎_elim (λ o. inl o) (λ o. let by = o.0 ∙ alone.by ∙ h.by in inr (by, table_word q E c.seat.events (λ w z. among_right w p.tables E z) table ended e.what i (e, m, by, refl))) (alone.events e m))
+      (λ i. ⊎_elim (λ o. inl o) (λ o. let by = o.0 ∙ alone.by ∙ h.by in inr (by, table_note q E c.seat.events (λ w z. among_right w p.tables E z) table ended e.what i (e, m, by, refl))) (alone.events e m))
       (new e m))
       (λ j l. notes_more more (h.told.leases j l))
       (λ z e. notes_more more (h.told.root z e))
       (λ j l. ⊎_elim (λ i. inl i) (λ i. inr (notes_more more i)) (h.told.dealt j l))
       (λ j z m i. ⊎_elim
       (λ s. h.told.skipped j z (m.0, s, m.2, m.3) i)
-      (λ s. let w : false ≡ true = ap is_table_word (sym m.3) ∙ table m.0.what s in cc)
+      (λ s. let w : false ≡ true = ap is_table_note (sym m.3) ∙ table m.0.what s in cc)
       (new m.0 m.1)))

@@ -10,7 +10,7 @@ use Rattle.res_ledger.specs.declared.event.What.TheVariants.{Acquire, Lease}
 use Rattle.res_ledger.specs.Own.{rows}
 use Rattle.scope_tree.specs.Calls.{Cancels, ClosesScope, IsOpenScope, Leases, Seen}
 use Rattle.scope_tree.specs.Rows.{strangers}
-use Rattle.scope_tree.specs.Words.{own_rows, words}
+use Rattle.scope_tree.specs.Trace.{own_rows, trace}
 use Rattle.scope_tree.proofs.Bridge.{in_noted, in_rows}
 use Rattle.scope_tree.proofs.Owed.{number_among}
 use Rattle.scope_tree.proofs.Rooms.{strangers_none}
@@ -64,11 +64,11 @@ module _ {P : Type 0} {ends : P → Exit → Bool → P → Type 0} {width n : �
   pub leased_tables : (b c : Seen P) (p : Progress P) (T : List ℕ) → IsMain ends width n b p → Leases b 0 p.leased T c → (r : ℕ) → IsAmong r T → (s : ℕ) × IsAmong (Acquire r s) p.tables
   leased_tables b c p T h o r m =
       let own : IsAmong r (own_rows c.seat) = lent_own c.seat p.leased T (leases_lent o) r m in
-      let t = number_among r (rows (words c.seat)) own in
-      let w : IsAmong (Acquire r t.0) (words b.seat) = ⊎_elim
+      let t = number_among r (rows (trace c.seat)) own in
+      let w : IsAmong (Acquire r t.0) (trace b.seat) = ⊎_elim
       (λ i. i)
       (λ i. let z : Acquire r t.0 ≡ Lease p.leased 0 = i in cc)
-      (among_snoc (words b.seat) (Acquire r t.0) (Lease p.leased 0) (subst (λ E. IsAmong (Acquire r t.0) E) (leased_said o) (in_rows r t.0 (words c.seat) t.1))) in
+      (among_snoc (trace b.seat) (Acquire r t.0) (Lease p.leased 0) (subst (λ E. IsAmong (Acquire r t.0) E) (leased_said o) (in_rows r t.0 (trace c.seat) t.1))) in
       (t.0, h.told.outer (Acquire r t.0) (subst (λ k. Notes b.seat.events k (Acquire r t.0)) h.by (in_noted b.seat.by (Acquire r t.0) b.seat.events w)))
 
 -- a lease takes one event

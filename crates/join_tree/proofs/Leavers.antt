@@ -16,10 +16,10 @@ use Rattle.res_ledger.specs.Order.{finals}
 use Rattle.res_ledger.specs.Own.{own}
 use Rattle.scope_tree.specs.Calls.{Seen}
 use Rattle.scope_tree.specs.Released.{said}
-use Rattle.scope_tree.specs.Words.{canceling, words}
+use Rattle.scope_tree.specs.Trace.{canceling, trace}
 use Rattle.scope_tree.proofs.Bridge.{noted_in, within_cases}
 use Rattle.scope_tree.proofs.Follows.{is_end}
-use Rattle.scope_tree.proofs.Parting.{join_words}
+use Rattle.scope_tree.proofs.Parting.{join_trace}
 use Rattle.scope_tree.proofs.Use.{acquired_said, cancel_follows, closed_said, leased_said, opened_said}
 use Rattle.tree_laws.specs.Called.{Called}
 use Rattle.tree_laws.specs.Called.Called.{none, opened, acquired, written, leased, cancelled, closed, split, taken_in}
@@ -84,21 +84,21 @@ streams_leave_last P width n b p L s last R Q e j x is by what =
 
 module _ {P : Type 0} {ends : P → Exit → Bool → P → Type 0} where
   -- a tree that cancelled nothing noted no Cancel
-  calm_along : {a b : Seen P} {Cs : List (ℕ × List ℕ)} → Cs ≡ [] → IsCalm (words a.seat) → Called ends a Cs b → IsCalm (words b.seat)
+  calm_along : {a b : Seen P} {Cs : List (ℕ × List ℕ)} → Cs ≡ [] → IsCalm (trace a.seat) → Called ends a Cs b → IsCalm (trace b.seat)
   calm_along e h none = h
-  calm_along e h (opened b c at s k m o) = calm_run (words b.seat) (words c.seat) (Open s o.parent) Succeeded [] (opened_said o) (λ j z i. cc) (λ q i. let l = open_scope 0 s q o.parent i in let w = o.number in omega (l, w, arith)) (calm_along e h k)
-  calm_along e h (acquired b c s r p k m o) = calm_run (words b.seat) (words c.seat) (Acquire r s) Succeeded [] (acquired_said o) (λ j z i. cc) (λ q i. cc) (calm_along e h k)
-  calm_along e h (written b c r p k m o) = subst (λ (x : Seen P). IsCalm (words x.seat)) (sym o) (calm_along e h k)
-  calm_along e h (leased b c s j T k m o) = calm_run (words b.seat) (words c.seat) (Lease j s) Succeeded [] (leased_said o) (λ i z w. cc) (λ q i. cc) (calm_along e h k)
+  calm_along e h (opened b c at s k m o) = calm_run (trace b.seat) (trace c.seat) (Open s o.parent) Succeeded [] (opened_said o) (λ j z i. cc) (λ q i. let l = open_scope 0 s q o.parent i in let w = o.number in omega (l, w, arith)) (calm_along e h k)
+  calm_along e h (acquired b c s r p k m o) = calm_run (trace b.seat) (trace c.seat) (Acquire r s) Succeeded [] (acquired_said o) (λ j z i. cc) (λ q i. cc) (calm_along e h k)
+  calm_along e h (written b c r p k m o) = subst (λ (x : Seen P). IsCalm (trace x.seat)) (sym o) (calm_along e h k)
+  calm_along e h (leased b c s j T k m o) = calm_run (trace b.seat) (trace c.seat) (Lease j s) Succeeded [] (leased_said o) (λ i z w. cc) (λ q i. cc) (calm_along e h k)
   calm_along e h (cancelled {Cs = Cs} b c j T x k m o) = absurd (among_nil (subst (λ l. IsAmong (j, T) l) e (among_last Cs (j, T))))
-  calm_along e h (closed b c s x k m o) = calm_run (words b.seat) (words c.seat) (Close s x) x (said o.torn.0) (closed_said o) (λ j z i. cc) (λ q i. cc) (calm_along e h k)
-  calm_along e h (split b c j from to n k m o) = subst (λ (x : Seen P). IsCalm (words x.seat)) (sym o) (calm_along e h k)
-  calm_along e h (taken_in b c w k m p o) = subst IsCalm (sym (ap (λ (x : Seen P). words x.seat) o ∙ join_words b.seat w p)) (calm_along e h k)
+  calm_along e h (closed b c s x k m o) = calm_run (trace b.seat) (trace c.seat) (Close s x) x (said o.torn.0) (closed_said o) (λ j z i. cc) (λ q i. cc) (calm_along e h k)
+  calm_along e h (split b c j from to n k m o) = subst (λ (x : Seen P). IsCalm (trace x.seat)) (sym o) (calm_along e h k)
+  calm_along e h (taken_in b c w k m p o) = subst IsCalm (sym (ap (λ (x : Seen P). trace x.seat) o ∙ join_trace b.seat w p)) (calm_along e h k)
 
   pub parts_leave_last : PartsLeaveLast ends
   parts_leave_last a b y j T x start calls shut o =
       let v = b.seat in
-      let calm : IsCalm (words v) = calm_along refl (subst (λ L. IsCalm (own a.seat.by L)) (sym start.events) (record { cancels = λ i z m. among_nil m; opens = λ q m. among_nil m })) calls in
+      let calm : IsCalm (trace v) = calm_along refl (subst (λ L. IsCalm (own a.seat.by L)) (sym start.events) (record { cancels = λ i z m. among_nil m; opens = λ q m. among_nil m })) calls in
       let close : NotesClose v.events v.by 0 = root_close v.events v.by (λ q k. calm.opens q (noted_in v.by (Open 0 q) v.events k)) shut in
       let f = cancel_follows o in
       let c : Event = canceling v j x o.stamp in

@@ -34,7 +34,7 @@ use Rattle.tree_families.proofs.Families.{family_joins, family_splits}
 use Rattle.join_tree.specs.Guests.{Guest, IsOut, IsReady}
 use Rattle.join_tree.specs.Mains.{IsMain, Waits}
 use Rattle.join_tree.specs.Progress.{Follow, Progress, joining, splitting}
-use Rattle.join_tree.specs.Told.{IsTold}
+use Rattle.join_tree.specs.Notes.{IsTold}
 use Rattle.join_tree.proofs.Growing.{had_older, main_main, not_inner, onward, out_had, paced_more, root_same, root_stays}
 use Rattle.join_tree.proofs.Queue.{follow_length, follow_other, waits_first, waits_less, waits_same}
 use Rattle.join_tree.proofs.Telling.{notes_more, told_splits}

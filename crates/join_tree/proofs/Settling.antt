@@ -10,7 +10,7 @@ use Rattle.res_ledger.specs.Ledger.{Notes}
 use Rattle.res_ledger.specs.Own.{opens, own}
 use Rattle.res_ledger.specs.Streams.{by_stream}
 use Rattle.scope_tree.specs.Released.{said}
-use Rattle.scope_tree.specs.Words.{words}
+use Rattle.scope_tree.specs.Trace.{trace}
 use Rattle.scope_tree.proofs.Parting.{ended_final}
 use Rattle.scope_tree.proofs.Tidy.{own_by}
 use Rattle.tree_laws.specs.Ends.{IsFinishedLedger}
@@ -23,7 +23,7 @@ use Rattle.tree_families.proofs.Pacing.{family_ahead, family_within}
 use Rattle.join_tree.specs.Laws.{MainMayFinish, MainSettles}
 use Rattle.join_tree.specs.Mains.{IsRoot, Waits}
 use Rattle.join_tree.specs.Progress.{Progress}
-use Rattle.join_tree.specs.Told.{IsTold}
+use Rattle.join_tree.specs.Notes.{IsTold}
 use Rattle.join_tree.proofs.Growing.{main_main}
 use Rattle.join_tree.proofs.Queue.{follow_least}
 use Rattle.join_tree.proofs.Telling.{notes_more}
@@ -61,7 +61,7 @@ module _ {P : Type 0} {ends : P → Exit → Bool → P → Type 0} where
       let told : IsTold p L = told_same p v.events L ledger.whole h.told in
       let own_end : IsFinishedLedger b v L = record { ledger = ledger; own = λ e k. ((λ m. m), (λ m. m)) } in
       let events : by_stream v.by L ≡ by_stream v.by v.events = called_events v L h.family.start h.family.calls own_end in
-      let mine : own Outer L ≡ words v = ap (λ k. own k L) (sym h.by) ∙ (own_by v.by L ∙ (ap (map (λ (e : Event). e.what)) events ∙ sym (own_by v.by v.events))) in
+      let mine : own Outer L ≡ trace v = ap (λ k. own k L) (sym h.by) ∙ (own_by v.by L ∙ (ap (map (λ (e : Event). e.what)) events ∙ sym (own_by v.by v.events))) in
       record {
         ledger = ledger;
         whole = family_whole b p.splits L h.family out closed' ledger;

@@ -15,7 +15,7 @@ use Rattle.scope_tree.specs.Calls.{Seen}
 use Rattle.scope_tree.proofs.Follows.{is_end}
 use Rattle.tree_families.specs.Families.{Split}
 use Rattle.join_tree.specs.Progress.{Progress}
-use Rattle.join_tree.specs.Told.{IsBegun, IsOuterWord, IsTold, is_table_word}
+use Rattle.join_tree.specs.Notes.{IsBegun, IsOuterNote, IsTold, is_table_note}
 
 pub notes_more : {L M : List Event} {k : StreamNo} {w : What} → ((e : Event) → IsAmong e L → IsAmong e M) → Notes L k w → Notes M k w
 notes_more h n = (n.0, h n.0 n.1, n.2, n.3)
@@ -28,41 +28,41 @@ some_is x y e = cc
 
 module _ {P : Type 0} where
   -- what was noted stays what the outer stream may note
-  pub word_stays : (p q : Progress P) → p.leased ≤ q.leased → p.next ≤ q.next → ((x : Exit) → p.root ≡ Some x → q.root ≡ Some x) → ((w : What) → IsAmong w p.tables → IsAmong w q.tables) → (w : What) → IsOuterWord p w → IsOuterWord q w
-  word_stays p q l n r t (Open s c) h = t (Open s c) h
-  word_stays p q l n r t (Acquire i s) h = t (Acquire i s) h
-  word_stays p q l n r t (Lease j s) h = (h.0, (let k = h.1 in omega arith))
-  word_stays p q l n r t (Cancel j x) h = (h.0, (let k = h.1 in omega arith))
-  word_stays p q l n r t (Close zero x) h = r x h
-  word_stays p q l n r t (Close (suc s) x) h = t (Close (suc s) x) h
-  word_stays p q l n r t (Final i x ok) h = (h.0, t (Acquire i h.0) h.1)
+  pub note_stays : (p q : Progress P) → p.leased ≤ q.leased → p.next ≤ q.next → ((x : Exit) → p.root ≡ Some x → q.root ≡ Some x) → ((w : What) → IsAmong w p.tables → IsAmong w q.tables) → (w : What) → IsOuterNote p w → IsOuterNote q w
+  note_stays p q l n r t (Open s c) h = t (Open s c) h
+  note_stays p q l n r t (Acquire i s) h = t (Acquire i s) h
+  note_stays p q l n r t (Lease j s) h = (h.0, (let k = h.1 in omega arith))
+  note_stays p q l n r t (Cancel j x) h = (h.0, (let k = h.1 in omega arith))
+  note_stays p q l n r t (Close zero x) h = r x h
+  note_stays p q l n r t (Close (suc s) x) h = t (Close (suc s) x) h
+  note_stays p q l n r t (Final i x ok) h = (h.0, t (Acquire i h.0) h.1)
 
-  pub end_word : (q : Progress P) (M : List Event) → ((r : ℕ) (x : Exit) (ok : Bool) → Notes M Outer (Final r x ok) → IsOuterWord q (Final r x ok)) → (w : What) → is_end w ≡ true → Notes M Outer w → IsOuterWord q w
-  end_word q M ended (Open s c) h n = absurd (let z : false ≡ true = h in cc)
-  end_word q M ended (Acquire i s) h n = absurd (let z : false ≡ true = h in cc)
-  end_word q M ended (Lease j s) h n = absurd (let z : false ≡ true = h in cc)
-  end_word q M ended (Cancel j x) h n = absurd (let z : false ≡ true = h in cc)
-  end_word q M ended (Close s x) h n = absurd (let z : false ≡ true = h in cc)
-  end_word q M ended (Final i x ok) h n = ended i x ok n
+  pub end_note : (q : Progress P) (M : List Event) → ((r : ℕ) (x : Exit) (ok : Bool) → Notes M Outer (Final r x ok) → IsOuterNote q (Final r x ok)) → (w : What) → is_end w ≡ true → Notes M Outer w → IsOuterNote q w
+  end_note q M ended (Open s c) h n = absurd (let z : false ≡ true = h in cc)
+  end_note q M ended (Acquire i s) h n = absurd (let z : false ≡ true = h in cc)
+  end_note q M ended (Lease j s) h n = absurd (let z : false ≡ true = h in cc)
+  end_note q M ended (Cancel j x) h n = absurd (let z : false ≡ true = h in cc)
+  end_note q M ended (Close s x) h n = absurd (let z : false ≡ true = h in cc)
+  end_note q M ended (Final i x ok) h n = ended i x ok n
 
   -- a word on tables is one that is told
-  pub table_word : (q : Progress P) (E : List What) (M : List Event) → ((w : What) → IsAmong w E → IsAmong w q.tables) → ((w : What) → IsAmong w E → is_table_word w ≡ true) → ((r : ℕ) (x : Exit) (ok : Bool) → Notes M Outer (Final r x ok) → IsOuterWord q (Final r x ok)) → (w : What) → IsAmong w E → Notes M Outer w → IsOuterWord q w
-  table_word q E M more table ended (Open s c) m n = more (Open s c) m
-  table_word q E M more table ended (Acquire i s) m n = more (Acquire i s) m
-  table_word q E M more table ended (Lease j s) m n = absurd (let z : false ≡ true = table (Lease j s) m in cc)
-  table_word q E M more table ended (Cancel j x) m n = absurd (let z : false ≡ true = table (Cancel j x) m in cc)
-  table_word q E M more table ended (Close zero x) m n = absurd (let z : false ≡ true = table (Close zero x) m in cc)
-  table_word q E M more table ended (Close (suc s) x) m n = more (Close (suc s) x) m
-  table_word q E M more table ended (Final i x ok) m n = ended i x ok n
+  pub table_note : (q : Progress P) (E : List What) (M : List Event) → ((w : What) → IsAmong w E → IsAmong w q.tables) → ((w : What) → IsAmong w E → is_table_note w ≡ true) → ((r : ℕ) (x : Exit) (ok : Bool) → Notes M Outer (Final r x ok) → IsOuterNote q (Final r x ok)) → (w : What) → IsAmong w E → Notes M Outer w → IsOuterNote q w
+  table_note q E M more table ended (Open s c) m n = more (Open s c) m
+  table_note q E M more table ended (Acquire i s) m n = more (Acquire i s) m
+  table_note q E M more table ended (Lease j s) m n = absurd (let z : false ≡ true = table (Lease j s) m in cc)
+  table_note q E M more table ended (Cancel j x) m n = absurd (let z : false ≡ true = table (Cancel j x) m in cc)
+  table_note q E M more table ended (Close zero x) m n = absurd (let z : false ≡ true = table (Close zero x) m in cc)
+  table_note q E M more table ended (Close (suc s) x) m n = more (Close (suc s) x) m
+  table_note q E M more table ended (Final i x ok) m n = ended i x ok n
 
   -- calls of the outer stream, by which no seat comes or goes
-  pub told_calls : (p q : Progress P) (L M : List Event) → IsTold p L → q.splits ≡ p.splits → q.back ≡ p.back → ((w : What) → IsOuterWord p w → IsOuterWord q w) → ((e : Event) → IsAmong e L → IsAmong e M) → ((e : Event) → IsAmong e M → IsAmong e L ⊎ ((e.by ≡ Outer) × IsOuterWord q e.what)) → ((j : ℕ) → j < q.leased → Notes M Outer (Lease j 0)) → ((x : Exit) → q.root ≡ Some x → Notes M Outer (Close 0 x)) → ((j : ℕ) → j < q.next → IsBegun p j ⊎ Notes M Outer (Cancel j Canceled)) → ((j : ℕ) (x : Exit) → Notes M Outer (Cancel j x) → ¬ (IsBegun p j)) → IsTold q M
+  pub told_calls : (p q : Progress P) (L M : List Event) → IsTold p L → q.splits ≡ p.splits → q.back ≡ p.back → ((w : What) → IsOuterNote p w → IsOuterNote q w) → ((e : Event) → IsAmong e L → IsAmong e M) → ((e : Event) → IsAmong e M → IsAmong e L ⊎ ((e.by ≡ Outer) × IsOuterNote q e.what)) → ((j : ℕ) → j < q.leased → Notes M Outer (Lease j 0)) → ((x : Exit) → q.root ≡ Some x → Notes M Outer (Close 0 x)) → ((j : ℕ) → j < q.next → IsBegun p j ⊎ Notes M Outer (Cancel j Canceled)) → ((j : ℕ) (x : Exit) → Notes M Outer (Cancel j x) → ¬ (IsBegun p j)) → IsTold q M
   told_calls p q L M t splits back word more new leases root dealt skipped =
       let ahead : (j : ℕ) → IsBegun p j → IsBegun q j = λ j b. (b.0, subst (λ l. IsAmong b.0 l) (sym splits) b.1, b.2) in
       let before : (j : ℕ) → IsBegun q j → IsBegun p j = λ j b. (b.0, subst (λ l. IsAmong b.0 l) splits b.1, b.2) in
       let old : (y : Seen P) → IsAmong y q.back → IsAmong y p.back = λ y i. subst (λ l. IsAmong y l) back i in
       record {
-        outer = λ w n. subst (λ z. IsOuterWord q z) n.3 (⊎_elim (λ i. word n.0.what (t.outer n.0.what (n.0, i, n.2, refl))) (λ i. i.1) (new n.0 n.1));
+        outer = λ w n. subst (λ z. IsOuterNote q z) n.3 (⊎_elim (λ i. word n.0.what (t.outer n.0.what (n.0, i, n.2, refl))) (λ i. i.1) (new n.0 n.1));
         lessor = λ k j s n. ⊎_elim (λ i. t.lessor k j s (n.0, i, n.2, n.3)) (λ i. sym n.2 ∙ i.0) (new n.0 n.1);
         leases = leases;
         root = root;
@@ -88,7 +88,7 @@ module _ {P : Type 0} where
       let q : Progress P = record p { splits = p.splits ++ m ∷ []; waits = us; next = suc p.next } in
       let ahead : (j : ℕ) → IsBegun p j → IsBegun q j = λ j b. (b.0, among_left (m ∷ []) b.1, b.2) in
       record {
-        outer = λ w n. word_stays p q (omega arith) (omega arith) (λ x r. r) (λ z i. i) w (t.outer w n);
+        outer = λ w n. note_stays p q (omega arith) (omega arith) (λ x r. r) (λ z i. i) w (t.outer w n);
         lessor = t.lessor;
         leases = t.leases;
         root = t.root;

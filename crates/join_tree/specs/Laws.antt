@@ -17,19 +17,19 @@ use Rattle.tree_families.specs.Families.{Split}
 use Rattle.join_tree.specs.Guests.{AreOut, Guest, IsOut, IsReady}
 use Rattle.join_tree.specs.Leaving.{LeavesLast}
 use Rattle.join_tree.specs.Mains.{IsMain}
-use Rattle.join_tree.specs.Progress.{Progress, closing, joining, leasing, none_done, reading, skipping, splitting}
+use Rattle.join_tree.specs.Progress.{Progress, closing_root, joining, leasing_next, none_done, reading, skipping, splitting}
 use Rattle.join_tree.specs.Settled.{Settles}
 use Rattle.join_tree.specs.Steps.{KeepsGuests}
-use Rattle.join_tree.specs.Told.{is_table_word}
+use Rattle.join_tree.specs.Notes.{is_table_note}
 
 module _ {P : Type 0} (ends : P → Exit → Bool → P → Type 0) where
   -- how a main tree begins, and what each call of it keeps
   pub record MainGrows : Type 0 where
     pub starts : (width n : ℕ) (b : Seen P) → AtStart b.seat → HasNoOthers b.seat → b.seat.by ≡ Outer → b.shelf ≡ [] → 1 ≤ b.scopes → IsOpenScope b 0 → IsMain ends width n b (none_done P)
-    -- calls for the tables, after which the root is open still, and by which the tree noted words of E
-    pub reads : (width n : ℕ) (b c : Seen P) (p : Progress P) (E : List What) → IsMain ends width n b p → p.root ≡ None → Called ends b [] c → StaysAlone b.seat c.seat → IsOpenScope c 0 → ((e : Event) → IsAmong e c.seat.events → IsAmong e b.seat.events ⊎ IsAmong e.what E) → ((w : What) → IsAmong w E → is_table_word w ≡ true) → IsMain ends width n c (reading p E)
-    pub leases : (width n : ℕ) (b c : Seen P) (p : Progress P) (T : List ℕ) → IsMain ends width n b p → p.root ≡ None → p.leased < n → Leases b 0 p.leased T c → KeepsScopes b c → IsMain ends width n c (leasing p T)
-    pub closes : (width n : ℕ) (b c : Seen P) (p : Progress P) (x : Exit) → IsMain ends width n b p → p.root ≡ None → ClosesScope ends b 0 x c → IsClosedScope c 0 → IsMain ends width n c (closing p x)
+    -- calls for the tables, after which the root is open still, and by which the tree noted what is in E
+    pub reads : (width n : ℕ) (b c : Seen P) (p : Progress P) (E : List What) → IsMain ends width n b p → p.root ≡ None → Called ends b [] c → StaysAlone b.seat c.seat → IsOpenScope c 0 → ((e : Event) → IsAmong e c.seat.events → IsAmong e b.seat.events ⊎ IsAmong e.what E) → ((w : What) → IsAmong w E → is_table_note w ≡ true) → IsMain ends width n c (reading p E)
+    pub leases : (width n : ℕ) (b c : Seen P) (p : Progress P) (T : List ℕ) → IsMain ends width n b p → p.root ≡ None → p.leased < n → Leases b 0 p.leased T c → KeepsScopes b c → IsMain ends width n c (leasing_next p T)
+    pub closes : (width n : ℕ) (b c : Seen P) (p : Progress P) (x : Exit) → IsMain ends width n b p → p.root ≡ None → ClosesScope ends b 0 x c → IsClosedScope c 0 → IsMain ends width n c (closing_root p x)
     pub cancels : (width n : ℕ) (b c : Seen P) (p : Progress P) (us : List (ℕ × List ℕ)) (j : ℕ) (T : List ℕ) → IsMain ends width n b p → p.waits ≡ (j, T) ∷ us → Cancels ends b j T Canceled c → KeepsScopes b c → IsMain ends width n c (skipping p us)
     pub splits : (width n : ℕ) (b c : Seen P) (p : Progress P) (us : List (ℕ × List ℕ)) (j : ℕ) (T : List ℕ) (from to x : ℕ) → IsMain ends width n b p → p.waits ≡ (j, T) ∷ us → IsReady width b p → CanSplit b.seat j from to x → c ≡ record b { seat = split_main b.seat j from to x } → IsMain ends width n c (splitting p b.seat j us)
     pub joins : (width n : ℕ) (b c y : Seen P) (p : Progress P) (g : Guest) → IsMain ends width n b p → IsOut b p.splits g → CanJoin b.seat y.seat → AreApart b.seat y.seat → c ≡ record b { seat = joined b.seat y.seat } → KeepsScopes b c → Visits ends g.stream g.floor g.rows y → IsMain ends width n c (joining p y)

@@ -1,5 +1,5 @@
 pub mod Progress
-pub mod Told
+pub mod Notes
 pub mod Mains
 pub mod Guests
 pub mod Steps

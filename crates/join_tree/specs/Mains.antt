@@ -10,7 +10,7 @@ use Rattle.tree_laws.specs.Lent.{Lent}
 use Rattle.tree_families.specs.Families.{IsFamily, Split}
 use Rattle.tree_families.specs.Pace.{IsInPace}
 use Rattle.join_tree.specs.Progress.{Follow, Progress}
-use Rattle.join_tree.specs.Told.{IsTold}
+use Rattle.join_tree.specs.Notes.{IsTold}
 
 module _ {P : Type 0} where
   -- the Leases that the seat keeps are those of ws, each with leases on its rows, and it has no others

@@ -33,12 +33,12 @@ module _ {P : Type 0} where
   reading p E = record p { tables = p.tables ++ E }
 
   -- the root was leased for the next stream, on the rows T
-  abbrev pub leasing : Progress P → List ℕ → Progress P
-  leasing p T = record p { waits = p.waits ++ (p.leased, T) ∷ []; leased = suc p.leased }
+  abbrev pub leasing_next : Progress P → List ℕ → Progress P
+  leasing_next p T = record p { waits = p.waits ++ (p.leased, T) ∷ []; leased = suc p.leased }
 
   -- the root was closed with the exit
-  abbrev pub closing : Progress P → Exit → Progress P
-  closing p x = record p { root = Some x }
+  abbrev pub closing_root : Progress P → Exit → Progress P
+  closing_root p x = record p { root = Some x }
 
   -- the first lease that waits was cancelled, and the others wait still
   abbrev pub skipping : Progress P → List (ℕ × List ℕ) → Progress P

@@ -14,7 +14,7 @@ use Rattle.tree_families.specs.Families.{Split}
 use Rattle.tree_laws.specs.Ends.{IsFinishedLedger}
 use Rattle.tree_laws.specs.Whole.{IsWholeLedger}
 use Rattle.join_tree.specs.Progress.{Progress}
-use Rattle.join_tree.specs.Told.{IsTold}
+use Rattle.join_tree.specs.Notes.{IsTold}
 
 -- L is the ledger of the main tree b, which is as far as p says, once all streams are back
 pub record Settles {P : Type 0} (width n : ℕ) (b : Seen P) (p : Progress P) (L : List Event) : Type 0 where

@@ -11,11 +11,11 @@ use Rattle.row_seat.specs.declared.view.View.{View}
 use Rattle.row_seat.specs.Views.{next_stamp}
 use Rattle.scope_tree.specs.Calls.{Seen}
 use Rattle.scope_tree.specs.declared.leases.Lease.{Lease}
-use Rattle.scope_tree.specs.Words.{owed, words}
+use Rattle.scope_tree.specs.Trace.{owed, trace}
 use Rattle.tree_laws.specs.Lent.{Lent}
 use Rattle.join_tree.specs.Guests.{Guest}
 use Rattle.join_tree.specs.Mains.{IsMain}
-use Rattle.join_tree.specs.Progress.{Progress, closing, leasing}
+use Rattle.join_tree.specs.Progress.{Progress, closing_root, leasing_next}
 
 module _ {P : Type 0} where
   -- beyond the events that are owed, at most n fewer may be noted
@@ -43,6 +43,6 @@ module _ {P : Type 0} where
 module _ {P : Type 0} (ends : P → Exit → Bool → P → Type 0) (width n : ℕ) (b c : Seen P) (p : Progress P) where
   -- a pull leased the root for the next stream, with the rows that are open in it, which are those of tables, or closed it as no stream was left; where memory was wanting nothing was done
   abbrev pub Pulls : Result (Option Lease) AllocError → Type 0
-  Pulls (Ok (Some l)) = (p.leased < n) × (l.stream ≡ p.leased) × (l.rows.items ≡ leased_rows (words b.seat) 0) × ((r : ℕ) → IsAmong r l.rows.items → (s : ℕ) × IsAmong (Acquire r s) p.tables) × IsMain ends width n c (leasing p l.rows.items)
-  Pulls (Ok None) = (p.leased ≡ n) × IsMain ends width n c (closing p Succeeded)
+  Pulls (Ok (Some l)) = (p.leased < n) × (l.stream ≡ p.leased) × (l.rows.items ≡ leased_rows (trace b.seat) 0) × ((r : ℕ) → IsAmong r l.rows.items → (s : ℕ) × IsAmong (Acquire r s) p.tables) × IsMain ends width n c (leasing_next p l.rows.items)
+  Pulls (Ok None) = (p.leased ≡ n) × IsMain ends width n c (closing_root p Succeeded)
   Pulls (Err e) = (p.leased < n) × (c ≡ b)

@@ -5,7 +5,7 @@ ghost use Rattle.res_ledger.specs.declared.event.StreamNo.TheVariants.{Outer};
 ghost use Rattle.row_seat.specs.Views.{IsWithin, OthersFit, joined, next_stamp, split_main, split_off};
 ghost use Rattle.scope_tree.specs.Calls.{Seen};
 ghost use Rattle.scope_tree.specs.Trees.{Fits, seen};
-ghost use Rattle.scope_tree.specs.Words.{owed};
+ghost use Rattle.scope_tree.specs.Trace.{owed};
 ghost use Rattle.tree_laws.specs.Visits.{HasNothingOpen, IsNewGuest, Visits};
 ghost use Rattle.tree_families.specs.Families.{Split};
 ghost use Rattle.join_tree.specs.Guests.{AreOut, Guest, IsOut, IsReady};

@@ -6,9 +6,9 @@ ghost use Rattle.row_seat.specs.Views.{OthersFit, start};
 ghost use Rattle.scope_tree.specs.Calls.{KeepsScopes, Seen, used};
 ghost use Rattle.scope_tree.specs.Released.{away};
 ghost use Rattle.scope_tree.specs.Trees.{Fits, seen};
-ghost use Rattle.scope_tree.specs.Words.{owed};
+ghost use Rattle.scope_tree.specs.Trace.{owed};
 ghost use Rattle.join_tree.specs.Mains.{IsMain};
-ghost use Rattle.join_tree.specs.Progress.{Progress, closing, none_done, skipping};
+ghost use Rattle.join_tree.specs.Progress.{Progress, closing_root, none_done, skipping};
 ghost use Rattle.join_tree.specs.Steps.{KeepsGuests, KeepsRows, Pulls, TakesEvents};
 
 use chunk_core::Exit;
@@ -84,7 +84,7 @@ where
     S::Pay: Finish,
     requires fits { Fits S.view S.fits tree.old desk.old }
     requires main { (width n : ℕ) × (p : Progress S.Pay) × IsMain S.Pay.ends width n (seen S.view tree.old) p × (p.root ≡ None) }
-    ensures main { (width n : ℕ) (p : Progress S.Pay) → IsMain S.Pay.ends width n (seen S.view tree.old) p → p.root ≡ None → IsMain S.Pay.ends width n (seen S.view tree.new) (closing p exit) }
+    ensures main { (width n : ℕ) (p : Progress S.Pay) → IsMain S.Pay.ends width n (seen S.view tree.old) p → p.root ≡ None → IsMain S.Pay.ends width n (seen S.view tree.new) (closing_root p exit) }
     ensures guests { KeepsGuests (seen S.view tree.old) (seen S.view tree.new) }
     ensures rows { KeepsRows (seen S.view tree.old).seat (seen S.view tree.new).seat }
     ensures events { TakesEvents 0 (seen S.view tree.old) (seen S.view tree.new) }

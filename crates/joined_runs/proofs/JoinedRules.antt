@@ -23,7 +23,7 @@ use Rattle.run_rules.specs.Facts.{acquired_row, at, leased_stream}
 use Rattle.run_rules.specs.Rules.{ClosesBeforeLeaving, HaveScopes, KeepsRules, is_owned, is_ours, may_lease}
 use Rattle.run_rules.specs.Work.{Opener, Stream, Values, Work, names_from, names_of, owners_from, scopes_by}
 use Rattle.plan_work.specs.Joined.{joined, places_in}
-use Rattle.joined_runs.specs.Shares.{AreTablesKept, ClosesRootBelow, IsJoinedLedger, IsOuterWord}
+use Rattle.joined_runs.specs.Shares.{AreTablesKept, ClosesRootBelow, IsJoinedLedger, IsOuterNote}
 use Rattle.joined_runs.proofs.MadeRows.{at_some}
 use Rattle.joined_runs.proofs.RowAccounts.{AreRowsKept}
 use Rattle.joined_runs.proofs.RowPlaces.{owner_left}
@@ -68,7 +68,7 @@ not_outer k e = cc
 
 module _ (t n : ℕ) (how : How) (owners : List StreamNo) where
   -- what the outer stream notes it may note, where the first t rows are its own
-  outer_ours : ((r : ℕ) → r < t → at owners r ≡ Some Outer) → (v : What) → IsOuterWord t n how v → (may_lease n Outer (leased_stream v) && is_owned owners Outer (acquired_row v)) ≡ true
+  outer_ours : ((r : ℕ) → r < t → at owners r ≡ Some Outer) → (v : What) → IsOuterNote t n how v → (may_lease n Outer (leased_stream v) && is_owned owners Outer (acquired_row v)) ≡ true
   outer_ours first (Acquire r s) h = ap (λ (o : Option StreamNo). elim o [ Some q ↦ same_stream q Outer | None ↦ false ]) (first r h.0)
   outer_ours first (Final r x ok) h = refl
   outer_ours first (Lease j s) h = ap (λ b. (true && b) && true) (lt-ltb j n h.0)
@@ -76,7 +76,7 @@ module _ (t n : ℕ) (how : How) (owners : List StreamNo) where
   outer_ours first (Cancel j x) h = refl
   outer_ours first v h = absurd h
 
-  opens_none : (v : What) → IsOuterWord t n how v → opens_of v ≡ []
+  opens_none : (v : What) → IsOuterNote t n how v → opens_of v ≡ []
   opens_none (Acquire r s) h = refl
   opens_none (Final r x ok) h = refl
   opens_none (Lease j s) h = refl
@@ -84,7 +84,7 @@ module _ (t n : ℕ) (how : How) (owners : List StreamNo) where
   opens_none (Cancel j x) h = refl
   opens_none v h = absurd h
 
-  no_opens : (M : List Event) → ((e : Event) → IsAmong e M → e.by ≡ Outer → IsOuterWord t n how e.what) → opens (own Outer M) ≡ []
+  no_opens : (M : List Event) → ((e : Event) → IsAmong e M → e.by ≡ Outer → IsOuterNote t n how e.what) → opens (own Outer M) ≡ []
   no_opens [] h = refl
   no_opens (e ∷ M) h =
       let rest = no_opens M (λ x i. h x (there e i)) in
@@ -120,7 +120,7 @@ module _ (opener : Opener) (streams : List Stream) (runs ideal : ℕ → Values 
   acquired : (q : StreamNo) (r s : ℕ) → Notes L q (Acquire r s) → (r < count) × ((w r).opens ≡ 1)
   acquired q r s m =
       by_whom (λ b. (r < count) × ((w r).opens ≡ 1)) m.0 m.1
-      (λ o. let x : IsOuterWord (length opener.tables) n how (Acquire r s) = subst (λ v. IsOuterWord (length opener.tables) n how v) m.3 (a.words m.0 m.1 o) in (table_row r x.0, t.acquired r s (m.0, m.1, o, m.3)))
+      (λ o. let x : IsOuterNote (length opener.tables) n how (Acquire r s) = subst (λ v. IsOuterNote (length opener.tables) n how v) m.3 (a.outer_notes m.0 m.1 o) in (table_row r x.0, t.acquired r s (m.0, m.1, o, m.3)))
       (λ j l o. let x = k.acquired j r s l (m.0, m.1, o, m.3) in (x.0, x.1))
 
   each : (r : ℕ) → r < count → (w r).opens ≡ 1 → IsAcquired L r
@@ -138,14 +138,14 @@ module _ (opener : Opener) (streams : List Stream) (runs ideal : ℕ → Values 
   ours : (e : Event) → IsAmong e L → is_ours work e ≡ true
   ours e i =
       by_whom (λ b. (any (same_stream b) (names_of work) && (may_lease n b (leased_stream e.what) && is_owned (owners_in opener streams) b (acquired_row e.what))) ≡ true) e i
-      (λ o. outer_ours (length opener.tables) n how (owners_in opener streams) (owner_left Outer opener.tables (owners_from 0 streams)) e.what (a.words e i o))
+      (λ o. outer_ours (length opener.tables) n how (owners_in opener streams) (owner_left Outer opener.tables (owners_from 0 streams)) e.what (a.outer_notes e i o))
       (λ j l o. and_true (any (same_stream (Inner j)) (names_from 0 streams)) (may_lease n (Inner j) (leased_stream e.what) && is_owned (owners_in opener streams) (Inner j) (acquired_row e.what)) (name_found j 0 streams (omega arith) (omega (arith, l)))
       (subst (λ b. (may_lease n (Inner j) b && is_owned (owners_in opener streams) (Inner j) (acquired_row e.what)) ≡ true) (sym (k.leases j e l i o))
       (owned_what (length opener.tables) n how (owners_in opener streams) j e.what (λ r s v. (k.acquired j r s l (e, i, o, v)).2))))
 
   scopes : HaveScopes work L
   scopes = (
-    let none = ap length (no_opens (length opener.tables) n how (owners_in opener streams) L a.words) in omega (arith, none),
+    let none = ap length (no_opens (length opener.tables) n how (owners_in opener streams) L a.outer_notes) in omega (arith, none),
     each_name (λ q. length (opens (own q L)) ≤ scopes_by work q) 0 streams (λ i l.
         let s = at_some streams i l in
         let same : i ≡ 0 + i = omega arith in

@@ -36,7 +36,7 @@ use Rattle.join_tale.specs.Tales.{Fate}
 use Rattle.join_tale.specs.Tales.Fate.{Begun, Skipped, Unmade}
 use Rattle.join_tale.proofs.Endings.{come_begun}
 use Rattle.plan_work.specs.Joined.{places_in}
-use Rattle.joined_runs.specs.Shares.{IsOuterWord, IsShare}
+use Rattle.joined_runs.specs.Shares.{IsOuterNote, IsShare}
 use Rattle.joined_runs.specs.Together.{RunsTogether, elements_in_pieces, first_row_in}
 use Rattle.joined_runs.proofs.Covered.{AreCovered, RefusesTables}
 use Rattle.joined_runs.proofs.MadeRows.{IsCountedRow, at_below, at_some, place_found, shown}
@@ -77,14 +77,14 @@ root_is_closed k L c = let n = c.1 in any_at (λ (e : Event). is_root_close e.wh
 -- What the finalizers were told.
 
 module _ (t n : ℕ) (h : How) where
-  outer_exit : (v : What) → IsOuterWord t n h v → HasExit (record { who = Outer; how = h }) v
+  outer_exit : (v : What) → IsOuterNote t n h v → HasExit (record { who = Outer; how = h }) v
   outer_exit (Close zero x) w = w.1
   outer_exit (Close (suc s) x) w = absurd (omega (arith, w.0))
   outer_exit (Cancel j x) w = w
   outer_exit v w = tt
 
-  outer_exits : (L : List Event) → ((e : Event) → IsAmong e L → e.by ≡ Outer → IsOuterWord t n h e.what) → AllByRecursion (λ e. HasExit (record { who = Outer; how = h }) e.what) (by_stream Outer L)
-  outer_exits L words = each_among (λ (e : Event). HasExit (record { who = Outer; how = h }) e.what) (by_stream Outer L) (λ e m. let i = by_in Outer L e m in outer_exit e.what (words e i.0 i.1))
+  outer_exits : (L : List Event) → ((e : Event) → IsAmong e L → e.by ≡ Outer → IsOuterNote t n h e.what) → AllByRecursion (λ e. HasExit (record { who = Outer; how = h }) e.what) (by_stream Outer L)
+  outer_exits L outer_notes = each_among (λ (e : Event). HasExit (record { who = Outer; how = h }) e.what) (by_stream Outer L) (λ e m. let i = by_in Outer L e m in outer_exit e.what (outer_notes e i.0 i.1))
 
 module _ (k from to scopes : ℕ) (w : ℕ → DeviceTold) (h : How) (L : List Event) (a : IsShare k from to scopes w h L) where
   share_exit : (e : Event) → IsAmong e L → e.by ≡ Inner k → (v : What) → e.what ≡ v → HasExit (record { who = Inner k; how = h }) v
@@ -188,7 +188,7 @@ module _ (opener : Opener) (ss : List Stream) (runs ideal : ℕ → Values → (
   not_halted h e q = false≢true (sym e ∙ ap (λ g. is_halted g && true) q)
 
   exits_by : (q : StreamNo) (h : How) → EndedSo r.tale q h → is_exit_hidden (work opener ss runs ideal c r) (record { who = q; how = h }) ≡ false → AllByRecursion (λ x. HasExit (record { who = q; how = h }) x.what) (by_stream q c.events)
-  exits_by Outer h e open_to = outer_exits (length opener.tables) (length ss) h c.events (subst (λ g. (x : Event) → IsAmong x c.events → x.by ≡ Outer → IsOuterWord (length opener.tables) (length ss) g x.what) (outer_so h e) r.account.words)
+  exits_by Outer h e open_to = outer_exits (length opener.tables) (length ss) h c.events (subst (λ g. (x : Event) → IsAmong x c.events → x.by ≡ Outer → IsOuterNote (length opener.tables) (length ss) g x.what) (outer_so h e) r.account.outer_notes)
   exits_by (Inner k) h e open_to =
       let s = stream_of_end k h e in
       ⊎_elim

@@ -14,7 +14,7 @@ use Rattle.res_ledger.specs.declared.event.What.TheVariants.{Close, Lease}
 use Rattle.res_ledger.specs.declared.event.Event.{Event}
 use Rattle.res_ledger.proofs.Ledgers.{inner_is}
 use Rattle.run_rules.specs.Work.{RunRecord}
-use Rattle.joined_runs.specs.Shares.{IsOuterWord}
+use Rattle.joined_runs.specs.Shares.{IsOuterNote}
 use Rattle.joined_runs.specs.Worked.{AreRefused, IsRefused, both_ran, byte_of, ended_so, file_runs, first_ran, given, noted, one_frame, reads_file, two_files, worked_run}
 use Rattle.joined_runs.proofs.StreamEnds.{outer_so}
 use Rattle.joined_runs.proofs.StreamOutputs.{follows, left_undone}
@@ -77,7 +77,7 @@ other_run = record worked_run { events = given Canceled both_ran }
 closed_otherwise : IsRefused other_run
 closed_otherwise r =
     let done : r.outer ≡ how.Done = outer_so one_frame two_files file_runs file_runs other_run r how.Done (r.recorded.told (ended_so Outer how.Done) (here (ended_so (Inner 0) how.Done ∷ ended_so (Inner 1) how.Halted ∷ []))) in
-    let word : IsOuterWord 0 2 r.outer (Close 0 Canceled) = r.account.words (noted 2 Outer (Close 0 Canceled)) (there (noted 0 Outer (Lease 0 0)) (there (noted 1 Outer (Lease 1 0)) (here both_ran))) refl in
+    let word : IsOuterNote 0 2 r.outer (Close 0 Canceled) = r.account.outer_notes (noted 2 Outer (Close 0 Canceled)) (there (noted 0 Outer (Lease 0 0)) (there (noted 1 Outer (Lease 1 0)) (here both_ran))) refl in
     let exit : Canceled ≡ Succeeded = word.1 ∙ ap exit_of done in
     cc
 

@@ -30,7 +30,7 @@ use Rattle.join_tale.proofs.Endings.{come_begun}
 use Rattle.join_tale.proofs.Places.{none_some}
 use Rattle.joined_runs.specs.Devices.{MadeComeBack}
 use Rattle.plan_work.specs.Joined.{places_in}
-use Rattle.joined_runs.specs.Shares.{AreTablesKept, IsJoinedLedger, IsOuterWord, IsShare}
+use Rattle.joined_runs.specs.Shares.{AreTablesKept, IsJoinedLedger, IsOuterNote, IsShare}
 use Rattle.joined_runs.specs.Together.{HasNotRun, HasRun, first_row_in}
 use Rattle.joined_runs.specs.Worked.{IsWorked, both_ran, file_runs, full_depot, noted, one_frame, read_depot, reads_file, two_files, worked_home, worked_run}
 use Rattle.joined_runs.proofs.WorkedTale.{came_0, came_1, come_of, ended_0, ended_1, worked_is_tale, worked_settled, worked_tale}
@@ -100,9 +100,9 @@ account = account_of 2 0 2 how.Done L (omega arith)
 -- an outer stream without tables keeps none
 tables : AreTablesKept 0 worked_home L
 tables = record {
-  acquired = λ r s m. let x : IsOuterWord 0 2 how.Done (Acquire r s) = subst (λ v. IsOuterWord 0 2 how.Done v) m.3 (account.words m.0 m.1 m.2) in let l = x.0 in absurd (omega (arith, l));
+  acquired = λ r s m. let x : IsOuterNote 0 2 how.Done (Acquire r s) = subst (λ v. IsOuterNote 0 2 how.Done v) m.3 (account.outer_notes m.0 m.1 m.2) in let l = x.0 in absurd (omega (arith, l));
   each = λ r l o. absurd (omega (arith, l));
-  ended = λ r x ok m. let y : IsOuterWord 0 2 how.Done (Final r x ok) = subst (λ v. IsOuterWord 0 2 how.Done v) m.3 (account.words m.0 m.1 m.2) in absurd (omega (arith, y));
+  ended = λ r x ok m. let y : IsOuterNote 0 2 how.Done (Final r x ok) = subst (λ v. IsOuterNote 0 2 how.Done v) m.3 (account.outer_notes m.0 m.1 m.2) in absurd (omega (arith, y));
 }
 
 -- the events stand in the ledger

@@ -26,7 +26,7 @@ use Rattle.res_ledger.proofs.Tests.{name}
 use Rattle.device_port.specs.Device.{DeviceTold}
 use Rattle.run_rules.specs.Facts.{first_numbers, is_number, is_root_close, leased_stream}
 use Rattle.run_rules.specs.Pace.{IsAnnounced, LeasesAhead, is_active}
-use Rattle.joined_runs.specs.Shares.{ClosesRootBelow, IsJoinedLedger, IsOuterWord, IsShare}
+use Rattle.joined_runs.specs.Shares.{ClosesRootBelow, IsJoinedLedger, IsOuterNote, IsShare}
 
 -- the outer stream leased for k
 abbrev leases_it : ℕ → Event → Bool
@@ -76,9 +76,9 @@ IsByOne n e = (e.by ≡ Outer) ⊎ ((k : ℕ) × (k < n) × (e.by ≡ Inner k))
 
 module _ (width t n : ℕ) (how : How) (L : List Event) where
   -- a ledger that is written out is judged by its tests
-  pub account_of : n ≤ width → AllByRecursion (IsByOne n) L → AllByRecursion (λ e. e.by ≡ Outer → IsOuterWord t n how e.what) L → NotesClose L Outer 0
+  pub account_of : n ≤ width → AllByRecursion (IsByOne n) L → AllByRecursion (λ e. e.by ≡ Outer → IsOuterNote t n how e.what) L → NotesClose L Outer 0
       → each_after (λ P e. nat_eq e.stamp (length P)) [] L ≡ true → is_legal L ≡ true → is_complete L ≡ true → is_ordered L ≡ true → each_after is_ahead [] L ≡ true → IsJoinedLedger width t n how L
-  account_of wide by words root in_place legal complete ordered before = record {
+  account_of wide by outer_notes root in_place legal complete ordered before = record {
     stamped = stamped_sound L L refl in_place;
     legal = legal_sound L legal;
     complete = complete_sound L (legal_sound L legal) complete;
@@ -86,35 +86,35 @@ module _ (width t n : ℕ) (how : How) (L : List Event) where
     ahead = ahead L before;
     narrow = λ P Q e is. let few = count_by-le-length (is_active P e) (first_numbers n) in let all = numbers_count 0 n in omega (arith, few, all, wide);
     names = λ e i. among_each (IsByOne n) e L by i;
-    words = λ e i b. among_each (λ (x : Event). x.by ≡ Outer → IsOuterWord t n how x.what) e L words i b;
+    outer_notes = λ e i b. among_each (λ (x : Event). x.by ≡ Outer → IsOuterNote t n how x.what) e L outer_notes i b;
     root = root;
   }
 
 module _ (k from to scopes : ℕ) (w : ℕ → DeviceTold) (how : How) (L : List Event) where
   -- what stream k notes with this stamp
-  abbrev pub IsInnerWord : ℕ → What → Type 0
-  IsInnerWord n (Acquire r s) = (from ≤ r) × (r < to) × ((w r).opens ≡ 1)
-  IsInnerWord n (Final r x ok) = ((w r).exit ≡ Some x) × (ok ≡ nat_eq (w r).close_faults 0)
-  IsInnerWord n (Close zero x) = x ≡ exit_of how
-  IsInnerWord n (Close (suc s) x) = Unit {0}
-  IsInnerWord n (Cancel j x) = (j ≡ k) × (x ≡ exit_of how) × ClosesRootBelow n L (Inner k)
-  IsInnerWord n (Open s p) = Unit {0}
-  IsInnerWord n (Lease j s) = ⊥
+  abbrev pub IsInnerNote : ℕ → What → Type 0
+  IsInnerNote n (Acquire r s) = (from ≤ r) × (r < to) × ((w r).opens ≡ 1)
+  IsInnerNote n (Final r x ok) = ((w r).exit ≡ Some x) × (ok ≡ nat_eq (w r).close_faults 0)
+  IsInnerNote n (Close zero x) = x ≡ exit_of how
+  IsInnerNote n (Close (suc s) x) = Unit {0}
+  IsInnerNote n (Cancel j x) = (j ≡ k) × (x ≡ exit_of how) × ClosesRootBelow n L (Inner k)
+  IsInnerNote n (Open s p) = Unit {0}
+  IsInnerNote n (Lease j s) = ⊥
 
-  none_leased : (n : ℕ) (v : What) → IsInnerWord n v → leased_stream v ≡ None
+  none_leased : (n : ℕ) (v : What) → IsInnerNote n v → leased_stream v ≡ None
   none_leased n (Lease j s) h = absurd h
   none_leased n v h = refl
 
-  pub share_of : length (opens (own (Inner k) L)) ≤ scopes → AllByRecursion (λ e. e.by ≡ Inner k → IsInnerWord e.stamp e.what) L → ((r : ℕ) → from ≤ r → r < to → (w r).opens ≡ 1 → (s : ℕ) × Notes L (Inner k) (Acquire r s)) → NotesClose L (Inner k) 0 → IsShare k from to scopes w how L
-  share_of few words each closed =
-      let word : (e : Event) → IsAmong e L → e.by ≡ Inner k → IsInnerWord e.stamp e.what = λ e i b. among_each (λ (x : Event). x.by ≡ Inner k → IsInnerWord x.stamp x.what) e L words i b in
+  pub share_of : length (opens (own (Inner k) L)) ≤ scopes → AllByRecursion (λ e. e.by ≡ Inner k → IsInnerNote e.stamp e.what) L → ((r : ℕ) → from ≤ r → r < to → (w r).opens ≡ 1 → (s : ℕ) × Notes L (Inner k) (Acquire r s)) → NotesClose L (Inner k) 0 → IsShare k from to scopes w how L
+  share_of few outer_notes each closed =
+      let word : (e : Event) → IsAmong e L → e.by ≡ Inner k → IsInnerNote e.stamp e.what = λ e i b. among_each (λ (x : Event). x.by ≡ Inner k → IsInnerNote x.stamp x.what) e L outer_notes i b in
       record {
         opened = few;
         leases = λ e i b. none_leased e.stamp e.what (word e i b);
-        acquired = λ r s n. subst (λ v. IsInnerWord n.0.stamp v) n.3 (word n.0 n.1 n.2);
+        acquired = λ r s n. subst (λ v. IsInnerNote n.0.stamp v) n.3 (word n.0 n.1 n.2);
         each = each;
-        ended = λ r x ok n. subst (λ v. IsInnerWord n.0.stamp v) n.3 (word n.0 n.1 n.2);
+        ended = λ r x ok n. subst (λ v. IsInnerNote n.0.stamp v) n.3 (word n.0 n.1 n.2);
         closed = closed;
-        exits = λ x n. subst (λ v. IsInnerWord n.0.stamp v) n.3 (word n.0 n.1 n.2);
-        leaves = λ e j x i b v. subst (λ y. IsInnerWord e.stamp y) v (word e i b);
+        exits = λ x n. subst (λ v. IsInnerNote n.0.stamp v) n.3 (word n.0 n.1 n.2);
+        leaves = λ e j x i b v. subst (λ y. IsInnerNote e.stamp y) v (word e i b);
       }

@@ -19,13 +19,13 @@ use Rattle.run_rules.specs.Facts.{leased_stream}
 use Rattle.run_rules.specs.Pace.{LeasesAhead, WithinWidth}
 
 -- what the outer stream may note that ended so: it acquires the rows of t tables in its root and ends some of them, leases its root for one of n streams, closes its root as it ended, and cancels a lease as of a stream that wasn't begun
-abbrev pub IsOuterWord : ℕ → ℕ → How → What → Type 0
-IsOuterWord t n how (Acquire r s) = (r < t) × (s ≡ 0)
-IsOuterWord t n how (Final r x ok) = r < t
-IsOuterWord t n how (Lease j s) = (j < n) × (s ≡ 0)
-IsOuterWord t n how (Close s x) = (s ≡ 0) × (x ≡ exit_of how)
-IsOuterWord t n how (Cancel j x) = x ≡ Canceled
-IsOuterWord t n how w = ⊥
+abbrev pub IsOuterNote : ℕ → ℕ → How → What → Type 0
+IsOuterNote t n how (Acquire r s) = (r < t) × (s ≡ 0)
+IsOuterNote t n how (Final r x ok) = r < t
+IsOuterNote t n how (Lease j s) = (j < n) × (s ≡ 0)
+IsOuterNote t n how (Close s x) = (s ≡ 0) × (x ≡ exit_of how)
+IsOuterNote t n how (Cancel j x) = x ≡ Canceled
+IsOuterNote t n how w = ⊥
 
 -- what the outer stream noted of the rows of t tables: it acquired those whose devices were opened, and the rows that it ended it ended as these were closed
 pub record AreTablesKept (t : ℕ) (w : ℕ → DeviceTold) (L : List Event) : Type 0 where
@@ -42,7 +42,7 @@ pub record IsJoinedLedger (width t n : ℕ) (how : How) (L : List Event) : Type 
   pub ahead : LeasesAhead L
   pub narrow : WithinWidth width n L
   pub names : (e : Event) → IsAmong e L → (e.by ≡ Outer) ⊎ ((k : ℕ) × (k < n) × (e.by ≡ Inner k))
-  pub words : (e : Event) → IsAmong e L → e.by ≡ Outer → IsOuterWord t n how e.what
+  pub outer_notes : (e : Event) → IsAmong e L → e.by ≡ Outer → IsOuterNote t n how e.what
   pub root : NotesClose L Outer 0
 
 -- k noted a Close of its root with a stamp below n

@@ -14,7 +14,7 @@ use Rattle.row_seat.specs.declared.view.View.{View}
 use Rattle.row_seat.specs.Views.{HasRow, IsWithin, noted, paid, placed, run, with_row, without}
 use Rattle.row_seat.proofs.Members.{among_kept, among_without}
 use Rattle.scope_tree.specs.Calls.{AcquiresRow as Acquired, KeepsScopes, Seen, TakesRoom}
-use Rattle.scope_tree.specs.Words.{acquiring, owed}
+use Rattle.scope_tree.specs.Trace.{acquiring, owed}
 use Rattle.scope_tree.proofs.Lent.{length_with}
 use Rattle.scope_tree.proofs.Use.{seen_is}
 use Rattle.tree_laws.specs.Called.{MayAcquire}

@@ -10,7 +10,7 @@ use Rattle.scope_tree.specs.declared.branch.Branch.{Branch}
 use Rattle.scope_tree.specs.declared.branch.AcquiredRow.{AcquiredRow}
 use Rattle.scope_tree.specs.Calls.{AcquiresRow as Acquired, IsOpenScope, KeepsScopes, Seen, TakesRoom}
 use Rattle.scope_tree.specs.Kept.{Kept}
-use Rattle.scope_tree.specs.Words.{owed}
+use Rattle.scope_tree.specs.Trace.{owed}
 use Rattle.scope_tree.proofs.Rooms.{open_taken}
 use Rattle.outer_tables.specs.declared.not_read.NotRead.{NotRead}
 use Rattle.outer_tables.specs.Devices.{new_device, when_open}

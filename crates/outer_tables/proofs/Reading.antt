@@ -14,14 +14,14 @@ use Rattle.device_port.specs.Device.{DeviceTold}
 use Rattle.device_port.specs.Depot.{DepotTold}
 use Rattle.join_tree.specs.Mains.{IsMain, IsRoot}
 use Rattle.join_tree.specs.Progress.{Progress, reading}
-use Rattle.join_tree.specs.Told.{is_table_word}
+use Rattle.join_tree.specs.Notes.{is_table_note}
 use Rattle.join_tree.proofs.Growing.{main_reads}
 use Rattle.res_ledger.specs.declared.event.Event.{Event}
 use Rattle.res_ledger.specs.declared.event.What.{What}
 use Rattle.res_ledger.specs.declared.event.What.TheVariants.{Acquire}
 use Rattle.res_ledger.specs.Own.{leased_of}
 use Rattle.scope_tree.specs.Calls.{IsOpenScope, Seen, used}
-use Rattle.scope_tree.specs.Words.{owed}
+use Rattle.scope_tree.specs.Trace.{owed}
 use Rattle.tree_laws.specs.Alone.{StaysAlone}
 use Rattle.outer_tables.specs.declared.not_read.NotRead.{NotRead}
 use Rattle.outer_tables.specs.declared.not_read.NotRead.TheVariants as why
@@ -64,8 +64,8 @@ what_among e L (here ys) = here (map (λ (x : Event). x.what) ys)
 what_among e L (there {xs = ys} y m) = there y.what (what_among e ys m)
 
 module _ {V : Type 0} (ends : V → Exit → Bool → V → Type 0) (r : ℕ) (ps : List V) (a b : Seen V) (f : AcquiresRows ends r ps a b) where
-  new_words : (e : Event) → IsAmong e f.events → IsAmong e.what (acquires r (length ps))
-  new_words e m = subst (λ l. IsAmong e.what l) f.noted (what_among e f.events m)
+  new_notes : (e : Event) → IsAmong e f.events → IsAmong e.what (acquires r (length ps))
+  new_notes e m = subst (λ l. IsAmong e.what l) f.noted (what_among e f.events m)
 
   events_are : (e : Event) → IsAmong e b.seat.events → IsAmong e a.seat.events ⊎ IsAmong e f.events
   events_are e m = among_append e a.seat.events f.events (subst (λ l. IsAmong e l) (ap (λ s. s.seat.events) f.tree) m)
@@ -80,7 +80,7 @@ module _ {V : Type 0} (ends : V → Exit → Bool → V → Type 0) (r : ℕ) (p
     out = ap (λ s. s.seat.out) t;
     events = λ e m. ⊎_elim
         (λ i. inl i)
-        (λ i. inr (among_each (λ (x : Event). x.by ≡ a.seat.by) e f.events f.own i ∙ sym (ap (λ s. s.seat.by) t), let w = acquires_only r (length ps) e.what (new_words e i) in ap leased_of w.1))
+        (λ i. inr (among_each (λ (x : Event). x.by ≡ a.seat.by) e f.events f.own i ∙ sym (ap (λ s. s.seat.by) t), let w = acquires_only r (length ps) e.what (new_notes e i) in ap leased_of w.1))
         (events_are e m);
   }
 
@@ -88,8 +88,8 @@ module _ {V : Type 0} (ends : V → Exit → Bool → V → Type 0) (r : ℕ) (p
   pub rows_main : (width n : ℕ) (p : Progress V) → IsMain ends width n a p → p.root ≡ None → IsMain ends width n b (reading p (acquires r (length ps)))
   rows_main width n p h root =
       main_reads a b p (acquires r (length ps)) h root f.calls stays_alone (f.scopes.usable 0 (subst (λ i. IsRoot a i) root h.root))
-      (λ e m. ⊎_elim (λ i. inl i) (λ i. inr (new_words e i)) (events_are e m))
-      (λ w m. let x = acquires_only r (length ps) w m in ap is_table_word x.1)
+      (λ e m. ⊎_elim (λ i. inl i) (λ i. inr (new_notes e i)) (events_are e m))
+      (λ w m. let x = acquires_only r (length ps) w m in ap is_table_note x.1)
 
 -- so far all were read, and the dictionaries have their values
 pub record AreReadSoFar {V : Type 0} (told : V → DeviceTold) (ends : V → Exit → Bool → V → Type 0) (paths : List (List ℕ)) (old new : DepotTold) (a b : Seen V) (ds : List Dictionary) : Type 0 where

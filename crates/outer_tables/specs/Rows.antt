@@ -9,7 +9,7 @@ use Rattle.res_ledger.specs.declared.event.What.{What}
 use Rattle.res_ledger.specs.declared.event.What.TheVariants.{Acquire}
 use Rattle.row_seat.specs.Views.{IsWithin, paid, run}
 use Rattle.scope_tree.specs.Calls.{KeepsScopes, Seen, TakesRoom}
-use Rattle.scope_tree.specs.Words.{owed}
+use Rattle.scope_tree.specs.Trace.{owed}
 use Rattle.tree_laws.specs.Called.{Called}
 use Rattle.outer_tables.specs.declared.not_read.NotRead.{NotRead}
 use Rattle.outer_tables.specs.Whole.{ReadsWhole}

@@ -4,7 +4,7 @@ ghost use Rattle.chunk_core.specs.Lists.{IsAmong};
 ghost use Rattle.row_seat.specs.Views.{HasRow, OthersFit};
 ghost use Rattle.scope_tree.specs.Calls.{IsOpenScope, used};
 ghost use Rattle.scope_tree.specs.Trees.{Fits, seen};
-ghost use Rattle.scope_tree.specs.Words.{owed};
+ghost use Rattle.scope_tree.specs.Trace.{owed};
 ghost use Rattle.outer_tables.specs.Rows.{ReadsRow};
 ghost use Rattle.pull_stepper.specs.Held.{FinishesDevice};
 ghost use Rattle.outer_tables.specs.Tables.{ReadsTable};

@@ -26,7 +26,7 @@ use Rattle.res_ledger.specs.Streams.{by_stream}
 use Rattle.par_join.specs.declared.outcome.Outcome.{Outcome}
 use Rattle.joined_runs.specs.Together.{elements_in_pieces}
 use Rattle.par_join.specs.Alone.{alone, frame_of, IsEnough, RunsAlone}
-use Rattle.par_join.specs.Cat.{deed_of}
+use Rattle.par_join.specs.Cat.{run_record_of}
 use Rattle.par_join.proofs.Accounts.{clean, root_closed, told_as_ended}
 use Rattle.par_join.proofs.AloneWork.{accounted, keeps_rules, homes, shown, faultless}
 use Rattle.par_join.proofs.CutFrames.{rest_is}
@@ -46,8 +46,8 @@ module _ (places : List Place) (scopes : ℕ) (runs ideal : (ℕ → DeviceTold)
   abbrev cut : Option Frame
   cut = cut_of 0 o.sink_failed r.printed.next
 
-  abbrev deed : RunRecord
-  deed = deed_of old new frames cut r.printed.rest o
+  abbrev run_record : RunRecord
+  run_record = run_record_of old new frames cut r.printed.rest o
 
   abbrev given : List Element
   given = elements_in_pieces r.printed.pieces
@@ -68,7 +68,7 @@ module _ (places : List Place) (scopes : ℕ) (runs ideal : (ℕ → DeviceTold)
   output : IsOutput work no_values r.home frames 0 r.how
   output = record { elements = given; end = r.run.end; run = r.run.run; printed = payloads_pieces 0 r.printed.pieces; reported = r.run.reported }
 
-  outputs : HaveOutputs work deed no_values r.home
+  outputs : HaveOutputs work run_record no_values r.home
   outputs = record {
     numbers = pieces_numbers 0 1 (omega arith) r.printed.pieces r.printed.some;
     few = tt;
@@ -85,13 +85,13 @@ module _ (places : List Place) (scopes : ℕ) (runs ideal : (ℕ → DeviceTold)
   any_last (Some j) = refl
   any_last None = refl
 
-  silenced : o.sink_failed ≡ true → silence_stops work deed (Inner 0) ≡ true
-  silenced t = and_true (is_silenced work deed) (elim (last_stream deed) [ Some j ↦ may_stop work (Inner j) (Inner 0) | None ↦ true ]) (or_left (is_some cut) false (cut_is 0 o.sink_failed r.printed.next ∙ t)) (any_last (last_stream deed))
+  silenced : o.sink_failed ≡ true → silence_stops work run_record (Inner 0) ≡ true
+  silenced t = and_true (is_silenced work run_record) (elim (last_stream run_record) [ Some j ↦ may_stop work (Inner j) (Inner 0) | None ↦ true ]) (or_left (is_some cut) false (cut_is 0 o.sink_failed r.printed.next ∙ t)) (any_last (last_stream run_record))
 
-  ends : IsCovered → HaveEnds work deed r.home
+  ends : IsCovered → HaveEnds work run_record r.home
   ends h = record {
     named = subst (λ es. map (λ (e : EndOf). e.who) es ≡ names_of work) (sym r.ends) refl;
-    caused = subst (λ es. AllByRecursion (EndIsCaused work deed) es) (sym r.ends) (
+    caused = subst (λ es. AllByRecursion (EndIsCaused work run_record) es) (sym r.ends) (
       record {
         halted = λ t. ⊎_elim (λ f. inl (silenced f)) (λ m. inr (⊎_elim (λ w. inl w) (λ e. absurd (no_limit e)) m)) (r.run.halted t);
         fault = shown places scopes runs ideal old new r.home r.how o.ledger r.devices r.account r.how h.shown;
@@ -104,7 +104,7 @@ module _ (places : List Place) (scopes : ℕ) (runs ideal : (ℕ → DeviceTold)
     memory = λ t. r.run.remembered (or_false (is_memory r.how) (subst (λ es. any (λ (e : EndOf). is_memory e.how) es ≡ true) r.ends t));
   }
 
-  complete : IsCovered → o.memory ≡ false → NothingFailed work deed no_values r.home → IsWholeRun work deed no_values r.home
+  complete : IsCovered → o.memory ≡ false → NothingFailed work run_record no_values r.home → IsWholeRun work run_record no_values r.home
   complete h m n =
       let written : o.sink_failed ≡ false = sym (cut_is 0 o.sink_failed r.printed.next) ∙ ap (λ (f : Option Frame). is_some f) n.written in
       let calm = faultless places scopes runs ideal old new r.home r.how o.ledger r.devices r.account n.devices in
@@ -118,7 +118,7 @@ module _ (places : List Place) (scopes : ℕ) (runs ideal : (ℕ → DeviceTold)
       }
 
   -- the work was done
-  pub performs_alone : IsCovered → Performs work deed
+  pub performs_alone : IsCovered → Performs work run_record
   performs_alone h = record {
     devices = subst (λ ps. DevicesAccounted old new ps o.ledger) (sym (append-nil places)) (accounted places scopes runs ideal old new r.home r.how o.ledger r.devices r.account);
     ledger = keeps_rules places scopes runs ideal old new r.home r.how o.ledger r.devices r.account;

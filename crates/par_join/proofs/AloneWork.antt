@@ -19,7 +19,7 @@ use Rattle.run_rules.specs.Rules.{KeepsRules}
 use Rattle.res_ledger.proofs.Permuted.{range_among, range_distinct}
 use Rattle.par_join.specs.declared.outcome.Outcome.{Outcome}
 use Rattle.par_join.specs.Alone.{alone, frame_of, ComesBack, IsAccount}
-use Rattle.par_join.specs.Cat.{deed_of}
+use Rattle.par_join.specs.Cat.{run_record_of}
 use Rattle.joined_runs.specs.Devices.{MadeComeBack}
 use Rattle.collected.proofs.Returned.{are_made, places_are}
 use Rattle.par_join.proofs.Accounts.{kept, leaves_closed, ours}
@@ -63,8 +63,8 @@ module _ (places : List Place) (scopes : ℕ) (runs ideal : (ℕ → DeviceTold)
   }
 
   -- the rows are at home
-  pub homes : (v : Values) (pieces : List (List Element)) (cut : Option Frame) (rest : List ℕ) (o : Outcome) → o.ledger ≡ L → HaveHomes work (deed_of old new (map (frame_of 0) pieces) cut rest o) v w
-  homes v pieces cut rest o is = made.homes places old new w every L (kept (length places) scopes w h L a) work (deed_of old new (map (frame_of 0) pieces) cut rest o) v (append-nil places) refl refl is tt
+  pub homes : (v : Values) (pieces : List (List Element)) (cut : Option Frame) (rest : List ℕ) (o : Outcome) → o.ledger ≡ L → HaveHomes work (run_record_of old new (map (frame_of 0) pieces) cut rest o) v w
+  homes v pieces cut rest o is = made.homes places old new w every L (kept (length places) scopes w h L a) work (run_record_of old new (map (frame_of 0) pieces) cut rest o) v (append-nil places) refl refl is tt
 
   -- a fault of an act has a device of a row that shows it
   pub shown : (e : How) → ((c : Code) → e ≡ how.Fault c → IfSome (act_count c) (λ n. (r : ℕ) × (r < length places) × (0 < n (w r)))) → is_shown (came_back old new) places e ≡ true

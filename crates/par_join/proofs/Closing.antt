@@ -18,7 +18,7 @@ use Rattle.row_seat.specs.declared.view.View.{View}
 use Rattle.row_seat.specs.Views.{IsLedgerOf}
 use Rattle.scope_tree.specs.declared.branch.Spent.{Spent}
 use Rattle.scope_tree.specs.Released.{said}
-use Rattle.scope_tree.specs.Words.{words}
+use Rattle.scope_tree.specs.Trace.{trace}
 use Rattle.tree_laws.specs.Shelves.{finals_of, noted_ends, shelf_ends}
 use Rattle.tree_laws.specs.Whole.{IsWholeLedger}
 use Rattle.run_rules.specs.Facts.{leased_stream}
@@ -30,15 +30,15 @@ use Rattle.job_runs.proofs.Closing.{Part, ShelfTells, lease_none, not_leased, pa
 module _ {P : Type 0} where
   -- The same of a tree that stayed alone, whose ledger is that of its own seat.
   module _ (v : View P) (L : List Event) (shelf : List (Spent P)) (count scopes : ℕ) (w : ℕ → DeviceTold) (how : How) (name : v.by ≡ Inner 0) (ledger : IsLedgerOf v L) (whole : IsWholeLedger L) (opened : length (opens (own (Inner 0) L)) ≤ scopes)
-      (alone : (e : Event) → IsAmong e v.events → (e.by ≡ v.by) × (leased_of e.what ≡ [])) (finals : noted_ends (words v) ≡ shelf_ends shelf) (closed : IsClosed v.events v.by 0) (exits : (x : Exit) → Notes v.events v.by (Close 0 x) → x ≡ exit_of how)
+      (alone : (e : Event) → IsAmong e v.events → (e.by ≡ v.by) × (leased_of e.what ≡ [])) (finals : noted_ends (trace v) ≡ shelf_ends shelf) (closed : IsClosed v.events v.by 0) (exits : (x : Exit) → Notes v.events v.by (Close 0 x) → x ≡ exit_of how)
       (tells : ShelfTells 0 count w shelf) where
     -- what was acquired has ended, and only the stream itself can have ended it
     over_alone : (r s : ℕ) → Notes v.events v.by (Acquire r s) → IsAmong r (firsts (said shelf))
     over_alone r s n =
         let f = ledger.ended r (v.by, s, (n.0, (ledger.whole n.0).1 n.1, n.2, n.3)) in
         let m = (ledger.whole f.2.1.0).0 f.2.1.1 in
-        let here_it : IsAmong (Final r f.2.0 f.1) (words v) = notes_own v.events v.by (Final r f.2.0 f.1) (f.2.1.0, m, (alone f.2.1.0 m).0, f.2.1.3) in
-        shelf_has shelf r f.2.0 f.1 (subst (λ l. IsAmong (r, f.2.0, f.1) l) finals (flat_holds finals_of (Final r f.2.0 f.1) (words v) (r, f.2.0, f.1) here_it (here [])))
+        let here_it : IsAmong (Final r f.2.0 f.1) (trace v) = notes_own v.events v.by (Final r f.2.0 f.1) (f.2.1.0, m, (alone f.2.1.0 m).0, f.2.1.3) in
+        shelf_has shelf r f.2.0 f.1 (subst (λ l. IsAmong (r, f.2.0, f.1) l) finals (flat_holds finals_of (Final r f.2.0 f.1) (trace v) (r, f.2.0, f.1) here_it (here [])))
 
     uncovered_alone : CoversNone 0 count L
     uncovered_alone j r q l c =

@@ -31,7 +31,7 @@ use Rattle.scope_tree.specs.Trees.{seen}
 use Rattle.stream_jobs.specs.declared.job.Job.{Job}
 use Rattle.stream_jobs.specs.Running.{Origin}
 use Rattle.stream_parts.specs.Retire.{MayReturnAll, Returns}
-use Rattle.par_join.specs.Cat.{deed_of}
+use Rattle.par_join.specs.Cat.{run_record_of}
 use Rattle.par_join.specs.Plans.{RunsPlan}
 use Rattle.par_join.specs.declared.outcome.Outcome.{Outcome}
 
@@ -67,7 +67,7 @@ module _ {S V F D T : Type 0} (view : S → View V) (told : V → DeviceTold) (f
 
     module _ (last : DepotTold) (again : Returns depot last (all_left told (seen view c.tree).shelf c.left.items)) (o : Outcome) (ledger : o.ledger ≡ L) (failed : o.sink_failed ≡ c.report.sink_failed) (memory : o.memory ≡ c.report.memory)
         (names : map (λ (e : EndOf). e.who) o.ends ≡ Outer ∷ names_below (count_of c.report)) (hows : map (λ (e : EndOf). e.how) o.ends ≡ it.outer ∷ c.report.streams.hows) where
-      abbrev its_run : IsRunOf p it.outer i.tale L d0 last (deed_of d0 last (frames_of i.tale.front) i.tale.cut i.telling.wrote.rest o)
+      abbrev its_run : IsRunOf p it.outer i.tale L d0 last (run_record_of d0 last (frames_of i.tale.front) i.tale.cut i.telling.wrote.rest o)
       its_run = record {
         depot_old = refl;
         depot_new = refl;
@@ -96,8 +96,8 @@ module _ {S V F D T : Type 0} (view : S → View V) (told : V → DeviceTold) (f
         cut = i.tale.cut;
         rest = i.telling.wrote.rest;
         broke = broke;
-        performs = plan_together p limits (deed_of d0 last (frames_of i.tale.front) i.tale.cut i.telling.wrote.rest o)
-            (together view told P says p limits d0 depot t it.outer (seen view c.tree) c.left.items c.receiver i.tale it.collected L s last (deed_of d0 last (frames_of i.tale.front) i.tale.cut i.telling.wrote.rest o) again its_run);
+        performs = plan_together p limits (run_record_of d0 last (frames_of i.tale.front) i.tale.cut i.telling.wrote.rest o)
+            (together view told P says p limits d0 depot t it.outer (seen view c.tree) c.left.items c.receiver i.tale it.collected L s last (run_record_of d0 last (frames_of i.tale.front) i.tale.cut i.telling.wrote.rest o) again its_run);
         wrote = i.telling.wrote.wrote ∙ ap (λ b. record (with_bytes s0 (frames_text (frames_of i.tale.front) ++ i.telling.wrote.rest)) { faults = cond b (s0.faults + 1) s0.faults }) broke;
         begun = λ e. absurd (some_end o.ends e names);
       }

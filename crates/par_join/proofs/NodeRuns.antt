@@ -27,7 +27,7 @@ use Rattle.res_ledger.specs.Own.{opens}
 use Rattle.row_seat.specs.Views.{IsWithin}
 use Rattle.scope_tree.specs.Calls.{ClosesScope, Seen, TakesRoom, used}
 use Rattle.scope_tree.specs.Released.{said}
-use Rattle.scope_tree.specs.Words.{owed, words}
+use Rattle.scope_tree.specs.Trace.{owed, trace}
 use Rattle.scope_tree.proofs.Owning.{owner_pays}
 use Rattle.scope_tree.proofs.Use.{closed_now}
 use Rattle.tree_laws.specs.Alone.{StaysAlone}
@@ -78,7 +78,7 @@ module _ {V : Type 0} (told : V → DeviceTold) (n : Node) (devices : List V) (t
 
   -- calls that spent no more than the node counts left that room
   uses_no_more : (x : Seen V) → b ≡ x → Called (FinishesDevice told) a [] x
-      → (a.seat.spare ≤ x.seat.spare + (2 * length (places_of n) + 2 * scope_count n + 1)) → (length (opens (words x.seat)) ≤ length (opens (words a.seat)) + scope_count n) → (used x ≤ x.rows → used x ≤ used a + length (places_of n)) → UsesNoMore n a b
+      → (a.seat.spare ≤ x.seat.spare + (2 * length (places_of n) + 2 * scope_count n + 1)) → (length (opens (trace x.seat)) ≤ length (opens (trace a.seat)) + scope_count n) → (used x ≤ x.rows → used x ≤ used a + length (places_of n)) → UsesNoMore n a b
   uses_no_more x is calls events scopes rows =
       let limits = room_along (omega (arith, room.scopes)) calls in
       subst (λ (y : Seen V). owed y.seat ≡ 0 → used y ≤ y.rows → UsesNoMore n a y) (sym is) (λ o u. record { owed = o; events = events; scopes = scopes; rows = rows u; most_scopes = limits.1; most_rows = limits.2 }) over sound

@@ -17,7 +17,7 @@ use Rattle.row_seat.specs.Views.{IsLedgerOf, IsWithin, run, start}
 use Rattle.scope_tree.specs.declared.branch.Spent.{Spent}
 use Rattle.scope_tree.specs.Calls.{AtStart, Seen}
 use Rattle.res_ledger.specs.Own.{opens, own}
-use Rattle.scope_tree.specs.Words.{words}
+use Rattle.scope_tree.specs.Trace.{trace}
 use Rattle.scope_tree.proofs.Tidy.{ledger_by, own_by}
 use Rattle.tree_laws.proofs.Alone.{alone_whole, first_at_start}
 use Rattle.tree_laws.proofs.Kept.{called_rises}
@@ -111,7 +111,7 @@ module _ {V : Type 0} (told : V → DeviceTold) where
     named = runs.alone.by ∙ ap (λ v. v.by) fresh
 
     -- what the ledger has of the stream is what it noted
-    noted_is : own b.seat.by L ≡ words b.seat
+    noted_is : own b.seat.by L ≡ trace b.seat
     noted_is = own_by b.seat.by L ∙ ap (map (λ (e : Event). e.what)) (ledger_by b.seat L b.seat.by ledger (called_rises begins runs.calls)) ∙ sym (own_by b.seat.by b.seat.events)
 
     -- no more scopes were opened than there was room for

@@ -22,7 +22,7 @@ use Rattle.run_rules.specs.Run.{Performs}
 use Rattle.run_rules.specs.Work.{Opener, Work, all_places, names_of, scopes_by}
 use Rattle.res_ledger.proofs.Stamps.{stamped_sound}
 use Rattle.par_join.specs.declared.outcome.Outcome.{Outcome}
-use Rattle.par_join.specs.Cat.{cat_work, deed_of, RunsCat}
+use Rattle.par_join.specs.Cat.{cat_work, run_record_of, RunsCat}
 
 no_middle : {A : Type 0} (P Q : List A) (e : A) → [] ≡ P ++ e ∷ Q → ⊥
 no_middle [] Q e is = cc
@@ -71,7 +71,7 @@ abbrev pub unmade_outcome : Outcome
 unmade_outcome = record { ends = []; ledger = []; sink_failed = false; memory = true }
 
 -- where nothing was begun each work was done
-pub performs_nothing : (work : Work) (old : DepotTold) → Performs work (deed_of old old [] None [] unmade_outcome)
+pub performs_nothing : (work : Work) (old : DepotTold) → Performs work (run_record_of old old [] None [] unmade_outcome)
 performs_nothing work old =
     let places = all_places work in
     record {

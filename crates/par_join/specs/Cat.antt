@@ -25,8 +25,8 @@ IdealFileRuns d = ReadsWhole d
 abbrev pub cat_work : List ℕ → Work
 cat_work path = record { opener = None; streams = record { places = to_read path ∷ []; scopes = 0; until = None } ∷ []; runs = λ k v w. FileRuns (w 0); ideal_runs = λ k v w. IdealFileRuns (w 0) }
 
-abbrev pub deed_of : DepotTold → DepotTold → List Frame → Option Frame → List ℕ → Outcome → RunRecord
-deed_of old new frames cut rest o = record { depot_old = old; depot_new = new; ends = o.ends; events = o.ledger; frames = frames; cut = cut; rest = rest; memory = o.memory }
+abbrev pub run_record_of : DepotTold → DepotTold → List Frame → Option Frame → List ℕ → Outcome → RunRecord
+run_record_of old new frames cut rest o = record { depot_old = old; depot_new = new; ends = o.ends; events = o.ledger; frames = frames; cut = cut; rest = rest; memory = o.memory }
 
 -- no frame has more than size bytes, nor has the one whose write failed
 pub record FramesAreWithin (size : ℕ) (frames : List Frame) (cut : Option Frame) : Type 0 where
@@ -40,6 +40,6 @@ pub record RunsCat (path : List ℕ) (chunk : ℕ) (depot_old depot_new : DepotT
   pub rest : List ℕ
   pub broke : is_some cut ≡ o.sink_failed
   pub within : FramesAreWithin chunk frames cut
-  pub performs : Performs (cat_work path) (deed_of depot_old depot_new frames cut rest o)
+  pub performs : Performs (cat_work path) (run_record_of depot_old depot_new frames cut rest o)
   pub wrote : new ≡ record (with_bytes old (frames_text frames ++ rest)) { faults = and_one o.sink_failed old.faults }
   pub begun : o.ends ≡ [] → (o.sink_failed ≡ false) × (o.memory ≡ true)

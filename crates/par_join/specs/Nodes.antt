@@ -20,7 +20,7 @@ use Rattle.scope_tree.specs.declared.branch.Spent.{Spent}
 use Rattle.scope_tree.specs.Calls.{IsClosedScope, Seen, used}
 use Rattle.std.specs.List.{IsDistinct}
 use Rattle.scope_tree.specs.Released.{said}
-use Rattle.scope_tree.specs.Words.{owed, words}
+use Rattle.scope_tree.specs.Trace.{owed, trace}
 use Rattle.tree_laws.specs.Alone.{StaysAlone}
 use Rattle.tree_laws.specs.Called.{Called}
 use Rattle.pull_stepper.specs.Held.{FinishesDevice}
@@ -36,7 +36,7 @@ module _ {V : Type 0} where
   pub record UsesNoMore (n : Node) (a b : Seen V) : Type 0 where
     pub owed : owed b.seat ≡ 0
     pub events : a.seat.spare ≤ b.seat.spare + (2 * length (places_of n) + 2 * scope_count n + 1)
-    pub scopes : length (opens (words b.seat)) ≤ length (opens (words a.seat)) + scope_count n
+    pub scopes : length (opens (trace b.seat)) ≤ length (opens (trace a.seat)) + scope_count n
     pub rows : used b ≤ used a + length (places_of n)
     pub most_scopes : b.scopes ≡ a.scopes
     pub most_rows : b.rows ≡ a.rows

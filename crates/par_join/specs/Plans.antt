@@ -7,7 +7,7 @@ use Rattle.pipeline_desc.specs.Meant.{PlanMeant}
 use Rattle.run_rules.specs.Run.{Performs}
 use Rattle.par_join.specs.declared.outcome.Outcome.{Outcome}
 use Rattle.par_join.specs.Alone.{and_one}
-use Rattle.par_join.specs.Cat.{deed_of}
+use Rattle.par_join.specs.Cat.{run_record_of}
 use Rattle.plan_work.specs.Plans.{run_work}
 
 -- the work of a plan was done, and the sink got the frames, and what was written of the one whose write failed
@@ -16,6 +16,6 @@ pub record RunsPlan (p : PlanMeant) (depot_old depot_new : DepotTold) (old new :
   pub cut : Option Frame
   pub rest : List ℕ
   pub broke : is_some cut ≡ o.sink_failed
-  pub performs : Performs (run_work p) (deed_of depot_old depot_new frames cut rest o)
+  pub performs : Performs (run_work p) (run_record_of depot_old depot_new frames cut rest o)
   pub wrote : new ≡ record (with_bytes old (frames_text frames ++ rest)) { faults = and_one o.sink_failed old.faults }
   pub begun : o.ends ≡ [] → (o.sink_failed ≡ false) × (o.memory ≡ true)

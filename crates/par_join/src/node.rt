@@ -5,7 +5,7 @@ ghost use Rattle.chunk_core.specs.declared.code.How.TheVariants as how;
 ghost use Rattle.row_seat.specs.Views.{OthersFit};
 ghost use Rattle.scope_tree.specs.Calls.{ClosesScope, IsOpenScope, TakesRoom};
 ghost use Rattle.scope_tree.specs.Trees.{Fits, seen};
-ghost use Rattle.scope_tree.specs.Words.{owed};
+ghost use Rattle.scope_tree.specs.Trace.{owed};
 ghost use Rattle.pull_stepper.specs.Held.{FinishesDevice};
 ghost use Rattle.pull_stepper.specs.Stepping.{HasRoomFor, IsSupplied};
 ghost use Rattle.csv_pipes.specs.Dictionaries.{values_of};

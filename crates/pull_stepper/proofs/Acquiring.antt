@@ -22,7 +22,7 @@ use Rattle.scope_tree.specs.declared.branch.AcquiredRow.{AcquiredRow}
 use Rattle.scope_tree.specs.Calls.{AcquiresRow as Acquired, IsOpenScope, Seen, used}
 use Rattle.scope_tree.specs.Kept.{Kept}
 use Rattle.scope_tree.specs.Released.{said}
-use Rattle.scope_tree.specs.Words.{acquiring, numbers, own_rows, owed, words}
+use Rattle.scope_tree.specs.Trace.{acquiring, numbers, own_rows, owed, trace}
 use Rattle.scope_tree.proofs.Distinct.{strangers_less}
 use Rattle.scope_tree.proofs.Grows.{acquired_opens, acquired_rows, acquired_scopes}
 use Rattle.scope_tree.proofs.Grown.{within_opens}
@@ -73,7 +73,7 @@ module _ {V : Type 0} (told : V → DeviceTold) (x : Site V) (s p n : ℕ) (d e 
       ap (λ o. told_by told o (pay_of after q)) (slot_still x p d is None q ne)
       ∙ ap (told_by told (slot x q)) (pay_back q (x.tree.seat.opened ++ (p, e) ∷ []) x.tree.seat.opened (pays x.tree.shelf) (pay_snoc q x.tree.seat.opened (p, e) (λ i. ne (sym i))))
 
-  rows_now : rows (words after.seat) ≡ rows (words x.tree.seat) ++ (p, s) ∷ []
+  rows_now : rows (trace after.seat) ≡ rows (trace x.tree.seat) ++ (p, s) ∷ []
   rows_now = acquired_rows x.tree.seat bs hs p s n e k u empty free
 
   holds_still : (q i : ℕ) → (around told x).holds q i → (around told site').holds q i
@@ -107,18 +107,18 @@ module _ {V : Type 0} (told : V → DeviceTold) (x : Site V) (s p n : ℕ) (d e 
   used_now : used after ≤ used x.tree + 1
   used_now =
       let F = firsts (said x.tree.shelf) in let own = own_rows x.tree.seat in
-      let l : length (rows (words after.seat)) ≡ length (rows (words x.tree.seat)) + 1 = ap length rows_now ∙ length-append (rows (words x.tree.seat)) ((p, s) ∷ []) in
-      let m = strangers_less own (own_rows after.seat) F (λ r i. subst (λ l. IsAmong r (numbers l)) (sym rows_now) (numbers_more (rows (words x.tree.seat)) (p, s) r i)) in
+      let l : length (rows (trace after.seat)) ≡ length (rows (trace x.tree.seat)) + 1 = ap length rows_now ∙ length-append (rows (trace x.tree.seat)) ((p, s) ∷ []) in
+      let m = strangers_less own (own_rows after.seat) F (λ r i. subst (λ l. IsAmong r (numbers l)) (sym rows_now) (numbers_more (rows (trace x.tree.seat)) (p, s) r i)) in
       omega (l, m, arith)
 
   acquires : AcquiresDevice (around told x) s p (around told site')
   acquires =
-      let os : length (opens (words after.seat)) ≡ length (opens (words x.tree.seat)) = ap length (acquired_opens x.tree.seat bs hs p s n e k u empty free) in
+      let os : length (opens (trace after.seat)) ≡ length (opens (trace x.tree.seat)) = ap length (acquired_opens x.tree.seat bs hs p s n e k u empty free) in
       let sc = acquired_scopes x.tree.seat bs hs p s n e k u empty free in let l = length-append x.tree.seat.opened ((p, e) ∷ []) in let us = used_now in record {
         told = told_now;
         keeps = keeps;
         holds = holds_still;
-        held = (subst (λ l. IsAmong (p, s) l) (sym rows_now) (among_last (rows (words x.tree.seat)) (p, s)), (e, among_last x.tree.seat.opened (p, e)));
+        held = (subst (λ l. IsAmong (p, s) l) (sym rows_now) (among_last (rows (trace x.tree.seat)) (p, s)), (e, among_last x.tree.seat.opened (p, e)));
         events = omega (sc, l, free, arith);
         scopes = omega (os, arith);
         rows = omega (us, arith);

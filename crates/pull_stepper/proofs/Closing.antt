@@ -13,7 +13,7 @@ use Rattle.res_ledger.specs.Own.{closes_of}
 use Rattle.res_ledger.proofs.Noted.{flat_holds, notes_own, own_notes}
 use Rattle.scope_tree.specs.Calls.{ClosesScope, IsOpenScope, Seen}
 use Rattle.scope_tree.specs.Released.{said}
-use Rattle.scope_tree.specs.Words.{words}
+use Rattle.scope_tree.specs.Trace.{trace}
 use Rattle.scope_tree.proofs.Grown.{closes_finals}
 use Rattle.scope_tree.proofs.Use.{closed_said}
 
@@ -31,7 +31,7 @@ module _ {P : Type 0} {ends : P → Exit → Bool → P → Type 0} {a b : Seen 
       (λ z. inr (same_close m s y e z))
       (λ j. absurd (among_nil (subst (λ l. IsAmong m l) (closes_finals e (said c.torn.0)) (flat_holds closes_of (Close m y) F m j (here [])))))
       (among_cons i))
-      (among_append (Close m y) (words a.seat) (Close s e ∷ F) (subst (λ E. IsAmong (Close m y) E) (closed_said c) (notes_own b.seat.events b.seat.by (Close m y) n)))
+      (among_append (Close m y) (trace a.seat) (Close s e ∷ F) (subst (λ E. IsAmong (Close m y) E) (closed_said c) (notes_own b.seat.events b.seat.by (Close m y) n)))
 
   -- of the scope it is the only one
   pub closed_as : IsOpenScope a s → (y : Exit) → Notes b.seat.events b.seat.by (Close s y) → y ≡ e
@@ -41,4 +41,4 @@ module _ {P : Type 0} {ends : P → Exit → Bool → P → Type 0} {a b : Seen 
   close_noted y i =
       let F = finals e (said c.torn.0) in
       own_notes b.seat.events b.seat.by (Close s y)
-      (subst (λ E. IsAmong (Close s y) E) (sym (closed_said c)) (subst (λ z. IsAmong (Close s y) (words a.seat ++ Close s z ∷ F)) i (among_mid (words a.seat) F (Close s y))))
+      (subst (λ E. IsAmong (Close s y) E) (sym (closed_said c)) (subst (λ z. IsAmong (Close s y) (trace a.seat ++ Close s z ∷ F)) i (among_mid (trace a.seat) F (Close s y))))

@@ -25,7 +25,7 @@ use Rattle.scope_tree.proofs.Lists.{keep_row, lose_row}
 use Rattle.scope_tree.proofs.Once.{gone_without, once_without}
 use Rattle.scope_tree.proofs.Owning.{finished_open, owner_pays}
 use Rattle.pull_stepper.specs.Held.{FinishesDevice, closed_as}
-use Rattle.pull_stepper.specs.Sites.{IsSpent, pay_in, pays, told_or}
+use Rattle.pull_stepper.specs.Sites.{IsClosedDevice, pay_in, pays, told_or}
 use Rattle.pull_stepper.proofs.Payloads.{pay_back, pay_front, pay_here, pay_left, pay_once, pay_past, pay_right, pay_without, pays_append}
 use Rattle.pull_stepper.proofs.Tellings.{IsSameOrShut, shut_then}
 
@@ -75,15 +75,15 @@ module _ {V : Type 0} where
         (cases_eq y.row q)
 
   module _ (told : V → DeviceTold) (once : (d : V) → (told d).is_open ≡ true → ((told d).opens ≡ 1) × ((told d).closes ≡ 0) × ((told d).close_faults ≡ 0)) where
-    closed_spent : (x : Exit) (d e : V) (ok : Bool) → (told d).is_open ≡ true → told e ≡ closed_as x ok (told d) → IsSpent (told e) x ok
-    closed_spent x d e true o h = let k = once d o in record {
+    is_closed_device : (x : Exit) (d e : V) (ok : Bool) → (told d).is_open ≡ true → told e ≡ closed_as x ok (told d) → IsClosedDevice (told e) x ok
+    is_closed_device x d e true o h = let k = once d o in record {
       is_open = ap (λ t. t.is_open) h;
       opens = ap (λ t. t.opens) h ∙ k.0;
       closes = ap (λ t. t.closes) h ∙ ap (λ n. n + 1) k.1;
       exit = ap (λ t. t.exit) h;
       answer = sym (ap (λ n. nat_eq n 0) (ap (λ t. t.close_faults) h ∙ k.2));
     }
-    closed_spent x d e false o h = let k = once d o in record {
+    is_closed_device x d e false o h = let k = once d o in record {
       is_open = ap (λ t. t.is_open) h;
       opens = ap (λ t. t.opens) h ∙ k.0;
       closes = ap (λ t. t.closes) h ∙ ap (λ n. n + 1) k.1;
@@ -102,10 +102,10 @@ module _ {V : Type 0} where
           bare_noted v (finalized e u y n) z (λ j s i. apart i refl) (ap (λ t. t.by) g.same) (ap (λ t. t.events ++ z ∷ []) g.same) (λ q h. (h.0, less_open v u y n l q h.0 h.1)) b
 
       -- each device that ended was opened, and closed with this exit
-      pub ended_spent : {T : List ℕ} {v w : View V} {ys : List (Spent V)} (y : Spent V) → Released (FinishesDevice told) e owner T v ys w → HasOpen told v → IsAmong y ys → IsSpent (told y.pay) y.exit y.ok
-      ended_spent y t o i =
+      pub ended_device : {T : List ℕ} {v w : View V} {ys : List (Spent V)} (y : Spent V) → Released (FinishesDevice told) e owner T v ys w → HasOpen told v → IsAmong y ys → IsClosedDevice (told y.pay) y.exit y.ok
+      ended_device y t o i =
           let a = owner_pays y t i in
-          subst (λ x. IsSpent (told y.pay) x y.ok) (sym a.2) (closed_spent e a.0 y.pay y.ok (o y.row a.0 a.1) (a.3.closed (o y.row a.0 a.1)))
+          subst (λ x. IsClosedDevice (told y.pay) x y.ok) (sym a.2) (is_closed_device e a.0 y.pay y.ok (o y.row a.0 a.1) (a.3.closed (o y.row a.0 a.1)))
 
       pub ended_bare : {T : List ℕ} {v w : View V} {ys : List (Spent V)} → Released (FinishesDevice told) e owner T v ys w → IsBare v → IsBare w
       ended_bare (done v) b = b

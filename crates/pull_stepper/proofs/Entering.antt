@@ -21,7 +21,7 @@ use Rattle.scope_tree.specs.Kept.{Kept}
 use Rattle.res_ledger.specs.Order.{firsts}
 use Rattle.scope_tree.specs.Rows.{strangers}
 use Rattle.scope_tree.specs.Released.{said}
-use Rattle.scope_tree.specs.Words.{numbers, opening, owed, words}
+use Rattle.scope_tree.specs.Trace.{numbers, opening, owed, trace}
 use Rattle.scope_tree.proofs.Bridge.{within_cases}
 use Rattle.scope_tree.proofs.Grows.{back_closed, back_within, length_marks, opened_opens, opened_rows, opened_scopes}
 use Rattle.scope_tree.proofs.Beneath.{noted_scope, usable_scope}
@@ -118,7 +118,7 @@ module _ {V : Type 0} (told : V → DeviceTold) (x : Site V) (at n : ℕ) (bs : 
   entered : Enters (around told x) at (length bs) (around told (record x { tree = after }))
   entered =
       let s = opened_scopes x.tree.seat bs hs at n k u free in let p = k.rests.spare in let us = entered_used in
-      let os : length (opens (words after.seat)) ≡ length (opens (words x.tree.seat)) + 1 = ap length (opened_opens x.tree.seat bs hs at n k u free) ∙ length-append (opens (words x.tree.seat)) ((length bs, at) ∷ []) in record {
+      let os : length (opens (trace after.seat)) ≡ length (opens (trace x.tree.seat)) + 1 = ap length (opened_opens x.tree.seat bs hs at n k u free) ∙ length-append (opens (trace x.tree.seat)) ((length bs, at) ∷ []) in record {
         within = new_within;
         fresh = λ i o w. new_fresh i (usable_scope x.tree.seat bs hs k i o) w;
         opened = new_open;
@@ -146,7 +146,7 @@ module _ {V : Type 0} (told : V → DeviceTold) (ends : V → Exit → Bool → 
       subst (λ n. Enters (around told x) at n (around told (record x { tree = b }))) (sym number)
       (subst (λ t. Enters (around told x) at (length bs) (around told (record x { tree = t }))) (sym is_after) (entered told x at o.stamp bs hs k order u free))
 
-  pub enter_since : length (opens (words x.tree.seat)) + 1 < x.tree.scopes → Since told ends x (record x { tree = b })
+  pub enter_since : length (opens (trace x.tree.seat)) + 1 < x.tree.scopes → Since told ends x (record x { tree = b })
   enter_since room = record {
     calls = opened x.tree b at c none (record { root = root_open x.tree.seat bs hs k at u; known = u.0; room = room }) o;
     alone = alone_opens o;

@@ -20,7 +20,7 @@ use Rattle.scope_tree.specs.Kids.{whole}
 use Rattle.scope_tree.specs.Released.{Released, said}
 use Rattle.scope_tree.specs.Released.Holder.{owner}
 use Rattle.scope_tree.specs.Rows.{strangers}
-use Rattle.scope_tree.specs.Words.{closing, numbers, own_rows, shutting, words}
+use Rattle.scope_tree.specs.Trace.{closing, numbers, own_rows, shutting, trace}
 use Rattle.scope_tree.proofs.Beneath.{not_true', under_within, usable_scope, whole_is, whole_under}
 use Rattle.scope_tree.proofs.Distinct.{firsts_append, picks_among, said_append, strangers_append}
 use Rattle.scope_tree.proofs.Follows.{same_empty}
@@ -37,7 +37,7 @@ use Rattle.tree_laws.specs.Called.Called.{none, closed}
 use Rattle.pull_stepper.specs.Held.{FinishesDevice}
 use Rattle.pull_stepper.specs.Sites.{InOrder, Since, Site, around, pay_in, pay_of, pays, slot, told_at, told_or}
 use Rattle.pull_stepper.proofs.Closing.{close_noted, closed_as, known_close}
-use Rattle.pull_stepper.proofs.Ending.{HasOpen, IsBare, bare_noted, ended_bare, ended_spent, ended_told, open_or_ended}
+use Rattle.pull_stepper.proofs.Ending.{HasOpen, IsBare, bare_noted, ended_bare, ended_device, ended_told, open_or_ended}
 use Rattle.pull_stepper.proofs.Payloads.{pays_row}
 use Rattle.pull_stepper.proofs.Slots.{slot_place}
 use Rattle.pull_stepper.proofs.Standing.{open_row, row_scope}
@@ -73,7 +73,7 @@ module _ {V : Type 0} (told : V → DeviceTold) (once : (d : V) → (told d).is_
     gone = λ p i. ⊎_elim
         (λ o. ⊎_elim
         (λ h. inl h)
-        (λ y. inr (y.0, subst (λ l. IsAmong y.0 l) (sym c.torn.1) (among_right y.0 x.tree.shelf c.torn.0 y.1), y.2, ended_spent told once e y.0 c.torn.2 shut_open y.1))
+        (λ y. inr (y.0, subst (λ l. IsAmong y.0 l) (sym c.torn.1) (among_right y.0 x.tree.shelf c.torn.0 y.1), y.2, ended_device told once e y.0 c.torn.2 shut_open y.1))
         (open_or_ended told once e p c.torn.2 shut_bare o))
         (λ y. inr (y.0, subst (λ l. IsAmong y.0 l) (sym c.torn.1) (among_left c.torn.0 y.1), y.2, y.3))
         (order.gone p i);
@@ -90,7 +90,7 @@ module _ {V : Type 0} (told : V → DeviceTold) (once : (d : V) → (told d).is_
   left_gist q = shut_gist e (told_at told x q) (told_at told (record x { tree = b }) q) (left_told q)
 
   -- a row of a scope that isn't closed isn't either
-  kept_row : (q m : ℕ) → (LiesWithin x.tree.seat.events x.tree.seat.by m s → ⊥) → IsAmong (q, m) (rows (words x.tree.seat)) → HasRow x.tree.seat.opened q → HasRow b.seat.opened q
+  kept_row : (q m : ℕ) → (LiesWithin x.tree.seat.events x.tree.seat.by m s → ⊥) → IsAmong (q, m) (rows (trace x.tree.seat)) → HasRow x.tree.seat.opened q → HasRow b.seat.opened q
   kept_row q m l i h =
       owner_has q closed_whole
       (λ j. let w = whole_under bs hs q s kept_scope j in let z = one_scope q w.0 m hs k.mirrors.distinct w.1 (subst (λ y. IsAmong (q, m) y) k.mirrors.rows i) in l (subst (λ y. LiesWithin x.tree.seat.events x.tree.seat.by y s) z (under_within x.tree.seat bs hs k s w.0 w.2)))
@@ -122,7 +122,7 @@ module _ {V : Type 0} (told : V → DeviceTold) (once : (d : V) → (told d).is_
   left_closed : IsClosedWith (around told (record x { tree = b })) s e
   left_closed = record { gone = λ o. o.1 (closed_now c); exit = λ y. (closed_as c u y, close_noted c y) }
 
-  left_rows : rows (words b.seat) ≡ rows (words x.tree.seat)
+  left_rows : rows (trace b.seat) ≡ rows (trace x.tree.seat)
   left_rows = rows_same x.tree.seat b.seat bs hs c.torn.0 s c.stamp k u closed_whole
 
   left_keeps : Keeps (around told x) (λ q. ⊥) (λ c. c ≡ s) (around told (record x { tree = b }))
@@ -147,7 +147,7 @@ module _ {V : Type 0} (told : V → DeviceTold) (once : (d : V) → (told d).is_
       let ends' : firsts (said b.shelf) ≡ F ++ firsts (said c.torn.0) = ap (λ l. firsts (said l)) c.torn.1 ∙ ap firsts (said_append x.tree.shelf c.torn.0) ∙ firsts_append (said x.tree.shelf) (said c.torn.0) in
       let none' : strangers own (firsts (said c.torn.0)) ≡ 0 = strangers_none own (firsts (said c.torn.0)) (λ r m. let w = whole_under bs hs r s kept_scope (picks_among r (released_picks closed_whole) m) in subst (λ l. IsAmong r l) (sym (own_is x.tree.seat bs hs k)) (row_of_pair r w.0 hs w.1)) in
       let all : strangers (own_rows b.seat) (firsts (said b.shelf)) ≡ strangers own F = ap (λ l. strangers l (firsts (said b.shelf))) own_same ∙ ap (strangers own) ends' ∙ strangers_append own F (firsts (said c.torn.0)) ∙ ap (λ n. strangers own F + n) none' ∙ add-zero _ in
-      ap (λ n. n + strangers (own_rows b.seat) (firsts (said b.shelf))) (ap length left_rows) ∙ ap (λ n. length (rows (words x.tree.seat)) + n) all
+      ap (λ n. n + strangers (own_rows b.seat) (firsts (said b.shelf))) (ap length left_rows) ∙ ap (λ n. length (rows (trace x.tree.seat)) + n) all
 
   left_affords : Affords (around told x) (around told (record x { tree = b }))
   left_affords =

@@ -15,10 +15,10 @@ use Rattle.scope_tree.specs.declared.branch.Spent.{Spent}
 use Rattle.scope_tree.specs.Kept.{Kept}
 use Rattle.scope_tree.specs.Rows.{Once}
 use Rattle.scope_tree.specs.Released.{said}
-use Rattle.scope_tree.specs.Words.{words}
+use Rattle.scope_tree.specs.Trace.{trace}
 use Rattle.scope_tree.proofs.Covered.{closed_complete}
 use Rattle.scope_tree.proofs.Beneath.{closed_sound}
-use Rattle.pull_stepper.specs.Sites.{HasEnded, InOrder, IsSpent, IsUnopened, Parted, Site, pay_in, pay_of, pays, slot, slot_of, told_at, told_by}
+use Rattle.pull_stepper.specs.Sites.{HasEnded, InOrder, IsClosedDevice, IsUnopened, Parted, Site, pay_in, pay_of, pays, slot, slot_of, told_at, told_by}
 use Rattle.pull_stepper.specs.Sites.Parted.{none, unopened, ended}
 use Rattle.pull_stepper.proofs.Payloads.{pay_once, pays_row, spent_pay}
 use Rattle.pull_stepper.proofs.Slots.{slot_here, slot_past, slot_place}
@@ -27,9 +27,9 @@ use Rattle.scope_tree.proofs.Once.{once_cons}
 
 -- a tree whose root isn't open has closed it
 pub root_closed : {P : Type 0} (v : View P) (bs : List Branch) (hs : List AcquiredRow) → Kept v bs hs → (IsUsable v.events v.by 0 → ⊥) → IsClosed v.events v.by 0
-root_closed v bs hs k shut = by (is_closed (words v) 0) refl
+root_closed v bs hs k shut = by (is_closed (trace v) 0) refl
   where
-    by : (b : Bool) → is_closed (words v) 0 ≡ b → IsClosed v.events v.by 0
+    by : (b : Bool) → is_closed (trace v) 0 ≡ b → IsClosed v.events v.by 0
     by true e = closed_sound v 0 e
     by false e = absurd (shut (inl refl, λ c. false≢true (sym e ∙ closed_complete v bs hs k 0 (omega (arith, k.mirrors.size)) c)))
 
@@ -42,7 +42,7 @@ module _ {V : Type 0} (told : V → DeviceTold) where
   module _ (w : ℕ → DeviceTold) (shelf : List (Spent V)) (n : ℕ) where
     -- the device of p ended, and tells w
     abbrev Stands : ℕ → Type 0
-    Stands p = (x : Spent V) × IsAmong x shelf × (x.row ≡ p) × (told x.pay ≡ w p) × IsSpent (w p) x.exit x.ok
+    Stands p = (x : Spent V) × IsAmong x shelf × (x.row ≡ p) × (told x.pay ≡ w p) × IsClosedDevice (w p) x.exit x.ok
 
     parted_from : (i : ℕ) (xs : List (Option V)) → i + length xs ≡ n
         → ((p : ℕ) (d : V) → slot_of p i xs ≡ Some (Some d) → (told d ≡ w p) × IsUnopened (w p) × ¬ (IsAmong p (firsts (said shelf))))
@@ -70,7 +70,7 @@ module _ {V : Type 0} (told : V → DeviceTold) where
       (λ p h.
       ⊎_elim
       (λ r. absurd (among_nil (subst (λ l. IsAmong (p, r.0) l) none_open r.1)))
-      (λ y. let e = at_end p h y in (y.0, y.1, y.2, sym e, subst (λ t. IsSpent t y.0.exit y.0.ok) (sym e) y.3))
+      (λ y. let e = at_end p h y in (y.0, y.1, y.2, sym e, subst (λ t. IsClosedDevice t y.0.exit y.0.ok) (sym e) y.3))
       (o.gone p h))
     where
       at_end : (p : ℕ) → slot x p ≡ Some None → (y : HasEnded told x.tree p) → told_at told x p ≡ told y.0.pay

@@ -14,7 +14,7 @@ use Rattle.scope_tree.specs.declared.branch.Spent.{Spent}
 use Rattle.scope_tree.specs.Kept.{Kept, Shelved}
 use Rattle.std.specs.List.{IsDistinct}
 use Rattle.scope_tree.specs.Released.{said}
-use Rattle.scope_tree.specs.Words.{words}
+use Rattle.scope_tree.specs.Trace.{trace}
 use Rattle.scope_tree.proofs.Beneath.{noted_parent}
 use Rattle.scope_tree.proofs.Walking.{parent_any}
 use Rattle.scope_tree.specs.Trees.{Fits}
@@ -34,7 +34,7 @@ kept_usable v bs hs k (suc s) l n =
     (inr (p, noted_parent v bs hs k (suc s) p (omega arith) l (parent_any bs (suc s) d l)), n)
 
 -- the scope of an open row is open
-pub row_scope : {V : Type 0} (v : View V) (bs : List Branch) (hs : List AcquiredRow) (k : Kept v bs hs) (q : ℕ) → HasRow v.opened q → (t : ℕ) × IsAmong (q, t) (rows (words v)) × IsUsable v.events v.by t
+pub row_scope : {V : Type 0} (v : View V) (bs : List Branch) (hs : List AcquiredRow) (k : Kept v bs hs) (q : ℕ) → HasRow v.opened q → (t : ℕ) × IsAmong (q, t) (rows (trace v)) × IsUsable v.events v.by t
 row_scope v bs hs k q h = let t = k.holds.only q h in (t.0, subst (λ l. IsAmong (q, t.0) l) (sym k.mirrors.rows) t.1, kept_usable v bs hs k t.0 (k.mirrors.ranged q t.0 t.1) t.2)
 
 module _ {V : Type 0} (told : V → DeviceTold) (x : Site V) (hs : List AcquiredRow) (shelved : Shelved x.tree.seat hs x.tree.shelf) where
@@ -68,4 +68,4 @@ module _ {V : Type 0} (told : V → DeviceTold) (x : Site V) (hs : List Acquired
 
 -- a tree that fits its desk, with devices in order
 pub stands : {S V D : Type 0} (view : S → View V) (told : V → DeviceTold) (fits : S → D → Type 0) (o : Resources S V V D) (d : D) → Fits view fits o.tree d → InOrder told (site view o) → AreInOrder view told fits o d
-stands view told fits o d f order = record { tree = f; order = order; held = open_held told (site view o) o.tree.held.items f.sound.shelved o.tree.branches.items f.sound.kept order }
+stands view told fits o d f order = record { tree = f; order = order; held = open_held told (site view o) o.tree.acquisitions.items f.sound.shelved o.tree.branches.items f.sound.kept order }

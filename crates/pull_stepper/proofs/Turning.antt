@@ -20,7 +20,7 @@ use Rattle.pull_turns.specs.declared.turn.Turn.{Turn}
 use Rattle.pull_turns.specs.declared.turn.Turn.TheVariants as turn
 use Rattle.pull_turns.proofs.Led.{moved_tells, stays_open}
 use Rattle.pull_stepper.specs.Sites.{Site, around, told_at}
-use Rattle.pull_stepper.specs.Stepping.{Halts, IsOver, LeavesItRunning, Stepping, Steps, Unconses, Wants, stopped_by}
+use Rattle.pull_stepper.specs.Stepping.{Halts, IsOver, LeavesItRunning, Stepping, TakesTurn, Unconses, Wants, stopped_by}
 
 -- a turn that goes on is no end
 runs_on : (t : Turn) → GoesOn t → how_of t ≡ None
@@ -52,7 +52,7 @@ module _ {V F : Type 0} (P : Values → StateMeaning F) (told : V → DeviceTold
 
   pub steps_by : {E : Type 0} (r : Result Turn E)
       → IfOk r (λ t. Turns (P a.tables) (around told a.site) (around told b.site) a.chunk a.rest b.rest t) → IfOk r (λ t. HasNoPipe a.rest → Sized a.chunk a.rest b.rest (given t))
-      → IfOk r (λ t. b.how ≡ how_of t) → IfOk r (λ t. b.wanting ≡ false) → IfOk r (λ t. Steps P told a b t)
+      → IfOk r (λ t. b.how ≡ how_of t) → IfOk r (λ t. b.wanting ≡ false) → IfOk r (λ t. TakesTurn P told a b t)
   steps_by (Ok t) turns sized how sound = record {
     turns = turns;
     sized = sized;

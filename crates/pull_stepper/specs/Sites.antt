@@ -14,7 +14,7 @@ use Rattle.row_seat.specs.Views.{HasRow, IsWithin}
 use Rattle.scope_tree.specs.declared.branch.Spent.{Spent}
 use Rattle.scope_tree.specs.Calls.{IsOpenScope, Seen, used}
 use Rattle.scope_tree.specs.Released.{said}
-use Rattle.scope_tree.specs.Words.{owed, words}
+use Rattle.scope_tree.specs.Trace.{owed, trace}
 use Rattle.tree_laws.specs.Alone.{StaysAlone}
 use Rattle.tree_laws.specs.Called.{Called}
 
@@ -60,7 +60,7 @@ pub record IsUnopened (d : DeviceTold) : Type 0 where
   pub close_faults : d.close_faults ≡ 0
 
 -- a device that was opened once and closed once, with this exit and this answer
-pub record IsSpent (d : DeviceTold) (x : Exit) (ok : Bool) : Type 0 where
+pub record IsClosedDevice (d : DeviceTold) (x : Exit) (ok : Bool) : Type 0 where
   pub is_open : d.is_open ≡ false
   pub opens : d.opens ≡ 1
   pub closes : d.closes ≡ 1
@@ -131,15 +131,15 @@ module _ {V : Type 0} where
       closed = λ s e. Notes x.tree.seat.events x.tree.seat.by (Close s e);
       within = LiesWithin x.tree.seat.events x.tree.seat.by;
       waits = λ p. (d : V) × (slot x p ≡ Some (Some d)) × IsUnused (told d);
-      holds = λ p k. IsAmong (p, k) (rows (words x.tree.seat)) × HasRow x.tree.seat.opened p;
+      holds = λ p k. IsAmong (p, k) (rows (trace x.tree.seat)) × HasRow x.tree.seat.opened p;
       events = x.tree.seat.spare - owed x.tree.seat;
-      scopes = x.tree.scopes - (length (opens (words x.tree.seat)) + 1);
+      scopes = x.tree.scopes - (length (opens (trace x.tree.seat)) + 1);
       rows = x.tree.rows - used x.tree;
     }
 
     -- the row r ended here, with a device that was opened, and closed with the exit that the row's finalizer was told
     abbrev pub HasEnded : Seen V → ℕ → Type 0
-    HasEnded a r = (x : Spent V) × IsAmong x a.shelf × (x.row ≡ r) × IsSpent (told x.pay) x.exit x.ok
+    HasEnded a r = (x : Spent V) × IsAmong x a.shelf × (x.row ≡ r) × IsClosedDevice (told x.pay) x.exit x.ok
 
     -- each place's device waits and its row is empty, or its row is open or ended; no row else is open, and no lease keeps an open one
     pub record InOrder (x : Site V) : Type 0 where
@@ -163,4 +163,4 @@ module _ {V : Type 0} where
     pub data Parted (w : ℕ → DeviceTold) (shelf : List (Spent V)) (n : ℕ) : ℕ → List V → Type 0 where
       none : Parted w shelf n n []
       unopened : {i : ℕ} {ds : List V} (d : V) → told d ≡ w i → IsUnopened (w i) → ¬ (IsAmong i (firsts (said shelf))) → Parted w shelf n (suc i) ds → Parted w shelf n i (d ∷ ds)
-      ended : {i : ℕ} {ds : List V} (x : Spent V) → IsAmong x shelf → x.row ≡ i → told x.pay ≡ w i → IsSpent (w i) x.exit x.ok → Parted w shelf n (suc i) ds → Parted w shelf n i ds
+      ended : {i : ℕ} {ds : List V} (x : Spent V) → IsAmong x shelf → x.row ≡ i → told x.pay ≡ w i → IsClosedDevice (w i) x.exit x.ok → Parted w shelf n (suc i) ds → Parted w shelf n i ds

@@ -35,7 +35,7 @@ use Rattle.row_seat.specs.Views.{IsWithin}
 use Rattle.scope_tree.specs.Calls.{IsClosedScope, IsOpenScope, Seen, used}
 use Rattle.std.specs.List.{IsDistinct}
 use Rattle.scope_tree.specs.Released.{said}
-use Rattle.scope_tree.specs.Words.{owed, words}
+use Rattle.scope_tree.specs.Trace.{owed, trace}
 use Rattle.pull_stepper.specs.Placing.{first_of}
 use Rattle.pull_stepper.specs.Sites.{IsUnused, Parted, Site, around, slot_of, told_at}
 
@@ -60,7 +60,7 @@ module _ {V : Type 0} where
     pub opened : a.seat.opened ≡ []
     pub empty : (p : ℕ) → IsWithin (span_of n (length (places_of n))).from (span_of n (length (places_of n))).to p → IsAmong p a.seat.empty
     pub events : 2 * length (places_of n) + 2 * scope_count n + 1 ≤ a.seat.spare
-    pub scopes : length (opens (words a.seat)) + 1 + scope_count n ≤ a.scopes
+    pub scopes : length (opens (trace a.seat)) + 1 + scope_count n ≤ a.scopes
     pub rows : used a + length (places_of n) ≤ a.rows
 
   -- the tree, and the devices of the node's places, which wait
@@ -108,7 +108,7 @@ module _ {V F : Type 0} (P : Values → StateMeaning F) (told : V → DeviceTold
     pub step : CanStep (P a.tables) (around told a.site) 0 a.rest
 
   -- a turn was made
-  pub record Steps (a b : Stepping V F) (t : Turn) : Type 0 where
+  pub record TakesTurn (a b : Stepping V F) (t : Turn) : Type 0 where
     pub turns : Turns (P a.tables) (around told a.site) (around told b.site) a.chunk a.rest b.rest t
     pub sized : HasNoPipe a.rest → Sized a.chunk a.rest b.rest (given t)
     pub how : b.how ≡ how_of t

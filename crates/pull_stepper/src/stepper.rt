@@ -46,7 +46,7 @@ pub struct Ended<S: RowSeat, V> {
 
 impl<V: Device, S: RowSeat<Pay = Held<V>>, F: PipeState> Stepper<S, V, F> {
     ghost use Rattle.pull_stepper.specs.Steppers.{Works, stepping};
-    ghost use Rattle.pull_stepper.specs.Stepping.{CanGo, StepperEnds, Halts, HasRoomFor, IsOver, IsSupplied, Steps, Unconses, Wants, begun};
+    ghost use Rattle.pull_stepper.specs.Stepping.{CanGo, StepperEnds, Halts, HasRoomFor, IsOver, IsSupplied, TakesTurn, Unconses, Wants, begun};
 
     /// A node that is about to run in the root of the tree, with reads of at most `chunk` bytes. The
     /// devices are those of the node's places from the least on. Needs memory; where it is wanting the
@@ -88,7 +88,7 @@ impl<V: Device, S: RowSeat<Pay = Held<V>>, F: PipeState> Stepper<S, V, F> {
     pub fn turn(&mut self, desk: &mut S::Desk) -> Result<Turn, AllocError>
         requires fits { Works S.view V.told S.fits self.old desk.old }
         requires can { CanGo (standing F.stands F.comes) V.told (stepping S.view F.values self.old) }
-        ensures steps { IfOk result (λ t. Steps (standing F.stands F.comes) V.told (stepping S.view F.values self.old) (stepping S.view F.values self.new) t) }
+        ensures steps { IfOk result (λ t. TakesTurn (standing F.stands F.comes) V.told (stepping S.view F.values self.old) (stepping S.view F.values self.new) t) }
         ensures work { IfOk result (λ t. Lessens F.due (stepping S.view F.values self.old).rest (stepping S.view F.values self.new).rest t) }
         ensures wants { OnErr result (Wants (standing F.stands F.comes) V.told (stepping S.view F.values self.old) (stepping S.view F.values self.new)) }
         ensures fits { Works S.view V.told S.fits self.new desk.new }

@@ -7,7 +7,7 @@ use Rattle.res_ledger.specs.declared.event.Event.{Event}
 use Rattle.res_ledger.specs.declared.event.StreamNo.TheVariants.{Inner}
 use Rattle.res_ledger.proofs.Ledgers.{by_in, by_out}
 use Rattle.row_seat.specs.declared.token.Token.{Token}
-use Rattle.row_seat.specs.Rule.{IsSeated, RuleHolds, Holdings, book, deed, view_of, who, work}
+use Rattle.row_seat.specs.Rule.{IsSeated, RuleHolds, Holdings, book, ownership, view_of, who, work}
 use Rattle.row_seat.specs.Totals.{IsAt, row_times, times}
 use Rattle.row_seat.specs.Views.{AreApart}
 use Rattle.row_seat.proofs.Rows.{is_vacant}
@@ -34,8 +34,8 @@ module _ {P : Type 0} {rows room : ℕ} {word : ℕ → ℕ} {slot : ℕ → Opt
         own = λ e m. rule.books.pure jd (book w) e bw side m;
         mine = λ e m b. let t = (by_in w.by w.events e (subst (λ l. IsAmong e l) (sym (rule.books.own jd (book w) bw other.live)) (by_out w.by log e (rule.books.inside id (book v) e bv m) b))).0 in
             foreign (ap (λ (u : Token P). u.by) (one_at views jd v w (subst (λ k. IsAt views k v) (rule.books.one id jd (book v) (book w) e e bv bw m t refl) at) other.at) ∙ by);
-        kept = λ r m a. (a.0, a.1, rule.deeds.fresh id r a.1 a.0 (deed v) (at_map deed views id v at) m (a.2.0, rule.books.inside jd (book w) a.2.0 bw a.2.1, a.2.2, a.2.3));
-        taken = λ r m a. (a.0, a.1, rule.deeds.fresh jd r a.1 a.0 (deed w) (at_map deed views jd w other.at) m (a.2.0, rule.books.inside id (book v) a.2.0 bv a.2.1, a.2.2, a.2.3));
+        kept = λ r m a. (a.0, a.1, rule.ownerships.fresh id r a.1 a.0 (ownership v) (at_map ownership views id v at) m (a.2.0, rule.books.inside jd (book w) a.2.0 bw a.2.1, a.2.2, a.2.3));
+        taken = λ r m a. (a.0, a.1, rule.ownerships.fresh jd r a.1 a.0 (ownership w) (at_map ownership views jd w other.at) m (a.2.0, rule.books.inside id (book v) a.2.0 bv a.2.1, a.2.2, a.2.3));
         vacant = λ r m.
             let l = total_at (λ (u : Holdings). times r u.empty) (map work views) jd (work w) (at_map work views jd w other.at) in let o = times_some r w.empty m in
             let s = is_vacant (rule.words r) (omega (l, o, arith)) in (

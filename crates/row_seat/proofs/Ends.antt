@@ -2,7 +2,7 @@
 use Rattle.std.proofs.Common.{◌≡◌, ◌≢◌, ℕ, ◌≤◌, ◌⊎◌, ◌↔◌, true, map, List, [], length, inl, inr, sym, ap, ◌∙◌, subst, ⊎_elim, arith}
 use Rattle.std.specs.Prelude.{Option}
 use Rattle.row_seat.specs.Totals.{IsAt, row_times, times}
-use Rattle.row_seat.specs.Rule.{Book, GivenIn, Hold, LeftIn, Purse, IsBlankView, IsSeated, RuleHolds, RowStands, Who, Holdings, book, deed, hold, purse, view_of, who, work}
+use Rattle.row_seat.specs.Rule.{Book, GivenIn, Hold, LeftIn, Purse, IsBlankView, IsSeated, RuleHolds, RowStands, Who, Holdings, book, ownership, hold, purse, view_of, who, work}
 use Rattle.row_seat.specs.Views.{MayStay}
 use Rattle.res_ledger.specs.Ledger.{Covers, IsAcquired, IsCanceled, IsFinalized, IsLeased, Notes}
 use Rattle.res_ledger.specs.declared.event.Event.{Event}
@@ -10,7 +10,7 @@ use Rattle.chunk_core.specs.Lists.{IsAmong}
 use Rattle.res_ledger.specs.declared.event.What.TheVariants.{Lease}
 use Rattle.row_seat.specs.declared.token.Token.{Token}
 use Rattle.chunk_core.proofs.Members.{among_nil}
-use Rattle.row_seat.proofs.Ticked.{at_book, at_deed, at_purse, at_who, at_work, own_is}
+use Rattle.row_seat.proofs.Ticked.{at_book, at_ownership, at_purse, at_who, at_work, own_is}
 use Rattle.chunk_core.proofs.Places.{at_map}
 use Rattle.row_seat.specs.Rule.RowStands.{awaits, beyond, final, handed, opened, vacant}
 use Rattle.res_ledger.proofs.Ledgers.{covers_acquired, covers_leased, covers_own, inner_is, one_acquire}
@@ -46,7 +46,7 @@ module _ {P : Type 0} {rows room : ℕ} {word : ℕ → ℕ} {slot : ℕ → Opt
       let here_main : (i : ℕ) (z : Token P) → IsAt views i z → z.main ≡ true → v.by ≡ z.by → v.main ≡ true = λ i z g mz s.
       let e = rule.seats.names id i (who v) (who z) (at_who rule seat) (at_map who views i z g) live (rule.seats.alive i (who z) (at_map who views i z g) mz) s in
       subst (λ (a : Token P). a.main ≡ true) (one_at views i z v g (subst (λ n. IsAt views n v) e at)) mz in
-      let acquired = rule.deeds.opened id r (deed v) (at_deed rule seat) mine in
+      let acquired = rule.ownerships.opened id r (ownership v) (at_ownership rule seat) mine in
       let both : (v.main ≡ true) × Covers log j v.by r = ⊎_elim
       (λ o. let a = covers_acquired log j r o.0 o.1 in let b = covers_leased log j r o.0 o.1 in
       let same = one_acquire log r a.0 acquired.0 o.0 v.by rule.books.legal a.1 acquired.1 in
@@ -70,7 +70,7 @@ module _ {P : Type 0} {rows room : ℕ} {word : ℕ → ℕ} {slot : ℕ → Opt
                 (λ b. ⊎_elim (λ a. inl (mine' a))
                 (λ f. ⊎_elim
                 (λ lu. let o = rule.seats.out id x.0 (who v) (who u) (at_who rule seat) (at_map who views x.0 u y.1) both.0 lu f in inr (subst (λ z. IsAmong z v.out) (inner_is o.0 j (sym o.1 ∙ b)) o.2))
-                (λ du. absurd (among_nil (subst (λ z. IsAmong (j, r) z) (rule.spent x.0 u y.1 du).pairs m)))
+                (λ du. absurd (among_nil (subst (λ z. IsAmong (j, r) z) (rule.taken_in x.0 u y.1 du).pairs m)))
                 (cases_Bool u.live))
                 (cases_Bool u.main))
                 (rule.leases.holder x.0 j r (hold u) gh m),
@@ -83,14 +83,14 @@ module _ {P : Type 0} {rows room : ℕ} {word : ℕ → ℕ} {slot : ℕ → Opt
   given_one r x y a b = let k = rule.pays in let g = at_purse rule seat in k.left_one r x y (k.given_is r x (id, purse v, g, a)) (k.given_is r y (id, purse v, g, b))
 
   module _ (main : v.main ≡ true) (no_out : v.out ≡ []) where
-    -- every other seat is spent
+    -- every other seat was taken in
     pub alone : (i : ℕ) (u : Token P) → IsAt views i u → ((i ≡ id) × (u ≡ v)) ⊎ IsBlankView u
     alone i u g = ⊎_elim
         (λ l. ⊎_elim
         (λ m. let e = rule.seats.one i id (who u) (who v) (at_map who views i u g) (at_who rule seat) m main in inl (e, one_at views id u v (subst (λ n. IsAt views n u) e g) at))
         (λ f. let o = rule.seats.out id i (who v) (who u) (at_who rule seat) (at_map who views i u g) main l f in absurd (among_nil (subst (λ z. IsAmong o.0 z) no_out o.2)))
         (cases_Bool u.main))
-        (λ d. inr (rule.spent i u g d))
+        (λ d. inr (rule.taken_in i u g d))
         (cases_Bool u.live)
 
     pub all_events : (e : Event) → IsAmong e log ↔ IsAmong e v.events
@@ -123,7 +123,7 @@ module _ {P : Type 0} {rows room : ℕ} {word : ℕ → ℕ} {slot : ℕ → Opt
       pub all_final : (r : ℕ) → IsAcquired log r → IsFinalized log r
       all_final r acq = let ws = map work views in ends (rule.words r)
           (λ l. let x = total_some (λ (u : Holdings). times r u.empty) ws l in let y = map_back work views x.0 x.1 x.2 in let l' : 1 ≤ times r y.0.empty = subst (λ (z : Holdings). 1 ≤ times r z.empty) (sym y.2) x.3 in
-          ⊎_elim (λ s. let m : IsAmong r v.empty = times_in r v.empty (subst (λ (z : Token P). 1 ≤ times r z.empty) s.1 l') in unused r m (acq.0, acq.1, rule.deeds.fresh id r acq.1 acq.0 (deed v) (at_deed rule seat) m acq.2))
+          ⊎_elim (λ s. let m : IsAmong r v.empty = times_in r v.empty (subst (λ (z : Token P). 1 ≤ times r z.empty) s.1 l') in unused r m (acq.0, acq.1, rule.ownerships.fresh id r acq.1 acq.0 (ownership v) (at_ownership rule seat) m acq.2))
           (λ s. let z : times r y.0.empty ≡ 0 = ap (λ l. times r l) s.empty in omega arith) (alone x.0 y.0 y.1))
           (λ l. let x = total_some (λ (u : Holdings). times r u.opened) ws l in let y = map_back work views x.0 x.1 x.2 in
           none_in (λ (z : Token P). z.opened) r x.0 y.0 y.1 (λ s. ap (λ (z : Token P). z.opened) s ∙ no_open) (λ s. s.opened) (subst (λ (z : Holdings). 1 ≤ times r z.opened) (sym y.2) x.3))

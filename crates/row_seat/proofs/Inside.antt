@@ -57,9 +57,9 @@ module _ {P : Type 0} {rows room : ℕ} {word : ℕ → ℕ} {slot : ℕ → Opt
     seats = rule.seats;
     books = rule.books;
     words = rule.words;
-    deeds = rule.deeds;
+    ownerships = rule.ownerships;
     leases = rule.leases;
     pays = slot_free word slot slot' log (map purse views) r rule.pays elsewhere quiet lifted;
     small = rule.small;
-    spent = rule.spent;
+    taken_in = rule.taken_in;
   }

@@ -3,7 +3,7 @@ use Rattle.std.proofs.Common.{◌≡◌, ◌≢◌, ℕ, ◌^◌, ◌<◌, ◌�
 use Rattle.std.specs.Prelude.{Some, Option}
 use Rattle.res_ledger.specs.declared.event.What.TheVariants.{Acquire, Lease}
 use Rattle.row_seat.specs.Totals.{IsAt, pair_times, row_times, stamp_times, times}
-use Rattle.row_seat.specs.Rule.{Book, BooksAgree, DeedsAgree, GivenIn, Hold, LeasesAgree, LeftIn, PaysAgree, Purse, RowsAgree, IsBlankView, IsSeated, RuleHolds, SeatsAgree, Who, Holdings, book, deed, empties, hands, hold, leases, open_count, purse, who, work}
+use Rattle.row_seat.specs.Rule.{Book, BooksAgree, OwnershipsAgree, GivenIn, Hold, LeasesAgree, LeftIn, PaysAgree, Purse, RowsAgree, IsBlankView, IsSeated, RuleHolds, SeatsAgree, Who, Holdings, book, ownership, empties, hands, hold, leases, open_count, purse, who, work}
 use Rattle.res_ledger.specs.Ledger.{Covers, IsCanceled, IsLeased, Notes}
 use Rattle.res_ledger.specs.declared.event.Event.{Event}
 use Rattle.res_ledger.specs.Streams.{HasRight, by_stream}
@@ -18,7 +18,7 @@ use Rattle.chunk_core.proofs.Cuts.{append_nil}
 use Rattle.chunk_core.proofs.Places.{at_map}
 use Rattle.res_ledger.proofs.Ledgers.{by_both, by_none}
 use Rattle.row_seat.proofs.Changes.{each_two, map_two, some_two, sorted_two, total_both, two_back, two_first}
-use Rattle.row_seat.specs.Steps.{joined, spent}
+use Rattle.row_seat.specs.Steps.{joined, taken_in}
 use Rattle.row_seat.proofs.Ticked.{live_not}
 use Rattle.row_seat.specs.Views.{name_of}
 use Rattle.row_seat.proofs.Totals.{one_at}
@@ -50,7 +50,7 @@ module _ {P : Type 0} {rows room : ℕ} {word : ℕ → ℕ} {slot : ℕ → Opt
   ma = joined v w
 
   abbrev nb : Token P
-  nb = spent w
+  nb = taken_in w
 
   seats' : SeatsAgree log (slice_set (slice_set (map who views) id (who ma)) jd (who nb))
   seats' = let ws = map who views in let k = rule.seats in let is : name_of w.by ≡ n = ap name_of by in
@@ -119,14 +119,14 @@ module _ {P : Type 0} {rows room : ℕ} {word : ℕ → ℕ} {slot : ℕ → Opt
       let ed : hands r ws ≡ hands r new = omega arith in
       stands_is (rule.words r) refl ea eb ec ed
 
-  deeds' : DeedsAgree log (slice_set (slice_set (map deed views) id (deed ma)) jd (deed nb))
-  deeds' = let ds = map deed views in let k = rule.deeds in let ad = at_map deed views id v at in let ad' = at_map deed views jd w other.at in
-      let E = each_two ds id jd (deed v) (deed w) (deed ma) (deed nb) ad ad' apart in record {
+  ownerships' : OwnershipsAgree log (slice_set (slice_set (map ownership views) id (ownership ma)) jd (ownership nb))
+  ownerships' = let ds = map ownership views in let k = rule.ownerships in let ad = at_map ownership views id v at in let ad' = at_map ownership views jd w other.at in
+      let E = each_two ds id jd (ownership v) (ownership w) (ownership ma) (ownership nb) ad ad' apart in record {
         fresh = λ i r t q u. E (λ i u. IsAmong r u.empty → Notes log q (Acquire r t) → Notes u.events q (Acquire r t))
-            (λ m x. ⊎_elim (λ o. let f = k.fresh id r t q (deed v) ad o x in (f.0, among_left w.events f.1, f.2, f.3)) (λ o. let f = k.fresh jd r t q (deed w) ad' o x in (f.0, among_right f.0 v.events w.events f.1, f.2, f.3)) (among_append r v.empty w.empty m))
+            (λ m x. ⊎_elim (λ o. let f = k.fresh id r t q (ownership v) ad o x in (f.0, among_left w.events f.1, f.2, f.3)) (λ o. let f = k.fresh jd r t q (ownership w) ad' o x in (f.0, among_right f.0 v.events w.events f.1, f.2, f.3)) (among_append r v.empty w.empty m))
             (λ m. absurd (among_nil m)) (λ i u ne me g. k.fresh i r t q u g) i u;
-        opened = λ i r u. E (λ i u. IsAmong r u.opened → (s : ℕ) × Notes log u.by (Acquire r s)) (k.opened id r (deed v) ad) (λ m. absurd (among_nil m)) (λ i u ne me g. k.opened i r u g) i u;
-        handed = λ i r u. E (λ i u. IsAmong r u.handed → HasRight log u.by r) (k.handed id r (deed v) ad) (λ m. absurd (among_nil m)) (λ i u ne me g. k.handed i r u g) i u;
+        opened = λ i r u. E (λ i u. IsAmong r u.opened → (s : ℕ) × Notes log u.by (Acquire r s)) (k.opened id r (ownership v) ad) (λ m. absurd (among_nil m)) (λ i u ne me g. k.opened i r u g) i u;
+        handed = λ i r u. E (λ i u. IsAmong r u.handed → HasRight log u.by r) (k.handed id r (ownership v) ad) (λ m. absurd (among_nil m)) (λ i u ne me g. k.handed i r u g) i u;
       }
 
   leases' : LeasesAgree log (slice_set (slice_set (map hold views) id (hold ma)) jd (hold nb))
@@ -153,14 +153,14 @@ module _ {P : Type 0} {rows room : ℕ} {word : ℕ → ℕ} {slot : ℕ → Opt
       (λ m. let t = k.handed id q (purse v) ap' m in (t.0, among_left w.given t.1, t.2)) (λ m. absurd (among_nil m)) (λ i u ne me g. k.handed i q u g) i u)
       (λ q f. let t = k.final q f in (t.0, given' q t.0 t.1))
 
-  pub join_keeps : RuleHolds rows room word slot log (slice_set (slice_set views id (joined v w)) jd (spent w))
+  pub join_keeps : RuleHolds rows room word slot log (slice_set (slice_set views id (joined v w)) jd (taken_in w))
   join_keeps = record {
     seats = subst (λ l. SeatsAgree log l) (sym (map_two who views id jd ma nb)) seats';
     books = subst (λ l. BooksAgree room log l) (sym (map_two book views id jd ma nb)) books';
     words = subst (λ l. RowsAgree rows word log l) (sym (map_two work views id jd ma nb)) words';
-    deeds = subst (λ l. DeedsAgree log l) (sym (map_two deed views id jd ma nb)) deeds';
+    ownerships = subst (λ l. OwnershipsAgree log l) (sym (map_two ownership views id jd ma nb)) ownerships';
     leases = subst (λ l. LeasesAgree log l) (sym (map_two hold views id jd ma nb)) leases';
     pays = subst (λ l. PaysAgree word slot log l) (sym (map_two purse views id jd ma nb)) pays';
-    spent = each_two views id jd v w ma nb at other.at apart (λ i u. u.live ≡ false → IsBlankView u) (λ f. absurd (live_not live f)) (λ f. record { empty = refl; opened = refl; pairs = refl; kept = refl; handed = refl; given = refl; left = refl; events = refl }) (λ i u ne me g. rule.spent i u g);
+    taken_in = each_two views id jd v w ma nb at other.at apart (λ i u. u.live ≡ false → IsBlankView u) (λ f. absurd (live_not live f)) (λ f. record { empty = refl; opened = refl; pairs = refl; kept = refl; handed = refl; given = refl; left = refl; events = refl }) (λ i u ne me g. rule.taken_in i u g);
     small = λ i j r u. each_two views id jd v w ma nb at other.at apart (λ i u. IsAmong (j, r) u.pairs → j < 2 ^ 32) (rule.small id j r v at) (λ m. absurd (among_nil m)) (λ i u ne me g. rule.small i j r u g) i u;
   }

@@ -4,7 +4,7 @@ use Rattle.std.specs.Prelude.{Some, None, Option}
 use Rattle.std.proofs.lemmas.Bool.{cases_eq}
 use Rattle.res_ledger.specs.declared.event.What.TheVariants.{Acquire, Cancel, Lease}
 use Rattle.row_seat.specs.Totals.{IsAt, pair_times, row_times, times, total}
-use Rattle.row_seat.specs.Rule.{BooksAgree, DeedsAgree, GivenIn, Hold, LeasesAgree, LeftIn, PaysAgree, Purse, RowsAgree, IsSeated, RuleHolds, SeatsAgree, RowStands, Who, Holdings, book, deed, empties, hands, hold, leases, open_count, purse, who, work}
+use Rattle.row_seat.specs.Rule.{BooksAgree, OwnershipsAgree, GivenIn, Hold, LeasesAgree, LeftIn, PaysAgree, Purse, RowsAgree, IsSeated, RuleHolds, SeatsAgree, RowStands, Who, Holdings, book, ownership, empties, hands, hold, leases, open_count, purse, who, work}
 use Rattle.res_ledger.specs.Ledger.{Covers, IsAcquired, IsCanceled, IsClosed, IsFinalized, IsLeased, IsRowClosed, Notes, NotesCancel}
 use Rattle.res_ledger.specs.declared.event.Event.{Event}
 use Rattle.res_ledger.specs.Streams.{HasRight}
@@ -14,11 +14,11 @@ use Rattle.row_seat.specs.declared.token.Token.{Token}
 use Rattle.res_ledger.specs.declared.event.What.{What}
 use Rattle.chunk_core.proofs.Members.{among_last, among_left, among_snoc}
 use Rattle.row_seat.proofs.Members.{among_without}
-use Rattle.row_seat.proofs.Ticked.{at_book, at_deed, at_hold, at_purse, at_who, at_work, back, closed_forth, forth, keep, rule_put, small_put, spent_put}
+use Rattle.row_seat.proofs.Ticked.{at_book, at_ownership, at_hold, at_purse, at_who, at_work, back, closed_forth, forth, keep, rule_put, small_put, taken_in_put}
 use Rattle.chunk_core.proofs.Places.{at_map}
 use Rattle.row_seat.specs.Rule.RowStands.{awaits, handed, opened}
 use Rattle.res_ledger.proofs.Ledgers.{canceled_leased}
-use Rattle.row_seat.proofs.Parts.{close_pays, covered_leased, deed_step, give_pays, hold_step, pay_word, pays_same, shut_pays}
+use Rattle.row_seat.proofs.Parts.{close_pays, covered_leased, ownership_step, give_pays, hold_step, pay_word, pays_same, shut_pays}
 use Rattle.row_seat.proofs.Totals.{total_one, each, map_back, one_at, some_back, some_put, total_at, total_set, total_some}
 use Rattle.row_seat.specs.Steps.{gone, handed_over, leased, placed, shut, took, without_one}
 use Rattle.row_seat.proofs.Times.{gone_pair, one_among, one_kept, one_less, one_other, other_pair, pair_among, pair_in, pair_is, pair_kept, pair_push_other, pair_push_same, pair_some, push_other, push_same, row_else, row_less, row_push_other, row_push_same, row_some, times_some, without_other, without_same, zero_or}
@@ -43,8 +43,8 @@ module _ {P : Type 0} {rows room : ℕ} {word : ℕ → ℕ} {slot : ℕ → Opt
   ak : IsAt (map work views) id (work v)
   ak = at_work rule seat
 
-  ad : IsAt (map deed views) id (deed v)
-  ad = at_deed rule seat
+  ad : IsAt (map ownership views) id (ownership v)
+  ad = at_ownership rule seat
 
   ah : IsAt (map hold views) id (hold v)
   ah = at_hold rule seat
@@ -55,8 +55,8 @@ module _ {P : Type 0} {rows room : ℕ} {word : ℕ → ℕ} {slot : ℕ → Opt
   log_of : (w : What) → Notes v.events v.by w → Notes log v.by w
   log_of = forth rule seat
 
-  same_deeds : DeedsAgree log (slice_set (map deed views) id (deed v))
-  same_deeds = keep (λ l. DeedsAgree log l) (map deed views) id (deed v) ad rule.deeds
+  same_ownerships : OwnershipsAgree log (slice_set (map ownership views) id (ownership v))
+  same_ownerships = keep (λ l. OwnershipsAgree log l) (map ownership views) id (ownership v) ad rule.ownerships
 
   same_pays : (word' : ℕ → ℕ) → PaysAgree word' slot log (map purse views) → PaysAgree word' slot log (slice_set (map purse views) id (purse v))
   same_pays word' = keep (λ l. PaysAgree word' slot log l) (map purse views) id (purse v) ap'
@@ -101,12 +101,12 @@ module _ {P : Type 0} {rows room : ℕ} {word : ℕ → ℕ} {slot : ℕ → Opt
       total_one (λ (u : Holdings). times r u.handed) ws i id (work y.0) (work v) (omega arith) (at_map work views i y.0 y.1) ak (times_some r y.0.handed (subst (λ (z : Purse P). IsAmong r z.handed) (sym y.2) n)) (times_some r v.handed m)
 
   -- the rule from its parts, where the seats and their events stay
-  move : {word' : ℕ → ℕ} {slot' : ℕ → Option P} (w : Token P) → who w ≡ who v → book w ≡ book v → RowsAgree rows word' log (slice_set ws id (work w)) → DeedsAgree log (slice_set (map deed views) id (deed w)) → LeasesAgree log (slice_set (map hold views) id (hold w))
+  move : {word' : ℕ → ℕ} {slot' : ℕ → Option P} (w : Token P) → who w ≡ who v → book w ≡ book v → RowsAgree rows word' log (slice_set ws id (work w)) → OwnershipsAgree log (slice_set (map ownership views) id (ownership w)) → LeasesAgree log (slice_set (map hold views) id (hold w))
       → PaysAgree word' slot' log (slice_set (map purse views) id (purse w)) → ((j r : ℕ) → IsAmong (j, r) w.pairs → j < 2 ^ 32) → RuleHolds rows room word' slot' log (slice_set views id w)
-  move {word' = word'} {slot' = slot'} w seats books words deeds leases pays small = rule_put rows room word' slot' log views id w
+  move {word' = word'} {slot' = slot'} w seats books words ownerships leases pays small = rule_put rows room word' slot' log views id w
       (subst (λ b. SeatsAgree log (slice_set (map who views) id b)) (sym seats) (keep (λ l. SeatsAgree log l) (map who views) id (who v) aw rule.seats))
       (subst (λ b. BooksAgree room log (slice_set (map book views) id b)) (sym books) (keep (λ l. BooksAgree room log l) (map book views) id (book v) ab rule.books))
-      words deeds leases pays (spent_put rule seat w (ap (λ (b : Who). b.live) seats ∙ live)) (small_put rule seat w small)
+      words ownerships leases pays (taken_in_put rule seat w (ap (λ (b : Who). b.live) seats ∙ live)) (small_put rule seat w small)
 
   -- an open row is handed to nobody
   pub not_handed : (r n : ℕ) → word r ≡ 1 + 4 * n → (i : ℕ) (p : Purse P) → IsAt (map purse views) i p → ¬ (IsAmong r p.handed)
@@ -143,8 +143,8 @@ module _ {P : Type 0} {rows room : ℕ} {word : ℕ → ℕ} {slot : ℕ → Opt
         move w refl refl
         (row_put w (λ q ne. (without_other r q v.empty ne, push_other q r v.opened ne, refl, refl))
         (λ e o n h a b c d. opened was.0 (omega arith) (omega arith) (omega arith) (omega arith) (v.by, s, log_of (Acquire r s) noted) was.6))
-        (deed_step log (map deed views) rule.deeds id (deed v) (deed w) ad refl refl (λ q m. (among_without r v.empty q m).0)
-        (λ q m. ⊎_elim (rule.deeds.opened id q (deed v) ad) (λ e. (s, subst (λ n. Notes log v.by (Acquire n s)) (sym e) (log_of (Acquire r s) noted))) (among_snoc v.opened q r m)) (λ q m. rule.deeds.handed id q (deed v) ad m))
+        (ownership_step log (map ownership views) rule.ownerships id (ownership v) (ownership w) ad refl refl (λ q m. (among_without r v.empty q m).0)
+        (λ q m. ⊎_elim (rule.ownerships.opened id q (ownership v) ad) (λ e. (s, subst (λ n. Notes log v.by (Acquire n s)) (sym e) (log_of (Acquire r s) noted))) (among_snoc v.opened q r m)) (λ q m. rule.ownerships.handed id q (ownership v) ad m))
         (hold_step log (map hold views) rule.leases id (hold v) (hold w) ah refl refl refl refl (λ j q m. inr m)
         (λ j q m. ⊎_elim (λ o. inl o) (λ o. inr (o.0, o.1, among_left (r ∷ []) o.2)) (rule.leases.paired id j q (hold v) ah m)) (λ j q m. rule.leases.holder id j q (hold v) ah m)
         (λ j q. let x = total_set (λ (u : Hold). pair_times j q u.pairs) (map hold views) id (hold v) (hold w) ah in let o = rule.leases.pair_once j q in omega arith))
@@ -168,7 +168,7 @@ module _ {P : Type 0} {rows room : ℕ} {word : ℕ → ℕ} {slot : ℕ → Opt
         move w refl refl
         (row_put w (λ q ne. (refl, refl, row_push_other q j r v.pairs ne, refl))
         (λ e o n h a b c d. opened was.0 (omega arith) (omega arith) (omega arith) (omega arith) was.5 was.6))
-        same_deeds
+        same_ownerships
         (hold_step log hs rule.leases id (hold v) (hold w) ah refl refl refl refl (λ i q m. inr (among_left ((j, r) ∷ []) m))
         (λ i q m. ⊎_elim (rule.leases.paired id i q (hold v) ah)
         (λ e. inr ((λ x. new (subst (λ n. IsLeased log n) (ap (λ (y : ℕ × ℕ). y.0) e) x)), main, subst (λ n. IsAmong n v.opened) (sym (ap (λ (y : ℕ × ℕ). y.1) e)) is_mine)) (among_snoc v.pairs (i, q) (j, r) m))
@@ -193,7 +193,7 @@ module _ {P : Type 0} {rows room : ℕ} {word : ℕ → ℕ} {slot : ℕ → Opt
         (row_put w (λ q ne. (refl, refl, row_else j r q v.pairs ne, refl))
         (λ e o n h a b c d. ⊎_elim (λ s. let s0 = s.0 in let s1 = s.1 in opened was.0 (omega arith) (omega arith) (omega arith) (omega arith) s.2 was.3)
         (λ s. let s0 = s.0 in let s1 = s.1 in awaits was.0 (omega arith) (omega arith) (omega arith) (omega arith) (omega arith) s.2 was.3) was.4))
-        same_deeds
+        same_ownerships
         (gone_leases j r lost)
         (same_pays word' (⊎_elim
         (λ s. let s0 = s.0 in pay_word word word' slot log (map purse views) rule.pays r other (λ n e. absurd (omega arith)) (λ e. absurd (omega arith)) (λ n e le. absurd (omega arith)))
@@ -219,8 +219,8 @@ module _ {P : Type 0} {rows room : ℕ} {word : ℕ → ℕ} {slot : ℕ → Opt
         move w refl refl
         (row_put w (λ q ne. (refl, refl, row_else j r q v.pairs ne, push_other q r v.handed ne))
         (λ e o n h a b c d. handed was.0 last (omega arith) (omega arith) (omega arith) (omega arith) closed.2 was.3))
-        (deed_step log (map deed views) rule.deeds id (deed v) (deed w) ad refl refl (λ q m. m) (λ q m. rule.deeds.opened id q (deed v) ad m)
-        (λ q m. ⊎_elim (rule.deeds.handed id q (deed v) ad) (λ e. subst (λ n. HasRight log v.by n) (sym e) (inr (j, covers.0, covers.1, lost.1))) (among_snoc v.handed q r m)))
+        (ownership_step log (map ownership views) rule.ownerships id (ownership v) (ownership w) ad refl refl (λ q m. m) (λ q m. rule.ownerships.opened id q (ownership v) ad m)
+        (λ q m. ⊎_elim (rule.ownerships.handed id q (ownership v) ad) (λ e. subst (λ n. HasRight log v.by n) (sym e) (inr (j, covers.0, covers.1, lost.1))) (among_snoc v.handed q r m)))
         (gone_leases j r lost)
         (give_pays word word' slot log ps rule.pays r other id (purse v) p ap' last left_here there old_given)
         (λ i q m. rule.small id i q v at (pair_among j r i q v.pairs m).0)
@@ -250,7 +250,7 @@ module _ {P : Type 0} {rows room : ℕ} {word : ℕ → ℕ} {slot : ℕ → Opt
           move w refl refl
           (row_put w (λ q ne. (refl, one_other r q v.opened ne, refl, refl))
           (λ e o n h a b c d. awaits was.0 (omega arith) (omega arith) (omega arith) (omega arith) (omega arith) row_closed was.6))
-          (deed_step log (map deed views) rule.deeds id (deed v) (deed w) ad refl refl (λ q m. m) (λ q m. rule.deeds.opened id q (deed v) ad (one_among r q v.opened m)) (λ q m. rule.deeds.handed id q (deed v) ad m))
+          (ownership_step log (map ownership views) rule.ownerships id (ownership v) (ownership w) ad refl refl (λ q m. m) (λ q m. rule.ownerships.opened id q (ownership v) ad (one_among r q v.opened m)) (λ q m. rule.ownerships.handed id q (ownership v) ad m))
           (shut_leases was.1 named)
           (shut_pays word word' slot log (map purse views) rule.pays r other slot' elsewhere id (purse v) p ap' (leases r ws) (omega arith) there (λ n e. omega arith) (not_handed r (leases r ws) was.1))
           (λ i q m. rule.small id i q v at m)
@@ -264,8 +264,8 @@ module _ {P : Type 0} {rows room : ℕ} {word : ℕ → ℕ} {slot : ℕ → Opt
           move w refl refl
           (row_put w (λ q ne. (refl, one_other r q v.opened ne, refl, push_other q r v.handed ne))
           (λ e o n h a b c d. handed was.0 last (omega arith) (omega arith) (omega arith) (omega arith) row_closed was.6))
-          (deed_step log (map deed views) rule.deeds id (deed v) (deed w) ad refl refl (λ q m. m) (λ q m. rule.deeds.opened id q (deed v) ad (one_among r q v.opened m))
-          (λ q m. ⊎_elim (rule.deeds.handed id q (deed v) ad) (λ e. subst (λ n. HasRight log v.by n) (sym e) (inl (s, log_of (Acquire r s) noted))) (among_snoc v.handed q r m)))
+          (ownership_step log (map ownership views) rule.ownerships id (ownership v) (ownership w) ad refl refl (λ q m. m) (λ q m. rule.ownerships.opened id q (ownership v) ad (one_among r q v.opened m))
+          (λ q m. ⊎_elim (rule.ownerships.handed id q (ownership v) ad) (λ e. subst (λ n. HasRight log v.by n) (sym e) (inl (s, log_of (Acquire r s) noted))) (among_snoc v.handed q r m)))
           (shut_leases was.1 named)
           (close_pays word word' slot log ps rule.pays r other slot' elsewhere id (purse v) p ap' last there (λ n e. omega arith) (not_handed r (leases r ws) was.1))
           (λ i q m. rule.small id i q v at m)
@@ -278,7 +278,7 @@ module _ {P : Type 0} {rows room : ℕ} {word : ℕ → ℕ} {slot : ℕ → Opt
       let left' : (q : ℕ) (y : P) → LeftIn ps q y → LeftIn (slice_set ps id p') q y = λ q y. some_put ps id (purse v) p' ap' (λ (u : Purse P). IsAmong (q, y) u.left) (λ m. m) in
       let given : (q : ℕ) (y : P) → GivenIn (slice_set ps id p') q y → GivenIn ps q y = λ q y. some_back ps id (purse v) p' ap' (λ (u : Purse P). IsAmong (q, y) u.given) (λ m. m) in
       let given' : (q : ℕ) (y : P) → GivenIn ps q y → GivenIn (slice_set ps id p') q y = λ q y. some_put ps id (purse v) p' ap' (λ (u : Purse P). IsAmong (q, y) u.given) (λ m. m) in
-      move w refl refl (keep (λ l. RowsAgree rows word log l) (map work views) id (work v) ak rule.words) same_deeds (keep (λ l. LeasesAgree log l) (map hold views) id (hold v) ah rule.leases)
+      move w refl refl (keep (λ l. RowsAgree rows word log l) (map work views) id (work v) ak rule.words) same_ownerships (keep (λ l. LeasesAgree log l) (map hold views) id (hold v) ah rule.leases)
       (pays_same k left left' given (λ q n e le. elsewhere q (λ s. let z : word r ≡ 3 + 4 * n = subst (λ a. word a ≡ 3 + 4 * n) s e in absurd (omega arith)))
       (λ i q u. each ps id p' (λ i u. IsAmong q u.handed → (y : P) × IsAmong (q, y) u.given × (¬ (IsAmong q u.taken) → slot' q ≡ Some y))
       (λ m. let t = k.handed id q (purse v) ap' m in (t.0, t.1, λ f. elsewhere q (λ s. f (subst (λ n. IsAmong n (v.taken ++ r ∷ [])) (sym s) (among_last v.taken r))) ∙ t.2 (λ n. f (among_left (r ∷ []) n))))

@@ -5,7 +5,7 @@ use Rattle.std.proofs.lemmas.Bool.{cases_eq}
 use Rattle.res_ledger.specs.declared.event.What.TheVariants.{Acquire, Lease}
 use Rattle.row_seat.specs.Totals.{IsAt, pair_times, times, total}
 use Rattle.res_ledger.specs.Ledger.{Covers, IsCanceled, IsFinalized, IsLeased, Notes}
-use Rattle.row_seat.specs.Rule.{Ownership, DeedsAgree, GivenIn, Hold, LeasesAgree, LeftIn, PaysAgree, Purse}
+use Rattle.row_seat.specs.Rule.{Ownership, OwnershipsAgree, GivenIn, Hold, LeasesAgree, LeftIn, PaysAgree, Purse}
 use Rattle.res_ledger.specs.declared.event.Event.{Event}
 use Rattle.res_ledger.specs.Streams.{HasRight}
 use Rattle.res_ledger.specs.declared.event.StreamNo.TheVariants.{Inner}
@@ -25,9 +25,9 @@ covered_leased L j r k c = let t = covers_leased L j r k c in (k, t.0, t.1)
 
 -- what is read of the row's counts
 
-module _ (log : List Event) (ds : List Ownership) (k : DeedsAgree log ds) (id : ℕ) (d d' : Ownership) (at : IsAt ds id d) where
-  pub deed_step : d'.by ≡ d.by → d'.events ≡ d.events → ((r : ℕ) → IsAmong r d'.empty → IsAmong r d.empty) → ((r : ℕ) → IsAmong r d'.opened → (s : ℕ) × Notes log d.by (Acquire r s)) → ((r : ℕ) → IsAmong r d'.handed → HasRight log d.by r) → DeedsAgree log (slice_set ds id d')
-  deed_step by events empty opens' hands' = record {
+module _ (log : List Event) (ds : List Ownership) (k : OwnershipsAgree log ds) (id : ℕ) (d d' : Ownership) (at : IsAt ds id d) where
+  pub ownership_step : d'.by ≡ d.by → d'.events ≡ d.events → ((r : ℕ) → IsAmong r d'.empty → IsAmong r d.empty) → ((r : ℕ) → IsAmong r d'.opened → (s : ℕ) × Notes log d.by (Acquire r s)) → ((r : ℕ) → IsAmong r d'.handed → HasRight log d.by r) → OwnershipsAgree log (slice_set ds id d')
+  ownership_step by events empty opens' hands' = record {
     fresh = λ i r t q u. each ds id d' (λ i u. IsAmong r u.empty → Notes log q (Acquire r t) → Notes u.events q (Acquire r t))
         (λ a n. subst (λ l. Notes l q (Acquire r t)) (sym events) (k.fresh id r t q d at (empty r a) n)) (λ i u ne g. k.fresh i r t q u g) i u;
     opened = λ i r u. each ds id d' (λ i u. IsAmong r u.opened → (s : ℕ) × Notes log u.by (Acquire r s)) (λ a. subst (λ b. (s : ℕ) × Notes log b (Acquire r s)) (sym by) (opens' r a)) (λ i u ne g. k.opened i r u g) i u;

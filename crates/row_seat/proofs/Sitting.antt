@@ -16,7 +16,7 @@ use Rattle.row_seat.specs.declared.token.Token.{Token}
 use Rattle.std.specs.Map.{keys_of}
 use Rattle.row_seat.specs.PlainSeats.{IsTable, Sits, shown}
 use Rattle.row_seat.specs.Rule.{Book, IsSeated, RuleHolds, book, purse}
-use Rattle.row_seat.specs.Steps.{gone, handed_over, joined, leased, noted, placed, shut, spent, split_main, split_off, took}
+use Rattle.row_seat.specs.Steps.{gone, handed_over, joined, leased, noted, placed, shut, taken_in, split_main, split_off, took}
 use Rattle.row_seat.specs.Totals.{IsAt}
 use Rattle.row_seat.specs.Views.{CanClose, CanJoin, CanLease, CanLeave, CanPlace, CanSplit, HasRow, IsFreshStamp, MayNote, OthersFit, within}
 use Rattle.row_seat.proofs.Changes.{more_else, more_here, more_last, total_both, total_more, two_else, two_first}
@@ -209,7 +209,7 @@ module _ {P : Type 0} {s : PlainSeat P} {d : PlainTable P} (h : Sits s d) where
 -- one seat takes another in
 module _ {P : Type 0} {s o : PlainSeat P} {d : PlainTable P} (h : Sits s d) (k : Sits o d) (can : CanJoin (shown s) (shown o)) where
   abbrev after : List (Token P)
-  after = slice_set (slice_set d.views s.id (joined s.token o.token)) o.id (spent o.token)
+  after = slice_set (slice_set d.views s.id (joined s.token o.token)) o.id (taken_in o.token)
 
   no_open : o.token.opened ≡ []
   no_open = sym k.held ∙ ap keys_of can.2.0
@@ -223,19 +223,19 @@ module _ {P : Type 0} {s o : PlainSeat P} {d : PlainTable P} (h : Sits s d) (k :
     enough = h.table.enough;
     words_are = h.table.words_are;
     rule = join_keeps h.table.rule h.seated k.seated can.0 can.1.0 can.1.1 can.1.2 no_open can.2.2 can.2.3 can.2.4;
-    load = let a = total_both d.views s.id o.id v w (joined v w) (spent w) h.seated.at k.seated.at two (λ (u : Token P). length u.empty + length u.opened) in let b = h.table.load in let c = length-append v.empty w.empty in omega arith;
+    load = let a = total_both d.views s.id o.id v w (joined v w) (taken_in w) h.seated.at k.seated.at two (λ (u : Token P). length u.empty + length u.opened) in let b = h.table.load in let c = length-append v.empty w.empty in omega arith;
   }
 
   module _ {d' : PlainTable P} (views : d'.views ≡ after) (table : IsTable d'.slots.items d'.words.items d'.events.items (vec_capacity d'.events) after) (many : length d'.slots.items ≡ length d.slots.items) where
     pub join_sits : (t : Known (Token P)) → t ≡ joined s.token o.token → let s' : PlainSeat P = record s { token = t } in Sits s' d'
-    join_sits t is = let v = s.token in let w = o.token in now_sits after views table (record s { token = t }) (joined v w) is (two_first d.views s.id o.id v w (joined v w) (spent w) h.seated.at k.seated.at two) h.seated.live h.by h.held
+    join_sits t is = let v = s.token in let w = o.token in now_sits after views table (record s { token = t }) (joined v w) is (two_first d.views s.id o.id v w (joined v w) (taken_in w) h.seated.at k.seated.at two) h.seated.live h.by h.held
         (let a = total_two (λ (u : Token P). length u.empty + length u.opened) d.views s.id o.id v w two h.seated.at k.seated.at in let b = h.table.load in let c = length-append v.empty w.empty in let f = h.whole can.0 in
         let e : length (keys_of s.hands.items) ≡ length v.opened = ap length h.held in let l = length-map s.hands.items (λ (x : ℕ × P). x.0) in let q = s.hands.ok.0 in omega arith)
         (λ m. let f = h.whole can.0 in omega arith)
 
     pub join_others : (x : PlainSeat P) → x.token.by ≢ s.token.by → x.token.by ≢ o.token.by → Sits x d → Sits x d'
     join_others x ne me y = let v = s.token in let w = o.token in still_sits after views table many x y
-        (two_else d.views s.id o.id v w (joined v w) (spent w) h.seated.at k.seated.at two x.id x.token (other_place h.seated y.seated ne) (other_place k.seated y.seated me) y.seated.at)
+        (two_else d.views s.id o.id v w (joined v w) (taken_in w) h.seated.at k.seated.at two x.id x.token (other_place h.seated y.seated ne) (other_place k.seated y.seated me) y.seated.at)
 
 -- one seat is split off
 module _ {P : Type 0} {s : PlainSeat P} {d : PlainTable P} (h : Sits s d) {j from to n : ℕ} (can : CanSplit (shown s) j from to n) where

@@ -4,7 +4,7 @@ use Rattle.std.specs.Prelude.{Some, Option}
 use Rattle.std.proofs.lemmas.Bool.{cases_eq, le-leb, lt-leb, lt-ltb, le-ltb, leb-true, leb-false, cases_Bool}
 use Rattle.res_ledger.specs.declared.event.What.TheVariants.{Acquire, Lease}
 use Rattle.row_seat.specs.Totals.{IsAt, pair_times, row_times, stamp_times, times}
-use Rattle.row_seat.specs.Rule.{Book, BooksAgree, DeedsAgree, GivenIn, Hold, LeasesAgree, LeftIn, PaysAgree, Purse, RowsAgree, IsBlankView, IsSeated, RuleHolds, SeatsAgree, Who, Holdings, book, deed, empties, hands, hold, leases, open_count, purse, who, work}
+use Rattle.row_seat.specs.Rule.{Book, BooksAgree, OwnershipsAgree, GivenIn, Hold, LeasesAgree, LeftIn, PaysAgree, Purse, RowsAgree, IsBlankView, IsSeated, RuleHolds, SeatsAgree, Who, Holdings, book, ownership, empties, hands, hold, leases, open_count, purse, who, work}
 use Rattle.res_ledger.specs.Ledger.{Covers, IsAcquired, IsCanceled, IsLeased, Notes}
 use Rattle.res_ledger.specs.declared.event.Event.{Event}
 use Rattle.res_ledger.specs.Streams.{HasRight, by_stream}
@@ -16,7 +16,7 @@ use Rattle.row_seat.specs.Views.{next_stamp, run, within}
 use Rattle.chunk_core.proofs.Members.{among_cons, among_last, among_left, among_nil, among_snoc}
 use Rattle.chunk_core.proofs.Filters.{among_filter, bool_not, filter_among}
 use Rattle.row_seat.proofs.Members.{all_there, among_kept, among_without, length_cut}
-use Rattle.row_seat.proofs.Ticked.{at_book, at_deed, at_hold, at_purse, at_who, at_work, live_not}
+use Rattle.row_seat.proofs.Ticked.{at_book, at_ownership, at_hold, at_purse, at_who, at_work, live_not}
 use Rattle.res_ledger.proofs.Ledgers.{by_none, inner_is, stamp_below}
 use Rattle.row_seat.proofs.Changes.{each_more, map_more, more_here, some_less, some_more, sorted, total_more}
 use Rattle.chunk_core.specs.Lists.IsAmong.{here, there}
@@ -77,8 +77,8 @@ module _ {P : Type 0} {rows room : ℕ} {word : ℕ → ℕ} {slot : ℕ → Opt
   ak : IsAt (map work views) id (work v)
   ak = at_work rule seat
 
-  ad : IsAt (map deed views) id (deed v)
-  ad = at_deed rule seat
+  ad : IsAt (map ownership views) id (ownership v)
+  ad = at_ownership rule seat
 
   ah : IsAt (map hold views) id (hold v)
   ah = at_hold rule seat
@@ -165,13 +165,13 @@ module _ {P : Type 0} {rows room : ℕ} {word : ℕ → ℕ} {slot : ℕ → Opt
       let ed : hands r ws ≡ hands r (slice_set ws id (work ma) ++ work nb ∷ []) = omega arith in
       stands_is (rule.words r) refl ea eb ec ed
 
-  deeds' : DeedsAgree log (slice_set (map deed views) id (deed ma) ++ deed nb ∷ [])
-  deeds' = let ds = map deed views in let k = rule.deeds in let E = each_more ds id (deed v) (deed ma) (deed nb) ad in record {
+  ownerships' : OwnershipsAgree log (slice_set (map ownership views) id (ownership ma) ++ ownership nb ∷ [])
+  ownerships' = let ds = map ownership views in let k = rule.ownerships in let E = each_more ds id (ownership v) (ownership ma) (ownership nb) ad in record {
     fresh = λ i r t q u. E (λ i u. IsAmong r u.empty → Notes log q (Acquire r t) → Notes u.events q (Acquire r t))
-        (λ m. k.fresh id r t q (deed v) ad (among_filter (λ x. not (within from to x)) r v.empty m).0) (λ i u ne g. k.fresh i r t q u g)
-        (λ m x. let s = IsWithin r (in_run from to r m) in absurd (s.1 (q, t, k.fresh id r t q (deed v) ad s.0 x))) i u;
-    opened = λ i r u. E (λ i u. IsAmong r u.opened → (s : ℕ) × Notes log u.by (Acquire r s)) (k.opened id r (deed v) ad) (λ i u ne g. k.opened i r u g) (λ m. absurd (among_nil m)) i u;
-    handed = λ i r u. E (λ i u. IsAmong r u.handed → HasRight log u.by r) (k.handed id r (deed v) ad) (λ i u ne g. k.handed i r u g) (λ m. absurd (among_nil m)) i u;
+        (λ m. k.fresh id r t q (ownership v) ad (among_filter (λ x. not (within from to x)) r v.empty m).0) (λ i u ne g. k.fresh i r t q u g)
+        (λ m x. let s = IsWithin r (in_run from to r m) in absurd (s.1 (q, t, k.fresh id r t q (ownership v) ad s.0 x))) i u;
+    opened = λ i r u. E (λ i u. IsAmong r u.opened → (s : ℕ) × Notes log u.by (Acquire r s)) (k.opened id r (ownership v) ad) (λ i u ne g. k.opened i r u g) (λ m. absurd (among_nil m)) i u;
+    handed = λ i r u. E (λ i u. IsAmong r u.handed → HasRight log u.by r) (k.handed id r (ownership v) ad) (λ i u ne g. k.handed i r u g) (λ m. absurd (among_nil m)) i u;
   }
 
   leased_log : IsLeased v.events j → IsLeased log j
@@ -215,9 +215,9 @@ module _ {P : Type 0} {rows room : ℕ} {word : ℕ → ℕ} {slot : ℕ → Opt
     seats = subst (λ l. SeatsAgree log l) (sym (map_more who views id ma nb)) seats';
     books = subst (λ l. BooksAgree room log l) (sym (map_more book views id ma nb)) books';
     words = subst (λ l. RowsAgree rows word log l) (sym (map_more work views id ma nb)) words';
-    deeds = subst (λ l. DeedsAgree log l) (sym (map_more deed views id ma nb)) deeds';
+    ownerships = subst (λ l. OwnershipsAgree log l) (sym (map_more ownership views id ma nb)) ownerships';
     leases = subst (λ l. LeasesAgree log l) (sym (map_more hold views id ma nb)) leases';
     pays = subst (λ l. PaysAgree word slot log l) (sym (map_more purse views id ma nb)) pays';
-    spent = each_more views id v ma nb at (λ i u. u.live ≡ false → IsBlankView u) (λ f. absurd (live_not live f)) (λ i u ne g. rule.spent i u g) (λ f. absurd (bool_not f));
+    taken_in = each_more views id v ma nb at (λ i u. u.live ≡ false → IsBlankView u) (λ f. absurd (live_not live f)) (λ i u ne g. rule.taken_in i u g) (λ f. absurd (bool_not f));
     small = λ i q r u. each_more views id v ma nb at (λ i u. IsAmong (q, r) u.pairs → q < 2 ^ 32) (λ m. rule.small id q r v at (among_filter (λ (x : ℕ × ℕ). not (eqb x.0 j)) (q, r) v.pairs m).0) (λ i u ne g. rule.small i q r u g) (λ m. rule.small id q r v at (among_filter (λ (x : ℕ × ℕ). eqb x.0 j) (q, r) v.pairs m).0) i u;
   }

@@ -3,7 +3,7 @@ use Rattle.std.proofs.Common.{◌≡◌, ℕ, zero, suc, ◌≤◌, true, false,
 use Rattle.std.specs.Prelude.{None, Option, slice_index, vec_capacity, vec_len}
 use mathlib.Core.Option.{some-ne-none, some-injective}
 use Rattle.row_seat.specs.Totals.{IsAt}
-use Rattle.row_seat.specs.Rule.{Book, Ownership, Hold, Purse, RuleHolds, Who, book, deed, hold, purse, who}
+use Rattle.row_seat.specs.Rule.{Book, Ownership, Hold, Purse, RuleHolds, Who, book, ownership, hold, purse, who}
 use Rattle.chunk_core.specs.Lists.{IsAmong}
 use Rattle.std.specs.Map.{keys_of}
 use Rattle.row_seat.specs.PlainSeats.{IsTable, Sits}
@@ -73,10 +73,10 @@ module _ {P : Type 0} (by : StreamNo) (rows events splits : ℕ) (word : ℕ →
         (λ s. let s1 = s.1 in let i = run_in r 0 rows (omega arith) (omega arith) in vacant s.1 (zero' r) (omega arith) (omega arith) (omega arith) (omega arith) (λ x. none_noted x.0 _ x.2.1))
         (λ s. let i = run_out r 0 rows (⊎_elim (λ a. inl a) (λ b. inr (omega arith)) s) in beyond (⊎_elim (λ a. absurd (omega arith)) (λ b. b) s) (omega arith) (omega arith) (omega arith) (omega arith) (λ x. none_noted x.0 _ x.2))
         (span_cases 0 rows r);
-    deeds = record {
+    ownerships = record {
       fresh = λ i r t k d g m n. absurd (none_noted k _ n);
-      opened = λ i r d g m. absurd (among_nil (subst (λ (z : Ownership). IsAmong r z.opened) (sym (only_one (deed f) d i g).1) m));
-      handed = λ i r d g m. absurd (among_nil (subst (λ (z : Ownership). IsAmong r z.handed) (sym (only_one (deed f) d i g).1) m));
+      opened = λ i r d g m. absurd (among_nil (subst (λ (z : Ownership). IsAmong r z.opened) (sym (only_one (ownership f) d i g).1) m));
+      handed = λ i r d g m. absurd (among_nil (subst (λ (z : Ownership). IsAmong r z.handed) (sym (only_one (ownership f) d i g).1) m));
     };
     leases = record {
       by_main = λ i j s k h g m n. absurd (none_noted k _ n);
@@ -97,7 +97,7 @@ module _ {P : Type 0} (by : StreamNo) (rows events splits : ℕ) (word : ℕ →
       handed = λ i r p g m. absurd (among_nil (subst (λ (z : Purse P). IsAmong r z.handed) (sym (only_one (purse f) p i g).1) m));
       final = λ r x. absurd (none_noted x.0 _ x.2.1);
     };
-    spent = one_view f (λ i v. v.live ≡ false → _) (λ l. absurd (bool_not l));
+    taken_in = one_view f (λ i v. v.live ≡ false → _) (λ l. absurd (bool_not l));
     small = λ i j r v g m. absurd (among_nil (subst (λ (z : Token P). IsAmong (j, r) z.pairs) (sym (only_one f v i g).1) m));
   }
 

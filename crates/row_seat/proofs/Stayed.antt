@@ -12,7 +12,7 @@ use Rattle.row_seat.specs.declared.token.Token.{Token}
 use Rattle.row_seat.specs.Totals.{IsAt, pair_times, row_times, times, total}
 use Rattle.std.specs.Map.{keys_of}
 use Rattle.row_seat.specs.Views.{IsHeldStill, without_pair}
-use Rattle.row_seat.specs.Rule.{Hold, IsSeated, RuleHolds, Holdings, deed, hold, view_of, who, work}
+use Rattle.row_seat.specs.Rule.{Hold, IsSeated, RuleHolds, Holdings, ownership, hold, view_of, who, work}
 use Rattle.row_seat.proofs.Hands.{row_held}
 use Rattle.row_seat.proofs.Rows.{is_leased}
 use Rattle.std.proofs.lemmas.Bool.{cases_Bool}
@@ -45,8 +45,8 @@ module _ {P : Type 0} {rows room : ℕ} {word : ℕ → ℕ} {slot : ℕ → Opt
       let a1 = a.1 in
       let x = total_some (λ (u : Holdings). times r u.opened) ws (omega (a1, arith)) in let b = map_back work views x.0 x.1 x.2 in let u = b.0 in
       let m : IsAmong r u.opened = times_in r u.opened (subst (λ (z : Holdings). 1 ≤ times r z.opened) (sym b.2) x.3) in
-      let d = rule.deeds.opened x.0 r (deed u) (at_map deed views x.0 u b.1) m in
-      let there : u.live ≡ true = ⊎_elim (λ t. t) (λ f. absurd (among_nil (subst (λ z. IsAmong r z) (rule.spent x.0 u b.1 f).opened m))) (cases_Bool u.live) in
+      let d = rule.ownerships.opened x.0 r (ownership u) (at_map ownership views x.0 u b.1) m in
+      let there : u.live ≡ true = ⊎_elim (λ t. t) (λ f. absurd (among_nil (subst (λ z. IsAmong r z) (rule.taken_in x.0 u b.1 f).opened m))) (cases_Bool u.live) in
       inl (row_held r hands v.opened held (⊎_elim
       (λ c. let q = covers_acquired log j r v.by c in
       let same = one_acquire log r d.0 q.0 u.by v.by rule.books.legal d.1 q.1 in
@@ -74,7 +74,7 @@ module _ {P : Type 0} {rows room : ℕ} {word : ℕ → ℕ} {slot : ℕ → Opt
               (λ mu. let e = rule.seats.one x.0 id (who u) (who v) (at_map who views x.0 u x.2) aw mu main in inl (subst (λ (z : Token P). IsAmong (i, r) z.pairs) (one_at views id u v (subst (λ n. IsAt views n u) e x.2) at) m))
               (λ f. ⊎_elim
               (λ lu. let o = rule.seats.out id x.0 (who v) (who u) aw (at_map who views x.0 u x.2) main lu f in inr (subst (λ z. IsAmong z v.out) (inner_is o.0 i (sym o.1 ∙ b)) o.2))
-              (λ du. absurd (among_nil (subst (λ z. IsAmong (i, r) z) (rule.spent x.0 u x.2 du).pairs m)))
+              (λ du. absurd (among_nil (subst (λ z. IsAmong (i, r) z) (rule.taken_in x.0 u x.2 du).pairs m)))
               (cases_Bool u.live))
               (cases_Bool u.main))
               (rule.leases.holder x.0 i r (hold u) (at_map hold views x.0 u x.2) m),

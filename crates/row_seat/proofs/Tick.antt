@@ -6,7 +6,7 @@ use Rattle.std.proofs.lemmas.Bool.{cases_eq}
 use Rattle.res_ledger.specs.declared.event.What.TheVariants.{Acquire, Cancel, Final, Lease}
 use Rattle.chunk_core.specs.declared.code.Exit.{Exit}
 use Rattle.row_seat.specs.Totals.{IsAt, pair_times, row_times, stamp_times, times, total}
-use Rattle.row_seat.specs.Rule.{Book, BooksAgree, Ownership, DeedsAgree, GivenIn, Hold, LeasesAgree, LeftIn, PaysAgree, Purse, RowsAgree, SeatsAgree, RowStands, Who, Holdings, empties, hands, leases, open_count}
+use Rattle.row_seat.specs.Rule.{Book, BooksAgree, Ownership, OwnershipsAgree, GivenIn, Hold, LeasesAgree, LeftIn, PaysAgree, Purse, RowsAgree, SeatsAgree, RowStands, Who, Holdings, empties, hands, leases, open_count}
 use Rattle.res_ledger.specs.Ledger.{Covers, IsCanceled, IsCoveredBy, IsLeased, IsLegal, MayFollow, Notes}
 use Rattle.res_ledger.specs.declared.event.Event.{Event}
 use Rattle.res_ledger.specs.Streams.{HasRight, by_stream}
@@ -149,9 +149,9 @@ module _ (log : List Event) (e : Event) where
       stands_more (k r) (acquired_more log e) (row_closed_more log e) (finalized_more log e) (λ f. ⊎_elim (λ o. o) (λ t. absurd (no_final r t.0 t.1 t.2)) (finalized_snoc log e r f))
       (λ far a. ⊎_elim (λ o. o) (λ t. let l = within r t.0 t.1 in absurd (omega arith)) (acquired_snoc log e r a))
 
-  pub tick_deeds : (ds : List Ownership) → DeedsAgree log ds → (id : ℕ) (d d' : Ownership) → IsAt ds id d → d'.by ≡ d.by → d'.events ≡ d.events ++ e ∷ [] → d'.empty ≡ d.empty → d'.opened ≡ d.opened → ((r : ℕ) → IsAmong r d'.handed → IsAmong r d.handed)
-      → ((i r s : ℕ) (u : Ownership) → i ≢ id → IsAt ds i u → IsAmong r u.empty → e.what ≢ Acquire r s) → DeedsAgree (log ++ e ∷ []) (slice_set ds id d')
-  tick_deeds ds k id d d' at by events empty open_count hands apart = record {
+  pub tick_ownerships : (ds : List Ownership) → OwnershipsAgree log ds → (id : ℕ) (d d' : Ownership) → IsAt ds id d → d'.by ≡ d.by → d'.events ≡ d.events ++ e ∷ [] → d'.empty ≡ d.empty → d'.opened ≡ d.opened → ((r : ℕ) → IsAmong r d'.handed → IsAmong r d.handed)
+      → ((i r s : ℕ) (u : Ownership) → i ≢ id → IsAt ds i u → IsAmong r u.empty → e.what ≢ Acquire r s) → OwnershipsAgree (log ++ e ∷ []) (slice_set ds id d')
+  tick_ownerships ds k id d d' at by events empty open_count hands apart = record {
     fresh = λ i r t q u. each ds id d' (λ i u. IsAmong r u.empty → Notes (log ++ e ∷ []) q (Acquire r t) → Notes u.events q (Acquire r t))
         (λ a n. subst (λ l. Notes l q (Acquire r t)) (sym events) (⊎_elim (λ o. noted_more d.events e (k.fresh id r t q d at (subst (λ l. IsAmong r l) empty a) o)) (λ x. (e, among_last d.events e, x.0, x.1)) (noted_snoc log e q (Acquire r t) n)))
         (λ i u ne g a n. ⊎_elim (λ o. k.fresh i r t q u g a o) (λ x. absurd (apart i r t u ne g a x.1)) (noted_snoc log e q (Acquire r t) n)) i u;

@@ -4,7 +4,7 @@ use Rattle.std.specs.Prelude.{Option}
 use Rattle.res_ledger.specs.declared.event.What.TheVariants.{Acquire, Cancel, Close, Final, Lease, Open}
 use Rattle.chunk_core.specs.declared.code.Exit.{Exit}
 use Rattle.row_seat.specs.Totals.{IsAt, row_times, times}
-use Rattle.row_seat.specs.Rule.{Book, BooksAgree, Ownership, DeedsAgree, Hold, LeasesAgree, PaysAgree, RowsAgree, IsBlankView, IsSeated, RuleHolds, SeatsAgree, Holdings, book, deed, hold, leases, purse, view_of, who, work}
+use Rattle.row_seat.specs.Rule.{Book, BooksAgree, Ownership, OwnershipsAgree, Hold, LeasesAgree, PaysAgree, RowsAgree, IsBlankView, IsSeated, RuleHolds, SeatsAgree, Holdings, book, ownership, hold, leases, purse, view_of, who, work}
 use Rattle.res_ledger.specs.declared.event.Event.{Event}
 use Rattle.chunk_core.specs.Lists.{IsAmong}
 use Rattle.res_ledger.specs.Ledger.{IsClosed, IsHanded, IsUsable, MayFollow, Notes}
@@ -16,7 +16,7 @@ use Rattle.res_ledger.proofs.Ledgers.{acquire_row, closed_map, covered_map, inne
 use Rattle.row_seat.proofs.Members.{among_without}
 use Rattle.chunk_core.proofs.Places.{at_map, set_again}
 use Rattle.res_ledger.specs.Streams.{by_stream}
-use Rattle.row_seat.proofs.Tick.{cancel_leases, final_pays, final_rows, is_handed, is_inside, lease_leases, one_empty, tick_books, tick_deeds, tick_leases, tick_pays, tick_rows, tick_seats}
+use Rattle.row_seat.proofs.Tick.{cancel_leases, final_pays, final_rows, is_handed, is_inside, lease_leases, one_empty, tick_books, tick_ownerships, tick_leases, tick_pays, tick_rows, tick_seats}
 use Rattle.row_seat.proofs.Totals.{each, map_back, map_put, total_at, total_one}
 use Rattle.row_seat.specs.Steps.{noted}
 use Rattle.row_seat.proofs.Times.{row_some, times_some}
@@ -30,7 +30,7 @@ live_not t f = let e = sym t ∙ f in cc
 module _ {P : Type 0} (rows room : ℕ) (word : ℕ → ℕ) (slot : ℕ → Option P) (log : List Event) (views : List (Token P)) (id : ℕ) (w : Token P) where
   -- the rule from its parts, where one view is new
   pub rule_put : SeatsAgree log (slice_set (map who views) id (who w)) → BooksAgree room log (slice_set (map book views) id (book w)) → RowsAgree rows word log (slice_set (map work views) id (work w))
-      → DeedsAgree log (slice_set (map deed views) id (deed w)) → LeasesAgree log (slice_set (map hold views) id (hold w)) → PaysAgree word slot log (slice_set (map purse views) id (purse w))
+      → OwnershipsAgree log (slice_set (map ownership views) id (ownership w)) → LeasesAgree log (slice_set (map hold views) id (hold w)) → PaysAgree word slot log (slice_set (map purse views) id (purse w))
       → ((i : ℕ) (v : Token P) → IsAt (slice_set views id w) i v → v.live ≡ false → IsBlankView v)
       → ((i j r : ℕ) (v : Token P) → IsAt (slice_set views id w) i v → IsAmong (j, r) v.pairs → j < 2 ^ 32)
       → RuleHolds rows room word slot log (slice_set views id w)
@@ -38,18 +38,18 @@ module _ {P : Type 0} (rows room : ℕ) (word : ℕ → ℕ) (slot : ℕ → Opt
     seats = subst (λ l. SeatsAgree log l) (sym (map_put who views id w)) a;
     books = subst (λ l. BooksAgree room log l) (sym (map_put book views id w)) b;
     words = subst (λ l. RowsAgree rows word log l) (sym (map_put work views id w)) c;
-    deeds = subst (λ l. DeedsAgree log l) (sym (map_put deed views id w)) d;
+    ownerships = subst (λ l. OwnershipsAgree log l) (sym (map_put ownership views id w)) d;
     leases = subst (λ l. LeasesAgree log l) (sym (map_put hold views id w)) e;
     pays = subst (λ l. PaysAgree word slot log l) (sym (map_put purse views id w)) f;
-    spent = g;
+    taken_in = g;
     small = h;
   }
 
 module _ {P : Type 0} {rows room : ℕ} {word : ℕ → ℕ} {slot : ℕ → Option P} {log : List Event} {views : List (Token P)} (rule : RuleHolds rows room word slot log views) {id : ℕ} {v : Token P} (seat : IsSeated views id v) where
   open seat use {at, live}
 
-  pub spent_put : (w : Token P) → w.live ≡ true → (i : ℕ) (u : Token P) → IsAt (slice_set views id w) i u → u.live ≡ false → IsBlankView u
-  spent_put w l = each views id w (λ i u. u.live ≡ false → IsBlankView u) (λ d. absurd (live_not l d)) (λ i u ne g. rule.spent i u g)
+  pub taken_in_put : (w : Token P) → w.live ≡ true → (i : ℕ) (u : Token P) → IsAt (slice_set views id w) i u → u.live ≡ false → IsBlankView u
+  taken_in_put w l = each views id w (λ i u. u.live ≡ false → IsBlankView u) (λ d. absurd (live_not l d)) (λ i u ne g. rule.taken_in i u g)
 
   pub small_put : (w : Token P) → ((j r : ℕ) → IsAmong (j, r) w.pairs → j < 2 ^ 32) → (i j r : ℕ) (u : Token P) → IsAt (slice_set views id w) i u → IsAmong (j, r) u.pairs → j < 2 ^ 32
   small_put w h i j r u = each views id w (λ i u. IsAmong (j, r) u.pairs → j < 2 ^ 32) (h j r) (λ i u ne g. rule.small i j r u g) i u
@@ -63,8 +63,8 @@ module _ {P : Type 0} {rows room : ℕ} {word : ℕ → ℕ} {slot : ℕ → Opt
   pub at_work : IsAt (map work views) id (work v)
   at_work = at_map work views id v at
 
-  pub at_deed : IsAt (map deed views) id (deed v)
-  at_deed = at_map deed views id v at
+  pub at_ownership : IsAt (map ownership views) id (ownership v)
+  at_ownership = at_map ownership views id v at
 
   pub at_hold : IsAt (map hold views) id (hold v)
   at_hold = at_map hold views id v at
@@ -112,7 +112,7 @@ module _ {P : Type 0} {rows room : ℕ} {word : ℕ → ℕ} {slot : ℕ → Opt
     -- each event meets its condition on all events
     pub meets : (w : What) → MayNote (view_of v hands) w → MayFollow log v.by w
     meets (Open s p) m = (m.0, (λ o. m.1 (o.0, back (Open s o.0) o.1)), usable p m.2)
-    meets (Acquire r s) m = ((λ a. m.1 (a.0, a.1, rule.deeds.fresh id r a.1 a.0 (deed v) at_deed m.0 a.2)), usable s m.2)
+    meets (Acquire r s) m = ((λ a. m.1 (a.0, a.1, rule.ownerships.fresh id r a.1 a.0 (ownership v) at_ownership m.0 a.2)), usable s m.2)
     meets (Lease j s) m = (
       (λ l. m.3 (v.by, l.1, back (Lease j l.1) (subst (λ k. Notes log k (Lease j l.1)) (rule.leases.by_main id j l.1 l.0 (hold v) at_hold m.0 l.2) l.2))),
       m.1,
@@ -130,7 +130,7 @@ module _ {P : Type 0} {rows room : ℕ} {word : ℕ → ℕ} {slot : ℕ → Opt
               k.2,
         )
     meets (Close s how) m = usable s m
-    meets (Final r how ok) m = (handed_log r m.1, rule.deeds.handed id r (deed v) at_deed m.1)
+    meets (Final r how ok) m = (handed_log r m.1, rule.ownerships.handed id r (ownership v) at_ownership m.1)
 
 module _ {P : Type 0} {rows room : ℕ} {word : ℕ → ℕ} {slot : ℕ → Option P} {log : List Event} {views : List (Token P)} (rule : RuleHolds rows room word slot log views) {id : ℕ} {v : Token P} (seat : IsSeated views id v)
     (sp : 1 ≤ v.spare) (hands : List (ℕ × P)) where
@@ -155,11 +155,11 @@ module _ {P : Type 0} {rows room : ℕ} {word : ℕ → ℕ} {slot : ℕ → Opt
       keep (λ l. SeatsAgree (log ++ e ∷ []) l) (map who views) id (who v) g (tick_seats log e (map who views) rule.seats id (who v) g live refl)
 
   -- an event of no row is nobody's Acquire
-  new_deeds : (x : What) (d : Ownership) → d.by ≡ v.by → d.events ≡ v.events ++ record { stamp = length log; by = v.by; what = x } ∷ [] → d.empty ≡ v.empty → d.opened ≡ v.opened → ((r : ℕ) → IsAmong r d.handed → IsAmong r v.handed) → ((r s : ℕ) → x ≡ Acquire r s → IsAmong r v.empty)
-      → DeedsAgree (log ++ record { stamp = length log; by = v.by; what = x } ∷ []) (slice_set (map deed views) id d)
-  new_deeds x d by events empty opened handed mine = let e : Event = record { stamp = length log; by = v.by; what = x } in
-      tick_deeds log e (map deed views) rule.deeds id (deed v) d (at_deed rule seat) by events empty opened handed
-      (λ i r s u ne g m is. let t = map_back deed views i u g in ne (one_right rule seat r i t.0 t.1 (mine r s is) (subst (λ (y : Ownership). IsAmong r y.empty) (sym t.2) m)))
+  new_ownerships : (x : What) (d : Ownership) → d.by ≡ v.by → d.events ≡ v.events ++ record { stamp = length log; by = v.by; what = x } ∷ [] → d.empty ≡ v.empty → d.opened ≡ v.opened → ((r : ℕ) → IsAmong r d.handed → IsAmong r v.handed) → ((r s : ℕ) → x ≡ Acquire r s → IsAmong r v.empty)
+      → OwnershipsAgree (log ++ record { stamp = length log; by = v.by; what = x } ∷ []) (slice_set (map ownership views) id d)
+  new_ownerships x d by events empty opened handed mine = let e : Event = record { stamp = length log; by = v.by; what = x } in
+      tick_ownerships log e (map ownership views) rule.ownerships id (ownership v) d (at_ownership rule seat) by events empty opened handed
+      (λ i r s u ne g m is. let t = map_back ownership views i u g in ne (one_right rule seat r i t.0 t.1 (mine r s is) (subst (λ (y : Ownership). IsAmong r y.empty) (sym t.2) m)))
 
   new_rows : (x : What) → ((r : ℕ) (how : Exit) (ok : Bool) → x ≢ Final r how ok) → ((r s : ℕ) → x ≡ Acquire r s → IsAmong r v.empty) → RowsAgree rows word (log ++ record { stamp = length log; by = v.by; what = x } ∷ []) (slice_set (map work views) id (work v))
   new_rows x no_final mine = let e : Event = record { stamp = length log; by = v.by; what = x } in let g = at_work rule seat in
@@ -178,8 +178,8 @@ module _ {P : Type 0} {rows room : ℕ} {word : ℕ → ℕ} {slot : ℕ → Opt
   plain_tick : (x : What) → MayNote (view_of v hands) x → ((r : ℕ) (how : Exit) (ok : Bool) → x ≢ Final r how ok) → ((r s : ℕ) → x ≡ Acquire r s → IsAmong r v.empty) → ((j s : ℕ) → x ≢ Lease j s) → ((j : ℕ) (how : Exit) → x ≢ Cancel j how)
       → let e : Event = record { stamp = length log; by = v.by; what = x } in let w : Token P = record v { events = v.events ++ e ∷ []; spare = v.spare - 1 } in RuleHolds rows room word slot (log ++ e ∷ []) (slice_set views id w)
   plain_tick x may no_final mine no_lease no_cancel = let e : Event = record { stamp = length log; by = v.by; what = x } in let w : Token P = record v { events = v.events ++ e ∷ []; spare = v.spare - 1 } in
-      rule_put rows room word slot (log ++ e ∷ []) views id w (new_seats x) (new_books x may) (new_rows x no_final mine) (new_deeds x (deed w) refl refl refl refl (λ r m. m) mine) (new_leases x no_lease no_cancel) (new_pays x no_final)
-      (spent_put rule seat w live) (small_put rule seat w (λ i q m. rule.small id i q v at m))
+      rule_put rows room word slot (log ++ e ∷ []) views id w (new_seats x) (new_books x may) (new_rows x no_final mine) (new_ownerships x (ownership w) refl refl refl refl (λ r m. m) mine) (new_leases x no_lease no_cancel) (new_pays x no_final)
+      (taken_in_put rule seat w live) (small_put rule seat w (λ i q m. rule.small id i q v at m))
 
   -- every tick keeps the rule
   pub tick_keeps : (x : What) → MayNote (view_of v hands) x → let e : Event = record { stamp = length log; by = v.by; what = x } in RuleHolds rows room word slot (log ++ e ∷ []) (slice_set views id (noted v e))
@@ -189,23 +189,23 @@ module _ {P : Type 0} {rows room : ℕ} {word : ℕ → ℕ} {slot : ℕ → Opt
   tick_keeps (Lease j s) may =
       let x = Lease j s in let e : Event = record { stamp = length log; by = v.by; what = x } in let w : Token P = noted v e in
       let m = meets rule seat hands x may in
-      rule_put rows room word slot (log ++ e ∷ []) views id w (new_seats x) (new_books x may) (new_rows x (λ q how ok h. cc) (λ q t h. absurd (kinds_apart h refl))) (new_deeds x (deed w) refl refl refl refl (λ r m. m) (λ q t h. absurd (kinds_apart h refl)))
+      rule_put rows room word slot (log ++ e ∷ []) views id w (new_seats x) (new_books x may) (new_rows x (λ q how ok h. cc) (λ q t h. absurd (kinds_apart h refl))) (new_ownerships x (ownership w) refl refl refl refl (λ r m. m) (λ q t h. absurd (kinds_apart h refl)))
       (lease_leases log e (map hold views) rule.leases id j s (hold v) (at_hold rule seat) may.0 (only_main may.0) rule.books.legal refl refl m.0 may.2
       (λ r. (
         (λ a. covered_map v.events log v.by (forth rule seat) s r (closed_back rule seat) ((may.5 r).0 a)),
         (λ c. (may.5 r).1 (covered_map log v.events v.by (back rule seat) s r (closed_forth rule seat) c)),
       )))
-      (new_pays x (λ q how ok h. cc)) (spent_put rule seat w live) (small_put rule seat w (λ i q m. rule.small id i q v at m))
+      (new_pays x (λ q how ok h. cc)) (taken_in_put rule seat w live) (small_put rule seat w (λ i q m. rule.small id i q v at m))
   tick_keeps (Cancel j how) may =
       let x = Cancel j how in let e : Event = record { stamp = length log; by = v.by; what = x } in let w : Token P = noted v e in
-      rule_put rows room word slot (log ++ e ∷ []) views id w (new_seats x) (new_books x may) (new_rows x (λ q how ok h. cc) (λ q t h. absurd (kinds_apart h refl))) (new_deeds x (deed w) refl refl refl refl (λ r m. m) (λ q t h. absurd (kinds_apart h refl)))
+      rule_put rows room word slot (log ++ e ∷ []) views id w (new_seats x) (new_books x may) (new_rows x (λ q how ok h. cc) (λ q t h. absurd (kinds_apart h refl))) (new_ownerships x (ownership w) refl refl refl refl (λ r m. m) (λ q t h. absurd (kinds_apart h refl)))
       (cancel_leases log e (map hold views) rule.leases id j how (hold v) (at_hold rule seat) refl may.0)
-      (new_pays x (λ q how ok h. cc)) (spent_put rule seat w live) (small_put rule seat w (λ i q m. rule.small id i q v at m))
+      (new_pays x (λ q how ok h. cc)) (taken_in_put rule seat w live) (small_put rule seat w (λ i q m. rule.small id i q v at m))
   tick_keeps (Final r how ok) may =
       let x = Final r how ok in let e : Event = record { stamp = length log; by = v.by; what = x } in let w : Token P = noted v e in
       rule_put rows room word slot (log ++ e ∷ []) views id w (new_seats x) (new_books x may)
       (final_rows log e rows word (map work views) rule.words id r how ok (work v) (at_work rule seat) refl may.1)
-      (new_deeds x (deed w) refl refl refl refl (λ q m. (among_without r v.handed q m).0) (λ q t h. absurd (kinds_apart h refl)))
+      (new_ownerships x (ownership w) refl refl refl refl (λ q m. (among_without r v.handed q m).0) (λ q t h. absurd (kinds_apart h refl)))
       (new_leases x (λ j t h. cc) (λ j how h. cc))
       (final_pays log e word slot (map purse views) rule.pays id r how ok (purse v) (at_purse rule seat) refl may.1)
-      (spent_put rule seat w live) (small_put rule seat w (λ i q m. rule.small id i q v at m))
+      (taken_in_put rule seat w live) (small_put rule seat w (λ i q m. rule.small id i q v at m))

@@ -102,7 +102,7 @@ pub record Ownership : Type 0 where
   pub handed : List ℕ
 
 -- a row is placed by the stream that acquired it, and finalized by who has the right
-pub record DeedsAgree (log : List Event) (ds : List Ownership) : Type 0 where
+pub record OwnershipsAgree (log : List Event) (ds : List Ownership) : Type 0 where
   pub fresh : (i r t : ℕ) (k : StreamNo) (d : Ownership) → IsAt ds i d → IsAmong r d.empty → Notes log k (Acquire r t) → Notes d.events k (Acquire r t)
   pub opened : (i r : ℕ) (d : Ownership) → IsAt ds i d → IsAmong r d.opened → (s : ℕ) × Notes log d.by (Acquire r s)
   pub handed : (i r : ℕ) (d : Ownership) → IsAt ds i d → IsAmong r d.handed → HasRight log d.by r
@@ -191,8 +191,8 @@ module _ {P : Type 0} where
   abbrev pub work : Token P → Holdings
   work v = record { empty = v.empty; opened = v.opened; pairs = v.pairs; handed = v.handed }
 
-  abbrev pub deed : Token P → Ownership
-  deed v = record { by = v.by; events = v.events; empty = v.empty; opened = v.opened; handed = v.handed }
+  abbrev pub ownership : Token P → Ownership
+  ownership v = record { by = v.by; events = v.events; empty = v.empty; opened = v.opened; handed = v.handed }
 
   abbrev pub hold : Token P → Hold
   hold v = record { main = v.main; by = v.by; had = v.had; pairs = v.pairs; kept = v.kept; opened = v.opened }
@@ -209,10 +209,10 @@ module _ {P : Type 0} where
     pub seats : SeatsAgree log (map who views)
     pub books : BooksAgree room log (map book views)
     pub words : RowsAgree rows word log (map work views)
-    pub deeds : DeedsAgree log (map deed views)
+    pub ownerships : OwnershipsAgree log (map ownership views)
     pub leases : LeasesAgree log (map hold views)
     pub pays : PaysAgree word slot log (map purse views)
     -- streams are numbered in 32 bits
     pub small : (i j r : ℕ) (v : Token P) → IsAt views i v → IsAmong (j, r) v.pairs → j < 2 ^ 32
-    -- a spent seat has nothing
-    pub spent : (i : ℕ) (v : Token P) → IsAt views i v → v.live ≡ false → IsBlankView v
+    -- a seat that was taken in has nothing
+    pub taken_in : (i : ℕ) (v : Token P) → IsAt views i v → v.live ≡ false → IsBlankView v

@@ -75,5 +75,5 @@ module _ {P : Type 0} where
   joined v w = stepped v v.opened (λ u. views.joined u (view_of w []))
 
   -- a seat that was taken in
-  abbrev pub spent : Token P → Token P
-  spent v = record (first_token v.by 0 0 0) { live = false; main = false }
+  abbrev pub taken_in : Token P → Token P
+  taken_in v = record (first_token v.by 0 0 0) { live = false; main = false }

@@ -169,12 +169,12 @@ impl<P> Steps<Known<Token<P>>, Token<P>> for Joining {
 }
 
 /// What is left of a seat that was taken in.
-pub struct Spending;
+pub struct TakingIn;
 
-impl<P> Says<Known<Token<P>>, Token<P>> for Spending {
-    ghost use Rattle.row_seat.specs.Steps.{spent};
+impl<P> Says<Known<Token<P>>, Token<P>> for TakingIn {
+    ghost use Rattle.row_seat.specs.Steps.{taken_in};
 
-    ghost says = { λ x. spent x };
+    ghost says = { λ x. taken_in x };
 }
 
 /// What the first seat knows.

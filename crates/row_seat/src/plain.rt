@@ -4,7 +4,7 @@ ghost use Rattle.std.specs.Prelude.{◌≡◌, ℕ, ◌<◌, ◌-◌, ◌^◌, I
 use crate::hand::{find, take_out};
 use crate::knowledge::{
     Alone, Counts, Halving, Handing, HandingOver, Joining, Leasing, Leaving, Noting, Placing,
-    Shutting, Spending, Splitting, Starting, Taking, Zero, add, put,
+    Shutting, Splitting, Starting, Taking, TakingIn, Zero, add, put,
 };
 use crate::seat::RowSeat;
 use crate::token::Token;
@@ -180,9 +180,9 @@ impl<P: Drop> RowSeat for PlainSeat<P> {
         } = other;
         hands.destroy_empty();
         self.token = step::<Known<Token<P>>, Token<P>, Joining>(&self.token, &token);
-        let spent = know::<Known<Token<P>>, Token<P>, Spending>(&token);
+        let taken_in = know::<Known<Token<P>>, Token<P>, TakingIn>(&token);
         let views = put(&desk.views, &self.id, &self.token);
-        desk.views = put(&views, &id, &spent);
+        desk.views = put(&views, &id, &taken_in);
     }
 
     fn finish(self, desk: &mut PlainTable<P>) -> Ledger {

@@ -21,8 +21,8 @@ use Rattle.scope_tree.specs.declared.branch.AcquiredRow.{AcquiredRow}
 use Rattle.scope_tree.specs.Kids.{lasts, kids, whole}
 use Rattle.scope_tree.specs.Released.{CanRelease}
 use Rattle.scope_tree.specs.Released.Holder.{owner}
-use Rattle.scope_tree.specs.Kept.{marks, held_pairs, Kept}
-use Rattle.scope_tree.specs.Words.{words, open_of, numbers}
+use Rattle.scope_tree.specs.Kept.{marks, acquisition_pairs, Kept}
+use Rattle.scope_tree.specs.Trace.{trace, open_of, numbers}
 use Rattle.scope_tree.proofs.Parts.{kids_cases, lasts_pair, distinct_whole, below_is, latest_is, kids_up, eqb_eq}
 use Rattle.chunk_core.proofs.Filters.{among_append, among_right}
 use Rattle.scope_tree.proofs.Bridge.{noted_in, in_noted, in_opens, opens_in, in_rows, marks_at, marks_in, within_cases}
@@ -42,7 +42,7 @@ shut_not e = cc
 
 module _ (bs : List Branch) (hs : List AcquiredRow) where
   -- each row below s is one of an open scope below s
-  kids_under : (r s n : ℕ) (cs : List Branch) → 1 ≤ n → length cs + n ≡ length bs → ((i : ℕ) (d : Branch) → i < length cs → slice_index_or cs i d ≡ slice_index_or bs (i + n) d) → IsAmong r (kids n cs hs s) → (t : ℕ) × IsAmong (r, t) (held_pairs hs) × ((a : ℕ) → Under bs a s → Under bs a t)
+  kids_under : (r s n : ℕ) (cs : List Branch) → 1 ≤ n → length cs + n ≡ length bs → ((i : ℕ) (d : Branch) → i < length cs → slice_index_or cs i d ≡ slice_index_or bs (i + n) d) → IsAmong r (kids n cs hs s) → (t : ℕ) × IsAmong (r, t) (acquisition_pairs hs) × ((a : ℕ) → Under bs a s → Under bs a t)
   kids_under r s n [] one len at m = absurd (among_nil m)
   kids_under r s n (b ∷ cs) one len at m =
       let at' : (i : ℕ) (d : Branch) → i < length cs → slice_index_or cs i d ≡ slice_index_or bs (i + suc n) d = λ i d l. let e : suc i + n ≡ i + suc n = omega arith in at (suc i) d (omega arith) ∙ ap (λ k. slice_index_or bs k d) e in
@@ -68,7 +68,7 @@ at_drop zero i d xs = let e : i ≡ i + zero = omega arith in ap (λ k. slice_in
 at_drop (suc n) i d [] = refl
 at_drop (suc n) i d (x ∷ xs) = let e : suc (i + n) ≡ i + suc n = omega arith in at_drop n i d xs ∙ ap (λ k. slice_index_or (x ∷ xs) k d) e
 
-pub whole_under : (bs : List Branch) (hs : List AcquiredRow) (r s : ℕ) → s < length bs → IsAmong r (whole bs hs s) → (t : ℕ) × IsAmong (r, t) (held_pairs hs) × Under bs s t
+pub whole_under : (bs : List Branch) (hs : List AcquiredRow) (r s : ℕ) → s < length bs → IsAmong r (whole bs hs s) → (t : ℕ) × IsAmong (r, t) (acquisition_pairs hs) × Under bs s t
 whole_under bs hs r s l m =
     ⊎_elim
     (λ k. let t = kids_under bs hs r s (suc s) (drop (suc s) bs) (omega arith) (length-drop' (suc s) bs (omega arith)) (λ i d q. at_drop (suc s) i d bs) k in (t.0, t.1, t.2 s self))
@@ -108,18 +108,18 @@ number_in s p [] m = absurd (among_nil m)
 number_in s p (o ∷ os) m = ⊎_elim (λ e. subst (λ z. IsAmong s (z ∷ numbers os)) (ap (λ y. y.0) e) (here (numbers os))) (λ n. there o.0 (number_in s p os n)) (among_cons m)
 
 module _ {P : Type 0} (v : View P) where
-  pub closed_sound : (s : ℕ) → is_closed (words v) s ≡ true → IsClosed v.events v.by s
+  pub closed_sound : (s : ℕ) → is_closed (trace v) s ≡ true → IsClosed v.events v.by s
   closed_sound s h =
-      let t = any_found (λ a. has a (closes (words v))) (ancestors (words v) s) h in (
+      let t = any_found (λ a. has a (closes (trace v))) (ancestors (trace v) s) h in (
         t.0,
-        up_within v.events v.by (reverse (opens (words v))) s t.0 (λ c p m. in_noted v.by (Open c p) v.events (in_opens c p (words v) (among_reverse (c, p) (opens (words v)) m))) t.1,
-        closes_notes v.events v.by t.0 (has_in t.0 (closes (words v)) t.2),
+        up_within v.events v.by (reverse (opens (trace v))) s t.0 (λ c p m. in_noted v.by (Open c p) v.events (in_opens c p (trace v) (among_reverse (c, p) (opens (trace v)) m))) t.1,
+        closes_notes v.events v.by t.0 (has_in t.0 (closes (trace v)) t.2),
       )
 
-  pub one_open : (s : ℕ) → IsUsable v.events v.by s → (is_closed (words v) s ≡ false) × IsAmong s (0 ∷ numbers (opens (words v)))
+  pub one_open : (s : ℕ) → IsUsable v.events v.by s → (is_closed (trace v) s ≡ false) × IsAmong s (0 ∷ numbers (opens (trace v)))
   one_open s u = (
-    not_true' (is_closed (words v) s) (λ h. u.1 (closed_sound s h)),
-    ⊎_elim (λ e. subst (λ z. IsAmong z (0 ∷ numbers (opens (words v)))) (sym e) (here (numbers (opens (words v))))) (λ o. there 0 (number_in s o.0 (opens (words v)) (opens_in s o.0 (words v) (noted_in v.by (Open s o.0) v.events o.1)))) u.0,
+    not_true' (is_closed (trace v) s) (λ h. u.1 (closed_sound s h)),
+    ⊎_elim (λ e. subst (λ z. IsAmong z (0 ∷ numbers (opens (trace v)))) (sym e) (here (numbers (opens (trace v))))) (λ o. there 0 (number_in s o.0 (opens (trace v)) (opens_in s o.0 (trace v) (noted_in v.by (Open s o.0) v.events o.1)))) u.0,
   )
 
 module _ {P : Type 0} (v : View P) (bs : List Branch) (hs : List AcquiredRow) (k : Kept v bs hs) where
@@ -132,12 +132,12 @@ module _ {P : Type 0} (v : View P) (bs : List Branch) (hs : List AcquiredRow) (k
       let m = marks_at (drop 1 bs) 1 i d size in
       let q : (slice_index_or (drop 1 bs) i d).parent ≡ p = ap (λ b. b.parent) (at_drop 1 i d bs ∙ ap (λ n. slice_index_or bs n d) e) ∙ h d in
       let m' : IsAmong (c, p) (marks 1 (drop 1 bs)) = subst (λ y. IsAmong y (marks 1 (drop 1 bs))) (let z : (i + 1, (slice_index_or (drop 1 bs) i d).parent) ≡ (c, p) = (cc (e, q)) in z) m in
-      in_noted v.by (Open c p) v.events (in_opens c p (words v) (subst (λ l. IsAmong (c, p) l) (sym k.mirrors.opens) m'))
+      in_noted v.by (Open c p) v.events (in_opens c p (trace v) (subst (λ l. IsAmong (c, p) l) (sym k.mirrors.opens) m'))
 
   -- what is noted as opened is a scope of the tree
   pub noted_scope : (c p : ℕ) → Notes v.events v.by (Open c p) → (1 ≤ c) × (c < length bs) × ((d : Branch) → (slice_index_or bs c d).parent ≡ p)
   noted_scope c p n =
-      let t = marks_in (drop 1 bs) 1 c p (subst (λ l. IsAmong (c, p) l) k.mirrors.opens (opens_in c p (words v) (noted_in v.by (Open c p) v.events n))) in
+      let t = marks_in (drop 1 bs) 1 c p (subst (λ l. IsAmong (c, p) l) k.mirrors.opens (opens_in c p (trace v) (noted_in v.by (Open c p) v.events n))) in
       let l = length-drop' 1 bs k.mirrors.size in let q = t.1 in let e = t.2 in
       (omega arith, (omega arith), λ d. ap (λ b. b.parent) (ap (λ n. slice_index_or bs n d) e ∙ sym (at_drop 1 t.0 d bs)) ∙ t.3 d)
 
@@ -149,7 +149,7 @@ module _ {P : Type 0} (v : View P) (bs : List Branch) (hs : List AcquiredRow) (k
   under_within s t (child c p one l sh pa u) = below c p s (noted_parent c p one l pa) (under_within s p u)
 
   pub open_shut : (c : ℕ) (d : Branch) → c < length bs → (slice_index_or bs c d).shut ≡ false → ¬ (NotesClose v.events v.by c)
-  open_shut c d l sh n = shut_not (sym (k.mirrors.shut c d l ∙ in_has c (closes (words v)) (notes_closes v.events v.by c n)) ∙ sh)
+  open_shut c d l sh n = shut_not (sym (k.mirrors.shut c d l ∙ in_has c (closes (trace v)) (notes_closes v.events v.by c n)) ∙ sh)
 
   pub under_open : (s t : ℕ) → Under bs s t → ¬ (IsClosed v.events v.by s) → ¬ (IsClosed v.events v.by t)
   under_open s t self n x = n x
@@ -161,7 +161,7 @@ module _ {P : Type 0} (v : View P) (bs : List Branch) (hs : List AcquiredRow) (k
       (within_cases x.1)
 
   pub no_own_close : (c : ℕ) (d : Branch) → c < length bs → ¬ (NotesClose v.events v.by c) → (slice_index_or bs c d).shut ≡ false
-  no_own_close c d l n = k.mirrors.shut c d l ∙ not_true' (has c (closes (words v))) (λ h. n (closes_notes v.events v.by c (has_in c (closes (words v)) h)))
+  no_own_close c d l n = k.mirrors.shut c d l ∙ not_true' (has c (closes (trace v))) (λ h. n (closes_notes v.events v.by c (has_in c (closes (trace v)) h)))
 
   up_one : (r t p : ℕ) → t < length bs → 1 ≤ t → ((d : Branch) → (slice_index_or bs t d).parent ≡ p) → ((d : Branch) → (slice_index_or bs t d).shut ≡ false) → IsAmong r (whole bs hs t) → IsAmong r (whole bs hs p)
   up_one r t p l one pa sh m =
@@ -181,15 +181,15 @@ module _ {P : Type 0} (v : View P) (bs : List Branch) (hs : List AcquiredRow) (k
       (up_one r t p l z.0 z.2 (λ d. no_own_close t d l (λ c. n (t, same t, c))) m)
 
   -- the rows that stand below s are those of the definition
-  pub whole_is : (s : ℕ) → s < length bs → whole bs hs s ≡ teardown (words v) s
+  pub whole_is : (s : ℕ) → s < length bs → whole bs hs s ≡ teardown (trace v) s
   whole_is s l =
-      let f : ℕ → Bool = λ c. has c (closes (words v)) in let d : Branch = record { parent = 0; shut = false } in
+      let f : ℕ → Bool = λ c. has c (closes (trace v)) in let d : Branch = record { parent = 0; shut = false } in
       let up1 = kids_up bs hs s s d k.mirrors.parents (omega arith) l in
       let b1 = below_is 1 (drop 1 bs) hs f s (λ i d q. ap (λ b. b.shut) (at_drop 1 i d bs) ∙ k.mirrors.shut (i + 1) d (let t = length-drop' 1 bs k.mirrors.size in omega arith)) in
-      ap (λ l. l ++ lasts hs s) (sym up1 ∙ b1) ∙ ap (λ l. beneath (marks 1 (drop 1 bs)) f (held_pairs hs) s ++ l) (latest_is hs s) ∙ ap (λ l. beneath (marks 1 (drop 1 bs)) f l s ++ latest l s) (sym k.mirrors.rows) ∙ ap (λ o. beneath o f (rows (words v)) s ++ latest (rows (words v)) s) (sym k.mirrors.opens)
+      ap (λ l. l ++ lasts hs s) (sym up1 ∙ b1) ∙ ap (λ l. beneath (marks 1 (drop 1 bs)) f (acquisition_pairs hs) s ++ l) (latest_is hs s) ∙ ap (λ l. beneath (marks 1 (drop 1 bs)) f l s ++ latest l s) (sym k.mirrors.rows) ∙ ap (λ o. beneath o f (rows (trace v)) s ++ latest (rows (trace v)) s) (sym k.mirrors.opens)
 
   pub close_spare : (s : ℕ) → IsUsable v.events v.by s → 1 ≤ v.spare
-  close_spare s u = let o = k.rests.spare in let c = one_open v s u in let p = open_pos (words v) (0 ∷ numbers (opens (words v))) s c.1 c.0 in omega arith
+  close_spare s u = let o = k.rests.spare in let c = one_open v s u in let p = open_pos (trace v) (0 ∷ numbers (opens (trace v))) s c.1 c.0 in omega arith
 
   pub close_count : (s : ℕ) → IsUsable v.events v.by s → length (whole bs hs s) ≤ length v.opened
   close_count s u = fit_in (whole bs hs s) v.opened (distinct_whole hs k.mirrors.distinct s bs) (λ r m. let w = whole_under bs hs r s (usable_scope s u) m in k.holds.live r w.0 w.1 (under_open s w.0 w.2 u.1))
@@ -204,10 +204,10 @@ module _ {P : Type 0} (v : View P) (bs : List Branch) (hs : List AcquiredRow) (k
         rows = λ r m.
             let w = whole_under bs hs r s l m in (
               row r m,
-              (w.0, noted_more v.events e (in_noted v.by (Acquire r w.0) v.events (in_rows r w.0 (words v) (subst (λ l. IsAmong (r, w.0) l) (sym k.mirrors.rows) w.1))), (s, within_more v.events e (under_within s w.0 w.2), (x, noted_new v.events e))),
+              (w.0, noted_more v.events e (in_noted v.by (Acquire r w.0) v.events (in_rows r w.0 (trace v) (subst (λ l. IsAmong (r, w.0) l) (sym k.mirrors.rows) w.1))), (s, within_more v.events e (under_within s w.0 w.2), (x, noted_new v.events e))),
               λ j a. let p = k.lends.pairs j r a (row r m) in (p.0, noted_more v.events e p.1),
             );
         handed = k.rests.handed;
         taken = k.rests.taken;
-        spare = let f = fit_in (whole bs hs s) v.opened (distinct_whole hs k.mirrors.distinct s bs) row in let o = k.rests.spare in let c = one_open v s u in let p = open_pos (words v) (0 ∷ numbers (opens (words v))) s c.1 c.0 in omega (arith, f, o, p);
+        spare = let f = fit_in (whole bs hs s) v.opened (distinct_whole hs k.mirrors.distinct s bs) row in let o = k.rests.spare in let c = one_open v s u in let p = open_pos (trace v) (0 ∷ numbers (opens (trace v))) s c.1 c.0 in omega (arith, f, o, p);
       }

@@ -18,12 +18,12 @@ use Rattle.scope_tree.specs.Released.{away, said}
 use Rattle.scope_tree.specs.Trees.{IsConsistent}
 use Rattle.scope_tree.specs.Walks.{FirstOpen}
 use Rattle.scope_tree.specs.Walks.FirstOpen.{above_it, this_one}
-use Rattle.scope_tree.specs.Words.{opening, owed}
+use Rattle.scope_tree.specs.Trace.{opening, owed}
 use Rattle.scope_tree.proofs.Beneath.{noted_scope, usable_scope}
 use Rattle.scope_tree.proofs.Grown.{Grown, closed_like, closes_finals, grown_back, grown_closed, grown_noted, grown_release, opens_finals, owed_still}
 use Rattle.scope_tree.proofs.Grows.{back_closed, length_marks, opened_grown, opened_scopes, opened_usable}
 use Rattle.scope_tree.proofs.Lessee.{lease_opened}
-use Rattle.scope_tree.proofs.Parting.{join_words}
+use Rattle.scope_tree.proofs.Parting.{join_trace}
 use Rattle.scope_tree.proofs.Releasing.{released_most, released_spare}
 use Rattle.scope_tree.proofs.Rooms.{away_reverse, used_is}
 use Rattle.scope_tree.proofs.Walking.{first_usable}
@@ -65,7 +65,7 @@ module _ {P : Type 0} where
   -- where a seat was taken in
   pub joined_scopes : {a b : Seen P} (w : View P) → b.seat ≡ joined a.seat w → AreApart a.seat w → KeepsScopes a b
   joined_scopes {a = a} {b = b} w e p =
-      let v = joined a.seat w in let o = ap opens (join_words a.seat w p) in let c = ap closes (join_words a.seat w p) in
+      let v = joined a.seat w in let o = ap opens (join_trace a.seat w p) in let c = ap closes (join_trace a.seat w p) in
       subst (λ u. KeepsScopes a (record b { seat = u })) (sym e) (record {
         usable = λ s u. (⊎_elim (λ z. inl z) (λ i. inr (i.0, (i.1.0, among_left w.events i.1.1, i.1.2, i.1.3))) u.0, λ x. u.1 (closed_like v a.seat o c s x));
         closed = λ s x. closed_like a.seat v (sym o) (sym c) s x;
@@ -73,7 +73,7 @@ module _ {P : Type 0} where
 
 -- another seat, by which the tree keeps the same
 module _ {S P D : Type 0} (view : S → View P) where
-  pub seated : (t : Tree S P D) (s : S) → Kept (view s) t.branches.items t.held.items → Shelved (view s) t.held.items t.shelf.items → IsConsistent view t → IsConsistent view (record t { seat = s })
+  pub seated : (t : Tree S P D) (s : S) → Kept (view s) t.branches.items t.acquisitions.items → Shelved (view s) t.acquisitions.items t.shelf.items → IsConsistent view t → IsConsistent view (record t { seat = s })
   seated t s k h z =
-      let F = firsts (said t.shelf.items) in let u = used_is (view t.seat) t.branches.items t.held.items z.kept F in let u' = used_is (view s) t.branches.items t.held.items k F in let a = z.used in
-      record { kept = k; shelved = h; used = omega (u, u', a, arith); branches = z.branches; held = z.held; shelf = z.shelf; limit = z.limit; rows_limit = z.rows_limit }
+      let F = firsts (said t.shelf.items) in let u = used_is (view t.seat) t.branches.items t.acquisitions.items z.kept F in let u' = used_is (view s) t.branches.items t.acquisitions.items k F in let a = z.used in
+      record { kept = k; shelved = h; used = omega (u, u', a, arith); branches = z.branches; acquisitions = z.acquisitions; shelf = z.shelf; limit = z.limit; rows_limit = z.rows_limit }

@@ -14,7 +14,7 @@ use Rattle.scope_tree.specs.Kept.{Kept}
 use Rattle.scope_tree.specs.Released.{CanRelease, Released, away, said}
 use Rattle.scope_tree.specs.Released.Holder.{lease}
 use Rattle.std.specs.List.{IsDistinct}
-use Rattle.scope_tree.specs.Words.{canceling, owed}
+use Rattle.scope_tree.specs.Trace.{canceling, owed}
 use Rattle.scope_tree.proofs.Follows.{released_follows, same_empty}
 use Rattle.scope_tree.proofs.Grown.{Grown, closes_finals, grown_noted, grown_release, kept_still, lends_less, opens_finals, rows_finals}
 use Rattle.scope_tree.proofs.Lessee.{lease_opened}

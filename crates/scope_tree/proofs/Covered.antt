@@ -13,7 +13,7 @@ use Rattle.res_ledger.specs.Own.{opens, rows, closes, up, ancestors, is_closed, 
 use Rattle.scope_tree.specs.declared.branch.Branch.{Branch}
 use Rattle.scope_tree.specs.declared.branch.AcquiredRow.{AcquiredRow}
 use Rattle.scope_tree.specs.Kept.{marks, Kept}
-use Rattle.scope_tree.specs.Words.{words}
+use Rattle.scope_tree.specs.Trace.{trace}
 use Rattle.scope_tree.proofs.Bridge.{noted_in, in_noted, in_opens, opens_in, in_rows, rows_in, within_cases}
 use Rattle.res_ledger.proofs.Noted.{notes_closes}
 use Rattle.scope_tree.specs.Walks.{Clear, Shaded, StandsAbove}
@@ -94,21 +94,21 @@ module _ {P : Type 0} (v : View P) (bs : List Branch) (hs : List AcquiredRow) (k
       (cases_eq (suc n) s)
 
   -- a scope above s is found
-  pub above_in : (s a : ℕ) → s < length bs → LiesWithin v.events v.by s a → IsAmong a (ancestors (words v) s)
+  pub above_in : (s a : ℕ) → s < length bs → LiesWithin v.events v.by s a → IsAmong a (ancestors (trace v) s)
   above_in s a l w =
       let n = length bs - 1 in let z = k.mirrors.size in
       subst (λ o. IsAmong a (up o s)) (sym (ap reverse k.mirrors.opens ∙ reverse_marks bs k.mirrors.size)) (up_down n s a (omega arith) (omega arith) w)
 
-  pub closed_complete : (s : ℕ) → s < length bs → IsClosed v.events v.by s → is_closed (words v) s ≡ true
-  closed_complete s l c = any_at (λ a. has a (closes (words v))) c.0 (ancestors (words v) s) (above_in s c.0 l c.1) (in_has c.0 (closes (words v)) (notes_closes v.events v.by c.0 c.2))
+  pub closed_complete : (s : ℕ) → s < length bs → IsClosed v.events v.by s → is_closed (trace v) s ≡ true
+  closed_complete s l c = any_at (λ a. has a (closes (trace v))) c.0 (ancestors (trace v) s) (above_in s c.0 l c.1) (in_has c.0 (closes (trace v)) (notes_closes v.events v.by c.0 c.2))
 
   closed_range : (s : ℕ) → IsClosed v.events v.by s → s < length bs
   closed_range s c = ⊎_elim (λ e. subst (λ z. z < length bs) (sym e) (k.mirrors.ended c.0 (notes_closes v.events v.by c.0 c.2))) (λ t. (noted_scope v bs hs k s t.0 t.1).1) (within_cases c.1)
 
   -- the list has the rows that a Lease on s covers
-  pub leased_is : (s r : ℕ) → s < length bs → IsAmong r (leased_rows (words v) s) ↔ IsCoveredBy v.events v.by s r
+  pub leased_is : (s r : ℕ) → s < length bs → IsAmong r (leased_rows (trace v) s) ↔ IsCoveredBy v.events v.by s r
   leased_is s r l =
-      let E = words v in
+      let E = trace v in
       let to : IsAmong r (leased_rows E s) → IsCoveredBy v.events v.by s r = λ m.
       let t = any_picked (reaches E s) (rows E) r m in let q = reach_of (is_closed E t.0) (has t.0 (ancestors E s)) (is_child (opens E) t.0 s) t.2 in (
         t.0,
@@ -130,29 +130,29 @@ module _ {P : Type 0} (v : View P) (bs : List Branch) (hs : List AcquiredRow) (k
       (to, from)
 
   -- what a lease on s reaches, by what the tree keeps
-  pub reach_closed : (s t : ℕ) → t < length bs → Shaded bs t → reaches (words v) s t ≡ false
-  reach_closed s t l x = ap (λ b. not b && (has t (ancestors (words v) s) || is_child (opens (words v)) t s)) (closed_complete t l (shaded_closed v bs hs k t l x))
+  pub reach_closed : (s t : ℕ) → t < length bs → Shaded bs t → reaches (trace v) s t ≡ false
+  reach_closed s t l x = ap (λ b. not b && (has t (ancestors (trace v) s) || is_child (opens (trace v)) t s)) (closed_complete t l (shaded_closed v bs hs k t l x))
 
-  open_is : (t : ℕ) → t < length bs → Clear bs t → is_closed (words v) t ≡ false
-  open_is t l x = not_true' (is_closed (words v) t) (λ h. clear_open v bs hs k t l x (closed_sound v t h))
+  open_is : (t : ℕ) → t < length bs → Clear bs t → is_closed (trace v) t ≡ false
+  open_is t l x = not_true' (is_closed (trace v) t) (λ h. clear_open v bs hs k t l x (closed_sound v t h))
 
-  pub reach_above : (s t : ℕ) → s < length bs → t < length bs → Clear bs t → StandsAbove bs s t → reaches (words v) s t ≡ true
-  reach_above s t l m x a = reach_to (is_closed (words v) t) (has t (ancestors (words v) s)) (is_child (opens (words v)) t s) (open_is t m x) (inl (in_has t (ancestors (words v) s) (above_in s t l (stands_within v bs hs k s t l a))))
+  pub reach_above : (s t : ℕ) → s < length bs → t < length bs → Clear bs t → StandsAbove bs s t → reaches (trace v) s t ≡ true
+  reach_above s t l m x a = reach_to (is_closed (trace v) t) (has t (ancestors (trace v) s)) (is_child (opens (trace v)) t s) (open_is t m x) (inl (in_has t (ancestors (trace v) s) (above_in s t l (stands_within v bs hs k s t l a))))
 
-  pub reach_child : (s t : ℕ) → s < length bs → t < length bs → Clear bs t → ¬ (StandsAbove bs s t) → reaches (words v) s t ≡ is_child (opens (words v)) t s
+  pub reach_child : (s t : ℕ) → s < length bs → t < length bs → Clear bs t → ¬ (StandsAbove bs s t) → reaches (trace v) s t ≡ is_child (opens (trace v)) t s
   reach_child s t l m x n =
-      let E = words v in
+      let E = trace v in
       let none : has t (ancestors E s) ≡ false = not_true' (has t (ancestors E s)) (λ h. n (within_stands v bs hs k (up_within v.events v.by (reverse (opens E)) s t (λ c p m. in_noted v.by (Open c p) v.events (in_opens c p E (among_reverse (c, p) (opens E) m))) (has_in t (ancestors E s) h)))) in
       ap (λ b. not b && (has t (ancestors E s) || is_child (opens E) t s)) (open_is t m x) ∙ ap (λ b. b || is_child (opens E) t s) none
 
-  pub child_is : (s t : ℕ) → t < length bs → 1 ≤ t → ((d : Branch) → (slice_index_or bs t d).parent ≡ s) → is_child (opens (words v)) t s ≡ true
-  child_is s t l one h = in_child (opens (words v)) t s (opens_in t s (words v) (noted_in v.by (Open t s) v.events (noted_parent v bs hs k t s one l h)))
+  pub child_is : (s t : ℕ) → t < length bs → 1 ≤ t → ((d : Branch) → (slice_index_or bs t d).parent ≡ s) → is_child (opens (trace v)) t s ≡ true
+  child_is s t l one h = in_child (opens (trace v)) t s (opens_in t s (trace v) (noted_in v.by (Open t s) v.events (noted_parent v bs hs k t s one l h)))
 
-  pub not_child : (s t : ℕ) → ¬ ((1 ≤ t) × ((d : Branch) → (slice_index_or bs t d).parent ≡ s)) → is_child (opens (words v)) t s ≡ false
-  not_child s t n = not_true' (is_child (opens (words v)) t s) (λ h. let z = noted_scope v bs hs k t s (in_noted v.by (Open t s) v.events (in_opens t s (words v) (child_in (opens (words v)) t s h))) in n (z.0, z.2))
+  pub not_child : (s t : ℕ) → ¬ ((1 ≤ t) × ((d : Branch) → (slice_index_or bs t d).parent ≡ s)) → is_child (opens (trace v)) t s ≡ false
+  not_child s t n = not_true' (is_child (opens (trace v)) t s) (λ h. let z = noted_scope v bs hs k t s (in_noted v.by (Open t s) v.events (in_opens t s (trace v) (child_in (opens (trace v)) t s h))) in n (z.0, z.2))
 
   -- whether a scope that isn't s nor above it is a child of s
-  pub reach_parent : (s t : ℕ) (b : Branch) → s < length bs → t < length bs → 1 ≤ t → b ≡ slice_index_or bs t b → Clear bs t → ¬ (StandsAbove bs s t) → eqb b.parent s ≡ reaches (words v) s t
+  pub reach_parent : (s t : ℕ) (b : Branch) → s < length bs → t < length bs → 1 ≤ t → b ≡ slice_index_or bs t b → Clear bs t → ¬ (StandsAbove bs s t) → eqb b.parent s ≡ reaches (trace v) s t
   reach_parent s t b l m one at x n =
       let all : (d : Branch) → (slice_index_or bs t d).parent ≡ b.parent = λ d. ap (λ (y : Branch). y.parent) (get_or_default bs t d b m ∙ sym at) in
       ⊎_elim

@@ -22,9 +22,9 @@ use Rattle.row_seat.specs.Views.{HasRow, noted}
 use Rattle.scope_tree.specs.declared.branch.Branch.{Branch}
 use Rattle.scope_tree.specs.declared.branch.AcquiredRow.{AcquiredRow}
 use Rattle.scope_tree.specs.declared.branch.Spent.{Spent}
-use Rattle.scope_tree.specs.Kept.{HoldsRows, Kept, Lends, Mirrors, held_pairs}
+use Rattle.scope_tree.specs.Kept.{HoldsRows, Kept, Lends, Mirrors, acquisition_pairs}
 use Rattle.scope_tree.specs.Released.{Holder, Released, said}
-use Rattle.scope_tree.specs.Words.{numbers, open_of, open_scopes, owed, words}
+use Rattle.scope_tree.specs.Trace.{numbers, open_of, open_scopes, owed, trace}
 use Rattle.scope_tree.specs.Rows.{Once}
 use Rattle.scope_tree.proofs.Bridge.{own_snoc}
 use Rattle.scope_tree.proofs.Follows.{follows_old, released_follows, same_by}
@@ -60,7 +60,7 @@ within_opens h (below s p a n w) = below s p a (h s p n) (within_opens h w)
 
 module _ {P : Type 0} where
   -- which scopes are closed is read off the Opens and the Closes
-  pub closed_like : (v w : View P) → opens (words v) ≡ opens (words w) → closes (words v) ≡ closes (words w) → (s : ℕ) → IsClosed v.events v.by s → IsClosed w.events w.by s
+  pub closed_like : (v w : View P) → opens (trace v) ≡ opens (trace w) → closes (trace v) ≡ closes (trace w) → (s : ℕ) → IsClosed v.events v.by s → IsClosed w.events w.by s
   closed_like v w o c s x = (
     x.0,
     within_opens (λ a p n. opens_notes w.events w.by (a, p) (subst (λ l. IsAmong (a, p) l) o (notes_opens v.events v.by a p n))) x.1,
@@ -69,12 +69,12 @@ module _ {P : Type 0} where
 
   -- from v to w the seat's own stream noted E, and no other row was acquired
   pub record Grown (v w : View P) (E : List What) : Type 0 where
-    pub words : words w ≡ words v ++ E
+    pub trace : trace w ≡ trace v ++ E
     pub acquired : (r : ℕ) → IsAcquired w.events r → IsAcquired v.events r ⊎ ((s : ℕ) × IsAmong (r, s) (rows E))
 
   pub grown_note : (v : View P) (n : ℕ) (e : What) → Grown v (noted v (record { stamp = n; by = v.by; what = e })) (e ∷ [])
   grown_note v n e = let x : Event = record { stamp = n; by = v.by; what = e } in record {
-    words = own_snoc v.by v.events x refl;
+    trace = own_snoc v.by v.events x refl;
     acquired = λ r a. ⊎_elim (λ m. inl (a.0, a.1, m)) (λ m. inr (a.1, subst (λ z. IsAmong (r, a.1) (rows (z ∷ []))) (sym m.1) (here []))) (noted_snoc v.events x a.0 (Acquire r a.1) a.2);
   }
 
@@ -82,26 +82,26 @@ module _ {P : Type 0} where
   pub grown_release : {ends : P → Exit → Bool → P → Type 0} {x : Exit} {h : Holder} {T : List ℕ} {w : View P} {ys : List (Spent P)} (v : View P) (n : ℕ) (e : What) → Released ends x h T (noted v (record { stamp = n; by = v.by; what = e })) ys w → Grown v w (e ∷ finals x (said ys))
   grown_release {x = x} {w = w} {ys = ys} v n e t =
       let g = grown_note v n e in let f = released_follows t in record {
-        words = ap (λ b. own b w.events) (same_by f) ∙ released_own v.by t refl ∙ ap (λ l. l ++ finals x (said ys)) g.words ∙ append_assoc (words v) (e ∷ []) (finals x (said ys));
+        trace = ap (λ b. own b w.events) (same_by f) ∙ released_own v.by t refl ∙ ap (λ l. l ++ finals x (said ys)) g.trace ∙ append_assoc (trace v) (e ∷ []) (finals x (said ys));
         acquired = λ r a. ⊎_elim (λ m. inl m) (λ m. inr (m.0, subst (λ l. IsAmong (r, m.0) (acquires_of e ++ l)) (sym (rows_finals x (said ys))) m.1)) (g.acquired r (a.0, a.1, follows_old f refl a.2));
       }
 
   module _ {v w : View P} {E : List What} (g : Grown v w E) where
     -- what was noted is noted
     pub grown_noted : {u : What} → Notes v.events v.by u → Notes w.events w.by u
-    grown_noted {u = u} n = own_notes w.events w.by u (subst (λ l. IsAmong u l) (sym g.words) (among_left E (notes_own v.events v.by u n)))
+    grown_noted {u = u} n = own_notes w.events w.by u (subst (λ l. IsAmong u l) (sym g.trace) (among_left E (notes_own v.events v.by u n)))
 
     pub grown_closed : (s : ℕ) → IsClosed v.events v.by s → IsClosed w.events w.by s
     grown_closed s x = (x.0, within_opens (λ a p n. grown_noted n) x.1, (x.2.0, grown_noted x.2.1))
 
-    pub grown_opens : opens E ≡ [] → opens (words w) ≡ opens (words v)
-    grown_opens none = ap opens g.words ∙ drawn_same opens_of (words v) E none
+    pub grown_opens : opens E ≡ [] → opens (trace w) ≡ opens (trace v)
+    grown_opens none = ap opens g.trace ∙ drawn_same opens_of (trace v) E none
 
-    pub grown_rows : rows E ≡ [] → rows (words w) ≡ rows (words v)
-    grown_rows none = ap rows g.words ∙ drawn_same acquires_of (words v) E none
+    pub grown_rows : rows E ≡ [] → rows (trace w) ≡ rows (trace v)
+    grown_rows none = ap rows g.trace ∙ drawn_same acquires_of (trace v) E none
 
-    pub grown_closes : closes E ≡ [] → closes (words w) ≡ closes (words v)
-    grown_closes none = ap closes g.words ∙ drawn_same closes_of (words v) E none
+    pub grown_closes : closes E ≡ [] → closes (trace w) ≡ closes (trace v)
+    grown_closes none = ap closes g.trace ∙ drawn_same closes_of (trace v) E none
 
     pub grown_acquired : rows E ≡ [] → (r : ℕ) → IsAcquired w.events r → IsAcquired v.events r
     grown_acquired none r a = ⊎_elim (λ m. m) (λ m. absurd (among_nil (subst (λ l. IsAmong (r, m.0) l) none m.1))) (g.acquired r a)
@@ -111,8 +111,8 @@ module _ {P : Type 0} where
       pub grown_back : (s : ℕ) → IsClosed w.events w.by s → IsClosed v.events v.by s
       grown_back = closed_like w v (grown_opens o) (grown_closes c)
 
-      pub grown_scopes : open_scopes (words w) ≡ open_scopes (words v)
-      grown_scopes = ap (λ l. open_of (words w) (0 ∷ numbers l)) (grown_opens o) ∙ closed_same (words v) (words w) (0 ∷ numbers (opens (words v))) (grown_opens o) (grown_closes c)
+      pub grown_scopes : open_scopes (trace w) ≡ open_scopes (trace v)
+      grown_scopes = ap (λ l. open_of (trace w) (0 ∷ numbers l)) (grown_opens o) ∙ closed_same (trace v) (trace w) (0 ∷ numbers (opens (trace v))) (grown_opens o) (grown_closes c)
 
 -- and nothing came or went that is open, as much is owed
 pub owed_still : {P : Type 0} {v w : View P} {E : List What} → Grown v w E → opens E ≡ [] → closes E ≡ [] → w.opened ≡ v.opened → owed w ≡ owed v
@@ -132,8 +132,8 @@ mirrors_same o r c m = record {
 }
 
 module _ {P : Type 0} where
-  -- where the same held rows' scopes are closed and the same rows are open
-  pub holds_same : (v w : View P) {hs : List AcquiredRow} → ((r t : ℕ) → IsAmong (r, t) (held_pairs hs) → IsClosed v.events v.by t ↔ IsClosed w.events w.by t) → ((r : ℕ) → HasRow v.opened r ↔ HasRow w.opened r) → Once w.opened → HoldsRows v hs → HoldsRows w hs
+  -- where the same acquired rows' scopes are closed and the same rows are open
+  pub holds_same : (v w : View P) {hs : List AcquiredRow} → ((r t : ℕ) → IsAmong (r, t) (acquisition_pairs hs) → IsClosed v.events v.by t ↔ IsClosed w.events w.by t) → ((r : ℕ) → HasRow v.opened r ↔ HasRow w.opened r) → Once w.opened → HoldsRows v hs → HoldsRows w hs
   holds_same v w c o once h = record {
     live = λ r t m n. (o r).0 (h.live r t m (λ x. n ((c r t m).0 x)));
     only = λ r i. let y = h.only r ((o r).1 i) in (y.0, y.1, λ x. y.2 ((c r y.0 y.1).1 x));

@@ -13,8 +13,8 @@ use Rattle.res_ledger.specs.Own.{own, opens, rows, closes, up, is_closed}
 use Rattle.std.specs.List.{list_any as any, IsDistinct}
 use Rattle.scope_tree.specs.declared.branch.Branch.{Branch}
 use Rattle.scope_tree.specs.declared.branch.AcquiredRow.{AcquiredRow}
-use Rattle.scope_tree.specs.Kept.{marks, held_pairs, held_rows, Kept}
-use Rattle.scope_tree.specs.Words.{words, owed, acquiring, opening, open_of, open_scopes, numbers}
+use Rattle.scope_tree.specs.Kept.{marks, acquisition_pairs, acquisition_rows, Kept}
+use Rattle.scope_tree.specs.Trace.{trace, owed, acquiring, opening, open_of, open_scopes, numbers}
 use Rattle.scope_tree.specs.Calls.{AtStart}
 use Rattle.std.proofs.lemmas.Bool.{cases_eq}
 use Rattle.scope_tree.proofs.Beneath.{noted_scope, one_open, usable_scope, not_true'}
@@ -32,49 +32,49 @@ use Rattle.res_ledger.proofs.Noted.{closes_notes, notes_closes, notes_opens, ope
 use Rattle.chunk_core.proofs.Bools.{has_in}
 use Rattle.std.proofs.lemmas.List.{reverse-append}
 
-pub pairs_snoc : (hs : List AcquiredRow) (h : AcquiredRow) → held_pairs (hs ++ h ∷ []) ≡ held_pairs hs ++ (h.row, h.scope) ∷ []
+pub pairs_snoc : (hs : List AcquiredRow) (h : AcquiredRow) → acquisition_pairs (hs ++ h ∷ []) ≡ acquisition_pairs hs ++ (h.row, h.scope) ∷ []
 pairs_snoc [] h = refl
 pairs_snoc (x ∷ hs) h = ap (λ l. let y : ℕ × ℕ = (x.row, x.scope) in y ∷ l) (pairs_snoc hs h)
 
-pub rows_snoc : (hs : List AcquiredRow) (h : AcquiredRow) → held_rows (hs ++ h ∷ []) ≡ held_rows hs ++ h.row ∷ []
+pub rows_snoc : (hs : List AcquiredRow) (h : AcquiredRow) → acquisition_rows (hs ++ h ∷ []) ≡ acquisition_rows hs ++ h.row ∷ []
 rows_snoc [] h = refl
 rows_snoc (x ∷ hs) h = ap (λ l. x.row ∷ l) (rows_snoc hs h)
 
-pub pair_of_row : (r : ℕ) (hs : List AcquiredRow) → IsAmong r (held_rows hs) → (t : ℕ) × IsAmong (r, t) (held_pairs hs)
+pub pair_of_row : (r : ℕ) (hs : List AcquiredRow) → IsAmong r (acquisition_rows hs) → (t : ℕ) × IsAmong (r, t) (acquisition_pairs hs)
 pair_of_row r [] m = absurd (among_nil m)
-pair_of_row r (h ∷ hs) m = ⊎_elim (λ e. (h.scope, subst (λ z. IsAmong (z, h.scope) (held_pairs (h ∷ hs))) (sym e) (here (held_pairs hs)))) (λ n. let t = pair_of_row r hs n in let y : ℕ × ℕ = (h.row, h.scope) in (t.0, there y t.1)) (among_cons m)
+pair_of_row r (h ∷ hs) m = ⊎_elim (λ e. (h.scope, subst (λ z. IsAmong (z, h.scope) (acquisition_pairs (h ∷ hs))) (sym e) (here (acquisition_pairs hs)))) (λ n. let t = pair_of_row r hs n in let y : ℕ × ℕ = (h.row, h.scope) in (t.0, there y t.1)) (among_cons m)
 
 module _ {P : Type 0} (v : View P) (bs : List Branch) (hs : List AcquiredRow) (r s n : ℕ) (p : P) (k : Kept v bs hs) (u : IsUsable v.events v.by s) (m : IsAmong r v.empty) (f : owed v + 2 ≤ v.spare) where
   abbrev now : View P
   now = placed (noted v (acquiring v r s n)) r p
 
   pub acquired_grown : Grown v now (Acquire r s ∷ [])
-  acquired_grown = let g = grown_note v n (Acquire r s) in record { words = g.words; acquired = g.acquired }
+  acquired_grown = let g = grown_note v n (Acquire r s) in record { trace = g.trace; acquired = g.acquired }
 
-  pub acquired_opens : opens (words now) ≡ opens (words v)
+  pub acquired_opens : opens (trace now) ≡ opens (trace v)
   acquired_opens = grown_opens acquired_grown refl
 
-  acquired_closes : closes (words now) ≡ closes (words v)
+  acquired_closes : closes (trace now) ≡ closes (trace v)
   acquired_closes = grown_closes acquired_grown refl
 
-  pub acquired_rows : rows (words now) ≡ rows (words v) ++ (r, s) ∷ []
-  acquired_rows = ap rows acquired_grown.words ∙ rows_append (words v) (Acquire r s ∷ [])
+  pub acquired_rows : rows (trace now) ≡ rows (trace v) ++ (r, s) ∷ []
+  acquired_rows = ap rows acquired_grown.trace ∙ rows_append (trace v) (Acquire r s ∷ [])
 
   -- as many scopes are open
-  pub acquired_scopes : open_scopes (words now) ≡ open_scopes (words v)
+  pub acquired_scopes : open_scopes (trace now) ≡ open_scopes (trace v)
   acquired_scopes = grown_scopes acquired_grown refl refl
 
   pub acquired_owed : owed now ≡ owed v + 1
   acquired_owed = let x = acquired_scopes in let y = length-append v.opened ((r, p) ∷ []) in omega arith
 
-  new_row : ¬ (IsAmong r (held_rows hs))
-  new_row i = let t = pair_of_row r hs i in k.rests.empty r m (v.by, t.0, in_noted v.by (Acquire r t.0) v.events (in_rows r t.0 (words v) (subst (λ l. IsAmong (r, t.0) l) (sym k.mirrors.rows) t.1)))
+  new_row : ¬ (IsAmong r (acquisition_rows hs))
+  new_row i = let t = pair_of_row r hs i in k.rests.empty r m (v.by, t.0, in_noted v.by (Acquire r t.0) v.events (in_rows r t.0 (trace v) (subst (λ l. IsAmong (r, t.0) l) (sym k.mirrors.rows) t.1)))
 
   pub acquire_keeps : Kept now bs (hs ++ record { row = r; scope = s } ∷ [])
   acquire_keeps =
       let h : AcquiredRow = record { row = r; scope = s } in
-      let held : (y : ℕ × ℕ) → IsAmong y (held_pairs (hs ++ h ∷ [])) → IsAmong y (held_pairs hs) ⊎ (y ≡ (r, s)) = λ y i. among_snoc (held_pairs hs) y (r, s) (subst (λ l. IsAmong y l) (pairs_snoc hs h) i) in
-      let more : (y : ℕ × ℕ) → IsAmong y (held_pairs hs ++ (r, s) ∷ []) → IsAmong y (held_pairs (hs ++ h ∷ [])) = λ y i. subst (λ l. IsAmong y l) (sym (pairs_snoc hs h)) i in
+      let acquisitions : (y : ℕ × ℕ) → IsAmong y (acquisition_pairs (hs ++ h ∷ [])) → IsAmong y (acquisition_pairs hs) ⊎ (y ≡ (r, s)) = λ y i. among_snoc (acquisition_pairs hs) y (r, s) (subst (λ l. IsAmong y l) (pairs_snoc hs h) i) in
+      let more : (y : ℕ × ℕ) → IsAmong y (acquisition_pairs hs ++ (r, s) ∷ []) → IsAmong y (acquisition_pairs (hs ++ h ∷ [])) = λ y i. subst (λ l. IsAmong y l) (sym (pairs_snoc hs h)) i in
       let back = grown_back acquired_grown refl refl in record {
         mirrors = record {
           size = k.mirrors.size;
@@ -83,17 +83,17 @@ module _ {P : Type 0} (v : View P) (bs : List Branch) (hs : List AcquiredRow) (r
           ended = λ c i. k.mirrors.ended c (subst (λ l. IsAmong c l) acquired_closes i);
           rows = acquired_rows ∙ ap (λ l. l ++ (r, s) ∷ []) k.mirrors.rows ∙ sym (pairs_snoc hs h);
           parents = k.mirrors.parents;
-          distinct = subst (IsDistinct nat_eq) (sym (rows_snoc hs h)) (distinct_append (held_rows hs) (r ∷ []) k.mirrors.distinct (distinct_one r) (λ x i j. ⊎_elim (λ q. new_row (subst (λ z. IsAmong z (held_rows hs)) q i)) among_nil (among_cons j)));
-          ranged = λ q t i. ⊎_elim (λ o. k.mirrors.ranged q t o) (λ o. subst (λ z. z < length bs) (sym (ap (λ y. y.1) o)) (usable_scope v bs hs k s u)) (held (q, t) i);
+          distinct = subst (IsDistinct nat_eq) (sym (rows_snoc hs h)) (distinct_append (acquisition_rows hs) (r ∷ []) k.mirrors.distinct (distinct_one r) (λ x i j. ⊎_elim (λ q. new_row (subst (λ z. IsAmong z (acquisition_rows hs)) q i)) among_nil (among_cons j)));
+          ranged = λ q t i. ⊎_elim (λ o. k.mirrors.ranged q t o) (λ o. subst (λ z. z < length bs) (sym (ap (λ y. y.1) o)) (usable_scope v bs hs k s u)) (acquisitions (q, t) i);
         };
         holds = record {
           live = λ q t i open'. ⊎_elim
               (λ o. let y = k.holds.live q t o (λ c. open' (grown_closed acquired_grown t c)) in (y.0, among_left ((r, p) ∷ []) y.1))
               (λ o. (p, subst (λ z. IsAmong (z, p) (v.opened ++ (r, p) ∷ [])) (sym (ap (λ y. y.0) o)) (among_last v.opened (r, p))))
-              (held (q, t) i);
+              (acquisitions (q, t) i);
           only = λ q o. ⊎_elim
               (λ a. let y = k.holds.only q (o.0, a) in (y.0, more (q, y.0) (among_left ((r, s) ∷ []) y.1), λ c. y.2 (back y.0 c)))
-              (λ a. (s, more (q, s) (subst (λ z. IsAmong (z, s) (held_pairs hs ++ (r, s) ∷ [])) (sym (ap (λ y. y.0) a)) (among_last (held_pairs hs) (r, s))), λ c. u.1 (back s c)))
+              (λ a. (s, more (q, s) (subst (λ z. IsAmong (z, s) (acquisition_pairs hs ++ (r, s) ∷ [])) (sym (ap (λ y. y.0) a)) (among_last (acquisition_pairs hs) (r, s))), λ c. u.1 (back s c)))
               (among_snoc v.opened (q, o.0) (r, p) o.1);
           once = once_push r v.opened p k.holds.once (λ o. let y = k.holds.only r o in new_row (row_of_pair r y.0 hs y.1));
         };
@@ -112,7 +112,7 @@ module _ {P : Type 0} (v : View P) (bs : List Branch) (hs : List AcquiredRow) (r
         };
       }
 
-pub length_pairs : (hs : List AcquiredRow) → length (held_pairs hs) ≡ length hs
+pub length_pairs : (hs : List AcquiredRow) → length (acquisition_pairs hs) ≡ length hs
 length_pairs [] = refl
 length_pairs (h ∷ hs) = ap suc (length_pairs hs)
 
@@ -163,24 +163,24 @@ module _ {P : Type 0} (v : View P) (bs : List Branch) (hs : List AcquiredRow) (p
   pub opened_grown : Grown v then (Open (length bs) p ∷ [])
   opened_grown = grown_note v n (Open (length bs) p)
 
-  pub opened_opens : opens (words then) ≡ opens (words v) ++ (length bs, p) ∷ []
-  opened_opens = ap opens opened_grown.words ∙ opens_append (words v) (Open (length bs) p ∷ [])
+  pub opened_opens : opens (trace then) ≡ opens (trace v) ++ (length bs, p) ∷ []
+  opened_opens = ap opens opened_grown.trace ∙ opens_append (trace v) (Open (length bs) p ∷ [])
 
-  opened_closes : closes (words then) ≡ closes (words v)
+  opened_closes : closes (trace then) ≡ closes (trace v)
   opened_closes = grown_closes opened_grown refl
 
-  pub opened_rows : rows (words then) ≡ rows (words v)
+  pub opened_rows : rows (trace then) ≡ rows (trace v)
   opened_rows = grown_rows opened_grown refl
 
-  no_close : has (length bs) (closes (words v)) ≡ false
-  no_close = not_true' (has (length bs) (closes (words v))) (λ h. let l = k.mirrors.ended (length bs) (has_in (length bs) (closes (words v)) h) in omega arith)
+  no_close : has (length bs) (closes (trace v)) ≡ false
+  no_close = not_true' (has (length bs) (closes (trace v))) (λ h. let l = k.mirrors.ended (length bs) (has_in (length bs) (closes (trace v)) h) in omega arith)
 
   -- each other scope is closed where it was
-  same_closed : (c : ℕ) → c ≢ length bs → is_closed (words then) c ≡ is_closed (words v) c
+  same_closed : (c : ℕ) → c ≢ length bs → is_closed (trace then) c ≡ is_closed (trace v) c
   same_closed c ne =
-      let same : up (reverse (opens (words then))) c ≡ up (reverse (opens (words v))) c =
-      ap (λ o. up (reverse o) c) opened_opens ∙ ap (λ o. up o c) (reverse-append (opens (words v)) ((length bs, p) ∷ [])) ∙ ap (λ b. cond b (c ∷ up (reverse (opens (words v))) p) (up (reverse (opens (words v))) c)) (ne_eqb (length bs) c (λ e. ne (sym e))) in
-      ap (λ l. any (λ a. has a (closes (words then))) l) same ∙ ap (λ l. any (λ a. has a l) (up (reverse (opens (words v))) c)) opened_closes
+      let same : up (reverse (opens (trace then))) c ≡ up (reverse (opens (trace v))) c =
+      ap (λ o. up (reverse o) c) opened_opens ∙ ap (λ o. up o c) (reverse-append (opens (trace v)) ((length bs, p) ∷ [])) ∙ ap (λ b. cond b (c ∷ up (reverse (opens (trace v))) p) (up (reverse (opens (trace v))) c)) (ne_eqb (length bs) c (λ e. ne (sym e))) in
+      ap (λ l. any (λ a. has a (closes (trace then))) l) same ∙ ap (λ l. any (λ a. has a l) (up (reverse (opens (trace v))) c)) opened_closes
 
   pub back_within : {t a : ℕ} → t < length bs → LiesWithin then.events v.by t a → LiesWithin v.events v.by t a
   back_within l (same t) = same t
@@ -188,7 +188,7 @@ module _ {P : Type 0} (v : View P) (bs : List Branch) (hs : List AcquiredRow) (p
       let o : Notes v.events v.by (Open t q) = ⊎_elim
       (λ x. opens_notes v.events v.by (t, q) x)
       (λ x. absurd (let e : t ≡ length bs = ap (λ y. y.0) x in omega arith))
-      (among_snoc (opens (words v)) (t, q) (length bs, p) (subst (λ z. IsAmong (t, q) z) opened_opens (notes_opens then.events v.by t q m))) in
+      (among_snoc (opens (trace v)) (t, q) (length bs, p) (subst (λ z. IsAmong (t, q) z) opened_opens (notes_opens then.events v.by t q m))) in
       let z = noted_scope v bs hs k t q o in let d : Branch = record { parent = 0; shut = false } in
       below t q a o (back_within (let e = z.2 d in let g = k.mirrors.parents t d z.0 l in omega arith) w)
 
@@ -205,20 +205,20 @@ module _ {P : Type 0} (v : View P) (bs : List Branch) (hs : List AcquiredRow) (p
         let o : (length bs, t.0) ≡ (length bs, p) = ⊎_elim
         (λ m. absurd (let l = (noted_scope v bs hs k (length bs) t.0 (opens_notes v.events v.by (length bs, t.0) m)).1 in omega arith))
         (λ e. e)
-        (among_snoc (opens (words v)) (length bs, t.0) (length bs, p) (subst (λ z. IsAmong (length bs, t.0) z) opened_opens (notes_opens then.events v.by (length bs) t.0 t.1))) in
+        (among_snoc (opens (trace v)) (length bs, t.0) (length bs, p) (subst (λ z. IsAmong (length bs, t.0) z) opened_opens (notes_opens then.events v.by (length bs) t.0 t.1))) in
         u.1 (back_closed p (usable_scope v bs hs k p u) (subst (λ z. IsClosed then.events v.by z) (ap (λ y. y.1) o) (c.0, t.2, c.2))))
         (within_cases c.1),
   )
 
   -- so a scope more is open
-  pub opened_scopes : open_scopes (words then) ≡ open_scopes (words v) + 1
+  pub opened_scopes : open_scopes (trace then) ≡ open_scopes (trace v) + 1
   opened_scopes =
-      let F = words then in
-      let x : open_of F (0 ∷ numbers (opens F)) ≡ open_of F ((0 ∷ numbers (opens (words v))) ++ length bs ∷ []) = ap (λ l. open_of F (0 ∷ l)) (ap numbers opened_opens ∙ numbers_snoc (opens (words v)) (length bs, p)) in
-      x ∙ open_push (words v) F (0 ∷ numbers (opens (words v))) (length bs)
+      let F = trace then in
+      let x : open_of F (0 ∷ numbers (opens F)) ≡ open_of F ((0 ∷ numbers (opens (trace v))) ++ length bs ∷ []) = ap (λ l. open_of F (0 ∷ l)) (ap numbers opened_opens ∙ numbers_snoc (opens (trace v)) (length bs, p)) in
+      x ∙ open_push (trace v) F (0 ∷ numbers (opens (trace v))) (length bs)
       (λ s m. same_closed s (λ e. ⊎_elim
       (λ z. let l = k.mirrors.size in omega (e, z, l, arith))
-      (λ i. let t = number_among s (opens (words v)) i in let l = (noted_scope v bs hs k s t.0 (opens_notes v.events v.by (s, t.0) t.1)).1 in omega (e, l, arith))
+      (λ i. let t = number_among s (opens (trace v)) i in let l = (noted_scope v bs hs k s t.0 (opens_notes v.events v.by (s, t.0) t.1)).1 in omega (e, l, arith))
       (among_cons m)))
       (one_open then (length bs) opened_usable).0
 
@@ -232,7 +232,7 @@ module _ {P : Type 0} (v : View P) (bs : List Branch) (hs : List AcquiredRow) (p
           size = (let z = k.mirrors.size in omega arith);
           opens = opened_opens ∙ ap (λ l. l ++ (length bs, p) ∷ []) k.mirrors.opens ∙ sym (marks_more bs b k.mirrors.size);
           shut = λ c d l. ⊎_elim
-              (λ i. subst (λ z. (slice_index_or (bs ++ b ∷ []) z d).shut ≡ has z (closes (words then))) (sym i) (ap (λ x. x.shut) (at_new bs b d) ∙ sym no_close ∙ ap (has (length bs)) (sym opened_closes)))
+              (λ i. subst (λ z. (slice_index_or (bs ++ b ∷ []) z d).shut ≡ has z (closes (trace then))) (sym i) (ap (λ x. x.shut) (at_new bs b d) ∙ sym no_close ∙ ap (has (length bs)) (sym opened_closes)))
               (λ ne. ap (λ x. x.shut) (at_old bs b c d (old c l ne)) ∙ k.mirrors.shut c d (old c l ne) ∙ ap (has c) (sym opened_closes))
               (cases_eq c (length bs));
           ended = λ c i. (let z = k.mirrors.ended c (subst (λ l. IsAmong c l) opened_closes i) in omega arith);
@@ -264,12 +264,12 @@ module _ {P : Type 0} (v : View P) (a : AtStart v) where
 -- a seat that has done nothing
 pub start_keeps : {P : Type 0} (v : View P) → AtStart v → Kept v (record { parent = 0; shut = false } ∷ []) []
 start_keeps v a =
-    let E : words v ≡ [] = ap (own v.by) a.events in let r : Branch = record { parent = 0; shut = false } in
+    let E : trace v ≡ [] = ap (own v.by) a.events in let r : Branch = record { parent = 0; shut = false } in
     let none : (q : ℕ) → ¬ (HasRow v.opened q) = λ q h. among_nil (subst (λ l. IsAmong (q, h.0) l) a.opened h.1) in record {
       mirrors = record {
         size = omega arith;
         opens = ap opens E;
-        shut = λ c d l. (let e : c ≡ 0 = omega arith in subst (λ z. (slice_index_or (r ∷ []) z d).shut ≡ has z (closes (words v))) (sym e) (sym (ap (λ l. has 0 (closes l)) E)));
+        shut = λ c d l. (let e : c ≡ 0 = omega arith in subst (λ z. (slice_index_or (r ∷ []) z d).shut ≡ has z (closes (trace v))) (sym e) (sym (ap (λ l. has 0 (closes l)) E)));
         ended = λ s m. absurd (among_nil (subst (λ l. IsAmong s l) (ap closes E) m));
         rows = ap rows E;
         parents = λ c d one l. absurd (omega arith);

@@ -26,7 +26,7 @@ use Rattle.scope_tree.specs.Kept.{marks, Kept}
 use Rattle.scope_tree.specs.Kids.{kids, whole, lasts}
 use Rattle.scope_tree.specs.Released.{CanRelease, Released, said}
 use Rattle.scope_tree.specs.Released.Holder.{owner}
-use Rattle.scope_tree.specs.Words.{words, owed, shutting, open_of, open_scopes, numbers}
+use Rattle.scope_tree.specs.Trace.{trace, owed, shutting, open_of, open_scopes, numbers}
 use Rattle.scope_tree.proofs.Beneath.{any_more, close_can, inside, noted_parent, one_open, under_within, up_self, usable_scope, whole_under}
 use Rattle.scope_tree.proofs.Bridge.{closes_append}
 use Rattle.scope_tree.proofs.Follows.{released_follows, same_empty}
@@ -81,38 +81,38 @@ module _ {P : Type 0} {ends : P → Exit → Bool → P → Type 0} {x : Exit} (
   pub close_grown : Grown v w (Close s x ∷ finals x (said ys))
   close_grown = grown_release v n (Close s x) t
 
-  pub opens_same : opens (words w) ≡ opens (words v)
+  pub opens_same : opens (trace w) ≡ opens (trace v)
   opens_same = grown_opens close_grown (opens_finals x (said ys))
 
-  pub rows_same : rows (words w) ≡ rows (words v)
+  pub rows_same : rows (trace w) ≡ rows (trace v)
   rows_same = grown_rows close_grown (rows_finals x (said ys))
 
-  closes_same : closes (words w) ≡ closes (words v) ++ s ∷ []
-  closes_same = ap closes close_grown.words ∙ closes_append (words v) (Close s x ∷ finals x (said ys)) ∙ ap (λ l. closes (words v) ++ s ∷ l) (closes_finals x (said ys))
+  closes_same : closes (trace w) ≡ closes (trace v) ++ s ∷ []
+  closes_same = ap closes close_grown.trace ∙ closes_append (trace v) (Close s x ∷ finals x (said ys)) ∙ ap (λ l. closes (trace v) ++ s ∷ l) (closes_finals x (said ys))
 
-  more_closed : (c : ℕ) → is_closed (words v) c ≡ true → is_closed (words w) c ≡ true
+  more_closed : (c : ℕ) → is_closed (trace v) c ≡ true → is_closed (trace w) c ≡ true
   more_closed c h =
-      subst (λ o. any (λ a. has a (closes (words w))) (up (reverse o) c) ≡ true) (sym opens_same)
-      (any_more (λ a. has a (closes (words v))) (λ a. has a (closes (words w))) (up (reverse (opens (words v))) c) (λ a q. subst (λ l. has a l ≡ true) (sym closes_same) (has_append a (closes (words v)) (s ∷ []) q)) h)
+      subst (λ o. any (λ a. has a (closes (trace w))) (up (reverse o) c) ≡ true) (sym opens_same)
+      (any_more (λ a. has a (closes (trace v))) (λ a. has a (closes (trace w))) (up (reverse (opens (trace v))) c) (λ a q. subst (λ l. has a l ≡ true) (sym closes_same) (has_append a (closes (trace v)) (s ∷ []) q)) h)
 
-  now_closed : is_closed (words w) s ≡ true
-  now_closed = any_at (λ a. has a (closes (words w))) s (ancestors (words w) s) (up_self (reverse (opens (words w))) s) (subst (λ l. has s l ≡ true) (sym closes_same) (in_has s (closes (words v) ++ s ∷ []) (among_last (closes (words v)) s)))
+  now_closed : is_closed (trace w) s ≡ true
+  now_closed = any_at (λ a. has a (closes (trace w))) s (ancestors (trace w) s) (up_self (reverse (opens (trace w))) s) (subst (λ l. has s l ≡ true) (sym closes_same) (in_has s (closes (trace v) ++ s ∷ []) (among_last (closes (trace v)) s)))
 
   now_noted : NotesClose w.events w.by s
-  now_noted = closes_notes w.events w.by s (subst (λ l. IsAmong s l) (sym closes_same) (among_last (closes (words v)) s))
+  now_noted = closes_notes w.events w.by s (subst (λ l. IsAmong s l) (sym closes_same) (among_last (closes (trace v)) s))
 
   pub old_within : {c a : ℕ} → LiesWithin w.events w.by c a → LiesWithin v.events v.by c a
   old_within l = within_opens (λ c p m. opens_notes v.events v.by (c, p) (subst (λ o. IsAmong (c, p) o) opens_same (notes_opens w.events w.by c p m))) l
 
   pub old_close : (a : ℕ) → NotesClose w.events w.by a → NotesClose v.events v.by a ⊎ (a ≡ s)
-  old_close a m = ⊎_elim (λ i. inl (closes_notes v.events v.by a i)) (λ i. inr i) (among_snoc (closes (words v)) a s (subst (λ l. IsAmong a l) closes_same (notes_closes w.events w.by a m)))
+  old_close a m = ⊎_elim (λ i. inl (closes_notes v.events v.by a i)) (λ i. inr i) (among_snoc (closes (trace v)) a s (subst (λ l. IsAmong a l) closes_same (notes_closes w.events w.by a m)))
 
   -- a scope less is open, at least
-  pub close_less : open_scopes (words w) + 1 ≤ open_scopes (words v)
+  pub close_less : open_scopes (trace w) + 1 ≤ open_scopes (trace v)
   close_less =
       let d = one_open v s u in
-      let a : open_of (words w) (0 ∷ numbers (opens (words v))) + 1 ≤ open_scopes (words v) = open_one_less (words v) (words w) (0 ∷ numbers (opens (words v))) s more_closed d.1 d.0 now_closed in
-      let b : open_scopes (words w) ≡ open_of (words w) (0 ∷ numbers (opens (words v))) = ap (λ o. open_of (words w) (0 ∷ numbers o)) opens_same in
+      let a : open_of (trace w) (0 ∷ numbers (opens (trace v))) + 1 ≤ open_scopes (trace v) = open_one_less (trace v) (trace w) (0 ∷ numbers (opens (trace v))) s more_closed d.1 d.0 now_closed in
+      let b : open_scopes (trace w) ≡ open_of (trace w) (0 ∷ numbers (opens (trace v))) = ap (λ o. open_of (trace w) (0 ∷ numbers o)) opens_same in
       omega arith
 
   -- what is free doesn't shrink
@@ -130,11 +130,11 @@ module _ {P : Type 0} {ends : P → Exit → Bool → P → Type 0} {x : Exit} (
           size = (let y = m.size in omega arith);
           opens = opens_same ∙ m.opens ∙ sym (marks_drop_set bs s b (λ d q. same_parent d));
           shut = λ c d q. ⊎_elim
-              (λ i. subst (λ y. (slice_index_or (slice_set bs s b) y d).shut ≡ has y (closes (words w))) (sym i)
-              (ap (λ y. y.shut) (get_or-set_same bs s b d l) ∙ sh ∙ sym (subst (λ y. has s y ≡ true) (sym closes_same) (in_has s (closes (words v) ++ s ∷ []) (among_last (closes (words v)) s)))))
-              (λ ne. ap (λ y. y.shut) (get_or-set_other bs s c b d ne) ∙ m.shut c d (within c q) ∙ sym (has_last c s (closes (words v)) ne) ∙ ap (has c) (sym closes_same))
+              (λ i. subst (λ y. (slice_index_or (slice_set bs s b) y d).shut ≡ has y (closes (trace w))) (sym i)
+              (ap (λ y. y.shut) (get_or-set_same bs s b d l) ∙ sh ∙ sym (subst (λ y. has s y ≡ true) (sym closes_same) (in_has s (closes (trace v) ++ s ∷ []) (among_last (closes (trace v)) s)))))
+              (λ ne. ap (λ y. y.shut) (get_or-set_other bs s c b d ne) ∙ m.shut c d (within c q) ∙ sym (has_last c s (closes (trace v)) ne) ∙ ap (has c) (sym closes_same))
               (cases_eq c s);
-          ended = λ c i. ⊎_elim (λ q. let y = m.ended c q in omega arith) (λ q. omega arith) (among_snoc (closes (words v)) c s (subst (λ y. IsAmong c y) closes_same i));
+          ended = λ c i. ⊎_elim (λ q. let y = m.ended c q in omega arith) (λ q. omega arith) (among_snoc (closes (trace v)) c s (subst (λ y. IsAmong c y) closes_same i));
           rows = rows_same ∙ m.rows;
           parents = λ c d one q. ⊎_elim
               (λ i. subst (λ y. (slice_index_or (slice_set bs s b) y d).parent < c) (sym i) (subst (λ p. p < c) (same_parent d ∙ sym (ap (λ y. y.parent) (get_or-set_same bs s b d l))) (subst (λ y. (slice_index_or bs y d).parent < c) i (m.parents c d one (within c q)))))

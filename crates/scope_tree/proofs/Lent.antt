@@ -92,11 +92,11 @@ module _ {S P D : Type 0} (view : S → View P) (with_pay : S → ℕ → P → 
   lent_sound : (t : Tree S P D) (r : ℕ) (w : P) → IsConsistent view t → IsConsistent view (lent_tree with_pay t r w)
   lent_sound t r w s =
       let e = sym (pay_view t.seat r w) in record {
-        kept = subst (λ v. Kept v t.branches.items t.held.items) e (paid_keeps r w (view t.seat) t.branches.items t.held.items s.kept);
-        shelved = subst (λ v. Shelved v t.held.items t.shelf.items) e (paid_shelved r w (view t.seat) t.held.items t.shelf.items s.shelved);
+        kept = subst (λ v. Kept v t.branches.items t.acquisitions.items) e (paid_keeps r w (view t.seat) t.branches.items t.acquisitions.items s.kept);
+        shelved = subst (λ v. Shelved v t.acquisitions.items t.shelf.items) e (paid_shelved r w (view t.seat) t.acquisitions.items t.shelf.items s.shelved);
         used = let u : used (seen view (lent_tree with_pay t r w)) ≡ used (seen view t) = ap used (lent_seen t r w) in let o = s.used in omega (u, o, arith);
         branches = s.branches;
-        held = s.held;
+        acquisitions = s.acquisitions;
         shelf = s.shelf;
         limit = s.limit;
         rows_limit = s.rows_limit;

@@ -11,7 +11,7 @@ use Rattle.row_seat.specs.declared.view.View.{View}
 use Rattle.scope_tree.specs.declared.branch.Branch.{Branch}
 use Rattle.scope_tree.specs.declared.branch.AcquiredRow.{AcquiredRow}
 use Rattle.scope_tree.specs.Kept.{Kept}
-use Rattle.scope_tree.specs.Words.{numbers, open_of, open_scopes, owed, words}
+use Rattle.scope_tree.specs.Trace.{numbers, open_of, open_scopes, owed, trace}
 use Rattle.scope_tree.proofs.Beneath.{noted_scope}
 use Rattle.scope_tree.proofs.Bridge.{in_noted, in_opens}
 use Rattle.scope_tree.proofs.Covered.{closed_complete}
@@ -27,9 +27,9 @@ none_open E (x ∷ xs) h = ap (λ b. cond b (open_of E xs) (suc (open_of E xs)))
 
 pub nothing_owed : {P : Type 0} (v : View P) (bs : List Branch) (hs : List AcquiredRow) → Kept v bs hs → IsClosed v.events v.by 0 → owed v ≡ 0
 nothing_owed v bs hs k c =
-    let shut : (s : ℕ) → s < length bs → is_closed (words v) s ≡ true = λ s l. closed_complete v bs hs k s l (root_closes v bs hs k s l c) in
-    let a : open_scopes (words v) ≡ 0 = none_open (words v) (0 ∷ numbers (opens (words v))) (λ s m. ⊎_elim
+    let shut : (s : ℕ) → s < length bs → is_closed (trace v) s ≡ true = λ s l. closed_complete v bs hs k s l (root_closes v bs hs k s l c) in
+    let a : open_scopes (trace v) ≡ 0 = none_open (trace v) (0 ∷ numbers (opens (trace v))) (λ s m. ⊎_elim
     (λ e. shut s (let z = k.mirrors.size in omega (e, z, arith)))
-    (λ n. let t = number_among s (opens (words v)) n in shut s (noted_scope v bs hs k s t.0 (in_noted v.by (Open s t.0) v.events (in_opens s t.0 (words v) t.1))).1)
+    (λ n. let t = number_among s (opens (trace v)) n in shut s (noted_scope v bs hs k s t.0 (in_noted v.by (Open s t.0) v.events (in_opens s t.0 (trace v) t.1))).1)
     (among_cons m)) in
     let b : length v.opened ≡ 0 = ap length (nothing_open v bs hs k c) in omega (a, b, arith)

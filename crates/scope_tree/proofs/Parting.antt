@@ -28,7 +28,7 @@ use Rattle.scope_tree.specs.declared.branch.Spent.{Spent}
 use Rattle.scope_tree.specs.Calls.{AtStart}
 use Rattle.scope_tree.specs.Kept.{Kept, Shelved}
 use Rattle.scope_tree.specs.Released.{said}
-use Rattle.scope_tree.specs.Words.{ended_rows, ends_of, open_scopes, owed, words}
+use Rattle.scope_tree.specs.Trace.{ended_rows, ends_of, open_scopes, owed, trace}
 use Rattle.scope_tree.proofs.Grown.{closed_like, holds_same, lends_less, mirrors_same}
 use Rattle.scope_tree.proofs.Parts.{eqb_eq}
 
@@ -96,26 +96,26 @@ ends_shape (Final r x ok) f m = ⊎_elim (λ e. let q : ℕ × Bool = (r, ok) in
 
 module _ {P : Type 0} where
   -- a row that ended has its Final
-  pub ended_final : (v : View P) (fs : List (ℕ × Bool)) → ended_rows (words v) ≡ fs → (r : ℕ) → IsAmong r (firsts fs) → (ok : Bool) × NotesFinal v.events v.by r ok
+  pub ended_final : (v : View P) (fs : List (ℕ × Bool)) → ended_rows (trace v) ≡ fs → (r : ℕ) → IsAmong r (firsts fs) → (ok : Bool) × NotesFinal v.events v.by r ok
   ended_final v fs s r m =
-      let t = first_said r fs m in let f = flat_found ends_of (words v) (r, t.0) (subst (λ l. IsAmong (r, t.0) l) (sym s) t.1) in
+      let t = first_said r fs m in let f = flat_found ends_of (trace v) (r, t.0) (subst (λ l. IsAmong (r, t.0) l) (sym s) t.1) in
       let e = ends_shape f.0 (r, t.0) f.2 in
-      (t.0, (e.0, own_notes v.events v.by (Final r e.0 t.0) (subst (λ w. IsAmong w (words v)) e.1 f.1)))
+      (t.0, (e.0, own_notes v.events v.by (Final r e.0 t.0) (subst (λ w. IsAmong w (trace v)) e.1 f.1)))
 
   -- what is on the shelf has its Final
   pub shelf_final : (v : View P) (hs : List AcquiredRow) (xs : List (Spent P)) → Shelved v hs xs → (r : ℕ) → IsAmong r (firsts (said xs)) → (ok : Bool) × NotesFinal v.events v.by r ok
   shelf_final v hs xs s r m = ended_final v (said xs) s.said_are r m
 
   -- a seat that is taken in notes nothing in the name of the main one
-  pub join_words : (v w : View P) → AreApart v w → words (joined v w) ≡ words v
-  join_words v w a = own_append v.by v.events w.events ∙ ap (λ l. words v ++ l) (own_none v.by w.events a.events) ∙ append-nil (words v)
+  pub join_trace : (v w : View P) → AreApart v w → trace (joined v w) ≡ trace v
+  join_trace v w a = own_append v.by v.events w.events ∙ ap (λ l. trace v ++ l) (own_none v.by w.events a.events) ∙ append-nil (trace v)
 
   pub join_owed : (v w : View P) → AreApart v w → owed (joined v w) ≡ owed v
-  join_owed v w a = ap (λ E. open_scopes E + length v.opened) (join_words v w a)
+  join_owed v w a = ap (λ E. open_scopes E + length v.opened) (join_trace v w a)
 
 module _ {P : Type 0} (v w : View P) (bs : List Branch) (hs : List AcquiredRow) (xs : List (Spent P)) (k : Kept v bs hs) (s : Shelved v hs xs) (a : AreApart v w) (rest : AtRest w) where
-  same_words : words (joined v w) ≡ words v
-  same_words = join_words v w a
+  same_trace : trace (joined v w) ≡ trace v
+  same_trace = join_trace v w a
 
   up : (u : What) → Notes v.events v.by u → Notes (v.events ++ w.events) v.by u
   up u n = (n.0, among_left w.events n.1, n.2, n.3)
@@ -125,8 +125,8 @@ module _ {P : Type 0} (v w : View P) (bs : List Branch) (hs : List AcquiredRow) 
 
   pub join_keeps : Kept (joined v w) bs hs
   join_keeps =
-      let o = ap opens same_words in let c = ap closes same_words in record {
-        mirrors = mirrors_same o (ap rows same_words) c k.mirrors;
+      let o = ap opens same_trace in let c = ap closes same_trace in record {
+        mirrors = mirrors_same o (ap rows same_trace) c k.mirrors;
         holds = holds_same v (joined v w) (λ r t m. (closed_like v (joined v w) (sym o) (sym c) t, closed_like (joined v w) v o c t)) (λ r. ((λ h. h), (λ h. h))) k.holds.once k.holds;
         lends = record {
           pairs = λ j r m h. let y = k.lends.pairs j r m h in (y.0, up (Lease j y.0) y.1);
@@ -145,7 +145,7 @@ module _ {P : Type 0} (v w : View P) (bs : List Branch) (hs : List AcquiredRow) 
 
   pub join_shelved : Shelved (joined v w) hs xs
   join_shelved = record {
-    said_are = ap ended_rows same_words ∙ s.said_are;
+    said_are = ap ended_rows same_trace ∙ s.said_are;
     distinct = s.distinct;
     opened = s.opened;
     pairs = s.pairs;

@@ -9,13 +9,13 @@ use Rattle.scope_tree.specs.declared.branch.Branch.{Branch}
 use Rattle.scope_tree.specs.declared.branch.AcquiredRow.{AcquiredRow}
 use Rattle.scope_tree.specs.Kids.{lasts, kids, whole}
 use Rattle.std.specs.List.{IsDistinct}
-use Rattle.scope_tree.specs.Words.{numbers}
-use Rattle.scope_tree.specs.Kept.{marks, held_rows, held_pairs}
+use Rattle.scope_tree.specs.Trace.{numbers}
+use Rattle.scope_tree.specs.Kept.{marks, acquisition_rows, acquisition_pairs}
 use Rattle.scope_tree.proofs.Shapes.{kids_other}
 use Rattle.chunk_core.proofs.Distinct.{distinct_append, distinct_head, distinct_nil, distinct_one, distinct_tail}
 use Rattle.chunk_core.proofs.Filters.{among_append, among_right, chosen}
 
-pub numbers_held : (hs : List AcquiredRow) → numbers (held_pairs hs) ≡ held_rows hs
+pub numbers_held : (hs : List AcquiredRow) → numbers (acquisition_pairs hs) ≡ acquisition_rows hs
 numbers_held [] = refl
 numbers_held (h ∷ hs) = ap (λ l. h.row ∷ l) (numbers_held hs)
 
@@ -26,28 +26,28 @@ unless_elim false X m = (refl, m)
 pub eqb_eq : (a b : ℕ) → eqb a b ≡ true → a ≡ b
 eqb_eq a b h = ⊎_elim (λ e. e) (λ ne. absurd (let f : eqb a b ≡ false = ne_eqb a b ne in cc)) (cases_eq a b)
 
-pub row_of_pair : (r t : ℕ) (hs : List AcquiredRow) → IsAmong (r, t) (held_pairs hs) → IsAmong r (held_rows hs)
+pub row_of_pair : (r t : ℕ) (hs : List AcquiredRow) → IsAmong (r, t) (acquisition_pairs hs) → IsAmong r (acquisition_rows hs)
 row_of_pair r t [] m = absurd (among_nil m)
-row_of_pair r t (h ∷ hs) m = ⊎_elim (λ e. subst (λ z. IsAmong r (z ∷ held_rows hs)) (ap (λ y. y.0) e) (here (held_rows hs))) (λ n. there h.row (row_of_pair r t hs n)) (among_cons m)
+row_of_pair r t (h ∷ hs) m = ⊎_elim (λ e. subst (λ z. IsAmong r (z ∷ acquisition_rows hs)) (ap (λ y. y.0) e) (here (acquisition_rows hs))) (λ n. there h.row (row_of_pair r t hs n)) (among_cons m)
 
-pub one_scope : (r t u : ℕ) (hs : List AcquiredRow) → IsDistinct nat_eq (held_rows hs) → IsAmong (r, t) (held_pairs hs) → IsAmong (r, u) (held_pairs hs) → t ≡ u
+pub one_scope : (r t u : ℕ) (hs : List AcquiredRow) → IsDistinct nat_eq (acquisition_rows hs) → IsAmong (r, t) (acquisition_pairs hs) → IsAmong (r, u) (acquisition_pairs hs) → t ≡ u
 one_scope r t u [] d m n = absurd (among_nil m)
 one_scope r t u (h ∷ hs) d m n =
     ⊎_elim
-    (λ e. ⊎_elim (λ f. ap (λ y. y.1) e ∙ sym (ap (λ y. y.1) f)) (λ n'. absurd (distinct_head h.row (held_rows hs) d (subst (λ z. IsAmong z (held_rows hs)) (ap (λ y. y.0) e) (row_of_pair r u hs n')))) (among_cons n))
-    (λ m'. ⊎_elim (λ f. absurd (distinct_head h.row (held_rows hs) d (subst (λ z. IsAmong z (held_rows hs)) (ap (λ y. y.0) f) (row_of_pair r t hs m')))) (λ n'. one_scope r t u hs (distinct_tail h.row (held_rows hs) d) m' n') (among_cons n))
+    (λ e. ⊎_elim (λ f. ap (λ y. y.1) e ∙ sym (ap (λ y. y.1) f)) (λ n'. absurd (distinct_head h.row (acquisition_rows hs) d (subst (λ z. IsAmong z (acquisition_rows hs)) (ap (λ y. y.0) e) (row_of_pair r u hs n')))) (among_cons n))
+    (λ m'. ⊎_elim (λ f. absurd (distinct_head h.row (acquisition_rows hs) d (subst (λ z. IsAmong z (acquisition_rows hs)) (ap (λ y. y.0) f) (row_of_pair r t hs m')))) (λ n'. one_scope r t u hs (distinct_tail h.row (acquisition_rows hs) d) m' n') (among_cons n))
     (among_cons m)
 
-pub lasts_pair : (r s : ℕ) (hs : List AcquiredRow) → IsAmong r (lasts hs s) → IsAmong (r, s) (held_pairs hs)
+pub lasts_pair : (r s : ℕ) (hs : List AcquiredRow) → IsAmong r (lasts hs s) → IsAmong (r, s) (acquisition_pairs hs)
 lasts_pair r s [] m = absurd (among_nil m)
 lasts_pair r s (h ∷ hs) m =
     ⊎_elim
     (λ l. let y : ℕ × ℕ = (h.row, h.scope) in there y (lasts_pair r s hs l))
     (λ w. let t = chosen (eqb h.scope s) (h.row ∷ []) r w in
-    ⊎_elim (λ e. let q : h.scope ≡ s = eqb_eq h.scope s t.0 in subst (λ z. IsAmong z (held_pairs (h ∷ hs))) (let p : (h.row, h.scope) ≡ (r, s) = (cc (e, q)) in p) (here (held_pairs hs))) (λ n. absurd (among_nil n)) (among_cons t.1))
+    ⊎_elim (λ e. let q : h.scope ≡ s = eqb_eq h.scope s t.0 in subst (λ z. IsAmong z (acquisition_pairs (h ∷ hs))) (let p : (h.row, h.scope) ≡ (r, s) = (cc (e, q)) in p) (here (acquisition_pairs hs))) (λ n. absurd (among_nil n)) (among_cons t.1))
     (among_append _ (lasts hs s) (cond (eqb h.scope s) (h.row ∷ []) []) m)
 
-pub pair_lasts : (r s : ℕ) (hs : List AcquiredRow) → IsAmong (r, s) (held_pairs hs) → IsAmong r (lasts hs s)
+pub pair_lasts : (r s : ℕ) (hs : List AcquiredRow) → IsAmong (r, s) (acquisition_pairs hs) → IsAmong r (lasts hs s)
 pair_lasts r s [] m = absurd (among_nil m)
 pair_lasts r s (h ∷ hs) m =
     ⊎_elim
@@ -55,12 +55,12 @@ pair_lasts r s (h ∷ hs) m =
     (λ n. among_left (cond (eqb h.scope s) (h.row ∷ []) []) (pair_lasts r s hs n))
     (among_cons m)
 
-pub distinct_lasts : (s : ℕ) (hs : List AcquiredRow) → IsDistinct nat_eq (held_rows hs) → IsDistinct nat_eq (lasts hs s)
+pub distinct_lasts : (s : ℕ) (hs : List AcquiredRow) → IsDistinct nat_eq (acquisition_rows hs) → IsDistinct nat_eq (lasts hs s)
 distinct_lasts s [] d = distinct_nil
 distinct_lasts s (h ∷ hs) d =
-    distinct_append (lasts hs s) (cond (eqb h.scope s) (h.row ∷ []) []) (distinct_lasts s hs (distinct_tail h.row (held_rows hs) d))
+    distinct_append (lasts hs s) (cond (eqb h.scope s) (h.row ∷ []) []) (distinct_lasts s hs (distinct_tail h.row (acquisition_rows hs) d))
     (elim (eqb h.scope s) as (λ b. IsDistinct nat_eq (cond b (h.row ∷ []) [])) [ true ↦ distinct_one h.row | false ↦ distinct_nil ])
-    (λ x m n. let t = chosen (eqb h.scope s) (h.row ∷ []) x n in ⊎_elim (λ e. distinct_head h.row (held_rows hs) d (subst (λ z. IsAmong z (held_rows hs)) e (row_of_pair x s hs (lasts_pair x s hs m)))) among_nil (among_cons t.1))
+    (λ x m n. let t = chosen (eqb h.scope s) (h.row ∷ []) x n in ⊎_elim (λ e. distinct_head h.row (acquisition_rows hs) d (subst (λ z. IsAmong z (acquisition_rows hs)) e (row_of_pair x s hs (lasts_pair x s hs m)))) among_nil (among_cons t.1))
 
 -- the parts of what stands below s in the scopes from n on
 pub kids_cases : (r n s : ℕ) (b : Branch) (bs : List Branch) (hs : List AcquiredRow) → IsAmong r (kids n (b ∷ bs) hs s) → IsAmong r (kids (suc n) bs hs s) ⊎ ((b.parent ≡ s) × (b.shut ≡ false) × (IsAmong r (kids (suc n) bs hs n) ⊎ IsAmong r (lasts hs n)))
@@ -71,7 +71,7 @@ kids_cases r n s b bs hs m =
     inr (eqb_eq b.parent s t.0, u.0, among_append _ (kids (suc n) bs hs n) (lasts hs n) u.1))
     (among_append _ (kids (suc n) bs hs s) (cond (eqb b.parent s) (cond b.shut [] (kids (suc n) bs hs n ++ lasts hs n)) []) m)
 
-pub kids_pair : (r n s : ℕ) (bs : List Branch) (hs : List AcquiredRow) → IsAmong r (kids n bs hs s) → (t : ℕ) × (n ≤ t) × IsAmong (r, t) (held_pairs hs)
+pub kids_pair : (r n s : ℕ) (bs : List Branch) (hs : List AcquiredRow) → IsAmong r (kids n bs hs s) → (t : ℕ) × (n ≤ t) × IsAmong (r, t) (acquisition_pairs hs)
 kids_pair r n s [] hs m = absurd (among_nil m)
 kids_pair r n s (b ∷ bs) hs m =
     ⊎_elim
@@ -79,7 +79,7 @@ kids_pair r n s (b ∷ bs) hs m =
     (λ w. ⊎_elim (λ l. let t = kids_pair r (suc n) n bs hs l in let q = t.1 in (t.0, (omega arith), t.2)) (λ l. (n, (omega arith), lasts_pair r n hs l)) w.2)
     (kids_cases r n s b bs hs m)
 
-module _ (hs : List AcquiredRow) (d : IsDistinct nat_eq (held_rows hs)) where
+module _ (hs : List AcquiredRow) (d : IsDistinct nat_eq (acquisition_rows hs)) where
   apart : (r n s t : ℕ) (bs : List Branch) → IsAmong r (kids n bs hs s) → IsAmong r (lasts hs t) → t < n → ⊥
   apart r n s t bs m l lt = let p = kids_pair r n s bs hs m in let e = one_scope r p.0 t hs d p.2 (lasts_pair r t hs l) in let q = p.1 in omega arith
 
@@ -116,7 +116,7 @@ module _ (hs : List AcquiredRow) (d : IsDistinct nat_eq (held_rows hs)) where
       distinct_append (kids (suc s) (drop (suc s) bs) hs s) (lasts hs s) (distinct_kids (suc s) s (drop (suc s) bs) l) (distinct_lasts s hs d) (λ x m k. apart x (suc s) s s (drop (suc s) bs) m k l)
 
 -- the definition on events
-pub latest_is : (hs : List AcquiredRow) (s : ℕ) → lasts hs s ≡ latest (held_pairs hs) s
+pub latest_is : (hs : List AcquiredRow) (s : ℕ) → lasts hs s ≡ latest (acquisition_pairs hs) s
 latest_is [] s = refl
 latest_is (h ∷ hs) s = ap (λ l. l ++ cond (eqb h.scope s) (h.row ∷ []) []) (latest_is hs s)
 
@@ -126,17 +126,17 @@ nested true true X = refl
 nested true false X = refl
 nested false b X = refl
 
-pub below_is : (n : ℕ) (bs : List Branch) (hs : List AcquiredRow) (f : ℕ → Bool) (s : ℕ) → ((i : ℕ) (d : Branch) → i < length bs → (slice_index_or bs i d).shut ≡ f (i + n)) → kids n bs hs s ≡ rows_beneath (marks n bs) f (held_pairs hs) s
+pub below_is : (n : ℕ) (bs : List Branch) (hs : List AcquiredRow) (f : ℕ → Bool) (s : ℕ) → ((i : ℕ) (d : Branch) → i < length bs → (slice_index_or bs i d).shut ≡ f (i + n)) → kids n bs hs s ≡ rows_beneath (marks n bs) f (acquisition_pairs hs) s
 below_is n [] hs f s h = refl
 below_is n (b ∷ bs) hs f s h =
     let g : (i : ℕ) (d : Branch) → i < length bs → (slice_index_or bs i d).shut ≡ f (i + suc n) = λ i d l. let e : suc i + n ≡ i + suc n = omega arith in h (suc i) d (omega arith) ∙ ap f e in
     let z : b.shut ≡ f n = let e : zero + n ≡ n = omega arith in h zero b (omega arith) ∙ ap f e in
     let A = below_is (suc n) bs hs f s g in let B = below_is (suc n) bs hs f n g in let C = latest_is hs n in
     ap (λ l. l ++ cond (eqb b.parent s) (cond b.shut [] (kids (suc n) bs hs n ++ lasts hs n)) []) A
-    ∙ ap (λ q. rows_beneath (marks (suc n) bs) f (held_pairs hs) s ++ cond (eqb b.parent s) (cond q [] (kids (suc n) bs hs n ++ lasts hs n)) []) z
-    ∙ ap (λ l. rows_beneath (marks (suc n) bs) f (held_pairs hs) s ++ cond (eqb b.parent s) (cond (f n) [] (l ++ lasts hs n)) []) B
-    ∙ ap (λ l. rows_beneath (marks (suc n) bs) f (held_pairs hs) s ++ cond (eqb b.parent s) (cond (f n) [] (rows_beneath (marks (suc n) bs) f (held_pairs hs) n ++ l)) []) C
-    ∙ ap (λ l. rows_beneath (marks (suc n) bs) f (held_pairs hs) s ++ l) (nested (eqb b.parent s) (f n) (rows_beneath (marks (suc n) bs) f (held_pairs hs) n ++ latest (held_pairs hs) n))
+    ∙ ap (λ q. rows_beneath (marks (suc n) bs) f (acquisition_pairs hs) s ++ cond (eqb b.parent s) (cond q [] (kids (suc n) bs hs n ++ lasts hs n)) []) z
+    ∙ ap (λ l. rows_beneath (marks (suc n) bs) f (acquisition_pairs hs) s ++ cond (eqb b.parent s) (cond (f n) [] (l ++ lasts hs n)) []) B
+    ∙ ap (λ l. rows_beneath (marks (suc n) bs) f (acquisition_pairs hs) s ++ cond (eqb b.parent s) (cond (f n) [] (rows_beneath (marks (suc n) bs) f (acquisition_pairs hs) n ++ l)) []) C
+    ∙ ap (λ l. rows_beneath (marks (suc n) bs) f (acquisition_pairs hs) s ++ l) (nested (eqb b.parent s) (f n) (rows_beneath (marks (suc n) bs) f (acquisition_pairs hs) n ++ latest (acquisition_pairs hs) n))
 
 -- no scope up to s is a child of s
 pub kids_up : (bs : List Branch) (hs : List AcquiredRow) (s j : ℕ) (d : Branch) → ((c : ℕ) (d : Branch) → 1 ≤ c → c < length bs → (slice_index_or bs c d).parent < c) → j ≤ s → s < length bs → kids 1 (drop 1 bs) hs s ≡ kids (suc j) (drop (suc j) bs) hs s
@@ -145,8 +145,8 @@ kids_up bs hs s (suc j) d p l m =
     let q = p (suc j) d (omega arith) (omega arith) in
     kids_up bs hs s j d p (omega arith) m ∙ kids_other bs hs s (suc (suc j)) (suc j) d refl (omega arith) (λ e. omega arith)
 
--- a held row stands with its scope
-pub pair_at : (hs : List AcquiredRow) (i : ℕ) (d : AcquiredRow) → i < length hs → IsAmong ((slice_index_or hs i d).row, (slice_index_or hs i d).scope) (held_pairs hs)
+-- an acquired row stands with its scope
+pub pair_at : (hs : List AcquiredRow) (i : ℕ) (d : AcquiredRow) → i < length hs → IsAmong ((slice_index_or hs i d).row, (slice_index_or hs i d).scope) (acquisition_pairs hs)
 pair_at [] i d l = absurd (omega arith)
-pair_at (h ∷ hs) zero d l = here (held_pairs hs)
+pair_at (h ∷ hs) zero d l = here (acquisition_pairs hs)
 pair_at (h ∷ hs) (suc i) d l = let y : ℕ × ℕ = (h.row, h.scope) in there y (pair_at hs i d (omega arith))

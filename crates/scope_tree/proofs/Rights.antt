@@ -19,7 +19,7 @@ use Rattle.row_seat.specs.Views.{AtRest, joined, kept_after, noted, split_main, 
 use Rattle.scope_tree.specs.Calls.{Cancels, ClosesScope, Seen}
 use Rattle.scope_tree.specs.Leased.{leased_all, pairs_for}
 use Rattle.scope_tree.specs.Rights.{AddsLease, DropsLease, HasNoLeaseBut, IsNewStream, IsSameSeat, KeepsLeases}
-use Rattle.scope_tree.specs.Words.{canceling, leasing}
+use Rattle.scope_tree.specs.Trace.{canceling, leasing}
 use Rattle.scope_tree.proofs.Beneath.{shut_not}
 use Rattle.chunk_core.proofs.Reversed.{reverse_among}
 use Rattle.scope_tree.proofs.Follows.{Follows, follows_old, released_follows}

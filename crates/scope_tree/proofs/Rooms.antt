@@ -16,8 +16,8 @@ use Rattle.scope_tree.specs.Released.{away, is_here}
 use Rattle.scope_tree.specs.Rows.{strangers}
 use Rattle.std.specs.List.{IsDistinct}
 use Rattle.scope_tree.specs.Released.{said}
-use Rattle.scope_tree.specs.Words.{numbers, own_rows, words}
-use Rattle.scope_tree.specs.Kept.{Kept, Shelved, held_pairs, held_rows}
+use Rattle.scope_tree.specs.Trace.{numbers, own_rows, trace}
+use Rattle.scope_tree.specs.Kept.{Kept, Shelved, acquisition_pairs, acquisition_rows}
 use Rattle.scope_tree.proofs.Bridge.{in_noted, in_rows}
 use Rattle.scope_tree.proofs.Distinct.{kin, kin_among, kin_count, length_keys, length_said, strangers_append}
 use Rattle.scope_tree.proofs.Grows.{length_pairs, pair_of_row}
@@ -58,39 +58,39 @@ strangers_filter own f (r ∷ T) =
     ]
 
 module _ {P : Type 0} (v : View P) (bs : List Branch) (hs : List AcquiredRow) (k : Kept v bs hs) where
-  pub own_is : own_rows v ≡ held_rows hs
+  pub own_is : own_rows v ≡ acquisition_rows hs
   own_is = ap numbers k.mirrors.rows ∙ numbers_held hs
 
-  pub rows_count : length (rows (words v)) ≡ length hs
+  pub rows_count : length (rows (trace v)) ≡ length hs
   rows_count = ap length k.mirrors.rows ∙ length_pairs hs
 
   -- the rows that are used, by what the tree keeps
-  pub used_is : (F : List ℕ) → length (rows (words v)) + strangers (own_rows v) F ≡ length hs + strangers (held_rows hs) F
+  pub used_is : (F : List ℕ) → length (rows (trace v)) + strangers (own_rows v) F ≡ length hs + strangers (acquisition_rows hs) F
   used_is F = ap (λ n. n + strangers (own_rows v) F) (ap length k.mirrors.rows ∙ length_pairs hs) ∙ ap (λ l. length hs + strangers l F) own_is
 
-  pub open_held : (r : ℕ) → HasRow v.opened r → IsAmong r (held_rows hs)
+  pub open_held : (r : ℕ) → HasRow v.opened r → IsAmong r (acquisition_rows hs)
   open_held r h = let t = k.holds.only r h in row_of_pair r t.0 hs t.1
 
   -- an open row isn't empty
   pub open_taken : (r : ℕ) → HasRow v.opened r → ¬ (IsAmong r v.empty)
-  open_taken r h m = let t = k.holds.only r h in k.rests.empty r m (v.by, t.0, in_noted v.by (Acquire r t.0) v.events (in_rows r t.0 (words v) (subst (λ l. IsAmong (r, t.0) l) (sym k.mirrors.rows) t.1)))
+  open_taken r h m = let t = k.holds.only r h in k.rests.empty r m (v.by, t.0, in_noted v.by (Acquire r t.0) v.events (in_rows r t.0 (trace v) (subst (λ l. IsAmong (r, t.0) l) (sym k.mirrors.rows) t.1)))
 
-  fits_held : (T : List ℕ) → IsDistinct nat_eq T → ((r : ℕ) → IsAmong r T → IsAmong r (held_rows hs)) → length T ≤ length hs
-  fits_held T d h = let f = fit_in T (held_pairs hs) d (λ r m. pair_of_row r hs (h r m)) in let l = length_pairs hs in omega arith
+  fits_held : (T : List ℕ) → IsDistinct nat_eq T → ((r : ℕ) → IsAmong r T → IsAmong r (acquisition_rows hs)) → length T ≤ length hs
+  fits_held T d h = let f = fit_in T (acquisition_pairs hs) d (λ r m. pair_of_row r hs (h r m)) in let l = length_pairs hs in omega arith
 
   module _ (xs : List (Spent P)) (s : Shelved v hs xs) where
     -- the shelf and the open rows are no more than the rows that are used
-    pub shelf_count : length xs + length v.opened ≤ length hs + strangers (held_rows hs) (firsts (said xs))
+    pub shelf_count : length xs + length v.opened ≤ length hs + strangers (acquisition_rows hs) (firsts (said xs))
     shelf_count =
-        let F = firsts (said xs) in let own = held_rows hs in let A = kin own F in let B = keys_of v.opened in
+        let F = firsts (said xs) in let own = acquisition_rows hs in let A = kin own F in let B = keys_of v.opened in
         let d = distinct_append A B (distinct_filter (λ r. has r own) F s.distinct) k.holds.once (λ r m n. s.opened r (has_hand r v.opened n) (kin_among own F r m).0) in
         let f = fits_held (A ++ B) d (λ r m. ⊎_elim (λ a. (kin_among own F r a).1) (λ b. open_held r (has_hand r v.opened b)) (among_append r A B m)) in
         let a = kin_count own F in let b = length_said xs in let c = length_keys v.opened in let e = length-append A B in omega (f, a, b, c, e, arith)
 
     -- the shelf and the rows of a lease that may end are no more than the rows that are used and the foreign rows of the lease
-    pub cancel_count : (j : ℕ) (T : List ℕ) → IsDistinct nat_eq T → ((r : ℕ) → IsAmong r T → IsAmong (j, r) v.pairs) → length xs + away T v.opened ≤ length hs + strangers (held_rows hs) (firsts (said xs)) + strangers (held_rows hs) T
+    pub cancel_count : (j : ℕ) (T : List ℕ) → IsDistinct nat_eq T → ((r : ℕ) → IsAmong r T → IsAmong (j, r) v.pairs) → length xs + away T v.opened ≤ length hs + strangers (acquisition_rows hs) (firsts (said xs)) + strangers (acquisition_rows hs) T
     cancel_count j T dt p =
-        let F = firsts (said xs) in let own = held_rows hs in let A = kin own F in let N = gone_from v.opened T in let B = kin own N in
+        let F = firsts (said xs) in let own = acquisition_rows hs in let A = kin own F in let N = gone_from v.opened T in let B = kin own N in
         let dn = distinct_filter (λ r. not (is_here r v.opened)) T dt in
         let d = distinct_append A B (distinct_filter (λ r. has r own) F s.distinct) (distinct_filter (λ r. has r own) N dn) (λ r m n. s.pairs j r (p r (among_filter (λ q. not (is_here q v.opened)) r T (kin_among own N r n).0).0) (kin_among own F r m).0) in
         let f = fits_held (A ++ B) d (λ r m. ⊎_elim (λ a. (kin_among own F r a).1) (λ b. (kin_among own N r b).1) (among_append r A B m)) in

@@ -28,7 +28,7 @@ use Rattle.std.specs.List.{IsDistinct}
 use Rattle.scope_tree.specs.Released.{CanLetGo, CanRelease, Holder, LetsGo, MayWait, Released, finalized, said}
 use Rattle.scope_tree.specs.Released.Holder.{owner, lease}
 use Rattle.scope_tree.specs.Released.Released.{done, stays, ends_so}
-use Rattle.scope_tree.specs.Words.{ended_rows, ends_of, words}
+use Rattle.scope_tree.specs.Trace.{ended_rows, ends_of, trace}
 use Rattle.scope_tree.specs.Kept.{Shelved}
 use Rattle.scope_tree.proofs.Bridge.{own_snoc}
 use Rattle.scope_tree.proofs.Distinct.{firsts_append, said_append}
@@ -51,16 +51,16 @@ module _ {P : Type 0} where
       let e : Event = record { stamp = n; by = v.by; what = w } in
       subst Rises (sym (by_snoc v.by v.events e refl)) (rises_snoc (by_stream v.by v.events) e r (λ x m. f.1 x (by_in v.by v.events x m).0))
 
-  pub ended_next : (v : View P) (n : ℕ) (w : What) → ended_rows (words (noted v (record { stamp = n; by = v.by; what = w }))) ≡ ended_rows (words v) ++ ends_of w
+  pub ended_next : (v : View P) (n : ℕ) (w : What) → ended_rows (trace (noted v (record { stamp = n; by = v.by; what = w }))) ≡ ended_rows (trace v) ++ ends_of w
   ended_next v n w =
       let e : Event = record { stamp = n; by = v.by; what = w } in
-      ap ended_rows (own_snoc v.by v.events e refl) ∙ flat_map-append ends_of (words v) (w ∷ []) ∙ ap (λ l. ended_rows (words v) ++ l) (append-nil (ends_of w))
+      ap ended_rows (own_snoc v.by v.events e refl) ∙ flat_map-append ends_of (trace v) (w ∷ []) ∙ ap (λ l. ended_rows (trace v) ++ l) (append-nil (ends_of w))
 
   -- an event that isn't a Final
   pub note_shelved : (v : View P) (hs : List AcquiredRow) (xs : List (Spent P)) (n : ℕ) (w : What) → ends_of w ≡ [] → IsFreshStamp v n → Shelved v hs xs → Shelved (noted v (record { stamp = n; by = v.by; what = w })) hs xs
   note_shelved v hs xs n w no' f k =
       let e : Event = record { stamp = n; by = v.by; what = w } in record {
-        said_are = ended_next v n w ∙ ap (λ l. ended_rows (words v) ++ l) no' ∙ append-nil (ended_rows (words v)) ∙ k.said_are;
+        said_are = ended_next v n w ∙ ap (λ l. ended_rows (trace v) ++ l) no' ∙ append-nil (ended_rows (trace v)) ∙ k.said_are;
         distinct = k.distinct;
         opened = k.opened;
         pairs = k.pairs;
@@ -103,13 +103,13 @@ module _ {P : Type 0} where
   )
 
   -- from v to w the rows of ys ended
-  went_shelved : (v w : View P) (hs : List AcquiredRow) (xs ys : List (Spent P)) → Follows v w → ended_rows (words w) ≡ ended_rows (words v) ++ said ys → IsDistinct nat_eq (firsts (said ys)) → ((r : ℕ) → IsAmong r (firsts (said ys)) → ¬ (HasRow w.opened r) × ¬ (HasPair w r) × ¬ (IsAmong r v.empty) × ¬ (IsAmong r (firsts (said xs)))) → ((q : ℕ) → HasRow v.opened q → HasRow w.opened q ⊎ (IsAmong q (firsts (said ys)) ⊎ MayWait v q)) → Rises (by_stream w.by w.events) → Shelved v hs xs → Shelved w hs (xs ++ ys)
-  went_shelved v w hs xs ys f words_are once bare back rises k =
+  went_shelved : (v w : View P) (hs : List AcquiredRow) (xs ys : List (Spent P)) → Follows v w → ended_rows (trace w) ≡ ended_rows (trace v) ++ said ys → IsDistinct nat_eq (firsts (said ys)) → ((r : ℕ) → IsAmong r (firsts (said ys)) → ¬ (HasRow w.opened r) × ¬ (HasPair w r) × ¬ (IsAmong r v.empty) × ¬ (IsAmong r (firsts (said xs)))) → ((q : ℕ) → HasRow v.opened q → HasRow w.opened q ⊎ (IsAmong q (firsts (said ys)) ⊎ MayWait v q)) → Rises (by_stream w.by w.events) → Shelved v hs xs → Shelved w hs (xs ++ ys)
+  went_shelved v w hs xs ys f trace_is once bare back rises k =
       let all : firsts (said (xs ++ ys)) ≡ firsts (said xs) ++ firsts (said ys) = ap firsts (said_append xs ys) ∙ firsts_append (said xs) (said ys) in
       let cases : (q : ℕ) → IsAmong q (firsts (said (xs ++ ys))) → IsAmong q (firsts (said xs)) ⊎ IsAmong q (firsts (said ys)) = λ q m. among_append q (firsts (said xs)) (firsts (said ys)) (subst (λ z. IsAmong q z) all m) in
       let on : (q : ℕ) → IsAmong q (firsts (said xs) ++ firsts (said ys)) → IsAmong q (firsts (said (xs ++ ys))) = λ q m. subst (λ z. IsAmong q z) (sym all) m in
       let waits : (q : ℕ) → MayWait v q → MayWait w q = λ q y. (same_main f ∙ y.0, (y.1.0, subst (λ b. Covers w.events y.1.0 b q) (sym (same_by f)) (follows_covers f y.1.1))) in record {
-        said_are = words_are ∙ ap (λ z. z ++ said ys) k.said_are ∙ sym (said_append xs ys);
+        said_are = trace_is ∙ ap (λ z. z ++ said ys) k.said_are ∙ sym (said_append xs ys);
         distinct = subst (IsDistinct nat_eq) (sym all) (distinct_append (firsts (said xs)) (firsts (said ys)) k.distinct once (λ q a m. (bare q m).3 a));
         opened = λ q o m. ⊎_elim (k.opened q (o.0, f.opened (q, o.0) o.1)) (λ i. (bare q i).0 o) (cases q m);
         pairs = λ j q p m. ⊎_elim (k.pairs j q (f.pairs (j, q) p)) (λ i. (bare q i).1 (j, p)) (cases q m);
@@ -127,13 +127,13 @@ module _ {P : Type 0} where
     released_shelved xs (done v) c once out k = subst (λ z. Shelved v hs z) (sym (append-nil xs)) k
     released_shelved xs (stays v u r l t) c once out k =
         let g = let_go h v r Stays u l in let f = go_follows g in
-        let e = ap (λ z. ended_rows (words z)) g.same ∙ sym (append-nil (ended_rows (words v))) in
+        let e = ap (λ z. ended_rows (trace z)) g.same ∙ sym (append-nil (ended_rows (trace v))) in
         let s = went_shelved v u hs xs [] f e distinct_nil (λ q m. absurd (among_nil m)) (λ q o. ⊎_elim (λ i. inl i) (λ i. inr (inr i)) (stays_waits h v u r q l o)) (subst (λ z. Rises (by_stream z.by z.events)) (sym g.same) k.rises) k in
         released_shelved xs t (can_stays h v u r _ l c) (f.once once) (still_out f out) (subst (λ z. Shelved u hs z) (append-nil xs) s)
     released_shelved {w = w} xs (ends_so {T = T} {ys = ys} v u y n l i t) c once out k =
         let g = let_go h v y.row Yours u l in let f = follows_then (go_follows g) (end_follows x u y n) in
         let o = holds_or h v y.row (c.rows y.row (here T)) in let b = handed_bare h v u y.row once l in
-        let e = ended_next u n (Final y.row x y.ok) ∙ ap (λ z. ended_rows (words z) ++ (y.row, y.ok) ∷ []) g.same in
+        let e = ended_next u n (Final y.row x y.ok) ∙ ap (λ z. ended_rows (trace z) ++ (y.row, y.ok) ∷ []) g.same in
         let bare : (r : ℕ) → IsAmong r (y.row ∷ []) → ¬ (HasRow u.opened r) × ¬ (HasPair u r) × ¬ (IsAmong r v.empty) × ¬ (IsAmong r (firsts (said xs))) = λ r m. ⊎_elim
         (λ a. subst (λ q. ¬ (HasRow u.opened q) × ¬ (HasPair u q) × ¬ (IsAmong q v.empty) × ¬ (IsAmong q (firsts (said xs)))) (sym a) (b.0, b.1, out y.row o, ⊎_elim (λ j. k.opened y.row j) (λ j. k.pairs j.0 y.row j.1) o))
         (λ a. absurd (among_nil a))

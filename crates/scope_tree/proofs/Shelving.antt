@@ -19,9 +19,9 @@ use Rattle.scope_tree.specs.Kids.{whole}
 use Rattle.std.specs.List.{IsDistinct}
 use Rattle.scope_tree.specs.Released.{Released, away, said}
 use Rattle.scope_tree.specs.Released.Holder.{owner, lease}
-use Rattle.scope_tree.specs.Words.{acquiring, canceling, opening, owed, shutting, ended_rows}
+use Rattle.scope_tree.specs.Trace.{acquiring, canceling, opening, owed, shutting, ended_rows}
 use Rattle.scope_tree.specs.Calls.{AtStart}
-use Rattle.scope_tree.specs.Kept.{Kept, Shelved, held_pairs}
+use Rattle.scope_tree.specs.Kept.{Kept, Shelved, acquisition_pairs}
 use Rattle.scope_tree.proofs.Beneath.{close_can}
 use Rattle.scope_tree.proofs.Cancelling.{cancel_can}
 use Rattle.scope_tree.proofs.Grows.{pairs_snoc}
@@ -57,7 +57,7 @@ module _ {P : Type 0} (v : View P) (bs : List Branch) (hs : List AcquiredRow) (x
         ended = λ q u i. ⊎_elim
             (λ o. ⊎_elim (λ z. inl (z.0, among_left ((r, p) ∷ []) z.1)) (λ z. inr z) (a.ended q u o))
             (λ o. inl (p, subst (λ z. IsAmong (z, p) (v.opened ++ (r, p) ∷ [])) (sym (ap (λ y. y.0) o)) (among_last v.opened (r, p))))
-            (among_snoc (held_pairs hs) (q, u) (r, t) (subst (λ l. IsAmong (q, u) l) (pairs_snoc hs h) i));
+            (among_snoc (acquisition_pairs hs) (q, u) (r, t) (subst (λ l. IsAmong (q, u) l) (pairs_snoc hs h) i));
         rises = a.rises;
       }
 

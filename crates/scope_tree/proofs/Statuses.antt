@@ -11,10 +11,10 @@ use Rattle.scope_tree.specs.declared.branch.Branch.{Branch}
 use Rattle.scope_tree.specs.declared.branch.AcquiredRow.{AcquiredRow}
 use Rattle.scope_tree.specs.declared.branch.Standing.TheVariants.{Empty, Open, Left, Final}
 use Rattle.scope_tree.specs.Calls.{Seen}
-use Rattle.scope_tree.specs.Kept.{Kept, Shelved, held_pairs, held_rows}
+use Rattle.scope_tree.specs.Kept.{Kept, Shelved, acquisition_pairs, acquisition_rows}
 use Rattle.scope_tree.specs.Released.{said}
 use Rattle.scope_tree.specs.Standings.{StandsAs, found}
-use Rattle.scope_tree.specs.Words.{own_rows}
+use Rattle.scope_tree.specs.Trace.{own_rows}
 use Rattle.scope_tree.proofs.Grows.{pair_of_row}
 use Rattle.scope_tree.proofs.Parting.{first_of_said, first_said}
 use Rattle.scope_tree.proofs.Parts.{one_scope, row_of_pair}
@@ -46,18 +46,18 @@ module _ {P : Type 0} (a : Seen P) (bs : List Branch) (hs : List AcquiredRow) (k
     unshelved : ¬ (IsAmong r (firsts (said a.shelf)))
     unshelved m = let t = first_said r (said a.shelf) m in found_none r t.0 (said a.shelf) none t.1
 
-    own : (t : ℕ) → IsAmong (r, t) (held_pairs hs) → IsAmong r (own_rows a.seat)
+    own : (t : ℕ) → IsAmong (r, t) (acquisition_pairs hs) → IsAmong r (own_rows a.seat)
     own t m = subst (λ l. IsAmong r l) (sym (own_is a.seat bs hs k)) (row_of_pair r t hs m)
 
-    pub stands_empty : found r (held_pairs hs) ≡ None → StandsAs a r Empty
+    pub stands_empty : found r (acquisition_pairs hs) ≡ None → StandsAs a r Empty
     stands_empty e =
-        let n : ¬ (IsAmong r (held_rows hs)) = λ m. let t = pair_of_row r hs m in found_none r t.0 (held_pairs hs) e t.1 in
+        let n : ¬ (IsAmong r (acquisition_rows hs)) = λ m. let t = pair_of_row r hs m in found_none r t.0 (acquisition_pairs hs) e t.1 in
         ((λ m. n (subst (λ l. IsAmong r l) (own_is a.seat bs hs k) m)), (λ o. n (open_held a.seat bs hs k r o)), unshelved)
 
-    pub stands_open : (t : ℕ) → IsAmong (r, t) (held_pairs hs) → ¬ (IsClosed a.seat.events a.seat.by t) → StandsAs a r Open
+    pub stands_open : (t : ℕ) → IsAmong (r, t) (acquisition_pairs hs) → ¬ (IsClosed a.seat.events a.seat.by t) → StandsAs a r Open
     stands_open t m n = (own t m, k.holds.live r t m n, unshelved)
 
-    pub stands_left : (t : ℕ) → IsAmong (r, t) (held_pairs hs) → IsClosed a.seat.events a.seat.by t → StandsAs a r Left
+    pub stands_left : (t : ℕ) → IsAmong (r, t) (acquisition_pairs hs) → IsClosed a.seat.events a.seat.by t → StandsAs a r Left
     stands_left t m c =
         let shut : ¬ (HasRow a.seat.opened r) = λ h. let y = k.holds.only r h in y.2 (subst (λ z. IsClosed a.seat.events a.seat.by z) (sym (one_scope r y.0 t hs k.mirrors.distinct y.1 m)) c) in
         (own t m, shut, unshelved, ⊎_elim (λ o. absurd (shut o)) (λ o. ⊎_elim (λ i. absurd (unshelved i)) (λ w. w) o) (s.ended r t m))

@@ -16,7 +16,7 @@ use Rattle.scope_tree.specs.declared.branch.Spent.{Spent}
 use Rattle.scope_tree.specs.Kept.{Kept}
 use Rattle.scope_tree.specs.Released.{said}
 use Rattle.scope_tree.specs.Rows.{strangers}
-use Rattle.scope_tree.specs.Words.{numbers, own_rows, words}
+use Rattle.scope_tree.specs.Trace.{numbers, own_rows, trace}
 use Rattle.scope_tree.proofs.Beneath.{shut_not, whole_is, whole_under}
 use Rattle.scope_tree.proofs.Bridge.{opens_append, rows_append}
 use Rattle.scope_tree.proofs.Distinct.{firsts_append, picks_among, picks_strangers, said_append, strangers_append, strangers_less}
@@ -46,12 +46,12 @@ strangers_snoc own r (q ∷ T) n =
 
 module _ {P : Type 0} where
   -- where the stream noted E, of which no row was acquired
-  takes : {a b : Seen P} {m n : ℕ} (E : List What) → words b.seat ≡ words a.seat ++ E → rows E ≡ [] → length (opens E) ≡ m → strangers (own_rows a.seat) (firsts (said b.shelf)) ≡ strangers (own_rows a.seat) (firsts (said a.shelf)) + n → b.scopes ≡ a.scopes → b.rows ≡ a.rows → TakesRoom m n a b
+  takes : {a b : Seen P} {m n : ℕ} (E : List What) → trace b.seat ≡ trace a.seat ++ E → rows E ≡ [] → length (opens E) ≡ m → strangers (own_rows a.seat) (firsts (said b.shelf)) ≡ strangers (own_rows a.seat) (firsts (said a.shelf)) + n → b.scopes ≡ a.scopes → b.rows ≡ a.rows → TakesRoom m n a b
   takes {a = a} {b = b} E w none count more s r =
-      let R : rows (words b.seat) ≡ rows (words a.seat) = ap rows w ∙ rows_append (words a.seat) E ∙ ap (λ l. rows (words a.seat) ++ l) none ∙ append-nil (rows (words a.seat)) in
-      let o : length (opens (words b.seat)) ≡ length (opens (words a.seat) ++ opens E) = ap (λ l. length (opens l)) w ∙ ap length (opens_append (words a.seat) E) in
-      let l = length-append (opens (words a.seat)) (opens E) in let F = firsts (said b.shelf) in
-      let u : length (rows (words b.seat)) + strangers (own_rows b.seat) F ≡ length (rows (words a.seat)) + strangers (own_rows a.seat) F = ap (λ z. length z + strangers (numbers z) F) R in
+      let R : rows (trace b.seat) ≡ rows (trace a.seat) = ap rows w ∙ rows_append (trace a.seat) E ∙ ap (λ l. rows (trace a.seat) ++ l) none ∙ append-nil (rows (trace a.seat)) in
+      let o : length (opens (trace b.seat)) ≡ length (opens (trace a.seat) ++ opens E) = ap (λ l. length (opens l)) w ∙ ap length (opens_append (trace a.seat) E) in
+      let l = length-append (opens (trace a.seat)) (opens E) in let F = firsts (said b.shelf) in
+      let u : length (rows (trace b.seat)) + strangers (own_rows b.seat) F ≡ length (rows (trace a.seat)) + strangers (own_rows a.seat) F = ap (λ z. length z + strangers (numbers z) F) R in
       record { opens = omega (o, l, count, arith); used = omega (u, more, arith); own = λ T. (let e = ap (λ z. strangers (numbers z) T) R in omega (e, arith)); scopes = s; rows = r }
 
   same_shelf : (a b : Seen P) → b.shelf ≡ a.shelf → strangers (own_rows a.seat) (firsts (said b.shelf)) ≡ strangers (own_rows a.seat) (firsts (said a.shelf)) + 0
@@ -71,12 +71,12 @@ module _ {P : Type 0} where
   -- a row that isn't on the shelf
   pub acquire_takes : {a b : Seen P} {s r : ℕ} {p : P} → AcquiresRow a s r p b → ¬ (IsAmong r (firsts (said a.shelf))) → TakesRoom 0 1 a b
   acquire_takes {a = a} {b = b} {s = s} {r = r} o n =
-      let R : rows (words b.seat) ≡ rows (words a.seat) ++ (r, s) ∷ [] = ap rows (acquired_said o) ∙ rows_append (words a.seat) (Acquire r s ∷ []) in
-      let O : opens (words b.seat) ≡ opens (words a.seat) = ap opens (acquired_said o) ∙ opens_append (words a.seat) (Acquire r s ∷ []) ∙ append-nil (opens (words a.seat)) in
-      let l = length-append (rows (words a.seat)) ((r, s) ∷ []) in let F = firsts (said a.shelf) in let c = ap length O in
-      let u : length (rows (words b.seat)) + strangers (own_rows b.seat) (firsts (said b.shelf)) ≡ length (rows (words a.seat) ++ (r, s) ∷ []) + strangers (own_rows a.seat ++ r ∷ []) F = ap (λ z. length z + strangers (numbers z) (firsts (said b.shelf))) R ∙ ap (λ z. length (rows (words a.seat) ++ (r, s) ∷ []) + strangers (numbers (rows (words a.seat) ++ (r, s) ∷ [])) (firsts (said z))) o.shelf ∙ ap (λ z. length (rows (words a.seat) ++ (r, s) ∷ []) + strangers z F) (numbers_snoc (rows (words a.seat)) (r, s)) in
+      let R : rows (trace b.seat) ≡ rows (trace a.seat) ++ (r, s) ∷ [] = ap rows (acquired_said o) ∙ rows_append (trace a.seat) (Acquire r s ∷ []) in
+      let O : opens (trace b.seat) ≡ opens (trace a.seat) = ap opens (acquired_said o) ∙ opens_append (trace a.seat) (Acquire r s ∷ []) ∙ append-nil (opens (trace a.seat)) in
+      let l = length-append (rows (trace a.seat)) ((r, s) ∷ []) in let F = firsts (said a.shelf) in let c = ap length O in
+      let u : length (rows (trace b.seat)) + strangers (own_rows b.seat) (firsts (said b.shelf)) ≡ length (rows (trace a.seat) ++ (r, s) ∷ []) + strangers (own_rows a.seat ++ r ∷ []) F = ap (λ z. length z + strangers (numbers z) (firsts (said b.shelf))) R ∙ ap (λ z. length (rows (trace a.seat) ++ (r, s) ∷ []) + strangers (numbers (rows (trace a.seat) ++ (r, s) ∷ [])) (firsts (said z))) o.shelf ∙ ap (λ z. length (rows (trace a.seat) ++ (r, s) ∷ []) + strangers z F) (numbers_snoc (rows (trace a.seat)) (r, s)) in
       let t = strangers_snoc (own_rows a.seat) r F n in
-      record { opens = omega (c, arith); used = omega (u, l, t, arith); own = λ T. (let e = ap (λ z. strangers z T) (ap numbers R ∙ numbers_snoc (rows (words a.seat)) (r, s)) in let m = strangers_less (own_rows a.seat) (own_rows a.seat ++ r ∷ []) T (λ q i. among_left (r ∷ []) i) in omega (e, m, arith)); scopes = o.scopes; rows = o.rows }
+      record { opens = omega (c, arith); used = omega (u, l, t, arith); own = λ T. (let e = ap (λ z. strangers z T) (ap numbers R ∙ numbers_snoc (rows (trace a.seat)) (r, s)) in let m = strangers_less (own_rows a.seat) (own_rows a.seat ++ r ∷ []) T (λ q i. among_left (r ∷ []) i) in omega (e, m, arith)); scopes = o.scopes; rows = o.rows }
 
   module _ {ends : P → Exit → Bool → P → Type 0} {x : Exit} {a b : Seen P} where
     -- the rows that a close ends are the tree's own

@@ -24,9 +24,9 @@ use Rattle.row_seat.specs.declared.view.View.{View}
 use Rattle.row_seat.specs.Views.{AreApart, IsLedgerOf, joined, split_main}
 use Rattle.scope_tree.specs.Calls.{AcquiresRow, Cancels, ClosesScope, Leases, OpensScope, Seen}
 use Rattle.scope_tree.specs.Tidy.{IsTidy}
-use Rattle.scope_tree.specs.Words.{acquiring, canceling, closing, leasing, opening, words}
+use Rattle.scope_tree.specs.Trace.{acquiring, canceling, closing, leasing, opening, trace}
 use Rattle.scope_tree.proofs.Follows.{follows_covers, released_follows, same_by}
-use Rattle.scope_tree.proofs.Parting.{join_words}
+use Rattle.scope_tree.proofs.Parting.{join_trace}
 use Rattle.scope_tree.proofs.Use.{acquire_in_order, cancel_in_order, close_in_order, leased_said, open_in_order}
 
 module _ {P : Type 0} where
@@ -46,7 +46,7 @@ module _ {P : Type 0} where
   pub lease_tidy : {a b : Seen P} {s j : ℕ} {T : List ℕ} (Cs : List (ℕ × List ℕ)) → Leases a s j T b → IsTidy a.seat Cs → IsTidy b.seat Cs
   lease_tidy {a = a} {b = b} {s = s} {j = j} Cs o t = λ may due m d.
       subst (λ E. IsInBlocks (λ r. may r ≡ true) due [] E) (sym (leased_said o))
-      (blocks_plain (words a.seat) (Lease j s) refl (t may due (λ i q x. m i q (covers_still a.seat b.seat (leasing a.seat j s o.stamp) a.seat.by (ap (λ v. v.by) o.seat) (ap (λ v. v.events) o.seat) i q x)) d))
+      (blocks_plain (trace a.seat) (Lease j s) refl (t may due (λ i q x. m i q (covers_still a.seat b.seat (leasing a.seat j s o.stamp) a.seat.by (ap (λ v. v.by) o.seat) (ap (λ v. v.events) o.seat) i q x)) d))
 
   pub close_tidy : {ends : P → Exit → Bool → P → Type 0} {x : Exit} {a b : Seen P} {s : ℕ} (Cs : List (ℕ × List ℕ)) → ClosesScope ends a s x b → IsTidy a.seat Cs → IsTidy b.seat Cs
   close_tidy {x = e} {a = a} {b = b} {s = s} Cs c t = λ may due m d.
@@ -65,7 +65,7 @@ module _ {P : Type 0} where
 
   pub join_tidy : (v w : View P) (Cs : List (ℕ × List ℕ)) → AreApart v w → IsTidy v Cs → IsTidy (joined v w) Cs
   join_tidy v w Cs a t = λ may due m d.
-      subst (λ E. IsInBlocks (λ r. may r ≡ true) due [] E) (sym (join_words v w a))
+      subst (λ E. IsInBlocks (λ r. may r ≡ true) due [] E) (sym (join_trace v w a))
       (t may due (λ j r c. m j r (c.0, c.1 ++ w.events, c.2, c.3, ap (λ l. l ++ w.events) c.4 ∙ append_assoc c.0 (c.2 ∷ c.1) w.events, c.5, c.6, c.7)) d)
 
 -- rising lists with the same events are one
@@ -107,7 +107,7 @@ module _ {P : Type 0} where
   -- in a legal ledger with the events that a tidy seat noted these are in order
   pub tidy_in_order : (v : View P) (Cs : List (ℕ × List ℕ)) (L : List Event) → IsTidy v Cs → IsLegal L → by_stream v.by L ≡ by_stream v.by v.events → ((j : ℕ) (T : List ℕ) → IsAmong (j, T) Cs → covered_by L j ≡ T) → IsInOrder L v.by
   tidy_in_order v Cs L t legal is due =
-      let E : own v.by L ≡ words v = own_by v.by L ∙ ap (map (λ (e : Event). e.what)) is ∙ sym (own_by v.by v.events) in
+      let E : own v.by L ≡ trace v = own_by v.by L ∙ ap (map (λ (e : Event). e.what)) is ∙ sym (own_by v.by v.events) in
       subst (λ l. IsInBlocks (λ r. has r (covered L) ≡ true) (λ j. reverse (covered_by L j)) [] l) (sym E)
       (t (λ r. has r (covered L)) (λ j. reverse (covered_by L j))
       (λ j r c. in_has r (covered L) (covered_found L legal j r v.by (covers_own v.by v.events L (sym is) j r c)))

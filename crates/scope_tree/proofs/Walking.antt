@@ -10,7 +10,7 @@ use Rattle.res_ledger.specs.Ledger.LiesWithin.{same, below as beneath}
 use Rattle.scope_tree.specs.declared.branch.Branch.{Branch}
 use Rattle.scope_tree.specs.declared.branch.AcquiredRow.{AcquiredRow}
 use Rattle.scope_tree.specs.Kept.{Kept}
-use Rattle.scope_tree.specs.Words.{words}
+use Rattle.scope_tree.specs.Trace.{trace}
 use Rattle.res_ledger.specs.Own.{closes}
 use Rattle.scope_tree.specs.Walks.{Clear, Falls, Shaded, Nearest, IsRootOpen, StandsAbove}
 use Rattle.scope_tree.specs.Walks.StandsAbove.{itself, further}
@@ -52,7 +52,7 @@ clear_zero bs c d z l h = let e : c ≡ 0 = omega arith in subst (λ n. Clear bs
 -- what is clear is open, what is shaded is closed
 module _ {P : Type 0} (v : View P) (bs : List Branch) (hs : List AcquiredRow) (k : Kept v bs hs) where
   pub shaded_closed : (c : ℕ) → c < length bs → Shaded bs c → IsClosed v.events v.by c
-  shaded_closed c l (own e h) = let d : Branch = record { parent = 0; shut = false } in (c, same c, closes_notes v.events v.by c (has_in c (closes (words v)) (sym (k.mirrors.shut c d l) ∙ h d)))
+  shaded_closed c l (own e h) = let d : Branch = record { parent = 0; shut = false } in (c, same c, closes_notes v.events v.by c (has_in c (closes (trace v)) (sym (k.mirrors.shut c d l) ∙ h d)))
   shaded_closed c l (under e p one pa x) =
       let d : Branch = record { parent = 0; shut = false } in
       let less = k.mirrors.parents c d one l in let q = pa d in

@@ -14,7 +14,7 @@ use Rattle.scope_tree.specs.Leased.{leased_all}
 use Rattle.scope_tree.specs.Released.{Releases, said}
 use Rattle.scope_tree.specs.Released.Holder.{owner, lease}
 use Rattle.scope_tree.specs.Walks.{FirstOpen}
-use Rattle.scope_tree.specs.Words.{words, own_rows, opening, acquiring, leasing, canceling, shutting}
+use Rattle.scope_tree.specs.Trace.{trace, own_rows, opening, acquiring, leasing, canceling, shutting}
 
 -- what callers see of a tree: the seat's view, the rows that ended, and the scopes and rows that there is room for
 pub record Seen (P : Type 0) : Type 0 where
@@ -53,11 +53,11 @@ module _ {P : Type 0} where
 
   -- the rows that are used: those that the tree acquired, and each other row on its shelf
   abbrev pub used : Seen P → ℕ
-  used a = length (rows (words a.seat)) + strangers (own_rows a.seat) (firsts (said a.shelf))
+  used a = length (rows (trace a.seat)) + strangers (own_rows a.seat) (firsts (said a.shelf))
 
   -- of the same room so many scopes and so many rows more are used, and no row became a stranger
   pub record TakesRoom (m n : ℕ) (a b : Seen P) : Type 0 where
-    pub opens : length (opens (words b.seat)) ≡ length (opens (words a.seat)) + m
+    pub opens : length (opens (trace b.seat)) ≡ length (opens (trace a.seat)) + m
     pub used : used b ≡ used a + n
     pub own : (T : List ℕ) → strangers (own_rows b.seat) T ≤ strangers (own_rows a.seat) T
     pub scopes : b.scopes ≡ a.scopes
@@ -69,7 +69,7 @@ module _ {P : Type 0} where
     pub parent : ℕ
     pub nearest : FirstOpen a.seat.events a.seat.by at parent
     pub fresh : IsFreshStamp a.seat stamp
-    pub number : c ≡ length (opens (words a.seat)) + 1
+    pub number : c ≡ length (opens (trace a.seat)) + 1
     pub seat : b.seat ≡ noted a.seat (opening a.seat c parent stamp)
     pub shelf : b.shelf ≡ a.shelf
     pub scopes : b.scopes ≡ a.scopes
@@ -86,7 +86,7 @@ module _ {P : Type 0} where
 
   -- the scope s was leased for the stream j: the rows T that the Lease covers are leased, and then it is noted
   pub record Leases (a : Seen P) (s j : ℕ) (T : List ℕ) (b : Seen P) : Type 0 where
-    pub covered : T ≡ leased_rows (words a.seat) s
+    pub covered : T ≡ leased_rows (trace a.seat) s
     pub stamp : ℕ
     pub fresh : IsFreshStamp a.seat stamp
     pub seat : b.seat ≡ noted (leased_all a.seat j T) (leasing a.seat j s stamp)
@@ -106,6 +106,6 @@ module _ {P : Type 0} where
   pub record ClosesScope (ends : P → Exit → Bool → P → Type 0) (a : Seen P) (s : ℕ) (x : Exit) (b : Seen P) : Type 0 where
     pub stamp : ℕ
     pub fresh : IsFreshStamp a.seat stamp
-    pub torn : Releases ends x owner (teardown (words a.seat) s) (shutting a.seat s x stamp) a.shelf b.shelf b.seat
+    pub torn : Releases ends x owner (teardown (trace a.seat) s) (shutting a.seat s x stamp) a.shelf b.shelf b.seat
     pub scopes : b.scopes ≡ a.scopes
     pub rows : b.rows ≡ a.rows

@@ -17,7 +17,7 @@ use Rattle.std.specs.List.{IsDistinct}
 use Rattle.res_ledger.specs.Rising.{Rises}
 use Rattle.res_ledger.specs.Streams.{by_stream}
 use Rattle.scope_tree.specs.Released.{MayWait, said}
-use Rattle.scope_tree.specs.Words.{words, owed, ended_rows}
+use Rattle.scope_tree.specs.Trace.{trace, owed, ended_rows}
 
 -- the scopes from n on, each with its parent
 abbrev pub marks : ℕ → List Branch → List (ℕ × ℕ)
@@ -25,31 +25,31 @@ marks n [] = []
 marks n (b ∷ bs) = (n, b.parent) ∷ marks (suc n) bs
 
 -- the rows that a tree holds
-abbrev pub held_rows : List AcquiredRow → List ℕ
-held_rows [] = []
-held_rows (h ∷ hs) = h.row ∷ held_rows hs
+abbrev pub acquisition_rows : List AcquiredRow → List ℕ
+acquisition_rows [] = []
+acquisition_rows (h ∷ hs) = h.row ∷ acquisition_rows hs
 
 -- the same with their scopes
-abbrev pub held_pairs : List AcquiredRow → List (ℕ × ℕ)
-held_pairs [] = []
-held_pairs (h ∷ hs) = (h.row, h.scope) ∷ held_pairs hs
+abbrev pub acquisition_pairs : List AcquiredRow → List (ℕ × ℕ)
+acquisition_pairs [] = []
+acquisition_pairs (h ∷ hs) = (h.row, h.scope) ∷ acquisition_pairs hs
 
--- the branches are the scopes that E opened, each with whether it has a Close of its own, and the held rows are those that E acquired, each with its scope
+-- the branches are the scopes that E opened, each with whether it has a Close of its own, and the acquired rows are those that E acquired, each with its scope
 pub record Mirrors (E : List What) (bs : List Branch) (hs : List AcquiredRow) : Type 0 where
   pub size : 1 ≤ length bs
   pub opens : opens E ≡ marks 1 (drop 1 bs)
   pub shut : (c : ℕ) (d : Branch) → c < length bs → (slice_index_or bs c d).shut ≡ has c (closes E)
   pub ended : (s : ℕ) → IsAmong s (closes E) → s < length bs
-  pub rows : rows E ≡ held_pairs hs
+  pub rows : rows E ≡ acquisition_pairs hs
   pub parents : (c : ℕ) (d : Branch) → 1 ≤ c → c < length bs → (slice_index_or bs c d).parent < c
-  pub distinct : IsDistinct nat_eq (held_rows hs)
-  pub ranged : (r t : ℕ) → IsAmong (r, t) (held_pairs hs) → t < length bs
+  pub distinct : IsDistinct nat_eq (acquisition_rows hs)
+  pub ranged : (r t : ℕ) → IsAmong (r, t) (acquisition_pairs hs) → t < length bs
 
 module _ {P : Type 0} where
-  -- the open rows are the held rows of the scopes that aren't closed
+  -- the open rows are the acquired rows of the scopes that aren't closed
   pub record HoldsRows (v : View P) (hs : List AcquiredRow) : Type 0 where
-    pub live : (r t : ℕ) → IsAmong (r, t) (held_pairs hs) → ¬ (IsClosed v.events v.by t) → HasRow v.opened r
-    pub only : (r : ℕ) → HasRow v.opened r → (t : ℕ) × IsAmong (r, t) (held_pairs hs) × ¬ (IsClosed v.events v.by t)
+    pub live : (r t : ℕ) → IsAmong (r, t) (acquisition_pairs hs) → ¬ (IsClosed v.events v.by t) → HasRow v.opened r
+    pub only : (r : ℕ) → HasRow v.opened r → (t : ℕ) × IsAmong (r, t) (acquisition_pairs hs) × ¬ (IsClosed v.events v.by t)
     pub once : Once v.opened
 
   -- no lease stands on an empty row, and of each on an open row the Lease is noted
@@ -66,20 +66,20 @@ module _ {P : Type 0} where
 
   -- what a tree keeps agrees with the view of its seat
   pub record Kept (v : View P) (bs : List Branch) (hs : List AcquiredRow) : Type 0 where
-    pub mirrors : Mirrors (words v) bs hs
+    pub mirrors : Mirrors (trace v) bs hs
     pub holds : HoldsRows v hs
     pub lends : Lends v
     pub rests : Rests v
 
   -- the shelf has the rows whose Finals the stream noted, and none of them is open, leased or empty here
   pub record Shelved (v : View P) (hs : List AcquiredRow) (xs : List (Spent P)) : Type 0 where
-    pub said_are : ended_rows (words v) ≡ said xs
+    pub said_are : ended_rows (trace v) ≡ said xs
     pub distinct : IsDistinct nat_eq (firsts (said xs))
     pub opened : (r : ℕ) → HasRow v.opened r → ¬ (IsAmong r (firsts (said xs)))
     pub pairs : (j r : ℕ) → IsAmong (j, r) v.pairs → ¬ (IsAmong r (firsts (said xs)))
     pub empty : (r : ℕ) → IsAmong r v.empty → ¬ (IsAmong r (firsts (said xs)))
     -- a lease here is of the seat's own stream, or its Lease was noted
     pub leased : (j r : ℕ) → IsAmong (j, r) v.pairs → (v.by ≡ Inner j) ⊎ ((s : ℕ) × Notes v.events v.by (Lease j s))
-    -- each held row that isn't open has ended, or may wait
-    pub ended : (r t : ℕ) → IsAmong (r, t) (held_pairs hs) → HasRow v.opened r ⊎ (IsAmong r (firsts (said xs)) ⊎ MayWait v r)
+    -- each acquired row that isn't open has ended, or may wait
+    pub ended : (r t : ℕ) → IsAmong (r, t) (acquisition_pairs hs) → HasRow v.opened r ⊎ (IsAmong r (firsts (said xs)) ⊎ MayWait v r)
     pub rises : Rises (by_stream v.by v.events)

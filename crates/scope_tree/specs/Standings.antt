@@ -7,7 +7,7 @@ use Rattle.scope_tree.specs.declared.branch.Standing.{Standing}
 use Rattle.scope_tree.specs.declared.branch.Standing.TheVariants.{Empty, Open, Left, Final}
 use Rattle.scope_tree.specs.Calls.{Seen}
 use Rattle.scope_tree.specs.Released.{MayWait, said}
-use Rattle.scope_tree.specs.Words.{own_rows}
+use Rattle.scope_tree.specs.Trace.{own_rows}
 
 -- what stands with r first in the list
 abbrev pub found : {A : Type 0} → ℕ → List (ℕ × A) → Option A

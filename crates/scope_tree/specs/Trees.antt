@@ -12,11 +12,11 @@ module _ {S P D : Type 0} where
 
   -- what the tree keeps agrees with its seat, and there is room for all that it may still keep
   pub record IsConsistent (view : S → View P) (t : Tree S P D) : Type 0 where
-    pub kept : Kept (view t.seat) t.branches.items t.held.items
-    pub shelved : Shelved (view t.seat) t.held.items t.shelf.items
+    pub kept : Kept (view t.seat) t.branches.items t.acquisitions.items
+    pub shelved : Shelved (view t.seat) t.acquisitions.items t.shelf.items
     pub used : used (seen view t) ≤ t.rows
     pub branches : t.scopes ≤ vec_capacity t.branches
-    pub held : t.rows ≤ vec_capacity t.held
+    pub acquisitions : t.rows ≤ vec_capacity t.acquisitions
     pub shelf : t.rows ≤ vec_capacity t.shelf
     pub limit : t.scopes < 2 ^ 32
     pub rows_limit : t.rows < 2 ^ 32

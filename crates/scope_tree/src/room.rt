@@ -9,13 +9,13 @@ use std::alloc::{AllocError, Global};
 #[derive(Drop)]
 pub struct Room<P> {
     pub(crate) branches: Vec<Branch>,
-    pub(crate) held: Vec<AcquiredRow>,
+    pub(crate) acquisitions: Vec<AcquiredRow>,
     pub(crate) shelf: Vec<Spent<P>>,
     pub(crate) scopes: u32,
     pub(crate) rows: u32,
     ghost one: { 1 ≤ scopes },
-    ghost nothing: { (branches.items ≡ []) × (held.items ≡ []) × (shelf.items ≡ []) },
-    ghost enough: { (scopes ≤ vec_capacity branches) × (rows ≤ vec_capacity held) × (rows ≤ vec_capacity shelf) },
+    ghost nothing: { (branches.items ≡ []) × (acquisitions.items ≡ []) × (shelf.items ≡ []) },
+    ghost enough: { (scopes ≤ vec_capacity branches) × (rows ≤ vec_capacity acquisitions) × (rows ≤ vec_capacity shelf) },
 }
 
 impl<P: Drop> Room<P> {
@@ -26,11 +26,11 @@ impl<P: Drop> Room<P> {
         ensures rows { IfOk result (λ room. room.rows ≡ rows) }
     {
         let branches = Vec::with_capacity(alloc, scopes as usize)?;
-        let held = Vec::with_capacity(alloc, rows as usize)?;
+        let acquisitions = Vec::with_capacity(alloc, rows as usize)?;
         let shelf = Vec::with_capacity(alloc, rows as usize)?;
         Ok(Room {
             branches,
-            held,
+            acquisitions,
             shelf,
             scopes,
             rows,

@@ -1,6 +1,6 @@
 //! Looking up rows in what a tree keeps.
 ghost use Rattle.std.specs.Prelude.{◌≡◌, ℕ};
-ghost use Rattle.scope_tree.specs.Kept.{held_pairs};
+ghost use Rattle.scope_tree.specs.Kept.{acquisition_pairs};
 ghost use Rattle.scope_tree.specs.Released.{said};
 ghost use Rattle.scope_tree.specs.Standings.{found};
 
@@ -19,10 +19,10 @@ pub fn outcome<P>(shelf: &[Spent<P>], row: u32) -> Option<bool>
 }
 
 /// The scope in which the row was acquired, if it was.
-pub fn scope_of(held: &[AcquiredRow], row: u32) -> Option<u32>
-    ensures { result ≡ found row (held_pairs held.now) }
+pub fn scope_of(acquisitions: &[AcquiredRow], row: u32) -> Option<u32>
+    ensures { result ≡ found row (acquisition_pairs acquisitions.now) }
 {
-    'each: for one in held {
+    'each: for one in acquisitions {
         if one.row == row {
             return Some(one.scope);
         }

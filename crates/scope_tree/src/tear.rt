@@ -39,24 +39,24 @@ fn release_rows<S: RowSeat>(
     seat: &mut S,
     desk: &mut S::Desk,
     shelf: &mut Vec<Spent<S::Pay>>,
-    held: &[AcquiredRow],
+    acquisitions: &[AcquiredRow],
     scope: usize,
     exit: Exit,
 )
 where
     S::Pay: Finish,
     requires fits { S.fits seat.old desk.old }
-    requires can { CanRelease owner (lasts held.now scope) (S.view seat.old) }
-    requires room { vec_len shelf.old + length (lasts held.now scope) ≤ vec_capacity shelf.old }
-    ensures released { Releases S.Pay.ends exit owner (lasts held.now scope) (S.view seat.old) shelf.old.items shelf.new.items (S.view seat.new) }
+    requires can { CanRelease owner (lasts acquisitions.now scope) (S.view seat.old) }
+    requires room { vec_len shelf.old + length (lasts acquisitions.now scope) ≤ vec_capacity shelf.old }
+    ensures released { Releases S.Pay.ends exit owner (lasts acquisitions.now scope) (S.view seat.old) shelf.old.items shelf.new.items (S.view seat.new) }
     ensures room { vec_capacity shelf.old ≤ vec_capacity shelf.new }
     ensures fits { S.fits seat.new desk.new }
     ensures others { OthersFit S.view S.fits (S.view seat.old).by desk.old desk.new }
 {
-    let mut at = held.len();
+    let mut at = acquisitions.len();
     'rows: while at > 0 {
         at -= 1;
-        let one = held[at];
+        let one = acquisitions[at];
         if one.scope as usize == scope {
             release(seat, desk, shelf, one.row, exit);
         }
@@ -69,7 +69,7 @@ pub fn tear<S: RowSeat>(
     desk: &mut S::Desk,
     shelf: &mut Vec<Spent<S::Pay>>,
     branches: &[Branch],
-    held: &[AcquiredRow],
+    acquisitions: &[AcquiredRow],
     scope: usize,
     exit: Exit,
 )
@@ -77,9 +77,9 @@ where
     S::Pay: Finish,
     requires scope { scope < length branches.now }
     requires fits { S.fits seat.old desk.old }
-    requires can { CanRelease owner (whole branches.now held.now scope) (S.view seat.old) }
-    requires room { vec_len shelf.old + length (whole branches.now held.now scope) ≤ vec_capacity shelf.old }
-    ensures released { Releases S.Pay.ends exit owner (whole branches.now held.now scope) (S.view seat.old) shelf.old.items shelf.new.items (S.view seat.new) }
+    requires can { CanRelease owner (whole branches.now acquisitions.now scope) (S.view seat.old) }
+    requires room { vec_len shelf.old + length (whole branches.now acquisitions.now scope) ≤ vec_capacity shelf.old }
+    ensures released { Releases S.Pay.ends exit owner (whole branches.now acquisitions.now scope) (S.view seat.old) shelf.old.items shelf.new.items (S.view seat.new) }
     ensures room { vec_capacity shelf.old ≤ vec_capacity shelf.new }
     ensures fits { S.fits seat.new desk.new }
     ensures others { OthersFit S.view S.fits (S.view seat.old).by desk.old desk.new }
@@ -89,8 +89,8 @@ where
         child -= 1;
         let branch = branches[child];
         if branch.parent as usize == scope && !branch.shut {
-            tear(seat, desk, shelf, branches, held, child, exit);
+            tear(seat, desk, shelf, branches, acquisitions, child, exit);
         }
     }
-    release_rows(seat, desk, shelf, held, scope, exit);
+    release_rows(seat, desk, shelf, acquisitions, scope, exit);
 }

@@ -12,7 +12,7 @@ ghost use Rattle.res_ledger.specs.declared.event.What.TheVariants.{Cancel};
 ghost use Rattle.row_seat.specs.Views.{AreApart, AtRest, CanFinish, CanJoin, CanSplit, HasRow, MayNote, OthersFit, joined, split_main, split_off};
 ghost use Rattle.scope_tree.specs.Rows.{strangers};
 ghost use Rattle.scope_tree.specs.Released.{away, said};
-ghost use Rattle.scope_tree.specs.Words.{ended_rows, owed, own_rows, words};
+ghost use Rattle.scope_tree.specs.Trace.{ended_rows, owed, own_rows, trace};
 ghost use Rattle.scope_tree.specs.Calls.{AcquiresRow, AtStart, Cancels, ClosesScope, IsClosedScope, IsOpenScope, KeepsScopes, Leases, OpensScope, TakesRoom, WasOpened, used};
 ghost use Rattle.scope_tree.specs.Rights.{AddsLease, DropsLease, HasNoLeaseBut, IsNewStream, IsSameSeat, KeepsLeases};
 ghost use Rattle.scope_tree.specs.Standings.{StandsAs};
@@ -38,7 +38,7 @@ use std::alloc::{AllocError, Global};
 pub struct Tree<S: RowSeat> {
     seat: S,
     branches: Vec<Branch>,
-    held: Vec<AcquiredRow>,
+    acquisitions: Vec<AcquiredRow>,
     shelf: Vec<Spent<S::Pay>>,
     scopes: u32,
     rows: u32,
@@ -56,13 +56,13 @@ where
         ensures empty { (r : ℕ) → IsAmong r (S.view seat).empty → IsAmong r (seen S.view result).seat.empty }
         ensures rights { IsSameSeat (S.view seat) (seen S.view result).seat }
         ensures leases { KeepsLeases (S.view seat) (seen S.view result).seat }
-        ensures used { (used (seen S.view result) ≡ 0) × (opens (words (seen S.view result).seat) ≡ []) }
+        ensures used { (used (seen S.view result) ≡ 0) × (opens (trace (seen S.view result).seat) ≡ []) }
         ensures owed { owed (seen S.view result).seat ≡ 1 }
         ensures fits { (d : S.Desk) → S.fits seat d → Fits S.view S.fits result d }
     {
         let Room {
             mut branches,
-            held,
+            acquisitions,
             shelf,
             scopes,
             rows,
@@ -74,7 +74,7 @@ where
         Tree {
             seat,
             branches,
-            held,
+            acquisitions,
             shelf,
             scopes,
             rows,
@@ -86,7 +86,7 @@ where
         requires fits { Fits S.view S.fits self.old desk.old }
         requires root { ¬ (IsClosedScope (seen S.view self.old) 0) }
         requires at { WasOpened (seen S.view self.old) at }
-        requires room { length (opens (words (seen S.view self.old).seat)) + 1 < (seen S.view self.old).scopes }
+        requires room { length (opens (trace (seen S.view self.old).seat)) + 1 < (seen S.view self.old).scopes }
         requires free { owed (seen S.view self.old).seat + 2 ≤ (seen S.view self.old).seat.spare }
         ensures opens { OpensScope (seen S.view self.old) at result (seen S.view self.new) }
         ensures child { IsOpenScope (seen S.view self.new) result }
@@ -129,7 +129,7 @@ where
     {
         self.seat.note(desk, What::Acquire { row, scope });
         self.seat.place(desk, row, pay);
-        self.held.push_reserved(AcquiredRow { row, scope });
+        self.acquisitions.push_reserved(AcquiredRow { row, scope });
     }
 
     /// The payload of an open row, for reading and writing.
@@ -146,7 +146,7 @@ where
         requires tree { IsConsistent S.view self.now }
         requires scope { IsOpenScope (seen S.view self.now) scope }
         requires of { WasOpened (seen S.view self.now) of }
-        ensures { result ≡ reaches (words (seen S.view self.now).seat) scope of }
+        ensures { result ≡ reaches (trace (seen S.view self.now).seat) scope of }
     {
         is_open(&self.branches, of)
             && (is_above(&self.branches, scope, of)
@@ -157,10 +157,10 @@ where
     fn covered(&self, alloc: Global, scope: u32) -> Result<Vec<u32>, AllocError>
         requires tree { IsConsistent S.view self.now }
         requires scope { IsOpenScope (seen S.view self.now) scope }
-        ensures { IfOk result (λ rows. rows.items ≡ leased_rows (words (seen S.view self.now).seat) scope) }
+        ensures { IfOk result (λ rows. rows.items ≡ leased_rows (trace (seen S.view self.now).seat) scope) }
     {
         let mut rows = Vec::new(alloc);
-        'each: for one in &self.held {
+        'each: for one in &self.acquisitions {
             if self.reaches(scope, one.scope) {
                 rows.push(one.row)?;
             }
@@ -225,7 +225,7 @@ where
             desk,
             &mut self.shelf,
             &self.branches,
-            &self.held,
+            &self.acquisitions,
             scope as usize,
             exit,
         );
@@ -308,7 +308,7 @@ where
         if let Some(ok) = outcome(&self.shelf, row) {
             return Standing::Final(ok);
         }
-        match scope_of(&self.held, row) {
+        match scope_of(&self.acquisitions, row) {
             None => Standing::Empty,
             Some(scope) => {
                 if is_open(&self.branches, scope) {
@@ -328,7 +328,7 @@ where
         ensures seat { S.view result.0 ≡ (seen S.view self).seat }
         ensures fits { (d : S.Desk) → Fits S.view S.fits self d → S.fits result.0 d }
         ensures shelf { result.1 ≡ (seen S.view self).shelf }
-        ensures finals { ended_rows (words (S.view result.0)) ≡ said result.1 }
+        ensures finals { ended_rows (trace (S.view result.0)) ≡ said result.1 }
         ensures ended { (S.view result.0).main ≡ false → (r : ℕ) → IsAmong r (own_rows (S.view result.0)) → IsAmong r (firsts (said result.1)) }
         ensures rising { Rises (by_stream (S.view result.0).by (S.view result.0).events) }
         ensures rest { ((S.view result.0).opened ≡ []) × ((S.view result.0).handed ≡ []) × ((S.view result.0).taken ≡ []) × ((r : ℕ) → IsAmong r (S.view result.0).empty → ¬ (IsAcquired (S.view result.0).events r)) }
@@ -338,7 +338,7 @@ where
         let Tree {
             seat,
             branches: _,
-            held: _,
+            acquisitions: _,
             shelf,
             scopes: _,
             rows: _,

@@ -17,10 +17,10 @@ use Rattle.scope_tree.specs.declared.branch.Spent.{Spent}
 use Rattle.tree_laws.specs.Visits.{IsNewGuest}
 use Rattle.pull_stepper.specs.Held.{FinishesDevice}
 use Rattle.pull_stepper.specs.Sites.{Since, Site, around}
-use Rattle.pull_stepper.specs.Stepping.{Halts, IsOver, Stepping, Steps, stopped_by}
+use Rattle.pull_stepper.specs.Stepping.{Halts, IsOver, Stepping, TakesTurn, stopped_by}
 use Rattle.stream_jobs.specs.Leaving.{IsVisiting, Leaves}
 use Rattle.stream_jobs.specs.Messages.{end_message, held, load_messages, news}
-use Rattle.stream_jobs.specs.Running.{HasLeft, HasRun, IsBegun, Origin}
+use Rattle.stream_jobs.specs.Running.{IsEndedJob, HasRun, IsBegun, Origin}
 use Rattle.stream_jobs.specs.Steps.{ObeysFound}
 use Rattle.stream_jobs.proofs.Runs.{none_is_not_some, same_end, said_more}
 
@@ -38,7 +38,7 @@ module _ {V F : Type 0} (told : V → DeviceTold) (P : Values → StateMeaning F
     exit = subst (λ x. IsClosedWith (around told b.site) 0 x) (sym (stopped_exit a.wanting)) h.exit;
   }
 
-  turn_over : (a b : Stepping V F) (t : Turn) → Steps P told a b t → (h : How) → b.how ≡ Some h → IsOver told b
+  turn_over : (a b : Stepping V F) (t : Turn) → TakesTurn P told a b t → (h : How) → b.how ≡ Some h → IsOver told b
   turn_over a b (turn.Chunk l) k h e = absurd (none_is_not_some b.how h k.how e)
   turn_over a b turn.Quiet k h e = absurd (none_is_not_some b.how h k.how e)
   turn_over a b turn.Done k h e = record { how = how.Done; ended = k.how; shut = k.turns.shut (λ n. n); exit = k.turns.closed }
@@ -63,7 +63,7 @@ module _ {V F : Type 0} (told : V → DeviceTold) (P : Values → StateMeaning F
   -- the end was said behind the loads, and the stream has left
   pub left_so : (w : Origin V F) (a b : Stepping V F) (loads : List Load) (said : List Msg) (j : ℕ) (T : List ℕ) (h g : How) (seat : View V) (shelf : List (Spent V)) (unopened : List V) (message : Msg)
       → IsBegun told w → said ≡ load_messages w.stream loads → j ≡ w.stream → T ≡ w.leased → HasRun told P w b h loads → b.how ≡ Some h → Leaves told j T w.start.site b seat shelf unopened g → message ≡ end_message w.stream h
-      → HasLeft told P w seat shelf unopened g (said ++ message ∷ [])
+      → IsEndedJob told P w seat shelf unopened g (said ++ message ∷ [])
   left_so w a b loads said j T h g seat shelf unopened message begun is stream leased run how_is l m =
       let same : h ≡ g = same_end b.how h g how_is l.ended.how in
       record {

@@ -19,7 +19,7 @@ use Rattle.pull_turns.specs.Moves.{how_of}
 use Rattle.pull_turns.specs.Piping.{StateMeaning}
 use Rattle.pull_turns.specs.declared.turn.Turn.{Turn}
 use Rattle.pull_turns.specs.declared.turn.Turn.TheVariants as turn
-use Rattle.pull_stepper.specs.Stepping.{Stepping, Steps, stopped_by}
+use Rattle.pull_stepper.specs.Stepping.{Stepping, TakesTurn, stopped_by}
 use Rattle.stream_jobs.specs.Learned.{HasLearned, HasStoppedRun}
 use Rattle.stream_jobs.specs.Steps.{Interrupts, LooksOnce, ObeysFound, StopsRun, load_in}
 
@@ -119,7 +119,7 @@ load_full P told a b None load o = ⊎_elim
     (λ k. subst (λ x. IfSome x (λ l. 0 < length (elements l))) (sym k.3) tt)
     o
   where
-    given_full : (t : Turn) → Steps P told a b t → IfSome (load_in t) (λ l. 0 < length (elements l))
+    given_full : (t : Turn) → TakesTurn P told a b t → IfSome (load_in t) (λ l. 0 < length (elements l))
     given_full (turn.Chunk l) k = k.turns.gave.0
     given_full turn.Quiet k = tt
     given_full turn.Done k = tt

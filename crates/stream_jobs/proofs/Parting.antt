@@ -16,7 +16,7 @@ use Rattle.scope_tree.specs.declared.branch.Spent.{Spent}
 use Rattle.scope_tree.specs.Calls.{Cancels, IsClosedScope, Seen, used}
 use Rattle.scope_tree.specs.Released.{away, said}
 use Rattle.scope_tree.specs.Rows.{strangers}
-use Rattle.scope_tree.specs.Words.{owed, own_rows}
+use Rattle.scope_tree.specs.Trace.{owed, own_rows}
 use Rattle.scope_tree.proofs.Lists.{away_le}
 use Rattle.tree_laws.specs.Called.{Called}
 use Rattle.tree_laws.specs.Called.Called.{cancelled}

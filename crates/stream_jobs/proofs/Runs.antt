@@ -25,7 +25,7 @@ use Rattle.pull_turns.proofs.Led.{cut_unwritten, led_done, led_ends, led_fault, 
 use Rattle.pull_stepper.specs.Held.{FinishesDevice}
 use Rattle.pull_stepper.specs.Laws.{since_same, since_then}
 use Rattle.pull_stepper.specs.Sites.{Since, around, told_at}
-use Rattle.pull_stepper.specs.Stepping.{CanGo, Halts, Stepping, Steps, Wants, stopped_by}
+use Rattle.pull_stepper.specs.Stepping.{CanGo, Halts, Stepping, TakesTurn, Wants, stopped_by}
 use Rattle.stream_jobs.specs.Leaving.{CanLeave}
 use Rattle.stream_jobs.specs.Messages.{held, load_message, load_messages}
 use Rattle.stream_jobs.specs.Running.{HasGiven, HasRun, IsBegun, Origin, elements_of}
@@ -83,13 +83,13 @@ module _ {V F : Type 0} (told : V → DeviceTold) (P : Values → StateMeaning F
     since_on : Since told (FinishesDevice told) w.start.site b.site
     since_on = since_then told (FinishesDevice told) w.start.site a.site b.site g.since since
 
-    turns_of : (t : Turn) → Steps P told a b t → Turns (P w.start.tables) (around told a.site) (around told b.site) a.chunk a.rest b.rest t
+    turns_of : (t : Turn) → TakesTurn P told a b t → Turns (P w.start.tables) (around told a.site) (around told b.site) a.chunk a.rest b.rest t
     turns_of t k = subst (λ v. Turns (P v) (around told a.site) (around told b.site) a.chunk a.rest b.rest t) g.tables k.turns
 
-    spends_on : (t : Turn) → Steps P told a b t → Spends (around told w.start.site) (around told b.site) w.start.rest b.rest
+    spends_on : (t : Turn) → TakesTurn P told a b t → Spends (around told w.start.site) (around told b.site) w.start.rest b.rest
     spends_on t k = spends_then (around told w.start.site) (around told a.site) (around told b.site) w.start.rest a.rest b.rest g.spends k.turns.spends
 
-    chunk_on : (l : Load) → Steps P told a b (turn.Chunk l) → HasGiven told P w b (loads ++ l ∷ [])
+    chunk_on : (l : Load) → TakesTurn P told a b (turn.Chunk l) → HasGiven told P w b (loads ++ l ∷ [])
     chunk_on l k = record {
       led = led_pushed (P w.start.tables) first (around told a.site) (around told b.site) a.chunk w.start.rest a.rest b.rest loads l g.led (turns_of (turn.Chunk l) k);
       filled = each_snoc (λ (x : Load). 0 < length (elements x)) loads l g.filled k.turns.gave.0;
@@ -99,7 +99,7 @@ module _ {V F : Type 0} (told : V → DeviceTold) (P : Values → StateMeaning F
       can = k.can tt;
     }
 
-    quiet_on : Steps P told a b turn.Quiet → HasGiven told P w b loads
+    quiet_on : TakesTurn P told a b turn.Quiet → HasGiven told P w b loads
     quiet_on k = record {
       led = led_quiet (P w.start.tables) first (around told a.site) (around told b.site) a.chunk w.start.rest a.rest b.rest (elements_of loads) g.led (turns_of turn.Quiet k);
       filled = g.filled;
@@ -109,7 +109,7 @@ module _ {V F : Type 0} (told : V → DeviceTold) (P : Values → StateMeaning F
       can = k.can tt;
     }
 
-    done_ends : Steps P told a b turn.Done → HasRun told P w b how.Done loads
+    done_ends : TakesTurn P told a b turn.Done → HasRun told P w b how.Done loads
     done_ends k = record {
       run = led_done (P w.start.tables) first (around told a.site) (around told b.site) a.chunk w.start.rest a.rest b.rest (elements_of loads) g.led (turns_of turn.Done k) (told_at told b.site) (over_now (told_at told b.site) w.start.rest);
       filled = g.filled;
@@ -118,7 +118,7 @@ module _ {V F : Type 0} (told : V → DeviceTold) (P : Values → StateMeaning F
       spends = spends_all (around told w.start.site) (around told b.site) w.start.rest b.rest (spends_on turn.Done k);
     }
 
-    fault_ends : (c : Code) → Steps P told a b (turn.Fault c) → HasRun told P w b (how.Fault c) loads
+    fault_ends : (c : Code) → TakesTurn P told a b (turn.Fault c) → HasRun told P w b (how.Fault c) loads
     fault_ends c k = record {
       run = led_fault (P w.start.tables) first (around told a.site) (around told b.site) a.chunk w.start.rest a.rest b.rest (elements_of loads) g.led c (turns_of (turn.Fault c) k) (told_at told b.site) (over_now (told_at told b.site) w.start.rest);
       filled = g.filled;
@@ -146,13 +146,13 @@ module _ {V F : Type 0} (told : V → DeviceTold) (P : Values → StateMeaning F
       spends = spends_stopped (around told w.start.site) (around told a.site) (around told b.site) w.start.rest (spends_all (around told w.start.site) (around told a.site) w.start.rest a.rest g.spends) h.affords;
     }
 
-    turn_on : (t : Turn) → Steps P told a b t → b.how ≡ None → HasGiven told P w b (loads ++ held (load_in t))
+    turn_on : (t : Turn) → TakesTurn P told a b t → b.how ≡ None → HasGiven told P w b (loads ++ held (load_in t))
     turn_on (turn.Chunk l) k n = chunk_on l k
     turn_on turn.Quiet k n = subst (HasGiven told P w b) (sym (append-nil loads)) (quiet_on k)
     turn_on turn.Done k n = absurd (none_is_not_some b.how how.Done n k.how)
     turn_on (turn.Fault c) k n = absurd (none_is_not_some b.how (how.Fault c) n k.how)
 
-    turn_ends : (t : Turn) → Steps P told a b t → (h : How) → b.how ≡ Some h → HasRun told P w b h loads
+    turn_ends : (t : Turn) → TakesTurn P told a b t → (h : How) → b.how ≡ Some h → HasRun told P w b h loads
     turn_ends (turn.Chunk l) k h e = absurd (none_is_not_some b.how h k.how e)
     turn_ends turn.Quiet k h e = absurd (none_is_not_some b.how h k.how e)
     turn_ends turn.Done k h e = subst (λ x. HasRun told P w b x loads) (same_end b.how how.Done h k.how e) (done_ends k)

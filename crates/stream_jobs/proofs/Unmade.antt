@@ -22,13 +22,13 @@ use Rattle.row_seat.specs.declared.view.View.{View}
 use Rattle.scope_tree.specs.declared.branch.Spent.{Spent}
 use Rattle.scope_tree.specs.Calls.{ClosesScope, Seen, TakesRoom}
 use Rattle.scope_tree.specs.Released.{said}
-use Rattle.scope_tree.specs.Words.{owed}
+use Rattle.scope_tree.specs.Trace.{owed}
 use Rattle.scope_tree.proofs.Owning.{owner_pays}
 use Rattle.scope_tree.proofs.Use.{closed_now}
 use Rattle.tree_laws.specs.Called.Called.{none, closed}
 use Rattle.tree_laws.proofs.Alone.{alone_closes}
 use Rattle.pull_stepper.specs.Held.{FinishesDevice}
-use Rattle.pull_stepper.specs.Sites.{IsSpent, IsUnopened, Parted, SameDevice, Since, Site, around, pay_of, slot_of, told_at, told_by}
+use Rattle.pull_stepper.specs.Sites.{IsClosedDevice, IsUnopened, Parted, SameDevice, Since, Site, around, pay_of, slot_of, told_at, told_by}
 use Rattle.pull_stepper.specs.Sites.Parted.{none as no_more, unopened, ended}
 use Rattle.pull_stepper.specs.Stepping.{StepperEnds, Stepping, site_of}
 use Rattle.pull_stepper.proofs.Beginning.{begun_can, begun_in_order}
@@ -36,7 +36,7 @@ use Rattle.pull_stepper.proofs.Closing.{closed_as}
 use Rattle.pull_stepper.proofs.Parting.{parted}
 use Rattle.stream_jobs.specs.Leaving.{CanLeave, IsVisiting, Leaves}
 use Rattle.stream_jobs.specs.Messages.{end_message}
-use Rattle.stream_jobs.specs.Running.{HasLeft, HasRun, Origin}
+use Rattle.stream_jobs.specs.Running.{IsEndedJob, HasRun, Origin}
 use Rattle.stream_jobs.specs.Unmade.{IsOfNode}
 use Rattle.stream_jobs.proofs.Advancing.{visiting_at}
 use Rattle.stream_jobs.proofs.Runs.{room_to_leave, same_end}
@@ -61,7 +61,7 @@ module _ {V : Type 0} (told : V → DeviceTold) where
   parted_same : {w v : ℕ → DeviceTold} {shelf : List (Spent V)} {n i : ℕ} {ds : List V} → ((p : ℕ) → w p ≡ v p) → Parted told w shelf n i ds → Parted told v shelf n i ds
   parted_same h no_more = no_more
   parted_same h (unopened {i = i} d e u away t) = unopened d (e ∙ h i) (subst IsUnopened (h i) u) away (parted_same h t)
-  parted_same {v = v} h (ended {i = i} x m r e s t) = ended x m r (e ∙ h i) (subst (λ d. IsSpent d x.exit x.ok) (h i) s) (parted_same h t)
+  parted_same {v = v} h (ended {i = i} x m r e s t) = ended x m r (e ∙ h i) (subst (λ d. IsClosedDevice d x.exit x.ok) (h i) s) (parted_same h t)
 
 module _ {V F : Type 0} (told : V → DeviceTold) (n : Node) (a : Seen V) (devices : List V) (w : Origin V F) (u : IsOfNode told n a devices w) where
   -- the tree is that of the stream
@@ -141,7 +141,7 @@ module _ {V F : Type 0} (told : V → DeviceTold) (P : Values → StateMeaning F
   unmade_leaves T leased = subst (λ R. CanLeave told R last_site) (sym leased) (room_to_leave told P w last_unmade how.Memory [] u.begun run_none)
 
   -- so the stream has left, and its end is all that it said
-  pub unmade_left : (k : ℕ) (T : List ℕ) → k ≡ w.stream → T ≡ w.leased → (h : How) (seat : View V) (shelf : List (Spent V)) (back : List V) → Leaves told k T w.start.site last_unmade seat shelf back h → HasLeft told P w seat shelf back h (end_message k how.Memory ∷ [])
+  pub unmade_left : (k : ℕ) (T : List ℕ) → k ≡ w.stream → T ≡ w.leased → (h : How) (seat : View V) (shelf : List (Spent V)) (back : List V) → Leaves told k T w.start.site last_unmade seat shelf back h → IsEndedJob told P w seat shelf back h (end_message k how.Memory ∷ [])
   unmade_left k T stream leased h seat shelf back l =
       let same : how.Memory ≡ h = same_end last_unmade.how how.Memory h refl l.ended.how in
       record {

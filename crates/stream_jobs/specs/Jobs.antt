@@ -16,7 +16,7 @@ use Rattle.stream_jobs.specs.declared.job.JobTurn.TheVariants.{More, Blocked, Ov
 use Rattle.stream_jobs.specs.declared.running.Stage.{Stage}
 use Rattle.stream_jobs.specs.Learned.{HasLearned}
 use Rattle.stream_jobs.specs.Messages.{IsFullMessage, held}
-use Rattle.stream_jobs.specs.Running.{FitsStage, HasLeft, Origin, Stands, ended_at, running_at}
+use Rattle.stream_jobs.specs.Running.{FitsStage, IsEndedJob, Origin, Stands, ended_at, running_at}
 use Rattle.stream_jobs.specs.Steps.{MovesOn}
 
 -- its stepper, unless that has ended, its seat at the board, its sender, and the message that waits for room in the queue
@@ -103,7 +103,7 @@ module _ {S V F : Type 0} (view : S → View V) (told : V → DeviceTold) (P : V
   -- what is left of a job: the loads of a run were sent, and then its end; and its seat at the board has set and seen what goes with that
   pub record EndsJob (w : Origin V F) (e : JobEnd S V) : Type 0 where
     pub sender : e.sender.stream ≡ w.stream
-    pub left : HasLeft told P w (view e.seat) e.shelf e.unopened e.how e.sender.sent
+    pub left : IsEndedJob told P w (view e.seat) e.shelf e.unopened e.how e.sender.sent
     pub learned : HasLearned w.stream w.board e.board (Some e.how)
 
 -- its tree and devices, or its seat, fit the desk

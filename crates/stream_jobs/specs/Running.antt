@@ -67,7 +67,7 @@ module _ {V F : Type 0} (told : V → DeviceTold) where
       pub spends : SpendsWithin (around told w.start.site) (around told s.site) w.start.rest
 
     -- it has ended so: the loads of a run were said, and then its end; and its seat, its shelf and its unopened devices are what it left
-    pub record HasLeft (w : Origin V F) (seat : View V) (shelf : List (Spent V)) (unopened : List V) (h : How) (said : List Msg) : Type 0 where
+    pub record IsEndedJob (w : Origin V F) (seat : View V) (shelf : List (Spent V)) (unopened : List V) (h : How) (said : List Msg) : Type 0 where
       pub begun : IsBegun w
       pub loads : List Load
       pub said_is : said ≡ load_messages w.stream loads ++ end_message w.stream h ∷ []
@@ -89,7 +89,7 @@ module _ {V F : Type 0} (told : V → DeviceTold) where
       -- what was said, by how far it is
       abbrev pub Stands : Origin V F → Stage S V F V D T → List Msg → Type 0
       Stands w (stage.Running r) said = RunsOn w r said
-      Stands w (stage.Left l) said = HasLeft w (view l.seat) l.shelf l.unopened l.how said
+      Stands w (stage.Left l) said = IsEndedJob w (view l.seat) l.shelf l.unopened l.how said
 
   -- its tree and devices, or its seat, fit the desk
   abbrev pub FitsStage : {S D T : Type 0} → (S → View V) → (S → D → Type 0) → Stage S V F V D T → D → Type 0

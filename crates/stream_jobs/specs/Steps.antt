@@ -15,7 +15,7 @@ use Rattle.interrupt_ctx.specs.declared.why.Why.TheVariants as why
 use Rattle.pull_turns.specs.Piping.{StateMeaning}
 use Rattle.pull_turns.specs.declared.turn.Turn.{Turn}
 use Rattle.pull_turns.specs.declared.turn.Turn.TheVariants as turn
-use Rattle.pull_stepper.specs.Stepping.{Halts, Stepping, Steps, Wants}
+use Rattle.pull_stepper.specs.Stepping.{Halts, Stepping, TakesTurn, Wants}
 use Rattle.stream_jobs.specs.Messages.{news}
 
 -- the load that a turn gives, where it gives one
@@ -43,7 +43,7 @@ Interrupts how.Memory old new = StopsRun old new why.Memory
 module _ {V F : Type 0} (P : Values → StateMeaning F) (told : V → DeviceTold) where
   -- a turn was made, which gave this load or none, or memory was wanting in it and the stepper was halted
   abbrev pub Stepped : Stepping V F → Stepping V F → Option Load → Type 0
-  Stepped a b load = ((t : Turn) × Steps P told a b t × (load ≡ load_in t)) ⊎ ((m : Stepping V F) × Wants P told a m × Halts told m b × (load ≡ None))
+  Stepped a b load = ((t : Turn) × TakesTurn P told a b t × (load ≡ load_in t)) ⊎ ((m : Stepping V F) × Wants P told a m × Halts told m b × (load ≡ None))
 
   -- where a cause was found the stepper was halted, else it made one turn
   abbrev pub ObeysFound : Option Why → Stepping V F → Stepping V F → Option Load → Type 0

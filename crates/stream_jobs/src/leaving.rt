@@ -11,7 +11,7 @@ ghost use Rattle.pull_stepper.specs.Steppers.{Works, stepping};
 ghost use Rattle.pull_stepper.specs.Stepping.{IsOver, Stepping, StepperEnds};
 ghost use Rattle.stream_jobs.specs.Leaving.{CanLeave, IsVisiting, Leaves};
 ghost use Rattle.stream_jobs.specs.Messages.{end_message};
-ghost use Rattle.stream_jobs.specs.Running.{HasLeft, Origin};
+ghost use Rattle.stream_jobs.specs.Running.{IsEndedJob, Origin};
 ghost use Rattle.stream_jobs.specs.Unmade.{IsUnmade};
 
 use chunk_core::{Exit, How, List};
@@ -91,7 +91,7 @@ pub(crate) fn leave_unmade<V: Device, S: RowSeat<Pay = Held<V>>, F: PipeState>(
 ) -> Left<S, V>
     requires fits { Fits S.view S.fits tree desk.old }
     requires unmade { (b : SeatSeen) × (w : Origin V F) × IsUnmade V.told lease.stream lease.rows.items b (seen S.view tree) devices w }
-    ensures left { (b : SeatSeen) (w : Origin V F) → IsUnmade V.told lease.stream lease.rows.items b (seen S.view tree) devices w → HasLeft V.told (standing F.stands F.comes) w (S.view result.seat) result.shelf result.unopened result.how (end_message lease.stream how.Memory ∷ []) }
+    ensures left { (b : SeatSeen) (w : Origin V F) → IsUnmade V.told lease.stream lease.rows.items b (seen S.view tree) devices w → IsEndedJob V.told (standing F.stands F.comes) w (S.view result.seat) result.shelf result.unopened result.how (end_message lease.stream how.Memory ∷ []) }
     ensures how { result.how ≡ how.Memory }
     ensures fits { S.fits result.seat desk.new }
     ensures others { OthersFit S.view S.fits (Inner lease.stream) desk.old desk.new }

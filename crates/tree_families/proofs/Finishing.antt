@@ -24,13 +24,13 @@ use Rattle.scope_tree.specs.Calls.{Cancels, Leases, Seen}
 use Rattle.scope_tree.specs.Leased.{pairs_for}
 use Rattle.std.specs.List.{IsDistinct}
 use Rattle.scope_tree.specs.Released.{said}
-use Rattle.scope_tree.specs.Words.{numbers, words}
+use Rattle.scope_tree.specs.Trace.{numbers, trace}
 use Rattle.scope_tree.proofs.Bridge.{in_noted, noted_in}
 use Rattle.chunk_core.proofs.Reversed.{reverse_among}
 use Rattle.scope_tree.proofs.Leasing.{pairs_among}
 use Rattle.scope_tree.proofs.Lessee.{lease_gone}
 use Rattle.scope_tree.proofs.Owed.{number_among}
-use Rattle.scope_tree.proofs.Parting.{join_words}
+use Rattle.scope_tree.proofs.Parting.{join_trace}
 use Rattle.chunk_core.proofs.Distinct.{distinct_append, distinct_nil, distinct_one, distinct_mid}
 use Rattle.scope_tree.proofs.Use.{acquired_said, cancel_follows, canceled_said, close_follows, close_pairs, closed_said, leased_said, leases, opened_said}
 use Rattle.tree_laws.specs.Alone.{HasNoOthers}
@@ -88,52 +88,52 @@ cancel_run i j y x fs m = ⊎_elim (λ e. let z : Cancel i y ≡ Cancel j x = e 
 module _ {P : Type 0} where
   -- what a main seat knows of leases: each that it keeps it made, and it neither cancelled it nor gave its stream a seat; a stream is leased once
   record KnowsLeases (v : View P) (Cs : List (ℕ × List ℕ)) : Type 0 where
-    made : (i : ℕ) → IsAmong i v.kept → (s : ℕ) × IsAmong (Lease i s) (words v)
+    made : (i : ℕ) → IsAmong i v.kept → (s : ℕ) × IsAmong (Lease i s) (trace v)
     still : (i : ℕ) → IsAmong i v.kept → ((T : List ℕ) → ¬ (IsAmong (i, T) Cs)) × ¬ (IsAmong i v.had)
-    gone : (i : ℕ) (x : Exit) → IsAmong (Cancel i x) (words v) → (T : List ℕ) × IsAmong (i, T) Cs
-    known : (i : ℕ) (T : List ℕ) → IsAmong (i, T) Cs → (s : ℕ) × IsAmong (Lease i s) (words v)
+    gone : (i : ℕ) (x : Exit) → IsAmong (Cancel i x) (trace v) → (T : List ℕ) × IsAmong (i, T) Cs
+    known : (i : ℕ) (T : List ℕ) → IsAmong (i, T) Cs → (s : ℕ) × IsAmong (Lease i s) (trace v)
     lent : (i r : ℕ) → IsAmong (i, r) v.pairs → (T : List ℕ) × Lent v i T × IsAmong r T
     held : (i r : ℕ) → IsAmong (i, r) v.pairs → (¬ (IsAmong i v.had)) × (IsAmong i v.kept ⊎ ((T : List ℕ) × IsAmong (i, T) Cs × (¬ (IsAmong r T))))
-    once : IsDistinct nat_eq (guests (words v))
+    once : IsDistinct nat_eq (guests (trace v))
 
-  knows_plain : (v w : View P) (Cs : List (ℕ × List ℕ)) (E : List What) → words w ≡ words v ++ E → IsPlain E → w.kept ≡ v.kept → w.pairs ≡ v.pairs → w.had ≡ v.had → ((i : ℕ) (T : List ℕ) → Lent v i T → Lent w i T) → KnowsLeases v Cs → KnowsLeases w Cs
+  knows_plain : (v w : View P) (Cs : List (ℕ × List ℕ)) (E : List What) → trace w ≡ trace v ++ E → IsPlain E → w.kept ≡ v.kept → w.pairs ≡ v.pairs → w.had ≡ v.had → ((i : ℕ) (T : List ℕ) → Lent v i T → Lent w i T) → KnowsLeases v Cs → KnowsLeases w Cs
   knows_plain v w Cs E is plain kept pairs had lent h =
-      let more : (x : What) → IsAmong x (words v) → IsAmong x (words w) = λ x m. subst (λ l. IsAmong x l) (sym is) (among_left E m) in
+      let more : (x : What) → IsAmong x (trace v) → IsAmong x (trace w) = λ x m. subst (λ l. IsAmong x l) (sym is) (among_left E m) in
       record {
         made = λ i m. let t = h.made i (subst (λ l. IsAmong i l) kept m) in (t.0, more (Lease i t.0) t.1);
         still = λ i m. let t = h.still i (subst (λ l. IsAmong i l) kept m) in (t.0, λ n. t.1 (subst (λ l. IsAmong i l) had n));
-        gone = λ i x m. ⊎_elim (λ o. h.gone i x o) (λ o. absurd (plain.1 i x o)) (among_append (Cancel i x) (words v) E (subst (λ l. IsAmong (Cancel i x) l) is m));
+        gone = λ i x m. ⊎_elim (λ o. h.gone i x o) (λ o. absurd (plain.1 i x o)) (among_append (Cancel i x) (trace v) E (subst (λ l. IsAmong (Cancel i x) l) is m));
         known = λ i T m. let t = h.known i T m in (t.0, more (Lease i t.0) t.1);
         lent = λ i r m. let t = h.lent i r (subst (λ l. IsAmong (i, r) l) pairs m) in (t.0, lent i t.0 t.1, t.2);
         held = λ i r m.
             let t = h.held i r (subst (λ l. IsAmong (i, r) l) pairs m) in
             ((λ n. t.0 (subst (λ l. IsAmong i l) had n)), ⊎_elim (λ k. inl (subst (λ l. IsAmong i l) (sym kept) k)) (λ c. inr c) t.1);
-        once = subst (IsDistinct nat_eq) (sym (ap guests is ∙ guests_append (words v) E ∙ ap (λ l. guests (words v) ++ numbers l) plain.0 ∙ append-nil (guests (words v)))) h.once;
+        once = subst (IsDistinct nat_eq) (sym (ap guests is ∙ guests_append (trace v) E ∙ ap (λ l. guests (trace v) ++ numbers l) plain.0 ∙ append-nil (guests (trace v)))) h.once;
       }
 
   -- a stream that has no Lease is leased
   knows_leased : {b c : Seen P} {s j : ℕ} {T : List ℕ} (Cs : List (ℕ × List ℕ)) → MayLease b s j → Leases b s j T c → ((i : ℕ) (U : List ℕ) → Lent b.seat i U → Lent c.seat i U) → KnowsLeases b.seat Cs → KnowsLeases c.seat Cs
   knows_leased {b = b} {c = c} {s = s} {j = j} {T = T} Cs m o lent h =
       let v = b.seat in let w = c.seat in
-      let is : words w ≡ words v ++ Lease j s ∷ [] = leased_said o in
-      let more : (x : What) → IsAmong x (words v) → IsAmong x (words w) = λ x n. subst (λ l. IsAmong x l) (sym is) (among_left (Lease j s ∷ []) n) in
+      let is : trace w ≡ trace v ++ Lease j s ∷ [] = leased_said o in
+      let more : (x : What) → IsAmong x (trace v) → IsAmong x (trace w) = λ x n. subst (λ l. IsAmong x l) (sym is) (among_left (Lease j s ∷ []) n) in
       let kept : w.kept ≡ v.kept ++ j ∷ [] = ap (λ u. u.kept) o.seat in
       let had : w.had ≡ v.had = ap (λ u. u.had) o.seat in
       let pairs : w.pairs ≡ v.pairs ++ pairs_for j T = ap (λ u. u.pairs) o.seat in
-      let fresh : (t : ℕ) → IsAmong (Lease j t) (words v) → ⊥ = λ t n. m.unleased (v.by, t, in_noted v.by (Lease j t) v.events n) in
+      let fresh : (t : ℕ) → IsAmong (Lease j t) (trace v) → ⊥ = λ t n. m.unleased (v.by, t, in_noted v.by (Lease j t) v.events n) in
       record {
         made = λ i n. ⊎_elim
             (λ k. let t = h.made i k in (t.0, more (Lease i t.0) t.1))
-            (λ e. (s, subst (λ l. IsAmong (Lease i s) l) (sym is) (subst (λ z. IsAmong (Lease z s) (words v ++ Lease j s ∷ [])) (sym e) (among_last (words v) (Lease j s)))))
+            (λ e. (s, subst (λ l. IsAmong (Lease i s) l) (sym is) (subst (λ z. IsAmong (Lease z s) (trace v ++ Lease j s ∷ [])) (sym e) (among_last (trace v) (Lease j s)))))
             (among_snoc v.kept i j (subst (λ l. IsAmong i l) kept n));
         still = λ i n. ⊎_elim
             (λ k. let t = h.still i k in (t.0, λ x. t.1 (subst (λ l. IsAmong i l) had x)))
             (λ e. (
-              (λ U x. let t = h.known i U x in fresh t.0 (subst (λ z. IsAmong (Lease z t.0) (words v)) e t.1)),
+              (λ U x. let t = h.known i U x in fresh t.0 (subst (λ z. IsAmong (Lease z t.0) (trace v)) e t.1)),
               (λ x. m.new (subst (λ z. IsAmong z v.had) e (subst (λ l. IsAmong i l) had x))),
             ))
             (among_snoc v.kept i j (subst (λ l. IsAmong i l) kept n));
-        gone = λ i y n. ⊎_elim (λ x. h.gone i y x) (λ e. let z : Cancel i y ≡ Lease j s = e in cc) (among_snoc (words v) (Cancel i y) (Lease j s) (subst (λ l. IsAmong (Cancel i y) l) is n));
+        gone = λ i y n. ⊎_elim (λ x. h.gone i y x) (λ e. let z : Cancel i y ≡ Lease j s = e in cc) (among_snoc (trace v) (Cancel i y) (Lease j s) (subst (λ l. IsAmong (Cancel i y) l) is n));
         known = λ i U n. let t = h.known i U n in (t.0, more (Lease i t.0) t.1);
         lent = λ i r n. ⊎_elim
             (λ x. let t = h.lent i r x in (t.0, lent i t.0 t.1, t.2))
@@ -146,7 +146,7 @@ module _ {P : Type 0} where
               inl (subst (λ l. IsAmong i l) (sym kept) (subst (λ z. IsAmong z (v.kept ++ j ∷ [])) (sym e) (among_last v.kept j))),
             ))
             (among_append (i, r) v.pairs (pairs_for j T) (subst (λ l. IsAmong (i, r) l) pairs n));
-        once = subst (IsDistinct nat_eq) (sym (ap guests is ∙ guests_append (words v) (Lease j s ∷ []))) (distinct_append (guests (words v)) (j ∷ []) h.once (distinct_one j) (λ x y z. ⊎_elim (λ e. let t = guest_found x (words v) y in fresh t.0 (subst (λ q. IsAmong (Lease q t.0) (words v)) e t.1)) (λ n. among_nil n) (among_cons z)));
+        once = subst (IsDistinct nat_eq) (sym (ap guests is ∙ guests_append (trace v) (Lease j s ∷ []))) (distinct_append (guests (trace v)) (j ∷ []) h.once (distinct_one j) (λ x y z. ⊎_elim (λ e. let t = guest_found x (trace v) y in fresh t.0 (subst (λ q. IsAmong (Lease q t.0) (trace v)) e t.1)) (λ n. among_nil n) (among_cons z)));
       }
 
   -- a Lease that is kept is cancelled
@@ -157,8 +157,8 @@ module _ {P : Type 0} where
       let had : w.had ≡ v.had = ap (λ z. z.had) f.same in
       let one : ℕ × List ℕ = (j, T) in
       let fs = said o.left.0 in
-      let is : words w ≡ words v ++ Cancel j how ∷ finals how fs = canceled_said o in
-      let more : (x : What) → IsAmong x (words v) → IsAmong x (words w) = λ x n. subst (λ l. IsAmong x l) (sym is) (among_left (Cancel j how ∷ finals how fs) n) in
+      let is : trace w ≡ trace v ++ Cancel j how ∷ finals how fs = canceled_said o in
+      let more : (x : What) → IsAmong x (trace v) → IsAmong x (trace w) = λ x n. subst (λ l. IsAmong x l) (sym is) (among_left (Cancel j how ∷ finals how fs) n) in
       let old : (i : ℕ) → IsAmong i w.kept → IsAmong i v.kept × (¬ (i ≡ j)) = λ i n. among_without j v.kept i (subst (λ l. IsAmong i l) kept n) in
       record {
         made = λ i n. let t = h.made i (old i n).0 in (t.0, more (Lease i t.0) t.1);
@@ -169,10 +169,10 @@ module _ {P : Type 0} where
         gone = λ i y n. ⊎_elim
             (λ x. let t = h.gone i y x in (t.0, among_left (one ∷ []) t.1))
             (λ x. (T, subst (λ z. IsAmong {A = ℕ × List ℕ} (z, T) (Cs ++ one ∷ [])) (sym (cancel_run i j y how fs x)) (among_last Cs one)))
-            (among_append (Cancel i y) (words v) (Cancel j how ∷ finals how fs) (subst (λ l. IsAmong (Cancel i y) l) is n));
+            (among_append (Cancel i y) (trace v) (Cancel j how ∷ finals how fs) (subst (λ l. IsAmong (Cancel i y) l) is n));
         known = λ i U n. ⊎_elim
             (λ x. let t = h.known i U x in (t.0, more (Lease i t.0) t.1))
-            (λ e. let t = h.made j m.kept in (t.0, more (Lease i t.0) (subst (λ z. IsAmong (Lease z t.0) (words v)) (sym (ap (λ (z : ℕ × List ℕ). z.0) e)) t.1)))
+            (λ e. let t = h.made j m.kept in (t.0, more (Lease i t.0) (subst (λ z. IsAmong (Lease z t.0) (trace v)) (sym (ap (λ (z : ℕ × List ℕ). z.0) e)) t.1)))
             (among_snoc Cs (i, U) one n);
         lent = λ i r n. let t = h.lent i r (f.pairs (i, r) n) in (t.0, lent i t.0 t.1, t.2);
         held = λ i r n. let t = h.held i r (f.pairs (i, r) n) in (
@@ -185,7 +185,7 @@ module _ {P : Type 0} where
               (λ x. inr (x.0, among_left (one ∷ []) x.1, x.2))
               t.1,
         );
-        once = subst (IsDistinct nat_eq) (sym (ap guests is ∙ guests_append (words v) (Cancel j how ∷ finals how fs) ∙ ap (λ l. guests (words v) ++ numbers l) (finals_leaseless how fs) ∙ append-nil (guests (words v)))) h.once;
+        once = subst (IsDistinct nat_eq) (sym (ap guests is ∙ guests_append (trace v) (Cancel j how ∷ finals how fs) ∙ ap (λ l. guests (trace v) ++ numbers l) (finals_leaseless how fs) ∙ append-nil (guests (trace v)))) h.once;
       }
 
   -- the seat of a stream is split off, with its Lease and leases
@@ -205,7 +205,7 @@ module _ {P : Type 0} where
 
   start_knows : (a : Seen P) → a.seat.events ≡ [] → HasNoOthers a.seat → KnowsLeases a.seat []
   start_knows a e h =
-      let w : words a.seat ≡ [] = ap (own a.seat.by) e in
+      let w : trace a.seat ≡ [] = ap (own a.seat.by) e in
       record {
         made = λ i m. absurd (among_nil (subst (λ l. IsAmong i l) h.kept m));
         still = λ i m. absurd (among_nil (subst (λ l. IsAmong i l) h.kept m));
@@ -221,29 +221,29 @@ module _ {P : Type 0} {ends : P → Exit → Bool → P → Type 0} where
   knows_along h none = h
   knows_along h (opened {Cs = Cs} b c at s k m o) = knows_plain b.seat c.seat Cs (Open s o.parent ∷ []) (opened_said o) (plain_run (Open s o.parent) Succeeded [] refl (λ i x e. cc)) (ap (λ v. v.kept) o.seat) (ap (λ v. v.pairs) o.seat) (ap (λ v. v.had) o.seat) (λ i T l. lent_stays {ends = ends} (opened b c at s none m o) l) (knows_along h k)
   knows_along h (acquired {Cs = Cs} b c s r p k m o) = knows_plain b.seat c.seat Cs (Acquire r s ∷ []) (acquired_said o) (plain_run (Acquire r s) Succeeded [] refl (λ i x e. cc)) (ap (λ v. v.kept) o.seat) (ap (λ v. v.pairs) o.seat) (ap (λ v. v.had) o.seat) (λ i T l. lent_stays {ends = ends} (acquired b c s r p none m o) l) (knows_along h k)
-  knows_along h (written {Cs = Cs} b c r p k m o) = knows_plain b.seat c.seat Cs [] (ap (λ (x : Seen P). words x.seat) o ∙ sym (append-nil (words b.seat))) (refl, λ i x m. among_nil m) (ap (λ (x : Seen P). x.seat.kept) o) (ap (λ (x : Seen P). x.seat.pairs) o) (ap (λ (x : Seen P). x.seat.had) o) (λ i T l. lent_stays {ends = ends} (written b c r p none m o) l) (knows_along h k)
+  knows_along h (written {Cs = Cs} b c r p k m o) = knows_plain b.seat c.seat Cs [] (ap (λ (x : Seen P). trace x.seat) o ∙ sym (append-nil (trace b.seat))) (refl, λ i x m. among_nil m) (ap (λ (x : Seen P). x.seat.kept) o) (ap (λ (x : Seen P). x.seat.pairs) o) (ap (λ (x : Seen P). x.seat.had) o) (λ i T l. lent_stays {ends = ends} (written b c r p none m o) l) (knows_along h k)
   knows_along h (leased {Cs = Cs} b c s j T k m o) = knows_leased Cs m o (λ i U l. lent_stays {ends = ends} (leased b c s j T none m o) l) (knows_along h k)
   knows_along h (cancelled {Cs = Cs} b c j T x k m o) = knows_cancelled Cs m o (λ i U l. lent_stays {ends = ends} (cancelled b c j T x none m o) l) (knows_along h k)
   knows_along h (closed {Cs = Cs} b c s x k m o) = knows_plain b.seat c.seat Cs (Close s x ∷ finals x (said o.torn.0)) (closed_said o) (plain_run (Close s x) x (said o.torn.0) refl (λ i y e. cc)) (ap (λ z. z.kept) (close_follows o).same) (close_pairs o) (ap (λ z. z.had) (close_follows o).same) (λ i T l. lent_stays {ends = ends} (closed b c s x none m o) l) (knows_along h k)
   knows_along h (split {Cs = Cs} b c j from to n k m o) =
       let seat : c.seat ≡ split_main b.seat j from to n = ap (λ (x : Seen P). x.seat) o in
       subst (λ v. KnowsLeases v Cs) (sym seat) (knows_split b.seat j from to n Cs (λ i T l. subst (λ v. Lent v i T) seat (lent_stays {ends = ends} (split b c j from to n none m o) l)) (knows_along h k))
-  knows_along h (taken_in {Cs = Cs} b c w k m p o) = knows_plain b.seat c.seat Cs [] (ap (λ (x : Seen P). words x.seat) o ∙ join_words b.seat w p ∙ sym (append-nil (words b.seat))) (refl, λ i x m. among_nil m) (ap (λ (x : Seen P). x.seat.kept) o) (ap (λ (x : Seen P). x.seat.pairs) o) (ap (λ (x : Seen P). x.seat.had) o) (λ i T l. lent_stays {ends = ends} (taken_in b c w none m p o) l) (knows_along h k)
+  knows_along h (taken_in {Cs = Cs} b c w k m p o) = knows_plain b.seat c.seat Cs [] (ap (λ (x : Seen P). trace x.seat) o ∙ join_trace b.seat w p ∙ sym (append-nil (trace b.seat))) (refl, λ i x m. among_nil m) (ap (λ (x : Seen P). x.seat.kept) o) (ap (λ (x : Seen P). x.seat.pairs) o) (ap (λ (x : Seen P). x.seat.had) o) (λ i T l. lent_stays {ends = ends} (taken_in b c w none m p o) l) (knows_along h k)
 
 module _ {P : Type 0} (v : View P) where
-  -- what a lease says of the words
-  lent_words : (j : ℕ) (T : List ℕ) (l : Lent v j T) → words v ≡ own v.by l.before ++ Lease j l.scope ∷ own v.by l.rest
-  lent_words j T l =
+  -- what a lease says of the trace
+  lent_trace : (j : ℕ) (T : List ℕ) (l : Lent v j T) → trace v ≡ own v.by l.before ++ Lease j l.scope ∷ own v.by l.rest
+  lent_trace j T l =
       let head : own v.by (l.event ∷ l.rest) ≡ l.event.what ∷ own v.by l.rest = ap (λ b. cond b (l.event.what ∷ own v.by l.rest) (own v.by l.rest)) (ap (λ a. same_stream a v.by) l.by ∙ stream_same v.by) in
       ap (own v.by) l.stands ∙ own_append v.by l.before (l.event ∷ l.rest) ∙ ap (λ x. own v.by l.before ++ x) (head ∙ ap (λ x. x ∷ own v.by l.rest) l.what)
 
-  not_twice : (j s t : ℕ) (A B : List What) → words v ≡ A ++ Lease j s ∷ B → IsDistinct nat_eq (guests (words v)) → ¬ (IsAmong (Lease j t) A)
+  not_twice : (j s t : ℕ) (A B : List What) → trace v ≡ A ++ Lease j s ∷ B → IsDistinct nat_eq (guests (trace v)) → ¬ (IsAmong (Lease j t) A)
   not_twice j s t A B is d m = (distinct_mid (guests A) (guests B) j (subst (IsDistinct nat_eq) (ap guests is ∙ guests_append A (Lease j s ∷ B)) d)).1 (among_left (guests B) (guest_in j t A m))
 
   -- a stream that is leased once is leased with the same rows
-  same_rows : (j : ℕ) (T U : List ℕ) → IsDistinct nat_eq (guests (words v)) → Lent v j T → Lent v j U → T ≡ U
+  same_rows : (j : ℕ) (T U : List ℕ) → IsDistinct nat_eq (guests (trace v)) → Lent v j T → Lent v j U → T ≡ U
   same_rows j T U d l m =
-      let a = lent_words j T l in let b = lent_words j U m in
+      let a = lent_trace j T l in let b = lent_trace j U m in
       ⊎_elim
       (λ e. l.rows ∙ ap (λ E. leased_rows E l.scope) e.1 ∙ ap (λ s. leased_rows (own v.by m.before) s) (lease_stream j j l.scope m.scope e.0).1 ∙ sym m.rows)
       (λ o. absurd (⊎_elim (λ x. not_twice j m.scope l.scope (own v.by m.before) (own v.by m.rest) b d x) (λ x. not_twice j l.scope m.scope (own v.by l.before) (own v.by l.rest) a d x) o))

@@ -12,7 +12,7 @@ use Rattle.res_ledger.specs.Own.{leased_of}
 use Rattle.row_seat.specs.declared.view.View.{View}
 use Rattle.row_seat.specs.Views.{IsLedgerOf, kept_after, noted, start as first_view}
 use Rattle.scope_tree.specs.Calls.{AcquiresRow, AtStart, ClosesScope, IsClosedScope, OpensScope, Seen}
-use Rattle.scope_tree.specs.Words.{shutting}
+use Rattle.scope_tree.specs.Trace.{shutting}
 use Rattle.scope_tree.proofs.Follows.{is_end}
 use Rattle.scope_tree.proofs.Owning.{owner_pairs}
 use Rattle.scope_tree.proofs.Use.{close_follows}

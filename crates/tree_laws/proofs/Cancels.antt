@@ -10,7 +10,7 @@ use Rattle.res_ledger.specs.declared.event.What.TheVariants.{Cancel}
 use Rattle.res_ledger.specs.Ledger.{Notes, NotesCancel}
 use Rattle.res_ledger.specs.Own.{leased_of}
 use Rattle.scope_tree.specs.Calls.{Cancels, Seen}
-use Rattle.scope_tree.specs.Words.{canceling}
+use Rattle.scope_tree.specs.Trace.{canceling}
 use Rattle.scope_tree.proofs.Follows.{follows_mine}
 use Rattle.scope_tree.proofs.Use.{cancel_follows}
 use Rattle.tree_laws.specs.Alone.{HasNoMoreLeases}

@@ -25,17 +25,17 @@ nothing_among (x ∷ xs) n = absurd (n x (here xs))
 
 module _ {P : Type 0} where
   -- the Leases and leases that w has left v had, and they are not of those that were cancelled
-  record HasLeft (v w : View P) (Cs : List (ℕ × List ℕ)) : Type 0 where
+  record HasLeasesLeft (v w : View P) (Cs : List (ℕ × List ℕ)) : Type 0 where
     kept : (i : ℕ) → IsAmong i w.kept → IsAmong i v.kept × ((T : List ℕ) → ¬ (IsAmong (i, T) Cs))
     pairs : (i r : ℕ) → IsAmong (i, r) w.pairs → IsAmong (i, r) v.pairs × ((T : List ℕ) → IsAmong (i, T) Cs → ¬ (IsAmong r T))
 
-  left_alone : (u v w : View P) (Cs : List (ℕ × List ℕ)) → StaysAlone v w → HasLeft u v Cs → HasLeft u w Cs
+  left_alone : (u v w : View P) (Cs : List (ℕ × List ℕ)) → StaysAlone v w → HasLeasesLeft u v Cs → HasLeasesLeft u w Cs
   left_alone u v w Cs a h = record {
     kept = λ i m. h.kept i (subst (λ l. IsAmong i l) a.kept m);
     pairs = λ i r m. h.pairs i r (subst (λ l. IsAmong (i, r) l) a.pairs m);
   }
 
-  left_cancelled : {ends : P → Exit → Bool → P → Type 0} {b c : Seen P} {j : ℕ} {T : List ℕ} {x : Exit} (u : View P) (Cs : List (ℕ × List ℕ)) → Cancels ends b j T x c → HasLeft u b.seat Cs → HasLeft u c.seat (Cs ++ (j, T) ∷ [])
+  left_cancelled : {ends : P → Exit → Bool → P → Type 0} {b c : Seen P} {j : ℕ} {T : List ℕ} {x : Exit} (u : View P) (Cs : List (ℕ × List ℕ)) → Cancels ends b j T x c → HasLeasesLeft u b.seat Cs → HasLeasesLeft u c.seat (Cs ++ (j, T) ∷ [])
   left_cancelled {b = b} {c = c} {j = j} {T = T} u Cs o h = record {
     kept = λ i m.
         let n = among_without j b.seat.kept i (subst (λ l. IsAmong i l) (ap (λ z. z.kept) (cancel_follows o).same) m) in
@@ -56,11 +56,11 @@ module _ {P : Type 0} {ends : P → Exit → Bool → P → Type 0} where
   not_main f k t = absurd (let z : true ≡ false = sym t ∙ ((called_after k).main ∙ f) in cc)
 
   -- the tree of a seat that isn't the main one makes no lease
-  called_left : {a b : Seen P} {Cs : List (ℕ × List ℕ)} → a.seat.main ≡ false → Called ends a Cs b → HasLeft a.seat b.seat Cs
+  called_left : {a b : Seen P} {Cs : List (ℕ × List ℕ)} → a.seat.main ≡ false → Called ends a Cs b → HasLeasesLeft a.seat b.seat Cs
   called_left f none = record { kept = λ i m. (m, λ T n. among_nil n); pairs = λ i r m. (m, λ T n. absurd (among_nil n)) }
   called_left {a = a} f (opened {Cs = Cs} b c at s k m o) = left_alone a.seat b.seat c.seat Cs (alone_opens o) (called_left f k)
   called_left {a = a} f (acquired {Cs = Cs} b c s r p k m o) = left_alone a.seat b.seat c.seat Cs (alone_acquires o) (called_left f k)
-  called_left {a = a} f (written {Cs = Cs} b c r p k m o) = subst (λ (x : Seen P). HasLeft a.seat x.seat Cs) (sym o) (let h = called_left f k in record { kept = h.kept; pairs = h.pairs })
+  called_left {a = a} f (written {Cs = Cs} b c r p k m o) = subst (λ (x : Seen P). HasLeasesLeft a.seat x.seat Cs) (sym o) (let h = called_left f k in record { kept = h.kept; pairs = h.pairs })
   called_left f (leased b c s j T k m o) = not_main f k m.main
   called_left {a = a} f (cancelled {Cs = Cs} b c j T x k m o) = left_cancelled a.seat Cs o (called_left f k)
   called_left {a = a} f (closed {Cs = Cs} b c s x k m o) = left_alone a.seat b.seat c.seat Cs (alone_closes o) (called_left f k)

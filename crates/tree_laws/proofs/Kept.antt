@@ -14,7 +14,7 @@ use Rattle.row_seat.specs.declared.view.View.{View}
 use Rattle.scope_tree.specs.declared.tree.Tree.{Tree}
 use Rattle.scope_tree.specs.Calls.{AtStart, IsClosedScope, Leases, Seen}
 use Rattle.scope_tree.specs.Trees.{IsConsistent, seen}
-use Rattle.scope_tree.specs.Words.{leasing, numbers, own_rows, words}
+use Rattle.scope_tree.specs.Trace.{leasing, numbers, own_rows, trace}
 use Rattle.res_ledger.proofs.Noted.{notes_rows, rows_notes}
 use Rattle.res_ledger.proofs.Prefixes.{front_notes}
 use Rattle.scope_tree.proofs.Keeps.{nothing_open}
@@ -46,7 +46,7 @@ module _ {P : Type 0} where
   lent_own v j T l r m =
       let t = picked_number (reaches (own v.by l.before) l.scope) r (rows (own v.by l.before)) (subst (λ x. IsAmong r x) l.rows m) in
       let n : Notes v.events v.by (Acquire r t.0) = subst (λ L. Notes L v.by (Acquire r t.0)) (sym l.stands) (front_notes (l.event ∷ l.rest) (rows_notes l.before v.by (r, t.0) t.1)) in
-      number_in r t.0 (rows (words v)) (notes_rows v.events v.by r t.0 n)
+      number_in r t.0 (rows (trace v)) (notes_rows v.events v.by r t.0 n)
 
   pub leases_lent : {a b : Seen P} {s j : ℕ} {T : List ℕ} → Leases a s j T b → Lent b.seat j T
   leases_lent {a = a} {b = b} {s = s} {j = j} o =
@@ -90,7 +90,7 @@ module _ {P : Type 0} {ends : P → Exit → Bool → P → Type 0} where
 -- a row of a closed root has ended, where no other seat holds it back
 pub closed_rows_end : {S P D : Type 0} (view : S → View P) (t : Tree S P D) → IsConsistent view t → (view t.seat).main ≡ false → IsClosedScope (seen view t) 0 → (r s : ℕ) → Notes (view t.seat).events (view t.seat).by (Acquire r s) → IsFinalized (view t.seat).events r
 closed_rows_end view t sound main closed r s n =
-    let v = view t.seat in let bs = t.branches.items in let hs = t.held.items in
+    let v = view t.seat in let bs = t.branches.items in let hs = t.acquisitions.items in
     let m = subst (λ l. IsAmong {A = ℕ × ℕ} (r, s) l) sound.kept.mirrors.rows (notes_rows v.events v.by r s n) in
     ⊎_elim
     (λ h. absurd (among_nil (subst (λ l. IsAmong {A = ℕ × _} (r, h.0) l) (nothing_open v bs hs sound.kept closed) h.1)))

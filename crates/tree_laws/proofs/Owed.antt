@@ -11,13 +11,13 @@ use Rattle.row_seat.specs.Views.{joined, noted}
 use Rattle.scope_tree.specs.Calls.{Cancels, Leases, Seen}
 use Rattle.scope_tree.specs.Leased.{leased_all}
 use Rattle.scope_tree.specs.Released.{away, said}
-use Rattle.scope_tree.specs.Words.{leasing, numbers, open_scopes, owed, words}
+use Rattle.scope_tree.specs.Trace.{leasing, numbers, open_scopes, owed, trace}
 use Rattle.scope_tree.proofs.Beneath.{closed_sound, not_true', open_pos}
 use Rattle.scope_tree.proofs.Grown.{Grown, closes_finals, grown_note, grown_release, grown_scopes, opens_finals}
 use Rattle.scope_tree.proofs.Lessee.{lease_opened}
 use Rattle.scope_tree.proofs.Owed.{nothing_owed}
 use Rattle.scope_tree.proofs.Owning.{owner_count}
-use Rattle.scope_tree.proofs.Parting.{join_words}
+use Rattle.scope_tree.proofs.Parting.{join_trace}
 use Rattle.scope_tree.proofs.Releasing.{released_most, released_spare}
 use Rattle.scope_tree.proofs.Use.{closed_now}
 use Rattle.tree_laws.specs.Owing.{OwedStays, RootOwesNothing}
@@ -47,7 +47,7 @@ module _ {P : Type 0} {ends : P → Exit → Bool → P → Type 0} where
   owed_stays = record {
     leases = leases_owe;
     splits = λ v j from to n. (refl, refl);
-    joins = λ v w a. (let e : open_scopes (words (joined v w)) ≡ open_scopes (words v) = ap open_scopes (join_words v w a) in omega (e, arith), refl);
+    joins = λ v w a. (let e : open_scopes (trace (joined v w)) ≡ open_scopes (trace v) = ap open_scopes (join_trace v w a) in omega (e, arith), refl);
     cancels = cancels_owe;
   }
 
@@ -55,11 +55,11 @@ pub root_owes_nothing : {S P D : Type 0} {ends : P → Exit → Bool → P → T
 root_owes_nothing view t u x s r root c =
     let v = view t.seat in
     let w = view u.seat in
-    let none = nothing_owed w u.branches.items u.held.items r.kept (closed_now c) in
+    let none = nothing_owed w u.branches.items u.acquisitions.items r.kept (closed_now c) in
     let count = owner_count c.torn.2 in
     let spare = released_spare c.torn.2 in
     let fewer = released_most [] c.torn.2 in
-    let all = length-append (teardown (words v) 0) [] in
-    let here' : is_closed (words v) 0 ≡ false = not_true' (is_closed (words v) 0) (λ h. root.1 (closed_sound v 0 h)) in
-    let one : 1 ≤ open_scopes (words v) = open_pos (words v) (0 ∷ numbers (opens (words v))) 0 (here (numbers (opens (words v)))) here' in
+    let all = length-append (teardown (trace v) 0) [] in
+    let here' : is_closed (trace v) 0 ≡ false = not_true' (is_closed (trace v) 0) (λ h. root.1 (closed_sound v 0 h)) in
+    let one : 1 ≤ open_scopes (trace v) = open_pos (trace v) (0 ∷ numbers (opens (trace v))) 0 (here (numbers (opens (trace v)))) here' in
     (none, omega (count, spare, fewer, all, one, arith))

@@ -9,14 +9,14 @@ use Rattle.res_ledger.specs.Own.{opens}
 use Rattle.row_seat.specs.declared.view.View.{View}
 use Rattle.row_seat.specs.Views.{AreApart, CanJoin, CanSplit, HasRow, joined, paid, split_main}
 use Rattle.scope_tree.specs.Calls.{AcquiresRow, Cancels, ClosesScope, IsClosedScope, IsOpenScope, Leases, OpensScope, Seen, WasOpened}
-use Rattle.scope_tree.specs.Words.{words}
+use Rattle.scope_tree.specs.Trace.{trace}
 
 module _ {P : Type 0} where
   -- a child of a scope at or above `at` may be opened: the root isn't closed, and there is room for one scope more
   pub record MayOpen (a : Seen P) (at : ℕ) : Type 0 where
     pub root : ¬ (IsClosedScope a 0)
     pub known : WasOpened a at
-    pub room : length (opens (words a.seat)) + 1 < a.scopes
+    pub room : length (opens (trace a.seat)) + 1 < a.scopes
 
   -- the row r may be acquired in the scope s
   pub record MayAcquire (a : Seen P) (s r : ℕ) : Type 0 where

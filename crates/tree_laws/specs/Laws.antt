@@ -18,7 +18,7 @@ use Rattle.scope_tree.specs.declared.tree.Tree.{Tree}
 use Rattle.scope_tree.specs.declared.branch.Spent.{Spent}
 use Rattle.scope_tree.specs.Released.{said}
 use Rattle.scope_tree.specs.Trees.{IsConsistent, seen}
-use Rattle.scope_tree.specs.Words.{ended_rows, own_rows, words}
+use Rattle.scope_tree.specs.Trace.{ended_rows, own_rows, trace}
 use Rattle.tree_laws.specs.Called.{Called, MayCancel, MayLease}
 use Rattle.tree_laws.specs.Alone.{HasNoMoreLeases, HasNoOthers, StaysAlone}
 use Rattle.tree_laws.specs.Ends.{AreCovered, IsFinishedLedger}
@@ -41,7 +41,7 @@ module _ {P : Type 0} (ends : P → Exit → Bool → P → Type 0) where
 
   -- since the start, with an empty shelf, the shelf has the Finals that were noted, in order
   abbrev pub ShelfIsSaid : Type 0
-  ShelfIsSaid = (a b : Seen P) (Cs : List (ℕ × List ℕ)) → AtStart a.seat → a.shelf ≡ [] → Called ends a Cs b → ended_rows (words b.seat) ≡ said b.shelf
+  ShelfIsSaid = (a b : Seen P) (Cs : List (ℕ × List ℕ)) → AtStart a.seat → a.shelf ≡ [] → Called ends a Cs b → ended_rows (trace b.seat) ≡ said b.shelf
 
   -- no row stands on the shelves of two trees of different streams, which both began with an empty one, and whose events a finished ledger has
   abbrev pub ShelvesAreApart : Type 0
@@ -49,7 +49,7 @@ module _ {P : Type 0} (ends : P → Exit → Bool → P → Type 0) where
 
   -- each of these Finals has the exit that the row on the shelf was finished with
   abbrev pub ShelfHasExits : Type 0
-  ShelfHasExits = (a b : Seen P) (Cs : List (ℕ × List ℕ)) → AtStart a.seat → a.shelf ≡ [] → Called ends a Cs b → noted_ends (words b.seat) ≡ shelf_ends b.shelf
+  ShelfHasExits = (a b : Seen P) (Cs : List (ℕ × List ℕ)) → AtStart a.seat → a.shelf ≡ [] → Called ends a Cs b → noted_ends (trace b.seat) ≡ shelf_ends b.shelf
 
   -- since the start, the stamps of the stream's events rise
   abbrev pub StampsRise : Type 0
@@ -57,7 +57,7 @@ module _ {P : Type 0} (ends : P → Exit → Bool → P → Type 0) where
 
   -- since the start, the scopes are no more than there was room for, which stays
   abbrev pub ScopesFit : Type 0
-  ScopesFit = (a b : Seen P) (Cs : List (ℕ × List ℕ)) → AtStart a.seat → 1 ≤ a.scopes → Called ends a Cs b → (length (opens (words b.seat)) + 1 ≤ b.scopes) × (b.scopes ≡ a.scopes) × (b.rows ≡ a.rows)
+  ScopesFit = (a b : Seen P) (Cs : List (ℕ × List ℕ)) → AtStart a.seat → 1 ≤ a.scopes → Called ends a Cs b → (length (opens (trace b.seat)) + 1 ≤ b.scopes) × (b.scopes ≡ a.scopes) × (b.rows ≡ a.rows)
 
   -- what was noted stays noted, in the same name
   abbrev pub EventsStay : Type 0

@@ -6,7 +6,7 @@ use Rattle.row_seat.specs.Views.{AreApart, joined, split_main}
 use Rattle.scope_tree.specs.Calls.{Cancels, ClosesScope, IsOpenScope, Leases, Seen}
 use Rattle.scope_tree.specs.Released.{away}
 use Rattle.scope_tree.specs.Trees.{IsConsistent, seen}
-use Rattle.scope_tree.specs.Words.{owed}
+use Rattle.scope_tree.specs.Trace.{owed}
 use Rattle.scope_tree.specs.declared.tree.Tree.{Tree}
 
 -- a lease, a split, a join and a cancellation owe no more and no less; what they take of the spare events, or give

@@ -11,7 +11,7 @@ use Rattle.scope_tree.specs.declared.branch.Spent.{Spent}
 use Rattle.scope_tree.specs.Rows.{Once}
 use Rattle.scope_tree.specs.Released.{said}
 use Rattle.scope_tree.specs.Calls.{Seen, OpensScope, AcquiresRow, ClosesScope}
-use Rattle.scope_tree.specs.Words.{words}
+use Rattle.scope_tree.specs.Trace.{trace}
 use Rattle.scope_tree.proofs.Once.{once_pay}
 use Rattle.scope_tree.proofs.Use.{closed_said, closed_picks, closed_by, all_picked, no_cover, leases}
 use Rattle.chunk_core.specs.declared.code.Exit.{Exit}
@@ -29,10 +29,10 @@ leases_finals x [] = refl
 leases_finals x (f ∷ fs) = leases_finals x fs
 
 module _ {P : Type 0} where
-  pub close_four : {ends : P → Exit → Bool → P → Type 0} {a b : Seen P} → words a.seat ≡ Three → (c : ClosesScope ends a 0 Succeeded b) → words b.seat ≡ Four ++ finals Succeeded (said c.torn.0)
+  pub close_four : {ends : P → Exit → Bool → P → Type 0} {a b : Seen P} → trace a.seat ≡ Three → (c : ClosesScope ends a 0 Succeeded b) → trace b.seat ≡ Four ++ finals Succeeded (said c.torn.0)
   close_four w c = closed_said c ∙ ap (λ E. E ++ Close 0 Succeeded ∷ finals Succeeded (said c.torn.0)) w
 
-  pub close_rows : {ends : P → Exit → Bool → P → Type 0} {a b : Seen P} → words a.seat ≡ Three → (c : ClosesScope ends a 0 Succeeded b) → firsts (said c.torn.0) ≡ 1 ∷ 0 ∷ []
+  pub close_rows : {ends : P → Exit → Bool → P → Type 0} {a b : Seen P} → trace a.seat ≡ Three → (c : ClosesScope ends a 0 Succeeded b) → firsts (said c.torn.0) ≡ 1 ∷ 0 ∷ []
   close_rows {a = a} {b = b} w c =
       all_picked (λ r m. no_cover b.seat a.seat.by m.0 r (closed_by c) (ap leases (close_four w c) ∙ leases_finals Succeeded (said c.torn.0)) m.1) (closed_picks c) ∙ ap (λ E. teardown E 0) w
 

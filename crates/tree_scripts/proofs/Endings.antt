@@ -20,10 +20,10 @@ use Rattle.scope_tree.specs.Leased.{pairs_for}
 use Rattle.scope_tree.specs.Rows.{Once}
 use Rattle.tree_scripts.specs.Scripts.{IsReopened, IsRootLeased, IsThree}
 use Rattle.scope_tree.specs.Released.{said}
-use Rattle.tree_scripts.specs.Waiting.{IsAlone, LeasesAndCloses, Settles, noted_by}
+use Rattle.tree_scripts.specs.Waiting.{IsAlone, LeasesAndCloses, CancelsAndFinishes, noted_by}
 use Rattle.scope_tree.specs.Walks.{FirstOpen}
 use Rattle.scope_tree.specs.Walks.FirstOpen.{above_it, this_one}
-use Rattle.scope_tree.specs.Words.{open_scopes, owed, words}
+use Rattle.scope_tree.specs.Trace.{open_scopes, owed, trace}
 use Rattle.scope_tree.proofs.Bridge.{in_noted, in_opens, noted_in, opens_in, within_cases}
 use Rattle.tree_scripts.proofs.Chain.{one_of, two_of}
 use Rattle.scope_tree.proofs.Once.{once_pay}
@@ -63,22 +63,22 @@ parent_of c p m = ⊎_elim
     (among_cons m)
 
 module _ {P : Type 0} where
-  three_words : {a : Seen P} {p q r : P} → IsThree a p q r → words a.seat ≡ before
-  three_words t = ap (λ (x : Seen P). words x.seat) t.6
+  three_trace : {a : Seen P} {p q r : P} → IsThree a p q r → trace a.seat ≡ before
+  three_trace t = ap (λ (x : Seen P). trace x.seat) t.6
 
   three_opened : {a : Seen P} {p q r : P} → IsThree a p q r → a.seat.opened ≡ (0, p) ∷ (1, q) ∷ (2, r) ∷ []
   three_opened t = ap (λ (x : Seen P). x.seat.opened) t.6
 
-  pub root_leased : {ends : P → Exit → Bool → P → Type 0} {a b : Seen P} {p q r : P} {T : List ℕ} {L : List Event} {shelf : List (Spent P)} → IsThree a p q r → Once a.seat.opened → LeasesAndCloses ends a 0 5 T Errored b → Settles ends b 5 T Canceled L shelf → IsRootLeased ends p q r L shelf
+  pub root_leased : {ends : P → Exit → Bool → P → Type 0} {a b : Seen P} {p q r : P} {T : List ℕ} {L : List Event} {shelf : List (Spent P)} → IsThree a p q r → Once a.seat.opened → LeasesAndCloses ends a 0 5 T Errored b → CancelsAndFinishes ends b 5 T Canceled L shelf → IsRootLeased ends p q r L shelf
   root_leased {ends = ends} {a = a} {b = b} {p = p} {q = q} {r = r} {T = T} t once lc s =
       let o = lc.1 in let c = lc.2 in let xs = c.torn.0 in
-      let T_is : T ≡ 0 ∷ 1 ∷ [] = o.covered ∙ ap (λ E. leased_rows E 0) (three_words t) in
-      let wm : words lc.0.seat ≡ before ++ Lease 5 0 ∷ [] = leased_said o ∙ ap (λ E. E ++ Lease 5 0 ∷ []) (three_words t) in
+      let T_is : T ≡ 0 ∷ 1 ∷ [] = o.covered ∙ ap (λ E. leased_rows E 0) (three_trace t) in
+      let wm : trace lc.0.seat ≡ before ++ Lease 5 0 ∷ [] = leased_said o ∙ ap (λ E. E ++ Lease 5 0 ∷ []) (three_trace t) in
       let out : lc.0.seat.out ≡ [] = ap (λ v. v.out) o.seat ∙ ap (λ (x : Seen P). x.seat.out) t.6 in
       let pairs : lc.0.seat.pairs ≡ (5, 0) ∷ (5, 1) ∷ [] = ap (λ v. v.pairs) o.seat ∙ ap (λ (x : Seen P). x.seat.pairs ++ pairs_for 5 T) t.6 ∙ ap (pairs_for 5) T_is in
-      let rows : firsts (said xs) ≡ 2 ∷ [] = close_unleased c out ∙ ap (λ l. unleased l (teardown (words lc.0.seat) 0)) pairs ∙ ap (λ E. unleased ((5, 0) ∷ (5, 1) ∷ []) (teardown E 0)) wm in
+      let rows : firsts (said xs) ≡ 2 ∷ [] = close_unleased c out ∙ ap (λ l. unleased l (teardown (trace lc.0.seat) 0)) pairs ∙ ap (λ E. unleased ((5, 0) ∷ (5, 1) ∷ []) (teardown E 0)) wm in
       let x = one_of xs 2 rows in let y = two_of s.last 1 0 (s.rows ∙ ap reverse T_is) in
-      let wb : words b.seat ≡ before ++ Lease 5 0 ∷ Close 0 Errored ∷ Final 2 Errored x.0.ok ∷ [] = closed_said c ∙ ap (λ E. E ++ Close 0 Errored ∷ finals Errored (said xs)) wm ∙ ap (λ l. before ++ Lease 5 0 ∷ Close 0 Errored ∷ finals Errored (said l)) x.1 ∙ ap (λ i. before ++ Lease 5 0 ∷ Close 0 Errored ∷ Final i Errored x.0.ok ∷ []) x.2 in
+      let wb : trace b.seat ≡ before ++ Lease 5 0 ∷ Close 0 Errored ∷ Final 2 Errored x.0.ok ∷ [] = closed_said c ∙ ap (λ E. E ++ Close 0 Errored ∷ finals Errored (said xs)) wm ∙ ap (λ l. before ++ Lease 5 0 ∷ Close 0 Errored ∷ finals Errored (said l)) x.1 ∙ ap (λ i. before ++ Lease 5 0 ∷ Close 0 Errored ∷ Final i Errored x.0.ok ∷ []) x.2 in
       let by : b.seat.by ≡ Outer = closed_by c ∙ ap (λ v. v.by) o.seat ∙ ap (λ (x : Seen P). x.seat.by) t.6 in
       let shelf : b.shelf ≡ x.0 ∷ [] = c.torn.1 ∙ ap (λ l. l ++ xs) (o.shelf ∙ ap (λ (x : Seen P). x.shelf) t.6) ∙ x.1 in
       let opened : lc.0.seat.opened ≡ a.seat.opened = ap (λ v. v.opened) o.seat in
@@ -100,15 +100,15 @@ module _ {P : Type 0} where
           up.1,
         );
         shelf_is = s.shelf_is ∙ ap (λ l. l ++ s.last) shelf ∙ ap (λ l. x.0 ∷ l) y.2;
-        ledger = s.ledger ∙ ap (λ k. stamped 0 (noted_by k (words b.seat ++ Cancel 5 Canceled ∷ finals Canceled (said s.last)))) by ∙ ap (λ E. stamped 0 (noted_by Outer (E ++ Cancel 5 Canceled ∷ finals Canceled (said s.last)))) wb ∙ ap (λ l. stamped 0 (noted_by Outer (before ++ Lease 5 0 ∷ Close 0 Errored ∷ Final 2 Errored x.0.ok ∷ Cancel 5 Canceled ∷ finals Canceled (said l)))) y.2
+        ledger = s.ledger ∙ ap (λ k. stamped 0 (noted_by k (trace b.seat ++ Cancel 5 Canceled ∷ finals Canceled (said s.last)))) by ∙ ap (λ E. stamped 0 (noted_by Outer (E ++ Cancel 5 Canceled ∷ finals Canceled (said s.last)))) wb ∙ ap (λ l. stamped 0 (noted_by Outer (before ++ Lease 5 0 ∷ Close 0 Errored ∷ Final 2 Errored x.0.ok ∷ Cancel 5 Canceled ∷ finals Canceled (said l)))) y.2
             ∙ ap (λ i. stamped 0 (noted_by Outer (before ++ Lease 5 0 ∷ Close 0 Errored ∷ Final 2 Errored x.0.ok ∷ Cancel 5 Canceled ∷ Final i Canceled y.0.ok ∷ Final y.1.row Canceled y.1.ok ∷ []))) y.3 ∙ ap (λ i. stamped 0 (noted_by Outer (before ++ Lease 5 0 ∷ Close 0 Errored ∷ Final 2 Errored x.0.ok ∷ Cancel 5 Canceled ∷ Final 1 Canceled y.0.ok ∷ Final i Canceled y.1.ok ∷ []))) y.4;
       }
 
   -- the root isn't closed where neither a close nor an opening names it
-  root_unclosed : (v : View P) → ¬ (IsAmong 0 (closes (words v))) → ((p : ℕ) → ¬ (IsAmong {A = ℕ × ℕ} (0, p) (opens (words v)))) → ¬ (IsClosed v.events v.by 0)
+  root_unclosed : (v : View P) → ¬ (IsAmong 0 (closes (trace v))) → ((p : ℕ) → ¬ (IsAmong {A = ℕ × ℕ} (0, p) (opens (trace v)))) → ¬ (IsClosed v.events v.by 0)
   root_unclosed v c o x = ⊎_elim
-      (λ e. c (subst (λ z. IsAmong z (closes (words v))) (sym e) (notes_closes v.events v.by x.0 x.2)))
-      (λ y. o y.0 (opens_in 0 y.0 (words v) (noted_in v.by (Open 0 y.0) v.events y.1)))
+      (λ e. c (subst (λ z. IsAmong z (closes (trace v))) (sym e) (notes_closes v.events v.by x.0 x.2)))
+      (λ y. o y.0 (opens_in 0 y.0 (trace v) (noted_in v.by (Open 0 y.0) v.events y.1)))
       (within_cases x.1)
 
   open_alone : {a b : Seen P} {at c : ℕ} → OpensScope a at c b → IsAlone a.seat → IsAlone b.seat
@@ -116,39 +116,39 @@ module _ {P : Type 0} where
 
   module _ {ends : P → Exit → Bool → P → Type 0} {a m : Seen P} {p q r : P} (t : IsThree a p q r) (c : ClosesScope ends a 1 Errored m) where
     rows_two : firsts (said c.torn.0) ≡ 2 ∷ 1 ∷ []
-    rows_two = close_unleased c (ap (λ (x : Seen P). x.seat.out) t.6) ∙ ap (λ l. unleased l (teardown (words a.seat) 1)) (ap (λ (x : Seen P). x.seat.pairs) t.6) ∙ ap (λ E. unleased [] (teardown E 1)) (three_words t)
+    rows_two = close_unleased c (ap (λ (x : Seen P). x.seat.out) t.6) ∙ ap (λ l. unleased l (teardown (trace a.seat) 1)) (ap (λ (x : Seen P). x.seat.pairs) t.6) ∙ ap (λ E. unleased [] (teardown E 1)) (three_trace t)
 
-    pub ended_two : (x y : Bool) × (words m.seat ≡ closed_two x y)
+    pub ended_two : (x y : Bool) × (trace m.seat ≡ closed_two x y)
     ended_two =
         let z = two_of c.torn.0 2 1 rows_two in (
           z.0.ok,
           z.1.ok,
-          closed_said c ∙ ap (λ E. E ++ Close 1 Errored ∷ finals Errored (said c.torn.0)) (three_words t) ∙ ap (λ l. before ++ Close 1 Errored ∷ finals Errored (said l)) z.2
+          closed_said c ∙ ap (λ E. E ++ Close 1 Errored ∷ finals Errored (said c.torn.0)) (three_trace t) ∙ ap (λ l. before ++ Close 1 Errored ∷ finals Errored (said l)) z.2
               ∙ ap (λ i. before ++ Close 1 Errored ∷ Final i Errored z.0.ok ∷ Final z.1.row Errored z.1.ok ∷ []) z.3 ∙ ap (λ i. before ++ Close 1 Errored ∷ Final 2 Errored z.0.ok ∷ Final i Errored z.1.ok ∷ []) z.4,
         )
 
-    two_closes : closes (words m.seat) ≡ 1 ∷ []
+    two_closes : closes (trace m.seat) ≡ 1 ∷ []
     two_closes = ap closes ended_two.2
 
-    two_opens : opens (words m.seat) ≡ (1, 0) ∷ (2, 1) ∷ []
+    two_opens : opens (trace m.seat) ≡ (1, 0) ∷ (2, 1) ∷ []
     two_opens = ap opens ended_two.2
 
     pub two_root : ¬ (IsClosedScope m 0)
     two_root = root_unclosed m.seat (λ i. no_root (subst (λ l. IsAmong 0 l) two_closes i)) (λ z i. no_root_opened z ((1, 0) ∷ (2, 1) ∷ []) (lit≤ tt, (lit≤ tt, tt)) (subst (λ l. IsAmong (0, z) l) two_opens i))
 
     noted_open : (s z : ℕ) → IsAmong {A = ℕ × ℕ} (s, z) ((1, 0) ∷ (2, 1) ∷ []) → Notes m.seat.events m.seat.by (Open s z)
-    noted_open s z i = in_noted m.seat.by (Open s z) m.seat.events (in_opens s z (words m.seat) (subst (λ l. IsAmong (s, z) l) (sym two_opens) i))
+    noted_open s z i = in_noted m.seat.by (Open s z) m.seat.events (in_opens s z (trace m.seat) (subst (λ l. IsAmong (s, z) l) (sym two_opens) i))
 
     pub two_opened : WasOpened m 2
     two_opened = inr (1, noted_open 2 1 (there (1, 0) (here [])))
 
-    pub two_room : m.scopes ≡ a.scopes → length (opens (words m.seat)) + 1 < m.scopes
-    two_room e = let s : m.scopes ≡ 4 = e ∙ ap (λ (x : Seen P). x.scopes) t.6 in let o : length (opens (words m.seat)) ≡ 2 = ap length two_opens in omega (s, o, arith)
+    pub two_room : m.scopes ≡ a.scopes → length (opens (trace m.seat)) + 1 < m.scopes
+    two_room e = let s : m.scopes ≡ 4 = e ∙ ap (λ (x : Seen P). x.scopes) t.6 in let o : length (opens (trace m.seat)) ≡ 2 = ap length two_opens in omega (s, o, arith)
 
     pub two_free : owed m.seat + 2 ≤ m.seat.spare
     two_free =
-        let o : open_scopes (words m.seat) ≡ 1 = ap open_scopes ended_two.2 in
-        let T : length (teardown (words a.seat) 1) ≡ 2 = ap (λ E. length (teardown E 1)) (three_words t) in
+        let o : open_scopes (trace m.seat) ≡ 1 = ap open_scopes ended_two.2 in
+        let T : length (teardown (trace a.seat) 1) ≡ 2 = ap (λ E. length (teardown E 1)) (three_trace t) in
         let n : length a.seat.opened ≡ 3 = ap length (three_opened t) in
         let d = owner_count c.torn.2 in let s = released_spare c.torn.2 in
         let z : a.seat.spare ≡ 11 = ap (λ (x : Seen P). x.seat.spare) t.6 in
@@ -162,7 +162,7 @@ module _ {P : Type 0} where
     closed_one = (1, same 1, noted_close)
 
     parent_in : (s z : ℕ) → Notes m.seat.events m.seat.by (Open s z) → s ≡ z + 1
-    parent_in s z n = parent_of s z (subst (λ l. IsAmong (s, z) l) two_opens (opens_in s z (words m.seat) (noted_in m.seat.by (Open s z) m.seat.events n)))
+    parent_in s z n = parent_of s z (subst (λ l. IsAmong (s, z) l) two_opens (opens_in s z (trace m.seat) (noted_in m.seat.by (Open s z) m.seat.events n)))
 
     module _ {b : Seen P} {s : ℕ} (o : OpensScope m 2 s b) where
       pub three_number : s ≡ 3
@@ -178,11 +178,11 @@ module _ {P : Type 0} where
 
       pub reopened : IsReopened b
       reopened =
-          let w : words b.seat ≡ closed_two ended_two.0 ended_two.1 ++ Open 3 0 ∷ [] = opened_said o ∙ ap (λ E. E ++ Open s o.parent ∷ []) ended_two.2 ∙ ap (λ i. closed_two ended_two.0 ended_two.1 ++ Open i o.parent ∷ []) three_number ∙ ap (λ i. closed_two ended_two.0 ended_two.1 ++ Open 3 i ∷ []) three_parent in
+          let w : trace b.seat ≡ closed_two ended_two.0 ended_two.1 ++ Open 3 0 ∷ [] = opened_said o ∙ ap (λ E. E ++ Open s o.parent ∷ []) ended_two.2 ∙ ap (λ i. closed_two ended_two.0 ended_two.1 ++ Open i o.parent ∷ []) three_number ∙ ap (λ i. closed_two ended_two.0 ended_two.1 ++ Open 3 i ∷ []) three_parent in
           record {
             low = ended_two.0;
             middle = ended_two.1;
-            words_are = w;
+            trace_is = w;
             root = (inl refl, root_unclosed b.seat (λ i. no_root (subst (λ l. IsAmong 0 l) (ap closes w) i)) (λ z i. no_root_opened z ((1, 0) ∷ (2, 1) ∷ (3, 0) ∷ []) (lit≤ tt, (lit≤ tt, (lit≤ tt, tt))) (subst (λ l. IsAmong (0, z) l) (ap opens w) i)));
             alone = open_alone o (close_alone c (three_alone t));
           }

@@ -25,8 +25,8 @@ use Rattle.scope_tree.specs.Kept.{Shelved}
 use Rattle.std.specs.List.{IsDistinct}
 use Rattle.scope_tree.specs.Released.{said}
 use Rattle.scope_tree.specs.Rights.{HasNoLeaseBut}
-use Rattle.tree_scripts.specs.Waiting.{NotesAlone, Settles, Waits, noted_by}
-use Rattle.scope_tree.specs.Words.{canceling, ends_of, words}
+use Rattle.tree_scripts.specs.Waiting.{NotesAlone, CancelsAndFinishes, WaitsForCancel, noted_by}
+use Rattle.scope_tree.specs.Trace.{canceling, ends_of, trace}
 use Rattle.scope_tree.proofs.Bridge.{in_noted, in_rows, noted_in}
 use Rattle.scope_tree.proofs.Distinct.{picks_among}
 use Rattle.chunk_core.proofs.Reversed.{among_reverse, reverse_among}
@@ -78,13 +78,13 @@ module _ {P : Type 0} where
   no_leases v p k = record { kept = λ j m. absurd (among_nil (subst (λ l. IsAmong j l) k m)); pairs = λ j r m. absurd (among_nil (subst (λ l. IsAmong (j, r) l) p m)) }
 
   -- the ledger of a seat with no events but its own has what it noted
-  pub ledger_stamped : (v : View P) (L : List Event) → IsLedgerOf v L → NotesAlone v → Rises (by_stream v.by v.events) → L ≡ stamped 0 (noted_by v.by (words v))
+  pub ledger_stamped : (v : View P) (L : List Event) → IsLedgerOf v L → NotesAlone v → Rises (by_stream v.by v.events) → L ≡ stamped 0 (noted_by v.by (trace v))
   ledger_stamped v L is a r =
-      let mine : own v.by L ≡ words v = own_by v.by L ∙ ap (map (λ (e : Event). e.what)) (ledger_by v L v.by is r) ∙ sym (own_by v.by v.events) in
+      let mine : own v.by L ≡ trace v = own_by v.by L ∙ ap (map (λ (e : Event). e.what)) (ledger_by v L v.by is r) ∙ sym (own_by v.by v.events) in
       stamped_is v.by [] L is.stamped (λ e m. a e ((is.whole e).0 m)) ∙ ap (λ E. stamped 0 (noted_by v.by E)) mine
 
   module _ {ends : P → Exit → Bool → P → Type 0} {x : Exit} {a b : Seen P} {j : ℕ} {T : List ℕ} (c : Cancels ends a j T x b) where
-    module _ (w : Waits a j T) where
+    module _ (w : WaitsForCancel a j T) where
       pub cancel_rest : (b.seat.main ≡ true) × (b.seat.pairs ≡ []) × (b.seat.kept ≡ []) × (b.seat.out ≡ [])
       cancel_rest =
           let f = cancel_follows c in (
@@ -95,27 +95,27 @@ module _ {P : Type 0} where
           )
 
       -- each row of the lease ends
-      pub cancel_settles : (hs : List AcquiredRow) (L : List Event) → Shelved a.seat hs a.shelf → IsDistinct nat_eq T → IsLedgerOf b.seat L → Rises (by_stream b.seat.by b.seat.events) → Settles ends a j T x L b.shelf
+      pub cancel_settles : (hs : List AcquiredRow) (L : List Event) → Shelved a.seat hs a.shelf → IsDistinct nat_eq T → IsLedgerOf b.seat L → Rises (by_stream b.seat.by b.seat.events) → CancelsAndFinishes ends a j T x L b.shelf
       cancel_settles hs L sh d is ri =
           let g = cancel_follows c in let xs = c.left.0 in
           let alone : NotesAlone b.seat = follows_alone g (alone_more a.seat c.stamp (Cancel j x) w.events) in
           let said' = canceled_said c in
           let all : (r : ℕ) → IsAmong r (reverse T) → IsAmong r (firsts (said xs)) = λ r m.
           let m' = among_reverse r T m in
-          let t = number_among r (rows (words a.seat)) (w.rows r m') in
-          let acq = in_noted a.seat.by (Acquire r t.0) a.seat.events (in_rows r t.0 (words a.seat) t.1) in
+          let t = number_among r (rows (trace a.seat)) (w.rows r m') in
+          let acq = in_noted a.seat.by (Acquire r t.0) a.seat.events (in_rows r t.0 (trace a.seat) t.1) in
           let acq' : Notes b.seat.events a.seat.by (Acquire r t.0) = follows_noted g (noted_more a.seat.events (canceling a.seat j x c.stamp) acq) in
           let f = is.ended r (a.seat.by, t.0, (acq'.0, (is.whole acq'.0).1 acq'.1, acq'.2, acq'.3)) in
           let y = f.2.0 in let e = f.2.1.0 in let em = (is.whole e).0 f.2.1.1 in
-          let fin : IsAmong (Final r y f.1) (words b.seat) = noted_in b.seat.by (Final r y f.1) b.seat.events (e, em, alone e em, f.2.1.3) in
+          let fin : IsAmong (Final r y f.1) (trace b.seat) = noted_in b.seat.by (Final r y f.1) b.seat.events (e, em, alone e em, f.2.1.3) in
           ⊎_elim
-          (λ o. absurd (sh.pairs j r (subst (λ l. IsAmong (j, r) l) (sym w.pairs) (among_pairs j r T m')) (first_of_said r f.1 (said a.shelf) (subst (λ l. IsAmong (r, f.1) l) sh.said_are (flat_holds ends_of (Final r y f.1) (words a.seat) (r, f.1) o (here []))))))
+          (λ o. absurd (sh.pairs j r (subst (λ l. IsAmong (j, r) l) (sym w.pairs) (among_pairs j r T m')) (first_of_said r f.1 (said a.shelf) (subst (λ l. IsAmong (r, f.1) l) sh.said_are (flat_holds ends_of (Final r y f.1) (trace a.seat) (r, f.1) o (here []))))))
           (λ o. ⊎_elim (λ z. absurd (cancel_final j r x y f.1 z)) (λ z. final_among r y x f.1 (said xs) z) (among_cons o))
-          (among_append (Final r y f.1) (words a.seat) (Cancel j x ∷ finals x (said xs)) (subst (λ E. IsAmong (Final r y f.1) E) said' fin)) in
+          (among_append (Final r y f.1) (trace a.seat) (Cancel j x ∷ finals x (said xs)) (subst (λ E. IsAmong (Final r y f.1) E) said' fin)) in
           record {
             last = xs;
             shelf_is = c.left.1;
             rows = picks_all (released_picks c.left.2) (distinct_reverse T d) all;
             pays = λ y m. lease_pays y c.left.2 m;
-            ledger = ledger_stamped b.seat L is alone ri ∙ ap (λ k. stamped 0 (noted_by k (words b.seat))) (same_by g) ∙ ap (λ E. stamped 0 (noted_by a.seat.by E)) said';
+            ledger = ledger_stamped b.seat L is alone ri ∙ ap (λ k. stamped 0 (noted_by k (trace b.seat))) (same_by g) ∙ ap (λ E. stamped 0 (noted_by a.seat.by E)) said';
           }

@@ -16,7 +16,7 @@ use Rattle.row_seat.specs.Views.{IsLedgerOf}
 use Rattle.scope_tree.specs.Calls.{Cancels, ClosesScope, Leases, Seen}
 use Rattle.scope_tree.specs.Released.{away, said}
 use Rattle.scope_tree.specs.Rights.{HasNoLeaseBut, IsSameSeat}
-use Rattle.scope_tree.specs.Words.{owed}
+use Rattle.scope_tree.specs.Trace.{owed}
 use Rattle.scope_tree.proofs.Lists.{away_le}
 use Rattle.scope_tree.proofs.Use.{cancel_ends, none_owed}
 use Rattle.tree_scripts.specs.Short.{HasTwoRows, IsLeasedAndCanceled}
@@ -25,7 +25,7 @@ use Rattle.tree_scripts.proofs.Telling.{Tells, cancel_tells, close_tells, close_
 
 module _ {P : Type 0} {a m : Seen P} {T : List ℕ} (h : HasTwoRows a) where
   covers_two : Leases a 0 7 T m → T ≡ 0 ∷ 1 ∷ []
-  covers_two o = o.covered ∙ ap (λ E. leased_rows E 0) h.words_are
+  covers_two o = o.covered ∙ ap (λ E. leased_rows E 0) h.trace_is
 
   -- once the root is closed there is room for the end of the lease
   pub cancel_free : {ends : P → Exit → Bool → P → Type 0} {b : Seen P} → Leases a 0 7 T m → owed m.seat ≡ owed a.seat → ClosesScope ends m 0 Succeeded b → m.seat.spare + owed b.seat ≤ b.seat.spare + owed m.seat → owed b.seat ≡ 0 → owed b.seat + 1 + away T b.seat.opened ≤ b.seat.spare
@@ -35,7 +35,7 @@ module _ {P : Type 0} {a m : Seen P} {T : List ℕ} (h : HasTwoRows a) where
   pub leased_and_canceled : {ends : P → Exit → Bool → P → Type 0} {b d : Seen P} {j : ℕ} {L : List Event} → j ≡ 7 → Leases a 0 7 T m → IsSameSeat a.seat m.seat → ((r : ℕ) → IsAmong r T → IsAmong (j, r) m.seat.pairs) → ClosesScope ends m 0 Succeeded b → IsSameSeat m.seat b.seat → owed b.seat ≡ 0
       → HasNoLeaseBut b.seat ((j, T) ∷ []) → Cancels ends b j T Succeeded d → IsLedgerOf d.seat L → Rises (by_stream d.seat.by d.seat.events) → IsLeasedAndCanceled Succeeded L
   leased_and_canceled {b = b} {d = d} {j = j} {L = L} e o sm pairs k sb none only q is rises =
-      let t3 : Tells Outer (Open 1 0 ∷ Acquire 0 0 ∷ Acquire 1 1 ∷ []) a.seat = record { by = h.by; said = h.words_are; alone = h.events } in
+      let t3 : Tells Outer (Open 1 0 ∷ Acquire 0 0 ∷ Acquire 1 1 ∷ []) a.seat = record { by = h.by; said = h.trace_is; alone = h.events } in
       let t4 = lease_tells t3 o in let rows = covers_two o in let main = sm.main ∙ h.main in let out = sm.out ∙ h.out in
       let waits = close_waits k out (λ r i. (j, pairs r (subst (λ l. IsAmong r l) (sym rows) (among_reverse r (0 ∷ 1 ∷ []) (subst (λ l. IsAmong r l) (ap (λ E. teardown E 0) t4.said) i))))) in
       let t5 = subst (λ fs. Tells Outer (Open 1 0 ∷ Acquire 0 0 ∷ Acquire 1 1 ∷ Lease 7 0 ∷ Close 0 Succeeded ∷ finals Succeeded fs) b.seat) waits (close_tells t4 k) in

@@ -18,7 +18,7 @@ use Rattle.row_seat.specs.Views.{HasPair, IsLedgerOf}
 use Rattle.scope_tree.specs.Calls.{AcquiresRow, AtStart, Cancels, ClosesScope, Leases, OpensScope, Seen}
 use Rattle.scope_tree.specs.Leased.{leased_all}
 use Rattle.scope_tree.specs.Released.{said}
-use Rattle.scope_tree.specs.Words.{words}
+use Rattle.scope_tree.specs.Trace.{trace}
 use Rattle.scope_tree.proofs.Follows.{follows_alone, same_by}
 use Rattle.scope_tree.proofs.Use.{acquired_said, cancel_follows, canceled_said, close_follows, closed_by, closed_said, leased_said, open_one, opened_said, start_said}
 use Rattle.tree_scripts.specs.Waiting.{NotesAlone, noted_by}
@@ -30,7 +30,7 @@ use Rattle.tree_scripts.proofs.Waits.{close_unleased}
 -- the seat of the stream k has the events E of that stream, and no others
 pub record Tells {P : Type 0} (k : StreamNo) (E : List What) (v : View P) : Type 0 where
   pub by : v.by ≡ k
-  pub said : words v ≡ E
+  pub said : trace v ≡ E
   pub alone : NotesAlone v
 
 module _ {P : Type 0} {k : StreamNo} where
@@ -80,7 +80,7 @@ module _ {P : Type 0} {k : StreamNo} {E : List What} where
   pub ledger_tells : {v w : View P} (L : List Event) → Tells k E v → w ≡ v → IsLedgerOf w L → Rises (by_stream w.by w.events) → L ≡ stamped 0 (noted_by k E)
   ledger_tells {v = v} {w = w} L t e is r =
       let a : NotesAlone w = subst NotesAlone (sym e) t.alone in
-      ledger_stamped w L is a r ∙ ap (λ z. stamped 0 (noted_by z.by (words z))) e ∙ ap (λ q. stamped 0 (noted_by q (words v))) t.by ∙ ap (λ l. stamped 0 (noted_by k l)) t.said
+      ledger_stamped w L is a r ∙ ap (λ z. stamped 0 (noted_by z.by (trace z))) e ∙ ap (λ q. stamped 0 (noted_by q (trace v))) t.by ∙ ap (λ l. stamped 0 (noted_by k l)) t.said
 
 unleased_all : {P : Type 0} (v : View P) (T : List ℕ) → ((r : ℕ) → IsAmong r T → HasPair v r) → unleased v.pairs T ≡ []
 unleased_all v [] h = refl
@@ -91,8 +91,8 @@ none_said [] e = refl
 none_said (f ∷ fs) e = absurd (let q : f.0 ∷ firsts fs ≡ [] = e in cc)
 
 -- where no seat is out, a close whose rows are all leased ends none
-pub close_waits : {P : Type 0} {ends : P → Exit → Bool → P → Type 0} {x : Exit} {a b : Seen P} {s : ℕ} (c : ClosesScope ends a s x b) → a.seat.out ≡ [] → ((r : ℕ) → IsAmong r (teardown (words a.seat) s) → HasPair a.seat r) → said c.torn.0 ≡ []
-close_waits {a = a} {s = s} c o h = none_said (said c.torn.0) (close_unleased c o ∙ unleased_all a.seat (teardown (words a.seat) s) h)
+pub close_waits : {P : Type 0} {ends : P → Exit → Bool → P → Type 0} {x : Exit} {a b : Seen P} {s : ℕ} (c : ClosesScope ends a s x b) → a.seat.out ≡ [] → ((r : ℕ) → IsAmong r (teardown (trace a.seat) s) → HasPair a.seat r) → said c.torn.0 ≡ []
+close_waits {a = a} {s = s} c o h = none_said (said c.torn.0) (close_unleased c o ∙ unleased_all a.seat (teardown (trace a.seat) s) h)
 
 -- two rows that ended, with their outcomes
 pub two_ended : (fs : List (ℕ × Bool)) (i j : ℕ) → firsts fs ≡ i ∷ j ∷ [] → (a b : Bool) × (fs ≡ (i, a) ∷ (j, b) ∷ [])

@@ -11,9 +11,9 @@ use Rattle.res_ledger.specs.Own.{leased_of, opens}
 use Rattle.row_seat.specs.declared.view.View.{View}
 use Rattle.row_seat.specs.Views.{HasRow, start}
 use Rattle.scope_tree.specs.Calls.{AcquiresRow, AtStart, IsOpenScope, OpensScope, Seen}
-use Rattle.tree_scripts.specs.Scripts.{IsThree, at_first, three, after_acquire, with_scope}
+use Rattle.tree_scripts.specs.Scripts.{IsThree, at_first, three, after_acquire, after_open}
 use Rattle.tree_scripts.specs.Waiting.{IsAlone}
-use Rattle.scope_tree.specs.Words.{words}
+use Rattle.scope_tree.specs.Trace.{trace}
 use Rattle.scope_tree.proofs.Use.{all_open, first_is as first_open_is, seen_is}
 use Rattle.chunk_core.proofs.Members.{among_nil}
 use Rattle.chunk_core.proofs.Each.{among_each}
@@ -36,11 +36,11 @@ module _ {P : Type 0} where
   pub acquires_is : {a b : Seen P} {s r : ℕ} {p : P} (A : Seen P) → a ≡ A → (o : AcquiresRow a s r p b) → b ≡ after_acquire A r s o.stamp p
   acquires_is {a = a} {b = b} {s = s} {r = r} {p = p} A e o = seen_is a b _ o.seat o.shelf o.scopes o.rows ∙ ap (λ x. after_acquire x r s o.stamp p) e
 
-  pub opens_is : {a b : Seen P} {at c : ℕ} (A : Seen P) → a ≡ A → ¬ (IsClosed A.seat.events A.seat.by at) → (o : OpensScope a at c b) → b ≡ with_scope A (length (opens (words A.seat)) + 1) at o.stamp
+  pub opens_is : {a b : Seen P} {at c : ℕ} (A : Seen P) → a ≡ A → ¬ (IsClosed A.seat.events A.seat.by at) → (o : OpensScope a at c b) → b ≡ after_open A (length (opens (trace A.seat)) + 1) at o.stamp
   opens_is {a = a} {b = b} {at = at} {c = c} A e n o =
       let q : o.parent ≡ at = first_open_is (subst (λ x. ¬ (IsClosed x.seat.events x.seat.by at)) (sym e) n) o.nearest in
       seen_is a b _ o.seat o.shelf o.scopes o.rows
-      ∙ ap (λ i. with_scope a i o.parent o.stamp) o.number ∙ ap (λ i. with_scope a (length (opens (words a.seat)) + 1) i o.stamp) q ∙ ap (λ x. with_scope x (length (opens (words x.seat)) + 1) at o.stamp) e
+      ∙ ap (λ i. after_open a i o.parent o.stamp) o.number ∙ ap (λ i. after_open a (length (opens (trace a.seat)) + 1) i o.stamp) q ∙ ap (λ x. after_open x (length (opens (trace x.seat)) + 1) at o.stamp) e
 
   module _ {a : Seen P} {p q r : P} (t : IsThree a p q r) where
     abbrev pub like : Seen P

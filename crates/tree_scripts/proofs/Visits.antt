@@ -18,7 +18,7 @@ use Rattle.tree_scripts.specs.Guests.{HasVisited, IsGuest, IsHost}
 use Rattle.scope_tree.specs.Leased.{leased_all}
 use Rattle.scope_tree.specs.Rows.{strangers}
 use Rattle.scope_tree.specs.Released.{away, said}
-use Rattle.scope_tree.specs.Words.{acquiring, closing, leasing, numbers, open_scopes, owed, own_rows, words}
+use Rattle.scope_tree.specs.Trace.{acquiring, closing, leasing, numbers, open_scopes, owed, own_rows, trace}
 use Rattle.scope_tree.proofs.Bridge.{in_noted, noted_in, rows_in}
 use Rattle.scope_tree.proofs.Use.{acquire_more, all_open, cancel_follows, canceled_said, close_follows, close_pairs, closed_said, start_said}
 use Rattle.tree_scripts.proofs.Chain.{one_of}
@@ -52,8 +52,8 @@ module _ {P : Type 0} where
   pub host_acquired : {splits : ℕ} {a b : Seen P} {p : P} → a.seat ≡ start Outer 2 16 splits → (o : AcquiresRow a 0 0 p b) → b.seat ≡ host_row splits p o.stamp
   host_acquired {splits = splits} {p = p} e o = o.seat ∙ ap (λ v. placed (noted v (acquiring v 0 0 o.stamp)) 0 p) e
 
-  pub host_covers : {splits : ℕ} {v : View P} {p : P} {n : ℕ} → v ≡ host_row splits p n → leased_rows (words v) 0 ≡ 0 ∷ []
-  host_covers e = ap (λ v. leased_rows (words v) 0) e
+  pub host_covers : {splits : ℕ} {v : View P} {p : P} {n : ℕ} → v ≡ host_row splits p n → leased_rows (trace v) 0 ≡ 0 ∷ []
+  host_covers e = ap (λ v. leased_rows (trace v) 0) e
 
   pub host_leased : {splits : ℕ} {a b : Seen P} {p : P} {n : ℕ} {T : List ℕ} → a.seat ≡ host_row splits p n → (o : Leases a 0 5 T b) → b.seat ≡ host_lease splits p n o.stamp
   host_leased {a = a} {T = T} e o = o.seat ∙ ap (λ U. noted (leased_all a.seat 5 U) (leasing a.seat 5 0 o.stamp)) (o.covered ∙ host_covers e) ∙ ap (λ v. noted (leased_all v 5 (0 ∷ [])) (leasing v 5 0 o.stamp)) e
@@ -84,7 +84,7 @@ module _ {P : Type 0} where
 
   pub host_open : (a : Seen P) (v : View P) {splits : ℕ} {p : P} {n k : ℕ} → v ≡ host_lease splits p n k → a.seat ≡ split_main v 5 1 2 5 → IsOpenScope a 0
   host_open a v {splits = splits} {p = p} {n = n} {k = k} e s =
-      let f : a.seat ≡ split_main (host_lease splits p n k) 5 1 2 5 = s ∙ ap (λ x. split_main x 5 1 2 5) e in all_open a.seat 0 (ap (λ x. closes (words x)) f) (inl refl)
+      let f : a.seat ≡ split_main (host_lease splits p n k) 5 1 2 5 = s ∙ ap (λ x. split_main x 5 1 2 5) e in all_open a.seat 0 (ap (λ x. closes (trace x)) f) (inl refl)
 
   pub host_of : {ends : P → Exit → Bool → P → Type 0} {splits : ℕ} {a b : Seen P} {v : View P} {p : P} {n k : ℕ} → v ≡ host_lease splits p n k → a.seat ≡ split_main v 5 1 2 5 → ClosesScope ends a 0 Succeeded b → IsHost b.seat
   host_of {splits = splits} {a = a} {p = p} {n = n} {k = k} e s c =
@@ -113,22 +113,22 @@ module _ {P : Type 0} where
 
   -- the guest acquired the row 1
   module _ {a b : Seen P} {p : P} (g : IsGuest a.seat) (o : AcquiresRow a 0 1 p b) where
-    acquired_words : words b.seat ≡ Acquire 1 0 ∷ []
-    acquired_words = acquire_more (start_said a.seat a.seat g.start refl) o
+    acquired_trace : trace b.seat ≡ Acquire 1 0 ∷ []
+    acquired_trace = acquire_more (start_said a.seat a.seat g.start refl) o
 
     acquired_pairs : b.seat.pairs ≡ (5, 0) ∷ []
     acquired_pairs = ap (λ v. v.pairs) o.seat ∙ g.pairs
 
     pub guest_open : IsOpenScope b 0
-    guest_open = all_open b.seat 0 (ap closes acquired_words) (inl refl)
+    guest_open = all_open b.seat 0 (ap closes acquired_trace) (inl refl)
 
     -- and closed its root
     module _ {ends : P → Exit → Bool → P → Type 0} {x : Exit} {d : Seen P} (c : ClosesScope ends b 0 x d) where
       one_ended : (x : Spent P) × (c.torn.0 ≡ x ∷ []) × (x.row ≡ 1)
-      one_ended = one_of c.torn.0 1 (close_unleased c (ap (λ v. v.out) o.seat ∙ g.out) ∙ ap (λ l. unleased l (teardown (words b.seat) 0)) acquired_pairs ∙ ap (λ E. unleased ((5, 0) ∷ []) (teardown E 0)) acquired_words)
+      one_ended = one_of c.torn.0 1 (close_unleased c (ap (λ v. v.out) o.seat ∙ g.out) ∙ ap (λ l. unleased l (teardown (trace b.seat) 0)) acquired_pairs ∙ ap (λ E. unleased ((5, 0) ∷ []) (teardown E 0)) acquired_trace)
 
-      pub guest_words : (ok : Bool) × (words d.seat ≡ Acquire 1 0 ∷ Close 0 x ∷ Final 1 x ok ∷ [])
-      guest_words = let y = one_ended in (y.0.ok, closed_said c ∙ ap (λ E. E ++ Close 0 x ∷ finals x (said c.torn.0)) acquired_words ∙ ap (λ l. Acquire 1 0 ∷ Close 0 x ∷ finals x (said l)) y.1 ∙ ap (λ i. Acquire 1 0 ∷ Close 0 x ∷ Final i x y.0.ok ∷ []) y.2)
+      pub guest_trace : (ok : Bool) × (trace d.seat ≡ Acquire 1 0 ∷ Close 0 x ∷ Final 1 x ok ∷ [])
+      guest_trace = let y = one_ended in (y.0.ok, closed_said c ∙ ap (λ E. E ++ Close 0 x ∷ finals x (said c.torn.0)) acquired_trace ∙ ap (λ l. Acquire 1 0 ∷ Close 0 x ∷ finals x (said l)) y.1 ∙ ap (λ i. Acquire 1 0 ∷ Close 0 x ∷ Final i x y.0.ok ∷ []) y.2)
 
       pub guest_by : d.seat.by ≡ Inner 5
       guest_by = same_by (close_follows c) ∙ ap (λ v. v.by) o.seat ∙ g.by
@@ -144,9 +144,9 @@ module _ {P : Type 0} where
       guest_may = (
         subst (λ l. IsAmong 5 l) (sym guest_kept) (here []),
         λ by r s n.
-            let m : IsAmong {A = ℕ × ℕ} (r, s) ((1, 0) ∷ []) = subst (λ l. IsAmong (r, s) l) (ap rows guest_words.1) (rows_in r s (words d.seat) (noted_in d.seat.by (Acquire r s) d.seat.events n)) in
+            let m : IsAmong {A = ℕ × ℕ} (r, s) ((1, 0) ∷ []) = subst (λ l. IsAmong (r, s) l) (ap rows guest_trace.1) (rows_in r s (trace d.seat) (noted_in d.seat.by (Acquire r s) d.seat.events n)) in
             let e : r ≡ 1 = ⊎_elim (λ i. ap (λ y. y.0) i) (λ i. absurd (among_nil i)) (among_cons m) in
-            subst (λ i. IsFinalized d.seat.events i) (sym e) (d.seat.by, guest_words.0, (x, in_noted d.seat.by (Final 1 x guest_words.0) d.seat.events (subst (λ E. IsAmong (Final 1 x guest_words.0) E) (sym guest_words.1) (there (Acquire 1 0) (there (Close 0 x) (here [])))))),
+            subst (λ i. IsFinalized d.seat.events i) (sym e) (d.seat.by, guest_trace.0, (x, in_noted d.seat.by (Final 1 x guest_trace.0) d.seat.events (subst (λ E. IsAmong (Final 1 x guest_trace.0) E) (sym guest_trace.1) (there (Acquire 1 0) (there (Close 0 x) (here [])))))),
       )
 
       pub guest_leases : (r : ℕ) → IsAmong r (0 ∷ []) → IsAmong (5, r) d.seat.pairs
@@ -157,15 +157,15 @@ module _ {P : Type 0} where
           let x = one_ended in
           let shelf : d.shelf ≡ x.0 ∷ [] = c.torn.1 ∙ ap (λ l. l ++ c.torn.0) (o.shelf ∙ e) ∙ x.1 in
           let F : firsts (said d.shelf) ≡ 1 ∷ [] = ap (λ l. firsts (said l)) shelf ∙ ap (λ i. i ∷ []) x.2 in
-          let R : rows (words d.seat) ≡ (1, 0) ∷ [] = ap rows guest_words.1 in
+          let R : rows (trace d.seat) ≡ (1, 0) ∷ [] = ap rows guest_trace.1 in
           let u : used d ≡ 1 = ap (λ l. length l + strangers (numbers l) (firsts (said d.shelf))) R ∙ ap (λ l. 1 + strangers (1 ∷ []) l) F in
           let s : strangers (own_rows d.seat) (0 ∷ []) ≡ 1 = ap (λ l. strangers (numbers l) (0 ∷ [])) R in omega (u, s, arith)
 
       pub guest_free : owed d.seat + 1 + away (0 ∷ []) d.seat.opened ≤ d.seat.spare
       guest_free =
-          let s : open_scopes (words d.seat) ≡ 0 = ap open_scopes guest_words.1 in
+          let s : open_scopes (trace d.seat) ≡ 0 = ap open_scopes guest_trace.1 in
           let n : length b.seat.opened ≡ 1 = ap (λ v. length v.opened) o.seat ∙ ap (λ l. length (l ++ (1, p) ∷ [])) g.start.opened in
-          let T : length (teardown (words b.seat) 0) ≡ 1 = ap (λ E. length (teardown E 0)) acquired_words in
+          let T : length (teardown (trace b.seat) 0) ≡ 1 = ap (λ E. length (teardown E 0)) acquired_trace in
           let k = owner_count c.torn.2 in let l = released_spare c.torn.2 in let one : length c.torn.0 ≡ 1 = ap length one_ended.1 in
           let z : b.seat.spare ≡ a.seat.spare - 1 = ap (λ v. v.spare) o.seat in let y = g.spare in
           let w : away (0 ∷ []) d.seat.opened ≤ 1 = away_le (0 ∷ []) d.seat.opened in
@@ -176,7 +176,7 @@ module _ {P : Type 0} where
 
       -- which is what it noted
       pub guest_visited : {e : Seen P} → (let y : Exit = Errored in x ≡ y) → Cancels ends d 5 (0 ∷ []) Errored e → HasVisited e.seat
-      guest_visited i q = (guest_words.0, said q.left.0, canceled_said q ∙ ap (λ E. E ++ Cancel 5 Errored ∷ finals Errored (said q.left.0)) (guest_words.1 ∙ ap (λ y. Acquire 1 0 ∷ Close 0 y ∷ Final 1 y guest_words.0 ∷ []) i))
+      guest_visited i q = (guest_trace.0, said q.left.0, canceled_said q ∙ ap (λ E. E ++ Cancel 5 Errored ∷ finals Errored (said q.left.0)) (guest_trace.1 ∙ ap (λ y. Acquire 1 0 ∷ Close 0 y ∷ Final 1 y guest_trace.0 ∷ []) i))
 
       -- after which nothing of it is left
       pub guest_rests : {y : Exit} {e : Seen P} → Cancels ends d 5 (0 ∷ []) y e → (e.seat.by ≡ Inner 5) × (e.seat.pairs ≡ []) × (e.seat.kept ≡ [])
@@ -190,8 +190,8 @@ module _ {P : Type 0} where
   -- the guest may begin
   pub guest_begins : (a : Seen P) → IsGuest a.seat → IsOpenScope a 0 × IsAmong 1 a.seat.empty × (a.shelf ≡ [] → used a ≡ 0) × (owed a.seat + 2 ≤ a.seat.spare)
   guest_begins a g =
-      let w : words a.seat ≡ [] = start_said a.seat a.seat g.start refl in let s = g.spare in
-      let o : open_scopes (words a.seat) ≡ 1 = ap open_scopes w in let l : length a.seat.opened ≡ 0 = ap length g.start.opened in (
+      let w : trace a.seat ≡ [] = start_said a.seat a.seat g.start refl in let s = g.spare in
+      let o : open_scopes (trace a.seat) ≡ 1 = ap open_scopes w in let l : length a.seat.opened ≡ 0 = ap length g.start.opened in (
         all_open a.seat 0 (ap closes w) (inl refl),
         subst (λ l. IsAmong 1 l) (sym g.empty) (here []),
         (λ e. ap (λ E. length (rows E) + strangers (numbers (rows E)) (firsts (said a.shelf))) w ∙ ap (λ l. 0 + strangers [] (firsts (said l))) e),

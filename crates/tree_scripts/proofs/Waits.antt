@@ -21,8 +21,8 @@ use Rattle.scope_tree.specs.Kept.{Kept, Shelved}
 use Rattle.scope_tree.specs.Leased.{leased_all, pairs_for}
 use Rattle.std.specs.List.{IsDistinct}
 use Rattle.scope_tree.specs.Released.{said}
-use Rattle.tree_scripts.specs.Waiting.{IsAlone, Waits}
-use Rattle.scope_tree.specs.Words.{leasing, numbers, owed, own_rows, words}
+use Rattle.tree_scripts.specs.Waiting.{IsAlone, WaitsForCancel}
+use Rattle.scope_tree.specs.Trace.{leasing, numbers, owed, own_rows, trace}
 use Rattle.scope_tree.proofs.Bridge.{rows_append}
 use Rattle.scope_tree.proofs.Distinct.{firsts_append, length_said, said_append}
 use Rattle.scope_tree.proofs.Leased.{lease_back, lease_distinct, lease_rows_open}
@@ -61,18 +61,18 @@ module _ {P : Type 0} where
   }
 
   -- where no seat is out, it ends the rows on which no lease stands
-  pub close_unleased : {ends : P → Exit → Bool → P → Type 0} {x : Exit} {a b : Seen P} {s : ℕ} (c : ClosesScope ends a s x b) → a.seat.out ≡ [] → firsts (said c.torn.0) ≡ unleased a.seat.pairs (teardown (words a.seat) s)
+  pub close_unleased : {ends : P → Exit → Bool → P → Type 0} {x : Exit} {a b : Seen P} {s : ℕ} (c : ClosesScope ends a s x b) → a.seat.out ≡ [] → firsts (said c.torn.0) ≡ unleased a.seat.pairs (teardown (trace a.seat) s)
   close_unleased c o = owner_unleased c.torn.2 o
 
   -- what was open and isn't is taken down
-  pub close_takes : {ends : P → Exit → Bool → P → Type 0} {x : Exit} {a b : Seen P} {s : ℕ} (r : ℕ) → ClosesScope ends a s x b → HasRow a.seat.opened r → ¬ (HasRow b.seat.opened r) → IsAmong r (teardown (words a.seat) s)
+  pub close_takes : {ends : P → Exit → Bool → P → Type 0} {x : Exit} {a b : Seen P} {s : ℕ} (r : ℕ) → ClosesScope ends a s x b → HasRow a.seat.opened r → ¬ (HasRow b.seat.opened r) → IsAmong r (teardown (trace a.seat) s)
   close_takes {a = a} {s = s} r c h n =
-      let T = teardown (words a.seat) s in
+      let T = teardown (trace a.seat) s in
       elim (has r T) as (λ x. has r T ≡ x → IsAmong r T) [ true ↦ λ e. has_in r T e | false ↦ λ e. absurd (n (owner_has r c.torn.2 (λ m. shut_not (sym (in_has r T m) ∙ e)) h)) ] refl
 
   -- where no other stream has a seat or a lease, it ends all that it takes down
-  pub close_all : {ends : P → Exit → Bool → P → Type 0} {x : Exit} {a b : Seen P} {s : ℕ} (c : ClosesScope ends a s x b) → IsAlone a.seat → firsts (said c.torn.0) ≡ teardown (words a.seat) s
-  close_all {a = a} {s = s} c al = close_unleased c al.out ∙ ap (λ l. unleased l (teardown (words a.seat) s)) al.pairs ∙ unleased_none (teardown (words a.seat) s)
+  pub close_all : {ends : P → Exit → Bool → P → Type 0} {x : Exit} {a b : Seen P} {s : ℕ} (c : ClosesScope ends a s x b) → IsAlone a.seat → firsts (said c.torn.0) ≡ teardown (trace a.seat) s
+  close_all {a = a} {s = s} c al = close_unleased c al.out ∙ ap (λ l. unleased l (teardown (trace a.seat) s)) al.pairs ∙ unleased_none (teardown (trace a.seat) s)
 
   module _ {a m : Seen P} {s j : ℕ} {T : List ℕ} (bs : List Branch) (hs : List AcquiredRow) (k : Kept a.seat bs hs) (sh : Shelved a.seat hs a.shelf) (u : IsOpenScope a s) (o : Leases a s j T m) where
     -- a lease leaves each scope open
@@ -86,7 +86,7 @@ module _ {P : Type 0} where
     root_open = (inl refl, λ c. u.1 (root_closes a.seat bs hs k s (usable_scope a.seat bs hs k s u) c))
 
     -- once the root is closed the lease waits alone
-    pub lease_waits : {b : Seen P} {ends : P → Exit → Bool → P → Type 0} {x : Exit} (cs : List Branch) (is : List AcquiredRow) → Kept b.seat cs is → Shelved b.seat is b.shelf → IsAlone a.seat → a.seat.by ≢ Inner j → owed a.seat + 2 ≤ a.seat.spare → ClosesScope ends m 0 x b → Waits b j T
+    pub lease_waits : {b : Seen P} {ends : P → Exit → Bool → P → Type 0} {x : Exit} (cs : List Branch) (is : List AcquiredRow) → Kept b.seat cs is → Shelved b.seat is b.shelf → IsAlone a.seat → a.seat.by ≢ Inner j → owed a.seat + 2 ≤ a.seat.spare → ClosesScope ends m 0 x b → WaitsForCancel b j T
     lease_waits {b = b} {x = x} cs is k' sh' al ne f c =
         let g = close_follows c in let v = noted (leased_all a.seat j T) (leasing a.seat j s o.stamp) in
         let open' : (r : ℕ) → IsAmong r T → HasRow a.seat.opened r = λ r i. lease_rows_open a.seat bs hs a.shelf k sh s j u r (subst (λ l. IsAmong r l) o.covered i) in
@@ -98,9 +98,9 @@ module _ {P : Type 0} where
         (λ r i. ⊎_elim (open' r) (λ h. subst (λ w. HasRow w.opened r) o.seat (owner_opens r c.torn.2 h).0) (among_append r T F i)) in
         let le = length-append T F in let lf = length_said c.torn.0 in let sp = released_spare c.torn.2 in
         let ms : m.seat.spare ≡ a.seat.spare - 1 = ap (λ w. w.spare) o.seat in
-        let z = one_open a.seat s u in let p = open_pos (words a.seat) (0 ∷ numbers (opens (words a.seat))) s z.1 z.0 in
-        let own : own_rows b.seat ≡ own_rows a.seat = ap (λ E. numbers (rows E)) (closed_said c) ∙ ap numbers (rows_append (words m.seat) (Close 0 x ∷ finals x (said c.torn.0)) ∙ ap (λ l. rows (words m.seat) ++ l) (rows_finals x (said c.torn.0)) ∙ append-nil (rows (words m.seat)))
-        ∙ ap (λ E. numbers (rows E)) (leased_said o) ∙ ap numbers (rows_append (words a.seat) (Lease j s ∷ []) ∙ append-nil (rows (words a.seat))) in
+        let z = one_open a.seat s u in let p = open_pos (trace a.seat) (0 ∷ numbers (opens (trace a.seat))) s z.1 z.0 in
+        let own : own_rows b.seat ≡ own_rows a.seat = ap (λ E. numbers (rows E)) (closed_said c) ∙ ap numbers (rows_append (trace m.seat) (Close 0 x ∷ finals x (said c.torn.0)) ∙ ap (λ l. rows (trace m.seat) ++ l) (rows_finals x (said c.torn.0)) ∙ append-nil (rows (trace m.seat)))
+        ∙ ap (λ E. numbers (rows E)) (leased_said o) ∙ ap numbers (rows_append (trace a.seat) (Lease j s ∷ []) ∙ append-nil (rows (trace a.seat))) in
         record {
           main = ap (λ z. z.main) g.same ∙ ap (λ w. w.main) o.seat ∙ al.main;
           by = λ e. ne (sym (same_by g ∙ ap (λ w. w.by) o.seat) ∙ e);
@@ -109,6 +109,6 @@ module _ {P : Type 0} where
           kept = ap (λ z. z.kept) g.same ∙ ap (λ w. w.kept) o.seat ∙ ap (λ l. l ++ j ∷ []) al.kept;
           out = ap (λ z. z.out) g.same ∙ ap (λ w. w.out) o.seat ∙ al.out;
           events = follows_alone g (alone_more m.seat c.stamp (Close 0 x) (subst (λ w. (e : _) → IsAmong e w.events → e.by ≡ w.by) (sym o.seat) (alone_more (leased_all a.seat j T) o.stamp (Lease j s) al.events)));
-          rows = λ r i. subst (λ l. IsAmong r l) (sym own) (picked_number (reaches (words a.seat) s) (rows (words a.seat)) r (subst (λ l. IsAmong r l) o.covered i));
+          rows = λ r i. subst (λ l. IsAmong r l) (sym own) (picked_number (reaches (trace a.seat) s) (rows (trace a.seat)) r (subst (λ l. IsAmong r l) o.covered i));
           spare = omega (fit, le, lf, sp, ms, p, f, arith);
         }

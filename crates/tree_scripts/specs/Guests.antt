@@ -7,7 +7,7 @@ use Rattle.res_ledger.specs.Ledger.{Notes}
 use Rattle.res_ledger.specs.Order.{finals}
 use Rattle.row_seat.specs.declared.view.View.{View}
 use Rattle.scope_tree.specs.Calls.{AtStart}
-use Rattle.scope_tree.specs.Words.{words}
+use Rattle.scope_tree.specs.Trace.{trace}
 
 module _ {P : Type 0} where
   -- the root of the main seat is closed as succeeded, and the seat of the stream 5 is out with all that was leased
@@ -31,4 +31,4 @@ module _ {P : Type 0} where
 
   -- the stream acquired the row 1, closed its root as errored, with which the row ended, and cancelled its lease as errored
   abbrev pub HasVisited : View P → Type 0
-  HasVisited v = (ok : Bool) × (fs : List (ℕ × Bool)) × (words v ≡ Acquire 1 0 ∷ Close 0 Errored ∷ Final 1 Errored ok ∷ Cancel 5 Errored ∷ finals Errored fs)
+  HasVisited v = (ok : Bool) × (fs : List (ℕ × Bool)) × (trace v ≡ Acquire 1 0 ∷ Close 0 Errored ∷ Final 1 Errored ok ∷ Cancel 5 Errored ∷ finals Errored fs)

@@ -10,7 +10,7 @@ use Rattle.row_seat.specs.Views.{noted, placed, start}
 use Rattle.scope_tree.specs.declared.branch.Spent.{Spent}
 use Rattle.scope_tree.specs.Calls.{IsOpenScope, Seen}
 use Rattle.tree_scripts.specs.Waiting.{IsAlone, noted_by}
-use Rattle.scope_tree.specs.Words.{acquiring, opening, words}
+use Rattle.scope_tree.specs.Trace.{acquiring, opening, trace}
 
 module _ {P : Type 0} where
   -- the row r is acquired in the scope s with p
@@ -18,8 +18,8 @@ module _ {P : Type 0} where
   after_acquire a r s n p = record a { seat = placed (noted a.seat (acquiring a.seat r s n)) r p }
 
   -- the scope c is opened under p
-  abbrev pub with_scope : Seen P → ℕ → ℕ → ℕ → Seen P
-  with_scope a c p n = record a { seat = noted a.seat (opening a.seat c p n) }
+  abbrev pub after_open : Seen P → ℕ → ℕ → ℕ → Seen P
+  after_open a c p n = record a { seat = noted a.seat (opening a.seat c p n) }
 
   -- the seat may split off so many
   abbrev pub at_first : ℕ → Seen P
@@ -27,7 +27,7 @@ module _ {P : Type 0} where
 
   -- the row 0 in the root, the row 1 in the scope 1 below it, the row 2 in the scope 2 below that
   abbrev pub three : P → P → P → ℕ → ℕ → ℕ → ℕ → ℕ → ℕ → Seen P
-  three p q r splits n1 n2 n3 n4 n5 = after_acquire (with_scope (after_acquire (with_scope (after_acquire (at_first splits) 0 0 n1 p) 1 0 n2) 1 1 n3 q) 2 1 n4) 2 2 n5 r
+  three p q r splits n1 n2 n3 n4 n5 = after_acquire (after_open (after_acquire (after_open (after_acquire (at_first splits) 0 0 n1 p) 1 0 n2) 1 1 n3 q) 2 1 n4) 2 2 n5 r
 
   -- a tree stands so
   abbrev pub IsThree : Seen P → P → P → P → Type 0
@@ -52,6 +52,6 @@ module _ {P : Type 0} where
   pub record IsReopened (a : Seen P) : Type 0 where
     pub low : Bool
     pub middle : Bool
-    pub words_are : words a.seat ≡ Acquire 0 0 ∷ Open 1 0 ∷ Acquire 1 1 ∷ Open 2 1 ∷ Acquire 2 2 ∷ Close 1 Errored ∷ Final 2 Errored low ∷ Final 1 Errored middle ∷ Open 3 0 ∷ []
+    pub trace_is : trace a.seat ≡ Acquire 0 0 ∷ Open 1 0 ∷ Acquire 1 1 ∷ Open 2 1 ∷ Acquire 2 2 ∷ Close 1 Errored ∷ Final 2 Errored low ∷ Final 1 Errored middle ∷ Open 3 0 ∷ []
     pub root : IsOpenScope a 0
     pub alone : IsAlone a.seat

@@ -7,7 +7,7 @@ use Rattle.res_ledger.specs.declared.event.What.TheVariants.{Acquire, Cancel, Cl
 use Rattle.res_ledger.specs.Ledger.{stamped}
 use Rattle.scope_tree.specs.Calls.{IsOpenScope, Seen, used}
 use Rattle.scope_tree.specs.Rights.{HasNoLeaseBut, IsNewStream}
-use Rattle.scope_tree.specs.Words.{owed, words}
+use Rattle.scope_tree.specs.Trace.{owed, trace}
 use Rattle.tree_scripts.specs.Waiting.{NotesAlone, noted_by}
 
 -- the tree of the outer stream has the row 0 in the root and the row 1 in its child, nothing was leased or split off, and there is room for a lease and its end
@@ -18,7 +18,7 @@ pub record HasTwoRows {P : Type 0} (a : Seen P) : Type 0 where
   pub main : a.seat.main ≡ true
   pub out : a.seat.out ≡ []
   pub by : a.seat.by ≡ Outer
-  pub words_are : words a.seat ≡ Open 1 0 ∷ Acquire 0 0 ∷ Acquire 1 1 ∷ []
+  pub trace_is : trace a.seat ≡ Open 1 0 ∷ Acquire 0 0 ∷ Acquire 1 1 ∷ []
   pub events : NotesAlone a.seat
   pub spare : owed a.seat + 9 ≤ a.seat.spare
   pub room : used a ≤ a.rows

@@ -14,7 +14,7 @@ use Rattle.scope_tree.specs.declared.branch.Spent.{Spent}
 use Rattle.scope_tree.specs.Calls.{ClosesScope, IsClosedScope, Leases, Seen}
 use Rattle.scope_tree.specs.Leased.{pairs_for}
 use Rattle.scope_tree.specs.Released.{said}
-use Rattle.scope_tree.specs.Words.{own_rows, words}
+use Rattle.scope_tree.specs.Trace.{own_rows, trace}
 
 -- k noted each of these
 abbrev pub noted_by : StreamNo → List What → List (StreamNo × What)
@@ -38,7 +38,7 @@ module _ {P : Type 0} where
   LeasesAndCloses ends a s j T x b = (m : Seen P) × Leases a s j T m × ClosesScope ends m 0 x b
 
   -- the root is closed, and only the rows T of the lease for j, acquired here, are left
-  pub record Waits (a : Seen P) (j : ℕ) (T : List ℕ) : Type 0 where
+  pub record WaitsForCancel (a : Seen P) (j : ℕ) (T : List ℕ) : Type 0 where
     pub main : a.seat.main ≡ true
     pub by : a.seat.by ≢ Inner j
     pub closed : IsClosedScope a 0
@@ -50,16 +50,16 @@ module _ {P : Type 0} where
     pub spare : length T + 1 ≤ a.seat.spare
 
   -- the lease for j was cancelled with the exit x, each of its rows T ended with that exit, latest acquired first, and with the payload that was left in it, and L is the whole ledger
-  pub record Settles (ends : P → Exit → Bool → P → Type 0) (a : Seen P) (j : ℕ) (T : List ℕ) (x : Exit) (L : List Event) (shelf : List (Spent P)) : Type 0 where
+  pub record CancelsAndFinishes (ends : P → Exit → Bool → P → Type 0) (a : Seen P) (j : ℕ) (T : List ℕ) (x : Exit) (L : List Event) (shelf : List (Spent P)) : Type 0 where
     pub last : List (Spent P)
     pub shelf_is : shelf ≡ a.shelf ++ last
     pub rows : firsts (said last) ≡ reverse T
     pub pays : (y : Spent P) → IsAmong y last → (p : P) × ((q : P) → IsAmong (y.row, q) a.seat.left → q ≡ p) × (y.exit ≡ x) × ends p x y.ok y.pay
-    pub ledger : L ≡ stamped 0 (noted_by a.seat.by (words a.seat ++ Cancel j x ∷ finals x (said last)))
+    pub ledger : L ≡ stamped 0 (noted_by a.seat.by (trace a.seat ++ Cancel j x ∷ finals x (said last)))
 
   -- the root was closed with the exit x, and L is the whole ledger
   pub record FinishesLedger (ends : P → Exit → Bool → P → Type 0) (a : Seen P) (x : Exit) (L : List Event) (shelf : List (Spent P)) : Type 0 where
     pub last : Seen P
     pub closes : ClosesScope ends a 0 x last
     pub shelf_is : shelf ≡ last.shelf
-    pub ledger : L ≡ stamped 0 (noted_by a.seat.by (words last.seat))
+    pub ledger : L ≡ stamped 0 (noted_by a.seat.by (trace last.seat))

@@ -11,8 +11,8 @@ ghost use Rattle.scope_tree.specs.Calls.{IsClosedScope, IsOpenScope};
 ghost use Rattle.scope_tree.specs.Rights.{HasNoLeaseBut};
 ghost use Rattle.tree_scripts.specs.Scripts.{IsReopened, IsRootLeased, IsThree, IsThreeOfSome};
 ghost use Rattle.scope_tree.specs.Trees.{Fits, seen};
-ghost use Rattle.tree_scripts.specs.Waiting.{FinishesLedger, IsAlone, LeasesAndCloses, Settles, Waits};
-ghost use Rattle.scope_tree.specs.Words.{owed};
+ghost use Rattle.tree_scripts.specs.Waiting.{FinishesLedger, IsAlone, LeasesAndCloses, CancelsAndFinishes, WaitsForCancel};
+ghost use Rattle.scope_tree.specs.Trace.{owed};
 
 use chunk_core::{Exit, List};
 use res_ledger::{Ledger, StreamNo};
@@ -63,7 +63,7 @@ where
     requires stream { ((seen S.view tree.old).seat.by ≢ Inner stream) × ¬ (IsAmong stream (seen S.view tree.old).seat.had) × ¬ (IsLeased (seen S.view tree.old).seat.events stream) }
     requires free { owed (seen S.view tree.old).seat + 2 ≤ (seen S.view tree.old).seat.spare }
     ensures calls { IfOk result (λ lease. (lease.stream ≡ stream) × LeasesAndCloses S.Pay.ends (seen S.view tree.old) scope stream lease.rows.items exit (seen S.view tree.new)) }
-    ensures waits { IfOk result (λ lease. Waits (seen S.view tree.new) lease.stream lease.rows.items) }
+    ensures waits { IfOk result (λ lease. WaitsForCancel (seen S.view tree.new) lease.stream lease.rows.items) }
     ensures err { IfErr result (λ _. seen S.view tree.new ≡ seen S.view tree.old) }
     ensures fits { Fits S.view S.fits tree.new desk.new }
 {
@@ -99,8 +99,8 @@ pub fn cancel_and_finish<S: RowSeat>(
 where
     S::Pay: Finish,
     requires fits { Fits S.view S.fits tree desk.old }
-    requires waits { Waits (seen S.view tree) lease.stream lease.rows.items }
-    ensures { Settles S.Pay.ends (seen S.view tree) lease.stream lease.rows.items exit result.0 result.1 }
+    requires waits { WaitsForCancel (seen S.view tree) lease.stream lease.rows.items }
+    ensures { CancelsAndFinishes S.Pay.ends (seen S.view tree) lease.stream lease.rows.items exit result.0 result.1 }
 {
     tree.cancel(desk, lease, exit);
     finish_alone(tree, desk)

@@ -5,7 +5,7 @@ use Rattle.chunk_core.specs.Lists.{IsAmong}
 use Rattle.chunk_core.specs.Lists.IsAmong.{here}
 use Rattle.res_ledger.specs.Own.{closes, opens}
 use Rattle.scope_tree.specs.Calls.{AcquiresRow, AtStart, ClosesScope, IsOpenScope, OpensScope, Seen}
-use Rattle.scope_tree.specs.Words.{words}
+use Rattle.scope_tree.specs.Trace.{trace}
 use Rattle.scope_tree.proofs.Use.{acquire_more, open_number, open_one, start_said, all_open}
 use Rattle.tree_laws.specs.Alone.{StaysAlone}
 use Rattle.tree_laws.specs.Called.{Called}
@@ -13,7 +13,7 @@ use Rattle.tree_laws.specs.Called.Called.{none, opened, acquired, closed}
 use Rattle.tree_laws.proofs.Alone.{alone_acquires, alone_closes, alone_opens, alone_then}
 
 module _ {P : Type 0} (a b : Seen P) {c : ℕ} (start : AtStart a.seat) (o : OpensScope a 0 c b) where
-  none_said : words a.seat ≡ []
+  none_said : trace a.seat ≡ []
   none_said = start_said a.seat a.seat start refl
 
   pub child_open : IsOpenScope b c

@@ -24,7 +24,7 @@ returns-in-Ok-clause-runs g c =
     let tree = c.end.result.tree in
     let sound = (c.end.ensures.fits c.print_all-stopped.new.desk p.fits).sound in
     node_ran g.V.Device.told c.args.node c.args.devices c.args.terms (seen view c.args.tree) (seen view tree) (g.K.Sink.told c.args.out.now) (g.K.Sink.told c.print_all-stopped.new.out) c.requires.shelf c.requires.room sound.used
-    (nothing_owed (view tree.seat) tree.branches.items tree.held.items sound.kept c.end.ensures.ends.root) (standing StandsFor Comes) (values_of c.args.tables) (stepping view values c.in-Ok.stepper) (stepping view values c.print_all-stopped.new.stepper) c.end.result.how c.end.result.unopened c.print_all-stopped.result c.in-Ok.ensures.begun
+    (nothing_owed (view tree.seat) tree.branches.items tree.acquisitions.items sound.kept c.end.ensures.ends.root) (standing StandsFor Comes) (values_of c.args.tables) (stepping view values c.in-Ok.stepper) (stepping view values c.print_all-stopped.new.stepper) c.end.result.how c.end.result.unopened c.print_all-stopped.result c.in-Ok.ensures.begun
     p.prints p.spends p.since p.goes c.requires.supplied c.end.ensures.ends
 
 pub returns-in-Ok-clause-fits : goal.returns-in-Ok-clause-fits

@@ -14,14 +14,14 @@ children-init g t c = record {
   low = let s = c.requires.scope in omega arith;
   high = omega arith;
   fits = c.requires.fits;
-  released = subst (λ bs. Releases g.S.Pay.Finish.ends c.args.exit owner (kids (length c.args.branches.now) bs c.args.held.now c.args.scope) (g.S.RowSeat.view c.args.seat.now) c.args.shelf.now.items c.args.shelf.now.items (g.S.RowSeat.view c.args.seat.now)) (sym (drop_all c.args.branches.now)) (releases_none _ _);
+  released = subst (λ bs. Releases g.S.Pay.Finish.ends c.args.exit owner (kids (length c.args.branches.now) bs c.args.acquisitions.now c.args.scope) (g.S.RowSeat.view c.args.seat.now) c.args.shelf.now.items c.args.shelf.now.items (g.S.RowSeat.view c.args.seat.now)) (sym (drop_all c.args.branches.now)) (releases_none _ _);
   room = omega arith;
   others = λ o n f. f;
 }
 
 pub tear-requires : goal.tear-requires
 tear-requires g t c κs within =
-    let bs = c.args.branches.now in let hs = c.args.held.now in let s = c.args.scope in let k = c.children.child - 1 in let d : Branch = record { parent = 0; shut = false } in
+    let bs = c.args.branches.now in let hs = c.args.acquisitions.now in let s = c.args.scope in let k = c.children.child - 1 in let d : Branch = record { parent = 0; shut = false } in
     let e : c.children.child ≡ suc k = let t = c.children-test.true in omega arith in
     let l : k < length bs = let t = c.children-test.true in let w = c.children.invariant.high in omega arith in
     let low : suc s ≤ k = let t = c.children-test.true in omega arith in
@@ -53,7 +53,7 @@ tear-requires g t c κs within =
 
 pub children-preserved-then-not-branch : goal.children-preserved-then-not-branch
 children-preserved-then-not-branch g t c =
-    let bs = c.args.branches.now in let hs = c.args.held.now in let s = c.args.scope in let k = c.children.child - 1 in let d : Branch = record { parent = 0; shut = false } in
+    let bs = c.args.branches.now in let hs = c.args.acquisitions.now in let s = c.args.scope in let k = c.children.child - 1 in let d : Branch = record { parent = 0; shut = false } in
     let e : c.children.child ≡ suc k = let t = c.children-test.true in omega arith in
     let l : k < length bs = let t = c.children-test.true in let w = c.children.invariant.high in omega arith in
     let low : suc s ≤ k = let t = c.children-test.true in omega arith in
@@ -72,14 +72,14 @@ at_end c s a b = omega arith
 
 pub release_rows-requires-clause-can : goal.release_rows-requires-clause-can
 release_rows-requires-clause-can g t c =
-    let bs = c.args.branches.now in let hs = c.args.held.now in let s = c.args.scope in
+    let bs = c.args.branches.now in let hs = c.args.acquisitions.now in let s = c.args.scope in
     let e = at_end c.children.child s c.children.invariant.low c.children-test.false in
     let D = kids c.children.child (drop c.children.child bs) hs s in
     next_can (whole bs hs s) D (lasts hs s) [] _ _ _ _ (ap (λ n. kids n (drop n bs) hs s ++ lasts hs s) e ∙ sym (append-nil (D ++ lasts hs s))) c.requires.can c.children.invariant.released
 
 pub release_rows-requires-clause-room : goal.release_rows-requires-clause-room
 release_rows-requires-clause-room g t c =
-    let bs = c.args.branches.now in let hs = c.args.held.now in let s = c.args.scope in
+    let bs = c.args.branches.now in let hs = c.args.acquisitions.now in let s = c.args.scope in
     let e = at_end c.children.child s c.children.invariant.low c.children-test.false in
     let D = kids c.children.child (drop c.children.child bs) hs s in
     let r = next_room (whole bs hs s) D (lasts hs s) [] _ _ _ _ (ap (λ n. kids n (drop n bs) hs s ++ lasts hs s) e ∙ sym (append-nil (D ++ lasts hs s))) c.children.invariant.released in
@@ -87,7 +87,7 @@ release_rows-requires-clause-room g t c =
 
 pub returns-clause-released : goal.returns-clause-released
 returns-clause-released g t c =
-    let bs = c.args.branches.now in let hs = c.args.held.now in let s = c.args.scope in
+    let bs = c.args.branches.now in let hs = c.args.acquisitions.now in let s = c.args.scope in
     let e = at_end c.children.child s c.children.invariant.low c.children-test.false in
     subst (λ n. Releases g.S.Pay.Finish.ends c.args.exit owner (kids n (drop n bs) hs s ++ lasts hs s) (g.S.RowSeat.view c.args.seat.now) c.args.shelf.now.items c.release_rows.new.shelf.items (g.S.RowSeat.view c.release_rows.new.seat)) (sym e) (releases_append _ _ _ c.children.invariant.released c.release_rows.ensures.released)
 

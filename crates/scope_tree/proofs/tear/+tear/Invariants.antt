@@ -13,7 +13,7 @@ invariant-children g l = record {
   low : suc l.scope ≤ l.child;
   high : l.child ≤ length l.branches;
   fits : g.S.RowSeat.fits l.seat l.desk;
-  released : Releases g.S.Pay.Finish.ends l.exit owner (kids l.child (drop l.child l.branches) l.held l.scope) (g.S.RowSeat.view l.initial.seat) l.initial.shelf.items l.shelf.items (g.S.RowSeat.view l.seat);
+  released : Releases g.S.Pay.Finish.ends l.exit owner (kids l.child (drop l.child l.branches) l.acquisitions l.scope) (g.S.RowSeat.view l.initial.seat) l.initial.shelf.items l.shelf.items (g.S.RowSeat.view l.seat);
   room : vec_capacity l.initial.shelf ≤ vec_capacity l.shelf;
   others : OthersFit g.S.RowSeat.view g.S.RowSeat.fits (g.S.RowSeat.view l.initial.seat).by l.initial.desk l.desk;
 }

@@ -12,14 +12,14 @@ pub rows-init : goal.rows-init
 rows-init g c = record {
   within = omega arith;
   fits = c.requires.fits;
-  released = subst (λ hs. Releases g.S.Pay.Finish.ends c.args.exit owner (lasts hs c.args.scope) (g.S.RowSeat.view c.args.seat.now) c.args.shelf.now.items c.args.shelf.now.items (g.S.RowSeat.view c.args.seat.now)) (sym (drop_all c.args.held.now)) (releases_none _ _);
+  released = subst (λ hs. Releases g.S.Pay.Finish.ends c.args.exit owner (lasts hs c.args.scope) (g.S.RowSeat.view c.args.seat.now) c.args.shelf.now.items c.args.shelf.now.items (g.S.RowSeat.view c.args.seat.now)) (sym (drop_all c.args.acquisitions.now)) (releases_none _ _);
   room = omega arith;
   others = λ o n f. f;
 }
 
 pub release-requires-clause-can : goal.release-requires-clause-can
 release-requires-clause-can g c =
-    let hs = c.args.held.now in let s = c.args.scope in let k = c.rows.at - 1 in let d : AcquiredRow = record { row = 0; scope = 0 } in
+    let hs = c.args.acquisitions.now in let s = c.args.scope in let k = c.rows.at - 1 in let d : AcquiredRow = record { row = 0; scope = 0 } in
     let e : c.rows.at ≡ suc k = let t = c.rows-test.true in omega arith in
     let l : k < length hs = let t = c.rows-test.true in let w = c.rows.invariant.within in omega arith in
     let x = lasts_next hs s c.rows.at k d e l c.if-one-scope.true in
@@ -27,7 +27,7 @@ release-requires-clause-can g c =
 
 pub release-requires-clause-room : goal.release-requires-clause-room
 release-requires-clause-room g c =
-    let hs = c.args.held.now in let s = c.args.scope in let k = c.rows.at - 1 in let d : AcquiredRow = record { row = 0; scope = 0 } in
+    let hs = c.args.acquisitions.now in let s = c.args.scope in let k = c.rows.at - 1 in let d : AcquiredRow = record { row = 0; scope = 0 } in
     let e : c.rows.at ≡ suc k = let t = c.rows-test.true in omega arith in
     let l : k < length hs = let t = c.rows-test.true in let w = c.rows.invariant.within in omega arith in
     let x = lasts_next hs s c.rows.at k d e l c.if-one-scope.true in
@@ -36,7 +36,7 @@ release-requires-clause-room g c =
 
 pub rows-preserved-then-one-scope : goal.rows-preserved-then-one-scope
 rows-preserved-then-one-scope g c =
-    let hs = c.args.held.now in let s = c.args.scope in let k = c.rows.at - 1 in let d : AcquiredRow = record { row = 0; scope = 0 } in
+    let hs = c.args.acquisitions.now in let s = c.args.scope in let k = c.rows.at - 1 in let d : AcquiredRow = record { row = 0; scope = 0 } in
     let e : c.rows.at ≡ suc k = let t = c.rows-test.true in omega arith in
     let l : k < length hs = let t = c.rows-test.true in let w = c.rows.invariant.within in omega arith in
     record {

@@ -7,7 +7,7 @@ use Rattle.tree_scripts.specs.Guests.{HasVisited, IsGuest}
 use Rattle.scope_tree.specs.Released.{away}
 use Rattle.scope_tree.specs.Rows.{strangers}
 use Rattle.scope_tree.specs.Trees.{seen}
-use Rattle.scope_tree.specs.Words.{owed, own_rows}
+use Rattle.scope_tree.specs.Trace.{owed, own_rows}
 use Rattle.scope_tree.proofs.Use.{closed_now}
 use Rattle.tree_scripts.proofs.Visits.{guest_begins, guest_by, guest_cancels, guest_free, guest_leases, guest_may, guest_open, guest_rests, guest_room, guest_visited}
 use Rattle.tree_scripts.proofs.guests.visit.Goals as goal

@@ -1,7 +1,7 @@
 use Rattle.std.proofs.Common.{[], ap, ◌∙◌}
 use Rattle.res_ledger.specs.Ledger.{stamped}
 use Rattle.scope_tree.specs.Trees.{seen}
-use Rattle.scope_tree.specs.Words.{words}
+use Rattle.scope_tree.specs.Trace.{trace}
 use Rattle.scope_tree.proofs.Use.{closed_by}
 use Rattle.tree_scripts.specs.Waiting.{noted_by}
 use Rattle.tree_scripts.proofs.Finished.{ledger_stamped, no_leases}
@@ -18,5 +18,5 @@ returns g c =
       last = seen g.S.RowSeat.view c.close.new.self;
       closes = k;
       shelf_is = e.shelf;
-      ledger = ledger_stamped v c.finish_alone.result.0 e.ledger (close_alone k c.requires.alone).events e.rising ∙ ap (λ b. stamped 0 (noted_by b (words v))) (closed_by k);
+      ledger = ledger_stamped v c.finish_alone.result.0 e.ledger (close_alone k c.requires.alone).events e.rising ∙ ap (λ b. stamped 0 (noted_by b (trace v))) (closed_by k);
     }

@@ -5,7 +5,7 @@ use Rattle.res_ledger.specs.declared.event.What.TheVariants.{Open, Acquire, Fina
 use Rattle.res_ledger.specs.Own.{opens, closes}
 use Rattle.res_ledger.specs.Order.{finals}
 use Rattle.scope_tree.specs.Released.{said}
-use Rattle.scope_tree.specs.Words.{words}
+use Rattle.scope_tree.specs.Trace.{trace}
 use Rattle.scope_tree.proofs.Use.{acquire_more, all_open, closed_now, open_number, open_one, start_said}
 use Rattle.tree_scripts.proofs.Chain.{close_four, close_rows, two_of, two_opened, two_pays, still_empty, Three, Four}
 use Rattle.tree_scripts.proofs.uses.two.Goals as goal
@@ -42,8 +42,8 @@ close-requires-clause-scope g c =
 pub end-requires : goal.end-requires
 end-requires g c =
     let w = start_said (g.S.RowSeat.view c.args.seat) (g.S.RowSeat.view c.new-tree.result.seat) c.requires.start (ap (λ x. x.seat) c.new-tree.ensures.seen) in
-    let w4 : words (g.S.RowSeat.view c.acquired-2.new.self.seat) ≡ Open 1 0 ∷ Acquire 0 0 ∷ Acquire 1 c.open-child.result ∷ [] = acquire_more (acquire_more (open_one w c.open-child.ensures.opens) c.acquired.ensures.acquires) c.acquired-2.ensures.acquires in
-    let w5 : words (g.S.RowSeat.view c.acquired-2.new.self.seat) ≡ Three = w4 ∙ ap (λ n. Open 1 0 ∷ Acquire 0 0 ∷ Acquire 1 n ∷ []) (open_number w c.open-child.ensures.opens) in
+    let w4 : trace (g.S.RowSeat.view c.acquired-2.new.self.seat) ≡ Open 1 0 ∷ Acquire 0 0 ∷ Acquire 1 c.open-child.result ∷ [] = acquire_more (acquire_more (open_one w c.open-child.ensures.opens) c.acquired.ensures.acquires) c.acquired-2.ensures.acquires in
+    let w5 : trace (g.S.RowSeat.view c.acquired-2.new.self.seat) ≡ Three = w4 ∙ ap (λ n. Open 1 0 ∷ Acquire 0 0 ∷ Acquire 1 n ∷ []) (open_number w c.open-child.ensures.opens) in
     record {
       tree = c.close.ensures.fits.sound;
       closed = closed_now c.close.ensures.closes;
@@ -52,8 +52,8 @@ end-requires g c =
 pub returns-clause-two : goal.returns-clause-two
 returns-clause-two g c =
     let w = start_said (g.S.RowSeat.view c.args.seat) (g.S.RowSeat.view c.new-tree.result.seat) c.requires.start (ap (λ x. x.seat) c.new-tree.ensures.seen) in
-    let w4 : words (g.S.RowSeat.view c.acquired-2.new.self.seat) ≡ Open 1 0 ∷ Acquire 0 0 ∷ Acquire 1 c.open-child.result ∷ [] = acquire_more (acquire_more (open_one w c.open-child.ensures.opens) c.acquired.ensures.acquires) c.acquired-2.ensures.acquires in
-    let w5 : words (g.S.RowSeat.view c.acquired-2.new.self.seat) ≡ Three = w4 ∙ ap (λ n. Open 1 0 ∷ Acquire 0 0 ∷ Acquire 1 n ∷ []) (open_number w c.open-child.ensures.opens) in
+    let w4 : trace (g.S.RowSeat.view c.acquired-2.new.self.seat) ≡ Open 1 0 ∷ Acquire 0 0 ∷ Acquire 1 c.open-child.result ∷ [] = acquire_more (acquire_more (open_one w c.open-child.ensures.opens) c.acquired.ensures.acquires) c.acquired-2.ensures.acquires in
+    let w5 : trace (g.S.RowSeat.view c.acquired-2.new.self.seat) ≡ Three = w4 ∙ ap (λ n. Open 1 0 ∷ Acquire 0 0 ∷ Acquire 1 n ∷ []) (open_number w c.open-child.ensures.opens) in
     let k = c.close.ensures.closes in let xs = k.torn.0 in
     let t = two_of xs 1 0 (close_rows w5 k) in
     let shelf : c.acquired-2.new.self.shelf.items ≡ [] = c.acquired-2.ensures.acquires.shelf ∙ c.acquired.ensures.acquires.shelf ∙ c.open-child.ensures.opens.shelf ∙ ap (λ x. x.shelf) c.new-tree.ensures.seen in
@@ -68,7 +68,7 @@ returns-clause-two g c =
       exits = (one.0, other.0);
       finished = (one.1, other.1);
       shelf_is = c.end.ensures.shelf ∙ k.torn.1 ∙ ap (λ l. l ++ xs) shelf ∙ t.2;
-      events = ap words c.end.ensures.seat ∙ close_four w5 k ∙ ap (λ l. Four ++ finals Succeeded (said l)) t.2 ∙ ap (λ r. Four ++ Final r Succeeded t.0.ok ∷ Final t.1.row Succeeded t.1.ok ∷ []) t.3 ∙ ap (λ r. Four ++ Final 1 Succeeded t.0.ok ∷ Final r Succeeded t.1.ok ∷ []) t.4;
+      events = ap trace c.end.ensures.seat ∙ close_four w5 k ∙ ap (λ l. Four ++ finals Succeeded (said l)) t.2 ∙ ap (λ r. Four ++ Final r Succeeded t.0.ok ∷ Final t.1.row Succeeded t.1.ok ∷ []) t.3 ∙ ap (λ r. Four ++ Final 1 Succeeded t.0.ok ∷ Final r Succeeded t.1.ok ∷ []) t.4;
     }
 
 pub returns-clause-fits : goal.returns-clause-fits

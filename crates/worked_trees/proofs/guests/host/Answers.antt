@@ -4,7 +4,7 @@ use Rattle.chunk_core.specs.Lists.IsAmong.{here}
 use Rattle.res_ledger.specs.Own.{closes}
 use Rattle.row_seat.specs.declared.view.View.{View}
 use Rattle.scope_tree.specs.Trees.{seen}
-use Rattle.scope_tree.specs.Words.{words}
+use Rattle.scope_tree.specs.Trace.{trace}
 use Rattle.scope_tree.proofs.Use.{all_open}
 use Rattle.tree_scripts.proofs.Visits.{host_acquired, host_leased, host_leases, host_of, host_open, host_splits, host_unleased, outer_inner}
 use Rattle.worked_trees.proofs.guests.host.Goals as goal
@@ -15,7 +15,7 @@ acquired-requires-clause-row g c = subst (λ (v : View _). IsAmong 0 v.empty) (s
 pub lease-requires-clause-scope : goal.lease-requires-clause-scope
 lease-requires-clause-scope g c =
     let e = host_acquired (ap (λ x. x.seat) c.new-tree.ensures.seen ∙ c.requires.start) c.acquired.ensures.acquires in
-    all_open (g.S.RowSeat.view c.acquired.new.self.seat) 0 (ap (λ v. closes (words v)) e) (inl refl)
+    all_open (g.S.RowSeat.view c.acquired.new.self.seat) 0 (ap (λ v. closes (trace v)) e) (inl refl)
 
 pub lease-requires-clause-stream : goal.lease-requires-clause-stream
 lease-requires-clause-stream g c = host_unleased (host_acquired (ap (λ x. x.seat) c.new-tree.ensures.seen ∙ c.requires.start) c.acquired.ensures.acquires)

@@ -2,11 +2,11 @@ use Rattle.std.proofs.Common.{◌≡◌, ℕ, ◌+◌, ◌≤◌, List, [], ◌�
 use Rattle.chunk_core.specs.declared.code.Exit.TheVariants.{Canceled, Succeeded}
 use Rattle.scope_tree.specs.Released.{away}
 use Rattle.scope_tree.specs.Trees.{seen}
-use Rattle.scope_tree.specs.Words.{owed}
+use Rattle.scope_tree.specs.Trace.{owed}
 use Rattle.tree_laws.proofs.Guests.{nothing_among}
 use Rattle.chunk_core.proofs.Members.{among_nil}
 use Rattle.join_tree.specs.Mains.{IsMain}
-use Rattle.join_tree.specs.Progress.{closing, leasing, none_done, skipping}
+use Rattle.join_tree.specs.Progress.{closing_root, leasing_next, none_done, skipping}
 use Rattle.join_tree.specs.Steps.{Pulls}
 use Rattle.worked_trees.proofs.main_tree.pass_over.Goals as goal
 
@@ -17,15 +17,15 @@ pub close_outer-requires-clause-main : goal.close_outer-requires-clause-main
 close_outer-requires-clause-main g c =
     let none = none_done g.row.S-Pay.Denot in
     let t = subst (λ o. Pulls g.S.Pay.Finish.ends 1 1 (seen g.S.RowSeat.view c.args.tree.now) (seen g.S.RowSeat.view c.pull.new.tree) none (Ok o)) c.in-Ok-Some.field-0-is (c.in-Ok-Some.ensures.pulls 1 none c.requires.main refl refl) in
-    (1, 1, leasing none c.in-Ok-Some.lease.rows.items, t.4, refl)
+    (1, 1, leasing_next none c.in-Ok-Some.lease.rows.items, t.4, refl)
 
 pub cancel_waiting-requires-clause-main : goal.cancel_waiting-requires-clause-main
 cancel_waiting-requires-clause-main g c =
     let none = none_done g.row.S-Pay.Denot in
     let rows = c.in-Ok-Some.lease.rows.items in
     let t = subst (λ o. Pulls g.S.Pay.Finish.ends 1 1 (seen g.S.RowSeat.view c.args.tree.now) (seen g.S.RowSeat.view c.pull.new.tree) none (Ok o)) c.in-Ok-Some.field-0-is (c.in-Ok-Some.ensures.pulls 1 none c.requires.main refl refl) in
-    let p = leasing none rows in
-    (1, 1, closing p Succeeded, [], c.close_outer.ensures.main 1 1 p t.4 refl, first_is c.in-Ok-Some.lease.stream rows t.1)
+    let p = leasing_next none rows in
+    (1, 1, closing_root p Succeeded, [], c.close_outer.ensures.main 1 1 p t.4 refl, first_is c.in-Ok-Some.lease.stream rows t.1)
 
 pub cancel_waiting-requires-clause-free : goal.cancel_waiting-requires-clause-free
 cancel_waiting-requires-clause-free g c =
@@ -48,19 +48,19 @@ returns-in-Ok-Some-clause-main g c =
     let none = none_done g.row.S-Pay.Denot in
     let rows = c.in-Ok-Some.lease.rows.items in
     let t = subst (λ o. Pulls g.S.Pay.Finish.ends 1 1 (seen g.S.RowSeat.view c.args.tree.now) (seen g.S.RowSeat.view c.pull.new.tree) none (Ok o)) c.in-Ok-Some.field-0-is (c.in-Ok-Some.ensures.pulls 1 none c.requires.main refl refl) in
-    let p = leasing none rows in
-    let q = closing p Succeeded in
+    let p = leasing_next none rows in
+    let q = closing_root p Succeeded in
     (skipping q [], Succeeded, c.cancel_waiting.ensures.main 1 1 q [] (c.close_outer.ensures.main 1 1 p t.4 refl) (first_is c.in-Ok-Some.lease.stream rows t.1), refl, refl, refl)
 
 pub returns-in-Ok-None-clause-main : goal.returns-in-Ok-None-clause-main
 returns-in-Ok-None-clause-main g c =
     let none = none_done g.row.S-Pay.Denot in
     let t = subst (λ o. Pulls g.S.Pay.Finish.ends 1 1 (seen g.S.RowSeat.view c.args.tree.now) (seen g.S.RowSeat.view c.pull.new.tree) none (Ok o)) c.in-Ok-None.field-0-is (c.in-Ok-None.ensures.pulls 1 none c.requires.main refl refl) in
-    (closing none Succeeded, Succeeded, t.1, refl, refl, refl)
+    (closing_root none Succeeded, Succeeded, t.1, refl, refl, refl)
 
 pub returns-in-Err-clause-main : goal.returns-in-Err-clause-main
 returns-in-Err-clause-main g c =
     let none = none_done g.row.S-Pay.Denot in
     let t = c.in-Err.ensures.pulls 1 none c.requires.main refl refl in
     let h = subst (λ b. IsMain g.S.Pay.Finish.ends 1 1 b none) (sym t.1) c.requires.main in
-    (closing none Canceled, Canceled, c.close_outer-in-Err.ensures.main 1 1 none h refl, refl, refl, refl)
+    (closing_root none Canceled, Canceled, c.close_outer-in-Err.ensures.main 1 1 none h refl, refl, refl, refl)

@@ -1,7 +1,7 @@
 -- The main tree, as far as each call leaves it.
 use Rattle.std.proofs.Common.{◌+◌, ◌<◌, length, refl, sym, ap, ◌∙◌, subst, arith}
 use Rattle.chunk_core.specs.Lists.{IsAmong}
-use Rattle.join_tree.specs.Progress.{closing, none_done, reading}
+use Rattle.join_tree.specs.Progress.{closing_root, none_done, reading}
 use Rattle.pull_stepper.proofs.Firsts.{among_run}
 use Rattle.outer_tables.specs.Rows.{acquires}
 use Rattle.worked_trees.proofs.tables.read_and_end.Goals as goal
@@ -23,11 +23,11 @@ pub settle-ledger-requires-clause-main : goal.settle-ledger-requires-clause-main
 settle-ledger-requires-clause-main g c =
     let none = none_done g.row.D-Dev.Denot in let reads = c.read_tables-read.ensures.reads in
     let p = reading none (acquires 0 (length reads.tries.devices)) in
-    (1, 0, closing p c.match-read.exit, c.match-read.exit, c.close_outer.ensures.main 1 0 p (reads.main 1 0 none (c.begin-tree.ensures.main 1 0) refl) refl, refl, refl)
+    (1, 0, closing_root p c.match-read.exit, c.match-read.exit, c.close_outer.ensures.main 1 0 p (reads.main 1 0 none (c.begin-tree.ensures.main 1 0) refl) refl, refl, refl)
 
 pub returns : goal.returns
 returns g c =
     let none = none_done g.row.D-Dev.Denot in let reads = c.read_tables-read.ensures.reads in
     let p = reading none (acquires 0 (length reads.tries.devices)) in
-    let s = c.settle-ledger.ensures.settles 1 0 (closing p c.match-read.exit) c.match-read.exit (c.close_outer.ensures.main 1 0 p (reads.main 1 0 none (c.begin-tree.ensures.main 1 0) refl) refl) refl in
+    let s = c.settle-ledger.ensures.settles 1 0 (closing_root p c.match-read.exit) c.match-read.exit (c.close_outer.ensures.main 1 0 p (reads.main 1 0 none (c.begin-tree.ensures.main 1 0) refl) refl) refl in
     s.whole

@@ -2,7 +2,7 @@
 use Rattle.std.proofs.Common.{◌≡◌, ◌+◌, ◌<◌, None, Ok, Some, ap, arith, inr, length, subst, sym, ◌∙◌}
 use Rattle.chunk_core.specs.declared.code.How.TheVariants as how
 use Rattle.join_tree.specs.Mains.{IsMain}
-use Rattle.join_tree.specs.Progress.{leasing}
+use Rattle.join_tree.specs.Progress.{leasing_next}
 use Rattle.join_tree.specs.Steps.{Pulls}
 use Rattle.pull_stepper.specs.Held.{FinishesDevice}
 use Rattle.pull_turns.specs.Piping.{standing}
@@ -109,7 +109,7 @@ returns-in-Ok-Some-clause-collecting g c d0 s0 t depot sink k =
     let z = record a { tree = c.pull.new.tree; waiting = c.push_back_reserved.new.self } in
     subst (λ xs. IsCollectingWith view told fits values P p d0 s0 t (1 + length ws) xs a.jobs.items a.receiver depot sink c.pull.new.desk (record z { leased = a.leased + 1 })) (sym c.push_back_reserved.ensures.items)
     (lease_step view told fits values P p d0 s0 t (length ws) ws a.jobs.items a.receiver depot sink c.args.desk.now a k z c.pull.new.desk l (subst (λ n. q.leased < n) count pulls.0) pulls.1 pulls.3
-    (subst (λ n. IsMain ends p.max_open n (seen view c.pull.new.tree) (leasing q l.rows.items)) count pulls.4) e.guests e.rows e.events e.fits e.others c.requires.outer c.push_back_reserved.ensures.capacity)
+    (subst (λ n. IsMain ends p.max_open n (seen view c.pull.new.tree) (leasing_next q l.rows.items)) count pulls.4) e.guests e.rows e.events e.fits e.others c.requires.outer c.push_back_reserved.ensures.capacity)
 
 pub returns-in-Err-clause-collecting : goal.returns-in-Err-clause-collecting
 returns-in-Err-clause-collecting g c d0 s0 t depot sink k =

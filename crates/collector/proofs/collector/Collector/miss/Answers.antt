@@ -4,7 +4,7 @@ use Rattle.pull_turns.specs.Piping.{standing}
 use Rattle.scope_tree.specs.Trees.{seen}
 use Rattle.collector.specs.Collecting.{IsCollecting}
 use Rattle.collector.specs.declared.collector.Collector.{Collector}
-use Rattle.collector.specs.declared.collector.Left.{Left}
+use Rattle.collector.specs.declared.collector.Leftover.{Leftover}
 use Rattle.collector.proofs.Steps.{below, miss_step}
 use Rattle.collector.proofs.Tree.{cancel_free}
 use Rattle.collector.proofs.collector.Collector.miss.Goals as goal
@@ -58,7 +58,7 @@ returns g c = record {
       let e = c.pass_over.ensures in
       let q = c.push_reserved.ensures in
       let few = k.tree.few in
-      let y : Left _ = record { shelf = c.new.result; unopened = c.args.unopened } in
+      let y : Leftover _ = record { shelf = c.new.result; unopened = c.args.unopened } in
       let left = c.push_reserved.new.self in
       let z : Collector _ _ _ _ _ _ = record a { tree = c.pass_over.new.self.tree; stops = c.interrupt.new.self; report = c.miss.new.self; left = left } in
       subst (λ (x : Collector _ _ _ _ _ _). IsCollecting view told fits values P c.args.plan.now d0 s0 t 1 now sink c.pass_over.new.desk (record x { left = left })) (sym e.same)

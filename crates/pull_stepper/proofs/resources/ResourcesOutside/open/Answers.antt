@@ -2,7 +2,7 @@
 use Rattle.std.proofs.Common.{◌≡◌, ◌+◌, ◌-◌, ◌≤◌, Some, sym, ap, ◌∙◌, arith}
 use Rattle.std.specs.Vec.{with_item}
 use Rattle.scope_tree.specs.Trees.{seen as tree_seen}
-use Rattle.scope_tree.specs.Words.{owed}
+use Rattle.scope_tree.specs.Trace.{owed}
 use Rattle.pull_stepper.specs.Held.{FinishesDevice}
 use Rattle.pull_stepper.specs.Resources.{site}
 use Rattle.pull_stepper.specs.Sites.{slot}
@@ -70,7 +70,7 @@ returns-clause-ok g c =
     let is : slot x p ≡ Some (Some c.in-Some.device) = slot_same x p w.0 w.1 _ c.index_mut.result.now c.in-Some.device c.index_mut.ensures.value c.in-Some.is in
     let acquired : c.new.result ≡ c.open.new.self = c.new.ensures ∙ taken_out x p w.0 w.1 c.open.new.self _ c.index_mut-2.result.now c.in-Some-take.device c.index_mut-2.ensures.value (sym c.take.ensures.value ∙ c.in-Some-take.is) in
     let free : owed (g.S.RowSeat.view o.tree.seat) + 2 ≤ (g.S.RowSeat.view o.tree.seat).spare = omega arith in
-    now_acquires told (FinishesDevice told) x (tree_seen g.S.RowSeat.view c.acquired.new.self) c.args.scope p c.in-Some.device c.new.result o.tree.branches.items o.tree.held.items c.requires.fits.tree.sound.kept is c.requires.fits.order c.requires.scope
+    now_acquires told (FinishesDevice told) x (tree_seen g.S.RowSeat.view c.acquired.new.self) c.args.scope p c.in-Some.device c.new.result o.tree.branches.items o.tree.acquisitions.items c.requires.fits.tree.sound.kept is c.requires.fits.order c.requires.scope
     (ap told acquired ∙ c.in_ok-open.ensures.ok) free c.acquired.ensures.acquires _ (emptied x p c.in-Some.device is (Some c.open.new.self) c.take.new.self c.take.ensures.after)
 
 pub returns-clause-fits : goal.returns-clause-fits
@@ -80,7 +80,7 @@ returns-clause-fits g c =
     let acquired : c.new.result ≡ c.open.new.self = c.new.ensures ∙ taken_out x p w.0 w.1 c.open.new.self _ c.index_mut-2.result.now c.in-Some-take.device c.index_mut-2.ensures.value (sym c.take.ensures.value ∙ c.in-Some-take.is) in
     let free : owed (g.S.RowSeat.view o.tree.seat) + 2 ≤ (g.S.RowSeat.view o.tree.seat).spare = omega arith in
     stands g.S.RowSeat.view told g.S.RowSeat.fits _ c.acquired.new.desk c.acquired.ensures.fits
-    (now_order told (FinishesDevice told) x (tree_seen g.S.RowSeat.view c.acquired.new.self) c.args.scope p c.in-Some.device c.new.result o.tree.branches.items o.tree.held.items c.requires.fits.tree.sound.kept is c.requires.fits.order c.requires.scope
+    (now_order told (FinishesDevice told) x (tree_seen g.S.RowSeat.view c.acquired.new.self) c.args.scope p c.in-Some.device c.new.result o.tree.branches.items o.tree.acquisitions.items c.requires.fits.tree.sound.kept is c.requires.fits.order c.requires.scope
     (ap told acquired ∙ c.in_ok-open.ensures.ok) free c.acquired.ensures.acquires _ (emptied x p c.in-Some.device is (Some c.open.new.self) c.take.new.self c.take.ensures.after))
 
 pub returns-clause-since : goal.returns-clause-since
@@ -89,7 +89,7 @@ returns-clause-since g c =
     let is : slot x p ≡ Some (Some c.in-Some.device) = slot_same x p w.0 w.1 _ c.index_mut.result.now c.in-Some.device c.index_mut.ensures.value c.in-Some.is in
     let acquired : c.new.result ≡ c.open.new.self = c.new.ensures ∙ taken_out x p w.0 w.1 c.open.new.self _ c.index_mut-2.result.now c.in-Some-take.device c.index_mut-2.ensures.value (sym c.take.ensures.value ∙ c.in-Some-take.is) in
     let free : owed (g.S.RowSeat.view o.tree.seat) + 2 ≤ (g.S.RowSeat.view o.tree.seat).spare = omega arith in record {
-      since = now_since told (FinishesDevice told) x (tree_seen g.S.RowSeat.view c.acquired.new.self) c.args.scope p c.in-Some.device c.new.result o.tree.branches.items o.tree.held.items c.requires.fits.tree.sound.kept is c.requires.fits.order c.requires.scope
+      since = now_since told (FinishesDevice told) x (tree_seen g.S.RowSeat.view c.acquired.new.self) c.args.scope p c.in-Some.device c.new.result o.tree.branches.items o.tree.acquisitions.items c.requires.fits.tree.sound.kept is c.requires.fits.order c.requires.scope
           (ap told acquired ∙ c.in_ok-open.ensures.ok) free c.acquired.ensures.acquires _ (emptied x p c.in-Some.device is (Some c.open.new.self) c.take.new.self c.take.ensures.after);
       others = c.acquired.ensures.others;
     }

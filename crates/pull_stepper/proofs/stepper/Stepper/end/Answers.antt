@@ -20,10 +20,10 @@ returns-clause-ends g c =
     let stands = c.requires.fits.1.stands in let sound = stands.tree.sound in
     let x = site view o in
     let same : c.end-outside.result.0 ≡ o = c.end-outside.ensures.outside in
-    let closed : IsClosedScope (seen view t) 0 = root_closed (view t.seat) t.branches.items t.held.items sound.kept (c.requires.over.shut.scopes 0) in
+    let closed : IsClosedScope (seen view t) 0 = root_closed (view t.seat) t.branches.items t.acquisitions.items sound.kept (c.requires.over.shut.scopes 0) in
     let known : c.requires.over.how ≡ c.end-outside.result.1 = (let a = c.requires.over.ended in let b = c.end-outside.ensures.how in cc) in
     let unopened : c.of_vec.result ≡ filter_map (λ s. s) x.slots = c.of_vec.ensures ∙ (c.from_slots.ensures ∙ ap (λ r. filter_map (λ s. s) r.slots.items) same) in
-    let all = parted told x stands.order (nothing_open (view t.seat) t.branches.items t.held.items sound.kept closed) sound.shelved.distinct sound.shelved.empty in
+    let all = parted told x stands.order (nothing_open (view t.seat) t.branches.items t.acquisitions.items sound.kept closed) sound.shelved.distinct sound.shelved.empty in
     record {
       tree = ap (λ r. seen view r.tree) same;
       how = c.end-outside.ensures.how;

@@ -2,7 +2,7 @@ use Rattle.std.proofs.Common.{◌≡◌, [], ◌∷◌, ◌++◌, refl, sym, ap,
 use Rattle.row_seat.proofs.Members.{among_kept}
 use Rattle.chunk_core.proofs.Members.{among_last}
 use Rattle.row_seat.specs.Views.{placed, noted}
-use Rattle.scope_tree.specs.Words.{acquiring, owed}
+use Rattle.scope_tree.specs.Trace.{acquiring, owed}
 use Rattle.scope_tree.specs.Kept.{Kept}
 use Rattle.res_ledger.specs.Order.{firsts}
 use Rattle.scope_tree.specs.declared.branch.AcquiredRow.{AcquiredRow}
@@ -25,8 +25,8 @@ place-requires-clause-row g c = rw c.note.ensures.view (c.requires.row, (c.args.
 
 pub push_reserved-requires : goal.push_reserved-requires
 push_reserved-requires g c =
-    let t = c.args.self.now in let k = c.requires.fits.sound.kept in let a = c.requires.room in let b = c.requires.fits.sound.held in
-    let u = used_is (g.S.RowSeat.view t.seat) t.branches.items t.held.items k (firsts (said t.shelf.items)) in let z = t.held.ok.0 in
+    let t = c.args.self.now in let k = c.requires.fits.sound.kept in let a = c.requires.room in let b = c.requires.fits.sound.acquisitions in
+    let u = used_is (g.S.RowSeat.view t.seat) t.branches.items t.acquisitions.items k (firsts (said t.shelf.items)) in let z = t.acquisitions.ok.0 in
     omega (u, a, b, z, arith)
 
 pub returns-clause-room : goal.returns-clause-room
@@ -38,20 +38,20 @@ returns-clause-room g c =
 
 pub returns-clause-fits : goal.returns-clause-fits
 returns-clause-fits g c =
-    let t = c.args.self.now in let s = c.args.scope in let r = c.args.row in let hs = t.held.items in let bs = t.branches.items in let v = g.S.RowSeat.view t.seat in let n = c.note.result in
+    let t = c.args.self.now in let s = c.args.scope in let r = c.args.row in let hs = t.acquisitions.items in let bs = t.branches.items in let v = g.S.RowSeat.view t.seat in let n = c.note.result in
     let w = g.S.RowSeat.view c.place.new.self in let w' = placed (noted v (acquiring v r s n)) r c.args.pay in let h : AcquiredRow = record { row = r; scope = s } in
     let z = c.requires.fits.sound in
     let e : w ≡ w' = rw (c.place.ensures.view, c.note.ensures.view) refl in
     let k : Kept w bs (hs ++ h ∷ []) = subst (λ x. Kept x bs (hs ++ h ∷ [])) (sym e) (acquire_keeps v bs hs r s n c.args.pay z.kept c.requires.scope c.requires.row c.requires.free) in
     let u = (returns-clause-room g c).used in let a = c.requires.room in
-    let cap = c.push_reserved.ensures.capacity in let b = z.held in record {
+    let cap = c.push_reserved.ensures.capacity in let b = z.acquisitions in record {
       seat = c.place.ensures.fits;
       sound = record {
         kept = subst (λ x. Kept w bs x) (sym c.push_reserved.ensures.items) k;
         shelved = subst (λ x. Shelved w x t.shelf.items) (sym c.push_reserved.ensures.items) (subst (λ x. Shelved x (hs ++ h ∷ []) t.shelf.items) (sym e) (acquire_shelved v bs hs t.shelf.items z.kept z.shelved r s n c.args.pay c.requires.row c.note.ensures.stamp));
         used = omega (u, a, arith);
         branches = z.branches;
-        held = omega (cap, b, arith);
+        acquisitions = omega (cap, b, arith);
         shelf = z.shelf;
         limit = z.limit;
         rows_limit = z.rows_limit;
@@ -62,7 +62,7 @@ pub returns-clause-scopes : goal.returns-clause-scopes
 returns-clause-scopes g c =
     let t = c.args.self.now in let v = g.S.RowSeat.view t.seat in let s = c.args.scope in let r = c.args.row in let n = c.note.result in
     let w = placed (noted v (acquiring v r s n)) r c.args.pay in let e : g.S.RowSeat.view c.place.new.self ≡ w = rw (c.place.ensures.view, c.note.ensures.view) refl in
-    let grown = acquired_grown v t.branches.items t.held.items r s n c.args.pay c.requires.fits.sound.kept c.requires.scope c.requires.row c.requires.free in
+    let grown = acquired_grown v t.branches.items t.acquisitions.items r s n c.args.pay c.requires.fits.sound.kept c.requires.scope c.requires.row c.requires.free in
     keeps_scopes w e grown (λ q u x. grown_back grown refl refl q x)
 
 pub returns-clause-empty : goal.returns-clause-empty
@@ -72,7 +72,7 @@ pub returns-clause-owed : goal.returns-clause-owed
 returns-clause-owed g c =
     let t = c.args.self.now in let v = g.S.RowSeat.view t.seat in let s = c.args.scope in let r = c.args.row in let n = c.note.result in
     let w = placed (noted v (acquiring v r s n)) r c.args.pay in let e : g.S.RowSeat.view c.place.new.self ≡ w = rw (c.place.ensures.view, c.note.ensures.view) refl in
-    ap owed e ∙ acquired_owed v t.branches.items t.held.items r s n c.args.pay c.requires.fits.sound.kept c.requires.scope c.requires.row c.requires.free
+    ap owed e ∙ acquired_owed v t.branches.items t.acquisitions.items r s n c.args.pay c.requires.fits.sound.kept c.requires.scope c.requires.row c.requires.free
 
 pub returns-clause-leases : goal.returns-clause-leases
 returns-clause-leases g c =

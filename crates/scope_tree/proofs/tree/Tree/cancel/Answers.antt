@@ -6,7 +6,7 @@ use Rattle.std.specs.List.{IsDistinct}
 use Rattle.scope_tree.specs.Released.{Releases, away, said}
 use Rattle.scope_tree.specs.Released.Holder.{lease}
 use Rattle.row_seat.specs.Views.{noted}
-use Rattle.scope_tree.specs.Words.{canceling, owed}
+use Rattle.scope_tree.specs.Trace.{canceling, owed}
 use Rattle.scope_tree.specs.Kept.{Shelved}
 use Rattle.scope_tree.proofs.Calling.{cancel_leaves}
 use Rattle.scope_tree.proofs.Cancelling.{cancel_can, cancel_keeps}
@@ -25,11 +25,11 @@ free_reverse v T f = let e = away_reverse T v.opened in omega (e, f, arith)
 pub leave_all-requires-clause-can : goal.leave_all-requires-clause-can
 leave_all-requires-clause-can g c =
     let t = c.args.self.now in let v = g.S.RowSeat.view t.seat in let j = c.args.lease.stream in let T = c.args.lease.rows.items in
-    rw (c.note.ensures.view, c.deref.ensures.value) (cancel_can v t.branches.items t.held.items j c.note.result (reverse T) c.args.exit c.requires.fits.sound.kept (distinct_reverse T (test_distinct T c.args.lease.distinct)) (λ r m. c.requires.pairs r (among_reverse r T m)) (free_reverse v T c.requires.free))
+    rw (c.note.ensures.view, c.deref.ensures.value) (cancel_can v t.branches.items t.acquisitions.items j c.note.result (reverse T) c.args.exit c.requires.fits.sound.kept (distinct_reverse T (test_distinct T c.args.lease.distinct)) (λ r m. c.requires.pairs r (among_reverse r T m)) (free_reverse v T c.requires.free))
 
 pub leave_all-requires-clause-room : goal.leave_all-requires-clause-room
 leave_all-requires-clause-room g c =
-    let t = c.args.self.now in let v = g.S.RowSeat.view t.seat in let bs = t.branches.items in let hs = t.held.items in let z = c.requires.fits.sound in let T = c.args.lease.rows.items in let F = firsts (said t.shelf.items) in
+    let t = c.args.self.now in let v = g.S.RowSeat.view t.seat in let bs = t.branches.items in let hs = t.acquisitions.items in let z = c.requires.fits.sound in let T = c.args.lease.rows.items in let F = firsts (said t.shelf.items) in
     let m = cancel_count v bs hs z.kept t.shelf.items z.shelved c.args.lease.stream T (test_distinct T c.args.lease.distinct) c.requires.pairs in
     let e = away_reverse T v.opened in let n = rows_count v bs hs z.kept in let u = used_is v bs hs z.kept F in let u' = used_is v bs hs z.kept T in let a = c.requires.room in let d = z.shelf in let y = t.shelf.ok.0 in
     rw (c.note.ensures.view, c.deref.ensures.value) (omega (m, e, n, u, u', a, d, y, arith))
@@ -51,7 +51,7 @@ returns-clause-room g c = cancel_takes (returns-clause-cancels g c)
 
 pub returns-clause-fits : goal.returns-clause-fits
 returns-clause-fits g c =
-    let t = c.args.self.now in let v = g.S.RowSeat.view t.seat in let bs = t.branches.items in let hs = t.held.items in let z = c.requires.fits.sound in let n = c.note.result in
+    let t = c.args.self.now in let v = g.S.RowSeat.view t.seat in let bs = t.branches.items in let hs = t.acquisitions.items in let z = c.requires.fits.sound in let n = c.note.result in
     let j = c.args.lease.stream in let T = c.args.lease.rows.items in let w = g.S.RowSeat.view c.leave_all.new.seat in let shelf = c.leave_all.new.shelf.items in
     let all : Releases g.S.Pay.Finish.ends c.args.exit (lease j) (reverse T) (noted v (canceling v j c.args.exit n)) t.shelf.items shelf w = rw (c.note.ensures.view, c.deref.ensures.value) at c.leave_all.ensures.released in
     let xs = all.0 in let d : IsDistinct nat_eq (reverse T) = distinct_reverse T (test_distinct T c.args.lease.distinct) in
@@ -65,7 +65,7 @@ returns-clause-fits g c =
         shelved = subst (λ l. Shelved w hs l) (sym all.1) (cancel_shelved v bs hs t.shelf.items z.kept z.shelved j n (reverse T) d p f c.note.ensures.stamp all.2);
         used = omega (few, u, a, arith);
         branches = z.branches;
-        held = z.held;
+        acquisitions = z.acquisitions;
         shelf = omega (b, r, arith);
         limit = z.limit;
         rows_limit = z.rows_limit;

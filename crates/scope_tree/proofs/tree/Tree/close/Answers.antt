@@ -1,5 +1,5 @@
 use Rattle.std.proofs.Common.{refl, sym, ap, ◌∙◌, subst, arith}
-use Rattle.scope_tree.specs.Words.{shutting}
+use Rattle.scope_tree.specs.Trace.{shutting}
 use Rattle.scope_tree.specs.Released.{Releases}
 use Rattle.scope_tree.specs.Kids.{whole}
 use Rattle.scope_tree.specs.Released.Holder.{owner}
@@ -24,26 +24,26 @@ use Rattle.chunk_core.specs.Lists.{IsAmong}
 use Rattle.scope_tree.proofs.tree.Tree.close.Goals as goal
 
 pub note-requires-clause-room : goal.note-requires-clause-room
-note-requires-clause-room g c = let t = c.args.self.now in close_spare (g.S.RowSeat.view t.seat) t.branches.items t.held.items c.requires.fits.sound.kept c.args.scope c.requires.scope
+note-requires-clause-room g c = let t = c.args.self.now in close_spare (g.S.RowSeat.view t.seat) t.branches.items t.acquisitions.items c.requires.fits.sound.kept c.args.scope c.requires.scope
 
 pub tear-requires-clause-scope : goal.tear-requires-clause-scope
-tear-requires-clause-scope g c = let t = c.args.self.now in rw c.deref.ensures.value (usable_scope (g.S.RowSeat.view t.seat) t.branches.items t.held.items c.requires.fits.sound.kept c.args.scope c.requires.scope)
+tear-requires-clause-scope g c = let t = c.args.self.now in rw c.deref.ensures.value (usable_scope (g.S.RowSeat.view t.seat) t.branches.items t.acquisitions.items c.requires.fits.sound.kept c.args.scope c.requires.scope)
 
 pub tear-requires-clause-can : goal.tear-requires-clause-can
-tear-requires-clause-can g c = let t = c.args.self.now in rw (c.note.ensures.view, c.deref.ensures.value, c.deref-2.ensures.value) (close_can (g.S.RowSeat.view t.seat) t.branches.items t.held.items c.requires.fits.sound.kept c.args.scope c.note.result c.args.exit c.requires.scope)
+tear-requires-clause-can g c = let t = c.args.self.now in rw (c.note.ensures.view, c.deref.ensures.value, c.deref-2.ensures.value) (close_can (g.S.RowSeat.view t.seat) t.branches.items t.acquisitions.items c.requires.fits.sound.kept c.args.scope c.note.result c.args.exit c.requires.scope)
 
 pub tear-requires-clause-room : goal.tear-requires-clause-room
 tear-requires-clause-room g c =
-    let t = c.args.self.now in let v = g.S.RowSeat.view t.seat in let bs = t.branches.items in let hs = t.held.items in let z = c.requires.fits.sound in
+    let t = c.args.self.now in let v = g.S.RowSeat.view t.seat in let bs = t.branches.items in let hs = t.acquisitions.items in let z = c.requires.fits.sound in
     let n = close_count v bs hs z.kept c.args.scope c.requires.scope in let m = shelf_count v bs hs z.kept t.shelf.items z.shelved in let u = used_is v bs hs z.kept (firsts (said t.shelf.items)) in
     let a = z.used in let d = z.shelf in let y = t.shelf.ok.0 in rw (c.deref.ensures.value, c.deref-2.ensures.value) (omega (n, m, u, a, d, y, arith))
 
 pub index_mut-requires : goal.index_mut-requires
-index_mut-requires g c = let t = c.args.self.now in let l = usable_scope (g.S.RowSeat.view t.seat) t.branches.items t.held.items c.requires.fits.sound.kept c.args.scope c.requires.scope in let z = t.branches.ok.0 in omega arith
+index_mut-requires g c = let t = c.args.self.now in let l = usable_scope (g.S.RowSeat.view t.seat) t.branches.items t.acquisitions.items c.requires.fits.sound.kept c.args.scope c.requires.scope in let z = t.branches.ok.0 in omega arith
 
 pub returns-clause-closes : goal.returns-clause-closes
 returns-clause-closes g c =
-    let t = c.args.self.now in let s = c.args.scope in let bs = t.branches.items in let hs = t.held.items in let v = g.S.RowSeat.view t.seat in
+    let t = c.args.self.now in let s = c.args.scope in let bs = t.branches.items in let hs = t.acquisitions.items in let v = g.S.RowSeat.view t.seat in
     let l = usable_scope v bs hs c.requires.fits.sound.kept s c.requires.scope in record {
       stamp = c.note.result;
       fresh = c.note.ensures.stamp;
@@ -55,11 +55,11 @@ returns-clause-closes g c =
 pub returns-clause-room : goal.returns-clause-room
 returns-clause-room g c =
     let t = c.args.self.now in let v = g.S.RowSeat.view t.seat in let k = c.requires.fits.sound.kept in
-    close_takes t.branches.items t.held.items k (usable_scope v t.branches.items t.held.items k c.args.scope c.requires.scope) (returns-clause-closes g c)
+    close_takes t.branches.items t.acquisitions.items k (usable_scope v t.branches.items t.acquisitions.items k c.args.scope c.requires.scope) (returns-clause-closes g c)
 
 pub returns-clause-fits : goal.returns-clause-fits
 returns-clause-fits g c =
-    let t = c.args.self.now in let s = c.args.scope in let bs = t.branches.items in let hs = t.held.items in let v = g.S.RowSeat.view t.seat in let w = g.S.RowSeat.view c.tear.new.seat in let z = c.requires.fits.sound in
+    let t = c.args.self.now in let s = c.args.scope in let bs = t.branches.items in let hs = t.acquisitions.items in let v = g.S.RowSeat.view t.seat in let w = g.S.RowSeat.view c.tear.new.seat in let z = c.requires.fits.sound in
     let l = usable_scope v bs hs z.kept s c.requires.scope in let n = c.note.result in
     let all : Releases g.S.Pay.Finish.ends c.args.exit owner (whole bs hs s) (shutting v s c.args.exit n) t.shelf.items c.tear.new.shelf.items w = releases_at _ _ (ap (λ x. whole x c.deref-2.result.now s) c.deref.ensures.value ∙ ap (λ x. whole bs x s) c.deref-2.ensures.value) c.note.ensures.view c.tear.ensures.released in
     let xs = all.0 in let torn = all.2 in let shelf = c.tear.new.shelf.items in
@@ -71,7 +71,7 @@ returns-clause-fits g c =
         shelved = subst (λ l. Shelved w hs l) (sym all.1) (close_shelved v bs hs t.shelf.items z.kept z.shelved s n c.requires.scope c.note.ensures.stamp torn);
         used = omega (u, a, arith);
         branches = z.branches;
-        held = z.held;
+        acquisitions = z.acquisitions;
         shelf = omega (b, d, arith);
         limit = z.limit;
         rows_limit = z.rows_limit;
@@ -86,7 +86,7 @@ returns-clause-scopes g c = λ s x. let o = returns-clause-closes g c in grown_c
 
 pub returns-clause-free : goal.returns-clause-free
 returns-clause-free g c =
-    let t = c.args.self.now in let s = c.args.scope in let bs = t.branches.items in let hs = t.held.items in let v = g.S.RowSeat.view t.seat in let k = c.requires.fits.sound.kept in
+    let t = c.args.self.now in let s = c.args.scope in let bs = t.branches.items in let hs = t.acquisitions.items in let v = g.S.RowSeat.view t.seat in let k = c.requires.fits.sound.kept in
     let all = releases_at _ _ (ap (λ x. whole x c.deref-2.result.now s) c.deref.ensures.value ∙ ap (λ x. whole bs x s) c.deref-2.ensures.value) c.note.ensures.view c.tear.ensures.released in
     close_free v (g.S.RowSeat.view c.tear.new.seat) bs hs all.0 s c.note.result k c.requires.scope all.2
 

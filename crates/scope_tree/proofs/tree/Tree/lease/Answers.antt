@@ -7,7 +7,7 @@ use Rattle.row_seat.specs.Views.{MayNote, noted}
 use Rattle.scope_tree.specs.Kept.{Kept, Shelved}
 use Rattle.scope_tree.specs.Leased.{leased_all, pairs_for}
 use Rattle.std.specs.List.{IsDistinct}
-use Rattle.scope_tree.specs.Words.{owed, own_rows, words}
+use Rattle.scope_tree.specs.Trace.{owed, own_rows, trace}
 use Rattle.scope_tree.proofs.Calling.{keeps_scopes, seated}
 use Rattle.chunk_core.proofs.Distinct.{distinct_test}
 use Rattle.scope_tree.proofs.Grown.{grown_back, owed_still}
@@ -22,25 +22,25 @@ use Rattle.scope_tree.proofs.tree.Tree.lease.Goals as goal
 
 pub lease_rows-requires-clause-rows : goal.lease_rows-requires-clause-rows
 lease_rows-requires-clause-rows g c =
-    let t = c.args.self.now in let v = g.S.RowSeat.view t.seat in let bs = t.branches.items in let hs = t.held.items in let z = c.requires.fits.sound in let s = c.args.scope in
-    let e : c.deref.result.now ≡ leased_rows (words v) s = c.deref.ensures.value ∙ c.in_ok-rows.ensures in
+    let t = c.args.self.now in let v = g.S.RowSeat.view t.seat in let bs = t.branches.items in let hs = t.acquisitions.items in let z = c.requires.fits.sound in let s = c.args.scope in
+    let e : c.deref.result.now ≡ leased_rows (trace v) s = c.deref.ensures.value ∙ c.in_ok-rows.ensures in
     rw e (lease_rows_open v bs hs t.shelf.items z.kept z.shelved s c.args.stream c.requires.scope, lease_distinct v bs hs t.shelf.items z.kept z.shelved s c.args.stream c.requires.scope)
 
 pub lease_rows-requires-clause-none : goal.lease_rows-requires-clause-none
 lease_rows-requires-clause-none g c =
     let t = c.args.self.now in let z = c.requires.fits.sound in let st = c.requires.stream in
-    lease_none (g.S.RowSeat.view t.seat) t.branches.items t.held.items t.shelf.items z.kept z.shelved c.args.scope c.args.stream c.requires.scope st.0 st.2
+    lease_none (g.S.RowSeat.view t.seat) t.branches.items t.acquisitions.items t.shelf.items z.kept z.shelved c.args.scope c.args.stream c.requires.scope st.0 st.2
 
 pub note-requires-clause-event : goal.note-requires-clause-event
 note-requires-clause-event g c =
     let t = c.args.self.now in let v = g.S.RowSeat.view t.seat in let z = c.requires.fits.sound in let T = c.in_ok-rows.rows.items in
     let e : g.S.RowSeat.view c.lease_rows.new.seat ≡ leased_all v c.args.stream T = c.lease_rows.ensures.seat ∙ ap (leased_all v c.args.stream) c.deref.ensures.value in
-    subst (λ x. MayNote x (Lease c.args.stream c.args.scope)) (sym e) (lease_event v t.branches.items t.held.items t.shelf.items z.kept z.shelved c.args.scope c.args.stream c.requires.scope T c.in_ok-rows.ensures c.requires.main c.requires.stream)
+    subst (λ x. MayNote x (Lease c.args.stream c.args.scope)) (sym e) (lease_event v t.branches.items t.acquisitions.items t.shelf.items z.kept z.shelved c.args.scope c.args.stream c.requires.scope T c.in_ok-rows.ensures c.requires.main c.requires.stream)
 
 pub invariant_of-result : goal.invariant_of-result
 invariant_of-result g c =
     let t = c.args.self.now in let v = g.S.RowSeat.view t.seat in let z = c.requires.fits.sound in
-    record { distinct = distinct_test c.in_ok-rows.rows.items (subst (IsDistinct nat_eq) (sym c.in_ok-rows.ensures) (lease_distinct v t.branches.items t.held.items t.shelf.items z.kept z.shelved c.args.scope c.args.stream c.requires.scope)) }
+    record { distinct = distinct_test c.in_ok-rows.rows.items (subst (IsDistinct nat_eq) (sym c.in_ok-rows.ensures) (lease_distinct v t.branches.items t.acquisitions.items t.shelf.items z.kept z.shelved c.args.scope c.args.stream c.requires.scope)) }
 
 pub returns-clause-ok : goal.returns-clause-ok
 returns-clause-ok g c =
@@ -61,7 +61,7 @@ returns-clause-ok g c =
 pub returns-clause-scopes : goal.returns-clause-scopes
 returns-clause-scopes g c =
     let t = c.args.self.now in let v = g.S.RowSeat.view t.seat in let z = c.requires.fits.sound in let o = (returns-clause-ok g c).1 in
-    let grown = lease_grown v t.branches.items t.held.items t.shelf.items z.kept z.shelved c.args.scope c.args.stream c.requires.scope o.stamp c.in_ok-rows.rows.items o.covered in
+    let grown = lease_grown v t.branches.items t.acquisitions.items t.shelf.items z.kept z.shelved c.args.scope c.args.stream c.requires.scope o.stamp c.in_ok-rows.rows.items o.covered in
     keeps_scopes _ o.seat grown (λ s u x. grown_back grown refl refl s x)
 
 pub returns-clause-pairs : goal.returns-clause-pairs
@@ -70,11 +70,11 @@ returns-clause-pairs g c = λ r m. let o = (returns-clause-ok g c).1 in rw o.sea
 pub returns-clause-owed : goal.returns-clause-owed
 returns-clause-owed g c =
     let t = c.args.self.now in let v = g.S.RowSeat.view t.seat in let z = c.requires.fits.sound in let o = (returns-clause-ok g c).1 in
-    ap owed o.seat ∙ owed_still (lease_grown v t.branches.items t.held.items t.shelf.items z.kept z.shelved c.args.scope c.args.stream c.requires.scope o.stamp c.in_ok-rows.rows.items o.covered) refl refl refl
+    ap owed o.seat ∙ owed_still (lease_grown v t.branches.items t.acquisitions.items t.shelf.items z.kept z.shelved c.args.scope c.args.stream c.requires.scope o.stamp c.in_ok-rows.rows.items o.covered) refl refl refl
 
 pub returns-clause-fits : goal.returns-clause-fits
 returns-clause-fits g c =
-    let t = c.args.self.now in let v = g.S.RowSeat.view t.seat in let bs = t.branches.items in let hs = t.held.items in let xs = t.shelf.items in let z = c.requires.fits.sound in let o = (returns-clause-ok g c).1 in
+    let t = c.args.self.now in let v = g.S.RowSeat.view t.seat in let bs = t.branches.items in let hs = t.acquisitions.items in let xs = t.shelf.items in let z = c.requires.fits.sound in let o = (returns-clause-ok g c).1 in
     let keeps = lease_keeps v bs hs xs z.kept z.shelved c.args.scope c.args.stream c.requires.scope o.stamp c.in_ok-rows.rows.items o.covered c.requires.free in
     let shelved = lease_shelved v bs hs xs z.kept z.shelved c.args.scope c.args.stream c.requires.scope o.stamp c.in_ok-rows.rows.items o.covered o.fresh in
     record { seat = c.note.ensures.fits; sound = seated g.S.RowSeat.view t c.note.new.self (subst (λ x. Kept x bs hs) (sym o.seat) keeps) (subst (λ x. Shelved x hs xs) (sym o.seat) shelved) z }
@@ -91,5 +91,5 @@ pub returns-clause-own : goal.returns-clause-own
 returns-clause-own g c =
     let t = c.args.self.now in let v = g.S.RowSeat.view t.seat in let z = c.requires.fits.sound in let T = c.in_ok-rows.rows.items in let o = (returns-clause-ok g c).1 in
     let few = (lease_takes o).own T in
-    let none = strangers_none (own_rows v) T (λ r m. subst (λ l. IsAmong r l) (sym (own_is v t.branches.items t.held.items z.kept)) (open_held v t.branches.items t.held.items z.kept r (lease_rows_open v t.branches.items t.held.items t.shelf.items z.kept z.shelved c.args.scope c.args.stream c.requires.scope r (subst (λ l. IsAmong r l) o.covered m)))) in
+    let none = strangers_none (own_rows v) T (λ r m. subst (λ l. IsAmong r l) (sym (own_is v t.branches.items t.acquisitions.items z.kept)) (open_held v t.branches.items t.acquisitions.items z.kept r (lease_rows_open v t.branches.items t.acquisitions.items t.shelf.items z.kept z.shelved c.args.scope c.args.stream c.requires.scope r (subst (λ l. IsAmong r l) o.covered m)))) in
     omega (few, none, arith)

@@ -11,7 +11,7 @@ returns-clause-fits g c = λ d f.
     let v = g.S.RowSeat.view c.args.seat in let room = c.args.room in let root : Branch = record { parent = 0; shut = false } in
     let items : c.push_reserved.new.self.items ≡ root ∷ [] = c.push_reserved.ensures.items ∙ ap (λ l. l ++ root ∷ []) room.nothing.0 in
     let k = start_keeps v c.requires.start in let u = used_is v (root ∷ []) [] k [] in
-    let kept : Kept v c.push_reserved.new.self.items room.held.items = subst (λ l. Kept v l room.held.items) (sym items) (subst (λ l. Kept v (root ∷ []) l) (sym room.nothing.1) k) in
+    let kept : Kept v c.push_reserved.new.self.items room.acquisitions.items = subst (λ l. Kept v l room.acquisitions.items) (sym items) (subst (λ l. Kept v (root ∷ []) l) (sym room.nothing.1) k) in
     let e = room.enough in let cap = c.push_reserved.ensures.capacity in record {
       seat = f;
       sound = record {
@@ -19,7 +19,7 @@ returns-clause-fits g c = λ d f.
         shelved = subst (λ l. Shelved v l room.shelf.items) (sym room.nothing.1) (subst (λ l. Shelved v [] l) (sym room.nothing.2) (start_shelved v c.requires.start));
         used = rw room.nothing.2 (omega (u, arith));
         branches = (let a = e.0 in omega (a, cap, arith));
-        held = e.1;
+        acquisitions = e.1;
         shelf = e.2;
         limit = search rules;
         rows_limit = search rules;

@@ -2,7 +2,7 @@ use Rattle.std.proofs.Common.{◌≡◌, ℕ, ◌<◌, length, drop, [], List, �
 use Rattle.row_seat.specs.Views.{noted}
 use Rattle.res_ledger.specs.Own.{opens}
 use Rattle.scope_tree.specs.declared.branch.Branch.{Branch}
-use Rattle.scope_tree.specs.Words.{words, opening}
+use Rattle.scope_tree.specs.Trace.{trace, opening}
 use Rattle.scope_tree.specs.Kept.{Kept, marks}
 use Rattle.scope_tree.specs.Kept.{Shelved}
 use Rattle.scope_tree.proofs.Shelving.{open_shelved}
@@ -24,42 +24,42 @@ use Rattle.scope_tree.proofs.tree.Tree.open.Goals as goal
 pub overflow_cast-scope : goal.overflow_cast-scope
 overflow_cast-scope g c =
     let t = c.args.self.now in let k = c.requires.fits.sound.kept in
-    let n : length (opens (words (g.S.RowSeat.view t.seat))) ≡ length (marks 1 (drop 1 t.branches.items)) = ap length k.mirrors.opens in let m = length_marks t.branches.items k.mirrors.size in
+    let n : length (opens (trace (g.S.RowSeat.view t.seat))) ≡ length (marks 1 (drop 1 t.branches.items)) = ap length k.mirrors.opens in let m = length_marks t.branches.items k.mirrors.size in
     let l = c.len-scope.ensures in let z = t.branches.ok.0 in let a = c.requires.room in let d = c.requires.fits.sound.limit in omega arith
 
 at_in : {P : Type 0} (v : View P) (bs : List Branch) (hs : List AcquiredRow) (k : Kept v bs hs) (c : ℕ) → (c ≡ 0) ⊎ IsOpened v.events v.by c → c < length bs
 at_in v bs hs k c a = ⊎_elim (λ e. let z = k.mirrors.size in omega arith) (λ o. (noted_scope v bs hs k c o.0 o.1).1) a
 
 pub first_open-parent-requires-clause-scope : goal.first_open-parent-requires-clause-scope
-first_open-parent-requires-clause-scope g c = let t = c.args.self.now in rw c.deref.ensures.value (at_in (g.S.RowSeat.view t.seat) t.branches.items t.held.items c.requires.fits.sound.kept c.args.at c.requires.at)
+first_open-parent-requires-clause-scope g c = let t = c.args.self.now in rw c.deref.ensures.value (at_in (g.S.RowSeat.view t.seat) t.branches.items t.acquisitions.items c.requires.fits.sound.kept c.args.at c.requires.at)
 
 pub first_open-parent-requires-clause-parents : goal.first_open-parent-requires-clause-parents
 first_open-parent-requires-clause-parents g c = rw c.deref.ensures.value c.requires.fits.sound.kept.mirrors.parents
 
 pub first_open-parent-requires-clause-root : goal.first_open-parent-requires-clause-root
-first_open-parent-requires-clause-root g c = let t = c.args.self.now in let k = c.requires.fits.sound.kept in rw c.deref.ensures.value (λ d. no_own_close (g.S.RowSeat.view t.seat) t.branches.items t.held.items k 0 d k.mirrors.size (λ n. c.requires.root (0, same 0, n)))
+first_open-parent-requires-clause-root g c = let t = c.args.self.now in let k = c.requires.fits.sound.kept in rw c.deref.ensures.value (λ d. no_own_close (g.S.RowSeat.view t.seat) t.branches.items t.acquisitions.items k 0 d k.mirrors.size (λ n. c.requires.root (0, same 0, n)))
 
 pub note-requires-clause-event : goal.note-requires-clause-event
 note-requires-clause-event g c =
-    let bs = c.args.self.now.branches.items in let hs = c.args.self.now.held.items in let v = g.S.RowSeat.view c.args.self.now.seat in
+    let bs = c.args.self.now.branches.items in let hs = c.args.self.now.acquisitions.items in let v = g.S.RowSeat.view c.args.self.now.seat in
     let t = c.args.self.now in let k = c.requires.fits.sound.kept in let l = c.len-scope.ensures in let z = t.branches.ok.0 in let s = k.mirrors.size in
     let f = nearest_first v bs hs k c.args.at c.first_open-parent.result (at_in v bs hs k c.args.at c.requires.at) (rw c.deref.ensures.value at c.first_open-parent.ensures) in
-    ((λ e. omega arith), (λ o. let n = noted_scope (g.S.RowSeat.view t.seat) t.branches.items t.held.items k c.len-scope.result o.0 o.1 in let q = n.1 in omega arith), first_usable v bs hs k c.args.at c.first_open-parent.result f.1 f.0)
+    ((λ e. omega arith), (λ o. let n = noted_scope (g.S.RowSeat.view t.seat) t.branches.items t.acquisitions.items k c.len-scope.result o.0 o.1 in let q = n.1 in omega arith), first_usable v bs hs k c.args.at c.first_open-parent.result f.1 f.0)
 
 pub push_reserved-requires : goal.push_reserved-requires
 push_reserved-requires g c =
     let t = c.args.self.now in let k = c.requires.fits.sound.kept in
-    let n : length (opens (words (g.S.RowSeat.view t.seat))) ≡ length (marks 1 (drop 1 t.branches.items)) = ap length k.mirrors.opens in let m = length_marks t.branches.items k.mirrors.size in
+    let n : length (opens (trace (g.S.RowSeat.view t.seat))) ≡ length (marks 1 (drop 1 t.branches.items)) = ap length k.mirrors.opens in let m = length_marks t.branches.items k.mirrors.size in
     let z = t.branches.ok.0 in let a = c.requires.room in let b = c.requires.fits.sound.branches in omega arith
 
 pub returns-clause-opens : goal.returns-clause-opens
 returns-clause-opens g c =
     let t = c.args.self.now in let k = c.requires.fits.sound.kept in
-    let n : length (opens (words (g.S.RowSeat.view t.seat))) ≡ length (marks 1 (drop 1 t.branches.items)) = ap length k.mirrors.opens in let m = length_marks t.branches.items k.mirrors.size in
+    let n : length (opens (trace (g.S.RowSeat.view t.seat))) ≡ length (marks 1 (drop 1 t.branches.items)) = ap length k.mirrors.opens in let m = length_marks t.branches.items k.mirrors.size in
     let l = c.len-scope.ensures in let z = t.branches.ok.0 in record {
       stamp = c.note.result;
       parent = c.first_open-parent.result;
-      nearest = (let bs = t.branches.items in let hs = t.held.items in let v = g.S.RowSeat.view t.seat in let f = nearest_first v bs hs k c.args.at c.first_open-parent.result (at_in v bs hs k c.args.at c.requires.at) (rw c.deref.ensures.value at c.first_open-parent.ensures) in f.0);
+      nearest = (let bs = t.branches.items in let hs = t.acquisitions.items in let v = g.S.RowSeat.view t.seat in let f = nearest_first v bs hs k c.args.at c.first_open-parent.result (at_in v bs hs k c.args.at c.requires.at) (rw c.deref.ensures.value at c.first_open-parent.ensures) in f.0);
       fresh = c.note.ensures.stamp;
       number = omega arith;
       seat = c.note.ensures.view;
@@ -73,7 +73,7 @@ returns-clause-room g c = open_takes (returns-clause-opens g c)
 
 pub returns-clause-fits : goal.returns-clause-fits
 returns-clause-fits g c =
-    let t = c.args.self.now in let z = c.requires.fits.sound in let p = c.first_open-parent.result in let hs = t.held.items in let bs = t.branches.items in let v = g.S.RowSeat.view t.seat in let w = g.S.RowSeat.view c.note.new.self in let n = c.note.result in
+    let t = c.args.self.now in let z = c.requires.fits.sound in let p = c.first_open-parent.result in let hs = t.acquisitions.items in let bs = t.branches.items in let v = g.S.RowSeat.view t.seat in let w = g.S.RowSeat.view c.note.new.self in let n = c.note.result in
     let l = c.len-scope.ensures in let y = t.branches.ok.0 in
     let number : c.len-scope.result ≡ length bs = omega arith in
     let e : w ≡ noted v (opening v (length bs) p n) = c.note.ensures.view ∙ ap (λ i. noted v (opening v i p n)) number in
@@ -87,7 +87,7 @@ returns-clause-fits g c =
         shelved = subst (λ x. Shelved x hs t.shelf.items) (sym e) (open_shelved v bs hs t.shelf.items z.kept z.shelved (length bs) p n c.note.ensures.stamp);
         used = omega (u, a, arith);
         branches = omega (cap, b, arith);
-        held = z.held;
+        acquisitions = z.acquisitions;
         shelf = z.shelf;
         limit = z.limit;
         rows_limit = z.rows_limit;
@@ -96,17 +96,17 @@ returns-clause-fits g c =
 
 pub returns-clause-child : goal.returns-clause-child
 returns-clause-child g c =
-    let t = c.args.self.now in let bs = t.branches.items in let hs = t.held.items in let k = c.requires.fits.sound.kept in
+    let t = c.args.self.now in let bs = t.branches.items in let hs = t.acquisitions.items in let k = c.requires.fits.sound.kept in
     (open_leaves (returns-clause-opens g c) bs hs k (at_in (g.S.RowSeat.view t.seat) bs hs k c.args.at c.requires.at) c.requires.free).0
 
 pub returns-clause-scopes : goal.returns-clause-scopes
 returns-clause-scopes g c =
-    let t = c.args.self.now in let bs = t.branches.items in let hs = t.held.items in let k = c.requires.fits.sound.kept in
+    let t = c.args.self.now in let bs = t.branches.items in let hs = t.acquisitions.items in let k = c.requires.fits.sound.kept in
     (open_leaves (returns-clause-opens g c) bs hs k (at_in (g.S.RowSeat.view t.seat) bs hs k c.args.at c.requires.at) c.requires.free).1
 
 pub returns-clause-owed : goal.returns-clause-owed
 returns-clause-owed g c =
-    let t = c.args.self.now in let bs = t.branches.items in let hs = t.held.items in let k = c.requires.fits.sound.kept in
+    let t = c.args.self.now in let bs = t.branches.items in let hs = t.acquisitions.items in let k = c.requires.fits.sound.kept in
     (open_leaves (returns-clause-opens g c) bs hs k (at_in (g.S.RowSeat.view t.seat) bs hs k c.args.at c.requires.at) c.requires.free).2
 
 pub returns-clause-leases : goal.returns-clause-leases

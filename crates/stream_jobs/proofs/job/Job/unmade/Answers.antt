@@ -7,7 +7,7 @@ use Rattle.row_seat.specs.Views.{OthersFit}
 use Rattle.scope_tree.specs.Trees.{seen}
 use Rattle.stream_jobs.specs.Learned.{HasLearned}
 use Rattle.stream_jobs.specs.Messages.{IsFullMessage, end_message}
-use Rattle.stream_jobs.specs.Running.{HasLeft}
+use Rattle.stream_jobs.specs.Running.{IsEndedJob}
 use Rattle.stream_jobs.specs.Unmade.{IsUnmade}
 use Rattle.stream_jobs.proofs.Learning.{end_learns, learns_nothing}
 use Rattle.stream_jobs.proofs.job.Job.unmade.Goals as goal
@@ -38,7 +38,7 @@ returns-clause-job g c w u =
       full = subst IsFullMessage (sym c.end_of.ensures) tt;
       stage = _;
       stage_is = refl;
-      stands = subst (λ xs. HasLeft told P w (view left.seat) left.shelf left.unopened left.how xs) said has;
+      stands = subst (λ xs. IsEndedJob told P w (view left.seat) left.shelf left.unopened left.how xs) said has;
       learned = subst (λ h. HasLearned w.stream w.board last (Some h)) (sym c.leave_unmade.ensures.how) (subst (λ j. HasLearned j w.board last (Some how.Memory)) (sym u.stream) (subst (λ s. HasLearned k s last (Some how.Memory)) (sym u.board) learned));
     }
 

@@ -14,21 +14,21 @@ use Rattle.tree_families.specs.Families.{Split}
 use Rattle.join_tree.specs.Progress.{Progress}
 
 -- what the outer stream may note of its tables: no Lease, no Cancel and no Close of its root
-abbrev pub is_table_word : What → Bool
-is_table_word (Lease j s) = false
-is_table_word (Cancel j x) = false
-is_table_word (Close zero x) = false
-is_table_word w = true
+abbrev pub is_table_note : What → Bool
+is_table_note (Lease j s) = false
+is_table_note (Cancel j x) = false
+is_table_note (Close zero x) = false
+is_table_note w = true
 
 module _ {P : Type 0} (p : Progress P) where
   -- what the outer stream may have noted: Leases of its root for the streams below `leased`, Cancels of streams that were dealt with, as canceled, the Close of its root with the exit that is told, Finals of its tables' rows, and what else it noted of its tables
-  abbrev pub IsOuterWord : What → Type 0
-  IsOuterWord (Lease j s) = (s ≡ 0) × (j < p.leased)
-  IsOuterWord (Cancel j x) = (x ≡ Canceled) × (j < p.next)
-  IsOuterWord (Close zero x) = p.root ≡ Some x
-  IsOuterWord (Close (suc s) x) = IsAmong (Close (suc s) x) p.tables
-  IsOuterWord (Final r x ok) = (s : ℕ) × IsAmong (Acquire r s) p.tables
-  IsOuterWord w = IsAmong w p.tables
+  abbrev pub IsOuterNote : What → Type 0
+  IsOuterNote (Lease j s) = (s ≡ 0) × (j < p.leased)
+  IsOuterNote (Cancel j x) = (x ≡ Canceled) × (j < p.next)
+  IsOuterNote (Close zero x) = p.root ≡ Some x
+  IsOuterNote (Close (suc s) x) = IsAmong (Close (suc s) x) p.tables
+  IsOuterNote (Final r x ok) = (s : ℕ) × IsAmong (Acquire r s) p.tables
+  IsOuterNote w = IsAmong w p.tables
 
   -- the seat of the stream j was split off
   abbrev pub IsBegun : ℕ → Type 0
@@ -37,7 +37,7 @@ module _ {P : Type 0} (p : Progress P) where
   -- what the events L tell of a main tree that is as far as p
   pub record IsTold (L : List Event) : Type 0 where
     -- what the outer stream noted, and that no other noted a Lease
-    pub outer : (w : What) → Notes L Outer w → IsOuterWord w
+    pub outer : (w : What) → Notes L Outer w → IsOuterNote w
     pub lessor : (k : StreamNo) (j s : ℕ) → Notes L k (Lease j s) → k ≡ Outer
     -- it leased for each stream below `leased`, and closed its root as is told
     pub leases : (j : ℕ) → j < p.leased → Notes L Outer (Lease j 0)

@@ -33,16 +33,16 @@ ended_rows E = flat_map ends_of E
 
 module _ {P : Type 0} where
   -- what the seat's own stream noted
-  abbrev pub words : View P → List What
-  words v = own v.by v.events
+  abbrev pub trace : View P → List What
+  trace v = own v.by v.events
 
   -- the rows that it acquired
   abbrev pub own_rows : View P → List ℕ
-  own_rows v = numbers (rows (words v))
+  own_rows v = numbers (rows (trace v))
 
   -- the events that close all that is open: a Close for each scope, a Final for each row
   abbrev pub owed : View P → ℕ
-  owed v = open_scopes (words v) + length v.opened
+  owed v = open_scopes (trace v) + length v.opened
 
   -- an event of the seat
   abbrev pub opening : View P → ℕ → ℕ → ℕ → Event
