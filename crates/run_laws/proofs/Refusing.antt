@@ -13,9 +13,8 @@ use Rattle.chunk_core.specs.declared.code.How.{How}
 use Rattle.chunk_core.specs.declared.code.How.TheVariants as how
 use Rattle.chunk_core.proofs.Members.{among_cons, among_nil}
 use Rattle.res_ledger.specs.declared.event.Event.{Event}
-use Rattle.res_ledger.specs.declared.event.What.TheVariants.{Acquire, Close, Lease}
 use Rattle.res_ledger.specs.Ledger.{IsAcquired, IsLeased}
-use Rattle.res_ledger.specs.Own.{acquires_of, leased_of}
+use Rattle.res_ledger.proofs.Apart.{apart}
 use Rattle.res_ledger.proofs.Judged.{legal_found}
 use Rattle.res_ledger.proofs.Ordering.{ordered_complete}
 use Rattle.device_port.specs.Device.{Place, DeviceTold}
@@ -170,24 +169,17 @@ fault_of_no_device_refused h = let r = ran lookup_work fault_of_no_device (no_ni
 pub root_never_closed_refused : ¬ (Performs silent_work root_never_closed)
 root_never_closed_refused h = let r = ran silent_work root_never_closed (no_nil _ _) h in false≢true (r.ends.caused.0.root refl)
 
--- the only event is a Close
-close_acquires : (r s : ℕ) (x : Exit) → Close 0 x ≡ Acquire r s → ⊥
-close_acquires r s x e = no_nil (r, s) [] (sym (ap acquires_of e))
-
 pub tables_never_acquired_refused : ¬ (Performs (no_streams (t_csv ∷ u_csv ∷ [])) tables_never_acquired)
 tables_never_acquired_refused h =
     let r = ran (no_streams (t_csv ∷ u_csv ∷ [])) tables_never_acquired (no_nil _ _) h in
     let a : IsAcquired tables_never_acquired.events 0 = r.ends.outer.0.0.acquired in
-    ⊎_elim (λ e. close_acquires 0 a.1 Succeeded (ap (λ (x : Event). x.what) (sym e) ∙ a.2.3)) among_nil (among_cons a.2.1)
-
-close_leases : (j s : ℕ) (x : Exit) → Close 0 x ≡ Lease j s → ⊥
-close_leases j s x e = no_nil (j, s) [] (sym (ap leased_of e))
+    ⊎_elim (λ e. apart (ap (λ (x : Event). x.what) (sym e) ∙ a.2.3) refl) among_nil (among_cons a.2.1)
 
 pub nobody_given_refused : ¬ (Performs in_turn_work nobody_given)
 nobody_given_refused h =
     let r = ran in_turn_work nobody_given (no_nil _ _) h in
     let a : IsLeased nobody_given.events 0 = r.ends.outer.1.0 in
-    ⊎_elim (λ e. close_leases 0 a.1 Succeeded (ap (λ (x : Event). x.what) (sym e) ∙ a.2.3)) among_nil (among_cons a.2.1)
+    ⊎_elim (λ e. apart (ap (λ (x : Event). x.what) (sym e) ∙ a.2.3) refl) among_nil (among_cons a.2.1)
 
 abbrev first_of : List ℕ → ℕ
 first_of [] = 0
