@@ -23,7 +23,7 @@ use Rattle.tree_scripts.specs.Short.{HasTwoRows, IsLeasedAndCanceled}
 use Rattle.tree_scripts.specs.Waiting.{noted_by}
 use Rattle.tree_scripts.proofs.Telling.{Tells, cancel_tells, close_tells, close_waits, lease_tells, ledger_tells, two_ended}
 
-module _ {P : Type 0} {a m : Seen P} {T : List ℕ} (h : HasTwoRows a) where
+module _ {P : Type 0} {p q : P} {a m : Seen P} {T : List ℕ} (h : HasTwoRows p q a) where
   covers_two : Leases a 0 7 T m → T ≡ 0 ∷ 1 ∷ []
   covers_two o = o.covered ∙ ap (λ E. leased_rows E 0) h.trace_is
 

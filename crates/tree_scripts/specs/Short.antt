@@ -10,8 +10,8 @@ use Rattle.scope_tree.specs.Rights.{HasNoLeaseBut, IsNewStream}
 use Rattle.scope_tree.specs.Trace.{owed, trace}
 use Rattle.tree_scripts.specs.Waiting.{NotesAlone, noted_by}
 
--- the tree of the outer stream has the row 0 in the root and the row 1 in its child, nothing was leased or split off, and there is room for a lease and its end
-pub record HasTwoRows {P : Type 0} (a : Seen P) : Type 0 where
+-- the tree of the outer stream has the row 0 with p in the root and the row 1 with q in its child, nothing was leased or split off, and there is room for a lease and its end
+pub record HasTwoRows {P : Type 0} (p q : P) (a : Seen P) : Type 0 where
   pub root : IsOpenScope a 0
   pub new : IsNewStream a.seat 7
   pub leases : HasNoLeaseBut a.seat []
@@ -20,6 +20,7 @@ pub record HasTwoRows {P : Type 0} (a : Seen P) : Type 0 where
   pub by : a.seat.by ≡ Outer
   pub trace_is : trace a.seat ≡ Open 1 0 ∷ Acquire 0 0 ∷ Acquire 1 1 ∷ []
   pub events : NotesAlone a.seat
+  pub opened : a.seat.opened ≡ (0, p) ∷ (1, q) ∷ []
   pub spare : owed a.seat + 9 ≤ a.seat.spare
   pub room : used a ≤ a.rows
 

@@ -26,7 +26,7 @@ where
     requires fits { S.fits seat desk.old }
     requires start { S.view seat ≡ start Outer 2 16 (S.view seat).splits }
     requires room { (2 ≤ room.scopes) × (2 ≤ room.rows) }
-    ensures two { HasTwoRows (seen S.view result) }
+    ensures two { HasTwoRows first second (seen S.view result) }
     ensures fits { Fits S.view S.fits result desk.new }
 {
     let mut tree = Tree::new(seat, room);

@@ -1,4 +1,4 @@
-use Rattle.std.proofs.Common.{◌∷◌, [], ap, ◌∙◌, subst, arith, lit≤}
+use Rattle.std.proofs.Common.{◌∷◌, [], ◌++◌, ap, ◌∙◌, subst, arith, lit≤}
 use Rattle.chunk_core.specs.Lists.IsAmong.{here, there}
 use Rattle.res_ledger.specs.declared.event.StreamNo.TheVariants.{Outer}
 use Rattle.res_ledger.specs.declared.event.What.TheVariants.{Acquire, Open}
@@ -36,6 +36,7 @@ returns-clause-two g c =
       by = t3.by;
       trace_is = t3.said;
       events = t3.alone;
+      opened = ap (λ x. x.opened) q.acquires.seat ∙ ap (λ l. l ++ (1, c.args.second) ∷ []) (ap (λ x. x.opened) p.acquires.seat ∙ ap (λ l. l ++ (0, c.args.first) ∷ []) (ap (λ x. x.opened) o.opens.seat ∙ ap (λ x. x.seat.opened) n.seen ∙ ap (λ x. x.opened) s));
       spare = omega (n.owed, o.owed, p.owed, q.owed, s0, s1, s2, s3, s4, arith);
       room = omega (z, y, o.room.used, o.room.rows, p.room.used, p.room.rows, q.room.used, q.room.rows, c.requires.room.1, arith);
     }
