@@ -51,6 +51,7 @@ use Rattle.scope_tree.specs.Calls.{Seen}
 use Rattle.scope_tree.specs.Trees.{Fits, seen}
 use Rattle.scope_tree.specs.Trace.{owed}
 use Rattle.scope_tree.specs.declared.leases.Lease.{Lease}
+use Rattle.scope_tree.specs.Visible.{lessee, rows_covered}
 use Rattle.stream_jobs.specs.declared.job.Job.{Job}
 use Rattle.stream_jobs.specs.declared.job.JobEnd.{JobEnd}
 use Rattle.stream_jobs.specs.Jobs.{EndsJob, FitsJob, IsAt, IsJob, seen_job}
@@ -67,7 +68,7 @@ told_message m = record { stream = m.stream; body = elim m.body [ body.Load l �
 
 -- a lease that waits
 abbrev pub waiting_of : Lease → ℕ × List ℕ
-waiting_of l = (l.stream, l.rows.items)
+waiting_of l = (lessee l, rows_covered l)
 
 -- a stream that is open, as a guest of the main tree
 abbrev pub guest_of : {V F : Type 0} → Origin V F → Guest
@@ -87,7 +88,7 @@ module _ (p : PlanMeant) where
       pub next_is : progress.next ≡ length parts
       pub root_is : progress.root ≡ option_map exit_of outer
       pub waits_are : progress.waits ≡ map waiting_of ws
-      pub rows : AllByRecursion (λ l. AreTableRows (length p.tables) l.rows.items) ws
+      pub rows : AllByRecursion (λ l. AreTableRows (length p.tables) (rows_covered l)) ws
       pub few : length ws ≤ waits
       pub some : outer ≡ None → 0 < waits → 1 ≤ length ws
       pub empty : (k r : ℕ) → length parts ≤ k → k < length p.streams → IsWithin (rows_of p k).from (rows_of p k).to r → IsAmong r b.seat.empty

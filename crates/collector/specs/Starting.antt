@@ -32,6 +32,7 @@ use Rattle.scope_tree.specs.Calls.{Seen, used}
 use Rattle.scope_tree.specs.Released.{away}
 use Rattle.scope_tree.specs.declared.room.Room.{Room}
 use Rattle.scope_tree.specs.Trees.{Fits, seen}
+use Rattle.scope_tree.specs.Visible.{row_room, scope_room}
 use Rattle.stream_jobs.specs.declared.job.Job.{Job}
 use Rattle.stream_jobs.specs.Jobs.{FitsJob, IsAt, IsJob, seen_job}
 use Rattle.stream_jobs.specs.Running.{Origin}
@@ -112,8 +113,8 @@ MayBegin c = IsUnknown (view_of c.stops) 0 × IsUnknown (view_of c.stops) (1 + c
 pub record HasRoomAsGuest {V P : Type 0} (v : View V) (n : Node) (room : Room P) (T : List ℕ) : Type 0 where
   pub empty : (r : ℕ) → IsWithin (first_of (places_of n)) (first_of (places_of n) + length (places_of n)) r → IsAmong r v.empty
   pub events : 2 * length (places_of n) + 2 * scope_count n + 1 + 1 + length T ≤ v.spare
-  pub scopes : room.scopes ≡ scope_count n + 1
-  pub rows : length (places_of n) + length T ≤ room.rows
+  pub scopes : scope_room room ≡ scope_count n + 1
+  pub rows : length (places_of n) + length T ≤ row_room room
 
 -- the next stream of a collector, with a lease on the rows T, is about to run a node over this tree, these devices and tables with these values, in reads of at most so many bytes
 abbrev pub origin_of : {S V F D T : Type 0} → Collector S V F V D T → List ℕ → Node → Seen V → List V → Values → ℕ → Origin V F

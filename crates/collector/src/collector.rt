@@ -11,6 +11,7 @@ ghost use Rattle.row_seat.specs.Views.{OthersFit};
 ghost use Rattle.scope_tree.specs.Released.{away};
 ghost use Rattle.scope_tree.specs.Trees.{Fits, seen};
 ghost use Rattle.scope_tree.specs.Trace.{owed};
+ghost use Rattle.scope_tree.specs.Visible.{lessee, rows_covered};
 ghost use Rattle.collector.specs.Starting.{ClosesOuter, IsRoomFor, PassesOver};
 
 use crate::filled::Filled;
@@ -184,10 +185,10 @@ impl<V: Device + Drop, S: RowSeat<Pay = Held<V>>, F: PipeState> Collector<S, V, 
     /// Cancels the lease of the stream that is next, which is never begun.
     pub(crate) fn pass_over(&mut self, desk: &mut S::Desk, lease: Lease)
         requires fits { Fits S.view S.fits self.old.tree desk.old }
-        requires main { (width n : ℕ) × (p : Progress V) × (us : List (ℕ × List ℕ)) × IsMain (FinishesDevice V.told) width n (seen S.view self.old.tree) p × (p.waits ≡ (lease.stream, lease.rows.items) ∷ us) }
-        requires free { owed (seen S.view self.old.tree).seat + 1 + away lease.rows.items (seen S.view self.old.tree).seat.opened ≤ (seen S.view self.old.tree).seat.spare }
+        requires main { (width n : ℕ) × (p : Progress V) × (us : List (ℕ × List ℕ)) × IsMain (FinishesDevice V.told) width n (seen S.view self.old.tree) p × (p.waits ≡ (lessee lease, rows_covered lease) ∷ us) }
+        requires free { owed (seen S.view self.old.tree).seat + 1 + away (rows_covered lease) (seen S.view self.old.tree).seat.opened ≤ (seen S.view self.old.tree).seat.spare }
         requires number { self.old.next < 2 ^ 32 - 1 }
-        ensures passes { PassesOver (FinishesDevice V.told) lease.stream lease.rows.items (seen S.view self.old.tree) (seen S.view self.new.tree) }
+        ensures passes { PassesOver (FinishesDevice V.told) (lessee lease) (rows_covered lease) (seen S.view self.old.tree) (seen S.view self.new.tree) }
         ensures same { self.new ≡ record self.old { tree = self.new.tree; next = self.old.next + 1 } }
         ensures fits { Fits S.view S.fits self.new.tree desk.new }
         ensures others { OthersFit S.view S.fits Outer desk.old desk.new }

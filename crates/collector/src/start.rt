@@ -16,6 +16,7 @@ ghost use Rattle.tree_laws.specs.Visits.{IsNewGuest};
 ghost use Rattle.collector.specs.Collecting.{IsCollecting, IsCollectingWith};
 ghost use Rattle.collector.specs.Parts.{MakesUnmade};
 ghost use Rattle.collector.specs.Starting.{HasRoomAsGuest, IsAhead, MakesJob, MayBegin, with_seats_out};
+ghost use Rattle.scope_tree.specs.Visible.{lessee, rows_covered};
 
 use crate::collector::{Collector, Leftover};
 use chunk_core::List;
@@ -186,13 +187,13 @@ impl<V: Device + Drop, S: RowSeat<Pay = Held<V>>, F: PipeState<Tables = Dicts>> 
         requires fresh { ¬ (IsAmong self.old.next self.old.receiver.made) }
         requires context { 1 + self.old.next < self.old.stops.board.contexts }
         requires number { 1 + self.old.next < 2 ^ 32 }
-        requires lease { lease.stream ≡ self.old.next }
-        requires guest { IsNewGuest (S.view seat) self.old.next (S.view seat).floor lease.rows.items }
+        requires lease { lessee lease ≡ self.old.next }
+        requires guest { IsNewGuest (S.view seat) self.old.next (S.view seat).floor (rows_covered lease) }
         requires supplied { IsSupplied V.told made.parts.node made.parts.devices }
-        requires room { HasRoomAsGuest (S.view seat) made.parts.node made.parts.room lease.rows.items }
+        requires room { HasRoomAsGuest (S.view seat) made.parts.node made.parts.room (rows_covered lease) }
         requires chunk { 1 ≤ chunk }
         requires fits { S.fits seat desk.old }
-        ensures makes { MakesJob S.view V.told S.fits F.values (standing F.stands F.comes) self.old (S.view seat) lease.rows.items made.parts.node made.parts.devices (F.values made.tables) chunk desk.new result }
+        ensures makes { MakesJob S.view V.told S.fits F.values (standing F.stands F.comes) self.old (S.view seat) (rows_covered lease) made.parts.node made.parts.devices (F.values made.tables) chunk desk.new result }
         ensures same { self.new ≡ with_seats_out self.old }
         ensures others { OthersFit S.view S.fits (Inner self.old.next) desk.old desk.new }
     {

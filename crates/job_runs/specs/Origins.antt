@@ -10,6 +10,7 @@ use Rattle.row_seat.specs.declared.view.View.{View}
 use Rattle.scope_tree.specs.Calls.{IsOpenScope, Seen, used}
 use Rattle.scope_tree.specs.Trace.{owed, trace}
 use Rattle.scope_tree.specs.declared.room.Room.{Room}
+use Rattle.scope_tree.specs.Visible.{row_room, scope_room}
 use Rattle.tree_laws.specs.Visits.{IsNewGuest}
 use Rattle.pull_stepper.specs.Stepping.{HasRoomFor, IsSupplied, begun}
 use Rattle.stream_jobs.specs.Running.{Origin}
@@ -31,7 +32,7 @@ module _ {V F : Type 0} (told : V → DeviceTold) where
 
 -- a is a tree over this seat, in this room, of which only the root is open
 pub record IsNewTree {V P : Type 0} (seat : View V) (room : Room P) (a : Seen V) : Type 0 where
-  pub seen : a ≡ record { seat = seat; shelf = []; scopes = room.scopes; rows = room.rows }
+  pub seen : a ≡ record { seat = seat; shelf = []; scopes = scope_room room; rows = row_room room }
   pub root : IsOpenScope a 0
   pub used : (used a ≡ 0) × (opens (trace a.seat) ≡ [])
   pub owed : owed a.seat ≡ 1

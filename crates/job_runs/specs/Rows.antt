@@ -11,6 +11,7 @@ use Rattle.row_seat.specs.declared.view.View.{View}
 use Rattle.row_seat.specs.Views.{IsWithin}
 use Rattle.scope_tree.specs.declared.branch.Spent.{Spent}
 use Rattle.scope_tree.specs.declared.room.Room.{Room}
+use Rattle.scope_tree.specs.Visible.{row_room, scope_room}
 use Rattle.pull_stepper.specs.Placing.{first_of}
 
 -- the first row of a node, and the one behind its last
@@ -33,5 +34,5 @@ module _ {V : Type 0} where
   pub record HasRoomAsGuest {P : Type 0} (v : View V) (n : Node) (room : Room P) (T : List ℕ) : Type 0 where
     pub empty : (r : ℕ) → IsWithin (from_row n) (to_row n) r → IsAmong r v.empty
     pub events : 2 * length (places_of n) + 2 * scope_count n + 1 + 1 + length T ≤ v.spare
-    pub scopes : room.scopes ≡ scope_count n + 1
-    pub rows : length (places_of n) + length T ≤ room.rows
+    pub scopes : scope_room room ≡ scope_count n + 1
+    pub rows : length (places_of n) + length T ≤ row_room room

@@ -12,6 +12,7 @@ use Rattle.row_seat.specs.Views.{next_stamp}
 use Rattle.scope_tree.specs.Calls.{Seen}
 use Rattle.scope_tree.specs.declared.leases.Lease.{Lease}
 use Rattle.scope_tree.specs.Trace.{owed, trace}
+use Rattle.scope_tree.specs.Visible.{lessee, rows_covered}
 use Rattle.tree_laws.specs.Lent.{Lent}
 use Rattle.join_tree.specs.Guests.{Guest}
 use Rattle.join_tree.specs.Mains.{IsMain}
@@ -43,6 +44,6 @@ module _ {P : Type 0} where
 module _ {P : Type 0} (ends : P → Exit → Bool → P → Type 0) (width n : ℕ) (b c : Seen P) (p : Progress P) where
   -- a pull leased the root for the next stream, with the rows that are open in it, which are those of tables, or closed it as no stream was left; where memory was wanting nothing was done
   abbrev pub Pulls : Result (Option Lease) AllocError → Type 0
-  Pulls (Ok (Some l)) = (p.leased < n) × (l.stream ≡ p.leased) × (l.rows.items ≡ leased_rows (trace b.seat) 0) × ((r : ℕ) → IsAmong r l.rows.items → (s : ℕ) × IsAmong (Acquire r s) p.tables) × IsMain ends width n c (leasing_next p l.rows.items)
+  Pulls (Ok (Some l)) = (p.leased < n) × (lessee l ≡ p.leased) × (rows_covered l ≡ leased_rows (trace b.seat) 0) × ((r : ℕ) → IsAmong r (rows_covered l) → (s : ℕ) × IsAmong (Acquire r s) p.tables) × IsMain ends width n c (leasing_next p (rows_covered l))
   Pulls (Ok None) = (p.leased ≡ n) × IsMain ends width n c (closing_root p Succeeded)
   Pulls (Err e) = (p.leased < n) × (c ≡ b)

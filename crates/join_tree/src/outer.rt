@@ -7,6 +7,7 @@ ghost use Rattle.scope_tree.specs.Calls.{KeepsScopes, Seen, used};
 ghost use Rattle.scope_tree.specs.Released.{away};
 ghost use Rattle.scope_tree.specs.Trees.{Fits, seen};
 ghost use Rattle.scope_tree.specs.Trace.{owed};
+ghost use Rattle.scope_tree.specs.Visible.{lessee, row_room, rows_covered, scope_room};
 ghost use Rattle.join_tree.specs.Mains.{IsMain};
 ghost use Rattle.join_tree.specs.Progress.{Progress, closing_root, none_done, skipping};
 ghost use Rattle.join_tree.specs.Steps.{KeepsGuests, KeepsRows, Pulls, TakesEvents};
@@ -23,7 +24,7 @@ where
     requires start { (rows events : ℕ) × (1 ≤ events) × (S.view seat ≡ start Outer rows events (S.view seat).splits) }
     ensures main { (width n : ℕ) → IsMain S.Pay.ends width n (seen S.view result) (none_done S.Pay) }
     ensures seat { (seen S.view result).seat ≡ S.view seat }
-    ensures room { ((seen S.view result).scopes ≡ room.scopes) × ((seen S.view result).rows ≡ room.rows) }
+    ensures room { ((seen S.view result).scopes ≡ scope_room room) × ((seen S.view result).rows ≡ row_room room) }
     ensures used { used (seen S.view result) ≡ 0 }
     ensures owed { owed (seen S.view result).seat ≡ 1 }
     ensures fits { (d : S.Desk) → S.fits seat d → Fits S.view S.fits result d }
@@ -66,12 +67,12 @@ pub fn cancel_waiting<S: RowSeat>(tree: &mut Tree<S>, desk: &mut S::Desk, lease:
 where
     S::Pay: Finish,
     requires fits { Fits S.view S.fits tree.old desk.old }
-    requires main { (width n : ℕ) × (p : Progress S.Pay) × (us : List (ℕ × List ℕ)) × IsMain S.Pay.ends width n (seen S.view tree.old) p × (p.waits ≡ (lease.stream, lease.rows.items) ∷ us) }
-    requires free { owed (seen S.view tree.old).seat + 1 + away lease.rows.items (seen S.view tree.old).seat.opened ≤ (seen S.view tree.old).seat.spare }
-    ensures main { (width n : ℕ) (p : Progress S.Pay) (us : List (ℕ × List ℕ)) → IsMain S.Pay.ends width n (seen S.view tree.old) p → p.waits ≡ (lease.stream, lease.rows.items) ∷ us → IsMain S.Pay.ends width n (seen S.view tree.new) (skipping p us) }
+    requires main { (width n : ℕ) × (p : Progress S.Pay) × (us : List (ℕ × List ℕ)) × IsMain S.Pay.ends width n (seen S.view tree.old) p × (p.waits ≡ (lessee lease, rows_covered lease) ∷ us) }
+    requires free { owed (seen S.view tree.old).seat + 1 + away (rows_covered lease) (seen S.view tree.old).seat.opened ≤ (seen S.view tree.old).seat.spare }
+    ensures main { (width n : ℕ) (p : Progress S.Pay) (us : List (ℕ × List ℕ)) → IsMain S.Pay.ends width n (seen S.view tree.old) p → p.waits ≡ (lessee lease, rows_covered lease) ∷ us → IsMain S.Pay.ends width n (seen S.view tree.new) (skipping p us) }
     ensures guests { KeepsGuests (seen S.view tree.old) (seen S.view tree.new) }
     ensures rows { KeepsRows (seen S.view tree.old).seat (seen S.view tree.new).seat }
-    ensures events { TakesEvents (1 + away lease.rows.items (seen S.view tree.old).seat.opened) (seen S.view tree.old) (seen S.view tree.new) }
+    ensures events { TakesEvents (1 + away (rows_covered lease) (seen S.view tree.old).seat.opened) (seen S.view tree.old) (seen S.view tree.new) }
     ensures fits { Fits S.view S.fits tree.new desk.new }
     ensures others { OthersFit S.view S.fits Outer desk.old desk.new }
 {

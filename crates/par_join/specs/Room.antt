@@ -9,6 +9,7 @@ use Rattle.pipeline_desc.specs.Places.{first_row}
 use Rattle.row_seat.specs.PlainSeats.{shown, Sits}
 use Rattle.row_seat.specs.Views.{start}
 use Rattle.par_join.specs.declared.room.RunRoom.{RunRoom}
+use Rattle.scope_tree.specs.Visible.{row_room, scope_room}
 
 -- how many rows the streams of a plan have, with its tables
 abbrev pub all_rows : PlanMeant → ℕ
@@ -22,6 +23,6 @@ all_events p = 2 * length p.tables + 1 + sum_by (λ s. 1 + stream_events (length
 pub record IsRoomOfRun {V : Type 0} (p : PlanMeant) (room : RunRoom V) : Type 0 where
   pub seat : shown room.seat ≡ start Outer (all_rows p) (all_events p) (2 ^ 32 - 1)
   pub sits : Sits room.seat room.table
-  pub scopes : room.scopes.scopes ≡ 1
-  pub rows : room.scopes.rows ≡ length p.tables
+  pub scopes : scope_room room.scopes ≡ 1
+  pub rows : row_room room.scopes ≡ length p.tables
   pub streams : IsRoomFor p room.streams

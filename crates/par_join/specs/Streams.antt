@@ -19,13 +19,14 @@ use Rattle.par_join.specs.declared.alone.Ran.{Ran}
 use Rattle.par_join.specs.declared.alone.StreamRoom.{StreamRoom}
 use Rattle.par_join.specs.Alone.{AreSmall, IsAccount, IsRunIn, PrintsPieces}
 use Rattle.joined_runs.specs.Devices.{IsAtRest}
+use Rattle.scope_tree.specs.Visible.{row_room, scope_room}
 
 -- a fresh seat of stream 0 at its table, with a row for each place of the node and room for all its events, just its scopes and its end
 pub record IsRoomFor {P : Type 0} (n : Node) (room : StreamRoom P) : Type 0 where
   pub seat : shown room.seat ≡ start (Inner 0) (length (places_of n)) (2 * length (places_of n) + 2 * scope_count n + 1) (2 ^ 32 - 1)
   pub sits : Sits room.seat room.table
-  pub scopes : room.scopes.scopes ≡ scope_count n + 1
-  pub rows : length (places_of n) ≤ room.scopes.rows
+  pub scopes : scope_room room.scopes ≡ scope_count n + 1
+  pub rows : length (places_of n) ≤ row_room room.scopes
   pub ends : room.ends.items ≡ []
   pub capacity : vec_capacity room.ends ≡ 1
 

@@ -22,7 +22,7 @@ use Rattle.row_seat.specs.Views.{HasRow, noted}
 use Rattle.scope_tree.specs.declared.branch.Branch.{Branch}
 use Rattle.scope_tree.specs.declared.branch.AcquiredRow.{AcquiredRow}
 use Rattle.scope_tree.specs.declared.branch.Spent.{Spent}
-use Rattle.scope_tree.specs.Kept.{HoldsRows, Kept, Lends, Mirrors, acquisition_pairs}
+use Rattle.scope_tree.specs.Kept.{HoldsRows, Kept, Lends, Mirrors, Rests, acquisition_pairs}
 use Rattle.scope_tree.specs.Released.{Holder, Released, said}
 use Rattle.scope_tree.specs.Trace.{numbers, open_of, open_scopes, owed, trace}
 use Rattle.scope_tree.specs.Rows.{Once}
@@ -147,16 +147,20 @@ module _ {P : Type 0} where
     bare = λ j r m i. l.bare j r (p (j, r) m) (e r i);
   }
 
+  -- with no more empty rows, of which no other is acquired
+  pub rests_less : (v w : View P) → w.handed ≡ [] → w.taken ≡ [] → ((r : ℕ) → IsAmong r w.empty → IsAmong r v.empty × (IsAcquired w.events r → IsAcquired v.events r)) → owed w ≤ w.spare → Rests v → Rests w
+  rests_less v w h t e s rests = record {
+    handed = h;
+    taken = t;
+    empty = λ r m a. rests.empty r (e r m).0 ((e r m).1 a);
+    spare = s;
+  }
+
   -- where no scope was opened or closed and no row acquired, the same rows are open, and no more are empty
   pub kept_still : (v w : View P) {bs : List Branch} {hs : List AcquiredRow} {E : List What} → Grown v w E → opens E ≡ [] → rows E ≡ [] → closes E ≡ [] → w.opened ≡ v.opened → ((r : ℕ) → IsAmong r w.empty → IsAmong r v.empty) → w.handed ≡ [] → w.taken ≡ [] → owed v ≤ w.spare → Lends w → Kept v bs hs → Kept w bs hs
   kept_still v w g o r c still less handed taken free lends k = record {
     mirrors = mirrors_same (grown_opens g o) (grown_rows g r) (grown_closes g c) k.mirrors;
     holds = holds_same v w (λ q t m. (grown_closed g t, grown_back g o c t)) (λ q. (subst (λ l. HasRow l q) (sym still), subst (λ l. HasRow l q) still)) (subst Once (sym still) k.holds.once) k.holds;
     lends = lends;
-    rests = record {
-      handed = handed;
-      taken = taken;
-      empty = λ q m a. k.rests.empty q (less q m) (grown_acquired g r q a);
-      spare = let s = owed_still g o c still in omega (s, free, arith);
-    };
+    rests = rests_less v w handed taken (λ q m. (less q m, grown_acquired g r q)) (let s = owed_still g o c still in omega (s, free, arith)) k.rests;
   }

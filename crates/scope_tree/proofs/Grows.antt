@@ -18,7 +18,7 @@ use Rattle.scope_tree.specs.Trace.{trace, owed, acquiring, opening, open_of, ope
 use Rattle.scope_tree.specs.Calls.{AtStart}
 use Rattle.std.proofs.lemmas.Bool.{cases_eq}
 use Rattle.scope_tree.proofs.Beneath.{noted_scope, one_open, usable_scope, not_true'}
-use Rattle.scope_tree.proofs.Grown.{Grown, grown_acquired, grown_back, grown_closed, grown_closes, grown_note, grown_noted, grown_opens, grown_rows, grown_scopes, holds_same, lends_less}
+use Rattle.scope_tree.proofs.Grown.{Grown, grown_acquired, grown_back, grown_closed, grown_closes, grown_note, grown_noted, grown_opens, grown_rows, grown_scopes, holds_same, lends_less, rests_less}
 use Rattle.scope_tree.proofs.Owed.{number_among}
 use Rattle.scope_tree.specs.Rows.{Once}
 use Rattle.scope_tree.proofs.Once.{once_push}
@@ -104,12 +104,9 @@ module _ {P : Type 0} (v : View P) (bs : List Branch) (hs : List AcquiredRow) (r
               (among_snoc v.opened (q, o.0) (r, p) o.1);
           bare = λ j q i o. k.lends.bare j q i (among_without r v.empty q o).0;
         };
-        rests = record {
-          handed = k.rests.handed;
-          taken = k.rests.taken;
-          empty = λ q i a. let w = among_without r v.empty q i in ⊎_elim (λ o. k.rests.empty q w.0 o) (λ o. ⊎_elim (λ e. w.1 (ap (λ y. y.0) e)) among_nil (among_cons o.1)) (acquired_grown.acquired q a);
-          spare = let o = acquired_owed in omega arith;
-        };
+        rests = rests_less v now k.rests.handed k.rests.taken
+            (λ q i. let w = among_without r v.empty q i in (w.0, λ a. ⊎_elim (λ o. o) (λ o. absurd (⊎_elim (λ e. w.1 (ap (λ y. y.0) e)) among_nil (among_cons o.1))) (acquired_grown.acquired q a)))
+            (let o = acquired_owed in omega arith) k.rests;
       }
 
 pub length_pairs : (hs : List AcquiredRow) → length (acquisition_pairs hs) ≡ length hs
@@ -246,12 +243,7 @@ module _ {P : Type 0} (v : View P) (bs : List Branch) (hs : List AcquiredRow) (p
         };
         holds = holds_same v then (λ q t i. (grown_closed opened_grown t, back_closed t (k.mirrors.ranged q t i))) (λ q. ((λ o. o), (λ o. o))) k.holds.once k.holds;
         lends = lends_less v then (λ y i. i) (λ q o. o) (λ q i. i) (λ j c i. grown_noted opened_grown i) k.lends;
-        rests = record {
-          handed = k.rests.handed;
-          taken = k.rests.taken;
-          empty = λ q i a. k.rests.empty q i (grown_acquired opened_grown refl q a);
-          spare = (let x = opened_scopes in omega arith);
-        };
+        rests = rests_less v then k.rests.handed k.rests.taken (λ q i. (i, grown_acquired opened_grown refl q)) (let x = opened_scopes in omega arith) k.rests;
       }
 
 module _ {P : Type 0} (v : View P) (a : AtStart v) where

@@ -30,7 +30,7 @@ use Rattle.scope_tree.specs.Trace.{trace, owed, shutting, open_of, open_scopes, 
 use Rattle.scope_tree.proofs.Beneath.{any_more, close_can, inside, noted_parent, one_open, under_within, up_self, usable_scope, whole_under}
 use Rattle.scope_tree.proofs.Bridge.{closes_append}
 use Rattle.scope_tree.proofs.Follows.{released_follows, same_empty}
-use Rattle.scope_tree.proofs.Grown.{Grown, closes_finals, grown_acquired, grown_closed, grown_noted, grown_opens, grown_release, grown_rows, lends_less, opens_finals, rows_finals, within_opens}
+use Rattle.scope_tree.proofs.Grown.{Grown, closes_finals, grown_acquired, grown_closed, grown_noted, grown_opens, grown_release, grown_rows, lends_less, opens_finals, rests_less, rows_finals, within_opens}
 use Rattle.scope_tree.proofs.Owning.{owner_count, owner_gone, owner_has}
 use Rattle.scope_tree.proofs.Parts.{pair_lasts, one_scope}
 use Rattle.chunk_core.proofs.Filters.{among_right}
@@ -159,12 +159,9 @@ module _ {P : Type 0} {ends : P → Exit → Bool → P → Type 0} {x : Exit} (
           once = f.once k.holds.once;
         };
         lends = lends_less v w f.pairs was (λ r i. subst (λ y. IsAmong r y) (same_empty f) i) (λ j c i. grown_noted close_grown i) k.lends;
-        rests = record {
-          handed = rest.handed;
-          taken = rest.taken;
-          empty = λ r i a. k.rests.empty r (subst (λ y. IsAmong r y) (same_empty f) i) (grown_acquired close_grown (rows_finals x (said ys)) r a);
-          spare = let f = close_free in let o = k.rests.spare in omega (f, o, arith);
-        };
+        rests = rests_less v w rest.handed rest.taken
+            (λ r i. (subst (λ y. IsAmong r y) (same_empty f) i, grown_acquired close_grown (rows_finals x (said ys)) r))
+            (let f = close_free in let o = k.rests.spare in omega (f, o, arith)) k.rests;
       }
 
 pub within_trans : {L : List Event} {k : StreamNo} {s t a : ℕ} → LiesWithin L k s t → LiesWithin L k t a → LiesWithin L k s a

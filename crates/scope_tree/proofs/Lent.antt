@@ -16,7 +16,7 @@ use Rattle.scope_tree.specs.Kept.{Kept, Shelved}
 use Rattle.scope_tree.specs.Lending.{lent_tree}
 use Rattle.scope_tree.specs.Rows.{Once}
 use Rattle.scope_tree.specs.Trees.{Fits, IsConsistent, seen}
-use Rattle.scope_tree.proofs.Grown.{holds_same, lends_less}
+use Rattle.scope_tree.proofs.Grown.{holds_same, lends_less, rests_less}
 use Rattle.scope_tree.proofs.Once.{once_cons, once_head, once_tail}
 
 module _ {P : Type 0} (r : ℕ) (w : P) where
@@ -69,7 +69,7 @@ module _ {P : Type 0} (r : ℕ) (w : P) where
     mirrors = k.mirrors;
     holds = holds_same v (paid v r w) (λ q t m. ((λ c. c), (λ c. c))) (λ q. (has_with v.opened q, with_has v.opened q)) (once_with v.opened k.holds.once) k.holds;
     lends = lends_less v (paid v r w) (λ y m. m) (with_has v.opened) (λ q m. m) (λ j s m. m) k.lends;
-    rests = record { handed = k.rests.handed; taken = k.rests.taken; empty = k.rests.empty; spare = let l = length_with v.opened in let s = k.rests.spare in omega (l, s, arith) };
+    rests = rests_less v (paid v r w) k.rests.handed k.rests.taken (λ q m. (m, λ a. a)) (let l = length_with v.opened in let s = k.rests.spare in omega (l, s, arith)) k.rests;
   }
 
   pub paid_shelved : (v : View P) (hs : List AcquiredRow) (xs : List (Spent P)) → Shelved v hs xs → Shelved (paid v r w) hs xs

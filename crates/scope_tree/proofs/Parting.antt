@@ -29,7 +29,7 @@ use Rattle.scope_tree.specs.Calls.{AtStart}
 use Rattle.scope_tree.specs.Kept.{Kept, Shelved}
 use Rattle.scope_tree.specs.Released.{said}
 use Rattle.scope_tree.specs.Trace.{ended_rows, ends_of, open_scopes, owed, trace}
-use Rattle.scope_tree.proofs.Grown.{closed_like, holds_same, lends_less, mirrors_same}
+use Rattle.scope_tree.proofs.Grown.{closed_like, holds_same, lends_less, mirrors_same, rests_less}
 use Rattle.scope_tree.proofs.Parts.{eqb_eq}
 
 run_among : (r n k : ℕ) → IsAmong r (run n k) → (n ≤ r) × (r < n + k)
@@ -48,7 +48,7 @@ module _ {P : Type 0} (v : View P) (bs : List Branch) (hs : List AcquiredRow) (x
     mirrors = k.mirrors;
     holds = record { live = k.holds.live; only = k.holds.only; once = k.holds.once };
     lends = lends_less v (split_main v j from to n) fewer_pairs (λ r h. h) fewer_empty (λ i s m. m) k.lends;
-    rests = record { handed = k.rests.handed; taken = k.rests.taken; empty = λ r m. k.rests.empty r (fewer_empty r m); spare = omega (f, arith) };
+    rests = rests_less v (split_main v j from to n) k.rests.handed k.rests.taken (λ r m. (fewer_empty r m, λ a. a)) (omega (f, arith)) k.rests;
   }
 
   pub split_shelved : Shelved (split_main v j from to n) hs xs

@@ -19,11 +19,13 @@ pub struct Room<P> {
 }
 
 impl<P: Drop> Room<P> {
+    ghost use Rattle.scope_tree.specs.Visible.{row_room, scope_room};
+
     /// Needs memory: no later call of the tree does, but the making of leases and seats.
     pub fn new(alloc: Global, scopes: u32, rows: u32) -> Result<Room<P>, AllocError>
         requires { 1 ≤ scopes }
-        ensures scopes { IfOk result (λ room. room.scopes ≡ scopes) }
-        ensures rows { IfOk result (λ room. room.rows ≡ rows) }
+        ensures scopes { IfOk result (λ room. scope_room room ≡ scopes) }
+        ensures rows { IfOk result (λ room. row_room room ≡ rows) }
     {
         let branches = Vec::with_capacity(alloc, scopes as usize)?;
         let acquisitions = Vec::with_capacity(alloc, rows as usize)?;

@@ -18,6 +18,7 @@ ghost use Rattle.scope_tree.specs.Rights.{AddsLease, DropsLease, HasNoLeaseBut, 
 ghost use Rattle.scope_tree.specs.Standings.{StandsAs};
 ghost use Rattle.scope_tree.specs.Trees.{Fits, IsConsistent, seen};
 ghost use Rattle.scope_tree.specs.Lending.{lends_pay, lent_tree};
+ghost use Rattle.scope_tree.specs.Visible.{lessee, row_room, rows_covered, scope_room};
 
 use crate::branch::{AcquiredRow, Branch, Finish, Spent, Standing};
 use crate::leases::{Lease, lease_rows};
@@ -51,7 +52,7 @@ where
     /// A tree whose root is open, with this room.
     pub fn new(seat: S, room: Room<S::Pay>) -> Tree<S>
         requires start { AtStart (S.view seat) }
-        ensures seen { seen S.view result ≡ record { seat = S.view seat; shelf = []; scopes = room.scopes; rows = room.rows } }
+        ensures seen { seen S.view result ≡ record { seat = S.view seat; shelf = []; scopes = scope_room room; rows = row_room room } }
         ensures root { IsOpenScope (seen S.view result) 0 }
         ensures empty { (r : ℕ) → IsAmong r (S.view seat).empty → IsAmong r (seen S.view result).seat.empty }
         ensures rights { IsSameSeat (S.view seat) (seen S.view result).seat }
@@ -182,16 +183,16 @@ where
         requires scope { IsOpenScope (seen S.view self.old) scope }
         requires stream { IsNewStream (seen S.view self.old).seat stream }
         requires free { owed (seen S.view self.old).seat + 2 ≤ (seen S.view self.old).seat.spare }
-        ensures ok { IfOk result (λ lease. (lease.stream ≡ stream) × Leases (seen S.view self.old) scope stream lease.rows.items (seen S.view self.new)) }
+        ensures ok { IfOk result (λ lease. (lessee lease ≡ stream) × Leases (seen S.view self.old) scope stream (rows_covered lease) (seen S.view self.new)) }
         ensures err { IfErr result (λ _. seen S.view self.new ≡ seen S.view self.old) }
         ensures scopes { KeepsScopes (seen S.view self.old) (seen S.view self.new) }
         ensures empty { (r : ℕ) → IsAmong r (seen S.view self.old).seat.empty → IsAmong r (seen S.view self.new).seat.empty }
         ensures rights { IsSameSeat (seen S.view self.old).seat (seen S.view self.new).seat }
-        ensures leases { IfOk result (λ lease. AddsLease (seen S.view self.old).seat lease.stream lease.rows.items (seen S.view self.new).seat) }
+        ensures leases { IfOk result (λ lease. AddsLease (seen S.view self.old).seat (lessee lease) (rows_covered lease) (seen S.view self.new).seat) }
         ensures kept { IfErr result (λ _. KeepsLeases (seen S.view self.old).seat (seen S.view self.new).seat) }
         ensures room { TakesRoom 0 0 (seen S.view self.old) (seen S.view self.new) }
-        ensures pairs { IfOk result (λ lease. (r : ℕ) → IsAmong r lease.rows.items → IsAmong (lease.stream, r) (seen S.view self.new).seat.pairs) }
-        ensures own { IfOk result (λ lease. strangers (own_rows (seen S.view self.new).seat) lease.rows.items ≡ 0) }
+        ensures pairs { IfOk result (λ lease. (r : ℕ) → IsAmong r (rows_covered lease) → IsAmong (lessee lease, r) (seen S.view self.new).seat.pairs) }
+        ensures own { IfOk result (λ lease. strangers (own_rows (seen S.view self.new).seat) (rows_covered lease) ≡ 0) }
         ensures owed { owed (seen S.view self.new).seat ≡ owed (seen S.view self.old).seat }
         ensures fits { Fits S.view S.fits self.new desk.new }
         ensures others { OthersFit S.view S.fits (seen S.view self.old).seat.by desk.old desk.new }
@@ -237,18 +238,18 @@ where
     /// stands on is ended before the next is left.
     pub fn cancel(&mut self, desk: &mut S::Desk, lease: Lease, exit: Exit)
         requires fits { Fits S.view S.fits self.old desk.old }
-        requires may { MayNote (seen S.view self.old).seat (Cancel lease.stream exit) }
-        requires pairs { (r : ℕ) → IsAmong r lease.rows.items → IsAmong (lease.stream, r) (seen S.view self.old).seat.pairs }
-        requires room { used (seen S.view self.old) + strangers (own_rows (seen S.view self.old).seat) lease.rows.items ≤ (seen S.view self.old).rows }
-        requires free { owed (seen S.view self.old).seat + 1 + away lease.rows.items (seen S.view self.old).seat.opened ≤ (seen S.view self.old).seat.spare }
-        ensures cancels { Cancels S.Pay.ends (seen S.view self.old) lease.stream lease.rows.items exit (seen S.view self.new) }
+        requires may { MayNote (seen S.view self.old).seat (Cancel (lessee lease) exit) }
+        requires pairs { (r : ℕ) → IsAmong r (rows_covered lease) → IsAmong (lessee lease, r) (seen S.view self.old).seat.pairs }
+        requires room { used (seen S.view self.old) + strangers (own_rows (seen S.view self.old).seat) (rows_covered lease) ≤ (seen S.view self.old).rows }
+        requires free { owed (seen S.view self.old).seat + 1 + away (rows_covered lease) (seen S.view self.old).seat.opened ≤ (seen S.view self.old).seat.spare }
+        ensures cancels { Cancels S.Pay.ends (seen S.view self.old) (lessee lease) (rows_covered lease) exit (seen S.view self.new) }
         ensures scopes { KeepsScopes (seen S.view self.old) (seen S.view self.new) }
         ensures empty { (r : ℕ) → IsAmong r (seen S.view self.old).seat.empty → IsAmong r (seen S.view self.new).seat.empty }
         ensures rights { IsSameSeat (seen S.view self.old).seat (seen S.view self.new).seat }
-        ensures leases { DropsLease (seen S.view self.old).seat lease.stream lease.rows.items (seen S.view self.new).seat }
+        ensures leases { DropsLease (seen S.view self.old).seat (lessee lease) (rows_covered lease) (seen S.view self.new).seat }
         ensures new { (j : ℕ) → IsNewStream (seen S.view self.old).seat j → IsNewStream (seen S.view self.new).seat j }
-        ensures room { (n : ℕ) × (n ≤ strangers (own_rows (seen S.view self.old).seat) lease.rows.items) × TakesRoom 0 n (seen S.view self.old) (seen S.view self.new) }
-        ensures free { (seen S.view self.old).seat.spare ≤ (seen S.view self.new).seat.spare + 1 + away lease.rows.items (seen S.view self.old).seat.opened }
+        ensures room { (n : ℕ) × (n ≤ strangers (own_rows (seen S.view self.old).seat) (rows_covered lease)) × TakesRoom 0 n (seen S.view self.old) (seen S.view self.new) }
+        ensures free { (seen S.view self.old).seat.spare ≤ (seen S.view self.new).seat.spare + 1 + away (rows_covered lease) (seen S.view self.old).seat.opened }
         ensures owed { owed (seen S.view self.new).seat ≡ owed (seen S.view self.old).seat }
         ensures fits { Fits S.view S.fits self.new desk.new }
         ensures others { OthersFit S.view S.fits (seen S.view self.old).seat.by desk.old desk.new }

@@ -15,6 +15,7 @@ use Rattle.pull_turns.specs.Rest.{IsRunOfRest, rows_left, scopes_left}
 use Rattle.pull_turns.specs.Turned.{Spends, SpendsWithin}
 use Rattle.row_seat.specs.declared.view.View.{View}
 use Rattle.scope_tree.specs.declared.branch.Spent.{Spent}
+use Rattle.scope_tree.specs.Visible.{lessee, rows_covered}
 use Rattle.tree_laws.specs.Visits.{IsNewGuest}
 use Rattle.pull_stepper.specs.Held.{FinishesDevice}
 use Rattle.pull_stepper.specs.Sites.{Since, around, told_at}
@@ -79,8 +80,8 @@ module _ {V F : Type 0} (told : V → DeviceTold) where
       -- it runs, and has given the loads that were said
       pub record RunsOn (w : Origin V F) (r : Running S V F V D T) (said : List Msg) : Type 0 where
         pub stream : r.stream ≡ w.stream
-        pub lease : r.lease.stream ≡ w.stream
-        pub leased : r.lease.rows.items ≡ w.leased
+        pub lease : lessee r.lease ≡ w.stream
+        pub leased : rows_covered r.lease ≡ w.leased
         pub begun : IsBegun w
         pub loads : List Load
         pub given : HasGiven w (stepping view values r.stepper) loads

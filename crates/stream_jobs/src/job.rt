@@ -7,6 +7,7 @@ ghost use Rattle.interrupt_ctx.specs.declared.why.Why.TheVariants as why;
 ghost use Rattle.res_ledger.specs.declared.event.StreamNo.TheVariants.{Inner};
 ghost use Rattle.row_seat.specs.Views.{OthersFit};
 ghost use Rattle.scope_tree.specs.Trees.{Fits, seen};
+ghost use Rattle.scope_tree.specs.Visible.{lessee, rows_covered};
 ghost use Rattle.pull_turns.specs.Piping.{standing};
 ghost use Rattle.pull_stepper.specs.Steppers.{Works, stepping};
 ghost use Rattle.pull_stepper.specs.Stepping.{CanGo, Stepping};
@@ -82,12 +83,12 @@ impl<V: Device, S: RowSeat<Pay = Held<V>>, F: PipeState> Job<S, V, F> {
         lease: Lease,
     ) -> Job<S, V, F>
         requires sender { (sender.stream ≡ stream) × (sender.sent ≡ []) }
-        requires lease { lease.stream ≡ stream }
+        requires lease { lessee lease ≡ stream }
         requires seat { (board.view.set ≡ []) × (board.view.first ≡ false) }
-        requires begun { IsBegun V.told (record { stream = stream; leased = lease.rows.items; start = stepping S.view F.values stepper; board = board }) }
+        requires begun { IsBegun V.told (record { stream = stream; leased = rows_covered lease; start = stepping S.view F.values stepper; board = board }) }
         requires can { CanGo (standing F.stands F.comes) V.told (stepping S.view F.values stepper) }
         ensures seen { seen_job S.view F.values result ≡ record { running = Some (stepping S.view F.values stepper); board = board; sender = sender; waiting = None } }
-        ensures job { IsJob S.view F.values V.told (standing F.stands F.comes) (record { stream = stream; leased = lease.rows.items; start = stepping S.view F.values stepper; board = board }) result }
+        ensures job { IsJob S.view F.values V.told (standing F.stands F.comes) (record { stream = stream; leased = rows_covered lease; start = stepping S.view F.values stepper; board = board }) result }
         ensures fits { (d : S.Desk) → Works S.view V.told S.fits stepper d → FitsJob S.view V.told S.fits result d }
     {
         Job {
@@ -117,13 +118,13 @@ impl<V: Device, S: RowSeat<Pay = Held<V>>, F: PipeState> Job<S, V, F> {
         desk: &mut S::Desk,
     ) -> Job<S, V, F>
         requires sender { (sender.stream ≡ stream) × (sender.sent ≡ []) }
-        requires lease { lease.stream ≡ stream }
+        requires lease { lessee lease ≡ stream }
         requires seat { (seat.view.set ≡ []) × (seat.view.first ≡ false) }
         requires board { seat.board ≡ board.now.id }
         requires context { 0 < board.now.contexts }
         requires fits { Fits S.view S.fits tree desk.old }
-        requires unmade { (w : Origin V F) × IsUnmade V.told stream lease.rows.items seat (seen S.view tree) devices w }
-        ensures job { (w : Origin V F) → IsUnmade V.told stream lease.rows.items seat (seen S.view tree) devices w → IsJob S.view F.values V.told (standing F.stands F.comes) w result }
+        requires unmade { (w : Origin V F) × IsUnmade V.told stream (rows_covered lease) seat (seen S.view tree) devices w }
+        ensures job { (w : Origin V F) → IsUnmade V.told stream (rows_covered lease) seat (seen S.view tree) devices w → IsJob S.view F.values V.told (standing F.stands F.comes) w result }
         ensures ended { (seen_job S.view F.values result).running ≡ None }
         ensures sender { (seen_job S.view F.values result).sender ≡ sender }
         ensures waits { (seen_job S.view F.values result).waiting ≡ Some (end_message stream how.Memory) }

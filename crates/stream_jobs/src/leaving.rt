@@ -6,6 +6,7 @@ ghost use Rattle.pull_turns.specs.Piping.{standing};
 ghost use Rattle.res_ledger.specs.declared.event.StreamNo.TheVariants.{Inner};
 ghost use Rattle.row_seat.specs.Views.{OthersFit};
 ghost use Rattle.scope_tree.specs.Trees.{Fits, seen};
+ghost use Rattle.scope_tree.specs.Visible.{lessee, rows_covered};
 ghost use Rattle.pull_stepper.specs.Sites.{Site};
 ghost use Rattle.pull_stepper.specs.Steppers.{Works, stepping};
 ghost use Rattle.pull_stepper.specs.Stepping.{IsOver, Stepping, StepperEnds};
@@ -39,11 +40,11 @@ fn part<V: Device, S: RowSeat<Pay = Held<V>>, F: PipeState>(
     desk: &mut S::Desk,
 ) -> Left<S, V>
     requires fits { Fits S.view S.fits tree desk.old }
-    requires ended { (x : Site V) × (s : Stepping V F) × StepperEnds V.told s (seen S.view tree) how unopened × IsVisiting V.told lease.stream lease.rows.items x s.site × CanLeave V.told lease.rows.items s.site }
-    ensures leaves { (x : Site V) (s : Stepping V F) → StepperEnds V.told s (seen S.view tree) how unopened → IsVisiting V.told lease.stream lease.rows.items x s.site → Leaves V.told lease.stream lease.rows.items x s (S.view result.seat) result.shelf result.unopened result.how }
+    requires ended { (x : Site V) × (s : Stepping V F) × StepperEnds V.told s (seen S.view tree) how unopened × IsVisiting V.told (lessee lease) (rows_covered lease) x s.site × CanLeave V.told (rows_covered lease) s.site }
+    ensures leaves { (x : Site V) (s : Stepping V F) → StepperEnds V.told s (seen S.view tree) how unopened → IsVisiting V.told (lessee lease) (rows_covered lease) x s.site → Leaves V.told (lessee lease) (rows_covered lease) x s (S.view result.seat) result.shelf result.unopened result.how }
     ensures how { result.how ≡ how }
     ensures fits { S.fits result.seat desk.new }
-    ensures others { OthersFit S.view S.fits (Inner lease.stream) desk.old desk.new }
+    ensures others { OthersFit S.view S.fits (Inner (lessee lease)) desk.old desk.new }
 {
     let mut tree = tree;
     tree.cancel(desk, lease, how.exit());
@@ -67,11 +68,11 @@ where
     F::Tables: Drop,
     requires works { Works S.view V.told S.fits stepper desk.old }
     requires over { IsOver V.told (stepping S.view F.values stepper) }
-    requires visiting { (x : Site V) × IsVisiting V.told lease.stream lease.rows.items x (stepping S.view F.values stepper).site }
-    requires room { CanLeave V.told lease.rows.items (stepping S.view F.values stepper).site }
-    ensures leaves { (x : Site V) → IsVisiting V.told lease.stream lease.rows.items x (stepping S.view F.values stepper).site → Leaves V.told lease.stream lease.rows.items x (stepping S.view F.values stepper) (S.view result.seat) result.shelf result.unopened result.how }
+    requires visiting { (x : Site V) × IsVisiting V.told (lessee lease) (rows_covered lease) x (stepping S.view F.values stepper).site }
+    requires room { CanLeave V.told (rows_covered lease) (stepping S.view F.values stepper).site }
+    ensures leaves { (x : Site V) → IsVisiting V.told (lessee lease) (rows_covered lease) x (stepping S.view F.values stepper).site → Leaves V.told (lessee lease) (rows_covered lease) x (stepping S.view F.values stepper) (S.view result.seat) result.shelf result.unopened result.how }
     ensures fits { S.fits result.seat desk.new }
-    ensures others { OthersFit S.view S.fits (Inner lease.stream) desk.old desk.new }
+    ensures others { OthersFit S.view S.fits (Inner (lessee lease)) desk.old desk.new }
 {
     let Ended {
         tree,
@@ -90,11 +91,11 @@ pub(crate) fn leave_unmade<V: Device, S: RowSeat<Pay = Held<V>>, F: PipeState>(
     desk: &mut S::Desk,
 ) -> Left<S, V>
     requires fits { Fits S.view S.fits tree desk.old }
-    requires unmade { (b : SeatSeen) × (w : Origin V F) × IsUnmade V.told lease.stream lease.rows.items b (seen S.view tree) devices w }
-    ensures left { (b : SeatSeen) (w : Origin V F) → IsUnmade V.told lease.stream lease.rows.items b (seen S.view tree) devices w → IsEndedJob V.told (standing F.stands F.comes) w (S.view result.seat) result.shelf result.unopened result.how (end_message lease.stream how.Memory ∷ []) }
+    requires unmade { (b : SeatSeen) × (w : Origin V F) × IsUnmade V.told (lessee lease) (rows_covered lease) b (seen S.view tree) devices w }
+    ensures left { (b : SeatSeen) (w : Origin V F) → IsUnmade V.told (lessee lease) (rows_covered lease) b (seen S.view tree) devices w → IsEndedJob V.told (standing F.stands F.comes) w (S.view result.seat) result.shelf result.unopened result.how (end_message (lessee lease) how.Memory ∷ []) }
     ensures how { result.how ≡ how.Memory }
     ensures fits { S.fits result.seat desk.new }
-    ensures others { OthersFit S.view S.fits (Inner lease.stream) desk.old desk.new }
+    ensures others { OthersFit S.view S.fits (Inner (lessee lease)) desk.old desk.new }
 {
     let mut tree = tree;
     tree.close(desk, 0, Exit::Canceled);

@@ -10,6 +10,7 @@ use Rattle.pull_nodes.specs.Shape.{places_of, scope_count}
 use Rattle.pull_stepper.specs.Stepping.{IsSupplied}
 use Rattle.stream_parts.specs.declared.parts.StreamParts.{StreamParts}
 use Rattle.stream_parts.specs.Made.{MakesEach, MakesInVain}
+use Rattle.scope_tree.specs.Visible.{row_room, scope_room}
 
 -- stream k's node was made, room for its scopes, its rows and those of the tables, and a device for each of its rows
 pub record MakesParts {V : Type 0} (told : V → DeviceTold) (p : PlanMeant) (k : ℕ) (old new : DepotTold) (parts : StreamParts V) : Type 0 where
@@ -17,8 +18,8 @@ pub record MakesParts {V : Type 0} (told : V → DeviceTold) (p : PlanMeant) (k 
   pub places : places_of parts.node ≡ rows_within (rows_of p k)
   pub scopes : scopes_of p k ≡ Some (scope_count parts.node)
   pub events : events_of p k ≡ Some (event_count parts.node + 1 + length p.tables)
-  pub most_scopes : parts.room.scopes ≡ scope_count parts.node + 1
-  pub most_rows : length (places_of parts.node) + length p.tables ≤ parts.room.rows
+  pub most_scopes : scope_room parts.room ≡ scope_count parts.node + 1
+  pub most_rows : length (places_of parts.node) + length p.tables ≤ row_room parts.room
   pub supplied : IsSupplied told parts.node parts.devices
   pub stream : StreamSpec
   pub stream_is : slice_get p.streams k ≡ Some stream

@@ -20,7 +20,7 @@
 //!     S::Pay: Finish,
 //!     requires fits { S.fits seat desk.old }
 //!     requires start { S.view seat ≡ start Outer 1 8 (S.view seat).splits }
-//!     requires room { (2 ≤ room.scopes) × (1 ≤ room.rows) }
+//!     requires room { (2 ≤ scope_room room) × (1 ≤ row_room room) }
 //!     ensures whole { IsWholeLedger result.0 }
 //! {
 //!     let mut tree = Tree::new(seat, room);

@@ -4,6 +4,7 @@ ghost use Rattle.res_ledger.specs.declared.event.StreamNo.TheVariants.{Inner};
 ghost use Rattle.row_seat.specs.Views.{AtRest, OthersFit};
 ghost use Rattle.tree_scripts.specs.Guests.{HasVisited, IsGuest, IsHost};
 ghost use Rattle.scope_tree.specs.Trees.{Fits, seen};
+ghost use Rattle.scope_tree.specs.Visible.{lessee, row_room, rows_covered};
 
 use chunk_core::Exit;
 use res_ledger::Ledger;
@@ -23,8 +24,8 @@ where
     S::Pay: Finish + Drop,
     requires fits { S.fits seat desk.old }
     requires guest { IsGuest (S.view seat) }
-    requires room { 2 ≤ room.rows }
-    requires lease { (lease.stream ≡ 5) × (lease.rows.items ≡ 0 ∷ []) }
+    requires room { 2 ≤ row_room room }
+    requires lease { (lessee lease ≡ 5) × (rows_covered lease ≡ 0 ∷ []) }
     ensures rest { AtRest (S.view result) × ((S.view result).by ≡ Inner 5) }
     ensures visited { HasVisited (S.view result) }
     ensures fits { S.fits result desk.new }

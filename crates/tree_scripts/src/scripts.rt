@@ -13,6 +13,7 @@ ghost use Rattle.tree_scripts.specs.Scripts.{IsReopened, IsRootLeased, IsThree, 
 ghost use Rattle.scope_tree.specs.Trees.{Fits, seen};
 ghost use Rattle.tree_scripts.specs.Waiting.{FinishesLedger, IsAlone, LeasesAndCloses, CancelsAndFinishes, WaitsForCancel};
 ghost use Rattle.scope_tree.specs.Trace.{owed};
+ghost use Rattle.scope_tree.specs.Visible.{lessee, row_room, rows_covered, scope_room};
 
 use chunk_core::{Exit, List};
 use res_ledger::{Ledger, StreamNo};
@@ -33,7 +34,7 @@ where
     S::Pay: Finish,
     requires fits { S.fits seat desk.old }
     requires start { S.view seat ≡ start Outer 3 16 (S.view seat).splits }
-    requires room { (room.scopes ≡ 4) × (room.rows ≡ 3) }
+    requires room { (scope_room room ≡ 4) × (row_room room ≡ 3) }
     ensures three { IsThree (seen S.view result) first second third }
     ensures fits { Fits S.view S.fits result desk.new }
 {
@@ -62,8 +63,8 @@ where
     requires scope { IsOpenScope (seen S.view tree.old) scope }
     requires stream { ((seen S.view tree.old).seat.by ≢ Inner stream) × ¬ (IsAmong stream (seen S.view tree.old).seat.had) × ¬ (IsLeased (seen S.view tree.old).seat.events stream) }
     requires free { owed (seen S.view tree.old).seat + 2 ≤ (seen S.view tree.old).seat.spare }
-    ensures calls { IfOk result (λ lease. (lease.stream ≡ stream) × LeasesAndCloses S.Pay.ends (seen S.view tree.old) scope stream lease.rows.items exit (seen S.view tree.new)) }
-    ensures waits { IfOk result (λ lease. WaitsForCancel (seen S.view tree.new) lease.stream lease.rows.items) }
+    ensures calls { IfOk result (λ lease. (lessee lease ≡ stream) × LeasesAndCloses S.Pay.ends (seen S.view tree.old) scope stream (rows_covered lease) exit (seen S.view tree.new)) }
+    ensures waits { IfOk result (λ lease. WaitsForCancel (seen S.view tree.new) (lessee lease) (rows_covered lease)) }
     ensures err { IfErr result (λ _. seen S.view tree.new ≡ seen S.view tree.old) }
     ensures fits { Fits S.view S.fits tree.new desk.new }
 {
@@ -99,8 +100,8 @@ pub fn cancel_and_finish<S: RowSeat>(
 where
     S::Pay: Finish,
     requires fits { Fits S.view S.fits tree desk.old }
-    requires waits { WaitsForCancel (seen S.view tree) lease.stream lease.rows.items }
-    ensures { CancelsAndFinishes S.Pay.ends (seen S.view tree) lease.stream lease.rows.items exit result.0 result.1 }
+    requires waits { WaitsForCancel (seen S.view tree) (lessee lease) (rows_covered lease) }
+    ensures { CancelsAndFinishes S.Pay.ends (seen S.view tree) (lessee lease) (rows_covered lease) exit result.0 result.1 }
 {
     tree.cancel(desk, lease, exit);
     finish_alone(tree, desk)
@@ -138,7 +139,7 @@ where
     S::Pay: Finish + Drop,
     requires fits { S.fits seat desk.old }
     requires start { S.view seat ≡ start Outer 3 16 (S.view seat).splits }
-    requires room { (room.scopes ≡ 4) × (room.rows ≡ 3) }
+    requires room { (scope_room room ≡ 4) × (row_room room ≡ 3) }
     ensures { IfOk result (λ x. IsRootLeased S.Pay.ends first second third x.0 x.1) }
 {
     let mut tree = three_rows(seat, room, desk, first, second, third);

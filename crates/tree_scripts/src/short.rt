@@ -4,6 +4,7 @@ ghost use Rattle.chunk_core.specs.declared.code.Exit.TheVariants.{Succeeded};
 ghost use Rattle.res_ledger.specs.declared.event.StreamNo.TheVariants.{Outer};
 ghost use Rattle.row_seat.specs.Views.{start};
 ghost use Rattle.scope_tree.specs.Trees.{Fits, seen};
+ghost use Rattle.scope_tree.specs.Visible.{row_room, scope_room};
 ghost use Rattle.tree_scripts.specs.Short.{HasTwoRows, IsLeasedAndCanceled};
 
 use crate::scripts::{Coin, finish_alone};
@@ -25,7 +26,7 @@ where
     S::Pay: Finish,
     requires fits { S.fits seat desk.old }
     requires start { S.view seat ≡ start Outer 2 16 (S.view seat).splits }
-    requires room { (2 ≤ room.scopes) × (2 ≤ room.rows) }
+    requires room { (2 ≤ scope_room room) × (2 ≤ row_room room) }
     ensures two { HasTwoRows first second (seen S.view result) }
     ensures fits { Fits S.view S.fits result desk.new }
 {
@@ -50,7 +51,7 @@ where
     S::Pay: Finish + Drop,
     requires fits { S.fits seat desk.old }
     requires start { S.view seat ≡ start Outer 2 16 (S.view seat).splits }
-    requires room { (2 ≤ room.scopes) × (2 ≤ room.rows) }
+    requires room { (2 ≤ scope_room room) × (2 ≤ row_room room) }
     ensures { IfOk result (λ ledger. IsLeasedAndCanceled Succeeded ledger) }
 {
     let mut tree = two_rows(seat, room, desk, first, second);

@@ -4,6 +4,7 @@ ghost use Rattle.chunk_core.specs.Lists.{IsAmong};
 ghost use Rattle.row_seat.specs.Views.{HasRow};
 ghost use Rattle.scope_tree.specs.Calls.{AtStart, IsOpenScope};
 ghost use Rattle.scope_tree.specs.Trees.{Fits, seen};
+ghost use Rattle.scope_tree.specs.Visible.{row_room, scope_room};
 ghost use Rattle.tree_scripts.specs.Uses.{IsEndedWith, IsTwo};
 ghost use Rattle.tree_scripts.specs.Waiting.{IsAlone};
 
@@ -25,7 +26,7 @@ where
     requires start { AtStart (S.view seat) }
     requires spare { 7 ≤ (S.view seat).spare }
     requires rows { IsAmong 0 (S.view seat).empty × IsAmong 1 (S.view seat).empty }
-    requires room { (2 ≤ room.scopes) × (2 ≤ room.rows) }
+    requires room { (2 ≤ scope_room room) × (2 ≤ row_room room) }
     ensures two { IsTwo S.Pay.ends first second (S.view result.0) result.1 }
     ensures fits { S.fits result.0 desk.new }
 {

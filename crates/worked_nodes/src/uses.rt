@@ -12,6 +12,7 @@ ghost use Rattle.res_ledger.specs.declared.event.StreamNo.TheVariants.{Inner};
 ghost use Rattle.row_seat.specs.Views.{OthersFit, start};
 ghost use Rattle.scope_tree.specs.Calls.{IsClosedScope};
 ghost use Rattle.scope_tree.specs.Trees.{Fits, seen};
+ghost use Rattle.scope_tree.specs.Visible.{row_room, scope_room};
 ghost use Rattle.tree_laws.specs.Alone.{StaysAlone};
 ghost use Rattle.tree_laws.specs.Called.{Called};
 ghost use Rattle.tree_laws.specs.Whole.{IsWholeLedger};
@@ -198,7 +199,7 @@ where
     requires supplied { IsSupplied V.told node devices }
     requires first { first_of (places_of node) ≡ 0 }
     requires start { (splits : ℕ) × (S.view seat ≡ start (Inner 0) (length (places_of node)) (2 * length (places_of node) + 2 * scope_count node + 1) splits) }
-    requires room { (scope_count node + 1 ≤ room.scopes) × (length (places_of node) ≤ room.rows) }
+    requires room { (scope_count node + 1 ≤ scope_room room) × (length (places_of node) ≤ row_room room) }
     requires pace { (1 ≤ pace.chunk) × (1 ≤ pace.turns) }
     ensures whole { IsWholeLedger result.ledger }
 {

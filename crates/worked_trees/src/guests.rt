@@ -3,6 +3,7 @@ ghost use Rattle.std.specs.Prelude.{◌≡◌, ◌≤◌, [], ◌∷◌};
 ghost use Rattle.res_ledger.specs.declared.event.StreamNo.TheVariants.{Outer};
 ghost use Rattle.row_seat.specs.Views.{start};
 ghost use Rattle.scope_tree.specs.Trees.{Fits, seen};
+ghost use Rattle.scope_tree.specs.Visible.{lessee, row_room, rows_covered};
 ghost use Rattle.tree_scripts.specs.Guests.{IsGuest, IsHost};
 
 use crate::asserts::{prints, same};
@@ -31,10 +32,10 @@ where
     requires fits { S.fits seat desk.old }
     requires start { S.view seat ≡ start Outer 2 16 (S.view seat).splits }
     requires splits { 1 ≤ (S.view seat).splits }
-    requires room { 1 ≤ room.rows }
+    requires room { 1 ≤ row_room room }
     ensures host { IsHost (seen S.view result.0).seat }
     ensures guest { IsGuest (S.view result.1) }
-    ensures lease { (result.2.stream ≡ 5) × (result.2.rows.items ≡ 0 ∷ []) }
+    ensures lease { (lessee result.2 ≡ 5) × (rows_covered result.2 ≡ 0 ∷ []) }
     ensures fits { Fits S.view S.fits result.0 desk.new × S.fits result.1 desk.new }
 {
     let mut tree = Tree::new(seat, room);

@@ -3,6 +3,7 @@ ghost use Rattle.std.specs.Prelude.{◌≡◌, ◌≤◌};
 ghost use Rattle.res_ledger.specs.declared.event.StreamNo.TheVariants.{Outer};
 ghost use Rattle.row_seat.specs.Views.{start};
 ghost use Rattle.tree_laws.specs.Whole.{IsWholeLedger};
+ghost use Rattle.scope_tree.specs.Visible.{row_room, scope_room};
 
 use crate::asserts::same;
 use crate::coins::GOOD;
@@ -23,7 +24,7 @@ where
     S::Pay: Finish,
     requires fits { S.fits seat desk.old }
     requires start { S.view seat ≡ start Outer 1 8 (S.view seat).splits }
-    requires room { (2 ≤ room.scopes) × (1 ≤ room.rows) }
+    requires room { (2 ≤ scope_room room) × (1 ≤ row_room room) }
     ensures whole { IsWholeLedger result.0 }
 {
     let mut tree = Tree::new(seat, room);

@@ -4,6 +4,7 @@ ghost use Rattle.std.specs.Prelude.{◌≡◌, ◌+◌, ◌*◌, ◌^◌, ◌<�
 ghost use Rattle.res_ledger.specs.declared.event.StreamNo.TheVariants.{Outer};
 ghost use Rattle.row_seat.specs.Views.{start};
 ghost use Rattle.tree_laws.specs.Whole.{IsWholeLedger};
+ghost use Rattle.scope_tree.specs.Visible.{row_room};
 
 use crate::asserts::{prints, same};
 use chunk_core::{Code, Exit, Line, List, Word};
@@ -39,7 +40,7 @@ fn read_and_end<D: Depot, S: RowSeat<Pay = Held<D::Dev>>>(
 ) -> Told<D::Dev>
     requires fits { S.fits seat desk.old }
     requires start { S.view seat ≡ start Outer (length tables.now) (2 * length tables.now + 1) (S.view seat).splits }
-    requires room { length tables.now ≤ room.rows }
+    requires room { length tables.now ≤ row_room room }
     ensures { IsWholeLedger result.ledger }
 {
     let mut tree = begin(seat, room);
