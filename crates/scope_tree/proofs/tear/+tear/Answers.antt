@@ -1,4 +1,4 @@
-use Rattle.std.proofs.Common.{◌≡◌, ℕ, ◌+◌, ◌-◌, ◌<◌, ◌≤◌, suc, true, false, length, drop, ◌++◌, [], slice_index_or, sym, ap, ◌∙◌, subst, arith, append-nil}
+use Rattle.std.proofs.Common.{◌≡◌, ℕ, ◌+◌, ◌-◌, ◌<◌, ◌≤◌, suc, false, length, drop, ◌++◌, [], slice_index_or, sym, ap, ◌∙◌, subst, arith, append-nil}
 use Rattle.scope_tree.specs.declared.branch.Branch.{Branch}
 use Rattle.scope_tree.specs.Kids.{lasts, kids, whole}
 use Rattle.scope_tree.specs.Released.{Releases}
