@@ -29,6 +29,10 @@ elements (load.Bytes bytes) = map Byte bytes
 elements (load.Lines lines) = map Line lines
 elements (load.Rows rows) = map Row rows
 
+-- the elements of loads, one load after another
+abbrev pub elements_of : List Load → List Element
+elements_of loads = flat_map elements loads
+
 -- a byte as it is, a line and its line feed, a row as a writer of comma-separated values writes it
 abbrev pub element_text : Element → List ℕ
 element_text (Byte b) = b ∷ []

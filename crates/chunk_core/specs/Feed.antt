@@ -32,6 +32,10 @@ MayFinish Stands Comes =
     ((m : Meaning) × (xs : List Element) × Stands m xs)
     ⊎ ((kind : LoadKind) × (ys : List Element) × (c : Option Code) × Comes kind ys c)
 
+-- nothing is still to come, whatever the state
+abbrev pub NothingComes : {Q : Type 0} → Q → LoadKind → List Element → Option Code → Type 0
+NothingComes q kind ys c = (ys ≡ []) × (c ≡ None)
+
 -- the load is what was given of xs and then ys beyond what was given of xs, and so is the fault
 pub record Extends (m : Meaning) (xs ys : List Element) (load : Load) (c : Option Code) : Type 0 where
   pub kind : kind_of load ≡ m.gives

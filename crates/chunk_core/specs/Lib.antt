@@ -6,3 +6,4 @@ pub mod Tables
 pub mod Texts
 pub mod Writing
 pub mod Totals
+pub mod Windows

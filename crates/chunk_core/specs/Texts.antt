@@ -1,5 +1,5 @@
 -- The texts of codes, of ends, and of frames.
-use Rattle.std.specs.Prelude.{ℕ, List, [], ◌∷◌, ◌++◌, length, flat_map, filter, nat_eq, codes, decimal}
+use Rattle.std.specs.Prelude.{◌≡◌, ℕ, ◌<◌, List, [], ◌∷◌, ◌++◌, length, flat_map, filter, nat_eq, codes, decimal, Option, None, Some}
 use Rattle.chunk_core.specs.declared.code.Code.{Code}
 use Rattle.chunk_core.specs.declared.code.Code.TheVariants as code
 use Rattle.chunk_core.specs.declared.code.Exit.{Exit}
@@ -20,6 +20,8 @@ code_text code.Uneven = codes "uneven"
 code_text code.NotUtf8 = codes "notutf8"
 code_text code.NoField = codes "nofield"
 code_text code.TooLarge = codes "toolarge"
+code_text code.BadPath = codes "badpath"
+code_text code.TooMany = codes "toomany"
 code_text (code.Raised c) = codes "raised " ++ decimal c
 
 -- how a stream ended; want of memory is never printed
@@ -43,6 +45,11 @@ pub record Frame : Type 0 where
 -- the stream's number, the payload's length, and the payload
 abbrev pub frame_text : ℕ → List ℕ → List ℕ
 frame_text k p = decimal k ++ (32 ∷ [] ++ (decimal (length p) ++ (10 ∷ [] ++ (p ++ 10 ∷ []))))
+
+-- a proper front of the text of the frame that was begun, where a write failed, and else nothing
+abbrev pub IsRestOf : Option Frame → List ℕ → Type 0
+IsRestOf None rest = rest ≡ []
+IsRestOf (Some f) rest = (more : List ℕ) × (0 < length more) × (rest ++ more ≡ frame_text f.stream f.payload)
 
 -- one frame after another
 abbrev pub frames_text : List Frame → List ℕ

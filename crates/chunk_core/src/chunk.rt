@@ -1,7 +1,8 @@
 //! Windows on shared vectors.
-ghost use Rattle.std.specs.Prelude.{◌≡◌, ◌==◌, ◌++◌, length, take, drop, IfOk, OnOk, OnErr, IfErr, slice_get};
+ghost use Rattle.std.specs.Prelude.{◌≡◌, ◌==◌, ◌++◌, [], length, take, drop, IfOk, OnOk, OnErr, IfErr, slice_get};
 ghost use Rattle.std.specs.Iterator.{YieldsFirstRef, item_count};
 ghost use Rattle.std.specs.Option.{option_copied};
+ghost use Rattle.chunk_core.specs.Windows.{shared_items};
 
 use std::alloc::{AllocError, Global};
 use std::cmp;
@@ -12,20 +13,21 @@ use std::sync::Arc;
 /// A window on a vector that other chunks may share. Contracts see the list of its elements.
 #[derive(Drop)]
 pub struct Chunk<T> {
-    items: Arc<Vec<T>, Global>,
+    /// None where the chunk was made empty.
+    items: Option<Arc<Vec<T>, Global>>,
     from: usize,
     to: usize,
 }
 
 impl<T> Model for Chunk<T> {
     ghost use Rattle.std.specs.Prelude.{List, length, slice_range, ◌≤◌};
-    ghost use Rattle.std.specs.Arc.{arc_value};
+    ghost use Rattle.chunk_core.specs.Windows.{shared_items};
 
     ghost Value = { List T };
 
-    ghost view = { λ chunk. slice_range (arc_value chunk.items).items chunk.from chunk.to };
+    ghost view = { λ chunk. slice_range (shared_items chunk.items) chunk.from chunk.to };
 
-    ghost invariant = { λ chunk. (chunk.from ≤ chunk.to) × (chunk.to ≤ length (arc_value chunk.items).items) };
+    ghost invariant = { λ chunk. (chunk.from ≤ chunk.to) × (chunk.to ≤ length (shared_items chunk.items)) };
 }
 
 /// The elements of a chunk in order. Contracts see the list of those still to come.
@@ -43,6 +45,17 @@ impl<'a, T> Model for ChunkIter<'a, T> {
 }
 
 impl<T> Chunk<T> {
+    /// A chunk of no elements, which takes no memory.
+    pub fn empty() -> Chunk<T>
+        ensures { result ≡ [] }
+    {
+        Chunk {
+            items: None,
+            from: 0,
+            to: 0,
+        }
+    }
+
     /// The whole vector, without a copy. At want of memory the vector is dropped.
     pub fn of_vec(alloc: Global, v: Vec<T>) -> Result<Chunk<T>, AllocError>
     where
@@ -50,7 +63,7 @@ impl<T> Chunk<T> {
         ensures { IfOk result (λ chunk. chunk ≡ v.items) }
     {
         let to = v.len();
-        let items = Arc::new(alloc, v)?;
+        let items = Some(Arc::new(alloc, v)?);
         Ok(Chunk { items, from: 0, to })
     }
 
@@ -76,8 +89,13 @@ impl<T> Chunk<T> {
     pub fn as_slice(&self) -> &[T]
         ensures { result.now ≡ self.now }
     {
-        let items: &Vec<T> = &self.items;
-        &items.as_slice()[self.from..self.to]
+        match &self.items {
+            Some(items) => {
+                let items: &Vec<T> = items;
+                &items.as_slice()[self.from..self.to]
+            }
+            None => &[],
+        }
     }
 
     /// Takes off the first `n` elements, or all where there are no more, without a copy.
@@ -87,7 +105,7 @@ impl<T> Chunk<T> {
         ensures rest { OnOk result (self.new ≡ drop n self.old) }
         ensures err { OnErr result (self.new ≡ self.old) }
     {
-        let items = Arc::try_clone(&self.items)?;
+        let items = shared(&self.items)?;
         let middle = if n < self.to - self.from {
             self.from + n
         } else {
@@ -107,7 +125,7 @@ impl<T> Chunk<T> {
         ensures { IfOk result (λ chunk. chunk ≡ self.now) }
     {
         Ok(Chunk {
-            items: Arc::try_clone(&self.items)?,
+            items: shared(&self.items)?,
             from: self.from,
             to: self.to,
         })
@@ -120,12 +138,23 @@ impl<T> Chunk<T> {
         ensures err { IfErr result (λ chunk. chunk ≡ self) }
     {
         let Chunk { items, from, to } = self;
+        let Some(items) = items else {
+            return Err(Chunk {
+                items: None,
+                from,
+                to,
+            });
+        };
         if from > 0 || to < items.len() {
+            let items = Some(items);
             return Err(Chunk { items, from, to });
         }
         match Arc::try_unwrap(items) {
             Ok(items) => Ok(items),
-            Err(items) => Err(Chunk { items, from, to }),
+            Err(items) => {
+                let items = Some(items);
+                Err(Chunk { items, from, to })
+            }
         }
     }
 
@@ -170,6 +199,16 @@ impl<T> Chunk<T> {
         ChunkIter {
             left: self.as_slice(),
         }
+    }
+}
+
+/// The vector once more, where there is one.
+fn shared<T>(items: &Option<Arc<Vec<T>, Global>>) -> Result<Option<Arc<Vec<T>, Global>>, AllocError>
+    ensures { IfOk result (λ again. shared_items again ≡ shared_items items.now) }
+{
+    match items {
+        Some(items) => Ok(Some(Arc::try_clone(items)?)),
+        None => Ok(None),
     }
 }
 

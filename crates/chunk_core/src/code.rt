@@ -29,6 +29,10 @@ pub enum Code {
     NoField,
     /// More input than a step or a table takes.
     TooLarge,
+    /// A line of a list of paths that can't be the path of a stream.
+    BadPath,
+    /// More lines of a list, or more files of a rotated output, than there may be.
+    TooMany,
     /// A fault that a node raises by itself.
     Raised(u16),
 }
@@ -52,6 +56,8 @@ impl fmt::Display for Code {
             Code::NotUtf8 => f.write_str("notutf8"),
             Code::NoField => f.write_str("nofield"),
             Code::TooLarge => f.write_str("toolarge"),
+            Code::BadPath => f.write_str("badpath"),
+            Code::TooMany => f.write_str("toomany"),
             Code::Raised(c) => write!(f, "raised {c}"),
         }
     }

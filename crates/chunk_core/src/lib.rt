@@ -4,10 +4,11 @@
 //! - `List`, with `Line` and `Row`, grows at its end; `Word` is UTF-8 text, such as a path.
 //! - `Chunk` is a window on a vector that others may share; `split`, `share` and `into_vec` copy no
 //!   element. `ChunkQueue` takes elements of chunks in a row.
-//! - `Load` is a piece of a stream, of bytes, lines or rows, and `render` gives its text.
+//! - `Load` is a piece of a stream, of bytes, lines or rows, and `render` gives its text. `copy` copies
+//!   no element, and `empty` takes no memory.
 //! - `Code` says what went wrong in a stream, `How` how it ended, `Exit` what a finalizer is told.
-//! - `Feed` is a pipe that is fed loads, and `Fed` its answer. `Spare` and `SpareRows` are for pipes
-//!   that fill the memory of loads that were let go.
+//! - `Feed` is a pipe that is fed loads, and `Fed` its answer. `Refill`, `Spare` and `SpareRows` are
+//!   for pipes that fill the memory of loads that were let go.
 //!
 //! The one error is `AllocError`, for want of memory: a list, chunk or queue is then as it was, what
 //! was handed in is dropped, and a pipe may only be dropped. `Chunk::into_vec` gives the chunk back
@@ -40,6 +41,7 @@ pub mod feed;
 pub mod list;
 pub mod load;
 pub mod queue;
+pub mod refill;
 pub mod spare;
 pub mod word;
 
@@ -49,5 +51,6 @@ pub use feed::{Fed, Feed};
 pub use list::{Line, List, Row};
 pub use load::{Load, render};
 pub use queue::ChunkQueue;
+pub use refill::Refill;
 pub use spare::{Spare, SpareRows};
 pub use word::Word;

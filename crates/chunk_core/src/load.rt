@@ -3,7 +3,7 @@ ghost use Rattle.std.specs.Prelude.{◌≡◌, ◌==◌, ◌++◌, ◌∷◌, []
 ghost use Rattle.std.specs.List.{flat_map};
 ghost use Rattle.std.specs.Io.KnownBytes.{Appends};
 ghost use Rattle.csv.specs.Writing.{default_writer, row_text};
-ghost use Rattle.chunk_core.specs.Elements.{elements, kind_of, rendering_of};
+ghost use Rattle.chunk_core.specs.Elements.{Bytes, elements, kind_of, rendering_of};
 ghost use Rattle.chunk_core.specs.Writing.{IsBetween, flexible_writer, written};
 
 use crate::chunk::Chunk;
@@ -20,6 +20,14 @@ pub enum Load {
 }
 
 impl Load {
+    /// A load of no bytes, which takes no memory.
+    pub fn empty() -> Load
+        ensures none { elements result ≡ [] }
+        ensures kind { kind_of result ≡ Bytes }
+    {
+        Load::Bytes(Chunk::empty())
+    }
+
     /// The number of its elements.
     pub fn len(&self) -> usize
         ensures { result ≡ length (elements self.now) }
@@ -49,6 +57,18 @@ impl Load {
             Load::Bytes(bytes) => Ok(Load::Bytes(bytes.split(n)?)),
             Load::Lines(lines) => Ok(Load::Lines(lines.split(n)?)),
             Load::Rows(rows) => Ok(Load::Rows(rows.split(n)?)),
+        }
+    }
+
+    /// The same load once more, without a copy of its elements.
+    pub fn copy(&self) -> Result<Load, AllocError>
+        ensures same { IfOk result (λ load. elements load ≡ elements self.now) }
+        ensures kind { IfOk result (λ load. kind_of load ≡ kind_of self.now) }
+    {
+        match self {
+            Load::Bytes(bytes) => Ok(Load::Bytes(bytes.share()?)),
+            Load::Lines(lines) => Ok(Load::Lines(lines.share()?)),
+            Load::Rows(rows) => Ok(Load::Rows(rows.share()?)),
         }
     }
 }

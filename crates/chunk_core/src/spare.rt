@@ -5,6 +5,7 @@ ghost use Rattle.std.specs.Prelude.{◌≡◌, ◌++◌, ◌∷◌, [], IfOk};
 
 use crate::chunk::Chunk;
 use crate::list::{Line, Row};
+use crate::refill::Refill;
 use std::alloc::{AllocError, Global};
 
 /// A line's memory of more bytes isn't filled again, so that short lines don't hold that of long ones.
@@ -13,14 +14,14 @@ const LONGEST_KEPT: usize = 1024;
 /// The lines of the load that was given last, once nobody else has it.
 #[derive(Drop)]
 pub struct Spare {
-    last: Option<Chunk<Line>>,
+    last: Refill<Line>,
     lines: Vec<Line>,
 }
 
 /// The rows of the load that was given last, once nobody else has it, and their fields.
 #[derive(Drop)]
 pub struct SpareRows {
-    last: Option<Chunk<Row>>,
+    last: Refill<Row>,
     rows: Vec<Row>,
     lines: Vec<Line>,
 }
@@ -56,17 +57,15 @@ impl Spare {
     /// Nothing is spare.
     pub fn new(alloc: Global) -> Spare {
         Spare {
-            last: None,
+            last: Refill::new(),
             lines: Vec::new(alloc),
         }
     }
 
     /// Takes the last load's lines back, where nobody else has them.
     pub fn regain(&mut self) {
-        if let Some(last) = self.last.take() {
-            if let Ok(lines) = last.into_vec() {
-                self.lines = lines;
-            }
+        if let Some(lines) = self.last.regain() {
+            self.lines = lines;
         }
     }
 
@@ -88,9 +87,7 @@ impl Spare {
     pub fn give(&mut self, alloc: Global, lines: Vec<Line>) -> Result<Chunk<Line>, AllocError>
         ensures { IfOk result (λ chunk. chunk ≡ lines.items) }
     {
-        let given = Chunk::of_vec(alloc, lines)?;
-        self.last = Some(given.share()?);
-        Ok(given)
+        self.last.give(alloc, lines)
     }
 }
 
@@ -98,7 +95,7 @@ impl SpareRows {
     /// Nothing is spare.
     pub fn new(alloc: Global) -> SpareRows {
         SpareRows {
-            last: None,
+            last: Refill::new(),
             rows: Vec::new(alloc),
             lines: Vec::new(alloc),
         }
@@ -106,10 +103,8 @@ impl SpareRows {
 
     /// Takes the last load's rows back, where nobody else has them.
     pub fn regain(&mut self) {
-        if let Some(last) = self.last.take() {
-            if let Ok(rows) = last.into_vec() {
-                self.rows = rows;
-            }
+        if let Some(rows) = self.last.regain() {
+            self.rows = rows;
         }
     }
 
@@ -138,9 +133,7 @@ impl SpareRows {
     pub fn give(&mut self, alloc: Global, rows: Vec<Row>) -> Result<Chunk<Row>, AllocError>
         ensures { IfOk result (λ chunk. chunk ≡ rows.items) }
     {
-        let given = Chunk::of_vec(alloc, rows)?;
-        self.last = Some(given.share()?);
-        Ok(given)
+        self.last.give(alloc, rows)
     }
 
     /// A row with one more field at its end.

@@ -19,6 +19,14 @@ pub record Place : Type 0 where
   pub path : List ℕ
   pub mode : Mode
 
+-- what is read at a path
+abbrev pub to_read : List ℕ → Place
+to_read path = record { path = path; mode = mode.Read }
+
+-- what is written at a path
+abbrev pub to_write : List ℕ → Place
+to_write path = record { path = path; mode = mode.Write }
+
 -- `present` says whether the path was there when the device was made; `at` is where it reads on;
 -- `ended` says that the last read that didn't fail gave nothing;
 -- `exit` is how what used the device ended, told by the close

@@ -1,8 +1,12 @@
 -- How far a device has come, as numbers.
-use Rattle.std.specs.Prelude.{◌≡◌, ℕ, Bool, true, false, Option, None, Some, refl}
+use Rattle.std.specs.Prelude.{◌≡◌, ℕ, Bool, true, false, Option, None, Some, refl, unwrap_or}
+use Rattle.std.proofs.Common.{ap}
 use Rattle.std.proofs.lemmas.Bool.{false≢true}
 use Rattle.std.proofs.Math.Nat.{suc-ne-zero}
+use Rattle.std.proofs.lemmas.Option.{none-some}
 use Rattle.chunk_core.specs.declared.code.Exit.{Exit}
+use Rattle.device_port.specs.declared.device.Mode.{Mode}
+use Rattle.device_port.specs.declared.device.Mode.TheVariants as mode
 use Rattle.device_port.specs.declared.record.Stage.{Stage}
 use Rattle.device_port.specs.declared.record.Stage.TheVariants as stage
 
@@ -54,3 +58,11 @@ no_exit_at stage.Unopened h = refl
 no_exit_at stage.Open h = refl
 no_exit_at (stage.Closed exit) h = absurd (suc-ne-zero 0 h)
 no_exit_at (stage.ClosedBadly exit) h = absurd (suc-ne-zero 0 h)
+
+-- a device that tells whether its path was there
+pub no_open_at : (m : Mode) (present : Bool) (s : Stage) → (m ≡ mode.Read → present ≡ false → times_opened s ≡ 0) → m ≡ mode.Read → Some present ≡ Some false → times_opened s ≡ 0
+no_open_at m present s h is_read gone = h is_read (ap (λ o. unwrap_or o true) gone)
+
+-- a device that doesn't
+pub no_open_untold : (m : Mode) (s : Stage) → m ≡ mode.Read → None ≡ Some false → times_opened s ≡ 0
+no_open_untold m s is_read gone = absurd (none-some false gone)

@@ -70,4 +70,7 @@ pub trait Device {
 
     /// A device that was never closed has no exit.
     ghost no_exit: { (d : Self) → (told d).closes ≡ 0 → (told d).exit ≡ None };
+
+    /// A device to read a path that isn't there was never opened.
+    ghost no_open: { (d : Self) → (told d).place.mode ≡ mode.Read → (told d).present ≡ Some false → (told d).opens ≡ 0 };
 }

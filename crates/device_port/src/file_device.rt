@@ -64,13 +64,15 @@ where
     F: Read + Write + OpenFile + Drop,
 {
     ghost use Rattle.device_port.specs.Real.{file_told, stage_of};
-    ghost use Rattle.device_port.specs.Stage.{open_once_at, no_exit_at};
+    ghost use Rattle.device_port.specs.Stage.{open_once_at, no_exit_at, no_open_untold};
 
     ghost told = { file_told };
 
     ghost open_once = { λ d. open_once_at (stage_of d.held) };
 
     ghost no_exit = { λ d. no_exit_at (stage_of d.held) };
+
+    ghost no_open = { λ d. no_open_untold d.mode (stage_of d.held) };
 
     fn number(&self) -> u64 {
         self.number

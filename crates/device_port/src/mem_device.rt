@@ -2,6 +2,7 @@
 ghost use Rattle.std.specs.Prelude.{◌≡◌, ◌+◌, ◌-◌, ◌^◌, ◌<◌, ◌≤◌, ◌↔◌, ◌||◌, ◌&&◌, not, min, length, take, drop, true, false, Some, IfOk, OnOk, OnErr, IsErr, IfSome, IsTrue};
 ghost use Rattle.device_port.specs.Trips.{is_next_named, counted};
 ghost use Rattle.device_port.specs.Device.{moved, with_written, closed_with, is_read};
+ghost use Rattle.device_port.specs.Stage.{times_opened};
 ghost use Rattle.device_port.specs.declared.device.Mode.TheVariants as mode;
 
 use crate::calls::ActCalls;
@@ -16,11 +17,13 @@ pub struct MemDevice {
     facts: Record,
     calls: ActCalls,
     ghost within: { facts.at ≤ length facts.content.items },
+    ghost unopened: { facts.mode ≡ mode.Read → facts.present ≡ false → times_opened facts.stage ≡ 0 },
 }
 
 impl MemDevice {
     pub(crate) fn new(facts: Record, calls: ActCalls) -> MemDevice
-        requires { facts.at ≡ 0 }
+        requires front { facts.at ≡ 0 }
+        requires stage { times_opened facts.stage ≡ 0 }
         ensures facts { result.facts ≡ facts }
         ensures calls { result.calls ≡ calls }
     {
@@ -43,13 +46,15 @@ impl MemDevice {
 
 impl Device for MemDevice {
     ghost use Rattle.device_port.specs.Records.{record_told};
-    ghost use Rattle.device_port.specs.Stage.{open_once_at, no_exit_at};
+    ghost use Rattle.device_port.specs.Stage.{open_once_at, no_exit_at, no_open_at};
 
     ghost told = { λ d. record_told d.facts };
 
     ghost open_once = { λ d. open_once_at d.facts.stage };
 
     ghost no_exit = { λ d. no_exit_at d.facts.stage };
+
+    ghost no_open = { λ d. no_open_at d.facts.mode d.facts.present d.facts.stage d.unopened };
 
     fn number(&self) -> u64 {
         self.facts.number

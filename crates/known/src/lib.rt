@@ -29,6 +29,8 @@
 ghost use Rattle.std.specs.Prelude.{◌≡◌, ⊤, [], ℕ};
 ghost use base.Fml.{ftrue};
 
+pub mod crossing;
+
 use logbook::{Gain, Offer, Plain, Rule, Seen, Start};
 use std::marker::{Model, PhantomData};
 
