@@ -1,2 +1,4 @@
 pub mod Right
 pub mod Stood
+pub mod Hanging
+pub mod Teardowns

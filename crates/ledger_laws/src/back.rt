@@ -1,7 +1,8 @@
 //! A ledger's text is read back as that ledger.
 ghost use Rattle.std.specs.Prelude.{◌≡◌, IfErr, IfOk};
 
-use res_ledger::{Ledger, LedgerRefused, laws, read, text};
+use ledger_text::{LedgerRefused, laws, read};
+use res_ledger::{Ledger, text};
 use std::alloc::Global;
 
 /// What is read from the text of a ledger: that ledger, unless memory is wanting.

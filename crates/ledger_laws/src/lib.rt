@@ -5,4 +5,5 @@
 pub mod back;
 pub mod broken;
 pub mod stands;
+pub mod torn;
 pub mod worked;

@@ -11,13 +11,7 @@ pub mod Leases
 pub mod Judged
 pub mod Stamps
 pub mod Words
-pub mod Spelled
-pub mod Lines
-pub mod Readings
-pub mod Forward
 pub mod Standings
 pub mod Apart
-pub mod Beginnings
-pub mod Closing
 pub mod Mapped
 pub mod Permuted

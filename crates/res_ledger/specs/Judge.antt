@@ -1,17 +1,16 @@
 -- Tests of the rules of a ledger.
-use Rattle.std.specs.Prelude.{◌≡◌, ◌↔◌, ℕ, Bool, true, ◌&&◌, ◌||◌, not, nat_eq, List, [], ◌∷◌, ◌++◌, flat_map}
+use Rattle.std.specs.Prelude.{ℕ, Bool, true, ◌&&◌, ◌||◌, not, nat_eq, List, [], ◌∷◌, ◌++◌, flat_map}
 use Rattle.std.specs.List.{list_any as any, list_all as all}
 use Rattle.res_ledger.specs.declared.event.StreamNo.{StreamNo}
 use Rattle.res_ledger.specs.declared.event.StreamNo.TheVariants.{Inner}
 use Rattle.res_ledger.specs.declared.event.What.{What}
 use Rattle.res_ledger.specs.declared.event.What.TheVariants.{Open, Acquire, Lease, Cancel, Close, Final}
 use Rattle.res_ledger.specs.declared.event.Event.{Event}
-use Rattle.res_ledger.specs.Ledger.{IsClosed, IsCoveredBy, Covers, IsLegal}
-use Rattle.res_ledger.specs.Own.{own, opens, rows, acquires_of, leased_of, canceled_of, is_closed, leased_rows}
+use Rattle.res_ledger.specs.Own.{own, opens, rows, acquires_of, leased_of, canceled_of, is_closed}
 use Rattle.chunk_core.specs.Lists.{has}
 use Rattle.res_ledger.specs.Streams.{same_stream}
-use Rattle.res_ledger.specs.Order.{covered, covered_by}
-use Rattle.res_ledger.specs.Whole.{is_final, is_cancel, final_count, cancel_count, IsComplete}
+use Rattle.res_ledger.specs.Order.{covered_by}
+use Rattle.res_ledger.specs.Whole.{is_final, is_cancel, final_count, cancel_count}
 
 -- each event passes with the list of those before it, which begins with P
 abbrev pub each_after : (List Event → Event → Bool) → List Event → List Event → Bool
@@ -90,27 +89,3 @@ is_late L P w = true
 -- a test of IsComplete
 abbrev pub is_complete : List Event → Bool
 is_complete L = all (λ e. is_answered L e.by e.what) L && each_after (λ P e. is_late L P e.what) [] L
-
--- the test passes exactly the legal ledgers
-abbrev pub LegalTestIsExact : Type 0
-LegalTestIsExact = (L : List Event) → (is_legal L ≡ true) ↔ IsLegal L
-
--- of the legal ledgers the test passes exactly the complete ones
-abbrev pub CompleteTestIsExact : Type 0
-CompleteTestIsExact = (L : List Event) → IsLegal L → (is_complete L ≡ true) ↔ IsComplete L
-
--- in a legal ledger the test finds exactly the scopes that are closed
-abbrev pub ClosedTestIsExact : Type 0
-ClosedTestIsExact = (L : List Event) → IsLegal L → (k : StreamNo) (s : ℕ) → (is_closed (own k L) s ≡ true) ↔ IsClosed L k s
-
--- in a legal ledger the list has exactly the rows that a lease on s would cover
-abbrev pub LeasedRowsAreExact : Type 0
-LeasedRowsAreExact = (L : List Event) → IsLegal L → (k : StreamNo) (s r : ℕ) → (has r (leased_rows (own k L) s) ≡ true) ↔ IsCoveredBy L k s r
-
--- in a legal ledger the list has exactly the rows that the lease for j covers
-abbrev pub CoveredByIsExact : Type 0
-CoveredByIsExact = (L : List Event) → IsLegal L → (j r : ℕ) → (has r (covered_by L j) ≡ true) ↔ ((k : StreamNo) × Covers L j k r)
-
--- in a legal ledger the list has exactly the rows that some lease covers
-abbrev pub CoveredIsExact : Type 0
-CoveredIsExact = (L : List Event) → IsLegal L → (r : ℕ) → (has r (covered L) ≡ true) ↔ ((j : ℕ) × (k : StreamNo) × Covers L j k r)

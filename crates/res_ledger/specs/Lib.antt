@@ -1,11 +1,10 @@
 pub mod Ledger
 pub mod Rising
 pub mod Texts
-pub mod Reading
+pub mod Limits
 pub mod Streams
 pub mod Own
 pub mod Order
 pub mod Whole
 pub mod Judge
 pub mod Standing
-pub mod Closing

@@ -1,5 +1,5 @@
 -- In which order a stream notes the ends of its rows.
-use Rattle.std.specs.Prelude.{◌≡◌, ◌↔◌, ℕ, Bool, true, false, nat_eq, ◌&&◌, if◌then◌else◌, List, [], ◌∷◌, ◌++◌, reverse, flat_map}
+use Rattle.std.specs.Prelude.{◌≡◌, ℕ, Bool, true, false, nat_eq, ◌&&◌, if◌then◌else◌, List, [], ◌∷◌, ◌++◌, reverse, flat_map}
 use Rattle.std.specs.List.{list_all as all}
 use Rattle.chunk_core.specs.declared.code.Exit.{Exit}
 use Rattle.chunk_core.specs.declared.code.Exit.TheVariants.{Succeeded, Errored, Canceled}
@@ -103,7 +103,3 @@ is_in_order L k = is_in_blocks (λ r. has r (covered L)) (λ j. reverse (covered
 -- a test of IsOrdered, by the streams that noted something
 abbrev pub is_ordered : List Event → Bool
 is_ordered L = all (λ e. is_in_order L e.by) L
-
--- the test passes exactly the ordered ledgers
-abbrev pub OrderTestIsExact : Type 0
-OrderTestIsExact = (L : List Event) → (is_ordered L ≡ true) ↔ IsOrdered L

@@ -2,7 +2,7 @@
 ghost use Rattle.std.specs.Prelude.{◌≡◌, ◌==◌, [], length, slice_get};
 ghost use Rattle.std.specs.Option.{option_copied};
 ghost use Rattle.res_ledger.specs.Ledger.{IsStamped};
-ghost use Rattle.res_ledger.specs.Reading.{IsLedger, IsSmallEvent};
+ghost use Rattle.res_ledger.specs.Limits.{IsLedger, IsSmallEvent};
 
 use crate::event::{Event, StreamNo, What};
 use std::alloc::Global;
@@ -17,7 +17,7 @@ pub struct Ledger {
 impl Model for Ledger {
     ghost use Rattle.std.specs.Prelude.{List};
     ghost use Rattle.res_ledger.specs.declared.event.Event.{Event};
-    ghost use Rattle.res_ledger.specs.Reading.{IsLedger};
+    ghost use Rattle.res_ledger.specs.Limits.{IsLedger};
 
     ghost Value = { List Event };
 

@@ -2,43 +2,39 @@
 //!
 //! - `Ledger` is the list of `Event`s, whose stamps are their places: `of_events`, `len`, `get`,
 //!   `as_slice`. An event says which stream did (`StreamNo`) `What`.
-//! - `text` gives a ledger's text, and `read` the ledger of a text. `LedgerRefused` says why there
-//!   is none: the first line that isn't well spelled; where each is, the two numbers of events that
-//!   differ; or want of memory, which is the one error of `text` too (`AllocError`).
+//! - `text` gives a ledger's text. Its one error is want of memory (`AllocError`). The crate
+//!   `ledger_text` reads a text.
 //! - The rules stand in the specs, for the contracts of those who note events: which event may
 //!   follow (`IsLegal`), that all was ended (`IsComplete`), in which order and with which exit
-//!   (`IsOrdered`). `laws` has what follows from them. `read` judges none of these: it takes any
-//!   events that are well spelled.
+//!   (`IsOrdered`). `laws` of `ledger_text` has what follows from them.
+//!
+//! A ledger of three events, whose stamps are 0, 1 and 2:
 //!
 //! ```
-//! let alloc = rt.alloc();
-//! let written = b"ledger 3\n0 acquire 0 0\n0 close 0 errored\n0 final 0 errored fault\n";
-//! let ledger = read(alloc, written.as_slice())?;
-//! let mut failed = 0u32;
-//! for event in ledger.as_slice() {
-//!     if let What::Final { row, ok: false, .. } = event.what {
-//!         assert_eq!(rt; row, 0);
-//!         failed = failed.saturating_add(1);
-//!     }
-//! }
-//! assert_eq!(rt; failed, 1);
-//! assert_eq!(rt; text(alloc, &ledger)?.as_slice(), written.as_slice());
+//! Ok(Ledger::of_events(vec![in alloc; first, second, third]?))
+//! ```
 //!
-//! let short = read(alloc, b"ledger 2\n0 close 0 succeeded\n");
-//! assert_eq!(rt; short.err(), Some(LedgerRefused::BadCount(2, 1)));
-//! let misspelled = read(alloc, b"ledger 1\n0 shut 0 succeeded\n");
-//! assert_eq!(rt; misspelled.err(), Some(LedgerRefused::BadLine(1)));
+//! Its text, of the three steps of a row that is acquired, closed and finalized:
+//!
+//! ```
+//! let one_row = [
+//!     What::Acquire { row: 0, scope: 0 },
+//!     What::Close { scope: 0, exit },
+//!     What::Final { row: 0, exit, ok },
+//! ];
+//! let written = b"ledger 3\n0 acquire 0 0\n0 close 0 succeeded\n0 final 0 succeeded ok\n";
+//! ```
+//!
+//! ```
+//! let ledger = of_events(alloc, by, steps)?;
+//! same(rt, text(alloc, &ledger)?.as_slice(), written);
 //! ```
 #![tactic(auto)]
 
 pub mod event;
-pub mod laws;
 pub mod ledger;
-mod reading;
-mod spelling;
 mod texts;
 
 pub use event::{Event, StreamNo, What};
 pub use ledger::Ledger;
-pub use reading::{LedgerRefused, read};
 pub use texts::text;

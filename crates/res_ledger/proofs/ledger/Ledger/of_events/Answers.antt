@@ -1,7 +1,7 @@
 use Rattle.std.proofs.Common.{◌<◌, ◌^◌, length, ◌∙◌, subst, arith}
 use Rattle.std.proofs.lemmas.List.{take_all}
 use Rattle.std.specs.List.{AllByRecursion}
-use Rattle.res_ledger.specs.Reading.{IsSmallEvent}
+use Rattle.res_ledger.specs.Limits.{IsSmallEvent}
 use Rattle.chunk_core.proofs.Each.{each_more}
 use Rattle.res_ledger.proofs.ledger.Ledger.of_events.Goals as goal
 

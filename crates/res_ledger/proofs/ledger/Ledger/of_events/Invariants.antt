@@ -1,6 +1,6 @@
 use Rattle.std.proofs.Common.{take}
 use Rattle.std.specs.List.{AllByRecursion}
-use Rattle.res_ledger.specs.Reading.{IsSmallEvent}
+use Rattle.res_ledger.specs.Limits.{IsSmallEvent}
 use Rattle.res_ledger.proofs.ledger.Ledger.of_events.Given as goal
 
 -- the numbers of the events so far fit

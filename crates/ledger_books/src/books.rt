@@ -1,0 +1,345 @@
+//! What may follow the events so far.
+ghost use Rattle.chunk_core.specs.declared.code.Exit.{Exit};
+ghost use Rattle.std.specs.Prelude.{Bool, ◌≡◌, ◌≢◌, ◌↔◌, ◌<◌, ℕ, true, false, MatchOption, IfOk, OnOk, List, length, [], ◌∷◌, ◌++◌, if◌then◌else◌};
+ghost use Rattle.chunk_core.specs.Lists.{IsAmong};
+ghost use Rattle.res_ledger.specs.declared.event.Event.{Event};
+ghost use Rattle.res_ledger.specs.declared.event.StreamNo.{StreamNo};
+ghost use Rattle.res_ledger.specs.declared.event.StreamNo.TheVariants.{Inner};
+ghost use Rattle.res_ledger.specs.declared.event.What.TheVariants.{Acquire, Cancel, Final, Lease, Open};
+ghost use Rattle.res_ledger.specs.Ledger.{IsAcquired, IsFinalized, IsLegal, MayFollow, Notes};
+ghost use Rattle.ledger_books.specs.Keyed.{IsFirst, IsFirstIllegal, Indexes, IsSomeCover, Keeps, KeepsBegun, NotesAt, is_acquire as is_acquire_of, is_lease as is_lease_of, key_of};
+
+use crate::index::{Index, Key};
+use crate::leases::{are_canceled, covers, has_canceled, is_canceled, lease_at, leased};
+use crate::scopes::{is_closed, is_usable, number, opened};
+use res_ledger::{Event, StreamNo, What};
+use std::alloc::{AllocError, Global};
+
+/// What an audit keeps of the events so far: where each is noted, and where leases and rows are.
+#[derive(Drop)]
+pub struct Books {
+    pub index: Index,
+    pub leases: Vec<u64>,
+    pub rows: Vec<u64>,
+}
+
+/// Where the row was acquired, by which stream and in which scope.
+pub fn acquired(index: &Index, past: &[Event], row: u32) -> Option<(u64, StreamNo, u32)>
+    requires { Indexes index.now past.now }
+    ensures { MatchOption result (¬ (IsAcquired past.now row)) (λ t. NotesAt past.now t.0 t.1 (Acquire row t.2)) }
+{
+    let place = index.find(Key::Acquired(row))?;
+    let event = past.get(place as usize)?;
+    match event.what {
+        What::Acquire { scope, .. } => Some((place, event.by, scope)),
+        _ => None,
+    }
+}
+
+/// Whether the row has its Final.
+pub fn is_final(index: &Index, past: &[Event], row: u32) -> bool
+    requires { Indexes index.now past.now }
+    ensures { (result ≡ true) ↔ IsFinalized past.now row }
+{
+    index.has(Key::Finalized(row))
+}
+
+/// Whether the stream with this number noted something.
+fn has_begun(index: &Index, past: &[Event], stream: u32) -> bool
+    requires { Indexes index.now past.now }
+    ensures { (result ≡ false) ↔ ((e : Event) → IsAmong e past.now → e.by ≢ Inner stream) }
+{
+    index.has(Key::Begun(u64::from(stream) + 1))
+}
+
+/// The streams whose leases cover the row.
+pub fn covering(
+    alloc: Global,
+    books: &Books,
+    past: &[Event],
+    row: u32,
+    at: u64,
+    owner: StreamNo,
+    of: u32,
+) -> Result<Vec<u32>, AllocError>
+    requires keeps { Keeps books.now past.now }
+    requires legal { IsLegal past.now }
+    requires row { NotesAt past.now at owner (Acquire row of) }
+    ensures { IfOk result (λ js. (j : ℕ) → IsAmong j js.items ↔ IsSomeCover past.now j row) }
+{
+    let mut found = Vec::new(alloc);
+    let mut n = books.leases.len();
+    while n > 0 {
+        n -= 1;
+        let place = books.leases[n];
+        if place <= at {
+            return Ok(found);
+        }
+        let Some((by, stream, scope)) = lease_at(past, place) else {
+            return Ok(found);
+        };
+        if covers(&books.index, past, place, by, scope, row, at, owner, of) {
+            found.push(stream)?;
+        }
+    }
+    Ok(found)
+}
+
+/// Whether the stream may note the Final of the row.
+fn may_end(
+    alloc: Global,
+    books: &Books,
+    past: &[Event],
+    by: StreamNo,
+    row: u32,
+) -> Result<bool, AllocError>
+    requires keeps { Keeps books.now past.now }
+    requires legal { IsLegal past.now }
+    ensures { IfOk result (λ b. (x : Exit) (ok : Bool) → (b ≡ true) ↔ MayFollow past.now by (Final row x ok)) }
+{
+    let Some((at, owner, of)) = acquired(&books.index, past, row) else {
+        return Ok(false);
+    };
+    if is_final(&books.index, past, row) {
+        return Ok(false);
+    }
+    if !is_closed(&books.index, past, owner, of) {
+        return Ok(false);
+    }
+    let leases = covering(alloc, books, past, row, at, owner, of)?;
+    if !are_canceled(&books.index, past, &leases) {
+        return Ok(false);
+    }
+    if number(by) == number(owner) {
+        return Ok(true);
+    }
+    Ok(has_canceled(&books.index, past, &leases, by))
+}
+
+/// The row that was acquired at the place.
+fn row_at(past: &[Event], place: u64) -> Option<(StreamNo, u32, u32)>
+    ensures { MatchOption result ((k : StreamNo) (r s : ℕ) → ¬ (NotesAt past.now place k (Acquire r s))) (λ t. NotesAt past.now place t.0 (Acquire t.1 t.2)) }
+{
+    let event = past.get(place as usize)?;
+    match event.what {
+        What::Acquire { row, scope } => Some((event.by, row, scope)),
+        _ => None,
+    }
+}
+
+/// Whether the row that was acquired at the place is final, if it is the stream's.
+fn row_is_final(index: &Index, past: &[Event], place: u64, stream: u32) -> bool
+    requires { Indexes index.now past.now }
+    ensures { (result ≡ true) ↔ ((r s : ℕ) → NotesAt past.now place (Inner stream) (Acquire r s) → IsFinalized past.now r) }
+{
+    let Some((by, row, _)) = row_at(past, place) else {
+        return true;
+    };
+    if number(by) != number(StreamNo::Inner(stream)) {
+        return true;
+    }
+    is_final(index, past, row)
+}
+
+/// Whether each row that the stream acquired is final.
+fn are_final(books: &Books, past: &[Event], stream: u32) -> bool
+    requires { Keeps books.now past.now }
+    ensures { (result ≡ true) ↔ ((r s : ℕ) → Notes past.now (Inner stream) (Acquire r s) → IsFinalized past.now r) }
+{
+    let Some(first) = books.index.find(Key::Begun(u64::from(stream) + 1)) else {
+        return true;
+    };
+    let mut n = books.rows.len();
+    while n > 0 {
+        n -= 1;
+        let place = books.rows[n];
+        if place < first {
+            return true;
+        }
+        if !row_is_final(&books.index, past, place, stream) {
+            return false;
+        }
+    }
+    true
+}
+
+/// Whether the stream may cancel the lease.
+fn may_cancel(books: &Books, past: &[Event], by: StreamNo, stream: u32) -> bool
+    requires keeps { Keeps books.now past.now }
+    requires legal { IsLegal past.now }
+    ensures { (x : Exit) → (result ≡ true) ↔ MayFollow past.now by (Cancel stream x) }
+{
+    let Some((_, lessor, _)) = leased(&books.index, past, stream) else {
+        return false;
+    };
+    if is_canceled(&books.index, past, stream) {
+        return false;
+    }
+    let own = number(by);
+    if own == u64::from(stream) + 1 {
+        return are_final(books, past, stream);
+    }
+    let other = number(lessor);
+    if own != other {
+        return false;
+    }
+    !has_begun(&books.index, past, stream)
+}
+
+/// Whether a scope may be opened so.
+fn may_open(index: &Index, past: &[Event], by: StreamNo, scope: u32, parent: u32) -> bool
+    requires index { Indexes index.now past.now }
+    requires legal { IsLegal past.now }
+    ensures { (result ≡ true) ↔ MayFollow past.now by (Open scope parent) }
+{
+    if scope == 0 {
+        return false;
+    }
+    if opened(index, past, by, scope).is_some() {
+        return false;
+    }
+    is_usable(index, past, by, parent)
+}
+
+/// Whether a row may be acquired so.
+fn may_acquire(index: &Index, past: &[Event], by: StreamNo, row: u32, scope: u32) -> bool
+    requires index { Indexes index.now past.now }
+    requires legal { IsLegal past.now }
+    ensures { (result ≡ true) ↔ MayFollow past.now by (Acquire row scope) }
+{
+    if acquired(index, past, row).is_some() {
+        return false;
+    }
+    is_usable(index, past, by, scope)
+}
+
+/// Whether a scope may be leased so.
+fn may_lease(index: &Index, past: &[Event], by: StreamNo, stream: u32, scope: u32) -> bool
+    requires index { Indexes index.now past.now }
+    requires legal { IsLegal past.now }
+    ensures { (result ≡ true) ↔ MayFollow past.now by (Lease stream scope) }
+{
+    if leased(index, past, stream).is_some() {
+        return false;
+    }
+    if number(by) == number(StreamNo::Inner(stream)) {
+        return false;
+    }
+    is_usable(index, past, by, scope)
+}
+
+impl Books {
+    /// Whether the event may follow those so far.
+    pub fn may_follow(
+        &self,
+        alloc: Global,
+        past: &[Event],
+        event: Event,
+    ) -> Result<bool, AllocError>
+        requires keeps { Keeps self.now past.now }
+        requires legal { IsLegal past.now }
+        ensures { IfOk result (λ b. (b ≡ true) ↔ MayFollow past.now event.by event.what) }
+    {
+        let by = event.by;
+        let index = &self.index;
+        match event.what {
+            What::Open { scope, parent } => Ok(may_open(index, past, by, scope, parent)),
+            What::Acquire { row, scope } => Ok(may_acquire(index, past, by, row, scope)),
+            What::Lease { stream, scope } => Ok(may_lease(index, past, by, stream, scope)),
+            What::Cancel { stream, .. } => Ok(may_cancel(self, past, by, stream)),
+            What::Close { scope, .. } => Ok(is_usable(index, past, by, scope)),
+            What::Final { row, .. } => may_end(alloc, self, past, by, row),
+        }
+    }
+}
+
+/// The place of the first event that may not follow those before it.
+pub fn first_illegal(alloc: Global, events: &[Event]) -> Result<Option<u64>, AllocError>
+    ensures { IfOk result (λ o. MatchOption o (IsLegal events.now) (IsFirstIllegal events.now)) }
+{
+    let mut books = Books::new(alloc);
+    for (i, event) in events.iter().enumerate() {
+        if !books.may_follow(alloc, &events[..i], *event)? {
+            return Ok(Some(i as u64));
+        }
+        books.note(*event, i as u64)?;
+    }
+    Ok(None)
+}
+
+/// The key of what the stream notes.
+fn key(by: StreamNo, what: What) -> Key
+    ensures { result ≡ key_of by what }
+{
+    match what {
+        What::Open { scope, .. } => Key::Opened(number(by), scope),
+        What::Acquire { row, .. } => Key::Acquired(row),
+        What::Lease { stream, .. } => Key::Leased(stream),
+        What::Cancel { stream, .. } => Key::Canceled(stream),
+        What::Close { scope, .. } => Key::Closed(number(by), scope),
+        What::Final { row, .. } => Key::Finalized(row),
+    }
+}
+
+/// Adds the event that stands at the place to the index.
+fn add_keys(index: &mut Index, event: Event, place: u64) -> Result<(), AllocError>
+    ensures index { OnOk result ((P : List Event) → length P ≡ place → Indexes index.old P → Indexes index.new (P ++ event ∷ [])) }
+    ensures first { OnOk result ((P : List Event) → length P ≡ place → Indexes index.old P → IsFirst index.old P → IsFirst index.new (P ++ event ∷ [])) }
+{
+    index.add(key(event.by, event.what), place)?;
+    add_begun(index, number(event.by), place)
+}
+
+/// Adds the place as that where the stream begins, unless it has begun.
+fn add_begun(index: &mut Index, stream: u64, place: u64) -> Result<(), AllocError>
+    ensures { OnOk result (KeepsBegun index.old index.new stream place) }
+{
+    if index.has(Key::Begun(stream)) {
+        return Ok(());
+    }
+    index.add(Key::Begun(stream), place)
+}
+
+fn is_lease(what: What) -> bool
+    ensures { result ≡ is_lease_of what }
+{
+    matches!(what, What::Lease { .. })
+}
+
+fn is_acquire(what: What) -> bool
+    ensures { result ≡ is_acquire_of what }
+{
+    matches!(what, What::Acquire { .. })
+}
+
+/// Adds the place to the list where the event passes.
+fn add_place(places: &mut Vec<u64>, passes: bool, place: u64) -> Result<(), AllocError>
+    ensures { OnOk result (places.new.items ≡ (if passes then places.old.items ++ place ∷ [] else places.old.items)) }
+{
+    if passes {
+        places.push(place)?;
+    }
+    Ok(())
+}
+
+impl Books {
+    /// Nothing was noted.
+    pub fn new(alloc: Global) -> Books
+        ensures { Keeps result [] }
+    {
+        Books {
+            index: Index::new(alloc),
+            leases: Vec::new(alloc),
+            rows: Vec::new(alloc),
+        }
+    }
+
+    /// Keeps one event more.
+    pub fn note(&mut self, event: Event, place: u64) -> Result<(), AllocError>
+        ensures { OnOk result ((P : List Event) → length P ≡ place → Keeps self.old P → Keeps self.new (P ++ event ∷ [])) }
+    {
+        add_keys(&mut self.index, event, place)?;
+        add_place(&mut self.leases, is_lease(event.what), place)?;
+        add_place(&mut self.rows, is_acquire(event.what), place)
+    }
+}

@@ -1,0 +1,4 @@
+pub mod Reading
+pub mod Closing
+pub mod Standings
+pub mod Tests
