@@ -47,6 +47,7 @@ pub mod plain;
 pub mod seat;
 pub mod token;
 pub mod view;
+pub mod words;
 
 pub use plain::{PlainSeat, PlainTable};
 pub use seat::RowSeat;

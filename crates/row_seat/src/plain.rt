@@ -9,21 +9,14 @@ use crate::knowledge::{
 use crate::seat::RowSeat;
 use crate::token::Token;
 use crate::view::Left;
+use crate::words::{CLOSE, LEASE, OPEN};
 use chunk_core::Span;
 use known::{Known, know, step};
 use res_ledger::{Event, Ledger, StreamNo, What};
 use std::alloc::{AllocError, Global};
 use std::collections::LinkedList;
 
-// The word of a row: 0 while it is empty, OPEN from its place on, with LEASE for each lease that
-// stands on it; CLOSE is added when it is closed. So it is HANDED where it is closed and no lease
-// stands on it.
-const OPEN: u64 = 1;
-
-const CLOSE: u64 = 2;
-
-const LEASE: u64 = 4;
-
+// The word of a row that is closed, and on which no lease stands.
 const HANDED: u64 = 3;
 
 /// A seat of one thread.

@@ -1,8 +1,7 @@
--- A seat still fits its table after a call, and which handles it fits.
+-- A seat still fits its table after a call.
 use Rattle.std.proofs.Common.{◌≡◌, ◌+◌, ◌≤◌, true, false, length, sym, ap, ◌∙◌, subst}
 use Rattle.std.specs.Prelude.{vec_capacity, vec_len}
 use Rattle.std.specs.Arc.{arc_value}
-use Rattle.chunk_core.proofs.Filters.{bool_not}
 use Rattle.row_seat.specs.declared.token.Token.{Token}
 use Rattle.std.specs.Map.{keys_of}
 use Rattle.row_seat.specs.Rule.{IsInside}
@@ -31,22 +30,4 @@ module _ {P : Type 0} {s' : SharedSeat P} (d : TableRef P) (w : Token P) where
     hold = subst (λ (t : Token P). t.main ≡ false → length t.empty + vec_len s'.hands ≤ vec_capacity s'.hands) (sym e) hold;
     pages = subst (λ (t : Token P). t.main ≡ true → (arc_value d.table).shared.key.events ≤ vec_capacity s'.events) (sym e) pages;
     leaves = subst (λ (t : Token P). t.main ≡ false → length t.events + t.spare ≤ vec_capacity s'.events) (sym e) leaves;
-  }
-
--- a seat that isn't the main one fits a handle that another seat fits, where both fit one
-module _ {P : Type 0} (s o : SharedSeat P) (d d' : TableRef P) where
-  pub fits_other : SharedFits s d → SharedFits s d' → SharedFits o d' → o.pass.me.0.token.main ≡ false → SharedFits o d
-  fits_other a b h side = let e : (arc_value d'.table).shared.table_id ≡ (arc_value d.table).shared.table_id = sym b.table.0 ∙ a.table.0 in record {
-    table = (h.table.0 ∙ e, a.table.1, a.table.2);
-    calm = h.calm;
-    by = h.by;
-    first = λ m. absurd (bool_not (sym m ∙ side));
-    inside = subst (λ z. IsInside z.slots o.pass.me.0.token) e h.inside;
-    itself = h.itself;
-    held = h.held;
-    noted = h.noted;
-    whole = λ m. absurd (bool_not (sym m ∙ side));
-    hold = h.hold;
-    pages = λ m. absurd (bool_not (sym m ∙ side));
-    leaves = h.leaves;
   }

@@ -3,3 +3,4 @@ pub mod Told
 pub mod Orders
 pub mod Seats
 pub mod Laws
+pub mod Handles

@@ -3,7 +3,8 @@
 //! `SharedSeat::new` makes a main seat and a handle on its table (`TableRef`), for so many rows, seats and
 //! events. The calls of a seat are those of `RowSeat`, and none of their clauses is changed. Each thread
 //! has a seat of its own, which `split` makes, and a handle of its own, which `share` makes; a handle fits
-//! each seat of its table. `join` takes in a seat that came back, and `finish` gives the ledger.
+//! each seat of its table. `join` takes in a seat that came back, and `finish` gives the ledger. Who
+//! needs seats with such handles, of whichever table, asks for `SharesDesk`.
 //!
 //! Any number of seats step at one table at once. A step is one operation on one word; the rule of
 //! `row_seat` holds between any two of them. No call waits.
@@ -41,7 +42,9 @@
 pub mod crossing;
 pub mod laws;
 pub mod seat;
+pub mod share;
 mod steps;
 pub mod table;
 
 pub use seat::{SharedSeat, TableRef};
+pub use share::SharesDesk;

@@ -17,15 +17,8 @@ use crate::table::{
 use chunk_core::Span;
 use res_ledger::{StreamNo, What};
 use row_seat::view::Left;
+use row_seat::words::{CLOSE, LEASE, OPEN};
 use std::marker::Brand;
-
-// The word of a row: OPEN from its place on, with LEASE for each lease that stands on it; CLOSE is
-// added when it is closed.
-const OPEN: u64 = 1;
-
-const CLOSE: u64 = 2;
-
-const LEASE: u64 = 4;
 
 // What a close finds where no lease stands on the row.
 const FREE: u64 = 1;

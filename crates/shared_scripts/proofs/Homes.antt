@@ -4,7 +4,7 @@ use Rattle.res_ledger.specs.declared.event.StreamNo.TheVariants.{Inner}
 use Rattle.row_shared.specs.declared.seat.SharedSeat.{SharedSeat}
 use Rattle.row_shared.specs.declared.seat.TableRef.{TableRef}
 use Rattle.row_shared.specs.Seats.{SharedFits, shown}
-use Rattle.row_shared.proofs.Sitting.{fits_other}
+use Rattle.row_shared.specs.Handles.{fits_other}
 
 pub inner_apart : (j k : ℕ) → j ≢ k → Inner j ≢ Inner k
 inner_apart j k ne e = ne (inner_is j k e)

@@ -17,7 +17,7 @@ use Rattle.row_seat.specs.Views.{CanClose, CanFinish, CanJoin, CanLeave, CanTake
 use Rattle.row_shared.specs.declared.seat.SharedSeat.{SharedSeat}
 use Rattle.row_shared.specs.declared.seat.TableRef.{TableRef}
 use Rattle.row_shared.specs.Seats.{SharedFits, shown}
-use Rattle.row_shared.proofs.Sitting.{fits_other}
+use Rattle.row_shared.specs.Handles.{fits_other}
 use Rattle.shared_scripts.specs.Races.{HasClosed, HasLeft, IsEnded, IsLessee, IsOwner}
 
 pub outer_inner : (n : ℕ) → Outer ≢ Inner n

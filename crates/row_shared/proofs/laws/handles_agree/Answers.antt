@@ -1,4 +1,4 @@
-use Rattle.row_shared.proofs.Sitting.{fits_other}
+use Rattle.row_shared.specs.Handles.{fits_other}
 use Rattle.row_shared.proofs.laws.handles_agree.Goals as goal
 
 pub returns : goal.returns

@@ -3,7 +3,7 @@ use Rattle.res_ledger.specs.declared.event.StreamNo.TheVariants.{Inner, Outer}
 use Rattle.row_seat.specs.declared.view.View.{View}
 use Rattle.row_seat.specs.Views.{CanFinish, CanJoin, IsLedgerOf, joined}
 use Rattle.row_shared.specs.Seats.{shown}
-use Rattle.row_shared.proofs.Sitting.{fits_other}
+use Rattle.row_shared.specs.Handles.{fits_other}
 use Rattle.shared_scripts.specs.Scopes.{HasScopes}
 use Rattle.shared_scripts.proofs.Scoping.{can_end, can_first, can_second, has_all, inner_apart, joined_is, main_is, one_is, one_view, outer_inner, parted_view, two_is}
 use Rattle.shared_scripts.proofs.notes.both_note.Goals as goal
