@@ -29,3 +29,5 @@ pub mod Leased
 pub mod Tidy
 pub mod Lent
 pub mod Owed
+pub mod Staying
+pub mod Ending

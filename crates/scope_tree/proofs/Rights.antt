@@ -27,7 +27,7 @@ use Rattle.scope_tree.proofs.Leasing.{pairs_among}
 use Rattle.scope_tree.proofs.Lessee.{lease_gone, lease_others}
 use Rattle.scope_tree.proofs.Owning.{owner_pairs}
 
-lease_apart : (w : What) (j s : ℕ) → leased_of w ≡ [] → ¬ (w ≡ Lease j s)
+pub lease_apart : (w : What) (j s : ℕ) → leased_of w ≡ [] → ¬ (w ≡ Lease j s)
 lease_apart w j s e q = among_nil (subst (λ l. IsAmong (j, s) l) (sym (ap leased_of q) ∙ e) (here []))
 
 -- an event that is no Lease

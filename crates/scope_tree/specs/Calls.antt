@@ -1,13 +1,14 @@
 -- What the calls of a tree do, as callers see it.
-use Rattle.std.specs.Prelude.{◌≡◌, ◌⊎◌, ℕ, ◌+◌, ◌≤◌, Bool, List, [], length, reverse}
+use Rattle.std.specs.Prelude.{◌≡◌, ◌≢◌, ◌⊎◌, ℕ, ◌+◌, ◌≤◌, Bool, List, [], ◌∷◌, ◌++◌, length, reverse}
 use Rattle.chunk_core.specs.declared.code.Exit.{Exit}
 use Rattle.chunk_core.specs.Lists.{IsAmong}
 use Rattle.res_ledger.specs.declared.event.StreamNo.TheVariants.{Inner}
-use Rattle.res_ledger.specs.Ledger.{IsClosed, IsOpened, IsUsable}
-use Rattle.res_ledger.specs.Order.{firsts}
+use Rattle.res_ledger.specs.declared.event.What.TheVariants.{Close}
+use Rattle.res_ledger.specs.Ledger.{IsClosed, IsOpened, IsUsable, LiesWithin}
+use Rattle.res_ledger.specs.Order.{finals, firsts}
 use Rattle.res_ledger.specs.Own.{opens, rows, teardown, leased_rows}
 use Rattle.row_seat.specs.declared.view.View.{View}
-use Rattle.row_seat.specs.Views.{noted, placed, IsFreshStamp}
+use Rattle.row_seat.specs.Views.{noted, placed, IsFreshStamp, MayStay}
 use Rattle.scope_tree.specs.declared.branch.Spent.{Spent}
 use Rattle.scope_tree.specs.Rows.{strangers}
 use Rattle.scope_tree.specs.Leased.{leased_all}
@@ -109,3 +110,19 @@ module _ {P : Type 0} where
     pub torn : Releases ends x owner (teardown (trace a.seat) s) (shutting a.seat s x stamp) a.shelf b.shelf b.seat
     pub scopes : b.scopes ≡ a.scopes
     pub rows : b.rows ≡ a.rows
+
+  -- the close of s leaves open what was open and doesn't lie within s, and so the root where s is another scope
+  pub record LeavesOpen (a : Seen P) (s : ℕ) (b : Seen P) : Type 0 where
+    pub usable : (t : ℕ) → IsOpenScope a t → ¬ (LiesWithin a.seat.events a.seat.by t s) → IsOpenScope b t
+    pub root : s ≢ 0 → IsOpenScope b 0
+
+  -- no lease keeps one of the rows T where the seat closes it
+  abbrev pub NoneStays : View P → List ℕ → Type 0
+  NoneStays v T = (r : ℕ) → IsAmong r T → ¬ (MayStay v r)
+
+  -- the close of s with the exit x ended exactly the rows T, in this order: they came on the shelf, and their Finals stand behind the Close
+  pub record EndsRows (T : List ℕ) (a : Seen P) (s : ℕ) (x : Exit) (b : Seen P) : Type 0 where
+    pub ended : List (Spent P)
+    pub shelf : b.shelf ≡ a.shelf ++ ended
+    pub rows : firsts (said ended) ≡ T
+    pub noted : trace b.seat ≡ trace a.seat ++ Close s x ∷ finals x (said ended)

@@ -9,12 +9,20 @@ ghost use Rattle.scope_tree.specs.Leased.{leased_all};
 
 use row_seat::RowSeat;
 
-/// The lease of a scope for a stream. It cannot be dropped: a tree takes it in `cancel`.
+/// The lease of a scope for a stream. It is never let go of by itself: a tree takes it in `cancel`, or
+/// who holds it abandons it.
 pub struct Lease {
     pub(crate) stream: u32,
     /// The rows that it covers, in the order in which they were acquired.
     pub(crate) rows: Vec<u32>,
     ghost distinct: { are_distinct rows.items ≡ true },
+}
+
+impl Lease {
+    /// Lets go of a lease that nobody will cancel. Its tree can't come to rest then.
+    pub fn abandon(self) {
+        let Lease { stream: _, rows: _ } = self;
+    }
 }
 
 /// Leases each of the rows for the stream.

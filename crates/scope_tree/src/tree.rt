@@ -4,16 +4,16 @@ ghost use Rattle.std.specs.Borrow.{Lends, sem};
 ghost use Rattle.chunk_core.specs.Lists.{IsAmong};
 ghost use Rattle.res_ledger.specs.Ledger.{IsAcquired, IsLeased};
 ghost use Rattle.res_ledger.specs.Order.{firsts};
-ghost use Rattle.res_ledger.specs.Own.{leased_rows, opens, reaches};
+ghost use Rattle.res_ledger.specs.Own.{leased_rows, opens, reaches, teardown};
 ghost use Rattle.res_ledger.specs.Rising.{Rises};
 ghost use Rattle.res_ledger.specs.Streams.{by_stream};
 ghost use Rattle.res_ledger.specs.declared.event.StreamNo.TheVariants.{Inner};
 ghost use Rattle.res_ledger.specs.declared.event.What.TheVariants.{Cancel};
 ghost use Rattle.row_seat.specs.Views.{AreApart, AtRest, CanFinish, CanJoin, CanSplit, HasRow, MayNote, OthersFit, joined, split_main, split_off};
-ghost use Rattle.scope_tree.specs.Rows.{strangers};
+ghost use Rattle.scope_tree.specs.Rows.{strangers, unleased};
 ghost use Rattle.scope_tree.specs.Released.{away, said};
 ghost use Rattle.scope_tree.specs.Trace.{ended_rows, owed, own_rows, trace};
-ghost use Rattle.scope_tree.specs.Calls.{AcquiresRow, AtStart, Cancels, ClosesScope, IsClosedScope, IsOpenScope, KeepsScopes, Leases, OpensScope, TakesRoom, WasOpened, used};
+ghost use Rattle.scope_tree.specs.Calls.{AcquiresRow, AtStart, Cancels, ClosesScope, EndsRows, IsClosedScope, IsOpenScope, KeepsScopes, Leases, LeavesOpen, NoneStays, OpensScope, TakesRoom, WasOpened, used};
 ghost use Rattle.scope_tree.specs.Rights.{AddsLease, DropsLease, HasNoLeaseBut, IsNewStream, IsSameSeat, KeepsLeases};
 ghost use Rattle.scope_tree.specs.Standings.{StandsAs};
 ghost use Rattle.scope_tree.specs.Trees.{Fits, IsConsistent, seen};
@@ -36,6 +36,7 @@ use std::alloc::{AllocError, Global};
 ///
 /// The root, scope 0, is open from the start, and scopes are numbered in the order in which they are
 /// opened. The tree's seat must keep room for the events that close all that is open: `owed` of them.
+#[derive(Drop)]
 pub struct Tree<S: RowSeat> {
     seat: S,
     branches: Vec<Branch>,
@@ -210,6 +211,9 @@ where
         requires scope { IsOpenScope (seen S.view self.old) scope }
         ensures closes { ClosesScope S.Pay.ends (seen S.view self.old) scope exit (seen S.view self.new) }
         ensures closed { IsClosedScope (seen S.view self.new) scope }
+        ensures stays { LeavesOpen (seen S.view self.old) scope (seen S.view self.new) }
+        ensures all { NoneStays (seen S.view self.old).seat (teardown (trace (seen S.view self.old).seat) scope) → EndsRows (teardown (trace (seen S.view self.old).seat) scope) (seen S.view self.old) scope exit (seen S.view self.new) }
+        ensures unleased { (seen S.view self.old).seat.out ≡ [] → EndsRows (unleased (seen S.view self.old).seat.pairs (teardown (trace (seen S.view self.old).seat) scope)) (seen S.view self.old) scope exit (seen S.view self.new) }
         ensures scopes { (s : ℕ) → IsClosedScope (seen S.view self.old) s → IsClosedScope (seen S.view self.new) s }
         ensures empty { (r : ℕ) → IsAmong r (seen S.view self.old).seat.empty → IsAmong r (seen S.view self.new).seat.empty }
         ensures rights { IsSameSeat (seen S.view self.old).seat (seen S.view self.new).seat }

@@ -17,7 +17,7 @@ use Rattle.row_seat.specs.declared.view.View.{View}
 use Rattle.scope_tree.specs.declared.branch.Spent.{Spent}
 use Rattle.scope_tree.specs.Calls.{ClosesScope, IsClosedScope, OpensScope, Seen, WasOpened}
 use Rattle.scope_tree.specs.Leased.{pairs_for}
-use Rattle.scope_tree.specs.Rows.{Once}
+use Rattle.scope_tree.specs.Rows.{Once, unleased}
 use Rattle.tree_scripts.specs.Scripts.{IsReopened, IsRootLeased, IsThree}
 use Rattle.scope_tree.specs.Released.{said}
 use Rattle.tree_scripts.specs.Waiting.{IsAlone, LeasesAndCloses, CancelsAndFinishes, noted_by}
@@ -30,13 +30,14 @@ use Rattle.scope_tree.proofs.Once.{once_pay}
 use Rattle.tree_scripts.proofs.ThreeRows.{three_alone}
 use Rattle.tree_scripts.proofs.Alone.{alone_more}
 use Rattle.scope_tree.proofs.Use.{closed_by, closed_said, first_is, leased_said, opened_said}
-use Rattle.tree_scripts.proofs.Waits.{close_alone, close_unleased}
+use Rattle.scope_tree.proofs.Ending.{close_unleased}
+use Rattle.tree_scripts.proofs.Waits.{close_alone}
 use Rattle.chunk_core.specs.declared.code.Exit.{Exit}
 use Rattle.chunk_core.specs.declared.code.Exit.TheVariants.{Errored, Canceled}
 use Rattle.res_ledger.proofs.Noted.{closes_notes, notes_closes}
 use Rattle.scope_tree.proofs.Owning.{owner_count, owner_pays}
 use Rattle.scope_tree.proofs.Releasing.{released_spare}
-use Rattle.tree_scripts.proofs.Outcomes.{owner_leaves, unleased}
+use Rattle.tree_scripts.proofs.Outcomes.{owner_leaves}
 
 abbrev before : List What
 before = Acquire 0 0 ∷ Open 1 0 ∷ Acquire 1 1 ∷ Open 2 1 ∷ Acquire 2 2 ∷ []

@@ -24,8 +24,8 @@ use Rattle.scope_tree.proofs.Use.{acquired_said, cancel_follows, canceled_said, 
 use Rattle.tree_scripts.specs.Waiting.{NotesAlone, noted_by}
 use Rattle.tree_scripts.proofs.Alone.{alone_more}
 use Rattle.tree_scripts.proofs.Finished.{ledger_stamped}
-use Rattle.tree_scripts.proofs.Outcomes.{leased_on, unleased}
-use Rattle.tree_scripts.proofs.Waits.{close_unleased}
+use Rattle.scope_tree.specs.Rows.{unleased}
+use Rattle.scope_tree.proofs.Ending.{close_unleased, leased_on}
 
 -- the seat of the stream k has the events E of that stream, and no others
 pub record Tells {P : Type 0} (k : StreamNo) (E : List What) (v : View P) : Type 0 where

@@ -16,16 +16,15 @@ use Rattle.scope_tree.specs.declared.branch.Spent.{Spent}
 use Rattle.scope_tree.specs.Calls.{AcquiresRow, Cancels, ClosesScope, IsOpenScope, Leases, Seen, used}
 use Rattle.tree_scripts.specs.Guests.{HasVisited, IsGuest, IsHost}
 use Rattle.scope_tree.specs.Leased.{leased_all}
-use Rattle.scope_tree.specs.Rows.{strangers}
+use Rattle.scope_tree.specs.Rows.{strangers, unleased}
 use Rattle.scope_tree.specs.Released.{away, said}
 use Rattle.scope_tree.specs.Trace.{acquiring, closing, leasing, numbers, open_scopes, owed, own_rows, trace}
 use Rattle.scope_tree.proofs.Bridge.{in_noted, noted_in, rows_in}
 use Rattle.scope_tree.proofs.Use.{acquire_more, all_open, cancel_follows, canceled_said, close_follows, close_pairs, closed_said, start_said}
 use Rattle.tree_scripts.proofs.Chain.{one_of}
-use Rattle.tree_scripts.proofs.Outcomes.{unleased}
 use Rattle.tree_scripts.proofs.ThreeRows.{no_lease}
 use Rattle.chunk_core.proofs.Each.{among_each}
-use Rattle.tree_scripts.proofs.Waits.{close_unleased}
+use Rattle.scope_tree.proofs.Ending.{close_unleased}
 use Rattle.chunk_core.specs.declared.code.Exit.{Exit}
 use Rattle.chunk_core.specs.declared.code.Exit.TheVariants.{Succeeded, Errored}
 use Rattle.res_ledger.specs.Ledger.LiesWithin.{same}

@@ -37,7 +37,7 @@ use Rattle.scope_tree.proofs.Owning.{owner_has}
 use Rattle.scope_tree.proofs.Releasing.{released_spare}
 use Rattle.scope_tree.proofs.Use.{close_follows, close_pairs, closed_now, closed_said, leased_said}
 use Rattle.tree_scripts.proofs.Alone.{alone_more}
-use Rattle.tree_scripts.proofs.Outcomes.{owner_opens, owner_unleased, unleased, unleased_none}
+use Rattle.tree_scripts.proofs.Outcomes.{owner_opens}
 
 picked_number : (f : ℕ → Bool) (xs : List (ℕ × ℕ)) (r : ℕ) → IsAmong r (picked f xs) → IsAmong r (numbers xs)
 picked_number f [] r m = m
@@ -60,19 +60,11 @@ module _ {P : Type 0} where
     events = follows_alone f (alone_more a.seat c.stamp (Close s x) al.events);
   }
 
-  -- where no seat is out, it ends the rows on which no lease stands
-  pub close_unleased : {ends : P → Exit → Bool → P → Type 0} {x : Exit} {a b : Seen P} {s : ℕ} (c : ClosesScope ends a s x b) → a.seat.out ≡ [] → firsts (said c.torn.0) ≡ unleased a.seat.pairs (teardown (trace a.seat) s)
-  close_unleased c o = owner_unleased c.torn.2 o
-
   -- what was open and isn't is taken down
   pub close_takes : {ends : P → Exit → Bool → P → Type 0} {x : Exit} {a b : Seen P} {s : ℕ} (r : ℕ) → ClosesScope ends a s x b → HasRow a.seat.opened r → ¬ (HasRow b.seat.opened r) → IsAmong r (teardown (trace a.seat) s)
   close_takes {a = a} {s = s} r c h n =
       let T = teardown (trace a.seat) s in
       elim (has r T) as (λ x. has r T ≡ x → IsAmong r T) [ true ↦ λ e. has_in r T e | false ↦ λ e. absurd (n (owner_has r c.torn.2 (λ m. shut_not (sym (in_has r T m) ∙ e)) h)) ] refl
-
-  -- where no other stream has a seat or a lease, it ends all that it takes down
-  pub close_all : {ends : P → Exit → Bool → P → Type 0} {x : Exit} {a b : Seen P} {s : ℕ} (c : ClosesScope ends a s x b) → IsAlone a.seat → firsts (said c.torn.0) ≡ teardown (trace a.seat) s
-  close_all {a = a} {s = s} c al = close_unleased c al.out ∙ ap (λ l. unleased l (teardown (trace a.seat) s)) al.pairs ∙ unleased_none (teardown (trace a.seat) s)
 
   module _ {a m : Seen P} {s j : ℕ} {T : List ℕ} (bs : List Branch) (hs : List AcquiredRow) (k : Kept a.seat bs hs) (sh : Shelved a.seat hs a.shelf) (u : IsOpenScope a s) (o : Leases a s j T m) where
     -- a lease leaves each scope open

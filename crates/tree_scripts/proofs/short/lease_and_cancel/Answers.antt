@@ -28,3 +28,6 @@ pub returns-in-Ok : goal.returns-in-Ok
 returns-in-Ok g c =
     let o = c.in-Ok.ensures in let k = c.close.ensures in let only = k.leases.only _ (o.leases.only [] c.two_rows-tree.ensures.two.leases) in
     leased_and_canceled c.two_rows-tree.ensures.two o.ok.0 o.ok.1 c.lease.ensures.rights o.pairs k.closes k.rights (k.owed refl) only c.cancel.ensures.cancels c.finish_alone-ledger.ensures.ledger c.finish_alone-ledger.ensures.rising
+
+pub finish_alone-ledger-requires-clause-closed : goal.finish_alone-ledger-requires-clause-closed
+finish_alone-ledger-requires-clause-closed g c = c.cancel.ensures.scopes.closed 0 c.close.ensures.closed

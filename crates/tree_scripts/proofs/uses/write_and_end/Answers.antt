@@ -8,7 +8,8 @@ use Rattle.scope_tree.proofs.Lent.{has_with, lent_fits, with_pay}
 use Rattle.scope_tree.proofs.Once.{once_pay}
 use Rattle.tree_scripts.proofs.Outcomes.{said_found}
 use Rattle.scope_tree.proofs.Use.{closed_now}
-use Rattle.tree_scripts.proofs.Waits.{close_all, close_takes}
+use Rattle.scope_tree.proofs.Ending.{close_all, none_leased}
+use Rattle.tree_scripts.proofs.Waits.{close_takes}
 use Rattle.tree_scripts.proofs.uses.write_and_end.Goals as goal
 use Rattle.chunk_core.specs.declared.code.Exit.TheVariants.{Canceled}
 use Rattle.scope_tree.proofs.Owning.{owner_pays}
@@ -27,7 +28,7 @@ returns-clause-ended g c =
     let alone : IsAlone u = subst IsAlone (sym e) (record { main = al.main; pairs = al.pairs; kept = al.kept; out = al.out; events = al.events }) in
     let opened = subst (λ x. HasRow x.opened r) (sym e) (has_with r w v.opened r c.requires.row) in
     let none = ap (λ z. z.opened) (sym c.end.ensures.seat) ∙ c.end.ensures.rest.0 in
-    let m = subst (λ l. IsAmong r l) (sym (close_all k alone)) (close_takes r k opened (λ h. has_nil r (subst (λ l. HasRow l r) none h))) in
+    let m = subst (λ l. IsAmong r l) (sym (close_all k (none_leased u alone.pairs alone.out _))) (close_takes r k opened (λ h. has_nil r (subst (λ l. HasRow l r) none h))) in
     let x = said_found r xs m in let y = owner_pays x.0 k.torn.2 x.1 in
     let same : y.0 ≡ w = once_pay r y.0 w u.opened f.sound.kept.holds.once (subst (λ z. IsAmong (z, y.0) u.opened) x.2 y.1) (subst (λ z. IsAmong (r, w) z.opened) (sym e) (with_pay r w v.opened c.requires.row)) in
     record {

@@ -12,7 +12,9 @@ use Rattle.scope_tree.proofs.Beneath.{close_spare, close_can, close_count, usabl
 use Rattle.scope_tree.proofs.Keeps.{close_free, close_keeps}
 use Rattle.scope_tree.proofs.Owed.{nothing_owed}
 use Rattle.scope_tree.proofs.Grown.{grown_closed, grown_release}
-use Rattle.scope_tree.proofs.Use.{closed_now}
+use Rattle.scope_tree.proofs.Staying.{close_stays}
+use Rattle.scope_tree.proofs.Ending.{close_all, close_unleased}
+use Rattle.scope_tree.proofs.Use.{closed_now, closed_said}
 use Rattle.res_ledger.specs.Ledger.{IsClosed}
 use Rattle.res_ledger.specs.declared.event.What.TheVariants.{Close}
 use Rattle.std.proofs.lemmas.List.{get_or_default}
@@ -103,3 +105,12 @@ returns-clause-rights g c = close_seat (returns-clause-closes g c)
 
 pub returns-clause-leases : goal.returns-clause-leases
 returns-clause-leases g c = close_leases (returns-clause-closes g c)
+
+pub returns-clause-stays : goal.returns-clause-stays
+returns-clause-stays g c = let t = c.args.self.now in close_stays (returns-clause-closes g c) t.branches.items t.acquisitions.items c.requires.fits.sound.kept c.requires.scope
+
+pub returns-clause-all : goal.returns-clause-all
+returns-clause-all g c = λ h. let o = returns-clause-closes g c in record { ended = o.torn.0; shelf = o.torn.1; rows = close_all o h; noted = closed_said o }
+
+pub returns-clause-unleased : goal.returns-clause-unleased
+returns-clause-unleased g c = λ h. let o = returns-clause-closes g c in record { ended = o.torn.0; shelf = o.torn.1; rows = close_unleased o h; noted = closed_said o }
