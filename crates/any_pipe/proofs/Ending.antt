@@ -3,13 +3,13 @@ use Rattle.std.proofs.Common.{◌≡◌, List, [], ◌∷◌, ◌++◌, ◌⊎�
 use Rattle.std.specs.Prelude.{Option}
 use Rattle.std.proofs.lemmas.List.{flat_map_more}
 use Rattle.std.proofs.lemmas.List.Elements.{All-push, All-nil}
-use Rattle.chunk_core.specs.Elements.{Element, LoadKind, elements, kind_of}
+use Rattle.chunk_core.specs.Elements.{Element, LoadKind, elements, kind_of, elements_of}
 use Rattle.chunk_core.specs.Feed.{Meaning, Continues, Finishes}
 use Rattle.chunk_core.specs.declared.code.Code.{Code}
 use Rattle.chunk_core.specs.declared.feed.Fed.{Fed}
 use Rattle.chunk_core.specs.declared.feed.Fed.TheVariants as fed
 use Rattle.chunk_core.specs.declared.load.Load.{Load}
-use Rattle.any_pipe.specs.Pouring.{AreOf, FinishesAll, elements_of}
+use Rattle.any_pipe.specs.Pouring.{AreOf, FinishesAll}
 
 -- xs is the whole input, some loads came behind those before, and what P holds of is left
 pub record Left (m : Meaning) (xs : List Element) (before given : List Load) (P : List Element → Type 0) : Type 0 where

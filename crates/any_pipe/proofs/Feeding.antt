@@ -2,12 +2,12 @@
 use Rattle.std.proofs.Common.{◌≡◌, ◌+◌, ◌<◌, List, [], ◌∷◌, ◌++◌, None, Some, map, length, take, drop, get_or, ap, sym, subst, ◌∙◌}
 use Rattle.std.proofs.lemmas.List.{flat_map_more, map-id, take_more, take-append-drop}
 use Rattle.std.proofs.lemmas.List.Elements.{All-push}
-use Rattle.chunk_core.specs.Elements.{Element, elements, kind_of}
+use Rattle.chunk_core.specs.Elements.{Element, elements, kind_of, elements_of}
 use Rattle.chunk_core.specs.Feed.{Meaning, Feeds, Extends}
 use Rattle.chunk_core.specs.declared.code.Code.{Code}
 use Rattle.chunk_core.specs.declared.feed.Fed.TheVariants as fed
 use Rattle.chunk_core.specs.declared.load.Load.{Load}
-use Rattle.any_pipe.specs.Pouring.{StopsAtFault, FeedsAll, MakesUp, elements_of}
+use Rattle.any_pipe.specs.Pouring.{StopsAtFault, FeedsAll, MakesUp}
 use Rattle.std.specs.Prelude.{Option}
 
 -- a load more was fed, and a load more came

@@ -3,7 +3,7 @@ use Rattle.std.proofs.Common.{◌≡◌, List, [], ◌++◌, Option, None, Some,
 use Rattle.std.specs.Prelude.{IsSome, is_some, option_map}
 use Rattle.std.proofs.lemmas.List.Concat.{flat_map-append}
 use Rattle.std.proofs.lemmas.List.Elements.{All-append}
-use Rattle.chunk_core.specs.Elements.{Element, LoadKind, elements, kind_of}
+use Rattle.chunk_core.specs.Elements.{Element, LoadKind, elements, kind_of, elements_of}
 use Rattle.chunk_core.specs.Feed.{Meaning}
 use Rattle.chunk_core.specs.declared.code.Code.{Code}
 use Rattle.chunk_core.specs.declared.load.Load.{Load}
@@ -13,7 +13,7 @@ use Rattle.chunk_core.specs.Tables.{Values}
 use Rattle.pull_nodes.specs.declared.pipe.Pipe.{Pipe}
 use Rattle.pull_nodes.proofs.Beginnings.{part_of-nil}
 use Rattle.pull_nodes.proofs.PipeLaws.{steady}
-use Rattle.any_pipe.specs.Pouring.{AreOf, FeedsAll, FinishesAll, MakesUp, Pours, elements_of}
+use Rattle.any_pipe.specs.Pouring.{AreOf, FeedsAll, FinishesAll, MakesUp, Pours}
 use Rattle.any_pipe.specs.Pouring.Pours.{whole, broken}
 
 -- a fault came before the end

@@ -2,7 +2,7 @@
 use Rattle.std.specs.Prelude.{List, Option}
 use Rattle.std.proofs.Common.{refl, ap}
 use Rattle.chunk_core.specs.Elements.{Element, LoadKind}
-use Rattle.chunk_core.specs.Feed.{Meaning, IsSound}
+use Rattle.chunk_core.specs.Feed.{Meaning, IsSound, NothingComes}
 use Rattle.chunk_core.specs.declared.code.Code.{Code}
 use Rattle.csv_pipes.specs.CsvState as csv
 use Rattle.csv_pipes.specs.FieldState as field
@@ -14,7 +14,6 @@ use Rattle.stream_ops.specs.ChangesState as changes
 use Rattle.stream_ops.specs.ChunkNState as chunk_n
 use Rattle.stream_ops.specs.CountState as count
 use Rattle.stream_ops.specs.DropState as drop
-use Rattle.stream_ops.specs.Ends.{NothingComes}
 use Rattle.stream_ops.specs.FilterState as filter
 use Rattle.stream_ops.specs.IntersperseState as intersperse
 use Rattle.stream_ops.specs.NumberState as number
@@ -40,8 +39,8 @@ interpretation_of (any.Lines q) = record { stands = lines.StandsFor q; comes = l
 interpretation_of (any.Hex q) = record { stands = hexadecimal.StandsFor q; comes = hexadecimal.Comes q; sound = λ m xs h. sound_from pipe.Hex m h.0 xs refl }
 interpretation_of (any.Upper q) = record { stands = upper.StandsFor q; comes = upper.Comes q; sound = λ m xs h. sound_from pipe.Upper m h xs refl }
 interpretation_of (any.Csv q) = record { stands = csv.StandsFor q; comes = csv.Comes q; sound = λ m xs h. sound_from pipe.Csv m h.0 xs (ap csv.fault_where h.2) }
-interpretation_of (any.Field q) = record { stands = field.StandsFor q; comes = field.NothingComes q; sound = λ m xs h. sound_from (pipe.Field q.field) m h.0 xs h.1 }
-interpretation_of (any.Lookup q) = record { stands = lookup.StandsFor q; comes = field.NothingComes q; sound = lookup.sound q }
+interpretation_of (any.Field q) = record { stands = field.StandsFor q; comes = NothingComes q; sound = λ m xs h. sound_from (pipe.Field q.field) m h.0 xs h.1 }
+interpretation_of (any.Lookup q) = record { stands = lookup.StandsFor q; comes = NothingComes q; sound = lookup.sound q }
 interpretation_of (any.Drop q) = record { stands = drop.StandsFor q; comes = NothingComes q; sound = λ m xs h. sound_from (pipe.Drop h.0) m h.1 xs refl }
 interpretation_of (any.Filter q) = record { stands = filter.StandsFor q; comes = NothingComes q; sound = λ m xs h. sound_from (pipe.Filter q.finder.value) m h xs refl }
 interpretation_of (any.Changes q) = record { stands = changes.StandsFor q; comes = NothingComes q; sound = λ m xs h. sound_from pipe.Changes m h.0 xs refl }

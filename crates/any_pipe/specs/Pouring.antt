@@ -1,16 +1,11 @@
 -- What comes of a pipe that is fed a list of loads and then the end.
 use Rattle.std.specs.Prelude.{◌≡◌, List, ◌++◌, All, IsSome, Option, Some, None}
-use Rattle.std.specs.List.{flat_map}
-use Rattle.chunk_core.specs.Elements.{Element, LoadKind, elements, kind_of}
+use Rattle.chunk_core.specs.Elements.{Element, LoadKind, elements_of, kind_of}
 use Rattle.chunk_core.specs.Feed.{Given, Meaning}
 use Rattle.chunk_core.specs.declared.code.Code.{Code}
 use Rattle.chunk_core.specs.declared.load.Load.{Load}
 use Rattle.pull_nodes.specs.PipeKinds.{gives_of}
 use Rattle.pull_nodes.specs.declared.pipe.Pipe.{Pipe}
-
--- the elements of the loads, one after another
-abbrev pub elements_of : List Load → List Element
-elements_of loads = flat_map elements loads
 
 -- each is a load of this kind
 abbrev pub AreOf : LoadKind → List Load → Type 0

@@ -24,6 +24,7 @@
 //! ```
 #![tactic(auto)]
 
+pub mod crossing;
 pub mod pouring;
 pub mod state;
 

@@ -1,10 +1,10 @@
 //! A whole input through a pipe.
 ghost use Rattle.std.specs.Prelude.{◌≡◌, List, IfOk};
-ghost use Rattle.chunk_core.specs.Elements.{Element, LoadKind};
+ghost use Rattle.chunk_core.specs.Elements.{Element, LoadKind, elements_of};
 ghost use Rattle.chunk_core.specs.Feed.{Meaning};
 ghost use Rattle.pull_nodes.specs.PipeKinds.{gives_of};
 ghost use Rattle.pull_nodes.specs.Pipes.{all_of};
-ghost use Rattle.any_pipe.specs.Pouring.{AreOf, FeedsAll, FinishesAll, MayEnd, MayPour, Pours, TakesLoads, elements_of};
+ghost use Rattle.any_pipe.specs.Pouring.{AreOf, FeedsAll, FinishesAll, MayEnd, MayPour, Pours, TakesLoads};
 
 use chunk_core::{Code, Fed, Feed, Load};
 use pull_nodes::{Pipe, PipeState};

@@ -1,8 +1,7 @@
 -- What the state of a pipe of one field stands for.
-use Rattle.std.specs.Prelude.{◌≡◌, List, [], Option, None}
-use Rattle.chunk_core.specs.Elements.{Element, LoadKind}
+use Rattle.std.specs.Prelude.{◌≡◌, List, None}
+use Rattle.chunk_core.specs.Elements.{Element}
 use Rattle.chunk_core.specs.Feed.{Meaning}
-use Rattle.chunk_core.specs.declared.code.Code.{Code}
 use Rattle.pull_nodes.specs.Field.{each_made, field_line}
 use Rattle.pull_nodes.specs.Pipes.{IsMeaningOf}
 use Rattle.pull_nodes.specs.declared.pipe.Pipe.TheVariants as pipe
@@ -11,7 +10,3 @@ use Rattle.csv_pipes.specs.declared.field_pipe.FieldPipe.{FieldPipe}
 -- it knows the field's place alone, and stands for every input in which all rows have it
 abbrev pub StandsFor : FieldPipe → Meaning → List Element → Type 0
 StandsFor q m xs = IsMeaningOf (pipe.Field q.field) m × ((each_made (field_line q.field) xs).fault ≡ None)
-
--- nothing is still to come
-abbrev pub NothingComes : {Q : Type 0} → Q → LoadKind → List Element → Option Code → Type 0
-NothingComes q kind ys c = (ys ≡ []) × (c ≡ None)

@@ -52,7 +52,8 @@ impl FieldPipe {
 impl Feed for FieldPipe {
     ghost use Rattle.pull_nodes.specs.declared.pipe.Pipe.TheVariants as pipe;
     ghost use Rattle.pull_nodes.proofs.Meanings.{sound_from};
-    ghost use Rattle.csv_pipes.specs.FieldState.{StandsFor, NothingComes};
+    ghost use Rattle.chunk_core.specs.Feed.{NothingComes};
+    ghost use Rattle.csv_pipes.specs.FieldState.{StandsFor};
 
     ghost stands = { StandsFor };
 

@@ -2,7 +2,7 @@
 //! makes its rows of those that it takes, and gives them by `give`. No clause speaks of what is kept.
 ghost use Rattle.std.specs.Prelude.{◌≡◌, ◌+◌, ◌++◌, ◌∷◌, ◌≤◌, [], IfOk, OnOk, length, take};
 
-use chunk_core::{Chunk, Line, Row};
+use chunk_core::{Chunk, Line, Refill, Row};
 use std::alloc::{AllocError, Global};
 use std::mem;
 
@@ -13,7 +13,7 @@ const LONGEST_KEPT: usize = 1024;
 /// The rows of the load that was given last, once nobody else has it.
 #[derive(Drop)]
 pub(crate) struct KeptRows {
-    last: Option<Chunk<Row>>,
+    last: Refill<Row>,
     rows: Vec<Row>,
 }
 
@@ -56,17 +56,15 @@ impl KeptRows {
     /// Nothing is kept.
     pub(crate) fn new(alloc: Global) -> KeptRows {
         KeptRows {
-            last: None,
+            last: Refill::new(),
             rows: Vec::new(alloc),
         }
     }
 
     /// Takes the last load's rows back, where nobody else has them.
     pub(crate) fn regain(&mut self) {
-        if let Some(last) = self.last.take() {
-            if let Ok(rows) = last.into_vec() {
-                self.rows = rows;
-            }
+        if let Some(rows) = self.last.regain() {
+            self.rows = rows;
         }
     }
 
@@ -83,9 +81,7 @@ impl KeptRows {
     pub(crate) fn give(&mut self, alloc: Global, rows: Vec<Row>) -> Result<Chunk<Row>, AllocError>
         ensures { IfOk result (λ chunk. chunk ≡ rows.items) }
     {
-        let given = Chunk::of_vec(alloc, rows)?;
-        self.last = Some(given.share()?);
-        Ok(given)
+        self.last.give(alloc, rows)
     }
 
     /// A row with one more field at its end.

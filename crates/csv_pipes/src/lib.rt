@@ -31,6 +31,7 @@
 //! ```
 #![tactic(auto)]
 
+pub mod crossing;
 pub mod csv_pipe;
 pub mod dict;
 pub mod dicts;

@@ -120,7 +120,7 @@ impl LookupPipe {
 
 impl Feed for LookupPipe {
     ghost use Rattle.csv_pipes.specs.LookupState.{StandsFor, sound};
-    ghost use Rattle.csv_pipes.specs.FieldState.{NothingComes};
+    ghost use Rattle.chunk_core.specs.Feed.{NothingComes};
 
     ghost stands = { StandsFor };
 

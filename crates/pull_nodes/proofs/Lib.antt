@@ -12,7 +12,6 @@ pub mod Folds
 pub mod Fronts
 pub mod Groups
 pub mod Hex
-pub mod Ideal
 pub mod Inside
 pub mod Intersperse
 pub mod Joins
@@ -20,7 +19,6 @@ pub mod Lawful
 pub mod Left
 pub mod LineLaws
 pub mod Lines
-pub mod LongLines
 pub mod Lookup
 pub mod LossyCuts
 pub mod LossyLaws
@@ -28,13 +26,11 @@ pub mod Malformed
 pub mod Meanings
 pub mod Number
 pub mod OwnFaults
-mod PipeExamples
 pub mod PipeLaws
-mod RunExamples
 pub mod Sequences
 pub mod Steady
 pub mod Texts
-pub mod Told
+pub mod Threads
 pub mod Upper
 pub mod Utf8
 pub mod Utf8Cuts

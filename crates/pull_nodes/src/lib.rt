@@ -8,7 +8,7 @@
 //!   in one, and `places`, `scopes` and `events` how many rows, scopes and events a run needs.
 //! - `Pipe` is a step as plain data. `PipeState::of` makes the state that runs it, which needs
 //!   memory; no other call does.
-//! - `laws` has what holds of every run (`IsRun`) and of every pipe.
+//! - `node_laws` has what holds of every run (`IsRun`) and of every pipe.
 //!
 //! ```
 //! let alloc = rt.alloc();
@@ -29,8 +29,8 @@
 //! ```
 #![tactic(auto)]
 
+pub mod crossing;
 pub mod kind;
-pub mod laws;
 pub mod node;
 pub mod pipe;
 pub mod placed;

@@ -3,7 +3,6 @@ pub mod ChangesState
 pub mod ChunkNState
 pub mod CountState
 pub mod DropState
-pub mod Ends
 pub mod FilterState
 pub mod IntersperseState
 pub mod NumberState

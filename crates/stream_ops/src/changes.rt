@@ -89,7 +89,7 @@ impl Feed for ChangesPipe {
     ghost use Rattle.pull_nodes.specs.declared.pipe.Pipe.TheVariants as pipe;
     ghost use Rattle.pull_nodes.proofs.Meanings.{sound_from};
     ghost use Rattle.stream_ops.specs.ChangesState.{StandsFor};
-    ghost use Rattle.stream_ops.specs.Ends.{NothingComes};
+    ghost use Rattle.chunk_core.specs.Feed.{NothingComes};
 
     ghost stands = { StandsFor };
 

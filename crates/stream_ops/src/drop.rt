@@ -28,7 +28,7 @@ impl Feed for DropPipe {
     ghost use Rattle.pull_nodes.specs.declared.pipe.Pipe.TheVariants as pipe;
     ghost use Rattle.pull_nodes.proofs.Meanings.{sound_from};
     ghost use Rattle.stream_ops.specs.DropState.{StandsFor};
-    ghost use Rattle.stream_ops.specs.Ends.{NothingComes};
+    ghost use Rattle.chunk_core.specs.Feed.{NothingComes};
 
     ghost stands = { StandsFor };
 

@@ -74,7 +74,7 @@ impl Feed for FilterPipe {
     ghost use Rattle.std.specs.Prelude.{refl};
     ghost use Rattle.pull_nodes.specs.declared.pipe.Pipe.TheVariants as pipe;
     ghost use Rattle.pull_nodes.proofs.Meanings.{sound_from};
-    ghost use Rattle.stream_ops.specs.Ends.{NothingComes};
+    ghost use Rattle.chunk_core.specs.Feed.{NothingComes};
     ghost use Rattle.stream_ops.specs.FilterState.{StandsFor};
 
     ghost stands = { StandsFor };

@@ -67,7 +67,7 @@ impl Feed for NumberPipe {
     ghost use Rattle.std.specs.Prelude.{refl};
     ghost use Rattle.pull_nodes.specs.declared.pipe.Pipe.TheVariants as pipe;
     ghost use Rattle.pull_nodes.proofs.Meanings.{sound_from};
-    ghost use Rattle.stream_ops.specs.Ends.{NothingComes};
+    ghost use Rattle.chunk_core.specs.Feed.{NothingComes};
     ghost use Rattle.stream_ops.specs.NumberState.{StandsFor};
 
     ghost stands = { StandsFor };

@@ -1,8 +1,8 @@
 use Rattle.std.proofs.lemmas.Result.{IfOk-weaker}
-use Rattle.chunk_core.specs.Elements.{Element}
+use Rattle.chunk_core.specs.Elements.{Element, elements_of}
 use Rattle.chunk_core.specs.Feed.{Meaning}
 use Rattle.std.proofs.Common.{List, ◌++◌, sym, ◌∙◌}
-use Rattle.any_pipe.specs.Pouring.{AreOf, FinishesAll, Pours, elements_of}
+use Rattle.any_pipe.specs.Pouring.{AreOf, FinishesAll, Pours}
 use Rattle.any_pipe.proofs.Whole.{poured_early, poured_late}
 use Rattle.any_pipe.proofs.pouring.pour.Goals as goal
 

@@ -1,11 +1,11 @@
 use Rattle.std.proofs.Common.{◌≡◌, List, [], Some}
 use Rattle.std.proofs.lemmas.Result.{IfOk-weaker}
 use Rattle.std.specs.Prelude.{IfOk}
-use Rattle.chunk_core.specs.Elements.{Element, LoadKind}
+use Rattle.chunk_core.specs.Elements.{Element, LoadKind, elements_of}
 use Rattle.chunk_core.specs.Feed.{Meaning}
 use Rattle.pull_nodes.specs.PipeKinds.{gives_of}
 use Rattle.pull_nodes.specs.Pipes.{meaning_over}
-use Rattle.any_pipe.specs.Pouring.{AreOf, Pours, elements_of}
+use Rattle.any_pipe.specs.Pouring.{AreOf, Pours}
 use Rattle.any_pipe.proofs.Whole.{GivesAll, gives_all, is_meaning, some_of}
 use Rattle.any_pipe.proofs.pouring.pour_through.Given as given
 use Rattle.any_pipe.proofs.pouring.pour_through.Goals as goal

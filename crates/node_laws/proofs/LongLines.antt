@@ -5,7 +5,7 @@ use Rattle.std.proofs.lemmas.Bool.Decides.{nat_tests}
 use Rattle.std.proofs.lemmas.List.{append-nil, take-append-drop, length-take-le}
 use Rattle.std.specs.List.{list_any}
 use Rattle.chunk_core.specs.declared.code.Code.TheVariants as code
-use Rattle.pull_nodes.specs.Laws.{HasRun}
+use Rattle.node_laws.specs.Laws.{HasRun}
 use Rattle.pull_nodes.specs.Lines.{IsFree, has_end, is_end, last_byte, without_pairs, onto, ended_lines, where_none, open_line, is_long, has_long, long_fault, lines_part}
 use Rattle.pull_nodes.proofs.LineLaws.{short-append, long-append, long-free, some_fault}
 use Rattle.pull_nodes.proofs.Texts.{without_pairs-append, without_pairs-free, free_parts, free-open_line, free-append}

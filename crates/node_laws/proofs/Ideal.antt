@@ -9,7 +9,7 @@ use Rattle.pull_nodes.specs.Pairs.{pairs_of}
 use Rattle.device_port.specs.Device.{DeviceTold}
 use Rattle.pull_nodes.specs.Pipes.{part_of, all_of}
 use Rattle.pull_nodes.specs.Runs.{IsIdealRun, IsIdle, IsUnwritten, ReadsContent, ReadsWhole, ReadsWholeBy, Follows, Taken, GivesAtEnd, GivesBy, Piped, Zipped, WrittenWhole}
-use Rattle.pull_nodes.specs.Laws.{TellSame, TellSameOf, WroteSameOf}
+use Rattle.node_laws.specs.Laws.{TellSame, TellSameOf, WroteSameOf}
 use Rattle.pull_nodes.proofs.Folds.{each_of_two}
 use Rattle.pull_nodes.specs.Shape.{HasNoMerge, written_place}
 use Rattle.chunk_core.specs.Tables.{Values}

@@ -1,5 +1,5 @@
 //! What holds of the runs of every node, and of every pipe.
-ghost use Rattle.pull_nodes.specs.Laws.{CanBeLeft, HasOneIdealRun, IsToldByContents, ComparesElements, PipesAreSteady, TellsLongLines, TellsMalformed};
+ghost use Rattle.node_laws.specs.Laws.{CanBeLeft, HasOneIdealRun, IsToldByContents, ComparesElements, PipesAreSteady, TellsLongLines, TellsMalformed};
 
 /// A run may be left early: then a front of it was given.
 pub fn can_be_left()

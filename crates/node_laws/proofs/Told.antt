@@ -5,7 +5,7 @@ use Rattle.chunk_core.specs.Elements.{Element, rendering_of}
 use Rattle.chunk_core.specs.Outcomes.{End, Outcomes}
 use Rattle.device_port.specs.Device.{DeviceTold}
 use Rattle.pull_nodes.specs.Runs.{IsIdealRun, IsIdle, IsUnwritten, OrLeft, ReadsWhole, ReadsWholeBy, Follows, Beside, Merged}
-use Rattle.pull_nodes.specs.Laws.{TellSame, TellSameOf, TellWrittenSame}
+use Rattle.node_laws.specs.Laws.{TellSame, TellSameOf, TellWrittenSame}
 use Rattle.pull_nodes.proofs.Folds.{each_of_two}
 use Rattle.pull_nodes.specs.Shape.{written_place}
 use Rattle.chunk_core.specs.Tables.{Values}

@@ -1,0 +1,5 @@
+mod Ideal
+mod LongLines
+mod PipeExamples
+mod RunExamples
+mod Told
