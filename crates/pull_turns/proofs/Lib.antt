@@ -22,7 +22,9 @@ pub mod Grouped
 pub mod Scoped
 pub mod Into
 pub mod Writes
-pub mod Excluded
 pub mod Led
 pub mod Work
 pub mod Sized
+pub mod Entered
+pub mod Stepping
+pub mod Threads

@@ -8,5 +8,6 @@ pub mod Rest
 pub mod Scoped
 pub mod Shape
 pub mod Sizes
+pub mod Stepped
 pub mod Turned
 pub mod Work

@@ -1,13 +1,8 @@
 //! A node is entered.
-ghost use Rattle.std.specs.Prelude.{◌≡◌, ℕ, true, false, IfOk, OnErr};
-ghost use Rattle.pull_turns.specs.Around.{WritesNothing};
-ghost use Rattle.pull_turns.specs.Groups.{Grouped, HasNoGroups};
+ghost use Rattle.std.specs.Prelude.{◌≡◌, ℕ, IfOk, OnErr};
 ghost use Rattle.pull_turns.specs.Piping.{standing};
 ghost use Rattle.pull_turns.specs.Rest.{CanStep};
-ghost use Rattle.pull_turns.specs.Scoped.{EntersIn};
-ghost use Rattle.pull_turns.specs.Sizes.{HasNoPipe, Sized, given};
-ghost use Rattle.pull_turns.specs.Turned.{Moved, SpendsWithin, Turned};
-ghost use Rattle.pull_turns.specs.Work.{Lessens};
+ghost use Rattle.pull_turns.specs.Stepped.{Broken, OpensNothing, Stepped};
 ghost use Rattle.pull_turns.specs.declared.rest.Rest.TheVariants as rest;
 
 use crate::groups::{group_size, in_groups};
@@ -35,23 +30,12 @@ pub(crate) fn enter<O: Outside, F: PipeState>(
 ) -> Result<(Rest<F>, Turn), AllocError>
     requires fits { O.fits outside.old desk.old }
     requires ready { CanStep (standing F.stands F.comes (F.values tables.now)) (O.seen outside.old) scope (rest.Start node) }
-    ensures turned { IfOk result (λ r. (n : ℕ) → Turned (standing F.stands F.comes (F.values tables.now)) (O.seen outside.old) (O.seen outside.new) scope n (rest.Start node) r.0 r.1) }
-    ensures work { IfOk result (λ r. Lessens F.due (rest.Start node) r.0 r.1) }
-    ensures sized { IfOk result (λ r. HasNoPipe {F = F} (rest.Start node) → (n : ℕ) → Sized n (rest.Start node) r.0 (given r.1)) }
-    ensures whole { IfOk result (λ r. whole ≡ true → HasNoGroups r.0) }
-    ensures grouped { IfOk result (λ r. whole ≡ false → Grouped (rest.Start node) r.0 r.1) }
-    ensures scoped { IfOk result (λ r. EntersIn (O.seen outside.old) (O.seen outside.new) scope node r.0 r.1) }
-    ensures unwritten { OnErr result (WritesNothing (O.seen outside.old).told (O.seen outside.new).told) }
-    ensures spent { OnErr result (SpendsWithin {F = F} (O.seen outside.old) (O.seen outside.new) (rest.Start node)) }
-    ensures stopped { OnErr result (Moved {F = F} (O.seen outside.old) (O.seen outside.new) (rest.Start node)) }
+    ensures stepped { IfOk result (λ r. (n : ℕ) → Stepped (standing F.stands F.comes (F.values tables.now)) F.due (O.seen outside.old) (O.seen outside.new) scope n whole (rest.Start node) r.0 r.1) }
+    ensures broken { OnErr result (Broken {F = F} (O.seen outside.old) (O.seen outside.new) (rest.Start node)) }
     ensures fits { O.fits outside.new desk.new }
     ensures since { O.since outside.old desk.old outside.new desk.new }
 {
     match node {
-        Node::Nil => Ok((Rest::Nil, Turn::Done)),
-        Node::Emit(load) => Ok((Rest::Nil, give(load))),
-        Node::Raise(number) => Ok((Rest::Nil, Turn::Fault(Code::Raised(number)))),
-        Node::Read(place) => Ok((Rest::Read(place, 0), Turn::Quiet)),
         Node::Weak(place, a) => match outside.open(desk, scope, place) {
             Ok(()) => Ok((Rest::Start(Box::into_inner(a)), Turn::Quiet)),
             Err(Failed) => Ok((Rest::Nil, Turn::Fault(Code::Open))),
@@ -61,6 +45,28 @@ pub(crate) fn enter<O: Outside, F: PipeState>(
             let child = outside.enter(desk, scope);
             Ok((Rest::Within(child, a), Turn::Quiet))
         }
+        node => enter_part(alloc, tables, node, outside, scope, whole),
+    }
+}
+
+/// Enters a node that opens no device and no scope.
+fn enter_part<O: Outside, F: PipeState>(
+    alloc: Global,
+    tables: &F::Tables,
+    node: Node,
+    outside: &O,
+    scope: u32,
+    whole: bool,
+) -> Result<(Rest<F>, Turn), AllocError>
+    requires opens { OpensNothing node }
+    requires ready { CanStep (standing F.stands F.comes (F.values tables.now)) (O.seen outside.now) scope (rest.Start node) }
+    ensures { IfOk result (λ r. (n : ℕ) → Stepped (standing F.stands F.comes (F.values tables.now)) F.due (O.seen outside.now) (O.seen outside.now) scope n whole (rest.Start node) r.0 r.1) }
+{
+    match node {
+        Node::Nil => Ok((Rest::Nil, Turn::Done)),
+        Node::Emit(load) => Ok((Rest::Nil, give(load))),
+        Node::Raise(number) => Ok((Rest::Nil, Turn::Fault(Code::Raised(number)))),
+        Node::Read(place) => Ok((Rest::Read(place, 0), Turn::Quiet)),
         Node::Append(a, b) => {
             let a = begin(alloc, a)?;
             Ok((Rest::Then(When::Done, a, b), Turn::Quiet))
@@ -95,6 +101,7 @@ pub(crate) fn enter<O: Outside, F: PipeState>(
             let written = written_at(outside, place);
             Ok((Rest::Into(place, written, a), Turn::Quiet))
         }
+        _ => unreachable!(),
     }
 }
 

@@ -22,8 +22,10 @@
 //! ```
 #![tactic(auto)]
 
+pub mod crossing;
 pub(crate) mod enter;
 pub(crate) mod groups;
+pub(crate) mod leaf;
 pub(crate) mod loads;
 pub mod outside;
 pub(crate) mod piping;

@@ -6,7 +6,7 @@ ghost use Rattle.pull_turns.specs.Moves.{ReadsPiece, ReadsPlace};
 
 use crate::outside::Outside;
 use crate::turn::Turn;
-use chunk_core::{Chunk, Code, Load};
+use chunk_core::{Chunk, Code, Load, Refill};
 use device_port::Failed;
 use std::alloc::{AllocError, Global};
 
@@ -17,20 +17,22 @@ const ENDLESS: u64 = 1 << 40;
 /// clause speaks of it: each read answers as one that makes its piece anew.
 #[derive(Drop)]
 pub(crate) struct SparePiece {
-    last: Option<Chunk<u8>>,
+    last: Refill<u8>,
 }
 
 impl SparePiece {
     /// Nothing is spare.
     pub(crate) fn new() -> SparePiece {
-        SparePiece { last: None }
+        SparePiece {
+            last: Refill::new(),
+        }
     }
 
     /// So many bytes to read into, whatever they are.
     fn buffer(&mut self, alloc: Global, size: usize) -> Result<Vec<u8>, AllocError>
         ensures { IfOk result (λ bytes. length bytes.items ≡ size) }
     {
-        let mut bytes = match self.regain() {
+        let mut bytes = match self.last.regain() {
             Some(bytes) => bytes,
             None => Vec::new(alloc),
         };
@@ -38,18 +40,11 @@ impl SparePiece {
         Ok(bytes)
     }
 
-    /// The bytes of the last piece, where nobody else has them.
-    fn regain(&mut self) -> Option<Vec<u8>> {
-        self.last.take()?.into_vec().ok()
-    }
-
     /// The bytes as a chunk, of which a share is kept.
     fn give(&mut self, alloc: Global, bytes: Vec<u8>) -> Result<Chunk<u8>, AllocError>
         ensures { IfOk result (λ chunk. chunk ≡ bytes.items) }
     {
-        let given = Chunk::of_vec(alloc, bytes)?;
-        self.last = given.share().ok();
-        Ok(given)
+        self.last.give(alloc, bytes)
     }
 }
 

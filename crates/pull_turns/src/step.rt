@@ -1,26 +1,22 @@
 //! One turn of what is left of a node.
-ghost use Rattle.std.specs.Prelude.{◌≡◌, ℕ, ◌<◌, true, false, IfOk, OnErr, if◌then◌else◌};
-ghost use Rattle.pull_turns.specs.Around.{WritesNothing};
-ghost use Rattle.pull_turns.specs.Groups.{Grouped, HasNoGroups};
+ghost use Rattle.std.specs.Prelude.{◌≡◌, ◌<◌, true, IfOk, OnErr, if◌then◌else◌};
+ghost use Rattle.pull_turns.specs.Groups.{HasNoGroups};
 ghost use Rattle.pull_turns.specs.Piping.{standing};
 ghost use Rattle.pull_turns.specs.Rest.{CanStep};
-ghost use Rattle.pull_turns.specs.Scoped.{Scoped};
-ghost use Rattle.pull_turns.specs.Sizes.{HasNoPipe, Sized, given};
-ghost use Rattle.pull_turns.specs.Turned.{Moved, SpendsWithin, Turned};
+ghost use Rattle.pull_turns.specs.Stepped.{Broken, Stepped};
 ghost use Rattle.pull_turns.specs.Moves.{begins, behind, turn_of_first, LeavesAtEnd};
-ghost use Rattle.pull_turns.specs.Work.{Lessens};
 
-use crate::enter::enter;
-use crate::groups::{first_group, grouped};
+use crate::groups::grouped;
+use crate::leaf::leaf;
 use crate::loads::taken;
 use crate::outside::Outside;
-use crate::piping::{finish, go_through, pass};
-use crate::reading::{SparePiece, read_piece};
+use crate::piping::{go_through, pass};
+use crate::reading::SparePiece;
 use crate::rest::{Rest, When};
 use crate::sided::{merged, zipped};
 use crate::turn::Turn;
 use crate::writing::write_load;
-use pull_nodes::{Node, PipeState};
+use pull_nodes::PipeState;
 use std::alloc::{AllocError, Global};
 use std::mem;
 use stream_sides::Side;
@@ -42,30 +38,12 @@ pub(crate) fn step<O: Outside, F: PipeState>(
     requires ready { CanStep (standing F.stands F.comes (F.values tables.now)) (O.seen outside.old) scope rest.old }
     requires chunk { 0 < chunk }
     requires whole { whole ≡ true → HasNoGroups rest.old }
-    ensures turned { IfOk result (λ t. Turned (standing F.stands F.comes (F.values tables.now)) (O.seen outside.old) (O.seen outside.new) scope chunk rest.old rest.new t) }
-    ensures work { IfOk result (λ t. Lessens F.due rest.old rest.new t) }
-    ensures sized { IfOk result (λ t. HasNoPipe rest.old → Sized chunk rest.old rest.new (given t)) }
-    ensures whole { IfOk result (λ t. whole ≡ true → HasNoGroups rest.new) }
-    ensures grouped { IfOk result (λ t. whole ≡ false → Grouped rest.old rest.new t) }
-    ensures scoped { IfOk result (λ t. Scoped (standing F.stands F.comes (F.values tables.now)) (O.seen outside.old) (O.seen outside.new) scope rest.old rest.new t) }
-    ensures unwritten { OnErr result (WritesNothing (O.seen outside.old).told (O.seen outside.new).told) }
-    ensures spent { OnErr result (SpendsWithin (O.seen outside.old) (O.seen outside.new) rest.old) }
-    ensures stopped { OnErr result (Moved (O.seen outside.old) (O.seen outside.new) rest.old) }
+    ensures stepped { IfOk result (λ t. Stepped (standing F.stands F.comes (F.values tables.now)) F.due (O.seen outside.old) (O.seen outside.new) scope chunk whole rest.old rest.new t) }
+    ensures broken { OnErr result (Broken (O.seen outside.old) (O.seen outside.new) rest.old) }
     ensures fits { O.fits outside.new desk.new }
     ensures since { O.since outside.old desk.old outside.new desk.new }
 {
     match rest {
-        Rest::Nil => Ok(Turn::Done),
-        Rest::Start(node) => {
-            let node = mem::replace(node, Node::Nil);
-            let (new, turn) = enter(alloc, tables, node, outside, desk, scope, whole)?;
-            *rest = new;
-            Ok(turn)
-        }
-        Rest::Read(place, given) => {
-            let turn = read_piece(alloc, outside, desk, *place, given, chunk, spare)?;
-            Ok(turn)
-        }
         Rest::Within(child, a) => {
             let turn = step(alloc, tables, a, outside, desk, *child, chunk, spare, whole)?;
             leave_at_end(outside, desk, *child, &turn);
@@ -82,44 +60,32 @@ pub(crate) fn step<O: Outside, F: PipeState>(
             go_through(rest, after);
             Ok(turn)
         }
-        Rest::Finishing(state) => {
-            let (turn, after) = finish(alloc, state)?;
-            go_through(rest, after);
-            Ok(turn)
-        }
-        Rest::Faulty(code) => Ok(Turn::Fault(*code)),
         Rest::Groups(size, waits, a) => {
             if let Some(load) = waits.take() {
-                let group = first_group(*size, waits, load)?;
-                return Ok(Turn::Chunk(group));
+                return grouped(*size, waits, Turn::Chunk(load));
             }
             let turn = step(alloc, tables, a, outside, desk, scope, chunk, spare, true)?;
-            let turn = grouped(*size, waits, turn)?;
-            Ok(turn)
+            grouped(*size, waits, turn)
         }
         Rest::Take(wanted, a) => {
             if *wanted == 0 {
                 return Ok(Turn::Done);
             }
             let turn = step(alloc, tables, a, outside, desk, scope, chunk, spare, true)?;
-            let turn = taken(wanted, turn)?;
-            Ok(turn)
+            taken(wanted, turn)
         }
         Rest::Into(place, written, a) => {
             let below = step(alloc, tables, a, outside, desk, scope, chunk, spare, true)?;
-            let turn = write_load(alloc, outside, desk, *place, written, below)?;
-            Ok(turn)
+            write_load(alloc, outside, desk, *place, written, below)
         }
         Rest::Zip(state, a, b) => match state.need() {
             Side::Left => {
                 let below = step(alloc, tables, a, outside, desk, scope, chunk, spare, true)?;
-                let turn = zipped(state, Side::Left, below)?;
-                Ok(turn)
+                zipped(state, Side::Left, below)
             }
             Side::Right => {
                 let below = step(alloc, tables, b, outside, desk, scope, chunk, spare, true)?;
-                let turn = zipped(state, Side::Right, below)?;
-                Ok(turn)
+                zipped(state, Side::Right, below)
             }
         },
         Rest::Merge(state, a, b) => match state.next() {
@@ -132,6 +98,9 @@ pub(crate) fn step<O: Outside, F: PipeState>(
                 Ok(merged(state, Side::Right, b, below))
             }
         },
+        _ => leaf(
+            alloc, tables, rest, outside, desk, scope, chunk, spare, whole,
+        ),
     }
 }
 

@@ -1,0 +1,6 @@
+use denote.Param.Send.{sendable}
+use Rattle.pull_turns.proofs.Threads.{runner_send}
+use Rattle.pull_turns.proofs.crossing.runners_cross.Goals as goal
+
+pub is_send-requires-send-T : goal.is_send-requires-send-T
+is_send-requires-send-T g c κs within = search (sendable, runner_send) depth 12
