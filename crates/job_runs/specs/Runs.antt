@@ -6,6 +6,7 @@ use Rattle.chunk_core.specs.Lists.{IsAmong}
 use Rattle.chunk_core.specs.Tables.{Values}
 use Rattle.chunk_core.specs.declared.code.How.{How}
 use Rattle.chunk_core.specs.declared.load.Load.{Load}
+use Rattle.chunk_core.specs.Elements.{elements_of}
 use Rattle.device_port.specs.Device.{DeviceTold}
 use Rattle.pull_nodes.specs.Runs.{IsRun}
 use Rattle.pull_nodes.specs.Shape.{scope_count}
@@ -27,7 +28,7 @@ use Rattle.pull_stepper.specs.Held.{FinishesDevice}
 use Rattle.stream_jobs.specs.declared.job.JobEnd.{JobEnd}
 use Rattle.stream_jobs.specs.Jobs.{EndsJob}
 use Rattle.stream_jobs.specs.Messages.{end_message, load_messages}
-use Rattle.stream_jobs.specs.Running.{AreFilled, Origin, elements_of}
+use Rattle.stream_jobs.specs.Running.{AreFilled, Origin}
 use Rattle.stream_jobs.specs.Unmade.{IsOfNode}
 use Rattle.stream_parts.specs.Retire.{devices_of}
 use Rattle.stream_parts.specs.Same.{AreSame}

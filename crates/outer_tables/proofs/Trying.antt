@@ -12,9 +12,8 @@ use Rattle.csv_pipes.specs.Dictionaries.{Dictionary, table_fault, table_value}
 use Rattle.csv_pipes.specs.Refusals.{IsRefusedBy}
 use Rattle.csv_pipes.specs.declared.table.TableRefused.{TableRefused}
 use Rattle.csv_pipes.specs.declared.table.TableRefused.TheVariants as refusal
-use Rattle.device_port.specs.Device.{DeviceTold}
+use Rattle.device_port.specs.Device.{DeviceTold, to_read}
 use Rattle.device_port.specs.Depot.{DepotTold, IsUnknown}
-use Rattle.run_rules.specs.Facts.{to_read}
 use Rattle.scope_tree.specs.Calls.{Seen}
 use Rattle.outer_tables.specs.declared.not_read.NotRead.{NotRead}
 use Rattle.outer_tables.specs.declared.not_read.NotRead.TheVariants as why

@@ -1,9 +1,8 @@
 -- The devices of tables, as they are made and opened.
 use Rattle.std.specs.Prelude.{◌≡◌, ℕ, true, List, [], ◌∷◌, ◌++◌, length, map, Option, Result, Ok, Err}
 use Rattle.chunk_core.specs.declared.code.Code.TheVariants as code
-use Rattle.device_port.specs.Device.{DeviceTold}
+use Rattle.device_port.specs.Device.{DeviceTold, to_read}
 use Rattle.device_port.specs.Depot.{DepotTold, Files, IsUnknown, fresh}
-use Rattle.run_rules.specs.Facts.{to_read}
 use Rattle.outer_tables.specs.declared.not_read.NotRead.{NotRead}
 use Rattle.outer_tables.specs.declared.not_read.NotRead.TheVariants as why
 

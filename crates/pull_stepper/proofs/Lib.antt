@@ -15,3 +15,4 @@ pub mod Leaving
 pub mod Beginning
 pub mod Parting
 pub mod Turning
+pub mod Threads

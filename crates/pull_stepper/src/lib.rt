@@ -38,6 +38,7 @@
 //! ```
 #![tactic(auto)]
 
+pub mod crossing;
 pub mod held;
 pub(crate) mod places;
 pub mod resources;

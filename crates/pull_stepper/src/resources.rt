@@ -8,6 +8,7 @@ use scope_tree::Tree;
 
 /// A tree of scopes, and the devices that weren't acquired, each in the slot of its place. A place is
 /// the row in which its device is acquired.
+#[derive(Drop)]
 pub struct Resources<S: RowSeat, V> {
     pub(crate) tree: Tree<S>,
     pub(crate) slots: Vec<Option<V>>,

@@ -24,6 +24,7 @@ use std::alloc::{AllocError, Global};
 /// states of the type `F`, which look up in its tables.
 ///
 /// After want of memory it may only be halted. Once it has ended it is taken apart by `end`.
+#[derive(Drop)]
 pub struct Stepper<S: RowSeat, V, F: PipeState> {
     runner: Runner<Resources<S, V>, F>,
     room: Vec<V>,

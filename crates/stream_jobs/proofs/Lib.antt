@@ -5,3 +5,4 @@ pub mod Learning
 pub mod Working
 pub mod Unmade
 pub mod Others
+pub mod Threads

@@ -1,7 +1,7 @@
 -- Each turn gives one load more, or is the last.
 use Rattle.std.proofs.Common.{◌≡◌, ℕ, ◌<◌, List, [], ◌∷◌, ◌++◌, length, Option, Some, None, refl, sym, ◌∙◌, ap, subst, ⊎_elim, arith, append-nil}
 use Rattle.std.proofs.lemmas.List.{map-append}
-use Rattle.chunk_core.specs.Elements.{elements}
+use Rattle.chunk_core.specs.Elements.{elements, elements_of}
 use Rattle.chunk_core.specs.Outcomes.{Cut}
 use Rattle.chunk_core.specs.Tables.{Values}
 use Rattle.chunk_core.specs.declared.code.Code.{Code}
@@ -28,7 +28,7 @@ use Rattle.pull_stepper.specs.Sites.{Since, around, told_at}
 use Rattle.pull_stepper.specs.Stepping.{CanGo, Halts, Stepping, TakesTurn, Wants, stopped_by}
 use Rattle.stream_jobs.specs.Leaving.{CanLeave}
 use Rattle.stream_jobs.specs.Messages.{held, load_message, load_messages}
-use Rattle.stream_jobs.specs.Running.{HasGiven, HasRun, IsBegun, Origin, elements_of}
+use Rattle.stream_jobs.specs.Running.{HasGiven, HasRun, IsBegun, Origin}
 use Rattle.stream_jobs.specs.Steps.{ObeysFound, load_in}
 
 -- what happens to the devices later is no more than their closes

@@ -1,7 +1,7 @@
 -- A stream on its way.
-use Rattle.std.specs.Prelude.{◌≡◌, ℕ, ◌+◌, ◌*◌, ◌<◌, ◌≤◌, List, [], ◌∷◌, ◌++◌, length, flat_map, Option, Some, None}
+use Rattle.std.specs.Prelude.{◌≡◌, ℕ, ◌+◌, ◌*◌, ◌<◌, ◌≤◌, List, [], ◌∷◌, ◌++◌, length, Option, Some, None}
 use Rattle.std.specs.List.{AllByRecursion}
-use Rattle.chunk_core.specs.Elements.{Element, elements}
+use Rattle.chunk_core.specs.Elements.{elements, elements_of}
 use Rattle.chunk_core.specs.Tables.{Values}
 use Rattle.chunk_core.specs.declared.code.How.{How}
 use Rattle.chunk_core.specs.declared.load.Load.{Load}
@@ -33,10 +33,6 @@ pub record Origin (V F : Type 0) : Type 0 where
   pub leased : List ℕ
   pub start : Stepping V F
   pub board : SeatSeen
-
--- all elements of loads
-abbrev pub elements_of : List Load → List Element
-elements_of loads = flat_map elements loads
 
 -- each load has elements
 abbrev pub AreFilled : List Load → Type 0
@@ -80,8 +76,8 @@ module _ {V F : Type 0} (told : V → DeviceTold) where
       -- it runs, and has given the loads that were said
       pub record RunsOn (w : Origin V F) (r : Running S V F V D T) (said : List Msg) : Type 0 where
         pub stream : r.stream ≡ w.stream
-        pub lease : lessee r.lease ≡ w.stream
-        pub leased : rows_covered r.lease ≡ w.leased
+        pub lease : lessee r.lease.0 ≡ w.stream
+        pub leased : rows_covered r.lease.0 ≡ w.leased
         pub begun : IsBegun w
         pub loads : List Load
         pub given : HasGiven w (stepping view values r.stepper) loads

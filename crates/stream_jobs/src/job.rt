@@ -18,7 +18,7 @@ ghost use Rattle.stream_jobs.specs.Unmade.{IsUnmade};
 ghost use Rattle.stream_jobs.specs.Jobs.{Advances, EndsJob, FitsJob, IsAt, IsJob, IsOver, IsSameJob, JobSeen, MaySendAll, OnlySends, Sends, said, seen_job};
 
 use crate::leaving::{Left, leave_unmade};
-use crate::running::{Advanced, Running, Stage, end_of};
+use crate::running::{Advanced, JobLease, Running, Stage, end_of};
 use crate::stepping::interrupt_run;
 use channel_bounded::{Full, Hub, May, Msg, Sender};
 use chunk_core::{How, List};
@@ -32,6 +32,7 @@ use std::mem;
 use std::sync::Wait;
 
 /// A stream on its way: it is run by a stepper, and what it gives is sent to the collector.
+#[derive(Drop)]
 pub struct Job<S: RowSeat, V, F: PipeState> {
     stream: u32,
     stage: Option<Stage<S, V, F>>,
@@ -53,6 +54,7 @@ pub enum JobTurn {
 
 /// What is left of a job that is over: its seats and its sender, and its devices, those that were
 /// acquired on the shelf, with the rows of other streams that it was the last to leave.
+#[derive(Drop)]
 pub struct JobEnd<S, V> {
     pub seat: S,
     pub board: BoardSeat,
@@ -96,7 +98,7 @@ impl<V: Device, S: RowSeat<Pay = Held<V>>, F: PipeState> Job<S, V, F> {
             stage: Some(Stage::Running(Running {
                 stream,
                 stepper,
-                lease,
+                lease: JobLease(lease),
             })),
             board,
             sender,

@@ -23,6 +23,7 @@ use row_seat::RowSeat;
 use scope_tree::{Lease, Spent, Tree};
 
 /// What a stream's stepper and its tree leave.
+#[derive(Drop)]
 pub(crate) struct Left<S, V> {
     pub(crate) seat: S,
     pub(crate) shelf: List<Spent<Held<V>>>,

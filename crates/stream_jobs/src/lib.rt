@@ -42,6 +42,7 @@
 //! ```
 #![tactic(auto)]
 
+pub mod crossing;
 pub mod job;
 pub mod laws;
 mod leaving;

@@ -4,6 +4,10 @@ ghost use Rattle.channel_bounded.specs.declared.message.Msg.{Msg};
 ghost use Rattle.res_ledger.specs.declared.event.StreamNo.TheVariants.{Inner};
 ghost use Rattle.row_seat.specs.Views.{OthersFit};
 ghost use Rattle.pull_turns.specs.Piping.{standing};
+ghost use Rattle.scope_tree.specs.Visible.{lessee, rows_covered};
+ghost use Rattle.pull_stepper.specs.Sites.{Site};
+ghost use Rattle.pull_stepper.specs.Stepping.{IsOver};
+ghost use Rattle.stream_jobs.specs.Leaving.{CanLeave, IsVisiting, Leaves};
 ghost use Rattle.pull_stepper.specs.Steppers.{Works, stepping};
 ghost use Rattle.stream_jobs.specs.Learned.{HasLearned};
 ghost use Rattle.stream_jobs.specs.Messages.{end_message, held, load_message, news};
@@ -21,14 +25,49 @@ use pull_stepper::{Held, Stepper};
 use row_seat::RowSeat;
 use scope_tree::Lease;
 
+/// A lease that goes with its job. What a thread gives back may be let go, so a job has to be; then the
+/// lease is never cancelled.
+pub(crate) struct JobLease(pub(crate) Lease);
+
+impl Drop for JobLease {
+    fn drop(self) {
+        let JobLease(lease) = self;
+        lease.abandon();
+    }
+}
+
+impl JobLease {
+    /// As `leave`, with the lease.
+    fn leave<V: Device, S: RowSeat<Pay = Held<V>>, F: PipeState>(
+        self,
+        stepper: Stepper<S, V, F>,
+        desk: &mut S::Desk,
+    ) -> Left<S, V>
+    where
+        F::Tables: Drop,
+        requires works { Works S.view V.told S.fits stepper desk.old }
+        requires over { IsOver V.told (stepping S.view F.values stepper) }
+        requires visiting { (x : Site V) × IsVisiting V.told (lessee self.0) (rows_covered self.0) x (stepping S.view F.values stepper).site }
+        requires room { CanLeave V.told (rows_covered self.0) (stepping S.view F.values stepper).site }
+        ensures leaves { (x : Site V) → IsVisiting V.told (lessee self.0) (rows_covered self.0) x (stepping S.view F.values stepper).site → Leaves V.told (lessee self.0) (rows_covered self.0) x (stepping S.view F.values stepper) (S.view result.seat) result.shelf result.unopened result.how }
+        ensures fits { S.fits result.seat desk.new }
+        ensures others { OthersFit S.view S.fits (Inner (lessee self.0)) desk.old desk.new }
+    {
+        let JobLease(lease) = self;
+        leave(stepper, lease, desk)
+    }
+}
+
 /// A stream whose stepper hasn't ended.
+#[derive(Drop)]
 pub(crate) struct Running<S: RowSeat, V, F: PipeState> {
     pub(crate) stream: u32,
     pub(crate) stepper: Stepper<S, V, F>,
-    pub(crate) lease: Lease,
+    pub(crate) lease: JobLease,
 }
 
 /// How far a stream is.
+#[derive(Drop)]
 pub(crate) enum Stage<S: RowSeat, V, F: PipeState> {
     Running(Running<S, V, F>),
     Left(Left<S, V>),
@@ -110,7 +149,7 @@ impl<V: Device, S: RowSeat<Pay = Held<V>>, F: PipeState> Running<S, V, F> {
             Some(how) => {
                 interrupt_run(seat, board, how);
                 Advanced {
-                    stage: Stage::Left(leave(stepper, lease, desk)),
+                    stage: Stage::Left(lease.leave(stepper, desk)),
                     message: Some(end_of(stream, how)),
                 }
             }

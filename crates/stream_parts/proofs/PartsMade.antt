@@ -13,11 +13,11 @@ use Rattle.chunk_core.proofs.Each.{among_each, each_among}
 use Rattle.chunk_core.proofs.Members.{among_cons, among_nil}
 use Rattle.device_port.specs.declared.device.Mode.{Mode}
 use Rattle.device_port.specs.declared.device.Mode.TheVariants as mode
-use Rattle.device_port.specs.Device.{Place, DeviceTold, is_read, is_write}
+use Rattle.device_port.specs.Device.{Place, DeviceTold, is_read, is_write, to_read, to_write}
 use Rattle.device_port.specs.Depot.{DepotTold, fresh}
 use Rattle.pipeline_desc.specs.Meant.{PlanMeant}
 use Rattle.pipeline_desc.specs.Nodes.{rows_for}
-use Rattle.pipeline_desc.specs.Places.{first_row, read_at, row_count, rows_of, rows_that, rows_within, second_path, stream_places, write_at}
+use Rattle.pipeline_desc.specs.Places.{first_row, row_count, rows_of, rows_that, rows_within, second_path, stream_places}
 use Rattle.pipeline_desc.specs.declared.stream.StreamSpec.{StreamSpec}
 use Rattle.pipeline_desc.proofs.Uses.{each_read, each_written}
 use Rattle.pull_nodes.specs.Kinds.{node_kind}
@@ -89,7 +89,7 @@ module _ (p : PlanMeant) (k : ℕ) (s : StreamSpec) (within : k < length p.strea
   row_behind = let m = sum_by_more row_count p.streams k s within in let e = ap row_count (get_or_from_slice_get p.streams k s s is) in omega (arith, m, e)
 
   some_rows : 0 < row_count s
-  some_rows = let l = length-append (option_to_list (option_map write_at s.to)) (read_at s.path ∷ option_to_list (option_map read_at (second_path s.second))) in omega (arith, l)
+  some_rows = let l = length-append (option_to_list (option_map to_write s.to)) (to_read s.path ∷ option_to_list (option_map to_read (second_path s.second))) in omega (arith, l)
 
   -- they are so many from the first on
   pub rows_are : rows_within (rows_of p k) ≡ range_with_len (first_row p k) (row_count s)
@@ -101,10 +101,10 @@ module _ (p : PlanMeant) (k : ℕ) (s : StreamSpec) (within : k < length p.strea
 
     pub few_rows : length (places_of n) ≤ 3
     few_rows =
-        let to = option_to_list (option_map write_at s.to) in
-        let second = option_to_list (option_map read_at (second_path s.second)) in
-        let l = length-append to (read_at s.path ∷ second) in
-        omega (arith, places_count, l, at_most_one (option_map write_at s.to), at_most_one (option_map read_at (second_path s.second)))
+        let to = option_to_list (option_map to_write s.to) in
+        let second = option_to_list (option_map to_read (second_path s.second)) in
+        let l = length-append to (to_read s.path ∷ second) in
+        omega (arith, places_count, l, at_most_one (option_map to_write s.to), at_most_one (option_map to_read (second_path s.second)))
 
     -- the node's first place is the first row
     pub first_place : first_of (places_of n) ≡ first_row p k

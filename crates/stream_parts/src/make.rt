@@ -1,6 +1,7 @@
 //! Devices that are made for the rows of a stream.
 ghost use Rattle.std.specs.Prelude.{◌≡◌, ◌+◌, ◌<◌, ◌≤◌, ◌∷◌, [], IfOk, OnErr, map, option_map, option_to_list, vec_capacity, vec_len};
-ghost use Rattle.pipeline_desc.specs.Places.{read_at, second_path, stream_places, write_at};
+ghost use Rattle.device_port.specs.Device.{to_read, to_write};
+ghost use Rattle.pipeline_desc.specs.Places.{second_path, stream_places};
 ghost use Rattle.stream_parts.specs.Made.{MakesEach, MakesFirst, MakesInVain, MakesMore};
 
 use crate::retire::retire_all;
@@ -40,7 +41,7 @@ fn make_to<D: Depot>(
     devices: &mut Vec<D::Dev>,
 ) -> Result<(), AllocError>
     requires { vec_len devices.old < vec_capacity devices.old }
-    ensures made { IfOk result (λ u. MakesMore D.Dev.Device.told (D.told depot.old) (D.told depot.new) (option_to_list (option_map write_at to.now)) devices.old.items devices.new.items) }
+    ensures made { IfOk result (λ u. MakesMore D.Dev.Device.told (D.told depot.old) (D.told depot.new) (option_to_list (option_map to_write to.now)) devices.old.items devices.new.items) }
     ensures depot { OnErr result (D.told depot.new ≡ D.told depot.old) }
     ensures devices { OnErr result (devices.new.items ≡ devices.old.items) }
     ensures len { vec_len devices.new ≤ vec_len devices.old + 1 }
@@ -60,7 +61,7 @@ fn make_second<D: Depot>(
     devices: &mut Vec<D::Dev>,
 ) -> Result<(), AllocError>
     requires { vec_len devices.old < vec_capacity devices.old }
-    ensures made { IfOk result (λ u. MakesMore D.Dev.Device.told (D.told depot.old) (D.told depot.new) (option_to_list (option_map read_at (second_path second.now))) devices.old.items devices.new.items) }
+    ensures made { IfOk result (λ u. MakesMore D.Dev.Device.told (D.told depot.old) (D.told depot.new) (option_to_list (option_map to_read (second_path second.now))) devices.old.items devices.new.items) }
     ensures depot { OnErr result (D.told depot.new ≡ D.told depot.old) }
     ensures devices { OnErr result (devices.new.items ≡ devices.old.items) }
 {

@@ -1,7 +1,8 @@
 -- Where there is no memory for a device, those before it were made.
 use Rattle.std.proofs.Common.{◌∷◌, ◌++◌, [], append_assoc, sym}
 use Rattle.std.specs.Prelude.{option_map, option_to_list}
-use Rattle.pipeline_desc.specs.Places.{read_at, second_path, write_at}
+use Rattle.device_port.specs.Device.{to_read, to_write}
+use Rattle.pipeline_desc.specs.Places.{second_path}
 use Rattle.stream_parts.proofs.Making.{first_made, more_then}
 use Rattle.stream_parts.proofs.make.make_each.Goals as goal
 
@@ -10,7 +11,7 @@ returns-clause-first g c =
     let told = g.D.Dev.Device.told in
     let s = c.args.stream.now in
     let old = g.D.Depot.told c.args.depot.now in
-    let to = option_to_list (option_map write_at s.to) in
-    let path = read_at s.path ∷ [] in
+    let to = option_to_list (option_map to_write s.to) in
+    let path = to_read s.path ∷ [] in
     let made = more_then told old (g.D.Depot.told c.make_to.new.depot) (g.D.Depot.told c.make_next.new.depot) to path c.args.devices.now.items c.make_to.new.devices.items c.make_next.new.devices.items c.in_ok-make_to.ensures.made c.in_ok-make_next.ensures.made in
-    first_made told c.make_second.result old (g.D.Depot.told c.make_next.new.depot) (g.D.Depot.told c.make_second.new.depot) _ (to ++ path) (option_to_list (option_map read_at (second_path s.second))) c.make_next.new.devices.items c.make_second.new.devices.items (sym (append_assoc to path _)) (rw c.requires.none at made) c.make_second.ensures.depot c.make_second.ensures.devices
+    first_made told c.make_second.result old (g.D.Depot.told c.make_next.new.depot) (g.D.Depot.told c.make_second.new.depot) _ (to ++ path) (option_to_list (option_map to_read (second_path s.second))) c.make_next.new.devices.items c.make_second.new.devices.items (sym (append_assoc to path _)) (rw c.requires.none at made) c.make_second.ensures.depot c.make_second.ensures.devices

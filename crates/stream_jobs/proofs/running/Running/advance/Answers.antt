@@ -35,7 +35,7 @@ leave-requires-clause-visiting g c =
     let b = stepping g.S.RowSeat.view g.F.PipeState.values look.new.stepper in
     let w = c.requires.runs.0 in
     let run = obeyed_ends told (standing g.F.Feed.stands g.F.Feed.comes) w a b r.loads r.given look.ensures.since (option_or last.own last.root) look.result look.ensures.obeys c.in-Some.how (sym c.in-Some.ensures) in
-    (w.start.site, visiting_at told (standing g.F.Feed.stands g.F.Feed.comes) c.args.self.lease.stream c.args.self.lease.rows.items w b.site r.lease r.leased r.begun run.since)
+    (w.start.site, visiting_at told (standing g.F.Feed.stands g.F.Feed.comes) c.args.self.lease.0.stream c.args.self.lease.0.rows.items w b.site r.lease r.leased r.begun run.since)
 
 pub leave-requires-clause-room : goal.leave-requires-clause-room
 leave-requires-clause-room g c =
@@ -88,7 +88,7 @@ returns-in-Some-clause-stands g c w said r =
     let last = look.new.seat.view.last in
     let a = stepping g.S.RowSeat.view g.F.PipeState.values c.args.self.stepper in
     let b = stepping g.S.RowSeat.view g.F.PipeState.values look.new.stepper in
-    let l = c.args.self.lease in
+    let l = c.args.self.lease.0 in
     let h = c.in-Some.how in
     let run = obeyed_ends told P w a b r.loads r.given look.ensures.since (option_or last.own last.root) look.result look.ensures.obeys h (sym c.in-Some.ensures) in
     let left = c.leave.result in
@@ -107,7 +107,7 @@ returns-in-Some-clause-learned g c w said r l =
     let last = looked.view.last in
     let a = stepping g.S.RowSeat.view g.F.PipeState.values c.args.self.stepper in
     let b = stepping g.S.RowSeat.view g.F.PipeState.values look.new.stepper in
-    let j = c.args.self.lease in
+    let j = c.args.self.lease.0 in
     let h = c.in-Some.how in
     let found = option_or last.own last.root in
     let run = obeyed_ends told P w a b r.loads r.given look.ensures.since found look.result look.ensures.obeys h (sym c.in-Some.ensures) in
