@@ -21,12 +21,11 @@ fn message(stream: u32) -> Msg
 }
 
 /// Sends one message, and waits where the queue is full.
-fn send<R: Wait>(rt: &R, hub: &PlainHub, sender: &mut Sender, m: Msg, pause: &Pause)
-    requires fits { sender.old.hub ≡ hub.now.id }
-    requires stream { m.stream ≡ sender.old.stream }
-    ensures { (sender.new.hub ≡ sender.old.hub) × (sender.new.stream ≡ sender.old.stream) }
+fn send<R: Wait>(rt: &R, hub: &PlainHub, sender: &mut Sender, pause: &Pause)
+    requires { sender.old.hub ≡ hub.now.id }
+    ensures { sender.new.hub ≡ sender.old.hub }
 {
-    let mut m = m;
+    let mut m = message(sender.stream());
     'tries: for _ in rt.forever() {
         match sender.try_send(rt, hub, m) {
             Ok(()) => {
@@ -40,13 +39,13 @@ fn send<R: Wait>(rt: &R, hub: &PlainHub, sender: &mut Sender, m: Msg, pause: &Pa
     unreachable!()
 }
 
-/// Sends so many messages of stream 0.
+/// Sends so many messages.
 fn send_all<R: Wait>(rt: &R, hub: &PlainHub, mut sender: Sender, messages: u32, naps: bool)
-    requires { (sender.hub ≡ hub.now.id) × (sender.stream ≡ 0) }
+    requires { sender.hub ≡ hub.now.id }
 {
     let pause = Pause::new(naps);
     'sends: for _ in 0..messages {
-        send(rt, hub, &mut sender, message(0), &pause);
+        send(rt, hub, &mut sender, &pause);
     }
 }
 
@@ -100,7 +99,7 @@ pub fn send_through<R: Threads + Wait + Sync>(
     let (_, count) = thread::join(
         rt,
         move ||
-            requires { (sender.hub ≡ hub.now.id) × (sender.stream ≡ 0) }
+            requires { sender.hub ≡ hub.now.id }
         { send_all(rt, hub, sender, messages, naps) },
         move || -> u32
             requires { receiver.hub ≡ hub.now.id }
@@ -110,7 +109,7 @@ pub fn send_through<R: Threads + Wait + Sync>(
 }
 
 fn send_later<R: Wait + Clock>(rt: &R, hub: &PlainHub, sender: Sender, time: Duration)
-    requires { (sender.hub ≡ hub.now.id) × (sender.stream ≡ 0) }
+    requires { sender.hub ≡ hub.now.id }
 {
     thread::sleep(rt, time);
     send_all(rt, hub, sender, 1, false)
@@ -136,7 +135,7 @@ pub fn wait_empty<R: Threads + Wait + Clock + Sync>(
     let (_, count) = thread::join(
         rt,
         move ||
-            requires { (sender.hub ≡ hub.now.id) × (sender.stream ≡ 0) }
+            requires { sender.hub ≡ hub.now.id }
         { send_later(rt, hub, sender, time) },
         move || -> u32
             requires { receiver.hub ≡ hub.now.id }
@@ -158,7 +157,7 @@ pub fn wait_full<R: Threads + Wait + Clock + Sync>(
     let (_, count) = thread::join(
         rt,
         move ||
-            requires { (sender.hub ≡ hub.now.id) × (sender.stream ≡ 0) }
+            requires { sender.hub ≡ hub.now.id }
         { send_all(rt, hub, sender, 2, naps) },
         move || -> u32
             requires { receiver.hub ≡ hub.now.id }

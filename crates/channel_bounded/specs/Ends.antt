@@ -35,9 +35,9 @@ seen_sender pass = record { hub = pass.table_id; stream = (view pass).stream; se
 abbrev pub seen_receiver : Pass Msg View → ReceiverSeen
 seen_receiver pass = record { hub = pass.table_id; got = (view pass).got; made = (view pass).made; closed = (view pass).closed }
 
--- the pass has no slot out, and is a sender's
-abbrev pub IsSending : Pass Msg View → Type 0
-IsSending pass = (pass.me.1 ≡ []) × ((view pass).sends ≡ true)
+-- the pass has no slot out, and is the sender's of this stream
+abbrev pub IsSending : Pass Msg View → ℕ → Type 0
+IsSending pass stream = (pass.me.1 ≡ []) × ((view pass).sends ≡ true) × ((view pass).stream ≡ stream)
 
 -- the pass has no slot out, and is the receiver's
 abbrev pub IsReceiving : Pass Msg View → Type 0

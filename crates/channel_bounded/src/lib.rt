@@ -14,17 +14,18 @@
 //! sent, in its order. Contracts see each end as a value that keeps its own list, so whoever has both ends
 //! knows the whole.
 //!
-//! Two senders at a queue of one place. `sends_end` sends the end of a stream and answers whether it was
-//! taken, `next_end` receives and answers the stream of which that was the end:
+//! Two senders at a queue of one place. `sends_end` sends the end of its sender's stream and answers
+//! whether it was taken, `next_end` receives and answers the stream of which that was the end:
 //!
 //! ```
 //! let (hub, mut receiver) = PlainHub::new(rt.alloc(), 1)?;
 //! let mut first = receiver.split(&hub, 0);
 //! let mut second = receiver.split(&hub, u32::MAX);
-//! holds(&rt, sends_end(&rt, &hub, &mut first, 0));
-//! holds(&rt, !sends_end(&rt, &hub, &mut second, u32::MAX));
+//! same(&rt, (first.stream(), second.stream()), (0, u32::MAX));
+//! holds(&rt, sends_end(&rt, &hub, &mut first));
+//! holds(&rt, !sends_end(&rt, &hub, &mut second));
 //! same(&rt, next_end(&rt, &hub, &mut receiver), Some(0));
-//! holds(&rt, sends_end(&rt, &hub, &mut second, u32::MAX));
+//! holds(&rt, sends_end(&rt, &hub, &mut second));
 //! receiver.join(&hub, first);
 //! receiver.join(&hub, second);
 //! same(&rt, next_end(&rt, &hub, &mut receiver), Some(u32::MAX));

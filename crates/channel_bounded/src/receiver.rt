@@ -40,7 +40,10 @@ impl Receiver {
         ensures sender { result ≡ record { hub = hub.now.id; stream = stream; sent = [] } }
     {
         let pass = hub.queue.another::<Opens<N>>(&mut self.pass);
-        Sender { pass }
+        Sender {
+            pass,
+            number: stream,
+        }
     }
 
     /// Makes the sender of a stream, of which there is but one.
@@ -71,7 +74,7 @@ impl Receiver {
         ensures receiver { self.new ≡ record self.old { closed = self.old.closed ++ (sender.stream, sender.sent) ∷ [] } }
         ensures whole { (queued : List Msg) × IsWhole sender.stream sender.sent self.old.got queued × ReceiverSees A.may self.new queued }
     {
-        let Sender { pass } = sender;
+        let Sender { pass, number: _ } = sender;
         hub.queue.absorb::<Closes>(&mut self.pass, pass);
         hub.queue.learn_as::<Gets<A>>(&mut self.pass);
     }

@@ -14,6 +14,7 @@ use std::sync::Wait;
 #[derive(Drop)]
 pub struct Sender {
     pub(crate) pass: Pass<Msg, View>,
+    pub(crate) number: u32,
 }
 
 impl Model for Sender {
@@ -23,10 +24,17 @@ impl Model for Sender {
 
     ghost view = { λ sender. seen_sender sender.pass };
 
-    ghost invariant = { λ sender. IsSending sender.pass };
+    ghost invariant = { λ sender. IsSending sender.pass sender.number };
 }
 
 impl Sender {
+    /// The stream of which this is the end.
+    pub fn stream(&self) -> u32
+        ensures { result ≡ self.now.stream }
+    {
+        self.number
+    }
+
     /// Sends a message of this stream. `Full` gives it back, only where the queue held `capacity`
     /// messages at one moment of the call.
     pub fn try_send<A: May, R: Wait>(&mut self, rt: &R, hub: &Hub<A>, m: Msg) -> Result<(), Full>
