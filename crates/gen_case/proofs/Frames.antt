@@ -3,8 +3,7 @@ use Rattle.std.proofs.Common.{◌≡◌, ◌≢◌, ℕ, ◌+◌, ◌-◌, ◌<�
 use Rattle.std.proofs.Math.Seq.{drop-append-add, take-append_seam}
 use Rattle.std.proofs.lemmas.List.{take_all}
 use Rattle.chunk_core.specs.Texts.{frame_text}
-use Rattle.res_ledger.proofs.Words.{cut_once, lacks_none, number_lacks}
-use Rattle.res_ledger.proofs.Spelled.{lf_apart, space_apart}
+use Rattle.res_ledger.proofs.Words.{cut_once, lacks_none, lf_apart, number_lacks, space_apart}
 
 -- the stream's number and the payload's length stand in front
 pub frame_front : (k : ℕ) (p more : List ℕ) → frame_text k p ++ more ≡ decimal k ++ 32 ∷ (decimal (length p) ++ 10 ∷ (p ++ 10 ∷ more))

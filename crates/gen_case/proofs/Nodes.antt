@@ -158,6 +158,8 @@ module _ (c : Case) (k : ℕ) (v : Values) (w : ℕ → DeviceTold) (few : c.lin
     no_fault code.NotUtf8 h = h
     no_fault code.NoField h = h
     no_fault code.TooLarge h = h
+    no_fault code.BadPath h = h
+    no_fault code.TooMany h = h
     no_fault (code.Raised r) h = h
 
     reads : (xs : List Element) (g : End) → Reads d xs g → IsReadSoFar xs g

@@ -10,11 +10,11 @@ use Rattle.chunk_core.proofs.Filters.{among_append}
 use Rattle.chunk_core.proofs.Members.{among_cons, among_nil}
 use Rattle.chunk_core.specs.Lists.{IsAmong}
 use Rattle.chunk_core.specs.Lists.IsAmong.{here, there}
-use Rattle.device_port.specs.Device.{Place}
+use Rattle.device_port.specs.Device.{Place, to_read, to_write}
 use Rattle.device_port.specs.declared.device.Mode.TheVariants as mode
 use Rattle.pipeline_desc.specs.Laws.{WrittenPathsStandAlone}
 use Rattle.pipeline_desc.specs.Outputs.{is_alone}
-use Rattle.pipeline_desc.specs.Places.{all_places, read_at, second_path, stream_places, table_places, write_at}
+use Rattle.pipeline_desc.specs.Places.{all_places, second_path, stream_places, table_places}
 use Rattle.pipeline_desc.specs.declared.stream.Second.{Second}
 use Rattle.pipeline_desc.specs.declared.stream.StreamSpec.{StreamSpec}
 use Rattle.pipeline_desc.specs.declared.table.TableSpec.{TableSpec}
@@ -57,18 +57,18 @@ among_get (x ∷ xs) zero a is = let same : x ≡ a = cc in subst (λ y. IsAmong
 among_get (x ∷ xs) (suc r) a is = there x (among_get xs r a is)
 
 -- a place that is read isn't one that is written
-not_written : (path : List ℕ) (a : Place) → a ≡ read_at path → a.mode ≡ mode.Write → ⊥
+not_written : (path : List ℕ) (a : Place) → a ≡ to_read path → a.mode ≡ mode.Write → ⊥
 not_written path a e writes = let both : mode.Read ≡ mode.Write = sym (ap (λ (p : Place). p.mode) e) ∙ writes in cc
 
-files_read : (path : List ℕ) (o : Option Second) (a : Place) → IsAmong a (read_at path ∷ option_to_list (option_map read_at (second_path o))) → a.mode ≡ mode.Write → ⊥
+files_read : (path : List ℕ) (o : Option Second) (a : Place) → IsAmong a (to_read path ∷ option_to_list (option_map to_read (second_path o))) → a.mode ≡ mode.Write → ⊥
 files_read path o a i writes = ⊎_elim (λ e. not_written path a e writes) (λ m. second_read o m) (among_cons i)
   where
-    second_read : (o : Option Second) → IsAmong a (option_to_list (option_map read_at (second_path o))) → ⊥
+    second_read : (o : Option Second) → IsAmong a (option_to_list (option_map to_read (second_path o))) → ⊥
     second_read None m = among_nil m
     second_read (Some second) m = ⊎_elim (λ e. not_written second.path a e writes) among_nil (among_cons m)
 
 -- of a stream's places the one that is written is that of its `to`
-to_written : (to : Option (List ℕ)) (path : List ℕ) (o : Option Second) (a : Place) → IsAmong a (option_to_list (option_map write_at to) ++ read_at path ∷ option_to_list (option_map read_at (second_path o)))
+to_written : (to : Option (List ℕ)) (path : List ℕ) (o : Option Second) (a : Place) → IsAmong a (option_to_list (option_map to_write to) ++ to_read path ∷ option_to_list (option_map to_read (second_path o)))
     → a.mode ≡ mode.Write → to ≡ Some a.path
 to_written None path o a i writes = absurd (files_read path o a i writes)
 to_written (Some to) path o a i writes = ⊎_elim (λ e. ap (λ (t : List ℕ). Some t) (sym (ap (λ (p : Place). p.path) e))) (λ m. absurd (files_read path o a m writes)) (among_cons i)

@@ -7,7 +7,7 @@ use Rattle.std.proofs.lemmas.List.{append-nil}
 use Rattle.std.proofs.lemmas.Option.{get_or_from_slice_get, slice_get_within}
 use Rattle.std.proofs.lemmas.List.FromFn.{length-range_with_len}
 use Rattle.std.proofs.lemmas.List.Sums.{sum_by-cons, sum_by_more}
-use Rattle.device_port.specs.Device.{Place, is_read, is_write}
+use Rattle.device_port.specs.Device.{Place, is_read, is_write, to_read, to_write}
 use Rattle.pull_nodes.specs.Kinds.{node_kind, load_kind, joined_kind}
 use Rattle.pull_nodes.specs.Placed.{is_placed, is_inside}
 use Rattle.pull_nodes.specs.Shape.{node_count, scope_count, places_of, reads_of, uses_of, writes_of}
@@ -18,7 +18,7 @@ use Rattle.pull_nodes.specs.declared.node.Node.TheVariants.{Weak', Into'}
 use Rattle.pipeline_desc.specs.Reading.{Reading}
 use Rattle.pipeline_desc.specs.Steps.{kind_given, steps_behind}
 use Rattle.pipeline_desc.specs.Nodes.{Boxed, IsBody, IsOrText, IsNodeOf, IsStreamNode, IsWritten, event_count, events_of, load_of, path_row, rows_for, scopes_in, scopes_of, stream_events}
-use Rattle.pipeline_desc.specs.Places.{first_row, read_at, row_count, rows_of, rows_that, rows_within, second_path, stream_places, write_at}
+use Rattle.pipeline_desc.specs.Places.{first_row, row_count, rows_of, rows_that, rows_within, second_path, stream_places}
 use Rattle.pipeline_desc.specs.Meant.{PlanMeant}
 use Rattle.pipeline_desc.specs.declared.stream.Second.{Second}
 use Rattle.pipeline_desc.specs.declared.stream.StreamSpec.{StreamSpec}
@@ -83,7 +83,7 @@ written_count p (Some to) a n (b, c, e) = omega (arith, ap node_count e)
 
 -- the rows of a stream, by what is given of it
 abbrev some_rows : (to : Option (List ℕ)) (path : List ℕ) (o : Option Second) → List Place
-some_rows to path o = option_to_list (option_map write_at to) ++ read_at path ∷ option_to_list (option_map read_at (second_path o))
+some_rows to path o = option_to_list (option_map to_write to) ++ to_read path ∷ option_to_list (option_map to_read (second_path o))
 
 -- what is seen of the node of these rows
 record HasRows (place : ℕ) (rows : List Place) (count : ℕ) (n : Node) : Type 0 where

@@ -7,9 +7,9 @@ use Rattle.std.proofs.Math.Seq.{drop-cons}
 use Rattle.std.proofs.lemmas.Bool.{cases_Bool, ltb-false, ltb-true}
 use Rattle.std.proofs.lemmas.Option.{slice_get_read}
 use Rattle.std.proofs.lemmas.List.Sums.{count_by-le-length, sum_by-append, sum_by-cons}
-use Rattle.device_port.specs.Device.{Place}
+use Rattle.device_port.specs.Device.{Place, to_read}
 use Rattle.pipeline_desc.specs.Outputs.{alone_from, is_alone}
-use Rattle.pipeline_desc.specs.Places.{all_places, read_at, stream_places, table_places}
+use Rattle.pipeline_desc.specs.Places.{all_places, stream_places, table_places}
 use Rattle.pipeline_desc.specs.Reading.{Reading}
 use Rattle.pipeline_desc.specs.declared.stream.StreamSpec.{StreamSpec}
 use Rattle.pipeline_desc.specs.declared.table.TableSpec.{TableSpec}
@@ -29,7 +29,7 @@ module _ (test : Place → Bool) where
 count_in_tables : (path : List ℕ) (tables : List TableSpec) → count_by (λ p. bytes_eq path p.path) (table_places tables) ≡ count_by (λ t. bytes_eq path t.path) tables
 count_in_tables path [] = refl
 count_in_tables path (t ∷ tables) =
-    omega (arith, count_in_tables path tables, sum_by-cons (λ (u : TableSpec). cond (bytes_eq path u.path) 1 0) t tables, sum_by-cons (λ (p : Place). cond (bytes_eq path p.path) 1 0) (read_at t.path) (table_places tables))
+    omega (arith, count_in_tables path tables, sum_by-cons (λ (u : TableSpec). cond (bytes_eq path u.path) 1 0) t tables, sum_by-cons (λ (p : Place). cond (bytes_eq path p.path) 1 0) (to_read t.path) (table_places tables))
 
 -- the places of a path are those of the tables, and those of the streams
 pub count_in_all : (path : List ℕ) (tables : List TableSpec) (streams : List StreamSpec)

@@ -2,21 +2,12 @@
 use Rattle.std.specs.Prelude.{ℕ, ◌+◌, ◌-◌, Bool, List, [], ◌∷◌, ◌++◌, length, map, take, Option, option_map, option_to_list, if◌then◌else◌}
 use Rattle.std.specs.List.{flat_map, range_with_len, sum_by}
 use Rattle.chunk_core.specs.declared.code.Span.{Span}
-use Rattle.device_port.specs.Device.{Place}
+use Rattle.device_port.specs.Device.{Place, to_read, to_write}
 use Rattle.device_port.specs.declared.device.Mode.{Mode}
-use Rattle.device_port.specs.declared.device.Mode.TheVariants as mode
 use Rattle.pipeline_desc.specs.Meant.{PlanMeant}
 use Rattle.pipeline_desc.specs.declared.stream.Second.{Second}
 use Rattle.pipeline_desc.specs.declared.stream.StreamSpec.{StreamSpec}
 use Rattle.pipeline_desc.specs.declared.table.TableSpec.{TableSpec}
-
--- a path is read
-abbrev pub read_at : List ℕ → Place
-read_at path = record { path = path; mode = mode.Read }
-
--- a path is written
-abbrev pub write_at : List ℕ → Place
-write_at path = record { path = path; mode = mode.Write }
 
 -- the path of a second side, where there is one
 abbrev pub second_path : Option Second → Option (List ℕ)
@@ -24,11 +15,11 @@ second_path second = option_map (λ x. x.path) second
 
 -- the places of a stream's rows, in order: its `to`, its `path` and its `with`, without those that aren't given
 abbrev pub stream_places : StreamSpec → List Place
-stream_places s = option_to_list (option_map write_at s.to) ++ read_at s.path ∷ option_to_list (option_map read_at (second_path s.second))
+stream_places s = option_to_list (option_map to_write s.to) ++ to_read s.path ∷ option_to_list (option_map to_read (second_path s.second))
 
 -- the places of the tables' rows
 abbrev pub table_places : List TableSpec → List Place
-table_places tables = map (λ t. read_at t.path) tables
+table_places tables = map (λ t. to_read t.path) tables
 
 -- the places of all rows, in the order of the rows: those of the tables come first, and then those of each stream
 abbrev pub all_places : List TableSpec → List StreamSpec → List Place

@@ -3,9 +3,9 @@ use Rattle.std.specs.Prelude.{◌≡◌, ℕ, List, [], ◌∷◌, ◌++◌, cod
 use Rattle.chunk_core.specs.declared.code.Span.{Span}
 use Rattle.pull_nodes.specs.declared.pipe.Pipe.TheVariants as pipe
 use Rattle.pipeline_desc.specs.Meant.{PlanMeant}
-use Rattle.device_port.specs.Device.{is_read, is_write}
+use Rattle.device_port.specs.Device.{is_read, is_write, to_read, to_write}
 use Rattle.pipeline_desc.specs.Nodes.{events_of, rows_for}
-use Rattle.pipeline_desc.specs.Places.{all_places, read_at, rows_of, write_at}
+use Rattle.pipeline_desc.specs.Places.{all_places, rows_of}
 use Rattle.pipeline_desc.specs.Plans.{plan_of}
 use Rattle.pipeline_desc.specs.Reading.{refuse}
 use Rattle.pipeline_desc.specs.declared.refusal.Position.{Position}
@@ -248,7 +248,7 @@ abbrev pub RowsFollow : Type 0
 RowsFollow =
     (rows_of plan_of_two 0 ≡ rows_from_to 1 4)
     × (rows_of plan_of_two 1 ≡ rows_from_to 4 5)
-    × (all_places plan_of_two.tables plan_of_two.streams ≡ read_at (codes "t.csv") ∷ write_at (codes "c") ∷ read_at (codes "a") ∷ read_at (codes "b") ∷ read_at (codes "d") ∷ [])
+    × (all_places plan_of_two.tables plan_of_two.streams ≡ to_read (codes "t.csv") ∷ to_write (codes "c") ∷ to_read (codes "a") ∷ to_read (codes "b") ∷ to_read (codes "d") ∷ [])
     × (rows_for is_read plan_of_two 0 ≡ Some (2 ∷ 3 ∷ []))
     × (rows_for is_write plan_of_two 0 ≡ Some (1 ∷ []))
     × (events_of plan_of_two 0 ≡ Some 9)

@@ -1,0 +1,9 @@
+mod Agree
+mod Keys
+mod Named
+mod Plans
+mod Positions
+mod Said
+mod Tables
+mod Texts
+mod Top

@@ -1,0 +1,38 @@
+-- What stands where in a description.
+use Rattle.std.specs.Prelude.{ℕ, List, [], Option, Some, None, unwrap_or, slice_get}
+use Rattle.toml.specs.Data.{Data, Items, no_items, Members, no_members, as_array, as_table, get_member}
+use Rattle.toml.specs.Parse.{parse_document}
+use Rattle.pipeline_desc.specs.Values.{each_as}
+use Rattle.desc_laws.specs.Flaws.{Key, key_text, Part}
+use Rattle.desc_laws.specs.Flaws.Key.{Tables}
+use Rattle.desc_laws.specs.Flaws.Part.{Top, Table}
+
+-- the document that the bytes write, and an empty one where they write none
+abbrev pub document_in : List ℕ → Members
+document_in bytes = unwrap_or (parse_document bytes) no_members
+
+-- the value at a key, where there is one
+abbrev pub value_in : Members → Key → Option Data
+value_in ms k = get_member (key_text k) ms
+
+-- the items of an array, and none of another value
+abbrev pub items_in : Option Data → Items
+items_in None = no_items
+items_in (Some d) = unwrap_or (as_array d) no_items
+
+-- the entries of an array as f sees them, and none where it isn't an array of such entries alone
+abbrev pub entries_in : {A : Type 0} → (Data → Option A) → Option Data → List A
+entries_in f d = unwrap_or (each_as f (items_in d)) []
+
+-- the tables of records, as they stand in the document
+abbrev pub tables_in : List ℕ → List Members
+tables_in bytes = entries_in as_table (value_in (document_in bytes) Tables)
+
+-- the keys and values of a part of the description
+abbrev pub part_in : List ℕ → Part → Members
+part_in bytes Top = document_in bytes
+part_in bytes (Table i) = unwrap_or (slice_get (tables_in bytes) i) no_members
+
+-- the value at a key of a part, where there is one
+abbrev pub value_at : List ℕ → Part → Key → Option Data
+value_at bytes at k = value_in (part_in bytes at) k
