@@ -10,7 +10,7 @@ use Rattle.chunk_core.proofs.Each.{among_each, among_permuted, each_among, each_
 use Rattle.chunk_core.proofs.Filters.{among_right}
 use Rattle.chunk_core.proofs.Members.{among_cons, among_left, among_nil}
 use Rattle.device_port.specs.declared.device.Mode.TheVariants as mode
-use Rattle.device_port.specs.Device.{Place, DeviceTold}
+use Rattle.device_port.specs.Device.{Place, DeviceTold, to_read}
 use Rattle.device_port.specs.Depot.{DepotTold, Files, IsUnknown, KeepsFilesBut, KeepsWritten, MayReturn, device_numbers}
 use Rattle.outer_tables.specs.declared.not_read.NotRead.{NotRead}
 use Rattle.outer_tables.specs.Devices.{MakesDevices}
@@ -19,7 +19,7 @@ use Rattle.outer_tables.specs.Outcomes.ComeOut.{none, read, closed, unread, refu
 use Rattle.pull_stepper.specs.Held.{closed_as}
 use Rattle.pull_stepper.specs.Sites.{blank}
 use Rattle.res_ledger.specs.Order.{firsts}
-use Rattle.run_rules.specs.Facts.{at, to_read}
+use Rattle.run_rules.specs.Facts.{at}
 use Rattle.scope_tree.specs.declared.branch.Spent.{Spent}
 use Rattle.scope_tree.specs.Released.{said}
 use Rattle.stream_parts.specs.Retire.{AreWrittenAlone, Exchanges, IsWrittenBy, MayReturnAll, Returns}
@@ -28,8 +28,8 @@ use Rattle.stream_parts.proofs.Making.{laid, laid_outside}
 use Rattle.res_ledger.proofs.Mapped.{among_map}
 use Rattle.res_ledger.proofs.Permuted.{among_range, range_among, range_distinct}
 use Rattle.joined_runs.specs.Devices.{AreMade, AreReturned, IsReturned, IsUnmadeAt, MadeComeBack}
-use Rattle.collected.proofs.Returned.{are_made, places_are}
-use Rattle.collected.proofs.ComingBack.{at_among, come_back, made_both}
+use Rattle.job_runs.proofs.Returned.{are_made, places_are}
+use Rattle.job_runs.proofs.DevicesBack.{at_among, come_back, made_both}
 use Rattle.joined_runs.proofs.MadeRows.{at_below, at_some, distinct_map, map_twice}
 use Rattle.collected.proofs.OwnRows.{bare_home, bare_unmade, laid_at, map_laid}
 use Rattle.collected.proofs.Rows.{RowsMade, made_number, made_same, map_same}

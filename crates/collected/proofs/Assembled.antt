@@ -7,6 +7,7 @@ use Rattle.channel_bounded.specs.Ends.{ReceiverSeen}
 use Rattle.chunk_core.specs.Tables.{Values}
 use Rattle.chunk_core.specs.declared.code.How.{How}
 use Rattle.chunk_core.specs.declared.code.How.TheVariants as how
+use Rattle.chunk_core.specs.Texts.{IsRestOf}
 use Rattle.device_port.specs.Device.{DeviceTold}
 use Rattle.device_port.specs.Depot.{DepotTold}
 use Rattle.join_tale.specs.Keeping.{IsOuterStopped}
@@ -35,17 +36,17 @@ use Rattle.stream_parts.specs.Retire.{MayReturnAll, Returns}
 use Rattle.stream_parts.proofs.Exchanged.{may_permuted}
 use Rattle.joined_runs.specs.Devices.{MadeComeBack}
 use Rattle.joined_runs.specs.Shares.{AreTablesKept, IsJoinedLedger, IsShare}
-use Rattle.joined_runs.specs.Together.{HasNotRun, HasRun, IsRestOf, RunsTogether, first_row_in}
+use Rattle.joined_runs.specs.Together.{HasNotRun, HasRun, RunsTogether, first_row_in}
 use Rattle.joined_runs.proofs.MadeRows.{at_below, at_some}
 use Rattle.joined_runs.proofs.PlansTogether.{plan_row, spec_at}
 use Rattle.joined_runs.proofs.StreamRows.{row_here}
 use Rattle.collected.specs.Collected.{IsCollected, IsRunOf, all_left}
-use Rattle.collector.specs.Collecting.{bare_work}
-use Rattle.collector.specs.Collecting.{EndsRead, HaveValuesOf, HasTables, IsStoppedBy}
-use Rattle.collector.specs.declared.collector.Leftover.{Leftover}
+use Rattle.dealt_streams.specs.Tables.{bare_work}
+use Rattle.dealt_streams.specs.Tables.{EndsRead, HaveValuesOf, HasTables, IsStoppedBy}
+use Rattle.dealt_streams.specs.declared.leftover.Leftover.{Leftover}
 use Rattle.collected.specs.Laws.{CollectedRuns}
-use Rattle.collector.specs.Parts.{Part}
-use Rattle.collector.specs.Parts.Part.{Begun, Skipped, Unmade}
+use Rattle.dealt_streams.specs.Parts.{Part}
+use Rattle.dealt_streams.specs.Parts.Part.{Begun, Skipped, Unmade}
 use Rattle.collected.proofs.Core.{W, W_own, all_arranged, behind_idle, en, own, part_home, places_alone, tables_are}
 use Rattle.collected.proofs.DealtRows.{next_row, plan_rows, rows_below}
 use Rattle.collected.proofs.Each.{at_most, has_run, spec, spec_is}

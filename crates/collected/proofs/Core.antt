@@ -11,7 +11,7 @@ use Rattle.chunk_core.specs.Lists.IsAmong.{here, there}
 use Rattle.chunk_core.specs.Tables.{Values}
 use Rattle.chunk_core.specs.declared.code.How.{How}
 use Rattle.chunk_core.proofs.Members.{among_left}
-use Rattle.device_port.specs.Device.{Place, DeviceTold}
+use Rattle.device_port.specs.Device.{Place, DeviceTold, to_read}
 use Rattle.device_port.specs.Depot.{DepotTold}
 use Rattle.join_tale.specs.Tales as tales
 use Rattle.join_tale.specs.Tales.{HasCome, Tale}
@@ -25,7 +25,7 @@ use Rattle.plan_work.specs.Plans.{opener_of, stream_of}
 use Rattle.pull_turns.specs.Piping.{StateMeaning}
 use Rattle.res_ledger.specs.declared.event.Event.{Event}
 use Rattle.row_seat.specs.declared.view.View.{View}
-use Rattle.run_rules.specs.Facts.{at, to_read}
+use Rattle.run_rules.specs.Facts.{at}
 use Rattle.run_rules.specs.Homes.{IsUntouched}
 use Rattle.scope_tree.specs.Calls.{Seen}
 use Rattle.scope_tree.specs.declared.branch.Spent.{Spent}
@@ -34,8 +34,8 @@ use Rattle.stream_parts.specs.Retire.{AreWrittenAlone}
 use Rattle.job_runs.specs.Rows.{EndsAs}
 use Rattle.joined_runs.proofs.MadeRows.{at_below}
 use Rattle.collected.specs.Collected.{IsCollected, all_left}
-use Rattle.collector.specs.declared.collector.Leftover.{Leftover}
-use Rattle.collector.specs.Parts.{Part, fate_of}
+use Rattle.dealt_streams.specs.declared.leftover.Leftover.{Leftover}
+use Rattle.dealt_streams.specs.Parts.{Part, fate_of}
 use Rattle.collected.proofs.Chosen.{flat_chosen}
 use Rattle.collected.proofs.DealtRows.{AllDealt, HaveHome, home_same, plan_rows, slice_some, rows_below, rows_grow}
 use Rattle.collected.proofs.Rested.{Rested, all_of, arranged, left_are, lent_of, named_is, named_none, own_of}

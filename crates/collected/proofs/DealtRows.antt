@@ -29,8 +29,8 @@ use Rattle.joined_runs.specs.Devices.{IsAtRest}
 use Rattle.joined_runs.specs.Together.{first_row_in}
 use Rattle.joined_runs.proofs.PlansTogether.{plan_row}
 use Rattle.joined_runs.proofs.StreamRows.{inside, place_of}
-use Rattle.collector.specs.Parts.{AreDealt, Deals, IsMadeOf, Part}
-use Rattle.collector.specs.Parts.Part.{Begun, Skipped, Unmade}
+use Rattle.dealt_streams.specs.Parts.{AreDealt, Deals, IsMadeOf, Part}
+use Rattle.dealt_streams.specs.Parts.Part.{Begun, Skipped, Unmade}
 use Rattle.collected.proofs.OwnRows.{OwnRows, made_rows, used_own, vain_own, vain_untouched, waiting_own, waiting_untouched}
 use Rattle.collected.proofs.Rows.{RowsMade, bare_idle, bare_row, rows_bare, rows_own, rows_same, rows_then}
 

@@ -2,7 +2,7 @@
 use Rattle.std.proofs.Common.{◌≡◌, ℕ, suc, ◌+◌, ◌<◌, ◌≤◌, ◌^◌, List, inl, inr, map, length, Some, option_map, slice_get, refl, sym, ◌∙◌, ap, subst, arith}
 use Rattle.std.proofs.lemmas.Option.{slice_get_within}
 use Rattle.channel_bounded.specs.Ends.{ReceiverSeen}
-use Rattle.chunk_core.specs.Elements.{elements, rendering_of}
+use Rattle.chunk_core.specs.Elements.{elements, rendering_of, elements_of}
 use Rattle.chunk_core.specs.Lists.{IsAmong}
 use Rattle.chunk_core.specs.Tables.{Values}
 use Rattle.chunk_core.specs.declared.code.How.{How}
@@ -31,7 +31,7 @@ use Rattle.run_rules.specs.Facts.{at}
 use Rattle.run_rules.specs.Outputs.{IsReported}
 use Rattle.scope_tree.specs.Calls.{Seen}
 use Rattle.scope_tree.specs.declared.branch.Spent.{Spent}
-use Rattle.stream_jobs.specs.Running.{Origin, elements_of}
+use Rattle.stream_jobs.specs.Running.{Origin}
 use Rattle.stream_parts.proofs.PartsMade.{first_place, places_count, row_behind}
 use Rattle.job_runs.specs.Rows.{EndsAs, from_row, to_row}
 use Rattle.job_runs.specs.Runs.{RunsJob}
@@ -40,10 +40,10 @@ use Rattle.joined_runs.specs.Together.{HasRun}
 use Rattle.joined_runs.proofs.PlanCovered.{stream_holds}
 use Rattle.outer_tables.proofs.Outcomes.{few_tried}
 use Rattle.collected.specs.Collected.{IsCollected}
-use Rattle.collector.specs.declared.collector.Leftover.{Leftover}
-use Rattle.collector.specs.Collecting.Gone.{Came}
-use Rattle.collector.specs.Parts.{IsMadeOf}
-use Rattle.collector.specs.Parts.Part.{Begun}
+use Rattle.dealt_streams.specs.declared.leftover.Leftover.{Leftover}
+use Rattle.dealt_streams.specs.Kept.Gone.{Came}
+use Rattle.dealt_streams.specs.Parts.{IsMadeOf}
+use Rattle.dealt_streams.specs.Parts.Part.{Begun}
 use Rattle.collected.proofs.Core.{W, W_own, lent_ends, part_home}
 use Rattle.collected.proofs.Received.{in_pieces, loads_got}
 use Rattle.collected.proofs.Rested.{Rested, job_of, lent_of, rest_of}

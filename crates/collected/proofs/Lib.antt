@@ -1,9 +1,7 @@
-pub mod Returned
 pub mod TableHomes
 pub mod TableEnds
 pub mod ShelfHomes
 pub mod Settling
-pub mod ComingBack
 pub mod RunsAgree
 pub mod OwnRows
 pub mod Rows
@@ -20,4 +18,3 @@ pub mod Each
 pub mod Passed
 pub mod Recorded
 pub mod Assembled
-pub mod Bridged

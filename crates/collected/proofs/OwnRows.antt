@@ -15,10 +15,10 @@ use Rattle.stream_parts.specs.Same.{AreSame}
 use Rattle.stream_parts.proofs.Exchanged.{exchanges_none, exchanges_then, may_permuted}
 use Rattle.stream_parts.proofs.Making.{laid, laid_outside, laid_same, made_exchanges, made_may_return, made_untouched, made_unused, same_may_return}
 use Rattle.joined_runs.specs.Devices.{AreReturned, IsAtRest, IsUnmadeAt}
-use Rattle.collected.proofs.Returned.{made_returned}
+use Rattle.job_runs.proofs.Returned.{made_returned}
 use Rattle.chunk_core.proofs.Distinct.{distinct_nil}
 use Rattle.chunk_core.proofs.Each.{among_each}
-use Rattle.collected.proofs.ComingBack.{at_among}
+use Rattle.job_runs.proofs.DevicesBack.{at_among}
 use Rattle.joined_runs.proofs.MadeRows.{at_some}
 
 -- what is told of a row without a device

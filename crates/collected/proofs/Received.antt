@@ -4,7 +4,7 @@ use Rattle.std.proofs.lemmas.Grind.{flat_map-append}
 use Rattle.std.proofs.lemmas.List.Folds.{flat_map-map}
 use Rattle.channel_bounded.specs.declared.message.Msg.{Msg}
 use Rattle.channel_bounded.specs.Streams.{of_stream}
-use Rattle.chunk_core.specs.Elements.{Element, elements, rendering_of}
+use Rattle.chunk_core.specs.Elements.{Element, elements, elements_of, rendering_of}
 use Rattle.chunk_core.specs.declared.code.How.{How}
 use Rattle.chunk_core.specs.declared.load.Load.{Load}
 use Rattle.chunk_core.proofs.Bools.{itself}
@@ -12,8 +12,7 @@ use Rattle.join_tale.specs.Tales as tales
 use Rattle.join_tale.specs.Tales.{Message, Tale, loads_in, loads_of, loads_received}
 use Rattle.joined_runs.specs.Together.{elements_in_pieces}
 use Rattle.stream_jobs.specs.Messages.{end_message, load_messages}
-use Rattle.stream_jobs.specs.Running.{elements_of}
-use Rattle.collector.specs.Collecting.{told_message}
+use Rattle.dealt_streams.specs.Kept.{told_message}
 
 -- the load of a message
 abbrev found_in : Msg → List (List ℕ)

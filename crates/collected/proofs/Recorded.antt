@@ -41,9 +41,9 @@ use Rattle.run_rules.specs.declared.end.EndOf.{EndOf}
 use Rattle.scope_tree.specs.Calls.{Seen}
 use Rattle.tree_families.specs.Families.{Split}
 use Rattle.collected.specs.Collected.{IsCollected, IsRunOf}
-use Rattle.collector.specs.Collecting.{bare_work}
-use Rattle.collector.specs.declared.collector.Leftover.{Leftover}
-use Rattle.collector.specs.Parts.{fate_of}
+use Rattle.dealt_streams.specs.Tables.{bare_work}
+use Rattle.dealt_streams.specs.declared.leftover.Leftover.{Leftover}
+use Rattle.dealt_streams.specs.Parts.{fate_of}
 use Rattle.collected.proofs.Core.{few_parts}
 use Rattle.collected.proofs.Each.{share}
 use Rattle.collected.proofs.Passed.{begun_before, begun_still, longer, longer_count, longer_report}

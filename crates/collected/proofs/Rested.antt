@@ -26,12 +26,12 @@ use Rattle.res_ledger.proofs.Mapped.{map_among}
 use Rattle.stream_parts.specs.Retire.{devices_of}
 use Rattle.job_runs.specs.Runs.{RunsJob}
 use Rattle.job_runs.proofs.Ended.{jobs_end}
-use Rattle.collected.specs.Kept.{AreKept, HasComeBack, IsKept}
-use Rattle.collector.specs.Collecting.{Gone, number_of}
-use Rattle.collector.specs.declared.collector.Leftover.{Leftover}
-use Rattle.collector.specs.Collecting.Gone.{Came, Missed}
-use Rattle.collector.specs.Parts.{IsMadeOf, Part}
-use Rattle.collector.specs.Parts.Part.{Begun}
+use Rattle.dealt_streams.specs.Kept.{AreKept, HasComeBack, IsKept}
+use Rattle.dealt_streams.specs.Kept.{Gone, number_of}
+use Rattle.dealt_streams.specs.declared.leftover.Leftover.{Leftover}
+use Rattle.dealt_streams.specs.Kept.Gone.{Came, Missed}
+use Rattle.dealt_streams.specs.Parts.{IsMadeOf, Part}
+use Rattle.dealt_streams.specs.Parts.Part.{Begun}
 use Rattle.collected.proofs.Rows.{swapped}
 
 -- the devices of a stream, which came to tell its home: those on its shelf, those of rows of tables that it was the last to leave, and those never opened

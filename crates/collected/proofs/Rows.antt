@@ -23,9 +23,9 @@ use Rattle.res_ledger.proofs.Permuted.{among_range, range_among, range_distinct}
 use Rattle.joined_runs.specs.Devices.{AreMade, IsReturned, IsUnmadeAt}
 use Rattle.joined_runs.proofs.MadeRows.{at_below, at_some}
 use Rattle.joined_runs.proofs.RowPlaces.{at_left, at_right}
-use Rattle.collected.proofs.ComingBack.{made_both}
+use Rattle.job_runs.proofs.DevicesBack.{made_both}
 use Rattle.collected.proofs.OwnRows.{OwnRows, bare_home, bare_unmade}
-use Rattle.collected.proofs.Returned.{are_made, places_are}
+use Rattle.job_runs.proofs.Returned.{are_made, places_are}
 
 -- the second part of the first list and the first one of the second change places
 pub swapped : {A : Type 0} (xs ys zs us : List A) → IsPermutation ((xs ++ ys) ++ (zs ++ us)) ((xs ++ zs) ++ (ys ++ us))

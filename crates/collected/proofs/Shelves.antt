@@ -41,12 +41,12 @@ use Rattle.job_runs.specs.Rows.{from_row}
 use Rattle.outer_tables.proofs.Outcomes.{all_opened}
 use Rattle.outer_tables.specs.Outcomes.{ComeOut}
 use Rattle.collected.specs.Collected.{IsCollected}
-use Rattle.collected.specs.Kept.{IsKept}
-use Rattle.collector.specs.Collecting.{Gone}
-use Rattle.collector.specs.declared.collector.Leftover.{Leftover}
-use Rattle.collector.specs.Collecting.Gone.{Came, Missed}
-use Rattle.collector.specs.Parts.{IsMadeOf}
-use Rattle.collector.specs.Parts.Part.{Begun}
+use Rattle.dealt_streams.specs.Kept.{IsKept}
+use Rattle.dealt_streams.specs.Kept.{Gone}
+use Rattle.dealt_streams.specs.declared.leftover.Leftover.{Leftover}
+use Rattle.dealt_streams.specs.Kept.Gone.{Came, Missed}
+use Rattle.dealt_streams.specs.Parts.{IsMadeOf}
+use Rattle.dealt_streams.specs.Parts.Part.{Begun}
 use Rattle.collected.proofs.Rested.{Rested, among_rest, job_of, lent_of, rest_among, rest_of}
 use Rattle.collected.proofs.Settling.{shelf_tables}
 use Rattle.collected.proofs.Standing.{made, made_so, zs, zs_apart}

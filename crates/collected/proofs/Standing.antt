@@ -27,12 +27,12 @@ use Rattle.stream_parts.specs.Same.{AreSame}
 use Rattle.job_runs.specs.Rows.{from_row}
 use Rattle.joined_runs.specs.Devices.{IsAtRest}
 use Rattle.collected.specs.Collected.{IsCollected}
-use Rattle.collected.specs.Kept.{HasComeBack}
-use Rattle.collector.specs.Collecting.{Gone, number_of}
-use Rattle.collector.specs.declared.collector.Leftover.{Leftover}
-use Rattle.collector.specs.Collecting.Gone.{Came, Missed}
-use Rattle.collector.specs.Parts.{AreDealt, Deals, IsMadeOf, Part, fate_of}
-use Rattle.collector.specs.Parts.Part.{Begun, Skipped, Unmade}
+use Rattle.dealt_streams.specs.Kept.{HasComeBack}
+use Rattle.dealt_streams.specs.Kept.{Gone, number_of}
+use Rattle.dealt_streams.specs.declared.leftover.Leftover.{Leftover}
+use Rattle.dealt_streams.specs.Kept.Gone.{Came, Missed}
+use Rattle.dealt_streams.specs.Parts.{AreDealt, Deals, IsMadeOf, Part, fate_of}
+use Rattle.dealt_streams.specs.Parts.Part.{Begun, Skipped, Unmade}
 use Rattle.collected.proofs.DealtRows.{AllDealt, Leaves, LeavesRun, all_dealt}
 use Rattle.collected.proofs.Rested.{Rested, job_of, named, named_is, named_none, numbers_are, own_of, rest_among, rest_of, rests}
 

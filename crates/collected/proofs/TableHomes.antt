@@ -6,7 +6,7 @@ use Rattle.chunk_core.specs.declared.code.Code.{Code}
 use Rattle.chunk_core.specs.declared.code.Code.TheVariants as code
 use Rattle.chunk_core.specs.declared.code.Exit.{Exit}
 use Rattle.csv_pipes.specs.Dictionaries.{records_fault, table_fault, table_value, is_first_short, has_long_value}
-use Rattle.device_port.specs.Device.{Place, DeviceTold, closed_with}
+use Rattle.device_port.specs.Device.{Place, DeviceTold, closed_with, to_read}
 use Rattle.device_port.specs.Depot.{Files, content_at}
 use Rattle.outer_tables.specs.declared.not_read.NotRead.{NotRead}
 use Rattle.outer_tables.specs.declared.not_read.NotRead.TheVariants as why
@@ -18,7 +18,7 @@ use Rattle.outer_tables.specs.Whole.{GivesAll, IsAtEnd, WasRead, most_read}
 use Rattle.pull_nodes.specs.Csv.{is_too_large, is_uneven, records_of}
 use Rattle.pull_stepper.specs.Held.{closed_as}
 use Rattle.res_ledger.specs.Ledger.{IsAcquired}
-use Rattle.run_rules.specs.Facts.{at, to_read}
+use Rattle.run_rules.specs.Facts.{at}
 use Rattle.run_rules.specs.Homes.{IsBack, is_tried}
 use Rattle.run_rules.specs.Opening.{AreTablesFailed, AreTablesRead, AreUntried, IsRefusedBy, IsTableFault, IsTableRead}
 use Rattle.run_rules.specs.Work.{Opener, RunRecord}

@@ -10,7 +10,7 @@ use Rattle.chunk_core.specs.declared.code.Code.{Code}
 use Rattle.chunk_core.proofs.Each.{among_permuted}
 use Rattle.chunk_core.proofs.Members.{among_nil}
 use Rattle.csv_pipes.specs.Dictionaries.{table_value}
-use Rattle.device_port.specs.Device.{Place, DeviceTold, faults_of}
+use Rattle.device_port.specs.Device.{Place, DeviceTold, faults_of, to_read}
 use Rattle.device_port.specs.Depot.{DepotTold}
 use Rattle.join_tree.specs.Mains.{IsMain}
 use Rattle.join_tree.specs.Progress.{Progress}
@@ -25,7 +25,7 @@ use Rattle.res_ledger.specs.Ledger.{IsAcquired}
 use Rattle.res_ledger.specs.Order.{firsts}
 use Rattle.res_ledger.specs.declared.event.Event.{Event}
 use Rattle.res_ledger.specs.declared.event.StreamNo.TheVariants.{Outer}
-use Rattle.run_rules.specs.Facts.{at, to_read}
+use Rattle.run_rules.specs.Facts.{at}
 use Rattle.run_rules.specs.Homes.{HaveValues, IsBack, is_tried}
 use Rattle.run_rules.specs.Opening.{AreTablesFailed, AreTablesRead, AreUntried}
 use Rattle.run_rules.specs.Work.{RunRecord}
@@ -36,7 +36,7 @@ use Rattle.scope_tree.specs.Released.{said}
 use Rattle.stream_parts.specs.Retire.{AreWrittenAlone, MayReturnAll, Returns}
 use Rattle.res_ledger.proofs.Mapped.{map_among}
 use Rattle.job_runs.specs.Rows.{EndsAs}
-use Rattle.collector.specs.Collecting.{HasTables}
+use Rattle.dealt_streams.specs.Tables.{HasTables}
 use Rattle.collected.proofs.AllRows as rows
 use Rattle.joined_runs.specs.Shares.{AreTablesKept}
 use Rattle.joined_runs.specs.Devices.{MadeComeBack}

@@ -6,6 +6,7 @@ use Rattle.chunk_core.specs.Lists.{IsAmong}
 use Rattle.chunk_core.specs.Outcomes.{exit_of}
 use Rattle.chunk_core.specs.Tables.{Values}
 use Rattle.chunk_core.specs.declared.code.How.{How}
+use Rattle.chunk_core.specs.Texts.{IsRestOf}
 use Rattle.device_port.specs.Device.{DeviceTold}
 use Rattle.device_port.specs.Depot.{DepotTold}
 use Rattle.join_report.specs.Accounts.{names_below}
@@ -17,7 +18,6 @@ use Rattle.join_tale.specs.Tales as tales
 use Rattle.join_tale.specs.Tales.{HasCome, Tale, frames_of}
 use Rattle.join_tree.specs.Mains.{IsMain}
 use Rattle.join_tree.specs.Progress.{Progress}
-use Rattle.joined_runs.specs.Together.{IsRestOf}
 use Rattle.outer_tables.specs.declared.not_read.NotRead.{NotRead}
 use Rattle.pipeline_desc.specs.Meant.{PlanMeant}
 use Rattle.pull_nodes.specs.declared.node.Node.{Node}
@@ -36,11 +36,12 @@ use Rattle.stream_jobs.specs.declared.job.JobEnd.{JobEnd}
 use Rattle.stream_jobs.specs.Running.{Origin}
 use Rattle.stream_parts.specs.Retire.{devices_of}
 use Rattle.tree_families.specs.Families.{Split}
-use Rattle.collected.specs.Kept.{AreKept}
-use Rattle.collector.specs.Collecting.{bare_work, EndsRead, Gone, HasTables, HaveValuesOf, IsStoppedBy, number_of, told_message}
-use Rattle.collector.specs.declared.collector.Leftover.{Leftover}
-use Rattle.collector.specs.Collecting.Gone.{Came}
-use Rattle.collector.specs.Parts.{AreDealt, Part, fate_of}
+use Rattle.dealt_streams.specs.Kept.{AreKept}
+use Rattle.dealt_streams.specs.Kept.{Gone, number_of, told_message}
+use Rattle.dealt_streams.specs.Tables.{bare_work, EndsRead, HasTables, HaveValuesOf, IsStoppedBy}
+use Rattle.dealt_streams.specs.declared.leftover.Leftover.{Leftover}
+use Rattle.dealt_streams.specs.Kept.Gone.{Came}
+use Rattle.dealt_streams.specs.Parts.{AreDealt, Part, fate_of}
 
 module _ {S V F : Type 0} (view : S → View V) (told : V → DeviceTold) (P : Values → StateMeaning F) where
   -- No stream is open: each that was begun has come back, and the main seat has what the seats were handed that came back. What came through the channel is what the tale tells.

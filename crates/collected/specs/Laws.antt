@@ -18,7 +18,7 @@ use Rattle.run_rules.specs.Work.{RunRecord}
 use Rattle.scope_tree.specs.Calls.{Seen}
 use Rattle.stream_parts.specs.Retire.{MayReturnAll, Returns}
 use Rattle.collected.specs.Collected.{IsCollected, IsRunOf, all_left}
-use Rattle.collector.specs.declared.collector.Leftover.{Leftover}
+use Rattle.dealt_streams.specs.declared.leftover.Leftover.{Leftover}
 
 -- Once its main tree has settled into a ledger all devices that are left may go back, and once they went back the streams of the plan ran together.
 pub record CollectedRuns {S V F : Type 0} (view : S → View V) (told : V → DeviceTold) (P : Values → StateMeaning F) : Type 0 where

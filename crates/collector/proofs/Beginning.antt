@@ -26,7 +26,7 @@ use Rattle.stream_parts.specs.Parts.{MakesParts}
 use Rattle.stream_parts.specs.declared.parts.StreamParts.{StreamParts}
 use Rattle.stream_parts.proofs.PartsMade.{first_place, places_count, row_behind}
 use Rattle.tree_laws.specs.Visits.{IsNewGuest}
-use Rattle.collector.specs.Parts.{AreTableRows}
+use Rattle.dealt_streams.specs.Parts.{AreTableRows}
 use Rattle.collector.specs.Starting.{HasRoomAsGuest}
 use Rattle.collector.proofs.Lists.{run_there, there_is}
 

@@ -39,9 +39,10 @@ use Rattle.stream_parts.specs.declared.parts.StreamParts.{StreamParts}
 use Rattle.res_ledger.proofs.Mapped.{map_among}
 use Rattle.tree_families.specs.Families.{split_of}
 use Rattle.collector.specs.declared.collector.Collector.{Collector}
-use Rattle.collector.specs.Collecting.{IsJobOf, KeepsStreams, KeepsTale, bare_work, guest_of, waiting_of}
-use Rattle.collector.specs.Parts.{Deals, IsMadeOf, Part, fate_of}
-use Rattle.collector.specs.Parts.Part.{Begun}
+use Rattle.dealt_streams.specs.Tables.{bare_work}
+use Rattle.collector.specs.Collecting.{IsJobOf, KeepsStreams, KeepsTale, guest_of, waiting_of}
+use Rattle.dealt_streams.specs.Parts.{Deals, IsMadeOf, Part, fate_of}
+use Rattle.dealt_streams.specs.Parts.Part.{Begun}
 use Rattle.collector.specs.Starting.{MakesJob, MayBegin, origin_of}
 use Rattle.collector.proofs.Lists.{at_last, map_snoc, snoc_length}
 use Rattle.collector.proofs.Streams.{all_came, streams_begun}

@@ -49,8 +49,9 @@ use Rattle.stream_jobs.specs.Learned.{HasSetFor}
 use Rattle.stream_jobs.specs.Running.{Origin}
 use Rattle.stream_jobs.proofs.Others.{others_leave}
 use Rattle.collector.specs.declared.collector.Collector.{Collector}
-use Rattle.collector.specs.declared.collector.Leftover.{Leftover}
-use Rattle.collector.specs.Collecting.{AreJobs, HasTables, IsCollectingWith, IsJobOf, KeepsStreams, KeepsTree, guest_of}
+use Rattle.dealt_streams.specs.declared.leftover.Leftover.{Leftover}
+use Rattle.dealt_streams.specs.Tables.{HasTables}
+use Rattle.collector.specs.Collecting.{AreJobs, IsCollectingWith, IsJobOf, KeepsStreams, KeepsTree, guest_of}
 use Rattle.collector.specs.Receiving.{HasGot, StopsThose}
 use Rattle.collector.proofs.EndTaken.{GotAll, behind, got_all, streams_end}
 use Rattle.collector.proofs.EndTold.{EndComes, comes, end_sets, is_tale, v}

@@ -28,11 +28,12 @@ use Rattle.stream_jobs.specs.declared.job.JobEnd.{JobEnd}
 use Rattle.stream_jobs.specs.Jobs.{EndsJob}
 use Rattle.stream_jobs.specs.Messages.{end_message, load_messages}
 use Rattle.stream_jobs.specs.Running.{Origin}
-use Rattle.collector.specs.declared.collector.Leftover.{Leftover}
-use Rattle.collector.specs.Collecting.{AreJobs, AreKept, Gone, IsKept, KeepsStreams, guest_of, number_of}
-use Rattle.collector.specs.Collecting.Gone.{Came, Missed}
-use Rattle.collector.specs.Parts.{Part}
-use Rattle.collector.specs.Parts.Part.{Begun}
+use Rattle.dealt_streams.specs.declared.leftover.Leftover.{Leftover}
+use Rattle.dealt_streams.specs.Kept.{AreKept, Gone, IsKept, number_of}
+use Rattle.collector.specs.Collecting.{AreJobs, KeepsStreams, guest_of}
+use Rattle.dealt_streams.specs.Kept.Gone.{Came, Missed}
+use Rattle.dealt_streams.specs.Parts.{Part}
+use Rattle.dealt_streams.specs.Parts.Part.{Begun}
 use Rattle.collector.proofs.EndTold.{EndComes}
 use Rattle.collector.proofs.LoadTaken.{got_map, grown}
 use Rattle.collector.proofs.OneStream.{end_last, of_more, of_own, of_rest}
@@ -88,7 +89,7 @@ module _ {S V F D T : Type 0} (view : S → View V) (told : V → DeviceTold) (f
   come_back : (j : ℕ) → HasCome v j → HasCome t j ⊎ (j ≡ k)
   come_back j c = ⊎_elim (λ a. inl (c.0, a)) (λ e. inr e.0) (comes.back j c.0 c.1)
 
-  old_stays : (x : Leftover V) (g : Gone S V F) → IsKept view told fits values P parts progress had t x g → IsKept view told fits values P parts (joining progress last) behind v x g
+  old_stays : (x : Leftover V) (g : Gone S V F) → IsKept view told P parts progress had t x g → IsKept view told P parts (joining progress last) behind v x g
   old_stays x (Came n ds w e) c = record {
     begun = c.begun;
     ends = c.ends;
@@ -104,7 +105,7 @@ module _ {S V F D T : Type 0} (view : S → View V) (told : V → DeviceTold) (f
   old_stays x (Missed j ds) c = c
 
   -- and the new one behind them
-  kept_more : (y : Leftover V) (n : Gone S V F) → IsKept view told fits values P parts (joining progress last) behind v y n → (xs : List (Leftover V)) (gs : List (Gone S V F)) → AreKept view told fits values P parts progress had t xs gs → AreKept view told fits values P parts (joining progress last) behind v (xs ++ y ∷ []) (gs ++ n ∷ [])
+  kept_more : (y : Leftover V) (n : Gone S V F) → IsKept view told P parts (joining progress last) behind v y n → (xs : List (Leftover V)) (gs : List (Gone S V F)) → AreKept view told P parts progress had t xs gs → AreKept view told P parts (joining progress last) behind v (xs ++ y ∷ []) (gs ++ n ∷ [])
   kept_more y n new [] [] c = (new, tt)
   kept_more y n new [] (g ∷ gs) c = absurd c
   kept_more y n new (x ∷ xs) [] c = absurd c
@@ -140,7 +141,7 @@ module _ {S V F D T : Type 0} (view : S → View V) (told : V → DeviceTold) (f
         let a = subst (λ l. IsAmong j (map (λ (y : Origin V F). y.stream) l)) first ((s.opens j).1 (begun_back j q.0, λ c. q.1 (come_on j c))) in
         ⊎_elim (λ y. absurd (q.1 (subst (λ i. HasCome v i) (sym (y ∙ number)) (h, comes.came)))) (λ y. y) (among_cons a)
 
-    new_kept : IsKept view told fits values P parts (joining progress last) behind v x g
+    new_kept : IsKept view told P parts (joining progress last) behind v x g
     new_kept = record {
       begun = begun;
       ends = ends;

@@ -26,7 +26,8 @@ use Rattle.run_rules.specs.Facts.{at}
 use Rattle.scope_tree.specs.Calls.{Seen}
 use Rattle.scope_tree.specs.Trace.{owed}
 use Rattle.res_ledger.proofs.Mapped.{among_map, map_among}
-use Rattle.collector.specs.Collecting.{HasTables, KeepsTree, events_from}
+use Rattle.dealt_streams.specs.Tables.{HasTables}
+use Rattle.collector.specs.Collecting.{KeepsTree, events_from}
 use Rattle.collector.specs.Starting.{IsFirstSeat}
 use Rattle.collector.proofs.Lists.{map_length, run_there}
 use Rattle.collector.proofs.Streams.{moved}

@@ -41,8 +41,9 @@ use Rattle.scope_tree.specs.declared.leases.Lease.{Lease}
 use Rattle.scope_tree.specs.declared.tree.Tree.{Tree}
 use Rattle.stream_jobs.specs.declared.job.Job.{Job}
 use Rattle.collector.specs.declared.collector.Collector.{Collector}
-use Rattle.collector.specs.declared.collector.Leftover.{Leftover}
-use Rattle.collector.specs.Collecting.{EndsRead, HasTables, HaveValuesOf, IsCollecting, IsCollectingWith, IsStoppedBy, KeepsStreams, KeepsTale, KeepsTree, bare_work}
+use Rattle.dealt_streams.specs.declared.leftover.Leftover.{Leftover}
+use Rattle.dealt_streams.specs.Tables.{EndsRead, HasTables, HaveValuesOf, IsStoppedBy, bare_work}
+use Rattle.collector.specs.Collecting.{IsCollecting, IsCollectingWith, KeepsStreams, KeepsTale, KeepsTree}
 use Rattle.collector.specs.Starting.{ClosesOuter, IsFresh, room_of}
 use Rattle.collector.proofs.Fresh.{first_out, tried, tried_out, tried_tree, untouched_tree, untried}
 use Rattle.collector.proofs.FreshTale.{halted, tale_halted, tale_starts}

@@ -36,10 +36,12 @@ use Rattle.stream_jobs.specs.Messages.{IsFullMessage, load_message}
 use Rattle.stream_jobs.specs.Running.{Origin}
 use Rattle.frames.proofs.Rendered.{rendering_some}
 use Rattle.collector.specs.declared.collector.Collector.{Collector}
-use Rattle.collector.specs.declared.collector.Leftover.{Leftover}
-use Rattle.collector.specs.Collecting.{AreKept, Gone, IsCollectingWith, IsKept, KeepsStreams, bare_work, told_message}
-use Rattle.collector.specs.Collecting.Gone.{Came, Missed}
-use Rattle.collector.specs.Parts.{Part, fate_of}
+use Rattle.dealt_streams.specs.declared.leftover.Leftover.{Leftover}
+use Rattle.dealt_streams.specs.Kept.{AreKept, Gone, IsKept, told_message}
+use Rattle.dealt_streams.specs.Tables.{bare_work}
+use Rattle.collector.specs.Collecting.{IsCollectingWith, KeepsStreams}
+use Rattle.dealt_streams.specs.Kept.Gone.{Came, Missed}
+use Rattle.dealt_streams.specs.Parts.{Part, fate_of}
 use Rattle.collector.specs.Receiving.{HasGot}
 use Rattle.collector.proofs.Loads.{LoadGoes, SameEnds, goes_on, goes_on_stopped, wrote_none}
 use Rattle.res_ledger.proofs.Mapped.{among_map}
@@ -70,7 +72,7 @@ same_set (memory a b c) = (refl, refl)
 
 module _ {S V F D T : Type 0} (view : S → View V) (told : V → DeviceTold) (fits : S → D → Type 0) (values : T → Values) (P : Values → StateMeaning F) where
   module _ (parts : List (Part V F)) (progress : Progress V) (had : ReceiverSeen) (m : Msg) (t v : Tale) (same : SameEnds t v) (o : IsOpen t m.stream) where
-    back_stays : (x : Leftover V) (g : Gone S V F) → IsKept view told fits values P parts progress had t x g → IsKept view told fits values P parts progress (grown had m) v x g
+    back_stays : (x : Leftover V) (g : Gone S V F) → IsKept view told P parts progress had t x g → IsKept view told P parts progress (grown had m) v x g
     back_stays x (Came n ds w e) h = record {
       begun = h.begun;
       ends = h.ends;
@@ -85,7 +87,7 @@ module _ {S V F D T : Type 0} (view : S → View V) (told : V → DeviceTold) (f
     }
     back_stays x (Missed k ds) h = h
 
-    kept_stays : (xs : List (Leftover V)) (gs : List (Gone S V F)) → AreKept view told fits values P parts progress had t xs gs → AreKept view told fits values P parts progress (grown had m) v xs gs
+    kept_stays : (xs : List (Leftover V)) (gs : List (Gone S V F)) → AreKept view told P parts progress had t xs gs → AreKept view told P parts progress (grown had m) v xs gs
     kept_stays [] [] h = tt
     kept_stays [] (g ∷ gs) h = absurd h
     kept_stays (x ∷ xs) [] h = absurd h

@@ -3,7 +3,7 @@ use Rattle.std.proofs.Common.{◌≡◌, ℕ, ◌+◌, ◌<◌, Bool, true, fals
 use Rattle.std.proofs.lemmas.List.{take-append-drop}
 use Rattle.chunk_core.specs.Elements.{elements, rendering_of}
 use Rattle.chunk_core.specs.Lists.{IsAmong}
-use Rattle.chunk_core.specs.Texts.{Frame, frame_text, frames_text}
+use Rattle.chunk_core.specs.Texts.{Frame, IsRestOf, frame_text, frames_text}
 use Rattle.chunk_core.specs.declared.code.How.{How}
 use Rattle.chunk_core.specs.declared.load.Load.{Load}
 use Rattle.chunk_core.proofs.Members.{among_left}
@@ -18,7 +18,7 @@ use Rattle.join_tale.specs.Tales.{Came, IsOpen, Tale, end_of, frames_of, load_of
 use Rattle.join_tale.proofs.Parts.{end_before_load, frames_load}
 use Rattle.join_tale.proofs.Receiving as receiving
 use Rattle.run_rules.specs.Work.{Work, most_of}
-use Rattle.collector.specs.Collecting.{IsRestOf, WritesTale}
+use Rattle.collector.specs.Collecting.{WritesTale}
 
 -- the same ends came, and the streams are as they were
 pub record SameEnds (t v : Tale) : Type 0 where

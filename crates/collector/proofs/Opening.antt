@@ -16,11 +16,12 @@ use Rattle.row_seat.specs.declared.view.View.{View}
 use Rattle.run_rules.specs.Facts.{at}
 use Rattle.scope_tree.specs.Calls.{Seen}
 use Rattle.stream_jobs.specs.declared.job.Job.{Job}
-use Rattle.collector.specs.declared.collector.Leftover.{Leftover}
-use Rattle.collector.specs.Collecting.{AreKept, Gone, IsKept, KeepsStreams, number_of}
-use Rattle.collector.specs.Collecting.Gone.{Came, Missed}
-use Rattle.collector.specs.Parts.{Part, fate_of}
-use Rattle.collector.specs.Parts.Part.{Unmade}
+use Rattle.dealt_streams.specs.declared.leftover.Leftover.{Leftover}
+use Rattle.dealt_streams.specs.Kept.{AreKept, Gone, IsKept, number_of}
+use Rattle.collector.specs.Collecting.{KeepsStreams}
+use Rattle.dealt_streams.specs.Kept.Gone.{Came, Missed}
+use Rattle.dealt_streams.specs.Parts.{Part, fate_of}
+use Rattle.dealt_streams.specs.Parts.Part.{Unmade}
 use Rattle.collector.specs.Receiving.{HasGot}
 use Rattle.collector.proofs.OneStream.{no_cons, none_more, of_own}
 
@@ -35,14 +36,14 @@ begun_made parts k ds b u = let e : Some tales.Fate.Begun ≡ Some tales.Fate.Un
 
 module _ {S V F D T : Type 0} (view : S → View V) (told : V → DeviceTold) (fits : S → D → Type 0) (values : T → Values) (P : Values → StateMeaning F) (parts : List (Part V F)) (progress : Progress V) (r : ReceiverSeen) (tale : Tale) where
   -- what is kept of a stream by its number
-  pub kept_at : (k : ℕ) (xs : List (Leftover V)) (gs : List (Gone S V F)) → AreKept view told fits values P parts progress r tale xs gs → IsAmong k (map number_of gs) → (x : Leftover V) × (g : Gone S V F) × IsKept view told fits values P parts progress r tale x g × (number_of g ≡ k)
+  pub kept_at : (k : ℕ) (xs : List (Leftover V)) (gs : List (Gone S V F)) → AreKept view told P parts progress r tale xs gs → IsAmong k (map number_of gs) → (x : Leftover V) × (g : Gone S V F) × IsKept view told P parts progress r tale x g × (number_of g ≡ k)
   kept_at k [] [] kept m = absurd (among_nil m)
   kept_at k [] (g ∷ gs) kept m = absurd kept
   kept_at k (x ∷ xs) [] kept m = absurd kept
   kept_at k (x ∷ xs) (g ∷ gs) kept m = ⊎_elim (λ e. (x, g, kept.0, sym e)) (λ n. kept_at k xs gs kept.1 n) (among_cons m)
 
   -- the stream of a message that was queued hasn't ended
-  not_kept : (m : Msg) (now : ReceiverSeen) (h : HasGot r m now) (x : Leftover V) (g : Gone S V F) → IsKept view told fits values P parts progress r tale x g → number_of g ≡ m.stream → at (map fate_of parts) m.stream ≡ Some tales.Fate.Begun → ⊥
+  not_kept : (m : Msg) (now : ReceiverSeen) (h : HasGot r m now) (x : Leftover V) (g : Gone S V F) → IsKept view told P parts progress r tale x g → number_of g ≡ m.stream → at (map fate_of parts) m.stream ≡ Some tales.Fate.Begun → ⊥
   not_kept m now h x (Came n ds w e) kept is begun =
       let whole = h.sees.0.joined w.stream e.sender.sent kept.closed in
       let none = none_more (of_stream w.stream r.got) (of_stream w.stream (m ∷ h.rest)) (whole ∙ sym kept.got) in

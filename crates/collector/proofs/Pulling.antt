@@ -35,8 +35,9 @@ use Rattle.scope_tree.specs.declared.leases.Lease.{Lease}
 use Rattle.scope_tree.specs.declared.tree.Tree.{Tree}
 use Rattle.stream_jobs.specs.declared.job.Job.{Job}
 use Rattle.collector.specs.declared.collector.Collector.{Collector}
-use Rattle.collector.specs.Collecting.{EndsRead, IsCollectingWith}
-use Rattle.collector.specs.Parts.{fate_of}
+use Rattle.dealt_streams.specs.Tables.{EndsRead}
+use Rattle.collector.specs.Collecting.{IsCollectingWith}
+use Rattle.dealt_streams.specs.Parts.{fate_of}
 use Rattle.collector.specs.Starting.{ClosesOuter}
 use Rattle.collector.proofs.Lists.{map_length}
 use Rattle.collector.proofs.Steps.{all_read, close_step, tables_kept}

@@ -13,7 +13,7 @@ use Rattle.row_seat.specs.declared.view.View.{View}
 use Rattle.stream_jobs.specs.declared.job.Job.{Job}
 use Rattle.stream_jobs.specs.Running.{Origin}
 use Rattle.collector.specs.Collecting.{AreJobs, IsJobOf}
-use Rattle.collector.specs.Parts.{Part}
+use Rattle.dealt_streams.specs.Parts.{Part}
 
 -- the elements of two lists stand also in the two the other way round
 pub among_swapped : {A : Type 0} (x : A) (xs ys : List A) → IsAmong x (xs ++ ys) → IsAmong x (ys ++ xs)

@@ -40,10 +40,11 @@ use Rattle.scope_tree.specs.declared.leases.Lease.{Lease}
 use Rattle.scope_tree.specs.declared.tree.Tree.{Tree}
 use Rattle.stream_jobs.specs.declared.job.Job.{Job}
 use Rattle.collector.specs.declared.collector.Collector.{Collector}
-use Rattle.collector.specs.declared.collector.Leftover.{Leftover}
-use Rattle.collector.specs.Collecting.{EndsRead, HasTables, IsCollectingWith, KeepsStreams, KeepsTale, KeepsTree, bare_work, guest_of, waiting_of}
-use Rattle.collector.specs.Parts.{AreDealt, Deals, MakesUnmade, Part, fate_of}
-use Rattle.collector.specs.Parts.Part.{Skipped, Unmade}
+use Rattle.dealt_streams.specs.declared.leftover.Leftover.{Leftover}
+use Rattle.dealt_streams.specs.Tables.{EndsRead, HasTables, bare_work}
+use Rattle.collector.specs.Collecting.{IsCollectingWith, KeepsStreams, KeepsTale, KeepsTree, guest_of, waiting_of}
+use Rattle.dealt_streams.specs.Parts.{AreDealt, Deals, MakesUnmade, Part, fate_of}
+use Rattle.dealt_streams.specs.Parts.Part.{Skipped, Unmade}
 use Rattle.collector.specs.Starting.{ClosesOuter, MaySkip, PassesOver}
 use Rattle.collector.proofs.Lists.{map_length, map_snoc, snoc_length}
 use Rattle.collector.proofs.Streams.{jobs_number, streams_missed, streams_skipped, streams_stay}

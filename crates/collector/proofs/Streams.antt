@@ -34,11 +34,12 @@ use Rattle.stream_jobs.specs.Jobs.{FitsJob, IsAt, IsJob, seen_job}
 use Rattle.stream_jobs.specs.Running.{Origin}
 use Rattle.stream_jobs.proofs.Others.{others_leave}
 use Rattle.tree_families.specs.Families.{Split}
-use Rattle.collector.specs.declared.collector.Leftover.{Leftover}
-use Rattle.collector.specs.Collecting.{AreJobs, AreKept, Gone, IsJobOf, IsKept, KeepsStreams, guest_of, number_of}
-use Rattle.collector.specs.Collecting.Gone.{Came as Back, Missed}
-use Rattle.collector.specs.Parts.{Part}
-use Rattle.collector.specs.Parts.Part.{Unmade}
+use Rattle.dealt_streams.specs.declared.leftover.Leftover.{Leftover}
+use Rattle.dealt_streams.specs.Kept.{AreKept, Gone, IsKept, number_of}
+use Rattle.collector.specs.Collecting.{AreJobs, IsJobOf, KeepsStreams, guest_of}
+use Rattle.dealt_streams.specs.Kept.Gone.{Came as Back, Missed}
+use Rattle.dealt_streams.specs.Parts.{Part}
+use Rattle.dealt_streams.specs.Parts.Part.{Unmade}
 use Rattle.collector.proofs.Lists.{at_last, map_snoc}
 
 -- the tale with other causes and ends
@@ -83,7 +84,7 @@ module _ {S V F D T : Type 0} (view : S → View V) (told : V → DeviceTold) (f
 
   -- what was left is kept
   pub kept_stays : (parts more : List (Part V F)) (q u : Progress V) (r s : ReceiverSeen) (t v : Tale) → ((k : ℕ) (x : Part V F) → at parts k ≡ Some x → at more k ≡ Some x) → u.back ≡ q.back → s.got ≡ r.got → s.closed ≡ r.closed → ((k : ℕ) (h : How) → Came t k h → Came v k h)
-      → (xs : List (Leftover V)) (gs : List (Gone S V F)) → AreKept view told fits values P parts q r t xs gs → AreKept view told fits values P more u s v xs gs
+      → (xs : List (Leftover V)) (gs : List (Gone S V F)) → AreKept view told P parts q r t xs gs → AreKept view told P more u s v xs gs
   kept_stays parts more q u r s t v grow back got closed came [] [] h = tt
   kept_stays parts more q u r s t v grow back got closed came [] (g ∷ gs) h = h
   kept_stays parts more q u r s t v grow back got closed came (x ∷ xs) [] h = h
@@ -105,8 +106,8 @@ module _ {S V F D T : Type 0} (view : S → View V) (told : V → DeviceTold) (f
         kept_stays parts more q u r s t v grow back got closed came xs gs h.1,
       )
 
-  pub kept_snoc : (parts : List (Part V F)) (q : Progress V) (r : ReceiverSeen) (t : Tale) (xs : List (Leftover V)) (gs : List (Gone S V F)) (x : Leftover V) (g : Gone S V F) → AreKept view told fits values P parts q r t xs gs → IsKept view told fits values P parts q r t x g
-      → AreKept view told fits values P parts q r t (xs ++ x ∷ []) (gs ++ g ∷ [])
+  pub kept_snoc : (parts : List (Part V F)) (q : Progress V) (r : ReceiverSeen) (t : Tale) (xs : List (Leftover V)) (gs : List (Gone S V F)) (x : Leftover V) (g : Gone S V F) → AreKept view told P parts q r t xs gs → IsKept view told P parts q r t x g
+      → AreKept view told P parts q r t (xs ++ x ∷ []) (gs ++ g ∷ [])
   kept_snoc parts q r t [] [] x g h i = (i, tt)
   kept_snoc parts q r t [] (y ∷ gs) x g h i = absurd h
   kept_snoc parts q r t (y ∷ xs) [] x g h i = absurd h

@@ -25,7 +25,8 @@ use Rattle.join_tale.specs.Keeping.{IsOuterStopped}
 use Rattle.join_tale.proofs.Growing.{marked_caused, marked_known}
 use Rattle.join_tale.proofs.Steps as steps
 use Rattle.pipeline_desc.specs.Meant.{PlanMeant}
-use Rattle.collector.specs.Collecting.{KeepsTale, WritesTale, bare_work}
+use Rattle.dealt_streams.specs.Tables.{bare_work}
+use Rattle.collector.specs.Collecting.{KeepsTale, WritesTale}
 
 -- nothing was learned
 pub learns_none : (s : Stops) → Learns s s [] []

@@ -28,7 +28,7 @@ use Rattle.scope_tree.specs.declared.leases.Lease.{Lease}
 use Rattle.scope_tree.proofs.Lists.{away_le}
 use Rattle.stream_parts.proofs.PartsMade.{row_behind}
 use Rattle.collector.specs.Collecting.{KeepsTree, events_from, waiting_of}
-use Rattle.collector.specs.Parts.{AreTableRows, Part}
+use Rattle.dealt_streams.specs.Parts.{AreTableRows, Part}
 use Rattle.collector.specs.Starting.{ClosesOuter, PassesOver}
 use Rattle.res_ledger.proofs.Permuted.{distinct_within}
 use Rattle.collector.proofs.Lists.{acquired_within, drop_at, map_length, map_snoc, run_length, run_there, snoc_length, there_is}

@@ -36,9 +36,9 @@ use Rattle.stream_jobs.specs.Jobs.{FitsJob, IsJob, IsSameJob, seen_job}
 use Rattle.stream_jobs.proofs.Others.{others_leave}
 use Rattle.stream_jobs.specs.Running.{Origin}
 use Rattle.collector.specs.declared.collector.Collector.{Collector}
-use Rattle.collector.specs.declared.collector.Leftover.{Leftover}
+use Rattle.dealt_streams.specs.declared.leftover.Leftover.{Leftover}
 use Rattle.collector.specs.Collecting.{AreJobs, IsCollectingWith, IsJobOf, KeepsStreams, guest_of}
-use Rattle.collector.specs.Parts.{Part}
+use Rattle.dealt_streams.specs.Parts.{Part}
 use Rattle.collector.specs.Receiving.{TakesOut}
 use Rattle.chunk_core.proofs.Each.{among_each}
 use Rattle.res_ledger.proofs.Mapped.{among_map}

@@ -10,7 +10,7 @@ use Rattle.chunk_core.specs.Elements.{elements, rendering_of}
 use Rattle.chunk_core.specs.Lists.{IsAmong}
 use Rattle.chunk_core.specs.Outcomes.{exit_of}
 use Rattle.chunk_core.specs.Tables.{Values}
-use Rattle.chunk_core.specs.Texts.{Frame, frame_text, frames_text}
+use Rattle.chunk_core.specs.Texts.{IsRestOf, frames_text}
 use Rattle.chunk_core.specs.declared.code.How.{How}
 use Rattle.chunk_core.specs.declared.code.How.TheVariants as how
 use Rattle.device_port.specs.Device.{DeviceTold}
@@ -58,13 +58,12 @@ use Rattle.stream_jobs.specs.Jobs.{EndsJob, FitsJob, IsAt, IsJob, seen_job}
 use Rattle.stream_jobs.specs.Running.{Origin}
 use Rattle.tree_families.specs.Families.{Split}
 use Rattle.collector.specs.declared.collector.Collector.{Collector}
-use Rattle.collector.specs.declared.collector.Leftover.{Leftover}
-use Rattle.collector.specs.Parts.{AreDealt, AreTableRows, Part, fate_of}
-use Rattle.collector.specs.Parts.Part.{Begun, Unmade}
-
--- a message as the tale has it: a load by its rendering
-abbrev pub told_message : Msg → Message
-told_message m = record { stream = m.stream; body = elim m.body [ body.Load l ↦ tales.Body.Load (rendering_of (elements l)) | body.End h ↦ tales.Body.End h ] }
+use Rattle.dealt_streams.specs.declared.leftover.Leftover.{Leftover}
+use Rattle.dealt_streams.specs.Parts.{AreDealt, AreTableRows, Part, fate_of}
+use Rattle.dealt_streams.specs.Parts.Part.{Begun, Unmade}
+use Rattle.dealt_streams.specs.Tables.{bare_work, EndsRead, HasTables, HaveValuesOf, IsStoppedBy}
+use Rattle.dealt_streams.specs.Kept.{told_message, Gone, number_of, AreKept}
+use Rattle.dealt_streams.specs.Kept.Gone.{Came}
 
 -- a lease that waits
 abbrev pub waiting_of : Lease → ℕ × List ℕ
@@ -95,23 +94,6 @@ module _ (p : PlanMeant) where
       pub splits : length p.streams ≤ b.seat.splits + length parts
       pub spare : owed b.seat + (length p.streams - leased) + events_from (length parts) ≤ b.seat.spare
 
--- how the outer stream may have ended that has read all tables, and leased for so many streams: it is done where these were all of them, and it doesn't fail
-abbrev pub EndsRead : PlanMeant → ℕ → How → Type 0
-EndsRead p leased how.Done = leased ≡ length p.streams
-EndsRead p leased how.Halted = Unit {0}
-EndsRead p leased (how.Fault f) = ⊥
-EndsRead p leased how.Memory = Unit {0}
-
--- A stream that is no longer open: it was begun over this node and these devices, its job came of this origin, and this is what was left of it; or there was no memory to make it, and
--- these devices were made for it, which are never opened.
-pub data Gone (S V F : Type 0) : Type 0 where
-  Came : Node → List V → Origin V F → JobEnd S V → Gone S V F
-  Missed : ℕ → List V → Gone S V F
-
-abbrev pub number_of : {S V F : Type 0} → Gone S V F → ℕ
-number_of (Came n ds w e) = w.stream
-number_of (Missed k ds) = k
-
 module _ {S V F D T : Type 0} (view : S → View V) (told : V → DeviceTold) (fits : S → D → Type 0) (values : T → Values) (P : Values → StateMeaning F) where
   -- the job of an open stream, which is of this origin, fits the desk, and is at the hub and at the board
   pub record IsJobOf (hub : HubSeen) (board : BoardSeen) (d : D) (parts : List (Part V F)) (j : Job S V F V D T) (w : Origin V F) : Type 0 where
@@ -128,29 +110,6 @@ module _ {S V F D T : Type 0} (view : S → View V) (told : V → DeviceTold) (f
   AreJobs hub board d parts (j ∷ js) (w ∷ ws) = IsJobOf hub board d parts j w × AreJobs hub board d parts js ws
   AreJobs hub board d parts _ _ = ⊥
 
-  -- what was left of a stream that was begun: its end was received, with all that was sent, its tree is among those that came back, and its devices were kept
-  pub record HasComeBack (parts : List (Part V F)) (progress : Progress V) (receiver : ReceiverSeen) (tale : Tale) (x : Leftover V) (n : Node) (ds : List V) (w : Origin V F) (e : JobEnd S V) : Type 0 where
-    pub begun : at parts w.stream ≡ Some (Begun n ds w)
-    pub ends : EndsJob view told P w e
-    pub came : tales.Came tale w.stream e.how
-    pub got : of_stream w.stream receiver.got ≡ e.sender.sent
-    pub closed : IsAmong (w.stream, e.sender.sent) receiver.closed
-    pub back : Seen V
-    pub taken_in : IsAmong back progress.back
-    pub seat_is : view e.seat ≡ back.seat
-    pub shelf_is : x.shelf ≡ e.shelf
-    pub unopened_is : x.unopened ≡ e.unopened
-
-  -- what is kept of a stream that is no longer open
-  abbrev pub IsKept : List (Part V F) → Progress V → ReceiverSeen → Tale → Leftover V → Gone S V F → Type 0
-  IsKept parts progress receiver tale x (Came n ds w e) = HasComeBack parts progress receiver tale x n ds w e
-  IsKept parts progress receiver tale x (Missed k ds) = (at parts k ≡ Some (Unmade ds)) × (x.shelf ≡ []) × (x.unopened ≡ ds)
-
-  abbrev pub AreKept : List (Part V F) → Progress V → ReceiverSeen → Tale → List (Leftover V) → List (Gone S V F) → Type 0
-  AreKept parts progress receiver tale [] [] = Unit {0}
-  AreKept parts progress receiver tale (x ∷ xs) (g ∷ gs) = IsKept parts progress receiver tale x g × AreKept parts progress receiver tale xs gs
-  AreKept parts progress receiver tale _ _ = ⊥
-
   -- The open streams, whose seats are out, and what is kept of those that are open no longer. What came through the channel is what the tale tells, and a stream that was begun has or had a sender.
   pub record KeepsStreams (hub : HubSeen) (board : BoardSeen) (d : D) (b : Seen V) (jobs : List (Job S V F V D T)) (left : List (Leftover V)) (receiver : ReceiverSeen) (parts : List (Part V F)) (progress : Progress V) (tale : Tale) : Type 0 where
     pub origins : List (Origin V F)
@@ -159,7 +118,7 @@ module _ {S V F D T : Type 0} (view : S → View V) (told : V → DeviceTold) (f
     pub opens : (k : ℕ) → IsAmong k (map (λ w. w.stream) origins) ↔ IsOpen tale k
     pub begun : (k : ℕ) → tales.IsBegun tale k ↔ ((m : Split) × IsAmong m progress.splits × (m.stream ≡ k))
     pub gone : List (Gone S V F)
-    pub kept : AreKept parts progress receiver tale left gone
+    pub kept : AreKept view told P parts progress receiver tale left gone
     pub apart : IsDistinct nat_eq (map number_of gone)
     pub numbers : (k : ℕ) → IsAmong k (map number_of gone) ↔ (HasCome tale k ⊎ (at tale.fates k ≡ Some tales.Fate.Unmade))
     pub given : (y : Seen V) → IsAmong y progress.back → (z : ℕ × V) → IsAmong z y.seat.given → IsAmong z b.seat.given
@@ -168,15 +127,6 @@ module _ {S V F D T : Type 0} (view : S → View V) (told : V → DeviceTold) (f
     pub got : map told_message receiver.got ≡ tale.front ++ tale.late
     pub made : (k : ℕ) → IsAmong k receiver.made ↔ tales.IsBegun tale k
     pub closed : (k : ℕ) (sent : List Msg) → IsAmong (k, sent) receiver.closed → HasCome tale k
-
--- the work of a plan, of which it isn't said what its streams give
-abbrev pub bare_work : PlanMeant → Work
-bare_work p = bare (Some (opener_of p)) (map stream_of p.streams)
-
--- a proper front of the text of the frame that was begun, where a write failed, and else nothing
-abbrev pub IsRestOf : Option Frame → List ℕ → Type 0
-IsRestOf None rest = rest ≡ []
-IsRestOf (Some f) rest = (more : List ℕ) × (0 < length more) × (rest ++ more ≡ frame_text f.stream f.payload)
 
 -- the frames of a tale were written to the sink, and where a write failed a proper front of the one that was begun
 pub record WritesTale (old new : SinkTold) (tale : Tale) : Type 0 where
@@ -196,30 +146,6 @@ pub record KeepsTale (p : PlanMeant) (outer : Option How) (report : Report) (sto
   pub seats : (view_of stops).out ≡ out
   pub contexts : stops.board.contexts ≡ length p.streams + 1
   pub wrote : WritesTale old new tale
-
-module _ {V : Type 0} (told : V → DeviceTold) (p : PlanMeant) where
-  -- Since the depot stood as old the plan's tables were tried, and came out so; the main tree, which stands as b now, noted the Acquire of each that was opened, whose device is in its row, open or left.
-  pub record HasTables (old mid : DepotTold) (o : Option NotRead) (b : Seen V) (progress : Progress V) : Type 0 where
-    pub devices : List V
-    pub back : List DeviceTold
-    pub contents : List (List ℕ)
-    pub out : ComeOut told old.files (length old.made) (map (λ t. t.path) p.tables) devices back contents o
-    pub made : MakesDevices old mid (take (length devices + length back) (map (λ t. t.path) p.tables)) back
-    pub unknown : AllByRecursion (λ d. IsUnknown (told d).number old.retired) devices
-    pub noted : (i : ℕ) → i < length devices → Notes b.seat.events Outer (Acquire i 0)
-    pub pays : (i : ℕ) (d : V) → at devices i ≡ Some d → IsAmong (i, d) b.seat.opened ⊎ IsAmong (i, d) b.seat.left
-    pub tables : progress.tables ≡ acquires 0 (length devices)
-
-  -- the tables have these values
-  abbrev pub HaveValuesOf : List (List ℕ) → Values → Type 0
-  HaveValuesOf contents t = (k : ℕ) (key : List ℕ) → t k key ≡ values_in contents k key
-
-  -- why the outer stream ended so before it gave a stream, of whose tables so many were tried, which came out so: no frame was wanted and nothing was tried, a table failed, or memory was wanting
-  abbrev pub IsStoppedBy : Option NotRead → ℕ → Bool → How → Type 0
-  IsStoppedBy o tried memory how.Halted = (p.take ≡ Some 0) × (tried ≡ 0)
-  IsStoppedBy o tried memory (how.Fault f) = o ≡ Some (why.Fault f)
-  IsStoppedBy o tried memory how.Memory = memory ≡ true
-  IsStoppedBy o tried memory how.Done = ⊥
 
 module _ {S V F D T : Type 0} (view : S → View V) (told : V → DeviceTold) (fits : S → D → Type 0) (values : T → Values) (P : Values → StateMeaning F) (p : PlanMeant) where
   -- there is room for two leases, for as many jobs as streams may be open, and for what is kept of each stream

@@ -1,4 +1,3 @@
-pub mod Parts
 pub mod Collecting
 pub mod Starting
 pub mod Filled

@@ -16,7 +16,8 @@ ghost use Rattle.collector.specs.Starting.{ClosesOuter, IsRoomFor, PassesOver};
 
 use crate::filled::Filled;
 use channel_bounded::{Hub, Receiver};
-use chunk_core::{How, List};
+use chunk_core::How;
+use dealt_streams::Leftover;
 use device_port::Device;
 use join_report::{Report, Stops};
 use join_tree::{cancel_waiting, close_outer};
@@ -24,18 +25,10 @@ use pipeline_desc::Plan;
 use pull_nodes::PipeState;
 use pull_stepper::Held;
 use row_seat::RowSeat;
-use scope_tree::{Lease, Spent, Tree};
+use scope_tree::{Lease, Tree};
 use std::alloc::{AllocError, Global};
 use std::collections::VecDeque;
 use stream_jobs::Job;
-
-/// The devices of a stream that has ended or that couldn't be begun: those that were acquired, on the
-/// shelf of its tree with the rows of tables that it was the last to leave, and those never opened.
-#[derive(Drop)]
-pub struct Leftover<V> {
-    pub shelf: List<Spent<Held<V>>>,
-    pub unopened: List<V>,
-}
 
 /// The leases that wait, and the jobs of the open streams.
 pub(crate) struct Queues<S: RowSeat, V, F: PipeState> {

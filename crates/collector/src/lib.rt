@@ -20,8 +20,8 @@
 //!
 //! ```
 //! let mut collector = Collector::new(begin(seat, scopes), streams);
-//! collector.run(rt, alloc, &mut table, plan, depot, out, gate);
-//! end_run(collector, &mut table, plan, depot)
+//! collector.run(rt, alloc, desk, plan, depot, out, gate);
+//! end_run(collector, desk, depot)
 //! ```
 //!
 //! And at its end:
@@ -52,5 +52,6 @@ mod receive;
 mod rounds;
 mod start;
 
-pub use collector::{Collector, Ended, JoinRoom, Leftover};
+pub use collector::{Collector, Ended, JoinRoom};
+pub use dealt_streams::Leftover;
 pub use filled::Filled;

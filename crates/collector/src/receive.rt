@@ -28,9 +28,10 @@ ghost use Rattle.tree_families.specs.Families.{Split};
 ghost use Rattle.collector.specs.Collecting.{IsCollecting, IsCollectingWith, guest_of};
 ghost use Rattle.collector.specs.Receiving.{EndsWith, GoesBehind, HasGot, StopsOne, StopsThose, TakesOut};
 
-use crate::collector::{Collector, Leftover};
+use crate::collector::Collector;
 use channel_bounded::{Body, Msg};
 use chunk_core::{How, Load};
+use dealt_streams::Leftover;
 use device_port::{Device, Gate, Sink};
 use interrupt_ctx::Why;
 use join_report::Stops;

@@ -14,13 +14,14 @@ ghost use Rattle.row_seat.specs.Views.{OthersFit};
 ghost use Rattle.stream_parts.specs.Parts.{MakesNoParts, MakesParts};
 ghost use Rattle.tree_laws.specs.Visits.{IsNewGuest};
 ghost use Rattle.collector.specs.Collecting.{IsCollecting, IsCollectingWith};
-ghost use Rattle.collector.specs.Parts.{MakesUnmade};
+ghost use Rattle.dealt_streams.specs.Parts.{MakesUnmade};
 ghost use Rattle.collector.specs.Starting.{HasRoomAsGuest, IsAhead, MakesJob, MayBegin, with_seats_out};
 ghost use Rattle.scope_tree.specs.Visible.{lessee, rows_covered};
 
-use crate::collector::{Collector, Leftover};
+use crate::collector::Collector;
 use chunk_core::List;
 use csv_pipes::Dicts;
+use dealt_streams::Leftover;
 use device_port::{Depot, Device};
 use interrupt_ctx::Why;
 use join_tree::split_off;

@@ -10,10 +10,10 @@ use Rattle.command_words.specs.declared.asked.Asked.TheVariants.{Cat, Run}
 use Rattle.pipeline_desc.specs.Meant.{PlanMeant}
 use Rattle.pipeline_desc.specs.Plans.{plan_of}
 use Rattle.pipeline_desc.specs.declared.refusal.Refusal.{Refusal}
-use Rattle.par_join.specs.Cat.{cat_work, FramesAreWithin, RunsCat}
+use Rattle.cat_run.specs.Cat.{cat_work, FramesAreWithin, RunsCat}
 use Rattle.plan_work.specs.Plans.{run_work}
 use Rattle.par_join.specs.Plans.{RunsPlan}
-use Rattle.par_join.specs.declared.outcome.Outcome.{Outcome}
+use Rattle.cat_run.specs.declared.outcome.Outcome.{Outcome}
 use Rattle.flume_cli.specs.declared.status.Status.{Status}
 use Rattle.flume_cli.specs.declared.status.Status.TheVariants as status
 use Rattle.flume_cli.specs.declared.report.Report.{Report}

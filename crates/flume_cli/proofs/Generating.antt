@@ -18,8 +18,8 @@ use Rattle.run_rules.specs.Facts.{has_event, is_failed, is_fault, is_memory}
 use Rattle.run_rules.specs.Run.{IsUnmade, Ran}
 use Rattle.plan_work.specs.Plans.{run_work}
 use Rattle.par_join.specs.Plans.{RunsPlan}
-use Rattle.par_join.specs.declared.outcome.Outcome.{Outcome}
-use Rattle.par_join.proofs.Unmade.{performs_nothing}
+use Rattle.cat_run.specs.declared.outcome.Outcome.{Outcome}
+use Rattle.cat_run.proofs.Unmade.{performs_nothing}
 use Rattle.gen_case.specs.Plan.{plan_of}
 use Rattle.gen_case.specs.Runs.{depot_of}
 use Rattle.gen_case.specs.Sure.{are_unfailed}

@@ -15,8 +15,8 @@ use Rattle.run_rules.specs.Facts.{is_fault, is_memory, is_failed, has_event}
 use Rattle.run_rules.specs.Run.{Performs, Ran, IsUnmade}
 use Rattle.run_rules.specs.Texts.{tail_text}
 use Rattle.run_rules.specs.Work.{Work}
-use Rattle.par_join.specs.Cat.{run_record_of, and_one}
-use Rattle.par_join.specs.declared.outcome.Outcome.{Outcome}
+use Rattle.cat_run.specs.Cat.{run_record_of, and_one}
+use Rattle.cat_run.specs.declared.outcome.Outcome.{Outcome}
 use Rattle.flume_cli.specs.declared.status.Status.{Status}
 use Rattle.flume_cli.specs.declared.status.Status.TheVariants as status
 use Rattle.flume_cli.specs.declared.report.Report.{Report}

@@ -9,7 +9,7 @@ use Rattle.run_rules.specs.Texts.{tail_text}
 use Rattle.flume_cli.specs.declared.status.Status.{Status}
 use Rattle.flume_cli.specs.declared.status.Status.TheVariants as status
 use Rattle.flume_cli.specs.declared.report.Report.{Report}
-use Rattle.par_join.specs.declared.outcome.Outcome.{Outcome}
+use Rattle.cat_run.specs.declared.outcome.Outcome.{Outcome}
 use Rattle.flume_cli.specs.Status.{line_of}
 use Rattle.flume_cli.specs.Headline.{IsToldLine}
 

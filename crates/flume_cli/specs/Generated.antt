@@ -10,7 +10,7 @@ use Rattle.run_rules.specs.declared.end.EndOf.{EndOf}
 use Rattle.run_rules.specs.Facts.{is_fault, is_failed, has_event}
 use Rattle.run_rules.specs.Run.{Performs}
 use Rattle.run_rules.specs.Work.{RunRecord}
-use Rattle.par_join.specs.declared.outcome.Outcome.{Outcome}
+use Rattle.cat_run.specs.declared.outcome.Outcome.{Outcome}
 use Rattle.plan_work.specs.Plans.{run_work}
 use Rattle.gen_case.specs.Ideal.{AreIdeal, ideal_bytes, ideal_digits}
 use Rattle.gen_case.specs.Plan.{plan_of}

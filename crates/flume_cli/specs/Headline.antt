@@ -17,7 +17,7 @@ use Rattle.run_rules.specs.Texts.{tail_text}
 use Rattle.pipeline_desc.specs.Meant.{PlanMeant}
 use Rattle.pipeline_desc.specs.Plans.{plan_of}
 use Rattle.pipeline_desc.specs.Reading.{Reading}
-use Rattle.par_join.specs.Cat.{cat_work, FramesAreWithin}
+use Rattle.cat_run.specs.Cat.{cat_work, FramesAreWithin}
 use Rattle.plan_work.specs.Plans.{run_work}
 use Rattle.flume_cli.specs.Input.{IsInput, TakesSome}
 use Rattle.flume_cli.specs.declared.status.Status.{Status}

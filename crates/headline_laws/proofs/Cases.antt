@@ -12,7 +12,7 @@ use Rattle.command_words.specs.Words.{command_of}
 use Rattle.command_words.specs.declared.asked.Asked.TheVariants.{Gen}
 use Rattle.pipeline_desc.specs.declared.refusal.Refusal.{Refusal}
 use Rattle.plan_work.specs.Plans.{run_work}
-use Rattle.par_join.proofs.Unmade.{performs_nothing}
+use Rattle.cat_run.proofs.Unmade.{performs_nothing}
 use Rattle.gen_case.specs.Plan.{plan_of}
 use Rattle.gen_case.specs.Runs.{depot_of}
 use Rattle.gen_case.specs.declared.case.Case.{Case}

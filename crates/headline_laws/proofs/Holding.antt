@@ -20,7 +20,7 @@ use Rattle.res_ledger.specs.declared.event.What.TheVariants.{Cancel}
 use Rattle.res_ledger.specs.Order.{is_ordered}
 use Rattle.res_ledger.proofs.Judged.{legal_sound, complete_sound}
 use Rattle.res_ledger.proofs.Ordering.{ordered_sound}
-use Rattle.device_port.specs.Device.{DeviceTold}
+use Rattle.device_port.specs.Device.{DeviceTold, to_read}
 use Rattle.device_port.specs.Depot.{HaveOwnNumbers}
 use Rattle.run_rules.specs.Devices.{AreAsMany, is_closed_with}
 use Rattle.run_rules.specs.Facts.{ended_row, failed_row}
@@ -37,7 +37,7 @@ use Rattle.res_ledger.specs.declared.event.StreamNo.TheVariants.{Inner}
 use Rattle.res_ledger.proofs.Judged.{each_event}
 use Rattle.res_ledger.proofs.Stamps.{stamped_sound}
 use Rattle.device_port.specs.declared.device.Mode.TheVariants as mode
-use Rattle.par_join.specs.Cat.{cat_work, to_read}
+use Rattle.cat_run.specs.Cat.{cat_work}
 use Rattle.flume_cli.specs.Headline.{Headline}
 use Rattle.headline_laws.specs.Calls.{a, closed_device, depot_after, depot_before, end_of_0, one_row_ledger}
 use Rattle.headline_laws.specs.Worked.{words_not_read, missing_device, whole_file, empty_file, missing_file, read_fault, failed_close, failed_write}

@@ -28,7 +28,7 @@ use Rattle.pipeline_desc.specs.declared.refusal.Refusal.{Refusal}
 use Rattle.flume_cli.specs.declared.status.Status.{Status}
 use Rattle.flume_cli.specs.declared.status.Status.TheVariants as status
 use Rattle.flume_cli.specs.Status.{Causes, status_done, status_of, status_number, line_of}
-use Rattle.par_join.specs.Cat.{cat_work, FileRuns}
+use Rattle.cat_run.specs.Cat.{cat_work, FileRuns}
 use Rattle.flume_cli.specs.Headline.{Call, Headline, SaysTail, TellsWork, run_of_call}
 use Rattle.headline_laws.specs.Calls.{a}
 use Rattle.headline_laws.proofs.Asked.{work_of}

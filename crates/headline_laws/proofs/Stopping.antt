@@ -18,12 +18,12 @@ use Rattle.pull_nodes.specs.Runs.{FirstBytes, OpensThen, OrLeft, Reads}
 use Rattle.run_rules.specs.Outputs.{AreOutputs, IsCutFrame, IsRest}
 use Rattle.run_rules.specs.Run.{Ran}
 use Rattle.run_rules.specs.Texts.{tail_text}
-use Rattle.par_join.specs.Cat.{FileRuns, cat_work}
+use Rattle.cat_run.specs.Cat.{FileRuns, cat_work}
 use Rattle.flume_cli.specs.Status.{Causes}
 use Rattle.flume_cli.specs.declared.status.Status.TheVariants as status
 use Rattle.flume_cli.specs.Headline.{Call, Headline, SaysTail, TellsWork, run_of_call}
-use Rattle.par_join.proofs.CatRuns.{file_bytes}
-use Rattle.par_join.proofs.Pieces.{bytes_length}
+use Rattle.cat_run.proofs.CatRuns.{file_bytes}
+use Rattle.cat_run.proofs.Pieces.{bytes_length}
 use Rattle.headline_laws.specs.Calls.{a}
 use Rattle.headline_laws.specs.Surplus.{halted_by_the_tail, halted_for_memory, idle_devices, invented_scopes, larger_frame, made_without_words, memory_at_the_end, opened_again, writes_on}
 use Rattle.headline_laws.proofs.Asked.{frames_of, idle_of, work_of}

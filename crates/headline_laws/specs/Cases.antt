@@ -8,13 +8,13 @@ use Rattle.res_ledger.specs.declared.event.StreamNo.TheVariants.{Inner, Outer}
 use Rattle.res_ledger.specs.declared.event.What.TheVariants.{Acquire, Lease, Cancel, Close, Final}
 use Rattle.res_ledger.specs.declared.event.Event.{Event}
 use Rattle.device_port.specs.Sink.{SinkTold}
+use Rattle.device_port.specs.Device.{to_read}
 use Rattle.run_rules.specs.declared.end.EndOf.{EndOf}
 use Rattle.flume_cli.specs.declared.status.Status.{Status}
 use Rattle.flume_cli.specs.declared.status.Status.TheVariants as status
 use Rattle.flume_cli.specs.Headline.{Call}
 use Rattle.headline_laws.specs.Calls.{a, depot_before, end_of_0, event, no_input, output_of}
 use Rattle.headline_laws.specs.Described.{source_of}
-use Rattle.run_rules.specs.Facts.{to_read}
 
 -- gen 0 1 3
 abbrev pub gen_words : List (List ℕ)

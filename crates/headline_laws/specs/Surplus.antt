@@ -4,9 +4,8 @@ use Rattle.chunk_core.specs.declared.code.Exit.TheVariants.{Succeeded, Canceled}
 use Rattle.chunk_core.specs.declared.code.How.TheVariants as how
 use Rattle.res_ledger.specs.declared.event.StreamNo.TheVariants.{Inner}
 use Rattle.res_ledger.specs.declared.event.What.TheVariants.{Open, Acquire, Close, Final}
-use Rattle.device_port.specs.Device.{Place, DeviceTold}
+use Rattle.device_port.specs.Device.{Place, DeviceTold, to_read, to_write}
 use Rattle.device_port.specs.Sink.{SinkTold}
-use Rattle.run_rules.specs.Facts.{to_read, to_write}
 use Rattle.flume_cli.specs.declared.status.Status.TheVariants as status
 use Rattle.flume_cli.specs.Headline.{Call}
 use Rattle.headline_laws.specs.Calls.{a, event, file, closed_device, depot_after, depot_before, output_of, one_row_ledger, cat_call, file_call}

@@ -6,9 +6,8 @@ use Rattle.chunk_core.specs.declared.code.Exit.TheVariants.{Succeeded, Errored, 
 use Rattle.chunk_core.specs.declared.code.How.TheVariants as how
 use Rattle.res_ledger.specs.declared.event.StreamNo.TheVariants.{Inner}
 use Rattle.res_ledger.specs.declared.event.What.TheVariants.{Close}
-use Rattle.device_port.specs.Device.{DeviceTold}
+use Rattle.device_port.specs.Device.{DeviceTold, to_read}
 use Rattle.flume_cli.specs.declared.status.Status.TheVariants as status
-use Rattle.par_join.specs.Cat.{to_read}
 use Rattle.flume_cli.specs.Headline.{Call}
 use Rattle.headline_laws.specs.Calls.{a, event, closed_device, depot_before, output_of, one_row_ledger, cat_call, file_call}
 

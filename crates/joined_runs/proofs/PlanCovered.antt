@@ -6,7 +6,7 @@ use Rattle.chunk_core.specs.Elements.{Element, rendering_of}
 use Rattle.chunk_core.specs.Outcomes.{End, Done, Fault, Cut}
 use Rattle.chunk_core.specs.Tables.{Values}
 use Rattle.chunk_core.specs.declared.code.Code.{Code}
-use Rattle.device_port.specs.Device.{DeviceTold, faults_of}
+use Rattle.device_port.specs.Device.{DeviceTold, faults_of, to_read, to_write}
 use Rattle.pull_nodes.specs.Kinds.{node_kind}
 use Rattle.pull_nodes.specs.Runs.{Gives, IsIdealRun, IsIdle, IsRun, IsUnwritten, any_leeway}
 use Rattle.pull_nodes.specs.Shape.{EachPlace, EachWrite, acquired_place, used_place}
@@ -16,7 +16,7 @@ use Rattle.pull_nodes.specs.declared.node.Node.{Node}
 use Rattle.pull_nodes.specs.declared.node.Node.TheVariants.{Append', Emit, Into', Merge', OnFault', Read, Scope', Take', Through', Weak', Zip'}
 use Rattle.pipeline_desc.specs.Meant.{PlanMeant}
 use Rattle.pipeline_desc.specs.Nodes.{Boxed, IsBehind, IsBeside, IsBody, IsCore, IsJoined, IsNodeOf, IsOrText, IsStreamNode, IsWritten, load_of, path_row}
-use Rattle.pipeline_desc.specs.Places.{first_row, read_at, row_count, second_path, write_at}
+use Rattle.pipeline_desc.specs.Places.{first_row, row_count, second_path}
 use Rattle.pipeline_desc.specs.declared.join.Join.{Join}
 use Rattle.pipeline_desc.specs.declared.join.Join.TheVariants as join
 use Rattle.pipeline_desc.specs.declared.step.Step.{Step}
@@ -151,7 +151,7 @@ module _ (Q : ℕ → Type 0) where
   rows_are : (s : StreamSpec) → row_count s ≡ length (option_to_list s.to) + 1 + length (option_to_list s.second)
   rows_are s = counted s.to s.second
     where
-      counted : (o : Option (List ℕ)) (x : Option Second) → length (option_to_list (option_map write_at o) ++ read_at s.path ∷ option_to_list (option_map read_at (second_path x))) ≡ length (option_to_list o) + 1 + length (option_to_list x)
+      counted : (o : Option (List ℕ)) (x : Option Second) → length (option_to_list (option_map to_write o) ++ to_read s.path ∷ option_to_list (option_map to_read (second_path x))) ≡ length (option_to_list o) + 1 + length (option_to_list x)
       counted None None = refl
       counted None (Some second) = refl
       counted (Some to) None = refl

@@ -10,7 +10,8 @@ use Rattle.chunk_core.specs.declared.code.Code.TheVariants as code
 use Rattle.csv_pipes.specs.Dictionaries.{has_long_value, is_first_short, records_fault}
 use Rattle.pipeline_desc.specs.Meant.{PlanMeant}
 use Rattle.pipeline_desc.specs.Nodes.{Boxed, path_row}
-use Rattle.pipeline_desc.specs.Places.{first_row, read_at, row_count}
+use Rattle.device_port.specs.Device.{to_read}
+use Rattle.pipeline_desc.specs.Places.{first_row, row_count}
 use Rattle.pipeline_desc.specs.Sound.{IsSoundPlan}
 use Rattle.pipeline_desc.specs.declared.stream.StreamSpec.{StreamSpec}
 use Rattle.pipeline_desc.specs.declared.table.TableSpec.{TableSpec}
@@ -77,7 +78,7 @@ rows_same (s ∷ ss) (suc k) =
 module _ (p : PlanMeant) where
   -- the rows of a plan's stream begin where those of its work do
   pub plan_row : (k : ℕ) → first_row p k ≡ first_row_in (opener_of p) (map stream_of p.streams) k
-  plan_row k = let m = length-map p.tables (λ (t : TableSpec). read_at t.path) in let i = rows_same p.streams k in omega (arith, m, i)
+  plan_row k = let m = length-map p.tables (λ (t : TableSpec). to_read t.path) in let i = rows_same p.streams k in omega (arith, m, i)
 
   module _ (limits : IsSoundPlan p) (c : RunRecord) (r : RunsTogether (opener_of p) (map stream_of p.streams) (PlanRuns p) c) where
     covered_from : (k : ℕ) (s : Stream) → at (map stream_of p.streams) k ≡ Some s → (t : StreamSpec) → slice_get p.streams k ≡ Some t → stream_of t ≡ s

@@ -6,7 +6,7 @@ use Rattle.chunk_core.specs.Lists.{IsAmong}
 use Rattle.chunk_core.specs.Lists.IsAmong.{here, there}
 use Rattle.chunk_core.specs.Outcomes.{Cut, Outcomes}
 use Rattle.chunk_core.specs.Tables.{Values}
-use Rattle.chunk_core.specs.Texts.{Frame, payloads_of}
+use Rattle.chunk_core.specs.Texts.{Frame, IsRestOf, payloads_of}
 use Rattle.chunk_core.specs.declared.code.How.{How}
 use Rattle.res_ledger.specs.declared.event.StreamNo.TheVariants.{Inner, Outer}
 use Rattle.device_port.specs.Device.{DeviceTold}
@@ -21,7 +21,7 @@ use Rattle.join_tale.specs.Tales.{Came, IsBegun, loads_of}
 use Rattle.join_tale.proofs.Endings.{come_begun, outputs_follow}
 use Rattle.join_tale.proofs.Stopping.{record_follows}
 use Rattle.plan_work.specs.Joined.{joined}
-use Rattle.joined_runs.specs.Together.{HasNotRun, HasRun, IsRestOf, RunsTogether, elements_in_pieces, first_row_in}
+use Rattle.joined_runs.specs.Together.{HasNotRun, HasRun, RunsTogether, elements_in_pieces, first_row_in}
 use Rattle.joined_runs.proofs.Covered.{AreCovered}
 use Rattle.joined_runs.proofs.MadeRows.{at_below, at_some}
 use Rattle.joined_runs.proofs.Parted.{elements_both, loads_none, map_parts, rendered}

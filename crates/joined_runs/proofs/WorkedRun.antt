@@ -20,9 +20,9 @@ use Rattle.res_ledger.specs.Streams.{by_stream}
 use Rattle.res_ledger.specs.Whole.{is_cancel}
 use Rattle.res_ledger.proofs.Ledgers.{by_in, inner_is}
 use Rattle.device_port.specs.declared.device.Mode.TheVariants as mode
-use Rattle.device_port.specs.Device.{Place}
+use Rattle.device_port.specs.Device.{Place, to_read}
 use Rattle.run_rules.specs.declared.end.EndOf.{EndOf}
-use Rattle.run_rules.specs.Facts.{at, has_left, to_read}
+use Rattle.run_rules.specs.Facts.{at, has_left}
 use Rattle.run_rules.specs.Work.{Stream}
 use Rattle.join_tale.specs.Records.{EndedSo, IsRecordOf, bare}
 use Rattle.join_tale.specs.Tales.{HasCome, IsBegun}

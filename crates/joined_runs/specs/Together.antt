@@ -1,10 +1,10 @@
 -- What a run leaves of which many streams ran side by side, as plain data.
-use Rattle.std.specs.Prelude.{◌≡◌, ◌⊎◌, ℕ, ◌+◌, ◌<◌, ◌≤◌, ◌^◌, List, [], ◌++◌, map, take, flat_map, length, Option, Some, None}
+use Rattle.std.specs.Prelude.{◌≡◌, ◌⊎◌, ℕ, ◌+◌, ◌<◌, ◌≤◌, ◌^◌, List, map, take, flat_map, length, Some}
 use Rattle.std.specs.List.{sum_by}
 use Rattle.chunk_core.specs.Elements.{Element, rendering_of}
 use Rattle.chunk_core.specs.Outcomes.{End, Outcomes}
 use Rattle.chunk_core.specs.Tables.{Values}
-use Rattle.chunk_core.specs.Texts.{Frame, frame_text}
+use Rattle.chunk_core.specs.Texts.{IsRestOf}
 use Rattle.chunk_core.specs.declared.code.How.{How}
 use Rattle.res_ledger.specs.declared.event.Event.{Event}
 use Rattle.device_port.specs.Device.{DeviceTold}
@@ -45,11 +45,6 @@ pub record HasRun (runs : Outcomes) (home : ℕ → DeviceTold) (t : Tale) (L : 
 pub record HasNotRun (home : ℕ → DeviceTold) (t : Tale) (k from : ℕ) (s : Stream) : Type 0 where
   pub unbegun : ¬ (IsBegun t k)
   pub untouched : (r : ℕ) → from ≤ r → r < from + length s.places → IsUntouched (home r)
-
--- where a write failed, the rest is a proper front of the text of the frame that was begun, and else it is nothing
-abbrev pub IsRestOf : Option Frame → List ℕ → Type 0
-IsRestOf None rest = rest ≡ []
-IsRestOf (Some f) rest = (more : List ℕ) × (0 < length more) × (rest ++ more ≡ frame_text f.stream f.payload)
 
 -- The outer stream, which reads its tables, and the streams that it gives, which run side by side, came to their ends. The devices that were made came back, the ledger is whole, and no
 -- stream's device was read beyond its limit. The record tells the tale of the collector, and each stream was begun and ran over its devices, or was never begun.

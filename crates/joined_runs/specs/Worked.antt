@@ -12,11 +12,10 @@ use Rattle.res_ledger.specs.declared.event.StreamNo.TheVariants.{Inner, Outer}
 use Rattle.res_ledger.specs.declared.event.What.{What}
 use Rattle.res_ledger.specs.declared.event.What.TheVariants.{Acquire, Cancel, Close, Final, Lease}
 use Rattle.res_ledger.specs.declared.event.Event.{Event}
-use Rattle.device_port.specs.Device.{DeviceTold}
+use Rattle.device_port.specs.Device.{DeviceTold, to_read}
 use Rattle.device_port.specs.Depot.{DepotTold, fresh}
 use Rattle.pull_nodes.specs.Runs.{OpensThen, OrLeft, Reads}
 use Rattle.run_rules.specs.declared.end.EndOf.{EndOf}
-use Rattle.run_rules.specs.Facts.{to_read}
 use Rattle.run_rules.specs.Work.{Opener, RunRecord, Stream}
 use Rattle.joined_runs.specs.Together.{RunsTogether}
 

@@ -1,12 +1,12 @@
 -- What running a plan has done once its collector has come to its end and all devices went back.
-use Rattle.std.proofs.Common.{◌≡◌, ℕ, ◌+◌, cond, List, [], ◌∷◌, ◌++◌, map, length, Option, Some, None, is_some, refl, sym, ◌∙◌, ap, subst}
+use Rattle.std.proofs.Common.{◌≡◌, ◌+◌, cond, List, [], ◌∷◌, ◌++◌, map, length, is_some, refl, sym, ◌∙◌, ap, subst}
 use Rattle.chunk_core.specs.Lists.{IsAmong}
 use Rattle.chunk_core.specs.Lists.IsAmong.{here}
 use Rattle.chunk_core.specs.Tables.{Values}
-use Rattle.chunk_core.specs.Texts.{Frame, frames_text}
+use Rattle.chunk_core.specs.Texts.{frames_text}
 use Rattle.chunk_core.proofs.Members.{among_nil}
 use Rattle.collected.proofs.Assembled.{all_may_go, together}
-use Rattle.collected.proofs.Bridged.{IsAtEnd, at_end}
+use Rattle.par_join.proofs.Bridged.{IsAtEnd, at_end}
 use Rattle.collected.specs.Collected.{IsRunOf, all_left}
 use Rattle.collector.specs.Collecting as collecting
 use Rattle.collector.specs.Collecting.{AreJobs, IsCollecting}
@@ -19,7 +19,6 @@ use Rattle.join_report.specs.Reports.{count_of}
 use Rattle.join_tale.specs.Tales.{frames_of}
 use Rattle.join_tree.specs.Settled.{Settles}
 use Rattle.joined_runs.proofs.PlansTogether.{plan_together}
-use Rattle.joined_runs.specs.Together.{IsRestOf}
 use Rattle.pipeline_desc.specs.Meant.{PlanMeant}
 use Rattle.pipeline_desc.specs.Sound.{IsSoundPlan}
 use Rattle.pull_turns.specs.Piping.{StateMeaning}
@@ -31,18 +30,13 @@ use Rattle.scope_tree.specs.Trees.{seen}
 use Rattle.stream_jobs.specs.declared.job.Job.{Job}
 use Rattle.stream_jobs.specs.Running.{Origin}
 use Rattle.stream_parts.specs.Retire.{MayReturnAll, Returns}
-use Rattle.par_join.specs.Cat.{run_record_of}
+use Rattle.cat_run.specs.Cat.{run_record_of}
 use Rattle.par_join.specs.Plans.{RunsPlan}
-use Rattle.par_join.specs.declared.outcome.Outcome.{Outcome}
+use Rattle.cat_run.specs.declared.outcome.Outcome.{Outcome}
 
 nothing_among : {A : Type 0} (xs : List A) → ((x : A) → IsAmong x xs → ⊥) → xs ≡ []
 nothing_among [] n = refl
 nothing_among (x ∷ xs) n = absurd (n x (here xs))
-
--- the rest of a frame is told alike
-rest_so : (cut : Option Frame) (rest : List ℕ) → collecting.IsRestOf cut rest → IsRestOf cut rest
-rest_so None rest e = e
-rest_so (Some f) rest e = e
 
 module _ {S V F D T : Type 0} (view : S → View V) (told : V → DeviceTold) (fits : S → D → Type 0) (values : T → Values) (P : Values → StateMeaning F) (says : (v : Values) → (P v).values ≡ v) (p : PlanMeant) (limits : IsSoundPlan p) (d0 : DepotTold) (s0 : SinkTold) (t : Values) (depot : DepotTold) (sink : SinkTold) (d : D) (c : Collector S V F V D T)
     (i : IsCollecting view told fits values P p d0 s0 t 1 depot sink d c) (none_waits : c.waiting.items ≡ []) (none_open : c.jobs.items ≡ []) where
@@ -74,7 +68,7 @@ module _ {S V F D T : Type 0} (view : S → View V) (told : V → DeviceTold) (f
         events = ledger;
         frames = refl;
         cut = refl;
-        rest = rest_so i.tale.cut i.telling.wrote.rest i.telling.wrote.cut;
+        rest = i.telling.wrote.cut;
         memory = memory ∙ i.telling.report_is.memory;
         report = c.report;
         report_is = i.telling.report_is;

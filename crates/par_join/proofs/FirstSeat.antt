@@ -1,5 +1,5 @@
 -- A collector over the room of a run is fresh.
-use Rattle.std.proofs.Common.{◌≡◌, ℕ, ◌+◌, ◌-◌, ◌^◌, ◌≤◌, List, [], ◌∷◌, length, refl, arith}
+use Rattle.std.proofs.Common.{◌≡◌, ℕ, ◌+◌, ◌-◌, ◌^◌, ◌≤◌, List, [], ◌∷◌, length, refl, sym, ap, ◌∙◌, arith}
 use Rattle.std.specs.List.{sum_by}
 use Rattle.std.proofs.lemmas.List.Sums.{sum_by-cons}
 use Rattle.collector.specs.Starting.{IsFirstSeat}
@@ -27,3 +27,7 @@ first_seat p v few e = record {
   all_events = let s = sum_ones (λ (s : StreamSpec). stream_events (length p.tables) s) p.streams in omega (arith, s);
   all_splits = omega (arith, few);
 }
+
+-- the outer stream begins at it
+pub begins_there : {P : Type 0} (p : PlanMeant) (v : View P) → v ≡ start Outer (all_rows p) (all_events p) (2 ^ 32 - 1) → (rows events : ℕ) × (1 ≤ events) × (v ≡ start Outer rows events v.splits)
+begins_there {P} p v e = (all_rows p, all_events p, omega arith, e ∙ ap (λ n. start {P = P} Outer (all_rows p) (all_events p) n) (sym (ap (λ (w : View P). w.splits) e)))

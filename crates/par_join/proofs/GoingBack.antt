@@ -9,7 +9,7 @@ use Rattle.stream_parts.specs.Retire.{MayReturnAll, Returns, devices_of}
 use Rattle.stream_parts.proofs.Exchanged.{exchanges_none, may_parts, may_permuted, may_second, returns_both}
 use Rattle.std.proofs.lemmas.List.Sorted.{IsPermutation-refl}
 use Rattle.par_join.specs.Left.{left_devices}
-use Rattle.collector.specs.declared.collector.Leftover.{Leftover}
+use Rattle.dealt_streams.specs.declared.leftover.Leftover.{Leftover}
 
 -- what came back in one order came back in another
 pub returns_permuted : (old new : DepotTold) (xs ys : List DeviceTold) → IsPermutation ys xs → Returns old new xs → Returns old new ys

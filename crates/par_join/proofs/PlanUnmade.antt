@@ -5,7 +5,7 @@ use Rattle.device_port.specs.Sink.{SinkTold}
 use Rattle.pipeline_desc.specs.Meant.{PlanMeant}
 use Rattle.plan_work.specs.Plans.{run_work}
 use Rattle.par_join.specs.Plans.{RunsPlan}
-use Rattle.par_join.proofs.Unmade.{performs_nothing, unmade_outcome, wrote_none}
+use Rattle.cat_run.proofs.Unmade.{performs_nothing, unmade_outcome, wrote_none}
 
 -- nothing was begun
 pub plan_unmade : (p : PlanMeant) (old new : DepotTold) (so sn : SinkTold) → new ≡ old → sn ≡ so → RunsPlan p old new so sn unmade_outcome

@@ -1,9 +1,3 @@
-pub mod Alone
-pub mod Printing
-pub mod Nodes
-pub mod Streams
-pub mod Cat
-pub mod Ready
 pub mod Plans
 pub mod Left
 pub mod Room

@@ -5,9 +5,9 @@ use Rattle.device_port.specs.Depot.{DepotTold}
 use Rattle.device_port.specs.Sink.{SinkTold, with_bytes}
 use Rattle.pipeline_desc.specs.Meant.{PlanMeant}
 use Rattle.run_rules.specs.Run.{Performs}
-use Rattle.par_join.specs.declared.outcome.Outcome.{Outcome}
-use Rattle.par_join.specs.Alone.{and_one}
-use Rattle.par_join.specs.Cat.{run_record_of}
+use Rattle.cat_run.specs.declared.outcome.Outcome.{Outcome}
+use Rattle.cat_run.specs.Alone.{and_one}
+use Rattle.cat_run.specs.Cat.{run_record_of}
 use Rattle.plan_work.specs.Plans.{run_work}
 
 -- the work of a plan was done, and the sink got the frames, and what was written of the one whose write failed

@@ -1,12 +1,11 @@
 -- The room of a run.
 use Rattle.std.specs.Prelude.{◌≡◌, ℕ, ◌+◌, ◌-◌, ◌*◌, ◌^◌, length}
 use Rattle.std.specs.List.{sum_by}
-use Rattle.collector.specs.Starting.{IsRoomFor}
 use Rattle.res_ledger.specs.declared.event.StreamNo.TheVariants.{Outer}
 use Rattle.pipeline_desc.specs.Meant.{PlanMeant}
 use Rattle.pipeline_desc.specs.Nodes.{stream_events}
 use Rattle.pipeline_desc.specs.Places.{first_row}
-use Rattle.row_seat.specs.PlainSeats.{shown, Sits}
+use Rattle.row_seat.specs.declared.view.View.{View}
 use Rattle.row_seat.specs.Views.{start}
 use Rattle.par_join.specs.declared.room.RunRoom.{RunRoom}
 use Rattle.scope_tree.specs.Visible.{row_room, scope_room}
@@ -19,10 +18,8 @@ all_rows p = first_row p (length p.streams)
 abbrev pub all_events : PlanMeant → ℕ
 all_events p = 2 * length p.tables + 1 + sum_by (λ s. 1 + stream_events (length p.tables) s) p.streams
 
--- a fresh seat of the outer stream at its table, with all rows and room for all events, its scope, room for the rows of the tables, and what the streams take
-pub record IsRoomOfRun {V : Type 0} (p : PlanMeant) (room : RunRoom V) : Type 0 where
-  pub seat : shown room.seat ≡ start Outer (all_rows p) (all_events p) (2 ^ 32 - 1)
-  pub sits : Sits room.seat room.table
+-- a fresh seat of the outer stream, with all rows and room for all events, its scope, and room for the rows of the tables
+pub record IsRoomOfRun {S P : Type 0} (view : S → View P) (p : PlanMeant) (room : RunRoom S P) : Type 0 where
+  pub seat : view room.seat ≡ start Outer (all_rows p) (all_events p) (2 ^ 32 - 1)
   pub scopes : scope_room room.scopes ≡ 1
   pub rows : row_room room.scopes ≡ length p.tables
-  pub streams : IsRoomFor p room.streams

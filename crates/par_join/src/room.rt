@@ -1,10 +1,9 @@
 //! The room that a run takes.
 ghost use Rattle.std.specs.Prelude.{◌≡◌, ◌+◌, ◌^◌, ◌<◌, IfOk};
 ghost use Rattle.pipeline_desc.specs.Sound.{IsSoundPlan};
+ghost use Rattle.row_seat.specs.PlainSeats.{shown, Sits};
 ghost use Rattle.par_join.specs.Room.{IsRoomOfRun, all_events, all_rows};
 
-use any_pipe::AnyPipe;
-use collector::JoinRoom;
 use device_port::Device;
 use pipeline_desc::{Plan, events, rows};
 use pull_stepper::Held;
@@ -13,32 +12,28 @@ use row_seat::{PlainSeat, PlainTable};
 use scope_tree::Room;
 use std::alloc::{AllocError, Global};
 
-/// The room that a run takes before its first event: the outer stream's seat with all rows and all
-/// events of the run, its table, room for the outer stream's tree, and what the streams take.
-pub(crate) struct RunRoom<V: Device + Drop> {
-    pub(crate) seat: PlainSeat<Held<V>>,
-    pub(crate) table: PlainTable<Held<V>>,
-    pub(crate) scopes: Room<Held<V>>,
-    pub(crate) streams: JoinRoom<PlainSeat<Held<V>>, V, AnyPipe>,
+/// The room that the outer stream takes before its first event: its seat with all rows and all
+/// events of the run, and room for its tree.
+#[derive(Drop)]
+pub(crate) struct RunRoom<S, P> {
+    pub(crate) seat: S,
+    pub(crate) scopes: Room<P>,
 }
 
-/// Makes all room for the rows, the events and the ends of a plan's streams.
+/// A plain seat of the outer stream in its room, and the table at which it sits.
+type PlainRoom<V> = (RunRoom<PlainSeat<Held<V>>, Held<V>>, PlainTable<Held<V>>);
+
+/// Makes room for the rows and the events of a plan's streams.
 pub(crate) fn make_room<V: Device + Drop>(
     alloc: Global,
     plan: &Plan,
-) -> Result<RunRoom<V>, AllocError>
+) -> Result<PlainRoom<V>, AllocError>
     requires limits { IsSoundPlan plan.now }
-    ensures { IfOk result (λ room. IsRoomOfRun plan.now room) }
+    ensures { IfOk result (λ made. IsRoomOfRun shown plan.now made.0 × Sits made.0.seat made.1) }
 {
     let scopes = Room::new(alloc, 1, plan.tables().len() as u32)?;
     let (seat, table) = PlainSeat::new(alloc, StreamNo::Outer, all_rows(plan), all_events(plan))?;
-    let streams = JoinRoom::new(alloc, plan)?;
-    Ok(RunRoom {
-        seat,
-        table,
-        scopes,
-        streams,
-    })
+    Ok((RunRoom { seat, scopes }, table))
 }
 
 /// How many rows the tables and the streams of a plan have.

@@ -1,24 +1,28 @@
 //! The streams of a plan, which an outer stream gives.
-ghost use Rattle.std.specs.Prelude.{◌≡◌, ◌-◌, ◌^◌, ◌<◌, []};
+ghost use Rattle.std.specs.Prelude.{◌≡◌, ◌-◌, ◌^◌, ◌<◌, [], List};
 ghost use Rattle.chunk_core.specs.Tables.{Values};
 ghost use Rattle.collector.specs.Collecting.{IsCollecting};
+ghost use Rattle.csv_pipes.specs.Dictionaries.{Dictionary, values_of};
 ghost use Rattle.device_port.specs.Depot.{DepotTold};
 ghost use Rattle.device_port.specs.Sink.{SinkTold};
+ghost use Rattle.pipeline_desc.specs.Meant.{PlanMeant};
 ghost use Rattle.pipeline_desc.specs.Sound.{IsSoundPlan};
 ghost use Rattle.pull_turns.specs.Piping.{standing};
 ghost use Rattle.par_join.specs.Plans.{RunsPlan};
 ghost use Rattle.par_join.specs.Room.{IsRoomOfRun};
 
 use crate::left::retire_left;
-use crate::outcome::Outcome;
 use crate::room::{RunRoom, make_room};
-use collector::{Collector, Ended};
+use any_pipe::AnyPipe;
+use cat_run::Outcome;
+use collector::{Collector, Ended, JoinRoom};
+use csv_pipes::Dicts;
 use device_port::{Depot, Gate, Sink};
 use join_tree::{begin, settle};
 use pipeline_desc::Plan;
 use pull_nodes::PipeState;
 use pull_stepper::Held;
-use row_seat::RowSeat;
+use row_seat::{PlainSeat, RowSeat};
 use std::alloc::{AllocError, Global};
 use std::sync::Wait;
 use std::thread::Threads;
@@ -41,51 +45,60 @@ where
 {
     plan.limits();
     match make_room(alloc, plan) {
-        Ok(room) => run_in(rt, alloc, room, plan, depot, out, gate),
+        Ok((room, mut table)) => run_in::<R, PlainSeat<Held<D::Dev>>, D, K, G, AnyPipe>(
+            rt, alloc, room, &mut table, plan, depot, out, gate,
+        ),
         Err(AllocError) => Outcome::unmade(alloc),
     }
 }
 
-/// Runs the streams in the room that was made for them.
-fn run_in<R: Wait, D: Depot, K: Sink, G: Gate>(
+/// Makes what the streams take, and runs them in the room that was made for the outer stream, at its desk.
+fn run_in<
+    R: Wait,
+    S: RowSeat<Pay = Held<D::Dev>> + Drop,
+    D: Depot,
+    K: Sink,
+    G: Gate,
+    F: PipeState<Tables = Dicts>,
+>(
     rt: &R,
     alloc: Global,
-    room: RunRoom<D::Dev>,
+    room: RunRoom<S, Held<D::Dev>>,
+    desk: &mut S::Desk,
     plan: &Plan,
     depot: &mut D,
     out: &mut K,
     gate: &G,
 ) -> Outcome
     requires limits { IsSoundPlan plan.now }
-    requires room { IsRoomOfRun plan.now room }
+    requires room { IsRoomOfRun S.view plan.now room }
+    requires fits { S.fits room.seat desk.old }
+    requires values { (tables : List Dictionary) → F.values tables ≡ values_of tables }
     requires sink { (K.told out.old).faults < 2 ^ 64 - 1 }
     ensures { RunsPlan plan.now (D.told depot.old) (D.told depot.new) (K.told out.old) (K.told out.new) result }
 {
-    let RunRoom {
-        seat,
-        mut table,
-        scopes,
-        streams,
-    } = room;
-    let mut collector = Collector::new(begin(seat, scopes), streams);
-    collector.run(rt, alloc, &mut table, plan, depot, out, gate);
-    end_run(collector, &mut table, plan, depot)
+    match JoinRoom::<S, D::Dev, F>::new(alloc, plan) {
+        Ok(streams) => {
+            let RunRoom { seat, scopes } = room;
+            let mut collector = Collector::new(begin(seat, scopes), streams);
+            collector.run(rt, alloc, desk, plan, depot, out, gate);
+            end_run(collector, desk, depot)
+        }
+        Err(AllocError) => Outcome::unmade(alloc),
+    }
 }
 
 /// Settles the ledger of a collector at its end, and gives all devices that are left back.
 fn end_run<S: RowSeat<Pay = Held<D::Dev>>, D: Depot, F: PipeState>(
     collector: Collector<S, D::Dev, F>,
     desk: &mut S::Desk,
-    plan: &Plan,
     depot: &mut D,
 ) -> Outcome
-    requires limits { IsSoundPlan plan.now }
-    requires collecting { (d0 : DepotTold) × (s0 : SinkTold) × (t : Values) × (sink : SinkTold) × IsCollecting S.view D.Dev.Device.told S.fits F.values (standing F.stands F.comes) plan.now d0 s0 t 1 (D.told depot.old) sink desk.old collector }
+    requires collecting { (p : PlanMeant) × IsSoundPlan p × (d0 : DepotTold) × (s0 : SinkTold) × (t : Values) × (sink : SinkTold) × IsCollecting S.view D.Dev.Device.told S.fits F.values (standing F.stands F.comes) p d0 s0 t 1 (D.told depot.old) sink desk.old collector }
     requires waiting { collector.waiting.items ≡ [] }
     requires jobs { collector.jobs.items ≡ [] }
-    ensures { (d0 : DepotTold) (s0 : SinkTold) (t : Values) (sink : SinkTold) → IsCollecting S.view D.Dev.Device.told S.fits F.values (standing F.stands F.comes) plan.now d0 s0 t 1 (D.told depot.old) sink desk.old collector → RunsPlan plan.now d0 (D.told depot.new) s0 sink result }
+    ensures { (p : PlanMeant) → IsSoundPlan p → (d0 : DepotTold) (s0 : SinkTold) (t : Values) (sink : SinkTold) → IsCollecting S.view D.Dev.Device.told S.fits F.values (standing F.stands F.comes) p d0 s0 t 1 (D.told depot.old) sink desk.old collector → RunsPlan p d0 (D.told depot.new) s0 sink result }
 {
-    let _ = plan;
     let Ended {
         tree,
         report,

@@ -16,10 +16,10 @@ use Rattle.chunk_core.specs.Lists.IsAmong.{here}
 use Rattle.chunk_core.proofs.Distinct.{distinct_one}
 use Rattle.res_ledger.specs.Ledger.{stamped}
 use Rattle.res_ledger.specs.declared.event.StreamNo.TheVariants.{Outer}
-use Rattle.device_port.specs.Device.{DeviceTold, faults_of}
+use Rattle.device_port.specs.Device.{DeviceTold, faults_of, to_read}
 use Rattle.run_rules.specs.Devices.{AreAsMany, DevicesAccounted, is_closed_with}
 use Rattle.run_rules.specs.Ends.{act_count, is_shown}
-use Rattle.run_rules.specs.Facts.{ended_row, is_halted, is_memory, is_place, to_read}
+use Rattle.run_rules.specs.Facts.{ended_row, is_halted, is_memory, is_place}
 use Rattle.run_rules.specs.Outputs.{IsOutput}
 use Rattle.run_rules.specs.Rules.{KeepsRules}
 use Rattle.run_rules.specs.Run.{Performs}

@@ -14,9 +14,8 @@ use Rattle.chunk_core.specs.declared.code.Exit.TheVariants.{Succeeded}
 use Rattle.chunk_core.specs.declared.code.How.TheVariants as how
 use Rattle.chunk_core.proofs.Distinct.{test_distinct}
 use Rattle.chunk_core.proofs.Rendering.{bytes_rendering}
-use Rattle.device_port.specs.Device.{DeviceTold}
+use Rattle.device_port.specs.Device.{DeviceTold, to_read}
 use Rattle.pull_nodes.specs.Runs.{Reads}
-use Rattle.run_rules.specs.Facts.{to_read}
 use Rattle.run_rules.specs.Outputs.{IsOutput}
 use Rattle.run_rules.specs.Run.{Performs}
 use Rattle.run_rules.specs.Texts.{tail_text}

@@ -9,7 +9,7 @@ use Rattle.chunk_core.specs.Tables.{no_values}
 use Rattle.chunk_core.specs.Texts.{frames_text}
 use Rattle.chunk_core.proofs.Distinct.{distinct_nil}
 use Rattle.res_ledger.specs.declared.event.StreamNo.TheVariants.{Outer}
-use Rattle.run_rules.specs.Facts.{to_read}
+use Rattle.device_port.specs.Device.{to_read}
 use Rattle.run_rules.specs.Run.{Performs}
 use Rattle.run_rules.specs.Texts.{tail_text}
 use Rattle.run_laws.specs.Files.{path_a}

@@ -13,13 +13,12 @@ use Rattle.chunk_core.specs.declared.code.Code.TheVariants as code
 use Rattle.chunk_core.specs.declared.code.Exit.TheVariants.{Succeeded, Errored}
 use Rattle.chunk_core.proofs.Distinct.{test_distinct}
 use Rattle.res_ledger.specs.declared.event.StreamNo.TheVariants.{Outer}
-use Rattle.device_port.specs.Device.{DeviceTold}
+use Rattle.device_port.specs.Device.{DeviceTold, to_read, to_write}
 use Rattle.pull_nodes.specs.Lines.{without_pairs, ended_lines, open_line}
 use Rattle.chunk_core.specs.Tables.{no_values}
 use Rattle.pull_nodes.specs.Pipes.{part_of, all_of}
 use Rattle.pull_nodes.specs.Runs.{OpensThen, Reads}
 use Rattle.pull_nodes.specs.declared.pipe.Pipe.TheVariants as pipe
-use Rattle.run_rules.specs.Facts.{to_read, to_write}
 use Rattle.run_rules.specs.Devices.{IsWritten}
 use Rattle.run_rules.specs.Texts.{tail_text}
 use Rattle.run_laws.specs.Files.{path_a}

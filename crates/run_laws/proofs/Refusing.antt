@@ -17,7 +17,7 @@ use Rattle.res_ledger.specs.Ledger.{IsAcquired, IsLeased}
 use Rattle.res_ledger.proofs.Apart.{apart}
 use Rattle.res_ledger.proofs.Judged.{legal_found}
 use Rattle.res_ledger.proofs.Ordering.{ordered_complete}
-use Rattle.device_port.specs.Device.{Place, DeviceTold}
+use Rattle.device_port.specs.Device.{Place, DeviceTold, to_read}
 use Rattle.pull_nodes.specs.PipeRule.{without_fault}
 use Rattle.pull_nodes.specs.Pairs.{pair_of, pairs_of}
 use Rattle.pull_nodes.specs.Pipes.{all_of, part_of}
@@ -26,7 +26,6 @@ use Rattle.pull_nodes.specs.Runs.{GivesAtEnd, Reads, Zipped}
 use Rattle.pull_nodes.specs.declared.pipe.Pipe.TheVariants as pipe
 use Rattle.pull_nodes.proofs.Fronts.{front_cons}
 use Rattle.pull_nodes.proofs.Lines.{lines_lawful}
-use Rattle.run_rules.specs.Facts.{to_read}
 use Rattle.run_rules.specs.Homes.{IsUntouched}
 use Rattle.run_rules.specs.Outputs.{IsReported}
 use Rattle.run_rules.specs.Run.{IsUnmade, Performs, Ran}

@@ -13,13 +13,12 @@ use Rattle.chunk_core.specs.Texts.{Frame, frames_text, payloads_of}
 use Rattle.chunk_core.specs.declared.code.Exit.TheVariants.{Succeeded}
 use Rattle.chunk_core.proofs.Distinct.{test_distinct}
 use Rattle.res_ledger.specs.declared.event.StreamNo.TheVariants.{Outer}
-use Rattle.device_port.specs.Device.{DeviceTold}
+use Rattle.device_port.specs.Device.{DeviceTold, to_read}
 use Rattle.pull_nodes.specs.PipeRule.{without_fault}
 use Rattle.pull_nodes.specs.Lines.{without_pairs, ended_lines, open_line}
 use Rattle.pull_nodes.specs.Pipes.{part_of, all_of}
 use Rattle.pull_nodes.specs.Runs.{Reads, ReadsWhole}
 use Rattle.pull_nodes.specs.declared.pipe.Pipe.TheVariants as pipe
-use Rattle.run_rules.specs.Facts.{to_read}
 use Rattle.run_rules.specs.Run.{Performs}
 use Rattle.run_rules.specs.Texts.{tail_text}
 use Rattle.run_rules.specs.Work.{RunRecord}

@@ -12,7 +12,7 @@ use Rattle.chunk_core.specs.declared.code.Code.TheVariants as code
 use Rattle.chunk_core.specs.declared.code.Exit.TheVariants.{Succeeded, Errored}
 use Rattle.chunk_core.proofs.Distinct.{test_distinct}
 use Rattle.res_ledger.specs.declared.event.StreamNo.TheVariants.{Outer}
-use Rattle.run_rules.specs.Facts.{to_read}
+use Rattle.device_port.specs.Device.{to_read}
 use Rattle.run_rules.specs.Texts.{tail_text}
 use Rattle.run_laws.specs.Tables.{t_csv, a_csv, table_bytes, keys_bytes, looked_up, lookup_files, refused_files, missing_files, lookup_work, unread_table_device, lookup_frames, lookup, unread_table, refused_table, missing_table, unopened_file, unread_file, unclean_table, unclean_file, lookup_text, unread_table_text, refused_table_text, missing_table_text, unopened_file_text, unread_file_text, unclean_table_text, unclean_file_text}
 use Rattle.run_laws.specs.Streams.{fault_in, opener}

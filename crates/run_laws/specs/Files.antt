@@ -13,11 +13,10 @@ use Rattle.res_ledger.specs.declared.event.StreamNo.{StreamNo}
 use Rattle.res_ledger.specs.declared.event.StreamNo.TheVariants.{Outer, Inner}
 use Rattle.res_ledger.specs.declared.event.What.{What}
 use Rattle.res_ledger.specs.declared.event.What.TheVariants.{Acquire, Lease, Cancel, Close, Final}
-use Rattle.device_port.specs.Device.{DeviceTold}
+use Rattle.device_port.specs.Device.{DeviceTold, to_read}
 use Rattle.pull_nodes.specs.PipeRule.{without_fault}
 use Rattle.pull_nodes.specs.declared.pipe.Pipe.TheVariants as pipe
 use Rattle.pull_nodes.specs.Runs.{Reads, ReadsWhole, Taken}
-use Rattle.run_rules.specs.Facts.{to_read}
 use Rattle.run_rules.specs.Work.{RunRecord, Work}
 use Rattle.run_laws.specs.Streams.{Gathered, InFile, Leaves, ThroughPipe, file_stream, opener, piped_work}
 use Rattle.run_laws.specs.Written.{ends_of, frame, run_of, used_device}

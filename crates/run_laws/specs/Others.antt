@@ -10,10 +10,9 @@ use Rattle.res_ledger.specs.declared.event.StreamNo.{StreamNo}
 use Rattle.res_ledger.specs.declared.event.StreamNo.TheVariants.{Outer, Inner}
 use Rattle.res_ledger.specs.declared.event.What.{What}
 use Rattle.res_ledger.specs.declared.event.What.TheVariants.{Open, Acquire, Lease, Cancel, Close, Final}
-use Rattle.device_port.specs.Device.{DeviceTold}
+use Rattle.device_port.specs.Device.{DeviceTold, to_read, to_write}
 use Rattle.pull_nodes.specs.Runs.{Exactly, Follows, IsFault, IsUnwritten, OpensThen, OrLeft, Reads, ReadsWhole, Written, WrittenWhole}
 use Rattle.pull_nodes.specs.declared.pipe.Pipe.TheVariants as pipe
-use Rattle.run_rules.specs.Facts.{to_read, to_write}
 use Rattle.run_rules.specs.Work.{RunRecord, Work}
 use Rattle.run_laws.specs.Files.{file_work, path_a}
 use Rattle.run_laws.specs.Streams.{InFile, Leaves, ThroughPipe, opener, two_files}

@@ -8,7 +8,7 @@ use Rattle.res_ledger.specs.declared.event.StreamNo.TheVariants.{Outer, Inner}
 use Rattle.res_ledger.specs.declared.event.What.{What}
 use Rattle.res_ledger.specs.declared.event.What.TheVariants.{Open, Acquire, Lease, Cancel, Close, Final}
 use Rattle.res_ledger.specs.Ledger.{stamped}
-use Rattle.run_rules.specs.Facts.{to_read, to_write}
+use Rattle.device_port.specs.Device.{to_read, to_write}
 use Rattle.run_rules.specs.Work.{RunRecord, Work}
 use Rattle.run_laws.specs.Files.{path_a}
 use Rattle.run_laws.specs.FiveFiles.{five, visit}

@@ -5,13 +5,12 @@ use Rattle.chunk_core.specs.Feed.{Given}
 use Rattle.chunk_core.specs.Outcomes.{Outcomes}
 use Rattle.chunk_core.specs.declared.code.Code.{Code}
 use Rattle.chunk_core.specs.declared.code.Code.TheVariants as code
-use Rattle.device_port.specs.Device.{DeviceTold}
+use Rattle.device_port.specs.Device.{DeviceTold, to_read}
 use Rattle.chunk_core.specs.Tables.{no_values}
 use Rattle.pull_nodes.specs.PipeRule.{without_fault}
 use Rattle.pull_nodes.specs.Pipes.{part_of, all_of}
 use Rattle.pull_nodes.specs.Runs.{OpensThen, OrLeft, Piped, Reads, ReadsWhole}
 use Rattle.pull_nodes.specs.declared.pipe.Pipe.{Pipe}
-use Rattle.run_rules.specs.Facts.{to_read}
 use Rattle.run_rules.specs.Work.{Opener, Stream, Work}
 
 -- A, which writes nothing, runs and may be left at any time

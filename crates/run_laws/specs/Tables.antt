@@ -11,10 +11,9 @@ use Rattle.res_ledger.specs.declared.event.StreamNo.{StreamNo}
 use Rattle.res_ledger.specs.declared.event.StreamNo.TheVariants.{Outer, Inner}
 use Rattle.res_ledger.specs.declared.event.What.{What}
 use Rattle.res_ledger.specs.declared.event.What.TheVariants.{Acquire, Lease, Cancel, Close, Final}
-use Rattle.device_port.specs.Device.{DeviceTold}
+use Rattle.device_port.specs.Device.{DeviceTold, to_read}
 use Rattle.pull_nodes.specs.PipeRule.{without_fault}
 use Rattle.pull_nodes.specs.Runs.{Reads, ReadsWhole}
-use Rattle.run_rules.specs.Facts.{to_read}
 use Rattle.run_rules.specs.Work.{RunRecord, Values, Work}
 use Rattle.run_laws.specs.Streams.{Gathered, InFile, Leaves, file_stream, opener}
 use Rattle.run_laws.specs.Written.{Listing, ends_of, frame, idle_device, missing_device, read_device, run_of, used_device}

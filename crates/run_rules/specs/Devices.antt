@@ -7,9 +7,9 @@ use Rattle.chunk_core.specs.declared.code.Exit.{Exit}
 use Rattle.res_ledger.specs.declared.event.What.{What}
 use Rattle.res_ledger.specs.declared.event.Event.{Event}
 use Rattle.res_ledger.specs.Order.{same_exit}
-use Rattle.device_port.specs.Device.{Place, DeviceTold}
+use Rattle.device_port.specs.Device.{Place, DeviceTold, to_write}
 use Rattle.device_port.specs.Depot.{DepotTold, KeepsFilesBut, KeepsWritten}
-use Rattle.run_rules.specs.Facts.{is_place, to_write, at, acquired_row, failed_row, ended_row}
+use Rattle.run_rules.specs.Facts.{is_place, at, acquired_row, failed_row, ended_row}
 
 -- the devices that came back in this run, and the places that devices were made for
 abbrev pub came_back : DepotTold → DepotTold → List DeviceTold

@@ -27,13 +27,6 @@ is_mode mode.Write mode.Read = false
 abbrev pub is_place : Place → Place → Bool
 is_place p q = bytes_eq p.path q.path && is_mode p.mode q.mode
 
--- the path is read, or written
-abbrev pub to_read : List ℕ → Place
-to_read path = record { path = path; mode = mode.Read }
-
-abbrev pub to_write : List ℕ → Place
-to_write path = record { path = path; mode = mode.Write }
-
 -- the element at a place, from 0
 abbrev pub at : {A : Type 0} → List A → ℕ → Option A
 at [] i = None

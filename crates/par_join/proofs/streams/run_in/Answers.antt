@@ -1,7 +1,13 @@
 -- The collector begins over the room of the run, and what it did to its end is what the plan does.
-use Rattle.std.proofs.Common.{length, refl, ◌∙◌, arith}
-use Rattle.par_join.proofs.FirstSeat.{first_seat}
+use Rattle.std.proofs.Common.{length, refl, ◌∙◌, arith, subst, sym}
+use Rattle.par_join.specs.Plans.{RunsPlan}
+use Rattle.par_join.proofs.FirstSeat.{begins_there, first_seat}
+use Rattle.par_join.proofs.PlanUnmade.{plan_unmade}
+use Rattle.cat_run.proofs.Unmade.{outcome_is}
 use Rattle.par_join.proofs.streams.run_in.Goals as goal
+
+pub begin-requires : goal.begin-requires
+begin-requires g c = record { start = begins_there c.args.plan.now (g.S.RowSeat.view c.args.room.seat) c.requires.room.seat }
 
 pub run-requires-clause-fresh : goal.run-requires-clause-fresh
 run-requires-clause-fresh g c =
@@ -9,7 +15,7 @@ run-requires-clause-fresh g c =
     let b = c.begin.ensures in
     let r = c.requires.room in
     rw c.new-collector.ensures (record {
-      fits_desk = b.fits c.args.room.table r.sits;
+      fits_desk = b.fits c.args.desk.now c.requires.fits;
       main = b.main p.max_open (length p.streams);
       seat = first_seat p _ c.requires.limits.few_streams (b.seat ∙ r.seat);
       rows = (let n = b.room.1 in let m = r.rows in omega (arith, n, m));
@@ -17,8 +23,19 @@ run-requires-clause-fresh g c =
       outer = refl;
       leased = refl;
       next = refl;
-      room = r.streams;
+      room = c.in-Ok.ensures;
     })
 
-pub returns : goal.returns
-returns g c = c.end_run.ensures (g.D.Depot.told c.args.depot.now) (g.K.Sink.told c.args.out.now) c.run.ensures.collecting.0 (g.K.Sink.told c.run.new.out) c.run.ensures.collecting.1
+pub end_run-requires-clause-collecting : goal.end_run-requires-clause-collecting
+end_run-requires-clause-collecting g c =
+    (c.args.plan.now, c.requires.limits, g.D.Depot.told c.args.depot.now, g.K.Sink.told c.args.out.now, c.run.ensures.collecting.0, g.K.Sink.told c.run.new.out, c.run.ensures.collecting.1)
+
+pub returns-in-Ok : goal.returns-in-Ok
+returns-in-Ok g c = c.end_run.ensures c.args.plan.now c.requires.limits (g.D.Depot.told c.args.depot.now) (g.K.Sink.told c.args.out.now) c.run.ensures.collecting.0 (g.K.Sink.told c.run.new.out) c.run.ensures.collecting.1
+
+pub returns-in-Err : goal.returns-in-Err
+returns-in-Err g c =
+    let u = c.unmade.ensures in
+    let is = outcome_is c.unmade.result _ _ _ _ u.ends u.ledger u.sink u.memory in
+    subst (λ o. RunsPlan c.args.plan.now (g.D.Depot.told c.args.depot.now) (g.D.Depot.told c.args.depot.now) (g.K.Sink.told c.args.out.now) (g.K.Sink.told c.args.out.now) o) (sym is)
+    (plan_unmade c.args.plan.now (g.D.Depot.told c.args.depot.now) (g.D.Depot.told c.args.depot.now) (g.K.Sink.told c.args.out.now) (g.K.Sink.told c.args.out.now) refl refl)

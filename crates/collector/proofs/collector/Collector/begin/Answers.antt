@@ -16,7 +16,7 @@ use Rattle.row_seat.specs.Views.{IsWithin, split_off}
 use Rattle.scope_tree.specs.Trees.{seen}
 use Rattle.collector.specs.Collecting.{IsCollecting, IsCollectingWith, guest_of, waiting_of}
 use Rattle.tree_laws.specs.Visits.{IsNewGuest}
-use Rattle.collector.specs.Parts.{MakesUnmade}
+use Rattle.dealt_streams.specs.Parts.{MakesUnmade}
 use Rattle.collector.specs.Starting.{with_seats_out}
 use Rattle.collector.specs.declared.collector.Collector.{Collector}
 use Rattle.collector.proofs.Beginning.{events_are, has_room}

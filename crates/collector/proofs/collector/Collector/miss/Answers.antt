@@ -4,7 +4,7 @@ use Rattle.pull_turns.specs.Piping.{standing}
 use Rattle.scope_tree.specs.Trees.{seen}
 use Rattle.collector.specs.Collecting.{IsCollecting}
 use Rattle.collector.specs.declared.collector.Collector.{Collector}
-use Rattle.collector.specs.declared.collector.Leftover.{Leftover}
+use Rattle.dealt_streams.specs.declared.leftover.Leftover.{Leftover}
 use Rattle.collector.proofs.Steps.{below, miss_step}
 use Rattle.collector.proofs.Tree.{cancel_free}
 use Rattle.collector.proofs.collector.Collector.miss.Goals as goal
