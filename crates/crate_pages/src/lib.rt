@@ -4,6 +4,8 @@
 #[cfg(test)]
 mod any_pipe_page;
 #[cfg(test)]
+mod asserts;
+#[cfg(test)]
 mod chunk_core_page;
 #[cfg(test)]
 mod command_words_page;
@@ -14,13 +16,13 @@ mod device_port_page;
 #[cfg(test)]
 mod flume_cli_page;
 #[cfg(test)]
+mod ledger_text_page;
+#[cfg(test)]
 mod loads;
 #[cfg(test)]
 mod pipeline_desc_page;
 #[cfg(test)]
 mod pull_nodes_page;
-#[cfg(test)]
-mod res_ledger_page;
 #[cfg(test)]
 mod stream_ops_page;
 #[cfg(test)]

@@ -6,9 +6,6 @@ use std::alloc::{AllocError, Global};
 use std::sync::Wait;
 use std::thread::Threads;
 
-/// The tail of a run without a stream.
-pub const NONE: &str = "end outer done\nledger 1\nouter close 0 succeeded\n";
-
 /// The tail of a run whose one stream ended well.
 pub const DONE: &str = "end outer done\nend 0 done\nledger 6\n\
     outer lease 0 0\nouter close 0 succeeded\n0 acquire 0 0\n0 close 0 succeeded\n\
@@ -31,11 +28,6 @@ pub fn faulty(alloc: Global, fault: &str) -> Result<String, AllocError> {
         outer lease 0 0\nouter close 0 succeeded\n0 acquire 0 0\n0 close 0 errored\n\
         0 final 0 errored ok\n0 cancel 0 errored\n"
     )
-}
-
-/// A description with one stream, of the file `a` through these steps.
-pub fn stream_of(alloc: Global, steps: &str) -> Result<String, AllocError> {
-    format!(in alloc; "[[stream]]\npath = 'a'\nsteps = [{steps}]\n")
 }
 
 /// Whether the case ends with this status, and all is printed and reported.

@@ -6,8 +6,3 @@ use std::process::Abort;
 pub(crate) fn same<T: PartialEq + Debug + Copy>(rt: &impl Abort, got: T, want: T) {
     assert_eq!(rt; got, want);
 }
-
-/// Fails the test unless this holds.
-pub(crate) fn holds(rt: &impl Abort, fact: bool) {
-    assert!(rt; fact);
-}

@@ -27,16 +27,6 @@ fn copy_shows(rt: &(impl Abort + AllocGlobal), files: Files<'_>, pace: Pace, wan
 }
 
 #[test]
-fn what_comes_is_written_and_nothing_is_given(rt: HostRuntime) {
-    copy_shows(
-        &rt,
-        EMPTY,
-        FREELY,
-        b"Done\nledger 5\n0 acquire 0 0\n0 acquire 1 0\n0 close 0 succeeded\n0 final 1 succeeded ok\n0 final 0 succeeded ok\nb 1 1 succeeded\na 1 1 succeeded <world>\n",
-    );
-}
-
-#[test]
 fn a_write_that_fails_is_the_end(rt: HostRuntime) {
     copy_shows(
         &rt,
@@ -83,18 +73,6 @@ fn a_run_that_is_stopped_has_written_each_load_whole(rt: HostRuntime) {
         SHORT_WRITES,
         ONCE,
         b"Halted\nledger 5\n0 acquire 0 0\n0 acquire 1 0\n0 close 0 canceled\n0 final 1 canceled ok\n0 final 0 canceled ok\nb 1 1 canceled\na 1 1 canceled <worl>\n",
-    );
-}
-
-#[test]
-fn lines_are_written_with_their_ends(rt: HostRuntime) {
-    shows(
-        &rt,
-        HELLO,
-        into(&rt, 0, two_lines(&rt)),
-        &["a"],
-        FREELY,
-        b"Done\nledger 3\n0 acquire 0 0\n0 close 0 succeeded\n0 final 0 succeeded ok\na 1 1 succeeded <a\nb\n>\n",
     );
 }
 

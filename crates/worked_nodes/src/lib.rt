@@ -1,6 +1,6 @@
 //! Nodes that are run over a runner, and whole over a stepper, by callers that see public clauses alone,
-//! and what they show over devices in memory. The tests of what a node tells of itself, of the states of
-//! nodes with two sides and of a held device stand here too, above their crates.
+//! and what they show over devices in memory. A test of the states of nodes with two sides stands here
+//! too, above its crate.
 #![tactic(auto)]
 
 #[cfg(test)]
@@ -8,13 +8,9 @@ mod asserts;
 #[cfg(test)]
 mod files;
 #[cfg(test)]
-mod held_tests;
-#[cfg(test)]
 mod into_tests;
 #[cfg(test)]
 mod narrow;
-#[cfg(test)]
-mod node_tests;
 #[cfg(test)]
 mod parts;
 #[cfg(test)]

@@ -30,13 +30,15 @@ impl Narrow {
 
 impl Device for Narrow {
     ghost use Rattle.device_port.specs.Records.{record_told};
-    ghost use Rattle.device_port.specs.Stage.{open_once_at, no_exit_at};
+    ghost use Rattle.device_port.specs.Stage.{open_once_at, no_exit_at, no_open_at};
 
     ghost told = { λ d. record_told d.device.facts };
 
     ghost open_once = { λ d. open_once_at d.device.facts.stage };
 
     ghost no_exit = { λ d. no_exit_at d.device.facts.stage };
+
+    ghost no_open = { λ d. no_open_at d.device.facts.mode d.device.facts.present d.device.facts.stage d.device.unopened };
 
     fn number(&self) -> u64 {
         self.device.number()

@@ -47,11 +47,6 @@ pub(crate) fn into(rt: &(impl Abort + AllocGlobal), place: u32, part: Box<Node>)
     Node::Weak(place, boxed(rt, Node::Into(place, part)))
 }
 
-/// A text as a line.
-pub(crate) fn line(rt: &(impl Abort + AllocGlobal), text: &[u8]) -> Line {
-    Line::copy_of(rt.alloc(), text).expect(rt, "memory")
-}
-
 fn load_of(alloc: Global, texts: &[&[u8]]) -> Result<Load, AllocError> {
     let mut lines = Vec::new(alloc);
     for text in texts {

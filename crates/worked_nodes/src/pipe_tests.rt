@@ -2,11 +2,11 @@
 //! stream noted, and how often each device was opened and closed.
 use crate::asserts::same;
 use crate::files::Files;
-use crate::parts::{boxed, line, lines_of, scope, source, through, two_lines};
+use crate::parts::{boxed, lines_of, scope, two_lines};
 use crate::runs::{FREELY, run, shows};
 use crate::uses::Pace;
 use device_port::Act;
-use pull_nodes::{Node, Pipe};
+use pull_nodes::Node;
 use std::process::Abort;
 
 /// Reads of so many bytes, and as many turns as are wanted.
@@ -23,63 +23,6 @@ fn node_shows(
     want: &[u8],
 ) {
     shows(rt, files, Box::into_inner(node), &["a"], pace, want);
-}
-
-/// Fails the test unless a pipe is shown so over reads of one byte of these.
-fn bytes_show(rt: &(impl Abort + AllocGlobal), bytes: &[u8], pipe: Pipe, want: &[u8]) {
-    let node = through(rt, source(rt, 0), pipe);
-    node_shows(rt, Files::of(bytes), node, by(1), want);
-}
-
-/// Fails the test unless a pipe is shown so over three lines, of which the first two are equal.
-fn lines_show(rt: &(impl Abort + AllocGlobal), pipe: Pipe, want: &[u8]) {
-    let node = through(rt, lines_of(rt, 0), pipe);
-    node_shows(rt, Files::of(b"a\na\nb\n"), node, by(16), want);
-}
-
-#[test]
-fn a_cut_line_end_is_one_line_end(rt: HostRuntime) {
-    node_shows(
-        &rt,
-        Files::of(b"a\r\nb"),
-        lines_of(&rt, 0),
-        by(2),
-        b"a\n|b\n|Done\nledger 3\n0 acquire 0 0\n0 close 0 succeeded\n0 final 0 succeeded ok\na 1 1 succeeded\n",
-    );
-}
-
-#[test]
-fn characters_come_whole(rt: HostRuntime) {
-    bytes_show(
-        &rt,
-        b"\xe2\x82\xac",
-        Pipe::Utf8,
-        b"\xe2\x82\xac|Done\nledger 3\n0 acquire 0 0\n0 close 0 succeeded\n0 final 0 succeeded ok\na 1 1 succeeded\n",
-    );
-    bytes_show(
-        &rt,
-        b"a\xe2\x82",
-        Pipe::Utf8,
-        b"a|Fault(Truncated)\nledger 3\n0 acquire 0 0\n0 close 0 errored\n0 final 0 errored ok\na 1 1 errored\n",
-    );
-    bytes_show(
-        &rt,
-        b"a\xff",
-        Pipe::Utf8,
-        b"a|Fault(Malformed)\nledger 3\n0 acquire 0 0\n0 close 0 errored\n0 final 0 errored ok\na 1 1 errored\n",
-    );
-}
-
-#[test]
-fn what_is_malformed_is_replaced(rt: HostRuntime) {
-    let mended = through(&rt, source(&rt, 0), Pipe::Lossy);
-    node_shows(
-        &rt,
-        Files::of(b"a\xff\xe2\x82b"),
-        through(&rt, mended, Pipe::Hex),
-        by(1),
-        b"61efbfbdefbfbd62\n|Done\nledger 3\n0 acquire 0 0\n0 close 0 succeeded\n0 final 0 succeeded ok\na 1 1 succeeded\n",
-    );
 }
 
 #[test]
@@ -135,53 +78,6 @@ fn a_taker_of_lines_reads_no_further(rt: HostRuntime) {
 }
 
 #[test]
-fn errors_are_numbered(rt: HostRuntime) {
-    let valid = through(&rt, source(&rt, 0), Pipe::Utf8);
-    let texts = through(&rt, valid, Pipe::Lines);
-    let errors = through(&rt, texts, Pipe::Filter(line(&rt, b"ERROR")));
-    node_shows(
-        &rt,
-        Files::of(b"INFO start\nERROR disk\nINFO x\nERROR net\n"),
-        through(&rt, errors, Pipe::Number),
-        by(16),
-        b"0 ERROR disk\n|1 ERROR net\n|Done\nledger 3\n0 acquire 0 0\n0 close 0 succeeded\n0 final 0 succeeded ok\na 1 1 succeeded\n",
-    );
-}
-
-#[test]
-fn each_pipe_over_lines(rt: HostRuntime) {
-    lines_show(
-        &rt,
-        Pipe::Upper,
-        b"A\nA\nB\n|Done\nledger 3\n0 acquire 0 0\n0 close 0 succeeded\n0 final 0 succeeded ok\na 1 1 succeeded\n",
-    );
-    lines_show(
-        &rt,
-        Pipe::Drop(2),
-        b"b\n|Done\nledger 3\n0 acquire 0 0\n0 close 0 succeeded\n0 final 0 succeeded ok\na 1 1 succeeded\n",
-    );
-    lines_show(
-        &rt,
-        Pipe::Changes,
-        b"a\nb\n|Done\nledger 3\n0 acquire 0 0\n0 close 0 succeeded\n0 final 0 succeeded ok\na 1 1 succeeded\n",
-    );
-}
-
-#[test]
-fn lines_are_counted_and_parted(rt: HostRuntime) {
-    lines_show(
-        &rt,
-        Pipe::Count,
-        b"3\n|Done\nledger 3\n0 acquire 0 0\n0 close 0 succeeded\n0 final 0 succeeded ok\na 1 1 succeeded\n",
-    );
-    lines_show(
-        &rt,
-        Pipe::Intersperse(line(&rt, b"-")),
-        b"a\n-\na\n-\nb\n|Done\nledger 3\n0 acquire 0 0\n0 close 0 succeeded\n0 final 0 succeeded ok\na 1 1 succeeded\n",
-    );
-}
-
-#[test]
 fn what_is_held_back_is_not_given_at_a_halt(rt: HostRuntime) {
     node_shows(
         &rt,
@@ -189,27 +85,5 @@ fn what_is_held_back_is_not_given_at_a_halt(rt: HostRuntime) {
         lines_of(&rt, 0),
         Pace { asks: 1, ..by(5) },
         b"ab\n|Halted\nledger 3\n0 acquire 0 0\n0 close 0 canceled\n0 final 0 canceled ok\na 1 1 canceled\n",
-    );
-}
-
-#[test]
-fn groups_come_one_by_one(rt: HostRuntime) {
-    lines_show(
-        &rt,
-        Pipe::ChunkN(0),
-        b"a\n|a\n|b\n|Done\nledger 3\n0 acquire 0 0\n0 close 0 succeeded\n0 final 0 succeeded ok\na 1 1 succeeded\n",
-    );
-    lines_show(
-        &rt,
-        Pipe::ChunkN(2),
-        b"a\na\n|b\n|Done\nledger 3\n0 acquire 0 0\n0 close 0 succeeded\n0 final 0 succeeded ok\na 1 1 succeeded\n",
-    );
-    let groups = through(&rt, lines_of(&rt, 0), Pipe::ChunkN(1));
-    node_shows(
-        &rt,
-        Files::of(b"a\na\nb\n"),
-        boxed(&rt, Node::Take(9, groups)),
-        by(16),
-        b"a\na\nb\n|Done\nledger 3\n0 acquire 0 0\n0 close 0 succeeded\n0 final 0 succeeded ok\na 1 1 succeeded\n",
     );
 }

@@ -3,12 +3,12 @@ ghost use Rattle.std.specs.Prelude.{◌≡◌, IfOk};
 ghost use Rattle.chunk_core.specs.Elements.{kind_of};
 ghost use Rattle.chunk_core.specs.Elements.LoadKind.{Lines};
 
-use crate::asserts::{holds, same};
+use crate::asserts::same;
 use chunk_core::{Chunk, Line, Load, render};
 use std::alloc::{AllocError, Global};
 use std::process::Abort;
 use std::test::Fail;
-use stream_sides::{MergeState, Side, ZipState};
+use stream_sides::{Side, ZipState};
 
 /// A line of each byte.
 fn lines(alloc: Global, text: &[u8]) -> Result<Load, AllocError>
@@ -62,32 +62,4 @@ fn lines_that_wait_are_paired_in_their_order(rt: HostRuntime) -> Result<(), Fail
     makes(&rt, &mut state, b"d", b"d,w\n")?;
     same(&rt, state.need(), Side::Left);
     Ok(())
-}
-
-#[test]
-fn an_empty_load_changes_nothing(rt: HostRuntime) -> Result<(), Fail> {
-    let mut state = ZipState::new(rt.alloc());
-    makes(&rt, &mut state, b"", b"")?;
-    same(&rt, state.need(), Side::Left);
-    fed(rt.alloc(), &mut state, b"a")?;
-    makes(&rt, &mut state, b"", b"")?;
-    same(&rt, state.need(), Side::Right);
-    makes(&rt, &mut state, b"x", b"a,x\n")?;
-    Ok(())
-}
-
-#[test]
-fn sides_of_a_merge_take_turns_until_they_end(rt: HostRuntime) {
-    let mut state = MergeState::new();
-    same(&rt, state.next(), Side::Left);
-    state.gave(Side::Left);
-    same(&rt, state.next(), Side::Right);
-    state.gave(Side::Right);
-    state.ended(Side::Left);
-    same(&rt, state.next(), Side::Right);
-    state.gave(Side::Right);
-    same(&rt, state.next(), Side::Right);
-    holds(&rt, !state.is_done());
-    state.ended(Side::Right);
-    holds(&rt, state.is_done());
 }

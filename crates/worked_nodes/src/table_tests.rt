@@ -41,62 +41,6 @@ fn rows_show(
 }
 
 #[test]
-fn each_table_has_values_of_its_own(rt: HostRuntime) {
-    let keys = Files::of(b"k\nz\n");
-    rows_show(
-        &rt,
-        keys,
-        Pipe::Lookup(0, 0),
-        FREELY,
-        b"k,v\nz,\n|Done\nledger 3\n0 acquire 0 0\n0 close 0 succeeded\n0 final 0 succeeded ok\na 1 1 succeeded\n",
-    );
-    rows_show(
-        &rt,
-        keys,
-        Pipe::Lookup(1, 0),
-        FREELY,
-        b"k,w\nz,y\n|Done\nledger 3\n0 acquire 0 0\n0 close 0 succeeded\n0 final 0 succeeded ok\na 1 1 succeeded\n",
-    );
-    rows_show(
-        &rt,
-        keys,
-        Pipe::Lookup(2, 0),
-        FREELY,
-        b"k,\nz,\n|Done\nledger 3\n0 acquire 0 0\n0 close 0 succeeded\n0 final 0 succeeded ok\na 1 1 succeeded\n",
-    );
-}
-
-#[test]
-fn a_row_without_the_field_is_the_end(rt: HostRuntime) {
-    let rows = Files::of(b"k,a\nz,b\n");
-    rows_show(
-        &rt,
-        rows,
-        Pipe::Field(1),
-        FREELY,
-        b"a\nb\n|Done\nledger 3\n0 acquire 0 0\n0 close 0 succeeded\n0 final 0 succeeded ok\na 1 1 succeeded\n",
-    );
-    rows_show(
-        &rt,
-        rows,
-        Pipe::Lookup(0, 2),
-        FREELY,
-        b"Fault(NoField)\nledger 3\n0 acquire 0 0\n0 close 0 errored\n0 final 0 errored ok\na 1 1 errored\n",
-    );
-}
-
-#[test]
-fn rows_before_an_uneven_one_go_through_the_pipe_above(rt: HostRuntime) {
-    rows_show(
-        &rt,
-        Files::of(b"k,a\nz\n"),
-        Pipe::Field(0),
-        FREELY,
-        b"k\n|Fault(Uneven)\nledger 3\n0 acquire 0 0\n0 close 0 errored\n0 final 0 errored ok\na 1 1 errored\n",
-    );
-}
-
-#[test]
 fn what_is_gathered_is_not_given_before_the_end(rt: HostRuntime) {
     let rows = Files::of(b"k\nz\nz\n");
     rows_show(

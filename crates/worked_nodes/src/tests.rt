@@ -43,16 +43,6 @@ fn one_line_comes_first_and_then_the_end(rt: HostRuntime) {
 }
 
 #[test]
-fn a_file_is_read_in_pieces(rt: HostRuntime) {
-    read_shows(
-        &rt,
-        HELLO,
-        FREELY,
-        b"hell|o\n|Done\nledger 3\n0 acquire 0 0\n0 close 0 succeeded\n0 final 0 succeeded ok\na 1 1 succeeded\n",
-    );
-}
-
-#[test]
 fn each_call_of_a_device_fails(rt: HostRuntime) {
     read_shows(
         &rt,

@@ -2,11 +2,6 @@
 use std::fmt::Debug;
 use std::process::Abort;
 
-/// Fails the test unless both are equal.
-pub(crate) fn same<T: PartialEq + Debug + Copy>(rt: &impl Abort, got: T, want: T) {
-    assert_eq!(rt; got, want);
-}
-
 /// Fails the test unless both are equal, and tells the place.
 pub(crate) fn same_at<T: PartialEq + Debug + Copy>(
     rt: &impl Abort,

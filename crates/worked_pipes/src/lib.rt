@@ -1,5 +1,6 @@
-//! Tests of the pipes by their public calls alone: each over every cutting of a small input. They stand
-//! above the crates of pipes, so that none of these is proved twice for its tests.
+//! Tests of the pipes by their public calls alone: what they give before the end, over
+//! loads of none, and while loads are held. They stand above the crates of pipes, so that none of these
+//! is proved twice for its tests.
 #![tactic(auto)]
 
 #[cfg(test)]
@@ -15,10 +16,4 @@ mod lookups;
 #[cfg(test)]
 mod operators;
 #[cfg(test)]
-mod rows;
-#[cfg(test)]
 mod texts;
-#[cfg(test)]
-mod utf8;
-#[cfg(test)]
-mod whole_inputs;

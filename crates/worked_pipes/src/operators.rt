@@ -1,6 +1,6 @@
-//! Pipes over whole elements, over each cutting of their input.
-use crate::cuttings::{each_cutting, each_cutting_of_bytes, held_loads_stay, pieces_give, text};
-use crate::feeding::{AsBytes, AsLines, AsRows, Made, Recipe};
+//! Pipes over whole elements.
+use crate::cuttings::{held_loads_stay, pieces_give, text};
+use crate::feeding::{AsLines, AsRows, Made, Recipe};
 use chunk_core::Line;
 use std::alloc::{AllocError, Global};
 use std::test::Fail;
@@ -12,9 +12,6 @@ const AAB: &[&[u8]] = &[b"a", b"a", b"b"];
 
 /// The same among loads of none.
 const AMONG_NONE: &[&[&[u8]]] = &[&[], &[], &[], &[], AAB, &[]];
-
-/// Characters of one to three bytes, a line end and a byte that is no character's.
-const BYTES: &[u8] = b"a\r\n\xC3\xA9\xE2\x82\xAC\xFFz";
 
 #[derive(Drop)]
 struct Dropping(u64);
@@ -101,79 +98,6 @@ impl<M: Made> Recipe<M> for Grouping {
     fn pipe(&self, alloc: Global) -> Result<ChunkNPipe, AllocError> {
         Ok(ChunkNPipe::new(alloc, self.0)?)
     }
-}
-
-#[test]
-fn the_first_lines_are_left_out(rt: HostRuntime) -> Result<(), Fail> {
-    each_cutting::<AsLines, _>(&rt, &Dropping(2), AAB, text(b"b|"))?;
-    each_cutting::<AsLines, _>(&rt, &Dropping(0), AAB, text(b"a|a|b|"))?;
-    each_cutting::<AsLines, _>(&rt, &Dropping(4), AAB, text(b""))?;
-    Ok(())
-}
-
-#[test]
-fn one_line_tells_the_number(rt: HostRuntime) -> Result<(), Fail> {
-    each_cutting::<AsLines, _>(&rt, &Counting, AAB, text(b"3|"))?;
-    pieces_give::<AsLines, _>(&rt, &Counting, &[], text(b"0|"))?;
-    Ok(())
-}
-
-#[test]
-fn numbers_go_on_over_loads(rt: HostRuntime) -> Result<(), Fail> {
-    each_cutting::<AsLines, _>(&rt, &Numbering, AAB, text(b"0 a|1 a|2 b|"))?;
-    Ok(())
-}
-
-#[test]
-fn lines_with_the_text_stay(rt: HostRuntime) -> Result<(), Fail> {
-    let texts: [&[u8]; 4] = [b"aab", b"a", b"ba", b"ab"];
-    each_cutting::<AsLines, _>(&rt, &Filtering(b"ab"), &texts, text(b"aab|ab|"))?;
-    each_cutting::<AsLines, _>(&rt, &Filtering(b""), &texts, text(b"aab|a|ba|ab|"))?;
-    Ok(())
-}
-
-#[test]
-fn a_line_stands_between_each_two(rt: HostRuntime) -> Result<(), Fail> {
-    each_cutting::<AsLines, _>(&rt, &Interspersing(b"-"), AAB, text(b"a|-|a|-|b|"))?;
-    Ok(())
-}
-
-#[test]
-fn elements_that_stay_the_same_are_left_out(rt: HostRuntime) -> Result<(), Fail> {
-    each_cutting::<AsLines, _>(&rt, &Changes, AAB, text(b"a|b|"))?;
-    let rows: [&[u8]; 4] = [b"ab", b"ab", b"a", b"ac"];
-    each_cutting::<AsRows, _>(&rt, &Changes, &rows, text(b"a,b,|a,|a,c,|"))?;
-    Ok(())
-}
-
-#[test]
-fn whole_groups_come_out(rt: HostRuntime) -> Result<(), Fail> {
-    let lines = text(b"a|a|b|").in_loads(&[2, 1]);
-    each_cutting::<AsLines, _>(&rt, &Grouping(2), AAB, lines)?;
-    let rows = text(b"a,|a,|b,|").in_loads(&[3]);
-    each_cutting::<AsRows, _>(&rt, &Grouping(3), AAB, rows)?;
-    let bytes = text(b"aab").in_loads(&[3]);
-    each_cutting::<AsBytes, _>(&rt, &Grouping(4), AAB, bytes)?;
-    Ok(())
-}
-
-#[test]
-fn bytes_are_elements(rt: HostRuntime) -> Result<(), Fail> {
-    each_cutting_of_bytes(&rt, &Dropping(4), BYTES, text(b"\xA9\xE2\x82\xAC\xFFz"))?;
-    each_cutting_of_bytes(&rt, &Counting, BYTES, text(b"10|"))?;
-    each_cutting_of_bytes(&rt, &Grouping(9), BYTES, text(BYTES).in_loads(&[9, 1]))?;
-    Ok(())
-}
-
-#[test]
-fn lines_of_a_log_are_chosen_and_numbered(rt: HostRuntime) -> Result<(), Fail> {
-    let log: [&[u8]; 4] = [b"INFO start", b"ERROR disk", b"INFO x", b"ERROR net"];
-    let chosen = text(b"ERROR disk|ERROR net|");
-    each_cutting::<AsLines, _>(&rt, &Filtering(b"ERROR"), &log, chosen)?;
-    let errors: [&[u8]; 2] = [b"ERROR disk", b"ERROR net"];
-    let numbered = text(b"0 ERROR disk|1 ERROR net|");
-    each_cutting::<AsLines, _>(&rt, &Numbering, &errors, numbered)?;
-    Ok(())
 }
 
 #[test]

@@ -1,22 +1,11 @@
 //! The case that three numbers make: its files, its plan and its summary.
 use crate::asserts::{holds, same};
-use device_port::FileOf;
 use gen_case::tally::tally_of;
-use gen_case::{Case, files_of, plan_of, streams_of, summary_of, tables_of, text};
-use res_ledger::{Ledger, LedgerRefused, read};
+use gen_case::{Case, files_of, summary_of, text};
+use ledger_text::{LedgerRefused, read};
+use res_ledger::Ledger;
 use std::alloc::Global;
 use std::test::Fail;
-
-/// The bytes of all files but the last, which is the table's, and of that one.
-fn sizes(files: &[FileOf]) -> (usize, usize) {
-    let mut of_streams: usize = 0;
-    let mut last: usize = 0;
-    for file in files {
-        of_streams = of_streams.wrapping_add(last);
-        last = file.bytes.len();
-    }
-    (of_streams, last)
-}
 
 #[test]
 fn three_lines(rt: HostRuntime) -> Result<(), Fail> {
@@ -35,72 +24,6 @@ fn three_lines(rt: HostRuntime) -> Result<(), Fail> {
         same(&rt, records.len(), 6000);
         holds(&rt, records.starts_with(b"000,0\n001,1\n"));
         holds(&rt, records.ends_with(b"998,8\n999,9\n"));
-    }
-    Ok(())
-}
-
-#[test]
-fn numbers_of_a_seed(rt: HostRuntime) -> Result<(), Fail> {
-    let case = Case {
-        seed: 7,
-        streams: 8,
-        lines: 1000,
-    };
-    same(&rt, case.number_on(0, 0), 7);
-    same(&rt, case.number_on(2, 3), 178);
-    let last = Case {
-        seed: u32::MAX,
-        streams: 64,
-        lines: 100_000,
-    };
-    same(&rt, last.number_on(63, 99_999), 987);
-    let files = files_of(rt.alloc(), case)?;
-    same(&rt, files.len(), 9);
-    same(&rt, sizes(files.as_slice()), (32_000, 6000));
-    Ok(())
-}
-
-#[test]
-fn parts_of_the_plan(rt: HostRuntime) -> Result<(), Fail> {
-    let alloc = rt.alloc();
-    let case = Case {
-        seed: 0,
-        streams: 12,
-        lines: 3,
-    };
-    let streams = streams_of(alloc, case)?;
-    same(&rt, streams.len(), 12);
-    if let Some(stream) = streams.get(11) {
-        same(&rt, stream.path.as_str(), "g11");
-        same(&rt, stream.steps.len(), 2);
-    }
-    let tables = tables_of(alloc)?;
-    same(&rt, tables.len(), 1);
-    if let [table] = tables.as_slice() {
-        same(&rt, table.name.as_str(), "t");
-        same(&rt, table.path.as_str(), "gt");
-    }
-    Ok(())
-}
-
-#[test]
-fn plan_of_a_case(rt: HostRuntime) -> Result<(), Fail> {
-    let case = Case {
-        seed: 0,
-        streams: 64,
-        lines: 3,
-    };
-    let plan = plan_of(rt.alloc(), case)?;
-    same(
-        &rt,
-        (plan.max_open(), plan.queue(), plan.chunk(), plan.take()),
-        (4, 16, 4096, None),
-    );
-    same(&rt, plan.tables().len(), 1);
-    same(&rt, plan.streams().len(), 64);
-    if let Some(stream) = plan.streams().get(63) {
-        same(&rt, stream.path.as_str(), "g63");
-        same(&rt, stream.until, None);
     }
     Ok(())
 }

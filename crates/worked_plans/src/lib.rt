@@ -1,9 +1,7 @@
-//! Tests of descriptions and of the case of three numbers, by the public calls of `pipeline_desc` and
-//! `gen_case` alone. They stand above both crates, so that neither is proved twice for its tests.
+//! Tests of the nodes of descriptions and of the case of three numbers, by the public calls of
+//! `pipeline_desc` and `gen_case` alone. They stand above both crates, so that neither is proved twice for its tests.
 #![tactic(auto)]
 
-#[cfg(test)]
-mod answers;
 #[cfg(test)]
 mod asserts;
 #[cfg(test)]
@@ -14,13 +12,3 @@ mod nodes;
 mod plans;
 #[cfg(test)]
 mod several;
-#[cfg(test)]
-mod sides;
-#[cfg(test)]
-mod steps;
-#[cfg(test)]
-mod streams;
-#[cfg(test)]
-mod tables;
-#[cfg(test)]
-mod top;

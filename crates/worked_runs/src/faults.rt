@@ -1,6 +1,6 @@
 //! Runs of a description over a file or an output of which a call fails.
 use crate::runs::{
-    Alike, Row, Wanted, at_fault, each_leaves, ending_well, good, is_not_written, leaves, leaves_at,
+    Alike, Row, Wanted, at_fault, each_leaves, ending_well, is_not_written, leaves_at,
 };
 use device_port::Act;
 use flume_cli::Status;
@@ -40,15 +40,6 @@ fn failed_read_ends_the_stream(rt: HostRuntime) -> Result<(), Fail> {
 }
 
 #[test]
-fn file_that_is_not_there(rt: HostRuntime) -> Result<(), Fail> {
-    let case = run_of("[[stream]]\npath = 'b'\n", b"hello\n");
-    let tail = "end outer done\nend 0 fault open\nledger 4\n\
-        outer lease 0 0\nouter close 0 succeeded\n0 close 0 errored\n0 cancel 0 errored\n";
-    leaves(&rt, rt.alloc(), &case, at_fault(b"", tail))?;
-    Ok(())
-}
-
-#[test]
 fn text_stands_in_for_a_fault(rt: HostRuntime) -> Result<(), Fail> {
     const ROWS: &[Row<'static>] = &[
         (
@@ -79,29 +70,6 @@ fn text_stands_in_for_a_fault(rt: HostRuntime) -> Result<(), Fail> {
         ..ending_well("[[stream]]\npath = 'a'\n@\n")
     };
     each_leaves(&rt, rt.alloc(), &each, ROWS)?;
-    Ok(())
-}
-
-#[test]
-fn text_stands_in_for_a_file_that_is_not_there(rt: HostRuntime) -> Result<(), Fail> {
-    let text = "[[stream]]\npath = 'b'\nsteps = ['lines']\non_fault = 'no file'\n";
-    let tail = "end outer done\nend 0 done\nledger 6\n\
-        outer lease 0 0\nouter close 0 succeeded\n0 open 1 0\n0 close 1 errored\n\
-        0 close 0 succeeded\n0 cancel 0 succeeded\n";
-    let case = run_of(text, b"hello\n");
-    leaves(&rt, rt.alloc(), &case, good(b"0 8\nno file\n\n", tail))?;
-    Ok(())
-}
-
-/// The text isn't printed where there is no fault.
-#[test]
-fn text_without_a_fault(rt: HostRuntime) -> Result<(), Fail> {
-    let text = "[[stream]]\npath = 'a'\non_fault = 'lost'\n";
-    let tail = "end outer done\nend 0 done\nledger 8\n\
-        outer lease 0 0\nouter close 0 succeeded\n0 open 1 0\n0 acquire 0 1\n0 close 1 succeeded\n\
-        0 final 0 succeeded ok\n0 close 0 succeeded\n0 cancel 0 succeeded\n";
-    let case = run_of(text, b"hello\n");
-    leaves(&rt, rt.alloc(), &case, good(b"0 6\nhello\n\n", tail))?;
     Ok(())
 }
 

@@ -1,17 +1,45 @@
-//! Runs of descriptions over an outside in memory, with what they print written out by hand.
+//! Calls over an outside in memory, of which calls of devices, of the output or of memory fail, with what
+//! they print and leave written out by hand: `cat`, descriptions that can't be read, runs of one stream
+//! and of many, and cases that are made of numbers.
 #![tactic(auto)]
 
 #[cfg(test)]
 mod asserts;
 #[cfg(test)]
+mod calls;
+#[cfg(test)]
+mod cats;
+#[cfg(test)]
+mod closes;
+#[cfg(test)]
+mod crowd;
+#[cfg(test)]
+mod described;
+#[cfg(test)]
+mod failing;
+#[cfg(test)]
 mod faults;
 #[cfg(test)]
+mod generated;
+#[cfg(test)]
+mod memory;
+#[cfg(test)]
+mod missing;
+#[cfg(test)]
 mod outputs;
+#[cfg(test)]
+mod refusals;
+#[cfg(test)]
+mod reports;
 #[cfg(test)]
 mod runs;
 #[cfg(test)]
 mod sides;
 #[cfg(test)]
+mod stops;
+#[cfg(test)]
 mod tables;
 #[cfg(test)]
 mod whole;
+#[cfg(test)]
+mod words;

@@ -1,6 +1,6 @@
 //! Runs of streams whose output is written to a file.
 use crate::asserts::{holds_at, same_at};
-use crate::runs::{Row, Wanted, at_fault, good, is_not_written};
+use crate::runs::{Wanted, at_fault, good, is_not_written};
 use device_port::Act;
 use flume_cli::Status;
 use std::alloc::{AllocError, Global};
@@ -55,100 +55,6 @@ fn writes(
     same_at(rt, seen.depot.file("b"), written, place);
     same_at(rt, seen.depot.file("a"), Some(case.file), place);
     is_left(rt, alloc, &seen, wanted, place)
-}
-
-/// Fails the test unless a stream with the row's keys writes this of its file, whatever was there.
-fn row_writes(
-    rt: &(impl Abort + Threads + Wait + Sync),
-    alloc: Global,
-    row: &Row<'_>,
-) -> Result<(), AllocError> {
-    let (keys, file, written) = *row;
-    let text = format!(in alloc; "{COPYING}{keys}")?;
-    let case = run_of(text.as_str(), file);
-    let over_another = Case {
-        others: &[("b", b"older and longer")],
-        ..case
-    };
-    let wanted = good(b"", WRITTEN);
-    writes(rt, alloc, &case, wanted, Some(written), &keys)?;
-    writes(rt, alloc, &over_another, wanted, Some(written), &keys)
-}
-
-fn each_writes(
-    rt: &(impl Abort + Threads + Wait + Sync),
-    alloc: Global,
-    rows: &[Row<'_>],
-) -> Result<(), AllocError> {
-    for row in rows {
-        row_writes(rt, alloc, row)?;
-    }
-    Ok(())
-}
-
-/// The file holds what the stream gives and nothing else, whatever it held before; nothing is
-/// printed.
-#[test]
-fn output_is_written_to_a_file(rt: HostRuntime) -> Result<(), Fail> {
-    const ROWS: &[Row<'static>] = &[
-        ("", b"hello\n", b"hello\n"),
-        ("", b"", b""),
-        ("steps = ['lines', 'number']\n", b"a\nb", b"0 a\n1 b\n"),
-        (
-            "steps = ['csv']\n",
-            b"a,'b'\n\"c,d\",\n",
-            b"a,'b'\n\"c,d\",\n",
-        ),
-        ("steps = ['lines', 'chunk 1']\n", b"a\nb\nc\n", b"a\nb\nc\n"),
-        ("steps = ['take 0']\n", b"hello\n", b""),
-    ];
-    each_writes(&rt, rt.alloc(), ROWS)?;
-    Ok(())
-}
-
-/// Frames are counted, and not what is written to a file.
-#[test]
-fn limit_of_frames_is_no_limit_of_a_file(rt: HostRuntime) -> Result<(), Fail> {
-    let text = "take = 1\nchunk = 1\n[[stream]]\npath = 'a'\nto = 'b'\n";
-    let case = run_of(text, b"hello\n");
-    let wanted = good(b"", WRITTEN);
-    writes(&rt, rt.alloc(), &case, wanted, Some(b"hello\n"), &text)?;
-    Ok(())
-}
-
-/// The file is opened first: where it can't be, the source isn't touched.
-#[test]
-fn file_that_cannot_be_made(rt: HostRuntime) -> Result<(), Fail> {
-    let tail = "end outer done\nend 0 fault open\nledger 4\n\
-        outer lease 0 0\nouter close 0 succeeded\n0 close 0 errored\n0 cancel 0 errored\n";
-    let case = Case {
-        other_trips: &[("b", Act::Open, 1)],
-        ..run_of(COPYING, b"hello\n")
-    };
-    writes(&rt, rt.alloc(), &case, at_fault(b"", tail), None, &COPYING)?;
-    Ok(())
-}
-
-/// A source that can't be opened leaves an empty file, which is closed.
-#[test]
-fn source_that_is_not_there(rt: HostRuntime) -> Result<(), Fail> {
-    let text = "[[stream]]\npath = 'c'\nto = 'b'\n";
-    let tail = "end outer done\nend 0 fault open\nledger 6\n\
-        outer lease 0 0\nouter close 0 succeeded\n0 acquire 0 0\n0 close 0 errored\n\
-        0 final 0 errored ok\n0 cancel 0 errored\n";
-    let case = Case {
-        others: &[("b", b"older")],
-        ..run_of(text, b"hello\n")
-    };
-    writes(
-        &rt,
-        rt.alloc(),
-        &case,
-        at_fault(b"", tail),
-        Some(b""),
-        &text,
-    )?;
-    Ok(())
 }
 
 /// Fails the test unless this call fails with this fault, when this was written.
@@ -215,26 +121,6 @@ fn text_stands_in_within_a_file(rt: HostRuntime) -> Result<(), Fail> {
     };
     let wanted = good(b"", tail);
     writes(&rt, rt.alloc(), &case, wanted, Some(b"ab\nlost\n"), &text)?;
-    Ok(())
-}
-
-/// A table, two sources and a file to write in one stream: the rows are numbered tables first, then
-/// the file, and the sources behind it.
-#[test]
-fn all_at_once(rt: HostRuntime) -> Result<(), Fail> {
-    let text = "[[table]]\nname = 't'\npath = 't.csv'\n\
-        [[stream]]\npath = 'a'\nsteps = ['csv', 'lookup t 0', 'field 1']\nwith = 'c'\n\
-        join = 'zip'\nto = 'b'\n";
-    let tail = "end outer done\nend 0 done\nledger 12\nouter acquire 0 0\nouter lease 0 0\n\
-        outer close 0 succeeded\n0 acquire 1 0\n0 acquire 2 0\n0 acquire 3 0\n\
-        0 close 0 succeeded\n0 final 3 succeeded ok\n0 final 2 succeeded ok\n\
-        0 final 1 succeeded ok\n0 cancel 0 succeeded\n0 final 0 succeeded ok\n";
-    let case = Case {
-        others: &[("t.csv", b"k,v\nl,w\n"), ("c", b"l\nk\n")],
-        ..run_of(text, b"k\nl\n")
-    };
-    let wanted = good(b"", tail);
-    writes(&rt, rt.alloc(), &case, wanted, Some(b"v,w\nw,v\n"), &text)?;
     Ok(())
 }
 

@@ -7,7 +7,7 @@ use std::fmt::Debug;
 use std::process::Abort;
 use std::sync::Wait;
 use std::thread::Threads;
-use worked_calls::outside::{Aftermath, Case, run, run_of};
+use worked_calls::outside::{Aftermath, Case, run_of};
 use worked_calls::reports::{DONE, runs_as};
 
 /// What a run leaves: its status, the frames that it prints, and its ends and ledger as text.
@@ -146,17 +146,4 @@ pub(crate) fn is_not_written(
     same(rt, seen.out.faults(), 1);
     same(rt, seen.err.written(), b"");
     is_reported(rt, alloc, seen, tail)
-}
-
-/// Fails the test unless the case prints this tail alone, and makes no device.
-pub(crate) fn opens_nothing(
-    rt: &(impl Abort + Threads + Wait + Sync),
-    alloc: Global,
-    case: &Case,
-    tail: &str,
-) -> Result<(), AllocError> {
-    let seen = run(rt, alloc, case)?;
-    same(rt, seen.depot.made().len(), 0);
-    holds_at(rt, seen.is_whole(alloc, Status::Good, b"", tail)?, &tail);
-    Ok(())
 }

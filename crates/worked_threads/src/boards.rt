@@ -9,9 +9,6 @@ use std::process::Abort;
 use std::test::Fail;
 use std::thread;
 
-/// The causes, in the order of their numbers.
-const CAUSES: [Why; 5] = [Why::Take, Why::Until, Why::Sink, Why::Memory, Why::Fault];
-
 /// Interrupts a context, and fails the test unless the answer is this.
 fn sets(rt: &impl Abort, board: &Board, seat: &mut BoardSeat, context: u32, why: Why, want: bool)
     requires fits { seat.old.board ≡ board.now.id }
@@ -62,59 +59,6 @@ fn a_code_stays_and_reaches_its_children(rt: HostRuntime) -> Result<(), Fail> {
         &[Some(Why::Memory), Some(Why::Until), Some(Why::Memory)],
     );
     sets(&rt, &board, &mut seat, 0, Why::Fault, false);
-    Ok(())
-}
-
-/// Sets each cause in the context of its number.
-fn set_causes(rt: &impl Abort, board: &Board, seat: &mut BoardSeat)
-    requires fits { seat.old.board ≡ board.now.id }
-    requires room { 6 ≤ board.now.contexts }
-    ensures board { seat.new.board ≡ seat.old.board }
-{
-    for k in 0..5 {
-        sets(rt, board, seat, k + 1, CAUSES[k as usize], true);
-    }
-}
-
-#[test]
-fn each_cause_is_found_as_it_was_set(rt: HostRuntime) -> Result<(), Fail> {
-    let (board, mut seat) = Board::new(rt.alloc(), 6)?;
-    set_causes(&rt, &board, &mut seat);
-    finds_each(
-        &rt,
-        &board,
-        &mut seat,
-        &[
-            None,
-            Some(Why::Take),
-            Some(Why::Until),
-            Some(Why::Sink),
-            Some(Why::Memory),
-            Some(Why::Fault),
-        ],
-    );
-    Ok(())
-}
-
-#[test]
-fn causes_are_numbered_from_one_to_five(rt: HostRuntime) {
-    for (k, why) in CAUSES.iter().enumerate() {
-        same(&rt, (*why, why.code()), (*why, k as u64 + 1));
-    }
-}
-
-#[test]
-fn seats_see_what_others_set(rt: HostRuntime) -> Result<(), Fail> {
-    let (board, mut first) = Board::new(rt.alloc(), 3)?;
-    sets(&rt, &board, &mut first, 1, Why::Take, true);
-    let mut other = first.split(&board);
-    finds(&rt, &board, &mut other, 1, Some(Why::Take));
-    sets(&rt, &board, &mut other, 2, Why::Fault, true);
-    sets(&rt, &board, &mut first, 2, Why::Take, false);
-    finds(&rt, &board, &mut first, 2, Some(Why::Fault));
-    first.join(&board, other);
-    finds(&rt, &board, &mut first, 2, Some(Why::Fault));
-    finds(&rt, &board, &mut first, 1, Some(Why::Take));
     Ok(())
 }
 

@@ -290,12 +290,12 @@ fn a_full_queue_and_an_empty_one(rt: HostRuntime) -> Result<(), Fail> {
     Ok(())
 }
 
-/// Whether the end of this stream is sent.
-fn sends_end<R: Wait>(rt: &R, hub: &PlainHub, sender: &mut Sender, stream: u32) -> bool
-    requires { (sender.old.hub ≡ hub.now.id) × (sender.old.stream ≡ stream) }
-    ensures { (sender.new.hub ≡ hub.now.id) × (sender.new.stream ≡ stream) }
+/// Whether the end of the sender's stream is sent.
+fn sends_end<R: Wait>(rt: &R, hub: &PlainHub, sender: &mut Sender) -> bool
+    requires { sender.old.hub ≡ hub.now.id }
+    ensures { (sender.new.hub ≡ hub.now.id) × (sender.new.stream ≡ sender.old.stream) }
 {
-    sender.try_send(rt, hub, ending(stream)).is_ok()
+    sender.try_send(rt, hub, ending(sender.stream())).is_ok()
 }
 
 /// The stream of which the next message is the end.
@@ -315,10 +315,11 @@ fn an_end_comes_last(rt: HostRuntime) -> Result<(), Fail> {
     let (hub, mut receiver) = PlainHub::new(rt.alloc(), 1)?;
     let mut first = receiver.split(&hub, 0);
     let mut second = receiver.split(&hub, u32::MAX);
-    holds(&rt, sends_end(&rt, &hub, &mut first, 0));
-    holds(&rt, !sends_end(&rt, &hub, &mut second, u32::MAX));
+    same(&rt, (first.stream(), second.stream()), (0, u32::MAX));
+    holds(&rt, sends_end(&rt, &hub, &mut first));
+    holds(&rt, !sends_end(&rt, &hub, &mut second));
     same(&rt, next_end(&rt, &hub, &mut receiver), Some(0));
-    holds(&rt, sends_end(&rt, &hub, &mut second, u32::MAX));
+    holds(&rt, sends_end(&rt, &hub, &mut second));
     receiver.join(&hub, first);
     receiver.join(&hub, second);
     same(&rt, next_end(&rt, &hub, &mut receiver), Some(u32::MAX));

@@ -2,6 +2,7 @@
 //! lets go of its last lease, and eight with rows of their own while a ninth closes those they share.
 use crate::asserts::{holds, same};
 use res_ledger::{Event, Ledger, StreamNo, What};
+use shared_scripts::apart::both_note_apart;
 use shared_scripts::crowds::{Counts, crowd};
 use shared_scripts::hosting::COMMON;
 use shared_scripts::notes::both_note;
@@ -36,6 +37,16 @@ fn two_threads_note_a_thousand_scopes_each(rt: HostRuntime) -> Result<(), Fail> 
     are_stamped(&rt, ledger.as_slice());
     same(&rt, events_of(&ledger, 1), 1000);
     same(&rt, events_of(&ledger, 2), 1000);
+    Ok(())
+}
+
+#[test]
+fn two_seats_note_at_handles_of_their_own(rt: HostRuntime) -> Result<(), Fail> {
+    let ledger = both_note_apart(rt.alloc(), 100)?;
+    same(&rt, ledger.len(), 200);
+    are_stamped(&rt, ledger.as_slice());
+    same(&rt, events_of(&ledger, 1), 100);
+    same(&rt, events_of(&ledger, 2), 100);
     Ok(())
 }
 

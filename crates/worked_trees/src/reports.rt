@@ -7,7 +7,7 @@ use crate::asserts::{holds, same};
 use chunk_core::{Chunk, How, List, Load};
 use device_port::MemSink;
 use interrupt_ctx::Why;
-use join_report::{Report, Stops};
+use join_report::Report;
 use std::alloc::{AllocError, Global};
 use std::test::Fail;
 
@@ -38,31 +38,5 @@ fn a_stream_is_halted_whose_load_comes_behind_the_last_frame(rt: HostRuntime) ->
         hows.push(end.how)?;
     }
     same(&rt, hows.as_slice(), [How::Done, How::Halted].as_slice());
-    Ok(())
-}
-
-#[test]
-fn a_stop_of_the_run_reaches_its_streams(rt: HostRuntime) -> Result<(), Fail> {
-    let mut stops = Stops::new(rt.alloc(), 2)?;
-    let mut other = stops.seat_for();
-    stops.interrupt(2, Why::Until);
-    holds(&rt, stops.is_set(2));
-    holds(&rt, !stops.is_set(1));
-    holds(&rt, other.set(stops.board(), 0, Why::Fault));
-    stops.interrupt(0, Why::Take);
-    holds(&rt, stops.is_set(1));
-    stops.take_in(other);
-    Ok(())
-}
-
-#[test]
-fn want_of_memory_is_reported(rt: HostRuntime) -> Result<(), Fail> {
-    let mut report = Report::new(rt.alloc(), 1, None)?;
-    report.miss(0);
-    holds(&rt, report.is_ceased());
-    holds(&rt, report.memory());
-    let mut ended = Report::new(rt.alloc(), 0, None)?;
-    ended.outer(How::Memory);
-    holds(&rt, ended.memory());
     Ok(())
 }

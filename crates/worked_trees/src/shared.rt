@@ -3,17 +3,14 @@
 use crate::asserts::prints;
 use crate::coins::{BAD, GOOD, ended};
 use crate::guests::ledger_of_a_guest;
-use crate::scripts::{ledger_of_a_late_scope, ledger_of_a_lease};
 use chunk_core::Exit;
 use res_ledger::{Ledger, StreamNo, text};
 use row_seat::PlainSeat;
 use row_shared::SharedSeat;
 use scope_tree::Room;
-use shared_scripts::same::three_shared_coins;
 use std::alloc::{AllocError, Global};
 use std::process::Abort;
 use std::test::Fail;
-use tree_scripts::scripts::{lease_the_root, three_coins};
 use tree_scripts::uses::two;
 
 /// Fails the test unless both ledgers are printed alike.
@@ -25,64 +22,6 @@ fn print_alike(
 ) -> Result<(), AllocError> {
     let plain = text(alloc, plain)?;
     prints(rt, alloc, shared, plain.as_slice())
-}
-
-fn plain_lease(rt: &impl Abort, alloc: Global) -> Result<Ledger, AllocError> {
-    let (tree, mut desk) = three_coins(alloc, true)?;
-    Ok(ledger_of_a_lease(rt, alloc, tree, &mut desk))
-}
-
-fn shared_lease(rt: &impl Abort, alloc: Global) -> Result<Ledger, AllocError> {
-    let (tree, mut desk) = three_shared_coins(alloc, true)?;
-    Ok(ledger_of_a_lease(rt, alloc, tree, &mut desk))
-}
-
-#[test]
-fn a_leased_scope_leaves_the_same_ledger(rt: HostRuntime) -> Result<(), Fail> {
-    let plain = plain_lease(&rt, rt.alloc())?;
-    let shared = shared_lease(&rt, rt.alloc())?;
-    print_alike(&rt, rt.alloc(), &shared, &plain)?;
-    Ok(())
-}
-
-fn plain_late_scope(rt: &impl Abort, alloc: Global) -> Result<Ledger, AllocError> {
-    let (tree, mut desk) = three_coins(alloc, true)?;
-    Ok(ledger_of_a_late_scope(rt, tree, &mut desk))
-}
-
-fn shared_late_scope(rt: &impl Abort, alloc: Global) -> Result<Ledger, AllocError> {
-    let (tree, mut desk) = three_shared_coins(alloc, true)?;
-    Ok(ledger_of_a_late_scope(rt, tree, &mut desk))
-}
-
-#[test]
-fn a_late_scope_leaves_the_same_ledger(rt: HostRuntime) -> Result<(), Fail> {
-    let plain = plain_late_scope(&rt, rt.alloc())?;
-    let shared = shared_late_scope(&rt, rt.alloc())?;
-    print_alike(&rt, rt.alloc(), &shared, &plain)?;
-    Ok(())
-}
-
-fn plain_root(alloc: Global) -> Result<Ledger, AllocError> {
-    let (seat, mut desk) = PlainSeat::new(alloc, StreamNo::Outer, 3, 16)?;
-    let room = Room::new(alloc, 4, 3)?;
-    let (ledger, _) = lease_the_root(alloc, seat, room, &mut desk, GOOD, BAD, GOOD)?;
-    Ok(ledger)
-}
-
-fn shared_root(alloc: Global) -> Result<Ledger, AllocError> {
-    let (seat, mut desk) = SharedSeat::new(alloc, StreamNo::Outer, 3, 1, 16)?;
-    let room = Room::new(alloc, 4, 3)?;
-    let (ledger, _) = lease_the_root(alloc, seat, room, &mut desk, GOOD, BAD, GOOD)?;
-    Ok(ledger)
-}
-
-#[test]
-fn a_leased_root_leaves_the_same_ledger(rt: HostRuntime) -> Result<(), Fail> {
-    let plain = plain_root(rt.alloc())?;
-    let shared = shared_root(rt.alloc())?;
-    print_alike(&rt, rt.alloc(), &shared, &plain)?;
-    Ok(())
 }
 
 fn plain_guest(rt: &impl Abort, alloc: Global) -> Result<Ledger, AllocError> {

@@ -135,29 +135,6 @@ fn next_row(rows: &mut Vec<Spent<Held<MemDevice>>>) -> Option<(u64, usize)> {
 }
 
 #[test]
-fn two_tables_are_read(rt: HostRuntime) -> Result<(), Fail> {
-    let alloc = rt.alloc();
-    let mut depot = depot(alloc, b"k,v\n", b"k,v\nl,w\n", false)?;
-    let told = read_at(alloc, &mut depot, &["t", "u"])?;
-    same(&rt, why_not(&told), None);
-    prints(
-        &rt,
-        alloc,
-        &told.ledger,
-        b"ledger 5
-outer acquire 0 0
-outer acquire 1 0
-outer close 0 succeeded
-outer final 1 succeeded ok
-outer final 0 succeeded ok
-",
-    )?;
-    begin_at(&rt, told.rows, &[(0, 4), (1, 8)]);
-    same(&rt, depot.retired().len(), 0);
-    Ok(())
-}
-
-#[test]
 fn the_third_table_is_not_there(rt: HostRuntime) -> Result<(), Fail> {
     let alloc = rt.alloc();
     let mut depot = depot(alloc, b"k,v\n", b"", false)?;
@@ -188,16 +165,5 @@ fn a_read_fails(rt: HostRuntime) -> Result<(), Fail> {
     let told = read_at(alloc, &mut depot, &["u", "t"])?;
     same(&rt, why_not(&told), Some(NotRead::Fault(Code::Read)));
     begin_at(&rt, told.rows, &[(0, 4), (1, 4096)]);
-    Ok(())
-}
-
-#[test]
-fn what_a_table_holds_is_refused(rt: HostRuntime) -> Result<(), Fail> {
-    let alloc = rt.alloc();
-    let mut depot = depot(alloc, b"k", b"k,v\nk\n", false)?;
-    let told = read_at(alloc, &mut depot, &["t"])?;
-    same(&rt, why_not(&told), Some(NotRead::Fault(Code::NoField)));
-    let told = read_at(alloc, &mut depot, &["u"])?;
-    same(&rt, why_not(&told), Some(NotRead::Fault(Code::Uneven)));
     Ok(())
 }

@@ -2,22 +2,12 @@ ghost use Rattle.std.specs.Prelude.{◌≡◌, IfOk};
 ghost use Rattle.chunk_core.specs.Elements.{kind_of};
 ghost use Rattle.chunk_core.specs.Feed.{MayFeed};
 
-use crate::asserts::{holds, prints, renders, same};
-use chunk_core::{Chunk, ChunkQueue, Code, Fed, Feed, How, Line, List, Load, Row, Word};
+use crate::asserts::{prints, renders, same};
+use chunk_core::{Chunk, ChunkQueue, Code, Fed, Feed, How, Line, Load, Row};
 use std::alloc::{AllocError, Global};
 use std::mem;
 use std::process::Abort;
 use std::test::Fail;
-
-const CHUNKS: &[&[u8]] = &[&[1], &[2, 3]];
-
-const CHUNKS_WITH_AN_EMPTY_ONE: &[&[u8]] = &[&[1], &[], &[2], &[3]];
-
-const LINES: &[&[u8]] = &[b"ab", b"c"];
-
-const LINES_WITH_AN_EMPTY_ONE: &[&[u8]] = &[b"ab", b""];
-
-const ROW: &[&[&[u8]]] = &[&[b"a", b"b"]];
 
 const UNEVEN_ROWS: &[&[&[u8]]] = &[&[b"a,\"b", b"c d"], &[b"e"]];
 
@@ -88,31 +78,6 @@ fn vector_of(chunk: Chunk<u8>) -> Result<Vec<u8>, Fail> {
     }
 }
 
-/// The bytes, pushed to an empty list one by one.
-fn list_of(alloc: Global, bytes: &[u8]) -> Result<List<u8>, AllocError> {
-    let mut list = List::new(alloc);
-    for byte in bytes {
-        list.push(*byte)?;
-    }
-    Ok(list)
-}
-
-fn queue_of(alloc: Global, chunks: &[&[u8]]) -> Result<ChunkQueue<u8>, AllocError> {
-    let mut queue = ChunkQueue::new(alloc);
-    for bytes in chunks {
-        queue.push(bytes_of(alloc, bytes)?)?;
-    }
-    Ok(queue)
-}
-
-fn lines_of(alloc: Global, texts: &[&[u8]]) -> Result<Chunk<Line>, AllocError> {
-    let mut lines = Vec::new(alloc);
-    for text in texts {
-        lines.push(Line::copy_of(alloc, text)?)?;
-    }
-    Chunk::of_vec(alloc, lines)
-}
-
 fn rows_of(alloc: Global, rows: &[&[&[u8]]]) -> Result<Chunk<Row>, AllocError> {
     let mut copies = Vec::new(alloc);
     for fields in rows.iter().copied() {
@@ -123,71 +88,6 @@ fn rows_of(alloc: Global, rows: &[&[&[u8]]]) -> Result<Chunk<Row>, AllocError> {
         copies.push(row)?;
     }
     Chunk::of_vec(alloc, copies)
-}
-
-#[test]
-fn list_grows_at_its_end(rt: HostRuntime) -> Result<(), Fail> {
-    holds(&rt, list_of(rt.alloc(), &[])?.is_empty());
-    let list = list_of(rt.alloc(), &[4, 5])?;
-    same(&rt, list.len(), 2);
-    same(&rt, list.get(1), Some(&5));
-    same(&rt, list.get(2), None);
-    same(&rt, list.as_slice(), &[4, 5]);
-    same(&rt, list.into_vec().as_slice(), &[4, 5]);
-    Ok(())
-}
-
-#[test]
-fn word_is_its_text(rt: HostRuntime) -> Result<(), Fail> {
-    let word = Word::of(rt.alloc(), "né")?;
-    same(&rt, word.as_str(), "né");
-    same(&rt, word.as_bytes(), &[110, 195, 169]);
-    Ok(())
-}
-
-#[test]
-fn chunk_shows_the_vector(rt: HostRuntime) -> Result<(), Fail> {
-    let chunk = bytes_of(rt.alloc(), &[1, 2, 3])?;
-    same(&rt, chunk.len(), 3);
-    holds(&rt, !chunk.is_empty());
-    same(&rt, chunk.get(2), Some(&3));
-    same(&rt, chunk.get(3), None);
-    same(&rt, chunk.as_slice(), &[1, 2, 3]);
-    let copy = chunk.iter().copied().collect::<Vec<u8>>(rt.alloc())?;
-    same(&rt, copy.as_slice(), &[1, 2, 3]);
-    Ok(())
-}
-
-/// Fails the test unless two elements are split off as the one, and the other is left.
-fn splits(
-    rt: &impl Abort,
-    chunk: &mut Chunk<u8>,
-    front: &[u8],
-    left: &[u8],
-) -> Result<(), AllocError> {
-    let taken = chunk.split(2)?;
-    same(rt, taken.as_slice(), front);
-    same(rt, chunk.as_slice(), left);
-    same(rt, chunk.is_empty(), left.is_empty());
-    Ok(())
-}
-
-#[test]
-fn split_takes_off_the_front(rt: HostRuntime) -> Result<(), Fail> {
-    let mut chunk = bytes_of(rt.alloc(), &[1, 2, 3])?;
-    splits(&rt, &mut chunk, &[1, 2], &[3])?;
-    splits(&rt, &mut chunk, &[3], &[])?;
-    Ok(())
-}
-
-#[test]
-fn a_share_is_the_same_window(rt: HostRuntime) -> Result<(), Fail> {
-    let mut chunk = bytes_of(rt.alloc(), &[1, 2, 3])?;
-    chunk.split(1)?;
-    let share = chunk.share()?;
-    same(&rt, share.as_slice(), &[2, 3]);
-    same(&rt, chunk.as_slice(), &[2, 3]);
-    Ok(())
 }
 
 #[test]
@@ -210,15 +110,6 @@ fn a_part_of_a_vector_stays_a_chunk(rt: HostRuntime) -> Result<(), Fail> {
     Ok(())
 }
 
-#[test]
-fn concat_is_one_after_the_other(rt: HostRuntime) -> Result<(), Fail> {
-    let first = bytes_of(rt.alloc(), &[1, 2])?;
-    let second = bytes_of(rt.alloc(), &[3])?;
-    let both = first.concat(rt.alloc(), &second)?;
-    same(&rt, both.as_slice(), &[1, 2, 3]);
-    Ok(())
-}
-
 /// Fails the test unless the queue gives these for so many.
 fn gives(
     rt: &impl Abort,
@@ -229,15 +120,6 @@ fn gives(
     let front = queue.take(count)?;
     same(rt, front.as_slice(), bytes);
     same(rt, front.is_empty(), bytes.is_empty());
-    Ok(())
-}
-
-#[test]
-fn queue_gives_what_it_was_given(rt: HostRuntime) -> Result<(), Fail> {
-    let mut queue = queue_of(rt.alloc(), CHUNKS)?;
-    gives(&rt, &mut queue, 2, &[1, 2])?;
-    gives(&rt, &mut queue, 2, &[3])?;
-    gives(&rt, &mut queue, 1, &[])?;
     Ok(())
 }
 
@@ -277,62 +159,6 @@ fn queue_gives_a_front_without_a_copy(rt: HostRuntime) -> Result<(), Fail> {
     Ok(())
 }
 
-#[test]
-fn queue_joins_over_empty_chunks(rt: HostRuntime) -> Result<(), Fail> {
-    let mut queue = queue_of(rt.alloc(), CHUNKS_WITH_AN_EMPTY_ONE)?;
-    gives(&rt, &mut queue, 0, &[])?;
-    gives(&rt, &mut queue, 2, &[1, 2])?;
-    gives(&rt, &mut queue, 2, &[3])?;
-    Ok(())
-}
-
-/// The first two lines, taken from a queue one by one and joined.
-fn joined(alloc: Global, lines: Chunk<Line>) -> Result<Chunk<Line>, AllocError> {
-    let mut queue = ChunkQueue::new(alloc);
-    queue.push(lines)?;
-    let first = queue.take(1)?;
-    first.concat(alloc, &queue.take(1)?)
-}
-
-#[test]
-fn lines_are_taken_and_joined(rt: HostRuntime) -> Result<(), Fail> {
-    let both = joined(rt.alloc(), lines_of(rt.alloc(), LINES)?)?;
-    renders(&rt, rt.alloc(), &Load::Lines(both), b"ab\nc\n")?;
-    Ok(())
-}
-
-#[test]
-fn rows_are_joined(rt: HostRuntime) -> Result<(), Fail> {
-    let chunk = rows_of(rt.alloc(), ROW)?;
-    let both = chunk.concat(rt.alloc(), &chunk)?;
-    renders(&rt, rt.alloc(), &Load::Rows(both), b"a,b\na,b\n")?;
-    Ok(())
-}
-
-/// Fails the test unless one element is split off as the one text, and the other is left.
-fn gives_first(
-    rt: &impl Abort,
-    alloc: Global,
-    load: &mut Load,
-    first: &[u8],
-    left: &[u8],
-) -> Result<(), AllocError> {
-    let taken = load.split(1)?;
-    renders(rt, alloc, &taken, first)?;
-    renders(rt, alloc, load, left)?;
-    same(rt, load.is_empty(), left.is_empty());
-    Ok(())
-}
-
-#[test]
-fn a_load_is_split_by_its_elements(rt: HostRuntime) -> Result<(), Fail> {
-    let mut load = Load::Lines(lines_of(rt.alloc(), LINES)?);
-    same(&rt, load.len(), 2);
-    gives_first(&rt, rt.alloc(), &mut load, b"ab\n", b"c\n")?;
-    gives_first(&rt, rt.alloc(), &mut load, b"c\n", b"")?;
-    Ok(())
-}
-
 /// What may be passed to another thread.
 fn is_sendable<T: Send>(_value: &T) {}
 
@@ -352,29 +178,6 @@ fn codes_and_ends_have_their_names(rt: HostRuntime) -> Result<(), Fail> {
         "fault raised 7",
     )?;
     prints(&rt, rt.alloc(), &Code::LongLine, "longline")?;
-    Ok(())
-}
-
-#[test]
-fn finalizers_are_told_how_it_ended(rt: HostRuntime) -> Result<(), Fail> {
-    prints(&rt, rt.alloc(), &How::Done.exit(), "succeeded")?;
-    prints(&rt, rt.alloc(), &How::Fault(Code::Read).exit(), "errored")?;
-    prints(&rt, rt.alloc(), &How::Halted.exit(), "canceled")?;
-    prints(&rt, rt.alloc(), &How::Memory.exit(), "canceled")?;
-    Ok(())
-}
-
-#[test]
-fn bytes_render_as_they_are(rt: HostRuntime) -> Result<(), Fail> {
-    let load = Load::Bytes(bytes_of(rt.alloc(), &[104, 10, 105])?);
-    renders(&rt, rt.alloc(), &load, &[104, 10, 105])?;
-    Ok(())
-}
-
-#[test]
-fn each_line_renders_with_its_line_feed(rt: HostRuntime) -> Result<(), Fail> {
-    let load = Load::Lines(lines_of(rt.alloc(), LINES_WITH_AN_EMPTY_ONE)?);
-    renders(&rt, rt.alloc(), &load, b"ab\n\n")?;
     Ok(())
 }
 

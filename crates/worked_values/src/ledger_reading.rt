@@ -1,7 +1,8 @@
 //! The reader of ledgers, and why it refuses a text.
 use crate::asserts::{same, same_at};
 use ledger_laws::back::read_back;
-use res_ledger::{LedgerRefused, read, text};
+use ledger_text::{LedgerRefused, read};
+use res_ledger::text;
 use std::alloc::Global;
 use std::process::Abort;
 use std::test::Fail;

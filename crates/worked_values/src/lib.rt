@@ -7,6 +7,8 @@ mod asserts;
 #[cfg(test)]
 mod chunk_tests;
 #[cfg(test)]
+mod copies;
+#[cfg(test)]
 mod device_tests;
 #[cfg(test)]
 mod ledger_reading;

@@ -1,8 +1,0 @@
-use Rattle.std.proofs.Common.{[], refl}
-use Rattle.chunk_core.specs.Elements.LoadKind.{Bytes}
-use Rattle.pull_nodes.specs.Pipes.{meaning}
-use Rattle.pull_nodes.specs.declared.pipe.Pipe.TheVariants as pipe
-use Rattle.worked_pipes.proofs.utf8.LossyRecipeAsBytes.pipe.Goals as goal
-
-pub returns : goal.returns
-returns c = let m = meaning pipe.Lossy Bytes Bytes in (m, [], c.in_ok-new.ensures m refl, refl)
