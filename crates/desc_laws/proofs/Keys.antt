@@ -12,7 +12,7 @@ use Rattle.pipeline_desc.specs.Reading.{Reading, ◌>>=◌, present, refusal_of}
 use Rattle.pipeline_desc.specs.Values.{all_known, where_given}
 use Rattle.pipeline_desc.specs.declared.refusal.RefusalKind.TheVariants as refused
 use Rattle.desc_laws.specs.First.{IsFirst, NoneOf}
-use Rattle.desc_laws.specs.Flaws.{Key, Part, of_kind}
+use Rattle.desc_laws.specs.Flaws.{Key, Part, limit_kind, of_part}
 use Rattle.desc_laws.specs.Has.{HasFlaw, HasOther, flaws_at}
 use Rattle.desc_laws.specs.Places.{value_at}
 use Rattle.desc_laws.specs.Values.{IsMistyped, IsOfType, IsOutside, IsWithin, is_required}
@@ -49,14 +49,14 @@ module _ (bytes : List ℕ) (at : Part) (k : Key) where
   nothing_wrong e optional = ((λ h. false≢true (sym optional ∙ subst (IsMistyped k) e h)), ((λ h. subst (IsOutside bytes at k) e h), tt))
 
   -- no value, where one has to be
-  pub missing : value_at bytes at k ≡ None → is_required k ≡ true → IsFirst (HasFlaw bytes) (flaws_at at k) (of_kind refused.WrongType)
+  pub missing : value_at bytes at k ≡ None → is_required k ≡ true → IsFirst (HasFlaw bytes) (flaws_at at k) (of_part at refused.WrongType)
   missing e needed = inl (subst (IsMistyped k) (sym e) needed, refl)
 
   module _ (d : Data) (e : value_at bytes at k ≡ Some d) where
-    pub mistyped : (IsOfType k d → ⊥) → IsFirst (HasFlaw bytes) (flaws_at at k) (of_kind refused.WrongType)
+    pub mistyped : (IsOfType k d → ⊥) → IsFirst (HasFlaw bytes) (flaws_at at k) (of_part at refused.WrongType)
     mistyped h = inl (subst (IsMistyped k) (sym e) h, refl)
 
-    pub outside : IsOfType k d → (IsWithin bytes at k d → ⊥) → IsFirst (HasFlaw bytes) (flaws_at at k) (of_kind refused.OutOfRange)
+    pub outside : IsOfType k d → (IsWithin bytes at k d → ⊥) → IsFirst (HasFlaw bytes) (flaws_at at k) (of_part at (limit_kind k))
     outside t h = inr ((λ m. subst (IsMistyped k) e m t), inl (subst (IsOutside bytes at k) (sym e) (t, h), refl))
 
     pub within : IsOfType k d → IsWithin bytes at k d → Flawless
@@ -65,14 +65,14 @@ module _ (bytes : List ℕ) (at : Part) (k : Key) where
     -- what is made of a value within its limits, or that it isn't
     abbrev pub Rates : {Y : Type 0} → Reading Y → Type 0
     Rates (Ok y) = IsWithin bytes at k d
-    Rates (Err r) = (IsWithin bytes at k d → ⊥) × (r ≡ of_kind refused.OutOfRange)
+    Rates (Err r) = (IsWithin bytes at k d → ⊥) × (r ≡ of_part at (limit_kind k))
 
     pub rated_at : {Y : Type 0} (t : IsOfType k d) (m : Reading Y) → Rates m → Agrees (HasFlaw bytes) (flaws_at at k) m
     rated_at t (Ok y) h = within t h
     rated_at t (Err r) h = subst (IsFirst (HasFlaw bytes) (flaws_at at k)) (sym h.1) (outside t h.0)
 
     -- a value of the key's type, as `view` sees it, and then what is made of it
-    pub view_agrees : {X Y : Type 0} (position : _) → refusal_of refused.WrongType position ≡ of_kind refused.WrongType → (view : Data → Option X) (rest : X → Reading Y) → ((x : X) → view d ≡ Some x → IsOfType k d) → (IsOfType k d → (x : X) × (view d ≡ Some x)) → ((x : X) → view d ≡ Some x → Rates (rest x))
+    pub view_agrees : {X Y : Type 0} (position : _) → refusal_of refused.WrongType position ≡ of_part at refused.WrongType → (view : Data → Option X) (rest : X → Reading Y) → ((x : X) → view d ≡ Some x → IsOfType k d) → (IsOfType k d → (x : X) × (view d ≡ Some x)) → ((x : X) → view d ≡ Some x → Rates (rest x))
         → Agrees (HasFlaw bytes) (flaws_at at k) (present (view d) refused.WrongType position >>= rest)
     view_agrees {X} position told view rest from to rates = go (view d) refl
       where

@@ -8,7 +8,7 @@ use Rattle.std.proofs.lemmas.List.Folds.{list_any-append}
 use Rattle.std.proofs.lemmas.Slice.Eq.{bytes_eq-Decides}
 use Rattle.toml.specs.Data.{Data, Items, no_items, Members, no_members, as_array, as_str, as_table, get_member}
 use Rattle.pipeline_desc.specs.Limits.{is_name, is_path, most_streams, most_tables}
-use Rattle.pipeline_desc.specs.Plans.{Top, document_of, top_keys, top_meant}
+use Rattle.pipeline_desc.specs.Plans.{Top, top_keys, top_meant}
 use Rattle.pipeline_desc.specs.Reading.{Reading, ◌>>=◌, each_behind, passes, present, refusal_of}
 use Rattle.pipeline_desc.specs.Tables.{is_new_name, table_keys, table_meant, tables_meant}
 use Rattle.pipeline_desc.specs.Values.{each_as, known_keys, number_within, required, tables_at, text_that, where_given}
@@ -18,14 +18,14 @@ use Rattle.pipeline_desc.specs.declared.table.TableSpec.{TableSpec}
 use Rattle.desc_laws.specs.Flaws.{Key, of_kind}
 use Rattle.desc_laws.specs.Flaws.Flaw.{OtherKey}
 use Rattle.desc_laws.specs.Flaws.Key.{Version, MaxOpen, Queue, Chunk, Take, Tables, Streams, Name, Path}
-use Rattle.desc_laws.specs.Flaws.Part.{Table, Top as AtTop}
-use Rattle.desc_laws.specs.Has.{HasFlaw, flaws_from, flaws_of_bytes, flaws_of_keys, flaws_of_part, flaws_of_tables, keys_of}
-use Rattle.desc_laws.specs.Places.{document_in, entries_in, part_in, tables_in, value_at, value_in}
+use Rattle.desc_laws.specs.Flaws.Part.{Table}
+use Rattle.desc_laws.specs.Has.{HasFlaw, flaws_from, flaws_of_keys, flaws_of_part, flaws_of_tables, keys_of}
+use Rattle.desc_laws.specs.Places.{document_in, entries_in, part_in, streams_in, tables_in, value_at, value_in}
 use Rattle.desc_laws.specs.Values.{HasNameBefore, IsNewName}
 use Rattle.desc_laws.proofs.Agree.{Agrees, or_refused, then_agrees}
 use Rattle.desc_laws.proofs.Positions.{at_top}
 use Rattle.desc_laws.proofs.Texts.{bind_ok, needed_text_agrees, that_decides}
-use Rattle.desc_laws.proofs.Top.{begun_agrees, document_is, key_then, keys_agree}
+use Rattle.desc_laws.proofs.Top.{key_then, keys_agree}
 
 -- the names of these tables are those of the tables before number i
 abbrev pub AreNamed : List ℕ → ℕ → List TableSpec → Type 0
@@ -49,14 +49,14 @@ new_name bytes i found named d text is = (
     unused x alone false u = refl
 
 -- one table behind those that were found
-pub table_agrees : (bytes : List ℕ) (i : ℕ) (found : List TableSpec) → AreNamed bytes i found → Agrees (HasFlaw bytes) (flaws_of_part (Table i)) (table_meant found (part_in bytes (Table i)))
+pub table_agrees : (bytes : List ℕ) (i : ℕ) (found : List TableSpec) → AreNamed bytes i found → Agrees (HasFlaw bytes) (flaws_of_part bytes (Table i)) (table_meant found (part_in bytes (Table i)))
 table_agrees bytes i found named =
-    then_agrees (HasFlaw bytes) (OtherKey (Table i) ∷ []) (flaws_of_keys (Table i) (keys_of (Table i))) _ _ (keys_agree bytes (Table i)) (λ x is.
+    then_agrees (HasFlaw bytes) (OtherKey (Table i) ∷ []) (flaws_of_keys bytes (Table i) (keys_of (Table i))) _ _ (keys_agree bytes (Table i)) (λ x is.
     key_then bytes (Table i) Name (Path ∷ []) _ _ (needed_text_agrees bytes (Table i) Name at_top.0 refl refl (is_new_name found) (λ d. refl) (new_name bytes i found named) refl) (λ x is.
     key_then bytes (Table i) Path [] _ _ (needed_text_agrees bytes (Table i) Path at_top.0 refl refl is_path (λ d. refl) (that_decides bytes (Table i) Path is_path (λ d. refl)) refl) (λ x is. tt)))
 
 -- the name of a table that was read is the text that stands there
-text_seen : (p : Option (List ℕ)) (test : List ℕ → Bool) (position : _) (name : List ℕ) → (present p refused.WrongType position >>= (λ text. passes (test text) refused.OutOfRange position >>= (λ _. Ok text))) ≡ Ok name → p ≡ Some name
+pub text_seen : (p : Option (List ℕ)) (test : List ℕ → Bool) (position : _) (name : List ℕ) → (present p refused.WrongType position >>= (λ text. passes (test text) refused.OutOfRange position >>= (λ _. Ok text))) ≡ Ok name → p ≡ Some name
 text_seen None test position name e = (cc)
 text_seen (Some text) test position name e = go (test text) e
   where
@@ -126,11 +126,11 @@ one_named bytes i found t named d there is name = (
 
 -- the tables from number i on, behind those that were found
 pub behind_agrees : (bytes : List ℕ) (i : ℕ) (found : List TableSpec) (xs : List Members) → AreNamed bytes i found → ((j : ℕ) (x : Members) → slice_get xs j ≡ Some x → part_in bytes (Table (i + j)) ≡ x)
-    → Agrees (HasFlaw bytes) (flaws_from (λ n. flaws_of_part (Table n)) i xs) (each_behind table_meant found xs)
+    → Agrees (HasFlaw bytes) (flaws_from (λ n. flaws_of_part bytes (Table n)) i xs) (each_behind table_meant found xs)
 behind_agrees bytes i found [] named there = tt
 behind_agrees bytes i found (x ∷ xs) named there =
-    then_agrees (HasFlaw bytes) (flaws_of_part (Table i)) (flaws_from (λ n. flaws_of_part (Table n)) (i + 1) xs) (table_meant found x) (λ t. each_behind table_meant (found ++ t ∷ []) xs)
-    (subst (λ ms. Agrees (HasFlaw bytes) (flaws_of_part (Table i)) (table_meant found ms)) here (table_agrees bytes i found named))
+    then_agrees (HasFlaw bytes) (flaws_of_part bytes (Table i)) (flaws_from (λ n. flaws_of_part bytes (Table n)) (i + 1) xs) (table_meant found x) (λ t. each_behind table_meant (found ++ t ∷ []) xs)
+    (subst (λ ms. Agrees (HasFlaw bytes) (flaws_of_part bytes (Table i)) (table_meant found ms)) here (table_agrees bytes i found named))
     (λ t is. let (d, at, name) = name_read bytes i found t (ap (table_meant found) here ∙ is) in
     behind_agrees bytes (i + 1) (found ++ t ∷ []) xs (one_named bytes i found t named d at name)
     (λ j y e. ap (λ n. part_in bytes (Table n)) (next j) ∙ there (suc j) y e))
@@ -168,8 +168,8 @@ tables_seen most (Some d) xs e = go (as_array d) e
 -- what was read last of the top
 last_read : {A B C D E F : Type 0} (a : Reading A) (b : Reading B) (c : Reading C) (d : Reading D) (e : Reading E) (f : Reading F) (t s : Reading (List Members)) (made : C → D → E → F → List Members → List Members → Top) (top : Top)
     → (a >>= (λ _. b >>= (λ _. c >>= (λ z. d >>= (λ w. e >>= (λ x. f >>= (λ y. t >>= (λ tables. s >>= (λ streams. Ok (made z w x y tables streams)))))))))) ≡ Ok top
-    → (z : C) × (w : D) × (x : E) × (y : F) × (tables : List Members) × (streams : List Members) × (c ≡ Ok z) × (d ≡ Ok w) × (e ≡ Ok x) × (f ≡ Ok y) × (t ≡ Ok tables) × (made z w x y tables streams ≡ top)
-last_read (Ok a) (Ok b) (Ok z) (Ok w) (Ok x) (Ok y) (Ok tables) (Ok streams) made top h = (z, w, x, y, tables, streams, refl, refl, refl, refl, refl, (let whole : Ok (made z w x y tables streams) ≡ Ok top = h in cc))
+    → (z : C) × (w : D) × (x : E) × (y : F) × (tables : List Members) × (streams : List Members) × (c ≡ Ok z) × (d ≡ Ok w) × (e ≡ Ok x) × (f ≡ Ok y) × (t ≡ Ok tables) × (s ≡ Ok streams) × (made z w x y tables streams ≡ top)
+last_read (Ok a) (Ok b) (Ok z) (Ok w) (Ok x) (Ok y) (Ok tables) (Ok streams) made top h = (z, w, x, y, tables, streams, refl, refl, refl, refl, refl, refl, (let whole : Ok (made z w x y tables streams) ≡ Ok top = h in cc))
 last_read (Err r) b c d e f t s made top h = (cc)
 last_read (Ok a) (Err r) c d e f t s made top h = (cc)
 last_read (Ok a) (Ok b) (Err r) d e f t s made top h = (cc)
@@ -187,24 +187,18 @@ abbrev pub top_of : Option ℕ → Option ℕ → Option ℕ → Option ℕ → 
 top_of z w x y tables streams = record { max_open = unwrap_or z 4; queue = unwrap_or w 16; chunk = unwrap_or x 4096; take = y; tables = tables; streams = streams }
 
 -- what was read of the top
-pub top_read : (bytes : List ℕ) (top : Top) → (document_of bytes >>= top_meant) ≡ Ok top
+pub top_read : (bytes : List ℕ) (top : Top) → top_meant (document_in bytes) ≡ Ok top
     → (z w x y : Option ℕ) × (tables streams : List Members) × (number_read bytes 1 64 MaxOpen ≡ Ok z) × (number_read bytes 1 64 Queue ≡ Ok w) × (number_read bytes 1 65536 Chunk ≡ Ok x) × (number_read bytes 0 1000000000 Take ≡ Ok y)
-    × (tables_at most_tables (value_in (document_in bytes) Tables) ≡ Ok tables) × (top_of z w x y tables streams ≡ top)
+    × (tables_at most_tables (value_in (document_in bytes) Tables) ≡ Ok tables) × (tables_at most_streams (value_in (document_in bytes) Streams) ≡ Ok streams) × (top_of z w x y tables streams ≡ top)
 top_read bytes top e =
-    let (ms, document, rest) = bind_ok (document_of bytes) top_meant top e in
-    let same = document_is bytes ms document in
     let ms = document_in bytes in
     last_read (known_keys top_keys at_top.0 ms) (number_read bytes 1 1 Version) (number_read bytes 1 64 MaxOpen) (number_read bytes 1 64 Queue) (number_read bytes 1 65536 Chunk) (number_read bytes 0 1000000000 Take)
-    (tables_at most_tables (value_in ms Tables)) (tables_at most_streams (value_in ms Streams)) top_of top (ap top_meant same ∙ rest)
+    (tables_at most_tables (value_in ms Tables)) (tables_at most_streams (value_in ms Streams)) top_of top e
 
 -- what is described below the top is what stands there
-pub top_is : (bytes : List ℕ) (top : Top) → (document_of bytes >>= top_meant) ≡ Ok top → top.tables ≡ tables_in bytes
+pub top_is : (bytes : List ℕ) (top : Top) → top_meant (document_in bytes) ≡ Ok top → (top.tables ≡ tables_in bytes) × (top.streams ≡ streams_in bytes)
 top_is bytes top e =
-    let (z, w, x, y, tables, streams, a, b, c, d, t, made) = top_read bytes top e in
-    sym (ap (λ (v : Top). v.tables) made) ∙ sym (tables_seen most_tables (value_in (document_in bytes) Tables) tables t)
-
--- the bytes, the top and the tables
-pub tables_follow : (bytes : List ℕ) → Agrees (HasFlaw bytes) ((flaws_of_bytes ++ flaws_of_part AtTop) ++ flaws_of_tables bytes) ((document_of bytes >>= top_meant) >>= (λ top. tables_meant top.tables))
-tables_follow bytes =
-    then_agrees (HasFlaw bytes) (flaws_of_bytes ++ flaws_of_part AtTop) (flaws_of_tables bytes) (document_of bytes >>= top_meant) (λ top. tables_meant top.tables) (begun_agrees bytes)
-    (λ top is. subst (λ ts. Agrees (HasFlaw bytes) (flaws_of_tables bytes) (tables_meant ts)) (sym (top_is bytes top is)) (tables_agree_all bytes))
+    let (z, w, x, y, tables, streams, a, b, c, d, t, s, made) = top_read bytes top e in (
+      sym (ap (λ (v : Top). v.tables) made) ∙ sym (tables_seen most_tables (value_in (document_in bytes) Tables) tables t),
+      sym (ap (λ (v : Top). v.streams) made) ∙ sym (tables_seen most_streams (value_in (document_in bytes) Streams) streams s),
+    )

@@ -4,4 +4,7 @@ pub mod Has
 pub mod Laws
 pub mod Places
 pub mod Says
+pub mod Stages
 pub mod Values
+pub mod Words
+pub mod Worked

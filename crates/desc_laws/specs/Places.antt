@@ -1,11 +1,11 @@
 -- What stands where in a description.
-use Rattle.std.specs.Prelude.{ℕ, List, [], Option, Some, None, unwrap_or, slice_get}
-use Rattle.toml.specs.Data.{Data, Items, no_items, Members, no_members, as_array, as_table, get_member}
+use Rattle.std.specs.Prelude.{◌≡◌, ℕ, List, [], Option, Some, None, unwrap_or, option_and_then, slice_get}
+use Rattle.toml.specs.Data.{Data, Items, no_items, Members, no_members, as_array, as_str, as_table, get_member}
 use Rattle.toml.specs.Parse.{parse_document}
 use Rattle.pipeline_desc.specs.Values.{each_as}
 use Rattle.desc_laws.specs.Flaws.{Key, key_text, Part}
-use Rattle.desc_laws.specs.Flaws.Key.{Tables}
-use Rattle.desc_laws.specs.Flaws.Part.{Top, Table}
+use Rattle.desc_laws.specs.Flaws.Key.{Tables, Streams}
+use Rattle.desc_laws.specs.Flaws.Part.{Top, Table, Stream}
 
 -- the document that the bytes write, and an empty one where they write none
 abbrev pub document_in : List ℕ → Members
@@ -28,11 +28,32 @@ entries_in f d = unwrap_or (each_as f (items_in d)) []
 abbrev pub tables_in : List ℕ → List Members
 tables_in bytes = entries_in as_table (value_in (document_in bytes) Tables)
 
+-- the streams, as they stand in the document
+abbrev pub streams_in : List ℕ → List Members
+streams_in bytes = entries_in as_table (value_in (document_in bytes) Streams)
+
 -- the keys and values of a part of the description
 abbrev pub part_in : List ℕ → Part → Members
 part_in bytes Top = document_in bytes
 part_in bytes (Table i) = unwrap_or (slice_get (tables_in bytes) i) no_members
+part_in bytes (Stream k) = unwrap_or (slice_get (streams_in bytes) k) no_members
 
 -- the value at a key of a part, where there is one
 abbrev pub value_at : List ℕ → Part → Key → Option Data
 value_at bytes at k = value_in (part_in bytes at) k
+
+-- a value is there
+abbrev pub IsGiven : List ℕ → Part → Key → Type 0
+IsGiven bytes at k = (d : Data) × (value_at bytes at k ≡ Some d)
+
+-- the text of a value, where it is one
+abbrev pub text_in : Option Data → Option (List ℕ)
+text_in d = option_and_then as_str d
+
+-- this text is there
+abbrev pub HasText : List ℕ → Part → Key → List ℕ → Type 0
+HasText bytes at k text = text_in (value_at bytes at k) ≡ Some text
+
+-- the words at a key of stream k
+abbrev pub words_at : List ℕ → ℕ → Key → List (List ℕ)
+words_at bytes k key = entries_in as_str (value_at bytes (Stream k) key)

@@ -1,12 +1,13 @@
 -- Which values the keys of a description may have.
-use Rattle.std.specs.Prelude.{◌≡◌, ℕ, ◌≤◌, ◌<◌, Bool, true, false, List, length, Option, Some, None, pos, ℤ}
+use Rattle.std.specs.Prelude.{◌≡◌, ◌≢◌, ℕ, ◌≤◌, ◌<◌, Bool, true, false, List, [], ◌∷◌, length, codes, Option, Some, None, pos, ℤ}
 use Rattle.toml.specs.Data.{Data, Items, as_integer, as_str, as_array, as_table}
-use Rattle.pipeline_desc.specs.Limits.{is_name, is_path, most_streams, most_tables}
+use Rattle.chunk_core.specs.Lists.{IsAmong}
+use Rattle.pipeline_desc.specs.Limits.{is_name, is_path, is_short, most_streams, most_tables}
 use Rattle.pipeline_desc.specs.Values.{each_as}
 use Rattle.desc_laws.specs.Flaws.{Key, Part}
-use Rattle.desc_laws.specs.Flaws.Key.{Version, MaxOpen, Queue, Chunk, Take, Tables, Streams, Name, Path}
-use Rattle.desc_laws.specs.Flaws.Part.{Top, Table}
-use Rattle.desc_laws.specs.Places.{entries_in, value_at}
+use Rattle.desc_laws.specs.Flaws.Key.{Version, MaxOpen, Queue, Chunk, Take, Tables, Streams, Name, Path, Steps, With, Join, After, OnFault, To, Until}
+use Rattle.desc_laws.specs.Flaws.Part.{Top, Table, Stream}
+use Rattle.desc_laws.specs.Places.{entries_in, streams_in, value_at}
 
 -- an integer, a text, and an array of entries that are all such
 abbrev pub IsInteger : Data → Type 0
@@ -29,6 +30,13 @@ IsOfType Tables d = IsArrayOf as_table d
 IsOfType Streams d = IsArrayOf as_table d
 IsOfType Name d = IsText d
 IsOfType Path d = IsText d
+IsOfType Steps d = IsArrayOf as_str d
+IsOfType With d = IsText d
+IsOfType Join d = IsText d
+IsOfType After d = IsArrayOf as_str d
+IsOfType OnFault d = IsText d
+IsOfType To d = IsText d
+IsOfType Until d = IsInteger d
 
 -- the key may not be missing
 abbrev pub is_required : Key → Bool
@@ -56,8 +64,27 @@ IsNewName bytes i d = (name : List ℕ) × (as_str d ≡ Some name) × (is_name 
 abbrev pub IsNameOf : List ℕ → Part → Data → Type 0
 IsNameOf bytes (Table i) d = IsNewName bytes i d
 IsNameOf bytes Top d = Unit {0}
+IsNameOf bytes (Stream k) d = Unit {0}
 
--- the value is within the key's limits in a part of the description
+-- the names of joins
+abbrev pub join_names : List (List ℕ)
+join_names = codes "append" ∷ codes "zip" ∷ codes "merge" ∷ []
+
+-- the text is the name of a join
+abbrev pub IsJoinName : Data → Type 0
+IsJoinName d = (name : List ℕ) × (as_str d ≡ Some name) × IsAmong name join_names
+
+-- the integer is the number of a stream, and not of stream k
+abbrev pub IsOtherStream : List ℕ → ℕ → Data → Type 0
+IsOtherStream bytes k d = (n : ℕ) × (as_integer d ≡ Some (pos n)) × (n < length (streams_in bytes)) × (n ≢ k)
+
+-- the integer at `until` is the number of another stream
+abbrev pub IsUntilOf : List ℕ → Part → Data → Type 0
+IsUntilOf bytes (Stream k) d = IsOtherStream bytes k d
+IsUntilOf bytes Top d = Unit {0}
+IsUntilOf bytes (Table i) d = Unit {0}
+
+-- the value is within the key's limits in a part of the description; the steps of an array are looked at one by one
 abbrev pub IsWithin : List ℕ → Part → Key → Data → Type 0
 IsWithin bytes at Version d = IsNumber 1 1 d
 IsWithin bytes at MaxOpen d = IsNumber 1 64 d
@@ -68,6 +95,13 @@ IsWithin bytes at Tables d = length (entries_in as_table (Some d)) ≤ most_tabl
 IsWithin bytes at Streams d = length (entries_in as_table (Some d)) ≤ most_streams
 IsWithin bytes at Name d = IsNameOf bytes at d
 IsWithin bytes at Path d = IsTextThat is_path d
+IsWithin bytes at Steps d = Unit {0}
+IsWithin bytes at With d = IsTextThat is_path d
+IsWithin bytes at Join d = IsJoinName d
+IsWithin bytes at After d = Unit {0}
+IsWithin bytes at OnFault d = IsTextThat is_short d
+IsWithin bytes at To d = IsTextThat is_path d
+IsWithin bytes at Until d = IsUntilOf bytes at d
 
 -- the value is of another type, or isn't there and would have to be
 abbrev pub IsMistyped : Key → Option Data → Type 0

@@ -1,17 +1,24 @@
 //! The laws, each a function that does nothing: its contract is the law.
 ghost use Rattle.desc_laws.specs.Laws.{IsAcceptedWithoutFlaws, IsRefusedForTheFirst, PlanIsWhatKeysSay};
+ghost use Rattle.desc_laws.specs.Worked.{FlawsAreThere, FlawsFollow};
 
-/// Where no stream is told, the refusal is that of the first flaw outside of the streams.
+/// What may be wrong with descriptions, in order, and flaws that are there.
+pub fn worked()
+    ensures follow { FlawsFollow }
+    ensures there { FlawsAreThere }
+{}
+
+/// A description is refused exactly where it has a flaw, and then for the first.
 pub fn is_refused_for_the_first()
     ensures { IsRefusedForTheFirst }
 {}
 
-/// Outside of its streams an accepted description has no flaw.
+/// A description is a plan exactly where it has no flaw.
 pub fn is_accepted_without_flaws()
     ensures { IsAcceptedWithoutFlaws }
 {}
 
-/// Its plan is what its keys say: the numbers of the top, and the name and path of each table.
+/// Its plan is what its keys say: the numbers of the top, the name and path of each table, and all of each stream.
 pub fn plan_is_what_keys_say()
     ensures { PlanIsWhatKeysSay }
 {}

@@ -1,4 +1,4 @@
-//! What a refusal of a description tells of it, stated of what stands in the document: laws, and nothing here runs.
+//! Which refusal a description gets, and what its plan is, stated of what stands in the document: laws, and nothing here runs.
 #![tactic(auto)]
 
 pub mod laws;

@@ -1,4 +1,4 @@
-use Rattle.desc_laws.proofs.Said.{plan_said}
+use Rattle.desc_laws.proofs.Plans.{plan_said}
 use Rattle.desc_laws.proofs.laws.plan_is_what_keys_say.Goals as goal
 
 pub returns : goal.returns
