@@ -1,5 +1,5 @@
 -- Which rows a lease at a place covers.
-use Rattle.std.proofs.Common.{◌≡◌, ◌≢◌, ◌↔◌, ℕ, ◌<◌, ◌≤◌, List, [], ◌∷◌, ◌++◌, ◌⊎◌, inl, inr, refl, sym, ap, ◌∙◌, subst, ⊎_elim, length, arith, Some, slice_get}
+use Rattle.std.proofs.Common.{◌≡◌, ℕ, ◌<◌, ◌≤◌, List, [], ◌∷◌, ◌++◌, ◌⊎◌, inl, inr, refl, sym, ap, ◌∙◌, subst, ⊎_elim, length, arith, Some, slice_get}
 use Rattle.chunk_core.specs.declared.code.Exit.{Exit}
 use Rattle.res_ledger.specs.declared.event.StreamNo.{StreamNo}
 use Rattle.res_ledger.specs.declared.event.What.{What}
@@ -12,21 +12,6 @@ use Rattle.ledger_books.specs.Keyed.{NotesAt, CoversAt, IsUnclosedBefore}
 use Rattle.ledger_books.proofs.Placed.{at_more, among_at, noted_before, places, may_at, opened_at_one, noted_at_place, place_noted}
 
 module _ (P : List Event) (legal : IsLegal P) (k : StreamNo) where
-  -- a scope other than a lies below a exactly where its parent is a or does
-  pub within_by_parent : (i s p a : ℕ) → s ≢ a → NotesAt P i k (Open s p) → LiesWithin P k p a ↔ LiesWithin P k s a
-  within_by_parent i s p a ne o = ((λ w. below s p a (place_noted P legal k i (Open s p) o) w), (λ w. up s a w ne o))
-    where
-      up : (s a : ℕ) → LiesWithin P k s a → s ≢ a → NotesAt P i k (Open s p) → LiesWithin P k p a
-      up s a (same x) ne o = absurd (ne refl)
-      up s a (below x q b n w) ne o = let t = noted_at_place P legal k (Open x q) n in subst (λ v. LiesWithin P k v b) (opened_at_one P legal k t.0 i x q p t.1 o).1 w
-
-  pub within_not : (s a : ℕ) → s ≢ a → ¬ (IsOpened P k s) → ¬ (LiesWithin P k s a)
-  within_not s a ne n w = up s a w ne n
-    where
-      up : (s a : ℕ) → LiesWithin P k s a → s ≢ a → ¬ (IsOpened P k s) → ⊥
-      up s a (same x) ne n = ne refl
-      up s a (below x q b m w) ne n = n (q, m)
-
   closes_not : (m n s : ℕ) (x y : Exit) → m < n → NotesAt P m k (Close s x) → NotesAt P n k (Close s y) → ⊥
   closes_not m n s x y l a b =
       let t = may_at P legal k n (Close s y) b in

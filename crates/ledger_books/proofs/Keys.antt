@@ -98,9 +98,6 @@ has_begun x P i k b h = ((λ g e m q. has_not x P i (Begun (number_of k)) (sym h
 pub close_test : (x : Index) (P : List Event) → Indexes x P → (k : StreamNo) (s n : ℕ) (b : Bool) → n ≡ number_of k → b ≡ is_some (place_of x (Closed n s)) → (b ≡ true) ↔ NotesClose P k s
 close_test x P i k s n b e h = has_close x P i k s b (h ∙ ap (λ m. is_some (place_of x (Closed m s))) e)
 
-pub close_not : (x : Index) (P : List Event) → Indexes x P → (k : StreamNo) (s n : ℕ) (b : Bool) → n ≡ number_of k → b ≡ is_some (place_of x (Closed n s)) → b ≡ false → ¬ (NotesClose P k s)
-close_not x P i k s n b e h f z = false≢true (sym f ∙ (close_test x P i k s n b e h).1 z)
-
 -- where the index has a Close, it stands at that place
 pub close_at : (x : Index) (P : List Event) → Indexes x P → (k : StreamNo) (s n i : ℕ) → n ≡ number_of k → place_of x (Closed n s) ≡ Some i → (y : Exit) × NotesAt P i k (Close s y)
 close_at x P d k s n i e h =

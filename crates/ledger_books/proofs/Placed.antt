@@ -6,9 +6,11 @@ use Rattle.res_ledger.specs.declared.event.StreamNo.{StreamNo}
 use Rattle.res_ledger.specs.declared.event.What.{What}
 use Rattle.res_ledger.specs.declared.event.What.TheVariants.{Open}
 use Rattle.res_ledger.specs.declared.event.Event.{Event}
-use Rattle.res_ledger.specs.Ledger.{Notes, NotesClose, LiesWithin, IsClosed, IsOpened, MayFollow, IsLegal}
+use Rattle.res_ledger.specs.Ledger.{Notes, LiesWithin, IsOpened, MayFollow, IsLegal}
 use Rattle.res_ledger.specs.Ledger.LiesWithin.{same, below}
+use Rattle.ledger_books.specs.declared.scopes.Goal.{Goal}
 use Rattle.ledger_books.specs.Keyed.{NotesAt}
+use Rattle.ledger_books.specs.Walks.{ComesTo, EndsAt}
 
 -- what stands at a place
 pub at_split : (P : List Event) (i : ℕ) (e : Event) → slice_get P i ≡ Some e → (A B : List Event) × (P ≡ A ++ e ∷ B) × (length A ≡ i)
@@ -84,23 +86,23 @@ module _ (P : List Event) (legal : IsLegal P) (k : StreamNo) where
       let l = u.1 in let n = m.4 in omega arith)
       m.5.2.0
 
-  -- a scope that has no Close of its own is closed exactly where its parent is
-  pub closed_by_parent : (i s p : ℕ) → NotesAt P i k (Open s p) → ¬ (NotesClose P k s) → IsClosed P k p ↔ IsClosed P k s
-  closed_by_parent i s p a n = (
+  -- a walk that doesn't end at a scope comes to its end from there exactly where it does from its parent
+  pub comes_by_parent : (g : Goal) (i s p : ℕ) → NotesAt P i k (Open s p) → ¬ (EndsAt P k g s) → ComesTo P k g p ↔ ComesTo P k g s
+  comes_by_parent g i s p a n = (
     (λ c. (c.0, below s p c.0 (place_noted i (Open s p) a) c.1, c.2)),
     (λ c. up s c.0 c.1 c.2 a n),
   )
     where
-      up : (s x : ℕ) → LiesWithin P k s x → NotesClose P k x → NotesAt P i k (Open s p) → ¬ (NotesClose P k s) → IsClosed P k p
+      up : (s x : ℕ) → LiesWithin P k s x → EndsAt P k g x → NotesAt P i k (Open s p) → ¬ (EndsAt P k g s) → ComesTo P k g p
       up s x (same y) z a n = absurd (n z)
       up s x (below y q b o w) z a n =
           let t = noted_at_place (Open y q) o in
           (b, subst (λ v. LiesWithin P k v b) (opened_at_one t.0 i y q p t.1 a).1 w, z)
 
-  -- a scope without a Close that wasn't opened isn't closed
-  pub closed_not : (s : ℕ) → ¬ (IsOpened P k s) → ¬ (NotesClose P k s) → ¬ (IsClosed P k s)
-  closed_not s n m c = up s c.0 c.1 c.2 n m
+  -- from a scope that wasn't opened, and at which it doesn't end, it comes nowhere
+  pub comes_not : (g : Goal) (s : ℕ) → ¬ (IsOpened P k s) → ¬ (EndsAt P k g s) → ¬ (ComesTo P k g s)
+  comes_not g s n m c = up s c.0 c.1 c.2 n m
     where
-      up : (s x : ℕ) → LiesWithin P k s x → NotesClose P k x → ¬ (IsOpened P k s) → ¬ (NotesClose P k s) → ⊥
+      up : (s x : ℕ) → LiesWithin P k s x → EndsAt P k g x → ¬ (IsOpened P k s) → ¬ (EndsAt P k g s) → ⊥
       up s x (same y) z n m = m z
       up s x (below y q b o w) z n m = n (q, o)

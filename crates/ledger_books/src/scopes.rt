@@ -6,6 +6,7 @@ ghost use Rattle.res_ledger.specs.declared.event.StreamNo.TheVariants.{Inner};
 ghost use Rattle.res_ledger.specs.declared.event.What.TheVariants.{Open};
 ghost use Rattle.res_ledger.specs.Ledger.{IsClosed, IsLegal, IsOpened, IsUsable, LiesWithin};
 ghost use Rattle.ledger_books.specs.Keyed.{Indexes, IsUnclosedBefore, NotesAt, number_of};
+ghost use Rattle.ledger_books.specs.Walks.{ComesTo, EndsAt};
 
 use crate::index::{Index, Key};
 use res_ledger::{Event, StreamNo, What};
@@ -33,15 +34,35 @@ pub fn opened(index: &Index, past: &[Event], by: StreamNo, scope: u32) -> Option
     }
 }
 
-/// Whether the stream closed the scope or one above it.
-pub fn is_closed(index: &Index, past: &[Event], by: StreamNo, scope: u32) -> bool
+/// Where a walk up the scopes ends.
+#[derive(Clone, Copy, Debug, PartialEq, Eq)]
+pub enum Goal {
+    /// At this scope.
+    Scope(u32),
+    /// At a scope that has a Close of its own.
+    Closed,
+}
+
+/// Whether the walk ends at the scope.
+fn ends(index: &Index, past: &[Event], by: StreamNo, scope: u32, goal: Goal) -> bool
+    requires { Indexes index.now past.now }
+    ensures { (result ≡ true) ↔ EndsAt past.now by goal scope }
+{
+    match goal {
+        Goal::Scope(other) => scope == other,
+        Goal::Closed => index.has(Key::Closed(number(by), scope)),
+    }
+}
+
+/// Whether the walk from the scope upwards comes to its end.
+fn comes_to(index: &Index, past: &[Event], by: StreamNo, scope: u32, goal: Goal) -> bool
     requires index { Indexes index.now past.now }
     requires legal { IsLegal past.now }
-    ensures { (result ≡ true) ↔ IsClosed past.now by scope }
+    ensures { (result ≡ true) ↔ ComesTo past.now by goal scope }
 {
     let mut at = scope;
     let mut below = past.len() as u64;
-    while !index.has(Key::Closed(number(by), at)) {
+    while !ends(index, past, by, at, goal) {
         let Some((place, parent)) = opened(index, past, by, at) else {
             return false;
         };
@@ -52,6 +73,15 @@ pub fn is_closed(index: &Index, past: &[Event], by: StreamNo, scope: u32) -> boo
         at = parent;
     }
     true
+}
+
+/// Whether the stream closed the scope or one above it.
+pub fn is_closed(index: &Index, past: &[Event], by: StreamNo, scope: u32) -> bool
+    requires index { Indexes index.now past.now }
+    requires legal { IsLegal past.now }
+    ensures { (result ≡ true) ↔ IsClosed past.now by scope }
+{
+    comes_to(index, past, by, scope, Goal::Closed)
 }
 
 /// Whether the scope is the root or was opened.
@@ -83,19 +113,7 @@ pub fn lies_within(index: &Index, past: &[Event], by: StreamNo, scope: u32, abov
     requires legal { IsLegal past.now }
     ensures { (result ≡ true) ↔ LiesWithin past.now by scope above }
 {
-    let mut at = scope;
-    let mut below = past.len() as u64;
-    while at != above {
-        let Some((place, parent)) = opened(index, past, by, at) else {
-            return false;
-        };
-        if place >= below {
-            return false;
-        }
-        below = place;
-        at = parent;
-    }
-    true
+    comes_to(index, past, by, scope, Goal::Scope(above))
 }
 
 /// Whether the scope has no Close of its own in front of the place.

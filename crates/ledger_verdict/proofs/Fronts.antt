@@ -145,7 +145,7 @@ module _ (P Q : List Event) (legal : IsLegal (P ++ Q)) (k : StreamNo) where
       x.7.3 (subst (λ q. IsClosed x.0 q x.7.0) (sym one.0) (subst (IsClosed x.0 k) (sym one.1) done))))
       (split_append P Q x.0 x.1 x.2 x.4)
 
-  along_front : (d : Due) → due_along (may_of (P ++ Q)) (due_of (P ++ Q)) [] nothing_due (own k P) ≡ Some d → due_at P k ≡ Some d
+  pub along_front : (d : Due) → due_along (may_of (P ++ Q)) (due_of (P ++ Q)) [] nothing_due (own k P) ≡ Some d → due_at P k ≡ Some d
   along_front d h =
       along_more (may_of (P ++ Q)) (may_of P) (due_of (P ++ Q)) (due_of P) Tracks (tracks_step (may_of (P ++ Q)) (due_of (P ++ Q))) (own k P) [] nothing_due d
       (λ B C f s t. widens B C f s t)

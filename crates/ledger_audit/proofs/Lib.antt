@@ -1,0 +1,11 @@
+pub mod Adding
+pub mod Completing
+pub mod Counts
+pub mod Deciding
+pub mod Fronts
+pub mod Judging
+pub mod Marking
+pub mod Noting
+pub mod Raising
+pub mod Reaching
+pub mod Standing

@@ -1,0 +1,12 @@
+use Rattle.std.proofs.Common.{◌≡◌, ◌≤◌, ◌-◌, ℕ, List, reverse}
+use Rattle.chunk_core.specs.Lists.{has}
+use Rattle.res_ledger.specs.Order.{covered}
+use Rattle.ledger_verdict.specs.Pending.{behind}
+use Rattle.ledger_audit.specs.Marks.{Stands}
+use Rattle.ledger_audit.proofs.marks.passed.Given as goal
+
+abbrev pub invariant-loop-n : goal.invariant-loop-n
+invariant-loop-n l = (ys : List ℕ) → Stands l.torn l.from l.to ys → (zs : List ℕ) × Stands l.torn l.from l.n zs × (l.n ≤ l.to) × (behind (λ r. has r (covered l.past)) l.row (reverse ys) ≡ behind (λ r. has r (covered l.past)) l.row (reverse zs))
+
+abbrev pub decreases-loop-n : goal.decreases-loop-n
+decreases-loop-n l = l.n - l.from
