@@ -1,11 +1,13 @@
--- Messages and ends may go to another thread, and threads may share the hub.
+-- Messages, ends and handles may go to another thread, and threads may share the hub.
 use denote.RattleType.{RattleType}
 use denote.Param.Send.{IsSend, IsSync, sendable}
 use Rattle.channel_bounded.specs.declared.rule.May.{Ghosts}
+use Rattle.channel_bounded.specs.contracts.handle.HubRef as HubRef
 use Rattle.channel_bounded.specs.contracts.hub.Hub as Hub
 use Rattle.channel_bounded.specs.contracts.message.Msg as Msg
 use Rattle.channel_bounded.specs.contracts.receiver.Receiver as Receiver
 use Rattle.channel_bounded.specs.contracts.sender.Sender as Sender
+use Rattle.channel_bounded.proofs.handle.HubRef.TheSendSync as handle
 use Rattle.channel_bounded.proofs.hub.Hub.TheSendSync as hub
 use Rattle.channel_bounded.proofs.message.Msg.TheSendSync as message
 use Rattle.channel_bounded.proofs.receiver.Receiver.TheSendSync as receiver
@@ -25,3 +27,6 @@ hub_send A g s = search (sendable, hub.the_send) depth 6
 
 pub hub_sync : (A : RattleType) (g : Ghosts A.Denot) → IsSync A → IsSync (Hub.the_row A g)
 hub_sync A g s = search (sendable, hub.the_sync) depth 6
+
+pub handle_send : (A : RattleType) (g : Ghosts A.Denot) → IsSend A → IsSync A → IsSend (HubRef.the_row A g)
+handle_send A g s t = search (sendable, handle.the_send) depth 8

@@ -1,5 +1,5 @@
 //! Which ends may go to another thread, as their types say.
-use crate::{Hub, May, Msg, Receiver, Sender};
+use crate::{Hub, HubRef, May, Msg, Receiver, Sender};
 
 fn sent<T: Send>(_value: &T) {}
 
@@ -16,4 +16,9 @@ pub fn ends_cross(message: &Msg, sender: &Sender, receiver: &Receiver) {
 pub fn hub_crosses<A: May + Send + Sync>(hub: &Hub<A>) {
     sent(hub);
     shared(hub);
+}
+
+/// A handle may move to another thread.
+pub fn handles_cross<A: May + Send + Sync>(handle: &HubRef<A>) {
+    sent(handle)
 }

@@ -1,4 +1,4 @@
 pub mod Words
 pub mod Holding
 pub mod Keeping
-pub mod Crossing
+pub mod Threads

@@ -8,9 +8,11 @@
 //! no memory and keeps, for contracts alone, what it has set and seen. `set` answers whether it was this
 //! call that interrupted the context. `look` answers why a context is to stop: its own cause, or where it
 //! has none that of the whole run. `split` makes a seat for another thread, and `join` takes it in again.
+//! A `BoardRef` is a handle that owns a board with the other handles on it, each on a thread of its own
+//! (`share`).
 //!
-//! No call waits, tries again or takes a lock. The only error is `AllocError`, of `Board::new`; no other
-//! call takes memory.
+//! No call waits, tries again or takes a lock. The only error is `AllocError`, of `Board::new` and of a
+//! handle's `new` and `share`; no other call takes memory.
 //!
 //! Here `sets` asserts what `set` answers in a context, and `finds_each` what a look finds in each:
 //!
@@ -34,10 +36,13 @@
 #![tactic(auto)]
 
 pub mod board;
+pub mod crossing;
+pub mod handle;
 mod rule;
 pub mod view;
 pub mod why;
 
 pub use board::{Board, BoardSeat};
+pub use handle::BoardRef;
 pub use view::{Interruption, Look, View};
 pub use why::Why;

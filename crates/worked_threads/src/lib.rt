@@ -1,6 +1,6 @@
 //! Tests, by public calls alone, of what threads share: boards of interruption, channels, and tables
-//! of rows with a seat for each thread. They stand above the crates that they test, so that none of
-//! these is proved twice for its tests.
+//! of rows with a seat for each thread; and a caller of workers. They stand above the crates that they
+//! test, so that none of these is proved twice for its tests.
 #![tactic(auto)]
 
 #[cfg(test)]
@@ -11,3 +11,4 @@ mod boards;
 mod channels;
 #[cfg(test)]
 mod seats;
+pub mod uses;
