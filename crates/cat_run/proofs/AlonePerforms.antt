@@ -1,40 +1,48 @@
 -- One stream that ran alone did its work.
-use Rattle.std.proofs.Common.{◌≡◌, ℕ, ◌<◌, Bool, true, false, ◌||◌, List, inl, inr, map, length, Option, Some, None, IfSome, is_some, refl, sym, ◌∙◌, ap, subst, ⊎_elim, arith, append-nil}
-use Rattle.std.proofs.lemmas.Bool.{both_ways, false_from_ne_true, false≢true, or_cases}
-use Rattle.std.specs.List.{list_any as any, AllByRecursion}
+use Rattle.std.proofs.Common.{◌≡◌, ◌⊎◌, ℕ, zero, suc, ◌<◌, true, false, List, [], inl, inr, map, length, Option, Some, None, IfSome, is_some, refl, sym, ◌∙◌, ap, subst, ⊎_elim, arith, append-nil}
+use Rattle.std.proofs.lemmas.Bool.{both_ways, false_from_ne_true, false≢true}
+use Rattle.std.specs.List.{AllByRecursion}
 use Rattle.chunk_core.specs.Elements.{Element, rendering_of}
+use Rattle.chunk_core.specs.Lists.{IsAmong}
+use Rattle.chunk_core.specs.Lists.IsAmong.{here}
 use Rattle.chunk_core.specs.Outcomes.{End, Outcomes, Done}
 use Rattle.chunk_core.specs.Tables.{no_values}
 use Rattle.chunk_core.specs.Texts.{Frame}
 use Rattle.chunk_core.specs.declared.code.Code.{Code}
+use Rattle.chunk_core.specs.declared.code.How.{How}
 use Rattle.chunk_core.specs.declared.code.How.TheVariants as how
+use Rattle.chunk_core.proofs.Members.{among_cons, among_nil}
 use Rattle.res_ledger.specs.declared.event.StreamNo.TheVariants.{Inner}
 use Rattle.device_port.specs.Device.{Place, DeviceTold, faults_of}
 use Rattle.device_port.specs.Depot.{DepotTold}
 use Rattle.device_port.specs.Sink.{SinkTold}
 use Rattle.run_rules.specs.declared.end.EndOf.{EndOf}
-use Rattle.run_rules.specs.Facts.{is_halted, is_memory}
+use Rattle.run_rules.specs.Facts.{is_halted, is_memory, is_over}
 use Rattle.run_rules.specs.Devices.{DevicesAccounted}
-use Rattle.run_rules.specs.Ends.{EndIsCaused, HaveEnds, act_count, is_silenced, last_stream, may_stop, silence_stops}
-use Rattle.run_rules.specs.Exits.{HasExit, is_exit_hidden}
-use Rattle.run_rules.specs.Outputs.{IsOutput, AreOutputs, HaveOutputs}
+use Rattle.run_rules.specs.Ends.{EndIsCaused, HaveEnds, MayStop, SilenceStops, act_count, last_stream}
+use Rattle.run_rules.specs.Exits.{HasOneExit}
+use Rattle.run_rules.specs.Homes.{AreLeftAlone}
+use Rattle.run_rules.specs.Outputs.{IsOutput, AreOutputs, HaveOutputs, elements_in_pieces}
 use Rattle.run_rules.specs.Run.{Performs}
 use Rattle.run_rules.specs.Wholeness.{NothingFailed, IsWholeRun}
 use Rattle.run_rules.specs.Work.{Work, RunRecord, names_of}
-use Rattle.res_ledger.specs.declared.event.Event.{Event}
-use Rattle.res_ledger.specs.Streams.{by_stream}
 use Rattle.cat_run.specs.declared.outcome.Outcome.{Outcome}
-use Rattle.joined_runs.specs.Together.{elements_in_pieces}
 use Rattle.cat_run.specs.Alone.{alone, frame_of, RunsAlone}
 use Rattle.cat_run.specs.Cat.{run_record_of}
-use Rattle.cat_run.proofs.Accounts.{clean, root_closed, told_as_ended}
+use Rattle.cat_run.proofs.Accounts.{clean, none_above, told_as_ended}
 use Rattle.cat_run.proofs.AloneWork.{accounted, keeps_rules, homes, shown, faultless}
 use Rattle.cat_run.proofs.CutFrames.{rest_is}
-use Rattle.cat_run.proofs.Pieces.{cut_is, cut_of, payloads_pieces, pieces_numbers}
-use Rattle.chunk_core.proofs.Bools.{and_true, or_left}
+use Rattle.cat_run.proofs.Pieces.{cut_is, cut_of, frames_pieces, payloads_pieces, pieces_numbers}
 
-or_false : (b : Bool) → (b || false) ≡ true → b ≡ true
-or_false b h = ⊎_elim (λ e. e) (λ e. absurd (false≢true e)) (or_cases b false h)
+-- a stream that didn't end by itself was halted or found no memory
+halted_or_wanting : (h : How) → is_over h ≡ false → (h ≡ how.Memory) ⊎ (h ≡ how.Halted)
+halted_or_wanting how.Memory e = inl refl
+halted_or_wanting how.Halted e = inr refl
+halted_or_wanting how.Done e = absurd (false≢true (sym e))
+halted_or_wanting (how.Fault c) e = absurd (false≢true (sym e))
+
+some_is_none : {A : Type 0} (x : A) → Some x ≡ None → ⊥
+some_is_none x e = cc
 
 module _ (places : List Place) (scopes : ℕ) (runs ideal : (ℕ → DeviceTold) → Outcomes) (size : ℕ) (old new : DepotTold) (so sn : SinkTold) (o : Outcome) (r : RunsAlone places scopes runs size old new so sn o) where
   abbrev work : Work
@@ -66,38 +74,50 @@ module _ (places : List Place) (scopes : ℕ) (runs ideal : (ℕ → DeviceTold)
         → (r.how ≡ how.Done) × ((ys : List Element) × ideal r.home ys Done × (rendering_of given ≡ rendering_of ys))
 
   output : IsOutput work no_values r.home frames 0 r.how
-  output = record { elements = given; end = r.run.end; run = r.run.run; printed = payloads_pieces 0 r.printed.pieces; reported = r.run.reported }
+  output = record { pieces = r.printed.pieces; end = r.run.end; run = r.run.run; printed = frames_pieces 0 r.printed.pieces; reported = r.run.reported }
 
   outputs : HaveOutputs work run_record no_values r.home
   outputs = record {
     numbers = pieces_numbers 0 1 (omega arith) r.printed.pieces r.printed.some;
     few = tt;
+    in_turn = λ e. absurd (false≢true e);
     outputs = subst (λ es. AreOutputs work no_values r.home frames 0 work.streams es) (sym r.ends) (output, refl);
     rest = rest_is work no_values r.home r.printed.pieces r.printed.next r.printed.rest (omega arith) o.sink_failed r.printed.cut r.run.goes_on;
   }
 
   -- whoever printed last may stop the only stream
-  any_last : (l : Option ℕ) → (elim l [ Some j ↦ may_stop work (Inner j) (Inner 0) | None ↦ true ]) ≡ true
-  any_last (Some j) = refl
-  any_last None = refl
+  any_last : (l : Option ℕ) → IfSome l (λ j. MayStop work (Inner j) (Inner 0))
+  any_last (Some j) = λ e. absurd (false≢true e)
+  any_last None = tt
 
-  silenced : o.sink_failed ≡ true → silence_stops work run_record (Inner 0) ≡ true
-  silenced t = and_true (is_silenced work run_record) (elim (last_stream run_record) [ Some j ↦ may_stop work (Inner j) (Inner 0) | None ↦ true ]) (or_left (is_some cut) false (cut_is 0 o.sink_failed r.printed.next ∙ t)) (any_last (last_stream run_record))
+  silenced : o.sink_failed ≡ true → SilenceStops work run_record (Inner 0)
+  silenced t = (inl (λ e. false≢true (ap is_some (sym e) ∙ (cut_is 0 o.sink_failed r.printed.next ∙ t))), any_last (last_stream run_record))
+
+  -- what holds of the only end holds of each
+  each_end : (P : EndOf → Type 0) → P end_0 → (e : EndOf) → IsAmong e o.ends → P e
+  each_end P h e m = ⊎_elim (λ is. subst P (sym is) h) (λ n. absurd (among_nil n)) (among_cons (subst (λ es. IsAmong e es) r.ends m))
 
   ends : IsCovered → HaveEnds work run_record r.home
   ends h = record {
     named = subst (λ es. map (λ (e : EndOf). e.who) es ≡ names_of work) (sym r.ends) refl;
     caused = subst (λ es. AllByRecursion (EndIsCaused work run_record) es) (sym r.ends) (
       record {
-        halted = λ t. ⊎_elim (λ f. inl (silenced f)) (λ w. inr (inl w)) (r.run.halted t);
+        halted = λ t. ⊎_elim (λ f. inl (silenced f)) (λ w. inr (inl w)) (r.run.halted (ap is_halted t));
         fault = shown places scopes runs ideal old new r.home r.how o.ledger r.devices r.account r.how h.shown;
-        root = λ t. root_closed (length places) scopes r.home r.how o.ledger r.account;
+        root = λ t. r.account.closed;
       },
       tt,
     );
     outer = tt;
-    stopped = record { in_turn = λ e. absurd (false≢true e); nobody = λ e. absurd (false≢true e) };
-    memory = λ t. r.run.remembered (or_false (is_memory r.how) (subst (λ es. any (λ (e : EndOf). is_memory e.how) es ≡ true) r.ends t));
+    stopped = record {
+      failed = λ e. absurd (false≢true e);
+      silenced = λ e. absurd (false≢true e);
+      ended = λ e. absurd (false≢true e);
+      halted = λ e k m who is why. inr (none_above (length places) scopes r.home r.how o.ledger r.account k);
+      nobody = λ e. absurd (some_is_none 0 (sym e));
+    };
+    memory = each_end (λ e. e.how ≡ how.Memory → o.memory ≡ true) (λ t. r.run.remembered (ap is_memory t));
+    wanting = λ t. (end_0, subst (λ es. IsAmong end_0 es) (sym r.ends) (here []), halted_or_wanting r.how (r.run.wanting t).1);
   }
 
   complete : IsCovered → o.memory ≡ false → NothingFailed work run_record no_values r.home → IsWholeRun work run_record no_values r.home
@@ -113,6 +133,11 @@ module _ (places : List Place) (scopes : ℕ) (runs ideal : (ℕ → DeviceTold)
         output = ((w.1.0, w.1.1, payloads_pieces 0 r.printed.pieces ∙ w.1.2), tt);
       }
 
+  -- the only stream noted something
+  left_alone : AreLeftAlone work run_record r.home
+  left_alone zero q s is quiet l u = let n = r.account.closed.1 in absurd (quiet (n.0, n.1, n.2))
+  left_alone (suc k) q s is quiet l u = cc
+
   -- the work was done
   pub performs_alone : IsCovered → Performs work run_record
   performs_alone h = record {
@@ -121,10 +146,13 @@ module _ (places : List Place) (scopes : ℕ) (runs ideal : (ℕ → DeviceTold)
     ran = inr (record {
       values = no_values;
       home = r.home;
-      rows = homes places scopes runs ideal old new r.home r.how o.ledger r.devices r.account no_values r.printed.pieces cut r.printed.rest o refl;
+      rows = homes places scopes runs ideal old new r.home r.how o.ledger r.devices r.account no_values r.printed.pieces cut r.printed.rest o refl left_alone;
       outputs = outputs;
       ends = ends h;
-      exits = subst (λ es. AllByRecursion (λ (e : EndOf). is_exit_hidden work e ≡ false → AllByRecursion (λ (x : Event). HasExit e x.what) (by_stream e.who o.ledger)) es) (sym r.ends) ((λ e. told_as_ended (length places) scopes r.home r.how o.ledger r.account), tt);
+      exits = subst (λ es. AllByRecursion (HasOneExit work run_record no_values r.home) es) (sym r.ends) (
+        record { how = r.how; same = inl refl; told = told_as_ended (length places) scopes r.home r.how o.ledger r.account; ran = λ k q. (given, r.run.end, r.run.run, r.run.reported) },
+        tt,
+      );
       completeness = complete h;
     });
   }

@@ -1,5 +1,5 @@
 -- The work of one stream, from what it has done.
-use Rattle.std.proofs.Common.{◌≡◌, ℕ, ◌+◌, ◌<◌, true, List, ◌++◌, map, length, Option, Some, None, IfSome, refl, sym, ◌∙◌, ap, arith, append-nil}
+use Rattle.std.proofs.Common.{◌≡◌, ℕ, ◌+◌, ◌<◌, List, ◌++◌, map, length, Option, Some, None, IfSome, refl, sym, ◌∙◌, ap, arith, append-nil}
 use Rattle.std.specs.List.{AllByRecursion}
 use Rattle.chunk_core.specs.Elements.{Element}
 use Rattle.chunk_core.specs.Texts.{Frame}
@@ -13,8 +13,8 @@ use Rattle.device_port.specs.Depot.{DepotTold}
 use Rattle.run_rules.specs.Facts.{at, first_numbers}
 use Rattle.run_rules.specs.Devices.{DevicesAccounted, came_back}
 use Rattle.run_rules.specs.Work.{Work, Values}
-use Rattle.run_rules.specs.Ends.{act_count, is_shown}
-use Rattle.run_rules.specs.Homes.{HaveHomes}
+use Rattle.run_rules.specs.Ends.{IsShown, act_count}
+use Rattle.run_rules.specs.Homes.{AreLeftAlone, HaveHomes}
 use Rattle.run_rules.specs.Rules.{KeepsRules}
 use Rattle.res_ledger.proofs.Permuted.{range_among, range_distinct}
 use Rattle.cat_run.specs.declared.outcome.Outcome.{Outcome}
@@ -22,7 +22,7 @@ use Rattle.cat_run.specs.Alone.{alone, frame_of, ComesBack, IsAccount}
 use Rattle.cat_run.specs.Cat.{run_record_of}
 use Rattle.joined_runs.specs.Devices.{MadeComeBack}
 use Rattle.job_runs.proofs.Returned.{are_made, places_are}
-use Rattle.cat_run.proofs.Accounts.{kept, leaves_closed, ours}
+use Rattle.cat_run.proofs.Accounts.{kept, leaves_closed, lends_none, ours}
 use Rattle.joined_runs.proofs.MadeRows as made
 use Rattle.joined_runs.proofs.MadeRows.{at_below, at_some, place_found}
 
@@ -38,6 +38,7 @@ all_made old new places w d = record {
   others = λ r p e n. let l = at_below places r p e in absurd (n (range_among 0 (length places) r (omega arith) (omega (arith, l))));
   files = d.files;
   stored = d.stored;
+  there = d.there;
 }
 
 module _ (places : List Place) (scopes : ℕ) (runs ideal : (ℕ → DeviceTold) → Outcomes) (old new : DepotTold) (w : ℕ → DeviceTold) (h : How) (L : List Event) (d : ComesBack old new places w) (a : IsAccount (length places) scopes w h L) where
@@ -59,15 +60,16 @@ module _ (places : List Place) (scopes : ℕ) (runs ideal : (ℕ → DeviceTold)
     ours = ours places scopes w h L a runs ideal;
     scopes = (a.opened, tt);
     leaving = leaves_closed (length places) scopes w h L a;
+    tables = lends_none (length places) scopes w h L a;
     pace = tt;
   }
 
   -- the rows are at home
-  pub homes : (v : Values) (pieces : List (List Element)) (cut : Option Frame) (rest : List ℕ) (o : Outcome) → o.ledger ≡ L → HaveHomes work (run_record_of old new (map (frame_of 0) pieces) cut rest o) v w
-  homes v pieces cut rest o is = made.homes places old new w every L (kept (length places) scopes w h L a) work (run_record_of old new (map (frame_of 0) pieces) cut rest o) v (append-nil places) refl refl is tt
+  pub homes : (v : Values) (pieces : List (List Element)) (cut : Option Frame) (rest : List ℕ) (o : Outcome) → o.ledger ≡ L → AreLeftAlone work (run_record_of old new (map (frame_of 0) pieces) cut rest o) w → HaveHomes work (run_record_of old new (map (frame_of 0) pieces) cut rest o) v w
+  homes v pieces cut rest o is left = made.homes places old new w every L (kept (length places) scopes w h L a) work (run_record_of old new (map (frame_of 0) pieces) cut rest o) v (append-nil places) refl refl is tt left
 
   -- a fault of an act has a device of a row that shows it
-  pub shown : (e : How) → ((c : Code) → e ≡ how.Fault c → IfSome (act_count c) (λ n. (r : ℕ) × (r < length places) × (0 < n (w r)))) → is_shown (came_back old new) places e ≡ true
+  pub shown : (e : How) → ((c : Code) → e ≡ how.Fault c → IfSome (act_count c) (λ n. (r : ℕ) × (r < length places) × (0 < n (w r)))) → IsShown (came_back old new) places e
   shown e h = made.shown places old new w every places e (λ c is. counted_so (act_count c) (h c is))
     where
       counted_so : (o : Option (DeviceTold → ℕ)) → IfSome o (λ n. (r : ℕ) × (r < length places) × (0 < n (w r))) → IfSome o (made.IsCountedRow places old new w every places)

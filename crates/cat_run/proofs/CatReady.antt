@@ -11,6 +11,7 @@ use Rattle.pull_nodes.specs.declared.node.Node.TheVariants.{Read, Weak'}
 use Rattle.pull_stepper.proofs.Beginning.{fresh_unused}
 use Rattle.pull_stepper.specs.Sites.{IsUnused}
 use Rattle.pull_stepper.specs.Stepping.{IsSupplied}
+use Rattle.run_rules.specs.Devices.{OpensWhatIsThere}
 use Rattle.stream_parts.specs.Made.{MakesEach}
 use Rattle.stream_parts.specs.Retire.{AreWrittenAlone, MayReturnAll, Returns, devices_of}
 use Rattle.stream_parts.proofs.Exchanged.{exchanges_then, may_permuted}
@@ -21,7 +22,7 @@ use Rattle.cat_run.specs.Cat.{FileRuns, RunsCat}
 use Rattle.cat_run.specs.Ready.{IsCatNode}
 use Rattle.cat_run.specs.Streams.{RunsStream}
 use Rattle.cat_run.proofs.CatRuns.{cat_runs_alone}
-use Rattle.cat_run.proofs.ComingBack.{all_come_back}
+use Rattle.cat_run.proofs.ComingBack.{all_come_back, back_there}
 use Rattle.job_runs.proofs.Returned.{made_returned}
 
 module _ {V : Type 0} (told : V → DeviceTold) where
@@ -52,12 +53,13 @@ module _ {V : Type 0} (told : V → DeviceTold) (path : List ℕ) (chunk : ℕ) 
   may_go = may_permuted mid (ran.home 0 ∷ []) (devices_of told r.shelf r.unopened) ran.each
       (same_may_return told ran.home mid 0 (d ∷ []) (made_may_return old mid (to_read path ∷ []) (told d ∷ []) made) ran.same (λ q l m. (ran.rest q m).shut))
 
-  module _ (new : DepotTold) (back : Returns mid new (devices_of told r.shelf r.unopened)) where
+  module _ (each_there : (v : V) → OpensWhatIsThere (told v)) (new : DepotTold) (back : Returns mid new (devices_of told r.shelf r.unopened)) where
     comes_back : ComesBack old new (to_read path ∷ []) ran.home
     comes_back = all_come_back (to_read path ∷ []) ran.home (one_alone (to_read path)) old new back.back
         (exchanges_then old mid new (to_read path ∷ []) [] [] back.back (made_exchanges old mid (to_read path ∷ []) (told d ∷ []) made) back.exchanges)
         (IsPermutation-trans (ran.home 0 ∷ []) (devices_of told r.shelf r.unopened) back.back ran.each back.each)
         (made_returned told ran.home old 0 (to_read path ∷ []) (d ∷ []) made.devices ran.same (λ q l m. ran.rest q m))
+        (back_there told each_there r.shelf r.unopened back.back back.each)
 
     -- the stream ran over its file
     runs_alone : RunsAlone (to_read path ∷ []) 0 (λ w. FileRuns (w 0)) chunk old new so sn r.outcome
@@ -71,5 +73,5 @@ module _ {V : Type 0} (told : V → DeviceTold) (path : List ℕ) (chunk : ℕ) 
   may_return = may_go told path chunk old mid so sn is.0 d makes r ran_so
 
   -- the work of cat was done
-  pub cat_ran : (new : DepotTold) → Returns mid new (devices_of told r.shelf r.unopened) → RunsCat path chunk old new so sn r.outcome
-  cat_ran new back = cat_runs_alone path chunk old new so sn r.outcome (runs_alone told path chunk old mid so sn is.0 d makes r ran_so new back)
+  pub cat_ran : ((v : V) → OpensWhatIsThere (told v)) → (new : DepotTold) → Returns mid new (devices_of told r.shelf r.unopened) → RunsCat path chunk old new so sn r.outcome
+  cat_ran each_there new back = cat_runs_alone path chunk old new so sn r.outcome (runs_alone told path chunk old mid so sn is.0 d makes r ran_so each_there new back)

@@ -15,9 +15,8 @@ use Rattle.pull_nodes.specs.Runs.{FirstBytes, OrLeft, Reads, OpensThen}
 use Rattle.run_rules.specs.declared.end.EndOf.{EndOf}
 use Rattle.run_rules.specs.Facts.{is_halted, is_memory, is_over}
 use Rattle.run_rules.specs.Ends.{act_count}
-use Rattle.run_rules.specs.Outputs.{IsReported}
+use Rattle.run_rules.specs.Outputs.{IsReported, elements_in_pieces}
 use Rattle.cat_run.specs.declared.outcome.Outcome.{Outcome}
-use Rattle.joined_runs.specs.Together.{elements_in_pieces}
 use Rattle.cat_run.specs.Alone.{frame_of, RunsAlone}
 use Rattle.cat_run.specs.Cat.{FileRuns, IdealFileRuns, RunsCat}
 use Rattle.cat_run.proofs.AlonePerforms.{IsCovered, performs_alone}

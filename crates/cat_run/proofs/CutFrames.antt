@@ -1,15 +1,15 @@
 -- The frame whose write failed.
-use Rattle.std.proofs.Common.{◌≡◌, ℕ, ◌<◌, Bool, true, false, List, ◌++◌, map, length, refl, sym, ◌∙◌, ap}
-use Rattle.std.proofs.lemmas.Grind.{flat_map-append}
-use Rattle.chunk_core.specs.Elements.{Element, element_text, rendering_of}
+use Rattle.std.proofs.Common.{◌≡◌, ℕ, ◌<◌, Bool, true, false, List, [], ◌∷◌, ◌++◌, map, length, refl, sym, ◌∙◌, ap, subst, append-nil}
+use Rattle.std.proofs.lemmas.List.{map-append}
+use Rattle.chunk_core.specs.Elements.{Element, rendering_of}
 use Rattle.chunk_core.specs.Outcomes.{Cut}
 use Rattle.device_port.specs.Device.{DeviceTold}
-use Rattle.run_rules.specs.Outputs.{IsRest}
+use Rattle.run_rules.specs.Outputs.{IsRest, elements_in_pieces}
 use Rattle.run_rules.specs.Work.{Values, Work}
 use Rattle.frames.proofs.Rendered.{rendering_some}
 use Rattle.cat_run.specs.Alone.{IsCutAt, frame_of}
-use Rattle.joined_runs.specs.Together.{elements_in_pieces}
-use Rattle.cat_run.proofs.Pieces.{cut_of, payloads_pieces}
+use Rattle.joined_runs.proofs.Parted.{elements_both}
+use Rattle.cat_run.proofs.Pieces.{cut_of, frames_pieces}
 
 module _ (work : Work) (v : Values) (w : ℕ → DeviceTold) (pieces : List (List Element)) (next : List Element) (rest : List ℕ) where
   -- where no write failed, nothing was written behind the whole frames
@@ -25,7 +25,7 @@ module _ (work : Work) (v : Values) (w : ℕ → DeviceTold) (pieces : List (Lis
     more = c.1;
     front = c.2;
     text = c.3;
-    elements = elements_in_pieces pieces ++ next;
-    run = goes_on refl;
-    goes_on = ap (λ p. p ++ rendering_of next) (payloads_pieces 0 pieces) ∙ sym (flat_map-append element_text (elements_in_pieces pieces) next);
+    pieces = pieces ++ next ∷ [];
+    run = subst (λ xs. work.runs 0 v w xs Cut) (sym (elements_both pieces (next ∷ []) ∙ ap (λ xs. elements_in_pieces pieces ++ xs) (append-nil next))) (goes_on refl);
+    goes_on = ap (λ l. l ++ rendering_of next ∷ []) (frames_pieces 0 pieces) ∙ sym (map-append rendering_of pieces (next ∷ []));
   }

@@ -6,7 +6,7 @@ use Rattle.chunk_core.specs.Elements.{Element, element_text, rendering_of}
 use Rattle.chunk_core.specs.Elements.Element.{Byte}
 use Rattle.chunk_core.specs.Texts.{Frame, payloads_of}
 use Rattle.frames.proofs.Rendered.{rendering_some}
-use Rattle.joined_runs.specs.Together.{elements_in_pieces}
+use Rattle.run_rules.specs.Outputs.{elements_in_pieces, payloads_by}
 use Rattle.cat_run.specs.Alone.{IsSmallPiece, frame_of}
 use Rattle.chunk_core.proofs.Bools.{itself}
 use Rattle.chunk_core.proofs.Each.{each_left, each_right}
@@ -17,6 +17,13 @@ payloads_pieces k [] = refl
 payloads_pieces k (p ∷ pieces) =
     ap (λ b. flat_map (λ (f : Frame). f.payload) (cond b (frame_of k p ∷ filter (λ f. nat_eq f.stream k) (map (frame_of k) pieces)) (filter (λ f. nat_eq f.stream k) (map (frame_of k) pieces)))) (itself k)
     ∙ (ap (λ b. rendering_of p ++ b) (payloads_pieces k pieces) ∙ sym (flat_map-append element_text p (elements_in_pieces pieces)))
+
+-- the payloads of these frames are the texts of the pieces
+pub frames_pieces : (k : ℕ) (pieces : List (List Element)) → payloads_by k (map (frame_of k) pieces) ≡ map rendering_of pieces
+frames_pieces k [] = refl
+frames_pieces k (p ∷ pieces) =
+    ap (λ b. map (λ (f : Frame). f.payload) (cond b (frame_of k p ∷ filter (λ f. nat_eq f.stream k) (map (frame_of k) pieces)) (filter (λ f. nat_eq f.stream k) (map (frame_of k) pieces)))) (itself k)
+    ∙ ap (λ b. rendering_of p ∷ b) (frames_pieces k pieces)
 
 pub pieces_numbers : (k n : ℕ) → k < n → (pieces : List (List Element)) → AllByRecursion IsSmallPiece pieces → AllByRecursion (λ f. (f.stream < n) × (0 < length f.payload)) (map (frame_of k) pieces)
 pieces_numbers k n l [] h = tt

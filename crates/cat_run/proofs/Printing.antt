@@ -1,5 +1,5 @@
 -- Printing a stream, turn by turn.
-use Rattle.std.proofs.Common.{◌≡◌, ℕ, ◌+◌, ◌<◌, ◌≤◌, true, false, List, [], ◌∷◌, ◌++◌, inl, inr, map, length, take, drop, Some, Err, refl, sym, ◌∙◌, ap, subst, arith, append-nil, length-drop}
+use Rattle.std.proofs.Common.{◌≡◌, ℕ, ◌+◌, ◌<◌, ◌≤◌, false, List, [], ◌∷◌, ◌++◌, inl, inr, map, length, take, drop, Some, Err, refl, sym, ◌∙◌, ap, subst, arith, append-nil, length-drop}
 use Rattle.std.proofs.lemmas.Bool.{false≢true}
 use Rattle.std.proofs.lemmas.Grind.{flat_map-append}
 use Rattle.std.proofs.lemmas.List.{map-append, take-append-drop}
@@ -24,9 +24,9 @@ use Rattle.pull_turns.specs.declared.rest.Rest.TheVariants.{Nil}
 use Rattle.pull_turns.specs.declared.turn.Turn.TheVariants as turn
 use Rattle.pull_turns.proofs.Leads.{left_earlier}
 use Rattle.pull_turns.proofs.Led.{cut_unwritten, led_start, led_chunk, led_quiet, led_done, led_ends, led_fault, over_now, tells_same}
+use Rattle.run_rules.specs.Outputs.{elements_in_pieces}
 use Rattle.cat_run.specs.declared.stopped.Stopped.{Stopped}
 use Rattle.cat_run.specs.declared.stopped.Stopped.TheVariants as stopped
-use Rattle.joined_runs.specs.Together.{elements_in_pieces}
 use Rattle.cat_run.specs.Alone.{AreSmall, frame_of, IsSmallPiece, PrintsPieces}
 use Rattle.cat_run.specs.Printing.{PrintsOne, PrintsRun}
 use Rattle.chunk_core.proofs.Each.{each_snoc}

@@ -5,21 +5,21 @@ use Rattle.std.proofs.lemmas.List.Sorted.{IsPermutation-refl}
 use Rattle.std.specs.List.Sorted.{IsPermutation}
 use Rattle.std.specs.List.{AllByRecursion}
 use Rattle.chunk_core.proofs.Each.{each_of}
+use Rattle.chunk_core.proofs.Members.{among_nil}
 use Rattle.res_ledger.specs.declared.event.Event.{Event}
 use Rattle.res_ledger.specs.declared.event.StreamNo.{StreamNo}
 use Rattle.res_ledger.specs.Own.{opens, own}
 use Rattle.res_ledger.proofs.Judged.{legal_sound, complete_sound}
 use Rattle.res_ledger.proofs.Ordering.{ordered_sound}
-use Rattle.device_port.specs.Device.{DeviceTold}
 use Rattle.device_port.specs.Depot.{DepotTold, Files, KeepsFilesBut, KeepsWritten}
 use Rattle.device_port.specs.Sink.{SinkTold, with_bytes}
 use Rattle.device_port.proofs.Puts.{with_bytes_none}
 use Rattle.run_rules.specs.declared.end.EndOf.{EndOf}
 use Rattle.run_rules.specs.Facts.{acquired_row, ended_row, failed_row}
-use Rattle.run_rules.specs.Devices.{AreAsMany, AreNoMore, IsWritten, came_back, is_closed_with, named, numbered}
+use Rattle.run_rules.specs.Devices.{AreAsMany, AreNoMore, IsShut, IsWrittenBy, came_back, is_closed_with, named, numbered}
 use Rattle.run_rules.specs.Rules.{KeepsPace, KeepsRules}
 use Rattle.run_rules.specs.Run.{Performs}
-use Rattle.run_rules.specs.Work.{Opener, Work, all_places, names_of, scopes_by}
+use Rattle.run_rules.specs.Work.{Opener, Work, row_places, names_of, scopes_by}
 use Rattle.res_ledger.proofs.Stamps.{stamped_sound}
 use Rattle.cat_run.specs.declared.outcome.Outcome.{Outcome}
 use Rattle.cat_run.specs.Cat.{cat_work, run_record_of, RunsCat}
@@ -31,7 +31,13 @@ no_middle (x ∷ P) Q e is = cc
 -- an empty ledger keeps the rules of every work
 none_paced : (o : Option Opener) (n : ℕ) → KeepsPace o n []
 none_paced None n = tt
-none_paced (Some o) n = ((λ P Q e k is by. absurd (no_middle P Q e is)), (λ P Q e is. absurd (no_middle P Q e is)))
+none_paced (Some o) n = record {
+  ahead = λ P Q e k is by. absurd (no_middle P Q e is);
+  within = λ P Q e is. absurd (no_middle P Q e is);
+  leases = λ P Q e i j s is what l. absurd (no_middle P Q e is);
+  waits = λ P Q e is. absurd (no_middle P Q e is);
+  begins = λ P Q e k is by. absurd (no_middle P Q e is);
+}
 
 none_rules : (work : Work) → KeepsRules work []
 none_rules work = record {
@@ -39,9 +45,10 @@ none_rules work = record {
   legal = legal_sound [] refl;
   complete = complete_sound [] (legal_sound [] refl) refl;
   ordered = ordered_sound [] refl;
-  ours = refl;
+  ours = tt;
   scopes = each_of (λ (k : StreamNo). length (opens (own k [])) ≤ scopes_by work k) (λ k. omega arith) (names_of work);
   leaving = λ P Q e j x is by what. absurd (no_middle P Q e is);
+  tables = record { rise = λ P Q e r s q t is by what m. absurd (no_middle P Q e is); covers = λ j s r m l. absurd (among_nil m.1) };
   pace = none_paced work.opener (length work.streams);
 }
 
@@ -73,23 +80,23 @@ unmade_outcome = record { ends = []; ledger = []; sink_failed = false; memory = 
 -- where nothing was begun each work was done
 pub performs_nothing : (work : Work) (old : DepotTold) → Performs work (run_record_of old old [] None [] unmade_outcome)
 performs_nothing work old =
-    let places = all_places work in
+    let places = row_places work in
     record {
       devices = record {
         made = and_nothing old.made;
         few = subst (λ ps. AreNoMore ps places) (sym (dropped_all old.made)) tt;
         retired = and_nothing old.retired;
         once = subst (λ ps. IsPermutation (numbered (length old.made) ps) (map named (came_back old old))) (sym (dropped_all old.made)) (subst (λ ds. IsPermutation [] (map named ds)) (sym (dropped_all old.retired)) (IsPermutation-refl []));
-        shut = subst (λ ds. AllByRecursion (λ (x : DeviceTold). (x.is_open ≡ false) × (x.closes ≡ x.opens)) ds) (sym (dropped_all old.retired)) tt;
+        shut = subst (λ ds. AllByRecursion IsShut ds) (sym (dropped_all old.retired)) tt;
         rows = tt;
         acquired = subst (λ ds. AreAsMany (λ d. nat_eq d.opens 1) acquired_row ds places []) (sym (dropped_all old.retired)) tt;
         failed = subst (λ ds. AreAsMany (λ d. nat_lt 0 d.close_faults) failed_row ds places []) (sym (dropped_all old.retired)) tt;
         exits = λ x. subst (λ ds. AreAsMany (is_closed_with x) (ended_row x) ds places []) (sym (dropped_all old.retired)) tt;
-        files = keeps_same (IsWritten places) old.files;
+        files = keeps_same (IsWrittenBy (came_back old old)) old.files;
         stored = subst (λ ds. AllByRecursion (KeepsWritten old.files) ds) (sym (dropped_all old.retired)) tt;
       };
       ledger = none_rules work;
-      ran = inl (record { memory = refl; ends = refl; events = refl; frames = refl; cut = refl; rest = refl });
+      ran = inl (record { memory = refl; depot = refl; ends = refl; events = refl; frames = refl; cut = refl; rest = refl });
     }
 
 pub cat_makes_nothing : (path : List ℕ) (old new : DepotTold) (so sn : SinkTold) (size : ℕ) → new ≡ old → sn ≡ so → RunsCat path size old new so sn unmade_outcome

@@ -18,11 +18,10 @@ use Rattle.device_port.specs.Device.{Place, DeviceTold}
 use Rattle.device_port.specs.Depot.{DepotTold, KeepsFilesBut, KeepsWritten}
 use Rattle.device_port.specs.Sink.{SinkTold, with_bytes}
 use Rattle.run_rules.specs.Facts.{is_halted, is_memory, is_over, leased_stream, first_numbers}
-use Rattle.run_rules.specs.Devices.{IsWritten}
-use Rattle.run_rules.specs.Outputs.{IsReported}
+use Rattle.run_rules.specs.Devices.{IsWrittenBy, OpensWhatIsThere}
+use Rattle.run_rules.specs.Outputs.{IsReported, elements_in_pieces}
 use Rattle.run_rules.specs.Work.{Work}
 use Rattle.joined_runs.specs.Devices.{AreReturned}
-use Rattle.joined_runs.specs.Together.{elements_in_pieces}
 use Rattle.cat_run.specs.declared.outcome.Outcome.{Outcome}
 
 -- one stream, with a row for each of these places, and at most so many scopes
@@ -76,15 +75,17 @@ pub record IsRunIn (runs : Outcomes) (pieces : List (List Element)) (next : List
 
 -- What became of the devices.
 
--- the depot made a device for each place, and each came back, in any order, with what was written to it kept
+-- the depot made a device for each place, and each came back, in any order, with what was written to it kept; files changed only where one was opened for writing, and none was opened to be read
+-- that isn't there
 pub record ComesBack (old new : DepotTold) (places : List Place) (w : ℕ → DeviceTold) : Type 0 where
   pub made : new.made ≡ old.made ++ places
   pub back : List DeviceTold
   pub retired : new.retired ≡ old.retired ++ back
   pub each : IsPermutation (map w (first_numbers (length places))) back
   pub devices : AreReturned old.files (length old.made) w 0 places
-  pub files : KeepsFilesBut (IsWritten places) old.files new.files
+  pub files : KeepsFilesBut (IsWrittenBy back) old.files new.files
   pub stored : AllByRecursion (KeepsWritten new.files) back
+  pub there : AllByRecursion OpensWhatIsThere back
 
 -- What was noted.
 

@@ -6,7 +6,7 @@ use Rattle.std.proofs.lemmas.List.Sorted.{IsPermutation-append, IsPermutation-ap
 use Rattle.std.specs.List.{AllByRecursion, IsDistinct, range_with_len}
 use Rattle.std.specs.List.Sorted.{IsPermutation}
 use Rattle.chunk_core.specs.Lists.{IsAmong}
-use Rattle.chunk_core.proofs.Each.{among_each, among_permuted, each_among, each_append}
+use Rattle.chunk_core.proofs.Each.{among_each, among_permuted, each_among, each_append, each_permuted}
 use Rattle.chunk_core.proofs.Filters.{among_right}
 use Rattle.chunk_core.proofs.Members.{among_cons, among_left, among_nil}
 use Rattle.device_port.specs.declared.device.Mode.TheVariants as mode
@@ -19,6 +19,7 @@ use Rattle.outer_tables.specs.Outcomes.ComeOut.{none, read, closed, unread, refu
 use Rattle.pull_stepper.specs.Held.{closed_as}
 use Rattle.pull_stepper.specs.Sites.{blank}
 use Rattle.res_ledger.specs.Order.{firsts}
+use Rattle.run_rules.specs.Devices.{OpensWhatIsThere}
 use Rattle.run_rules.specs.Facts.{at}
 use Rattle.scope_tree.specs.declared.branch.Spent.{Spent}
 use Rattle.scope_tree.specs.Released.{said}
@@ -97,6 +98,20 @@ module _ {V : Type 0} (told : V → DeviceTold) (files : Option Files) where
   back_reads (refused d bytes f g h) = tt
   back_reads unmade = tt
   back_reads (cut d h) = tt
+
+  -- and wasn't opened
+  back_closed : {n : ℕ} {paths bss : List (List ℕ)} {ds : List V} {back : List DeviceTold} {o : Option NotRead} → ComeOut told files n paths ds back bss o → AllByRecursion (λ d. d.opens ≡ 0) back
+  back_closed none = tt
+  back_closed (read d g fine out) = back_closed out
+  back_closed closed = (refl, tt)
+  back_closed (unread d h) = tt
+  back_closed (refused d bytes f g h) = tt
+  back_closed unmade = tt
+  back_closed (cut d h) = tt
+
+-- a device that was never opened wasn't opened where nothing is
+unopened_there : (d : DeviceTold) → d.opens ≡ 0 → OpensWhatIsThere d
+unopened_there d e m p = e
 
 read_only : mode.Read ≡ mode.Write → ⊥
 read_only e = cc
@@ -312,8 +327,8 @@ module _ {V : Type 0} (told : V → DeviceTold) (paths : List (List ℕ)) (place
           omega (arith, e, number, is, other, less, mid_count)
 
   -- and once they went back all were made and came back
-  pub all_back : AreWrittenAlone all → (lo : List DeviceTold) → IsPermutation (map (λ x. told x.pay) shelf ++ left) lo → (last : DepotTold) → Returns new last lo → MadeComeBack old last all home
-  all_back alone lo arranged last back_again =
+  pub all_back : AreWrittenAlone all → (lo : List DeviceTold) → IsPermutation (map (λ x. told x.pay) shelf ++ left) lo → AllByRecursion OpensWhatIsThere lo → (last : DepotTold) → Returns new last lo → MadeComeBack old last all home
+  all_back alone lo arranged lawful last back_again =
       let exchange = exchanges_then old new last (tried ++ own_places) [] (back ++ gone) back_again.back (exchanges_then old mid new tried own_places back gone tables_exchange mine.exchanges) back_again.exchanges in
       come_back all home alone old last (table_rows ++ own_rows) ((back ++ gone) ++ back_again.back)
       (subst (λ ps. Exchanges old last ps ((back ++ gone) ++ back_again.back)) (append-nil (tried ++ own_places) ∙ sym all_placed) exchange)
@@ -322,3 +337,4 @@ module _ {V : Type 0} (told : V → DeviceTold) (paths : List (List ℕ)) (place
       (IsPermutation-append_right (back ++ gone) (map (λ x. told x.pay) shelf ++ left) back_again.back (IsPermutation-trans (map (λ x. told x.pay) shelf ++ left) lo back_again.back arranged back_again.each)))
       all_made
       all_others
+      (each_append OpensWhatIsThere (back ++ gone) back_again.back (each_append OpensWhatIsThere back gone (each_among OpensWhatIsThere back (λ d m. unopened_there d (among_each (λ (x : DeviceTold). x.opens ≡ 0) d back (back_closed told old.files out) m))) (each_among OpensWhatIsThere gone (λ d m. unopened_there d (among_each (λ (x : DeviceTold). x.opens ≡ 0) d gone mine.unopened m)))) (each_permuted OpensWhatIsThere lo back_again.back back_again.each lawful))

@@ -24,19 +24,24 @@ use Rattle.pipeline_desc.specs.declared.stream.StreamSpec.{StreamSpec}
 use Rattle.plan_work.specs.Plans.{PlanRuns, opener_of, stream_of}
 use Rattle.pull_nodes.specs.declared.node.Node.{Node}
 use Rattle.pull_turns.specs.Piping.{StateMeaning}
+use Rattle.res_ledger.specs.Ledger.{Notes}
 use Rattle.res_ledger.specs.declared.event.Event.{Event}
+use Rattle.res_ledger.specs.declared.event.StreamNo.TheVariants.{Outer}
+use Rattle.res_ledger.specs.declared.event.What.TheVariants.{Lease}
 use Rattle.row_seat.specs.declared.view.View.{View}
 use Rattle.run_rules.specs.Facts.{at}
+use Rattle.run_rules.specs.Devices.{OpensWhatIsThere}
+use Rattle.run_rules.specs.Facts.{IsOver}
 use Rattle.run_rules.specs.Homes.{HaveValues, IsUntouched}
-use Rattle.run_rules.specs.Opening.{AreLeased, AreTablesRead, IsOuterEnd}
-use Rattle.run_rules.specs.Work.{RunRecord, Stream}
+use Rattle.run_rules.specs.Opening.{AreLeased, AreTablesRead, AreUntried, IsOuterEnd, OuterHasRun}
+use Rattle.run_rules.specs.Work.{RunRecord, Stream, first_row_of}
 use Rattle.scope_tree.specs.Calls.{Seen}
 use Rattle.stream_jobs.specs.Running.{Origin}
 use Rattle.stream_parts.specs.Retire.{MayReturnAll, Returns}
 use Rattle.stream_parts.proofs.Exchanged.{may_permuted}
 use Rattle.joined_runs.specs.Devices.{MadeComeBack}
 use Rattle.joined_runs.specs.Shares.{AreTablesKept, IsJoinedLedger, IsShare}
-use Rattle.joined_runs.specs.Together.{HasNotRun, HasRun, RunsTogether, first_row_in}
+use Rattle.joined_runs.specs.Together.{HasNotRun, HasRun, RunsTogether}
 use Rattle.joined_runs.proofs.MadeRows.{at_below, at_some}
 use Rattle.joined_runs.proofs.PlansTogether.{plan_row, spec_at}
 use Rattle.joined_runs.proofs.StreamRows.{row_here}
@@ -50,11 +55,13 @@ use Rattle.dealt_streams.specs.Parts.Part.{Begun, Skipped, Unmade}
 use Rattle.collected.proofs.Core.{W, W_own, all_arranged, behind_idle, en, own, part_home, places_alone, tables_are}
 use Rattle.collected.proofs.DealtRows.{next_row, plan_rows, rows_below}
 use Rattle.collected.proofs.Each.{at_most, has_run, spec, spec_is}
+use Rattle.collected.proofs.Opened.{all_lawful}
 use Rattle.collected.proofs.Passed.{begun_before, begun_still, done_or, longer, longer_tale}
 use Rattle.collected.proofs.Recorded.{recorded}
 use Rattle.collected.proofs.Settling.{all_leased, joined_ledger}
 use Rattle.collected.proofs.Shelves as shelves
 use Rattle.collected.proofs.Standing.{begun_at}
+use Rattle.collected.proofs.TableHomes.{all_made, left_read}
 use Rattle.collected.proofs.TablesTold as told_so
 use Rattle.collected.proofs.TablesTold.{paths_are, paths_count, plan_places, table_paths, tables_count, told_values}
 
@@ -177,12 +184,12 @@ module _ {S V F : Type 0} (view : S → View V) (told : V → DeviceTold) (P : V
 
   -- How the outer stream ended.
 
-  module _ (last : DepotTold) (c : RunRecord) (again : Returns now last (all_left told b.shelf left)) (r : IsRunOf p outer tale L d0 last c) where
+  module _ (lawful : (d : V) → OpensWhatIsThere (told d)) (last : DepotTold) (c : RunRecord) (again : Returns now last (all_left told b.shelf left)) (r : IsRunOf p outer tale L d0 last c) where
     n_is : length rows_of_all ≡ length p.streams
     n_is = length-map p.streams stream_of
 
     read_all : h.o ≡ None → AreTablesRead (opener_of p) c W' 0 (opener_of p).tables
-    read_all none = told_so.all_read told p d0 h.mid now h.o b h.progress L en' (places_alone p limits) (all_left told b.shelf left) arranged last again c r.depot_old r.depot_new r.events none
+    read_all none = told_so.all_read told p d0 h.mid now h.o b h.progress L en' (places_alone p limits) (all_left told b.shelf left) arranged (all_lawful told lawful b.shelf left) last again c r.depot_old r.depot_new r.events none
 
     tried_same : length en'.ht.devices + length en'.ht.back ≡ length h.tables.devices + length h.tables.back
     tried_same = ap (λ (x : HasTables told p d0 h.mid h.o b h.progress). length x.devices + length x.back) (tables_are view told P p d0 now t outer b left receiver tale h L s)
@@ -191,12 +198,12 @@ module _ {S V F : Type 0} (view : S → View V) (told : V → DeviceTold) (P : V
     came_read none how.Done e end = (read_all none, subst (λ k. AreLeased k c.events) (sym n_is) (subst (λ E. AreLeased (length p.streams) E) (sym r.events) (all_leased p.max_open (length p.streams) (length h.tables.devices) b h.progress L s h.tables.tables end)))
     came_read none (how.Fault f) e end = absurd end
     came_read none how.Halted e end = inl (read_all none)
-    came_read none how.Memory e end = tt
+    came_read none how.Memory e end = left_read (opener_of p) c W' 0 (opener_of p).tables (read_all none)
 
     came_stopped : (how : How) → IsStoppedBy told p h.o (length h.tables.devices + length h.tables.back) tale.memory how → IsOuterEnd (opener_of p) (length rows_of_all) c W' how
-    came_stopped how.Halted cause = inr (told_so.none_tried told p d0 h.mid now h.o b h.progress L en' (places_alone p limits) (all_left told b.shelf left) arranged last again c r.depot_old r.depot_new r.events (tried_same ∙ cause.1))
-    came_stopped (how.Fault f) cause = told_so.one_failed told p d0 h.mid now h.o b h.progress L en' (places_alone p limits) (all_left told b.shelf left) arranged last again c r.depot_old r.depot_new r.events f cause
-    came_stopped how.Memory cause = tt
+    came_stopped how.Halted cause = inr (told_so.none_tried told p d0 h.mid now h.o b h.progress L en' (places_alone p limits) (all_left told b.shelf left) arranged (all_lawful told lawful b.shelf left) last again c r.depot_old r.depot_new r.events (tried_same ∙ cause.1))
+    came_stopped (how.Fault f) cause = told_so.one_failed told p d0 h.mid now h.o b h.progress L en' (places_alone p limits) (all_left told b.shelf left) arranged (all_lawful told lawful b.shelf left) last again c r.depot_old r.depot_new r.events f cause
+    came_stopped how.Memory cause = told_so.one_left told p d0 h.mid now h.o b h.progress L en' (places_alone p limits) (all_left told b.shelf left) arranged (all_lawful told lawful b.shelf left) last again c r.depot_old r.depot_new r.events cause.1
     came_stopped how.Done cause = absurd cause
 
     some_none : (o : NotRead) → Some o ≢ None
@@ -206,13 +213,46 @@ module _ {S V F : Type 0} (view : S → View V) (told : V → DeviceTold) (P : V
     came_so None e = came_read e outer refl (h.ended e)
     came_so (Some o) e = came_stopped outer (h.unread (λ n. some_none o (sym e ∙ n))).1
 
+    -- the streams that were dealt with are those that were leased for
+    order : h.progress.next ≡ h.progress.leased
+    order = subst (λ ws. Follow h.progress.next ws h.progress.leased) h.waits h.main.order
+
+    -- where a stream was leased for all tables were read
+    leased_read : (j z : ℕ) → Notes L Outer (Lease j z) → h.o ≡ None
+    leased_read j z n = by_cases h.o refl
+      where
+        by_cases : (o : Option NotRead) → h.o ≡ o → h.o ≡ None
+        by_cases None e = e
+        by_cases (Some o) e =
+            let parts = ap (λ (xs : List (Part V F)). length xs) (h.unread (λ q. some_none o (sym e ∙ q))).0 in
+            let next = h.next in
+            let below = (s.told.outer (Lease j z) n).1 in
+            absurd (omega (arith, parts, next, order, below))
+
+    lent : (j z : ℕ) → Notes L Outer (Lease j z) → length (opener_of p).tables ≤ length h.tables.devices
+    lent j z n = let a = all_made told d0.files W' h.tables.out (leased_read j z n) in let t = tables_count p in let u = paths_count p in omega (arith, a, t, u)
+
+    not_over : IsOver how.Halted → ⊥
+    not_over o = ⊎_elim (λ e. let q : how.Halted ≡ how.Done = e in let z : ⊥ = cc in z) (λ f. let q : how.Halted ≡ how.Fault f.0 = f.1 in let z : ⊥ = cc in z) o
+
+    nobody_so : p.take ≡ Some 0 → AreUntried W' 0 (opener_of p).tables × ¬ (IsOver outer)
+    nobody_so e =
+        let n = h.nobody e in (
+          told_so.none_tried told p d0 h.mid now h.o b h.progress L en' (places_alone p limits) (all_left told b.shelf left) arranged (all_lawful told lawful b.shelf left) last again c r.depot_old r.depot_new r.events (tried_same ∙ n.0),
+          λ o. not_over (subst (λ x. IsOver x) n.1 o),
+        )
+
+    has_run_so : OuterHasRun (opener_of p) (length rows_of_all) c W' outer
+    has_run_so = record {
+      end = came_so h.o refl;
+      gives = λ j z n. read_all (leased_read j z (subst (λ E. Notes E Outer (Lease j z)) r.events n));
+      nobody = nobody_so;
+    }
+
     -- where the outer stream is done each stream was dealt with
     done_all : outer ≡ how.Done → length h.parts ≡ length p.streams
     done_all e = by_cases h.o refl
       where
-        order : h.progress.next ≡ h.progress.leased
-        order = subst (λ ws. Follow h.progress.next ws h.progress.leased) h.waits h.main.order
-
         by_cases : (o : Option NotRead) → h.o ≡ o → length h.parts ≡ length p.streams
         by_cases None q = let l : h.progress.leased ≡ length p.streams = subst (λ x. EndsRead p h.progress.leased x) e (h.ended q) in sym h.next ∙ (order ∙ l)
         by_cases (Some o) q = absurd (subst (λ x. IsStoppedBy told p h.o (length h.tables.devices + length h.tables.back) tale.memory x) e (h.unread (λ n. some_none o (sym q ∙ n))).1)
@@ -224,13 +264,13 @@ module _ {S V F : Type 0} (view : S → View V) (told : V → DeviceTold) (P : V
     devices =
         subst (λ x. MadeComeBack x c.depot_new (plan_rows p) W') (sym r.depot_old)
         (subst (λ x. MadeComeBack d0 x (plan_rows p) W') (sym r.depot_new)
-        (subst (λ ts. MadeComeBack d0 last (ts ++ plan_places p) W') (paths_are p) (told_so.came told p d0 h.mid now h.o b h.progress L en' (places_alone p limits) (all_left told b.shelf left) arranged last again)))
+        (subst (λ ts. MadeComeBack d0 last (ts ++ plan_places p) W') (paths_are p) (told_so.came told p d0 h.mid now h.o b h.progress L en' (places_alone p limits) (all_left told b.shelf left) arranged (all_lawful told lawful b.shelf left) last again)))
 
     account : IsJoinedLedger p.max_open (length (opener_of p).tables) (length rows_of_all) outer c.events
     account =
         subst (λ E. IsJoinedLedger p.max_open (length (opener_of p).tables) (length rows_of_all) outer E) (sym r.events)
         (subst (λ k. IsJoinedLedger p.max_open (length (opener_of p).tables) k outer L) (sym n_is)
-        (joined_ledger p.max_open (length p.streams) (length h.tables.devices) b h.progress L s h.tables.tables (length (opener_of p).tables) outer (let f = few_tried h.tables.out in let a = tables_count p in let u = paths_count p in omega (arith, f, a, u)) h.root))
+        (joined_ledger p.max_open (length p.streams) (length h.tables.devices) b h.progress L s h.tables.tables (length (opener_of p).tables) outer (let f = few_tried h.tables.out in let a = tables_count p in let u = paths_count p in omega (arith, f, a, u)) lent h.root))
 
     pub together : RunsTogether (opener_of p) rows_of_all (PlanRuns p) c
     together = record {
@@ -243,14 +283,14 @@ module _ {S V F : Type 0} (view : S → View V) (told : V → DeviceTold) (P : V
       within = within;
       account = account;
       tables = subst (λ E. AreTablesKept (length (opener_of p).tables) W' E) (sym r.events) (told_so.kept told p d0 h.mid now h.o b h.progress L en');
-      came = came_so h.o refl;
+      came = has_run_so;
       is_tale = longer_tale (bare_work p) tale (length p.streams - length h.parts) h.is_tale stopped;
       settled = h.settled;
       recorded = recorded view told P says p limits d0 now t outer b left receiver tale h L s last c r;
       outer_is = h.outer_is;
       each = λ k z is.
           let y = spec_at p.streams k z is in
-          subst (λ (x : Stream). HasRun (PlanRuns p k (values_by h.o) W') W' (longer tale (length p.streams - length h.parts)) c.events k (first_row_in (opener_of p) rows_of_all k) x ⊎ HasNotRun W' (longer tale (length p.streams - length h.parts)) k (first_row_in (opener_of p) rows_of_all k) x) y.2
+          subst (λ (x : Stream). HasRun (PlanRuns p k (values_by h.o) W') W' (longer tale (length p.streams - length h.parts)) c.events k (first_row_of (bare_work p) k) x ⊎ HasNotRun W' (longer tale (length p.streams - length h.parts)) k (first_row_of (bare_work p) k) x) y.2
           (subst (λ f. HasRun (PlanRuns p k (values_by h.o) W') W' (longer tale (length p.streams - length h.parts)) c.events k f (stream_of y.0) ⊎ HasNotRun W' (longer tale (length p.streams - length h.parts)) k f (stream_of y.0)) (plan_row p k)
           (each_so (length p.streams - length h.parts) c.events r.events k y.0 y.1));
       rest = subst (λ f. IsRestOf f c.rest) (sym r.cut) r.rest;
@@ -260,5 +300,5 @@ module _ {S V F : Type 0} (view : S → View V) (told : V → DeviceTold) (P : V
 pub collected_runs : {S V F : Type 0} (view : S → View V) (told : V → DeviceTold) (P : Values → StateMeaning F) → ((v : Values) → (P v).values ≡ v) → CollectedRuns view told P
 collected_runs view told P says = record {
   may_go = λ p d0 now t outer b left receiver tale L limits h s. all_may_go view told P says p limits d0 now t outer b left receiver tale h L s;
-  runs = λ p d0 now last t outer b left receiver tale L c limits h s again r. together view told P says p limits d0 now t outer b left receiver tale h L s last c again r;
+  runs = λ p d0 now last t outer b left receiver tale L c limits lawful h s again r. together view told P says p limits d0 now t outer b left receiver tale h L s lawful last c again r;
 }

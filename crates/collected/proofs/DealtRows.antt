@@ -19,14 +19,15 @@ use Rattle.plan_work.specs.Plans.{opener_of, stream_of}
 use Rattle.pull_nodes.specs.declared.node.Node.{Node}
 use Rattle.run_rules.specs.Facts.{at}
 use Rattle.run_rules.specs.Homes.{IsUntouched}
+use Rattle.run_rules.specs.Work.{first_row_of}
 use Rattle.stream_jobs.specs.Running.{Origin}
 use Rattle.stream_parts.specs.Made.{MakesEach, MakesInVain}
 use Rattle.stream_parts.specs.Retire.{IsWrittenBy}
 use Rattle.stream_parts.specs.Same.{AreSame}
 use Rattle.stream_parts.proofs.Making.{made_untouched}
 use Rattle.stream_parts.proofs.PartsMade.{devices_count, row_behind}
+use Rattle.join_tale.specs.Records.{bare}
 use Rattle.joined_runs.specs.Devices.{IsAtRest}
-use Rattle.joined_runs.specs.Together.{first_row_in}
 use Rattle.joined_runs.proofs.PlansTogether.{plan_row}
 use Rattle.joined_runs.proofs.StreamRows.{inside, place_of}
 use Rattle.dealt_streams.specs.Parts.{AreDealt, Deals, IsMadeOf, Part}
@@ -82,7 +83,7 @@ module _ (p : PlanMeant) (k : ℕ) (s : StreamSpec) (is : slice_get p.streams k 
   pub there_at : (i : ℕ) → i < length (stream_places s) → at (plan_rows p) (first_row p k + i) ≡ at (stream_places s) i
   there_at i l =
       let r = plan_row p k in
-      let z : first_row p k + i - first_row_in (opener_of p) (map stream_of p.streams) k ≡ i = omega (arith, r) in
+      let z : first_row p k + i - first_row_of (bare (Some (opener_of p)) (map stream_of p.streams)) k ≡ i = omega (arith, r) in
       place_of (opener_of p) (map stream_of p.streams) k (stream_of s) (at_stream p.streams k s is) (first_row p k + i) (omega (arith, r)) (omega (arith, r, l)) ∙ ap (λ q. at (stream_places s) q) z
 
 -- what stands at a place in the list

@@ -18,3 +18,4 @@ pub mod Each
 pub mod Passed
 pub mod Recorded
 pub mod Assembled
+pub mod Opened

@@ -2,7 +2,7 @@
 use Rattle.std.proofs.Common.{◌≡◌, ℕ, zero, suc, ◌+◌, ◌-◌, ◌<◌, ◌≤◌, cond, inl, inr, List, [], ◌∷◌, ◌++◌, map, length, Option, Some, None, refl, sym, ◌∙◌, ap, subst, ⊎_elim, arith, append-nil, eq-eqb, ne_eqb}
 use Rattle.std.proofs.lemmas.Bool.{cases_lt}
 use Rattle.std.proofs.lemmas.List.Sorted.{IsPermutation-refl}
-use Rattle.std.specs.List.{range_with_len}
+use Rattle.std.specs.List.{AllByRecursion, range_with_len}
 use Rattle.std.specs.List.Sorted.{IsPermutation}
 use Rattle.device_port.specs.Device.{Place, DeviceTold}
 use Rattle.device_port.specs.Depot.{DepotTold, Files, content_at}
@@ -17,7 +17,7 @@ use Rattle.stream_parts.proofs.Making.{laid, laid_outside, laid_same, made_excha
 use Rattle.joined_runs.specs.Devices.{AreReturned, IsAtRest, IsUnmadeAt}
 use Rattle.job_runs.proofs.Returned.{made_returned}
 use Rattle.chunk_core.proofs.Distinct.{distinct_nil}
-use Rattle.chunk_core.proofs.Each.{among_each}
+use Rattle.chunk_core.proofs.Each.{among_each, each_among, each_permuted}
 use Rattle.job_runs.proofs.DevicesBack.{at_among}
 use Rattle.joined_runs.proofs.MadeRows.{at_some}
 
@@ -44,7 +44,7 @@ map_laid w r (d ∷ ds) h =
     ap (λ x. x ∷ map w (range_with_len (r + 1) (length ds))) (subst (λ k. w k ≡ d) z (h 0 d refl))
     ∙ ap (λ l. d ∷ l) (map_laid w (r + 1) ds (λ i e is. let y : r + suc i ≡ r + 1 + i = omega arith in subst (λ k. w k ≡ e) y (h (suc i) e is)))
 
--- for the first of these places devices were made, which are those of the rows from `from` on; they are gone, or are left and may go back
+-- for the first of these places devices were made, which are those of the rows from `from` on; they are gone and were never opened, or are left and may go back
 pub record OwnRows (own : ℕ → DeviceTold) (from : ℕ) (places : List Place) (old new : DepotTold) (gone left : List DeviceTold) : Type 0 where
   pub first : List Place
   pub rest : List Place
@@ -54,6 +54,7 @@ pub record OwnRows (own : ℕ → DeviceTold) (from : ℕ) (places : List Place)
   pub each : IsPermutation (map own (range_with_len from (length first))) (gone ++ left)
   pub others : (i : ℕ) (p : Place) → at rest i ≡ Some p → IsUnmadeAt old.files p (own (from + length first + i))
   pub may : MayReturnAll new left
+  pub unopened : AllByRecursion (λ d. d.opens ≡ 0) gone
 
 -- what the rows from `from` on have where none was made for them
 abbrev pub bare_rows : Option Files → ℕ → List Place → ℕ → DeviceTold
@@ -90,6 +91,7 @@ module _ (from : ℕ) (places : List Place) (old : DepotTold) where
     each = IsPermutation-refl [];
     others = λ i p e. let z : from + 0 + i ≡ from + i = omega arith in subst (λ d. IsUnmadeAt old.files p d) (sym (ap (λ k. bare_rows old.files from places k) z ∙ bare_row old.files from places i p e)) (bare_unmade old.files p);
     may = record { each = tt; apart = distinct_nil };
+    unopened = tt;
   }
 
   module _ (new : DepotTold) where
@@ -154,6 +156,7 @@ module _ (from : ℕ) (places : List Place) (old : DepotTold) where
       each = subst (λ l. IsPermutation l ds) (sym (all_laid places [] (sym (append-nil places)) ds m)) (IsPermutation-refl ds);
       others = λ i p e. absurd (no_place i p e);
       may = made_may_return old new places ds m;
+      unopened = tt;
     }
 
     pub waiting_untouched : (ds : List DeviceTold) → MakesEach old new places ds → (q : ℕ) → from ≤ q → q < from + length places → IsUntouched (made_rows ds q)
@@ -174,6 +177,7 @@ module _ (from : ℕ) (places : List Place) (old : DepotTold) where
     each = subst (λ l. IsPermutation l (v.back.back ++ [])) (sym (all_laid v.mid v.first v.rest v.split v.ds v.makes)) (subst (λ l. IsPermutation v.ds l) (sym (append-nil v.back.back)) v.back.each);
     others = laid_others v.mid v.first v.rest v.split v.ds v.makes;
     may = record { each = tt; apart = distinct_nil };
+    unopened = each_permuted (λ (d : DeviceTold). d.opens ≡ 0) v.ds v.back.back v.back.each (each_among (λ (d : DeviceTold). d.opens ≡ 0) v.ds (λ d m. (among_each IsUnused d v.ds (made_unused old v.mid v.first v.ds v.makes) m).opens));
   }
 
   -- they were made, run over, and left at rest
@@ -188,4 +192,5 @@ module _ (from : ℕ) (places : List Place) (old : DepotTold) where
     each = subst (λ k. IsPermutation (map own (range_with_len from k)) left) count each;
     others = λ i p e. absurd (no_place i p e);
     may = may_permuted new (map own (range_with_len from (length vs))) left each (same_may_return told own new from vs (made_may_return old new places (map told vs) m) same (λ q l k. (rest q l k).shut));
+    unopened = tt;
   }

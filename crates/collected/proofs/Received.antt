@@ -10,7 +10,7 @@ use Rattle.chunk_core.specs.declared.load.Load.{Load}
 use Rattle.chunk_core.proofs.Bools.{itself}
 use Rattle.join_tale.specs.Tales as tales
 use Rattle.join_tale.specs.Tales.{Message, Tale, loads_in, loads_of, loads_received}
-use Rattle.joined_runs.specs.Together.{elements_in_pieces}
+use Rattle.run_rules.specs.Outputs.{elements_in_pieces}
 use Rattle.stream_jobs.specs.Messages.{end_message, load_messages}
 use Rattle.dealt_streams.specs.Kept.{told_message}
 

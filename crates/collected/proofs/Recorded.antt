@@ -154,7 +154,7 @@ module _ {S V F : Type 0} (view : S → View V) (told : V → DeviceTold) (P : V
     recorded = record {
       frames = r.frames;
       cut = r.cut;
-      memory = λ e. r.memory ∙ e;
+      memory = r.memory;
       opener = refl;
       named = r.names ∙ ap (λ l. Outer ∷ l) (ap names_below (sym (length-map p.streams stream_of)) ∙ names_agree (map stream_of p.streams));
       told = told_end;

@@ -3,12 +3,12 @@ use Rattle.std.proofs.Common.{◌≡◌, ◌≢◌, ℕ, ◌+◌, ◌-◌, ◌<�
 use Rattle.std.proofs.lemmas.Bool.{cases_lt}
 use Rattle.std.proofs.lemmas.List.{length-map, map-append}
 use Rattle.std.proofs.lemmas.List.Sorted.{IsPermutation-append, IsPermutation-append_comm, IsPermutation-append_left, IsPermutation-append_right, IsPermutation-refl, IsPermutation-sym, IsPermutation-trans}
-use Rattle.std.specs.List.{IsDistinct, range_with_len}
+use Rattle.std.specs.List.{AllByRecursion, IsDistinct, range_with_len}
 use Rattle.std.specs.List.Sorted.{IsPermutation}
 use Rattle.chunk_core.specs.Lists.{IsAmong}
 use Rattle.chunk_core.specs.Lists.IsAmong.{here, there}
 use Rattle.chunk_core.proofs.Distinct.{distinct_nil}
-use Rattle.chunk_core.proofs.Each.{among_each, among_permuted}
+use Rattle.chunk_core.proofs.Each.{among_each, among_permuted, each_append}
 use Rattle.chunk_core.proofs.Filters.{among_append, among_right}
 use Rattle.chunk_core.proofs.Members.{among_left, among_nil}
 use Rattle.device_port.specs.Device.{Place, DeviceTold}
@@ -49,7 +49,7 @@ module _ (all : List Place) (files : Option Files) where
   made_number w r n rows a (here rs) = let e = a.0.2.number_is in (omega (arith, e), omega (arith, e))
   made_number w r n rows a (there {xs = rs} q m) = let i = made_number w r (n + 1) rs a.1 m in let l = i.0 in let u = i.1 in (omega (arith, l), omega (arith, u))
 
-  -- Since the depot stood as old devices were made for some of the rows from `from` to `to`, one after the other; some of them are gone, and the others are left and may go back.
+  -- Since the depot stood as old devices were made for some of the rows from `from` to `to`, one after the other; some of them are gone and were never opened, and the others are left and may go back.
   pub record RowsMade (own : ℕ → DeviceTold) (from to : ℕ) (old new : DepotTold) (gone left : List DeviceTold) : Type 0 where
     pub rows : List ℕ
     pub inside : (r : ℕ) → IsAmong r rows → (from ≤ r) × (r < to)
@@ -59,6 +59,7 @@ module _ (all : List Place) (files : Option Files) where
     pub each : IsPermutation (map own rows) (gone ++ left)
     pub others : (r : ℕ) (p : Place) → from ≤ r → r < to → at all r ≡ Some p → ¬ (IsAmong r rows) → IsUnmadeAt files p (own r)
     pub may : MayReturnAll new left
+    pub unopened : AllByRecursion (λ d. d.opens ≡ 0) gone
 
   -- rows agree there
   pub rows_same : (v w : ℕ → DeviceTold) (from to : ℕ) (old new : DepotTold) (gone left : List DeviceTold) → ((r : ℕ) → from ≤ r → r < to → v r ≡ w r) → RowsMade v from to old new gone left → RowsMade w from to old new gone left
@@ -73,6 +74,7 @@ module _ (all : List Place) (files : Option Files) where
         each = subst (λ l. IsPermutation l (gone ++ left)) (map_same v w m.rows same) m.each;
         others = λ r p l k e n. subst (IsUnmadeAt files p) (h r l k) (m.others r p l k e n);
         may = m.may;
+        unopened = m.unopened;
       }
 
   -- no device was made there
@@ -95,6 +97,7 @@ module _ (all : List Place) (files : Option Files) where
     each = IsPermutation-refl [];
     others = λ r p l k e n. subst (IsUnmadeAt files p) (sym (bare_at r p e)) (bare_unmade files p);
     may = record { each = tt; apart = distinct_nil };
+    unopened = tt;
   }
 
   -- so many devices were made
@@ -133,6 +136,7 @@ module _ (all : List Place) (files : Option Files) where
           (λ (h : mid ≤ r). b.others r p h k e (λ m. n (among_right r a.rows b.rows m)))
           (cases_lt r mid);
       may = may_both new ys us (may_after now new (map (λ r. (own r).place) b.rows) zs ys b.exchanges a.may (λ x y i j. numbers_apart x y (among_left us i) j)) b.may (λ x y i j e. numbers_apart y x (among_right y zs us j) i (sym e));
+      unopened = each_append (λ (d : DeviceTold). d.opens ≡ 0) xs zs a.unopened b.unopened;
     }
 
   -- the rows of one stream are such
@@ -165,4 +169,5 @@ module _ (all : List Place) (files : Option Files) where
           subst (λ f. IsUnmadeAt f p (own r)) same (subst (λ q. IsUnmadeAt old.files p (own q)) y (m.others j p rest_at)))
           (cases_lt i (length m.first));
       may = m.may;
+      unopened = m.unopened;
     }

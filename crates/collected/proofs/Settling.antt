@@ -1,6 +1,7 @@
 -- What the ledger of a main tree tells that acquired its first rows for tables.
 use Rattle.std.proofs.Common.{◌≡◌, ◌≢◌, ◌⊎◌, ℕ, zero, suc, ◌+◌, ◌<◌, ◌≤◌, List, [], ◌∷◌, inl, inr, Some, refl, sym, ◌∙◌, subst, ⊎_elim, arith}
 use Rattle.chunk_core.specs.Lists.{IsAmong}
+use Rattle.chunk_core.specs.Lists.IsAmong.{here, there}
 use Rattle.chunk_core.specs.Outcomes.{exit_of}
 use Rattle.chunk_core.specs.declared.code.Exit.{Exit}
 use Rattle.chunk_core.specs.declared.code.How.{How}
@@ -39,6 +40,13 @@ in_acquires r (suc n) w m =
     (λ i. let x = in_acquires (suc r) n w i in let low = x.2 in let high = x.3 in (x.0, x.1, omega (arith, low), omega (arith, high)))
     (among_cons m)
 
+acquire_in : (r n k : ℕ) → r ≤ k → k < r + n → IsAmong (Acquire k 0) (acquires r n)
+acquire_in r zero k low high = absurd (omega (arith, low, high))
+acquire_in r (suc n) k low high = ⊎_elim (λ e. subst (λ i. IsAmong (Acquire i 0) (acquires r (suc n))) (sym e) (here (acquires (suc r) n))) (λ l. there (Acquire r 0) (acquire_in (suc r) n k l (omega (arith, high)))) (first r k low)
+  where
+    first : (r k : ℕ) → r ≤ k → (k ≡ r) ⊎ (suc r ≤ k)
+    first r k l = grind arith
+
 acquire_parts : (r s q t : ℕ) → Acquire r s ≡ Acquire q t → (r ≡ q) × (s ≡ t)
 acquire_parts r s q t e = (cc, cc)
 
@@ -50,6 +58,10 @@ module _ {P : Type 0} (width n m : ℕ) (b : Seen P) (q : Progress P) (L : List 
       let high = x.3 in
       let same = e.0 in
       (omega (arith, high, same), e.1)
+
+  -- the row of each table that was opened was acquired in the root
+  table_noted : (r : ℕ) → r < m → IsAmong (Acquire r 0) q.tables
+  table_noted r l = subst (λ E. IsAmong (Acquire r 0) E) (sym tables) (acquire_in 0 m r (omega arith) (omega (arith, l)))
 
   pub acquires_tables : (r t : ℕ) → Notes L Outer (Acquire r t) → (r < m) × (t ≡ 0)
   acquires_tables r t k = table_row r t (s.told.outer (Acquire r t) k)
@@ -91,15 +103,15 @@ module _ {P : Type 0} (width n m : ℕ) (b : Seen P) (q : Progress P) (L : List 
       inr (t.0, omega (arith, older, dealt, few, is), y.2 ∙ t.1))
       (s.told.whose e i)
 
-  -- it is a whole ledger of the outer stream, which ended so, and of those that it gave
-  pub joined_ledger : (t : ℕ) (h : How) → m ≤ t → q.root ≡ Some (exit_of h) → IsJoinedLedger width t n h L
-  joined_ledger t h few root = record {
+  -- it is a whole ledger of the outer stream, which ended so, and of those that it gave, where all t tables were opened before a lease
+  pub joined_ledger : (t : ℕ) (h : How) → m ≤ t → ((j z : ℕ) → Notes L Outer (Lease j z) → t ≤ m) → q.root ≡ Some (exit_of h) → IsJoinedLedger width t n h L
+  joined_ledger t h few lent root = record {
     stamped = s.ledger.stamped;
     legal = s.whole.legal;
     complete = s.whole.complete;
     ordered = s.whole.order;
-    ahead = s.ahead;
-    narrow = s.within;
+    tables = record { rise = s.rise; covers = λ j z r k l. s.covers j z r k (table_noted r (let a = lent j z k in omega (arith, l, a))) };
+    paced = s.paced;
     names = named;
     outer_notes = λ e i by. note_so t h few root e.what (e, i, by, refl);
     root = (exit_of h, s.told.root (exit_of h) root);

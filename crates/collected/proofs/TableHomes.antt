@@ -20,7 +20,7 @@ use Rattle.pull_stepper.specs.Held.{closed_as}
 use Rattle.res_ledger.specs.Ledger.{IsAcquired}
 use Rattle.run_rules.specs.Facts.{at}
 use Rattle.run_rules.specs.Homes.{IsBack, is_tried}
-use Rattle.run_rules.specs.Opening.{AreTablesFailed, AreTablesRead, AreUntried, IsRefusedBy, IsTableFault, IsTableRead}
+use Rattle.run_rules.specs.Opening.{AreTablesFailed, AreTablesLeft, AreTablesRead, AreUntried, IsRefusedBy, IsTableFault, IsTableRead}
 use Rattle.run_rules.specs.Work.{Opener, RunRecord}
 use Rattle.std.specs.List.{list_any as any}
 use Rattle.std.specs.Str.{is_utf8}
@@ -339,3 +339,40 @@ module _ {V : Type 0} (told : V → DeviceTold) (files : Option Files) (w : ℕ 
         )
     tables_failed f unmade e r cl acquired back idle = cc
     tables_failed f (cut d h) e r cl acquired back idle = cc
+
+    -- no device was made for those from r on: nothing failed at the first, and nothing was tried behind it
+    left_unmade : (r : ℕ) (ps : List Place) → ((j : ℕ) → r ≤ j → j < r + length ps → is_tried (w j) ≡ false) → ((j : ℕ) → r ≤ j → j < r + length ps → ((w j).open_faults ≡ 0) × ((w j).read_faults ≡ 0)) → AreTablesLeft op c w r ps
+    left_unmade r [] idle unfailed = tt
+    left_unmade r (p ∷ ps) idle unfailed = let u = unfailed r (omega arith) (omega arith) in inl (u.0, u.1, untried_from (r + 1) ps (λ j l m. idle j (omega (arith, l)) (omega (arith, m))))
+
+    -- memory was wanting at one of them, or behind the last
+    pub tables_left : {n : ℕ} {paths bss : List (List ℕ)} {ds : List V} {back : List DeviceTold} {o : Option NotRead} → ComeOut told files n paths ds back bss o → o ≡ Some why.Memory → (r : ℕ) → AreClosed told w r ds back → ((i : ℕ) → i < length ds → IsAcquired c.events (r + i)) → ((i : ℕ) → i < length ds + length back → IsBack c (w (r + i)))
+        → ((j : ℕ) → r + (length ds + length back) ≤ j → j < r + length paths → is_tried (w j) ≡ false) → ((j : ℕ) → r + (length ds + length back) ≤ j → j < r + length paths → ((w j).open_faults ≡ 0) × ((w j).read_faults ≡ 0)) → AreTablesLeft op c w r (map to_read paths)
+    tables_left none e r cl acquired back idle unfailed = cc
+    tables_left (read {n = n} {path = path} {bytes = bytes} {ds = ds} {back = bs} d g fine out) e r cl acquired back idle unfailed =
+        let z : r + 0 ≡ r = omega arith in
+        inr (
+          read_so n r path d bytes g fine (first_closed r d ds bs cl) (subst (λ k. IsAcquired c.events k) z (acquired 0 (omega arith))) (subst (λ k. IsBack c (w k)) z (back 0 (omega arith))),
+          tables_left out e (r + 1) (rest_closed r d ds bs cl)
+              (λ i l. let y : r + suc i ≡ r + 1 + i = omega arith in subst (λ k. IsAcquired c.events k) y (acquired (suc i) (omega (arith, l))))
+              (λ i l. let y : r + suc i ≡ r + 1 + i = omega arith in subst (λ k. IsBack c (w k)) y (back (suc i) (omega (arith, l))))
+              (λ j l k. idle j (omega (arith, l)) (omega (arith, k)))
+              (λ j l k. unfailed j (omega (arith, l)) (omega (arith, k))),
+        )
+    tables_left closed e r cl acquired back idle unfailed = cc
+    tables_left (unread d h) e r cl acquired back idle unfailed = cc
+    tables_left (refused d bytes f g h) e r cl acquired back idle unfailed = cc
+    tables_left (unmade {paths = paths}) e r cl acquired back idle unfailed =
+        left_unmade r (map to_read paths) (λ j l m. let k = length-map paths to_read in idle j (omega (arith, l)) (omega (arith, m, k))) (λ j l m. let k = length-map paths to_read in unfailed j (omega (arith, l)) (omega (arith, m, k)))
+    tables_left (cut {n = n} {path = path} {paths = paths} d h) e r cl acquired back idle unfailed =
+        let x = first_closed r d [] [] cl in
+        inl (
+          ap (λ (y : DeviceTold). y.open_faults) x.is ∙ (closed_field (λ y. y.open_faults) x.exit x.ok (told d) refl refl ∙ (read_open files n path (told d) 0 h).open_faults),
+          faults_so r d x ∙ ap (λ (y : DeviceTold). y.read_faults) h,
+          untried_rest r path paths (λ j l k. idle j (omega (arith, l)) (omega (arith, k))),
+        )
+
+-- of tables that were all read none was left
+pub left_read : (op : Opener) (c : RunRecord) (w : ℕ → DeviceTold) (r : ℕ) (ps : List Place) → AreTablesRead op c w r ps → AreTablesLeft op c w r ps
+left_read op c w r [] h = tt
+left_read op c w r (p ∷ ps) h = inr (h.0, left_read op c w (r + 1) ps h.1)

@@ -2,7 +2,7 @@
 use Rattle.std.proofs.Common.{◌≡◌, ℕ, ◌+◌, ◌-◌, ◌<◌, ◌≤◌, false, nat_eq, List, [], ◌++◌, map, length, flat_map, Option, Some, None, IfSome, refl, sym, ◌∙◌, ap, subst, ⊎_elim, arith, length-append}
 use Rattle.std.proofs.lemmas.Bool.{cases_lt}
 use Rattle.std.proofs.lemmas.List.{length-map}
-use Rattle.std.specs.List.{IsDistinct}
+use Rattle.std.specs.List.{AllByRecursion, IsDistinct}
 use Rattle.std.specs.List.Sorted.{IsPermutation}
 use Rattle.chunk_core.specs.Lists.{IsAmong}
 use Rattle.chunk_core.specs.Tables.{Values}
@@ -27,9 +27,9 @@ use Rattle.res_ledger.specs.declared.event.Event.{Event}
 use Rattle.res_ledger.specs.declared.event.StreamNo.TheVariants.{Outer}
 use Rattle.run_rules.specs.Facts.{at}
 use Rattle.run_rules.specs.Homes.{HaveValues, IsBack, is_tried}
-use Rattle.run_rules.specs.Opening.{AreTablesFailed, AreTablesRead, AreUntried}
+use Rattle.run_rules.specs.Opening.{AreTablesFailed, AreTablesLeft, AreTablesRead, AreUntried}
 use Rattle.run_rules.specs.Work.{RunRecord}
-use Rattle.run_rules.specs.Devices.{came_back}
+use Rattle.run_rules.specs.Devices.{OpensWhatIsThere, came_back}
 use Rattle.scope_tree.specs.declared.branch.Spent.{Spent}
 use Rattle.scope_tree.specs.Calls.{Seen}
 use Rattle.scope_tree.specs.Released.{said}
@@ -49,7 +49,7 @@ use Rattle.collected.proofs.Settling.{acquires_tables}
 use Rattle.collected.proofs.ShelfHomes.{ends_as}
 use Rattle.collected.proofs.TableEnds.{CameIn, StandsAt, acquired_so, outer_final, table_ended}
 use Rattle.outer_tables.proofs.Outcomes.{few_tried}
-use Rattle.collected.proofs.TableHomes.{AreClosed, all_made, back_failed, back_unopened, closed_field, each_open, tables_failed, tables_read, untried_from, values_told}
+use Rattle.collected.proofs.TableHomes.{AreClosed, all_made, back_failed, back_unopened, closed_field, each_open, tables_failed, tables_left, tables_read, untried_from, values_told}
 
 -- the paths of a plan's tables
 abbrev pub table_paths : PlanMeant → List (List ℕ)
@@ -178,9 +178,9 @@ module _ {V : Type 0} (told : V → DeviceTold) (p : PlanMeant) (old mid new : D
   }
 
   -- each device came back
-  module _ (alone : AreWrittenAlone (map to_read (table_paths p) ++ plan_places p)) (lo : List DeviceTold) (arranged : IsPermutation (map (λ x. told x.pay) en.shelf ++ en.left) lo) (last : DepotTold) (again : Returns new last lo) where
+  module _ (alone : AreWrittenAlone (map to_read (table_paths p) ++ plan_places p)) (lo : List DeviceTold) (arranged : IsPermutation (map (λ x. told x.pay) en.shelf ++ en.left) lo) (lawful : AllByRecursion OpensWhatIsThere lo) (last : DepotTold) (again : Returns new last lo) where
     pub came : MadeComeBack old last (map to_read (table_paths p) ++ plan_places p) homes
-    came = all_back told (table_paths p) (plan_places p) old mid new en.ht.devices en.ht.back en.ht.contents o en.ht.out en.ht.made en.ht.unknown en.shelf en.once en.below found en.own en.gone en.left en.rest alone lo arranged last again
+    came = all_back told (table_paths p) (plan_places p) old mid new en.ht.devices en.ht.back en.ht.contents o en.ht.out en.ht.made en.ht.unknown en.shelf en.once en.below found en.own en.gone en.left en.rest alone lo arranged lawful last again
 
     module _ (c : RunRecord) (is_old : c.depot_old ≡ old) (is_last : c.depot_new ≡ last) (events : c.events ≡ L) where
       back_so : (i : ℕ) → i < length en.ht.devices + length en.ht.back → IsBack c (homes (0 + i))
@@ -206,6 +206,18 @@ module _ {V : Type 0} (told : V → DeviceTold) (p : PlanMeant) (old mid new : D
       pub one_failed : (f : Code) → o ≡ Some (why.Fault f) → AreTablesFailed (opener_of p) c homes 0 (opener_of p).tables f
       one_failed f is = subst (λ ps. AreTablesFailed (opener_of p) c homes 0 ps f) (paths_are p)
           (tables_failed told old.files homes (opener_of p) c (λ xs. refl) f en.ht.out is 0 closed acquired back_so (λ j l m. idle j (omega (arith, l)) (omega (arith, m))))
+
+      -- nothing failed at those for which no device was made
+      unfailed : (j : ℕ) → length en.ht.devices + length en.ht.back ≤ j → j < length (table_paths p) → ((homes j).open_faults ≡ 0) × ((homes j).read_faults ≡ 0)
+      unfailed j more less =
+          let a = at_some (map to_read (table_paths p)) j (let k = length-map (table_paths p) to_read in omega (arith, less, k)) in
+          let u = unmade_row j a.0 more less a.1 in
+          (ap (λ (x : DeviceTold). x.open_faults) u, ap (λ (x : DeviceTold). x.read_faults) u)
+
+      -- memory was wanting at one, or behind the last
+      pub one_left : o ≡ Some why.Memory → AreTablesLeft (opener_of p) c homes 0 (opener_of p).tables
+      one_left is = subst (λ ps. AreTablesLeft (opener_of p) c homes 0 ps) (paths_are p)
+          (tables_left told old.files homes (opener_of p) c (λ xs. refl) en.ht.out is 0 closed acquired back_so (λ j l m. idle j (omega (arith, l)) (omega (arith, m))) (λ j l m. unfailed j (omega (arith, l)) (omega (arith, m))))
 
       -- none was tried
       pub none_tried : length en.ht.devices + length en.ht.back ≡ 0 → AreUntried homes 0 (opener_of p).tables

@@ -6,6 +6,7 @@ use Rattle.chunk_core.specs.Lists.{IsAmong}
 use Rattle.chunk_core.specs.Outcomes.{exit_of}
 use Rattle.chunk_core.specs.Tables.{Values}
 use Rattle.chunk_core.specs.declared.code.How.{How}
+use Rattle.chunk_core.specs.declared.code.How.TheVariants as how
 use Rattle.chunk_core.specs.Texts.{IsRestOf}
 use Rattle.device_port.specs.Device.{DeviceTold}
 use Rattle.device_port.specs.Depot.{DepotTold}
@@ -57,7 +58,7 @@ module _ {S V F : Type 0} (view : S → View V) (told : V → DeviceTold) (P : V
     pub got : map told_message receiver.got ≡ tale.front ++ tale.late
 
   -- A collector of the plan has come to its end, since the depot stood as d0: the outer stream ended so, no lease waits and no stream is open. The main tree stands as b, and has no open
-  -- row. The tables were tried, and where all of them were read, which have the values t then, streams were begun.
+  -- row. The tables were tried, and where all of them were read, which have the values t then, streams were begun. Where no frame is wanted none was tried, and the outer stream is halted.
   pub record IsCollected (p : PlanMeant) (d0 depot : DepotTold) (t : Values) (outer : How) (b : Seen V) (left : List (Leftover V)) (receiver : ReceiverSeen) (tale : Tale) : Type 0 where
     pub parts : List (Part V F)
     pub progress : Progress V
@@ -72,6 +73,7 @@ module _ {S V F : Type 0} (view : S → View V) (told : V → DeviceTold) (P : V
     pub tables : HasTables told p d0 mid o b progress
     pub read : o ≡ None → HaveValuesOf told p tables.contents t
     pub ended : o ≡ None → EndsRead p progress.leased outer
+    pub nobody : p.take ≡ Some 0 → (length tables.devices + length tables.back ≡ 0) × (outer ≡ how.Halted)
     pub unread : o ≢ None → (parts ≡ []) × IsStoppedBy told p o (length tables.devices + length tables.back) tale.memory outer
     pub dealt : AreDealt told p t 0 mid parts depot
     pub streams : EndsStreams b left receiver parts progress tale

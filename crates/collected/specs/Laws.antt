@@ -14,15 +14,16 @@ use Rattle.plan_work.specs.Plans.{PlanRuns, opener_of, stream_of}
 use Rattle.pull_turns.specs.Piping.{StateMeaning}
 use Rattle.res_ledger.specs.declared.event.Event.{Event}
 use Rattle.row_seat.specs.declared.view.View.{View}
+use Rattle.run_rules.specs.Devices.{OpensWhatIsThere}
 use Rattle.run_rules.specs.Work.{RunRecord}
 use Rattle.scope_tree.specs.Calls.{Seen}
 use Rattle.stream_parts.specs.Retire.{MayReturnAll, Returns}
 use Rattle.collected.specs.Collected.{IsCollected, IsRunOf, all_left}
 use Rattle.dealt_streams.specs.declared.leftover.Leftover.{Leftover}
 
--- Once its main tree has settled into a ledger all devices that are left may go back, and once they went back the streams of the plan ran together.
+-- Once its main tree has settled into a ledger all devices that are left may go back, and once they went back the streams of the plan ran together, where no device tells that it was opened to be read that isn't there.
 pub record CollectedRuns {S V F : Type 0} (view : S → View V) (told : V → DeviceTold) (P : Values → StateMeaning F) : Type 0 where
   pub may_go : (p : PlanMeant) (d0 now : DepotTold) (t : Values) (outer : How) (b : Seen V) (left : List (Leftover V)) (receiver : ReceiverSeen) (tale : Tale) (L : List Event) → IsSoundPlan p → (h : IsCollected view told P p d0 now t outer b left receiver tale)
       → Settles p.max_open (length p.streams) b h.progress L → MayReturnAll now (all_left told b.shelf left)
-  pub runs : (p : PlanMeant) (d0 now last : DepotTold) (t : Values) (outer : How) (b : Seen V) (left : List (Leftover V)) (receiver : ReceiverSeen) (tale : Tale) (L : List Event) (c : RunRecord) → IsSoundPlan p → (h : IsCollected view told P p d0 now t outer b left receiver tale)
+  pub runs : (p : PlanMeant) (d0 now last : DepotTold) (t : Values) (outer : How) (b : Seen V) (left : List (Leftover V)) (receiver : ReceiverSeen) (tale : Tale) (L : List Event) (c : RunRecord) → IsSoundPlan p → ((d : V) → OpensWhatIsThere (told d)) → (h : IsCollected view told P p d0 now t outer b left receiver tale)
       → Settles p.max_open (length p.streams) b h.progress L → Returns now last (all_left told b.shelf left) → IsRunOf p outer tale L d0 last c → RunsTogether (opener_of p) (map stream_of p.streams) (PlanRuns p) c

@@ -147,6 +147,7 @@ module _ {S V F D T : Type 0} (view : S → View V) (told : V → DeviceTold) (f
           read = k.read;
           unread = λ not. absurd (not its_tables);
           ended = k.ended;
+          nobody = k.nobody;
           dealt = dealt_snoc told p t 0 k.mid depot now k.parts x k.dealt deals;
           streams = subst (λ i. KeepsStreams view told fits values P c.hub c.stops.board g (seen view z.tree) (js ++ j ∷ []) c.left.items (record r { made = r.made ++ i ∷ [] }) (k.parts ++ x ∷ []) q (fated k.tale tales.Fate.Begun)) (sym k.next)
               (streams_begun view told fits values P c.hub c.stops.board d (seen view c.tree) js c.left.items r k.parts k.progress k.tale k.streams g (seen view z.tree) w x j (split_of (view c.tree.seat) l.stream) k.next number k.telling.report_is.ours stream_is

@@ -1,5 +1,5 @@
 -- The end of a stream is dealt with, and the collector goes on.
-use Rattle.std.proofs.Common.{◌≡◌, ◌≢◌, ◌⊎◌, ℕ, ◌+◌, ◌<◌, List, [], ◌∷◌, ◌++◌, map, length, Option, Some, refl, sym, ◌∙◌, ap, subst, inl, ⊎_elim, arith, append_assoc, length-append}
+use Rattle.std.proofs.Common.{◌≡◌, ◌≢◌, ◌⊎◌, ℕ, suc, ◌+◌, ◌<◌, List, [], ◌∷◌, ◌++◌, map, length, Option, Some, refl, sym, ◌∙◌, ap, subst, inl, inr, ⊎_elim, arith, append_assoc, length-append}
 use Rattle.std.specs.Prelude.{vec_capacity}
 use Rattle.std.specs.Global.{Global}
 use Rattle.chunk_core.specs.Lists.{IsAmong}
@@ -16,6 +16,7 @@ use Rattle.device_port.specs.Depot.{DepotTold}
 use Rattle.device_port.specs.Device.{DeviceTold}
 use Rattle.device_port.specs.Sink.{SinkTold}
 use Rattle.interrupt_ctx.specs.Ends.{BoardSeen}
+use Rattle.interrupt_ctx.specs.Views.{interruption}
 use Rattle.join_report.specs.Calls.{EndsStream, after_end}
 use Rattle.join_report.specs.Reports.{HasStream}
 use Rattle.join_report.specs.Stopping.{IsSeated, TellsKnown, view_of, with_seat_in}
@@ -54,7 +55,7 @@ use Rattle.dealt_streams.specs.Tables.{HasTables}
 use Rattle.collector.specs.Collecting.{AreJobs, IsCollectingWith, IsJobOf, KeepsStreams, KeepsTree, guest_of}
 use Rattle.collector.specs.Receiving.{HasGot, StopsThose}
 use Rattle.collector.proofs.EndTaken.{GotAll, behind, got_all, streams_end}
-use Rattle.collector.proofs.EndTold.{EndComes, comes, end_sets, is_tale, v}
+use Rattle.collector.proofs.EndTold.{EndComes, HasSetOwn, comes, end_sets, is_tale, v}
 use Rattle.collector.proofs.LoadTaken.{grown, some_part}
 use Rattle.collector.proofs.Loads.{wrote_same}
 use Rattle.collector.proofs.Opening.{is_open}
@@ -165,7 +166,7 @@ module _ {S V F D T : Type 0} (view : S → View V) (told : V → DeviceTold) (f
           place = q.place;
         }) first.4
 
-        module _ (main : IsMain (FinishesDevice told) p.max_open (length p.streams) (seen view B) (joining i.progress ends.left.leaves.last)) (out : AreOut (seen view B) i.progress.splits (map guest_of os)) (B_is : seen view B ≡ record (seen view c.tree) { seat = joined (seen view c.tree).seat (view e.seat) }) (owes : owed (seen view B).seat ≡ owed (seen view c.tree).seat) (B_fits : Fits view fits B d2) (queued : List Msg) (whole : IsWhole e.sender.stream e.sender.sent r.got queued) (L : Vec (Leftover V) Global) (L_is : L.items ≡ c.left.items ++ record { shelf = e.shelf; unopened = e.unopened } ∷ []) (L_room : vec_capacity L ≡ vec_capacity c.left) (report : Report) (reported : EndsStream k h c.report report) (stops : Stops) (those : StopsThose p k (length p.streams) (with_seat_in c.stops e.board) stops) (seated : IsSeated stops) where
+        module _ (main : IsMain (FinishesDevice told) p.max_open (length p.streams) (seen view B) (joining i.progress ends.left.leaves.last)) (out : AreOut (seen view B) i.progress.splits (map guest_of os)) (B_is : seen view B ≡ record (seen view c.tree) { seat = joined (seen view c.tree).seat (view e.seat) }) (owes : owed (seen view B).seat ≡ owed (seen view c.tree).seat) (B_fits : Fits view fits B d2) (queued : List Msg) (whole : IsWhole e.sender.stream e.sender.sent r.got queued) (L : Vec (Leftover V) Global) (L_is : L.items ≡ c.left.items ++ record { shelf = e.shelf; unopened = e.unopened } ∷ []) (L_room : vec_capacity L ≡ vec_capacity c.left) (report : Report) (reported : EndsStream k h c.report report) (settled : IsSeated (with_seat_in c.stops e.board)) (stops : Stops) (those : StopsThose p k (length p.streams) (with_seat_in c.stops e.board) stops) (seated : IsSeated stops) where
           whole_had : IsWhole e.sender.stream e.sender.sent (had.got ++ end_message k h ∷ []) queued
           whole_had = subst (λ (x : ReceiverSeen). IsWhole e.sender.stream e.sender.sent x.got queued) got.is whole
 
@@ -175,11 +176,19 @@ module _ {S V F D T : Type 0} (view : S → View V) (told : V → DeviceTold) (f
           set_for : HasSetFor k e.board.view (Some h)
           set_for = subst (λ x. HasSetFor k e.board.view (Some x)) all.how_so (subst (λ x. HasSetFor x e.board.view (Some e.how)) w_is ends.learned.set)
 
+          -- where one stream is open at a time no seat is out now, and so all that is known is set
+          own_set : HasSetOwn p i.tale k e.board.view
+          own_set one x m =
+              let few = i.room.few in
+              let seats = i.telling.seats in
+              subst (λ l. IsAmong (interruption (suc k) x) (l ++ e.board.view.set)) (sym i.telling.known.set)
+              (settled.settled (omega (arith, few, seats, one)) (suc k) x (inr (among_right (interruption (suc k) x) (view_of c.stops).seen e.board.view.seen m)))
+
           abbrev tale : Tale
-          tale = v p i.tale k h i.telling.is_tale open_end e.board.view set_for (with_seat_in c.stops e.board) stops those
+          tale = v p i.tale k h i.telling.is_tale open_end e.board.view set_for own_set (with_seat_in c.stops e.board) stops those
 
           ending : EndComes i.tale (after_end i.tale k h) k h
-          ending = comes p i.tale k h i.telling.is_tale open_end e.board.view set_for (with_seat_in c.stops e.board) stops those
+          ending = comes p i.tale k h i.telling.is_tale open_end e.board.view set_for own_set (with_seat_in c.stops e.board) stops those
 
           ending_learned : EndComes i.tale tale k h
           ending_learned = record {
@@ -227,10 +236,11 @@ module _ {S V F D T : Type 0} (view : S → View V) (told : V → DeviceTold) (f
             read = i.read;
             unread = λ ne. absurd (some_part i.parts i.tale k i.telling.fates_are open_end (i.unread ne).1);
             ended = i.ended;
+            nobody = i.nobody;
             dealt = i.dealt;
             streams = subst (λ b. KeepsStreams view told fits values P c.hub b d2 (seen view B) js L.items R i.parts (joining i.progress ends.left.leaves.last) tale) (sym those.learns.board) streams_now;
             telling = record {
-              is_tale = is_tale p i.tale k h i.telling.is_tale open_end e.board.view set_for (with_seat_in c.stops e.board) stops those;
+              is_tale = is_tale p i.tale k h i.telling.is_tale open_end e.board.view set_for own_set (with_seat_in c.stops e.board) stops those;
               fates_are = ending.fates ∙ i.telling.fates_are;
               outer_is = ending.outer ∙ i.telling.outer_is;
               report_is = learns p.take (length p.streams) (after_end i.tale k h) report (reported p.take (length p.streams) i.tale i.telling.report_is open_end) (e.board.view.set ++ those.set) (e.board.view.seen ++ those.seen);

@@ -1,5 +1,5 @@
 -- An end came, and the tale goes on.
-use Rattle.std.proofs.Common.{◌≡◌, ◌⊎◌, ℕ, zero, suc, ◌+◌, ◌<◌, Bool, true, false, ◌||◌, List, [], ◌∷◌, ◌++◌, map, length, Some, None, if◌then◌else◌, refl, sym, ◌∙◌, ap, subst, inl, inr, ⊎_elim, arith, append_assoc, append-nil}
+use Rattle.std.proofs.Common.{◌≡◌, ◌⊎◌, ℕ, zero, suc, ◌+◌, ◌<◌, Bool, true, false, ◌||◌, List, [], ◌∷◌, ◌++◌, map, length, Some, None, if◌then◌else◌, refl, sym, ◌∙◌, ap, subst, inl, inr, ⊎_elim, arith, eqb-true, append_assoc, append-nil}
 use Rattle.std.specs.Prelude.{slice_get}
 use Rattle.chunk_core.specs.Lists.{IsAmong}
 use Rattle.chunk_core.specs.declared.code.Code.{Code}
@@ -14,7 +14,7 @@ use Rattle.interrupt_ctx.specs.declared.why.Why.{Why}
 use Rattle.interrupt_ctx.specs.declared.why.Why.TheVariants as why
 use Rattle.join_report.specs.Calls.{after_end}
 use Rattle.join_report.specs.declared.stops.Stops.{Stops}
-use Rattle.join_tale.specs.Keeping.{IsTale}
+use Rattle.join_tale.specs.Keeping.{IsOwnCode, IsTale}
 use Rattle.join_tale.specs.Steps.{TellsEnd, ended, ended_late, learned}
 use Rattle.join_tale.specs.Tales.{Came, IsCaused, IsFoundSet, IsKnown, IsOpen, Tale, end_of, frames_of}
 use Rattle.join_tale.proofs.Ending as ending
@@ -105,7 +105,11 @@ until_work [] i k s e u = cc
 until_work (x ∷ ss) zero k s e u = let same : x ≡ s = cc in ap (λ (y : StreamSpec). y.until) same ∙ u
 until_work (x ∷ ss) (suc i) k s e u = until_work ss i k s e u
 
-module _ (p : PlanMeant) (t : Tale) (k : ℕ) (h : How) (i : IsTale (bare_work p) t) (o : IsOpen t k) (w : View) (ended_so : HasSetFor k w (Some h)) (before stops : Stops) (those : StopsThose p k (length p.streams) before stops) where
+-- where one stream is open at a time, a code of stream k that its seat has seen is among those that were set before or by it
+abbrev pub HasSetOwn : PlanMeant → Tale → ℕ → View → Type 0
+HasSetOwn p t k w = p.max_open ≡ 1 → (x : Why) → IsAmong (interruption (suc k) x) w.seen → IsAmong (interruption (suc k) x) (t.set ++ w.set)
+
+module _ (p : PlanMeant) (t : Tale) (k : ℕ) (h : How) (i : IsTale (bare_work p) t) (o : IsOpen t k) (w : View) (ended_so : HasSetFor k w (Some h)) (own : HasSetOwn p t k w) (before stops : Stops) (those : StopsThose p k (length p.streams) before stops) where
   abbrev pub vs : List Interruption
   vs = w.set ++ those.set
 
@@ -155,8 +159,15 @@ module _ (p : PlanMeant) (t : Tale) (k : ℕ) (h : How) (i : IsTale (bare_work p
       let ends = r.1.2 in
       subst (λ y. IsCaused (bare_work p) v context y) (sym r.0) (r.1.0, k, r.1.1, until_work p.streams r.1.0 k ends.0 ends.1 ends.2, (h, comes.came))
 
-  halted_so : (g : How) → h ≡ g → HasSetFor k w (Some g) → g ≡ how.Halted → IsFoundSet v 0 ⊎ IsFoundSet v (suc k)
-  halted_so how.Halted is s e = let f = s.found in ⊎_elim (λ a. inl (f.0, seen_in (interruption 0 f.0) (among_left those.seen a))) (λ b. inr (f.0, seen_in (interruption (suc k) f.0) (among_left those.seen (subst (λ n. IsAmong (interruption n f.0) w.seen) (let z : 1 + k ≡ suc k = omega arith in z) b)))) f.1
+  -- a code of its own that it found, which had been set where one stream is open at a time
+  own_code : (x : Why) → IsAmong (interruption (suc k) x) w.seen → IsOwnCode (bare_work p) v k
+  own_code x m = (
+    (x, seen_in (interruption (suc k) x) (among_left those.seen m)),
+    λ turn. (x, subst (λ l. IsAmong (interruption (suc k) x) (l ++ vs)) (sym (end_sets t k h).0) (subst (λ l. IsAmong (interruption (suc k) x) l) (append_assoc t.set w.set those.set) (among_left those.set (own (eqb-true p.max_open 1 turn) x m)))),
+  )
+
+  halted_so : (g : How) → h ≡ g → HasSetFor k w (Some g) → g ≡ how.Halted → IsFoundSet v 0 ⊎ IsOwnCode (bare_work p) v k
+  halted_so how.Halted is s e = let f = s.found in ⊎_elim (λ a. inl (f.0, seen_in (interruption 0 f.0) (among_left those.seen a))) (λ b. inr (own_code f.0 (subst (λ n. IsAmong (interruption n f.0) w.seen) (let z : 1 + k ≡ suc k = omega arith in z) b))) f.1
   halted_so how.Done is s e = cc
   halted_so (how.Fault c) is s e = cc
   halted_so how.Memory is s e = cc

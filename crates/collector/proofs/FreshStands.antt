@@ -83,9 +83,9 @@ module _ {S V F D T : Type 0} (view : S → View V) (told : V → DeviceTold) (f
     -- it stands so before its first stream
     pub stands : (waits : ℕ) (depot : DepotTold) (e : D) (tree : Tree S V D) (stops : Stops) (report : Report) (outer : Option How) (o : Option NotRead) (tables : List What) (root : Option Exit) (set found : List Interruption) (ceased memory : Bool) → Fits view fits tree e
         → KeepsTree p {F = F} told waits (seen view tree) outer 0 [] [] (moved (none_done V) [] 0 0 tables root) → (ht : HasTables told p d0 depot o (seen view tree) (moved (none_done V) [] 0 0 tables root)) → (o ≡ None → HaveValuesOf told p ht.contents t) → (o ≡ None → outer ≡ None)
-        → (o ≢ None → (h : How) × (outer ≡ Some h) × IsStoppedBy told p o (length ht.devices + length ht.back) memory h) → (seen view tree).seat.out ≡ [] → KeepsTale p outer report stops 0 s0 s0 [] (retold first_tale outer set found ceased memory)
+        → (o ≢ None → (h : How) × (outer ≡ Some h) × IsStoppedBy told p o (length ht.devices + length ht.back) memory h) → (p.take ≡ Some 0 → (length ht.devices + length ht.back ≡ 0) × (outer ≡ Some how.Halted)) → (seen view tree).seat.out ≡ [] → KeepsTale p outer report stops 0 s0 s0 [] (retold first_tale outer set found ceased memory)
         → IsCollecting view told fits values P p d0 s0 t waits depot s0 e (record c { tree = tree; stops = stops; report = report; outer = outer })
-    stands waits depot e tree stops report outer o tables root set found ceased memory fit kt ht read only stopped out telling =
+    stands waits depot e tree stops report outer o tables root set found ceased memory fit kt ht read only stopped unwanted out telling =
         let z : Collector S V F V D T = record c { tree = tree; stops = stops; report = report; outer = outer } in
         let q = moved (none_done V) [] 0 0 tables root in
         let tale = retold first_tale outer set found ceased memory in
@@ -103,6 +103,7 @@ module _ {S V F D T : Type 0} (view : S → View V) (told : V → DeviceTold) (f
           read = read;
           ended = λ n. subst (λ (x : Option How). IfSome x (EndsRead p c.leased)) (sym (only n)) tt;
           unread = λ n. (refl, refl, stopped n);
+          nobody = unwanted;
           dealt = refl;
           streams = subst (λ (r : ReceiverSeen). KeepsStreams view told fits values P c.hub stops.board e (seen view tree) [] c.left.items r [] q tale) (sym fr.room.receiver)
               (subst (λ (xs : List (Leftover V)). KeepsStreams view told fits values P c.hub stops.board e (seen view tree) [] xs (record { hub = c.hub.id; got = []; made = []; closed = [] }) [] q tale) (sym fr.room.left)
@@ -123,7 +124,7 @@ module _ {S V F D T : Type 0} (view : S → View V) (told : V → DeviceTold) (f
         let tale = halted p (room_of c) fr.room s0 none again m seated last cs l sits r z.report ends in
         let h = stands 0 d0 e z.tree last z.report (Some how.Halted) (Some lack.Memory) [] (Some (exit_of how.Halted)) tale.set tale.seen tale.ceased tale.memory fit
         (closed {F = F} told p 0 a None 0 [] [] q (untouched_tree told p d0 d0 a fr.seat 0 refl fr.main) how.Halted b refl close)
-        (tables_kept told p d0 d0 (Some lack.Memory) q u a b close.rows refl (untried told p d0 d0 a fr.seat)) (λ n. cc) (λ n. cc) (λ n. (how.Halted, refl, (none, refl))) (close.guests.out ∙ first_out p a.seat fr.seat)
+        (tables_kept told p d0 d0 (Some lack.Memory) q u a b close.rows refl (untried told p d0 d0 a fr.seat)) (λ n. cc) (λ n. cc) (λ n. (how.Halted, refl, (none, refl))) (λ w. (refl, refl)) (close.guests.out ∙ first_out p a.seat fr.seat)
         (tale_halted p (room_of c) fr.room s0 none again m seated last cs l sits r z.report ends) in
         subst (λ (y : Collector S V F V D T). IsCollecting view told fits values P p d0 s0 t 1 d0 s0 e y) (sym same)
         (more_now view told fits values P p d0 s0 t 0 1 d0 s0 e (record c { tree = z.tree; stops = last; report = z.report; outer = Some how.Halted }) h (omega arith) (λ n. cc))
@@ -138,7 +139,7 @@ module _ {S V F D T : Type 0} (view : S → View V) (told : V → DeviceTold) (f
           let a = seen view c.tree in
           let b = seen view tree in
           let h = stands (length c.waiting.items) depot e tree c.stops c.report None o (acquires 0 (length tr.devices)) None [] [] false false fit
-          (tried_tree told p d0 depot a fr.seat b o tr (length c.waiting.items) n main) (tried told p d0 depot a fr.seat b o tr) (λ z. same) (λ z. refl) (λ z. absurd (z read)) (tried_out told p d0 depot a fr.seat b o tr) (tale_starts p (room_of c) fr.room s0 some) in
+          (tried_tree told p d0 depot a fr.seat b o tr (length c.waiting.items) n main) (tried told p d0 depot a fr.seat b o tr) (λ z. same) (λ z. refl) (λ z. absurd (z read)) (λ w. absurd (some w)) (tried_out told p d0 depot a fr.seat b o tr) (tale_starts p (room_of c) fr.room s0 some) in
           subst (λ (x : Option How). IsCollecting view told fits values P p d0 s0 t (length c.waiting.items) depot s0 e (record c { tree = tree; outer = x })) (sym fr.outer) h
 
       -- and one wasn't read
@@ -153,6 +154,6 @@ module _ {S V F D T : Type 0} (view : S → View V) (told : V → DeviceTold) (f
           let kt = tale_closes p None c.report c.stops 0 s0 s0 [] first_tale (tale_starts p (room_of c) fr.room s0 some) h z.stops z.report vs cs refl l sits ends tells in
           let k = stands 0 depot e z.tree z.stops z.report (Some h) o (acquires 0 (length tr.devices)) (Some (exit_of h)) ([] ++ vs) ([] ++ cs) (false || is_memory h) (false || is_memory h) fit
           (closed {F = F} told p 0 m None 0 [] [] q (tried_tree told p d0 depot a fr.seat m o tr 0 refl main) h b refl close)
-          (tables_kept told p d0 depot o q u m b close.rows refl (tried told p d0 depot a fr.seat m o tr)) (λ n. absurd (unread n)) (λ n. absurd (unread n)) (λ n. (h, refl, cause)) (close.guests.out ∙ tried_out told p d0 depot a fr.seat m o tr) kt in
+          (tables_kept told p d0 depot o q u m b close.rows refl (tried told p d0 depot a fr.seat m o tr)) (λ n. absurd (unread n)) (λ n. absurd (unread n)) (λ n. (h, refl, cause)) (λ w. absurd (some w)) (close.guests.out ∙ tried_out told p d0 depot a fr.seat m o tr) kt in
           subst (λ (y : Collector S V F V D T). IsCollecting view told fits values P p d0 s0 t 1 depot s0 e y) (sym same)
           (more_now view told fits values P p d0 s0 t 0 1 depot s0 e (record c { tree = z.tree; stops = z.stops; report = z.report; outer = Some h }) k (omega arith) (λ n. cc))

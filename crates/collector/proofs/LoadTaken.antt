@@ -148,6 +148,7 @@ module _ {S V F D T : Type 0} (view : S → View V) (told : V → DeviceTold) (f
       read = i.read;
       unread = λ ne. absurd (some_part i.parts i.tale k i.telling.fates_are open_load (i.unread ne).1);
       ended = i.ended;
+      nobody = i.nobody;
       dealt = i.dealt;
       streams = subst (λ b. KeepsStreams view told fits values P c.hub b d (seen view c.tree) js c.left.items (grown had m) i.parts i.progress v) (sym board) (streams_on i.parts i.progress had m i.tale v g.same open_load c.hub c.stops.board d (seen view c.tree) js c.left.items g.got i.streams);
       telling = record {

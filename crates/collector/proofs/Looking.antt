@@ -1,8 +1,9 @@
 -- What a look at the board tells of the next stream.
 use Rattle.std.proofs.Common.{◌≡◌, ℕ, ◌+◌, Bool, true, false, List, [], inl, inr, sym, ◌∙◌, subst, ⊎_elim, append-nil}
+use Rattle.std.specs.VecDeque.{deque_capacity}
 use Rattle.chunk_core.specs.Lists.{IsAmong}
 use Rattle.chunk_core.proofs.Filters.{among_right}
-use Rattle.interrupt_ctx.specs.Views.{interruption}
+use Rattle.interrupt_ctx.specs.Views.{HasSetAll, interruption}
 use Rattle.interrupt_ctx.specs.declared.view.Interruption.{Interruption}
 use Rattle.interrupt_ctx.specs.declared.why.Why.{Why}
 use Rattle.join_report.specs.Stopping.{IsUnknown, Learns, Looks, Reaches, view_of}
@@ -27,9 +28,9 @@ unknown_still old new context l n w k = n w (⊎_elim
     k)
 
 module _ {S V F P D T : Type 0} (c : Collector S V F P D T) (old : Stops) where
-  -- the next stream may be skipped, where a code of its own or of the whole run was found
-  pub may_skip : (cs : List Interruption) → Learns old c.stops [] cs → Reaches (1 + c.next) cs → MaySkip c
-  may_skip cs l r = ⊎_elim (λ f. inr (inl (f.0, seen (1 + c.next) f.0 f.1))) (λ f. inl (f.0, seen 0 f.0 f.1)) r
+  -- the next stream may be skipped, where a code of its own or of the whole run was found, and all that is known is set where there is room for one job alone
+  pub may_skip : (cs : List Interruption) → Learns old c.stops [] cs → Reaches (1 + c.next) cs → (deque_capacity c.jobs ≡ 1 → HasSetAll (view_of c.stops)) → MaySkip c
+  may_skip cs l r all = ⊎_elim (λ f. inr (inl (f.0, seen (1 + c.next) f.0 f.1, λ one. all one (1 + c.next) f.0 (inr (seen (1 + c.next) f.0 f.1))))) (λ f. inl (f.0, seen 0 f.0 f.1)) r
     where
       seen : (context : ℕ) (w : Why) → IsAmong (interruption context w) cs → IsAmong (interruption context w) (view_of c.stops).seen
       seen context w m = subst (λ xs. IsAmong (interruption context w) xs) (sym l.seen) (among_right (interruption context w) (view_of old).seen cs m)

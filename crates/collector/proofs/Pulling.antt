@@ -87,6 +87,7 @@ module _ {S V F D T : Type 0} (view : S → View V) (told : V → DeviceTold) (f
     read = k.read;
     unread = λ not. absurd (not (all_read view told fits values P p d0 s0 t waits ws js r depot sink d c k none));
     ended = λ n. subst (λ o. IfSome o (EndsRead p (c.leased + 1))) (sym none) tt;
+    nobody = λ w. let z : None ≡ Some how.Halted = sym none ∙ (k.nobody w).1 in cc;
     dealt = k.dealt;
     streams = streams_stay view told fits values P c.hub c.stops.board d (seen view c.tree) js c.left.items r k.parts k.progress k.tale k.streams c.stops.board e (seen view z.tree) refl others guests rows
         k.tale.outer k.tale.set k.tale.seen k.tale.ceased k.tale.memory (k.progress.waits ++ (k.progress.leased, l.rows.items) ∷ []) k.progress.next (suc k.progress.leased) k.progress.tables k.progress.root;

@@ -1,10 +1,11 @@
 -- What each small call of a collector keeps.
-use Rattle.std.proofs.Common.{◌≡◌, ◌≢◌, ◌⊎◌, ℕ, suc, ◌+◌, ◌<◌, ◌≤◌, true, ◌||◌, List, [], ◌∷◌, ◌++◌, map, length, Option, Some, None, inl, inr, refl, sym, ◌∙◌, ap, subst, ⊎_elim, arith, slice_get, vec_capacity}
+use Rattle.std.proofs.Common.{◌≡◌, ◌≢◌, ◌⊎◌, ℕ, suc, ◌+◌, ◌<◌, ◌≤◌, true, ◌||◌, List, [], ◌∷◌, ◌++◌, map, length, Option, Some, None, inl, inr, refl, sym, ◌∙◌, ap, subst, ⊎_elim, arith, eqb-true, slice_get, vec_capacity}
 use Rattle.std.specs.VecDeque.{deque_capacity}
 use Rattle.chunk_core.specs.Lists.{IsAmong}
 use Rattle.chunk_core.specs.Outcomes.{exit_of}
 use Rattle.chunk_core.specs.Tables.{Values}
 use Rattle.chunk_core.specs.declared.code.How.{How}
+use Rattle.chunk_core.specs.declared.code.How.TheVariants as how
 use Rattle.channel_bounded.specs.Ends.{ReceiverSeen}
 use Rattle.device_port.specs.Device.{DeviceTold}
 use Rattle.device_port.specs.Depot.{DepotTold}
@@ -17,10 +18,10 @@ use Rattle.join_report.specs.Calls.{EndsOuter, MissesStream}
 use Rattle.join_report.specs.Stopping.{IsSeated, Learns, view_of, with_seat_out}
 use Rattle.join_report.specs.declared.report.Report.{Report}
 use Rattle.join_report.specs.declared.stops.Stops.{Stops}
-use Rattle.join_tale.specs.Keeping.{IsOuterStopped}
+use Rattle.join_tale.specs.Keeping.{IsOuterStopped, IsOwnCode}
 use Rattle.join_tale.specs.Steps.{Marks, TellsOuter, fated, learned, outer_ended, unmade}
 use Rattle.join_tale.specs.Tales as tales
-use Rattle.join_tale.specs.Tales.{IsFoundSet, IsKnown, Tale}
+use Rattle.join_tale.specs.Tales.{IsFoundSet, IsSet, Tale}
 use Rattle.join_tree.specs.Progress.{Progress, closing_root, skipping}
 use Rattle.join_tree.specs.Steps.{KeepsGuests, KeepsRows}
 use Rattle.join_tree.proofs.Outs.{guests_stay}
@@ -109,6 +110,7 @@ module _ {S V F D T : Type 0} (view : S → View V) (told : V → DeviceTold) (f
     read = k.read;
     unread = k.unread;
     ended = k.ended;
+    nobody = k.nobody;
     dealt = k.dealt;
     streams = k.streams;
     telling = k.telling;
@@ -130,6 +132,7 @@ module _ {S V F D T : Type 0} (view : S → View V) (told : V → DeviceTold) (f
     read = h.read;
     unread = h.unread;
     ended = h.ended;
+    nobody = h.nobody;
     dealt = h.dealt;
     streams = h.streams;
     telling = h.telling;
@@ -157,6 +160,7 @@ module _ {S V F D T : Type 0} (view : S → View V) (told : V → DeviceTold) (f
       read = k.read;
       unread = k.unread;
       ended = k.ended;
+      nobody = k.nobody;
       dealt = k.dealt;
       streams = streams_stay view told fits values P c.hub c.stops.board d (seen view c.tree) js c.left.items r k.parts k.progress k.tale k.streams again.board d (seen view c.tree) l.board (λ x ne f. f) (record { out = refl; splits = refl; empty = λ x m. m; lent = λ j rows m. m }) (record { noted = λ x m. m; left = λ x m. m; opened = λ x m. inl m; given = λ x m. m })
           k.tale.outer (k.tale.set ++ []) (k.tale.seen ++ cs) k.tale.ceased k.tale.memory k.progress.waits k.progress.next k.progress.leased k.progress.tables k.progress.root;
@@ -179,6 +183,7 @@ module _ {S V F D T : Type 0} (view : S → View V) (told : V → DeviceTold) (f
       read = k.read;
       unread = k.unread;
       ended = k.ended;
+      nobody = k.nobody;
       dealt = k.dealt;
       streams = streams_stay view told fits values P c.hub c.stops.board d (seen view c.tree) js c.left.items r k.parts k.progress k.tale k.streams c.stops.board e (seen view tree) refl others (subst (λ (b : Seen V). KeepsGuests (seen view c.tree) b) (sym same) (record { out = refl; splits = refl; empty = λ x m. m; lent = λ j rows m. m }))
           (subst (λ (b : Seen V). KeepsRows (seen view c.tree).seat b.seat) (sym same) (record { noted = λ x m. m; left = λ x m. m; opened = λ x m. inl m; given = λ x m. m }))
@@ -194,6 +199,14 @@ module _ {S V F D T : Type 0} (view : S → View V) (told : V → DeviceTold) (f
         let n = map_length guest_of k.streams.origins in
         let m = jobs_number view told fits values P c.hub c.stops.board d (seen view c.tree) js c.left.items r k.parts k.progress k.tale k.streams in
         omega (arith, f, n, m)
+
+    -- where the open jobs and the leases that wait are as many as may be open at most, so are the seats that are out and these
+    pub may_lease : length js + length ws ≤ p.max_open → length (seen view c.tree).seat.out + length k.progress.waits ≤ p.max_open
+    may_lease few =
+        let o = few_out in
+        let w = ap (λ (xs : List (ℕ × List ℕ)). length xs) k.tree.waits_are in
+        let n = map_length waiting_of ws in
+        omega (arith, few, o, w, n)
 
     -- where the outer stream is open all tables were read
     pub all_read : c.outer ≡ None → k.o ≡ None
@@ -215,6 +228,7 @@ module _ {S V F D T : Type 0} (view : S → View V) (told : V → DeviceTold) (f
       read = k.read;
       unread = λ n. absurd (n (all_read none));
       ended = λ n. read_so;
+      nobody = λ w. let z : None ≡ Some how.Halted = sym none ∙ (k.nobody w).1 in cc;
       dealt = k.dealt;
       streams = streams_stay view told fits values P c.hub c.stops.board d (seen view c.tree) js c.left.items r k.parts k.progress k.tale k.streams again.board e (seen view tree) l.board others close.guests close.rows
           (Some h) (k.tale.set ++ vs) (k.tale.seen ++ cs) (k.tale.ceased || is_memory h) (k.tale.memory || is_memory h) k.progress.waits k.progress.next k.progress.leased k.progress.tables (Some (exit_of h));
@@ -239,10 +253,16 @@ module _ {S V F D T : Type 0} (view : S → View V) (told : V → DeviceTold) (f
     found : (context : ℕ) (w : Why) → IsAmong (interruption context w) (view_of c.stops).seen → IsFoundSet k.tale context
     found = found_so p c.outer c.report c.stops (length js) s0 sink (map fate_of k.parts) k.tale k.telling
 
-    cause_so : MaySkip c → IsFoundSet k.tale 0 ⊎ IsFoundSet k.tale (suc (length k.tale.fates)) ⊎ IsOuterStopped k.tale
-    cause_so m =
-        let own : 1 + c.next ≡ suc (length k.tale.fates) = let n = counted in omega (arith, n) in
-        ⊎_elim (λ f. inl (found 0 f.0 f.1)) (λ y. inr (⊎_elim (λ f. inl (subst (λ n. IsFoundSet k.tale n) own (found (1 + c.next) f.0 f.1))) (λ h. inr (h.0, k.telling.outer_is ∙ h.1, h.2)) y)) m
+    -- a code that is the stream's own had been set by then, where there is room for one job alone
+    own_code : (w : Why) → IsAmong (interruption (1 + c.next) w) (view_of c.stops).seen → (deque_capacity c.jobs ≡ 1 → IsAmong (interruption (1 + c.next) w) (view_of c.stops).set) → IsOwnCode (bare_work p) k.tale (length k.tale.fates)
+    own_code w m set =
+        let own : 1 + c.next ≡ suc (length k.tale.fates) = let n = counted in omega (arith, n) in (
+          subst (λ n. IsFoundSet k.tale n) own (found (1 + c.next) w m),
+          λ turn. subst (λ n. IsSet k.tale n) own (w, subst (λ xs. IsAmong (interruption (1 + c.next) w) xs) (sym k.telling.known.set) (set (k.room.jobs_room ∙ eqb-true p.max_open 1 turn))),
+        )
+
+    cause_so : MaySkip c → IsFoundSet k.tale 0 ⊎ IsOwnCode (bare_work p) k.tale (length k.tale.fates) ⊎ IsOuterStopped k.tale
+    cause_so m = ⊎_elim (λ f. inl (found 0 f.0 f.1)) (λ y. inr (⊎_elim (λ f. inl (own_code f.0 f.1 f.2)) (λ h. inr (h.0, k.telling.outer_is ∙ h.1, h.2)) y)) m
 
     -- its stream was skipped
     pub skip_step : (tree : Tree S V D) (e : D) → PassesOver (FinishesDevice told) l.stream l.rows.items (seen view c.tree) (seen view tree) → Fits view fits tree e → OthersFit view fits Outer d e → MaySkip c → (again : ℕ) → length ws ≤ again → (c.outer ≡ None → 0 < again → 1 ≤ length ws)
@@ -264,6 +284,7 @@ module _ {S V F D T : Type 0} (view : S → View V) (told : V → DeviceTold) (f
           read = k.read;
           unread = λ not. absurd (not all_parts_read);
           ended = k.ended;
+          nobody = k.nobody;
           dealt = dealt_snoc told p t 0 k.mid depot depot k.parts Skipped k.dealt refl;
           streams = streams_skipped view told fits values P c.hub c.stops.board d (seen view c.tree) js c.left.items r k.parts k.progress k.tale k.streams c.stops.board e (seen view tree) refl others pass.guests pass.rows Skipped tales.Fate.Skipped (λ z. cc) (λ z. cc)
               k.tale.outer k.tale.set k.tale.seen k.tale.ceased k.tale.memory (map waiting_of ws) (suc k.progress.next) k.progress.leased k.progress.tables k.progress.root;
@@ -293,6 +314,7 @@ module _ {S V F D T : Type 0} (view : S → View V) (told : V → DeviceTold) (f
           read = k.read;
           unread = λ not. absurd (not all_parts_read);
           ended = k.ended;
+          nobody = k.nobody;
           dealt = dealt_snoc told p t 0 k.mid depot now k.parts x k.dealt (subst (λ i. Deals told p t i depot now x) here' (s, is, makes));
           streams = subst (λ xs. KeepsStreams view told fits values P c.hub z.stops.board e (seen view z.tree) js xs r (k.parts ++ x ∷ []) (skipping k.progress (map waiting_of ws)) (learned (unmade k.tale) vs cs)) (sym pushed)
               (streams_missed view told fits values P c.hub c.stops.board d (seen view c.tree) js c.left.items r k.parts k.progress k.tale k.streams z.stops.board e (seen view z.tree) l'.board others pass.guests pass.rows x tales.Fate.Unmade (λ q. cc) refl ds y refl shelf unopened count k.telling.report_is.ours

@@ -1,5 +1,5 @@
 -- The tale of a collector, call by call.
-use Rattle.std.proofs.Common.{◌≡◌, ◌⊎◌, ℕ, suc, ◌+◌, Bool, true, false, ◌||◌, List, [], ◌∷◌, ◌++◌, length, Option, Some, None, inr, refl, sym, ◌∙◌, ap, subst, append-nil}
+use Rattle.std.proofs.Common.{◌≡◌, ◌⊎◌, ℕ, ◌+◌, Bool, true, false, ◌||◌, List, [], ◌∷◌, ◌++◌, length, Option, Some, None, inr, refl, sym, ◌∙◌, ap, subst, append-nil}
 use Rattle.chunk_core.specs.Lists.{IsAmong}
 use Rattle.chunk_core.specs.declared.code.Code.{Code}
 use Rattle.chunk_core.specs.declared.code.How.{How}
@@ -20,11 +20,12 @@ use Rattle.join_report.proofs.Learning.{learns_known}
 use Rattle.join_report.proofs.Steps as reports
 use Rattle.join_tale.specs.Steps.{Marks, MayBegin, TellsOuter, fated, first_tale, learned, outer_ended, unmade}
 use Rattle.join_tale.specs.Tales as tales
-use Rattle.join_tale.specs.Tales.{Fate, IsFoundSet, Tale}
-use Rattle.join_tale.specs.Keeping.{IsOuterStopped}
+use Rattle.join_tale.specs.Tales.{Fate, IsFoundSet, IsKnown, Tale}
+use Rattle.join_tale.specs.Keeping.{IsOuterStopped, IsOwnCode, IsTale}
 use Rattle.join_tale.proofs.Growing.{marked_caused, marked_known}
 use Rattle.join_tale.proofs.Steps as steps
 use Rattle.pipeline_desc.specs.Meant.{PlanMeant}
+use Rattle.run_rules.specs.Work.{Work}
 use Rattle.dealt_streams.specs.Tables.{bare_work}
 use Rattle.collector.specs.Collecting.{KeepsTale, WritesTale}
 
@@ -52,7 +53,7 @@ module _ (p : PlanMeant) (outer : Option How) (report : Report) (stops : Stops) 
   }
 
   -- the next stream was skipped
-  pub tale_skips : IsFoundSet t 0 ⊎ IsFoundSet t (suc (length t.fates)) ⊎ IsOuterStopped t → KeepsTale p outer report stops out old new (fates ++ tales.Fate.Skipped ∷ []) (fated t tales.Fate.Skipped)
+  pub tale_skips : IsFoundSet t 0 ⊎ IsOwnCode (bare_work p) t (length t.fates) ⊎ IsOuterStopped t → KeepsTale p outer report stops out old new (fates ++ tales.Fate.Skipped ∷ []) (fated t tales.Fate.Skipped)
   tale_skips cause = record {
     is_tale = steps.skips (bare_work p) t kt.is_tale cause;
     fates_are = ap (λ fs. fs ++ tales.Fate.Skipped ∷ []) kt.fates_are;
@@ -110,6 +111,17 @@ module _ (p : PlanMeant) (outer : Option How) (report : Report) (stops : Stops) 
   -- what is found stands in the tale
   pub found_so : (context : ℕ) (w : Why) → IsAmong (interruption context w) (view_of stops).seen → IsFoundSet t context
   found_so context w m = (w, subst (λ l. IsAmong (interruption context w) l) (sym kt.known.seen) m)
+
+-- where nothing is known of the whole run the outer stream gave all streams, if it has ended
+pub outer_done : (work : Work) (t : Tale) → IsTale work t → ¬ (IsKnown t 0) → (h : How) → t.outer ≡ Some h → h ≡ how.Done
+outer_done work t i free how.Done e = refl
+outer_done work t i free how.Halted e = absurd (free (inr (i.fates.outer_halted e)))
+outer_done work t i free (how.Fault c) e = absurd (free (i.fates.outer_fault c e))
+outer_done work t i free how.Memory e = absurd (free (i.stop (wanting t.ceased refl)))
+  where
+    wanting : (b : Bool) → t.ceased ≡ b → t.ceased ≡ true
+    wanting true q = q
+    wanting false q = let z : false ≡ true = sym (i.frames.quiet q).2 ∙ i.fates.outer_memory e in cc
 
 -- what is told where the outer stream ends: it gave all streams, or it found a code, or it set one at a fault or for want of memory
 pub tells_done : (p : PlanMeant) (u : Tale) → TellsOuter (bare_work p) u how.Done []

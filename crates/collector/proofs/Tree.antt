@@ -4,8 +4,9 @@ use Rattle.std.specs.List.{sum_by, IsDistinct}
 use Rattle.std.proofs.lemmas.List.Sums.{sum_by-cons}
 use Rattle.chunk_core.specs.Lists.{IsAmong}
 use Rattle.chunk_core.specs.Outcomes.{exit_of}
-use Rattle.chunk_core.specs.declared.code.Exit.{Exit}
+use Rattle.chunk_core.specs.declared.code.Exit.TheVariants.{Succeeded}
 use Rattle.chunk_core.specs.declared.code.How.{How}
+use Rattle.chunk_core.specs.declared.code.How.TheVariants as how
 use Rattle.chunk_core.proofs.Each.{each_snoc}
 use Rattle.chunk_core.proofs.Filters.{filter_among}
 use Rattle.device_port.specs.Device.{DeviceTold}
@@ -164,15 +165,15 @@ module _ {V F : Type 0} (told : V → DeviceTold) (p : PlanMeant) where
         }
 
     -- it may begin
-    pub ready_so : (outs : ℕ) → length b.seat.out ≤ outs → outs < p.max_open → (outer ≡ None → 1 ≤ length ws) → IsReady p.max_open b progress
-    ready_so outs few less ahead = record {
-      ahead = ahead_so outer kt.root_is ahead;
+    pub ready_so : (outs : ℕ) → length b.seat.out ≤ outs → outs < p.max_open → (outer ≡ None → 1 ≤ length ws) → ((h : How) → outer ≡ Some h → h ≡ how.Done) → IsReady p.max_open b progress
+    ready_so outs few less ahead done = record {
+      ahead = ahead_so outer kt.root_is ahead done;
       narrow = omega (arith, few, less);
     }
       where
-        ahead_so : (o : Option How) → progress.root ≡ option_map exit_of o → (o ≡ None → 1 ≤ length ws) → (2 ≤ length progress.waits) ⊎ ((x : Exit) × (progress.root ≡ Some x))
-        ahead_so None e a = let w = ap (λ (xs : List (ℕ × List ℕ)). length xs) kt.waits_are in let n = map_length waiting_of ws in let m = a refl in inl (omega (arith, w, n, m))
-        ahead_so (Some h) e a = inr (exit_of h, e)
+        ahead_so : (o : Option How) → progress.root ≡ option_map exit_of o → (o ≡ None → 1 ≤ length ws) → ((h : How) → o ≡ Some h → h ≡ how.Done) → (2 ≤ length progress.waits) ⊎ (progress.root ≡ Some Succeeded)
+        ahead_so None e a d = let w = ap (λ (xs : List (ℕ × List ℕ)). length xs) kt.waits_are in let n = map_length waiting_of ws in let m = a refl in inl (omega (arith, w, n, m))
+        ahead_so (Some h) e a d = inr (e ∙ ap (λ x. Some (exit_of x)) (d h refl))
 
   module _ (waits : ℕ) (b : Seen V) (outer : Option How) (leased : ℕ) (ws : List Lease) (parts : List (Part V F)) (progress : Progress V) (kt : KeepsTree p told waits b outer leased ws parts progress) where
     -- so many may wait

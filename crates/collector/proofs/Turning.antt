@@ -130,6 +130,7 @@ module _ {S V F D T : Type 0} (view : S → View V) (told : V → DeviceTold) (f
       read = i.read;
       unread = i.unread;
       ended = i.ended;
+      nobody = i.nobody;
       dealt = i.dealt;
       streams = streams_turned c.hub c.stops.board e (seen view c.tree) c.left.items r i.parts i.progress i.tale xs ys i.streams;
       telling = record {
@@ -180,6 +181,7 @@ module _ {S V F D T : Type 0} (view : S → View V) (told : V → DeviceTold) (f
         read = i.read;
         unread = i.unread;
         ended = i.ended;
+        nobody = i.nobody;
         dealt = i.dealt;
         streams = record {
           origins = i.streams.origins;
@@ -248,6 +250,7 @@ module _ {S V F D T : Type 0} (view : S → View V) (told : V → DeviceTold) (f
       read = i.read;
       unread = i.unread;
       ended = i.ended;
+      nobody = i.nobody;
       dealt = i.dealt;
       streams = i.streams;
       telling = i.telling;

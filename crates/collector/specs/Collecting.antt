@@ -1,12 +1,9 @@
 -- What holds of a collector from the first stream's lease to the end.
-use Rattle.std.specs.Prelude.{◌≡◌, ◌≢◌, ◌⊎◌, ◌↔◌, ℕ, ◌+◌, ◌-◌, ◌<◌, ◌≤◌, Bool, nat_eq, List, [], ◌∷◌, ◌++◌, map, take, drop, length, Option, Some, None, is_some, IfSome, if◌then◌else◌, option_map, vec_capacity, true}
+use Rattle.std.specs.Prelude.{◌≡◌, ◌≢◌, ◌⊎◌, ◌↔◌, ℕ, ◌+◌, ◌-◌, ◌<◌, ◌≤◌, nat_eq, List, [], ◌∷◌, ◌++◌, map, drop, length, Option, Some, None, is_some, IfSome, if◌then◌else◌, option_map, vec_capacity}
 use Rattle.std.specs.List.{sum_by, AllByRecursion, IsDistinct}
 use Rattle.std.specs.VecDeque.{deque_capacity}
 use Rattle.channel_bounded.specs.Ends.{HubSeen, ReceiverSeen}
-use Rattle.channel_bounded.specs.Streams.{of_stream}
-use Rattle.channel_bounded.specs.declared.message.Body.TheVariants as body
 use Rattle.channel_bounded.specs.declared.message.Msg.{Msg}
-use Rattle.chunk_core.specs.Elements.{elements, rendering_of}
 use Rattle.chunk_core.specs.Lists.{IsAmong}
 use Rattle.chunk_core.specs.Outcomes.{exit_of}
 use Rattle.chunk_core.specs.Tables.{Values}
@@ -14,7 +11,7 @@ use Rattle.chunk_core.specs.Texts.{IsRestOf, frames_text}
 use Rattle.chunk_core.specs.declared.code.How.{How}
 use Rattle.chunk_core.specs.declared.code.How.TheVariants as how
 use Rattle.device_port.specs.Device.{DeviceTold}
-use Rattle.device_port.specs.Depot.{DepotTold, IsUnknown}
+use Rattle.device_port.specs.Depot.{DepotTold}
 use Rattle.device_port.specs.Sink.{SinkTold, with_bytes}
 use Rattle.interrupt_ctx.specs.Ends.{BoardSeen}
 use Rattle.join_report.specs.Reports.{IsReport}
@@ -24,29 +21,19 @@ use Rattle.join_report.specs.declared.stops.Stops.{Stops}
 use Rattle.join_tale.specs.Tales as tales
 use Rattle.join_tale.specs.Tales.{Fate, HasCome, IsOpen, Message, Tale, frames_of}
 use Rattle.join_tale.specs.Keeping.{IsTale}
-use Rattle.join_tale.specs.Records.{bare}
 use Rattle.join_tree.specs.Guests.{AreOut, Guest}
 use Rattle.join_tree.specs.Mains.{IsMain}
 use Rattle.join_tree.specs.Progress.{Progress}
-use Rattle.outer_tables.specs.Devices.{MakesDevices}
-use Rattle.outer_tables.specs.Outcomes.{ComeOut, values_in}
-use Rattle.outer_tables.specs.Rows.{acquires}
 use Rattle.outer_tables.specs.declared.not_read.NotRead.{NotRead}
-use Rattle.outer_tables.specs.declared.not_read.NotRead.TheVariants as why
 use Rattle.pipeline_desc.specs.Meant.{PlanMeant}
 use Rattle.pipeline_desc.specs.Nodes.{stream_events}
 use Rattle.pipeline_desc.specs.Places.{rows_of}
-use Rattle.plan_work.specs.Plans.{opener_of, stream_of}
 use Rattle.pull_nodes.specs.declared.node.Node.{Node}
 use Rattle.pull_stepper.specs.Held.{FinishesDevice}
 use Rattle.pull_turns.specs.Piping.{StateMeaning}
-use Rattle.res_ledger.specs.declared.event.StreamNo.TheVariants.{Outer}
-use Rattle.res_ledger.specs.declared.event.What.TheVariants.{Acquire}
-use Rattle.res_ledger.specs.Ledger.{Notes}
 use Rattle.row_seat.specs.declared.view.View.{View}
 use Rattle.row_seat.specs.Views.{IsWithin}
 use Rattle.run_rules.specs.Facts.{at}
-use Rattle.run_rules.specs.Work.{Work}
 use Rattle.scope_tree.specs.Calls.{Seen}
 use Rattle.scope_tree.specs.Trees.{Fits, seen}
 use Rattle.scope_tree.specs.Trace.{owed}
@@ -54,13 +41,13 @@ use Rattle.scope_tree.specs.declared.leases.Lease.{Lease}
 use Rattle.scope_tree.specs.Visible.{lessee, rows_covered}
 use Rattle.stream_jobs.specs.declared.job.Job.{Job}
 use Rattle.stream_jobs.specs.declared.job.JobEnd.{JobEnd}
-use Rattle.stream_jobs.specs.Jobs.{EndsJob, FitsJob, IsAt, IsJob, seen_job}
+use Rattle.stream_jobs.specs.Jobs.{FitsJob, IsAt, IsJob, seen_job}
 use Rattle.stream_jobs.specs.Running.{Origin}
 use Rattle.tree_families.specs.Families.{Split}
 use Rattle.collector.specs.declared.collector.Collector.{Collector}
 use Rattle.dealt_streams.specs.declared.leftover.Leftover.{Leftover}
 use Rattle.dealt_streams.specs.Parts.{AreDealt, AreTableRows, Part, fate_of}
-use Rattle.dealt_streams.specs.Parts.Part.{Begun, Unmade}
+use Rattle.dealt_streams.specs.Parts.Part.{Begun}
 use Rattle.dealt_streams.specs.Tables.{bare_work, EndsRead, HasTables, HaveValuesOf, IsStoppedBy}
 use Rattle.dealt_streams.specs.Kept.{told_message, Gone, number_of, AreKept}
 use Rattle.dealt_streams.specs.Kept.Gone.{Came}
@@ -156,7 +143,7 @@ module _ {S V F D T : Type 0} (view : S → View V) (told : V → DeviceTold) (f
     pub left : length c.left.items + jobs + (length p.streams - length parts) ≤ vec_capacity c.left
 
   -- A collector of the plan stands so, since the depot stood as d0 and the sink as s0. Its tables were tried, and where all of them were read, which have the values t then, streams were begun and some have ended; where they
-  -- weren't, the outer stream has ended so and gives none. The leases ws wait, at most so many; the jobs js are open; and what was received is told by r. While calls are under way these may differ from what the collector has itself.
+  -- weren't, the outer stream has ended so and gives none. Where no frame is wanted none was tried, and the outer stream is halted. The leases ws wait, at most so many; the jobs js are open; and what was received is told by r. While calls are under way these may differ from what the collector has itself.
   pub record IsCollectingWith (d0 : DepotTold) (s0 : SinkTold) (t : Values) (waits : ℕ) (ws : List Lease) (js : List (Job S V F V D T)) (r : ReceiverSeen) (depot : DepotTold) (sink : SinkTold) (d : D) (c : Collector S V F V D T) : Type 0 where
     pub fits_desk : Fits view fits c.tree d
     pub parts : List (Part V F)
@@ -170,6 +157,7 @@ module _ {S V F D T : Type 0} (view : S → View V) (told : V → DeviceTold) (f
     pub read : o ≡ None → HaveValuesOf told p tables.contents t
     pub unread : o ≢ None → (ws ≡ []) × (parts ≡ []) × ((h : How) × (c.outer ≡ Some h) × IsStoppedBy told p o (length tables.devices + length tables.back) tale.memory h)
     pub ended : o ≡ None → IfSome c.outer (EndsRead p c.leased)
+    pub nobody : p.take ≡ Some 0 → (length tables.devices + length tables.back ≡ 0) × (c.outer ≡ Some how.Halted)
     pub dealt : AreDealt told p t 0 mid parts depot
     pub streams : KeepsStreams view told fits values P c.hub c.stops.board d (seen view c.tree) js c.left.items r parts progress tale
     pub telling : KeepsTale p c.outer c.report c.stops (length js) s0 sink (map fate_of parts) tale

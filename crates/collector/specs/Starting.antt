@@ -97,9 +97,9 @@ module _ {P : Type 0} (ends : P → Exit → Bool → P → Type 0) where
     pub rows : KeepsRows a.seat b.seat
     pub events : TakesEvents 0 a b
 
--- a code was found for the next stream, its own or that of the whole run, or the outer stream was stopped
+-- a code was found for the next stream, its own, which was set by then where there is room for one job alone, or that of the whole run, or the outer stream was stopped
 abbrev pub MaySkip : {S V F P D T : Type 0} → Collector S V F P D T → Type 0
-MaySkip c = ((w : Why) × IsAmong (interruption 0 w) (view_of c.stops).seen) ⊎ ((w : Why) × IsAmong (interruption (1 + c.next) w) (view_of c.stops).seen) ⊎ ((h : How) × (c.outer ≡ Some h) × (h ≢ how.Done))
+MaySkip c = ((w : Why) × IsAmong (interruption 0 w) (view_of c.stops).seen) ⊎ ((w : Why) × IsAmong (interruption (1 + c.next) w) (view_of c.stops).seen × (deque_capacity c.jobs ≡ 1 → IsAmong (interruption (1 + c.next) w) (view_of c.stops).set)) ⊎ ((h : How) × (c.outer ≡ Some h) × (h ≢ how.Done))
 
 -- a further stream waits, or the outer stream has ended
 abbrev pub IsAhead : {S V F P D T : Type 0} → Collector S V F P D T → Type 0

@@ -92,6 +92,7 @@ impl<V: Device + Drop, S: RowSeat<Pay = Held<V>>, F: PipeState> Collector<S, V, 
     fn lease_next(&mut self, alloc: Global, desk: &mut S::Desk, plan: &Plan)
         requires limits { IsSoundPlan plan.now }
         requires waits { length self.old.waiting.items ≤ 1 }
+        requires few { length self.old.jobs.items + length self.old.waiting.items ≤ plan.now.max_open }
         requires outer { self.old.outer ≡ None }
         requires collecting { (d0 : DepotTold) × (s0 : SinkTold) × (t : Values) × (depot : DepotTold) × (sink : SinkTold) × IsCollecting S.view V.told S.fits F.values (standing F.stands F.comes) plan.now d0 s0 t (length self.old.waiting.items) depot sink desk.old self.old }
         ensures collecting { (d0 : DepotTold) (s0 : SinkTold) (t : Values) (depot : DepotTold) (sink : SinkTold) → IsCollecting S.view V.told S.fits F.values (standing F.stands F.comes) plan.now d0 s0 t (length self.old.waiting.items) depot sink desk.old self.old → IsCollecting S.view V.told S.fits F.values (standing F.stands F.comes) plan.now d0 s0 t (1 + length self.old.waiting.items) depot sink desk.new self.new }
@@ -126,6 +127,7 @@ impl<V: Device + Drop, S: RowSeat<Pay = Held<V>>, F: PipeState> Collector<S, V, 
     /// too.
     pub(crate) fn pull(&mut self, alloc: Global, desk: &mut S::Desk, plan: &Plan)
         requires limits { IsSoundPlan plan.now }
+        requires few { length self.old.jobs.items < plan.now.max_open }
         requires collecting { (d0 : DepotTold) × (s0 : SinkTold) × (t : Values) × (depot : DepotTold) × (sink : SinkTold) × IsCollecting S.view V.told S.fits F.values (standing F.stands F.comes) plan.now d0 s0 t 1 depot sink desk.old self.old }
         ensures collecting { (d0 : DepotTold) (s0 : SinkTold) (t : Values) (depot : DepotTold) (sink : SinkTold) → IsCollecting S.view V.told S.fits F.values (standing F.stands F.comes) plan.now d0 s0 t 1 depot sink desk.old self.old → IsCollecting S.view V.told S.fits F.values (standing F.stands F.comes) plan.now d0 s0 t 2 depot sink desk.new self.new }
         ensures ahead { self.new.outer ≡ None → length self.new.waiting.items ≡ 2 }

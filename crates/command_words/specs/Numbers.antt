@@ -17,5 +17,5 @@ abbrev pub number_of : List ℕ → Option ℕ
 number_of text = number_of_digits (without_leading_plus text)
 
 -- the number that a text writes, where it is one from low to high
-abbrev pub number_within : ℕ → ℕ → List ℕ → Option ℕ
-number_within low high text = option_and_then (λ n. if nat_le low n && nat_le n high then Some n else None) (number_of text)
+abbrev pub number_in_word : ℕ → ℕ → List ℕ → Option ℕ
+number_in_word low high text = option_and_then (λ n. if nat_le low n && nat_le n high then Some n else None) (number_of text)

@@ -4,7 +4,7 @@ use Rattle.std.specs.Str.{bytes_eq}
 use Rattle.clap.specs.Words.{App, Row, Rule, Text, fault_of, first_of, matches_of, new_app, new_rule, with_rule}
 use Rattle.clap.specs.Simple.{on_top}
 use Rattle.clap.specs.Walk.{is_empty}
-use Rattle.command_words.specs.Numbers.{number_within}
+use Rattle.command_words.specs.Numbers.{number_in_word}
 use Rattle.command_words.specs.declared.asked.Asked.{Asked}
 use Rattle.command_words.specs.declared.asked.Asked.TheVariants.{Cat, Run, Gen}
 
@@ -43,7 +43,7 @@ is_file_path path = nat_le 1 (length path) && nat_le (length path) 1024
 -- how many bytes a frame has at most, by the text of the option
 abbrev pub chunk_of : Option Text → Option ℕ
 chunk_of None = Some 4096
-chunk_of (Some text) = number_within 1 65536 text
+chunk_of (Some text) = number_in_word 1 65536 text
 
 -- one file, by the texts of the option and of the path
 abbrev pub cat_at : Option Text → Option Text → Option Asked
@@ -53,7 +53,7 @@ cat_at chunk (Some path) = option_and_then (λ n. if is_file_path path then Some
 -- a description, by the text of the option
 abbrev pub run_at : Option Text → Option Asked
 run_at None = Some (Run None)
-run_at (Some text) = option_map (λ n. Run (Some n)) (number_within 1 64 text)
+run_at (Some text) = option_map (λ n. Run (Some n)) (number_in_word 1 64 text)
 
 -- a case, by its three numbers
 abbrev pub gen_of_numbers : Option ℕ → Option ℕ → Option ℕ → Option Asked
@@ -65,7 +65,7 @@ gen_of_numbers None streams lines = None
 -- a case, by the texts of its numbers
 abbrev pub gen_at : Option Text → Option Text → Option Text → Option Asked
 gen_at seed streams lines =
-    gen_of_numbers (option_and_then (number_within 0 4294967295) seed) (option_and_then (number_within 1 64) streams) (option_and_then (number_within 0 100000) lines)
+    gen_of_numbers (option_and_then (number_in_word 0 4294967295) seed) (option_and_then (number_in_word 1 64) streams) (option_and_then (number_in_word 0 100000) lines)
 
 -- what the words of `cat` ask for
 abbrev pub cat_of : List Text → Option Asked

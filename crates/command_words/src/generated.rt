@@ -1,7 +1,7 @@
 //! The words of `gen`.
 ghost use Rattle.std.specs.Prelude.{◌≡◌, ◌≤◌, IfOk, IfSome, option_and_then, option_map};
 ghost use Rattle.clap.specs.Words.{app_of};
-ghost use Rattle.command_words.specs.Numbers.{number_within as number_within_of};
+ghost use Rattle.command_words.specs.Numbers.{number_in_word};
 ghost use Rattle.command_words.specs.Words.{IsLimited, gen_app, gen_at, gen_of};
 
 use crate::asked::Asked;
@@ -57,7 +57,7 @@ fn gen_told(seed: Option<&str>, streams: Option<&str>, lines: Option<&str>) -> O
 
 /// The number that a text writes, where there is one and it is one of these.
 fn told_within(low: u32, high: u32, text: Option<&str>) -> Option<u32>
-    ensures value { result ≡ option_and_then (number_within_of low high) (option_map (λ text. text.now) text.entry) }
+    ensures value { result ≡ option_and_then (number_in_word low high) (option_map (λ text. text.now) text.entry) }
     ensures limits { IfSome result (λ n. (low ≤ n) × (n ≤ high)) }
 {
     number_within(low, high, text?)

@@ -1,6 +1,6 @@
 //! Numbers among the words.
 ghost use Rattle.std.specs.Prelude.{◌≡◌, ◌≤◌, IfSome};
-ghost use Rattle.command_words.specs.Numbers.{number_of, number_within as number_within_of};
+ghost use Rattle.command_words.specs.Numbers.{number_of, number_in_word};
 
 /// The number that a text writes.
 fn number(text: &str) -> Option<u64>
@@ -14,7 +14,7 @@ fn number(text: &str) -> Option<u64>
 
 /// The number that a text writes, where it is one of these.
 pub(crate) fn number_within(low: u32, high: u32, text: &str) -> Option<u32>
-    ensures value { result ≡ number_within_of low high text.now }
+    ensures value { result ≡ number_in_word low high text.now }
     ensures limits { IfSome result (λ n. (low ≤ n) × (n ≤ high)) }
 {
     let number = number(text)?;

@@ -16,6 +16,8 @@ mod device_port_page;
 #[cfg(test)]
 mod flume_cli_page;
 #[cfg(test)]
+mod ledger_audit_page;
+#[cfg(test)]
 mod ledger_text_page;
 #[cfg(test)]
 mod loads;

@@ -1,5 +1,5 @@
 -- What is kept of a stream that is open no longer.
-use Rattle.std.specs.Prelude.{◌≡◌, ℕ, ◌-◌, List, [], ◌∷◌, Some}
+use Rattle.std.specs.Prelude.{◌≡◌, ℕ, List, [], ◌∷◌, Some}
 use Rattle.channel_bounded.specs.Ends.{ReceiverSeen}
 use Rattle.channel_bounded.specs.Streams.{of_stream}
 use Rattle.channel_bounded.specs.declared.message.Body.TheVariants as body

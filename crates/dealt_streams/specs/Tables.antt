@@ -1,5 +1,5 @@
 -- How the tables of a plan came out, and how the outer stream may have ended by that.
-use Rattle.std.specs.Prelude.{◌≡◌, ◌⊎◌, ℕ, ◌+◌, ◌-◌, ◌<◌, Bool, List, map, take, length, Option, Some, true}
+use Rattle.std.specs.Prelude.{◌≡◌, ◌⊎◌, ℕ, ◌+◌, ◌<◌, Bool, List, map, take, length, Option, Some, true}
 use Rattle.std.specs.List.{AllByRecursion}
 use Rattle.chunk_core.specs.Lists.{IsAmong}
 use Rattle.chunk_core.specs.Tables.{Values}
@@ -51,9 +51,9 @@ module _ {V : Type 0} (told : V → DeviceTold) (p : PlanMeant) where
   abbrev pub HaveValuesOf : List (List ℕ) → Values → Type 0
   HaveValuesOf contents t = (k : ℕ) (key : List ℕ) → t k key ≡ values_in contents k key
 
-  -- why the outer stream ended so before it gave a stream, of whose tables so many were tried, which came out so: no frame was wanted and nothing was tried, a table failed, or memory was wanting
+  -- why the outer stream ended so before it gave a stream, of whose tables so many were tried, which came out so: no frame was wanted and nothing was tried, a table failed, or memory was wanting for them
   abbrev pub IsStoppedBy : Option NotRead → ℕ → Bool → How → Type 0
   IsStoppedBy o tried memory how.Halted = (p.take ≡ Some 0) × (tried ≡ 0)
   IsStoppedBy o tried memory (how.Fault f) = o ≡ Some (why.Fault f)
-  IsStoppedBy o tried memory how.Memory = memory ≡ true
+  IsStoppedBy o tried memory how.Memory = (memory ≡ true) × (o ≡ Some why.Memory)
   IsStoppedBy o tried memory how.Done = ⊥

@@ -18,10 +18,10 @@ use Rattle.device_port.specs.Depot.{DepotTold}
 use Rattle.device_port.specs.Device.{DeviceTold, Place, faults_of, is_read}
 use Rattle.run_rules.specs.Devices.{DevicesAccounted, came_back, made_for, named, numbered}
 use Rattle.run_rules.specs.Facts.{is_mode, is_place}
-use Rattle.run_rules.specs.Work.{all_places}
+use Rattle.run_rules.specs.Work.{row_places}
 use Rattle.joined_runs.proofs.Places.{place_itself}
 use Rattle.plan_work.specs.Plans.{run_work, stream_of}
-use Rattle.gen_case.specs.Plan.{plan_of, stream_spec}
+use Rattle.gen_case.specs.Plan.{plan_of_case, stream_spec}
 use Rattle.gen_case.specs.Runs.{depot_of}
 use Rattle.gen_case.specs.Sure.{are_unfailed, faults_but_writes, is_unwritten}
 use Rattle.gen_case.specs.declared.case.Case.{Case}
@@ -84,5 +84,5 @@ each_without [] h reads = tt
 each_without (d ∷ ds) h reads = let parts = and_parts (nat_eq (faults_but_writes d) 0 && is_unwritten d) (are_unfailed ds) h in (without_faults d reads.0 parts.0, each_without ds parts.1 reads.1)
 
 -- a run of a case over a depot of which nothing but writes fail had no fault
-pub no_faults : (case : Case) (depot : DepotTold) (L : List Event) → are_unfailed depot.retired ≡ true → DevicesAccounted (depot_of case) depot (all_places (run_work (plan_of case))) L → AllByRecursion (λ d. faults_of d ≡ 0) (came_back (depot_of case) depot)
-no_faults case depot L quiet d = each_without depot.retired quiet (came_to_read (depot_of case) depot (all_places (run_work (plan_of case))) L (refl, streams_read case.streams 0) d)
+pub no_faults : (case : Case) (depot : DepotTold) (L : List Event) → are_unfailed depot.retired ≡ true → DevicesAccounted (depot_of case) depot (row_places (run_work (plan_of_case case))) L → AllByRecursion (λ d. faults_of d ≡ 0) (came_back (depot_of case) depot)
+no_faults case depot L quiet d = each_without depot.retired quiet (came_to_read (depot_of case) depot (row_places (run_work (plan_of_case case))) L (refl, streams_read case.streams 0) d)

@@ -21,14 +21,14 @@ use Rattle.run_rules.specs.Devices.{came_back}
 use Rattle.run_rules.specs.Facts.{first_numbers, is_fault}
 use Rattle.run_rules.specs.Homes.{AreAtHome, IsBack, IsUntouched}
 use Rattle.run_rules.specs.Opening.{HasOuterEnd, IsOuterEnd, IsRefusedBy, IsTableFailed}
-use Rattle.run_rules.specs.Outputs.{AreOutputs, IsOutput, IsReported, IsRest}
+use Rattle.run_rules.specs.Outputs.{AreOutputs, IsOutput, IsReported, IsRest, elements_in_pieces}
 use Rattle.run_rules.specs.Run.{Ran}
 use Rattle.run_rules.specs.Wholeness.{AreUnfailed, IsWholeRun, NothingFailed}
 use Rattle.run_rules.specs.Work.{Opener, RunRecord, Stream, Work, inner_ends}
 use Rattle.plan_work.specs.Plans.{opener_of, run_work, stream_of}
 use Rattle.gen_case.specs.Case.{stream_path, table_path, table_text}
 use Rattle.gen_case.specs.Ideal.{AreIdeal, ideal_text}
-use Rattle.gen_case.specs.Plan.{plan_of, stream_spec}
+use Rattle.gen_case.specs.Plan.{plan_of_case, stream_spec}
 use Rattle.gen_case.specs.Runs.{FindsFiles, IsOverFiles, depot_of}
 use Rattle.gen_case.specs.Tally.{AreNumbered}
 use Rattle.gen_case.specs.declared.case.Case.{Case}
@@ -87,10 +87,10 @@ module _ (case : Case) (few : case.streams ≤ 64) (short : case.lines ≤ 10000
   run = case_run case depot ends L F cut rest memory
 
   abbrev work : Work
-  work = run_work (plan_of case)
+  work = run_work (plan_of_case case)
 
   abbrev opener : Opener
-  opener = opener_of (plan_of case)
+  opener = opener_of (plan_of_case case)
 
   found : FindsFiles case
   found = files_are_found case (omega (arith, few))
@@ -135,7 +135,7 @@ module _ (case : Case) (few : case.streams ≤ 64) (short : case.lines ≤ 10000
     inner_end : (k : ℕ) (h : How) → k < case.streams → IsOutput work ran.values home F k h → is_fault h ≡ false
     inner_end k h l o =
         let none = (stream_at k l).unfailed in
-        none_told o.end h (nodes_never_fail case k ran.values home o.run.0 o.elements o.end short o.run.1 (over k l) (omega (arith, none)) (omega (arith, none)) o.run.2) o.reported
+        none_told o.end h (nodes_never_fail case k ran.values home o.run.0 (elements_in_pieces o.pieces) o.end short o.run.1 (over k l) (omega (arith, none)) (omega (arith, none)) o.run.2) o.reported
 
     inner_ends_are : (n k : ℕ) (es : List EndOf) → k + n ≤ case.streams → AreOutputs work ran.values home F k (streams_from k n) es → any (λ e. is_fault e.how) es ≡ false
     inner_ends_are zero k es l h = ap (λ (xs : List EndOf). any (λ (e : EndOf). is_fault e.how) xs) h
@@ -156,7 +156,7 @@ module _ (case : Case) (few : case.streams ≤ 64) (short : case.lines ≤ 10000
 
     all_ends : (es : List EndOf) → HasOuterEnd work.opener (length work.streams) run home es → AreOutputs work ran.values home F 0 work.streams (inner_ends work es) → any (λ e. is_fault e.how) es ≡ false
     all_ends [] outer outputs = absurd outer
-    all_ends (e ∷ es) outer outputs = λ i. outer_end e.how outer i || inner_ends_are case.streams 0 es (omega arith) outputs i
+    all_ends (e ∷ es) outer outputs = λ i. outer_end e.how outer.end i || inner_ends_are case.streams 0 es (omega arith) outputs i
 
     pub ends_unfailed : any (λ e. is_fault e.how) ends ≡ false
     ends_unfailed = all_ends ends ran.ends.outer ran.outputs.outputs

@@ -1,5 +1,5 @@
 -- A case that was run and summed up, and how it was told.
-use Rattle.std.proofs.Common.{◌≡◌, ◌⊎◌, ℕ, ◌+◌, ◌≤◌, ◌||◌, Bool, true, false, nat_lt, List, [], ◌∷◌, ◌++◌, Option, Some, None, is_some, refl, sym, ap, ◌∙◌, subst, inl, inr, ⊎_elim, append-nil}
+use Rattle.std.proofs.Common.{◌≡◌, ◌⊎◌, ℕ, ◌≤◌, ◌||◌, Bool, true, false, nat_lt, List, [], ◌∷◌, ◌++◌, Option, Some, None, is_some, refl, sym, ap, ◌∙◌, subst, inl, inr, ⊎_elim, append-nil}
 use Rattle.std.proofs.lemmas.Bool.{both_ways}
 use Rattle.std.specs.List.{AllByRecursion, list_any as any}
 use Rattle.chunk_core.specs.Texts.{Frame, frames_text}
@@ -20,7 +20,7 @@ use Rattle.plan_work.specs.Plans.{run_work}
 use Rattle.par_join.specs.Plans.{RunsPlan}
 use Rattle.cat_run.specs.declared.outcome.Outcome.{Outcome}
 use Rattle.cat_run.proofs.Unmade.{performs_nothing}
-use Rattle.gen_case.specs.Plan.{plan_of}
+use Rattle.gen_case.specs.Plan.{plan_of_case}
 use Rattle.gen_case.specs.Runs.{depot_of}
 use Rattle.gen_case.specs.Sure.{are_unfailed}
 use Rattle.gen_case.specs.declared.case.Case.{Case}
@@ -39,7 +39,7 @@ use Rattle.flume_cli.proofs.Telling.{kept, report_is, rose}
 -- no memory to begin with
 nothing_generated : (case : Case) → Generates case [] [] None
 nothing_generated case = record {
-  runs = record { depot = depot_of case; frames = []; cut = None; rest = []; memory = true; performs = performs_nothing (run_work (plan_of case)) (depot_of case); unfailed = refl };
+  runs = record { depot = depot_of case; frames = []; cut = None; rest = []; memory = true; performs = performs_nothing (run_work (plan_of_case case)) (depot_of case); unfailed = refl };
   summed = tt;
 }
 
@@ -53,7 +53,7 @@ not_cut (Some f) h = cc
 abbrev no_bytes : SinkTold
 no_bytes = record { written = Some []; faults = 0 }
 
-module _ (case : Case) (few : case.streams ≤ 64) (short : case.lines ≤ 100000) (depot : DepotTold) (sn : SinkTold) (o : Outcome) (quiet : are_unfailed depot.retired ≡ true) (did : RunsPlan (plan_of case) (depot_of case) depot no_bytes sn o) where
+module _ (case : Case) (few : case.streams ≤ 64) (short : case.lines ≤ 100000) (depot : DepotTold) (sn : SinkTold) (o : Outcome) (quiet : are_unfailed depot.retired ≡ true) (did : RunsPlan (plan_of_case case) (depot_of case) depot no_bytes sn o) where
   sound : AllByRecursion (λ d. faults_of d ≡ 0) (came_back (depot_of case) depot)
   sound = no_faults case depot o.ledger quiet did.performs.devices
 
@@ -71,7 +71,7 @@ module _ (case : Case) (few : case.streams ≤ 64) (short : case.lines ≤ 10000
     uncut : did.cut ≡ None
     uncut = not_cut did.cut (did.broke ∙ sums.written)
 
-    ran : Ran (run_work (plan_of case)) (case_run case depot o.ends o.ledger did.frames did.cut did.rest o.memory)
+    ran : Ran (run_work (plan_of_case case)) (case_run case depot o.ends o.ledger did.frames did.cut did.rest o.memory)
     ran = ⊎_elim (λ u. absurd (both_ways o.memory sums.memory u.memory)) (λ r. r) did.performs.ran
 
     written : sn.written ≡ Some (frames_text did.frames)
@@ -90,7 +90,7 @@ module _ (case : Case) (few : case.streams ≤ 64) (short : case.lines ≤ 10000
   generated (Some text) sums = record { runs = runs; summed = summed text sums }
 
 -- a case that was run, from what its run is told
-pub case_generated : (case : Case) (plan : PlanMeant) (dold dnew : DepotTold) (so sn : SinkTold) (o : Outcome) (text : Option (List ℕ)) → case.streams ≤ 64 → case.lines ≤ 100000 → plan ≡ plan_of case → dold ≡ depot_of case → so ≡ no_bytes
+pub case_generated : (case : Case) (plan : PlanMeant) (dold dnew : DepotTold) (so sn : SinkTold) (o : Outcome) (text : Option (List ℕ)) → case.streams ≤ 64 → case.lines ≤ 100000 → plan ≡ plan_of_case case → dold ≡ depot_of case → so ≡ no_bytes
     → are_unfailed dnew.retired ≡ true → RunsPlan plan dold dnew so sn o → Sums case o sn text → Generates case o.ends o.ledger text
 case_generated case plan dold dnew so sn o text few short p d s quiet did sums =
     generated case few short dnew sn o quiet (subst (λ (x : PlanMeant). RunsPlan x (depot_of case) dnew no_bytes sn o) p (subst (λ (x : DepotTold). RunsPlan plan x dnew no_bytes sn o) d (subst (λ (x : SinkTold). RunsPlan plan dold dnew x sn o) s did))) text sums

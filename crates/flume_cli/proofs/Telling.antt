@@ -1,9 +1,12 @@
 -- A call, from the work that was done and how it was told.
 use Rattle.std.proofs.Common.{◌≡◌, ℕ, ◌+◌, ◌<◌, Bool, true, false, nat_lt, List, [], ◌++◌, length, take, drop, Option, None, is_some, refl, sym, ◌∙◌, ap, subst, ⊎_elim, arith, append-nil, append_assoc, length-drop}
-use Rattle.std.proofs.lemmas.Bool.{both_ways, cases_Bool, le-ltb, lt-ltb}
+use Rattle.std.proofs.lemmas.Bool.{both_ways, cases_Bool, false≢true, le-ltb, lt-ltb}
 use Rattle.std.proofs.lemmas.List.{take-append-drop}
 use Rattle.std.specs.List.{list_any as any}
 use Rattle.chunk_core.specs.Texts.{Frame, frames_text}
+use Rattle.chunk_core.specs.declared.code.How.{How}
+use Rattle.chunk_core.specs.declared.code.How.TheVariants as how
+use Rattle.chunk_core.proofs.Bools.{any_found}
 use Rattle.res_ledger.specs.declared.event.Event.{Event}
 use Rattle.device_port.specs.Source.{SourceTold}
 use Rattle.device_port.specs.Depot.{DepotTold}
@@ -51,6 +54,12 @@ memory_is u f n e = ap (λ b. by_flags b true f n) (sym e)
 printed_is : (u f n : Bool) → u ≡ false → by_flags false false f n ≡ by_flags u false f n
 printed_is u f n e = ap (λ b. by_flags b false f n) (sym e)
 
+memory_so : (h : How) → is_memory h ≡ true → h ≡ how.Memory
+memory_so how.Memory e = refl
+memory_so how.Done e = absurd (false≢true e)
+memory_so how.Halted e = absurd (false≢true e)
+memory_so (how.Fault c) e = absurd (false≢true e)
+
 -- a work was done, of which these frames were printed
 pub record DoesWork (work : Work) (depot_old depot_new : DepotTold) (old new : SinkTold) (o : Outcome) (frames : List Frame) (cut : Option Frame) (rest : List ℕ) : Type 0 where
   pub broke : is_some cut ≡ o.sink_failed
@@ -82,7 +91,7 @@ module _ (words : List (List ℕ)) (src src' : SourceTold) (dold dnew : DepotTol
   causes m = record { early = false; words = true; unread = false; refused = None; unwritten = nat_lt so.faults sn.faults; memory = m; faulty = any (λ (e : EndOf). is_fault e.how) o.ends; unclean = has_event is_failed o.ledger }
 
   remembered : any (λ (e : EndOf). is_memory e.how) o.ends ≡ true → o.memory ≡ true
-  remembered h = ⊎_elim (λ (x : IsUnmade (run_record_of dold dnew frames cut rest o)). x.memory) (λ (x : Ran work (run_record_of dold dnew frames cut rest o)). x.ends.memory h) runs.performs.ran
+  remembered h = ⊎_elim (λ (x : IsUnmade (run_record_of dold dnew frames cut rest o)). x.memory) (λ (x : Ran work (run_record_of dold dnew frames cut rest o)). let f = any_found (λ (e : EndOf). is_memory e.how) o.ends h in x.ends.memory f.0 f.1 (memory_so f.0.how f.2)) runs.performs.ran
 
   -- the call was told, from the parts that differ by how
   tells : (s : Status) (m : Bool) → (o.memory ≡ true → m ≡ true) → s ≡ status_of (causes m) → IsText (told s) (causes m) frames cut rest o.memory → IsToldLine eold enew (line_of s) → IsTold work (told s) frames cut

@@ -5,7 +5,7 @@ use Rattle.std.proofs.lemmas.List.Concat.{length-flat_map}
 use Rattle.std.proofs.lemmas.List.Sums.{sum_by-append, sum_by-cons}
 use Rattle.chunk_core.specs.Texts.{Frame, payloads_of}
 use Rattle.run_rules.specs.Facts.{first_numbers}
-use Rattle.gen_case.specs.Case.{line_text, number_on, records_text, row_text, stream_text}
+use Rattle.gen_case.specs.Case.{number_line, number_on, records_text, row_text, stream_text}
 use Rattle.gen_case.specs.Ideal.{AreIdeal, IdealFramesAddUp, LinesHaveTheirBytes, ideal_text}
 use Rattle.gen_case.specs.Tally.{digit_sum, digit_value}
 use Rattle.gen_case.specs.declared.case.Case.{Case}
@@ -42,7 +42,7 @@ row_bytes : (c : Case) (k : ℕ) → length (ideal_text c k) ≡ 6 * c.lines
 row_bytes c k = length-flat_map (λ i. row_text (number_on c k i)) (first_numbers c.lines) ∙ sum_const 6 c.lines
 
 pub line_bytes : (c : Case) (k : ℕ) → length (stream_text c k) ≡ 4 * c.lines
-line_bytes c k = length-flat_map (λ i. line_text (number_on c k i)) (first_numbers c.lines) ∙ sum_const 4 c.lines
+line_bytes c k = length-flat_map (λ i. number_line (number_on c k i)) (first_numbers c.lines) ∙ sum_const 4 c.lines
 
 -- a record has six bytes
 pub records_bytes : (n : ℕ) → length (records_text n) ≡ 6 * n

@@ -28,7 +28,7 @@ use Rattle.pull_nodes.specs.declared.pipe.Pipe.TheVariants as pipe
 use Rattle.pull_nodes.proofs.Meanings.{bytes_of-append, bytes_of-map}
 use Rattle.run_rules.specs.Facts.{first_numbers}
 use Rattle.gen_case.specs.Case.{stream_text, table_text}
-use Rattle.gen_case.specs.Plan.{plan_of, stream_spec, streams_of}
+use Rattle.gen_case.specs.Plan.{plan_of_case, stream_spec, streams_of}
 use Rattle.gen_case.specs.Rendering.{looked_up_rows, rows_of}
 use Rattle.gen_case.specs.Runs.{IsOverFiles, NodesNeverFail, NodesRunIdeal}
 use Rattle.gen_case.specs.declared.case.Case.{Case}
@@ -51,11 +51,11 @@ abbrev case_node : ℕ → Boxed → Boxed → Boxed → Node
 case_node p x y z = Weak' p z (lookup_node p x y)
 
 -- each node of a stream is such a one
-node_is : (c : Case) (k : ℕ) (n : Node) → IsNodeOf (plan_of c) k n → (x y z : Boxed) × (n ≡ case_node (1 + k) x y z)
+node_is : (c : Case) (k : ℕ) (n : Node) → IsNodeOf (plan_of_case c) k n → (x y z : Boxed) × (n ≡ case_node (1 + k) x y z)
 node_is c k n (s, found, node) =
     let at = stream_at c.streams k s found in
-    let row : first_row (plan_of c) k ≡ 1 + k = rows_before c k at.0 in
-    of_spec (subst (λ p. IsStreamNode p (stream_spec k) n) row (subst (λ (x : StreamSpec). IsStreamNode (first_row (plan_of c) k) x n) (sym at.1) node))
+    let row : first_row (plan_of_case c) k ≡ 1 + k = rows_before c k at.0 in
+    of_spec (subst (λ p. IsStreamNode p (stream_spec k) n) row (subst (λ (x : StreamSpec). IsStreamNode (first_row (plan_of_case c) k) x n) (sym at.1) node))
   where
     of_spec : IsStreamNode (1 + k) (stream_spec k) n → (x y z : Boxed) × (n ≡ case_node (1 + k) x y z)
     of_spec (a, m, kind, (a1, m1, z, (c1, (x, is1), (c2, (y, is2), is3)), beside, weak), kinds, text, written) =

@@ -24,7 +24,7 @@ use Rattle.pull_nodes.specs.Lookup.{looked_up}
 use Rattle.pull_nodes.specs.PipeRule.{without_fault}
 use Rattle.pull_nodes.proofs.LineLaws.{before_first-all}
 use Rattle.run_rules.specs.Facts.{first_numbers}
-use Rattle.gen_case.specs.Case.{digit, line_text, number_on, records_text, row_text, stream_text, table_text}
+use Rattle.gen_case.specs.Case.{digit, number_line, number_on, records_text, row_text, stream_text, table_text}
 use Rattle.gen_case.specs.Rendering.{StreamsRenderIdeal, TableIsRead, line_row, looked_up_rows, record_row, rows_of, three_digits}
 use Rattle.gen_case.specs.Ideal.{ideal_text}
 use Rattle.gen_case.specs.declared.case.Case.{Case}
@@ -45,7 +45,7 @@ one_plain : (n : ℕ) → list_any (needs_byte default_writer) (digit n ∷ []) 
 one_plain n = λ i. plain n i || false
 
 -- a line and a record are what a writer of comma-separated values makes of their fields
-line_written : (n : ℕ) → written_row default_writer (line_row n) ≡ line_text n
+line_written : (n : ℕ) → written_row default_writer (line_row n) ≡ number_line n
 unfolding is_blank fields_text
 line_written n = rw (three_plain n) refl
 
@@ -78,7 +78,7 @@ module _ (row : ℕ → List (List ℕ)) (back : (n : ℕ) → read_back (row n)
         ∙ (ap (λ (f : ℕ → List ℕ). records_from default_config (length (flat_map f ns) + 1) st.StartRecord (flat_map f ns)) texts_are
         ∙ rows_read ns (length (flat_map (λ n. written_row default_writer (row n)) ns) + 1) (omega arith))
 
-line_unmarked : (ns : List ℕ) → strip_bom (flat_map line_text ns) ≡ flat_map line_text ns
+line_unmarked : (ns : List ℕ) → strip_bom (flat_map number_line ns) ≡ flat_map number_line ns
 unfolding strip_bom
 line_unmarked [] = refl
 line_unmarked (n ∷ ns) = let h = digit_within (n / 100) in rw (ne_eqb (digit (n / 100)) 239 (λ e. omega (arith, h.0, h.1))) refl
@@ -88,8 +88,8 @@ unfolding strip_bom
 record_unmarked [] = refl
 record_unmarked (n ∷ ns) = let h = digit_within (n / 100) in rw (ne_eqb (digit (n / 100)) 239 (λ e. omega (arith, h.0, h.1))) refl
 
-line_records : (ns : List ℕ) → records_of (flat_map line_text ns) ≡ map line_row ns
-line_records ns = records_are line_row (λ n. refl) line_text line_written line_unmarked ns
+line_records : (ns : List ℕ) → records_of (flat_map number_line ns) ≡ map line_row ns
+line_records ns = records_are line_row (λ n. refl) number_line line_written line_unmarked ns
 
 table_records : (ns : List ℕ) → records_of (flat_map row_text ns) ≡ map record_row ns
 table_records ns = records_are record_row (λ n. refl) row_text record_written record_unmarked ns
@@ -97,13 +97,13 @@ table_records ns = records_are record_row (λ n. refl) row_text record_written r
 small_digit : (n : ℕ) → digit n < 128
 small_digit n = omega (arith, (digit_within n).1)
 
-line_ascii : (ns : List ℕ) → IsAscii (flat_map line_text ns)
+line_ascii : (ns : List ℕ) → IsAscii (flat_map number_line ns)
 line_ascii [] = IsAscii-nil
 line_ascii (n ∷ ns) =
     let one = IsAscii-cons 10 [] (omega arith) IsAscii-nil in
     let two = IsAscii-cons (digit n) (10 ∷ []) (small_digit n) one in
     let three = IsAscii-cons (digit (n / 10)) (digit n ∷ 10 ∷ []) (small_digit (n / 10)) two in
-    IsAscii-append (line_text n) (flat_map line_text ns) (IsAscii-cons (digit (n / 100)) (digit (n / 10) ∷ digit n ∷ 10 ∷ []) (small_digit (n / 100)) three) (line_ascii ns)
+    IsAscii-append (number_line n) (flat_map number_line ns) (IsAscii-cons (digit (n / 100)) (digit (n / 10) ∷ digit n ∷ 10 ∷ []) (small_digit (n / 100)) three) (line_ascii ns)
 
 record_ascii : (ns : List ℕ) → IsAscii (flat_map row_text ns)
 record_ascii [] = IsAscii-nil
@@ -132,12 +132,12 @@ line_even (n ∷ ns) =
     let all = before_first-all (has_other_length 1) (map line_row (n ∷ ns)) none in
     (λ i. record { list = map Row (all i); fault = uneven_fault (none i) }) ∙ ap without_fault (map-map Row line_row (n ∷ ns))
 
-line_text_of : (c : Case) (k : ℕ) → stream_text c k ≡ flat_map line_text (map (number_on c k) (first_numbers c.lines))
-line_text_of c k = sym (flat_map-map line_text (number_on c k) (first_numbers c.lines))
+line_text_of : (c : Case) (k : ℕ) → stream_text c k ≡ flat_map number_line (map (number_on c k) (first_numbers c.lines))
+line_text_of c k = sym (flat_map-map number_line (number_on c k) (first_numbers c.lines))
 
-lines_csv : (ns : List ℕ) → length (flat_map line_text ns) ≤ 16777216 → csv_all (flat_map line_text ns) ≡ without_fault (map (λ n. Row (line_row n)) ns)
+lines_csv : (ns : List ℕ) → length (flat_map number_line ns) ≤ 16777216 → csv_all (flat_map number_line ns) ≡ without_fault (map (λ n. Row (line_row n)) ns)
 lines_csv ns small =
-    rw (le-ltb 16777216 (length (flat_map line_text ns)) small, is_utf8-from_IsUtf8 (flat_map line_text ns) (IsUtf8-from_ascii (flat_map line_text ns) (line_ascii ns)))
+    rw (le-ltb 16777216 (length (flat_map number_line ns)) small, is_utf8-from_IsUtf8 (flat_map number_line ns) (IsUtf8-from_ascii (flat_map number_line ns) (line_ascii ns)))
     (ap rows_given (line_records ns) ∙ line_even ns)
 
 stream_csv : (c : Case) (k : ℕ) → c.lines ≤ 100000 → csv_all (stream_text c k) ≡ without_fault (rows_of c k)

@@ -13,11 +13,11 @@ use Rattle.pipeline_desc.specs.Outputs.{is_alone}
 use Rattle.pipeline_desc.specs.declared.stream.StreamSpec.{StreamSpec}
 use Rattle.run_rules.specs.Facts.{first_numbers}
 use Rattle.gen_case.specs.Case.{stream_path}
-use Rattle.gen_case.specs.Plan.{PlansAreSound, stream_spec, streams_of, tables_of}
+use Rattle.gen_case.specs.Plan.{PlansAreSound, stream_spec, streams_of, tables_of_case}
 use Rattle.gen_case.specs.declared.case.Case.{Case}
 use Rattle.gen_case.proofs.Frames.{none_is_some, some_is}
 
-tables_sound : AreSoundTables tables_of
+tables_sound : AreSoundTables tables_of_case
 tables_sound zero t e = subst (λ x. IsSoundTable [] x) (some_is _ t e) (record { name = refl; path = refl })
 tables_sound (suc i) t e = absurd (none_is_some t e)
 
@@ -32,7 +32,7 @@ path_is k h =
     let short : length (decimal k) ≤ 20 = length-decimal-le 20 k (lit< tt) (omega arith) h in
     (λ i. le-leb 1 (suc (length (decimal k))) (omega arith) i && le-leb (suc (length (decimal k))) 1024 (omega arith) i)
 
-one_stream : (count k : ℕ) → k < 2 ^ 64 → IsSoundStream (setting_of tables_of count) k (stream_spec k)
+one_stream : (count k : ℕ) → k < 2 ^ 64 → IsSoundStream (setting_of tables_of_case count) k (stream_spec k)
 one_stream count k h = record {
   path = path_is k h;
   steps = refl;
@@ -45,13 +45,13 @@ one_stream count k h = record {
   kinds = refl;
 }
 
-streams_sound : (c : Case) → c.streams ≤ most_streams → AreSoundStreams (setting_of tables_of (length (streams_of c))) (streams_of c)
+streams_sound : (c : Case) → c.streams ≤ most_streams → AreSoundStreams (setting_of tables_of_case (length (streams_of c))) (streams_of c)
 streams_sound c few k s e =
     let at = stream_at c.streams k s e in
-    subst (λ x. IsSoundStream (setting_of tables_of (length (streams_of c))) k x) at.1 (one_stream (length (streams_of c)) k (omega (arith, at.0)))
+    subst (λ x. IsSoundStream (setting_of tables_of_case (length (streams_of c))) k x) at.1 (one_stream (length (streams_of c)) k (omega (arith, at.0)))
 
-streams_alone : (c : Case) → AreAlone (all_places tables_of (streams_of c)) (streams_of c)
-streams_alone c k s e = subst (λ x. is_alone (all_places tables_of (streams_of c)) x.to ≡ true) (stream_at c.streams k s e).1 refl
+streams_alone : (c : Case) → AreAlone (all_places tables_of_case (streams_of c)) (streams_of c)
+streams_alone c k s e = subst (λ x. is_alone (all_places tables_of_case (streams_of c)) x.to ≡ true) (stream_at c.streams k s e).1 refl
 
 pub plans_are_sound : PlansAreSound
 plans_are_sound c few = record {

@@ -13,8 +13,8 @@ abbrev pub number_on : Case → ℕ → ℕ → ℕ
 number_on c k i = (c.seed + 17 * k + 379 * i) % 1000
 
 -- a number below 1,000 on a line of its own, in three digits
-abbrev pub line_text : ℕ → List ℕ
-line_text n = digit (n / 100) ∷ digit (n / 10) ∷ digit n ∷ 10 ∷ []
+abbrev pub number_line : ℕ → List ℕ
+number_line n = digit (n / 100) ∷ digit (n / 10) ∷ digit n ∷ 10 ∷ []
 
 -- the number's record: its three digits, a comma, and its last digit
 abbrev pub row_text : ℕ → List ℕ
@@ -22,7 +22,7 @@ row_text n = digit (n / 100) ∷ digit (n / 10) ∷ digit n ∷ 44 ∷ digit n �
 
 -- the file of stream k: a line for each number
 abbrev pub stream_text : Case → ℕ → List ℕ
-stream_text c k = flat_map (λ i. line_text (number_on c k i)) (first_numbers c.lines)
+stream_text c k = flat_map (λ i. number_line (number_on c k i)) (first_numbers c.lines)
 
 -- the records of the numbers below n
 unfoldable pub records_text : ℕ → List ℕ

@@ -13,8 +13,8 @@ use Rattle.gen_case.specs.Case.{stream_path, table_path}
 use Rattle.gen_case.specs.declared.case.Case.{Case}
 
 -- the table `t`
-abbrev pub tables_of : List TableSpec
-tables_of = record { name = codes "t"; path = table_path } ∷ []
+abbrev pub tables_of_case : List TableSpec
+tables_of_case = record { name = codes "t"; path = table_path } ∷ []
 
 -- the records of a file, each with the table's value for its field 0
 abbrev pub steps_of_case : List Step
@@ -28,9 +28,9 @@ abbrev pub streams_of : Case → List StreamSpec
 streams_of c = map stream_spec (first_numbers c.streams)
 
 -- the whole plan, whose other values are those of a description that doesn't give them
-abbrev pub plan_of : Case → PlanMeant
-plan_of c = record { max_open = 4; queue = 16; chunk = 4096; take = None; tables = tables_of; streams = streams_of c }
+abbrev pub plan_of_case : Case → PlanMeant
+plan_of_case c = record { max_open = 4; queue = 16; chunk = 4096; take = None; tables = tables_of_case; streams = streams_of c }
 
 -- the plan is within the limits of plans, where it may have so many streams
 abbrev pub PlansAreSound : Type 0
-PlansAreSound = (c : Case) → c.streams ≤ most_streams → IsSoundPlan (plan_of c)
+PlansAreSound = (c : Case) → c.streams ≤ most_streams → IsSoundPlan (plan_of_case c)

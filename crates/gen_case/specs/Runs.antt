@@ -12,7 +12,7 @@ use Rattle.pipeline_desc.specs.Nodes.{IsNodeOf}
 use Rattle.pull_nodes.specs.Runs.{IsFault, IsIdealRun, IsRun}
 use Rattle.pull_nodes.specs.declared.node.Node.{Node}
 use Rattle.gen_case.specs.Case.{files_of, stream_path, stream_text, table_path, table_text}
-use Rattle.gen_case.specs.Plan.{plan_of}
+use Rattle.gen_case.specs.Plan.{plan_of_case}
 use Rattle.gen_case.specs.Rendering.{looked_up_rows}
 use Rattle.gen_case.specs.declared.case.Case.{Case}
 
@@ -36,11 +36,11 @@ pub record IsOverFiles (c : Case) (k : ℕ) (v : Values) (w : ℕ → DeviceTold
 -- where nothing is left and no device fails, the node gives its rows and is done
 abbrev pub NodesRunIdeal : Type 0
 NodesRunIdeal =
-    (c : Case) (k : ℕ) (v : Values) (w : ℕ → DeviceTold) (n : Node) (ys : List Element) (e : End) → c.lines ≤ 100000 → IsNodeOf (plan_of c) k n → IsOverFiles c k v w
+    (c : Case) (k : ℕ) (v : Values) (w : ℕ → DeviceTold) (n : Node) (ys : List Element) (e : End) → c.lines ≤ 100000 → IsNodeOf (plan_of_case c) k n → IsOverFiles c k v w
     → IsIdealRun v w n ys e → (e ≡ Done) × (ys ≡ looked_up_rows c k)
 
 -- where its device didn't fail, no run of the node ends with a fault
 abbrev pub NodesNeverFail : Type 0
 NodesNeverFail =
-    (c : Case) (k : ℕ) (v : Values) (w : ℕ → DeviceTold) (n : Node) (ys : List Element) (e : End) → c.lines ≤ 100000 → IsNodeOf (plan_of c) k n → IsOverFiles c k v w
+    (c : Case) (k : ℕ) (v : Values) (w : ℕ → DeviceTold) (n : Node) (ys : List Element) (e : End) → c.lines ≤ 100000 → IsNodeOf (plan_of_case c) k n → IsOverFiles c k v w
     → (w (1 + k)).open_faults ≡ 0 → (w (1 + k)).read_faults ≡ 0 → IsRun v w n ys e → IsFault e → ⊥

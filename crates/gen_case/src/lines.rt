@@ -1,6 +1,6 @@
 //! The lines of the files.
 ghost use Rattle.std.specs.Prelude.{◌≡◌, ◌+◌, ◌%◌, IfOk};
-ghost use Rattle.gen_case.specs.Case.{digit, line_text, records_text, row_text, stream_text, table_text};
+ghost use Rattle.gen_case.specs.Case.{digit, number_line, records_text, row_text, stream_text, table_text};
 
 use crate::Case;
 use chunk_core::Line;
@@ -18,7 +18,7 @@ fn digit(number: u32) -> u8
 
 /// A number below 1,000 in three digits, and LF.
 fn line(number: u32) -> [u8; 4]
-    ensures { result ≡ line_text number }
+    ensures { result ≡ number_line number }
 {
     [
         digit(number / 100),

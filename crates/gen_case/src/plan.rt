@@ -1,7 +1,7 @@
 //! The plan that is run over the files of a case.
 ghost use Rattle.std.specs.Prelude.{◌≡◌, ◌≤◌, IfOk};
 ghost use Rattle.pipeline_desc.specs.Limits.{most_streams};
-ghost use Rattle.gen_case.specs.Plan.{plan_of, steps_of_case, stream_spec, streams_of, tables_of};
+ghost use Rattle.gen_case.specs.Plan.{plan_of_case, steps_of_case, stream_spec, streams_of, tables_of_case};
 
 use crate::Case;
 use crate::files::{stream_path, table_path};
@@ -12,7 +12,7 @@ use std::alloc::{AllocError, Global};
 
 /// The one table, `t`.
 pub fn tables_of(alloc: Global) -> Result<List<TableSpec>, AllocError>
-    ensures { IfOk result (λ tables. tables ≡ tables_of) }
+    ensures { IfOk result (λ tables. tables ≡ tables_of_case) }
 {
     let mut tables = List::new(alloc);
     tables.push(TableSpec {
@@ -61,7 +61,7 @@ pub fn streams_of(alloc: Global, case: Case) -> Result<List<StreamSpec>, AllocEr
 /// description doesn't give them.
 pub fn plan_of(alloc: Global, case: Case) -> Result<Plan, AllocError>
     requires { case.streams ≤ most_streams }
-    ensures { IfOk result (λ plan. plan ≡ plan_of case) }
+    ensures { IfOk result (λ plan. plan ≡ plan_of_case case) }
 {
     let tables = tables_of(alloc)?;
     let streams = streams_of(alloc, case)?;

@@ -17,7 +17,7 @@ cat_asks : command_of (codes "cat" ∷ a ∷ []) ≡ Some (Cat 4096 a)
 unfolding clap_on_literals
 cat_asks = refl
 
-run_asks : command_of (codes "run" ∷ []) ≡ Some (Run None)
+pub run_asks : command_of (codes "run" ∷ []) ≡ Some (Run None)
 unfolding clap_on_literals
 run_asks = refl
 

@@ -13,7 +13,7 @@ use Rattle.command_words.specs.declared.asked.Asked.TheVariants.{Gen}
 use Rattle.pipeline_desc.specs.declared.refusal.Refusal.{Refusal}
 use Rattle.plan_work.specs.Plans.{run_work}
 use Rattle.cat_run.proofs.Unmade.{performs_nothing}
-use Rattle.gen_case.specs.Plan.{plan_of}
+use Rattle.gen_case.specs.Plan.{plan_of_case}
 use Rattle.gen_case.specs.Runs.{depot_of}
 use Rattle.gen_case.specs.declared.case.Case.{Case}
 use Rattle.flume_cli.specs.declared.status.Status.TheVariants as status
@@ -61,7 +61,7 @@ case_not_made_holds = record {
   source = source_for case_not_made causes_of_none (Some (Gen 0 1 3)) refl gen_asks (record { kept = refl; refused = refl });
   does = done_for case_not_made causes_of_none (Some (Gen 0 1 3)) refl gen_asks (record {
     kept = refl;
-    runs = record { depot = depot_of case; frames = []; cut = None; rest = []; memory = true; performs = performs_nothing (run_work (plan_of case)) (depot_of case); unfailed = refl };
+    runs = record { depot = depot_of case; frames = []; cut = None; rest = []; memory = true; performs = performs_nothing (run_work (plan_of_case case)) (depot_of case); unfailed = refl };
     told = inl (record { memory = refl; out = refl });
   });
 }

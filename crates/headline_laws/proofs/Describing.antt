@@ -1,16 +1,23 @@
 -- Each call of run that went as it should meets the contract.
-use Rattle.std.proofs.Common.{◌≡◌, ℕ, true, false, List, [], ◌∷◌, ◌++◌, length, Some, None, Ok, Err, refl, sym, ◌∙◌, ap, subst, inl, inr, arith, Result}
+use Rattle.std.proofs.Common.{◌≡◌, ◌≢◌, ℕ, true, false, List, [], ◌∷◌, ◌++◌, length, Some, None, Ok, Err, refl, sym, ap, subst, inl, inr, ⊎_elim, arith, Result}
 use Rattle.std.specs.Fmt.{digits}
 use Rattle.std.specs.Str.{is_utf8, chars}
 use Rattle.std.proofs.lemmas.Bool.{false≢true}
 use Rattle.std.proofs.lemmas.List.Sorted.{IsPermutation-refl}
 use Rattle.toml.proofs.OnLiterals.{toml_on_literals}
 use Rattle.chunk_core.specs.Texts.{frames_text}
+use Rattle.chunk_core.specs.Lists.{IsAmong}
+use Rattle.chunk_core.specs.Lists.IsAmong.{here}
+use Rattle.chunk_core.specs.declared.code.Exit.TheVariants.{Succeeded}
+use Rattle.chunk_core.specs.declared.code.How.TheVariants as how
 use Rattle.chunk_core.proofs.Distinct.{distinct_nil}
+use Rattle.chunk_core.proofs.Each.{among_each}
+use Rattle.chunk_core.proofs.Filters.{among_right}
+use Rattle.chunk_core.proofs.Members.{among_cons, among_nil}
 use Rattle.res_ledger.specs.declared.event.Event.{Event}
 use Rattle.res_ledger.specs.declared.event.StreamNo.TheVariants.{Inner, Outer}
-use Rattle.res_ledger.specs.Streams.{same_stream}
-use Rattle.res_ledger.proofs.Judged.{complete_sound, each_event, legal_sound}
+use Rattle.res_ledger.specs.declared.event.What.TheVariants.{Acquire, Close, Lease}
+use Rattle.res_ledger.proofs.Judged.{complete_sound, legal_sound}
 use Rattle.res_ledger.proofs.Ordering.{ordered_sound}
 use Rattle.res_ledger.proofs.Stamps.{stamped_sound}
 use Rattle.device_port.specs.Sink.{with_bytes}
@@ -18,6 +25,7 @@ use Rattle.pipeline_desc.specs.Meant.{PlanMeant}
 use Rattle.pipeline_desc.specs.Plans.{plan_of}
 use Rattle.pipeline_desc.specs.Worked.{plan_by_default}
 use Rattle.pipeline_desc.specs.declared.refusal.Refusal.{Refusal}
+use Rattle.run_rules.specs.declared.end.EndOf.{EndOf}
 use Rattle.run_rules.specs.Rules.{KeepsRules}
 use Rattle.run_rules.specs.Run.{Performs}
 use Rattle.run_rules.specs.Texts.{tail_text}
@@ -27,6 +35,7 @@ use Rattle.flume_cli.specs.declared.status.Status.TheVariants as status
 use Rattle.flume_cli.specs.Status.{Causes, line_of}
 use Rattle.flume_cli.specs.Headline.{DoesPlan, Headline, TellsWork, run_of_call}
 use Rattle.headline_laws.specs.Described.{clash, clash_refusal, empty_description, no_memory, outer_ledger, refused_description, unread_source}
+use Rattle.headline_laws.specs.Calls.{event}
 use Rattle.headline_laws.specs.Worked.{missing_device}
 use Rattle.headline_laws.proofs.Asked.{run_holds, run_means}
 
@@ -77,9 +86,22 @@ text_of_empty_description : empty_description.out_new.written ≡ Some ([] ++ (f
 unfolding digits
 text_of_empty_description = refl
 
--- no inner stream noted anything
+-- the outer stream noted its Close alone
+record IsTheClose (e : Event) : Type 0 where
+  by : e.by ≡ Outer
+  what : e.what ≡ Close 0 Succeeded
+
+close_alone : (P Q : List Event) (e : Event) → outer_ledger ≡ P ++ e ∷ Q → IsTheClose e
+close_alone P Q e is = among_each IsTheClose e outer_ledger (record { by = refl; what = refl }, tt) (subst (λ l. IsAmong e l) (sym is) (among_right e P (e ∷ Q) (here Q)))
+
 outer_alone : (P Q : List Event) (e : Event) (k : ℕ) → outer_ledger ≡ P ++ e ∷ Q → e.by ≡ Inner k → ⊥
-outer_alone P Q e k is by = false≢true (ap (λ s. same_stream s Outer) (sym by) ∙ each_event (λ P e. same_stream e.by Outer) outer_ledger P Q e refl is)
+outer_alone P Q e k is by = let o = (close_alone P Q e is).by in cc
+
+no_lease : (P Q : List Event) (e : Event) (j s : ℕ) → outer_ledger ≡ P ++ e ∷ Q → e.what ≡ Lease j s → ⊥
+no_lease P Q e j s is what = let c = (close_alone P Q e is).what in cc
+
+no_row : (P Q : List Event) (e : Event) (r s : ℕ) → outer_ledger ≡ P ++ e ∷ Q → e.what ≡ Acquire r s → ⊥
+no_row P Q e r s is what = let c = (close_alone P Q e is).what in cc
 
 rules_of_none : KeepsRules (run_work (plan_by_default [])) outer_ledger
 rules_of_none = record {
@@ -87,11 +109,21 @@ rules_of_none = record {
   legal = legal_sound outer_ledger refl;
   complete = complete_sound outer_ledger (legal_sound outer_ledger refl) refl;
   ordered = ordered_sound outer_ledger refl;
-  ours = refl;
+  ours = (record { by = here []; leases = λ j s e. let x : ⊥ = cc in absurd x; owns = λ r s e. let x : ⊥ = cc in absurd x }, tt);
   scopes = (omega arith, tt);
   leaving = λ P Q e j x is by what. absurd (outer_alone P Q e j is by);
-  pace = (λ P Q e k is by. absurd (outer_alone P Q e k is by), λ P Q e is. omega arith);
+  tables = record { rise = λ P Q e r s q t is by what n. absurd (no_row P Q e r s is what); covers = λ j s r n l. absurd (omega (arith, l)) };
+  pace = record {
+    ahead = λ P Q e k is by. absurd (outer_alone P Q e k is by);
+    within = λ P Q e is. omega arith;
+    leases = λ P Q e i j s is what l. absurd (no_lease P Q e j s is what);
+    waits = λ P Q e is. omega arith;
+    begins = λ P Q e k is by. absurd (outer_alone P Q e k is by);
+  };
 }
+
+none_some : {A : Type 0} {x : A} → None ≢ Some x
+none_some e = cc
 
 abbrev no_values : Values
 no_values t key = None
@@ -106,16 +138,17 @@ none_performs = record {
   ran = inr (record {
     values = no_values;
     home = λ r. missing_device;
-    rows = record { at_home = tt; apart = distinct_nil; tied = (tt, tt); values = λ t key l. absurd (omega (arith, l)) };
-    outputs = record { numbers = tt; few = tt; outputs = refl; rest = refl };
+    rows = record { at_home = tt; apart = distinct_nil; tied = (tt, tt); values = λ t key l. absurd (omega (arith, l)); alone = λ k r s is idle l m. absurd (none_some is); housed = λ d b. absurd (among_nil b) };
+    outputs = record { numbers = tt; few = tt; in_turn = λ e. absurd (false≢true e); outputs = refl; rest = refl };
     ends = record {
       named = refl;
-      caused = (record { halted = λ h. absurd (false≢true h); fault = refl; root = λ h. refl }, tt);
-      outer = (tt, tt);
-      stopped = record { in_turn = λ e. absurd (false≢true e); nobody = λ e. absurd (false≢true e) };
-      memory = λ h. absurd (false≢true h);
+      caused = (record { halted = λ e. let x : ⊥ = cc in absurd x; fault = tt; root = λ b. (Succeeded, (event 0 Outer (Close 0 Succeeded), here [], refl, refl)) }, tt);
+      outer = record { end = (tt, tt); gives = λ j s n. tt; nobody = λ e. absurd (none_some e) };
+      stopped = record { failed = λ t. absurd (false≢true t); silenced = λ t. absurd (false≢true t); ended = λ t. absurd (false≢true t); halted = λ e k m who is early. ⊎_elim (λ (q : e ≡ record { who = Outer; how = how.Done }). let d = ap (λ (x : EndOf). x.who) q in let x : ⊥ = cc in absurd x) (λ m. absurd (among_nil m)) (among_cons m); nobody = λ t. absurd (none_some t) };
+      memory = λ e m is. ⊎_elim (λ (q : e ≡ record { who = Outer; how = how.Done }). let d = ap (λ (x : EndOf). x.how) q in let x : ⊥ = cc in absurd x) (λ m. absurd (among_nil m)) (among_cons m);
+      wanting = λ t. absurd (false≢true t);
     };
-    exits = (λ e. (refl, tt), tt);
+    exits = (record { how = how.Done; same = inl refl; told = (refl, tt); ran = λ k e. let x : ⊥ = cc in absurd x }, tt);
     completeness = λ m n. record { done = (refl, tt); clean = refl; output = tt };
   });
 }

@@ -6,3 +6,4 @@ pub mod Describing
 pub mod Misdescribing
 pub mod Reading
 pub mod Cases
+pub mod Unruly

@@ -1,21 +1,26 @@
 -- Each call with one thing wrong is refused.
-use Rattle.std.proofs.Common.{◌≡◌, ◌≢◌, ◌<◌, ◌≤◌, ℕ, ◌+◌, Bool, true, false, not, if◌then◌else◌, List, [], ◌∷◌, ◌++◌, map, take, length, filter, flat_map, nat_eq, cond, Option, Some, None, IfSome, is_some, refl, sym, ap, ◌∙◌, subst, inl, inr, arith, ⊎_elim, length-append}
+use Rattle.std.proofs.Common.{◌≡◌, ◌≢◌, ◌<◌, ◌≤◌, ℕ, ◌+◌, Bool, true, false, not, if◌then◌else◌, List, [], ◌∷◌, ◌++◌, map, take, length, filter, flat_map, nat_eq, cond, Option, Some, None, IfSome, is_some, refl, sym, ap, ◌∙◌, subst, inl, inr, arith, ⊎_elim, append-nil, length-append}
 use Rattle.std.specs.Prelude.{codes, decimal}
 use Rattle.std.specs.Fmt.{digits}
+use Rattle.std.specs.List.{list_any as any}
 use Rattle.std.proofs.lemmas.Bool.{false≢true}
+use Rattle.std.proofs.lemmas.Grind.{flat_map-append}
 use Rattle.std.proofs.lemmas.List.{take_all}
 use Rattle.std.proofs.lemmas.List.Sorted.{length_permutation}
 use Rattle.chunk_core.specs.Texts.{Frame, frame_text, frames_text, payloads_of}
-use Rattle.chunk_core.specs.Elements.{Element, Byte, rendering_of}
-use Rattle.chunk_core.specs.Outcomes.{End, Done, Fault, Cut}
+use Rattle.chunk_core.specs.Lists.{IsAmong}
+use Rattle.chunk_core.specs.Elements.{Element, Byte, element_text, rendering_of}
+use Rattle.chunk_core.specs.Outcomes.{End, Done, Fault, Cut, exit_of}
 use Rattle.chunk_core.specs.declared.code.Exit.TheVariants.{Succeeded, Errored, Canceled}
 use Rattle.chunk_core.specs.declared.code.How.{How}
 use Rattle.chunk_core.specs.declared.code.How.TheVariants as how
 use Rattle.device_port.specs.Device.{DeviceTold}
 use Rattle.pull_nodes.specs.Runs.{FirstBytes, OrLeft, Reads}
-use Rattle.run_rules.specs.Ends.{HasCauseToHalt, fault_stops, is_silenced, last_stream, may_stop}
+use Rattle.run_rules.specs.Ends.{HasCauseToHalt}
+use Rattle.run_rules.specs.Exits.{HasOneExit, IsExitHidden}
+use Rattle.run_rules.specs.Facts.{IsFailure, is_fault}
 use Rattle.run_rules.specs.Homes.{IsUntouched}
-use Rattle.run_rules.specs.Outputs.{IsReported, IsRest}
+use Rattle.run_rules.specs.Outputs.{IsReported, IsRest, elements_in_pieces, payloads_by}
 use Rattle.run_rules.specs.Run.{IsUnmade, Ran}
 use Rattle.run_rules.specs.Work.{RunRecord, Values}
 use Rattle.res_ledger.specs.declared.event.StreamNo.TheVariants.{Inner}
@@ -34,7 +39,7 @@ use Rattle.headline_laws.specs.Calls.{a}
 use Rattle.headline_laws.proofs.Asked.{work_of}
 use Rattle.headline_laws.specs.Refused.{end_never_met, failed_read_forgotten, invented_output, cut_output, row_of_no_plan, event_of_no_stream, lease_of_no_stream, kept_device, failure_not_told, halted_without_a_cause, call_with_row_without_a_final, call_with_final_before_close, closed_twice, left_open, fault_without_a_fault, failed_close_not_told, done_told_as_errored, fault_told_as_succeeded, halt_told_as_succeeded, final_unlike_its_close, device_told_otherwise, silent_call}
 use Rattle.chunk_core.proofs.Members.{among_cons, among_nil}
-use Rattle.chunk_core.proofs.Bools.{both, either}
+use Rattle.chunk_core.proofs.Bools.{any_at}
 
 -- the test of a choice that came out otherwise
 pub peel : (b : Bool) (x y s : Status) → (x ≡ s → ⊥) → s ≡ (if b then x else y) → (b ≡ false) × (s ≡ y)
@@ -87,12 +92,23 @@ went k g said tail true wanted h = absurd (false≢true (sym g.unwritten ∙ h.0
 went k g said tail false true h = absurd (false≢true (sym g.memory ∙ h.1))
 went k g said tail false false h = record { broke_is = refl; wanted_is = refl; said_is = h }
 
+none_some : {A : Type 0} {x : A} → None ≢ Some x
+none_some e = cc
+
+not_there : {A : Type 0} (o : Option A) → is_some o ≡ false → o ≡ None
+not_there None h = refl
+not_there (Some x) h = absurd (false≢true (sym h))
+
+-- no end is a failure, where a test says so
+none_failed : (es : List EndOf) → any (λ e. is_fault e.how) es ≡ false → (e : EndOf) → IsAmong e es → IsFailure e.how → ⊥
+none_failed es h e m f = false≢true (sym h ∙ any_at (λ (x : EndOf). is_fault x.how) e es m (ap is_fault f.1))
+
 -- a stream of cat that didn't fail has no cause to halt, where no write of a frame failed and memory wasn't wanting
-pub no_cause : (c : RunRecord) → is_some c.cut ≡ false → c.memory ≡ false → fault_stops (cat_work a) c (Inner 0) ≡ false → HasCauseToHalt (cat_work a) c (Inner 0) → ⊥
-no_cause c whole there f (inl x) = let e = both (is_silenced (cat_work a) c) (elim (last_stream c) [ Some j ↦ may_stop (cat_work a) (Inner j) (Inner 0) | None ↦ true ]) x in ⊎_elim (λ y. false≢true (sym whole ∙ y)) (λ y. false≢true y) (either (is_some c.cut) false e.0)
+pub no_cause : (c : RunRecord) → is_some c.cut ≡ false → c.memory ≡ false → any (λ e. is_fault e.how) c.ends ≡ false → HasCauseToHalt (cat_work a) c (Inner 0) → ⊥
+no_cause c whole there f (inl x) = ⊎_elim (λ n. n (not_there c.cut whole)) (λ e. none_some e) x.0
 no_cause c whole there f (inr (inl x)) = false≢true (sym there ∙ x)
-no_cause c whole there f (inr (inr (inl x))) = false≢true (sym f ∙ x)
-no_cause c whole there f (inr (inr (inr x))) = false≢true x
+no_cause c whole there f (inr (inr (inl x))) = none_failed c.ends f x.0 x.1 x.2
+no_cause c whole there f (inr (inr (inr x))) = none_some x.1
 
 abbrev number : How → ℕ
 number how.Done = 0
@@ -122,17 +138,17 @@ pub invented_output_refused : ¬ (Headline invented_output)
 invented_output_refused h =
     let g = good h.causes h.status.status in
     let r = ran_with_ends invented_output h.causes (work_of invented_output h refl (an_end _ [])) (an_end _ []) in
-    let o = opened (r.home 0) r.outputs.outputs.0.elements r.outputs.outputs.0.end (done r.outputs.outputs.0.end r.outputs.outputs.0.reported) r.outputs.outputs.0.run in
+    let o = opened (r.home 0) (elements_in_pieces r.outputs.outputs.0.pieces) r.outputs.outputs.0.end (done r.outputs.outputs.0.end r.outputs.outputs.0.reported) r.outputs.outputs.0.run in
     ⊎_elim among_nil (λ (x : IsUntouched (r.home 0)). let z = x.opens in omega (arith, o, z)) r.rows.at_home.2
 
 pub row_of_no_plan_refused : ¬ (Headline row_of_no_plan)
 row_of_no_plan_refused h = let l = (work_of row_of_no_plan h refl (an_end _ [])).performs.devices.rows.1.0 in omega (arith, l)
 
 pub event_of_no_stream_refused : ¬ (Headline event_of_no_stream)
-event_of_no_stream_refused h = false≢true (work_of event_of_no_stream h refl (an_end _ [])).performs.ledger.ours
+event_of_no_stream_refused h = let o = (work_of event_of_no_stream h refl (an_end _ [])).performs.ledger.ours.1.1.1.0 in ⊎_elim (λ (e : Inner 5 ≡ Inner 0). let x : ⊥ = cc in x) among_nil (among_cons o.by)
 
 pub lease_of_no_stream_refused : ¬ (Headline lease_of_no_stream)
-lease_of_no_stream_refused h = false≢true (work_of lease_of_no_stream h refl (an_end _ [])).performs.ledger.ours
+lease_of_no_stream_refused h = let l = ((work_of lease_of_no_stream h refl (an_end _ [])).performs.ledger.ours.0.leases 3 0 refl).1 in omega (arith, l)
 
 pub kept_device_refused : ¬ (Headline kept_device)
 kept_device_refused h = let e = length_permutation _ _ (work_of kept_device h refl (an_end _ [])).performs.devices.once in omega (arith, e)
@@ -164,6 +180,25 @@ within_by k f fs false h = omega (arith, h, length-append (frame_text f.stream f
 within : (k : ℕ) (F : List Frame) → length (payloads_of k F) ≤ length (frames_text F)
 within k [] = omega arith
 within k (f ∷ fs) = within_by k f fs (nat_eq f.stream k) (within k fs)
+
+-- What was printed of a stream, from its pieces.
+
+pieces_rendered : (pieces : List (List Element)) → flat_map (λ p. p) (map rendering_of pieces) ≡ rendering_of (elements_in_pieces pieces)
+pieces_rendered [] = refl
+pieces_rendered (p ∷ pieces) = ap (λ b. rendering_of p ++ b) (pieces_rendered pieces) ∙ sym (flat_map-append element_text p (elements_in_pieces pieces))
+
+payloads_joined : (F : List Frame) → flat_map (λ (f : Frame). f.payload) F ≡ flat_map (λ p. p) (map (λ (f : Frame). f.payload) F)
+payloads_joined [] = refl
+payloads_joined (f ∷ F) = ap (λ b. f.payload ++ b) (payloads_joined F)
+
+pub printed_as : (k : ℕ) (F : List Frame) (pieces : List (List Element)) → payloads_by k F ≡ map rendering_of pieces → payloads_of k F ≡ rendering_of (elements_in_pieces pieces)
+printed_as k F pieces e = payloads_joined (filter (λ (f : Frame). nat_eq f.stream k) F) ∙ (ap (λ ps. flat_map (λ p. p) ps) e ∙ pieces_rendered pieces)
+
+-- and with a payload that was to be printed next
+pub goes_on_as : (k : ℕ) (F : List Frame) (payload : List ℕ) (pieces : List (List Element)) → payloads_by k F ++ payload ∷ [] ≡ map rendering_of pieces → payloads_of k F ++ payload ≡ rendering_of (elements_in_pieces pieces)
+goes_on_as k F payload pieces e =
+    ap (λ b. b ++ payload) (payloads_joined (filter (λ (f : Frame). nat_eq f.stream k) F))
+    ∙ (sym (flat_map-append (λ (p : List ℕ). p) (payloads_by k F) (payload ∷ []) ∙ ap (λ b. flat_map (λ p. p) (payloads_by k F) ++ b) (append-nil payload)) ∙ (ap (λ ps. flat_map (λ p. p) ps) e ∙ pieces_rendered pieces))
 
 -- a content that was read to its end
 read_whole : (c : List ℕ) (d : DeviceTold) → d.content ≡ Some c → (ys : List Element) (e : End) → e ≡ Done → Reads d ys e → ys ≡ map Byte c
@@ -207,8 +242,8 @@ cut_output_refused h =
     let w = went h.causes g t.text.said _ (is_some t.cut) t.wanted t.text.tail in
     let r = ran_with_ends cut_output h.causes t (an_end _ []) in
     let o = r.outputs.outputs.0 in
-    let ys = given_whole (codes "hello world\n") (r.home 0) r.rows.at_home.1 o.elements o.end (done o.end o.reported) o.run in
-    let n : length (payloads_of 0 (work_of cut_output h refl (an_end _ [])).frames) ≡ 12 = ap (λ x. length x) (o.printed ∙ ap (λ x. rendering_of x) ys) in
+    let ys = given_whole (codes "hello world\n") (r.home 0) r.rows.at_home.1 (elements_in_pieces o.pieces) o.end (done o.end o.reported) o.run in
+    let n : length (payloads_of 0 (work_of cut_output h refl (an_end _ [])).frames) ≡ 12 = ap (λ x. length x) (printed_as 0 t.frames o.pieces o.printed ∙ ap (λ x. rendering_of x) ys) in
     let f : 12 ≤ length (frames_text (work_of cut_output h refl (an_end _ [])).frames) = omega (arith, n, within 0 (work_of cut_output h refl (an_end _ [])).frames) in
     too_short _ (frames_text (work_of cut_output h refl (an_end _ [])).frames) (work_of cut_output h refl (an_end _ [])).rest (work_of cut_output h refl (an_end _ [])).text.said _ (ap (λ x. bytes_of x) (work_of cut_output h refl (an_end _ [])).text.written) (rest_none r.values r.home t.frames t.rest t.cut w.broke_is r.outputs.rest) w.said_is tail_is_long f
 
@@ -226,14 +261,24 @@ not_errored e = cc
 not_canceled : Succeeded ≢ Canceled
 not_canceled e = cc
 
+-- cat reports how it ended, and its Close, the second event, has the exit of that
+exit_told : (c : RunRecord) (v : Values) (w : ℕ → DeviceTold) (e : EndOf) → (x : HasOneExit (cat_work a) c v w e) → exit_of x.how ≡ exit_of e.how
+exit_told c v w e x = ap exit_of (⊎_elim (λ s. s) (λ (h : IsExitHidden (cat_work a) c e). absurd (h.beside refl)) x.same)
+
 pub done_told_as_errored_refused : ¬ (Headline done_told_as_errored)
-done_told_as_errored_refused h = let r = ran_with_ends done_told_as_errored h.causes (work_of done_told_as_errored h refl (an_end _ [])) (an_end _ []) in not_errored (sym ((r.exits.0 refl).1.0))
+done_told_as_errored_refused h =
+    let r = ran_with_ends done_told_as_errored h.causes (work_of done_told_as_errored h refl (an_end _ [])) (an_end _ []) in
+    not_errored (sym (r.exits.0.told.1.0 ∙ exit_told _ _ _ _ r.exits.0))
 
 pub fault_told_as_succeeded_refused : ¬ (Headline fault_told_as_succeeded)
-fault_told_as_succeeded_refused h = let r = ran_with_ends fault_told_as_succeeded h.causes (work_of fault_told_as_succeeded h refl (an_end _ [])) (an_end _ []) in not_errored ((r.exits.0 refl).1.0)
+fault_told_as_succeeded_refused h =
+    let r = ran_with_ends fault_told_as_succeeded h.causes (work_of fault_told_as_succeeded h refl (an_end _ [])) (an_end _ []) in
+    not_errored (r.exits.0.told.1.0 ∙ exit_told _ _ _ _ r.exits.0)
 
 pub halt_told_as_succeeded_refused : ¬ (Headline halt_told_as_succeeded)
-halt_told_as_succeeded_refused h = let r = ran_with_ends halt_told_as_succeeded h.causes (work_of halt_told_as_succeeded h refl (an_end _ [])) (an_end _ []) in not_canceled ((r.exits.0 refl).1.0)
+halt_told_as_succeeded_refused h =
+    let r = ran_with_ends halt_told_as_succeeded h.causes (work_of halt_told_as_succeeded h refl (an_end _ [])) (an_end _ []) in
+    not_canceled (r.exits.0.told.1.0 ∙ exit_told _ _ _ _ r.exits.0)
 
 pub final_unlike_its_close_refused : ¬ (Headline final_unlike_its_close)
 final_unlike_its_close_refused h = false≢true (ordered_complete final_unlike_its_close.events (work_of final_unlike_its_close h refl (an_end _ [])).performs.ledger.ordered)
@@ -242,10 +287,10 @@ pub device_told_otherwise_refused : ¬ (Headline device_told_otherwise)
 device_told_otherwise_refused h = let e = ((work_of device_told_otherwise h refl (an_end _ [])).performs.devices.exits Errored).0 in omega (arith, e)
 
 pub closed_twice_refused : ¬ (Headline closed_twice)
-closed_twice_refused h = let e = (work_of closed_twice h refl (an_end _ [])).performs.devices.shut.0.1 in omega (arith, e)
+closed_twice_refused h = let e = (work_of closed_twice h refl (an_end _ [])).performs.devices.shut.0.closes in omega (arith, e)
 
 pub left_open_refused : ¬ (Headline left_open)
-left_open_refused h = let e = (work_of left_open h refl (an_end _ [])).performs.devices.shut.0.1 in omega (arith, e)
+left_open_refused h = let e = (work_of left_open h refl (an_end _ [])).performs.devices.shut.0.closes in omega (arith, e)
 
 -- a run that is done met the end, and no read failed
 read_met : (d : DeviceTold) (ys : List Element) (e : End) → e ≡ Done → OrLeft (Unit {0}) (Reads d) ys e → (d.ended ≡ true) × (d.read_faults ≡ 0)
@@ -262,8 +307,8 @@ failed_read_forgotten_refused h =
     let g = good h.causes h.status.status in
     let r = ran_with_ends failed_read_forgotten h.causes (work_of failed_read_forgotten h refl (an_end _ [])) (an_end _ []) in
     let o = r.outputs.outputs.0 in
-    let m = met (r.home 0) o.elements o.end (done o.end o.reported) o.run in
-    let n = opened (r.home 0) o.elements o.end (done o.end o.reported) o.run in
+    let m = met (r.home 0) (elements_in_pieces o.pieces) o.end (done o.end o.reported) o.run in
+    let n = opened (r.home 0) (elements_in_pieces o.pieces) o.end (done o.end o.reported) o.run in
     ⊎_elim
     (λ b. ⊎_elim (λ e. let f = ap (λ (d : DeviceTold). d.read_faults) e in let z = m.1 in omega (arith, f, z)) among_nil (among_cons b))
     (λ (x : IsUntouched (r.home 0)). let z = x.opens in omega (arith, n, z))
@@ -274,8 +319,8 @@ end_never_met_refused h =
     let g = good h.causes h.status.status in
     let r = ran_with_ends end_never_met h.causes (work_of end_never_met h refl (an_end _ [])) (an_end _ []) in
     let o = r.outputs.outputs.0 in
-    let m = met (r.home 0) o.elements o.end (done o.end o.reported) o.run in
-    let n = opened (r.home 0) o.elements o.end (done o.end o.reported) o.run in
+    let m = met (r.home 0) (elements_in_pieces o.pieces) o.end (done o.end o.reported) o.run in
+    let n = opened (r.home 0) (elements_in_pieces o.pieces) o.end (done o.end o.reported) o.run in
     ⊎_elim
     (λ b. ⊎_elim (λ e. false≢true (ap (λ (d : DeviceTold). d.ended) (sym e) ∙ m.0)) among_nil (among_cons b))
     (λ (x : IsUntouched (r.home 0)). let z = x.opens in omega (arith, n, z))
@@ -284,7 +329,8 @@ end_never_met_refused h =
 pub fault_without_a_fault_refused : ¬ (Headline fault_without_a_fault)
 fault_without_a_fault_refused h =
     let r = ran_with_ends fault_without_a_fault h.causes (work_of fault_without_a_fault h refl (an_end _ [])) (an_end _ []) in
-    false≢true r.ends.caused.0.fault
+    let f = r.ends.caused.0.fault in
+    ⊎_elim (λ e. let q = ap (λ (d : DeviceTold). d.read_faults) e in let l = f.3 in omega (arith, q, l)) among_nil (among_cons f.1)
 
 pub failed_close_not_told_refused : ¬ (Headline failed_close_not_told)
 failed_close_not_told_refused h = let e = (work_of failed_close_not_told h refl (an_end _ [])).performs.devices.failed.0 in omega (arith, e)

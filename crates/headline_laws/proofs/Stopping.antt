@@ -15,7 +15,7 @@ use Rattle.res_ledger.specs.declared.event.StreamNo.TheVariants.{Inner}
 use Rattle.device_port.specs.Depot.{DepotTold, content_at}
 use Rattle.device_port.specs.Device.{DeviceTold}
 use Rattle.pull_nodes.specs.Runs.{FirstBytes, OpensThen, OrLeft, Reads}
-use Rattle.run_rules.specs.Outputs.{AreOutputs, IsCutFrame, IsRest}
+use Rattle.run_rules.specs.Outputs.{AreOutputs, IsCutFrame, IsRest, elements_in_pieces}
 use Rattle.run_rules.specs.Run.{Ran}
 use Rattle.run_rules.specs.Texts.{tail_text}
 use Rattle.cat_run.specs.Cat.{FileRuns, cat_work}
@@ -27,7 +27,7 @@ use Rattle.cat_run.proofs.Pieces.{bytes_length}
 use Rattle.headline_laws.specs.Calls.{a}
 use Rattle.headline_laws.specs.Surplus.{halted_by_the_tail, halted_for_memory, idle_devices, invented_scopes, larger_frame, made_without_words, memory_at_the_end, opened_again, writes_on}
 use Rattle.headline_laws.proofs.Asked.{frames_of, idle_of, work_of}
-use Rattle.headline_laws.proofs.Refusing.{an_end, bytes_of, good, no_cause, ran_with_ends, rest_none, went}
+use Rattle.headline_laws.proofs.Refusing.{an_end, bytes_of, goes_on_as, good, no_cause, printed_as, ran_with_ends, rest_none, went}
 
 -- two devices more than there are rows
 pub idle_devices_refused : ¬ (Headline idle_devices)
@@ -119,8 +119,8 @@ rendered c d is ys e r =
     let n = bytes_length ys (file_bytes d ys e r) in
     omega (arith, l, n)
 
-payloads_by : (k : ℕ) (p : List ℕ) (fs : List Frame) → 0 ≡ k → payloads_of 0 (record { stream = k; payload = p } ∷ fs) ≡ p ++ payloads_of 0 fs
-payloads_by k p fs e = subst (λ j. payloads_of 0 (record { stream = j; payload = p } ∷ fs) ≡ p ++ payloads_of 0 fs) e refl
+payloads_behind : (k : ℕ) (p : List ℕ) (fs : List Frame) → 0 ≡ k → payloads_of 0 (record { stream = k; payload = p } ∷ fs) ≡ p ++ payloads_of 0 fs
+payloads_behind k p fs e = subst (λ j. payloads_of 0 (record { stream = j; payload = p } ∷ fs) ≡ p ++ payloads_of 0 fs) e refl
 
 frame_length : (k : ℕ) (p : List ℕ) → 0 ≡ k → length p < 10 → length (frame_text k p) ≡ length p + 5
 frame_length k p e l = subst (λ j. length (frame_text j p) ≡ length p + 5) e (
@@ -136,7 +136,7 @@ frames_length : (F : List Frame) → AllByRecursion (λ (f : Frame). (f.stream <
 frames_length [] n short = omega arith
 frames_length (f ∷ fs) n short =
     let z : 0 ≡ f.stream = let l = n.0.0 in omega (arith, l) in
-    let p = ap (λ (xs : List ℕ). length xs) (payloads_by f.stream f.payload fs z) in
+    let p = ap (λ (xs : List ℕ). length xs) (payloads_behind f.stream f.payload fs z) in
     let q = length-append f.payload (payloads_of 0 fs) in
     let s = n.0.1 in
     let l = frame_length f.stream f.payload z (omega (arith, p, q, short)) in
@@ -152,8 +152,8 @@ module _ (c : Call) (k : Causes) (t : TellsWork (cat_work a) c k) (some : c.ends
   printed_few : length (payloads_of 0 t.frames) ≤ 6
   printed_few =
       let o = (subst (λ es. AreOutputs (cat_work a) run.values run.home t.frames 0 (cat_work a).streams es) one run.outputs.outputs).0 in
-      let l = rendered (codes "hello\n") (run.home 0) (run.rows.at_home.1 ∙ content) o.elements o.end o.run in
-      let p = ap (λ (xs : List ℕ). length xs) o.printed in
+      let l = rendered (codes "hello\n") (run.home 0) (run.rows.at_home.1 ∙ content) (elements_in_pieces o.pieces) o.end o.run in
+      let p = ap (λ (xs : List ℕ). length xs) (printed_as 0 t.frames o.pieces o.printed) in
       omega (arith, l, p)
 
 -- at status 5 nothing stands behind the frames, so there are no more bytes than these few frames have
@@ -217,7 +217,7 @@ six_bytes [] f rest more n z some front text few is =
     omega (arith, l, m, a, b, front, few)
 six_bytes (g ∷ gs) f rest more n z some front text few is =
     let y : 0 ≡ g.stream = let l = n.0.0 in omega (arith, l) in
-    let p = ap (λ (xs : List ℕ). length xs) (payloads_by g.stream g.payload gs y) in
+    let p = ap (λ (xs : List ℕ). length xs) (payloads_behind g.stream g.payload gs y) in
     let q = length-append g.payload (payloads_of 0 gs) in
     let short : length g.payload < 6 = omega (arith, p, q, few, some) in
     let third = ap third_of (is ∙ append_assoc (frame_text g.stream g.payload) (frames_text gs) (rest ++ [])) ∙ third_by g.stream g.payload (frames_text gs ++ (rest ++ [])) y (omega (arith, short)) in
@@ -239,7 +239,7 @@ module _ (h : Headline halted_by_the_tail) where
       let rest : IsCutFrame (cat_work a) ran_here.values ran_here.home tells.frames f tells.rest = subst (λ o. IsRest (cat_work a) ran_here.values ran_here.home tells.frames o tells.rest) e ran_here.outputs.rest in
       let z : 0 ≡ f.stream = let l = rest.stream in omega (arith, l) in
       let text : codes "0 6\nhello\n\n" ≡ frames_text tells.frames ++ (tells.rest ++ []) = ap bytes_of tells.text.written ∙ ap (λ x. frames_text tells.frames ++ (tells.rest ++ x)) said.1 in
-      let few : length (payloads_of f.stream tells.frames ++ f.payload) ≤ 6 = (let l = rendered (codes "hello\n") (ran_here.home 0) ran_here.rows.at_home.1 rest.elements Cut rest.run in let p = ap (λ (xs : List ℕ). length xs) rest.goes_on in omega (arith, l, p)) in
+      let few : length (payloads_of f.stream tells.frames ++ f.payload) ≤ 6 = (let l = rendered (codes "hello\n") (ran_here.home 0) ran_here.rows.at_home.1 (elements_in_pieces rest.pieces) Cut rest.run in let p = ap (λ (xs : List ℕ). length xs) (goes_on_as f.stream tells.frames f.payload rest.pieces rest.goes_on) in omega (arith, l, p)) in
       let few_0 : length (payloads_of 0 tells.frames ++ f.payload) ≤ 6 = subst (λ j. length (payloads_of j tells.frames ++ f.payload) ≤ 6) (sym z) few in
       let s = length-append (payloads_of 0 tells.frames) f.payload in
       six_bytes tells.frames f tells.rest rest.more ran_here.outputs.numbers z rest.some rest.front rest.text (omega (arith, few_0, s)) text

@@ -5,3 +5,4 @@ pub mod Surplus
 pub mod Worked
 pub mod Whole
 pub mod Cases
+pub mod Unruly

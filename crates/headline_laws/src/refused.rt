@@ -5,6 +5,7 @@ ghost use Rattle.std.specs.Prelude.{ℕ, ◌<◌, List, length};
 ghost use Rattle.headline_laws.specs.Cases.{case_of_the_depot, case_of_the_source, failed_case, halted_case, nothing_summed, summary_of_another_seed, summary_without_memory};
 ghost use Rattle.headline_laws.specs.Described.{drained, end_not_read, made_though_refused, never_read, next_stream_refused, read_by_cat, read_on, refusal_printed, refused_though_good, stream_left_out, unread_but_refused, unread_without_a_fault};
 ghost use Rattle.headline_laws.specs.Surplus.{halted_by_the_tail, halted_for_memory, idle_devices, invented_scopes, larger_frame, made_without_words, memory_at_the_end, opened_again, writes_on};
+ghost use Rattle.headline_laws.specs.Unruly.{emptied_unopened, opened_though_missing, opened_twice, out_of_turn};
 
 /// Outputs that no device gave.
 pub fn invented_outputs()
@@ -49,6 +50,15 @@ pub fn surplus()
     ensures is_halted_for_memory { ¬ (Headline halted_for_memory) }
     ensures is_larger_frame { ¬ (Headline larger_frame) }
     ensures is_made_without_words { ¬ (Headline made_without_words) }
+{}
+
+/// Devices that were opened as none is, a file that changed though nobody opened it, and streams
+/// that came out of turn.
+pub fn unruly()
+    ensures is_opened_twice { ¬ (Headline opened_twice) }
+    ensures is_opened_though_missing { ¬ (Headline opened_though_missing) }
+    ensures is_emptied_unopened { ¬ (Headline emptied_unopened) }
+    ensures is_out_of_turn { ¬ (Headline out_of_turn) }
 {}
 
 /// Ends and statuses without their causes, and causes that nobody was told.

@@ -1,20 +1,18 @@
 -- All devices of a run were made and came back.
 use Rattle.std.proofs.Common.{◌≡◌, ℕ, zero, suc, ◌+◌, false, nat_eq, List, [], ◌∷◌, ◌++◌, map, length, Option, Some, None, unwrap_or, refl, sym, ◌∙◌, ap, subst, ⊎_elim, arith}
 use Rattle.std.proofs.lemmas.Bool.{false_from_ne_true}
-use Rattle.std.proofs.lemmas.List.Sorted.{IsPermutation-sym}
 use Rattle.std.specs.List.{AllByRecursion, IsDistinct}
 use Rattle.std.specs.List.Sorted.{IsPermutation}
 use Rattle.chunk_core.specs.Lists.{IsAmong}
 use Rattle.chunk_core.specs.Lists.IsAmong.{here, there}
 use Rattle.chunk_core.proofs.Distinct.{distinct_head, distinct_tail}
-use Rattle.chunk_core.proofs.Each.{among_permuted, each_among}
-use Rattle.device_port.specs.declared.device.Mode.TheVariants as mode
-use Rattle.device_port.specs.Device.{Place, DeviceTold, to_write}
+use Rattle.chunk_core.proofs.Each.{each_among}
+use Rattle.device_port.specs.Device.{Place, DeviceTold}
 use Rattle.device_port.specs.Depot.{DepotTold, Files, KeepsFilesBut, KeepsWritten, content_at}
-use Rattle.run_rules.specs.Devices.{IsWritten}
+use Rattle.run_rules.specs.Devices.{IsWrittenBy, OpensWhatIsThere}
 use Rattle.run_rules.specs.Facts.{at}
-use Rattle.stream_parts.specs.Retire.{AreWrittenAlone, Exchanges, HaveOwnOutputs, IsWrittenBy, write_alike}
-use Rattle.stream_parts.proofs.Exchanged.{alike_so, keeps_more, outputs_permuted}
+use Rattle.stream_parts.specs.Retire.{AreWrittenAlone, Exchanges, HaveOwnOutputs, write_alike}
+use Rattle.stream_parts.proofs.Exchanged.{alike_so, outputs_permuted}
 use Rattle.res_ledger.proofs.Mapped.{among_map}
 use Rattle.joined_runs.specs.Devices.{AreMade, IsUnmadeAt, MadeComeBack}
 
@@ -72,23 +70,14 @@ module _ (places : List Place) (w : ℕ → DeviceTold) where
       own_outputs rows (distinct_tail r rows d) (λ q m. placed q (there r m)),
     )
 
-    place_to : (p : Place) (path : List ℕ) → p.mode ≡ mode.Write → path ≡ p.path → p ≡ to_write path
-    place_to p path m e = ap (λ x. let q : Place = record { path = p.path; mode = x } in q) m ∙ ap (λ x. let q : Place = record { path = x; mode = mode.Write } in q) (sym e)
-
     module _ (old new : DepotTold) (ps : List Place) (rows : List ℕ) (back : List DeviceTold) (e : Exchanges old new ps back) (each : IsPermutation (map w rows) back) (placed : (r : ℕ) → IsAmong r rows → at places r ≡ Some (w r).place) where
-      pub files_so : KeepsFilesBut (IsWritten places) old.files new.files
-      files_so = keeps_more (IsWrittenBy back) (IsWritten places) (λ path by.
-          let r = among_map w by.0 rows (among_permuted back (map w rows) (IsPermutation-sym (map w rows) back each) by.0 by.1) in
-          let is : (w r.0).place ≡ to_write path = ap (λ (d : DeviceTold). d.place) r.2 ∙ place_to by.0.place path by.2 by.4 in
-          subst (λ p. IsAmong p places) is (at_among places r.0 (w r.0).place (placed r.0 r.1))) old.files new.files e.files
-
       pub stored_so : IsDistinct nat_eq rows → AllByRecursion (KeepsWritten new.files) back
       stored_so apart = e.stored (outputs_permuted (map w rows) back each (own_outputs rows apart placed))
 
     -- the devices that were made for some rows came back, in any order
     pub come_back : (old new : DepotTold) (rows : List ℕ) (back : List DeviceTold) → Exchanges old new (map (λ r. (w r).place) rows) back → IsDistinct nat_eq rows → IsPermutation (map w rows) back → AreMade old.files places (length old.made) w rows
-        → ((r : ℕ) (p : Place) → at places r ≡ Some p → ¬ (IsAmong r rows) → IsUnmadeAt old.files p (w r)) → MadeComeBack old new places w
-    come_back old new rows back e apart each devices others =
+        → ((r : ℕ) (p : Place) → at places r ≡ Some p → ¬ (IsAmong r rows) → IsUnmadeAt old.files p (w r)) → AllByRecursion OpensWhatIsThere back → MadeComeBack old new places w
+    come_back old new rows back e apart each devices others opened =
         let placed : (r : ℕ) → IsAmong r rows → at places r ≡ Some (w r).place = λ r m. let p = made_place old.files r (length old.made) rows devices m in p.1 ∙ ap Some (sym p.2) in
         record {
           rows = rows;
@@ -99,6 +88,7 @@ module _ (places : List Place) (w : ℕ → DeviceTold) where
           each = each;
           devices = devices;
           others = others;
-          files = files_so old new (map (λ r. (w r).place) rows) rows back e each placed;
+          files = e.files;
           stored = stored_so old new (map (λ r. (w r).place) rows) rows back e each placed apart;
+          there = opened;
         }

@@ -1,12 +1,10 @@
 -- Why a stream is halted, in the words of a record.
-use Rattle.std.proofs.Common.{◌≡◌, ◌≢◌, ℕ, zero, suc, ◌+◌, ◌<◌, ◌≤◌, Bool, true, false, ◌&&◌, ◌||◌, not, nat_eq, nat_le, List, [], ◌∷◌, ◌++◌, map, length, Option, Some, None, is_some, inl, inr, refl, sym, ap, ◌∙◌, subst, ⊎_elim, arith}
+use Rattle.std.proofs.Common.{◌≡◌, ◌≢◌, ◌⊎◌, ℕ, zero, suc, ◌+◌, ◌<◌, ◌≤◌, true, false, List, [], ◌∷◌, ◌++◌, map, length, Option, Some, None, IfSome, is_some, inl, inr, refl, sym, ap, ◌∙◌, subst, ⊎_elim, arith}
 use Rattle.std.specs.Prelude.{option_map}
 use Rattle.std.specs.List.{last_or}
-use Rattle.std.proofs.lemmas.Bool.{le-leb}
 use Rattle.chunk_core.specs.Lists.{IsAmong}
 use Rattle.chunk_core.specs.Lists.IsAmong.{here, there}
 use Rattle.chunk_core.specs.Texts.{Frame}
-use Rattle.chunk_core.proofs.Bools.{and_true, any_at, itself, or_left, or_right}
 use Rattle.chunk_core.proofs.Filters.{among_append}
 use Rattle.chunk_core.proofs.Members.{among_cons, among_nil}
 use Rattle.chunk_core.specs.declared.code.Code.{Code}
@@ -17,17 +15,18 @@ use Rattle.interrupt_ctx.specs.declared.why.Why.TheVariants as why
 use Rattle.res_ledger.specs.declared.event.StreamNo.{StreamNo}
 use Rattle.res_ledger.specs.declared.event.StreamNo.TheVariants.{Outer, Inner}
 use Rattle.run_rules.specs.declared.end.EndOf.{EndOf}
-use Rattle.run_rules.specs.Ends.{HasCauseToHalt, is_silenced, last_stream, may_stop}
-use Rattle.run_rules.specs.Facts.{has_left, is_fault, is_halted, is_number}
-use Rattle.run_rules.specs.Work.{Work, Opener, RunRecord, Stream, begun_frames, most_of, names_from, runs_in_turn, until_by}
+use Rattle.run_rules.specs.Ends.{EndStops, HasCauseToHalt, IsSilenced, MayStop}
+use Rattle.run_rules.specs.Work.{Work, Opener, RunRecord, Stream, begun_frames, names_from, until_by}
 use Rattle.join_tale.specs.Ended.{Ended}
 use Rattle.join_tale.specs.Ended.Ended.{told, wanting, whole, halted, unmade, skipped}
-use Rattle.join_tale.specs.Keeping.{HasCeased, IsLast, IsTale, IsToldToHalt}
+use Rattle.join_tale.specs.Keeping.{HasCeased, IsEndedInTurn, IsHighest, IsLast, IsOuterStopped, IsTale, IsToldToHalt}
 use Rattle.join_tale.specs.Records.{EndedSo, IsRecordOf, IsSettled}
-use Rattle.join_tale.specs.Tales.{Came, HasFailed, HasMet, IsBegun, IsCaused, IsFoundSet, Tale, end_of, frames_begun, frames_of, load_of}
+use Rattle.join_tale.specs.Tales.{Came, HasCome, HasFailed, HasMet, IsBegun, IsCaused, IsFoundSet, Tale, end_of, frames_begun, frames_of, load_of}
 use Rattle.join_tale.proofs.Endings.{come_begun, ended_once}
+use Rattle.join_tale.proofs.Growing.{until_came}
+use Rattle.join_tale.proofs.Leaving.{left_fact}
 use Rattle.join_tale.proofs.Parts.{frame_came}
-use Rattle.join_tale.proofs.Places.{at_below, last_among, none_some, not_both, some_is}
+use Rattle.join_tale.proofs.Places.{at_below, last_among, none_is_some, none_some, not_both, some_is}
 use Rattle.join_tale.proofs.Steps.{late_ceased}
 
 -- The ends by their names.
@@ -51,26 +50,23 @@ end_named (e ∷ es) k m = ⊎_elim (λ q. (e, here es, sym q)) (λ n. let f = e
 
 -- Who may stop whom.
 
-turns_stop : (b : Bool) (j k : ℕ) → (b ≡ true → j ≤ k) → (not b || nat_le j k) ≡ true
-turns_stop true j k h = le-leb j k (h refl)
-turns_stop false j k h = refl
-
-outer_stops : (work : Work) (k : StreamNo) → may_stop work Outer k ≡ true
-outer_stops work Outer = refl
-outer_stops work (Inner k) = refl
+outer_stops : (work : Work) (k : StreamNo) → MayStop work Outer k
+outer_stops work Outer = tt
+outer_stops work (Inner k) = tt
 
 -- all that were begun may stop k
 abbrev pub MayAllStop : Work → Tale → StreamNo → Type 0
-MayAllStop work t k = (j : ℕ) → IsBegun t j → may_stop work (Inner j) k ≡ true
+MayAllStop work t k = (j : ℕ) → IsBegun t j → MayStop work (Inner j) k
 
 pub last_stops : (work : Work) (t : Tale) (k : ℕ) → IsLast work t k → MayAllStop work t (Inner k)
-last_stops work t k l j b = turns_stop (runs_in_turn work) j k (λ w. l w j b)
+last_stops work t k l j b w = l w j b
 
 module _ (work : Work) (t : Tale) (c : RunRecord) (i : IsTale work t) (r : IsRecordOf work t c) where
-  pub end_of_inner : (k : ℕ) → IsBegun t k → (e : EndOf) × IsAmong e c.ends × (e.who ≡ Inner k)
-  end_of_inner k b = end_named c.ends (Inner k) (subst (λ l. IsAmong (Inner k) l) (sym r.named) (inner_in work.opener work.streams k (let l = at_below t.fates k _ b in omega (arith, l, r.count))))
+  -- each stream that has a fate has an end
+  pub end_of_inner : (k : ℕ) → k < length t.fates → (e : EndOf) × IsAmong e c.ends × (e.who ≡ Inner k)
+  end_of_inner k l = end_named c.ends (Inner k) (subst (λ x. IsAmong (Inner k) x) (sym r.named) (inner_in work.opener work.streams k (omega (arith, l, r.count))))
 
-  end_of_outer : (e : EndOf) × IsAmong e c.ends × (e.who ≡ Outer)
+  pub end_of_outer : (e : EndOf) × IsAmong e c.ends × (e.who ≡ Outer)
   end_of_outer = end_named c.ends Outer (subst (λ l. IsAmong Outer l) (sym r.named) (outer_in work.opener work.streams r.opener))
 
   pub same_begun : begun_frames c ≡ frames_begun t
@@ -93,46 +89,44 @@ module _ (work : Work) (t : Tale) (c : RunRecord) (i : IsTale work t) (r : IsRec
       (λ n. absurd (none_some n))
       (last_among None (begun_frames c) f e)
 
-  met_silences : HasMet work t → is_silenced work c ≡ true
-  met_silences m = or_right (is_some c.cut) (is_number (most_of work) (length c.frames))
-      (ap (λ o. is_number o (length c.frames)) m ∙ ap (λ (F : List Frame). nat_eq (length (frames_of t.front)) (length F)) r.frames ∙ itself (length (frames_of t.front)))
+  met_silences : HasMet work t → IsSilenced work c
+  met_silences m = inr (m ∙ ap (λ (F : List Frame). Some (length F)) (sym r.frames))
 
-  cut_silences : is_some t.cut ≡ true → is_silenced work c ≡ true
-  cut_silences s = or_left (is_some c.cut) (is_number (most_of work) (length c.frames)) (ap (λ (o : Option Frame). is_some o) r.cut ∙ s)
+  cut_silences : is_some t.cut ≡ true → IsSilenced work c
+  cut_silences s = inl (λ e. none_is_some t.cut (sym r.cut ∙ e) s)
 
-  last_may : (k : StreamNo) → MayAllStop work t k → (l : Option Frame) → ((f : Frame) → l ≡ Some f → IsBegun t f.stream) → elim (option_map (λ (f : Frame). f.stream) l) [ Some j ↦ may_stop work (Inner j) k | None ↦ true ] ≡ true
+  last_may : (k : StreamNo) → MayAllStop work t k → (l : Option Frame) → ((f : Frame) → l ≡ Some f → IsBegun t f.stream) → IfSome (option_map (λ (f : Frame). f.stream) l) (λ j. MayStop work (Inner j) k)
   last_may k all (Some f) b = all f.stream (b f refl)
-  last_may k all None b = refl
+  last_may k all None b = tt
 
-  silence_cause : (k : StreamNo) → MayAllStop work t k → is_silenced work c ≡ true → HasCauseToHalt work c k
-  silence_cause k all s = inl (and_true (is_silenced work c) (elim (last_stream c) [ Some j ↦ may_stop work (Inner j) k | None ↦ true ]) s (last_may k all (last_or None (begun_frames c)) last_begun))
+  silence_cause : (k : StreamNo) → MayAllStop work t k → IsSilenced work c → HasCauseToHalt work c k
+  silence_cause k all s = inl (s, last_may k all (last_or None (begun_frames c)) last_begun)
+
+  memory_cause : (k : StreamNo) → t.memory ≡ true → HasCauseToHalt work c k
+  memory_cause k m = inr (inl (r.memory ∙ m))
 
   ceased_cause : (k : StreamNo) → MayAllStop work t k → HasCeased work t → HasCauseToHalt work c k
-  ceased_cause k all s = ⊎_elim (λ m. silence_cause k all (met_silences m)) (λ z. ⊎_elim (λ q. silence_cause k all (cut_silences q)) (λ m. inr (inl (r.memory m))) z) s
+  ceased_cause k all s = ⊎_elim (λ m. silence_cause k all (met_silences m)) (λ z. ⊎_elim (λ q. silence_cause k all (cut_silences q)) (λ m. memory_cause k m) z) s
 
-  -- an end that is a fault may stop k
-  fault_ends : (k : StreamNo) (e : EndOf) → IsAmong e c.ends → is_fault e.how ≡ true → may_stop work e.who k ≡ true → HasCauseToHalt work c k
-  fault_ends k e m f s = inr (inr (inl (any_at (λ (x : EndOf). is_fault x.how && may_stop work x.who k) e c.ends m (and_true (is_fault e.how) (may_stop work e.who k) f s))))
-
-  inner_is : (e : EndOf) (k : ℕ) → IsAmong e c.ends → e.who ≡ Inner k → Ended t k e.how
+  pub inner_is : (e : EndOf) (k : ℕ) → IsAmong e c.ends → e.who ≡ Inner k → Ended t k e.how
   inner_is e k m w = subst (λ (q : StreamNo). EndedSo t q e.how) w (r.told e m)
 
-  outer_is : (e : EndOf) → IsAmong e c.ends → e.who ≡ Outer → t.outer ≡ Some e.how
+  pub outer_is : (e : EndOf) → IsAmong e c.ends → e.who ≡ Outer → t.outer ≡ Some e.how
   outer_is e m w = subst (λ (q : StreamNo). EndedSo t q e.how) w (r.told e m)
 
   inner_failed : (k : StreamNo) → MayAllStop work t k → (j : ℕ) (f : Code) → Came t j (how.Fault f) → HasCauseToHalt work c k
   inner_failed k all j f (inl m) =
       let b : IsBegun t j = come_begun work t j i (how.Fault f) (inl m) in
-      let e = end_of_inner j b in
+      let e = end_of_inner j (at_below t.fates j _ b) in
       let same : e.0.how ≡ how.Fault f = ended_once work t j i e.0.how (how.Fault f) (inner_is e.0 j e.1 e.2) (told m) in
-      fault_ends k e.0 e.1 (ap is_fault same) (ap (λ (q : StreamNo). may_stop work q k) e.2 ∙ all j b)
+      inr (inr (inl (e.0, e.1, (f, same), subst (λ (q : StreamNo). MayStop work q k) (sym e.2) (all j b))))
   inner_failed k all j f (inr m) = ceased_cause k all (i.frames.ceased (late_ceased work t i (end_of j (how.Fault f)) m))
 
   outer_failed : (k : StreamNo) (f : Code) → t.outer ≡ Some (how.Fault f) → HasCauseToHalt work c k
   outer_failed k f o =
       let e = end_of_outer in
       let same : e.0.how ≡ how.Fault f = some_is e.0.how (how.Fault f) (sym (outer_is e.0 e.1 e.2) ∙ o) in
-      fault_ends k e.0 e.1 (ap is_fault same) (ap (λ (q : StreamNo). may_stop work q k) e.2 ∙ outer_stops work k)
+      inr (inr (inl (e.0, e.1, (f, same), subst (λ (q : StreamNo). MayStop work q k) (sym e.2) (outer_stops work k))))
 
   failed_cause : (k : StreamNo) → MayAllStop work t k → HasFailed t → HasCauseToHalt work c k
   failed_cause k all f = ⊎_elim (λ x. inner_failed k all x.0 x.1 x.2) (λ x. outer_failed k x.0 x.1) f
@@ -142,46 +136,49 @@ module _ (work : Work) (t : Tale) (c : RunRecord) (i : IsTale work t) (r : IsRec
   run_cause k all why.Take h = silence_cause k all (met_silences h.1)
   run_cause k all why.Until h = absurd (let q : 0 ≡ suc h.0 = h.2 in omega (q, arith))
   run_cause k all why.Sink h = silence_cause k all (cut_silences h.1)
-  run_cause k all why.Memory h = inr (inl (r.memory h.1))
+  run_cause k all why.Memory h = memory_cause k h.1
   run_cause k all why.Fault h = failed_cause k all h.1
 
-  -- the code for k is set
-  own_cause : (k : ℕ) (w : Why) → IsCaused work t (suc k) w → HasCauseToHalt work c (Inner k)
-  own_cause k why.Take h = absurd (let q : suc k ≡ 0 = h.0 in omega (q, arith))
-  own_cause k why.Until h =
-      let same : h.0 ≡ k = (let q : suc k ≡ suc h.0 = h.2 in omega (q, arith)) in
-      inr (inr (inr (ap (λ (o : Option ℕ). elim o [ Some j ↦ has_left j c.events | None ↦ false ]) (subst (λ n. until_by work (Inner n) ≡ Some h.1) same h.3) ∙ r.leaves h.1 h.4)))
-  own_cause k why.Sink h = absurd (let q : suc k ≡ 0 = h.0 in omega (q, arith))
-  own_cause k why.Memory h = absurd (let q : suc k ≡ 0 = h.0 in omega (q, arith))
-  own_cause k why.Fault h = absurd (let q : suc k ≡ 0 = h.0 in omega (q, arith))
+  -- the one has ended whose end stops k
+  end_stops : (k j : ℕ) → until_by work (Inner k) ≡ Some j → HasCome t j → IsEndedInTurn work t k → EndStops work c (Inner k)
+  end_stops k j is come turn = (j, is, left_fact j c.events (r.leaves j come), λ w. let e = turn w in subst (λ z. z ≤ k) (some_is e.0 j (sym e.1 ∙ is)) e.3)
 
   module _ (settled : IsSettled t) where
     found_run : (k : StreamNo) → MayAllStop work t k → IsFoundSet t 0 → HasCauseToHalt work c k
     found_run k all f = let s = settled 0 f.0 f.1 in run_cause k all s.0 (i.caused 0 s.0 s.1)
 
+    -- its own code was found
+    pub own_stops : (k : ℕ) → IsFoundSet t (suc k) × IsEndedInTurn work t k → EndStops work c (Inner k)
+    own_stops k f = let s = settled (suc k) f.0.0 f.0.1 in let u = until_came work t k s.0 (i.caused (suc k) s.0 s.1) in end_stops k u.0 u.1 u.2 f.1
+
+    own_cause : (k : ℕ) → IsFoundSet t (suc k) × IsEndedInTurn work t k → HasCauseToHalt work c (Inner k)
+    own_cause k f = inr (inr (inr (own_stops k f)))
+
     told_cause : (k : ℕ) → IsToldToHalt work t k → HasCauseToHalt work c (Inner k)
-    told_cause k h = ⊎_elim (λ f. let s = settled (suc k) f.0 f.1 in own_cause k s.0 (i.caused (suc k) s.0 s.1)) (λ f. found_run (Inner k) (last_stops work t k f.1) f.0) h
+    told_cause k h = ⊎_elim (λ f. own_cause k f) (λ f. found_run (Inner k) (last_stops work t k f.1) f.0) h
 
     outer_stopped : (k : StreamNo) → MayAllStop work t k → (h : How) → t.outer ≡ Some h → h ≢ how.Done → HasCauseToHalt work c k
     outer_stopped k all how.Halted e n = found_run k all (i.fates.outer_halted e)
     outer_stopped k all (how.Fault f) e n = outer_failed k f e
-    outer_stopped k all how.Memory e n = inr (inl (r.memory (i.fates.outer_memory e)))
+    outer_stopped k all how.Memory e n = memory_cause k (i.fates.outer_memory e)
     outer_stopped k all how.Done e n = absurd (n refl)
 
-    inner_halted : (k : ℕ) (h : How) → Ended t k h → is_halted h ≡ true → HasCauseToHalt work c (Inner k)
-    inner_halted k how.Halted (told m) is = told_cause k (i.ends.halted k (inl m))
-    inner_halted k (how.Fault f) (told m) is = absurd (not_both false refl is)
-    inner_halted k how.Done (told m) is = absurd (not_both false refl is)
-    inner_halted k how.Memory (told m) is = absurd (not_both false refl is)
-    inner_halted k h (wanting m e) is = absurd (not_both false refl (sym (ap is_halted e) ∙ is))
-    inner_halted k h (whole m n e) is = absurd (not_both false refl (sym (ap is_halted e) ∙ is))
-    inner_halted k h (halted e m n l q) is = ceased_cause (Inner k) (last_stops work t k (i.ends.late k e m)) (i.frames.ceased (late_ceased work t i (end_of k e) m))
-    inner_halted k h (unmade e q) is = absurd (not_both false refl (sym (ap is_halted q) ∙ is))
-    inner_halted k h (skipped e q) is = ⊎_elim (λ f. told_cause k f) (λ s. outer_stopped (Inner k) (last_stops work t k s.1) s.0.0 s.0.1 s.0.2) (i.fates.skipped k e)
+    run_stopped : (k : ℕ) → IsFoundSet t 0 ⊎ IsOuterStopped t → IsHighest t k → HasCauseToHalt work c (Inner k)
+    run_stopped k s l =
+        let all : MayAllStop work t (Inner k) = last_stops work t k (λ w. l) in
+        ⊎_elim (λ f. found_run (Inner k) all f) (λ o. outer_stopped (Inner k) all o.0 o.1 o.2) s
 
-    halted_by : (k : StreamNo) (h : How) → EndedSo t k h → is_halted h ≡ true → HasCauseToHalt work c k
-    halted_by Outer h e is = outer_stopped Outer (λ j b. refl) h e (λ d. not_both false refl (sym (ap is_halted d) ∙ is))
+    inner_halted : (k : ℕ) (h : How) → Ended t k h → h ≡ how.Halted → HasCauseToHalt work c (Inner k)
+    inner_halted k h (told m) is = told_cause k (i.ends.halted k (inl (subst (λ z. IsAmong (end_of k z) t.front) is m)))
+    inner_halted k h (wanting m e) is = absurd (let q : how.Memory ≡ how.Halted = sym e ∙ is in cc)
+    inner_halted k h (whole m n e) is = absurd (let q : how.Done ≡ how.Halted = sym e ∙ is in cc)
+    inner_halted k h (halted e m n l q) is = ceased_cause (Inner k) (last_stops work t k (i.ends.late k e m)) (i.frames.ceased (late_ceased work t i (end_of k e) m))
+    inner_halted k h (unmade e q) is = absurd (let z : how.Memory ≡ how.Halted = sym q ∙ is in cc)
+    inner_halted k h (skipped e q) is = ⊎_elim (λ f. own_cause k f) (λ s. run_stopped k s.0 s.1) (i.fates.skipped k e)
+
+    halted_by : (k : StreamNo) (h : How) → EndedSo t k h → h ≡ how.Halted → HasCauseToHalt work c k
+    halted_by Outer h e is = outer_stopped Outer (λ j b. tt) h e (λ d. let q : how.Halted ≡ how.Done = sym is ∙ d in cc)
     halted_by (Inner k) h e is = inner_halted k h e is
 
-    pub halted_has_cause : (e : EndOf) → IsAmong e c.ends → is_halted e.how ≡ true → HasCauseToHalt work c e.who
+    pub halted_has_cause : (e : EndOf) → IsAmong e c.ends → e.how ≡ how.Halted → HasCauseToHalt work c e.who
     halted_has_cause e m is = halted_by e.who e.how (r.told e m) is

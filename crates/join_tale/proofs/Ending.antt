@@ -1,19 +1,19 @@
 -- What keeps a tale where an end is received.
-use Rattle.std.proofs.Common.{◌≡◌, ℕ, true, false, ◌||◌, List, [], ◌∷◌, ◌++◌, Some, inl, inr, refl, sym, ap, ◌∙◌, subst, ⊎_elim}
+use Rattle.std.proofs.Common.{◌≡◌, ◌⊎◌, ℕ, true, false, ◌||◌, List, [], ◌∷◌, ◌++◌, Some, inl, inr, refl, sym, ap, ◌∙◌, subst, ⊎_elim}
 use Rattle.chunk_core.specs.Lists.{IsAmong}
-use Rattle.chunk_core.proofs.Bools.{or_left, or_right}
-use Rattle.chunk_core.proofs.Members.{among_left, among_nil}
+use Rattle.chunk_core.proofs.Bools.{either, or_left, or_right}
+use Rattle.chunk_core.proofs.Members.{among_last, among_left, among_nil}
 use Rattle.chunk_core.specs.declared.code.How.{How}
 use Rattle.chunk_core.specs.declared.code.How.TheVariants as how
 use Rattle.interrupt_ctx.specs.declared.view.Interruption.{Interruption}
 use Rattle.res_ledger.specs.declared.event.StreamNo.TheVariants.{Inner}
 use Rattle.run_rules.specs.Facts.{is_memory}
 use Rattle.run_rules.specs.Work.{Work, until_by}
-use Rattle.join_tale.specs.Keeping.{IsLast, IsTale, IsToldToHalt}
+use Rattle.join_tale.specs.Keeping.{IsLast, IsOwnCode, IsTale, IsToldToHalt, KeepsFrames}
 use Rattle.join_tale.specs.Steps.{TellsEnd, ended, ended_late, learned}
-use Rattle.join_tale.specs.Tales.{HasCome, IsOpen, Tale, end_of}
+use Rattle.join_tale.specs.Tales.{AreCaused, HasCome, IsBegun, IsOpen, Message, Tale, end_of}
 use Rattle.join_tale.proofs.Framing.{frames_end_front, frames_end_late, not_met, open_last}
-use Rattle.join_tale.proofs.Growing.{AreFresh, Grows, caused_more, ends_kept, fates_stay, found_more, known_more}
+use Rattle.join_tale.proofs.Growing.{AreFresh, Grows, caused_more, ends_kept, fates_stay, found_more, known_more, lacked_grows, own_told}
 use Rattle.join_tale.proofs.Parts.{end_before_end}
 use Rattle.join_tale.proofs.Places.{not_both}
 use Rattle.join_tale.proofs.Steps.{memory_is}
@@ -26,9 +26,9 @@ module _ (work : Work) (t : Tale) (k : ℕ) (h : How) (vs cs : List Interruption
   abbrev New : ℕ → How → Type 0
   New j g = (j ≡ k) × (g ≡ h)
 
-  new_fresh : (u : Tale) → TellsEnd work u k h vs → IsLast work u k → (h ≡ how.Memory → u.memory ≡ true) → AreFresh work t u New
-  new_fresh u tells above memory = record {
-    halted = λ j n. subst (λ z. IsToldToHalt work u z) (sym n.0) (⊎_elim (λ f. inr (f, above)) (λ f. inl f) (tells.halted (sym n.1)));
+  new_fresh : (u : Tale) → TellsEnd work u k h vs → (IsOwnCode work u k → IsToldToHalt work u k) → IsLast work u k → (h ≡ how.Memory → u.memory ≡ true) → AreFresh work t u New
+  new_fresh u tells own above memory = record {
+    halted = λ j n. subst (λ z. IsToldToHalt work u z) (sym n.0) (⊎_elim (λ f. inr (f, above)) (λ f. own f) (tells.halted (sym n.1)));
     fault = λ j c n. tells.fault c (sym n.1);
     memory = λ j n. memory (sym n.1);
     until = λ j m g n is. tells.until m (subst (λ z. until_by work (Inner m) ≡ Some z) n.0 is);
@@ -36,6 +36,10 @@ module _ (work : Work) (t : Tale) (k : ℕ) (h : How) (vs cs : List Interruption
     alone = λ j g n c. o.1 (subst (λ z. HasCome t z) n.0 c);
     one = λ j g q n m. n.1 ∙ sym m.1;
   }
+
+  -- all that have come were begun, and so aren't above k
+  own_so : (u : Tale) → AreCaused work u u.set → ((m : Message) → IsAmong m u.front ⊎ IsAmong m u.late → IsBegun t m.stream) → IsOwnCode work u k → IsToldToHalt work u k
+  own_so u caused ours own = inl (own_told work u k caused (λ w j c. last w j (ours (end_of j c.0) c.1)) own)
 
   pub ends : t.ceased ≡ false → TellsEnd work (learned (ended t k h) vs cs) k h vs → IsTale work (learned (ended t k h) vs cs)
   ends c tells =
@@ -48,11 +52,14 @@ module _ (work : Work) (t : Tale) (k : ℕ) (h : How) (vs cs : List Interruption
         known = known_more t vs cs;
         memory = λ e. absurd (not_both t.memory (i.frames.quiet c).2 e);
       } in
+      let frames : KeepsFrames work u = frames_end_front work t i.frames k h o (t.set ++ vs) (t.seen ++ cs) (is_memory h) c in
+      let caused : AreCaused work u u.set = caused_more work t u g vs (λ m. absurd (not_met work t i.frames c m)) (λ z. z) (λ a e. e) i.caused tells.caused in
       record {
-        frames = frames_end_front work t i.frames k h o (t.set ++ vs) (t.seen ++ cs) (is_memory h) c;
-        ends = ends_kept work t u g New (new_fresh u tells last (λ e. ap is_memory e)) i.ends (λ j q m. end_before_end j k q h t.front m) (λ j q m. inl m) (λ j q r m n. among_nil (subst (λ l. IsAmong (end_of j r) l) empty n));
+        frames = frames;
+        ends = ends_kept work t u g New (new_fresh u tells (own_so u caused (λ m n. (frames.ours m n).0)) last (λ e. ap is_memory e)) i.ends (λ j q m. end_before_end j k q h t.front m) (λ j q m. inl m) (λ j q r m n. among_nil (subst (λ l. IsAmong (end_of j r) l) empty n));
         fates = fates_stay work t u g i.fates refl refl;
-        caused = caused_more work t u g vs (λ m. absurd (not_met work t i.frames c m)) (λ z. z) (λ a e. e) i.caused tells.caused;
+        caused = caused;
+        lacked = λ e. inl (k, inl (subst (λ z. IsAmong (end_of k z) u.front) (memory_is h e) (among_last t.front (end_of k h))));
         stop = λ e. tells.memory (memory_is h e);
       }
 
@@ -66,11 +73,17 @@ module _ (work : Work) (t : Tale) (k : ℕ) (h : How) (vs cs : List Interruption
         known = known_more t vs cs;
         memory = or_left t.memory (is_memory h);
       } in
+      let frames : KeepsFrames work u = frames_end_late work t i.frames k h o (t.set ++ vs) (t.seen ++ cs) (t.memory || is_memory h) c (or_left t.memory (is_memory h)) in
+      let caused : AreCaused work u u.set = caused_more work t u g vs (λ z. z) (λ z. z) (λ a e. e) i.caused tells.caused in
       record {
-        frames = frames_end_late work t i.frames k h o (t.set ++ vs) (t.seen ++ cs) (t.memory || is_memory h) c (or_left t.memory (is_memory h));
-        ends = ends_kept work t u g New (new_fresh u tells last (λ e. or_right t.memory (is_memory h) (ap is_memory e))) i.ends (λ j q m. inl m) (λ j q m. end_before_end j k q h t.late m)
+        frames = frames;
+        ends = ends_kept work t u g New (new_fresh u tells (own_so u caused (λ m n. (frames.ours m n).0)) last (λ e. or_right t.memory (is_memory h) (ap is_memory e))) i.ends (λ j q m. inl m) (λ j q m. end_before_end j k q h t.late m)
             (λ j q r m n. ⊎_elim (λ a. i.ends.apart j q r m a) (λ e. o.1 (subst (λ z. HasCome t z) e.0 (q, inl m))) (end_before_end j k r h t.late n));
         fates = fates_stay work t u g i.fates refl refl;
-        caused = caused_more work t u g vs (λ z. z) (λ z. z) (λ a e. e) i.caused tells.caused;
+        caused = caused;
+        lacked = λ e. ⊎_elim
+            (λ m. lacked_grows work t u g (λ z. z) (λ j z. z) (λ l. (l.0, l.1, l.2 ++ end_of k h ∷ [], ap (λ ms. ms ++ end_of k h ∷ []) l.3)) (i.lacked m))
+            (λ m. inl (k, inr (subst (λ z. IsAmong (end_of k z) u.late) (memory_is h m) (among_last t.late (end_of k h)))))
+            (either t.memory (is_memory h) e);
         stop = λ e. known_more t vs cs 0 (i.stop c);
       }

@@ -6,11 +6,12 @@ use Rattle.chunk_core.proofs.Members.{among_cons, among_nil, among_snoc}
 use Rattle.chunk_core.specs.declared.code.How.{How}
 use Rattle.interrupt_ctx.specs.declared.view.Interruption.{Interruption}
 use Rattle.run_rules.specs.Facts.{at}
-use Rattle.run_rules.specs.Work.{Work, most_of}
+use Rattle.run_rules.specs.Outputs.{NeverFall}
+use Rattle.run_rules.specs.Work.{Work, most_of, runs_in_turn}
 use Rattle.join_tale.specs.Keeping.{IsFull, IsLast, KeepsEnds, KeepsFrames}
 use Rattle.join_tale.specs.Tales.{Fate, HasCome, HasMet, IsBegun, IsOpen, Message, Tale, end_of, frames_begun, frames_of, load_of, loads_of}
 use Rattle.join_tale.specs.Tales.Fate.{Begun}
-use Rattle.join_tale.proofs.Parts.{frame_of, frames_end, last_written, length_one, more_frames, loads_end, loads_other}
+use Rattle.join_tale.proofs.Parts.{falls_never, frame_came, frame_of, frames_end, frames_load, last_written, length_one, more_frames, loads_end, loads_other}
 use Rattle.join_tale.proofs.Places.{last_snoc, none_is_some, none_some, not_both, some_is, within_more}
 
 -- a stream that is open is the last one that was begun, where one is open at a time
@@ -30,6 +31,7 @@ module _ (work : Work) (t : Tale) (i : KeepsFrames work t) where
     met = λ h. stays (i.met h);
     few = i.few;
     cut = i.cut;
+    in_turn = i.in_turn;
     last = λ h f e w j d. i.last h f e w j (back h j d);
     whole = i.whole;
     ours = λ n h. let q = i.ours n h in (on n.stream q.0, q.1);
@@ -42,6 +44,13 @@ module _ (work : Work) (t : Tale) (i : KeepsFrames work t) where
   module _ (k : ℕ) (x : List ℕ) (o : IsOpen t k) (last : IsLast work t k) (full : 0 < length x) where
     new_ours : (m : Message) → m ≡ load_of k x → IsBegun t m.stream × IsFull m.body
     new_ours m e = subst (λ (q : Message). IsBegun t q.stream × IsFull q.body) (sym e) (o.0, full)
+
+    written_below : runs_in_turn work ≡ true → (f : Frame) → IsAmong f (frames_of t.front) → f.stream ≤ k
+    written_below w f m = last w f.stream (i.ours (load_of f.stream f.payload) (inl (frame_came f t.front m))).0
+
+    -- the frame of the load is of no earlier stream than those before it
+    one_more : runs_in_turn work ≡ true → NeverFall (frames_of t.front) → NeverFall (frames_of t.front ++ frame_of k x ∷ [])
+    one_more w n = falls_never (frames_of t.front) (frame_of k x) n (written_below w)
 
     -- a load is written; b says whether enough are then
     pub frames_write : (xs ys : List Interruption) (b : Bool) → t.ceased ≡ false → (b ≡ true → most_of work ≡ Some (suc (length (frames_of t.front)))) → (most_of work ≡ Some (suc (length (frames_of t.front))) → b ≡ true)
@@ -56,6 +65,7 @@ module _ (work : Work) (t : Tale) (i : KeepsFrames work t) where
           met = λ h. met (h ∙ ap Some more);
           few = within_more (most_of work) (length (frames_of t.front)) (length (frames_of (t.front ++ load_of k x ∷ []) ++ elim t.cut [ Some f ↦ f ∷ [] | None ↦ [] ])) (subst (λ (l : List Frame). IfSome (most_of work) (λ n. length l ≤ n)) (shut (frames_of t.front)) i.few) (λ h. not_met c h) (ap length (shut (frames_of (t.front ++ load_of k x ∷ []))) ∙ more);
           cut = i.cut;
+          in_turn = λ w. subst (λ l. NeverFall l) (sym (shut (frames_of (t.front ++ load_of k x ∷ [])) ∙ frames_load t.front k x)) (one_more w (subst (λ l. NeverFall l) (shut (frames_of t.front)) (i.in_turn w)));
           last = λ h f e. subst (λ j. IsLast work t j) (last_written t.front k x t.cut f q.1 e) last;
           whole = λ j h m. ap (λ l. loads_of j l) q.0;
           ours = λ m h. ⊎_elim (λ a. ⊎_elim (λ z. i.ours m (inl z)) (λ z. new_ours m z) (among_snoc t.front m (load_of k x) a)) (λ a. i.ours m (inr a)) h;
@@ -72,6 +82,7 @@ module _ (work : Work) (t : Tale) (i : KeepsFrames work t) where
           met = λ h. refl;
           few = within_more (most_of work) (length (frames_of t.front)) (length (frames_of t.front ++ frame_of k x ∷ [])) (subst (λ (l : List Frame). IfSome (most_of work) (λ n. length l ≤ n)) shut i.few) (λ h. not_met c h) (length_one (frames_of t.front) (frame_of k x));
           cut = λ f e. ([], subst (λ (g : Frame). load_of k x ∷ [] ≡ load_of g.stream g.payload ∷ []) (some_is (frame_of k x) f e) refl);
+          in_turn = λ w. one_more w (subst (λ l. NeverFall l) shut (i.in_turn w));
           last = λ h f e. subst (λ (g : Frame). IsLast work t g.stream) (some_is (frame_of k x) f (sym (last_snoc None (frames_of t.front) (frame_of k x)) ∙ e)) last;
           whole = λ j h m. loads_other j k x [] (λ e. open_apart k j h o m e);
           ours = λ m h. ⊎_elim (λ a. i.ours m (inl a)) (λ a. ⊎_elim (λ z. new_ours m z) (λ z. absurd (among_nil z)) (among_cons a)) h;
@@ -87,6 +98,7 @@ module _ (work : Work) (t : Tale) (i : KeepsFrames work t) where
           met = λ h. refl;
           few = i.few;
           cut = λ f e. absurd (none_some (sym q.1 ∙ e));
+          in_turn = i.in_turn;
           last = λ h f e. absurd (⊎_elim (λ z. not_met c z) (λ z. none_is_some t.cut q.1 z) h);
           whole = λ j h m. loads_other j k x [] (λ e. open_apart k j h o m e);
           ours = λ m h. ⊎_elim (λ a. i.ours m (inl a)) (λ a. ⊎_elim (λ z. new_ours m z) (λ z. absurd (among_nil z)) (among_cons a)) h;
@@ -100,6 +112,7 @@ module _ (work : Work) (t : Tale) (i : KeepsFrames work t) where
       met = i.met;
       few = i.few;
       cut = λ f e. let q = i.cut f e in (q.0 ++ load_of k x ∷ [], ap (λ l. l ++ load_of k x ∷ []) q.1);
+      in_turn = i.in_turn;
       last = i.last;
       whole = λ j h m. loads_other j k x t.late (λ e. open_apart k j h o m e) ∙ i.whole j h m;
       ours = λ m h. ⊎_elim (λ a. i.ours m (inl a)) (λ a. ⊎_elim (λ z. i.ours m (inr z)) (λ z. new_ours m z) (among_snoc t.late m (load_of k x) a)) h;
@@ -121,6 +134,7 @@ module _ (work : Work) (t : Tale) (i : KeepsFrames work t) where
           met = λ m. absurd (unmet m);
           few = subst (λ (l : List Frame). IfSome (most_of work) (λ n. length (l ++ elim t.cut [ Some f ↦ f ∷ [] | None ↦ [] ]) ≤ n)) (sym same) i.few;
           cut = i.cut;
+          in_turn = λ w. subst (λ (l : List Frame). NeverFall (l ++ elim t.cut [ Some f ↦ f ∷ [] | None ↦ [] ])) (sym same) (i.in_turn w);
           last = λ m f e. absurd (⊎_elim (λ z. unmet z) (λ z. none_is_some t.cut q.1 z) m);
           whole = λ j g m. ap (λ l. loads_of j l) q.0;
           ours = λ m a. ⊎_elim (λ n. ⊎_elim (λ z. i.ours m (inl z)) (λ z. end_ours m z) (among_snoc t.front m (end_of k h) n)) (λ n. i.ours m (inr n)) a;
@@ -134,6 +148,7 @@ module _ (work : Work) (t : Tale) (i : KeepsFrames work t) where
       met = i.met;
       few = i.few;
       cut = λ f e. let q = i.cut f e in (q.0 ++ end_of k h ∷ [], ap (λ l. l ++ end_of k h ∷ []) q.1);
+      in_turn = i.in_turn;
       last = i.last;
       whole = λ j g m. loads_end j k h t.late ∙ i.whole j g m;
       ours = λ m a. ⊎_elim (λ n. i.ours m (inl n)) (λ n. ⊎_elim (λ z. i.ours m (inr z)) (λ z. end_ours m z) (among_snoc t.late m (end_of k h) n)) a;

@@ -1,5 +1,5 @@
 -- What stays known while a tale goes on.
-use Rattle.std.proofs.Common.{◌≡◌, ◌⊎◌, ℕ, suc, true, List, ◌++◌, Some, is_some, inl, inr, sym, ◌∙◌, ap, subst, ⊎_elim}
+use Rattle.std.proofs.Common.{◌≡◌, ◌⊎◌, ℕ, suc, ◌≤◌, true, List, ◌++◌, Some, is_some, inl, inr, sym, ◌∙◌, ap, subst, ⊎_elim, arith}
 use Rattle.chunk_core.specs.Lists.{IsAmong}
 use Rattle.chunk_core.proofs.Filters.{among_append}
 use Rattle.chunk_core.proofs.Members.{among_cons, among_last, among_left, among_nil}
@@ -12,8 +12,8 @@ use Rattle.interrupt_ctx.specs.declared.why.Why.{Why}
 use Rattle.interrupt_ctx.specs.declared.why.Why.TheVariants as why
 use Rattle.res_ledger.specs.declared.event.StreamNo.TheVariants.{Inner}
 use Rattle.run_rules.specs.Facts.{at}
-use Rattle.run_rules.specs.Work.{Work, until_by}
-use Rattle.join_tale.specs.Keeping.{IsLast, IsOuterStopped, IsToldToHalt, KeepsEnds, KeepsFates}
+use Rattle.run_rules.specs.Work.{Work, runs_in_turn, until_by}
+use Rattle.join_tale.specs.Keeping.{HasLacked, IsEndedInTurn, IsHighest, IsLast, IsLoadLate, IsOuterStopped, IsOwnCode, IsPassedOver, IsToldToHalt, KeepsEnds, KeepsFates}
 use Rattle.join_tale.specs.Steps.{Marks, learned}
 use Rattle.join_tale.specs.Steps.Marks.{fresh, stale}
 use Rattle.join_tale.specs.Tales.{AreCaused, Came, Fate, HasCome, HasMet, IsBegun, IsCaused, IsFoundSet, IsKnown, Tale, end_of}
@@ -33,6 +33,18 @@ marked_known t c w vs cs (stale there) = inr (there, among_last t.seen (interrup
 pub marked_caused : (work : Work) (u : Tale) (c : ℕ) (w : Why) (vs cs : List Interruption) → Marks c w vs cs → IsCaused work u c w → AreCaused work u vs
 marked_caused work u c w vs cs fresh is d v m = ⊎_elim (λ e. subst (λ (z : Interruption). IsCaused work u z.context z.why) (sym e) is) (λ n. absurd (among_nil n)) (among_cons m)
 marked_caused work u c w vs cs (stale there) is d v m = absurd (among_nil m)
+
+-- a code in the context of k is set for the end that stops k
+pub until_came : (work : Work) (t : Tale) (k : ℕ) (w : Why) → IsCaused work t (suc k) w → (j : ℕ) × (until_by work (Inner k) ≡ Some j) × HasCome t j
+until_came work t k why.Take h = absurd (let q : suc k ≡ 0 = h.0 in omega (q, arith))
+until_came work t k why.Until h = let same : h.0 ≡ k = (let q : suc k ≡ suc h.0 = h.2 in omega (q, arith)) in (h.1, subst (λ n. until_by work (Inner n) ≡ Some h.1) same h.3, h.4)
+until_came work t k why.Sink h = absurd (let q : suc k ≡ 0 = h.0 in omega (q, arith))
+until_came work t k why.Memory h = absurd (let q : suc k ≡ 0 = h.0 in omega (q, arith))
+until_came work t k why.Fault h = absurd (let q : suc k ≡ 0 = h.0 in omega (q, arith))
+
+-- where none that has come is above k, its own code tells it to halt, the end having come whose end stops it
+pub own_told : (work : Work) (t : Tale) (k : ℕ) → AreCaused work t t.set → (runs_in_turn work ≡ true → (j : ℕ) → HasCome t j → j ≤ k) → IsOwnCode work t k → IsFoundSet t (suc k) × IsEndedInTurn work t k
+own_told work t k caused below own = (own.0, λ w. let s = own.1 w in let u = until_came work t k s.0 (caused (suc k) s.0 s.1) in (u.0, u.1, u.2, below w u.0 u.2))
 
 -- nothing is begun, and what came and what is known stay
 pub record Grows (t u : Tale) : Type 0 where
@@ -71,8 +83,17 @@ module _ (work : Work) (t u : Tale) (g : Grows t u) where
   pub last_grows : (k : ℕ) → IsLast work t k → IsLast work u k
   last_grows k l w j b = l w j (g.begun j b)
 
+  pub own_grows : (k : ℕ) → IsFoundSet t (suc k) × IsEndedInTurn work t k → IsFoundSet u (suc k) × IsEndedInTurn work u k
+  own_grows k f = (g.found (suc k) f.0, λ w. let e = f.1 w in (e.0, e.1, (e.2.0, g.came e.0 e.2.0 e.2.1), e.3))
+
   pub told_grows : (k : ℕ) → IsToldToHalt work t k → IsToldToHalt work u k
-  told_grows k h = ⊎_elim (λ f. inl (g.found (suc k) f)) (λ f. inr (g.found 0 f.0, last_grows k f.1)) h
+  told_grows k h = ⊎_elim (λ f. inl (own_grows k f)) (λ f. inr (g.found 0 f.0, last_grows k f.1)) h
+
+  highest_grows : (k : ℕ) → IsHighest t k → IsHighest u k
+  highest_grows k l j b = l j (g.begun j b)
+
+  passed_grows : (IsOuterStopped t → IsOuterStopped u) → (k : ℕ) → IsPassedOver work t k → IsPassedOver work u k
+  passed_grows outer k h = ⊎_elim (λ f. inl (own_grows k f)) (λ f. inr (⊎_elim (λ a. inl (g.found 0 a)) (λ s. inr (outer s)) f.0, highest_grows k f.1)) h
 
   -- the ends, where these came anew
   pub ends_kept : (N : ℕ → How → Type 0) → AreFresh work t u N → KeepsEnds work t → ((k : ℕ) (h : How) → IsAmong (end_of k h) u.front → IsAmong (end_of k h) t.front ⊎ N k h) → ((k : ℕ) (h : How) → IsAmong (end_of k h) u.late → IsAmong (end_of k h) t.late ⊎ N k h)
@@ -97,13 +118,10 @@ module _ (work : Work) (t u : Tale) (g : Grows t u) where
       }
 
   -- what became of the streams, where these weren't begun anew, and of the outer one
-  pub fates_kept : KeepsFates work t → ((k : ℕ) → at u.fates k ≡ Some Skipped → (at t.fates k ≡ Some Skipped) ⊎ (IsToldToHalt work u k ⊎ (IsOuterStopped u × IsLast work u k))) → ((k : ℕ) → at u.fates k ≡ Some Unmade → (at t.fates k ≡ Some Unmade) ⊎ ((u.memory ≡ true) × IsLast work u k)) → (IsOuterStopped t → IsOuterStopped u)
+  pub fates_kept : KeepsFates work t → ((k : ℕ) → at u.fates k ≡ Some Skipped → (at t.fates k ≡ Some Skipped) ⊎ IsPassedOver work u k) → ((k : ℕ) → at u.fates k ≡ Some Unmade → (at t.fates k ≡ Some Unmade) ⊎ ((u.memory ≡ true) × IsLast work u k)) → (IsOuterStopped t → IsOuterStopped u)
       → (u.outer ≡ Some how.Halted → IsFoundSet u 0) → ((c : Code) → u.outer ≡ Some (how.Fault c) → IsKnown u 0) → (u.outer ≡ Some how.Memory → u.memory ≡ true) → KeepsFates work u
   fates_kept i skipped unmade outer halted fault memory = record {
-    skipped = λ k e. ⊎_elim
-        (λ o. ⊎_elim (λ h. inl (told_grows k h)) (λ s. inr (outer s.0, last_grows k s.1)) (i.skipped k o))
-        (λ n. n)
-        (skipped k e);
+    skipped = λ k e. ⊎_elim (λ o. passed_grows outer k (i.skipped k o)) (λ n. n) (skipped k e);
     unmade = λ k e. ⊎_elim (λ o. let q = i.unmade k o in (g.memory q.0, last_grows k q.1)) (λ n. n) (unmade k e);
     nobody = λ m. let q = i.nobody m in (g.known 0 q.0, λ k b. q.1 k (g.begun k b));
     outer_halted = halted;
@@ -120,6 +138,13 @@ module _ (work : Work) (t u : Tale) (g : Grows t u) where
       (λ e. g.found 0 (i.outer_halted (sym outer ∙ e)))
       (λ c e. g.known 0 (i.outer_fault c (sym outer ∙ e)))
       (λ e. g.memory (i.outer_memory (sym outer ∙ e)))
+
+  -- what memory was wanting for stays so
+  pub lacked_grows : (t.outer ≡ Some how.Memory → u.outer ≡ Some how.Memory) → ((k : ℕ) → at t.fates k ≡ Some Unmade → at u.fates k ≡ Some Unmade) → (IsLoadLate t → IsLoadLate u) → HasLacked t → HasLacked u
+  lacked_grows outer fates late h = ⊎_elim
+      (λ c. inl (c.0, g.came c.0 how.Memory c.1))
+      (λ y. inr (⊎_elim (λ o. inl (outer o)) (λ z. inr (⊎_elim (λ f. inl (f.0, fates f.0 f.1)) (λ l. inr (late l)) z)) y))
+      h
 
   -- a cause stays one
   pub cause_grows : (HasMet work t → HasMet work u) → (is_some t.cut ≡ true → is_some u.cut ≡ true) → ((c : Code) → t.outer ≡ Some (how.Fault c) → u.outer ≡ Some (how.Fault c)) → (c : ℕ) (w : Why) → IsCaused work t c w → IsCaused work u c w

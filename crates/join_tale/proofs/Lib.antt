@@ -6,6 +6,7 @@ pub mod Steps
 pub mod Receiving
 pub mod Ending
 pub mod Endings
+pub mod Leaving
 pub mod Causes
 pub mod Stopping
 pub mod Undisturbed

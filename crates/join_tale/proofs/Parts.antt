@@ -1,13 +1,15 @@
 -- The frames and the loads of messages.
-use Rattle.std.proofs.Common.{◌≡◌, ◌⊎◌, ℕ, suc, Bool, true, false, nat_eq, if◌then◌else◌, filter, List, [], ◌∷◌, ◌++◌, length, Option, Some, None, inl, inr, refl, sym, ap, ◌∙◌, subst, ⊎_elim, arith, length-append, append-nil}
+use Rattle.std.proofs.Common.{◌≡◌, ◌⊎◌, ℕ, suc, ◌≤◌, Bool, true, false, nat_eq, if◌then◌else◌, filter, List, [], ◌∷◌, ◌++◌, length, Option, Some, None, inl, inr, refl, sym, ap, ◌∙◌, subst, ⊎_elim, arith, length-append, append-nil}
 use Rattle.std.specs.List.{flat_map, last_or}
 use Rattle.std.proofs.lemmas.Grind.{flat_map-append}
 use Rattle.chunk_core.specs.Lists.{IsAmong}
 use Rattle.chunk_core.specs.Lists.IsAmong.{here, there}
 use Rattle.chunk_core.specs.Texts.{Frame, payloads_of}
 use Rattle.chunk_core.proofs.Bools.{itself, number}
+use Rattle.chunk_core.proofs.Cuts.{split_snoc}
 use Rattle.chunk_core.proofs.Members.{among_cons, among_nil, among_snoc}
 use Rattle.chunk_core.specs.declared.code.How.{How}
+use Rattle.run_rules.specs.Outputs.{NeverFall}
 use Rattle.join_tale.specs.Tales.{Body, Message, end_of, frames_in, frames_of, load_of, loads_in, loads_of}
 use Rattle.join_tale.specs.Tales.Body.{End, Load}
 use Rattle.join_tale.proofs.Places.{last_snoc, some_is}
@@ -98,3 +100,10 @@ pub last_written : (ms : List Message) (k : ℕ) (x : List ℕ) (cut : Option Fr
 last_written ms k x cut f none e =
     let is : frames_of (ms ++ load_of k x ∷ []) ++ elim cut [ Some g ↦ g ∷ [] | None ↦ [] ] ≡ frames_of ms ++ frame_of k x ∷ [] = ap (λ (c : Option Frame). frames_of (ms ++ load_of k x ∷ []) ++ elim c [ Some g ↦ g ∷ [] | None ↦ [] ]) none ∙ append-nil (frames_of (ms ++ load_of k x ∷ [])) ∙ frames_load ms k x in
     ap (λ (g : Frame). g.stream) (some_is (frame_of k x) f (sym (last_snoc None (frames_of ms) (frame_of k x)) ∙ ap (λ (l : List Frame). last_or None l) (sym is) ∙ e))
+
+-- a frame of no earlier stream comes behind those that never fall
+pub falls_never : (F : List Frame) (g : Frame) → NeverFall F → ((f : Frame) → IsAmong f F → f.stream ≤ g.stream) → NeverFall (F ++ g ∷ [])
+falls_never F g n above A B f h e m = ⊎_elim
+    (λ s. subst (λ (x : Frame). f.stream ≤ x.stream) s.1 (above f (subst (λ l. IsAmong f l) (sym s.0) m)))
+    (λ s. n A s.0 f h s.1 m)
+    (split_snoc F A B g h e)

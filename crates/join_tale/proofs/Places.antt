@@ -36,6 +36,10 @@ module _ {A : Type 0} where
   at_snoc (z ∷ xs) y zero x e = inl e
   at_snoc (z ∷ xs) y (suc k) x e = ⊎_elim (λ o. inl o) (λ o. inr (omega (arith, o.0), o.1)) (at_snoc xs y k x e)
 
+  pub at_last : (xs : List A) (y : A) → at (xs ++ y ∷ []) (length xs) ≡ Some y
+  at_last [] y = refl
+  at_last (x ∷ xs) y = at_last xs y
+
   pub at_below : (xs : List A) (k : ℕ) (x : A) → at xs k ≡ Some x → k < length xs
   at_below [] k x e = absurd (none_some e)
   at_below (y ∷ xs) zero x e = omega arith

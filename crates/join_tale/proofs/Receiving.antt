@@ -10,7 +10,7 @@ use Rattle.join_tale.specs.Keeping.{IsLast, IsTale}
 use Rattle.join_tale.specs.Steps.{Marks, dropped, failed, lacked, learned, written}
 use Rattle.join_tale.specs.Tales.{Came, HasMet, IsOpen, Tale, end_of, frames_of, load_of}
 use Rattle.join_tale.proofs.Framing.{frames_drop, frames_fail, frames_lack, frames_write, not_met, open_last}
-use Rattle.join_tale.proofs.Growing.{Grows, NoEnd, cause_grows, caused_more, ends_kept, fates_stay, found_more, known_more, marked_caused, marked_known, none_fresh}
+use Rattle.join_tale.proofs.Growing.{Grows, NoEnd, cause_grows, caused_more, ends_kept, fates_stay, found_more, known_more, lacked_grows, marked_caused, marked_known, none_fresh}
 use Rattle.join_tale.proofs.Parts.{end_before_load, more_frames, no_end}
 use Rattle.join_tale.proofs.Places.{not_both}
 
@@ -24,6 +24,9 @@ module _ (work : Work) (t : Tale) (k : ℕ) (x : List ℕ) (i : IsTale work t) (
   came_front : (j : ℕ) (h : How) → Came t j h → IsAmong (end_of j h) (t.front ++ load_of k x ∷ []) ⊎ IsAmong (end_of j h) t.late
   came_front j h m = ⊎_elim (λ a. inl (among_left (load_of k x ∷ []) a)) (λ a. inr a) m
 
+  unwanting : t.ceased ≡ false → t.memory ≡ true → ⊥
+  unwanting c m = not_both t.memory (i.frames.quiet c).2 m
+
   pub writes : t.ceased ≡ false → most_of work ≢ Some (suc (length (frames_of t.front))) → IsTale work (written t k x)
   writes c doesnt =
       let u : Tale = written t k x in
@@ -33,6 +36,7 @@ module _ (work : Work) (t : Tale) (k : ℕ) (x : List ℕ) (i : IsTale work t) (
         ends = ends_kept work t u g NoEnd (none_fresh work t u) i.ends (λ j h m. inl (end_before_load j k h x t.front m)) (λ j h m. inl m) (λ j h q m n. i.ends.apart j h q (end_before_load j k h x t.front m) n);
         fates = fates_stay work t u g i.fates refl refl;
         caused = λ d w m. cause_grows work t u g (λ z. absurd (unmet c z)) (λ z. z) (λ a e. e) d w (i.caused d w m);
+        lacked = λ m. absurd (unwanting c m);
         stop = i.stop;
       }
 
@@ -45,6 +49,7 @@ module _ (work : Work) (t : Tale) (k : ℕ) (x : List ℕ) (i : IsTale work t) (
         ends = ends_kept work t u g NoEnd (none_fresh work t u) i.ends (λ j h m. inl (end_before_load j k h x t.front m)) (λ j h m. inl m) (λ j h q m n. i.ends.apart j h q (end_before_load j k h x t.front m) n);
         fates = fates_stay work t u g i.fates refl refl;
         caused = caused_more work t u g vs (λ z. absurd (unmet c z)) (λ z. z) (λ a e. e) i.caused (marked_caused work u 0 why.Take vs cs mark (refl, does ∙ ap Some (sym (more_frames t.front k x))));
+        lacked = λ m. absurd (unwanting c m);
         stop = λ e. marked_known t 0 why.Take vs cs mark;
       }
 
@@ -64,6 +69,7 @@ module _ (work : Work) (t : Tale) (k : ℕ) (x : List ℕ) (i : IsTale work t) (
         ends = ends_kept work t u g NoEnd (none_fresh work t u) i.ends (λ j h m. inl m) (λ j h m. absurd (no_end_late j h m)) (λ j h q m n. no_end_late j q n);
         fates = fates_stay work t u g i.fates refl refl;
         caused = caused_more work t u g vs (λ z. z) (λ z. refl) (λ a e. e) i.caused (marked_caused work u 0 why.Sink vs cs mark (refl, refl));
+        lacked = λ m. absurd (unwanting c m);
         stop = λ e. marked_known t 0 why.Sink vs cs mark;
       }
 
@@ -76,6 +82,7 @@ module _ (work : Work) (t : Tale) (k : ℕ) (x : List ℕ) (i : IsTale work t) (
         ends = ends_kept work t u g NoEnd (none_fresh work t u) i.ends (λ j h m. inl m) (λ j h m. absurd (no_end_late j h m)) (λ j h q m n. no_end_late j q n);
         fates = fates_stay work t u g i.fates refl refl;
         caused = caused_more work t u g vs (λ z. z) (λ z. z) (λ a e. e) i.caused (marked_caused work u 0 why.Memory vs cs mark (refl, refl));
+        lacked = λ m. inr (inr (inr (k, x, [], refl)));
         stop = λ e. marked_known t 0 why.Memory vs cs mark;
       }
 
@@ -88,5 +95,6 @@ module _ (work : Work) (t : Tale) (k : ℕ) (x : List ℕ) (i : IsTale work t) (
         ends = ends_kept work t u g NoEnd (none_fresh work t u) i.ends (λ j h m. inl m) (λ j h m. inl (end_before_load j k h x t.late m)) (λ j h q m n. i.ends.apart j h q m (end_before_load j k q x t.late n));
         fates = fates_stay work t u g i.fates refl refl;
         caused = λ d w m. cause_grows work t u g (λ z. z) (λ z. z) (λ a e. e) d w (i.caused d w m);
+        lacked = λ m. lacked_grows work t u g (λ e. e) (λ j e. e) (λ l. (l.0, l.1, l.2 ++ load_of k x ∷ [], ap (λ ms. ms ++ load_of k x ∷ []) l.3)) (i.lacked m);
         stop = i.stop;
       }

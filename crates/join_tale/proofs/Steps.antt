@@ -10,13 +10,13 @@ use Rattle.interrupt_ctx.specs.declared.why.Why.{Why}
 use Rattle.interrupt_ctx.specs.declared.why.Why.TheVariants as why
 use Rattle.run_rules.specs.Facts.{is_memory}
 use Rattle.run_rules.specs.Work.{Work, most_of}
-use Rattle.join_tale.specs.Keeping.{IsLast, IsOuterStopped, IsTale, KeepsEnds, KeepsFates, KeepsFrames}
+use Rattle.join_tale.specs.Keeping.{IsEndedInTurn, IsHighest, IsOuterStopped, IsOwnCode, IsTale, KeepsEnds, KeepsFates, KeepsFrames}
 use Rattle.join_tale.specs.Steps.{Marks, MayBegin, TellsOuter, fated, first_tale, learned, outer_ended, unmade}
-use Rattle.join_tale.specs.Tales.{AreCaused, Fate, IsBegun, IsCaused, IsFoundSet, IsKnown, Message, Tale}
+use Rattle.join_tale.specs.Tales.{AreCaused, Fate, HasCome, IsBegun, IsCaused, IsFoundSet, IsKnown, Message, Tale, end_of}
 use Rattle.join_tale.specs.Tales.Fate.{Begun, Skipped, Unmade}
 use Rattle.join_tale.proofs.Framing.{frames_stay}
-use Rattle.join_tale.proofs.Growing.{Grows, NoEnd, cause_grows, caused_more, ends_kept, fates_kept, fates_stay, found_more, known_more, marked_caused, marked_known, none_fresh}
-use Rattle.join_tale.proofs.Places.{at_below, at_left, at_snoc, none_is_some, none_some, not_both, or_false, some_is}
+use Rattle.join_tale.proofs.Growing.{Grows, NoEnd, cause_grows, caused_more, ends_kept, fates_kept, fates_stay, found_more, known_more, lacked_grows, marked_caused, marked_known, none_fresh, own_grows, own_told}
+use Rattle.join_tale.proofs.Places.{at_below, at_last, at_left, at_snoc, none_is_some, none_some, not_both, or_false, some_is}
 
 pub memory_is : (h : How) → is_memory h ≡ true → h ≡ how.Memory
 memory_is how.Memory e = refl
@@ -25,6 +25,10 @@ memory_is how.Halted e = absurd (not_both false refl e)
 memory_is (how.Fault c) e = absurd (not_both false refl e)
 
 -- Nothing was received yet.
+
+no_place : {A : Type 0} (xs ys : List A) (y : A) → [] ≡ xs ++ y ∷ ys → ⊥
+no_place [] ys y e = cc
+no_place (x ∷ xs) ys y e = cc
 
 few_zero : (o : Option ℕ) → IfSome o (λ n. 0 ≤ n)
 few_zero None = tt
@@ -38,6 +42,7 @@ module _ (work : Work) (vs cs : List Interruption) (b : Bool) where
     met = met;
     few = few_zero (most_of work);
     cut = λ f e. absurd (none_some e);
+    in_turn = λ w A B f h e m. absurd (no_place A B h e);
     last = λ h f e. absurd (none_some e);
     whole = λ k h m. refl;
     ours = λ m h. absurd (⊎_elim (λ n. among_nil n) (λ n. among_nil n) h);
@@ -71,6 +76,7 @@ starts work doesnt = record {
   ends = first_ends work [] [] false;
   fates = first_fates work [] [] false (λ m. absurd (doesnt m));
   caused = λ c w m. absurd (among_nil m);
+  lacked = λ m. absurd (not_both false refl m);
   stop = λ e. absurd (not_both false refl e);
 }
 
@@ -82,6 +88,7 @@ starts_met work vs cs mark does =
       ends = first_ends work vs cs true;
       fates = first_fates work vs cs true (λ m. known);
       caused = marked_caused work (record (learned first_tale vs cs) { ceased = true }) 0 why.Take vs cs mark (refl, does);
+      lacked = λ m. absurd (not_both false refl m);
       stop = λ e. known;
     }
 
@@ -121,6 +128,7 @@ module _ (work : Work) (t : Tale) (i : IsTale work t) where
         ends = ends_kept work t u g NoEnd (none_fresh work t u) i.ends (λ k h m. inl m) (λ k h m. inl m) i.ends.apart;
         fates = fates_stay work t u g i.fates refl refl;
         caused = caused_more work t u g vs (λ m. m) (λ c. c) (λ c e. e) i.caused (λ c w m. cause_grows work t u g (λ z. z) (λ z. z) (λ d e. e) c w (new c w m));
+        lacked = λ m. lacked_grows work t u g (λ e. e) (λ k e. e) (λ l. l) (i.lacked m);
         stop = λ e. known_more t vs cs 0 (i.stop e);
       }
 
@@ -155,7 +163,7 @@ module _ (work : Work) (t : Tale) (i : IsTale work t) where
     begun_fates : KeepsFates work (fated t Begun)
     begun_fates = record {
       skipped = λ k e. ⊎_elim
-          (λ o. ⊎_elim (λ h. inl (⊎_elim (λ f. inl f) (λ f. absurd (may.run (inr f.0))) h)) (λ s. absurd (may.run (outer_known s.0))) (i.fates.skipped k o))
+          (λ o. ⊎_elim (λ f. inl f) (λ f. absurd (may.run (⊎_elim (λ a. inr a) (λ s. outer_known s) f.0))) (i.fates.skipped k o))
           (λ n. absurd (let q : Skipped ≡ Begun = n.1 in cc))
           (at_snoc t.fates Begun k Skipped e);
       unmade = λ k e. ⊎_elim
@@ -169,15 +177,15 @@ module _ (work : Work) (t : Tale) (i : IsTale work t) where
     }
 
     pub begins : IsTale work (fated t Begun)
-    begins = record { frames = begun_frames; ends = begun_ends; fates = begun_fates; caused = λ c w m. cause_begun c w (i.caused c w m); stop = i.stop }
+    begins = record { frames = begun_frames; ends = begun_ends; fates = begun_fates; caused = λ c w m. cause_begun c w (i.caused c w m); lacked = λ m. absurd (may.run (i.stop (memory_ceased m))); stop = i.stop }
 
   -- a stream isn't begun
   module _ (f : Fate) (other : Begun ≡ f → ⊥) where
     back : (k : ℕ) → IsBegun (fated t f) k → IsBegun t k
     back k b = ⊎_elim (λ o. o) (λ n. absurd (other n.1)) (at_snoc t.fates f k Begun b)
 
-    above : (k : ℕ) → k ≡ length t.fates → IsLast work (fated t f) k
-    above k is w j b = let l = at_below t.fates j Begun (back j b) in omega (arith, l, is)
+    above : (k : ℕ) → k ≡ length t.fates → IsHighest (fated t f) k
+    above k is j b = let l = at_below t.fates j Begun (back j b) in omega (arith, l, is)
 
   not_skipped : Begun ≡ Skipped → ⊥
   not_skipped e = cc
@@ -185,7 +193,10 @@ module _ (work : Work) (t : Tale) (i : IsTale work t) where
   not_unmade : Begun ≡ Unmade → ⊥
   not_unmade e = cc
 
-  pub skips : IsFoundSet t 0 ⊎ IsFoundSet t (suc (length t.fates)) ⊎ IsOuterStopped t → IsTale work (fated t Skipped)
+  come_below : (j : ℕ) → HasCome t j → j ≤ length t.fates
+  come_below j c = let l = at_below t.fates j Begun (i.frames.ours (end_of j c.0) c.1).0 in omega (arith, l)
+
+  pub skips : IsFoundSet t 0 ⊎ IsOwnCode work t (length t.fates) ⊎ IsOuterStopped t → IsTale work (fated t Skipped)
   skips cause =
       let u : Tale = fated t Skipped in
       let g : Grows t u = record { begun = back Skipped not_skipped; came = λ k h c. c; found = λ c h. h; known = λ c h. h; memory = λ e. e } in
@@ -196,13 +207,14 @@ module _ (work : Work) (t : Tale) (i : IsTale work t) where
             (λ k e. ⊎_elim
             (λ o. inl o)
             (λ n. inr (⊎_elim
-            (λ h. inl (inr (h, above Skipped not_skipped k n.0)))
-            (λ z. ⊎_elim (λ h. inl (inl (subst (λ y. IsFoundSet t (suc y)) (sym n.0) h))) (λ s. inr (s, above Skipped not_skipped k n.0)) z)
+            (λ h. inr (inl h, above Skipped not_skipped k n.0))
+            (λ z. ⊎_elim (λ h. inl (own_grows work t u g k (subst (λ y. IsFoundSet t (suc y) × IsEndedInTurn work t y) (sym n.0) (own_told work t (length t.fates) i.caused (λ w. come_below) h)))) (λ s. inr (inr s, above Skipped not_skipped k n.0)) z)
             cause))
             (at_snoc t.fates Skipped k Skipped e))
             (λ k e. ⊎_elim (λ o. inl o) (λ n. absurd (let q : Unmade ≡ Skipped = n.1 in cc)) (at_snoc t.fates Skipped k Unmade e))
             (λ s. s) i.fates.outer_halted i.fates.outer_fault i.fates.outer_memory;
         caused = λ c w m. cause_grows work t u g (λ z. z) (λ z. z) (λ d e. e) c w (i.caused c w m);
+        lacked = λ m. lacked_grows work t u g (λ e. e) (λ k e. at_left t.fates (Skipped ∷ []) k Unmade e) (λ l. l) (i.lacked m);
         stop = i.stop;
       }
 
@@ -215,9 +227,10 @@ module _ (work : Work) (t : Tale) (i : IsTale work t) where
         ends = ends_kept work t u g NoEnd (none_fresh work t u) i.ends (λ k h m. inl m) (λ k h m. inl m) i.ends.apart;
         fates = fates_kept work t u g i.fates
             (λ k e. ⊎_elim (λ o. inl o) (λ n. absurd (let q : Skipped ≡ Unmade = n.1 in cc)) (at_snoc t.fates Unmade k Skipped e))
-            (λ k e. ⊎_elim (λ o. inl o) (λ n. inr (refl, above Unmade not_unmade k n.0)) (at_snoc t.fates Unmade k Unmade e))
+            (λ k e. ⊎_elim (λ o. inl o) (λ n. inr (refl, λ w. above Unmade not_unmade k n.0)) (at_snoc t.fates Unmade k Unmade e))
             (λ s. s) (λ e. g.found 0 (i.fates.outer_halted e)) (λ c e. g.known 0 (i.fates.outer_fault c e)) (λ e. refl);
         caused = caused_more work t u g vs (λ m. m) (λ c. c) (λ c e. e) i.caused (marked_caused work u 0 why.Memory vs cs mark (refl, refl));
+        lacked = λ m. inr (inr (inl (length t.fates, at_last t.fates Unmade)));
         stop = λ e. marked_known t 0 why.Memory vs cs mark;
       }
 
@@ -238,5 +251,6 @@ module _ (work : Work) (t : Tale) (i : IsTale work t) where
         fates = fates_kept work t u g i.fates (λ k e. inl e) (λ k e. inl e) (λ s. absurd (none_some (sym none ∙ s.1)))
             (λ e. tells.halted (some_is h how.Halted e)) (λ c e. tells.fault c (some_is h (how.Fault c) e)) (λ e. or_right t.memory (is_memory h) (ap is_memory (some_is h how.Memory e)));
         caused = caused_more work t u g vs (λ m. m) (λ c. c) (λ c e. absurd (none_some (sym none ∙ e))) i.caused tells.caused;
+        lacked = λ e. ⊎_elim (λ m. lacked_grows work t u g (λ o. absurd (none_some (sym none ∙ o))) (λ k f. f) (λ l. l) (i.lacked m)) (λ m. inr (inl (ap (λ q. Some q) (memory_is h m)))) (either t.memory (is_memory h) e);
         stop = λ e. ⊎_elim (λ c. known_more t vs cs 0 (i.stop c)) (λ m. tells.memory (memory_is h m)) (either t.ceased (is_memory h) e);
       }

@@ -1,5 +1,5 @@
 -- The tale that is written out, step by step, and those that can't be.
-use Rattle.std.proofs.Common.{◌≡◌, ℕ, zero, suc, ◌<◌, ◌≤◌, true, false, List, [], ◌∷◌, Some, inl, refl, ⊎_elim, arith}
+use Rattle.std.proofs.Common.{◌≡◌, ℕ, zero, suc, ◌<◌, ◌≤◌, true, false, List, [], ◌∷◌, Some, inl, refl, ap, ⊎_elim, arith}
 use Rattle.chunk_core.specs.Lists.{IsAmong}
 use Rattle.chunk_core.specs.Lists.IsAmong.{here, there}
 use Rattle.chunk_core.proofs.Members.{among_cons, among_nil}
@@ -7,18 +7,20 @@ use Rattle.chunk_core.specs.declared.code.Code.TheVariants as code
 use Rattle.chunk_core.specs.declared.code.How.{How}
 use Rattle.chunk_core.specs.declared.code.How.TheVariants as how
 use Rattle.interrupt_ctx.specs.Views.{interruption}
+use Rattle.interrupt_ctx.specs.declared.view.Interruption.{Interruption}
 use Rattle.interrupt_ctx.specs.declared.why.Why.TheVariants as why
 use Rattle.res_ledger.specs.declared.event.StreamNo.TheVariants.{Inner}
+use Rattle.run_rules.specs.Facts.{at}
 use Rattle.run_rules.specs.Work.{until_by}
 use Rattle.join_tale.specs.Ended.Ended.{halted, told}
-use Rattle.join_tale.specs.Keeping.{IsTale}
+use Rattle.join_tale.specs.Keeping.{HasLacked, IsTale}
 use Rattle.join_tale.specs.Steps.{MayBegin, TellsEnd, TellsOuter, dropped, ended, ended_late, fated, first_tale, learned, outer_ended, written}
 use Rattle.join_tale.specs.Steps.Marks.{fresh}
 use Rattle.join_tale.specs.Tales.{HasCome, IsBegun, Message, Tale, end_of, load_of}
-use Rattle.join_tale.specs.Tales.Fate.{Begun}
-use Rattle.join_tale.specs.Worked.{AreRefused, IsWorked, two_streams, worked_tale}
+use Rattle.join_tale.specs.Tales.Fate.{Begun, Unmade}
+use Rattle.join_tale.specs.Worked.{AreRefused, IsWorked, plain_tale, two_streams, worked_tale}
 use Rattle.join_tale.proofs.Ending.{ends, ends_late}
-use Rattle.join_tale.proofs.Parts.{no_end, same_end}
+use Rattle.join_tale.proofs.Parts.{frame_of, no_end, same_end}
 use Rattle.join_tale.proofs.Places.{none_some, not_both, some_is}
 use Rattle.join_tale.proofs.Receiving.{drops, meets, writes}
 use Rattle.join_tale.proofs.Steps.{begins, outer_ends, starts}
@@ -143,13 +145,37 @@ is_worked = record {
   second = halted how.Done (there (load_of 1 (67 ∷ [])) (here [])) (λ e. cc) (λ e z. cc) refl;
 }
 
+-- no end came, and the only stream was begun
+lacks_nothing : HasLacked (record (plain_tale [] (Begun ∷ [])) { set = interruption 0 why.Memory ∷ []; ceased = true; memory = true }) → ⊥
+lacks_nothing h = ⊎_elim
+    (λ m. ⊎_elim (λ n. among_nil n) (λ n. among_nil n) m.1)
+    (λ y. ⊎_elim (λ o. none_some o) (λ z. ⊎_elim (λ f. begun_alone f.0 f.1) (λ l. no_first l.0 l.1 l.2 l.3) z) y)
+    h
+  where
+    begun_alone : (k : ℕ) → at (Begun ∷ []) k ≡ Some Unmade → ⊥
+    begun_alone zero e = let q : Begun ≡ Unmade = some_is Begun Unmade e in cc
+    begun_alone (suc k) e = none_some e
+
+    no_first : (k : ℕ) (x : List ℕ) (ms : List Message) → [] ≡ load_of k x ∷ ms → ⊥
+    no_first k x ms e = cc
+
 pub are_refused : AreRefused
 are_refused = record {
-  halted_for_nothing = λ i. ⊎_elim (λ f. among_nil f.1) (λ f. among_nil f.0.1) (i.ends.halted 0 (inl (here [])));
+  halted_for_nothing = λ i. ⊎_elim (λ f. among_nil f.0.1) (λ f. among_nil f.0.1) (i.ends.halted 0 (inl (here [])));
   three_frames = λ i. (let l : 3 ≤ 2 = i.frames.few in omega (l, arith));
   begun_behind_fault = λ i. (let l : 1 ≤ 0 = (i.ends.fault 0 code.Read (inl (here []))).1 refl 1 refl in omega (l, arith));
   never_begun = λ i. none_some (i.frames.ours (load_of 1 (65 ∷ [])) (inl (here []))).0;
   empty_load = λ i. (let l : 0 < 0 = (i.frames.ours (load_of 0 []) (inl (here []))).1 in omega (l, arith));
   ended_twice = λ i. (let e : how.Done ≡ how.Fault code.Read = i.ends.once 0 how.Done (how.Fault code.Read) (inl (here (end_of 0 (how.Fault code.Read) ∷ []))) (inl (there (end_of 0 how.Done) (here []))) in cc);
+  frames_fall = λ i. (let l : 1 ≤ 0 = i.frames.in_turn refl (frame_of 1 (65 ∷ []) ∷ []) [] (frame_of 1 (65 ∷ [])) (frame_of 0 (66 ∷ [])) refl (here []) in omega (l, arith));
+  wanting_for_nothing = λ i. lacks_nothing (i.lacked refl);
+  halted_by_a_later_end = λ i. ⊎_elim
+      (λ f. let e = f.1 refl in let l : e.0 ≤ 0 = e.3 in let q : 1 ≡ e.0 = some_is 1 e.0 e.1 in omega (l, q, arith))
+      (λ f. let q : 0 ≡ 1 = (⊎_elim (λ (m : interruption 0 f.0.0 ≡ interruption 1 why.Until). ap (λ (x : Interruption). x.context) m) (λ n. absurd (among_nil n)) (among_cons f.0.1)) in omega (q, arith))
+      (i.ends.halted 0 (inl (here (end_of 1 how.Done ∷ []))));
+  begun_behind_skipped = λ i. ⊎_elim
+      (λ f. let q : 1 ≡ 0 = (⊎_elim (λ (m : interruption 1 f.0.0 ≡ interruption 0 why.Fault). ap (λ (x : Interruption). x.context) m) (λ n. absurd (among_nil n)) (among_cons f.0.1)) in one_zero q)
+      (λ s. let l : 1 ≤ 0 = s.1 1 refl in omega (l, arith))
+      (i.fates.skipped 0 refl);
   goes_on = λ i. not_both false refl (i.frames.met refl);
 }

@@ -8,22 +8,39 @@ use Rattle.chunk_core.specs.declared.code.How.{How}
 use Rattle.chunk_core.specs.declared.code.How.TheVariants as how
 use Rattle.res_ledger.specs.declared.event.StreamNo.TheVariants.{Inner}
 use Rattle.run_rules.specs.Facts.{at}
+use Rattle.run_rules.specs.Outputs.{NeverFall}
 use Rattle.run_rules.specs.Work.{Work, most_of, runs_in_turn, until_by}
-use Rattle.join_tale.specs.Tales.{AreCaused, Body, Came, HasCome, HasMet, IsBegun, IsFoundSet, IsKnown, Message, Tale, end_of, frames_begun, load_of, loads_of}
+use Rattle.join_tale.specs.Tales.{AreCaused, Body, Came, HasCome, HasMet, IsBegun, IsFoundSet, IsKnown, IsSet, Message, Tale, end_of, frames_begun, load_of, loads_of}
 use Rattle.join_tale.specs.Tales.Body.{End, Load}
 use Rattle.join_tale.specs.Tales.Fate.{Skipped, Unmade}
 
+-- no stream above k was begun
+abbrev pub IsHighest : Tale → ℕ → Type 0
+IsHighest t k = (j : ℕ) → IsBegun t j → j ≤ k
+
 -- where one stream is open at a time, none above k was begun
 abbrev pub IsLast : Work → Tale → ℕ → Type 0
-IsLast work t k = runs_in_turn work ≡ true → (j : ℕ) → IsBegun t j → j ≤ k
+IsLast work t k = runs_in_turn work ≡ true → IsHighest t k
+
+-- where one stream is open at a time, the one has come whose end stops k, and it isn't above k
+abbrev pub IsEndedInTurn : Work → Tale → ℕ → Type 0
+IsEndedInTurn work t k = runs_in_turn work ≡ true → (j : ℕ) × (until_by work (Inner k) ≡ Some j) × HasCome t j × (j ≤ k)
 
 -- a code was found that is for k: its own, or that of all streams, behind which none was begun
 abbrev pub IsToldToHalt : Work → Tale → ℕ → Type 0
-IsToldToHalt work t k = IsFoundSet t (suc k) ⊎ (IsFoundSet t 0 × IsLast work t k)
+IsToldToHalt work t k = (IsFoundSet t (suc k) × IsEndedInTurn work t k) ⊎ (IsFoundSet t 0 × IsLast work t k)
 
 -- the outer stream has ended, and not by itself
 abbrev pub IsOuterStopped : Tale → Type 0
 IsOuterStopped t = (h : How) × (t.outer ≡ Some h) × (h ≢ how.Done)
+
+-- a code was found in the context of k; where one stream is open at a time, it had been set by then
+abbrev pub IsOwnCode : Work → Tale → ℕ → Type 0
+IsOwnCode work t k = IsFoundSet t (suc k) × (runs_in_turn work ≡ true → IsSet t (suc k))
+
+-- why k wasn't begun: a code was found that is its own, or one for all streams or the outer stream was stopped, and then none above k was begun, however many may be open
+abbrev pub IsPassedOver : Work → Tale → ℕ → Type 0
+IsPassedOver work t k = (IsFoundSet t (suc k) × IsEndedInTurn work t k) ⊎ ((IsFoundSet t 0 ⊎ IsOuterStopped t) × IsHighest t k)
 
 -- a load isn't empty
 abbrev pub IsFull : Body → Type 0
@@ -34,6 +51,14 @@ IsFull (End h) = Unit {0}
 abbrev pub HasCeased : Work → Tale → Type 0
 HasCeased work t = HasMet work t ⊎ (is_some t.cut ≡ true) ⊎ (t.memory ≡ true)
 
+-- the first that came too late to be written is a load
+abbrev pub IsLoadLate : Tale → Type 0
+IsLoadLate t = (k : ℕ) × (x : List ℕ) × (ms : List Message) × (t.late ≡ load_of k x ∷ ms)
+
+-- memory was wanting for a stream that ended so, for the outer one, to make a stream, or to write a load
+abbrev pub HasLacked : Tale → Type 0
+HasLacked t = ((k : ℕ) × Came t k how.Memory) ⊎ (t.outer ≡ Some how.Memory) ⊎ ((k : ℕ) × (at t.fates k ≡ Some Unmade)) ⊎ IsLoadLate t
+
 -- the frames and the loads that came too late to be written
 pub record KeepsFrames (work : Work) (t : Tale) : Type 0 where
   pub quiet : t.ceased ≡ false → (t.late ≡ []) × (t.cut ≡ None) × (t.memory ≡ false)
@@ -41,6 +66,7 @@ pub record KeepsFrames (work : Work) (t : Tale) : Type 0 where
   pub met : HasMet work t → t.ceased ≡ true
   pub few : IfSome (most_of work) (λ n. length (frames_begun t) ≤ n)
   pub cut : (f : Frame) → t.cut ≡ Some f → (ms : List Message) × (t.late ≡ load_of f.stream f.payload ∷ ms)
+  pub in_turn : runs_in_turn work ≡ true → NeverFall (frames_begun t)
   pub last : HasMet work t ⊎ (is_some t.cut ≡ true) → (f : Frame) → last_or None (frames_begun t) ≡ Some f → IsLast work t f.stream
   pub whole : (k : ℕ) (h : How) → IsAmong (end_of k h) t.front → loads_of k t.late ≡ []
   pub ours : (m : Message) → IsAmong m t.front ⊎ IsAmong m t.late → IsBegun t m.stream × IsFull m.body
@@ -58,7 +84,7 @@ pub record KeepsEnds (work : Work) (t : Tale) : Type 0 where
 
 -- the streams that weren't begun, and the outer one
 pub record KeepsFates (work : Work) (t : Tale) : Type 0 where
-  pub skipped : (k : ℕ) → at t.fates k ≡ Some Skipped → IsToldToHalt work t k ⊎ (IsOuterStopped t × IsLast work t k)
+  pub skipped : (k : ℕ) → at t.fates k ≡ Some Skipped → IsPassedOver work t k
   pub unmade : (k : ℕ) → at t.fates k ≡ Some Unmade → (t.memory ≡ true) × IsLast work t k
   pub nobody : most_of work ≡ Some 0 → IsKnown t 0 × ((k : ℕ) → ¬ (IsBegun t k))
   pub outer_halted : t.outer ≡ Some how.Halted → IsFoundSet t 0
@@ -70,4 +96,5 @@ pub record IsTale (work : Work) (t : Tale) : Type 0 where
   pub ends : KeepsEnds work t
   pub fates : KeepsFates work t
   pub caused : AreCaused work t t.set
+  pub lacked : t.memory ≡ true → HasLacked t
   pub stop : t.ceased ≡ true → IsKnown t 0

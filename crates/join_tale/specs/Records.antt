@@ -1,8 +1,9 @@
 -- What a run did, against its tale.
-use Rattle.std.specs.Prelude.{◌≡◌, ℕ, ◌<◌, ◌≤◌, true, false, not, List, map, length, Option, Some, None, is_some, IfSome}
+use Rattle.std.specs.Prelude.{◌≡◌, ◌⊎◌, ℕ, ◌<◌, ◌≤◌, true, false, not, List, map, length, Option, Some, None, is_some, IfSome}
 use Rattle.std.specs.List.{list_any as any, list_all as all, AllByRecursion}
 use Rattle.chunk_core.specs.Lists.{IsAmong}
 use Rattle.chunk_core.specs.declared.code.How.{How}
+use Rattle.chunk_core.specs.declared.code.How.TheVariants as how
 use Rattle.interrupt_ctx.specs.Views.{interruption}
 use Rattle.interrupt_ctx.specs.declared.why.Why.{Why}
 use Rattle.res_ledger.specs.declared.event.Event.{Event}
@@ -10,8 +11,9 @@ use Rattle.res_ledger.specs.declared.event.StreamNo.{StreamNo}
 use Rattle.res_ledger.specs.declared.event.StreamNo.TheVariants.{Outer, Inner}
 use Rattle.run_rules.specs.declared.end.EndOf.{EndOf}
 use Rattle.run_rules.specs.Ends.{HasCauseToHalt, IsStopped}
-use Rattle.run_rules.specs.Facts.{has_left, is_fault, is_halted, is_memory}
-use Rattle.run_rules.specs.Work.{Work, Opener, RunRecord, Stream, begun_frames, most_of, names_of}
+use Rattle.run_rules.specs.Facts.{has_left, is_fault}
+use Rattle.run_rules.specs.Outputs.{NeverFall}
+use Rattle.run_rules.specs.Work.{Work, Opener, RunRecord, Stream, begun_frames, most_of, names_of, runs_in_turn}
 use Rattle.join_tale.specs.Ended.{Ended}
 use Rattle.join_tale.specs.Tales.{HasCome, IsBegun, IsSet, Tale, frames_of}
 
@@ -32,7 +34,7 @@ EndedSo t (Inner k) h = Ended t k h
 pub record IsRecordOf (work : Work) (t : Tale) (c : RunRecord) : Type 0 where
   pub frames : c.frames ≡ frames_of t.front
   pub cut : c.cut ≡ t.cut
-  pub memory : t.memory ≡ true → c.memory ≡ true
+  pub memory : c.memory ≡ t.memory
   pub opener : is_some work.opener ≡ true
   pub named : map (λ e. e.who) c.ends ≡ names_of work
   pub told : (e : EndOf) → IsAmong e c.ends → EndedSo t e.who e.how
@@ -43,9 +45,11 @@ pub record IsRecordOf (work : Work) (t : Tale) (c : RunRecord) : Type 0 where
 
 -- what follows of the record
 pub record Follows (work : Work) (c : RunRecord) : Type 0 where
-  pub halted : (e : EndOf) → IsAmong e c.ends → is_halted e.how ≡ true → HasCauseToHalt work c e.who
+  pub halted : (e : EndOf) → IsAmong e c.ends → e.how ≡ how.Halted → HasCauseToHalt work c e.who
   pub stopped : IsStopped work c
-  pub memory : any (λ e. is_memory e.how) c.ends ≡ true → c.memory ≡ true
+  pub memory : (e : EndOf) → IsAmong e c.ends → e.how ≡ how.Memory → c.memory ≡ true
+  pub wanting : c.memory ≡ true → (e : EndOf) × IsAmong e c.ends × ((e.how ≡ how.Memory) ⊎ (e.how ≡ how.Halted))
+  pub in_turn : runs_in_turn work ≡ true → NeverFall (begun_frames c)
   pub numbers : AllByRecursion (λ f. (f.stream < length work.streams) × (0 < length f.payload)) c.frames
   pub few : IfSome (most_of work) (λ n. length (begun_frames c) ≤ n)
 

@@ -10,7 +10,7 @@ use Rattle.interrupt_ctx.specs.declared.why.Why.TheVariants as why
 use Rattle.res_ledger.specs.declared.event.StreamNo.TheVariants.{Inner}
 use Rattle.run_rules.specs.Facts.{is_memory}
 use Rattle.run_rules.specs.Work.{Work, most_of, runs_in_turn, until_by}
-use Rattle.join_tale.specs.Keeping.{IsOuterStopped, IsTale}
+use Rattle.join_tale.specs.Keeping.{IsOuterStopped, IsOwnCode, IsTale}
 use Rattle.join_tale.specs.Tales.{AreCaused, Fate, HasCome, IsBegun, IsCaused, IsFoundSet, IsKnown, IsOpen, Tale, end_of, frames_of, load_of}
 use Rattle.join_tale.specs.Tales.Fate.{Begun, Skipped, Unmade}
 
@@ -66,7 +66,7 @@ pub data Marks (context : ℕ) (w : Why) : List Interruption → List Interrupti
 -- what is known when the end h of stream k is received: u is the tale behind it, and vs was set since
 pub record TellsEnd (work : Work) (u : Tale) (k : ℕ) (h : How) (vs : List Interruption) : Type 0 where
   pub caused : AreCaused work u vs
-  pub halted : h ≡ how.Halted → IsFoundSet u 0 ⊎ IsFoundSet u (suc k)
+  pub halted : h ≡ how.Halted → IsFoundSet u 0 ⊎ IsOwnCode work u k
   pub fault : (c : Code) → h ≡ how.Fault c → IsKnown u 0
   pub memory : h ≡ how.Memory → IsKnown u 0
   pub until : (i : ℕ) → until_by work (Inner i) ≡ Some k → IsKnown u (suc i)
@@ -90,7 +90,7 @@ pub record StepsKeepTale (work : Work) : Type 0 where
   pub starts_met : (vs cs : List Interruption) → Marks 0 why.Take vs cs → most_of work ≡ Some 0 → IsTale work (record (learned first_tale vs cs) { ceased = true })
   pub learns : (t : Tale) (vs cs : List Interruption) → IsTale work t → AreCaused work t vs → IsTale work (learned t vs cs)
   pub begins : (t : Tale) → IsTale work t → MayBegin work t → IsTale work (fated t Begun)
-  pub skips : (t : Tale) → IsTale work t → IsFoundSet t 0 ⊎ IsFoundSet t (suc (length t.fates)) ⊎ IsOuterStopped t → IsTale work (fated t Skipped)
+  pub skips : (t : Tale) → IsTale work t → IsFoundSet t 0 ⊎ IsOwnCode work t (length t.fates) ⊎ IsOuterStopped t → IsTale work (fated t Skipped)
   pub wants : (t : Tale) (vs cs : List Interruption) → Marks 0 why.Memory vs cs → IsTale work t → IsTale work (learned (unmade t) vs cs)
   pub writes : (t : Tale) (k : ℕ) (x : List ℕ) → IsTale work t → t.ceased ≡ false → IsOpen t k → 0 < length x → most_of work ≢ Some (suc (length (frames_of t.front))) → IsTale work (written t k x)
   pub meets : (t : Tale) (k : ℕ) (x : List ℕ) (vs cs : List Interruption) → Marks 0 why.Take vs cs → IsTale work t → t.ceased ≡ false → IsOpen t k → 0 < length x → most_of work ≡ Some (suc (length (frames_of t.front))) → IsTale work (record (learned (written t k x) vs cs) { ceased = true })

@@ -10,7 +10,7 @@ use Rattle.join_tale.specs.Keeping.{IsTale}
 use Rattle.join_tale.specs.Records.{bare}
 use Rattle.join_tale.specs.Steps.{first_tale}
 use Rattle.join_tale.specs.Tales.{Fate, Message, Tale, end_of, load_of}
-use Rattle.join_tale.specs.Tales.Fate.{Begun}
+use Rattle.join_tale.specs.Tales.Fate.{Begun, Skipped}
 
 -- two streams, of which one is open at a time, and two frames at most
 abbrev pub one_stream : Stream
@@ -21,6 +21,14 @@ two_frames = record { tables = []; fault_of = λ bytes. None; value_of = λ byte
 
 abbrev pub two_streams : Work
 two_streams = bare (Some two_frames) (one_stream ∷ one_stream ∷ [])
+
+-- two streams that may be open at once, and two frames at most
+abbrev pub wide_streams : Work
+wide_streams = bare (Some (record two_frames { max_open = 2 })) (one_stream ∷ one_stream ∷ [])
+
+-- two streams, of which one is open at a time, any number of frames, and the end of the second stops the first
+abbrev pub stopped_streams : Work
+stopped_streams = bare (Some (record two_frames { most = None })) (record one_stream { until = Some 1 } ∷ one_stream ∷ [])
 
 -- stream 0 gave A and was done; stream 1 gave B, the last frame, and then C, which came too late, and was done; the outer stream found the code
 abbrev pub worked_tale : Tale
@@ -46,7 +54,7 @@ pub record IsWorked : Type 0 where
 abbrev pub plain_tale : List Message → List Fate → Tale
 plain_tale ms fates = record first_tale { front = ms; fates = fates }
 
--- no tale: a stream is halted for nothing; three frames were printed; a stream was begun behind one that failed; a load came of a stream that wasn't begun, or an empty one; a stream ended twice; no code was set though enough was printed
+-- no tale: a stream is halted for nothing; three frames were printed; a stream was begun behind one that failed; a load came of a stream that wasn't begun, or an empty one; a stream ended twice; no code was set though enough was printed; a frame of stream 0 came behind one of stream 1; memory was wanting for nothing; stream 0 is halted by the end of stream 1, which began only once stream 0 had ended; where two may be open, one was begun behind one that was skipped since the outer stream failed
 pub record AreRefused : Type 0 where
   pub halted_for_nothing : ¬ (IsTale two_streams (plain_tale (end_of 0 how.Halted ∷ []) (Begun ∷ [])))
   pub three_frames : ¬ (IsTale two_streams (plain_tale (load_of 0 (65 ∷ []) ∷ load_of 0 (66 ∷ []) ∷ load_of 0 (67 ∷ []) ∷ []) (Begun ∷ [])))
@@ -54,4 +62,8 @@ pub record AreRefused : Type 0 where
   pub never_begun : ¬ (IsTale two_streams (plain_tale (load_of 1 (65 ∷ []) ∷ []) (Begun ∷ [])))
   pub empty_load : ¬ (IsTale two_streams (plain_tale (load_of 0 [] ∷ []) (Begun ∷ [])))
   pub ended_twice : ¬ (IsTale two_streams (plain_tale (end_of 0 how.Done ∷ end_of 0 (how.Fault code.Read) ∷ []) (Begun ∷ [])))
+  pub frames_fall : ¬ (IsTale stopped_streams (plain_tale (load_of 1 (65 ∷ []) ∷ load_of 0 (66 ∷ []) ∷ end_of 0 how.Done ∷ []) (Begun ∷ Begun ∷ [])))
+  pub wanting_for_nothing : ¬ (IsTale two_streams (record (plain_tale [] (Begun ∷ [])) { set = interruption 0 why.Memory ∷ []; ceased = true; memory = true }))
+  pub halted_by_a_later_end : ¬ (IsTale stopped_streams (record (plain_tale (end_of 0 how.Halted ∷ end_of 1 how.Done ∷ []) (Begun ∷ Begun ∷ [])) { set = interruption 1 why.Until ∷ []; seen = interruption 1 why.Until ∷ [] }))
+  pub begun_behind_skipped : ¬ (IsTale wide_streams (record (plain_tale [] (Skipped ∷ Begun ∷ [])) { outer = Some (how.Fault code.Read); set = interruption 0 why.Fault ∷ []; seen = interruption 0 why.Fault ∷ [] }))
   pub goes_on : ¬ (IsTale two_streams (plain_tale (load_of 0 (65 ∷ []) ∷ load_of 0 (66 ∷ []) ∷ []) (Begun ∷ [])))

@@ -1,5 +1,5 @@
 -- What each call of a main tree keeps.
-use Rattle.std.proofs.Common.{◌≡◌, ◌≢◌, ℕ, suc, ◌<◌, ◌≤◌, ◌⊎◌, Bool, true, false, nat_eq, List, [], ◌∷◌, ◌++◌, Option, Some, None, inl, inr, refl, sym, ap, ◌∙◌, subst, ⊎_elim, arith}
+use Rattle.std.proofs.Common.{◌≡◌, ◌≢◌, ℕ, suc, ◌+◌, ◌<◌, ◌≤◌, ◌⊎◌, Bool, true, false, nat_eq, List, [], ◌∷◌, ◌++◌, length, Option, Some, None, inl, inr, refl, sym, ap, ◌∙◌, subst, ⊎_elim, arith}
 use Rattle.std.specs.List.{IsDistinct}
 use Rattle.chunk_core.specs.declared.code.Exit.{Exit}
 use Rattle.chunk_core.specs.declared.code.Exit.TheVariants.{Canceled}
@@ -10,7 +10,6 @@ use Rattle.chunk_core.proofs.Filters.{among_append, among_right}
 use Rattle.chunk_core.proofs.Members.{among_cons, among_last, among_left, among_nil, among_snoc}
 use Rattle.chunk_core.proofs.Reversed.{reverse_among}
 use Rattle.res_ledger.specs.declared.event.Event.{Event}
-use Rattle.res_ledger.specs.declared.event.StreamNo.{StreamNo}
 use Rattle.res_ledger.specs.declared.event.StreamNo.TheVariants.{Inner, Outer}
 use Rattle.res_ledger.specs.declared.event.What.{What}
 use Rattle.res_ledger.specs.declared.event.What.TheVariants.{Acquire, Cancel, Close, Final, Lease}
@@ -33,25 +32,14 @@ use Rattle.tree_laws.proofs.Along.{called_after}
 use Rattle.tree_laws.proofs.Follows.{called_then}
 use Rattle.tree_laws.proofs.Kept.{events_stay, leases_lent, lent_stays}
 use Rattle.tree_families.specs.Families.{IsFamily, Split}
-use Rattle.tree_families.specs.Pace.{IsInPace, NotesBelow}
 use Rattle.tree_families.proofs.Families.{family_calls}
 use Rattle.join_tree.specs.Mains.{IsMain, IsRoot, Waits}
 use Rattle.join_tree.specs.Progress.{Follow, Progress, closing_root, leasing_next, none_done, reading, skipping}
-use Rattle.join_tree.specs.Notes.{IsOuterNote, IsTold, is_table_note}
+use Rattle.join_tree.specs.Notes.{GivesInPace, IsOuterNote, IsTold, RowsRise, is_table_note}
 use Rattle.join_tree.proofs.Ending.{ended_own}
+use Rattle.join_tree.proofs.Giving.{gives_calm, gives_leases, gives_none, gives_reads, paced_more}
 use Rattle.join_tree.proofs.Queue.{follow_least, follow_other, follow_snoc, waits_less, waits_more, waits_same}
 use Rattle.join_tree.proofs.Telling.{below_or, end_note, notes_more, some_is, table_note, told_calls, note_stays}
-
-pub below_more : {x : ℕ} {L M : List Event} {k : StreamNo} {w : What} → ((e : Event) → IsAmong e L → IsAmong e M) → NotesBelow x L k w → NotesBelow x M k w
-below_more h n = (n.0, h n.0 n.1, n.2, n.3, n.4)
-
-pub paced_more : {width : ℕ} {L M : List Event} {k : StreamNo} {ms : List Split} {m : Split} → ((e : Event) → IsAmong e L → IsAmong e M) → IsInPace width L k ms m → IsInPace width M k ms m
-paced_more h p = record {
-  lease = (p.lease.0, below_more h p.lease.1);
-  next = ⊎_elim (λ l. inl (l.0, below_more h l.1)) (λ c. inr (c.0, below_more h c.1)) p.next;
-  narrow = p.narrow;
-  over = λ q i l. ⊎_elim (λ o. inl o) (λ o. inr (o.0, below_more h o.1)) (p.over q i l);
-}
 
 module _ {P : Type 0} where
   pub root_stays : (b c : Seen P) (o : Option Exit) → KeepsScopes b c → IsRoot b o → IsRoot c o
@@ -120,6 +108,7 @@ module _ {P : Type 0} {ends : P → Exit → Bool → P → Type 0} {width n : �
         told = record {
           outer = λ w x. absurd (nothing x.0 x.1);
           lessor = λ k j s x. absurd (nothing x.0 x.1);
+          acquired = λ r m. absurd (among_nil m);
           leases = λ j l. absurd (let z : j < 0 = l in omega arith);
           root = λ x e. absurd (let z : None ≡ Some x = e in cc);
           dealt = λ j l. absurd (let z : j < 0 = l in omega arith);
@@ -128,6 +117,7 @@ module _ {P : Type 0} {ends : P → Exit → Bool → P → Type 0} {width n : �
           own = λ y m. absurd (among_nil m);
           back = λ y m. absurd (among_nil m);
         };
+        gives = gives_none b.seat.events nothing;
         met = λ m i. absurd (among_nil i);
         home = λ y j i. absurd (among_nil i);
       }
@@ -145,8 +135,8 @@ module _ {P : Type 0} {ends : P → Exit → Bool → P → Type 0} {width n : �
       root
 
   -- a call by which no seat goes out or comes in
-  pub main_calls : (b c : Seen P) (p : Progress P) (ws : List (ℕ × List ℕ)) (next leased : ℕ) (E : List What) (o : Option Exit) (Ds : List (ℕ × List ℕ)) → IsMain ends width n b p → Called ends b Ds c → ((j : ℕ) (T : List ℕ) → IsAmong (j, T) Ds → Lent b.seat j T) → c.seat.had ≡ b.seat.had → c.seat.out ≡ b.seat.out → Follow next ws leased → leased ≤ n → p.next ≤ next → Waits c.seat ws → ((j : ℕ) (T : List ℕ) → IsAmong (j, T) ws → Lent c.seat j T) → IsRoot c o → IsTold (record p { waits = ws; next = next; leased = leased; tables = E; root = o }) c.seat.events → IsMain ends width n c (record p { waits = ws; next = next; leased = leased; tables = E; root = o })
-  main_calls b c p ws next' leased' E o Ds h k lent had out order few older waits lents root told = record {
+  pub main_calls : (b c : Seen P) (p : Progress P) (ws : List (ℕ × List ℕ)) (next leased : ℕ) (E : List What) (o : Option Exit) (Ds : List (ℕ × List ℕ)) → IsMain ends width n b p → Called ends b Ds c → ((j : ℕ) (T : List ℕ) → IsAmong (j, T) Ds → Lent b.seat j T) → c.seat.had ≡ b.seat.had → c.seat.out ≡ b.seat.out → Follow next ws leased → leased ≤ n → p.next ≤ next → Waits c.seat ws → ((j : ℕ) (T : List ℕ) → IsAmong (j, T) ws → Lent c.seat j T) → IsRoot c o → IsTold (record p { waits = ws; next = next; leased = leased; tables = E; root = o }) c.seat.events → GivesInPace width c.seat.events → IsMain ends width n c (record p { waits = ws; next = next; leased = leased; tables = E; root = o })
+  main_calls b c p ws next' leased' E o Ds h k lent had out order few older waits lents root told gives = record {
     family = onward h.family (family_calls b c p.splits Ds h.family k had out lent) k lent;
     shelf = h.shelf;
     room = h.room;
@@ -160,6 +150,7 @@ module _ {P : Type 0} {ends : P → Exit → Bool → P → Type 0} {width n : �
     paced = λ m i. paced_more (events_stay k) (h.paced m i);
     root = root;
     told = told;
+    gives = gives;
     met = λ m i. ⊎_elim (λ x. inl (subst (λ l. IsAmong m.stream l) (sym out) x)) (λ y. inr y) (h.met m i);
     home = λ y j i e m. h.home y j i e (subst (λ l. IsAmong j l) out m);
   }
@@ -181,6 +172,20 @@ module _ {P : Type 0} {ends : P → Exit → Bool → P → Type 0} {width n : �
       (λ e. let w : false ≡ true = ap is_end (sym m.3) ∙ e.1 in cc)
       i)
       (follows_cases b.seat c.seat x f m.0 m.1)
+
+  -- nor does it lease, where that event isn't a Lease: so the pace is kept
+  follows_gives : (b c : Seen P) (p : Progress P) (x : Event) → IsMain ends width n b p → ((e : Event) → IsAmong e b.seat.events → IsAmong e c.seat.events) → Follows (noted b.seat x) c.seat → ((r s : ℕ) → Acquire r s ≡ x.what → ⊥) → ((j s : ℕ) → Lease j s ≡ x.what → ⊥) → GivesInPace width c.seat.events
+  follows_gives b c p x h more f acquires leases =
+      let old : (e : Event) (w : What) → IsAmong e c.seat.events → e.what ≡ w → is_end w ≡ false → (w ≡ x.what → ⊥) → IsAmong e b.seat.events = λ e w m i no other. ⊎_elim
+      (λ o. o)
+      (λ o. ⊎_elim
+      (λ q. absurd (other (sym i ∙ ap (λ (z : Event). z.what) q)))
+      (λ q. let z : false ≡ true = sym no ∙ (ap is_end (sym i) ∙ q.1) in cc)
+      o)
+      (follows_cases b.seat c.seat x f e m) in
+      gives_calm b.seat.events c.seat.events h.gives more
+      (λ e j s m w. old e (Lease j s) m w refl (leases j s))
+      (λ e r s m by w. old e (Acquire r s) m w refl (acquires r s))
 
   -- a stream that had a seat was dealt with
   pub had_older : {b : Seen P} {p : Progress P} → IsMain ends width n b p → (j : ℕ) → IsAmong j b.seat.had → j < p.next
@@ -212,8 +217,8 @@ module _ {P : Type 0} {ends : P → Exit → Bool → P → Type 0} {width n : �
     unleased = λ m. (let l = leased_below h p.leased m in omega arith);
   }
 
-  pub main_leases : (b c : Seen P) (p : Progress P) (T : List ℕ) → IsMain ends width n b p → p.root ≡ None → p.leased < n → Leases b 0 p.leased T c → KeepsScopes b c → IsMain ends width n c (leasing_next p T)
-  main_leases b c p T h none' less o keeps =
+  pub main_leases : (b c : Seen P) (p : Progress P) (T : List ℕ) → IsMain ends width n b p → p.root ≡ None → p.leased < n → length b.seat.out + length p.waits ≤ width → Leases b 0 p.leased T c → KeepsScopes b c → IsMain ends width n c (leasing_next p T)
+  main_leases b c p T h none' less fits o keeps =
       let k = p.leased in
       let v = b.seat in
       let x : Event = leasing_event v k 0 o.stamp in
@@ -233,6 +238,7 @@ module _ {P : Type 0} {ends : P → Exit → Bool → P → Type 0} {width n : �
       (note_stays p (leasing_next p T) (omega arith) (omega arith) (λ y e. e) (λ w i. i))
       more
       (λ e m. ⊎_elim (λ i. inl i) (λ i. inr (ap (λ (z : Event). z.by) i ∙ h.by, subst (λ (z : Event). IsOuterNote (leasing_next p T) z.what) (sym i) (refl, omega arith))) (old e m))
+      (λ r m. notes_more more (h.told.acquired r m))
       (λ j l. ⊎_elim (λ i. notes_more more (h.told.leases j i)) (λ e. subst (λ i. Notes c.seat.events Outer (Lease i 0)) (sym e) now) (below_or j k l))
       (λ y e. notes_more more (h.told.root y e))
       (λ j l. ⊎_elim (λ i. inl i) (λ i. inr (notes_more more i)) (h.told.dealt j l))
@@ -240,6 +246,7 @@ module _ {P : Type 0} {ends : P → Exit → Bool → P → Type 0} {width n : �
       (λ q. h.told.skipped j y (m.0, q, m.2, m.3) i)
       (λ q. let z : Cancel j y ≡ Lease k 0 = sym m.3 ∙ ap (λ (e : Event). e.what) q in cc)
       (old m.0 m.1)))
+      (gives_leases b p h c T fits o)
 
   -- the root was closed
   pub main_closes : (b c : Seen P) (p : Progress P) (x : Exit) → IsMain ends width n b p → p.root ≡ None → ClosesScope ends b 0 x c → IsClosedScope c 0 → IsMain ends width n c (closing_root p x)
@@ -271,6 +278,7 @@ module _ {P : Type 0} {ends : P → Exit → Bool → P → Type 0} {width n : �
       (λ s. inr (s.0 ∙ h.by, end_note q c.seat.events ended e.what s.1 (e, m, s.0 ∙ h.by, refl)))
       i)
       (old e m))
+      (λ r m. notes_more more (h.told.acquired r m))
       (λ j l. notes_more more (h.told.leases j l))
       (λ z e. let s : x ≡ z = some_is x z e in subst (λ i. Notes c.seat.events Outer (Close 0 i)) s now)
       (λ j l. ⊎_elim (λ i. inl i) (λ i. inr (notes_more more i)) (h.told.dealt j l))
@@ -281,6 +289,7 @@ module _ {P : Type 0} {ends : P → Exit → Bool → P → Type 0} {width n : �
       (λ t. let w : false ≡ true = ap is_end (sym m.3) ∙ t.1 in cc)
       s)
       (old m.0 m.1)))
+      (follows_gives b c p y h more f (λ r s e. cc) (λ j s e. cc))
 
   -- the first lease that waits may be cancelled
   pub main_may_cancel : (b : Seen P) (p : Progress P) (us : List (ℕ × List ℕ)) (j : ℕ) (T : List ℕ) → IsMain ends width n b p → p.waits ≡ (j, T) ∷ us → MayCancel b j T
@@ -334,6 +343,7 @@ module _ {P : Type 0} {ends : P → Exit → Bool → P → Type 0} {width n : �
       (λ s. inr (s.0 ∙ h.by, end_note q c.seat.events ended e.what s.1 (e, m, s.0 ∙ h.by, refl)))
       i)
       (old e m))
+      (λ r m. notes_more more (h.told.acquired r m))
       (λ i l. notes_more more (h.told.leases i l))
       (λ z e. notes_more more (h.told.root z e))
       (λ i l. ⊎_elim
@@ -349,10 +359,11 @@ module _ {P : Type 0} {ends : P → Exit → Bool → P → Type 0} {width n : �
       (λ t. let w : false ≡ true = ap is_end (sym m.3) ∙ t.1 in cc)
       s)
       (old m.0 m.1)))
+      (follows_gives b c p y h more f (λ r s e. cc) (λ i s e. cc))
 
   -- calls for the tables
-  pub main_reads : (b c : Seen P) (p : Progress P) (E : List What) → IsMain ends width n b p → p.root ≡ None → Called ends b [] c → StaysAlone b.seat c.seat → IsOpenScope c 0 → ((e : Event) → IsAmong e c.seat.events → IsAmong e b.seat.events ⊎ IsAmong e.what E) → ((w : What) → IsAmong w E → is_table_note w ≡ true) → IsMain ends width n c (reading p E)
-  main_reads b c p E h none' call alone open' new table =
+  pub main_reads : (b c : Seen P) (p : Progress P) (E : List What) → IsMain ends width n b p → p.root ≡ None → Called ends b [] c → StaysAlone b.seat c.seat → IsOpenScope c 0 → ((e : Event) → IsAmong e c.seat.events → IsAmong e b.seat.events ⊎ IsAmong e.what E) → ((w : What) → IsAmong w E → is_table_note w ≡ true) → ((r : ℕ) → IsAmong (Acquire r 0) E → Notes c.seat.events Outer (Acquire r 0)) → ((r : ℕ) → IsAmong (Acquire r 0) E → p.leased ≡ 0) → RowsRise c.seat.events → IsMain ends width n c (reading p E)
+  main_reads b c p E h none' call alone open' new table acquired first rise =
       let v = b.seat in
       let q = reading p E in
       let more : (e : Event) → IsAmong e v.events → IsAmong e c.seat.events = events_stay call in
@@ -374,6 +385,7 @@ module _ {P : Type 0} {ends : P → Exit → Bool → P → Type 0} {width n : �
       (λ i. inl i)
       (λ i. ⊎_elim (λ o. inl o) (λ o. let by = o.0 ∙ alone.by ∙ h.by in inr (by, table_note q E c.seat.events (λ w z. among_right w p.tables E z) table ended e.what i (e, m, by, refl))) (alone.events e m))
       (new e m))
+      (λ r m. ⊎_elim (λ i. notes_more more (h.told.acquired r i)) (λ i. acquired r i) (among_append (Acquire r 0) p.tables E m))
       (λ j l. notes_more more (h.told.leases j l))
       (λ z e. notes_more more (h.told.root z e))
       (λ j l. ⊎_elim (λ i. inl i) (λ i. inr (notes_more more i)) (h.told.dealt j l))
@@ -381,3 +393,7 @@ module _ {P : Type 0} {ends : P → Exit → Bool → P → Type 0} {width n : �
       (λ s. h.told.skipped j z (m.0, s, m.2, m.3) i)
       (λ s. let w : false ≡ true = ap is_table_note (sym m.3) ∙ table m.0.what s in cc)
       (new m.0 m.1)))
+      (gives_reads p v.events c.seat.events h.told h.gives more
+      (λ e j s m w. ⊎_elim (λ i. i) (λ i. let z : false ≡ true = ap is_table_note (sym w) ∙ table e.what i in cc) (new e m))
+      rise
+      (λ e r m w. ⊎_elim (λ i. inl i) (λ i. inr (first r (subst (λ u. IsAmong u E) w i))) (new e m)))

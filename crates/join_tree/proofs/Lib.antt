@@ -1,10 +1,12 @@
 pub mod Queue
 pub mod Telling
 pub mod Ending
+pub mod Giving
 pub mod Growing
 pub mod Passing
 pub mod Keeping
 pub mod Outs
+pub mod Pacing
 pub mod Settling
 pub mod Leavers
 pub mod Paying

@@ -3,13 +3,13 @@ use Rattle.std.proofs.Common.{◌≡◌, ◌≢◌, ℕ, ◌+◌, ◌<◌, ◌�
 use Rattle.std.proofs.lemmas.Bool.{cases_eq}
 use Rattle.std.specs.List.{IsDistinct}
 use Rattle.chunk_core.specs.declared.code.Exit.{Exit}
+use Rattle.chunk_core.specs.declared.code.Exit.TheVariants.{Canceled, Succeeded}
 use Rattle.chunk_core.specs.Lists.{IsAmong}
 use Rattle.chunk_core.specs.Lists.IsAmong.{here, there}
 use Rattle.chunk_core.proofs.Distinct.{distinct_append, distinct_filter, distinct_one}
 use Rattle.chunk_core.proofs.Filters.{among_append, among_filter, among_right, filter_among}
 use Rattle.chunk_core.proofs.Members.{among_cons, among_last, among_left, among_nil, among_snoc}
 use Rattle.res_ledger.specs.declared.event.Event.{Event}
-use Rattle.res_ledger.specs.declared.event.StreamNo.{StreamNo}
 use Rattle.res_ledger.specs.declared.event.StreamNo.TheVariants.{Inner, Outer}
 use Rattle.res_ledger.specs.declared.event.What.{What}
 use Rattle.res_ledger.specs.declared.event.What.TheVariants.{Cancel, Close, Lease}
@@ -19,29 +19,24 @@ use Rattle.res_ledger.proofs.Ledgers.{inner_is}
 use Rattle.row_seat.specs.declared.view.View.{View}
 use Rattle.row_seat.specs.Views.{AreApart, CanJoin, CanSplit, IsWithin, joined, name_of, next_stamp, split_main, split_off, without}
 use Rattle.row_seat.proofs.Members.{among_kept, among_without}
-use Rattle.row_seat.proofs.Splits.{above_each}
 use Rattle.scope_tree.specs.Calls.{AtStart, KeepsScopes, Seen}
 use Rattle.tree_laws.specs.Called.{Called}
 use Rattle.tree_laws.specs.Called.Called.{none, split, taken_in}
 use Rattle.tree_laws.specs.Visits.{HasNothingOpen, IsNewGuest, Visits}
 use Rattle.tree_laws.proofs.Along.{called_after}
-use Rattle.tree_laws.proofs.Cancels.{called_cancel}
 use Rattle.tree_laws.proofs.Guests.{guests_rest, splits_make_guests}
 use Rattle.tree_laws.proofs.Kept.{events_stay, lent_stays}
-use Rattle.tree_families.specs.Families.{CameBack, Split, split_of}
-use Rattle.tree_families.specs.Pace.{IsInPace, NotesBelow}
+use Rattle.tree_families.specs.Families.{Split, split_of}
+use Rattle.tree_families.specs.Pace.{IsInPace}
 use Rattle.tree_families.proofs.Families.{family_joins, family_splits}
 use Rattle.join_tree.specs.Guests.{Guest, IsOut, IsReady}
 use Rattle.join_tree.specs.Mains.{IsMain, Waits}
 use Rattle.join_tree.specs.Progress.{Follow, Progress, joining, splitting}
-use Rattle.join_tree.specs.Notes.{IsTold}
-use Rattle.join_tree.proofs.Growing.{had_older, main_main, not_inner, onward, out_had, paced_more, root_same, root_stays}
+use Rattle.join_tree.specs.Notes.{GivesInPace, IsTold}
+use Rattle.join_tree.proofs.Giving.{below_next, cancel_below, gives_calm, paced_more}
+use Rattle.join_tree.proofs.Growing.{had_older, main_main, not_inner, onward, out_had, root_same, root_stays}
 use Rattle.join_tree.proofs.Queue.{follow_length, follow_other, waits_first, waits_less, waits_same}
 use Rattle.join_tree.proofs.Telling.{notes_more, told_splits}
-
--- what is noted stands below the next stamp
-below_next : (L : List Event) (k : StreamNo) (w : What) → Notes L k w → NotesBelow (next_stamp L) L k w
-below_next L k w n = (n.0, n.1, n.2, n.3, above_each L n.0 n.1)
 
 -- an earlier split is in pace still
 paced_wider : {width : ℕ} (L : List Event) (ms : List Split) (later m : Split) → IsInPace width L Outer ms m → m.stream ≤ later.stream → IsInPace width L Outer (ms ++ later ∷ []) m
@@ -49,19 +44,11 @@ paced_wider L ms later m p less = record {
   lease = p.lease;
   next = p.next;
   narrow = p.narrow;
+  dealt = λ i l. ⊎_elim (λ q. inl (q.0, among_left (later ∷ []) q.1, q.2)) (λ c. inr c) (p.dealt i l);
   over = λ q i l. ⊎_elim (λ o. p.over q o l) (λ e. absurd (let z : q.stream ≡ later.stream = ap (λ (y : Split). y.stream) e in omega arith)) (among_snoc ms q later i);
 }
 
 module _ {P : Type 0} {ends : P → Exit → Bool → P → Type 0} where
-  -- the Cancel of a seat that came back stands below the next stamp
-  cancel_below : (b : Seen P) (m : Split) → CameBack ends b m.stream m.floor → (x : Exit) × NotesBelow (next_stamp b.seat.events) b.seat.events (Inner m.stream) (Cancel m.stream x)
-  cancel_below b m t =
-      let by : t.last.seat.by ≡ Inner m.stream = (called_after t.visit.calls).by ∙ t.visit.guest.by in
-      let c = called_cancel m.stream t.rows t.visit.calls (here []) in
-      let n = c.1 in
-      let k : n.0.by ≡ Inner m.stream = n.2 ∙ by in
-      (c.0, below_next b.seat.events (Inner m.stream) (Cancel m.stream c.0) (n.0, (t.own n.0 k).1 n.1, k, n.3))
-
   pub visit_by : {j n : ℕ} {T : List ℕ} {y : Seen P} → Visits ends j n T y → y.seat.by ≡ Inner j
   visit_by v = (called_after v.calls).by ∙ v.guest.by
 
@@ -105,9 +92,13 @@ module _ {P : Type 0} {ends : P → Exit → Bool → P → Type 0} {width n : �
         lease = (0, below_next L Outer (Lease j 0) (h.told.leases j (omega (size, first, arith))));
         next = ⊎_elim
             (λ l. inl (0, below_next L Outer (Lease (j + 1) 0) (h.told.leases (j + 1) (omega (size, first, long, l, arith)))))
-            (λ c. inr (c.0, below_next L Outer (Close 0 c.0) (h.told.root c.0 c.1)))
+            (λ c. inr (below_next L Outer (Close 0 Succeeded) (h.told.root Succeeded c)))
             ready.ahead;
         narrow = ready.narrow;
+        dealt = λ i l. ⊎_elim
+            (λ q. inl (q.0, among_left (split_of b.seat j ∷ []) q.1, q.2))
+            (λ c. inr (Canceled, below_next L Outer (Cancel i Canceled) c))
+            (h.told.dealt i (omega (l, first, arith)));
         over = λ m i l. ⊎_elim
             (λ o. ⊎_elim (λ y. inl y) (λ t. inr (cancel_below b m t)) (h.family.met m o))
             (λ e. absurd (let z : m.stream ≡ j = ap (λ (y : Split). y.stream) e in omega (l, z, arith)))
@@ -158,6 +149,7 @@ module _ {P : Type 0} {ends : P → Exit → Bool → P → Type 0} {width n : �
             (among_snoc p.splits q m i));
         root = root_same b c p.root (ap (λ u. u.by) seat) events h.root;
         told = subst (λ L. IsTold (splitting p v j us) L) (sym events) (told_splits p v.events m us h.told first);
+        gives = subst (λ L. GivesInPace width L) (sym events) h.gives;
         met = λ q i. ⊎_elim
             (λ o. ⊎_elim (λ a. inl (subst (λ l. IsAmong q.stream l) (sym out) (among_left (j ∷ []) a))) (λ y. inr y) (h.met q o))
             (λ e. inl (subst (λ l. IsAmong q.stream l) (sym out) (subst (λ k. IsAmong k (v.out ++ j ∷ [])) (sym (ap (λ (y : Split). y.stream) e)) (among_last v.out j))))
@@ -184,6 +176,7 @@ module _ {P : Type 0} {ends : P → Exit → Bool → P → Type 0} {width n : �
       record {
         outer = λ w x. t.outer w (only w x);
         lessor = λ k j s x. ⊎_elim (λ i. t.lessor k j s (x.0, i, x.2, x.3)) (λ i. absurd ((visit_own visit x.0 i).1 j s x.3)) (cases x.0 x.1);
+        acquired = λ r m. notes_more more (t.acquired r m);
         leases = λ j l. notes_more more (t.leases j l);
         root = λ x e. notes_more more (t.root x e);
         dealt = λ j l. ⊎_elim (λ i. inl i) (λ x. inr (notes_more more x)) (t.dealt j l);
@@ -220,6 +213,7 @@ module _ {P : Type 0} {ends : P → Exit → Bool → P → Type 0} {width n : �
       let call : Called ends b [] c = taken_in b c y.seat none can apart made in
       let seat : c.seat ≡ joined v y.seat = ap (λ z. z.seat) made in
       let out : c.seat.out ≡ without (name_of y.seat.by) v.out = ap (λ u. u.out) seat in
+      let cases : (e : Event) → IsAmong e c.seat.events → IsAmong e v.events ⊎ IsAmong e y.seat.events = λ e m. among_append e v.events y.seat.events (subst (λ l. IsAmong e l) (ap (λ u. u.events) seat) m) in
       let fewer : (i : ℕ) → IsAmong i c.seat.out → IsAmong i v.out × (i ≢ name_of y.seat.by) = λ i m. among_without (name_of y.seat.by) v.out i (subst (λ l. IsAmong i l) out m) in
       record {
         family = onward h.family (family_joins b c y p.splits g.stream g.rows h.family can apart made (λ m i e. subst (λ z. Visits ends g.stream z g.rows y) (sym (o.floor m i e)) visit) by o.lent) call (λ i U a. absurd (among_nil a));
@@ -235,6 +229,9 @@ module _ {P : Type 0} {ends : P → Exit → Bool → P → Type 0} {width n : �
         paced = λ m i. paced_more (events_stay call) (h.paced m i);
         root = root_stays b c p.root keeps h.root;
         told = told_joins b y p g c.seat.events h o apart (ap (λ u. u.events) seat) visit;
+        gives = gives_calm v.events c.seat.events h.gives (events_stay call)
+            (λ e j s m w. ⊎_elim (λ i. i) (λ i. absurd ((visit_own visit e i).1 j s w)) (cases e m))
+            (λ e r s m k w. ⊎_elim (λ i. i) (λ i. absurd (let z : Outer ≡ Inner g.stream = sym k ∙ ((visit_own visit e i).0 ∙ by) in cc)) (cases e m));
         met = λ m i. ⊎_elim
             (λ a. ⊎_elim
             (λ e. inr (y, among_last p.back y, by ∙ ap Inner (sym e)))

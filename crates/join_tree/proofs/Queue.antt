@@ -1,7 +1,8 @@
 -- The leases that wait.
-use Rattle.std.proofs.Common.{◌≡◌, ◌≢◌, ℕ, suc, ◌+◌, ◌<◌, ◌≤◌, List, [], ◌∷◌, ◌++◌, length, refl, sym, ap, subst, ⊎_elim, arith}
+use Rattle.std.proofs.Common.{◌≡◌, ◌≢◌, ℕ, suc, ◌+◌, ◌<◌, ◌≤◌, ◌⊎◌, List, [], ◌∷◌, ◌++◌, length, map, inl, inr, refl, sym, ap, ◌∙◌, subst, ⊎_elim, arith}
+use Rattle.std.proofs.lemmas.Bool.{cases_eq}
 use Rattle.chunk_core.specs.Lists.{IsAmong}
-use Rattle.chunk_core.specs.Lists.IsAmong.{there}
+use Rattle.chunk_core.specs.Lists.IsAmong.{here, there}
 use Rattle.chunk_core.proofs.Filters.{among_append, among_right}
 use Rattle.chunk_core.proofs.Members.{among_cons, among_last, among_left, among_nil, among_snoc}
 use Rattle.row_seat.specs.declared.view.View.{View}
@@ -28,6 +29,14 @@ follow_range next (w ∷ ws) leased j T f m = ⊎_elim
     (λ e. let k : j ≡ w.0 = ap (λ (z : ℕ × List ℕ). z.0) e in let n = f.0 in let l = follow_least (suc next) ws leased f.1 in ((omega arith), (omega arith)))
     (λ i. let r = follow_range (suc next) ws leased j T f.1 i in let a = r.0 in (omega arith, r.1))
     (among_cons m)
+
+-- what is below `leased` is below `next` or waits
+pub follow_among : (next : ℕ) (ws : List (ℕ × List ℕ)) (leased i : ℕ) → Follow next ws leased → i < leased → (i < next) ⊎ IsAmong i (map (λ w. w.0) ws)
+follow_among next [] leased i f l = inl (omega (f, l, arith))
+follow_among next (w ∷ ws) leased i f l = ⊎_elim
+    (λ e. inr (subst (λ z. IsAmong z (map (λ (y : ℕ × List ℕ). y.0) (w ∷ ws))) (f.0 ∙ sym e) (here (map (λ (y : ℕ × List ℕ). y.0) ws))))
+    (λ ne. ⊎_elim (λ k. inl (omega (k, ne, arith))) (λ m. inr (there w.0 m)) (follow_among (suc next) ws leased i f.1 l))
+    (cases_eq i next)
 
 -- those behind the first are for other streams
 pub follow_other : (next : ℕ) (us : List (ℕ × List ℕ)) (leased j i : ℕ) (T U : List ℕ) → Follow next ((j, T) ∷ us) leased → IsAmong (i, U) us → i ≢ j

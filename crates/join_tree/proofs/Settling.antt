@@ -19,12 +19,14 @@ use Rattle.tree_laws.proofs.Guests.{nothing_among}
 use Rattle.tree_laws.proofs.Room.{called_room}
 use Rattle.tree_laws.proofs.Said.{called_said}
 use Rattle.tree_families.proofs.Families.{family_whole}
-use Rattle.tree_families.proofs.Pacing.{family_ahead, family_within}
+use Rattle.tree_families.proofs.Pacing.{family_ahead, family_begins, family_within}
 use Rattle.join_tree.specs.Laws.{MainMayFinish, MainSettles}
 use Rattle.join_tree.specs.Mains.{IsRoot, Waits}
 use Rattle.join_tree.specs.Progress.{Progress}
-use Rattle.join_tree.specs.Notes.{IsTold}
+use Rattle.join_tree.specs.Notes.{GivesInPace, IsTold}
+use Rattle.join_tree.proofs.Giving.{gives_same}
 use Rattle.join_tree.proofs.Growing.{main_main}
+use Rattle.join_tree.proofs.Pacing.{leases_cover, leases_in_order, outer_waits, rows_rise}
 use Rattle.join_tree.proofs.Queue.{follow_least}
 use Rattle.join_tree.proofs.Telling.{notes_more}
 
@@ -36,6 +38,7 @@ told_same p L M same t =
     record {
       outer = λ w n. t.outer w (notes_more down n);
       lessor = λ k j s n. t.lessor k j s (notes_more down n);
+      acquired = λ r m. notes_more up (t.acquired r m);
       leases = λ j l. notes_more up (t.leases j l);
       root = λ x e. notes_more up (t.root x e);
       dealt = λ j l. ⊎_elim (λ b. inl b) (λ n. inr (notes_more up n)) (t.dealt j l);
@@ -59,14 +62,22 @@ module _ {P : Type 0} {ends : P → Exit → Bool → P → Type 0} where
       let v = b.seat in
       let closed' = subst (λ o. IsRoot b o) root h.root in
       let told : IsTold p L = told_same p v.events L ledger.whole h.told in
+      let gives : GivesInPace width L = gives_same v.events L ledger.whole h.gives in
       let own_end : IsFinishedLedger b v L = record { ledger = ledger; own = λ e k. ((λ m. m), (λ m. m)) } in
       let events : by_stream v.by L ≡ by_stream v.by v.events = called_events v L h.family.start h.family.calls own_end in
       let mine : own Outer L ≡ trace v = ap (λ k. own k L) (sym h.by) ∙ (own_by v.by L ∙ (ap (map (λ (e : Event). e.what)) events ∙ sym (own_by v.by v.events))) in
       record {
         ledger = ledger;
         whole = family_whole b p.splits L h.family out closed' ledger;
-        ahead = family_ahead b p.splits L width h.family h.by out ledger h.paced;
-        within = family_within b p.splits L width h.family h.by out ledger h.paced n;
+        paced = record {
+          ahead = family_ahead b p.splits L width h.family h.by out ledger h.paced;
+          within = family_within b p.splits L width h.family h.by out ledger h.paced n;
+          leases = leases_in_order p L ledger.stamped told gives;
+          waits = outer_waits p L ledger.stamped told gives n;
+          begins = family_begins b p.splits L width h.family h.by out ledger h.paced;
+        };
+        rise = rows_rise p L ledger.stamped told gives;
+        covers = leases_cover p L ledger.stamped told gives ledger.legal;
         told = told;
         scopes = subst (λ E. length (opens E) + 1 ≤ b.scopes) (sym mine) (called_room h.family.start h.room h.family.calls).0;
         names = λ e m. ⊎_elim

@@ -56,14 +56,15 @@ module _ {P : Type 0} where
   table_note q E M more table ended (Final i x ok) m n = ended i x ok n
 
   -- calls of the outer stream, by which no seat comes or goes
-  pub told_calls : (p q : Progress P) (L M : List Event) → IsTold p L → q.splits ≡ p.splits → q.back ≡ p.back → ((w : What) → IsOuterNote p w → IsOuterNote q w) → ((e : Event) → IsAmong e L → IsAmong e M) → ((e : Event) → IsAmong e M → IsAmong e L ⊎ ((e.by ≡ Outer) × IsOuterNote q e.what)) → ((j : ℕ) → j < q.leased → Notes M Outer (Lease j 0)) → ((x : Exit) → q.root ≡ Some x → Notes M Outer (Close 0 x)) → ((j : ℕ) → j < q.next → IsBegun p j ⊎ Notes M Outer (Cancel j Canceled)) → ((j : ℕ) (x : Exit) → Notes M Outer (Cancel j x) → ¬ (IsBegun p j)) → IsTold q M
-  told_calls p q L M t splits back word more new leases root dealt skipped =
+  pub told_calls : (p q : Progress P) (L M : List Event) → IsTold p L → q.splits ≡ p.splits → q.back ≡ p.back → ((w : What) → IsOuterNote p w → IsOuterNote q w) → ((e : Event) → IsAmong e L → IsAmong e M) → ((e : Event) → IsAmong e M → IsAmong e L ⊎ ((e.by ≡ Outer) × IsOuterNote q e.what)) → ((r : ℕ) → IsAmong (Acquire r 0) q.tables → Notes M Outer (Acquire r 0)) → ((j : ℕ) → j < q.leased → Notes M Outer (Lease j 0)) → ((x : Exit) → q.root ≡ Some x → Notes M Outer (Close 0 x)) → ((j : ℕ) → j < q.next → IsBegun p j ⊎ Notes M Outer (Cancel j Canceled)) → ((j : ℕ) (x : Exit) → Notes M Outer (Cancel j x) → ¬ (IsBegun p j)) → IsTold q M
+  told_calls p q L M t splits back word more new acquired leases root dealt skipped =
       let ahead : (j : ℕ) → IsBegun p j → IsBegun q j = λ j b. (b.0, subst (λ l. IsAmong b.0 l) (sym splits) b.1, b.2) in
       let before : (j : ℕ) → IsBegun q j → IsBegun p j = λ j b. (b.0, subst (λ l. IsAmong b.0 l) splits b.1, b.2) in
       let old : (y : Seen P) → IsAmong y q.back → IsAmong y p.back = λ y i. subst (λ l. IsAmong y l) back i in
       record {
         outer = λ w n. subst (λ z. IsOuterNote q z) n.3 (⊎_elim (λ i. word n.0.what (t.outer n.0.what (n.0, i, n.2, refl))) (λ i. i.1) (new n.0 n.1));
         lessor = λ k j s n. ⊎_elim (λ i. t.lessor k j s (n.0, i, n.2, n.3)) (λ i. sym n.2 ∙ i.0) (new n.0 n.1);
+        acquired = acquired;
         leases = leases;
         root = root;
         dealt = λ j l. ⊎_elim (λ b. inl (ahead j b)) (λ n. inr n) (dealt j l);
@@ -90,6 +91,7 @@ module _ {P : Type 0} where
       record {
         outer = λ w n. note_stays p q (omega arith) (omega arith) (λ x r. r) (λ z i. i) w (t.outer w n);
         lessor = t.lessor;
+        acquired = t.acquired;
         leases = t.leases;
         root = t.root;
         dealt = λ j l. ⊎_elim

@@ -1,7 +1,7 @@
 -- The streams whose seats are out.
 use Rattle.std.specs.Prelude.{◌≡◌, ◌⊎◌, ℕ, ◌<◌, ◌≤◌, nat_eq, List, map, length, Some}
 use Rattle.std.specs.List.{IsDistinct}
-use Rattle.chunk_core.specs.declared.code.Exit.{Exit}
+use Rattle.chunk_core.specs.declared.code.Exit.TheVariants.{Succeeded}
 use Rattle.chunk_core.specs.Lists.{IsAmong}
 use Rattle.scope_tree.specs.Calls.{Seen}
 use Rattle.tree_laws.specs.Lent.{Lent}
@@ -27,7 +27,7 @@ module _ {P : Type 0} where
     pub all : (j : ℕ) → IsAmong j b.seat.out → (g : Guest) × IsAmong g gs × (g.stream ≡ j)
     pub apart : IsDistinct nat_eq (map (λ g. g.stream) gs)
 
-  -- the next stream may begin: the one behind it was leased or the root is closed, and fewer than `width` seats are out
+  -- the next stream may begin: the one behind it was leased or the root was closed as succeeded, and fewer than `width` seats are out
   pub record IsReady (width : ℕ) (b : Seen P) (p : Progress P) : Type 0 where
-    pub ahead : (2 ≤ length p.waits) ⊎ ((x : Exit) × (p.root ≡ Some x))
+    pub ahead : (2 ≤ length p.waits) ⊎ (p.root ≡ Some Succeeded)
     pub narrow : length b.seat.out < width

@@ -10,7 +10,7 @@ use Rattle.tree_laws.specs.Lent.{Lent}
 use Rattle.tree_families.specs.Families.{IsFamily, Split}
 use Rattle.tree_families.specs.Pace.{IsInPace}
 use Rattle.join_tree.specs.Progress.{Follow, Progress}
-use Rattle.join_tree.specs.Notes.{IsTold}
+use Rattle.join_tree.specs.Notes.{GivesInPace, IsTold}
 
 module _ {P : Type 0} where
   -- the Leases that the seat keeps are those of ws, each with leases on its rows, and it has no others
@@ -42,6 +42,7 @@ module _ {P : Type 0} where
     pub paced : (m : Split) → IsAmong m p.splits → IsInPace width b.seat.events Outer p.splits m
     pub root : IsRoot b p.root
     pub told : IsTold p b.seat.events
+    pub gives : GivesInPace width b.seat.events
     -- each seat that was split off is out, or its tree is among those that came back, of which none is out
     pub met : (m : Split) → IsAmong m p.splits → IsAmong m.stream b.seat.out ⊎ ((y : Seen P) × IsAmong y p.back × (y.seat.by ≡ Inner m.stream))
     pub home : (y : Seen P) (j : ℕ) → IsAmong y p.back → y.seat.by ≡ Inner j → ¬ (IsAmong j b.seat.out)

@@ -1,13 +1,14 @@
 -- What the ledger tells once all streams are back.
-use Rattle.std.specs.Prelude.{◌≡◌, ◌⊎◌, ℕ, ◌+◌, ◌<◌, ◌≤◌, List, length}
+use Rattle.std.specs.Prelude.{◌≡◌, ◌⊎◌, ℕ, ◌+◌, ◌<◌, ◌≤◌, List, ◌∷◌, ◌++◌, length}
 use Rattle.chunk_core.specs.Lists.{IsAmong}
 use Rattle.res_ledger.specs.declared.event.Event.{Event}
 use Rattle.res_ledger.specs.declared.event.StreamNo.TheVariants.{Inner, Outer}
-use Rattle.res_ledger.specs.declared.event.What.TheVariants.{Acquire}
+use Rattle.res_ledger.specs.declared.event.What.TheVariants.{Acquire, Lease}
+use Rattle.res_ledger.specs.Ledger.{Covers, Notes}
 use Rattle.res_ledger.specs.Order.{firsts}
 use Rattle.res_ledger.specs.Own.{opens, own}
 use Rattle.row_seat.specs.Views.{IsLedgerOf}
-use Rattle.run_rules.specs.Pace.{LeasesAhead, WithinWidth}
+use Rattle.run_rules.specs.Pace.{IsPaced}
 use Rattle.scope_tree.specs.Calls.{Seen}
 use Rattle.scope_tree.specs.Released.{said}
 use Rattle.tree_families.specs.Families.{Split}
@@ -18,11 +19,13 @@ use Rattle.join_tree.specs.Notes.{IsTold}
 
 -- L is the ledger of the main tree b, which is as far as p says, once all streams are back
 pub record Settles {P : Type 0} (width n : ℕ) (b : Seen P) (p : Progress P) (L : List Event) : Type 0 where
-  -- it is lawful, complete and in order; leases are ahead, and no more than `width` of the n streams are open at once
+  -- it is lawful, complete and in order; the n streams were given and begun in pace, and no more than `width` are open at once
   pub ledger : IsLedgerOf b.seat L
   pub whole : IsWholeLedger L
-  pub ahead : LeasesAhead L
-  pub within : WithinWidth width n L
+  pub paced : IsPaced width n L
+  -- the outer stream acquired rows in their order, and each of its leases covers the rows of its root
+  pub rise : (P Q : List Event) (e : Event) (r s q t : ℕ) → L ≡ P ++ e ∷ Q → e.by ≡ Outer → e.what ≡ Acquire r s → Notes P Outer (Acquire q t) → q < r
+  pub covers : (j s r : ℕ) → Notes L Outer (Lease j s) → IsAmong (Acquire r 0) p.tables → Covers L j Outer r
   -- what its events tell; the outer stream opened no more scopes than it had room for
   pub told : IsTold p L
   pub scopes : length (opens (own Outer L)) + 1 ≤ b.scopes

@@ -12,9 +12,12 @@
 //! How far a main tree is stands in a `Progress`, plain data that only contracts see. Each call that is
 //! given a main tree as far as one (`IsMain`) leaves one as far as the next, and asks no more of the
 //! tree but for room: so a loop over streams has `IsMain` as its invariant. Which seats are out stands
-//! beside it, as a list of guests (`AreOut`). A stream may begin once the outer stream is one ahead and
-//! fewer seats than the width are out (`IsReady`): the finished ledger is then in pace. What it tells
-//! of whose events there are is `Settles`.
+//! beside it, as a list of guests (`AreOut`). A stream may begin once the outer stream is one ahead, or
+//! has closed its root as succeeded, and fewer seats than the width are out (`IsReady`); and a stream
+//! is pulled while the seats that are out and the leases that wait are as many as the width at most. So
+//! the finished ledger is in pace: the outer stream acquires its rows in their order, leases the root
+//! for the streams in theirs once its rows are acquired, and of its leases at most the width and one
+//! more stand at once (`GivesInPace`). What the ledger tells is `Settles`.
 //!
 //! Here one stream is given, and never begun; the caller's contract has `IsMain` before and behind it:
 //!

@@ -1,5 +1,5 @@
 //! What the outer stream does: it begins, is pulled, and ends.
-ghost use Rattle.std.specs.Prelude.{◌≡◌, ℕ, ◌+◌, ◌<◌, ◌≤◌, ◌∷◌, List, Some, None};
+ghost use Rattle.std.specs.Prelude.{◌≡◌, ℕ, ◌+◌, ◌<◌, ◌≤◌, ◌∷◌, List, length, Some, None};
 ghost use Rattle.chunk_core.specs.declared.code.Exit.{Exit};
 ghost use Rattle.res_ledger.specs.declared.event.StreamNo.TheVariants.{Outer};
 ghost use Rattle.row_seat.specs.Views.{OthersFit, start};
@@ -33,7 +33,8 @@ where
 }
 
 /// Leases the root for the next stream, or closes it as succeeded where none is left. Where memory
-/// is wanting for the lease nothing was done.
+/// is wanting for the lease nothing was done. The main tree is kept where the seats that are out and
+/// the leases that wait are as many as the width at most.
 pub fn pull<S: RowSeat>(
     alloc: Global,
     tree: &mut Tree<S>,
@@ -46,7 +47,7 @@ where
     requires fits { Fits S.view S.fits tree.old desk.old }
     requires main { (width : ℕ) × (p : Progress S.Pay) × IsMain S.Pay.ends width streams (seen S.view tree.old) p × (p.root ≡ None) × (p.leased ≡ leased) }
     requires free { leased < streams → owed (seen S.view tree.old).seat + 2 ≤ (seen S.view tree.old).seat.spare }
-    ensures pulls { (width : ℕ) (p : Progress S.Pay) → IsMain S.Pay.ends width streams (seen S.view tree.old) p → p.root ≡ None → p.leased ≡ leased → Pulls S.Pay.ends width streams (seen S.view tree.old) (seen S.view tree.new) p result }
+    ensures pulls { (width : ℕ) (p : Progress S.Pay) → IsMain S.Pay.ends width streams (seen S.view tree.old) p → p.root ≡ None → p.leased ≡ leased → length (seen S.view tree.old).seat.out + length p.waits ≤ width → Pulls S.Pay.ends width streams (seen S.view tree.old) (seen S.view tree.new) p result }
     ensures guests { KeepsGuests (seen S.view tree.old) (seen S.view tree.new) }
     ensures rows { KeepsRows (seen S.view tree.old).seat (seen S.view tree.new).seat }
     ensures events { TakesEvents 1 (seen S.view tree.old) (seen S.view tree.new) }

@@ -10,8 +10,8 @@ use Rattle.run_rules.specs.Facts.{at}
 use Rattle.run_rules.specs.Homes.{IsUntouched}
 use Rattle.run_rules.specs.Opening.{IsTableFault}
 use Rattle.run_rules.specs.Wholeness.{AreUnfailed}
-use Rattle.run_rules.specs.Work.{Opener, Stream}
-use Rattle.joined_runs.specs.Together.{first_row_in}
+use Rattle.join_tale.specs.Records.{bare}
+use Rattle.run_rules.specs.Work.{Opener, Stream, first_row_of}
 
 -- Stream k, which has these rows, may be left before it did anything, and wherever it goes on. A fault of it has a device of its rows that shows it; and where nothing failed it is done, and
 -- what it gave is an ideal run.
@@ -29,4 +29,4 @@ RefusesTables opener = (bytes : List ℕ) (c : Code) → opener.fault_of bytes �
 
 -- so is each of these streams
 abbrev pub AreCovered : Opener → List Stream → (ℕ → Values → (ℕ → DeviceTold) → Outcomes) → (ℕ → Values → (ℕ → DeviceTold) → Outcomes) → Values → (ℕ → DeviceTold) → Type 0
-AreCovered opener ss runs ideal values home = (k : ℕ) (s : Stream) → at ss k ≡ Some s → IsCovered runs ideal values k (first_row_in opener ss k) (first_row_in opener ss k + length s.places) home
+AreCovered opener ss runs ideal values home = (k : ℕ) (s : Stream) → at ss k ≡ Some s → IsCovered runs ideal values k (first_row_of (bare (Some opener) ss) k) (first_row_of (bare (Some opener) ss) k + length s.places) home

@@ -1,13 +1,13 @@
 -- The rules of a ledger that an outer stream and the streams that it gives share.
-use Rattle.std.proofs.Common.{◌≡◌, ◌⊎◌, ℕ, suc, ◌+◌, ◌<◌, ◌≤◌, Bool, true, false, ◌&&◌, nat_eq, if◌then◌else◌, List, [], ◌∷◌, ◌++◌, map, flat_map, length, Option, Some, None, refl, sym, ◌∙◌, ap, subst, ⊎_elim, arith, length-append}
-use Rattle.std.proofs.lemmas.Bool.{cases_lt, lt-ltb, or_right}
-use Rattle.std.specs.List.{list_any as any, AllByRecursion}
+use Rattle.std.proofs.Common.{◌≡◌, ℕ, zero, suc, ◌+◌, ◌<◌, ◌≤◌, Bool, nat_eq, if◌then◌else◌, List, [], ◌∷◌, ◌++◌, map, flat_map, length, Option, Some, None, refl, sym, ◌∙◌, ap, subst, ⊎_elim, arith, length-append}
+use Rattle.std.proofs.lemmas.Bool.{cases_lt}
+use Rattle.std.specs.List.{AllByRecursion}
 use Rattle.chunk_core.specs.Lists.{IsAmong}
 use Rattle.chunk_core.specs.Lists.IsAmong.{here, there}
 use Rattle.chunk_core.specs.Outcomes.{Outcomes}
 use Rattle.chunk_core.specs.declared.code.Exit.{Exit}
 use Rattle.chunk_core.specs.declared.code.How.{How}
-use Rattle.chunk_core.proofs.Bools.{and_true, each_passes, itself, or_left}
+use Rattle.chunk_core.proofs.Each.{each_among}
 use Rattle.chunk_core.proofs.Members.{among_mid}
 use Rattle.res_ledger.specs.declared.event.StreamNo.{StreamNo}
 use Rattle.res_ledger.specs.declared.event.StreamNo.TheVariants.{Inner, Outer}
@@ -19,9 +19,9 @@ use Rattle.res_ledger.specs.Own.{opens, opens_of, own}
 use Rattle.res_ledger.specs.Streams.{same_stream}
 use Rattle.res_ledger.proofs.Prefixes.{split_append, split_at}
 use Rattle.device_port.specs.Device.{DeviceTold}
-use Rattle.run_rules.specs.Facts.{acquired_row, at, leased_stream}
-use Rattle.run_rules.specs.Rules.{ClosesBeforeLeaving, HaveScopes, KeepsRules, is_owned, is_ours, may_lease}
-use Rattle.run_rules.specs.Work.{Opener, Stream, Values, Work, names_from, names_of, owners_from, scopes_by}
+use Rattle.run_rules.specs.Facts.{at, leased_stream}
+use Rattle.run_rules.specs.Rules.{ClosesBeforeLeaving, HaveScopes, IsOurs, KeepsRules}
+use Rattle.run_rules.specs.Work.{Opener, Stream, Values, Work, names_from, names_of, owners_from, owners_of, scopes_by}
 use Rattle.plan_work.specs.Joined.{joined, places_in}
 use Rattle.joined_runs.specs.Shares.{AreTablesKept, ClosesRootBelow, IsJoinedLedger, IsOuterNote}
 use Rattle.joined_runs.proofs.MadeRows.{at_some}
@@ -41,17 +41,11 @@ pub record AreSharesKept (opener : Opener) (streams : List Stream) (w : ℕ → 
   pub opened : (k : ℕ) (s : Stream) → at streams k ≡ Some s → length (opens (own (Inner k) L)) ≤ s.scopes
   pub leaves : (k : ℕ) (e : Event) (j : ℕ) (x : Exit) → k < length streams → IsAmong e L → e.by ≡ Inner k → e.what ≡ Cancel j x → (j ≡ k) × ClosesRootBelow e.stamp L (Inner k)
 
--- stream k is one of the streams from j on
-name_found : (k j : ℕ) (ss : List Stream) → j ≤ k → k < j + length ss → any (same_stream (Inner k)) (names_from j ss) ≡ true
-name_found k j [] l m = absurd (omega arith)
-name_found k j (s ∷ ss) l m =
-    ⊎_elim
-    (λ (n : j < k). or_right (nat_eq k j) (any (same_stream (Inner k)) (names_from (suc j) ss)) (name_found k (suc j) ss (omega arith) (omega arith)))
-    (λ (n : k ≤ j). let e : k ≡ j = omega arith in or_left (nat_eq k j) (any (same_stream (Inner k)) (names_from (suc j) ss)) (subst (λ i. nat_eq k i ≡ true) e (itself k)))
-    (le_or j k)
-  where
-    le_or : (a b : ℕ) → (a < b) ⊎ (b ≤ a)
-    le_or a b = grind arith
+-- the streams' names, in order
+pub name_among : (j i k : ℕ) (ss : List Stream) → k ≡ j + i → i < length ss → IsAmong (Inner k) (names_from j ss)
+name_among j i k [] is l = absurd (omega (arith, l))
+name_among j zero k (s ∷ ss) is l = let same : j ≡ k = omega (arith, is) in subst (λ n. IsAmong (Inner n) (Inner j ∷ names_from (suc j) ss)) same (here (names_from (suc j) ss))
+name_among j (suc i) k (s ∷ ss) is l = there (Inner j) (name_among (suc j) i k ss (omega (arith, is)) (omega (arith, l)))
 
 -- what holds of each stream holds of each name
 each_name : (P : StreamNo → Type 0) (j : ℕ) (ss : List Stream) → ((i : ℕ) → i < length ss → P (Inner (j + i))) → AllByRecursion P (names_from j ss)
@@ -63,19 +57,14 @@ each_name P j (s ∷ ss) h =
 same_inner : (j k : ℕ) → Inner j ≡ Inner k → j ≡ k
 same_inner j k e = cc
 
-not_outer : (k : ℕ) → Outer ≡ Inner k → ⊥
+pub not_outer : (k : ℕ) → Outer ≡ Inner k → ⊥
 not_outer k e = cc
 
-module _ (t n : ℕ) (how : How) (owners : List StreamNo) where
-  -- what the outer stream notes it may note, where the first t rows are its own
-  outer_ours : ((r : ℕ) → r < t → at owners r ≡ Some Outer) → (v : What) → IsOuterNote t n how v → (may_lease n Outer (leased_stream v) && is_owned owners Outer (acquired_row v)) ≡ true
-  outer_ours first (Acquire r s) h = ap (λ (o : Option StreamNo). elim o [ Some q ↦ same_stream q Outer | None ↦ false ]) (first r h.0)
-  outer_ours first (Final r x ok) h = refl
-  outer_ours first (Lease j s) h = ap (λ b. (true && b) && true) (lt-ltb j n h.0)
-  outer_ours first (Close s x) h = refl
-  outer_ours first (Cancel j x) h = refl
-  outer_ours first v h = absurd h
+-- who leases nothing leases for no stream
+pub none_leased : (v : What) (j s : ℕ) → leased_stream v ≡ None → v ≡ Lease j s → ⊥
+none_leased v j s none is = let x : Some j ≡ None = ap leased_stream (sym is) ∙ none in cc
 
+module _ (t n : ℕ) (how : How) where
   opens_none : (v : What) → IsOuterNote t n how v → opens_of v ≡ []
   opens_none (Acquire r s) h = refl
   opens_none (Final r x ok) h = refl
@@ -92,11 +81,6 @@ module _ (t n : ℕ) (how : How) (owners : List StreamNo) where
         | Outer ↦ λ q. ap (λ l. l ++ opens (own Outer M)) (opens_none e.what (h e (here M) q)) ∙ rest
         | Inner j ↦ λ q. rest
       ]) refl
-
-  -- a row is acquired by its owner
-  owned_what : (k : ℕ) (v : What) → ((r s : ℕ) → v ≡ Acquire r s → at owners r ≡ Some (Inner k)) → is_owned owners (Inner k) (acquired_row v) ≡ true
-  owned_what k (Acquire r s) h = ap (λ (o : Option StreamNo). elim o [ Some q ↦ same_stream q (Inner k) | None ↦ false ]) (h r s refl) ∙ itself k
-  owned_what k v h = refl
 
 module _ (opener : Opener) (streams : List Stream) (runs ideal : ℕ → Values → (ℕ → DeviceTold) → Outcomes) (w : ℕ → DeviceTold) (how : How) (L : List Event)
     (a : IsJoinedLedger opener.max_open (length opener.tables) (length streams) how L) (t : AreTablesKept (length opener.tables) w L) (k : AreSharesKept opener streams w L) where
@@ -135,17 +119,28 @@ module _ (opener : Opener) (streams : List Stream) (runs ideal : ℕ → Values 
   pub rows_kept : AreRowsKept count w L
   rows_kept = record { legal = a.legal; complete = a.complete; acquired = acquired; each = each; ended = ended }
 
-  ours : (e : Event) → IsAmong e L → is_ours work e ≡ true
+  -- so may b note what e says
+  abbrev IsOursBy : Event → StreamNo → Type 0
+  IsOursBy e b = IsAmong b (names_of work) × ((j s : ℕ) → e.what ≡ Lease j s → (b ≡ Outer) × (j < n)) × ((r s : ℕ) → e.what ≡ Acquire r s → at (owners_of work) r ≡ Some b)
+
+  ours : (e : Event) → IsAmong e L → IsOurs work e
   ours e i =
-      by_whom (λ b. (any (same_stream b) (names_of work) && (may_lease n b (leased_stream e.what) && is_owned (owners_in opener streams) b (acquired_row e.what))) ≡ true) e i
-      (λ o. outer_ours (length opener.tables) n how (owners_in opener streams) (owner_left Outer opener.tables (owners_from 0 streams)) e.what (a.outer_notes e i o))
-      (λ j l o. and_true (any (same_stream (Inner j)) (names_from 0 streams)) (may_lease n (Inner j) (leased_stream e.what) && is_owned (owners_in opener streams) (Inner j) (acquired_row e.what)) (name_found j 0 streams (omega arith) (omega (arith, l)))
-      (subst (λ b. (may_lease n (Inner j) b && is_owned (owners_in opener streams) (Inner j) (acquired_row e.what)) ≡ true) (sym (k.leases j e l i o))
-      (owned_what (length opener.tables) n how (owners_in opener streams) j e.what (λ r s v. (k.acquired j r s l (e, i, o, v)).2))))
+      let x = by_whom (IsOursBy e) e i
+      (λ o. (
+        here (names_from 0 streams),
+        (λ j s v. let y : IsOuterNote (length opener.tables) n how (Lease j s) = subst (λ z. IsOuterNote (length opener.tables) n how z) v (a.outer_notes e i o) in (refl, y.0)),
+        (λ r s v. let y : IsOuterNote (length opener.tables) n how (Acquire r s) = subst (λ z. IsOuterNote (length opener.tables) n how z) v (a.outer_notes e i o) in owner_left Outer opener.tables (owners_from 0 streams) r y.0),
+      ))
+      (λ j l o. (
+        there Outer (name_among 0 j j streams (omega arith) l),
+        (λ m s v. absurd (none_leased e.what m s (k.leases j e l i o) v)),
+        (λ r s v. (k.acquired j r s l (e, i, o, v)).2),
+      )) in
+      record { by = x.0; leases = x.1; owns = x.2 }
 
   scopes : HaveScopes work L
   scopes = (
-    let none = ap length (no_opens (length opener.tables) n how (owners_in opener streams) L a.outer_notes) in omega (arith, none),
+    let none = ap length (no_opens (length opener.tables) n how L a.outer_notes) in omega (arith, none),
     each_name (λ q. length (opens (own q L)) ≤ scopes_by work q) 0 streams (λ i l.
         let s = at_some streams i l in
         let same : i ≡ 0 + i = omega arith in
@@ -181,8 +176,9 @@ module _ (opener : Opener) (streams : List Stream) (runs ideal : ℕ → Values 
     legal = a.legal;
     complete = a.complete;
     ordered = a.ordered;
-    ours = each_passes (is_ours work) L ours;
+    ours = each_among (IsOurs work) L ours;
     scopes = scopes;
     leaving = leaving;
-    pace = (a.ahead, a.narrow);
+    tables = a.tables;
+    pace = a.paced;
   }

@@ -1,10 +1,10 @@
 -- The devices that were made for some of the rows.
-use Rattle.std.proofs.Common.{◌≡◌, ◌⊎◌, ℕ, zero, suc, ◌+◌, ◌<◌, ◌≤◌, Bool, true, false, cond, ◌&&◌, nat_eq, nat_lt, List, [], ◌∷◌, ◌++◌, inl, inr, map, filter, length, count_by, drop, Option, Some, None, IfSome, refl, sym, ◌∙◌, ap, subst, ⊎_elim, arith}
+use Rattle.std.proofs.Common.{◌≡◌, ◌⊎◌, ℕ, zero, suc, ◌+◌, ◌<◌, ◌≤◌, Bool, true, false, cond, nat_eq, nat_lt, List, [], ◌∷◌, ◌++◌, inl, inr, map, filter, length, count_by, drop, Option, Some, None, IfSome, refl, sym, ◌∙◌, ap, subst, ⊎_elim, arith}
 use Rattle.std.proofs.Math.Seq.{drop-append_seam}
-use Rattle.std.proofs.lemmas.Bool.{and_from, cases_Bool, false≢true, lt-ltb, ltb-true, or_left, or_right}
+use Rattle.std.proofs.lemmas.Bool.{cases_Bool, false≢true, ltb-true}
 use Rattle.std.proofs.lemmas.List.Sums.{sum_by-cons}
-use Rattle.std.proofs.lemmas.List.Sorted.{IsPermutation-map, sum_by-IsPermutation}
-use Rattle.std.specs.List.{list_any as any, AllByRecursion, IsDistinct, range_with_len}
+use Rattle.std.proofs.lemmas.List.Sorted.{IsPermutation-map, IsPermutation-sym, sum_by-IsPermutation}
+use Rattle.std.specs.List.{AllByRecursion, IsDistinct, range_with_len}
 use Rattle.std.specs.List.Sorted.{IsPermutation}
 use Rattle.chunk_core.specs.Lists.{IsAmong, has}
 use Rattle.chunk_core.specs.Lists.IsAmong.{here, there}
@@ -12,23 +12,22 @@ use Rattle.chunk_core.specs.declared.code.Code.{Code}
 use Rattle.chunk_core.specs.declared.code.Code.TheVariants as code
 use Rattle.chunk_core.specs.declared.code.How.{How}
 use Rattle.chunk_core.specs.declared.code.How.TheVariants as how
-use Rattle.chunk_core.proofs.Bools.{any_at, has_in, in_has}
+use Rattle.chunk_core.proofs.Bools.{has_in, in_has}
 use Rattle.chunk_core.proofs.Distinct.{distinct_cons, distinct_filter, distinct_head, distinct_nil, distinct_tail}
-use Rattle.chunk_core.proofs.Each.{among_each, among_permuted, each_of, each_permuted}
+use Rattle.chunk_core.proofs.Each.{among_each, among_permuted, each_among, each_of}
 use Rattle.chunk_core.proofs.Filters.{among_filter, filter_among}
 use Rattle.chunk_core.proofs.Members.{among_cons}
 use Rattle.res_ledger.specs.declared.event.Event.{Event}
 use Rattle.device_port.specs.Device.{Place, DeviceTold, faults_of}
-use Rattle.device_port.specs.Depot.{HaveOwnNumbers, DepotTold, Files, KeepsWritten, content_at, device_numbers}
+use Rattle.device_port.specs.Depot.{HaveOwnNumbers, DepotTold, Files, KeepsFilesBut, KeepsWritten, content_at, device_numbers}
 use Rattle.run_rules.specs.Facts.{acquired_row, at, first_numbers, ended_row, failed_row, is_place}
-use Rattle.run_rules.specs.Devices.{AreAsMany, AreNoMore, DevicesAccounted, came_back, is_closed_with, made_for, named, numbered, place_of_row}
-use Rattle.run_rules.specs.Work.{Work, Values, RunRecord, all_places}
-use Rattle.run_rules.specs.Ends.{act_count, is_shown}
-use Rattle.run_rules.specs.Homes.{AreAtHome, HaveHomes, HaveValues, IsBack, IsTied, IsUntouched, is_tried}
+use Rattle.run_rules.specs.Devices.{AreAsMany, AreNoMore, DevicesAccounted, IsShut, IsWrittenBy, OpensWhatIsThere, came_back, is_closed_with, made_for, named, numbered, place_of_row}
+use Rattle.run_rules.specs.Work.{Work, Values, RunRecord, row_places}
+use Rattle.run_rules.specs.Ends.{IsShown, act_count}
+use Rattle.run_rules.specs.Homes.{AreAtHome, AreLeftAlone, HaveHomes, HaveValues, IsBack, IsTied, IsUntouched, is_tried}
 use Rattle.res_ledger.proofs.Mapped.{among_map, map_among}
 use Rattle.res_ledger.proofs.Permuted.{among_range, range_among, range_distinct, same_elements}
 use Rattle.joined_runs.specs.Devices.{AreMade, IsAtRest, IsMade, IsUnmadeAt, MadeComeBack}
-use Rattle.joined_runs.proofs.Places.{place_itself}
 use Rattle.joined_runs.proofs.Counting.{filter_map_is}
 use Rattle.joined_runs.proofs.RowAccounts.{AreRowsKept, acquired_devices, ended_devices, failed_devices, rows_below, tied}
 
@@ -44,11 +43,11 @@ at_some [] i l = absurd (omega arith)
 at_some (y ∷ xs) zero l = (y, refl)
 at_some (y ∷ xs) (suc i) l = at_some xs i (omega arith)
 
--- a place that stands in the list is found there
-pub place_found : (ps : List Place) (i : ℕ) (p : Place) → at ps i ≡ Some p → any (is_place p) ps ≡ true
-place_found [] i p e = cc
-place_found (q ∷ ps) zero p e = let is : q ≡ p = cc in or_left (is_place p q) (any (is_place p) ps) (subst (λ x. is_place p x ≡ true) (sym is) (place_itself p))
-place_found (q ∷ ps) (suc i) p e = or_right (is_place p q) (any (is_place p) ps) (place_found ps i p e)
+-- what stands at a place of the list is one of it
+pub place_found : {A : Type 0} (xs : List A) (i : ℕ) (x : A) → at xs i ≡ Some x → IsAmong x xs
+place_found [] i x e = cc
+place_found (y ∷ xs) zero x e = let is : y ≡ x = cc in subst (λ z. IsAmong z (y ∷ xs)) is (here xs)
+place_found (y ∷ xs) (suc i) x e = there y (place_found xs i x e)
 
 module _ {A B : Type 0} (f : A → B) where
   -- fewer pass where some were left out
@@ -178,9 +177,20 @@ module _ (places : List Place) (old new : DepotTold) (w : ℕ → DeviceTold) (d
       omega (arith, counted, less, whole))
       (map (λ r. (w r).place) d.rows)
 
-  each_shut : (rs : List ℕ) → ((r : ℕ) → IsAmong r rs → IsAtRest (w r)) → AllByRecursion (λ (x : DeviceTold). (x.is_open ≡ false) × (x.closes ≡ x.opens)) (map w rs)
-  each_shut [] rests = tt
-  each_shut (r ∷ rs) rests = let rest = rests r (here rs) in ((rest.shut, ⊎_elim (λ s. s.1 ∙ sym s.0) (λ s. s.1 ∙ sym s.0) rest.stage), each_shut rs (λ q m. rests q (there r m)))
+  shut_by : (x : DeviceTold) → IsAtRest x → OpensWhatIsThere x → IsShut x
+  shut_by x rest found = record {
+    shut = rest.shut;
+    closes = ⊎_elim (λ s. s.1 ∙ sym s.0) (λ s. s.1 ∙ sym s.0) rest.stage;
+    once = ⊎_elim (λ s. let o = s.0 in omega (arith, o)) (λ s. let o = s.0 in omega (arith, o)) rest.stage;
+    there = found;
+  }
+
+  -- a device that came back is that of a row for which one was made
+  back_row : (x : DeviceTold) → IsAmong x d.back → (r : ℕ) × IsAmong r d.rows × (w r ≡ x)
+  back_row x i = among_map w x d.rows (among_permuted d.back (map w d.rows) (IsPermutation-sym (map w d.rows) d.back d.each) x i)
+
+  each_shut : AllByRecursion IsShut d.back
+  each_shut = each_among IsShut d.back (λ x i. let r = back_row x i in shut_by x (subst IsAtRest r.2 (at_rest r.0 r.1)) (among_each OpensWhatIsThere x d.back d.there i))
 
   -- no two rows have one device with which something was tried
   pub apart : HaveOwnNumbers (filter is_tried (map w (first_numbers count)))
@@ -199,25 +209,27 @@ module _ (places : List Place) (old new : DepotTold) (w : ℕ → DeviceTold) (d
 
   -- a row at one of these places whose device counted so
   abbrev pub IsCountedRow : List Place → (DeviceTold → ℕ) → Type 0
-  IsCountedRow ps n = (r : ℕ) × (p : Place) × (at places r ≡ Some p) × (any (is_place p) ps ≡ true) × (0 < n (w r))
+  IsCountedRow ps n = (r : ℕ) × (p : Place) × (at places r ≡ Some p) × IsAmong p ps × (0 < n (w r))
 
-  counted : (ps : List Place) (n : DeviceTold → ℕ) → ((x : DeviceTold) → n x ≤ faults_of x) → IsCountedRow ps n → any (λ (x : DeviceTold). any (is_place x.place) ps && nat_lt 0 (n x)) (came_back old new) ≡ true
+  -- a device that came back, was made for one of these places and counted so
+  abbrev IsCountedBack : List Place → (DeviceTold → ℕ) → Type 0
+  IsCountedBack ps n = (x : DeviceTold) × IsAmong x (came_back old new) × IsAmong x.place ps × (0 < n x)
+
+  counted : (ps : List Place) (n : DeviceTold → ℕ) → ((x : DeviceTold) → n x ≤ faults_of x) → IsCountedRow ps n → IsCountedBack ps n
   counted ps n less (r, p, is, listed, some) =
       let i = tried_made r (at_below places r p is) (omega (arith, less (w r), some)) in
-      subst (λ ds. any (λ (x : DeviceTold). any (is_place x.place) ps && nat_lt 0 (n x)) ds ≡ true) (sym back_is)
-      (any_at (λ x. any (is_place x.place) ps && nat_lt 0 (n x)) (w r) d.back (stood r i)
-      (and_from (any (is_place (w r).place) ps) (nat_lt 0 (n (w r))) (subst (λ q. any (is_place q) ps ≡ true) (sym (placed_at r p is).0) listed) (lt-ltb 0 (n (w r)) some)))
+      (w r, subst (λ ds. IsAmong (w r) ds) (sym back_is) (stood r i), subst (λ q. IsAmong q ps) (sym (placed_at r p is).0) listed, some)
 
-  shown_code : (ps : List Place) (c : Code) → IfSome (act_count c) (IsCountedRow ps) → is_shown (came_back old new) ps (how.Fault c) ≡ true
+  shown_code : (ps : List Place) (c : Code) → IfSome (act_count c) (IsCountedRow ps) → IfSome (act_count c) (IsCountedBack ps)
   shown_code ps code.Open h = counted ps (λ x. x.open_faults) (λ x. omega arith) h
   shown_code ps code.Read h = counted ps (λ x. x.read_faults) (λ x. omega arith) h
   shown_code ps code.Write h = counted ps (λ x. x.write_faults) (λ x. omega arith) h
-  shown_code ps c h = refl
+  shown_code ps c h = tt
 
   -- a fault of an act has a device of a row at one of these places that shows it
-  pub shown : (ps : List Place) (e : How) → ((c : Code) → e ≡ how.Fault c → IfSome (act_count c) (IsCountedRow ps)) → is_shown (came_back old new) ps e ≡ true
+  pub shown : (ps : List Place) (e : How) → ((c : Code) → e ≡ how.Fault c → IfSome (act_count c) (IsCountedRow ps)) → IsShown (came_back old new) ps e
   shown ps (how.Fault c) f = shown_code ps c (f c refl)
-  shown ps e f = refl
+  shown ps e f = tt
 
   module _ (L : List Event) (a : AreRowsKept count w L) where
     opened_in : (r : ℕ) → r < count → (w r).opens ≡ 1 → IsAmong r d.rows
@@ -231,19 +243,18 @@ module _ (places : List Place) (old new : DepotTold) (w : ℕ → DeviceTold) (d
       once = subst (λ ds. IsPermutation (numbered (length old.made) (made_for old new)) (map named ds)) (sym back_is)
           (subst (λ ps. IsPermutation (numbered (length old.made) ps) (map named d.back)) (sym made_is)
           (subst (λ xs. IsPermutation xs (map named d.back)) (names_are old.files places w (length old.made) d.rows d.devices) (IsPermutation-map named (map w d.rows) d.back d.each)));
-      shut = subst (λ ds. AllByRecursion (λ (x : DeviceTold). (x.is_open ≡ false) × (x.closes ≡ x.opens)) ds) (sym back_is)
-          (each_permuted (λ (x : DeviceTold). (x.is_open ≡ false) × (x.closes ≡ x.opens)) (map w d.rows) d.back d.each (each_shut d.rows at_rest));
+      shut = subst (λ ds. AllByRecursion IsShut ds) (sym back_is) each_shut;
       rows = rows_below count w L a;
       acquired = subst (λ ds. AreAsMany (λ d. nat_eq d.opens 1) acquired_row ds places L) (sym back_is) (acquired_devices places w L a d.rows d.apart inside at_rest opened_in in_place d.back d.each);
       failed = subst (λ ds. AreAsMany (λ d. nat_lt 0 d.close_faults) failed_row ds places L) (sym back_is) (failed_devices places w L a d.rows d.apart inside at_rest opened_in in_place d.back d.each);
       exits = λ x. subst (λ ds. AreAsMany (is_closed_with x) (ended_row x) ds places L) (sym back_is) (ended_devices places w L a d.rows d.apart inside at_rest opened_in in_place d.back d.each x);
-      files = d.files;
+      files = subst (λ ds. KeepsFilesBut (IsWrittenBy ds) old.files new.files) (sym back_is) d.files;
       stored = subst (λ ds. AllByRecursion (KeepsWritten new.files) ds) (sym back_is) d.stored;
     }
 
     -- the rows are at home
-    pub homes : (work : Work) (c : RunRecord) (v : Values) → all_places work ≡ places → c.depot_old ≡ old → c.depot_new ≡ new → c.events ≡ L → HaveValues work.opener w v → HaveHomes work c v w
-    homes work c v all is_old is_new is values =
+    pub homes : (work : Work) (c : RunRecord) (v : Values) → row_places work ≡ places → c.depot_old ≡ old → c.depot_new ≡ new → c.events ≡ L → HaveValues work.opener w v → AreLeftAlone work c w → HaveHomes work c v w
+    homes work c v all is_old is_new is values left =
         let back : came_back c.depot_old c.depot_new ≡ d.back = ap (λ x. came_back x c.depot_new) is_old ∙ (ap (λ x. came_back old x) is_new ∙ back_is) in
         record {
           at_home = subst (λ ps. AreAtHome c w 0 ps) (sym all) (at_home_by old.files places w c 0 places (λ r p e.
@@ -253,4 +264,6 @@ module _ (places : List Place) (old new : DepotTold) (w : ℕ → DeviceTold) (d
           apart = subst (λ ps. HaveOwnNumbers (filter is_tried (map w (first_numbers (length ps))))) (sym all) apart;
           tied = subst (λ (l : List Event). AllByRecursion (λ e. IsTied w e.what) l) (sym is) (tied count w L a);
           values = values;
+          alone = left;
+          housed = λ x i. let r = back_row x (subst (λ ds. IsAmong x ds) back i) in (r.0, subst (λ ps. r.0 < length ps) (sym all) (inside r.0 r.1), sym r.2);
         }

@@ -4,9 +4,9 @@ use Rattle.std.proofs.lemmas.Grind.{flat_map-append}
 use Rattle.chunk_core.specs.Elements.{Element, element_text, rendering_of}
 use Rattle.chunk_core.specs.Lists.{IsAmong}
 use Rattle.chunk_core.specs.Lists.IsAmong.{here, there}
+use Rattle.run_rules.specs.Outputs.{elements_in_pieces}
 use Rattle.join_tale.specs.Tales.{Body, Message, loads_of}
 use Rattle.join_tale.specs.Tales.Body.{End, Load}
-use Rattle.joined_runs.specs.Together.{elements_in_pieces}
 
 -- where the images fall into two parts, so do the elements
 pub map_parts : {A B : Type 0} (f : A → B) (zs : List A) (xs ys : List B) → map f zs ≡ xs ++ ys → (ps : List A) × (qs : List A) × (zs ≡ ps ++ qs) × (map f ps ≡ xs) × (map f qs ≡ ys)

@@ -20,9 +20,10 @@ use Rattle.pull_nodes.specs.Csv.{is_too_large, is_uneven, records_of}
 use Rattle.run_rules.specs.Facts.{at}
 use Rattle.run_rules.specs.Opening.{IsTableFault}
 use Rattle.run_rules.specs.Run.{Performs}
-use Rattle.run_rules.specs.Work.{RunRecord, Stream}
+use Rattle.run_rules.specs.Work.{RunRecord, Stream, first_row_of}
+use Rattle.join_tale.specs.Records.{bare}
 use Rattle.plan_work.specs.Plans.{IdealPlanRuns, PlanRuns, opener_of, run_work, stream_of}
-use Rattle.joined_runs.specs.Together.{RunsTogether, first_row_in}
+use Rattle.joined_runs.specs.Together.{RunsTogether}
 use Rattle.joined_runs.proofs.Covered.{AreCovered, IsCovered, RefusesTables}
 use Rattle.joined_runs.proofs.PlanCovered.{plan_covered}
 use Rattle.joined_runs.proofs.StreamRows.{behind_tables, inside}
@@ -77,7 +78,7 @@ rows_same (s ∷ ss) (suc k) =
 
 module _ (p : PlanMeant) where
   -- the rows of a plan's stream begin where those of its work do
-  pub plan_row : (k : ℕ) → first_row p k ≡ first_row_in (opener_of p) (map stream_of p.streams) k
+  pub plan_row : (k : ℕ) → first_row p k ≡ first_row_of (bare (Some (opener_of p)) (map stream_of p.streams)) k
   plan_row k = let m = length-map p.tables (λ (t : TableSpec). to_read t.path) in let i = rows_same p.streams k in omega (arith, m, i)
 
   module _ (limits : IsSoundPlan p) (c : RunRecord) (r : RunsTogether (opener_of p) (map stream_of p.streams) (PlanRuns p) c) where
@@ -94,7 +95,7 @@ module _ (p : PlanMeant) where
     covered : AreCovered (opener_of p) (map stream_of p.streams) (PlanRuns p) (IdealPlanRuns p) r.values r.home
     covered k s is =
         let t = spec_at p.streams k s is in
-        subst (λ (x : Stream). IsCovered (PlanRuns p) (IdealPlanRuns p) r.values k (first_row_in (opener_of p) (map stream_of p.streams) k) (first_row_in (opener_of p) (map stream_of p.streams) k + length x.places) r.home) t.2
+        subst (λ (x : Stream). IsCovered (PlanRuns p) (IdealPlanRuns p) r.values k (first_row_of (bare (Some (opener_of p)) (map stream_of p.streams)) k) (first_row_of (bare (Some (opener_of p)) (map stream_of p.streams)) k + length x.places) r.home) t.2
         (subst (λ n. IsCovered (PlanRuns p) (IdealPlanRuns p) r.values k n (n + row_count t.0) r.home) (plan_row k) (covered_from k s is t.0 t.1 t.2))
 
     -- the work of the plan was done

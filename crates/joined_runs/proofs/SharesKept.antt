@@ -11,8 +11,9 @@ use Rattle.res_ledger.specs.Own.{opens, own}
 use Rattle.res_ledger.proofs.Ledgers.{stream_cases}
 use Rattle.device_port.specs.Device.{DeviceTold}
 use Rattle.run_rules.specs.Facts.{at}
-use Rattle.run_rules.specs.Work.{Opener, RunRecord, Stream}
-use Rattle.joined_runs.specs.Together.{HasNotRun, HasRun, RunsTogether, first_row_in}
+use Rattle.run_rules.specs.Work.{Opener, RunRecord, Stream, first_row_of}
+use Rattle.join_tale.specs.Records.{bare}
+use Rattle.joined_runs.specs.Together.{HasNotRun, HasRun, RunsTogether}
 use Rattle.joined_runs.proofs.JoinedRules.{AreSharesKept}
 use Rattle.joined_runs.proofs.MadeRows.{at_some}
 use Rattle.joined_runs.proofs.StreamRows.{inside, owner_of, row_here}
@@ -28,12 +29,12 @@ own_none k (e ∷ M) h =
 
 module _ (opener : Opener) (ss : List Stream) (runs : ℕ → Values → (ℕ → DeviceTold) → Outcomes) (c : RunRecord) (r : RunsTogether opener ss runs c) where
   -- stream k was begun, or it noted nothing
-  pub silent : (k : ℕ) (s : Stream) → HasNotRun r.home r.tale k (first_row_in opener ss k) s → (e : Event) → IsAmong e c.events → e.by ≢ Inner k
+  pub silent : (k : ℕ) (s : Stream) → HasNotRun r.home r.tale k (first_row_of (bare (Some opener) ss) k) s → (e : Event) → IsAmong e c.events → e.by ≢ Inner k
   silent k s u e i b = u.unbegun (r.recorded.begun e k i b)
 
   -- what follows of stream k, whether it was begun or noted nothing
   by_number : {P : Type 0} (k : ℕ) → k < length ss
-      → ((s : Stream) → at ss k ≡ Some s → HasRun (runs k r.values r.home) r.home r.tale c.events k (first_row_in opener ss k) s → P)
+      → ((s : Stream) → at ss k ≡ Some s → HasRun (runs k r.values r.home) r.home r.tale c.events k (first_row_of (bare (Some opener) ss) k) s → P)
       → (((e : Event) → IsAmong e c.events → e.by ≢ Inner k) → P) → P
   by_number k l ran quiet = let s = at_some ss k l in ⊎_elim (λ h. ran s.0 s.1 h) (λ u. quiet (silent k s.0 u)) (r.each k s.0 s.1)
 

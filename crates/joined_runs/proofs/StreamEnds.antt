@@ -1,44 +1,46 @@
 -- How streams that ran side by side ended, and what their finalizers were told.
-use Rattle.std.proofs.Common.{◌≡◌, ◌≢◌, ℕ, zero, suc, ◌+◌, ◌-◌, ◌<◌, ◌≤◌, true, false, ◌&&◌, ◌||◌, List, [], ◌∷◌, inl, inr, map, length, Option, Some, None, IfSome, refl, sym, ◌∙◌, ap, subst, ⊎_elim, arith}
-use Rattle.std.proofs.lemmas.Bool.{false≢true, or_cases}
+use Rattle.std.proofs.Common.{◌≡◌, ℕ, zero, suc, ◌+◌, ◌-◌, ◌<◌, ◌≤◌, ◌⊎◌, true, List, [], ◌∷◌, inl, inr, map, length, Option, Some, None, is_some, IfSome, refl, sym, ◌∙◌, ap, subst, ⊎_elim, arith}
+use Rattle.std.proofs.lemmas.Bool.{false≢true, true_from_ne_false}
 use Rattle.std.specs.List.{AllByRecursion}
+use Rattle.chunk_core.specs.Elements.{Element}
 use Rattle.chunk_core.specs.Lists.{IsAmong}
 use Rattle.chunk_core.specs.Lists.IsAmong.{here}
 use Rattle.chunk_core.specs.Outcomes.{End, Cut, Done, Fault, Outcomes}
 use Rattle.chunk_core.specs.Tables.{Values}
+use Rattle.chunk_core.specs.Texts.{Frame}
 use Rattle.chunk_core.specs.declared.code.Code.{Code}
 use Rattle.chunk_core.specs.declared.code.How.{How}
 use Rattle.chunk_core.specs.declared.code.How.TheVariants as how
-use Rattle.chunk_core.proofs.Bools.{any_at, any_found}
 use Rattle.chunk_core.proofs.Each.{each_among}
+use Rattle.chunk_core.proofs.Members.{among_nil}
 use Rattle.res_ledger.specs.declared.event.StreamNo.{StreamNo}
 use Rattle.res_ledger.specs.declared.event.StreamNo.TheVariants.{Inner, Outer}
 use Rattle.res_ledger.specs.declared.event.What.{What}
 use Rattle.res_ledger.specs.declared.event.What.TheVariants.{Cancel, Close}
 use Rattle.res_ledger.specs.declared.event.Event.{Event}
-use Rattle.res_ledger.specs.Ledger.{NotesClose}
-use Rattle.res_ledger.specs.Streams.{by_stream, same_stream}
-use Rattle.res_ledger.proofs.Ledgers.{by_in, by_none, by_out}
-use Rattle.res_ledger.proofs.Tests.{name}
+use Rattle.res_ledger.specs.Streams.{by_stream}
+use Rattle.res_ledger.proofs.Ledgers.{by_in, by_none, inner_is}
 use Rattle.device_port.specs.Device.{DeviceTold, Place}
 use Rattle.run_rules.specs.declared.end.EndOf.{EndOf}
 use Rattle.run_rules.specs.Devices.{came_back}
-use Rattle.run_rules.specs.Ends.{EndIsCaused, HasCauseToHalt, HaveEnds, act_count, is_shown}
-use Rattle.run_rules.specs.Exits.{HaveExits, HasExit, is_exit_hidden}
-use Rattle.run_rules.specs.Facts.{acts, at, has_event, is_halted, is_over, is_root_close}
-use Rattle.run_rules.specs.Opening.{HasOuterEnd, IsOuterEnd}
-use Rattle.run_rules.specs.Outputs.{IsReported}
-use Rattle.run_rules.specs.Work.{Opener, RunRecord, Stream}
+use Rattle.run_rules.specs.Ends.{EndIsCaused, HasCauseToHalt, HaveEnds, IsShown, IsSilenced, act_count}
+use Rattle.run_rules.specs.Exits.{HasExit, HasOneExit, HaveExits, IsExitHidden}
+use Rattle.run_rules.specs.Facts.{IsOver, at}
+use Rattle.run_rules.specs.Opening.{HasOuterEnd, OuterHasRun}
+use Rattle.run_rules.specs.Outputs.{IsReported, elements_in_pieces}
+use Rattle.run_rules.specs.Work.{Opener, RunRecord, Stream, first_row_of}
 use Rattle.join_tale.specs.Ended.{Ended}
 use Rattle.join_tale.specs.Ended.Ended.{told, wanting, whole, halted, unmade, skipped}
-use Rattle.join_tale.specs.Records.{EndedSo}
-use Rattle.join_tale.specs.Tales.{Fate}
+use Rattle.join_tale.specs.Records.{EndedSo, bare}
+use Rattle.join_tale.specs.Tales.{Fate, end_of}
 use Rattle.join_tale.specs.Tales.Fate.{Begun, Skipped, Unmade}
 use Rattle.join_tale.proofs.Endings.{come_begun}
+use Rattle.join_tale.proofs.Places.{none_some}
 use Rattle.plan_work.specs.Joined.{places_in}
 use Rattle.joined_runs.specs.Shares.{IsOuterNote, IsShare}
-use Rattle.joined_runs.specs.Together.{RunsTogether, elements_in_pieces, first_row_in}
+use Rattle.joined_runs.specs.Together.{RunsTogether}
 use Rattle.joined_runs.proofs.Covered.{AreCovered, RefusesTables}
+use Rattle.joined_runs.proofs.JoinedRules.{not_outer}
 use Rattle.joined_runs.proofs.MadeRows.{IsCountedRow, at_below, at_some, place_found, shown}
 use Rattle.joined_runs.proofs.SharesKept.{silent}
 use Rattle.joined_runs.proofs.StreamOutputs.{NotRan, Ran, ended_as, follows, left_undone, outputs_law, plain_work, work}
@@ -46,6 +48,9 @@ use Rattle.joined_runs.proofs.StreamRows.{place_of}
 use Rattle.joined_runs.proofs.TableFaults.{outer_shown}
 
 -- Ends as they are reported.
+
+same_fate : (f g : Fate) → Some f ≡ Some g → f ≡ g
+same_fate f g e = cc
 
 pub reported_fault : (e : End) (f : Code) → IsReported e (how.Fault f) → e ≡ Fault f
 reported_fault Done f h = let x : how.Fault f ≡ how.Done = h in cc
@@ -58,21 +63,17 @@ reported_done (Fault k) h = let x : how.Done ≡ how.Fault k = h in cc
 reported_done Cut h = absurd (⊎_elim (λ e. let x : how.Done ≡ how.Halted = e in let y : ⊥ = cc in y) (λ e. let x : how.Done ≡ how.Memory = e in let y : ⊥ = cc in y) h)
 
 -- what was left isn't over, and needs no device that shows it
-cut_not_over : (h : How) → IsReported Cut h → is_over h ≡ true → ⊥
-cut_not_over h is o = ⊎_elim (λ e. false≢true (sym (ap is_over e) ∙ o)) (λ e. false≢true (sym (ap is_over e) ∙ o)) is
+not_over : (g h : How) → h ≡ g → (g ≡ how.Done → ⊥) → ((f : Code) → g ≡ how.Fault f → ⊥) → IsOver h → ⊥
+not_over g h is n m o = ⊎_elim (λ e. n (sym is ∙ e)) (λ f. m f.0 (sym is ∙ f.1)) o
 
-cut_shown : (h : How) (ds : List DeviceTold) (ps : List Place) → IsReported Cut h → is_shown ds ps h ≡ true
-cut_shown h ds ps is = ⊎_elim (λ e. ap (is_shown ds ps) e) (λ e. ap (is_shown ds ps) e) is
+cut_not_over : (h : How) → IsReported Cut h → IsOver h → ⊥
+cut_not_over h is o = ⊎_elim (λ e. not_over how.Halted h e (λ q. cc) (λ f q. cc) o) (λ e. not_over how.Memory h e (λ q. cc) (λ f q. cc) o) is
+
+cut_shown : (h : How) (ds : List DeviceTold) (ps : List Place) → IsReported Cut h → IsShown ds ps h
+cut_shown h ds ps is = ⊎_elim (λ e. subst (IsShown ds ps) (sym e) tt) (λ e. subst (IsShown ds ps) (sym e) tt) is
 
 same_how : (g h : How) → Some g ≡ Some h → g ≡ h
 same_how g h e = cc
-
--- a stream that noted nothing hasn't begun
-silent_acts : (k : StreamNo) (L : List Event) → ((e : Event) → IsAmong e L → e.by ≢ k) → acts k L ≡ true → ⊥
-silent_acts k L quiet t = let f = any_found (λ (e : Event). same_stream e.by k) L t in quiet f.0 f.1 (name f.0.by k f.2)
-
-root_is_closed : (k : StreamNo) (L : List Event) → NotesClose L k 0 → has_event is_root_close (by_stream k L) ≡ true
-root_is_closed k L c = let n = c.1 in any_at (λ (e : Event). is_root_close e.what) n.0 (by_stream k L) (by_out k L n.0 n.1 n.2) (ap is_root_close n.3)
 
 -- What the finalizers were told.
 
@@ -127,42 +128,39 @@ module _ (opener : Opener) (ss : List Stream) (runs ideal : ℕ → Values → (
 
   module _ (refuses : RefusesTables opener) (covers : AreCovered opener ss runs ideal r.values r.home) where
     -- a row of the stream whose device counted so
-    counted_row : (k : ℕ) (s : Stream) → at ss k ≡ Some s → (a : Option (DeviceTold → ℕ)) → IfSome a (λ n. (q : ℕ) × (first_row_in opener ss k ≤ q) × (q < first_row_in opener ss k + length s.places) × (0 < n (r.home q)))
+    counted_row : (k : ℕ) (s : Stream) → at ss k ≡ Some s → (a : Option (DeviceTold → ℕ)) → IfSome a (λ n. (q : ℕ) × (first_row_of (bare (Some opener) ss) k ≤ q) × (q < first_row_of (bare (Some opener) ss) k + length s.places) × (0 < n (r.home q)))
         → IfSome a (IsCountedRow (places_in opener ss) c.depot_old c.depot_new r.home r.devices s.places)
     counted_row k s is None h = tt
     counted_row k s is (Some n) (q, l, u, h) =
-        let p = at_some s.places (q - first_row_in opener ss k) (omega (arith, l, u)) in
-        (q, p.0, place_of opener ss k s is q l u ∙ p.1, place_found s.places (q - first_row_in opener ss k) p.0 p.1, h)
+        let p = at_some s.places (q - first_row_of (bare (Some opener) ss) k) (omega (arith, l, u)) in
+        (q, p.0, place_of opener ss k s is q l u ∙ p.1, place_found s.places (q - first_row_of (bare (Some opener) ss) k) p.0 p.1, h)
 
     -- a fault of a stream has a device of its rows that shows it
-    stream_shown : (k : ℕ) (s : Stream) → at ss k ≡ Some s → Ran opener ss runs ideal c r k s → (h : How) → Ended r.tale k h → is_shown (came_back c.depot_old c.depot_new) s.places h ≡ true
+    stream_shown : (k : ℕ) (s : Stream) → at ss k ≡ Some s → Ran opener ss runs ideal c r k s → (h : How) → Ended r.tale k h → IsShown (came_back c.depot_old c.depot_new) s.places h
     stream_shown k s is x h e =
         shown (places_in opener ss) c.depot_old c.depot_new r.home r.devices s.places h
         (λ f q. counted_row k s is (act_count f) ((covers k s is).shown (elements_in_pieces x.pieces) f (fault_run k s x f (subst (λ g. Ended r.tale k g) q e))))
 
     -- the same by the places that the work has for it
-    by_places : (k : ℕ) (s : Stream) → at ss k ≡ Some s → (h : How) → is_shown (came_back c.depot_old c.depot_new) s.places h ≡ true → is_shown (came_back c.depot_old c.depot_new) (elim (at ss k) [ Some t ↦ t.places | None ↦ [] ]) h ≡ true
-    by_places k s is h e = subst (λ (o : Option Stream). is_shown (came_back c.depot_old c.depot_new) (elim o [ Some t ↦ t.places | None ↦ [] ]) h ≡ true) (sym is) e
+    by_places : (k : ℕ) (s : Stream) → at ss k ≡ Some s → (h : How) → IsShown (came_back c.depot_old c.depot_new) s.places h → IsShown (came_back c.depot_old c.depot_new) (elim (at ss k) [ Some t ↦ t.places | None ↦ [] ]) h
+    by_places k s is h e = subst (λ (o : Option Stream). IsShown (came_back c.depot_old c.depot_new) (elim o [ Some t ↦ t.places | None ↦ [] ]) h) (sym is) e
 
-    caused_by : (q : StreamNo) (h : How) → EndedSo r.tale q h → (is_halted h ≡ true → HasCauseToHalt (work opener ss runs ideal c r) c q) → EndIsCaused (work opener ss runs ideal c r) c (record { who = q; how = h })
+    caused_by : (q : StreamNo) (h : How) → EndedSo r.tale q h → (h ≡ how.Halted → HasCauseToHalt (work opener ss runs ideal c r) c q) → EndIsCaused (work opener ss runs ideal c r) c (record { who = q; how = h })
     caused_by Outer h e cause = record {
       halted = cause;
-      fault = subst (λ g. is_shown (came_back c.depot_old c.depot_new) opener.tables g ≡ true) (outer_so h e) (outer_shown opener ss c r.home r.devices refuses r.outer r.came);
-      root = λ b. root_is_closed Outer c.events r.account.root;
+      fault = subst (λ g. IsShown (came_back c.depot_old c.depot_new) opener.tables g) (outer_so h e) (outer_shown opener ss c r.home r.devices refuses r.outer r.came.end);
+      root = λ b. r.account.root;
     }
     caused_by (Inner k) h e cause =
         let s = stream_of_end k h e in
         ⊎_elim
-        (λ x. record { halted = cause; fault = by_places k s.0 s.1 h (stream_shown k s.0 s.1 x h e); root = λ b. root_is_closed (Inner k) c.events x.share.closed })
+        (λ x. record { halted = cause; fault = by_places k s.0 s.1 h (stream_shown k s.0 s.1 x h e); root = λ b. x.share.closed })
         (λ u.
         let cut = left_undone opener ss runs ideal c r k s.0 u h e in
         record {
           halted = cause;
           fault = by_places k s.0 s.1 h (cut_shown h (came_back c.depot_old c.depot_new) s.0.places cut);
-          root = λ b. absurd (⊎_elim
-              (λ o. cut_not_over h cut o)
-              (λ o. ⊎_elim (λ a. silent_acts (Inner k) c.events (silent opener ss runs c r k s.0 u) a) (λ f. false≢true f) (or_cases (acts (Inner k) c.events) false o))
-              (or_cases (is_over h) (acts (Inner k) c.events || false) b));
+          root = λ b. absurd (⊎_elim (λ o. cut_not_over h cut o) (λ o. ⊎_elim (λ a. silent opener ss runs c r k s.0 u a.0 a.1 a.2) (λ q. not_outer k (sym q)) o) b);
         })
         (r.each k s.0 s.1)
 
@@ -170,7 +168,7 @@ module _ (opener : Opener) (ss : List Stream) (runs ideal : ℕ → Values → (
     outer_first [] names is n = cc
     outer_first (e ∷ es) names is n =
         let who : e.who ≡ Outer = cc in
-        subst (λ h. IsOuterEnd opener (length ss) c r.home h) (outer_so e.how (subst (λ q. EndedSo r.tale q e.how) who (r.recorded.told e (subst (λ l. IsAmong e l) (sym is) (here es))))) r.came
+        subst (λ h. OuterHasRun opener (length ss) c r.home h) (outer_so e.how (subst (λ q. EndedSo r.tale q e.how) who (r.recorded.told e (subst (λ l. IsAmong e l) (sym is) (here es))))) r.came
 
     pub stream_ends : HaveEnds (work opener ss runs ideal c r) c r.home
     stream_ends =
@@ -179,28 +177,63 @@ module _ (opener : Opener) (ss : List Stream) (runs ideal : ℕ → Values → (
           named = r.recorded.named;
           caused = each_among (EndIsCaused (work opener ss runs ideal c r) c) c.ends (λ e i. caused_by e.who e.how (r.recorded.told e i) (f.halted e i));
           outer = outer_first c.ends _ refl r.recorded.named;
-          stopped = record { in_turn = f.stopped.in_turn; nobody = f.stopped.nobody };
+          stopped = record { failed = f.stopped.failed; silenced = f.stopped.silenced; ended = f.stopped.ended; halted = f.stopped.halted; nobody = f.stopped.nobody };
           memory = f.memory;
+          wanting = f.wanting;
         }
 
-  -- a stream whose exit isn't hidden isn't halted
-  not_halted : (h : How) → (is_halted h && true) ≡ false → h ≢ how.Halted
-  not_halted h e q = false≢true (sym e ∙ ap (λ g. is_halted g && true) q)
-
-  exits_by : (q : StreamNo) (h : How) → EndedSo r.tale q h → is_exit_hidden (work opener ss runs ideal c r) (record { who = q; how = h }) ≡ false → AllByRecursion (λ x. HasExit (record { who = q; how = h }) x.what) (by_stream q c.events)
-  exits_by Outer h e open_to = outer_exits (length opener.tables) (length ss) h c.events (subst (λ g. (x : Event) → IsAmong x c.events → x.by ≡ Outer → IsOuterNote (length opener.tables) (length ss) g x.what) (outer_so h e) r.account.outer_notes)
-  exits_by (Inner k) h e open_to =
-      let s = stream_of_end k h e in
+  -- where frames had ceased, a halted stream's exit may be hidden
+  ceased_hides : r.tale.ceased ≡ true → IsSilenced (work opener ss runs ideal c r) c ⊎ (c.memory ≡ true)
+  ceased_hides t =
       ⊎_elim
-      (λ x. ⊎_elim
-      (λ m. subst (λ g. AllByRecursion (λ (y : Event). HasExit (record { who = Inner k; how = g }) y.what) (by_stream (Inner k) c.events)) (ended_as opener ss runs ideal c r k s.0 x h m) (share_exits k (first_row_in opener ss k) (first_row_in opener ss k + length s.0.places) s.0.scopes r.home x.how c.events x.share))
-      (λ u. absurd (let q : Begun ≡ Unmade = same_fate Begun Unmade (sym x.begun ∙ u.0) in let y : ⊥ = cc in y))
-      ((outputs_law opener ss runs ideal c r).told r.tale k h r.is_tale e (not_halted h open_to)))
-      (λ u. subst (λ l. AllByRecursion (λ (y : Event). HasExit (record { who = Inner k; how = h }) y.what) l) (sym (by_none (Inner k) c.events (silent opener ss runs c r k s.0 u))) tt)
-      (r.each k s.0 s.1)
-    where
-      same_fate : (f g : Fate) → Some f ≡ Some g → f ≡ g
-      same_fate f g e = cc
+      (λ m. inl (inr (m ∙ ap (λ (F : List Frame). Some (length F)) (sym r.recorded.frames))))
+      (λ x. ⊎_elim (λ u. inl (inl (λ z. false≢true (ap is_some (sym z ∙ r.recorded.cut) ∙ u)))) (λ m. inr (r.recorded.memory ∙ m)) x)
+      (r.is_tale.frames.ceased t)
 
-  pub stream_exits : HaveExits (work opener ss runs ideal c r) c
-  stream_exits = each_among (λ (e : EndOf). is_exit_hidden (work opener ss runs ideal c r) e ≡ false → AllByRecursion (λ (x : Event). HasExit e x.what) (by_stream e.who c.events)) c.ends (λ e i open_to. exits_by e.who e.how (r.recorded.told e i) open_to)
+  -- the end of a stream that was begun is the one that is reported, unless that is hidden
+  told_so : (k : ℕ) (s : Stream) (x : Ran opener ss runs ideal c r k s) (h : How) → Ended r.tale k h → (x.how ≡ h) ⊎ IsExitHidden (work opener ss runs ideal c r) c (record { who = Inner k; how = h })
+  told_so k s x h (told m) = inl (ended_as opener ss runs ideal c r k s x h (inl m))
+  told_so k s x h (wanting m q) = inl (ended_as opener ss runs ideal c r k s x how.Memory (inr m) ∙ sym q)
+  told_so k s x h (whole m n q) = inl (ended_as opener ss runs ideal c r k s x how.Done (inr m) ∙ sym q)
+  told_so k s x h (halted e m n l q) =
+      let late : r.tale.late ≡ [] → ⊥ = λ z. among_nil (subst (λ ms. IsAmong (end_of k e) ms) z m) in
+      inr (record {
+        beside = λ z. none_some (sym z);
+        inner = λ z. not_outer k (sym z);
+        halted = q;
+        ceased = ceased_hides (true_from_ne_false r.tale.ceased (λ f. late (r.is_tale.frames.quiet f).0));
+      })
+  told_so k s x h (unmade e q) = absurd (let b : Begun ≡ Unmade = same_fate Begun Unmade (sym x.begun ∙ e) in let y : ⊥ = cc in y)
+  told_so k s x h (skipped e q) = absurd (let b : Begun ≡ Skipped = same_fate Begun Skipped (sym x.begun ∙ e) in let y : ⊥ = cc in y)
+
+  module _ (covers : AreCovered opener ss runs ideal r.values r.home) where
+    -- stream k has a run over these devices whose end is reported so
+    abbrev HasRunTo : How → ℕ → Type 0
+    HasRunTo h k = (ys : List Element) × (g : End) × runs k r.values r.home ys g × IsReported g h
+
+    exits_by : (q : StreamNo) (h : How) → EndedSo r.tale q h → HasOneExit (work opener ss runs ideal c r) c r.values r.home (record { who = q; how = h })
+    exits_by Outer h e = record {
+      how = h;
+      same = inl refl;
+      told = outer_exits (length opener.tables) (length ss) h c.events (subst (λ g. (x : Event) → IsAmong x c.events → x.by ≡ Outer → IsOuterNote (length opener.tables) (length ss) g x.what) (outer_so h e) r.account.outer_notes);
+      ran = λ j q. absurd (not_outer j q);
+    }
+    exits_by (Inner k) h e =
+        let s = stream_of_end k h e in
+        ⊎_elim
+        (λ x. record {
+          how = x.how;
+          same = told_so k s.0 x h e;
+          told = share_exits k (first_row_of (bare (Some opener) ss) k) (first_row_of (bare (Some opener) ss) k + length s.0.places) s.0.scopes r.home x.how c.events x.share;
+          ran = λ j q. subst (HasRunTo x.how) (inner_is k j q) (elements_in_pieces x.pieces, x.end, x.run, x.reported);
+        })
+        (λ u. record {
+          how = h;
+          same = inl refl;
+          told = subst (λ l. AllByRecursion (λ (y : Event). HasExit (record { who = Inner k; how = h }) y.what) l) (sym (by_none (Inner k) c.events (silent opener ss runs c r k s.0 u))) tt;
+          ran = λ j q. subst (HasRunTo h) (inner_is k j q) ([], Cut, (covers k s.0 s.1).idle u.untouched, left_undone opener ss runs ideal c r k s.0 u h e);
+        })
+        (r.each k s.0 s.1)
+
+    pub stream_exits : HaveExits (work opener ss runs ideal c r) c r.values r.home
+    stream_exits = each_among (HasOneExit (work opener ss runs ideal c r) c r.values r.home) c.ends (λ e i. exits_by e.who e.how (r.recorded.told e i))

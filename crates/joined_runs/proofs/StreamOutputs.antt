@@ -1,6 +1,5 @@
 -- What was printed of streams that ran side by side.
-use Rattle.std.proofs.Common.{◌≡◌, ℕ, suc, ◌+◌, ◌<◌, List, [], ◌∷◌, ◌++◌, inl, map, flat_map, drop, length, Option, Some, None, refl, sym, ◌∙◌, ap, subst, ⊎_elim, arith, append-nil, append_assoc}
-use Rattle.std.proofs.lemmas.Grind.{flat_map-append}
+use Rattle.std.proofs.Common.{◌≡◌, ℕ, suc, ◌+◌, ◌<◌, true, false, cond, if◌then◌else◌, nat_eq, filter, List, [], ◌∷◌, ◌++◌, inl, map, flat_map, drop, length, Option, Some, None, refl, sym, ◌∙◌, ap, subst, ⊎_elim, arith, append-nil, append_assoc}
 use Rattle.chunk_core.specs.Elements.{Element, rendering_of}
 use Rattle.chunk_core.specs.Lists.{IsAmong}
 use Rattle.chunk_core.specs.Lists.IsAmong.{here, there}
@@ -12,26 +11,37 @@ use Rattle.res_ledger.specs.declared.event.StreamNo.TheVariants.{Inner, Outer}
 use Rattle.device_port.specs.Device.{DeviceTold}
 use Rattle.run_rules.specs.declared.end.EndOf.{EndOf}
 use Rattle.run_rules.specs.Facts.{at}
-use Rattle.run_rules.specs.Outputs.{AreOutputs, HaveOutputs, IsOutput, IsReported, IsRest}
-use Rattle.run_rules.specs.Work.{Opener, RunRecord, Stream, Work, names_from}
+use Rattle.run_rules.specs.Outputs.{AreOutputs, HaveOutputs, IsOutput, IsReported, IsRest, elements_in_pieces, payloads_by}
+use Rattle.run_rules.specs.Work.{Opener, RunRecord, Stream, Work, names_from, first_row_of}
 use Rattle.join_tale.specs.Ended.{Ended}
 use Rattle.join_tale.specs.Laws.{OutputsFollow}
 use Rattle.join_tale.specs.Records.{EndedSo, Follows, bare}
-use Rattle.join_tale.specs.Tales.{Came, IsBegun, loads_of}
+use Rattle.join_tale.specs.Tales.{Body, Came, IsBegun, Message, frames_in, frames_of, loads_in, loads_of}
+use Rattle.join_tale.specs.Tales.Body.{End, Load}
 use Rattle.join_tale.proofs.Endings.{come_begun, outputs_follow}
 use Rattle.join_tale.proofs.Stopping.{record_follows}
 use Rattle.plan_work.specs.Joined.{joined}
-use Rattle.joined_runs.specs.Together.{HasNotRun, HasRun, RunsTogether, elements_in_pieces, first_row_in}
+use Rattle.joined_runs.specs.Together.{HasNotRun, HasRun, RunsTogether}
 use Rattle.joined_runs.proofs.Covered.{AreCovered}
 use Rattle.joined_runs.proofs.MadeRows.{at_below, at_some}
 use Rattle.joined_runs.proofs.Parted.{elements_both, loads_none, map_parts, rendered}
 
+one_more : (k : ℕ) (ms : List Message) → payloads_by k (frames_of ms) ≡ loads_of k ms → (n : ℕ) (b : Body) → payloads_by k (frames_in (record { stream = n; body = b }) ++ frames_of ms) ≡ loads_in k (record { stream = n; body = b }) ++ loads_of k ms
+one_more k ms rest n (Load x) =
+    elim (nat_eq n k) as (λ t. map (λ (f : Frame). f.payload) (cond t (record { stream = n; payload = x } ∷ filter (λ f. nat_eq f.stream k) (frames_of ms)) (filter (λ f. nat_eq f.stream k) (frames_of ms))) ≡ (if t then x ∷ [] else []) ++ loads_of k ms) [
+      | true ↦ ap (λ xs. x ∷ xs) rest
+      | false ↦ rest
+    ]
+one_more k ms rest n (End h) = elim (nat_eq n k) as (λ t. payloads_by k (frames_of ms) ≡ (if t then [] else []) ++ loads_of k ms) [ true ↦ rest | false ↦ rest ]
+
+-- the payloads of the frames of stream k are its loads
+frames_loads : (k : ℕ) (ms : List Message) → payloads_by k (frames_of ms) ≡ loads_of k ms
+frames_loads k [] = refl
+frames_loads k (m ∷ ms) = one_more k ms (frames_loads k ms) m.stream m.body
+
 -- the loads one after another
 abbrev together : List (List ℕ) → List ℕ
 together loads = flat_map (λ x. x) loads
-
-together_snoc : (loads : List (List ℕ)) (x : List ℕ) → together loads ++ x ≡ together (loads ++ x ∷ [])
-together_snoc loads x = sym (flat_map-append (λ (y : List ℕ). y) loads (x ∷ []) ∙ ap (λ l. together loads ++ l) (append-nil x))
 
 module _ (work : Work) (v : Values) (w : ℕ → DeviceTold) (F : List Frame) where
   -- the outputs of streams by their ends, of which these are the names
@@ -64,10 +74,10 @@ module _ (opener : Opener) (ss : List Stream) (runs ideal : ℕ → Values → (
 
   -- stream k was begun, or it was not
   abbrev pub Ran : ℕ → Stream → Type 0
-  Ran k s = HasRun (runs k r.values r.home) r.home r.tale c.events k (first_row_in opener ss k) s
+  Ran k s = HasRun (runs k r.values r.home) r.home r.tale c.events k (first_row_of (bare (Some opener) ss) k) s
 
   abbrev pub NotRan : ℕ → Stream → Type 0
-  NotRan k s = HasNotRun r.home r.tale k (first_row_in opener ss k) s
+  NotRan k s = HasNotRun r.home r.tale k (first_row_of (bare (Some opener) ss) k) s
 
   -- a stream that was begun is one of the streams
   pub begun_below : (k : ℕ) → IsBegun r.tale k → k < length ss
@@ -88,11 +98,17 @@ module _ (opener : Opener) (ss : List Stream) (runs ideal : ℕ → Values → (
   printed_loads : (k : ℕ) → payloads_of k c.frames ≡ together (loads_of k r.tale.front)
   printed_loads k = ap (payloads_of k) r.recorded.frames ∙ outputs_law.payloads k r.tale.front
 
+  -- the frames of stream k are its loads that came while frames were written
+  framed : (k : ℕ) → payloads_by k c.frames ≡ loads_of k r.tale.front
+  framed k = ap (payloads_by k) r.recorded.frames ∙ frames_loads k r.tale.front
+
+  -- where no load came too late, all pieces were
+  all_came : (k : ℕ) (s : Stream) (x : Ran k s) → loads_of k r.tale.late ≡ [] → loads_of k r.tale.front ≡ map rendering_of x.pieces
+  all_came k s x none = sym (append-nil (loads_of k r.tale.front)) ∙ (ap (λ l. loads_of k r.tale.front ++ l) (sym none) ∙ x.received)
+
   -- where no load came too late, all pieces were printed
   pub whole_printed : (k : ℕ) (s : Stream) (x : Ran k s) → loads_of k r.tale.late ≡ [] → payloads_of k c.frames ≡ rendering_of (elements_in_pieces x.pieces)
-  whole_printed k s x none =
-      let all : loads_of k r.tale.front ≡ map rendering_of x.pieces = sym (append-nil (loads_of k r.tale.front)) ∙ (ap (λ l. loads_of k r.tale.front ++ l) (sym none) ∙ x.received) in
-      printed_loads k ∙ (ap together all ∙ rendered x.pieces)
+  whole_printed k s x none = printed_loads k ∙ (ap together (all_came k s x none) ∙ rendered x.pieces)
 
   -- a front of the pieces is that of a run that was left
   module _ (covers : AreCovered opener ss runs ideal r.values r.home) where
@@ -103,18 +119,18 @@ module _ (opener : Opener) (ss : List Stream) (runs ideal : ℕ → Values → (
     ran_output : (k : ℕ) (s : Stream) → at ss k ≡ Some s → Ran k s → (h : How) → Ended r.tale k h → IsOutput work r.values r.home c.frames k h
     ran_output k s is x h e =
         ⊎_elim
-        (λ w. record { elements = elements_in_pieces x.pieces; end = x.end; run = x.run; printed = whole_printed k s x w.1; reported = subst (λ z. IsReported x.end z) (ended_as k s x h w.0) x.reported })
+        (λ w. record { pieces = x.pieces; end = x.end; run = x.run; printed = framed k ∙ all_came k s x w.1; reported = subst (λ z. IsReported x.end z) (ended_as k s x h w.0) x.reported })
         (λ cut.
         let p = map_parts rendering_of x.pieces (loads_of k r.tale.front) (loads_of k r.tale.late) (sym x.received) in
-        record { elements = elements_in_pieces p.0; end = Cut; run = front_run k s is x p.0 p.1 p.2; printed = printed_loads k ∙ (ap together (sym p.3) ∙ rendered p.0); reported = cut })
+        record { pieces = p.0; end = Cut; run = front_run k s is x p.0 p.1 p.2; printed = framed k ∙ sym p.3; reported = cut })
         (outputs_law.ended r.tale k h r.is_tale e)
 
     unbegun_output : (k : ℕ) (s : Stream) → at ss k ≡ Some s → NotRan k s → (h : How) → Ended r.tale k h → IsOutput work r.values r.home c.frames k h
     unbegun_output k s is u h e = record {
-      elements = [];
+      pieces = [];
       end = Cut;
       run = (covers k s is).idle u.untouched;
-      printed = printed_loads k ∙ ap together (loads_none k r.tale.front (λ m i q. u.unbegun (subst (λ j. IsBegun r.tale j) q (r.is_tale.frames.ours m (inl i)).0)));
+      printed = framed k ∙ loads_none k r.tale.front (λ m i q. u.unbegun (subst (λ j. IsBegun r.tale j) q (r.is_tale.frames.ours m (inl i)).0));
       reported = left_undone k s u h e;
     }
 
@@ -139,9 +155,9 @@ module _ (opener : Opener) (ss : List Stream) (runs ideal : ℕ → Values → (
           more = h.0;
           front = h.1;
           text = h.2;
-          elements = elements_in_pieces p.0;
+          pieces = p.0;
           run = front_run f.stream s.0 s.1 x p.0 p.1 p.2;
-          goes_on = ap (λ l. l ++ f.payload) (printed_loads f.stream) ∙ (together_snoc front f.payload ∙ (ap together (sym p.3) ∙ rendered p.0));
+          goes_on = ap (λ l. l ++ f.payload ∷ []) (framed f.stream) ∙ sym p.3;
         })
         (λ u. absurd (u.unbegun q.0))
         (r.each f.stream s.0 s.1)
@@ -155,4 +171,4 @@ module _ (opener : Opener) (ss : List Stream) (runs ideal : ℕ → Values → (
         output_of k s (subst (λ n. at ss n ≡ Some s) number stands) x.how (subst (λ q. EndedSo r.tale q x.how) who (r.recorded.told x (subst (λ l. IsAmong x l) (sym is) (there e m)))))
 
     pub stream_outputs : HaveOutputs work c r.values r.home
-    stream_outputs = record { numbers = follows.numbers; few = follows.few; outputs = outputs_by c.ends refl r.recorded.named; rest = rest_of c.cut refl r.rest }
+    stream_outputs = record { numbers = follows.numbers; few = follows.few; in_turn = follows.in_turn; outputs = outputs_by c.ends refl r.recorded.named; rest = rest_of c.cut refl r.rest }

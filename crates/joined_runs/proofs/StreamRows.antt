@@ -7,9 +7,9 @@ use Rattle.std.proofs.lemmas.List.Sums.{sum_by-cons}
 use Rattle.res_ledger.specs.declared.event.StreamNo.TheVariants.{Inner, Outer}
 use Rattle.device_port.specs.Device.{Place}
 use Rattle.run_rules.specs.Facts.{at}
-use Rattle.run_rules.specs.Work.{Opener, Stream, owners_from}
+use Rattle.run_rules.specs.Work.{Opener, Stream, owners_from, first_row_of}
+use Rattle.join_tale.specs.Records.{bare}
 use Rattle.plan_work.specs.Joined.{places_in}
-use Rattle.joined_runs.specs.Together.{first_row_in}
 use Rattle.joined_runs.proofs.JoinedRules.{owners_in}
 use Rattle.joined_runs.proofs.RowPlaces.{at_each, at_left, at_right, owner_right}
 
@@ -96,7 +96,7 @@ module _ (opener : Opener) (ss : List Stream) where
   -- what holds of stream k and of its rows, which begin with `from`
   module _ (k : ℕ) (s : Stream) (is : at ss k ≡ Some s) where
     abbrev pub from : ℕ
-    from = first_row_in opener ss k
+    from = first_row_of (bare (Some opener) ss) k
 
     abbrev pub to : ℕ
     to = from + length s.places
@@ -129,8 +129,8 @@ module _ (opener : Opener) (ss : List Stream) where
     pub number : ℕ
     pub stream : Stream
     pub is : at ss number ≡ Some stream
-    pub low : first_row_in opener ss number ≤ r
-    pub high : r < first_row_in opener ss number + length stream.places
+    pub low : first_row_of (bare (Some opener) ss) number ≤ r
+    pub high : r < first_row_of (bare (Some opener) ss) number + length stream.places
 
   pub row_here : (r : ℕ) → length opener.tables ≤ r → r < length (places_in opener ss) → IsRowHere r
   row_here r l m =

@@ -1,5 +1,5 @@
 -- A fault of a table has a device that shows it, and comes of a device that failed or of what the table holds.
-use Rattle.std.proofs.Common.{◌≡◌, ℕ, suc, ◌+◌, ◌<◌, ◌≤◌, true, List, [], ◌∷◌, inl, inr, flat_map, length, Option, Some, None, IfSome, refl, sym, ◌∙◌, ap, subst, ⊎_elim, arith}
+use Rattle.std.proofs.Common.{◌≡◌, ℕ, suc, ◌+◌, ◌<◌, ◌≤◌, List, [], ◌∷◌, inl, inr, flat_map, length, Option, Some, None, IfSome, refl, sym, ◌∙◌, ap, subst, ⊎_elim, arith}
 use Rattle.std.specs.List.{AllByRecursion}
 use Rattle.chunk_core.specs.declared.code.Code.{Code}
 use Rattle.chunk_core.specs.declared.code.Code.TheVariants as code
@@ -7,7 +7,7 @@ use Rattle.chunk_core.specs.declared.code.How.{How}
 use Rattle.device_port.specs.Device.{DeviceTold, Place, faults_of}
 use Rattle.device_port.specs.Depot.{content_at}
 use Rattle.run_rules.specs.Devices.{came_back}
-use Rattle.run_rules.specs.Ends.{act_count, is_shown}
+use Rattle.run_rules.specs.Ends.{IsShown, act_count}
 use Rattle.run_rules.specs.Facts.{at}
 use Rattle.run_rules.specs.Opening.{AreTablesFailed, IsOuterEnd, IsRefusedBy, IsTableFailed, IsTableFault}
 use Rattle.run_rules.specs.Work.{Opener, RunRecord, Stream}
@@ -55,7 +55,7 @@ module _ (opener : Opener) (ss : List Stream) (c : RunRecord) (w : ℕ → Devic
   table_stands q p is = at_left opener.tables (flat_map (λ (s : Stream). s.places) ss) q (at_below opener.tables q p is) ∙ is
 
   -- a fault of the outer stream has a device of a table that shows it
-  pub outer_shown : RefusesTables opener → (outer : How) → IsOuterEnd opener (length ss) c w outer → is_shown (came_back c.depot_old c.depot_new) opener.tables outer ≡ true
+  pub outer_shown : RefusesTables opener → (outer : How) → IsOuterEnd opener (length ss) c w outer → IsShown (came_back c.depot_old c.depot_new) opener.tables outer
   outer_shown refuses outer came = shown (places_in opener ss) c.depot_old c.depot_new w d opener.tables outer (λ f is. at_tables (act_count f) (tables_show opener refuses c w f 0 opener.tables (subst (λ h. IsOuterEnd opener (length ss) c w h) is came)))
     where
       at_tables : (a : Option (DeviceTold → ℕ)) → IfSome a (λ n. (q : ℕ) × (0 ≤ q) × (q < 0 + length opener.tables) × (0 < n (w q))) → IfSome a (IsCountedRow (places_in opener ss) c.depot_old c.depot_new w d opener.tables)

@@ -1,10 +1,10 @@
 -- Streams that ran side by side did their work.
-use Rattle.std.proofs.Common.{◌≡◌, ℕ, zero, suc, ◌+◌, ◌<◌, true, false, List, [], ◌∷◌, inr, length, Some, refl, sym, ◌∙◌, subst, ⊎_elim, arith}
+use Rattle.std.proofs.Common.{◌≡◌, ℕ, ◌<◌, true, false, List, [], inr, length, Some, refl, sym, ◌∙◌, subst, ⊎_elim, arith}
 use Rattle.std.proofs.lemmas.Bool.{false≢true, false_from_ne_true}
 use Rattle.std.specs.List.{list_any as any}
 use Rattle.chunk_core.specs.Elements.{Element, rendering_of}
 use Rattle.chunk_core.specs.Lists.{IsAmong}
-use Rattle.chunk_core.specs.Lists.IsAmong.{here, there}
+use Rattle.chunk_core.specs.Lists.IsAmong.{there}
 use Rattle.chunk_core.specs.Outcomes.{End, Cut, Done, Fault, Outcomes}
 use Rattle.chunk_core.specs.Tables.{Values}
 use Rattle.chunk_core.specs.Texts.{payloads_of}
@@ -18,19 +18,20 @@ use Rattle.res_ledger.specs.declared.event.StreamNo.TheVariants.{Inner, Outer}
 use Rattle.device_port.specs.Device.{DeviceTold, faults_of}
 use Rattle.run_rules.specs.declared.end.EndOf.{EndOf}
 use Rattle.run_rules.specs.Facts.{at, first_numbers, is_fault}
+use Rattle.run_rules.specs.Homes.{AreLeftAlone}
 use Rattle.run_rules.specs.Opening.{IsOuterEnd}
-use Rattle.run_rules.specs.Outputs.{IsReported}
+use Rattle.run_rules.specs.Outputs.{IsReported, elements_in_pieces}
 use Rattle.run_rules.specs.Run.{Performs}
 use Rattle.run_rules.specs.Wholeness.{AreUnfailed, IsWholeRun, NothingFailed}
-use Rattle.run_rules.specs.Work.{Opener, RunRecord, Stream, Work, names_from}
+use Rattle.run_rules.specs.Work.{Opener, RunRecord, Stream, Work}
 use Rattle.join_tale.specs.Ended.{Ended}
 use Rattle.join_tale.specs.Records.{EndedSo}
 use Rattle.join_tale.specs.Tales.{Came, loads_of}
 use Rattle.join_tale.proofs.Undisturbed.{undisturbed_is_done}
 use Rattle.plan_work.specs.Joined.{joined, places_in}
-use Rattle.joined_runs.specs.Together.{RunsTogether, elements_in_pieces}
+use Rattle.joined_runs.specs.Together.{RunsTogether}
 use Rattle.joined_runs.proofs.Covered.{AreCovered, RefusesTables}
-use Rattle.joined_runs.proofs.JoinedRules.{AreSharesKept, keeps_rules, rows_kept}
+use Rattle.joined_runs.proofs.JoinedRules.{AreSharesKept, keeps_rules, name_among, rows_kept}
 use Rattle.joined_runs.proofs.MadeRows.{accounted, at_below, at_some, faultless, homes}
 use Rattle.res_ledger.proofs.Mapped.{among_map}
 use Rattle.res_ledger.proofs.Permuted.{among_range, range_among}
@@ -40,12 +41,6 @@ use Rattle.joined_runs.proofs.StreamEnds.{fault_run, no_fault_undone, outer_so, 
 use Rattle.joined_runs.proofs.StreamOutputs.{Ran, ended_as, follows, never_came, outputs_law, plain_work, stream_outputs, whole_printed}
 use Rattle.joined_runs.proofs.StreamRows.{inside}
 use Rattle.joined_runs.proofs.TableFaults.{tables_well}
-
--- the streams' names, in order
-name_among : (j i k : ℕ) (ss : List Stream) → k ≡ j + i → i < length ss → IsAmong (Inner k) (names_from j ss)
-name_among j i k [] is l = absurd (omega (arith, l))
-name_among j zero k (s ∷ ss) is l = let same : j ≡ k = omega (arith, is) in subst (λ n. IsAmong (Inner n) (Inner j ∷ names_from (suc j) ss)) same (here (names_from (suc j) ss))
-name_among j (suc i) k (s ∷ ss) is l = there (Inner j) (name_among (suc j) i k ss (omega (arith, is)) (omega (arith, l)))
 
 fault_not_done : (f : Code) → Fault f ≡ Done → ⊥
 fault_not_done f e = cc
@@ -75,6 +70,10 @@ module _ (opener : Opener) (refuses : RefusesTables opener) (ss : List Stream) (
   kept : AreRowsKept count r.home c.events
   kept = rows_kept opener ss runs ideal r.home r.outer c.events r.account r.tables shares
 
+  -- nothing was done on the devices of a stream that noted nothing
+  left_alone : AreLeftAlone work c r.home
+  left_alone k q s is quiet l u = ⊎_elim (λ x. let n = x.share.closed.1 in absurd (quiet (n.0, n.1, n.2))) (λ x. x.untouched q l u) (r.each k s is)
+
   module _ (remembered : c.memory ≡ false) (n : NothingFailed work c r.values r.home) where
     calm : (q : ℕ) → q < count → faults_of (r.home q) ≡ 0
     calm = faultless (places_in opener ss) c.depot_old c.depot_new r.home r.devices n.devices
@@ -85,7 +84,7 @@ module _ (opener : Opener) (refuses : RefusesTables opener) (ss : List Stream) (
 
     -- no stream failed, and not the outer one
     no_fault : (q : StreamNo) (h : How) → EndedSo r.tale q h → is_fault h ≡ true → ⊥
-    no_fault Outer (how.Fault f) e t = tables_well opener ss c r.home r.devices calm f n.tables (subst (λ h. IsOuterEnd opener (length ss) c r.home h) (outer_so opener ss runs ideal c r (how.Fault f) e) r.came)
+    no_fault Outer (how.Fault f) e t = tables_well opener ss c r.home r.devices calm f n.tables (subst (λ h. IsOuterEnd opener (length ss) c r.home h) (outer_so opener ss runs ideal c r (how.Fault f) e) r.came.end)
     no_fault (Inner k) (how.Fault f) e t =
         let s = stream_of_end opener ss runs ideal c r k (how.Fault f) e in
         ⊎_elim
@@ -141,10 +140,10 @@ module _ (opener : Opener) (refuses : RefusesTables opener) (ss : List Stream) (
     ran = inr (record {
       values = r.values;
       home = r.home;
-      rows = homes (places_in opener ss) c.depot_old c.depot_new r.home r.devices c.events kept work c r.values refl refl refl refl r.valued;
+      rows = homes (places_in opener ss) c.depot_old c.depot_new r.home r.devices c.events kept work c r.values refl refl refl refl r.valued left_alone;
       outputs = stream_outputs opener ss runs ideal c r covers;
       ends = stream_ends opener ss runs ideal c r refuses covers;
-      exits = stream_exits opener ss runs ideal c r;
+      exits = stream_exits opener ss runs ideal c r covers;
       completeness = whole_run;
     });
   }

@@ -6,6 +6,7 @@ use Rattle.chunk_core.specs.Lists.{IsAmong}
 use Rattle.chunk_core.specs.Lists.IsAmong.{here, there}
 use Rattle.chunk_core.specs.Outcomes.{exit_of}
 use Rattle.chunk_core.specs.Texts.{frame_text}
+use Rattle.chunk_core.specs.declared.code.Code.{Code}
 use Rattle.chunk_core.specs.declared.code.Exit.TheVariants.{Canceled, Succeeded}
 use Rattle.chunk_core.specs.declared.code.How.TheVariants as how
 use Rattle.chunk_core.proofs.Each.{among_each}
@@ -13,7 +14,10 @@ use Rattle.res_ledger.specs.declared.event.StreamNo.TheVariants.{Inner, Outer}
 use Rattle.res_ledger.specs.declared.event.What.TheVariants.{Close, Lease}
 use Rattle.res_ledger.specs.declared.event.Event.{Event}
 use Rattle.res_ledger.proofs.Ledgers.{inner_is}
+use Rattle.run_rules.specs.declared.end.EndOf.{EndOf}
+use Rattle.run_rules.specs.Facts.{IsFailure}
 use Rattle.run_rules.specs.Work.{RunRecord}
+use Rattle.join_tale.proofs.Places.{none_some, some_is}
 use Rattle.joined_runs.specs.Shares.{IsOuterNote}
 use Rattle.joined_runs.specs.Worked.{AreRefused, IsRefused, both_ran, byte_of, ended_so, file_runs, first_ran, given, noted, one_frame, reads_file, two_files, worked_run}
 use Rattle.joined_runs.proofs.StreamEnds.{outer_so}
@@ -35,9 +39,19 @@ whole_rest r =
     let same = ap length r.rest.2 in
     omega (arith, some, sum, same)
 
+done_failed : (c : Code) → how.Done ≡ how.Fault c → ⊥
+done_failed c e = cc
+
+halted_failed : (c : Code) → how.Halted ≡ how.Fault c → ⊥
+halted_failed c e = cc
+
+none_failed : (e : EndOf) → IsAmong e worked_run.ends → IsFailure e.how → ⊥
+none_failed e m = among_each (λ (x : EndOf). IsFailure x.how → ⊥) e worked_run.ends ((λ f. done_failed f.0 f.1), ((λ f. done_failed f.0 f.1), ((λ f. halted_failed f.0 f.1), tt))) m
+
 halted_for_nothing : IsRefused (record worked_run { frames = [] })
 halted_for_nothing r =
-    ⊎_elim false≢true (λ x. ⊎_elim false≢true (λ y. ⊎_elim false≢true false≢true y) x)
+    ⊎_elim (λ x. ⊎_elim (λ n. n refl) (λ e. let f = some_is 1 0 e in omega (arith, f)) x.0)
+    (λ x. ⊎_elim false≢true (λ y. ⊎_elim (λ z. none_failed z.0 z.1 z.2) (λ z. none_some z.1) y) x)
     ((follows one_frame two_files file_runs file_runs (record worked_run { frames = [] }) r).halted (ended_so (Inner 1) how.Halted) (there (ended_so Outer how.Done) (there (ended_so (Inner 0) how.Done) (here []))) refl)
 
 -- no event of the first stream alone is one of the second

@@ -1,7 +1,6 @@
 -- The run that is written out is one of streams that ran side by side.
-use Rattle.std.proofs.Common.{◌≡◌, ◌⊎◌, ℕ, zero, suc, ◌<◌, ◌≤◌, ◌^◌, true, List, [], ◌∷◌, inl, inr, Some, refl, sym, ap, ◌∙◌, subst, ⊎_elim, arith}
+use Rattle.std.proofs.Common.{◌≡◌, ◌⊎◌, ℕ, zero, suc, ◌<◌, ◌≤◌, ◌^◌, true, false, List, [], ◌∷◌, inl, inr, Some, refl, sym, ap, ◌∙◌, subst, ⊎_elim, arith}
 use Rattle.std.specs.Prelude.{codes}
-use Rattle.std.proofs.lemmas.Bool.{false≢true}
 use Rattle.std.proofs.lemmas.List.Sorted.{IsPermutation-middle}
 use Rattle.chunk_core.specs.Elements.{Byte}
 use Rattle.chunk_core.specs.Lists.{IsAmong}
@@ -23,15 +22,15 @@ use Rattle.device_port.specs.declared.device.Mode.TheVariants as mode
 use Rattle.device_port.specs.Device.{Place, to_read}
 use Rattle.run_rules.specs.declared.end.EndOf.{EndOf}
 use Rattle.run_rules.specs.Facts.{at, has_left}
-use Rattle.run_rules.specs.Work.{Stream}
+use Rattle.run_rules.specs.Work.{Stream, first_row_of}
 use Rattle.join_tale.specs.Records.{EndedSo, IsRecordOf, bare}
 use Rattle.join_tale.specs.Tales.{HasCome, IsBegun}
 use Rattle.join_tale.proofs.Endings.{come_begun}
-use Rattle.join_tale.proofs.Places.{none_some}
+use Rattle.join_tale.proofs.Places.{none_some, some_is}
 use Rattle.joined_runs.specs.Devices.{MadeComeBack}
 use Rattle.plan_work.specs.Joined.{places_in}
 use Rattle.joined_runs.specs.Shares.{AreTablesKept, IsJoinedLedger, IsOuterNote, IsShare}
-use Rattle.joined_runs.specs.Together.{HasNotRun, HasRun, first_row_in}
+use Rattle.joined_runs.specs.Together.{HasNotRun, HasRun}
 use Rattle.joined_runs.specs.Worked.{IsWorked, both_ran, file_runs, full_depot, noted, one_frame, read_depot, reads_file, two_files, worked_home, worked_run}
 use Rattle.joined_runs.proofs.WorkedTale.{came_0, came_1, come_of, ended_0, ended_1, worked_is_tale, worked_settled, worked_tale}
 use Rattle.joined_runs.proofs.WrittenOut.{account_of, share_of}
@@ -40,6 +39,10 @@ use Rattle.joined_runs.proofs.WrittenOut.{account_of, share_of}
 
 read_write : mode.Read ≡ mode.Write → ⊥
 read_write e = cc
+
+-- both files are there
+there_not : Some true ≡ Some false → ⊥
+there_not e = cc
 
 no_third : (r : ℕ) (p : Place) → at (places_in one_frame two_files) r ≡ Some p → (IsAmong r (0 ∷ 1 ∷ []) → ⊥) → ⊥
 no_third zero p e n = n (here (1 ∷ []))
@@ -61,6 +64,7 @@ devices_back = record {
   others = λ r p e n. absurd (no_third r p e n);
   files = λ path. inr refl;
   stored = ((λ w. absurd (read_write w)), ((λ w. absurd (read_write w)), tt));
+  there = ((λ m p. absurd (there_not p)), ((λ m p. absurd (there_not p)), tt));
 }
 
 read_within : (r : ℕ) → (worked_home r).at ≤ 2 ^ 40
@@ -91,11 +95,11 @@ by_1 : (Inner 1 ≡ Outer) ⊎ ((k : ℕ) × (k < 2) × (Inner 1 ≡ Inner k))
 by_1 = inr (1, omega arith, refl)
 
 account : IsJoinedLedger 2 0 2 how.Done L
-account = account_of 2 0 2 how.Done L (omega arith)
+account = account_of 2 2 how.Done L (omega arith)
     (inl refl, (inl refl, (inl refl, (by_0, (by_1, (by_0, (by_1, (by_0, (by_1, (by_0, (by_1, tt)))))))))))
     ((λ q. (omega arith, refl)), ((λ q. (omega arith, refl)), ((λ q. (refl, refl)), ((λ q. absurd (not_outer 0 q)), ((λ q. absurd (not_outer 1 q)), ((λ q. absurd (not_outer 0 q)), ((λ q. absurd (not_outer 1 q)), ((λ q. absurd (not_outer 0 q)), ((λ q. absurd (not_outer 1 q)), ((λ q. absurd (not_outer 0 q)), ((λ q. absurd (not_outer 1 q)), tt)))))))))))
     (Succeeded, (noted 2 Outer (Close 0 Succeeded), there (noted 0 Outer (Lease 0 0)) (there (noted 1 Outer (Lease 1 0)) (here both_ran)), refl, refl))
-    refl refl refl refl refl
+    refl refl refl refl refl refl
 
 -- an outer stream without tables keeps none
 tables : AreTablesKept 0 worked_home L
@@ -171,7 +175,7 @@ recorded : IsRecordOf (bare (Some one_frame) two_files) worked_tale worked_run
 recorded = record {
   frames = refl;
   cut = refl;
-  memory = λ e. absurd (false≢true e);
+  memory = refl;
   opener = refl;
   named = refl;
   told = λ e m. among_each (λ (x : EndOf). EndedSo worked_tale x.who x.how) e worked_run.ends (refl, (ended_0, (ended_1, tt))) m;
@@ -209,7 +213,7 @@ ran_1 = record {
   reported = inl refl;
 }
 
-each_ran : (k : ℕ) (s : Stream) → at two_files k ≡ Some s → HasRun (file_runs k no_values worked_home) worked_home worked_tale L k (first_row_in one_frame two_files k) s ⊎ HasNotRun worked_home worked_tale k (first_row_in one_frame two_files k) s
+each_ran : (k : ℕ) (s : Stream) → at two_files k ≡ Some s → HasRun (file_runs k no_values worked_home) worked_home worked_tale L k (first_row_of (bare (Some one_frame) two_files) k) s ⊎ HasNotRun worked_home worked_tale k (first_row_of (bare (Some one_frame) two_files) k) s
 each_ran zero s e = let same : reads_file (codes "a") ≡ s = cc in inl (subst (λ t. HasRun (file_runs 0 no_values worked_home) worked_home worked_tale L 0 0 t) same ran_0)
 each_ran (suc zero) s e = let same : reads_file (codes "b") ≡ s = cc in inl (subst (λ t. HasRun (file_runs 1 no_values worked_home) worked_home worked_tale L 1 1 t) same ran_1)
 each_ran (suc (suc k)) s e = absurd (none_some e)
@@ -226,7 +230,11 @@ is_worked = record {
     within = λ r m l. read_within r;
     account = account;
     tables = tables;
-    came = (tt, ((Outer, 0, (noted 0 Outer (Lease 0 0), here (noted 1 Outer (Lease 1 0) ∷ noted 2 Outer (Close 0 Succeeded) ∷ both_ran), refl, refl)), ((Outer, 0, (noted 1 Outer (Lease 1 0), there (noted 0 Outer (Lease 0 0)) (here (noted 2 Outer (Close 0 Succeeded) ∷ both_ran)), refl, refl)), tt)));
+    came = record {
+      end = (tt, ((Outer, 0, (noted 0 Outer (Lease 0 0), here (noted 1 Outer (Lease 1 0) ∷ noted 2 Outer (Close 0 Succeeded) ∷ both_ran), refl, refl)), ((Outer, 0, (noted 1 Outer (Lease 1 0), there (noted 0 Outer (Lease 0 0)) (here (noted 2 Outer (Close 0 Succeeded) ∷ both_ran)), refl, refl)), tt)));
+      gives = λ j s m. tt;
+      nobody = λ e. absurd (let f = some_is 1 0 e in omega (arith, f));
+    };
     is_tale = worked_is_tale;
     settled = worked_settled;
     recorded = recorded;

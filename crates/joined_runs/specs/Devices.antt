@@ -5,7 +5,7 @@ use Rattle.std.specs.List.Sorted.{IsPermutation}
 use Rattle.chunk_core.specs.Lists.{IsAmong}
 use Rattle.device_port.specs.Device.{Place, DeviceTold}
 use Rattle.device_port.specs.Depot.{DepotTold, Files, KeepsFilesBut, KeepsWritten, content_at}
-use Rattle.run_rules.specs.Devices.{IsWritten}
+use Rattle.run_rules.specs.Devices.{IsWrittenBy, OpensWhatIsThere}
 use Rattle.run_rules.specs.Facts.{at}
 use Rattle.run_rules.specs.Homes.{IsUntouched}
 
@@ -41,7 +41,8 @@ pub record IsUnmadeAt (files : Option Files) (place : Place) (d : DeviceTold) : 
   pub content_is : d.content ≡ content_at files place.path
   pub untouched : IsUntouched d
 
--- the depot made a device for each of some rows, and each came back, in any order, with what was written to it kept
+-- the depot made a device for each of some rows, and each came back, in any order, with what was written to it kept; files changed only where one was opened for writing, and none was opened to
+-- be read that isn't there
 pub record MadeComeBack (old new : DepotTold) (places : List Place) (w : ℕ → DeviceTold) : Type 0 where
   pub rows : List ℕ
   pub apart : IsDistinct nat_eq rows
@@ -51,5 +52,6 @@ pub record MadeComeBack (old new : DepotTold) (places : List Place) (w : ℕ →
   pub each : IsPermutation (map w rows) back
   pub devices : AreMade old.files places (length old.made) w rows
   pub others : (r : ℕ) (p : Place) → at places r ≡ Some p → ¬ (IsAmong r rows) → IsUnmadeAt old.files p (w r)
-  pub files : KeepsFilesBut (IsWritten places) old.files new.files
+  pub files : KeepsFilesBut (IsWrittenBy back) old.files new.files
   pub stored : AllByRecursion (KeepsWritten new.files) back
+  pub there : AllByRecursion OpensWhatIsThere back

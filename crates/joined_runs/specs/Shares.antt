@@ -16,7 +16,8 @@ use Rattle.res_ledger.specs.Own.{opens, own}
 use Rattle.res_ledger.specs.Whole.{IsComplete}
 use Rattle.device_port.specs.Device.{DeviceTold}
 use Rattle.run_rules.specs.Facts.{leased_stream}
-use Rattle.run_rules.specs.Pace.{LeasesAhead, WithinWidth}
+use Rattle.run_rules.specs.Pace.{IsPaced}
+use Rattle.run_rules.specs.Rules.{LendsTables}
 
 -- what the outer stream may note that ended so: it acquires the rows of t tables in its root and ends some of them, leases its root for one of n streams, closes its root as it ended, and cancels a lease as of a stream that wasn't begun
 abbrev pub IsOuterNote : ℕ → ℕ → How → What → Type 0
@@ -33,14 +34,14 @@ pub record AreTablesKept (t : ℕ) (w : ℕ → DeviceTold) (L : List Event) : T
   pub each : (r : ℕ) → r < t → (w r).opens ≡ 1 → Notes L Outer (Acquire r 0)
   pub ended : (r : ℕ) (x : Exit) (ok : Bool) → Notes L Outer (Final r x ok) → ((w r).exit ≡ Some x) × (ok ≡ nat_eq (w r).close_faults 0)
 
--- a whole ledger of the outer stream, which has t tables and ended so, and of some of n streams: the leases are ahead, and not more streams are open than may be
+-- a whole ledger of the outer stream, which has t tables and ended so, and of some of n streams: the tables are lent, and the streams were given and begun in pace, of which no more are open than may be
 pub record IsJoinedLedger (width t n : ℕ) (how : How) (L : List Event) : Type 0 where
   pub stamped : IsStamped L
   pub legal : IsLegal L
   pub complete : IsComplete L
   pub ordered : IsOrdered L
-  pub ahead : LeasesAhead L
-  pub narrow : WithinWidth width n L
+  pub tables : LendsTables t L
+  pub paced : IsPaced width n L
   pub names : (e : Event) → IsAmong e L → (e.by ≡ Outer) ⊎ ((k : ℕ) × (k < n) × (e.by ≡ Inner k))
   pub outer_notes : (e : Event) → IsAmong e L → e.by ≡ Outer → IsOuterNote t n how e.what
   pub root : NotesClose L Outer 0

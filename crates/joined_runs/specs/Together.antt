@@ -1,6 +1,5 @@
 -- What a run leaves of which many streams ran side by side, as plain data.
-use Rattle.std.specs.Prelude.{◌≡◌, ◌⊎◌, ℕ, ◌+◌, ◌<◌, ◌≤◌, ◌^◌, List, map, take, flat_map, length, Some}
-use Rattle.std.specs.List.{sum_by}
+use Rattle.std.specs.Prelude.{◌≡◌, ◌⊎◌, ℕ, ◌+◌, ◌<◌, ◌≤◌, ◌^◌, List, map, length, Some}
 use Rattle.chunk_core.specs.Elements.{Element, rendering_of}
 use Rattle.chunk_core.specs.Outcomes.{End, Outcomes}
 use Rattle.chunk_core.specs.Tables.{Values}
@@ -10,23 +9,15 @@ use Rattle.res_ledger.specs.declared.event.Event.{Event}
 use Rattle.device_port.specs.Device.{DeviceTold}
 use Rattle.run_rules.specs.Facts.{at}
 use Rattle.run_rules.specs.Homes.{HaveValues, IsUntouched}
-use Rattle.run_rules.specs.Opening.{IsOuterEnd}
-use Rattle.run_rules.specs.Outputs.{IsReported}
-use Rattle.run_rules.specs.Work.{Opener, RunRecord, Stream}
+use Rattle.run_rules.specs.Opening.{OuterHasRun}
+use Rattle.run_rules.specs.Outputs.{IsReported, elements_in_pieces}
+use Rattle.run_rules.specs.Work.{Opener, RunRecord, Stream, first_row_of}
 use Rattle.join_tale.specs.Keeping.{IsTale}
 use Rattle.join_tale.specs.Records.{IsRecordOf, IsSettled, bare}
 use Rattle.join_tale.specs.Tales.{Came, IsBegun, Tale, loads_received}
 use Rattle.joined_runs.specs.Devices.{MadeComeBack}
 use Rattle.plan_work.specs.Joined.{places_in}
 use Rattle.joined_runs.specs.Shares.{AreTablesKept, IsJoinedLedger, IsShare}
-
--- the elements of pieces, one piece after another
-abbrev pub elements_in_pieces : List (List Element) → List Element
-elements_in_pieces pieces = flat_map (λ xs. xs) pieces
-
--- the first row of stream k: behind those of the tables and of the streams before it
-abbrev pub first_row_in : Opener → List Stream → ℕ → ℕ
-first_row_in opener streams k = length opener.tables + sum_by (λ s. length s.places) (take k streams)
 
 -- Stream k, whose rows begin with `from`, was begun and sent this end. It noted its share as it ended, and the loads that were received of it render pieces of a run
 -- with an end that is reported so.
@@ -58,10 +49,10 @@ pub record RunsTogether (opener : Opener) (streams : List Stream) (runs : ℕ �
   pub within : (r : ℕ) → length opener.tables ≤ r → r < length (places_in opener streams) → (home r).at ≤ 2 ^ 40
   pub account : IsJoinedLedger opener.max_open (length opener.tables) (length streams) outer c.events
   pub tables : AreTablesKept (length opener.tables) home c.events
-  pub came : IsOuterEnd opener (length streams) c home outer
+  pub came : OuterHasRun opener (length streams) c home outer
   pub is_tale : IsTale (bare (Some opener) streams) tale
   pub settled : IsSettled tale
   pub recorded : IsRecordOf (bare (Some opener) streams) tale c
   pub outer_is : tale.outer ≡ Some outer
-  pub each : (k : ℕ) (s : Stream) → at streams k ≡ Some s → HasRun (runs k values home) home tale c.events k (first_row_in opener streams k) s ⊎ HasNotRun home tale k (first_row_in opener streams k) s
+  pub each : (k : ℕ) (s : Stream) → at streams k ≡ Some s → HasRun (runs k values home) home tale c.events k (first_row_of (bare (Some opener) streams) k) s ⊎ HasNotRun home tale k (first_row_of (bare (Some opener) streams) k) s
   pub rest : IsRestOf c.cut c.rest

@@ -1,5 +1,5 @@
 -- Rows that are acquired one after another.
-use Rattle.std.proofs.Common.{◌≡◌, ◌↔◌, ℕ, zero, suc, ◌+◌, ◌-◌, ◌<◌, ◌≤◌, Bool, cond, List, [], ◌∷◌, ◌++◌, length, map, refl, sym, ◌∙◌, ap, subst, ⊎_elim, arith, eq-eqb, ne_eqb, append-nil, length-append}
+use Rattle.std.proofs.Common.{◌≡◌, ◌⊎◌, ◌↔◌, ℕ, zero, suc, ◌+◌, ◌-◌, ◌<◌, ◌≤◌, Bool, cond, List, [], ◌∷◌, ◌++◌, length, map, inl, inr, refl, sym, ◌∙◌, ap, subst, ⊎_elim, arith, eq-eqb, ne_eqb, append-nil, length-append}
 use Rattle.std.proofs.lemmas.List.{map-append}
 use Rattle.std.specs.List.{AllByRecursion}
 use Rattle.chunk_core.specs.declared.code.Exit.{Exit}
@@ -7,9 +7,12 @@ use Rattle.chunk_core.specs.Lists.{IsAmong}
 use Rattle.chunk_core.specs.Lists.IsAmong.{here, there}
 use Rattle.chunk_core.proofs.Cuts.{append_assoc}
 use Rattle.chunk_core.proofs.Each.{each_append}
-use Rattle.chunk_core.proofs.Members.{among_last, among_snoc}
+use Rattle.chunk_core.proofs.Filters.{among_append, among_right}
+use Rattle.chunk_core.proofs.Members.{among_cons, among_last, among_left, among_nil, among_snoc}
 use Rattle.res_ledger.specs.declared.event.Event.{Event}
+use Rattle.res_ledger.specs.declared.event.What.{What}
 use Rattle.res_ledger.specs.declared.event.What.TheVariants.{Acquire}
+use Rattle.res_ledger.proofs.Mapped.{map_among}
 use Rattle.row_seat.specs.declared.view.View.{View}
 use Rattle.row_seat.specs.Views.{HasRow, IsWithin, noted, paid, placed, run, with_row, without}
 use Rattle.row_seat.proofs.Members.{among_kept, among_without}
@@ -20,7 +23,7 @@ use Rattle.scope_tree.proofs.Use.{seen_is}
 use Rattle.tree_laws.specs.Called.{MayAcquire}
 use Rattle.tree_laws.specs.Called.Called.{none, acquired, written}
 use Rattle.tree_laws.proofs.Follows.{called_then}
-use Rattle.outer_tables.specs.Rows.{AcquiresRows, acquires, rows_from}
+use Rattle.outer_tables.specs.Rows.{AcquireUpwards, AcquiresRows, AreLater, acquires, rows_from}
 
 run_append : (r m n : ℕ) → run r (m + n) ≡ run r m ++ run (r + m) n
 run_append r zero n = ap (λ k. run r k) (let e : 0 + n ≡ n = omega arith in e) ∙ ap (λ k. run k n) (let e : r ≡ r + 0 = omega arith in e)
@@ -30,6 +33,23 @@ run_append r (suc m) n =
 
 acquires_append : (r m n : ℕ) → acquires r (m + n) ≡ acquires r m ++ acquires (r + m) n
 acquires_append r m n = ap (map (λ q. Acquire q 0)) (run_append r m n) ∙ map-append (λ q. Acquire q 0) (run r m) (run (r + m) n)
+
+-- what was noted of rows is an Acquire of one of them
+pub acquired_one : (r n : ℕ) (w : What) → IsAmong w (acquires r n) → (q : ℕ) × (w ≡ Acquire q 0) × (r ≤ q) × (q < r + n)
+acquired_one r zero w m = absurd (among_nil m)
+acquired_one r (suc n) w m = ⊎_elim (λ e. (r, e, omega arith, omega arith)) (λ i. let x = acquired_one (suc r) n w i in let low = x.2 in let high = x.3 in (x.0, x.1, omega (low, arith), omega (high, arith))) (among_cons m)
+
+same_row : (r s q t : ℕ) → Acquire r s ≡ Acquire q t → r ≡ q
+same_row r s q t e = cc
+
+-- whose row is one of them
+acquired_between : (L : List Event) (r n : ℕ) → map (λ (e : Event). e.what) L ≡ acquires r n → (e : Event) (q t : ℕ) → IsAmong e L → e.what ≡ Acquire q t → (r ≤ q) × (q < r + n)
+acquired_between L r n is e q t m w =
+    let x = acquired_one r n (Acquire q t) (subst (λ l. IsAmong (Acquire q t) l) is (subst (λ v. IsAmong v (map (λ (y : Event). y.what) L)) w (map_among (λ (y : Event). y.what) e L m))) in
+    let same = same_row q t x.0 0 x.1 in let low = x.2 in let high = x.3 in (omega (same, low, arith), omega (same, high, arith))
+
+only_this : (e f : Event) → IsAmong e (f ∷ []) → e ≡ f
+only_this e f m = ⊎_elim (λ s. s) (λ i. absurd (among_nil i)) (among_cons m)
 
 module _ {P : Type 0} where
   rows_append : (r : ℕ) (ps qs : List P) → rows_from r (ps ++ qs) ≡ rows_from r ps ++ rows_from (r + length ps) qs
@@ -67,6 +87,8 @@ module _ {P : Type 0} where
       events = [];
       noted = refl;
       own = tt;
+      later = λ e f m n. absurd (among_nil m);
+      rise = λ e f q s o t m n. absurd (among_nil m);
       tree = ap (λ x. let v : View P = record a.seat { opened = x } in let s : Seen P = record a { seat = v } in s) (sym (append-nil a.seat.opened))
           ∙ ap (λ x. let v : View P = record a.seat { opened = a.seat.opened ++ []; events = x } in let s : Seen P = record a { seat = v } in s) (sym (append-nil a.seat.events))
           ∙ ap (λ x. let v : View P = record a.seat { opened = a.seat.opened ++ []; events = a.seat.events ++ []; spare = x } in let s : Seen P = record a { seat = v } in s) (let e : a.seat.spare ≡ a.seat.spare - 0 = omega arith in e);
@@ -85,6 +107,8 @@ module _ {P : Type 0} where
           events = e ∷ [];
           noted = refl;
           own = (refl, tt);
+          later = λ x f m n. subst (λ (y : Event). f.stamp < y.stamp) (sym (only_this x e m)) (o.fresh.1 f n);
+          rise = λ x f q s u t m n i j l. let a' = ap (λ (y : Event). y.stamp) (only_this x e m) in let b' = ap (λ (y : Event). y.stamp) (only_this f e n) in absurd (omega (a', b', l, arith));
           tree = seen_is a b (placed (noted a.seat e) r p) o.seat o.shelf o.scopes o.rows ∙ ap (λ l. let v : View P = record (placed (noted a.seat e) r p) { empty = l } in let s : Seen P = record a { seat = v } in s) (sym rest);
           empty = λ q. (
             λ m. let t = among_without r a.seat.empty q (subst (λ l. IsAmong q l) rest m) in (t.0, λ w. t.1 (let x = w.0 in let y = w.1 in omega (x, y, arith))),
@@ -116,6 +140,8 @@ module _ {P : Type 0} where
             events = one.events;
             noted = one.noted;
             own = one.own;
+            later = one.later;
+            rise = one.rise;
             tree = changed_is;
             empty = one.empty;
             calls = written b changed r q one.calls (p, subst (λ l. IsAmong (r, p) l) (sym opened_is) (among_last a.seat.opened (r, p))) refl;
@@ -146,6 +172,21 @@ module _ {P : Type 0} where
       whose [] h = tt
       whose (e ∷ L) h = (by_same e h.0, whose L h.1)
 
+      before : (e : Event) → IsAmong e a.seat.events ⊎ IsAmong e f.events → IsAmong e b.seat.events
+      before e m = subst (λ (s : Seen P). IsAmong e s.seat.events) (sym f.tree) (⊎_elim (λ i. among_left f.events i) (λ i. among_right e a.seat.events f.events i) m)
+
+      all_later : AreLater (f.events ++ g.events) a.seat.events
+      all_later e z m n = ⊎_elim (λ i. f.later e z i n) (λ i. g.later e z i (before z (inl n))) (among_append e f.events g.events m)
+
+      all_rise : AcquireUpwards (f.events ++ g.events)
+      all_rise e z i s q t m n is are l = ⊎_elim
+          (λ x. ⊎_elim (λ y. f.rise e z i s q t x y is are l) (λ y. let u = g.later z e y (before e (inr x)) in absurd (omega (u, l, arith))) (among_append z f.events g.events n))
+          (λ x. ⊎_elim
+          (λ y. let low = (acquired_between g.events (r + length ps) (length qs) g.noted e i s x is).0 in let high = (acquired_between f.events r (length ps) f.noted z q t y are).1 in omega (low, high, arith))
+          (λ y. g.rise e z i s q t x y is are l)
+          (among_append z f.events g.events n))
+          (among_append e f.events g.events m)
+
       tree_is : c ≡ more a c (rows_from r (ps ++ qs)) (f.events ++ g.events) (length (ps ++ qs))
       tree_is =
           g.tree ∙ ap (λ (s : Seen P). more s c (rows_from (r + length ps) qs) g.events (length qs)) f.tree
@@ -165,6 +206,8 @@ module _ {P : Type 0} where
         events = f.events ++ g.events;
         noted = all_noted;
         own = each_append (λ (e : Event). e.by ≡ a.seat.by) f.events g.events f.own (whose g.events g.own);
+        later = all_later;
+        rise = all_rise;
         tree = tree_is;
         empty = still_empty;
         calls = called_then f.calls g.calls;

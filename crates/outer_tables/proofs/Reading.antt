@@ -7,19 +7,21 @@ use Rattle.chunk_core.specs.declared.code.Exit.{Exit}
 use Rattle.chunk_core.specs.Lists.{IsAmong}
 use Rattle.chunk_core.specs.Lists.IsAmong.{here, there}
 use Rattle.chunk_core.proofs.Each.{among_each}
-use Rattle.chunk_core.proofs.Filters.{among_append}
-use Rattle.chunk_core.proofs.Members.{among_cons, among_nil}
+use Rattle.chunk_core.proofs.Filters.{among_append, among_right}
+use Rattle.chunk_core.proofs.Members.{among_nil}
 use Rattle.csv_pipes.specs.Dictionaries.{Dictionary, table_value, values_of}
 use Rattle.device_port.specs.Device.{DeviceTold}
 use Rattle.device_port.specs.Depot.{DepotTold}
 use Rattle.join_tree.specs.Mains.{IsMain, IsRoot}
 use Rattle.join_tree.specs.Progress.{Progress, reading}
-use Rattle.join_tree.specs.Notes.{is_table_note}
+use Rattle.join_tree.specs.Notes.{RowsRise, is_table_note}
 use Rattle.join_tree.proofs.Growing.{main_reads}
 use Rattle.res_ledger.specs.declared.event.Event.{Event}
-use Rattle.res_ledger.specs.declared.event.What.{What}
+use Rattle.res_ledger.specs.declared.event.StreamNo.TheVariants.{Outer}
 use Rattle.res_ledger.specs.declared.event.What.TheVariants.{Acquire}
+use Rattle.res_ledger.specs.Ledger.{Notes}
 use Rattle.res_ledger.specs.Own.{leased_of}
+use Rattle.res_ledger.proofs.Mapped.{among_map}
 use Rattle.scope_tree.specs.Calls.{IsOpenScope, Seen, used}
 use Rattle.scope_tree.specs.Trace.{owed}
 use Rattle.tree_laws.specs.Alone.{StaysAlone}
@@ -29,7 +31,7 @@ use Rattle.outer_tables.specs.Outcomes.{values_in}
 use Rattle.outer_tables.specs.Outcomes.ComeOut.{none}
 use Rattle.outer_tables.specs.Rows.{AcquiresRows, acquires}
 use Rattle.outer_tables.specs.Tables.{ReadsTable, ReadsTables, TriesTables}
-use Rattle.outer_tables.proofs.Acquiring.{acquires_none}
+use Rattle.outer_tables.proofs.Acquiring.{acquired_one, acquires_none}
 use Rattle.outer_tables.proofs.Outcomes.{all_opened}
 use Rattle.outer_tables.proofs.Trying.{contents_then, tries_more, tries_none, tries_then}
 
@@ -54,11 +56,6 @@ of_values (d ∷ ds) (b ∷ bss) (suc t) key h = of_values ds bss t key h.1
 of_values [] (b ∷ bss) t key h = absurd h
 of_values (d ∷ ds) [] t key h = absurd h
 
--- the events that were noted are Acquires
-acquires_only : (r n : ℕ) (w : What) → IsAmong w (acquires r n) → (q : ℕ) × (w ≡ Acquire q 0)
-acquires_only r zero w m = absurd (among_nil m)
-acquires_only r (suc n) w m = ⊎_elim (λ e. (r, e)) (λ i. acquires_only (suc r) n w i) (among_cons m)
-
 what_among : (e : Event) (L : List Event) → IsAmong e L → IsAmong e.what (map (λ (x : Event). x.what) L)
 what_among e L (here ys) = here (map (λ (x : Event). x.what) ys)
 what_among e L (there {xs = ys} y m) = there y.what (what_among e ys m)
@@ -80,16 +77,31 @@ module _ {V : Type 0} (ends : V → Exit → Bool → V → Type 0) (r : ℕ) (p
     out = ap (λ s. s.seat.out) t;
     events = λ e m. ⊎_elim
         (λ i. inl i)
-        (λ i. inr (among_each (λ (x : Event). x.by ≡ a.seat.by) e f.events f.own i ∙ sym (ap (λ s. s.seat.by) t), let w = acquires_only r (length ps) e.what (new_notes e i) in ap leased_of w.1))
+        (λ i. inr (among_each (λ (x : Event). x.by ≡ a.seat.by) e f.events f.own i ∙ sym (ap (λ s. s.seat.by) t), let w = acquired_one r (length ps) e.what (new_notes e i) in ap leased_of w.1))
         (events_are e m);
   }
 
   -- the main tree is so much further
-  pub rows_main : (width n : ℕ) (p : Progress V) → IsMain ends width n a p → p.root ≡ None → IsMain ends width n b (reading p (acquires r (length ps)))
-  rows_main width n p h root =
+  pub rows_main : (width n : ℕ) (p : Progress V) → IsMain ends width n a p → p.root ≡ None → p.leased ≡ 0 → p.tables ≡ [] → IsMain ends width n b (reading p (acquires r (length ps)))
+  rows_main width n p h root idle empty =
       main_reads a b p (acquires r (length ps)) h root f.calls stays_alone (f.scopes.usable 0 (subst (λ i. IsRoot a i) root h.root))
       (λ e m. ⊎_elim (λ i. inl i) (λ i. inr (new_notes e i)) (events_are e m))
-      (λ w m. let x = acquires_only r (length ps) w m in ap is_table_note x.1)
+      (λ w m. let x = acquired_one r (length ps) w m in ap is_table_note x.1)
+      noted_so
+      (λ q m. idle)
+      rows_rise
+    where
+      noted_so : (q : ℕ) → IsAmong (Acquire q 0) (acquires r (length ps)) → Notes b.seat.events Outer (Acquire q 0)
+      noted_so q m =
+          let e = among_map (λ (x : Event). x.what) (Acquire q 0) f.events (subst (λ l. IsAmong (Acquire q 0) l) (sym f.noted) m) in
+          (e.0, subst (λ (s : Seen V). IsAmong e.0 s.seat.events) (sym f.tree) (among_right e.0 a.seat.events f.events e.1), among_each (λ (x : Event). x.by ≡ a.seat.by) e.0 f.events f.own e.1 ∙ h.by, e.2)
+
+      -- the tree had acquired no row before
+      new_one : (e : Event) (q s : ℕ) → IsAmong e b.seat.events → e.by ≡ Outer → e.what ≡ Acquire q s → IsAmong e f.events
+      new_one e q s m by is = ⊎_elim (λ i. absurd (among_nil (subst (λ l. IsAmong (Acquire q s) l) empty (h.told.outer (Acquire q s) (e, i, by, is))))) (λ i. i) (events_are e m)
+
+      rows_rise : RowsRise b.seat.events
+      rows_rise e z i s q t m n by of is are l = f.rise e z i s q t (new_one e i s m by is) (new_one z q t n of are) is are l
 
 -- so far all were read, and the dictionaries have their values
 pub record AreReadSoFar {V : Type 0} (told : V → DeviceTold) (ends : V → Exit → Bool → V → Type 0) (paths : List (List ℕ)) (old new : DepotTold) (a b : Seen V) (ds : List Dictionary) : Type 0 where

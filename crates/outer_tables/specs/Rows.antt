@@ -1,5 +1,5 @@
 -- The rows of tables.
-use Rattle.std.specs.Prelude.{◌≡◌, ◌↔◌, ℕ, suc, ◌+◌, ◌-◌, Bool, List, [], ◌∷◌, ◌++◌, length, map, Result}
+use Rattle.std.specs.Prelude.{◌≡◌, ◌↔◌, ℕ, suc, ◌+◌, ◌-◌, ◌<◌, Bool, List, [], ◌∷◌, ◌++◌, length, map, Result}
 use Rattle.std.specs.List.{AllByRecursion}
 use Rattle.chunk_core.specs.declared.code.Exit.{Exit}
 use Rattle.chunk_core.specs.Lists.{IsAmong}
@@ -18,17 +18,27 @@ use Rattle.outer_tables.specs.Whole.{ReadsWhole}
 abbrev pub acquires : ℕ → ℕ → List What
 acquires r n = map (λ q. Acquire q 0) (run r n)
 
+-- each of these events has a greater stamp than each of those
+abbrev pub AreLater : List Event → List Event → Type 0
+AreLater L M = (e f : Event) → IsAmong e L → IsAmong f M → f.stamp < e.stamp
+
+-- of two rows the one that was acquired later is the greater one
+abbrev pub AcquireUpwards : List Event → Type 0
+AcquireUpwards L = (e f : Event) (r s q t : ℕ) → IsAmong e L → IsAmong f L → e.what ≡ Acquire r s → f.what ≡ Acquire q t → f.stamp < e.stamp → q < r
+
 module _ {P : Type 0} where
   -- the payloads in the rows from r on
   abbrev pub rows_from : ℕ → List P → List (ℕ × P)
   rows_from r [] = []
   rows_from r (p ∷ ps) = (r, p) ∷ rows_from (suc r) ps
 
-  -- The rows from r on were acquired in the root with these payloads, by calls of the tree. Their Acquires were noted, and they are empty no more.
+  -- The rows from r on were acquired in the root with these payloads, by calls of the tree. Their Acquires were noted in order, behind all that was noted before, and they are empty no more.
   pub record AcquiresRows (ends : P → Exit → Bool → P → Type 0) (r : ℕ) (ps : List P) (a b : Seen P) : Type 0 where
     pub events : List Event
     pub noted : map (λ e. e.what) events ≡ acquires r (length ps)
     pub own : AllByRecursion (λ e. e.by ≡ a.seat.by) events
+    pub later : AreLater events a.seat.events
+    pub rise : AcquireUpwards events
     pub tree : b ≡ record a { seat = record a.seat { empty = b.seat.empty; opened = a.seat.opened ++ rows_from r ps; events = a.seat.events ++ events; spare = a.seat.spare - length ps } }
     pub empty : (q : ℕ) → IsAmong q b.seat.empty ↔ (IsAmong q a.seat.empty × ¬ (IsWithin r (r + length ps) q))
     pub calls : Called ends a [] b

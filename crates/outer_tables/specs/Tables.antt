@@ -32,8 +32,8 @@ module _ {V : Type 0} (told : V → DeviceTold) (ends : V → Exit → Bool → 
     pub tries : TriesTables r (path ∷ []) old new a b (result_err result)
     pub dict : IfOk result (λ d. (bytes : List ℕ) × (tries.contents ≡ bytes ∷ []) × ((key : List ℕ) → get d key ≡ table_value bytes key))
 
-  -- All tables were read as the first rows, and the dictionaries have their values, or it is told why not. The main tree is so much further.
+  -- All tables were read as the first rows, and the dictionaries have their values, or it is told why not. A main tree that had acquired and leased nothing is so much further.
   pub record ReadsTables (paths : List (List ℕ)) (old new : DepotTold) (a b : Seen V) (result : Result (List Dictionary) NotRead) : Type 0 where
     pub tries : TriesTables 0 paths old new a b (result_err result)
     pub values : IfOk result (λ dicts. (t : ℕ) (key : List ℕ) → values_of dicts t key ≡ values_in tries.contents t key)
-    pub main : (width n : ℕ) (p : Progress V) → IsMain ends width n a p → p.root ≡ None → IsMain ends width n b (reading p (acquires 0 (length tries.devices)))
+    pub main : (width n : ℕ) (p : Progress V) → IsMain ends width n a p → p.root ≡ None → p.leased ≡ 0 → p.tables ≡ [] → IsMain ends width n b (reading p (acquires 0 (length tries.devices)))

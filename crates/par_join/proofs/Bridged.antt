@@ -8,6 +8,7 @@ use Rattle.chunk_core.specs.Outcomes.{exit_of}
 use Rattle.chunk_core.specs.Tables.{Values}
 use Rattle.chunk_core.specs.declared.code.Exit.{Exit}
 use Rattle.chunk_core.specs.declared.code.How.{How}
+use Rattle.chunk_core.specs.declared.code.How.TheVariants as how
 use Rattle.chunk_core.proofs.Members.{among_cons, among_nil}
 use Rattle.collector.specs.declared.collector.Collector.{Collector}
 use Rattle.collector.specs.Collecting as collecting
@@ -132,6 +133,7 @@ module _ {S V F D T : Type 0} (view : S → View V) (told : V → DeviceTold) (f
           tables = i.tables;
           read = i.read;
           ended = λ e. subst (λ l. EndsRead p l outer) (sym i.tree.leased_is) (subst (λ q. IfSome q (EndsRead p c.leased)) o.1 (i.ended e));
+          nobody = λ e. let n = i.nobody e in (n.0, some_how outer how.Halted (sym o.1 ∙ n.1));
           unread = λ n. let u = i.unread n in (u.1, subst (λ x. IsStoppedBy told p i.o (length i.tables.devices + length i.tables.back) i.tale.memory x) (some_how u.2.0 outer (sym u.2.1 ∙ o.1)) u.2.2);
           dealt = i.dealt;
           streams = record {

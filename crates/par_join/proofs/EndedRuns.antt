@@ -25,6 +25,7 @@ use Rattle.pull_turns.specs.Piping.{StateMeaning}
 use Rattle.res_ledger.specs.declared.event.Event.{Event}
 use Rattle.res_ledger.specs.declared.event.StreamNo.TheVariants.{Outer}
 use Rattle.row_seat.specs.declared.view.View.{View}
+use Rattle.run_rules.specs.Devices.{OpensWhatIsThere}
 use Rattle.run_rules.specs.declared.end.EndOf.{EndOf}
 use Rattle.scope_tree.specs.Trees.{seen}
 use Rattle.stream_jobs.specs.declared.job.Job.{Job}
@@ -59,7 +60,7 @@ module _ {S V F D T : Type 0} (view : S → View V) (told : V → DeviceTold) (f
     pub may_go : MayReturnAll depot (all_left told (seen view c.tree).shelf c.left.items)
     may_go = all_may_go view told P says p limits d0 depot t it.outer (seen view c.tree) c.left.items c.receiver i.tale it.collected L s
 
-    module _ (last : DepotTold) (again : Returns depot last (all_left told (seen view c.tree).shelf c.left.items)) (o : Outcome) (ledger : o.ledger ≡ L) (failed : o.sink_failed ≡ c.report.sink_failed) (memory : o.memory ≡ c.report.memory)
+    module _ (lawful : (d : V) → OpensWhatIsThere (told d)) (last : DepotTold) (again : Returns depot last (all_left told (seen view c.tree).shelf c.left.items)) (o : Outcome) (ledger : o.ledger ≡ L) (failed : o.sink_failed ≡ c.report.sink_failed) (memory : o.memory ≡ c.report.memory)
         (names : map (λ (e : EndOf). e.who) o.ends ≡ Outer ∷ names_below (count_of c.report)) (hows : map (λ (e : EndOf). e.how) o.ends ≡ it.outer ∷ c.report.streams.hows) where
       abbrev its_run : IsRunOf p it.outer i.tale L d0 last (run_record_of d0 last (frames_of i.tale.front) i.tale.cut i.telling.wrote.rest o)
       its_run = record {
@@ -91,7 +92,7 @@ module _ {S V F D T : Type 0} (view : S → View V) (told : V → DeviceTold) (f
         rest = i.telling.wrote.rest;
         broke = broke;
         performs = plan_together p limits (run_record_of d0 last (frames_of i.tale.front) i.tale.cut i.telling.wrote.rest o)
-            (together view told P says p limits d0 depot t it.outer (seen view c.tree) c.left.items c.receiver i.tale it.collected L s last (run_record_of d0 last (frames_of i.tale.front) i.tale.cut i.telling.wrote.rest o) again its_run);
+            (together view told P says p limits d0 depot t it.outer (seen view c.tree) c.left.items c.receiver i.tale it.collected L s lawful last (run_record_of d0 last (frames_of i.tale.front) i.tale.cut i.telling.wrote.rest o) again its_run);
         wrote = i.telling.wrote.wrote ∙ ap (λ b. record (with_bytes s0 (frames_text (frames_of i.tale.front) ++ i.telling.wrote.rest)) { faults = cond b (s0.faults + 1) s0.faults }) broke;
         begun = λ e. absurd (some_end o.ends e names);
       }

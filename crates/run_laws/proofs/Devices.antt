@@ -1,20 +1,22 @@
 -- The devices of a run that is written out, by tests that are computed.
-use Rattle.std.proofs.Common.{◌≡◌, ◌≤◌, ℕ, Bool, true, false, ◌&&◌, not, nat_eq, nat_le, nat_lt, List, [], ◌∷◌, ◌++◌, map, length, filter, count_by, flat_map, Option, Some, None, refl, sym, subst}
+use Rattle.std.proofs.Common.{◌≡◌, ◌≤◌, ℕ, Bool, true, nat_eq, nat_le, nat_lt, List, [], ◌∷◌, ◌++◌, map, length, filter, count_by, flat_map, Option, Some, None, refl, sym, subst}
 use Rattle.std.proofs.lemmas.Bool.{leb-true, ltb-true}
 use Rattle.std.proofs.lemmas.List.Sorted.{IsPermutation-refl}
 use Rattle.std.specs.List.{list_all as all, AllByRecursion}
 use Rattle.std.specs.List.Sorted.{IsPermutation}
 use Rattle.chunk_core.specs.declared.code.Exit.{Exit}
 use Rattle.chunk_core.specs.declared.code.Exit.TheVariants.{Succeeded, Errored, Canceled}
-use Rattle.chunk_core.proofs.Bools.{both, number, not_so}
+use Rattle.chunk_core.proofs.Bools.{both, number}
 use Rattle.res_ledger.specs.declared.event.Event.{Event}
 use Rattle.res_ledger.specs.declared.event.What.{What}
 use Rattle.device_port.specs.Depot.{KeepsFilesBut, KeepsWritten}
 use Rattle.device_port.specs.Device.{Place, DeviceTold}
-use Rattle.run_rules.specs.Devices.{AreAsMany, DevicesAccounted, IsRowBelow, IsWritten, StandAsOften, is_closed_with, named, numbered, place_of_row}
+use Rattle.run_rules.specs.Devices.{AreAsMany, DevicesAccounted, IsRowBelow, IsShut, IsWrittenBy, StandAsOften, is_closed_with, named, numbered, place_of_row}
 use Rattle.run_rules.specs.Facts.{acquired_row, ended_row, failed_row, is_place}
+use Rattle.run_laws.specs.LedgerTests.{is_shut}
 use Rattle.run_laws.specs.Written.{Listing, files_of}
 use Rattle.run_laws.proofs.Performing.{by_exit}
+use Rattle.run_laws.proofs.RowsTested.{shut_so}
 
 -- what each element is that passes
 each_by : {A : Type 0} (P : A → Type 0) (test : A → Bool) → ((x : A) → test x ≡ true → P x) → (xs : List A) → all test xs ≡ true → AllByRecursion P xs
@@ -49,7 +51,7 @@ module _ (ds : List DeviceTold) (places : List Place) (L : List Event) where
   are_few = all (λ p. nat_le (count_by (is_place p) made) (count_by (is_place p) places)) made
 
   abbrev are_shut : Bool
-  are_shut = all (λ (d : DeviceTold). not d.is_open && nat_eq d.closes d.opens) ds
+  are_shut = all is_shut ds
 
   abbrev are_rows : Bool
   are_rows = all (λ (e : Event). is_below (length places) (acquired_row e.what)) L
@@ -60,14 +62,14 @@ module _ (ds : List DeviceTold) (places : List Place) (L : List Event) where
   module _ (before after : Listing) where
     pub accounted : are_few ≡ true → are_shut ≡ true → are_rows ≡ true → are_as_many (λ d. nat_eq d.opens 1) acquired_row ds places L ≡ true → are_as_many (λ d. nat_lt 0 d.close_faults) failed_row ds places L ≡ true
         → ended_with Succeeded ≡ true → ended_with Errored ≡ true → ended_with Canceled ≡ true → numbered 0 made ≡ map named ds
-        → KeepsFilesBut (IsWritten places) (Some (files_of before)) (Some (files_of after)) → AllByRecursion (KeepsWritten (Some (files_of after))) ds
+        → KeepsFilesBut (IsWrittenBy ds) (Some (files_of before)) (Some (files_of after)) → AllByRecursion (KeepsWritten (Some (files_of after))) ds
         → DevicesAccounted (record { files = Some (files_of before); made = []; retired = [] }) (record { files = Some (files_of after); made = made; retired = ds }) places L
     accounted few shut rows acquired failed succeeded errored canceled once files stored = record {
       made = refl;
       few = each_by (λ (p : Place). count_by (is_place p) made ≤ count_by (is_place p) places) (λ p. nat_le (count_by (is_place p) made) (count_by (is_place p) places)) (λ p t. leb-true (count_by (is_place p) made) (count_by (is_place p) places) t) made few;
       retired = refl;
       once = subst (λ (xs : List (ℕ × Place)). IsPermutation xs (map named ds)) (sym once) (IsPermutation-refl (map named ds));
-      shut = each_by (λ (d : DeviceTold). (d.is_open ≡ false) × (d.closes ≡ d.opens)) (λ d. not d.is_open && nat_eq d.closes d.opens) (λ d t. let b = both (not d.is_open) (nat_eq d.closes d.opens) t in (not_so d.is_open b.0, number d.closes d.opens b.1)) ds shut;
+      shut = each_by IsShut is_shut (λ d t. (shut_so d).0 t) ds shut;
       rows = each_by (λ (x : Event). IsRowBelow (length places) (acquired_row x.what)) (λ x. is_below (length places) (acquired_row x.what)) (λ x t. row_below (length places) (acquired_row x.what) t) L rows;
       acquired = as_many (λ d. nat_eq d.opens 1) acquired_row ds places L acquired;
       failed = as_many (λ d. nat_lt 0 d.close_faults) failed_row ds places L failed;

@@ -1,9 +1,8 @@
 -- The run of five files is right.
-use Rattle.std.proofs.Common.{◌≡◌, ◌<◌, ◌^◌, ℕ, List, [], ◌∷◌, ◌++◌, map, length, None, inl, inr, refl, sym, ap, ◌∙◌, subst, arith}
+use Rattle.std.proofs.Common.{◌≡◌, ◌<◌, ◌^◌, ℕ, true, List, [], ◌∷◌, ◌++◌, map, length, None, inl, inr, refl, sym, ap, ◌∙◌, subst, arith, append-nil}
 use Rattle.std.specs.Prelude.{codes}
 use Rattle.std.specs.Fmt.{digits}
 use Rattle.std.specs.List.{AllByRecursion}
-use Rattle.std.proofs.lemmas.Bool.{false≢true}
 use Rattle.std.proofs.Math.Seq.{take-length}
 use Rattle.chunk_core.specs.Elements.{Byte}
 use Rattle.chunk_core.specs.Lists.IsAmong.{here, there}
@@ -16,15 +15,19 @@ use Rattle.chunk_core.proofs.Distinct.{test_distinct}
 use Rattle.chunk_core.proofs.Rendering.{bytes_rendering}
 use Rattle.device_port.specs.Device.{DeviceTold, to_read}
 use Rattle.pull_nodes.specs.Runs.{Reads}
-use Rattle.run_rules.specs.Outputs.{IsOutput}
+use Rattle.run_rules.specs.Outputs.{IsOutput, NeverFall, elements_in_pieces, payloads_by}
 use Rattle.run_rules.specs.Run.{Performs}
 use Rattle.run_rules.specs.Texts.{tail_text}
 use Rattle.run_rules.specs.Work.{RunRecord}
 use Rattle.run_laws.specs.FiveFiles.{block, file_d, file_e, five, five_devices, five_files, five_frames, five_frames_text, five_run, five_tail_text, five_text, five_work}
+use Rattle.run_laws.specs.LedgerTests.{never_fall}
 use Rattle.run_laws.specs.Streams.{InFile, opener}
 use Rattle.run_laws.specs.Written.{IsRightRun, homes_of, read_device}
 use Rattle.run_laws.proofs.Devices.{accounted}
-use Rattle.run_laws.proofs.Performing.{read_only}
+use Rattle.run_laws.proofs.EndsTested.{ends_by, unbounded}
+use Rattle.run_laws.proofs.ExitsTested.{ran_by}
+use Rattle.run_laws.proofs.Performing.{byte_pieces, bytes_of_frames, bytes_rendered, read_only}
+use Rattle.run_laws.proofs.RowsTested.{housed_by, left_alone_so, never_fall_so}
 use Rattle.run_laws.proofs.Tested.{leased, paced, rules_by}
 
 -- files of any bytes, each of which was printed whole
@@ -36,14 +39,15 @@ module _ (a b c d e : List ℕ) (frames : List Frame) where
   home = homes_of (five_devices a b c d e)
 
   module _ (a_size : length a < 2 ^ 40) (b_size : length b < 2 ^ 40) (c_size : length c < 2 ^ 40) (d_size : length d < 2 ^ 40) (e_size : length e < 2 ^ 40)
-      (a_text : payloads_of 0 frames ≡ a) (b_text : payloads_of 1 frames ≡ b) (c_text : payloads_of 2 frames ≡ c) (d_text : payloads_of 3 frames ≡ d) (e_text : payloads_of 4 frames ≡ e)
+      (a_text : payloads_of 0 frames ≡ a) (b_text : payloads_of 1 frames ≡ b) (c_text : payloads_of 2 frames ≡ c) (d_text : payloads_of 3 frames ≡ d) (e_text : payloads_of 4 frames ≡ e) (turns : never_fall frames ≡ true)
       (numbers : AllByRecursion (λ (f : Frame). (f.stream < 5) × (0 < length f.payload)) frames) where
     output : (k : ℕ) (path bytes : List ℕ) → length bytes < 2 ^ 40 → payloads_of k frames ≡ bytes → home k ≡ read_device k path bytes Succeeded → IsOutput five_work no_values home frames k how.Done
     output k path bytes size text at = record {
-      elements = map Byte bytes;
+      pieces = byte_pieces k frames;
       end = Done;
-      run = subst (λ (x : DeviceTold). InFile x (Reads x) (map Byte bytes) Done) (sym at) (inl (inl (refl, refl, inl (ap (map Byte) (sym (take-length bytes)), (refl, size, refl, refl)))));
-      printed = text ∙ bytes_rendering bytes;
+      run = subst (λ (x : DeviceTold). InFile x (Reads x) (elements_in_pieces (byte_pieces k frames)) Done) (sym at)
+          (subst (λ xs. InFile (read_device k path bytes Succeeded) (Reads (read_device k path bytes Succeeded)) xs Done) (sym (bytes_of_frames k frames ∙ ap (map Byte) text)) (inl (inl (refl, refl, inl (ap (map Byte) (sym (take-length bytes)), (refl, size, refl, refl))))));
+      printed = bytes_rendered (payloads_by k frames);
       reported = refl;
     }
 
@@ -51,36 +55,32 @@ module _ (a b c d e : List ℕ) (frames : List Frame) where
     all_done = record {
       devices = accounted (five_devices a b c d e) (to_read (codes "a") ∷ to_read (codes "b") ∷ to_read (codes "c") ∷ to_read (codes "d") ∷ to_read (codes "e") ∷ []) run.events (five_files a b c d e) (five_files a b c d e) refl refl refl refl refl refl refl refl refl (λ path. inr refl)
           (read_only run.depot_new.files (read_device 0 (codes "a") a Succeeded) refl, (read_only run.depot_new.files (read_device 1 (codes "b") b Succeeded) refl, (read_only run.depot_new.files (read_device 2 (codes "c") c Succeeded) refl, (read_only run.depot_new.files (read_device 3 (codes "d") d Succeeded) refl, (read_only run.depot_new.files (read_device 4 (codes "e") e Succeeded) refl, tt)))));
-      ledger = rules_by five_work run.events refl refl refl refl refl (omega arith, (omega arith, (omega arith, (omega arith, (omega arith, (omega arith, tt)))))) refl (paced (opener [] 1 None) 5 run.events refl refl);
-      ran = inr (record {
-        values = no_values;
-        home = home;
-        rows = record {
-          at_home = (refl, refl, inl (here _), (refl, refl, inl (there _ (here _)), (refl, refl, inl (there _ (there _ (here _))), (refl, refl, inl (there _ (there _ (there _ (here _)))), (refl, refl, inl (there _ (there _ (there _ (there _ (here _))))), tt)))));
-          apart = test_distinct (0 ∷ 1 ∷ 2 ∷ 3 ∷ 4 ∷ []) refl;
-          tied = (tt, (tt, (refl, (tt, ((refl, refl), (tt, (tt, (refl, (tt, ((refl, refl), (tt, (tt, (refl, (tt, ((refl, refl), (tt, (tt, (refl, (tt, ((refl, refl), (tt, (tt, (refl, (tt, ((refl, refl), (tt, tt))))))))))))))))))))))))));
-          values = λ t key l. absurd (omega (arith, l));
-        };
-        outputs = record {
-          numbers = numbers;
-          few = tt;
-          outputs = (output 0 (codes "a") a a_size a_text refl, (output 1 (codes "b") b b_size b_text refl, (output 2 (codes "c") c c_size c_text refl, (output 3 (codes "d") d d_size d_text refl, (output 4 (codes "e") e e_size e_text refl, refl)))));
-          rest = refl;
-        };
-        ends = record {
-          named = refl;
-          caused = (record { halted = λ x. absurd (false≢true x); fault = refl; root = λ x. refl }, (record { halted = λ x. absurd (false≢true x); fault = refl; root = λ x. refl }, (record { halted = λ x. absurd (false≢true x); fault = refl; root = λ x. refl }, (record { halted = λ x. absurd (false≢true x); fault = refl; root = λ x. refl }, (record { halted = λ x. absurd (false≢true x); fault = refl; root = λ x. refl }, (record { halted = λ x. absurd (false≢true x); fault = refl; root = λ x. refl }, tt))))));
-          outer = (tt, (leased run.events 0 refl, (leased run.events 1 refl, (leased run.events 2 refl, (leased run.events 3 refl, (leased run.events 4 refl, tt))))));
-          stopped = record { in_turn = λ x. refl; nobody = λ x. absurd (false≢true x) };
-          memory = λ x. absurd (false≢true x);
-        };
-        exits = (λ x. (tt, (tt, (tt, (tt, (tt, (refl, tt)))))), (λ x. (tt, (refl, (tt, (refl, tt)))), (λ x. (tt, (refl, (tt, (refl, tt)))), (λ x. (tt, (refl, (tt, (refl, tt)))), (λ x. (tt, (refl, (tt, (refl, tt)))), (λ x. (tt, (refl, (tt, (refl, tt)))), tt))))));
-        completeness = λ m n. record {
-          done = (refl, (refl, (refl, (refl, (refl, (refl, tt))))));
-          clean = refl;
-          output = ((map Byte a, inl (a_size, refl, refl), a_text ∙ bytes_rendering a), ((map Byte b, inl (b_size, refl, refl), b_text ∙ bytes_rendering b), ((map Byte c, inl (c_size, refl, refl), c_text ∙ bytes_rendering c), ((map Byte d, inl (d_size, refl, refl), d_text ∙ bytes_rendering d), ((map Byte e, inl (e_size, refl, refl), e_text ∙ bytes_rendering e), tt)))));
-        };
-      });
+      ledger = rules_by five_work run.events refl refl refl refl refl (omega arith, (omega arith, (omega arith, (omega arith, (omega arith, (omega arith, tt)))))) refl refl (paced (opener [] 1 None) 5 run.events refl);
+      ran = inr (ran_by five_work run no_values home
+          (record {
+            at_home = (refl, refl, inl (here _), (refl, refl, inl (there _ (here _)), (refl, refl, inl (there _ (there _ (here _))), (refl, refl, inl (there _ (there _ (there _ (here _)))), (refl, refl, inl (there _ (there _ (there _ (there _ (here _))))), tt)))));
+            apart = test_distinct (0 ∷ 1 ∷ 2 ∷ 3 ∷ 4 ∷ []) refl;
+            tied = (tt, (tt, (refl, (tt, ((refl, refl), (tt, (tt, (refl, (tt, ((refl, refl), (tt, (tt, (refl, (tt, ((refl, refl), (tt, (tt, (refl, (tt, ((refl, refl), (tt, (tt, (refl, (tt, ((refl, refl), (tt, tt))))))))))))))))))))))))));
+            values = λ t key l. absurd (omega (arith, l));
+            alone = (left_alone_so five_work run home).0 refl;
+            housed = housed_by five_work run home ((0, omega arith, refl), ((1, omega arith, refl), ((2, omega arith, refl), ((3, omega arith, refl), ((4, omega arith, refl), tt)))));
+          })
+          (record {
+            numbers = numbers;
+            few = tt;
+            in_turn = λ t. subst NeverFall (sym (append-nil frames)) ((never_fall_so frames).0 turns);
+            outputs = (output 0 (codes "a") a a_size a_text refl, (output 1 (codes "b") b b_size b_text refl, (output 2 (codes "c") c c_size c_text refl, (output 3 (codes "d") d d_size d_text refl, (output 4 (codes "e") e e_size e_text refl, refl)))));
+            rest = refl;
+          })
+          (ends_by five_work run home refl refl
+          (record { end = (tt, (leased run.events 0 refl, (leased run.events 1 refl, (leased run.events 2 refl, (leased run.events 3 refl, (leased run.events 4 refl, tt)))))); gives = λ j s m. tt; nobody = unbounded })
+          refl refl refl)
+          refl
+          (λ m n. record {
+            done = (refl, (refl, (refl, (refl, (refl, (refl, tt))))));
+            clean = refl;
+            output = ((map Byte a, inl (a_size, refl, refl), a_text ∙ bytes_rendering a), ((map Byte b, inl (b_size, refl, refl), b_text ∙ bytes_rendering b), ((map Byte c, inl (c_size, refl, refl), c_text ∙ bytes_rendering c), ((map Byte d, inl (d_size, refl, refl), d_text ∙ bytes_rendering d), ((map Byte e, inl (e_size, refl, refl), e_text ∙ bytes_rendering e), tt)))));
+          }));
     }
 
 frames_printed : frames_text five.frames ≡ five_frames_text
@@ -93,7 +93,7 @@ tail_printed = refl
 
 pub five_right : IsRightRun five_work five five_text
 five_right = record {
-  performs = all_done (codes "a") [] (block 99) file_d file_e five_frames (omega arith) (omega arith) (omega arith) (omega arith) (omega arith) refl refl refl refl refl
+  performs = all_done (codes "a") [] (block 99) file_d file_e five_frames (omega arith) (omega arith) (omega arith) (omega arith) (omega arith) refl refl refl refl refl refl
       ((omega arith, omega arith), ((omega arith, omega arith), ((omega arith, omega arith), ((omega arith, omega arith), ((omega arith, omega arith), ((omega arith, omega arith), ((omega arith, omega arith), tt)))))));
   printed = ap (λ t. t ++ tail_text five.ends five.events) frames_printed ∙ ap (λ t. five_frames_text ++ t) tail_printed;
 }

@@ -1,4 +1,8 @@
+pub mod Deciding
+pub mod EndsTested
+pub mod ExitsTested
 pub mod Tested
+pub mod RowsTested
 pub mod Performing
 pub mod Devices
 pub mod FileRuns
@@ -9,5 +13,7 @@ pub mod Within
 pub mod Sides
 pub mod OneStream
 pub mod FiveFiles
+pub mod Judging
 pub mod Refusing
+pub mod Unacceptable
 pub mod Left

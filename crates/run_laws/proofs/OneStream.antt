@@ -12,11 +12,15 @@ use Rattle.res_ledger.specs.declared.event.StreamNo.TheVariants.{Outer}
 use Rattle.device_port.specs.Device.{to_read}
 use Rattle.run_rules.specs.Run.{Performs}
 use Rattle.run_rules.specs.Texts.{tail_text}
+use Rattle.run_rules.specs.Work.{begun_frames}
 use Rattle.run_laws.specs.Files.{path_a}
 use Rattle.run_laws.specs.OneStream.{one_stream_work, unbegun, ungiven, ungiven_text, x_listing}
 use Rattle.run_laws.specs.Streams.{opener}
 use Rattle.run_laws.specs.Written.{IsRightRun, homes_of, idle_device}
 use Rattle.run_laws.proofs.Devices.{accounted}
+use Rattle.run_laws.proofs.EndsTested.{ends_by, unbounded, unfinished}
+use Rattle.run_laws.proofs.ExitsTested.{ran_by}
+use Rattle.run_laws.proofs.RowsTested.{housed_by, left_alone_so, never_fall_so}
 use Rattle.run_laws.proofs.Tested.{paced, rules_by}
 
 printed_ungiven : frames_text ungiven.frames ++ tail_text ungiven.ends ungiven.events ≡ ungiven_text
@@ -27,22 +31,13 @@ pub ungiven_right : IsRightRun (one_stream_work (Some 0)) ungiven ungiven_text
 ungiven_right = record {
   performs = record {
     devices = accounted [] (to_read path_a ∷ []) ungiven.events x_listing x_listing refl refl refl refl refl refl refl refl refl (λ path. inr refl) tt;
-    ledger = rules_by (one_stream_work (Some 0)) ungiven.events refl refl refl refl refl (omega arith, (omega arith, tt)) refl (paced (opener [] 4 (Some 0)) 1 ungiven.events refl refl);
-    ran = inr (record {
-      values = no_values;
-      home = homes_of (idle_device 0 (to_read path_a) (codes "x\n") ∷ []);
-      rows = record { at_home = (refl, refl, inr (record { opens = refl; at = refl; written = refl; faults = refl }), tt); apart = distinct_nil; tied = (tt, tt); values = λ t key l. absurd (omega (arith, l)) };
-      outputs = record { numbers = tt; few = omega arith; outputs = (record { elements = []; end = Cut; run = inr (refl, inl (refl, tt)); printed = refl; reported = inl refl }, refl); rest = refl };
-      ends = record {
-        named = refl;
-        caused = (record { halted = λ e. inl refl; fault = refl; root = λ e. refl }, (record { halted = λ e. inl refl; fault = refl; root = λ e. absurd (false≢true e) }, tt));
-        outer = inl tt;
-        stopped = record { in_turn = λ e. absurd (false≢true e); nobody = λ e. refl };
-        memory = λ e. absurd (false≢true e);
-      };
-      exits = (λ e. (refl, tt), (λ e. tt, tt));
-      completeness = λ m n. absurd (let l = n.most in omega (arith, l));
-    });
+    ledger = rules_by (one_stream_work (Some 0)) ungiven.events refl refl refl refl refl (omega arith, (omega arith, tt)) refl refl (paced (opener [] 4 (Some 0)) 1 ungiven.events refl);
+    ran = inr (ran_by (one_stream_work (Some 0)) ungiven no_values (homes_of (idle_device 0 (to_read path_a) (codes "x\n") ∷ []))
+        (record { at_home = (refl, refl, inr (record { opens = refl; at = refl; written = refl; faults = refl }), tt); apart = distinct_nil; tied = (tt, tt); values = λ t key l. absurd (omega (arith, l)); alone = (left_alone_so (one_stream_work (Some 0)) ungiven (homes_of (idle_device 0 (to_read path_a) (codes "x\n") ∷ []))).0 refl; housed = housed_by (one_stream_work (Some 0)) ungiven (homes_of (idle_device 0 (to_read path_a) (codes "x\n") ∷ [])) tt })
+        (record { numbers = tt; few = omega arith; in_turn = λ t. (never_fall_so (begun_frames ungiven)).0 refl; outputs = (record { pieces = []; end = Cut; run = inr (refl, inl (refl, tt)); printed = refl; reported = inl refl }, refl); rest = refl })
+        (ends_by (one_stream_work (Some 0)) ungiven (homes_of (idle_device 0 (to_read path_a) (codes "x\n") ∷ [])) refl refl (record { end = inl tt; gives = λ j s m. tt; nobody = λ e. (tt, unfinished) }) refl refl refl)
+        refl
+        (λ m n. absurd (let l = n.most in omega (arith, l))));
   };
   printed = printed_ungiven;
 }
@@ -50,20 +45,11 @@ ungiven_right = record {
 pub unbegun_right : Performs (one_stream_work None) unbegun
 unbegun_right = record {
   devices = accounted [] (to_read path_a ∷ []) unbegun.events x_listing x_listing refl refl refl refl refl refl refl refl refl (λ path. inr refl) tt;
-  ledger = rules_by (one_stream_work None) unbegun.events refl refl refl refl refl (omega arith, (omega arith, tt)) refl (paced (opener [] 4 None) 1 unbegun.events refl refl);
-  ran = inr (record {
-    values = no_values;
-    home = homes_of (idle_device 0 (to_read path_a) (codes "x\n") ∷ []);
-    rows = record { at_home = (refl, refl, inr (record { opens = refl; at = refl; written = refl; faults = refl }), tt); apart = distinct_nil; tied = (tt, (tt, (tt, tt))); values = λ t key l. absurd (omega (arith, l)) };
-    outputs = record { numbers = tt; few = tt; outputs = (record { elements = []; end = Cut; run = inr (refl, inl (refl, tt)); printed = refl; reported = inr refl }, refl); rest = refl };
-    ends = record {
-      named = refl;
-      caused = (record { halted = λ e. absurd (false≢true e); fault = refl; root = λ e. refl }, (record { halted = λ e. absurd (false≢true e); fault = refl; root = λ e. absurd (false≢true e) }, tt));
-      outer = (tt, ((Outer, 0, (_, here _, refl, refl)), tt));
-      stopped = record { in_turn = λ e. absurd (false≢true e); nobody = λ e. absurd (false≢true e) };
-      memory = λ e. refl;
-    };
-    exits = (λ e. (tt, (refl, (refl, tt))), (λ e. tt, tt));
-    completeness = λ m n. absurd (false≢true (sym m));
-  });
+  ledger = rules_by (one_stream_work None) unbegun.events refl refl refl refl refl (omega arith, (omega arith, tt)) refl refl (paced (opener [] 4 None) 1 unbegun.events refl);
+  ran = inr (ran_by (one_stream_work None) unbegun no_values (homes_of (idle_device 0 (to_read path_a) (codes "x\n") ∷ []))
+      (record { at_home = (refl, refl, inr (record { opens = refl; at = refl; written = refl; faults = refl }), tt); apart = distinct_nil; tied = (tt, (tt, (tt, tt))); values = λ t key l. absurd (omega (arith, l)); alone = (left_alone_so (one_stream_work None) unbegun (homes_of (idle_device 0 (to_read path_a) (codes "x\n") ∷ []))).0 refl; housed = housed_by (one_stream_work None) unbegun (homes_of (idle_device 0 (to_read path_a) (codes "x\n") ∷ [])) tt })
+      (record { numbers = tt; few = tt; in_turn = λ t. (never_fall_so (begun_frames unbegun)).0 refl; outputs = (record { pieces = []; end = Cut; run = inr (refl, inl (refl, tt)); printed = refl; reported = inr refl }, refl); rest = refl })
+      (ends_by (one_stream_work None) unbegun (homes_of (idle_device 0 (to_read path_a) (codes "x\n") ∷ [])) refl refl (record { end = (tt, ((Outer, 0, (_, here _, refl, refl)), tt)); gives = λ j s m. tt; nobody = unbounded }) refl refl refl)
+      refl
+      (λ m n. absurd (false≢true (sym m))));
 }

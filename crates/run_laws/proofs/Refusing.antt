@@ -1,5 +1,5 @@
 -- Each run with one thing wrong is refused.
-use Rattle.std.proofs.Common.{◌≡◌, ◌≢◌, ◌⊎◌, ◌+◌, ℕ, List, [], ◌∷◌, ◌++◌, map, length, Option, Some, None, IfSome, refl, sym, ap, ◌∙◌, subst, inl, inr, arith, ⊎_elim}
+use Rattle.std.proofs.Common.{◌≡◌, ◌+◌, ℕ, List, [], ◌∷◌, ◌++◌, map, flat_map, length, Option, Some, None, IfSome, refl, sym, ap, ◌∙◌, subst, inl, inr, arith, ⊎_elim}
 use Rattle.std.specs.Prelude.{codes, unwrap_or}
 use Rattle.std.proofs.lemmas.Bool.{false≢true, lt-ltb}
 use Rattle.chunk_core.specs.Elements.{Byte, Element, Row, rendering_of}
@@ -7,8 +7,7 @@ use Rattle.chunk_core.specs.Lists.{IsAmong}
 use Rattle.chunk_core.specs.Feed.{Given}
 use Rattle.chunk_core.specs.Outcomes.{End, Cut, Done, Fault, Outcomes}
 use Rattle.chunk_core.specs.Tables.{no_values}
-use Rattle.chunk_core.specs.declared.code.Exit.{Exit}
-use Rattle.chunk_core.specs.declared.code.Exit.TheVariants.{Succeeded, Errored, Canceled}
+use Rattle.chunk_core.specs.declared.code.Exit.TheVariants.{Errored}
 use Rattle.chunk_core.specs.declared.code.How.{How}
 use Rattle.chunk_core.specs.declared.code.How.TheVariants as how
 use Rattle.chunk_core.proofs.Members.{among_cons, among_nil}
@@ -27,9 +26,8 @@ use Rattle.pull_nodes.specs.declared.pipe.Pipe.TheVariants as pipe
 use Rattle.pull_nodes.proofs.Fronts.{front_cons}
 use Rattle.pull_nodes.proofs.Lines.{lines_lawful}
 use Rattle.run_rules.specs.Homes.{IsUntouched}
-use Rattle.run_rules.specs.Outputs.{IsReported}
-use Rattle.run_rules.specs.Run.{IsUnmade, Performs, Ran}
-use Rattle.run_rules.specs.Work.{RunRecord, Work}
+use Rattle.run_rules.specs.Outputs.{IsReported, elements_in_pieces}
+use Rattle.run_rules.specs.Run.{Performs}
 use Rattle.run_laws.specs.FiveFiles.{five_work}
 use Rattle.run_laws.specs.OneStream.{one_stream_work}
 use Rattle.run_laws.specs.Others.{copy_work, no_streams, silent_work, stopped_work, u_csv}
@@ -38,32 +36,18 @@ use Rattle.run_laws.specs.Sides.{LinesIn, paired, pairs_work, three_lines, two_l
 use Rattle.run_laws.specs.Streams.{Gathered, InFile, Leaves, ThroughPipe, value_in}
 use Rattle.run_laws.specs.Tables.{looked_up, lookup_work, t_csv, table_bytes, unread_table_device}
 use Rattle.run_laws.specs.Written.{read_device}
+use Rattle.run_laws.proofs.Judging.{by_causes, by_exits, by_leaving, by_ours, by_pace, by_shut, by_stops, no_nil, ran}
 use Rattle.run_laws.proofs.Sides.{pairs, pairs_text, three, three_all, three_fault, two, two_all, two_fault}
 use Rattle.run_laws.proofs.Tables.{row_texts}
-use Rattle.run_laws.proofs.Tested.{ahead_found, leaving_found, within_found}
-use Rattle.run_laws.proofs.Within.{IsWithin, file_within, front_trans, left_within, piped_within, reads_within, rendered_front}
-
-no_nil : {A : Type 0} (x : A) (xs : List A) → (x ∷ xs) ≢ []
-no_nil x xs e = cc
-
--- a run with ends was begun
-ran : (work : Work) (c : RunRecord) → (c.ends ≡ [] → ⊥) → Performs work c → Ran work c
-ran work c some h = ⊎_elim (λ (u : IsUnmade c). absurd (some u.ends)) (λ r. r) h.ran
-
--- nothing gave a cause
-no_cause : {A B C D : Type 0} → (A → ⊥) → (B → ⊥) → (C → ⊥) → (D → ⊥) → A ⊎ B ⊎ C ⊎ D → ⊥
-no_cause a b c d (inl x) = a x
-no_cause a b c d (inr (inl x)) = b x
-no_cause a b c d (inr (inr (inl x))) = c x
-no_cause a b c d (inr (inr (inr x))) = d x
+use Rattle.run_laws.proofs.Within.{IsWithin, file_within, front_trans, left_within, piped_within, reads_within, rendered_front, rendered_pieces}
 
 -- How far the outer stream is ahead, and how many are open.
 
 pub without_lease_refused : ¬ (Performs stopped_work without_lease)
-without_lease_refused h = false≢true (ahead_found without_lease.events h.ledger.pace.0)
+without_lease_refused h = by_pace without_lease.events refl h.ledger.pace
 
 pub two_open_refused : ¬ (Performs in_turn_work two_open)
-two_open_refused h = false≢true (within_found 1 2 two_open.events h.ledger.pace.1)
+two_open_refused h = by_pace two_open.events refl h.ledger.pace
 
 -- Rows.
 
@@ -74,23 +58,23 @@ pub leased_table_ended_refused : ¬ (Performs lookup_work leased_table_ended)
 leased_table_ended_refused h = false≢true (legal_found leased_table_ended.events h.ledger.legal)
 
 pub stolen_row_refused : ¬ (Performs stopped_work stolen_row)
-stolen_row_refused h = false≢true h.ledger.ours
+stolen_row_refused = by_ours stopped_work stolen_row refl
 
 pub invented_scope_refused : ¬ (Performs copy_work invented_scope)
 invented_scope_refused h = let l = h.ledger.scopes.1.0 in omega (arith, l)
 
 pub lease_by_a_stream_refused : ¬ (Performs stopped_work lease_by_a_stream)
-lease_by_a_stream_refused h = false≢true h.ledger.ours
+lease_by_a_stream_refused = by_ours stopped_work lease_by_a_stream refl
 
 pub left_before_closing_refused : ¬ (Performs copy_work left_before_closing)
-left_before_closing_refused h = false≢true (leaving_found left_before_closing.events h.ledger.leaving)
+left_before_closing_refused = by_leaving copy_work left_before_closing refl
 
 -- Devices.
 
 pub second_device_refused : ¬ (Performs copy_work second_device)
 second_device_refused h = let l = h.devices.few.1.0 in omega (arith, l)
 
-abbrev size_of : Option (List ℕ) → ℕ
+abbrev pub size_of : Option (List ℕ) → ℕ
 size_of (Some bytes) = length bytes
 size_of None = 0
 
@@ -117,7 +101,7 @@ how_number (how.Fault c) = 2
 how_number how.Memory = 3
 
 -- an end that is reported as done is Done
-done : (e : End) → IsReported e how.Done → e ≡ Done
+pub done : (e : End) → IsReported e how.Done → e ≡ Done
 done Done r = refl
 done (Fault c) r = let h = ap how_number r in absurd (omega (arith, h))
 done Cut (inl r) = let h = ap how_number r in absurd (omega (arith, h))
@@ -149,35 +133,35 @@ another_value_refused h =
     let o = r.outputs.outputs.0 in
     let content : (r.home 0).content ≡ Some table_bytes = r.rows.at_home.1 in
     let at_key : (key : List ℕ) → r.values 0 key ≡ value_in table_bytes key = λ key. subst (λ c. IfSome c (λ bytes. r.values 0 key ≡ value_in bytes key)) content (r.rows.values 0 key (omega arith)) in
-    let rows : o.elements ≡ (looked_up r.values).list = gathered_done (r.home 1) (looked_up r.values) o.elements o.end (done o.end o.reported) o.run in
+    let rows : elements_in_pieces o.pieces ≡ (looked_up r.values).list = gathered_done (r.home 1) (looked_up r.values) (elements_in_pieces o.pieces) o.end (done o.end o.reported) o.run in
     let same : (looked_up r.values).list ≡ rows_by (Some (codes "v")) None = ap (λ x. rows_by x (r.values 0 (codes "z"))) (at_key (codes "k")) ∙ ap (λ x. rows_by (Some (codes "v")) x) (at_key (codes "z")) in
-    let text : codes "k,w\nz,\n" ≡ codes "k,v\nz,\n" = o.printed ∙ (ap rendering_of (rows ∙ same) ∙ sym row_texts) in
+    let text : codes "k,w\nz,\n" ≡ codes "k,v\nz,\n" = ap (λ ps. flat_map (λ p. p) ps) o.printed ∙ (sym (rendered_pieces o.pieces) ∙ (ap rendering_of (rows ∙ same) ∙ sym row_texts)) in
     let n = ap third_of text in omega (arith, n)
 
 -- Ends.
 
 pub halted_by_a_later_one_refused : ¬ (Performs in_turn_work halted_by_a_later_one)
-halted_by_a_later_one_refused h = let r = ran in_turn_work halted_by_a_later_one (no_nil _ _) h in no_cause false≢true false≢true false≢true false≢true (r.ends.caused.1.0.halted refl)
+halted_by_a_later_one_refused = by_causes in_turn_work halted_by_a_later_one (no_nil _ _) refl
 
 pub stopped_by_nothing_refused : ¬ (Performs copy_work stopped_by_nothing)
-stopped_by_nothing_refused h = let r = ran copy_work stopped_by_nothing (no_nil _ _) h in no_cause false≢true false≢true false≢true false≢true (r.ends.caused.1.0.halted refl)
+stopped_by_nothing_refused = by_causes copy_work stopped_by_nothing (no_nil _ _) refl
 
 pub fault_of_no_device_refused : ¬ (Performs lookup_work fault_of_no_device)
-fault_of_no_device_refused h = let r = ran lookup_work fault_of_no_device (no_nil _ _) h in false≢true r.ends.caused.1.0.fault
+fault_of_no_device_refused = by_causes lookup_work fault_of_no_device (no_nil _ _) refl
 
 pub root_never_closed_refused : ¬ (Performs silent_work root_never_closed)
-root_never_closed_refused h = let r = ran silent_work root_never_closed (no_nil _ _) h in false≢true (r.ends.caused.0.root refl)
+root_never_closed_refused = by_causes silent_work root_never_closed (no_nil _ _) refl
 
 pub tables_never_acquired_refused : ¬ (Performs (no_streams (t_csv ∷ u_csv ∷ [])) tables_never_acquired)
 tables_never_acquired_refused h =
     let r = ran (no_streams (t_csv ∷ u_csv ∷ [])) tables_never_acquired (no_nil _ _) h in
-    let a : IsAcquired tables_never_acquired.events 0 = r.ends.outer.0.0.acquired in
+    let a : IsAcquired tables_never_acquired.events 0 = r.ends.outer.end.0.0.acquired in
     ⊎_elim (λ e. apart (ap (λ (x : Event). x.what) (sym e) ∙ a.2.3) refl) among_nil (among_cons a.2.1)
 
 pub nobody_given_refused : ¬ (Performs in_turn_work nobody_given)
 nobody_given_refused h =
     let r = ran in_turn_work nobody_given (no_nil _ _) h in
-    let a : IsLeased nobody_given.events 0 = r.ends.outer.1.0 in
+    let a : IsLeased nobody_given.events 0 = r.ends.outer.end.1.0 in
     ⊎_elim (λ e. apart (ap (λ (x : Event). x.what) (sym e) ∙ a.2.3) refl) among_nil (among_cons a.2.1)
 
 abbrev first_of : List ℕ → ℕ
@@ -207,34 +191,29 @@ next_table_tried_refused h =
     let u : (r.home 0).read_faults ≡ 0 = x.0.unfailed in omega (arith, f, u))
     (λ (n : IsUntouched (r.home 0)). let z = n.opens in let o : (r.home 0).opens ≡ 1 = r.rows.tied.0 in omega (arith, z, o))
     r.rows.at_home.2)
-    r.ends.outer
+    r.ends.outer.end
 
 -- Stopping.
 
 pub stopped_one_begins_refused : ¬ (Performs stopped_work stopped_one_begins)
-stopped_one_begins_refused h = let r = ran stopped_work stopped_one_begins (no_nil _ _) h in false≢true (r.ends.stopped.in_turn refl)
+stopped_one_begins_refused = by_stops stopped_work stopped_one_begins (no_nil _ _) refl
 
 pub begins_behind_a_fault_refused : ¬ (Performs in_turn_work begins_behind_a_fault)
-begins_behind_a_fault_refused h = let r = ran in_turn_work begins_behind_a_fault (no_nil _ _) h in false≢true (r.ends.stopped.in_turn refl)
+begins_behind_a_fault_refused = by_stops in_turn_work begins_behind_a_fault (no_nil _ _) refl
 
 pub begins_behind_a_failed_write_refused : ¬ (Performs in_turn_work begins_behind_a_failed_write)
-begins_behind_a_failed_write_refused h = let r = ran in_turn_work begins_behind_a_failed_write (no_nil _ _) h in false≢true (r.ends.stopped.in_turn refl)
+begins_behind_a_failed_write_refused = by_stops in_turn_work begins_behind_a_failed_write (no_nil _ _) refl
 
 pub begins_in_silence_refused : ¬ (Performs silent_work begins_in_silence)
-begins_in_silence_refused h = let r = ran silent_work begins_in_silence (no_nil _ _) h in false≢true (r.ends.stopped.nobody refl)
+begins_in_silence_refused = by_stops silent_work begins_in_silence (no_nil _ _) refl
 
 -- Exits.
 
-abbrev exit_number : Exit → ℕ
-exit_number Succeeded = 0
-exit_number Errored = 1
-exit_number Canceled = 2
-
 pub root_told_otherwise_refused : ¬ (Performs copy_work root_told_otherwise)
-root_told_otherwise_refused h = let r = ran copy_work root_told_otherwise (no_nil _ _) h in let e = ap exit_number ((r.exits.0 refl).1.0) in omega (arith, e)
+root_told_otherwise_refused = by_exits copy_work root_told_otherwise (no_nil _ _) refl
 
 pub cancel_told_otherwise_refused : ¬ (Performs copy_work cancel_told_otherwise)
-cancel_told_otherwise_refused h = let r = ran copy_work cancel_told_otherwise (no_nil _ _) h in let e = ap exit_number ((r.exits.1.0 refl).1.1.1.1.1.0) in omega (arith, e)
+cancel_told_otherwise_refused = by_exits copy_work cancel_told_otherwise (no_nil _ _) refl
 
 -- Two sides.
 
@@ -257,7 +236,7 @@ zipped_left A B vs ws zs h a b (inr (c, inl n)) = subst (λ l. IsFront l (pairs_
 zipped_left A B vs ws zs h a b (inr (c, inr m)) = front_trans zs (zs ++ m.0) (pairs_of vs ws) (m.0, refl) (zipped_front A B vs ws (zs ++ m.0) m.1 a b m.2)
 
 -- a file of these bytes gives these lines or a front of them
-lines_within : (d : DeviceTold) (bytes : List ℕ) (lines : List Element) → d.content ≡ Some bytes → (part_of no_values pipe.Lines (map Byte bytes)).fault ≡ None → all_of no_values pipe.Lines (map Byte bytes) ≡ without_fault lines → IsWithin (LinesIn d) lines
+pub lines_within : (d : DeviceTold) (bytes : List ℕ) (lines : List Element) → d.content ≡ Some bytes → (part_of no_values pipe.Lines (map Byte bytes)).fault ≡ None → all_of no_values pipe.Lines (map Byte bytes) ≡ without_fault lines → IsWithin (LinesIn d) lines
 lines_within d bytes lines k good e =
     subst (λ l. IsWithin (LinesIn d) l) (ap (λ (g : Given). g.list) e)
     (file_within d (ThroughPipe (Leaves (Reads d)) pipe.Lines) (all_of no_values pipe.Lines (map Byte bytes)).list
@@ -270,8 +249,8 @@ pairs_printed text h =
     let o = r.outputs.outputs.0 in
     let left : (r.home 0).content ≡ Some three_lines = r.rows.at_home.1 in
     let right : (r.home 1).content ≡ Some two_lines = r.rows.at_home.3.1 in
-    let front = zipped_left (LinesIn (r.home 0)) (LinesIn (r.home 1)) three two o.elements o.end (lines_within (r.home 0) three_lines three left three_fault three_all) (lines_within (r.home 1) two_lines two right two_fault two_all) o.run in
-    subst (λ t. IsFront t (codes "a,1\nb,2\n")) (sym o.printed) (subst (λ t. IsFront (rendering_of o.elements) t) (sym pairs_text) (rendered_front o.elements pairs front))
+    let front = zipped_left (LinesIn (r.home 0)) (LinesIn (r.home 1)) three two (elements_in_pieces o.pieces) o.end (lines_within (r.home 0) three_lines three left three_fault three_all) (lines_within (r.home 1) two_lines two right two_fault two_all) o.run in
+    subst (λ t. IsFront t (codes "a,1\nb,2\n")) (rendered_pieces o.pieces ∙ sym (ap (λ ps. flat_map (λ p. p) ps) o.printed)) (subst (λ t. IsFront (rendering_of (elements_in_pieces o.pieces)) t) (sym pairs_text) (rendered_front (elements_in_pieces o.pieces) pairs front))
 
 pub third_pair_refused : ¬ (Performs pairs_work third_pair)
 third_pair_refused h = let f = pairs_printed (codes "a,1\nb,2\nc,\n") h in let l = ap length f.1 in omega (arith, l)
@@ -280,29 +259,29 @@ pub crossed_pairs_refused : ¬ (Performs pairs_work crossed_pairs)
 crossed_pairs_refused h = let f = pairs_printed (codes "a,2\nb,1\n") h in let l = ap third_of f.1 in omega (arith, l)
 
 pub side_left_open_refused : ¬ (Performs pairs_work side_left_open)
-side_left_open_refused h = let n = h.devices.shut.1.0.1 in omega (arith, n)
+side_left_open_refused = by_shut pairs_work side_left_open refl
 
 -- Five files.
 
 pub third_too_early_refused : ¬ (Performs five_work third_too_early)
-third_too_early_refused h = false≢true (within_found 1 5 third_too_early.events h.ledger.pace.1)
+third_too_early_refused h = by_pace third_too_early.events refl h.ledger.pace
 
 pub another_number_refused : ¬ (Performs five_work another_number)
 another_number_refused h =
     let r = ran five_work another_number (no_nil _ _) h in
     let o = r.outputs.outputs.1.0 in
     let nothing : (r.home 1).content ≡ Some [] = r.rows.at_home.3.1 in
-    let front = rendered_front o.elements [] (file_within (r.home 1) (Reads (r.home 1)) [] (reads_within (r.home 1) [] nothing) o.elements o.end o.run).0 in
-    let f : IsFront (codes "a") [] = subst (λ t. IsFront t []) (sym o.printed) front in
+    let front = rendered_front (elements_in_pieces o.pieces) [] (file_within (r.home 1) (Reads (r.home 1)) [] (reads_within (r.home 1) [] nothing) (elements_in_pieces o.pieces) o.end o.run).0 in
+    let f : IsFront (codes "a") [] = subst (λ t. IsFront t []) (rendered_pieces o.pieces ∙ sym (ap (λ ps. flat_map (λ p. p) ps) o.printed)) front in
     no_nil 97 f.0 (sym f.1)
 
 -- One stream.
 
 pub done_without_close_refused : ¬ (Performs (one_stream_work None) done_without_close)
-done_without_close_refused h = let r = ran (one_stream_work None) done_without_close (no_nil _ _) h in false≢true (r.ends.caused.0.root refl)
+done_without_close_refused = by_causes (one_stream_work None) done_without_close (no_nil _ _) refl
 
 pub begins_unwanted_refused : ¬ (Performs (one_stream_work (Some 0)) begins_unwanted)
-begins_unwanted_refused h = let r = ran (one_stream_work (Some 0)) begins_unwanted (no_nil _ _) h in false≢true (r.ends.stopped.nobody refl)
+begins_unwanted_refused = by_stops (one_stream_work (Some 0)) begins_unwanted (no_nil _ _) refl
 
 pub canceled_by_another_refused : ¬ (Performs (one_stream_work None) canceled_by_another)
 canceled_by_another_refused h = false≢true (legal_found canceled_by_another.events h.ledger.legal)

@@ -1,5 +1,5 @@
 -- Each run over two sides is right.
-use Rattle.std.proofs.Common.{◌≡◌, ◌<◌, ℕ, Bool, true, false, List, [], ◌∷◌, ◌++◌, map, length, None, inl, inr, refl, arith}
+use Rattle.std.proofs.Common.{◌≡◌, ◌<◌, ℕ, Bool, true, false, List, [], ◌∷◌, ◌++◌, map, length, None, inl, inr, refl, ap, arith}
 use Rattle.std.specs.Prelude.{codes}
 use Rattle.std.specs.Fmt.{digits}
 use Rattle.std.specs.List.{AllByRecursion}
@@ -19,6 +19,7 @@ use Rattle.pull_nodes.specs.Lines.{without_pairs, ended_lines, open_line}
 use Rattle.pull_nodes.specs.Pipes.{part_of, all_of}
 use Rattle.pull_nodes.specs.Runs.{Reads, ReadsWhole}
 use Rattle.pull_nodes.specs.declared.pipe.Pipe.TheVariants as pipe
+use Rattle.run_rules.specs.Outputs.{elements_in_pieces, payloads_by}
 use Rattle.run_rules.specs.Run.{Performs}
 use Rattle.run_rules.specs.Texts.{tail_text}
 use Rattle.run_rules.specs.Work.{RunRecord}
@@ -27,6 +28,9 @@ use Rattle.run_laws.specs.Streams.{Leaves, opener}
 use Rattle.run_laws.specs.Written.{IsRightRun, homes_of, read_device}
 use Rattle.run_laws.proofs.Devices.{accounted}
 use Rattle.run_laws.proofs.Performing.{piped_done, piped_left, read_only}
+use Rattle.run_laws.proofs.EndsTested.{ends_by, unbounded}
+use Rattle.run_laws.proofs.ExitsTested.{ran_by}
+use Rattle.run_laws.proofs.RowsTested.{housed_by, left_alone_so}
 use Rattle.run_laws.proofs.Tested.{paced, rules_by}
 
 -- a run of two sides that is done
@@ -40,26 +44,17 @@ module _ (runs ideal : DeviceTold → DeviceTold → Outcomes) (p_bytes q_bytes 
   abbrev c : RunRecord
   c = sides_run p_bytes ended q_bytes frames
 
-  sides_done : (elements : List Element) → AllByRecursion (λ (f : Frame). (f.stream < 1) × (0 < length f.payload)) frames → payloads_of 0 frames ≡ rendering_of elements → runs p_device q_device elements Done → ideal p_device q_device elements Done
+  sides_done : (pieces : List (List Element)) → AllByRecursion (λ (f : Frame). (f.stream < 1) × (0 < length f.payload)) frames → payloads_by 0 frames ≡ map rendering_of pieces → payloads_of 0 frames ≡ rendering_of (elements_in_pieces pieces) → runs p_device q_device (elements_in_pieces pieces) Done → ideal p_device q_device (elements_in_pieces pieces) Done
       → Performs (sides_work runs ideal) c
-  sides_done elements numbers printed run whole = record {
+  sides_done pieces numbers printed text run whole = record {
     devices = accounted (p_device ∷ q_device ∷ []) (to_read path_p ∷ to_read path_q ∷ []) c.events ((path_p, p_bytes) ∷ (path_q, q_bytes) ∷ []) ((path_p, p_bytes) ∷ (path_q, q_bytes) ∷ []) refl refl refl refl refl refl refl refl refl (λ path. inr refl) (read_only c.depot_new.files p_device refl, (read_only c.depot_new.files q_device refl, tt));
-    ledger = rules_by (sides_work runs ideal) c.events refl refl refl refl refl (omega arith, (omega arith, tt)) refl (paced (opener [] 4 None) 1 c.events refl refl);
-    ran = inr (record {
-      values = no_values;
-      home = homes_of (p_device ∷ q_device ∷ []);
-      rows = record { at_home = (refl, refl, inl (here _), (refl, refl, inl (there _ (here _)), tt)); apart = test_distinct (0 ∷ 1 ∷ []) refl; tied = (tt, (tt, (refl, (refl, (tt, ((refl, refl), ((refl, refl), (tt, tt)))))))); values = λ t key l. absurd (omega (arith, l)) };
-      outputs = record { numbers = numbers; few = tt; outputs = (record { elements = elements; end = Done; run = run; printed = printed; reported = refl }, refl); rest = refl };
-      ends = record {
-        named = refl;
-        caused = (record { halted = λ e. absurd (false≢true e); fault = refl; root = λ e. refl }, (record { halted = λ e. absurd (false≢true e); fault = refl; root = λ e. refl }, tt));
-        outer = (tt, ((Outer, 0, (_, here _, refl, refl)), tt));
-        stopped = record { in_turn = λ e. absurd (false≢true e); nobody = λ e. absurd (false≢true e) };
-        memory = λ e. absurd (false≢true e);
-      };
-      exits = (λ e. (tt, (refl, tt)), (λ e. (tt, (tt, (refl, (tt, (tt, (refl, tt)))))), tt));
-      completeness = λ m n. record { done = (refl, (refl, tt)); clean = refl; output = ((elements, whole, printed), tt) };
-    });
+    ledger = rules_by (sides_work runs ideal) c.events refl refl refl refl refl (omega arith, (omega arith, tt)) refl refl (paced (opener [] 4 None) 1 c.events refl);
+    ran = inr (ran_by (sides_work runs ideal) c no_values (homes_of (p_device ∷ q_device ∷ []))
+        (record { at_home = (refl, refl, inl (here _), (refl, refl, inl (there _ (here _)), tt)); apart = test_distinct (0 ∷ 1 ∷ []) refl; tied = (tt, (tt, (refl, (refl, (tt, ((refl, refl), ((refl, refl), (tt, tt)))))))); values = λ t key l. absurd (omega (arith, l)); alone = (left_alone_so (sides_work runs ideal) c (homes_of (p_device ∷ q_device ∷ []))).0 refl; housed = housed_by (sides_work runs ideal) c (homes_of (p_device ∷ q_device ∷ [])) ((0, omega arith, refl), ((1, omega arith, refl), tt)) })
+        (record { numbers = numbers; few = tt; in_turn = λ t. absurd (false≢true t); outputs = (record { pieces = pieces; end = Done; run = run; printed = printed; reported = refl }, refl); rest = refl })
+        (ends_by (sides_work runs ideal) c (homes_of (p_device ∷ q_device ∷ [])) refl refl (record { end = (tt, ((Outer, 0, (_, here _, refl, refl)), tt)); gives = λ j s m. tt; nobody = unbounded }) refl refl refl)
+        refl
+        (λ m n. record { done = (refl, (refl, tt)); clean = refl; output = ((elements_in_pieces pieces, whole, text), tt) }));
   }
 
 -- The lines.
@@ -142,7 +137,7 @@ three_left = inl (inl (refl, refl, inl (piped_left (part_of no_values pipe.Lines
 
 pub paired_right : IsRightRun pairs_work paired paired_text
 paired_right = record {
-  performs = sides_done PairsIn WholePairs three_lines two_lines false paired.frames pairs ((omega arith, omega arith), tt) pairs_text
+  performs = sides_done PairsIn WholePairs three_lines two_lines false paired.frames (pairs ∷ []) ((omega arith, omega arith), tt) (ap (λ t. t ∷ []) pairs_text) pairs_text
       (inl (three, two, Cut, Done, three_left, lines_done two_device two_lines two two_fault two_all refl refl (refl, (refl, omega arith, refl, refl)), refl, inr (omega arith, refl)))
       (three, two, Done, Done, whole_lines three_device three_lines three three_fault three_all (inl (omega arith, refl, refl)), whole_lines two_device two_lines two two_fault two_all (inl (omega arith, refl, refl)), refl, inr (omega arith, refl));
   printed = printed_paired;
@@ -184,7 +179,7 @@ y_whole = whole_lines y_side (codes "y\n") (y_line ∷ []) y_fault y_all (inl (o
 
 pub merged_right : IsRightRun merge_work merged merged_text
 merged_right = record {
-  performs = sides_done MergeIn WholeMerge (codes "x\n") (codes "y\n") true merged.frames (x_line ∷ y_line ∷ []) ((omega arith, omega arith), ((omega arith, omega arith), tt)) refl
+  performs = sides_done MergeIn WholeMerge (codes "x\n") (codes "y\n") true merged.frames ((x_line ∷ []) ∷ (y_line ∷ []) ∷ []) ((omega arith, omega arith), ((omega arith, omega arith), tt)) refl refl
       (inl (x_line ∷ [], y_line ∷ [], Done, Done, inl x_lines, inl y_lines, inl ([], refl, inr ([], refl, (refl, refl))), (refl, refl)))
       (x_line ∷ [], y_line ∷ [], Done, Done, inl x_whole, inl y_whole, inl ([], refl, inr ([], refl, (refl, refl))), (refl, refl));
   printed = printed_merged;
@@ -192,7 +187,7 @@ merged_right = record {
 
 pub merged_back_right : IsRightRun merge_work merged_back merged_back_text
 merged_back_right = record {
-  performs = sides_done MergeIn WholeMerge (codes "x\n") (codes "y\n") true merged_back.frames (y_line ∷ x_line ∷ []) ((omega arith, omega arith), ((omega arith, omega arith), tt)) refl
+  performs = sides_done MergeIn WholeMerge (codes "x\n") (codes "y\n") true merged_back.frames ((y_line ∷ []) ∷ (x_line ∷ []) ∷ []) ((omega arith, omega arith), ((omega arith, omega arith), tt)) refl refl
       (inl (x_line ∷ [], y_line ∷ [], Done, Done, inl x_lines, inl y_lines, inr ([], refl, inl ([], refl, (refl, refl))), (refl, refl)))
       (x_line ∷ [], y_line ∷ [], Done, Done, inl x_whole, inl y_whole, inr ([], refl, inl ([], refl, (refl, refl))), (refl, refl));
   printed = printed_merged_back;

@@ -1,5 +1,5 @@
 -- What a run over a file can give is a front of what the whole file gives.
-use Rattle.std.proofs.Common.{◌≡◌, ◌≢◌, ℕ, List, [], ◌∷◌, ◌++◌, map, take, drop, length, Option, Some, None, IfSome, inl, inr, refl, sym, ap, ◌∙◌, subst, append_assoc}
+use Rattle.std.proofs.Common.{◌≡◌, ◌≢◌, ℕ, List, [], ◌∷◌, ◌++◌, map, flat_map, take, drop, length, Option, Some, None, IfSome, inl, inr, refl, sym, ap, ◌∙◌, subst, append_assoc}
 use Rattle.std.proofs.lemmas.List.{take-append-drop}
 use Rattle.std.proofs.Math.Seq.{take-length}
 use Rattle.chunk_core.specs.Elements.{Element, Byte, element_text, rendering_of}
@@ -11,16 +11,17 @@ use Rattle.pull_nodes.specs.Plain.{IsFront}
 use Rattle.pull_nodes.specs.Runs.{FirstBytes, GivesAtEnd, GivesBy, OpensThen, Piped, Reads, StopsReading}
 use Rattle.pull_nodes.proofs.Fronts.{front_map, front_same}
 use Rattle.pull_nodes.proofs.Steady.{SteadyBy}
+use Rattle.run_rules.specs.Outputs.{elements_in_pieces}
 use Rattle.run_laws.specs.Streams.{InFile, Leaves}
 
 -- what R gives is a front of ws, and all of it where R is done
 abbrev pub IsWithin : Outcomes → List Element → Type 0
 IsWithin R ws = (ys : List Element) (e : End) → R ys e → IsFront ys ws × (e ≡ Done → ys ≡ ws)
 
-cut_done : Cut ≢ Done
+pub cut_done : Cut ≢ Done
 cut_done e = cc
 
-fault_done : (c : Code) → Fault c ≢ Done
+pub fault_done : (c : Code) → Fault c ≢ Done
 fault_done c e = cc
 
 none_some : (c : Code) → None ≢ Some c
@@ -93,3 +94,8 @@ rendered (x ∷ xs) ys = ap (λ l. element_text x ++ l) (rendered xs ys) ∙ sym
 -- the text of a front is a front of the text
 pub rendered_front : (xs ws : List Element) → IsFront xs ws → IsFront (rendering_of xs) (rendering_of ws)
 rendered_front xs ws f = (rendering_of f.0, ap rendering_of f.1 ∙ rendered xs f.0)
+
+-- the text of pieces is their texts one after another
+pub rendered_pieces : (ps : List (List Element)) → rendering_of (elements_in_pieces ps) ≡ flat_map (λ p. p) (map rendering_of ps)
+rendered_pieces [] = refl
+rendered_pieces (p ∷ ps) = rendered p (elements_in_pieces ps) ∙ ap (λ l. rendering_of p ++ l) (rendered_pieces ps)

@@ -7,4 +7,7 @@ pub mod Sides
 pub mod FiveFiles
 pub mod OneStream
 pub mod Refused
+pub mod Unacceptable
+pub mod EndTests
+pub mod LedgerTests
 pub mod Laws

@@ -1,10 +1,11 @@
-//! Runs with one thing wrong each.
+//! Runs with one thing wrong each, and runs that no user would accept.
 ghost use Rattle.run_laws.specs.FiveFiles.{five_work};
 ghost use Rattle.run_laws.specs.OneStream.{one_stream_work};
 ghost use Rattle.run_laws.specs.Others.{copy_work, no_streams, silent_work, stopped_work, u_csv};
 ghost use Rattle.run_laws.specs.Refused.{another_number, another_value, begins_behind_a_failed_write, begins_behind_a_fault, begins_in_silence, begins_unwanted, cancel_told_otherwise, canceled_by_another, crossed_pairs, cut_behind_the_last, done_without_close, fault_of_no_device, first_table_first, halted_by_a_later_one, in_turn_work, invented_scope, lease_by_a_stream, leased_table_ended, left_before_closing, next_table_tried, nobody_given, one_frame_too_many, one_frame_work, other_bytes_stored, root_never_closed, root_told_otherwise, second_device, side_left_open, stolen_row, stopped_by_nothing, stopped_one_begins, tables_never_acquired, third_pair, third_too_early, two_open, without_lease};
 ghost use Rattle.run_laws.specs.Sides.{pairs_work};
 ghost use Rattle.run_laws.specs.Tables.{lookup_work, t_csv};
+ghost use Rattle.run_laws.specs.Unacceptable.{AreUnacceptable};
 ghost use Rattle.run_rules.specs.Run.{Performs};
 ghost use Rattle.std.specs.Prelude.{[], ◌∷◌, None, Some};
 
@@ -81,4 +82,9 @@ pub fn wrong_stream()
     ensures is_done_without_close { ¬ (Performs (one_stream_work None) done_without_close) }
     ensures is_begins_unwanted { ¬ (Performs (one_stream_work (Some 0)) begins_unwanted) }
     ensures is_canceled_by_another { ¬ (Performs (one_stream_work None) canceled_by_another) }
+{}
+
+/// Runs of which each is all right but for one thing, and that no user would accept.
+pub fn unacceptable()
+    ensures { AreUnacceptable }
 {}

@@ -7,7 +7,8 @@ use Rattle.chunk_core.specs.declared.code.Exit.{Exit}
 use Rattle.res_ledger.specs.declared.event.What.{What}
 use Rattle.res_ledger.specs.declared.event.Event.{Event}
 use Rattle.res_ledger.specs.Order.{same_exit}
-use Rattle.device_port.specs.Device.{Place, DeviceTold, to_write}
+use Rattle.device_port.specs.declared.device.Mode.TheVariants as mode
+use Rattle.device_port.specs.Device.{Place, DeviceTold}
 use Rattle.device_port.specs.Depot.{DepotTold, KeepsFilesBut, KeepsWritten}
 use Rattle.run_rules.specs.Facts.{is_place, at, acquired_row, failed_row, ended_row}
 
@@ -53,23 +54,33 @@ abbrev pub IsRowBelow : ℕ → Option ℕ → Type 0
 IsRowBelow n None = Unit {0}
 IsRowBelow n (Some r) = r < n
 
--- a path that is written by the run
-abbrev pub IsWritten : List Place → List ℕ → Type 0
-IsWritten ps path = IsAmong (to_write path) ps
+-- one of these devices was opened for writing at the path
+abbrev pub IsWrittenBy : List DeviceTold → List ℕ → Type 0
+IsWrittenBy ds path = (d : DeviceTold) × IsAmong d ds × (d.place.mode ≡ mode.Write) × (d.opens ≡ 1) × (path ≡ d.place.path)
 
--- Each device made in the run came back once, isn't open, and was closed as often as it was opened; no more were made than there are
--- rows. By path and mode, the devices that were opened are as many as the rows acquired, those whose close failed as the rows whose
--- Final isn't ok, and those closed with an exit as the rows whose Final has it. Files change at the written paths alone, which hold
--- what was written.
+-- a path that isn't there was never opened to be read
+abbrev pub OpensWhatIsThere : DeviceTold → Type 0
+OpensWhatIsThere d = d.place.mode ≡ mode.Read → d.present ≡ Some false → d.opens ≡ 0
+
+-- a device that came back isn't open: it was closed as often as it was opened, which was once at most, and where its path was there
+pub record IsShut (d : DeviceTold) : Type 0 where
+  pub shut : d.is_open ≡ false
+  pub closes : d.closes ≡ d.opens
+  pub once : d.opens ≤ 1
+  pub there : OpensWhatIsThere d
+
+-- Each device made in the run came back once and is shut; no more were made than there are rows. By path and mode, the devices that were
+-- opened are as many as the rows acquired, those whose close failed as the rows whose Final isn't ok, and those closed with an exit as
+-- the rows whose Final has it. Files change only where a device was opened for writing, and hold what was written there.
 pub record DevicesAccounted (old new : DepotTold) (places : List Place) (L : List Event) : Type 0 where
   pub made : new.made ≡ old.made ++ made_for old new
   pub few : AreNoMore (made_for old new) places
   pub retired : new.retired ≡ old.retired ++ came_back old new
   pub once : IsPermutation (numbered (length old.made) (made_for old new)) (map named (came_back old new))
-  pub shut : AllByRecursion (λ d. (d.is_open ≡ false) × (d.closes ≡ d.opens)) (came_back old new)
+  pub shut : AllByRecursion IsShut (came_back old new)
   pub rows : AllByRecursion (λ e. IsRowBelow (length places) (acquired_row e.what)) L
   pub acquired : AreAsMany (λ d. nat_eq d.opens 1) acquired_row (came_back old new) places L
   pub failed : AreAsMany (λ d. nat_lt 0 d.close_faults) failed_row (came_back old new) places L
   pub exits : (exit : Exit) → AreAsMany (is_closed_with exit) (ended_row exit) (came_back old new) places L
-  pub files : KeepsFilesBut (IsWritten places) old.files new.files
+  pub files : KeepsFilesBut (IsWrittenBy (came_back old new)) old.files new.files
   pub stored : AllByRecursion (KeepsWritten new.files) (came_back old new)

@@ -1,7 +1,9 @@
 -- Tests on names, places, ends and events, which compute on a list that is written out.
-use Rattle.std.specs.Prelude.{ℕ, zero, suc, Bool, true, false, ◌&&◌, not, nat_eq, if◌then◌else◌, List, [], ◌∷◌, Option, Some, None, is_some}
+use Rattle.std.specs.Prelude.{◌≡◌, ◌⊎◌, ℕ, zero, suc, Bool, true, false, ◌&&◌, not, nat_eq, if◌then◌else◌, List, [], ◌∷◌, Option, Some, None, is_some}
 use Rattle.std.specs.Str.{bytes_eq}
 use Rattle.std.specs.List.{range_with_len, list_any as any}
+use Rattle.chunk_core.specs.Lists.{IsAmong}
+use Rattle.chunk_core.specs.declared.code.Code.{Code}
 use Rattle.chunk_core.specs.declared.code.Exit.{Exit}
 use Rattle.chunk_core.specs.declared.code.How.{How}
 use Rattle.chunk_core.specs.declared.code.How.TheVariants as how
@@ -10,6 +12,7 @@ use Rattle.res_ledger.specs.declared.event.What.TheVariants.{Acquire, Lease, Clo
 use Rattle.res_ledger.specs.declared.event.Event.{Event}
 use Rattle.res_ledger.specs.declared.event.StreamNo.{StreamNo}
 use Rattle.res_ledger.specs.declared.event.StreamNo.TheVariants.{Inner}
+use Rattle.res_ledger.specs.Ledger.{NotesCancel}
 use Rattle.res_ledger.specs.Order.{same_exit}
 use Rattle.res_ledger.specs.Streams.{same_stream, by_stream}
 use Rattle.res_ledger.specs.Whole.{is_cancel}
@@ -34,8 +37,8 @@ at (x ∷ xs) zero = Some x
 at (x ∷ xs) (suc i) = at xs i
 
 -- the number is there, and is n
-abbrev pub is_number : Option ℕ → ℕ → Bool
-is_number o n = elim o [ Some m ↦ nat_eq m n | None ↦ false ]
+abbrev pub holds_number : Option ℕ → ℕ → Bool
+holds_number o n = elim o [ Some m ↦ nat_eq m n | None ↦ false ]
 
 -- the numbers below n
 abbrev pub first_numbers : ℕ → List ℕ
@@ -110,3 +113,21 @@ acts k L = any (λ e. same_stream e.by k) L
 -- the stream j cancelled its own lease, as each does that has ended
 abbrev pub has_left : ℕ → List Event → Bool
 has_left j L = has_event (is_cancel j) (by_stream (Inner j) L)
+
+-- The same and more as facts.
+
+-- the stream noted an event
+abbrev pub Acts : StreamNo → List Event → Type 0
+Acts k L = (e : Event) × IsAmong e L × (e.by ≡ k)
+
+-- the stream j cancelled its own lease
+abbrev pub HasLeft : ℕ → List Event → Type 0
+HasLeft j L = NotesCancel L (Inner j) j
+
+-- the stream failed
+abbrev pub IsFailure : How → Type 0
+IsFailure h = (c : Code) × (h ≡ how.Fault c)
+
+-- the stream ended by itself
+abbrev pub IsOver : How → Type 0
+IsOver h = (h ≡ how.Done) ⊎ IsFailure h

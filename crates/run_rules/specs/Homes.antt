@@ -1,14 +1,15 @@
 -- The rows: each has one device, its home.
-use Rattle.std.specs.Prelude.{◌≡◌, ◌⊎◌, ℕ, ◌+◌, ◌<◌, Bool, nat_eq, nat_lt, List, [], ◌∷◌, map, filter, length, Option, Some, None, IfSome}
+use Rattle.std.specs.Prelude.{◌≡◌, ◌⊎◌, ℕ, ◌+◌, ◌<◌, ◌≤◌, Bool, nat_eq, nat_lt, List, [], ◌∷◌, map, filter, length, Option, Some, None, IfSome}
 use Rattle.std.specs.List.{AllByRecursion}
 use Rattle.chunk_core.specs.Lists.{IsAmong}
 use Rattle.res_ledger.specs.declared.event.What.{What}
 use Rattle.res_ledger.specs.declared.event.What.TheVariants.{Acquire, Final}
+use Rattle.res_ledger.specs.declared.event.StreamNo.TheVariants.{Inner}
 use Rattle.device_port.specs.Device.{Place, DeviceTold, faults_of}
 use Rattle.device_port.specs.Depot.{HaveOwnNumbers, content_at}
-use Rattle.run_rules.specs.Facts.{first_numbers}
+use Rattle.run_rules.specs.Facts.{Acts, at, first_numbers}
 use Rattle.run_rules.specs.Devices.{came_back}
-use Rattle.run_rules.specs.Work.{Work, Opener, Values, RunRecord, all_places}
+use Rattle.run_rules.specs.Work.{Work, Opener, Stream, Values, RunRecord, row_places, first_row_of}
 
 -- the device came back in the run
 abbrev pub IsBack : RunRecord → DeviceTold → Type 0
@@ -42,9 +43,15 @@ abbrev pub HaveValues : Option Opener → (ℕ → DeviceTold) → Values → Ty
 HaveValues None w v = Unit {0}
 HaveValues (Some o) w v = (t : ℕ) (key : List ℕ) → t < length o.tables → IfSome (w t).content (λ bytes. v t key ≡ o.value_of bytes key)
 
--- no device that was tried is the home of two rows
+-- nothing was done on the devices of a stream that noted nothing
+abbrev pub AreLeftAlone : Work → RunRecord → (ℕ → DeviceTold) → Type 0
+AreLeftAlone work c w = (k r : ℕ) (s : Stream) → at work.streams k ≡ Some s → ¬ (Acts (Inner k) c.events) → first_row_of work k ≤ r → r < first_row_of work k + length s.places → IsUntouched (w r)
+
+-- no device that was tried is the home of two rows, and each that came back is that of one
 pub record HaveHomes (work : Work) (c : RunRecord) (v : Values) (w : ℕ → DeviceTold) : Type 0 where
-  pub at_home : AreAtHome c w 0 (all_places work)
-  pub apart : HaveOwnNumbers (filter is_tried (map w (first_numbers (length (all_places work)))))
+  pub at_home : AreAtHome c w 0 (row_places work)
+  pub apart : HaveOwnNumbers (filter is_tried (map w (first_numbers (length (row_places work)))))
   pub tied : AllByRecursion (λ e. IsTied w e.what) c.events
   pub values : HaveValues work.opener w v
+  pub alone : AreLeftAlone work c w
+  pub housed : (d : DeviceTold) → IsBack c d → (r : ℕ) × (r < length (row_places work)) × (d ≡ w r)

@@ -1,14 +1,15 @@
 -- What was printed.
-use Rattle.std.specs.Prelude.{◌≡◌, ◌⊎◌, ℕ, ◌+◌, ◌<◌, ◌≤◌, List, [], ◌∷◌, ◌++◌, length, Option, Some, None, IfSome}
+use Rattle.std.specs.Prelude.{◌≡◌, ◌⊎◌, ℕ, ◌+◌, ◌<◌, ◌≤◌, true, nat_eq, List, [], ◌∷◌, ◌++◌, map, filter, flat_map, length, Option, Some, None, IfSome}
 use Rattle.std.specs.List.{AllByRecursion}
-use Rattle.chunk_core.specs.Texts.{Frame, frame_text, payloads_of}
+use Rattle.chunk_core.specs.Lists.{IsAmong}
+use Rattle.chunk_core.specs.Texts.{Frame, frame_text}
 use Rattle.chunk_core.specs.Elements.{Element, rendering_of}
 use Rattle.chunk_core.specs.Outcomes.{End, Done, Fault, Cut}
 use Rattle.chunk_core.specs.declared.code.How.{How}
 use Rattle.chunk_core.specs.declared.code.How.TheVariants as how
 use Rattle.device_port.specs.Device.{DeviceTold}
 use Rattle.run_rules.specs.declared.end.EndOf.{EndOf}
-use Rattle.run_rules.specs.Work.{Work, Stream, Values, RunRecord, begun_frames, inner_ends, most_of}
+use Rattle.run_rules.specs.Work.{Work, Stream, Values, RunRecord, begun_frames, inner_ends, most_of, runs_in_turn}
 
 -- the end of a run, as it is reported
 abbrev pub IsReported : End → How → Type 0
@@ -16,13 +17,21 @@ IsReported Done h = h ≡ how.Done
 IsReported (Fault c) h = h ≡ how.Fault c
 IsReported Cut h = (h ≡ how.Halted) ⊎ (h ≡ how.Memory)
 
+-- the elements of pieces, one piece after another
+abbrev pub elements_in_pieces : List (List Element) → List Element
+elements_in_pieces pieces = flat_map (λ xs. xs) pieces
+
+-- the payloads of the frames of stream k, in order
+abbrev pub payloads_by : ℕ → List Frame → List (List ℕ)
+payloads_by k F = map (λ f. f.payload) (filter (λ f. nat_eq f.stream k) F)
+
 module _ (work : Work) (v : Values) (w : ℕ → DeviceTold) (F : List Frame) where
-  -- what was printed of stream k renders a run with the end that is reported
+  -- each frame of stream k renders a piece of a run with the end that is reported
   pub record IsOutput (k : ℕ) (h : How) : Type 0 where
-    pub elements : List Element
+    pub pieces : List (List Element)
     pub end : End
-    pub run : work.runs k v w elements end
-    pub printed : payloads_of k F ≡ rendering_of elements
+    pub run : work.runs k v w (elements_in_pieces pieces) end
+    pub printed : payloads_by k F ≡ map rendering_of pieces
     pub reported : IsReported end h
 
   -- each stream from k on has its output
@@ -38,17 +47,22 @@ module _ (work : Work) (v : Values) (w : ℕ → DeviceTold) (F : List Frame) wh
     pub more : List ℕ
     pub front : 0 < length more
     pub text : rest ++ more ≡ frame_text f.stream f.payload
-    pub elements : List Element
-    pub run : work.runs f.stream v w elements Cut
-    pub goes_on : payloads_of f.stream F ++ f.payload ≡ rendering_of elements
+    pub pieces : List (List Element)
+    pub run : work.runs f.stream v w (elements_in_pieces pieces) Cut
+    pub goes_on : payloads_by f.stream F ++ f.payload ∷ [] ≡ map rendering_of pieces
 
   -- what was written behind the whole frames: a front of the frame whose write failed, else nothing
   abbrev pub IsRest : Option Frame → List ℕ → Type 0
   IsRest None rest = rest ≡ []
   IsRest (Some f) rest = IsCutFrame f rest
 
+-- no frame of a later stream stands before one of an earlier one
+abbrev pub NeverFall : List Frame → Type 0
+NeverFall F = (A B : List Frame) (f g : Frame) → F ≡ A ++ g ∷ B → IsAmong f A → f.stream ≤ g.stream
+
 pub record HaveOutputs (work : Work) (c : RunRecord) (v : Values) (w : ℕ → DeviceTold) : Type 0 where
   pub numbers : AllByRecursion (λ f. (f.stream < length work.streams) × (0 < length f.payload)) c.frames
   pub few : IfSome (most_of work) (λ n. length (begun_frames c) ≤ n)
+  pub in_turn : runs_in_turn work ≡ true → NeverFall (begun_frames c)
   pub outputs : AreOutputs work v w c.frames 0 work.streams (inner_ends work c.ends)
   pub rest : IsRest work v w c.frames c.cut c.rest

@@ -8,11 +8,12 @@ use Rattle.run_rules.specs.Homes.{HaveHomes}
 use Rattle.run_rules.specs.Outputs.{HaveOutputs}
 use Rattle.run_rules.specs.Rules.{KeepsRules}
 use Rattle.run_rules.specs.Wholeness.{NothingFailed, IsWholeRun}
-use Rattle.run_rules.specs.Work.{Work, Values, RunRecord, all_places}
+use Rattle.run_rules.specs.Work.{Work, Values, RunRecord, row_places}
 
--- no seat could be made
+-- no seat could be made, and nothing was done
 pub record IsUnmade (c : RunRecord) : Type 0 where
   pub memory : c.memory ≡ true
+  pub depot : c.depot_new ≡ c.depot_old
   pub ends : c.ends ≡ []
   pub events : c.events ≡ []
   pub frames : c.frames ≡ []
@@ -26,11 +27,11 @@ pub record Ran (work : Work) (c : RunRecord) : Type 0 where
   pub rows : HaveHomes work c values home
   pub outputs : HaveOutputs work c values home
   pub ends : HaveEnds work c home
-  pub exits : HaveExits work c
+  pub exits : HaveExits work c values home
   pub completeness : c.memory ≡ false → NothingFailed work c values home → IsWholeRun work c values home
 
 -- The run did the work: its devices are accounted for, its ledger keeps the rules, and its streams ran, where a seat could be made.
 pub record Performs (work : Work) (c : RunRecord) : Type 0 where
-  pub devices : DevicesAccounted c.depot_old c.depot_new (all_places work) c.events
+  pub devices : DevicesAccounted c.depot_old c.depot_new (row_places work) c.events
   pub ledger : KeepsRules work c.events
   pub ran : IsUnmade c ⊎ Ran work c

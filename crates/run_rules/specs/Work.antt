@@ -1,5 +1,5 @@
 -- What is to be run, and what a run did.
-use Rattle.std.specs.Prelude.{ℕ, suc, Bool, false, nat_eq, List, [], ◌∷◌, ◌++◌, map, drop, flat_map, Option, Some, None}
+use Rattle.std.specs.Prelude.{ℕ, ◌+◌, suc, Bool, false, nat_eq, List, [], ◌∷◌, ◌++◌, map, drop, take, length, sum_by, flat_map, Option, Some, None}
 pub use Rattle.chunk_core.specs.Tables.{Values}
 use Rattle.chunk_core.specs.Texts.{Frame}
 use Rattle.chunk_core.specs.Outcomes.{Outcomes}
@@ -49,8 +49,8 @@ abbrev pub runs_in_turn : Work → Bool
 runs_in_turn work = elim work.opener [ Some o ↦ nat_eq o.max_open 1 | None ↦ false ]
 
 -- the places of all rows, in the order of the rows: those of the tables come first
-abbrev pub all_places : Work → List Place
-all_places work = tables_of work ++ flat_map (λ s. s.places) work.streams
+abbrev pub row_places : Work → List Place
+row_places work = tables_of work ++ flat_map (λ s. s.places) work.streams
 
 abbrev pub names_from : ℕ → List Stream → List StreamNo
 names_from k [] = []
@@ -72,6 +72,10 @@ owners_of work = map (λ p. Outer) (tables_of work) ++ owners_from 0 work.stream
 abbrev pub places_by : Work → StreamNo → List Place
 places_by work Outer = tables_of work
 places_by work (Inner k) = elim (at work.streams k) [ Some s ↦ s.places | None ↦ [] ]
+
+-- the first row of stream k: behind those of the tables and of the streams before it
+abbrev pub first_row_of : Work → ℕ → ℕ
+first_row_of work k = length (tables_of work) + sum_by (λ s. length s.places) (take k work.streams)
 
 -- how many scopes one stream opens at most
 abbrev pub scopes_by : Work → StreamNo → ℕ

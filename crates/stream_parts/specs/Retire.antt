@@ -7,6 +7,7 @@ use Rattle.chunk_core.specs.Lists.{IsAmong}
 use Rattle.device_port.specs.declared.device.Mode.TheVariants as mode
 use Rattle.device_port.specs.Device.{Place, DeviceTold, is_write}
 use Rattle.device_port.specs.Depot.{DepotTold, HaveOwnNumbers, MayReturn, KeepsFilesBut, KeepsWritten}
+pub use Rattle.run_rules.specs.Devices.{IsWrittenBy}
 use Rattle.run_rules.specs.Facts.{at}
 use Rattle.scope_tree.specs.declared.branch.Spent.{Spent}
 
@@ -25,10 +26,6 @@ write_alike d e = is_write d.place.mode && (is_write e.place.mode && bytes_eq d.
 -- no two of these devices are for writing at one path
 abbrev pub HaveOwnOutputs : List DeviceTold → Type 0
 HaveOwnOutputs ds = IsDistinct write_alike ds
-
--- one of these devices was opened for writing at the path
-abbrev pub IsWrittenBy : List DeviceTold → List ℕ → Type 0
-IsWrittenBy ds path = (d : DeviceTold) × IsAmong d ds × (d.place.mode ≡ mode.Write) × (d.opens ≡ 1) × (path ≡ d.place.path)
 
 -- Devices were made for these places, and these came back. Files changed only where one of those was opened for writing, and hold what was written where
 -- no two of them are for writing at one path.

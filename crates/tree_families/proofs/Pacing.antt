@@ -3,6 +3,7 @@ use Rattle.std.proofs.Common.{◌≡◌, ℕ, ◌+◌, ◌<◌, ◌≤◌, Bool,
 use Rattle.std.proofs.lemmas.Bool.{cases_eq}
 use Rattle.std.specs.List.{list_any as any}
 use Rattle.chunk_core.specs.declared.code.Exit.{Exit}
+use Rattle.chunk_core.specs.declared.code.Exit.TheVariants.{Succeeded}
 use Rattle.chunk_core.specs.Lists.{IsAmong}
 use Rattle.chunk_core.specs.Lists.IsAmong.{here, there}
 use Rattle.chunk_core.proofs.Cuts.{among_parts}
@@ -24,13 +25,13 @@ use Rattle.scope_tree.specs.Calls.{Seen}
 use Rattle.tree_laws.proofs.Along.{called_after}
 use Rattle.tree_families.specs.Families.{CameBack, IsFamily, Split}
 use Rattle.run_rules.specs.Facts.{first_numbers}
-use Rattle.run_rules.specs.Pace.{IsAnnounced, LeasesAhead, WithinWidth, is_active}
+use Rattle.run_rules.specs.Pace.{BeginInOrder, IsAnnounced, LeasesAhead, WithinWidth, is_active}
 use Rattle.tree_families.specs.Pace.{IsInPace, NotesBelow}
 use Rattle.tree_families.proofs.Counting.{covered_count, last_passing}
 use Rattle.tree_laws.proofs.Names.{events_floored}
 
 -- what has a lesser stamp than the event behind P stands in P
-before : (L P Q : List Event) (e x : Event) → IsStamped L → L ≡ P ++ e ∷ Q → IsAmong x L → x.stamp < length P → IsAmong x P
+pub before : (L P Q : List Event) (e x : Event) → IsStamped L → L ≡ P ++ e ∷ Q → IsAmong x L → x.stamp < length P → IsAmong x P
 before L P Q e x stamped is m l = ⊎_elim
     (λ o. o)
     (λ o. ⊎_elim
@@ -43,23 +44,31 @@ before L P Q e x stamped is m l = ⊎_elim
     (among_cons o))
     (among_append x P (e ∷ Q) (subst (λ l. IsAmong x l) is m))
 
--- what stands in P, or right behind it, has a stamp of at most its length
-stamp_in : (L P Q : List Event) (e x : Event) → IsStamped L → L ≡ P ++ e ∷ Q → IsAmong x (P ++ e ∷ []) → x.stamp ≤ length P
-stamp_in L P Q e x stamped is m = ⊎_elim
-    (λ o.
-    let t = among_parts x P o in
+-- what stands in P has a stamp below its length
+pub stamp_before : (L P Q : List Event) (e x : Event) → IsStamped L → L ≡ P ++ e ∷ Q → IsAmong x P → x.stamp < length P
+stamp_before L P Q e x stamped is m =
+    let t = among_parts x P m in
     let s = stamped t.0 (t.1 ++ e ∷ Q) x (is ∙ (ap (λ l. l ++ e ∷ Q) t.2 ∙ append_assoc t.0 (x ∷ t.1) (e ∷ Q))) in
     let k = length-append t.0 (x ∷ t.1) in
     let j = ap length t.2 in
-    omega arith)
+    omega arith
+
+-- what stands in P, or right behind it, has a stamp of at most its length
+pub stamp_in : (L P Q : List Event) (e x : Event) → IsStamped L → L ≡ P ++ e ∷ Q → IsAmong x (P ++ e ∷ []) → x.stamp ≤ length P
+stamp_in L P Q e x stamped is m = ⊎_elim
+    (λ o. let s = stamp_before L P Q e x stamped is o in omega arith)
     (λ i. let s = stamped P Q e is in let t : x.stamp ≡ e.stamp = ap (λ (z : Event). z.stamp) i in omega arith)
     (among_snoc P x e m)
 
-in_whole : (L P Q : List Event) (e x : Event) → L ≡ P ++ e ∷ Q → IsAmong x (P ++ e ∷ []) → IsAmong x L
+pub in_whole : (L P Q : List Event) (e x : Event) → L ≡ P ++ e ∷ Q → IsAmong x (P ++ e ∷ []) → IsAmong x L
 in_whole L P Q e x is m = subst (λ l. IsAmong x l) (append_assoc P (e ∷ []) Q ∙ sym is) (among_left Q m)
 
 cancel_is : (k : ℕ) (y : Exit) (w : What) → w ≡ Cancel k y → is_cancel k w ≡ true
 cancel_is k y w i = ap (λ x. is_cancel k x) i ∙ itself k
+
+-- where no event cancels the lease for k, no stream noted its Cancel
+pub uncancelled : (P : List Event) (k : ℕ) (q : StreamNo) → not (any (λ x. is_cancel k x.what) P) ≡ true → NotesCancel P q k → ⊥
+uncancelled P k q h n = no (any (λ x. is_cancel k x.what) P) h (any_at (λ x. is_cancel k x.what) n.1.0 P n.1.1 (cancel_is k n.0 n.1.0.what n.1.3))
 
 active_event : (P : List Event) (e : Event) (k : ℕ) → is_active P e k ≡ true → (x : Event) × IsAmong x (P ++ e ∷ []) × (x.by ≡ Inner k)
 active_event P e k h =
@@ -67,9 +76,7 @@ active_event P e k h =
     (f.0, f.1, name f.0.by (Inner k) f.2)
 
 active_open : (P : List Event) (e : Event) (k : ℕ) (q : StreamNo) → is_active P e k ≡ true → NotesCancel P q k → ⊥
-active_open P e k q h n = no (any (λ x. is_cancel k x.what) P)
-    (both (any (λ x. same_stream x.by (Inner k)) (P ++ e ∷ [])) (not (any (λ x. is_cancel k x.what) P)) h).1
-    (any_at (λ x. is_cancel k x.what) n.1.0 P n.1.1 (cancel_is k n.0 n.1.0.what n.1.3))
+active_open P e k q h n = uncancelled P k q (both (any (λ x. same_stream x.by (Inner k)) (P ++ e ∷ [])) (not (any (λ x. is_cancel k x.what) P)) h).1 n
 
 module _ {P : Type 0} {ends : P → Exit → Bool → P → Type 0} (b : Seen P) (ms : List Split) (L : List Event) (width : ℕ) (f : IsFamily ends b ms) (outer : b.seat.by ≡ Outer) (out : b.seat.out ≡ []) (ledger : IsLedgerOf b.seat L) (paced : (m : Split) → IsAmong m ms → IsInPace width b.seat.events Outer ms m) where
   -- each event of an inner stream stands at or above the floor of its seat
@@ -101,7 +108,7 @@ module _ {P : Type 0} {ends : P → Exit → Bool → P → Type 0} (b : Seen P)
         lease = (p.lease.0, noted_before R S e Outer (Lease t.0.stream p.lease.0) t.0.floor is low p.lease.1);
         next = ⊎_elim
             (λ q. inl (q.0, noted_before R S e Outer (Lease (t.0.stream + 1) q.0) t.0.floor is low q.1))
-            (λ q. inr (q.0, noted_before R S e Outer (Close 0 q.0) t.0.floor is low q.1))
+            (λ q. inr (noted_before R S e Outer (Close 0 Succeeded) t.0.floor is low q))
             p.next;
       })
 
@@ -129,3 +136,20 @@ module _ {P : Type 0} {ends : P → Exit → Bool → P → Type 0} (b : Seen P)
       (λ h. let c = covered_count (is_active R e) n [] (λ k l t. absurd (h k l t)) in omega arith)
       (λ h. narrow_at n R S e is h.0 h.2 h.3)
       (last_passing (is_active R e) n)
+
+  -- of the streams below k those without a Cancel were out when its seat was split off
+  pub family_begins : BeginInOrder width L
+  family_begins R S e k is by =
+      let t = mark_at e k (subst (λ l. IsAmong e l) (sym is) (among_mid R S e)) by in
+      let low : t.0.floor ≤ length R = subst (λ x. t.0.floor ≤ x) (ledger.stamped R S e is) t.3 in
+      let p = paced t.0 t.1 in
+      let c = covered_count (λ i. not (any (λ x. is_cancel i x.what) R)) k t.0.out (λ i l h.
+      let less : i < t.0.stream = subst (λ x. i < x) (sym t.2) l in
+      ⊎_elim
+      (λ q. ⊎_elim
+      (λ o. subst (λ z. IsAmong z t.0.out) q.2 o)
+      (λ o. absurd (uncancelled R q.0.stream (Inner q.0.stream) (subst (λ z. not (any (λ x. is_cancel z x.what) R) ≡ true) (sym q.2) h) (o.0, noted_before R S e (Inner q.0.stream) (Cancel q.0.stream o.0) t.0.floor is low o.1)))
+      (p.over q.0 q.1 (subst (λ x. x < t.0.stream) (sym q.2) less)))
+      (λ q. absurd (uncancelled R i Outer h (q.0, noted_before R S e Outer (Cancel i q.0) t.0.floor is low q.1)))
+      (p.dealt i less)) in
+      let m = p.narrow in omega (arith, c, m)

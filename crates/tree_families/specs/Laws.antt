@@ -17,7 +17,7 @@ use Rattle.tree_laws.specs.Lent.{Lent}
 use Rattle.tree_laws.specs.Visits.{HasNothingOpen, Visits}
 use Rattle.tree_laws.specs.Whole.{IsWholeLedger}
 use Rattle.tree_families.specs.Families.{CameBack, IsFamily, Split, split_of}
-use Rattle.run_rules.specs.Pace.{LeasesAhead, WithinWidth}
+use Rattle.run_rules.specs.Pace.{BeginInOrder, LeasesAhead, WithinWidth}
 use Rattle.tree_families.specs.Pace.{IsInPace}
 
 module _ {P : Type 0} (ends : P → Exit → Bool → P → Type 0) where
@@ -40,10 +40,11 @@ module _ {P : Type 0} (ends : P → Exit → Bool → P → Type 0) where
     pub main : (b : Seen P) (ms : List Split) (L : List Event) (j n : ℕ) (f : IsFamily ends b ms) (t : CameBack ends b j n) → IsLedgerOf b.seat L → f.first.shelf ≡ [] → t.visit.first.shelf ≡ [] → (r : ℕ) → IsAmong r (firsts (said b.shelf)) → ¬ (IsAmong r (firsts (said t.last.shelf)))
     pub back : (b : Seen P) (L : List Event) (i j m n : ℕ) (s : CameBack ends b i m) (t : CameBack ends b j n) → i ≢ j → IsLedgerOf b.seat L → s.visit.first.shelf ≡ [] → t.visit.first.shelf ≡ [] → (r : ℕ) → IsAmong r (firsts (said s.last.shelf)) → ¬ (IsAmong r (firsts (said t.last.shelf)))
 
-  -- where each seat was split off in pace, the leases of a finished ledger are ahead, and it is within the width
+  -- where each seat was split off in pace, the leases of a finished ledger are ahead, it is within the width, and its streams begin in their order
   pub record FamilyIsPaced : Type 0 where
     pub ahead : (b : Seen P) (ms : List Split) (L : List Event) (width : ℕ) → IsFamily ends b ms → b.seat.by ≡ Outer → b.seat.out ≡ [] → IsLedgerOf b.seat L → ((m : Split) → IsAmong m ms → IsInPace width b.seat.events Outer ms m) → LeasesAhead L
     pub within : (b : Seen P) (ms : List Split) (L : List Event) (width n : ℕ) → IsFamily ends b ms → b.seat.by ≡ Outer → b.seat.out ≡ [] → IsLedgerOf b.seat L → ((m : Split) → IsAmong m ms → IsInPace width b.seat.events Outer ms m) → WithinWidth width n L
+    pub begins : (b : Seen P) (ms : List Split) (L : List Event) (width : ℕ) → IsFamily ends b ms → b.seat.by ≡ Outer → b.seat.out ≡ [] → IsLedgerOf b.seat L → ((m : Split) → IsAmong m ms → IsInPace width b.seat.events Outer ms m) → BeginInOrder width L
 
   -- the main seat may finish once nothing is open, all seats are back, and of each lease that it made it cancelled it or split the seat of its stream off
   abbrev pub FamilyMayFinish : Type 0

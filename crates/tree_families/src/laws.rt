@@ -19,8 +19,8 @@ pub fn family_is_whole<P: Finish>()
     ensures { FamilyIsWhole P.ends }
 {}
 
-/// The finished ledger tells each stream's lease, and the next one's, before the stream begins, and
-/// no more streams open at once than the width.
+/// The finished ledger tells each stream's lease, and the next one's, before the stream begins, no
+/// more streams open at once than the width, and streams that begin in their order.
 pub fn family_is_paced<P: Finish>()
     ensures { FamilyIsPaced P.ends }
 {}

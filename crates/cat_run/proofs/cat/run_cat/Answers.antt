@@ -22,7 +22,7 @@ retire-requires g c =
 pub returns-in-Ok-make : goal.returns-in-Ok-make
 returns-in-Ok-make g c =
     rw c.retire.ensures.outcome
-    (cat_ran g.D.Dev.Device.told c.args.path.now c.args.chunk _ (g.D.Depot.told c.make.new.self) _ _ c.in-Ok.ready.node c.in-Ok-make.device c.in-Ok.ensures.node c.in-Ok-make.ensures.made c.run_ready-ran.result c.run_ready-ran.ensures _ c.retire.ensures.returns)
+    (cat_ran g.D.Dev.Device.told c.args.path.now c.args.chunk _ (g.D.Depot.told c.make.new.self) _ _ c.in-Ok.ready.node c.in-Ok-make.device c.in-Ok.ensures.node c.in-Ok-make.ensures.made c.run_ready-ran.result c.run_ready-ran.ensures g.met.D.Dev.Device.no_open _ c.retire.ensures.returns)
 
 pub returns-in-Err : goal.returns-in-Err
 returns-in-Err g c =

@@ -17,14 +17,14 @@ lease-requires-clause-stream g c =
     let a = subst (λ k. MayLease (seen g.S.RowSeat.view c.args.tree.now) 0 k) m.4 (main_may_lease m.2 m.3) in (a.other, a.new, a.unleased)
 
 pub returns-in_ok-lease-clause-pulls : goal.returns-in_ok-lease-clause-pulls
-returns-in_ok-lease-clause-pulls g c width p h root same =
+returns-in_ok-lease-clause-pulls g c width p h root same fits =
     let b = seen g.S.RowSeat.view c.args.tree.now in
     let d = seen g.S.RowSeat.view c.lease.new.self in
     let T = c.in_ok-lease.lease.rows.items in
     let o = c.in_ok-lease.ensures.ok in
     let l = subst (λ k. Leases b 0 k T d) (sym same) o.1 in
     let less = subst (λ k. k < c.args.streams) (sym same) c.if-leased-streams.true in
-    (less, o.0 ∙ sym same, l.covered, leased_tables b d p T h l, main_leases b d p T h root less l c.in_ok-lease.ensures.scopes)
+    (less, o.0 ∙ sym same, l.covered, leased_tables b d p T h l, main_leases b d p T h root less fits l c.in_ok-lease.ensures.scopes)
 
 pub returns-in_ok-lease-clause-guests : goal.returns-in_ok-lease-clause-guests
 returns-in_ok-lease-clause-guests g c =
@@ -38,7 +38,7 @@ pub returns-in_ok-lease-clause-events : goal.returns-in_ok-lease-clause-events
 returns-in_ok-lease-clause-events g c = leases_take g.S.Pay.Finish.ends (seen g.S.RowSeat.view c.args.tree.now) (seen g.S.RowSeat.view c.lease.new.self) 0 c.args.leased c.in_ok-lease.lease.rows.items c.in_ok-lease.ensures.ok.1
 
 pub returns-else-leased-streams-clause-pulls : goal.returns-else-leased-streams-clause-pulls
-returns-else-leased-streams-clause-pulls g c width p h root same =
+returns-else-leased-streams-clause-pulls g c width p h root same fits =
     let few = h.few in
     let more = c.if-leased-streams.false in
     (omega (few, more, same, arith), main_closes (seen g.S.RowSeat.view c.args.tree.now) (seen g.S.RowSeat.view c.close.new.self) p Succeeded h root c.close.ensures.closes c.close.ensures.closed)

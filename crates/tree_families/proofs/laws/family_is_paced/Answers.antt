@@ -1,5 +1,5 @@
-use Rattle.tree_families.proofs.Pacing.{family_ahead, family_within}
+use Rattle.tree_families.proofs.Pacing.{family_ahead, family_begins, family_within}
 use Rattle.tree_families.proofs.laws.family_is_paced.Goals as goal
 
 pub returns : goal.returns
-returns g c = record { ahead = family_ahead; within = λ b ms L width n f outer out ledger paced. family_within b ms L width f outer out ledger paced n }
+returns g c = record { ahead = family_ahead; within = λ b ms L width n f outer out ledger paced. family_within b ms L width f outer out ledger paced n; begins = family_begins }

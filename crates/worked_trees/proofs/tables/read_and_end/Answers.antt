@@ -17,17 +17,17 @@ read_tables-read-requires-clause-rows g c r h =
 pub close_outer-requires-clause-main : goal.close_outer-requires-clause-main
 close_outer-requires-clause-main g c =
     let none = none_done g.row.D-Dev.Denot in let reads = c.read_tables-read.ensures.reads in
-    (1, 0, reading none (acquires 0 (length reads.tries.devices)), reads.main 1 0 none (c.begin-tree.ensures.main 1 0) refl, refl)
+    (1, 0, reading none (acquires 0 (length reads.tries.devices)), reads.main 1 0 none (c.begin-tree.ensures.main 1 0) refl refl refl, refl)
 
 pub settle-ledger-requires-clause-main : goal.settle-ledger-requires-clause-main
 settle-ledger-requires-clause-main g c =
     let none = none_done g.row.D-Dev.Denot in let reads = c.read_tables-read.ensures.reads in
     let p = reading none (acquires 0 (length reads.tries.devices)) in
-    (1, 0, closing_root p c.match-read.exit, c.match-read.exit, c.close_outer.ensures.main 1 0 p (reads.main 1 0 none (c.begin-tree.ensures.main 1 0) refl) refl, refl, refl)
+    (1, 0, closing_root p c.match-read.exit, c.match-read.exit, c.close_outer.ensures.main 1 0 p (reads.main 1 0 none (c.begin-tree.ensures.main 1 0) refl refl refl) refl, refl, refl)
 
 pub returns : goal.returns
 returns g c =
     let none = none_done g.row.D-Dev.Denot in let reads = c.read_tables-read.ensures.reads in
     let p = reading none (acquires 0 (length reads.tries.devices)) in
-    let s = c.settle-ledger.ensures.settles 1 0 (closing_root p c.match-read.exit) c.match-read.exit (c.close_outer.ensures.main 1 0 p (reads.main 1 0 none (c.begin-tree.ensures.main 1 0) refl) refl) refl in
+    let s = c.settle-ledger.ensures.settles 1 0 (closing_root p c.match-read.exit) c.match-read.exit (c.close_outer.ensures.main 1 0 p (reads.main 1 0 none (c.begin-tree.ensures.main 1 0) refl refl refl) refl) refl in
     s.whole

@@ -3,6 +3,7 @@ use Rattle.std.proofs.Common.{◌+◌, ◌∙◌, [], ◌++◌, ◌∷◌, ◌�
 use Rattle.chunk_core.specs.Lists.{IsAmong}
 use Rattle.chunk_core.specs.declared.code.Span.{Span}
 use Rattle.std.specs.VecDeque.{deque_capacity}
+use Rattle.join_report.proofs.Learning.{unknown_is}
 use Rattle.join_tree.specs.Guests.{AreOut}
 use Rattle.join_tree.specs.Mains.{IsMain}
 use Rattle.join_tree.specs.Progress.{splitting}
@@ -17,12 +18,14 @@ use Rattle.scope_tree.specs.Trees.{seen}
 use Rattle.collector.specs.Collecting.{IsCollecting, IsCollectingWith, guest_of, waiting_of}
 use Rattle.tree_laws.specs.Visits.{IsNewGuest}
 use Rattle.dealt_streams.specs.Parts.{MakesUnmade}
+use Rattle.dealt_streams.specs.Tables.{bare_work}
 use Rattle.collector.specs.Starting.{with_seats_out}
 use Rattle.collector.specs.declared.collector.Collector.{Collector}
 use Rattle.collector.proofs.Beginning.{events_are, has_room}
 use Rattle.collector.proofs.Begun.{begin_step}
 use Rattle.collector.proofs.Steps.{below, counted, few_out, split_at, still_step}
 use Rattle.collector.proofs.Streams.{is_fresh}
+use Rattle.collector.proofs.Telling.{outer_done}
 use Rattle.collector.proofs.Tree.{next_is, ready_so, split_free, split_room, split_rows}
 use Rattle.collector.proofs.collector.Collector.begin.Goals as goal
 
@@ -188,7 +191,7 @@ returns-in-Ok g c = record {
       let jobs = c.push_back_reserved.new.self in
       let z : Collector _ _ _ _ _ _ = record a { tree = tree; jobs = jobs } in
       let outs = few_out view told fits values P p d0 s0 t 2 (l ∷ ws) js a.receiver before sink c.args.desk.now a k in
-      let ready = ready_so told p 2 (seen view a.tree) a.outer a.leased l ws k.parts k.progress k.tree (length js) outs c.requires.few c.requires.ahead in
+      let ready = ready_so told p 2 (seen view a.tree) a.outer a.leased l ws k.parts k.progress k.tree (length js) outs c.requires.few c.requires.ahead (λ h is. outer_done (bare_work p) k.tale k.telling.is_tale (unknown_is k.tale a.stops 0 k.telling.known c.requires.may.0) h (k.telling.outer_is ∙ is)) in
       let main = subst (λ i. IsMain (FinishesDevice told) p.max_open (length p.streams) (seen view tree) (splitting k.progress (view a.tree.seat) i us)) is (e.main p.max_open (length p.streams) k.progress T us k.tree.main waits ready) in
       let split = e.seen ∙ (ap (λ i. split_at (seen view a.tree) i c.rows.result.from c.rows.result.to c.events.result) is
       ∙ (ap (λ (r : Span). split_at (seen view a.tree) l.stream r.from r.to c.events.result) (c.rows.ensures ∙ ap (rows_of p) k.next) ∙ ap (λ m. split_at (seen view a.tree) l.stream (rows_of p (length k.parts)).from (rows_of p (length k.parts)).to m) s.2)) in

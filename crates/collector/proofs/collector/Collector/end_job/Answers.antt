@@ -2,6 +2,7 @@
 use Rattle.std.proofs.Common.{◌∙◌, ap, length, map, sym, subst}
 use Rattle.join_report.specs.Calls.{EndsStream}
 use Rattle.join_report.specs.Reports.{HasStream}
+use Rattle.join_report.specs.Stopping.{IsSeated}
 use Rattle.pull_turns.specs.Piping.{standing}
 use Rattle.collector.specs.Collecting.{IsCollectingWith, guest_of}
 use Rattle.collector.specs.Receiving.{StopsThose}
@@ -71,6 +72,6 @@ returns g c = record {
       let open_ones = map guest_of (os g.S.RowSeat.view g.V.Device.told g.S.RowSeat.fits g.F.PipeState.values (standing g.F.Feed.stands g.F.Feed.comes) c.args.plan.now d0 s0 t 1 c.args.self.now.waiting.items c.args.job c.args.self.now.jobs.items had depot sink c.args.desk.now c.args.self.now i c.args.stream c.args.how c.args.self.now.receiver h c.requires.number) in
       subst (λ z. IsCollectingWith g.S.RowSeat.view g.V.Device.told g.S.RowSeat.fits g.F.PipeState.values (standing g.F.Feed.stands g.F.Feed.comes) p d0 s0 t 1 z.waiting.items z.jobs.items z.receiver depot sink c.take_back.new.desk (record z { report = c.end.new.self; stops = c.stop_those_until.new.stops })) (sym back.same)
       (ended_collecting g.S.RowSeat.view g.V.Device.told g.S.RowSeat.fits g.F.PipeState.values (standing g.F.Feed.stands g.F.Feed.comes) c.args.plan.now d0 s0 t 1 c.args.self.now.waiting.items c.args.job c.args.self.now.jobs.items had depot sink c.args.desk.now c.args.self.now i c.args.stream c.args.how c.args.self.now.receiver h c.requires.number c.finish-left.new.desk c.finish-left.ensures.others c.finish-left.result ends c.take_back.new.desk c.take_back.new.self.tree back.others
-      (back.main p.max_open (length p.streams) i.progress j.0 ends i.tree.main guest) (back.out i.progress.splits j.0 open_ones ends out) back.seen back.owed back.fits back.whole.0 back.whole.1 c.take_back.new.self.left back.kept back.room c.end.new.self (subst (λ x. EndsStream c.args.stream c.args.how x c.end.new.self) (ap (λ z. z.report) back.same) c.end.ensures) c.stop_those_until.new.stops
+      (back.main p.max_open (length p.streams) i.progress j.0 ends i.tree.main guest) (back.out i.progress.splits j.0 open_ones ends out) back.seen back.owed back.fits back.whole.0 back.whole.1 c.take_back.new.self.left back.kept back.room c.end.new.self (subst (λ x. EndsStream c.args.stream c.args.how x c.end.new.self) (ap (λ z. z.report) back.same) c.end.ensures) (subst (λ x. IsSeated x) (ap (λ z. z.stops) back.same) back.seated) c.stop_those_until.new.stops
       (subst (λ x. StopsThose p c.args.stream (length p.streams) x c.stop_those_until.new.stops) (ap (λ z. z.stops) back.same) c.stop_those_until.ensures.stops) c.stop_those_until.ensures.seated);
 }

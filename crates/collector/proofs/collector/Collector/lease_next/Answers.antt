@@ -10,6 +10,7 @@ use Rattle.scope_tree.specs.Trees.{seen}
 use Rattle.collector.specs.Collecting.{IsCollectingWith}
 use Rattle.collector.proofs.OuterSteps.{done_now, lacking_now, more_now}
 use Rattle.collector.proofs.Pulling.{lease_step}
+use Rattle.collector.proofs.Steps.{may_lease}
 use Rattle.collector.proofs.Tree.{pull_free, root_open}
 use Rattle.collector.proofs.collector.Collector.lease_next.Goals as goal
 
@@ -41,7 +42,8 @@ unreachable-requires g c =
     let before = c.len.ensures ∙ ap (λ xs. length xs) c.streams.ensures.value in
     let main = subst (λ n. IsMain ends p.max_open n (seen view a.tree) q) (sym count) k.tree.main in
     let root = root_open g.V.Device.told p (length a.waiting.items) (seen view a.tree) a.outer a.leased a.waiting.items k.parts q k.tree c.requires.outer in
-    let pulls = subst (λ o. Pulls ends p.max_open c.len-2.result (seen view a.tree) (seen view c.pull.new.tree) q (Ok o)) c.in-Ok-None.field-0-is (c.in-Ok-None.ensures.pulls p.max_open q main root k.tree.leased_is) in
+    let few = may_lease view g.V.Device.told g.S.RowSeat.fits g.F.PipeState.values (standing g.F.Feed.stands g.F.Feed.comes) p c.requires.collecting.0 c.requires.collecting.1 c.requires.collecting.2 (length a.waiting.items) a.waiting.items a.jobs.items a.receiver c.requires.collecting.3 c.requires.collecting.4 c.args.desk.now a k c.requires.few in
+    let pulls = subst (λ o. Pulls ends p.max_open c.len-2.result (seen view a.tree) (seen view c.pull.new.tree) q (Ok o)) c.in-Ok-None.field-0-is (c.in-Ok-None.ensures.pulls p.max_open q main root k.tree.leased_is few) in
     c.if-self-len.false (sym k.tree.leased_is ∙ (pulls.0 ∙ (count ∙ sym before)))
 
 pub stop-requires-clause-main : goal.stop-requires-clause-main
@@ -55,7 +57,8 @@ stop-requires-clause-main g c =
     let count = c.len-2.ensures ∙ ap (λ xs. length xs) c.streams-2.ensures.value in
     let main = subst (λ n. IsMain ends p.max_open n (seen view a.tree) q) (sym count) k.tree.main in
     let root = root_open g.V.Device.told p (length a.waiting.items) (seen view a.tree) a.outer a.leased a.waiting.items k.parts q k.tree c.requires.outer in
-    let pulls = c.in-Err.ensures.pulls p.max_open q main root k.tree.leased_is in
+    let few = may_lease view g.V.Device.told g.S.RowSeat.fits g.F.PipeState.values (standing g.F.Feed.stands g.F.Feed.comes) p c.requires.collecting.0 c.requires.collecting.1 c.requires.collecting.2 (length a.waiting.items) a.waiting.items a.jobs.items a.receiver c.requires.collecting.3 c.requires.collecting.4 c.args.desk.now a k c.requires.few in
+    let pulls = c.in-Err.ensures.pulls p.max_open q main root k.tree.leased_is few in
     (p.max_open, c.len-2.result, q, subst (λ b. IsMain ends p.max_open c.len-2.result b q) (sym pulls.1) main, root)
 
 pub skip-requires-clause-collecting : goal.skip-requires-clause-collecting
@@ -72,7 +75,8 @@ skip-requires-clause-collecting g c =
     let count = c.len-2.ensures ∙ ap (λ xs. length xs) c.streams-2.ensures.value in
     let main = subst (λ n. IsMain ends p.max_open n (seen view a.tree) q) (sym count) k.tree.main in
     let root = root_open told p (length a.waiting.items) (seen view a.tree) a.outer a.leased a.waiting.items k.parts q k.tree c.requires.outer in
-    let pulls = c.in-Err.ensures.pulls p.max_open q main root k.tree.leased_is in
+    let few = may_lease view g.V.Device.told g.S.RowSeat.fits g.F.PipeState.values (standing g.F.Feed.stands g.F.Feed.comes) p c.requires.collecting.0 c.requires.collecting.1 c.requires.collecting.2 (length a.waiting.items) a.waiting.items a.jobs.items a.receiver c.requires.collecting.3 c.requires.collecting.4 c.args.desk.now a k c.requires.few in
+    let pulls = c.in-Err.ensures.pulls p.max_open q main root k.tree.leased_is few in
     let e = c.stop.ensures in (
       p,
       r.0,
@@ -105,7 +109,8 @@ returns-in-Ok-Some-clause-collecting g c d0 s0 t depot sink k =
     let count = c.len-2.ensures ∙ ap (λ xs. length xs) c.streams-2.ensures.value in
     let main = subst (λ n. IsMain ends p.max_open n (seen view a.tree) q) (sym count) k.tree.main in
     let root = root_open told p (length ws) (seen view a.tree) a.outer a.leased ws k.parts q k.tree c.requires.outer in
-    let pulls = subst (λ o. Pulls ends p.max_open c.len-2.result (seen view a.tree) (seen view c.pull.new.tree) q (Ok o)) c.in-Ok-Some.field-0-is (e.pulls p.max_open q main root k.tree.leased_is) in
+    let few = may_lease view told fits values P p d0 s0 t (length a.waiting.items) a.waiting.items a.jobs.items a.receiver depot sink c.args.desk.now a k c.requires.few in
+    let pulls = subst (λ o. Pulls ends p.max_open c.len-2.result (seen view a.tree) (seen view c.pull.new.tree) q (Ok o)) c.in-Ok-Some.field-0-is (e.pulls p.max_open q main root k.tree.leased_is few) in
     let z = record a { tree = c.pull.new.tree; waiting = c.push_back_reserved.new.self } in
     subst (λ xs. IsCollectingWith view told fits values P p d0 s0 t (1 + length ws) xs a.jobs.items a.receiver depot sink c.pull.new.desk (record z { leased = a.leased + 1 })) (sym c.push_back_reserved.ensures.items)
     (lease_step view told fits values P p d0 s0 t (length ws) ws a.jobs.items a.receiver depot sink c.args.desk.now a k z c.pull.new.desk l (subst (λ n. q.leased < n) count pulls.0) pulls.1 pulls.3
@@ -125,7 +130,8 @@ returns-in-Err-clause-collecting g c d0 s0 t depot sink k =
     let count = c.len-2.ensures ∙ ap (λ xs. length xs) c.streams-2.ensures.value in
     let main = subst (λ n. IsMain ends p.max_open n (seen view a.tree) q) (sym count) k.tree.main in
     let root = root_open told p (length a.waiting.items) (seen view a.tree) a.outer a.leased a.waiting.items k.parts q k.tree c.requires.outer in
-    let pulls = c.in-Err.ensures.pulls p.max_open q main root k.tree.leased_is in
+    let few = may_lease view told fits values P p d0 s0 t (length a.waiting.items) a.waiting.items a.jobs.items a.receiver depot sink c.args.desk.now a k c.requires.few in
+    let pulls = c.in-Err.ensures.pulls p.max_open q main root k.tree.leased_is few in
     let e = c.stop.ensures in
     let stopped = lacking_now view told fits values P p d0 s0 t (length a.waiting.items) 1 depot sink c.args.desk.now c.stop.new.desk a c.stop.new.self k c.requires.waits c.requires.outer e.fits
     (seen view c.pull.new.tree) pulls.1 e.closes e.report e.marks e.seated c.pull.new.desk c.in-Err.ensures.others e.others e.same in

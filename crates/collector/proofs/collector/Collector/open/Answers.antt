@@ -1,5 +1,5 @@
 -- The outer stream reads its tables, unless no frame is wanted, and gives its first stream, or is stopped.
-use Rattle.std.proofs.Common.{◌≡◌, ◌≢◌, ◌+◌, ◌<◌, [], Err, None, Ok, Some, ap, length, map, refl, subst, sym, ◌∙◌}
+use Rattle.std.proofs.Common.{◌≡◌, ◌≢◌, ◌+◌, ◌<◌, [], Err, None, Ok, Some, ap, arith, length, map, refl, subst, sym, ◌∙◌}
 use Rattle.chunk_core.specs.Tables.{Values}
 use Rattle.chunk_core.specs.declared.code.How.TheVariants as how
 use Rattle.device_port.specs.Sink.{SinkTold}
@@ -46,7 +46,7 @@ lease_next-requires-clause-collecting g c =
     let b = seen view c.read_tables.new.tree in
     let paths = ap (λ ts. map (λ t. t.path) ts) (c.as_slice.ensures ∙ c.tables.ensures.value) in
     let r = subst (λ ps. ReadsTables told (FinishesDevice told) ps old mid a b (Ok c.in-Ok.tables)) paths c.in-Ok.ensures.reads in
-    let main = r.main p.max_open (length p.streams) (none_done g.row.V.Denot) fr.main refl in
+    let main = r.main p.max_open (length p.streams) (none_done g.row.V.Denot) fr.main refl refl refl in
     let some = subst (λ o. o ≢ Some 0) c.take.ensures.value (take_some c.take.result (c.wants_none.ensures.some c.if-wants_none.false)) in
     let P = standing g.F.Feed.stands g.F.Feed.comes in
     let t = g.F.PipeState.values c.in-Ok.tables in (
@@ -72,7 +72,7 @@ stop-requires-clause-main g c =
     let paths = ap (λ ts. map (λ t. t.path) ts) (c.as_slice.ensures ∙ c.tables.ensures.value) in
     let read = subst (λ e. ReadsTables told (FinishesDevice told) (map (λ t. t.path) c.as_slice.result.now) old mid a b (Err e)) c.in-Err-Fault.field-0-is c.in-Err-Fault.ensures.reads in
     let r = subst (λ ps. ReadsTables told (FinishesDevice told) ps old mid a b (Err (lack.Fault c.in-Err-Fault.code))) paths read in
-    let main = r.main p.max_open (length p.streams) (none_done g.row.V.Denot) fr.main refl in
+    let main = r.main p.max_open (length p.streams) (none_done g.row.V.Denot) fr.main refl refl refl in
     (p.max_open, length p.streams, moved (none_done g.row.V.Denot) [] 0 0 (acquires 0 (length r.tries.devices)) None, main, refl)
 
 pub stop-requires-in-Err-Memory-clause-main : goal.stop-requires-in-Err-Memory-clause-main
@@ -88,7 +88,7 @@ stop-requires-in-Err-Memory-clause-main g c =
     let paths = ap (λ ts. map (λ t. t.path) ts) (c.as_slice.ensures ∙ c.tables.ensures.value) in
     let read = subst (λ e. ReadsTables told (FinishesDevice told) (map (λ t. t.path) c.as_slice.result.now) old mid a b (Err e)) c.in-Err-Memory.field-0-is c.in-Err-Memory.ensures.reads in
     let r = subst (λ ps. ReadsTables told (FinishesDevice told) ps old mid a b (Err lack.Memory)) paths read in
-    let main = r.main p.max_open (length p.streams) (none_done g.row.V.Denot) fr.main refl in
+    let main = r.main p.max_open (length p.streams) (none_done g.row.V.Denot) fr.main refl refl refl in
     (p.max_open, length p.streams, moved (none_done g.row.V.Denot) [] 0 0 (acquires 0 (length r.tries.devices)) None, main, refl)
 
 pub returns-in-Ok-clause-some : goal.returns-in-Ok-clause-some
@@ -103,7 +103,7 @@ returns-in-Ok-clause-some g c s0 =
     let b = seen view c.read_tables.new.tree in
     let paths = ap (λ ts. map (λ t. t.path) ts) (c.as_slice.ensures ∙ c.tables.ensures.value) in
     let r = subst (λ ps. ReadsTables told (FinishesDevice told) ps old mid a b (Ok c.in-Ok.tables)) paths c.in-Ok.ensures.reads in
-    let main = r.main p.max_open (length p.streams) (none_done g.row.V.Denot) fr.main refl in
+    let main = r.main p.max_open (length p.streams) (none_done g.row.V.Denot) fr.main refl refl refl in
     let some = subst (λ o. o ≢ Some 0) c.take.ensures.value (take_some c.take.result (c.wants_none.ensures.some c.if-wants_none.false)) in
     let P = standing g.F.Feed.stands g.F.Feed.comes in
     let t = g.F.PipeState.values c.in-Ok.tables in
@@ -125,7 +125,7 @@ returns-in-Err-Fault-clause-none g c s0 t =
     let paths = ap (λ ts. map (λ t. t.path) ts) (c.as_slice.ensures ∙ c.tables.ensures.value) in
     let read = subst (λ e. ReadsTables told (FinishesDevice told) (map (λ t. t.path) c.as_slice.result.now) old mid a b (Err e)) c.in-Err-Fault.field-0-is c.in-Err-Fault.ensures.reads in
     let r = subst (λ ps. ReadsTables told (FinishesDevice told) ps old mid a b (Err (lack.Fault c.in-Err-Fault.code))) paths read in
-    let main = r.main p.max_open (length p.streams) (none_done g.row.V.Denot) fr.main refl in
+    let main = r.main p.max_open (length p.streams) (none_done g.row.V.Denot) fr.main refl refl refl in
     let some = subst (λ o. o ≢ Some 0) c.take.ensures.value (take_some c.take.result (c.wants_none.ensures.some c.if-wants_none.false)) in
     let P = standing g.F.Feed.stands g.F.Feed.comes in
     let e = c.stop.ensures in
@@ -153,7 +153,7 @@ returns-in-Err-Memory-clause-none g c s0 t =
     let paths = ap (λ ts. map (λ t. t.path) ts) (c.as_slice.ensures ∙ c.tables.ensures.value) in
     let read = subst (λ e. ReadsTables told (FinishesDevice told) (map (λ t. t.path) c.as_slice.result.now) old mid a b (Err e)) c.in-Err-Memory.field-0-is c.in-Err-Memory.ensures.reads in
     let r = subst (λ ps. ReadsTables told (FinishesDevice told) ps old mid a b (Err lack.Memory)) paths read in
-    let main = r.main p.max_open (length p.streams) (none_done g.row.V.Denot) fr.main refl in
+    let main = r.main p.max_open (length p.streams) (none_done g.row.V.Denot) fr.main refl refl refl in
     let some = subst (λ o. o ≢ Some 0) c.take.ensures.value (take_some c.take.result (c.wants_none.ensures.some c.if-wants_none.false)) in
     let P = standing g.F.Feed.stands g.F.Feed.comes in
     let e = c.stop-in-Err-Memory.ensures in
@@ -162,7 +162,10 @@ returns-in-Err-Memory-clause-none g c s0 t =
     let same = e.same in
     let m = e.marks in (
       stopped_stands view told g.S.RowSeat.fits g.F.PipeState.values P p old s0 t c.args.desk.now c.args.self.now fr some mid c.read_tables.new.tree (Some lack.Memory) r.tries main how.Memory c.stop-in-Err-Memory.new.desk c.stop-in-Err-Memory.new.self
-          m.0 m.1 m.3 e.seated report (tells_memory p first_tale m.0 m.1 m.2) closes e.fits same (λ n. cc) refl,
+          m.0 m.1 m.3 e.seated report (tells_memory p first_tale m.0 m.1 m.2) closes e.fits same (λ n. cc) (refl, refl),
       ap (λ x. x.waiting.items) e.same ∙ fr.room.waiting,
       ap (λ x. x.jobs.items) e.same ∙ fr.room.jobs,
     )
+
+pub lease_next-requires-clause-few : goal.lease_next-requires-clause-few
+lease_next-requires-clause-few g c = let js = ap (λ xs. length xs) c.requires.fresh.room.jobs in let ws = ap (λ xs. length xs) c.requires.fresh.room.waiting in omega (arith, js, ws)

@@ -107,3 +107,6 @@ returns-else-is_set-clause-collecting g c d0 s0 t depot sink k =
     let n = c.lease_next.ensures.collecting d0 s0 t depot sink looked in
     let few = k.tree.few in
     more_now view told fits values P p d0 s0 t (1 + length a.waiting.items) 2 depot sink c.lease_next.new.desk c.lease_next.new.self n (omega (arith, few)) (λ o. n.tree.some o (omega arith))
+
+pub lease_next-requires-clause-few : goal.lease_next-requires-clause-few
+lease_next-requires-clause-few g c = let few = c.requires.few in let waits = c.requires.collecting.5.tree.few in omega (arith, few, waits)

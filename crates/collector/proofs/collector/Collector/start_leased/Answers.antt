@@ -72,7 +72,7 @@ returns-then-is_set g c = record {
       let known = learns_step view told fits values P p d0 s0 t 2 (c.args.lease ∷ a.waiting.items) a.jobs.items a.receiver depot sink c.args.desk.now a k s.new.self f.0 f.1 s.ensures.seated in
       let few = k.tree.few in
       subst (λ (x : Collector _ _ _ _ _ _). IsCollecting view told fits values P p d0 s0 t 1 depot sink c.pass_over.new.desk x) (sym e.same)
-      (skip_step view told fits values P p d0 s0 t 2 c.args.lease a.waiting.items a.jobs.items a.receiver depot sink c.args.desk.now b known c.pass_over.new.self.tree c.pass_over.new.desk e.passes e.fits e.others (may_skip b a.stops f.0 f.1 f.2) 1 (omega (arith, few)) (λ n l. c.requires.ahead n));
+      (skip_step view told fits values P p d0 s0 t 2 c.args.lease a.waiting.items a.jobs.items a.receiver depot sink c.args.desk.now b known c.pass_over.new.self.tree c.pass_over.new.desk e.passes e.fits e.others (may_skip b a.stops f.0 f.1 f.2 (λ one. s.ensures.seated.settled (let room = k.room.jobs_room in let l = c.requires.few in let seats = k.telling.seats in let out = f.1.out in omega (arith, one, room, l, seats, out)))) 1 (omega (arith, few)) (λ n l. c.requires.ahead n));
 }
 
 pub begin-requires-clause-collecting : goal.begin-requires-clause-collecting

@@ -1,0 +1,132 @@
+-- Tests of why streams ended as they did, and that nothing begins after a stop. They compute on a run that is written out.
+use Rattle.std.specs.Prelude.{ℕ, zero, suc, Bool, true, false, ◌&&◌, ◌||◌, not, nat_le, nat_lt, Some, None, is_some, List, length}
+use Rattle.std.specs.List.{list_any as any, list_all as all}
+use Rattle.chunk_core.specs.Lists.{has}
+use Rattle.chunk_core.specs.Outcomes.{exit_of}
+use Rattle.chunk_core.specs.declared.code.Exit.{Exit}
+use Rattle.chunk_core.specs.declared.code.Exit.TheVariants.{Succeeded, Errored, Canceled}
+use Rattle.chunk_core.specs.declared.code.How.{How}
+use Rattle.chunk_core.specs.declared.code.How.TheVariants as how
+use Rattle.res_ledger.specs.declared.event.StreamNo.{StreamNo}
+use Rattle.res_ledger.specs.declared.event.StreamNo.TheVariants.{Outer, Inner}
+use Rattle.res_ledger.specs.declared.event.What.{What}
+use Rattle.res_ledger.specs.declared.event.What.TheVariants.{Cancel, Close}
+use Rattle.res_ledger.specs.declared.event.Event.{Event}
+use Rattle.res_ledger.specs.Order.{same_exit}
+use Rattle.res_ledger.specs.Own.{closes, own}
+use Rattle.res_ledger.specs.Streams.{by_stream, same_stream}
+use Rattle.device_port.specs.Device.{DeviceTold, Place}
+use Rattle.run_rules.specs.declared.end.EndOf.{EndOf}
+use Rattle.run_rules.specs.Devices.{came_back}
+use Rattle.run_rules.specs.Ends.{act_count, last_stream}
+use Rattle.run_rules.specs.Facts.{acts, first_numbers, has_left, is_fault, is_halted, is_memory, holds_number, is_over, is_place}
+use Rattle.run_rules.specs.Work.{RunRecord, Work, most_of, places_by, runs_in_turn, until_by}
+
+-- Why a stream may be halted.
+
+-- what j does may stop k
+abbrev pub may_stop : Work → StreamNo → StreamNo → Bool
+may_stop work (Inner j) (Inner k) = not (runs_in_turn work) || nat_le j k
+may_stop work j k = true
+
+-- no more is printed
+abbrev pub is_silenced : Work → RunRecord → Bool
+is_silenced work c = is_some c.cut || holds_number (most_of work) (length c.frames)
+
+-- no more is printed, which may stop k
+abbrev pub silence_stops : Work → RunRecord → StreamNo → Bool
+silence_stops work c k = is_silenced work c && elim (last_stream c) [ Some j ↦ may_stop work (Inner j) k | None ↦ true ]
+
+-- a stream failed that may stop k
+abbrev pub fault_stops : Work → RunRecord → StreamNo → Bool
+fault_stops work c k = any (λ e. is_fault e.how && may_stop work e.who k) c.ends
+
+-- the stream has ended whose end stops k
+abbrev pub end_stops : Work → RunRecord → StreamNo → Bool
+end_stops work c k = elim (until_by work k) [ Some j ↦ has_left j c.events && may_stop work (Inner j) k | None ↦ false ]
+
+-- there is a cause to halt k
+abbrev pub has_cause_to_halt : Work → RunRecord → StreamNo → Bool
+has_cause_to_halt work c k = silence_stops work c k || (c.memory || (fault_stops work c k || end_stops work c k))
+
+-- Why a stream may fail.
+
+-- a fault of an act is shown by a device that was made in the run for one of the places
+abbrev pub is_shown : List DeviceTold → List Place → How → Bool
+is_shown ds ps (how.Fault c) = elim (act_count c) [ Some n ↦ any (λ d. any (is_place d.place) ps && nat_lt 0 (n d)) ds | None ↦ true ]
+is_shown ds ps h = true
+
+-- The ends.
+
+-- the stream ended by itself or noted something, or it is the outer one
+abbrev pub has_begun : EndOf → List Event → Bool
+has_begun e L = is_over e.how || (acts e.who L || same_stream e.who Outer)
+
+-- k closed its root
+abbrev pub is_root_closed : List Event → StreamNo → Bool
+is_root_closed L k = has 0 (closes (own k L))
+
+-- the end comes by its cause, and a stream that has begun closed its root
+abbrev pub is_caused : Work → RunRecord → EndOf → Bool
+is_caused work c e =
+    (not (is_halted e.how) || has_cause_to_halt work c e.who) && (is_shown (came_back c.depot_old c.depot_new) (places_by work e.who) e.how && (not (has_begun e c.events) || is_root_closed c.events e.who))
+
+-- where an end says so, memory was wanting
+abbrev pub is_memory_known : RunRecord → Bool
+is_memory_known c = not (any (λ e. is_memory e.how) c.ends) || c.memory
+
+-- where memory was wanting, an end says so or a stream was halted
+abbrev pub is_memory_told : RunRecord → Bool
+is_memory_told c = not c.memory || any (λ e. is_memory e.how || is_halted e.how) c.ends
+
+-- Stopping.
+
+-- no stream above j has an event
+abbrev pub is_last : ℕ → List Event → Bool
+is_last j L = all (λ e. elim e.by [ Inner k ↦ nat_le k j | Outer ↦ true ]) L
+
+-- no stream begins behind one that failed or found no memory
+abbrev pub stops_by_failure : RunRecord → Bool
+stops_by_failure c = all (λ e. not (is_fault e.how || is_memory e.how) || elim e.who [ Inner j ↦ is_last j c.events | Outer ↦ true ]) c.ends
+
+-- no stream begins behind the one that printed last, where no more is printed
+abbrev pub stops_when_silenced : Work → RunRecord → Bool
+stops_when_silenced work c = not (is_silenced work c) || elim (last_stream c) [ Some j ↦ is_last j c.events | None ↦ true ]
+
+-- stream k doesn't begin where the stream before it has ended whose end stops it
+abbrev pub stops_by_end : Work → RunRecord → ℕ → Bool
+stops_by_end work c k = elim (until_by work (Inner k)) [ Some j ↦ not (nat_lt j k && has_left j c.events) || not (acts (Inner k) c.events) | None ↦ true ]
+
+-- no stream begins behind one that was halted where one is open at a time or before it began, unless the end of another stopped that
+abbrev pub stops_by_halt : Work → RunRecord → EndOf → Bool
+stops_by_halt work c e =
+    elim e.who [ Inner k ↦ not (is_halted e.how) || (not (runs_in_turn work || not (acts (Inner k) c.events)) || (end_stops work c (Inner k) || is_last k c.events)) | Outer ↦ true ]
+
+-- nothing begins after a stop, where one stream is open at a time; and no stream begins where nothing may be printed
+abbrev pub is_stopped : Work → RunRecord → Bool
+is_stopped work c =
+    (not (runs_in_turn work) || (stops_by_failure c && (stops_when_silenced work c && all (stops_by_end work c) (first_numbers (length work.streams))))) && (all (stops_by_halt work c) c.ends && (not (holds_number (most_of work) 0) || all (λ e. same_stream e.by Outer) c.events))
+
+-- Exits.
+
+-- a stream beside an outer one may have ended by itself and be reported as halted
+abbrev pub is_exit_hidden : Work → RunRecord → EndOf → Bool
+is_exit_hidden work c e = is_some work.opener && (not (same_stream e.who Outer) && (is_halted e.how && (is_silenced work c || c.memory)))
+
+-- the exit of a Close, where that of the stream's end is x
+abbrev pub closes_with : StreamNo → Exit → ℕ → Exit → Bool
+closes_with k x zero y = same_exit y x
+closes_with k x (suc s) y = elim k [ Outer ↦ same_exit y Succeeded | Inner j ↦ true ]
+
+-- what the stream noted of exits, where that of its end is x
+abbrev pub tells_exit : StreamNo → Exit → What → Bool
+tells_exit k x (Close s y) = closes_with k x s y
+tells_exit k x (Cancel j y) = elim k [ Outer ↦ same_exit y Canceled | Inner i ↦ same_exit y x ]
+tells_exit k x w = true
+
+abbrev pub tell_exit : RunRecord → StreamNo → Exit → Bool
+tell_exit c k x = all (λ e. tells_exit k x e.what) (by_stream k c.events)
+
+-- what a stream noted of exits tells of one end, which is the one that is reported unless that is hidden; that a run has this end is not tested
+abbrev pub has_one_exit : Work → RunRecord → EndOf → Bool
+has_one_exit work c e = tell_exit c e.who (exit_of e.how) || (is_exit_hidden work c e && (tell_exit c e.who Succeeded || (tell_exit c e.who Errored || tell_exit c e.who Canceled)))
