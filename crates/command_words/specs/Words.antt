@@ -6,7 +6,7 @@ use Rattle.clap.specs.Simple.{on_top}
 use Rattle.clap.specs.Walk.{is_empty}
 use Rattle.command_words.specs.Numbers.{number_in_word}
 use Rattle.command_words.specs.declared.asked.Asked.{Asked}
-use Rattle.command_words.specs.declared.asked.Asked.TheVariants.{Cat, Run, Gen}
+use Rattle.command_words.specs.declared.asked.Asked.TheVariants.{Cat, Run, Gen, Audit}
 
 -- what a command matches in the words, unless it refuses them
 abbrev pub rows_read : App → List Text → Option (List Row)
@@ -35,6 +35,10 @@ run_app = with_rule (silent_app (codes "run")) (option_rule (codes "max-open"))
 -- gen SEED STREAMS LINES
 abbrev pub gen_app : App
 gen_app = with_rule (with_rule (with_rule (silent_app (codes "gen")) (word_rule (codes "seed"))) (word_rule (codes "streams"))) (word_rule (codes "lines"))
+
+-- audit
+abbrev pub audit_app : App
+audit_app = silent_app (codes "audit")
 
 -- a path of 1 to 1,024 bytes
 abbrev pub is_file_path : Text → Bool
@@ -79,14 +83,19 @@ run_of words = option_and_then (λ rows. run_at (first_of (codes "max-open") row
 abbrev pub gen_of : List Text → Option Asked
 gen_of words = option_and_then (λ rows. gen_at (first_of (codes "seed") rows) (first_of (codes "streams") rows) (first_of (codes "lines") rows)) (rows_read gen_app words)
 
+-- what the words of `audit` ask for
+abbrev pub audit_of : List Text → Option Asked
+audit_of words = option_map (λ rows. Audit) (rows_read audit_app words)
+
 -- what the words ask for; the first one names the command
 abbrev pub command_of : List Text → Option Asked
 command_of [] = None
 command_of (name ∷ rest) =
-    if bytes_eq name (codes "cat") then cat_of (name ∷ rest) else (if bytes_eq name (codes "run") then run_of (name ∷ rest) else (if bytes_eq name (codes "gen") then gen_of (name ∷ rest) else None))
+    if bytes_eq name (codes "cat") then cat_of (name ∷ rest) else (if bytes_eq name (codes "run") then run_of (name ∷ rest) else (if bytes_eq name (codes "gen") then gen_of (name ∷ rest) else (if bytes_eq name (codes "audit") then audit_of (name ∷ rest) else None)))
 
 -- the numbers that are asked for are within their limits
 abbrev pub IsLimited : Asked → Type 0
 IsLimited (Cat chunk path) = (1 ≤ chunk) × (chunk ≤ 65536)
 IsLimited (Run most) = IfSome most (λ n. (1 ≤ n) × (n ≤ 64))
 IsLimited (Gen seed streams lines) = (seed ≤ 4294967295) × (1 ≤ streams) × (streams ≤ 64) × (lines ≤ 100000)
+IsLimited Audit = Unit {0}

@@ -3,6 +3,7 @@ ghost use Rattle.std.specs.Prelude.{◌≡◌, IfOk, IfSome};
 ghost use Rattle.std.specs.Str.{bytes_eq};
 ghost use Rattle.command_words.specs.Words.{IsLimited, command_of};
 
+use crate::audit::asked_of_audit;
 use crate::cat::asked_of_cat;
 use crate::generated::asked_of_gen;
 use crate::run::asked_of_run;
@@ -20,12 +21,14 @@ pub enum Asked {
     /// The case of this seed is to be made, run and summed up, with so many streams and so many
     /// lines in the file of each.
     Gen { seed: u32, streams: u32, lines: u32 },
+    /// The ledger whose text the source has is to be judged.
+    Audit,
 }
 
 /// What the words ask for: `cat [--chunk N] PATH`, with N from 1 to 65,536 (4,096 where it isn't
-/// told) and a PATH of 1 to 1,024 bytes, `run [--max-open N]`, with N from 1 to 64, or
-/// `gen SEED STREAMS LINES`, with 0 to 4,294,967,295, 1 to 64 and 0 to 100,000. Other words mean
-/// nothing.
+/// told) and a PATH of 1 to 1,024 bytes, `run [--max-open N]`, with N from 1 to 64,
+/// `gen SEED STREAMS LINES`, with 0 to 4,294,967,295, 1 to 64 and 0 to 100,000, or `audit`. Other
+/// words mean nothing.
 pub fn asked_by(alloc: Global, words: &[Word]) -> Result<Option<Asked>, AllocError>
     ensures asked { IfOk result (λ asked. asked ≡ command_of words.now) }
     ensures limits { IfOk result (λ asked. IfSome asked IsLimited) }
@@ -39,6 +42,8 @@ pub fn asked_by(alloc: Global, words: &[Word]) -> Result<Option<Asked>, AllocErr
         asked_of_run(alloc, words)
     } else if name.as_str() == "gen" {
         asked_of_gen(alloc, words)
+    } else if name.as_str() == "audit" {
+        asked_of_audit(alloc, words)
     } else {
         Ok(None)
     }

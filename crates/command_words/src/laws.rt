@@ -3,7 +3,7 @@
 ghost use Rattle.std.specs.Prelude.{◌≡◌, ◌≢◌, ◌≤◌, ◌<◌, ℕ, List, [], ◌∷◌, length, codes, Some, None};
 ghost use Rattle.command_words.specs.Spelled.{Asks, AsksNothing};
 ghost use Rattle.command_words.specs.Words.{command_of};
-ghost use Rattle.command_words.specs.declared.asked.Asked.TheVariants.{Cat, Run, Gen};
+ghost use Rattle.command_words.specs.declared.asked.Asked.TheVariants.{Cat, Run, Gen, Audit};
 
 /// How an option and its number are spelled.
 pub fn chunks_are_spelled()
@@ -125,6 +125,23 @@ pub fn cases_are_limited()
     ensures streams_are_below_the_least { AsksNothing (codes "gen 0 0 0") }
     ensures streams_are_above_the_most { AsksNothing (codes "gen 0 65 0") }
     ensures lines_are_above_the_most { AsksNothing (codes "gen 0 1 100001") }
+{}
+
+/// An audit takes no further word.
+pub fn audits_are_spelled()
+    ensures is_audit { Asks (codes "audit") Audit }
+    ensures is_before_two_hyphens { Asks (codes "audit --") Audit }
+    ensures has_another_word { AsksNothing (codes "audit a") }
+    ensures has_a_word_behind_two_hyphens { AsksNothing (codes "audit -- a") }
+    ensures has_a_hyphen { AsksNothing (codes "audit -") }
+    ensures has_an_empty_word { AsksNothing (codes "audit ") }
+    ensures has_the_option_of_run { AsksNothing (codes "audit --max-open 4") }
+    ensures is_shortened { AsksNothing (codes "audi") }
+    ensures is_longer { AsksNothing (codes "audits") }
+    ensures is_capital { AsksNothing (codes "Audit") }
+    ensures asks_for_help { AsksNothing (codes "audit --help") }
+    ensures asks_shortly_for_help { AsksNothing (codes "audit -h") }
+    ensures asks_for_the_version { AsksNothing (codes "audit -V") }
 {}
 
 /// Words that name no command.

@@ -18,6 +18,7 @@
 #![tactic(auto)]
 
 pub mod asked;
+pub(crate) mod audit;
 pub(crate) mod cat;
 pub(crate) mod generated;
 pub mod laws;

@@ -6,6 +6,8 @@ mod any_pipe_page;
 #[cfg(test)]
 mod asserts;
 #[cfg(test)]
+mod audit_run_page;
+#[cfg(test)]
 mod chunk_core_page;
 #[cfg(test)]
 mod command_words_page;
@@ -25,6 +27,8 @@ mod loads;
 mod pipeline_desc_page;
 #[cfg(test)]
 mod pull_nodes_page;
+#[cfg(test)]
+mod source_input_page;
 #[cfg(test)]
 mod stream_ops_page;
 #[cfg(test)]

@@ -6,7 +6,7 @@ use Rattle.device_port.specs.Depot.{DepotTold}
 use Rattle.device_port.specs.Sink.{SinkTold}
 use Rattle.command_words.specs.Words.{command_of}
 use Rattle.command_words.specs.declared.asked.Asked.{Asked}
-use Rattle.command_words.specs.declared.asked.Asked.TheVariants.{Cat, Run}
+use Rattle.command_words.specs.declared.asked.Asked.TheVariants.{Cat, Run, Audit}
 use Rattle.pipeline_desc.specs.Meant.{PlanMeant}
 use Rattle.pipeline_desc.specs.Plans.{plan_of}
 use Rattle.pipeline_desc.specs.declared.refusal.Refusal.{Refusal}
@@ -17,10 +17,13 @@ use Rattle.cat_run.specs.declared.outcome.Outcome.{Outcome}
 use Rattle.flume_cli.specs.declared.status.Status.{Status}
 use Rattle.flume_cli.specs.declared.status.Status.TheVariants as status
 use Rattle.flume_cli.specs.declared.report.Report.{Report}
-use Rattle.flume_cli.specs.Status.{Causes, line_of, status_of}
+use Rattle.flume_cli.specs.Status.{Causes, line_of, status_of, status_of_audit}
+use Rattle.audit_run.specs.Audit.{IsAudit}
+use Rattle.audit_run.specs.declared.reading.AuditEnd.{AuditEnd}
+use Rattle.res_ledger.specs.declared.event.Event.{Event}
 use Rattle.flume_cli.specs.Input.{IsInput}
 use Rattle.flume_cli.specs.Description.{ReadsInput, ReadsPlan, with_most}
-use Rattle.flume_cli.specs.Headline.{Call, DidNothing, Does, DoesPlan, HasStatus, Headline, IsToldLine, KeepsSource, asked_of}
+use Rattle.flume_cli.specs.Headline.{AuditsLedger, Call, DidNothing, Does, DoesPlan, HasStatus, IsToldLine, KeepsSource, RunsStreams, asked_of}
 use Rattle.flume_cli.specs.Call.{call_of}
 use Rattle.flume_cli.specs.Finish.{Reports, Tells}
 use Rattle.flume_cli.proofs.Telling.{DoesWork, kept, report_is, rose, work_told}
@@ -34,7 +37,7 @@ source_for c k asked e is d = subst (λ b. KeepsSource c k (if b then None else 
 
 -- cat was run and told
 pub cat_told : (words : List (List ℕ)) (chunk : ℕ) (path : List ℕ) (src : SourceTold) (dold dnew : DepotTold) (so mid sn eold enew : SinkTold) (o : Outcome) (r : Report)
-    → command_of words ≡ Some (Cat chunk path) → RunsCat path chunk dold dnew so mid o → Tells o mid sn eold enew r → Headline (call_of words src src dold dnew so sn eold enew r)
+    → command_of words ≡ Some (Cat chunk path) → RunsCat path chunk dold dnew so mid o → Tells o mid sn eold enew r → RunsStreams (call_of words src src dold dnew so sn eold enew r)
 cat_told words chunk path src dold dnew so mid sn eold enew o r asked runs told =
     let did : DoesWork (cat_work path) dold dnew so mid o runs.frames runs.cut runs.rest = record { broke = runs.broke; performs = runs.performs; wrote = runs.wrote; begun = runs.begun } in
     let t = work_told words src src dold dnew so mid sn eold enew o (cat_work path) runs.frames runs.cut runs.rest (ap (λ q. is_some q) asked) (kept src.faults src.faults refl) did r told in
@@ -55,7 +58,7 @@ quiet old new bytes i = kept old.faults new.faults (ap (λ (s : SourceTold). s.f
 -- a plan was run and told
 pub run_told : (words : List (List ℕ)) (most : Option ℕ) (src src' : SourceTold) (dold dnew : DepotTold) (so mid sn eold enew : SinkTold) (o : Outcome) (r : Report) (plan ran : PlanMeant)
     → command_of words ≡ Some (Run most) → ReadsInput src src' (λ bytes. plan_of bytes ≡ Ok plan) → ran ≡ with_most most plan → RunsPlan ran dold dnew so mid o → Tells o mid sn eold enew r
-    → Headline (call_of words src src' dold dnew so sn eold enew r)
+    → RunsStreams (call_of words src src' dold dnew so sn eold enew r)
 run_told words most src src' dold dnew so mid sn eold enew o r plan ran asked (bytes, input, is) same ran_plan told =
     let runs : RunsPlan (with_most most plan) dold dnew so mid o = subst (λ p. RunsPlan p dold dnew so mid o) same ran_plan in
     let did : DoesWork (run_work (with_most most plan)) dold dnew so mid o runs.frames runs.cut runs.rest = record { broke = runs.broke; performs = runs.performs; wrote = runs.wrote; begun = runs.begun } in
@@ -93,7 +96,7 @@ module _ (words : List (List ℕ)) (src src' : SourceTold) (depot : DepotTold) (
   }
 
   -- of a run, where no plan was read
-  stopped : (s : Status) (most : Option ℕ) → command_of words ≡ Some (Run most) → ReadsPlan src src' (Err s) → IsToldLine eold enew (line_of s) → Headline (idle s)
+  stopped : (s : Status) (most : Option ℕ) → command_of words ≡ Some (Run most) → ReadsPlan src src' (Err s) → IsToldLine eold enew (line_of s) → RunsStreams (idle s)
   stopped (status.Refused refusal) most asked (bytes, input, is) line =
       let k = cause false true false (Some refusal) false in
       record {
@@ -127,18 +130,21 @@ module _ (words : List (List ℕ)) (src src' : SourceTold) (depot : DepotTold) (
   stopped status.BadWords most asked h line = absurd h
   stopped status.NotWritten most asked h line = absurd h
   stopped status.Unclean most asked h line = absurd h
+  stopped status.Broken most asked h line = absurd h
+  stopped (status.LedgerRefused refusal) most asked h line = absurd h
+  stopped status.LedgerUnread most asked h line = absurd h
 
   -- what is reported
-  idle_report : (s : Status) (r : Report) → Reports s [] [] eold enew r → Headline (idle s) → Headline (call_of words src src' depot depot out out eold enew r)
-  idle_report s r f h = subst (λ x. Headline (call_of words src src' depot depot out out eold enew x)) (sym (report_is r s [] [] f.status_is f.ends_are f.ledger_is)) h
+  idle_report : (s : Status) (r : Report) → Reports s [] [] eold enew r → RunsStreams (idle s) → RunsStreams (call_of words src src' depot depot out out eold enew r)
+  idle_report s r f h = subst (λ x. RunsStreams (call_of words src src' depot depot out out eold enew x)) (sym (report_is r s [] [] f.status_is f.ends_are f.ledger_is)) h
 
   -- no plan was read, and the call was told
-  pub stopped_told : (s : Status) (most : Option ℕ) (r : Report) → command_of words ≡ Some (Run most) → ReadsPlan src src' (Err s) → Reports s [] [] eold enew r → Headline (call_of words src src' depot depot out out eold enew r)
+  pub stopped_told : (s : Status) (most : Option ℕ) (r : Report) → command_of words ≡ Some (Run most) → ReadsPlan src src' (Err s) → Reports s [] [] eold enew r → RunsStreams (call_of words src src' depot depot out out eold enew r)
   stopped_told s most r asked read f = idle_report s r f (stopped s most asked read f.line)
 
 module _ (words : List (List ℕ)) (src : SourceTold) (depot : DepotTold) (out eold enew : SinkTold) (r : Report) where
   -- the words mean nothing
-  pub nothing_told : command_of words ≡ None → Reports status.BadWords [] [] eold enew r → Headline (call_of words src src depot depot out out eold enew r)
+  pub nothing_told : command_of words ≡ None → Reports status.BadWords [] [] eold enew r → RunsStreams (call_of words src src depot depot out out eold enew r)
   nothing_told asked f =
       let k = cause words src src depot out eold enew false false false None false in
       let c : Call = idle words src src depot out eold enew status.BadWords in
@@ -150,7 +156,7 @@ module _ (words : List (List ℕ)) (src : SourceTold) (depot : DepotTold) (out e
       })
 
   -- there was no memory to read the words
-  pub early_told : Reports status.Memory [] [] eold enew r → Headline (call_of words src src depot depot out out eold enew r)
+  pub early_told : Reports status.Memory [] [] eold enew r → RunsStreams (call_of words src src depot depot out out eold enew r)
   early_told f =
       let k = cause words src src depot out eold enew true (is_some (command_of words)) false None true in
       idle_report words src src depot out eold enew status.Memory r f (record {
@@ -159,3 +165,16 @@ module _ (words : List (List ℕ)) (src : SourceTold) (depot : DepotTold) (out e
         source = record { kept = refl; refused = refl };
         does = nothing words src src depot out eold enew status.Memory;
       })
+
+-- a ledger was audited, and the call was told
+pub audit_told : (words : List (List ℕ)) (s t : SourceTold) (depot : DepotTold) (o p eold enew : SinkTold) (L : List Event) (end : AuditEnd) (r : Report) → command_of words ≡ Some Audit → IsAudit s t o p L end
+    → Reports (status_of_audit end) [] L eold enew r → AuditsLedger (call_of words s t depot depot o p eold enew r)
+audit_told words s t depot o p eold enew L end r asked audit f = record {
+  asked = asked;
+  kept = refl;
+  ends = f.ends_are;
+  end = end;
+  audit = subst (λ M. IsAudit s t o p M end) (sym f.ledger_is) audit;
+  status = f.status_is;
+  line = subst (λ x. IsToldLine eold enew (line_of x)) (sym f.status_is) f.line;
+}

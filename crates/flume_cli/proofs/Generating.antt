@@ -30,7 +30,7 @@ use Rattle.flume_cli.specs.declared.status.Status.TheVariants as status
 use Rattle.flume_cli.specs.Call.{call_of}
 use Rattle.flume_cli.specs.Finish.{PrintsText, TellsText}
 use Rattle.flume_cli.specs.Generated.{Generates, IsWholeCase, RunsCase, Sums, case_run, text_of_run}
-use Rattle.flume_cli.specs.Headline.{Call, Does, Headline, KeepsSource, IsToldLine, PrintsNothing, PrintsSummary}
+use Rattle.flume_cli.specs.Headline.{Call, Does, IsToldLine, KeepsSource, PrintsNothing, PrintsSummary, RunsStreams}
 use Rattle.flume_cli.specs.Status.{Causes, line_of, status_of}
 use Rattle.flume_cli.proofs.CaseDevices.{no_faults}
 use Rattle.flume_cli.proofs.CaseRuns.{ends_unfailed, no_rest, numbered, whole}
@@ -111,7 +111,7 @@ module _ (words : List (List ℕ)) (seed streams lines : ℕ) (src : SourceTold)
   causes u m f n = record { early = false; words = true; unread = false; refused = None; unwritten = u; memory = m; faulty = f; unclean = n }
 
   tells : (s : Status) (u m f n : Bool) → u ≡ nat_lt so.faults sn.faults → f ≡ any (λ e. is_fault e.how) o.ends → n ≡ has_event is_failed o.ledger → (any (λ e. is_memory e.how) o.ends ≡ true → m ≡ true) → s ≡ status_of (causes u m f n)
-      → IsToldLine eold enew (line_of s) → (runs : RunsCase case o.ends o.ledger) → PrintsNothing (told s) (causes u m f n) ⊎ PrintsSummary case (told s) (causes u m f n) runs.frames → Headline (told s)
+      → IsToldLine eold enew (line_of s) → (runs : RunsCase case o.ends o.ledger) → PrintsNothing (told s) (causes u m f n) ⊎ PrintsSummary case (told s) (causes u m f n) runs.frames → RunsStreams (told s)
   tells s u m f n up faulty unclean more is line runs prints =
       let k = causes u m f n in
       record {
@@ -130,7 +130,7 @@ module _ (words : List (List ℕ)) (seed streams lines : ℕ) (src : SourceTold)
         does = subst (λ q. Does (told s) k q) (sym asked) (record { kept = refl; runs = runs; told = prints });
       }
 
-  tells_nothing : sn ≡ so → RunsCase case o.ends o.ledger → IsToldLine eold enew (line_of status.Memory) → Headline (told status.Memory)
+  tells_nothing : sn ≡ so → RunsCase case o.ends o.ledger → IsToldLine eold enew (line_of status.Memory) → RunsStreams (told status.Memory)
   tells_nothing e runs line =
       tells status.Memory false true (any (λ e. is_fault e.how) o.ends) (has_event is_failed o.ledger) (sym (kept so.faults sn.faults (ap (λ (x : SinkTold). x.faults) e))) refl refl (λ h. refl) refl line runs (inl (record { memory = refl; out = e }))
 
@@ -138,22 +138,22 @@ module _ (words : List (List ℕ)) (seed streams lines : ℕ) (src : SourceTold)
     done_remember : any (λ e. is_memory e.how) o.ends ≡ true → false ≡ true
     done_remember h = absurd (both_ways (any (λ (e : EndOf). is_memory e.how) o.ends) (remembers_none o.ends all.done) h)
 
-    tells_summary : sn ≡ with_bytes so text → IsToldLine eold enew (line_of status.Good) → Headline (told status.Good)
+    tells_summary : sn ≡ with_bytes so text → IsToldLine eold enew (line_of status.Good) → RunsStreams (told status.Good)
     tells_summary e line =
         tells status.Good false false false false (sym (kept so.faults sn.faults (ap (λ (x : SinkTold). x.faults) e))) (sym runs.unfailed) (sym all.clean) done_remember refl line runs
         (inr (record { memory = refl; whole = all; printed = inl (subst (λ b. sn ≡ with_bytes so b) is e) }))
 
-    tells_front : BreaksOff so sn text → IsToldLine eold enew (line_of status.NotWritten) → Headline (told status.NotWritten)
+    tells_front : BreaksOff so sn text → IsToldLine eold enew (line_of status.NotWritten) → RunsStreams (told status.NotWritten)
     tells_front b line =
         tells status.NotWritten true false false false (sym (rose so.faults sn.faults (ap (λ (x : SinkTold). x.faults) b.told))) (sym runs.unfailed) (sym all.clean) done_remember refl line runs
         (inr (record { memory = refl; whole = all; printed = inr (subst (λ x. BreaksOff so sn x) is b) }))
 
-  tells_any : (text : Option (List ℕ)) (s : Status) → Generates case o.ends o.ledger text → PrintsText text so sn s → IsToldLine eold enew (line_of s) → Headline (told s)
-  tells_any None s g (is, kept) line = subst (λ x. Headline (told x)) (sym is) (tells_nothing kept g.runs (subst (λ x. IsToldLine eold enew (line_of x)) is line))
-  tells_any (Some text) s g (inl (is, wrote)) line = subst (λ x. Headline (told x)) (sym is) (tells_summary text g.runs g.summed.0 g.summed.1 wrote (subst (λ x. IsToldLine eold enew (line_of x)) is line))
-  tells_any (Some text) s g (inr (is, broke)) line = subst (λ x. Headline (told x)) (sym is) (tells_front text g.runs g.summed.0 g.summed.1 broke (subst (λ x. IsToldLine eold enew (line_of x)) is line))
+  tells_any : (text : Option (List ℕ)) (s : Status) → Generates case o.ends o.ledger text → PrintsText text so sn s → IsToldLine eold enew (line_of s) → RunsStreams (told s)
+  tells_any None s g (is, kept) line = subst (λ x. RunsStreams (told x)) (sym is) (tells_nothing kept g.runs (subst (λ x. IsToldLine eold enew (line_of x)) is line))
+  tells_any (Some text) s g (inl (is, wrote)) line = subst (λ x. RunsStreams (told x)) (sym is) (tells_summary text g.runs g.summed.0 g.summed.1 wrote (subst (λ x. IsToldLine eold enew (line_of x)) is line))
+  tells_any (Some text) s g (inr (is, broke)) line = subst (λ x. RunsStreams (told x)) (sym is) (tells_front text g.runs g.summed.0 g.summed.1 broke (subst (λ x. IsToldLine eold enew (line_of x)) is line))
 
   -- a case was run and told
-  pub case_told : (text : Option (List ℕ)) (r : Report) → Generates case o.ends o.ledger text → TellsText text o so sn eold enew r → Headline (call_of words src src depot depot so sn eold enew r)
+  pub case_told : (text : Option (List ℕ)) (r : Report) → Generates case o.ends o.ledger text → TellsText text o so sn eold enew r → RunsStreams (call_of words src src depot depot so sn eold enew r)
   case_told text r g t =
-      subst (λ x. Headline (call_of words src src depot depot so sn eold enew x)) (sym (report_is r r.status o.ends o.ledger refl t.report.ends_are t.report.ledger_is)) (tells_any text r.status g t.printed t.report.line)
+      subst (λ x. RunsStreams (call_of words src src depot depot so sn eold enew x)) (sym (report_is r r.status o.ends o.ledger refl t.report.ends_are t.report.ledger_is)) (tells_any text r.status g t.printed t.report.line)

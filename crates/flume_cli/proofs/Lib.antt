@@ -1,6 +1,6 @@
 pub mod Telling
 pub mod Calling
-pub mod Inputs
+pub mod Parts
 mod CaseDevices
 mod CaseRuns
 mod Generating

@@ -212,6 +212,9 @@ module _ (words : List (List ℕ)) (src src' : SourceTold) (dold dnew : DepotTol
   tells_printed status.Good f g p line = told_whole status.Good f g p.0 p.1 refl line
   tells_printed status.Faulty f g p line = told_whole status.Faulty f g p.0 p.1 refl line
   tells_printed status.Unclean f g p line = told_whole status.Unclean f g p.0 p.1 refl line
+  tells_printed status.Broken f g p line = told_whole status.Broken f g p.0 p.1 refl line
+  tells_printed (status.LedgerRefused e) f g p line = told_whole (status.LedgerRefused e) f g p.0 p.1 refl line
+  tells_printed status.LedgerUnread f g p line = told_whole status.LedgerUnread f g p.0 p.1 refl line
 
   tells_any : (s : Status) → PrintsTail o mid sn s → IsToldLine eold enew (line_of s) → IsTold work (told s) frames cut
   tells_any s p line =

@@ -8,7 +8,7 @@ use Rattle.device_port.specs.Sink.{SinkTold, with_bytes, BreaksOff}
 use Rattle.device_port.specs.Depot.{DepotTold}
 use Rattle.command_words.specs.Words.{command_of}
 use Rattle.command_words.specs.declared.asked.Asked.{Asked}
-use Rattle.command_words.specs.declared.asked.Asked.TheVariants.{Cat, Run, Gen}
+use Rattle.command_words.specs.declared.asked.Asked.TheVariants.{Cat, Run, Gen, Audit}
 use Rattle.run_rules.specs.declared.end.EndOf.{EndOf}
 use Rattle.run_rules.specs.Facts.{is_fault, is_memory, is_failed, has_event}
 use Rattle.run_rules.specs.Work.{Work, RunRecord}
@@ -25,7 +25,9 @@ use Rattle.flume_cli.specs.declared.status.Status.TheVariants as status
 use Rattle.flume_cli.specs.Description.{with_most}
 use Rattle.gen_case.specs.declared.case.Case.{Case}
 use Rattle.flume_cli.specs.Generated.{IsWholeCase, RunsCase, text_of_run}
-use Rattle.flume_cli.specs.Status.{Causes, status_of, line_of}
+use Rattle.audit_run.specs.Audit.{IsAudit}
+use Rattle.audit_run.specs.declared.reading.AuditEnd.{AuditEnd}
+use Rattle.flume_cli.specs.Status.{Causes, status_of, status_of_audit, line_of}
 
 -- a call: its words, the outside before and after, and its report
 pub record Call : Type 0 where
@@ -143,6 +145,7 @@ abbrev pub Does : Call → Causes → Option Asked → Type 0
 Does c k (Some (Cat chunk path)) = (t : TellsWork (cat_work path) c k) × FramesAreWithin chunk t.frames t.cut
 Does c k (Some (Run most)) = StopsBefore c k ⊎ RunsInput c k most
 Does c k (Some (Gen seed streams lines)) = TellsCase (record { seed = seed; streams = streams; lines = lines }) c k
+Does c k (Some Audit) = ⊥
 Does c k None = DidNothing c
 
 -- no description was read: the source is as it was, and nothing is refused
@@ -155,11 +158,27 @@ abbrev pub KeepsSource : Call → Causes → Option Asked → Type 0
 KeepsSource c k (Some (Cat chunk path)) = ReadsNothing c k
 KeepsSource c k (Some (Run most)) = Unit {0}
 KeepsSource c k (Some (Gen seed streams lines)) = ReadsNothing c k
+KeepsSource c k (Some Audit) = ⊥
 KeepsSource c k None = ReadsNothing c k
 
--- The whole contract. What it says of devices, ledger, outputs, ends and completeness stands in `Performs`.
-pub record Headline (c : Call) : Type 0 where
+-- Streams were run, or nothing was done since the words mean nothing or found no memory. What it says of devices, ledger, outputs, ends and completeness stands
+-- in `Performs`.
+pub record RunsStreams (c : Call) : Type 0 where
   pub causes : Causes
   pub status : HasStatus c causes
   pub source : KeepsSource c causes (asked_of c causes)
   pub does : Does c causes (asked_of c causes)
+
+-- The ledger that the source has was read, judged and told of. No device was made, and the report has the ledger that was read.
+pub record AuditsLedger (c : Call) : Type 0 where
+  pub asked : command_of c.words ≡ Some Audit
+  pub kept : c.depot_new ≡ c.depot_old
+  pub ends : c.ends ≡ []
+  pub end : AuditEnd
+  pub audit : IsAudit c.source_old c.source_new c.out_old c.out_new c.events end
+  pub status : c.status ≡ status_of_audit end
+  pub line : IsToldLine c.err_old c.err_new (line_of c.status)
+
+-- The whole contract: an audit is told by the second part, and every other call by the first.
+abbrev pub Headline : Call → Type 0
+Headline c = RunsStreams c ⊎ AuditsLedger c

@@ -2,6 +2,11 @@
 use Rattle.std.specs.Prelude.{ℕ, Bool, not, if◌then◌else◌, List, [], ◌++◌, Option, Some, None, codes, decimal}
 use Rattle.pipeline_desc.specs.Refusals.{number_of_kind}
 use Rattle.pipeline_desc.specs.declared.refusal.Refusal.{Refusal}
+use Rattle.ledger_verdict.specs.declared.verdict.Verdict.TheVariants.{Clean, Broken}
+use Rattle.audit_run.specs.declared.reading.AuditEnd.{AuditEnd}
+use Rattle.audit_run.specs.declared.reading.AuditEnd.TheVariants as end
+use Rattle.audit_run.specs.declared.reading.LedgerRefusal.{LedgerRefusal}
+use Rattle.audit_run.specs.declared.reading.LedgerRefusal.TheVariants.{Size, Line, Count}
 use Rattle.flume_cli.specs.declared.status.Status.{Status}
 use Rattle.flume_cli.specs.declared.status.Status.TheVariants as status
 
@@ -27,6 +32,15 @@ abbrev pub status_of : Causes → Status
 status_of k =
     if k.early then status.Memory else (if not k.words then status.BadWords else (if k.unread then status.Unread else elim k.refused [ Some refusal ↦ status.Refused refusal | None ↦ status_done k ]))
 
+-- the status of an audit that ended so
+abbrev pub status_of_audit : AuditEnd → Status
+status_of_audit (end.Told Clean) = status.Good
+status_of_audit (end.Told (Broken i rule)) = status.Broken
+status_of_audit end.NotWritten = status.NotWritten
+status_of_audit end.Memory = status.Memory
+status_of_audit (end.Refused refusal) = status.LedgerRefused refusal
+status_of_audit end.Unread = status.LedgerUnread
+
 -- the number that the program ends with
 abbrev pub status_number : Status → ℕ
 status_number status.Good = 0
@@ -37,6 +51,9 @@ status_number status.NotWritten = 4
 status_number status.Memory = 5
 status_number status.Unread = 6
 status_number status.Unclean = 7
+status_number status.Broken = 1
+status_number (status.LedgerRefused refusal) = 3
+status_number status.LedgerUnread = 6
 
 -- a name and a number, where there is one
 abbrev pub place_text : List ℕ → Option ℕ → List ℕ
@@ -48,6 +65,16 @@ abbrev pub refusal_line : Refusal → List ℕ
 refusal_line r =
     codes "flume: description refused " ++ decimal (number_of_kind r.kind) ++ place_text (codes " stream ") r.stream ++ place_text (codes " step ") r.step ++ codes "\n"
 
+-- why a ledger is refused: its size, the place of a line, or how many events its head says and how many there are
+abbrev pub ledger_refusal_text : LedgerRefusal → List ℕ
+ledger_refusal_text Size = codes "size"
+ledger_refusal_text (Line i) = codes "line " ++ decimal i
+ledger_refusal_text (Count said found) = codes "count " ++ decimal said ++ codes " " ++ decimal found
+
+-- the line that tells it
+abbrev pub ledger_refusal_line : LedgerRefusal → List ℕ
+ledger_refusal_line refusal = codes "flume: ledger refused " ++ ledger_refusal_text refusal ++ codes "\n"
+
 -- what standard error is told
 abbrev pub line_of : Status → List ℕ
 line_of status.Good = []
@@ -58,3 +85,6 @@ line_of status.NotWritten = []
 line_of status.Memory = codes "flume: out of memory\n"
 line_of status.Unread = codes "flume: cannot read the description\n"
 line_of status.Unclean = []
+line_of status.Broken = []
+line_of (status.LedgerRefused refusal) = ledger_refusal_line refusal
+line_of status.LedgerUnread = codes "flume: cannot read the ledger\n"

@@ -34,7 +34,6 @@
 pub(crate) mod description;
 pub(crate) mod generated;
 pub mod report;
-pub(crate) mod source;
 pub mod status;
 pub mod tail;
 pub mod top;

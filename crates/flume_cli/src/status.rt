@@ -1,10 +1,12 @@
 //! How a call ended, as a number and a line.
 ghost use Rattle.std.specs.Prelude.{◌≡◌, ◌+◌, ◌≤◌, ◌++◌, length};
 ghost use Rattle.arrayvec.specs.ArrayString.{array_string_len};
-ghost use Rattle.flume_cli.specs.Status.{status_number, line_of, place_text, refusal_line};
+ghost use Rattle.flume_cli.specs.Status.{status_number, line_of, place_text, refusal_line, ledger_refusal_line, status_of_audit};
 
 use arrayvec::ArrayString;
+use audit_run::{AuditEnd, LedgerRefusal};
 use itoa::Buffer;
+use ledger_verdict::Verdict;
 use pipeline_desc::Refusal;
 
 /// How a call ended. The program ends with the number.
@@ -26,6 +28,12 @@ pub enum Status {
     Unread,
     /// 7: a resource could not be closed well.
     Unclean,
+    /// 1: the ledger breaks a rule.
+    Broken,
+    /// 3: the ledger is refused.
+    LedgerRefused(LedgerRefusal),
+    /// 6: the ledger could not be read.
+    LedgerUnread,
 }
 
 /// A line of standard error, which takes no memory.
@@ -44,6 +52,23 @@ impl Status {
             Status::Memory => 5,
             Status::Unread => 6,
             Status::Unclean => 7,
+            Status::Broken => 1,
+            Status::LedgerRefused(_) => 3,
+            Status::LedgerUnread => 6,
+        }
+    }
+
+    /// The status of an audit that ended so.
+    pub(crate) fn of_audit(end: AuditEnd) -> Status
+        ensures { result ≡ status_of_audit end }
+    {
+        match end {
+            AuditEnd::Told(Verdict::Clean) => Status::Good,
+            AuditEnd::Told(Verdict::Broken(..)) => Status::Broken,
+            AuditEnd::NotWritten => Status::NotWritten,
+            AuditEnd::Memory => Status::Memory,
+            AuditEnd::Refused(refusal) => Status::LedgerRefused(refusal),
+            AuditEnd::Unread => Status::LedgerUnread,
         }
     }
 
@@ -57,7 +82,10 @@ impl Status {
             Status::Refused(refusal) => push_refusal(&mut line, refusal),
             Status::Memory => line.push_str("flume: out of memory\n"),
             Status::Unread => line.push_str("flume: cannot read the description\n"),
-            Status::Good | Status::Faulty | Status::NotWritten | Status::Unclean => {}
+            Status::LedgerRefused(refusal) => push_ledger_refusal(&mut line, refusal),
+            Status::LedgerUnread => line.push_str("flume: cannot read the ledger\n"),
+            Status::Good | Status::Faulty | Status::NotWritten => {}
+            Status::Unclean | Status::Broken => {}
         }
         line
     }
@@ -72,6 +100,28 @@ fn push_refusal(line: &mut StatusLine, refusal: Refusal)
     line.push_str(Buffer::new().format(refusal.kind.number()));
     push_place(line, " stream ", refusal.stream);
     push_place(line, " step ", refusal.step);
+    line.push_str("\n");
+}
+
+/// Appends why a ledger is refused.
+fn push_ledger_refusal(line: &mut StatusLine, refusal: LedgerRefusal)
+    requires { array_string_len line.old ≡ 0 }
+    ensures { line.new.bytes ≡ ledger_refusal_line refusal }
+{
+    line.push_str("flume: ledger refused ");
+    match refusal {
+        LedgerRefusal::Size => line.push_str("size"),
+        LedgerRefusal::Line(place) => {
+            line.push_str("line ");
+            line.push_str(Buffer::new().format(place));
+        }
+        LedgerRefusal::Count(said, found) => {
+            line.push_str("count ");
+            line.push_str(Buffer::new().format(said));
+            line.push_str(" ");
+            line.push_str(Buffer::new().format(found));
+        }
+    }
     line.push_str("\n");
 }
 

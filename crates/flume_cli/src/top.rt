@@ -3,6 +3,7 @@ ghost use Rattle.std.specs.Prelude.{◌≡◌, ◌-◌, ◌^◌, ◌<◌, false,
 ghost use Rattle.flume_cli.specs.Call.{call_of};
 ghost use Rattle.flume_cli.specs.Headline.{Headline};
 ghost use Rattle.flume_cli.specs.Finish.{Reports, PrintsTail, PrintsText, Tells, TellsText, status_by as status_by_of};
+ghost use Rattle.flume_cli.specs.Status.{status_of_audit};
 ghost use Rattle.run_rules.specs.Facts.{is_fault as is_fault_end, is_failed as is_failed_final, has_event};
 ghost use Rattle.std.specs.List.{list_any as any};
 
@@ -11,6 +12,7 @@ use crate::generated::{Generated, generate};
 use crate::report::Report;
 use crate::status::Status;
 use crate::tail::tail_of;
+use audit_run::{Audited, run_audit};
 use chunk_core::{How, Line, List, Word};
 use command_words::{Asked, asked_by};
 use device_port::{Depot, Failed, Gate, Sink, Source, put};
@@ -72,6 +74,10 @@ where
             let generated = generate(rt, alloc, case, gate);
             tell_summary(generated, out, err)
         }
+        Ok(Some(Asked::Audit)) => {
+            let audited = run_audit(alloc, src, out);
+            tell_audit(alloc, audited, err)
+        }
         Ok(None) => refuse(alloc, Status::BadWords, err),
         Err(AllocError) => refuse(alloc, Status::Memory, err),
     }
@@ -96,6 +102,15 @@ fn tell_summary<K: Sink, E: Sink>(generated: Generated, out: &mut K, err: &mut E
     let Generated { outcome, text } = generated;
     let Outcome { ends, ledger, .. } = outcome;
     finish(print_text(text.as_ref(), out), ends, ledger, err)
+}
+
+/// Tells how an audit ended, and reports.
+fn tell_audit<E: Sink>(alloc: Global, audited: Audited, err: &mut E) -> Report
+    requires room { (E.told err.old).faults < 2 ^ 64 - 1 }
+    ensures { Reports (status_of_audit audited.end) [] audited.ledger (E.told err.old) (E.told err.new) result }
+{
+    let Audited { end, ledger } = audited;
+    finish(Status::of_audit(end), List::new(alloc), ledger, err)
 }
 
 /// Tells and reports that nothing was done.

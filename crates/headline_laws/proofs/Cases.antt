@@ -18,13 +18,13 @@ use Rattle.gen_case.specs.Runs.{depot_of}
 use Rattle.gen_case.specs.declared.case.Case.{Case}
 use Rattle.flume_cli.specs.declared.status.Status.TheVariants as status
 use Rattle.flume_cli.specs.Status.{Causes, status_number, status_of}
-use Rattle.flume_cli.specs.Headline.{Call, Headline, KeepsSource, PrintsNothing, PrintsSummary, ReadsNothing, TellsCase}
+use Rattle.flume_cli.specs.Headline.{Call, KeepsSource, PrintsNothing, PrintsSummary, ReadsNothing, RunsStreams, TellsCase}
 use Rattle.flume_cli.proofs.Calling.{done_for, source_for}
 use Rattle.headline_laws.specs.Cases.{case_not_made, case_of_the_depot, case_of_the_source, failed_case, gen_words, halted_case, nothing_summed, summary_of_another_seed, summary_without_memory}
 use Rattle.headline_laws.proofs.Asked.{asks_as, done_if, unless_early}
 use Rattle.headline_laws.proofs.Refusing.{good}
 
-gen_asks : command_of gen_words ≡ Some (Gen 0 1 3)
+pub gen_asks : command_of gen_words ≡ Some (Gen 0 1 3)
 unfolding clap_on_literals
 gen_asks = refl
 
@@ -32,14 +32,14 @@ abbrev case : Case
 case = record { seed = 0; streams = 1; lines = 3 }
 
 -- what was done, where there are ends
-early_not : (c : Call) (h : Headline c) → c.ends ≢ [] → h.causes.early ≡ false
+early_not : (c : Call) (h : RunsStreams c) → c.ends ≢ [] → h.causes.early ≡ false
 early_not c h some = unless_early c h.causes h.causes.early some h.does
 
-told_of : (c : Call) (h : Headline c) → c.words ≡ gen_words → c.ends ≢ [] → TellsCase case c h.causes
+told_of : (c : Call) (h : RunsStreams c) → c.words ≡ gen_words → c.ends ≢ [] → TellsCase case c h.causes
 told_of c h words some = done_if c h.causes (Some (Gen 0 1 3)) (asks_as _ _ _ words gen_asks) (early_not c h some) h.does
 
 -- nothing is read
-nothing_read : (c : Call) (h : Headline c) → c.words ≡ gen_words → ReadsNothing c h.causes
+nothing_read : (c : Call) (h : RunsStreams c) → c.words ≡ gen_words → ReadsNothing c h.causes
 nothing_read c h words = go h.causes.early h.source
   where
     go : (b : Bool) → KeepsSource c h.causes (if b then None else command_of c.words) → ReadsNothing c h.causes
@@ -54,7 +54,7 @@ some_ends x xs e = cc
 abbrev causes_of_none : Causes
 causes_of_none = record { early = false; words = true; unread = false; refused = None; unwritten = false; memory = true; faulty = false; unclean = false }
 
-pub case_not_made_holds : Headline case_not_made
+pub case_not_made_holds : RunsStreams case_not_made
 case_not_made_holds = record {
   causes = causes_of_none;
   status = record { words = sym (ap (λ q. is_some q) gen_asks); unread = refl; unwritten = refl; memory = λ h. refl; faulty = refl; unclean = refl; status = refl; line = inl refl };
@@ -68,26 +68,26 @@ case_not_made_holds = record {
 
 -- What is refused.
 
-pub case_of_the_depot_refused : ¬ (Headline case_of_the_depot)
+pub case_of_the_depot_refused : ¬ (RunsStreams case_of_the_depot)
 case_of_the_depot_refused h = let t = told_of case_of_the_depot h refl (some_ends _ _) in some_ends _ _ (ap (λ (d : DepotTold). d.made) t.kept)
 
 no_byte_left : (x : ℕ) → ◌≡◌ {A = Option (List ℕ)} (Some []) (Some (x ∷ [])) → ⊥
 no_byte_left x e = cc
 
-pub case_of_the_source_refused : ¬ (Headline case_of_the_source)
+pub case_of_the_source_refused : ¬ (RunsStreams case_of_the_source)
 case_of_the_source_refused h = no_byte_left _ (ap (λ (s : SourceTold). s.left) (nothing_read case_of_the_source h refl).kept)
 
-pub failed_case_refused : ¬ (Headline failed_case)
+pub failed_case_refused : ¬ (RunsStreams failed_case)
 failed_case_refused h = let t = told_of failed_case h refl (some_ends _ _) in false≢true (sym t.runs.unfailed)
 
 -- at status 0 the summary was printed
-summary_of_good : (c : Call) (h : Headline c) → c.status ≡ status.Good → (t : TellsCase case c h.causes) → PrintsSummary case c h.causes t.runs.frames
+summary_of_good : (c : Call) (h : RunsStreams c) → c.status ≡ status.Good → (t : TellsCase case c h.causes) → PrintsSummary case c h.causes t.runs.frames
 summary_of_good c h is t = ⊎_elim (λ (p : PrintsNothing c h.causes). absurd (both_ways h.causes.memory (good h.causes (sym is ∙ h.status.status)).memory p.memory)) (λ p. p) t.told
 
 never_halted : how.Halted ≡ how.Done → ⊥
 never_halted e = cc
 
-pub halted_case_refused : ¬ (Headline halted_case)
+pub halted_case_refused : ¬ (RunsStreams halted_case)
 halted_case_refused h = let t = told_of halted_case h refl (some_ends _ _) in never_halted (summary_of_good halted_case h refl t).whole.done.1.0
 
 -- a failed write is counted
@@ -98,12 +98,12 @@ no_failure old new bytes o n b = let e = ap (λ (s : SinkTold). s.faults) b.told
 abbrev byte_at : ℕ → SinkTold → ℕ
 byte_at i s = get_or (unwrap_or s.written []) i 0
 
-pub nothing_summed_refused : ¬ (Headline nothing_summed)
+pub nothing_summed_refused : ¬ (RunsStreams nothing_summed)
 nothing_summed_refused h =
     let t = told_of nothing_summed h refl (some_ends _ _) in
     ⊎_elim (λ e. let x : 0 ≡ 103 = ap (byte_at 0) e in omega (arith, x)) (no_failure _ _ _ refl refl) (summary_of_good nothing_summed h refl t).printed
 
-pub summary_of_another_seed_refused : ¬ (Headline summary_of_another_seed)
+pub summary_of_another_seed_refused : ¬ (RunsStreams summary_of_another_seed)
 unfolding digits
 summary_of_another_seed_refused h =
     let t = told_of summary_of_another_seed h refl (some_ends _ _) in
@@ -125,7 +125,7 @@ memory_is_told k e m is =
     (subst (λ b. status.Memory ≡ status_of (record { early = false; words = k.words; unread = k.unread; refused = k.refused; unwritten = k.unwritten; memory = b; faulty = k.faulty; unclean = k.unclean })) m
     (subst (λ b. status.Memory ≡ status_of (record { early = b; words = k.words; unread = k.unread; refused = k.refused; unwritten = k.unwritten; memory = k.memory; faulty = k.faulty; unclean = k.unclean })) e is))
 
-pub summary_without_memory_refused : ¬ (Headline summary_without_memory)
+pub summary_without_memory_refused : ¬ (RunsStreams summary_without_memory)
 summary_without_memory_refused h =
     let t = told_of summary_without_memory h refl (some_ends _ _) in
     ⊎_elim

@@ -33,7 +33,7 @@ use Rattle.run_rules.specs.Work.{Values}
 use Rattle.plan_work.specs.Plans.{run_work}
 use Rattle.flume_cli.specs.declared.status.Status.TheVariants as status
 use Rattle.flume_cli.specs.Status.{Causes, line_of}
-use Rattle.flume_cli.specs.Headline.{DoesPlan, Headline, TellsWork, run_of_call}
+use Rattle.flume_cli.specs.Headline.{DoesPlan, run_of_call, RunsStreams, TellsWork}
 use Rattle.headline_laws.specs.Described.{clash, clash_refusal, empty_description, no_memory, outer_ledger, refused_description, unread_source}
 use Rattle.headline_laws.specs.Calls.{event}
 use Rattle.headline_laws.specs.Worked.{missing_device}
@@ -58,7 +58,7 @@ refusal_told = refl
 abbrev causes_of_refusal : Causes
 causes_of_refusal = record { early = false; words = true; unread = false; refused = Some (clash_refusal 0); unwritten = false; memory = false; faulty = false; unclean = false }
 
-pub refused_description_holds : Headline refused_description
+pub refused_description_holds : RunsStreams refused_description
 refused_description_holds =
     run_holds refused_description causes_of_refusal refl refl
     (record { words = run_means; unread = refl; unwritten = refl; memory = λ h. absurd (false≢true h); faulty = refl; unclean = refl; status = refl; line = inl refusal_told })
@@ -68,13 +68,13 @@ refused_description_holds =
       plan = subst (λ (q : Result PlanMeant Refusal). DoesPlan refused_description causes_of_refusal None q) (sym clash_means) (refl, record { depot = refl; out = refl; ends = refl; events = refl });
     }))
 
-pub unread_source_holds : Headline unread_source
+pub unread_source_holds : RunsStreams unread_source
 unread_source_holds =
     run_holds unread_source (record { early = false; words = true; unread = true; refused = None; unwritten = false; memory = false; faulty = false; unclean = false }) refl refl
     (record { words = run_means; unread = refl; unwritten = refl; memory = λ h. absurd (false≢true h); faulty = refl; unclean = refl; status = refl; line = inl refl })
     (inl (record { cause = inl refl; taken = record { count = 10; few = omega arith; told = refl; ended = λ h. refl }; refused = refl; nothing = record { depot = refl; out = refl; ends = refl; events = refl } }))
 
-pub no_memory_holds : Headline no_memory
+pub no_memory_holds : RunsStreams no_memory
 no_memory_holds =
     run_holds no_memory (record { early = false; words = true; unread = false; refused = None; unwritten = false; memory = true; faulty = false; unclean = false }) refl refl
     (record { words = run_means; unread = refl; unwritten = refl; memory = λ h. refl; faulty = refl; unclean = refl; status = refl; line = inl refl })
@@ -166,7 +166,7 @@ none_told = record {
     some_end : empty_description.ends ≡ [] → ⊥
     some_end e = cc
 
-pub empty_description_holds : Headline empty_description
+pub empty_description_holds : RunsStreams empty_description
 empty_description_holds =
     run_holds empty_description causes_of_none refl refl
     (record { words = run_means; unread = refl; unwritten = refl; memory = λ h. absurd (false≢true h); faulty = refl; unclean = refl; status = refl; line = inl refl })

@@ -44,7 +44,7 @@ use Rattle.res_ledger.proofs.Judged.{each_event}
 use Rattle.res_ledger.proofs.Stamps.{stamped_sound}
 use Rattle.device_port.specs.declared.device.Mode.TheVariants as mode
 use Rattle.cat_run.specs.Cat.{cat_work}
-use Rattle.flume_cli.specs.Headline.{Headline}
+use Rattle.flume_cli.specs.Headline.{RunsStreams}
 use Rattle.headline_laws.specs.Calls.{a, closed_device, depot_after, depot_before, end_of_0, event, one_row_ledger}
 use Rattle.headline_laws.specs.Worked.{hello_device, words_not_read, missing_device, whole_file, empty_file, missing_file, read_fault, failed_close, failed_write}
 use Rattle.headline_laws.proofs.Asked.{cat_holds, cat_means}
@@ -234,7 +234,7 @@ failed_frame = omega arith
 
 -- The calls.
 
-pub whole_file_holds : Headline whole_file
+pub whole_file_holds : RunsStreams whole_file
 whole_file_holds =
     cat_holds whole_file (record { early = false; words = true; unread = false; refused = None; unwritten = false; memory = false; faulty = false; unclean = false }) refl refl
     (record { words = cat_means; unread = refl; unwritten = refl; memory = λ h. absurd (false≢true h); faulty = refl; unclean = refl; status = refl; line = inl refl })
@@ -253,7 +253,7 @@ whole_file_holds =
       record { fits = (omega arith, tt); cut_fits = tt },
     )
 
-pub empty_file_holds : Headline empty_file
+pub empty_file_holds : RunsStreams empty_file
 empty_file_holds =
     cat_holds empty_file (record { early = false; words = true; unread = false; refused = None; unwritten = false; memory = false; faulty = false; unclean = false }) refl refl
     (record { words = cat_means; unread = refl; unwritten = refl; memory = λ h. absurd (false≢true h); faulty = refl; unclean = refl; status = refl; line = inl refl })
@@ -272,7 +272,7 @@ empty_file_holds =
       record { fits = tt; cut_fits = tt },
     )
 
-pub read_fault_holds : Headline read_fault
+pub read_fault_holds : RunsStreams read_fault
 read_fault_holds =
     cat_holds read_fault (record { early = false; words = true; unread = false; refused = None; unwritten = false; memory = false; faulty = true; unclean = false }) refl refl
     (record { words = cat_means; unread = refl; unwritten = refl; memory = λ h. absurd (false≢true h); faulty = refl; unclean = refl; status = refl; line = inl refl })
@@ -291,7 +291,7 @@ read_fault_holds =
       record { fits = (omega arith, tt); cut_fits = tt },
     )
 
-pub failed_close_holds : Headline failed_close
+pub failed_close_holds : RunsStreams failed_close
 failed_close_holds =
     cat_holds failed_close (record { early = false; words = true; unread = false; refused = None; unwritten = false; memory = false; faulty = false; unclean = true }) refl refl
     (record { words = cat_means; unread = refl; unwritten = refl; memory = λ h. absurd (false≢true h); faulty = refl; unclean = refl; status = refl; line = inl refl })
@@ -310,7 +310,7 @@ failed_close_holds =
       record { fits = (omega arith, tt); cut_fits = tt },
     )
 
-pub failed_write_holds : Headline failed_write
+pub failed_write_holds : RunsStreams failed_write
 failed_write_holds =
     cat_holds failed_write (record { early = false; words = true; unread = false; refused = None; unwritten = true; memory = false; faulty = false; unclean = false }) refl refl
     (record { words = cat_means; unread = refl; unwritten = refl; memory = λ h. absurd (false≢true h); faulty = refl; unclean = refl; status = refl; line = inl refl })
@@ -332,7 +332,7 @@ failed_write_holds =
 missing_root : NotesClose missing_file.events (Inner 0) 0
 missing_root = (Errored, (event 0 (Inner 0) (Close 0 Errored), here [], refl, refl))
 
-pub missing_file_holds : Headline missing_file
+pub missing_file_holds : RunsStreams missing_file
 missing_file_holds =
     cat_holds missing_file (record { early = false; words = true; unread = false; refused = None; unwritten = false; memory = false; faulty = true; unclean = false }) refl refl
     (record { words = cat_means; unread = refl; unwritten = refl; memory = λ h. absurd (false≢true h); faulty = refl; unclean = refl; status = refl; line = inl refl })
@@ -360,7 +360,7 @@ missing_file_holds =
       record { fits = tt; cut_fits = tt },
     )
 
-pub words_not_read_holds : Headline words_not_read
+pub words_not_read_holds : RunsStreams words_not_read
 words_not_read_holds = record {
   causes = record { early = true; words = true; unread = false; refused = None; unwritten = false; memory = true; faulty = false; unclean = false };
   status = record { words = cat_means; unread = refl; unwritten = refl; memory = λ h. refl; faulty = refl; unclean = refl; status = refl; line = inl refl };

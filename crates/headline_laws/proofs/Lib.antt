@@ -7,3 +7,4 @@ pub mod Misdescribing
 pub mod Reading
 pub mod Cases
 pub mod Unruly
+pub mod Auditing

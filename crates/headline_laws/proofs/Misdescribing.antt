@@ -17,7 +17,7 @@ use Rattle.flume_cli.specs.declared.status.Status.{Status}
 use Rattle.flume_cli.specs.declared.status.Status.TheVariants as status
 use Rattle.flume_cli.specs.Input.{IsInput, TakesSome}
 use Rattle.flume_cli.specs.Status.{Causes, line_of, status_done, status_number, status_of}
-use Rattle.flume_cli.specs.Headline.{Call, DidNothing, DoesPlan, Headline, RunsInput, StopsBefore}
+use Rattle.flume_cli.specs.Headline.{Call, DidNothing, DoesPlan, RunsInput, RunsStreams, StopsBefore}
 use Rattle.headline_laws.specs.Described.{clash, clash_refusal, drained, end_not_read, made_though_refused, never_read, read_by_cat, next_stream_refused, read_on, refusal_printed, refused_though_good, stream_left_out, unread_but_refused, unread_without_a_fault}
 use Rattle.headline_laws.proofs.Asked.{done_of, nothing_read}
 use Rattle.headline_laws.proofs.Describing.{clash_means, nothing_means}
@@ -97,7 +97,7 @@ cause_of c k left refusal told is m r d =
 
 -- The calls.
 
-pub next_stream_refused_refused : ¬ (Headline next_stream_refused)
+pub next_stream_refused_refused : ¬ (RunsStreams next_stream_refused)
 next_stream_refused_refused h =
     let told = cause_of next_stream_refused h.causes clash (clash_refusal 0) (clash_refusal 1) refl clash_means (refused_is (clash_refusal 1) h.causes h.status.status) (done_of next_stream_refused h refl (omega arith)) in
     let e = ap (λ (r : Refusal). unwrap_or r.stream 0) told in omega (arith, e)
@@ -106,31 +106,31 @@ line_of_clash : length (line_of (status.Refused (clash_refusal 0))) ≡ 45
 unfolding digits
 line_of_clash = refl
 
-pub stream_left_out_refused : ¬ (Headline stream_left_out)
+pub stream_left_out_refused : ¬ (RunsStreams stream_left_out)
 stream_left_out_refused h =
     ⊎_elim
     (λ e. let n = ap (λ (s : SinkTold). length (bytes_of s.written)) e in let l = line_of_clash in omega (arith, n, l))
     (λ (b : BreaksOff stream_left_out.err_old stream_left_out.err_new (line_of (status.Refused (clash_refusal 0)))). let n = ap (λ (s : SinkTold). s.faults) b.told in omega (arith, n))
     h.status.line
 
-pub unread_without_a_fault_refused : ¬ (Headline unread_without_a_fault)
+pub unread_without_a_fault_refused : ¬ (RunsStreams unread_without_a_fault)
 unread_without_a_fault_refused h = unread_is h.causes h.status.status h.status.unread
 
-pub read_on_refused : ¬ (Headline read_on)
+pub read_on_refused : ¬ (RunsStreams read_on)
 read_on_refused h =
     ⊎_elim
     (λ (x : StopsBefore read_on h.causes). let e = ap (λ (s : SourceTold). s.faults) (subst (λ b. TakesSome b read_on.source_old read_on.source_new) h.status.unread x.taken).told in omega (arith, e))
     (λ (x : RunsInput read_on h.causes None). let e = ap (λ (s : SourceTold). s.faults) x.input.told in omega (arith, e))
     (done_of read_on h refl (omega arith))
 
-pub unread_but_refused_refused : ¬ (Headline unread_but_refused)
+pub unread_but_refused_refused : ¬ (RunsStreams unread_but_refused)
 unread_but_refused_refused h =
     let w = peel h.causes.early _ _ (status.Refused (clash_refusal 0)) (differ _ _ (omega arith)) h.status.status in
     let p = peel (not h.causes.words) _ _ (status.Refused (clash_refusal 0)) (differ _ _ (omega arith)) w.1 in
     let o = peel h.causes.unread _ _ (status.Refused (clash_refusal 0)) (differ _ _ (omega arith)) p.1 in
     false≢true (sym o.0 ∙ h.status.unread)
 
-pub refused_though_good_refused : ¬ (Headline refused_though_good)
+pub refused_though_good_refused : ¬ (RunsStreams refused_though_good)
 refused_though_good_refused h =
     let told = refused_is (clash_refusal 0) h.causes h.status.status in
     ⊎_elim
@@ -138,29 +138,29 @@ refused_though_good_refused h =
     (λ (x : RunsInput refused_though_good h.causes None). none_some (sym (done_for refused_though_good h.causes [] (Ok (plan_by_default [])) refl nothing_means x).0 ∙ told))
     (done_of refused_though_good h refl (omega arith))
 
-pub never_read_refused : ¬ (Headline never_read)
+pub never_read_refused : ¬ (RunsStreams never_read)
 never_read_refused h =
     let d = nothing_done never_read h.causes clash (clash_refusal 0) refl clash_means (done_of never_read h refl (omega arith)) in
     let e = ap (λ (s : SinkTold). length (bytes_of s.written)) d.out in omega (arith, e)
 
-pub drained_refused : (bytes : List ℕ) → 1048577 < length bytes → ¬ (Headline (drained bytes))
+pub drained_refused : (bytes : List ℕ) → 1048577 < length bytes → ¬ (RunsStreams (drained bytes))
 drained_refused bytes long h =
     ⊎_elim
     (λ (x : StopsBefore (drained bytes) h.causes). let e = ap (λ (s : SourceTold). length (bytes_left s)) x.taken.told in let d = length-drop x.taken.count bytes in let f = x.taken.few in omega (arith, e, d, f, long))
     (λ (x : RunsInput (drained bytes) h.causes None). let e = ap (λ (s : SourceTold). s.faults) x.input.told in omega (arith, e))
     (done_of (drained bytes) h refl (omega arith))
 
-pub made_though_refused_refused : ¬ (Headline made_though_refused)
+pub made_though_refused_refused : ¬ (RunsStreams made_though_refused)
 made_though_refused_refused h =
     let d = nothing_done made_though_refused h.causes clash (clash_refusal 0) refl clash_means (done_of made_though_refused h refl (omega arith)) in
     let e = ap (λ (t : DepotTold). length t.made) d.depot in omega (arith, e)
 
-pub refusal_printed_refused : ¬ (Headline refusal_printed)
+pub refusal_printed_refused : ¬ (RunsStreams refusal_printed)
 refusal_printed_refused h =
     let d = nothing_done refusal_printed h.causes clash (clash_refusal 0) refl clash_means (done_of refusal_printed h refl (omega arith)) in
     let e = ap (λ (s : SinkTold). length (bytes_of s.written)) d.out in omega (arith, e)
 
-pub read_by_cat_refused : ¬ (Headline read_by_cat)
+pub read_by_cat_refused : ¬ (RunsStreams read_by_cat)
 read_by_cat_refused h = let e = ap (λ (s : SourceTold). length (bytes_left s)) (nothing_read read_by_cat h refl).kept in omega (arith, e)
 
 -- a description that is too long is refused
@@ -170,7 +170,7 @@ long_refused c k bytes long d none =
     let q = rw e at d in
     none_some (sym none ∙ q.0)
 
-pub end_not_read_refused : ¬ (Headline end_not_read)
+pub end_not_read_refused : ¬ (RunsStreams end_not_read)
 end_not_read_refused h =
     let g = good h.causes h.status.status in
     ⊎_elim

@@ -1,12 +1,14 @@
 -- The source of a description is read whole.
-use Rattle.std.proofs.Common.{◌≡◌, ◌⊎◌, ℕ, true, false, nat_lt, length, Some, None, is_some, inl, inr, refl, ap, ◌∙◌, subst, ⊎_elim, arith}
+use Rattle.std.proofs.Common.{◌≡◌, ◌≢◌, ◌⊎◌, Option, ℕ, true, false, nat_lt, length, Some, None, is_some, inl, inr, refl, ap, ◌∙◌, subst, ⊎_elim, arith}
 use Rattle.std.proofs.lemmas.Bool.{both_ways, cases_Bool, ltb-false}
 use Rattle.device_port.specs.Source.{SourceTold, without_front}
 use Rattle.device_port.specs.Sink.{SinkTold}
 use Rattle.command_words.specs.declared.asked.Asked.TheVariants.{Run}
 use Rattle.flume_cli.specs.Input.{most_input}
 use Rattle.flume_cli.specs.Status.{Causes, status_number, status_of}
-use Rattle.flume_cli.specs.Headline.{Call, RunsInput, StopsBefore}
+use Rattle.command_words.specs.Words.{command_of}
+use Rattle.flume_cli.specs.Headline.{Call, RunsInput, RunsStreams, StopsBefore}
+use Rattle.flume_cli.proofs.Parts.{runs_streams}
 use Rattle.flume_cli.proofs.Telling.{kept}
 use Rattle.headline_laws.specs.Whole.{DescriptionsAreReadWhole, IsReadWhole}
 use Rattle.headline_laws.proofs.Asked.{done_if, not_early}
@@ -23,8 +25,8 @@ stopped_as k e w r u cause =
 read_enough : (c : Call) (n : ℕ) → n ≡ most_input → c.source_new ≡ record (without_front n c.source_old) { ended = nat_lt n most_input } → IsReadWhole c
 read_enough c n e is = inr (subst (λ k. c.source_new ≡ record (without_front k c.source_old) { ended = nat_lt k most_input }) e is)
 
-pub read_whole : DescriptionsAreReadWhole
-read_whole c most h asks no5 no6 =
+runs_whole : (c : Call) (most : Option ℕ) → RunsStreams c → command_of c.words ≡ Some (Run most) → status_number c.status ≢ 5 → status_number c.status ≢ 6 → IsReadWhole c
+runs_whole c most h asks no5 no6 =
     let k = h.causes in
     let e = not_early c.status k.early _ no5 h.status.status in
     ⊎_elim
@@ -38,3 +40,6 @@ read_whole c most h asks no5 no6 =
     (λ long. let many = ltb-false (length x.bytes) most_input long in let few = x.input.few in read_enough c (length x.bytes) (omega (arith, many, few)) x.input.told)
     (cases_Bool (nat_lt (length x.bytes) most_input)))
     (done_if c k (Some (Run most)) asks e h.does)
+
+pub read_whole : DescriptionsAreReadWhole
+read_whole c most h asks no5 no6 = runs_whole c most (runs_streams c (Some (Run most)) asks refl h) asks no5 no6

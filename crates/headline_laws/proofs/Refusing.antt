@@ -34,7 +34,7 @@ use Rattle.flume_cli.specs.declared.status.Status.{Status}
 use Rattle.flume_cli.specs.declared.status.Status.TheVariants as status
 use Rattle.flume_cli.specs.Status.{Causes, status_done, status_of, status_number, line_of}
 use Rattle.cat_run.specs.Cat.{cat_work, FileRuns}
-use Rattle.flume_cli.specs.Headline.{Call, Headline, SaysTail, TellsWork, run_of_call}
+use Rattle.flume_cli.specs.Headline.{Call, run_of_call, RunsStreams, SaysTail, TellsWork}
 use Rattle.headline_laws.specs.Calls.{a}
 use Rattle.headline_laws.proofs.Asked.{work_of}
 use Rattle.headline_laws.specs.Refused.{end_never_met, failed_read_forgotten, invented_output, cut_output, row_of_no_plan, event_of_no_stream, lease_of_no_stream, kept_device, failure_not_told, halted_without_a_cause, call_with_row_without_a_final, call_with_final_before_close, closed_twice, left_open, fault_without_a_fault, failed_close_not_told, done_told_as_errored, fault_told_as_succeeded, halt_told_as_succeeded, final_unlike_its_close, device_told_otherwise, silent_call}
@@ -134,29 +134,29 @@ opened d ys e q (inl (inl x)) = x.0
 opened d ys e q (inl (inr x)) = let h = ap place (sym q ∙ x.3) in absurd (omega (arith, h))
 opened d ys e q (inr x) = let h = ap place (sym q ∙ x.0) in absurd (omega (arith, h))
 
-pub invented_output_refused : ¬ (Headline invented_output)
+pub invented_output_refused : ¬ (RunsStreams invented_output)
 invented_output_refused h =
     let g = good h.causes h.status.status in
     let r = ran_with_ends invented_output h.causes (work_of invented_output h refl (an_end _ [])) (an_end _ []) in
     let o = opened (r.home 0) (elements_in_pieces r.outputs.outputs.0.pieces) r.outputs.outputs.0.end (done r.outputs.outputs.0.end r.outputs.outputs.0.reported) r.outputs.outputs.0.run in
     ⊎_elim among_nil (λ (x : IsUntouched (r.home 0)). let z = x.opens in omega (arith, o, z)) r.rows.at_home.2
 
-pub row_of_no_plan_refused : ¬ (Headline row_of_no_plan)
+pub row_of_no_plan_refused : ¬ (RunsStreams row_of_no_plan)
 row_of_no_plan_refused h = let l = (work_of row_of_no_plan h refl (an_end _ [])).performs.devices.rows.1.0 in omega (arith, l)
 
-pub event_of_no_stream_refused : ¬ (Headline event_of_no_stream)
+pub event_of_no_stream_refused : ¬ (RunsStreams event_of_no_stream)
 event_of_no_stream_refused h = let o = (work_of event_of_no_stream h refl (an_end _ [])).performs.ledger.ours.1.1.1.0 in ⊎_elim (λ (e : Inner 5 ≡ Inner 0). let x : ⊥ = cc in x) among_nil (among_cons o.by)
 
-pub lease_of_no_stream_refused : ¬ (Headline lease_of_no_stream)
+pub lease_of_no_stream_refused : ¬ (RunsStreams lease_of_no_stream)
 lease_of_no_stream_refused h = let l = ((work_of lease_of_no_stream h refl (an_end _ [])).performs.ledger.ours.0.leases 3 0 refl).1 in omega (arith, l)
 
-pub kept_device_refused : ¬ (Headline kept_device)
+pub kept_device_refused : ¬ (RunsStreams kept_device)
 kept_device_refused h = let e = length_permutation _ _ (work_of kept_device h refl (an_end _ [])).performs.devices.once in omega (arith, e)
 
-pub failure_not_told_refused : ¬ (Headline failure_not_told)
+pub failure_not_told_refused : ¬ (RunsStreams failure_not_told)
 failure_not_told_refused h = let g = good h.causes h.status.status in false≢true (sym g.unwritten ∙ h.status.unwritten)
 
-pub halted_without_a_cause_refused : ¬ (Headline halted_without_a_cause)
+pub halted_without_a_cause_refused : ¬ (RunsStreams halted_without_a_cause)
 halted_without_a_cause_refused h =
     let g = good h.causes h.status.status in
     let t = work_of halted_without_a_cause h refl (an_end _ []) in
@@ -235,7 +235,7 @@ tail_is_long : length (bytes_of cut_output.out_new.written) < 12 + length (tail_
 unfolding digits
 tail_is_long = omega arith
 
-pub cut_output_refused : ¬ (Headline cut_output)
+pub cut_output_refused : ¬ (RunsStreams cut_output)
 cut_output_refused h =
     let g = good h.causes h.status.status in
     let t = work_of cut_output h refl (an_end _ []) in
@@ -247,10 +247,10 @@ cut_output_refused h =
     let f : 12 ≤ length (frames_text (work_of cut_output h refl (an_end _ [])).frames) = omega (arith, n, within 0 (work_of cut_output h refl (an_end _ [])).frames) in
     too_short _ (frames_text (work_of cut_output h refl (an_end _ [])).frames) (work_of cut_output h refl (an_end _ [])).rest (work_of cut_output h refl (an_end _ [])).text.said _ (ap (λ x. bytes_of x) (work_of cut_output h refl (an_end _ [])).text.written) (rest_none r.values r.home t.frames t.rest t.cut w.broke_is r.outputs.rest) w.said_is tail_is_long f
 
-pub row_without_a_final_refused : ¬ (Headline call_with_row_without_a_final)
+pub row_without_a_final_refused : ¬ (RunsStreams call_with_row_without_a_final)
 row_without_a_final_refused h = let l = (work_of call_with_row_without_a_final h refl (an_end _ [])).performs.ledger in false≢true (complete_found call_with_row_without_a_final.events l.legal l.complete)
 
-pub final_before_close_refused : ¬ (Headline call_with_final_before_close)
+pub final_before_close_refused : ¬ (RunsStreams call_with_final_before_close)
 final_before_close_refused h = false≢true (legal_found call_with_final_before_close.events (work_of call_with_final_before_close h refl (an_end _ [])).performs.ledger.legal)
 
 -- The exits.
@@ -265,31 +265,31 @@ not_canceled e = cc
 exit_told : (c : RunRecord) (v : Values) (w : ℕ → DeviceTold) (e : EndOf) → (x : HasOneExit (cat_work a) c v w e) → exit_of x.how ≡ exit_of e.how
 exit_told c v w e x = ap exit_of (⊎_elim (λ s. s) (λ (h : IsExitHidden (cat_work a) c e). absurd (h.beside refl)) x.same)
 
-pub done_told_as_errored_refused : ¬ (Headline done_told_as_errored)
+pub done_told_as_errored_refused : ¬ (RunsStreams done_told_as_errored)
 done_told_as_errored_refused h =
     let r = ran_with_ends done_told_as_errored h.causes (work_of done_told_as_errored h refl (an_end _ [])) (an_end _ []) in
     not_errored (sym (r.exits.0.told.1.0 ∙ exit_told _ _ _ _ r.exits.0))
 
-pub fault_told_as_succeeded_refused : ¬ (Headline fault_told_as_succeeded)
+pub fault_told_as_succeeded_refused : ¬ (RunsStreams fault_told_as_succeeded)
 fault_told_as_succeeded_refused h =
     let r = ran_with_ends fault_told_as_succeeded h.causes (work_of fault_told_as_succeeded h refl (an_end _ [])) (an_end _ []) in
     not_errored (r.exits.0.told.1.0 ∙ exit_told _ _ _ _ r.exits.0)
 
-pub halt_told_as_succeeded_refused : ¬ (Headline halt_told_as_succeeded)
+pub halt_told_as_succeeded_refused : ¬ (RunsStreams halt_told_as_succeeded)
 halt_told_as_succeeded_refused h =
     let r = ran_with_ends halt_told_as_succeeded h.causes (work_of halt_told_as_succeeded h refl (an_end _ [])) (an_end _ []) in
     not_canceled (r.exits.0.told.1.0 ∙ exit_told _ _ _ _ r.exits.0)
 
-pub final_unlike_its_close_refused : ¬ (Headline final_unlike_its_close)
+pub final_unlike_its_close_refused : ¬ (RunsStreams final_unlike_its_close)
 final_unlike_its_close_refused h = false≢true (ordered_complete final_unlike_its_close.events (work_of final_unlike_its_close h refl (an_end _ [])).performs.ledger.ordered)
 
-pub device_told_otherwise_refused : ¬ (Headline device_told_otherwise)
+pub device_told_otherwise_refused : ¬ (RunsStreams device_told_otherwise)
 device_told_otherwise_refused h = let e = ((work_of device_told_otherwise h refl (an_end _ [])).performs.devices.exits Errored).0 in omega (arith, e)
 
-pub closed_twice_refused : ¬ (Headline closed_twice)
+pub closed_twice_refused : ¬ (RunsStreams closed_twice)
 closed_twice_refused h = let e = (work_of closed_twice h refl (an_end _ [])).performs.devices.shut.0.closes in omega (arith, e)
 
-pub left_open_refused : ¬ (Headline left_open)
+pub left_open_refused : ¬ (RunsStreams left_open)
 left_open_refused h = let e = (work_of left_open h refl (an_end _ [])).performs.devices.shut.0.closes in omega (arith, e)
 
 -- a run that is done met the end, and no read failed
@@ -302,7 +302,7 @@ met d ys e q (inl (inl x)) = read_met d ys e q x.2
 met d ys e q (inl (inr x)) = let h = ap place (sym q ∙ x.3) in absurd (omega (arith, h))
 met d ys e q (inr x) = let h = ap place (sym q ∙ x.0) in absurd (omega (arith, h))
 
-pub failed_read_forgotten_refused : ¬ (Headline failed_read_forgotten)
+pub failed_read_forgotten_refused : ¬ (RunsStreams failed_read_forgotten)
 failed_read_forgotten_refused h =
     let g = good h.causes h.status.status in
     let r = ran_with_ends failed_read_forgotten h.causes (work_of failed_read_forgotten h refl (an_end _ [])) (an_end _ []) in
@@ -314,7 +314,7 @@ failed_read_forgotten_refused h =
     (λ (x : IsUntouched (r.home 0)). let z = x.opens in omega (arith, n, z))
     r.rows.at_home.2
 
-pub end_never_met_refused : ¬ (Headline end_never_met)
+pub end_never_met_refused : ¬ (RunsStreams end_never_met)
 end_never_met_refused h =
     let g = good h.causes h.status.status in
     let r = ran_with_ends end_never_met h.causes (work_of end_never_met h refl (an_end _ [])) (an_end _ []) in
@@ -326,16 +326,16 @@ end_never_met_refused h =
     (λ (x : IsUntouched (r.home 0)). let z = x.opens in omega (arith, n, z))
     r.rows.at_home.2
 
-pub fault_without_a_fault_refused : ¬ (Headline fault_without_a_fault)
+pub fault_without_a_fault_refused : ¬ (RunsStreams fault_without_a_fault)
 fault_without_a_fault_refused h =
     let r = ran_with_ends fault_without_a_fault h.causes (work_of fault_without_a_fault h refl (an_end _ [])) (an_end _ []) in
     let f = r.ends.caused.0.fault in
     ⊎_elim (λ e. let q = ap (λ (d : DeviceTold). d.read_faults) e in let l = f.3 in omega (arith, q, l)) among_nil (among_cons f.1)
 
-pub failed_close_not_told_refused : ¬ (Headline failed_close_not_told)
+pub failed_close_not_told_refused : ¬ (RunsStreams failed_close_not_told)
 failed_close_not_told_refused h = let e = (work_of failed_close_not_told h refl (an_end _ [])).performs.devices.failed.0 in omega (arith, e)
 
-pub silent_call_refused : ¬ (Headline silent_call)
+pub silent_call_refused : ¬ (RunsStreams silent_call)
 silent_call_refused h =
     ⊎_elim
     (λ e. let n = ap (λ (s : SinkTold). length (bytes_of s.written)) e in omega (arith, n))

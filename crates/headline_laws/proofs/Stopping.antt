@@ -21,7 +21,7 @@ use Rattle.run_rules.specs.Texts.{tail_text}
 use Rattle.cat_run.specs.Cat.{FileRuns, cat_work}
 use Rattle.flume_cli.specs.Status.{Causes}
 use Rattle.flume_cli.specs.declared.status.Status.TheVariants as status
-use Rattle.flume_cli.specs.Headline.{Call, Headline, SaysTail, TellsWork, run_of_call}
+use Rattle.flume_cli.specs.Headline.{Call, run_of_call, RunsStreams, SaysTail, TellsWork}
 use Rattle.cat_run.proofs.CatRuns.{file_bytes}
 use Rattle.cat_run.proofs.Pieces.{bytes_length}
 use Rattle.headline_laws.specs.Calls.{a}
@@ -30,14 +30,14 @@ use Rattle.headline_laws.proofs.Asked.{frames_of, idle_of, work_of}
 use Rattle.headline_laws.proofs.Refusing.{an_end, bytes_of, goes_on_as, good, no_cause, printed_as, ran_with_ends, rest_none, went}
 
 -- two devices more than there are rows
-pub idle_devices_refused : ¬ (Headline idle_devices)
+pub idle_devices_refused : ¬ (RunsStreams idle_devices)
 idle_devices_refused h = let l = (work_of idle_devices h refl (an_end _ [])).performs.devices.few.1.0 in omega (arith, l)
 
 -- two devices for one row
-pub opened_again_refused : ¬ (Headline opened_again)
+pub opened_again_refused : ¬ (RunsStreams opened_again)
 opened_again_refused h = let l = (work_of opened_again h refl (an_end _ [])).performs.devices.few.0 in omega (arith, l)
 
-pub invented_scopes_refused : ¬ (Headline invented_scopes)
+pub invented_scopes_refused : ¬ (RunsStreams invented_scopes)
 invented_scopes_refused h = let l = (work_of invented_scopes h refl (an_end _ [])).performs.ledger.scopes.0 in omega (arith, l)
 
 -- What is written begins with a frame of stream 0, if with anything.
@@ -65,7 +65,7 @@ from [] rest t n r s e = let u : t ≡ rest = e ∙ append-nil rest in ap first_
 from (f ∷ fs) rest t n r s e =
     ap first_of (e ∙ append_assoc (frame_text f.stream f.payload) (frames_text fs) (rest ++ [])) ∙ begins f.stream f.payload (frames_text fs ++ (rest ++ [])) n.0.0
 
-module _ (h : Headline writes_on) where
+module _ (h : RunsStreams writes_on) where
   abbrev t : TellsWork (cat_work a) writes_on h.causes
   t = work_of writes_on h refl (an_end _ [])
 
@@ -90,7 +90,7 @@ module _ (h : Headline writes_on) where
   behind_none None false e m =
       no_cause (run_of_call writes_on t.frames t.cut t.rest t.wanted) (subst (λ (o : Option Frame). is_some o ≡ false) (sym e) refl) m refl (r.ends.caused.0.halted refl)
 
-pub writes_on_refused : ¬ (Headline writes_on)
+pub writes_on_refused : ¬ (RunsStreams writes_on)
 writes_on_refused h = behind_none h ((work_of writes_on h refl (an_end _ [])).cut) ((work_of writes_on h refl (an_end _ [])).wanted) refl refl
 
 -- How long the frames are of what a file gives.
@@ -157,7 +157,7 @@ module _ (c : Call) (k : Causes) (t : TellsWork (cat_work a) c k) (some : c.ends
       omega (arith, l, p)
 
 -- at status 5 nothing stands behind the frames, so there are no more bytes than these few frames have
-module _ (c : Call) (h : Headline c) (t : TellsWork (cat_work a) c h.causes) (is : c.status ≡ status.Memory) (calm : nat_lt c.out_old.faults c.out_new.faults ≡ false) where
+module _ (c : Call) (h : RunsStreams c) (t : TellsWork (cat_work a) c h.causes) (is : c.status ≡ status.Memory) (calm : nat_lt c.out_old.faults c.out_new.faults ≡ false) where
   nothing_said : (cut : Option Frame) (wanted : Bool) → SaysTail h.causes t.text.said (tail_text c.ends c.events) status.Memory (is_some cut) wanted → (is_some cut ≡ false) × (t.text.said ≡ [])
   nothing_said (Some f) wanted s = absurd (false≢true (sym calm ∙ (sym h.status.unwritten ∙ s.0)))
   nothing_said None true s = (refl, s.2)
@@ -168,7 +168,7 @@ size_of None = 0
 size_of (Some bytes) = length bytes
 
 -- a call of cat that ended with status 5 and printed this
-too_long : (c : Call) (h : Headline c) (t : TellsWork (cat_work a) c h.causes) (r : Ran (cat_work a) (run_of_call c t.frames t.cut t.rest t.wanted)) → c.status ≡ status.Memory → c.out_old.written ≡ Some [] → nat_lt c.out_old.faults c.out_new.faults ≡ false
+too_long : (c : Call) (h : RunsStreams c) (t : TellsWork (cat_work a) c h.causes) (r : Ran (cat_work a) (run_of_call c t.frames t.cut t.rest t.wanted)) → c.status ≡ status.Memory → c.out_old.written ≡ Some [] → nat_lt c.out_old.faults c.out_new.faults ≡ false
     → length (payloads_of 0 t.frames) ≤ 6 → size_of c.out_new.written ≤ 36
 too_long c h t r is none calm few =
     let s = nothing_said c h t is calm t.cut t.wanted (subst (λ x. SaysTail h.causes t.text.said (tail_text c.ends c.events) x (is_some t.cut) t.wanted) is t.text.tail) in
@@ -181,13 +181,13 @@ too_long c h t r is none calm few =
     let f = frames_length t.frames r.outputs.numbers (omega (arith, few)) in
     omega (arith, w, a1, a2, l1, l2, f, few)
 
-pub memory_at_the_end_refused : ¬ (Headline memory_at_the_end)
+pub memory_at_the_end_refused : ¬ (RunsStreams memory_at_the_end)
 memory_at_the_end_refused h =
     let t = work_of memory_at_the_end h refl (an_end _ []) in
     let r = ran_with_ends memory_at_the_end h.causes t (an_end _ []) in
     let l = too_long memory_at_the_end h t r refl refl refl (printed_few memory_at_the_end h.causes t (an_end _ []) how.Done refl refl) in omega (arith, l)
 
-pub halted_for_memory_refused : ¬ (Headline halted_for_memory)
+pub halted_for_memory_refused : ¬ (RunsStreams halted_for_memory)
 halted_for_memory_refused h =
     let t = work_of halted_for_memory h refl (an_end _ []) in
     let r = ran_with_ends halted_for_memory h.causes t (an_end _ []) in
@@ -223,7 +223,7 @@ six_bytes (g ∷ gs) f rest more n z some front text few is =
     let third = ap third_of (is ∙ append_assoc (frame_text g.stream g.payload) (frames_text gs) (rest ++ [])) ∙ third_by g.stream g.payload (frames_text gs ++ (rest ++ [])) y (omega (arith, short)) in
     omega (arith, third, short)
 
-module _ (h : Headline halted_by_the_tail) where
+module _ (h : RunsStreams halted_by_the_tail) where
   abbrev tells : TellsWork (cat_work a) halted_by_the_tail h.causes
   tells = work_of halted_by_the_tail h refl (an_end _ [])
 
@@ -249,7 +249,7 @@ module _ (h : Headline halted_by_the_tail) where
       false≢true (sym wanting.0 ∙ h.status.unwritten)
   by_tail None false e m = no_cause (run_of_call halted_by_the_tail tells.frames tells.cut tells.rest tells.wanted) (subst (λ (o : Option Frame). is_some o ≡ false) (sym e) refl) m refl (ran_here.ends.caused.0.halted refl)
 
-pub halted_by_the_tail_refused : ¬ (Headline halted_by_the_tail)
+pub halted_by_the_tail_refused : ¬ (RunsStreams halted_by_the_tail)
 halted_by_the_tail_refused h = by_tail h ((work_of halted_by_the_tail h refl (an_end _ [])).cut) ((work_of halted_by_the_tail h refl (an_end _ [])).wanted) refl refl
 
 -- What is asked of the frames.
@@ -267,7 +267,7 @@ tail_begins : third_of (tail_text larger_frame.ends larger_frame.events) ≡ 100
 unfolding digits
 tail_begins = refl
 
-pub larger_frame_refused : ¬ (Headline larger_frame)
+pub larger_frame_refused : ¬ (RunsStreams larger_frame)
 larger_frame_refused h =
     let g = good h.causes h.status.status in
     let d = frames_of larger_frame h refl (an_end _ []) in
@@ -278,5 +278,5 @@ larger_frame_refused h =
     let behind : third_of (t.rest ++ t.text.said) ≡ 100 = ap (λ xs. third_of (xs ++ t.text.said)) rest ∙ (ap third_of w.said_is ∙ tail_begins) in
     small_first t.frames (t.rest ++ t.text.said) r.outputs.numbers d.1.fits (λ e. omega (arith, e, behind)) (sym (ap third_of (ap bytes_of t.text.written)))
 
-pub made_without_words_refused : ¬ (Headline made_without_words)
+pub made_without_words_refused : ¬ (RunsStreams made_without_words)
 made_without_words_refused h = let e = ap (λ (t : DepotTold). length t.made) (idle_of made_without_words h refl).depot in omega (arith, e)

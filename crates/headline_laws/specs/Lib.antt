@@ -6,3 +6,4 @@ pub mod Worked
 pub mod Whole
 pub mod Cases
 pub mod Unruly
+pub mod Audited

@@ -2,6 +2,7 @@
 ghost use Rattle.flume_cli.specs.Headline.{Headline};
 ghost use Rattle.headline_laws.specs.Refused.{end_never_met, failed_read_forgotten, invented_output, cut_output, row_of_no_plan, event_of_no_stream, lease_of_no_stream, call_with_row_without_a_final, call_with_final_before_close, kept_device, closed_twice, left_open, failure_not_told, halted_without_a_cause, fault_without_a_fault, failed_close_not_told, done_told_as_errored, fault_told_as_succeeded, halt_told_as_succeeded, final_unlike_its_close, device_told_otherwise, silent_call};
 ghost use Rattle.std.specs.Prelude.{ℕ, ◌<◌, List, length};
+ghost use Rattle.headline_laws.specs.Audited.{audit_of_nothing, audit_of_the_depot, clean_called_unended, ledger_not_reported, other_rule_named, refused_though_spelled, unended_called_clean, unended_with_status_0, unread_though_read};
 ghost use Rattle.headline_laws.specs.Cases.{case_of_the_depot, case_of_the_source, failed_case, halted_case, nothing_summed, summary_of_another_seed, summary_without_memory};
 ghost use Rattle.headline_laws.specs.Described.{drained, end_not_read, made_though_refused, never_read, next_stream_refused, read_by_cat, read_on, refusal_printed, refused_though_good, stream_left_out, unread_but_refused, unread_without_a_fault};
 ghost use Rattle.headline_laws.specs.Surplus.{halted_by_the_tail, halted_for_memory, idle_devices, invented_scopes, larger_frame, made_without_words, memory_at_the_end, opened_again, writes_on};
@@ -97,4 +98,17 @@ pub fn wrong_cases()
     ensures is_nothing_summed { ¬ (Headline nothing_summed) }
     ensures is_summary_of_another_seed { ¬ (Headline summary_of_another_seed) }
     ensures is_summary_without_memory { ¬ (Headline summary_without_memory) }
+{}
+
+/// Audits that tell another verdict, ledger or refusal than the text has, or took it from elsewhere.
+pub fn wrong_audits()
+    ensures is_unended_called_clean { ¬ (Headline unended_called_clean) }
+    ensures is_unended_with_status_0 { ¬ (Headline unended_with_status_0) }
+    ensures is_clean_called_unended { ¬ (Headline clean_called_unended) }
+    ensures is_other_rule_named { ¬ (Headline other_rule_named) }
+    ensures is_ledger_not_reported { ¬ (Headline ledger_not_reported) }
+    ensures is_refused_though_spelled { ¬ (Headline refused_though_spelled) }
+    ensures is_audit_of_the_depot { ¬ (Headline audit_of_the_depot) }
+    ensures is_audit_of_nothing { ¬ (Headline audit_of_nothing) }
+    ensures is_unread_though_read { ¬ (Headline unread_though_read) }
 {}

@@ -1,5 +1,6 @@
 //! Calls that went as they should.
 ghost use Rattle.flume_cli.specs.Headline.{Headline};
+ghost use Rattle.headline_laws.specs.Audited.{clean_ledger, unended_ledger, unread_ledger, unwritten_verdict};
 ghost use Rattle.headline_laws.specs.Cases.{case_not_made};
 ghost use Rattle.headline_laws.specs.Described.{empty_description, no_memory, refused_description, unread_source};
 ghost use Rattle.headline_laws.specs.Worked.{whole_file, empty_file, missing_file, read_fault, failed_close, failed_write, words_not_read};
@@ -38,4 +39,12 @@ pub fn descriptions()
 /// A case for which there was no memory.
 pub fn cases()
     ensures { Headline case_not_made }
+{}
+
+/// Ledgers that were judged, or not read, and a verdict that was not written.
+pub fn audits()
+    ensures is_clean_ledger { Headline clean_ledger }
+    ensures is_unended_ledger { Headline unended_ledger }
+    ensures is_unwritten_verdict { Headline unwritten_verdict }
+    ensures is_unread_ledger { Headline unread_ledger }
 {}

@@ -1,10 +1,12 @@
 //! Calls over an outside in memory, of which calls of devices, of the output or of memory fail, with what
 //! they print and leave written out by hand: `cat`, descriptions that can't be read, runs of one stream
-//! and of many, and cases that are made of numbers.
+//! and of many, cases that are made of numbers, and audits.
 #![tactic(auto)]
 
 #[cfg(test)]
 mod asserts;
+#[cfg(test)]
+mod audits;
 #[cfg(test)]
 mod calls;
 #[cfg(test)]

@@ -58,6 +58,17 @@ fn wanting_memory_of_a_refusal_is_told(rt: HostRuntime) {
     refuses(&rt, rt.alloc(), &case, 3, refused);
 }
 
+/// The same of a ledger that is audited: the verdict is printed, or nothing is.
+#[test]
+fn wanting_memory_of_an_audit_is_told(rt: HostRuntime) {
+    let case = Case {
+        words: &["audit"],
+        source: b"ledger 2\nouter lease 0 0\nouter cancel 0 canceled\n",
+        ..cat_of(b"hello\n")
+    };
+    tells(&rt, rt.alloc(), &case, b"", "audit ok\n");
+}
+
 /// Fails the test unless the case prints this, or tells that memory was wanting.
 fn tells(
     rt: &(impl Abort + Threads + Wait + Sync),

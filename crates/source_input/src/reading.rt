@@ -1,20 +1,17 @@
-//! The source is read to its end.
+//! A source is read to its end.
 ghost use Rattle.std.specs.Prelude.{◌-◌, ◌^◌, ◌<◌};
-ghost use Rattle.flume_cli.specs.Input.{ReadsSource};
+ghost use Rattle.source_input.specs.Input.{ReadsSource};
 
 use chunk_core::Line;
 use device_port::{Failed, Source};
 use std::alloc::{AllocError, Global};
 
-/// The most bytes that are read: one more than a description may have.
-const MOST: usize = 1_048_577;
-
 /// The most bytes that one read asks for.
 const PIECE: usize = 4096;
 
 /// Why a source wasn't read to its end.
-#[derive(Clone, Copy)]
-pub(crate) enum NotRead {
+#[derive(Clone, Copy, Debug, PartialEq, Eq)]
+pub enum NotRead {
     /// A read failed, and none was tried after it.
     Failed,
     /// Memory was wanting.
@@ -23,7 +20,7 @@ pub(crate) enum NotRead {
 
 impl From<Failed> for NotRead {
     ghost use Rattle.std.specs.Prelude.{◌≡◌};
-    ghost use Rattle.flume_cli.specs.declared.source.NotRead.TheVariants as why;
+    ghost use Rattle.source_input.specs.declared.reading.NotRead.TheVariants as why;
 
     ghost from_gives = { λ _ e. e ≡ why.Failed };
 
@@ -34,7 +31,7 @@ impl From<Failed> for NotRead {
 
 impl From<AllocError> for NotRead {
     ghost use Rattle.std.specs.Prelude.{◌≡◌};
-    ghost use Rattle.flume_cli.specs.declared.source.NotRead.TheVariants as why;
+    ghost use Rattle.source_input.specs.declared.reading.NotRead.TheVariants as why;
 
     ghost from_gives = { λ _ e. e ≡ why.Memory };
 
@@ -43,15 +40,16 @@ impl From<AllocError> for NotRead {
     }
 }
 
-/// All that the source gives, or its first 1,048,577 bytes where that is more.
-pub(crate) fn read_source<S: Source>(alloc: Global, src: &mut S) -> Result<Line, NotRead>
+/// All that the source gives, or its first `most` bytes where that is more.
+pub fn read_source<S: Source>(alloc: Global, src: &mut S, most: usize) -> Result<Line, NotRead>
+    requires some { 0 < most }
     requires room { (S.told src.old).faults < 2 ^ 64 - 1 }
-    ensures { ReadsSource (S.told src.old) (S.told src.new) result }
+    ensures { ReadsSource most (S.told src.old) (S.told src.new) result }
 {
     let mut bytes = Vec::new(alloc);
     let mut piece = [0; PIECE];
-    while bytes.len() < MOST {
-        let room = PIECE.min(MOST - bytes.len());
+    while bytes.len() < most {
+        let room = PIECE.min(most - bytes.len());
         let count = src.read(&mut piece[..room])?;
         if count == 0 {
             break;

@@ -1,0 +1,4 @@
+mod Cleanness
+mod Statuses
+mod Printing
+mod Judging
