@@ -34,13 +34,6 @@ use Rattle.cat_run.proofs.AloneWork.{accounted, keeps_rules, homes, shown, fault
 use Rattle.cat_run.proofs.CutFrames.{rest_is}
 use Rattle.cat_run.proofs.Pieces.{cut_is, cut_of, frames_pieces, payloads_pieces, pieces_numbers}
 
--- a stream that didn't end by itself was halted or found no memory
-halted_or_wanting : (h : How) → is_over h ≡ false → (h ≡ how.Memory) ⊎ (h ≡ how.Halted)
-halted_or_wanting how.Memory e = inl refl
-halted_or_wanting how.Halted e = inr refl
-halted_or_wanting how.Done e = absurd (false≢true (sym e))
-halted_or_wanting (how.Fault c) e = absurd (false≢true (sym e))
-
 some_is_none : {A : Type 0} (x : A) → Some x ≡ None → ⊥
 some_is_none x e = cc
 
@@ -67,8 +60,9 @@ module _ (places : List Place) (scopes : ℕ) (runs ideal : (ℕ → DeviceTold)
   abbrev pub IsIdealDone : Type 0
   IsIdealDone = (v : ℕ → DeviceTold) (ys : List Element) (e : End) → ((k : ℕ) → (faults_of (v k) ≡ 0) × ((v k).content ≡ (r.home k).content)) → ideal v ys e → e ≡ Done
 
-  -- a fault of an act has a device that shows it; and where nothing failed the stream is done, and what it gave is an ideal run
+  -- memory is wanting where the stream ended so; a fault of an act has a device that shows it; and where nothing failed the stream is done, and what it gave is an ideal run
   pub record IsCovered : Type 0 where
+    pub wants : o.memory ≡ true → r.how ≡ how.Memory
     pub shown : (c : Code) → r.how ≡ how.Fault c → IfSome (act_count c) (λ n. (k : ℕ) × (k < length places) × (0 < n (r.home k)))
     pub whole : is_halted r.how ≡ false → is_memory r.how ≡ false → ((k : ℕ) → k < length places → faults_of (r.home k) ≡ 0) → IsIdealDone
         → (r.how ≡ how.Done) × ((ys : List Element) × ideal r.home ys Done × (rendering_of given ≡ rendering_of ys))
@@ -116,8 +110,8 @@ module _ (places : List Place) (scopes : ℕ) (runs ideal : (ℕ → DeviceTold)
       halted = λ e k m who is why. inr (none_above (length places) scopes r.home r.how o.ledger r.account k);
       nobody = λ e. absurd (some_is_none 0 (sym e));
     };
+    begins = tt;
     memory = each_end (λ e. e.how ≡ how.Memory → o.memory ≡ true) (λ t. r.run.remembered (ap is_memory t));
-    wanting = λ t. (end_0, subst (λ es. IsAmong end_0 es) (sym r.ends) (here []), halted_or_wanting r.how (r.run.wanting t).1);
   }
 
   complete : IsCovered → o.memory ≡ false → NothingFailed work run_record no_values r.home → IsWholeRun work run_record no_values r.home
@@ -153,6 +147,7 @@ module _ (places : List Place) (scopes : ℕ) (runs ideal : (ℕ → DeviceTold)
         record { how = r.how; same = inl refl; told = told_as_ended (length places) scopes r.home r.how o.ledger r.account; ran = λ k q. (given, r.run.end, r.run.run, r.run.reported) },
         tt,
       );
+      wanting = λ m. (end_0, subst (λ es. IsAmong end_0 es) (sym r.ends) (here []), inl (h.wants m));
       completeness = complete h;
     });
   }

@@ -13,15 +13,15 @@ use Rattle.device_port.specs.Depot.{DepotTold}
 use Rattle.device_port.specs.Sink.{SinkTold}
 use Rattle.pull_nodes.specs.Runs.{FirstBytes, OrLeft, Reads, OpensThen}
 use Rattle.run_rules.specs.declared.end.EndOf.{EndOf}
-use Rattle.run_rules.specs.Facts.{is_halted, is_memory, is_over}
+use Rattle.run_rules.specs.Facts.{is_halted, is_memory}
 use Rattle.run_rules.specs.Ends.{act_count}
 use Rattle.run_rules.specs.Outputs.{IsReported, elements_in_pieces}
 use Rattle.cat_run.specs.declared.outcome.Outcome.{Outcome}
-use Rattle.cat_run.specs.Alone.{frame_of, RunsAlone}
+use Rattle.cat_run.specs.Alone.{frame_of, IsByte, RunsAlone}
 use Rattle.cat_run.specs.Cat.{FileRuns, IdealFileRuns, RunsCat}
 use Rattle.cat_run.proofs.AlonePerforms.{IsCovered, performs_alone}
 use Rattle.chunk_core.proofs.Each.{each_left, each_right}
-use Rattle.cat_run.proofs.Pieces.{IsByte, bytes_are, bytes_length, cut_is, cut_of, pieces_fit}
+use Rattle.cat_run.proofs.Pieces.{bytes_are, bytes_length, cut_is, cut_of, pieces_fit}
 use Rattle.joined_runs.proofs.Reading.{IsCounted, clean_but, clean_each, counted_as, fault_cut, fault_done, fault_is, fault_run, stops_shows, whole_is}
 
 -- What a file gives are bytes.
@@ -82,9 +82,17 @@ module _ (path : List ℕ) (size : ℕ) (old new : DepotTold) (so sn : SinkTold)
   whole_by (Fault c) h is halts forgets run calm ideal = absurd (fault_done c (ideal (clean_but r.home) given (Fault c) (clean_each r.home calm) (ideal_is d given (Fault c) calm (fault_cut c) run)))
   whole_by Cut h is halts forgets run calm ideal = absurd (⊎_elim (λ i. let e : true ≡ false = sym (ap is_halted i) ∙ halts in cc) (λ i. let e : true ≡ false = sym (ap is_memory i) ∙ forgets in cc) is)
 
+  -- a file gives bytes alone, for whose text no memory is wanting
+  wants : o.memory ≡ true → r.how ≡ how.Memory
+  wants m = ⊎_elim
+      (λ e. e)
+      (λ l. let p = l.1 in absurd (p.unlike (each_right IsByte given p.lost (file_bytes d (given ++ p.lost) Cut p.run))))
+      (r.run.wanting m).1
+
   covered : IsCovered (to_read path ∷ []) 0 (λ w. FileRuns (w 0)) (λ w. IdealFileRuns (w 0)) size old new so sn o r
   covered = record {
     shown = λ c f. in_row_0 r.home (act_count c) (file_shows d given c (fault_run (FileRuns d) given r.run.end r.how r.run.reported r.run.run c f));
+    wants = wants;
     whole = λ halts forgets calm ideal. whole_by r.run.end r.how r.run.reported halts forgets r.run.run (calm 0 (omega arith)) ideal;
   }
 
@@ -106,5 +114,5 @@ module _ (path : List ℕ) (size : ℕ) (old new : DepotTold) (so sn : SinkTold)
     performs = performs_alone (to_read path ∷ []) 0 (λ w. FileRuns (w 0)) (λ w. IdealFileRuns (w 0)) size old new so sn o r covered;
     wrote = r.printed.wrote;
     begun = λ e. absurd (none_some (record { who = Inner 0; how = r.how }) [] (sym r.ends ∙ e));
-    wanting = λ m. let w = r.run.wanting m in (w.0, subst (λ es. AllByRecursion (λ (e : EndOf). is_over e.how ≡ false) es) (sym r.ends) (w.1, tt));
+    wanting = λ m. ((r.run.wanting m).0, subst (λ es. AllByRecursion (λ (e : EndOf). e.how ≡ how.Memory) es) (sym r.ends) (wants m, tt));
   }

@@ -1,5 +1,5 @@
 -- A node that was run to its end, or that couldn't be begun.
-use Rattle.std.proofs.Common.{◌≡◌, ℕ, suc, ◌+◌, ◌*◌, ◌^◌, ◌≤◌, Bool, true, false, if◌then◌else◌, List, [], ◌∷◌, ◌++◌, inr, map, length, Option, Some, refl, sym, ◌∙◌, ap, subst, ⊎_elim, arith, append-nil, nat_eq}
+use Rattle.std.proofs.Common.{◌≡◌, ℕ, suc, ◌+◌, ◌*◌, ◌^◌, ◌≤◌, Bool, true, false, if◌then◌else◌, List, [], ◌∷◌, ◌++◌, inl, inr, map, length, Option, Some, refl, sym, ◌∙◌, ap, subst, ⊎_elim, arith, append-nil, nat_eq}
 use Rattle.std.proofs.lemmas.Bool.{false≢true}
 use Rattle.std.proofs.lemmas.List.{length-map}
 use Rattle.std.specs.List.{filter_map, IsDistinct}
@@ -149,7 +149,7 @@ module _ {V : Type 0} (told : V → DeviceTold) (n : Node) (devices : List V) (c
             silenced = λ e. absurd (false≢true e);
             halted = λ e. absurd (false≢true e);
             remembered = λ e. refl;
-            wanting = λ e. (refl, refl);
+            wanting = λ e. (refl, inl refl);
           };
         };
         parted = subst (λ l. Parted told (told_at told x) l (first + length devices) first devices) (empty ∙ sym bare)

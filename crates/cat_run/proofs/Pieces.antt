@@ -7,7 +7,7 @@ use Rattle.chunk_core.specs.Elements.Element.{Byte}
 use Rattle.chunk_core.specs.Texts.{Frame, payloads_of}
 use Rattle.frames.proofs.Rendered.{rendering_some}
 use Rattle.run_rules.specs.Outputs.{elements_in_pieces, payloads_by}
-use Rattle.cat_run.specs.Alone.{IsSmallPiece, frame_of}
+use Rattle.cat_run.specs.Alone.{IsByte, IsSmallPiece, frame_of}
 use Rattle.chunk_core.proofs.Bools.{itself}
 use Rattle.chunk_core.proofs.Each.{each_left, each_right}
 
@@ -39,9 +39,6 @@ cut_is k true next = refl
 cut_is k false next = refl
 
 -- Bytes.
-
-abbrev pub IsByte : Element → Type 0
-IsByte x = (b : ℕ) × (x ≡ Byte b)
 
 pub bytes_are : (bytes : List ℕ) → AllByRecursion IsByte (map Byte bytes)
 bytes_are [] = tt

@@ -1,13 +1,15 @@
 -- Printing a stream, turn by turn.
-use Rattle.std.proofs.Common.{◌≡◌, ℕ, ◌+◌, ◌<◌, ◌≤◌, false, List, [], ◌∷◌, ◌++◌, inl, inr, map, length, take, drop, Some, Err, refl, sym, ◌∙◌, ap, subst, arith, append-nil, length-drop}
+use Rattle.std.proofs.Common.{◌≡◌, ◌≢◌, ℕ, ◌+◌, ◌<◌, ◌≤◌, false, List, [], ◌∷◌, ◌++◌, inl, inr, map, length, take, drop, Some, Err, refl, sym, ◌∙◌, ap, subst, arith, append-nil, length-drop}
 use Rattle.std.proofs.lemmas.Bool.{false≢true}
 use Rattle.std.proofs.lemmas.Grind.{flat_map-append}
 use Rattle.std.proofs.lemmas.List.{map-append, take-append-drop}
 use Rattle.std.specs.List.{AllByRecursion}
-use Rattle.chunk_core.specs.Elements.{Element, elements, rendering_of}
+use Rattle.chunk_core.specs.Elements.{Bytes, Element, elements, kind_of, rendering_of}
+use Rattle.chunk_core.specs.Elements.Element.{Byte, Line, Row}
 use Rattle.chunk_core.specs.Outcomes.{Done, Fault, Cut}
 use Rattle.chunk_core.specs.Texts.{Frame, frame_text, frames_text}
 use Rattle.chunk_core.specs.declared.load.Load.{Load}
+use Rattle.chunk_core.specs.declared.load.Load.TheVariants as load
 use Rattle.chunk_core.specs.declared.code.Code.{Code}
 use Rattle.chunk_core.specs.declared.code.How.TheVariants as how
 use Rattle.device_port.specs.Device.{DeviceTold}
@@ -27,7 +29,7 @@ use Rattle.pull_turns.proofs.Led.{cut_unwritten, led_start, led_chunk, led_quiet
 use Rattle.run_rules.specs.Outputs.{elements_in_pieces}
 use Rattle.cat_run.specs.declared.stopped.Stopped.{Stopped}
 use Rattle.cat_run.specs.declared.stopped.Stopped.TheVariants as stopped
-use Rattle.cat_run.specs.Alone.{AreSmall, frame_of, IsSmallPiece, PrintsPieces}
+use Rattle.cat_run.specs.Alone.{AreSmall, frame_of, IsByte, IsSmallPiece, PrintsPieces}
 use Rattle.cat_run.specs.Printing.{PrintsOne, PrintsRun}
 use Rattle.chunk_core.proofs.Each.{each_snoc}
 
@@ -44,6 +46,14 @@ pub record PrintsOn {F : Type 0} (P : StateMeaning F) (first now : ℕ → Devic
   pub small : HasNoPipe start → StaysSmall n start rest pieces
   pub led : Led P first now start rest (elements_in_pieces pieces)
   pub wrote : new ≡ with_bytes old (frames_text (map (frame_of k) pieces))
+
+-- a load of another kind has other elements
+unlike_bytes : (l : Load) → kind_of l ≢ Bytes → 0 < length (elements l) → ¬ (AllByRecursion IsByte (elements l))
+unlike_bytes (load.Bytes bytes) n s h = n refl
+unlike_bytes (load.Lines []) n s h = omega (arith, s)
+unlike_bytes (load.Lines (x ∷ xs)) n s h = let e : Line x ≡ Byte h.0.0 = h.0.1 in cc
+unlike_bytes (load.Rows []) n s h = omega (arith, s)
+unlike_bytes (load.Rows (x ∷ xs)) n s h = let e : Row x ≡ Byte h.0.0 = h.0.1 in cc
 
 elements_snoc : (pieces : List (List Element)) (xs : List Element) → elements_in_pieces (pieces ++ xs ∷ []) ≡ elements_in_pieces pieces ++ xs
 elements_snoc pieces xs = flat_map-append (λ (ys : List Element). ys) pieces (xs ∷ []) ∙ ap (λ b. elements_in_pieces pieces ++ b) (append-nil xs)
@@ -100,7 +110,7 @@ module _ {F : Type 0} (P : StateMeaning F) (first before : ℕ → DeviceTold) (
       silenced = λ e. absurd (false≢true e);
       halted = λ e. absurd (false≢true e);
       remembered = λ e. refl;
-      wanting = λ e. (refl, refl);
+      wanting = λ e. (refl, inl refl);
     };
   }
 
@@ -188,8 +198,8 @@ module _ {F : Type 0} (P : StateMeaning F) (first : ℕ → DeviceTold) (before 
     Halts new r = PrintsRun (IsRunOfRest P last start) (HasNoPipe start) (widest n start) k old new (Some how.Halted) r
 
     -- memory was wanting for the text of a piece
-    prints_unrendered : (new : SinkTold) (l : Load) → Turns P before now n rest next (turn.Chunk l) → new ≡ mid → Halts new stopped.Memory
-    prints_unrendered new l h e = subst (λ s. Halts s stopped.Memory) (sym e) (record {
+    prints_unrendered : (new : SinkTold) (l : Load) → Turns P before now n rest next (turn.Chunk l) → new ≡ mid → kind_of l ≢ Bytes → Halts new stopped.Memory
+    prints_unrendered new l h e other = subst (λ s. Halts s stopped.Memory) (sym e) (record {
       how = how.Halted;
       ended_is = refl;
       ends = inl refl;
@@ -203,7 +213,7 @@ module _ {F : Type 0} (P : StateMeaning F) (first : ℕ → DeviceTold) (before 
         silenced = λ e. refl;
         halted = λ e. inr refl;
         remembered = λ e. absurd (false≢true e);
-        wanting = λ e. (refl, refl);
+        wanting = λ e. (refl, inr (refl, record { lost = elements l; some = h.gave.0; unlike = unlike_bytes l other h.gave.0; run = left_behind l h }));
       };
     })
 
@@ -241,5 +251,5 @@ module _ {F : Type 0} (P : StateMeaning F) (first : ℕ → DeviceTold) (before 
     -- a piece wasn't printed whole
     pub prints_put : (new : SinkTold) (l : Load) (cause : Stopped) → Turns P before now n rest next (turn.Chunk l) → (HasNoPipe rest → Sized n rest next (elements l)) → PrintsOne {T = Unit {0}} mid new k l (Err cause) → Halts new cause
     prints_put new l stopped.Unwritten h s w = prints_broken new l h s w
-    prints_put new l stopped.Memory h s w = prints_unrendered new l h w.0
+    prints_put new l stopped.Memory h s w = prints_unrendered new l h w.0 w.1
     prints_put new l stopped.Ended h s w = absurd w

@@ -3,10 +3,12 @@ use Rattle.std.specs.Prelude.{◌≡◌, ◌⊎◌, ℕ, ◌+◌, ◌<◌, ◌�
 use Rattle.std.specs.List.Sorted.{IsPermutation}
 use Rattle.std.specs.List.{AllByRecursion}
 use Rattle.chunk_core.specs.Elements.{Element, rendering_of}
+use Rattle.chunk_core.specs.Elements.Element.{Byte}
 use Rattle.chunk_core.specs.Outcomes.{End, Cut, Outcomes, exit_of}
 use Rattle.chunk_core.specs.Texts.{Frame, frame_text, frames_text}
 use Rattle.chunk_core.specs.declared.code.Exit.{Exit}
 use Rattle.chunk_core.specs.declared.code.How.{How}
+use Rattle.chunk_core.specs.declared.code.How.TheVariants as how
 use Rattle.res_ledger.specs.declared.event.StreamNo.TheVariants.{Inner}
 use Rattle.res_ledger.specs.declared.event.What.TheVariants.{Acquire, Close, Final}
 use Rattle.res_ledger.specs.declared.event.Event.{Event}
@@ -17,7 +19,7 @@ use Rattle.res_ledger.specs.Order.{IsOrdered}
 use Rattle.device_port.specs.Device.{Place, DeviceTold}
 use Rattle.device_port.specs.Depot.{DepotTold, KeepsFilesBut, KeepsWritten}
 use Rattle.device_port.specs.Sink.{SinkTold, with_bytes}
-use Rattle.run_rules.specs.Facts.{is_halted, is_memory, is_over, leased_stream, first_numbers}
+use Rattle.run_rules.specs.Facts.{is_halted, is_memory, leased_stream, first_numbers}
 use Rattle.run_rules.specs.Devices.{IsWrittenBy, OpensWhatIsThere}
 use Rattle.run_rules.specs.Outputs.{IsReported, elements_in_pieces}
 use Rattle.run_rules.specs.Work.{Work}
@@ -33,6 +35,9 @@ abbrev pub and_one : Bool → ℕ → ℕ
 and_one failed n = cond failed (n + 1) n
 
 -- What was printed.
+
+abbrev pub IsByte : Element → Type 0
+IsByte x = (b : ℕ) × (x ≡ Byte b)
 
 -- a piece has elements
 abbrev pub IsSmallPiece : List Element → Type 0
@@ -61,8 +66,19 @@ pub record AreSmall (size : ℕ) (pieces : List (List Element)) (next : List Ele
   pub fits : AllByRecursion (λ xs. length xs ≤ size) pieces
   pub next_fits : length next ≤ size
 
+-- a piece of other elements than bytes came behind these, and was lost
+pub record LosesPiece (runs : Outcomes) (pieces : List (List Element)) : Type 0 where
+  pub lost : List Element
+  pub some : IsSmallPiece lost
+  pub unlike : ¬ (AllByRecursion IsByte lost)
+  pub run : runs (elements_in_pieces pieces ++ lost) Cut
+
+-- memory was wanting for a run that ended so, or for the text of a piece
+abbrev pub WantsMemory : Outcomes → List (List Element) → How → Type 0
+WantsMemory runs pieces h = (h ≡ how.Memory) ⊎ ((h ≡ how.Halted) × LosesPiece runs pieces)
+
 -- The pieces are those of a run with the end that is reported, and what the next one goes on with may be left there; the run was halted where a write failed,
--- and else only for want of memory. Memory is told to be wanting only where no write failed and the run didn't come to an end of its own.
+-- and else only for want of memory. Memory is told to be wanting only where no write failed and the run ended so or a piece was lost.
 pub record IsRunIn (runs : Outcomes) (pieces : List (List Element)) (next : List Element) (failed memory : Bool) (how : How) : Type 0 where
   pub end : End
   pub run : runs (elements_in_pieces pieces) end
@@ -71,7 +87,7 @@ pub record IsRunIn (runs : Outcomes) (pieces : List (List Element)) (next : List
   pub silenced : failed ≡ true → is_halted how ≡ true
   pub halted : is_halted how ≡ true → (failed ≡ true) ⊎ (memory ≡ true)
   pub remembered : is_memory how ≡ true → memory ≡ true
-  pub wanting : memory ≡ true → (failed ≡ false) × (is_over how ≡ false)
+  pub wanting : memory ≡ true → (failed ≡ false) × WantsMemory runs pieces how
 
 -- What became of the devices.
 

@@ -3,11 +3,11 @@ use Rattle.std.specs.Prelude.{◌≡◌, ℕ, ◌≤◌, true, false, is_some, L
 use Rattle.std.specs.List.{AllByRecursion}
 use Rattle.chunk_core.specs.Texts.{Frame, frames_text}
 use Rattle.chunk_core.specs.Outcomes.{Outcomes}
+use Rattle.chunk_core.specs.declared.code.How.TheVariants as how
 use Rattle.device_port.specs.Device.{DeviceTold, to_read}
 use Rattle.device_port.specs.Depot.{DepotTold}
 use Rattle.device_port.specs.Sink.{SinkTold, with_bytes}
 use Rattle.pull_nodes.specs.Runs.{OrLeft, Reads, ReadsWhole, OpensThen}
-use Rattle.run_rules.specs.Facts.{is_over}
 use Rattle.run_rules.specs.Work.{Work, RunRecord}
 use Rattle.run_rules.specs.Run.{Performs}
 use Rattle.cat_run.specs.declared.outcome.Outcome.{Outcome}
@@ -34,7 +34,7 @@ pub record FramesAreWithin (size : ℕ) (frames : List Frame) (cut : Option Fram
   pub cut_fits : IfSome cut (λ f. length f.payload ≤ size)
 
 -- the work of cat was done, and the sink got the frames, of at most chunk bytes each, and what was written of the one whose write failed;
--- memory is told to be wanting only where no write failed and the stream, if it was begun, didn't come to an end of its own
+-- memory is told to be wanting only where no write failed and the stream, if it was begun, ended so
 pub record RunsCat (path : List ℕ) (chunk : ℕ) (depot_old depot_new : DepotTold) (old new : SinkTold) (o : Outcome) : Type 0 where
   pub frames : List Frame
   pub cut : Option Frame
@@ -44,4 +44,4 @@ pub record RunsCat (path : List ℕ) (chunk : ℕ) (depot_old depot_new : DepotT
   pub performs : Performs (cat_work path) (run_record_of depot_old depot_new frames cut rest o)
   pub wrote : new ≡ record (with_bytes old (frames_text frames ++ rest)) { faults = and_one o.sink_failed old.faults }
   pub begun : o.ends ≡ [] → (o.sink_failed ≡ false) × (o.memory ≡ true)
-  pub wanting : o.memory ≡ true → (o.sink_failed ≡ false) × AllByRecursion (λ e. is_over e.how ≡ false) o.ends
+  pub wanting : o.memory ≡ true → (o.sink_failed ≡ false) × AllByRecursion (λ e. e.how ≡ how.Memory) o.ends

@@ -161,7 +161,7 @@ module _ {S V F : Type 0} (view : S → View V) (told : V → DeviceTold) (P : V
     received : tales.loads_received k tale ≡ map rendering_of (map elements j.loads)
     received =
         subst (λ q. tales.loads_received q tale ≡ map rendering_of (map elements j.loads)) is_made.stream
-        (loads_got w.stream tale receiver.got j.loads c.e.how h.streams.got (c.back.got ∙ j.sent))
+        (loads_got w.stream tale receiver.got j.loads j.texts c.e.how h.streams.got j.texts_are (c.back.got ∙ j.sent))
 
     -- it ran
     pub has_run : HasRun (PlanRuns p k t W') W' tale L k (first_row p k) (stream_of spec)

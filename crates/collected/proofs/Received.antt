@@ -1,4 +1,4 @@
--- The loads that were received of a stream are those that it sent.
+-- What was received of a stream are the texts of its loads.
 use Rattle.std.proofs.Common.{◌≡◌, ℕ, Bool, true, false, nat_eq, if◌then◌else◌, List, [], ◌∷◌, ◌++◌, map, refl, sym, ◌∙◌, ap}
 use Rattle.std.proofs.lemmas.Grind.{flat_map-append}
 use Rattle.std.proofs.lemmas.List.Folds.{flat_map-map}
@@ -11,7 +11,7 @@ use Rattle.chunk_core.proofs.Bools.{itself}
 use Rattle.join_tale.specs.Tales as tales
 use Rattle.join_tale.specs.Tales.{Message, Tale, loads_in, loads_of, loads_received}
 use Rattle.run_rules.specs.Outputs.{elements_in_pieces}
-use Rattle.stream_jobs.specs.Messages.{end_message, load_messages}
+use Rattle.stream_jobs.specs.Messages.{AreTextsOf, end_message, load_messages, text_of}
 use Rattle.dealt_streams.specs.Kept.{told_message}
 
 -- the load of a message
@@ -31,17 +31,17 @@ loads_chosen k (m ∷ ms) = by_test (loads_chosen k ms) (nat_eq m.stream k) refl
     by_test i false e =
         ap (λ c. (if c then found_in m else []) ++ loads_of k (map told_message ms)) e ∙ (i ∙ sym (ap (λ c. loads_of k (map told_message (if c then m ∷ of_stream k ms else of_stream k ms))) e))
 
--- the loads of what a stream sent
-loads_sent : (k : ℕ) (loads : List Load) (h : How) → loads_of k (map told_message (load_messages k loads ++ end_message k h ∷ [])) ≡ map (λ l. rendering_of (elements l)) loads
+-- what is printed of what a stream sent
+loads_sent : (k : ℕ) (loads : List Load) (h : How) → loads_of k (map told_message (load_messages k loads ++ end_message k h ∷ [])) ≡ map text_of loads
 loads_sent k [] h = ap (λ c. (if c then ◌++◌ {A = List ℕ} [] [] else []) ++ []) (itself k)
 loads_sent k (l ∷ loads) h = ap (λ c. (if c then rendering_of (elements l) ∷ [] else []) ++ loads_of k (map told_message (load_messages k loads ++ end_message k h ∷ []))) (itself k) ∙ ap (λ xs. rendering_of (elements l) ∷ xs) (loads_sent k loads h)
 
-pub loads_got : (k : ℕ) (t : Tale) (got : List Msg) (loads : List Load) (h : How) → map told_message got ≡ t.front ++ t.late → of_stream k got ≡ load_messages k loads ++ end_message k h ∷ [] → loads_received k t ≡ map rendering_of (map elements loads)
-loads_got k t got loads h all sent =
+pub loads_got : (k : ℕ) (t : Tale) (got : List Msg) (loads texts : List Load) (h : How) → map told_message got ≡ t.front ++ t.late → AreTextsOf loads texts → of_stream k got ≡ load_messages k texts ++ end_message k h ∷ [] → loads_received k t ≡ map rendering_of (map elements loads)
+loads_got k t got loads texts h all are sent =
     sym (flat_map-append (loads_in k) t.front t.late)
-    ∙ (ap (loads_of k) (sym all) ∙ (loads_chosen k got ∙ (ap (λ ms. loads_of k (map told_message ms)) sent ∙ (loads_sent k loads h ∙ twice loads))))
+    ∙ (ap (loads_of k) (sym all) ∙ (loads_chosen k got ∙ (ap (λ ms. loads_of k (map told_message ms)) sent ∙ (loads_sent k texts h ∙ (are.same ∙ twice loads)))))
   where
-    twice : (xs : List Load) → map (λ l. rendering_of (elements l)) xs ≡ map rendering_of (map elements xs)
+    twice : (xs : List Load) → map text_of xs ≡ map rendering_of (map elements xs)
     twice [] = refl
     twice (x ∷ xs) = ap (λ l. rendering_of (elements x) ∷ l) (twice xs)
 

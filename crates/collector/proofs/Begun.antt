@@ -13,7 +13,7 @@ use Rattle.join_tale.specs.Steps as Tales
 use Rattle.join_tale.specs.Steps.{Marks, TellsOuter, fated, learned, outer_ended, unmade}
 use Rattle.join_tale.specs.Tales as tales
 use Rattle.join_tale.specs.Tales.{IsFoundSet, IsKnown, Tale}
-use Rattle.join_tale.proofs.Places.{at_below}
+use Rattle.join_tale.proofs.Places.{at_below, some_is}
 use Rattle.join_tree.specs.Guests.{AreOut, Guest}
 use Rattle.join_tree.specs.Mains.{IsMain}
 use Rattle.join_tree.specs.Progress.{splitting}
@@ -22,12 +22,14 @@ use Rattle.pipeline_desc.specs.Meant.{PlanMeant}
 use Rattle.pipeline_desc.specs.Nodes.{stream_events}
 use Rattle.pipeline_desc.specs.Places.{rows_of}
 use Rattle.pipeline_desc.specs.declared.stream.StreamSpec.{StreamSpec}
+use Rattle.plan_work.specs.Plans.{opener_of}
 use Rattle.pull_stepper.specs.Held.{FinishesDevice}
 use Rattle.pull_turns.specs.Piping.{StateMeaning}
 use Rattle.res_ledger.specs.declared.event.StreamNo.TheVariants.{Inner, Outer}
 use Rattle.row_seat.specs.declared.view.View.{View}
 use Rattle.row_seat.specs.Views.{OthersFit, next_stamp, split_main}
 use Rattle.run_rules.specs.Facts.{at}
+use Rattle.run_rules.specs.Work.{Opener}
 use Rattle.scope_tree.specs.Trees.{Fits, seen}
 use Rattle.scope_tree.specs.Trace.{owed}
 use Rattle.scope_tree.specs.declared.leases.Lease.{Lease}
@@ -44,13 +46,13 @@ use Rattle.collector.specs.Collecting.{IsJobOf, KeepsStreams, KeepsTale, guest_o
 use Rattle.dealt_streams.specs.Parts.{Deals, IsMadeOf, Part, fate_of}
 use Rattle.dealt_streams.specs.Parts.Part.{Begun}
 use Rattle.collector.specs.Starting.{MakesJob, MayBegin, origin_of}
-use Rattle.collector.proofs.Lists.{at_last, map_snoc, snoc_length}
-use Rattle.collector.proofs.Streams.{all_came, streams_begun}
+use Rattle.collector.proofs.Lists.{at_last, map_length, map_snoc, snoc_length}
+use Rattle.collector.proofs.Streams.{all_came, jobs_number, streams_begun}
 use Rattle.collector.proofs.Telling.{tale_begins}
 use Rattle.collector.proofs.Tree.{next_is, split_so}
 use Rattle.collector.proofs.Steps.{With, all_parts_read, below, counted, dealt_snoc, fits_other, seated_out, split_keeps, tables_kept}
 
-module _ {S V F D T : Type 0} (view : S → View V) (told : V → DeviceTold) (fits : S → D → Type 0) (values : T → Values) (P : Values → StateMeaning F) (p : PlanMeant) (d0 : DepotTold) (s0 : SinkTold) (t : Values) (waits : ℕ) (l : Lease) (ws : List Lease) (js : List (Job S V F V D T)) (r : ReceiverSeen) (depot : DepotTold) (sink : SinkTold) (d : D) (c : Collector S V F V D T) (k : With view told fits values P p d0 s0 t waits (l ∷ ws) js r depot sink d c) where
+module _ {S V F D T : Type 0} (view : S → View V) (told : V → DeviceTold) (fits : S → D → Type 0) (values : T → Values) (P : Values → StateMeaning F) (p : PlanMeant) (d0 : DepotTold) (s0 : SinkTold) (t : Values) (waits : ℕ) (l : Lease) (ws : List Lease) (js : List (Job S V F V D T)) (r : ReceiverSeen) (depot : DepotTold) (sink : SinkTold) (d : D) (c : Collector S V F D T) (k : With view told fits values P p d0 s0 t waits (l ∷ ws) js r depot sink d c) where
   numbered : c.next ≡ length k.tale.fates
   numbered = counted view told fits values P p d0 s0 t waits l ws js r depot sink d c k
 
@@ -64,7 +66,7 @@ module _ {S V F D T : Type 0} (view : S → View V) (told : V → DeviceTold) (f
   its_tables = all_parts_read view told fits values P p d0 s0 t waits l ws js r depot sink d c k
 
   -- its seat was split off, and its job made
-  module _ (z : Collector S V F V D T) (e g : D) (before' : MayBegin c) (few_open : length js < p.max_open) (s : StreamSpec) (is : slice_get p.streams c.next ≡ Some s) (now : DepotTold) (parts : StreamParts V) (made : MakesParts told p c.next depot now parts) (v : View V) (chunk : ℕ) (size : chunk ≡ p.chunk) (j : Job S V F V D T)
+  module _ (z : Collector S V F D T) (e g : D) (before' : MayBegin c) (few_open : length js < p.max_open) (s : StreamSpec) (is : slice_get p.streams c.next ≡ Some s) (now : DepotTold) (parts : StreamParts V) (made : MakesParts told p c.next depot now parts) (v : View V) (chunk : ℕ) (size : chunk ≡ p.chunk) (j : Job S V F V D T)
       (seat : v.floor ≡ next_stamp (view c.tree.seat).events) (job : MakesJob view told fits values P (record c { tree = z.tree }) v l.rows.items parts.node parts.devices t chunk g j) where
     abbrev w : Origin V F
     w = origin_of c l.rows.items parts.node job.site parts.devices t chunk
@@ -122,6 +124,13 @@ module _ {S V F D T : Type 0} (view : S → View V) (told : V → DeviceTold) (f
       run = unknown_is k.tale c.stops 0 k.telling.known before'.0;
       own = let n = numbered in let own' : 1 + c.next ≡ suc (length k.tale.fates) = omega (arith, n) in subst (λ i. ¬ (IsKnown k.tale i)) own' (unknown_is k.tale c.stops (1 + c.next) k.telling.known before'.1);
       alone = λ turn i b. all_came view told fits values P c.hub c.stops.board d (seen view c.tree) js c.left.items r k.parts k.progress k.tale k.streams (let m = eqb-true p.max_open 1 turn in omega (arith, m, few_open)) i b;
+      few = λ o is. subst (λ (q : Opener). Tales.AreFewOpen q.max_open k.tale) (some_is (opener_of p) o is) (
+        map (λ (q : Origin V F). q.stream) k.streams.origins,
+        (let m = map_length (λ (q : Origin V F). q.stream) k.streams.origins in
+            let n = jobs_number view told fits values P c.hub c.stops.board d (seen view c.tree) js c.left.items r k.parts k.progress k.tale k.streams in
+            omega (arith, m, n, few_open)),
+        λ i b. (k.streams.opens i).1 b,
+      );
     }
 
     pub begin_step : IsMain (FinishesDevice told) p.max_open (length p.streams) (seen view z.tree) (splitting k.progress (view c.tree.seat) l.stream (map waiting_of ws))
@@ -160,6 +169,7 @@ module _ {S V F D T : Type 0} (view : S → View V) (told : V → DeviceTold) (f
           room = record {
             waiting = k.room.waiting;
             jobs_room = capacity ∙ k.room.jobs_room;
+            queue = k.room.queue;
             few = omega (arith, jobs, few_open);
             left = let f = k.room.left in let b = lower in omega (arith, f, more, jobs, b, n);
           };

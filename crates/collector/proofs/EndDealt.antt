@@ -92,7 +92,7 @@ module _ {V : Type 0} (told : V → DeviceTold) (p : PlanMeant) (old mid : Depot
         spare = let s = h.spare in omega (arith, s, spare, owes);
       }
 
-module _ {S V F D T : Type 0} (view : S → View V) (told : V → DeviceTold) (fits : S → D → Type 0) (values : T → Values) (P : Values → StateMeaning F) (p : PlanMeant) (d0 : DepotTold) (s0 : SinkTold) (t : Values) (waits : ℕ) (ws : List Lease) (job : Job S V F V D T) (js : List (Job S V F V D T)) (had : ReceiverSeen) (depot : DepotTold) (sink : SinkTold) (d : D) (c : Collector S V F V D T) (i : IsCollectingWith view told fits values P p d0 s0 t waits ws (job ∷ js) had depot sink d c) (k : ℕ) (h : How) (r : ReceiverSeen) (got : HasGot had (end_message k h) r) (number : job.sender.stream ≡ k) where
+module _ {S V F D T : Type 0} (view : S → View V) (told : V → DeviceTold) (fits : S → D → Type 0) (values : T → Values) (P : Values → StateMeaning F) (p : PlanMeant) (d0 : DepotTold) (s0 : SinkTold) (t : Values) (waits : ℕ) (ws : List Lease) (job : Job S V F V D T) (js : List (Job S V F V D T)) (had : ReceiverSeen) (depot : DepotTold) (sink : SinkTold) (d : D) (c : Collector S V F D T) (i : IsCollectingWith view told fits values P p d0 s0 t waits ws (job ∷ js) had depot sink d c) (k : ℕ) (h : How) (r : ReceiverSeen) (got : HasGot had (end_message k h) r) (number : job.sender.stream ≡ k) where
   pub first : (w : Origin V F) × (os : List (Origin V F)) × (i.streams.origins ≡ w ∷ os) × IsJobOf view told fits values P c.hub c.stops.board d i.parts job w × AreJobs view told fits values P c.hub c.stops.board d i.parts js os
   first = first_job view told fits values P c.hub c.stops.board d i.parts job js i.streams.origins i.streams.jobs_are
 
@@ -253,6 +253,7 @@ module _ {S V F D T : Type 0} (view : S → View V) (told : V → DeviceTold) (f
             room = record {
               waiting = i.room.waiting;
               jobs_room = i.room.jobs_room;
+              queue = i.room.queue;
               few = let f = i.room.few in omega (arith, f);
               left = let f = i.room.left in let l = ap (λ xs. length xs) L_is ∙ length-append c.left.items (record { shelf = e.shelf; unopened = e.unopened } ∷ []) in let n = L_room in omega (arith, f, l, n);
             };

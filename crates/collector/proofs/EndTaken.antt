@@ -53,11 +53,11 @@ module _ {S V F : Type 0} (view : S → View V) (told : V → DeviceTold) (P : V
   here_is : of_stream k (got ++ m ∷ []) ≡ of_stream k got ++ m ∷ []
   here_is = of_more k got (m ∷ []) ∙ ap (λ l. of_stream k got ++ l) (of_own m k [] refl)
 
-  in_place : of_stream k got ++ m ∷ of_stream k queued ≡ load_messages w.stream ends.left.loads ++ end_message w.stream e.how ∷ []
+  in_place : of_stream k got ++ m ∷ of_stream k queued ≡ load_messages w.stream ends.left.texts ++ end_message w.stream e.how ∷ []
   in_place = sym (append_assoc (of_stream k got) (m ∷ []) (of_stream k queued)) ∙ (ap (λ l. l ++ of_stream k queued) (sym here_is) ∙ (whole_here ∙ ends.left.said_is))
 
-  last_one : (h ≡ e.how) × (of_stream k queued ≡ []) × (of_stream k got ≡ load_messages w.stream ends.left.loads)
-  last_one = end_last w.stream ends.left.loads e.how (of_stream k got) (of_stream k queued) k h in_place
+  last_one : (h ≡ e.how) × (of_stream k queued ≡ []) × (of_stream k got ≡ load_messages w.stream ends.left.texts)
+  last_one = end_last w.stream ends.left.texts e.how (of_stream k got) (of_stream k queued) k h in_place
 
   pub got_all : GotAll k h got e
   got_all = record {

@@ -79,14 +79,14 @@ module _ {S V F D T : Type 0} (view : S → View V) (told : V → DeviceTold) (f
     closed = λ k sent m. absurd (among_nil m);
   }
 
-  module _ (d0 : DepotTold) (s0 : SinkTold) (t : Values) (d : D) (c : Collector S V F V D T) (fr : IsFresh view told fits p d c) where
+  module _ (d0 : DepotTold) (s0 : SinkTold) (t : Values) (d : D) (c : Collector S V F D T) (fr : IsFresh view told fits p d c) where
     -- it stands so before its first stream
     pub stands : (waits : ℕ) (depot : DepotTold) (e : D) (tree : Tree S V D) (stops : Stops) (report : Report) (outer : Option How) (o : Option NotRead) (tables : List What) (root : Option Exit) (set found : List Interruption) (ceased memory : Bool) → Fits view fits tree e
         → KeepsTree p {F = F} told waits (seen view tree) outer 0 [] [] (moved (none_done V) [] 0 0 tables root) → (ht : HasTables told p d0 depot o (seen view tree) (moved (none_done V) [] 0 0 tables root)) → (o ≡ None → HaveValuesOf told p ht.contents t) → (o ≡ None → outer ≡ None)
         → (o ≢ None → (h : How) × (outer ≡ Some h) × IsStoppedBy told p o (length ht.devices + length ht.back) memory h) → (p.take ≡ Some 0 → (length ht.devices + length ht.back ≡ 0) × (outer ≡ Some how.Halted)) → (seen view tree).seat.out ≡ [] → KeepsTale p outer report stops 0 s0 s0 [] (retold first_tale outer set found ceased memory)
         → IsCollecting view told fits values P p d0 s0 t waits depot s0 e (record c { tree = tree; stops = stops; report = report; outer = outer })
     stands waits depot e tree stops report outer o tables root set found ceased memory fit kt ht read only stopped unwanted out telling =
-        let z : Collector S V F V D T = record c { tree = tree; stops = stops; report = report; outer = outer } in
+        let z : Collector S V F D T = record c { tree = tree; stops = stops; report = report; outer = outer } in
         let q = moved (none_done V) [] 0 0 tables root in
         let tale = retold first_tale outer set found ceased memory in
         let With = λ (ws : List Lease) (js : List (Job S V F V D T)). IsCollectingWith view told fits values P p d0 s0 t waits ws js c.receiver depot s0 e z in
@@ -109,12 +109,12 @@ module _ {S V F D T : Type 0} (view : S → View V) (told : V → DeviceTold) (f
               (subst (λ (xs : List (Leftover V)). KeepsStreams view told fits values P c.hub stops.board e (seen view tree) [] xs (record { hub = c.hub.id; got = []; made = []; closed = [] }) [] q tale) (sym fr.room.left)
               (streams_none c.hub stops.board e (seen view tree) tables root outer set found ceased memory out));
           telling = telling;
-          room = record { waiting = fr.room.waiting_room; jobs_room = fr.room.jobs_room; few = omega arith; left = let n = ap (λ (xs : List (Leftover V)). length xs) fr.room.left in let m = fr.room.left_room in omega (arith, n, m) };
+          room = record { waiting = fr.room.waiting_room; jobs_room = fr.room.jobs_room; queue = fr.room.queue; few = omega arith; left = let n = ap (λ (xs : List (Leftover V)). length xs) fr.room.left in let m = fr.room.left_room in omega (arith, n, m) };
         } in
         subst (λ (ws : List Lease). With ws c.jobs.items) (sym fr.room.waiting) (subst (λ (js : List (Job S V F V D T)). With [] js) (sym fr.room.jobs) k)
 
     -- no frame is wanted
-    pub unwanted_stands : (none : p.take ≡ Some 0) (again : Stops) (m : Interrupts c.stops again 0 why.Take) (seated : IsSeated again) (e : D) (z : Collector S V F V D T) (last : Stops) (cs : List Interruption) (l : Learns again last [] cs) (sits : IsSeated last) → (r : Reaches 0 cs) → (ends : EndsOuter how.Halted c.report z.report)
+    pub unwanted_stands : (none : p.take ≡ Some 0) (again : Stops) (m : Interrupts c.stops again 0 why.Take) (seated : IsSeated again) (e : D) (z : Collector S V F D T) (last : Stops) (cs : List Interruption) (l : Learns again last [] cs) (sits : IsSeated last) → (r : Reaches 0 cs) → (ends : EndsOuter how.Halted c.report z.report)
         → ClosesOuter (FinishesDevice told) how.Halted (seen view c.tree) (seen view z.tree) → Fits view fits z.tree e → z ≡ record c { tree = z.tree; stops = last; report = z.report; outer = Some how.Halted } → IsCollecting view told fits values P p d0 s0 t 1 d0 s0 e z
     unwanted_stands none again m seated e z last cs l sits r ends close fit same =
         let a = seen view c.tree in
@@ -126,7 +126,7 @@ module _ {S V F D T : Type 0} (view : S → View V) (told : V → DeviceTold) (f
         (closed {F = F} told p 0 a None 0 [] [] q (untouched_tree told p d0 d0 a fr.seat 0 refl fr.main) how.Halted b refl close)
         (tables_kept told p d0 d0 (Some lack.Memory) q u a b close.rows refl (untried told p d0 d0 a fr.seat)) (λ n. cc) (λ n. cc) (λ n. (how.Halted, refl, (none, refl))) (λ w. (refl, refl)) (close.guests.out ∙ first_out p a.seat fr.seat)
         (tale_halted p (room_of c) fr.room s0 none again m seated last cs l sits r z.report ends) in
-        subst (λ (y : Collector S V F V D T). IsCollecting view told fits values P p d0 s0 t 1 d0 s0 e y) (sym same)
+        subst (λ (y : Collector S V F D T). IsCollecting view told fits values P p d0 s0 t 1 d0 s0 e y) (sym same)
         (more_now view told fits values P p d0 s0 t 0 1 d0 s0 e (record c { tree = z.tree; stops = last; report = z.report; outer = Some how.Halted }) h (omega arith) (λ n. cc))
 
     -- its tables were tried
@@ -143,7 +143,7 @@ module _ {S V F D T : Type 0} (view : S → View V) (told : V → DeviceTold) (f
           subst (λ (x : Option How). IsCollecting view told fits values P p d0 s0 t (length c.waiting.items) depot s0 e (record c { tree = tree; outer = x })) (sym fr.outer) h
 
       -- and one wasn't read
-      pub stopped_stands : (h : How) (e : D) (z : Collector S V F V D T) (vs cs : List Interruption) → Learns c.stops z.stops vs cs → IsSeated z.stops → EndsOuter h c.report z.report → TellsOuter (bare_work p) (learned (outer_ended first_tale h) vs cs) h vs → ClosesOuter (FinishesDevice told) h (seen view tree) (seen view z.tree) → Fits view fits z.tree e
+      pub stopped_stands : (h : How) (e : D) (z : Collector S V F D T) (vs cs : List Interruption) → Learns c.stops z.stops vs cs → IsSeated z.stops → EndsOuter h c.report z.report → TellsOuter (bare_work p) (learned (outer_ended first_tale h) vs cs) h vs → ClosesOuter (FinishesDevice told) h (seen view tree) (seen view z.tree) → Fits view fits z.tree e
           → z ≡ record c { tree = z.tree; stops = z.stops; report = z.report; outer = Some h } → (o ≡ None → ⊥) → IsStoppedBy told p o (length tr.devices + length tr.back) (false || is_memory h) h → IsCollecting view told fits values P p d0 s0 t 1 depot s0 e z
       stopped_stands h e z vs cs l sits ends tells close fit same unread cause =
           let a = seen view c.tree in
@@ -155,5 +155,5 @@ module _ {S V F D T : Type 0} (view : S → View V) (told : V → DeviceTold) (f
           let k = stands 0 depot e z.tree z.stops z.report (Some h) o (acquires 0 (length tr.devices)) (Some (exit_of h)) ([] ++ vs) ([] ++ cs) (false || is_memory h) (false || is_memory h) fit
           (closed {F = F} told p 0 m None 0 [] [] q (tried_tree told p d0 depot a fr.seat m o tr 0 refl main) h b refl close)
           (tables_kept told p d0 depot o q u m b close.rows refl (tried told p d0 depot a fr.seat m o tr)) (λ n. absurd (unread n)) (λ n. absurd (unread n)) (λ n. (h, refl, cause)) (λ w. absurd (some w)) (close.guests.out ∙ tried_out told p d0 depot a fr.seat m o tr) kt in
-          subst (λ (y : Collector S V F V D T). IsCollecting view told fits values P p d0 s0 t 1 depot s0 e y) (sym same)
+          subst (λ (y : Collector S V F D T). IsCollecting view told fits values P p d0 s0 t 1 depot s0 e y) (sym same)
           (more_now view told fits values P p d0 s0 t 0 1 depot s0 e (record c { tree = z.tree; stops = z.stops; report = z.report; outer = Some h }) k (omega arith) (λ n. cc))

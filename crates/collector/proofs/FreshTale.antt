@@ -23,7 +23,7 @@ use Rattle.collector.specs.Starting.{IsRoomFor}
 use Rattle.collector.proofs.OuterSteps.{whole_found}
 use Rattle.collector.proofs.Telling.{found_so, learns_none, tale_closes, tale_learns, tells_halted, wrote_none}
 
-module _ {S V F D T : Type 0} (p : PlanMeant) (room : JoinRoom S V F V D T) (fr : IsRoomFor p room) (s0 : SinkTold) where
+module _ {S V F D T : Type 0} (p : PlanMeant) (room : JoinRoom S V F D T) (fr : IsRoomFor p room) (s0 : SinkTold) where
   first_known : TellsKnown first_tale room.stops
   first_known = record { set = sym (ap (λ (x : SeatSeen). x.view.set) fr.seat); seen = sym (ap (λ (x : SeatSeen). x.view.seen) fr.seat) }
 

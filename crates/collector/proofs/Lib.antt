@@ -11,6 +11,7 @@ pub mod OuterSteps
 pub mod Fresh
 pub mod FreshTale
 pub mod FreshStands
+pub mod NoParts
 pub mod OneStream
 pub mod Rotating
 pub mod Opening

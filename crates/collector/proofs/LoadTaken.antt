@@ -125,7 +125,7 @@ module _ {S V F D T : Type 0} (view : S → View V) (told : V → DeviceTold) (f
       closed = λ k sent a. come_on k (s.closed k sent a);
     }
 
-  module _ (p : PlanMeant) (d0 : DepotTold) (s0 : SinkTold) (t : Values) (waits : ℕ) (ws : List Lease) (js : List (Job S V F V D T)) (had : ReceiverSeen) (depot : DepotTold) (sink now : SinkTold) (d : D) (c : Collector S V F V D T) (i : IsCollectingWith view told fits values P p d0 s0 t waits ws js had depot sink d c) (k : ℕ) (l : Load) (r : ReceiverSeen) (h : HasGot had (load_message k l) r) where
+  module _ (p : PlanMeant) (d0 : DepotTold) (s0 : SinkTold) (t : Values) (waits : ℕ) (ws : List Lease) (js : List (Job S V F V D T)) (had : ReceiverSeen) (depot : DepotTold) (sink now : SinkTold) (d : D) (c : Collector S V F D T) (i : IsCollectingWith view told fits values P p d0 s0 t waits ws js had depot sink d c) (k : ℕ) (l : Load) (r : ReceiverSeen) (h : HasGot had (load_message k l) r) where
     abbrev m : Msg
     m = load_message k l
 
@@ -162,7 +162,7 @@ module _ {S V F D T : Type 0} (view : S → View V) (told : V → DeviceTold) (f
         contexts = ap (λ (b : BoardSeen). b.contexts) board ∙ i.telling.contexts;
         wrote = g.wrote;
       };
-      room = record { waiting = i.room.waiting; jobs_room = i.room.jobs_room; few = i.room.few; left = i.room.left };
+      room = record { waiting = i.room.waiting; jobs_room = i.room.jobs_room; queue = i.room.queue; few = i.room.few; left = i.room.left };
     })
 
     pub full_elements : 0 < length (elements l)

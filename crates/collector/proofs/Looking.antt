@@ -27,7 +27,7 @@ unknown_still old new context l n w k = n w (⊎_elim
     (λ m. inr (subst (λ xs. IsAmong (interruption context w) xs) (l.seen ∙ append-nil (view_of old).seen) m))
     k)
 
-module _ {S V F P D T : Type 0} (c : Collector S V F P D T) (old : Stops) where
+module _ {S V F D T : Type 0} (c : Collector S V F D T) (old : Stops) where
   -- the next stream may be skipped, where a code of its own or of the whole run was found, and all that is known is set where there is room for one job alone
   pub may_skip : (cs : List Interruption) → Learns old c.stops [] cs → Reaches (1 + c.next) cs → (deque_capacity c.jobs ≡ 1 → HasSetAll (view_of c.stops)) → MaySkip c
   may_skip cs l r all = ⊎_elim (λ f. inr (inl (f.0, seen (1 + c.next) f.0 f.1, λ one. all one (1 + c.next) f.0 (inr (seen (1 + c.next) f.0 f.1))))) (λ f. inl (f.0, seen 0 f.0 f.1)) r

@@ -46,7 +46,7 @@ use Rattle.collector.proofs.Telling.{found_so, learns_none, tells_done, tells_ha
 use Rattle.collector.proofs.Tree.{pulled, table_rows}
 
 module _ {S V F D T : Type 0} (view : S → View V) (told : V → DeviceTold) (fits : S → D → Type 0) (values : T → Values) (P : Values → StateMeaning F) (p : PlanMeant) (d0 : DepotTold) (s0 : SinkTold) (t : Values) (waits : ℕ) (ws : List Lease) (js : List (Job S V F V D T)) (r : ReceiverSeen) (depot : DepotTold) (sink : SinkTold) (d : D)
-    (c : Collector S V F V D T) (k : IsCollectingWith view told fits values P p d0 s0 t waits ws js r depot sink d c) where
+    (c : Collector S V F D T) (k : IsCollectingWith view told fits values P p d0 s0 t waits ws js r depot sink d c) where
   -- it gave all streams
   pub done_step : (tree : Tree S V D) (report : Report) (e : D) → c.outer ≡ None → ClosesOuter (FinishesDevice told) how.Done (seen view c.tree) (seen view tree) → Fits view fits tree e → OthersFit view fits Outer d e → EndsOuter how.Done c.report report → c.leased ≡ length p.streams
       → IsCollectingWith view told fits values P p d0 s0 t waits ws js r depot sink e (record c { tree = tree; report = report; outer = Some how.Done })
@@ -71,7 +71,7 @@ module _ {S V F D T : Type 0} (view : S → View V) (told : V → DeviceTold) (f
   few_tables = let f = few_tried k.tables.out in let n = map_length (λ x. x.path) p.tables in omega (arith, f, n)
 
   -- it gave the next stream
-  pub lease_step : (z : Collector S V F V D T) (e : D) (l : Lease) → k.progress.leased < length p.streams → l.stream ≡ k.progress.leased → ((q : ℕ) → IsAmong q l.rows.items → (s : ℕ) × IsAmong (Acquire q s) k.progress.tables) → IsMain (FinishesDevice told) p.max_open (length p.streams) (seen view z.tree) (leasing_next k.progress l.rows.items)
+  pub lease_step : (z : Collector S V F D T) (e : D) (l : Lease) → k.progress.leased < length p.streams → l.stream ≡ k.progress.leased → ((q : ℕ) → IsAmong q l.rows.items → (s : ℕ) × IsAmong (Acquire q s) k.progress.tables) → IsMain (FinishesDevice told) p.max_open (length p.streams) (seen view z.tree) (leasing_next k.progress l.rows.items)
       → KeepsGuests (seen view c.tree) (seen view z.tree) → KeepsRows (seen view c.tree).seat (seen view z.tree).seat → TakesEvents 1 (seen view c.tree) (seen view z.tree) → Fits view fits z.tree e → OthersFit view fits Outer d e → c.outer ≡ None → deque_capacity z.waiting ≡ deque_capacity c.waiting
       → IsCollectingWith view told fits values P p d0 s0 t (1 + length ws) (ws ++ l ∷ []) js r depot sink e (record c { tree = z.tree; leased = c.leased + 1; waiting = z.waiting })
   lease_step z e l less stream tables main guests rows events fit others none capacity = record {
@@ -92,5 +92,5 @@ module _ {S V F D T : Type 0} (view : S → View V) (told : V → DeviceTold) (f
     streams = streams_stay view told fits values P c.hub c.stops.board d (seen view c.tree) js c.left.items r k.parts k.progress k.tale k.streams c.stops.board e (seen view z.tree) refl others guests rows
         k.tale.outer k.tale.set k.tale.seen k.tale.ceased k.tale.memory (k.progress.waits ++ (k.progress.leased, l.rows.items) ∷ []) k.progress.next (suc k.progress.leased) k.progress.tables k.progress.root;
     telling = k.telling;
-    room = record { waiting = capacity ∙ k.room.waiting; jobs_room = k.room.jobs_room; few = k.room.few; left = k.room.left };
+    room = record { waiting = capacity ∙ k.room.waiting; jobs_room = k.room.jobs_room; queue = k.room.queue; few = k.room.few; left = k.room.left };
   }

@@ -92,11 +92,11 @@ pub seated_out : (s : Stops) → IsSeated s → IsSeated (with_seat_out s)
 seated_out s i = record { fits = i.fits; first = i.first; settled = λ z. absurd (omega (arith, z)) }
 
 module _ {S V F D T : Type 0} (view : S → View V) (told : V → DeviceTold) (fits : S → D → Type 0) (values : T → Values) (P : Values → StateMeaning F) (p : PlanMeant) (d0 : DepotTold) (s0 : SinkTold) (t : Values) where
-  abbrev pub With : ℕ → List Lease → List (Job S V F V D T) → ReceiverSeen → DepotTold → SinkTold → D → Collector S V F V D T → Type 0
+  abbrev pub With : ℕ → List Lease → List (Job S V F V D T) → ReceiverSeen → DepotTold → SinkTold → D → Collector S V F D T → Type 0
   With = IsCollectingWith view told fits values P p d0 s0 t
 
   -- so many streams may wait
-  pub widened : (waits again : ℕ) (ws : List Lease) (js : List (Job S V F V D T)) (r : ReceiverSeen) (depot : DepotTold) (sink : SinkTold) (d : D) (c : Collector S V F V D T) → With waits ws js r depot sink d c → length ws ≤ again → (c.outer ≡ None → 0 < again → 1 ≤ length ws) → With again ws js r depot sink d c
+  pub widened : (waits again : ℕ) (ws : List Lease) (js : List (Job S V F V D T)) (r : ReceiverSeen) (depot : DepotTold) (sink : SinkTold) (d : D) (c : Collector S V F D T) → With waits ws js r depot sink d c → length ws ≤ again → (c.outer ≡ None → 0 < again → 1 ≤ length ws) → With again ws js r depot sink d c
   widened waits again ws js r depot sink d c k few some = record {
     fits_desk = k.fits_desk;
     parts = k.parts;
@@ -118,7 +118,7 @@ module _ {S V F D T : Type 0} (view : S → View V) (told : V → DeviceTold) (f
   }
 
   -- the queue of leases is another with as much room
-  pub requeued : (waits : ℕ) (ws : List Lease) (js : List (Job S V F V D T)) (r : ReceiverSeen) (depot : DepotTold) (sink : SinkTold) (d : D) (c z : Collector S V F V D T) → With waits ws js r depot sink d c → deque_capacity z.waiting ≡ deque_capacity c.waiting → With waits ws js r depot sink d (record c { waiting = z.waiting })
+  pub requeued : (waits : ℕ) (ws : List Lease) (js : List (Job S V F V D T)) (r : ReceiverSeen) (depot : DepotTold) (sink : SinkTold) (d : D) (c z : Collector S V F D T) → With waits ws js r depot sink d c → deque_capacity z.waiting ≡ deque_capacity c.waiting → With waits ws js r depot sink d (record c { waiting = z.waiting })
   requeued waits ws js r depot sink d c z h capacity = record {
     fits_desk = h.fits_desk;
     parts = h.parts;
@@ -136,15 +136,15 @@ module _ {S V F D T : Type 0} (view : S → View V) (told : V → DeviceTold) (f
     dealt = h.dealt;
     streams = h.streams;
     telling = h.telling;
-    room = record { waiting = capacity ∙ h.room.waiting; jobs_room = h.room.jobs_room; few = h.room.few; left = h.room.left };
+    room = record { waiting = capacity ∙ h.room.waiting; jobs_room = h.room.jobs_room; queue = h.room.queue; few = h.room.few; left = h.room.left };
   }
 
   -- the first lease was taken from it
-  pub popped : (waits : ℕ) (l : Lease) (js : List (Job S V F V D T)) (r : ReceiverSeen) (depot : DepotTold) (sink : SinkTold) (d : D) (c z : Collector S V F V D T) → With waits c.waiting.items js r depot sink d c → c.waiting.items ≡ l ∷ z.waiting.items → deque_capacity z.waiting ≡ deque_capacity c.waiting
+  pub popped : (waits : ℕ) (l : Lease) (js : List (Job S V F V D T)) (r : ReceiverSeen) (depot : DepotTold) (sink : SinkTold) (d : D) (c z : Collector S V F D T) → With waits c.waiting.items js r depot sink d c → c.waiting.items ≡ l ∷ z.waiting.items → deque_capacity z.waiting ≡ deque_capacity c.waiting
       → With waits (l ∷ z.waiting.items) js r depot sink d (record c { waiting = z.waiting })
   popped waits l js r depot sink d c z k is capacity = requeued waits (l ∷ z.waiting.items) js r depot sink d c z (subst (λ ws. With waits ws js r depot sink d c) is k) capacity
 
-  module _ (waits : ℕ) (ws : List Lease) (js : List (Job S V F V D T)) (r : ReceiverSeen) (depot : DepotTold) (sink : SinkTold) (d : D) (c : Collector S V F V D T) (k : With waits ws js r depot sink d c) where
+  module _ (waits : ℕ) (ws : List Lease) (js : List (Job S V F V D T)) (r : ReceiverSeen) (depot : DepotTold) (sink : SinkTold) (d : D) (c : Collector S V F D T) (k : With waits ws js r depot sink d c) where
     -- contexts were found set
     pub learns_step : (again : Stops) (cs : List Interruption) → Learns c.stops again [] cs → IsSeated again → With waits ws js r depot sink d (record c { stops = again })
     learns_step again cs l seated = record {
@@ -165,7 +165,7 @@ module _ {S V F D T : Type 0} (view : S → View V) (told : V → DeviceTold) (f
       streams = streams_stay view told fits values P c.hub c.stops.board d (seen view c.tree) js c.left.items r k.parts k.progress k.tale k.streams again.board d (seen view c.tree) l.board (λ x ne f. f) (record { out = refl; splits = refl; empty = λ x m. m; lent = λ j rows m. m }) (record { noted = λ x m. m; left = λ x m. m; opened = λ x m. inl m; given = λ x m. m })
           k.tale.outer (k.tale.set ++ []) (k.tale.seen ++ cs) k.tale.ceased k.tale.memory k.progress.waits k.progress.next k.progress.leased k.progress.tables k.progress.root;
       telling = tale_learns p c.outer c.report c.stops (length js) s0 sink (map fate_of k.parts) k.tale k.telling again cs l seated;
-      room = record { waiting = k.room.waiting; jobs_room = k.room.jobs_room; few = k.room.few; left = k.room.left };
+      room = record { waiting = k.room.waiting; jobs_room = k.room.jobs_room; queue = k.room.queue; few = k.room.few; left = k.room.left };
     }
 
     -- nothing was done to the main tree, in the outer stream's name
@@ -189,7 +189,7 @@ module _ {S V F D T : Type 0} (view : S → View V) (told : V → DeviceTold) (f
           (subst (λ (b : Seen V). KeepsRows (seen view c.tree).seat b.seat) (sym same) (record { noted = λ x m. m; left = λ x m. m; opened = λ x m. inl m; given = λ x m. m }))
           k.tale.outer k.tale.set k.tale.seen k.tale.ceased k.tale.memory k.progress.waits k.progress.next k.progress.leased k.progress.tables k.progress.root;
       telling = k.telling;
-      room = record { waiting = k.room.waiting; jobs_room = k.room.jobs_room; few = k.room.few; left = k.room.left };
+      room = record { waiting = k.room.waiting; jobs_room = k.room.jobs_room; queue = k.room.queue; few = k.room.few; left = k.room.left };
     }
 
     -- no more seats are out than jobs are open
@@ -233,11 +233,11 @@ module _ {S V F D T : Type 0} (view : S → View V) (told : V → DeviceTold) (f
       streams = streams_stay view told fits values P c.hub c.stops.board d (seen view c.tree) js c.left.items r k.parts k.progress k.tale k.streams again.board e (seen view tree) l.board others close.guests close.rows
           (Some h) (k.tale.set ++ vs) (k.tale.seen ++ cs) (k.tale.ceased || is_memory h) (k.tale.memory || is_memory h) k.progress.waits k.progress.next k.progress.leased k.progress.tables (Some (exit_of h));
       telling = tale_closes p c.outer c.report c.stops (length js) s0 sink (map fate_of k.parts) k.tale k.telling h again report vs cs none l seated ends (tells k.tale refl);
-      room = record { waiting = k.room.waiting; jobs_room = k.room.jobs_room; few = k.room.few; left = k.room.left };
+      room = record { waiting = k.room.waiting; jobs_room = k.room.jobs_room; queue = k.room.queue; few = k.room.few; left = k.room.left };
     }
 
   -- Of a collector of which a lease waits.
-  module _ (waits : ℕ) (l : Lease) (ws : List Lease) (js : List (Job S V F V D T)) (r : ReceiverSeen) (depot : DepotTold) (sink : SinkTold) (d : D) (c : Collector S V F V D T) (k : With waits (l ∷ ws) js r depot sink d c) where
+  module _ (waits : ℕ) (l : Lease) (ws : List Lease) (js : List (Job S V F V D T)) (r : ReceiverSeen) (depot : DepotTold) (sink : SinkTold) (d : D) (c : Collector S V F D T) (k : With waits (l ∷ ws) js r depot sink d c) where
     count : length k.parts ≡ length k.tale.fates
     count = sym (ap (λ (fs : List tales.Fate). length fs) k.telling.fates_are ∙ map_length fate_of k.parts)
 
@@ -289,11 +289,11 @@ module _ {S V F D T : Type 0} (view : S → View V) (told : V → DeviceTold) (f
           streams = streams_skipped view told fits values P c.hub c.stops.board d (seen view c.tree) js c.left.items r k.parts k.progress k.tale k.streams c.stops.board e (seen view tree) refl others pass.guests pass.rows Skipped tales.Fate.Skipped (λ z. cc) (λ z. cc)
               k.tale.outer k.tale.set k.tale.seen k.tale.ceased k.tale.memory (map waiting_of ws) (suc k.progress.next) k.progress.leased k.progress.tables k.progress.root;
           telling = subst (λ fs. KeepsTale p c.outer c.report c.stops (length js) s0 sink fs (fated k.tale tales.Fate.Skipped)) (sym (map_snoc fate_of k.parts Skipped)) (tale_skips p c.outer c.report c.stops (length js) s0 sink (map fate_of k.parts) k.tale k.telling (cause_so may));
-          room = record { waiting = k.room.waiting; jobs_room = k.room.jobs_room; few = k.room.few; left = let f = k.room.left in omega (arith, f, more) };
+          room = record { waiting = k.room.waiting; jobs_room = k.room.jobs_room; queue = k.room.queue; few = k.room.few; left = let f = k.room.left in omega (arith, f, more) };
         }
 
     -- there was no memory to make its stream, and what was made for it is kept
-    pub miss_step : (z : Collector S V F V D T) (e : D) (vs cs : List Interruption) (now : DepotTold) (ds : List V) (y : Leftover V) (s : StreamSpec) → PassesOver (FinishesDevice told) l.stream l.rows.items (seen view c.tree) (seen view z.tree) → Fits view fits z.tree e → OthersFit view fits Outer d e
+    pub miss_step : (z : Collector S V F D T) (e : D) (vs cs : List Interruption) (now : DepotTold) (ds : List V) (y : Leftover V) (s : StreamSpec) → PassesOver (FinishesDevice told) l.stream l.rows.items (seen view c.tree) (seen view z.tree) → Fits view fits z.tree e → OthersFit view fits Outer d e
         → Marks 0 why.Memory vs cs → Learns c.stops z.stops vs cs → IsSeated z.stops → MissesStream c.next c.report z.report → slice_get p.streams c.next ≡ Some s → MakesUnmade told s depot now ds → y.shelf ≡ [] → y.unopened ≡ ds → z.left.items ≡ c.left.items ++ y ∷ [] → vec_capacity z.left ≡ vec_capacity c.left
         → (again : ℕ) → length ws ≤ again → (c.outer ≡ None → 0 < again → 1 ≤ length ws) → With again ws js r now sink e (record c { tree = z.tree; stops = z.stops; report = z.report; next = c.next + 1; left = z.left })
     miss_step z e vs cs now ds y s pass fit others mark l' seated misses is makes shelf unopened pushed capacity again few some =
@@ -323,6 +323,7 @@ module _ {S V F D T : Type 0} (view : S → View V) (told : V → DeviceTold) (f
           room = record {
             waiting = k.room.waiting;
             jobs_room = k.room.jobs_room;
+            queue = k.room.queue;
             few = k.room.few;
             left = let f = k.room.left in let g = ap (λ (xs : List (Leftover V)). length xs) pushed ∙ snoc_length c.left.items y in let b = below in omega (arith, f, g, more, capacity, b, n);
           };

@@ -111,7 +111,7 @@ module _ {S V F D T : Type 0} (view : S → View V) (told : V → DeviceTold) (f
   first_job hub board d parts j js [] h = absurd h
   first_job hub board d parts j js (w ∷ ws) h = (w, ws, refl, h.0, h.1)
 
-  module _ (p : PlanMeant) (d0 : DepotTold) (s0 : SinkTold) (t : Values) (waits : ℕ) (ws : List Lease) (r : ReceiverSeen) (depot : DepotTold) (sink : SinkTold) (d : D) (c : Collector S V F V D T) where
+  module _ (p : PlanMeant) (d0 : DepotTold) (s0 : SinkTold) (t : Values) (waits : ℕ) (ws : List Lease) (r : ReceiverSeen) (depot : DepotTold) (sink : SinkTold) (d : D) (c : Collector S V F D T) where
     swapped_length : (xs ys : List (Job S V F V D T)) → length (ys ++ xs) ≡ length (xs ++ ys)
     swapped_length xs ys = let a = length-append xs ys in let b = length-append ys xs in omega (arith, a, b)
 
@@ -147,6 +147,7 @@ module _ {S V F D T : Type 0} (view : S → View V) (told : V → DeviceTold) (f
       room = record {
         waiting = i.room.waiting;
         jobs_room = room ∙ i.room.jobs_room;
+        queue = i.room.queue;
         few = let f = i.room.few in let l = swapped_length xs ys in omega (arith, f, l);
         left = let f = i.room.left in let l = swapped_length xs ys in omega (arith, f, l);
       };
@@ -254,7 +255,7 @@ module _ {S V F D T : Type 0} (view : S → View V) (told : V → DeviceTold) (f
       dealt = i.dealt;
       streams = i.streams;
       telling = i.telling;
-      room = record { waiting = i.room.waiting; jobs_room = i.room.jobs_room; few = i.room.few; left = i.room.left };
+      room = record { waiting = i.room.waiting; jobs_room = i.room.jobs_room; queue = i.room.queue; few = i.room.few; left = i.room.left };
     }
 
     -- the open stream has a job

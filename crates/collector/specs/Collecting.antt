@@ -135,16 +135,17 @@ pub record KeepsTale (p : PlanMeant) (outer : Option How) (report : Report) (sto
   pub wrote : WritesTale old new tale
 
 module _ {S V F D T : Type 0} (view : S → View V) (told : V → DeviceTold) (fits : S → D → Type 0) (values : T → Values) (P : Values → StateMeaning F) (p : PlanMeant) where
-  -- there is room for two leases, for as many jobs as streams may be open, and for what is kept of each stream
-  pub record HasRoom (jobs : ℕ) (parts : List (Part V F)) (c : Collector S V F V D T) : Type 0 where
+  -- there is room for two leases, for as many jobs as streams may be open, for as many messages as may be queued, and for what is kept of each stream
+  pub record HasRoom (jobs : ℕ) (parts : List (Part V F)) (c : Collector S V F D T) : Type 0 where
     pub waiting : deque_capacity c.waiting ≡ 2
     pub jobs_room : deque_capacity c.jobs ≡ p.max_open
+    pub queue : c.hub.capacity ≡ p.queue
     pub few : jobs ≤ p.max_open
     pub left : length c.left.items + jobs + (length p.streams - length parts) ≤ vec_capacity c.left
 
   -- A collector of the plan stands so, since the depot stood as d0 and the sink as s0. Its tables were tried, and where all of them were read, which have the values t then, streams were begun and some have ended; where they
   -- weren't, the outer stream has ended so and gives none. Where no frame is wanted none was tried, and the outer stream is halted. The leases ws wait, at most so many; the jobs js are open; and what was received is told by r. While calls are under way these may differ from what the collector has itself.
-  pub record IsCollectingWith (d0 : DepotTold) (s0 : SinkTold) (t : Values) (waits : ℕ) (ws : List Lease) (js : List (Job S V F V D T)) (r : ReceiverSeen) (depot : DepotTold) (sink : SinkTold) (d : D) (c : Collector S V F V D T) : Type 0 where
+  pub record IsCollectingWith (d0 : DepotTold) (s0 : SinkTold) (t : Values) (waits : ℕ) (ws : List Lease) (js : List (Job S V F V D T)) (r : ReceiverSeen) (depot : DepotTold) (sink : SinkTold) (d : D) (c : Collector S V F D T) : Type 0 where
     pub fits_desk : Fits view fits c.tree d
     pub parts : List (Part V F)
     pub progress : Progress V
@@ -164,5 +165,5 @@ module _ {S V F D T : Type 0} (view : S → View V) (told : V → DeviceTold) (f
     pub room : HasRoom (length js) parts c
 
   -- between calls
-  abbrev pub IsCollecting : DepotTold → SinkTold → Values → ℕ → DepotTold → SinkTold → D → Collector S V F V D T → Type 0
+  abbrev pub IsCollecting : DepotTold → SinkTold → Values → ℕ → DepotTold → SinkTold → D → Collector S V F D T → Type 0
   IsCollecting d0 s0 t waits depot sink d c = IsCollectingWith d0 s0 t waits c.waiting.items c.jobs.items c.receiver depot sink d c

@@ -1,5 +1,5 @@
 -- How a collector begins, and what its small calls do.
-use Rattle.std.specs.Prelude.{◌≡◌, ◌≢◌, ◌⊎◌, ℕ, ◌+◌, ◌*◌, ◌≤◌, Bool, true, List, [], ◌∷◌, ◌++◌, length, Some, None, vec_capacity}
+use Rattle.std.specs.Prelude.{◌≡◌, ◌≢◌, ◌⊎◌, ℕ, ◌+◌, ◌*◌, ◌≤◌, Bool, true, List, [], ◌∷◌, ◌++◌, length, Some, None, IsSome, vec_capacity}
 use Rattle.std.specs.VecDeque.{deque_capacity}
 use Rattle.chunk_core.specs.Lists.{IsAmong}
 use Rattle.chunk_core.specs.Outcomes.{exit_of}
@@ -9,7 +9,7 @@ use Rattle.chunk_core.specs.declared.code.How.{How}
 use Rattle.chunk_core.specs.declared.code.How.TheVariants as how
 use Rattle.device_port.specs.Device.{DeviceTold}
 use Rattle.interrupt_ctx.specs.Ends.{first_seat}
-use Rattle.interrupt_ctx.specs.Views.{interruption, split_off}
+use Rattle.interrupt_ctx.specs.Views.{Knows, interruption, split_off}
 use Rattle.interrupt_ctx.specs.declared.why.Why.{Why}
 use Rattle.join_report.specs.Reports.{IsReport}
 use Rattle.join_report.specs.Stopping.{IsSeated, IsUnknown, view_of, with_seat_out}
@@ -41,12 +41,13 @@ use Rattle.collector.specs.declared.collector.Collector.{Collector}
 use Rattle.collector.specs.declared.collector.JoinRoom.{JoinRoom}
 use Rattle.collector.specs.Collecting.{events_from}
 
--- Room for the streams of a plan: the board, on which nothing is set, with its first seat; a channel in which nothing was sent; a report in which nothing was noted; and no lease, no job and nothing that was left.
-pub record IsRoomFor {S V F D T : Type 0} (p : PlanMeant) (r : JoinRoom S V F V D T) : Type 0 where
+-- Room for the streams of a plan: the board, on which nothing is set, with its first seat; a channel in which nothing was sent, which queues as many messages as the plan says; a report in which nothing was noted; and no lease, no job and nothing that was left.
+pub record IsRoomFor {S V F D T : Type 0} (p : PlanMeant) (r : JoinRoom S V F D T) : Type 0 where
   pub seated : IsSeated r.stops
   pub seat : r.stops.seat ≡ first_seat r.stops.board.id
   pub contexts : r.stops.board.contexts ≡ length p.streams + 1
   pub receiver : r.receiver ≡ record { hub = r.hub.id; got = []; made = []; closed = [] }
+  pub queue : r.hub.capacity ≡ p.queue
   pub some : p.take ≢ Some 0 → IsReport p.take (length p.streams) first_tale r.report
   pub none : p.take ≡ Some 0 → IsReport p.take (length p.streams) (record first_tale { ceased = true }) r.report
   pub waiting : r.queues.waiting.items ≡ []
@@ -57,7 +58,7 @@ pub record IsRoomFor {S V F D T : Type 0} (p : PlanMeant) (r : JoinRoom S V F V 
   pub left_room : length p.streams ≤ vec_capacity r.left
 
 -- what a collector took for good
-abbrev pub room_of : {S V F P D T : Type 0} → Collector S V F P D T → JoinRoom S V F P D T
+abbrev pub room_of : {S V F D T : Type 0} → Collector S V F D T → JoinRoom S V F D T
 room_of c = record { stops = c.stops; hub = c.hub; receiver = c.receiver; report = c.report; queues = record { waiting = c.waiting; jobs = c.jobs }; left = c.left }
 
 -- The seat is the main one, with all rows of a plan, and room for all events and seats of its streams and for those of its tables.
@@ -71,7 +72,7 @@ pub record IsFirstSeat {P : Type 0} (p : PlanMeant) (v : View P) : Type 0 where
   pub all_splits : length p.streams ≤ splits
 
 -- the collector of a plan is about to begin, over a main tree that has just begun, with room for the rows of the tables
-pub record IsFresh {S V F D T : Type 0} (view : S → View V) (told : V → DeviceTold) (fits : S → D → Type 0) (p : PlanMeant) (d : D) (c : Collector S V F V D T) : Type 0 where
+pub record IsFresh {S V F D T : Type 0} (view : S → View V) (told : V → DeviceTold) (fits : S → D → Type 0) (p : PlanMeant) (d : D) (c : Collector S V F D T) : Type 0 where
   pub fits_desk : Fits view fits c.tree d
   pub main : IsMain (FinishesDevice told) p.max_open (length p.streams) (seen view c.tree) (none_done V)
   pub seat : IsFirstSeat p (seen view c.tree).seat
@@ -98,15 +99,19 @@ module _ {P : Type 0} (ends : P → Exit → Bool → P → Type 0) where
     pub events : TakesEvents 0 a b
 
 -- a code was found for the next stream, its own, which was set by then where there is room for one job alone, or that of the whole run, or the outer stream was stopped
-abbrev pub MaySkip : {S V F P D T : Type 0} → Collector S V F P D T → Type 0
+abbrev pub MaySkip : {S V F D T : Type 0} → Collector S V F D T → Type 0
 MaySkip c = ((w : Why) × IsAmong (interruption 0 w) (view_of c.stops).seen) ⊎ ((w : Why) × IsAmong (interruption (1 + c.next) w) (view_of c.stops).seen × (deque_capacity c.jobs ≡ 1 → IsAmong (interruption (1 + c.next) w) (view_of c.stops).set)) ⊎ ((h : How) × (c.outer ≡ Some h) × (h ≢ how.Done))
 
+-- where the whole run is known to be interrupted, the outer stream has ended, and gave no further stream
+abbrev pub GivesNoneIfStopped : {S V F D T : Type 0} → Collector S V F D T → Collector S V F D T → Type 0
+GivesNoneIfStopped old new = (w : Why) → old.outer ≡ None → Knows (view_of old.stops) 0 w → IsSome new.outer × (new.leased ≡ old.leased)
+
 -- a further stream waits, or the outer stream has ended
-abbrev pub IsAhead : {S V F P D T : Type 0} → Collector S V F P D T → Type 0
+abbrev pub IsAhead : {S V F D T : Type 0} → Collector S V F D T → Type 0
 IsAhead c = c.outer ≡ None → 1 ≤ length c.waiting.items
 
 -- neither the whole run nor the next stream is interrupted
-abbrev pub MayBegin : {S V F P D T : Type 0} → Collector S V F P D T → Type 0
+abbrev pub MayBegin : {S V F D T : Type 0} → Collector S V F D T → Type 0
 MayBegin c = IsUnknown (view_of c.stops) 0 × IsUnknown (view_of c.stops) (1 + c.next)
 
 -- the rows of a node are empty in the seat of a stream, which has room for all its events, for the Cancel of its lease on the rows T and for their Finals; its tree has room for just its scopes, and for its rows and these
@@ -117,15 +122,15 @@ pub record HasRoomAsGuest {V P : Type 0} (v : View V) (n : Node) (room : Room P)
   pub rows : length (places_of n) + length T ≤ row_room room
 
 -- the next stream of a collector, with a lease on the rows T, is about to run a node over this tree, these devices and tables with these values, in reads of at most so many bytes
-abbrev pub origin_of : {S V F D T : Type 0} → Collector S V F V D T → List ℕ → Node → Seen V → List V → Values → ℕ → Origin V F
+abbrev pub origin_of : {S V F D T : Type 0} → Collector S V F D T → List ℕ → Node → Seen V → List V → Values → ℕ → Origin V F
 origin_of c rows n a ds values chunk = record { stream = c.next; leased = rows; start = begun n a ds values chunk; board = record c.stops.seat { view = split_off (view_of c.stops) } }
 
 -- a seat at the board and a sender are out for the next stream
-abbrev pub with_seats_out : {S V F P D T : Type 0} → Collector S V F P D T → Collector S V F P D T
+abbrev pub with_seats_out : {S V F D T : Type 0} → Collector S V F D T → Collector S V F D T
 with_seats_out c = record c { stops = with_seat_out c.stops; receiver = record c.receiver { made = c.receiver.made ++ c.next ∷ [] } }
 
 -- The job of the next stream was made over a tree whose seat stood so: it is of such an origin, fits the desk, and is at the hub and at the board.
-pub record MakesJob {S V F D T : Type 0} (view : S → View V) (told : V → DeviceTold) (fits : S → D → Type 0) (values : T → Values) (P : Values → StateMeaning F) (c : Collector S V F V D T) (v : View V) (rows : List ℕ) (n : Node) (ds : List V) (t : Values) (chunk : ℕ) (d : D) (j : Job S V F V D T) : Type 0 where
+pub record MakesJob {S V F D T : Type 0} (view : S → View V) (told : V → DeviceTold) (fits : S → D → Type 0) (values : T → Values) (P : Values → StateMeaning F) (c : Collector S V F D T) (v : View V) (rows : List ℕ) (n : Node) (ds : List V) (t : Values) (chunk : ℕ) (d : D) (j : Job S V F V D T) : Type 0 where
   pub site : Seen V
   pub seat : site.seat ≡ v
   pub scopes : site.scopes ≡ scope_count n + 1

@@ -15,7 +15,7 @@ ghost use Rattle.scope_tree.specs.Visible.{lessee, rows_covered};
 ghost use Rattle.collector.specs.Starting.{ClosesOuter, IsRoomFor, PassesOver};
 
 use crate::filled::Filled;
-use channel_bounded::{Hub, Receiver};
+use channel_bounded::{Hub, HubRef, Receiver};
 use chunk_core::How;
 use dealt_streams::Leftover;
 use device_port::Device;
@@ -28,15 +28,15 @@ use row_seat::RowSeat;
 use scope_tree::{Lease, Tree};
 use std::alloc::{AllocError, Global};
 use std::collections::VecDeque;
-use stream_jobs::Job;
+use stream_workers::Open;
 
 /// The leases that wait, and the jobs of the open streams.
-pub(crate) struct Queues<S: RowSeat, V, F: PipeState> {
+pub(crate) struct Queues<S: RowSeat<Pay = Held<V>>, V: Device, F: PipeState> {
     pub(crate) waiting: VecDeque<Lease>,
-    pub(crate) jobs: VecDeque<Job<S, V, F>>,
+    pub(crate) jobs: VecDeque<Open<S, V, F>>,
 }
 
-impl<S: RowSeat, V, F: PipeState> Queues<S, V, F> {
+impl<S: RowSeat<Pay = Held<V>>, V: Device, F: PipeState> Queues<S, V, F> {
     /// Room for two leases and so many jobs.
     fn new(alloc: Global, max_open: u32) -> Result<Queues<S, V, F>, AllocError>
         ensures waiting { IfOk result (λ q. (q.waiting.items ≡ []) × (deque_capacity q.waiting ≡ 2)) }
@@ -54,9 +54,9 @@ impl<S: RowSeat, V, F: PipeState> Queues<S, V, F> {
 }
 
 /// What a collector takes for good before the outer stream begins, beside what each stream is made of.
-pub struct JoinRoom<S: RowSeat, V, F: PipeState> {
+pub struct JoinRoom<S: RowSeat<Pay = Held<V>>, V: Device, F: PipeState> {
     pub(crate) stops: Stops,
-    pub(crate) hub: Hub<Filled>,
+    pub(crate) hub: HubRef<Filled>,
     pub(crate) receiver: Receiver,
     pub(crate) report: Report,
     pub(crate) queues: Queues<S, V, F>,
@@ -72,6 +72,7 @@ impl<V: Device + Drop, S: RowSeat<Pay = Held<V>>, F: PipeState> JoinRoom<S, V, F
         let streams = plan.streams().len() as u32;
         let stops = Stops::new(alloc, streams)?;
         let (hub, receiver) = Hub::new(alloc, plan.queue())?;
+        let hub = HubRef::new(alloc, hub)?;
         let report = Report::new(alloc, streams, plan.take())?;
         let left = Vec::with_capacity(alloc, streams as usize)?;
         let queues = Queues::new(alloc, plan.max_open())?;
@@ -87,10 +88,10 @@ impl<V: Device + Drop, S: RowSeat<Pay = Held<V>>, F: PipeState> JoinRoom<S, V, F
 }
 
 /// The outer stream, and the streams that it gave which are open.
-pub struct Collector<S: RowSeat, V, F: PipeState> {
+pub struct Collector<S: RowSeat<Pay = Held<V>>, V: Device, F: PipeState> {
     pub(crate) tree: Tree<S>,
     pub(crate) stops: Stops,
-    pub(crate) hub: Hub<Filled>,
+    pub(crate) hub: HubRef<Filled>,
     pub(crate) receiver: Receiver,
     pub(crate) report: Report,
     /// How the outer stream ended, once it has.
@@ -101,7 +102,7 @@ pub struct Collector<S: RowSeat, V, F: PipeState> {
     pub(crate) next: u32,
     /// The leases of the streams that wait, of which there are at most two.
     pub(crate) waiting: VecDeque<Lease>,
-    pub(crate) jobs: VecDeque<Job<S, V, F>>,
+    pub(crate) jobs: VecDeque<Open<S, V, F>>,
     pub(crate) left: Vec<Leftover<V>>,
 }
 

@@ -1,27 +1,32 @@
-//! The outer stream of a plan, and the streams that it gives, side by side in rounds.
+//! The outer stream of a plan, and the streams that it gives, each with a worker of its own.
 //!
 //! `JoinRoom::new` makes what a collector takes for good, before any file is opened: the board of
 //! interruption, the channel, the report and the lists of leases, jobs and devices. Its one error is
 //! `AllocError`. `Collector::new` is the collector of a main tree that has begun (`join_tree::begin`).
 //!
 //! `Collector::run` opens the outer stream, which reads its tables, and goes round until no stream waits
-//! and none is open. A round begins the stream that waits, where fewer are open than may be; else each open
-//! stream makes one turn and sends what it gave through the channel, and the collector receives until
-//! nothing comes: a load is written as a frame, and a stream whose end came is taken in. It has no error:
-//! a fault, want of memory, a failed write and the last frame that is wanted interrupt the run, and the
-//! report tells them. It may wait, and no clause says that the rounds come to an end.
+//! and none is open. A round begins a worker for the stream that waits, where fewer are open than may be
+//! (`stream_workers::begin`); else it receives one message, so that a stream that may begin never waits
+//! for what the others still send. A load is written as a frame. A stream whose end came is taken in before
+//! anything else is done, once its worker has returned. It has no error: a fault, want of memory, a failed
+//! write and the last frame that is wanted interrupt the run, and the report tells them. It may wait, and
+//! no clause says that the rounds come to an end.
+//!
+//! Each worker has a desk, and handles on the queue and the board, of its own, which are made before the
+//! seat of its stream is split off: where there is no memory for them the stream is never begun. Where no
+//! thread can be started the job stays here, and has a turn in each round in which nothing comes. Where
+//! none is here either the collector pauses (`stream_workers::Pause`).
 //!
 //! `Collector::into_ended` takes apart a collector that has come to its end (`Ended`): the main tree, which
 //! may be settled, the report, how the outer stream ended, and the devices of the streams, which are to go
 //! back to their depot once the ledger is finished (`Leftover`).
 //!
-//! What holds between any two of these steps is `IsCollecting`. The main tree and the room were made before
-//! the first file is opened:
+//! What holds between any two of these steps is `IsCollecting`, to which an open job is the job as it began,
+//! wherever it is. The main tree and the room were made before the first file is opened, and the collector
+//! is lent to the scope of its workers, in which it runs:
 //!
 //! ```
-//! let mut collector = Collector::new(begin(seat, scopes), streams);
-//! collector.run(rt, alloc, desk, plan, depot, out, gate);
-//! end_run(collector, desk, depot)
+//! collector.run(scope, place, alloc, desk, plan, depot, out);
 //! ```
 //!
 //! And at its end:

@@ -16,7 +16,7 @@ ghost use Rattle.res_ledger.specs.declared.event.StreamNo.TheVariants.{Outer};
 ghost use Rattle.row_seat.specs.Views.{OthersFit};
 ghost use Rattle.scope_tree.specs.Trees.{Fits, seen};
 ghost use Rattle.collector.specs.Collecting.{IsCollecting};
-ghost use Rattle.collector.specs.Starting.{ClosesOuter, IsFresh, MaySkip};
+ghost use Rattle.collector.specs.Starting.{ClosesOuter, GivesNoneIfStopped, IsFresh, MaySkip};
 
 use crate::collector::Collector;
 use chunk_core::How;
@@ -47,6 +47,7 @@ impl<V: Device + Drop, S: RowSeat<Pay = Held<V>>, F: PipeState> Collector<S, V, 
         ensures collecting { (p : PlanMeant) (d0 : DepotTold) (s0 : SinkTold) (t : Values) (depot : DepotTold) (sink : SinkTold) → IsSoundPlan p → IsCollecting S.view V.told S.fits F.values (standing F.stands F.comes) p d0 s0 t 1 depot sink desk.old self.old → IsCollecting S.view V.told S.fits F.values (standing F.stands F.comes) p d0 s0 t 0 depot sink desk.new self.new }
         ensures stops { self.new.stops ≡ self.old.stops }
         ensures outer { self.new.outer ≡ self.old.outer }
+        ensures leased { self.new.leased ≡ self.old.leased }
         ensures jobs { self.new.jobs ≡ self.old.jobs }
     {
         match self.waiting.pop_front() {
@@ -131,6 +132,7 @@ impl<V: Device + Drop, S: RowSeat<Pay = Held<V>>, F: PipeState> Collector<S, V, 
         requires collecting { (d0 : DepotTold) × (s0 : SinkTold) × (t : Values) × (depot : DepotTold) × (sink : SinkTold) × IsCollecting S.view V.told S.fits F.values (standing F.stands F.comes) plan.now d0 s0 t 1 depot sink desk.old self.old }
         ensures collecting { (d0 : DepotTold) (s0 : SinkTold) (t : Values) (depot : DepotTold) (sink : SinkTold) → IsCollecting S.view V.told S.fits F.values (standing F.stands F.comes) plan.now d0 s0 t 1 depot sink desk.old self.old → IsCollecting S.view V.told S.fits F.values (standing F.stands F.comes) plan.now d0 s0 t 2 depot sink desk.new self.new }
         ensures ahead { self.new.outer ≡ None → length self.new.waiting.items ≡ 2 }
+        ensures stops { GivesNoneIfStopped self.old self.new }
         ensures jobs { self.new.jobs ≡ self.old.jobs }
     {
         if self.outer.is_some() {

@@ -42,7 +42,9 @@ use pull_stepper::Held;
 use row_seat::RowSeat;
 use std::alloc::Global;
 use std::sync::Wait;
-use stream_jobs::{Job, JobEnd};
+use std::thread::Threads;
+use stream_jobs::JobEnd;
+use stream_workers::Open;
 
 /// Whether the stream is to end with another one.
 fn ends_with(plan: &Plan, i: u32, stream: u32) -> bool
@@ -83,32 +85,8 @@ fn stop_those_until(stops: &mut Stops, plan: &Plan, stream: u32)
 }
 
 impl<V: Device + Drop, S: RowSeat<Pay = Held<V>>, F: PipeState> Collector<S, V, F> {
-    /// Receives until nothing comes.
-    pub(crate) fn receive_all<R: Wait, K: Sink, G: Gate>(
-        &mut self,
-        rt: &R,
-        alloc: Global,
-        desk: &mut S::Desk,
-        plan: &Plan,
-        out: &mut K,
-        gate: &G,
-    )
-    where
-        F::Tables: Drop,
-        requires limits { IsSoundPlan plan.now }
-        requires collecting { (d0 : DepotTold) × (s0 : SinkTold) × (t : Values) × (depot : DepotTold) × (s0.faults < 2 ^ 64 - 1) × IsCollecting S.view V.told S.fits F.values (standing F.stands F.comes) plan.now d0 s0 t 1 depot (K.told out.old) desk.old self.old }
-        ensures collecting { (d0 : DepotTold) (s0 : SinkTold) (t : Values) (depot : DepotTold) → s0.faults < 2 ^ 64 - 1 → IsCollecting S.view V.told S.fits F.values (standing F.stands F.comes) plan.now d0 s0 t 1 depot (K.told out.old) desk.old self.old → IsCollecting S.view V.told S.fits F.values (standing F.stands F.comes) plan.now d0 s0 t 1 depot (K.told out.new) desk.new self.new }
-    {
-        'receives: for _ in rt.forever() {
-            if !self.receive_next(rt, alloc, desk, plan, out, gate) {
-                return;
-            }
-        }
-        unreachable!()
-    }
-
     /// Receives the next message, where one is queued.
-    fn receive_next<R: Wait, K: Sink, G: Gate>(
+    pub(crate) fn receive_next<R: Threads + Wait, K: Sink, G: Gate>(
         &mut self,
         rt: &R,
         alloc: Global,
@@ -123,7 +101,7 @@ impl<V: Device + Drop, S: RowSeat<Pay = Held<V>>, F: PipeState> Collector<S, V, 
         requires collecting { (d0 : DepotTold) × (s0 : SinkTold) × (t : Values) × (depot : DepotTold) × (s0.faults < 2 ^ 64 - 1) × IsCollecting S.view V.told S.fits F.values (standing F.stands F.comes) plan.now d0 s0 t 1 depot (K.told out.old) desk.old self.old }
         ensures collecting { (d0 : DepotTold) (s0 : SinkTold) (t : Values) (depot : DepotTold) → s0.faults < 2 ^ 64 - 1 → IsCollecting S.view V.told S.fits F.values (standing F.stands F.comes) plan.now d0 s0 t 1 depot (K.told out.old) desk.old self.old → IsCollecting S.view V.told S.fits F.values (standing F.stands F.comes) plan.now d0 s0 t 1 depot (K.told out.new) desk.new self.new }
     {
-        match self.receiver.try_recv(rt, &self.hub) {
+        match self.receiver.try_recv(rt, self.hub.get()) {
             Some(message) => {
                 self.receive(rt, alloc, desk, plan, out, gate, message);
                 true
@@ -134,7 +112,7 @@ impl<V: Device + Drop, S: RowSeat<Pay = Held<V>>, F: PipeState> Collector<S, V, 
 
     /// A message came: a load is written as a frame, unless it is too late for that, and a stream that
     /// has ended is taken in.
-    fn receive<R: Wait, K: Sink, G: Gate>(
+    fn receive<R: Threads + Wait, K: Sink, G: Gate>(
         &mut self,
         rt: &R,
         alloc: Global,
@@ -169,7 +147,7 @@ impl<V: Device + Drop, S: RowSeat<Pay = Held<V>>, F: PipeState> Collector<S, V, 
     }
 
     /// The end of an open stream came: its job is taken out of the open ones, and taken in.
-    fn end<R: Wait, G: Gate>(
+    fn end<R: Threads + Wait, G: Gate>(
         &mut self,
         rt: &R,
         desk: &mut S::Desk,
@@ -191,7 +169,7 @@ impl<V: Device + Drop, S: RowSeat<Pay = Held<V>>, F: PipeState> Collector<S, V, 
     }
 
     /// Takes the job of a stream out of the open ones.
-    fn take_job(&mut self, stream: u32) -> Option<Job<S, V, F>>
+    fn take_job(&mut self, stream: u32) -> Option<Open<S, V, F>>
         requires jobs { AllByRecursion (λ j. (w : Origin V F) × IsJob S.view F.values V.told (standing F.stands F.comes) w j) self.old.jobs.items }
         requires room { length self.old.jobs.items ≤ deque_capacity self.old.jobs }
         ensures some { IfSome result (TakesOut stream self.old.jobs.items self.new.jobs.items) }
@@ -209,7 +187,7 @@ impl<V: Device + Drop, S: RowSeat<Pay = Held<V>>, F: PipeState> Collector<S, V, 
     }
 
     /// Takes the first open job out, if it is that of the stream; else it is the last one then.
-    fn next_job(&mut self, stream: u32) -> Option<Job<S, V, F>>
+    fn next_job(&mut self, stream: u32) -> Option<Open<S, V, F>>
         requires some { 0 < length self.old.jobs.items }
         requires jobs { AllByRecursion (λ j. (w : Origin V F) × IsJob S.view F.values V.told (standing F.stands F.comes) w j) self.old.jobs.items }
         requires room { length self.old.jobs.items ≤ deque_capacity self.old.jobs }
@@ -232,7 +210,7 @@ impl<V: Device + Drop, S: RowSeat<Pay = Held<V>>, F: PipeState> Collector<S, V, 
 
     /// The end of an open stream came, whose job was taken out of the open ones: what is left of it is
     /// taken in, and the streams that are to end with it are interrupted.
-    fn end_job<R: Wait, G: Gate>(
+    fn end_job<R: Threads + Wait, G: Gate>(
         &mut self,
         rt: &R,
         desk: &mut S::Desk,
@@ -240,7 +218,7 @@ impl<V: Device + Drop, S: RowSeat<Pay = Held<V>>, F: PipeState> Collector<S, V, 
         gate: &G,
         stream: u32,
         how: How,
-        job: Job<S, V, F>,
+        job: Open<S, V, F>,
     )
     where
         F::Tables: Drop,
@@ -254,13 +232,13 @@ impl<V: Device + Drop, S: RowSeat<Pay = Held<V>>, F: PipeState> Collector<S, V, 
         stop_those_until(&mut self.stops, plan, stream);
     }
 
-    /// Runs a job to its end, and takes it apart.
-    fn finish<R: Wait, G: Gate>(
+    /// Waits for the worker of a job, runs the job to its end if it was here, and takes it apart.
+    fn finish<R: Threads + Wait, G: Gate>(
         &self,
         rt: &R,
         desk: &mut S::Desk,
         gate: &G,
-        job: Job<S, V, F>,
+        job: Open<S, V, F>,
     ) -> JobEnd<S, V>
     where
         F::Tables: Drop,
@@ -272,8 +250,8 @@ impl<V: Device + Drop, S: RowSeat<Pay = Held<V>>, F: PipeState> Collector<S, V, 
         ensures fits { S.fits result.seat desk.new }
         ensures others { OthersFit S.view S.fits (Inner job.sender.stream) desk.old desk.new }
     {
-        let mut job = job;
-        job.finish(rt, desk, &self.hub, self.stops.board(), gate);
+        let mut job = job.settle(rt);
+        job.finish(rt, desk, self.hub.get(), self.stops.board(), gate);
         job.end()
     }
 
@@ -307,7 +285,7 @@ impl<V: Device + Drop, S: RowSeat<Pay = Held<V>>, F: PipeState> Collector<S, V, 
         } = end;
         take_in(&mut self.tree, desk, seat);
         self.stops.take_in(board);
-        self.receiver.join(&self.hub, sender);
+        self.receiver.join(self.hub.get(), sender);
         self.left.push_reserved(Leftover { shelf, unopened });
     }
 }

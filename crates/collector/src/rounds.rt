@@ -21,25 +21,54 @@ use pipeline_desc::Plan;
 use pull_nodes::PipeState;
 use pull_stepper::Held;
 use row_seat::RowSeat;
+use row_shared::SharesDesk;
 use std::alloc::Global;
 use std::sync::Wait;
-use stream_jobs::Job;
+use std::thread::{Scope, Threads};
+use stream_workers::{Open, Pause, Place};
 
-impl<V: Device + Drop, S: RowSeat<Pay = Held<V>>, F: PipeState> Collector<S, V, F> {
-    /// Gives each open stream a turn.
-    fn give_turns<R: Wait, G: Gate>(&mut self, rt: &R, desk: &mut S::Desk, gate: &G)
+impl<V: Device + Drop, S: SharesDesk + RowSeat<Pay = Held<V>>, F: PipeState> Collector<S, V, F> {
+    /// Receives the next message; where none is queued it gives each open stream that is here a turn.
+    /// Whether one came, or such a stream is open.
+    fn go_on<R: Threads + Wait, K: Sink, G: Gate>(
+        &mut self,
+        rt: &R,
+        alloc: Global,
+        desk: &mut S::Desk,
+        plan: &Plan,
+        out: &mut K,
+        gate: &G,
+    ) -> bool
+    where
+        F::Tables: Drop,
+        requires limits { IsSoundPlan plan.now }
+        requires collecting { (d0 : DepotTold) × (s0 : SinkTold) × (t : Values) × (depot : DepotTold) × (s0.faults < 2 ^ 64 - 1) × IsCollecting S.view V.told S.fits F.values (standing F.stands F.comes) plan.now d0 s0 t 1 depot (K.told out.old) desk.old self.old }
+        ensures collecting { (d0 : DepotTold) (s0 : SinkTold) (t : Values) (depot : DepotTold) → s0.faults < 2 ^ 64 - 1 → IsCollecting S.view V.told S.fits F.values (standing F.stands F.comes) plan.now d0 s0 t 1 depot (K.told out.old) desk.old self.old → IsCollecting S.view V.told S.fits F.values (standing F.stands F.comes) plan.now d0 s0 t 1 depot (K.told out.new) desk.new self.new }
+    {
+        if self.receive_next(rt, alloc, desk, plan, out, gate) {
+            return true;
+        }
+        self.give_turns(rt, desk, gate)
+    }
+
+    /// Gives each open stream that is here a turn. Whether one is.
+    fn give_turns<R: Wait, G: Gate>(&mut self, rt: &R, desk: &mut S::Desk, gate: &G) -> bool
     where
         F::Tables: Drop,
         requires collecting { (p : PlanMeant) × (d0 : DepotTold) × (s0 : SinkTold) × (t : Values) × (depot : DepotTold) × (sink : SinkTold) × IsCollecting S.view V.told S.fits F.values (standing F.stands F.comes) p d0 s0 t 1 depot sink desk.old self.old }
         ensures collecting { (p : PlanMeant) (d0 : DepotTold) (s0 : SinkTold) (t : Values) (depot : DepotTold) (sink : SinkTold) → IsCollecting S.view V.told S.fits F.values (standing F.stands F.comes) p d0 s0 t 1 depot sink desk.old self.old → IsCollecting S.view V.told S.fits F.values (standing F.stands F.comes) p d0 s0 t 1 depot sink desk.new self.new }
     {
+        let mut here = false;
         'turns: for _ in 0..self.jobs.len() {
-            self.give_turn(rt, desk, gate);
+            if self.give_turn(rt, desk, gate) {
+                here = true;
+            }
         }
+        here
     }
 
-    /// Gives the first open stream a turn, which is the last one then.
-    fn give_turn<R: Wait, G: Gate>(&mut self, rt: &R, desk: &mut S::Desk, gate: &G)
+    /// Gives the first open stream a turn, if it is here; it is the last one then.
+    fn give_turn<R: Wait, G: Gate>(&mut self, rt: &R, desk: &mut S::Desk, gate: &G) -> bool
     where
         F::Tables: Drop,
         requires collecting { (p : PlanMeant) × (d0 : DepotTold) × (s0 : SinkTold) × (t : Values) × (depot : DepotTold) × (sink : SinkTold) × IsCollecting S.view V.told S.fits F.values (standing F.stands F.comes) p d0 s0 t 1 depot sink desk.old self.old }
@@ -47,21 +76,23 @@ impl<V: Device + Drop, S: RowSeat<Pay = Held<V>>, F: PipeState> Collector<S, V, 
     {
         match self.jobs.pop_front() {
             Some(job) => {
+                let here = job.is_here();
                 let job = self.turn(rt, desk, gate, job);
                 self.jobs.push_back_reserved(job);
+                here
             }
-            None => {}
+            None => false,
         }
     }
 
-    /// Gives the job a turn, unless it is over.
+    /// Gives the job a turn, if it is here and not over.
     fn turn<R: Wait, G: Gate>(
         &self,
         rt: &R,
         desk: &mut S::Desk,
         gate: &G,
-        job: Job<S, V, F>,
-    ) -> Job<S, V, F>
+        job: Open<S, V, F>,
+    ) -> Open<S, V, F>
     where
         F::Tables: Drop,
         requires job { (w : Origin V F) × IsJob S.view F.values V.told (standing F.stands F.comes) w job }
@@ -72,26 +103,41 @@ impl<V: Device + Drop, S: RowSeat<Pay = Held<V>>, F: PipeState> Collector<S, V, 
         ensures fits { FitsJob S.view V.told S.fits result desk.new }
         ensures others { OthersFit S.view S.fits (Inner job.sender.stream) desk.old desk.new }
     {
-        let mut job = job;
-        if !job.is_over() {
-            job.turn(rt, desk, &self.hub, self.stops.board(), gate);
-        }
-        job
+        job.turn(rt, desk, self.hub.get(), self.stops.board(), gate)
     }
 }
 
-impl<V: Device + Drop, S: RowSeat<Pay = Held<V>>, F: PipeState<Tables = Dicts>> Collector<S, V, F> {
+impl<
+    V: Device + Drop + Send,
+    S: SharesDesk + RowSeat<Pay = Held<V>> + Drop + Send,
+    F: PipeState<Tables = Dicts> + Send,
+> Collector<S, V, F>
+where
+    S::Desk: Drop + Send,
+{
     /// Runs the outer stream and all that it gives to their ends.
-    pub fn run<R: Wait, D: Depot<Dev = V>, K: Sink, G: Gate>(
+    pub fn run<
+        's,
+        E,
+        R: Threads + Wait + Sync + 's,
+        D: Depot<Dev = V>,
+        K: Sink,
+        G: Gate + Sync + 's,
+    >(
         &mut self,
-        rt: &R,
+        scope: &Scope<'s, E>,
+        place: &'s Place<'s, R, G>,
         alloc: Global,
         desk: &mut S::Desk,
         plan: &Plan,
         depot: &mut D,
         out: &mut K,
-        gate: &G,
     )
+    where
+        V: 's,
+        S: 's,
+        F: 's,
+        S::Desk: 's,
         requires limits { IsSoundPlan plan.now }
         requires fresh { IsFresh S.view V.told S.fits plan.now desk.old self.old }
         requires values { (tables : List Dictionary) → F.values tables ≡ values_of tables }
@@ -101,64 +147,89 @@ impl<V: Device + Drop, S: RowSeat<Pay = Held<V>>, F: PipeState<Tables = Dicts>> 
         ensures jobs { self.new.jobs.items ≡ [] }
     {
         match self.open(alloc, desk, plan, depot) {
-            Some(tables) => self.run_rounds(rt, alloc, desk, &tables, plan, depot, out, gate),
+            Some(tables) => {
+                self.run_rounds(scope, place, alloc, desk, &tables, plan, depot, out)
+            }
             None => {}
         }
     }
 
     /// Goes round until no stream waits and none is open.
-    fn run_rounds<R: Wait, D: Depot<Dev = V>, K: Sink, G: Gate>(
+    fn run_rounds<
+        's,
+        E,
+        R: Threads + Wait + Sync + 's,
+        D: Depot<Dev = V>,
+        K: Sink,
+        G: Gate + Sync + 's,
+    >(
         &mut self,
-        rt: &R,
+        scope: &Scope<'s, E>,
+        place: &'s Place<'s, R, G>,
         alloc: Global,
         desk: &mut S::Desk,
         tables: &Dicts,
         plan: &Plan,
         depot: &mut D,
         out: &mut K,
-        gate: &G,
     )
+    where
+        V: 's,
+        S: 's,
+        F: 's,
+        S::Desk: 's,
         requires limits { IsSoundPlan plan.now }
         requires collecting { (d0 : DepotTold) × (s0 : SinkTold) × (s0.faults < 2 ^ 64 - 1) × IsCollecting S.view V.told S.fits F.values (standing F.stands F.comes) plan.now d0 s0 (F.values tables.now) 1 (D.told depot.old) (K.told out.old) desk.old self.old }
         ensures collecting { (d0 : DepotTold) (s0 : SinkTold) → s0.faults < 2 ^ 64 - 1 → IsCollecting S.view V.told S.fits F.values (standing F.stands F.comes) plan.now d0 s0 (F.values tables.now) 1 (D.told depot.old) (K.told out.old) desk.old self.old → IsCollecting S.view V.told S.fits F.values (standing F.stands F.comes) plan.now d0 s0 (F.values tables.now) 1 (D.told depot.new) (K.told out.new) desk.new self.new }
         ensures waiting { self.new.waiting.items ≡ [] }
         ensures jobs { self.new.jobs.items ≡ [] }
     {
-        'rounds: for _ in rt.forever() {
-            if !self.round(rt, alloc, desk, tables, plan, depot, out, gate) {
+        let pause = Pause::new();
+        'rounds: for _ in place.rt.forever() {
+            if !self.round(scope, place, alloc, desk, tables, plan, depot, out, &pause) {
                 return;
             }
         }
         unreachable!()
     }
 
-    /// Begins the stream that waits where there is room for one, and else gives the open ones a turn each
-    /// and receives what they sent. Whether there was anything to do.
-    fn round<R: Wait, D: Depot<Dev = V>, K: Sink, G: Gate>(
+    /// Begins the stream that waits where there is room for one, and else receives a message. Where none
+    /// came it gives the streams that are here a turn each, and waits a little where none is. Whether there
+    /// was anything to do.
+    fn round<'s, E, R: Threads + Wait + Sync + 's, D: Depot<Dev = V>, K: Sink, G: Gate + Sync + 's>(
         &mut self,
-        rt: &R,
+        scope: &Scope<'s, E>,
+        place: &'s Place<'s, R, G>,
         alloc: Global,
         desk: &mut S::Desk,
         tables: &Dicts,
         plan: &Plan,
         depot: &mut D,
         out: &mut K,
-        gate: &G,
+        pause: &Pause,
     ) -> bool
+    where
+        V: 's,
+        S: 's,
+        F: 's,
+        S::Desk: 's,
         requires limits { IsSoundPlan plan.now }
         requires collecting { (d0 : DepotTold) × (s0 : SinkTold) × (s0.faults < 2 ^ 64 - 1) × IsCollecting S.view V.told S.fits F.values (standing F.stands F.comes) plan.now d0 s0 (F.values tables.now) 1 (D.told depot.old) (K.told out.old) desk.old self.old }
         ensures collecting { (d0 : DepotTold) (s0 : SinkTold) → s0.faults < 2 ^ 64 - 1 → IsCollecting S.view V.told S.fits F.values (standing F.stands F.comes) plan.now d0 s0 (F.values tables.now) 1 (D.told depot.old) (K.told out.old) desk.old self.old → IsCollecting S.view V.told S.fits F.values (standing F.stands F.comes) plan.now d0 s0 (F.values tables.now) 1 (D.told depot.new) (K.told out.new) desk.new self.new }
         ensures over { result ≡ false → (self.new.waiting.items ≡ []) × (self.new.jobs.items ≡ []) }
     {
         if self.may_begin(plan) {
-            self.start(alloc, desk, tables, plan, depot);
+            self.start(scope, place, alloc, desk, tables, plan, depot);
             return true;
         }
         if self.jobs.len() == 0 {
             return false;
         }
-        self.give_turns(rt, desk, gate);
-        self.receive_all(rt, alloc, desk, plan, out, gate);
+        if self.go_on(place.rt, alloc, desk, plan, out, place.gate) {
+            pause.reset();
+        } else {
+            pause.step(place.rt);
+        }
         true
     }
 

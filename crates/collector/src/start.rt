@@ -19,20 +19,27 @@ ghost use Rattle.collector.specs.Starting.{HasRoomAsGuest, IsAhead, MakesJob, Ma
 ghost use Rattle.scope_tree.specs.Visible.{lessee, rows_covered};
 
 use crate::collector::Collector;
+use crate::filled::Filled;
+use channel_bounded::HubRef;
 use chunk_core::List;
 use csv_pipes::Dicts;
 use dealt_streams::Leftover;
-use device_port::{Depot, Device};
-use interrupt_ctx::Why;
+use device_port::{Depot, Device, Gate};
+use interrupt_ctx::{BoardRef, Why};
+use join_report::Stops;
 use join_tree::split_off;
 use pipeline_desc::{Plan, events, rows};
 use pull_nodes::PipeState;
 use pull_stepper::{Held, Stepper, Unmade};
 use row_seat::RowSeat;
+use row_shared::SharesDesk;
 use scope_tree::{Lease, Tree};
 use std::alloc::{AllocError, Global};
+use std::sync::Wait;
+use std::thread::Scope;
 use stream_jobs::Job;
 use stream_parts::{StreamParts, make_parts};
+use stream_workers::{Place, begin};
 
 /// What a stream is made of, beside its seat.
 pub(crate) struct Made<V> {
@@ -73,17 +80,87 @@ fn make_one<D: Depot>(
     Ok(Made { tables, parts })
 }
 
-impl<V: Device + Drop, S: RowSeat<Pay = Held<V>>, F: PipeState<Tables = Dicts>> Collector<S, V, F> {
+/// What the worker of a stream has for itself: a desk, and handles on the queue and on the board.
+#[derive(Drop)]
+struct Own<S: RowSeat> {
+    desk: S::Desk,
+    hub: HubRef<Filled>,
+    board: BoardRef,
+}
+
+/// A further desk, and further handles.
+fn share_all<S: SharesDesk>(
+    desk: &S::Desk,
+    hub: &HubRef<Filled>,
+    stops: &Stops,
+) -> Result<Own<S>, AllocError>
+where
+    S::Desk: Drop,
+    ensures desk { IfOk result (λ o. (s : S) → S.fits s desk.now → S.fits s o.desk) }
+    ensures handles { IfOk result (λ o. (o.hub ≡ hub.now) × (o.board ≡ stops.now.board)) }
+{
+    let desk = S::share(desk)?;
+    let hub = hub.share()?;
+    let board = stops.share()?;
+    Ok(Own { desk, hub, board })
+}
+
+/// What a stream is made of, and what its worker has for itself.
+struct Outfit<S: RowSeat, V> {
+    made: Made<V>,
+    own: Own<S>,
+}
+
+/// Makes what stream k takes, with a desk and handles of its own.
+fn equip<S: SharesDesk, D: Depot>(
+    alloc: Global,
+    tables: &Dicts,
+    plan: &Plan,
+    k: u32,
+    depot: &mut D,
+    desk: &S::Desk,
+    hub: &HubRef<Filled>,
+    stops: &Stops,
+) -> Result<Outfit<S, D::Dev>, AllocError>
+where
+    S::Desk: Drop,
+    requires { k < length plan.now.streams }
+    ensures tables { IfOk result (λ o. o.made.tables ≡ tables.now) }
+    ensures parts { IfOk result (λ o. MakesParts D.Dev.Device.told plan.now k (D.told depot.old) (D.told depot.new) o.made.parts) }
+    ensures desk { IfOk result (λ o. (s : S) → S.fits s desk.now → S.fits s o.own.desk) }
+    ensures handles { IfOk result (λ o. (o.own.hub ≡ hub.now) × (o.own.board ≡ stops.now.board)) }
+    ensures unmade { OnErr result (MakesNoParts plan.now k (D.told depot.old) (D.told depot.new)) }
+{
+    let own = share_all::<S>(desk, hub, stops)?;
+    let made = make_one(alloc, tables, plan, k, depot)?;
+    Ok(Outfit { made, own })
+}
+
+impl<
+    V: Device + Drop + Send,
+    S: SharesDesk + RowSeat<Pay = Held<V>> + Drop + Send,
+    F: PipeState<Tables = Dicts> + Send,
+> Collector<S, V, F>
+where
+    S::Desk: Drop + Send,
+{
     /// Begins the stream that waits, once the outer stream was pulled for the one behind it. Where
     /// it is interrupted by then, or memory is wanting, its lease is cancelled instead.
-    pub(crate) fn start<D: Depot<Dev = V>>(
+    pub(crate) fn start<'s, E, R: Wait + Sync + 's, G: Gate + Sync + 's, D: Depot<Dev = V>>(
         &mut self,
+        scope: &Scope<'s, E>,
+        place: &'s Place<'s, R, G>,
         alloc: Global,
         desk: &mut S::Desk,
         tables: &Dicts,
         plan: &Plan,
         depot: &mut D,
     )
+    where
+        V: 's,
+        S: 's,
+        F: 's,
+        S::Desk: 's,
         requires limits { IsSoundPlan plan.now }
         requires waits { 1 ≤ length self.old.waiting.items }
         requires few { length self.old.jobs.items < plan.now.max_open }
@@ -92,13 +169,15 @@ impl<V: Device + Drop, S: RowSeat<Pay = Held<V>>, F: PipeState<Tables = Dicts>> 
     {
         self.pull(alloc, desk, plan);
         if let Some(lease) = self.waiting.pop_front() {
-            self.start_leased(alloc, desk, lease, tables, plan, depot);
+            self.start_leased(scope, place, alloc, desk, lease, tables, plan, depot);
         }
     }
 
     /// Begins the stream that is next, which has this lease.
-    fn start_leased<D: Depot<Dev = V>>(
+    fn start_leased<'s, E, R: Wait + Sync + 's, G: Gate + Sync + 's, D: Depot<Dev = V>>(
         &mut self,
+        scope: &Scope<'s, E>,
+        place: &'s Place<'s, R, G>,
         alloc: Global,
         desk: &mut S::Desk,
         lease: Lease,
@@ -106,6 +185,11 @@ impl<V: Device + Drop, S: RowSeat<Pay = Held<V>>, F: PipeState<Tables = Dicts>> 
         plan: &Plan,
         depot: &mut D,
     )
+    where
+        V: 's,
+        S: 's,
+        F: 's,
+        S::Desk: 's,
         requires limits { IsSoundPlan plan.now }
         requires ahead { IsAhead self.old }
         requires few { length self.old.jobs.items < plan.now.max_open }
@@ -116,8 +200,19 @@ impl<V: Device + Drop, S: RowSeat<Pay = Held<V>>, F: PipeState<Tables = Dicts>> 
             self.pass_over(desk, lease);
             return;
         }
-        match make_one(alloc, tables, plan, self.next, depot) {
-            Ok(made) => self.begin(alloc, desk, lease, made, plan),
+        match equip::<S, D>(
+            alloc,
+            tables,
+            plan,
+            self.next,
+            depot,
+            desk,
+            &self.hub,
+            &self.stops,
+        ) {
+            Ok(Outfit { made, own }) => {
+                self.begin(scope, place, alloc, desk, lease, made, own, plan)
+            }
             Err(AllocError) => self.miss(alloc, desk, plan, lease, List::new(alloc)),
         }
     }
@@ -146,9 +241,26 @@ impl<V: Device + Drop, S: RowSeat<Pay = Held<V>>, F: PipeState<Tables = Dicts>> 
         });
     }
 
-    /// Splits off the seat of the stream that is next, and makes its job.
-    fn begin(&mut self, alloc: Global, desk: &mut S::Desk, lease: Lease, made: Made<V>, plan: &Plan)
+    /// Splits off the seat of the stream that is next, makes its job, and begins a worker for it.
+    fn begin<'s, E, R: Wait + Sync + 's, G: Gate + Sync + 's>(
+        &mut self,
+        scope: &Scope<'s, E>,
+        place: &'s Place<'s, R, G>,
+        alloc: Global,
+        desk: &mut S::Desk,
+        lease: Lease,
+        made: Made<V>,
+        own: Own<S>,
+        plan: &Plan,
+    )
+    where
+        V: 's,
+        S: 's,
+        F: 's,
+        S::Desk: 's,
         requires limits { IsSoundPlan plan.now }
+        requires own { (s : S) → S.fits s desk.old → S.fits s own.desk }
+        requires handles { (own.hub ≡ self.old.hub) × (own.board ≡ self.old.stops.board) }
         requires ahead { IsAhead self.old }
         requires may { MayBegin self.old }
         requires few { length self.old.jobs.items < plan.now.max_open }
@@ -166,7 +278,13 @@ impl<V: Device + Drop, S: RowSeat<Pay = Held<V>>, F: PipeState<Tables = Dicts>> 
         ) {
             Ok(seat) => {
                 let job = self.job_of(alloc, desk, seat, lease, made, plan.chunk());
-                self.jobs.push_back_reserved(job);
+                let Own {
+                    desk: own_desk,
+                    hub,
+                    board,
+                } = own;
+                let open = begin(scope, place, hub, board, own_desk, job);
+                self.jobs.push_back_reserved(open);
                 self.next += 1;
             }
             Err(AllocError) => self.miss(alloc, desk, plan, lease, made.into_devices()),
@@ -206,10 +324,10 @@ impl<V: Device + Drop, S: RowSeat<Pay = Held<V>>, F: PipeState<Tables = Dicts>> 
         } = parts;
         let k = self.next;
         let board = self.stops.seat_for();
-        let sender = self.receiver.split(&self.hub, k);
+        let sender = self.receiver.split(self.hub.get(), k);
         let tree = Tree::new(seat, room);
         match Stepper::new(alloc, node, tree, devices, tables, chunk) {
-            Ok(stepper) => Job::new(k, stepper, board, sender, lease),
+            Ok(stepper) => Job::new(alloc, k, stepper, board, sender, lease),
             Err(Unmade { tree, devices }) => {
                 Job::unmade(
                     k,

@@ -1,5 +1,5 @@
 -- Each call of run that went as it should meets the contract.
-use Rattle.std.proofs.Common.{◌≡◌, ◌≢◌, ℕ, true, false, List, [], ◌∷◌, ◌++◌, length, Some, None, Ok, Err, refl, sym, ap, subst, inl, inr, ⊎_elim, arith, Result}
+use Rattle.std.proofs.Common.{◌≡◌, ◌≢◌, ℕ, true, false, List, [], ◌∷◌, ◌++◌, length, Some, None, Ok, Err, refl, sym, ap, subst, inl, inr, ◌∙◌, ⊎_elim, arith, Result}
 use Rattle.std.specs.Fmt.{digits}
 use Rattle.std.specs.Str.{is_utf8, chars}
 use Rattle.std.proofs.lemmas.Bool.{false≢true}
@@ -145,10 +145,11 @@ none_performs = record {
       caused = (record { halted = λ e. let x : ⊥ = cc in absurd x; fault = tt; root = λ b. (Succeeded, (event 0 Outer (Close 0 Succeeded), here [], refl, refl)) }, tt);
       outer = record { end = (tt, tt); gives = λ j s n. tt; nobody = λ e. absurd (none_some e) };
       stopped = record { failed = λ t. absurd (false≢true t); silenced = λ t. absurd (false≢true t); ended = λ t. absurd (false≢true t); halted = λ e k m who is early. ⊎_elim (λ (q : e ≡ record { who = Outer; how = how.Done }). let d = ap (λ (x : EndOf). x.who) q in let x : ⊥ = cc in absurd x) (λ m. absurd (among_nil m)) (among_cons m); nobody = λ t. absurd (none_some t) };
+      begins = λ k a. absurd (⊎_elim (λ (q : a.0 ≡ event 0 Outer (Close 0 Succeeded)). let d : Outer ≡ Inner k = sym (ap (λ (x : Event). x.by) q) ∙ a.2 in cc) (λ m. among_nil m) (among_cons a.1));
       memory = λ e m is. ⊎_elim (λ (q : e ≡ record { who = Outer; how = how.Done }). let d = ap (λ (x : EndOf). x.how) q in let x : ⊥ = cc in absurd x) (λ m. absurd (among_nil m)) (among_cons m);
-      wanting = λ t. absurd (false≢true t);
     };
     exits = (record { how = how.Done; same = inl refl; told = (refl, tt); ran = λ k e. let x : ⊥ = cc in absurd x }, tt);
+    wanting = λ t. absurd (false≢true t);
     completeness = λ m n. record { done = (refl, tt); clean = refl; output = tt };
   });
 }

@@ -158,7 +158,7 @@ module _ (old new : DepotTold) (h : How) (L : List Event) (frames : List Frame) 
     outer = tt;
     stopped = record { failed = λ t. absurd (false≢true t); silenced = λ t. absurd (false≢true t); ended = λ t. absurd (false≢true t); halted = λ e k m who is early. inr (last_of L ours k); nobody = λ t. absurd (none_some t) };
     memory = λ e m is. ⊎_elim (λ (q : e ≡ end_of_0 h). absurd (ample (sym (ap (λ (x : EndOf). x.how) q) ∙ is))) (λ m. absurd (among_nil m)) (among_cons m);
-    wanting = λ t. absurd (false≢true t);
+    begins = tt;
   }
 
   -- the stream noted something
@@ -202,6 +202,7 @@ module _ (bytes : List ℕ) (at : ℕ) (ended : Bool) (x : Exit) (reads closes :
       outputs = outputs;
       ends = ends_of _ _ h (one_row_ledger x ok) frames cut (λ r. device) halted fault root_closed ample (row_ours x ok);
       exits = (record { how = h; same = inl refl; told = (tt, (exit, (tt, tt))); ran = λ k q. (elements_in_pieces outputs.outputs.0.pieces, outputs.outputs.0.end, outputs.outputs.0.run, outputs.outputs.0.reported) }, tt);
+      wanting = λ t. absurd (false≢true t);
       completeness = λ m n. whole n;
     });
   }
@@ -352,6 +353,7 @@ missing_file_holds =
             outputs = record { numbers = tt; few = tt; in_turn = λ t. absurd (false≢true t); outputs = (record { pieces = []; end = Fault code.Open; run = inl (inr (refl, refl, refl, refl, tt)); printed = refl; reported = refl }, refl); rest = refl };
             ends = ends_of _ _ (how.Fault code.Open) missing_file.events [] None (λ r. missing_device) (λ e. let x : ⊥ = cc in absurd x) (missing_device, here [], here [], omega arith) missing_root (λ e. cc) (close_ours 0 0 Errored, tt);
             exits = (record { how = how.Fault code.Open; same = inl refl; told = (refl, tt); ran = λ k q. ([], Fault code.Open, inl (inr (refl, refl, refl, refl, tt)), refl) }, tt);
+            wanting = λ t. absurd (false≢true t);
             completeness = λ m n. let z = n.devices.0 in absurd (omega (arith, z));
           });
         };

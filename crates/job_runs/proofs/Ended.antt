@@ -1,4 +1,4 @@
--- A job that is over has visited, and sent the loads of a run.
+-- A job that is over has visited, and sent the texts of the loads of a run.
 use Rattle.std.proofs.Common.{◌≡◌, ℕ, suc, ◌+◌, true, false, if◌then◌else◌, List, [], ◌∷◌, map, length, Option, Some, refl, ◌∙◌, subst, ⊎_elim, arith, nat_eq}
 use Rattle.std.proofs.lemmas.List.{length-map}
 use Rattle.std.specs.List.{IsDistinct}
@@ -86,5 +86,7 @@ jobs_end view told P n a devices w e u just o =
       loads = l.loads;
       filled = l.run.filled;
       run = l.run.run;
+      texts = l.texts;
+      texts_are = l.texts_are;
       sent = l.said_is;
     }

@@ -27,8 +27,8 @@ use Rattle.join_tree.specs.Leaving.{LeavesLast}
 use Rattle.pull_stepper.specs.Held.{FinishesDevice}
 use Rattle.stream_jobs.specs.declared.job.JobEnd.{JobEnd}
 use Rattle.stream_jobs.specs.Jobs.{EndsJob}
-use Rattle.stream_jobs.specs.Messages.{end_message, load_messages}
-use Rattle.stream_jobs.specs.Running.{AreFilled, Origin}
+use Rattle.stream_jobs.specs.Messages.{AreFilled, AreTextsOf, end_message, load_messages}
+use Rattle.stream_jobs.specs.Running.{Origin}
 use Rattle.stream_jobs.specs.Unmade.{IsOfNode}
 use Rattle.stream_parts.specs.Retire.{devices_of}
 use Rattle.stream_parts.specs.Same.{AreSame}
@@ -61,14 +61,16 @@ module _ {V : Type 0} (told : V → DeviceTold) where
     pub share : (w : ℕ → DeviceTold) (u : View V) (L : List Event) → IsFinishedLedger last u L → IsWholeLedger L → CoversNone (from_row n) (to_row n) L → ((q : ℕ) → IsWithin (from_row n) (to_row n) q → w q ≡ home q) → ((x : Spent V) → IsAmong x lent → EndsAs w x)
         → IsShare k (from_row n) (to_row n) (scope_count n) w how L
 
-  -- a job whose stream k was to run the node is over: it sent the loads of a run, by what the devices tell that came back, and then its end
+  -- a job whose stream k was to run the node is over: it sent the texts of the loads of a run, by what the devices tell that came back, and then its end
   pub record RunsJob {S : Type 0} (view : S → View V) (values : Values) (n : Node) (devices : List V) (k floor : ℕ) (T : List ℕ) (e : JobEnd S V) : Type 0 where
     pub home : ℕ → DeviceTold
     pub visited : HasVisited n devices k floor T home (view e.seat) e.shelf e.unopened e.how
     pub loads : List Load
     pub filled : AreFilled loads
     pub run : IsRun values home n (elements_of loads) (end_of e.how)
-    pub sent : e.sender.sent ≡ load_messages k loads ++ end_message k e.how ∷ []
+    pub texts : List Load
+    pub texts_are : AreTextsOf loads texts
+    pub sent : e.sender.sent ≡ load_messages k texts ++ end_message k e.how ∷ []
 
 -- what is left of a job whose stream was to run a node in a tree with just room for its scopes
 abbrev pub JobsEnd : {S V F : Type 0} → (S → View V) → (V → DeviceTold) → (Values → StateMeaning F) → Type 0

@@ -4,13 +4,13 @@ ghost use Rattle.interrupt_ctx.specs.Ends.{first_seat};
 ghost use Rattle.interrupt_ctx.specs.Views.{split_off};
 ghost use Rattle.join_report.specs.Stopping.{Interrupts, IsSeated, Looks, view_of, with_seat_in, with_seat_out};
 
-use interrupt_ctx::{Board, BoardSeat, Why};
+use interrupt_ctx::{Board, BoardRef, BoardSeat, Why};
 use std::alloc::{AllocError, Global};
 
 /// The board, and the first seat at it.
 #[derive(Drop)]
 pub struct Stops {
-    board: Board,
+    board: BoardRef,
     seat: BoardSeat,
 }
 
@@ -23,6 +23,7 @@ impl Stops {
         ensures seated { IfOk result (λ s. IsSeated s) }
     {
         let (board, seat) = Board::new(alloc, streams + 1)?;
+        let board = BoardRef::new(alloc, board)?;
         Ok(Stops { board, seat })
     }
 
@@ -30,7 +31,14 @@ impl Stops {
     pub fn board(&self) -> &Board
         ensures { result.now ≡ self.now.board }
     {
-        &self.board
+        self.board.get()
+    }
+
+    /// A further handle on the board, for a thread.
+    pub fn share(&self) -> Result<BoardRef, AllocError>
+        ensures { IfOk result (λ b. b ≡ self.now.board) }
+    {
+        self.board.share()
     }
 
     /// Interrupts a context, unless that was done before.
@@ -41,7 +49,7 @@ impl Stops {
         ensures board { self.new.board ≡ self.old.board }
         ensures seated { IsSeated self.new }
     {
-        self.seat.set(&self.board, context, why);
+        self.seat.set(self.board.get(), context, why);
     }
 
     /// Whether a context is interrupted, by its own code or by that of the whole run.
@@ -52,7 +60,7 @@ impl Stops {
         ensures board { self.new.board ≡ self.old.board }
         ensures seated { IsSeated self.new }
     {
-        self.seat.look(&self.board, context).is_some()
+        self.seat.look(self.board.get(), context).is_some()
     }
 
     /// A seat for a stream, which has seen what this one knows.
@@ -62,7 +70,7 @@ impl Stops {
         ensures this { self.new ≡ with_seat_out self.old }
         ensures seated { IsSeated self.new }
     {
-        self.seat.split(&self.board)
+        self.seat.split(self.board.get())
     }
 
     /// Takes in what a stream's seat has set and seen.
@@ -72,6 +80,6 @@ impl Stops {
         ensures this { self.new ≡ with_seat_in self.old other }
         ensures seated { IsSeated self.new }
     {
-        self.seat.join(&self.board, other);
+        self.seat.join(self.board.get(), other);
     }
 }

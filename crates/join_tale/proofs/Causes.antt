@@ -16,6 +16,7 @@ use Rattle.res_ledger.specs.declared.event.StreamNo.{StreamNo}
 use Rattle.res_ledger.specs.declared.event.StreamNo.TheVariants.{Outer, Inner}
 use Rattle.run_rules.specs.declared.end.EndOf.{EndOf}
 use Rattle.run_rules.specs.Ends.{EndStops, HasCauseToHalt, IsSilenced, MayStop}
+use Rattle.run_rules.specs.Facts.{Acts}
 use Rattle.run_rules.specs.Work.{Work, Opener, RunRecord, Stream, begun_frames, names_from, until_by}
 use Rattle.join_tale.specs.Ended.{Ended}
 use Rattle.join_tale.specs.Ended.Ended.{told, wanting, whole, halted, unmade, skipped}
@@ -27,7 +28,11 @@ use Rattle.join_tale.proofs.Growing.{until_came}
 use Rattle.join_tale.proofs.Leaving.{left_fact}
 use Rattle.join_tale.proofs.Parts.{frame_came}
 use Rattle.join_tale.proofs.Places.{at_below, last_among, none_is_some, none_some, not_both, some_is}
-use Rattle.join_tale.proofs.Steps.{late_ceased}
+use Rattle.join_tale.proofs.Ceasing.{late_ceased}
+
+cut_some : (o p : Option Frame) → o ≡ p → o ≢ None → is_some p ≡ true
+cut_some None p e n = absurd (n refl)
+cut_some (Some f) p e n = sym (ap (λ (q : Option Frame). is_some q) e)
 
 -- The ends by their names.
 
@@ -88,6 +93,12 @@ module _ (work : Work) (t : Tale) (c : RunRecord) (i : IsTale work t) (r : IsRec
       (λ m. ⊎_elim (λ n. written_begun f n) (λ n. cut_begun t.cut f refl n) (among_append f (frames_of t.front) (elim t.cut [ Some g ↦ g ∷ [] | None ↦ [] ]) (subst (λ l. IsAmong f l) same_begun m)))
       (λ n. absurd (none_some n))
       (last_among None (begun_frames c) f e)
+
+  pub act_begun : (k : ℕ) → Acts (Inner k) c.events → IsBegun t k
+  act_begun k a = r.begun a.0 k a.1 a.2
+
+  pub silenced_is : IsSilenced work c → HasMet work t ⊎ (is_some t.cut ≡ true)
+  silenced_is s = ⊎_elim (λ n. inr (cut_some c.cut t.cut r.cut n)) (λ m. inl (m ∙ ap (λ (F : List Frame). Some (length F)) r.frames)) s
 
   met_silences : HasMet work t → IsSilenced work c
   met_silences m = inr (m ∙ ap (λ (F : List Frame). Some (length F)) (sym r.frames))

@@ -13,9 +13,10 @@ use Rattle.join_tale.specs.Keeping.{IsLast, IsOwnCode, IsTale, IsToldToHalt, Kee
 use Rattle.join_tale.specs.Steps.{TellsEnd, ended, ended_late, learned}
 use Rattle.join_tale.specs.Tales.{AreCaused, HasCome, IsBegun, IsOpen, Message, Tale, end_of}
 use Rattle.join_tale.proofs.Framing.{frames_end_front, frames_end_late, not_met, open_last}
-use Rattle.join_tale.proofs.Growing.{AreFresh, Grows, caused_more, ends_kept, fates_stay, found_more, known_more, lacked_grows, own_told}
+use Rattle.join_tale.proofs.Growing.{AreFresh, Grows, caused_more, ends_kept, fates_stay, found_more, known_more, lacked_grows, lacks_more, own_told}
 use Rattle.join_tale.proofs.Parts.{end_before_end}
 use Rattle.join_tale.proofs.Places.{not_both}
+use Rattle.join_tale.proofs.Room.{ends_late_pass, ends_pass, room_passes}
 use Rattle.join_tale.proofs.Steps.{memory_is}
 
 module _ (work : Work) (t : Tale) (k : ℕ) (h : How) (vs cs : List Interruption) (i : IsTale work t) (o : IsOpen t k) where
@@ -58,6 +59,7 @@ module _ (work : Work) (t : Tale) (k : ℕ) (h : How) (vs cs : List Interruption
         frames = frames;
         ends = ends_kept work t u g New (new_fresh u tells (own_so u caused (λ m n. (frames.ours m n).0)) last (λ e. ap is_memory e)) i.ends (λ j q m. end_before_end j k q h t.front m) (λ j q m. inl m) (λ j q r m n. among_nil (subst (λ l. IsAmong (end_of j r) l) empty n));
         fates = fates_stay work t u g i.fates refl refl;
+        room = room_passes work t u g (ends_pass work t i.frames k o h (t.set ++ vs) (t.seen ++ cs) (is_memory h)) i.room;
         caused = caused;
         lacked = λ e. inl (k, inl (subst (λ z. IsAmong (end_of k z) u.front) (memory_is h e) (among_last t.front (end_of k h))));
         stop = λ e. tells.memory (memory_is h e);
@@ -80,9 +82,10 @@ module _ (work : Work) (t : Tale) (k : ℕ) (h : How) (vs cs : List Interruption
         ends = ends_kept work t u g New (new_fresh u tells (own_so u caused (λ m n. (frames.ours m n).0)) last (λ e. or_right t.memory (is_memory h) (ap is_memory e))) i.ends (λ j q m. inl m) (λ j q m. end_before_end j k q h t.late m)
             (λ j q r m n. ⊎_elim (λ a. i.ends.apart j q r m a) (λ e. o.1 (subst (λ z. HasCome t z) e.0 (q, inl m))) (end_before_end j k r h t.late n));
         fates = fates_stay work t u g i.fates refl refl;
+        room = room_passes work t u g (ends_late_pass work t i.frames k o h (t.set ++ vs) (t.seen ++ cs) (t.memory || is_memory h)) i.room;
         caused = caused;
         lacked = λ e. ⊎_elim
-            (λ m. lacked_grows work t u g (λ z. z) (λ j z. z) (λ l. (l.0, l.1, l.2 ++ end_of k h ∷ [], ap (λ ms. ms ++ end_of k h ∷ []) l.3)) (i.lacked m))
+            (λ m. lacked_grows work t u g (λ z. z) (λ j z. z) (lacks_more work t u (end_of k h ∷ []) refl refl refl) (i.lacked m))
             (λ m. inl (k, inr (subst (λ z. IsAmong (end_of k z) u.late) (memory_is h m) (among_last t.late (end_of k h)))))
             (either t.memory (is_memory h) e);
         stop = λ e. known_more t vs cs 0 (i.stop c);

@@ -1,6 +1,7 @@
 -- What stays known while a tale goes on.
-use Rattle.std.proofs.Common.{◌≡◌, ◌⊎◌, ℕ, suc, ◌≤◌, true, List, ◌++◌, Some, is_some, inl, inr, sym, ◌∙◌, ap, subst, ⊎_elim, arith}
+use Rattle.std.proofs.Common.{◌≡◌, ◌⊎◌, ℕ, suc, ◌≤◌, true, List, [], ◌++◌, length, Some, is_some, inl, inr, sym, ◌∙◌, ap, subst, ⊎_elim, arith, append-nil}
 use Rattle.chunk_core.specs.Lists.{IsAmong}
+use Rattle.chunk_core.specs.Texts.{Frame}
 use Rattle.chunk_core.proofs.Filters.{among_append}
 use Rattle.chunk_core.proofs.Members.{among_cons, among_last, among_left, among_nil}
 use Rattle.chunk_core.specs.declared.code.Code.{Code}
@@ -13,10 +14,10 @@ use Rattle.interrupt_ctx.specs.declared.why.Why.TheVariants as why
 use Rattle.res_ledger.specs.declared.event.StreamNo.TheVariants.{Inner}
 use Rattle.run_rules.specs.Facts.{at}
 use Rattle.run_rules.specs.Work.{Work, runs_in_turn, until_by}
-use Rattle.join_tale.specs.Keeping.{HasLacked, IsEndedInTurn, IsHighest, IsLast, IsLoadLate, IsOuterStopped, IsOwnCode, IsPassedOver, IsToldToHalt, KeepsEnds, KeepsFates}
+use Rattle.join_tale.specs.Keeping.{HasLacked, IsEndedInTurn, IsHighest, IsLast, IsOuterStopped, IsOwnCode, IsPassedOver, IsToldToHalt, KeepsEnds, KeepsFates, LacksForLoad}
 use Rattle.join_tale.specs.Steps.{Marks, learned}
 use Rattle.join_tale.specs.Steps.Marks.{fresh, stale}
-use Rattle.join_tale.specs.Tales.{AreCaused, Came, Fate, HasCome, HasMet, IsBegun, IsCaused, IsFoundSet, IsKnown, Tale, end_of}
+use Rattle.join_tale.specs.Tales.{AreCaused, Came, Fate, HasCome, HasMet, IsBegun, IsCaused, IsFoundSet, IsKnown, Message, Tale, end_of, frames_of}
 use Rattle.join_tale.specs.Tales.Fate.{Skipped, Unmade}
 
 pub found_more : (t : Tale) (vs cs : List Interruption) (c : ℕ) → IsFoundSet t c → IsFoundSet (learned t vs cs) c
@@ -79,6 +80,19 @@ none_fresh work t u = record {
   one = λ k h g n. absurd n;
 }
 
+-- what memory was wanting for is a load still, where later messages alone came
+pub lacks_more : (work : Work) (t u : Tale) (ms : List Message) → u.late ≡ t.late ++ ms → u.cut ≡ t.cut → frames_of u.front ≡ frames_of t.front → (k : ℕ) → LacksForLoad work t k → LacksForLoad work u k
+lacks_more work t u ms late cut front k l = record {
+  load = l.load;
+  others = l.others ++ ms;
+  late = late ∙ ap (λ xs. xs ++ ms) l.late;
+  uncut = cut ∙ l.uncut;
+  unmet = λ m. l.unmet (m ∙ ap (λ (F : List Frame). Some (length F)) front);
+}
+
+pub lacks_still : (work : Work) (t u : Tale) → u.late ≡ t.late → u.cut ≡ t.cut → frames_of u.front ≡ frames_of t.front → (k : ℕ) → LacksForLoad work t k → LacksForLoad work u k
+lacks_still work t u late = lacks_more work t u [] (late ∙ sym (append-nil t.late))
+
 module _ (work : Work) (t u : Tale) (g : Grows t u) where
   pub last_grows : (k : ℕ) → IsLast work t k → IsLast work u k
   last_grows k l w j b = l w j (g.begun j b)
@@ -140,10 +154,10 @@ module _ (work : Work) (t u : Tale) (g : Grows t u) where
       (λ e. g.memory (i.outer_memory (sym outer ∙ e)))
 
   -- what memory was wanting for stays so
-  pub lacked_grows : (t.outer ≡ Some how.Memory → u.outer ≡ Some how.Memory) → ((k : ℕ) → at t.fates k ≡ Some Unmade → at u.fates k ≡ Some Unmade) → (IsLoadLate t → IsLoadLate u) → HasLacked t → HasLacked u
+  pub lacked_grows : (t.outer ≡ Some how.Memory → u.outer ≡ Some how.Memory) → ((k : ℕ) → at t.fates k ≡ Some Unmade → at u.fates k ≡ Some Unmade) → ((k : ℕ) → LacksForLoad work t k → LacksForLoad work u k) → HasLacked work t → HasLacked work u
   lacked_grows outer fates late h = ⊎_elim
       (λ c. inl (c.0, g.came c.0 how.Memory c.1))
-      (λ y. inr (⊎_elim (λ o. inl (outer o)) (λ z. inr (⊎_elim (λ f. inl (f.0, fates f.0 f.1)) (λ l. inr (late l)) z)) y))
+      (λ y. inr (⊎_elim (λ o. inl (outer o)) (λ z. inr (⊎_elim (λ f. inl (f.0, fates f.0 f.1)) (λ l. inr (l.0, late l.0 l.1)) z)) y))
       h
 
   -- a cause stays one

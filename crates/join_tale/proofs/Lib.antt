@@ -1,6 +1,8 @@
 pub mod Places
 pub mod Parts
+pub mod Ceasing
 pub mod Growing
+pub mod Room
 pub mod Framing
 pub mod Steps
 pub mod Receiving
@@ -8,6 +10,7 @@ pub mod Ending
 pub mod Endings
 pub mod Leaving
 pub mod Causes
+pub mod InRoom
 pub mod Stopping
 pub mod Undisturbed
 pub mod Worked

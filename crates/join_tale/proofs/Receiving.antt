@@ -10,9 +10,10 @@ use Rattle.join_tale.specs.Keeping.{IsLast, IsTale}
 use Rattle.join_tale.specs.Steps.{Marks, dropped, failed, lacked, learned, written}
 use Rattle.join_tale.specs.Tales.{Came, HasMet, IsOpen, Tale, end_of, frames_of, load_of}
 use Rattle.join_tale.proofs.Framing.{frames_drop, frames_fail, frames_lack, frames_write, not_met, open_last}
-use Rattle.join_tale.proofs.Growing.{Grows, NoEnd, cause_grows, caused_more, ends_kept, fates_stay, found_more, known_more, lacked_grows, marked_caused, marked_known, none_fresh}
+use Rattle.join_tale.proofs.Growing.{Grows, NoEnd, cause_grows, caused_more, ends_kept, fates_stay, found_more, known_more, lacked_grows, lacks_more, marked_caused, marked_known, none_fresh}
 use Rattle.join_tale.proofs.Parts.{end_before_load, more_frames, no_end}
 use Rattle.join_tale.proofs.Places.{not_both}
+use Rattle.join_tale.proofs.Room.{drops_pass, fails_pass, lacks_pass, room_passes, writes_pass}
 
 module _ (work : Work) (t : Tale) (k : ℕ) (x : List ℕ) (i : IsTale work t) (o : IsOpen t k) (full : 0 < length x) where
   last : IsLast work t k
@@ -35,6 +36,7 @@ module _ (work : Work) (t : Tale) (k : ℕ) (x : List ℕ) (i : IsTale work t) (
         frames = frames_write work t i.frames k x o last full t.set t.seen t.ceased c (λ e. absurd (not_both t.ceased c e)) (λ m. absurd (doesnt m));
         ends = ends_kept work t u g NoEnd (none_fresh work t u) i.ends (λ j h m. inl (end_before_load j k h x t.front m)) (λ j h m. inl m) (λ j h q m n. i.ends.apart j h q (end_before_load j k h x t.front m) n);
         fates = fates_stay work t u g i.fates refl refl;
+        room = room_passes work t u g (writes_pass work t i.frames k o x t.set t.seen t.ceased c) i.room;
         caused = λ d w m. cause_grows work t u g (λ z. absurd (unmet c z)) (λ z. z) (λ a e. e) d w (i.caused d w m);
         lacked = λ m. absurd (unwanting c m);
         stop = i.stop;
@@ -48,6 +50,7 @@ module _ (work : Work) (t : Tale) (k : ℕ) (x : List ℕ) (i : IsTale work t) (
         frames = frames_write work t i.frames k x o last full (t.set ++ vs) (t.seen ++ cs) true c (λ e. does) (λ m. refl);
         ends = ends_kept work t u g NoEnd (none_fresh work t u) i.ends (λ j h m. inl (end_before_load j k h x t.front m)) (λ j h m. inl m) (λ j h q m n. i.ends.apart j h q (end_before_load j k h x t.front m) n);
         fates = fates_stay work t u g i.fates refl refl;
+        room = room_passes work t u g (writes_pass work t i.frames k o x (t.set ++ vs) (t.seen ++ cs) true c) i.room;
         caused = caused_more work t u g vs (λ z. absurd (unmet c z)) (λ z. z) (λ a e. e) i.caused (marked_caused work u 0 why.Take vs cs mark (refl, does ∙ ap Some (sym (more_frames t.front k x))));
         lacked = λ m. absurd (unwanting c m);
         stop = λ e. marked_known t 0 why.Take vs cs mark;
@@ -68,6 +71,7 @@ module _ (work : Work) (t : Tale) (k : ℕ) (x : List ℕ) (i : IsTale work t) (
         frames = frames_fail work t i.frames k x o last full (t.set ++ vs) (t.seen ++ cs) c;
         ends = ends_kept work t u g NoEnd (none_fresh work t u) i.ends (λ j h m. inl m) (λ j h m. absurd (no_end_late j h m)) (λ j h q m n. no_end_late j q n);
         fates = fates_stay work t u g i.fates refl refl;
+        room = room_passes work t u g (fails_pass work t i.frames k o x (t.set ++ vs) (t.seen ++ cs) c) i.room;
         caused = caused_more work t u g vs (λ z. z) (λ z. refl) (λ a e. e) i.caused (marked_caused work u 0 why.Sink vs cs mark (refl, refl));
         lacked = λ m. absurd (unwanting c m);
         stop = λ e. marked_known t 0 why.Sink vs cs mark;
@@ -81,8 +85,9 @@ module _ (work : Work) (t : Tale) (k : ℕ) (x : List ℕ) (i : IsTale work t) (
         frames = frames_lack work t i.frames k x o last full (t.set ++ vs) (t.seen ++ cs) c;
         ends = ends_kept work t u g NoEnd (none_fresh work t u) i.ends (λ j h m. inl m) (λ j h m. absurd (no_end_late j h m)) (λ j h q m n. no_end_late j q n);
         fates = fates_stay work t u g i.fates refl refl;
+        room = room_passes work t u g (lacks_pass work t i.frames k o x (t.set ++ vs) (t.seen ++ cs)) i.room;
         caused = caused_more work t u g vs (λ z. z) (λ z. z) (λ a e. e) i.caused (marked_caused work u 0 why.Memory vs cs mark (refl, refl));
-        lacked = λ m. inr (inr (inr (k, x, [], refl)));
+        lacked = λ m. inr (inr (inr (k, record { load = x; others = []; late = refl; uncut = (i.frames.quiet c).1; unmet = unmet c })));
         stop = λ e. marked_known t 0 why.Memory vs cs mark;
       }
 
@@ -94,7 +99,8 @@ module _ (work : Work) (t : Tale) (k : ℕ) (x : List ℕ) (i : IsTale work t) (
         frames = frames_drop work t i.frames k x o last full c;
         ends = ends_kept work t u g NoEnd (none_fresh work t u) i.ends (λ j h m. inl m) (λ j h m. inl (end_before_load j k h x t.late m)) (λ j h q m n. i.ends.apart j h q m (end_before_load j k q x t.late n));
         fates = fates_stay work t u g i.fates refl refl;
+        room = room_passes work t u g (drops_pass work t i.frames k o x) i.room;
         caused = λ d w m. cause_grows work t u g (λ z. z) (λ z. z) (λ a e. e) d w (i.caused d w m);
-        lacked = λ m. lacked_grows work t u g (λ e. e) (λ j e. e) (λ l. (l.0, l.1, l.2 ++ load_of k x ∷ [], ap (λ ms. ms ++ load_of k x ∷ []) l.3)) (i.lacked m);
+        lacked = λ m. lacked_grows work t u g (λ e. e) (λ j e. e) (lacks_more work t u (load_of k x ∷ []) refl refl refl) (i.lacked m);
         stop = i.stop;
       }

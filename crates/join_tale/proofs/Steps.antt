@@ -14,8 +14,10 @@ use Rattle.join_tale.specs.Keeping.{IsEndedInTurn, IsHighest, IsOuterStopped, Is
 use Rattle.join_tale.specs.Steps.{Marks, MayBegin, TellsOuter, fated, first_tale, learned, outer_ended, unmade}
 use Rattle.join_tale.specs.Tales.{AreCaused, Fate, HasCome, IsBegun, IsCaused, IsFoundSet, IsKnown, Message, Tale, end_of}
 use Rattle.join_tale.specs.Tales.Fate.{Begun, Skipped, Unmade}
+use Rattle.join_tale.proofs.Ceasing.{cut_ceased, late_ceased, memory_ceased}
 use Rattle.join_tale.proofs.Framing.{frames_stay}
-use Rattle.join_tale.proofs.Growing.{Grows, NoEnd, cause_grows, caused_more, ends_kept, fates_kept, fates_stay, found_more, known_more, lacked_grows, marked_caused, marked_known, none_fresh, own_grows, own_told}
+use Rattle.join_tale.proofs.Growing.{Grows, NoEnd, cause_grows, caused_more, ends_kept, fates_kept, fates_stay, found_more, known_more, lacked_grows, lacks_still, marked_caused, marked_known, none_fresh, own_grows, own_told}
+use Rattle.join_tale.proofs.Room.{begun_room, room_passes, stays}
 use Rattle.join_tale.proofs.Places.{at_below, at_last, at_left, at_snoc, none_is_some, none_some, not_both, or_false, some_is}
 
 pub memory_is : (h : How) → is_memory h ≡ true → h ≡ how.Memory
@@ -75,6 +77,7 @@ starts work doesnt = record {
   frames = first_frames work [] [] false (λ e. absurd (not_both false refl e)) (λ m. absurd (doesnt m));
   ends = first_ends work [] [] false;
   fates = first_fates work [] [] false (λ m. absurd (doesnt m));
+  room = λ o is k b. absurd (none_some b);
   caused = λ c w m. absurd (among_nil m);
   lacked = λ m. absurd (not_both false refl m);
   stop = λ e. absurd (not_both false refl e);
@@ -87,6 +90,7 @@ starts_met work vs cs mark does =
       frames = first_frames work vs cs true (λ e. does) (λ e. refl);
       ends = first_ends work vs cs true;
       fates = first_fates work vs cs true (λ m. known);
+      room = λ o is k b. absurd (none_some b);
       caused = marked_caused work (record (learned first_tale vs cs) { ceased = true }) 0 why.Take vs cs mark (refl, does);
       lacked = λ m. absurd (not_both false refl m);
       stop = λ e. known;
@@ -95,23 +99,10 @@ starts_met work vs cs mark does =
 -- What is known of a tale.
 
 module _ (work : Work) (t : Tale) (i : IsTale work t) where
-  by_ceased : (b : Bool) → (b ≡ false → ⊥) → b ≡ true
-  by_ceased true n = refl
-  by_ceased false n = absurd (n refl)
-
-  pub late_ceased : (m : Message) → IsAmong m t.late → t.ceased ≡ true
-  late_ceased m n = by_ceased t.ceased (λ e. among_nil (subst (λ l. IsAmong m l) (i.frames.quiet e).0 n))
-
-  pub cut_ceased : is_some t.cut ≡ true → t.ceased ≡ true
-  cut_ceased c = by_ceased t.ceased (λ e. none_is_some t.cut (i.frames.quiet e).1 c)
-
-  pub memory_ceased : t.memory ≡ true → t.ceased ≡ true
-  memory_ceased m = by_ceased t.ceased (λ e. not_both t.memory (i.frames.quiet e).2 m)
-
   outer_by : (h : How) → t.outer ≡ Some h → h ≢ how.Done → IsKnown t 0
   outer_by how.Halted e n = inr (i.fates.outer_halted e)
   outer_by (how.Fault c) e n = i.fates.outer_fault c e
-  outer_by how.Memory e n = i.stop (memory_ceased (i.fates.outer_memory e))
+  outer_by how.Memory e n = i.stop (memory_ceased work t i (i.fates.outer_memory e))
   outer_by how.Done e n = absurd (n refl)
 
   -- where the outer stream was stopped, the code for all streams is known
@@ -127,8 +118,9 @@ module _ (work : Work) (t : Tale) (i : IsTale work t) where
         frames = frames_stay work t i.frames t.fates t.outer (t.set ++ vs) (t.seen ++ cs) t.ceased t.memory (λ e. (e, (i.frames.quiet e).2)) i.frames.ceased (λ e. e) (λ k b. b) (λ h k b. b);
         ends = ends_kept work t u g NoEnd (none_fresh work t u) i.ends (λ k h m. inl m) (λ k h m. inl m) i.ends.apart;
         fates = fates_stay work t u g i.fates refl refl;
+        room = room_passes work t u g (stays work t t.fates t.outer (t.set ++ vs) (t.seen ++ cs) t.ceased t.memory (λ k j l b e. e)) i.room;
         caused = caused_more work t u g vs (λ m. m) (λ c. c) (λ c e. e) i.caused (λ c w m. cause_grows work t u g (λ z. z) (λ z. z) (λ d e. e) c w (new c w m));
-        lacked = λ m. lacked_grows work t u g (λ e. e) (λ k e. e) (λ l. l) (i.lacked m);
+        lacked = λ m. lacked_grows work t u g (λ e. e) (λ k e. e) (lacks_still work t u refl refl refl) (i.lacked m);
         stop = λ e. known_more t vs cs 0 (i.stop e);
       }
 
@@ -143,15 +135,15 @@ module _ (work : Work) (t : Tale) (i : IsTale work t) where
   module _ (may : MayBegin work t) where
     begun_frames : KeepsFrames work (fated t Begun)
     begun_frames = frames_stay work t i.frames (t.fates ++ Begun ∷ []) t.outer t.set t.seen t.ceased t.memory (λ e. (e, (i.frames.quiet e).2)) i.frames.ceased (λ e. e) (λ k b. at_left t.fates (Begun ∷ []) k Begun b)
-        (λ h k b. absurd (may.run (i.stop (⊎_elim (λ m. i.frames.met m) (λ c. cut_ceased c) h))))
+        (λ h k b. absurd (may.run (i.stop (⊎_elim (λ m. i.frames.met m) (λ c. cut_ceased work t i c) h))))
 
     begun_ends : KeepsEnds work (fated t Begun)
     begun_ends = record {
       halted = λ k c. ⊎_elim (λ f. inl f) (λ f. absurd (may.run (inr f.0))) (i.ends.halted k c);
       fault = λ k c m. absurd (may.run (i.ends.fault k c m).0);
-      memory = λ k m. absurd (may.run (i.stop (memory_ceased (i.ends.memory k m).0)));
+      memory = λ k m. absurd (may.run (i.stop (memory_ceased work t i (i.ends.memory k m).0)));
       until = λ j k c is. let q = i.ends.until j k c is in (q.0, λ w b. ⊎_elim (λ o. q.1 w o) (λ e. absurd (may.own (subst (λ z. IsKnown t (suc z)) e.0 q.0))) (at_snoc t.fates Begun k Begun b));
-      late = λ k h m. absurd (may.run (i.stop (late_ceased _ m)));
+      late = λ k h m. absurd (may.run (i.stop (late_ceased work t i _ m)));
       in_turn = λ w k b. ⊎_elim
           (λ o. inl (may.alone w k o))
           (λ e. inr (λ j d. ⊎_elim (λ o. let l = at_below t.fates j Begun o in omega (arith, l, e.0)) (λ o. omega (arith, o.0, e.0)) (at_snoc t.fates Begun j Begun d)))
@@ -167,7 +159,7 @@ module _ (work : Work) (t : Tale) (i : IsTale work t) where
           (λ n. absurd (let q : Skipped ≡ Begun = n.1 in cc))
           (at_snoc t.fates Begun k Skipped e);
       unmade = λ k e. ⊎_elim
-          (λ o. absurd (may.run (i.stop (memory_ceased (i.fates.unmade k o).0))))
+          (λ o. absurd (may.run (i.stop (memory_ceased work t i (i.fates.unmade k o).0))))
           (λ n. absurd (let q : Unmade ≡ Begun = n.1 in cc))
           (at_snoc t.fates Begun k Unmade e);
       nobody = λ m. absurd (may.run (i.fates.nobody m).0);
@@ -177,7 +169,7 @@ module _ (work : Work) (t : Tale) (i : IsTale work t) where
     }
 
     pub begins : IsTale work (fated t Begun)
-    begins = record { frames = begun_frames; ends = begun_ends; fates = begun_fates; caused = λ c w m. cause_begun c w (i.caused c w m); lacked = λ m. absurd (may.run (i.stop (memory_ceased m))); stop = i.stop }
+    begins = record { frames = begun_frames; ends = begun_ends; fates = begun_fates; room = begun_room work t i may; caused = λ c w m. cause_begun c w (i.caused c w m); lacked = λ m. absurd (may.run (i.stop (memory_ceased work t i m))); stop = i.stop }
 
   -- a stream isn't begun
   module _ (f : Fate) (other : Begun ≡ f → ⊥) where
@@ -213,8 +205,9 @@ module _ (work : Work) (t : Tale) (i : IsTale work t) where
             (at_snoc t.fates Skipped k Skipped e))
             (λ k e. ⊎_elim (λ o. inl o) (λ n. absurd (let q : Unmade ≡ Skipped = n.1 in cc)) (at_snoc t.fates Skipped k Unmade e))
             (λ s. s) i.fates.outer_halted i.fates.outer_fault i.fates.outer_memory;
+        room = room_passes work t u g (stays work t (t.fates ++ Skipped ∷ []) t.outer t.set t.seen t.ceased t.memory (λ k j l b e. ⊎_elim (λ o. o) (λ n. absurd (let q : Unmade ≡ Skipped = n.1 in cc)) (at_snoc t.fates Skipped j Unmade e))) i.room;
         caused = λ c w m. cause_grows work t u g (λ z. z) (λ z. z) (λ d e. e) c w (i.caused c w m);
-        lacked = λ m. lacked_grows work t u g (λ e. e) (λ k e. at_left t.fates (Skipped ∷ []) k Unmade e) (λ l. l) (i.lacked m);
+        lacked = λ m. lacked_grows work t u g (λ e. e) (λ k e. at_left t.fates (Skipped ∷ []) k Unmade e) (lacks_still work t u refl refl refl) (i.lacked m);
         stop = i.stop;
       }
 
@@ -229,6 +222,7 @@ module _ (work : Work) (t : Tale) (i : IsTale work t) where
             (λ k e. ⊎_elim (λ o. inl o) (λ n. absurd (let q : Skipped ≡ Unmade = n.1 in cc)) (at_snoc t.fates Unmade k Skipped e))
             (λ k e. ⊎_elim (λ o. inl o) (λ n. inr (refl, λ w. above Unmade not_unmade k n.0)) (at_snoc t.fates Unmade k Unmade e))
             (λ s. s) (λ e. g.found 0 (i.fates.outer_halted e)) (λ c e. g.known 0 (i.fates.outer_fault c e)) (λ e. refl);
+        room = room_passes work t u g (stays work t (t.fates ++ Unmade ∷ []) t.outer (t.set ++ vs) (t.seen ++ cs) true true (λ k j l b e. ⊎_elim (λ o. o) (λ n. absurd (let m = at_below t.fates k Begun b in let q : j ≡ length t.fates = n.0 in omega (arith, m, q, l))) (at_snoc t.fates Unmade j Unmade e))) i.room;
         caused = caused_more work t u g vs (λ m. m) (λ c. c) (λ c e. e) i.caused (marked_caused work u 0 why.Memory vs cs mark (refl, refl));
         lacked = λ m. inr (inr (inl (length t.fates, at_last t.fates Unmade)));
         stop = λ e. marked_known t 0 why.Memory vs cs mark;
@@ -250,7 +244,8 @@ module _ (work : Work) (t : Tale) (i : IsTale work t) where
         ends = ends_kept work t u g NoEnd (none_fresh work t u) i.ends (λ k j m. inl m) (λ k j m. inl m) i.ends.apart;
         fates = fates_kept work t u g i.fates (λ k e. inl e) (λ k e. inl e) (λ s. absurd (none_some (sym none ∙ s.1)))
             (λ e. tells.halted (some_is h how.Halted e)) (λ c e. tells.fault c (some_is h (how.Fault c) e)) (λ e. or_right t.memory (is_memory h) (ap is_memory (some_is h how.Memory e)));
+        room = room_passes work t u g (stays work t t.fates (Some h) (t.set ++ vs) (t.seen ++ cs) (t.ceased || is_memory h) (t.memory || is_memory h) (λ k j l b e. e)) i.room;
         caused = caused_more work t u g vs (λ m. m) (λ c. c) (λ c e. absurd (none_some (sym none ∙ e))) i.caused tells.caused;
-        lacked = λ e. ⊎_elim (λ m. lacked_grows work t u g (λ o. absurd (none_some (sym none ∙ o))) (λ k f. f) (λ l. l) (i.lacked m)) (λ m. inr (inl (ap (λ q. Some q) (memory_is h m)))) (either t.memory (is_memory h) e);
+        lacked = λ e. ⊎_elim (λ m. lacked_grows work t u g (λ o. absurd (none_some (sym none ∙ o))) (λ k f. f) (lacks_still work t u refl refl refl) (i.lacked m)) (λ m. inr (inl (ap (λ q. Some q) (memory_is h m)))) (either t.memory (is_memory h) e);
         stop = λ e. ⊎_elim (λ c. known_more t vs cs 0 (i.stop c)) (λ m. tells.memory (memory_is h m)) (either t.ceased (is_memory h) e);
       }

@@ -18,26 +18,20 @@ use Rattle.run_rules.specs.Outputs.{NeverFall}
 use Rattle.run_rules.specs.Work.{Work, RunRecord, begun_frames, most_of, runs_in_turn}
 use Rattle.join_tale.specs.Ended.{Ended}
 use Rattle.join_tale.specs.Ended.Ended.{told, wanting, whole, halted, unmade, skipped}
-use Rattle.join_tale.specs.Keeping.{HasLacked, IsHighest, IsLast, IsTale}
-use Rattle.join_tale.specs.Records.{EndedSo, Follows, IsRecordOf, IsSettled}
+use Rattle.join_tale.specs.Keeping.{HasLacked, IsHighest, IsLast, IsTale, LacksForLoad}
+use Rattle.join_tale.specs.Records.{EndedSo, Follows, IsRecordOf, IsSettled, WantsFor}
 use Rattle.join_tale.specs.Tales.{Came, HasCome, HasMet, IsBegun, Message, Tale, end_of, frames_of, load_of, loads_of}
-use Rattle.join_tale.proofs.Causes.{end_of_inner, end_of_outer, halted_has_cause, inner_is, outer_is, own_stops, same_begun}
+use Rattle.join_tale.proofs.Causes.{act_begun, end_of_inner, end_of_outer, halted_has_cause, inner_is, outer_is, own_stops, same_begun, silenced_is}
 use Rattle.join_tale.proofs.Endings.{come_begun, ended_once}
+use Rattle.join_tale.proofs.InRoom.{begin_in_room}
 use Rattle.join_tale.proofs.Leaving.{left_fact, left_test}
 use Rattle.join_tale.proofs.Parts.{frame_came, loads_first}
-use Rattle.join_tale.proofs.Places.{at_below, some_is}
-
-cut_some : (o p : Option Frame) → o ≡ p → o ≢ None → is_some p ≡ true
-cut_some None p e n = absurd (n refl)
-cut_some (Some f) p e n = sym (ap (λ (q : Option Frame). is_some q) e)
+use Rattle.join_tale.proofs.Places.{at_below, none_is_some, some_is}
 
 module _ (work : Work) (t : Tale) (c : RunRecord) (i : IsTale work t) (r : IsRecordOf work t c) where
-  act_begun : (k : ℕ) → Acts (Inner k) c.events → IsBegun t k
-  act_begun k a = r.begun a.0 k a.1 a.2
-
   -- where one stream is open at a time no stream above k has an event
   last_events : (k : ℕ) → IsLast work t k → runs_in_turn work ≡ true → ends.IsLast k c.events
-  last_events k l w j a = l w j (act_begun j a)
+  last_events k l w j a = l w j (act_begun work t c i r j a)
 
   -- nothing was begun behind a stream that failed or found no memory
   failed_last : (k : ℕ) (h : How) → Ended t k h → IsFailure h ⊎ (h ≡ how.Memory) → IsLast work t k
@@ -48,15 +42,12 @@ module _ (work : Work) (t : Tale) (c : RunRecord) (i : IsTale work t) (r : IsRec
   failed_last k h (unmade e q) is = (i.fates.unmade k e).1
   failed_last k h (skipped e q) is = absurd (⊎_elim (λ f. let z : how.Halted ≡ how.Fault f.0 = sym q ∙ f.1 in cc) (λ s. let z : how.Halted ≡ how.Memory = sym q ∙ s in cc) is)
 
-  silenced_is : IsSilenced work c → HasMet work t ⊎ (is_some t.cut ≡ true)
-  silenced_is s = ⊎_elim (λ n. inr (cut_some c.cut t.cut r.cut n)) (λ m. inl (m ∙ ap (λ (F : List Frame). Some (length F)) r.frames)) s
-
   silence_stops : runs_in_turn work ≡ true → IsSilenced work c → IfSome (last_stream c) (λ j. ends.IsLast j c.events)
   silence_stops w s = by_last (last_or None (begun_frames c)) refl
     where
       by_last : (l : Option Frame) → last_or None (begun_frames c) ≡ l → IfSome (option_map (λ (f : Frame). f.stream) l) (λ j. ends.IsLast j c.events)
       by_last None e = tt
-      by_last (Some f) e = last_events f.stream (i.frames.last (silenced_is s) f (ap (λ (l : List Frame). last_or None l) (sym (same_begun work t c i r)) ∙ e)) w
+      by_last (Some f) e = last_events f.stream (i.frames.last (silenced_is work t c i r s) f (ap (λ (l : List Frame). last_or None l) (sym (same_begun work t c i r)) ∙ e)) w
 
   nobody_begins : most_of work ≡ Some 0 → (q : StreamNo) → ((n : ℕ) → q ≡ Inner n → IsBegun t n) → q ≡ Outer
   nobody_begins z Outer b = refl
@@ -67,7 +58,7 @@ module _ (work : Work) (t : Tale) (c : RunRecord) (i : IsTale work t) (r : IsRec
   come_acts k h = let l = left_fact k c.events (r.leaves k h) in (l.1.0, l.1.1, l.1.2)
 
   highest_events : (k : ℕ) → IsHighest t k → ends.IsLast k c.events
-  highest_events k l j a = l j (act_begun j a)
+  highest_events k l j a = l j (act_begun work t c i r j a)
 
   -- why nothing was begun behind a halted stream: one is open at a time, or it noted nothing
   abbrev IsAlone : ℕ → Type 0
@@ -92,7 +83,7 @@ module _ (work : Work) (t : Tale) (c : RunRecord) (i : IsTale work t) (r : IsRec
     stopped = record {
       failed = λ w e j m who is. last_events j (failed_last j e.how (inner_is work t c i r e j m who) is) w;
       silenced = silence_stops;
-      ended = λ w j k is less left a. (let last : k ≤ j = (i.ends.until j k (r.left j (left_test j c.events left)) is).1 w (act_begun k a) in omega (arith, last, less));
+      ended = λ w j k is less left a. (let last : k ≤ j = (i.ends.until j k (r.left j (left_test j c.events left)) is).1 w (act_begun work t c i r k a) in omega (arith, last, less));
       halted = λ e k m who is a. halted_stops k e.how (inner_is work t c i r e k m who) is a;
       nobody = λ z e m. nobody_begins z e.by (λ n b. r.begun e n m b);
     }
@@ -109,10 +100,6 @@ module _ (work : Work) (t : Tale) (c : RunRecord) (i : IsTale work t) (r : IsRec
   memory_by Outer h e is = i.fates.outer_memory (e ∙ ap (λ z. Some z) is)
   memory_by (Inner n) h e is = ended_memory n h e is
 
-  -- memory was wanting or a stream was halted, by an end
-  abbrev IsWanting : Type 0
-  IsWanting = (e : EndOf) × IsAmong e c.ends × ((e.how ≡ how.Memory) ⊎ (e.how ≡ how.Halted))
-
   -- the stream of an end that came late with a load left unwritten
   load_left : (k : ℕ) (h : How) (x : List ℕ) (ms : List Message) → t.late ≡ load_of k x ∷ ms → loads_of k t.late ≡ [] → ⊥
   load_left k h x ms e n = let q : x ∷ loads_of k ms ≡ [] = sym (loads_first k x ms) ∙ sym (ap (loads_of k) e) ∙ n in cc
@@ -125,27 +112,32 @@ module _ (work : Work) (t : Tale) (c : RunRecord) (i : IsTale work t) (r : IsRec
   late_load k h x ms e (unmade f q) = inl q
   late_load k h x ms e (skipped f q) = inr q
 
-  wants_by : (k : ℕ) → k < length t.fates → ((h : How) → Ended t k h → (h ≡ how.Memory) ⊎ (h ≡ how.Halted)) → IsWanting
-  wants_by k l by = let e = end_of_inner work t c i r k l in (e.0, e.1, by e.0.how (inner_is work t c i r e.0 k e.1 e.2))
-
-  wants_once : (k : ℕ) → k < length t.fates → Ended t k how.Memory → IsWanting
-  wants_once k l m = wants_by k l (λ h d. inl (ended_once work t k i h how.Memory d m))
+  wants_once : (k : ℕ) → k < length t.fates → Ended t k how.Memory → WantsFor work t c
+  wants_once k l m = let e = end_of_inner work t c i r k l in (e.0, e.1, inl (ended_once work t k i e.0.how how.Memory (inner_is work t c i r e.0 k e.1 e.2) m))
 
   come_ended : (k : ℕ) → Came t k how.Memory → Ended t k how.Memory
   come_ended k (inl m) = told m
   come_ended k (inr m) = wanting m refl
 
-  lacked_wants : HasLacked t → IsWanting
+  -- a stream has a load that memory was wanting for
+  wants_load : (k : ℕ) → LacksForLoad work t k → WantsFor work t c
+  wants_load k l =
+      let b : IsBegun t k = (i.frames.ours (load_of k l.load) (inr (subst (λ ms. IsAmong (load_of k l.load) ms) (sym l.late) (here l.others)))).0 in
+      let e = end_of_inner work t c i r k (at_below t.fates k _ b) in
+      let loud : ¬ (IsSilenced work c) = λ s. ⊎_elim (λ m. l.unmet m) (λ u. none_is_some t.cut l.uncut u) (silenced_is work t c i r s) in
+      (e.0, e.1, ⊎_elim (λ m. inl m) (λ h. inr (h, loud, (k, e.2, l))) (late_load k e.0.how l.load l.others l.late (inner_is work t c i r e.0 k e.1 e.2)))
+
+  lacked_wants : HasLacked work t → WantsFor work t c
   lacked_wants h = ⊎_elim
       (λ m. wants_once m.0 (at_below t.fates m.0 _ (come_begun work t m.0 i how.Memory m.1)) (come_ended m.0 m.1))
       (λ y. ⊎_elim
       (λ o. let e = end_of_outer work t c i r in (e.0, e.1, inl (some_is e.0.how how.Memory (sym (outer_is work t c i r e.0 e.1 e.2) ∙ o))))
-      (λ z. ⊎_elim
-      (λ f. wants_once f.0 (at_below t.fates f.0 _ f.1) (unmade f.1 refl))
-      (λ l. wants_by l.0 (at_below t.fates l.0 _ (i.frames.ours (load_of l.0 l.1) (inr (subst (λ ms. IsAmong (load_of l.0 l.1) ms) (sym l.3) (here l.2)))).0) (λ h d. late_load l.0 h l.1 l.2 l.3 d))
-      z)
+      (λ z. ⊎_elim (λ f. wants_once f.0 (at_below t.fates f.0 _ f.1) (unmade f.1 refl)) (λ l. wants_load l.0 l.1) z)
       y)
       h
+
+  pub wants_for : c.memory ≡ true → WantsFor work t c
+  wants_for m = lacked_wants (i.lacked (sym r.memory ∙ m))
 
   numbers : (f : Frame) → IsAmong f (frames_of t.front) → (f.stream < length work.streams) × (0 < length f.payload)
   numbers f m =
@@ -158,7 +150,7 @@ module _ (work : Work) (t : Tale) (c : RunRecord) (i : IsTale work t) (r : IsRec
     halted = halted_has_cause work t c i r settled;
     stopped = stopped settled;
     memory = λ e m is. r.memory ∙ memory_by e.who e.how (r.told e m) is;
-    wanting = λ m. lacked_wants (i.lacked (sym r.memory ∙ m));
+    begins = begin_in_room work t c i r settled;
     in_turn = λ w. subst (λ l. NeverFall l) (sym (same_begun work t c i r)) (i.frames.in_turn w);
     numbers = subst (λ (F : List Frame). AllByRecursion (λ (f : Frame). (f.stream < length work.streams) × (0 < length f.payload)) F) (sym r.frames) (each_among (λ (f : Frame). (f.stream < length work.streams) × (0 < length f.payload)) (frames_of t.front) numbers);
     few = subst (λ (l : List Frame). IfSome (most_of work) (λ n. length l ≤ n)) (sym (same_begun work t c i r)) i.frames.few;

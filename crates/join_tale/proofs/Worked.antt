@@ -1,5 +1,5 @@
 -- The tale that is written out, step by step, and those that can't be.
-use Rattle.std.proofs.Common.{◌≡◌, ℕ, zero, suc, ◌<◌, ◌≤◌, true, false, List, [], ◌∷◌, Some, inl, refl, ap, ⊎_elim, arith}
+use Rattle.std.proofs.Common.{◌≡◌, ℕ, zero, suc, ◌<◌, ◌≤◌, true, false, List, [], ◌∷◌, Some, inl, refl, ap, subst, ⊎_elim, arith}
 use Rattle.chunk_core.specs.Lists.{IsAmong}
 use Rattle.chunk_core.specs.Lists.IsAmong.{here, there}
 use Rattle.chunk_core.proofs.Members.{among_cons, among_nil}
@@ -11,14 +11,14 @@ use Rattle.interrupt_ctx.specs.declared.view.Interruption.{Interruption}
 use Rattle.interrupt_ctx.specs.declared.why.Why.TheVariants as why
 use Rattle.res_ledger.specs.declared.event.StreamNo.TheVariants.{Inner}
 use Rattle.run_rules.specs.Facts.{at}
-use Rattle.run_rules.specs.Work.{until_by}
+use Rattle.run_rules.specs.Work.{Opener, until_by}
 use Rattle.join_tale.specs.Ended.Ended.{halted, told}
 use Rattle.join_tale.specs.Keeping.{HasLacked, IsTale}
-use Rattle.join_tale.specs.Steps.{MayBegin, TellsEnd, TellsOuter, dropped, ended, ended_late, fated, first_tale, learned, outer_ended, written}
+use Rattle.join_tale.specs.Steps.{AreFewOpen, MayBegin, TellsEnd, TellsOuter, dropped, ended, ended_late, fated, first_tale, learned, outer_ended, written}
 use Rattle.join_tale.specs.Steps.Marks.{fresh}
 use Rattle.join_tale.specs.Tales.{HasCome, IsBegun, Message, Tale, end_of, load_of}
 use Rattle.join_tale.specs.Tales.Fate.{Begun, Unmade}
-use Rattle.join_tale.specs.Worked.{AreRefused, IsWorked, plain_tale, two_streams, worked_tale}
+use Rattle.join_tale.specs.Worked.{AreRefused, IsWorked, plain_tale, two_frames, two_streams, worked_tale}
 use Rattle.join_tale.proofs.Ending.{ends, ends_late}
 use Rattle.join_tale.proofs.Parts.{frame_of, no_end, same_end}
 use Rattle.join_tale.proofs.Places.{none_some, not_both, some_is}
@@ -69,6 +69,7 @@ may_0 = record {
   run = λ k. ⊎_elim (λ s. among_nil s.1) (λ s. among_nil s.1) k;
   own = λ k. ⊎_elim (λ s. among_nil s.1) (λ s. among_nil s.1) k;
   alone = λ w j b. absurd (none_some b);
+  few = λ o is. subst (λ (q : Opener). AreFewOpen q.max_open first_tale) (some_is two_frames o is) ([], omega arith, λ k b. absurd (none_some b.0));
 }
 
 may_1 : MayBegin two_streams done_0
@@ -76,6 +77,7 @@ may_1 = record {
   run = λ k. ⊎_elim (λ s. among_nil s.1) (λ s. among_nil s.1) k;
   own = λ k. ⊎_elim (λ s. among_nil s.1) (λ s. among_nil s.1) k;
   alone = λ w j b. by_number j b;
+  few = λ o is. subst (λ (q : Opener). AreFewOpen q.max_open done_0) (some_is two_frames o is) ([], omega arith, λ k b. absurd (b.1 (by_number k b.0)));
 }
   where
     by_number : (j : ℕ) → IsBegun done_0 j → HasCome done_0 j
@@ -146,10 +148,10 @@ is_worked = record {
 }
 
 -- no end came, and the only stream was begun
-lacks_nothing : HasLacked (record (plain_tale [] (Begun ∷ [])) { set = interruption 0 why.Memory ∷ []; ceased = true; memory = true }) → ⊥
+lacks_nothing : HasLacked two_streams (record (plain_tale [] (Begun ∷ [])) { set = interruption 0 why.Memory ∷ []; ceased = true; memory = true }) → ⊥
 lacks_nothing h = ⊎_elim
     (λ m. ⊎_elim (λ n. among_nil n) (λ n. among_nil n) m.1)
-    (λ y. ⊎_elim (λ o. none_some o) (λ z. ⊎_elim (λ f. begun_alone f.0 f.1) (λ l. no_first l.0 l.1 l.2 l.3) z) y)
+    (λ y. ⊎_elim (λ o. none_some o) (λ z. ⊎_elim (λ f. begun_alone f.0 f.1) (λ l. no_first l.0 l.1.load l.1.others l.1.late) z) y)
     h
   where
     begun_alone : (k : ℕ) → at (Begun ∷ []) k ≡ Some Unmade → ⊥

@@ -8,9 +8,10 @@ use Rattle.chunk_core.specs.declared.code.How.{How}
 use Rattle.chunk_core.specs.declared.code.How.TheVariants as how
 use Rattle.res_ledger.specs.declared.event.StreamNo.TheVariants.{Inner}
 use Rattle.run_rules.specs.Facts.{at}
+use Rattle.run_rules.specs.Ends.{PrintsBehind}
 use Rattle.run_rules.specs.Outputs.{NeverFall}
-use Rattle.run_rules.specs.Work.{Work, most_of, runs_in_turn, until_by}
-use Rattle.join_tale.specs.Tales.{AreCaused, Body, Came, HasCome, HasMet, IsBegun, IsFoundSet, IsKnown, IsSet, Message, Tale, end_of, frames_begun, load_of, loads_of}
+use Rattle.run_rules.specs.Work.{Opener, Work, most_of, runs_in_turn, until_by}
+use Rattle.join_tale.specs.Tales.{AreCaused, Body, Came, HasCome, HasMet, IsBegun, IsFoundSet, IsKnown, IsOpen, IsSet, Message, Tale, end_of, frames_begun, load_of, loads_of}
 use Rattle.join_tale.specs.Tales.Body.{End, Load}
 use Rattle.join_tale.specs.Tales.Fate.{Skipped, Unmade}
 
@@ -51,13 +52,17 @@ IsFull (End h) = Unit {0}
 abbrev pub HasCeased : Work → Tale → Type 0
 HasCeased work t = HasMet work t ⊎ (is_some t.cut ≡ true) ⊎ (t.memory ≡ true)
 
--- the first that came too late to be written is a load
-abbrev pub IsLoadLate : Tale → Type 0
-IsLoadLate t = (k : ℕ) × (x : List ℕ) × (ms : List Message) × (t.late ≡ load_of k x ∷ ms)
+-- the first that came too late to be written is a load of stream k, though no write failed and not enough frames were printed
+pub record LacksForLoad (work : Work) (t : Tale) (k : ℕ) : Type 0 where
+  pub load : List ℕ
+  pub others : List Message
+  pub late : t.late ≡ load_of k load ∷ others
+  pub uncut : t.cut ≡ None
+  pub unmet : ¬ (HasMet work t)
 
 -- memory was wanting for a stream that ended so, for the outer one, to make a stream, or to write a load
-abbrev pub HasLacked : Tale → Type 0
-HasLacked t = ((k : ℕ) × Came t k how.Memory) ⊎ (t.outer ≡ Some how.Memory) ⊎ ((k : ℕ) × (at t.fates k ≡ Some Unmade)) ⊎ IsLoadLate t
+abbrev pub HasLacked : Work → Tale → Type 0
+HasLacked work t = ((k : ℕ) × Came t k how.Memory) ⊎ (t.outer ≡ Some how.Memory) ⊎ ((k : ℕ) × (at t.fates k ≡ Some Unmade)) ⊎ ((k : ℕ) × LacksForLoad work t k)
 
 -- the frames and the loads that came too late to be written
 pub record KeepsFrames (work : Work) (t : Tale) : Type 0 where
@@ -91,10 +96,33 @@ pub record KeepsFates (work : Work) (t : Tale) : Type 0 where
   pub outer_fault : (c : Code) → t.outer ≡ Some (how.Fault c) → IsKnown t 0
   pub outer_memory : t.outer ≡ Some how.Memory → t.memory ≡ true
 
+-- Which streams were open when another one began.
+
+-- i has come to an end by which no further stream begins: it failed or found no memory, it was halted and not by its own code, its end came too late, or there was no memory to make it
+abbrev pub HasEndedAll : Work → Tale → ℕ → Type 0
+HasEndedAll work t i = ((c : Code) × Came t i (how.Fault c)) ⊎ Came t i how.Memory ⊎ (Came t i how.Halted × ¬ (IsFoundSet t (suc i) × IsEndedInTurn work t i)) ⊎ ((h : How) × IsAmong (end_of i h) t.late) ⊎ (at t.fates i ≡ Some Unmade)
+
+-- no more is printed, and i printed last
+abbrev pub PrintedLast : Work → Tale → ℕ → Type 0
+PrintedLast work t i = (HasMet work t ⊎ (is_some t.cut ≡ true)) × (f : Frame) × (last_or None (frames_begun t) ≡ Some f) × (f.stream ≡ i)
+
+-- i is open, or it was when k began: it printed behind k, by its end no further stream begins, it printed last, or its end stops k
+abbrev pub WasOpen : Work → Tale → ℕ → ℕ → Type 0
+WasOpen work t k i = IsOpen t i ⊎ PrintsBehind (frames_begun t) k i ⊎ HasEndedAll work t i ⊎ PrintedLast work t i ⊎ ((until_by work (Inner k) ≡ Some i) × HasCome t i)
+
+-- fewer than `width` of the streams before k were open when it began
+abbrev pub HadRoom : ℕ → Work → Tale → ℕ → Type 0
+HadRoom width work t k = (others : List ℕ) × (length others < width) × ((i : ℕ) → i < k → WasOpen work t k i → IsAmong i others)
+
+-- each stream began in room that was there
+abbrev pub KeepsRoom : Work → Tale → Type 0
+KeepsRoom work t = (o : Opener) → work.opener ≡ Some o → (k : ℕ) → IsBegun t k → HadRoom o.max_open work t k
+
 pub record IsTale (work : Work) (t : Tale) : Type 0 where
   pub frames : KeepsFrames work t
   pub ends : KeepsEnds work t
   pub fates : KeepsFates work t
+  pub room : KeepsRoom work t
   pub caused : AreCaused work t t.set
-  pub lacked : t.memory ≡ true → HasLacked t
+  pub lacked : t.memory ≡ true → HasLacked work t
   pub stop : t.ceased ≡ true → IsKnown t 0

@@ -1,5 +1,5 @@
 -- What follows of a tale.
-use Rattle.std.specs.Prelude.{◌≡◌, ◌≢◌, ◌⊎◌, ℕ, ◌<◌, false, ◌++◌, List, [], ◌∷◌, flat_map, length, Option, Some}
+use Rattle.std.specs.Prelude.{◌≡◌, ◌≢◌, ◌⊎◌, ℕ, ◌<◌, true, false, ◌++◌, List, [], ◌∷◌, flat_map, length, Option, Some}
 use Rattle.chunk_core.specs.Lists.{IsAmong}
 use Rattle.chunk_core.specs.Outcomes.{Cut}
 use Rattle.chunk_core.specs.Texts.{Frame, payloads_of}
@@ -11,7 +11,7 @@ use Rattle.run_rules.specs.Outputs.{IsReported}
 use Rattle.run_rules.specs.Work.{Work, Opener, RunRecord, Stream}
 use Rattle.join_tale.specs.Ended.{Ended}
 use Rattle.join_tale.specs.Keeping.{IsTale}
-use Rattle.join_tale.specs.Records.{Follows, IsRecordOf, IsSettled, IsUndisturbed, bare}
+use Rattle.join_tale.specs.Records.{Follows, IsRecordOf, IsSettled, IsUndisturbed, WantsFor, bare}
 use Rattle.join_tale.specs.Steps.{dropped, ended, ended_late, failed, lacked, written}
 use Rattle.join_tale.specs.Tales.{Came, HasCome, IsBegun, Message, Tale, frames_of, load_of, loads_in, loads_of, loads_received}
 use Rattle.join_tale.specs.Tales.Fate.{Unmade}
@@ -19,6 +19,10 @@ use Rattle.join_tale.specs.Tales.Fate.{Unmade}
 -- a record that tells a tale, once what was found is set
 abbrev pub RecordFollows : Work → Type 0
 RecordFollows work = (t : Tale) (c : RunRecord) → IsTale work t → IsSettled t → IsRecordOf work t c → Follows work c
+
+-- for what memory was wanting, where a record says so that tells a tale
+abbrev pub MemoryWasWanting : Work → Type 0
+MemoryWasWanting work = (t : Tale) (c : RunRecord) → IsTale work t → IsRecordOf work t c → c.memory ≡ true → WantsFor work t c
 
 -- where nothing stopped a stream, each is done
 abbrev pub UndisturbedIsDone : Work → Type 0

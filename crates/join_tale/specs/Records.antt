@@ -10,11 +10,12 @@ use Rattle.res_ledger.specs.declared.event.Event.{Event}
 use Rattle.res_ledger.specs.declared.event.StreamNo.{StreamNo}
 use Rattle.res_ledger.specs.declared.event.StreamNo.TheVariants.{Outer, Inner}
 use Rattle.run_rules.specs.declared.end.EndOf.{EndOf}
-use Rattle.run_rules.specs.Ends.{HasCauseToHalt, IsStopped}
+use Rattle.run_rules.specs.Ends.{BeginInRoom, HasCauseToHalt, IsSilenced, IsStopped}
 use Rattle.run_rules.specs.Facts.{has_left, is_fault}
 use Rattle.run_rules.specs.Outputs.{NeverFall}
 use Rattle.run_rules.specs.Work.{Work, Opener, RunRecord, Stream, begun_frames, most_of, names_of, runs_in_turn}
 use Rattle.join_tale.specs.Ended.{Ended}
+use Rattle.join_tale.specs.Keeping.{LacksForLoad}
 use Rattle.join_tale.specs.Tales.{HasCome, IsBegun, IsSet, Tale, frames_of}
 
 -- a run of which it isn't said what its streams give: a tale, why a stream may be halted and what may begin don't depend on that
@@ -48,10 +49,14 @@ pub record Follows (work : Work) (c : RunRecord) : Type 0 where
   pub halted : (e : EndOf) → IsAmong e c.ends → e.how ≡ how.Halted → HasCauseToHalt work c e.who
   pub stopped : IsStopped work c
   pub memory : (e : EndOf) → IsAmong e c.ends → e.how ≡ how.Memory → c.memory ≡ true
-  pub wanting : c.memory ≡ true → (e : EndOf) × IsAmong e c.ends × ((e.how ≡ how.Memory) ⊎ (e.how ≡ how.Halted))
+  pub begins : BeginInRoom work.opener work c
   pub in_turn : runs_in_turn work ≡ true → NeverFall (begun_frames c)
   pub numbers : AllByRecursion (λ f. (f.stream < length work.streams) × (0 < length f.payload)) c.frames
   pub few : IfSome (most_of work) (λ n. length (begun_frames c) ≤ n)
+
+-- memory was wanting for an end that says so, or for a load of stream k, which was halted though frames could be printed
+abbrev pub WantsFor : Work → Tale → RunRecord → Type 0
+WantsFor work t c = (e : EndOf) × IsAmong e c.ends × ((e.how ≡ how.Memory) ⊎ ((e.how ≡ how.Halted) × ¬ (IsSilenced work c) × ((k : ℕ) × (e.who ≡ Inner k) × LacksForLoad work t k)))
 
 -- nothing that stops a stream came about: all was written, memory was never wanting, fewer frames were printed than may be, no stream ends with another, and none failed
 pub record IsUndisturbed (work : Work) (c : RunRecord) : Type 0 where

@@ -9,7 +9,8 @@ use Rattle.interrupt_ctx.specs.declared.why.Why.{Why}
 use Rattle.interrupt_ctx.specs.declared.why.Why.TheVariants as why
 use Rattle.res_ledger.specs.declared.event.StreamNo.TheVariants.{Inner}
 use Rattle.run_rules.specs.Facts.{is_memory}
-use Rattle.run_rules.specs.Work.{Work, most_of, runs_in_turn, until_by}
+use Rattle.chunk_core.specs.Lists.{IsAmong}
+use Rattle.run_rules.specs.Work.{Opener, Work, most_of, runs_in_turn, until_by}
 use Rattle.join_tale.specs.Keeping.{IsOuterStopped, IsOwnCode, IsTale}
 use Rattle.join_tale.specs.Tales.{AreCaused, Fate, HasCome, IsBegun, IsCaused, IsFoundSet, IsKnown, IsOpen, Tale, end_of, frames_of, load_of}
 use Rattle.join_tale.specs.Tales.Fate.{Begun, Skipped, Unmade}
@@ -78,11 +79,16 @@ pub record TellsOuter (work : Work) (u : Tale) (h : How) (vs : List Interruption
   pub fault : (c : Code) → h ≡ how.Fault c → IsKnown u 0
   pub memory : h ≡ how.Memory → IsKnown u 0
 
--- a stream may begin: its contexts aren't set, and where one stream is open at a time all that were begun have ended
+-- fewer than `width` streams are open
+abbrev pub AreFewOpen : ℕ → Tale → Type 0
+AreFewOpen width t = (others : List ℕ) × (length others < width) × ((k : ℕ) → IsOpen t k → IsAmong k others)
+
+-- a stream may begin: its contexts aren't set, fewer are open than may be, and where one stream is open at a time all that were begun have ended
 pub record MayBegin (work : Work) (t : Tale) : Type 0 where
   pub run : ¬ (IsKnown t 0)
   pub own : ¬ (IsKnown t (suc (length t.fates)))
   pub alone : runs_in_turn work ≡ true → (j : ℕ) → IsBegun t j → HasCome t j
+  pub few : (o : Opener) → work.opener ≡ Some o → AreFewOpen o.max_open t
 
 -- how a tale begins, and what keeps it
 pub record StepsKeepTale (work : Work) : Type 0 where

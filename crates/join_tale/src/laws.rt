@@ -1,5 +1,5 @@
 //! Laws of tales, each the contract of a function that does nothing.
-ghost use Rattle.join_tale.specs.Laws.{ForAll, LoadsAreReceived, OutputsFollow, RecordFollows, StreamsEndOnce, UndisturbedIsDone};
+ghost use Rattle.join_tale.specs.Laws.{ForAll, LoadsAreReceived, MemoryWasWanting, OutputsFollow, RecordFollows, StreamsEndOnce, UndisturbedIsDone};
 ghost use Rattle.join_tale.specs.Steps.{MarksAreKnown, StepsKeepTale};
 ghost use Rattle.join_tale.specs.Worked.{AreRefused, IsWorked};
 
@@ -20,10 +20,11 @@ pub fn outputs_follow()
     ensures received { ForAll LoadsAreReceived }
 {}
 
-/// What a record tells of causes, and of what begins behind a stop; and that each stream is done
-/// where nothing stopped one.
+/// What a record tells of causes, of what begins behind a stop, and of want of memory; and that each
+/// stream is done where nothing stopped one.
 pub fn records_follow()
     ensures follows { ForAll RecordFollows }
+    ensures wanting { ForAll MemoryWasWanting }
     ensures done { ForAll UndisturbedIsDone }
 {}
 

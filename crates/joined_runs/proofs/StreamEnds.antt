@@ -178,8 +178,8 @@ module _ (opener : Opener) (ss : List Stream) (runs ideal : ℕ → Values → (
           caused = each_among (EndIsCaused (work opener ss runs ideal c r) c) c.ends (λ e i. caused_by e.who e.how (r.recorded.told e i) (f.halted e i));
           outer = outer_first c.ends _ refl r.recorded.named;
           stopped = record { failed = f.stopped.failed; silenced = f.stopped.silenced; ended = f.stopped.ended; halted = f.stopped.halted; nobody = f.stopped.nobody };
+          begins = f.begins;
           memory = f.memory;
-          wanting = f.wanting;
         }
 
   -- where frames had ceased, a halted stream's exit may be hidden

@@ -1,5 +1,5 @@
 -- What was printed of streams that ran side by side.
-use Rattle.std.proofs.Common.{◌≡◌, ℕ, suc, ◌+◌, ◌<◌, true, false, cond, if◌then◌else◌, nat_eq, filter, List, [], ◌∷◌, ◌++◌, inl, map, flat_map, drop, length, Option, Some, None, refl, sym, ◌∙◌, ap, subst, ⊎_elim, arith, append-nil, append_assoc}
+use Rattle.std.proofs.Common.{◌≡◌, ℕ, suc, ◌+◌, ◌<◌, ◌⊎◌, true, false, cond, if◌then◌else◌, nat_eq, filter, List, [], ◌∷◌, ◌++◌, inl, inr, map, flat_map, drop, length, Option, Some, None, refl, sym, ◌∙◌, ap, subst, ⊎_elim, arith, append-nil, append_assoc}
 use Rattle.chunk_core.specs.Elements.{Element, rendering_of}
 use Rattle.chunk_core.specs.Lists.{IsAmong}
 use Rattle.chunk_core.specs.Lists.IsAmong.{here, there}
@@ -7,19 +7,24 @@ use Rattle.chunk_core.specs.Outcomes.{Cut, Outcomes}
 use Rattle.chunk_core.specs.Tables.{Values}
 use Rattle.chunk_core.specs.Texts.{Frame, IsRestOf, payloads_of}
 use Rattle.chunk_core.specs.declared.code.How.{How}
+use Rattle.chunk_core.specs.declared.code.How.TheVariants as how
 use Rattle.res_ledger.specs.declared.event.StreamNo.TheVariants.{Inner, Outer}
 use Rattle.device_port.specs.Device.{DeviceTold}
 use Rattle.run_rules.specs.declared.end.EndOf.{EndOf}
+use Rattle.run_rules.specs.Ends.{IsSilenced}
 use Rattle.run_rules.specs.Facts.{at}
+use Rattle.run_rules.specs.Memory.{IsWanting, LostPiece}
 use Rattle.run_rules.specs.Outputs.{AreOutputs, HaveOutputs, IsOutput, IsReported, IsRest, elements_in_pieces, payloads_by}
 use Rattle.run_rules.specs.Work.{Opener, RunRecord, Stream, Work, names_from, first_row_of}
 use Rattle.join_tale.specs.Ended.{Ended}
+use Rattle.join_tale.specs.Keeping.{LacksForLoad}
 use Rattle.join_tale.specs.Laws.{OutputsFollow}
 use Rattle.join_tale.specs.Records.{EndedSo, Follows, bare}
-use Rattle.join_tale.specs.Tales.{Body, Came, IsBegun, Message, frames_in, frames_of, loads_in, loads_of}
+use Rattle.join_tale.specs.Tales.{Body, Came, IsBegun, Message, frames_in, frames_of, load_of, loads_in, loads_of}
 use Rattle.join_tale.specs.Tales.Body.{End, Load}
 use Rattle.join_tale.proofs.Endings.{come_begun, outputs_follow}
-use Rattle.join_tale.proofs.Stopping.{record_follows}
+use Rattle.join_tale.proofs.Parts.{loads_first}
+use Rattle.join_tale.proofs.Stopping.{record_follows, wants_for}
 use Rattle.plan_work.specs.Joined.{joined}
 use Rattle.joined_runs.specs.Together.{HasNotRun, HasRun, RunsTogether}
 use Rattle.joined_runs.proofs.Covered.{AreCovered}
@@ -172,3 +177,34 @@ module _ (opener : Opener) (ss : List Stream) (runs ideal : ℕ → Values → (
 
     pub stream_outputs : HaveOutputs work c r.values r.home
     stream_outputs = record { numbers = follows.numbers; few = follows.few; in_turn = follows.in_turn; outputs = outputs_by c.ends refl r.recorded.named; rest = rest_of c.cut refl r.rest }
+
+    -- a load of stream k that memory was wanting for goes on with a run of it
+    lost_piece : (e : EndOf) → e.how ≡ how.Halted → ¬ (IsSilenced plain_work c) → (k : ℕ) → e.who ≡ Inner k → LacksForLoad plain_work r.tale k → LostPiece work c r.values r.home e
+    lost_piece e halted printing k who l =
+        let b = r.is_tale.frames.ours (load_of k l.load) (inr (subst (λ ms. IsAmong (load_of k l.load) ms) (sym l.late) (here l.others))) in
+        let s = at_some ss k (begun_below k b.0) in
+        let front = loads_of k r.tale.front in
+        let rest = loads_of k l.others in
+        ⊎_elim
+        (λ x.
+        let late : loads_of k r.tale.late ≡ l.load ∷ rest = ap (loads_of k) l.late ∙ loads_first k l.load l.others in
+        let loads : map rendering_of x.pieces ≡ (front ++ l.load ∷ []) ++ rest = sym x.received ∙ (ap (λ y. front ++ y) late ∙ sym (append_assoc front (l.load ∷ []) rest)) in
+        let p = map_parts rendering_of x.pieces (front ++ l.load ∷ []) rest loads in
+        record {
+          halted = halted;
+          printing = printing;
+          stream = k;
+          who = who;
+          payload = l.load;
+          some = b.1;
+          pieces = p.0;
+          run = front_run k s.0 s.1 x p.0 p.1 p.2;
+          goes_on = ap (λ y. y ++ l.load ∷ []) (framed k) ∙ sym p.3;
+        })
+        (λ u. absurd (u.unbegun b.0))
+        (r.each k s.0 s.1)
+
+    pub stream_wants : c.memory ≡ true → IsWanting work c r.values r.home
+    stream_wants m =
+        let h = wants_for plain_work r.tale c r.is_tale r.recorded m in
+        (h.0, h.1, ⊎_elim (λ z. inl z) (λ z. inr (lost_piece h.0 z.0 z.1 z.2.0 z.2.1 z.2.2)) h.2)

@@ -38,7 +38,7 @@ use Rattle.res_ledger.proofs.Permuted.{among_range, range_among}
 use Rattle.joined_runs.proofs.RowAccounts.{AreRowsKept, clean}
 use Rattle.joined_runs.proofs.SharesKept.{shares_kept}
 use Rattle.joined_runs.proofs.StreamEnds.{fault_run, no_fault_undone, outer_so, reported_done, stream_ends, stream_exits, stream_of_end}
-use Rattle.joined_runs.proofs.StreamOutputs.{Ran, ended_as, follows, never_came, outputs_law, plain_work, stream_outputs, whole_printed}
+use Rattle.joined_runs.proofs.StreamOutputs.{Ran, ended_as, follows, never_came, outputs_law, plain_work, stream_outputs, stream_wants, whole_printed}
 use Rattle.joined_runs.proofs.StreamRows.{inside}
 use Rattle.joined_runs.proofs.TableFaults.{tables_well}
 
@@ -144,6 +144,7 @@ module _ (opener : Opener) (refuses : RefusesTables opener) (ss : List Stream) (
       outputs = stream_outputs opener ss runs ideal c r covers;
       ends = stream_ends opener ss runs ideal c r refuses covers;
       exits = stream_exits opener ss runs ideal c r covers;
+      wanting = stream_wants opener ss runs ideal c r covers;
       completeness = whole_run;
     });
   }

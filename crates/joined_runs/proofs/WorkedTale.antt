@@ -1,5 +1,5 @@
 -- The tale of the run that is written out, step by step.
-use Rattle.std.proofs.Common.{◌≡◌, ℕ, zero, suc, true, List, [], ◌∷◌, Option, Some, inl, inr, refl, ⊎_elim, arith}
+use Rattle.std.proofs.Common.{◌≡◌, ℕ, zero, suc, true, List, [], ◌∷◌, Option, Some, inl, inr, refl, subst, ⊎_elim, arith}
 use Rattle.std.specs.Prelude.{codes}
 use Rattle.std.proofs.lemmas.Bool.{false≢true}
 use Rattle.chunk_core.specs.Lists.{IsAmong}
@@ -10,12 +10,12 @@ use Rattle.chunk_core.specs.declared.code.How.TheVariants as how
 use Rattle.interrupt_ctx.specs.Views.{interruption}
 use Rattle.interrupt_ctx.specs.declared.why.Why.TheVariants as why
 use Rattle.res_ledger.specs.declared.event.StreamNo.TheVariants.{Inner}
-use Rattle.run_rules.specs.Work.{Work, until_by}
+use Rattle.run_rules.specs.Work.{Opener, Work, until_by}
 use Rattle.join_tale.specs.Ended.{Ended}
 use Rattle.join_tale.specs.Ended.Ended.{halted, whole}
 use Rattle.join_tale.specs.Keeping.{IsTale}
 use Rattle.join_tale.specs.Records.{IsSettled, bare}
-use Rattle.join_tale.specs.Steps.{MayBegin, TellsEnd, TellsOuter, dropped, ended_late, fated, first_tale, learned, outer_ended, written}
+use Rattle.join_tale.specs.Steps.{AreFewOpen, MayBegin, TellsEnd, TellsOuter, dropped, ended_late, fated, first_tale, learned, outer_ended, written}
 use Rattle.join_tale.specs.Steps.Marks.{fresh}
 use Rattle.join_tale.specs.Tales.{Came, HasCome, IsBegun, IsOpen, Message, Tale, end_of, load_of}
 use Rattle.join_tale.specs.Tales.Fate.{Begun}
@@ -77,6 +77,7 @@ may_0 = record {
   run = λ k. ⊎_elim (λ s. among_nil s.1) (λ s. among_nil s.1) k;
   own = λ k. ⊎_elim (λ s. among_nil s.1) (λ s. among_nil s.1) k;
   alone = λ w. absurd (false≢true w);
+  few = λ o is. subst (λ (q : Opener). AreFewOpen q.max_open first_tale) (some_is one_frame o is) ([], omega arith, λ k b. absurd (none_some b.0));
 }
 
 may_1 : MayBegin plain begun_0
@@ -84,7 +85,12 @@ may_1 = record {
   run = λ k. ⊎_elim (λ s. among_nil s.1) (λ s. among_nil s.1) k;
   own = λ k. ⊎_elim (λ s. among_nil s.1) (λ s. among_nil s.1) k;
   alone = λ w. absurd (false≢true w);
+  few = λ o is. subst (λ (q : Opener). AreFewOpen q.max_open begun_0) (some_is one_frame o is) (0 ∷ [], omega arith, λ k b. first k b.0);
 }
+  where
+    first : (k : ℕ) → IsBegun begun_0 k → IsAmong k (0 ∷ [])
+    first zero b = here []
+    first (suc k) b = absurd (none_some b)
 
 both_begun : IsTale plain begun_1
 both_begun = begins plain begun_0 (begins plain first_tale (starts plain one_zero) may_0) may_1

@@ -80,7 +80,7 @@ root_closed b (Some y) x e r = r
 some_how : (a b : How) → Some a ≡ Some b → a ≡ b
 some_how a b e = cc
 
-module _ {S V F D T : Type 0} (view : S → View V) (told : V → DeviceTold) (fits : S → D → Type 0) (values : T → Values) (P : Values → StateMeaning F) (p : PlanMeant) (d0 : DepotTold) (s0 : SinkTold) (t : Values) (depot : DepotTold) (sink : SinkTold) (d : D) (c : Collector S V F V D T)
+module _ {S V F D T : Type 0} (view : S → View V) (told : V → DeviceTold) (fits : S → D → Type 0) (values : T → Values) (P : Values → StateMeaning F) (p : PlanMeant) (d0 : DepotTold) (s0 : SinkTold) (t : Values) (depot : DepotTold) (sink : SinkTold) (d : D) (c : Collector S V F D T)
     (i : IsCollecting view told fits values P p d0 s0 t 1 depot sink d c) (none_waits : c.waiting.items ≡ []) (none_open : c.jobs.items ≡ []) where
   -- the collector has come to its end: how its outer stream ended, and what stands
   pub record IsAtEnd : Type 0 where

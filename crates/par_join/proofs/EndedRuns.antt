@@ -39,7 +39,7 @@ nothing_among : {A : Type 0} (xs : List A) → ((x : A) → IsAmong x xs → ⊥
 nothing_among [] n = refl
 nothing_among (x ∷ xs) n = absurd (n x (here xs))
 
-module _ {S V F D T : Type 0} (view : S → View V) (told : V → DeviceTold) (fits : S → D → Type 0) (values : T → Values) (P : Values → StateMeaning F) (says : (v : Values) → (P v).values ≡ v) (p : PlanMeant) (limits : IsSoundPlan p) (d0 : DepotTold) (s0 : SinkTold) (t : Values) (depot : DepotTold) (sink : SinkTold) (d : D) (c : Collector S V F V D T)
+module _ {S V F D T : Type 0} (view : S → View V) (told : V → DeviceTold) (fits : S → D → Type 0) (values : T → Values) (P : Values → StateMeaning F) (says : (v : Values) → (P v).values ≡ v) (p : PlanMeant) (limits : IsSoundPlan p) (d0 : DepotTold) (s0 : SinkTold) (t : Values) (depot : DepotTold) (sink : SinkTold) (d : D) (c : Collector S V F D T)
     (i : IsCollecting view told fits values P p d0 s0 t 1 depot sink d c) (none_waits : c.waiting.items ≡ []) (none_open : c.jobs.items ≡ []) where
   abbrev pub it : IsAtEnd view told fits values P p d0 s0 t depot sink d c i none_waits none_open
   it = at_end view told fits values P p d0 s0 t depot sink d c i none_waits none_open

@@ -1,5 +1,5 @@
 -- A collector over the room of a run is fresh.
-use Rattle.std.proofs.Common.{◌≡◌, ℕ, ◌+◌, ◌-◌, ◌^◌, ◌≤◌, List, [], ◌∷◌, length, refl, sym, ap, ◌∙◌, arith}
+use Rattle.std.proofs.Common.{◌≡◌, ℕ, ◌+◌, ◌≤◌, List, [], ◌∷◌, length, refl, sym, ap, ◌∙◌, arith}
 use Rattle.std.specs.List.{sum_by}
 use Rattle.std.proofs.lemmas.List.Sums.{sum_by-cons}
 use Rattle.collector.specs.Starting.{IsFirstSeat}
@@ -17,17 +17,17 @@ sum_ones f [] = refl
 sum_ones f (x ∷ xs) = let a = sum_by-cons (λ y. 1 + f y) x xs in let b = sum_by-cons f x xs in let i = sum_ones f xs in omega (arith, a, b, i)
 
 -- the seat of a run has all rows and room for all events
-pub first_seat : {P : Type 0} (p : PlanMeant) (v : View P) → length p.streams ≤ 1024 → v ≡ start Outer (all_rows p) (all_events p) (2 ^ 32 - 1) → IsFirstSeat p v
-first_seat p v few e = record {
+pub first_seat : {P : Type 0} (p : PlanMeant) (v : View P) → v ≡ start Outer (all_rows p) (all_events p) (length p.streams) → IsFirstSeat p v
+first_seat p v e = record {
   rows = all_rows p;
   events = all_events p;
-  splits = 2 ^ 32 - 1;
+  splits = length p.streams;
   is = e;
   all_rows = omega arith;
   all_events = let s = sum_ones (λ (s : StreamSpec). stream_events (length p.tables) s) p.streams in omega (arith, s);
-  all_splits = omega (arith, few);
+  all_splits = omega arith;
 }
 
 -- the outer stream begins at it
-pub begins_there : {P : Type 0} (p : PlanMeant) (v : View P) → v ≡ start Outer (all_rows p) (all_events p) (2 ^ 32 - 1) → (rows events : ℕ) × (1 ≤ events) × (v ≡ start Outer rows events v.splits)
+pub begins_there : {P : Type 0} (p : PlanMeant) (v : View P) → v ≡ start Outer (all_rows p) (all_events p) (length p.streams) → (rows events : ℕ) × (1 ≤ events) × (v ≡ start Outer rows events v.splits)
 begins_there {P} p v e = (all_rows p, all_events p, omega arith, e ∙ ap (λ n. start {P = P} Outer (all_rows p) (all_events p) n) (sym (ap (λ (w : View P). w.splits) e)))

@@ -1,5 +1,5 @@
 -- The room of a run.
-use Rattle.std.specs.Prelude.{◌≡◌, ℕ, ◌+◌, ◌-◌, ◌*◌, ◌^◌, length}
+use Rattle.std.specs.Prelude.{◌≡◌, ℕ, ◌+◌, ◌*◌, length}
 use Rattle.std.specs.List.{sum_by}
 use Rattle.res_ledger.specs.declared.event.StreamNo.TheVariants.{Outer}
 use Rattle.pipeline_desc.specs.Meant.{PlanMeant}
@@ -18,8 +18,8 @@ all_rows p = first_row p (length p.streams)
 abbrev pub all_events : PlanMeant → ℕ
 all_events p = 2 * length p.tables + 1 + sum_by (λ s. 1 + stream_events (length p.tables) s) p.streams
 
--- a fresh seat of the outer stream, with all rows and room for all events, its scope, and room for the rows of the tables
+-- a fresh seat of the outer stream, with all rows, and room for all events and the seats of the streams, its scope, and room for the rows of the tables
 pub record IsRoomOfRun {S P : Type 0} (view : S → View P) (p : PlanMeant) (room : RunRoom S P) : Type 0 where
-  pub seat : view room.seat ≡ start Outer (all_rows p) (all_events p) (2 ^ 32 - 1)
+  pub seat : view room.seat ≡ start Outer (all_rows p) (all_events p) (length p.streams)
   pub scopes : scope_room room.scopes ≡ 1
   pub rows : row_room room.scopes ≡ length p.tables

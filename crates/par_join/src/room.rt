@@ -1,14 +1,14 @@
 //! The room that a run takes.
 ghost use Rattle.std.specs.Prelude.{◌≡◌, ◌+◌, ◌^◌, ◌<◌, IfOk};
 ghost use Rattle.pipeline_desc.specs.Sound.{IsSoundPlan};
-ghost use Rattle.row_seat.specs.PlainSeats.{shown, Sits};
+ghost use Rattle.row_shared.specs.Seats.{SharedFits, shown};
 ghost use Rattle.par_join.specs.Room.{IsRoomOfRun, all_events, all_rows};
 
 use device_port::Device;
 use pipeline_desc::{Plan, events, rows};
 use pull_stepper::Held;
 use res_ledger::StreamNo;
-use row_seat::{PlainSeat, PlainTable};
+use row_shared::{SharedSeat, TableRef};
 use scope_tree::Room;
 use std::alloc::{AllocError, Global};
 
@@ -20,19 +20,25 @@ pub(crate) struct RunRoom<S, P> {
     pub(crate) scopes: Room<P>,
 }
 
-/// A plain seat of the outer stream in its room, and the table at which it sits.
-type PlainRoom<V> = (RunRoom<PlainSeat<Held<V>>, Held<V>>, PlainTable<Held<V>>);
+/// A seat of the outer stream in its room, and a handle on the table at which it sits, which threads share.
+type SharedRoom<V> = (RunRoom<SharedSeat<Held<V>>, Held<V>>, TableRef<Held<V>>);
 
-/// Makes room for the rows and the events of a plan's streams.
+/// Makes room for the rows, the seats and the events of a plan's streams.
 pub(crate) fn make_room<V: Device + Drop>(
     alloc: Global,
     plan: &Plan,
-) -> Result<PlainRoom<V>, AllocError>
+) -> Result<SharedRoom<V>, AllocError>
     requires limits { IsSoundPlan plan.now }
-    ensures { IfOk result (λ made. IsRoomOfRun shown plan.now made.0 × Sits made.0.seat made.1) }
+    ensures { IfOk result (λ made. IsRoomOfRun shown plan.now made.0 × SharedFits made.0.seat made.1) }
 {
     let scopes = Room::new(alloc, 1, plan.tables().len() as u32)?;
-    let (seat, table) = PlainSeat::new(alloc, StreamNo::Outer, all_rows(plan), all_events(plan))?;
+    let (seat, table) = SharedSeat::new(
+        alloc,
+        StreamNo::Outer,
+        all_rows(plan),
+        plan.streams().len() as u32 + 1,
+        all_events(plan),
+    )?;
     Ok((RunRoom { seat, scopes }, table))
 }
 

@@ -13,6 +13,7 @@ ghost use Rattle.par_join.specs.Room.{IsRoomOfRun};
 
 use crate::left::retire_left;
 use crate::room::{RunRoom, make_room};
+use crate::scoped::run_lending;
 use any_pipe::AnyPipe;
 use cat_run::Outcome;
 use collector::{Collector, Ended, JoinRoom};
@@ -22,14 +23,15 @@ use join_tree::{begin, settle};
 use pipeline_desc::Plan;
 use pull_nodes::PipeState;
 use pull_stepper::Held;
-use row_seat::{PlainSeat, RowSeat};
+use row_seat::RowSeat;
+use row_shared::{SharedSeat, SharesDesk};
 use std::alloc::{AllocError, Global};
 use std::sync::Wait;
 use std::thread::Threads;
 use stream_parts::retire_shelf;
 
-/// Runs the streams of a plan, and prints what they give in frames of their numbers. The tables are
-/// read first. All room for what is noted and closed is made before that.
+/// Runs the streams of a plan, each on a thread of its own, and prints what they give in frames of their
+/// numbers. The tables are read first. All room for what is noted and closed is made before that.
 pub fn run_streams<R: Threads + Wait + Sync, D: Depot, K: Sink, G: Gate + Sync>(
     rt: &R,
     alloc: Global,
@@ -45,7 +47,7 @@ where
 {
     plan.limits();
     match make_room(alloc, plan) {
-        Ok((room, mut table)) => run_in::<R, PlainSeat<Held<D::Dev>>, D, K, G, AnyPipe>(
+        Ok((room, mut table)) => run_in::<R, SharedSeat<Held<D::Dev>>, D, K, G, AnyPipe>(
             rt, alloc, room, &mut table, plan, depot, out, gate,
         ),
         Err(AllocError) => Outcome::unmade(alloc),
@@ -54,12 +56,12 @@ where
 
 /// Makes what the streams take, and runs them in the room that was made for the outer stream, at its desk.
 fn run_in<
-    R: Wait,
-    S: RowSeat<Pay = Held<D::Dev>> + Drop,
+    R: Threads + Wait + Sync,
+    S: SharesDesk + RowSeat<Pay = Held<D::Dev>> + Drop + Send,
     D: Depot,
     K: Sink,
-    G: Gate,
-    F: PipeState<Tables = Dicts>,
+    G: Gate + Sync,
+    F: PipeState<Tables = Dicts> + Send,
 >(
     rt: &R,
     alloc: Global,
@@ -70,6 +72,9 @@ fn run_in<
     out: &mut K,
     gate: &G,
 ) -> Outcome
+where
+    D::Dev: Send,
+    S::Desk: Drop + Send,
     requires limits { IsSoundPlan plan.now }
     requires room { IsRoomOfRun S.view plan.now room }
     requires fits { S.fits room.seat desk.old }
@@ -81,7 +86,7 @@ fn run_in<
         Ok(streams) => {
             let RunRoom { seat, scopes } = room;
             let mut collector = Collector::new(begin(seat, scopes), streams);
-            collector.run(rt, alloc, desk, plan, depot, out, gate);
+            run_lending(rt, alloc, &mut collector, desk, plan, depot, out, gate);
             end_run(collector, desk, depot)
         }
         Err(AllocError) => Outcome::unmade(alloc),

@@ -14,11 +14,11 @@ use Rattle.res_ledger.specs.Streams.{same_stream}
 use Rattle.device_port.specs.Device.{DeviceTold, Place}
 use Rattle.run_rules.specs.declared.end.EndOf.{EndOf}
 use Rattle.run_rules.specs.Devices.{came_back}
-use Rattle.run_rules.specs.Ends.{EndIsCaused, EndStops, FaultStops, HasBegun, HasCauseToHalt, HaveEnds, IsLast, IsShown, IsSilenced, IsStopped, MayStop, SilenceStops, act_count, last_stream}
+use Rattle.run_rules.specs.Ends.{EndIsCaused, EndStops, FaultStops, HasBegun, HasCauseToHalt, IsLast, IsShown, IsSilenced, IsStopped, MayStop, SilenceStops, act_count, last_stream}
 use Rattle.run_rules.specs.Facts.{Acts, HasLeft, IsFailure, IsOver, acts, at, first_numbers, has_left, is_fault, is_halted, is_memory, holds_number, is_over, is_place}
 use Rattle.run_rules.specs.Opening.{HasOuterEnd}
 use Rattle.run_rules.specs.Work.{RunRecord, Work, most_of, names_of, places_by, runs_in_turn, until_by}
-use Rattle.run_laws.specs.EndTests.{end_stops, fault_stops, has_begun, has_cause_to_halt, is_caused, is_last, is_memory_known, is_memory_told, is_root_closed, is_shown, is_silenced, is_stopped, may_stop, silence_stops, stops_by_end, stops_by_failure, stops_by_halt, stops_when_silenced}
+use Rattle.run_laws.specs.EndTests.{end_stops, fault_stops, has_begun, has_cause_to_halt, is_caused, is_last, is_memory_known, is_root_closed, is_shown, is_silenced, is_stopped, may_stop, silence_stops, stops_by_end, stops_by_failure, stops_by_halt, stops_when_silenced}
 use Rattle.run_laws.specs.Laws.{StopsByEnd, StopsByFailure, StopsWhenSilenced}
 use Rattle.run_laws.proofs.Deciding.{Decides-to, acts_so, all_so, always, and_so, any_so, at_below, at_most, each_so, each_some_so, fault_so, first_so, flag, found_so, halted_so, if_so, if_some_so, inner_so, left_so, less, memory_so, not_so, number_so, or_so, over_so, root_so, same_place, same_stream_so, some_so}
 
@@ -83,10 +83,6 @@ caused_so work c e =
 pub memory_known_so : (c : RunRecord) → Decides (is_memory_known c) ((e : EndOf) → IsAmong e c.ends → e.how ≡ how.Memory → c.memory ≡ true)
 memory_known_so c = Decides-to (is_memory_known c) (λ f e m is. f (e, m, is)) (λ f x. f x.0 x.1 x.2)
     (if_so (any (λ e. is_memory e.how) c.ends) c.memory (any_so (λ e. is_memory e.how) (λ e. e.how ≡ how.Memory) (λ e. memory_so e.how) c.ends) (flag c.memory))
-
-pub memory_told_so : (c : RunRecord) → Decides (is_memory_told c) (c.memory ≡ true → (e : EndOf) × IsAmong e c.ends × ((e.how ≡ how.Memory) ⊎ (e.how ≡ how.Halted)))
-memory_told_so c = if_so c.memory (any (λ e. is_memory e.how || is_halted e.how) c.ends) (flag c.memory)
-    (any_so (λ e. is_memory e.how || is_halted e.how) (λ e. (e.how ≡ how.Memory) ⊎ (e.how ≡ how.Halted)) (λ e. or_so (is_memory e.how) (is_halted e.how) (memory_so e.how) (halted_so e.how)) c.ends)
 
 -- Stopping.
 
@@ -155,14 +151,3 @@ unbounded e = let x : ⊥ = cc in absurd x
 -- a stream that was halted didn't end by itself
 pub unfinished : IsOver how.Halted → ⊥
 unfinished o = false≢true ((over_so how.Halted).1 o)
-
--- the ends, where the tests pass
-pub ends_by : (work : Work) (c : RunRecord) (w : ℕ → DeviceTold) → map (λ (e : EndOf). e.who) c.ends ≡ names_of work → all (is_caused work c) c.ends ≡ true → HasOuterEnd work.opener (length work.streams) c w c.ends → is_stopped work c ≡ true → is_memory_known c ≡ true → is_memory_told c ≡ true → HaveEnds work c w
-ends_by work c w named caused outer stopped known told = record {
-  named = named;
-  caused = (each_so (is_caused work c) (EndIsCaused work c) (caused_so work c) c.ends).0 caused;
-  outer = outer;
-  stopped = (stopped_so work c).0 stopped;
-  memory = (memory_known_so c).0 known;
-  wanting = (memory_told_so c).0 told;
-}

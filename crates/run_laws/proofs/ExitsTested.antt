@@ -2,7 +2,7 @@
 use Rattle.std.proofs.Common.{◌≡◌, ℕ, zero, suc, ◌+◌, Bool, true, false, ◌&&◌, ◌||◌, not, List, [], ◌∷◌, map, drop, Option, Some, None, inl, inr, refl, sym, ◌∙◌, subst, arith, ⊎_elim}
 use Rattle.std.specs.Prelude.{is_some}
 use Rattle.std.specs.Bool.{Decides}
-use Rattle.std.specs.List.{list_all as all, AllByRecursion}
+use Rattle.std.specs.List.{list_all as all, list_any as any, AllByRecursion}
 use Rattle.chunk_core.specs.Elements.{Element}
 use Rattle.chunk_core.specs.Outcomes.{End, Cut, Done, Fault, exit_of}
 use Rattle.chunk_core.specs.declared.code.Code.TheVariants as code
@@ -10,7 +10,7 @@ use Rattle.chunk_core.specs.declared.code.Exit.{Exit}
 use Rattle.chunk_core.specs.declared.code.Exit.TheVariants.{Succeeded, Errored, Canceled}
 use Rattle.chunk_core.specs.declared.code.How.{How}
 use Rattle.chunk_core.specs.declared.code.How.TheVariants as how
-use Rattle.chunk_core.proofs.Bools.{all_at, and_true, both, each_passes, either, or_left, or_right}
+use Rattle.chunk_core.proofs.Bools.{all_at, and_true, any_found, both, each_passes, either, no, or_left, or_right}
 use Rattle.chunk_core.proofs.Each.{among_each, each_among}
 use Rattle.res_ledger.specs.declared.event.StreamNo.{StreamNo}
 use Rattle.res_ledger.specs.declared.event.StreamNo.TheVariants.{Inner, Outer}
@@ -24,15 +24,16 @@ use Rattle.device_port.specs.Device.{DeviceTold}
 use Rattle.run_rules.specs.declared.end.EndOf.{EndOf}
 use Rattle.run_rules.specs.Ends.{HaveEnds}
 use Rattle.run_rules.specs.Exits.{ClosesWith, HasExit, HasOneExit, HaveExits, IsExitHidden}
-use Rattle.run_rules.specs.Facts.{is_halted}
+use Rattle.run_rules.specs.Facts.{is_halted, is_memory}
 use Rattle.run_rules.specs.Homes.{HaveHomes}
+use Rattle.run_rules.specs.Memory.{IsWanting}
 use Rattle.run_rules.specs.Outputs.{AreOutputs, HaveOutputs, IsReported, elements_in_pieces}
 use Rattle.run_rules.specs.Run.{Ran}
 use Rattle.run_rules.specs.Wholeness.{IsWholeRun, NothingFailed}
 use Rattle.run_rules.specs.Work.{Opener, RunRecord, Stream, Values, Work, inner_ends, names_from, names_of}
 use Rattle.run_laws.specs.EndTests.{closes_with, has_one_exit, is_exit_hidden, is_silenced, tell_exit, tells_exit}
 use Rattle.run_laws.specs.Laws.{work_of}
-use Rattle.run_laws.proofs.Deciding.{Decides-to, always, and_so, each_so, flag, halted_so, not_so, or_so, same_stream_so, some_so}
+use Rattle.run_laws.proofs.Deciding.{Decides-to, always, and_so, each_so, flag, halted_so, memory_so, not_so, or_so, same_stream_so, some_so}
 use Rattle.run_laws.proofs.EndsTested.{silenced_so}
 
 pub exit_hidden_so : (work : Work) (c : RunRecord) (e : EndOf) → Decides (is_exit_hidden work c e) (IsExitHidden work c e)
@@ -156,14 +157,22 @@ module _ (work : Work) (c : RunRecord) (v : Values) (w : ℕ → DeviceTold) whe
           let rest : map (λ (x : EndOf). x.who) es ≡ names_from 0 work.streams = cc in
           (subst (λ s. EndsSo work v w s e.how) (sym who) (outer_ends work v w e.how), inner_ended 0 work.streams es rest o)
 
-  -- the streams ran, where what they noted of exits tells of the ends that are reported
-  pub ran_by : HaveHomes work c v w → HaveOutputs work c v w → HaveEnds work c w → all (λ e. tell_exit c e.who (exit_of e.how)) c.ends ≡ true → (c.memory ≡ false → NothingFailed work c v w → IsWholeRun work c v w) → Ran work c
+  -- where memory was wanting, an end says so
+  abbrev remembers : Bool
+  remembers = not c.memory || any (λ (e : EndOf). is_memory e.how) c.ends
+
+  remembered : remembers ≡ true → c.memory ≡ true → IsWanting work c v w
+  remembered t m = let f = any_found (λ (e : EndOf). is_memory e.how) c.ends (⊎_elim (λ n. absurd (no c.memory n m)) (λ y. y) (either (not c.memory) (any (λ (e : EndOf). is_memory e.how) c.ends) t)) in (f.0, f.1, inl ((memory_so f.0.how).0 f.2))
+
+  -- the streams ran, where what they noted of exits tells of the ends that are reported, and an end says where memory was wanting
+  pub ran_by : HaveHomes work c v w → HaveOutputs work c v w → HaveEnds work c w → (all (λ e. tell_exit c e.who (exit_of e.how)) c.ends && remembers) ≡ true → (c.memory ≡ false → NothingFailed work c v w → IsWholeRun work c v w) → Ran work c
   ran_by rows outputs ends told completeness = record {
     values = v;
     home = w;
     rows = rows;
     outputs = outputs;
     ends = ends;
-    exits = each_among (HasOneExit work c v w) c.ends (λ e m. told_as_reported work c v w e (among_each Ended e c.ends (all_ended ends.named outputs.outputs) m) (all_at (λ (x : EndOf). tell_exit c x.who (exit_of x.how)) e c.ends m told));
+    exits = each_among (HasOneExit work c v w) c.ends (λ e m. told_as_reported work c v w e (among_each Ended e c.ends (all_ended ends.named outputs.outputs) m) (all_at (λ (x : EndOf). tell_exit c x.who (exit_of x.how)) e c.ends m (both (all (λ x. tell_exit c x.who (exit_of x.how)) c.ends) remembers told).0));
+    wanting = remembered (both (all (λ x. tell_exit c x.who (exit_of x.how)) c.ends) remembers told).1;
     completeness = completeness;
   }

@@ -32,6 +32,7 @@ use Rattle.run_laws.specs.Written.{homes_of}
 use Rattle.run_laws.proofs.Performing.{read_only}
 use Rattle.run_laws.proofs.Deciding.{root_so}
 use Rattle.run_laws.proofs.EndsTested.{caused_so, memory_known_so, stopped_so, unbounded}
+use Rattle.run_laws.proofs.RoomTested.{begin_in_room_so}
 use Rattle.run_laws.proofs.ExitsTested.{outer_ends, told_as_reported}
 use Rattle.run_laws.proofs.RowsTested.{housed_by, left_alone_so}
 use Rattle.run_laws.proofs.Tested.{paced, rules_by}
@@ -99,10 +100,11 @@ module _ (runs ideal : DeviceTold → Outcomes) where
             caused = ((caused_so work c (record { who = Outer; how = how.Done })).0 refl, (record { halted = λ e. absurd (not_halted h e going); fault = shown; root = λ b. (root_so c.events (Inner 0)).0 refl }, tt));
             outer = record { end = (tt, ((Outer, 0, (_, here _, refl, refl)), tt)); gives = λ j s m. tt; nobody = unbounded };
             stopped = (stopped_so work c).0 (ap (λ b. ((not b || true) && true) && true) going);
+            begins = (begin_in_room_so work.opener work c).0 refl;
             memory = (memory_known_so c).0 (ap (λ b. not (b || false) || false) known);
-            wanting = λ m. absurd (false≢true m);
           };
           exits = (told_as_reported work c no_values home (record { who = Outer; how = how.Done }) (outer_ends work no_values home how.Done) refl, (record { how = h; same = inl refl; told = (tt, (refl, (tt, (refl, tt)))); ran = λ k q. (elements_in_pieces output.pieces, output.end, output.run, output.reported) }, tt));
+          wanting = λ m. absurd (false≢true m);
           completeness = λ m n. whole n;
         });
       }

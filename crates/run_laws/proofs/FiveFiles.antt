@@ -1,5 +1,5 @@
 -- The run of five files is right.
-use Rattle.std.proofs.Common.{◌≡◌, ◌<◌, ◌^◌, ℕ, true, List, [], ◌∷◌, ◌++◌, map, length, None, inl, inr, refl, sym, ap, ◌∙◌, subst, arith, append-nil}
+use Rattle.std.proofs.Common.{◌≡◌, ◌⊎◌, ◌<◌, ◌≤◌, ◌^◌, ℕ, zero, suc, true, List, [], ◌∷◌, ◌++◌, map, length, Some, None, inl, inr, refl, sym, ap, ◌∙◌, subst, ⊎_elim, arith, append-nil}
 use Rattle.std.specs.Prelude.{codes}
 use Rattle.std.specs.Fmt.{digits}
 use Rattle.std.specs.List.{AllByRecursion}
@@ -10,25 +10,49 @@ use Rattle.chunk_core.specs.Outcomes.{Done}
 use Rattle.chunk_core.specs.Tables.{no_values}
 use Rattle.chunk_core.specs.Texts.{Frame, frames_text, payloads_of}
 use Rattle.chunk_core.specs.declared.code.Exit.TheVariants.{Succeeded}
+use Rattle.chunk_core.specs.declared.code.How.{How}
 use Rattle.chunk_core.specs.declared.code.How.TheVariants as how
+use Rattle.chunk_core.proofs.Cuts.{among_parts, append_assoc}
 use Rattle.chunk_core.proofs.Distinct.{test_distinct}
+use Rattle.chunk_core.proofs.Each.{among_each}
+use Rattle.chunk_core.proofs.Members.{among_mid}
 use Rattle.chunk_core.proofs.Rendering.{bytes_rendering}
+use Rattle.res_ledger.specs.declared.event.StreamNo.TheVariants.{Inner}
 use Rattle.device_port.specs.Device.{DeviceTold, to_read}
 use Rattle.pull_nodes.specs.Runs.{Reads}
+use Rattle.run_rules.specs.Ends.{BeginInRoom, WasOpen}
+use Rattle.run_rules.specs.Facts.{IsFailure}
 use Rattle.run_rules.specs.Outputs.{IsOutput, NeverFall, elements_in_pieces, payloads_by}
 use Rattle.run_rules.specs.Run.{Performs}
 use Rattle.run_rules.specs.Texts.{tail_text}
-use Rattle.run_rules.specs.Work.{RunRecord}
+use Rattle.run_rules.specs.Work.{RunRecord, begun_frames, until_by}
+use Rattle.run_rules.specs.declared.end.EndOf.{EndOf}
 use Rattle.run_laws.specs.FiveFiles.{block, file_d, file_e, five, five_devices, five_files, five_frames, five_frames_text, five_run, five_tail_text, five_text, five_work}
 use Rattle.run_laws.specs.LedgerTests.{never_fall}
 use Rattle.run_laws.specs.Streams.{InFile, opener}
 use Rattle.run_laws.specs.Written.{IsRightRun, homes_of, read_device}
 use Rattle.run_laws.proofs.Devices.{accounted}
-use Rattle.run_laws.proofs.EndsTested.{ends_by, unbounded}
+use Rattle.run_laws.proofs.EndsTested.{unbounded}
+use Rattle.run_laws.proofs.RoomTested.{ends_in_room}
 use Rattle.run_laws.proofs.ExitsTested.{ran_by}
 use Rattle.run_laws.proofs.Performing.{byte_pieces, bytes_of_frames, bytes_rendered, read_only}
 use Rattle.run_laws.proofs.RowsTested.{housed_by, left_alone_so, never_fall_so}
 use Rattle.run_laws.proofs.Tested.{leased, paced, rules_by}
+
+-- a stream that is done stopped nothing
+not_stopped : {P : Type 0} (h : How) → h ≡ how.Done → IsFailure h ⊎ (h ≡ how.Memory) ⊎ ((h ≡ how.Halted) × P) → ⊥
+not_stopped h d s = ⊎_elim
+    (λ f. let e : how.Done ≡ how.Fault f.0 = sym d ∙ f.1 in cc)
+    (λ x. ⊎_elim (λ m. let e : how.Done ≡ how.Memory = sym d ∙ m in cc) (λ m. let e : how.Done ≡ how.Halted = sym d ∙ m.0 in cc) x)
+    s
+
+no_until : (k i : ℕ) → until_by five_work (Inner k) ≡ Some i → ⊥
+no_until zero i e = cc
+no_until (suc zero) i e = cc
+no_until (suc (suc zero)) i e = cc
+no_until (suc (suc (suc zero))) i e = cc
+no_until (suc (suc (suc (suc zero)))) i e = cc
+no_until (suc (suc (suc (suc (suc k))))) i e = cc
 
 -- files of any bytes, each of which was printed whole
 module _ (a b c d e : List ℕ) (frames : List Frame) where
@@ -51,6 +75,26 @@ module _ (a b c d e : List ℕ) (frames : List Frame) where
       reported = refl;
     }
 
+    falls : NeverFall (begun_frames run)
+    falls = subst NeverFall (sym (append-nil frames)) ((never_fall_so frames).0 turns)
+
+    -- all are done, none stops another, and none printed behind a later one
+    none_open : (k i : ℕ) → i < k → WasOpen five_work run k i → ⊥
+    none_open k i l w = ⊎_elim
+        (λ p.
+        let b = among_parts p.2 p.1 p.6 in
+        let is : begun_frames run ≡ (p.0 ++ p.3 ∷ b.0) ++ p.2 ∷ b.1 = p.4 ∙ (ap (λ z. p.0 ++ p.3 ∷ z) b.2 ∙ sym (append_assoc p.0 (p.3 ∷ b.0) (p.2 ∷ b.1))) in
+        let rises : p.3.stream ≤ p.2.stream = falls (p.0 ++ p.3 ∷ b.0) b.1 p.3 p.2 is (among_mid p.0 b.0 p.3) in
+        let by = p.5 in let of = p.7 in omega (arith, l, rises, by, of))
+        (λ x. ⊎_elim
+        (λ s. not_stopped s.0.how (among_each (λ (z : EndOf). z.how ≡ how.Done) s.0 run.ends (refl, (refl, (refl, (refl, (refl, (refl, tt)))))) s.1) s.3)
+        (λ y. ⊎_elim (λ s. ⊎_elim (λ n. n refl) (λ m. unbounded m) s.0) (λ u. no_until k i u.0) y)
+        x)
+        w
+
+    in_room : BeginInRoom five_work.opener five_work run
+    in_room k a = ([], omega arith, λ i l w. absurd (none_open k i l w))
+
     all_done : Performs five_work run
     all_done = record {
       devices = accounted (five_devices a b c d e) (to_read (codes "a") ∷ to_read (codes "b") ∷ to_read (codes "c") ∷ to_read (codes "d") ∷ to_read (codes "e") ∷ []) run.events (five_files a b c d e) (five_files a b c d e) refl refl refl refl refl refl refl refl refl (λ path. inr refl)
@@ -68,13 +112,13 @@ module _ (a b c d e : List ℕ) (frames : List Frame) where
           (record {
             numbers = numbers;
             few = tt;
-            in_turn = λ t. subst NeverFall (sym (append-nil frames)) ((never_fall_so frames).0 turns);
+            in_turn = λ t. falls;
             outputs = (output 0 (codes "a") a a_size a_text refl, (output 1 (codes "b") b b_size b_text refl, (output 2 (codes "c") c c_size c_text refl, (output 3 (codes "d") d d_size d_text refl, (output 4 (codes "e") e e_size e_text refl, refl)))));
             rest = refl;
           })
-          (ends_by five_work run home refl refl
+          (ends_in_room five_work run home refl refl
           (record { end = (tt, (leased run.events 0 refl, (leased run.events 1 refl, (leased run.events 2 refl, (leased run.events 3 refl, (leased run.events 4 refl, tt)))))); gives = λ j s m. tt; nobody = unbounded })
-          refl refl refl)
+          refl in_room refl)
           refl
           (λ m n. record {
             done = (refl, (refl, (refl, (refl, (refl, (refl, tt))))));

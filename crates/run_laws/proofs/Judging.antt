@@ -11,11 +11,12 @@ use Rattle.run_rules.specs.Pace.{IsPaced}
 use Rattle.run_rules.specs.Rules.{IsOurs}
 use Rattle.run_rules.specs.Run.{IsUnmade, Performs, Ran}
 use Rattle.run_rules.specs.Work.{RunRecord, Work, begun_frames, runs_in_turn, tables_of}
-use Rattle.run_laws.specs.EndTests.{has_one_exit, is_caused, is_memory_told, is_stopped}
+use Rattle.run_laws.specs.EndTests.{begin_in_room, has_one_exit, is_caused, is_memory_told, is_stopped}
 use Rattle.run_laws.specs.LedgerTests.{are_left_alone, is_leaving_closed, is_ours, is_paced, is_shut, lends_tables, never_fall}
 use Rattle.run_laws.proofs.Deciding.{each_so}
-use Rattle.run_laws.proofs.EndsTested.{caused_so, memory_told_so, stopped_so}
+use Rattle.run_laws.proofs.EndsTested.{caused_so, stopped_so}
 use Rattle.run_laws.proofs.ExitsTested.{exits_pass}
+use Rattle.run_laws.proofs.RoomTested.{begin_in_room_so, memory_passes}
 use Rattle.run_laws.proofs.RowsTested.{left_alone_so, never_fall_so, shut_so}
 use Rattle.run_laws.proofs.Tested.{leaving_so, lends_so, ours_so, paced_so}
 
@@ -53,8 +54,11 @@ module _ (work : Work) (c : RunRecord) where
     pub by_stops : is_stopped work c ≡ false → ¬ (Performs work c)
     by_stops f h = failing (stopped_so work c) f (ran some h).ends.stopped
 
-    pub by_memory : is_memory_told c ≡ false → ¬ (Performs work c)
-    by_memory f h = failing (memory_told_so c) f (ran some h).ends.wanting
+    pub by_memory : is_memory_told work c ≡ false → ¬ (Performs work c)
+    by_memory f h = let r = ran some h in false≢true (sym f ∙ memory_passes work c r.values r.home r.wanting)
+
+    pub by_room : begin_in_room work.opener work c ≡ false → ¬ (Performs work c)
+    by_room f h = failing (begin_in_room_so work.opener work c) f (ran some h).ends.begins
 
     pub by_exits : all (has_one_exit work c) c.ends ≡ false → ¬ (Performs work c)
     by_exits f h = let r = ran some h in false≢true (sym f ∙ exits_pass work c r.values r.home r.exits)

@@ -1,5 +1,6 @@
 pub mod Deciding
 pub mod EndsTested
+pub mod RoomTested
 pub mod ExitsTested
 pub mod Tested
 pub mod RowsTested

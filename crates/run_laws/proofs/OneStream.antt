@@ -18,7 +18,8 @@ use Rattle.run_laws.specs.OneStream.{one_stream_work, unbegun, ungiven, ungiven_
 use Rattle.run_laws.specs.Streams.{opener}
 use Rattle.run_laws.specs.Written.{IsRightRun, homes_of, idle_device}
 use Rattle.run_laws.proofs.Devices.{accounted}
-use Rattle.run_laws.proofs.EndsTested.{ends_by, unbounded, unfinished}
+use Rattle.run_laws.proofs.EndsTested.{unbounded, unfinished}
+use Rattle.run_laws.proofs.RoomTested.{ends_by}
 use Rattle.run_laws.proofs.ExitsTested.{ran_by}
 use Rattle.run_laws.proofs.RowsTested.{housed_by, left_alone_so, never_fall_so}
 use Rattle.run_laws.proofs.Tested.{paced, rules_by}

@@ -28,7 +28,8 @@ use Rattle.run_laws.specs.Streams.{Leaves, opener}
 use Rattle.run_laws.specs.Written.{IsRightRun, homes_of, read_device}
 use Rattle.run_laws.proofs.Devices.{accounted}
 use Rattle.run_laws.proofs.Performing.{piped_done, piped_left, read_only}
-use Rattle.run_laws.proofs.EndsTested.{ends_by, unbounded}
+use Rattle.run_laws.proofs.EndsTested.{unbounded}
+use Rattle.run_laws.proofs.RoomTested.{ends_by}
 use Rattle.run_laws.proofs.ExitsTested.{ran_by}
 use Rattle.run_laws.proofs.RowsTested.{housed_by, left_alone_so}
 use Rattle.run_laws.proofs.Tested.{paced, rules_by}

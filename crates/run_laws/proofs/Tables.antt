@@ -19,7 +19,8 @@ use Rattle.run_laws.specs.Streams.{fault_in, opener}
 use Rattle.run_laws.specs.Written.{IsRightRun, homes_of, idle_device, missing_device, read_device, used_device}
 use Rattle.run_laws.proofs.Devices.{accounted}
 use Rattle.run_laws.proofs.Performing.{by_content, read_only, values_of}
-use Rattle.run_laws.proofs.EndsTested.{ends_by, unbounded}
+use Rattle.run_laws.proofs.EndsTested.{unbounded}
+use Rattle.run_laws.proofs.RoomTested.{ends_by}
 use Rattle.run_laws.proofs.ExitsTested.{ran_by}
 use Rattle.run_laws.proofs.RowsTested.{housed_by, left_alone_so, never_fall_so}
 use Rattle.run_laws.proofs.Tested.{paced, rules_by, unleased}

@@ -5,7 +5,7 @@ use Rattle.std.proofs.lemmas.Bool.{false≢true, lt-ltb}
 use Rattle.chunk_core.specs.Lists.{IsAmong}
 use Rattle.chunk_core.specs.Lists.IsAmong.{here, there}
 use Rattle.chunk_core.specs.Texts.{frame_text}
-use Rattle.chunk_core.specs.Outcomes.{End, Done, exit_of}
+use Rattle.chunk_core.specs.Outcomes.{End, Cut, Done, exit_of}
 use Rattle.chunk_core.specs.declared.code.Code.TheVariants as code
 use Rattle.chunk_core.specs.declared.code.Exit.TheVariants.{Canceled, Succeeded}
 use Rattle.chunk_core.specs.declared.code.How.{How}
@@ -17,22 +17,24 @@ use Rattle.run_rules.specs.Devices.{IsWrittenBy}
 use Rattle.run_rules.specs.Homes.{IsUntouched}
 use Rattle.chunk_core.specs.Elements.{Element, Line, element_text, rendering_of}
 use Rattle.chunk_core.proofs.Cuts.{cut}
+use Rattle.chunk_core.proofs.Each.{among_each}
 use Rattle.chunk_core.proofs.Members.{among_cons, among_nil}
+use Rattle.run_rules.specs.declared.end.EndOf.{EndOf}
 use Rattle.device_port.specs.Depot.{DepotTold}
 use Rattle.pull_nodes.specs.Plain.{IsFront}
-use Rattle.pull_nodes.specs.Runs.{Reads, StopsReading}
-use Rattle.run_rules.specs.Outputs.{IsReported, elements_in_pieces}
+use Rattle.pull_nodes.specs.Runs.{OpensThen, Reads, StopsReading}
+use Rattle.run_rules.specs.Outputs.{IsReported, elements_in_pieces, payloads_by}
 use Rattle.run_rules.specs.Run.{IsUnmade, Performs, Ran}
 use Rattle.run_laws.specs.Files.{lines_work, path_a}
 use Rattle.run_laws.specs.OneStream.{one_stream_work}
-use Rattle.run_laws.specs.Others.{hello, no_streams, silent_work, u_csv}
+use Rattle.run_laws.specs.Others.{hello, no_streams, silent_work, stopped_work, u_csv}
 use Rattle.run_laws.specs.Refused.{in_turn_work}
-use Rattle.run_laws.specs.Streams.{InFile, file_stream, opener, two_files}
+use Rattle.run_laws.specs.Streams.{InFile, Leaves, file_stream, opener, two_files}
 use Rattle.run_laws.specs.Tables.{a_csv, lookup_work, path_b, t_csv}
-use Rattle.run_laws.specs.Unacceptable.{AreUnacceptable, backwards, begins_before_its_turn, both_devices, ends_swapped, failed_though_written, fault_hidden_by_until, frames_out_of_turn, given_without_waiting, half_table, halted_beforehand, halted_by_a_later_end, halted_by_later_memory, halted_though_whole, leased_before_table, leased_for_nobody, line_cut_in_two, looked_up_unopened, lost_file, memory_for_a_missing_table, missing_opened, one_device_for_both, opened_twice, passed_over, passed_over_for_nothing, printed_by_nobody, ran_behind_missing_table, ran_over_half_a_table, read_file_changed, read_for_nobody, same_file_work, second_table_alone, side_by_side_work, silent_copy_work, succeeded_though_left, tabled_work, tables_backwards, three_work, told_two_exits, tried_unbegun, tried_unmade, until_later_work, wanting_at_no_end}
+use Rattle.run_laws.specs.Unacceptable.{AreUnacceptable, all_fail, backwards, begins_before_its_turn, begins_behind_its_until, begins_behind_the_last_frame, both_devices, ends_swapped, failed_though_written, fault_hidden_by_until, frames_before_their_turn, frames_out_of_turn, given_without_waiting, half_table, halted_beforehand, halted_by_a_later_end, halted_by_later_memory, halted_though_whole, leased_before_table, leased_for_nobody, line_cut_in_two, looked_up_unopened, lost_file, memory_for_a_missing_table, memory_for_an_until, memory_for_the_last_frame, missing_opened, one_device_for_both, one_of_three_work, opened_twice, passed_over, passed_over_for_nothing, printed_by_nobody, ran_behind_missing_table, ran_over_half_a_table, read_file_changed, read_for_nobody, same_file_work, second_table_alone, side_by_side_work, silent_copy_work, succeeded_though_left, tabled_work, tables_backwards, three_work, told_two_exits, tried_unbegun, tried_unmade, until_later_work, until_second_work, wanting_at_no_end}
 use Rattle.run_laws.proofs.Deciding.{acts_so}
 use Rattle.run_laws.proofs.Files.{cut_all, cut_part}
-use Rattle.run_laws.proofs.Judging.{by_causes, by_exits, by_memory, by_ours, by_pace, by_shut, by_stops, by_tables, by_turn, no_nil, ran}
+use Rattle.run_laws.proofs.Judging.{by_causes, by_exits, by_memory, by_ours, by_pace, by_room, by_shut, by_stops, by_tables, by_turn, no_nil, ran}
 use Rattle.run_laws.specs.Written.{missing_device, read_device, used_device}
 use Rattle.run_laws.proofs.Performing.{read_write}
 use Rattle.run_laws.proofs.Refusing.{done, lines_within, size_of}
@@ -219,6 +221,49 @@ though_left_so r =
 succeeded_though_left_refused : ¬ (Performs (two_files (opener [] 4 (Some 1)) None) succeeded_though_left)
 succeeded_though_left_refused h = though_left_so (ran (two_files (opener [] 4 (Some 1)) None) succeeded_though_left (no_nil _ _) h)
 
+-- Want of memory for nothing.
+
+-- what gives no elements goes on with nothing
+no_more : (ps : List (List Element)) (x : List ℕ) → elements_in_pieces ps ≡ [] → x ∷ [] ≡ map rendering_of ps → 0 < length x → ⊥
+no_more [] x none e some = no_nil x [] e
+no_more ([] ∷ ps) x none e some = let c = cut x [] (map rendering_of ps) [] e in let l = ap length c.0 in omega (arith, l, some)
+no_more ((z ∷ zs) ∷ ps) x none e some = no_nil z (zs ++ elements_in_pieces ps) none
+
+inner_is : (j k : ℕ) → Inner j ≡ Inner k → j ≡ k
+inner_is j k e = cc
+
+-- a file that was never tried was neither opened nor failed to be
+never_opens : (d : DeviceTold) (ys : List Element) (e : End) → IsUntouched d → OpensThen d (Leaves (Reads d)) (Unit {0}) ys e → ⊥
+never_opens d ys e u (inl (o, f, r)) = let z = u.opens in omega (arith, z, o)
+never_opens d ys e u (inr (o, f, n, q, r)) = let z : faults_of d ≡ 0 = u.faults in omega (arith, z, f)
+
+-- a file that was never tried gives nothing
+untouched_gives : (d : DeviceTold) (ys : List Element) → IsUntouched d → InFile d (Reads d) ys Cut → ys ≡ []
+untouched_gives d ys u (inl r) = absurd (never_opens d ys Cut u r)
+untouched_gives d ys u (inr (c, inl n)) = n.0
+untouched_gives d ys u (inr (c, inr (more, g, r))) = absurd (never_opens d (ys ++ more) g u r)
+
+-- no end says that memory was wanting, and the second stream alone was halted
+abbrev Fits : EndOf → Type 0
+Fits e = (e.how ≡ how.Memory → ⊥) × (e.how ≡ how.Halted → e.who ≡ Inner 1)
+
+for_an_until_so : Ran stopped_work memory_for_an_until → ⊥
+for_an_until_so r =
+    let w = r.wanting refl in
+    let fits : Fits w.0 = among_each Fits w.0 memory_for_an_until.ends ((λ e. cc, λ e. cc), ((λ e. cc, λ e. cc), ((λ e. cc, λ e. refl), tt))) w.1 in
+    let alone : IsUntouched (r.home 1) = r.rows.alone 1 1 (record (file_stream path_b) { until = Some 0 }) refl (λ a. false≢true ((acts_so (Inner 1) memory_for_an_until.events).1 a)) (omega arith) (omega arith) in
+    ⊎_elim
+    (λ m. fits.0 m)
+    (λ l.
+    let one : l.stream ≡ 1 = inner_is l.stream 1 (sym l.who ∙ fits.1 l.halted) in
+    let run : InFile (r.home 1) (Reads (r.home 1)) (elements_in_pieces l.pieces) Cut = subst (λ k. InFile (r.home k) (Reads (r.home k)) (elements_in_pieces l.pieces) Cut) one l.run in
+    let payload : l.payload ∷ [] ≡ map rendering_of l.pieces = subst (λ k. payloads_by k memory_for_an_until.frames ++ l.payload ∷ [] ≡ map rendering_of l.pieces) one l.goes_on in
+    no_more l.pieces l.payload (untouched_gives (r.home 1) (elements_in_pieces l.pieces) alone run) payload l.some)
+    w.2
+
+for_an_until_refused : ¬ (Performs stopped_work memory_for_an_until)
+for_an_until_refused h = for_an_until_so (ran stopped_work memory_for_an_until (no_nil _ _) h)
+
 pub unacceptable : AreUnacceptable
 unacceptable = record {
   leased_before = by_tables lookup_work leased_before_table refl;
@@ -255,4 +300,10 @@ unacceptable = record {
   though_left = succeeded_though_left_refused;
   missing_table = memory_for_a_missing_table_refused;
   second_alone = second_table_alone_refused;
+  all_failed = by_room (three_work 2) all_fail (no_nil _ _) refl;
+  before_their_turn = by_room (three_work 2) frames_before_their_turn (no_nil _ _) refl;
+  behind_its_until = by_room until_second_work begins_behind_its_until (no_nil _ _) refl;
+  behind_the_last = by_room one_of_three_work begins_behind_the_last_frame (no_nil _ _) refl;
+  for_an_until = for_an_until_refused;
+  for_the_last = by_memory one_of_three_work memory_for_the_last_frame (no_nil _ _) refl;
 }

@@ -1,8 +1,9 @@
 -- Tests of why streams ended as they did, and that nothing begins after a stop. They compute on a run that is written out.
-use Rattle.std.specs.Prelude.{ℕ, zero, suc, Bool, true, false, ◌&&◌, ◌||◌, not, nat_le, nat_lt, Some, None, is_some, List, length}
+use Rattle.std.specs.Prelude.{ℕ, zero, suc, Bool, true, false, ◌&&◌, ◌||◌, not, nat_eq, nat_le, nat_lt, Option, Some, None, is_some, List, [], ◌∷◌, filter, length}
 use Rattle.std.specs.List.{list_any as any, list_all as all}
 use Rattle.chunk_core.specs.Lists.{has}
 use Rattle.chunk_core.specs.Outcomes.{exit_of}
+use Rattle.chunk_core.specs.Texts.{Frame}
 use Rattle.chunk_core.specs.declared.code.Exit.{Exit}
 use Rattle.chunk_core.specs.declared.code.Exit.TheVariants.{Succeeded, Errored, Canceled}
 use Rattle.chunk_core.specs.declared.code.How.{How}
@@ -20,7 +21,7 @@ use Rattle.run_rules.specs.declared.end.EndOf.{EndOf}
 use Rattle.run_rules.specs.Devices.{came_back}
 use Rattle.run_rules.specs.Ends.{act_count, last_stream}
 use Rattle.run_rules.specs.Facts.{acts, first_numbers, has_left, is_fault, is_halted, is_memory, holds_number, is_over, is_place}
-use Rattle.run_rules.specs.Work.{RunRecord, Work, most_of, places_by, runs_in_turn, until_by}
+use Rattle.run_rules.specs.Work.{Opener, RunRecord, Work, begun_frames, most_of, places_by, runs_in_turn, until_by}
 
 -- Why a stream may be halted.
 
@@ -75,9 +76,9 @@ is_caused work c e =
 abbrev pub is_memory_known : RunRecord → Bool
 is_memory_known c = not (any (λ e. is_memory e.how) c.ends) || c.memory
 
--- where memory was wanting, an end says so or a stream was halted
-abbrev pub is_memory_told : RunRecord → Bool
-is_memory_told c = not c.memory || any (λ e. is_memory e.how || is_halted e.how) c.ends
+-- where memory was wanting, an end says so, or a stream was halted though frames could be printed; that a run of it goes on is not tested
+abbrev pub is_memory_told : Work → RunRecord → Bool
+is_memory_told work c = not c.memory || any (λ e. is_memory e.how || (is_halted e.how && (not (same_stream e.who Outer) && not (is_silenced work c)))) c.ends
 
 -- Stopping.
 
@@ -106,6 +107,30 @@ stops_by_halt work c e =
 abbrev pub is_stopped : Work → RunRecord → Bool
 is_stopped work c =
     (not (runs_in_turn work) || (stops_by_failure c && (stops_when_silenced work c && all (stops_by_end work c) (first_numbers (length work.streams))))) && (all (stops_by_halt work c) c.ends && (not (holds_number (most_of work) 0) || all (λ e. same_stream e.by Outer) c.events))
+
+-- Which streams were open when another one began.
+
+-- a frame of stream i stands behind one of stream k
+abbrev pub prints_behind : ℕ → ℕ → List Frame → Bool
+prints_behind k i [] = false
+prints_behind k i (g ∷ F) = (nat_eq g.stream k && any (λ f. nat_eq f.stream i) F) || prints_behind k i F
+
+-- the end of stream i stopped those that hadn't begun
+abbrev pub has_stopped_all : Work → RunRecord → ℕ → Bool
+has_stopped_all work c i = any (λ e. same_stream e.who (Inner i) && (is_fault e.how || (is_memory e.how || (is_halted e.how && not (end_stops work c (Inner i)))))) c.ends
+
+-- as the record shows it, stream i was open when k began
+abbrev pub was_open : Work → RunRecord → ℕ → ℕ → Bool
+was_open work c k i = prints_behind k i (begun_frames c) || (has_stopped_all work c i || ((is_silenced work c && holds_number (last_stream c) i) || (holds_number (until_by work (Inner k)) i && has_left i c.events)))
+
+-- fewer than `width` of the streams before k were
+abbrev pub had_room : ℕ → Work → RunRecord → ℕ → Bool
+had_room width work c k = nat_lt (length (filter (was_open work c k) (first_numbers k))) width
+
+-- each stream began in room that was there
+abbrev pub begin_in_room : Option Opener → Work → RunRecord → Bool
+begin_in_room None work c = true
+begin_in_room (Some o) work c = all (λ e. elim e.by [ Inner k ↦ had_room o.max_open work c k | Outer ↦ true ]) c.events
 
 -- Exits.
 

@@ -15,7 +15,7 @@ use Rattle.run_rules.specs.Work.{RunRecord, Work}
 use Rattle.run_laws.specs.Files.{file_run, lines_work, path_a}
 use Rattle.run_laws.specs.FiveFiles.{five_files, five_devices, five_work, visit}
 use Rattle.run_laws.specs.OneStream.{one_stream_work, x_listing}
-use Rattle.run_laws.specs.Others.{copy_work, hello, no_streams, silent_work, table_files, two_listing, two_tables, u_csv, x_device}
+use Rattle.run_laws.specs.Others.{copy_work, hello, no_streams, silent_work, stopped, stopped_work, table_files, two_listing, two_tables, u_csv, x_device}
 use Rattle.run_laws.specs.Refused.{in_turn_work, with_events}
 use Rattle.run_laws.specs.Streams.{InFile, file_stream, opener, two_files}
 use Rattle.run_laws.specs.Tables.{a_csv, keys_bytes, lookup, lookup_files, lookup_work, missing_files, path_b, t_csv, table_bytes}
@@ -239,6 +239,49 @@ abbrev pub second_table_alone : RunRecord
 second_table_alone = record (run_of table_files table_files (read_device 0 u_csv (codes "k,w\n") Canceled ∷ []) (ends_of how.Memory [])
     ((Outer, Acquire 1 0) ∷ (Outer, Close 0 Canceled) ∷ (Outer, Final 1 Canceled true) ∷ []) []) { memory = true }
 
+-- Streams that begin in room that wasn't there, and want of memory for nothing.
+
+-- two streams may be open at once, and all three fail, the third one's file being tried though two had failed
+abbrev pub fails : ℕ → List (StreamNo × What)
+fails k = (Inner k, Close 0 Errored) ∷ (Inner k, Cancel k Errored) ∷ []
+
+abbrev pub all_fail : RunRecord
+all_fail = run_of [] [] (missing_device 0 path_a ∷ missing_device 1 path_b ∷ missing_device 2 path_c ∷ []) (ends_of how.Done (how.Fault code.Open ∷ how.Fault code.Open ∷ how.Fault code.Open ∷ []))
+    ((Outer, Lease 0 0) ∷ (Outer, Lease 1 0) ∷ (Outer, Lease 2 0) ∷ (Outer, Close 0 Succeeded) ∷ (fails 0 ++ (fails 1 ++ fails 2))) []
+
+-- two streams may be open at once, and the third one prints before both of the others
+abbrev pub three_events : List (StreamNo × What)
+three_events = (Outer, Lease 0 0) ∷ (Outer, Lease 1 0) ∷ (Outer, Lease 2 0) ∷ (Outer, Close 0 Succeeded) ∷ (visit 0 ++ (visit 1 ++ visit 2))
+
+abbrev pub frames_before_their_turn : RunRecord
+frames_before_their_turn = record (three_run three_events) { frames = frame 2 (codes "z\n") ∷ frame 0 (codes "x\n") ∷ frame 1 (codes "y\n") ∷ [] }
+
+-- two streams may be open at once, the third is to end with the second, and it begins in the room that this one leaves while the first, which prints behind it, is open
+abbrev pub until_second_work : Work
+until_second_work = record (three_work 2) { streams = file_stream path_a ∷ file_stream path_b ∷ record (file_stream path_c) { until = Some 1 } ∷ [] }
+
+abbrev pub begins_behind_its_until : RunRecord
+begins_behind_its_until = record (three_run three_events) { frames = frame 1 (codes "y\n") ∷ frame 2 (codes "z\n") ∷ frame 0 (codes "x\n") ∷ [] }
+
+-- two streams may be open at once and one frame is printed: the second one prints it, and the third is begun all the same, while the first is open, which is halted as it is
+abbrev pub one_of_three_work : Work
+one_of_three_work = record (three_work 2) { opener = Some (opener [] 2 (Some 1)) }
+
+abbrev pub halts : ℕ → List (StreamNo × What)
+halts k = (Inner k, Acquire k 0) ∷ (Inner k, Close 0 Canceled) ∷ (Inner k, Final k Canceled true) ∷ (Inner k, Cancel k Canceled) ∷ []
+
+abbrev pub begins_behind_the_last_frame : RunRecord
+begins_behind_the_last_frame = run_of three_listing three_listing (used_device 0 (to_read path_a) (codes "x\n") Canceled ∷ read_device 1 path_b (codes "y\n") Succeeded ∷ used_device 2 (to_read path_c) (codes "z\n") Canceled ∷ []) (ends_of how.Done (how.Halted ∷ how.Done ∷ how.Halted ∷ []))
+    ((Outer, Lease 0 0) ∷ (Outer, Lease 1 0) ∷ (Outer, Lease 2 0) ∷ (Outer, Close 0 Succeeded) ∷ (visit 1 ++ (halts 0 ++ halts 2))) (frame 1 (codes "y\n") ∷ [])
+
+-- one stream may be open at a time, the end of the first stops the second, and memory is said to have been wanting
+abbrev pub memory_for_an_until : RunRecord
+memory_for_an_until = record stopped { memory = true }
+
+-- all that may be printed was printed, the other stream is halted for that, and memory is said to have been wanting
+abbrev pub memory_for_the_last_frame : RunRecord
+memory_for_the_last_frame = record begins_behind_the_last_frame { memory = true }
+
 -- none of these did its work
 pub record AreUnacceptable : Type 0 where
   pub leased_before : ¬ (Performs lookup_work leased_before_table)
@@ -275,3 +318,9 @@ pub record AreUnacceptable : Type 0 where
   pub though_left : ¬ (Performs (two_files (opener [] 4 (Some 1)) None) succeeded_though_left)
   pub missing_table : ¬ (Performs lookup_work memory_for_a_missing_table)
   pub second_alone : ¬ (Performs (no_streams (t_csv ∷ u_csv ∷ [])) second_table_alone)
+  pub all_failed : ¬ (Performs (three_work 2) all_fail)
+  pub before_their_turn : ¬ (Performs (three_work 2) frames_before_their_turn)
+  pub behind_its_until : ¬ (Performs until_second_work begins_behind_its_until)
+  pub behind_the_last : ¬ (Performs one_of_three_work begins_behind_the_last_frame)
+  pub for_an_until : ¬ (Performs stopped_work memory_for_an_until)
+  pub for_the_last : ¬ (Performs one_of_three_work memory_for_the_last_frame)

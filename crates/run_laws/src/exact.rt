@@ -1,7 +1,7 @@
 //! The tests of a run that is written out are exact: each passes where its rule holds, and nowhere
 //! else. No test looks at what the streams of the work may give, so that the laws speak of a work by
 //! its outer stream and its streams, which may give anything: of `HasOneExit` the test leaves out
-//! only that a run has the end that is told.
+//! only that a run has the end that is told, and of `IsWanting` that a run goes on.
 ghost use Rattle.chunk_core.specs.Lists.{IsAmong};
 ghost use Rattle.chunk_core.specs.Texts.{Frame};
 ghost use Rattle.chunk_core.specs.declared.code.How.{How};
@@ -12,20 +12,21 @@ ghost use Rattle.res_ledger.specs.declared.event.Event.{Event};
 ghost use Rattle.res_ledger.specs.declared.event.StreamNo.{StreamNo};
 ghost use Rattle.res_ledger.specs.declared.event.StreamNo.TheVariants.{Inner, Outer};
 ghost use Rattle.res_ledger.specs.declared.event.What.TheVariants.{Lease};
-ghost use Rattle.run_laws.specs.EndTests.{end_stops, fault_stops, has_begun, has_cause_to_halt, has_one_exit, is_caused, is_exit_hidden, is_last, is_memory_known, is_memory_told, is_shown, is_silenced, is_stopped, may_stop, silence_stops, stops_by_end, stops_by_failure, stops_when_silenced};
+ghost use Rattle.run_laws.specs.EndTests.{begin_in_room, end_stops, fault_stops, has_begun, has_cause_to_halt, has_one_exit, has_stopped_all, is_caused, is_exit_hidden, is_last, is_memory_known, is_memory_told, is_shown, is_silenced, is_stopped, may_stop, prints_behind, silence_stops, stops_by_end, stops_by_failure, stops_when_silenced, was_open};
 ghost use Rattle.run_laws.specs.Laws.{StopsByEnd, StopsByFailure, StopsWhenSilenced, TablesCovered, TablesRise, work_of};
 ghost use Rattle.run_laws.specs.LedgerTests.{are_left_alone, begin_in_order, is_ahead, is_leaving_closed, is_ours, is_paced, is_shut, is_untouched, is_within, leases_in_order, lends_tables, never_fall, outer_waits, tables_covered, tables_rise};
 ghost use Rattle.run_rules.specs.Devices.{IsShut};
-ghost use Rattle.run_rules.specs.Ends.{EndIsCaused, EndStops, FaultStops, HasBegun, HasCauseToHalt, IsLast, IsShown, IsSilenced, IsStopped, MayStop, SilenceStops};
+ghost use Rattle.run_rules.specs.Ends.{BeginInRoom, EndIsCaused, EndStops, FaultStops, HasBegun, HasCauseToHalt, HasStoppedAll, IsLast, IsShown, IsSilenced, IsStopped, MayStop, PrintsBehind, SilenceStops, WasOpen};
 ghost use Rattle.run_rules.specs.Exits.{HasOneExit, IsExitHidden};
 ghost use Rattle.run_rules.specs.Homes.{AreLeftAlone, IsUntouched};
+ghost use Rattle.run_rules.specs.Memory.{IsWanting};
 ghost use Rattle.run_rules.specs.Outputs.{NeverFall};
 ghost use Rattle.run_rules.specs.Pace.{BeginInOrder, IsPaced, LeasesAhead, LeasesInOrder, OuterWaits, WithinWidth};
 ghost use Rattle.run_rules.specs.Rules.{ClosesBeforeLeaving, IsOurs, LendsTables};
 ghost use Rattle.run_rules.specs.Work.{Opener, RunRecord, Stream, Values};
 ghost use Rattle.run_rules.specs.declared.end.EndOf.{EndOf};
 ghost use Rattle.std.specs.Bool.{Decides};
-ghost use Rattle.std.specs.Prelude.{◌≡◌, ◌⊎◌, ℕ, true, List, Option};
+ghost use Rattle.std.specs.Prelude.{◌≡◌, ℕ, true, List, Option};
 
 /// Why a stream may be halted.
 pub fn tests_of_causes()
@@ -43,7 +44,7 @@ pub fn tests_of_ends()
     ensures of_begun { (e : EndOf) (L : List Event) → Decides (has_begun e L) (HasBegun e L) }
     ensures of_caused { (o : Option Opener) (ss : List Stream) (c : RunRecord) (e : EndOf) → Decides (is_caused (work_of o ss) c e) (EndIsCaused (work_of o ss) c e) }
     ensures of_memory_known { (c : RunRecord) → Decides (is_memory_known c) ((e : EndOf) → IsAmong e c.ends → e.how ≡ how.Memory → c.memory ≡ true) }
-    ensures of_memory_told { (c : RunRecord) → Decides (is_memory_told c) (c.memory ≡ true → (e : EndOf) × IsAmong e c.ends × ((e.how ≡ how.Memory) ⊎ (e.how ≡ how.Halted))) }
+    ensures of_memory_told { (o : Option Opener) (ss : List Stream) (c : RunRecord) (v : Values) (w : ℕ → DeviceTold) → Decides (is_memory_told (work_of o ss) c) (c.memory ≡ true → IsWanting (work_of o ss) c v w) }
 {}
 
 /// That nothing begins behind a stop.
@@ -53,6 +54,14 @@ pub fn tests_of_stops()
     ensures of_silence { (o : Option Opener) (ss : List Stream) (c : RunRecord) → Decides (stops_when_silenced (work_of o ss) c) (StopsWhenSilenced (work_of o ss) c) }
     ensures of_end { (o : Option Opener) (ss : List Stream) (c : RunRecord) (k : ℕ) → Decides (stops_by_end (work_of o ss) c k) (StopsByEnd (work_of o ss) c k) }
     ensures of_stopped { (o : Option Opener) (ss : List Stream) (c : RunRecord) → Decides (is_stopped (work_of o ss) c) (IsStopped (work_of o ss) c) }
+{}
+
+/// Which streams were open when another one began.
+pub fn tests_of_room()
+    ensures of_behind { (k i : ℕ) (F : List Frame) → Decides (prints_behind k i F) (PrintsBehind F k i) }
+    ensures of_stopped_all { (o : Option Opener) (ss : List Stream) (c : RunRecord) (i : ℕ) → Decides (has_stopped_all (work_of o ss) c i) (HasStoppedAll (work_of o ss) c i) }
+    ensures of_open { (o : Option Opener) (ss : List Stream) (c : RunRecord) (k i : ℕ) → Decides (was_open (work_of o ss) c k i) (WasOpen (work_of o ss) c k i) }
+    ensures of_room { (o : Option Opener) (ss : List Stream) (c : RunRecord) → Decides (begin_in_room o (work_of o ss) c) (BeginInRoom o (work_of o ss) c) }
 {}
 
 /// What the finalizers were told.

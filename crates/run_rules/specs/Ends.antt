@@ -1,11 +1,12 @@
 -- Why the streams ended as they did, and that nothing begins after a stop.
-use Rattle.std.specs.Prelude.{◌≡◌, ◌≢◌, ◌⊎◌, ℕ, ◌<◌, ◌≤◌, true, List, map, length, Option, Some, None, IfSome, option_map}
+use Rattle.std.specs.Prelude.{◌≡◌, ◌≢◌, ◌⊎◌, ℕ, ◌<◌, ◌≤◌, true, List, ◌∷◌, ◌++◌, map, length, Option, Some, None, IfSome, option_map}
 use Rattle.std.specs.List.{last_or, AllByRecursion}
 use Rattle.chunk_core.specs.Lists.{IsAmong}
 use Rattle.chunk_core.specs.declared.code.Code.{Code}
 use Rattle.chunk_core.specs.declared.code.Code.TheVariants as code
 use Rattle.chunk_core.specs.declared.code.How.{How}
 use Rattle.chunk_core.specs.declared.code.How.TheVariants as how
+use Rattle.chunk_core.specs.Texts.{Frame}
 use Rattle.res_ledger.specs.declared.event.StreamNo.{StreamNo}
 use Rattle.res_ledger.specs.declared.event.StreamNo.TheVariants.{Outer, Inner}
 use Rattle.res_ledger.specs.declared.event.Event.{Event}
@@ -15,7 +16,7 @@ use Rattle.run_rules.specs.declared.end.EndOf.{EndOf}
 use Rattle.run_rules.specs.Devices.{came_back}
 use Rattle.run_rules.specs.Facts.{Acts, HasLeft, IsFailure, IsOver}
 use Rattle.run_rules.specs.Opening.{HasOuterEnd}
-use Rattle.run_rules.specs.Work.{Work, RunRecord, begun_frames, most_of, names_of, places_by, runs_in_turn, until_by}
+use Rattle.run_rules.specs.Work.{Work, Opener, RunRecord, begun_frames, most_of, names_of, places_by, runs_in_turn, until_by}
 
 -- Why a stream may be halted.
 
@@ -90,11 +91,35 @@ pub record IsStopped (work : Work) (c : RunRecord) : Type 0 where
   pub halted : (e : EndOf) (k : ℕ) → IsAmong e c.ends → e.who ≡ Inner k → e.how ≡ how.Halted → (runs_in_turn work ≡ true) ⊎ ¬ (Acts (Inner k) c.events) → EndStops work c (Inner k) ⊎ IsLast k c.events
   pub nobody : most_of work ≡ Some 0 → (e : Event) → IsAmong e c.events → e.by ≡ Outer
 
--- Memory was wanting where an end says so, and where it was, an end says so or a stream was halted.
+-- Which streams were open when another one began.
+
+-- a frame of stream i stands behind one of stream k
+abbrev pub PrintsBehind : List Frame → ℕ → ℕ → Type 0
+PrintsBehind F k i = (A B : List Frame) × (f g : Frame) × (F ≡ A ++ g ∷ B) × (g.stream ≡ k) × IsAmong f B × (f.stream ≡ i)
+
+-- the end of stream i stopped those that hadn't begun: it failed or found no memory, or it was halted and not by the end that stops it
+abbrev pub HasStoppedAll : Work → RunRecord → ℕ → Type 0
+HasStoppedAll work c i = (e : EndOf) × IsAmong e c.ends × (e.who ≡ Inner i) × (IsFailure e.how ⊎ (e.how ≡ how.Memory) ⊎ ((e.how ≡ how.Halted) × ¬ (EndStops work c (Inner i))))
+
+-- As the record shows it, stream i was open when k began: it printed behind k, its end stopped those that hadn't begun, it printed last where no more is printed,
+-- or its end stops k.
+abbrev pub WasOpen : Work → RunRecord → ℕ → ℕ → Type 0
+WasOpen work c k i = PrintsBehind (begun_frames c) k i ⊎ HasStoppedAll work c i ⊎ (IsSilenced work c × (last_stream c ≡ Some i)) ⊎ ((until_by work (Inner k) ≡ Some i) × HasLeft i c.events)
+
+-- fewer than `width` of the streams before k were open when it began
+abbrev pub HadRoom : ℕ → Work → RunRecord → ℕ → Type 0
+HadRoom width work c k = (others : List ℕ) × (length others < width) × ((i : ℕ) → i < k → WasOpen work c k i → IsAmong i others)
+
+-- each stream began in room that was there, which none had left whose end stops it
+abbrev pub BeginInRoom : Option Opener → Work → RunRecord → Type 0
+BeginInRoom None work c = Unit {0}
+BeginInRoom (Some o) work c = (k : ℕ) → Acts (Inner k) c.events → HadRoom o.max_open work c k
+
+-- memory was wanting where an end says so
 pub record HaveEnds (work : Work) (c : RunRecord) (w : ℕ → DeviceTold) : Type 0 where
   pub named : map (λ e. e.who) c.ends ≡ names_of work
   pub caused : AllByRecursion (EndIsCaused work c) c.ends
   pub outer : HasOuterEnd work.opener (length work.streams) c w c.ends
   pub stopped : IsStopped work c
+  pub begins : BeginInRoom work.opener work c
   pub memory : (e : EndOf) → IsAmong e c.ends → e.how ≡ how.Memory → c.memory ≡ true
-  pub wanting : c.memory ≡ true → (e : EndOf) × IsAmong e c.ends × ((e.how ≡ how.Memory) ⊎ (e.how ≡ how.Halted))

@@ -8,6 +8,7 @@ pub mod Opening
 pub mod Outputs
 pub mod Ends
 pub mod Exits
+pub mod Memory
 pub mod Wholeness
 pub mod Run
 pub mod Texts

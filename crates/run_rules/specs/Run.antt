@@ -5,6 +5,7 @@ use Rattle.run_rules.specs.Devices.{DevicesAccounted}
 use Rattle.run_rules.specs.Ends.{HaveEnds}
 use Rattle.run_rules.specs.Exits.{HaveExits}
 use Rattle.run_rules.specs.Homes.{HaveHomes}
+use Rattle.run_rules.specs.Memory.{IsWanting}
 use Rattle.run_rules.specs.Outputs.{HaveOutputs}
 use Rattle.run_rules.specs.Rules.{KeepsRules}
 use Rattle.run_rules.specs.Wholeness.{NothingFailed, IsWholeRun}
@@ -28,6 +29,7 @@ pub record Ran (work : Work) (c : RunRecord) : Type 0 where
   pub outputs : HaveOutputs work c values home
   pub ends : HaveEnds work c home
   pub exits : HaveExits work c values home
+  pub wanting : c.memory ≡ true → IsWanting work c values home
   pub completeness : c.memory ≡ false → NothingFailed work c values home → IsWholeRun work c values home
 
 -- The run did the work: its devices are accounted for, its ledger keeps the rules, and its streams ran, where a seat could be made.

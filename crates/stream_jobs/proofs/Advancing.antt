@@ -1,5 +1,7 @@
 -- A stream goes on, or leaves.
-use Rattle.std.proofs.Common.{◌≡◌, ℕ, Bool, true, false, List, [], ◌∷◌, ◌++◌, Option, Some, None, refl, sym, ◌∙◌, ap, subst, ⊎_elim}
+use Rattle.std.proofs.Common.{◌≡◌, ℕ, ◌<◌, Bool, true, false, List, [], ◌∷◌, ◌++◌, length, Option, Some, None, IfSome, refl, sym, ◌∙◌, ap, subst, ⊎_elim, append-nil}
+use Rattle.std.proofs.lemmas.List.{map-append}
+use Rattle.chunk_core.specs.Elements.{elements}
 use Rattle.chunk_core.specs.Outcomes.{exit_of}
 use Rattle.chunk_core.specs.Tables.{Values}
 use Rattle.chunk_core.specs.declared.code.How.{How}
@@ -19,10 +21,11 @@ use Rattle.pull_stepper.specs.Held.{FinishesDevice}
 use Rattle.pull_stepper.specs.Sites.{Since, Site, around}
 use Rattle.pull_stepper.specs.Stepping.{Halts, IsOver, Stepping, TakesTurn, stopped_by}
 use Rattle.stream_jobs.specs.Leaving.{IsVisiting, Leaves}
-use Rattle.stream_jobs.specs.Messages.{end_message, held, load_messages, news}
+use Rattle.stream_jobs.specs.Messages.{AreTextsOf, IsNews, end_message, held, load_message, load_messages}
 use Rattle.stream_jobs.specs.Running.{IsEndedJob, HasRun, IsBegun, Origin}
 use Rattle.stream_jobs.specs.Steps.{ObeysFound}
-use Rattle.stream_jobs.proofs.Runs.{none_is_not_some, same_end, said_more}
+use Rattle.stream_jobs.proofs.Runs.{none_is_not_some, same_end}
+use Rattle.stream_jobs.proofs.Texts.{texts_more}
 
 -- a stop closes the root as canceled
 stopped_exit : (m : Bool) → exit_of (stopped_by m) ≡ exit_of how.Halted
@@ -56,20 +59,27 @@ module _ {V F : Type 0} (told : V → DeviceTold) (P : Values → StateMeaning F
     since = since;
   }
 
-  -- the loads so far, and the one that came, were said
-  pub said_on : (j k : ℕ) (loads : List Load) (load : Option Load) (said : List Msg) (message : Option Msg) → j ≡ k → said ≡ load_messages k loads → held message ≡ news j None load → said ++ held message ≡ load_messages k (loads ++ held load)
-  said_on j k loads load said message same is n = ap (λ s. s ++ held message) is ∙ (ap (λ m. load_messages k loads ++ m) (n ∙ ap (λ i. load_messages i (held load)) same) ∙ said_more k loads load)
+  -- the texts of the loads so far, and that of the one that came, were said
+  pub said_on : (j k : ℕ) (loads texts : List Load) (load : Option Load) (said message : List Msg) → j ≡ k → AreTextsOf loads texts → said ≡ load_messages k texts → IsNews j None load message → IfSome load (λ l. 0 < length (elements l)) → (more : List Load) × AreTextsOf (loads ++ held load) more × (said ++ message ≡ load_messages k more)
+  said_on j k loads texts None said message same are is n full = (texts, subst (λ xs. AreTextsOf xs texts) (sym (append-nil loads)) are, ap (λ m. said ++ m) n ∙ (append-nil said ∙ is))
+  said_on j k loads texts (Some load) said message same are is n full = (
+    texts ++ n.0 ∷ [],
+    texts_more loads texts load n.0 are n.1 full,
+    ap (λ m. said ++ m) n.2 ∙ (ap (λ i. said ++ load_message i n.0 ∷ []) same ∙ (ap (λ s. s ++ load_message k n.0 ∷ []) is ∙ sym (map-append (load_message k) texts (n.0 ∷ [])))),
+  )
 
-  -- the end was said behind the loads, and the stream has left
-  pub left_so : (w : Origin V F) (a b : Stepping V F) (loads : List Load) (said : List Msg) (j : ℕ) (T : List ℕ) (h g : How) (seat : View V) (shelf : List (Spent V)) (unopened : List V) (message : Msg)
-      → IsBegun told w → said ≡ load_messages w.stream loads → j ≡ w.stream → T ≡ w.leased → HasRun told P w b h loads → b.how ≡ Some h → Leaves told j T w.start.site b seat shelf unopened g → message ≡ end_message w.stream h
+  -- the end was said behind the texts of the loads, and the stream has left
+  pub left_so : (w : Origin V F) (a b : Stepping V F) (loads texts : List Load) (said : List Msg) (j : ℕ) (T : List ℕ) (h g : How) (seat : View V) (shelf : List (Spent V)) (unopened : List V) (message : Msg)
+      → IsBegun told w → AreTextsOf loads texts → said ≡ load_messages w.stream texts → j ≡ w.stream → T ≡ w.leased → HasRun told P w b h loads → b.how ≡ Some h → Leaves told j T w.start.site b seat shelf unopened g → message ≡ end_message w.stream h
       → IsEndedJob told P w seat shelf unopened g (said ++ message ∷ [])
-  left_so w a b loads said j T h g seat shelf unopened message begun is stream leased run how_is l m =
+  left_so w a b loads texts said j T h g seat shelf unopened message begun are is stream leased run how_is l m =
       let same : h ≡ g = same_end b.how h g how_is l.ended.how in
       record {
         begun = begun;
         loads = loads;
-        said_is = ap (λ s. s ++ message ∷ []) is ∙ ap (λ x. load_messages w.stream loads ++ x ∷ []) (m ∙ ap (λ x. end_message w.stream x) same);
+        texts = texts;
+        texts_are = are;
+        said_is = ap (λ s. s ++ message ∷ []) is ∙ ap (λ x. load_messages w.stream texts ++ x ∷ []) (m ∙ ap (λ x. end_message w.stream x) same);
         last_step = b;
         run = subst (λ x. HasRun told P w b x loads) same run;
         leaves = subst (λ R. Leaves told w.stream R w.start.site b seat shelf unopened g) leased (subst (λ i. Leaves told i T w.start.site b seat shelf unopened g) stream l);

@@ -4,10 +4,8 @@ use Rattle.chunk_core.specs.Tables.{Values}
 use Rattle.channel_bounded.specs.declared.message.Msg.{Msg}
 use Rattle.device_port.specs.Device.{DeviceTold}
 use Rattle.pull_turns.specs.Piping.{StateMeaning}
-use Rattle.res_ledger.specs.declared.event.StreamNo.{StreamNo}
 use Rattle.res_ledger.specs.declared.event.StreamNo.TheVariants.{Inner, Outer}
 use Rattle.row_seat.specs.declared.view.View.{View}
-use Rattle.row_seat.specs.Views.{OthersFit}
 use Rattle.scope_tree.proofs.Follows.{released_follows, same_by}
 use Rattle.stream_jobs.specs.declared.job.Job.{Job}
 use Rattle.stream_jobs.specs.declared.running.Stage.{Stage}

@@ -1,6 +1,5 @@
 -- Each turn gives one load more, or is the last.
 use Rattle.std.proofs.Common.{◌≡◌, ℕ, ◌<◌, List, [], ◌∷◌, ◌++◌, length, Option, Some, None, refl, sym, ◌∙◌, ap, subst, ⊎_elim, arith, append-nil}
-use Rattle.std.proofs.lemmas.List.{map-append}
 use Rattle.chunk_core.specs.Elements.{elements, elements_of}
 use Rattle.chunk_core.specs.Outcomes.{Cut}
 use Rattle.chunk_core.specs.Tables.{Values}
@@ -27,7 +26,7 @@ use Rattle.pull_stepper.specs.Laws.{since_same, since_then}
 use Rattle.pull_stepper.specs.Sites.{Since, around, told_at}
 use Rattle.pull_stepper.specs.Stepping.{CanGo, Halts, Stepping, TakesTurn, Wants, stopped_by}
 use Rattle.stream_jobs.specs.Leaving.{CanLeave}
-use Rattle.stream_jobs.specs.Messages.{held, load_message, load_messages}
+use Rattle.stream_jobs.specs.Messages.{held}
 use Rattle.stream_jobs.specs.Running.{HasGiven, HasRun, IsBegun, Origin}
 use Rattle.stream_jobs.specs.Steps.{ObeysFound, load_in}
 
@@ -52,10 +51,6 @@ none_is_not_some o x n s = let e : None ≡ Some x = sym n ∙ s in cc
 
 pub same_end : (o : Option How) (g h : How) → o ≡ Some g → o ≡ Some h → g ≡ h
 same_end o g h a b = let e : Some g ≡ Some h = sym a ∙ b in cc
-
--- the messages with the loads so far, and with the one that came
-pub said_more : (k : ℕ) (loads : List Load) (load : Option Load) → load_messages k loads ++ load_messages k (held load) ≡ load_messages k (loads ++ held load)
-said_more k loads load = sym (map-append (load_message k) loads (held load))
 
 module _ {V F : Type 0} (told : V → DeviceTold) (P : Values → StateMeaning F) where
   -- before its first turn it has given nothing

@@ -4,6 +4,7 @@ use denote.Param.Send.{IsSend, sendable}
 use denote.Param.SendFields.{as_row_send, declared_send, variants_send}
 use denote.Hole.{as_row}
 use denote.Struct.Field.{row_field, u32-field}
+use Rattle.std.proofs.Crossing.{send as heap}
 use Rattle.std.specs.contracts.option.Option as Option'
 use Rattle.chunk_core.proofs.code.How.TheSendSync as how
 use Rattle.chunk_core.specs.contracts.code.How as How
@@ -34,7 +35,7 @@ left_send : (S V : RattleType) → IsSend S → IsSend V → IsSend (Left.the_ro
 left_send S V s v = declared_send (Left.the_type S V) (as_row_send (row_field S) s, (search (sendable, list.the_send, spent.the_send, held.the_send) depth 12, (search (sendable, list.the_send) depth 12, (how_send, tt))))
 
 running_send : (S V F P D T : RattleType) → IsSend S → IsSend V → IsSend F → IsSend P → IsSend T → IsSend (Running.the_row S V F P D T)
-running_send S V F P D T s v f p t = declared_send (Running.the_type S V F P D T) (u32s, (stepper_send S V F P D T s v f p t, (lease.the_send, tt)))
+running_send S V F P D T s v f p t = declared_send (Running.the_type S V F P D T) (u32s, (stepper_send S V F P D T s v f p t, (lease.the_send, (heap, tt))))
 
 stage_send : (S V F P D T : RattleType) → IsSend S → IsSend V → IsSend F → IsSend P → IsSend T → IsSend (Stage.the_row S V F P D T)
 stage_send S V F P D T s v f p t = variants_send (Stage.enum S V F P D T) ((running_send S V F P D T s v f p t, tt), ((left_send S V s v, tt), tt))

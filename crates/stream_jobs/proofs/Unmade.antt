@@ -40,6 +40,7 @@ use Rattle.stream_jobs.specs.Running.{IsEndedJob, HasRun, Origin}
 use Rattle.stream_jobs.specs.Unmade.{IsOfNode}
 use Rattle.stream_jobs.proofs.Advancing.{visiting_at}
 use Rattle.stream_jobs.proofs.Runs.{room_to_leave, same_end}
+use Rattle.stream_jobs.proofs.Texts.{no_texts}
 
 nothing_in : {A : Type 0} (xs : List A) → ((x : A) → IsAmong x xs → ⊥) → xs ≡ []
 nothing_in [] h = refl
@@ -147,6 +148,8 @@ module _ {V F : Type 0} (told : V → DeviceTold) (P : Values → StateMeaning F
       record {
         begun = u.begun;
         loads = [];
+        texts = [];
+        texts_are = no_texts;
         said_is = ap (λ j. end_message j how.Memory ∷ []) stream ∙ ap (λ e. end_message w.stream e ∷ []) same;
         last_step = last_unmade;
         run = subst (λ e. HasRun told P w last_unmade e []) same run_none;

@@ -15,7 +15,7 @@ use Rattle.stream_jobs.specs.declared.job.Job.{Job}
 use Rattle.stream_jobs.specs.declared.running.Stage.{Stage}
 use Rattle.stream_jobs.specs.Jobs.{IsJob, IsOver, JobSeen}
 use Rattle.stream_jobs.specs.Learned.{HasLearned}
-use Rattle.stream_jobs.specs.Messages.{IsFullMessage, end_message, held, load_message, news}
+use Rattle.stream_jobs.specs.Messages.{IsFullMessage, IsNews, end_message, held, load_message}
 use Rattle.stream_jobs.specs.Running.{Origin, Stands, ended_at}
 use Rattle.stream_jobs.specs.Steps.{Interrupts, MovesOn}
 
@@ -25,17 +25,17 @@ head_stream [] k = k
 head_stream (m ∷ ms) k = m.stream
 
 -- what is said is of the stream
-pub news_stream : (k : ℕ) (h : Option How) (load : Option Load) (message : Option Msg) → held message ≡ news k h load → IfSome message (λ m. m.stream ≡ k)
+pub news_stream : (k : ℕ) (h : Option How) (load : Option Load) (message : Option Msg) → IsNews k h load (held message) → IfSome message (λ m. m.stream ≡ k)
 news_stream k h load None e = tt
 news_stream k (Some h) load (Some m) e = ap (λ xs. head_stream xs k) e
-news_stream k None (Some l) (Some m) e = ap (λ xs. head_stream xs k) e
+news_stream k None (Some l) (Some m) e = ap (λ xs. head_stream xs k) e.2
 news_stream k None None (Some m) e = ap (λ xs. head_stream xs k) e
 
 -- what is said is full, where the load that came is
-pub news_full : (k : ℕ) (h : Option How) (load : Option Load) (message : Option Msg) → held message ≡ news k h load → IfSome load (λ l. 0 < length (elements l)) → IfSome message IsFullMessage
+pub news_full : (k : ℕ) (h : Option How) (load : Option Load) (message : Option Msg) → IsNews k h load (held message) → IfSome load (λ l. 0 < length (elements l)) → IfSome message IsFullMessage
 news_full k h load None e f = tt
 news_full k (Some h) load (Some m) e f = let q : m ≡ end_message k h = cc in subst IsFullMessage (sym q) tt
-news_full k None (Some l) (Some m) e f = let q : m ≡ load_message k l = cc in subst IsFullMessage (sym q) f
+news_full k None (Some l) (Some m) e f = let s : m ∷ [] ≡ load_message k e.0 ∷ [] = e.2 in let q : m ≡ load_message k e.0 = cc in subst IsFullMessage (sym q) (e.1.some f)
 news_full k None None (Some m) e f = absurd (let q : m ∷ [] ≡ [] = e in cc)
 
 -- nothing waits, and the job isn't over: so its stepper hasn't ended

@@ -88,7 +88,7 @@ module _ {S V F D T : Type 0} (view : S → View V) (values : T → Values) wher
   seen_job j = record { running = running_in j.stage; board = j.board; sender = j.sender; waiting = j.waiting }
 
   module _ (told : V → DeviceTold) where
-    -- it is the job of this origin: what was said are loads of a run, and its end, where it has ended; and its seat at the board has set and seen what goes with that
+    -- it is the job of this origin: what was said are the texts of loads of a run, and its end, where it has ended; and its seat at the board has set and seen what goes with that
     pub record IsJob (P : Values → StateMeaning F) (w : Origin V F) (j : Job S V F V D T) : Type 0 where
       pub number : j.stream ≡ w.stream
       pub sender : j.sender.stream ≡ w.stream
@@ -100,7 +100,7 @@ module _ {S V F D T : Type 0} (view : S → View V) (values : T → Values) wher
       pub learned : HasLearned w.stream w.board j.board (ended_at stage)
 
 module _ {S V F : Type 0} (view : S → View V) (told : V → DeviceTold) (P : Values → StateMeaning F) where
-  -- what is left of a job: the loads of a run were sent, and then its end; and its seat at the board has set and seen what goes with that
+  -- what is left of a job: the texts of the loads of a run were sent, and then its end; and its seat at the board has set and seen what goes with that
   pub record EndsJob (w : Origin V F) (e : JobEnd S V) : Type 0 where
     pub sender : e.sender.stream ≡ w.stream
     pub left : IsEndedJob told P w (view e.seat) e.shelf e.unopened e.how e.sender.sent

@@ -1,7 +1,6 @@
 -- A stream on its way.
-use Rattle.std.specs.Prelude.{◌≡◌, ℕ, ◌+◌, ◌*◌, ◌<◌, ◌≤◌, List, [], ◌∷◌, ◌++◌, length, Option, Some, None}
-use Rattle.std.specs.List.{AllByRecursion}
-use Rattle.chunk_core.specs.Elements.{elements, elements_of}
+use Rattle.std.specs.Prelude.{◌≡◌, ℕ, ◌+◌, ◌*◌, ◌≤◌, List, [], ◌∷◌, ◌++◌, length, Option, Some, None}
+use Rattle.chunk_core.specs.Elements.{elements_of}
 use Rattle.chunk_core.specs.Tables.{Values}
 use Rattle.chunk_core.specs.declared.code.How.{How}
 use Rattle.chunk_core.specs.declared.load.Load.{Load}
@@ -25,7 +24,7 @@ use Rattle.stream_jobs.specs.declared.running.Running.{Running}
 use Rattle.stream_jobs.specs.declared.running.Stage.{Stage}
 use Rattle.stream_jobs.specs.declared.running.Stage.TheVariants as stage
 use Rattle.stream_jobs.specs.Leaving.{Leaves}
-use Rattle.stream_jobs.specs.Messages.{end_message, load_messages}
+use Rattle.stream_jobs.specs.Messages.{AreFilled, AreTextsOf, end_message, load_messages}
 
 -- what a job is of: its stream, the rows of its lease, and its stepper and its seat at the board as they were at first
 pub record Origin (V F : Type 0) : Type 0 where
@@ -33,10 +32,6 @@ pub record Origin (V F : Type 0) : Type 0 where
   pub leased : List ℕ
   pub start : Stepping V F
   pub board : SeatSeen
-
--- each load has elements
-abbrev pub AreFilled : List Load → Type 0
-AreFilled loads = AllByRecursion (λ l. 0 < length (elements l)) loads
 
 module _ {V F : Type 0} (told : V → DeviceTold) where
   -- its seat was just split off, with its lease; and beyond what its node needs there is room for the Cancel, and for each row of the lease
@@ -63,17 +58,19 @@ module _ {V F : Type 0} (told : V → DeviceTold) where
       pub goes : (p : ℕ) → Goes (told_at told w.start.site p) (told_at told s.site p)
       pub spends : SpendsWithin (around told w.start.site) (around told s.site) w.start.rest
 
-    -- it has ended so: the loads of a run were said, and then its end; and its seat, its shelf and its unopened devices are what it left
+    -- it has ended so: the texts of the loads of a run were said, and then its end; and its seat, its shelf and its unopened devices are what it left
     pub record IsEndedJob (w : Origin V F) (seat : View V) (shelf : List (Spent V)) (unopened : List V) (h : How) (said : List Msg) : Type 0 where
       pub begun : IsBegun w
       pub loads : List Load
-      pub said_is : said ≡ load_messages w.stream loads ++ end_message w.stream h ∷ []
+      pub texts : List Load
+      pub texts_are : AreTextsOf loads texts
+      pub said_is : said ≡ load_messages w.stream texts ++ end_message w.stream h ∷ []
       pub last_step : Stepping V F
       pub run : HasRun w last_step h loads
       pub leaves : Leaves told w.stream w.leased w.start.site last_step seat shelf unopened h
 
     module _ {S D T : Type 0} (view : S → View V) (values : T → Values) where
-      -- it runs, and has given the loads that were said
+      -- it runs, and has given the loads whose texts were said
       pub record RunsOn (w : Origin V F) (r : Running S V F V D T) (said : List Msg) : Type 0 where
         pub stream : r.stream ≡ w.stream
         pub lease : lessee r.lease.0 ≡ w.stream
@@ -81,7 +78,9 @@ module _ {V F : Type 0} (told : V → DeviceTold) where
         pub begun : IsBegun w
         pub loads : List Load
         pub given : HasGiven w (stepping view values r.stepper) loads
-        pub said_is : said ≡ load_messages w.stream loads
+        pub texts : List Load
+        pub texts_are : AreTextsOf loads texts
+        pub said_is : said ≡ load_messages w.stream texts
 
       -- what was said, by how far it is
       abbrev pub Stands : Origin V F → Stage S V F V D T → List Msg → Type 0

@@ -16,7 +16,7 @@ use Rattle.pull_turns.specs.Piping.{StateMeaning}
 use Rattle.pull_turns.specs.declared.turn.Turn.{Turn}
 use Rattle.pull_turns.specs.declared.turn.Turn.TheVariants as turn
 use Rattle.pull_stepper.specs.Stepping.{Halts, Stepping, TakesTurn, Wants}
-use Rattle.stream_jobs.specs.Messages.{news}
+use Rattle.stream_jobs.specs.Messages.{IsNews}
 
 -- the load that a turn gives, where it gives one
 abbrev pub load_in : Turn → Option Load
@@ -63,4 +63,4 @@ module _ {V F : Type 0} (P : Values → StateMeaning F) (told : V → DeviceTold
     pub obeys : Obeys looked.view.last s behind load
     pub stays : behind.how ≡ None → (running ≡ Some behind) × (new ≡ looked)
     pub leaves : (h : How) → behind.how ≡ Some h → (running ≡ None) × Interrupts h looked new
-    pub says : fresh ≡ news k behind.how load
+    pub says : IsNews k behind.how load fresh

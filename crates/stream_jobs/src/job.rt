@@ -28,6 +28,7 @@ use pull_nodes::PipeState;
 use pull_stepper::{Held, Stepper};
 use row_seat::RowSeat;
 use scope_tree::{Lease, Spent, Tree};
+use std::alloc::Global;
 use std::mem;
 use std::sync::Wait;
 
@@ -77,7 +78,9 @@ fn fill<T>(slot: &mut Option<T>, value: T)
 
 impl<V: Device, S: RowSeat<Pay = Held<V>>, F: PipeState> Job<S, V, F> {
     /// The job of a stream, of which nothing was sent, and whose seat was just split off with its lease.
+    /// The texts of its loads are made in memory of `alloc`.
     pub fn new(
+        alloc: Global,
         stream: u32,
         stepper: Stepper<S, V, F>,
         board: BoardSeat,
@@ -99,6 +102,7 @@ impl<V: Device, S: RowSeat<Pay = Held<V>>, F: PipeState> Job<S, V, F> {
                 stream,
                 stepper,
                 lease: JobLease(lease),
+                alloc,
             })),
             board,
             sender,

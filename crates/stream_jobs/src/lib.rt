@@ -5,7 +5,11 @@
 //! in the queue it is tried again, and nothing else is done. Else the gate is passed and the stream's
 //! context looked at once: where it is interrupted the stepper is halted, else it makes one turn; what
 //! comes of it, a load or the end, is sent, or waits where the queue is full (`Blocked`). No load that
-//! came is let go of, also where the context is interrupted by then.
+//! came is lost, also where the context is interrupted by then.
+//!
+//! A load is sent as the bytes that are printed of it, so that who receives it has nothing to render, and
+//! its own memory is let go of where it was filled. Where there is no memory for these bytes the load is
+//! sent as it is.
 //!
 //! Where the stepper has ended, a fault or want of memory interrupts the whole run, the lease is
 //! cancelled with the exit of the end, and the end is sent as the last message. The job is `Over` then,
@@ -18,14 +22,14 @@
 //! Contracts see a job by what it came from (`Origin`): `IsJob` says of all that was said so far, sent or
 //! waiting, that it is of a run of the stream's node, and of the seat at the board that it has set and
 //! seen what goes with that (`HasLearned`); each turn keeps both. What other streams do at the desk leaves
-//! a job its fit (`laws`). No call takes memory but for the stepper's turns; want of it there is the end
-//! `Memory`.
+//! a job its fit (`laws`). No call takes memory but for the stepper's turns, where want of it is the end
+//! `Memory`, and for the texts of loads.
 //!
 //! A stream is begun so:
 //!
 //! ```
 //! match Stepper::new(alloc, node, tree, devices, tables, chunk) {
-//!     Ok(stepper) => Job::new(k, stepper, board, sender, lease),
+//!     Ok(stepper) => Job::new(alloc, k, stepper, board, sender, lease),
 //!     Err(Unmade { tree, devices }) => {
 //!         Job::unmade(
 //!             k,
@@ -46,6 +50,7 @@ pub mod crossing;
 pub mod job;
 pub mod laws;
 mod leaving;
+mod rendering;
 mod running;
 mod stepping;
 

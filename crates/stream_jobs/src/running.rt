@@ -10,11 +10,12 @@ ghost use Rattle.pull_stepper.specs.Stepping.{IsOver};
 ghost use Rattle.stream_jobs.specs.Leaving.{CanLeave, IsVisiting, Leaves};
 ghost use Rattle.pull_stepper.specs.Steppers.{Works, stepping};
 ghost use Rattle.stream_jobs.specs.Learned.{HasLearned};
-ghost use Rattle.stream_jobs.specs.Messages.{end_message, held, load_message, news};
+ghost use Rattle.stream_jobs.specs.Messages.{IsNews, end_message, held, load_message};
 ghost use Rattle.stream_jobs.specs.Running.{FitsStage, Origin, RunsOn, Stands, ended_at, running_at};
 ghost use Rattle.stream_jobs.specs.Steps.{MovesOn};
 
 use crate::leaving::{Left, leave};
+use crate::rendering::rendered;
 use crate::stepping::{interrupt_run, look_and_step};
 use channel_bounded::{Body, Msg};
 use chunk_core::{How, Load};
@@ -24,6 +25,7 @@ use pull_nodes::PipeState;
 use pull_stepper::{Held, Stepper};
 use row_seat::RowSeat;
 use scope_tree::Lease;
+use std::alloc::Global;
 
 /// A lease that goes with its job. What a thread gives back may be let go, so a job has to be; then the
 /// lease is never cancelled.
@@ -64,6 +66,8 @@ pub(crate) struct Running<S: RowSeat, V, F: PipeState> {
     pub(crate) stream: u32,
     pub(crate) stepper: Stepper<S, V, F>,
     pub(crate) lease: JobLease,
+    /// For the texts of its loads.
+    pub(crate) alloc: Global,
 }
 
 /// How far a stream is.
@@ -97,11 +101,12 @@ pub(crate) fn end_of(stream: u32, how: How) -> Msg
     }
 }
 
-fn message_of(stream: u32, load: Option<Load>) -> Option<Msg>
-    ensures { held result ≡ news stream None load }
+/// The message with the text of the load that came, if one came.
+fn message_of(alloc: Global, stream: u32, load: Option<Load>) -> Option<Msg>
+    ensures { IsNews stream None load (held result) }
 {
     match load {
-        Some(load) => Some(load_of(stream, load)),
+        Some(load) => Some(load_of(stream, rendered(alloc, load))),
         None => None,
     }
 }
@@ -134,16 +139,18 @@ impl<V: Device, S: RowSeat<Pay = Held<V>>, F: PipeState> Running<S, V, F> {
             stream,
             mut stepper,
             lease,
+            alloc,
         } = self;
         gate.pass(stream);
         let load = look_and_step(&mut stepper, desk, seat, board, 1 + stream);
         match stepper.how() {
             None => Advanced {
-                message: message_of(stream, load),
+                message: message_of(alloc, stream, load),
                 stage: Stage::Running(Running {
                     stream,
                     stepper,
                     lease,
+                    alloc,
                 }),
             },
             Some(how) => {

@@ -3,7 +3,7 @@ ghost use Rattle.std.specs.Prelude.{◌≡◌, ◌-◌, ◌^◌, ◌<◌, IfOk};
 ghost use Rattle.device_port.specs.Memory.{sink_told};
 
 use chunk_core::{Exit, How, Line, List, Word};
-use device_port::{Act, FileOf, MemDepot, MemSink, MemSource, OpenGate, Source, Trip};
+use device_port::{Act, Depot, FileOf, Gate, MemDepot, MemSink, MemSource, OpenGate, Source, Trip};
 use flume_cli::{Report, Status, flume};
 use res_ledger::{Event, StreamNo, What};
 use run_rules::EndOf;
@@ -169,6 +169,34 @@ pub fn run_from<R: Threads + Wait + Sync, S: Source>(
         out,
         err,
     })
+}
+
+/// What a call printed and reported.
+#[derive(Drop)]
+pub struct Printed {
+    pub report: Report,
+    pub out: MemSink,
+    pub err: MemSink,
+}
+
+/// Makes the rest of the outside, and calls the top call once over this depot, with this gate.
+pub fn call_over<R: Threads + Wait + Sync, D: Depot, G: Gate + Sync>(
+    rt: &R,
+    alloc: Global,
+    case: &Case,
+    depot: &mut D,
+    gate: &G,
+) -> Result<Printed, AllocError>
+where
+    D::Dev: Send,
+{
+    let words = words_of(alloc, case.words)?;
+    let fails = numbers_of(alloc, case.source_fails)?;
+    let mut src = MemSource::new(alloc, case.source, fails)?;
+    let mut out = sink_of(alloc, case.out_fails)?;
+    let mut err = sink_of(alloc, case.err_fails)?;
+    let report = flume(rt, alloc, &words, &mut src, depot, &mut out, &mut err, gate);
+    Ok(Printed { report, out, err })
 }
 
 impl Aftermath {

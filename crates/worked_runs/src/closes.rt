@@ -1,9 +1,9 @@
 //! The ledger beside the closes of the devices.
-use crate::asserts::same_at;
-use chunk_core::{Exit, List, Word};
-use device_port::{Act, Depot, Device, Failed, MemDepot, MemSource, Mode, OpenGate};
-use flume_cli::{Report, Status, flume};
-use res_ledger::{Ledger, What};
+use crate::asserts::{holds_at, same};
+use chunk_core::{Exit, Word};
+use device_port::{Act, Depot, Device, Failed, MemDepot, Mode, OpenGate};
+use flume_cli::{Report, Status};
+use res_ledger::{Ledger, StreamNo, What};
 use std::alloc::{AllocError, Global};
 use std::process::Abort;
 use std::sync::atomic::AtomicU64;
@@ -11,7 +11,7 @@ use std::sync::atomic::Ordering::SeqCst;
 use std::sync::{Arc, Wait};
 use std::test::Fail;
 use std::thread::Threads;
-use worked_calls::outside::{Case, depot_of, run_of, sink_of};
+use worked_calls::outside::{Case, Printed, call_over, depot_of, run_of};
 
 /// A close of a device: how many came before it, the device's number, and the exit that it was told.
 #[derive(Clone, Copy, Debug)]
@@ -112,22 +112,6 @@ fn fresh_depot(alloc: Global, case: &Case) -> Result<WatchedDepot<MemDepot>, All
     })
 }
 
-/// Runs the description over the depot.
-fn report_of<R: Threads + Wait + Sync>(
-    rt: &R,
-    alloc: Global,
-    description: &[u8],
-    depot: &mut WatchedDepot<MemDepot>,
-) -> Result<Report, AllocError> {
-    let words = vec![in alloc; Word::of(alloc, "run")?]?;
-    let mut src = MemSource::new(alloc, description, List::new(alloc))?;
-    let mut out = sink_of(alloc, &[])?;
-    let mut err = sink_of(alloc, &[])?;
-    Ok(flume(
-        rt, alloc, &words, &mut src, depot, &mut out, &mut err, &OpenGate,
-    ))
-}
-
 /// Runs the case over a depot whose devices are watched. Its closes are in the order of the calls.
 fn watch<R: Threads + Wait + Sync>(
     rt: &R,
@@ -135,7 +119,11 @@ fn watch<R: Threads + Wait + Sync>(
     case: &Case,
 ) -> Result<(Report, WatchedDepot<MemDepot>), AllocError> {
     let mut depot = fresh_depot(alloc, case)?;
-    let report = report_of(rt, alloc, case.source, &mut depot)?;
+    let Printed {
+        report,
+        out: _,
+        err: _,
+    } = call_over(rt, alloc, case, &mut depot, &OpenGate)?;
     depot.closings.sort_unstable_by_key(|closing| closing.turn);
     Ok((report, depot))
 }
@@ -196,45 +184,108 @@ fn watch_streams<R: Threads + Wait + Sync>(
     watch(rt, alloc, &case)
 }
 
-/// Fails the test unless a run of the streams ends with this status, its devices are closed so, and
-/// the Finals of its ledger tell the same.
-fn closes_as<R: Abort + Threads + Wait + Sync>(
+/// Fails the test unless a run of the streams one by one ends with this status, its devices are closed
+/// so, and the Finals of its ledger tell the same.
+fn closes_one_by_one<R: Abort + Threads + Wait + Sync>(
     rt: &R,
     alloc: Global,
-    max_open: &str,
     trips: &[(&str, Act, u32)],
     status: Status,
     closes: &str,
 ) -> Result<(), AllocError> {
-    let (report, depot) = watch_streams(rt, alloc, max_open, trips)?;
-    same_at(rt, report.status, status, &max_open);
+    let (report, depot) = watch_streams(rt, alloc, "1", trips)?;
+    same(rt, report.status, status);
     let made = closes_of(alloc, &depot)?;
-    same_at(rt, made.as_str(), closes, &max_open);
+    same(rt, made.as_str(), closes);
     let told = finals_of(alloc, &report.ledger)?;
-    same_at(rt, told.as_str(), closes, &max_open);
+    same(rt, told.as_str(), closes);
     Ok(())
 }
 
-/// The Finals of the ledger tell each close of a device with its exit, in the order of the calls,
-/// whether the streams run one by one or side by side.
+/// The close of the device of a row.
+fn close_of_row(depot: &WatchedDepot<MemDepot>, row: u32) -> Option<Closing> {
+    let wanted = PATHS.get(row as usize).copied()?;
+    for closing in &depot.closings {
+        if let Some(place) = depot.depot.made().get(closing.number as usize) {
+            if place.path.as_str() == wanted {
+                return Some(*closing);
+            }
+        }
+    }
+    None
+}
+
+/// A stream's number behind that of the outer one.
+fn place_of(name: StreamNo) -> usize {
+    match name {
+        StreamNo::Outer => 0,
+        StreamNo::Inner(k) => (k as usize).saturating_add(1),
+    }
+}
+
+/// How many Finals tell a close with its exit, those of each stream in the order of its closes.
+fn finals_in_order(report: &Report, depot: &WatchedDepot<MemDepot>) -> usize {
+    let mut turns = [0u64; 4];
+    let mut count: usize = 0;
+    for event in report.ledger.as_slice() {
+        if let What::Final { row, exit, .. } = event.what {
+            if let (Some(closing), Some(turn)) = (
+                close_of_row(depot, row),
+                turns.get_mut(place_of(event.by)),
+            ) {
+                if closing.exit == exit && closing.turn >= *turn {
+                    *turn = closing.turn.saturating_add(1);
+                    count = count.saturating_add(1);
+                }
+            }
+        }
+    }
+    count
+}
+
+/// How many events of a ledger are Finals.
+fn count_finals(ledger: &Ledger) -> usize {
+    ledger
+        .as_slice()
+        .iter()
+        .filter(|event| matches!(event.what, What::Final { .. }))
+        .count()
+}
+
+/// Fails the test unless a run of the streams side by side ends with this status, and closes at least so
+/// many devices, of which the Finals of its ledger tell each, those of each stream in the order of its closes.
+fn closes_side_by_side<R: Abort + Threads + Wait + Sync>(
+    rt: &R,
+    alloc: Global,
+    trips: &[(&str, Act, u32)],
+    status: Status,
+    least: usize,
+) -> Result<(), AllocError> {
+    let (report, depot) = watch_streams(rt, alloc, "64", trips)?;
+    same(rt, report.status, status);
+    let count = depot.closings.len();
+    holds_at(rt, count >= least, &count);
+    same(rt, count_finals(&report.ledger), count);
+    same(rt, finals_in_order(&report, &depot), count);
+    Ok(())
+}
+
+/// The Finals of the ledger tell each close of a device with its exit, those of each stream in the order
+/// of the calls, whether the streams run one by one or side by side.
 #[test]
 fn finals_are_the_closes(rt: HostRuntime) -> Result<(), Fail> {
-    let alloc = rt.alloc();
     let one = "a succeeded\nb succeeded\nc succeeded\nu.csv succeeded\nt.csv succeeded\n";
-    closes_as(&rt, alloc, "1", &[], Status::Good, one)?;
-    let all = "c succeeded\nb succeeded\na succeeded\nu.csv succeeded\nt.csv succeeded\n";
-    closes_as(&rt, alloc, "64", &[], Status::Good, all)?;
+    closes_one_by_one(&rt, rt.alloc(), &[], Status::Good, one)?;
+    closes_side_by_side(&rt, rt.alloc(), &[], Status::Good, 5)?;
     Ok(())
 }
 
-/// The same where a read of the second stream fails, which halts the others.
+/// The same where a read of the second stream fails, which halts the others that are open by then.
 #[test]
 fn finals_are_the_closes_behind_a_fault(rt: HostRuntime) -> Result<(), Fail> {
-    let alloc = rt.alloc();
     let trips = [("b", Act::Read, 2)];
     let one = "a succeeded\nb errored\nu.csv canceled\nt.csv canceled\n";
-    closes_as(&rt, alloc, "1", &trips, Status::Faulty, one)?;
-    let all = "b errored\nc canceled\na canceled\nu.csv canceled\nt.csv canceled\n";
-    closes_as(&rt, alloc, "64", &trips, Status::Faulty, all)?;
+    closes_one_by_one(&rt, rt.alloc(), &trips, Status::Faulty, one)?;
+    closes_side_by_side(&rt, rt.alloc(), &trips, Status::Faulty, 3)?;
     Ok(())
 }

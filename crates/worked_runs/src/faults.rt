@@ -119,13 +119,13 @@ fn failed_close_of_a_stream(rt: HostRuntime) -> Result<(), Fail> {
     Ok(())
 }
 
-/// Fails the test unless this write fails behind this output, and this is reported.
+/// Fails the test unless this write fails behind this output, and one of these is reported.
 fn write_fails(
     rt: &(impl Abort + Threads + Wait + Sync),
     alloc: Global,
     nth: u32,
     out: &[u8],
-    tail: &str,
+    tails: &[&str],
 ) -> Result<(), AllocError> {
     let case = Case {
         trips: &[(Act::Read, 2)],
@@ -136,13 +136,16 @@ fn write_fails(
         )
     };
     let seen = run(rt, alloc, &case)?;
-    is_not_written(rt, alloc, &seen, out, tail)
+    is_not_written(rt, alloc, &seen, out, tails)
 }
 
-/// Two frames and the tail are three writes. Where one of these fails nothing is written after it,
-/// and the stream is halted if it hasn't ended.
-#[test]
-fn failed_write_ends_the_run(rt: HostRuntime) -> Result<(), Fail> {
+/// Fails the test unless each of the three writes fails, where a stream that gave all before its end was
+/// halted is told by the last of these.
+fn each_write_fails(
+    rt: &(impl Abort + Threads + Wait + Sync),
+    alloc: Global,
+    last: &str,
+) -> Result<(), AllocError> {
     let first = "end outer done\nend 0 halted\nledger 7\n\
         outer lease 0 0\nouter close 0 succeeded\n0 open 1 0\n0 acquire 0 1\n0 close 0 canceled\n\
         0 final 0 canceled ok\n0 cancel 0 canceled\n";
@@ -150,9 +153,17 @@ fn failed_write_ends_the_run(rt: HostRuntime) -> Result<(), Fail> {
         outer lease 0 0\nouter close 0 succeeded\n0 open 1 0\n0 acquire 0 1\n0 close 1 errored\n\
         0 final 0 errored ok\n0 close 0 canceled\n0 cancel 0 canceled\n";
     let frames = b"0 3\nab\n\n0 5\nlost\n\n";
-    write_fails(&rt, rt.alloc(), 1, b"", first)?;
-    write_fails(&rt, rt.alloc(), 2, b"0 3\nab\n\n", second)?;
-    write_fails(&rt, rt.alloc(), 3, frames, CAUGHT)?;
+    write_fails(rt, alloc, 1, b"", &[first, second, last])?;
+    write_fails(rt, alloc, 2, b"0 3\nab\n\n", &[second, last])?;
+    write_fails(rt, alloc, 3, frames, &[CAUGHT])
+}
+
+/// Two frames and the tail are three writes. Where one of these fails nothing is written after it. A stream
+/// of which a frame is missing is halted, wherever it had come to by then.
+#[test]
+fn failed_write_ends_the_run(rt: HostRuntime) -> Result<(), Fail> {
+    let last = CAUGHT.replace(rt.alloc(), "end 0 done", "end 0 halted")?;
+    each_write_fails(&rt, rt.alloc(), last.as_str())?;
     Ok(())
 }
 
@@ -164,6 +175,6 @@ fn failed_write_of_the_tail(rt: HostRuntime) -> Result<(), Fail> {
         ..run_of("[[stream]]\npath = 'a'\nsteps = ['lines']\n", b"")
     };
     let seen = run(&rt, rt.alloc(), &case)?;
-    is_not_written(&rt, rt.alloc(), &seen, b"", DONE)?;
+    is_not_written(&rt, rt.alloc(), &seen, b"", &[DONE])?;
     Ok(())
 }

@@ -1,6 +1,6 @@
 //! Calls over an outside in memory, of which calls of devices, of the output or of memory fail, with what
 //! they print and leave written out by hand: `cat`, descriptions that can't be read, runs of one stream
-//! and of many, cases that are made of numbers, and audits.
+//! and of many, side by side, cases that are made of numbers, and audits.
 #![tactic(auto)]
 
 #[cfg(test)]
@@ -16,6 +16,8 @@ mod closes;
 #[cfg(test)]
 mod crowd;
 #[cfg(test)]
+mod crowds;
+#[cfg(test)]
 mod described;
 #[cfg(test)]
 mod failing;
@@ -24,11 +26,19 @@ mod faults;
 #[cfg(test)]
 mod generated;
 #[cfg(test)]
+mod meeting;
+#[cfg(test)]
 mod memory;
 #[cfg(test)]
 mod missing;
 #[cfg(test)]
+mod mixed;
+#[cfg(test)]
+mod numbers;
+#[cfg(test)]
 mod outputs;
+#[cfg(test)]
+mod payloads;
 #[cfg(test)]
 mod refusals;
 #[cfg(test)]

@@ -138,6 +138,6 @@ fn failed_write_of_the_tail_beside_a_file(rt: HostRuntime) -> Result<(), Fail> {
         Some(b"hello\n".as_slice()),
         &COPYING,
     );
-    is_not_written(&rt, rt.alloc(), &seen, b"", WRITTEN)?;
+    is_not_written(&rt, rt.alloc(), &seen, b"", &[WRITTEN])?;
     Ok(())
 }

@@ -122,28 +122,32 @@ pub(crate) fn each_leaves(
     Ok(())
 }
 
-/// Fails the test unless the ends and the ledger have this text, and each device came back.
-pub(crate) fn is_reported(
+/// Fails the test unless the ends and the ledger have one of these texts, and each device came back.
+fn is_reported(
     rt: &impl Abort,
     alloc: Global,
     seen: &Aftermath,
-    tail: &str,
+    tails: &[&str],
 ) -> Result<(), AllocError> {
-    holds(rt, seen.reported(alloc, tail)?);
+    let mut is_one = false;
+    for tail in tails {
+        is_one = is_one || seen.reported(alloc, tail)?;
+    }
+    holds(rt, is_one);
     Ok(())
 }
 
-/// Fails the test unless a write failed when this was written, and this was reported.
+/// Fails the test unless a write failed when this was written, and one of these was reported.
 pub(crate) fn is_not_written(
     rt: &impl Abort,
     alloc: Global,
     seen: &Aftermath,
     out: &[u8],
-    tail: &str,
+    tails: &[&str],
 ) -> Result<(), AllocError> {
     same(rt, seen.report.status, Status::NotWritten);
     same(rt, seen.out.written(), out);
     same(rt, seen.out.faults(), 1);
     same(rt, seen.err.written(), b"");
-    is_reported(rt, alloc, seen, tail)
+    is_reported(rt, alloc, seen, tails)
 }

@@ -66,12 +66,13 @@ fn each_write_fails(rt: HostRuntime) -> Result<(), Fail> {
 }
 
 /// Fails the test unless the run has this status where the first such call of the second device
-/// fails, and each device that was made came back.
+/// fails, at least so many devices were made, and each of them came back.
 fn call_fails<R: Abort + Threads + Wait + Sync>(
     rt: &R,
     alloc: Global,
     act: Act,
     status: Status,
+    least: usize,
 ) -> Result<(), AllocError> {
     let trips: [(&str, Act, u32); 1] = [("b", act, 1)];
     let case = Case {
@@ -82,15 +83,17 @@ fn call_fails<R: Abort + Threads + Wait + Sync>(
     let seen = run(rt, alloc, &case)?;
     same_at(rt, seen.report.status, status, &act);
     holds_at(rt, seen.returned(), &act);
-    same_at(rt, seen.depot.made().len(), 3, &act);
+    let made = seen.depot.made().len();
+    holds_at(rt, made >= least && made <= 3, &(act, made));
     Ok(())
 }
 
-/// Whichever call of a device fails, every device comes back, and one end or one Final tells of it.
+/// Whichever call of a device fails, every device comes back, and one end or one Final tells of it. Behind
+/// a fault the third stream need not have begun.
 #[test]
 fn each_call_fails(rt: HostRuntime) -> Result<(), Fail> {
-    call_fails(&rt, rt.alloc(), Act::Open, Status::Faulty)?;
-    call_fails(&rt, rt.alloc(), Act::Read, Status::Faulty)?;
-    call_fails(&rt, rt.alloc(), Act::Close, Status::Unclean)?;
+    call_fails(&rt, rt.alloc(), Act::Open, Status::Faulty, 2)?;
+    call_fails(&rt, rt.alloc(), Act::Read, Status::Faulty, 2)?;
+    call_fails(&rt, rt.alloc(), Act::Close, Status::Unclean, 3)?;
     Ok(())
 }

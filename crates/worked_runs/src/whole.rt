@@ -20,18 +20,19 @@ fn taker_asks_no_more(rt: HostRuntime) -> Result<(), Fail> {
     Ok(())
 }
 
-/// Behind the last frame that is wanted the stream is halted, and its file is read no further.
+/// Behind the last frame that is wanted the stream is halted. By then two pieces may have been read that
+/// nobody wants: one that waits in the queue, and one that waits for room there.
 #[test]
 fn frames_are_limited(rt: HostRuntime) -> Result<(), Fail> {
     const FEWER: &[Row<'static>] = &[
-        ("1", b"abc", b"0 1\na\n"),
-        ("2", b"abc", b"0 1\na\n0 1\nb\n"),
-        ("3", b"abc", b"0 1\na\n0 1\nb\n0 1\nc\n"),
+        ("1", b"abcdefgh", b"0 1\na\n"),
+        ("2", b"abcdefgh", b"0 1\na\n0 1\nb\n"),
+        ("3", b"abcdefgh", b"0 1\na\n0 1\nb\n0 1\nc\n"),
     ];
     const ALL: Row<'static> = ("4", b"abc", b"0 1\na\n0 1\nb\n0 1\nc\n");
     let whole = Alike {
-        trips: &[(Act::Read, 5)],
-        ..ending_well("take = @\nchunk = 1\n[[stream]]\npath = 'a'\n")
+        trips: &[(Act::Read, 6)],
+        ..ending_well("take = @\nchunk = 1\nqueue = 1\n[[stream]]\npath = 'a'\n")
     };
     row_leaves(&rt, rt.alloc(), &whole, &ALL)?;
     let halted = Alike {

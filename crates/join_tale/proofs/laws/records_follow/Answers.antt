@@ -1,5 +1,5 @@
 use Rattle.join_tale.specs.Records.{bare}
-use Rattle.join_tale.proofs.Stopping.{record_follows}
+use Rattle.join_tale.proofs.Stopping.{record_follows, wants_for}
 use Rattle.join_tale.proofs.Undisturbed.{undisturbed_is_done}
 use Rattle.join_tale.proofs.laws.records_follow.Goals as goal
 
@@ -8,3 +8,6 @@ returns-clause-follows c o ss t rec i settled r = record_follows (bare o ss) t r
 
 pub returns-clause-done : goal.returns-clause-done
 returns-clause-done c o ss = undisturbed_is_done (bare o ss)
+
+pub returns-clause-wanting : goal.returns-clause-wanting
+returns-clause-wanting c o ss t rec i r m = wants_for (bare o ss) t rec i r m

@@ -9,15 +9,15 @@ use Rattle.par_join.proofs.streams.run_in.Goals as goal
 pub begin-requires : goal.begin-requires
 begin-requires g c = record { start = begins_there c.args.plan.now (g.S.RowSeat.view c.args.room.seat) c.requires.room.seat }
 
-pub run-requires-clause-fresh : goal.run-requires-clause-fresh
-run-requires-clause-fresh g c =
+pub run_lending-requires-clause-fresh : goal.run_lending-requires-clause-fresh
+run_lending-requires-clause-fresh g c κs within =
     let p = c.args.plan.now in
     let b = c.begin.ensures in
     let r = c.requires.room in
     rw c.new-collector.ensures (record {
       fits_desk = b.fits c.args.desk.now c.requires.fits;
       main = b.main p.max_open (length p.streams);
-      seat = first_seat p _ c.requires.limits.few_streams (b.seat ∙ r.seat);
+      seat = first_seat p _ (b.seat ∙ r.seat);
       rows = (let n = b.room.1 in let m = r.rows in omega (arith, n, m));
       used = b.used;
       outer = refl;
@@ -28,10 +28,10 @@ run-requires-clause-fresh g c =
 
 pub end_run-requires-clause-collecting : goal.end_run-requires-clause-collecting
 end_run-requires-clause-collecting g c =
-    (c.args.plan.now, c.requires.limits, g.D.Depot.told c.args.depot.now, g.K.Sink.told c.args.out.now, c.run.ensures.collecting.0, g.K.Sink.told c.run.new.out, c.run.ensures.collecting.1)
+    (c.args.plan.now, c.requires.limits, g.D.Depot.told c.args.depot.now, g.K.Sink.told c.args.out.now, c.run_lending.ensures.collecting.0, g.K.Sink.told c.run_lending.new.out, c.run_lending.ensures.collecting.1)
 
 pub returns-in-Ok : goal.returns-in-Ok
-returns-in-Ok g c = c.end_run.ensures c.args.plan.now c.requires.limits (g.D.Depot.told c.args.depot.now) (g.K.Sink.told c.args.out.now) c.run.ensures.collecting.0 (g.K.Sink.told c.run.new.out) c.run.ensures.collecting.1
+returns-in-Ok g c = c.end_run.ensures c.args.plan.now c.requires.limits (g.D.Depot.told c.args.depot.now) (g.K.Sink.told c.args.out.now) c.run_lending.ensures.collecting.0 (g.K.Sink.told c.run_lending.new.out) c.run_lending.ensures.collecting.1
 
 pub returns-in-Err : goal.returns-in-Err
 returns-in-Err g c =

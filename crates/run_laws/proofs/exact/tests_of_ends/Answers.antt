@@ -1,5 +1,6 @@
 use Rattle.run_laws.specs.Laws.{work_of}
-use Rattle.run_laws.proofs.EndsTested.{shown_so, begun_so, caused_so, memory_known_so, memory_told_so}
+use Rattle.run_laws.proofs.EndsTested.{shown_so, begun_so, caused_so, memory_known_so}
+use Rattle.run_laws.proofs.RoomTested.{memory_told_so}
 use Rattle.run_laws.proofs.exact.tests_of_ends.Goals as goal
 
 pub returns : goal.returns

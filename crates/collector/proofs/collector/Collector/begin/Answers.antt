@@ -12,6 +12,9 @@ use Rattle.pull_stepper.specs.Held.{FinishesDevice}
 use Rattle.scope_tree.specs.declared.tree.Tree.{Tree}
 use Rattle.tree_families.specs.Families.{split_of}
 use Rattle.pipeline_desc.specs.Places.{rows_of}
+use Rattle.stream_workers.proofs.Returning.{job_back, job_on}
+use Rattle.res_ledger.specs.declared.event.StreamNo.TheVariants.{Inner, Outer}
+use Rattle.stream_jobs.specs.declared.job.Job.{Job}
 use Rattle.pull_turns.specs.Piping.{standing}
 use Rattle.row_seat.specs.Views.{IsWithin, split_off}
 use Rattle.scope_tree.specs.Trees.{seen}
@@ -73,13 +76,13 @@ split_off-requires-clause-free g c =
     omega (arith, e, f)
 
 pub job_of-job-requires-clause-seated : goal.job_of-job-requires-clause-seated
-job_of-job-requires-clause-seated g c = c.requires.collecting.5.telling.seated
+job_of-job-requires-clause-seated g c κs within = c.requires.collecting.5.telling.seated
 
 pub job_of-job-requires-clause-hub : goal.job_of-job-requires-clause-hub
-job_of-job-requires-clause-hub g c = c.requires.collecting.5.streams.hub_is
+job_of-job-requires-clause-hub g c κs within = c.requires.collecting.5.streams.hub_is
 
 pub job_of-job-requires-clause-fresh : goal.job_of-job-requires-clause-fresh
-job_of-job-requires-clause-fresh g c =
+job_of-job-requires-clause-fresh g c κs within =
     let view = g.S.RowSeat.view in
     let told = g.V.Device.told in
     let fits = g.S.RowSeat.fits in
@@ -109,13 +112,13 @@ job_of-job-requires-clause-number g c =
     omega (arith, few, b)
 
 pub job_of-job-requires-clause-lease : goal.job_of-job-requires-clause-lease
-job_of-job-requires-clause-lease g c =
+job_of-job-requires-clause-lease g c κs within =
     let a = c.args.self.now in
     let k = c.requires.collecting.5 in
     next_is g.V.Device.told c.args.plan.now 2 (seen g.S.RowSeat.view a.tree) a.outer a.leased c.args.lease a.waiting.items k.parts k.progress k.tree ∙ sym k.next
 
 pub job_of-job-requires-clause-guest : goal.job_of-job-requires-clause-guest
-job_of-job-requires-clause-guest g c =
+job_of-job-requires-clause-guest g c κs within =
     let a = c.args.self.now in
     let p = c.args.plan.now in
     let k = c.requires.collecting.5 in
@@ -126,10 +129,10 @@ job_of-job-requires-clause-guest g c =
     subst (λ i. IsNewGuest (g.S.RowSeat.view c.in-Ok.seat) a.next i T) (sym guest.floor) guest
 
 pub job_of-job-requires-clause-supplied : goal.job_of-job-requires-clause-supplied
-job_of-job-requires-clause-supplied g c = c.requires.collecting.6.supplied
+job_of-job-requires-clause-supplied g c κs within = c.requires.collecting.6.supplied
 
 pub job_of-job-requires-clause-room : goal.job_of-job-requires-clause-room
-job_of-job-requires-clause-room g c =
+job_of-job-requires-clause-room g c κs within =
     let view = g.S.RowSeat.view in
     let told = g.V.Device.told in
     let a = c.args.self.now in
@@ -139,8 +142,25 @@ job_of-job-requires-clause-room g c =
     let b = below view told g.S.RowSeat.fits g.F.PipeState.values (standing g.F.Feed.stands g.F.Feed.comes) p r.0 r.1 (g.F.PipeState.values c.args.made.tables) 2 c.args.lease a.waiting.items a.jobs.items a.receiver r.2 r.4 c.args.desk.now a k in
     has_room told p a.next r.2 r.3 c.args.made.parts r.6 (view a.tree.seat) (view c.in-Ok.seat) c.events.result c.args.lease.rows.items k.tree.rows.0 b c.events.ensures (c.in-Ok.ensures.seat.0 ∙ ap (λ (s : Span). split_off (view a.tree.seat) a.next s.from s.to c.events.result) c.rows.ensures)
 
+pub begin-open-requires-clause-fits : goal.begin-open-requires-clause-fits
+begin-open-requires-clause-fits g c κs within =
+    let view = g.S.RowSeat.view in
+    let told = g.V.Device.told in
+    let fits = g.S.RowSeat.fits in
+    let values = g.F.PipeState.values in
+    let P = standing g.F.Feed.stands g.F.Feed.comes in
+    let a = c.args.self.now in
+    let k = c.requires.collecting.5 in
+    let e = c.in-Ok.ensures in
+    let m = c.job_of-job.ensures.makes in
+    let j = c.job_of-job.result in
+    let stays = (g.met.S.SharesDesk g.world.𝓛 g.world.𝓜 g.world.𝓡 ((λ s x. x), (λ x. x), (λ x. x), λ x. x)).stays in
+    job_on view values told P fits j c.args.desk.now c.args.own.desk c.requires.own
+    (job_back view values told P fits stays _ j m.job a.tree.seat Outer c.args.desk.now c.split_off.new.desk k.fits_desk.seat e.others
+    (job_back view values told P fits stays _ j m.job c.split_off.new.tree.seat (Inner a.next) c.split_off.new.desk c.job_of-job.new.desk e.fits.seat c.job_of-job.ensures.others m.fits_desk))
+
 pub miss-requires-clause-collecting : goal.miss-requires-clause-collecting
-miss-requires-clause-collecting g c =
+miss-requires-clause-collecting g c κs within =
     let a = c.args.self.now in
     let r = c.requires.collecting in
     let e = c.in-Err.ensures in (
@@ -189,7 +209,7 @@ returns-in-Ok g c = record {
       let job = c.job_of-job.ensures in
       let j = c.job_of-job.result in
       let jobs = c.push_back_reserved.new.self in
-      let z : Collector _ _ _ _ _ _ = record a { tree = tree; jobs = jobs } in
+      let z : Collector _ _ _ _ _ = record a { tree = tree; jobs = jobs } in
       let outs = few_out view told fits values P p d0 s0 t 2 (l ∷ ws) js a.receiver before sink c.args.desk.now a k in
       let ready = ready_so told p 2 (seen view a.tree) a.outer a.leased l ws k.parts k.progress k.tree (length js) outs c.requires.few c.requires.ahead (λ h is. outer_done (bare_work p) k.tale k.telling.is_tale (unknown_is k.tale a.stops 0 k.telling.known c.requires.may.0) h (k.telling.outer_is ∙ is)) in
       let main = subst (λ i. IsMain (FinishesDevice told) p.max_open (length p.streams) (seen view tree) (splitting k.progress (view a.tree.seat) i us)) is (e.main p.max_open (length p.streams) k.progress T us k.tree.main waits ready) in
@@ -198,10 +218,10 @@ returns-in-Ok g c = record {
       let out = subst (λ i. AreOut (seen view tree) (k.progress.splits ++ split_of (view a.tree.seat) i ∷ []) (map guest_of k.streams.origins ++ tree_guest (view a.tree.seat) i T ∷ [])) is (e.out p.max_open (length p.streams) k.progress T us (map guest_of k.streams.origins) k.tree.main waits k.streams.out) in
       let few = k.tree.few in
       let same = job.same in
-      let pushed = c.push_back_reserved.ensures.items ∙ ap (λ (x : Collector _ _ _ _ _ _). x.jobs.items ++ j ∷ []) same in
+      let pushed = c.push_back_reserved.ensures.items ∙ (ap (λ (o : Job _ _ _ _ _ _). c.job_of-job.new.self.jobs.items ++ o ∷ []) c.begin-open.ensures ∙ ap (λ (x : Collector _ _ _ _ _). x.jobs.items ++ j ∷ []) same) in
       let begun = begin_step view told fits values P p d0 s0 t 2 l ws js a.receiver before sink c.args.desk.now a k z c.split_off.new.desk c.job_of-job.new.desk c.requires.may c.requires.few s.0 s.1 now c.args.made.parts made (view c.in-Ok.seat) c.chunk.result c.chunk.ensures.value j
-      guest.floor job.makes main split e.owed out e.fits e.others job.others pushed (c.push_back_reserved.ensures.capacity ∙ ap (λ (x : Collector _ _ _ _ _ _). deque_capacity x.jobs) same) 1 (omega (arith, few)) (λ y i. c.requires.ahead y) in
-      subst (λ (x : Collector _ _ _ _ _ _). IsCollecting view told fits values P p d0 s0 t 1 now sink c.job_of-job.new.desk (record x { jobs = jobs; next = x.next + 1 })) (sym same)
+      guest.floor job.makes main split e.owed out e.fits e.others job.others pushed (c.push_back_reserved.ensures.capacity ∙ ap (λ (x : Collector _ _ _ _ _). deque_capacity x.jobs) same) 1 (omega (arith, few)) (λ y i. c.requires.ahead y) in
+      subst (λ (x : Collector _ _ _ _ _). IsCollecting view told fits values P p d0 s0 t 1 now sink c.job_of-job.new.desk (record x { jobs = jobs; next = x.next + 1 })) (sym same)
       (subst (λ xs. IsCollectingWith view told fits values P p d0 s0 t 1 ws xs (record a.receiver { made = a.receiver.made ++ a.next ∷ [] }) now sink c.job_of-job.new.desk (record (with_seats_out (record a { tree = tree })) { jobs = jobs; next = a.next + 1 })) (sym pushed) begun);
 }
 
@@ -212,6 +232,6 @@ push_back_reserved-requires g c =
     let size = a.jobs.ok.0 in
     let few = c.requires.few in
     let room = k.room.jobs_room in
-    let len = ap (λ (x : Collector _ _ _ _ _ _). x.jobs.len) c.job_of-job.ensures.same in
-    let cap = ap (λ (x : Collector _ _ _ _ _ _). deque_capacity x.jobs) c.job_of-job.ensures.same in
+    let len = ap (λ (x : Collector _ _ _ _ _). x.jobs.len) c.job_of-job.ensures.same in
+    let cap = ap (λ (x : Collector _ _ _ _ _). deque_capacity x.jobs) c.job_of-job.ensures.same in
     omega (arith, size, few, room, len, cap)

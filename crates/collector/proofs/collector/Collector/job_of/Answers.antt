@@ -1,10 +1,11 @@
 -- The tree over the seat has room for the node, and the job is at the hub and at the board.
-use Rattle.std.proofs.Common.{None, ap, subst, sym, ◌∙◌}
+use Rattle.std.proofs.Common.{None, ap, subst, sym, ◌∙◌, []}
 use Rattle.interrupt_ctx.specs.Ends.{SeatSeen}
 use Rattle.pull_stepper.specs.Stepping.{Stepping, begun}
 use Rattle.pull_turns.specs.Piping.{standing}
 use Rattle.scope_tree.specs.Trees.{Fits, seen}
 use Rattle.scope_tree.specs.declared.tree.Tree.{Tree}
+use Rattle.channel_bounded.specs.Ends.{HubSeen, SenderSeen}
 use Rattle.stream_jobs.specs.Jobs.{IsAt, IsJob, JobSeen}
 use Rattle.collector.proofs.Beginning.{guest_room, is_of, job_at, unmade_so}
 use Rattle.collector.proofs.collector.Collector.job_of.Goals as goal
@@ -56,7 +57,7 @@ returns-in-Ok-clause-makes g c =
       job = subst (λ (b : SeatSeen). IsJob view values told P (record { stream = k; leased = T; start = first; board = b }) j) other job;
       fits_desk = c.new-in-Ok.ensures.fits c.args.desk.now (c.in-Ok.ensures.fits c.args.desk.now (n.fits c.args.desk.now c.requires.fits));
       place = subst (λ (x : JobSeen _ _). IsAt x c.args.self.now.hub c.args.self.now.stops.board) (sym c.new-in-Ok.ensures.seen)
-          (job_at _ seat c.split-sender.result None k c.args.self.now.hub c.args.self.now.stops.board (ap (λ (x : SeatSeen). x.board) other ∙ c.requires.seated.fits) c.split-sender.ensures.sender c.requires.context c.requires.number);
+          (job_at _ seat c.split-sender.result None k c.args.self.now.hub c.args.self.now.stops.board (ap (λ (x : SeatSeen). x.board) other ∙ c.requires.seated.fits) (c.split-sender.ensures.sender ∙ ap (λ (h : HubSeen). let y : SenderSeen = record { hub = h.id; stream = c.args.self.now.next; sent = [] } in y) c.get.ensures) c.requires.context c.requires.number);
     }
 
 pub returns-in-Err-clause-makes : goal.returns-in-Err-clause-makes
@@ -85,5 +86,5 @@ returns-in-Err-clause-makes g c =
       is_of = is_of node (view c.args.seat) c.args.made.parts.room a n.seen n.root n.owed n.used c.requires.guest.start.opened T c.requires.room told k c.args.chunk ds t _ c.requires.guest c.requires.supplied c.requires.chunk;
       job = subst (λ (b : SeatSeen). IsJob view values told P (record { stream = k; leased = T; start = begun node a ds t c.args.chunk; board = b }) j) other job;
       fits_desk = c.unmade.ensures.fits;
-      place = job_at _ j.board j.sender j.waiting k c.args.self.now.hub c.args.self.now.stops.board (job.learned.board ∙ (ap (λ (x : SeatSeen). x.board) other ∙ c.requires.seated.fits)) (c.unmade.ensures.sender ∙ c.split-sender.ensures.sender) c.requires.context c.requires.number;
+      place = job_at _ j.board j.sender j.waiting k c.args.self.now.hub c.args.self.now.stops.board (job.learned.board ∙ (ap (λ (x : SeatSeen). x.board) other ∙ c.requires.seated.fits)) (c.unmade.ensures.sender ∙ (c.split-sender.ensures.sender ∙ ap (λ (h : HubSeen). let y : SenderSeen = record { hub = h.id; stream = c.args.self.now.next; sent = [] } in y) c.get.ensures)) c.requires.context c.requires.number;
     }

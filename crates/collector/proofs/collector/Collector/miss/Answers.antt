@@ -41,8 +41,8 @@ push_reserved-requires g c =
     let room = k.room.left in
     let n = k.next in
     let size = a.left.ok.0 in
-    let same = ap (λ (x : Collector _ _ _ _ _ _). x.left.len) c.pass_over.ensures.same in
-    let cap = ap (λ (x : Collector _ _ _ _ _ _). vec_capacity x.left) c.pass_over.ensures.same in
+    let same = ap (λ (x : Collector _ _ _ _ _). x.left.len) c.pass_over.ensures.same in
+    let cap = ap (λ (x : Collector _ _ _ _ _). vec_capacity x.left) c.pass_over.ensures.same in
     omega (arith, room, b, n, size, same, cap)
 
 pub returns : goal.returns
@@ -60,8 +60,8 @@ returns g c = record {
       let few = k.tree.few in
       let y : Leftover _ = record { shelf = c.new.result; unopened = c.args.unopened } in
       let left = c.push_reserved.new.self in
-      let z : Collector _ _ _ _ _ _ = record a { tree = c.pass_over.new.self.tree; stops = c.interrupt.new.self; report = c.miss.new.self; left = left } in
-      subst (λ (x : Collector _ _ _ _ _ _). IsCollecting view told fits values P c.args.plan.now d0 s0 t 1 now sink c.pass_over.new.desk (record x { left = left })) (sym e.same)
+      let z : Collector _ _ _ _ _ = record a { tree = c.pass_over.new.self.tree; stops = c.interrupt.new.self; report = c.miss.new.self; left = left } in
+      subst (λ (x : Collector _ _ _ _ _). IsCollecting view told fits values P c.args.plan.now d0 s0 t 1 now sink c.pass_over.new.desk (record x { left = left })) (sym e.same)
       (miss_step view told fits values P c.args.plan.now d0 s0 t 2 c.args.lease a.waiting.items a.jobs.items a.receiver before sink c.args.desk.now a k z c.pass_over.new.desk i.marks.0 i.marks.1 now c.args.unopened y s e.passes e.fits e.others i.marks.2 i.marks.3 i.seated c.miss.ensures is made c.new.ensures refl
-      (q.items ∙ ap (λ (x : Collector _ _ _ _ _ _). x.left.items ++ y ∷ []) e.same) (q.capacity ∙ ap (λ (x : Collector _ _ _ _ _ _). vec_capacity x.left) e.same) 1 (omega (arith, few)) (λ n l. c.requires.ahead n));
+      (q.items ∙ ap (λ (x : Collector _ _ _ _ _). x.left.items ++ y ∷ []) e.same) (q.capacity ∙ ap (λ (x : Collector _ _ _ _ _). vec_capacity x.left) e.same) 1 (omega (arith, few)) (λ n l. c.requires.ahead n));
 }

@@ -1,8 +1,10 @@
 -- The outer stream is pulled once more, unless it has ended.
-use Rattle.std.proofs.Common.{◌+◌, [], arith, inl, length, sym, ◌∙◌}
+use Rattle.std.proofs.Common.{◌+◌, [], ap, arith, inl, length, refl, subst, sym, ◌∙◌}
+use Rattle.std.specs.Prelude.{IsSome}
 use Rattle.pull_turns.specs.Piping.{standing}
 use Rattle.scope_tree.specs.Trees.{seen}
-use Rattle.collector.proofs.OuterSteps.{halted_now, looked_now, more_now, found_still, open_so, whole_found}
+use Rattle.collector.specs.declared.collector.Collector.{Collector}
+use Rattle.collector.proofs.OuterSteps.{ended_already, halted_now, looked_now, more_now, found_still, open_so, whole_found}
 use Rattle.collector.proofs.Tree.{root_open}
 use Rattle.collector.proofs.collector.Collector.pull.Goals as goal
 
@@ -110,3 +112,14 @@ returns-else-is_set-clause-collecting g c d0 s0 t depot sink k =
 
 pub lease_next-requires-clause-few : goal.lease_next-requires-clause-few
 lease_next-requires-clause-few g c = let few = c.requires.few in let waits = c.requires.collecting.5.tree.few in omega (arith, few, waits)
+
+pub returns-then-is_some-clause-stops : goal.returns-then-is_some-clause-stops
+returns-then-is_some-clause-stops g c w none known = ended_already c.args.self.now.outer (sym c.is_some.ensures ∙ c.if-is_some.true) none
+
+pub returns-then-is_set-clause-stops : goal.returns-then-is_set-clause-stops
+returns-then-is_set-clause-stops g c w none known =
+    let same = c.close.ensures.same in
+    (subst (λ (x : Collector _ _ _ _ _). IsSome x.outer) (sym same) refl, ap (λ (x : Collector _ _ _ _ _). x.leased) same ∙ c.skip.ensures.leased)
+
+pub returns-else-is_set-clause-stops : goal.returns-else-is_set-clause-stops
+returns-else-is_set-clause-stops g c w none known = absurd (c.if-is_set.ensures.looks.1 w known)

@@ -1,5 +1,6 @@
 -- The next message was got.
-use Rattle.std.proofs.Common.{sym, subst}
+use Rattle.std.proofs.Common.{ap, sym, subst, ◌∙◌}
+use Rattle.channel_bounded.specs.Ends.{HubSeen}
 use Rattle.pull_turns.specs.Piping.{standing}
 use Rattle.collector.specs.Collecting.{IsCollectingWith}
 use Rattle.collector.proofs.Queued.{has_got, may_receive}
@@ -7,7 +8,7 @@ use Rattle.collector.proofs.Turning.{had_received}
 use Rattle.collector.proofs.collector.Collector.receive_next.Goals as goal
 
 pub try_recv-requires-clause-fits : goal.try_recv-requires-clause-fits
-try_recv-requires-clause-fits g c = c.requires.collecting.5.streams.hub_is
+try_recv-requires-clause-fits g c = c.requires.collecting.5.streams.hub_is ∙ ap (λ (h : HubSeen). h.id) (sym c.get.ensures)
 
 pub try_recv-requires-clause-may : goal.try_recv-requires-clause-may
 try_recv-requires-clause-may g c = may_receive c.args.self.now.receiver

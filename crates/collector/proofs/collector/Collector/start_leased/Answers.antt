@@ -40,14 +40,14 @@ pass_over-requires-clause-number g c =
     let few = c.requires.limits.few_streams in
     omega (arith, few, b)
 
-pub make_one-requires : goal.make_one-requires
-make_one-requires g c =
+pub equip-requires : goal.equip-requires
+equip-requires g c =
     let a = c.args.self.now in
     let r = c.requires.collecting in
     below g.S.RowSeat.view g.V.Device.told g.S.RowSeat.fits g.F.PipeState.values (standing g.F.Feed.stands g.F.Feed.comes) c.args.plan.now r.0 r.1 (g.F.PipeState.values c.args.tables.now) 2 c.args.lease a.waiting.items a.jobs.items a.receiver (g.D.Depot.told c.args.depot.now) r.2 c.args.desk.now a r.3
 
 pub begin-requires-clause-may : goal.begin-requires-clause-may
-begin-requires-clause-may g c =
+begin-requires-clause-may g c κs within =
     let a = c.args.self.now in
     let s = c.is_set in
     let u = unfound a.stops s.new.self (1 + a.next) s.result s.ensures.looks c.if-is_set.false in
@@ -67,16 +67,16 @@ returns-then-is_set g c = record {
       let depot = g.D.Depot.told c.args.depot.now in
       let s = c.is_set in
       let f = found a.stops s.new.self (1 + a.next) s.result s.ensures.looks c.if-is_set.true in
-      let b : Collector _ _ _ _ _ _ = record a { stops = s.new.self } in
+      let b : Collector _ _ _ _ _ = record a { stops = s.new.self } in
       let e = c.pass_over.ensures in
       let known = learns_step view told fits values P p d0 s0 t 2 (c.args.lease ∷ a.waiting.items) a.jobs.items a.receiver depot sink c.args.desk.now a k s.new.self f.0 f.1 s.ensures.seated in
       let few = k.tree.few in
-      subst (λ (x : Collector _ _ _ _ _ _). IsCollecting view told fits values P p d0 s0 t 1 depot sink c.pass_over.new.desk x) (sym e.same)
+      subst (λ (x : Collector _ _ _ _ _). IsCollecting view told fits values P p d0 s0 t 1 depot sink c.pass_over.new.desk x) (sym e.same)
       (skip_step view told fits values P p d0 s0 t 2 c.args.lease a.waiting.items a.jobs.items a.receiver depot sink c.args.desk.now b known c.pass_over.new.self.tree c.pass_over.new.desk e.passes e.fits e.others (may_skip b a.stops f.0 f.1 f.2 (λ one. s.ensures.seated.settled (let room = k.room.jobs_room in let l = c.requires.few in let seats = k.telling.seats in let out = f.1.out in omega (arith, one, room, l, seats, out)))) 1 (omega (arith, few)) (λ n l. c.requires.ahead n));
 }
 
 pub begin-requires-clause-collecting : goal.begin-requires-clause-collecting
-begin-requires-clause-collecting g c =
+begin-requires-clause-collecting g c κs within =
     let view = g.S.RowSeat.view in
     let told = g.V.Device.told in
     let fits = g.S.RowSeat.fits in
@@ -92,14 +92,14 @@ begin-requires-clause-collecting g c =
       r.0,
       r.1,
       depot,
-      g.D.Depot.told c.make_one.new.depot,
+      g.D.Depot.told c.equip.new.depot,
       r.2,
       subst (λ x. IsCollectingWith view told fits values P p r.0 r.1 (values x) 2 (c.args.lease ∷ a.waiting.items) a.jobs.items a.receiver depot r.2 c.args.desk.now (record a { stops = s.new.self })) (sym c.in-Ok.ensures.tables) known,
       c.in-Ok.ensures.parts,
     )
 
 pub miss-requires-clause-collecting : goal.miss-requires-clause-collecting
-miss-requires-clause-collecting g c =
+miss-requires-clause-collecting g c κs within =
     let view = g.S.RowSeat.view in
     let told = g.V.Device.told in
     let fits = g.S.RowSeat.fits in
@@ -125,7 +125,7 @@ returns-in-Ok g c = record {
       let a = c.args.self.now in
       let p = c.args.plan.now in
       let depot = g.D.Depot.told c.args.depot.now in
-      let now = g.D.Depot.told c.make_one.new.depot in
+      let now = g.D.Depot.told c.equip.new.depot in
       let s = c.is_set in
       let u = unfound a.stops s.new.self (1 + a.next) s.result s.ensures.looks c.if-is_set.false in
       let known = learns_step view told fits values P p d0 s0 (values c.args.tables.now) 2 (c.args.lease ∷ a.waiting.items) a.jobs.items a.receiver depot sink c.args.desk.now a k s.new.self [] u.0 s.ensures.seated in
@@ -145,7 +145,7 @@ returns-in-Err g c = record {
       let p = c.args.plan.now in
       let t = values c.args.tables.now in
       let depot = g.D.Depot.told c.args.depot.now in
-      let now = g.D.Depot.told c.make_one.new.depot in
+      let now = g.D.Depot.told c.equip.new.depot in
       let s = c.is_set in
       let u = unfound a.stops s.new.self (1 + a.next) s.result s.ensures.looks c.if-is_set.false in
       let known = learns_step view told fits values P p d0 s0 t 2 (c.args.lease ∷ a.waiting.items) a.jobs.items a.receiver depot sink c.args.desk.now a k s.new.self [] u.0 s.ensures.seated in

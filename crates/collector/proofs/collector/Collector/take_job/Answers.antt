@@ -37,7 +37,7 @@ loop-passed-preserved g c =
     record {
       passed = subst (λ xs. Passed (λ j. j.sender.stream) c.args.stream (n + 1) first xs) (sym b.new_is) (passed_more (λ j. j.sender.stream) c.args.stream n first b.job b.rest (omega (arith, t, l, size)) b.other (subst (λ xs. Passed (λ j. j.sender.stream) c.args.stream n first xs) b.old_is i.passed));
       room = c.in-None.ensures.room ∙ i.room;
-      same = c.in-None.ensures.same ∙ ap (λ (z : Collector _ _ _ _ _ _). record z { jobs = c.next_job.new.self.jobs }) i.same;
+      same = c.in-None.ensures.same ∙ ap (λ (z : Collector _ _ _ _ _). record z { jobs = c.next_job.new.self.jobs }) i.same;
     }
 
 pub returns-in-Some-clause-some : goal.returns-in-Some-clause-some
@@ -52,7 +52,7 @@ pub returns-in-Some-clause-room : goal.returns-in-Some-clause-room
 returns-in-Some-clause-room g c = c.in-Some.ensures.room ∙ c.loop-passed.invariant.room
 
 pub returns-in-Some-clause-same : goal.returns-in-Some-clause-same
-returns-in-Some-clause-same g c = c.in-Some.ensures.same ∙ ap (λ (z : Collector _ _ _ _ _ _). record z { jobs = c.next_job.new.self.jobs }) c.loop-passed.invariant.same
+returns-in-Some-clause-same g c = c.in-Some.ensures.same ∙ ap (λ (z : Collector _ _ _ _ _). record z { jobs = c.next_job.new.self.jobs }) c.loop-passed.invariant.same
 
 pub returns-clause-none : goal.returns-clause-none
 returns-clause-none g c =

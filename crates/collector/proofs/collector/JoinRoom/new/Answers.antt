@@ -1,5 +1,6 @@
 -- There is room for the streams of a plan.
-use Rattle.std.proofs.Common.{◌+◌, ap, arith, length, subst, sym, true, ◌∙◌}
+use Rattle.std.proofs.Common.{[], ◌+◌, ap, arith, length, subst, sym, true, ◌∙◌}
+use Rattle.channel_bounded.specs.Ends.{HubSeen, ReceiverSeen}
 use Rattle.join_report.specs.Reports.{IsReport}
 use Rattle.join_tale.specs.Steps.{first_tale}
 use Rattle.collector.proofs.collector.JoinRoom.new.Goals as goal
@@ -16,7 +17,8 @@ returns g c =
       seated = c.in_ok-stops.ensures.seated;
       seat = c.in_ok-stops.ensures.seat;
       contexts = c.in_ok-stops.ensures.contexts ∙ ap (λ n. n + 1) count;
-      receiver = c.in_ok-hub.ensures.receiver;
+      receiver = c.in_ok-hub.ensures.receiver ∙ ap (λ (h : HubSeen). let y : ReceiverSeen = record { hub = h.id; got = []; made = []; closed = [] } in y) (sym c.in_ok-hub-2.ensures);
+      queue = ap (λ (h : HubSeen). h.capacity) c.in_ok-hub-2.ensures ∙ (c.in_ok-hub.ensures.capacity ∙ c.queue.ensures.value);
       some = λ s. subst (λ n. IsReport p.take n first_tale r) count (subst (λ m. IsReport m c.len-streams.result first_tale r) take (e.some (λ z. s (sym take ∙ z))));
       none = λ z. subst (λ n. IsReport p.take n (record first_tale { ceased = true }) r) count (subst (λ m. IsReport m c.len-streams.result (record first_tale { ceased = true }) r) take (e.none (take ∙ z)));
       waiting = q.waiting.0;

@@ -10,7 +10,7 @@ use Rattle.stream_jobs.specs.Leaving.{CanLeave}
 use Rattle.stream_jobs.specs.Learned.{HasLearned}
 use Rattle.stream_jobs.specs.Messages.{end_message, held}
 use Rattle.stream_jobs.proofs.Advancing.{left_so, obeyed_over, said_on, visiting_at}
-use Rattle.stream_jobs.proofs.Learning.{FoundCode, end_learns, halted_for, look_finds, look_learns}
+use Rattle.stream_jobs.proofs.Learning.{FoundCode, end_learns, halted_for, load_full, look_finds, look_learns}
 use Rattle.stream_jobs.proofs.Runs.{obeyed_ends, obeyed_on, room_to_leave, same_end}
 use Rattle.stream_jobs.proofs.running.Running.advance.Goals as goal
 
@@ -58,6 +58,8 @@ returns-in-None-clause-stands g c w said r =
     let last = look.new.seat.view.last in
     let a = stepping g.S.RowSeat.view g.F.PipeState.values c.args.self.stepper in
     let b = stepping g.S.RowSeat.view g.F.PipeState.values look.new.stepper in
+    let full = load_full P told a b (option_or last.own last.root) look.result look.ensures.obeys in
+    let more = said_on told P c.args.self.stream w.stream r.loads r.texts look.result said (held c.message_of.result) r.stream r.texts_are r.said_is c.message_of.ensures full in
     record {
       stream = r.stream;
       lease = r.lease;
@@ -65,7 +67,9 @@ returns-in-None-clause-stands g c w said r =
       begun = r.begun;
       loads = r.loads ++ held look.result;
       given = obeyed_on told P w a b r.loads r.given look.ensures.since (option_or last.own last.root) look.result look.ensures.obeys (sym c.in-None.ensures);
-      said_is = said_on told P c.args.self.stream w.stream r.loads look.result said c.message_of.result r.stream r.said_is c.message_of.ensures;
+      texts = more.0;
+      texts_are = more.1;
+      said_is = more.2;
     }
 
 pub returns-in-None-clause-learned : goal.returns-in-None-clause-learned
@@ -92,7 +96,7 @@ returns-in-Some-clause-stands g c w said r =
     let h = c.in-Some.how in
     let run = obeyed_ends told P w a b r.loads r.given look.ensures.since (option_or last.own last.root) look.result look.ensures.obeys h (sym c.in-Some.ensures) in
     let left = c.leave.result in
-    left_so told P w a b r.loads said l.stream l.rows.items h left.how (g.S.RowSeat.view left.seat) left.shelf left.unopened c.end_of.result r.begun r.said_is r.lease r.leased run (sym c.in-Some.ensures)
+    left_so told P w a b r.loads r.texts said l.stream l.rows.items h left.how (g.S.RowSeat.view left.seat) left.shelf left.unopened c.end_of.result r.begun r.texts_are r.said_is r.lease r.leased run (sym c.in-Some.ensures)
     (c.leave.ensures.leaves w.start.site (visiting_at told P l.stream l.rows.items w b.site r.lease r.leased r.begun run.since))
     (c.end_of.ensures ∙ ap (λ i. end_message i h) r.stream)
 

@@ -1,0 +1,264 @@
+-- Each stream begins in room that was there.
+use Rattle.std.proofs.Common.{◌≡◌, ◌⊎◌, ℕ, suc, ◌<◌, Bool, true, false, List, [], ◌∷◌, ◌++◌, length, Option, Some, None, is_some, inl, inr, refl, sym, ap, ◌∙◌, subst, ⊎_elim, arith, append-nil}
+use Rattle.std.specs.List.{last_or}
+use Rattle.chunk_core.specs.Lists.{IsAmong}
+use Rattle.chunk_core.specs.Lists.IsAmong.{here}
+use Rattle.chunk_core.specs.Texts.{Frame}
+use Rattle.chunk_core.proofs.Cuts.{cut}
+use Rattle.chunk_core.proofs.Filters.{among_append}
+use Rattle.chunk_core.proofs.Members.{among_cons, among_mid, among_nil, among_snoc}
+use Rattle.chunk_core.specs.declared.code.Code.{Code}
+use Rattle.chunk_core.specs.declared.code.How.{How}
+use Rattle.chunk_core.specs.declared.code.How.TheVariants as how
+use Rattle.interrupt_ctx.specs.declared.view.Interruption.{Interruption}
+use Rattle.run_rules.specs.Ends.{PrintsBehind}
+use Rattle.run_rules.specs.Facts.{at}
+use Rattle.run_rules.specs.Work.{Work, most_of}
+use Rattle.join_tale.specs.Keeping.{HasEndedAll, IsTale, KeepsFrames, KeepsRoom, PrintedLast, WasOpen}
+use Rattle.join_tale.specs.Steps.{MayBegin, fated}
+use Rattle.join_tale.specs.Tales.{Came, Fate, HasCome, IsBegun, IsKnown, IsOpen, Tale, end_of, frames_begun, frames_of, load_of}
+use Rattle.join_tale.specs.Tales.Fate.{Begun, Unmade}
+use Rattle.join_tale.proofs.Ceasing.{cut_ceased, late_ceased, memory_ceased}
+use Rattle.join_tale.proofs.Growing.{Grows, own_grows}
+use Rattle.join_tale.proofs.Parts.{end_before_end, end_before_load, frame_came, frame_of, frames_end, frames_load, last_written, no_end}
+use Rattle.join_tale.proofs.Places.{at_below, at_snoc, last_snoc, some_is}
+
+-- Frames behind others.
+
+no_place : (A B : List Frame) (g : Frame) → [] ≡ A ++ g ∷ B → ⊥
+no_place [] B g e = cc
+no_place (a ∷ A) B g e = cc
+
+-- where one stands last behind a list, it stands last behind each place in it
+split_last : (F A B : List Frame) (x g : Frame) → F ++ x ∷ [] ≡ A ++ g ∷ B → (B ≡ []) ⊎ ((R : List Frame) × (F ≡ A ++ g ∷ R) × (B ≡ R ++ x ∷ []))
+split_last [] [] B x g e = inl (sym (cut x [] B g e).1)
+split_last [] (a ∷ A) B x g e = absurd (no_place A B g (cut x [] (A ++ g ∷ B) a e).1)
+split_last (y ∷ F) [] B x g e = let c = cut y (F ++ x ∷ []) B g e in inr (F, ap (λ z. z ∷ F) c.0, sym c.1)
+split_last (y ∷ F) (a ∷ A) B x g e =
+    let c = cut y (F ++ x ∷ []) (A ++ g ∷ B) a e in
+    ⊎_elim (λ n. inl n) (λ r. inr (r.0, (ap (λ z. z ∷ F) c.0 ∙ ap (λ l. a ∷ l) r.1), r.2)) (split_last F A B x g c.1)
+
+-- a frame more stands behind the others
+printed_snoc : (F : List Frame) (x : Frame) (k i : ℕ) → PrintsBehind (F ++ x ∷ []) k i → PrintsBehind F k i ⊎ (x.stream ≡ i)
+printed_snoc F x k i p = ⊎_elim
+    (λ n. absurd (among_nil (subst (λ l. IsAmong p.2 l) n p.6)))
+    (λ r. ⊎_elim
+    (λ m. inl (p.0, r.0, p.2, p.3, r.1, p.5, m, p.7))
+    (λ e. inr (ap (λ (y : Frame). y.stream) (sym e) ∙ p.7))
+    (among_snoc r.0 p.2 x (subst (λ l. IsAmong p.2 l) r.2 p.6)))
+    (split_last F p.0 p.1 x p.3 p.4)
+
+-- Steps.
+
+-- what came in the step from t to u is of open streams alone
+pub record Passes (work : Work) (t u : Tale) : Type 0 where
+  pub printed : (k i : ℕ) → PrintsBehind (frames_begun u) k i → PrintsBehind (frames_begun t) k i ⊎ IsOpen t i
+  pub came : (i : ℕ) (h : How) → Came u i h → Came t i h ⊎ IsOpen t i
+  pub late : (i : ℕ) (h : How) → IsAmong (end_of i h) u.late → IsAmong (end_of i h) t.late ⊎ IsOpen t i
+  pub unmade : (k i : ℕ) → i < k → IsBegun t k → at u.fates i ≡ Some Unmade → at t.fates i ≡ Some Unmade
+  pub last : (i : ℕ) → PrintedLast work u i → PrintedLast work t i ⊎ IsOpen t i
+
+module _ (work : Work) (t u : Tale) (g : Grows t u) (p : Passes work t u) where
+  open_before : (i : ℕ) → IsOpen u i → IsOpen t i
+  open_before i o = (g.begun i o.0, λ c. o.1 (c.0, g.came i c.0 c.1))
+
+  by_end : (k i : ℕ) → HasEndedAll work t i ⊎ IsOpen t i → WasOpen work t k i
+  by_end k i h = ⊎_elim (λ e. inr (inr (inl e))) (λ o. inl o) h
+
+  ended_before : (k i : ℕ) → i < k → IsBegun t k → HasEndedAll work u i → HasEndedAll work t i ⊎ IsOpen t i
+  ended_before k i l b h = ⊎_elim
+      (λ f. ⊎_elim (λ c. inl (inl (f.0, c))) (λ o. inr o) (p.came i (how.Fault f.0) f.1))
+      (λ x. ⊎_elim
+      (λ m. ⊎_elim (λ c. inl (inr (inl c))) (λ o. inr o) (p.came i how.Memory m))
+      (λ y. ⊎_elim
+      (λ s. ⊎_elim (λ c. inl (inr (inr (inl (c, λ f. s.1 (own_grows work t u g i f)))))) (λ o. inr o) (p.came i how.Halted s.0))
+      (λ z. ⊎_elim
+      (λ m. ⊎_elim (λ c. inl (inr (inr (inr (inl (m.0, c)))))) (λ o. inr o) (p.late i m.0 m.1))
+      (λ e. inl (inr (inr (inr (inr (p.unmade k i l b e))))))
+      z)
+      y)
+      x)
+      h
+
+  was_before : (k i : ℕ) → i < k → IsBegun t k → WasOpen work u k i → WasOpen work t k i
+  was_before k i l b w = ⊎_elim
+      (λ o. inl (open_before i o))
+      (λ x. ⊎_elim
+      (λ q. ⊎_elim (λ o. inr (inl o)) (λ o. inl o) (p.printed k i q))
+      (λ y. ⊎_elim
+      (λ e. by_end k i (ended_before k i l b e))
+      (λ z. ⊎_elim
+      (λ q. ⊎_elim (λ o. inr (inr (inr (inl o)))) (λ o. inl o) (p.last i q))
+      (λ q. ⊎_elim (λ c. inr (inr (inr (inr (q.0, (q.1.0, c)))))) (λ o. inl o) (p.came i q.1.0 q.1.1))
+      z)
+      y)
+      x)
+      w
+
+  -- the room that was there is known as before
+  pub room_passes : KeepsRoom work t → KeepsRoom work u
+  room_passes r o is k b = let c = g.begun k b in let h = r o is k c in (h.0, h.1, λ i l w. h.2 i l (was_before k i l c w))
+
+module _ (work : Work) (t : Tale) where
+  -- nothing came
+  pub stays : (fs : List Fate) (o : Option How) (xs ys : List Interruption) (b m : Bool) → ((k i : ℕ) → i < k → IsBegun t k → at fs i ≡ Some Unmade → at t.fates i ≡ Some Unmade) → Passes work t (record t { fates = fs; outer = o; set = xs; seen = ys; ceased = b; memory = m })
+  stays fs o xs ys b m unmade = record { printed = λ k i q. inl q; came = λ i h c. inl c; late = λ i h n. inl n; unmade = unmade; last = λ i q. inl q }
+
+  module _ (f : KeepsFrames work t) (k : ℕ) (o : IsOpen t k) where
+    open_too : (i : ℕ) → k ≡ i → IsOpen t i
+    open_too i e = subst (λ n. IsOpen t n) e o
+
+    late_none : t.ceased ≡ false → (i : ℕ) (h : How) (ms : List _) → IsAmong (end_of i h) (t.late ++ ms) → IsAmong (end_of i h) ms
+    late_none c i h ms m = subst (λ l. IsAmong (end_of i h) (l ++ ms)) (f.quiet c).0 m
+
+    module _ (x : List ℕ) where
+      no_end_late : (i : ℕ) (h : How) → IsAmong (end_of i h) (load_of k x ∷ []) → ⊥
+      no_end_late i h m = ⊎_elim (λ e. no_end i k h x e) (λ n. among_nil n) (among_cons m)
+
+      -- a load is written
+      pub writes_pass : (xs ys : List Interruption) (b : Bool) → t.ceased ≡ false → Passes work t (record t { front = t.front ++ load_of k x ∷ []; set = xs; seen = ys; ceased = b })
+      writes_pass xs ys b c =
+          let none : t.cut ≡ None = (f.quiet c).1 in
+          let shut : (l : List Frame) → l ++ elim t.cut [ Some z ↦ z ∷ [] | None ↦ [] ] ≡ l = λ l. ap (λ (q : Option Frame). l ++ elim q [ Some z ↦ z ∷ [] | None ↦ [] ]) none ∙ append-nil l in
+          let more : frames_of (t.front ++ load_of k x ∷ []) ++ elim t.cut [ Some z ↦ z ∷ [] | None ↦ [] ] ≡ frames_begun t ++ frame_of k x ∷ [] = shut (frames_of (t.front ++ load_of k x ∷ [])) ∙ (frames_load t.front k x ∙ ap (λ l. l ++ frame_of k x ∷ []) (sym (shut (frames_of t.front)))) in
+          record {
+            printed = λ j i q. ⊎_elim (λ n. inl n) (λ e. inr (open_too i e)) (printed_snoc (frames_begun t) (frame_of k x) j i (subst (λ l. PrintsBehind l j i) more q));
+            came = λ i h m. inl (⊎_elim (λ a. inl (end_before_load i k h x t.front a)) (λ a. inr a) m);
+            late = λ i h m. inl m;
+            unmade = λ j i l d e. e;
+            last = λ i q. inr (open_too i (last_written t.front k x t.cut q.1 none q.2 ∙ q.3));
+          }
+
+      -- the write of a load fails
+      pub fails_pass : (xs ys : List Interruption) → t.ceased ≡ false → Passes work t (record t { late = load_of k x ∷ []; set = xs; seen = ys; ceased = true; cut = Some (frame_of k x) })
+      fails_pass xs ys c =
+          let shut : frames_begun t ≡ frames_of t.front = ap (λ (q : Option Frame). frames_of t.front ++ elim q [ Some z ↦ z ∷ [] | None ↦ [] ]) (f.quiet c).1 ∙ append-nil (frames_of t.front) in
+          record {
+            printed = λ j i q. ⊎_elim (λ n. inl (subst (λ l. PrintsBehind l j i) (sym shut) n)) (λ e. inr (open_too i e)) (printed_snoc (frames_of t.front) (frame_of k x) j i q);
+            came = λ i h m. ⊎_elim (λ a. inl (inl a)) (λ a. absurd (no_end_late i h a)) m;
+            late = λ i h m. absurd (no_end_late i h m);
+            unmade = λ j i l d e. e;
+            last = λ i q. inr (open_too i (ap (λ (z : Frame). z.stream) (some_is (frame_of k x) q.1 (sym (last_snoc None (frames_of t.front) (frame_of k x)) ∙ q.2)) ∙ q.3));
+          }
+
+      -- there is no memory to render a load
+      pub lacks_pass : (xs ys : List Interruption) → Passes work t (record t { late = load_of k x ∷ []; set = xs; seen = ys; ceased = true; memory = true })
+      lacks_pass xs ys = record {
+        printed = λ j i q. inl q;
+        came = λ i h m. ⊎_elim (λ a. inl (inl a)) (λ a. absurd (no_end_late i h a)) m;
+        late = λ i h m. absurd (no_end_late i h m);
+        unmade = λ j i l d e. e;
+        last = λ i q. inl q;
+      }
+
+      -- a load comes too late
+      pub drops_pass : Passes work t (record t { late = t.late ++ load_of k x ∷ [] })
+      drops_pass = record {
+        printed = λ j i q. inl q;
+        came = λ i h m. inl (⊎_elim (λ a. inl a) (λ a. inr (end_before_load i k h x t.late a)) m);
+        late = λ i h m. inl (end_before_load i k h x t.late m);
+        unmade = λ j i l d e. e;
+        last = λ i q. inl q;
+      }
+
+    module _ (h : How) where
+      -- the frames are these, and the one whose write failed
+      abbrev LastOf : ℕ → List Frame → Type 0
+      LastOf i F = ((most_of work ≡ Some (length F)) ⊎ (is_some t.cut ≡ true)) × (z : Frame) × (last_or None (F ++ elim t.cut [ Some y ↦ y ∷ [] | None ↦ [] ]) ≡ Some z) × (z.stream ≡ i)
+
+      -- an end comes while frames are written
+      pub ends_pass : (xs ys : List Interruption) (b : Bool) → Passes work t (record t { front = t.front ++ end_of k h ∷ []; set = xs; seen = ys; ceased = b; memory = b })
+      ends_pass xs ys b =
+          let same : frames_of (t.front ++ end_of k h ∷ []) ≡ frames_of t.front = frames_end t.front k h in
+          record {
+            printed = λ j i q. inl (subst (λ (l : List Frame). PrintsBehind (l ++ elim t.cut [ Some y ↦ y ∷ [] | None ↦ [] ]) j i) same q);
+            came = λ i g m. ⊎_elim (λ a. ⊎_elim (λ n. inl (inl n)) (λ e. inr (open_too i (sym e.0))) (end_before_end i k g h t.front a)) (λ a. inl (inr a)) m;
+            late = λ i g m. inl m;
+            unmade = λ j i l d e. e;
+            last = λ i q. inl (subst (λ l. LastOf i l) same q);
+          }
+
+      -- an end comes later
+      pub ends_late_pass : (xs ys : List Interruption) (b : Bool) → Passes work t (record t { late = t.late ++ end_of k h ∷ []; set = xs; seen = ys; memory = b })
+      ends_late_pass xs ys b = record {
+        printed = λ j i q. inl q;
+        came = λ i g m. ⊎_elim (λ a. inl (inl a)) (λ a. ⊎_elim (λ n. inl (inr n)) (λ e. inr (open_too i (sym e.0))) (end_before_end i k g h t.late a)) m;
+        late = λ i g m. ⊎_elim (λ n. inl n) (λ e. inr (open_too i (sym e.0))) (end_before_end i k g h t.late m);
+        unmade = λ j i l d e. e;
+        last = λ i q. inl q;
+      }
+
+-- A stream begins.
+
+module _ (work : Work) (t : Tale) (i : IsTale work t) (may : MayBegin work t) where
+  -- the stream of a frame was begun
+  cut_begun : (c : Option Frame) (f : Frame) → t.cut ≡ c → IsAmong f (elim c [ Some z ↦ z ∷ [] | None ↦ [] ]) → IsBegun t f.stream
+  cut_begun None f e m = absurd (among_nil m)
+  cut_begun (Some g) f e m =
+      let q = i.frames.cut g e in
+      let b : IsBegun t g.stream = (i.frames.ours (load_of g.stream g.payload) (inr (subst (λ l. IsAmong (load_of g.stream g.payload) l) (sym q.1) (here q.0)))).0 in
+      ⊎_elim (λ (s : f ≡ g). subst (λ (h : Frame). IsBegun t h.stream) (sym s) b) (λ n. absurd (among_nil n)) (among_cons m)
+
+  frame_begun : (f : Frame) → IsAmong f (frames_begun t) → IsBegun t f.stream
+  frame_begun f m = ⊎_elim
+      (λ n. (i.frames.ours (load_of f.stream f.payload) (inl (frame_came f t.front n))).0)
+      (λ n. cut_begun t.cut f refl n)
+      (among_append f (frames_of t.front) (elim t.cut [ Some z ↦ z ∷ [] | None ↦ [] ]) m)
+
+  never : IsKnown t 0 → ⊥
+  never k = may.run k
+
+  -- no stream came to an end by which no further one begins
+  none_ended : (j : ℕ) → HasEndedAll work t j → ⊥
+  none_ended j h = ⊎_elim
+      (λ f. never (i.ends.fault j f.0 f.1).0)
+      (λ x. ⊎_elim
+      (λ m. never (i.stop (memory_ceased work t i (i.ends.memory j m).0)))
+      (λ y. ⊎_elim
+      (λ s. ⊎_elim (λ f. s.1 f) (λ f. never (inr f.0)) (i.ends.halted j s.0))
+      (λ z. ⊎_elim (λ m. never (i.stop (late_ceased work t i (end_of j m.0) m.1))) (λ e. never (i.stop (memory_ceased work t i (i.fates.unmade j e).0))) z)
+      y)
+      x)
+      h
+
+  none_last : (j : ℕ) → PrintedLast work t j → ⊥
+  none_last j p = never (i.stop (⊎_elim (λ m. i.frames.met m) (λ c. cut_ceased work t i c) p.0))
+
+  -- a stream below the new one is open now if it was before
+  open_below : (j : ℕ) → j < length t.fates → IsOpen (fated t Begun) j → IsOpen t j
+  open_below j l o = (⊎_elim (λ b. b) (λ n. absurd (let e : j ≡ length t.fates = n.0 in omega (arith, e, l))) (at_snoc t.fates Begun j Begun o.0), o.1)
+
+  unmade_below : (j : ℕ) → at (t.fates ++ Begun ∷ []) j ≡ Some Unmade → at t.fates j ≡ Some Unmade
+  unmade_below j e = ⊎_elim (λ o. o) (λ n. absurd (let q : Unmade ≡ Begun = n.1 in cc)) (at_snoc t.fates Begun j Unmade e)
+
+  ended_below : (j : ℕ) → HasEndedAll work (fated t Begun) j → HasEndedAll work t j
+  ended_below j h = ⊎_elim (λ f. inl f) (λ x. ⊎_elim (λ m. inr (inl m)) (λ y. ⊎_elim (λ s. inr (inr (inl s))) (λ z. ⊎_elim (λ m. inr (inr (inr (inl m)))) (λ e. inr (inr (inr (inr (unmade_below j e))))) z) y) x) h
+
+  -- for a stream that was begun before nothing changes
+  as_before : (k j : ℕ) → j < k → IsBegun t k → WasOpen work (fated t Begun) k j → WasOpen work t k j
+  as_before k j l b w = ⊎_elim
+      (λ o. inl (open_below j (let m = at_below t.fates k Begun b in omega (arith, l, m)) o))
+      (λ x. ⊎_elim (λ q. inr (inl q)) (λ y. ⊎_elim (λ e. inr (inr (inl (ended_below j e)))) (λ z. ⊎_elim (λ q. inr (inr (inr (inl q)))) (λ q. inr (inr (inr (inr q)))) z) y) x)
+      w
+
+  -- of the new stream none printed, and those before it that were open are open still
+  open_now : (k j : ℕ) → k ≡ length t.fates → j < k → WasOpen work (fated t Begun) k j → IsOpen t j
+  open_now k j is l w = ⊎_elim
+      (λ o. open_below j (omega (arith, is, l)) o)
+      (λ x. ⊎_elim
+      (λ p. absurd (let b = frame_begun p.3 (subst (λ F. IsAmong p.3 F) (sym p.4) (among_mid p.0 p.1 p.3)) in let m = at_below t.fates p.3.stream Begun b in let e = p.5 in omega (arith, m, e, is)))
+      (λ y. ⊎_elim
+      (λ e. absurd (none_ended j (ended_below j e)))
+      (λ z. ⊎_elim
+      (λ q. absurd (none_last j q))
+      (λ q. absurd (may.own (subst (λ n. IsKnown t (suc n)) is (i.ends.until j k q.1 q.0).0)))
+      z)
+      y)
+      x)
+      w
+
+  pub begun_room : KeepsRoom work (fated t Begun)
+  begun_room o is k b = ⊎_elim
+      (λ old. let h = i.room o is k old in (h.0, h.1, λ j l w. h.2 j l (as_before k j l old w)))
+      (λ new. let h = may.few o is in (h.0, h.1, λ j l w. h.2 j (open_now k j new.0 l w)))
+      (at_snoc t.fates Begun k Begun b)
