@@ -3,7 +3,7 @@ ghost use Rattle.std.specs.Prelude.{◌≡◌, ◌↔◌, true};
 ghost use Rattle.res_ledger.specs.declared.event.Event.{Event};
 ghost use Rattle.res_ledger.specs.Ledger.{IsLegal};
 ghost use Rattle.res_ledger.specs.Whole.{IsComplete};
-ghost use Rattle.ledger_books.specs.Keyed.{Keeps};
+ghost use Rattle.ledger_books.specs.Kept.{Keeps};
 ghost use Rattle.ledger_audit.specs.Complete.{IsAnswered};
 
 use ledger_books::Books;
@@ -20,12 +20,12 @@ fn is_answered(books: &Books, past: &[Event], event: Event) -> bool
 {
     let by = event.by;
     match event.what {
-        What::Open { scope, .. } => is_closed(&books.index, past, by, scope),
+        What::Open { scope, .. } => is_closed(&books.ends, past, by, scope),
         What::Acquire { row, .. } => {
             if !is_final(&books.index, past, row) {
                 return false;
             }
-            is_closed(&books.index, past, by, 0)
+            is_closed(&books.ends, past, by, 0)
         }
         What::Lease { stream, .. } => is_canceled(&books.index, past, stream),
         _ => true,

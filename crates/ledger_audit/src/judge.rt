@@ -2,7 +2,8 @@
 ghost use Rattle.std.specs.Prelude.{◌≡◌, IfOk, List};
 ghost use Rattle.res_ledger.specs.declared.event.Event.{Event};
 ghost use Rattle.res_ledger.specs.Ledger.{IsLegal};
-ghost use Rattle.ledger_books.specs.Keyed.{IsFirstIllegal, Keeps};
+ghost use Rattle.ledger_books.specs.Keyed.{IsFirstIllegal};
+ghost use Rattle.ledger_books.specs.Kept.{Keeps};
 ghost use Rattle.ledger_verdict.specs.Verdict.{IsVerdict};
 
 use crate::complete::is_complete;
@@ -12,11 +13,12 @@ use ledger_verdict::{Rule, Verdict};
 use res_ledger::{Event, Ledger};
 use std::alloc::{AllocError, Global};
 
-/// What is kept of all events of a ledger.
+/// What is kept of all events of a legal ledger.
 fn books_of(alloc: Global, events: &[Event]) -> Result<Books, AllocError>
+    requires { IsLegal events.now }
     ensures { IfOk result (λ b. Keeps b events.now) }
 {
-    let mut books = Books::new(alloc);
+    let mut books = Books::of(alloc, events)?;
     for (i, event) in events.iter().enumerate() {
         books.note(*event, i as u64)?;
     }

@@ -14,12 +14,12 @@
 //! - `complete` asks of each event whether what it began was ended.
 //! - `laws` has ledgers that are written out, each with its verdict.
 //!
-//! What an event costs: what it costs in `ledger_books`, and for the order a few look-ups more. A
-//! Close takes down each open scope below it and each row there, and none of them is taken down
-//! again; a Cancel costs one look-up, however many rows its lease covers. A Final after a Close
-//! passes over the rows in front of it, each once, and asks for each whether a lease covers it: the
-//! leases that were noted since that row was acquired. A Final after a Cancel asks this of its lease
-//! alone, by the depth of a scope.
+//! What an event costs: what it costs in `ledger_books`, which is made twice, and for the order a
+//! few look-ups more. A Close takes down each open scope below it and each row there, and none of
+//! them is taken down again; a Cancel costs one look-up, however many rows its lease covers. A Final
+//! after a Close passes over the rows in front of it, each once, and asks for each whether a lease
+//! covers it: the leases that were noted since that row was acquired. A Final after a Cancel asks
+//! this of its lease alone, by the depth of a scope.
 //!
 //! ```
 //! let alloc = rt.alloc();

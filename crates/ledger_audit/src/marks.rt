@@ -7,7 +7,8 @@ ghost use Rattle.res_ledger.specs.declared.event.What.TheVariants.{Lease};
 ghost use Rattle.res_ledger.specs.Ledger.{IsLeased, IsLegal};
 ghost use Rattle.res_ledger.specs.Order.{any_row, covered, covered_by, same_exit};
 ghost use Rattle.ledger_verdict.specs.Pending.{Due, behind, is_over as is_over_of};
-ghost use Rattle.ledger_books.specs.Keyed.{Keeps, NotesAt};
+ghost use Rattle.ledger_books.specs.Keyed.{NotesAt};
+ghost use Rattle.ledger_books.specs.Kept.{Keeps};
 ghost use Rattle.ledger_audit.specs.Marks.{Stands, Tells, after_final as after_final_of, covered_until};
 
 use chunk_core::Exit;

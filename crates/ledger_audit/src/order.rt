@@ -10,7 +10,7 @@ ghost use Rattle.res_ledger.specs.Own.{own, teardown};
 ghost use Rattle.res_ledger.specs.Order.{covered};
 ghost use Rattle.ledger_verdict.specs.Pending.{Due};
 ghost use Rattle.ledger_verdict.specs.Verdict.{IsOrderedSoFar};
-ghost use Rattle.ledger_books.specs.Keyed.{Keeps};
+ghost use Rattle.ledger_books.specs.Kept.{Keeps};
 ghost use Rattle.ledger_audit.specs.Marks.{Tells};
 ghost use Rattle.ledger_audit.specs.Orders.{IsFirstDisordered, IsJudged, begins, due_next, due_upto, mark_of};
 ghost use Rattle.ledger_audit.specs.Trees.{HasTrees};

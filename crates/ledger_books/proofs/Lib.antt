@@ -6,3 +6,5 @@ pub mod Walking
 pub mod Canceling
 pub mod Following
 pub mod Heads
+pub mod Ending
+pub mod Untiling

@@ -70,7 +70,7 @@ indexes_more x y z P e i a b = record { found = λ q n h. first q n (same_key (B
     absent q f m h i a = absent_two q f m (same_key (Begun (number_of e.by)) q) refl (same_key (key_of e.by e.what) q) refl (ap (cond (same_key (Begun (number_of e.by)) q) (Some (length P))) (sym (a q)) ∙ h) i
 
 -- an element of a list with one more
-at_snoc : {A : Type 0} (xs : List A) (y x : A) (n : ℕ) → slice_get (xs ++ y ∷ []) n ≡ Some x → (slice_get xs n ≡ Some x) ⊎ ((n ≡ length xs) × (x ≡ y))
+pub at_snoc : {A : Type 0} (xs : List A) (y x : A) (n : ℕ) → slice_get (xs ++ y ∷ []) n ≡ Some x → (slice_get xs n ≡ Some x) ⊎ ((n ≡ length xs) × (x ≡ y))
 at_snoc [] y x zero h = let e : y ≡ x = cc in inr (refl, sym e)
 at_snoc [] y x (suc n) h = cc
 at_snoc (z ∷ xs) y x zero h = inl h

@@ -1,5 +1,5 @@
 -- Events at their places.
-use Rattle.std.proofs.Common.{◌≡◌, ◌↔◌, ℕ, zero, suc, ◌<◌, List, [], ◌∷◌, ◌++◌, ◌⊎◌, inl, inr, refl, sym, ap, ◌∙◌, subst, ⊎_elim, length, arith, Some, slice_get}
+use Rattle.std.proofs.Common.{◌≡◌, ◌≢◌, ◌↔◌, ℕ, zero, suc, ◌<◌, List, [], ◌∷◌, ◌++◌, ◌⊎◌, inl, inr, refl, sym, ap, ◌∙◌, subst, ⊎_elim, length, arith, Some, slice_get}
 use Rattle.chunk_core.specs.Lists.{IsAmong}
 use Rattle.chunk_core.specs.Lists.IsAmong.{here, there}
 use Rattle.res_ledger.specs.declared.event.StreamNo.{StreamNo}
@@ -8,9 +8,7 @@ use Rattle.res_ledger.specs.declared.event.What.TheVariants.{Open}
 use Rattle.res_ledger.specs.declared.event.Event.{Event}
 use Rattle.res_ledger.specs.Ledger.{Notes, LiesWithin, IsOpened, MayFollow, IsLegal}
 use Rattle.res_ledger.specs.Ledger.LiesWithin.{same, below}
-use Rattle.ledger_books.specs.declared.scopes.Goal.{Goal}
 use Rattle.ledger_books.specs.Keyed.{NotesAt}
-use Rattle.ledger_books.specs.Walks.{ComesTo, EndsAt}
 
 -- what stands at a place
 pub at_split : (P : List Event) (i : ℕ) (e : Event) → slice_get P i ≡ Some e → (A B : List Event) × (P ≡ A ++ e ∷ B) × (length A ≡ i)
@@ -86,23 +84,17 @@ module _ (P : List Event) (legal : IsLegal P) (k : StreamNo) where
       let l = u.1 in let n = m.4 in omega arith)
       m.5.2.0
 
-  -- a walk that doesn't end at a scope comes to its end from there exactly where it does from its parent
-  pub comes_by_parent : (g : Goal) (i s p : ℕ) → NotesAt P i k (Open s p) → ¬ (EndsAt P k g s) → ComesTo P k g p ↔ ComesTo P k g s
-  comes_by_parent g i s p a n = (
-    (λ c. (c.0, below s p c.0 (place_noted i (Open s p) a) c.1, c.2)),
-    (λ c. up s c.0 c.1 c.2 a n),
-  )
+  -- from a scope that isn't it, a walk upwards comes to a scope exactly where it does from the parent
+  pub within_by_parent : (i s p a : ℕ) → NotesAt P i k (Open s p) → s ≢ a → LiesWithin P k p a ↔ LiesWithin P k s a
+  within_by_parent i s p a o n = (below s p a (place_noted i (Open s p) o), (λ w. up s a w o n))
     where
-      up : (s x : ℕ) → LiesWithin P k s x → EndsAt P k g x → NotesAt P i k (Open s p) → ¬ (EndsAt P k g s) → ComesTo P k g p
-      up s x (same y) z a n = absurd (n z)
-      up s x (below y q b o w) z a n =
-          let t = noted_at_place (Open y q) o in
-          (b, subst (λ v. LiesWithin P k v b) (opened_at_one t.0 i y q p t.1 a).1 w, z)
+      up : (s a : ℕ) → LiesWithin P k s a → NotesAt P i k (Open s p) → s ≢ a → LiesWithin P k p a
+      up s a (same y) o n = absurd (n refl)
+      up s a (below y q b m w) o n =
+          let t = noted_at_place (Open y q) m in
+          subst (λ v. LiesWithin P k v b) (opened_at_one t.0 i y q p t.1 o).1 w
 
-  -- from a scope that wasn't opened, and at which it doesn't end, it comes nowhere
-  pub comes_not : (g : Goal) (s : ℕ) → ¬ (IsOpened P k s) → ¬ (EndsAt P k g s) → ¬ (ComesTo P k g s)
-  comes_not g s n m c = up s c.0 c.1 c.2 n m
-    where
-      up : (s x : ℕ) → LiesWithin P k s x → EndsAt P k g x → ¬ (IsOpened P k s) → ¬ (EndsAt P k g s) → ⊥
-      up s x (same y) z n m = m z
-      up s x (below y q b o w) z n m = n (q, o)
+  -- a scope that wasn't opened lies below none
+  pub within_not : (s a : ℕ) → ¬ (IsOpened P k s) → s ≢ a → ¬ (LiesWithin P k s a)
+  within_not s a n m (same y) = m refl
+  within_not s a n m (below y q b o w) = n (q, o)

@@ -21,7 +21,7 @@ pub record Found (P : List Event) (xs : List ℕ) (r n : ℕ) (found : List ℕ)
 same_place : (xs : List ℕ) (m n i j : ℕ) → m ≡ n → slice_get xs m ≡ Some i → slice_get xs n ≡ Some j → i ≡ j
 same_place xs m n i j e a b = let h : Some i ≡ Some j = sym a ∙ ap (slice_get xs) e ∙ b in let q : i ≡ j = cc in q
 
-same_lease : (P : List Event) (i j h s t : ℕ) (k q : StreamNo) → NotesAt P i k (Lease j s) → NotesAt P i q (Lease h t) → (j ≡ h) × (s ≡ t) × (k ≡ q)
+pub same_lease : (P : List Event) (i j h s t : ℕ) (k q : StreamNo) → NotesAt P i k (Lease j s) → NotesAt P i q (Lease h t) → (j ≡ h) × (s ≡ t) × (k ≡ q)
 same_lease P i j h s t k q a b =
     let w : Some a.0 ≡ Some b.0 = sym a.1 ∙ b.1 in
     let e : a.0 ≡ b.0 = cc in

@@ -11,7 +11,6 @@ use Rattle.chunk_core.specs.declared.code.Exit.{Exit}
 use Rattle.ledger_books.specs.declared.index.Key.{Key}
 use Rattle.ledger_books.specs.declared.index.Key.TheVariants.{Begun, Opened, Closed, Acquired, Leased, Canceled, Finalized}
 use Rattle.ledger_books.specs.declared.index.Index.{Index}
-use Rattle.ledger_books.specs.declared.books.Books.{Books}
 use Rattle.ledger_books.specs.Key.{place_of, same_key}
 
 -- the number that tells a stream in a key
@@ -60,16 +59,9 @@ pub record Listed (p : What → Bool) (xs : List ℕ) (P : List Event) : Type 0 
 abbrev pub IsFirst : Index → List Event → Type 0
 IsFirst x P = (k : StreamNo) (i m : ℕ) (f : Event) → place_of x (Begun (number_of k)) ≡ Some i → slice_get P m ≡ Some f → f.by ≡ k → i ≤ m
 
--- the stream had begun and the index stays, or its place is added
-abbrev pub KeepsBegun : Index → Index → ℕ → ℕ → Type 0
-KeepsBegun x y n i = ((y ≡ x) × (is_some (place_of x (Begun n)) ≡ true)) ⊎ ((place_of x (Begun n) ≡ None) × ((q : Key) → place_of y q ≡ (if same_key (Begun n) q then Some i else place_of x q)))
-
--- what an audit keeps of the events so far
-pub record Keeps (b : Books) (P : List Event) : Type 0 where
-  pub index : Indexes b.index P
-  pub first : IsFirst b.index P
-  pub leases : Listed is_lease b.leases.items P
-  pub rows : Listed is_acquire b.rows.items P
+-- the key has a place and the index stays, or this one is added
+abbrev pub KeepsFirst : Index → Index → Key → ℕ → Type 0
+KeepsFirst x y p i = ((y ≡ x) × (is_some (place_of x p) ≡ true)) ⊎ ((place_of x p ≡ None) × ((q : Key) → place_of y q ≡ (if same_key p q then Some i else place_of x q)))
 
 -- k notes no Close of s in front of place i
 abbrev pub IsUnclosedBefore : List Event → StreamNo → ℕ → ℕ → Type 0

@@ -1,3 +1,5 @@
 pub mod Key
 pub mod Keyed
-pub mod Walks
+pub mod Untils
+pub mod Ends
+pub mod Kept

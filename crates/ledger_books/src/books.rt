@@ -6,11 +6,14 @@ ghost use Rattle.res_ledger.specs.declared.event.Event.{Event};
 ghost use Rattle.res_ledger.specs.declared.event.StreamNo.{StreamNo};
 ghost use Rattle.res_ledger.specs.declared.event.StreamNo.TheVariants.{Inner};
 ghost use Rattle.res_ledger.specs.declared.event.What.TheVariants.{Acquire, Cancel, Final, Lease, Open};
-ghost use Rattle.res_ledger.specs.Ledger.{IsAcquired, IsFinalized, IsLegal, MayFollow, Notes};
-ghost use Rattle.ledger_books.specs.Keyed.{IsFirst, IsFirstIllegal, Indexes, IsSomeCover, Keeps, KeepsBegun, NotesAt, is_acquire as is_acquire_of, is_lease as is_lease_of, key_of};
+ghost use Rattle.res_ledger.specs.Ledger.{Covers, IsAcquired, IsCanceled, IsFinalized, IsLegal, MayFollow, Notes, NotesCancel};
+ghost use Rattle.res_ledger.specs.Streams.{HasRight};
+ghost use Rattle.ledger_books.specs.Keyed.{IsFirst, IsFirstIllegal, Indexes, IsSomeCover, NotesAt, is_acquire as is_acquire_of, is_lease as is_lease_of};
+ghost use Rattle.ledger_books.specs.Kept.{Follows, Keeps};
 
-use crate::index::{Index, Key};
-use crate::leases::{are_canceled, covers, has_canceled, is_canceled, lease_at, leased};
+use crate::ends::Ends;
+use crate::index::{Index, Key, key_for};
+use crate::leases::{are_canceled, covers, is_canceled, is_canceled_by, lease_at, leased};
 use crate::scopes::{is_closed, is_usable, number, opened};
 use res_ledger::{Event, StreamNo, What};
 use std::alloc::{AllocError, Global};
@@ -19,6 +22,7 @@ use std::alloc::{AllocError, Global};
 #[derive(Drop)]
 pub struct Books {
     pub index: Index,
+    pub ends: Ends,
     pub leases: Vec<u64>,
     pub rows: Vec<u64>,
 }
@@ -85,6 +89,78 @@ pub fn covering(
     Ok(found)
 }
 
+/// Whether each lease that covers the row is canceled: so it is where those are that its stream
+/// noted behind it, and else the leases are gone through.
+fn is_free(
+    alloc: Global,
+    books: &Books,
+    past: &[Event],
+    row: u32,
+    at: u64,
+    owner: StreamNo,
+    of: u32,
+) -> Result<bool, AllocError>
+    requires keeps { Keeps books.now past.now }
+    requires legal { IsLegal past.now }
+    requires row { NotesAt past.now at owner (Acquire row of) }
+    ensures { IfOk result (λ b. (b ≡ true) ↔ ((j : ℕ) (k : StreamNo) → Covers past.now j k row → IsCanceled past.now j)) }
+{
+    if books.ends.until(row) < past.len() as u64 {
+        return Ok(true);
+    }
+    let leases = covering(alloc, books, past, row, at, owner, of)?;
+    Ok(are_canceled(&books.index, past, &leases))
+}
+
+/// Whether the stream canceled its own lease, which covers the row.
+fn has_inherited(
+    books: &Books,
+    past: &[Event],
+    stream: u32,
+    row: u32,
+    at: u64,
+    owner: StreamNo,
+    of: u32,
+) -> bool
+    requires keeps { Keeps books.now past.now }
+    requires legal { IsLegal past.now }
+    requires row { NotesAt past.now at owner (Acquire row of) }
+    ensures { (result ≡ true) ↔ ((q : StreamNo) × Covers past.now stream q row × NotesCancel past.now (Inner stream) stream) }
+{
+    let Some((place, lessor, scope)) = leased(&books.index, past, stream) else {
+        return false;
+    };
+    if !covers(&books.index, past, place, lessor, scope, row, at, owner, of) {
+        return false;
+    }
+    is_canceled_by(&books.index, past, stream, StreamNo::Inner(stream))
+}
+
+/// Whether the stream acquired the row, or canceled a lease that covers it. A stream that canceled
+/// the lease of another one had noted it, and so had acquired what it covers.
+fn has_right(
+    books: &Books,
+    past: &[Event],
+    by: StreamNo,
+    row: u32,
+    at: u64,
+    owner: StreamNo,
+    of: u32,
+) -> bool
+    requires keeps { Keeps books.now past.now }
+    requires legal { IsLegal past.now }
+    requires row { NotesAt past.now at owner (Acquire row of) }
+    ensures { (result ≡ true) ↔ HasRight past.now by row }
+{
+    if number(by) == number(owner) {
+        return true;
+    }
+    match by {
+        StreamNo::Outer => false,
+        StreamNo::Inner(stream) => has_inherited(books, past, stream, row, at, owner, of),
+    }
+}
+
 /// Whether the stream may note the Final of the row.
 fn may_end(
     alloc: Global,
@@ -103,17 +179,13 @@ fn may_end(
     if is_final(&books.index, past, row) {
         return Ok(false);
     }
-    if !is_closed(&books.index, past, owner, of) {
+    if !is_closed(&books.ends, past, owner, of) {
         return Ok(false);
     }
-    let leases = covering(alloc, books, past, row, at, owner, of)?;
-    if !are_canceled(&books.index, past, &leases) {
+    if !is_free(alloc, books, past, row, at, owner, of)? {
         return Ok(false);
     }
-    if number(by) == number(owner) {
-        return Ok(true);
-    }
-    Ok(has_canceled(&books.index, past, &leases, by))
+    Ok(has_right(books, past, by, row, at, owner, of))
 }
 
 /// The row that was acquired at the place.
@@ -187,45 +259,45 @@ fn may_cancel(books: &Books, past: &[Event], by: StreamNo, stream: u32) -> bool
 }
 
 /// Whether a scope may be opened so.
-fn may_open(index: &Index, past: &[Event], by: StreamNo, scope: u32, parent: u32) -> bool
-    requires index { Indexes index.now past.now }
+fn may_open(books: &Books, past: &[Event], by: StreamNo, scope: u32, parent: u32) -> bool
+    requires keeps { Keeps books.now past.now }
     requires legal { IsLegal past.now }
     ensures { (result ≡ true) ↔ MayFollow past.now by (Open scope parent) }
 {
     if scope == 0 {
         return false;
     }
-    if opened(index, past, by, scope).is_some() {
+    if opened(&books.index, past, by, scope).is_some() {
         return false;
     }
-    is_usable(index, past, by, parent)
+    is_usable(&books.index, &books.ends, past, by, parent)
 }
 
 /// Whether a row may be acquired so.
-fn may_acquire(index: &Index, past: &[Event], by: StreamNo, row: u32, scope: u32) -> bool
-    requires index { Indexes index.now past.now }
+fn may_acquire(books: &Books, past: &[Event], by: StreamNo, row: u32, scope: u32) -> bool
+    requires keeps { Keeps books.now past.now }
     requires legal { IsLegal past.now }
     ensures { (result ≡ true) ↔ MayFollow past.now by (Acquire row scope) }
 {
-    if acquired(index, past, row).is_some() {
+    if acquired(&books.index, past, row).is_some() {
         return false;
     }
-    is_usable(index, past, by, scope)
+    is_usable(&books.index, &books.ends, past, by, scope)
 }
 
 /// Whether a scope may be leased so.
-fn may_lease(index: &Index, past: &[Event], by: StreamNo, stream: u32, scope: u32) -> bool
-    requires index { Indexes index.now past.now }
+fn may_lease(books: &Books, past: &[Event], by: StreamNo, stream: u32, scope: u32) -> bool
+    requires keeps { Keeps books.now past.now }
     requires legal { IsLegal past.now }
     ensures { (result ≡ true) ↔ MayFollow past.now by (Lease stream scope) }
 {
-    if leased(index, past, stream).is_some() {
+    if leased(&books.index, past, stream).is_some() {
         return false;
     }
     if number(by) == number(StreamNo::Inner(stream)) {
         return false;
     }
-    is_usable(index, past, by, scope)
+    is_usable(&books.index, &books.ends, past, by, scope)
 }
 
 impl Books {
@@ -241,13 +313,12 @@ impl Books {
         ensures { IfOk result (λ b. (b ≡ true) ↔ MayFollow past.now event.by event.what) }
     {
         let by = event.by;
-        let index = &self.index;
         match event.what {
-            What::Open { scope, parent } => Ok(may_open(index, past, by, scope, parent)),
-            What::Acquire { row, scope } => Ok(may_acquire(index, past, by, row, scope)),
-            What::Lease { stream, scope } => Ok(may_lease(index, past, by, stream, scope)),
+            What::Open { scope, parent } => Ok(may_open(self, past, by, scope, parent)),
+            What::Acquire { row, scope } => Ok(may_acquire(self, past, by, row, scope)),
+            What::Lease { stream, scope } => Ok(may_lease(self, past, by, stream, scope)),
             What::Cancel { stream, .. } => Ok(may_cancel(self, past, by, stream)),
-            What::Close { scope, .. } => Ok(is_usable(index, past, by, scope)),
+            What::Close { scope, .. } => Ok(is_usable(&self.index, &self.ends, past, by, scope)),
             What::Final { row, .. } => may_end(alloc, self, past, by, row),
         }
     }
@@ -257,7 +328,7 @@ impl Books {
 pub fn first_illegal(alloc: Global, events: &[Event]) -> Result<Option<u64>, AllocError>
     ensures { IfOk result (λ o. MatchOption o (IsLegal events.now) (IsFirstIllegal events.now)) }
 {
-    let mut books = Books::new(alloc);
+    let mut books = Books::of(alloc, events)?;
     for (i, event) in events.iter().enumerate() {
         if !books.may_follow(alloc, &events[..i], *event)? {
             return Ok(Some(i as u64));
@@ -267,37 +338,13 @@ pub fn first_illegal(alloc: Global, events: &[Event]) -> Result<Option<u64>, All
     Ok(None)
 }
 
-/// The key of what the stream notes.
-fn key(by: StreamNo, what: What) -> Key
-    ensures { result ≡ key_of by what }
-{
-    match what {
-        What::Open { scope, .. } => Key::Opened(number(by), scope),
-        What::Acquire { row, .. } => Key::Acquired(row),
-        What::Lease { stream, .. } => Key::Leased(stream),
-        What::Cancel { stream, .. } => Key::Canceled(stream),
-        What::Close { scope, .. } => Key::Closed(number(by), scope),
-        What::Final { row, .. } => Key::Finalized(row),
-    }
-}
-
 /// Adds the event that stands at the place to the index.
 fn add_keys(index: &mut Index, event: Event, place: u64) -> Result<(), AllocError>
     ensures index { OnOk result ((P : List Event) → length P ≡ place → Indexes index.old P → Indexes index.new (P ++ event ∷ [])) }
     ensures first { OnOk result ((P : List Event) → length P ≡ place → Indexes index.old P → IsFirst index.old P → IsFirst index.new (P ++ event ∷ [])) }
 {
-    index.add(key(event.by, event.what), place)?;
-    add_begun(index, number(event.by), place)
-}
-
-/// Adds the place as that where the stream begins, unless it has begun.
-fn add_begun(index: &mut Index, stream: u64, place: u64) -> Result<(), AllocError>
-    ensures { OnOk result (KeepsBegun index.old index.new stream place) }
-{
-    if index.has(Key::Begun(stream)) {
-        return Ok(());
-    }
-    index.add(Key::Begun(stream), place)
+    index.add(key_for(event.by, event.what), place)?;
+    index.add_first(Key::Begun(number(event.by)), place)
 }
 
 fn is_lease(what: What) -> bool
@@ -323,22 +370,24 @@ fn add_place(places: &mut Vec<u64>, passes: bool, place: u64) -> Result<(), Allo
 }
 
 impl Books {
-    /// Nothing was noted.
-    pub fn new(alloc: Global) -> Books
-        ensures { Keeps result [] }
+    /// In front of the first of these events.
+    pub fn of(alloc: Global, events: &[Event]) -> Result<Books, AllocError>
+        ensures { IfOk result (λ b. Follows b events.now []) }
     {
-        Books {
+        Ok(Books {
             index: Index::new(alloc),
+            ends: Ends::of(alloc, events)?,
             leases: Vec::new(alloc),
             rows: Vec::new(alloc),
-        }
+        })
     }
 
     /// Keeps one event more.
     pub fn note(&mut self, event: Event, place: u64) -> Result<(), AllocError>
-        ensures { OnOk result ((P : List Event) → length P ≡ place → Keeps self.old P → Keeps self.new (P ++ event ∷ [])) }
+        ensures { OnOk result ((L P Q : List Event) → length P ≡ place → L ≡ P ++ event ∷ Q → IsLegal (P ++ event ∷ []) → Follows self.old L P → Follows self.new L (P ++ event ∷ [])) }
     {
         add_keys(&mut self.index, event, place)?;
+        self.ends.note(event)?;
         add_place(&mut self.leases, is_lease(event.what), place)?;
         add_place(&mut self.rows, is_acquire(event.what), place)
     }

@@ -1,8 +1,11 @@
 //! Where each thing was noted.
 ghost use Rattle.std.specs.Prelude.{◌≡◌, Some, None, OnOk, is_some, if◌then◌else◌};
 ghost use Rattle.ledger_books.specs.Key.{place_of, same_key};
+ghost use Rattle.ledger_books.specs.Keyed.{KeepsFirst, key_of};
 ghost use Rattle.ledger_books.specs.declared.index.Key.{Key};
 
+use crate::scopes::number;
+use res_ledger::{StreamNo, What};
 use std::alloc::{AllocError, Global};
 use std::collections::HashMap;
 
@@ -18,6 +21,20 @@ pub enum Key {
     Leased(u32),
     Canceled(u32),
     Finalized(u32),
+}
+
+/// The key of what the stream notes.
+pub fn key_for(by: StreamNo, what: What) -> Key
+    ensures { result ≡ key_of by what }
+{
+    match what {
+        What::Open { scope, .. } => Key::Opened(number(by), scope),
+        What::Acquire { row, .. } => Key::Acquired(row),
+        What::Lease { stream, .. } => Key::Leased(stream),
+        What::Cancel { stream, .. } => Key::Canceled(stream),
+        What::Close { scope, .. } => Key::Closed(number(by), scope),
+        What::Final { row, .. } => Key::Finalized(row),
+    }
 }
 
 /// The place of each event by what it notes.
@@ -54,5 +71,15 @@ impl Index {
             return Err(AllocError);
         };
         Ok(())
+    }
+
+    /// Adds the place, unless there is one.
+    pub fn add_first(&mut self, key: Key, place: u64) -> Result<(), AllocError>
+        ensures { OnOk result (KeepsFirst self.old self.new key place) }
+    {
+        if self.has(key) {
+            return Ok(());
+        }
+        self.add(key, place)
     }
 }

@@ -120,17 +120,3 @@ pub fn are_canceled(index: &Index, past: &[Event], streams: &[u32]) -> bool
     }
     true
 }
-
-/// Whether the stream canceled one of these leases.
-pub fn has_canceled(index: &Index, past: &[Event], streams: &[u32], by: StreamNo) -> bool
-    requires index { Indexes index.now past.now }
-    requires legal { IsLegal past.now }
-    ensures { (result ≡ true) ↔ ((j : ℕ) × IsAmong j streams.now × NotesCancel past.now by j) }
-{
-    for stream in streams {
-        if is_canceled_by(index, past, *stream, by) {
-            return true;
-        }
-    }
-    false
-}

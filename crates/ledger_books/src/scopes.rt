@@ -5,9 +5,10 @@ ghost use Rattle.res_ledger.specs.declared.event.StreamNo.{StreamNo};
 ghost use Rattle.res_ledger.specs.declared.event.StreamNo.TheVariants.{Inner};
 ghost use Rattle.res_ledger.specs.declared.event.What.TheVariants.{Open};
 ghost use Rattle.res_ledger.specs.Ledger.{IsClosed, IsLegal, IsOpened, IsUsable, LiesWithin};
+ghost use Rattle.ledger_books.specs.Ends.{Foretells};
 ghost use Rattle.ledger_books.specs.Keyed.{Indexes, IsUnclosedBefore, NotesAt, number_of};
-ghost use Rattle.ledger_books.specs.Walks.{ComesTo, EndsAt};
 
+use crate::ends::Ends;
 use crate::index::{Index, Key};
 use res_ledger::{Event, StreamNo, What};
 
@@ -34,54 +35,12 @@ pub fn opened(index: &Index, past: &[Event], by: StreamNo, scope: u32) -> Option
     }
 }
 
-/// Where a walk up the scopes ends.
-#[derive(Clone, Copy, Debug, PartialEq, Eq)]
-pub enum Goal {
-    /// At this scope.
-    Scope(u32),
-    /// At a scope that has a Close of its own.
-    Closed,
-}
-
-/// Whether the walk ends at the scope.
-fn ends(index: &Index, past: &[Event], by: StreamNo, scope: u32, goal: Goal) -> bool
-    requires { Indexes index.now past.now }
-    ensures { (result ≡ true) ↔ EndsAt past.now by goal scope }
-{
-    match goal {
-        Goal::Scope(other) => scope == other,
-        Goal::Closed => index.has(Key::Closed(number(by), scope)),
-    }
-}
-
-/// Whether the walk from the scope upwards comes to its end.
-fn comes_to(index: &Index, past: &[Event], by: StreamNo, scope: u32, goal: Goal) -> bool
-    requires index { Indexes index.now past.now }
-    requires legal { IsLegal past.now }
-    ensures { (result ≡ true) ↔ ComesTo past.now by goal scope }
-{
-    let mut at = scope;
-    let mut below = past.len() as u64;
-    while !ends(index, past, by, at, goal) {
-        let Some((place, parent)) = opened(index, past, by, at) else {
-            return false;
-        };
-        if place >= below {
-            return false;
-        }
-        below = place;
-        at = parent;
-    }
-    true
-}
-
 /// Whether the stream closed the scope or one above it.
-pub fn is_closed(index: &Index, past: &[Event], by: StreamNo, scope: u32) -> bool
-    requires index { Indexes index.now past.now }
-    requires legal { IsLegal past.now }
+pub fn is_closed(ends: &Ends, past: &[Event], by: StreamNo, scope: u32) -> bool
+    requires { Foretells ends.now past.now }
     ensures { (result ≡ true) ↔ IsClosed past.now by scope }
 {
-    comes_to(index, past, by, scope, Goal::Closed)
+    ends.end(by, scope) < past.len() as u64
 }
 
 /// Whether the scope is the root or was opened.
@@ -96,15 +55,15 @@ pub fn is_known(index: &Index, past: &[Event], by: StreamNo, scope: u32) -> bool
 }
 
 /// Whether the scope is the root or was opened, and isn't closed.
-pub fn is_usable(index: &Index, past: &[Event], by: StreamNo, scope: u32) -> bool
+pub fn is_usable(index: &Index, ends: &Ends, past: &[Event], by: StreamNo, scope: u32) -> bool
     requires index { Indexes index.now past.now }
-    requires legal { IsLegal past.now }
+    requires ends { Foretells ends.now past.now }
     ensures { (result ≡ true) ↔ IsUsable past.now by scope }
 {
     if !is_known(index, past, by, scope) {
         return false;
     }
-    !is_closed(index, past, by, scope)
+    !is_closed(ends, past, by, scope)
 }
 
 /// Whether the scope is the other one or lies below it.
@@ -113,7 +72,19 @@ pub fn lies_within(index: &Index, past: &[Event], by: StreamNo, scope: u32, abov
     requires legal { IsLegal past.now }
     ensures { (result ≡ true) ↔ LiesWithin past.now by scope above }
 {
-    comes_to(index, past, by, scope, Goal::Scope(above))
+    let mut at = scope;
+    let mut below = past.len() as u64;
+    while at != above {
+        let Some((place, parent)) = opened(index, past, by, at) else {
+            return false;
+        };
+        if place >= below {
+            return false;
+        }
+        below = place;
+        at = parent;
+    }
+    true
 }
 
 /// Whether the scope has no Close of its own in front of the place.

@@ -1,6 +1,10 @@
 use Rattle.std.proofs.Common.{take}
-use Rattle.ledger_books.specs.Keyed.{Keeps}
+use Rattle.res_ledger.specs.Ledger.{IsLegal}
+use Rattle.ledger_books.specs.Kept.{Follows}
 use Rattle.ledger_audit.proofs.judge.books_of.Given as goal
 
 abbrev pub invariant-loop-i : goal.invariant-loop-i
-invariant-loop-i l = Keeps l.books (take l.i l.events)
+invariant-loop-i l = record {
+  follows : Follows l.books l.events (take l.i l.events);
+  legal : IsLegal l.events;
+}

@@ -20,3 +20,6 @@ returns c =
     let i = c.args.place in
     let F = take i L in
     broken_legal L i c.requires (subst (λ o. MatchOption o (IsOrderedSoFar F) (IsFirstDisordered F)) c.in_default.is c.in_ok-place.ensures)
+
+pub first_disordered-requires-clause-legal : goal.first_disordered-requires-clause-legal
+first_disordered-requires-clause-legal c = front_is_legal c.args.events.now c.args.place c.requires

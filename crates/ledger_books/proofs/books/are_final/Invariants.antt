@@ -1,6 +1,6 @@
 use Rattle.std.proofs.Common.{◌≤◌, length}
 use Rattle.res_ledger.specs.declared.event.StreamNo.TheVariants.{Inner}
-use Rattle.ledger_books.specs.Keyed.{Keeps}
+use Rattle.ledger_books.specs.Kept.{Keeps}
 use Rattle.ledger_books.proofs.Walking.{Ended}
 use Rattle.ledger_books.proofs.books.are_final.Given as goal
 

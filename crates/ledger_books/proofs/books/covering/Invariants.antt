@@ -1,7 +1,8 @@
 use Rattle.std.proofs.Common.{◌≤◌, length}
 use Rattle.res_ledger.specs.declared.event.What.TheVariants.{Acquire}
 use Rattle.res_ledger.specs.Ledger.{IsLegal}
-use Rattle.ledger_books.specs.Keyed.{Keeps, NotesAt}
+use Rattle.ledger_books.specs.Keyed.{NotesAt}
+use Rattle.ledger_books.specs.Kept.{Keeps}
 use Rattle.ledger_books.proofs.Walking.{Found}
 use Rattle.ledger_books.proofs.books.covering.Given as goal
 

@@ -1,4 +1,4 @@
-use Rattle.std.proofs.Common.{◌≡◌, ℕ, List, ◌<◌, ◌++◌, ◌∷◌, [], ap, sym, ◌∙◌, arith, Some, append_assoc, append-nil, take, drop, reverse, length, subst, refl}
+use Rattle.std.proofs.Common.{◌≡◌, ℕ, List, ◌++◌, ◌∷◌, [], ap, sym, ◌∙◌, arith, append_assoc, append-nil, take, drop, reverse, length, subst, refl}
 use Rattle.std.specs.List.{flat_map}
 use Rattle.chunk_core.specs.Lists.{has}
 use Rattle.res_ledger.specs.Own.{own, opens, closes, rows}

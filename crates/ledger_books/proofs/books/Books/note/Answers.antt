@@ -1,4 +1,4 @@
-use Rattle.std.proofs.Common.{ap, sym, ◌∙◌, subst, Result, Ok, Err, cond, ◌++◌, ◌∷◌, []}
+use Rattle.std.proofs.Common.{ap, sym, ◌∙◌, subst, Result, Ok, Err, cond, ◌++◌, ◌∷◌, [], append_assoc}
 use Rattle.std.specs.Prelude.{OnOk}
 use Rattle.ledger_books.specs.Keyed.{Listed, is_lease, is_acquire}
 use Rattle.ledger_books.proofs.Noting.{listed_more}
@@ -10,10 +10,16 @@ on_ok (Err e) f a = tt
 
 pub returns : goal.returns
 returns c = on_ok c.add_place-2.result
-    (λ b P n k. record {
-      index = c.in_ok-add_keys.ensures.index P n k.index;
-      first = c.in_ok-add_keys.ensures.first P n k.index k.first;
-      leases = subst (λ l. Listed is_lease l (P ++ c.args.event ∷ [])) (sym (c.in_ok-add_place.ensures ∙ ap (λ m. cond c.is_lease.result (c.args.self.now.leases.items ++ m ∷ []) c.args.self.now.leases.items) (sym n))) (listed_more is_lease c.args.self.now.leases.items P c.args.event c.is_lease.result (sym c.is_lease.ensures) k.leases);
-      rows = subst (λ l. Listed is_acquire l (P ++ c.args.event ∷ [])) (sym (b ∙ ap (λ m. cond c.is_acquire.result (c.args.self.now.rows.items ++ m ∷ []) c.args.self.now.rows.items) (sym n))) (listed_more is_acquire c.args.self.now.rows.items P c.args.event c.is_acquire.result (sym c.is_acquire.ensures) k.rows);
-    })
+    (λ b L P Q n l legal f.
+    let k = f.0 in
+    let ahead = c.in_ok-note.ensures L P Q l legal f.1 in (
+      record {
+        index = c.in_ok-add_keys.ensures.index P n k.index;
+        ends = (L, Q, l ∙ sym (append_assoc P (c.args.event ∷ []) Q), ahead);
+        first = c.in_ok-add_keys.ensures.first P n k.index k.first;
+        leases = subst (λ l. Listed is_lease l (P ++ c.args.event ∷ [])) (sym (c.in_ok-add_place.ensures ∙ ap (λ m. cond c.is_lease.result (c.args.self.now.leases.items ++ m ∷ []) c.args.self.now.leases.items) (sym n))) (listed_more is_lease c.args.self.now.leases.items P c.args.event c.is_lease.result (sym c.is_lease.ensures) k.leases);
+        rows = subst (λ l. Listed is_acquire l (P ++ c.args.event ∷ [])) (sym (b ∙ ap (λ m. cond c.is_acquire.result (c.args.self.now.rows.items ++ m ∷ []) c.args.self.now.rows.items) (sym n))) (listed_more is_acquire c.args.self.now.rows.items P c.args.event c.is_acquire.result (sym c.is_acquire.ensures) k.rows);
+      },
+      ahead,
+    ))
     c.add_place-2.ensures
