@@ -1,0 +1,21 @@
+use Rattle.std.proofs.Common.{◌≡◌, ◌<◌, ◌≤◌, length, ap, ◌∙◌, sym, arith}
+use Rattle.topic_hub.specs.Places.{Every, IsWithdrawn}
+use Rattle.topic_hub.specs.Topics.{PublisherSeen}
+use Rattle.topic_hub.proofs.Every.{along_more, along_whole, at_read}
+use Rattle.topic_hub.proofs.publisher.Publisher.withdraw.Goals as goal
+
+pub loop-i-preserved : goal.loop-i-preserved
+loop-i-preserved c =
+    let inv = c.loop-i.invariant in let same = inv.0.same in let own = ap (λ (p : PublisherSeen). length p.places) c.self.view_is in
+    let ok = c.self.inside.places.ok.0 in let end = c.len-i-end.ensures in let test = c.loop-i-test.true in (
+      along_more IsWithdrawn c.loop-i.i c.args.self.now.places c.loop-i.self-inside.places.items c.index_mut.result.now c.withdraw.new.self inv.0
+          (at_read c.loop-i.self-inside.places.items c.loop-i.i c.index_mut.result.now (omega arith) c.index_mut.ensures.value) c.withdraw.ensures,
+      inv.1,
+      inv.2,
+    )
+
+pub returns-clause-all : goal.returns-clause-all
+returns-clause-all c =
+    let inv = c.loop-i.invariant in let own = ap (λ (p : PublisherSeen). length p.places) c.self.view_is in
+    let ok = c.self.inside.places.ok.0 in let end = c.len-i-end.ensures in let test = c.loop-i-test.false in
+    along_whole IsWithdrawn c.loop-i.i c.args.self.now.places c.loop-i.self-inside.places.items inv.0 (omega arith)

@@ -1,0 +1,4 @@
+pub mod Places
+pub mod Subscribers
+pub mod Topics
+pub mod Laws
