@@ -2,10 +2,10 @@
 //!
 //! `AnyPipe` is the state of a `Pipe`, whichever it is: it is made of the pipe as plain data and the
 //! dictionaries of the tables in which pipes look up (`PipeState::of`; a table that isn't among these
-//! has no values), and fed and told the end as any other (`Feed`). `pour` feeds loads to a state one
-//! after another and then tells the end, and `pour_through` does so for a pipe. `Poured` has the
-//! loads that came, and the fault where the input has one; a fault is no error. The one error is
-//! `AllocError`, after which nothing is kept.
+//! has no values), and fed and told the end as any other (`Feed`). `feed_all` feeds loads to a state
+//! one after another, `finish_all` tells it the end, `pour` does both, and `pour_through` does so for
+//! a pipe. `Poured` has the loads that came, and the fault where the input has one; a fault is no
+//! error. The one error is `AllocError`, after which nothing is kept.
 //!
 //! ```
 //! /// The input as far as it is UTF-8, and the fault.
@@ -28,5 +28,5 @@ pub mod crossing;
 pub mod pouring;
 pub mod state;
 
-pub use pouring::{Poured, pour, pour_through};
+pub use pouring::{Poured, feed_all, finish_all, pour, pour_through};
 pub use state::AnyPipe;

@@ -17,8 +17,12 @@ pub struct Poured {
     pub fault: Option<Code>,
 }
 
-/// Feeds the loads one after another, up to a fault.
-fn feed_all<F: Feed>(alloc: Global, pipe: &mut F, loads: Vec<Load>) -> Result<Poured, AllocError>
+/// Feeds the loads one after another, up to a fault, which is the last that comes.
+pub fn feed_all<F: Feed>(
+    alloc: Global,
+    pipe: &mut F,
+    loads: Vec<Load>,
+) -> Result<Poured, AllocError>
     requires { MayPour (F.stands pipe.old) loads.items }
     ensures { IfOk result (λ p. (m : Meaning) (xs : List Element) → F.stands pipe.old m xs → AreOf m.takes loads.items → FeedsAll m xs loads.items p.loads.items p.fault (F.stands pipe.new m)) }
 {
@@ -43,13 +47,13 @@ fn feed_all<F: Feed>(alloc: Global, pipe: &mut F, loads: Vec<Load>) -> Result<Po
 }
 
 /// Tells that the input has ended, and appends what is still to come.
-fn finish_all<F: Feed>(
+pub fn finish_all<F: Feed>(
     alloc: Global,
-    mut pipe: F,
+    pipe: &mut F,
     mut given: Vec<Load>,
 ) -> Result<Poured, AllocError>
-    requires { MayEnd (F.stands pipe) }
-    ensures { IfOk result (λ p. (m : Meaning) (xs : List Element) → F.stands pipe m xs → FinishesAll m xs given.items p.loads.items p.fault) }
+    requires { MayEnd (F.stands pipe.old) }
+    ensures { IfOk result (λ p. (m : Meaning) (xs : List Element) → F.stands pipe.old m xs → FinishesAll m xs given.items p.loads.items p.fault) }
 {
     'answers: loop {
         match pipe.finish(alloc)? {
@@ -81,7 +85,7 @@ pub fn pour<F: Feed>(alloc: Global, mut pipe: F, loads: Vec<Load>) -> Result<Pou
     if fed.fault.is_some() {
         return Ok(fed);
     }
-    finish_all(alloc, pipe, fed.loads)
+    finish_all(alloc, &mut pipe, fed.loads)
 }
 
 /// Puts a whole input through a pipe over these tables. What comes is the same however the input is cut into loads.

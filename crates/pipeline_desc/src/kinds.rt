@@ -65,11 +65,7 @@ fn kind_behind_join(second: &Second, kind: Kind, k: u32, number: usize) -> Resul
 }
 
 /// The kind of what stream k gives.
-pub(crate) fn kind_given(
-    steps: &List<Step>,
-    second: &Option<Second>,
-    k: u32,
-) -> Result<Kind, Refused>
+pub fn kind_given(steps: &List<Step>, second: &Option<Second>, k: u32) -> Result<Kind, Refused>
     requires { length steps.now + 1 + length (steps_behind second.now) < 2 ^ 32 }
     ensures meant { ReadsAs (λ j. j) result (kind_given k steps.now second.now) }
     ensures kind { IfOk result (λ j. IsOk (kind_given k steps.now second.now)) }

@@ -6,7 +6,8 @@
 //! the step where it stands in one; `Refused::Memory` stands for want of memory. Of stream k `rows`
 //! and `events` tell what a run of it needs, and `node` makes the node, which is placed in these
 //! rows; its one error is `AllocError`. The keys, the steps and the order of the refusals are told
-//! in docs/FORMAT.md.
+//! in docs/FORMAT.md. `words::step`, `steps::check_steps` and `kinds::kind_given` are the reader's
+//! own calls for steps, for who reads steps from elsewhere.
 //!
 //! ```
 //! let alloc = rt.alloc();
@@ -32,22 +33,22 @@
 #![tactic(auto)]
 
 pub mod join;
-pub(crate) mod kinds;
+pub mod kinds;
 pub mod laws;
 pub mod nodes;
 pub(crate) mod outputs;
 pub mod plan;
 pub mod reader;
 pub mod refusal;
-pub(crate) mod setting;
+pub mod setting;
 pub mod step;
-pub(crate) mod steps;
+pub mod steps;
 pub mod stream;
 pub(crate) mod streams;
 pub mod table;
 pub(crate) mod tables;
 pub(crate) mod values;
-pub(crate) mod words;
+pub mod words;
 
 pub use join::Join;
 pub use nodes::{events, node, rows};

@@ -10,7 +10,7 @@ use std::marker::Model;
 
 /// The tables of records, by their names, and the streams, by their numbers.
 #[derive(Drop)]
-pub(crate) struct Setting<'a> {
+pub struct Setting<'a> {
     tables: &'a [TableSpec],
     count: u32,
 }
@@ -38,7 +38,7 @@ fn place_of(tables: &[TableSpec], name: &[u8]) -> Option<usize>
 
 impl<'a> Setting<'a> {
     /// Beside these tables, where there are so many streams.
-    pub(crate) fn of(tables: &'a [TableSpec], count: u32) -> Setting<'a>
+    pub fn of(tables: &'a [TableSpec], count: u32) -> Setting<'a>
         requires { length tables.now ≤ most_tables }
         ensures { result ≡ setting_of tables.now count }
     {

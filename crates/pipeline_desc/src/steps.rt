@@ -105,11 +105,7 @@ fn are_fitting(steps: &[Step], behind: &[Step]) -> bool
 }
 
 /// Stream k may have these steps, and a second side with the steps behind it.
-pub(crate) fn check_steps(
-    steps: &List<Step>,
-    second: &Option<Second>,
-    k: u32,
-) -> Result<(), Refused>
+pub fn check_steps(steps: &List<Step>, second: &Option<Second>, k: u32) -> Result<(), Refused>
     ensures fitting { ReadsAs (λ u. u) result (are_fitting k (steps.now ++ steps_behind second.now)) }
     ensures few { IfOk result (λ u. length (steps.now ++ steps_behind second.now) ≤ most_steps) }
     ensures between { IfOk result (λ u. count_by puts_between (steps.now ++ steps_behind second.now) ≤ 1) }

@@ -199,7 +199,7 @@ fn cut(word: &[u8]) -> (&[u8], Option<&[u8]>)
 }
 
 /// The step that a word means, as step i of stream k.
-pub(crate) fn step(
+pub fn step(
     alloc: Global,
     setting: &Setting<'_>,
     word: &[u8],

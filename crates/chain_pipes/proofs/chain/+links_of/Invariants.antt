@@ -1,0 +1,5 @@
+use Rattle.std.proofs.Common.{length}
+use Rattle.chain_pipes.proofs.chain.+links_of.Given as goal
+
+abbrev pub decreases-links_of : goal.decreases-links_of
+decreases-links_of l = length l.steps.now

@@ -1,0 +1,4 @@
+pub mod Over
+pub mod Links
+pub mod Chains
+pub mod Worked

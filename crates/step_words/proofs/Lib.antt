@@ -1,0 +1,3 @@
+mod Bars
+mod Parts
+mod KindsFit
