@@ -46,8 +46,8 @@ use Rattle.joined_runs.proofs.MadeRows.{at_below, at_some}
 use Rattle.joined_runs.proofs.PlansTogether.{plan_row, spec_at}
 use Rattle.joined_runs.proofs.StreamRows.{row_here}
 use Rattle.collected.specs.Collected.{IsCollected, IsRunOf, all_left}
-use Rattle.dealt_streams.specs.Tables.{bare_work}
-use Rattle.dealt_streams.specs.Tables.{EndsRead, HaveValuesOf, HasTables, IsStoppedBy}
+use Rattle.dealt_streams.specs.Works.{bare_work}
+use Rattle.outer_stream.specs.Tables.{EndsRead, HaveValuesOf, HasTables, IsStoppedBy}
 use Rattle.dealt_streams.specs.declared.leftover.Leftover.{Leftover}
 use Rattle.collected.specs.Laws.{CollectedRuns}
 use Rattle.dealt_streams.specs.Parts.{Part}
@@ -226,7 +226,7 @@ module _ {S V F : Type 0} (view : S → View V) (told : V → DeviceTold) (P : V
         by_cases (Some o) e =
             let parts = ap (λ (xs : List (Part V F)). length xs) (h.unread (λ q. some_none o (sym e ∙ q))).0 in
             let next = h.next in
-            let below = (s.told.outer (Lease j z) n).1 in
+            let below = s.told.outer (Lease j z) n in
             absurd (omega (arith, parts, next, order, below))
 
     lent : (j z : ℕ) → Notes L Outer (Lease j z) → length (opener_of p).tables ≤ length h.tables.devices

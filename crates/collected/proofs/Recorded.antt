@@ -41,7 +41,7 @@ use Rattle.run_rules.specs.declared.end.EndOf.{EndOf}
 use Rattle.scope_tree.specs.Calls.{Seen}
 use Rattle.tree_families.specs.Families.{Split}
 use Rattle.collected.specs.Collected.{IsCollected, IsRunOf}
-use Rattle.dealt_streams.specs.Tables.{bare_work}
+use Rattle.dealt_streams.specs.Works.{bare_work}
 use Rattle.dealt_streams.specs.declared.leftover.Leftover.{Leftover}
 use Rattle.dealt_streams.specs.Parts.{fate_of}
 use Rattle.collected.proofs.Core.{few_parts}
@@ -99,7 +99,7 @@ module _ {S V F : Type 0} (view : S → View V) (told : V → DeviceTold) (P : V
       let is = x.2 in
       let d = s.dealt in
       let leased = s.told.leases k (omega (arith, older, is, d)) in
-      let c = s.ledger.canceled k (Outer, 0, leased) in
+      let c = s.ledger.canceled k (Outer, leased.0, leased.1) in
       by_whom c.0 c.1 x
     where
       cancels : (e : Event) (x : Exit) → e.what ≡ Cancel k x → is_cancel k e.what ≡ true

@@ -6,13 +6,15 @@ use Rattle.chunk_core.specs.Outcomes.{exit_of}
 use Rattle.chunk_core.specs.declared.code.Exit.{Exit}
 use Rattle.chunk_core.specs.declared.code.How.{How}
 use Rattle.chunk_core.proofs.Each.{each_among}
+use Rattle.chunk_core.proofs.Cuts.{among_parts}
 use Rattle.chunk_core.proofs.Members.{among_cons, among_left, among_mid, among_nil}
 use Rattle.res_ledger.specs.declared.event.StreamNo.{StreamNo}
 use Rattle.res_ledger.specs.declared.event.StreamNo.TheVariants.{Inner, Outer}
 use Rattle.res_ledger.specs.declared.event.What.{What}
 use Rattle.res_ledger.specs.declared.event.What.TheVariants.{Acquire, Cancel, Close, Final, Lease, Open}
 use Rattle.res_ledger.specs.declared.event.Event.{Event}
-use Rattle.res_ledger.specs.Ledger.{Covers, IsLeased, Notes}
+use Rattle.res_ledger.specs.Ledger.{Covers, IsLeased, Notes, MayFollow}
+use Rattle.res_ledger.proofs.Prefixes.{front_notes}
 use Rattle.res_ledger.specs.Order.{firsts}
 use Rattle.run_rules.specs.Facts.{first_numbers}
 use Rattle.run_rules.specs.Opening.{AreLeased}
@@ -32,7 +34,7 @@ some_exit : (x y : Exit) → Some x ≡ Some y → x ≡ y
 some_exit x y e = cc
 
 -- what was noted of tables is Acquires of the first rows
-in_acquires : (r n : ℕ) (w : What) → IsAmong w (acquires r n) → (q : ℕ) × (w ≡ Acquire q 0) × (r ≤ q) × (q < r + n)
+in_acquires : (r n : ℕ) (w : What) → IsAmong w (acquires 0 r n) → (q : ℕ) × (w ≡ Acquire q 0) × (r ≤ q) × (q < r + n)
 in_acquires r zero w m = absurd (among_nil m)
 in_acquires r (suc n) w m =
     ⊎_elim
@@ -40,9 +42,9 @@ in_acquires r (suc n) w m =
     (λ i. let x = in_acquires (suc r) n w i in let low = x.2 in let high = x.3 in (x.0, x.1, omega (arith, low), omega (arith, high)))
     (among_cons m)
 
-acquire_in : (r n k : ℕ) → r ≤ k → k < r + n → IsAmong (Acquire k 0) (acquires r n)
+acquire_in : (r n k : ℕ) → r ≤ k → k < r + n → IsAmong (Acquire k 0) (acquires 0 r n)
 acquire_in r zero k low high = absurd (omega (arith, low, high))
-acquire_in r (suc n) k low high = ⊎_elim (λ e. subst (λ i. IsAmong (Acquire i 0) (acquires r (suc n))) (sym e) (here (acquires (suc r) n))) (λ l. there (Acquire r 0) (acquire_in (suc r) n k l (omega (arith, high)))) (first r k low)
+acquire_in r (suc n) k low high = ⊎_elim (λ e. subst (λ i. IsAmong (Acquire i 0) (acquires 0 r (suc n))) (sym e) (here (acquires 0 (suc r) n))) (λ l. there (Acquire r 0) (acquire_in (suc r) n k l (omega (arith, high)))) (first r k low)
   where
     first : (r k : ℕ) → r ≤ k → (k ≡ r) ⊎ (suc r ≤ k)
     first r k l = grind arith
@@ -50,7 +52,7 @@ acquire_in r (suc n) k low high = ⊎_elim (λ e. subst (λ i. IsAmong (Acquire 
 acquire_parts : (r s q t : ℕ) → Acquire r s ≡ Acquire q t → (r ≡ q) × (s ≡ t)
 acquire_parts r s q t e = (cc, cc)
 
-module _ {P : Type 0} (width n m : ℕ) (b : Seen P) (q : Progress P) (L : List Event) (s : Settles width n b q L) (tables : q.tables ≡ acquires 0 m) where
+module _ {P : Type 0} (width n m : ℕ) (b : Seen P) (q : Progress P) (L : List Event) (s : Settles width n b q L) (tables : q.tables ≡ acquires 0 0 m) where
   table_row : (r t : ℕ) → IsAmong (Acquire r t) q.tables → (r < m) × (t ≡ 0)
   table_row r t i =
       let x = in_acquires 0 m (Acquire r t) (subst (λ l. IsAmong (Acquire r t) l) tables i) in
@@ -81,12 +83,22 @@ module _ {P : Type 0} (width n m : ℕ) (b : Seen P) (q : Progress P) (L : List 
   pub uncovered : (from to : ℕ) → m ≤ from → CoversNone from to L
   uncovered from to less j r k w c = let l = covers_tables j r k c in let f = w.0 in omega (arith, less, l, f)
 
+  -- the outer stream opens no scope, so that it leases its root
+  opened_none : (z p : ℕ) → Notes L Outer (Open z p) → ⊥
+  opened_none z p k = let a = in_acquires 0 m (Open z p) (subst (λ l. IsAmong (Open z p) l) tables (s.told.outer (Open z p) k)) in let e : Open z p ≡ Acquire a.0 0 = a.1 in cc
+
+  lease_root : (j z : ℕ) → Notes L Outer (Lease j z) → z ≡ 0
+  lease_root j z k =
+      let at = among_parts k.0 L k.1 in
+      let may : MayFollow at.0 Outer (Lease j z) = subst (λ w. MayFollow at.0 w (Lease j z)) k.2 (subst (λ w. MayFollow at.0 k.0.by w) k.3 (s.whole.legal at.0 at.1 k.0 at.2)) in
+      ⊎_elim (λ e. e) (λ o. absurd (opened_none z o.0 (subst (λ l. Notes l Outer (Open z o.0)) (sym at.2) (front_notes (k.0 ∷ at.1) o.1)))) may.2.0
+
   note_so : (t : ℕ) (h : How) → m ≤ t → q.root ≡ Some (exit_of h) → (w : What) → Notes L Outer w → IsOuterNote t n h w
-  note_so t h few root (Lease j z) k = let o = s.told.outer (Lease j z) k in let l = o.1 in let f = s.few in (omega (arith, l, f), o.0)
+  note_so t h few root (Lease j z) k = let l = s.told.outer (Lease j z) k in let f = s.few in (omega (arith, l, f), lease_root j z k)
   note_so t h few root (Cancel j x) k = (s.told.outer (Cancel j x) k).0
   note_so t h few root (Close zero x) k = (refl, some_exit x (exit_of h) (sym (s.told.outer (Close 0 x) k) ∙ root))
   note_so t h few root (Close (suc z) x) k = let a = in_acquires 0 m (Close (suc z) x) (subst (λ l. IsAmong (Close (suc z) x) l) tables (s.told.outer (Close (suc z) x) k)) in absurd (let e : Close (suc z) x ≡ Acquire a.0 0 = a.1 in cc)
-  note_so t h few root (Open z p) k = let a = in_acquires 0 m (Open z p) (subst (λ l. IsAmong (Open z p) l) tables (s.told.outer (Open z p) k)) in absurd (let e : Open z p ≡ Acquire a.0 0 = a.1 in cc)
+  note_so t h few root (Open z p) k = absurd (opened_none z p k)
   note_so t h few root (Acquire r z) k = let a = acquires_tables r z k in let l = a.0 in (omega (arith, l, few), a.1)
   note_so t h few root (Final r x ok) k = let o = s.told.outer (Final r x ok) k in let l = (table_row r o.0 o.1).0 in omega (arith, l, few)
 
@@ -119,7 +131,7 @@ module _ {P : Type 0} (width n m : ℕ) (b : Seen P) (q : Progress P) (L : List 
 
   -- each stream was leased for
   pub all_leased : q.leased ≡ n → AreLeased n L
-  all_leased e = each_among (λ k. IsLeased L k) (first_numbers n) (λ k i. let l = (among_range 0 n k i).1 in (Outer, 0, s.told.leases k (omega (arith, l, e))))
+  all_leased e = each_among (λ k. IsLeased L k) (first_numbers n) (λ k i. let l = (among_range 0 n k i).1 in let x = s.told.leases k (omega (arith, l, e)) in (Outer, x.0, x.1))
 
   -- where no tree came back the outer stream alone noted something
   pub silent : q.back ≡ [] → (k : ℕ) (e : Event) → IsAmong e L → e.by ≢ Inner k

@@ -36,7 +36,7 @@ use Rattle.scope_tree.specs.Released.{said}
 use Rattle.stream_parts.specs.Retire.{AreWrittenAlone, MayReturnAll, Returns}
 use Rattle.res_ledger.proofs.Mapped.{map_among}
 use Rattle.job_runs.specs.Rows.{EndsAs}
-use Rattle.dealt_streams.specs.Tables.{HasTables}
+use Rattle.outer_stream.specs.Tables.{HasTables}
 use Rattle.collected.proofs.AllRows as rows
 use Rattle.joined_runs.specs.Shares.{AreTablesKept}
 use Rattle.joined_runs.specs.Devices.{MadeComeBack}
@@ -83,7 +83,7 @@ pub record Ended {V : Type 0} (told : V → DeviceTold) (p : PlanMeant) (old mid
   pub ht : HasTables told p old mid o b q
   pub shut : b.seat.opened ≡ []
   pub main : IsMain (FinishesDevice told) p.max_open (length p.streams) b q
-  pub tables : q.tables ≡ acquires 0 (length ht.devices)
+  pub tables : q.tables ≡ acquires 0 0 (length ht.devices)
   pub s : Settles p.max_open (length p.streams) b q L
   pub guests : (y : Seen V) → IsAmong y q.back → CameIn (FinishesDevice told) b y
   pub shelf : List (Spent V)

@@ -39,7 +39,8 @@ use Rattle.stream_parts.specs.Retire.{devices_of}
 use Rattle.tree_families.specs.Families.{Split}
 use Rattle.dealt_streams.specs.Kept.{AreKept}
 use Rattle.dealt_streams.specs.Kept.{Gone, number_of, told_message}
-use Rattle.dealt_streams.specs.Tables.{bare_work, EndsRead, HasTables, HaveValuesOf, IsStoppedBy}
+use Rattle.dealt_streams.specs.Works.{bare_work}
+use Rattle.outer_stream.specs.Tables.{EndsRead, HasTables, HaveValuesOf, IsStoppedBy}
 use Rattle.dealt_streams.specs.declared.leftover.Leftover.{Leftover}
 use Rattle.dealt_streams.specs.Kept.Gone.{Came}
 use Rattle.dealt_streams.specs.Parts.{AreDealt, Part, fate_of}

@@ -41,7 +41,7 @@ use Rattle.stream_parts.specs.declared.parts.StreamParts.{StreamParts}
 use Rattle.res_ledger.proofs.Mapped.{map_among}
 use Rattle.tree_families.specs.Families.{split_of}
 use Rattle.collector.specs.declared.collector.Collector.{Collector}
-use Rattle.dealt_streams.specs.Tables.{bare_work}
+use Rattle.dealt_streams.specs.Works.{bare_work}
 use Rattle.collector.specs.Collecting.{IsJobOf, KeepsStreams, KeepsTale, guest_of, waiting_of}
 use Rattle.dealt_streams.specs.Parts.{Deals, IsMadeOf, Part, fate_of}
 use Rattle.dealt_streams.specs.Parts.Part.{Begun}
@@ -50,7 +50,8 @@ use Rattle.collector.proofs.Lists.{at_last, map_length, map_snoc, snoc_length}
 use Rattle.collector.proofs.Streams.{all_came, jobs_number, streams_begun}
 use Rattle.collector.proofs.Telling.{tale_begins}
 use Rattle.collector.proofs.Tree.{next_is, split_so}
-use Rattle.collector.proofs.Steps.{With, all_parts_read, below, counted, dealt_snoc, fits_other, seated_out, split_keeps, tables_kept}
+use Rattle.outer_stream.proofs.Standing.{stands_on}
+use Rattle.collector.proofs.Steps.{With, all_parts_read, below, counted, dealt_snoc, fits_other, seated_out, split_keeps}
 
 module _ {S V F D T : Type 0} (view : S → View V) (told : V → DeviceTold) (fits : S → D → Type 0) (values : T → Values) (P : Values → StateMeaning F) (p : PlanMeant) (d0 : DepotTold) (s0 : SinkTold) (t : Values) (waits : ℕ) (l : Lease) (ws : List Lease) (js : List (Job S V F V D T)) (r : ReceiverSeen) (depot : DepotTold) (sink : SinkTold) (d : D) (c : Collector S V F D T) (k : With view told fits values P p d0 s0 t waits (l ∷ ws) js r depot sink d c) where
   numbered : c.next ≡ length k.tale.fates
@@ -62,7 +63,7 @@ module _ {S V F D T : Type 0} (view : S → View V) (told : V → DeviceTold) (f
   lower : c.next < length p.streams
   lower = below view told fits values P p d0 s0 t waits l ws js r depot sink d c k
 
-  its_tables : k.o ≡ None
+  its_tables : k.stands.o ≡ None
   its_tables = all_parts_read view told fits values P p d0 s0 t waits l ws js r depot sink d c k
 
   -- its seat was split off, and its job made
@@ -78,7 +79,7 @@ module _ {S V F D T : Type 0} (view : S → View V) (told : V → DeviceTold) (f
     its_number = k.next
 
     stream_is : l.stream ≡ length k.parts
-    stream_is = next_is told p waits (seen view c.tree) c.outer c.leased l ws k.parts k.progress k.tree
+    stream_is = next_is told p waits (seen view c.tree) c.outer c.outer_stream l ws k.parts k.progress k.tree
 
     made_of : IsMadeOf told p t c.next parts.node parts.devices w
     made_of = record {
@@ -149,14 +150,9 @@ module _ {S V F D T : Type 0} (view : S → View V) (told : V → DeviceTold) (f
           progress = q;
           tale = fated k.tale tales.Fate.Begun;
           mid = k.mid;
-          o = k.o;
-          tree = split_so told p waits (seen view c.tree) c.outer c.leased l ws k.parts k.progress k.tree (seen view z.tree) x s (subst (λ i. slice_get p.streams i ≡ Some s) k.next is) main split owes again few some;
+          tree = split_so told p waits (seen view c.tree) c.outer c.outer_stream l ws k.parts k.progress k.tree (seen view z.tree) x s (subst (λ i. slice_get p.streams i ≡ Some s) k.next is) main split owes again few some;
           next = omega (arith, more, n);
-          tables = tables_kept told p d0 k.mid k.o k.progress q (seen view c.tree) (seen view z.tree) (split_keeps (seen view c.tree) (seen view z.tree) l.stream (rows_of p (length k.parts)).from (rows_of p (length k.parts)).to (stream_events (length p.tables) s) split) refl k.tables;
-          read = k.read;
-          unread = λ not. absurd (not its_tables);
-          ended = k.ended;
-          nobody = k.nobody;
+          stands = stands_on told p d0 k.mid t c.outer_stream c.outer k.tale.memory (seen view c.tree) k.progress k.stands its_tables (seen view z.tree) q k.tale.memory (split_keeps (seen view c.tree) (seen view z.tree) l.stream (rows_of p (length k.parts)).from (rows_of p (length k.parts)).to (stream_events (length p.tables) s) split) refl;
           dealt = dealt_snoc told p t 0 k.mid depot now k.parts x k.dealt deals;
           streams = subst (λ i. KeepsStreams view told fits values P c.hub c.stops.board g (seen view z.tree) (js ++ j ∷ []) c.left.items (record r { made = r.made ++ i ∷ [] }) (k.parts ++ x ∷ []) q (fated k.tale tales.Fate.Begun)) (sym k.next)
               (streams_begun view told fits values P c.hub c.stops.board d (seen view c.tree) js c.left.items r k.parts k.progress k.tale k.streams g (seen view z.tree) w x j (split_of (view c.tree.seat) l.stream) k.next number k.telling.report_is.ours stream_is

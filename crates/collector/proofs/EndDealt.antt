@@ -51,7 +51,6 @@ use Rattle.stream_jobs.specs.Running.{Origin}
 use Rattle.stream_jobs.proofs.Others.{others_leave}
 use Rattle.collector.specs.declared.collector.Collector.{Collector}
 use Rattle.dealt_streams.specs.declared.leftover.Leftover.{Leftover}
-use Rattle.dealt_streams.specs.Tables.{HasTables}
 use Rattle.collector.specs.Collecting.{AreJobs, IsCollectingWith, IsJobOf, KeepsStreams, KeepsTree, guest_of}
 use Rattle.collector.specs.Receiving.{HasGot, StopsThose}
 use Rattle.collector.proofs.EndTaken.{GotAll, behind, got_all, streams_end}
@@ -60,21 +59,19 @@ use Rattle.collector.proofs.LoadTaken.{grown, some_part}
 use Rattle.collector.proofs.Loads.{wrote_same}
 use Rattle.collector.proofs.Opening.{is_open}
 use Rattle.collector.proofs.Rotating.{jobs_stay}
-use Rattle.collector.proofs.Steps.{tables_kept}
+use Rattle.outer_stream.specs.declared.outer.Outer.{Outer as outer_type}
+use Rattle.outer_stream.proofs.Standing.{stands_on}
+use Rattle.collector.proofs.Steps.{parts_read}
 use Rattle.collector.proofs.Turning.{first_job, outer_fits}
 
-module _ {V : Type 0} (told : V → DeviceTold) (p : PlanMeant) (old mid : DepotTold) (o : Option NotRead) (q : Progress V) where
+module _ {V : Type 0} (told : V → DeviceTold) (p : PlanMeant) (q : Progress V) where
   -- no event and no payload is lost where the tree of a stream comes back
   keeps : (a b : Seen V) (w : View V) → b ≡ record a { seat = joined a.seat w } → KeepsRows a.seat b.seat
   keeps a b w is = subst (λ (x : Seen V). KeepsRows a.seat x.seat) (sym is) (record { noted = λ e m. among_left w.events m; left = λ y m. among_left w.left m; given = λ y m. among_left w.given m; opened = λ y m. inl m })
 
-  -- so what is known of the tables stays known
-  abbrev tables_joined : (a b y : Seen V) (w : View V) → b ≡ record a { seat = joined a.seat w } → HasTables told p old mid o a q → HasTables told p old mid o b (joining q y)
-  tables_joined a b y w is = tables_kept told p old mid o q (joining q y) a b (keeps a b w is) refl
-
-  -- and so does what is known of the tree
-  tree_joined : (waits : ℕ) (a b y : Seen V) (w : View V) (outer : Option How) (leased : ℕ) (ws : List Lease) {F : Type 0} (parts : List _) → b ≡ record a { seat = joined a.seat w } → owed b.seat ≡ owed a.seat → IsMain (FinishesDevice told) p.max_open (length p.streams) b (joining q y) → KeepsTree p {V = V} {F = F} told waits a outer leased ws parts q → KeepsTree p {V = V} {F = F} told waits b outer leased ws parts (joining q y)
-  tree_joined waits a b y w outer leased ws parts is owes main h =
+  -- so what is known of the tree stays known
+  tree_joined : (waits : ℕ) (a b y : Seen V) (w : View V) (outer : Option How) (given : outer_type) (ws : List Lease) {F : Type 0} (parts : List _) → b ≡ record a { seat = joined a.seat w } → owed b.seat ≡ owed a.seat → IsMain (FinishesDevice told) p.max_open (length p.streams) b (joining q y) → KeepsTree p {V = V} {F = F} told waits a outer given ws parts q → KeepsTree p {V = V} {F = F} told waits b outer given ws parts (joining q y)
+  tree_joined waits a b y w outer given ws parts is owes main h =
       let empty : b.seat.empty ≡ a.seat.empty ++ w.empty = ap (λ (x : Seen V). x.seat.empty) is in
       let splits : b.seat.splits ≡ a.seat.splits = ap (λ (x : Seen V). x.seat.splits) is in
       let spare : b.seat.spare ≡ a.seat.spare + w.spare = ap (λ (x : Seen V). x.seat.spare) is in
@@ -229,14 +226,9 @@ module _ {S V F D T : Type 0} (view : S → View V) (told : V → DeviceTold) (f
             progress = joining i.progress ends.left.leaves.last;
             tale = tale;
             mid = i.mid;
-            o = i.o;
-            tree = tree_joined told p d0 i.mid i.o i.progress waits (seen view c.tree) (seen view B) ends.left.leaves.last (view e.seat) c.outer c.leased ws i.parts B_is owes main i.tree;
+            tree = tree_joined told p i.progress waits (seen view c.tree) (seen view B) ends.left.leaves.last (view e.seat) c.outer c.outer_stream ws i.parts B_is owes main i.tree;
             next = i.next;
-            tables = tables_joined told p d0 i.mid i.o i.progress (seen view c.tree) (seen view B) ends.left.leaves.last (view e.seat) B_is i.tables;
-            read = i.read;
-            unread = λ ne. absurd (some_part i.parts i.tale k i.telling.fates_are open_end (i.unread ne).1);
-            ended = i.ended;
-            nobody = i.nobody;
+            stands = stands_on told p d0 i.mid t c.outer_stream c.outer i.tale.memory (seen view c.tree) i.progress i.stands (parts_read view told fits values P p d0 s0 t waits ws (job ∷ js) had depot sink d c i (λ none. some_part i.parts i.tale k i.telling.fates_are open_end none)) (seen view B) (joining i.progress ends.left.leaves.last) tale.memory (keeps told p i.progress (seen view c.tree) (seen view B) (view e.seat) B_is) refl;
             dealt = i.dealt;
             streams = subst (λ b. KeepsStreams view told fits values P c.hub b d2 (seen view B) js L.items R i.parts (joining i.progress ends.left.leaves.last) tale) (sym those.learns.board) streams_now;
             telling = record {

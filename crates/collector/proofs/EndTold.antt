@@ -25,7 +25,7 @@ use Rattle.plan_work.specs.Plans.{stream_of}
 use Rattle.run_rules.specs.Facts.{at, is_memory}
 use Rattle.run_rules.specs.Work.{Work}
 use Rattle.stream_jobs.specs.Learned.{HasSetFor}
-use Rattle.dealt_streams.specs.Tables.{bare_work}
+use Rattle.dealt_streams.specs.Works.{bare_work}
 use Rattle.collector.specs.Receiving.{StopsThose}
 
 -- the end h of stream k came behind the tale t, which goes on so

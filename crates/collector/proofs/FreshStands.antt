@@ -42,13 +42,15 @@ use Rattle.scope_tree.specs.declared.tree.Tree.{Tree}
 use Rattle.stream_jobs.specs.declared.job.Job.{Job}
 use Rattle.collector.specs.declared.collector.Collector.{Collector}
 use Rattle.dealt_streams.specs.declared.leftover.Leftover.{Leftover}
-use Rattle.dealt_streams.specs.Tables.{EndsRead, HasTables, HaveValuesOf, IsStoppedBy, bare_work}
+use Rattle.dealt_streams.specs.Works.{bare_work}
+use Rattle.csv_pipes.specs.Dictionaries.{values_of}
+use Rattle.outer_stream.specs.declared.outer.Outer.{Outer as Outer_stream}
+use Rattle.outer_stream.specs.Tables.{StandsOuter}
 use Rattle.collector.specs.Collecting.{IsCollecting, IsCollectingWith, KeepsStreams, KeepsTale, KeepsTree}
 use Rattle.collector.specs.Starting.{ClosesOuter, IsFresh, room_of}
-use Rattle.collector.proofs.Fresh.{first_out, tried, tried_out, tried_tree, untouched_tree, untried}
+use Rattle.collector.proofs.Fresh.{first_outer, first_out, untouched_outer, untouched_tree, unwanted_outer}
 use Rattle.collector.proofs.FreshTale.{halted, tale_halted, tale_starts}
 use Rattle.collector.proofs.OuterSteps.{more_now}
-use Rattle.collector.proofs.Steps.{tables_kept}
 use Rattle.collector.proofs.Streams.{moved, retold}
 use Rattle.collector.proofs.Telling.{tale_closes}
 use Rattle.collector.proofs.Tree.{closed}
@@ -79,81 +81,56 @@ module _ {S V F D T : Type 0} (view : S → View V) (told : V → DeviceTold) (f
     closed = λ k sent m. absurd (among_nil m);
   }
 
-  module _ (d0 : DepotTold) (s0 : SinkTold) (t : Values) (d : D) (c : Collector S V F D T) (fr : IsFresh view told fits p d c) where
+  module _ (d0 : DepotTold) (s0 : SinkTold) (d : D) (c : Collector S V F D T) (fr : IsFresh view told fits p d c) where
     -- it stands so before its first stream
-    pub stands : (waits : ℕ) (depot : DepotTold) (e : D) (tree : Tree S V D) (stops : Stops) (report : Report) (outer : Option How) (o : Option NotRead) (tables : List What) (root : Option Exit) (set found : List Interruption) (ceased memory : Bool) → Fits view fits tree e
-        → KeepsTree p {F = F} told waits (seen view tree) outer 0 [] [] (moved (none_done V) [] 0 0 tables root) → (ht : HasTables told p d0 depot o (seen view tree) (moved (none_done V) [] 0 0 tables root)) → (o ≡ None → HaveValuesOf told p ht.contents t) → (o ≡ None → outer ≡ None)
-        → (o ≢ None → (h : How) × (outer ≡ Some h) × IsStoppedBy told p o (length ht.devices + length ht.back) memory h) → (p.take ≡ Some 0 → (length ht.devices + length ht.back ≡ 0) × (outer ≡ Some how.Halted)) → (seen view tree).seat.out ≡ [] → KeepsTale p outer report stops 0 s0 s0 [] (retold first_tale outer set found ceased memory)
-        → IsCollecting view told fits values P p d0 s0 t waits depot s0 e (record c { tree = tree; stops = stops; report = report; outer = outer })
-    stands waits depot e tree stops report outer o tables root set found ceased memory fit kt ht read only stopped unwanted out telling =
-        let z : Collector S V F D T = record c { tree = tree; stops = stops; report = report; outer = outer } in
-        let q = moved (none_done V) [] 0 0 tables root in
+    stands : (waits : ℕ) (e : D) (tree : Tree S V D) (stops : Stops) (report : Report) (outer : Option How) (root : Option Exit) (set found : List Interruption) (ceased memory : Bool) → Fits view fits tree e
+        → KeepsTree p {F = F} told waits (seen view tree) outer first_outer [] [] (moved (none_done V) [] 0 0 [] root) → StandsOuter told p d0 d0 (values_of []) first_outer outer memory (seen view tree) (moved (none_done V) [] 0 0 [] root) → (seen view tree).seat.out ≡ []
+        → KeepsTale p outer report stops 0 s0 s0 [] (retold first_tale outer set found ceased memory) → IsCollecting view told fits values P p d0 s0 (values_of []) waits d0 s0 e (record c { tree = tree; stops = stops; report = report; outer = outer; outer_stream = first_outer })
+    stands waits e tree stops report outer root set found ceased memory fit kt so out telling =
+        let z : Collector S V F D T = record c { tree = tree; stops = stops; report = report; outer = outer; outer_stream = first_outer } in
+        let q = moved (none_done V) [] 0 0 [] root in
         let tale = retold first_tale outer set found ceased memory in
-        let With = λ (ws : List Lease) (js : List (Job S V F V D T)). IsCollectingWith view told fits values P p d0 s0 t waits ws js c.receiver depot s0 e z in
+        let With = λ (ws : List Lease) (js : List (Job S V F V D T)). IsCollectingWith view told fits values P p d0 s0 (values_of []) waits ws js c.receiver d0 s0 e z in
         let k : With [] [] = record {
           fits_desk = fit;
           parts = [];
           progress = q;
           tale = tale;
-          mid = depot;
-          o = o;
-          tree = subst (λ n. KeepsTree p {F = F} told waits (seen view tree) outer n [] [] q) (sym fr.leased) kt;
+          mid = d0;
+          tree = kt;
           next = fr.next;
-          tables = ht;
-          read = read;
-          ended = λ n. subst (λ (x : Option How). IfSome x (EndsRead p c.leased)) (sym (only n)) tt;
-          unread = λ n. (refl, refl, stopped n);
-          nobody = unwanted;
+          stands = so;
           dealt = refl;
           streams = subst (λ (r : ReceiverSeen). KeepsStreams view told fits values P c.hub stops.board e (seen view tree) [] c.left.items r [] q tale) (sym fr.room.receiver)
               (subst (λ (xs : List (Leftover V)). KeepsStreams view told fits values P c.hub stops.board e (seen view tree) [] xs (record { hub = c.hub.id; got = []; made = []; closed = [] }) [] q tale) (sym fr.room.left)
-              (streams_none c.hub stops.board e (seen view tree) tables root outer set found ceased memory out));
+              (streams_none c.hub stops.board e (seen view tree) [] root outer set found ceased memory out));
           telling = telling;
           room = record { waiting = fr.room.waiting_room; jobs_room = fr.room.jobs_room; queue = fr.room.queue; few = omega arith; left = let n = ap (λ (xs : List (Leftover V)). length xs) fr.room.left in let m = fr.room.left_room in omega (arith, n, m) };
         } in
         subst (λ (ws : List Lease). With ws c.jobs.items) (sym fr.room.waiting) (subst (λ (js : List (Job S V F V D T)). With [] js) (sym fr.room.jobs) k)
 
+    -- it may be pulled
+    pub fresh_stands : p.take ≢ Some 0 → IsCollecting view told fits values P p d0 s0 (values_of []) (length c.waiting.items) d0 s0 d c
+    fresh_stands some =
+        let n = ap (λ (ws : List Lease). length ws) fr.room.waiting in
+        let a = seen view c.tree in
+        let h = stands (length c.waiting.items) d c.tree c.stops c.report None None [] [] false false fr.fits_desk (untouched_tree told p a fr.seat (length c.waiting.items) n fr.main) (untouched_outer told p a fr.seat d0 fr.rows fr.used some) (first_out p a.seat fr.seat) (tale_starts p (room_of c) fr.room s0 some) in
+        subst (λ (x : Option How). IsCollecting view told fits values P p d0 s0 (values_of []) (length c.waiting.items) d0 s0 d (record c { outer = x })) (sym fr.outer) (subst (λ (x : Outer_stream). IsCollecting view told fits values P p d0 s0 (values_of []) (length c.waiting.items) d0 s0 d (record c { outer = None; outer_stream = x })) (sym fr.given) h)
+
     -- no frame is wanted
     pub unwanted_stands : (none : p.take ≡ Some 0) (again : Stops) (m : Interrupts c.stops again 0 why.Take) (seated : IsSeated again) (e : D) (z : Collector S V F D T) (last : Stops) (cs : List Interruption) (l : Learns again last [] cs) (sits : IsSeated last) → (r : Reaches 0 cs) → (ends : EndsOuter how.Halted c.report z.report)
-        → ClosesOuter (FinishesDevice told) how.Halted (seen view c.tree) (seen view z.tree) → Fits view fits z.tree e → z ≡ record c { tree = z.tree; stops = last; report = z.report; outer = Some how.Halted } → IsCollecting view told fits values P p d0 s0 t 1 d0 s0 e z
+        → ClosesOuter (FinishesDevice told) how.Halted (seen view c.tree) (seen view z.tree) → Fits view fits z.tree e → z ≡ record c { tree = z.tree; stops = last; report = z.report; outer = Some how.Halted } → IsCollecting view told fits values P p d0 s0 (values_of z.outer_stream.tables) 1 d0 s0 e z
     unwanted_stands none again m seated e z last cs l sits r ends close fit same =
         let a = seen view c.tree in
         let b = seen view z.tree in
         let q = moved (none_done V) [] 0 0 [] None in
         let u = moved (none_done V) [] 0 0 [] (Some (exit_of how.Halted)) in
         let tale = halted p (room_of c) fr.room s0 none again m seated last cs l sits r z.report ends in
-        let h = stands 0 d0 e z.tree last z.report (Some how.Halted) (Some lack.Memory) [] (Some (exit_of how.Halted)) tale.set tale.seen tale.ceased tale.memory fit
-        (closed {F = F} told p 0 a None 0 [] [] q (untouched_tree told p d0 d0 a fr.seat 0 refl fr.main) how.Halted b refl close)
-        (tables_kept told p d0 d0 (Some lack.Memory) q u a b close.rows refl (untried told p d0 d0 a fr.seat)) (λ n. cc) (λ n. cc) (λ n. (how.Halted, refl, (none, refl))) (λ w. (refl, refl)) (close.guests.out ∙ first_out p a.seat fr.seat)
+        let y : Collector S V F D T = record c { tree = z.tree; stops = last; report = z.report; outer = Some how.Halted; outer_stream = first_outer } in
+        let is : z ≡ y = same ∙ ap (λ (x : Outer_stream). let w : Collector S V F D T = record c { tree = z.tree; stops = last; report = z.report; outer = Some how.Halted; outer_stream = x } in w) fr.given in
+        let h = stands 0 e z.tree last z.report (Some how.Halted) (Some (exit_of how.Halted)) tale.set tale.seen tale.ceased tale.memory fit
+        (closed {F = F} told p 0 a None first_outer [] [] q (untouched_tree told p a fr.seat 0 refl fr.main) how.Halted b refl close)
+        (unwanted_outer told p a fr.seat d0 tale.memory b u none close.rows refl) (close.guests.out ∙ first_out p a.seat fr.seat)
         (tale_halted p (room_of c) fr.room s0 none again m seated last cs l sits r z.report ends) in
-        subst (λ (y : Collector S V F D T). IsCollecting view told fits values P p d0 s0 t 1 d0 s0 e y) (sym same)
-        (more_now view told fits values P p d0 s0 t 0 1 d0 s0 e (record c { tree = z.tree; stops = last; report = z.report; outer = Some how.Halted }) h (omega arith) (λ n. cc))
-
-    -- its tables were tried
-    module _ (some : p.take ≢ Some 0) (depot : DepotTold) (tree : Tree S V D) (o : Option NotRead) (tr : TriesTables told (FinishesDevice told) 0 (map (λ x. x.path) p.tables) d0 depot (seen view c.tree) (seen view tree) o)
-        (main : IsMain (FinishesDevice told) p.max_open (length p.streams) (seen view tree) (moved (none_done V) [] 0 0 (acquires 0 (length tr.devices)) None)) where
-      -- and all were read
-      pub read_stands : o ≡ None → ((k : ℕ) (key : List ℕ) → t k key ≡ values_in tr.contents k key) → (e : D) → Fits view fits tree e → IsCollecting view told fits values P p d0 s0 t (length c.waiting.items) depot s0 e (record c { tree = tree })
-      read_stands read same e fit =
-          let n = ap (λ (ws : List Lease). length ws) fr.room.waiting in
-          let a = seen view c.tree in
-          let b = seen view tree in
-          let h = stands (length c.waiting.items) depot e tree c.stops c.report None o (acquires 0 (length tr.devices)) None [] [] false false fit
-          (tried_tree told p d0 depot a fr.seat b o tr (length c.waiting.items) n main) (tried told p d0 depot a fr.seat b o tr) (λ z. same) (λ z. refl) (λ z. absurd (z read)) (λ w. absurd (some w)) (tried_out told p d0 depot a fr.seat b o tr) (tale_starts p (room_of c) fr.room s0 some) in
-          subst (λ (x : Option How). IsCollecting view told fits values P p d0 s0 t (length c.waiting.items) depot s0 e (record c { tree = tree; outer = x })) (sym fr.outer) h
-
-      -- and one wasn't read
-      pub stopped_stands : (h : How) (e : D) (z : Collector S V F D T) (vs cs : List Interruption) → Learns c.stops z.stops vs cs → IsSeated z.stops → EndsOuter h c.report z.report → TellsOuter (bare_work p) (learned (outer_ended first_tale h) vs cs) h vs → ClosesOuter (FinishesDevice told) h (seen view tree) (seen view z.tree) → Fits view fits z.tree e
-          → z ≡ record c { tree = z.tree; stops = z.stops; report = z.report; outer = Some h } → (o ≡ None → ⊥) → IsStoppedBy told p o (length tr.devices + length tr.back) (false || is_memory h) h → IsCollecting view told fits values P p d0 s0 t 1 depot s0 e z
-      stopped_stands h e z vs cs l sits ends tells close fit same unread cause =
-          let a = seen view c.tree in
-          let m = seen view tree in
-          let b = seen view z.tree in
-          let q = moved (none_done V) [] 0 0 (acquires 0 (length tr.devices)) None in
-          let u = moved (none_done V) [] 0 0 (acquires 0 (length tr.devices)) (Some (exit_of h)) in
-          let kt = tale_closes p None c.report c.stops 0 s0 s0 [] first_tale (tale_starts p (room_of c) fr.room s0 some) h z.stops z.report vs cs refl l sits ends tells in
-          let k = stands 0 depot e z.tree z.stops z.report (Some h) o (acquires 0 (length tr.devices)) (Some (exit_of h)) ([] ++ vs) ([] ++ cs) (false || is_memory h) (false || is_memory h) fit
-          (closed {F = F} told p 0 m None 0 [] [] q (tried_tree told p d0 depot a fr.seat m o tr 0 refl main) h b refl close)
-          (tables_kept told p d0 depot o q u m b close.rows refl (tried told p d0 depot a fr.seat m o tr)) (λ n. absurd (unread n)) (λ n. absurd (unread n)) (λ n. (h, refl, cause)) (λ w. absurd (some w)) (close.guests.out ∙ tried_out told p d0 depot a fr.seat m o tr) kt in
-          subst (λ (y : Collector S V F D T). IsCollecting view told fits values P p d0 s0 t 1 depot s0 e y) (sym same)
-          (more_now view told fits values P p d0 s0 t 0 1 depot s0 e (record c { tree = z.tree; stops = z.stops; report = z.report; outer = Some h }) k (omega arith) (λ n. cc))
+        subst (λ (x : Collector S V F D T). IsCollecting view told fits values P p d0 s0 (values_of x.outer_stream.tables) 1 d0 s0 e x) (sym is)
+        (more_now view told fits values P p d0 s0 (values_of []) 0 1 d0 s0 e y h (omega arith) (λ n. cc))

@@ -17,7 +17,7 @@ use Rattle.join_report.proofs.Learning.{learns_known, unknown_is}
 use Rattle.join_tale.proofs.Steps.{starts, starts_met}
 use Rattle.pipeline_desc.specs.Meant.{PlanMeant}
 use Rattle.collector.specs.declared.collector.JoinRoom.{JoinRoom}
-use Rattle.dealt_streams.specs.Tables.{bare_work}
+use Rattle.dealt_streams.specs.Works.{bare_work}
 use Rattle.collector.specs.Collecting.{KeepsTale}
 use Rattle.collector.specs.Starting.{IsRoomFor}
 use Rattle.collector.proofs.OuterSteps.{whole_found}

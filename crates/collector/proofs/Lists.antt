@@ -72,7 +72,7 @@ run_length n zero = refl
 run_length n (suc k) = ap suc (run_length (suc n) k)
 
 -- a row that is acquired is one of those
-pub acquired_within : (n k r s : ℕ) → IsAmong (Acquire r s) (acquires n k) → r < n + k
+pub acquired_within : (n k r s : ℕ) → IsAmong (Acquire r s) (acquires 0 n k) → r < n + k
 acquired_within n k r s m =
     let x = among_map (λ q. Acquire q 0) (Acquire r s) (run n k) m in
     let same : Acquire x.0 0 ≡ Acquire r s = x.2 in

@@ -38,7 +38,10 @@ use Rattle.frames.proofs.Rendered.{rendering_some}
 use Rattle.collector.specs.declared.collector.Collector.{Collector}
 use Rattle.dealt_streams.specs.declared.leftover.Leftover.{Leftover}
 use Rattle.dealt_streams.specs.Kept.{AreKept, Gone, IsKept, told_message}
-use Rattle.dealt_streams.specs.Tables.{bare_work}
+use Rattle.dealt_streams.specs.Works.{bare_work}
+use Rattle.outer_stream.proofs.Standing.{stands_on}
+use Rattle.outer_stream.proofs.Steps.{rows_same}
+use Rattle.collector.proofs.Steps.{parts_read}
 use Rattle.collector.specs.Collecting.{IsCollectingWith, KeepsStreams}
 use Rattle.dealt_streams.specs.Kept.Gone.{Came, Missed}
 use Rattle.dealt_streams.specs.Parts.{Part, fate_of}
@@ -141,14 +144,9 @@ module _ {S V F D T : Type 0} (view : S → View V) (told : V → DeviceTold) (f
       progress = i.progress;
       tale = v;
       mid = i.mid;
-      o = i.o;
       tree = i.tree;
       next = i.next;
-      tables = i.tables;
-      read = i.read;
-      unread = λ ne. absurd (some_part i.parts i.tale k i.telling.fates_are open_load (i.unread ne).1);
-      ended = i.ended;
-      nobody = i.nobody;
+      stands = stands_on told p d0 i.mid t c.outer_stream c.outer i.tale.memory (seen view c.tree) i.progress i.stands (parts_read view told fits values P p d0 s0 t waits ws js had depot sink d c i (λ none. some_part i.parts i.tale k i.telling.fates_are open_load none)) (seen view c.tree) i.progress v.memory (rows_same (seen view c.tree)) refl;
       dealt = i.dealt;
       streams = subst (λ b. KeepsStreams view told fits values P c.hub b d (seen view c.tree) js c.left.items (grown had m) i.parts i.progress v) (sym board) (streams_on i.parts i.progress had m i.tale v g.same open_load c.hub c.stops.board d (seen view c.tree) js c.left.items g.got i.streams);
       telling = record {

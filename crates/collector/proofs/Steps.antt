@@ -42,7 +42,11 @@ use Rattle.scope_tree.specs.declared.tree.Tree.{Tree}
 use Rattle.stream_jobs.specs.declared.job.Job.{Job}
 use Rattle.collector.specs.declared.collector.Collector.{Collector}
 use Rattle.dealt_streams.specs.declared.leftover.Leftover.{Leftover}
-use Rattle.dealt_streams.specs.Tables.{EndsRead, HasTables, bare_work}
+use Rattle.dealt_streams.specs.Works.{bare_work}
+use Rattle.outer_stream.specs.Tables.{EndsRead, StandsOuter}
+use Rattle.outer_stream.specs.Pulls.{KeepsOthers}
+use Rattle.outer_stream.proofs.Steps.{others_kept, others_same, rows_same}
+use Rattle.outer_stream.proofs.Standing.{given_read, stands_on, stands_over}
 use Rattle.collector.specs.Collecting.{IsCollectingWith, KeepsStreams, KeepsTale, KeepsTree, guest_of, waiting_of}
 use Rattle.dealt_streams.specs.Parts.{AreDealt, Deals, MakesUnmade, Part, fate_of}
 use Rattle.dealt_streams.specs.Parts.Part.{Skipped, Unmade}
@@ -50,26 +54,7 @@ use Rattle.collector.specs.Starting.{ClosesOuter, MaySkip, PassesOver}
 use Rattle.collector.proofs.Lists.{map_length, map_snoc, snoc_length}
 use Rattle.collector.proofs.Streams.{jobs_number, streams_missed, streams_skipped, streams_stay}
 use Rattle.collector.proofs.Telling.{found_so, tale_closes, tale_learns, tale_misses, tale_skips}
-use Rattle.collector.proofs.Tree.{closed, next_below, passed, tree_widened}
-
-none_is : {A : Type 0} (o : Option NotRead) → (o ≢ None → A) → (A → ⊥) → o ≡ None
-none_is None u n = refl
-none_is (Some w) u n = absurd (n (u (λ e. cc)))
-
-module _ {V : Type 0} (told : V → DeviceTold) (p : PlanMeant) (old mid : DepotTold) (o : Option NotRead) (q u : Progress V) where
-  -- what is known of the tables stays known while no event and no payload is lost
-  abbrev pub tables_kept : (a b : Seen V) → KeepsRows a.seat b.seat → u.tables ≡ q.tables → HasTables told p old mid o a q → HasTables told p old mid o b u
-  tables_kept a b k same h = record {
-    devices = h.devices;
-    back = h.back;
-    contents = h.contents;
-    out = h.out;
-    made = h.made;
-    unknown = h.unknown;
-    noted = λ i l. let n = h.noted i l in (n.0, k.noted n.0 n.1, n.2, n.3);
-    pays = λ i d e. ⊎_elim (λ m. k.opened (i, d) m) (λ m. inr (k.left (i, d) m)) (h.pays i d e);
-    tables = same ∙ h.tables;
-  }
+use Rattle.collector.proofs.Tree.{idle, some_given, closed, next_below, passed, tree_widened}
 
 module _ {V F : Type 0} (told : V → DeviceTold) (p : PlanMeant) (t : Values) where
   -- one stream more was dealt with
@@ -103,14 +88,9 @@ module _ {S V F D T : Type 0} (view : S → View V) (told : V → DeviceTold) (f
     progress = k.progress;
     tale = k.tale;
     mid = k.mid;
-    o = k.o;
-    tree = tree_widened told p waits (seen view c.tree) c.outer c.leased ws k.parts k.progress k.tree again few some;
+    tree = tree_widened told p waits (seen view c.tree) c.outer c.outer_stream ws k.parts k.progress k.tree again few some;
     next = k.next;
-    tables = k.tables;
-    read = k.read;
-    unread = k.unread;
-    ended = k.ended;
-    nobody = k.nobody;
+    stands = k.stands;
     dealt = k.dealt;
     streams = k.streams;
     telling = k.telling;
@@ -125,14 +105,9 @@ module _ {S V F D T : Type 0} (view : S → View V) (told : V → DeviceTold) (f
     progress = h.progress;
     tale = h.tale;
     mid = h.mid;
-    o = h.o;
     tree = h.tree;
     next = h.next;
-    tables = h.tables;
-    read = h.read;
-    unread = h.unread;
-    ended = h.ended;
-    nobody = h.nobody;
+    stands = h.stands;
     dealt = h.dealt;
     streams = h.streams;
     telling = h.telling;
@@ -153,16 +128,11 @@ module _ {S V F D T : Type 0} (view : S → View V) (told : V → DeviceTold) (f
       progress = k.progress;
       tale = learned k.tale [] cs;
       mid = k.mid;
-      o = k.o;
       tree = k.tree;
       next = k.next;
-      tables = k.tables;
-      read = k.read;
-      unread = k.unread;
-      ended = k.ended;
-      nobody = k.nobody;
+      stands = k.stands;
       dealt = k.dealt;
-      streams = streams_stay view told fits values P c.hub c.stops.board d (seen view c.tree) js c.left.items r k.parts k.progress k.tale k.streams again.board d (seen view c.tree) l.board (λ x ne f. f) (record { out = refl; splits = refl; empty = λ x m. m; lent = λ j rows m. m }) (record { noted = λ x m. m; left = λ x m. m; opened = λ x m. inl m; given = λ x m. m })
+      streams = streams_stay view told fits values P c.hub c.stops.board d (seen view c.tree) js c.left.items r k.parts k.progress k.tale k.streams again.board d (seen view c.tree) l.board (λ x ne f. f) (others_same 0 (seen view c.tree)) (rows_same (seen view c.tree))
           k.tale.outer (k.tale.set ++ []) (k.tale.seen ++ cs) k.tale.ceased k.tale.memory k.progress.waits k.progress.next k.progress.leased k.progress.tables k.progress.root;
       telling = tale_learns p c.outer c.report c.stops (length js) s0 sink (map fate_of k.parts) k.tale k.telling again cs l seated;
       room = record { waiting = k.room.waiting; jobs_room = k.room.jobs_room; queue = k.room.queue; few = k.room.few; left = k.room.left };
@@ -176,16 +146,11 @@ module _ {S V F D T : Type 0} (view : S → View V) (told : V → DeviceTold) (f
       progress = k.progress;
       tale = k.tale;
       mid = k.mid;
-      o = k.o;
-      tree = subst (λ (b : Seen V). KeepsTree p told waits b c.outer c.leased ws k.parts k.progress) (sym same) k.tree;
+      tree = subst (λ (b : Seen V). KeepsTree p told waits b c.outer c.outer_stream ws k.parts k.progress) (sym same) k.tree;
       next = k.next;
-      tables = tables_kept told p d0 k.mid k.o k.progress k.progress (seen view c.tree) (seen view tree) (subst (λ (b : Seen V). KeepsRows (seen view c.tree).seat b.seat) (sym same) (record { noted = λ x m. m; left = λ x m. m; opened = λ x m. inl m; given = λ x m. m })) refl k.tables;
-      read = k.read;
-      unread = k.unread;
-      ended = k.ended;
-      nobody = k.nobody;
+      stands = subst (λ (b : Seen V). StandsOuter told p d0 k.mid t c.outer_stream c.outer k.tale.memory b k.progress) (sym same) k.stands;
       dealt = k.dealt;
-      streams = streams_stay view told fits values P c.hub c.stops.board d (seen view c.tree) js c.left.items r k.parts k.progress k.tale k.streams c.stops.board e (seen view tree) refl others (subst (λ (b : Seen V). KeepsGuests (seen view c.tree) b) (sym same) (record { out = refl; splits = refl; empty = λ x m. m; lent = λ j rows m. m }))
+      streams = streams_stay view told fits values P c.hub c.stops.board d (seen view c.tree) js c.left.items r k.parts k.progress k.tale k.streams c.stops.board e (seen view tree) refl others (subst (λ (b : Seen V). KeepsOthers 0 (seen view c.tree) b) (sym same) (others_same 0 (seen view c.tree)))
           (subst (λ (b : Seen V). KeepsRows (seen view c.tree).seat b.seat) (sym same) (record { noted = λ x m. m; left = λ x m. m; opened = λ x m. inl m; given = λ x m. m }))
           k.tale.outer k.tale.set k.tale.seen k.tale.ceased k.tale.memory k.progress.waits k.progress.next k.progress.leased k.progress.tables k.progress.root;
       telling = k.telling;
@@ -208,29 +173,30 @@ module _ {S V F D T : Type 0} (view : S → View V) (told : V → DeviceTold) (f
         let n = map_length waiting_of ws in
         omega (arith, few, o, w, n)
 
-    -- where the outer stream is open all tables were read
-    pub all_read : c.outer ≡ None → k.o ≡ None
-    all_read none = none_is k.o k.unread (λ h. let z : None ≡ Some h.2.0 = sym none ∙ h.2.1 in cc)
+    -- where a stream waits or was dealt with all tables were read
+    pub given_so : ¬ (c.outer_stream.leased ≡ 0) → k.stands.o ≡ None
+    given_so some = given_read told p d0 k.mid t c.outer_stream c.outer k.tale.memory (seen view c.tree) k.progress k.stands some
+
+    pub all_read : 1 ≤ length ws → k.stands.o ≡ None
+    all_read some = given_so (some_given told p waits (seen view c.tree) c.outer c.outer_stream ws k.parts k.progress k.tree some)
+
+    pub parts_read : (k.parts ≡ [] → ⊥) → k.stands.o ≡ None
+    parts_read some = given_so (λ z. some (idle told p waits (seen view c.tree) c.outer c.outer_stream ws k.parts k.progress k.tree z).0)
 
     -- the outer stream ended, and a code was set or found before
     pub close_step : (h : How) (tree : Tree S V D) (again : Stops) (report : Report) (e : D) (vs cs : List Interruption) → c.outer ≡ None → ClosesOuter (FinishesDevice told) h (seen view c.tree) (seen view tree) → Fits view fits tree e → OthersFit view fits Outer d e → Learns c.stops again vs cs → IsSeated again → EndsOuter h c.report report
-        → ((v : Tale) → v ≡ k.tale → TellsOuter (bare_work p) (learned (outer_ended v h) vs cs) h vs) → EndsRead p c.leased h → With waits ws js r depot sink e (record c { tree = tree; stops = again; report = report; outer = Some h })
-    close_step h tree again report e vs cs none close fit others l seated ends tells read_so = record {
+        → ((v : Tale) → v ≡ k.tale → TellsOuter (bare_work p) (learned (outer_ended v h) vs cs) h vs) → k.stands.o ≡ None → EndsRead p c.outer_stream.leased h → With waits ws js r depot sink e (record c { tree = tree; stops = again; report = report; outer = Some h })
+    close_step h tree again report e vs cs none close fit others l seated ends tells read read_so = record {
       fits_desk = fit;
       parts = k.parts;
       progress = closing_root k.progress (exit_of h);
       tale = learned (outer_ended k.tale h) vs cs;
       mid = k.mid;
-      o = k.o;
-      tree = closed told p waits (seen view c.tree) c.outer c.leased ws k.parts k.progress k.tree h (seen view tree) none close;
+      tree = closed told p waits (seen view c.tree) c.outer c.outer_stream ws k.parts k.progress k.tree h (seen view tree) none close;
       next = k.next;
-      tables = tables_kept told p d0 k.mid k.o k.progress (closing_root k.progress (exit_of h)) (seen view c.tree) (seen view tree) close.rows refl k.tables;
-      read = k.read;
-      unread = λ n. absurd (n (all_read none));
-      ended = λ n. read_so;
-      nobody = λ w. let z : None ≡ Some how.Halted = sym none ∙ (k.nobody w).1 in cc;
+      stands = stands_over told p d0 k.mid t c.outer_stream c.outer k.tale.memory (seen view c.tree) k.progress k.stands read none h read_so (seen view tree) (closing_root k.progress (exit_of h)) (k.tale.memory || is_memory h) close.rows refl;
       dealt = k.dealt;
-      streams = streams_stay view told fits values P c.hub c.stops.board d (seen view c.tree) js c.left.items r k.parts k.progress k.tale k.streams again.board e (seen view tree) l.board others close.guests close.rows
+      streams = streams_stay view told fits values P c.hub c.stops.board d (seen view c.tree) js c.left.items r k.parts k.progress k.tale k.streams again.board e (seen view tree) l.board others (others_kept 0 (seen view c.tree) (seen view tree) close.guests) close.rows
           (Some h) (k.tale.set ++ vs) (k.tale.seen ++ cs) (k.tale.ceased || is_memory h) (k.tale.memory || is_memory h) k.progress.waits k.progress.next k.progress.leased k.progress.tables (Some (exit_of h));
       telling = tale_closes p c.outer c.report c.stops (length js) s0 sink (map fate_of k.parts) k.tale k.telling h again report vs cs none l seated ends (tells k.tale refl);
       room = record { waiting = k.room.waiting; jobs_room = k.room.jobs_room; queue = k.room.queue; few = k.room.few; left = k.room.left };
@@ -245,10 +211,10 @@ module _ {S V F D T : Type 0} (view : S → View V) (told : V → DeviceTold) (f
     counted = k.next ∙ count
 
     pub below : c.next < length p.streams
-    below = let b = next_below told p waits (seen view c.tree) c.outer c.leased l ws k.parts k.progress k.tree in let n = k.next in omega (arith, b, n)
+    below = let b = next_below told p waits (seen view c.tree) c.outer c.outer_stream l ws k.parts k.progress k.tree in let n = k.next in omega (arith, b, n)
 
-    pub all_parts_read : k.o ≡ None
-    all_parts_read = none_is k.o k.unread (λ h. let z = h.0 in cc)
+    pub all_parts_read : k.stands.o ≡ None
+    all_parts_read = all_read waits (l ∷ ws) js r depot sink d c k (omega arith)
 
     found : (context : ℕ) (w : Why) → IsAmong (interruption context w) (view_of c.stops).seen → IsFoundSet k.tale context
     found = found_so p c.outer c.report c.stops (length js) s0 sink (map fate_of k.parts) k.tale k.telling
@@ -277,16 +243,11 @@ module _ {S V F D T : Type 0} (view : S → View V) (told : V → DeviceTold) (f
           progress = skipping k.progress (map waiting_of ws);
           tale = fated k.tale tales.Fate.Skipped;
           mid = k.mid;
-          o = k.o;
-          tree = passed told p waits (seen view c.tree) c.outer c.leased l ws k.parts k.progress k.tree (seen view tree) Skipped again pass few some;
+          tree = passed told p waits (seen view c.tree) c.outer c.outer_stream l ws k.parts k.progress k.tree (seen view tree) Skipped again pass few some;
           next = omega (arith, more, n);
-          tables = tables_kept told p d0 k.mid k.o k.progress (skipping k.progress (map waiting_of ws)) (seen view c.tree) (seen view tree) pass.rows refl k.tables;
-          read = k.read;
-          unread = λ not. absurd (not all_parts_read);
-          ended = k.ended;
-          nobody = k.nobody;
+          stands = stands_on told p d0 k.mid t c.outer_stream c.outer k.tale.memory (seen view c.tree) k.progress k.stands all_parts_read (seen view tree) (skipping k.progress (map waiting_of ws)) k.tale.memory pass.rows refl;
           dealt = dealt_snoc told p t 0 k.mid depot depot k.parts Skipped k.dealt refl;
-          streams = streams_skipped view told fits values P c.hub c.stops.board d (seen view c.tree) js c.left.items r k.parts k.progress k.tale k.streams c.stops.board e (seen view tree) refl others pass.guests pass.rows Skipped tales.Fate.Skipped (λ z. cc) (λ z. cc)
+          streams = streams_skipped view told fits values P c.hub c.stops.board d (seen view c.tree) js c.left.items r k.parts k.progress k.tale k.streams c.stops.board e (seen view tree) refl others (others_kept 0 (seen view c.tree) (seen view tree) pass.guests) pass.rows Skipped tales.Fate.Skipped (λ z. cc) (λ z. cc)
               k.tale.outer k.tale.set k.tale.seen k.tale.ceased k.tale.memory (map waiting_of ws) (suc k.progress.next) k.progress.leased k.progress.tables k.progress.root;
           telling = subst (λ fs. KeepsTale p c.outer c.report c.stops (length js) s0 sink fs (fated k.tale tales.Fate.Skipped)) (sym (map_snoc fate_of k.parts Skipped)) (tale_skips p c.outer c.report c.stops (length js) s0 sink (map fate_of k.parts) k.tale k.telling (cause_so may));
           room = record { waiting = k.room.waiting; jobs_room = k.room.jobs_room; queue = k.room.queue; few = k.room.few; left = let f = k.room.left in omega (arith, f, more) };
@@ -307,17 +268,12 @@ module _ {S V F D T : Type 0} (view : S → View V) (told : V → DeviceTold) (f
           progress = skipping k.progress (map waiting_of ws);
           tale = learned (unmade k.tale) vs cs;
           mid = k.mid;
-          o = k.o;
-          tree = passed told p waits (seen view c.tree) c.outer c.leased l ws k.parts k.progress k.tree (seen view z.tree) x again pass few some;
+          tree = passed told p waits (seen view c.tree) c.outer c.outer_stream l ws k.parts k.progress k.tree (seen view z.tree) x again pass few some;
           next = omega (arith, more, n);
-          tables = tables_kept told p d0 k.mid k.o k.progress (skipping k.progress (map waiting_of ws)) (seen view c.tree) (seen view z.tree) pass.rows refl k.tables;
-          read = k.read;
-          unread = λ not. absurd (not all_parts_read);
-          ended = k.ended;
-          nobody = k.nobody;
+          stands = stands_on told p d0 k.mid t c.outer_stream c.outer k.tale.memory (seen view c.tree) k.progress k.stands all_parts_read (seen view z.tree) (skipping k.progress (map waiting_of ws)) true pass.rows refl;
           dealt = dealt_snoc told p t 0 k.mid depot now k.parts x k.dealt (subst (λ i. Deals told p t i depot now x) here' (s, is, makes));
           streams = subst (λ xs. KeepsStreams view told fits values P c.hub z.stops.board e (seen view z.tree) js xs r (k.parts ++ x ∷ []) (skipping k.progress (map waiting_of ws)) (learned (unmade k.tale) vs cs)) (sym pushed)
-              (streams_missed view told fits values P c.hub c.stops.board d (seen view c.tree) js c.left.items r k.parts k.progress k.tale k.streams z.stops.board e (seen view z.tree) l'.board others pass.guests pass.rows x tales.Fate.Unmade (λ q. cc) refl ds y refl shelf unopened count k.telling.report_is.ours
+              (streams_missed view told fits values P c.hub c.stops.board d (seen view c.tree) js c.left.items r k.parts k.progress k.tale k.streams z.stops.board e (seen view z.tree) l'.board others (others_kept 0 (seen view c.tree) (seen view z.tree) pass.guests) pass.rows x tales.Fate.Unmade (λ q. cc) refl ds y refl shelf unopened count k.telling.report_is.ours
               k.tale.outer (k.tale.set ++ vs) (k.tale.seen ++ cs) true true (map waiting_of ws) (suc k.progress.next) k.progress.leased k.progress.tables k.progress.root);
           telling = subst (λ fs. KeepsTale p c.outer z.report z.stops (length js) s0 sink fs (learned (unmade k.tale) vs cs)) (sym (map_snoc fate_of k.parts x)) (tale_misses p c.outer c.report c.stops (length js) s0 sink (map fate_of k.parts) k.tale k.telling c.next z.stops z.report vs cs (sym counted) mark l' seated misses);
           room = record {

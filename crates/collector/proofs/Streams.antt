@@ -20,7 +20,9 @@ use Rattle.join_tale.specs.Tales.{Came, Fate, HasCome, IsOpen, Tale}
 use Rattle.join_tale.proofs.Places.{at_below, at_left, at_snoc}
 use Rattle.join_tree.specs.Guests.{AreOut}
 use Rattle.join_tree.specs.Progress.{Progress}
-use Rattle.join_tree.specs.Steps.{KeepsGuests, KeepsRows}
+use Rattle.join_tree.specs.Steps.{KeepsRows}
+use Rattle.outer_stream.specs.Pulls.{KeepsOthers}
+use Rattle.outer_stream.proofs.Steps.{outs_others}
 use Rattle.join_tree.proofs.Outs.{outs_stay}
 use Rattle.pull_turns.specs.Piping.{StateMeaning}
 use Rattle.res_ledger.specs.declared.event.StreamNo.TheVariants.{Outer}
@@ -135,7 +137,7 @@ module _ {S V F D T : Type 0} (view : S → View V) (told : V → DeviceTold) (f
         no_origins (w ∷ ws) e = absurd (omega (arith, e))
 
     -- a call in the outer stream's name leaves them
-    module _ (again : BoardSeen) (e : D) (c : Seen V) (same : again ≡ board) (others : OthersFit view fits Outer d e) (guests : KeepsGuests b c) (rows : KeepsRows b.seat c.seat) where
+    module _ (again : BoardSeen) (e : D) (c : Seen V) (same : again ≡ board) (others : OthersFit view fits Outer d e) {u : ℕ} (guests : KeepsOthers u b c) (rows : KeepsRows b.seat c.seat) where
       outer_stays : (w : Origin V F) → IsAmong w ks.origins → (j : Job S V F V D T) → IsJob view values told P w j → FitsJob view told fits j d → FitsJob view told fits j e
       outer_stays w m j job f = (others_leave view values told P fits).outer w j d e job f others
 
@@ -144,7 +146,7 @@ module _ {S V F D T : Type 0} (view : S → View V) (told : V → DeviceTold) (f
       streams_stay outer set seen ceased memory waits next leased tables root = record {
         origins = ks.origins;
         jobs_are = jobs_kept hub board again d e parts parts same (λ k x i. i) js ks.origins outer_stays ks.jobs_are;
-        out = outs_stay b c q.splits (map guest_of ks.origins) guests ks.out;
+        out = outs_others u b c q.splits (map guest_of ks.origins) guests ks.out;
         opens = ks.opens;
         begun = ks.begun;
         gone = ks.gone;
@@ -175,7 +177,7 @@ module _ {S V F D T : Type 0} (view : S → View V) (told : V → DeviceTold) (f
         streams_skipped made outer set seen ceased memory waits next leased tables root = record {
           origins = ks.origins;
           jobs_are = jobs_kept hub board again d e parts (parts ++ x ∷ []) same grow js ks.origins outer_stays ks.jobs_are;
-          out = outs_stay b c q.splits (map guest_of ks.origins) guests ks.out;
+          out = outs_others u b c q.splits (map guest_of ks.origins) guests ks.out;
           opens = opens_so;
           begun = λ k. (λ i. (ks.begun k).0 (begun_less k i), λ m. at_left t.fates (f ∷ []) k tales.Fate.Begun ((ks.begun k).1 m));
           gone = ks.gone;
@@ -199,7 +201,7 @@ module _ {S V F D T : Type 0} (view : S → View V) (told : V → DeviceTold) (f
         streams_missed is ds y x_is shelf unopened count ours outer set seen ceased memory waits next leased tables root = record {
           origins = ks.origins;
           jobs_are = jobs_kept hub board again d e parts (parts ++ x ∷ []) same grow js ks.origins outer_stays ks.jobs_are;
-          out = outs_stay b c q.splits (map guest_of ks.origins) guests ks.out;
+          out = outs_others u b c q.splits (map guest_of ks.origins) guests ks.out;
           opens = opens_so;
           begun = λ k. (λ i. (ks.begun k).0 (begun_less k i), λ m. at_left t.fates (f ∷ []) k tales.Fate.Begun ((ks.begun k).1 m));
           gone = ks.gone ++ Missed (length parts) ds ∷ [];

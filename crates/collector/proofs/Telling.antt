@@ -26,7 +26,7 @@ use Rattle.join_tale.proofs.Growing.{marked_caused, marked_known}
 use Rattle.join_tale.proofs.Steps as steps
 use Rattle.pipeline_desc.specs.Meant.{PlanMeant}
 use Rattle.run_rules.specs.Work.{Work}
-use Rattle.dealt_streams.specs.Tables.{bare_work}
+use Rattle.dealt_streams.specs.Works.{bare_work}
 use Rattle.collector.specs.Collecting.{KeepsTale, WritesTale}
 
 -- nothing was learned

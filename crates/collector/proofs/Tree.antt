@@ -12,7 +12,9 @@ use Rattle.chunk_core.proofs.Filters.{filter_among}
 use Rattle.device_port.specs.Device.{DeviceTold}
 use Rattle.join_tree.specs.Guests.{IsReady}
 use Rattle.join_tree.specs.Mains.{IsMain}
-use Rattle.join_tree.specs.Progress.{Follow, Progress, closing_root, leasing_next, skipping, splitting}
+use Rattle.outer_stream.specs.declared.outer.Outer.{Outer}
+use Rattle.outer_stream.specs.Pulls.{KeepsOthers, outer_left, outer_rows}
+use Rattle.join_tree.specs.Progress.{reading, Follow, Progress, closing_root, leasing_next, skipping, splitting}
 use Rattle.join_tree.specs.Steps.{KeepsGuests, TakesEvents}
 use Rattle.outer_tables.specs.Rows.{acquires}
 use Rattle.pipeline_desc.specs.Meant.{PlanMeant}
@@ -20,6 +22,7 @@ use Rattle.pipeline_desc.specs.Nodes.{stream_events}
 use Rattle.pipeline_desc.specs.Places.{first_row, rows_of}
 use Rattle.pipeline_desc.specs.declared.stream.StreamSpec.{StreamSpec}
 use Rattle.pull_stepper.specs.Held.{FinishesDevice}
+use Rattle.res_ledger.specs.declared.event.What.{What}
 use Rattle.res_ledger.specs.declared.event.What.TheVariants.{Acquire}
 use Rattle.row_seat.specs.Views.{IsWithin, run, split_main, within}
 use Rattle.scope_tree.specs.Calls.{Seen}
@@ -65,6 +68,19 @@ module _ (p : PlanMeant) where
       let f = subst (λ n. first_row p (k + 1) ≤ first_row p n) e d in
       absurd (omega (arith, f, low, less))
 
+  -- the rows of the tables are the first ones
+  pub table_room : (k : ℕ) → k ≤ length p.streams → length p.tables ≤ first_row p k
+  table_room k l =
+      let b = rows_behind k 0 (omega (arith, l)) in
+      let z : 0 + k ≡ k = omega arith in
+      let c = subst (λ i. first_row p 0 ≤ first_row p i) z b in
+      omega (arith, c)
+
+-- an empty list has nothing
+empty_so : {A : Type 0} (xs : List A) → length xs ≡ 0 → xs ≡ []
+empty_so [] e = refl
+empty_so (x ∷ xs) e = absurd (omega (arith, e))
+
 -- a row that isn't within is told so
 pub not_within : (from to r : ℕ) → (IsWithin from to r → ⊥) → not (within from to r) ≡ true
 not_within from to r n = tests (leb from r) (ltb r to) refl refl
@@ -76,7 +92,7 @@ not_within from to r n = tests (leb from r) (ltb r to) refl refl
 
 module _ {V F : Type 0} (told : V → DeviceTold) (p : PlanMeant) where
   -- What is known of a tree of which a lease waits.
-  module _ (waits : ℕ) (b : Seen V) (outer : Option How) (leased : ℕ) (l : Lease) (ws : List Lease) (parts : List (Part V F)) (progress : Progress V) (kt : KeepsTree p told waits b outer leased (l ∷ ws) parts progress) where
+  module _ (waits : ℕ) (b : Seen V) (outer : Option How) (given : Outer) (l : Lease) (ws : List Lease) (parts : List (Part V F)) (progress : Progress V) (kt : KeepsTree p told waits b outer given (l ∷ ws) parts progress) where
     follows : Follow progress.next (waiting_of l ∷ map waiting_of ws) progress.leased
     follows = subst (λ xs. Follow progress.next xs progress.leased) kt.waits_are kt.main.order
 
@@ -102,7 +118,7 @@ module _ {V F : Type 0} (told : V → DeviceTold) (p : PlanMeant) where
         omega (arith, e, s, few, count)
 
     -- it was cancelled
-    pub passed : (c : Seen V) (x : Part V F) (again : ℕ) → PassesOver (FinishesDevice told) l.stream l.rows.items b c → length ws ≤ again → (outer ≡ None → 0 < again → 1 ≤ length ws) → KeepsTree p told again c outer leased ws (parts ++ x ∷ []) (skipping progress (map waiting_of ws))
+    pub passed : (c : Seen V) (x : Part V F) (again : ℕ) → PassesOver (FinishesDevice told) l.stream l.rows.items b c → length ws ≤ again → (outer ≡ None → 0 < again → 1 ≤ length ws) → KeepsTree p told again c outer given ws (parts ++ x ∷ []) (skipping progress (map waiting_of ws))
     passed c x again pass few some =
         let more = snoc_length parts x in
         record {
@@ -139,7 +155,7 @@ module _ {V F : Type 0} (told : V → DeviceTold) (p : PlanMeant) where
     -- it was split off
     pub split_so : (c : Seen V) (x : Part V F) (s : StreamSpec) → slice_get p.streams (length parts) ≡ Some s → IsMain (FinishesDevice told) p.max_open (length p.streams) c (splitting progress b.seat l.stream (map waiting_of ws))
         → c ≡ record b { seat = split_main b.seat l.stream (rows_of p (length parts)).from (rows_of p (length parts)).to (stream_events (length p.tables) s) } → owed c.seat ≡ owed b.seat
-        → (again : ℕ) → length ws ≤ again → (outer ≡ None → 0 < again → 1 ≤ length ws) → KeepsTree p told again c outer leased ws (parts ++ x ∷ []) (splitting progress b.seat l.stream (map waiting_of ws))
+        → (again : ℕ) → length ws ≤ again → (outer ≡ None → 0 < again → 1 ≤ length ws) → KeepsTree p told again c outer given ws (parts ++ x ∷ []) (splitting progress b.seat l.stream (map waiting_of ws))
     split_so c x s is main made owes again few some =
         let more = snoc_length parts x in
         record {
@@ -175,16 +191,16 @@ module _ {V F : Type 0} (told : V → DeviceTold) (p : PlanMeant) where
         ahead_so None e a d = let w = ap (λ (xs : List (ℕ × List ℕ)). length xs) kt.waits_are in let n = map_length waiting_of ws in let m = a refl in inl (omega (arith, w, n, m))
         ahead_so (Some h) e a d = inr (e ∙ ap (λ x. Some (exit_of x)) (d h refl))
 
-  module _ (waits : ℕ) (b : Seen V) (outer : Option How) (leased : ℕ) (ws : List Lease) (parts : List (Part V F)) (progress : Progress V) (kt : KeepsTree p told waits b outer leased ws parts progress) where
+  module _ (waits : ℕ) (b : Seen V) (outer : Option How) (given : Outer) (ws : List Lease) (parts : List (Part V F)) (progress : Progress V) (kt : KeepsTree p told waits b outer given ws parts progress) where
     -- so many may wait
-    pub tree_widened : (again : ℕ) → length ws ≤ again → (outer ≡ None → 0 < again → 1 ≤ length ws) → KeepsTree p told again b outer leased ws parts progress
+    pub tree_widened : (again : ℕ) → length ws ≤ again → (outer ≡ None → 0 < again → 1 ≤ length ws) → KeepsTree p told again b outer given ws parts progress
     tree_widened again few some = record { main = kt.main; leased_is = kt.leased_is; next_is = kt.next_is; root_is = kt.root_is; waits_are = kt.waits_are; rows = kt.rows; few = few; some = some; empty = kt.empty; splits = kt.splits; spare = kt.spare }
 
     -- the root is open still
     pub root_open : outer ≡ None → progress.root ≡ None
     root_open e = kt.root_is ∙ ap (option_map exit_of) e
 
-    waiting_count : length parts + length ws ≡ leased
+    waiting_count : length parts + length ws ≡ given.leased
     waiting_count =
         let f = follow_count progress.next progress.waits progress.leased kt.main.order in
         let n = kt.next_is in
@@ -192,19 +208,30 @@ module _ {V F : Type 0} (told : V → DeviceTold) (p : PlanMeant) where
         let w = ap (λ (xs : List (ℕ × List ℕ)). length xs) kt.waits_are ∙ map_length waiting_of ws in
         omega (arith, f, n, m, w)
 
-    pub leased_few : leased ≤ length p.streams
+    pub leased_few : given.leased ≤ length p.streams
     leased_few = let m = kt.leased_is in let f = kt.main.few in omega (arith, m, f)
 
+    -- where no stream was given none waits and none was dealt with
+    pub idle : given.leased ≡ 0 → (parts ≡ []) × (ws ≡ [])
+    idle none = let c = waiting_count in (empty_so parts (omega (arith, none, c)), empty_so ws (omega (arith, none, c)))
+
+    -- where one waits or was dealt with one was given
+    pub some_given : 1 ≤ length ws → ¬ (given.leased ≡ 0)
+    some_given l none = let c = waiting_count in omega (arith, none, c, l)
+
     -- the outer stream may be pulled
-    pub pull_free : leased < length p.streams → owed b.seat + 2 ≤ b.seat.spare
-    pull_free l =
+    pub pull_free : owed b.seat + outer_left p given + (length p.streams - given.leased) ≤ b.seat.spare
+    pull_free = let s = kt.spare in omega (arith, s)
+
+    pub lease_free : given.leased < length p.streams → owed b.seat + outer_left p given + (length p.streams - given.leased) + 1 ≤ b.seat.spare
+    lease_free l =
         let c = waiting_count in
         let e = some_events p (length parts) (omega (arith, c, l)) in
         let s = kt.spare in
         omega (arith, e, s, l)
 
     -- the outer stream ended
-    pub closed : (h : How) (c : Seen V) → outer ≡ None → ClosesOuter (FinishesDevice told) h b c → KeepsTree p told waits c (Some h) leased ws parts (closing_root progress (exit_of h))
+    pub closed : (h : How) (c : Seen V) → outer ≡ None → ClosesOuter (FinishesDevice told) h b c → KeepsTree p told waits c (Some h) given ws parts (closing_root progress (exit_of h))
     closed h c none close = record {
       main = close.main p.max_open (length p.streams) progress kt.main (root_open none);
       leased_is = kt.leased_is;
@@ -219,28 +246,45 @@ module _ {V F : Type 0} (told : V → DeviceTold) (p : PlanMeant) where
       spare = let s = kt.spare in let t = close.events in omega (arith, s, t);
     }
 
-    -- the next stream was leased for
-    pub pulled : (c : Seen V) (l : Lease) → progress.leased < length p.streams → l.stream ≡ progress.leased → IsMain (FinishesDevice told) p.max_open (length p.streams) c (leasing_next progress l.rows.items) → KeepsGuests b c → TakesEvents 1 b c → AreTableRows (length p.tables) l.rows.items
-        → KeepsTree p told (1 + length ws) c outer (leased + 1) (ws ++ l ∷ []) parts (leasing_next progress l.rows.items)
-    pulled c l less stream main guests takes table =
+    -- the outer stream read on, or tried to
+    pub read_on : (c : Seen V) (y : Outer) (E : List What) → IsMain (FinishesDevice told) p.max_open (length p.streams) c (reading progress E) → KeepsOthers (outer_rows p) b c → b.seat.spare + owed c.seat + outer_left p y ≤ c.seat.spare + owed b.seat + outer_left p given + (y.leased - given.leased) → y.leased ≡ given.leased
+        → KeepsTree p told waits c outer y ws parts (reading progress E)
+    read_on c y E main others takes same = record {
+      main = main;
+      leased_is = kt.leased_is ∙ sym same;
+      next_is = kt.next_is;
+      root_is = kt.root_is;
+      waits_are = kt.waits_are;
+      rows = kt.rows;
+      few = kt.few;
+      some = kt.some;
+      empty = λ k r low high w. others.empty r (let t = table_room p k (omega (arith, high)) in let f = w.0 in omega (arith, t, f)) (kt.empty k r low high w);
+      splits = let s = kt.splits in let e = others.splits in omega (arith, s, e);
+      spare = let s = kt.spare in omega (arith, s, takes, same);
+    }
+
+    -- and the next stream was leased for
+    pub pulled : (c : Seen V) (y : Outer) (E : List What) (l : Lease) → progress.leased < length p.streams → l.stream ≡ progress.leased → IsMain (FinishesDevice told) p.max_open (length p.streams) c (leasing_next (reading progress E) l.rows.items) → KeepsOthers (outer_rows p) b c
+        → b.seat.spare + owed c.seat + outer_left p y ≤ c.seat.spare + owed b.seat + outer_left p given + (y.leased - given.leased) → y.leased ≡ suc given.leased → AreTableRows (length p.tables) l.rows.items → KeepsTree p told (1 + length ws) c outer y (ws ++ l ∷ []) parts (leasing_next (reading progress E) l.rows.items)
+    pulled c y E l less stream main others takes one table =
         let more = snoc_length ws l in
         let is = kt.leased_is in
         record {
           main = main;
-          leased_is = omega (arith, is);
+          leased_is = omega (arith, is, one);
           next_is = kt.next_is;
           root_is = kt.root_is;
           waits_are = ap (λ xs. xs ++ (progress.leased, l.rows.items) ∷ []) kt.waits_are ∙ (ap (λ k. map waiting_of ws ++ (k, l.rows.items) ∷ []) (sym stream) ∙ sym (map_snoc waiting_of ws l));
           rows = each_snoc (λ (y : Lease). AreTableRows (length p.tables) y.rows.items) ws l kt.rows table;
           few = omega (arith, more);
           some = λ e z. omega (arith, more);
-          empty = λ k r low high w. guests.empty r (kt.empty k r low high w);
-          splits = let s = kt.splits in let e = guests.splits in omega (arith, s, e);
-          spare = let s = kt.spare in omega (arith, s, takes, is, less);
+          empty = λ k r low high w. others.empty r (let t = table_room p k (omega (arith, high)) in let f = w.0 in omega (arith, t, f)) (kt.empty k r low high w);
+          splits = let s = kt.splits in let e = others.splits in omega (arith, s, e);
+          spare = let s = kt.spare in omega (arith, s, takes, is, less, one);
         }
 
 -- the rows of a lease are rows of the tables, and no more
-pub table_rows : {V : Type 0} (progress : Progress V) (count tables : ℕ) (rows : List ℕ) → progress.tables ≡ acquires 0 count → count ≤ tables → IsDistinct nat_eq rows → ((r : ℕ) → IsAmong r rows → (s : ℕ) × IsAmong (Acquire r s) progress.tables) → AreTableRows tables rows
+pub table_rows : {V : Type 0} (progress : Progress V) (count tables : ℕ) (rows : List ℕ) → progress.tables ≡ acquires 0 0 count → count ≤ tables → IsDistinct nat_eq rows → ((r : ℕ) → IsAmong r rows → (s : ℕ) × IsAmong (Acquire r s) progress.tables) → AreTableRows tables rows
 table_rows progress count tables rows is few apart all = record {
   below = below;
   few = let l = distinct_within rows (run 0 tables) apart (λ r m. run_there 0 tables r (omega arith) (let b = below r m in omega (arith, b))) in let n = run_length 0 tables in omega (arith, l, n);

@@ -48,7 +48,10 @@ use Rattle.collector.specs.declared.collector.Collector.{Collector}
 use Rattle.dealt_streams.specs.declared.leftover.Leftover.{Leftover}
 use Rattle.dealt_streams.specs.Parts.{AreDealt, AreTableRows, Part, fate_of}
 use Rattle.dealt_streams.specs.Parts.Part.{Begun}
-use Rattle.dealt_streams.specs.Tables.{bare_work, EndsRead, HasTables, HaveValuesOf, IsStoppedBy}
+use Rattle.dealt_streams.specs.Works.{bare_work}
+use Rattle.outer_stream.specs.declared.outer.Outer.{Outer}
+use Rattle.outer_stream.specs.Pulls.{outer_left}
+use Rattle.outer_stream.specs.Tables.{StandsOuter}
 use Rattle.dealt_streams.specs.Kept.{told_message, Gone, number_of, AreKept}
 use Rattle.dealt_streams.specs.Kept.Gone.{Came}
 
@@ -67,10 +70,10 @@ module _ (p : PlanMeant) where
 
   module _ {V F : Type 0} (told : V → DeviceTold) where
     -- The main tree is as far as the streams that were dealt with; the leases of so many streams wait at most, on rows of the tables. The streams behind have their rows
-    -- and room for their events. Unless the outer stream has ended one waits, where one may.
-    pub record KeepsTree (waits : ℕ) (b : Seen V) (outer : Option How) (leased : ℕ) (ws : List Lease) (parts : List (Part V F)) (progress : Progress V) : Type 0 where
+    -- and room for their events, and the outer stream for its own. Unless the outer stream has ended one waits, where one may.
+    pub record KeepsTree (waits : ℕ) (b : Seen V) (outer : Option How) (given : Outer) (ws : List Lease) (parts : List (Part V F)) (progress : Progress V) : Type 0 where
       pub main : IsMain (FinishesDevice told) p.max_open (length p.streams) b progress
-      pub leased_is : progress.leased ≡ leased
+      pub leased_is : progress.leased ≡ given.leased
       pub next_is : progress.next ≡ length parts
       pub root_is : progress.root ≡ option_map exit_of outer
       pub waits_are : progress.waits ≡ map waiting_of ws
@@ -79,7 +82,7 @@ module _ (p : PlanMeant) where
       pub some : outer ≡ None → 0 < waits → 1 ≤ length ws
       pub empty : (k r : ℕ) → length parts ≤ k → k < length p.streams → IsWithin (rows_of p k).from (rows_of p k).to r → IsAmong r b.seat.empty
       pub splits : length p.streams ≤ b.seat.splits + length parts
-      pub spare : owed b.seat + (length p.streams - leased) + events_from (length parts) ≤ b.seat.spare
+      pub spare : owed b.seat + outer_left p given + (length p.streams - given.leased) + events_from (length parts) ≤ b.seat.spare
 
 module _ {S V F D T : Type 0} (view : S → View V) (told : V → DeviceTold) (fits : S → D → Type 0) (values : T → Values) (P : Values → StateMeaning F) where
   -- the job of an open stream, which is of this origin, fits the desk, and is at the hub and at the board
@@ -143,22 +146,17 @@ module _ {S V F D T : Type 0} (view : S → View V) (told : V → DeviceTold) (f
     pub few : jobs ≤ p.max_open
     pub left : length c.left.items + jobs + (length p.streams - length parts) ≤ vec_capacity c.left
 
-  -- A collector of the plan stands so, since the depot stood as d0 and the sink as s0. Its tables were tried, and where all of them were read, which have the values t then, streams were begun and some have ended; where they
-  -- weren't, the outer stream has ended so and gives none. Where no frame is wanted none was tried, and the outer stream is halted. The leases ws wait, at most so many; the jobs js are open; and what was received is told by r. While calls are under way these may differ from what the collector has itself.
+  -- A collector of the plan stands so, since the depot stood as d0 and the sink as s0: its outer stream, by whose pulls the depot came to mid and whose dictionaries have the values t; the streams that were begun, of which some have ended.
+  -- The leases ws wait, at most so many; the jobs js are open; and what was received is told by r. While calls are under way these may differ from what the collector has itself.
   pub record IsCollectingWith (d0 : DepotTold) (s0 : SinkTold) (t : Values) (waits : ℕ) (ws : List Lease) (js : List (Job S V F V D T)) (r : ReceiverSeen) (depot : DepotTold) (sink : SinkTold) (d : D) (c : Collector S V F D T) : Type 0 where
     pub fits_desk : Fits view fits c.tree d
     pub parts : List (Part V F)
     pub progress : Progress V
     pub tale : Tale
     pub mid : DepotTold
-    pub o : Option NotRead
-    pub tree : KeepsTree p told waits (seen view c.tree) c.outer c.leased ws parts progress
+    pub tree : KeepsTree p told waits (seen view c.tree) c.outer c.outer_stream ws parts progress
     pub next : c.next ≡ length parts
-    pub tables : HasTables told p d0 mid o (seen view c.tree) progress
-    pub read : o ≡ None → HaveValuesOf told p tables.contents t
-    pub unread : o ≢ None → (ws ≡ []) × (parts ≡ []) × ((h : How) × (c.outer ≡ Some h) × IsStoppedBy told p o (length tables.devices + length tables.back) tale.memory h)
-    pub ended : o ≡ None → IfSome c.outer (EndsRead p c.leased)
-    pub nobody : p.take ≡ Some 0 → (length tables.devices + length tables.back ≡ 0) × (c.outer ≡ Some how.Halted)
+    pub stands : StandsOuter told p d0 mid t c.outer_stream c.outer tale.memory (seen view c.tree) progress
     pub dealt : AreDealt told p t 0 mid parts depot
     pub streams : KeepsStreams view told fits values P c.hub c.stops.board d (seen view c.tree) js c.left.items r parts progress tale
     pub telling : KeepsTale p c.outer c.report c.stops (length js) s0 sink (map fate_of parts) tale

@@ -1,5 +1,5 @@
 -- How a collector begins, and what its small calls do.
-use Rattle.std.specs.Prelude.{◌≡◌, ◌≢◌, ◌⊎◌, ℕ, ◌+◌, ◌*◌, ◌≤◌, Bool, true, List, [], ◌∷◌, ◌++◌, length, Some, None, IsSome, vec_capacity}
+use Rattle.std.specs.Prelude.{◌≡◌, ◌≢◌, ◌⊎◌, ℕ, ◌+◌, ◌*◌, ◌≤◌, Bool, true, false, List, [], ◌∷◌, ◌++◌, length, Option, Some, None, IsSome, vec_capacity}
 use Rattle.std.specs.VecDeque.{deque_capacity}
 use Rattle.chunk_core.specs.Lists.{IsAmong}
 use Rattle.chunk_core.specs.Outcomes.{exit_of}
@@ -11,6 +11,7 @@ use Rattle.device_port.specs.Device.{DeviceTold}
 use Rattle.interrupt_ctx.specs.Ends.{first_seat}
 use Rattle.interrupt_ctx.specs.Views.{Knows, interruption, split_off}
 use Rattle.interrupt_ctx.specs.declared.why.Why.{Why}
+use Rattle.interrupt_ctx.specs.declared.why.Why.TheVariants as why
 use Rattle.join_report.specs.Reports.{IsReport}
 use Rattle.join_report.specs.Stopping.{IsSeated, IsUnknown, view_of, with_seat_out}
 use Rattle.join_tale.specs.Steps.{first_tale}
@@ -79,7 +80,7 @@ pub record IsFresh {S V F D T : Type 0} (view : S → View V) (told : V → Devi
   pub rows : length p.tables ≤ (seen view c.tree).rows
   pub used : used (seen view c.tree) ≡ 0
   pub outer : c.outer ≡ None
-  pub leased : c.leased ≡ 0
+  pub given : c.outer_stream ≡ record { leased = 0; begun = false; tables = [] }
   pub next : c.next ≡ 0
   pub room : IsRoomFor p (room_of c)
 
@@ -98,13 +99,20 @@ module _ {P : Type 0} (ends : P → Exit → Bool → P → Type 0) where
     pub rows : KeepsRows a.seat b.seat
     pub events : TakesEvents 0 a b
 
+-- why the run is interrupted where the outer stream is over so: it failed, or memory was wanting
+abbrev pub cause_of : How → Option Why
+cause_of how.Done = None
+cause_of how.Halted = None
+cause_of (how.Fault f) = Some why.Fault
+cause_of how.Memory = Some why.Memory
+
 -- a code was found for the next stream, its own, which was set by then where there is room for one job alone, or that of the whole run, or the outer stream was stopped
 abbrev pub MaySkip : {S V F D T : Type 0} → Collector S V F D T → Type 0
 MaySkip c = ((w : Why) × IsAmong (interruption 0 w) (view_of c.stops).seen) ⊎ ((w : Why) × IsAmong (interruption (1 + c.next) w) (view_of c.stops).seen × (deque_capacity c.jobs ≡ 1 → IsAmong (interruption (1 + c.next) w) (view_of c.stops).set)) ⊎ ((h : How) × (c.outer ≡ Some h) × (h ≢ how.Done))
 
 -- where the whole run is known to be interrupted, the outer stream has ended, and gave no further stream
 abbrev pub GivesNoneIfStopped : {S V F D T : Type 0} → Collector S V F D T → Collector S V F D T → Type 0
-GivesNoneIfStopped old new = (w : Why) → old.outer ≡ None → Knows (view_of old.stops) 0 w → IsSome new.outer × (new.leased ≡ old.leased)
+GivesNoneIfStopped old new = (w : Why) → old.outer ≡ None → Knows (view_of old.stops) 0 w → IsSome new.outer × (new.outer_stream.leased ≡ old.outer_stream.leased)
 
 -- a further stream waits, or the outer stream has ended
 abbrev pub IsAhead : {S V F D T : Type 0} → Collector S V F D T → Type 0

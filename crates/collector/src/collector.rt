@@ -1,12 +1,12 @@
 //! The collector's own state.
-ghost use Rattle.std.specs.Prelude.{◌≡◌, ℕ, ◌+◌, ◌-◌, ◌^◌, ◌<◌, ◌≤◌, ◌∷◌, [], List, Some, None, IfOk};
+ghost use Rattle.std.specs.Prelude.{◌≡◌, ℕ, ◌+◌, ◌-◌, ◌^◌, ◌<◌, ◌≤◌, ◌∷◌, [], List, Some, None, IfOk, false};
 ghost use Rattle.std.specs.VecDeque.{deque_capacity};
 ghost use Rattle.join_report.specs.Calls.{EndsOuter};
 ghost use Rattle.join_tree.specs.Mains.{IsMain};
 ghost use Rattle.join_tree.specs.Progress.{Progress};
 ghost use Rattle.pipeline_desc.specs.Sound.{IsSoundPlan};
 ghost use Rattle.pull_stepper.specs.Held.{FinishesDevice};
-ghost use Rattle.res_ledger.specs.declared.event.StreamNo.TheVariants.{Outer};
+ghost use Rattle.res_ledger.specs.declared.event.StreamNo.TheVariants.{Outer as outer_name};
 ghost use Rattle.row_seat.specs.Views.{OthersFit};
 ghost use Rattle.scope_tree.specs.Released.{away};
 ghost use Rattle.scope_tree.specs.Trees.{Fits, seen};
@@ -21,6 +21,7 @@ use dealt_streams::Leftover;
 use device_port::Device;
 use join_report::{Report, Stops};
 use join_tree::{cancel_waiting, close_outer};
+use outer_stream::Outer;
 use pipeline_desc::Plan;
 use pull_nodes::PipeState;
 use pull_stepper::Held;
@@ -96,8 +97,8 @@ pub struct Collector<S: RowSeat<Pay = Held<V>>, V: Device, F: PipeState> {
     pub(crate) report: Report,
     /// How the outer stream ended, once it has.
     pub(crate) outer: Option<How>,
-    /// How many streams were leased.
-    pub(crate) leased: u32,
+    /// The outer stream, which gives the streams.
+    pub(crate) outer_stream: Outer,
     /// The first stream that wasn't dealt with.
     pub(crate) next: u32,
     /// The leases of the streams that wait, of which there are at most two.
@@ -117,8 +118,8 @@ pub struct Ended<S: RowSeat, V> {
 
 impl<V: Device + Drop, S: RowSeat<Pay = Held<V>>, F: PipeState> Collector<S, V, F> {
     /// The collector of a main tree that has begun.
-    pub fn new(tree: Tree<S>, room: JoinRoom<S, V, F>) -> Collector<S, V, F>
-        ensures { result ≡ record { tree = tree; stops = room.stops; hub = room.hub; receiver = room.receiver; report = room.report; outer = None; leased = 0; next = 0; waiting = room.queues.waiting; jobs = room.queues.jobs; left = room.left } }
+    pub fn new(alloc: Global, tree: Tree<S>, room: JoinRoom<S, V, F>) -> Collector<S, V, F>
+        ensures { result ≡ record { tree = tree; stops = room.stops; hub = room.hub; receiver = room.receiver; report = room.report; outer = None; outer_stream = record { leased = 0; begun = false; tables = [] }; next = 0; waiting = room.queues.waiting; jobs = room.queues.jobs; left = room.left } }
     {
         let JoinRoom {
             stops,
@@ -136,7 +137,7 @@ impl<V: Device + Drop, S: RowSeat<Pay = Held<V>>, F: PipeState> Collector<S, V, 
             receiver,
             report,
             outer: None,
-            leased: 0,
+            outer_stream: Outer::new(alloc),
             next: 0,
             waiting,
             jobs,
@@ -163,7 +164,7 @@ impl<V: Device + Drop, S: RowSeat<Pay = Held<V>>, F: PipeState> Collector<S, V, 
             stops: _,
             hub: _,
             receiver: _,
-            leased: _,
+            outer_stream: _,
             next: _,
         } = self;
         waiting.destroy_empty();
@@ -185,7 +186,7 @@ impl<V: Device + Drop, S: RowSeat<Pay = Held<V>>, F: PipeState> Collector<S, V, 
         ensures passes { PassesOver (FinishesDevice V.told) (lessee lease) (rows_covered lease) (seen S.view self.old.tree) (seen S.view self.new.tree) }
         ensures same { self.new ≡ record self.old { tree = self.new.tree; next = self.old.next + 1 } }
         ensures fits { Fits S.view S.fits self.new.tree desk.new }
-        ensures others { OthersFit S.view S.fits Outer desk.old desk.new }
+        ensures others { OthersFit S.view S.fits outer_name desk.old desk.new }
     {
         cancel_waiting(&mut self.tree, desk, lease);
         self.next += 1;
@@ -199,7 +200,7 @@ impl<V: Device + Drop, S: RowSeat<Pay = Held<V>>, F: PipeState> Collector<S, V, 
         ensures report { EndsOuter how self.old.report self.new.report }
         ensures same { self.new ≡ record self.old { tree = self.new.tree; report = self.new.report; outer = Some how } }
         ensures fits { Fits S.view S.fits self.new.tree desk.new }
-        ensures others { OthersFit S.view S.fits Outer desk.old desk.new }
+        ensures others { OthersFit S.view S.fits outer_name desk.old desk.new }
     {
         close_outer(&mut self.tree, desk, how.exit());
         self.report.outer(how);

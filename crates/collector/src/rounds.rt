@@ -146,12 +146,8 @@ where
         ensures waiting { self.new.waiting.items ≡ [] }
         ensures jobs { self.new.jobs.items ≡ [] }
     {
-        match self.open(alloc, desk, plan, depot) {
-            Some(tables) => {
-                self.run_rounds(scope, place, alloc, desk, &tables, plan, depot, out)
-            }
-            None => {}
-        }
+        self.open::<D>(alloc, desk, plan, depot);
+        self.run_rounds(scope, place, alloc, desk, plan, depot, out)
     }
 
     /// Goes round until no stream waits and none is open.
@@ -168,7 +164,6 @@ where
         place: &'s Place<'s, R, G>,
         alloc: Global,
         desk: &mut S::Desk,
-        tables: &Dicts,
         plan: &Plan,
         depot: &mut D,
         out: &mut K,
@@ -179,14 +174,15 @@ where
         F: 's,
         S::Desk: 's,
         requires limits { IsSoundPlan plan.now }
-        requires collecting { (d0 : DepotTold) × (s0 : SinkTold) × (s0.faults < 2 ^ 64 - 1) × IsCollecting S.view V.told S.fits F.values (standing F.stands F.comes) plan.now d0 s0 (F.values tables.now) 1 (D.told depot.old) (K.told out.old) desk.old self.old }
-        ensures collecting { (d0 : DepotTold) (s0 : SinkTold) → s0.faults < 2 ^ 64 - 1 → IsCollecting S.view V.told S.fits F.values (standing F.stands F.comes) plan.now d0 s0 (F.values tables.now) 1 (D.told depot.old) (K.told out.old) desk.old self.old → IsCollecting S.view V.told S.fits F.values (standing F.stands F.comes) plan.now d0 s0 (F.values tables.now) 1 (D.told depot.new) (K.told out.new) desk.new self.new }
+        requires values { (tables : List Dictionary) → F.values tables ≡ values_of tables }
+        requires collecting { (d0 : DepotTold) × (s0 : SinkTold) × (s0.faults < 2 ^ 64 - 1) × IsCollecting S.view V.told S.fits F.values (standing F.stands F.comes) plan.now d0 s0 (values_of self.old.outer_stream.tables) 1 (D.told depot.old) (K.told out.old) desk.old self.old }
+        ensures collecting { (d0 : DepotTold) (s0 : SinkTold) → s0.faults < 2 ^ 64 - 1 → IsCollecting S.view V.told S.fits F.values (standing F.stands F.comes) plan.now d0 s0 (values_of self.old.outer_stream.tables) 1 (D.told depot.old) (K.told out.old) desk.old self.old → IsCollecting S.view V.told S.fits F.values (standing F.stands F.comes) plan.now d0 s0 (values_of self.new.outer_stream.tables) 1 (D.told depot.new) (K.told out.new) desk.new self.new }
         ensures waiting { self.new.waiting.items ≡ [] }
         ensures jobs { self.new.jobs.items ≡ [] }
     {
-        let pause = Pause::new();
+        let mut pause = Pause::new();
         'rounds: for _ in place.rt.forever() {
-            if !self.round(scope, place, alloc, desk, tables, plan, depot, out, &pause) {
+            if !self.round(scope, place, alloc, desk, plan, depot, out, &mut pause) {
                 return;
             }
         }
@@ -202,11 +198,10 @@ where
         place: &'s Place<'s, R, G>,
         alloc: Global,
         desk: &mut S::Desk,
-        tables: &Dicts,
         plan: &Plan,
         depot: &mut D,
         out: &mut K,
-        pause: &Pause,
+        pause: &mut Pause,
     ) -> bool
     where
         V: 's,
@@ -214,12 +209,13 @@ where
         F: 's,
         S::Desk: 's,
         requires limits { IsSoundPlan plan.now }
-        requires collecting { (d0 : DepotTold) × (s0 : SinkTold) × (s0.faults < 2 ^ 64 - 1) × IsCollecting S.view V.told S.fits F.values (standing F.stands F.comes) plan.now d0 s0 (F.values tables.now) 1 (D.told depot.old) (K.told out.old) desk.old self.old }
-        ensures collecting { (d0 : DepotTold) (s0 : SinkTold) → s0.faults < 2 ^ 64 - 1 → IsCollecting S.view V.told S.fits F.values (standing F.stands F.comes) plan.now d0 s0 (F.values tables.now) 1 (D.told depot.old) (K.told out.old) desk.old self.old → IsCollecting S.view V.told S.fits F.values (standing F.stands F.comes) plan.now d0 s0 (F.values tables.now) 1 (D.told depot.new) (K.told out.new) desk.new self.new }
+        requires values { (tables : List Dictionary) → F.values tables ≡ values_of tables }
+        requires collecting { (d0 : DepotTold) × (s0 : SinkTold) × (s0.faults < 2 ^ 64 - 1) × IsCollecting S.view V.told S.fits F.values (standing F.stands F.comes) plan.now d0 s0 (values_of self.old.outer_stream.tables) 1 (D.told depot.old) (K.told out.old) desk.old self.old }
+        ensures collecting { (d0 : DepotTold) (s0 : SinkTold) → s0.faults < 2 ^ 64 - 1 → IsCollecting S.view V.told S.fits F.values (standing F.stands F.comes) plan.now d0 s0 (values_of self.old.outer_stream.tables) 1 (D.told depot.old) (K.told out.old) desk.old self.old → IsCollecting S.view V.told S.fits F.values (standing F.stands F.comes) plan.now d0 s0 (values_of self.new.outer_stream.tables) 1 (D.told depot.new) (K.told out.new) desk.new self.new }
         ensures over { result ≡ false → (self.new.waiting.items ≡ []) × (self.new.jobs.items ≡ []) }
     {
         if self.may_begin(plan) {
-            self.start(scope, place, alloc, desk, tables, plan, depot);
+            self.start(scope, place, alloc, desk, plan, depot);
             return true;
         }
         if self.jobs.len() == 0 {

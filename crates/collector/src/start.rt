@@ -1,7 +1,8 @@
 //! How streams begin.
-ghost use Rattle.std.specs.Prelude.{◌≡◌, ◌≢◌, ℕ, ◌+◌, ◌-◌, ◌^◌, ◌<◌, ◌≤◌, ◌∷◌, [], length, slice_get, IfOk, OnErr, None, Some};
+ghost use Rattle.std.specs.Prelude.{◌≡◌, ◌≢◌, ℕ, ◌+◌, ◌-◌, ◌^◌, ◌<◌, ◌≤◌, ◌∷◌, [], List, length, slice_get, IfOk, OnErr, None, Some};
 ghost use Rattle.chunk_core.specs.Lists.{IsAmong};
 ghost use Rattle.chunk_core.specs.Tables.{Values};
+ghost use Rattle.csv_pipes.specs.Dictionaries.{Dictionary, values_of};
 ghost use Rattle.device_port.specs.Depot.{DepotTold};
 ghost use Rattle.device_port.specs.Sink.{SinkTold};
 ghost use Rattle.join_report.specs.Stopping.{IsSeated};
@@ -152,7 +153,6 @@ where
         place: &'s Place<'s, R, G>,
         alloc: Global,
         desk: &mut S::Desk,
-        tables: &Dicts,
         plan: &Plan,
         depot: &mut D,
     )
@@ -162,14 +162,15 @@ where
         F: 's,
         S::Desk: 's,
         requires limits { IsSoundPlan plan.now }
+        requires values { (tables : List Dictionary) → F.values tables ≡ values_of tables }
         requires waits { 1 ≤ length self.old.waiting.items }
         requires few { length self.old.jobs.items < plan.now.max_open }
-        requires collecting { (d0 : DepotTold) × (s0 : SinkTold) × (sink : SinkTold) × IsCollecting S.view V.told S.fits F.values (standing F.stands F.comes) plan.now d0 s0 (F.values tables.now) 1 (D.told depot.old) sink desk.old self.old }
-        ensures collecting { (d0 : DepotTold) (s0 : SinkTold) (sink : SinkTold) → IsCollecting S.view V.told S.fits F.values (standing F.stands F.comes) plan.now d0 s0 (F.values tables.now) 1 (D.told depot.old) sink desk.old self.old → IsCollecting S.view V.told S.fits F.values (standing F.stands F.comes) plan.now d0 s0 (F.values tables.now) 1 (D.told depot.new) sink desk.new self.new }
+        requires collecting { (d0 : DepotTold) × (s0 : SinkTold) × (sink : SinkTold) × IsCollecting S.view V.told S.fits F.values (standing F.stands F.comes) plan.now d0 s0 (values_of self.old.outer_stream.tables) 1 (D.told depot.old) sink desk.old self.old }
+        ensures collecting { (d0 : DepotTold) (s0 : SinkTold) (sink : SinkTold) → IsCollecting S.view V.told S.fits F.values (standing F.stands F.comes) plan.now d0 s0 (values_of self.old.outer_stream.tables) 1 (D.told depot.old) sink desk.old self.old → IsCollecting S.view V.told S.fits F.values (standing F.stands F.comes) plan.now d0 s0 (values_of self.new.outer_stream.tables) 1 (D.told depot.new) sink desk.new self.new }
     {
-        self.pull(alloc, desk, plan);
+        self.pull::<D>(alloc, desk, plan, depot);
         if let Some(lease) = self.waiting.pop_front() {
-            self.start_leased(scope, place, alloc, desk, lease, tables, plan, depot);
+            self.start_leased(scope, place, alloc, desk, lease, plan, depot);
         }
     }
 
@@ -181,7 +182,6 @@ where
         alloc: Global,
         desk: &mut S::Desk,
         lease: Lease,
-        tables: &Dicts,
         plan: &Plan,
         depot: &mut D,
     )
@@ -191,10 +191,11 @@ where
         F: 's,
         S::Desk: 's,
         requires limits { IsSoundPlan plan.now }
+        requires values { (tables : List Dictionary) → F.values tables ≡ values_of tables }
         requires ahead { IsAhead self.old }
         requires few { length self.old.jobs.items < plan.now.max_open }
-        requires collecting { (d0 : DepotTold) × (s0 : SinkTold) × (sink : SinkTold) × IsCollectingWith S.view V.told S.fits F.values (standing F.stands F.comes) plan.now d0 s0 (F.values tables.now) 2 (lease ∷ self.old.waiting.items) self.old.jobs.items self.old.receiver (D.told depot.old) sink desk.old self.old }
-        ensures collecting { (d0 : DepotTold) (s0 : SinkTold) (sink : SinkTold) → IsCollectingWith S.view V.told S.fits F.values (standing F.stands F.comes) plan.now d0 s0 (F.values tables.now) 2 (lease ∷ self.old.waiting.items) self.old.jobs.items self.old.receiver (D.told depot.old) sink desk.old self.old → IsCollecting S.view V.told S.fits F.values (standing F.stands F.comes) plan.now d0 s0 (F.values tables.now) 1 (D.told depot.new) sink desk.new self.new }
+        requires collecting { (d0 : DepotTold) × (s0 : SinkTold) × (t : Values) × (sink : SinkTold) × IsCollectingWith S.view V.told S.fits F.values (standing F.stands F.comes) plan.now d0 s0 t 2 (lease ∷ self.old.waiting.items) self.old.jobs.items self.old.receiver (D.told depot.old) sink desk.old self.old }
+        ensures collecting { (d0 : DepotTold) (s0 : SinkTold) (t : Values) (sink : SinkTold) → IsCollectingWith S.view V.told S.fits F.values (standing F.stands F.comes) plan.now d0 s0 t 2 (lease ∷ self.old.waiting.items) self.old.jobs.items self.old.receiver (D.told depot.old) sink desk.old self.old → IsCollecting S.view V.told S.fits F.values (standing F.stands F.comes) plan.now d0 s0 t 1 (D.told depot.new) sink desk.new self.new }
     {
         if self.stops.is_set(1 + self.next) {
             self.pass_over(desk, lease);
@@ -202,7 +203,7 @@ where
         }
         match equip::<S, D>(
             alloc,
-            tables,
+            &self.outer_stream.tables,
             plan,
             self.next,
             depot,

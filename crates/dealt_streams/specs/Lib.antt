@@ -1,3 +1,3 @@
 pub mod Parts
-pub mod Tables
+pub mod Works
 pub mod Kept

@@ -47,7 +47,7 @@ paced_more h p = record {
 
 -- a Lease is for a stream below `leased`
 pub lease_below : {P : Type 0} {p : Progress P} {L : List Event} → IsTold p L → (e : Event) (j s : ℕ) → IsAmong e L → e.what ≡ Lease j s → j < p.leased
-lease_below t e j s m w = let k : e.by ≡ Outer = t.lessor e.by j s (e, m, refl, w) in (t.outer (Lease j s) (e, m, k, w)).1
+lease_below t e j s m w = let k : e.by ≡ Outer = t.lessor e.by j s (e, m, refl, w) in t.outer (Lease j s) (e, m, k, w)
 
 -- nothing was noted
 pub gives_none : {width : ℕ} (L : List Event) → ((e : Event) → IsAmong e L → ⊥) → GivesInPace width L
@@ -118,20 +118,20 @@ module _ {P : Type 0} {ends : P → Exit → Bool → P → Type 0} {width n : �
       (λ high. inl (among_right i b.seat.out (map (λ w. w.0) p.waits) high))
       (follow_among p.next p.waits p.leased i h.order l)
 
-  -- the root was leased for the next stream
-  pub gives_leases : (c : Seen P) (T : List ℕ) → length b.seat.out + length p.waits ≤ width → Leases b 0 p.leased T c → GivesInPace width c.seat.events
-  gives_leases c T few o =
+  -- a scope was leased for the next stream
+  pub gives_leases : (c : Seen P) (scope : ℕ) (T : List ℕ) → length b.seat.out + length p.waits ≤ width → Leases b scope p.leased T c → GivesInPace width c.seat.events
+  gives_leases c scope T few o =
       let k = p.leased in
       let v = b.seat in
       let g = h.gives in
-      let x : Event = leasing_event v k 0 o.stamp in
+      let x : Event = leasing_event v k scope o.stamp in
       let events : c.seat.events ≡ v.events ++ x ∷ [] = ap (λ u. u.events) o.seat in
       let more : (e : Event) → IsAmong e v.events → IsAmong e c.seat.events = λ e m. subst (λ l. IsAmong e l) (sym events) (among_left (x ∷ []) m) in
       let old : (e : Event) → IsAmong e c.seat.events → IsAmong e v.events ⊎ (e ≡ x) = λ e m. among_snoc v.events e x (subst (λ l. IsAmong e l) events m) in
       let fresh : (e : Event) → IsAmong e v.events → e.stamp < o.stamp = o.fresh.1 in
       let last : (e : Event) → e ≡ x → o.stamp ≡ e.stamp = λ e q. sym (ap (λ (z : Event). z.stamp) q) in
-      let next : (e : Event) (i s : ℕ) → e ≡ x → e.what ≡ Lease i s → i ≡ k = λ e i s q w. (lease_stream i k s 0 (sym w ∙ ap (λ (z : Event). z.what) q)).0 in
-      let acquired : (e : Event) (r s : ℕ) → IsAmong e c.seat.events → e.what ≡ Acquire r s → IsAmong e v.events = λ e r s m w. ⊎_elim (λ i. i) (λ q. let z : Acquire r s ≡ Lease k 0 = sym w ∙ ap (λ (y : Event). y.what) q in cc) (old e m) in
+      let next : (e : Event) (i s : ℕ) → e ≡ x → e.what ≡ Lease i s → i ≡ k = λ e i s q w. (lease_stream i k s scope (sym w ∙ ap (λ (z : Event). z.what) q)).0 in
+      let acquired : (e : Event) (r s : ℕ) → IsAmong e c.seat.events → e.what ≡ Acquire r s → IsAmong e v.events = λ e r s m w. ⊎_elim (λ i. i) (λ q. let z : Acquire r s ≡ Lease k scope = sym w ∙ ap (λ (y : Event). y.what) q in cc) (old e m) in
       let below : (i : ℕ) (q : StreamNo) (y : Exit) → Notes v.events q (Cancel i y) → NotesBelow o.stamp c.seat.events q (Cancel i y) = λ i q y n. (n.0, more n.0 n.1, n.2, n.3, fresh n.0 n.1) in
       record {
         rise = λ e f r s q t m n a d w y l. g.rise e f r s q t (acquired e r s m w) (acquired f q t n y) a d w y l;

@@ -199,7 +199,7 @@ module _ {P : Type 0} {ends : P → Exit → Bool → P → Type 0} {width n : �
   leased_below h j l =
       let x = l.2 in
       let k : l.0 ≡ Outer = h.told.lessor l.0 j l.1 x in
-      (h.told.outer (Lease j l.1) (x.0, x.1, x.2 ∙ k, x.3)).1
+      h.told.outer (Lease j l.1) (x.0, x.1, x.2 ∙ k, x.3)
 
   pub main_main : {b : Seen P} {p : Progress P} → IsMain ends width n b p → b.seat.main ≡ true
   main_main h = (called_after h.family.calls).main ∙ h.family.alone.main
@@ -207,26 +207,30 @@ module _ {P : Type 0} {ends : P → Exit → Bool → P → Type 0} {width n : �
   pub not_inner : {b : Seen P} {p : Progress P} → IsMain ends width n b p → (j : ℕ) → b.seat.by ≢ Inner j
   not_inner h j e = let z : Outer ≡ Inner j = sym h.by ∙ e in cc
 
-  -- the next stream may be leased to
-  pub main_may_lease : {b : Seen P} {p : Progress P} → IsMain ends width n b p → p.root ≡ None → MayLease b 0 p.leased
-  main_may_lease {b = b} {p = p} h root = record {
+  -- an open scope may be leased for the next stream
+  pub main_may_lease : {b : Seen P} {p : Progress P} {s : ℕ} → IsMain ends width n b p → IsOpenScope b s → MayLease b s p.leased
+  main_may_lease {b = b} {p = p} h open' = record {
     main = main_main h;
-    scope = subst (λ o. IsRoot b o) root h.root;
+    scope = open';
     other = not_inner h p.leased;
     new = λ m. (let l = had_older h p.leased m in let k = follow_least p.next p.waits p.leased h.order in omega arith);
     unleased = λ m. (let l = leased_below h p.leased m in omega arith);
   }
 
-  pub main_leases : (b c : Seen P) (p : Progress P) (T : List ℕ) → IsMain ends width n b p → p.root ≡ None → p.leased < n → length b.seat.out + length p.waits ≤ width → Leases b 0 p.leased T c → KeepsScopes b c → IsMain ends width n c (leasing_next p T)
-  main_leases b c p T h none' less fits o keeps =
+  -- the root is open that wasn't closed
+  pub root_open : {b : Seen P} {p : Progress P} → IsMain ends width n b p → p.root ≡ None → IsOpenScope b 0
+  root_open {b = b} h none' = subst (λ o. IsRoot b o) none' h.root
+
+  pub main_leases : (b c : Seen P) (p : Progress P) (s : ℕ) (T : List ℕ) → IsMain ends width n b p → p.root ≡ None → p.leased < n → length b.seat.out + length p.waits ≤ width → IsOpenScope b s → Leases b s p.leased T c → KeepsScopes b c → IsMain ends width n c (leasing_next p T)
+  main_leases b c p s T h none' less fits open' o keeps =
       let k = p.leased in
       let v = b.seat in
-      let x : Event = leasing_event v k 0 o.stamp in
-      let call : Called ends b [] c = lease_made b c 0 k T none (main_may_lease h none') o in
+      let x : Event = leasing_event v k s o.stamp in
+      let call : Called ends b [] c = lease_made b c s k T none (main_may_lease h open') o in
       let events : c.seat.events ≡ v.events ++ x ∷ [] = ap (λ u. u.events) o.seat in
       let more : (e : Event) → IsAmong e v.events → IsAmong e c.seat.events = events_stay call in
       let old : (e : Event) → IsAmong e c.seat.events → IsAmong e v.events ⊎ (e ≡ x) = λ e m. among_snoc v.events e x (subst (λ l. IsAmong e l) events m) in
-      let now : Notes c.seat.events Outer (Lease k 0) = (x, subst (λ l. IsAmong x l) (sym events) (among_last v.events x), h.by, refl) in
+      let now : Notes c.seat.events Outer (Lease k s) = (x, subst (λ l. IsAmong x l) (sym events) (among_last v.events x), h.by, refl) in
       main_calls b c p (p.waits ++ (k, T) ∷ []) p.next (suc k) p.tables p.root [] h call (λ j U m. absurd (among_nil m)) (ap (λ u. u.had) o.seat) (ap (λ u. u.out) o.seat)
       (follow_snoc p.next p.waits k T h.order)
       (omega (less, arith))
@@ -237,16 +241,16 @@ module _ {P : Type 0} {ends : P → Exit → Bool → P → Type 0} {width n : �
       (told_calls p (leasing_next p T) v.events c.seat.events h.told refl refl
       (note_stays p (leasing_next p T) (omega arith) (omega arith) (λ y e. e) (λ w i. i))
       more
-      (λ e m. ⊎_elim (λ i. inl i) (λ i. inr (ap (λ (z : Event). z.by) i ∙ h.by, subst (λ (z : Event). IsOuterNote (leasing_next p T) z.what) (sym i) (refl, omega arith))) (old e m))
+      (λ e m. ⊎_elim (λ i. inl i) (λ i. inr (ap (λ (z : Event). z.by) i ∙ h.by, subst (λ (z : Event). IsOuterNote (leasing_next p T) z.what) (sym i) (let z : k < suc k = omega arith in z))) (old e m))
       (λ r m. notes_more more (h.told.acquired r m))
-      (λ j l. ⊎_elim (λ i. notes_more more (h.told.leases j i)) (λ e. subst (λ i. Notes c.seat.events Outer (Lease i 0)) (sym e) now) (below_or j k l))
+      (λ j l. ⊎_elim (λ i. let y = h.told.leases j i in (y.0, notes_more more y.1)) (λ e. (s, subst (λ i. Notes c.seat.events Outer (Lease i s)) (sym e) now)) (below_or j k l))
       (λ y e. notes_more more (h.told.root y e))
       (λ j l. ⊎_elim (λ i. inl i) (λ i. inr (notes_more more i)) (h.told.dealt j l))
       (λ j y m i. ⊎_elim
       (λ q. h.told.skipped j y (m.0, q, m.2, m.3) i)
-      (λ q. let z : Cancel j y ≡ Lease k 0 = sym m.3 ∙ ap (λ (e : Event). e.what) q in cc)
+      (λ q. let z : Cancel j y ≡ Lease k s = sym m.3 ∙ ap (λ (e : Event). e.what) q in cc)
       (old m.0 m.1)))
-      (gives_leases b p h c T fits o)
+      (gives_leases b p h c s T fits o)
 
   -- the root was closed
   pub main_closes : (b c : Seen P) (p : Progress P) (x : Exit) → IsMain ends width n b p → p.root ≡ None → ClosesScope ends b 0 x c → IsClosedScope c 0 → IsMain ends width n c (closing_root p x)
@@ -279,7 +283,7 @@ module _ {P : Type 0} {ends : P → Exit → Bool → P → Type 0} {width n : �
       i)
       (old e m))
       (λ r m. notes_more more (h.told.acquired r m))
-      (λ j l. notes_more more (h.told.leases j l))
+      (λ j l. let y = h.told.leases j l in (y.0, notes_more more y.1))
       (λ z e. let s : x ≡ z = some_is x z e in subst (λ i. Notes c.seat.events Outer (Close 0 i)) s now)
       (λ j l. ⊎_elim (λ i. inl i) (λ i. inr (notes_more more i)) (h.told.dealt j l))
       (λ j z m i. ⊎_elim
@@ -290,6 +294,48 @@ module _ {P : Type 0} {ends : P → Exit → Bool → P → Type 0} {width n : �
       s)
       (old m.0 m.1)))
       (follows_gives b c p y h more f (λ r s e. cc) (λ j s e. cc))
+
+  -- a child scope was closed
+  pub main_closes_child : (b c : Seen P) (p : Progress P) (s : ℕ) (x : Exit) → IsMain ends width n b p → p.root ≡ None → IsOpenScope b (suc s) → ClosesScope ends b (suc s) x c → IsOpenScope c 0 → IsMain ends width n c (reading p (Close (suc s) x ∷ []))
+  main_closes_child b c p s x h none' open' o still =
+      let v = b.seat in
+      let w : What = Close (suc s) x in
+      let q = reading p (w ∷ []) in
+      let call : Called ends b [] c = closed b c (suc s) x none open' o in
+      let f = close_follows o in
+      let y : Event = closing_event v (suc s) x o.stamp in
+      let more : (e : Event) → IsAmong e v.events → IsAmong e c.seat.events = events_stay call in
+      let old = follows_cases v c.seat y f in
+      let ended : (r : ℕ) (z : Exit) (ok : Bool) → Notes c.seat.events Outer (Final r z ok) → (t : ℕ) × IsAmong (Acquire r t) (p.tables ++ w ∷ []) = main_ended b c p (p.tables ++ w ∷ []) [] h call (λ j U m. absurd (among_nil m)) (λ r t m. among_left (w ∷ []) (follows_acquired b c p y h f (λ i j e. cc) r t m)) in
+      main_calls b c p p.waits p.next p.leased (p.tables ++ w ∷ []) p.root [] h call (λ j U m. absurd (among_nil m)) (ap (λ z. z.had) f.same) (ap (λ z. z.out) f.same)
+      h.order
+      h.few
+      (omega arith)
+      (waits_same v c.seat p.waits (ap (λ z. z.kept) f.same) (close_pairs o) h.waits)
+      (λ j U m. lent_stays call (h.lent j U m))
+      (subst (λ i. IsRoot c i) (sym none') still)
+      (told_calls p q v.events c.seat.events h.told refl refl
+      (note_stays p q (omega arith) (omega arith) (λ z e. e) (λ u i. among_left (w ∷ []) i))
+      more
+      (λ e m. ⊎_elim
+      (λ i. inl i)
+      (λ i. ⊎_elim
+      (λ t. inr (ap (λ (z : Event). z.by) t ∙ h.by, subst (λ (z : Event). IsOuterNote q z.what) (sym t) (among_last p.tables w)))
+      (λ t. inr (t.0 ∙ h.by, end_note q c.seat.events ended e.what t.1 (e, m, t.0 ∙ h.by, refl)))
+      i)
+      (old e m))
+      (λ r m. ⊎_elim (λ i. notes_more more (h.told.acquired r i)) (λ i. absurd (⊎_elim (λ (e : Acquire r 0 ≡ w). cc) (λ z. among_nil z) (among_cons i))) (among_append (Acquire r 0) p.tables (w ∷ []) m))
+      (λ j l. let z = h.told.leases j l in (z.0, notes_more more z.1))
+      (λ z e. notes_more more (h.told.root z e))
+      (λ j l. ⊎_elim (λ i. inl i) (λ i. inr (notes_more more i)) (h.told.dealt j l))
+      (λ j z m i. ⊎_elim
+      (λ t. h.told.skipped j z (m.0, t, m.2, m.3) i)
+      (λ t. ⊎_elim
+      (λ u. let k : Cancel j z ≡ w = sym m.3 ∙ ap (λ (e : Event). e.what) u in cc)
+      (λ u. let k : false ≡ true = ap is_end (sym m.3) ∙ u.1 in cc)
+      t)
+      (old m.0 m.1)))
+      (follows_gives b c p y h more f (λ r i e. cc) (λ j i e. cc))
 
   -- the first lease that waits may be cancelled
   pub main_may_cancel : (b : Seen P) (p : Progress P) (us : List (ℕ × List ℕ)) (j : ℕ) (T : List ℕ) → IsMain ends width n b p → p.waits ≡ (j, T) ∷ us → MayCancel b j T
@@ -344,7 +390,7 @@ module _ {P : Type 0} {ends : P → Exit → Bool → P → Type 0} {width n : �
       i)
       (old e m))
       (λ r m. notes_more more (h.told.acquired r m))
-      (λ i l. notes_more more (h.told.leases i l))
+      (λ i l. let y = h.told.leases i l in (y.0, notes_more more y.1))
       (λ z e. notes_more more (h.told.root z e))
       (λ i l. ⊎_elim
       (λ less. ⊎_elim (λ z. inl z) (λ z. inr (notes_more more z)) (h.told.dealt i less))
@@ -386,7 +432,7 @@ module _ {P : Type 0} {ends : P → Exit → Bool → P → Type 0} {width n : �
       (λ i. ⊎_elim (λ o. inl o) (λ o. let by = o.0 ∙ alone.by ∙ h.by in inr (by, table_note q E c.seat.events (λ w z. among_right w p.tables E z) table ended e.what i (e, m, by, refl))) (alone.events e m))
       (new e m))
       (λ r m. ⊎_elim (λ i. notes_more more (h.told.acquired r i)) (λ i. acquired r i) (among_append (Acquire r 0) p.tables E m))
-      (λ j l. notes_more more (h.told.leases j l))
+      (λ j l. let y = h.told.leases j l in (y.0, notes_more more y.1))
       (λ z e. notes_more more (h.told.root z e))
       (λ j l. ⊎_elim (λ i. inl i) (λ i. inr (notes_more more i)) (h.told.dealt j l))
       (λ j z m i. ⊎_elim

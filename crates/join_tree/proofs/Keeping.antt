@@ -18,7 +18,7 @@ use Rattle.scope_tree.proofs.Use.{cancel_follows, close_follows, leased_said}
 use Rattle.tree_laws.specs.Called.Called.{none, cancelled, closed, leased as lease_made}
 use Rattle.tree_laws.proofs.Kept.{leases_lent, lent_own, lent_stays}
 use Rattle.tree_laws.proofs.Owed.{owed_stays}
-use Rattle.join_tree.specs.Mains.{IsMain, IsRoot}
+use Rattle.join_tree.specs.Mains.{IsMain}
 use Rattle.join_tree.specs.Progress.{Progress}
 use Rattle.join_tree.specs.Steps.{KeepsGuests, TakesEvents}
 use Rattle.join_tree.proofs.Growing.{main_may_cancel, main_may_lease}
@@ -26,25 +26,25 @@ use Rattle.join_tree.proofs.Growing.{main_may_cancel, main_may_lease}
 pub keeps_same : {P : Type 0} (b c : Seen P) → c ≡ b → KeepsGuests b c
 keeps_same b c e = subst (λ x. KeepsGuests b x) (sym e) (record { out = refl; splits = refl; empty = λ r m. m; lent = λ j T l. l })
 
-module _ {P : Type 0} {ends : P → Exit → Bool → P → Type 0} {width n : ℕ} where
-  pub keeps_leases : (b c : Seen P) (p : Progress P) (T : List ℕ) → IsMain ends width n b p → p.root ≡ None → Leases b 0 p.leased T c → KeepsGuests b c
-  keeps_leases b c p T h root o = record {
-    out = ap (λ u. u.out) o.seat;
-    splits = ap (λ u. u.splits) o.seat;
-    empty = λ r m. subst (λ l. IsAmong r l) (sym (ap (λ u. u.empty) o.seat)) m;
-    lent = λ j U l. lent_stays {ends = ends} (lease_made b c 0 p.leased T none (main_may_lease h root) o) l;
-  }
-
-  pub keeps_closes : (b c : Seen P) (p : Progress P) (x : Exit) → IsMain ends width n b p → p.root ≡ None → ClosesScope ends b 0 x c → KeepsGuests b c
-  keeps_closes b c p x h root o =
+module _ {P : Type 0} {ends : P → Exit → Bool → P → Type 0} where
+  pub keeps_closes : (b c : Seen P) (s : ℕ) (x : Exit) → IsOpenScope b s → ClosesScope ends b s x c → KeepsGuests b c
+  keeps_closes b c s x open' o =
       let f = close_follows o in
-      let open' : IsOpenScope b 0 = subst (λ i. IsRoot b i) root h.root in
       record {
         out = ap (λ u. u.out) f.same;
         splits = ap (λ u. u.splits) f.same;
         empty = λ r m. subst (λ l. IsAmong r l) (sym (ap (λ u. u.empty) f.same)) m;
-        lent = λ j U l. lent_stays {ends = ends} (closed b c 0 x none open' o) l;
+        lent = λ j U l. lent_stays {ends = ends} (closed b c s x none open' o) l;
       }
+
+module _ {P : Type 0} {ends : P → Exit → Bool → P → Type 0} {width n : ℕ} where
+  pub keeps_leases : (b c : Seen P) (p : Progress P) (s : ℕ) (T : List ℕ) → IsMain ends width n b p → IsOpenScope b s → Leases b s p.leased T c → KeepsGuests b c
+  keeps_leases b c p s T h root o = record {
+    out = ap (λ u. u.out) o.seat;
+    splits = ap (λ u. u.splits) o.seat;
+    empty = λ r m. subst (λ l. IsAmong r l) (sym (ap (λ u. u.empty) o.seat)) m;
+    lent = λ j U l. lent_stays {ends = ends} (lease_made b c s p.leased T none (main_may_lease h root) o) l;
+  }
 
   pub keeps_cancels : (b c : Seen P) (p : Progress P) (us : List (ℕ × List ℕ)) (j : ℕ) (T : List ℕ) → IsMain ends width n b p → p.waits ≡ (j, T) ∷ us → Cancels ends b j T Canceled c → KeepsGuests b c
   keeps_cancels b c p us j T h is o =
@@ -60,15 +60,15 @@ module _ {P : Type 0} {ends : P → Exit → Bool → P → Type 0} {width n : �
   pub main_no_strangers : (b : Seen P) (p : Progress P) (us : List (ℕ × List ℕ)) (j : ℕ) (T : List ℕ) → IsMain ends width n b p → p.waits ≡ (j, T) ∷ us → strangers (own_rows b.seat) T ≡ 0
   main_no_strangers b p us j T h is = strangers_none (own_rows b.seat) T (λ r m. lent_own b.seat j T (h.lent j T (subst (λ l. IsAmong (j, T) l) (sym is) (here us))) r m)
 
-  -- the rows that a lease of the root covers are those of tables
-  pub leased_tables : (b c : Seen P) (p : Progress P) (T : List ℕ) → IsMain ends width n b p → Leases b 0 p.leased T c → (r : ℕ) → IsAmong r T → (s : ℕ) × IsAmong (Acquire r s) p.tables
-  leased_tables b c p T h o r m =
+  -- the rows that a lease covers are those of tables
+  pub leased_tables : (b c : Seen P) (p : Progress P) (s : ℕ) (T : List ℕ) → IsMain ends width n b p → Leases b s p.leased T c → (r : ℕ) → IsAmong r T → (t : ℕ) × IsAmong (Acquire r t) p.tables
+  leased_tables b c p s T h o r m =
       let own : IsAmong r (own_rows c.seat) = lent_own c.seat p.leased T (leases_lent o) r m in
       let t = number_among r (rows (trace c.seat)) own in
       let w : IsAmong (Acquire r t.0) (trace b.seat) = ⊎_elim
       (λ i. i)
-      (λ i. let z : Acquire r t.0 ≡ Lease p.leased 0 = i in cc)
-      (among_snoc (trace b.seat) (Acquire r t.0) (Lease p.leased 0) (subst (λ E. IsAmong (Acquire r t.0) E) (leased_said o) (in_rows r t.0 (trace c.seat) t.1))) in
+      (λ i. let z : Acquire r t.0 ≡ Lease p.leased s = i in cc)
+      (among_snoc (trace b.seat) (Acquire r t.0) (Lease p.leased s) (subst (λ E. IsAmong (Acquire r t.0) E) (leased_said o) (in_rows r t.0 (trace c.seat) t.1))) in
       (t.0, h.told.outer (Acquire r t.0) (subst (λ k. Notes b.seat.events k (Acquire r t.0)) h.by (in_noted b.seat.by (Acquire r t.0) b.seat.events w)))
 
 -- a lease takes one event

@@ -5,6 +5,7 @@ pub mod Giving
 pub mod Growing
 pub mod Passing
 pub mod Keeping
+pub mod Children
 pub mod Outs
 pub mod Pacing
 pub mod Settling

@@ -71,7 +71,7 @@ module _ {P : Type 0} {ends : P → Exit → Bool → P → Type 0} {width n : �
         (λ r i. (rows r i, bare r (rows r i))),
         spare,
         splits,
-        (λ r m. (Outer, 0, h.told.leases j leased)),
+        (λ r m. let x = h.told.leases j leased in (Outer, x.0, x.1)),
       )
 
   -- it is a new guest then
@@ -89,9 +89,9 @@ module _ {P : Type 0} {ends : P → Exit → Bool → P → Type 0} {width n : �
       let size : p.leased ≡ p.next + length ((j, T) ∷ us) = follow_length p.next ((j, T) ∷ us) p.leased order in
       let long : length p.waits ≡ length ((j, T) ∷ us) = ap length is in
       let L = b.seat.events in record {
-        lease = (0, below_next L Outer (Lease j 0) (h.told.leases j (omega (size, first, arith))));
+        lease = (let x = h.told.leases j (omega (size, first, arith)) in (x.0, below_next L Outer (Lease j x.0) x.1));
         next = ⊎_elim
-            (λ l. inl (0, below_next L Outer (Lease (j + 1) 0) (h.told.leases (j + 1) (omega (size, first, long, l, arith)))))
+            (λ l. let x = h.told.leases (j + 1) (omega (size, first, long, l, arith)) in inl (x.0, below_next L Outer (Lease (j + 1) x.0) x.1))
             (λ c. inr (below_next L Outer (Close 0 Succeeded) (h.told.root Succeeded c)))
             ready.ahead;
         narrow = ready.narrow;
@@ -177,7 +177,7 @@ module _ {P : Type 0} {ends : P → Exit → Bool → P → Type 0} {width n : �
         outer = λ w x. t.outer w (only w x);
         lessor = λ k j s x. ⊎_elim (λ i. t.lessor k j s (x.0, i, x.2, x.3)) (λ i. absurd ((visit_own visit x.0 i).1 j s x.3)) (cases x.0 x.1);
         acquired = λ r m. notes_more more (t.acquired r m);
-        leases = λ j l. notes_more more (t.leases j l);
+        leases = λ j l. let x = t.leases j l in (x.0, notes_more more x.1);
         root = λ x e. notes_more more (t.root x e);
         dealt = λ j l. ⊎_elim (λ i. inl i) (λ x. inr (notes_more more x)) (t.dealt j l);
         skipped = λ j x m i. t.skipped j x (only (Cancel j x) m) i;

@@ -39,7 +39,7 @@ told_same p L M same t =
       outer = λ w n. t.outer w (notes_more down n);
       lessor = λ k j s n. t.lessor k j s (notes_more down n);
       acquired = λ r m. notes_more up (t.acquired r m);
-      leases = λ j l. notes_more up (t.leases j l);
+      leases = λ j l. let x = t.leases j l in (x.0, notes_more up x.1);
       root = λ x e. notes_more up (t.root x e);
       dealt = λ j l. ⊎_elim (λ b. inl b) (λ n. inr (notes_more up n)) (t.dealt j l);
       skipped = λ j x n. t.skipped j x (notes_more down n);

@@ -31,7 +31,7 @@ module _ {P : Type 0} where
   pub note_stays : (p q : Progress P) → p.leased ≤ q.leased → p.next ≤ q.next → ((x : Exit) → p.root ≡ Some x → q.root ≡ Some x) → ((w : What) → IsAmong w p.tables → IsAmong w q.tables) → (w : What) → IsOuterNote p w → IsOuterNote q w
   note_stays p q l n r t (Open s c) h = t (Open s c) h
   note_stays p q l n r t (Acquire i s) h = t (Acquire i s) h
-  note_stays p q l n r t (Lease j s) h = (h.0, (let k = h.1 in omega arith))
+  note_stays p q l n r t (Lease j s) h = omega (h, l, arith)
   note_stays p q l n r t (Cancel j x) h = (h.0, (let k = h.1 in omega arith))
   note_stays p q l n r t (Close zero x) h = r x h
   note_stays p q l n r t (Close (suc s) x) h = t (Close (suc s) x) h
@@ -56,7 +56,7 @@ module _ {P : Type 0} where
   table_note q E M more table ended (Final i x ok) m n = ended i x ok n
 
   -- calls of the outer stream, by which no seat comes or goes
-  pub told_calls : (p q : Progress P) (L M : List Event) → IsTold p L → q.splits ≡ p.splits → q.back ≡ p.back → ((w : What) → IsOuterNote p w → IsOuterNote q w) → ((e : Event) → IsAmong e L → IsAmong e M) → ((e : Event) → IsAmong e M → IsAmong e L ⊎ ((e.by ≡ Outer) × IsOuterNote q e.what)) → ((r : ℕ) → IsAmong (Acquire r 0) q.tables → Notes M Outer (Acquire r 0)) → ((j : ℕ) → j < q.leased → Notes M Outer (Lease j 0)) → ((x : Exit) → q.root ≡ Some x → Notes M Outer (Close 0 x)) → ((j : ℕ) → j < q.next → IsBegun p j ⊎ Notes M Outer (Cancel j Canceled)) → ((j : ℕ) (x : Exit) → Notes M Outer (Cancel j x) → ¬ (IsBegun p j)) → IsTold q M
+  pub told_calls : (p q : Progress P) (L M : List Event) → IsTold p L → q.splits ≡ p.splits → q.back ≡ p.back → ((w : What) → IsOuterNote p w → IsOuterNote q w) → ((e : Event) → IsAmong e L → IsAmong e M) → ((e : Event) → IsAmong e M → IsAmong e L ⊎ ((e.by ≡ Outer) × IsOuterNote q e.what)) → ((r : ℕ) → IsAmong (Acquire r 0) q.tables → Notes M Outer (Acquire r 0)) → ((j : ℕ) → j < q.leased → (s : ℕ) × Notes M Outer (Lease j s)) → ((x : Exit) → q.root ≡ Some x → Notes M Outer (Close 0 x)) → ((j : ℕ) → j < q.next → IsBegun p j ⊎ Notes M Outer (Cancel j Canceled)) → ((j : ℕ) (x : Exit) → Notes M Outer (Cancel j x) → ¬ (IsBegun p j)) → IsTold q M
   told_calls p q L M t splits back word more new acquired leases root dealt skipped =
       let ahead : (j : ℕ) → IsBegun p j → IsBegun q j = λ j b. (b.0, subst (λ l. IsAmong b.0 l) (sym splits) b.1, b.2) in
       let before : (j : ℕ) → IsBegun q j → IsBegun p j = λ j b. (b.0, subst (λ l. IsAmong b.0 l) splits b.1, b.2) in

@@ -35,9 +35,9 @@ pub record GivesInPace (width : ℕ) (L : List Event) : Type 0 where
   pub waits : (e : Event) (j s : ℕ) → IsAmong e L → e.what ≡ Lease j s → (is : List ℕ) × (length is ≤ width) × ((i : ℕ) → i < j → IsAmong i is ⊎ ((k : StreamNo) × (x : Exit) × NotesBelow e.stamp L k (Cancel i x)))
 
 module _ {P : Type 0} (p : Progress P) where
-  -- what the outer stream may have noted: Leases of its root for the streams below `leased`, Cancels of streams that were dealt with, as canceled, the Close of its root with the exit that is told, Finals of its tables' rows, and what else it noted of its tables
+  -- what the outer stream may have noted: Leases of its scopes for the streams below `leased`, Cancels of streams that were dealt with, as canceled, the Close of its root with the exit that is told, Finals of its tables' rows, and what else it noted of its tables
   abbrev pub IsOuterNote : What → Type 0
-  IsOuterNote (Lease j s) = (s ≡ 0) × (j < p.leased)
+  IsOuterNote (Lease j s) = j < p.leased
   IsOuterNote (Cancel j x) = (x ≡ Canceled) × (j < p.next)
   IsOuterNote (Close zero x) = p.root ≡ Some x
   IsOuterNote (Close (suc s) x) = IsAmong (Close (suc s) x) p.tables
@@ -53,9 +53,9 @@ module _ {P : Type 0} (p : Progress P) where
     -- what the outer stream noted, and that no other noted a Lease
     pub outer : (w : What) → Notes L Outer w → IsOuterNote w
     pub lessor : (k : StreamNo) (j s : ℕ) → Notes L k (Lease j s) → k ≡ Outer
-    -- it acquired the rows of its root that are told, leased for each stream below `leased`, and closed its root as is told
+    -- it acquired the rows of its root that are told, leased one of its scopes for each stream below `leased`, and closed its root as is told
     pub acquired : (r : ℕ) → IsAmong (Acquire r 0) p.tables → Notes L Outer (Acquire r 0)
-    pub leases : (j : ℕ) → j < p.leased → Notes L Outer (Lease j 0)
+    pub leases : (j : ℕ) → j < p.leased → (s : ℕ) × Notes L Outer (Lease j s)
     pub root : (x : Exit) → p.root ≡ Some x → Notes L Outer (Close 0 x)
     -- of the streams that were dealt with it cancelled those that weren't begun, and no others
     pub dealt : (j : ℕ) → j < p.next → IsBegun j ⊎ Notes L Outer (Cancel j Canceled)

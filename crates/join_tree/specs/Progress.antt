@@ -7,7 +7,7 @@ use Rattle.scope_tree.specs.Calls.{Seen}
 use Rattle.tree_families.specs.Families.{Split, split_of}
 
 -- The seats that were split off; the trees that came back, each as it stood last; the leases that wait, each its stream with its rows;
--- the streams below `next` were dealt with, and those from there to `leased` - 1 wait; what the outer stream noted of its tables; and
+-- the streams below `next` were dealt with, and those from there to `leased` - 1 wait; what the outer stream noted of its tables and of its child scopes; and
 -- the exit with which its root was closed, once it was.
 pub record Progress (P : Type 0) : Type 0 where
   pub splits : List Split
@@ -32,7 +32,7 @@ module _ {P : Type 0} where
   abbrev pub reading : Progress P → List What → Progress P
   reading p E = record p { tables = p.tables ++ E }
 
-  -- the root was leased for the next stream, on the rows T
+  -- a scope was leased for the next stream, on the rows T
   abbrev pub leasing_next : Progress P → List ℕ → Progress P
   leasing_next p T = record p { waits = p.waits ++ (p.leased, T) ∷ []; leased = suc p.leased }
 

@@ -42,6 +42,11 @@ module _ {P : Type 0} where
   guest_of v j T = record { stream = j; floor = next_stamp v.events; rows = T }
 
 module _ {P : Type 0} (ends : P → Exit → Bool → P → Type 0) (width n : ℕ) (b c : Seen P) (p : Progress P) where
+  -- the scope s was leased for the next stream, with the rows that a lease of it covers, which are those of tables; where memory was wanting nothing was done
+  abbrev pub LeasesNext : ℕ → Result Lease AllocError → Type 0
+  LeasesNext s (Ok l) = (lessee l ≡ p.leased) × (rows_covered l ≡ leased_rows (trace b.seat) s) × ((r : ℕ) → IsAmong r (rows_covered l) → (t : ℕ) × IsAmong (Acquire r t) p.tables) × IsMain ends width n c (leasing_next p (rows_covered l))
+  LeasesNext s (Err e) = c ≡ b
+
   -- a pull leased the root for the next stream, with the rows that are open in it, which are those of tables, or closed it as no stream was left; where memory was wanting nothing was done
   abbrev pub Pulls : Result (Option Lease) AllocError → Type 0
   Pulls (Ok (Some l)) = (p.leased < n) × (lessee l ≡ p.leased) × (rows_covered l ≡ leased_rows (trace b.seat) 0) × ((r : ℕ) → IsAmong r (rows_covered l) → (s : ℕ) × IsAmong (Acquire r s) p.tables) × IsMain ends width n c (leasing_next p (rows_covered l))

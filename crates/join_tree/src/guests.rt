@@ -3,7 +3,7 @@ ghost use Rattle.std.specs.Prelude.{◌≡◌, ◌≢◌, ℕ, ◌+◌, ◌≤�
 ghost use Rattle.chunk_core.specs.Lists.{IsAmong};
 ghost use Rattle.res_ledger.specs.declared.event.StreamNo.TheVariants.{Outer};
 ghost use Rattle.row_seat.specs.Views.{IsWithin, OthersFit, joined, next_stamp, split_main, split_off};
-ghost use Rattle.scope_tree.specs.Calls.{Seen};
+ghost use Rattle.scope_tree.specs.Calls.{KeepsScopes, Seen, TakesRoom};
 ghost use Rattle.scope_tree.specs.Trees.{Fits, seen};
 ghost use Rattle.scope_tree.specs.Trace.{owed};
 ghost use Rattle.tree_laws.specs.Visits.{HasNothingOpen, IsNewGuest, Visits};
@@ -42,6 +42,8 @@ where
     ensures out { (width n : ℕ) (p : Progress S.Pay) (T : List ℕ) (us : List (ℕ × List ℕ)) (gs : List Guest) → IsMain S.Pay.ends width n (seen S.view tree.old) p → p.waits ≡ (stream, T) ∷ us → AreOut (seen S.view tree.old) p.splits gs → IfOk result (λ s. AreOut (seen S.view tree.new) (splitting p (seen S.view tree.old).seat stream us).splits (gs ++ guest_of (seen S.view tree.old).seat stream T ∷ [])) }
     ensures seen { IfOk result (λ s. seen S.view tree.new ≡ record (seen S.view tree.old) { seat = split_main (seen S.view tree.old).seat stream rows.from rows.to events }) }
     ensures owed { owed (seen S.view tree.new).seat ≡ owed (seen S.view tree.old).seat }
+    ensures scopes { KeepsScopes (seen S.view tree.old) (seen S.view tree.new) }
+    ensures room { TakesRoom 0 0 (seen S.view tree.old) (seen S.view tree.new) }
     ensures err { IfErr result (λ e. seen S.view tree.new ≡ seen S.view tree.old) }
     ensures fits { Fits S.view S.fits tree.new desk.new }
     ensures others { OthersFit S.view S.fits Outer desk.old desk.new }
@@ -61,6 +63,8 @@ where
     ensures out { (ms : List Split) (g : Guest) (gs : List Guest) (y : Seen S.Pay) → AreOut (seen S.view tree.old) ms (g ∷ gs) → Visits S.Pay.ends g.stream g.floor g.rows y → S.view seat ≡ y.seat → AreOut (seen S.view tree.new) ms gs }
     ensures seen { seen S.view tree.new ≡ record (seen S.view tree.old) { seat = joined (seen S.view tree.old).seat (S.view seat) } }
     ensures owed { owed (seen S.view tree.new).seat ≡ owed (seen S.view tree.old).seat }
+    ensures scopes { KeepsScopes (seen S.view tree.old) (seen S.view tree.new) }
+    ensures room { TakesRoom 0 0 (seen S.view tree.old) (seen S.view tree.new) }
     ensures fits { Fits S.view S.fits tree.new desk.new }
     ensures others { (o : S) → (S.view o).by ≢ Outer → (S.view o).by ≢ (S.view seat).by → S.fits o desk.old → S.fits o desk.new }
 {

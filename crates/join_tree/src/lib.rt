@@ -44,4 +44,4 @@ mod outer;
 
 pub use end::settle;
 pub use guests::{split_off, take_in};
-pub use outer::{begin, cancel_waiting, close_outer, pull};
+pub use outer::{begin, cancel_waiting, close_child, close_outer, lease_next, open_child, pull};

@@ -31,22 +31,25 @@ run_append r (suc m) n =
     let t = run_append (suc r) m n in
     ap (λ k. run r k) (let e : suc m + n ≡ suc (m + n) = omega arith in e) ∙ ap (λ l. r ∷ l) (t ∙ ap (λ k. run (suc r) m ++ run k n) (let e : suc r + m ≡ r + suc m = omega arith in e))
 
-acquires_append : (r m n : ℕ) → acquires r (m + n) ≡ acquires r m ++ acquires (r + m) n
-acquires_append r m n = ap (map (λ q. Acquire q 0)) (run_append r m n) ∙ map-append (λ q. Acquire q 0) (run r m) (run (r + m) n)
+acquires_append : (s r m n : ℕ) → acquires s r (m + n) ≡ acquires s r m ++ acquires s (r + m) n
+acquires_append s r m n = ap (map (λ q. Acquire q s)) (run_append r m n) ∙ map-append (λ q. Acquire q s) (run r m) (run (r + m) n)
 
 -- what was noted of rows is an Acquire of one of them
-pub acquired_one : (r n : ℕ) (w : What) → IsAmong w (acquires r n) → (q : ℕ) × (w ≡ Acquire q 0) × (r ≤ q) × (q < r + n)
-acquired_one r zero w m = absurd (among_nil m)
-acquired_one r (suc n) w m = ⊎_elim (λ e. (r, e, omega arith, omega arith)) (λ i. let x = acquired_one (suc r) n w i in let low = x.2 in let high = x.3 in (x.0, x.1, omega (low, arith), omega (high, arith))) (among_cons m)
+pub acquired_one : (s r n : ℕ) (w : What) → IsAmong w (acquires s r n) → (q : ℕ) × (w ≡ Acquire q s) × (r ≤ q) × (q < r + n)
+acquired_one s r zero w m = absurd (among_nil m)
+acquired_one s r (suc n) w m = ⊎_elim (λ e. (r, e, omega arith, omega arith)) (λ i. let x = acquired_one s (suc r) n w i in let low = x.2 in let high = x.3 in (x.0, x.1, omega (low, arith), omega (high, arith))) (among_cons m)
 
 same_row : (r s q t : ℕ) → Acquire r s ≡ Acquire q t → r ≡ q
 same_row r s q t e = cc
 
+pub same_scope : (r s q t : ℕ) → Acquire r s ≡ Acquire q t → t ≡ s
+same_scope r s q t e = cc
+
 -- whose row is one of them
-acquired_between : (L : List Event) (r n : ℕ) → map (λ (e : Event). e.what) L ≡ acquires r n → (e : Event) (q t : ℕ) → IsAmong e L → e.what ≡ Acquire q t → (r ≤ q) × (q < r + n)
-acquired_between L r n is e q t m w =
-    let x = acquired_one r n (Acquire q t) (subst (λ l. IsAmong (Acquire q t) l) is (subst (λ v. IsAmong v (map (λ (y : Event). y.what) L)) w (map_among (λ (y : Event). y.what) e L m))) in
-    let same = same_row q t x.0 0 x.1 in let low = x.2 in let high = x.3 in (omega (same, low, arith), omega (same, high, arith))
+pub acquired_between : (L : List Event) (s r n : ℕ) → map (λ (e : Event). e.what) L ≡ acquires s r n → (e : Event) (q t : ℕ) → IsAmong e L → e.what ≡ Acquire q t → (r ≤ q) × (q < r + n)
+acquired_between L s r n is e q t m w =
+    let x = acquired_one s r n (Acquire q t) (subst (λ l. IsAmong (Acquire q t) l) is (subst (λ v. IsAmong v (map (λ (y : Event). y.what) L)) w (map_among (λ (y : Event). y.what) e L m))) in
+    let same = same_row q t x.0 s x.1 in let low = x.2 in let high = x.3 in (omega (same, low, arith), omega (same, high, arith))
 
 only_this : (e f : Event) → IsAmong e (f ∷ []) → e ≡ f
 only_this e f m = ⊎_elim (λ s. s) (λ i. absurd (among_nil i)) (among_cons m)
@@ -82,8 +85,8 @@ module _ {P : Type 0} where
     abbrev more : (a b : Seen P) → List (ℕ × P) → List Event → ℕ → Seen P
     more a b rows events n = record a { seat = record a.seat { empty = b.seat.empty; opened = a.seat.opened ++ rows; events = a.seat.events ++ events; spare = a.seat.spare - n } }
 
-    pub acquires_none : (r : ℕ) (a : Seen P) → AcquiresRows ends r [] a a
-    acquires_none r a = record {
+    pub acquires_none : (s r : ℕ) (a : Seen P) → AcquiresRows ends s r [] a a
+    acquires_none s' r a = record {
       events = [];
       noted = refl;
       own = tt;
@@ -100,9 +103,9 @@ module _ {P : Type 0} where
     }
 
     -- one row, as the tree acquired it
-    pub acquires_one : (a b : Seen P) (r : ℕ) (p : P) → MayAcquire a 0 r → Acquired a 0 r p b → KeepsScopes a b → TakesRoom 0 1 a b → owed b.seat ≡ owed a.seat + 1 → AcquiresRows ends r (p ∷ []) a b
-    acquires_one a b r p may o scopes room owes =
-        let e = acquiring a.seat r 0 o.stamp in
+    pub acquires_one : (a b : Seen P) (s r : ℕ) (p : P) → MayAcquire a s r → Acquired a s r p b → KeepsScopes a b → TakesRoom 0 1 a b → owed b.seat ≡ owed a.seat + 1 → AcquiresRows ends s r (p ∷ []) a b
+    acquires_one a b s' r p may o scopes room owes =
+        let e = acquiring a.seat r s' o.stamp in
         let rest : b.seat.empty ≡ without r a.seat.empty = ap (λ v. v.empty) o.seat in record {
           events = e ∷ [];
           noted = refl;
@@ -114,14 +117,14 @@ module _ {P : Type 0} where
             λ m. let t = among_without r a.seat.empty q (subst (λ l. IsAmong q l) rest m) in (t.0, λ w. t.1 (let x = w.0 in let y = w.1 in omega (x, y, arith))),
             λ m. subst (λ l. IsAmong q l) (sym rest) (among_kept r a.seat.empty q m.0 (λ i. m.1 (omega (i, arith), omega (i, arith)))),
           );
-          calls = acquired a b 0 r p none may o;
+          calls = acquired a b s' r p none may o;
           scopes = scopes;
           room = room;
           owed = owes;
         }
 
     -- and then with another payload
-    module _ (a b : Seen P) (r : ℕ) (p q : P) (one : AcquiresRows ends r (p ∷ []) a b) (new : ¬ (HasRow a.seat.opened r)) where
+    module _ (a b : Seen P) (s' r : ℕ) (p q : P) (one : AcquiresRows ends s' r (p ∷ []) a b) (new : ¬ (HasRow a.seat.opened r)) where
       abbrev changed : Seen P
       changed = record b { seat = paid b.seat r q }
 
@@ -134,7 +137,7 @@ module _ {P : Type 0} where
           ap (λ (s : Seen P). let t : Seen P = record s { seat = record s.seat { opened = with_row r q b.seat.opened } } in t) one.tree
           ∙ ap (λ l. let v : View P = record (more a b (y ∷ []) one.events 1).seat { opened = l } in let s : Seen P = record a { seat = v } in s) (ap (with_row r q) opened_is ∙ with_last r p q a.seat.opened new)
 
-      changed_acquires : AcquiresRows ends r (q ∷ []) a changed
+      changed_acquires : AcquiresRows ends s' r (q ∷ []) a changed
       changed_acquires =
           let l = length_with r q b.seat.opened in record {
             events = one.events;
@@ -150,20 +153,20 @@ module _ {P : Type 0} where
             owed = let o = one.owed in omega (l, o, arith);
           }
 
-      pub acquires_changed : (c : Seen P) → c ≡ changed → AcquiresRows ends r (q ∷ []) a c
-      acquires_changed c is = subst (λ s. AcquiresRows ends r (q ∷ []) a s) (sym is) changed_acquires
+      pub acquires_changed : (c : Seen P) → c ≡ changed → AcquiresRows ends s' r (q ∷ []) a c
+      acquires_changed c is = subst (λ s. AcquiresRows ends s' r (q ∷ []) a s) (sym is) changed_acquires
 
     -- the row that was acquired last has this payload
-    pub the_last : (r : ℕ) (p q : P) (a b : Seen P) → AcquiresRows ends r (p ∷ []) a b → ¬ (HasRow a.seat.opened r) → IsAmong (r, q) b.seat.opened → q ≡ p
-    the_last r p q a b one new m =
+    pub the_last : (s r : ℕ) (p q : P) (a b : Seen P) → AcquiresRows ends s r (p ∷ []) a b → ¬ (HasRow a.seat.opened r) → IsAmong (r, q) b.seat.opened → q ≡ p
+    the_last s' r p q a b one new m =
         ⊎_elim (λ i. absurd (new (q, i))) (λ e. ap (λ (y : ℕ × P). y.1) e) (among_snoc a.seat.opened (r, q) (r, p) (subst (λ l. IsAmong (r, q) l) (ap (λ s. s.seat.opened) one.tree) m))
 
     -- rows, and then the rows behind them
-    module _ (a b c : Seen P) (r : ℕ) (ps qs : List P) (f : AcquiresRows ends r ps a b) (g : AcquiresRows ends (r + length ps) qs b c) where
-      all_noted : map (λ (e : Event). e.what) (f.events ++ g.events) ≡ acquires r (length (ps ++ qs))
+    module _ (a b c : Seen P) (s' r : ℕ) (ps qs : List P) (f : AcquiresRows ends s' r ps a b) (g : AcquiresRows ends s' (r + length ps) qs b c) where
+      all_noted : map (λ (e : Event). e.what) (f.events ++ g.events) ≡ acquires s' r (length (ps ++ qs))
       all_noted =
-          map-append (λ (e : Event). e.what) f.events g.events ∙ ap (λ l. l ++ map (λ (e : Event). e.what) g.events) f.noted ∙ ap (λ l. acquires r (length ps) ++ l) g.noted
-          ∙ sym (acquires_append r (length ps) (length qs)) ∙ ap (acquires r) (sym (length-append ps qs))
+          map-append (λ (e : Event). e.what) f.events g.events ∙ ap (λ l. l ++ map (λ (e : Event). e.what) g.events) f.noted ∙ ap (λ l. acquires s' r (length ps) ++ l) g.noted
+          ∙ sym (acquires_append s' r (length ps) (length qs)) ∙ ap (acquires s' r) (sym (length-append ps qs))
 
       by_same : (e : Event) → e.by ≡ b.seat.by → e.by ≡ a.seat.by
       by_same e h = h ∙ ap (λ s. s.seat.by) f.tree
@@ -182,7 +185,7 @@ module _ {P : Type 0} where
       all_rise e z i s q t m n is are l = ⊎_elim
           (λ x. ⊎_elim (λ y. f.rise e z i s q t x y is are l) (λ y. let u = g.later z e y (before e (inr x)) in absurd (omega (u, l, arith))) (among_append z f.events g.events n))
           (λ x. ⊎_elim
-          (λ y. let low = (acquired_between g.events (r + length ps) (length qs) g.noted e i s x is).0 in let high = (acquired_between f.events r (length ps) f.noted z q t y are).1 in omega (low, high, arith))
+          (λ y. let low = (acquired_between g.events s' (r + length ps) (length qs) g.noted e i s x is).0 in let high = (acquired_between f.events s' r (length ps) f.noted z q t y are).1 in omega (low, high, arith))
           (λ y. g.rise e z i s q t x y is are l)
           (among_append z f.events g.events n))
           (among_append e f.events g.events m)
@@ -201,7 +204,7 @@ module _ {P : Type 0} where
             λ m. on.1 (back.1 (m.0, λ w. m.1 (w.0, let y = w.1 in omega (l, y, arith))), λ w. m.1 (let x = w.0 in omega (x, arith), let y = w.1 in omega (l, y, arith))),
           )
 
-      pub acquires_then : AcquiresRows ends r (ps ++ qs) a c
+      pub acquires_then : AcquiresRows ends s' r (ps ++ qs) a c
       acquires_then = record {
         events = f.events ++ g.events;
         noted = all_noted;

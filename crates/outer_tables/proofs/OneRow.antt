@@ -22,9 +22,9 @@ use Rattle.outer_tables.proofs.Acquiring.{acquires_changed, acquires_one, the_la
 pub new_readable : (files : Option Files) (n : ℕ) (path : List ℕ) (d : DeviceTold) → d ≡ when_open (new_device files n path) → IsReadable d
 new_readable files n path d e = subst (λ t. IsReadable t) (sym e) (record { is_open = refl; mode = refl; room = omega arith })
 
-module _ {V : Type 0} (told : V → DeviceTold) (ends : V → Exit → Bool → V → Type 0) (a b : Seen V) (r : ℕ) (p d : V) (bs : List Branch) (hs : List AcquiredRow) (kept : Kept a.seat bs hs) (root : IsOpenScope a 0) (empty : IsAmong r a.seat.empty) (acquires : Acquired a 0 r p b) (scopes : KeepsScopes a b) (room : TakesRoom 0 1 a b) (owes : owed b.seat ≡ owed a.seat + 1) (is : p ≡ d) where
-  one : AcquiresRows ends r (p ∷ []) a b
-  one = acquires_one ends a b r p (record { scope = root; row = empty }) acquires scopes room owes
+module _ {V : Type 0} (told : V → DeviceTold) (ends : V → Exit → Bool → V → Type 0) (a b : Seen V) (s r : ℕ) (p d : V) (bs : List Branch) (hs : List AcquiredRow) (kept : Kept a.seat bs hs) (root : IsOpenScope a s) (empty : IsAmong r a.seat.empty) (acquires : Acquired a s r p b) (scopes : KeepsScopes a b) (room : TakesRoom 0 1 a b) (owes : owed b.seat ≡ owed a.seat + 1) (is : p ≡ d) where
+  one : AcquiresRows ends s r (p ∷ []) a b
+  one = acquires_one ends a b s r p (record { scope = root; row = empty }) acquires scopes room owes
 
   new : ¬ (HasRow a.seat.opened r)
   new h = open_taken a.seat bs hs kept r h empty
@@ -34,8 +34,8 @@ module _ {V : Type 0} (told : V → DeviceTold) (ends : V → Exit → Bool → 
 
   -- the row has that device
   pub is_it : (q : V) → IsAmong (r, q) b.seat.opened → q ≡ d
-  is_it q m = the_last ends r p q a b one new m ∙ is
+  is_it q m = the_last ends s r p q a b one new m ∙ is
 
   -- and once it was read, the row was acquired with the device as it is then
-  pub row_read : (c : Seen V) (x : Result (List ℕ) NotRead) → ReadsRow told r b c x → (e : V) × ReadsWhole (told d) (told e) x × AcquiresRows ends r (e ∷ []) a c
-  row_read c x w = (w.after, subst (λ q. ReadsWhole (told q) (told w.after) x) (is_it w.before w.held) w.read, acquires_changed ends a b r p w.after one new c w.tree)
+  pub row_read : (c : Seen V) (x : Result (List ℕ) NotRead) → ReadsRow told r b c x → (e : V) × ReadsWhole (told d) (told e) x × AcquiresRows ends s r (e ∷ []) a c
+  row_read c x w = (w.after, subst (λ q. ReadsWhole (told q) (told w.after) x) (is_it w.before w.held) w.read, acquires_changed ends a b s r p w.after one new c w.tree)

@@ -30,33 +30,33 @@ use Rattle.outer_tables.proofs.Pieces.{gives_some}
 
 module _ {V : Type 0} (told : V → DeviceTold) (ends : V → Exit → Bool → V → Type 0) where
   -- nothing was made
-  pub tries_none : (r : ℕ) (paths : List (List ℕ)) (old new : DepotTold) (a : Seen V) → new ≡ old → TriesTables told ends r paths old new a a (Some why.Memory)
-  tries_none r paths old new a e = record {
+  pub tries_none : (s' r : ℕ) (paths : List (List ℕ)) (old new : DepotTold) (a : Seen V) → new ≡ old → TriesTables told ends s' r paths old new a a (Some why.Memory)
+  tries_none s' r paths old new a e = record {
     devices = [];
     back = [];
     contents = [];
     out = unmade;
     made = record { made = ap (λ d. d.made) e ∙ sym (append-nil old.made); retired = ap (λ d. d.retired) e ∙ sym (append-nil old.retired); files = ap (λ d. d.files) e };
     unknown = tt;
-    rows = acquires_none ends r a;
+    rows = acquires_none ends s' r a;
   }
 
   -- one was made and could not be opened
-  pub tries_closed : (r : ℕ) (path : List ℕ) (old new : DepotTold) (a : Seen V) (w : NotRead) → OpensDevice told path old new (Err w) → TriesTables told ends r (path ∷ []) old new a a (Some w)
-  tries_closed r path old new a (why.Fault f) o = subst (λ c. TriesTables told ends r (path ∷ []) old new a a (Some (why.Fault c))) (sym o.0) (record {
+  pub tries_closed : (s' r : ℕ) (path : List ℕ) (old new : DepotTold) (a : Seen V) (w : NotRead) → OpensDevice told path old new (Err w) → TriesTables told ends s' r (path ∷ []) old new a a (Some w)
+  tries_closed s' r path old new a (why.Fault f) o = subst (λ c. TriesTables told ends s' r (path ∷ []) old new a a (Some (why.Fault c))) (sym o.0) (record {
     devices = [];
     back = _;
     contents = [];
     out = closed;
     made = o.1;
     unknown = tt;
-    rows = acquires_none ends r a;
+    rows = acquires_none ends s' r a;
   })
-  tries_closed r path old new a why.Memory o = tries_none r (path ∷ []) old new a o
+  tries_closed s' r path old new a why.Memory o = tries_none s' r (path ∷ []) old new a o
 
   -- one was opened, and its device is e now
-  module _ (r : ℕ) (path : List ℕ) (old new : DepotTold) (a b : Seen V) (d e : V) (o : OpensDevice told path old new (Ok d)) (rows : AcquiresRows ends r (e ∷ []) a b) where
-    held : {bss : List (List ℕ)} {w : Option NotRead} → (told e).number ≡ (told d).number → ComeOut told old.files (length old.made) (path ∷ []) (e ∷ []) [] bss w → TriesTables told ends r (path ∷ []) old new a b w
+  module _ (s' r : ℕ) (path : List ℕ) (old new : DepotTold) (a b : Seen V) (d e : V) (o : OpensDevice told path old new (Ok d)) (rows : AcquiresRows ends s' r (e ∷ []) a b) where
+    held : {bss : List (List ℕ)} {w : Option NotRead} → (told e).number ≡ (told d).number → ComeOut told old.files (length old.made) (path ∷ []) (e ∷ []) [] bss w → TriesTables told ends s' r (path ∷ []) old new a b w
     held {bss = bss} same c = record {
       devices = e ∷ [];
       back = [];
@@ -68,8 +68,8 @@ module _ {V : Type 0} (told : V → DeviceTold) (ends : V → Exit → Bool → 
     }
 
     -- where a read of it failed, or memory was wanting
-    pub tries_unread : (w : NotRead) → ReadsWhole (told d) (told e) (Err w) → TriesTables told ends r (path ∷ []) old new a b (Some w)
-    tries_unread (why.Fault f) h = subst (λ c. TriesTables told ends r (path ∷ []) old new a b (Some (why.Fault c))) (sym h.0) (held (ap (λ (t : DeviceTold). t.number) h.1) (unread e (subst (λ t. WasRead 1 t (told e)) o.1 h.1)))
+    pub tries_unread : (w : NotRead) → ReadsWhole (told d) (told e) (Err w) → TriesTables told ends s' r (path ∷ []) old new a b (Some w)
+    tries_unread (why.Fault f) h = subst (λ c. TriesTables told ends s' r (path ∷ []) old new a b (Some (why.Fault c))) (sym h.0) (held (ap (λ (t : DeviceTold). t.number) h.1) (unread e (subst (λ t. WasRead 1 t (told e)) o.1 h.1)))
     tries_unread why.Memory h = held (ap (λ (t : DeviceTold). t.number) h) (cut e (subst (λ t. WasRead 0 t (told e)) o.1 h))
 
     -- where it was read whole
@@ -77,22 +77,22 @@ module _ {V : Type 0} (told : V → DeviceTold) (ends : V → Exit → Bool → 
       given : GivesAll (when_open (new_device old.files (length old.made) path)) (told e) bytes
       given = subst (λ t. GivesAll t (told e) bytes) o.1 g
 
-      pub tries_refused : (t : TableRefused) → IsRefusedBy (table_fault bytes) t → TriesTables told ends r (path ∷ []) old new a b (Some (as_not_read t))
+      pub tries_refused : (t : TableRefused) → IsRefusedBy (table_fault bytes) t → TriesTables told ends s' r (path ∷ []) old new a b (Some (as_not_read t))
       tries_refused (refusal.Data f) is = held (ap (λ (t : DeviceTold). t.number) g.gives.told) (refused e bytes f given is)
       tries_refused refusal.Memory is = held (ap (λ (t : DeviceTold). t.number) g.gives.told) (cut e (gives_some _ (told e) bytes given.gives))
 
-      pub reads_table : (x : Dictionary) → table_fault bytes ≡ None → ((key : List ℕ) → get x key ≡ table_value bytes key) → ReadsTable told ends r path old new a b (Ok x)
+      pub reads_table : (x : Dictionary) → table_fault bytes ≡ None → ((key : List ℕ) → get x key ≡ table_value bytes key) → ReadsTable told ends s' r path old new a b (Ok x)
       unfolding held
       reads_table x fine values = record { tries = held (ap (λ (t : DeviceTold). t.number) g.gives.told) (read e given fine none); dict = (bytes, refl, values) }
 
   -- the error that is handed on
-  pub reads_badly : (r : ℕ) (path : List ℕ) (old new : DepotTold) (a b : Seen V) (x : Result Dictionary NotRead) (w : NotRead) → IsErrAnd x (λ z. z ≡ w) → TriesTables told ends r (path ∷ []) old new a b (Some w) → ReadsTable told ends r path old new a b x
-  reads_badly r path old new a b (Ok y) w is t = absurd is
-  reads_badly r path old new a b (Err y) w is t = record { tries = subst (λ z. TriesTables told ends r (path ∷ []) old new a b (Some z)) (sym is) t; dict = tt }
+  pub reads_badly : (s' r : ℕ) (path : List ℕ) (old new : DepotTold) (a b : Seen V) (x : Result Dictionary NotRead) (w : NotRead) → IsErrAnd x (λ z. z ≡ w) → TriesTables told ends s' r (path ∷ []) old new a b (Some w) → ReadsTable told ends s' r path old new a b x
+  reads_badly s' r path old new a b (Ok y) w is t = absurd is
+  reads_badly s' r path old new a b (Err y) w is t = record { tries = subst (λ z. TriesTables told ends s' r (path ∷ []) old new a b (Some z)) (sym is) t; dict = tt }
 
   -- where not all were read, the tables behind are untried
-  pub tries_more : (r : ℕ) (paths rest : List (List ℕ)) (old new : DepotTold) (a b : Seen V) (w : NotRead) → TriesTables told ends r paths old new a b (Some w) → TriesTables told ends r (paths ++ rest) old new a b (Some w)
-  tries_more r paths rest old new a b w t = record {
+  pub tries_more : (s' r : ℕ) (paths rest : List (List ℕ)) (old new : DepotTold) (a b : Seen V) (w : NotRead) → TriesTables told ends s' r paths old new a b (Some w) → TriesTables told ends s' r (paths ++ rest) old new a b (Some w)
+  tries_more s' r paths rest old new a b w t = record {
     devices = t.devices;
     back = t.back;
     contents = t.contents;
@@ -103,7 +103,7 @@ module _ {V : Type 0} (told : V → DeviceTold) (ends : V → Exit → Bool → 
   }
 
   -- where all were read, the tables behind are tried
-  module _ (r : ℕ) (paths qaths : List (List ℕ)) (old mid new : DepotTold) (a b c : Seen V) (w : Option NotRead) (s : ℕ) (behind : s ≡ r + length paths) (f : TriesTables told ends r paths old mid a b None) (g : TriesTables told ends s qaths mid new b c w) where
+  module _ (s' r : ℕ) (paths qaths : List (List ℕ)) (old mid new : DepotTold) (a b c : Seen V) (w : Option NotRead) (s : ℕ) (behind : s ≡ r + length paths) (f : TriesTables told ends s' r paths old mid a b None) (g : TriesTables told ends s' s qaths mid new b c w) where
     opened : length f.devices ≡ length paths
     opened = all_opened f.out
 
@@ -136,7 +136,7 @@ module _ {V : Type 0} (told : V → DeviceTold) (ends : V → Exit → Bool → 
     out_both : ComeOut told old.files (length old.made) (paths ++ qaths) (f.devices ++ g.devices) g.back (f.contents ++ g.contents) w
     out_both = out_then f.out (subst (λ k. ComeOut told old.files k qaths g.devices g.back g.contents w) count (subst (λ s. ComeOut told s (length mid.made) qaths g.devices g.back g.contents w) f.made.files g.out))
 
-    pub tries_then : TriesTables told ends r (paths ++ qaths) old new a c w
+    pub tries_then : TriesTables told ends s' r (paths ++ qaths) old new a c w
     tries_then = record {
       devices = f.devices ++ g.devices;
       back = g.back;
@@ -144,7 +144,7 @@ module _ {V : Type 0} (told : V → DeviceTold) (ends : V → Exit → Bool → 
       out = out_both;
       made = subst (λ l. MakesDevices old new l g.back) (sym tried) makes;
       unknown = each_append (λ d. IsUnknown (told d).number old.retired) f.devices g.devices f.unknown (subst (λ l. AllByRecursion (λ d. IsUnknown (told d).number l) g.devices) kept g.unknown);
-      rows = acquires_then ends a b c r f.devices g.devices f.rows (subst (λ n. AcquiresRows ends n g.devices b c) (behind ∙ ap (λ n. r + n) (sym opened)) g.rows);
+      rows = acquires_then ends a b c s' r f.devices g.devices f.rows (subst (λ n. AcquiresRows ends s' n g.devices b c) (behind ∙ ap (λ n. r + n) (sym opened)) g.rows);
     }
 
     pub contents_then : tries_then.contents ≡ f.contents ++ g.contents

@@ -4,13 +4,21 @@ use Rattle.std.specs.List.{slice_get}
 use Rattle.chunk_core.specs.Tables.{Values}
 use Rattle.chunk_core.specs.declared.code.Code.{Code}
 use Rattle.chunk_core.specs.declared.code.Code.TheVariants as code
-use Rattle.csv_pipes.specs.Dictionaries.{table_fault, table_value}
+use Rattle.std.specs.FinMap.{get}
+use Rattle.csv_pipes.specs.Dictionaries.{Dictionary, table_fault, table_value}
 use Rattle.device_port.specs.Device.{DeviceTold}
 use Rattle.device_port.specs.Depot.{Files}
 use Rattle.outer_tables.specs.declared.not_read.NotRead.{NotRead}
 use Rattle.outer_tables.specs.declared.not_read.NotRead.TheVariants as why
 use Rattle.outer_tables.specs.Devices.{new_device, unopened, when_open}
 use Rattle.outer_tables.specs.Whole.{GivesAll, WasRead}
+
+-- each dictionary has the values of one content, in order
+abbrev pub AreOf : List Dictionary → List (List ℕ) → Type 0
+AreOf [] [] = Unit {0}
+AreOf (d ∷ ds) (bytes ∷ bss) = ((key : List ℕ) → get d key ≡ table_value bytes key) × AreOf ds bss
+AreOf [] (bytes ∷ bss) = ⊥
+AreOf (d ∷ ds) [] = ⊥
 
 -- the values of tables with these contents, by number
 abbrev pub values_in : List (List ℕ) → Values

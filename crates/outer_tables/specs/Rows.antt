@@ -14,9 +14,9 @@ use Rattle.tree_laws.specs.Called.{Called}
 use Rattle.outer_tables.specs.declared.not_read.NotRead.{NotRead}
 use Rattle.outer_tables.specs.Whole.{ReadsWhole}
 
--- so many rows are acquired in the root, from the row r on
-abbrev pub acquires : ℕ → ℕ → List What
-acquires r n = map (λ q. Acquire q 0) (run r n)
+-- so many rows are acquired in the scope s, from the row r on
+abbrev pub acquires : ℕ → ℕ → ℕ → List What
+acquires s r n = map (λ q. Acquire q s) (run r n)
 
 -- each of these events has a greater stamp than each of those
 abbrev pub AreLater : List Event → List Event → Type 0
@@ -32,10 +32,10 @@ module _ {P : Type 0} where
   rows_from r [] = []
   rows_from r (p ∷ ps) = (r, p) ∷ rows_from (suc r) ps
 
-  -- The rows from r on were acquired in the root with these payloads, by calls of the tree. Their Acquires were noted in order, behind all that was noted before, and they are empty no more.
-  pub record AcquiresRows (ends : P → Exit → Bool → P → Type 0) (r : ℕ) (ps : List P) (a b : Seen P) : Type 0 where
+  -- The rows from r on were acquired in the scope s with these payloads, by calls of the tree. Their Acquires were noted in order, behind all that was noted before, and they are empty no more.
+  pub record AcquiresRows (ends : P → Exit → Bool → P → Type 0) (s r : ℕ) (ps : List P) (a b : Seen P) : Type 0 where
     pub events : List Event
-    pub noted : map (λ e. e.what) events ≡ acquires r (length ps)
+    pub noted : map (λ e. e.what) events ≡ acquires s r (length ps)
     pub own : AllByRecursion (λ e. e.by ≡ a.seat.by) events
     pub later : AreLater events a.seat.events
     pub rise : AcquireUpwards events

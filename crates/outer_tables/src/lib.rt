@@ -1,9 +1,9 @@
 //! The tables of a plan, which the outer stream reads before it gives a stream.
 //!
 //! `read_tables` has the depot make a device for each table, in order. It opens the device, acquires it
-//! as the next row in the root of the main tree, reads it whole, and makes a dictionary of what it
-//! holds, before the next device is made. So the rows of the tables are the first ones, and a lease of
-//! the root keeps them for a stream.
+//! as the next row, from the first one that it is told, in an open scope of the main tree, reads it
+//! whole, and puts a dictionary of what it holds behind those that are there, before the next device is
+//! made. So a lease of that scope keeps the tables for a stream.
 //!
 //! A table that isn't read is the last that is tried. `NotRead::Fault` has the code: of a device that
 //! can't be opened, which goes back to the depot at once; of a read that fails; or of what the table
@@ -18,9 +18,10 @@
 //!
 //! ```
 //! let mut tree = begin(seat, room);
-//! let read = read_tables(alloc, &mut tree, desk, tables, depot);
+//! let mut dicts = Dicts::new(alloc);
+//! let read = read_tables(alloc, &mut tree, desk, 0, 0, tables, &mut dicts, depot);
 //! let exit = match read {
-//!     Ok(_) => Exit::Succeeded,
+//!     Ok(()) => Exit::Succeeded,
 //!     Err(NotRead::Fault(_)) => Exit::Errored,
 //!     Err(NotRead::Memory) => Exit::Canceled,
 //! };

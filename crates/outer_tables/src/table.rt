@@ -35,26 +35,27 @@ fn read_row<V: Device, S: RowSeat<Pay = Held<V>>>(
     read_whole(alloc, tree.pay_mut(row).device_mut())
 }
 
-/// Opens the table at a path, acquires it as this row in the root, and reads it.
+/// Opens the table at a path, acquires it as this row in an open scope, and reads it.
 pub(crate) fn read_table<D: Depot, S: RowSeat<Pay = Held<D::Dev>>>(
     alloc: Global,
     tree: &mut Tree<S>,
     desk: &mut S::Desk,
+    scope: u32,
     row: u32,
     path: &Word,
     depot: &mut D,
 ) -> Result<Dict, NotRead>
     requires fits { Fits S.view S.fits tree.old desk.old }
-    requires root { IsOpenScope (seen S.view tree.old) 0 }
+    requires scope { IsOpenScope (seen S.view tree.old) scope }
     requires row { IsAmong row (seen S.view tree.old).seat.empty }
     requires room { used (seen S.view tree.old) + 1 ≤ (seen S.view tree.old).rows }
     requires free { owed (seen S.view tree.old).seat + 2 ≤ (seen S.view tree.old).seat.spare }
-    ensures reads { ReadsTable D.Dev.Device.told (FinishesDevice D.Dev.Device.told) row path.now (D.told depot.old) (D.told depot.new) (seen S.view tree.old) (seen S.view tree.new) result }
+    ensures reads { ReadsTable D.Dev.Device.told (FinishesDevice D.Dev.Device.told) scope row path.now (D.told depot.old) (D.told depot.new) (seen S.view tree.old) (seen S.view tree.new) result }
     ensures fits { Fits S.view S.fits tree.new desk.new }
     ensures others { OthersFit S.view S.fits (seen S.view tree.old).seat.by desk.old desk.new }
 {
     let device = open_device(alloc, path, depot)?;
-    tree.acquired(desk, 0, row, Held::new(device));
+    tree.acquired(desk, scope, row, Held::new(device));
     let bytes = read_row(alloc, tree, row)?;
     let dict = table_of(alloc, bytes.as_slice())?;
     Ok(dict)

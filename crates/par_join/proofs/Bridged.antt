@@ -12,7 +12,8 @@ use Rattle.chunk_core.specs.declared.code.How.TheVariants as how
 use Rattle.chunk_core.proofs.Members.{among_cons, among_nil}
 use Rattle.collector.specs.declared.collector.Collector.{Collector}
 use Rattle.collector.specs.Collecting as collecting
-use Rattle.dealt_streams.specs.Tables.{EndsRead, IsStoppedBy}
+use Rattle.outer_stream.specs.Tables.{EndsRead, IsStoppedBy}
+use Rattle.collector.proofs.Tree.{idle}
 use Rattle.collector.specs.Collecting.{IsCollecting}
 use Rattle.device_port.specs.Device.{DeviceTold}
 use Rattle.device_port.specs.Depot.{DepotTold}
@@ -123,18 +124,23 @@ module _ {S V F D T : Type 0} (view : S → View V) (told : V → DeviceTold) (f
           parts = i.parts;
           progress = i.progress;
           mid = i.mid;
-          o = i.o;
+          o = i.stands.o;
           main = i.tree.main;
           next = i.tree.next_is;
           waits = i.tree.waits_are ∙ ap (map collecting.waiting_of) none_waits;
           root = root;
           shut = rests.0;
           once = rests.1;
-          tables = i.tables;
-          read = i.read;
-          ended = λ e. subst (λ l. EndsRead p l outer) (sym i.tree.leased_is) (subst (λ q. IfSome q (EndsRead p c.leased)) o.1 (i.ended e));
-          nobody = λ e. let n = i.nobody e in (n.0, some_how outer how.Halted (sym o.1 ∙ n.1));
-          unread = λ n. let u = i.unread n in (u.1, subst (λ x. IsStoppedBy told p i.o (length i.tables.devices + length i.tables.back) i.tale.memory x) (some_how u.2.0 outer (sym u.2.1 ∙ o.1)) u.2.2);
+          tables = i.stands.tables;
+          read = i.stands.read;
+          ended = λ e. subst (λ l. EndsRead p l outer) (sym i.tree.leased_is) (subst (λ q. IfSome q (EndsRead p c.outer_stream.leased)) o.1 (i.stands.ended e));
+          nobody = λ e. let n = i.stands.nobody e in (n.0, some_how outer how.Halted (sym o.1 ∙ n.1));
+          unread = λ n.
+              let u = i.stands.unread n in
+              let tried = length i.stands.tables.devices + length i.stands.tables.back in (
+                (idle told p 1 (seen view c.tree) c.outer c.outer_stream c.waiting.items i.parts i.progress i.tree u.0).0,
+                ⊎_elim (λ y. let z : None ≡ Some outer = sym y.open_still ∙ o.1 in cc) (λ y. subst (λ x. IsStoppedBy told p i.stands.o tried i.tale.memory x) (some_how y.0 outer (sym y.1 ∙ o.1)) y.2) u.1,
+              );
           dealt = i.dealt;
           streams = record {
             begun = i.streams.begun;

@@ -85,7 +85,7 @@ where
     match JoinRoom::<S, D::Dev, F>::new(alloc, plan) {
         Ok(streams) => {
             let RunRoom { seat, scopes } = room;
-            let mut collector = Collector::new(begin(seat, scopes), streams);
+            let mut collector = Collector::new(alloc, begin(seat, scopes), streams);
             run_lending(rt, alloc, &mut collector, desk, plan, depot, out, gate);
             end_run(collector, desk, depot)
         }

@@ -59,7 +59,7 @@ where
 {
     let mut job = job;
     let mut desk = desk;
-    let pause = Pause::new();
+    let mut pause = Pause::new();
     'turns: for _ in rt.forever() {
         if job.is_over() {
             return job;

@@ -24,7 +24,7 @@ use std::test::Fail;
 /// What became of the tables of a run that gives no stream.
 #[derive(Drop)]
 struct Told<V> {
-    read: Result<Dicts, NotRead>,
+    read: Result<(), NotRead>,
     ledger: Ledger,
     rows: List<Spent<Held<V>>>,
 }
@@ -41,12 +41,14 @@ fn read_and_end<D: Depot, S: RowSeat<Pay = Held<D::Dev>>>(
     requires fits { S.fits seat desk.old }
     requires start { S.view seat ≡ start Outer (length tables.now) (2 * length tables.now + 1) (S.view seat).splits }
     requires room { length tables.now ≤ row_room room }
+    requires few { length tables.now < 2 ^ 32 }
     ensures { IsWholeLedger result.ledger }
 {
     let mut tree = begin(seat, room);
-    let read = read_tables(alloc, &mut tree, desk, tables, depot);
+    let mut dicts = Dicts::new(alloc);
+    let read = read_tables(alloc, &mut tree, desk, 0, 0, tables, &mut dicts, depot);
     let exit = match read {
-        Ok(_) => Exit::Succeeded,
+        Ok(()) => Exit::Succeeded,
         Err(NotRead::Fault(_)) => Exit::Errored,
         Err(NotRead::Memory) => Exit::Canceled,
     };
@@ -114,7 +116,7 @@ fn depot(alloc: Global, t: &[u8], u: &[u8], fails: bool) -> Result<MemDepot, All
 /// Why the tables weren't read, if they weren't.
 fn why_not(told: &Told<MemDevice>) -> Option<NotRead> {
     match told.read {
-        Ok(_) => None,
+        Ok(()) => None,
         Err(why) => Some(why),
     }
 }

@@ -1,4 +1,5 @@
 use Rattle.scope_tree.specs.Trees.{seen}
+use Rattle.join_tree.proofs.Children.{joined_room}
 use Rattle.join_tree.proofs.Outs.{outs_take_in}
 use Rattle.join_tree.proofs.Passing.{can_take_in, main_takes_in}
 use Rattle.join_tree.proofs.guests.take_in.Goals as goal
@@ -20,3 +21,6 @@ returns-clause-out g c ms k gs y o visit is =
     let v = g.S.RowSeat.view c.args.seat in
     let e = c.join.ensures in
     outs_take_in b (seen g.S.RowSeat.view c.join.new.self) y v ms k gs (can_take_in b m.4 v m.2 m.3 m.5 m.6 m.7 m.8 c.requires.rest) e.apart e.seen visit is o
+
+pub returns-clause-room : goal.returns-clause-room
+returns-clause-room g c = joined_room (seen g.S.RowSeat.view c.args.tree.now) (seen g.S.RowSeat.view c.join.new.self) (g.S.RowSeat.view c.args.seat) c.join.ensures.apart c.join.ensures.seen

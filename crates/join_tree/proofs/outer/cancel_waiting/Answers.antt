@@ -1,4 +1,5 @@
-use Rattle.std.proofs.Common.{arith}
+use Rattle.std.proofs.Common.{◌≡◌, subst, arith}
+use Rattle.scope_tree.specs.Calls.{TakesRoom}
 use Rattle.chunk_core.specs.declared.code.Exit.TheVariants.{Canceled}
 use Rattle.scope_tree.specs.Trees.{seen}
 use Rattle.join_tree.proofs.Growing.{main_cancels, main_may_cancel}
@@ -28,3 +29,11 @@ returns-clause-guests g c =
 
 pub returns-clause-rows : goal.returns-clause-rows
 returns-clause-rows g c = cancel_pays (seen g.S.RowSeat.view c.args.tree.now) (seen g.S.RowSeat.view c.cancel.new.self) c.args.lease.stream c.args.lease.rows.items Canceled c.requires.fits.sound.kept.holds.once c.cancel.ensures.cancels
+
+pub returns-clause-room : goal.returns-clause-room
+returns-clause-room g c =
+    let m = c.requires.main in
+    let n = main_no_strangers (seen g.S.RowSeat.view c.args.tree.now) m.2 m.3 c.args.lease.stream c.args.lease.rows.items m.4 m.5 in
+    let r = c.cancel.ensures.room in
+    let l = r.1 in
+    subst (λ k. TakesRoom 0 k (seen g.S.RowSeat.view c.args.tree.now) (seen g.S.RowSeat.view c.cancel.new.self)) (let e : r.0 ≡ 0 = omega (l, n, arith) in e) r.2

@@ -1,5 +1,5 @@
 use Rattle.scope_tree.specs.Trees.{seen}
-use Rattle.join_tree.proofs.Growing.{main_closes}
+use Rattle.join_tree.proofs.Growing.{main_closes, root_open}
 use Rattle.join_tree.proofs.Keeping.{keeps_closes}
 use Rattle.join_tree.proofs.Paying.{close_pays}
 use Rattle.join_tree.proofs.outer.close_outer.Goals as goal
@@ -10,7 +10,7 @@ returns-clause-main g c width n p h root = main_closes (seen g.S.RowSeat.view c.
 pub returns-clause-guests : goal.returns-clause-guests
 returns-clause-guests g c =
     let m = c.requires.main in
-    keeps_closes (seen g.S.RowSeat.view c.args.tree.now) (seen g.S.RowSeat.view c.close.new.self) m.2 c.args.exit m.3 m.4 c.close.ensures.closes
+    keeps_closes (seen g.S.RowSeat.view c.args.tree.now) (seen g.S.RowSeat.view c.close.new.self) 0 c.args.exit (root_open m.3 m.4) c.close.ensures.closes
 
 pub returns-clause-rows : goal.returns-clause-rows
 returns-clause-rows g c = close_pays (seen g.S.RowSeat.view c.args.tree.now) (seen g.S.RowSeat.view c.close.new.self) 0 c.args.exit c.requires.fits.sound.kept.holds.once c.close.ensures.closes

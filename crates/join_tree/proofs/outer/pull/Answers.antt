@@ -3,7 +3,7 @@ use Rattle.chunk_core.specs.declared.code.Exit.TheVariants.{Succeeded}
 use Rattle.scope_tree.specs.Calls.{Leases}
 use Rattle.tree_laws.specs.Called.{MayLease}
 use Rattle.scope_tree.specs.Trees.{seen}
-use Rattle.join_tree.proofs.Growing.{main_closes, main_leases, main_main, main_may_lease}
+use Rattle.join_tree.proofs.Growing.{main_closes, main_leases, main_main, main_may_lease, root_open}
 use Rattle.join_tree.proofs.Keeping.{keeps_closes, keeps_leases, leased_tables, leases_take}
 use Rattle.join_tree.proofs.Paying.{close_pays, lease_pays}
 use Rattle.join_tree.proofs.outer.pull.Goals as goal
@@ -14,7 +14,7 @@ lease-requires-clause-main g c = main_main c.requires.main.2
 pub lease-requires-clause-stream : goal.lease-requires-clause-stream
 lease-requires-clause-stream g c =
     let m = c.requires.main in
-    let a = subst (λ k. MayLease (seen g.S.RowSeat.view c.args.tree.now) 0 k) m.4 (main_may_lease m.2 m.3) in (a.other, a.new, a.unleased)
+    let a = subst (λ k. MayLease (seen g.S.RowSeat.view c.args.tree.now) 0 k) m.4 (main_may_lease m.2 (root_open m.2 m.3)) in (a.other, a.new, a.unleased)
 
 pub returns-in_ok-lease-clause-pulls : goal.returns-in_ok-lease-clause-pulls
 returns-in_ok-lease-clause-pulls g c width p h root same fits =
@@ -24,7 +24,7 @@ returns-in_ok-lease-clause-pulls g c width p h root same fits =
     let o = c.in_ok-lease.ensures.ok in
     let l = subst (λ k. Leases b 0 k T d) (sym same) o.1 in
     let less = subst (λ k. k < c.args.streams) (sym same) c.if-leased-streams.true in
-    (less, o.0 ∙ sym same, l.covered, leased_tables b d p T h l, main_leases b d p T h root less fits l c.in_ok-lease.ensures.scopes)
+    (less, o.0 ∙ sym same, l.covered, leased_tables b d p 0 T h l, main_leases b d p 0 T h root less fits (root_open h root) l c.in_ok-lease.ensures.scopes)
 
 pub returns-in_ok-lease-clause-guests : goal.returns-in_ok-lease-clause-guests
 returns-in_ok-lease-clause-guests g c =
@@ -32,7 +32,7 @@ returns-in_ok-lease-clause-guests g c =
     let b = seen g.S.RowSeat.view c.args.tree.now in
     let d = seen g.S.RowSeat.view c.lease.new.self in
     let T = c.in_ok-lease.lease.rows.items in
-    keeps_leases b d m.1 T m.2 m.3 (subst (λ k. Leases b 0 k T d) (sym m.4) c.in_ok-lease.ensures.ok.1)
+    keeps_leases b d m.1 0 T m.2 (root_open m.2 m.3) (subst (λ k. Leases b 0 k T d) (sym m.4) c.in_ok-lease.ensures.ok.1)
 
 pub returns-in_ok-lease-clause-events : goal.returns-in_ok-lease-clause-events
 returns-in_ok-lease-clause-events g c = leases_take g.S.Pay.Finish.ends (seen g.S.RowSeat.view c.args.tree.now) (seen g.S.RowSeat.view c.lease.new.self) 0 c.args.leased c.in_ok-lease.lease.rows.items c.in_ok-lease.ensures.ok.1
@@ -46,7 +46,7 @@ returns-else-leased-streams-clause-pulls g c width p h root same fits =
 pub returns-else-leased-streams-clause-guests : goal.returns-else-leased-streams-clause-guests
 returns-else-leased-streams-clause-guests g c =
     let m = c.requires.main in
-    keeps_closes (seen g.S.RowSeat.view c.args.tree.now) (seen g.S.RowSeat.view c.close.new.self) m.1 Succeeded m.2 m.3 c.close.ensures.closes
+    keeps_closes (seen g.S.RowSeat.view c.args.tree.now) (seen g.S.RowSeat.view c.close.new.self) 0 Succeeded (root_open m.2 m.3) c.close.ensures.closes
 
 pub returns-in_ok-lease-clause-rows : goal.returns-in_ok-lease-clause-rows
 returns-in_ok-lease-clause-rows g c = lease_pays (seen g.S.RowSeat.view c.args.tree.now) (seen g.S.RowSeat.view c.lease.new.self) 0 c.args.leased c.in_ok-lease.lease.rows.items c.in_ok-lease.ensures.ok.1

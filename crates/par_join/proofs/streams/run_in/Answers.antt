@@ -21,7 +21,7 @@ run_lending-requires-clause-fresh g c κs within =
       rows = (let n = b.room.1 in let m = r.rows in omega (arith, n, m));
       used = b.used;
       outer = refl;
-      leased = refl;
+      given = refl;
       next = refl;
       room = c.in-Ok.ensures;
     })

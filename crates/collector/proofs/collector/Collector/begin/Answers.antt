@@ -21,7 +21,7 @@ use Rattle.scope_tree.specs.Trees.{seen}
 use Rattle.collector.specs.Collecting.{IsCollecting, IsCollectingWith, guest_of, waiting_of}
 use Rattle.tree_laws.specs.Visits.{IsNewGuest}
 use Rattle.dealt_streams.specs.Parts.{MakesUnmade}
-use Rattle.dealt_streams.specs.Tables.{bare_work}
+use Rattle.dealt_streams.specs.Works.{bare_work}
 use Rattle.collector.specs.Starting.{with_seats_out}
 use Rattle.collector.specs.declared.collector.Collector.{Collector}
 use Rattle.collector.proofs.Beginning.{events_are, has_room}
@@ -38,7 +38,7 @@ split_off-requires-clause-main g c =
     let k = c.requires.collecting.5 in
     let T = c.args.lease.rows.items in
     let us = map waiting_of a.waiting.items in
-    let n = next_is g.V.Device.told c.args.plan.now 2 (seen g.S.RowSeat.view a.tree) a.outer a.leased c.args.lease a.waiting.items k.parts k.progress k.tree in
+    let n = next_is g.V.Device.told c.args.plan.now 2 (seen g.S.RowSeat.view a.tree) a.outer a.outer_stream c.args.lease a.waiting.items k.parts k.progress k.tree in
     (c.args.plan.now.max_open, length c.args.plan.now.streams, k.progress, T, us, k.tree.main, k.tree.waits_are ∙ ap (λ i. (i, T) ∷ us) (n ∙ sym k.next))
 
 pub split_off-requires-clause-rows : goal.split_off-requires-clause-rows
@@ -46,13 +46,13 @@ split_off-requires-clause-rows g c r w =
     let a = c.args.self.now in
     let p = c.args.plan.now in
     let k = c.requires.collecting.5 in
-    split_rows g.V.Device.told p 2 (seen g.S.RowSeat.view a.tree) a.outer a.leased c.args.lease a.waiting.items k.parts k.progress k.tree r (subst (λ (s : Span). IsWithin s.from s.to r) (c.rows.ensures ∙ ap (rows_of p) k.next) w)
+    split_rows g.V.Device.told p 2 (seen g.S.RowSeat.view a.tree) a.outer a.outer_stream c.args.lease a.waiting.items k.parts k.progress k.tree r (subst (λ (s : Span). IsWithin s.from s.to r) (c.rows.ensures ∙ ap (rows_of p) k.next) w)
 
 pub split_off-requires-clause-splits : goal.split_off-requires-clause-splits
 split_off-requires-clause-splits g c =
     let a = c.args.self.now in
     let k = c.requires.collecting.5 in
-    split_room g.V.Device.told c.args.plan.now 2 (seen g.S.RowSeat.view a.tree) a.outer a.leased c.args.lease a.waiting.items k.parts k.progress k.tree
+    split_room g.V.Device.told c.args.plan.now 2 (seen g.S.RowSeat.view a.tree) a.outer a.outer_stream c.args.lease a.waiting.items k.parts k.progress k.tree
 
 pub split_off-requires-clause-some : goal.split_off-requires-clause-some
 split_off-requires-clause-some g c =
@@ -71,7 +71,7 @@ split_off-requires-clause-free g c =
     let k = r.5 in
     let b = below g.S.RowSeat.view g.V.Device.told g.S.RowSeat.fits g.F.PipeState.values (standing g.F.Feed.stands g.F.Feed.comes) p r.0 r.1 (g.F.PipeState.values c.args.made.tables) 2 c.args.lease a.waiting.items a.jobs.items a.receiver r.2 r.4 c.args.desk.now a k in
     let s = events_are p a.next c.events.result b c.events.ensures in
-    let f = split_free g.V.Device.told p 2 (seen g.S.RowSeat.view a.tree) a.outer a.leased c.args.lease a.waiting.items k.parts k.progress k.tree s.0 (subst (λ i. slice_get p.streams i ≡ Some s.0) k.next s.1) in
+    let f = split_free g.V.Device.told p 2 (seen g.S.RowSeat.view a.tree) a.outer a.outer_stream c.args.lease a.waiting.items k.parts k.progress k.tree s.0 (subst (λ i. slice_get p.streams i ≡ Some s.0) k.next s.1) in
     let e = s.2 in
     omega (arith, e, f)
 
@@ -115,7 +115,7 @@ pub job_of-job-requires-clause-lease : goal.job_of-job-requires-clause-lease
 job_of-job-requires-clause-lease g c κs within =
     let a = c.args.self.now in
     let k = c.requires.collecting.5 in
-    next_is g.V.Device.told c.args.plan.now 2 (seen g.S.RowSeat.view a.tree) a.outer a.leased c.args.lease a.waiting.items k.parts k.progress k.tree ∙ sym k.next
+    next_is g.V.Device.told c.args.plan.now 2 (seen g.S.RowSeat.view a.tree) a.outer a.outer_stream c.args.lease a.waiting.items k.parts k.progress k.tree ∙ sym k.next
 
 pub job_of-job-requires-clause-guest : goal.job_of-job-requires-clause-guest
 job_of-job-requires-clause-guest g c κs within =
@@ -124,7 +124,7 @@ job_of-job-requires-clause-guest g c κs within =
     let k = c.requires.collecting.5 in
     let T = c.args.lease.rows.items in
     let us = map waiting_of a.waiting.items in
-    let n = next_is g.V.Device.told p 2 (seen g.S.RowSeat.view a.tree) a.outer a.leased c.args.lease a.waiting.items k.parts k.progress k.tree in
+    let n = next_is g.V.Device.told p 2 (seen g.S.RowSeat.view a.tree) a.outer a.outer_stream c.args.lease a.waiting.items k.parts k.progress k.tree in
     let guest = c.in-Ok.ensures.guest p.max_open (length p.streams) k.progress T us k.tree.main (k.tree.waits_are ∙ ap (λ i. (i, T) ∷ us) (n ∙ sym k.next)) in
     subst (λ i. IsNewGuest (g.S.RowSeat.view c.in-Ok.seat) a.next i T) (sym guest.floor) guest
 
@@ -201,7 +201,7 @@ returns-in-Ok g c = record {
       let e = c.in-Ok.ensures in
       let b = below view told fits values P p d0 s0 t 2 l ws js a.receiver before sink c.args.desk.now a k in
       let s = events_are p a.next c.events.result b c.events.ensures in
-      let n = next_is told p 2 (seen view a.tree) a.outer a.leased l ws k.parts k.progress k.tree in
+      let n = next_is told p 2 (seen view a.tree) a.outer a.outer_stream l ws k.parts k.progress k.tree in
       let is : a.next ≡ l.stream = k.next ∙ sym n in
       let waits = k.tree.waits_are ∙ ap (λ i. (i, T) ∷ us) (sym is) in
       let guest = e.guest p.max_open (length p.streams) k.progress T us k.tree.main waits in
@@ -211,7 +211,7 @@ returns-in-Ok g c = record {
       let jobs = c.push_back_reserved.new.self in
       let z : Collector _ _ _ _ _ = record a { tree = tree; jobs = jobs } in
       let outs = few_out view told fits values P p d0 s0 t 2 (l ∷ ws) js a.receiver before sink c.args.desk.now a k in
-      let ready = ready_so told p 2 (seen view a.tree) a.outer a.leased l ws k.parts k.progress k.tree (length js) outs c.requires.few c.requires.ahead (λ h is. outer_done (bare_work p) k.tale k.telling.is_tale (unknown_is k.tale a.stops 0 k.telling.known c.requires.may.0) h (k.telling.outer_is ∙ is)) in
+      let ready = ready_so told p 2 (seen view a.tree) a.outer a.outer_stream l ws k.parts k.progress k.tree (length js) outs c.requires.few c.requires.ahead (λ h is. outer_done (bare_work p) k.tale k.telling.is_tale (unknown_is k.tale a.stops 0 k.telling.known c.requires.may.0) h (k.telling.outer_is ∙ is)) in
       let main = subst (λ i. IsMain (FinishesDevice told) p.max_open (length p.streams) (seen view tree) (splitting k.progress (view a.tree.seat) i us)) is (e.main p.max_open (length p.streams) k.progress T us k.tree.main waits ready) in
       let split = e.seen ∙ (ap (λ i. split_at (seen view a.tree) i c.rows.result.from c.rows.result.to c.events.result) is
       ∙ (ap (λ (r : Span). split_at (seen view a.tree) l.stream r.from r.to c.events.result) (c.rows.ensures ∙ ap (rows_of p) k.next) ∙ ap (λ m. split_at (seen view a.tree) l.stream (rows_of p (length k.parts)).from (rows_of p (length k.parts)).to m) s.2)) in

@@ -13,7 +13,7 @@ pub pass_over-requires-clause-free : goal.pass_over-requires-clause-free
 pass_over-requires-clause-free g c =
     let a = c.args.self.now in
     let k = c.requires.collecting.5 in
-    cancel_free g.V.Device.told c.args.plan.now 2 (seen g.S.RowSeat.view a.tree) a.outer a.leased c.args.lease a.waiting.items k.parts k.progress k.tree
+    cancel_free g.V.Device.told c.args.plan.now 2 (seen g.S.RowSeat.view a.tree) a.outer a.outer_stream c.args.lease a.waiting.items k.parts k.progress k.tree
 
 pub miss-requires : goal.miss-requires
 miss-requires g c =

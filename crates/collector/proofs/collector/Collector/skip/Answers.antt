@@ -16,7 +16,7 @@ pass_over-requires-clause-free g c =
     let r = c.requires.collecting in
     let a = c.args.self.now in
     let k = popped view told g.S.RowSeat.fits g.F.PipeState.values P r.0 r.1 r.2 r.3 1 c.in-Some.lease a.jobs.items a.receiver r.4 r.5 c.args.desk.now a (record a { waiting = c.pop_front.new.self }) r.7 c.in-Some.ensures.items c.pop_front.ensures.capacity in
-    cancel_free told r.0 1 (seen view a.tree) a.outer a.leased c.in-Some.lease c.pop_front.new.self.items k.parts k.progress k.tree
+    cancel_free told r.0 1 (seen view a.tree) a.outer a.outer_stream c.in-Some.lease c.pop_front.new.self.items k.parts k.progress k.tree
 
 pub returns-in-Some-clause-collecting : goal.returns-in-Some-clause-collecting
 returns-in-Some-clause-collecting g c p d0 s0 t depot sink sound h =
