@@ -8,6 +8,8 @@ mod asserts;
 #[cfg(test)]
 mod audit_run_page;
 #[cfg(test)]
+mod chain_pipes_page;
+#[cfg(test)]
 mod chunk_core_page;
 #[cfg(test)]
 mod command_words_page;
@@ -29,6 +31,8 @@ mod pipeline_desc_page;
 mod pull_nodes_page;
 #[cfg(test)]
 mod source_input_page;
+#[cfg(test)]
+mod step_words_page;
 #[cfg(test)]
 mod stream_ops_page;
 #[cfg(test)]
