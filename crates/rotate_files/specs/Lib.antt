@@ -1,0 +1,6 @@
+pub mod Acts
+pub mod Told
+pub mod Rotating
+pub mod Stops
+pub mod Copies
+pub mod Beginning
