@@ -13,7 +13,7 @@ read_tables-read-requires-clause-main g c = let none = none_done g.row.D-Dev.Den
 pub read_tables-read-requires-clause-rows : goal.read_tables-read-requires-clause-rows
 read_tables-read-requires-clause-rows g c r h =
     let n = length c.args.tables.now in
-    subst (λ l. IsAmong r l) (sym (ap (λ v. v.empty) (c.begin-tree.ensures.seat ∙ c.requires.start))) (among_run r 0 n (omega arith) (let e : r < 0 + n = omega (h, arith) in e))
+    subst (λ l. IsAmong (0 + r) l) (sym (ap (λ v. v.empty) (c.begin-tree.ensures.seat ∙ c.requires.start))) (among_run (0 + r) 0 n (omega arith) (let e : 0 + r < 0 + n = omega (h, arith) in e))
 
 pub close_outer-requires-clause-main : goal.close_outer-requires-clause-main
 close_outer-requires-clause-main g c =
