@@ -1,6 +1,6 @@
 //! Files of so many bytes each, written one after the other over a `Hotswap`.
 //!
-//! `begin` puts the open file that is read in row 0 of a tree, with room for all. `copy` reads it to its end and writes the
+//! `begin` acquires the open file that is read as row 0, over a tree with room for all. `copy` reads it to its end and writes the
 //! bytes on to the last file of the `Rotation`, and where that is full makes the next one, opens it and swaps it in; `end`
 //! closes all. `copy` stops (`Stop`) where a read or a write fails, a file can't be opened, there would be one file too many,
 //! or memory is wanting, and its contract tells where: which bytes were given, and what each file was written. Nothing here
