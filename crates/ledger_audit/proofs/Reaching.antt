@@ -34,15 +34,6 @@ pub take_front : {A : Type 0} (xs ys : List A) → take (length xs) (xs ++ ys) �
 take_front [] ys = refl
 take_front (x ∷ xs) ys = ap (λ l. x ∷ l) (take_front xs ys)
 
-pub same_lease : (P : List Event) (i j h s t : ℕ) (k q : StreamNo) → NotesAt P i k (Lease j s) → NotesAt P i q (Lease h t) → (j ≡ h) × (s ≡ t) × (k ≡ q)
-same_lease P i j h s t k q a b =
-    let w : Some a.0 ≡ Some b.0 = sym a.1 ∙ b.1 in
-    let e : a.0 ≡ b.0 = cc in
-    let v : Lease j s ≡ Lease h t = sym a.3 ∙ ap (λ x. x.what) e ∙ b.3 in
-    let x : j ≡ h = cc in
-    let y : s ≡ t = cc in
-    (x, y, sym a.2 ∙ ap (λ z. z.by) e ∙ b.2)
-
 -- where a place splits a list
 pub place_split : (L : List Event) (i : ℕ) (e : Event) → slice_get L i ≡ Some e → (B : List Event) × (L ≡ take i L ++ e ∷ B) × (i < length L)
 place_split L i e h =

@@ -1,7 +1,8 @@
 use Rattle.std.proofs.Common.{sym, ◌∙◌, subst, arith}
 use Rattle.std.proofs.lemmas.Bool.{false≢true}
 use Rattle.ledger_books.specs.Keyed.{CoversAt}
-use Rattle.ledger_audit.proofs.Reaching.{same_lease, not_acquired, too_late, not_covered, is_reached}
+use Rattle.ledger_books.proofs.Walking.{same_lease}
+use Rattle.ledger_audit.proofs.Reaching.{not_acquired, too_late, not_covered, is_reached}
 use Rattle.ledger_audit.proofs.marks.reached.Goals as goal
 
 pub returns-in_default : goal.returns-in_default
