@@ -1,7 +1,8 @@
 //! The calls below the top call: each once with ample memory.
+use cat_run::run_cat;
 use chunk_core::Word;
 use device_port::Failed;
-use par_join::{put_frame, run_cat};
+use frames::put_frame;
 use std::test::Fail;
 use worked_calls::outside::{cat_of, depot_of, filled, sink_of};
 
