@@ -12,7 +12,7 @@ use Rattle.row_seat.specs.Views.{without_row}
 use Rattle.scope_tree.specs.declared.branch.Spent.{Spent}
 use Rattle.scope_tree.specs.Calls.{Seen}
 use Rattle.scope_tree.specs.Released.{said}
-use Rattle.scope_tree.specs.Trees.{seen}
+use Rattle.scope_tree.specs.Trees.{Fits, seen}
 use Rattle.scope_tree.specs.Trace.{trace}
 use Rattle.hot_swap.specs.declared.swap.Held.{Held}
 use Rattle.hot_swap.specs.declared.swap.Hotswap.{Hotswap}
@@ -24,6 +24,10 @@ module _ {S P D : Type 0} where
 
   abbrev pub held : Hotswap S P D → Option Held
   held h = h.held
+
+  -- its tree is in order, and its seat and the desk come from one maker
+  abbrev pub FitsSwap : (S → View P) → (S → D → Type 0) → Hotswap S P D → D → Type 0
+  FitsSwap view fits h d = Fits view fits h.tree d
 
 -- the scope c is held
 abbrev pub IsHeld : Option Held → ℕ → Type 0

@@ -11,7 +11,7 @@ ghost use Rattle.scope_tree.specs.Rights.{HasNoLeaseBut};
 ghost use Rattle.scope_tree.specs.Trace.{owed, trace};
 ghost use Rattle.scope_tree.specs.Trees.{Fits, seen};
 ghost use Rattle.hot_swap.specs.Lending.{lends_pay};
-ghost use Rattle.hot_swap.specs.Swaps.{EndsAll, IsHolding, IsUnleased, TakesPlace, held, seen_tree};
+ghost use Rattle.hot_swap.specs.Swaps.{EndsAll, FitsSwap, IsHolding, IsUnleased, TakesPlace, held, seen_tree};
 
 use chunk_core::{Exit, List};
 use row_seat::RowSeat;
@@ -39,7 +39,7 @@ where
         ensures seen { seen_tree S.view result ≡ seen S.view tree }
         ensures none { held result ≡ None }
         ensures holding { opens (trace (seen S.view tree).seat) ≡ [] → IsOpenScope (seen S.view tree) 0 → ((r c : ℕ) → IsAmong (r, c) (rows (trace (seen S.view tree).seat)) → c ≡ 0) → IsHolding (seen_tree S.view result) None }
-        ensures fits { (d : S.Desk) → Fits S.view S.fits tree d → Fits S.view S.fits result.tree d }
+        ensures fits { (d : S.Desk) → Fits S.view S.fits tree d → FitsSwap S.view S.fits result d }
     {
         Hotswap { tree, held: None }
     }
@@ -62,7 +62,7 @@ where
 
     /// The row takes the place of the one that is held, which is ended as succeeded.
     pub fn swap(&mut self, desk: &mut S::Desk, row: u32, pay: S::Pay)
-        requires fits { Fits S.view S.fits self.old.tree desk.old }
+        requires fits { FitsSwap S.view S.fits self.old desk.old }
         requires holding { IsHolding (seen_tree S.view self.old) (held self.old) }
         requires scopes { length (opens (trace (seen_tree S.view self.old).seat)) + 1 < (seen_tree S.view self.old).scopes }
         requires row { IsAmong row (seen_tree S.view self.old).seat.empty }
@@ -76,7 +76,7 @@ where
         ensures free { (seen_tree S.view self.old).seat.spare + owed (seen_tree S.view self.new).seat ≤ (seen_tree S.view self.new).seat.spare + owed (seen_tree S.view self.old).seat + 4 }
         ensures calls { (a : Seen S.Pay) (Cs : List (ℕ × List ℕ)) → Called S.Pay.ends a Cs (seen_tree S.view self.old) → Called S.Pay.ends a Cs (seen_tree S.view self.new) }
         ensures room { TakesRoom 1 1 (seen_tree S.view self.old) (seen_tree S.view self.new) }
-        ensures fits { Fits S.view S.fits self.new.tree desk.new }
+        ensures fits { FitsSwap S.view S.fits self.new desk.new }
         ensures others { OthersFit S.view S.fits (seen_tree S.view self.old).seat.by desk.old desk.new }
     {
         let scope = self.tree.open(desk, 0);
@@ -89,7 +89,7 @@ where
 
     /// Closes the root, and with it what is held.
     pub fn end(mut self, desk: &mut S::Desk, exit: Exit) -> (S, List<Spent<S::Pay>>)
-        requires fits { Fits S.view S.fits self.tree desk.old }
+        requires fits { FitsSwap S.view S.fits self desk.old }
         requires holding { IsHolding (seen_tree S.view self) (held self) }
         ensures ends { IsUnleased (seen_tree S.view self).seat → EndsAll S.Pay.ends (seen_tree S.view self) (held self) exit (record (seen_tree S.view self) { seat = S.view result.0; shelf = result.1 }) }
         ensures closes { ClosesScope S.Pay.ends (seen_tree S.view self) 0 exit (record (seen_tree S.view self) { seat = S.view result.0; shelf = result.1 }) }

@@ -20,7 +20,7 @@ use Rattle.rotate_rules.specs.Pieces.{IsFront}
 use Rattle.rotate_files.specs.Beginning.{IsUnused}
 use Rattle.rotate_files.specs.Copies.{IsCopying}
 use Rattle.rotate_files.specs.Rotating.{AreFinished, IsRotating}
-use Rattle.rotate_files.specs.Told.{having_made, source_told}
+use Rattle.rotate_files.specs.Told.{HasMade, source_told}
 
 module _ {V : Type 0} (a b : Seen V) (src : V) (unused : IsUnused a) (q : AcquiresRow a 0 0 src b) where
   -- only this was noted
@@ -72,14 +72,15 @@ module _ {V : Type 0} (a b : Seen V) (src : V) (unused : IsUnused a) (q : Acquir
     front_none None = tt
     front_none (Some c) = (c, refl)
 
-    copying_first : told src ≡ source_told old path 0 false 0 → IsCopying told old prefix n path b None (having_made old path prefix 0) 0 0 false 0
-    copying_first device = record {
+    copying_first : (now : DepotTold) → 1 ≤ n → HasMade old path prefix 0 now → told src ≡ source_told old path 0 false 0 → IsCopying told old prefix n path b None now 0 0 false 0
+    copying_first now some made device = record {
       given = [];
       src = src;
-      step = record { rotating = rotating_first; made = refl; count = omega arith; fits = omega arith };
+      step = record { rotating = rotating_first; made = made; count = omega arith; fits = omega arith };
       source = record { device = device; front = front_none (content_at old.files path) };
+      some = some;
     }
 
     -- nothing was copied yet
-    pub begun : (p : V) → src ≡ p → told p ≡ source_told old path 0 false 0 → IsCopying told old prefix n path b h (having_made old path prefix 0) 0 0 false 0
-    begun p same device = subst (λ o. IsCopying told old prefix n path b o (having_made old path prefix 0) 0 0 false 0) (sym is_none) (copying_first (ap told same ∙ device))
+    pub begun : (now : DepotTold) (p : V) → 1 ≤ n → HasMade old path prefix 0 now → src ≡ p → told p ≡ source_told old path 0 false 0 → IsCopying told old prefix n path b h now 0 0 false 0
+    begun now p some made same device = subst (λ o. IsCopying told old prefix n path b o now 0 0 false 0) (sym is_none) (copying_first now some made (ap told same ∙ device))

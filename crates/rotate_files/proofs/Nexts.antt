@@ -10,7 +10,7 @@ use Rattle.chunk_core.specs.declared.code.Exit.{Exit}
 use Rattle.chunk_core.specs.Lists.{IsAmong}
 use Rattle.device_port.specs.declared.device.Mode.TheVariants as mode
 use Rattle.device_port.specs.Device.{DeviceTold, Place, to_read}
-use Rattle.device_port.specs.Depot.{DepotTold, Makes, fresh}
+use Rattle.device_port.specs.Depot.{DepotTold, IsUnknown, Makes, fresh}
 use Rattle.run_rules.specs.Facts.{first_numbers}
 use Rattle.scope_tree.specs.Calls.{Seen, TakesRoom}
 use Rattle.scope_tree.specs.Trace.{owed}
@@ -24,7 +24,7 @@ use Rattle.rotate_files.specs.declared.stop.Stop.{Stop}
 use Rattle.rotate_files.specs.declared.stop.Stop.TheVariants as stop
 use Rattle.rotate_files.specs.Rotating.{IsInStep, IsRotating, last_piece}
 use Rattle.rotate_files.specs.Stops.{NextFile}
-use Rattle.rotate_files.specs.Told.{file_place, file_told, having_made, made_device, opened_device, unopened_device}
+use Rattle.rotate_files.specs.Told.{HasMade, file_place, file_told, having_made, made_device, opened_device, unopened_device}
 use Rattle.rotate_files.proofs.Swapping.{piece_none, swapped_in}
 
 pub when_err : {T E : Type 0} {P : Type 0} (r : Result T E) → true ≡ is_err r → OnErr r P → P
@@ -62,11 +62,21 @@ module _ (old : DepotTold) (path prefix : List ℕ) where
   fresh_made k p = ap (λ m. let d : DeviceTold = record (fresh old p) { number = m } in d) (made_count k)
 
   -- what making the next device leaves
-  made_next : (k : ℕ) (now new : DepotTold) (d : DeviceTold) → now ≡ having_made old path prefix k → Makes now new (file_name prefix k) mode.Write d → (new ≡ having_made old path prefix (suc k)) × (d ≡ made_device old (suc k) (file_place prefix k))
-  made_next k now new d is m = (
-    m.made ∙ (ap (λ (x : DepotTold). let y : DepotTold = record x { made = x.made ++ file_place prefix k ∷ [] } in y) is ∙ sym (having_more k)),
-    m.device ∙ (ap (λ x. fresh x (file_place prefix k)) is ∙ fresh_made k (file_place prefix k)),
-  )
+  made_next : (k : ℕ) (now new : DepotTold) (d : DeviceTold) → HasMade old path prefix k now → Makes now new (file_name prefix k) mode.Write d → HasMade old path prefix (suc k) new × (d ≡ made_device old (suc k) (file_place prefix k))
+  made_next k now new d has m =
+      let is = has.is in
+      let device : d ≡ made_device old (suc k) (file_place prefix k) = m.device ∙ (ap (λ x. fresh x (file_place prefix k)) is ∙ fresh_made k (file_place prefix k)) in
+      let known : IsUnknown (length old.made + suc k) old.retired = subst (λ (x : DepotTold). IsUnknown (length old.made + suc k) x.retired) is (subst (λ (x : DeviceTold). IsUnknown x.number now.retired) device m.unknown) in (
+        record {
+          is = m.made ∙ (ap (λ (x : DepotTold). let y : DepotTold = record x { made = x.made ++ file_place prefix k ∷ [] } in y) is ∙ sym (having_more k));
+          unknown = λ r l.
+              ⊎_elim
+              (λ (b : r < suc k). has.unknown r (omega arith))
+              (λ (b : suc k ≤ r). let e : suc k ≡ r = omega arith in subst (λ i. IsUnknown (length old.made + i) old.retired) e known)
+              (cases_lt r (suc k));
+        },
+        device,
+      )
 
 module _ {V : Type 0} (told : V → DeviceTold) (old : DepotTold) (prefix : List ℕ) (n : ℕ) (path : List ℕ) (a : Seen V) (h : Option Held) (now : DepotTold) (files : ℕ) (given : List ℕ) (src : V) (q : IsInStep told old prefix n path a h now files 0 given src) where
   -- where not all are there, fewer are
@@ -77,7 +87,7 @@ module _ {V : Type 0} (told : V → DeviceTold) (old : DepotTold) (prefix : List
   pub next_memory : {T : Type 0} (r : Result T (Stop V)) (new : DepotTold) → new ≡ now → IsErrAnd r (λ e. e ≡ stop.Memory) → NextFile told old prefix n path a h new files given src r
   next_memory r new same w =
       let e = err_from_is_err_and r w in
-      subst (λ x. NextFile told old prefix n path a h new files given src x) (sym (e.1 ∙ ap (λ s. Err s) e.2)) ((λ x. cc), (files, record { rotating = q.rotating; made = same ∙ q.made; count = q.count; fits = q.fits }))
+      subst (λ x. NextFile told old prefix n path a h new files given src x) (sym (e.1 ∙ ap (λ s. Err s) e.2)) ((λ x. cc), (files, record { rotating = q.rotating; made = record { is = same ∙ q.made.is; unknown = q.made.unknown }; count = q.count; fits = q.fits }))
 
   -- it couldn't be opened
   pub next_unopened : (T : Type 0) (new : DepotTold) (d e : V) → files < 1024 → Makes now new (file_name prefix files) mode.Write (told d) → told e ≡ record (told d) { open_faults = (told d).open_faults + 1 } → NextFile told old prefix n path {T = T} a h new files given src (Err (stop.Unopened e))

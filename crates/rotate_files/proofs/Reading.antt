@@ -71,6 +71,7 @@ module _ {V : Type 0} (told : V → DeviceTold) (old : DepotTold) (prefix : List
       src = w.after;
       step = step_with;
       source = record { device = e ∙ ap (λ (d : DeviceTold). let x : DeviceTold = record d { read_faults = d.read_faults + 1 } in x) was; front = q.source.front };
+      some = q.some;
     }
 
     module _ (count : ℕ) (reads : Reads (told w.before) (told w.after) buf count) where
@@ -81,7 +82,7 @@ module _ {V : Type 0} (told : V → DeviceTold) (old : DepotTold) (prefix : List
           let same_at : length q.given + 0 ≡ length q.given = omega arith in
           let over : IfSome (content_at old.files path) (λ c. length c ≤ length q.given) =
           subst (λ (d : DeviceTold). IfSome d.content (λ c. length c ≤ d.at)) was (reads.end z) in (
-            record { given = q.given; src = w.after; step = step_with; source = record { device = e ∙ ap (λ m. source_told old path m true 0) same_at; front = q.source.front } },
+            record { given = q.given; src = w.after; step = step_with; source = record { device = e ∙ ap (λ m. source_told old path m true 0) same_at; front = q.source.front }; some = q.some },
             front_whole (content_at old.files path) q.given q.source.front over,
           )
 
@@ -99,8 +100,8 @@ module _ {V : Type 0} (told : V → DeviceTold) (old : DepotTold) (prefix : List
           }
 
       -- and all of that was given
-      pub given_on : (d : Seen V) (o : Option Held) (later : DepotTold) (m l : ℕ) → 1 ≤ count → IsInStep told old prefix n path d o later m l (q.given ++ take count buf) w.after → IsCopying told old prefix n path d o later m l false 0
-      given_on d o later m l some step = record { given = q.given ++ take count buf; src = w.after; step = step; source = read_more some }
+      pub given_on : (d : Seen V) (o : Option Held) (later : DepotTold) (m l : ℕ) → 1 ≤ count → l < n → IsInStep told old prefix n path d o later m l (q.given ++ take count buf) w.after → IsCopying told old prefix n path d o later m l false 0
+      given_on d o later m l some room step = record { given = q.given ++ take count buf; src = w.after; step = step; source = read_more some; some = room }
 
       stops_copying : (d : Seen V) (o : Option Held) (later : DepotTold) (s : Stop V) → 1 ≤ count → StopsWithin told old prefix n path d o later q.given (take count buf) w.after s → StopsCopying told old prefix n path d o later s
       stops_copying d o later s some t =

@@ -61,7 +61,7 @@ module _ {V : Type 0} where
   pub not_next : (i : ℕ) (p : V) (q : V) → IsAmong {A = ℕ × V} (suc i, q) ((suc (suc i), p) ∷ []) → ⊥
   not_next i p q m = ⊎_elim (λ e. let x : suc i ≡ suc (suc i) = ap (λ (y : ℕ × V). y.0) e in absurd (omega arith)) (λ z. among_nil z) (among_cons m)
 
-  without_middle : (i : ℕ) (src cur : V) (rest : List (ℕ × V)) → without_row (suc i) ((0, src) ∷ (suc i, cur) ∷ rest) ≡ (0, src) ∷ rest
+  pub without_middle : (i : ℕ) (src cur : V) (rest : List (ℕ × V)) → without_row (suc i) ((0, src) ∷ (suc i, cur) ∷ rest) ≡ (0, src) ∷ rest
   without_middle i src cur rest =
       let x : ℕ × V = (0, src) in
       let y : ℕ × V = (suc i, cur) in

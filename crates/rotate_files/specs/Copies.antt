@@ -18,12 +18,13 @@ module _ {V : Type 0} (told : V → DeviceTold) (old : DepotTold) (path : List �
     pub front : IfSome (content_at old.files path) (λ c. IsFront given c)
 
 module _ {V : Type 0} (told : V → DeviceTold) (old : DepotTold) (prefix : List ℕ) (n : ℕ) (path : List ℕ) where
-  -- all that was read was given
+  -- all that was read was given, and the last file isn't full by more than it takes
   pub record IsCopying (a : Seen V) (h : Option Held) (now : DepotTold) (files left : ℕ) (ended : Bool) (faults : ℕ) : Type 0 where
     pub given : List ℕ
     pub src : V
     pub step : IsInStep told old prefix n path a h now files left given src
     pub source : IsSource told old path src given (length given) ended faults
+    pub some : left < n
 
   -- it stopped at a file, where more was read than given
   pub record StopsCopying (a : Seen V) (h : Option Held) (now : DepotTold) (s : Stop V) : Type 0 where

@@ -1,5 +1,6 @@
 pub mod Acts
 pub mod Told
+pub mod Visible
 pub mod Rotating
 pub mod Stops
 pub mod Copies

@@ -18,7 +18,7 @@ use Rattle.hot_swap.specs.declared.swap.Held.{Held}
 use Rattle.hot_swap.specs.Swaps.{IsHolding}
 use Rattle.hot_swap.specs.TwoRows.{NotesSwaps}
 use Rattle.rotate_rules.specs.Pieces.{most_files, piece_of}
-use Rattle.rotate_files.specs.Told.{file_told, having_made}
+use Rattle.rotate_files.specs.Told.{HasMade, file_told}
 
 -- the piece that the last of so many files was written
 abbrev pub last_piece : ℕ → List ℕ → ℕ → List ℕ
@@ -63,7 +63,7 @@ module _ {V : Type 0} (told : V → DeviceTold) (old : DepotTold) (prefix : List
   -- all that was given is written, and the last file takes so many bytes more
   pub record IsInStep (path : List ℕ) (a : Seen V) (h : Option Held) (now : DepotTold) (files left : ℕ) (given : List ℕ) (src : V) : Type 0 where
     pub rotating : IsRotating a h files given (last_piece n given files) 0 src
-    pub made : now ≡ having_made old path prefix files
+    pub made : HasMade old path prefix files now
     pub count : length given + left ≡ files * n
     pub fits : left ≤ n
 

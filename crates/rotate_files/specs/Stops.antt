@@ -8,14 +8,14 @@ use Rattle.rotate_rules.specs.Pieces.{IsFront, most_files, piece_of}
 use Rattle.rotate_files.specs.declared.stop.Stop.{Stop}
 use Rattle.rotate_files.specs.declared.stop.Stop.TheVariants as stop
 use Rattle.rotate_files.specs.Rotating.{IsInStep, IsRotating, last_piece}
-use Rattle.rotate_files.specs.Told.{file_place, having_made, unopened_device}
+use Rattle.rotate_files.specs.Told.{HasMade, file_place, unopened_device}
 
 module _ {V : Type 0} (told : V → DeviceTold) (old : DepotTold) (prefix : List ℕ) (n : ℕ) (path : List ℕ) where
   -- the device of the next file was made and couldn't be opened
   pub record IsUnopened (a : Seen V) (h : Option Held) (now : DepotTold) (files : ℕ) (given : List ℕ) (src d : V) : Type 0 where
     pub rotating : IsRotating told old prefix n a h files given (last_piece n given files) 0 src
     pub few : files < most_files
-    pub made : now ≡ having_made old path prefix (suc files)
+    pub made : HasMade old path prefix (suc files) now
     pub count : length given ≡ files * n
     pub device : told d ≡ unopened_device old (suc files) (file_place prefix files)
 
@@ -23,7 +23,7 @@ module _ {V : Type 0} (told : V → DeviceTold) (old : DepotTold) (prefix : List
   pub record IsUnwritten (a : Seen V) (h : Option Held) (now : DepotTold) (files : ℕ) (given : List ℕ) (src : V) : Type 0 where
     pub written : List ℕ
     pub rotating : IsRotating told old prefix n a h (suc files) given written 1 src
-    pub made : now ≡ having_made old path prefix (suc files)
+    pub made : HasMade old path prefix (suc files) now
     pub front : IsFront written (piece_of n given files)
     pub some : files * n < length given
     pub most : length given ≤ suc files * n

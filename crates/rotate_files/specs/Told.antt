@@ -1,7 +1,7 @@
 -- What the devices of a rotation tell.
-use Rattle.std.specs.Prelude.{◌≡◌, ◌+◌, ℕ, suc, Bool, true, List, [], ◌∷◌, ◌++◌, length, map, option_map}
+use Rattle.std.specs.Prelude.{◌≡◌, ◌+◌, ◌≤◌, ℕ, suc, Bool, true, List, [], ◌∷◌, ◌++◌, length, map, option_map}
 use Rattle.device_port.specs.Device.{DeviceTold, Place, to_read, to_write}
-use Rattle.device_port.specs.Depot.{DepotTold, fresh}
+use Rattle.device_port.specs.Depot.{DepotTold, IsUnknown, fresh}
 use Rattle.run_rules.specs.Facts.{first_numbers}
 use Rattle.rotate_rules.specs.Pieces.{file_name}
 
@@ -12,6 +12,11 @@ file_place prefix i = to_write (file_name prefix i)
 -- devices were made for the path, and for the first k files
 abbrev pub having_made : DepotTold → List ℕ → List ℕ → ℕ → DepotTold
 having_made old path prefix k = record old { made = old.made ++ (to_read path ∷ map (λ i. file_place prefix i) (first_numbers k)) }
+
+-- they were, and no record has the number of one of them
+pub record HasMade (old : DepotTold) (path prefix : List ℕ) (k : ℕ) (now : DepotTold) : Type 0 where
+  pub is : now ≡ having_made old path prefix k
+  pub unknown : (r : ℕ) → r ≤ k → IsUnknown (length old.made + r) old.retired
 
 -- the r-th device that was made, for this place
 abbrev pub made_device : DepotTold → ℕ → Place → DeviceTold

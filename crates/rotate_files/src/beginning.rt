@@ -1,15 +1,16 @@
 //! A rotation from its begin to its end.
-ghost use Rattle.std.specs.Prelude.{◌≡◌, ℕ, List, [], false, true};
+ghost use Rattle.std.specs.Prelude.{◌≡◌, ◌≤◌, ℕ, List, [], false, true};
 ghost use Rattle.device_port.specs.Depot.{DepotTold};
 ghost use Rattle.row_seat.specs.Views.{CanFinish};
 ghost use Rattle.scope_tree.specs.Calls.{ClosesScope, IsClosedScope};
 ghost use Rattle.scope_tree.specs.Rights.{HasNoLeaseBut};
 ghost use Rattle.scope_tree.specs.Trees.{Fits, seen};
 ghost use Rattle.pull_stepper.specs.Held.{FinishesDevice};
-ghost use Rattle.hot_swap.specs.Swaps.{EndsAll, IsHolding, IsUnleased, held, seen_tree};
+ghost use Rattle.hot_swap.specs.Swaps.{EndsAll, IsHolding, IsUnleased};
 ghost use Rattle.rotate_files.specs.Beginning.{IsUnused};
 ghost use Rattle.rotate_files.specs.Copies.{IsCopying};
-ghost use Rattle.rotate_files.specs.Told.{having_made, source_told};
+ghost use Rattle.rotate_files.specs.Told.{HasMade, source_told};
+ghost use Rattle.rotate_files.specs.Visible.{FitsFiles, files_of, held_file, room_of, seen_files};
 
 use crate::rotation::Rotation;
 use chunk_core::{Exit, List};
@@ -27,9 +28,9 @@ pub fn begin<V: Device, S: RowSeat<Pay = Held<V>>>(
 ) -> Rotation<S>
     requires fits { Fits S.view S.fits tree desk.old }
     requires unused { IsUnused (seen S.view tree) }
-    ensures copying { (old : DepotTold) (prefix : List ℕ) (n : ℕ) (path : List ℕ) → V.told device ≡ source_told old path 0 false 0 → IsCopying V.told old prefix n path (seen_tree S.view result.files) (held result.files) (having_made old path prefix 0) result.count result.left false 0 }
-    ensures left { result.left ≡ 0 }
-    ensures fits { Fits S.view S.fits result.files.tree desk.new }
+    ensures copying { (old now : DepotTold) (prefix : List ℕ) (n : ℕ) (path : List ℕ) → 1 ≤ n → HasMade old path prefix 0 now → V.told device ≡ source_told old path 0 false 0 → IsCopying V.told old prefix n path (seen_files S.view result) (held_file result) now (files_of result) (room_of result) false 0 }
+    ensures left { room_of result ≡ 0 }
+    ensures fits { FitsFiles S.view S.fits result desk.new }
 {
     let mut tree = tree;
     let pay = Held::new(device);
@@ -48,14 +49,14 @@ pub fn end<V: Device, S: RowSeat<Pay = Held<V>>>(
     desk: &mut S::Desk,
     exit: Exit,
 ) -> (S, List<Spent<Held<V>>>)
-    requires fits { Fits S.view S.fits rotation.files.tree desk.old }
-    requires holding { IsHolding (seen_tree S.view rotation.files) (held rotation.files) }
-    ensures ends { IsUnleased (seen_tree S.view rotation.files).seat → EndsAll (FinishesDevice V.told) (seen_tree S.view rotation.files) (held rotation.files) exit (record (seen_tree S.view rotation.files) { seat = S.view result.0; shelf = result.1 }) }
-    ensures closes { ClosesScope (FinishesDevice V.told) (seen_tree S.view rotation.files) 0 exit (record (seen_tree S.view rotation.files) { seat = S.view result.0; shelf = result.1 }) }
-    ensures root { IsClosedScope (record (seen_tree S.view rotation.files) { seat = S.view result.0; shelf = result.1 }) 0 }
+    requires fits { FitsFiles S.view S.fits rotation desk.old }
+    requires holding { IsHolding (seen_files S.view rotation) (held_file rotation) }
+    ensures ends { IsUnleased (seen_files S.view rotation).seat → EndsAll (FinishesDevice V.told) (seen_files S.view rotation) (held_file rotation) exit (record (seen_files S.view rotation) { seat = S.view result.0; shelf = result.1 }) }
+    ensures closes { ClosesScope (FinishesDevice V.told) (seen_files S.view rotation) 0 exit (record (seen_files S.view rotation) { seat = S.view result.0; shelf = result.1 }) }
+    ensures root { IsClosedScope (record (seen_files S.view rotation) { seat = S.view result.0; shelf = result.1 }) 0 }
     ensures none_left { (S.view result.0).opened ≡ [] }
     ensures fits { S.fits result.0 desk.new }
-    ensures finish { (seen_tree S.view rotation.files).seat.main ≡ true → (seen_tree S.view rotation.files).seat.out ≡ [] → HasNoLeaseBut (seen_tree S.view rotation.files).seat [] → CanFinish (S.view result.0) }
+    ensures finish { (seen_files S.view rotation).seat.main ≡ true → (seen_files S.view rotation).seat.out ≡ [] → HasNoLeaseBut (seen_files S.view rotation).seat [] → CanFinish (S.view result.0) }
 {
     let Rotation {
         files,

@@ -1,9 +1,8 @@
 //! A file is copied into files.
 ghost use Rattle.std.specs.Prelude.{◌≡◌, ◌<◌, ◌≤◌, ℕ, List, Bool, length};
 ghost use Rattle.device_port.specs.Depot.{DepotTold};
-ghost use Rattle.scope_tree.specs.Trees.{Fits};
-ghost use Rattle.hot_swap.specs.Swaps.{held, seen_tree};
 ghost use Rattle.rotate_files.specs.Copies.{Copies, IsCopying};
+ghost use Rattle.rotate_files.specs.Visible.{FitsFiles, files_of, held_file, room_of, seen_files};
 
 use crate::rotation::{Rotation, give};
 use crate::row::read_row;
@@ -24,12 +23,12 @@ pub fn copy<D: Depot, S: RowSeat<Pay = Held<D::Dev>>>(
     bytes: u32,
     buffer: &mut [u8],
 ) -> Result<(), Stop<D::Dev>>
-    requires fits { Fits S.view S.fits rotation.old.files.tree desk.old }
+    requires fits { FitsFiles S.view S.fits rotation.old desk.old }
     requires some { (0 < length buffer.old) × (1 ≤ bytes) }
-    requires left { rotation.old.left < bytes }
-    requires begun { (old : DepotTold) × (path : List ℕ) × (ended : Bool) × IsCopying D.Dev.Device.told old prefix.now bytes path (seen_tree S.view rotation.old.files) (held rotation.old.files) (D.told depot.old) rotation.old.count rotation.old.left ended 0 }
-    ensures copies { (old : DepotTold) (path : List ℕ) (ended : Bool) → IsCopying D.Dev.Device.told old prefix.now bytes path (seen_tree S.view rotation.old.files) (held rotation.old.files) (D.told depot.old) rotation.old.count rotation.old.left ended 0 → Copies D.Dev.Device.told old prefix.now bytes path (seen_tree S.view rotation.new.files) (held rotation.new.files) (D.told depot.new) rotation.new.count rotation.new.left result }
-    ensures fits { Fits S.view S.fits rotation.new.files.tree desk.new }
+    requires left { room_of rotation.old < bytes }
+    requires begun { (old : DepotTold) × (path : List ℕ) × (ended : Bool) × IsCopying D.Dev.Device.told old prefix.now bytes path (seen_files S.view rotation.old) (held_file rotation.old) (D.told depot.old) (files_of rotation.old) (room_of rotation.old) ended 0 }
+    ensures copies { (old : DepotTold) (path : List ℕ) (ended : Bool) → IsCopying D.Dev.Device.told old prefix.now bytes path (seen_files S.view rotation.old) (held_file rotation.old) (D.told depot.old) (files_of rotation.old) (room_of rotation.old) ended 0 → Copies D.Dev.Device.told old prefix.now bytes path (seen_files S.view rotation.new) (held_file rotation.new) (D.told depot.new) (files_of rotation.new) (room_of rotation.new) result }
+    ensures fits { FitsFiles S.view S.fits rotation.new desk.new }
 {
     'copying: loop {
         let count = match read_row::<D::Dev, S>(&mut rotation.files, 0, buffer) {

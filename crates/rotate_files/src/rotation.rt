@@ -1,10 +1,9 @@
 //! Bytes are given to files, of which each takes so many.
 ghost use Rattle.std.specs.Prelude.{◌≡◌, ◌+◌, ◌≤◌, ◌<◌, ◌-◌, ◌^◌, ℕ, List, [], length, Ok, IfOk};
 ghost use Rattle.device_port.specs.Depot.{DepotTold};
-ghost use Rattle.scope_tree.specs.Trees.{Fits};
-ghost use Rattle.hot_swap.specs.Swaps.{held, seen_tree};
 ghost use Rattle.rotate_files.specs.Rotating.{IsInStep, IsRotation};
 ghost use Rattle.rotate_files.specs.Stops.{GivesAll, GivesSome, NextFile};
+ghost use Rattle.rotate_files.specs.Visible.{FitsFiles, files_of, held_file, room_of, seen_files};
 
 use crate::name::file_path;
 use crate::row::write_row;
@@ -35,12 +34,12 @@ fn next_file<D: Depot, S: RowSeat<Pay = Held<D::Dev>>>(
     prefix: &Word,
     bytes: u32,
 ) -> Result<(), Stop<D::Dev>>
-    requires fits { Fits S.view S.fits rotation.old.files.tree desk.old }
-    requires rotation { IsRotation D.Dev.Device.told prefix.now bytes (seen_tree S.view rotation.old.files) (held rotation.old.files) (D.told depot.old) rotation.old.count 0 }
-    requires full { rotation.old.left ≡ 0 }
-    ensures next { (old : DepotTold) (path given : List ℕ) (src : D.Dev) → IsInStep D.Dev.Device.told old prefix.now bytes path (seen_tree S.view rotation.old.files) (held rotation.old.files) (D.told depot.old) rotation.old.count 0 given src → NextFile D.Dev.Device.told old prefix.now bytes path (seen_tree S.view rotation.new.files) (held rotation.new.files) (D.told depot.new) rotation.new.count given src result }
-    ensures left { IfOk result (λ _. (rotation.new.left ≡ bytes) × (1 ≤ rotation.new.count)) }
-    ensures fits { Fits S.view S.fits rotation.new.files.tree desk.new }
+    requires fits { FitsFiles S.view S.fits rotation.old desk.old }
+    requires rotation { IsRotation D.Dev.Device.told prefix.now bytes (seen_files S.view rotation.old) (held_file rotation.old) (D.told depot.old) (files_of rotation.old) 0 }
+    requires full { room_of rotation.old ≡ 0 }
+    ensures next { (old : DepotTold) (path given : List ℕ) (src : D.Dev) → IsInStep D.Dev.Device.told old prefix.now bytes path (seen_files S.view rotation.old) (held_file rotation.old) (D.told depot.old) (files_of rotation.old) 0 given src → NextFile D.Dev.Device.told old prefix.now bytes path (seen_files S.view rotation.new) (held_file rotation.new) (D.told depot.new) (files_of rotation.new) given src result }
+    ensures left { IfOk result (λ _. (room_of rotation.new ≡ bytes) × (1 ≤ files_of rotation.new)) }
+    ensures fits { FitsFiles S.view S.fits rotation.new desk.new }
 {
     if rotation.count == MOST_FILES {
         return Err(Stop::TooMany);
@@ -62,13 +61,13 @@ fn write_last<V: Device, S: RowSeat<Pay = Held<V>>>(
     piece: &[u8],
 ) -> Result<usize, Stop<V>>
     requires some { 0 < length piece.now }
-    requires left { 1 ≤ rotation.old.left }
-    requires rotation { (prefix : List ℕ) × (n : ℕ) × (now : DepotTold) × IsRotation V.told prefix n (seen_tree S.view rotation.old.files) (held rotation.old.files) now rotation.old.count rotation.old.left }
-    ensures gives { (old : DepotTold) (prefix : List ℕ) (n : ℕ) (path : List ℕ) (now : DepotTold) (given : List ℕ) (src : V) → IsInStep V.told old prefix n path (seen_tree S.view rotation.old.files) (held rotation.old.files) now rotation.old.count rotation.old.left given src → GivesSome V.told old prefix n path (seen_tree S.view rotation.new.files) (held rotation.new.files) now rotation.new.count rotation.new.left given piece.now src result }
+    requires left { 1 ≤ room_of rotation.old }
+    requires rotation { (prefix : List ℕ) × (n : ℕ) × (now : DepotTold) × IsRotation V.told prefix n (seen_files S.view rotation.old) (held_file rotation.old) now (files_of rotation.old) (room_of rotation.old) }
+    ensures gives { (old : DepotTold) (prefix : List ℕ) (n : ℕ) (path : List ℕ) (now : DepotTold) (given : List ℕ) (src : V) → IsInStep V.told old prefix n path (seen_files S.view rotation.old) (held_file rotation.old) now (files_of rotation.old) (room_of rotation.old) given src → GivesSome V.told old prefix n path (seen_files S.view rotation.new) (held_file rotation.new) now (files_of rotation.new) (room_of rotation.new) given piece.now src result }
     ensures count { IfOk result (λ k. (1 ≤ k) × (k ≤ length piece.now)) }
-    ensures left { rotation.new.left ≤ rotation.old.left }
-    ensures less { IfOk result (λ k. rotation.new.left < rotation.old.left) }
-    ensures fits { (d : S.Desk) → Fits S.view S.fits rotation.old.files.tree d → Fits S.view S.fits rotation.new.files.tree d }
+    ensures left { room_of rotation.new ≤ room_of rotation.old }
+    ensures less { IfOk result (λ k. room_of rotation.new < room_of rotation.old) }
+    ensures fits { (d : S.Desk) → FitsFiles S.view S.fits rotation.old d → FitsFiles S.view S.fits rotation.new d }
 {
     let count = piece.len().min(rotation.left as usize);
     match write_row::<V, S>(&mut rotation.files, rotation.count, &piece[..count]) {
@@ -91,13 +90,13 @@ fn give_some<D: Depot, S: RowSeat<Pay = Held<D::Dev>>>(
     bytes: u32,
     piece: &[u8],
 ) -> Result<usize, Stop<D::Dev>>
-    requires fits { Fits S.view S.fits rotation.old.files.tree desk.old }
+    requires fits { FitsFiles S.view S.fits rotation.old desk.old }
     requires some { (0 < length piece.now) × (1 ≤ bytes) }
-    requires rotation { IsRotation D.Dev.Device.told prefix.now bytes (seen_tree S.view rotation.old.files) (held rotation.old.files) (D.told depot.old) rotation.old.count rotation.old.left }
-    ensures gives { (old : DepotTold) (path given : List ℕ) (src : D.Dev) → IsInStep D.Dev.Device.told old prefix.now bytes path (seen_tree S.view rotation.old.files) (held rotation.old.files) (D.told depot.old) rotation.old.count rotation.old.left given src → GivesSome D.Dev.Device.told old prefix.now bytes path (seen_tree S.view rotation.new.files) (held rotation.new.files) (D.told depot.new) rotation.new.count rotation.new.left given piece.now src result }
+    requires rotation { IsRotation D.Dev.Device.told prefix.now bytes (seen_files S.view rotation.old) (held_file rotation.old) (D.told depot.old) (files_of rotation.old) (room_of rotation.old) }
+    ensures gives { (old : DepotTold) (path given : List ℕ) (src : D.Dev) → IsInStep D.Dev.Device.told old prefix.now bytes path (seen_files S.view rotation.old) (held_file rotation.old) (D.told depot.old) (files_of rotation.old) (room_of rotation.old) given src → GivesSome D.Dev.Device.told old prefix.now bytes path (seen_files S.view rotation.new) (held_file rotation.new) (D.told depot.new) (files_of rotation.new) (room_of rotation.new) given piece.now src result }
     ensures count { IfOk result (λ k. (1 ≤ k) × (k ≤ length piece.now)) }
-    ensures left { IfOk result (λ _. rotation.old.left ≤ bytes → rotation.new.left < bytes) }
-    ensures fits { Fits S.view S.fits rotation.new.files.tree desk.new }
+    ensures left { IfOk result (λ _. room_of rotation.old ≤ bytes → room_of rotation.new < bytes) }
+    ensures fits { FitsFiles S.view S.fits rotation.new desk.new }
 {
     if rotation.left > 0 {
         return write_last::<D::Dev, S>(rotation, piece);
@@ -116,13 +115,13 @@ pub(crate) fn give<D: Depot, S: RowSeat<Pay = Held<D::Dev>>>(
     bytes: u32,
     piece: &[u8],
 ) -> Result<(), Stop<D::Dev>>
-    requires fits { Fits S.view S.fits rotation.old.files.tree desk.old }
+    requires fits { FitsFiles S.view S.fits rotation.old desk.old }
     requires some { 1 ≤ bytes }
-    requires left { rotation.old.left < bytes }
-    requires rotation { IsRotation D.Dev.Device.told prefix.now bytes (seen_tree S.view rotation.old.files) (held rotation.old.files) (D.told depot.old) rotation.old.count rotation.old.left }
-    ensures gives { (old : DepotTold) (path given : List ℕ) (src : D.Dev) → IsInStep D.Dev.Device.told old prefix.now bytes path (seen_tree S.view rotation.old.files) (held rotation.old.files) (D.told depot.old) rotation.old.count rotation.old.left given src → GivesAll D.Dev.Device.told old prefix.now bytes path (seen_tree S.view rotation.new.files) (held rotation.new.files) (D.told depot.new) rotation.new.count rotation.new.left given piece.now src result }
-    ensures left { IfOk result (λ _. rotation.new.left < bytes) }
-    ensures fits { Fits S.view S.fits rotation.new.files.tree desk.new }
+    requires left { room_of rotation.old < bytes }
+    requires rotation { IsRotation D.Dev.Device.told prefix.now bytes (seen_files S.view rotation.old) (held_file rotation.old) (D.told depot.old) (files_of rotation.old) (room_of rotation.old) }
+    ensures gives { (old : DepotTold) (path given : List ℕ) (src : D.Dev) → IsInStep D.Dev.Device.told old prefix.now bytes path (seen_files S.view rotation.old) (held_file rotation.old) (D.told depot.old) (files_of rotation.old) (room_of rotation.old) given src → GivesAll D.Dev.Device.told old prefix.now bytes path (seen_files S.view rotation.new) (held_file rotation.new) (D.told depot.new) (files_of rotation.new) (room_of rotation.new) given piece.now src result }
+    ensures left { IfOk result (λ _. room_of rotation.new < bytes) }
+    ensures fits { FitsFiles S.view S.fits rotation.new desk.new }
 {
     let mut at = 0;
     while at < piece.len() {

@@ -2,8 +2,7 @@
 ghost use Rattle.std.specs.Prelude.{◌≡◌, ◌<◌, length};
 ghost use Rattle.chunk_core.specs.Lists.{IsAmong};
 ghost use Rattle.row_seat.specs.Views.{HasRow};
-ghost use Rattle.scope_tree.specs.Trees.{Fits};
-ghost use Rattle.hot_swap.specs.Swaps.{held, seen_tree};
+ghost use Rattle.hot_swap.specs.Swaps.{FitsSwap, held, seen_tree};
 ghost use Rattle.rotate_files.specs.Acts.{IsReadable, IsWritable, ReadsRow, WritesRow};
 
 use crate::write::write_all;
@@ -22,7 +21,7 @@ pub(crate) fn write_row<V: Device, S: RowSeat<Pay = Held<V>>>(
     requires device { (d : V) → IsAmong (row, d) (seen_tree S.view files.old).seat.opened → IsWritable (V.told d) }
     ensures writes { WritesRow V.told row (seen_tree S.view files.old) (seen_tree S.view files.new) bytes.now result }
     ensures held { held files.new ≡ held files.old }
-    ensures fits { (d : S.Desk) → Fits S.view S.fits files.old.tree d → Fits S.view S.fits files.new.tree d }
+    ensures fits { (d : S.Desk) → FitsSwap S.view S.fits files.old d → FitsSwap S.view S.fits files.new d }
 {
     write_all(files.pay_mut(row).device_mut(), bytes)
 }
@@ -38,7 +37,7 @@ pub(crate) fn read_row<V: Device, S: RowSeat<Pay = Held<V>>>(
     requires device { (d : V) → IsAmong (row, d) (seen_tree S.view files.old).seat.opened → IsReadable (V.told d) }
     ensures reads { ReadsRow V.told row (seen_tree S.view files.old) (seen_tree S.view files.new) buf.new result }
     ensures held { held files.new ≡ held files.old }
-    ensures fits { (d : S.Desk) → Fits S.view S.fits files.old.tree d → Fits S.view S.fits files.new.tree d }
+    ensures fits { (d : S.Desk) → FitsSwap S.view S.fits files.old d → FitsSwap S.view S.fits files.new d }
 {
     files.pay_mut(row).device_mut().read(buf)
 }

@@ -70,7 +70,7 @@ copying-preserved g c =
             false,
             given_on g.D.Dev.Device.told old c.args.prefix.now c.args.bytes path (seen_tree g.S.RowSeat.view c.copying.rotation.files) (held c.copying.rotation.files) (g.D.Depot.told c.copying.depot) c.copying.rotation.count c.copying.rotation.left p.0 p.1
                 (seen_tree g.S.RowSeat.view c.read_row.new.files) (held c.read_row.new.files) c.read_row.new.buf _ e.reads e.held c.in-Ok.count e.reads.read (seen_tree g.S.RowSeat.view c.give.new.rotation.files) (held c.give.new.rotation.files) (g.D.Depot.told c.give.new.depot) c.give.new.rotation.count c.give.new.rotation.left
-                (read_some c.in-Ok.count c.if-count-eq0.false) (f.gives old path p.1.given e.reads.after step),
+                (read_some c.in-Ok.count c.if-count-eq0.false) f.left (f.gives old path p.1.given e.reads.after step),
           );
     }
 

@@ -28,3 +28,11 @@ write_last-requires-2-clause-rotation g c =
             (c.in_ok-next_file.ensures.next t.0 t.1 t.2 t.3 p),
       ),
     )
+
+pub returns-clause-gives : goal.returns-clause-gives
+returns-clause-gives g c = λ old path given src q.
+    let z : c.args.rotation.now.left ≡ 0 = omega arith in
+    let p = subst (λ l. IsInStep g.D.Dev.Device.told old c.args.prefix.now c.args.bytes path (seen_tree g.S.RowSeat.view c.args.rotation.now.files) (held c.args.rotation.now.files) (g.D.Depot.told c.args.depot.now) c.args.rotation.now.count l given src) z q in
+    c.write_last-2.ensures.gives old c.args.prefix.now c.args.bytes path (g.D.Depot.told c.next_file.new.depot) given src
+    (subst (λ l. IsInStep g.D.Dev.Device.told old c.args.prefix.now c.args.bytes path (seen_tree g.S.RowSeat.view c.next_file.new.rotation.files) (held c.next_file.new.rotation.files) (g.D.Depot.told c.next_file.new.depot) c.next_file.new.rotation.count l given src) (sym c.in_ok-next_file.ensures.left.0)
+    (c.in_ok-next_file.ensures.next old path given src p))
