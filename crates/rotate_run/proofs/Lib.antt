@@ -1,0 +1,13 @@
+pub mod Unmade
+pub mod Closings
+pub mod Rooms
+pub mod Lists
+pub mod Places
+pub mod Left
+pub mod Performing
+pub mod Noting
+pub mod Came
+pub mod Shelving
+pub mod Contents
+pub mod Over
+pub mod Running
