@@ -1,3 +1,4 @@
 pub mod Digits
+pub mod Files
 pub mod Paths
 pub mod Rows

@@ -5,7 +5,7 @@ use Rattle.std.specs.Prelude.{codes, option_and_then}
 use Rattle.clap.specs.Words.{App, Row, Text, fault_of, first_of, first_value, is_simple, is_simple_and_free, matches_of, rows_of}
 use Rattle.clap.specs.declared.parser.matches.Found.{Found}
 use Rattle.clap.proofs.WalkLemmas.{first_value-rows}
-use Rattle.command_words.specs.Words.{cat_app, cat_at, cat_of, gen_app, gen_at, gen_of, rows_read, run_app, run_at, run_of}
+use Rattle.command_words.specs.Words.{cat_app, cat_at, cat_of, gen_app, gen_at, gen_of, rotate_app, rotate_at, rotate_of, rows_read, run_app, run_at, run_of}
 
 pub simple_if_free : (app : App) → is_simple_and_free app ≡ true → is_simple app ≡ true
 simple_if_free app e = (and_parts (is_simple app) _ e).0
@@ -31,3 +31,9 @@ pub gen_read : (words : List Text) (f : Found) (seed streams lines : Option Text
 gen_read words f seed streams lines is s n l =
     rw (s, n, l, first_value-rows f (codes "seed"), first_value-rows f (codes "streams"), first_value-rows f (codes "lines"))
     (ap (λ rows. option_and_then (λ (rs : List Row). gen_at (first_of (codes "seed") rs) (first_of (codes "streams") rs) (first_of (codes "lines") rs)) rows) is)
+
+pub rotate_read : (words : List Text) (f : Found) (bytes path prefix : Option Text) → Some (rows_of f) ≡ rows_read rotate_app words → bytes ≡ first_value f (codes "bytes") → path ≡ first_value f (codes "path")
+    → prefix ≡ first_value f (codes "prefix") → rotate_at bytes path prefix ≡ rotate_of words
+rotate_read words f bytes path prefix is b p q =
+    rw (b, p, q, first_value-rows f (codes "bytes"), first_value-rows f (codes "path"), first_value-rows f (codes "prefix"))
+    (ap (λ rows. option_and_then (λ (rs : List Row). rotate_at (first_of (codes "bytes") rs) (first_of (codes "path") rs) (first_of (codes "prefix") rs)) rows) is)

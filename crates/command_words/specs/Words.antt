@@ -1,12 +1,12 @@
 -- What the words of a command line mean, by what `clap` says of a simple command for each.
-use Rattle.std.specs.Prelude.{ℕ, ◌≤◌, Bool, true, ◌&&◌, List, [], ◌∷◌, length, nat_le, Option, Some, None, option_and_then, option_map, IfSome, if◌then◌else◌, codes}
+use Rattle.std.specs.Prelude.{◌≢◌, ℕ, ◌+◌, ◌<◌, ◌≤◌, Bool, true, false, not, ◌&&◌, List, [], ◌∷◌, ◌++◌, length, drop, nat_le, nat_lt, Option, Some, None, option_and_then, option_map, IfSome, if◌then◌else◌, codes, decimal}
 use Rattle.std.specs.Str.{bytes_eq}
 use Rattle.clap.specs.Words.{App, Row, Rule, Text, fault_of, first_of, matches_of, new_app, new_rule, with_rule}
 use Rattle.clap.specs.Simple.{on_top}
 use Rattle.clap.specs.Walk.{is_empty}
-use Rattle.command_words.specs.Numbers.{number_in_word}
+use Rattle.command_words.specs.Numbers.{number_in_word, number_of}
 use Rattle.command_words.specs.declared.asked.Asked.{Asked}
-use Rattle.command_words.specs.declared.asked.Asked.TheVariants.{Cat, Run, Gen, Audit}
+use Rattle.command_words.specs.declared.asked.Asked.TheVariants.{Cat, Run, Gen, Audit, Rotate}
 
 -- what a command matches in the words, unless it refuses them
 abbrev pub rows_read : App → List Text → Option (List Row)
@@ -19,6 +19,10 @@ silent_app name = on_top (λ s. record s { disable_help_flag = true }) (new_app 
 -- an option of this name, with a value
 abbrev pub option_rule : Text → Rule
 option_rule name = record (new_rule name) { long = Some name }
+
+-- an option that has to stand
+abbrev pub needed_rule : Text → Rule
+needed_rule name = record (option_rule name) { required = true }
 
 -- a word that has to stand
 abbrev pub word_rule : Text → Rule
@@ -39,6 +43,10 @@ gen_app = with_rule (with_rule (with_rule (silent_app (codes "gen")) (word_rule 
 -- audit
 abbrev pub audit_app : App
 audit_app = silent_app (codes "audit")
+
+-- rotate --bytes N PATH PREFIX
+abbrev pub rotate_app : App
+rotate_app = with_rule (with_rule (with_rule (silent_app (codes "rotate")) (needed_rule (codes "bytes"))) (word_rule (codes "path"))) (word_rule (codes "prefix"))
 
 -- a path of 1 to 1,024 bytes
 abbrev pub is_file_path : Text → Bool
@@ -71,6 +79,35 @@ abbrev pub gen_at : Option Text → Option Text → Option Text → Option Asked
 gen_at seed streams lines =
     gen_of_numbers (option_and_then (number_in_word 0 4294967295) seed) (option_and_then (number_in_word 1 64) streams) (option_and_then (number_in_word 0 100000) lines)
 
+-- a prefix of 1 to 1,019 bytes
+abbrev pub is_prefix : Text → Bool
+is_prefix prefix = nat_le 1 (length prefix) && nat_le (length prefix) 1019
+
+-- the most files that a rotation makes
+abbrev pub most_files : ℕ
+most_files = 1024
+
+-- the name of file i
+abbrev pub file_name : Text → ℕ → Text
+file_name prefix i = prefix ++ (codes "." ++ decimal i)
+
+-- this number is one of a file, and the path its name
+abbrev pub names_file : Text → Text → ℕ → Bool
+names_file prefix path i = nat_lt i most_files && bytes_eq path (file_name prefix i)
+
+-- a file that the rotation may make has this name: the number is what stands behind the prefix and the dot
+abbrev pub is_file_of : Text → Text → Bool
+is_file_of prefix path = elim (number_of (drop (length prefix + 1) path)) [ Some i ↦ names_file prefix path i | None ↦ false ]
+
+-- a rotation, by its number and its two words
+abbrev pub rotation_of : ℕ → Text → Text → Option Asked
+rotation_of n path prefix = if is_file_path path && is_prefix prefix && not (is_file_of prefix path) then Some (Rotate n path prefix) else None
+
+-- a rotation, by the texts of the option and of the two words
+abbrev pub rotate_at : Option Text → Option Text → Option Text → Option Asked
+rotate_at bytes path prefix =
+    option_and_then (λ n. option_and_then (λ p. option_and_then (λ q. rotation_of n p q) prefix) path) (option_and_then (number_in_word 1 1000000000) bytes)
+
 -- what the words of `cat` ask for
 abbrev pub cat_of : List Text → Option Asked
 cat_of words = option_and_then (λ rows. cat_at (first_of (codes "chunk") rows) (first_of (codes "path") rows)) (rows_read cat_app words)
@@ -87,15 +124,28 @@ gen_of words = option_and_then (λ rows. gen_at (first_of (codes "seed") rows) (
 abbrev pub audit_of : List Text → Option Asked
 audit_of words = option_map (λ rows. Audit) (rows_read audit_app words)
 
+-- what the words of `rotate` ask for
+abbrev pub rotate_of : List Text → Option Asked
+rotate_of words = option_and_then (λ rows. rotate_at (first_of (codes "bytes") rows) (first_of (codes "path") rows) (first_of (codes "prefix") rows)) (rows_read rotate_app words)
+
 -- what the words ask for; the first one names the command
 abbrev pub command_of : List Text → Option Asked
 command_of [] = None
 command_of (name ∷ rest) =
-    if bytes_eq name (codes "cat") then cat_of (name ∷ rest) else (if bytes_eq name (codes "run") then run_of (name ∷ rest) else (if bytes_eq name (codes "gen") then gen_of (name ∷ rest) else (if bytes_eq name (codes "audit") then audit_of (name ∷ rest) else None)))
+    if bytes_eq name (codes "cat") then cat_of (name ∷ rest) else (if bytes_eq name (codes "run") then run_of (name ∷ rest) else (if bytes_eq name (codes "gen") then gen_of (name ∷ rest) else (if bytes_eq name (codes "audit") then audit_of (name ∷ rest) else (if bytes_eq name (codes "rotate") then rotate_of (name ∷ rest) else None))))
 
--- the numbers that are asked for are within their limits
+-- each file has bytes, the words are as long as they may be, and no file that is made is the one that is read
+pub record MayRotate (bytes : ℕ) (path prefix : Text) : Type 0 where
+  pub some : 1 ≤ bytes
+  pub most : bytes ≤ 1000000000
+  pub path_size : (1 ≤ length path) × (length path ≤ 1024)
+  pub prefix_size : (1 ≤ length prefix) × (length prefix ≤ 1019)
+  pub apart : (i : ℕ) → i < most_files → path ≢ file_name prefix i
+
+-- what is asked for is within its limits
 abbrev pub IsLimited : Asked → Type 0
 IsLimited (Cat chunk path) = (1 ≤ chunk) × (chunk ≤ 65536)
 IsLimited (Run most) = IfSome most (λ n. (1 ≤ n) × (n ≤ 64))
 IsLimited (Gen seed streams lines) = (seed ≤ 4294967295) × (1 ≤ streams) × (streams ≤ 64) × (lines ≤ 100000)
 IsLimited Audit = Unit {0}
+IsLimited (Rotate bytes path prefix) = MayRotate bytes path prefix

@@ -1,9 +1,10 @@
 //! The words of `cat`.
 ghost use Rattle.std.specs.Prelude.{◌≡◌, IfOk, option_map};
 ghost use Rattle.clap.specs.Words.{app_of};
-ghost use Rattle.command_words.specs.Words.{cat_app, cat_of, chunk_of, cat_at, is_file_path as is_file_path_of};
+ghost use Rattle.command_words.specs.Words.{cat_app, cat_of, chunk_of, cat_at};
 
 use crate::asked::Asked;
+use crate::names::is_file_path;
 use crate::numbers::number_within;
 use crate::reading::{matches_in, texts_of};
 use chunk_core::Word;
@@ -63,10 +64,4 @@ fn chunk_told(text: Option<&str>) -> Option<u32>
         Some(text) => number_within(1, 65_536, text),
         None => Some(CHUNK),
     }
-}
-
-fn is_file_path(path: &str) -> bool
-    ensures { result ≡ is_file_path_of path.now }
-{
-    1 <= path.len() && path.len() <= 1024
 }

@@ -3,7 +3,7 @@
 ghost use Rattle.std.specs.Prelude.{◌≡◌, ◌≢◌, ◌≤◌, ◌<◌, ℕ, List, [], ◌∷◌, length, codes, Some, None};
 ghost use Rattle.command_words.specs.Spelled.{Asks, AsksNothing};
 ghost use Rattle.command_words.specs.Words.{command_of};
-ghost use Rattle.command_words.specs.declared.asked.Asked.TheVariants.{Cat, Run, Gen, Audit};
+ghost use Rattle.command_words.specs.declared.asked.Asked.TheVariants.{Cat, Run, Gen, Audit, Rotate};
 
 /// How an option and its number are spelled.
 pub fn chunks_are_spelled()
@@ -142,6 +142,63 @@ pub fn audits_are_spelled()
     ensures asks_for_help { AsksNothing (codes "audit --help") }
     ensures asks_shortly_for_help { AsksNothing (codes "audit -h") }
     ensures asks_for_the_version { AsksNothing (codes "audit -V") }
+{}
+
+/// How a rotation is spelled.
+pub fn rotations_are_spelled()
+    ensures is_apart { Asks (codes "rotate --bytes 4 a p") (Rotate 4 (codes "a") (codes "p")) }
+    ensures is_attached { Asks (codes "rotate --bytes=4 a p") (Rotate 4 (codes "a") (codes "p")) }
+    ensures is_between { Asks (codes "rotate a --bytes 4 p") (Rotate 4 (codes "a") (codes "p")) }
+    ensures is_behind { Asks (codes "rotate a p --bytes=4") (Rotate 4 (codes "a") (codes "p")) }
+    ensures has_a_plus { Asks (codes "rotate --bytes +04 a p") (Rotate 4 (codes "a") (codes "p")) }
+    ensures has_hyphens { Asks (codes "rotate --bytes 4 - -") (Rotate 4 (codes "-") (codes "-")) }
+    ensures is_before_two_hyphens { Asks (codes "rotate --bytes 4 -- -a --") (Rotate 4 (codes "-a") (codes "--")) }
+    ensures has_one_word_twice { Asks (codes "rotate --bytes 4 a a") (Rotate 4 (codes "a") (codes "a")) }
+    ensures has_no_number { AsksNothing (codes "rotate a p") }
+    ensures has_no_value { AsksNothing (codes "rotate a p --bytes") }
+    ensures has_an_empty_value { AsksNothing (codes "rotate --bytes= a p") }
+    ensures has_a_word_for_a_number { AsksNothing (codes "rotate --bytes four a p") }
+    ensures has_a_unit { AsksNothing (codes "rotate --bytes 4k a p") }
+    ensures is_negative { AsksNothing (codes "rotate --bytes -4 a p") }
+    ensures is_given_twice { AsksNothing (codes "rotate --bytes 4 --bytes 4 a p") }
+    ensures is_shortened { AsksNothing (codes "rotate --byte 4 a p") }
+    ensures is_a_number_alone { AsksNothing (codes "rotate 4 a p") }
+    ensures has_no_prefix { AsksNothing (codes "rotate --bytes 4 a") }
+    ensures has_no_word { AsksNothing (codes "rotate --bytes 4") }
+    ensures has_three_words { AsksNothing (codes "rotate --bytes 4 a p q") }
+    ensures has_an_empty_path { AsksNothing (codes "rotate --bytes 4  p") }
+    ensures has_an_empty_prefix { AsksNothing (codes "rotate --bytes 4 a ") }
+    ensures has_a_short_option { AsksNothing (codes "rotate --bytes 4 -a p") }
+    ensures has_the_option_of_cat { AsksNothing (codes "rotate --chunk 4 a p") }
+    ensures asks_for_help { AsksNothing (codes "rotate --help") }
+    ensures asks_shortly_for_help { AsksNothing (codes "rotate -h") }
+    ensures asks_for_the_version { AsksNothing (codes "rotate -V") }
+{}
+
+/// The least and the most that a file of a rotation may have.
+pub fn rotations_are_limited()
+    ensures is_least { Asks (codes "rotate --bytes 1 a p") (Rotate 1 (codes "a") (codes "p")) }
+    ensures is_below_the_least { AsksNothing (codes "rotate --bytes 0 a p") }
+    ensures is_most { Asks (codes "rotate --bytes 1000000000 a p") (Rotate 1000000000 (codes "a") (codes "p")) }
+    ensures is_above_the_most { AsksNothing (codes "rotate --bytes 1000000001 a p") }
+    ensures is_beyond_64_bits { AsksNothing (codes "rotate --bytes 18446744073709551620 a p") }
+{}
+
+/// A path that is the name of a file that would be made is refused, and no other one.
+pub fn rotations_spare_their_source()
+    ensures is_first { AsksNothing (codes "rotate --bytes 4 p.0 p") }
+    ensures is_last { AsksNothing (codes "rotate --bytes 4 p.1023 p") }
+    ensures is_behind_the_last { Asks (codes "rotate --bytes 4 p.1024 p") (Rotate 4 (codes "p.1024") (codes "p")) }
+    ensures has_a_leading_zero { Asks (codes "rotate --bytes 4 p.07 p") (Rotate 4 (codes "p.07") (codes "p")) }
+    ensures has_two_zeros { Asks (codes "rotate --bytes 4 p.00 p") (Rotate 4 (codes "p.00") (codes "p")) }
+    ensures has_a_plus { Asks (codes "rotate --bytes 4 p.+7 p") (Rotate 4 (codes "p.+7") (codes "p")) }
+    ensures has_nothing_behind_the_dot { Asks (codes "rotate --bytes 4 p. p") (Rotate 4 (codes "p.") (codes "p")) }
+    ensures has_no_dot { Asks (codes "rotate --bytes 4 p7 p") (Rotate 4 (codes "p7") (codes "p")) }
+    ensures has_another_mark { Asks (codes "rotate --bytes 4 p-7 p") (Rotate 4 (codes "p-7") (codes "p")) }
+    ensures has_another_prefix { Asks (codes "rotate --bytes 4 q.7 p") (Rotate 4 (codes "q.7") (codes "p")) }
+    ensures has_a_longer_prefix { Asks (codes "rotate --bytes 4 pp.7 p") (Rotate 4 (codes "pp.7") (codes "p")) }
+    ensures has_more_behind { Asks (codes "rotate --bytes 4 p.7.7 p") (Rotate 4 (codes "p.7.7") (codes "p")) }
+    ensures has_that_prefix { AsksNothing (codes "rotate --bytes 4 p.7.7 p.7") }
 {}
 
 /// Words that name no command.

@@ -22,8 +22,10 @@ pub(crate) mod audit;
 pub(crate) mod cat;
 pub(crate) mod generated;
 pub mod laws;
+pub(crate) mod names;
 pub(crate) mod numbers;
 pub(crate) mod reading;
+pub(crate) mod rotate;
 pub(crate) mod run;
 
 pub use asked::{Asked, asked_by};

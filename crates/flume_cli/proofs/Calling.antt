@@ -3,14 +3,17 @@ use Rattle.std.proofs.Common.{◌≡◌, ℕ, Bool, true, false, nat_lt, if◌th
 use Rattle.std.proofs.lemmas.Bool.{false≢true}
 use Rattle.device_port.specs.Source.{SourceTold}
 use Rattle.device_port.specs.Depot.{DepotTold}
-use Rattle.device_port.specs.Sink.{SinkTold}
+use Rattle.device_port.specs.Sink.{SinkTold, with_bytes}
+use Rattle.device_port.proofs.Puts.{with_bytes_none}
 use Rattle.command_words.specs.Words.{command_of}
 use Rattle.command_words.specs.declared.asked.Asked.{Asked}
-use Rattle.command_words.specs.declared.asked.Asked.TheVariants.{Cat, Run, Audit}
+use Rattle.command_words.specs.declared.asked.Asked.TheVariants.{Cat, Run, Audit, Rotate}
 use Rattle.pipeline_desc.specs.Meant.{PlanMeant}
 use Rattle.pipeline_desc.specs.Plans.{plan_of}
 use Rattle.pipeline_desc.specs.declared.refusal.Refusal.{Refusal}
-use Rattle.cat_run.specs.Cat.{cat_work, FramesAreWithin, RunsCat}
+use Rattle.cat_run.specs.Cat.{FramesAreWithin, RunsCat, and_one, cat_work, run_record_of}
+use Rattle.rotate_rules.specs.Pieces.{rotate_work}
+use Rattle.rotate_rules.specs.Rotation.{RotatesFiles}
 use Rattle.plan_work.specs.Plans.{run_work}
 use Rattle.par_join.specs.Plans.{RunsPlan}
 use Rattle.cat_run.specs.declared.outcome.Outcome.{Outcome}
@@ -21,9 +24,10 @@ use Rattle.flume_cli.specs.Status.{Causes, line_of, status_of, status_of_audit}
 use Rattle.audit_run.specs.Audit.{IsAudit}
 use Rattle.audit_run.specs.declared.reading.AuditEnd.{AuditEnd}
 use Rattle.res_ledger.specs.declared.event.Event.{Event}
+use Rattle.run_rules.specs.declared.end.EndOf.{EndOf}
 use Rattle.flume_cli.specs.Input.{IsInput}
 use Rattle.flume_cli.specs.Description.{ReadsInput, ReadsPlan, with_most}
-use Rattle.flume_cli.specs.Headline.{AuditsLedger, Call, DidNothing, Does, DoesPlan, HasStatus, IsToldLine, KeepsSource, RunsStreams, asked_of}
+use Rattle.flume_cli.specs.Headline.{AuditsLedger, Call, DidNothing, Does, DoesPlan, HasStatus, IsText, IsToldLine, KeepsSource, RunsStreams, asked_of, run_of_call}
 use Rattle.flume_cli.specs.Call.{call_of}
 use Rattle.flume_cli.specs.Finish.{Reports, Tells}
 use Rattle.flume_cli.proofs.Telling.{DoesWork, kept, report_is, rose, work_told}
@@ -165,6 +169,33 @@ module _ (words : List (List ℕ)) (src : SourceTold) (depot : DepotTold) (out e
         source = record { kept = refl; refused = refl };
         does = nothing words src src depot out eold enew status.Memory;
       })
+
+-- a rotation was done and told
+pub rotation_told : (words : List (List ℕ)) (n : ℕ) (path prefix : List ℕ) (src : SourceTold) (dold dnew : DepotTold) (so sn eold enew : SinkTold) (o : Outcome) (r : Report)
+    → command_of words ≡ Some (Rotate n path prefix) → RotatesFiles path prefix n (run_record_of dold dnew [] None [] o) → o.sink_failed ≡ false → Tells o so sn eold enew r
+    → RunsStreams (call_of words src src dold dnew so sn eold enew r)
+rotation_told words n path prefix src dold dnew so sn eold enew o r asked rotates unbroken told =
+    let did : DoesWork (rotate_work path prefix n) dold dnew so so o [] None [] = record {
+      broke = sym unbroken;
+      performs = rotates.performs;
+      wrote = subst (λ b. so ≡ record (with_bytes so []) { faults = and_one b so.faults }) (sym unbroken) (sym (with_bytes_none so));
+      begun = λ e. (unbroken, rotates.rotation.begun e);
+    } in
+    let t = work_told words src src dold dnew so so sn eold enew o (rotate_work path prefix n) [] None [] (ap (λ q. is_some q) asked) (kept src.faults src.faults refl) did r told in
+    let c : Call = call_of words src src dold dnew so sn eold enew r in
+    let text : IsText c t.causes [] None [] o.memory =
+    subst (λ w. IsText c t.causes [] None [] w) t.same_wanted
+    (subst (λ b. IsText c t.causes [] None b t.tells.wanted) t.same_rest
+    (subst (λ f. IsText c t.causes [] f t.tells.rest t.tells.wanted) t.same_cut (subst (λ fs. IsText c t.causes fs t.tells.cut t.tells.rest t.tells.wanted) t.same_frames t.tells.text))) in
+    let reported : RotatesFiles path prefix n (run_of_call c [] None [] o.memory) =
+    subst (λ (es : List EndOf). RotatesFiles path prefix n (record { depot_old = dold; depot_new = dnew; ends = es; events = r.ledger; frames = []; cut = None; rest = []; memory = o.memory })) (sym told.report.ends_are)
+    (subst (λ (L : List Event). RotatesFiles path prefix n (record { depot_old = dold; depot_new = dnew; ends = o.ends; events = L; frames = []; cut = None; rest = []; memory = o.memory })) (sym told.report.ledger_is) rotates) in
+    record {
+      causes = t.causes;
+      status = t.status;
+      source = source_for c t.causes (Some (Rotate n path prefix)) t.early asked (record { kept = refl; refused = t.refused });
+      does = done_for c t.causes (Some (Rotate n path prefix)) t.early asked (record { wanted = o.memory; rotates = reported; text = text });
+    }
 
 -- a ledger was audited, and the call was told
 pub audit_told : (words : List (List ℕ)) (s t : SourceTold) (depot : DepotTold) (o p eold enew : SinkTold) (L : List Event) (end : AuditEnd) (r : Report) → command_of words ≡ Some Audit → IsAudit s t o p L end

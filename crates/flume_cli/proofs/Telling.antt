@@ -68,7 +68,7 @@ pub record DoesWork (work : Work) (depot_old depot_new : DepotTold) (old new : S
   pub begun : o.ends ≡ [] → (o.sink_failed ≡ false) × (o.memory ≡ true)
 
 -- the work was told, with these frames
-pub record IsTold (work : Work) (c : Call) (frames : List Frame) (cut : Option Frame) : Type 0 where
+pub record IsTold (work : Work) (c : Call) (frames : List Frame) (cut : Option Frame) (rest : List ℕ) (wanted : Bool) : Type 0 where
   pub causes : Causes
   pub early : causes.early ≡ false
   pub refused : causes.refused ≡ None
@@ -76,6 +76,8 @@ pub record IsTold (work : Work) (c : Call) (frames : List Frame) (cut : Option F
   pub tells : TellsWork work c causes
   pub same_frames : tells.frames ≡ frames
   pub same_cut : tells.cut ≡ cut
+  pub same_rest : tells.rest ≡ rest
+  pub same_wanted : tells.wanted ≡ wanted
 
 module _ (words : List (List ℕ)) (src src' : SourceTold) (dold dnew : DepotTold) (so mid sn : SinkTold) (eold enew : SinkTold) (o : Outcome) (work : Work) (frames : List Frame) (cut : Option Frame) (rest : List ℕ) (meant : is_some (command_of words) ≡ true) (quiet : nat_lt src.faults src'.faults ≡ false) (runs : DoesWork work dold dnew so mid o frames cut rest) where
   abbrev tail : List ℕ
@@ -94,7 +96,7 @@ module _ (words : List (List ℕ)) (src src' : SourceTold) (dold dnew : DepotTol
   remembered h = ⊎_elim (λ (x : IsUnmade (run_record_of dold dnew frames cut rest o)). x.memory) (λ (x : Ran work (run_record_of dold dnew frames cut rest o)). let f = any_found (λ (e : EndOf). is_memory e.how) o.ends h in x.ends.memory f.0 f.1 (memory_so f.0.how f.2)) runs.performs.ran
 
   -- the call was told, from the parts that differ by how
-  tells : (s : Status) (m : Bool) → (o.memory ≡ true → m ≡ true) → s ≡ status_of (causes m) → IsText (told s) (causes m) frames cut rest o.memory → IsToldLine eold enew (line_of s) → IsTold work (told s) frames cut
+  tells : (s : Status) (m : Bool) → (o.memory ≡ true → m ≡ true) → s ≡ status_of (causes m) → IsText (told s) (causes m) frames cut rest o.memory → IsToldLine eold enew (line_of s) → IsTold work (told s) frames cut rest o.memory
   tells s m more is text line = record {
     causes = causes m;
     early = refl;
@@ -119,6 +121,8 @@ module _ (words : List (List ℕ)) (src src' : SourceTold) (dold dnew : DepotTol
     };
     same_frames = refl;
     same_cut = refl;
+    same_rest = refl;
+    same_wanted = refl;
   }
 
   mid_faults : mid.faults ≡ and_one o.sink_failed so.faults
@@ -158,7 +162,7 @@ module _ (words : List (List ℕ)) (src src' : SourceTold) (dold dnew : DepotTol
   says_nothing f u true e = subst (λ b. SaysTail (causes true) [] tail status.Memory b o.memory) (sym (runs.broke ∙ f)) (subst (λ w. SaysTail (causes true) [] tail status.Memory false w) (sym e) (u, refl, refl))
   says_nothing f u false e = begun [] status.Memory (causes true) f e refl
 
-  tells_failed : o.sink_failed ≡ true → sn ≡ mid → IsToldLine eold enew (line_of status.NotWritten) → IsTold work (told status.NotWritten) frames cut
+  tells_failed : o.sink_failed ≡ true → sn ≡ mid → IsToldLine eold enew (line_of status.NotWritten) → IsTold work (told status.NotWritten) frames cut rest o.memory
   tells_failed t e line =
       let up : nat_lt so.faults sn.faults ≡ true = rose so.faults sn.faults (ap (λ (x : SinkTold). x.faults) e ∙ mid_rose t) in
       tells status.NotWritten o.memory (λ h. h) (failed_is _ _ _ _ up) (record {
@@ -169,7 +173,7 @@ module _ (words : List (List ℕ)) (src src' : SourceTold) (dold dnew : DepotTol
         once = let same : sn.faults ≡ mid.faults = ap (λ (x : SinkTold). x.faults) e in let m : mid.faults ≡ so.faults + 1 = mid_rose t in omega arith;
       }) line
 
-  tells_memory : o.sink_failed ≡ false → sn ≡ mid → IsToldLine eold enew (line_of status.Memory) → IsTold work (told status.Memory) frames cut
+  tells_memory : o.sink_failed ≡ false → sn ≡ mid → IsToldLine eold enew (line_of status.Memory) → IsTold work (told status.Memory) frames cut rest o.memory
   tells_memory f e line =
       let same : sn.faults ≡ so.faults = ap (λ (x : SinkTold). x.faults) e ∙ mid_kept f in
       tells status.Memory true (λ h. refl) (memory_is (nat_lt so.faults sn.faults) (any (λ (x : EndOf). is_fault x.how) o.ends) (has_event is_failed o.ledger) (kept so.faults sn.faults same)) (record {
@@ -180,7 +184,7 @@ module _ (words : List (List ℕ)) (src src' : SourceTold) (dold dnew : DepotTol
         once = omega arith;
       }) line
 
-  tells_broken : o.sink_failed ≡ false → o.memory ≡ false → BreaksOff mid sn tail → IsToldLine eold enew (line_of status.NotWritten) → IsTold work (told status.NotWritten) frames cut
+  tells_broken : o.sink_failed ≡ false → o.memory ≡ false → BreaksOff mid sn tail → IsToldLine eold enew (line_of status.NotWritten) → IsTold work (told status.NotWritten) frames cut rest o.memory
   tells_broken f g b line =
       let more : sn.faults ≡ so.faults + 1 = ap (λ (x : SinkTold). x.faults) b.told ∙ ap (λ n. n + 1) (mid_kept f) in
       let up : nat_lt so.faults sn.faults ≡ true = rose so.faults sn.faults more in
@@ -192,7 +196,7 @@ module _ (words : List (List ℕ)) (src src' : SourceTold) (dold dnew : DepotTol
         once = omega arith;
       }) line
 
-  told_whole : (s : Status) → o.sink_failed ≡ false → o.memory ≡ false → sn ≡ with_bytes mid tail → s ≡ status_by o.ends o.ledger → SaysBegun tail tail s → IsToldLine eold enew (line_of s) → IsTold work (told s) frames cut
+  told_whole : (s : Status) → o.sink_failed ≡ false → o.memory ≡ false → sn ≡ with_bytes mid tail → s ≡ status_by o.ends o.ledger → SaysBegun tail tail s → IsToldLine eold enew (line_of s) → IsTold work (told s) frames cut rest o.memory
   told_whole s f g e is says line =
       let same : sn.faults ≡ so.faults = ap (λ (x : SinkTold). x.faults) e ∙ mid_kept f in
       tells s false (λ h. absurd (both_ways o.memory g h)) (is ∙ printed_is _ _ _ (kept so.faults sn.faults same)) (record {
@@ -203,7 +207,7 @@ module _ (words : List (List ℕ)) (src src' : SourceTold) (dold dnew : DepotTol
         once = omega arith;
       }) line
 
-  tells_printed : (s : Status) → o.sink_failed ≡ false → o.memory ≡ false → Prints o mid sn s → IsToldLine eold enew (line_of s) → IsTold work (told s) frames cut
+  tells_printed : (s : Status) → o.sink_failed ≡ false → o.memory ≡ false → Prints o mid sn s → IsToldLine eold enew (line_of s) → IsTold work (told s) frames cut rest o.memory
   tells_printed status.NotWritten f g p line = tells_broken f g p line
   tells_printed status.Memory f g p line = tells_memory f p line
   tells_printed status.BadWords f g p line = absurd p
@@ -216,17 +220,17 @@ module _ (words : List (List ℕ)) (src src' : SourceTold) (dold dnew : DepotTol
   tells_printed (status.LedgerRefused e) f g p line = told_whole (status.LedgerRefused e) f g p.0 p.1 refl line
   tells_printed status.LedgerUnread f g p line = told_whole status.LedgerUnread f g p.0 p.1 refl line
 
-  tells_any : (s : Status) → PrintsTail o mid sn s → IsToldLine eold enew (line_of s) → IsTold work (told s) frames cut
+  tells_any : (s : Status) → PrintsTail o mid sn s → IsToldLine eold enew (line_of s) → IsTold work (told s) frames cut rest o.memory
   tells_any s p line =
       ⊎_elim
-      (λ t. let q = p.failed t in subst (λ x. IsTold work (told x) frames cut) (sym q.0) (tells_failed t q.1 (subst (λ x. IsToldLine eold enew (line_of x)) q.0 line)))
+      (λ t. let q = p.failed t in subst (λ x. IsTold work (told x) frames cut rest o.memory) (sym q.0) (tells_failed t q.1 (subst (λ x. IsToldLine eold enew (line_of x)) q.0 line)))
       (λ f. ⊎_elim
-      (λ t. let q = p.memory f t in subst (λ x. IsTold work (told x) frames cut) (sym q.0) (tells_memory f q.1 (subst (λ x. IsToldLine eold enew (line_of x)) q.0 line)))
+      (λ t. let q = p.memory f t in subst (λ x. IsTold work (told x) frames cut rest o.memory) (sym q.0) (tells_memory f q.1 (subst (λ x. IsToldLine eold enew (line_of x)) q.0 line)))
       (λ g. tells_printed s f g (p.printed f g) line)
       (cases_Bool o.memory))
       (cases_Bool o.sink_failed)
 
   -- the work was done and told
-  pub work_told : (r : Report) → Tells o mid sn eold enew r → IsTold work (call_of words src src' dold dnew so sn eold enew r) frames cut
+  pub work_told : (r : Report) → Tells o mid sn eold enew r → IsTold work (call_of words src src' dold dnew so sn eold enew r) frames cut rest o.memory
   work_told r t =
-      subst (λ x. IsTold work (call_of words src src' dold dnew so sn eold enew x) frames cut) (sym (report_is r r.status o.ends o.ledger refl t.report.ends_are t.report.ledger_is)) (tells_any r.status t.tail t.report.line)
+      subst (λ x. IsTold work (call_of words src src' dold dnew so sn eold enew x) frames cut rest o.memory) (sym (report_is r r.status o.ends o.ledger refl t.report.ends_are t.report.ledger_is)) (tells_any r.status t.tail t.report.line)

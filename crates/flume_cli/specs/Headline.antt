@@ -8,7 +8,7 @@ use Rattle.device_port.specs.Sink.{SinkTold, with_bytes, BreaksOff}
 use Rattle.device_port.specs.Depot.{DepotTold}
 use Rattle.command_words.specs.Words.{command_of}
 use Rattle.command_words.specs.declared.asked.Asked.{Asked}
-use Rattle.command_words.specs.declared.asked.Asked.TheVariants.{Cat, Run, Gen, Audit}
+use Rattle.command_words.specs.declared.asked.Asked.TheVariants.{Cat, Run, Gen, Audit, Rotate}
 use Rattle.run_rules.specs.declared.end.EndOf.{EndOf}
 use Rattle.run_rules.specs.Facts.{is_fault, is_memory, is_failed, has_event}
 use Rattle.run_rules.specs.Work.{Work, RunRecord}
@@ -19,6 +19,7 @@ use Rattle.pipeline_desc.specs.Plans.{plan_of}
 use Rattle.pipeline_desc.specs.Reading.{Reading}
 use Rattle.cat_run.specs.Cat.{cat_work, FramesAreWithin}
 use Rattle.plan_work.specs.Plans.{run_work}
+use Rattle.rotate_rules.specs.Rotation.{RotatesFiles}
 use Rattle.flume_cli.specs.Input.{IsInput, TakesSome}
 use Rattle.flume_cli.specs.declared.status.Status.{Status}
 use Rattle.flume_cli.specs.declared.status.Status.TheVariants as status
@@ -100,6 +101,13 @@ pub record TellsWork (work : Work) (c : Call) (k : Causes) : Type 0 where
   pub performs : Performs work (run_of_call c frames cut rest wanted)
   pub text : IsText c k frames cut rest wanted
 
+-- A file was copied into files of n bytes each, and that was told: of the output nothing but the tail was written. What the files hold, which of them were open
+-- at a time and how the stream ended stands in `RotatesFiles`.
+pub record TellsRotation (path prefix : List ℕ) (n : ℕ) (c : Call) (k : Causes) : Type 0 where
+  pub wanted : Bool
+  pub rotates : RotatesFiles path prefix n (run_of_call c [] None [] wanted)
+  pub text : IsText c k [] None [] wanted
+
 -- what the bytes of a description mean was done: its plan was run, with as many streams open at a time as the words tell, or nothing was done where it is refused
 abbrev pub DoesPlan : Call → Causes → Option ℕ → Reading PlanMeant → Type 0
 DoesPlan c k most (Ok plan) = (k.refused ≡ None) × TellsWork (run_work (with_most most plan)) c k
@@ -146,6 +154,7 @@ Does c k (Some (Cat chunk path)) = (t : TellsWork (cat_work path) c k) × Frames
 Does c k (Some (Run most)) = StopsBefore c k ⊎ RunsInput c k most
 Does c k (Some (Gen seed streams lines)) = TellsCase (record { seed = seed; streams = streams; lines = lines }) c k
 Does c k (Some Audit) = ⊥
+Does c k (Some (Rotate n path prefix)) = TellsRotation path prefix n c k
 Does c k None = DidNothing c
 
 -- no description was read: the source is as it was, and nothing is refused
@@ -159,6 +168,7 @@ KeepsSource c k (Some (Cat chunk path)) = ReadsNothing c k
 KeepsSource c k (Some (Run most)) = Unit {0}
 KeepsSource c k (Some (Gen seed streams lines)) = ReadsNothing c k
 KeepsSource c k (Some Audit) = ⊥
+KeepsSource c k (Some (Rotate n path prefix)) = ReadsNothing c k
 KeepsSource c k None = ReadsNothing c k
 
 -- Streams were run, or nothing was done since the words mean nothing or found no memory. What it says of devices, ledger, outputs, ends and completeness stands

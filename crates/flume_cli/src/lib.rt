@@ -6,7 +6,8 @@
 //! status, the output and standard error. `Status::Refused` has the reason why a description is
 //! refused. Only `run` reads the source, whole and before anything else; the description that it has
 //! is read by `pipeline_desc`. The work of a command is `par_join`'s; behind its frames `tail_of`
-//! tells how each stream ended, and the ledger. `gen` runs a case of `gen_case` in memory, over files of
+//! tells how each stream ended, and the ledger. `rotate` copies a file into others and prints that
+//! tail alone. `gen` runs a case of `gen_case` in memory, over files of
 //! its own, and prints a summary of it.
 //!
 //! ```

@@ -19,6 +19,7 @@ use device_port::{Depot, Failed, Gate, Sink, Source, put};
 use gen_case::Case;
 use par_join::{Outcome, run_cat, run_streams};
 use res_ledger::{Ledger, What};
+use rotate_run::run_rotate;
 use run_rules::EndOf;
 use std::alloc::{AllocError, Global};
 use std::sync::Wait;
@@ -77,6 +78,18 @@ where
         Ok(Some(Asked::Audit)) => {
             let audited = run_audit(alloc, src, out);
             tell_audit(alloc, audited, err)
+        }
+        Ok(
+            Some(
+                Asked::Rotate {
+                    bytes,
+                    path,
+                    prefix,
+                },
+            ),
+        ) => {
+            let outcome = run_rotate(alloc, &path, &prefix, bytes, depot);
+            tell(alloc, outcome, out, err)
         }
         Ok(None) => refuse(alloc, Status::BadWords, err),
         Err(AllocError) => refuse(alloc, Status::Memory, err),

@@ -8,3 +8,7 @@ pub mod Reading
 pub mod Cases
 pub mod Unruly
 pub mod Auditing
+pub mod Misrotated
+pub mod Rotations
+pub mod Rotating
+pub mod Ledgers

@@ -7,3 +7,4 @@ pub mod Whole
 pub mod Cases
 pub mod Unruly
 pub mod Audited
+pub mod Rotated

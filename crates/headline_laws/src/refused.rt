@@ -5,6 +5,7 @@ ghost use Rattle.std.specs.Prelude.{ℕ, ◌<◌, List, length};
 ghost use Rattle.headline_laws.specs.Audited.{audit_of_nothing, audit_of_the_depot, clean_called_unended, ledger_not_reported, other_rule_named, refused_though_spelled, unended_called_clean, unended_with_status_0, unread_though_read};
 ghost use Rattle.headline_laws.specs.Cases.{case_of_the_depot, case_of_the_source, failed_case, halted_case, nothing_summed, summary_of_another_seed, summary_without_memory};
 ghost use Rattle.headline_laws.specs.Described.{drained, end_not_read, made_though_refused, never_read, next_stream_refused, read_by_cat, read_on, refusal_printed, refused_though_good, stream_left_out, unread_but_refused, unread_without_a_fault};
+ghost use Rattle.headline_laws.specs.Rotated.{closed_at_the_end, cut_piece, done_as_errored, halted_rotation, printed_too, too_many_of_six, unfailed_write};
 ghost use Rattle.headline_laws.specs.Surplus.{halted_by_the_tail, halted_for_memory, idle_devices, invented_scopes, larger_frame, made_without_words, memory_at_the_end, opened_again, writes_on};
 ghost use Rattle.headline_laws.specs.Unruly.{emptied_unopened, opened_though_missing, opened_twice, out_of_turn};
 
@@ -111,4 +112,15 @@ pub fn wrong_audits()
     ensures is_audit_of_the_depot { ¬ (Headline audit_of_the_depot) }
     ensures is_audit_of_nothing { ¬ (Headline audit_of_nothing) }
     ensures is_unread_though_read { ¬ (Headline unread_though_read) }
+{}
+
+/// Rotations that lost a byte, kept files open, or ended otherwise than their devices tell.
+pub fn wrong_rotations()
+    ensures is_cut_piece { ¬ (Headline cut_piece) }
+    ensures is_closed_at_the_end { ¬ (Headline closed_at_the_end) }
+    ensures is_too_many_of_six { ¬ (Headline too_many_of_six) }
+    ensures is_halted_rotation { ¬ (Headline halted_rotation) }
+    ensures is_unfailed_write { ¬ (Headline unfailed_write) }
+    ensures is_done_as_errored { ¬ (Headline done_as_errored) }
+    ensures is_printed_too { ¬ (Headline printed_too) }
 {}

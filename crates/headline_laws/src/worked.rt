@@ -3,6 +3,7 @@ ghost use Rattle.flume_cli.specs.Headline.{Headline};
 ghost use Rattle.headline_laws.specs.Audited.{clean_ledger, unended_ledger, unread_ledger, unwritten_verdict};
 ghost use Rattle.headline_laws.specs.Cases.{case_not_made};
 ghost use Rattle.headline_laws.specs.Described.{empty_description, no_memory, refused_description, unread_source};
+ghost use Rattle.headline_laws.specs.Rotated.{two_pieces, unopened_piece};
 ghost use Rattle.headline_laws.specs.Worked.{whole_file, empty_file, missing_file, read_fault, failed_close, failed_write, words_not_read};
 
 /// Files that were read whole.
@@ -47,4 +48,10 @@ pub fn audits()
     ensures is_unended_ledger { Headline unended_ledger }
     ensures is_unwritten_verdict { Headline unwritten_verdict }
     ensures is_unread_ledger { Headline unread_ledger }
+{}
+
+/// A file that was copied into two, of which the second could not be opened, or could.
+pub fn rotations()
+    ensures is_two_pieces { Headline two_pieces }
+    ensures is_unopened_piece { Headline unopened_piece }
 {}

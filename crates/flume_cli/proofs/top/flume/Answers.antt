@@ -1,6 +1,6 @@
 -- What the words ask for was done and told.
 use Rattle.std.proofs.Common.{Some, inl, inr, sym, ap, ◌∙◌}
-use Rattle.flume_cli.proofs.Calling.{audit_told, cat_told, early_told, nothing_told, run_told, stopped_told}
+use Rattle.flume_cli.proofs.Calling.{audit_told, cat_told, early_told, nothing_told, rotation_told, run_told, stopped_told}
 use Rattle.flume_cli.proofs.Generating.{case_told}
 use Rattle.flume_cli.proofs.top.flume.Goals as goal
 
@@ -35,3 +35,9 @@ pub returns-in-Ok-Some-Audit : goal.returns-in-Ok-Some-Audit
 returns-in-Ok-Some-Audit g c =
     let w = c.in-Ok-Some-Audit in
     inr (audit_told _ _ _ _ _ _ _ _ _ c.run_audit-audited.result.end c.tell_audit.result (sym w.ensures.asked ∙ (w.field-0-is ∙ ap (λ x. Some x) w.field-0-0-is)) c.run_audit-audited.ensures c.tell_audit.ensures)
+
+pub returns-in-Ok-Some-Rotate : goal.returns-in-Ok-Some-Rotate
+returns-in-Ok-Some-Rotate g c =
+    let w = c.in-Ok-Some-Rotate in
+    inl (rotation_told _ w.bytes w.path w.prefix _ _ _ _ _ _ _ c.run_rotate-outcome.result c.tell-in-Ok-Some-Rotate.result (sym w.ensures.asked ∙ (w.field-0-is ∙ ap (λ x. Some x) w.field-0-0-is)) c.run_rotate-outcome.ensures.rotates
+    c.run_rotate-outcome.ensures.unwritten c.tell-in-Ok-Some-Rotate.ensures)
