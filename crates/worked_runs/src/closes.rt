@@ -1,5 +1,6 @@
 //! The ledger beside the closes of the devices.
 use crate::asserts::{holds_at, same};
+use crate::tables::LOOKUP;
 use chunk_core::{Exit, Word};
 use device_port::{Act, Depot, Device, Failed, MemDepot, Mode, OpenGate};
 use flume_cli::{Report, Status};
@@ -144,12 +145,12 @@ fn closes_of(alloc: Global, depot: &WatchedDepot<MemDepot>) -> Result<String, Al
 /// The paths of the rows in the order of their numbers: the tables, and then the streams' files.
 const PATHS: [&str; 5] = ["t.csv", "u.csv", "a", "b", "c"];
 
-/// A line for each Final: the path of the row, and the exit.
-fn finals_of(alloc: Global, ledger: &Ledger) -> Result<String, AllocError> {
+/// A line for each Final: the path of the row, of these, and the exit.
+fn finals_of(alloc: Global, ledger: &Ledger, paths: &[&str]) -> Result<String, AllocError> {
     let mut text = String::new(alloc);
     for event in ledger.as_slice() {
         if let What::Final { row, exit, .. } = event.what {
-            let path = PATHS.get(row as usize).copied().unwrap_or("no path");
+            let path = paths.get(row as usize).copied().unwrap_or("no path");
             writeln!(text, "{path} {exit}")?;
         }
     }
@@ -193,11 +194,24 @@ fn closes_one_by_one<R: Abort + Threads + Wait + Sync>(
     status: Status,
     closes: &str,
 ) -> Result<(), AllocError> {
-    let (report, depot) = watch_streams(rt, alloc, "1", trips)?;
-    same(rt, report.status, status);
-    let made = closes_of(alloc, &depot)?;
+    let seen = watch_streams(rt, alloc, "1", trips)?;
+    same(rt, seen.0.status, status);
+    is_closed_so(rt, alloc, &seen, &PATHS, closes)
+}
+
+/// Fails the test unless the devices were closed so, and the Finals tell the same of the rows of these
+/// paths.
+fn is_closed_so(
+    rt: &impl Abort,
+    alloc: Global,
+    seen: &(Report, WatchedDepot<MemDepot>),
+    paths: &[&str],
+    closes: &str,
+) -> Result<(), AllocError> {
+    let (report, depot) = seen;
+    let made = closes_of(alloc, depot)?;
     same(rt, made.as_str(), closes);
-    let told = finals_of(alloc, &report.ledger)?;
+    let told = finals_of(alloc, &report.ledger, paths)?;
     same(rt, told.as_str(), closes);
     Ok(())
 }
@@ -287,5 +301,41 @@ fn finals_are_the_closes_behind_a_fault(rt: HostRuntime) -> Result<(), Fail> {
     let one = "a succeeded\nb errored\nu.csv canceled\nt.csv canceled\n";
     closes_one_by_one(&rt, rt.alloc(), &trips, Status::Faulty, one)?;
     closes_side_by_side(&rt, rt.alloc(), &trips, Status::Faulty, 3)?;
+    Ok(())
+}
+
+/// Descriptions of one stream or none, the paths of their rows, and the closes.
+const ROWS: [(&str, &[&str], &str); 4] = [
+    (LOOKUP, &["t.csv", "a"], "a succeeded\nt.csv succeeded\n"),
+    (
+        "[[table]]\nname = 't'\npath = 't.csv'\n[[table]]\nname = 'u'\npath = 'u.csv'\n",
+        &["t.csv", "u.csv"],
+        "u.csv succeeded\nt.csv succeeded\n",
+    ),
+    (
+        "[[stream]]\npath = 'a'\nto = 'b'\n",
+        &["b", "a"],
+        "a succeeded\nb succeeded\n",
+    ),
+    (
+        "[[stream]]\npath = 'a'\nsteps = ['lines']\nwith = 'q'\njoin = 'zip'\n",
+        &["a", "q"],
+        "q succeeded\na succeeded\n",
+    ),
+];
+
+/// The same of a table behind its stream, of two tables without a stream, of a file that is written, and
+/// of two files that are joined.
+#[test]
+fn finals_are_the_closes_of_two_rows(rt: HostRuntime) -> Result<(), Fail> {
+    for (text, paths, closes) in &ROWS {
+        let case = Case {
+            others: &[("t.csv", b"k,v\n"), ("u.csv", b"k,w\n"), ("q", b"1\n2\n")],
+            ..run_of(text, b"a\nb\nc\n")
+        };
+        let seen = watch(&rt, rt.alloc(), &case)?;
+        same(&rt, seen.0.status, Status::Good);
+        is_closed_so(&rt, rt.alloc(), &seen, paths, closes)?;
+    }
     Ok(())
 }

@@ -26,6 +26,8 @@ mod faults;
 #[cfg(test)]
 mod generated;
 #[cfg(test)]
+mod in_turn;
+#[cfg(test)]
 mod meeting;
 #[cfg(test)]
 mod memory;

@@ -1,6 +1,7 @@
 //! What is seen where memory is wanting.
 use crate::asserts::{holds, same};
 use crate::cats::TAIL;
+use crate::tables::{KEYS, LOOKUP};
 use device_port::Act;
 use flume_cli::Status;
 use std::alloc::Global;
@@ -32,6 +33,20 @@ fn wanting_memory_of_a_run_is_told(rt: HostRuntime) {
     };
     let frames = b"0 3\nab\n\n0 5\nlost\n\n";
     tells(&rt, rt.alloc(), &case, frames, CAUGHT);
+}
+
+/// The same of a lookup in a table that is leased.
+#[test]
+fn wanting_memory_of_a_lookup_is_told(rt: HostRuntime) {
+    let case = Case {
+        others: &[("t.csv", b"k,v\n")],
+        ..run_of(LOOKUP, KEYS)
+    };
+    let tail = "end outer done\nend 0 done\nledger 8\n\
+        outer acquire 0 0\nouter lease 0 0\nouter close 0 succeeded\n0 acquire 1 0\n\
+        0 close 0 succeeded\n0 final 1 succeeded ok\n0 cancel 0 succeeded\n\
+        0 final 0 succeeded ok\n";
+    tells(&rt, rt.alloc(), &case, b"0 7\nk,v\nz,\n\n", tail);
 }
 
 /// The same of words: they are read, or nothing is done.

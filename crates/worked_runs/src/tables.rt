@@ -11,10 +11,10 @@ use std::thread::Threads;
 use worked_calls::outside::{Case, run_of};
 
 /// The table `t` of the file `t.csv`, and a stream whose keys are looked up in it.
-const LOOKUP: &str = "[[table]]\nname = 't'\npath = 't.csv'\n\
+pub(crate) const LOOKUP: &str = "[[table]]\nname = 't'\npath = 't.csv'\n\
     [[stream]]\npath = 'a'\nsteps = ['csv', 'lookup t 0']\n";
 
-const KEYS: &[u8] = b"k\nz\n";
+pub(crate) const KEYS: &[u8] = b"k\nz\n";
 
 fn lookup_in<'a>(others: &'a [(&'a str, &'a [u8])]) -> Case<'a> {
     Case {
