@@ -17,9 +17,10 @@
 //! What an event costs: what it costs in `ledger_books`, which is made twice, and for the order a
 //! few look-ups more. A Close takes down each open scope below it and each row there, and none of
 //! them is taken down again; a Cancel costs one look-up, however many rows its lease covers. A Final
-//! after a Close passes over the rows in front of it, each once, and asks for each whether a lease
-//! covers it: the leases that were noted since that row was acquired. A Final after a Cancel asks
-//! this of its lease alone, by the depth of a scope.
+//! after a Close passes over the rows in front of it, each once, and asks for each whether the lease
+//! covers it that likely does, as a Final after a Cancel asks of its lease: in a number of steps that
+//! grows with the logarithm of the depth. Where neither of two guesses is right all leases are gone
+//! through, which a row that none covers is the last to need.
 //!
 //! ```
 //! let alloc = rt.alloc();

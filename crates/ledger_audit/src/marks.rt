@@ -3,18 +3,18 @@ ghost use Rattle.std.specs.Prelude.{◌≡◌, ◌≢◌, ◌≤◌, ℕ, Bool, 
 ghost use Rattle.std.specs.List.{list_all as all};
 ghost use Rattle.chunk_core.specs.Lists.{has};
 ghost use Rattle.res_ledger.specs.declared.event.StreamNo.{StreamNo};
-ghost use Rattle.res_ledger.specs.declared.event.What.TheVariants.{Lease};
+ghost use Rattle.res_ledger.specs.declared.event.What.TheVariants.{Acquire, Lease};
 ghost use Rattle.res_ledger.specs.Ledger.{IsLeased, IsLegal};
 ghost use Rattle.res_ledger.specs.Order.{any_row, covered, covered_by, same_exit};
 ghost use Rattle.ledger_verdict.specs.Pending.{Due, behind, is_over as is_over_of};
-ghost use Rattle.ledger_books.specs.Keyed.{NotesAt};
+ghost use Rattle.ledger_books.specs.Keyed.{IsSomeCover, NotesAt};
 ghost use Rattle.ledger_books.specs.Kept.{Keeps};
 ghost use Rattle.ledger_audit.specs.Marks.{Stands, Tells, after_final as after_final_of, covered_until};
 
 use chunk_core::Exit;
-use ledger_books::Books;
 use ledger_books::books::{acquired, covering};
 use ledger_books::leases::{covers, lease_at, leased};
+use ledger_books::{Books, Lenders};
 use res_ledger::{Event, StreamNo};
 use std::alloc::{AllocError, Global};
 
@@ -44,8 +44,49 @@ fn is_same(a: Exit, b: Exit) -> bool
     a == b
 }
 
-/// Whether some lease covers the row.
-fn is_covered(alloc: Global, books: &Books, past: &[Event], row: u32) -> Result<bool, AllocError>
+/// Whether a lease stands at the place that covers the row.
+fn is_lent_at(
+    books: &Books,
+    past: &[Event],
+    place: Option<u64>,
+    row: u32,
+    at: u64,
+    owner: StreamNo,
+    of: u32,
+) -> bool
+    requires keeps { Keeps books.now past.now }
+    requires legal { IsLegal past.now }
+    requires row { NotesAt past.now at owner (Acquire row of) }
+    ensures { result ≡ true → (j : ℕ) × IsSomeCover past.now j row }
+{
+    let Some(place) = place else {
+        return false;
+    };
+    let Some((by, _, scope)) = lease_at(past, place) else {
+        return false;
+    };
+    covers(
+        &books.index,
+        &books.jumps,
+        past,
+        place,
+        by,
+        scope,
+        row,
+        at,
+        owner,
+        of,
+    )
+}
+
+/// Whether some lease covers the row: one of the two that likely does, or else any.
+fn is_covered(
+    alloc: Global,
+    books: &Books,
+    lenders: &Lenders,
+    past: &[Event],
+    row: u32,
+) -> Result<bool, AllocError>
     requires keeps { Keeps books.now past.now }
     requires legal { IsLegal past.now }
     ensures { IfOk result (λ b. b ≡ has row (covered past.now)) }
@@ -53,6 +94,14 @@ fn is_covered(alloc: Global, books: &Books, past: &[Event], row: u32) -> Result<
     let Some((at, owner, of)) = acquired(&books.index, past, row) else {
         return Ok(false);
     };
+    let within = lenders.within(owner, of);
+    if is_lent_at(books, past, within, row, at, owner, of) {
+        return Ok(true);
+    }
+    let beside = lenders.beside(past, owner, of);
+    if is_lent_at(books, past, beside, row, at, owner, of) {
+        return Ok(true);
+    }
     let streams = covering(alloc, books, past, row, at, owner, of)?;
     Ok(!streams.is_empty())
 }
@@ -61,6 +110,7 @@ fn is_covered(alloc: Global, books: &Books, past: &[Event], row: u32) -> Result<
 fn are_covered(
     alloc: Global,
     books: &Books,
+    lenders: &Lenders,
     past: &[Event],
     torn: &[u32],
     from: u64,
@@ -76,7 +126,7 @@ fn are_covered(
         let Some(row) = at(torn, n) else {
             return Ok(false);
         };
-        if !is_covered(alloc, books, past, row)? {
+        if !is_covered(alloc, books, lenders, past, row)? {
             return Ok(false);
         }
     }
@@ -87,6 +137,7 @@ fn are_covered(
 pub fn is_over(
     alloc: Global,
     books: &Books,
+    lenders: &Lenders,
     past: &[Event],
     torn: &[u32],
     mark: Mark,
@@ -98,7 +149,7 @@ pub fn is_over(
     match mark {
         Mark::Nothing => Ok(true),
         Mark::Canceled(..) => Ok(true),
-        Mark::Closed(_, from, to) => are_covered(alloc, books, past, torn, from, to),
+        Mark::Closed(_, from, to) => are_covered(alloc, books, lenders, past, torn, from, to),
     }
 }
 
@@ -106,6 +157,7 @@ pub fn is_over(
 fn passed(
     alloc: Global,
     books: &Books,
+    lenders: &Lenders,
     past: &[Event],
     torn: &[u32],
     from: u64,
@@ -125,7 +177,7 @@ fn passed(
         if next == row {
             return Ok(Some(n));
         }
-        if !is_covered(alloc, books, past, next)? {
+        if !is_covered(alloc, books, lenders, past, next)? {
             return Ok(None);
         }
     }
@@ -148,7 +200,18 @@ fn reached(books: &Books, past: &[Event], lease: u64, until: u64, row: u32) -> O
     let Some((by, _, scope)) = lease_at(past, lease) else {
         return None;
     };
-    if !covers(&books.index, past, lease, by, scope, row, at, owner, of) {
+    if !covers(
+        &books.index,
+        &books.jumps,
+        past,
+        lease,
+        by,
+        scope,
+        row,
+        at,
+        owner,
+        of,
+    ) {
         return None;
     }
     Some(at)
@@ -158,6 +221,7 @@ fn reached(books: &Books, past: &[Event], lease: u64, until: u64, row: u32) -> O
 pub fn after_final(
     alloc: Global,
     books: &Books,
+    lenders: &Lenders,
     past: &[Event],
     torn: &[u32],
     mark: Mark,
@@ -174,7 +238,7 @@ pub fn after_final(
             if !is_same(exit, end) {
                 return Ok(None);
             }
-            let Some(left) = passed(alloc, books, past, torn, from, to, row)? else {
+            let Some(left) = passed(alloc, books, lenders, past, torn, from, to, row)? else {
                 return Ok(None);
             };
             Ok(Some(Mark::Closed(end, from, left)))

@@ -18,8 +18,8 @@ ghost use Rattle.ledger_audit.specs.Trees.{HasTrees};
 use crate::marks::{Mark, after_cancel, after_final, is_over};
 use crate::trees::Trees;
 use chunk_core::Exit;
-use ledger_books::Books;
 use ledger_books::scopes::number;
+use ledger_books::{Books, Lenders};
 use res_ledger::{Event, StreamNo, What};
 use std::alloc::{AllocError, Global};
 use std::collections::HashMap;
@@ -89,6 +89,7 @@ fn begun(
 fn next(
     alloc: Global,
     books: &Books,
+    lenders: &Lenders,
     past: &[Event],
     trees: &Trees,
     torn: &mut Vec<u32>,
@@ -104,9 +105,9 @@ fn next(
     ensures grows { OnOk result ((xs : List ℕ) × (torn.new.items ≡ torn.old.items ++ xs)) }
 {
     if let What::Final { row, exit, .. } = event.what {
-        return after_final(alloc, books, past, torn, mark, row, exit);
+        return after_final(alloc, books, lenders, past, torn, mark, row, exit);
     }
-    if !is_over(alloc, books, past, torn, mark)? {
+    if !is_over(alloc, books, lenders, past, torn, mark)? {
         return Ok(None);
     }
     let mark = begun(alloc, books, past, trees, torn, event, place)?;
@@ -154,6 +155,7 @@ impl Order {
         &mut self,
         alloc: Global,
         books: &Books,
+        lenders: &Lenders,
         past: &[Event],
         event: Event,
         place: u64,
@@ -170,6 +172,7 @@ impl Order {
         let Some(mark) = next(
             alloc,
             books,
+            lenders,
             past,
             &self.trees,
             &mut self.torn,
@@ -196,9 +199,10 @@ pub fn first_disordered(
     requires legal { IsLegal events.now }
     ensures { IfOk result (λ o. MatchOption o (IsOrderedSoFar events.now) (IsFirstDisordered events.now)) }
 {
+    let lenders = Lenders::of(alloc, events)?;
     let mut order = Order::new(alloc);
     for (i, event) in events.iter().enumerate() {
-        if !order.step(alloc, books, events, *event, i as u64)? {
+        if !order.step(alloc, books, &lenders, events, *event, i as u64)? {
             return Ok(Some(i as u64));
         }
     }

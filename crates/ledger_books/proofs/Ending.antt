@@ -130,7 +130,7 @@ module _ (P : List Event) (e : Event) (legal : IsLegal (P ++ e ∷ [])) (k : Str
   pub ends_still : (L : List Event) (s i : ℕ) → ¬ (IsNew s) → EndsBefore L P k s i ↔ EndsBefore L (P ++ e ∷ []) k s i
   ends_still L s i n = ((λ t. (t.0, front_within (e ∷ []) t.1, t.2)), (λ t. (t.0, within_old n t.1, t.2)))
 
-same_end : (k s l t : ℕ) → same_key (Opened k s) (Opened l t) ≡ true → (k ≡ l) × (s ≡ t)
+pub same_end : (k s l t : ℕ) → same_key (Opened k s) (Opened l t) ≡ true → (k ≡ l) × (s ≡ t)
 same_end k s l t h = let e = same_key_is (Opened k s) (Opened l t) h in ((cc), (cc))
 
 -- a scope is opened

@@ -8,3 +8,8 @@ pub mod Following
 pub mod Heads
 pub mod Ending
 pub mod Untiling
+pub mod Jumping
+pub mod Lasting
+pub mod Comparing
+pub mod Heaping
+pub mod Seating

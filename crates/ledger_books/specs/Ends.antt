@@ -6,7 +6,7 @@ use Rattle.res_ledger.specs.declared.event.What.TheVariants.{Close}
 use Rattle.res_ledger.specs.declared.event.Event.{Event}
 use Rattle.res_ledger.specs.Ledger.{LiesWithin}
 use Rattle.ledger_books.specs.declared.index.Key.{Key}
-use Rattle.ledger_books.specs.declared.index.Key.TheVariants.{Acquired, Closed, Opened}
+use Rattle.ledger_books.specs.declared.index.Key.TheVariants.{Acquired, Closed, Finalized, Opened}
 use Rattle.ledger_books.specs.declared.index.Index.{Index}
 use Rattle.ledger_books.specs.declared.ends.Ends.{Ends}
 use Rattle.ledger_books.specs.Key.{place_of, same_key}
@@ -29,6 +29,10 @@ end_of x k s = unwrap_or (place_of x.ends (Opened k s)) (close_of x k s)
 -- by when the leases behind the row r are canceled
 abbrev pub until_of : Ends → ℕ → ℕ
 until_of x r = unwrap_or (place_of x.untils (Acquired r)) 18446744073709551615
+
+-- where the row r is final; the greatest number where it isn't
+abbrev pub final_of : Ends → ℕ → ℕ
+final_of x r = unwrap_or (place_of x.firsts (Finalized r)) 18446744073709551615
 
 -- k closes s or a scope above it, as far as it is opened in P, at a place of L in front of i
 abbrev pub EndsBefore : List Event → List Event → StreamNo → ℕ → ℕ → Type 0

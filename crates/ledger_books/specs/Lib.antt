@@ -1,5 +1,10 @@
 pub mod Key
 pub mod Keyed
+pub mod Jumps
+pub mod Lasts
+pub mod Peaks
+pub mod Rooms
 pub mod Untils
 pub mod Ends
+pub mod Waits
 pub mod Kept

@@ -13,8 +13,11 @@ ghost use Rattle.ledger_books.specs.Kept.{Follows, Keeps};
 
 use crate::ends::Ends;
 use crate::index::{Index, Key, key_for};
+use crate::jumps::Jumps;
+use crate::lasts::{add_last, are_over};
 use crate::leases::{are_canceled, covers, is_canceled, is_canceled_by, lease_at, leased};
 use crate::scopes::{is_closed, is_usable, number, opened};
+use crate::waits::Waits;
 use res_ledger::{Event, StreamNo, What};
 use std::alloc::{AllocError, Global};
 
@@ -22,7 +25,10 @@ use std::alloc::{AllocError, Global};
 #[derive(Drop)]
 pub struct Books {
     pub index: Index,
+    pub jumps: Jumps,
     pub ends: Ends,
+    pub lasts: Index,
+    pub waits: Waits,
     pub leases: Vec<u64>,
     pub rows: Vec<u64>,
 }
@@ -82,7 +88,18 @@ pub fn covering(
         let Some((by, stream, scope)) = lease_at(past, place) else {
             return Ok(found);
         };
-        if covers(&books.index, past, place, by, scope, row, at, owner, of) {
+        if covers(
+            &books.index,
+            &books.jumps,
+            past,
+            place,
+            by,
+            scope,
+            row,
+            at,
+            owner,
+            of,
+        ) {
             found.push(stream)?;
         }
     }
@@ -90,7 +107,7 @@ pub fn covering(
 }
 
 /// Whether each lease that covers the row is canceled: so it is where those are that its stream
-/// noted behind it, and else the leases are gone through.
+/// noted behind it, and where none sits in the rooms that matter; else the leases are gone through.
 fn is_free(
     alloc: Global,
     books: &Books,
@@ -106,6 +123,9 @@ fn is_free(
     ensures { IfOk result (λ b. (b ≡ true) ↔ ((j : ℕ) (k : StreamNo) → Covers past.now j k row → IsCanceled past.now j)) }
 {
     if books.ends.until(row) < past.len() as u64 {
+        return Ok(true);
+    }
+    if books.waits.are_over(past, row, at, owner, of) {
         return Ok(true);
     }
     let leases = covering(alloc, books, past, row, at, owner, of)?;
@@ -130,7 +150,18 @@ fn has_inherited(
     let Some((place, lessor, scope)) = leased(&books.index, past, stream) else {
         return false;
     };
-    if !covers(&books.index, past, place, lessor, scope, row, at, owner, of) {
+    if !covers(
+        &books.index,
+        &books.jumps,
+        past,
+        place,
+        lessor,
+        scope,
+        row,
+        at,
+        owner,
+        of,
+    ) {
         return false;
     }
     is_canceled_by(&books.index, past, stream, StreamNo::Inner(stream))
@@ -213,8 +244,8 @@ fn row_is_final(index: &Index, past: &[Event], place: u64, stream: u32) -> bool
     is_final(index, past, row)
 }
 
-/// Whether each row that the stream acquired is final.
-fn are_final(books: &Books, past: &[Event], stream: u32) -> bool
+/// Whether each row that the stream acquired is final, by a walk over the rows since it began.
+fn rows_are_final(books: &Books, past: &[Event], stream: u32) -> bool
     requires { Keeps books.now past.now }
     ensures { (result ≡ true) ↔ ((r s : ℕ) → Notes past.now (Inner stream) (Acquire r s) → IsFinalized past.now r) }
 {
@@ -233,6 +264,18 @@ fn are_final(books: &Books, past: &[Event], stream: u32) -> bool
         }
     }
     true
+}
+
+/// Whether each row that the stream acquired is final. Where that is told ahead it is one look-up,
+/// and else a walk.
+fn are_final(books: &Books, past: &[Event], stream: u32) -> bool
+    requires { Keeps books.now past.now }
+    ensures { (result ≡ true) ↔ ((r s : ℕ) → Notes past.now (Inner stream) (Acquire r s) → IsFinalized past.now r) }
+{
+    if are_over(&books.lasts, &books.ends, past, StreamNo::Inner(stream)) {
+        return true;
+    }
+    rows_are_final(books, past, stream)
 }
 
 /// Whether the stream may cancel the lease.
@@ -374,9 +417,14 @@ impl Books {
     pub fn of(alloc: Global, events: &[Event]) -> Result<Books, AllocError>
         ensures { IfOk result (λ b. Follows b events.now []) }
     {
+        let ends = Ends::of(alloc, events)?;
+        let waits = Waits::of(alloc, events, &ends)?;
         Ok(Books {
             index: Index::new(alloc),
-            ends: Ends::of(alloc, events)?,
+            jumps: Jumps::new(alloc),
+            ends,
+            lasts: Index::new(alloc),
+            waits,
             leases: Vec::new(alloc),
             rows: Vec::new(alloc),
         })
@@ -387,7 +435,10 @@ impl Books {
         ensures { OnOk result ((L P Q : List Event) → length P ≡ place → L ≡ P ++ event ∷ Q → IsLegal (P ++ event ∷ []) → Follows self.old L P → Follows self.new L (P ++ event ∷ [])) }
     {
         add_keys(&mut self.index, event, place)?;
+        self.jumps.note(event)?;
         self.ends.note(event)?;
+        add_last(&mut self.lasts, &self.ends, event)?;
+        self.waits.note(event, place)?;
         add_place(&mut self.leases, is_lease(event.what), place)?;
         add_place(&mut self.rows, is_acquire(event.what), place)
     }

@@ -2,7 +2,7 @@
 ghost use Rattle.std.specs.Prelude.{◌≡◌, ◌<◌, ◌^◌, List, [], ◌∷◌, ◌++◌, IfOk, OnOk};
 ghost use Rattle.res_ledger.specs.declared.event.Event.{Event};
 ghost use Rattle.res_ledger.specs.Ledger.{IsLegal};
-ghost use Rattle.ledger_books.specs.Ends.{Foresees, IsFirsts, OpensEnd, close_of, end_of, until_of};
+ghost use Rattle.ledger_books.specs.Ends.{Foresees, IsFirsts, OpensEnd, close_of, end_of, final_of, until_of};
 ghost use Rattle.ledger_books.specs.Keyed.{number_of};
 
 use crate::index::{Index, Key, key_for};
@@ -72,6 +72,18 @@ impl Ends {
         self.untils.find(Key::Acquired(row)).unwrap_or(u64::MAX)
     }
 
+    /// Where the scope was opened first.
+    pub fn opened(&self, by: StreamNo, scope: u32) -> Option<u64> {
+        self.firsts.find(Key::Opened(number(by), scope))
+    }
+
+    /// Where the row is final; the greatest number where it isn't.
+    pub fn last(&self, row: u32) -> u64
+        ensures { result ≡ final_of self.now row }
+    {
+        self.firsts.find(Key::Finalized(row)).unwrap_or(u64::MAX)
+    }
+
     /// Keeps that the scope was opened.
     fn open(&mut self, by: StreamNo, scope: u32, parent: u32) -> Result<(), AllocError>
         ensures { OnOk result (OpensEnd self.old self.new (number_of by) scope parent) }
@@ -84,7 +96,8 @@ impl Ends {
 
     /// Keeps one event more.
     pub fn note(&mut self, event: Event) -> Result<(), AllocError>
-        ensures { OnOk result ((L P Q : List Event) → L ≡ P ++ event ∷ Q → IsLegal (P ++ event ∷ []) → Foresees self.old L P → Foresees self.new L (P ++ event ∷ [])) }
+        ensures firsts { OnOk result (self.new.firsts ≡ self.old.firsts) }
+        ensures foresees { OnOk result ((L P Q : List Event) → L ≡ P ++ event ∷ Q → IsLegal (P ++ event ∷ []) → Foresees self.old L P → Foresees self.new L (P ++ event ∷ [])) }
     {
         match event.what {
             What::Open { scope, parent } => self.open(event.by, scope, parent),

@@ -4,11 +4,13 @@ ghost use Rattle.std.specs.Prelude.{◌≡◌, ◌↔◌, ◌<◌, ℕ, true, fa
 ghost use Rattle.chunk_core.specs.Lists.{IsAmong};
 ghost use Rattle.res_ledger.specs.declared.event.Event.{Event};
 ghost use Rattle.res_ledger.specs.declared.event.StreamNo.{StreamNo};
-ghost use Rattle.res_ledger.specs.declared.event.What.TheVariants.{Acquire, Cancel, Lease};
+ghost use Rattle.res_ledger.specs.declared.event.What.TheVariants.{Acquire, Cancel, Lease, Open};
 ghost use Rattle.res_ledger.specs.Ledger.{IsCanceled, IsLeased, IsLegal, NotesCancel};
-ghost use Rattle.ledger_books.specs.Keyed.{CoversAt, Indexes, NotesAt};
+ghost use Rattle.ledger_books.specs.Jumps.{LeadsUp};
+ghost use Rattle.ledger_books.specs.Keyed.{CoversAt, Indexes, IsUnclosedBefore, NotesAt};
 
 use crate::index::{Index, Key};
+use crate::jumps::Jumps;
 use crate::scopes::{is_unclosed_before, lies_within, number, opened};
 use chunk_core::Exit;
 use res_ledger::{Event, StreamNo, What};
@@ -39,9 +41,32 @@ pub fn canceled(index: &Index, past: &[Event], stream: u32) -> Option<(u64, Stre
     }
 }
 
+/// Whether the stream opened the scope under that parent, and didn't close it in front of the place.
+fn is_child_before(
+    index: &Index,
+    past: &[Event],
+    by: StreamNo,
+    scope: u32,
+    parent: u32,
+    place: u64,
+) -> bool
+    requires index { Indexes index.now past.now }
+    requires legal { IsLegal past.now }
+    ensures { (result ≡ true) ↔ (((n : ℕ) × NotesAt past.now n by (Open scope parent)) × IsUnclosedBefore past.now by scope place) }
+{
+    let Some((_, above)) = opened(index, past, by, scope) else {
+        return false;
+    };
+    if above != parent {
+        return false;
+    }
+    is_unclosed_before(index, past, by, scope, place)
+}
+
 /// Whether the lease at a place, on a scope, covers the row.
 pub fn covers(
     index: &Index,
+    jumps: &Jumps,
     past: &[Event],
     place: u64,
     by: StreamNo,
@@ -52,6 +77,7 @@ pub fn covers(
     of: u32,
 ) -> bool
     requires index { Indexes index.now past.now }
+    requires jumps { LeadsUp jumps.now past.now }
     requires legal { IsLegal past.now }
     requires row { NotesAt past.now at owner (Acquire row of) }
     ensures { (j : ℕ) → NotesAt past.now place by (Lease j scope) → (result ≡ true) ↔ CoversAt past.now place by scope row }
@@ -62,16 +88,10 @@ pub fn covers(
     if at >= place {
         return false;
     }
-    if lies_within(index, past, by, scope, of) {
+    if is_child_before(index, past, by, of, scope, place) {
         return true;
     }
-    let Some((_, parent)) = opened(index, past, by, of) else {
-        return false;
-    };
-    if parent != scope {
-        return false;
-    }
-    is_unclosed_before(index, past, by, of, place)
+    lies_within(index, jumps, past, by, scope, of)
 }
 
 /// The lease that stands at the place.

@@ -6,10 +6,12 @@ ghost use Rattle.res_ledger.specs.declared.event.StreamNo.TheVariants.{Inner};
 ghost use Rattle.res_ledger.specs.declared.event.What.TheVariants.{Open};
 ghost use Rattle.res_ledger.specs.Ledger.{IsClosed, IsLegal, IsOpened, IsUsable, LiesWithin};
 ghost use Rattle.ledger_books.specs.Ends.{Foretells};
+ghost use Rattle.ledger_books.specs.Jumps.{LeadsUp};
 ghost use Rattle.ledger_books.specs.Keyed.{Indexes, IsUnclosedBefore, NotesAt, number_of};
 
 use crate::ends::Ends;
 use crate::index::{Index, Key};
+use crate::jumps::Jumps;
 use res_ledger::{Event, StreamNo, What};
 
 /// The number that tells a stream in a key.
@@ -66,8 +68,8 @@ pub fn is_usable(index: &Index, ends: &Ends, past: &[Event], by: StreamNo, scope
     !is_closed(ends, past, by, scope)
 }
 
-/// Whether the scope is the other one or lies below it.
-pub fn lies_within(index: &Index, past: &[Event], by: StreamNo, scope: u32, above: u32) -> bool
+/// Whether the scope is the other one or lies below it, by a walk from parent to parent.
+fn walks_up(index: &Index, past: &[Event], by: StreamNo, scope: u32, above: u32) -> bool
     requires index { Indexes index.now past.now }
     requires legal { IsLegal past.now }
     ensures { (result ≡ true) ↔ LiesWithin past.now by scope above }
@@ -85,6 +87,27 @@ pub fn lies_within(index: &Index, past: &[Event], by: StreamNo, scope: u32, abov
         at = parent;
     }
     true
+}
+
+/// Whether the scope is the other one or lies below it. Where it does, that is found in a few steps;
+/// where it doesn't, by a walk.
+pub fn lies_within(
+    index: &Index,
+    jumps: &Jumps,
+    past: &[Event],
+    by: StreamNo,
+    scope: u32,
+    above: u32,
+) -> bool
+    requires index { Indexes index.now past.now }
+    requires jumps { LeadsUp jumps.now past.now }
+    requires legal { IsLegal past.now }
+    ensures { (result ≡ true) ↔ LiesWithin past.now by scope above }
+{
+    if jumps.lead(past, by, scope, above) {
+        return true;
+    }
+    walks_up(index, past, by, scope, above)
 }
 
 /// Whether the scope has no Close of its own in front of the place.

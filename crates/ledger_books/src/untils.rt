@@ -17,14 +17,14 @@ fn cancel(firsts: &Index, stream: u32) -> u64
 }
 
 /// By when the leases are canceled that the stream noted; 0 where it noted none.
-fn latest_by(latest: &Index, by: StreamNo) -> u64
+pub fn latest_by(latest: &Index, by: StreamNo) -> u64
     ensures { result ≡ latest_of latest.now (number_of by) }
 {
     latest.find(Key::Begun(number(by))).unwrap_or(0)
 }
 
 /// Keeps that the stream noted a lease that is canceled then.
-fn raise(latest: &mut Index, by: StreamNo, until: u64) -> Result<(), AllocError>
+pub fn raise(latest: &mut Index, by: StreamNo, until: u64) -> Result<(), AllocError>
     ensures { OnOk result (Raises latest.old latest.new (number_of by) until) }
 {
     if until <= latest_by(latest, by) {

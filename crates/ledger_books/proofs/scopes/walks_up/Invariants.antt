@@ -2,7 +2,7 @@ use Rattle.std.proofs.Common.{◌↔◌, ◌<◌, ℕ}
 use Rattle.res_ledger.specs.declared.event.What.TheVariants.{Open}
 use Rattle.res_ledger.specs.Ledger.{IsLegal, LiesWithin}
 use Rattle.ledger_books.specs.Keyed.{Indexes, NotesAt}
-use Rattle.ledger_books.proofs.scopes.lies_within.Given as goal
+use Rattle.ledger_books.proofs.scopes.walks_up.Given as goal
 
 abbrev pub invariant-loop-at : goal.invariant-loop-at
 invariant-loop-at l = record {

@@ -2,7 +2,7 @@ use Rattle.std.proofs.Common.{◌≤◌, length}
 use Rattle.res_ledger.specs.declared.event.StreamNo.TheVariants.{Inner}
 use Rattle.ledger_books.specs.Kept.{Keeps}
 use Rattle.ledger_books.proofs.Walking.{Ended}
-use Rattle.ledger_books.proofs.books.are_final.Given as goal
+use Rattle.ledger_books.proofs.books.rows_are_final.Given as goal
 
 abbrev pub invariant-loop-n : goal.invariant-loop-n
 invariant-loop-n l = record {
