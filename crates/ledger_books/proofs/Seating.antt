@@ -1,23 +1,19 @@
 -- The seats of the leases that aren't canceled.
-use Rattle.std.proofs.Common.{◌≡◌, ◌≢◌, ℕ, zero, suc, ◌<◌, ◌≤◌, Bool, true, false, cond, nat_eq, List, [], ◌∷◌, ◌++◌, ◌⊎◌, inl, inr, refl, sym, ap, ◌∙◌, subst, ⊎_elim, length, arith, Option, None, Some, slice_get}
+use Rattle.std.proofs.Common.{◌≡◌, ◌≢◌, ℕ, suc, ◌<◌, ◌≤◌, Bool, true, false, cond, nat_eq, List, [], ◌∷◌, ◌++◌, ◌⊎◌, inl, inr, refl, sym, ap, ◌∙◌, subst, ⊎_elim, length, arith, Option, None, Some, slice_get}
 use Rattle.std.specs.Prelude.{unwrap_or}
-use Rattle.std.proofs.lemmas.Bool.{false≢true}
 use Rattle.std.proofs.lemmas.Option.{slice_get_within}
-use Rattle.chunk_core.specs.Lists.{IsAmong}
 use Rattle.chunk_core.specs.declared.code.Exit.{Exit}
-use Rattle.chunk_core.proofs.Bools.{both, number, itself}
+use Rattle.chunk_core.proofs.Bools.{number, itself}
 use Rattle.chunk_core.proofs.Members.{among_last, among_nil, among_snoc}
 use Rattle.res_ledger.specs.declared.event.StreamNo.{StreamNo}
 use Rattle.res_ledger.specs.declared.event.What.{What}
 use Rattle.res_ledger.specs.declared.event.What.TheVariants.{Open, Acquire, Lease, Cancel, Close}
 use Rattle.res_ledger.specs.declared.event.Event.{Event}
-use Rattle.res_ledger.specs.Ledger.{Covers, IsCanceled, IsLegal, LiesWithin, MayFollow, Notes}
+use Rattle.res_ledger.specs.Ledger.{Covers, IsCanceled, IsLegal, LiesWithin, MayFollow}
 use Rattle.res_ledger.specs.Ledger.LiesWithin.{same, below}
 use Rattle.res_ledger.proofs.Prefixes.{front_notes}
-use Rattle.ledger_books.specs.declared.index.Index.{Index}
 use Rattle.ledger_books.specs.declared.index.Key.{Key}
 use Rattle.ledger_books.specs.declared.index.Key.TheVariants.{Closed, Opened}
-use Rattle.ledger_books.specs.declared.rooms.Rooms.{Rooms}
 use Rattle.ledger_books.specs.declared.waits.Waits.{Waits}
 use Rattle.ledger_books.specs.Key.{place_of, same_key}
 use Rattle.ledger_books.specs.Keyed.{CoversAt, IsUnclosedBefore, NotesAt, number_of}
