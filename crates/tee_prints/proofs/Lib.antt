@@ -1,0 +1,3 @@
+pub mod Beginning
+pub mod Coming
+pub mod Printing
