@@ -1,4 +1,5 @@
-use Rattle.std.proofs.Common.{[], sym, subst, append-nil}
+use Rattle.std.proofs.Common.{[], refl, sym, subst, ◌∙◌, append-nil}
+use Rattle.std.proofs.lemmas.Bool.{false≢true}
 use Rattle.std.specs.Prelude.{MatchOption}
 use Rattle.ledger_verdict.specs.Verdict.{IsOrderedSoFar}
 use Rattle.ledger_audit.specs.Orders.{IsFirstDisordered}
@@ -15,3 +16,8 @@ pub returns : goal.returns
 returns c =
     let L = c.args.events.now in
     clean L c.requires (subst (λ o. MatchOption o (IsOrderedSoFar L) (IsFirstDisordered L)) c.in_default.is c.in_ok-place.ensures) (c.is_complete.ensures.0 c.if-not-is_complete.false)
+
+pub returns-then-not-is_complete : goal.returns-then-not-is_complete
+returns-then-not-is_complete c =
+    let L = c.args.events.now in
+    (refl, c.requires, subst (λ o. MatchOption o (IsOrderedSoFar L) (IsFirstDisordered L)) c.in_default.is c.in_ok-place.ensures, λ f. false≢true (sym c.if-not-is_complete.true ∙ c.is_complete.ensures.1 f))
