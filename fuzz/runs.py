@@ -34,10 +34,10 @@ def settings():
 
 def meets(case, call):
     """Tells the judge of the call that fails, once the description is read."""
-    if case.trip:
+    if case.trip and isinstance(case.source, bytes):
         try:
             chunk = plan_of(case.source).numbers["chunk"]
-        except (Refused, TypeError):
+        except Refused:
             return
         outside.trip(case, call, chunk)
 
