@@ -10,8 +10,8 @@
 //! let path = Word::of(rt.alloc(), "a")?;
 //! let prefix = Word::of(rt.alloc(), "p")?;
 //! let outcome = run_rotate(rt.alloc(), &path, &prefix, 4, &mut depot);
-//! assert_eq!(rt; depot.file("p.0"), Some(b"abcd".as_slice()));
-//! assert_eq!(rt; depot.file("p.1"), Some(b"ef".as_slice()));
+//! assert!(rt; depot.file("p.0") == Some(b"abcd".as_slice()));
+//! assert!(rt; depot.file("p.1") == Some(b"ef".as_slice()));
 //! assert_eq!(rt; outcome.ends.len(), 1);
 //! assert_eq!(rt; outcome.ledger.len(), 10);
 //! assert!(rt; !outcome.memory);
