@@ -41,7 +41,7 @@ use Rattle.tree_laws.specs.Whole.{IsWholeLedger}
 use Rattle.tree_laws.proofs.Ends.{called_events}
 use Rattle.tree_laws.proofs.Room.{called_room}
 use Rattle.tree_laws.proofs.Said.{called_ends}
-use Rattle.join_tree.specs.Leaving.{LeavesLast}
+use Rattle.tree_families.specs.Leaving.{LeavesLast}
 use Rattle.pull_stepper.specs.Held.{FinishesDevice}
 use Rattle.pull_stepper.specs.Placing.{first_of}
 use Rattle.pull_stepper.specs.Sites.{Parted, SameDevice, pay_of, slot_of, told_at, told_by}

@@ -23,7 +23,7 @@ use Rattle.scope_tree.specs.Released.{said}
 use Rattle.tree_laws.specs.Ends.{IsFinishedLedger}
 use Rattle.tree_laws.specs.Visits.{HasNothingOpen, Visits}
 use Rattle.tree_laws.specs.Whole.{IsWholeLedger}
-use Rattle.join_tree.specs.Leaving.{LeavesLast}
+use Rattle.tree_families.specs.Leaving.{LeavesLast}
 use Rattle.pull_stepper.specs.Held.{FinishesDevice}
 use Rattle.stream_jobs.specs.declared.job.JobEnd.{JobEnd}
 use Rattle.stream_jobs.specs.Jobs.{EndsJob}

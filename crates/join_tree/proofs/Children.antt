@@ -32,7 +32,8 @@ use Rattle.join_tree.specs.Mains.{IsMain}
 use Rattle.join_tree.specs.Notes.{is_table_note}
 use Rattle.join_tree.specs.Progress.{Progress, reading}
 use Rattle.join_tree.specs.Steps.{KeepsGuests, KeepsRows}
-use Rattle.join_tree.proofs.Growing.{follows_cases, main_closes_child, main_reads, root_open}
+use Rattle.join_tree.proofs.Growing.{main_closes_child, main_reads, root_open}
+use Rattle.tree_families.proofs.Noting.{follows_cases}
 
 module _ {P : Type 0} {ends : P → Exit → Bool → P → Type 0} where
   -- the events of a close open nothing

@@ -33,6 +33,7 @@ use Rattle.tree_laws.proofs.Follows.{called_then}
 use Rattle.tree_laws.proofs.Kept.{events_stay, leases_lent, lent_stays}
 use Rattle.tree_families.specs.Families.{IsFamily, Split}
 use Rattle.tree_families.proofs.Families.{family_calls}
+use Rattle.tree_families.proofs.Noting.{follows_cases}
 use Rattle.join_tree.specs.Mains.{IsMain, IsRoot, Waits}
 use Rattle.join_tree.specs.Progress.{Follow, Progress, closing_root, leasing_next, none_done, reading, skipping}
 use Rattle.join_tree.specs.Notes.{GivesInPace, IsOuterNote, IsTold, RowsRise, is_table_note}
@@ -50,13 +51,6 @@ module _ {P : Type 0} where
   pub root_same : (b c : Seen P) (o : Option Exit) → c.seat.by ≡ b.seat.by → c.seat.events ≡ b.seat.events → IsRoot b o → IsRoot c o
   root_same b c None by events r = subst (λ k. IsUsable c.seat.events k 0) (sym by) (subst (λ L. IsUsable L b.seat.by 0) (sym events) r)
   root_same b c (Some x) by events r = subst (λ k. IsClosed c.seat.events k 0) (sym by) (subst (λ L. IsClosed L b.seat.by 0) (sym events) r)
-
-  -- what a seat noted by x and what followed it
-  pub follows_cases : (v w : View P) (x : Event) → Follows (noted v x) w → (e : Event) → IsAmong e w.events → IsAmong e v.events ⊎ ((e ≡ x) ⊎ ((e.by ≡ v.by) × (is_end e.what ≡ true)))
-  follows_cases v w x f e m = ⊎_elim
-      (λ o. ⊎_elim (λ i. inl i) (λ i. inr (inl i)) (among_snoc v.events e x o))
-      (λ o. inr (inr (f.events.2 e o)))
-      (among_append e (v.events ++ x ∷ []) f.events.0 (subst (λ l. IsAmong e l) f.events.1 m))
 
   pub follows_last : (v w : View P) (x : Event) → Follows (noted v x) w → IsAmong x w.events
   follows_last v w x f = subst (λ l. IsAmong x l) (sym f.events.1) (among_left f.events.0 (among_last v.events x))

@@ -17,7 +17,7 @@ use Rattle.tree_laws.specs.Called.{Called}
 use Rattle.tree_laws.specs.Visits.{HasNothingOpen, Visits}
 use Rattle.tree_families.specs.Families.{Split}
 use Rattle.join_tree.specs.Guests.{AreOut, Guest, IsOut, IsReady}
-use Rattle.join_tree.specs.Leaving.{LeavesLast}
+use Rattle.tree_families.specs.Leaving.{LeavesLast}
 use Rattle.join_tree.specs.Mains.{IsMain}
 use Rattle.join_tree.specs.Progress.{Progress, closing_root, joining, leasing_next, none_done, reading, skipping, splitting}
 use Rattle.join_tree.specs.Settled.{Settles}
@@ -46,10 +46,6 @@ module _ {P : Type 0} (ends : P → Exit → Bool → P → Type 0) where
   -- what its ledger tells then
   abbrev pub MainSettles : Type 0
   MainSettles = (width n : ℕ) (b : Seen P) (p : Progress P) (x : Exit) (L : List Event) → IsMain ends width n b p → p.root ≡ Some x → b.seat.out ≡ [] → IsLedgerOf b.seat L → Settles width n b p L
-
-  -- a tree that closed its root, and cancelled its one lease then, left last
-  abbrev pub PartsLeaveLast : Type 0
-  PartsLeaveLast = (a b y : Seen P) (j : ℕ) (T : List ℕ) (x : Exit) → AtStart a.seat → Called ends a [] b → IsClosedScope b 0 → Cancels ends b j T x y → LeavesLast y
 
 module _ (P : Type 0) where
   -- what is out while nothing goes out or comes in, in which order guests are told, and how many they are

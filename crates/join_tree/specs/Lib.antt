@@ -4,5 +4,4 @@ pub mod Mains
 pub mod Guests
 pub mod Steps
 pub mod Settled
-pub mod Leaving
 pub mod Laws

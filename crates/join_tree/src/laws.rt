@@ -1,5 +1,5 @@
 //! Laws of a main tree and its streams, each the contract of a function that does nothing.
-ghost use Rattle.join_tree.specs.Laws.{GuestsStay, MainGrows, MainMayFinish, MainSettles, PartsLeaveLast, StreamsLeaveLast};
+ghost use Rattle.join_tree.specs.Laws.{GuestsStay, MainGrows, MainMayFinish, MainSettles, StreamsLeaveLast};
 
 use scope_tree::Finish;
 
@@ -20,7 +20,6 @@ pub fn main_settles<P: Finish>()
 {}
 
 /// Each stream closes its root before it leaves.
-pub fn streams_leave_last<P: Finish>()
-    ensures parts { PartsLeaveLast P.ends }
-    ensures streams { StreamsLeaveLast P }
+pub fn streams_leave_last<P>()
+    ensures { StreamsLeaveLast P }
 {}

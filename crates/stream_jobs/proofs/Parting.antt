@@ -6,7 +6,7 @@ use Rattle.chunk_core.specs.Outcomes.{exit_of}
 use Rattle.chunk_core.specs.declared.code.Exit.{Exit}
 use Rattle.chunk_core.specs.declared.code.How.{How}
 use Rattle.device_port.specs.Device.{DeviceTold}
-use Rattle.join_tree.proofs.Leavers.{parts_leave_last}
+use Rattle.tree_families.proofs.Leavers.{parts_leave_last}
 use Rattle.res_ledger.specs.declared.event.StreamNo.TheVariants.{Inner}
 use Rattle.res_ledger.specs.declared.event.What.TheVariants.{Acquire}
 use Rattle.res_ledger.specs.Ledger.{IsFinalized, Notes}

@@ -4,7 +4,7 @@ use Rattle.std.specs.List.{IsDistinct}
 use Rattle.chunk_core.specs.Outcomes.{exit_of}
 use Rattle.chunk_core.specs.declared.code.How.{How}
 use Rattle.device_port.specs.Device.{DeviceTold}
-use Rattle.join_tree.specs.Leaving.{LeavesLast}
+use Rattle.tree_families.specs.Leaving.{LeavesLast}
 use Rattle.res_ledger.specs.declared.event.What.TheVariants.{Acquire}
 use Rattle.res_ledger.specs.Ledger.{IsFinalized, Notes}
 use Rattle.res_ledger.specs.Order.{firsts}

@@ -9,7 +9,7 @@ use Rattle.res_ledger.specs.Ledger.{Notes, NotesCancel}
 use Rattle.res_ledger.specs.Order.{firsts}
 use Rattle.row_seat.specs.declared.view.View.{View}
 use Rattle.row_seat.specs.Views.{AreApart, CanFinish, CanJoin, CanSplit, IsLedgerOf, joined, split_main}
-use Rattle.scope_tree.specs.Calls.{AtStart, IsClosedScope, Seen}
+use Rattle.scope_tree.specs.Calls.{AtStart, Cancels, IsClosedScope, Seen}
 use Rattle.scope_tree.specs.Released.{said}
 use Rattle.tree_laws.specs.Alone.{HasNoOthers}
 use Rattle.tree_laws.specs.Called.{Called}
@@ -19,6 +19,7 @@ use Rattle.tree_laws.specs.Whole.{IsWholeLedger}
 use Rattle.tree_families.specs.Families.{CameBack, IsFamily, Split, split_of}
 use Rattle.run_rules.specs.Pace.{BeginInOrder, LeasesAhead, WithinWidth}
 use Rattle.tree_families.specs.Pace.{IsInPace}
+use Rattle.tree_families.specs.Leaving.{LeavesLast}
 
 module _ {P : Type 0} (ends : P → Exit → Bool → P → Type 0) where
   -- how a family begins, and what keeps it one
@@ -49,3 +50,7 @@ module _ {P : Type 0} (ends : P → Exit → Bool → P → Type 0) where
   -- the main seat may finish once nothing is open, all seats are back, and of each lease that it made it cancelled it or split the seat of its stream off
   abbrev pub FamilyMayFinish : Type 0
   FamilyMayFinish = (b : Seen P) (ms : List Split) → IsFamily ends b ms → b.seat.out ≡ [] → HasNothingOpen b.seat → ((j s : ℕ) → Notes b.seat.events b.seat.by (Lease j s) → IsAmong j b.seat.had ⊎ NotesCancel b.seat.events b.seat.by j) → CanFinish b.seat
+
+  -- a tree that closed its root, and cancelled its one lease then, left last
+  abbrev pub PartsLeaveLast : Type 0
+  PartsLeaveLast = (a b y : Seen P) (j : ℕ) (T : List ℕ) (x : Exit) → AtStart a.seat → Called ends a [] b → IsClosedScope b 0 → Cancels ends b j T x y → LeavesLast y

@@ -1,3 +1,4 @@
 pub mod Families
 pub mod Pace
+pub mod Leaving
 pub mod Laws

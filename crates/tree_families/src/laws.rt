@@ -1,6 +1,6 @@
 //! Laws of a main tree with the seats that it split off, each the contract of a function that does
 //! nothing.
-ghost use Rattle.tree_families.specs.Laws.{FamilyGrows, FamilyIsPaced, FamilyIsWhole, FamilyMayFinish, ShelvesOfFamily};
+ghost use Rattle.tree_families.specs.Laws.{FamilyGrows, FamilyIsPaced, FamilyIsWhole, FamilyMayFinish, PartsLeaveLast, ShelvesOfFamily};
 
 use scope_tree::Finish;
 
@@ -28,4 +28,9 @@ pub fn family_is_paced<P: Finish>()
 /// No row stands on the shelves of two trees of a family.
 pub fn shelves_of_family_are_apart<P: Finish>()
     ensures { ShelvesOfFamily P.ends }
+{}
+
+/// A tree that closed its root, and cancelled its one lease then, left last.
+pub fn parts_leave_last<P: Finish>()
+    ensures { PartsLeaveLast P.ends }
 {}
