@@ -5,6 +5,7 @@ ghost use Rattle.chunk_core.specs.Texts.{frame_text};
 ghost use Rattle.device_port.specs.Sink.{Puts};
 ghost use Rattle.frames.specs.Frame.{PutsLoad, PutsText, header_text};
 
+use crate::room::{FrameRoom, put_frame_in};
 use arrayvec::ArrayVec;
 use chunk_core::{Load, render};
 use device_port::{Failed, Sink, put};
@@ -12,7 +13,7 @@ use itoa::Buffer;
 use std::alloc::{AllocError, Global};
 
 /// The longest payload that is written in one call with its header.
-const LONGEST_GATHERED: usize = 8000;
+pub(crate) const LONGEST_GATHERED: usize = 8000;
 
 /// The longest of them that takes the smaller room, since room is cleared first: a whole read by default.
 const LONGEST_SMALL: usize = 4096;
@@ -27,7 +28,7 @@ pub enum NotPut {
 }
 
 /// The first line of a frame: the stream's number and the payload's length in bytes.
-fn header_of(stream: u32, size: usize) -> ArrayVec<u8, 96>
+pub(crate) fn header_of(stream: u32, size: usize) -> ArrayVec<u8, 96>
     ensures text { result.items ≡ header_text stream size }
     ensures fits { length result.items ≤ 96 }
 {
@@ -75,7 +76,11 @@ fn put_gathered<K: Sink, const ROOM: usize>(
     put(out, frame.as_slice())
 }
 
-fn put_in_parts<K: Sink>(out: &mut K, header: &[u8], payload: &[u8]) -> Result<(), Failed>
+pub(crate) fn put_in_parts<K: Sink>(
+    out: &mut K,
+    header: &[u8],
+    payload: &[u8],
+) -> Result<(), Failed>
     requires room { (K.told out.old).faults < 2 ^ 64 - 1 }
     ensures { Puts (K.told out.old) (K.told out.new) (header.now ++ (payload.now ++ 10 ∷ [])) result }
 {
@@ -98,21 +103,59 @@ pub fn put_load<K: Sink>(alloc: Global, out: &mut K, stream: u32, load: &Load) -
     requires room { (K.told out.old).faults < 2 ^ 64 - 1 }
     ensures { PutsLoad (K.told out.old) (K.told out.new) stream load.now result }
 {
+    put_text_of(alloc, None, out, stream, load)
+}
+
+/// Prints a load as `put_load` does, and puts a short frame together in this room.
+pub fn put_load_in<K: Sink>(
+    alloc: Global,
+    room: &mut FrameRoom,
+    out: &mut K,
+    stream: u32,
+    load: &Load,
+) -> Result<(), NotPut>
+    requires some { 0 < length (elements load.now) }
+    requires room { (K.told out.old).faults < 2 ^ 64 - 1 }
+    ensures { PutsLoad (K.told out.old) (K.told out.new) stream load.now result }
+{
+    put_text_of(alloc, Some(room), out, stream, load)
+}
+
+fn put_text_of<K: Sink>(
+    alloc: Global,
+    room: Option<&mut FrameRoom>,
+    out: &mut K,
+    stream: u32,
+    load: &Load,
+) -> Result<(), NotPut>
+    requires some { 0 < length (elements load.now) }
+    requires room { (K.told out.old).faults < 2 ^ 64 - 1 }
+    ensures { PutsLoad (K.told out.old) (K.told out.new) stream load.now result }
+{
     match load {
-        Load::Bytes(bytes) => put_text(out, stream, bytes.as_slice()),
+        Load::Bytes(bytes) => put_text(room, out, stream, bytes.as_slice()),
         _ => match render(alloc, load) {
-            Ok(text) => put_text(out, stream, text.as_slice()),
+            Ok(text) => put_text(room, out, stream, text.as_slice()),
             Err(AllocError) => Err(NotPut::Memory),
         },
     }
 }
 
-fn put_text<K: Sink>(out: &mut K, stream: u32, text: &[u8]) -> Result<(), NotPut>
+fn put_text<K: Sink>(
+    room: Option<&mut FrameRoom>,
+    out: &mut K,
+    stream: u32,
+    text: &[u8],
+) -> Result<(), NotPut>
     requires some { 0 < length text.now }
     requires room { (K.told out.old).faults < 2 ^ 64 - 1 }
     ensures { PutsText (K.told out.old) (K.told out.new) (frame_text stream text.now) result }
 {
-    match put_frame(out, stream, text) {
+    let put = match room {
+        Some(room) => put_frame_in(room, out, stream, text),
+        None => put_frame(out, stream, text),
+    };
+    match put {
         Ok(()) => Ok(()),
         Err(Failed) => Err(NotPut::Unwritten),
     }

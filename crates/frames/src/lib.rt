@@ -5,7 +5,9 @@
 //! write failed, with a proper front of the frame written. `put_load` prints a load as one frame.
 //! Bytes are written as they are; fields and lines are rendered first, which takes memory. `NotPut`
 //! tells why a load wasn't printed: `Unwritten`, where a write failed, or `Memory`, where there was
-//! none for the text of another load than bytes, and nothing was written.
+//! none for the text of another load than bytes, and nothing was written. Who prints many frames one after another
+//! makes a `FrameRoom` once: `put_frame_in` and `put_load_in` put each short frame together in it, where the others
+//! clear room of their own for each.
 //!
 //! ```
 //! let payload = filled(rt.alloc(), &[("", 9000)])?;
@@ -21,5 +23,7 @@
 #![tactic(auto)]
 
 pub mod frame;
+pub mod room;
 
-pub use frame::{NotPut, put_frame, put_load};
+pub use frame::{NotPut, put_frame, put_load, put_load_in};
+pub use room::{FrameRoom, put_frame_in};

@@ -8,7 +8,7 @@ use Rattle.frames.specs.declared.frame.NotPut.{NotPut}
 use Rattle.frames.specs.declared.frame.NotPut.TheVariants as why
 use Rattle.frames.specs.Frame.{PutsLoad, PutsText}
 use Rattle.frames.proofs.Rendered.{rendering_some}
-use Rattle.frames.proofs.frame.put_load.Goals as goal
+use Rattle.frames.proofs.frame.put_text_of.Goals as goal
 
 puts_bytes : {T : Type 0} (old new : SinkTold) (k : ℕ) (bytes : List ℕ) (r : Result T NotPut) → PutsText old new (frame_text k bytes) r → PutsLoad old new k (load.Bytes bytes) r
 puts_bytes old new k bytes (Ok u) h = h ∙ ap (λ xs. with_bytes old (frame_text k xs)) (bytes_rendering bytes)
