@@ -27,10 +27,11 @@ use Rattle.run_rules.specs.Run.{Performs}
 use Rattle.run_rules.specs.Wholeness.{NothingFailed, IsWholeRun}
 use Rattle.run_rules.specs.Work.{Work, RunRecord, names_of}
 use Rattle.cat_run.specs.declared.outcome.Outcome.{Outcome}
-use Rattle.cat_run.specs.Alone.{alone, frame_of, RunsAlone}
+use Rattle.lone_stream.specs.Account.{alone}
+use Rattle.cat_run.specs.Alone.{frame_of, RunsAlone}
 use Rattle.cat_run.specs.Cat.{run_record_of}
-use Rattle.cat_run.proofs.Accounts.{clean, none_above, told_as_ended}
-use Rattle.cat_run.proofs.AloneWork.{accounted, keeps_rules, homes, shown, faultless}
+use Rattle.lone_stream.proofs.Accounts.{clean, none_above, told_as_ended}
+use Rattle.lone_stream.proofs.AloneWork.{accounted, keeps_rules, homes, shown, faultless}
 use Rattle.cat_run.proofs.CutFrames.{rest_is}
 use Rattle.cat_run.proofs.Pieces.{cut_is, cut_of, frames_pieces, payloads_pieces, pieces_numbers}
 
@@ -97,7 +98,7 @@ module _ (places : List Place) (scopes : ℕ) (runs ideal : (ℕ → DeviceTold)
     caused = subst (λ es. AllByRecursion (EndIsCaused work run_record) es) (sym r.ends) (
       record {
         halted = λ t. ⊎_elim (λ f. inl (silenced f)) (λ w. inr (inl w)) (r.run.halted (ap is_halted t));
-        fault = shown places scopes runs ideal old new r.home r.how o.ledger r.devices r.account r.how h.shown;
+        fault = shown places scopes old new r.home r.how o.ledger r.devices r.account r.how h.shown;
         root = λ t. r.account.closed;
       },
       tt,
@@ -117,7 +118,7 @@ module _ (places : List Place) (scopes : ℕ) (runs ideal : (ℕ → DeviceTold)
   complete : IsCovered → o.memory ≡ false → NothingFailed work run_record no_values r.home → IsWholeRun work run_record no_values r.home
   complete h m n =
       let written : o.sink_failed ≡ false = sym (cut_is 0 o.sink_failed r.printed.next) ∙ ap (λ (f : Option Frame). is_some f) n.written in
-      let calm = faultless places scopes runs ideal old new r.home r.how o.ledger r.devices r.account n.devices in
+      let calm = faultless places scopes old new r.home r.how o.ledger r.devices r.account n.devices in
       let running : is_halted r.how ≡ false = false_from_ne_true (is_halted r.how) (λ t. ⊎_elim (λ f. both_ways o.sink_failed written f) (λ w. both_ways o.memory m w) (r.run.halted t)) in
       let remembering : is_memory r.how ≡ false = false_from_ne_true (is_memory r.how) (λ t. both_ways o.memory m (r.run.remembered t)) in
       let w = h.whole running remembering calm n.ideal.0 in
@@ -135,12 +136,12 @@ module _ (places : List Place) (scopes : ℕ) (runs ideal : (ℕ → DeviceTold)
   -- the work was done
   pub performs_alone : IsCovered → Performs work run_record
   performs_alone h = record {
-    devices = subst (λ ps. DevicesAccounted old new ps o.ledger) (sym (append-nil places)) (accounted places scopes runs ideal old new r.home r.how o.ledger r.devices r.account);
-    ledger = keeps_rules places scopes runs ideal old new r.home r.how o.ledger r.devices r.account;
+    devices = subst (λ ps. DevicesAccounted old new ps o.ledger) (sym (append-nil places)) (accounted places scopes old new r.home r.how o.ledger r.devices r.account);
+    ledger = keeps_rules places scopes runs ideal r.home r.how o.ledger r.account;
     ran = inr (record {
       values = no_values;
       home = r.home;
-      rows = homes places scopes runs ideal old new r.home r.how o.ledger r.devices r.account no_values r.printed.pieces cut r.printed.rest o refl left_alone;
+      rows = homes places scopes old new r.home r.how o.ledger r.devices r.account runs ideal no_values run_record refl refl refl left_alone;
       outputs = outputs;
       ends = ends h;
       exits = subst (λ es. AllByRecursion (HasOneExit work run_record no_values r.home) es) (sym r.ends) (

@@ -45,11 +45,11 @@ file_bytes d ys e r = left_bytes (OpensThen d (OrLeft (Unit {0}) (Reads d)) (Uni
 -- A fault shows on its device.
 
 -- the only row has the device
-in_row_0 : (w : ℕ → DeviceTold) (o : Option (DeviceTold → ℕ)) → IfSome o (λ n. 0 < n (w 0)) → IfSome o (λ n. (k : ℕ) × (k < 1) × (0 < n (w k)))
+pub in_row_0 : (w : ℕ → DeviceTold) (o : Option (DeviceTold → ℕ)) → IfSome o (λ n. 0 < n (w 0)) → IfSome o (λ n. (k : ℕ) × (k < 1) × (0 < n (w k)))
 in_row_0 w None h = tt
 in_row_0 w (Some n) h = (0, omega arith, h)
 
-file_shows : (d : DeviceTold) (ys : List Element) (c : Code) → FileRuns d ys (Fault c) → IsCounted d c
+pub file_shows : (d : DeviceTold) (ys : List Element) (c : Code) → FileRuns d ys (Fault c) → IsCounted d c
 file_shows d ys c (inr h) = absurd (fault_cut c h.0)
 file_shows d ys c (inl (inl (o, f, inl r))) = stops_shows d c r.1
 file_shows d ys c (inl (inl (o, f, inr h))) = absurd (fault_cut c h.0)

@@ -1,14 +1,8 @@
-pub mod Accounts
 pub mod AlonePerforms
-pub mod AloneWork
+pub mod Begun
 pub mod CatReady
 pub mod CatRuns
-pub mod Closing
-pub mod ComingBack
 pub mod CutFrames
-pub mod NodeRuns
 pub mod Pieces
 pub mod Printing
-pub mod Spending
-pub mod StreamRuns
 pub mod Unmade

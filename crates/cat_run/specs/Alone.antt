@@ -1,34 +1,20 @@
 -- What one stream that ran alone has done.
-use Rattle.std.specs.Prelude.{◌≡◌, ◌⊎◌, ℕ, ◌+◌, ◌<◌, ◌≤◌, Bool, true, false, cond, nat_eq, List, [], ◌∷◌, ◌++◌, map, length, Some, None}
-use Rattle.std.specs.List.Sorted.{IsPermutation}
+use Rattle.std.specs.Prelude.{◌≡◌, ◌⊎◌, ℕ, ◌+◌, ◌<◌, ◌≤◌, Bool, true, false, cond, List, [], ◌∷◌, ◌++◌, map, length}
 use Rattle.std.specs.List.{AllByRecursion}
 use Rattle.chunk_core.specs.Elements.{Element, rendering_of}
 use Rattle.chunk_core.specs.Elements.Element.{Byte}
-use Rattle.chunk_core.specs.Outcomes.{End, Cut, Outcomes, exit_of}
+use Rattle.chunk_core.specs.Outcomes.{End, Cut, Outcomes}
 use Rattle.chunk_core.specs.Texts.{Frame, frame_text, frames_text}
-use Rattle.chunk_core.specs.declared.code.Exit.{Exit}
 use Rattle.chunk_core.specs.declared.code.How.{How}
 use Rattle.chunk_core.specs.declared.code.How.TheVariants as how
 use Rattle.res_ledger.specs.declared.event.StreamNo.TheVariants.{Inner}
-use Rattle.res_ledger.specs.declared.event.What.TheVariants.{Acquire, Close, Final}
-use Rattle.res_ledger.specs.declared.event.Event.{Event}
-use Rattle.res_ledger.specs.Ledger.{Notes, NotesClose, IsAcquired, IsLegal, IsStamped}
-use Rattle.res_ledger.specs.Own.{opens, own}
-use Rattle.res_ledger.specs.Whole.{IsComplete}
-use Rattle.res_ledger.specs.Order.{IsOrdered}
 use Rattle.device_port.specs.Device.{Place, DeviceTold}
-use Rattle.device_port.specs.Depot.{DepotTold, KeepsFilesBut, KeepsWritten}
+use Rattle.device_port.specs.Depot.{DepotTold}
 use Rattle.device_port.specs.Sink.{SinkTold, with_bytes}
-use Rattle.run_rules.specs.Facts.{is_halted, is_memory, leased_stream, first_numbers}
-use Rattle.run_rules.specs.Devices.{IsWrittenBy, OpensWhatIsThere}
+use Rattle.run_rules.specs.Facts.{is_halted, is_memory}
 use Rattle.run_rules.specs.Outputs.{IsReported, elements_in_pieces}
-use Rattle.run_rules.specs.Work.{Work}
-use Rattle.joined_runs.specs.Devices.{AreReturned}
+use Rattle.lone_stream.specs.Account.{ComesBack, IsAccount}
 use Rattle.cat_run.specs.declared.outcome.Outcome.{Outcome}
-
--- one stream, with a row for each of these places, and at most so many scopes
-abbrev pub alone : List Place → ℕ → ((ℕ → DeviceTold) → Outcomes) → ((ℕ → DeviceTold) → Outcomes) → Work
-alone places scopes runs ideal_runs = record { opener = None; streams = record { places = places; scopes = scopes; until = None } ∷ []; runs = λ k v w. runs w; ideal_runs = λ k v w. ideal_runs w }
 
 -- one more where a call failed
 abbrev pub and_one : Bool → ℕ → ℕ
@@ -88,36 +74,6 @@ pub record IsRunIn (runs : Outcomes) (pieces : List (List Element)) (next : List
   pub halted : is_halted how ≡ true → (failed ≡ true) ⊎ (memory ≡ true)
   pub remembered : is_memory how ≡ true → memory ≡ true
   pub wanting : memory ≡ true → (failed ≡ false) × WantsMemory runs pieces how
-
--- What became of the devices.
-
--- the depot made a device for each place, and each came back, in any order, with what was written to it kept; files changed only where one was opened for writing, and none was opened to be read
--- that isn't there
-pub record ComesBack (old new : DepotTold) (places : List Place) (w : ℕ → DeviceTold) : Type 0 where
-  pub made : new.made ≡ old.made ++ places
-  pub back : List DeviceTold
-  pub retired : new.retired ≡ old.retired ++ back
-  pub each : IsPermutation (map w (first_numbers (length places))) back
-  pub devices : AreReturned old.files (length old.made) w 0 places
-  pub files : KeepsFilesBut (IsWrittenBy back) old.files new.files
-  pub stored : AllByRecursion (KeepsWritten new.files) back
-  pub there : AllByRecursion OpensWhatIsThere back
-
--- What was noted.
-
--- the ledger of stream 0 alone: it acquired the rows whose devices were opened and ended them as those were closed, leased nothing, opened at most so many scopes, and closed its root as it ended
-pub record IsAccount (count scopes : ℕ) (w : ℕ → DeviceTold) (how : How) (L : List Event) : Type 0 where
-  pub stamped : IsStamped L
-  pub opened : length (opens (own (Inner 0) L)) ≤ scopes
-  pub legal : IsLegal L
-  pub complete : IsComplete L
-  pub ordered : IsOrdered L
-  pub own : AllByRecursion (λ e. (e.by ≡ Inner 0) × (leased_stream e.what ≡ None)) L
-  pub acquired : (r s : ℕ) → Notes L (Inner 0) (Acquire r s) → (r < count) × ((w r).opens ≡ 1)
-  pub each : (r : ℕ) → r < count → (w r).opens ≡ 1 → IsAcquired L r
-  pub ended : (r : ℕ) (x : Exit) (ok : Bool) → Notes L (Inner 0) (Final r x ok) → ((w r).exit ≡ Some x) × (ok ≡ nat_eq (w r).close_faults 0)
-  pub closed : NotesClose L (Inner 0) 0
-  pub exits : (x : Exit) → Notes L (Inner 0) (Close 0 x) → x ≡ exit_of how
 
 -- the stream ran over devices for these places, with at most so many scopes, in pieces of at most size elements
 pub record RunsAlone (places : List Place) (scopes : ℕ) (runs : (ℕ → DeviceTold) → Outcomes) (size : ℕ) (depot_old depot_new : DepotTold) (old new : SinkTold) (o : Outcome) : Type 0 where

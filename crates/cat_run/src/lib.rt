@@ -19,7 +19,6 @@
 
 pub(crate) mod alone;
 pub mod cat;
-pub(crate) mod node;
 pub mod outcome;
 pub(crate) mod print;
 pub(crate) mod stopped;

@@ -4,7 +4,6 @@ ghost use Rattle.chunk_core.specs.Elements.{elements};
 ghost use Rattle.pull_turns.specs.Around.{Goes};
 ghost use Rattle.pull_turns.specs.Piping.{standing};
 ghost use Rattle.pull_turns.specs.Turned.{SpendsWithin};
-ghost use Rattle.row_seat.specs.Views.{OthersFit};
 ghost use Rattle.scope_tree.specs.Calls.{IsOpenScope};
 ghost use Rattle.pull_stepper.specs.Held.{FinishesDevice};
 ghost use Rattle.pull_stepper.specs.Sites.{Since, around, told_at};
@@ -15,7 +14,7 @@ ghost use Rattle.cat_run.specs.Printing.{PrintsAll, PrintsOne};
 use crate::stopped::Stopped;
 use chunk_core::Load;
 use device_port::{Device, Sink};
-use frames::{NotPut, put_load};
+use frames::{FrameRoom, NotPut, put_load_in};
 use pull_nodes::PipeState;
 use pull_stepper::{Held, Stepper, Turn};
 use row_seat::RowSeat;
@@ -25,6 +24,7 @@ use std::alloc::{AllocError, Global};
 /// memory is wanting.
 pub(crate) fn print_all<V: Device, S: RowSeat<Pay = Held<V>>, F: PipeState, K: Sink>(
     alloc: Global,
+    frames: &mut FrameRoom,
     stepper: &mut Stepper<S, V, F>,
     desk: &mut S::Desk,
     out: &mut K,
@@ -38,11 +38,10 @@ pub(crate) fn print_all<V: Device, S: RowSeat<Pay = Held<V>>, F: PipeState, K: S
     ensures spends { SpendsWithin (around V.told (stepping S.view F.values stepper.old).site) (around V.told (stepping S.view F.values stepper.new).site) (stepping S.view F.values stepper.old).rest }
     ensures fits { Works S.view V.told S.fits stepper.new desk.new }
     ensures since { Since V.told (FinishesDevice V.told) (stepping S.view F.values stepper.old).site (stepping S.view F.values stepper.new).site }
-    ensures others { OthersFit S.view S.fits (stepping S.view F.values stepper.old).site.tree.seat.by desk.old desk.new }
 {
     'turns: loop {
         match stepper.turn(desk) {
-            Ok(Turn::Chunk(load)) => match print_load(alloc, load, out) {
+            Ok(Turn::Chunk(load)) => match print_load(alloc, frames, load, out) {
                 Ok(()) => {}
                 Err(cause) => return stop(stepper, desk, cause),
             },
@@ -67,19 +66,23 @@ fn stop<V: Device, S: RowSeat<Pay = Held<V>>, F: PipeState>(
     ensures halts { Halts V.told (stepping S.view F.values stepper.old) (stepping S.view F.values stepper.new) }
     ensures fits { Works S.view V.told S.fits stepper.new desk.new }
     ensures since { Since V.told (FinishesDevice V.told) (stepping S.view F.values stepper.old).site (stepping S.view F.values stepper.new).site }
-    ensures others { OthersFit S.view S.fits (stepping S.view F.values stepper.old).site.tree.seat.by desk.old desk.new }
 {
     stepper.halt(desk);
     cause
 }
 
 /// Prints a load as a frame of stream 0. Where nothing may be printed behind it the cause is told.
-fn print_load<K: Sink>(alloc: Global, load: Load, out: &mut K) -> Result<(), Stopped>
+fn print_load<K: Sink>(
+    alloc: Global,
+    frames: &mut FrameRoom,
+    load: Load,
+    out: &mut K,
+) -> Result<(), Stopped>
     requires some { 0 < length (elements load) }
     requires room { (K.told out.old).faults < 2 ^ 64 - 1 }
     ensures { PrintsOne (K.told out.old) (K.told out.new) 0 load result }
 {
-    match put_load(alloc, out, 0, &load) {
+    match put_load_in(alloc, frames, out, 0, &load) {
         Ok(()) => Ok(()),
         Err(NotPut::Unwritten) => Err(Stopped::Unwritten),
         Err(NotPut::Memory) => Err(Stopped::Memory),

@@ -43,8 +43,8 @@ use Rattle.hot_swap.specs.declared.swap.Held.{Held}
 use Rattle.hot_swap.specs.TwoRows.{NotesSwaps, has_final, rows_open}
 use Rattle.hot_swap.proofs.TwoRows.{along, few_pass, fewer_pass, one_open, open_more, two_fronts}
 use Rattle.job_runs.proofs.Closing.{ShelfTells}
-use Rattle.cat_run.specs.Alone.{IsAccount}
-use Rattle.cat_run.proofs.Closing.{account}
+use Rattle.lone_stream.specs.Account.{IsAccount}
+use Rattle.lone_stream.proofs.Closing.{account}
 use Rattle.rotate_rules.specs.Rotation.{HoldsTwo, open_files}
 
 -- What is open at each position.

@@ -34,9 +34,9 @@ use Rattle.hot_swap.proofs.Holding.{root_open}
 use Rattle.stream_parts.specs.Retire.{MayReturnAll, Returns, devices_of}
 use Rattle.stream_parts.proofs.Exchanged.{may_permuted}
 use Rattle.cat_run.specs.declared.outcome.Outcome.{Outcome}
-use Rattle.cat_run.specs.Alone.{IsAccount}
+use Rattle.lone_stream.specs.Account.{IsAccount}
 use Rattle.cat_run.specs.Cat.{run_record_of}
-use Rattle.cat_run.proofs.ComingBack.{back_there}
+use Rattle.lone_stream.proofs.ComingBack.{back_there}
 use Rattle.rotate_rules.specs.Pieces.{IsFront, Rotated, rotate_places}
 use Rattle.rotate_rules.specs.Rotation.{HoldsTwo, RotatesFiles, TellsFaults}
 use Rattle.rotate_files.specs.Beginning.{IsUnused}

@@ -31,9 +31,9 @@ use Rattle.joined_runs.specs.Devices.{MadeComeBack}
 use Rattle.joined_runs.proofs.MadeRows as made
 use Rattle.joined_runs.proofs.MadeRows.{at_some, place_found}
 use Rattle.cat_run.specs.declared.outcome.Outcome.{Outcome}
-use Rattle.cat_run.specs.Alone.{IsAccount, alone}
+use Rattle.lone_stream.specs.Account.{IsAccount, alone}
 use Rattle.cat_run.specs.Cat.{run_record_of}
-use Rattle.cat_run.proofs.Accounts.{clean, kept, leaves_closed, lends_none, none_above, ours, told_as_ended}
+use Rattle.lone_stream.proofs.Accounts.{clean, kept, leaves_closed, lends_none, none_above, ours, told_as_ended}
 use Rattle.rotate_rules.specs.Pieces.{EndSays, IdealRotatingRuns, RotatingRuns, Rotated}
 use Rattle.rotate_rules.specs.Rotation.{HoldsTwo, IsRotation, TellsFaults}
 

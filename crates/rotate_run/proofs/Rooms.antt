@@ -6,7 +6,7 @@ use Rattle.row_seat.specs.Views.{start}
 use Rattle.scope_tree.specs.Calls.{IsOpenScope, Seen, used}
 use Rattle.scope_tree.specs.Trace.{owed}
 use Rattle.tree_laws.proofs.Alone.{first_alone, first_at_start}
-use Rattle.cat_run.proofs.StreamRuns.{in_run}
+use Rattle.lone_stream.proofs.StreamRuns.{in_run}
 use Rattle.rotate_files.specs.Beginning.{IsUnused}
 
 -- over a fresh seat with room for all, nothing was done

@@ -7,18 +7,18 @@
 //! `retire_all` gives devices back to the depot that made them; `retire_shelf` those that stand on the
 //! shelf of a stream that has ended. None of them may be open.
 //!
-//! Here both lists of a stream that has run go back:
+//! Here both lists of a stream that has run go back: the devices that stand on its shelf, and those that
+//! were never opened. `par_join` does so for each stream of a plan once the ledger is finished, `lone_stream`
+//! for one that ran alone:
 //!
 //! ```
-//! let Ran {
-//!     outcome,
-//!     shelf,
-//!     unopened,
-//! } = ran;
+//! let Leftover { shelf, unopened } = left;
 //! retire_shelf(depot, shelf);
 //! retire_all(depot, unopened);
-//! outcome
 //! ```
+//!
+//! The devices of a stream may go back in any order, and so may those of streams that ran beside one another:
+//! each has a number of its own.
 #![tactic(auto)]
 
 pub(crate) mod make;

@@ -6,7 +6,7 @@ use Rattle.pull_stepper.specs.Held.{FinishesDevice}
 use Rattle.pull_stepper.specs.Laws.{since_same, since_then}
 use Rattle.pull_stepper.specs.Stepping.{stopped_by}
 use Rattle.cat_run.proofs.Printing.{prints_start, prints_chunk, prints_quiet, prints_done, prints_fault, prints_wanting, prints_put}
-use Rattle.cat_run.proofs.Spending.{others_then, spends_all, spends_stopped}
+use Rattle.lone_stream.proofs.Spending.{spends_all, spends_stopped}
 use Rattle.cat_run.proofs.print.print_all.Goals as goal
 
 pub turns-init : goal.turns-init
@@ -17,7 +17,6 @@ turns-init g c = record {
   tables = refl;
   chunk = refl;
   spends = spends_none _ _;
-  others = λ o n f. f;
   prints = prints_start _ _ _ _ _ _;
 }
 
@@ -32,7 +31,6 @@ turns-preserved-in-Ok g c =
       tables = k.tables ∙ i.tables;
       chunk = k.chunk ∙ i.chunk;
       spends = spends_then _ _ _ _ _ _ i.spends k.turns.spends;
-      others = others_then g.S.RowSeat.view g.S.RowSeat.fits _ _ _ _ _ i.since.alone.by i.others c.in-Ok-Chunk.ensures.others;
       prints = prints_chunk _ _ _ _ _ _ _ _ _ _ _ i.prints _ c.in-Ok-Chunk.load (rw (i.tables, i.chunk) at k.turns) (rw i.chunk at k.sized) c.in-Ok.ensures;
     }
 
@@ -47,7 +45,6 @@ turns-preserved g c =
       tables = k.tables ∙ i.tables;
       chunk = k.chunk ∙ i.chunk;
       spends = spends_then _ _ _ _ _ _ i.spends k.turns.spends;
-      others = others_then g.S.RowSeat.view g.S.RowSeat.fits _ _ _ _ _ i.since.alone.by i.others c.in-Ok-Quiet.ensures.others;
       prints = prints_quiet _ _ _ _ _ _ _ _ _ _ _ i.prints (rw (i.tables, i.chunk) at k.turns) (rw i.chunk at k.sized);
     }
 
@@ -78,12 +75,6 @@ pub returns-in-Err-print_load-clause-since : goal.returns-in-Err-print_load-clau
 returns-in-Err-print_load-clause-since g c =
     since_then g.V.Device.told (FinishesDevice g.V.Device.told) _ _ _ (since_then g.V.Device.told (FinishesDevice g.V.Device.told) _ _ _ c.turns.invariant.since c.in-Ok-Chunk.ensures.since) c.stop.ensures.since
 
-pub returns-in-Err-print_load-clause-others : goal.returns-in-Err-print_load-clause-others
-returns-in-Err-print_load-clause-others g c =
-    let i = c.turns.invariant in
-    let t = c.in-Ok-Chunk.ensures in
-    others_then g.S.RowSeat.view g.S.RowSeat.fits _ _ _ _ _ (t.since.alone.by ∙ i.since.alone.by) (others_then g.S.RowSeat.view g.S.RowSeat.fits _ _ _ _ _ i.since.alone.by i.others t.others) c.stop.ensures.others
-
 pub returns-in-Ok-Done-clause-prints : goal.returns-in-Ok-Done-clause-prints
 returns-in-Ok-Done-clause-prints g c =
     let i = c.turns.invariant in
@@ -99,9 +90,6 @@ returns-in-Ok-Done-clause-spends g c =
 
 pub returns-in-Ok-Done-clause-since : goal.returns-in-Ok-Done-clause-since
 returns-in-Ok-Done-clause-since g c = since_then g.V.Device.told (FinishesDevice g.V.Device.told) _ _ _ c.turns.invariant.since c.in-Ok-Done.ensures.since
-
-pub returns-in-Ok-Done-clause-others : goal.returns-in-Ok-Done-clause-others
-returns-in-Ok-Done-clause-others g c = let i = c.turns.invariant in others_then g.S.RowSeat.view g.S.RowSeat.fits _ _ _ _ _ i.since.alone.by i.others c.in-Ok-Done.ensures.others
 
 pub returns-in-Ok-Fault-clause-prints : goal.returns-in-Ok-Fault-clause-prints
 returns-in-Ok-Fault-clause-prints g c =
@@ -119,9 +107,6 @@ returns-in-Ok-Fault-clause-spends g c =
 pub returns-in-Ok-Fault-clause-since : goal.returns-in-Ok-Fault-clause-since
 returns-in-Ok-Fault-clause-since g c = since_then g.V.Device.told (FinishesDevice g.V.Device.told) _ _ _ c.turns.invariant.since c.in-Ok-Fault.ensures.since
 
-pub returns-in-Ok-Fault-clause-others : goal.returns-in-Ok-Fault-clause-others
-returns-in-Ok-Fault-clause-others g c = let i = c.turns.invariant in others_then g.S.RowSeat.view g.S.RowSeat.fits _ _ _ _ _ i.since.alone.by i.others c.in-Ok-Fault.ensures.others
-
 pub returns-in-Err-clause-prints : goal.returns-in-Err-clause-prints
 returns-in-Err-clause-prints g c =
     let i = c.turns.invariant in
@@ -138,9 +123,3 @@ returns-in-Err-clause-spends g c = spends_stopped _ _ _ _ (spends_then _ _ _ _ _
 pub returns-in-Err-clause-since : goal.returns-in-Err-clause-since
 returns-in-Err-clause-since g c =
     since_then g.V.Device.told (FinishesDevice g.V.Device.told) _ _ _ (since_then g.V.Device.told (FinishesDevice g.V.Device.told) _ _ _ c.turns.invariant.since c.in-Err.ensures.since) c.stop-in-Err.ensures.since
-
-pub returns-in-Err-clause-others : goal.returns-in-Err-clause-others
-returns-in-Err-clause-others g c =
-    let i = c.turns.invariant in
-    let t = c.in-Err.ensures in
-    others_then g.S.RowSeat.view g.S.RowSeat.fits _ _ _ _ _ (t.since.alone.by ∙ i.since.alone.by) (others_then g.S.RowSeat.view g.S.RowSeat.fits _ _ _ _ _ i.since.alone.by i.others t.others) c.stop-in-Err.ensures.others

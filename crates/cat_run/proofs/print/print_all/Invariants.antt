@@ -2,7 +2,6 @@ use Rattle.std.proofs.Common.{◌≡◌}
 use Rattle.pull_turns.specs.Piping.{standing}
 use Rattle.pull_turns.specs.Turned.{Spends}
 use Rattle.pull_turns.specs.Work.{work_left}
-use Rattle.row_seat.specs.Views.{OthersFit}
 use Rattle.pull_stepper.specs.Held.{FinishesDevice}
 use Rattle.pull_stepper.specs.Sites.{Since, around, told_at}
 use Rattle.pull_stepper.specs.Steppers.{Works, stepping}
@@ -23,7 +22,6 @@ invariant-turns g l =
       tables : b.tables ≡ a.tables;
       chunk : b.chunk ≡ a.chunk;
       spends : Spends (around told a.site) (around told b.site) a.rest b.rest;
-      others : OthersFit g.S.RowSeat.view g.S.RowSeat.fits a.site.tree.seat.by l.fn.desk l.desk;
       prints : PrintsOn (P a.tables) (told_at told a.site) (told_at told b.site) a.chunk a.rest b.rest 0 (g.K.Sink.told l.fn.out) (g.K.Sink.told l.out);
     }
 

@@ -1,16 +1,12 @@
--- What running a node over a tree to its end does.
-use Rattle.std.specs.Prelude.{◌≡◌, ℕ, ◌+◌, ◌*◌, ◌^◌, ◌≤◌, List, [], length, Some, nat_eq}
+-- What running a node over a tree to its end leaves.
+use Rattle.std.specs.Prelude.{◌≡◌, ℕ, ◌+◌, ◌*◌, ◌^◌, ◌≤◌, List, [], length, nat_eq}
 use Rattle.chunk_core.specs.Lists.{IsAmong}
 use Rattle.chunk_core.specs.Outcomes.{exit_of}
 use Rattle.chunk_core.specs.declared.code.Exit.{Exit}
 use Rattle.chunk_core.specs.declared.code.How.{How}
 use Rattle.device_port.specs.Device.{DeviceTold}
-use Rattle.device_port.specs.Sink.{SinkTold}
-use Rattle.pull_nodes.specs.Runs.{IsRun}
 use Rattle.pull_nodes.specs.Shape.{places_of, scope_count}
-use Rattle.chunk_core.specs.Tables.{no_values}
 use Rattle.pull_nodes.specs.declared.node.Node.{Node}
-use Rattle.pull_turns.specs.Sizes.{HasNoPipeOf, widest_of}
 use Rattle.res_ledger.specs.declared.event.What.TheVariants.{Close}
 use Rattle.res_ledger.specs.Ledger.{Notes}
 use Rattle.res_ledger.specs.Order.{firsts}
@@ -27,8 +23,6 @@ use Rattle.pull_stepper.specs.Held.{FinishesDevice}
 use Rattle.pull_stepper.specs.Placing.{first_of}
 use Rattle.pull_stepper.specs.Sites.{Parted, SameDevice, told_at}
 use Rattle.pull_stepper.specs.Stepping.{site_of}
-use Rattle.cat_run.specs.declared.stopped.Stopped.{Stopped}
-use Rattle.cat_run.specs.Printing.{PrintsRun}
 
 module _ {V : Type 0} where
   -- of the room of a tree no more was used than the node counts, and nothing is owed any more
@@ -40,13 +34,11 @@ module _ {V : Type 0} where
     pub most_scopes : b.scopes ≡ a.scopes
     pub most_rows : b.rows ≡ a.rows
 
-  -- The node was run, over no tables, over the devices and a tree whose shelf was empty, and pieces of a run were printed. No device was read
-  -- beyond the limit, and each stands on the shelf or was never opened; the root is closed as the node ended, and the tree was left alone.
-  pub record RunsNode (told : V → DeviceTold) (n : Node) (devices : List V) (chunk : ℕ) (a b : Seen V) (old new : SinkTold) (how : How) (unopened : List V) (r : Stopped) : Type 0 where
-    pub home : ℕ → DeviceTold
+  -- The node was run over the devices and a tree whose shelf was empty. No device was read beyond the limit, and each stands on the shelf or was never
+  -- opened; the root is closed as the node ended, and the tree was left alone.
+  pub record LeavesNode (told : V → DeviceTold) (n : Node) (devices : List V) (home : ℕ → DeviceTold) (a b : Seen V) (how : How) (unopened : List V) : Type 0 where
     pub same : (p : ℕ) → SameDevice (told_at told (site_of n a devices) p) (home p)
     pub within : (p : ℕ) → (home p).at ≤ 2 ^ 40
-    pub prints : PrintsRun (IsRun no_values home n) (HasNoPipeOf n) (widest_of chunk n) 0 old new (Some how) r
     pub parted : Parted told home b.shelf (first_of (places_of n) + length devices) (first_of (places_of n)) unopened
     pub once : IsDistinct nat_eq (firsts (said b.shelf))
     pub rows : (x : Spent V) → IsAmong x b.shelf → IsWithin (first_of (places_of n)) (first_of (places_of n) + length devices) x.row

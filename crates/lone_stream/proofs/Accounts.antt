@@ -8,6 +8,7 @@ use Rattle.chunk_core.specs.declared.code.Exit.{Exit}
 use Rattle.chunk_core.specs.declared.code.How.{How}
 use Rattle.chunk_core.proofs.Each.{each_among, among_each}
 use Rattle.chunk_core.proofs.Members.{among_mid}
+use Rattle.res_ledger.specs.declared.event.StreamNo.{StreamNo}
 use Rattle.res_ledger.specs.declared.event.StreamNo.TheVariants.{Inner, Outer}
 use Rattle.res_ledger.specs.declared.event.What.{What}
 use Rattle.res_ledger.specs.declared.event.What.TheVariants.{Cancel, Close}
@@ -20,23 +21,24 @@ use Rattle.run_rules.specs.declared.end.EndOf.{EndOf}
 use Rattle.run_rules.specs.Ends.{IsLast}
 use Rattle.run_rules.specs.Exits.{HasExit}
 use Rattle.run_rules.specs.Rules.{ClosesBeforeLeaving, IsOurs, LendsTables}
-use Rattle.cat_run.specs.Alone.{alone, IsAccount}
+use Rattle.lone_stream.specs.Account.{alone, IsAccount, IsAccountOf}
 use Rattle.joined_runs.proofs.JoinedRules.{none_leased, not_outer}
 use Rattle.joined_runs.proofs.RowAccounts as rows
 use Rattle.joined_runs.proofs.RowAccounts.{AreRowsKept}
 
-module _ (count scopes : ℕ) (w : ℕ → DeviceTold) (how : How) (L : List Event) (a : IsAccount count scopes w how L) where
-  by_0 : (e : Event) → IsAmong e L → e.by ≡ Inner 0
-  by_0 e i = (among_each (λ x. (x.by ≡ Inner 0) × (leased_stream x.what ≡ None)) e L a.own i).0
+module _ {who : StreamNo} (count scopes : ℕ) (w : ℕ → DeviceTold) (how : How) (L : List Event) (a : IsAccountOf who count scopes w how L) where
+  -- each event is the stream's
+  pub its_own : (e : Event) → IsAmong e L → e.by ≡ who
+  its_own e i = (among_each (λ x. (x.by ≡ who) × (leased_stream x.what ≡ None)) e L a.own i).0
 
   -- its rows are kept
   pub kept : AreRowsKept count w L
   kept = record {
     legal = a.legal;
     complete = a.complete;
-    acquired = λ k r s n. a.acquired r s (n.0, n.1, by_0 n.0 n.1, n.3);
+    acquired = λ k r s n. a.acquired r s (n.0, n.1, its_own n.0 n.1, n.3);
     each = a.each;
-    ended = λ k r x ok n. a.ended r x ok (n.0, n.1, by_0 n.0 n.1, n.3);
+    ended = λ k r x ok n. a.ended r x ok (n.0, n.1, its_own n.0 n.1, n.3);
   }
 
   -- where each device was closed well, so says each Final
@@ -44,28 +46,29 @@ module _ (count scopes : ℕ) (w : ℕ → DeviceTold) (how : How) (L : List Eve
   clean well = rows.clean count w L kept well
 
   -- nothing was leased, so no lease was cancelled
-  no_cancel : (e : Event) → IsAmong e L → (j : ℕ) (x : Exit) → e.what ≡ Cancel j x → ⊥
+  pub no_cancel : (e : Event) → IsAmong e L → (j : ℕ) (x : Exit) → e.what ≡ Cancel j x → ⊥
   no_cancel e i j x is =
       let n = canceled_leased L j a.legal (e.by, (x, (e, i, refl, is))) in
       let m : Event = n.2.0 in
-      none_leased m.what j n.1 (among_each (λ x. (x.by ≡ Inner 0) × (leased_stream x.what ≡ None)) m L a.own n.2.1).1 n.2.3
+      none_leased m.what j n.1 (among_each (λ x. (x.by ≡ who) × (leased_stream x.what ≡ None)) m L a.own n.2.1).1 n.2.3
 
+  pub leaves_closed : ClosesBeforeLeaving L
+  leaves_closed P Q e j x is by what = absurd (no_cancel e (subst (λ l. IsAmong e l) (sym is) (among_mid P Q e)) j x what)
+
+module _ (count scopes : ℕ) (w : ℕ → DeviceTold) (how : How) (L : List Event) (a : IsAccount count scopes w how L) where
   -- no stream above any noted something
   pub none_above : (k : ℕ) → IsLast k L
-  none_above k j acts = let n = inner_is j 0 (sym acts.2 ∙ by_0 acts.0 acts.1) in omega (arith, n)
+  none_above k j acts = let n = inner_is j 0 (sym acts.2 ∙ its_own count scopes w how L a acts.0 acts.1) in omega (arith, n)
 
   -- no event is an outer stream's
   no_outer : (e : Event) → IsAmong e L → e.by ≡ Outer → ⊥
-  no_outer e i o = not_outer 0 (sym o ∙ by_0 e i)
+  no_outer e i o = not_outer 0 (sym o ∙ its_own count scopes w how L a e i)
 
   pub lends_none : LendsTables 0 L
   lends_none = record {
     rise = λ P Q e r s q t is by what m. absurd (no_outer e (subst (λ l. IsAmong e l) (sym is) (among_mid P Q e)) by);
     covers = λ j s r m l. absurd (no_outer m.0 m.1 m.2);
   }
-
-  pub leaves_closed : ClosesBeforeLeaving L
-  leaves_closed P Q e j x is by what = absurd (no_cancel e (subst (λ l. IsAmong e l) (sym is) (among_mid P Q e)) j x what)
 
   abbrev end_0 : EndOf
   end_0 = record { who = Inner 0; how = how }
@@ -79,7 +82,7 @@ module _ (count scopes : ℕ) (w : ℕ → DeviceTold) (how : How) (L : List Eve
   pub told_as_ended : AllByRecursion (λ e. HasExit end_0 e.what) (by_stream (Inner 0) L)
   told_as_ended = each_among (λ (e : Event). HasExit end_0 e.what) (by_stream (Inner 0) L) (λ e m.
       let i = by_in (Inner 0) L e m in
-      exit_what e.what (λ x v. a.exits x (e, i.0, i.1, v)) (λ j x v. no_cancel e i.0 j x v))
+      exit_what e.what (λ x v. a.exits x (e, i.0, i.1, v)) (λ j x v. no_cancel count scopes w how L a e i.0 j x v))
 
 -- each row of the only stream is its own
 pub owner_at : (ps : List Place) (r : ℕ) → r < length ps → at (map (λ p. Inner 0) ps ++ []) r ≡ Some (Inner 0)

@@ -13,8 +13,6 @@ use Rattle.chunk_core.specs.declared.code.Exit.TheVariants as exit
 use Rattle.chunk_core.specs.declared.code.How.{How}
 use Rattle.chunk_core.specs.declared.code.How.TheVariants as how
 use Rattle.device_port.specs.Device.{DeviceTold}
-use Rattle.device_port.specs.Sink.{SinkTold}
-use Rattle.device_port.proofs.Puts.{with_bytes_none}
 use Rattle.pull_nodes.specs.Runs.{IsRun}
 use Rattle.pull_nodes.specs.Shape.{places_of, scope_count}
 use Rattle.pull_nodes.specs.declared.node.Node.{Node}
@@ -45,10 +43,10 @@ use Rattle.pull_turns.proofs.Led.{cut_unwritten, over_now}
 use Rattle.pull_stepper.proofs.Beginning.{begun_in_order, begun_can}
 use Rattle.pull_stepper.proofs.Closing.{closed_as}
 use Rattle.pull_stepper.proofs.Parting.{parted}
-use Rattle.cat_run.specs.declared.stopped.Stopped.{Stopped}
-use Rattle.cat_run.specs.declared.stopped.Stopped.TheVariants as stopped
-use Rattle.cat_run.specs.Nodes.{RunsNode, UsesNoMore}
-use Rattle.cat_run.specs.Printing.{PrintsAll, PrintsRun}
+use Rattle.lone_stream.specs.Nodes.{LeavesNode, UsesNoMore}
+use Rattle.res_ledger.specs.declared.event.StreamNo.{StreamNo}
+use Rattle.lone_stream.specs.Rooms.{IsFresh}
+use Rattle.lone_stream.specs.Steps.{IsBegun, IsPast}
 use Rattle.chunk_core.proofs.Distinct.{distinct_nil}
 
 nothing_in : {A : Type 0} (xs : List A) → ((x : A) → IsAmong x xs → ⊥) → xs ≡ []
@@ -67,7 +65,7 @@ module _ {V : Type 0} (told : V → DeviceTold) where
   unread o p i (d ∷ ds) h =
       elim (nat_eq i p) as (λ b. (told_by told (if b then Some (Some d) else slot_of p (suc i) (map Some ds)) o).at ≡ 0) [ true ↦ (h d (here ds)).at | false ↦ unread o p (suc i) ds (λ x m. h x (there d m)) ]
 
-module _ {V : Type 0} (told : V → DeviceTold) (n : Node) (devices : List V) (chunk : ℕ) (a b : Seen V) (old new : SinkTold) (empty : a.shelf ≡ []) (room : HasRoomFor a n) (sound : used b ≤ b.rows) (over : owed b.seat ≡ 0) where
+module _ {V : Type 0} (told : V → DeviceTold) (n : Node) (devices : List V) (chunk : ℕ) (a b : Seen V) (empty : a.shelf ≡ []) (room : HasRoomFor a n) (sound : used b ≤ b.rows) (over : owed b.seat ≡ 0) where
   abbrev first : ℕ
   first = first_of (places_of n)
 
@@ -83,18 +81,17 @@ module _ {V : Type 0} (told : V → DeviceTold) (n : Node) (devices : List V) (c
       subst (λ (y : Seen V). owed y.seat ≡ 0 → used y ≤ y.rows → UsesNoMore n a y) (sym is) (λ o u. record { owed = o; events = events; scopes = scopes; rows = rows u; most_scopes = limits.1; most_rows = limits.2 }) over sound
 
   -- the node was run to its end
-  node_ran_from : {F : Type 0} (P : Values → StateMeaning F) (t : Values) (z : Stepping V F) (h : How) (ds : List V) (r : Stopped) → (P t).values ≡ no_values → PrintsAll P told 0 (begun n a devices t chunk) z old new r → SpendsWithin {F = F} (around told (site_of n a devices)) (around told z.site) (rest.Start n) → Since told (FinishesDevice told) (site_of n a devices) z.site
-      → ((p : ℕ) → Goes (told_at told (site_of n a devices) p) (told_at told z.site p)) → IsSupplied told n devices → StepperEnds told z b h ds → RunsNode told n devices chunk a b old new h ds r
-  node_ran_from P t z h ds r empty_values prints spends since goes supplied end =
+  pub node_ran : {F : Type 0} (t : Values) (z : Stepping V F) (h : How) (ds : List V) → IsPast told (begun n a devices t chunk) z → IsSupplied told n devices → StepperEnds told z b h ds → LeavesNode told n devices (told_at told z.site) a b h ds
+  node_ran t z h ds past supplied end =
+      let since = past.since in
+      let spends = past.spends in
       let count : length z.site.slots ≡ length devices = since.places ∙ length-map devices Some in
       let to : z.site.from + length z.site.slots ≡ first + length devices = omega (arith, since.from, count) in
       let within : length (map Some devices) ≡ length devices = length-map devices Some in
       let limits = room_along (omega (arith, room.scopes)) since.calls in
       record {
-        home = told_at told z.site;
         same = since.same;
-        within = λ p. (goes p).within (begins_within supplied p);
-        prints = subst (λ e. PrintsRun (IsRun no_values (told_at told z.site) n) (HasNoPipeOf n) (widest_of chunk n) 0 old new e r) end.how (subst (λ v. PrintsRun (IsRun v (told_at told z.site) n) (HasNoPipeOf n) (widest_of chunk n) 0 old new z.how r) empty_values prints);
+        within = λ p. (past.goes p).within (begins_within supplied p);
         parted = subst (λ f. Parted told (told_at told z.site) b.shelf (first + length devices) f ds) since.from (subst (λ t. Parted told (told_at told z.site) b.shelf t z.site.from ds) to end.parted);
         once = end.once;
         rows = λ x m.
@@ -109,20 +106,13 @@ module _ {V : Type 0} (told : V → DeviceTold) (n : Node) (devices : List V) (c
         room = uses_no_more z.site.tree end.tree since.calls (omega (arith, spends.events, room.owed)) (omega (arith, spends.scopes, limits.0, limits.1, room.scopes)) (λ u. omega (arith, spends.rows, limits.2, u, room.rows));
       }
 
-  pub node_ran : {F : Type 0} (P : Values → StateMeaning F) (t : Values) (x z : Stepping V F) (h : How) (ds : List V) (r : Stopped) → (P t).values ≡ no_values → x ≡ begun n a devices t chunk → PrintsAll P told 0 x z old new r → SpendsWithin (around told x.site) (around told z.site) x.rest → Since told (FinishesDevice told) x.site z.site
-      → ((p : ℕ) → Goes (told_at told x.site p) (told_at told z.site p)) → IsSupplied told n devices → StepperEnds told z b h ds → RunsNode told n devices chunk a b old new h ds r
-  node_ran {F = F} P t x z h ds r empty_values e prints spends since goes supplied end =
-      node_ran_from P t z h ds r empty_values (subst (λ (y : Stepping V F). PrintsAll P told 0 y z old new r) e prints) (subst (λ (y : Stepping V F). SpendsWithin (around told y.site) (around told z.site) y.rest) e spends)
-      (subst (λ (y : Stepping V F). Since told (FinishesDevice told) y.site z.site) e since) (subst (λ (y : Stepping V F). (p : ℕ) → Goes (told_at told y.site p) (told_at told z.site p)) e goes) supplied end
-
   filtered : (ds : List V) → filter_map (λ o. o) (map Some ds) ≡ ds
   filtered [] = refl
   filtered (d ∷ ds) = ap (λ l. d ∷ l) (filtered ds)
 
   -- the node couldn't be begun, and the root was closed
-  unmade_here : {F : Type 0} (P : Values → StateMeaning F) (t : Values) → (P t).values ≡ no_values → 1 ≤ chunk → IsSupplied told n devices → ClosesScope (FinishesDevice told) a 0 exit.Canceled b → TakesRoom 0 0 a b → a.seat.spare ≤ b.seat.spare + owed a.seat → new ≡ old
-      → RunsNode told n devices chunk a b old new how.Memory devices stopped.Memory
-  unmade_here {F = F} P t empty_values some supplied closes leaves spare quiet =
+  unmade_here : IsSupplied told n devices → ClosesScope (FinishesDevice told) a 0 exit.Canceled b → TakesRoom 0 0 a b → a.seat.spare ≤ b.seat.spare + owed a.seat → LeavesNode told n devices (told_at told (site_of n a devices)) a b how.Memory devices
+  unmade_here supplied closes leaves spare =
       let x = site_of n a devices in
       let calls : Called (FinishesDevice told) a [] b = closed a b 0 exit.Canceled none room.root closes in
       let bare : b.shelf ≡ [] = closes.torn.1 ∙ (ap (λ xs. a.shelf ++ xs) (none_torn room.opened closes) ∙ (append-nil a.shelf ∙ empty)) in
@@ -130,28 +120,9 @@ module _ {V : Type 0} (told : V → DeviceTold) (n : Node) (devices : List V) (c
       let vacant : (r : ℕ) → IsAmong r a.seat.empty → ¬ (IsAmong r (firsts (said a.shelf))) = λ r m i. among_nil (subst (λ l. IsAmong r (firsts (said l))) empty i) in
       let all = parted told x (begun_in_order told n a devices supplied room) room.opened distinct vacant in
       let within : length (map Some devices) ≡ length devices = length-map devices Some in
-      let cut : IsRunOfRest (P t) (told_at told x) (rest.Start n) [] Cut = cut_unwritten (P t) (around told x) (around told x) 0 (rest.Start n) (begun_can told n a devices supplied room P t chunk some).step (λ p. (refl, refl)) (told_at told x) (over_now (told_at told x) (rest.Start n)) in
       record {
-        home = told_at told x;
         same = λ p. record { number = refl; place = refl; present = refl; content = refl };
         within = begins_within supplied;
-        prints = record {
-          how = how.Memory;
-          ended_is = refl;
-          ends = inr refl;
-          printed = record { pieces = []; some = tt; next = []; rest = []; cut = (refl, refl); wrote = quiet ∙ sym (with_bytes_none old) };
-          small = λ plain. record { fits = tt; next_fits = omega arith };
-          run = record {
-            end = Cut;
-            run = subst (λ v. IsRun v (told_at told x) n [] Cut) empty_values cut;
-            goes_on = λ e. absurd (false≢true e);
-            reported = inr refl;
-            silenced = λ e. absurd (false≢true e);
-            halted = λ e. absurd (false≢true e);
-            remembered = λ e. refl;
-            wanting = λ e. (refl, inl refl);
-          };
-        };
         parted = subst (λ l. Parted told (told_at told x) l (first + length devices) first devices) (empty ∙ sym bare)
             (subst (λ k. Parted told (told_at told x) a.shelf (first + k) first devices) within (subst (λ ds. Parted told (told_at told x) a.shelf (first + length (map Some devices)) first ds) (filtered devices) all));
         once = subst (λ l. IsDistinct nat_eq (firsts (said l))) (sym bare) distinct_nil;
@@ -169,8 +140,20 @@ module _ {V : Type 0} (told : V → DeviceTold) (n : Node) (devices : List V) (c
     leaves : TakesRoom 0 0 m b
     spare : m.seat.spare ≤ b.seat.spare + owed m.seat
 
-  pub node_unmade : {F : Type 0} (P : Values → StateMeaning F) (t : Values) → (P t).values ≡ no_values → 1 ≤ chunk → IsSupplied told n devices
-      → (m : Seen V) → m ≡ a → ClosesScope (FinishesDevice told) m 0 exit.Canceled b → TakesRoom 0 0 m b → m.seat.spare ≤ b.seat.spare + owed m.seat → new ≡ old → RunsNode told n devices chunk a b old new how.Memory devices stopped.Memory
-  node_unmade P t empty_values some supplied m same closes leaves spare quiet =
+  pub node_unmade : IsSupplied told n devices → (m : Seen V) → m ≡ a → ClosesScope (FinishesDevice told) m 0 exit.Canceled b → TakesRoom 0 0 m b → m.seat.spare ≤ b.seat.spare + owed m.seat → LeavesNode told n devices (told_at told (site_of n a devices)) a b how.Memory devices
+  node_unmade supplied m same closes leaves spare =
       let s : Shuts a = subst Shuts same (record { closes = closes; leaves = leaves; spare = spare }) in
-      unmade_here P t empty_values some supplied s.closes s.leaves s.spare quiet
+      unmade_here supplied s.closes s.leaves s.spare
+
+  -- it may be left before it is begun
+  pub unbegun_run : {F : Type 0} (P : Values → StateMeaning F) (t : Values) → (P t).values ≡ no_values → 1 ≤ chunk → IsSupplied told n devices → IsRun no_values (told_at told (site_of n a devices)) n [] Cut
+  unbegun_run {F = F} P t empty_values some supplied =
+      let x = site_of n a devices in
+      let cut : IsRunOfRest (P t) (told_at told x) (rest.Start n) [] Cut = cut_unwritten (P t) (around told x) (around told x) 0 (rest.Start n) (begun_can told n a devices supplied room P t chunk some).step (λ p. (refl, refl)) (told_at told x) (over_now (told_at told x) (rest.Start n)) in
+      subst (λ v. IsRun v (told_at told x) n [] Cut) empty_values cut
+
+-- A stepper that was begun over a fresh seat has ended, and left its tree so.
+pub begun_ran : {V F : Type 0} (P : Values → StateMeaning F) (told : V → DeviceTold) (who : StreamNo) (n : Node) (devices : List V) (chunk : ℕ) (x z : Stepping V F) (b : Seen V) (h : How) (ds : List V) → IsBegun P told who n devices chunk x → IsPast told x z → StepperEnds told z b h ds → used b ≤ b.rows → owed b.seat ≡ 0
+    → (a : Seen V) × IsFresh who n a × LeavesNode told n devices (told_at told z.site) a b h ds
+begun_ran P told who n devices chunk x z b h ds i past end sound over =
+    (i.tree, i.fresh, node_ran told n devices chunk i.tree b i.fresh.shelf i.room sound over i.tables z h ds (subst (λ y. IsPast told y z) i.is past) i.supplied end)

@@ -6,7 +6,7 @@ use Rattle.chunk_core.proofs.Members.{among_nil, among_mid}
 use Rattle.chunk_core.specs.Outcomes.{exit_of}
 use Rattle.chunk_core.specs.declared.code.Exit.{Exit}
 use Rattle.chunk_core.specs.declared.code.How.{How}
-use Rattle.res_ledger.specs.declared.event.StreamNo.TheVariants.{Inner}
+use Rattle.res_ledger.specs.declared.event.StreamNo.{StreamNo}
 use Rattle.res_ledger.specs.declared.event.What.TheVariants.{Acquire, Close, Final}
 use Rattle.res_ledger.specs.declared.event.Event.{Event}
 use Rattle.res_ledger.specs.Ledger.{Notes, IsClosed}
@@ -22,14 +22,14 @@ use Rattle.scope_tree.specs.Trace.{trace}
 use Rattle.tree_laws.specs.Shelves.{finals_of, noted_ends, shelf_ends}
 use Rattle.tree_laws.specs.Whole.{IsWholeLedger}
 use Rattle.run_rules.specs.Facts.{leased_stream}
-use Rattle.cat_run.specs.Alone.{IsAccount}
+use Rattle.lone_stream.specs.Account.{IsAccountOf}
 use Rattle.job_runs.specs.Rows.{CoversNone}
 use Rattle.chunk_core.proofs.Each.{each_among}
 use Rattle.job_runs.proofs.Closing.{Part, ShelfTells, lease_none, not_leased, part, shelf_has}
 
 module _ {P : Type 0} where
-  -- The same of a tree that stayed alone, whose ledger is that of its own seat.
-  module _ (v : View P) (L : List Event) (shelf : List (Spent P)) (count scopes : ℕ) (w : ℕ → DeviceTold) (how : How) (name : v.by ≡ Inner 0) (ledger : IsLedgerOf v L) (whole : IsWholeLedger L) (opened : length (opens (own (Inner 0) L)) ≤ scopes)
+  -- What a tree that stayed alone tells, whose ledger is that of its own seat.
+  module _ {who : StreamNo} (v : View P) (L : List Event) (shelf : List (Spent P)) (count scopes : ℕ) (w : ℕ → DeviceTold) (how : How) (name : v.by ≡ who) (ledger : IsLedgerOf v L) (whole : IsWholeLedger L) (opened : length (opens (own who L)) ≤ scopes)
       (alone : (e : Event) → IsAmong e v.events → (e.by ≡ v.by) × (leased_of e.what ≡ [])) (finals : noted_ends (trace v) ≡ shelf_ends shelf) (closed : IsClosed v.events v.by 0) (exits : (x : Exit) → Notes v.events v.by (Close 0 x) → x ≡ exit_of how)
       (tells : ShelfTells 0 count w shelf) where
     -- what was acquired has ended, and only the stream itself can have ended it
@@ -45,20 +45,20 @@ module _ {P : Type 0} where
         let m : IsAmong c.2 L = subst (λ l. IsAmong c.2 l) (sym c.4) (among_mid c.0 c.1 c.2) in
         lease_none j c.3 c.2.what c.6 (alone c.2 ((ledger.whole c.2).0 m)).1
 
-    its_part : Part (Inner 0) 0 count scopes w how L
+    its_part : Part who 0 count scopes w how L
     its_part =
-        part v v L shelf [] (Inner 0) 0 count scopes w how name ledger (λ e b. (λ m. m, λ m. m)) whole uncovered_alone opened (λ e m b. (alone e m).1) (finals ∙ ap (λ xs. shelf_ends xs) (sym (append-nil shelf))) over_alone closed exits tells (λ x m. absurd (among_nil m))
+        part v v L shelf [] who 0 count scopes w how name ledger (λ e b. (λ m. m, λ m. m)) whole uncovered_alone opened (λ e m b. (alone e m).1) (finals ∙ ap (λ xs. shelf_ends xs) (sym (append-nil shelf))) over_alone closed exits tells (λ x m. absurd (among_nil m))
 
-    pub account : IsAccount count scopes w how L
+    pub account : IsAccountOf who count scopes w how L
     account = record {
       stamped = ledger.stamped;
       legal = whole.legal;
       complete = whole.complete;
       ordered = whole.order;
-      own = each_among (λ (e : Event). (e.by ≡ Inner 0) × (leased_stream e.what ≡ None)) L (λ e m. let o = alone e ((ledger.whole e).0 m) in (o.0 ∙ name, not_leased e.what o.1));
+      own = each_among (λ (e : Event). (e.by ≡ who) × (leased_stream e.what ≡ None)) L (λ e m. let o = alone e ((ledger.whole e).0 m) in (o.0 ∙ name, not_leased e.what o.1));
       opened = its_part.opened;
       acquired = λ r s n. let a = its_part.acquired r s n in (a.1, a.2);
-      each = λ r l o. let a = its_part.each r (omega arith) l o in (Inner 0, a.0, a.1);
+      each = λ r l o. let a = its_part.each r (omega arith) l o in (who, a.0, a.1);
       ended = its_part.ended;
       closed = its_part.closed;
       exits = its_part.exits;

@@ -15,7 +15,7 @@ use Rattle.res_ledger.proofs.Permuted.{range_distinct}
 use Rattle.joined_runs.specs.Devices.{AreReturned}
 use Rattle.job_runs.proofs.DevicesBack.{made_place, stored_so}
 use Rattle.job_runs.proofs.Returned.{are_made}
-use Rattle.cat_run.specs.Alone.{ComesBack}
+use Rattle.lone_stream.specs.Account.{ComesBack}
 
 module _ {V : Type 0} (told : V → DeviceTold) (each_there : (d : V) → OpensWhatIsThere (told d)) where
   told_there : {A : Type 0} (f : A → V) (xs : List A) → AllByRecursion OpensWhatIsThere (map (λ x. told (f x)) xs)

@@ -1,32 +1,30 @@
 -- The work of one stream, from what it has done.
 use Rattle.std.proofs.Common.{◌≡◌, ℕ, ◌+◌, ◌<◌, List, ◌++◌, map, length, Option, Some, None, IfSome, refl, sym, ◌∙◌, ap, arith, append-nil}
 use Rattle.std.specs.List.{AllByRecursion}
-use Rattle.chunk_core.specs.Elements.{Element}
-use Rattle.chunk_core.specs.Texts.{Frame}
 use Rattle.chunk_core.specs.Outcomes.{Outcomes}
 use Rattle.chunk_core.specs.declared.code.Code.{Code}
 use Rattle.chunk_core.specs.declared.code.How.{How}
 use Rattle.chunk_core.specs.declared.code.How.TheVariants as how
 use Rattle.res_ledger.specs.declared.event.Event.{Event}
+use Rattle.res_ledger.specs.declared.event.StreamNo.{StreamNo}
 use Rattle.device_port.specs.Device.{Place, DeviceTold, faults_of}
 use Rattle.device_port.specs.Depot.{DepotTold}
 use Rattle.run_rules.specs.Facts.{at, first_numbers}
 use Rattle.run_rules.specs.Devices.{DevicesAccounted, came_back}
-use Rattle.run_rules.specs.Work.{Work, Values}
+use Rattle.run_rules.specs.Work.{RunRecord, Work, Values}
 use Rattle.run_rules.specs.Ends.{IsShown, act_count}
 use Rattle.run_rules.specs.Homes.{AreLeftAlone, HaveHomes}
 use Rattle.run_rules.specs.Rules.{KeepsRules}
 use Rattle.res_ledger.proofs.Permuted.{range_among, range_distinct}
-use Rattle.cat_run.specs.declared.outcome.Outcome.{Outcome}
-use Rattle.cat_run.specs.Alone.{alone, frame_of, ComesBack, IsAccount}
-use Rattle.cat_run.specs.Cat.{run_record_of}
+use Rattle.lone_stream.specs.Account.{alone, ComesBack, IsAccount, IsAccountOf}
 use Rattle.joined_runs.specs.Devices.{MadeComeBack}
 use Rattle.job_runs.proofs.Returned.{are_made, places_are}
-use Rattle.cat_run.proofs.Accounts.{kept, leaves_closed, lends_none, ours}
+use Rattle.lone_stream.proofs.Accounts.{kept, leaves_closed, lends_none, ours}
 use Rattle.joined_runs.proofs.MadeRows as made
 use Rattle.joined_runs.proofs.MadeRows.{at_below, at_some, place_found}
 
-all_made : (old new : DepotTold) (places : List Place) (w : ℕ → DeviceTold) → ComesBack old new places w → MadeComeBack old new places w
+-- each of its rows had a device made
+pub all_made : (old new : DepotTold) (places : List Place) (w : ℕ → DeviceTold) → ComesBack old new places w → MadeComeBack old new places w
 all_made old new places w d = record {
   rows = first_numbers (length places);
   apart = range_distinct 0 (length places);
@@ -41,32 +39,17 @@ all_made old new places w d = record {
   there = d.there;
 }
 
-module _ (places : List Place) (scopes : ℕ) (runs ideal : (ℕ → DeviceTold) → Outcomes) (old new : DepotTold) (w : ℕ → DeviceTold) (h : How) (L : List Event) (d : ComesBack old new places w) (a : IsAccount (length places) scopes w h L) where
-  abbrev work : Work
-  work = alone places scopes runs ideal
-
+-- what the devices of a stream tell, and its ledger
+module _ {who : StreamNo} (places : List Place) (scopes : ℕ) (old new : DepotTold) (w : ℕ → DeviceTold) (h : How) (L : List Event) (d : ComesBack old new places w) (a : IsAccountOf who (length places) scopes w h L) where
   abbrev every : MadeComeBack old new places w
   every = all_made old new places w d
 
   pub accounted : DevicesAccounted old new places L
   accounted = made.accounted places old new w every L (kept (length places) scopes w h L a)
 
-  pub keeps_rules : KeepsRules work L
-  keeps_rules = record {
-    stamped = a.stamped;
-    legal = a.legal;
-    complete = a.complete;
-    ordered = a.ordered;
-    ours = ours places scopes w h L a runs ideal;
-    scopes = (a.opened, tt);
-    leaving = leaves_closed (length places) scopes w h L a;
-    tables = lends_none (length places) scopes w h L a;
-    pace = tt;
-  }
-
   -- the rows are at home
-  pub homes : (v : Values) (pieces : List (List Element)) (cut : Option Frame) (rest : List ℕ) (o : Outcome) → o.ledger ≡ L → AreLeftAlone work (run_record_of old new (map (frame_of 0) pieces) cut rest o) w → HaveHomes work (run_record_of old new (map (frame_of 0) pieces) cut rest o) v w
-  homes v pieces cut rest o is left = made.homes places old new w every L (kept (length places) scopes w h L a) work (run_record_of old new (map (frame_of 0) pieces) cut rest o) v (append-nil places) refl refl is tt left
+  pub homes : (runs ideal : (ℕ → DeviceTold) → Outcomes) (v : Values) (c : RunRecord) → c.depot_old ≡ old → c.depot_new ≡ new → c.events ≡ L → AreLeftAlone (alone places scopes runs ideal) c w → HaveHomes (alone places scopes runs ideal) c v w
+  homes runs ideal v c before after is left = made.homes places old new w every L (kept (length places) scopes w h L a) (alone places scopes runs ideal) c v (append-nil places) before after is tt left
 
   -- a fault of an act has a device of a row that shows it
   pub shown : (e : How) → ((c : Code) → e ≡ how.Fault c → IfSome (act_count c) (λ n. (r : ℕ) × (r < length places) × (0 < n (w r)))) → IsShown (came_back old new) places e
@@ -79,3 +62,18 @@ module _ (places : List Place) (scopes : ℕ) (runs ideal : (ℕ → DeviceTold)
   -- where nothing failed each device is without a fault
   pub faultless : AllByRecursion (λ x. faults_of x ≡ 0) (came_back old new) → (r : ℕ) → r < length places → faults_of (w r) ≡ 0
   faultless = made.faultless places old new w every
+
+-- stream 0 keeps the rules of its work
+module _ (places : List Place) (scopes : ℕ) (runs ideal : (ℕ → DeviceTold) → Outcomes) (w : ℕ → DeviceTold) (h : How) (L : List Event) (a : IsAccount (length places) scopes w h L) where
+  pub keeps_rules : KeepsRules (alone places scopes runs ideal) L
+  keeps_rules = record {
+    stamped = a.stamped;
+    legal = a.legal;
+    complete = a.complete;
+    ordered = a.ordered;
+    ours = ours places scopes w h L a runs ideal;
+    scopes = (a.opened, tt);
+    leaving = leaves_closed (length places) scopes w h L a;
+    tables = lends_none (length places) scopes w h L a;
+    pace = tt;
+  }

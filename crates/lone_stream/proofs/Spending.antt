@@ -1,11 +1,8 @@
--- What turns leave of the room, and of other seats.
-use Rattle.std.proofs.Common.{◌≡◌, ◌∙◌, arith}
+-- What turns leave of the room.
+use Rattle.std.proofs.Common.{arith}
 use Rattle.pull_turns.specs.Around.{Around, Affords}
 use Rattle.pull_turns.specs.Turned.{Spends, SpendsWithin}
 use Rattle.pull_turns.specs.declared.rest.Rest.{Rest}
-use Rattle.res_ledger.specs.declared.event.StreamNo.{StreamNo}
-use Rattle.row_seat.specs.declared.view.View.{View}
-use Rattle.row_seat.specs.Views.{OthersFit}
 
 -- what is left needs some room still
 pub spends_all : {F : Type 0} (a b : Around) (old new : Rest F) → Spends a b old new → SpendsWithin a b old
@@ -14,7 +11,3 @@ spends_all a b old new s = record { events = omega (arith, s.events); scopes = o
 -- what closing a scope gives back is no use of room
 pub spends_stopped : {F : Type 0} (a b c : Around) (old : Rest F) → SpendsWithin a b old → Affords b c → SpendsWithin a c old
 spends_stopped a b c old s l = record { events = omega (arith, s.events, l.events); scopes = omega (arith, s.scopes, l.scopes); rows = omega (arith, s.rows, l.rows) }
-
--- what leaves other seats alone twice does so
-pub others_then : {S V D : Type 0} (view : S → View V) (fits : S → D → Type 0) (k j : StreamNo) (d e f : D) → j ≡ k → OthersFit view fits k d e → OthersFit view fits j e f → OthersFit view fits k d f
-others_then view fits k j d e f same h i o n t = i o (λ q. n (q ∙ same)) (h o n t)

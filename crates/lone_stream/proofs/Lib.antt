@@ -1,0 +1,10 @@
+pub mod AloneWork
+pub mod Accounts
+pub mod Begun
+pub mod Closing
+pub mod ComingBack
+pub mod NodeRuns
+pub mod OneFile
+pub mod Spending
+pub mod Stepped
+pub mod StreamRuns
