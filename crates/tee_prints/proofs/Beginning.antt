@@ -1,5 +1,5 @@
 -- Of nothing nothing was printed; and which ends are told.
-use Rattle.std.proofs.Common.{◌≡◌, ℕ, zero, suc, ◌+◌, ◌<◌, true, false, List, [], ◌∷◌, ◌++◌, length, is_some, slice_index_or, Option, Some, None, refl, sym, ap, ◌∙◌, subst, ⊎_elim, arith}
+use Rattle.std.proofs.Common.{◌≡◌, ℕ, zero, suc, ◌+◌, ◌<◌, ◌≤◌, Bool, inl, inr, true, false, List, [], ◌∷◌, ◌++◌, length, is_some, slice_index_or, Option, Some, None, refl, sym, ap, ◌∙◌, subst, ⊎_elim, arith}
 use Rattle.std.proofs.lemmas.Bool.{cases_lt, false≢true}
 use mathlib.Core.Option.{some, some-injective, some-ne-none}
 use Rattle.chunk_core.proofs.Members.{among_nil}
@@ -7,7 +7,7 @@ use Rattle.chunk_core.specs.Totals.{IsAt}
 use Rattle.chunk_core.specs.declared.code.How.{How}
 use Rattle.device_port.specs.Sink.{SinkTold}
 use Rattle.device_port.proofs.Puts.{with_bytes_none}
-use Rattle.tee_prints.specs.Printed.{Prints}
+use Rattle.tee_prints.specs.Printed.{IsStop, MustStop, Prints}
 
 -- so many ends, none of which is told
 pub record Untold (n : ℕ) (ends : List (Option How)) : Type 0 where
@@ -36,6 +36,7 @@ begins n k sink ends u e = record {
   writes = (refl, sym (with_bytes_none sink));
   branches = u.count ∙ e;
   told = λ i h t. absurd (u.none i h t);
+  plain = λ b i h t. absurd (u.none i h t);
   kept = λ i h l m. absurd (among_nil m);
 }
 
@@ -59,3 +60,23 @@ at_index (y ∷ ys) (suc i) x h e = at_index ys i x (omega (arith, h)) e
 pub told_more : (ends : List (Option How)) (n : ℕ) (x : Option How) → ToldBelow ends n → IsAt ends n x → is_some x ≡ true → ToldBelow ends (n + 1)
 told_more ends n x t a s i l =
     ⊎_elim (λ b. t i b) (λ o. let same : n ≡ i = omega (arith, l, o) in let y = some_of x s in (y.0, subst (λ j. IsAt ends j (Some y.0)) same (subst (λ z. IsAt ends n z) y.1 a))) (cases_lt i n)
+
+-- none of the ends before n is one by which the branches are to stop
+abbrev pub NoStopBelow : List (Option How) → ℕ → Type 0
+NoStopBelow ends n = (i : ℕ) (h : How) → i < n → IsAt ends i (Some h) → IsStop h → ⊥
+
+one_at : (ends : List (Option How)) (i : ℕ) (x y : Option How) → IsAt ends i x → IsAt ends i y → x ≡ y
+one_at ends i x y a b = some-injective x y (sym a ∙ b)
+
+pub no_stop_more : (ends : List (Option How)) (n : ℕ) (x : Option How) → NoStopBelow ends n → IsAt ends n x → ((h : How) → x ≡ Some h → IsStop h → ⊥) → NoStopBelow ends (n + 1)
+no_stop_more ends n x t a s i h l at =
+    ⊎_elim (λ b. t i h b at) (λ o. let same : n ≡ i = omega (arith, l, o) in s h (one_at ends n x (Some h) a (subst (λ j. IsAt ends j (Some h)) (sym same) at))) (cases_lt i n)
+
+at_below : (ends : List (Option How)) (i : ℕ) (x : Option How) → IsAt ends i x → i < length ends
+at_below [] i x e = absurd (some-ne-none x (sym e))
+at_below (y ∷ ys) zero x e = omega arith
+at_below (y ∷ ys) (suc i) x e = let h = at_below ys i x e in omega (arith, h)
+
+pub no_stop : (ends : List (Option How)) (n : ℕ) (b : Bool) → b ≡ false → length ends ≤ n → NoStopBelow ends n → MustStop ends b → ⊥
+no_stop ends n b f l t (inl e) = false≢true (sym f ∙ e)
+no_stop ends n b f l t (inr h) = let k = at_below ends h.0 (Some h.1) h.2 in t h.0 h.1 (omega (arith, k, l)) h.2 h.3

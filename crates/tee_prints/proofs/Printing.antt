@@ -2,7 +2,7 @@
 use Rattle.std.proofs.Common.{◌≡◌, ◌⊎◌, ℕ, zero, suc, ◌+◌, ◌<◌, Bool, true, false, List, [], ◌∷◌, ◌++◌, inl, inr, length, take, drop, slice_set, Option, Some, Result, Ok, Err, refl, sym, ap, ◌∙◌, subst, ⊎_elim, append-nil, append_assoc, arith, length-drop}
 use Rattle.chunk_core.proofs.Places.{at_set}
 use Rattle.std.specs.Result.{is_err}
-use Rattle.std.proofs.lemmas.Bool.{cases_eq}
+use Rattle.std.proofs.lemmas.Bool.{cases_eq, false≢true}
 use Rattle.std.proofs.lemmas.Grind.{flat_map-append}
 use Rattle.std.proofs.lemmas.List.{length-set, take-append-drop}
 use Rattle.chunk_core.specs.Lists.{IsAmong}
@@ -94,11 +94,14 @@ module _ (n : ℕ) (start now : SinkTold) (got : List Msg) (ends : List (Option 
 
   -- a text comes where a write failed
   pub unprinted : (k : ℕ) (bytes : List ℕ) → Prints n start now got ends true → Prints n start now (got ++ (record { stream = k; body = body.Load (load.Bytes bytes) }) ∷ []) ends true
-  unprinted k bytes p = let m : Msg = record { stream = k; body = body.Load (load.Bytes bytes) } in record { printed = p.printed; writes = broken_later p.printed m p.writes; branches = p.branches; told = λ i h t. later p.printed m i h (p.told i h t); kept = text_kept k bytes p.kept }
+  unprinted k bytes p = let m : Msg = record { stream = k; body = body.Load (load.Bytes bytes) } in record { printed = p.printed; writes = broken_later p.printed m p.writes; branches = p.branches; told = λ i h t. later p.printed m i h (p.told i h t); plain = λ e. absurd (false≢true (sym e)); kept = text_kept k bytes p.kept }
 
   module _ (k : ℕ) (how : How) where
     abbrev its_end : Msg
     its_end = end_message k how
+
+    end_here : (printed : List Msg) (told : How) (i : ℕ) (h : How) → k ≡ i → h ≡ told → IsAmong (end_message i h) (printed ++ end_message k told ∷ [])
+    end_here printed told i h s t = subst (λ j. IsAmong (end_message j h) (printed ++ end_message k told ∷ [])) s (subst (λ x. IsAmong (end_message k x) (printed ++ end_message k told ∷ [])) (sym t) (among_last printed (end_message k told)))
 
     -- the end is kept
     pub kept : (b : Bool) → k < length ends → Prints n start now got ends b → Prints n start now (got ++ its_end ∷ []) (slice_set ends k (Some (told_end b how))) b
@@ -107,13 +110,15 @@ module _ (n : ℕ) (start now : SinkTold) (got : List Msg) (ends : List (Option 
       writes = broken_later p.printed its_end p.writes;
       branches = length-set ends k (Some (told_end true how)) ∙ p.branches;
       told = λ i h t. ⊎_elim (λ s. inr (how, subst (λ j. IsAmong (end_message j how) (got ++ its_end ∷ [])) s.0 (among_last got its_end), s.1)) (λ o. later p.printed its_end i h (p.told i h o)) (at_here ends k i (told_end true how) h t);
+      plain = λ e. absurd (false≢true (sym e));
       kept = end_kept k how (told_end true how) l p.kept;
     }
     kept false l p = record {
       printed = p.printed ++ its_end ∷ [];
       writes = written p.printed its_end refl p.writes;
       branches = length-set ends k (Some (told_end false how)) ∙ p.branches;
-      told = λ i h t. ⊎_elim (λ s. inl (subst (λ j. IsAmong (end_message j h) (p.printed ++ its_end ∷ [])) s.0 (subst (λ x. IsAmong (end_message k x) (p.printed ++ its_end ∷ [])) (sym s.1) (among_last p.printed its_end)))) (λ o. both p.printed its_end i h (p.told i h o)) (at_here ends k i (told_end false how) h t);
+      told = λ i h t. ⊎_elim (λ s. inl (end_here p.printed how i h s.0 s.1)) (λ o. both p.printed its_end i h (p.told i h o)) (at_here ends k i (told_end false how) h t);
+      plain = λ e i h t. ⊎_elim (λ s. end_here p.printed how i h s.0 s.1) (λ o. among_left (its_end ∷ []) (p.plain e i h o)) (at_here ends k i (told_end false how) h t);
       kept = end_kept k how (told_end false how) l p.kept;
     }
 
@@ -131,6 +136,7 @@ module _ (n : ℕ) (start now : SinkTold) (got : List Msg) (ends : List (Option 
       );
       branches = p.branches;
       told = λ i h t. both p.printed its_text i h (p.told i h t);
+      plain = λ e i h t. among_left (its_text ∷ []) (p.plain e i h t);
       kept = text_kept k bytes p.kept;
     }
       where
@@ -155,6 +161,7 @@ module _ (n : ℕ) (start now : SinkTold) (got : List Msg) (ends : List (Option 
           };
           branches = p.branches;
           told = λ i h t. later p.printed its_text i h (p.told i h t);
+          plain = λ e. absurd (false≢true (sym e));
           kept = text_kept k bytes p.kept;
         }
 

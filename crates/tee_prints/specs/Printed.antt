@@ -41,13 +41,25 @@ Writes old new got printed true = IsBroken old new got printed
 abbrev pub IsToldEnd : List Msg → List Msg → ℕ → How → Type 0
 IsToldEnd got printed i told = IsAmong (end_message i told) printed ⊎ ((h : How) × IsAmong (end_message i h) got × (told ≡ hidden h))
 
--- what was printed of these messages of n branches, and the ends that are told of just those whose end came
+-- what was printed of these messages of n branches, and the ends that are told of just those whose end came, as it came where no write failed
 pub record Prints (n : ℕ) (old new : SinkTold) (got : List Msg) (ends : List (Option How)) (broken : Bool) : Type 0 where
   pub printed : List Msg
   pub writes : Writes old new got printed broken
   pub branches : length ends ≡ n
   pub told : (i : ℕ) (h : How) → IsAt ends i (Some h) → IsToldEnd got printed i h
+  pub plain : broken ≡ false → (i : ℕ) (h : How) → IsAt ends i (Some h) → IsAmong (end_message i h) printed
   pub kept : (i : ℕ) (h : How) → i < n → IsAmong (end_message i h) got → (t : How) × IsAt ends i (Some t)
+
+-- an end by which the branches are to stop: a fault, or want of memory
+abbrev pub IsStop : How → Type 0
+IsStop how.Done = ⊥
+IsStop (how.Fault c) = Unit {0}
+IsStop how.Halted = ⊥
+IsStop how.Memory = Unit {0}
+
+-- why the branches are to stop: a write failed, or such an end is told
+abbrev pub MustStop : List (Option How) → Bool → Type 0
+MustStop ends broken = (broken ≡ true) ⊎ ((i : ℕ) × (h : How) × IsAt ends i (Some h) × IsStop h)
 
 -- the end of each branch is told
 abbrev pub AreAllTold : List (Option How) → Type 0

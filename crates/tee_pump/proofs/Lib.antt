@@ -1,0 +1,13 @@
+pub mod Places
+pub mod Ready
+pub mod Published
+pub mod Printing
+pub mod Served
+pub mod Crewing
+pub mod Fronts
+pub mod Streams
+pub mod Joined
+pub mod Finishing
+pub mod Finished
+pub mod Giving
+pub mod Telling

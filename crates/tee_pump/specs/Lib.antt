@@ -1,0 +1,9 @@
+pub mod Pieces
+pub mod Branches
+pub mod Publishing
+pub mod Printing
+pub mod Stopping
+pub mod Pumps
+pub mod Making
+pub mod Settled
+pub mod Finished

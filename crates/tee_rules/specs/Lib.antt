@@ -1,0 +1,5 @@
+pub mod Branches
+pub mod Reader
+pub mod Tee
+pub mod Whole
+pub mod Worked
