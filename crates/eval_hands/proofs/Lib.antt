@@ -1,1 +1,4 @@
 pub mod Backs
+pub mod Deals
+pub mod Crewing
+pub mod Goings

@@ -9,15 +9,24 @@
 //! Want of memory for a thread is no error: the hand stays here. A hand comes back as the hand that it was,
 //! and where what it said before were results, so are what it said since (`Returns`).
 //!
-//! Nothing here runs by itself: a run begins its hands in a scope, deals, and settles them behind their ends.
+//! `Crew` is all hands of a run with their dealer. `Crew::begin` begins them in a scope; `put` deals a load,
+//! while fewer are out than there are hands; `take` gives the next result in the order of the dealing; and
+//! `finish`, once all results were taken, sends each hand its end and takes them in. While one of them waits
+//! for a queue it gives the hands that are here a turn each. At `finish` it is known that what was taken is,
+//! in order, what comes of what was dealt, apart from results that lacked memory, which are empty and say so
+//! (`How::Memory`). That a call comes back isn't claimed: each waits for other threads.
+//!
+//! Nothing here runs by itself: a run begins its crew in a scope, deals, takes, and finishes.
 #![tactic(auto)]
 
 pub mod away;
 pub mod begins;
+pub mod crew;
 pub mod hired;
 pub mod place;
 
 pub use away::AsHired;
 pub use begins::begin;
+pub use crew::Crew;
 pub use hired::Hired;
 pub use place::Place;
