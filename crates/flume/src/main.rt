@@ -4,6 +4,7 @@
 use chunk_core::Word;
 use device_port::{FileDepot, OpenGate, StdSink, StdSource, put};
 use flume_cli::{Status, flume};
+use guarded_files::{Guard, GuardedFiles};
 use std::fs::File;
 use std::process::ExitCode;
 use std::sync::Wait;
@@ -46,11 +47,21 @@ fn status_of(error: &io::Error) -> Status {
     }
 }
 
+/// The file that failed calls are told to, where the variable `FLUME_LOG` names one. What can't be its path names none.
+fn read_log(rt: &HostRuntime) -> Option<Word> {
+    let path = env::var(rt, "FLUME_LOG").ok()?;
+    match path.is_empty() {
+        true => None,
+        false => Word::of(rt.alloc(), path.as_str()).ok(),
+    }
+}
+
 /// Makes the outside and does what the words say.
 fn run<R: Threads + Wait + Sync>(rt: HostRuntime, workers: &R, words: &[Word]) -> Status {
     let alloc = rt.alloc();
+    let guard = Guard::new(&rt, alloc, read_log(&rt));
     let mut src = StdSource::new(rt.stdin());
-    let mut depot = FileDepot::new(rt);
+    let mut depot = FileDepot::new(GuardedFiles::new(rt, &guard));
     let mut out = StdSink::new(rt.stdout());
     let mut err = StdSink::new(rt.stderr());
     let report = flume(
