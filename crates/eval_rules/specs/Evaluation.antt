@@ -1,9 +1,9 @@
 -- What the run of an evaluation shows.
-use Rattle.std.specs.Prelude.{◌≡◌, ◌≢◌, ◌⊎◌, ℕ, ◌<◌, false, true, List, [], ◌∷◌, Option, Some, None}
+use Rattle.std.specs.Prelude.{◌≡◌, ◌≢◌, ◌⊎◌, ℕ, ◌<◌, false, true, List, [], ◌∷◌, ◌++◌, Option, Some, None}
 use Rattle.std.specs.List.{AllByRecursion}
 use Rattle.chunk_core.specs.Elements.{Element}
 use Rattle.chunk_core.specs.Lists.{IsAmong}
-use Rattle.chunk_core.specs.Outcomes.{End, Fault, Outcomes}
+use Rattle.chunk_core.specs.Outcomes.{Cut, End, Fault, Outcomes}
 use Rattle.chunk_core.specs.Tables.{no_values}
 use Rattle.chunk_core.specs.Texts.{IsRestOf}
 use Rattle.chunk_core.specs.declared.code.Code.{Code}
@@ -85,7 +85,8 @@ pub record HasRun (path : List ℕ) (steps : List Step) (n : ℕ) (c : RunRecord
   pub ending : How
   pub rows : HaveHomes (reading_work path) c no_values home
   pub run : LineRuns (home 0) lines end
-  pub answered : IsAnswered steps n lines end c ending
+  -- whatever lines there are behind those where the reading was left: a group that it cut short counts for nothing
+  pub answered : (more : List Element) → (end ≢ Cut → more ≡ []) → IsAnswered steps n (lines ++ more) end c ending
   pub rest : IsRestOf c.cut c.rest
   pub ends_so : EndsSo c ending
   pub ends : HaveEnds (reading_work path) c home

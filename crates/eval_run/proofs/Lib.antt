@@ -1,0 +1,9 @@
+pub mod Answered
+pub mod Evaluating
+pub mod Finished
+pub mod LineReading
+pub mod LinesFile
+pub mod Mild
+pub mod Printed
+pub mod Pumped
+pub mod Shown
