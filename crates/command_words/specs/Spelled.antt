@@ -21,3 +21,8 @@ Asks line asked = command_of (words_in line) ≡ Some asked
 -- the words of the line mean nothing
 abbrev pub AsksNothing : List ℕ → Type 0
 AsksNothing line = command_of (words_in line) ≡ None
+
+-- a word of each byte
+abbrev pub one_by_one : List ℕ → List Text
+one_by_one [] = []
+one_by_one (c ∷ cs) = (c ∷ []) ∷ one_by_one cs

@@ -1,12 +1,13 @@
 -- What the words of a command line mean, by what `clap` says of a simple command for each.
 use Rattle.std.specs.Prelude.{◌≢◌, ℕ, ◌+◌, ◌<◌, ◌≤◌, Bool, true, false, not, ◌&&◌, List, [], ◌∷◌, ◌++◌, length, drop, nat_le, nat_lt, Option, Some, None, option_and_then, option_map, IfSome, if◌then◌else◌, codes, decimal}
 use Rattle.std.specs.Str.{bytes_eq}
-use Rattle.clap.specs.Words.{App, Row, Rule, Text, fault_of, first_of, matches_of, new_app, new_rule, with_rule}
+use Rattle.clap.specs.Words.{App, Row, Rule, Text, all_of, fault_of, first_of, matches_of, new_app, new_rule, with_rule}
+use Rattle.clap.specs.declared.builder.action.ArgAction.TheVariants.{Append}
 use Rattle.clap.specs.Simple.{on_top}
 use Rattle.clap.specs.Walk.{is_empty}
 use Rattle.command_words.specs.Numbers.{number_in_word, number_of}
 use Rattle.command_words.specs.declared.asked.Asked.{Asked}
-use Rattle.command_words.specs.declared.asked.Asked.TheVariants.{Cat, Run, Gen, Audit, Rotate}
+use Rattle.command_words.specs.declared.asked.Asked.TheVariants.{Cat, Run, Gen, Audit, Rotate, Tee, Eval}
 
 -- what a command matches in the words, unless it refuses them
 abbrev pub rows_read : App → List Text → Option (List Row)
@@ -28,6 +29,10 @@ needed_rule name = record (option_rule name) { required = true }
 abbrev pub word_rule : Text → Rule
 word_rule name = record (new_rule name) { required = true }
 
+-- words of which one has to stand
+abbrev pub words_rule : Text → Rule
+words_rule name = record (word_rule name) { action = Some Append }
+
 -- cat [--chunk N] PATH
 abbrev pub cat_app : App
 cat_app = with_rule (with_rule (silent_app (codes "cat")) (option_rule (codes "chunk"))) (word_rule (codes "path"))
@@ -47,6 +52,17 @@ audit_app = silent_app (codes "audit")
 -- rotate --bytes N PATH PREFIX
 abbrev pub rotate_app : App
 rotate_app = with_rule (with_rule (with_rule (silent_app (codes "rotate")) (needed_rule (codes "bytes"))) (word_rule (codes "path"))) (word_rule (codes "prefix"))
+
+-- tee [--chunk N] PATH STEPS ..
+abbrev pub tee_app : App
+tee_app = with_rule (with_rule (with_rule (silent_app (codes "tee")) (option_rule (codes "chunk"))) (word_rule (codes "path"))) (words_rule (codes "steps"))
+
+-- eval [--jobs N] [--group G] PATH STEPS
+abbrev pub eval_numbers : App
+eval_numbers = with_rule (with_rule (silent_app (codes "eval")) (option_rule (codes "jobs"))) (option_rule (codes "group"))
+
+abbrev pub eval_app : App
+eval_app = with_rule (with_rule eval_numbers (word_rule (codes "path"))) (word_rule (codes "steps"))
 
 -- a path of 1 to 1,024 bytes
 abbrev pub is_file_path : Text → Bool
@@ -108,6 +124,28 @@ abbrev pub rotate_at : Option Text → Option Text → Option Text → Option As
 rotate_at bytes path prefix =
     option_and_then (λ n. option_and_then (λ p. option_and_then (λ q. rotation_of n p q) prefix) path) (option_and_then (number_in_word 1 1000000000) bytes)
 
+-- branches of a file, by the number, the path and the words of their steps, of which there are 1 to 16
+abbrev pub branches_of : ℕ → Text → List Text → Option Asked
+branches_of n path branches = if is_file_path path && (nat_le 1 (length branches) && nat_le (length branches) 16) then Some (Tee n path branches) else None
+
+-- branches of a file, by the texts of the option, of the path and of the words behind it
+abbrev pub tee_at : Option Text → Option Text → Option (List Text) → Option Asked
+tee_at chunk path branches = option_and_then (λ n. option_and_then (λ p. option_and_then (λ bs. branches_of n p bs) branches) path) (chunk_of chunk)
+
+-- a number from low to high, by the text of its option, where a default stands for none
+abbrev pub number_or : ℕ → ℕ → ℕ → Option Text → Option ℕ
+number_or default low high None = Some default
+number_or default low high (Some text) = number_in_word low high text
+
+-- an evaluation of a file, by its numbers, the path and the word of its steps
+abbrev pub evaluation_of : ℕ → ℕ → Text → Text → Option Asked
+evaluation_of jobs group path steps = if is_file_path path then Some (Eval jobs group path steps) else None
+
+-- an evaluation of a file, by the texts of the options and of the two words
+abbrev pub eval_at : Option Text → Option Text → Option Text → Option Text → Option Asked
+eval_at jobs group path steps =
+    option_and_then (λ j. option_and_then (λ g. option_and_then (λ p. option_and_then (λ s. evaluation_of j g p s) steps) path) (number_or 256 1 65536 group)) (number_or 4 1 64 jobs)
+
 -- what the words of `cat` ask for
 abbrev pub cat_of : List Text → Option Asked
 cat_of words = option_and_then (λ rows. cat_at (first_of (codes "chunk") rows) (first_of (codes "path") rows)) (rows_read cat_app words)
@@ -128,11 +166,19 @@ audit_of words = option_map (λ rows. Audit) (rows_read audit_app words)
 abbrev pub rotate_of : List Text → Option Asked
 rotate_of words = option_and_then (λ rows. rotate_at (first_of (codes "bytes") rows) (first_of (codes "path") rows) (first_of (codes "prefix") rows)) (rows_read rotate_app words)
 
+-- what the words of `tee` ask for
+abbrev pub tee_of : List Text → Option Asked
+tee_of words = option_and_then (λ rows. tee_at (first_of (codes "chunk") rows) (first_of (codes "path") rows) (all_of (codes "steps") rows)) (rows_read tee_app words)
+
+-- what the words of `eval` ask for
+abbrev pub eval_of : List Text → Option Asked
+eval_of words = option_and_then (λ rows. eval_at (first_of (codes "jobs") rows) (first_of (codes "group") rows) (first_of (codes "path") rows) (first_of (codes "steps") rows)) (rows_read eval_app words)
+
 -- what the words ask for; the first one names the command
 abbrev pub command_of : List Text → Option Asked
 command_of [] = None
 command_of (name ∷ rest) =
-    if bytes_eq name (codes "cat") then cat_of (name ∷ rest) else (if bytes_eq name (codes "run") then run_of (name ∷ rest) else (if bytes_eq name (codes "gen") then gen_of (name ∷ rest) else (if bytes_eq name (codes "audit") then audit_of (name ∷ rest) else (if bytes_eq name (codes "rotate") then rotate_of (name ∷ rest) else None))))
+    if bytes_eq name (codes "cat") then cat_of (name ∷ rest) else (if bytes_eq name (codes "run") then run_of (name ∷ rest) else (if bytes_eq name (codes "gen") then gen_of (name ∷ rest) else (if bytes_eq name (codes "audit") then audit_of (name ∷ rest) else (if bytes_eq name (codes "rotate") then rotate_of (name ∷ rest) else (if bytes_eq name (codes "tee") then tee_of (name ∷ rest) else (if bytes_eq name (codes "eval") then eval_of (name ∷ rest) else None))))))
 
 -- each file has bytes, the words are as long as they may be, and no file that is made is the one that is read
 pub record MayRotate (bytes : ℕ) (path prefix : Text) : Type 0 where
@@ -149,3 +195,5 @@ IsLimited (Run most) = IfSome most (λ n. (1 ≤ n) × (n ≤ 64))
 IsLimited (Gen seed streams lines) = (seed ≤ 4294967295) × (1 ≤ streams) × (streams ≤ 64) × (lines ≤ 100000)
 IsLimited Audit = Unit {0}
 IsLimited (Rotate bytes path prefix) = MayRotate bytes path prefix
+IsLimited (Tee chunk path branches) = (1 ≤ chunk) × (chunk ≤ 65536) × (1 ≤ length branches) × (length branches ≤ 16)
+IsLimited (Eval jobs group path steps) = (1 ≤ jobs) × (jobs ≤ 64) × (1 ≤ group) × (group ≤ 65536)

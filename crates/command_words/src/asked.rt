@@ -5,10 +5,12 @@ ghost use Rattle.command_words.specs.Words.{IsLimited, command_of};
 
 use crate::audit::asked_of_audit;
 use crate::cat::asked_of_cat;
+use crate::evaluated::asked_of_eval;
 use crate::generated::asked_of_gen;
 use crate::rotate::asked_of_rotate;
 use crate::run::asked_of_run;
-use chunk_core::Word;
+use crate::teed::asked_of_tee;
+use chunk_core::{List, Word};
 use std::alloc::{AllocError, Global};
 
 /// What is asked of the program.
@@ -40,14 +42,31 @@ pub enum Asked {
         path: Word,
         prefix: Word,
     },
+    /// The file at this path is to be read once, in pieces of so many bytes at most, for a branch
+    /// for each of these words of steps.
+    Tee {
+        chunk: u32,
+        path: Word,
+        branches: List<Word>,
+    },
+    /// The lines of the file at this path are to go through the steps of a word in groups of so
+    /// many, by so many hands at once.
+    Eval {
+        jobs: u32,
+        group: u32,
+        path: Word,
+        steps: Word,
+    },
 }
 
 /// What the words ask for: `cat [--chunk N] PATH`, with N from 1 to 65,536 (4,096 where it isn't
 /// told) and a PATH of 1 to 1,024 bytes, `run [--max-open N]`, with N from 1 to 64,
-/// `gen SEED STREAMS LINES`, with 0 to 4,294,967,295, 1 to 64 and 0 to 100,000, `audit`, or
+/// `gen SEED STREAMS LINES`, with 0 to 4,294,967,295, 1 to 64 and 0 to 100,000, `audit`,
 /// `rotate --bytes N PATH PREFIX`, with N from 1 to 1,000,000,000, a PATH as before and a PREFIX of
 /// 1 to 1,019 bytes, where PATH isn't PREFIX, `.` and a decimal number below 1,024 without leading
-/// zeros. Other words mean nothing.
+/// zeros, `tee [--chunk N] PATH STEPS ..`, with N and PATH as for `cat` and 1 to 16 words STEPS, or
+/// `eval [--jobs N] [--group G] PATH STEPS`, with N from 1 to 64 (4 where it isn't told) and G from
+/// 1 to 65,536 (256). Other words mean nothing. What a word STEPS means isn't looked at here.
 pub fn asked_by(alloc: Global, words: &[Word]) -> Result<Option<Asked>, AllocError>
     ensures asked { IfOk result (λ asked. asked ≡ command_of words.now) }
     ensures limits { IfOk result (λ asked. IfSome asked IsLimited) }
@@ -65,6 +84,10 @@ pub fn asked_by(alloc: Global, words: &[Word]) -> Result<Option<Asked>, AllocErr
         asked_of_audit(alloc, words)
     } else if name.as_str() == "rotate" {
         asked_of_rotate(alloc, words)
+    } else if name.as_str() == "tee" {
+        asked_of_tee(alloc, words)
+    } else if name.as_str() == "eval" {
+        asked_of_eval(alloc, words)
     } else {
         Ok(None)
     }

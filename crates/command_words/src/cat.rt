@@ -1,7 +1,7 @@
 //! The words of `cat`.
-ghost use Rattle.std.specs.Prelude.{◌≡◌, IfOk, option_map};
+ghost use Rattle.std.specs.Prelude.{◌≡◌, ◌≤◌, IfOk, IfSome, option_map};
 ghost use Rattle.clap.specs.Words.{app_of};
-ghost use Rattle.command_words.specs.Words.{cat_app, cat_of, chunk_of, cat_at};
+ghost use Rattle.command_words.specs.Words.{IsLimited, cat_app, cat_at, cat_of, chunk_of};
 
 use crate::asked::Asked;
 use crate::names::is_file_path;
@@ -16,7 +16,8 @@ const CHUNK: u32 = 4096;
 
 /// What the words of `cat` ask for.
 pub(crate) fn asked_of_cat(alloc: Global, words: &[Word]) -> Result<Option<Asked>, AllocError>
-    ensures { IfOk result (λ asked. asked ≡ cat_of words.now) }
+    ensures asked { IfOk result (λ asked. asked ≡ cat_of words.now) }
+    ensures limits { IfOk result (λ asked. IfSome asked IsLimited) }
 {
     let texts = texts_of(alloc, words)?;
     let Some(matches) = matches_in(cat_command(alloc)?, texts.as_slice())? else {
@@ -42,7 +43,8 @@ fn cat_told(
     chunk: Option<&str>,
     path: Option<&str>,
 ) -> Result<Option<Asked>, AllocError>
-    ensures { IfOk result (λ asked. asked ≡ cat_at (option_map (λ text. text.now) chunk.entry) (option_map (λ text. text.now) path.entry)) }
+    ensures asked { IfOk result (λ asked. asked ≡ cat_at (option_map (λ text. text.now) chunk.entry) (option_map (λ text. text.now) path.entry)) }
+    ensures limits { IfOk result (λ asked. IfSome asked IsLimited) }
 {
     let Some(path) = path else {
         return Ok(None);
@@ -57,8 +59,10 @@ fn cat_told(
     Ok(Some(Asked::Cat { chunk, path }))
 }
 
-fn chunk_told(text: Option<&str>) -> Option<u32>
-    ensures { result ≡ chunk_of (option_map (λ text. text.now) text.entry) }
+/// The number of bytes that the option tells, or the one that stands for none.
+pub(crate) fn chunk_told(text: Option<&str>) -> Option<u32>
+    ensures value { result ≡ chunk_of (option_map (λ text. text.now) text.entry) }
+    ensures limits { IfSome result (λ n. (1 ≤ n) × (n ≤ 65536)) }
 {
     match text {
         Some(text) => number_within(1, 65_536, text),

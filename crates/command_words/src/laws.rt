@@ -1,9 +1,9 @@
 //! What command lines that are written out ask for, each law the contract of a function that does
 //! nothing.
 ghost use Rattle.std.specs.Prelude.{◌≡◌, ◌≢◌, ◌≤◌, ◌<◌, ℕ, List, [], ◌∷◌, length, codes, Some, None};
-ghost use Rattle.command_words.specs.Spelled.{Asks, AsksNothing};
+ghost use Rattle.command_words.specs.Spelled.{Asks, AsksNothing, one_by_one};
 ghost use Rattle.command_words.specs.Words.{command_of};
-ghost use Rattle.command_words.specs.declared.asked.Asked.TheVariants.{Cat, Run, Gen, Audit, Rotate};
+ghost use Rattle.command_words.specs.declared.asked.Asked.TheVariants.{Cat, Run, Gen, Audit, Rotate, Tee, Eval};
 
 /// How an option and its number are spelled.
 pub fn chunks_are_spelled()
@@ -199,6 +199,70 @@ pub fn rotations_spare_their_source()
     ensures has_a_longer_prefix { Asks (codes "rotate --bytes 4 pp.7 p") (Rotate 4 (codes "pp.7") (codes "p")) }
     ensures has_more_behind { Asks (codes "rotate --bytes 4 p.7.7 p") (Rotate 4 (codes "p.7.7") (codes "p")) }
     ensures has_that_prefix { AsksNothing (codes "rotate --bytes 4 p.7.7 p.7") }
+{}
+
+/// How branches are spelled: each word behind the path is one, also an empty one.
+pub fn tees_are_spelled()
+    ensures is_one { Asks (codes "tee a lines|count") (Tee 4096 (codes "a") (codes "lines|count" ∷ [])) }
+    ensures are_two { Asks (codes "tee a hex utf8|lines") (Tee 4096 (codes "a") (codes "hex" ∷ codes "utf8|lines" ∷ [])) }
+    ensures is_empty { Asks (codes "tee a ") (Tee 4096 (codes "a") ([] ∷ [])) }
+    ensures means_nothing { Asks (codes "tee a no|step") (Tee 4096 (codes "a") (codes "no|step" ∷ [])) }
+    ensures is_apart { Asks (codes "tee --chunk 4 a hex") (Tee 4 (codes "a") (codes "hex" ∷ [])) }
+    ensures is_between { Asks (codes "tee a --chunk=4 hex") (Tee 4 (codes "a") (codes "hex" ∷ [])) }
+    ensures is_between_branches { Asks (codes "tee a hex --chunk 4 lower") (Tee 4 (codes "a") (codes "hex" ∷ codes "lower" ∷ [])) }
+    ensures is_behind { Asks (codes "tee a hex --chunk=+04") (Tee 4 (codes "a") (codes "hex" ∷ [])) }
+    ensures is_behind_two_hyphens { Asks (codes "tee -- -a -b --chunk") (Tee 4096 (codes "-a") (codes "-b" ∷ codes "--chunk" ∷ [])) }
+    ensures has_no_branch { AsksNothing (codes "tee a") }
+    ensures has_no_word { AsksNothing (codes "tee") }
+    ensures has_an_empty_path { AsksNothing (codes "tee  hex") }
+    ensures has_no_value { AsksNothing (codes "tee a hex --chunk") }
+    ensures is_given_twice { AsksNothing (codes "tee --chunk 4 a hex --chunk 4") }
+    ensures is_shortened { AsksNothing (codes "tee --chun 4 a hex") }
+    ensures has_a_short_option { AsksNothing (codes "tee a -b") }
+    ensures asks_for_help { AsksNothing (codes "tee --help") }
+{}
+
+/// The least and the most of a piece, and the most branches.
+pub fn tees_are_limited()
+    ensures is_least { Asks (codes "tee --chunk 1 a b") (Tee 1 (codes "a") (codes "b" ∷ [])) }
+    ensures is_below_the_least { AsksNothing (codes "tee --chunk 0 a b") }
+    ensures is_most { Asks (codes "tee --chunk 65536 a b") (Tee 65536 (codes "a") (codes "b" ∷ [])) }
+    ensures is_above_the_most { AsksNothing (codes "tee --chunk 65537 a b") }
+    ensures has_sixteen { Asks (codes "tee a 0 1 2 3 4 5 6 7 8 9 a b c d e f") (Tee 4096 (codes "a") (one_by_one (codes "0123456789abcdef"))) }
+    ensures has_seventeen { AsksNothing (codes "tee a 0 1 2 3 4 5 6 7 8 9 a b c d e f g") }
+{}
+
+/// How an evaluation is spelled.
+pub fn evaluations_are_spelled()
+    ensures is_default { Asks (codes "eval a lines|count") (Eval 4 256 (codes "a") (codes "lines|count")) }
+    ensures is_empty { Asks (codes "eval a ") (Eval 4 256 (codes "a") []) }
+    ensures means_nothing { Asks (codes "eval a no|step") (Eval 4 256 (codes "a") (codes "no|step")) }
+    ensures has_both { Asks (codes "eval --jobs 2 --group 3 a hex") (Eval 2 3 (codes "a") (codes "hex")) }
+    ensures has_both_behind { Asks (codes "eval a hex --group=+03 --jobs=02") (Eval 2 3 (codes "a") (codes "hex")) }
+    ensures is_between { Asks (codes "eval a --jobs 2 hex") (Eval 2 256 (codes "a") (codes "hex")) }
+    ensures is_behind_two_hyphens { Asks (codes "eval --group 3 -- -a --jobs") (Eval 4 3 (codes "-a") (codes "--jobs")) }
+    ensures has_one_word { AsksNothing (codes "eval a") }
+    ensures has_no_word { AsksNothing (codes "eval") }
+    ensures has_three_words { AsksNothing (codes "eval a hex hex") }
+    ensures has_an_empty_path { AsksNothing (codes "eval  hex") }
+    ensures has_no_value { AsksNothing (codes "eval a hex --jobs") }
+    ensures has_a_word_for_a_number { AsksNothing (codes "eval --jobs two a hex") }
+    ensures is_given_twice { AsksNothing (codes "eval --jobs 2 --jobs 2 a hex") }
+    ensures is_shortened { AsksNothing (codes "eval --job 2 a hex") }
+    ensures has_the_option_of_tee { AsksNothing (codes "eval --chunk 4 a hex") }
+    ensures asks_for_help { AsksNothing (codes "eval --help") }
+{}
+
+/// The least and the most of hands and of the lines of a group.
+pub fn evaluations_are_limited()
+    ensures has_one_hand { Asks (codes "eval --jobs 1 a b") (Eval 1 256 (codes "a") (codes "b")) }
+    ensures has_no_hand { AsksNothing (codes "eval --jobs 0 a b") }
+    ensures has_most_hands { Asks (codes "eval --jobs 64 a b") (Eval 64 256 (codes "a") (codes "b")) }
+    ensures has_too_many_hands { AsksNothing (codes "eval --jobs 65 a b") }
+    ensures has_one_line { Asks (codes "eval --group 1 a b") (Eval 4 1 (codes "a") (codes "b")) }
+    ensures has_no_line { AsksNothing (codes "eval --group 0 a b") }
+    ensures has_most_lines { Asks (codes "eval --group 65536 a b") (Eval 4 65536 (codes "a") (codes "b")) }
+    ensures has_too_many_lines { AsksNothing (codes "eval --group 65537 a b") }
 {}
 
 /// Words that name no command.

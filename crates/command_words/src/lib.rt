@@ -20,6 +20,7 @@
 pub mod asked;
 pub(crate) mod audit;
 pub(crate) mod cat;
+pub(crate) mod evaluated;
 pub(crate) mod generated;
 pub mod laws;
 pub(crate) mod names;
@@ -27,5 +28,6 @@ pub(crate) mod numbers;
 pub(crate) mod reading;
 pub(crate) mod rotate;
 pub(crate) mod run;
+pub(crate) mod teed;
 
 pub use asked::{Asked, asked_by};

@@ -1,7 +1,7 @@
 //! The words of `run`.
-ghost use Rattle.std.specs.Prelude.{◌≡◌, IfOk, option_map};
+ghost use Rattle.std.specs.Prelude.{◌≡◌, IfOk, IfSome, option_map};
 ghost use Rattle.clap.specs.Words.{app_of};
-ghost use Rattle.command_words.specs.Words.{run_app, run_at, run_of};
+ghost use Rattle.command_words.specs.Words.{IsLimited, run_app, run_at, run_of};
 
 use crate::asked::Asked;
 use crate::numbers::number_within;
@@ -12,7 +12,8 @@ use std::alloc::{AllocError, Global};
 
 /// What the words of `run` ask for.
 pub(crate) fn asked_of_run(alloc: Global, words: &[Word]) -> Result<Option<Asked>, AllocError>
-    ensures { IfOk result (λ asked. asked ≡ run_of words.now) }
+    ensures asked { IfOk result (λ asked. asked ≡ run_of words.now) }
+    ensures limits { IfOk result (λ asked. IfSome asked IsLimited) }
 {
     let texts = texts_of(alloc, words)?;
     let Some(matches) = matches_in(run_command(alloc)?, texts.as_slice())? else {
@@ -32,7 +33,8 @@ fn run_command<'a>(alloc: Global) -> Result<Command<'a>, AllocError>
 
 /// A description, by what the words told.
 fn run_told(max_open: Option<&str>) -> Option<Asked>
-    ensures { result ≡ run_at (option_map (λ text. text.now) max_open.entry) }
+    ensures asked { result ≡ run_at (option_map (λ text. text.now) max_open.entry) }
+    ensures limits { IfSome result IsLimited }
 {
     let Some(text) = max_open else {
         return Some(Asked::Run { max_open: None });

@@ -1,5 +1,5 @@
 -- A call of each command, from what was done for it.
-use Rattle.std.proofs.Common.{◌≡◌, ℕ, Bool, true, false, nat_lt, if◌then◌else◌, List, [], Option, Some, None, is_some, inl, inr, refl, sym, ap, subst, Result, Ok, Err}
+use Rattle.std.proofs.Common.{◌≡◌, ℕ, Bool, true, false, nat_lt, if◌then◌else◌, List, [], Option, Some, None, inl, inr, refl, sym, ap, subst, Result, Ok, Err}
 use Rattle.std.proofs.lemmas.Bool.{false≢true}
 use Rattle.device_port.specs.Source.{SourceTold}
 use Rattle.device_port.specs.Depot.{DepotTold}
@@ -27,10 +27,11 @@ use Rattle.res_ledger.specs.declared.event.Event.{Event}
 use Rattle.run_rules.specs.declared.end.EndOf.{EndOf}
 use Rattle.flume_cli.specs.Input.{IsInput}
 use Rattle.flume_cli.specs.Description.{ReadsInput, ReadsPlan, with_most}
-use Rattle.flume_cli.specs.Headline.{AuditsLedger, Call, DidNothing, Does, DoesPlan, HasStatus, IsText, IsToldLine, KeepsSource, RunsStreams, asked_of, run_of_call}
+use Rattle.flume_cli.specs.Headline.{AuditsLedger, Call, DidNothing, Does, DoesPlan, HasStatus, IsText, IsToldLine, KeepsSource, RunsStreams, asked_of, is_meant, run_of_call}
 use Rattle.flume_cli.specs.Call.{call_of}
 use Rattle.flume_cli.specs.Finish.{Reports, Tells}
-use Rattle.flume_cli.proofs.Telling.{DoesWork, kept, report_is, rose, work_told}
+use Rattle.run_rules.specs.Run.{Performs}
+use Rattle.flume_cli.proofs.Telling.{DoesRun, kept, report_is, rose, run_told as run_told_by, work_tells_memory}
 
 -- what was asked and done, where there was memory to read the words
 pub done_for : (c : Call) (k : Causes) (asked : Option Asked) → k.early ≡ false → command_of c.words ≡ asked → Does c k asked → Does c k (asked_of c k)
@@ -43,8 +44,8 @@ source_for c k asked e is d = subst (λ b. KeepsSource c k (if b then None else 
 pub cat_told : (words : List (List ℕ)) (chunk : ℕ) (path : List ℕ) (src : SourceTold) (dold dnew : DepotTold) (so mid sn eold enew : SinkTold) (o : Outcome) (r : Report)
     → command_of words ≡ Some (Cat chunk path) → RunsCat path chunk dold dnew so mid o → Tells o mid sn eold enew r → RunsStreams (call_of words src src dold dnew so sn eold enew r)
 cat_told words chunk path src dold dnew so mid sn eold enew o r asked runs told =
-    let did : DoesWork (cat_work path) dold dnew so mid o runs.frames runs.cut runs.rest = record { broke = runs.broke; performs = runs.performs; wrote = runs.wrote; begun = runs.begun } in
-    let t = work_told words src src dold dnew so mid sn eold enew o (cat_work path) runs.frames runs.cut runs.rest (ap (λ q. is_some q) asked) (kept src.faults src.faults refl) did r told in
+    let did : DoesRun (Performs (cat_work path)) dold dnew so mid o runs.frames runs.cut runs.rest = record { broke = runs.broke; performs = runs.performs; wrote = runs.wrote; begun = runs.begun; remembered = work_tells_memory (cat_work path) dold dnew runs.frames runs.cut runs.rest o runs.performs } in
+    let t = run_told_by words src src dold dnew so mid sn eold enew o (Performs (cat_work path)) runs.frames runs.cut runs.rest (ap is_meant asked) (kept src.faults src.faults refl) did r told in
     let within : FramesAreWithin chunk t.tells.frames t.tells.cut =
     subst (λ fs. FramesAreWithin chunk fs t.tells.cut) (sym t.same_frames) (subst (λ f. FramesAreWithin chunk runs.frames f) (sym t.same_cut) runs.within) in
     let c : Call = call_of words src src dold dnew so sn eold enew r in
@@ -65,8 +66,8 @@ pub run_told : (words : List (List ℕ)) (most : Option ℕ) (src src' : SourceT
     → RunsStreams (call_of words src src' dold dnew so sn eold enew r)
 run_told words most src src' dold dnew so mid sn eold enew o r plan ran asked (bytes, input, is) same ran_plan told =
     let runs : RunsPlan (with_most most plan) dold dnew so mid o = subst (λ p. RunsPlan p dold dnew so mid o) same ran_plan in
-    let did : DoesWork (run_work (with_most most plan)) dold dnew so mid o runs.frames runs.cut runs.rest = record { broke = runs.broke; performs = runs.performs; wrote = runs.wrote; begun = runs.begun } in
-    let t = work_told words src src' dold dnew so mid sn eold enew o (run_work (with_most most plan)) runs.frames runs.cut runs.rest (ap (λ q. is_some q) asked) (quiet src src' bytes input) did r told in
+    let did : DoesRun (Performs (run_work (with_most most plan))) dold dnew so mid o runs.frames runs.cut runs.rest = record { broke = runs.broke; performs = runs.performs; wrote = runs.wrote; begun = runs.begun; remembered = work_tells_memory (run_work (with_most most plan)) dold dnew runs.frames runs.cut runs.rest o runs.performs } in
+    let t = run_told_by words src src' dold dnew so mid sn eold enew o (Performs (run_work (with_most most plan))) runs.frames runs.cut runs.rest (ap is_meant asked) (quiet src src' bytes input) did r told in
     let c : Call = call_of words src src' dold dnew so sn eold enew r in
     record {
       causes = t.causes;
@@ -77,16 +78,16 @@ run_told words most src src' dold dnew so mid sn eold enew o r plan ran asked (b
 
 -- nothing was done and told
 module _ (words : List (List ℕ)) (src src' : SourceTold) (depot : DepotTold) (out eold enew : SinkTold) where
-  abbrev idle : Status → Call
+  abbrev pub idle : Status → Call
   idle s = call_of words src src' depot depot out out eold enew (record { status = s; ends = []; ledger = [] })
 
-  abbrev cause : Bool → Bool → Bool → Option Refusal → Bool → Causes
+  abbrev pub cause : Bool → Bool → Bool → Option Refusal → Bool → Causes
   cause early meant unread refused memory = record { early = early; words = meant; unread = unread; refused = refused; unwritten = false; memory = memory; faulty = false; unclean = false }
 
-  nothing : (s : Status) → DidNothing (idle s)
+  pub nothing : (s : Status) → DidNothing (idle s)
   nothing s = record { depot = refl; out = refl; ends = refl; events = refl }
 
-  status_is : (s : Status) (early meant unread : Bool) (refused : Option Refusal) (memory : Bool) → meant ≡ is_some (command_of words) → unread ≡ nat_lt src.faults src'.faults
+  pub status_is : (s : Status) (early meant unread : Bool) (refused : Option Refusal) (memory : Bool) → meant ≡ is_meant (command_of words) → unread ≡ nat_lt src.faults src'.faults
       → s ≡ status_of (cause early meant unread refused memory) → IsToldLine eold enew (line_of s) → HasStatus (idle s) (cause early meant unread refused memory)
   status_is s early meant unread refused memory known faults is line = record {
     words = known;
@@ -105,7 +106,7 @@ module _ (words : List (List ℕ)) (src src' : SourceTold) (depot : DepotTold) (
       let k = cause false true false (Some refusal) false in
       record {
         causes = k;
-        status = status_is (status.Refused refusal) false true false (Some refusal) false (sym (ap (λ q. is_some q) asked)) (sym (quiet src src' bytes input)) refl line;
+        status = status_is (status.Refused refusal) false true false (Some refusal) false (sym (ap is_meant asked)) (sym (quiet src src' bytes input)) refl line;
         source = source_for (idle (status.Refused refusal)) k (Some (Run most)) refl asked tt;
         does = done_for (idle (status.Refused refusal)) k (Some (Run most)) refl asked (inr (record {
           bytes = bytes;
@@ -117,7 +118,7 @@ module _ (words : List (List ℕ)) (src src' : SourceTold) (depot : DepotTold) (
       let k = cause false true false None true in
       record {
         causes = k;
-        status = status_is status.Memory false true false None true (sym (ap (λ q. is_some q) asked)) (sym (kept src.faults src'.faults (ap (λ (s : SourceTold). s.faults) taken.told))) refl line;
+        status = status_is status.Memory false true false None true (sym (ap is_meant asked)) (sym (kept src.faults src'.faults (ap (λ (s : SourceTold). s.faults) taken.told))) refl line;
         source = source_for (idle status.Memory) k (Some (Run most)) refl asked tt;
         does = done_for (idle status.Memory) k (Some (Run most)) refl asked (inl (record { cause = inr refl; taken = taken; refused = refl; nothing = nothing status.Memory }));
       }
@@ -125,7 +126,7 @@ module _ (words : List (List ℕ)) (src src' : SourceTold) (depot : DepotTold) (
       let k = cause false true true None false in
       record {
         causes = k;
-        status = status_is status.Unread false true true None false (sym (ap (λ q. is_some q) asked)) (sym (rose src.faults src'.faults (ap (λ (s : SourceTold). s.faults) taken.told))) refl line;
+        status = status_is status.Unread false true true None false (sym (ap is_meant asked)) (sym (rose src.faults src'.faults (ap (λ (s : SourceTold). s.faults) taken.told))) refl line;
         source = source_for (idle status.Unread) k (Some (Run most)) refl asked tt;
         does = done_for (idle status.Unread) k (Some (Run most)) refl asked (inl (record { cause = inl refl; taken = taken; refused = refl; nothing = nothing status.Unread }));
       }
@@ -139,7 +140,7 @@ module _ (words : List (List ℕ)) (src src' : SourceTold) (depot : DepotTold) (
   stopped status.LedgerUnread most asked h line = absurd h
 
   -- what is reported
-  idle_report : (s : Status) (r : Report) → Reports s [] [] eold enew r → RunsStreams (idle s) → RunsStreams (call_of words src src' depot depot out out eold enew r)
+  pub idle_report : (s : Status) (r : Report) → Reports s [] [] eold enew r → RunsStreams (idle s) → RunsStreams (call_of words src src' depot depot out out eold enew r)
   idle_report s r f h = subst (λ x. RunsStreams (call_of words src src' depot depot out out eold enew x)) (sym (report_is r s [] [] f.status_is f.ends_are f.ledger_is)) h
 
   -- no plan was read, and the call was told
@@ -154,7 +155,7 @@ module _ (words : List (List ℕ)) (src : SourceTold) (depot : DepotTold) (out e
       let c : Call = idle words src src depot out eold enew status.BadWords in
       idle_report words src src depot out eold enew status.BadWords r f (record {
         causes = k;
-        status = status_is words src src depot out eold enew status.BadWords false false false None false (sym (ap (λ q. is_some q) asked)) (sym (kept src.faults src.faults refl)) refl f.line;
+        status = status_is words src src depot out eold enew status.BadWords false false false None false (sym (ap is_meant asked)) (sym (kept src.faults src.faults refl)) refl f.line;
         source = source_for c k None refl asked (record { kept = refl; refused = refl });
         does = done_for c k None refl asked (nothing words src src depot out eold enew status.BadWords);
       })
@@ -162,10 +163,10 @@ module _ (words : List (List ℕ)) (src : SourceTold) (depot : DepotTold) (out e
   -- there was no memory to read the words
   pub early_told : Reports status.Memory [] [] eold enew r → RunsStreams (call_of words src src depot depot out out eold enew r)
   early_told f =
-      let k = cause words src src depot out eold enew true (is_some (command_of words)) false None true in
+      let k = cause words src src depot out eold enew true (is_meant (command_of words)) false None true in
       idle_report words src src depot out eold enew status.Memory r f (record {
         causes = k;
-        status = status_is words src src depot out eold enew status.Memory true (is_some (command_of words)) false None true refl (sym (kept src.faults src.faults refl)) refl f.line;
+        status = status_is words src src depot out eold enew status.Memory true (is_meant (command_of words)) false None true refl (sym (kept src.faults src.faults refl)) refl f.line;
         source = record { kept = refl; refused = refl };
         does = nothing words src src depot out eold enew status.Memory;
       })
@@ -175,13 +176,14 @@ pub rotation_told : (words : List (List ℕ)) (n : ℕ) (path prefix : List ℕ)
     → command_of words ≡ Some (Rotate n path prefix) → RotatesFiles path prefix n (run_record_of dold dnew [] None [] o) → o.sink_failed ≡ false → Tells o so sn eold enew r
     → RunsStreams (call_of words src src dold dnew so sn eold enew r)
 rotation_told words n path prefix src dold dnew so sn eold enew o r asked rotates unbroken told =
-    let did : DoesWork (rotate_work path prefix n) dold dnew so so o [] None [] = record {
+    let did : DoesRun (Performs (rotate_work path prefix n)) dold dnew so so o [] None [] = record {
       broke = sym unbroken;
       performs = rotates.performs;
       wrote = subst (λ b. so ≡ record (with_bytes so []) { faults = and_one b so.faults }) (sym unbroken) (sym (with_bytes_none so));
       begun = λ e. (unbroken, rotates.rotation.begun e);
+      remembered = work_tells_memory (rotate_work path prefix n) dold dnew [] None [] o rotates.performs;
     } in
-    let t = work_told words src src dold dnew so so sn eold enew o (rotate_work path prefix n) [] None [] (ap (λ q. is_some q) asked) (kept src.faults src.faults refl) did r told in
+    let t = run_told_by words src src dold dnew so so sn eold enew o (Performs (rotate_work path prefix n)) [] None [] (ap is_meant asked) (kept src.faults src.faults refl) did r told in
     let c : Call = call_of words src src dold dnew so sn eold enew r in
     let text : IsText c t.causes [] None [] o.memory =
     subst (λ w. IsText c t.causes [] None [] w) t.same_wanted

@@ -30,7 +30,7 @@ use Rattle.flume_cli.specs.declared.status.Status.TheVariants as status
 use Rattle.flume_cli.specs.Call.{call_of}
 use Rattle.flume_cli.specs.Finish.{PrintsText, TellsText}
 use Rattle.flume_cli.specs.Generated.{Generates, IsWholeCase, RunsCase, Sums, case_run, text_of_run}
-use Rattle.flume_cli.specs.Headline.{Call, Does, IsToldLine, KeepsSource, PrintsNothing, PrintsSummary, RunsStreams}
+use Rattle.flume_cli.specs.Headline.{Call, Does, IsToldLine, KeepsSource, PrintsNothing, PrintsSummary, RunsStreams, is_meant}
 use Rattle.flume_cli.specs.Status.{Causes, line_of, status_of}
 use Rattle.flume_cli.proofs.CaseDevices.{no_faults}
 use Rattle.flume_cli.proofs.CaseRuns.{ends_unfailed, no_rest, numbered, whole}
@@ -117,7 +117,7 @@ module _ (words : List (List ℕ)) (seed streams lines : ℕ) (src : SourceTold)
       record {
         causes = k;
         status = record {
-          words = sym (ap (λ q. is_some q) asked);
+          words = sym (ap is_meant asked);
           unread = sym (kept src.faults src.faults refl);
           unwritten = up;
           memory = more;

@@ -4,3 +4,5 @@ pub mod Parts
 mod CaseDevices
 mod CaseRuns
 mod Generating
+pub mod Branching
+pub mod Chaining

@@ -6,6 +6,7 @@ use Rattle.std.specs.List.{list_any as any}
 use Rattle.chunk_core.specs.Texts.{Frame, frames_text}
 use Rattle.chunk_core.specs.declared.code.How.{How}
 use Rattle.chunk_core.specs.declared.code.How.TheVariants as how
+use Rattle.chunk_core.specs.Lists.{IsAmong}
 use Rattle.chunk_core.proofs.Bools.{any_found}
 use Rattle.res_ledger.specs.declared.event.Event.{Event}
 use Rattle.device_port.specs.Source.{SourceTold}
@@ -17,14 +18,14 @@ use Rattle.run_rules.specs.declared.end.EndOf.{EndOf}
 use Rattle.run_rules.specs.Facts.{is_fault, is_memory, is_failed, has_event}
 use Rattle.run_rules.specs.Run.{Performs, Ran, IsUnmade}
 use Rattle.run_rules.specs.Texts.{tail_text}
-use Rattle.run_rules.specs.Work.{Work}
+use Rattle.run_rules.specs.Work.{RunRecord, Work}
 use Rattle.cat_run.specs.Cat.{run_record_of, and_one}
 use Rattle.cat_run.specs.declared.outcome.Outcome.{Outcome}
 use Rattle.flume_cli.specs.declared.status.Status.{Status}
 use Rattle.flume_cli.specs.declared.status.Status.TheVariants as status
 use Rattle.flume_cli.specs.declared.report.Report.{Report}
 use Rattle.flume_cli.specs.Status.{Causes, status_of, line_of}
-use Rattle.flume_cli.specs.Headline.{Call, HasStatus, IsText, IsToldLine, SaysBegun, SaysTail, TellsWork}
+use Rattle.flume_cli.specs.Headline.{Call, HasStatus, IsText, IsToldLine, SaysBegun, SaysTail, TellsRun, is_meant}
 use Rattle.flume_cli.specs.Call.{call_of}
 use Rattle.flume_cli.specs.Finish.{PrintsTail, Prints, Tells, status_by}
 
@@ -60,26 +61,40 @@ memory_so how.Done e = absurd (false≢true e)
 memory_so how.Halted e = absurd (false≢true e)
 memory_so (how.Fault c) e = absurd (false≢true e)
 
--- a work was done, of which these frames were printed
-pub record DoesWork (work : Work) (depot_old depot_new : DepotTold) (old new : SinkTold) (o : Outcome) (frames : List Frame) (cut : Option Frame) (rest : List ℕ) : Type 0 where
+-- an end that is Memory tells that memory was wanting
+abbrev pub TellsMemory : Outcome → Type 0
+TellsMemory o = any (λ (e : EndOf). is_memory e.how) o.ends ≡ true → o.memory ≡ true
+
+-- it does where each end of Memory does
+pub tells_memory_if : (o : Outcome) → ((e : EndOf) → IsAmong e o.ends → e.how ≡ how.Memory → o.memory ≡ true) → TellsMemory o
+tells_memory_if o each h = let f = any_found (λ (e : EndOf). is_memory e.how) o.ends h in each f.0 f.1 (memory_so f.0.how f.2)
+
+-- a work does
+pub work_tells_memory : (work : Work) (dold dnew : DepotTold) (frames : List Frame) (cut : Option Frame) (rest : List ℕ) (o : Outcome) → Performs work (run_record_of dold dnew frames cut rest o) → TellsMemory o
+work_tells_memory work dold dnew frames cut rest o performs = tells_memory_if o (λ e i is.
+    ⊎_elim (λ (x : IsUnmade (run_record_of dold dnew frames cut rest o)). x.memory) (λ (x : Ran work (run_record_of dold dnew frames cut rest o)). x.ends.memory e i is) performs.ran)
+
+-- a run that is so was done, of which these frames were printed
+pub record DoesRun (IsSo : RunRecord → Type 0) (depot_old depot_new : DepotTold) (old new : SinkTold) (o : Outcome) (frames : List Frame) (cut : Option Frame) (rest : List ℕ) : Type 0 where
   pub broke : is_some cut ≡ o.sink_failed
-  pub performs : Performs work (run_record_of depot_old depot_new frames cut rest o)
+  pub performs : IsSo (run_record_of depot_old depot_new frames cut rest o)
   pub wrote : new ≡ record (with_bytes old (frames_text frames ++ rest)) { faults = and_one o.sink_failed old.faults }
   pub begun : o.ends ≡ [] → (o.sink_failed ≡ false) × (o.memory ≡ true)
+  pub remembered : TellsMemory o
 
--- the work was told, with these frames
-pub record IsTold (work : Work) (c : Call) (frames : List Frame) (cut : Option Frame) (rest : List ℕ) (wanted : Bool) : Type 0 where
+-- the run was told, with these frames
+pub record IsTold (IsSo : RunRecord → Type 0) (c : Call) (frames : List Frame) (cut : Option Frame) (rest : List ℕ) (wanted : Bool) : Type 0 where
   pub causes : Causes
   pub early : causes.early ≡ false
   pub refused : causes.refused ≡ None
   pub status : HasStatus c causes
-  pub tells : TellsWork work c causes
+  pub tells : TellsRun IsSo c causes
   pub same_frames : tells.frames ≡ frames
   pub same_cut : tells.cut ≡ cut
   pub same_rest : tells.rest ≡ rest
   pub same_wanted : tells.wanted ≡ wanted
 
-module _ (words : List (List ℕ)) (src src' : SourceTold) (dold dnew : DepotTold) (so mid sn : SinkTold) (eold enew : SinkTold) (o : Outcome) (work : Work) (frames : List Frame) (cut : Option Frame) (rest : List ℕ) (meant : is_some (command_of words) ≡ true) (quiet : nat_lt src.faults src'.faults ≡ false) (runs : DoesWork work dold dnew so mid o frames cut rest) where
+module _ (words : List (List ℕ)) (src src' : SourceTold) (dold dnew : DepotTold) (so mid sn : SinkTold) (eold enew : SinkTold) (o : Outcome) (IsSo : RunRecord → Type 0) (frames : List Frame) (cut : Option Frame) (rest : List ℕ) (meant : is_meant (command_of words) ≡ true) (quiet : nat_lt src.faults src'.faults ≡ false) (runs : DoesRun IsSo dold dnew so mid o frames cut rest) where
   abbrev tail : List ℕ
   tail = tail_text o.ends o.ledger
 
@@ -92,11 +107,8 @@ module _ (words : List (List ℕ)) (src src' : SourceTold) (dold dnew : DepotTol
   abbrev causes : Bool → Causes
   causes m = record { early = false; words = true; unread = false; refused = None; unwritten = nat_lt so.faults sn.faults; memory = m; faulty = any (λ (e : EndOf). is_fault e.how) o.ends; unclean = has_event is_failed o.ledger }
 
-  remembered : any (λ (e : EndOf). is_memory e.how) o.ends ≡ true → o.memory ≡ true
-  remembered h = ⊎_elim (λ (x : IsUnmade (run_record_of dold dnew frames cut rest o)). x.memory) (λ (x : Ran work (run_record_of dold dnew frames cut rest o)). let f = any_found (λ (e : EndOf). is_memory e.how) o.ends h in x.ends.memory f.0 f.1 (memory_so f.0.how f.2)) runs.performs.ran
-
   -- the call was told, from the parts that differ by how
-  tells : (s : Status) (m : Bool) → (o.memory ≡ true → m ≡ true) → s ≡ status_of (causes m) → IsText (told s) (causes m) frames cut rest o.memory → IsToldLine eold enew (line_of s) → IsTold work (told s) frames cut rest o.memory
+  tells : (s : Status) (m : Bool) → (o.memory ≡ true → m ≡ true) → s ≡ status_of (causes m) → IsText (told s) (causes m) frames cut rest o.memory → IsToldLine eold enew (line_of s) → IsTold IsSo (told s) frames cut rest o.memory
   tells s m more is text line = record {
     causes = causes m;
     early = refl;
@@ -105,7 +117,7 @@ module _ (words : List (List ℕ)) (src src' : SourceTold) (dold dnew : DepotTol
       words = sym meant;
       unread = sym quiet;
       unwritten = refl;
-      memory = λ h. more (remembered h);
+      memory = λ h. more (runs.remembered h);
       faulty = refl;
       unclean = refl;
       status = is;
@@ -162,7 +174,7 @@ module _ (words : List (List ℕ)) (src src' : SourceTold) (dold dnew : DepotTol
   says_nothing f u true e = subst (λ b. SaysTail (causes true) [] tail status.Memory b o.memory) (sym (runs.broke ∙ f)) (subst (λ w. SaysTail (causes true) [] tail status.Memory false w) (sym e) (u, refl, refl))
   says_nothing f u false e = begun [] status.Memory (causes true) f e refl
 
-  tells_failed : o.sink_failed ≡ true → sn ≡ mid → IsToldLine eold enew (line_of status.NotWritten) → IsTold work (told status.NotWritten) frames cut rest o.memory
+  tells_failed : o.sink_failed ≡ true → sn ≡ mid → IsToldLine eold enew (line_of status.NotWritten) → IsTold IsSo (told status.NotWritten) frames cut rest o.memory
   tells_failed t e line =
       let up : nat_lt so.faults sn.faults ≡ true = rose so.faults sn.faults (ap (λ (x : SinkTold). x.faults) e ∙ mid_rose t) in
       tells status.NotWritten o.memory (λ h. h) (failed_is _ _ _ _ up) (record {
@@ -173,7 +185,7 @@ module _ (words : List (List ℕ)) (src src' : SourceTold) (dold dnew : DepotTol
         once = let same : sn.faults ≡ mid.faults = ap (λ (x : SinkTold). x.faults) e in let m : mid.faults ≡ so.faults + 1 = mid_rose t in omega arith;
       }) line
 
-  tells_memory : o.sink_failed ≡ false → sn ≡ mid → IsToldLine eold enew (line_of status.Memory) → IsTold work (told status.Memory) frames cut rest o.memory
+  tells_memory : o.sink_failed ≡ false → sn ≡ mid → IsToldLine eold enew (line_of status.Memory) → IsTold IsSo (told status.Memory) frames cut rest o.memory
   tells_memory f e line =
       let same : sn.faults ≡ so.faults = ap (λ (x : SinkTold). x.faults) e ∙ mid_kept f in
       tells status.Memory true (λ h. refl) (memory_is (nat_lt so.faults sn.faults) (any (λ (x : EndOf). is_fault x.how) o.ends) (has_event is_failed o.ledger) (kept so.faults sn.faults same)) (record {
@@ -184,7 +196,7 @@ module _ (words : List (List ℕ)) (src src' : SourceTold) (dold dnew : DepotTol
         once = omega arith;
       }) line
 
-  tells_broken : o.sink_failed ≡ false → o.memory ≡ false → BreaksOff mid sn tail → IsToldLine eold enew (line_of status.NotWritten) → IsTold work (told status.NotWritten) frames cut rest o.memory
+  tells_broken : o.sink_failed ≡ false → o.memory ≡ false → BreaksOff mid sn tail → IsToldLine eold enew (line_of status.NotWritten) → IsTold IsSo (told status.NotWritten) frames cut rest o.memory
   tells_broken f g b line =
       let more : sn.faults ≡ so.faults + 1 = ap (λ (x : SinkTold). x.faults) b.told ∙ ap (λ n. n + 1) (mid_kept f) in
       let up : nat_lt so.faults sn.faults ≡ true = rose so.faults sn.faults more in
@@ -196,7 +208,7 @@ module _ (words : List (List ℕ)) (src src' : SourceTold) (dold dnew : DepotTol
         once = omega arith;
       }) line
 
-  told_whole : (s : Status) → o.sink_failed ≡ false → o.memory ≡ false → sn ≡ with_bytes mid tail → s ≡ status_by o.ends o.ledger → SaysBegun tail tail s → IsToldLine eold enew (line_of s) → IsTold work (told s) frames cut rest o.memory
+  told_whole : (s : Status) → o.sink_failed ≡ false → o.memory ≡ false → sn ≡ with_bytes mid tail → s ≡ status_by o.ends o.ledger → SaysBegun tail tail s → IsToldLine eold enew (line_of s) → IsTold IsSo (told s) frames cut rest o.memory
   told_whole s f g e is says line =
       let same : sn.faults ≡ so.faults = ap (λ (x : SinkTold). x.faults) e ∙ mid_kept f in
       tells s false (λ h. absurd (both_ways o.memory g h)) (is ∙ printed_is _ _ _ (kept so.faults sn.faults same)) (record {
@@ -207,7 +219,7 @@ module _ (words : List (List ℕ)) (src src' : SourceTold) (dold dnew : DepotTol
         once = omega arith;
       }) line
 
-  tells_printed : (s : Status) → o.sink_failed ≡ false → o.memory ≡ false → Prints o mid sn s → IsToldLine eold enew (line_of s) → IsTold work (told s) frames cut rest o.memory
+  tells_printed : (s : Status) → o.sink_failed ≡ false → o.memory ≡ false → Prints o mid sn s → IsToldLine eold enew (line_of s) → IsTold IsSo (told s) frames cut rest o.memory
   tells_printed status.NotWritten f g p line = tells_broken f g p line
   tells_printed status.Memory f g p line = tells_memory f p line
   tells_printed status.BadWords f g p line = absurd p
@@ -220,17 +232,17 @@ module _ (words : List (List ℕ)) (src src' : SourceTold) (dold dnew : DepotTol
   tells_printed (status.LedgerRefused e) f g p line = told_whole (status.LedgerRefused e) f g p.0 p.1 refl line
   tells_printed status.LedgerUnread f g p line = told_whole status.LedgerUnread f g p.0 p.1 refl line
 
-  tells_any : (s : Status) → PrintsTail o mid sn s → IsToldLine eold enew (line_of s) → IsTold work (told s) frames cut rest o.memory
+  tells_any : (s : Status) → PrintsTail o mid sn s → IsToldLine eold enew (line_of s) → IsTold IsSo (told s) frames cut rest o.memory
   tells_any s p line =
       ⊎_elim
-      (λ t. let q = p.failed t in subst (λ x. IsTold work (told x) frames cut rest o.memory) (sym q.0) (tells_failed t q.1 (subst (λ x. IsToldLine eold enew (line_of x)) q.0 line)))
+      (λ t. let q = p.failed t in subst (λ x. IsTold IsSo (told x) frames cut rest o.memory) (sym q.0) (tells_failed t q.1 (subst (λ x. IsToldLine eold enew (line_of x)) q.0 line)))
       (λ f. ⊎_elim
-      (λ t. let q = p.memory f t in subst (λ x. IsTold work (told x) frames cut rest o.memory) (sym q.0) (tells_memory f q.1 (subst (λ x. IsToldLine eold enew (line_of x)) q.0 line)))
+      (λ t. let q = p.memory f t in subst (λ x. IsTold IsSo (told x) frames cut rest o.memory) (sym q.0) (tells_memory f q.1 (subst (λ x. IsToldLine eold enew (line_of x)) q.0 line)))
       (λ g. tells_printed s f g (p.printed f g) line)
       (cases_Bool o.memory))
       (cases_Bool o.sink_failed)
 
-  -- the work was done and told
-  pub work_told : (r : Report) → Tells o mid sn eold enew r → IsTold work (call_of words src src' dold dnew so sn eold enew r) frames cut rest o.memory
-  work_told r t =
-      subst (λ x. IsTold work (call_of words src src' dold dnew so sn eold enew x) frames cut rest o.memory) (sym (report_is r r.status o.ends o.ledger refl t.report.ends_are t.report.ledger_is)) (tells_any r.status t.tail t.report.line)
+  -- the run was done and told
+  pub run_told : (r : Report) → Tells o mid sn eold enew r → IsTold IsSo (call_of words src src' dold dnew so sn eold enew r) frames cut rest o.memory
+  run_told r t =
+      subst (λ x. IsTold IsSo (call_of words src src' dold dnew so sn eold enew x) frames cut rest o.memory) (sym (report_is r r.status o.ends o.ledger refl t.report.ends_are t.report.ledger_is)) (tells_any r.status t.tail t.report.line)

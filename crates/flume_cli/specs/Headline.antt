@@ -1,5 +1,5 @@
 -- The contract of the top call, over all that it reads, writes and reports.
-use Rattle.std.specs.Prelude.{◌≡◌, ◌⊎◌, ℕ, ◌+◌, ◌<◌, ◌≤◌, Bool, true, false, nat_lt, if◌then◌else◌, is_some, List, [], ◌++◌, length, Option, Some, None, Ok, Err}
+use Rattle.std.specs.Prelude.{◌≡◌, ◌⊎◌, ℕ, ◌+◌, ◌<◌, ◌≤◌, Bool, true, false, nat_lt, if◌then◌else◌, is_ok, is_some, List, [], ◌++◌, length, Option, Some, None, Ok, Err}
 use Rattle.std.specs.List.{list_any as any}
 use Rattle.chunk_core.specs.Texts.{Frame, frames_text}
 use Rattle.res_ledger.specs.declared.event.Event.{Event}
@@ -8,7 +8,7 @@ use Rattle.device_port.specs.Sink.{SinkTold, with_bytes, BreaksOff}
 use Rattle.device_port.specs.Depot.{DepotTold}
 use Rattle.command_words.specs.Words.{command_of}
 use Rattle.command_words.specs.declared.asked.Asked.{Asked}
-use Rattle.command_words.specs.declared.asked.Asked.TheVariants.{Cat, Run, Gen, Audit, Rotate}
+use Rattle.command_words.specs.declared.asked.Asked.TheVariants.{Cat, Run, Gen, Audit, Rotate, Tee, Eval}
 use Rattle.run_rules.specs.declared.end.EndOf.{EndOf}
 use Rattle.run_rules.specs.Facts.{is_fault, is_memory, is_failed, has_event}
 use Rattle.run_rules.specs.Work.{Work, RunRecord}
@@ -19,7 +19,12 @@ use Rattle.pipeline_desc.specs.Plans.{plan_of}
 use Rattle.pipeline_desc.specs.Reading.{Reading}
 use Rattle.cat_run.specs.Cat.{cat_work, FramesAreWithin}
 use Rattle.plan_work.specs.Plans.{run_work}
+use Rattle.pipeline_desc.specs.declared.step.Step.{Step}
+use Rattle.step_words.specs.Words.{steps_of}
 use Rattle.rotate_rules.specs.Rotation.{RotatesFiles}
+use Rattle.tee_rules.specs.Tee.{TeesFile}
+use Rattle.eval_rules.specs.Evaluation.{Evaluates}
+use Rattle.flume_cli.specs.Chains.{chains_of}
 use Rattle.flume_cli.specs.Input.{IsInput, TakesSome}
 use Rattle.flume_cli.specs.declared.status.Status.{Status}
 use Rattle.flume_cli.specs.declared.status.Status.TheVariants as status
@@ -49,9 +54,16 @@ pub record Call : Type 0 where
 abbrev pub IsToldLine : SinkTold → SinkTold → List ℕ → Type 0
 IsToldLine old new text = (new ≡ with_bytes old text) ⊎ BreaksOff old new text
 
+-- the words mean something, and each word of steps means a chain
+abbrev pub is_meant : Option Asked → Bool
+is_meant None = false
+is_meant (Some (Tee chunk path words)) = is_ok (chains_of words)
+is_meant (Some (Eval jobs group path word)) = is_ok (steps_of word)
+is_meant (Some _) = true
+
 -- the status is that of the causes, each cause is seen in the call's own data, and standard error was told its line
 pub record HasStatus (c : Call) (k : Causes) : Type 0 where
-  pub words : k.words ≡ is_some (command_of c.words)
+  pub words : k.words ≡ is_meant (command_of c.words)
   pub unread : k.unread ≡ nat_lt c.source_old.faults c.source_new.faults
   pub unwritten : k.unwritten ≡ nat_lt c.out_old.faults c.out_new.faults
   pub memory : any (λ e. is_memory e.how) c.ends ≡ true → k.memory ≡ true
@@ -92,14 +104,18 @@ pub record IsText (c : Call) (k : Causes) (frames : List Frame) (cut : Option Fr
   pub spoke : c.ends ≡ [] → c.status ≡ status.Memory
   pub once : c.out_new.faults ≤ c.out_old.faults + 1
 
--- a work was done and told
-pub record TellsWork (work : Work) (c : Call) (k : Causes) : Type 0 where
+-- a run that is so was done and told
+pub record TellsRun (IsSo : RunRecord → Type 0) (c : Call) (k : Causes) : Type 0 where
   pub frames : List Frame
   pub cut : Option Frame
   pub rest : List ℕ
   pub wanted : Bool
-  pub performs : Performs work (run_of_call c frames cut rest wanted)
+  pub performs : IsSo (run_of_call c frames cut rest wanted)
   pub text : IsText c k frames cut rest wanted
+
+-- a work was done and told
+abbrev pub TellsWork : Work → Call → Causes → Type 0
+TellsWork work c k = TellsRun (Performs work) c k
 
 -- A file was copied into files of n bytes each, and that was told: of the output nothing but the tail was written. What the files hold, which of them were open
 -- at a time and how the stream ended stands in `RotatesFiles`.
@@ -107,6 +123,25 @@ pub record TellsRotation (path prefix : List ℕ) (n : ℕ) (c : Call) (k : Caus
   pub wanted : Bool
   pub rotates : RotatesFiles path prefix n (run_of_call c [] None [] wanted)
   pub text : IsText c k [] None [] wanted
+
+-- A file was read once for branches of these steps, and that was told. What each branch printed and how it ended stands in `TeesFile`.
+abbrev pub TellsTee : List ℕ → List (List Step) → Call → Causes → Type 0
+TellsTee path branches c k = TellsRun (TeesFile path branches) c k
+
+-- The lines of a file went through these steps in groups of n, and that was told. What was printed and how it ended stands in `Evaluates`, which names no
+-- number of hands.
+abbrev pub TellsEvaluation : List ℕ → List Step → ℕ → Call → Causes → Type 0
+TellsEvaluation path steps n c k = TellsRun (Evaluates path steps n) c k
+
+-- the branches that the words of steps mean printed what they give of a file, or nothing was done where one means none
+abbrev pub DoesBranches : List ℕ → Reading (List (List Step)) → Call → Causes → Type 0
+DoesBranches path (Ok branches) c k = TellsTee path branches c k
+DoesBranches path (Err refusal) c k = DidNothing c
+
+-- the chain that the word of steps means was evaluated, or nothing was done where it means none
+abbrev pub DoesChain : List ℕ → ℕ → Reading (List Step) → Call → Causes → Type 0
+DoesChain path n (Ok steps) c k = TellsEvaluation path steps n c k
+DoesChain path n (Err refusal) c k = DidNothing c
 
 -- what the bytes of a description mean was done: its plan was run, with as many streams open at a time as the words tell, or nothing was done where it is refused
 abbrev pub DoesPlan : Call → Causes → Option ℕ → Reading PlanMeant → Type 0
@@ -155,6 +190,8 @@ Does c k (Some (Run most)) = StopsBefore c k ⊎ RunsInput c k most
 Does c k (Some (Gen seed streams lines)) = TellsCase (record { seed = seed; streams = streams; lines = lines }) c k
 Does c k (Some Audit) = ⊥
 Does c k (Some (Rotate n path prefix)) = TellsRotation path prefix n c k
+Does c k (Some (Tee chunk path words)) = DoesBranches path (chains_of words) c k
+Does c k (Some (Eval jobs group path word)) = DoesChain path group (steps_of word) c k
 Does c k None = DidNothing c
 
 -- no description was read: the source is as it was, and nothing is refused
@@ -169,6 +206,8 @@ KeepsSource c k (Some (Run most)) = Unit {0}
 KeepsSource c k (Some (Gen seed streams lines)) = ReadsNothing c k
 KeepsSource c k (Some Audit) = ⊥
 KeepsSource c k (Some (Rotate n path prefix)) = ReadsNothing c k
+KeepsSource c k (Some (Tee chunk path words)) = ReadsNothing c k
+KeepsSource c k (Some (Eval jobs group path word)) = ReadsNothing c k
 KeepsSource c k None = ReadsNothing c k
 
 -- Streams were run, or nothing was done since the words mean nothing or found no memory. What it says of devices, ledger, outputs, ends and completeness stands

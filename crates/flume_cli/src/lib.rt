@@ -7,7 +7,8 @@
 //! refused. Only `run` reads the source, whole and before anything else; the description that it has
 //! is read by `pipeline_desc`. The work of a command is `par_join`'s; behind its frames `tail_of`
 //! tells how each stream ended, and the ledger. `rotate` copies a file into others and prints that
-//! tail alone. `gen` runs a case of `gen_case` in memory, over files of
+//! tail alone. `tee` and `eval` print what chains of steps give of a file, which `step_words` reads
+//! of the words themselves. `gen` runs a case of `gen_case` in memory, over files of
 //! its own, and prints a summary of it.
 //!
 //! ```
@@ -32,6 +33,7 @@
 //! ```
 #![tactic(auto)]
 
+pub(crate) mod chains;
 pub(crate) mod description;
 pub(crate) mod generated;
 pub mod report;

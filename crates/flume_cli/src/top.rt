@@ -1,12 +1,16 @@
 //! The top call.
-ghost use Rattle.std.specs.Prelude.{◌≡◌, ◌-◌, ◌^◌, ◌<◌, false, [], option_map};
+ghost use Rattle.std.specs.Prelude.{◌≡◌, ◌-◌, ◌^◌, ◌<◌, ◌≤◌, ℕ, List, IfSome, false, [], Some, option_map};
+ghost use Rattle.device_port.specs.Source.{SourceTold};
+ghost use Rattle.command_words.specs.declared.asked.Asked.TheVariants.{Eval, Run, Tee};
+ghost use Rattle.command_words.specs.Words.{IsLimited, command_of};
 ghost use Rattle.flume_cli.specs.Call.{call_of};
-ghost use Rattle.flume_cli.specs.Headline.{Headline};
+ghost use Rattle.flume_cli.specs.Headline.{Headline, RunsStreams};
 ghost use Rattle.flume_cli.specs.Finish.{Reports, PrintsTail, PrintsText, Tells, TellsText, status_by as status_by_of};
 ghost use Rattle.flume_cli.specs.Status.{status_of_audit};
 ghost use Rattle.run_rules.specs.Facts.{is_fault as is_fault_end, is_failed as is_failed_final, has_event};
 ghost use Rattle.std.specs.List.{list_any as any};
 
+use crate::chains::{read_chain, read_chains};
 use crate::description::{read_plan, with_most};
 use crate::generated::{Generated, generate};
 use crate::report::Report;
@@ -16,6 +20,7 @@ use audit_run::{Audited, run_audit};
 use chunk_core::{How, Line, List, Word};
 use command_words::{Asked, asked_by};
 use device_port::{Depot, Failed, Gate, Sink, Source, put};
+use eval_run::run_eval;
 use gen_case::Case;
 use par_join::{Outcome, run_cat, run_streams};
 use res_ledger::{Ledger, What};
@@ -24,6 +29,7 @@ use run_rules::EndOf;
 use std::alloc::{AllocError, Global};
 use std::sync::Wait;
 use std::thread::Threads;
+use tee_run::run_tee;
 
 /// Does what the words say: reads from `src` and the depot's devices, prints to `out`, tells
 /// `err` what went wrong, and reports how it ended. Nothing is written to `out` after its first
@@ -46,27 +52,42 @@ where
     ensures { Headline (call_of words.now (S.told src.old) (S.told src.new) (D.told depot.old) (D.told depot.new) (K.told out.old) (K.told out.new) (E.told err.old) (E.told err.new) result) }
 {
     match asked_by(alloc, words) {
-        Ok(Some(Asked::Cat { chunk, path })) => {
+        Ok(Some(asked)) => perform(rt, alloc, asked, src, depot, out, err, gate),
+        Ok(None) => refuse(alloc, Status::BadWords, err),
+        Err(AllocError) => refuse(alloc, Status::Memory, err),
+    }
+}
+
+/// Does what is asked, and tells how it ended.
+fn perform<R: Threads + Wait + Sync, S: Source, K: Sink, E: Sink, D: Depot, G: Gate + Sync>(
+    rt: &R,
+    alloc: Global,
+    asked: Asked,
+    src: &mut S,
+    depot: &mut D,
+    out: &mut K,
+    err: &mut E,
+    gate: &G,
+) -> Report
+where
+    D::Dev: Send,
+    requires limits { IsLimited asked }
+    requires source { (S.told src.old).faults < 2 ^ 64 - 1 }
+    requires out { (K.told out.old).faults < 2 ^ 64 - 1 }
+    requires err { (E.told err.old).faults < 2 ^ 64 - 1 }
+    ensures { (words : List (List ℕ)) → command_of words ≡ Some asked → Headline (call_of words (S.told src.old) (S.told src.new) (D.told depot.old) (D.told depot.new) (K.told out.old) (K.told out.new) (E.told err.old) (E.told err.new) result) }
+{
+    match asked {
+        Asked::Cat { chunk, path } => {
             let outcome = run_cat(alloc, &path, chunk, depot, out);
             tell(alloc, outcome, out, err)
         }
-        Ok(Some(Asked::Run { max_open })) => match read_plan(alloc, src) {
-            Ok(plan) => {
-                let plan = with_most(plan, max_open);
-                let outcome = run_streams(rt, alloc, &plan, depot, out, gate);
-                tell(alloc, outcome, out, err)
-            }
-            Err(status) => refuse(alloc, status, err),
-        },
-        Ok(
-            Some(
-                Asked::Gen {
-                    seed,
-                    streams,
-                    lines,
-                },
-            ),
-        ) => {
+        Asked::Run { max_open } => perform_run(rt, alloc, max_open, src, depot, out, err, gate),
+        Asked::Gen {
+            seed,
+            streams,
+            lines,
+        } => {
             let case = Case {
                 seed,
                 streams,
@@ -75,24 +96,115 @@ where
             let generated = generate(rt, alloc, case, gate);
             tell_summary(generated, out, err)
         }
-        Ok(Some(Asked::Audit)) => {
+        Asked::Audit => {
             let audited = run_audit(alloc, src, out);
             tell_audit(alloc, audited, err)
         }
-        Ok(
-            Some(
-                Asked::Rotate {
-                    bytes,
-                    path,
-                    prefix,
-                },
-            ),
-        ) => {
+        Asked::Rotate {
+            bytes,
+            path,
+            prefix,
+        } => {
             let outcome = run_rotate(alloc, &path, &prefix, bytes, depot);
             tell(alloc, outcome, out, err)
         }
-        Ok(None) => refuse(alloc, Status::BadWords, err),
-        Err(AllocError) => refuse(alloc, Status::Memory, err),
+        Asked::Tee {
+            chunk,
+            path,
+            branches,
+        } => perform_tee(rt, alloc, chunk, &path, &branches, depot, out, err, gate),
+        Asked::Eval {
+            jobs,
+            group,
+            path,
+            steps,
+        } => perform_eval(rt, alloc, jobs, group, &path, &steps, depot, out, err, gate),
+    }
+}
+
+/// Runs the description that the source has, and tells how that ended.
+fn perform_run<R: Threads + Wait + Sync, S: Source, K: Sink, E: Sink, D: Depot, G: Gate + Sync>(
+    rt: &R,
+    alloc: Global,
+    max_open: Option<u32>,
+    src: &mut S,
+    depot: &mut D,
+    out: &mut K,
+    err: &mut E,
+    gate: &G,
+) -> Report
+where
+    D::Dev: Send,
+    requires most { IfSome max_open (λ n. (1 ≤ n) × (n ≤ 64)) }
+    requires source { (S.told src.old).faults < 2 ^ 64 - 1 }
+    requires out { (K.told out.old).faults < 2 ^ 64 - 1 }
+    requires err { (E.told err.old).faults < 2 ^ 64 - 1 }
+    ensures { (words : List (List ℕ)) → command_of words ≡ Some (Run max_open) → RunsStreams (call_of words (S.told src.old) (S.told src.new) (D.told depot.old) (D.told depot.new) (K.told out.old) (K.told out.new) (E.told err.old) (E.told err.new) result) }
+{
+    match read_plan(alloc, src) {
+        Ok(plan) => {
+            let plan = with_most(plan, max_open);
+            let outcome = run_streams(rt, alloc, &plan, depot, out, gate);
+            tell(alloc, outcome, out, err)
+        }
+        Err(status) => refuse(alloc, status, err),
+    }
+}
+
+/// Reads a file once for a branch for each word of steps, and tells how that ended.
+fn perform_tee<R: Threads + Wait + Sync, K: Sink, E: Sink, D: Depot, G: Gate + Sync>(
+    rt: &R,
+    alloc: Global,
+    chunk: u32,
+    path: &Word,
+    branches: &List<Word>,
+    depot: &mut D,
+    out: &mut K,
+    err: &mut E,
+    gate: &G,
+) -> Report
+where
+    D::Dev: Send,
+    requires limits { IsLimited (Tee chunk path.now branches.now) }
+    requires out { (K.told out.old).faults < 2 ^ 64 - 1 }
+    requires err { (E.told err.old).faults < 2 ^ 64 - 1 }
+    ensures { (words : List (List ℕ)) (source : SourceTold) → command_of words ≡ Some (Tee chunk path.now branches.now) → RunsStreams (call_of words source source (D.told depot.old) (D.told depot.new) (K.told out.old) (K.told out.new) (E.told err.old) (E.told err.new) result) }
+{
+    match read_chains(alloc, branches) {
+        Ok(chains) => {
+            let outcome = run_tee(rt, alloc, path, chunk, &chains, depot, out, gate);
+            tell(alloc, outcome, out, err)
+        }
+        Err(status) => refuse(alloc, status, err),
+    }
+}
+
+/// Takes the lines of a file in groups through the steps of a word, and tells how that ended.
+fn perform_eval<R: Threads + Wait + Sync, K: Sink, E: Sink, D: Depot, G: Gate + Sync>(
+    rt: &R,
+    alloc: Global,
+    jobs: u32,
+    group: u32,
+    path: &Word,
+    steps: &Word,
+    depot: &mut D,
+    out: &mut K,
+    err: &mut E,
+    gate: &G,
+) -> Report
+where
+    D::Dev: Send,
+    requires limits { IsLimited (Eval jobs group path.now steps.now) }
+    requires out { (K.told out.old).faults < 2 ^ 64 - 1 }
+    requires err { (E.told err.old).faults < 2 ^ 64 - 1 }
+    ensures { (words : List (List ℕ)) (source : SourceTold) → command_of words ≡ Some (Eval jobs group path.now steps.now) → RunsStreams (call_of words source source (D.told depot.old) (D.told depot.new) (K.told out.old) (K.told out.new) (E.told err.old) (E.told err.new) result) }
+{
+    match read_chain(alloc, steps) {
+        Ok(chain) => {
+            let outcome = run_eval(rt, alloc, path, jobs, group, &chain, depot, out, gate);
+            tell(alloc, outcome, out, err)
+        }
+        Err(status) => refuse(alloc, status, err),
     }
 }
 

@@ -1,5 +1,5 @@
 -- What the words of the calls ask for, and what is done for it.
-use Rattle.std.proofs.Common.{◌≡◌, ◌≢◌, ℕ, Bool, true, false, List, [], ◌∷◌, Option, Some, None, is_some, refl, sym, ap, subst}
+use Rattle.std.proofs.Common.{◌≡◌, ◌≢◌, ℕ, Bool, true, false, List, [], ◌∷◌, Option, Some, None, refl, sym, ap, subst}
 use Rattle.std.specs.Prelude.{codes, if◌then◌else◌}
 use Rattle.clap.proofs.OnLiterals.{clap_on_literals}
 use Rattle.command_words.specs.Words.{command_of}
@@ -9,7 +9,7 @@ use Rattle.cat_run.specs.Cat.{cat_work}
 use Rattle.flume_cli.specs.declared.status.Status.{Status}
 use Rattle.flume_cli.specs.declared.status.Status.TheVariants as status
 use Rattle.flume_cli.specs.Status.{Causes, status_number}
-use Rattle.flume_cli.specs.Headline.{Call, DidNothing, Does, HasStatus, Headline, KeepsSource, ReadsNothing, RunsStreams, TellsWork, asked_of}
+use Rattle.flume_cli.specs.Headline.{Call, DidNothing, Does, HasStatus, Headline, KeepsSource, ReadsNothing, RunsStreams, TellsWork, asked_of, is_meant}
 use Rattle.flume_cli.proofs.Calling.{done_for, source_for}
 use Rattle.flume_cli.proofs.Parts.{asks_audit, runs_streams}
 use Rattle.headline_laws.specs.Calls.{a}
@@ -27,11 +27,11 @@ unfolding clap_on_literals
 chunk_asks = refl
 
 -- both mean something
-pub cat_means : true ≡ is_some (command_of (codes "cat" ∷ a ∷ []))
-cat_means = sym (ap (λ q. is_some q) cat_asks)
+pub cat_means : true ≡ is_meant (command_of (codes "cat" ∷ a ∷ []))
+cat_means = sym (ap is_meant cat_asks)
 
-pub run_means : true ≡ is_some (command_of (codes "run" ∷ []))
-run_means = sym (ap (λ q. is_some q) run_asks)
+pub run_means : true ≡ is_meant (command_of (codes "run" ∷ []))
+run_means = sym (ap is_meant run_asks)
 
 -- what was done, where there was memory to read the words
 pub done_if : (c : Call) (k : Causes) (asked : Option Asked) → command_of c.words ≡ asked → k.early ≡ false → Does c k (asked_of c k) → Does c k asked

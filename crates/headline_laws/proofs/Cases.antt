@@ -1,5 +1,5 @@
 -- Which calls of gen the contract takes.
-use Rattle.std.proofs.Common.{◌≡◌, ◌≢◌, ℕ, Bool, true, false, get_or, List, [], ◌∷◌, Option, Some, None, is_some, refl, sym, ap, ◌∙◌, subst, inl, ⊎_elim, arith, if◌then◌else◌}
+use Rattle.std.proofs.Common.{◌≡◌, ◌≢◌, ℕ, Bool, true, false, get_or, List, [], ◌∷◌, Option, Some, None, refl, sym, ap, ◌∙◌, subst, inl, ⊎_elim, arith, if◌then◌else◌}
 use Rattle.std.specs.Prelude.{unwrap_or}
 use Rattle.std.specs.Fmt.{digits}
 use Rattle.std.proofs.lemmas.Bool.{both_ways, false≢true}
@@ -18,7 +18,7 @@ use Rattle.gen_case.specs.Runs.{depot_of}
 use Rattle.gen_case.specs.declared.case.Case.{Case}
 use Rattle.flume_cli.specs.declared.status.Status.TheVariants as status
 use Rattle.flume_cli.specs.Status.{Causes, status_number, status_of}
-use Rattle.flume_cli.specs.Headline.{Call, KeepsSource, PrintsNothing, PrintsSummary, ReadsNothing, RunsStreams, TellsCase}
+use Rattle.flume_cli.specs.Headline.{Call, KeepsSource, PrintsNothing, PrintsSummary, ReadsNothing, RunsStreams, TellsCase, is_meant}
 use Rattle.flume_cli.proofs.Calling.{done_for, source_for}
 use Rattle.headline_laws.specs.Cases.{case_not_made, case_of_the_depot, case_of_the_source, failed_case, gen_words, halted_case, nothing_summed, summary_of_another_seed, summary_without_memory}
 use Rattle.headline_laws.proofs.Asked.{asks_as, done_if, unless_early}
@@ -57,7 +57,7 @@ causes_of_none = record { early = false; words = true; unread = false; refused =
 pub case_not_made_holds : RunsStreams case_not_made
 case_not_made_holds = record {
   causes = causes_of_none;
-  status = record { words = sym (ap (λ q. is_some q) gen_asks); unread = refl; unwritten = refl; memory = λ h. refl; faulty = refl; unclean = refl; status = refl; line = inl refl };
+  status = record { words = sym (ap is_meant gen_asks); unread = refl; unwritten = refl; memory = λ h. refl; faulty = refl; unclean = refl; status = refl; line = inl refl };
   source = source_for case_not_made causes_of_none (Some (Gen 0 1 3)) refl gen_asks (record { kept = refl; refused = refl });
   does = done_for case_not_made causes_of_none (Some (Gen 0 1 3)) refl gen_asks (record {
     kept = refl;

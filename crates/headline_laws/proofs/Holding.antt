@@ -55,7 +55,7 @@ use Rattle.chunk_core.specs.Lists.IsAmong.{here, there}
 some_none : {A : Type 0} {x : A} → Some x ≢ None
 some_none e = cc
 
-none_some : {A : Type 0} {x : A} → None ≢ Some x
+pub none_some : {A : Type 0} {x : A} → None ≢ Some x
 none_some e = cc
 
 no_nil : {A : Type 0} (x : A) (xs : List A) → (x ∷ xs) ≢ []
@@ -68,7 +68,7 @@ abbrev cancels_nothing : What → Bool
 cancels_nothing (Cancel j x) = false
 cancels_nothing w = true
 
-never_leaves : (L : List Event) → each_after (λ P e. cancels_nothing e.what) [] L ≡ true → ClosesBeforeLeaving L
+pub never_leaves : (L : List Event) → each_after (λ P e. cancels_nothing e.what) [] L ≡ true → ClosesBeforeLeaving L
 never_leaves L h P Q e j x is by what = absurd (false≢true (ap cancels_nothing (sym what) ∙ each_event (λ P e. cancels_nothing e.what) L P Q e h is))
 
 -- cat has no outer stream
@@ -120,22 +120,22 @@ row_rules Canceled ok = rules_of (one_row_ledger Canceled ok) refl refl refl ref
 abbrev no_values : Values
 no_values t key = None
 
-reads_only : mode.Read ≢ mode.Write
+pub reads_only : mode.Read ≢ mode.Write
 reads_only e = cc
 
-is_there : ◌≢◌ {A = Option Bool} (Some true) (Some false)
+pub is_there : ◌≢◌ {A = Option Bool} (Some true) (Some false)
 is_there e = cc
 
 -- A file that was opened and closed.
 
-one_apart : (d : DeviceTold) → HaveOwnNumbers (d ∷ [])
+pub one_apart : (d : DeviceTold) → HaveOwnNumbers (d ∷ [])
 one_apart d = distinct_one d.number
 
 abbrev hello_frame : Frame
 hello_frame = record { stream = 0; payload = codes "hello\n" }
 
 -- the one device has the exit of its row
-exits_of : (bytes : List ℕ) (at reads closes : ℕ) (ended ok : Bool) (x y : Exit) → AreAsMany (is_closed_with y) (ended_row y) (closed_device bytes at ended x reads closes ∷ []) (to_read a ∷ []) (one_row_ledger x ok)
+pub exits_of : (bytes : List ℕ) (at reads closes : ℕ) (ended ok : Bool) (x y : Exit) → AreAsMany (is_closed_with y) (ended_row y) (closed_device bytes at ended x reads closes ∷ []) (to_read a ∷ []) (one_row_ledger x ok)
 exits_of bytes at reads closes ended ok Succeeded Succeeded = (refl, (refl, tt))
 exits_of bytes at reads closes ended ok Errored Errored = (refl, (refl, tt))
 exits_of bytes at reads closes ended ok Canceled Canceled = (refl, (refl, tt))

@@ -12,3 +12,6 @@ pub mod Misrotated
 pub mod Rotations
 pub mod Rotating
 pub mod Ledgers
+pub mod Teeing
+pub mod Evaluating
+pub mod Answering

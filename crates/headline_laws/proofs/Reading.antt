@@ -1,5 +1,5 @@
 -- The source of a description is read whole.
-use Rattle.std.proofs.Common.{◌≡◌, ◌≢◌, ◌⊎◌, Option, ℕ, true, false, nat_lt, length, Some, None, is_some, inl, inr, refl, ap, ◌∙◌, subst, ⊎_elim, arith}
+use Rattle.std.proofs.Common.{◌≡◌, ◌≢◌, ◌⊎◌, Option, ℕ, true, false, nat_lt, length, Some, None, inl, inr, refl, ap, ◌∙◌, subst, ⊎_elim, arith}
 use Rattle.std.proofs.lemmas.Bool.{both_ways, cases_Bool, ltb-false}
 use Rattle.device_port.specs.Source.{SourceTold, without_front}
 use Rattle.device_port.specs.Sink.{SinkTold}
@@ -7,7 +7,7 @@ use Rattle.command_words.specs.declared.asked.Asked.TheVariants.{Run}
 use Rattle.flume_cli.specs.Input.{most_input}
 use Rattle.flume_cli.specs.Status.{Causes, status_number, status_of}
 use Rattle.command_words.specs.Words.{command_of}
-use Rattle.flume_cli.specs.Headline.{Call, RunsInput, RunsStreams, StopsBefore}
+use Rattle.flume_cli.specs.Headline.{Call, RunsInput, RunsStreams, StopsBefore, is_meant}
 use Rattle.flume_cli.proofs.Parts.{runs_streams}
 use Rattle.flume_cli.proofs.Telling.{kept}
 use Rattle.headline_laws.specs.Whole.{DescriptionsAreReadWhole, IsReadWhole}
@@ -33,7 +33,7 @@ runs_whole c most h asks no5 no6 =
     (λ (x : StopsBefore c k).
     let calm = h.status.unwritten ∙ kept c.out_old.faults c.out_new.faults (ap (λ (s : SinkTold). s.faults) x.nothing.out) in
     let told = ap status_number h.status.status in
-    absurd (⊎_elim (λ n. no5 (told ∙ n)) (λ n. no6 (told ∙ n)) (stopped_as k e (h.status.words ∙ ap (λ q. is_some q) asks) x.refused calm x.cause)))
+    absurd (⊎_elim (λ n. no5 (told ∙ n)) (λ n. no6 (told ∙ n)) (stopped_as k e (h.status.words ∙ ap is_meant asks) x.refused calm x.cause)))
     (λ (x : RunsInput c k most).
     ⊎_elim
     (λ short. inl (ap (λ (s : SourceTold). s.ended) x.input.told ∙ short))

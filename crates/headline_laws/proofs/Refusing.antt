@@ -52,6 +52,7 @@ differ s t n e = n (ap status_number e)
 
 -- what status 0 tells of its causes
 pub record Good (k : Causes) : Type 0 where
+  pub words : k.words ≡ true
   pub refused : k.refused ≡ None
   pub unwritten : k.unwritten ≡ false
   pub memory : k.memory ≡ false
@@ -62,6 +63,10 @@ pub status_if_taken : (s : Status) → status_number s ≢ 3 → (k : Causes) (r
 status_if_taken s n k (Some refusal) e = absurd (n (ap status_number e))
 status_if_taken s n k None e = (refl, e)
 
+not_not : (b : Bool) → not b ≡ false → b ≡ true
+not_not true h = refl
+not_not false h = absurd (false≢true (sym h))
+
 pub good : (k : Causes) → status.Good ≡ status_of k → Good k
 good k e =
     let w = peel k.early _ _ status.Good (differ _ _ (omega arith)) e in
@@ -71,7 +76,7 @@ good k e =
     let q = peel k.unwritten _ _ status.Good (differ _ _ (omega arith)) d.1 in
     let r = peel k.memory _ _ status.Good (differ _ _ (omega arith)) q.1 in
     let t = peel k.faulty _ _ status.Good (differ _ _ (omega arith)) r.1 in
-    record { refused = d.0; unwritten = q.0; memory = r.0; faulty = t.0 }
+    record { words = not_not k.words p.0; refused = d.0; unwritten = q.0; memory = r.0; faulty = t.0 }
 
 -- the stream ran, where there are ends
 pub ran_with_ends : (c : Call) (k : Causes) (t : TellsWork (cat_work a) c k) → c.ends ≢ [] → Ran (cat_work a) (run_of_call c t.frames t.cut t.rest t.wanted)

@@ -1,5 +1,5 @@
 -- Calls of rotate: which the contract takes, and that it refuses each that has one thing wrong.
-use Rattle.std.proofs.Common.{◌≡◌, ◌≢◌, ℕ, true, false, List, [], ◌∷◌, ◌++◌, length, Some, None, is_some, inl, refl, sym, ap, ◌∙◌, arith}
+use Rattle.std.proofs.Common.{◌≡◌, ◌≢◌, ℕ, true, false, List, [], ◌∷◌, ◌++◌, length, Some, None, inl, refl, sym, ap, ◌∙◌, arith}
 use Rattle.std.specs.Prelude.{codes}
 use Rattle.std.specs.Fmt.{digits}
 use Rattle.std.proofs.lemmas.Bool.{false≢true}
@@ -8,7 +8,7 @@ use Rattle.command_words.specs.Words.{command_of}
 use Rattle.command_words.specs.declared.asked.Asked.TheVariants.{Rotate}
 use Rattle.run_rules.specs.Texts.{tail_text}
 use Rattle.flume_cli.specs.Status.{Causes}
-use Rattle.flume_cli.specs.Headline.{Call, HasStatus, Headline, ReadsNothing, RunsStreams, TellsRotation}
+use Rattle.flume_cli.specs.Headline.{Call, HasStatus, Headline, ReadsNothing, RunsStreams, TellsRotation, is_meant}
 use Rattle.flume_cli.proofs.Calling.{done_for, source_for}
 use Rattle.headline_laws.specs.Calls.{a}
 use Rattle.headline_laws.specs.Rotated.{closed_at_the_end, cut_piece, done_as_errored, halted_rotation, p, printed_too, too_many_of_six, two_pieces, two_text, unfailed_write, unopened_piece}
@@ -28,8 +28,8 @@ two_asks : command_of (words_of (codes "2")) ≡ Some (Rotate 2 a p)
 unfolding clap_on_literals
 two_asks = refl
 
-four_means : true ≡ is_some (command_of (words_of (codes "4")))
-four_means = sym (ap (λ q. is_some q) four_asks)
+four_means : true ≡ is_meant (command_of (words_of (codes "4")))
+four_means = sym (ap is_meant four_asks)
 
 -- what was done, where there are ends
 rotation_of : (n : ℕ) (text : List ℕ) → command_of (words_of text) ≡ Some (Rotate n a p) → (c : Call) (h : RunsStreams c) → c.words ≡ words_of text → c.ends ≢ [] → TellsRotation a p n c h.causes

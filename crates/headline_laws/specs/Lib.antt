@@ -8,3 +8,5 @@ pub mod Cases
 pub mod Unruly
 pub mod Audited
 pub mod Rotated
+pub mod Branched
+pub mod Evaluated

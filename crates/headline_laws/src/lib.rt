@@ -2,6 +2,7 @@
 //! that it refuses each that has one thing wrong.
 #![tactic(auto)]
 
+pub mod hands;
 pub mod refused;
 pub mod sources;
 pub mod worked;

@@ -3,8 +3,10 @@ ghost use Rattle.flume_cli.specs.Headline.{Headline};
 ghost use Rattle.headline_laws.specs.Refused.{end_never_met, failed_read_forgotten, invented_output, cut_output, row_of_no_plan, event_of_no_stream, lease_of_no_stream, call_with_row_without_a_final, call_with_final_before_close, kept_device, closed_twice, left_open, failure_not_told, halted_without_a_cause, fault_without_a_fault, failed_close_not_told, done_told_as_errored, fault_told_as_succeeded, halt_told_as_succeeded, final_unlike_its_close, device_told_otherwise, silent_call};
 ghost use Rattle.std.specs.Prelude.{ℕ, ◌<◌, List, length};
 ghost use Rattle.headline_laws.specs.Audited.{audit_of_nothing, audit_of_the_depot, clean_called_unended, ledger_not_reported, other_rule_named, refused_though_spelled, unended_called_clean, unended_with_status_0, unread_though_read};
+ghost use Rattle.headline_laws.specs.Branched.{branch_halted_for_nothing, branch_without_end, branched_and_open, branched_as_errored, unmeant_branch};
 ghost use Rattle.headline_laws.specs.Cases.{case_of_the_depot, case_of_the_source, failed_case, halted_case, nothing_summed, summary_of_another_seed, summary_without_memory};
 ghost use Rattle.headline_laws.specs.Described.{drained, end_not_read, made_though_refused, never_read, next_stream_refused, read_by_cat, read_on, refusal_printed, refused_though_good, stream_left_out, unread_but_refused, unread_without_a_fault};
+ghost use Rattle.headline_laws.specs.Evaluated.{evaluated_and_open, evaluation_halted, group_lost, groups_joined, groups_swapped};
 ghost use Rattle.headline_laws.specs.Rotated.{closed_at_the_end, cut_piece, done_as_errored, halted_rotation, printed_too, too_many_of_six, unfailed_write};
 ghost use Rattle.headline_laws.specs.Surplus.{halted_by_the_tail, halted_for_memory, idle_devices, invented_scopes, larger_frame, made_without_words, memory_at_the_end, opened_again, writes_on};
 ghost use Rattle.headline_laws.specs.Unruly.{emptied_unopened, opened_though_missing, opened_twice, out_of_turn};
@@ -123,4 +125,24 @@ pub fn wrong_rotations()
     ensures is_unfailed_write { ¬ (Headline unfailed_write) }
     ensures is_done_as_errored { ¬ (Headline done_as_errored) }
     ensures is_printed_too { ¬ (Headline printed_too) }
+{}
+
+/// Branches that were halted for nothing, lost their end or mean no chain, and a reader whose device
+/// came back open or was told otherwise.
+pub fn wrong_branches()
+    ensures is_open { ¬ (Headline branched_and_open) }
+    ensures is_without_end { ¬ (Headline branch_without_end) }
+    ensures is_halted { ¬ (Headline branch_halted_for_nothing) }
+    ensures is_errored { ¬ (Headline branched_as_errored) }
+    ensures is_unmeant { ¬ (Headline unmeant_branch) }
+{}
+
+/// Evaluations whose groups came in another order, got lost or were cut otherwise, that were halted
+/// for nothing, or whose device came back open.
+pub fn wrong_evaluations()
+    ensures is_swapped { ¬ (Headline groups_swapped) }
+    ensures is_lost { ¬ (Headline group_lost) }
+    ensures is_joined { ¬ (Headline groups_joined) }
+    ensures is_halted { ¬ (Headline evaluation_halted) }
+    ensures is_open { ¬ (Headline evaluated_and_open) }
 {}

@@ -1,8 +1,10 @@
 //! Calls that went as they should.
 ghost use Rattle.flume_cli.specs.Headline.{Headline};
 ghost use Rattle.headline_laws.specs.Audited.{clean_ledger, unended_ledger, unread_ledger, unwritten_verdict};
+ghost use Rattle.headline_laws.specs.Branched.{branches_turned, two_branches};
 ghost use Rattle.headline_laws.specs.Cases.{case_not_made};
 ghost use Rattle.headline_laws.specs.Described.{empty_description, no_memory, refused_description, unread_source};
+ghost use Rattle.headline_laws.specs.Evaluated.{two_groups};
 ghost use Rattle.headline_laws.specs.Rotated.{two_pieces, unopened_piece};
 ghost use Rattle.headline_laws.specs.Worked.{whole_file, empty_file, missing_file, read_fault, failed_close, failed_write, words_not_read};
 
@@ -54,4 +56,15 @@ pub fn audits()
 pub fn rotations()
     ensures is_two_pieces { Headline two_pieces }
     ensures is_unopened_piece { Headline unopened_piece }
+{}
+
+/// A file that was read once for two branches, whose frames stand in either order.
+pub fn branches()
+    ensures is_two_branches { Headline two_branches }
+    ensures is_branches_turned { Headline branches_turned }
+{}
+
+/// A file whose lines were evaluated one by one.
+pub fn evaluations()
+    ensures { Headline two_groups }
 {}
