@@ -16,6 +16,7 @@ from described import plan_of
 from judge import Writing
 from program import words_in
 from streams import Reading
+from words import command_of
 
 LONG = b"x" * 10_000
 TABLE = '[[table]]\nname = "t"\npath = "t.csv"\n'
@@ -27,7 +28,9 @@ CALLS = {
     "a text for a fault": '[[stream]]\npath = "l"\nsteps = ["lines"]\non_fault = "lost"\n',
     "two files": 'max_open = 1\n[[stream]]\npath = "p"\nsteps = ["lines"]\nwith = "q"\njoin = "zip"\n',
     "three streams": 'max_open = 2\nchunk = 3000\n[[stream]]\npath = "long"\nto = "to1"\n[[stream]]\npath = "a"\n[[stream]]\npath = "p"\nto = "to2"\nsteps = ["lines", "number"]\n',
-    "cat": None,
+    "cat": ["cat", "a"],
+    "branches of a file": ["tee", "--chunk", "4", "p", "lines", "utf8|lines|count"],
+    "lines in groups": ["eval", "--jobs", "2", "--group", "1", "p", "lines|number"],
 }
 ERRORS = {"openat": ["EACCES", "EMFILE"], "read": ["EIO", "EINTR"], "write": ["ENOSPC", "EINTR"], "close": ["EIO"], "fdatasync": ["EIO", "EINVAL"]}
 WITH_PRINTED = {"printed": ["write"], "described": ["read"]}
@@ -60,7 +63,8 @@ def tell(told, case, path, call, nth, error):
     """Tells the judge what fails. An interruption, and what is no failure of a close, changes nothing."""
     if error == "EINTR" or call == "close" or error == "EINVAL":
         return
-    chunk = plan_of(case.source).numbers["chunk"] if case.words == [b"run"] else 4_096
+    command = command_of(case.words)
+    chunk = {"run": lambda: plan_of(case.source).numbers["chunk"], "tee": lambda: command[1]}.get(command[0], lambda: 4_096)()
     if path == "printed":
         told.out_limit, told.out_told = 0, False
     elif path == "described":
@@ -96,8 +100,8 @@ def wrongs(told, seen, call, path, log):
 def each(place, name, case):
     """Fails each call on each path in turn. Gives how many were failed, and how many runs were wrong."""
     failed = wrong = 0
-    tables = re.findall(r'"(\S+)"', " ".join(re.findall("path = .*|to = .*|with = .*", case.source.decode()))) or ["a"]
-    for path in [*dict.fromkeys(tables), "printed", *(["described"] if case.source else [])]:
+    paths = re.findall(r'"(\S+)"', " ".join(re.findall("path = .*|to = .*|with = .*", case.source.decode()))) or list(case.files)
+    for path in [*dict.fromkeys(paths), "printed", *(["described"] if case.source else [])]:
         for call in WITH_PRINTED.get(path, ERRORS):
             for error in ERRORS[call]:
                 for nth in range(1, 100):
@@ -120,9 +124,10 @@ def main():
         program = words_in(folder)
         (folder / "case").mkdir()
         place = Traced(program, folder / "case")
-        for title, text in CALLS.items():
-            files = {path: it for path, it in FILES.items() if path == "a" or text and f'"{path}"' in text}
-            case = Case([b"run"] if text else [b"cat", b"a"], (text or "").encode(), files)
+        for title, made in CALLS.items():
+            words, text = (["run"], made) if isinstance(made, str) else (made, "")
+            files = {path: it for path, it in FILES.items() if path in words or f'"{path}"' in text}
+            case = Case([it.encode() for it in words], text.encode(), files)
             told, seen, _ = place.traced(case, None, None, 0, None)
             for it in judge.wrongs(told, seen):
                 print(f"{title}: {it}")

@@ -372,6 +372,38 @@ def cat_of(dice):
     return outside_of(dice, made.case)
 
 
+def chain_of(dice):
+    """The word of some steps, now and then one that means none."""
+    if dice.chance(60):
+        return dice.choice(["frob", "lookup t 0", "|", "lines|", "lines|lines", "count|hex", "take", "intersperse a|intersperse b", "field 0", "|".join(["take 1"] * 17)])
+    return "|".join(steps_of(dice, BYTES, 4, [], set())[0])
+
+
+def trip_of_one(dice, case, path):
+    """An open or a read of the one file is to fail."""
+    if path in case.files and dice.chance(4):
+        act = dice.choice(["open", "read", "read", "read"])
+        case.trip = (path, act, 1 if act == "open" else 1 + dice.few(4))
+
+
+def branched_of(dice, name):
+    """A call of `tee` or of `eval`."""
+    made = Described(dice)
+    path = made.source(dice.choice([None, None, "text", "records"]), False).replace("\0", "_")
+    largest = max(map(len, made.case.files.values()), default=0)
+    if name == "tee":
+        options = option_of(dice, "chunk", [4_096, 65_536, "+4096"] if largest > 2_000 else [1, 2, 3, 7, 100, 4_096, 65_537, 0, "x"])
+        chains = [chain_of(dice) for _ in range(1 + dice.few(dice.choice([3, 3, 17])))]
+    else:
+        options = option_of(dice, "jobs", [1, 1, 2, 3, 7, 64, 65, "+2"]) + option_of(dice, "group", [100, 256] if largest > 2_000 else [1, 2, 3, 7, 255, 256, 65_536, 65_537, 0])
+        chains = [chain_of(dice)]
+    words = [[name, *options, path, *chains], [name, path, *options, *chains], [name, path, *chains, *options], [name, *options, "--", path, *chains], [name, path], [name, *options, path, *chains, "-x"]]
+    chosen = dice.choice(words[:4] * 8 + words[4:])
+    made.case.words = [it.encode() for it in chosen]
+    trip_of_one(dice, made.case, path)
+    return outside_of(dice, made.case)
+
+
 def gen_of(dice):
     numbers = [dice.choice([0, 7, 999, 2**32 - 1, 2**32, dice.randrange(2**32)]), dice.choice([1, 2, 3, 8, 64, 65, 0]), dice.choice([0, 1, 3, 1_024, 1_025, dice.few(3_000), 100_001])]
     if numbers[1] > 8 or numbers[2] > 1_025 and numbers[2] < 100_001:
@@ -450,7 +482,9 @@ def audit_of(dice):
 def case_of(seed, number):
     """The case of this number."""
     dice = Dice(f"{seed}/{number}")
-    sort = dice.randrange(100)
+    sort = dice.randrange(130)
+    if sort >= 100:
+        return branched_of(dice, "tee" if sort < 115 else "eval")
     if sort < 74:
         return run_of(dice, words_of_run(dice))
     if sort < 84:

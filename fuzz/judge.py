@@ -3,6 +3,7 @@ and the tables of README.md. It tells what is wrong, and nothing of how the prog
 import dataclasses
 
 import ledgers, printed
+from branched import Tee, answers
 from described import Refused, plan_of
 from streams import Reading, Given, given_by
 from steps import BYTES, dictionary_of, none_of
@@ -65,6 +66,10 @@ def wrongs(call, seen):
         return told + untouched + of_cat(call, seen, command[1], command[2])
     if command[0] == "gen":
         return told + untouched + of_text(call, seen, 0, summary(*command[1:]))
+    if command[0] == "tee":
+        return told + untouched + of_tee(call, seen, *command[1:])
+    if command[0] == "eval":
+        return told + untouched + of_eval(call, seen, *command[2:])
     return told + untouched + of_audit(call, seen)
 
 
@@ -135,6 +140,20 @@ def of_cat(call, seen, chunk, path):
     events = [f"0 close 0 {exit}"] if reading.fault == "open" else ["0 acquire 0 0", f"0 close 0 {exit}", f"0 final 0 {exit} ok"]
     wanted += "\n".join([f"end 0 {end}", f"ledger {len(events)}", *events, ""]).encode()
     return of_text(call, seen, 1 if reading.fault else 0, wanted)
+
+
+def of_tee(call, seen, chunk, path, chains):
+    """What is wrong with `tee`."""
+    tee = Tee(call, seen, chunk, path, chains)
+    told = standard_error(call, seen)
+    return told + (tee.wrongs_of_front() if seen.status == 4 or not call.out_told else tee.wrongs_of_whole())
+
+
+def of_eval(call, seen, group, path, steps):
+    """What is wrong with `eval`, whose number of hands changes nothing that is printed."""
+    texts, status = answers(call.readings.get(path, Reading(fault="open")), group, steps)
+    told = [of_text(call, seen, status, it) for it in texts]
+    return [] if [] in told else told[0]
 
 
 def of_run(call, seen, max_open):

@@ -1,6 +1,7 @@
 #!/usr/bin/env bash
 # Refuses each request for memory in turn, in the calls of a folder: a lookup through a lease, a file that is
-# written, a text in place of a fault, five streams one after the other, a case of three numbers, an audit.
+# written, a text in place of a fault, five streams one after the other, a case of three numbers, an audit, a file
+# that is read once, and one whose lines are taken in groups.
 # The program is built once for all, unproved, with a checker of memory, and called once for each request
 # (rt try --fail-alloc 1..), so a run takes a quarter of an hour and more. A run may end with its own status
 # and output, or with 5, or where the output found no memory with 4; `rt` tells of each that faults, hangs,
@@ -35,6 +36,8 @@ call caught run '[[stream]]\npath = "a"\nsteps = ["lines"]\nwith = "."\njoin = "
 call five run 'max_open = 1\n[[stream]]\npath = "a"\n[[stream]]\npath = "/dev/null"\n[[stream]]\npath = "d"\n[[stream]]\npath = "a.csv"\n[[stream]]\npath = "t.csv"\n'
 call generated 'gen 7 2 3' ''
 call audited audit 'ledger 2\nouter lease 0 0\nouter cancel 0 canceled\n'
+call teed 'tee --chunk 3 a lines|count' ''
+call evaluated 'eval --jobs 2 --group 1 t.csv lines|number' ''
 if (($# > 0)); then
   for file in "$work"/cases/*; do
     name=$(basename "$file" .args)

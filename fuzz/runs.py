@@ -1,6 +1,6 @@
 #!/usr/bin/env python3
 """Random calls of the program, judged by a judge that is written apart from it. A call is made of a seed and a number (cases.py): a
-description of up to 40 streams, a file, a case of three numbers, a ledger; files that are there or not, folders, named pipes, a full
+description of up to 40 streams, a file, branches of a file, its lines in groups, a case of three numbers, a ledger; files that are there or not, folders, named pipes, a full
 disk, outputs that fail. What is printed, the status and the files that are left are compared with what the documents say
 (judge.py), and each ledger that is printed is audited by the program too. Prints the seed, and each case that is wrong. As root it
 goes on as nobody, so that there are files that it may not read.
@@ -34,7 +34,12 @@ def settings():
 
 def meets(case, call):
     """Tells the judge of the call that fails, once the description is read."""
-    if case.trip and isinstance(case.source, bytes):
+    command = command_of(case.words)
+    if not case.trip or command is None:
+        return
+    if command[0] in ("tee", "eval"):
+        outside.trip(case, call, command[1] if command[0] == "tee" else 4_096)
+    elif isinstance(case.source, bytes):
         try:
             chunk = plan_of(case.source).numbers["chunk"]
         except Refused:
@@ -51,7 +56,7 @@ def audit_of(program, out):
 
 def is_run(call, seen):
     command = command_of(call.words)
-    return command is not None and command[0] in ("cat", "run") and seen.status in (0, 1, 7) and call.out_told and call.out_limit is None
+    return command is not None and command[0] in ("cat", "run", "tee", "eval") and seen.status in (0, 1, 7) and call.out_told and call.out_limit is None
 
 
 def wrongs_of(place, number, case, lie):

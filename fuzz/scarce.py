@@ -11,10 +11,12 @@ import argparse, os, pathlib, random, resource, shlex, sys, tempfile, time
 
 sys.path.insert(0, str(pathlib.Path(__file__).resolve().parent))
 import judge, outside, printed
+from branched import Tee, answers
 from cases import case_of
 from described import Refused, plan_of
 from judge import MEMORY, Run, Seen
 from program import become_nobody, words_in
+from streams import Reading
 from words import command_of
 
 
@@ -50,6 +52,15 @@ class Short(Run):
         return told
 
 
+def wrongs_of_branched_front(call, seen, command):
+    """What is wrong with what `tee` or `eval` printed before it found no memory, or no output."""
+    if command[0] == "tee":
+        return Tee(call, seen, *command[1:]).wrong_front()
+    path, group, steps = command[3], command[2], command[4]
+    texts, _ = answers(call.readings.get(path, Reading(fault="open")), group, steps)
+    return [] if any(it.startswith(seen.out) for it in texts) else [f"no front of an answer: {seen.out[:80]!r}"]
+
+
 def wrongs_of_short(call, seen):
     """What is wrong with a call for which something was scarce."""
     command = command_of(call.words)
@@ -57,6 +68,8 @@ def wrongs_of_short(call, seen):
         return judge.wrongs(call, seen) if seen.status != 5 else []
     if seen.status not in (0, 1, 4, 5, 7):
         return [f"status {seen.status}, {seen.err[:300]!r}"]
+    if command[0] in ("tee", "eval") and seen.status in (4, 5):
+        return wrongs_of_branched_front(call, seen, command)
     if command[0] != "run":
         return judge.wrongs(call, seen) if seen.status == 0 else []
     try:
