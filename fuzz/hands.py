@@ -33,7 +33,7 @@ def payloads(out):
     while not out.startswith(b"end ", at):
         line = out.index(b"\n", at)
         stream, size = map(int, out[at:line].split())
-        found[stream] = found.get(stream, []) + [out[line + 1 : line + 1 + size]]
+        found.setdefault(stream, []).append(out[line + 1 : line + 1 + size])
         at = line + 2 + size
     return {stream: b"".join(parts) for stream, parts in found.items()}, out[at:]
 
