@@ -2,8 +2,8 @@
 """Refuses each request for memory of the proved program in turn, once for each run of a call: the first, the second and so on, until
 one has fewer. A library of a few lines of C, which gcc makes and the loader puts in front of the system's, counts the requests, refuses
 one, and notes which files were opened and closed. The call may end as ever, or with status 5, or with 4 where its output was to be
-written from that memory; then each stream printed a front of what it gives, as fuzz/scarce.py judges it, and each file that was opened
-was closed once. Prints how many requests were refused in each call, and what is wrong.
+written from that memory; then each stream of `run`, `tee` and `eval` printed a front of what it gives, as fuzz/scarce.py judges it,
+and each file that was opened was closed once. Prints how many requests were refused in each call, and what is wrong.
 
 usage: fuzz/refused.py [NAME ..]
 
