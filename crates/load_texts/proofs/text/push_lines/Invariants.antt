@@ -1,0 +1,6 @@
+use Rattle.std.proofs.Common.{◌≡◌, ◌++◌, ◌∷◌, [], take}
+use Rattle.std.specs.List.{flat_map}
+use Rattle.load_texts.proofs.text.push_lines.Given as goal
+
+abbrev pub invariant-loop-line : goal.invariant-loop-line
+invariant-loop-line l = l.text.items ≡ l.fn.text.items ++ flat_map (λ line. line ++ 10 ∷ []) (take l.line-index l.lines)
