@@ -43,3 +43,21 @@ pub fn begin<'s, E, W: Work + Send + Sync + 's, R: Wait + Sync + 's, G: Gate + S
         }
     }
 }
+
+/// Begins a thread for a hand, but for one that is alone: nothing could go on beside it but the reading, and it would be
+/// waited for after each load, so it makes its turns here.
+#[tactic(auto, using(crate::proofs::Backs::returns_same))]
+pub(crate) fn hire<'s, E, W: Work + Send + Sync + 's, R: Wait + Sync + 's, G: Gate + Sync + 's>(
+    scope: &Scope<'s, E>,
+    place: &'s Place<'s, R, G, W>,
+    hand: Hand,
+    alone: bool,
+) -> Hired<W>
+    requires at { IsHandAt place.now.lanes.now hand }
+    ensures { IsHired W.result_of place.now.work.now hand result }
+{
+    if alone {
+        return Hired::Here(hand);
+    }
+    begin(scope, place, hand)
+}

@@ -8,7 +8,7 @@ ghost use Rattle.par_eval.specs.Messages.{AreResults};
 ghost use Rattle.par_eval.specs.declared.work.Worked.{Worked};
 ghost use Rattle.eval_hands.specs.Crews.{AreAllAt, AreHired, AreUncollected, HasDealt, IsCrew};
 
-use crate::begins::begin;
+use crate::begins::hire;
 use crate::hired::Hired;
 use crate::place::Place;
 use channel_bounded::{Body, Full, Msg};
@@ -26,7 +26,7 @@ pub struct Crew<W: Work> {
     pub(crate) hands: Vec<Hired<W>>,
 }
 
-/// Begins a thread for each hand.
+/// Begins a thread for each hand, but for one that is alone.
 fn begin_all<'s, E, W: Work + Send + Sync + 's, R: Wait + Sync + 's, G: Gate + Sync + 's>(
     scope: &Scope<'s, E>,
     place: &'s Place<'s, R, G, W>,
@@ -38,9 +38,10 @@ fn begin_all<'s, E, W: Work + Send + Sync + 's, R: Wait + Sync + 's, G: Gate + S
     requires capacity { length hands ≤ vec_capacity room }
     ensures { AreHired W.result_of place.now.work.now place.now.lanes.now result.items }
 {
+    let alone = hands.len() == 1;
     let mut hired = room;
     for hand in hands.into_vec() {
-        hired.push_reserved(begin(scope, place, hand));
+        hired.push_reserved(hire(scope, place, hand, alone));
     }
     hired
 }
@@ -122,7 +123,7 @@ fn collect_all<R: Threads + Wait, G: Gate, W: Work>(
 }
 
 impl<W: Work> Crew<W> {
-    /// A crew of new hands, each of which has a thread where one can be started. The room is for the hands.
+    /// A crew of new hands, each of which has a thread where there are several and one can be started. The room is for the hands.
     pub fn begin<'s, E, R: Wait + Sync + 's, G: Gate + Sync + 's>(
         scope: &Scope<'s, E>,
         place: &'s Place<'s, R, G, W>,

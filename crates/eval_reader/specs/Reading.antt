@@ -1,6 +1,6 @@
 -- What reading the lines of a file in groups does.
-use Rattle.std.specs.Prelude.{◌≡◌, ℕ, ◌+◌, Bool, true, false, List, [], ◌∷◌, ◌++◌, length, map, Option, Some, None, IfSome, Result, Ok, Err}
-use Rattle.chunk_core.specs.Elements.{Element, elements}
+use Rattle.std.specs.Prelude.{◌≡◌, ◌≤◌, ℕ, ◌+◌, Bool, true, false, List, [], ◌∷◌, ◌++◌, length, map, Option, Some, None, IfSome, Result, Ok, Err}
+use Rattle.chunk_core.specs.Elements.{Byte, Element, elements, rendering_of}
 use Rattle.chunk_core.specs.Elements.Element.{Line}
 use Rattle.chunk_core.specs.declared.load.Load.{Load}
 use Rattle.chunk_core.specs.Elements.LoadKind.{Lines}
@@ -50,16 +50,21 @@ work_until (Some h) n = 0
 abbrev pub work_of : {V F : Type 0} → (F → ℕ) → Stepping V F → ℕ
 work_of due b = work_until b.how (work_left due b.rest)
 
--- what callers see of a reader: its stepper, and the lines that wait for their group, and how many it counts
+-- the text of a group, as bytes
+abbrev pub text_of : List Element → List Element
+text_of group = map Byte (rendering_of group)
+
+-- what callers see of a reader: its stepper, the text of the lines that were gathered for the next group and how many they are, and the lines that wait behind them
 pub record SeenReader (V F : Type 0) : Type 0 where
   pub stepper : Stepping V F
-  pub waiting : List (List ℕ)
+  pub text : List ℕ
   pub count : ℕ
+  pub waiting : List (List ℕ)
 
 module _ {S V F D T : Type 0} (view : S → View V) where
   -- what callers see of it, where the tables have these values
   abbrev pub seen_reader : (T → Values) → Reader S V F V D T → SeenReader V F
-  seen_reader values r = record { stepper = stepping view values r.stepper; waiting = r.lines; count = r.count }
+  seen_reader values r = record { stepper = stepping view values r.stepper; text = r.gathering.text.items; count = r.gathering.count; waiting = r.gathering.lines }
 
   -- its stepper fits the desk
   abbrev pub ReaderWorks : (V → DeviceTold) → (S → D → Type 0) → Reader S V F V D T → D → Type 0
@@ -93,13 +98,16 @@ module _ {V F : Type 0} (P : Values → StateMeaning F) (told : V → DeviceTold
     pub since : Since told (FinishesDevice told) a.site b.site
     pub at : ReadsTo a b given b.how
 
-  -- it wasn't halted, and the elements that were given are in these groups of n, and those that wait
+  -- it wasn't halted, and the elements that were given are in these groups of n, and those that were gathered for the next one, and those that wait
   pub record IsGrouping (n : ℕ) (a : Stepping V F) (r : SeenReader V F) (groups : List (List Element)) : Type 0 where
     pub given : List Element
+    pub gathered : List (List ℕ)
     pub reading : IsReading a r.stepper given
     pub unstopped : IfSome r.stepper.how (λ h. is_over h ≡ true)
-    pub counted : r.count ≡ length r.waiting
-    pub grouped : (more : List Element) → (ends_itself r.stepper.how ≡ true → more ≡ []) → groups_of n (given ++ more) ≡ groups ++ groups_of n (map Line r.waiting ++ more)
+    pub counted : r.count ≡ length gathered
+    pub small : length gathered ≤ n
+    pub written : r.text ≡ rendering_of (map Line gathered)
+    pub grouped : (more : List Element) → (ends_itself r.stepper.how ≡ true → more ≡ []) → groups_of n (given ++ more) ≡ groups ++ groups_of n (map Line (gathered ++ r.waiting) ++ more)
 
   -- it has ended, and the elements that were given, whatever would have come behind them, begin with these groups of n
   pub record HasStopped (n : ℕ) (a : Stepping V F) (r : SeenReader V F) (groups : List (List Element)) : Type 0 where
@@ -118,8 +126,8 @@ module _ {V F : Type 0} (P : Values → StateMeaning F) (told : V → DeviceTold
     pub reading : IsReading a r.stepper given
     pub whole : groups_of n given ≡ groups
 
-  -- a further group was given, or none is left, or memory was wanting and it has ended
+  -- the text of a further group was given, or none is left, or memory was wanting and it has ended
   abbrev pub GivesGroup : {E : Type 0} → ℕ → Stepping V F → SeenReader V F → List (List Element) → Result (Option Load) E → Type 0
-  GivesGroup n a r groups (Ok (Some load)) = IsGrouping n a r (groups ++ elements load ∷ [])
+  GivesGroup n a r groups (Ok (Some load)) = (group : List Element) × (elements load ≡ text_of group) × IsGrouping n a r (groups ++ group ∷ [])
   GivesGroup n a r groups (Ok None) = IsWhole n a r groups
   GivesGroup n a r groups (Err _) = HasStopped n a r groups

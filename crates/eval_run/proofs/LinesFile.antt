@@ -1,6 +1,6 @@
 -- The stream of a file's lines: its node, its device, and how its reading ends.
-use Rattle.std.proofs.Common.{◌≡◌, ℕ, List, [], ◌∷◌, inl, map, length, Option, Some, None, refl, sym, ap, ◌∙◌, subst, ⊎_elim, arith}
-use Rattle.chunk_core.specs.Elements.{Element, elements}
+use Rattle.std.proofs.Common.{◌≡◌, ℕ, List, [], ◌∷◌, inl, length, Option, Some, None, refl, sym, ap, ◌∙◌, subst, ⊎_elim, arith}
+use Rattle.chunk_core.specs.Elements.{Element}
 use Rattle.chunk_core.specs.Elements.LoadKind.{Bytes, Lines}
 use Rattle.chunk_core.specs.Tables.{Values}
 use Rattle.chunk_core.specs.declared.code.How.{How}
@@ -98,12 +98,12 @@ module _ {V F : Type 0} (P : Values → StateMeaning F) (told : V → DeviceTold
     pub evaluated_so : (f : Meaning) (so sn : SinkTold) (s : Option Stop) (node : Node) (devices : List V) (r : Ran V) → HasPumped P told f n a b so sn s → b.how ≡ Some r.how
         → ((given : List Element) (h : How) → Since told (FinishesDevice told) a.site b.site → b.how ≡ Some h → HasEnded P told a b given h → RunsLone told (Inner 0) node devices given r) → Evaluated told f n node devices so sn r s
     evaluated_so f so sn s node devices r p how ran =
-        let e = ends_reading (map elements p.ds) s p.read in
+        let e = ends_reading p.gs s p.read in
         let same : e.how ≡ r.how = same_how e.how r.how (sym e.ended ∙ how) in
         record {
           given = e.given;
           runs = ran e.given e.how e.since e.ended e.at;
-          evaluated = record { ds = p.ds; ws = p.ws; groups = subst (λ h. AreGroups n e.given h (map elements p.ds) s) same e.groups; printed = p.printed; results = p.results; count = p.count };
+          evaluated = record { ds = p.ds; gs = p.gs; ws = p.ws; texts = p.texts; groups = subst (λ h. AreGroups n e.given h p.gs s) same e.groups; printed = p.printed; results = p.results; count = p.count };
         }
 
 -- A stream that couldn't be begun.
@@ -118,7 +118,9 @@ unbegun_so told f n node devices so sn r runs quiet = record {
   runs = runs;
   evaluated = record {
     ds = [];
+    gs = [];
     ws = [];
+    texts = refl;
     groups = λ more over. (groups_of n more, refl);
     printed = record { front = []; rest = []; whole = refl; done = tt; stops = quiet ∙ sym (with_bytes_none so) };
     results = no_results f;

@@ -8,7 +8,7 @@ use Rattle.device_port.specs.Device.{DeviceTold}
 use Rattle.device_port.specs.Sink.{SinkTold}
 use Rattle.eval_hands.specs.Crews.{IsCrew}
 use Rattle.eval_hands.specs.declared.crew.Crew.{Crew}
-use Rattle.eval_reader.specs.Reading.{HasStopped, IsGrouping, IsWhole, SeenReader}
+use Rattle.eval_reader.specs.Reading.{HasStopped, IsGrouping, IsWhole, SeenReader, text_of}
 use Rattle.eval_rules.specs.Answers.{groups_of}
 use Rattle.par_eval.specs.Lanes.{LaneHubs}
 use Rattle.par_eval.specs.Messages.{AreResults, Meaning}
@@ -17,7 +17,7 @@ use Rattle.pull_nodes.specs.Plain.{IsFront}
 use Rattle.pull_stepper.specs.Stepping.{Stepping}
 use Rattle.pull_turns.specs.Piping.{StateMeaning}
 use Rattle.eval_run.specs.Printing.{Printed, PrintsResult}
-use Rattle.eval_run.specs.Pumping.{DealsAll, HasPumped, HasRead, IsPumping, read_by}
+use Rattle.eval_run.specs.Pumping.{AreTexts, DealsAll, HasPumped, HasRead, IsPumping, read_by}
 use Rattle.eval_run.specs.declared.stop.Stop.{Stop}
 use Rattle.eval_run.specs.declared.stop.Stop.TheVariants as stop
 use Rattle.eval_run.proofs.Printed.{printed_more, printed_next, printed_none, printed_wanting}
@@ -88,51 +88,57 @@ module _ {V F : Type 0} (P : Values → StateMeaning F) (told : V → DeviceTold
       → (rest : (more : List Worked) × IsPumping result_of work hubs d first now deals.ds more z × (length more ≡ length deals.ds)) → AreResults (result_of work) deals.ds rest.0 → HasPumped P told (result_of work) n a b first now z
   pumped_all result_of work hubs c d first mid now s z deals kept rest results = record {
     ds = deals.ds;
+    gs = deals.gs;
     ws = rest.0;
+    texts = deals.texts;
     printed = rest.1.printed;
-    read = read_so (map elements deals.ds) s z kept deals.read;
+    read = read_so deals.gs s z kept deals.read;
     results = results;
     count = rest.2;
   }
 
--- the groups with one more
-pub groups_more : (ds : List Load) (load : Load) → map elements (ds ++ load ∷ []) ≡ map elements ds ++ elements load ∷ []
-groups_more ds load = map-append elements ds (load ∷ [])
+-- the texts with one more
+pub texts_more : (ds : List Load) (gs : List (List Element)) (load : Load) (g : List Element) → AreTexts ds gs → elements load ≡ text_of g → AreTexts (ds ++ load ∷ []) (gs ++ g ∷ [])
+texts_more ds gs load g are is = map-append elements ds (load ∷ []) ∙ (ap (λ xs. xs ++ elements load ∷ []) are ∙ (ap (λ x. map text_of gs ++ x ∷ []) is ∙ sym (map-append text_of gs (g ∷ []))))
 
-module _ {W V F : Type 0} (P : Values → StateMeaning F) (told : V → DeviceTold) (result_of : W → Meaning) (work : W) (hubs : List LaneHubs) (n : ℕ) (a : Stepping V F) (first now : SinkTold) (ds : List Load) where
+module _ {W V F : Type 0} (P : Values → StateMeaning F) (told : V → DeviceTold) (result_of : W → Meaning) (work : W) (hubs : List LaneHubs) (n : ℕ) (a : Stepping V F) (first now : SinkTold) (ds : List Load) (gs : List (List Element)) (are : AreTexts ds gs) where
   -- way was made for a load
   abbrev pub HasWay : Crew W → ℕ → Option Stop → Type 0
   HasWay c jobs s = (more : List Worked) × IsPumping result_of work hubs c first now ds more s × (length ds < length more + jobs)
 
   -- no group is left
-  pub dealt_whole : (b : Stepping V F) (c : Crew W) (r : SeenReader V F) → r.stepper ≡ b → (ws : List Worked) → IsPumping result_of work hubs c first now ds ws None → IsWhole P told n a r (map elements ds) → DealsAll P told result_of work hubs n a b c first now None
-  dealt_whole b c r is ws p h = record { ds = ds; ws = ws; pumping = p; read = whole_read P told n a b r is (map elements ds) h }
+  pub dealt_whole : (b : Stepping V F) (c : Crew W) (r : SeenReader V F) → r.stepper ≡ b → (ws : List Worked) → IsPumping result_of work hubs c first now ds ws None → IsWhole P told n a r gs → DealsAll P told result_of work hubs n a b c first now None
+  dealt_whole b c r is ws p h = record { ds = ds; gs = gs; ws = ws; texts = are; pumping = p; read = whole_read P told n a b r is gs h }
 
   -- memory was wanting for the next group
-  pub dealt_wanting : (b : Stepping V F) (c : Crew W) (r : SeenReader V F) → r.stepper ≡ b → (ws : List Worked) → IsPumping result_of work hubs c first now ds ws None → HasStopped P told n a r (map elements ds) → DealsAll P told result_of work hubs n a b c first now (Some stop.Memory)
+  pub dealt_wanting : (b : Stepping V F) (c : Crew W) (r : SeenReader V F) → r.stepper ≡ b → (ws : List Worked) → IsPumping result_of work hubs c first now ds ws None → HasStopped P told n a r gs → DealsAll P told result_of work hubs n a b c first now (Some stop.Memory)
   dealt_wanting b c r is ws p h = record {
     ds = ds;
+    gs = gs;
     ws = ws;
+    texts = are;
     pumping = record { crew = p.crew; printed = printed_wanting first now ws p.printed };
-    read = stopped_read P told n a b r is (map elements ds) stop.Memory h;
+    read = stopped_read P told n a b r is gs stop.Memory h;
   }
 
   -- something stopped the printing before the next group was dealt
-  pub dealt_before : (b : Stepping V F) (c : Crew W) (r : SeenReader V F) → r.stepper ≡ b → (load : Load) (jobs : ℕ) (o : Option Stop) (s : Stop) → o ≡ Some s → HasWay c jobs o → HasStopped P told n a r (map elements ds ++ elements load ∷ []) → DealsAll P told result_of work hubs n a b c first now (Some s)
-  dealt_before b c r is load jobs o s stops m h = record {
+  pub dealt_before : (b : Stepping V F) (c : Crew W) (r : SeenReader V F) → r.stepper ≡ b → (g : List Element) (jobs : ℕ) (o : Option Stop) (s : Stop) → o ≡ Some s → HasWay c jobs o → HasStopped P told n a r (gs ++ g ∷ []) → DealsAll P told result_of work hubs n a b c first now (Some s)
+  dealt_before b c r is g jobs o s stops m h = record {
     ds = ds;
+    gs = gs;
     ws = m.0;
+    texts = are;
     pumping = subst (λ x. IsPumping result_of work hubs c first now ds m.0 x) stops m.1;
-    read = stopped_before P told n a b r is (map elements ds) (elements load) s h;
+    read = stopped_before P told n a b r is gs g s h;
   }
 
   -- the next group was dealt
-  pub dealt_more : (c d : Crew W) (r : SeenReader V F) (load : Load) (jobs : ℕ) (o : Option Stop) → o ≡ None → (m : HasWay c jobs o) → IsCrew result_of work hubs d (ds ++ load ∷ []) m.0 → IsGrouping P told n a r (map elements ds ++ elements load ∷ [])
-      → (es : List Load) × (ws : List Worked) × IsPumping result_of work hubs d first now es ws None × (length es ≤ length ws + jobs) × IsGrouping P told n a r (map elements es)
-  dealt_more c d r load jobs o none m crew h =
+  pub dealt_more : (c d : Crew W) (r : SeenReader V F) (load : Load) (g : List Element) → elements load ≡ text_of g → (jobs : ℕ) (o : Option Stop) → o ≡ None → (m : HasWay c jobs o) → IsCrew result_of work hubs d (ds ++ load ∷ []) m.0 → IsGrouping P told n a r (gs ++ g ∷ [])
+      → (es : List Load) × (ws : List Worked) × IsPumping result_of work hubs d first now es ws None × (length es ≤ length ws + jobs) × ((hs : List (List Element)) × AreTexts es hs × IsGrouping P told n a r hs)
+  dealt_more c d r load g is jobs o none m crew h =
       let e = one_longer ds load in
       let less = m.2 in
-      (ds ++ load ∷ [], m.0, record { crew = crew; printed = subst (λ x. Printed first now m.0 x) none m.1.printed }, omega (arith, e, less), subst (λ gs. IsGrouping P told n a r gs) (sym (groups_more ds load)) h)
+      (ds ++ load ∷ [], m.0, record { crew = crew; printed = subst (λ x. Printed first now m.0 x) none m.1.printed }, omega (arith, e, less), (gs ++ g ∷ [], texts_more ds gs load g are is, h))
 
 -- what stopped it stops it still
 pub kept_same : (o z : Option Stop) → o ≡ z → IfSome o (λ s. z ≡ Some s)

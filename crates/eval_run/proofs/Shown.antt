@@ -1,6 +1,6 @@
 -- What was printed of the answer to lines.
-use Rattle.std.proofs.Common.{◌≡◌, ℕ, ◌+◌, ◌<◌, true, List, [], ◌∷◌, ◌++◌, map, take, drop, length, Option, Some, None, is_some, refl, sym, ap, ◌∙◌, subst, append-nil, length-drop, arith}
-use Rattle.std.proofs.lemmas.List.{take-append-drop}
+use Rattle.std.proofs.Common.{◌≡◌, ℕ, ◌+◌, ◌<◌, true, List, [], ◌∷◌, ◌++◌, take, drop, length, Option, Some, None, is_some, refl, sym, ap, ◌∙◌, subst, append-nil, length-drop, arith}
+use Rattle.std.proofs.lemmas.List.{length-map, take-append-drop}
 use Rattle.std.specs.List.{AllByRecursion}
 use Rattle.cat_run.specs.Alone.{and_one}
 use Rattle.chunk_core.specs.Elements.{Element, elements, rendering_of}
@@ -14,15 +14,16 @@ use Rattle.chunk_core.specs.declared.load.Load.{Load}
 use Rattle.chunk_core.proofs.Members.{among_left}
 use Rattle.device_port.specs.Sink.{SinkTold, with_bytes}
 use Rattle.device_port.proofs.Puts.{with_bytes_twice}
+use Rattle.eval_reader.specs.Reading.{text_of}
 use Rattle.eval_rules.specs.Answers.{Answer, answer_in_groups, answer_of, framed, group_over, groups_of}
 use Rattle.eval_work.specs.Works.{result_of}
 use Rattle.frames.proofs.Rendered.{rendering_some}
 use Rattle.par_eval.specs.declared.work.Worked.{Worked}
 use Rattle.pipeline_desc.specs.declared.step.Step.{Step}
 use Rattle.pull_nodes.specs.Plain.{IsFront}
-use Rattle.res_ledger.proofs.Mapped.{map_among}
 use Rattle.run_rules.specs.Facts.{is_over}
 use Rattle.eval_run.specs.Printing.{BreaksFrame, StopsAt, frames_by, frames_in, is_unwritten}
+use Rattle.eval_run.specs.Pumping.{AreTexts}
 use Rattle.eval_run.specs.Runs.{AreGroups, HasEvaluated}
 use Rattle.eval_run.specs.declared.stop.Stop.{Stop}
 use Rattle.eval_run.specs.declared.stop.Stop.TheVariants as stop
@@ -85,10 +86,7 @@ written_part so sn F load b =
 same_front : (F : List Frame) (a : Answer) (G : List Frame) (e : End) → a ≡ the_answer G e → G ≡ F → IsFront (F ++ []) a.frames
 same_front F a G e is same = ([], ap (λ (x : Answer). x.frames) is ∙ (same ∙ (sym (append-nil F) ∙ sym (append-nil (F ++ [])))))
 
-module _ (steps : List Step) (n : ℕ) (given : List Element) (h : How) (so sn : SinkTold) (ds : List Load) (ws : List Worked) (count : length ws ≡ length ds) (fol : Follow steps ds ws) where
-  abbrev gs : List (List Element)
-  gs = map elements ds
-
+module _ (steps : List Step) (n : ℕ) (given : List Element) (h : How) (so sn : SinkTold) (gs : List (List Element)) (ws : List Worked) (count : length ws ≡ length gs) (fol : Follow steps gs ws) where
   -- the groups of what was read, of which these are the first
   split : (f : IsFront gs (groups_of n (given ++ []))) → groups_of n given ≡ gs ++ f.0
   split f = ap (λ xs. groups_of n xs) (sym (append-nil given)) ∙ f.1
@@ -100,7 +98,7 @@ module _ (steps : List Step) (n : ℕ) (given : List Element) (h : How) (so sn :
   all_shown front rest whole done groups stops =
       let is : ws ≡ front = whole ∙ (ap (λ xs. front ++ xs) stops.0 ∙ append-nil front) in
       let tells : (e : End) → answer_of steps n given e ≡ the_answer (frames_in front) e =
-      λ e. ap (λ x. answer_in_groups steps x e) groups.1 ∙ all_answered steps ds front e (subst (λ xs. Follow steps ds xs) is fol) done (sym (ap length is) ∙ count) in
+      λ e. ap (λ x. answer_in_groups steps x e) groups.1 ∙ all_answered steps gs front e (subst (λ xs. Follow steps gs xs) is fol) done (sym (ap length is) ∙ count) in
       record {
         frames = frames_in front;
         cut = None;
@@ -113,8 +111,8 @@ module _ (steps : List Step) (n : ℕ) (given : List Element) (h : How) (so sn :
       }
 
   -- of what follows, in two parts
-  fol_of : (front rest : List Worked) → ws ≡ front ++ rest → Follow steps ds (front ++ rest)
-  fol_of front rest whole = subst (λ xs. Follow steps ds xs) whole fol
+  fol_of : (front rest : List Worked) → ws ≡ front ++ rest → Follow steps gs (front ++ rest)
+  fol_of front rest whole = subst (λ xs. Follow steps gs xs) whole fol
 
   some_shown : (front rest : List Worked) → ws ≡ front ++ rest → AllByRecursion (λ w. w.how ≡ how.Done) front → AreGroups n given h gs (Some stop.Memory) → StopsAt so sn front rest (Some stop.Memory) → Shows steps n given h so sn (Some stop.Memory)
   some_shown front rest whole done groups stops =
@@ -125,7 +123,7 @@ module _ (steps : List Step) (n : ℕ) (given : List Element) (h : How) (so sn :
         broke = refl;
         rest_of = refl;
         wrote = written_whole so sn (frames_in front) stops;
-        begun = λ more e left. let f = groups more left in subst (λ F. IsFront F (answer_of steps n (given ++ more) e).frames) (sym (append-nil (frames_in front))) (in_front (frames_in front) more f e (front_answer steps ds front rest (fol_of front rest whole) done f.0 e));
+        begun = λ more e left. let f = groups more left in subst (λ F. IsFront F (answer_of steps n (given ++ more) e).frames) (sym (append-nil (frames_in front))) (in_front (frames_in front) more f e (front_answer steps gs front rest (fol_of front rest whole) done f.0 e));
         tells = tt;
       }
 
@@ -134,7 +132,7 @@ module _ (steps : List Step) (n : ℕ) (given : List Element) (h : How) (so sn :
       let f = groups [] (λ o. refl) in
       let fol_so = fol_of front (w ∷ rest) whole in
       let F : List Frame = frames_in front ++ frames_by w.out in
-      let failed = failed_group steps ds front rest w c fol_so stops.0 in
+      let failed = failed_group steps gs front rest w c fol_so stops.0 in
       record {
         frames = F;
         cut = None;
@@ -142,10 +140,10 @@ module _ (steps : List Step) (n : ℕ) (given : List Element) (h : How) (so sn :
         broke = refl;
         rest_of = refl;
         wrote = written_whole so sn F stops.1;
-        begun = λ more e left. let m = groups more left in same_front F (answer_of steps n (given ++ more) e) F (Fault c) (ap (λ (x : List (List Element)). answer_in_groups steps x e) m.1 ∙ failed_answer steps ds front rest w c fol_so done stops.0 m.0 e) refl;
+        begun = λ more e left. let m = groups more left in same_front F (answer_of steps n (given ++ more) e) F (Fault c) (ap (λ (x : List (List Element)). answer_in_groups steps x e) m.1 ∙ failed_answer steps gs front rest w c fol_so done stops.0 m.0 e) refl;
         tells = (
-          λ more e over. let m = groups more over in ap (λ (x : List (List Element)). answer_in_groups steps x e) m.1 ∙ failed_answer steps ds front rest w c fol_so done stops.0 m.0 e,
-          (elements failed.0, subst (λ (x : List (List Element)). IsAmong (elements failed.0) x) (sym (split f)) (among_left f.0 (map_among elements failed.0 ds failed.1)), failed.2),
+          λ more e over. let m = groups more over in ap (λ (x : List (List Element)). answer_in_groups steps x e) m.1 ∙ failed_answer steps gs front rest w c fol_so done stops.0 m.0 e,
+          (failed.0, subst (λ (x : List (List Element)). IsAmong failed.0 x) (sym (split f)) (among_left f.0 failed.1), failed.2),
         );
       }
 
@@ -162,7 +160,7 @@ module _ (steps : List Step) (n : ℕ) (given : List Element) (h : How) (so sn :
         rest_of = (drop b.breaks.count text, parts.0, parts.1);
         wrote = written_part so sn (frames_in front) w.out b;
         begun = λ more e left. let f = groups more left in subst (λ G. IsFront (frames_in front ++ G) (answer_of steps n (given ++ more) e).frames) (by_is w.out b.some)
-            (in_front (frames_in front ++ frames_by w.out) more f e (next_answer steps ds front rest w (fol_of front (w ∷ rest) whole) done stops.0 f.0 e));
+            (in_front (frames_in front ++ frames_by w.out) more f e (next_answer steps gs front rest w (fol_of front (w ∷ rest) whole) done stops.0 f.0 e));
         tells = tt;
       }
 
@@ -174,5 +172,9 @@ module _ (steps : List Step) (n : ℕ) (given : List Element) (h : How) (so sn :
   shown_by (Some stop.Unwritten) front [] whole done groups stops = absurd stops
   shown_by (Some stop.Unwritten) front (w ∷ rest) whole done groups stops = broken_shown front rest w whole done groups stops
 
+-- as many texts as groups
+same_count : (ds : List Load) (gs : List (List Element)) → AreTexts ds gs → length ds ≡ length gs
+same_count ds gs t = sym (length-map ds elements) ∙ (ap (λ (xs : List (List Element)). length xs) t ∙ length-map gs text_of)
+
 pub shown : (steps : List Step) (n : ℕ) (given : List Element) (h : How) (so sn : SinkTold) (s : Option Stop) → HasEvaluated (result_of steps) n given h so sn s → Shows steps n given h so sn s
-shown steps n given h so sn s v = shown_by steps n given h so sn v.ds v.ws v.count (follow steps v.ds v.ws v.results) s v.printed.front v.printed.rest v.printed.whole v.printed.done v.groups v.printed.stops
+shown steps n given h so sn s v = shown_by steps n given h so sn v.gs v.ws (v.count ∙ same_count v.ds v.gs v.texts) (follow steps v.ds v.gs v.ws v.texts v.results) s v.printed.front v.printed.rest v.printed.whole v.printed.done v.groups v.printed.stops

@@ -1,6 +1,6 @@
 -- What an evaluation leaves, once its threads are joined.
-use Rattle.std.specs.Prelude.{◌≡◌, ℕ, true, List, [], ◌++◌, map, length, Option, Some, None}
-use Rattle.chunk_core.specs.Elements.{Element, elements}
+use Rattle.std.specs.Prelude.{◌≡◌, ℕ, true, List, [], ◌++◌, length, Option, Some, None}
+use Rattle.chunk_core.specs.Elements.{Element}
 use Rattle.chunk_core.specs.declared.code.How.{How}
 use Rattle.chunk_core.specs.declared.load.Load.{Load}
 use Rattle.device_port.specs.Device.{DeviceTold}
@@ -15,6 +15,7 @@ use Rattle.pull_nodes.specs.declared.node.Node.{Node}
 use Rattle.res_ledger.specs.declared.event.StreamNo.TheVariants.{Inner}
 use Rattle.run_rules.specs.Facts.{is_over}
 use Rattle.eval_run.specs.Printing.{Printed}
+use Rattle.eval_run.specs.Pumping.{AreTexts}
 use Rattle.eval_run.specs.declared.stop.Stop.{Stop}
 
 -- Of lines that were read, whose reading ended so, these are the groups where nothing stopped it; and else the first ones, whatever more a reading would give that was left.
@@ -22,11 +23,13 @@ abbrev pub AreGroups : ℕ → List Element → How → List (List Element) → 
 AreGroups n given h gs None = (is_over h ≡ true) × (groups_of n given ≡ gs)
 AreGroups n given h gs (Some s) = (more : List Element) → (is_over h ≡ true → more ≡ []) → IsFront gs (groups_of n (given ++ more))
 
--- groups of these lines were worked on, whose reading ended so, and what came of them was printed up to where this stopped it
+-- texts of groups of these lines were worked on, whose reading ended so, and what came of them was printed up to where this stopped it
 pub record HasEvaluated (f : Meaning) (n : ℕ) (given : List Element) (h : How) (old new : SinkTold) (s : Option Stop) : Type 0 where
   pub ds : List Load
+  pub gs : List (List Element)
   pub ws : List Worked
-  pub groups : AreGroups n given h (map elements ds) s
+  pub texts : AreTexts ds gs
+  pub groups : AreGroups n given h gs s
   pub printed : Printed old new ws s
   pub results : AreResults f ds ws
   pub count : length ws ≡ length ds

@@ -1,5 +1,5 @@
 -- What comes of a chain that is fed a text and then the end.
-use Rattle.std.proofs.Common.{◌≡◌, ◌≢◌, true, false, nat_le, Bool, if◌then◌else◌, List, [], ◌∷◌, ◌++◌, length, map, take, Option, Some, None, refl, sym, ◌∙◌, ap}
+use Rattle.std.proofs.Common.{◌≡◌, ◌≢◌, ℕ, true, false, nat_le, Bool, if◌then◌else◌, List, [], ◌∷◌, ◌++◌, length, map, take, Option, Some, None, refl, sym, ◌∙◌, ap}
 use Rattle.std.proofs.lemmas.Grind.{flat_map-append}
 use Rattle.std.specs.Prelude.{IsSome}
 use Rattle.chunk_core.specs.Elements.{Byte, Element, LoadKind, elements, elements_of, rendering_of}
@@ -9,7 +9,7 @@ use Rattle.chunk_core.specs.Outcomes.{Cut, Done, End, Fault}
 use Rattle.chunk_core.specs.Tables.{no_values}
 use Rattle.chunk_core.specs.declared.code.Code.{Code}
 use Rattle.chunk_core.specs.declared.load.Load.{Load}
-use Rattle.any_pipe.specs.Pouring.{AreOf, MayPour, Pours, StopsAtFault}
+use Rattle.any_pipe.specs.Pouring.{Pours, StopsAtFault}
 use Rattle.any_pipe.proofs.Whole.{some_of}
 use Rattle.any_pipe.specs.Pouring.Pours.{whole, broken}
 use Rattle.pipeline_desc.specs.declared.step.Step.{Step}
@@ -22,6 +22,7 @@ use Rattle.chain_pipes.specs.declared.chain.Chain.{Chain}
 use Rattle.chain_pipes.proofs.Steady.{chains_are_steady}
 use Rattle.eval_rules.specs.Answers.{group_over, how_of}
 use Rattle.step_words.specs.Words.{kind_behind}
+use Rattle.eval_work.specs.Texts.{MayPourText, PoursText}
 use Rattle.eval_work.specs.Works.{ends_by}
 
 -- Steps whose input isn't cut aren't cut.
@@ -95,7 +96,7 @@ module _ (steps : List Step) (gives : LoadKind) (loads given : List Load) (c : O
   poured_end p = ap ends_by (poured_whole p).fault ∙ ends_so whole_of.end (over_whole steps (elements_of loads) Done done_whole)
 
 -- What a chain of these steps gives of the text of a group.
-module _ (steps : List Step) (chain : Chain) (loads : List Load) (fits : IsSome (kind_behind steps Bytes)) (stands : (m : Meaning) → IsChainMeaning steps m → StandsFor chain m []) (are : AreOf Bytes loads) where
+module _ (steps : List Step) (chain : Chain) (fits : IsSome (kind_behind steps Bytes)) (stands : (m : Meaning) → IsChainMeaning steps m → StandsFor chain m []) where
   gives_of_steps : (gives : LoadKind) × (kind_behind steps Bytes ≡ Some gives)
   gives_of_steps = some_of (kind_behind steps Bytes) fits
 
@@ -105,12 +106,18 @@ module _ (steps : List Step) (chain : Chain) (loads : List Load) (fits : IsSome 
   begun : StandsFor chain n []
   begun = stands n (gives_of_steps.1, refl)
 
-  pub may_pour : MayPour (StandsFor chain) loads
-  may_pour = (n, [], begun, are)
+  pub may_pour : MayPourText (StandsFor chain)
+  may_pour = (n, begun, refl)
 
-  module _ (given : List Load) (c : Option Code) (xs : List Element) (text : elements_of loads ≡ map Byte (rendering_of xs)) (poured : (m : Meaning) (ys : List Element) → StandsFor chain m ys → AreOf m.takes loads → Pours m ys loads given c) where
-    pub group_list : elements_of given ≡ (group_over steps xs).list
-    group_list = poured_list steps gives_of_steps.0 loads given c (poured n [] begun are) ∙ ap (λ l. (over steps l Done).list) text
+  module _ (xs : List Element) (bytes : List ℕ) (is : bytes ≡ rendering_of xs) (text : List ℕ) (c : Option Code) (poured : (m : Meaning) → StandsFor chain m [] → m.takes ≡ Bytes → PoursText m bytes text c) where
+    abbrev p : PoursText n bytes text c
+    p = poured n begun refl
+
+    same : elements_of p.loads ≡ map Byte (rendering_of xs)
+    same = p.whole ∙ ap (λ l. map Byte l) is
+
+    pub group_text : text ≡ rendering_of (group_over steps xs).list
+    group_text = p.told ∙ ap rendering_of (poured_list steps gives_of_steps.0 p.loads p.given c p.pours ∙ ap (λ l. (over steps l Done).list) same)
 
     pub group_end : ends_by c ≡ how_of (group_over steps xs).end
-    group_end = poured_end steps gives_of_steps.0 loads given c (poured n [] begun are) ∙ ap (λ l. how_of (over steps l Done).end) text
+    group_end = poured_end steps gives_of_steps.0 p.loads p.given c p.pours ∙ ap (λ l. how_of (over steps l Done).end) same

@@ -1,15 +1,14 @@
 //! Steps on the text of a group.
 ghost use Rattle.std.specs.Prelude.{◌≡◌, true, IfOk, IsSome};
 ghost use Rattle.std.specs.List.{list_all};
-ghost use Rattle.chunk_core.specs.Elements.{elements, elements_of};
+ghost use Rattle.chunk_core.specs.Elements.{elements, rendering_of};
 ghost use Rattle.chunk_core.specs.Elements.LoadKind.{Bytes};
 ghost use Rattle.eval_rules.specs.Answers.{group_over, how_of};
 ghost use Rattle.eval_work.specs.Works.{ends_by};
 ghost use Rattle.par_eval.specs.Hows.{IsDoneOrFault};
 ghost use Rattle.step_words.specs.Words.{kind_behind, needs_no_table};
 
-use crate::text::{as_bytes, text_of};
-use any_pipe::{Poured, pour};
+use crate::text::{PouredText, into_bytes, pour_text};
 use chain_pipes::Chain;
 use chunk_core::{Chunk, Code, How, List, Load};
 use par_eval::{Work, Worked};
@@ -45,14 +44,14 @@ impl GroupWork {
         GroupWork { steps }
     }
 
-    /// What the steps give of the text of a load, and the fault in which they ended, if one came.
-    fn poured(&self, alloc: Global, load: &Load) -> Result<Poured, AllocError>
-        ensures list { IfOk result (λ p. elements_of p.loads.items ≡ (group_over self.now (elements load.now)).list) }
-        ensures end { IfOk result (λ p. ends_by p.fault ≡ how_of (group_over self.now (elements load.now)).end) }
+    /// What the steps give of the text of a load, as text, and the fault in which they ended, if one came.
+    fn poured(&self, alloc: Global, load: Load) -> Result<PouredText, AllocError>
+        ensures text { IfOk result (λ p. p.text.items ≡ rendering_of (group_over self.now (elements load)).list) }
+        ensures end { IfOk result (λ p. ends_by p.fault ≡ how_of (group_over self.now (elements load)).end) }
     {
-        let loads = as_bytes(alloc, load)?;
+        let bytes = into_bytes(alloc, load)?;
         let chain = Chain::new(alloc, &self.steps)?;
-        pour(alloc, chain, loads)
+        pour_text(alloc, chain, bytes)
     }
 }
 
@@ -73,8 +72,7 @@ impl Work for GroupWork {
     ghost result_of = { result_of };
 
     fn work(&self, alloc: Global, load: Load) -> Result<Worked, AllocError> {
-        let Poured { loads, fault } = self.poured(alloc, &load)?;
-        let text = text_of(alloc, loads.as_slice())?;
+        let PouredText { text, fault } = self.poured(alloc, load)?;
         let out = Load::Bytes(Chunk::of_vec(alloc, text)?);
         Ok(Worked {
             out,

@@ -7,8 +7,8 @@ use Rattle.eval_hands.specs.Crews.{AreAllAt}
 use Rattle.eval_hands.proofs.Crewing.{hired_more, turn_hand}
 use Rattle.eval_hands.proofs.crew.begin_all.Goals as goal
 
-pub begin-requires-clause-at : goal.begin-requires-clause-at
-begin-requires-clause-at g c κs within =
+pub hire-requires-clause-at : goal.hire-requires-clause-at
+hire-requires-clause-at g c κs within =
     let all = c.into_vec-hand-items.result.items in
     let starts = c.into_iter-hand-iterator.ensures.into_iter_gives in
     let road = YieldsList-from_vec {s = c.into_iter-hand-iterator.result} all starts.0 (starts.1 ∙ c.into_vec-hand-items.result.ok.0) in
@@ -32,8 +32,8 @@ loop-hand-preserved g c =
     let turn = YieldsList-turn road c.loop-hand.yielded c.loop-hand.hand-iterator c.loop-hand.yielded_by c.next.result c.next.new.self c.in-Some.hand c.in-Some.is c.next.ensures.steps in
     let inv = c.loop-hand.invariant in
     record {
-      count = ap length c.push_reserved.ensures.items ∙ (let n = inv.count in let a = length-append c.loop-hand.hired.items (c.begin.result ∷ []) in let b = length-append c.loop-hand.yielded (c.in-Some.hand ∷ []) in omega arith);
-      first = hired_more g.W.Work.result_of c.args.place.now.work.now c.args.place.now.lanes.now c.loop-hand.hired.items c.begin.result all (length c.loop-hand.yielded) c.in-Some.hand inv.count (subst (λ (l : List HandSeen). AreAllAt c.args.place.now.lanes.now l) (sym c.into_vec-hand-items.ensures) c.requires.at) turn c.begin.ensures inv.first c.push_reserved.new.self.items c.push_reserved.ensures.items;
+      count = ap length c.push_reserved.ensures.items ∙ (let n = inv.count in let a = length-append c.loop-hand.hired.items (c.hire.result ∷ []) in let b = length-append c.loop-hand.yielded (c.in-Some.hand ∷ []) in omega arith);
+      first = hired_more g.W.Work.result_of c.args.place.now.work.now c.args.place.now.lanes.now c.loop-hand.hired.items c.hire.result all (length c.loop-hand.yielded) c.in-Some.hand inv.count (subst (λ (l : List HandSeen). AreAllAt c.args.place.now.lanes.now l) (sym c.into_vec-hand-items.ensures) c.requires.at) turn c.hire.ensures inv.first c.push_reserved.new.self.items c.push_reserved.ensures.items;
       room = let a = inv.room in let b = c.push_reserved.ensures.capacity in omega arith;
     }
 

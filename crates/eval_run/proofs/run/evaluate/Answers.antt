@@ -1,6 +1,5 @@
 -- The reader reads the stream as it was begun, which is taken apart as its reading ended.
-use Rattle.std.proofs.Common.{[], map, subst, sym}
-use Rattle.chunk_core.specs.Elements.{elements}
+use Rattle.std.proofs.Common.{[], subst, sym}
 use Rattle.eval_reader.specs.Reading.{IsGrouping, seen_reader}
 use Rattle.pull_stepper.specs.Steppers.{stepping}
 use Rattle.pull_turns.specs.Piping.{standing}
@@ -28,7 +27,7 @@ end-requires-clause-over g c =
     let a = stepping view values c.new-reader.result.stepper in
     let b = stepping view values c.pump_lending-stepper.result.stepper in
     let p = c.pump_lending-stepper.ensures.pumped in
-    (ends_reading P told c.args.size a b (map elements p.ds) c.pump_lending-stepper.result.stop p.read).at.over
+    (ends_reading P told c.args.size a b p.gs c.pump_lending-stepper.result.stop p.read).at.over
 
 pub end-requires-clause-begun : goal.end-requires-clause-begun
 end-requires-clause-begun g c =
@@ -41,7 +40,7 @@ end-requires-clause-begun g c =
     let s = c.pump_lending-stepper.result.stop in
     let q = c.requires.begun in
     let p = subst (λ x. HasPumped P told (g.W.Work.result_of c.args.work.now) c.args.size (stepping view values x) b (g.K.Sink.told c.args.out.now) (g.K.Sink.told c.pump_lending-stepper.new.out) s) c.new-reader.ensures.stepper c.pump_lending-stepper.ensures.pumped in
-    (Inner 0, q.0, q.1, q.2, a, q.3, past_of P told c.args.size a b (map elements p.ds) s (ends_reading P told c.args.size a b (map elements p.ds) s p.read))
+    (Inner 0, q.0, q.1, q.2, a, q.3, past_of P told c.args.size a b p.gs s (ends_reading P told c.args.size a b p.gs s p.read))
 
 pub returns : goal.returns
 returns g c n devices chunk begun =

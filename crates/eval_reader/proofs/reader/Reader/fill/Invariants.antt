@@ -1,4 +1,4 @@
-use Rattle.std.proofs.Common.{List}
+use Rattle.std.proofs.Common.{◌≡◌, ◌<◌, List, []}
 use Rattle.chunk_core.specs.Elements.{Element}
 use Rattle.pull_stepper.specs.Steppers.{stepping}
 use Rattle.pull_stepper.specs.Stepping.{Stepping}
@@ -15,6 +15,7 @@ invariant-turns g l =
     record {
       works : ReaderWorks g.S.RowSeat.view told g.S.RowSeat.fits l.self l.desk;
       grouping : (a : Stepping g.row.V.Denot g.row.F.Denot) (groups : List (List Element)) → IsGrouping P told l.size a old groups → IsGrouping P told l.size a now groups;
+      none : l.self.gathering.count < l.size → l.self.gathering.lines ≡ [];
     }
 
 -- each turn that goes on leaves less work

@@ -1,7 +1,6 @@
 -- Nothing was read.
-use Rattle.std.proofs.Common.{refl}
 use Rattle.eval_reader.proofs.Grouping.{begins}
 use Rattle.eval_reader.proofs.reader.Reader.new.Goals as goal
 
 pub returns-clause-grouping : goal.returns-clause-grouping
-returns-clause-grouping g c can kind n = begins _ _ _ c.new.ensures refl can kind n
+returns-clause-grouping g c can kind n = let e = c.new.ensures in begins _ _ _ e.lines e.count e.text can kind n
