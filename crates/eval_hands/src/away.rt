@@ -3,6 +3,7 @@ ghost use Rattle.std.specs.Prelude.{◌≡◌, false, true};
 ghost use Rattle.par_eval.specs.Hands.{IsHandAt};
 ghost use Rattle.eval_hands.specs.Returns.{Returns};
 
+use crate::bell::Watch;
 use crate::place::Place;
 use device_port::Gate;
 use par_eval::{Hand, HandTurn, Work};
@@ -10,7 +11,6 @@ use std::snapshot::Snapshot;
 use std::sync::Wait;
 use std::sync::atomic::Ordering::SeqCst;
 use std::thread::Promise;
-use stream_workers::Pause;
 
 /// A thread gives back the hand that it was given, which did this work.
 #[derive(Drop)]
@@ -45,7 +45,7 @@ pub(crate) fn turn_once<R: Wait, G: Gate, W: Work>(
     hand.turn(place.rt, place.alloc, place.lanes, place.work)
 }
 
-/// Gives a hand turns until it is over. Where it finds nothing to do it waits a little before it tries again.
+/// Gives a hand turns until it is over. Where it finds nothing to do it waits before it tries again.
 #[tactic(auto, using(crate::proofs::Backs::returns_same, crate::proofs::Backs::returns_then, crate::proofs::Backs::hand_stays))]
 pub(crate) fn run_hand<R: Wait, G: Gate, W: Work>(place: &Place<'_, R, G, W>, hand: Hand) -> Hand
     requires at { IsHandAt place.now.lanes.now hand }
@@ -53,14 +53,19 @@ pub(crate) fn run_hand<R: Wait, G: Gate, W: Work>(place: &Place<'_, R, G, W>, ha
     ensures over { result.over ≡ true }
 {
     let mut hand = hand;
-    let mut pause = Pause::new();
+    let mut watch = Watch::new();
     'turns: for _ in place.rt.forever() {
         if hand.is_over() {
             return hand;
         }
         match turn_once(place, &mut hand) {
-            HandTurn::Empty | HandTurn::Blocked => pause.step(place.rt),
-            HandTurn::More | HandTurn::Over => pause.reset(),
+            HandTurn::Empty | HandTurn::Blocked => {
+                watch.wait_for_caller(place.rt, place.bells, hand.number());
+            }
+            HandTurn::More | HandTurn::Over => {
+                place.bells.ring_caller(hand.number());
+                watch.reset();
+            }
         }
     }
     unreachable!()

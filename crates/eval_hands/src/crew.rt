@@ -9,6 +9,7 @@ ghost use Rattle.par_eval.specs.declared.work.Worked.{Worked};
 ghost use Rattle.eval_hands.specs.Crews.{AreAllAt, AreHired, AreUncollected, HasDealt, IsCrew};
 
 use crate::begins::hire;
+use crate::bell::Watch;
 use crate::hired::Hired;
 use crate::place::Place;
 use channel_bounded::{Body, Full, Msg};
@@ -17,7 +18,6 @@ use device_port::Gate;
 use par_eval::{Dealer, Hand, Work, Worked};
 use std::sync::Wait;
 use std::thread::{Scope, Threads};
-use stream_workers::Pause;
 
 /// The dealer of a run, and its hands, by their numbers.
 #[derive(Drop)]
@@ -88,14 +88,17 @@ fn end_all<R: Wait, G: Gate, W: Work>(
     ensures open { AreUncollected dealer.new.lanes }
     ensures hired { AreHired W.result_of place.now.work.now place.now.lanes.now hands.new.items }
 {
-    let mut pause = Pause::new();
+    let mut watch = Watch::new();
     'tries: for _ in place.rt.forever() {
         match dealer.end(place.rt, place.lanes) {
-            Ok(()) => return,
+            Ok(()) => {
+                place.bells.ring_all();
+                return;
+            }
             Err(full) => {
                 give_up(full);
                 turn_all(place, hands);
-                pause.step(place.rt);
+                watch.wait_for_hands(place.rt, place.bells);
             }
         }
     }
@@ -157,14 +160,17 @@ impl<W: Work> Crew<W> {
         ensures { (ds : List Load) (ws : List Worked) → IsCrew W.result_of place.now.work.now place.now.lanes.now self.old ds ws → IsCrew W.result_of place.now.work.now place.now.lanes.now self.new (ds ++ load ∷ []) ws }
     {
         let mut load = load;
-        let mut pause = Pause::new();
+        let mut watch = Watch::new();
         'tries: for _ in place.rt.forever() {
             match self.dealer.put(place.rt, place.lanes, load) {
-                Ok(()) => return,
+                Ok(()) => {
+                    place.bells.ring_next();
+                    return;
+                }
                 Err(full) => {
                     load = load_back(full);
                     turn_all(place, &mut self.hands);
-                    pause.step(place.rt);
+                    watch.wait_for_hands(place.rt, place.bells);
                 }
             }
         }
@@ -176,13 +182,16 @@ impl<W: Work> Crew<W> {
         requires crew { (ds : List Load) × (ws : List Worked) × IsCrew W.result_of place.now.work.now place.now.lanes.now self.old ds ws × (length ws < length ds) }
         ensures { (ds : List Load) (ws : List Worked) → IsCrew W.result_of place.now.work.now place.now.lanes.now self.old ds ws → IsCrew W.result_of place.now.work.now place.now.lanes.now self.new ds (ws ++ result ∷ []) }
     {
-        let mut pause = Pause::new();
+        let mut watch = Watch::new();
         'tries: for _ in place.rt.forever() {
             match self.dealer.take(place.rt, place.lanes) {
-                Some(worked) => return worked,
+                Some(worked) => {
+                    place.bells.count_taken();
+                    return worked;
+                }
                 None => {
                     turn_all(place, &mut self.hands);
-                    pause.step(place.rt);
+                    watch.wait_for_hands(place.rt, place.bells);
                 }
             }
         }

@@ -1,7 +1,8 @@
 //! Hands on threads of their own, from which they come back.
 //!
 //! `begin` gives a hand a thread in a scope, where it makes turns until it is over; what all hands of a run
-//! share is a `Place`. Before each turn hand j passes the gate with the number j. Where no thread can be
+//! share is a `Place`. Who finds nothing to do, a hand or the caller, waits for its bell, which rings once there is
+//! (`Bells`); of that no contract speaks. Before each turn hand j passes the gate with the number j. Where no thread can be
 //! started the hand stays here, and `turn` gives it a turn of the caller's. `settle` joins the thread and
 //! gives the hand once it is over, which a hand that is here is made by turns: so its end has to be on
 //! its way to it.
@@ -21,12 +22,14 @@
 
 pub mod away;
 pub mod begins;
+pub mod bell;
 pub mod crew;
 pub mod hired;
 pub mod place;
 
 pub use away::AsHired;
 pub use begins::begin;
+pub use bell::Bells;
 pub use crew::Crew;
 pub use hired::Hired;
 pub use place::Place;

@@ -10,7 +10,7 @@ use crate::pump::pump;
 use crate::stop::Stop;
 use chunk_core::List;
 use device_port::{Device, Gate, Sink};
-use eval_hands::{Crew, Hired, Place};
+use eval_hands::{Bells, Crew, Hired, Place};
 use eval_reader::Reader;
 use par_eval::{Dealer, Hand, PlainLanes, Work};
 use pull_nodes::PipeState;
@@ -71,6 +71,7 @@ pub(crate) fn pump_lending<
     gate: &'x G,
     lanes: &'x PlainLanes,
     work: &'x W,
+    bells: &'x Bells,
     jobs: u32,
     size: usize,
     reader: Reader<S, V, F>,
@@ -100,7 +101,7 @@ where
         desk,
         out,
         stop,
-    } = run_scoped(rt, alloc, gate, lanes, work, jobs, size, lent);
+    } = run_scoped(rt, alloc, gate, lanes, work, bells, jobs, size, lent);
     let _ = out;
     Pumped {
         stepper,
@@ -126,6 +127,7 @@ fn run_scoped<
     gate: &'x G,
     lanes: &'x PlainLanes,
     work: &'x W,
+    bells: &'x Bells,
     jobs: u32,
     size: usize,
     lent: Lent<'a, S, V, F, K, W>,
@@ -149,6 +151,7 @@ where
         gate,
         lanes,
         work,
+        bells,
         refused: &refused,
     };
     let place = &place;

@@ -8,6 +8,7 @@ ghost use Rattle.eval_run.specs.Ready.{IsLinesNode, IsReady, IsStaffed};
 use crate::copied::copy_steps;
 use crate::lent::Staff;
 use chunk_core::List;
+use eval_hands::Bells;
 use eval_work::GroupWork;
 use lone_stream::{StreamRoom, make_room};
 use par_eval::{Dealer, PlainLanes, Work};
@@ -20,7 +21,7 @@ use run_rules::EndOf;
 use std::alloc::{AllocError, Global};
 
 /// What an evaluation makes before its device: the node, its room and table, room for the device and for the end
-/// of the stream, the hands with their queues, and their work.
+/// of the stream, the hands with their queues and bells, and their work.
 #[derive(Drop)]
 pub(crate) struct Ready<V> {
     pub(crate) node: Node,
@@ -30,6 +31,7 @@ pub(crate) struct Ready<V> {
     pub(crate) ends: Vec<EndOf>,
     pub(crate) lanes: PlainLanes,
     pub(crate) staff: Staff<GroupWork>,
+    pub(crate) bells: Bells,
     pub(crate) work: GroupWork,
 }
 
@@ -76,6 +78,7 @@ pub(crate) fn make_ready<V: Drop>(
     let ends = Vec::with_capacity(alloc, 1)?;
     let (room, table) = make_room(alloc, StreamNo::Inner(0))?;
     let (lanes, staff) = make_staff(alloc, jobs)?;
+    let bells = Bells::new(alloc, jobs)?;
     let work = GroupWork::new(copy_steps(alloc, steps)?);
     Ok(Ready {
         node,
@@ -85,6 +88,7 @@ pub(crate) fn make_ready<V: Drop>(
         ends,
         lanes,
         staff,
+        bells,
         work,
     })
 }

@@ -25,6 +25,7 @@ use cat_run::Outcome;
 use chunk_core::{How, List, Word};
 use csv_pipes::Dicts;
 use device_port::{Depot, Device, Gate, Mode, Sink};
+use eval_hands::Bells;
 use eval_reader::Reader;
 use eval_work::GroupWork;
 use lone_stream::{Ran, begin, end, retire};
@@ -108,6 +109,7 @@ fn run_ready<R: Threads + Wait + Sync, V: Device + Drop, K: Sink, G: Gate + Sync
         ends,
         lanes,
         staff,
+        bells,
         work,
     } = ready;
     devices.push(device).unwrap();
@@ -120,6 +122,7 @@ fn run_ready<R: Threads + Wait + Sync, V: Device + Drop, K: Sink, G: Gate + Sync
                 gate,
                 &lanes,
                 &work,
+                &bells,
                 jobs,
                 group as usize,
                 stepper,
@@ -153,6 +156,7 @@ fn evaluate<
     gate: &'x G,
     lanes: &'x PlainLanes,
     work: &'x W,
+    bells: &'x Bells,
     jobs: u32,
     size: usize,
     stepper: Stepper<S, V, F>,
@@ -176,7 +180,7 @@ where
         mut desk,
         stop,
     } = pump_lending(
-        rt, alloc, gate, lanes, work, jobs, size, reader, desk, staff, out,
+        rt, alloc, gate, lanes, work, bells, jobs, size, reader, desk, staff, out,
     );
     (end(stepper, &mut desk), stop)
 }
