@@ -1,7 +1,8 @@
 #!/usr/bin/env python3
 """Shows that the judge of random calls sees something: builds the program with a wrong body, unproved, and looks how soon
 fuzz/runs.py finds that it is wrong. The wrong bodies are the edits that the proof has to refuse (crates/NAME/must-fail), applied to
-a clone. A build takes some minutes, one after the other. Prints for each how many cases it took; fails where one isn't found.
+a clone. A build takes some minutes, one after the other. Prints for each how many cases it took; fails where one isn't found. One
+at which the checker of the unproved program stops in the call that shows it built is found too.
 
 usage: fuzz/wrong_bodies.py [--keep FOLDER] [--minutes M] [EDIT ..]"""
 import argparse, os, pathlib, shlex, shutil, subprocess, sys, tempfile
@@ -39,12 +40,19 @@ def apply(clone, edit):
 
 
 def build(edit, folder):
-    """The words that call the program with this wrong body."""
+    """The words that call the program with this wrong body; None where the checker stopped at its first call."""
     clone = folder / "clone"
     subprocess.run(["git", "clone", "-q", "--local", top, clone], check=True)
     apply(clone, edit)
     (folder / "built").mkdir()
-    words = examples_of(clone).unproved_in(folder / "built")
+    try:
+        words = examples_of(clone).unproved_in(folder / "built")
+    except SystemExit as it:
+        faults = [line for line in str(it).splitlines() if line.startswith("checked: fault")]
+        if not faults:
+            raise
+        print(f"{edit}: at its first call\n  {faults[0][:160]}", flush=True)
+        words = None
     shutil.rmtree(clone)
     return words
 
@@ -69,6 +77,8 @@ def main():
     for edit in asked.edits or EDITS:
         with tempfile.TemporaryDirectory() as name:
             words = build(edit, pathlib.Path(name))
+            if words is None:
+                continue
             if asked.keep:
                 words[-1] = str(shutil.copy(words[-1], asked.keep / edit.replace("/", ".")))
             missed += not look(edit, words, asked.minutes)
