@@ -19,6 +19,9 @@ const LOOKS: u32 = 1_000_000_000;
 /// More turns than loads wait for a branch.
 const MANY: u64 = 40;
 
+/// The turns of a hand that has sent a whole result and looks for the next load.
+const ANSWERED: u64 = 4;
+
 /// Where number 0 is held at its first turn until number 1 has begun so many.
 #[derive(Drop)]
 struct Meeting {
@@ -111,6 +114,6 @@ fn hands_meet(rt: HostRuntime) -> Result<(), Fail> {
     let text = "0 2\nA\n\n0 2\nB\n\n0 2\nC\n\n0 2\nD\n\n0 2\nE\n\nend 0 done\nledger 3\n\
         0 acquire 0 0\n0 close 0 succeeded\n0 final 0 succeeded ok\n";
     meets(&rt, alloc, 1, &words, b"a\nb\nc\nd\ne\n", text)?;
-    meets(&rt, alloc, MANY, &words, b"a\nb\nc\nd\ne\n", text)?;
+    meets(&rt, alloc, ANSWERED, &words, b"a\nb\nc\nd\ne\n", text)?;
     Ok(())
 }
