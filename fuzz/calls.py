@@ -20,7 +20,9 @@ from words import command_of
 
 LONG = b"x" * 10_000
 TABLE = '[[table]]\nname = "t"\npath = "t.csv"\n'
-FILES = {"t.csv": b"k,v\n", "a.csv": b"k\nz\n", "a": b"hello\n", "p": b"a\nb\nc\n", "q": b"1\n2\n", "l": b"ab\ncd", "long": LONG}
+FILES = {"t.csv": b"k,v\n", "a.csv": b"k\nz\n", "a": b"hello\n", "p": b"a\nb\nc\n", "q": b"1\n2\n", "l": b"ab\ncd", "long": LONG, "paths": b"p\nq\n"}
+# A group with a table, and a list; what its lines name stands in comments.
+PARTS = '[[group]]\n[[group.table]]\nname = "t"\npath = "t.csv"\n[[group.stream]]\npath = "a.csv"\nsteps = ["csv", "lookup t 0"]\n[list]\npath = "paths"\n# path = "p"\n# path = "q"\n'
 CALLS = {
     "a lookup": TABLE + '[[stream]]\npath = "a.csv"\nsteps = ["csv", "lookup t 0"]\n',
     "two tables": TABLE + '[[table]]\nname = "u"\npath = "p"\n',
@@ -28,6 +30,7 @@ CALLS = {
     "a text for a fault": '[[stream]]\npath = "l"\nsteps = ["lines"]\non_fault = "lost"\n',
     "two files": 'max_open = 1\n[[stream]]\npath = "p"\nsteps = ["lines"]\nwith = "q"\njoin = "zip"\n',
     "three streams": 'max_open = 2\nchunk = 3000\n[[stream]]\npath = "long"\nto = "to1"\n[[stream]]\npath = "a"\n[[stream]]\npath = "p"\nto = "to2"\nsteps = ["lines", "number"]\n',
+    "a group and a list": "version = 2\nmax_open = 1\n" + PARTS,
     "cat": ["cat", "a"],
     "branches of a file": ["tee", "--chunk", "4", "p", "lines", "utf8|lines|count"],
     "lines in groups": ["eval", "--jobs", "2", "--group", "1", "p", "lines|number"],

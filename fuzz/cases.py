@@ -125,22 +125,54 @@ def value_of(dice, value):
     return spelled(dice, value) if isinstance(value, str) else json.dumps(value)
 
 
-def document_of(dice, top, tables, streams):
+def entries_of(dice, name, them):
+    """Arrays of tables of this name, each with its arrays behind its values."""
+    lines = []
+    for it in them:
+        lines.append(f"[[{name}]]" + (" # one more" if dice.chance(9) else ""))
+        inner = {key: value for key, value in it.items() if is_entries(value) and not dice.chance(12)}
+        lines += [f"{key} = {value_of(dice, value)}" for key, value in dice.sample(list(it.items()), len(it)) if key not in inner]
+        for key, value in dice.sample(list(inner.items()), len(inner)):
+            lines += entries_of(dice, f"{name}.{key}", value)
+    return lines
+
+
+def is_entries(value):
+    return isinstance(value, list) and value and all(isinstance(it, dict) for it in value)
+
+
+def document_of(dice, described):
     """The text of a description."""
+    top = described.top
     lines = [f"{key} = {value_of(dice, value)}" for key, value in dice.sample(list(top.items()), len(top))]
-    entries = [("table", tables), ("stream", streams)]
-    for name, them in entries if dice.chance(2) else entries[::-1]:
-        if not all(isinstance(it, dict) for it in them) or not them and dice.chance(4):
-            lines.insert(0, f"{name} = {value_of(dice, them)}")
-        elif dice.chance(12) and them:
+    entries = [("table", described.tables), ("stream", described.streams), ("group", described.groups), ("list", described.listing)]
+    dice.shuffle(entries)
+    for name, them in entries:
+        if them is None or not them and not dice.chance(80 if name == "group" and top.get("version") != 2 else 4):
+            continue
+        if isinstance(them, dict) and not dice.chance(6):
+            lines += [f"[{name}]", *(f"{key} = {value_of(dice, value)}" for key, value in dice.sample(list(them.items()), len(them)))]
+        elif not is_entries(them) or dice.chance(12):
             lines.insert(0, f"{name} = {value_of(dice, them)}")
         else:
-            for it in them:
-                keys = dice.sample(list(it.items()), len(it))
-                lines += [f"[[{name}]]" + (" # one more" if dice.chance(9) else "")]
-                lines += [f"{key} = {value_of(dice, value)}" for key, value in keys]
+            lines += entries_of(dice, name, them)
     end = "\r\n" if dice.chance(20) else "\n"
     return end.join([*lines, ""]).encode()
+
+
+@dataclasses.dataclass
+class Text:
+    """What stands in a description: values of the top, its tables and streams, its groups, and its list where it has one."""
+
+    top: dict
+    tables: list
+    streams: list
+    groups: list = dataclasses.field(default_factory=list)
+    listing: dict = None
+
+    def all(self, name):
+        """All tables or streams in their order."""
+        return getattr(self, f"{name}s") + [it for group in self.groups for it in group.get(name, []) if isinstance(it, dict)]
 
 
 class Described:
@@ -175,7 +207,8 @@ class Described:
         elif sort == 2:
             case.locked[path] = content_of(dice, flavour)
         elif sort == 3:
-            case.links[path] = self.put(flavour, is_small)
+            target = self.put(flavour, is_small)
+            case.links[path] = "nothing" if target.startswith("to") else target
         elif sort in (4, 5):
             content = content_of(dice, flavour)
             case.pipes[path] = (content[:100] if is_small else content, 1 + dice.few(2_000), dice.chance(3))
@@ -209,6 +242,33 @@ class Described:
         return path
 
     devices = ()
+
+    def listing(self, names):
+        """A list's keys. Its lines are mostly files, and now and then no path, or too many."""
+        dice = self.dice
+        steps, _ = steps_of(dice, BYTES, 4, names, set())
+        flavour = "records" if "csv" in steps and not dice.chance(8) else None
+        paths = [self.source(flavour, False) for _ in range(dice.few(dice.choice([3, 8, 30])))]
+        lines = [it.replace("\0", "_").encode() for it in paths]
+        if dice.chance(8):
+            lines.insert(dice.randrange(len(lines) + 1), dice.choice([b"", b"x" * 1_025, b"\xff", b"to1", b"no", b"\xe2\x82"]))
+        end = dice.choice([b"\n", b"\n", b"\r\n", b"\r"])
+        content = end.join(lines) + (end if lines and not dice.chance(4) else b"")
+        path = self.name()
+        if dice.chance(6):
+            self.case.pipes[path] = (content, 1 + dice.few(20), dice.chance(2))
+        elif dice.chance(30):
+            path = dice.choice([path, self.source(None, False)])
+        else:
+            self.case.files[path] = content
+        entry = {"path": path}
+        if steps or dice.chance(3):
+            entry["steps"] = steps
+        if dice.chance(3):
+            entry["on_fault"] = dice.choice(["lost", "", "a,b"])
+        if dice.chance(2):
+            entry["max"] = dice.choice([len(lines) or 1, max(1, len(lines) - 1), len(lines) + 1, 64, 900])
+        return entry
 
     def stream(self, k, count, tables):
         """A stream's keys."""
@@ -247,7 +307,7 @@ class Described:
         return {"name": name, "path": path}
 
     def made(self):
-        """The top, the tables and the streams."""
+        """A description. Of one with groups the last tables and streams are theirs."""
         dice = self.dice
         top, names = {}, [f"t{it}" for it in range(dice.few(3))]
         for key, values in {"max_open": [1, 1, 2, 3, 64], "queue": [1, 2, 64], "chunk": [1, 2, 3, 7, 16, 100, 4_096, 65_536], "version": [1]}.items():
@@ -255,21 +315,34 @@ class Described:
                 top[key] = dice.choice(values)
         if dice.chance(6):
             top["take"] = dice.few(12)
-        tables = [self.table(name) for name in names]
+        is_second = dice.chance(3)
+        if is_second:
+            top["version"] = 2
         count = dice.few(40) if dice.chance(12) else dice.few(5)
-        streams = [self.stream(k, count, names) for k in range(count)]
+        parts = 1 + (dice.few(dice.choice([3, 3, 16])) if is_second else 0)
+        tables, streams = sorted(dice.randrange(parts) for _ in names), sorted(dice.randrange(parts) for _ in range(count))
+        seen = lambda part: [name for name, it in zip(names, tables) if it in (0, part)]
+        made = [([], []) for _ in range(parts)]
+        for name, part in zip(names, tables):
+            made[part][0].append(self.table(name))
+        for k, part in enumerate(streams):
+            made[part][1].append(self.stream(k, count, seen(part)))
+        groups = [{key: it for key, it in zip(("table", "stream"), them) if it or dice.chance(6)} for them in made[1:]]
+        text = Text(top, *made[0], groups, self.listing(seen(0)) if is_second and not dice.chance(3) else None)
         largest = max([len(it) for it in self.case.files.values()], default=0)
         if top.get("chunk", 4_096) * 600 < largest:
             top["chunk"] = 1 + largest // 600
-        return top, tables, streams
+        return text
 
 
-def spoiled(dice, top, tables, streams):
+def spoiled(dice, text):
     """Changes one value, so that the description is mostly refused."""
     values = [None and 0, "x", 4.5, True, [], ["lines"], {"a": 1}, -1, 0, 65, 70_000, 2**40, "a" * 1_025, "", ["lines", "frob"], [1]]
-    streams = streams or [{"path": "f1"}]
-    entry = dice.choice([top, *(tables[:2]), *streams[:3], *streams[:3]])
-    keys = {id(top): ["version", "max_open", "queue", "chunk", "take", "x"]}.get(id(entry), ["path", "steps", "with", "join", "after", "on_fault", "to", "until", "name", "x"])
+    top, tables, streams = text.top, text.all("table"), text.all("stream") or [{"path": "f1"}]
+    lists = [text.listing] if text.listing else []
+    entry = dice.choice([top, *(tables[:2]), *streams[:3], *streams[:3], *text.groups[:2], *lists])
+    keys = ["path", "steps", "with", "join", "after", "on_fault", "to", "until", "name", "x"]
+    keys = ["version", "max_open", "queue", "chunk", "take", "group", "list", "x"] if entry is top else ["table", "stream", "x"] if entry in text.groups else keys + ["max"] * 4 if entry in lists else keys
     sort = dice.randrange(6)
     if sort == 0 and entry:
         entry.pop(dice.choice(list(entry)))
@@ -282,8 +355,9 @@ def spoiled(dice, top, tables, streams):
         entry["until"] = dice.choice([-1, 0, 1, 2, len(streams), 2**40])
     else:
         value = dice.choice(values)
-        entry[dice.choice(keys)] = 0 if value is None else value
-    return top, tables, streams
+        key = dice.choice(keys)
+        if entry is not top or key not in ("group", "list") or not getattr(text, {"group": "groups", "list": "listing"}[key]):
+            entry[key] = 0 if value is None else value
 
 
 def bytes_spoiled(dice, text):
@@ -318,9 +392,18 @@ def outside_of(dice, case):
     return case
 
 
-def trip_of(dice, case, tables, streams):
-    """A call on a file that only one stream or table has, which is to fail."""
+def lines_of(case, listing):
+    """The paths that a list names."""
+    path = listing.get("path") if listing else None
+    content = case.files.get(path) or case.pipes.get(path, (b"",))[0] if isinstance(path, str) else b""
+    return content.decode("latin-1").splitlines()
+
+
+def trip_of(dice, case, text):
+    """A call on a file that only one stream or table has, or the list, which is to fail."""
+    tables, streams = text.all("table"), text.all("stream") + ([text.listing] if text.listing else [])
     paths = [it[key] for it in [*tables, *streams] for key in ("path", "with", "to") if isinstance(it.get(key), str)]
+    paths += lines_of(case, text.listing)
     once = [it for it in paths if paths.count(it) == 1 and it not in case.links.values() and it not in case.links]
     sources, targets = [it for it in once if it in case.files and not it.startswith("to")], [it for it in once if it.startswith("to") and it not in case.taken]
     if targets and dice.chance(2):
@@ -334,14 +417,14 @@ def trip_of(dice, case, tables, streams):
 def run_of(dice, words):
     """A call of `run`."""
     made = Described(dice)
-    top, tables, streams = made.made()
+    text = made.made()
     case = made.case
     case.words = words
     if dice.chance(9):
-        top, tables, streams = spoiled(dice, top, tables, streams)
+        spoiled(dice, text)
     if dice.chance(20):
-        trip_of(dice, case, tables, streams)
-    case.source = document_of(dice, top, tables, streams)
+        trip_of(dice, case, text)
+    case.source = document_of(dice, text)
     if dice.chance(25):
         case.source = bytes_spoiled(dice, case.source)
     return outside_of(dice, case)

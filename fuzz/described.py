@@ -5,11 +5,13 @@ import dataclasses, re, tomllib
 from steps import BYTES, LINES, ROWS, TAKES
 
 MOST = 1_048_576
-NUMBERS = {"version": (1, 1, 1), "max_open": (1, 64, 4), "queue": (1, 64, 16), "chunk": (1, 65_536, 4_096), "take": (0, 1_000_000_000, None)}
+NUMBERS = {"version": (1, 2, 1), "max_open": (1, 64, 4), "queue": (1, 64, 16), "chunk": (1, 65_536, 4_096), "take": (0, 1_000_000_000, None)}
 ARRAYS = {"table": 8, "stream": 1_024}
+MOST_GROUPS, MOST_LISTED, LISTED = 16, 1_024, 64
 WITH_NUMBER = {"field": 0, "take": 0, "drop": 0, "chunk": 1}
 WITH_TEXT = {"filter": (1, 1_024), "intersperse": (0, 64)}
 STREAM_KEYS = ("path", "steps", "with", "join", "after", "on_fault", "to", "until")
+LIST_KEYS = ("path", "steps", "on_fault", "max")
 
 
 class Refused(Exception):
@@ -34,10 +36,24 @@ class Stream:
 
 
 @dataclasses.dataclass
+class Listing:
+    """A list: its file, what each of its streams is but for the path, and the most lines."""
+
+    path: str
+    stream: Stream
+    most: int
+
+
+@dataclasses.dataclass
 class Plan:
+    """`tables` and `streams` are those of the top and behind them those of each group. `groups` has for each group how many of both it
+    has."""
+
     numbers: dict
     tables: list
     streams: list
+    groups: list = dataclasses.field(default_factory=list)
+    listing: Listing = None
 
 
 def is_number(value):
@@ -52,7 +68,7 @@ def number_of(text, least=0, most=999_999_999):
 
 
 def argument_of(name, text, names, where):
-    """A step with its argument. `names` are those of the tables."""
+    """A step with its argument. `names` are those of the tables that it may look up, with their numbers."""
     if name in WITH_NUMBER:
         number = number_of(text, WITH_NUMBER[name], 64 if name == "chunk" else 999_999_999)
         if number is None:
@@ -69,7 +85,7 @@ def argument_of(name, text, names, where):
         raise Refused(4, *where)
     if table not in names:
         raise Refused(7, *where)
-    return name, names.index(table), number
+    return name, names[table], number
 
 
 def step_of(text, names, where):
@@ -153,22 +169,67 @@ def stream_of(entry, k, count, names):
     return stream
 
 
+def listing_of(entry, k, names):
+    """The list, which has this number where a stream has its own."""
+    if set(entry) - set(LIST_KEYS):
+        raise Refused(2, k)
+    if "path" not in entry:
+        raise Refused(3, k)
+    steps = []
+    for key in LIST_KEYS[:3]:
+        if key in entry:
+            check_value(key, entry[key], k, 0)
+        if key == "steps":
+            steps = [step_of(text, names, (k, place)) for place, text in enumerate(entry.get(key, []))]
+    most = entry.get("max", LISTED)
+    if not is_number(most):
+        raise Refused(3, k)
+    if not 1 <= most <= MOST_LISTED or k + most > ARRAYS["stream"]:
+        raise Refused(4, k)
+    if len(steps) > 16 or [it[0] for it in steps].count("intersperse") > 1:
+        raise Refused(4, k)
+    stream = Stream(None, steps, on_fault=entry["on_fault"].encode() if "on_fault" in entry else None)
+    stream.kind = kind_of(stream, k)
+    return Listing(entry["path"], stream, most)
+
+
+def check_tables(entries, most=None):
+    """An array of tables, of at most so many."""
+    if type(entries) is not list or any(type(it) is not dict for it in entries):
+        raise Refused(3)
+    if most is not None and len(entries) > most:
+        raise Refused(4)
+
+
 def top_of(document):
     """The numbers of the top, once all its values are of their types and within their limits."""
-    if set(document) - set(NUMBERS) - set(ARRAYS):
+    is_second = is_number(document.get("version")) and document["version"] == 2
+    if set(document) - set(NUMBERS) - set(ARRAYS) - ({"group", "list"} if is_second else set()):
         raise Refused(2)
     for key, (least, most, _) in NUMBERS.items():
         if key in document and not is_number(document[key]):
             raise Refused(3)
         if key in document and not least <= document[key] <= most:
             raise Refused(4)
-    for key, most in ARRAYS.items():
-        entries = document.get(key, [])
-        if type(entries) is not list or any(type(it) is not dict for it in entries):
-            raise Refused(3)
-        if len(entries) > most:
-            raise Refused(4)
+    for key, most in {**ARRAYS, "group": MOST_GROUPS}.items():
+        check_tables(document.get(key, []), most)
+    if type(document.get("list", {})) is not dict:
+        raise Refused(3)
     return {key: document.get(key, missing) for key, (_, _, missing) in NUMBERS.items()}
+
+
+def parts_of(document):
+    """The arrays of the top and of each group, once these are what they are to be."""
+    groups = document.get("group", [])
+    for group in groups:
+        if set(group) - set(ARRAYS):
+            raise Refused(2)
+        for key in ARRAYS:
+            check_tables(group.get(key, []))
+    parts = [tuple(it.get(key, []) for key in ARRAYS) for it in [document, *groups]]
+    if any(sum(len(it[place]) for it in parts) > most for place, most in enumerate(ARRAYS.values())):
+        raise Refused(4)
+    return parts
 
 
 def tables_of(entries):
@@ -199,12 +260,17 @@ def plan_of(data):
         document = tomllib.loads(text.removeprefix("\ufeff"))
     except tomllib.TOMLDecodeError:
         raise Refused(1) from None
-    numbers = top_of(document)
-    names, tables = tables_of(document.get("table", []))
-    entries = document.get("stream", [])
-    streams = [stream_of(entry, k, len(entries), names) for k, entry in enumerate(entries)]
+    numbers, parts = top_of(document), parts_of(document)
+    names, tables = tables_of([entry for entries, _ in parts for entry in entries])
+    count, streams, first = sum(len(entries) for _, entries in parts), [], 0
+    of_top = {name: place for place, name in enumerate(names[: len(parts[0][0])])}
+    for own, entries in parts:
+        seen = of_top | {name: first + place for place, name in enumerate(names[first : first + len(own)])}
+        streams += [stream_of(entry, k, count, seen) for k, entry in enumerate(entries, len(streams))]
+        first += len(own)
+    listing = listing_of(document["list"], count, of_top) if "list" in document else None
+    read = tables + [listing.path if listing else None] + [it.path for it in streams] + [it.second for it in streams]
     for k, stream in enumerate(streams):
-        others = tables + [it.path for it in streams] + [it.second for it in streams] + [it.to for it in streams if it is not stream]
-        if stream.to is not None and stream.to in others:
+        if stream.to is not None and stream.to in read + [it.to for it in streams if it is not stream]:
             raise Refused(4, k)
-    return Plan(numbers, tables, streams)
+    return Plan(numbers, tables, streams, [(len(own), len(entries)) for own, entries in parts[1:]], listing)

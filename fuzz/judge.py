@@ -5,8 +5,9 @@ import dataclasses
 import ledgers, printed
 from branched import Tee, answers
 from described import Refused, plan_of
+from giving import Giving, listing_of
 from streams import Reading, Given, given_by
-from steps import BYTES, dictionary_of, none_of
+from steps import BYTES, none_of
 from words import command_of
 
 WORDS, MEMORY = b"flume: bad command line\n", b"flume: out of memory\n"
@@ -172,20 +173,22 @@ def of_run(call, seen, max_open):
 
 
 class Run:
-    """A run of an accepted description. Its rows are numbered tables first, and then stream by stream."""
+    """A run of an accepted description. Its rows are numbered tables first, then the list, and then stream by stream."""
 
     def __init__(self, call, seen, plan):
         self.call, self.seen, self.plan = call, seen, plan
-        self.count = len(plan.streams)
-        self.names = ["outer", *range(self.count)]
-        self.rows = [("outer", path) for path in plan.tables]
+        self.described = len(plan.streams)
+        lines, list_end = listing_of(plan, self.reading)
+        self.streams = plan.streams + [dataclasses.replace(plan.listing.stream, path=it) for it in lines]
+        self.count = self.described
+        self.rows = [("outer", path) for path in plan.tables + ([plan.listing.path] if plan.listing else [])]
         self.rows_of = []
-        for k, stream in enumerate(plan.streams):
+        for k, stream in enumerate(self.streams):
             paths = [it for it in (stream.to, stream.path, stream.second) if it is not None]
             self.rows_of.append(list(range(len(self.rows), len(self.rows) + len(paths))))
             self.rows += [(k, it) for it in paths]
-        self.read_tables()
-        self.given = [self.given_by(it) for it in plan.streams]
+        self.giving = Giving(plan, self.reading, lines, list_end)
+        self.given = [self.given_by(k, it) for k, it in enumerate(self.streams)]
 
     def reading(self, path):
         return self.call.readings.get(path, Reading(fault="open"))
@@ -193,36 +196,19 @@ class Run:
     def writing(self, path):
         return self.call.writings.get(path, Writing(opens=False))
 
-    def read_tables(self):
-        """What the tables say, or how the outer stream ends for them and how many of them it acquired."""
-        self.tables, self.outer_end, self.acquired_tables = [], "done", 0
-        for path in self.plan.tables:
-            reading = self.reading(path)
-            if reading.fault == "open":
-                self.outer_end = "fault open"
-                return
-            self.acquired_tables += 1
-            found = f"{reading.fault}" if reading.fault else dictionary_of(reading.content)
-            if len(reading.content) > 16_777_216:
-                found = "toolarge"
-            if type(found) is str:
-                self.outer_end = f"fault {found}"
-                return
-            self.tables.append(found)
-
-    def given_by(self, stream):
-        """What the stream may give, and how its body ends."""
-        if self.outer_end != "done":
+    def given_by(self, k, stream):
+        """What the stream of this number may give, and how its body ends."""
+        if k >= self.giving.leased:
             return Given(BYTES, b"", "halted"), None
         if stream.to is not None and not self.writing(stream.to).opens:
             return Given(stream.kind, none_of(stream.kind), "fault open"), "fault open"
         readings = [self.reading(it) for it in (stream.path, stream.second) if it is not None]
-        return given_by(stream, readings, self.tables)
+        return given_by(stream, readings, self.giving.tables)
 
     def wrongs_of_whole(self):
         """What is wrong with an output that was not cut."""
         try:
-            self.frames, self.ends, self.events = printed.whole(self.seen.out, self.names)
+            self.frames, self.ends, self.events = self.whole()
         except printed.NotPrinted as error:
             return [str(error), f"status {self.seen.status}"]
         verdict = ledgers.verdict(self.events)
@@ -232,6 +218,15 @@ class Run:
         told += self.wrong_outer()
         for k in range(self.count):
             told += self.wrong_output(k, self.ends[k]) + self.wrong_events(k)
+        return told
+
+    def whole(self):
+        """The frames, the ends and the events: of the list each stream that has a lease has an end."""
+        told = printed.whole(self.seen.out, ["outer", *range(self.described)], range(self.described, len(self.streams)))
+        self.count = len(told[1]) - 1
+        leases = {it[2] for it in told[2] if it[:2] == ("outer", "lease")}
+        if not set(range(self.described, self.count)) <= leases or any(it >= self.count for it in leases):
+            raise printed.NotPrinted(f"{self.count} streams have ends, and {sorted(leases)} leases")
         return told
 
     def wrong_status(self):
@@ -249,7 +244,7 @@ class Run:
         return told
 
     def written_rows(self):
-        return {rows[0] for rows, it in zip(self.rows_of, self.plan.streams) if it.to is not None}
+        return {rows[0] for rows, it in zip(self.rows_of, self.streams) if it.to is not None}
 
     def of(self, k):
         """The payloads of a stream, in order."""
@@ -260,7 +255,7 @@ class Run:
         take, told = self.plan.numbers["take"], []
         if take is not None and len(self.frames) > take:
             told.append(f"{len(self.frames)} frames were printed of at most {take}")
-        for k, stream in enumerate(self.plan.streams):
+        for k, stream in enumerate(self.streams):
             payloads = self.of(k)
             if stream.to is not None and payloads:
                 told.append(f"stream {k} is written to a file, and was printed")
@@ -288,7 +283,7 @@ class Run:
         faulty = [k for k, end in self.ends.items() if end.startswith("fault")]
         told = []
         for who, end in self.ends.items():
-            until = None if who == "outer" else self.plan.streams[who].until
+            until = None if who == "outer" else self.streams[who].until
             if end == "halted" and frames != take and not faulty and until not in cancels - {"outer", None}:
                 told.append(f"{who} was halted without a cause")
         began = {by for by, *_ in self.events} - {"outer"}
@@ -297,7 +292,10 @@ class Run:
         if self.plan.numbers["max_open"] == 1:
             stops = [k for k in faulty if k != "outer"] + ([self.frames[-1][0]] if frames and frames == take else [])
             told += [f"stream {k} began behind the stop of {j}" for j in stops for k in began if k > j]
-            told += [f"stream {k} began behind its until" for k in began for j in cancels if j == self.plan.streams[k].until and j < k]
+            told += [f"stream {k} began behind its until" for k in began for j in cancels if j == self.streams[k].until and j < k]
+            behind = next((at for at, it in enumerate(self.events) if it[:3] == ("outer", "close", 0) and it[3] != "succeeded"), len(self.events))
+            early = {by for by, *_ in self.events[:behind]}
+            told += [f"stream {k} began behind the end of the outer one" for k in began - early]
         return told
 
     def wrong_order(self):
@@ -310,8 +308,8 @@ class Run:
                 continue
             if by not in open_now and (by, "cancel", None) in first and first[by, "cancel", None] >= place:
                 open_now.add(by)
-                ahead = ("outer", "lease", by + 1) if by + 1 < self.count else ("outer", "close", 0)
-                if not all(first.get(it, place) < place for it in (("outer", "lease", by), ahead)):
+                ahead = min(first.get(it, place) for it in (("outer", "lease", by + 1), ("outer", "close", 0)))
+                if first.get(("outer", "lease", by), place) >= place or ahead >= place:
                     told.append(f"stream {by} began before its turn")
             if len(open_now) > self.plan.numbers["max_open"]:
                 told.append(f"{len(open_now)} streams are open at place {place}")
@@ -322,19 +320,17 @@ class Run:
     def wrong_outer(self):
         """What is wrong with the outer stream's end and its events."""
         end, exit = self.ends["outer"], {"done": "succeeded", "halted": "canceled"}.get(self.ends["outer"], "errored")
-        acquires = [it for it in self.events if it[:2] == ("outer", "acquire")]
-        leases = [it for it in self.events if it[:2] == ("outer", "lease")]
-        closes = [it for it in self.events if it[:2] == ("outer", "close")]
+        is_root = lambda it: it[:3] == ("outer", "close", 0)
+        gives = [it for it in self.events if it[0] == "outer" and it[1] not in ("final", "cancel") and not is_root(it)]
         cancels = [it for it in self.events if it[:2] == ("outer", "cancel")]
-        told = []
-        if end not in ({"halted"} if self.plan.numbers["take"] == 0 else {self.outer_end} | ({"halted"} if self.outer_end == "done" else set())):
-            told.append(f"the outer stream ended {end} and not {self.outer_end}")
-        tables = 0 if self.plan.numbers["take"] == 0 else self.acquired_tables
-        if acquires != [("outer", "acquire", row, 0) for row in range(tables)]:
-            told.append("the outer stream acquired other tables")
-        if leases != [("outer", "lease", k, 0) for k in range(len(leases))] or end == "done" and len(leases) != self.count or end.startswith("fault") and leases:
-            told.append("the outer stream leased otherwise")
-        if closes != [("outer", "close", 0, exit)]:
+        told, is_none = [], self.plan.numbers["take"] == 0
+        if end not in ({"halted"} if is_none else {self.giving.end, "halted"}):
+            told.append(f"the outer stream ended {end} and not {self.giving.end}")
+        # It is halted where a stream is wanted of it: behind a lease, or before it gave anything where nothing is wanted at all.
+        fits = gives == self.giving.events if end != "halted" else gives == self.giving.events[: len(gives)] and (gives[-1][1] == "lease" if gives else is_none)
+        if not fits:
+            told.append(f"the outer stream gave {gives[-3:]} behind {len(gives[:-3])} others, of {len(self.giving.events)}")
+        if [it for it in self.events if is_root(it)] != [("outer", "close", 0, exit)]:
             told.append("the outer stream closed otherwise")
         if any(it[3] != "canceled" for it in cancels):
             told.append("the outer stream cancelled with another exit than canceled")
@@ -342,7 +338,7 @@ class Run:
 
     def wrong_output(self, k, end):
         """What is wrong with what the stream printed or wrote, where it ended so."""
-        stream, (given, _) = self.plan.streams[k], self.given[k]
+        stream, (given, _) = self.streams[k], self.given[k]
         began = any(it[0] == k for it in self.events)
         if stream.to is None:
             text = b"".join(self.of(k))
@@ -386,7 +382,7 @@ class Run:
 
     def possible_events(self, k, end, finals):
         """The lists of events that a stream may have that ended so."""
-        stream, rows = self.plan.streams[k], self.rows_of[k]
+        stream, rows = self.streams[k], self.rows_of[k]
         opened = rows[: next((at for at, row in enumerate(rows) if not self.opens(row)), len(rows))]
         written, own = (opened[:1], opened[1:]) if stream.to is not None else ([], opened)
         exit = "succeeded" if end == "done" else "errored"
@@ -415,7 +411,7 @@ class Run:
         if further:
             text = texts.setdefault(further[0], [b"", "halted"])
             text[:] = text[0] + further[1], "cut"
-        if not fits or any(k >= self.count or self.plan.streams[k].to is not None for k in texts):
+        if not fits or any(k >= len(self.streams) or self.streams[k].to is not None for k in texts):
             return [*told, f"no front of an output: {out[at : at + 80]!r}"]
         for k, (text, end) in texts.items():
             if not self.given[k][0].allows(text, end):

@@ -33,6 +33,9 @@ DESCRIPTIONS = {
     "1,024 streams, 64 at a time": (streams(1_024, "path = 'small'", "max_open = 64\n"), 0),
     "1,024 streams of 16 steps": (full(streams(1_024, f"path = 'small'\n{STEPS}", "max_open = 64\n")), 0),
     "1,024 streams of two files, each with a text and a file": (b"".join(b"[[stream]]\npath = 'small'\nwith = 'small'\njoin = 'append'\non_fault = 'x'\nto = 'to%d'\n" % it for it in range(1_024)), 0),
+    "a list of 1,024 lines, 64 streams at a time": (b"version = 2\nmax_open = 64\n[list]\npath = 'paths'\nmax = 1024\n", 0),
+    "a line more": (b"version = 2\nmax_open = 64\n[list]\npath = 'paths'\nmax = 1023\n", 1),
+    "16 groups of 64 streams": (b"version = 2\n" + (b"[[group]]\n" + b"[[group.stream]]\npath = 'small'\n" * 64) * 16, 0),
     "1,025 streams": (streams(1_025, "path = 'small'"), 3),
     "a table of 16,777,216 bytes": (b"[[table]]\nname = 't'\npath = 'records'\n", 0),
     "a stream of records of 16,777,216 bytes": (streams(1, "path = 'records'\nsteps = ['csv', 'count']"), 0),
@@ -62,6 +65,7 @@ def main():
         folder = pathlib.Path(name) / "case"
         folder.mkdir()
         (folder / "small").write_bytes(b"a\n" * 10)
+        (folder / "paths").write_bytes(b"small\n" * 1_024)
         (folder / "line").write_bytes(b"x" * 1_048_576)
         (folder / "records").write_bytes((b"".join(b"%07d,%07d\n" % (it, it) for it in range(MOST_OF_RECORDS // 16 + 1)))[:MOST_OF_RECORDS])
         print("| description | bytes | status | s by the clock | s of a processor | peak, KiB |\n|---|---|---|---|---|---|")

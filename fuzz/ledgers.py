@@ -59,8 +59,8 @@ class Front:
         self.parent, self.closed, self.acquired, self.final = {}, {}, {}, {}
         self.lease, self.cancel, self.by = {}, {}, {}
         self.rows_of, self.children = {}, {}
-        # Of each stream the rows that its last Close or Cancel has still to be followed by, each with whether it may be left out,
-        # and the exit.
+        # Of each stream the rows that its last Close or Cancel has still to be followed by directly, each with whether it may be
+        # left out, and the exit.
         self.expected = {}
 
     def is_open(self, k, s):
@@ -145,6 +145,8 @@ class Front:
         k, what, *words = event
         place, self.length = self.length, self.length + 1
         self.by.setdefault(k, place)
+        if what != "final":
+            self.expected[k] = ([], None)
         if what == "open":
             self.parent[k, words[0]] = words[1]
             self.children.setdefault((k, words[1]), []).append(words[0])

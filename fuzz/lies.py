@@ -88,7 +88,8 @@ def done_for_fault(told):
 
 def another_fault(told):
     """A fault under another name."""
-    told.ends = [it.replace("fault open", "fault read").replace("fault uneven", "fault nofield") for it in told.ends]
+    others = {"open": "read", "uneven": "nofield", "badpath": "toomany", "toomany": "badpath"}
+    told.ends = [re.sub(r"fault (\w+)", lambda it: f"fault {others.get(it[1], it[1])}", it) for it in told.ends]
 
 
 def no_final(told):
@@ -127,6 +128,16 @@ def outer_to_the_end(told):
     told.events = [it for it in told.events if it not in closes] + closes
 
 
+def leased_in_the_root(told):
+    """Every stream is leased in the root."""
+    told.events = [re.sub(r"^(outer lease \d+) .*", r"\1 0", it) for it in told.events]
+
+
+def left_to_the_root(told):
+    """No scope of a group or of the list is closed but by the Close of the root."""
+    told.events = [it for it in told.events if not re.match("outer close [1-9]", it)]
+
+
 def all_at_once(told):
     """All streams begin before any ends."""
     told.events.sort(key=lambda it: it.split(" ")[1] in ("close", "final", "cancel") and not it.startswith("outer"))
@@ -160,5 +171,6 @@ def of_cut_outputs(call, seen):
 
 LIES = {it.__name__: of_output(it) for it in (
     number_of_another, lost_frame, unfinished_line, empty_line, bytes_in_turn, nothing_printed, done_for_halted, done_for_fault,
-    another_fault, no_final, final_twice, finals_in_turn, all_succeeded, no_lease, outer_to_the_end, all_at_once)}
+    another_fault, no_final, final_twice, finals_in_turn, all_succeeded, no_lease, outer_to_the_end, leased_in_the_root, left_to_the_root,
+    all_at_once)}
 LIES |= {it.__name__: it for it in (of_status, of_files, of_refusals, of_audits, of_cut_outputs)}

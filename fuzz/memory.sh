@@ -1,7 +1,7 @@
 #!/usr/bin/env bash
 # Refuses each request for memory in turn, in the calls of a folder: a lookup through a lease, a file that is
-# written, a text in place of a fault, five streams one after the other, a case of three numbers, an audit, a file
-# that is read once, and one whose lines are taken in groups.
+# written, a text in place of a fault, five streams one after the other, a group with a table and a list behind it, a
+# case of three numbers, an audit, a file that is read once, and one whose lines are taken in groups.
 # The program is built once for all, unproved, with a checker of memory, and called once for each request
 # (rt try --fail-alloc 1..), so a run takes a quarter of an hour and more. A run may end with its own status
 # and output, or with 5, or where the output found no memory with 4; `rt` tells of each that faults, hangs,
@@ -23,6 +23,7 @@ printf 'k,v\n' >"$work/data/t.csv"
 printf 'k\nz\n' >"$work/data/a.csv"
 printf 'hello\n' >"$work/data/a"
 head -c 4097 /dev/zero | tr '\0' x >"$work/data/d"
+printf 'a\nt.csv\n' >"$work/data/l"
 
 # A call: its name, the words, and standard input.
 call() {
@@ -34,6 +35,7 @@ call lookup run '[[table]]\nname = "t"\npath = "t.csv"\n[[stream]]\npath = "a.cs
 call written run '[[stream]]\npath = "a"\nto = "b"\n'
 call caught run '[[stream]]\npath = "a"\nsteps = ["lines"]\nwith = "."\njoin = "append"\non_fault = "lost"\n'
 call five run 'max_open = 1\n[[stream]]\npath = "a"\n[[stream]]\npath = "/dev/null"\n[[stream]]\npath = "d"\n[[stream]]\npath = "a.csv"\n[[stream]]\npath = "t.csv"\n'
+call parts run 'version = 2\nmax_open = 1\n[[group]]\n[[group.table]]\nname = "t"\npath = "t.csv"\n[[group.stream]]\npath = "a.csv"\nsteps = ["csv", "lookup t 0"]\n[list]\npath = "l"\n'
 call generated 'gen 7 2 3' ''
 call audited audit 'ledger 2\nouter lease 0 0\nouter cancel 0 canceled\n'
 call teed 'tee --chunk 3 a lines|count' ''

@@ -63,6 +63,10 @@ class Taker(threading.Thread):
         os.close(self.pipe)
 
 
+# What a value of a description may be in place of another one, the name of an output too.
+SPOILED = "x"
+
+
 def is_plain(path):
     return not path.startswith("/") and "\0" not in path and "/" not in path
 
@@ -209,7 +213,7 @@ class Outside:
         targets = {it for path, it in case.links.items() if path.startswith("to")}
         told = []
         for it in self.folder.iterdir():
-            if it.name.startswith("to") or it.name in known or it.name in targets:
+            if it.name.startswith("to") or it.name in known or it.name in targets or it.name == SPOILED:
                 continue
             if not it.is_file() or it.read_bytes() != case.files.get(it.name):
                 told.append(it.name)
@@ -225,7 +229,7 @@ def told_of(case):
     readings |= {path: readings[target] for path, target in case.links.items() if target in readings}
     readings |= {path: Reading(content) for path, (content, _, _) in case.pipes.items()}
     readings["/dev/null"] = Reading()
-    writings = {f"to{it}": Writing(limit=limit) for it in range(1, 80)}
+    writings = {it: Writing(limit=limit) for it in [*(f"to{it}" for it in range(1, 80)), SPOILED]}
     writings |= {path: Writing(opens=False) for path in [*case.folders, *case.locked]}
     writings |= {"/dev/full": Writing(limit=0, read_back=False), "/dev/null": Writing(read_back=False)}
     writings |= {path: Writing(read_back=most is None, may_fail=most is not None) for path, most in case.taken.items()}

@@ -20,12 +20,15 @@ def frames_of(out):
     return frames, at
 
 
-def whole(out, streams):
-    """The frames, the ends and the events of a whole output, where these are its streams in order."""
+def whole(out, streams, further=()):
+    """The frames, the ends and the events of a whole output, where these are its streams in order, and behind them some of the
+    further ones, from the first on."""
     frames, at = frames_of(out)
     ends = {}
-    for who in streams:
+    for who in [*streams, *further]:
         found = re.compile(rb"end (\w+) (done|halted|fault [a-z0-9]+)\n").match(out, at)
+        if who in further and not found:
+            break
         if not found or found[1] != str(who).encode():
             raise NotPrinted(f"no end of {who} stands at byte {at}: {out[at : at + 60]!r}")
         ends[who], at = found[2].decode(), found.end()
@@ -33,7 +36,7 @@ def whole(out, streams):
         events = ledgers.read(out[at:])
     except ledgers.BadText as error:
         raise NotPrinted(f"no ledger stands at byte {at}, {error}") from None
-    if any(k not in streams for k, _ in frames):
+    if any(k not in ends for k, _ in frames):
         raise NotPrinted("a frame is of no stream")
     return frames, ends, events
 

@@ -12,7 +12,7 @@ import collections, pathlib, subprocess, sys, tempfile
 
 sys.path.insert(0, str(pathlib.Path(__file__).resolve().parent))
 import judge, outside
-from calls import FILES, TABLE
+from calls import FILES, PARTS, TABLE
 from cases import Case
 from program import words_in
 from scarce import wrongs_of_short
@@ -71,6 +71,7 @@ CALLS = {
     "caught": '[[stream]]\npath = "l"\nsteps = ["lines"]\nwith = "."\njoin = "append"\non_fault = "lost"\n',
     "five": 'max_open = 1\n[[stream]]\npath = "a"\n[[stream]]\npath = "p"\n[[stream]]\npath = "long"\n[[stream]]\npath = "a.csv"\n[[stream]]\npath = "t.csv"\n',
     "side by side": 'max_open = 3\n' + TABLE + '[[stream]]\npath = "a.csv"\nsteps = ["csv", "lookup t 0"]\n[[stream]]\npath = "p"\nsteps = ["lines", "number"]\n[[stream]]\npath = "q"\n',
+    "groups": 'version = 2\nmax_open = 3\n[[stream]]\npath = "a"\nto = "to1"\n[[group]]\n' + PARTS,
     "cat": ["cat", "--chunk", "3", "a"],
     "tee": ["tee", "--chunk", "4", "p", "lines", "utf8|lines|count"],
     "eval": ["eval", "--jobs", "2", "--group", "1", "p", "lines|number"],

@@ -19,6 +19,10 @@ from streams import Merged
 from words import command_of
 
 
+# The most bytes of one read of a list.
+OF_LISTS = 4_096
+
+
 def settings():
     parser = argparse.ArgumentParser(description="Random calls of the program, judged.")
     parser.add_argument("--seed", default=str(time.time_ns()))
@@ -41,10 +45,11 @@ def meets(case, call):
         outside.trip(case, call, command[1] if command[0] == "tee" else 4_096)
     elif isinstance(case.source, bytes):
         try:
-            chunk = plan_of(case.source).numbers["chunk"]
+            plan = plan_of(case.source)
         except Refused:
             return
-        outside.trip(case, call, chunk)
+        is_list = plan.listing and plan.listing.path == case.trip[0]
+        outside.trip(case, call, OF_LISTS if is_list else plan.numbers["chunk"])
 
 
 def audit_of(program, out):

@@ -27,27 +27,27 @@ class Short(Run):
         if self.seen.status in (4, 5):
             return self.wrongs_of_short_front()
         try:
-            self.frames, self.ends, self.events = printed.whole(self.seen.out, self.names)
+            self.frames, self.ends, self.events = self.whole()
         except printed.NotPrinted as error:
             return [str(error), f"status {self.seen.status}"]
         verdict = judge.ledgers.verdict(self.events)
         told = [f"the ledger: {verdict}"] if verdict != "audit ok" else self.wrong_status() + self.wrong_halts() + self.wrong_order()
-        for k, (given, _) in enumerate(self.given):
+        for k, (given, _) in enumerate(self.given[: self.count]):
             text, end = b"".join(self.of(k)), self.ends[k]
-            if self.plan.streams[k].to is None and not self.may_give(k, given, text, end):
+            if self.streams[k].to is None and not self.may_give(k, given, text, end):
                 told.append(f"stream {k} can't give {text[:80]!r} and end {end}")
         return told
 
     def may_give(self, k, given, text, end):
         """Whether the stream may give this. Of one with a text for its fault it isn't told where that came."""
-        return self.plan.streams[k].on_fault is not None or given.allows(text, end if end == "done" else "halted")
+        return self.streams[k].on_fault is not None or given.allows(text, end if end == "done" else "halted")
 
     def wrongs_of_short_front(self):
         told = [] if self.seen.status == 4 or not self.call.err_told or self.seen.err == MEMORY else [f"standard error was told {self.seen.err!r}"]
         frames, _ = printed.frames_of(self.seen.out)
         for k in {k for k, _ in frames}:
             text = b"".join(payload for by, payload in frames if by == k)
-            if k >= self.count or not self.given[k][0].allows(text, "halted") and self.plan.streams[k].on_fault is None:
+            if k >= len(self.streams) or not self.given[k][0].allows(text, "halted") and self.streams[k].on_fault is None:
                 told.append(f"stream {k} can't give {text[:80]!r}")
         return told
 

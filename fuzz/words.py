@@ -46,7 +46,7 @@ def parted(words, options):
 def chain_of(word):
     """The steps of a word, or None where it means none."""
     try:
-        steps = [step_of(it, [], (0, 0)) for it in word.split("|")] if word else []
+        steps = [step_of(it, {}, (0, 0)) for it in word.split("|")] if word else []
         kind_behind(steps, BYTES, 0, 0)
     except Refused:
         return None

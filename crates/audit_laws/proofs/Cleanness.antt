@@ -33,7 +33,7 @@ module _ (c : Call) (k : Causes) where
   work_clean work t = let r = t.performs.ledger in (r.legal, r.complete, r.ordered)
 
   plan_clean : (most : Option ℕ) (plan : Reading PlanMeant) → DoesPlan c k most plan → IsVerdict c.events Clean
-  plan_clean most (Ok plan) d = work_clean (run_work (with_most most plan)) d.1
+  plan_clean most (Ok plan) d = work_clean (run_work (with_most most plan) d.1.0) d.1.1
   plan_clean most (Err refusal) d = nothing_clean d.1
 
   cat_clean : (chunk : ℕ) (path : List ℕ) → Does c k (Some (Cat chunk path)) → IsVerdict c.events Clean

@@ -40,7 +40,7 @@ module _ (c : Call) (k : Causes) (calm : IsCalm k) (whole : IsPrintedWhole c.sta
   work_told work t = told work t.frames t.cut t.rest t.wanted t.performs t.text
 
   plan_told : (most : Option ℕ) (plan : Reading PlanMeant) → DoesPlan c k most plan → PrintsLast c (ledger_text c.events)
-  plan_told most (Ok plan) d = work_told (run_work (with_most most plan)) d.1
+  plan_told most (Ok plan) d = work_told (run_work (with_most most plan) d.1.0) d.1.1
   plan_told most (Err refusal) d = absurd (none_is_some refusal (sym calm.refused ∙ d.0))
 
   cat_told : (chunk : ℕ) (path : List ℕ) → Does c k (Some (Cat chunk path)) → PrintsLast c (ledger_text c.events)

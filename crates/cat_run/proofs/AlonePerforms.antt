@@ -125,6 +125,7 @@ module _ (places : List Place) (scopes : ℕ) (runs ideal : (ℕ → DeviceTold)
       record {
         done = subst (λ es. AllByRecursion (λ (e : EndOf). e.how ≡ how.Done) es) (sym r.ends) (w.0, tt);
         clean = clean (length places) scopes r.home r.how o.ledger r.account (λ k l. let f : faults_of (r.home k) ≡ 0 = calm k l in omega arith);
+        listed = tt;
         output = ((w.1.0, w.1.1, payloads_pieces 0 r.printed.pieces ∙ w.1.2), tt);
       }
 

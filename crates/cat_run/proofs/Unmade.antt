@@ -17,7 +17,8 @@ use Rattle.device_port.proofs.Puts.{with_bytes_none}
 use Rattle.run_rules.specs.declared.end.EndOf.{EndOf}
 use Rattle.run_rules.specs.Facts.{acquired_row, ended_row, failed_row}
 use Rattle.run_rules.specs.Devices.{AreAsMany, AreNoMore, IsShut, IsWrittenBy, came_back, is_closed_with, named, numbered}
-use Rattle.run_rules.specs.Rules.{KeepsPace, KeepsRules}
+use Rattle.run_rules.specs.Giving.{giving_all}
+use Rattle.run_rules.specs.Rules.{IsGivenBy, KeepsRules}
 use Rattle.run_rules.specs.Run.{Performs}
 use Rattle.run_rules.specs.Work.{Opener, Work, row_places, names_of, scopes_by}
 use Rattle.res_ledger.proofs.Stamps.{stamped_sound}
@@ -28,17 +29,22 @@ no_middle : {A : Type 0} (P Q : List A) (e : A) → [] ≡ P ++ e ∷ Q → ⊥
 no_middle [] Q e is = cc
 no_middle (x ∷ P) Q e is = cc
 
--- an empty ledger keeps the rules of every work
-none_paced : (o : Option Opener) (n : ℕ) → KeepsPace o n []
-none_paced None n = tt
-none_paced (Some o) n = record {
-  ahead = λ P Q e k is by. absurd (no_middle P Q e is);
-  within = λ P Q e is. absurd (no_middle P Q e is);
-  leases = λ P Q e i j s is what l. absurd (no_middle P Q e is);
-  waits = λ P Q e is. absurd (no_middle P Q e is);
-  begins = λ P Q e k is by. absurd (no_middle P Q e is);
+-- by an empty ledger nothing was given
+none_given : (o : Option Opener) (n : ℕ) → IsGivenBy o n []
+none_given None n = tt
+none_given (Some o) n = record {
+  order = (giving_all o n, refl);
+  tables = record { covers = λ j s r m l lent. absurd (among_nil m.1); only = λ j s r m c. absurd (among_nil m.1) };
+  pace = record {
+    ahead = λ P Q e k is by. absurd (no_middle P Q e is);
+    within = λ P Q e is. absurd (no_middle P Q e is);
+    leases = λ P Q e i j s is what l. absurd (no_middle P Q e is);
+    waits = λ P Q e is. absurd (no_middle P Q e is);
+    begins = λ P Q e k is by. absurd (no_middle P Q e is);
+  };
 }
 
+-- it keeps the rules of every work
 none_rules : (work : Work) → KeepsRules work []
 none_rules work = record {
   stamped = stamped_sound [] [] refl refl;
@@ -48,8 +54,7 @@ none_rules work = record {
   ours = tt;
   scopes = each_of (λ (k : StreamNo). length (opens (own k [])) ≤ scopes_by work k) (λ k. omega arith) (names_of work);
   leaving = λ P Q e j x is by what. absurd (no_middle P Q e is);
-  tables = record { rise = λ P Q e r s q t is by what m. absurd (no_middle P Q e is); covers = λ j s r m l. absurd (among_nil m.1) };
-  pace = none_paced work.opener (length work.streams);
+  given = none_given work.opener (length work.streams);
 }
 
 pub outcome_is : (o : Outcome) (es : List EndOf) (L : List Event) (s m : Bool) → o.ends ≡ es → o.ledger ≡ L → o.sink_failed ≡ s → o.memory ≡ m → o ≡ record { ends = es; ledger = L; sink_failed = s; memory = m }

@@ -23,7 +23,14 @@ IdealFileRuns d = ReadsWhole d
 
 -- one stream of one row, whose file is opened and read
 abbrev pub cat_work : List ℕ → Work
-cat_work path = record { opener = None; streams = record { places = to_read path ∷ []; scopes = 0; until = None } ∷ []; runs = λ k v w. FileRuns (w 0); ideal_runs = λ k v w. IdealFileRuns (w 0) }
+cat_work path = record {
+  opener = None;
+  streams = record { places = to_read path ∷ []; scopes = 0; until = None } ∷ [];
+  runs = λ k v w. FileRuns (w 0);
+  ideal_runs = λ k v w. IdealFileRuns (w 0);
+  listing = λ d ys e. ⊥;
+  ideal_listing = λ d ys e. ⊥;
+}
 
 abbrev pub run_record_of : DepotTold → DepotTold → List Frame → Option Frame → List ℕ → Outcome → RunRecord
 run_record_of old new frames cut rest o = record { depot_old = old; depot_new = new; ends = o.ends; events = o.ledger; frames = frames; cut = cut; rest = rest; memory = o.memory }

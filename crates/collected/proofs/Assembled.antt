@@ -1,304 +1,175 @@
 -- The outer stream and the streams that it gave ran together.
-use Rattle.std.proofs.Common.{◌≡◌, ◌≢◌, ◌⊎◌, ℕ, suc, ◌+◌, ◌-◌, ◌<◌, ◌≤◌, ◌^◌, List, ◌++◌, inl, inr, map, length, Option, Some, None, slice_get, refl, sym, ◌∙◌, ap, subst, ⊎_elim, arith}
+use Rattle.std.proofs.Common.{◌≡◌, ℕ, ◌+◌, ◌<◌, ◌≤◌, Bool, List, length, Option, Some, None, IfSome, refl, sym, ◌∙◌, subst, ⊎_elim, arith}
 use Rattle.std.proofs.lemmas.Bool.{cases_lt}
 use Rattle.std.proofs.lemmas.List.{length-map}
-use Rattle.std.specs.List.Sorted.{IsPermutation}
 use Rattle.channel_bounded.specs.Ends.{ReceiverSeen}
+use Rattle.chunk_core.specs.Lists.{IsAmong}
 use Rattle.chunk_core.specs.Tables.{Values}
+use Rattle.chunk_core.specs.Texts.{IsRestOf}
 use Rattle.chunk_core.specs.declared.code.How.{How}
 use Rattle.chunk_core.specs.declared.code.How.TheVariants as how
-use Rattle.chunk_core.specs.Texts.{IsRestOf}
-use Rattle.device_port.specs.Device.{DeviceTold}
+use Rattle.csv_pipes.specs.Dictionaries.{table_value}
+use Rattle.device_port.specs.Device.{DeviceTold, to_read}
 use Rattle.device_port.specs.Depot.{DepotTold}
-use Rattle.join_tale.specs.Keeping.{IsOuterStopped}
-use Rattle.join_tale.specs.Tales as tales
+use Rattle.join_tale.specs.Bounds.{Bounds}
+use Rattle.join_tale.specs.Keeping.{IsOuterStopped, IsTale}
 use Rattle.join_tale.specs.Tales.{Tale}
-use Rattle.join_tree.specs.Progress.{Follow}
+use Rattle.join_tree.specs.Given.{given}
 use Rattle.join_tree.specs.Settled.{Settles}
+use Rattle.outer_tables.specs.Outcomes.{values_in}
 use Rattle.outer_tables.specs.declared.not_read.NotRead.{NotRead}
-use Rattle.outer_tables.proofs.Outcomes.{few_tried}
-use Rattle.pipeline_desc.specs.Meant.{PlanMeant}
-use Rattle.pipeline_desc.specs.Places.{first_row, row_count}
+use Rattle.outer_tables.specs.declared.not_read.NotRead.TheVariants as why
+use Rattle.pipeline_desc.specs.Meant.{PlanMeant, stream_limit}
+use Rattle.pipeline_desc.specs.Places.{outer_rows}
 use Rattle.pipeline_desc.specs.Sound.{IsSoundPlan}
-use Rattle.pipeline_desc.specs.declared.stream.StreamSpec.{StreamSpec}
-use Rattle.plan_work.specs.Plans.{PlanRuns, opener_of, stream_of}
-use Rattle.pull_nodes.specs.declared.node.Node.{Node}
+use Rattle.pipeline_desc.specs.declared.table.TableSpec.{TableSpec}
+use Rattle.plan_work.specs.Listed.{ListRuns}
+use Rattle.plan_work.specs.Plans.{PlanRuns, opener_of, streams_of}
 use Rattle.pull_turns.specs.Piping.{StateMeaning}
-use Rattle.res_ledger.specs.Ledger.{Notes}
 use Rattle.res_ledger.specs.declared.event.Event.{Event}
-use Rattle.res_ledger.specs.declared.event.StreamNo.TheVariants.{Outer}
 use Rattle.res_ledger.specs.declared.event.What.TheVariants.{Lease}
 use Rattle.row_seat.specs.declared.view.View.{View}
-use Rattle.run_rules.specs.Facts.{at}
 use Rattle.run_rules.specs.Devices.{OpensWhatIsThere}
-use Rattle.run_rules.specs.Facts.{IsOver}
-use Rattle.run_rules.specs.Homes.{HaveValues, IsUntouched}
-use Rattle.run_rules.specs.Opening.{AreLeased, AreTablesRead, AreUntried, IsOuterEnd, OuterHasRun}
-use Rattle.run_rules.specs.Work.{RunRecord, Stream, first_row_of}
+use Rattle.run_rules.specs.Homes.{HaveValues}
+use Rattle.run_rules.specs.Opening.{OuterHasRun}
+use Rattle.run_rules.specs.Work.{Opener, RunRecord, Stream, opener_places}
 use Rattle.scope_tree.specs.Calls.{Seen}
-use Rattle.stream_jobs.specs.Running.{Origin}
-use Rattle.stream_parts.specs.Retire.{MayReturnAll, Returns}
-use Rattle.stream_parts.proofs.Exchanged.{may_permuted}
+use Rattle.stream_parts.specs.Retire.{Returns}
 use Rattle.joined_runs.specs.Devices.{MadeComeBack}
-use Rattle.joined_runs.specs.Shares.{AreTablesKept, IsJoinedLedger, IsShare}
-use Rattle.joined_runs.specs.Together.{HasNotRun, HasRun, RunsTogether}
-use Rattle.joined_runs.proofs.MadeRows.{at_below, at_some}
-use Rattle.joined_runs.proofs.PlansTogether.{plan_row, spec_at}
-use Rattle.joined_runs.proofs.StreamRows.{row_here}
+use Rattle.joined_runs.specs.Shares.{AreTablesKept, IsJoinedLedger}
+use Rattle.joined_runs.specs.Together.{RunsTogether}
+use Rattle.joined_runs.proofs.PlanBounds.{bounds_are}
+use Rattle.joined_runs.proofs.PlanRows.{outer_count}
 use Rattle.collected.specs.Collected.{IsCollected, IsRunOf, all_left}
-use Rattle.dealt_streams.specs.Works.{bare_work}
-use Rattle.outer_stream.specs.Tables.{EndsRead, HaveValuesOf, HasTables, IsStoppedBy}
-use Rattle.dealt_streams.specs.declared.leftover.Leftover.{Leftover}
 use Rattle.collected.specs.Laws.{CollectedRuns}
-use Rattle.dealt_streams.specs.Parts.{Part}
-use Rattle.dealt_streams.specs.Parts.Part.{Begun, Skipped, Unmade}
-use Rattle.collected.proofs.Core.{W, W_own, all_arranged, behind_idle, en, own, part_home, places_alone, tables_are}
-use Rattle.collected.proofs.DealtRows.{next_row, plan_rows, rows_below}
-use Rattle.collected.proofs.Each.{at_most, has_run, spec, spec_is}
+use Rattle.dealt_streams.specs.Moves.{contents_of, lines_of, tried_of}
+use Rattle.dealt_streams.specs.Standing.{EndsRead, IsStoppedBy, all_given, plan_parts}
+use Rattle.dealt_streams.specs.Works.{plan_bounds}
+use Rattle.dealt_streams.specs.declared.leftover.Leftover.{Leftover}
+use Rattle.collected.proofs.AllGiven.{all_lease}
+use Rattle.collected.proofs.Alone.{places_alone}
+use Rattle.collected.proofs.Core.{W, came, may_go, order'}
+use Rattle.collected.proofs.Each.{values}
+use Rattle.collected.proofs.HeldRows.{acquired_below, count, count_few, leased_below}
 use Rattle.collected.proofs.Opened.{all_lawful}
-use Rattle.collected.proofs.Passed.{begun_before, begun_still, done_or, longer, longer_tale}
-use Rattle.collected.proofs.Recorded.{recorded}
-use Rattle.collected.proofs.Settling.{all_leased, joined_ledger}
-use Rattle.collected.proofs.Shelves as shelves
-use Rattle.collected.proofs.Standing.{begun_at}
-use Rattle.collected.proofs.TableHomes.{all_made, left_read}
-use Rattle.collected.proofs.TablesTold as told_so
-use Rattle.collected.proofs.TablesTold.{paths_are, paths_count, plan_places, table_paths, tables_count, told_values}
+use Rattle.collected.proofs.OuterEnded.{order, outer_run}
+use Rattle.collected.proofs.PartsRead.{rows_valued}
+use Rattle.collected.proofs.Passed.{done_or, longer_tale}
+use Rattle.collected.proofs.PlanPlaces.{plan_rows}
+use Rattle.collected.proofs.Recorded.{dealt_leased, long, more, recorded, streams_count}
+use Rattle.collected.proofs.Settling.{given_noted, joined_ledger}
+use Rattle.collected.proofs.StreamsRun.{each_run, within}
+use Rattle.collected.proofs.ToldRows.{kept, tables_out, tried_valued}
+use Rattle.collected.proofs.Valued.{told_by}
 
-some_spec : (a b : StreamSpec) → Some a ≡ Some b → a ≡ b
-some_spec a b e = cc
+some_how : (g h : How) → Some g ≡ Some h → g ≡ h
+some_how g h e = cc
 
-module _ {S V F : Type 0} (view : S → View V) (told : V → DeviceTold) (P : Values → StateMeaning F) (says : (v : Values) → (P v).values ≡ v) (p : PlanMeant) (limits : IsSoundPlan p) (d0 now : DepotTold) (t : Values) (outer : How) (b : Seen V) (left : List (Leftover V)) (receiver : ReceiverSeen) (tale : Tale)
-    (h : IsCollected view told P p d0 now t outer b left receiver tale) (L : List Event) (s : Settles p.max_open (length p.streams) b h.progress L) where
+-- an outer stream that couldn't read all tables isn't done
+stopped_not_done : (w : NotRead) (memory : Bool) → IsStoppedBy w memory how.Done → ⊥
+stopped_not_done (why.Fault f) memory e = let q : how.Done ≡ how.Fault f = e in cc
+stopped_not_done why.Memory memory e = let q : how.Done ≡ how.Memory = e.0 in cc
+
+module _ {S V F : Type 0} (view : S → View V) (told : V → DeviceTold) (P : Values → StateMeaning F) (says : (v : Values) → (P v).values ≡ v) (p : PlanMeant) (limits : IsSoundPlan p) (d0 now : DepotTold) (outer : How) (b : Seen V) (left : List (Leftover V)) (receiver : ReceiverSeen) (tale : Tale)
+    (h : IsCollected view told P p d0 now outer b left receiver tale) (L : List Event) (s : Settles p.max_open (stream_limit p) b h.progress L) where
   abbrev W' : ℕ → DeviceTold
-  W' = W view told P p d0 now t outer b left receiver tale h L s
+  W' = W view told P p limits d0 now outer b left receiver tale h L s
 
-  abbrev en' : told_so.Ended told p d0 h.mid now h.o b h.progress L
-  en' = en view told P p d0 now t outer b left receiver tale h L s
+  abbrev lines' : List (List ℕ)
+  lines' = lines_of h.moves
 
-  abbrev own' : ℕ → DeviceTold
-  own' = own view told P p d0 now t outer b left receiver tale h L s
+  abbrev op : Opener
+  op = opener_of p lines'
 
-  arranged : IsPermutation (map (λ x. told x.pay) en'.shelf ++ en'.left) (all_left told b.shelf left)
-  arranged = all_arranged view told P p d0 now t outer b left receiver tale h L s
+  abbrev streams : List Stream
+  streams = streams_of p lines'
 
-  -- all that is left may go back
-  pub all_may_go : MayReturnAll now (all_left told b.shelf left)
-  all_may_go = may_permuted now (map (λ x. told x.pay) en'.shelf ++ en'.left) (all_left told b.shelf left) arranged (told_so.may_go told p d0 h.mid now h.o b h.progress L en')
+  abbrev n' : ℕ
+  n' = count view told P p limits d0 now outer b left receiver tale h
 
-  -- the values that the tables have
-  abbrev values_by : Option NotRead → Values
-  values_by None = t
-  values_by (Some o) = told_values W'
+  abbrev values' : Values
+  values' = values view told P says p limits d0 now outer b left receiver tale h L s
 
-  valued : (o : Option NotRead) → h.o ≡ o → HaveValues (Some (opener_of p)) W' (values_by o)
-  valued None e =
-      let same = tables_are view told P p d0 now t outer b left receiver tale h L s in
-      told_so.read_values told p d0 h.mid now h.o b h.progress L en' e t (subst (λ (x : HasTables told p d0 h.mid h.o b h.progress). HaveValuesOf told p x.contents t) (sym same) (h.read e))
-  valued (Some o) e = told_so.other_values told p d0 h.mid now h.o b h.progress L en'
+  abbrev more' : ℕ
+  more' = more view told P says p limits d0 now outer b left receiver tale h L s
 
-  -- What was done on each stream's rows.
+  abbrev long' : Tale
+  long' = long view told P says p limits d0 now outer b left receiver tale h L s
 
-  abbrev rows_of_all : List Stream
-  rows_of_all = map stream_of p.streams
+  n_is : length streams ≡ n'
+  n_is = streams_count view told P says p limits d0 now outer b left receiver tale h L s
 
-  idle_part : (k : ℕ) (x : Part V F) → at h.parts k ≡ Some x → ((n : Node) (ds : List V) (w : Origin V F) → x ≢ Begun n ds w) → (r : ℕ) → first_row p k ≤ r → r < first_row p (suc k) → IsUntouched (own' r)
-  idle_part k (Begun n ds w) e not r l u = absurd (not n ds w refl)
-  idle_part k Skipped e not r l u = part_home view told P p d0 now t outer b left receiver tale h L s k Skipped e r l u
-  idle_part k (Unmade ds) e not r l u = part_home view told P p d0 now t outer b left receiver tale h L s k (Unmade ds) e r l u
+  rows_are : length (opener_places op) ≡ outer_rows p
+  rows_are = outer_count p lines'
 
-  untouched_at : (r : ℕ) → length p.tables ≤ r → IsUntouched (own' r) → IsUntouched (W' r)
-  untouched_at r l u = subst IsUntouched (sym (W_own view told P p d0 now t outer b left receiver tale h L s r l)) u
-
-  -- a stream that wasn't begun
-  not_run : (k : ℕ) (z : StreamSpec) → slice_get p.streams k ≡ Some z → (¬ (tales.IsBegun tale k)) → ((r : ℕ) → first_row p k ≤ r → r < first_row p (suc k) → IsUntouched (own' r)) → (more : ℕ) → HasNotRun W' (longer tale more) k (first_row p k) (stream_of z)
-  not_run k z is not idle more = record {
-    unbegun = λ e. not (begun_before tale more k e);
-    untouched = λ r l u. untouched_at r (omega (arith, l)) (idle r l (let n = next_row p k z is in omega (arith, u, n)));
-  }
-
-  run_longer : (k : ℕ) (n : Node) (ds : List V) (w : Origin V F) (e : at h.parts k ≡ Some (Begun n ds w)) (more : ℕ) (E : List Event) → E ≡ L → (z : StreamSpec) → slice_get p.streams k ≡ Some z → HasRun (PlanRuns p k (values_by h.o) W') W' (longer tale more) E k (first_row p k) (stream_of z)
-  run_longer k n ds w e more E same z is =
-      let a = spec view told P says p limits d0 now t outer b left receiver tale h L s k n ds w e in
-      let q = has_run view told P says p limits d0 now t outer b left receiver tale h L s k n ds w e in
-      let none = shelves.all_read view told P p d0 now t outer b left receiver tale h L s k n ds w e in
-      let spec_same : a ≡ z = some_spec a z (sym (spec_is view told P says p limits d0 now t outer b left receiver tale h L s k n ds w e) ∙ is) in
-      subst (λ (x : StreamSpec). HasRun (PlanRuns p k (values_by h.o) W') W' (longer tale more) E k (first_row p k) (stream_of x)) spec_same
-      (subst (λ v. HasRun (PlanRuns p k v W') W' (longer tale more) E k (first_row p k) (stream_of a)) (sym (ap values_by none)) (record {
-        how = q.how;
-        begun = begun_still tale more k q.begun;
-        came = q.came;
-        share = subst (λ M. IsShare k (first_row p k) (first_row p k + length (stream_of a).places) (stream_of a).scopes W' q.how M) (sym same) q.share;
-        pieces = q.pieces;
-        received = q.received;
-        end = q.end;
-        run = q.run;
-        reported = q.reported;
-      }))
-
-  -- each stream was begun and ran, or was never begun
-  each_so : (more : ℕ) (E : List Event) → E ≡ L → (k : ℕ) (z : StreamSpec) → slice_get p.streams k ≡ Some z → HasRun (PlanRuns p k (values_by h.o) W') W' (longer tale more) E k (first_row p k) (stream_of z) ⊎ HasNotRun W' (longer tale more) k (first_row p k) (stream_of z)
-  each_so more E same k z is =
-      ⊎_elim
-      (λ (l : k < length h.parts). let x = at_some h.parts k l in of_part x.0 x.1)
-      (λ (l : length h.parts ≤ k). inr (not_run k z is (λ e. let x = begun_at view told P p d0 now t outer b left receiver tale h k e in absurd (let m = at_below h.parts k (Begun x.0 x.1 x.2) x.3 in omega (arith, l, m)))
-      (λ r low high. behind_idle view told P p d0 now t outer b left receiver tale h L s k r l low (let u = rows_below p k z is in omega (arith, high, u))) more))
-      (cases_lt k (length h.parts))
+  -- where the outer stream is done each stream was dealt with
+  done_all : outer ≡ how.Done → n' ≤ length h.parts
+  done_all e = by_lack h.stands.lack refl
     where
-      skipped_not : (n : Node) (ds : List V) (w : Origin V F) → Skipped ≢ Begun n ds w
-      skipped_not n ds w e = cc
+      all_dealt : given b.seat ≡ all_given p lines' → length h.parts < n' → ⊥
+      all_dealt gave l =
+          let a = all_lease op n' (length h.parts) l in
+          let noted = given_noted p.max_open (stream_limit p) b h.progress L s (Lease (length h.parts) a.0) (subst (λ E. IsAmong (Lease (length h.parts) a.0) E) (sym gave) a.1) in
+          let below = s.told.outer (Lease (length h.parts) a.0) noted in
+          let d = dealt_leased view told P says p limits d0 now outer b left receiver tale h L s in
+          omega (arith, below, d)
 
-      unmade_not : (es : List V) (n : Node) (ds : List V) (w : Origin V F) → Unmade es ≢ Begun n ds w
-      unmade_not es n ds w e = cc
+      by_lack : (o : Option NotRead) → h.stands.lack ≡ o → n' ≤ length h.parts
+      by_lack None q = ⊎_elim (λ (l : length h.parts < n'). absurd (all_dealt (subst (λ x. EndsRead p lines' (given b.seat) x) e (h.stands.ended q)) l)) (λ (l : n' ≤ length h.parts). l) (cases_lt (length h.parts) n')
+      by_lack (Some w) q = let u = (h.stands.unread w q).1 in absurd (stopped_not_done w tale.memory (subst (λ x. IsStoppedBy w tale.memory x) (some_how u.0 outer (sym u.1) ∙ e) u.2))
 
-      not_begun : (x : Part V F) → at h.parts k ≡ Some x → ((n : Node) (ds : List V) (w : Origin V F) → x ≢ Begun n ds w) → ¬ (tales.IsBegun tale k)
-      not_begun x e not i = let y = begun_at view told P p d0 now t outer b left receiver tale h k i in not y.0 y.1 y.2 (let q : Some x ≡ Some (Begun y.0 y.1 y.2) = sym e ∙ y.3 in cc)
+  stopped : 0 < more' → IsOuterStopped tale
+  stopped l = ⊎_elim (λ d. absurd (let a = done_all d in omega (arith, l, a))) (λ n. (outer, h.outer_is, n)) (done_or outer)
 
-      of_part : (x : Part V F) → at h.parts k ≡ Some x → HasRun (PlanRuns p k (values_by h.o) W') W' (longer tale more) E k (first_row p k) (stream_of z) ⊎ HasNotRun W' (longer tale more) k (first_row p k) (stream_of z)
-      of_part (Begun n ds w) e = inl (run_longer k n ds w e more E same z is)
-      of_part Skipped e = inr (not_run k z is (not_begun Skipped e skipped_not) (idle_part k Skipped e skipped_not) more)
-      of_part (Unmade ds) e = inr (not_run k z is (not_begun (Unmade ds) e (unmade_not ds)) (idle_part k (Unmade ds) e (unmade_not ds)) more)
+  is_tale : IsTale (plan_bounds p) long'
+  is_tale = longer_tale (plan_bounds p) tale more' h.is_tale stopped
 
-  -- no device was read beyond its limit
-  at_most_so : (k : ℕ) (z : StreamSpec) → slice_get p.streams k ≡ Some z → (r : ℕ) → first_row p k ≤ r → r < first_row p k + row_count z → (W' r).at ≤ 2 ^ 40
-  at_most_so k z is r low high = ⊎_elim (λ q. of_begun q) (λ q. let u = (q.untouched r low high).at in omega (arith, u)) (told_or 0)
-    where
-      told_or : (more : ℕ) → ((n : Node) × (ds : List V) × (w : Origin V F) × (at h.parts k ≡ Some (Begun n ds w))) ⊎ HasNotRun W' (longer tale more) k (first_row p k) (stream_of z)
-      told_or more = ⊎_elim (λ q. inl (begun_at view told P p d0 now t outer b left receiver tale h k (begun_before tale more k q.begun))) (λ q. inr q) (each_so more L refl k z is)
+  account : IsJoinedLedger op n' outer L
+  account =
+      joined_ledger p.max_open (stream_limit p) b h.progress L s (outer_rows p) (acquired_below view told P p limits d0 now outer b left receiver tale h L s) op n' (order view told P p limits d0 now outer b left receiver tale h L s) (leased_below view told P p limits d0 now outer b left receiver tale h) outer
+      (count_few view told P p limits d0 now outer b left receiver tale h) refl (sym rows_are) h.root
 
-      of_begun : ((n : Node) × (ds : List V) × (w : Origin V F) × (at h.parts k ≡ Some (Begun n ds w))) → (W' r).at ≤ 2 ^ 40
-      of_begun (n, ds, w, e) =
-          let a = spec view told P says p limits d0 now t outer b left receiver tale h L s k n ds w e in
-          let same : a ≡ z = some_spec a z (sym (spec_is view told P says p limits d0 now t outer b left receiver tale h L s k n ds w e) ∙ is) in
-          at_most view told P says p limits d0 now t outer b left receiver tale h L s k n ds w e r low (subst (λ (x : StreamSpec). r < first_row p k + row_count x) (sym same) high)
+  module _ (lawful : (d : V) → OpensWhatIsThere (told d)) (last : DepotTold) (c : RunRecord) (again : Returns now last (all_left told b.shelf left)) (r : IsRunOf p n' outer tale L d0 last c) where
+    back : MadeComeBack d0 last (plan_rows p lines') W'
+    back = came view told P p limits d0 now outer b left receiver tale h L s (places_alone view told P p limits d0 now outer b left receiver tale h) (all_lawful told lawful b.shelf left) last again
 
-  within : (r : ℕ) → length (opener_of p).tables ≤ r → r < length (plan_rows p) → (W' r).at ≤ 2 ^ 40
-  within r low high =
-      let x = row_here (opener_of p) rows_of_all r low high in
-      let y = spec_at p.streams x.number x.stream x.is in
-      let f = plan_row p x.number in
-      let l = x.low in
-      let u = x.high in
-      let c = ap (λ (z : Stream). length z.places) y.2 in
-      at_most_so x.number y.0 y.1 r (omega (arith, f, l)) (omega (arith, f, u, c))
-
-  -- How the outer stream ended.
-
-  module _ (lawful : (d : V) → OpensWhatIsThere (told d)) (last : DepotTold) (c : RunRecord) (again : Returns now last (all_left told b.shelf left)) (r : IsRunOf p outer tale L d0 last c) where
-    n_is : length rows_of_all ≡ length p.streams
-    n_is = length-map p.streams stream_of
-
-    read_all : h.o ≡ None → AreTablesRead (opener_of p) c W' 0 (opener_of p).tables
-    read_all none = told_so.all_read told p d0 h.mid now h.o b h.progress L en' (places_alone p limits) (all_left told b.shelf left) arranged (all_lawful told lawful b.shelf left) last again c r.depot_old r.depot_new r.events none
-
-    tried_same : length en'.ht.devices + length en'.ht.back ≡ length h.tables.devices + length h.tables.back
-    tried_same = ap (λ (x : HasTables told p d0 h.mid h.o b h.progress). length x.devices + length x.back) (tables_are view told P p d0 now t outer b left receiver tale h L s)
-
-    came_read : h.o ≡ None → (how : How) → how ≡ outer → EndsRead p h.progress.leased how → IsOuterEnd (opener_of p) (length rows_of_all) c W' how
-    came_read none how.Done e end = (read_all none, subst (λ k. AreLeased k c.events) (sym n_is) (subst (λ E. AreLeased (length p.streams) E) (sym r.events) (all_leased p.max_open (length p.streams) (length h.tables.devices) b h.progress L s h.tables.tables end)))
-    came_read none (how.Fault f) e end = absurd end
-    came_read none how.Halted e end = inl (read_all none)
-    came_read none how.Memory e end = left_read (opener_of p) c W' 0 (opener_of p).tables (read_all none)
-
-    came_stopped : (how : How) → IsStoppedBy told p h.o (length h.tables.devices + length h.tables.back) tale.memory how → IsOuterEnd (opener_of p) (length rows_of_all) c W' how
-    came_stopped how.Halted cause = inr (told_so.none_tried told p d0 h.mid now h.o b h.progress L en' (places_alone p limits) (all_left told b.shelf left) arranged (all_lawful told lawful b.shelf left) last again c r.depot_old r.depot_new r.events (tried_same ∙ cause.1))
-    came_stopped (how.Fault f) cause = told_so.one_failed told p d0 h.mid now h.o b h.progress L en' (places_alone p limits) (all_left told b.shelf left) arranged (all_lawful told lawful b.shelf left) last again c r.depot_old r.depot_new r.events f cause
-    came_stopped how.Memory cause = told_so.one_left told p d0 h.mid now h.o b h.progress L en' (places_alone p limits) (all_left told b.shelf left) arranged (all_lawful told lawful b.shelf left) last again c r.depot_old r.depot_new r.events cause.1
-    came_stopped how.Done cause = absurd cause
-
-    some_none : (o : NotRead) → Some o ≢ None
-    some_none o e = cc
-
-    came_so : (o : Option NotRead) → h.o ≡ o → IsOuterEnd (opener_of p) (length rows_of_all) c W' outer
-    came_so None e = came_read e outer refl (h.ended e)
-    came_so (Some o) e = came_stopped outer (h.unread (λ n. some_none o (sym e ∙ n))).1
-
-    -- the streams that were dealt with are those that were leased for
-    order : h.progress.next ≡ h.progress.leased
-    order = subst (λ ws. Follow h.progress.next ws h.progress.leased) h.waits h.main.order
-
-    -- where a stream was leased for all tables were read
-    leased_read : (j z : ℕ) → Notes L Outer (Lease j z) → h.o ≡ None
-    leased_read j z n = by_cases h.o refl
+    -- the values of the tables that were read are those of their devices
+    valued : HaveValues (Some op) W' values'
+    valued t key l = told_by W' (contents_of h.moves) t key of_contents
       where
-        by_cases : (o : Option NotRead) → h.o ≡ o → h.o ≡ None
-        by_cases None e = e
-        by_cases (Some o) e =
-            let parts = ap (λ (xs : List (Part V F)). length xs) (h.unread (λ q. some_none o (sym e ∙ q))).0 in
-            let next = h.next in
-            let below = s.told.outer (Lease j z) n in
-            absurd (omega (arith, parts, next, order, below))
+        of_contents : t < length (contents_of h.moves) → IfSome (W' t).content (λ bytes. values_in (contents_of h.moves) t key ≡ table_value bytes key)
+        of_contents m =
+            let z : 0 + t ≡ t = omega arith in
+            subst (λ k. IfSome (W' k).content (λ bytes. values_in (contents_of h.moves) t key ≡ table_value bytes key)) z
+            (rows_valued p.tables op c W' (length p.tables) (plan_rows p lines') 0 (plan_parts p) (tried_of h.moves) h.stands.lack h.stands.tried (order' view told P p limits d0 now outer b left receiver tale h L s)
+            (tables_out view told P p limits d0 now outer b left receiver tale h L s last back c r.depot_old r.depot_new r.events) (tried_valued view told P p limits d0 now outer b left receiver tale h L s) t key m)
 
-    lent : (j z : ℕ) → Notes L Outer (Lease j z) → length (opener_of p).tables ≤ length h.tables.devices
-    lent j z n = let a = all_made told d0.files W' h.tables.out (leased_read j z n) in let t = tables_count p in let u = paths_count p in omega (arith, a, t, u)
+    tables_within : (q : ℕ) → length op.tables ≤ q → length p.tables ≤ q
+    tables_within q l = let count = length-map p.tables (λ (t : TableSpec). to_read t.path) in omega (arith, l, count)
 
-    not_over : IsOver how.Halted → ⊥
-    not_over o = ⊎_elim (λ e. let q : how.Halted ≡ how.Done = e in let z : ⊥ = cc in z) (λ f. let q : how.Halted ≡ how.Fault f.0 = f.1 in let z : ⊥ = cc in z) o
-
-    nobody_so : p.take ≡ Some 0 → AreUntried W' 0 (opener_of p).tables × ¬ (IsOver outer)
-    nobody_so e =
-        let n = h.nobody e in (
-          told_so.none_tried told p d0 h.mid now h.o b h.progress L en' (places_alone p limits) (all_left told b.shelf left) arranged (all_lawful told lawful b.shelf left) last again c r.depot_old r.depot_new r.events (tried_same ∙ n.0),
-          λ o. not_over (subst (λ x. IsOver x) n.1 o),
-        )
-
-    has_run_so : OuterHasRun (opener_of p) (length rows_of_all) c W' outer
-    has_run_so = record {
-      end = came_so h.o refl;
-      gives = λ j z n. read_all (leased_read j z (subst (λ E. Notes E Outer (Lease j z)) r.events n));
-      nobody = nobody_so;
-    }
-
-    -- where the outer stream is done each stream was dealt with
-    done_all : outer ≡ how.Done → length h.parts ≡ length p.streams
-    done_all e = by_cases h.o refl
-      where
-        by_cases : (o : Option NotRead) → h.o ≡ o → length h.parts ≡ length p.streams
-        by_cases None q = let l : h.progress.leased ≡ length p.streams = subst (λ x. EndsRead p h.progress.leased x) e (h.ended q) in sym h.next ∙ (order ∙ l)
-        by_cases (Some o) q = absurd (subst (λ x. IsStoppedBy told p h.o (length h.tables.devices + length h.tables.back) tale.memory x) e (h.unread (λ n. some_none o (sym q ∙ n))).1)
-
-    stopped : 0 < length p.streams - length h.parts → IsOuterStopped tale
-    stopped l = ⊎_elim (λ d. absurd (let a = done_all d in omega (arith, l, a))) (λ n. (outer, h.outer_is, n)) (done_or outer)
-
-    devices : MadeComeBack c.depot_old c.depot_new (plan_rows p) W'
-    devices =
-        subst (λ x. MadeComeBack x c.depot_new (plan_rows p) W') (sym r.depot_old)
-        (subst (λ x. MadeComeBack d0 x (plan_rows p) W') (sym r.depot_new)
-        (subst (λ ts. MadeComeBack d0 last (ts ++ plan_places p) W') (paths_are p) (told_so.came told p d0 h.mid now h.o b h.progress L en' (places_alone p limits) (all_left told b.shelf left) arranged (all_lawful told lawful b.shelf left) last again)))
-
-    account : IsJoinedLedger p.max_open (length (opener_of p).tables) (length rows_of_all) outer c.events
-    account =
-        subst (λ E. IsJoinedLedger p.max_open (length (opener_of p).tables) (length rows_of_all) outer E) (sym r.events)
-        (subst (λ k. IsJoinedLedger p.max_open (length (opener_of p).tables) k outer L) (sym n_is)
-        (joined_ledger p.max_open (length p.streams) (length h.tables.devices) b h.progress L s h.tables.tables (length (opener_of p).tables) outer (let f = few_tried h.tables.out in let a = tables_count p in let u = paths_count p in omega (arith, f, a, u)) lent h.root))
-
-    pub together : RunsTogether (opener_of p) rows_of_all (PlanRuns p) c
+    pub together : RunsTogether op streams (PlanRuns p) ListRuns c
     together = record {
       home = W';
-      values = values_by h.o;
+      values = values';
       outer = outer;
-      tale = longer tale (length p.streams - length h.parts);
-      devices = devices;
-      valued = valued h.o refl;
-      within = within;
-      account = account;
-      tables = subst (λ E. AreTablesKept (length (opener_of p).tables) W' E) (sym r.events) (told_so.kept told p d0 h.mid now h.o b h.progress L en');
-      came = has_run_so;
-      is_tale = longer_tale (bare_work p) tale (length p.streams - length h.parts) h.is_tale stopped;
+      tale = long';
+      devices = subst (λ x. MadeComeBack x c.depot_new (plan_rows p lines') W') (sym r.depot_old) (subst (λ x. MadeComeBack d0 x (plan_rows p lines') W') (sym r.depot_new) back);
+      valued = valued;
+      within = λ q low high. within view told P says p limits d0 now outer b left receiver tale h L s q (tables_within q low) high;
+      account = subst (λ E. IsJoinedLedger op (length streams) outer E) (sym r.events) (subst (λ k. IsJoinedLedger op k outer L) (sym n_is) account);
+      tables = subst (λ E. AreTablesKept (length (opener_places op)) W' E) (sym r.events) (subst (λ k. AreTablesKept k W' L) (sym rows_are) (kept view told P p limits d0 now outer b left receiver tale h L s));
+      came = subst (λ k. OuterHasRun op ListRuns k c W' outer) (sym n_is) (outer_run view told P p limits d0 now outer b left receiver tale h L s last back c r.depot_old r.depot_new r.events);
+      is_tale = subst (λ (x : Bounds). IsTale x long') (sym (bounds_are p lines')) is_tale;
       settled = h.settled;
-      recorded = recorded view told P says p limits d0 now t outer b left receiver tale h L s last c r;
+      recorded = recorded view told P says p limits d0 now outer b left receiver tale h L s last c r;
       outer_is = h.outer_is;
-      each = λ k z is.
-          let y = spec_at p.streams k z is in
-          subst (λ (x : Stream). HasRun (PlanRuns p k (values_by h.o) W') W' (longer tale (length p.streams - length h.parts)) c.events k (first_row_of (bare_work p) k) x ⊎ HasNotRun W' (longer tale (length p.streams - length h.parts)) k (first_row_of (bare_work p) k) x) y.2
-          (subst (λ f. HasRun (PlanRuns p k (values_by h.o) W') W' (longer tale (length p.streams - length h.parts)) c.events k f (stream_of y.0) ⊎ HasNotRun W' (longer tale (length p.streams - length h.parts)) k f (stream_of y.0)) (plan_row p k)
-          (each_so (length p.streams - length h.parts) c.events r.events k y.0 y.1));
+      each = each_run view told P says p limits d0 now outer b left receiver tale h L s more' c.events r.events;
       rest = subst (λ f. IsRestOf f c.rest) (sym r.cut) r.rest;
     }
 
 -- what a collector leaves that has come to its end
 pub collected_runs : {S V F : Type 0} (view : S → View V) (told : V → DeviceTold) (P : Values → StateMeaning F) → ((v : Values) → (P v).values ≡ v) → CollectedRuns view told P
 collected_runs view told P says = record {
-  may_go = λ p d0 now t outer b left receiver tale L limits h s. all_may_go view told P says p limits d0 now t outer b left receiver tale h L s;
-  runs = λ p d0 now last t outer b left receiver tale L c limits lawful h s again r. together view told P says p limits d0 now t outer b left receiver tale h L s lawful last c again r;
+  may_go = λ p d0 now outer b left receiver tale L limits h s. may_go view told P p limits d0 now outer b left receiver tale h L s;
+  runs = λ p d0 now last outer b left receiver tale L c limits lawful h s again r. together view told P says p limits d0 now outer b left receiver tale h L s lawful last c again r;
 }

@@ -5,13 +5,13 @@ use Rattle.chunk_core.specs.declared.code.How.TheVariants as how
 use Rattle.join_report.specs.Reports.{IsReport}
 use Rattle.join_report.specs.declared.report.Report.{Report}
 use Rattle.join_report.proofs.Steps.{fates}
+use Rattle.join_tale.specs.Bounds.{Bounds}
 use Rattle.join_tale.specs.Keeping.{IsOuterStopped, IsTale}
 use Rattle.join_tale.specs.Steps.{fated}
 use Rattle.join_tale.specs.Tales.{Fate, IsBegun, Tale}
 use Rattle.join_tale.specs.Tales.Fate.{Begun, Skipped}
 use Rattle.join_tale.proofs.Steps.{skips}
 use Rattle.run_rules.specs.Facts.{at}
-use Rattle.run_rules.specs.Work.{Work}
 
 -- so many fates of streams that are passed over
 abbrev pub passed_over : ℕ → List Fate
@@ -36,11 +36,11 @@ none_more : (t : Tale) → t ≡ longer t 0
 none_more t = ap (λ (l : List Fate). record t { fates = l }) (sym (append-nil t.fates))
 
 -- where the outer stream has ended otherwise than done, it is a tale
-pub longer_tale : (work : Work) (t : Tale) (n : ℕ) → IsTale work t → (0 < n → IsOuterStopped t) → IsTale work (longer t n)
-longer_tale work t zero i stopped = subst (λ u. IsTale work u) (none_more t) i
-longer_tale work t (suc n) i stopped =
+pub longer_tale : (bounds : Bounds) (t : Tale) (n : ℕ) → IsTale bounds t → (0 < n → IsOuterStopped t) → IsTale bounds (longer t n)
+longer_tale bounds t zero i stopped = subst (λ u. IsTale bounds u) (none_more t) i
+longer_tale bounds t (suc n) i stopped =
     let o = stopped (omega arith) in
-    subst (λ u. IsTale work u) (one_more t n) (longer_tale work (fated t Skipped) n (skips work t i (inr (inr o))) (λ l. o))
+    subst (λ u. IsTale bounds u) (one_more t n) (longer_tale bounds (fated t Skipped) n (skips bounds t i (inr (inr o))) (λ l. o))
 
 -- a report tells it as well
 pub longer_report : (most : Option ℕ) (count : ℕ) (t : Tale) (r : Report) (n : ℕ) → IsReport most count t r → IsReport most count (longer t n) r

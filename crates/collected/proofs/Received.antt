@@ -9,7 +9,7 @@ use Rattle.chunk_core.specs.declared.code.How.{How}
 use Rattle.chunk_core.specs.declared.load.Load.{Load}
 use Rattle.chunk_core.proofs.Bools.{itself}
 use Rattle.join_tale.specs.Tales as tales
-use Rattle.join_tale.specs.Tales.{Message, Tale, loads_in, loads_of, loads_received}
+use Rattle.join_tale.specs.Tales.{Tale, loads_in, loads_of, loads_received}
 use Rattle.run_rules.specs.Outputs.{elements_in_pieces}
 use Rattle.stream_jobs.specs.Messages.{AreTextsOf, end_message, load_messages, text_of}
 use Rattle.dealt_streams.specs.Kept.{told_message}

@@ -1,5 +1,5 @@
 -- The record of a run tells its tale.
-use Rattle.std.proofs.Common.{◌≡◌, ◌⊎◌, ℕ, zero, suc, ◌+◌, ◌-◌, ◌<◌, true, List, [], ◌∷◌, inl, inr, map, length, Some, None, refl, sym, ◌∙◌, ap, subst, ⊎_elim, arith}
+use Rattle.std.proofs.Common.{◌≡◌, ◌⊎◌, ℕ, zero, suc, ◌+◌, ◌-◌, ◌<◌, true, List, [], ◌∷◌, inl, inr, map, length, take, Some, None, refl, sym, ◌∙◌, ap, subst, ⊎_elim, arith}
 use Rattle.std.proofs.lemmas.List.{length-map}
 use Rattle.std.specs.Prelude.{slice_index_or}
 use Rattle.std.specs.List.{range_with_len}
@@ -18,13 +18,14 @@ use Rattle.join_report.specs.Reports.{how_of}
 use Rattle.join_report.proofs.Listing.{names_agree}
 use Rattle.join_report.proofs.Steps.{reports_ends}
 use Rattle.join_tale.specs.Ended.{Ended}
-use Rattle.join_tale.specs.Records.{EndedSo, IsRecordOf}
+use Rattle.join_tale.specs.Records.{EndedSo, IsRecordOf, bare}
 use Rattle.join_tale.specs.Tales as tales
 use Rattle.join_tale.specs.Tales.{HasCome, Tale}
+use Rattle.join_tree.specs.Progress.{Follow}
 use Rattle.join_tree.specs.Settled.{Settles}
-use Rattle.pipeline_desc.specs.Meant.{PlanMeant}
+use Rattle.pipeline_desc.specs.Meant.{PlanMeant, stream_limit}
 use Rattle.pipeline_desc.specs.Sound.{IsSoundPlan}
-use Rattle.plan_work.specs.Plans.{stream_of}
+use Rattle.plan_work.specs.Plans.{opener_of, specs_of, stream_of, streams_of}
 use Rattle.pull_turns.specs.Piping.{StateMeaning}
 use Rattle.res_ledger.specs.declared.event.Event.{Event}
 use Rattle.res_ledger.specs.declared.event.StreamNo.{StreamNo}
@@ -41,12 +42,13 @@ use Rattle.run_rules.specs.declared.end.EndOf.{EndOf}
 use Rattle.scope_tree.specs.Calls.{Seen}
 use Rattle.tree_families.specs.Families.{Split}
 use Rattle.collected.specs.Collected.{IsCollected, IsRunOf}
-use Rattle.dealt_streams.specs.Works.{bare_work}
+use Rattle.dealt_streams.specs.Moves.{lines_of}
 use Rattle.dealt_streams.specs.declared.leftover.Leftover.{Leftover}
 use Rattle.dealt_streams.specs.Parts.{fate_of}
-use Rattle.collected.proofs.Core.{few_parts}
 use Rattle.collected.proofs.Each.{share}
+use Rattle.collected.proofs.HeldRows.{count, count_few, leased_below, without}
 use Rattle.collected.proofs.Passed.{begun_before, begun_still, longer, longer_count, longer_report}
+use Rattle.collected.proofs.PlanPlaces.{no_lines}
 use Rattle.collected.proofs.Standing.{begun_at, come_begun}
 
 -- Ends.
@@ -69,6 +71,13 @@ index_at [] k h e = cc
 index_at (x ∷ hs) zero h e = let s : x ≡ h = cc in s
 index_at (x ∷ hs) (suc k) h e = index_at hs k h e
 
+-- what stands among the first ones stands there
+at_taken : (n : ℕ) (hs : List How) (k : ℕ) (h : How) → at (take n hs) k ≡ Some h → at hs k ≡ Some h
+at_taken zero hs k h e = cc
+at_taken (suc n) [] k h e = cc
+at_taken (suc n) (x ∷ hs) zero h e = e
+at_taken (suc n) (x ∷ hs) (suc k) h e = at_taken n hs k h e
+
 outer_name : (n : ℕ) (i : ℕ) (x : StreamNo) → at (Outer ∷ names_below n) i ≡ Some x → ((i ≡ 0) × (x ≡ Outer)) ⊎ ((k : ℕ) × (i ≡ suc k) × (x ≡ Inner k) × (k < n))
 outer_name n zero x e = let s : Outer ≡ x = cc in inl (refl, sym s)
 outer_name n (suc k) x e = let r = name_at 0 n k x e in let z : 0 + k ≡ k = omega arith in inr (k, refl, r.0 ∙ ap Inner z, r.1)
@@ -76,8 +85,8 @@ outer_name n (suc k) x e = let r = name_at 0 n k x e in let z : 0 + k ≡ k = om
 inner_number : (j k : ℕ) → Inner j ≡ Inner k → j ≡ k
 inner_number j k e = cc
 
-module _ {S V F : Type 0} (view : S → View V) (told : V → DeviceTold) (P : Values → StateMeaning F) (says : (v : Values) → (P v).values ≡ v) (p : PlanMeant) (limits : IsSoundPlan p) (d0 now : DepotTold) (t : Values) (outer : How) (b : Seen V) (left : List (Leftover V)) (receiver : ReceiverSeen) (tale : Tale)
-    (h : IsCollected view told P p d0 now t outer b left receiver tale) (L : List Event) (s : Settles p.max_open (length p.streams) b h.progress L) where
+module _ {S V F : Type 0} (view : S → View V) (told : V → DeviceTold) (P : Values → StateMeaning F) (says : (v : Values) → (P v).values ≡ v) (p : PlanMeant) (limits : IsSoundPlan p) (d0 now : DepotTold) (outer : How) (b : Seen V) (left : List (Leftover V)) (receiver : ReceiverSeen) (tale : Tale)
+    (h : IsCollected view told P p d0 now outer b left receiver tale) (L : List Event) (s : Settles p.max_open (stream_limit p) b h.progress L) where
   -- Which streams noted something.
 
   pub began : (e : Event) (k : ℕ) → IsAmong e L → e.by ≡ Inner k → tales.IsBegun tale k
@@ -93,7 +102,7 @@ module _ {S V F : Type 0} (view : S → View V) (told : V → DeviceTold) (P : V
   -- a stream that has come back left
   pub left_so : (k : ℕ) → HasCome tale k → has_left k L ≡ true
   left_so k come =
-      let begun = come_begun view told P p d0 now t outer b left receiver tale h k come in
+      let begun = come_begun view told P p d0 now outer b left receiver tale h k come in
       let x = (h.streams.begun k).0 begun in
       let older = s.older x.0 x.1 in
       let is = x.2 in
@@ -109,8 +118,8 @@ module _ {S V F : Type 0} (view : S → View V) (told : V → DeviceTold) (P : V
       by_whom Outer n x = absurd (s.told.skipped k n.0 n.1 x)
       by_whom (Inner j) n x =
           let e = n.1.0 in
-          let g = begun_at view told P p d0 now t outer b left receiver tale h j (began e j n.1.1 n.1.2) in
-          let l = (share view told P says p limits d0 now t outer b left receiver tale h L s j g.0 g.1 g.2 g.3).leaves e k n.0 n.1.1 n.1.2 n.1.3 in
+          let g = begun_at view told P p d0 now outer b left receiver tale h j (began e j n.1.1 n.1.2) in
+          let l = (share view told P says p limits d0 now outer b left receiver tale h L s j g.0 g.1 g.2 g.3).leaves e k n.0 n.1.1 n.1.2 n.1.3 in
           any_at (λ (y : Event). is_cancel k y.what) e (by_stream (Inner k) L) (by_out (Inner k) L e n.1.1 (n.1.2 ∙ ap Inner (sym l.0))) (cancels e n.0 n.1.3)
 
   left_come : (k : ℕ) → has_left k L ≡ true → HasCome tale k
@@ -119,46 +128,67 @@ module _ {S V F : Type 0} (view : S → View V) (told : V → DeviceTold) (P : V
       let i = by_in (Inner k) L f.0 f.1 in
       h.streams.come k (began f.0 k i.0 i.1)
 
-  module _ (last : DepotTold) (c : RunRecord) (r : IsRunOf p outer tale L d0 last c) where
-    abbrev more : ℕ
-    more = length p.streams - length h.parts
+  -- How many streams there are.
 
-    abbrev pub long : Tale
-    long = longer tale more
+  abbrev n' : ℕ
+  n' = count view told P p limits d0 now outer b left receiver tale h
 
-    all_fates : length long.fates ≡ length p.streams
-    all_fates =
-        let f = ap (λ (l : List tales.Fate). length l) h.fates_are in
-        let m = length-map h.parts fate_of in
-        let few = few_parts view told P p d0 now t outer b left receiver tale h L s in
-        let g = longer_count tale more in
-        omega (arith, f, m, few, g)
+  abbrev pub lines' : List (List ℕ)
+  lines' = lines_of h.moves
 
-    ended_at : (k : ℕ) → k < length p.streams → Ended long k (how_of r.report k)
+  -- those that were dealt with were leased for
+  pub dealt_leased : length h.parts ≡ h.progress.leased
+  dealt_leased = sym h.next ∙ subst (λ ws. Follow h.progress.next ws h.progress.leased) h.waits h.main.order
+
+  pub streams_count : length (streams_of p lines') ≡ n'
+  streams_count = length-map (specs_of p lines') stream_of ∙ no_lines p lines' (without view told P p limits d0 now outer b left receiver tale h)
+
+  abbrev pub more : ℕ
+  more = n' - length h.parts
+
+  abbrev pub long : Tale
+  long = longer tale more
+
+  all_fates : length long.fates ≡ n'
+  all_fates =
+      let f = ap (λ (l : List tales.Fate). length l) h.fates_are in
+      let m = length-map h.parts fate_of in
+      let d = dealt_leased in
+      let few = leased_below view told P p limits d0 now outer b left receiver tale h in
+      let g = longer_count tale more in
+      omega (arith, f, m, d, few, g)
+
+  module _ (last : DepotTold) (c : RunRecord) (r : IsRunOf p n' outer tale L d0 last c) where
+    ended_at : (k : ℕ) → k < n' → Ended long k (how_of r.report k)
     ended_at k l =
-        reports_ends p.take (length p.streams) long r.report (longer_report p.take (length p.streams) tale r.report more r.report_is) (λ j i. h.streams.come j (begun_before tale more j i)) k l (let f = all_fates in omega (arith, l, f))
+        let few = count_few view told P p limits d0 now outer b left receiver tale h in
+        reports_ends p.take (stream_limit p) long r.report (longer_report p.take (stream_limit p) tale r.report more r.report_is) (λ j i. h.streams.come j (begun_before tale more j i)) k (omega (arith, l, few)) (let f = all_fates in omega (arith, l, f))
+
+    -- the ends of the streams
+    abbrev hows : List How
+    hows = take n' r.report.streams.hows
 
     told_end : (e : EndOf) → IsAmong e c.ends → EndedSo long e.who e.how
     told_end e m =
-        let z = zipped c.ends (Outer ∷ names_below (length p.streams)) (outer ∷ r.report.streams.hows) r.names r.hows e m in
+        let z = zipped c.ends (Outer ∷ names_below n') (outer ∷ hows) r.names r.hows e m in
         ⊎_elim
         (λ o.
-        let is : at (outer ∷ r.report.streams.hows) 0 ≡ Some e.how = subst (λ i. at (outer ∷ r.report.streams.hows) i ≡ Some e.how) o.0 z.2 in
+        let is : at (outer ∷ hows) 0 ≡ Some e.how = subst (λ i. at (outer ∷ hows) i ≡ Some e.how) o.0 z.2 in
         subst (λ w. EndedSo long w e.how) (sym o.1) (h.outer_is ∙ is))
         (λ i.
-        let is : at r.report.streams.hows i.0 ≡ Some e.how = subst (λ q. at (outer ∷ r.report.streams.hows) q ≡ Some e.how) i.1 z.2 in
-        subst (λ w. EndedSo long w e.how) (sym i.2) (subst (λ q. Ended long i.0 q) (index_at r.report.streams.hows i.0 e.how is) (ended_at i.0 i.3)))
-        (outer_name (length p.streams) z.0 e.who z.1)
+        let is : at hows i.0 ≡ Some e.how = subst (λ q. at (outer ∷ hows) q ≡ Some e.how) i.1 z.2 in
+        subst (λ w. EndedSo long w e.how) (sym i.2) (subst (λ q. Ended long i.0 q) (index_at r.report.streams.hows i.0 e.how (at_taken n' r.report.streams.hows i.0 e.how is)) (ended_at i.0 i.3)))
+        (outer_name n' z.0 e.who z.1)
 
-    pub recorded : IsRecordOf (bare_work p) long c
+    pub recorded : IsRecordOf (bare (Some (opener_of p lines')) (streams_of p lines')) long c
     recorded = record {
       frames = r.frames;
       cut = r.cut;
       memory = r.memory;
       opener = refl;
-      named = r.names ∙ ap (λ l. Outer ∷ l) (ap names_below (sym (length-map p.streams stream_of)) ∙ names_agree (map stream_of p.streams));
+      named = r.names ∙ ap (λ l. Outer ∷ l) (ap names_below (sym streams_count) ∙ names_agree (streams_of p lines'));
       told = told_end;
-      count = let f = all_fates in let m = length-map p.streams stream_of in omega (arith, f, m);
+      count = let f = all_fates in let m = streams_count in omega (arith, f, m);
       begun = λ e k m by. begun_still tale more k (began e k (subst (λ E. IsAmong e E) r.events m) by);
       left = λ j e. left_come j (subst (λ E. has_left j E ≡ true) r.events e);
       leaves = λ j d. subst (λ E. has_left j E ≡ true) (sym r.events) (left_so j d);

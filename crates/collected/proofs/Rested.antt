@@ -100,11 +100,17 @@ module _ {V : Type 0} where
         (swapped l ls (own_of z) (flat_map own_of zs))
         (IsPermutation-append (l ++ own_of z) (all_of z) (ls ++ flat_map own_of zs) (flat_map all_of zs) (one_arranged z) (arranged zs)))
 
-module _ {S V F : Type 0} (view : S → View V) (told : V → DeviceTold) (P : Values → StateMeaning F) (p : PlanMeant) (t : Values) (parts : List (Part V F)) (progress : Progress V) (receiver : ReceiverSeen) (tale : Tale)
-    (made : (k : ℕ) (n : Node) (ds : List V) (w : Origin V F) → at parts k ≡ Some (Begun n ds w) → IsMadeOf told p t k n ds w) where
+-- a stream was made so, once some contents of tables were read and some lines were given streams
+pub record MadeSo {V F : Type 0} (told : V → DeviceTold) (p : PlanMeant) (k : ℕ) (n : Node) (ds : List V) (w : Origin V F) : Type 0 where
+  pub contents : List (List ℕ)
+  pub lines : List (List ℕ)
+  pub made : IsMadeOf told p contents lines k n ds w
+
+module _ {S V F : Type 0} (view : S → View V) (told : V → DeviceTold) (P : Values → StateMeaning F) (p : PlanMeant) (parts : List (Part V F)) (progress : Progress V) (receiver : ReceiverSeen) (tale : Tale)
+    (made : (k : ℕ) (n : Node) (ds : List V) (w : Origin V F) → at parts k ≡ Some (Begun n ds w) → MadeSo told p k n ds w) where
   -- what the job of a stream did that has come back
-  abbrev pub job_of : (x : Leftover V) (n : Node) (ds : List V) (w : Origin V F) (e : JobEnd S V) (h : HasComeBack view told P parts progress receiver tale x n ds w e) → RunsJob told view (P w.start.tables).values n ds w.stream (made w.stream n ds w h.begun).site.seat.floor w.leased e
-  job_of x n ds w e h = let m = made w.stream n ds w h.begun in jobs_end view told P n m.site ds w e m.is_of m.scopes h.ends
+  abbrev pub job_of : (x : Leftover V) (n : Node) (ds : List V) (w : Origin V F) (e : JobEnd S V) (h : HasComeBack view told P parts progress receiver tale x n ds w e) → RunsJob told view (P w.start.tables).values n ds w.stream (made w.stream n ds w h.begun).made.site.seat.floor w.leased e
+  job_of x n ds w e h = let m = (made w.stream n ds w h.begun).made in jobs_end view told P n m.site ds w e m.is_of m.scopes h.ends
 
   abbrev pub rest_of : (x : Leftover V) (g : Gone S V F) → IsKept view told P parts progress receiver tale x g → Rested V
   rest_of x (Came n ds w e) h = let j = job_of x n ds w e h in record { number = w.stream; home = j.home; mine = j.visited.mine; lent = j.visited.lent; unopened = e.unopened }

@@ -1,5 +1,5 @@
--- The devices of a stretch of rows: made for some of them, and left as they are or gone.
-use Rattle.std.proofs.Common.{◌≡◌, ◌≢◌, ℕ, ◌+◌, ◌-◌, ◌<◌, ◌≤◌, nat_eq, List, [], ◌∷◌, ◌++◌, map, length, Option, Some, None, refl, sym, ◌∙◌, ap, subst, ⊎_elim, arith, append_assoc, length-append, ne_eqb}
+-- The devices of some rows: made for some of them, and left as they are or gone.
+use Rattle.std.proofs.Common.{◌≡◌, ◌≢◌, ◌⊎◌, ℕ, ◌+◌, ◌-◌, ◌<◌, ◌≤◌, Bool, true, false, ◌&&◌, cond, nat_eq, nat_le, nat_lt, List, [], ◌∷◌, ◌++◌, inl, inr, map, length, Option, Some, None, refl, sym, ◌∙◌, ap, subst, ⊎_elim, arith, append_assoc, length-append, ne_eqb}
 use Rattle.std.proofs.lemmas.Bool.{cases_lt}
 use Rattle.std.proofs.lemmas.List.{length-map, map-append}
 use Rattle.std.proofs.lemmas.List.Sorted.{IsPermutation-append, IsPermutation-append_comm, IsPermutation-append_left, IsPermutation-append_right, IsPermutation-refl, IsPermutation-sym, IsPermutation-trans}
@@ -39,6 +39,32 @@ pub map_same : {A : Type 0} (v w : ℕ → A) (rows : List ℕ) → ((r : ℕ) �
 map_same v w [] h = refl
 map_same v w (r ∷ rows) h = ap (λ x. x ∷ map v rows) (h r (here rows)) ∙ ap (λ l. w r ∷ l) (map_same v w rows (λ q m. h q (there r m)))
 
+-- the row is one of those from a up to b
+abbrev pub is_in : ℕ → ℕ → ℕ → Bool
+is_in a b r = nat_le a r && nat_lt r b
+
+abbrev pub IsIn : ℕ → ℕ → ℕ → Type 0
+IsIn a b r = (a ≤ r) × (r < b)
+
+pub in_true : (a b r : ℕ) → IsIn a b r → is_in a b r ≡ true
+in_true a b r i = let l = i.0 in let u = i.1 in grind (arith, l, u)
+
+pub in_false : (a b r : ℕ) → ¬ (IsIn a b r) → is_in a b r ≡ false
+in_false a b r n = ⊎_elim (λ (l : r < a). grind (arith, l)) (λ (l : a ≤ r). ⊎_elim (λ (u : r < b). absurd (n (l, u))) (λ (u : b ≤ r). grind (arith, u)) (cases_lt r b)) (cases_lt r a)
+
+pub in_or : (a b r : ℕ) → IsIn a b r ⊎ ¬ (IsIn a b r)
+in_or a b r = ⊎_elim (λ (l : r < a). inr (λ i. let k = i.0 in omega (arith, k, l))) (λ (l : a ≤ r). ⊎_elim (λ (u : r < b). inl (l, u)) (λ (u : b ≤ r). inr (λ i. let k = i.1 in omega (arith, k, u))) (cases_lt r b)) (cases_lt r a)
+
+-- the devices of those rows, and others behind and before them
+abbrev pub either_home : ℕ → ℕ → (ℕ → DeviceTold) → (ℕ → DeviceTold) → ℕ → DeviceTold
+either_home a b u v r = cond (is_in a b r) (u r) (v r)
+
+pub home_in : (a b : ℕ) (u v : ℕ → DeviceTold) (r : ℕ) → IsIn a b r → u r ≡ either_home a b u v r
+home_in a b u v r i = sym (ap (λ c. cond c (u r) (v r)) (in_true a b r i))
+
+pub home_out : (a b : ℕ) (u v : ℕ → DeviceTold) (r : ℕ) → ¬ (IsIn a b r) → v r ≡ either_home a b u v r
+home_out a b u v r n = sym (ap (λ c. cond c (u r) (v r)) (in_false a b r n))
+
 module _ (all : List Place) (files : Option Files) where
   pub made_same : (v w : ℕ → DeviceTold) (n : ℕ) (rows : List ℕ) → ((r : ℕ) → IsAmong r rows → v r ≡ w r) → AreMade files all n v rows → AreMade files all n w rows
   made_same v w n [] h a = tt
@@ -49,22 +75,22 @@ module _ (all : List Place) (files : Option Files) where
   made_number w r n rows a (here rs) = let e = a.0.2.number_is in (omega (arith, e), omega (arith, e))
   made_number w r n rows a (there {xs = rs} q m) = let i = made_number w r (n + 1) rs a.1 m in let l = i.0 in let u = i.1 in (omega (arith, l), omega (arith, u))
 
-  -- Since the depot stood as old devices were made for some of the rows from `from` to `to`, one after the other; some of them are gone and were never opened, and the others are left and may go back.
-  pub record RowsMade (own : ℕ → DeviceTold) (from to : ℕ) (old new : DepotTold) (gone left : List DeviceTold) : Type 0 where
+  -- Since the depot stood as old devices were made for some of these rows, one after the other; some of them are gone and were never opened, and the others are left and may go back.
+  pub record RowsMade (own : ℕ → DeviceTold) (these : ℕ → Type 0) (old new : DepotTold) (gone left : List DeviceTold) : Type 0 where
     pub rows : List ℕ
-    pub inside : (r : ℕ) → IsAmong r rows → (from ≤ r) × (r < to)
+    pub inside : (r : ℕ) → IsAmong r rows → these r
     pub apart : IsDistinct nat_eq rows
     pub exchanges : Exchanges old new (map (λ r. (own r).place) rows) gone
     pub devices : AreMade files all (length old.made) own rows
     pub each : IsPermutation (map own rows) (gone ++ left)
-    pub others : (r : ℕ) (p : Place) → from ≤ r → r < to → at all r ≡ Some p → ¬ (IsAmong r rows) → IsUnmadeAt files p (own r)
+    pub others : (r : ℕ) (p : Place) → these r → at all r ≡ Some p → ¬ (IsAmong r rows) → IsUnmadeAt files p (own r)
     pub may : MayReturnAll new left
     pub unopened : AllByRecursion (λ d. d.opens ≡ 0) gone
 
   -- rows agree there
-  pub rows_same : (v w : ℕ → DeviceTold) (from to : ℕ) (old new : DepotTold) (gone left : List DeviceTold) → ((r : ℕ) → from ≤ r → r < to → v r ≡ w r) → RowsMade v from to old new gone left → RowsMade w from to old new gone left
-  rows_same v w from to old new gone left h m =
-      let same : (r : ℕ) → IsAmong r m.rows → v r ≡ w r = λ r i. h r (m.inside r i).0 (m.inside r i).1 in
+  pub rows_same : (v w : ℕ → DeviceTold) (these : ℕ → Type 0) (old new : DepotTold) (gone left : List DeviceTold) → ((r : ℕ) → these r → v r ≡ w r) → RowsMade v these old new gone left → RowsMade w these old new gone left
+  rows_same v w these old new gone left h m =
+      let same : (r : ℕ) → IsAmong r m.rows → v r ≡ w r = λ r i. h r (m.inside r i) in
       record {
         rows = m.rows;
         inside = m.inside;
@@ -72,48 +98,62 @@ module _ (all : List Place) (files : Option Files) where
         exchanges = subst (λ ps. Exchanges old new ps gone) (map_same (λ r. (v r).place) (λ r. (w r).place) m.rows (λ r i. ap (λ (d : DeviceTold). d.place) (same r i))) m.exchanges;
         devices = made_same v w (length old.made) m.rows same m.devices;
         each = subst (λ l. IsPermutation l (gone ++ left)) (map_same v w m.rows same) m.each;
-        others = λ r p l k e n. subst (IsUnmadeAt files p) (h r l k) (m.others r p l k e n);
+        others = λ r p t e n. subst (IsUnmadeAt files p) (h r t) (m.others r p t e n);
         may = m.may;
         unopened = m.unopened;
       }
+
+  -- they are as well those of which this holds
+  pub rows_named : (own : ℕ → DeviceTold) (these those : ℕ → Type 0) (old new : DepotTold) (gone left : List DeviceTold) → ((r : ℕ) → these r → those r) → ((r : ℕ) → those r → these r) → RowsMade own these old new gone left → RowsMade own those old new gone left
+  rows_named own these those old new gone left to from m = record {
+    rows = m.rows;
+    inside = λ r i. to r (m.inside r i);
+    apart = m.apart;
+    exchanges = m.exchanges;
+    devices = m.devices;
+    each = m.each;
+    others = λ r p t e n. m.others r p (from r t) e n;
+    may = m.may;
+    unopened = m.unopened;
+  }
 
   -- no device was made there
   abbrev pub bare_row : ℕ → DeviceTold
   bare_row r = elim (at all r) [ Some p ↦ bare_home files p | None ↦ blank ]
 
-  bare_at : (r : ℕ) (p : Place) → at all r ≡ Some p → bare_row r ≡ bare_home files p
+  pub bare_at : (r : ℕ) (p : Place) → at all r ≡ Some p → bare_row r ≡ bare_home files p
   bare_at r p e = ap (λ (o : Option Place). elim o [ Some q ↦ bare_home files q | None ↦ blank ]) e
 
   pub bare_idle : (r : ℕ) → r < length all → IsUntouched (bare_row r)
   bare_idle r l = let p = at_some all r l in subst IsUntouched (sym (bare_at r p.0 p.1)) (bare_unmade files p.0).untouched
 
-  pub rows_bare : (from to : ℕ) (old : DepotTold) → RowsMade bare_row from to old old [] []
-  rows_bare from to old = record {
+  pub rows_bare : (these : ℕ → Type 0) (old : DepotTold) → RowsMade bare_row these old old [] []
+  rows_bare these old = record {
     rows = [];
     inside = λ r m. absurd (among_nil m);
     apart = distinct_nil;
     exchanges = exchanges_none old;
     devices = tt;
     each = IsPermutation-refl [];
-    others = λ r p l k e n. subst (IsUnmadeAt files p) (sym (bare_at r p e)) (bare_unmade files p);
+    others = λ r p t e n. subst (IsUnmadeAt files p) (sym (bare_at r p e)) (bare_unmade files p);
     may = record { each = tt; apart = distinct_nil };
     unopened = tt;
   }
 
   -- so many devices were made
-  pub made_count : (own : ℕ → DeviceTold) (from to : ℕ) (old new : DepotTold) (gone left : List DeviceTold) (m : RowsMade own from to old new gone left) → length new.made ≡ length old.made + length m.rows
-  made_count own from to old new gone left m =
+  pub made_count : (own : ℕ → DeviceTold) (these : ℕ → Type 0) (old new : DepotTold) (gone left : List DeviceTold) (m : RowsMade own these old new gone left) → length new.made ≡ length old.made + length m.rows
+  made_count own these old new gone left m =
       let e = ap (λ (l : List Place). length l) m.exchanges.made in
       let f = length-append old.made (map (λ r. (own r).place) m.rows) in
       let g = length-map m.rows (λ r. (own r).place) in
       omega (arith, e, f, g)
 
-  -- one stretch behind another
-  module _ (own : ℕ → DeviceTold) (from mid to : ℕ) (old now new : DepotTold) (xs ys zs us : List DeviceTold) (a : RowsMade own from mid old now xs ys) (b : RowsMade own mid to now new zs us) (low : from ≤ mid) (high : mid ≤ to) where
+  -- some rows behind others
+  module _ (own : ℕ → DeviceTold) (these those : ℕ → Type 0) (old now new : DepotTold) (xs ys zs us : List DeviceTold) (a : RowsMade own these old now xs ys) (b : RowsMade own those now new zs us) (disjoint : (r : ℕ) → these r → those r → ⊥) where
     count : length now.made ≡ length old.made + length a.rows
-    count = made_count own from mid old now xs ys a
+    count = made_count own these old now xs ys a
 
-    -- a device of the second stretch has a greater number than one of the first that is left
+    -- a device of the second ones has a greater number than one of the first that is left
     numbers_apart : (x y : DeviceTold) → IsAmong x (zs ++ us) → IsAmong y ys → x.number ≢ y.number
     numbers_apart x y i j e =
         let r = among_map own x b.rows (among_permuted (zs ++ us) (map own b.rows) (IsPermutation-sym (map own b.rows) (zs ++ us) b.each) x i) in
@@ -122,24 +162,32 @@ module _ (all : List Place) (files : Option Files) where
         let less = (among_each (MayReturn now) y ys a.may.each j).made in
         omega (arith, more, is, less, e)
 
-    pub rows_then : RowsMade own from to old new (xs ++ zs) (ys ++ us)
+    pub rows_then : RowsMade own (λ r. these r ⊎ those r) old new (xs ++ zs) (ys ++ us)
     rows_then = record {
       rows = a.rows ++ b.rows;
-      inside = λ r m. ⊎_elim (λ i. let s = a.inside r i in let k = s.1 in (s.0, omega (arith, k, high))) (λ i. let s = b.inside r i in let k = s.0 in (omega (arith, k, low), s.1)) (among_append r a.rows b.rows m);
-      apart = distinct_both nat_eq a.rows b.rows a.apart b.apart (λ x y i j. ne_eqb x y (λ e. let k = (a.inside x i).1 in let l = (b.inside y j).0 in omega (arith, k, l, e)));
+      inside = λ r m. ⊎_elim (λ i. inl (a.inside r i)) (λ i. inr (b.inside r i)) (among_append r a.rows b.rows m);
+      apart = distinct_both nat_eq a.rows b.rows a.apart b.apart (λ x y i j. ne_eqb x y (λ e. disjoint x (a.inside x i) (subst those (sym e) (b.inside y j))));
       exchanges = subst (λ ps. Exchanges old new ps (xs ++ zs)) (sym (map-append (λ r. (own r).place) a.rows b.rows)) (exchanges_then old now new (map (λ r. (own r).place) a.rows) (map (λ r. (own r).place) b.rows) xs zs a.exchanges b.exchanges);
       devices = made_both all own files (length old.made) a.rows b.rows a.devices (subst (λ n. AreMade files all n own b.rows) count b.devices);
       each = subst (λ l. IsPermutation l ((xs ++ zs) ++ (ys ++ us))) (sym (map-append own a.rows b.rows))
           (IsPermutation-trans (map own a.rows ++ map own b.rows) ((xs ++ ys) ++ (zs ++ us)) ((xs ++ zs) ++ (ys ++ us)) (IsPermutation-append (map own a.rows) (xs ++ ys) (map own b.rows) (zs ++ us) a.each b.each) (swapped xs ys zs us));
-      others = λ r p l k e n. ⊎_elim
-          (λ (h : r < mid). a.others r p l h e (λ m. n (among_left b.rows m)))
-          (λ (h : mid ≤ r). b.others r p h k e (λ m. n (among_right r a.rows b.rows m)))
-          (cases_lt r mid);
+      others = λ r p t e n. ⊎_elim (λ i. a.others r p i e (λ m. n (among_left b.rows m))) (λ i. b.others r p i e (λ m. n (among_right r a.rows b.rows m))) t;
       may = may_both new ys us (may_after now new (map (λ r. (own r).place) b.rows) zs ys b.exchanges a.may (λ x y i j. numbers_apart x y (among_left us i) j)) b.may (λ x y i j e. numbers_apart y x (among_right y zs us j) i (sym e));
       unopened = each_append (λ (d : DeviceTold). d.opens ≡ 0) xs zs a.unopened b.unopened;
     }
 
-  -- the rows of one stream are such
+  -- first some rows from a up to b, and then others
+  pub rows_first : (a b : ℕ) (u v : ℕ → DeviceTold) (these those : ℕ → Type 0) (old now new : DepotTold) (xs ys zs us : List DeviceTold) → RowsMade u (IsIn a b) old now xs ys → RowsMade v those now new zs us → ((r : ℕ) → IsIn a b r → those r → ⊥)
+      → ((r : ℕ) → IsIn a b r ⊎ those r → these r) → ((r : ℕ) → these r → IsIn a b r ⊎ those r) → RowsMade (either_home a b u v) these old new (xs ++ zs) (ys ++ us)
+  rows_first a b u v these those old now new xs ys zs us m n disjoint to from =
+      let w = either_home a b u v in
+      rows_named w (λ r. IsIn a b r ⊎ those r) these old new (xs ++ zs) (ys ++ us) to from
+      (rows_then w (IsIn a b) those old now new xs ys zs us
+      (rows_same u w (IsIn a b) old now xs ys (λ r i. home_in a b u v r i) m)
+      (rows_same v w those now new zs us (λ r i. home_out a b u v r (λ k. disjoint r k i)) n)
+      disjoint)
+
+  -- rows one behind the other are such
   module _ (own : ℕ → DeviceTold) (from : ℕ) (places : List Place) (old new : DepotTold) (gone left : List DeviceTold) (m : OwnRows own from places old new gone left) (same : old.files ≡ files) (there_at : (i : ℕ) → i < length places → at all (from + i) ≡ at places i) where
     count_is : length places ≡ length m.first + length m.rest
     count_is = ap (λ (l : List Place). length l) m.split ∙ length-append m.first m.rest
@@ -147,7 +195,7 @@ module _ (all : List Place) (files : Option Files) where
     first_at : (i : ℕ) (p : Place) → at m.first i ≡ Some p → at all (from + i) ≡ Some p
     first_at i p e = let l = at_below m.first i p e in there_at i (omega (arith, l, count_is)) ∙ (ap (λ xs. at xs i) m.split ∙ (at_left m.first m.rest i l ∙ e))
 
-    pub rows_own : RowsMade own from (from + length places) old new gone left
+    pub rows_own : RowsMade own (IsIn from (from + length places)) old new gone left
     rows_own = record {
       rows = range_with_len from (length m.first);
       inside = λ r i. let b = among_range from (length m.first) r i in let u = b.1 in (b.0, omega (arith, u, count_is));
@@ -155,7 +203,9 @@ module _ (all : List Place) (files : Option Files) where
       exchanges = subst (λ ps. Exchanges old new ps gone) (sym (places_are old.files own (length old.made) from m.first m.returned)) m.exchanges;
       devices = subst (λ f. AreMade f all (length old.made) own (range_with_len from (length m.first))) same (are_made old.files own all (length old.made) from m.first m.returned first_at);
       each = m.each;
-      others = λ r p l k e n.
+      others = λ r p t e n.
+          let l = t.0 in
+          let k = t.1 in
           let i = r - from in
           let z : from + i ≡ r = omega (arith, l) in
           let here_is : at places i ≡ Some p = sym (there_at i (omega (arith, l, k))) ∙ (ap (λ q. at all q) z ∙ e) in

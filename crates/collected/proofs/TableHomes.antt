@@ -1,30 +1,30 @@
 -- What became of the devices of tables, once the rows of those that were opened have ended.
 use Rattle.std.proofs.Common.{◌≡◌, ◌⊎◌, ℕ, zero, suc, ◌+◌, ◌<◌, ◌≤◌, Bool, true, false, cond, nat_eq, List, [], ◌∷◌, inl, inr, map, length, take, drop, Option, Some, None, IfSome, refl, sym, ◌∙◌, ap, subst, ⊎_elim, arith}
 use Rattle.std.proofs.lemmas.Bool.{cases_lt, lt-ltb}
-use Rattle.std.proofs.lemmas.List.{length-map, take_all}
+use Rattle.std.proofs.lemmas.List.{take_all}
 use Rattle.chunk_core.specs.declared.code.Code.{Code}
 use Rattle.chunk_core.specs.declared.code.Code.TheVariants as code
 use Rattle.chunk_core.specs.declared.code.Exit.{Exit}
 use Rattle.csv_pipes.specs.Dictionaries.{records_fault, table_fault, table_value, is_first_short, has_long_value}
-use Rattle.device_port.specs.Device.{Place, DeviceTold, closed_with, to_read}
+use Rattle.device_port.specs.Device.{DeviceTold, closed_with, to_read}
 use Rattle.device_port.specs.Depot.{Files, content_at}
 use Rattle.outer_tables.specs.declared.not_read.NotRead.{NotRead}
 use Rattle.outer_tables.specs.declared.not_read.NotRead.TheVariants as why
 use Rattle.outer_tables.specs.Devices.{new_device, unopened as never_opened, when_open}
 use Rattle.outer_tables.specs.Outcomes.{ComeOut, values_in}
 use Rattle.outer_tables.specs.Outcomes.ComeOut.{none, read, closed, unread, refused, unmade, cut}
-use Rattle.outer_tables.proofs.Outcomes.{all_opened}
 use Rattle.outer_tables.specs.Whole.{GivesAll, IsAtEnd, WasRead, most_read}
 use Rattle.pull_nodes.specs.Csv.{is_too_large, is_uneven, records_of}
 use Rattle.pull_stepper.specs.Held.{closed_as}
 use Rattle.res_ledger.specs.Ledger.{IsAcquired}
 use Rattle.run_rules.specs.Facts.{at}
-use Rattle.run_rules.specs.Homes.{IsBack, is_tried}
-use Rattle.run_rules.specs.Opening.{AreTablesFailed, AreTablesLeft, AreTablesRead, AreUntried, IsRefusedBy, IsTableFault, IsTableRead}
+use Rattle.run_rules.specs.Homes.{IsBack}
+use Rattle.run_rules.specs.Opening.{IsRefusedBy, IsTableFailed, IsTableFault, IsTableRead}
 use Rattle.run_rules.specs.Work.{Opener, RunRecord}
 use Rattle.std.specs.List.{list_any as any}
 use Rattle.std.specs.Str.{is_utf8}
 use Rattle.joined_runs.specs.Devices.{AreReturned, IsReturned}
+use Rattle.collected.proofs.TableRuns.{CameOut, IsBare, IsCalm}
 
 -- One device.
 
@@ -222,14 +222,20 @@ module _ {V : Type 0} (told : V → DeviceTold) (files : Option Files) (w : ℕ 
   back_failed unmade i d e = cc
   back_failed (cut x h) i d e = cc
 
-  -- where all were read there is a device for each
-  pub all_made : {n : ℕ} {paths bss : List (List ℕ)} {ds : List V} {back : List DeviceTold} {o : Option NotRead} → ComeOut told files n paths ds back bss o → o ≡ None → length ds ≡ length paths
-  all_made {n = n} {paths = paths} {bss = bss} {ds = ds} {back = back} out e = all_opened (subst (λ x. ComeOut told files n paths ds back bss x) e out)
+  -- each content is that of a device
+  pub read_devices : {n : ℕ} {paths bss : List (List ℕ)} {ds : List V} {back : List DeviceTold} {o : Option NotRead} → ComeOut told files n paths ds back bss o → length bss ≤ length ds
+  read_devices none = omega arith
+  read_devices (read d g fine out) = let l = read_devices out in omega (arith, l)
+  read_devices closed = omega arith
+  read_devices (unread d h) = omega arith
+  read_devices (refused d bytes f g h) = omega arith
+  read_devices unmade = omega arith
+  read_devices (cut d h) = omega arith
 
   -- the values are those of the contents that are told
-  pub values_told : {n : ℕ} {paths bss : List (List ℕ)} {ds : List V} {back : List DeviceTold} {o : Option NotRead} → ComeOut told files n paths ds back bss o → o ≡ None → (t : ℕ) (d : V) (key : List ℕ) → at ds t ≡ Some d → IfSome (told d).content (λ c. values_in bss t key ≡ table_value c key)
-  values_told none e t d key is = cc
-  values_told (read {n = n} {path = path} {bytes = bytes} x g fine out) e zero d key is =
+  pub values_told : {n : ℕ} {paths bss : List (List ℕ)} {ds : List V} {back : List DeviceTold} {o : Option NotRead} → ComeOut told files n paths ds back bss o → (t : ℕ) (d : V) (key : List ℕ) → t < length bss → at ds t ≡ Some d → IfSome (told d).content (λ c. values_in bss t key ≡ table_value c key)
+  values_told none t d key l is = absurd (omega (arith, l))
+  values_told (read {n = n} {path = path} {bytes = bytes} x g fine out) zero d key l is =
       let same : x ≡ d = cc in
       subst (λ y. IfSome (told y).content (λ c. table_value bytes key ≡ table_value c key)) same
       (of_content (told x).content (gave_all files n path (told x) bytes g (read_whole files n path (told x) bytes g fine)))
@@ -237,12 +243,12 @@ module _ {V : Type 0} (told : V → DeviceTold) (files : Option Files) (w : ℕ 
       of_content : (z : Option (List ℕ)) → IfSome z (λ c. bytes ≡ c) → IfSome z (λ c. table_value bytes key ≡ table_value c key)
       of_content None h = tt
       of_content (Some c) h = ap (λ b. table_value b key) h
-  values_told (read x g fine out) e (suc t) d key is = values_told out e t d key is
-  values_told closed e t d key is = cc
-  values_told (unread x h) e t d key is = cc
-  values_told (refused x bytes f g h) e t d key is = cc
-  values_told unmade e t d key is = cc
-  values_told (cut x h) e t d key is = cc
+  values_told (read x g fine out) (suc t) d key l is = values_told out t d key (omega (arith, l)) is
+  values_told closed t d key l is = absurd (omega (arith, l))
+  values_told (unread x h) t d key l is = absurd (omega (arith, l))
+  values_told (refused x bytes f g h) t d key l is = absurd (omega (arith, l))
+  values_told unmade t d key l is = absurd (omega (arith, l))
+  values_told (cut x h) t d key l is = absurd (omega (arith, l))
 
   module _ (op : Opener) (c : RunRecord) (same : (xs : List ℕ) → op.fault_of xs ≡ table_fault xs) where
     -- a table that was read, once its device is closed
@@ -264,115 +270,97 @@ module _ {V : Type 0} (told : V → DeviceTold) (files : Option Files) (w : ℕ 
         whole_of None h at_so = tt
         whole_of (Some b) h at_so = (at_so ∙ (at_is files n path (told d) bytes g ∙ ap length h), same b ∙ (ap table_fault (sym h) ∙ fine))
 
-    -- all were read
-    pub tables_read : {n : ℕ} {paths bss : List (List ℕ)} {ds : List V} {back : List DeviceTold} {o : Option NotRead} → ComeOut told files n paths ds back bss o → o ≡ None → (r : ℕ) → AreClosed told w r ds back → ((i : ℕ) → i < length ds → IsAcquired c.events (r + i)) → ((i : ℕ) → i < length ds + length back → IsBack c (w (r + i)))
-        → AreTablesRead op c w r (map to_read paths)
-    tables_read none e r cl acquired back = tt
-    tables_read (read {n = n} {path = path} {bytes = bytes} {ds = ds} {back = bs} d g fine out) e r cl acquired back =
-        let z : r + 0 ≡ r = omega arith in (
-          read_so n r path d bytes g fine (first_closed r d ds bs cl) (subst (λ k. IsAcquired c.events k) z (acquired 0 (omega arith))) (subst (λ k. IsBack c (w k)) z (back 0 (omega arith))),
-          tables_read out e (r + 1) (rest_closed r d ds bs cl)
-              (λ i l. let y : r + suc i ≡ r + 1 + i = omega arith in subst (λ k. IsAcquired c.events k) y (acquired (suc i) (omega (arith, l))))
-              (λ i l. let y : r + suc i ≡ r + 1 + i = omega arith in subst (λ k. IsBack c (w k)) y (back (suc i) (omega (arith, l)))),
-        )
-    tables_read closed e r cl acquired back = cc
-    tables_read (unread d h) e r cl acquired back = cc
-    tables_read (refused d bytes f g h) e r cl acquired back = cc
-    tables_read unmade e r cl acquired back = cc
-    tables_read (cut d h) e r cl acquired back = cc
-
-    -- nothing was tried behind
-    pub untried_from : (r : ℕ) (ps : List Place) → ((j : ℕ) → r ≤ j → j < r + length ps → is_tried (w j) ≡ false) → AreUntried w r ps
-    untried_from r [] h = tt
-    untried_from r (p ∷ ps) h = (h r (omega arith) (omega arith), untried_from (r + 1) ps (λ j l m. h j (omega (arith, l)) (omega (arith, m))))
-
-    untried_rest : (r : ℕ) (path : List ℕ) (paths : List (List ℕ)) → ((j : ℕ) → r + 1 ≤ j → j < r + length (path ∷ paths) → is_tried (w j) ≡ false) → AreUntried w (r + 1) (map to_read paths)
-    untried_rest r path paths h = untried_from (r + 1) (map to_read paths) (λ j l m. let k = length-map paths to_read in h j l (omega (arith, m, k)))
-
     opened_so : (n r : ℕ) (path : List ℕ) (d : V) → IsOpenTable files n path (told d) → IsClosedOf (told d) (w r) → (w r).opens ≡ 1
     opened_so n r path d o cl = ap (λ (x : DeviceTold). x.opens) cl.is ∙ (closed_field (λ x. x.opens) cl.exit cl.ok (told d) refl refl ∙ o.opens)
 
     faults_so : (r : ℕ) (d : V) → IsClosedOf (told d) (w r) → (w r).read_faults ≡ (told d).read_faults
     faults_so r d cl = ap (λ (x : DeviceTold). x.read_faults) cl.is ∙ closed_field (λ x. x.read_faults) cl.exit cl.ok (told d) refl refl
 
-    -- one of them failed
-    pub tables_failed : (f : Code) {n : ℕ} {paths bss : List (List ℕ)} {ds : List V} {back : List DeviceTold} {o : Option NotRead} → ComeOut told files n paths ds back bss o → o ≡ Some (why.Fault f) → (r : ℕ) → AreClosed told w r ds back → ((i : ℕ) → i < length ds → IsAcquired c.events (r + i)) → ((i : ℕ) → i < length ds + length back → IsBack c (w (r + i)))
-        → ((j : ℕ) → r + (length ds + length back) ≤ j → j < r + length paths → is_tried (w j) ≡ false) → AreTablesFailed op c w r (map to_read paths) f
-    tables_failed f none e r cl acquired back idle = cc
-    tables_failed f (read {n = n} {path = path} {bytes = bytes} {ds = ds} {back = bs} d g fine out) e r cl acquired back idle =
+    -- no device was made for these rows
+    abbrev pub AreBare : ℕ → ℕ → Type 0
+    AreBare from to = (j : ℕ) → from ≤ j → j < to → IsBare w j
+
+    -- the first table was read, and the others came out so
+    more_out : (r : ℕ) (path bytes : List ℕ) (paths bss : List (List ℕ)) (o : Option NotRead) → IsTableRead op c r (w r) → CameOut op c w (r + 1) paths bss o → CameOut op c w r (path ∷ paths) (bytes ∷ bss) o
+    more_out r path bytes paths bss o first m =
+        let z : r + 1 + length bss ≡ r + suc (length bss) = omega arith in
+        record {
+          few = (let f = m.few in omega (arith, f));
+          whole = λ e. ap suc (m.whole e);
+          read = λ i l. read_at i l;
+          failed = λ f e. let x = m.failed f e in let l = x.0 in (omega (arith, l), subst (λ k. IsTableFailed op c (w k) f) z x.1);
+          calm = λ e l. subst (IsCalm w) z (m.calm e (omega (arith, l)));
+          idle = λ j l k. m.idle j (omega (arith, l)) (omega (arith, k));
+        }
+      where
+        read_at : (i : ℕ) → i < length (bytes ∷ bss) → IsTableRead op c (r + i) (w (r + i))
+        read_at zero l = let y : r ≡ r + 0 = omega arith in subst (λ k. IsTableRead op c k (w k)) y first
+        read_at (suc i) l = let y : r + 1 + i ≡ r + suc i = omega arith in subst (λ k. IsTableRead op c k (w k)) y (m.read i (omega (arith, l)))
+
+    -- the first one failed
+    failed_out : (r : ℕ) (path : List ℕ) (paths : List (List ℕ)) (f : Code) → IsTableFailed op c (w r) f → AreBare (r + 1) (r + length (path ∷ paths)) → CameOut op c w r (path ∷ paths) [] (Some (why.Fault f))
+    failed_out r path paths f h bare =
+        let z : r ≡ r + 0 = omega arith in
+        record {
+          few = omega arith;
+          whole = λ e. cc;
+          read = λ i l. absurd (omega (arith, l));
+          failed = λ g e. (omega arith, subst (λ k. IsTableFailed op c (w k) g) z (subst (λ k. IsTableFailed op c (w r) k) (let s : f ≡ g = cc in s) h));
+          calm = λ e. cc;
+          idle = λ j l k. bare j (omega (arith, l)) k;
+        }
+
+    -- memory was wanting at the first one, if there is one
+    cut_out : (r : ℕ) (paths : List (List ℕ)) → (0 < length paths → IsCalm w r) → AreBare (r + 1) (r + length paths) → CameOut op c w r paths [] (Some why.Memory)
+    cut_out r paths h bare =
+        let z : r ≡ r + 0 = omega arith in
+        record {
+          few = omega arith;
+          whole = λ e. cc;
+          read = λ i l. absurd (omega (arith, l));
+          failed = λ g e. cc;
+          calm = λ e l. subst (IsCalm w) z (h l);
+          idle = λ j l k. bare j (omega (arith, l)) k;
+        }
+
+    -- so they came out
+    pub came_out : {n : ℕ} {paths bss : List (List ℕ)} {ds : List V} {back : List DeviceTold} {o : Option NotRead} → ComeOut told files n paths ds back bss o → (r : ℕ) → AreClosed told w r ds back → ((i : ℕ) → i < length ds → IsAcquired c.events (r + i)) → ((i : ℕ) → i < length ds + length back → IsBack c (w (r + i)))
+        → AreBare (r + (length ds + length back)) (r + length paths) → CameOut op c w r paths bss o
+    came_out none r cl acquired back bare =
+        record { few = omega arith; whole = λ e. refl; read = λ i l. absurd (omega (arith, l)); failed = λ f e. cc; calm = λ e. cc; idle = λ j l k. absurd (omega (arith, l, k)) }
+    came_out (read {n = n} {path = path} {bytes = bytes} {paths = paths} {bss = bss} {ds = ds} {back = bs} {o = o} d g fine out) r cl acquired back bare =
         let z : r + 0 ≡ r = omega arith in
-        inr (
-          read_so n r path d bytes g fine (first_closed r d ds bs cl) (subst (λ k. IsAcquired c.events k) z (acquired 0 (omega arith))) (subst (λ k. IsBack c (w k)) z (back 0 (omega arith))),
-          tables_failed f out e (r + 1) (rest_closed r d ds bs cl)
-              (λ i l. let y : r + suc i ≡ r + 1 + i = omega arith in subst (λ k. IsAcquired c.events k) y (acquired (suc i) (omega (arith, l))))
-              (λ i l. let y : r + suc i ≡ r + 1 + i = omega arith in subst (λ k. IsBack c (w k)) y (back (suc i) (omega (arith, l))))
-              (λ j l k. idle j (omega (arith, l)) (omega (arith, k))),
-        )
-    tables_failed f (closed {n = n} {path = path} {paths = paths}) e r cl acquired back idle =
+        more_out r path bytes paths bss o
+        (read_so n r path d bytes g fine (first_closed r d ds bs cl) (subst (λ k. IsAcquired c.events k) z (acquired 0 (omega arith))) (subst (λ k. IsBack c (w k)) z (back 0 (omega arith))))
+        (came_out out (r + 1) (rest_closed r d ds bs cl)
+        (λ i l. let y : r + suc i ≡ r + 1 + i = omega arith in subst (λ k. IsAcquired c.events k) y (acquired (suc i) (omega (arith, l))))
+        (λ i l. let y : r + suc i ≡ r + 1 + i = omega arith in subst (λ k. IsBack c (w k)) y (back (suc i) (omega (arith, l))))
+        (λ j l k. bare j (omega (arith, l)) (omega (arith, k))))
+    came_out (closed {n = n} {path = path} {paths = paths}) r cl acquired back bare =
         let z : r + 0 ≡ r = omega arith in
         let is : w r ≡ never_opened (new_device files n path) = first_back r (never_opened (new_device files n path)) cl in
-        inl ((subst (λ k. IsBack c (w k)) z (back 0 (omega arith)), inl (ap (λ (x : DeviceTold). x.opens) is, ap (λ (x : DeviceTold). x.open_faults) is, let s : code.Open ≡ f = cc in sym s)), untried_rest r path paths (λ j l k. idle j (omega (arith, l)) (omega (arith, k))))
-    tables_failed f (unread {n = n} {path = path} {paths = paths} d h) e r cl acquired back idle =
+        failed_out r path paths code.Open (subst (λ k. IsBack c (w k)) z (back 0 (omega arith)), inl (ap (λ (x : DeviceTold). x.opens) is, ap (λ (x : DeviceTold). x.open_faults) is, refl)) (λ j l k. bare j (omega (arith, l)) k)
+    came_out (unread {n = n} {path = path} {paths = paths} d h) r cl acquired back bare =
         let z : r + 0 ≡ r = omega arith in
         let x = first_closed r d [] [] cl in
-        inl (
-          (
-            subst (λ k. IsBack c (w k)) z (back 0 (omega arith)),
-            inr (opened_so n r path d (read_open files n path (told d) 1 h) x, inl (faults_so r d x ∙ ap (λ (y : DeviceTold). y.read_faults) h, let s : code.Read ≡ f = cc in sym s)),
-          ),
-          untried_rest r path paths (λ j l k. idle j (omega (arith, l)) (omega (arith, k))),
-        )
-    tables_failed f (refused {n = n} {path = path} {paths = paths} d bytes k g h) e r cl acquired back idle =
+        failed_out r path paths code.Read (subst (λ k. IsBack c (w k)) z (back 0 (omega arith)), inr (opened_so n r path d (read_open files n path (told d) 1 h) x, inl (faults_so r d x ∙ ap (λ (y : DeviceTold). y.read_faults) h, refl)))
+        (λ j l k. bare j (omega (arith, l)) k)
+    came_out (refused {n = n} {path = path} {paths = paths} d bytes f g h) r cl acquired back bare =
         let z : r + 0 ≡ r = omega arith in
         let x = first_closed r d [] [] cl in
-        let s : k ≡ f = cc in
         let content_so : (w r).content ≡ (told d).content = ap (λ (y : DeviceTold). y.content) x.is ∙ closed_field (λ y. y.content) x.exit x.ok (told d) refl refl in
-        inl (
-          (
-            subst (λ q. IsBack c (w q)) z (back 0 (omega arith)),
-            inr (
-              opened_so n r path d (whole_open files n path (told d) bytes g) x,
-              inr (faults_so r d x ∙ unfailed files n path (told d) bytes g, subst (λ q. IsRefusedBy op q f) (sym content_so) (refused_by files n path (told d) bytes g op same f (h ∙ ap Some s))),
-            ),
+        failed_out r path paths f (
+          subst (λ q. IsBack c (w q)) z (back 0 (omega arith)),
+          inr (
+            opened_so n r path d (whole_open files n path (told d) bytes g) x,
+            inr (faults_so r d x ∙ unfailed files n path (told d) bytes g, subst (λ q. IsRefusedBy op q f) (sym content_so) (refused_by files n path (told d) bytes g op same f h)),
           ),
-          untried_rest r path paths (λ j l m. idle j (omega (arith, l)) (omega (arith, m))),
         )
-    tables_failed f unmade e r cl acquired back idle = cc
-    tables_failed f (cut d h) e r cl acquired back idle = cc
-
-    -- no device was made for those from r on: nothing failed at the first, and nothing was tried behind it
-    left_unmade : (r : ℕ) (ps : List Place) → ((j : ℕ) → r ≤ j → j < r + length ps → is_tried (w j) ≡ false) → ((j : ℕ) → r ≤ j → j < r + length ps → ((w j).open_faults ≡ 0) × ((w j).read_faults ≡ 0)) → AreTablesLeft op c w r ps
-    left_unmade r [] idle unfailed = tt
-    left_unmade r (p ∷ ps) idle unfailed = let u = unfailed r (omega arith) (omega arith) in inl (u.0, u.1, untried_from (r + 1) ps (λ j l m. idle j (omega (arith, l)) (omega (arith, m))))
-
-    -- memory was wanting at one of them, or behind the last
-    pub tables_left : {n : ℕ} {paths bss : List (List ℕ)} {ds : List V} {back : List DeviceTold} {o : Option NotRead} → ComeOut told files n paths ds back bss o → o ≡ Some why.Memory → (r : ℕ) → AreClosed told w r ds back → ((i : ℕ) → i < length ds → IsAcquired c.events (r + i)) → ((i : ℕ) → i < length ds + length back → IsBack c (w (r + i)))
-        → ((j : ℕ) → r + (length ds + length back) ≤ j → j < r + length paths → is_tried (w j) ≡ false) → ((j : ℕ) → r + (length ds + length back) ≤ j → j < r + length paths → ((w j).open_faults ≡ 0) × ((w j).read_faults ≡ 0)) → AreTablesLeft op c w r (map to_read paths)
-    tables_left none e r cl acquired back idle unfailed = cc
-    tables_left (read {n = n} {path = path} {bytes = bytes} {ds = ds} {back = bs} d g fine out) e r cl acquired back idle unfailed =
-        let z : r + 0 ≡ r = omega arith in
-        inr (
-          read_so n r path d bytes g fine (first_closed r d ds bs cl) (subst (λ k. IsAcquired c.events k) z (acquired 0 (omega arith))) (subst (λ k. IsBack c (w k)) z (back 0 (omega arith))),
-          tables_left out e (r + 1) (rest_closed r d ds bs cl)
-              (λ i l. let y : r + suc i ≡ r + 1 + i = omega arith in subst (λ k. IsAcquired c.events k) y (acquired (suc i) (omega (arith, l))))
-              (λ i l. let y : r + suc i ≡ r + 1 + i = omega arith in subst (λ k. IsBack c (w k)) y (back (suc i) (omega (arith, l))))
-              (λ j l k. idle j (omega (arith, l)) (omega (arith, k)))
-              (λ j l k. unfailed j (omega (arith, l)) (omega (arith, k))),
-        )
-    tables_left closed e r cl acquired back idle unfailed = cc
-    tables_left (unread d h) e r cl acquired back idle unfailed = cc
-    tables_left (refused d bytes f g h) e r cl acquired back idle unfailed = cc
-    tables_left (unmade {paths = paths}) e r cl acquired back idle unfailed =
-        left_unmade r (map to_read paths) (λ j l m. let k = length-map paths to_read in idle j (omega (arith, l)) (omega (arith, m, k))) (λ j l m. let k = length-map paths to_read in unfailed j (omega (arith, l)) (omega (arith, m, k)))
-    tables_left (cut {n = n} {path = path} {paths = paths} d h) e r cl acquired back idle unfailed =
+        (λ j l k. bare j (omega (arith, l)) k)
+    came_out (unmade {paths = paths}) r cl acquired back bare = cut_out r paths (λ l. (bare r (omega arith) (omega (arith, l))).1) (λ j l k. bare j (omega (arith, l)) k)
+    came_out (cut {n = n} {path = path} {paths = paths} d h) r cl acquired back bare =
         let x = first_closed r d [] [] cl in
-        inl (
+        cut_out r (path ∷ paths) (λ l. (
           ap (λ (y : DeviceTold). y.open_faults) x.is ∙ (closed_field (λ y. y.open_faults) x.exit x.ok (told d) refl refl ∙ (read_open files n path (told d) 0 h).open_faults),
           faults_so r d x ∙ ap (λ (y : DeviceTold). y.read_faults) h,
-          untried_rest r path paths (λ j l k. idle j (omega (arith, l)) (omega (arith, k))),
-        )
-
--- of tables that were all read none was left
-pub left_read : (op : Opener) (c : RunRecord) (w : ℕ → DeviceTold) (r : ℕ) (ps : List Place) → AreTablesRead op c w r ps → AreTablesLeft op c w r ps
-left_read op c w r [] h = tt
-left_read op c w r (p ∷ ps) h = inr (h.0, left_read op c w (r + 1) ps h.1)
+        )) (λ j l k. bare j (omega (arith, l)) k)

@@ -1,5 +1,5 @@
 -- A stream whose seat was just split off may begin.
-use Rattle.std.proofs.Common.{◌≡◌, ℕ, ◌+◌, ◌-◌, ◌<◌, ◌≤◌, ◌^◌, List, [], Option, Some, option_map, slice_get, length, refl, sym, ◌∙◌, ap, subst, arith}
+use Rattle.std.proofs.Common.{◌≡◌, ℕ, ◌+◌, ◌-◌, ◌<◌, ◌≤◌, ◌^◌, List, [], Option, Some, length, refl, sym, ◌∙◌, ap, subst, arith}
 use Rattle.chunk_core.specs.Lists.{IsAmong}
 use Rattle.chunk_core.specs.Tables.{Values}
 use Rattle.device_port.specs.Device.{DeviceTold}
@@ -8,9 +8,8 @@ use Rattle.channel_bounded.specs.Ends.{HubSeen, SenderSeen}
 use Rattle.channel_bounded.specs.declared.message.Msg.{Msg}
 use Rattle.interrupt_ctx.specs.Ends.{BoardSeen, SeatSeen}
 use Rattle.pipeline_desc.specs.Meant.{PlanMeant}
-use Rattle.pipeline_desc.specs.Nodes.{event_count, events_of, stream_events}
-use Rattle.pipeline_desc.specs.Places.{rows_of}
-use Rattle.pipeline_desc.specs.declared.stream.StreamSpec.{StreamSpec}
+use Rattle.pipeline_desc.specs.Nodes.{event_count, events_of}
+use Rattle.pipeline_desc.specs.Places.{outer_rows, rows_of}
 use Rattle.pull_nodes.specs.declared.node.Node.{Node}
 use Rattle.pull_stepper.specs.Stepping.{HasRoomFor, IsSupplied, Stepping, begun}
 use Rattle.row_seat.specs.declared.view.View.{View}
@@ -22,13 +21,14 @@ use Rattle.res_ledger.specs.Own.{opens}
 use Rattle.stream_jobs.specs.Jobs.{IsAt}
 use Rattle.stream_jobs.specs.Running.{Origin}
 use Rattle.stream_jobs.specs.Unmade.{IsOfNode, IsUnmade}
+use Rattle.stream_parts.specs.Named.{path_of}
 use Rattle.stream_parts.specs.Parts.{MakesParts}
 use Rattle.stream_parts.specs.declared.parts.StreamParts.{StreamParts}
 use Rattle.stream_parts.proofs.PartsMade.{first_place, places_count, row_behind}
 use Rattle.tree_laws.specs.Visits.{IsNewGuest}
 use Rattle.dealt_streams.specs.Parts.{AreTableRows}
 use Rattle.collector.specs.Starting.{HasRoomAsGuest}
-use Rattle.collector.proofs.Lists.{run_there, there_is}
+use Rattle.collector.proofs.Lists.{run_there}
 
 module _ {V P : Type 0} (n : Node) (v : View V) (room : Room P) (a : Seen V) (is : a ≡ record { seat = v; shelf = []; scopes = room.scopes; rows = room.rows }) (root : IsOpenScope a 0) (owes : owed a.seat ≡ 1) (none : (used a ≡ 0) × (opens (trace a.seat) ≡ [])) (opened : v.opened ≡ []) (T : List ℕ) (h : HasRoomAsGuest v n room T) where
   -- in the tree over such a seat there is room for the node
@@ -77,23 +77,15 @@ module _ {V P : Type 0} (n : Node) (v : View V) (room : Room P) (a : Seen V) (is
       subst (λ xs. IsUnmade told k T seat b xs w) (sym devices)
       (subst (λ x. IsUnmade told k T seat x ds w) (sym tree) (record { stream = refl; leased = refl; board = refl; node = n; is_of = is_of told k chunk ds values seat guest supplied some }))
 
--- the events of a stream
-pub events_are : (p : PlanMeant) (k e : ℕ) → k < length p.streams → events_of p k ≡ Some e → (s : StreamSpec) × (slice_get p.streams k ≡ Some s) × (e ≡ stream_events (length p.tables) s)
-events_are p k e l h =
-    let s = there_is p.streams k l in
-    let f : Some e ≡ Some (stream_events (length p.tables) s.0) = sym h ∙ ap (λ (o : Option StreamSpec). option_map (stream_events (length p.tables)) o) s.1 in
-    (s.0, s.1, cc)
-
 -- the seat that is split off has room for the stream
-pub has_room : {V : Type 0} (told : V → DeviceTold) (p : PlanMeant) (k : ℕ) (mid now : DepotTold) (parts : StreamParts V) (makes : MakesParts told p k mid now parts) (v w : View V) (e : ℕ) (R : List ℕ) → AreTableRows (length p.tables) R → k < length p.streams → events_of p k ≡ Some e
+pub has_room : {V : Type 0} (told : V → DeviceTold) (p : PlanMeant) (k : ℕ) {path : Option (List ℕ)} {mid now : DepotTold} (parts : StreamParts V) (makes : MakesParts told p k path mid now parts) (v w : View V) (e : ℕ) (R : List ℕ) → AreTableRows (outer_rows p) R → events_of p k ≡ Some e
     → w ≡ split_off v k (rows_of p k).from (rows_of p k).to e → HasRoomAsGuest w parts.node parts.room R
-has_room told p k mid now parts makes v w e R rows l h is =
-    let s = there_is p.streams k l in
-    let first = first_place p k s.0 l s.1 parts.node makes.places in
-    let count = places_count p k s.0 l s.1 parts.node makes.places in
-    let behind = row_behind p k s.0 l s.1 in
-    let events : Some e ≡ Some (event_count parts.node + 1 + length p.tables) = sym h ∙ makes.events in
-    let counted : e ≡ event_count parts.node + 1 + length p.tables = cc in
+has_room told p k {path = path} parts makes v w e R rows h is =
+    let first = first_place p (path_of path) k makes.stream makes.stream_is parts.node makes.places in
+    let count = places_count p (path_of path) k makes.stream makes.stream_is parts.node makes.places in
+    let behind = row_behind p (path_of path) k makes.stream makes.stream_is in
+    let events : Some e ≡ Some (event_count parts.node + 1 + outer_rows p) = sym h ∙ makes.events in
+    let counted : e ≡ event_count parts.node + 1 + outer_rows p = cc in
     let spare = ap (λ (x : View _). x.spare) is in
     let size = rows.few in
     let most = makes.most_rows in

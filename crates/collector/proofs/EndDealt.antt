@@ -1,10 +1,9 @@
 -- The end of a stream is dealt with, and the collector goes on.
-use Rattle.std.proofs.Common.{◌≡◌, ◌≢◌, ◌⊎◌, ℕ, suc, ◌+◌, ◌<◌, List, [], ◌∷◌, ◌++◌, map, length, Option, Some, refl, sym, ◌∙◌, ap, subst, inl, inr, ⊎_elim, arith, append_assoc, length-append}
+use Rattle.std.proofs.Common.{◌≡◌, ◌≢◌, ◌⊎◌, ℕ, suc, ◌+◌, ◌<◌, List, [], ◌∷◌, ◌++◌, filter, map, length, Option, Some, refl, sym, ◌∙◌, ap, subst, inl, inr, ⊎_elim, arith, append_assoc, length-append}
 use Rattle.std.specs.Prelude.{vec_capacity}
 use Rattle.std.specs.Global.{Global}
 use Rattle.chunk_core.specs.Lists.{IsAmong}
 use Rattle.chunk_core.specs.Lists.IsAmong.{here, there}
-use Rattle.chunk_core.specs.Tables.{Values}
 use Rattle.chunk_core.specs.declared.code.How.{How}
 use Rattle.chunk_core.proofs.Distinct.{distinct_head}
 use Rattle.chunk_core.proofs.Filters.{among_right}
@@ -24,21 +23,20 @@ use Rattle.join_report.specs.declared.report.Report.{Report}
 use Rattle.join_report.specs.declared.stops.Stops.{Stops}
 use Rattle.join_report.proofs.Steps.{learns}
 use Rattle.join_tale.specs.Tales.{IsOpen, Tale}
+use Rattle.join_tree.specs.Given.{GivesMore}
 use Rattle.join_tree.specs.Guests.{AreOut, Guest, IsOut}
 use Rattle.join_tree.specs.Mains.{IsMain}
+use Rattle.join_tree.specs.Notes.{is_table_note}
 use Rattle.join_tree.specs.Progress.{Progress, joining}
 use Rattle.join_tree.specs.Steps.{KeepsRows}
-use Rattle.outer_tables.specs.declared.not_read.NotRead.{NotRead}
-use Rattle.pipeline_desc.specs.Meant.{PlanMeant}
+use Rattle.pipeline_desc.specs.Meant.{PlanMeant, stream_limit}
 use Rattle.pull_stepper.specs.Held.{FinishesDevice}
-use Rattle.pull_turns.specs.Piping.{StateMeaning}
 use Rattle.res_ledger.specs.declared.event.StreamNo.TheVariants.{Inner, Outer}
 use Rattle.row_seat.specs.declared.view.View.{View}
 use Rattle.row_seat.specs.Views.{OthersFit, joined}
-use Rattle.scope_tree.specs.Calls.{Seen}
+use Rattle.scope_tree.specs.Calls.{KeepsScopes, Seen, TakesRoom}
 use Rattle.scope_tree.specs.Trees.{Fits, seen}
 use Rattle.scope_tree.specs.Trace.{owed}
-use Rattle.scope_tree.specs.declared.leases.Lease.{Lease}
 use Rattle.scope_tree.specs.declared.tree.Tree.{Tree}
 use Rattle.scope_tree.proofs.Follows.{released_follows, same_by}
 use Rattle.std.specs.declared.vec.Vec.{Vec}
@@ -51,27 +49,32 @@ use Rattle.stream_jobs.specs.Running.{Origin}
 use Rattle.stream_jobs.proofs.Others.{others_leave}
 use Rattle.collector.specs.declared.collector.Collector.{Collector}
 use Rattle.dealt_streams.specs.declared.leftover.Leftover.{Leftover}
-use Rattle.collector.specs.Collecting.{AreJobs, IsCollectingWith, IsJobOf, KeepsStreams, KeepsTree, guest_of}
+use Rattle.collector.specs.Collecting.{IsCollecting, Moment, having_job}
+use Rattle.collector.specs.declared.waiting.Waiting.{Waiting}
+use Rattle.collector.specs.Members.{Members}
+use Rattle.collector.specs.Streams.{AreJobs, IsJobOf, KeepsStreams, guest_of}
+use Rattle.collector.specs.Trees.{KeepsTree}
 use Rattle.collector.specs.Receiving.{HasGot, StopsThose}
 use Rattle.collector.proofs.EndTaken.{GotAll, behind, got_all, streams_end}
 use Rattle.collector.proofs.EndTold.{EndComes, HasSetOwn, comes, end_sets, is_tale, v}
-use Rattle.collector.proofs.LoadTaken.{grown, some_part}
+use Rattle.collector.proofs.LoadTaken.{grown}
 use Rattle.collector.proofs.Loads.{wrote_same}
 use Rattle.collector.proofs.Opening.{is_open}
 use Rattle.collector.proofs.Rotating.{jobs_stay}
-use Rattle.outer_stream.specs.declared.outer.Outer.{Outer as outer_type}
-use Rattle.outer_stream.proofs.Standing.{stands_on}
-use Rattle.collector.proofs.Steps.{parts_read}
-use Rattle.collector.proofs.Turning.{first_job, outer_fits}
+use Rattle.outer_source.specs.declared.source.OuterSource.{OuterSource}
+use Rattle.collector.proofs.Standing.{stands_on}
+use Rattle.collector.proofs.Tree.{amid_kept, gives_same}
+use Rattle.collector.proofs.Turning.{first_of, outer_fits}
 
-module _ {V : Type 0} (told : V → DeviceTold) (p : PlanMeant) (q : Progress V) where
+module _ {V : Type 0} (told : V → DeviceTold) (p : PlanMeant) where
   -- no event and no payload is lost where the tree of a stream comes back
   keeps : (a b : Seen V) (w : View V) → b ≡ record a { seat = joined a.seat w } → KeepsRows a.seat b.seat
   keeps a b w is = subst (λ (x : Seen V). KeepsRows a.seat x.seat) (sym is) (record { noted = λ e m. among_left w.events m; left = λ y m. among_left w.left m; given = λ y m. among_left w.given m; opened = λ y m. inl m })
 
   -- so what is known of the tree stays known
-  tree_joined : (waits : ℕ) (a b y : Seen V) (w : View V) (outer : Option How) (given : outer_type) (ws : List Lease) {F : Type 0} (parts : List _) → b ≡ record a { seat = joined a.seat w } → owed b.seat ≡ owed a.seat → IsMain (FinishesDevice told) p.max_open (length p.streams) b (joining q y) → KeepsTree p {V = V} {F = F} told waits a outer given ws parts q → KeepsTree p {V = V} {F = F} told waits b outer given ws parts (joining q y)
-  tree_joined waits a b y w outer given ws parts is owes main h =
+  tree_joined : {waits : ℕ} {a : Seen V} {outer : Option How} {given : OuterSource} {ws : List Waiting} {dealt : ℕ} {q : Progress V} → KeepsTree p told waits a outer given ws dealt q → (b y : Seen V) (w : View V) → b ≡ record a { seat = joined a.seat w } → owed b.seat ≡ owed a.seat
+      → IsMain (FinishesDevice told) p.max_open (stream_limit p) b (joining q y) → GivesMore [] a b → KeepsTree p told waits b outer given ws dealt (joining q y)
+  tree_joined {a = a} h b y w is owes main gives =
       let empty : b.seat.empty ≡ a.seat.empty ++ w.empty = ap (λ (x : Seen V). x.seat.empty) is in
       let splits : b.seat.splits ≡ a.seat.splits = ap (λ (x : Seen V). x.seat.splits) is in
       let spare : b.seat.spare ≡ a.seat.spare + w.spare = ap (λ (x : Seen V). x.seat.spare) is in
@@ -87,11 +90,18 @@ module _ {V : Type 0} (told : V → DeviceTold) (p : PlanMeant) (q : Progress V)
         empty = λ k r l m i. subst (λ xs. IsAmong r xs) (sym empty) (among_left w.empty (h.empty k r l m i));
         splits = let s = h.splits in omega (arith, s, splits);
         spare = let s = h.spare in omega (arith, s, spare, owes);
+        noted = λ e. h.noted e ∙ sym (ap (λ E. filter is_table_note E) (gives_same a b gives));
       }
 
-module _ {S V F D T : Type 0} (view : S → View V) (told : V → DeviceTold) (fits : S → D → Type 0) (values : T → Values) (P : Values → StateMeaning F) (p : PlanMeant) (d0 : DepotTold) (s0 : SinkTold) (t : Values) (waits : ℕ) (ws : List Lease) (job : Job S V F V D T) (js : List (Job S V F V D T)) (had : ReceiverSeen) (depot : DepotTold) (sink : SinkTold) (d : D) (c : Collector S V F D T) (i : IsCollectingWith view told fits values P p d0 s0 t waits ws (job ∷ js) had depot sink d c) (k : ℕ) (h : How) (r : ReceiverSeen) (got : HasGot had (end_message k h) r) (number : job.sender.stream ≡ k) where
-  pub first : (w : Origin V F) × (os : List (Origin V F)) × (i.streams.origins ≡ w ∷ os) × IsJobOf view told fits values P c.hub c.stops.board d i.parts job w × AreJobs view told fits values P c.hub c.stops.board d i.parts js os
-  first = first_job view told fits values P c.hub c.stops.board d i.parts job js i.streams.origins i.streams.jobs_are
+module _ {S V F D T : Type 0} {M : Members S V F D T} {p : PlanMeant} {d0 : DepotTold} {s0 : SinkTold} {m : Moment S V F D T} (job : Job S V F V D T) (i : IsCollecting M p d0 s0 (having_job job m)) (k : ℕ) (h : How) (r : ReceiverSeen) (got : HasGot m.receiver (end_message k h) r) (number : job.sender.stream ≡ k) where
+  abbrev pub c : Collector S V F D T
+  c = m.collector
+
+  abbrev a : Seen V
+  a = seen M.view c.tree
+
+  pub first : (w : Origin V F) × (os : List (Origin V F)) × (i.streams.origins ≡ w ∷ os) × IsJobOf M c.hub c.stops.board m.desk i.parts job w × AreJobs M c.hub c.stops.board m.desk i.parts m.jobs os
+  first = first_of m job m.jobs i
 
   abbrev pub w : Origin V F
   w = first.0
@@ -103,18 +113,18 @@ module _ {S V F D T : Type 0} (view : S → View V) (told : V → DeviceTold) (f
   w_is = sym first.3.job.sender ∙ number
 
   pub open_end : IsOpen i.tale k
-  open_end = is_open view told fits values P c.hub c.stops.board d (seen view c.tree) (job ∷ js) c.left.items had i.parts i.progress i.tale i.streams i.telling.fates_are (end_message k h) r got
+  open_end = is_open M c.hub c.stops.board m.desk a (job ∷ m.jobs) c.left.items m.receiver i.parts i.progress i.tale i.streams i.telling.fates_are (end_message k h) r got
 
-  abbrev pub some_job : (x : Origin V F) × IsJob view values told P x job
+  abbrev pub some_job : (x : Origin V F) × IsJob M.view M.values M.told M.stands x job
   some_job = (w, first.3.job)
 
-  pub job_fits : FitsJob view told fits job d
+  pub job_fits : FitsJob M.view M.told M.fits job m.desk
   job_fits = first.3.fits_desk
 
-  pub job_place : IsAt (seen_job view values job) c.hub c.stops.board
+  pub job_place : IsAt (seen_job M.view M.values job) c.hub c.stops.board
   job_place = first.3.place
 
-  pub ends_below : k < length p.streams
+  pub ends_below : k < stream_limit p
   ends_below = let e = job_place.context in let n = i.telling.contexts in omega (arith, e, n, number)
 
   pub has_stream : HasStream c.report k
@@ -126,60 +136,65 @@ module _ {S V F D T : Type 0} (view : S → View V) (told : V → DeviceTold) (f
   pub hub_is : r.hub ≡ c.hub.id
   hub_is = ap (λ (x : ReceiverSeen). x.hub) got.is ∙ i.streams.hub_is
 
-  pub out_first : AreOut (seen view c.tree) i.progress.splits (guest_of w ∷ map guest_of os)
-  out_first = subst (λ l. AreOut (seen view c.tree) i.progress.splits (map guest_of l)) first.2 i.streams.out
+  pub out_first : AreOut a i.progress.splits (guest_of w ∷ map guest_of os)
+  out_first = subst (λ l. AreOut a i.progress.splits (map guest_of l)) first.2 i.streams.out
 
-  pub guest_out : IsOut (seen view c.tree) i.progress.splits (guest_of w)
+  pub guest_out : IsOut a i.progress.splits (guest_of w)
   guest_out = out_first.each (guest_of w) (here (map guest_of os))
 
   apart : (x : Origin V F) → IsAmong x os → k ≢ x.stream
-  apart x m e = distinct_head w.stream (map (λ (g : Guest). g.stream) (map guest_of os)) out_first.apart (subst (λ j. IsAmong j (map (λ (g : Guest). g.stream) (map guest_of os))) (sym e ∙ sym w_is) (in_guests os m))
+  apart x n e = distinct_head w.stream (map (λ (g : Guest). g.stream) (map guest_of os)) out_first.apart (subst (λ j. IsAmong j (map (λ (g : Guest). g.stream) (map guest_of os))) (sym e ∙ sym w_is) (in_guests os n))
     where
       in_guests : (xs : List (Origin V F)) → IsAmong x xs → IsAmong x.stream (map (λ (g : Guest). g.stream) (map guest_of xs))
       in_guests xs (here ys) = here (map (λ (g : Guest). g.stream) (map guest_of ys))
       in_guests xs (there {xs = ys} y n) = there y.stream (in_guests ys n)
 
-  module _ (d1 : D) (others : OthersFit view fits (Inner job.sender.stream) d d1) where
-    pub tree_fits : Fits view fits c.tree d1
-    tree_fits = outer_fits view fits c.tree d d1 job.sender.stream others i.tree.main.by i.fits_desk
+  module _ (d1 : D) (others : OthersFit M.view M.fits (Inner job.sender.stream) m.desk d1) where
+    pub tree_fits : Fits M.view M.fits c.tree d1
+    tree_fits = outer_fits M.view M.fits c.tree m.desk d1 job.sender.stream others i.tree.main.by i.fits_desk
 
-    module _ (e : JobEnd S V) (ends : EndsJob view told P w e) where
-      end_by : (view e.seat).by ≡ Inner w.stream
+    module _ (e : JobEnd S V) (ends : EndsJob M.view M.told M.stands w e) where
+      end_by : (M.view e.seat).by ≡ Inner w.stream
       end_by = let l = ends.left in ap (λ (x : View V). x.by) l.leaves.seat_is ∙ (same_by (released_follows l.leaves.cancels.left.2) ∙ (l.run.since.alone.by ∙ l.begun.guest.by))
 
-      module _ (d2 : D) (B : Tree S V D) (back : (o : S) → (view o).by ≢ Outer → (view o).by ≢ (view e.seat).by → fits o d1 → fits o d2) where
+      module _ (d2 : D) (B : Tree S V D) (back : (o : S) → (M.view o).by ≢ Outer → (M.view o).by ≢ (M.view e.seat).by → M.fits o d1 → M.fits o d2) where
         -- the jobs that are open still
-        jobs_on : AreJobs view told fits values P c.hub c.stops.board d2 i.parts js os
-        jobs_on = jobs_stay view told fits values P c.hub c.stops.board d i.parts d2 js os (λ j x m q. record {
+        jobs_on : AreJobs M c.hub c.stops.board d2 i.parts m.jobs os
+        jobs_on = jobs_stay M c.hub c.stops.board m.desk i.parts d2 m.jobs os (λ j x n q. record {
           node = q.node;
           devices = q.devices;
           begun = q.begun;
           job = q.job;
           fits_desk =
-              let ne : job.sender.stream ≢ x.stream = λ z. apart x m (sym number ∙ z) in
-              let law = others_leave view values told P fits in
-              let one = law.inner x job.sender.stream ne j d d1 q.job q.fits_desk others in
-              law.both x job.sender.stream ne j d1 d2 q.job one (λ o a b f. back o a (λ z. b (z ∙ (end_by ∙ ap Inner (w_is ∙ sym number)))) f);
+              let ne : job.sender.stream ≢ x.stream = λ z. apart x n (sym number ∙ z) in
+              let law = others_leave M.view M.values M.told M.stands M.fits in
+              let one = law.inner x job.sender.stream ne j m.desk d1 q.job q.fits_desk others in
+              law.both x job.sender.stream ne j d1 d2 q.job one (λ o f b y. back o f (λ z. b (z ∙ (end_by ∙ ap Inner (w_is ∙ sym number)))) y);
           place = q.place;
         }) first.4
 
-        module _ (main : IsMain (FinishesDevice told) p.max_open (length p.streams) (seen view B) (joining i.progress ends.left.leaves.last)) (out : AreOut (seen view B) i.progress.splits (map guest_of os)) (B_is : seen view B ≡ record (seen view c.tree) { seat = joined (seen view c.tree).seat (view e.seat) }) (owes : owed (seen view B).seat ≡ owed (seen view c.tree).seat) (B_fits : Fits view fits B d2) (queued : List Msg) (whole : IsWhole e.sender.stream e.sender.sent r.got queued) (L : Vec (Leftover V) Global) (L_is : L.items ≡ c.left.items ++ record { shelf = e.shelf; unopened = e.unopened } ∷ []) (L_room : vec_capacity L ≡ vec_capacity c.left) (report : Report) (reported : EndsStream k h c.report report) (settled : IsSeated (with_seat_in c.stops e.board)) (stops : Stops) (those : StopsThose p k (length p.streams) (with_seat_in c.stops e.board) stops) (seated : IsSeated stops) where
-          whole_had : IsWhole e.sender.stream e.sender.sent (had.got ++ end_message k h ∷ []) queued
+        abbrev b : Seen V
+        b = seen M.view B
+
+        module _ (main : IsMain (FinishesDevice M.told) p.max_open (stream_limit p) b (joining i.progress ends.left.leaves.last)) (out : AreOut b i.progress.splits (map guest_of os)) (B_is : b ≡ record a { seat = joined a.seat (M.view e.seat) }) (owes : owed b.seat ≡ owed a.seat)
+            (gives : GivesMore [] a b) (scopes : KeepsScopes a b) (room : TakesRoom 0 0 a b) (B_fits : Fits M.view M.fits B d2) (queued : List Msg) (whole : IsWhole e.sender.stream e.sender.sent r.got queued) (L : Vec (Leftover V) Global) (L_is : L.items ≡ c.left.items ++ record { shelf = e.shelf; unopened = e.unopened } ∷ []) (L_room : vec_capacity L ≡ vec_capacity c.left)
+            (report : Report) (reported : EndsStream k h c.report report) (settled : IsSeated (with_seat_in c.stops e.board)) (stops : Stops) (those : StopsThose p k (length p.streams) (with_seat_in c.stops e.board) stops) (seated : IsSeated stops) where
+          whole_had : IsWhole e.sender.stream e.sender.sent (m.receiver.got ++ end_message k h ∷ []) queued
           whole_had = subst (λ (x : ReceiverSeen). IsWhole e.sender.stream e.sender.sent x.got queued) got.is whole
 
-          all : GotAll k h had.got e
-          all = got_all view told P w e ends k w_is h had.got queued whole_had
+          all : GotAll k h m.receiver.got e
+          all = got_all M.view M.told M.stands w e ends k w_is h m.receiver.got queued whole_had
 
           set_for : HasSetFor k e.board.view (Some h)
           set_for = subst (λ x. HasSetFor k e.board.view (Some x)) all.how_so (subst (λ x. HasSetFor x e.board.view (Some e.how)) w_is ends.learned.set)
 
           -- where one stream is open at a time no seat is out now, and so all that is known is set
           own_set : HasSetOwn p i.tale k e.board.view
-          own_set one x m =
+          own_set one x n =
               let few = i.room.few in
               let seats = i.telling.seats in
               subst (λ l. IsAmong (interruption (suc k) x) (l ++ e.board.view.set)) (sym i.telling.known.set)
-              (settled.settled (omega (arith, few, seats, one)) (suc k) x (inr (among_right (interruption (suc k) x) (view_of c.stops).seen e.board.view.seen m)))
+              (settled.settled (omega (arith, few, seats, one)) (suc k) x (inr (among_right (interruption (suc k) x) (view_of c.stops).seen e.board.view.seen n)))
 
           abbrev tale : Tale
           tale = v p i.tale k h i.telling.is_tale open_end e.board.view set_for own_set (with_seat_in c.stops e.board) stops those
@@ -194,6 +209,7 @@ module _ {S V F D T : Type 0} (view : S → View V) (told : V → DeviceTold) (f
             cut = ending.cut;
             frames = ending.frames;
             memory = ending.memory;
+            more = ending.more;
             came = ending.came;
             kept = ending.kept;
             back = ending.back;
@@ -203,15 +219,16 @@ module _ {S V F D T : Type 0} (view : S → View V) (told : V → DeviceTold) (f
           abbrev R : ReceiverSeen
           R = record r { closed = r.closed ++ (e.sender.stream, e.sender.sent) ∷ [] }
 
-          R_is : R ≡ behind view told fits values P i.parts i.progress had i.tale tale k h ending_learned open_end ends.left.leaves.last e.sender.sent
-          R_is = ap (λ (x : ReceiverSeen). record x { closed = x.closed ++ (e.sender.stream, e.sender.sent) ∷ [] }) got.is ∙ ap (λ j. record (grown had (end_message k h)) { closed = had.closed ++ (j, e.sender.sent) ∷ [] }) (ends.sender ∙ w_is)
+          R_is : R ≡ behind M i.parts i.progress m.receiver i.tale tale k h ending_learned open_end ends.left.leaves.last e.sender.sent
+          R_is = ap (λ (x : ReceiverSeen). record x { closed = x.closed ++ (e.sender.stream, e.sender.sent) ∷ [] }) got.is ∙ ap (λ j. record (grown m.receiver (end_message k h)) { closed = m.receiver.closed ++ (j, e.sender.sent) ∷ [] }) (ends.sender ∙ w_is)
 
-          handed : (z : ℕ × V) → IsAmong z (seen view c.tree).seat.given ⊎ IsAmong z ends.left.leaves.last.seat.given → IsAmong z (seen view B).seat.given
-          handed z m = subst (λ (u : Seen V). IsAmong z u.seat.given) (sym B_is) (⊎_elim (λ q. among_left (view e.seat).given q) (λ q. among_right z (seen view c.tree).seat.given (view e.seat).given (subst (λ (u : View V). IsAmong z u.given) (sym ends.left.leaves.seat_is) q)) m)
+          handed : (z : ℕ × V) → IsAmong z a.seat.given ⊎ IsAmong z ends.left.leaves.last.seat.given → IsAmong z b.seat.given
+          handed z n = subst (λ (u : Seen V). IsAmong z u.seat.given) (sym B_is) (⊎_elim (λ q. among_left (M.view e.seat).given q) (λ q. among_right z a.seat.given (M.view e.seat).given (subst (λ (u : View V). IsAmong z u.given) (sym ends.left.leaves.seat_is) q)) n)
 
-          streams_now : KeepsStreams view told fits values P c.hub c.stops.board d2 (seen view B) js L.items R i.parts (joining i.progress ends.left.leaves.last) tale
-          streams_now = subst (λ l. KeepsStreams view told fits values P c.hub c.stops.board d2 (seen view B) js l R i.parts (joining i.progress ends.left.leaves.last) tale) (sym L_is) (subst (λ x. KeepsStreams view told fits values P c.hub c.stops.board d2 (seen view B) js (c.left.items ++ record { shelf = e.shelf; unopened = e.unopened } ∷ []) x i.parts (joining i.progress ends.left.leaves.last) tale) (sym R_is)
-              (streams_end view told fits values P i.parts i.progress had i.tale tale k h ending_learned open_end ends.left.leaves.last e.sender.sent c.hub c.stops.board d d2 (seen view c.tree) (seen view B) job js c.left.items i.streams w os first.2 w_is jobs_on out handed first.3.node first.3.devices e first.3.begun ends all refl ends.left.leaves.seat_is))
+          streams_now : KeepsStreams M c.hub c.stops.board d2 b m.jobs L.items R i.parts (joining i.progress ends.left.leaves.last) tale
+          streams_now = subst (λ l. KeepsStreams M c.hub c.stops.board d2 b m.jobs l R i.parts (joining i.progress ends.left.leaves.last) tale) (sym L_is)
+              (subst (λ x. KeepsStreams M c.hub c.stops.board d2 b m.jobs (c.left.items ++ record { shelf = e.shelf; unopened = e.unopened } ∷ []) x i.parts (joining i.progress ends.left.leaves.last) tale) (sym R_is)
+              (streams_end M i.parts i.progress m.receiver i.tale tale k h ending_learned open_end ends.left.leaves.last e.sender.sent c.hub c.stops.board m.desk d2 a b job m.jobs c.left.items i.streams w os first.2 w_is jobs_on out handed first.3.node first.3.devices e first.3.begun ends all refl ends.left.leaves.seat_is))
 
           known : TellsKnown tale stops
           known = record {
@@ -219,28 +236,36 @@ module _ {S V F D T : Type 0} (view : S → View V) (told : V → DeviceTold) (f
             seen = ap (λ l. l ++ (e.board.view.seen ++ those.seen)) ((end_sets i.tale k h).1 ∙ i.telling.known.seen) ∙ (sym (append_assoc (view_of c.stops).seen e.board.view.seen those.seen) ∙ sym those.learns.seen);
           }
 
-          pub ended_collecting : IsCollectingWith view told fits values P p d0 s0 t waits ws js R depot sink d2 (record c { tree = B; stops = stops; receiver = R; report = report; left = L })
+          pub ended_collecting : IsCollecting M p d0 s0 (record m { receiver = R; desk = d2; collector = record c { tree = B; stops = stops; receiver = R; report = report; left = L } })
           ended_collecting = record {
+            sound = i.sound;
+            few_faults = i.few_faults;
             fits_desk = B_fits;
+            its_parts = i.its_parts;
+            moves = i.moves;
             parts = i.parts;
+            parts_are = i.parts_are;
             progress = joining i.progress ends.left.leaves.last;
             tale = tale;
-            mid = i.mid;
-            tree = tree_joined told p i.progress waits (seen view c.tree) (seen view B) ends.left.leaves.last (view e.seat) c.outer c.outer_stream ws i.parts B_is owes main i.tree;
+            moved = i.moved;
+            tree = tree_joined M.told p i.tree b ends.left.leaves.last (M.view e.seat) B_is owes main gives;
+            lines = i.lines;
             next = i.next;
-            stands = stands_on told p d0 i.mid t c.outer_stream c.outer i.tale.memory (seen view c.tree) i.progress i.stands (parts_read view told fits values P p d0 s0 t waits ws (job ∷ js) had depot sink d c i (λ none. some_part i.parts i.tale k i.telling.fates_are open_end none)) (seen view B) (joining i.progress ends.left.leaves.last) tale.memory (keeps told p i.progress (seen view c.tree) (seen view B) (view e.seat) B_is) refl;
-            dealt = i.dealt;
-            streams = subst (λ b. KeepsStreams view told fits values P c.hub b d2 (seen view B) js L.items R i.parts (joining i.progress ends.left.leaves.last) tale) (sym those.learns.board) streams_now;
+            amid = λ z. amid_kept (i.amid z) b gives scopes room (ap (λ (x : Seen V). x.seat.opened) B_is) (λ r l n. subst (λ xs. IsAmong r xs) (sym (ap (λ (x : Seen V). x.seat.empty) B_is)) (among_left (M.view e.seat).empty n));
+            begun = i.begun;
+            begun_is = i.begun_is;
+            stands = stands_on M.told p i.stands b tale.memory ending.more (keeps M.told p a b (M.view e.seat) B_is) gives;
+            streams = subst (λ x. KeepsStreams M c.hub x d2 b m.jobs L.items R i.parts (joining i.progress ends.left.leaves.last) tale) (sym those.learns.board) streams_now;
             telling = record {
               is_tale = is_tale p i.tale k h i.telling.is_tale open_end e.board.view set_for own_set (with_seat_in c.stops e.board) stops those;
               fates_are = ending.fates ∙ i.telling.fates_are;
               outer_is = ending.outer ∙ i.telling.outer_is;
-              report_is = learns p.take (length p.streams) (after_end i.tale k h) report (reported p.take (length p.streams) i.tale i.telling.report_is open_end) (e.board.view.set ++ those.set) (e.board.view.seen ++ those.seen);
+              report_is = learns p.take (stream_limit p) (after_end i.tale k h) report (reported p.take (stream_limit p) i.tale i.telling.report_is open_end) (e.board.view.set ++ those.set) (e.board.view.seen ++ those.seen);
               known = known;
               seated = seated;
               seats = let n = i.telling.seats in let o = those.learns.out in omega (arith, n, o);
-              contexts = ap (λ (b : BoardSeen). b.contexts) those.learns.board ∙ i.telling.contexts;
-              wrote = wrote_same s0 sink i.tale tale ending.cut ending.frames i.telling.wrote;
+              contexts = ap (λ (x : BoardSeen). x.contexts) those.learns.board ∙ i.telling.contexts;
+              wrote = wrote_same s0 m.sink i.tale tale ending.cut ending.frames i.telling.wrote;
             };
             room = record {
               waiting = i.room.waiting;

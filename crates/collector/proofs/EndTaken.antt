@@ -30,7 +30,8 @@ use Rattle.stream_jobs.specs.Messages.{end_message, load_messages}
 use Rattle.stream_jobs.specs.Running.{Origin}
 use Rattle.dealt_streams.specs.declared.leftover.Leftover.{Leftover}
 use Rattle.dealt_streams.specs.Kept.{AreKept, Gone, IsKept, number_of}
-use Rattle.collector.specs.Collecting.{AreJobs, KeepsStreams, guest_of}
+use Rattle.collector.specs.Members.{Members}
+use Rattle.collector.specs.Streams.{AreJobs, KeepsStreams, guest_of}
 use Rattle.dealt_streams.specs.Kept.Gone.{Came, Missed}
 use Rattle.dealt_streams.specs.Parts.{Part}
 use Rattle.dealt_streams.specs.Parts.Part.{Begun}
@@ -69,7 +70,7 @@ streams_of : {V F : Type 0} (os : List (Origin V F)) → map (λ (y : Guest). y.
 streams_of [] = refl
 streams_of (w ∷ os) = ap (λ l. w.stream ∷ l) (streams_of os)
 
-module _ {S V F D T : Type 0} (view : S → View V) (told : V → DeviceTold) (fits : S → D → Type 0) (values : T → Values) (P : Values → StateMeaning F) (parts : List (Part V F)) (progress : Progress V) (had : ReceiverSeen) (t v : Tale) (k : ℕ) (h : How) (comes : EndComes t v k h) (o : IsOpen t k) (last : Seen V) (sent : List Msg) where
+module _ {S V F D T : Type 0} (M : Members S V F D T) (parts : List (Part V F)) (progress : Progress V) (had : ReceiverSeen) (t v : Tale) (k : ℕ) (h : How) (comes : EndComes t v k h) (o : IsOpen t k) (last : Seen V) (sent : List Msg) where
   abbrev came_so : Msg
   came_so = end_message k h
 
@@ -89,7 +90,7 @@ module _ {S V F D T : Type 0} (view : S → View V) (told : V → DeviceTold) (f
   come_back : (j : ℕ) → HasCome v j → HasCome t j ⊎ (j ≡ k)
   come_back j c = ⊎_elim (λ a. inl (c.0, a)) (λ e. inr e.0) (comes.back j c.0 c.1)
 
-  old_stays : (x : Leftover V) (g : Gone S V F) → IsKept view told P parts progress had t x g → IsKept view told P parts (joining progress last) behind v x g
+  old_stays : (x : Leftover V) (g : Gone S V F) → IsKept M.view M.told M.stands parts progress had t x g → IsKept M.view M.told M.stands parts (joining progress last) behind v x g
   old_stays x (Came n ds w e) c = record {
     begun = c.begun;
     ends = c.ends;
@@ -105,7 +106,7 @@ module _ {S V F D T : Type 0} (view : S → View V) (told : V → DeviceTold) (f
   old_stays x (Missed j ds) c = c
 
   -- and the new one behind them
-  kept_more : (y : Leftover V) (n : Gone S V F) → IsKept view told P parts (joining progress last) behind v y n → (xs : List (Leftover V)) (gs : List (Gone S V F)) → AreKept view told P parts progress had t xs gs → AreKept view told P parts (joining progress last) behind v (xs ++ y ∷ []) (gs ++ n ∷ [])
+  kept_more : (y : Leftover V) (n : Gone S V F) → IsKept M.view M.told M.stands parts (joining progress last) behind v y n → (xs : List (Leftover V)) (gs : List (Gone S V F)) → AreKept M.view M.told M.stands parts progress had t xs gs → AreKept M.view M.told M.stands parts (joining progress last) behind v (xs ++ y ∷ []) (gs ++ n ∷ [])
   kept_more y n new [] [] c = (new, tt)
   kept_more y n new [] (g ∷ gs) c = absurd c
   kept_more y n new (x ∷ xs) [] c = absurd c
@@ -120,7 +121,7 @@ module _ {S V F D T : Type 0} (view : S → View V) (told : V → DeviceTold) (f
   unmade_not : at t.fates k ≡ Some tales.Fate.Unmade → ⊥
   unmade_not u = let q : Some tales.Fate.Begun ≡ Some tales.Fate.Unmade = sym o.0 ∙ u in cc
 
-  module _ (hub : HubSeen) (board : BoardSeen) (d d' : D) (b b' : Seen V) (job : Job S V F V D T) (js : List (Job S V F V D T)) (left : List (Leftover V)) (s : KeepsStreams view told fits values P hub board d b (job ∷ js) left had parts progress t) (w : Origin V F) (os : List (Origin V F)) (first : s.origins ≡ w ∷ os) (number : w.stream ≡ k) (stay : AreJobs view told fits values P hub board d' parts js os) (out : AreOut b' progress.splits (map guest_of os)) (handed : (z : ℕ × V) → IsAmong z b.seat.given ⊎ IsAmong z last.seat.given → IsAmong z b'.seat.given) (n : Node) (ds : List V) (e : JobEnd S V) (begun : at parts w.stream ≡ Some (Begun n ds w)) (ends : EndsJob view told P w e) (all : GotAll k h had.got e) (sent_is : sent ≡ e.sender.sent) (last_is : view e.seat ≡ last.seat) where
+  module _ (hub : HubSeen) (board : BoardSeen) (d d' : D) (b b' : Seen V) (job : Job S V F V D T) (js : List (Job S V F V D T)) (left : List (Leftover V)) (s : KeepsStreams M hub board d b (job ∷ js) left had parts progress t) (w : Origin V F) (os : List (Origin V F)) (first : s.origins ≡ w ∷ os) (number : w.stream ≡ k) (stay : AreJobs M hub board d' parts js os) (out : AreOut b' progress.splits (map guest_of os)) (handed : (z : ℕ × V) → IsAmong z b.seat.given ⊎ IsAmong z last.seat.given → IsAmong z b'.seat.given) (n : Node) (ds : List V) (e : JobEnd S V) (begun : at parts w.stream ≡ Some (Begun n ds w)) (ends : EndsJob M.view M.told M.stands w e) (all : GotAll k h had.got e) (sent_is : sent ≡ e.sender.sent) (last_is : M.view e.seat ≡ last.seat) where
     abbrev x : Leftover V
     x = record { shelf = e.shelf; unopened = e.unopened }
 
@@ -141,7 +142,7 @@ module _ {S V F D T : Type 0} (view : S → View V) (told : V → DeviceTold) (f
         let a = subst (λ l. IsAmong j (map (λ (y : Origin V F). y.stream) l)) first ((s.opens j).1 (begun_back j q.0, λ c. q.1 (come_on j c))) in
         ⊎_elim (λ y. absurd (q.1 (subst (λ i. HasCome v i) (sym (y ∙ number)) (h, comes.came)))) (λ y. y) (among_cons a)
 
-    new_kept : IsKept view told P parts (joining progress last) behind v x g
+    new_kept : IsKept M.view M.told M.stands parts (joining progress last) behind v x g
     new_kept = record {
       begun = begun;
       ends = ends;
@@ -167,7 +168,7 @@ module _ {S V F D T : Type 0} (view : S → View V) (told : V → DeviceTold) (f
     numbers_back : (j : ℕ) → HasCome v j ⊎ (at v.fates j ≡ Some tales.Fate.Unmade) → IsAmong j (map number_of (s.gone ++ g ∷ []))
     numbers_back j q = subst (λ l. IsAmong j l) (sym numbers_is) (⊎_elim (λ c. ⊎_elim (λ y. among_left (w.stream ∷ []) ((s.numbers j).1 (inl y))) (λ y. subst (λ i. IsAmong i (map number_of s.gone ++ w.stream ∷ [])) (number ∙ sym y) (among_last (map number_of s.gone) w.stream)) (come_back j c)) (λ u. among_left (w.stream ∷ []) ((s.numbers j).1 (inr (unmade_back j u)))) q)
 
-    pub streams_end : KeepsStreams view told fits values P hub board d' b' js (left ++ x ∷ []) behind parts (joining progress last) v
+    pub streams_end : KeepsStreams M hub board d' b' js (left ++ x ∷ []) behind parts (joining progress last) v
     streams_end = record {
       origins = os;
       jobs_are = stay;

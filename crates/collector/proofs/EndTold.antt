@@ -1,5 +1,5 @@
 -- An end came, and the tale goes on.
-use Rattle.std.proofs.Common.{◌≡◌, ◌⊎◌, ℕ, zero, suc, ◌+◌, ◌<◌, Bool, true, false, ◌||◌, List, [], ◌∷◌, ◌++◌, map, length, Some, None, if◌then◌else◌, refl, sym, ◌∙◌, ap, subst, inl, inr, ⊎_elim, arith, eqb-true, append_assoc, append-nil}
+use Rattle.std.proofs.Common.{◌≡◌, ◌⊎◌, ℕ, suc, ◌+◌, ◌<◌, Bool, true, false, ◌||◌, List, [], ◌∷◌, ◌++◌, length, Option, Some, None, if◌then◌else◌, refl, sym, ◌∙◌, ap, subst, inl, inr, ⊎_elim, arith, eqb-true, append_assoc, append-nil}
 use Rattle.std.specs.Prelude.{slice_get}
 use Rattle.chunk_core.specs.Lists.{IsAmong}
 use Rattle.chunk_core.specs.declared.code.Code.{Code}
@@ -14,6 +14,7 @@ use Rattle.interrupt_ctx.specs.declared.why.Why.{Why}
 use Rattle.interrupt_ctx.specs.declared.why.Why.TheVariants as why
 use Rattle.join_report.specs.Calls.{after_end}
 use Rattle.join_report.specs.declared.stops.Stops.{Stops}
+use Rattle.join_tale.specs.Bounds.{Bounds}
 use Rattle.join_tale.specs.Keeping.{IsOwnCode, IsTale}
 use Rattle.join_tale.specs.Steps.{TellsEnd, ended, ended_late, learned}
 use Rattle.join_tale.specs.Tales.{Came, IsCaused, IsFoundSet, IsKnown, IsOpen, Tale, end_of, frames_of}
@@ -21,12 +22,11 @@ use Rattle.join_tale.proofs.Ending as ending
 use Rattle.join_tale.proofs.Parts.{end_before_end, frames_end}
 use Rattle.pipeline_desc.specs.Meant.{PlanMeant}
 use Rattle.pipeline_desc.specs.declared.stream.StreamSpec.{StreamSpec}
-use Rattle.plan_work.specs.Plans.{stream_of}
-use Rattle.run_rules.specs.Facts.{at, is_memory}
-use Rattle.run_rules.specs.Work.{Work}
+use Rattle.run_rules.specs.Facts.{is_memory}
 use Rattle.stream_jobs.specs.Learned.{HasSetFor}
-use Rattle.dealt_streams.specs.Works.{bare_work}
-use Rattle.collector.specs.Receiving.{StopsThose}
+use Rattle.dealt_streams.specs.Works.{plan_bounds, until_of}
+use Rattle.collector.specs.Receiving.{EndsWith, StopsThose}
+use Rattle.collector.proofs.Lists.{below_is}
 
 -- the end h of stream k came behind the tale t, which goes on so
 pub record EndComes (t u : Tale) (k : ℕ) (h : How) : Type 0 where
@@ -35,23 +35,29 @@ pub record EndComes (t u : Tale) (k : ℕ) (h : How) : Type 0 where
   pub cut : u.cut ≡ t.cut
   pub frames : frames_of u.front ≡ frames_of t.front
   pub memory : h ≡ how.Memory → u.memory ≡ true
+  pub more : t.memory ≡ true → u.memory ≡ true
   pub came : Came u k h
   pub kept : (j : ℕ) (g : How) → Came t j g → Came u j g
   pub back : (j : ℕ) (g : How) → Came u j g → Came t j g ⊎ ((j ≡ k) × (g ≡ h))
   pub got : u.front ++ u.late ≡ (t.front ++ t.late) ++ end_of k h ∷ []
 
-comes_front : (t : Tale) (k : ℕ) (h : How) → t.late ≡ [] → EndComes t (ended t k h) k h
-comes_front t k h none = record {
+comes_front : (t : Tale) (k : ℕ) (h : How) → t.late ≡ [] → t.memory ≡ false → EndComes t (ended t k h) k h
+comes_front t k h none calm = record {
   fates = refl;
   outer = refl;
   cut = refl;
   frames = frames_end t.front k h;
   memory = λ e. ap is_memory e;
+  more = λ m. let z : false ≡ true = sym calm ∙ m in cc;
   came = inl (among_last t.front (end_of k h));
   kept = λ j g c. ⊎_elim (λ a. inl (among_left (end_of k h ∷ []) a)) (λ b. inr b) c;
   back = λ j g c. ⊎_elim (λ a. ⊎_elim (λ b. inl (inl b)) (λ e. inr e) (end_before_end j k g h t.front a)) (λ b. inl (inr b)) c;
   got = ap (λ ms. (t.front ++ end_of k h ∷ []) ++ ms) none ∙ (append-nil (t.front ++ end_of k h ∷ []) ∙ (ap (λ ms. ms ++ end_of k h ∷ []) (sym (append-nil t.front)) ∙ ap (λ ms. (t.front ++ ms) ++ end_of k h ∷ []) (sym none)));
 }
+
+or_left : (a b : Bool) → a ≡ true → (a || b) ≡ true
+or_left true b e = refl
+or_left false b e = absurd cc
 
 or_right : (a b : Bool) → b ≡ true → (a || b) ≡ true
 or_right true b e = refl
@@ -64,6 +70,7 @@ comes_late t k h = record {
   cut = refl;
   frames = refl;
   memory = λ e. or_right t.memory (is_memory h) (ap is_memory e);
+  more = λ m. or_left t.memory (is_memory h) m;
   came = inr (among_last t.late (end_of k h));
   kept = λ j g c. ⊎_elim (λ a. inl a) (λ b. inr (among_left (end_of k h ∷ []) b)) c;
   back = λ j g c. ⊎_elim (λ a. inl (inl a)) (λ b. ⊎_elim (λ m. inl (inr m)) (λ e. inr e) (end_before_end j k g h t.late b)) c;
@@ -79,37 +86,37 @@ end_sets t k h = go t.ceased
     go false = (refl, refl)
 
 -- what the end adds
-pub end_comes : (work : Work) (t : Tale) (k : ℕ) (h : How) → IsTale work t → EndComes t (after_end t k h) k h
-end_comes work t k h i = go t.ceased refl
+pub end_comes : (bounds : Bounds) (t : Tale) (k : ℕ) (h : How) → IsTale bounds t → EndComes t (after_end t k h) k h
+end_comes bounds t k h i = go t.ceased refl
   where
     go : (b : Bool) → t.ceased ≡ b → EndComes t (if b then ended_late t k h else ended t k h) k h
     go true e = comes_late t k h
-    go false e = comes_front t k h (i.frames.quiet e).0
+    go false e = let quiet = i.frames.quiet e in comes_front t k h quiet.0 quiet.2
 
 -- and where what goes with it is known, the tale stays one
-pub end_tells : (work : Work) (t : Tale) (k : ℕ) (h : How) (vs cs : List Interruption) → IsTale work t → IsOpen t k → TellsEnd work (learned (after_end t k h) vs cs) k h vs → IsTale work (learned (after_end t k h) vs cs)
-end_tells work t k h vs cs i o = go t.ceased refl
+pub end_tells : (bounds : Bounds) (t : Tale) (k : ℕ) (h : How) (vs cs : List Interruption) → IsTale bounds t → IsOpen t k → TellsEnd bounds (learned (after_end t k h) vs cs) k h vs → IsTale bounds (learned (after_end t k h) vs cs)
+end_tells bounds t k h vs cs i o = go t.ceased refl
   where
-    go : (b : Bool) → t.ceased ≡ b → TellsEnd work (learned (if b then ended_late t k h else ended t k h) vs cs) k h vs → IsTale work (learned (if b then ended_late t k h else ended t k h) vs cs)
-    go true e tells = ending.ends_late work t k h vs cs i o e tells
-    go false e tells = ending.ends work t k h vs cs i o e tells
+    go : (b : Bool) → t.ceased ≡ b → TellsEnd bounds (learned (if b then ended_late t k h else ended t k h) vs cs) k h vs → IsTale bounds (learned (if b then ended_late t k h else ended t k h) vs cs)
+    go true e tells = ending.ends_late bounds t k h vs cs i o e tells
+    go false e tells = ending.ends bounds t k h vs cs i o e tells
 
--- the streams that end with another one, by the plan and by its work
-pub until_spec : (ss : List StreamSpec) (i k : ℕ) → elim (at (map stream_of ss) i) [ Some s ↦ s.until | None ↦ None ] ≡ Some k → (i < length ss) × ((s : StreamSpec) × (slice_get ss i ≡ Some s) × (s.until ≡ Some k))
-until_spec [] i k e = cc
-until_spec (s ∷ ss) zero k e = (omega arith, (s, refl, e))
-until_spec (s ∷ ss) (suc i) k e = let r = until_spec ss i k e in let l = r.0 in (omega (arith, l), r.1)
+-- the stream whose end stops another one stands in the plan
+until_ends : (ss : List StreamSpec) (i k : ℕ) (o : Option StreamSpec) → slice_get ss i ≡ o → elim o [ Some s ↦ s.until | None ↦ None ] ≡ Some k → (s : StreamSpec) × (slice_get ss i ≡ Some s) × (s.until ≡ Some k)
+until_ends ss i k None e u = cc
+until_ends ss i k (Some s) e u = (s, e, u)
 
-pub until_work : (ss : List StreamSpec) (i k : ℕ) (s : StreamSpec) → slice_get ss i ≡ Some s → s.until ≡ Some k → elim (at (map stream_of ss) i) [ Some x ↦ x.until | None ↦ None ] ≡ Some k
-until_work [] i k s e u = cc
-until_work (x ∷ ss) zero k s e u = let same : x ≡ s = cc in ap (λ (y : StreamSpec). y.until) same ∙ u
-until_work (x ∷ ss) (suc i) k s e u = until_work ss i k s e u
+pub until_spec : (p : PlanMeant) (i k : ℕ) → until_of p.streams i ≡ Some k → (i < length p.streams) × EndsWith p k i
+until_spec p i k u = let e = until_ends p.streams i k (slice_get p.streams i) refl u in (below_is p.streams i e.0 e.1, e)
+
+pub until_is : (p : PlanMeant) (i k : ℕ) → EndsWith p k i → until_of p.streams i ≡ Some k
+until_is p i k (s, e, u) = ap (λ (o : Option StreamSpec). elim o [ Some x ↦ x.until | None ↦ None ]) e ∙ u
 
 -- where one stream is open at a time, a code of stream k that its seat has seen is among those that were set before or by it
 abbrev pub HasSetOwn : PlanMeant → Tale → ℕ → View → Type 0
 HasSetOwn p t k w = p.max_open ≡ 1 → (x : Why) → IsAmong (interruption (suc k) x) w.seen → IsAmong (interruption (suc k) x) (t.set ++ w.set)
 
-module _ (p : PlanMeant) (t : Tale) (k : ℕ) (h : How) (i : IsTale (bare_work p) t) (o : IsOpen t k) (w : View) (ended_so : HasSetFor k w (Some h)) (own : HasSetOwn p t k w) (before stops : Stops) (those : StopsThose p k (length p.streams) before stops) where
+module _ (p : PlanMeant) (t : Tale) (k : ℕ) (h : How) (i : IsTale (plan_bounds p) t) (o : IsOpen t k) (w : View) (ended_so : HasSetFor k w (Some h)) (own : HasSetOwn p t k w) (before stops : Stops) (those : StopsThose p k (length p.streams) before stops) where
   abbrev pub vs : List Interruption
   vs = w.set ++ those.set
 
@@ -123,7 +130,7 @@ module _ (p : PlanMeant) (t : Tale) (k : ℕ) (h : How) (i : IsTale (bare_work p
   v = learned u vs cs
 
   pub comes : EndComes t u k h
-  comes = end_comes (bare_work p) t k h i
+  comes = end_comes (plan_bounds p) t k h i
 
   seen_in : (x : Interruption) → IsAmong x cs → IsAmong x v.seen
   seen_in x m = among_right x u.seen cs m
@@ -135,38 +142,38 @@ module _ (p : PlanMeant) (t : Tale) (k : ℕ) (h : How) (i : IsTale (bare_work p
   known_so : (there : Why) → IsAmong (interruption 0 there) w.set ⊎ IsAmong (interruption 0 there) w.seen → IsKnown v 0
   known_so there m = ⊎_elim (λ a. inl (there, set_in (interruption 0 there) (among_left those.set a))) (λ b. inr (there, seen_in (interruption 0 there) (among_left those.seen b))) m
 
-  caused_fault : (c : Code) → h ≡ how.Fault c → (context : ℕ) (x : Why) → interruption context x ≡ interruption 0 why.Fault → IsCaused (bare_work p) v context x
+  caused_fault : (c : Code) → h ≡ how.Fault c → (context : ℕ) (x : Why) → interruption context x ≡ interruption 0 why.Fault → IsCaused (plan_bounds p) v context x
   caused_fault c is context x e =
       let con : context ≡ 0 = ap (λ (y : Interruption). y.context) e in
       let wh : why.Fault ≡ x = sym (ap (λ (y : Interruption). y.why) e) in
-      subst (λ y. IsCaused (bare_work p) v context y) wh (con, inl (k, c, subst (λ g. Came u k g) is comes.came))
+      subst (λ y. IsCaused (plan_bounds p) v context y) wh (con, inl (k, c, subst (λ g. Came u k g) is comes.came))
 
-  caused_memory : h ≡ how.Memory → (context : ℕ) (x : Why) → interruption context x ≡ interruption 0 why.Memory → IsCaused (bare_work p) v context x
+  caused_memory : h ≡ how.Memory → (context : ℕ) (x : Why) → interruption context x ≡ interruption 0 why.Memory → IsCaused (plan_bounds p) v context x
   caused_memory is context x e =
       let con : context ≡ 0 = ap (λ (y : Interruption). y.context) e in
       let wh : why.Memory ≡ x = sym (ap (λ (y : Interruption). y.why) e) in
-      subst (λ y. IsCaused (bare_work p) v context y) wh (con, comes.memory is)
+      subst (λ y. IsCaused (plan_bounds p) v context y) wh (con, comes.memory is)
 
-  caused_seat : (g : How) → h ≡ g → HasSetFor k w (Some g) → (context : ℕ) (x : Why) → IsAmong (interruption context x) w.set → IsCaused (bare_work p) v context x
+  caused_seat : (g : How) → h ≡ g → HasSetFor k w (Some g) → (context : ℕ) (x : Why) → IsAmong (interruption context x) w.set → IsCaused (plan_bounds p) v context x
   caused_seat how.Done is s context x m = absurd (among_nil (subst (λ l. IsAmong (interruption context x) l) s m))
   caused_seat how.Halted is s context x m = absurd (among_nil (subst (λ l. IsAmong (interruption context x) l) s.none m))
   caused_seat (how.Fault c) is s context x m = caused_fault c is context x (s.only (interruption context x) m)
   caused_seat how.Memory is s context x m = caused_memory is context x (s.only (interruption context x) m)
 
-  caused_until : (context : ℕ) (x : Why) → IsAmong (interruption context x) those.set → IsCaused (bare_work p) v context x
+  caused_until : (context : ℕ) (x : Why) → IsAmong (interruption context x) those.set → IsCaused (plan_bounds p) v context x
   caused_until context x m =
       let r = those.only context x m in
       let ends = r.1.2 in
-      subst (λ y. IsCaused (bare_work p) v context y) (sym r.0) (r.1.0, k, r.1.1, until_work p.streams r.1.0 k ends.0 ends.1 ends.2, (h, comes.came))
+      subst (λ y. IsCaused (plan_bounds p) v context y) (sym r.0) (r.1.0, k, r.1.1, until_is p r.1.0 k ends, (h, comes.came))
 
   -- a code of its own that it found, which had been set where one stream is open at a time
-  own_code : (x : Why) → IsAmong (interruption (suc k) x) w.seen → IsOwnCode (bare_work p) v k
+  own_code : (x : Why) → IsAmong (interruption (suc k) x) w.seen → IsOwnCode (plan_bounds p) v k
   own_code x m = (
     (x, seen_in (interruption (suc k) x) (among_left those.seen m)),
     λ turn. (x, subst (λ l. IsAmong (interruption (suc k) x) (l ++ vs)) (sym (end_sets t k h).0) (subst (λ l. IsAmong (interruption (suc k) x) l) (append_assoc t.set w.set those.set) (among_left those.set (own (eqb-true p.max_open 1 turn) x m)))),
   )
 
-  halted_so : (g : How) → h ≡ g → HasSetFor k w (Some g) → g ≡ how.Halted → IsFoundSet v 0 ⊎ IsOwnCode (bare_work p) v k
+  halted_so : (g : How) → h ≡ g → HasSetFor k w (Some g) → g ≡ how.Halted → IsFoundSet v 0 ⊎ IsOwnCode (plan_bounds p) v k
   halted_so how.Halted is s e = let f = s.found in ⊎_elim (λ a. inl (f.0, seen_in (interruption 0 f.0) (among_left those.seen a))) (λ b. inr (own_code f.0 (subst (λ n. IsAmong (interruption n f.0) w.seen) (let z : 1 + k ≡ suc k = omega arith in z) b))) f.1
   halted_so how.Done is s e = cc
   halted_so (how.Fault c) is s e = cc
@@ -184,14 +191,14 @@ module _ (p : PlanMeant) (t : Tale) (k : ℕ) (h : How) (i : IsTale (bare_work p
   memory_so how.Done s e = cc
   memory_so (how.Fault d) s e = cc
 
-  tells : TellsEnd (bare_work p) v k h vs
+  tells : TellsEnd (plan_bounds p) v k h vs
   tells = record {
     caused = λ context x m. ⊎_elim (λ a. caused_seat h refl ended_so context x a) (λ b. caused_until context x b) (among_append (interruption context x) w.set those.set m);
     halted = λ e. halted_so h refl ended_so e;
     fault = λ c e. fault_so h c ended_so e;
     memory = λ e. memory_so h ended_so e;
-    until = λ j e. let s = until_spec p.streams j k e in let r = those.each j s.0 s.1 in ⊎_elim (λ a. inl (r.0, set_in (interruption (suc j) r.0) (among_right (interruption (suc j) r.0) w.set those.set a))) (λ b. inr (r.0, seen_in (interruption (suc j) r.0) (among_right (interruption (suc j) r.0) w.seen those.seen b))) r.1;
+    until = λ j e. let s = until_spec p j k e in let r = those.each j s.0 s.1 in ⊎_elim (λ a. inl (r.0, set_in (interruption (suc j) r.0) (among_right (interruption (suc j) r.0) w.set those.set a))) (λ b. inr (r.0, seen_in (interruption (suc j) r.0) (among_right (interruption (suc j) r.0) w.seen those.seen b))) r.1;
   }
 
-  pub is_tale : IsTale (bare_work p) v
-  is_tale = end_tells (bare_work p) t k h vs cs i o tells
+  pub is_tale : IsTale (plan_bounds p) v
+  is_tale = end_tells (plan_bounds p) t k h vs cs i o tells

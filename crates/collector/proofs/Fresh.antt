@@ -1,30 +1,39 @@
 -- The main tree and the outer stream before the first pull.
-use Rattle.std.proofs.Common.{◌≡◌, ◌≢◌, ℕ, zero, suc, ◌+◌, ◌-◌, ◌*◌, ◌<◌, ◌≤◌, Bool, false, List, [], ◌∷◌, ◌++◌, map, length, Option, Some, None, IfSome, inl, inr, refl, sym, ◌∙◌, ap, subst, arith}
+use Rattle.std.proofs.Common.{◌≡◌, ◌≢◌, ℕ, suc, ◌+◌, ◌-◌, ◌*◌, ◌<◌, ◌≤◌, Bool, [], ◌++◌, filter, length, Option, Some, None, IfSome, option_to_list, refl, sym, ap, subst, arith}
 use Rattle.chunk_core.specs.Lists.{IsAmong}
+use Rattle.chunk_core.specs.Outcomes.{Cut}
+use Rattle.chunk_core.specs.declared.code.How.{How}
 use Rattle.chunk_core.specs.declared.code.How.TheVariants as how
-use Rattle.csv_pipes.specs.Dictionaries.{values_of}
+use Rattle.chunk_core.proofs.Members.{among_nil}
 use Rattle.device_port.specs.Device.{DeviceTold}
-use Rattle.device_port.specs.Depot.{DepotTold}
+use Rattle.join_tree.specs.Given.{given}
 use Rattle.join_tree.specs.Mains.{IsMain}
-use Rattle.join_tree.specs.Progress.{Progress, none_done}
-use Rattle.join_tree.specs.Steps.{KeepsRows}
-use Rattle.outer_tables.specs.declared.not_read.NotRead.TheVariants as lacks
-use Rattle.outer_stream.specs.declared.outer.Outer.{Outer as Outer_stream}
-use Rattle.outer_stream.specs.Tables.{StandsOuter}
-use Rattle.outer_stream.proofs.Standing.{tables_kept, untried}
-use Rattle.pipeline_desc.specs.Meant.{PlanMeant}
-use Rattle.pipeline_desc.specs.Places.{first_row, rows_of}
+use Rattle.join_tree.specs.Notes.{is_table_note}
+use Rattle.join_tree.specs.Progress.{none_done}
+use Rattle.outer_stream.specs.Parts.{Gave, IsAmid}
+use Rattle.outer_stream.specs.Parts.Gave.{nothing}
+use Rattle.outer_source.specs.Standing.{HasRoomForList, IsAmidAll}
+use Rattle.outer_source.specs.Standing.IsAmidAll.{in_parts}
+use Rattle.pipeline_desc.specs.Meant.{PlanMeant, stream_limit}
+use Rattle.pipeline_desc.specs.Places.{first_row, outer_rows, rows_of}
+use Rattle.pipeline_desc.specs.Sound.{IsSoundPlan}
+use Rattle.pipeline_desc.specs.declared.listing.ListSpec.{ListSpec}
 use Rattle.pull_stepper.specs.Held.{FinishesDevice}
-use Rattle.res_ledger.specs.declared.event.StreamNo.TheVariants.{Outer}
+use Rattle.res_ledger.specs.Own.{opens}
+use Rattle.res_ledger.specs.declared.event.What.TheVariants.{Acquire}
 use Rattle.row_seat.specs.declared.view.View.{View}
 use Rattle.row_seat.specs.Views.{IsWithin}
 use Rattle.scope_tree.specs.Calls.{Seen, used}
-use Rattle.scope_tree.specs.Trace.{owed}
-use Rattle.collector.specs.Collecting.{KeepsTree, events_from}
-use Rattle.collector.specs.Starting.{IsFirstSeat}
-use Rattle.collector.proofs.Lists.{run_there}
-use Rattle.collector.proofs.Streams.{moved}
-use Rattle.collector.proofs.Tree.{rows_behind, table_room}
+use Rattle.scope_tree.specs.Trace.{owed, trace}
+use Rattle.dealt_streams.specs.Standing.{EndsRead, StandsBy, StandsList, all_given, group_part, list_end, plan_parts}
+use Rattle.dealt_streams.specs.Standing.ArePartsTried.{none}
+use Rattle.dealt_streams.specs.Standing.StandsList.{unopened}
+use Rattle.collector.specs.Starting.{IsFirstSeat, child_scopes, unpulled}
+use Rattle.collector.specs.Trees.{KeepsTree, events_from}
+use Rattle.collector.proofs.Lists.{map_length, run_there}
+use Rattle.collector.proofs.PlanParts.{plan_follow}
+use Rattle.collector.proofs.Standing.{none_some}
+use Rattle.collector.proofs.Tree.{outer_room, rows_behind}
 
 -- frames are wanted
 pub take_some : (o : Option ℕ) → IfSome o (λ n. 1 ≤ n) → o ≢ Some 0
@@ -32,18 +41,18 @@ take_some None l e = cc
 take_some (Some n) l e = let z : n ≡ 0 = cc in absurd (omega (arith, l, z))
 
 module _ {V : Type 0} (p : PlanMeant) (a : View V) (first : IsFirstSeat p a) where
-  -- the rows of the tables are there
-  pub tables_empty : (r : ℕ) → r < length p.tables → IsAmong r a.empty
-  tables_empty r l =
-      let t = table_room p (length p.streams) (omega arith) in
+  -- the rows of the outer stream are there
+  pub outer_empty : (r : ℕ) → r < outer_rows p → IsAmong r a.empty
+  outer_empty r l =
+      let t = outer_room p (stream_limit p) (omega arith) in
       let n = first.all_rows in
       subst (λ (v : View V). IsAmong r v.empty) (sym first.is) (run_there 0 first.rows r (omega arith) (omega (arith, l, t, n)))
 
   -- so are those of the streams
-  pub stream_rows : (k r : ℕ) → k < length p.streams → IsWithin (rows_of p k).from (rows_of p k).to r → IsAmong r a.empty
+  pub stream_rows : (k r : ℕ) → k < stream_limit p → IsWithin (rows_of p k).from (rows_of p k).to r → IsAmong r a.empty
   stream_rows k r l w =
-      let b = rows_behind p (length p.streams - (k + 1)) (k + 1) (omega (arith, l)) in
-      let z : k + 1 + (length p.streams - (k + 1)) ≡ length p.streams = omega (arith, l) in
+      let b = rows_behind p (stream_limit p - (k + 1)) (k + 1) (omega (arith, l)) in
+      let z : k + 1 + (stream_limit p - (k + 1)) ≡ stream_limit p = omega (arith, l) in
       let c = subst (λ i. first_row p (k + 1) ≤ first_row p i) z b in
       let n = first.all_rows in
       let high = w.1 in
@@ -52,24 +61,50 @@ module _ {V : Type 0} (p : PlanMeant) (a : View V) (first : IsFirstSeat p a) whe
   pub first_owes : owed a ≡ 1
   first_owes = ap (λ (v : View V). owed v) first.is
 
-  -- there is room for the events of the tables, and for those behind
-  pub first_spare : 2 * length p.tables + 1 + length p.streams + events_from p 0 ≤ a.spare
+  -- there is room for the events of the outer stream, and for those behind
+  pub first_spare : 1 + (2 * outer_rows p + 2 * child_scopes p) + stream_limit p + events_from p 0 ≤ a.spare
   first_spare = let s = ap (λ (v : View V). v.spare) first.is in let n = first.all_events in omega (arith, s, n)
 
   pub first_out : a.out ≡ []
   first_out = ap (λ (v : View V). v.out) first.is
 
-  pub first_by : a.by ≡ Outer
-  first_by = ap (λ (v : View V). v.by) first.is
+  pub first_given : given a ≡ []
+  first_given = ap (λ (v : View V). given v) first.is
 
--- an outer stream that wasn't pulled
-abbrev pub first_outer : Outer_stream
-first_outer = record { leased = 0; begun = false; tables = [] }
+  first_opens : length (opens (trace a)) ≡ 0
+  first_opens = ap (λ (v : View V). length (opens (trace v))) first.is
 
-module _ {V : Type 0} (told : V → DeviceTold) (p : PlanMeant) (a : Seen V) (first : IsFirstSeat p a.seat) where
+module _ {V : Type 0} (told : V → DeviceTold) (p : PlanMeant) (sound : IsSoundPlan p) (a : Seen V) (first : IsFirstSeat p a.seat) (rows : outer_rows p ≤ a.rows) (used_none : used a ≡ 0) (scopes : 1 + child_scopes p ≤ a.scopes) (main : IsMain (FinishesDevice told) p.max_open (stream_limit p) a (none_done V)) where
+  parts_count : length (plan_parts p) ≡ suc (length p.groups)
+  parts_count = ap suc (map_length group_part p.groups)
+
+  first_parts : IsAmid (plan_parts p) (length p.tables) (length p.streams) unpulled.outer a
+  first_parts = record {
+    gave = subst (λ E. Gave (plan_parts p) 0 0 0 0 0 E) (sym (first_given p a.seat first)) nothing;
+    follow = plan_follow p sound;
+    scope = main.root;
+    rows = λ r low high. outer_empty p a.seat first r (omega (arith, high));
+    used = omega (arith, rows, used_none);
+    scopes = let o = first_opens p a.seat first in let c = parts_count in omega (arith, scopes, o, c);
+  }
+
+  list_room : (o : Option ListSpec) → p.list ≡ o → IfSome o (λ l. HasRoomForList told p (plan_parts p) unpulled.outer a)
+  list_room None e = tt
+  list_room (Some l) e =
+      let one = ap (λ (z : Option ListSpec). length (option_to_list z)) e in
+      record {
+        row = outer_empty p a.seat first (length p.tables) (omega (arith, one));
+        used = omega (arith, rows, used_none, one);
+        scopes = let o = first_opens p a.seat first in let c = parts_count in omega (arith, scopes, o, c, one);
+      }
+
+  -- the outer stream is amid its parts, of which none was begun
+  pub first_amid : IsAmidAll told p (plan_parts p) [] [] unpulled a
+  first_amid = in_parts (record { amid = first_parts; unopened = refl; room = list_room p.list refl })
+
   -- the tree before the outer stream is pulled
-  pub untouched_tree : {F : Type 0} (waits : ℕ) → waits ≡ 0 → IsMain (FinishesDevice told) p.max_open (length p.streams) a (none_done V) → KeepsTree p {F = F} told waits a None first_outer [] [] (moved (none_done V) [] 0 0 [] None)
-  untouched_tree waits none main = record {
+  pub untouched_tree : (waits : ℕ) → waits ≡ 0 → KeepsTree p told waits a None unpulled [] 0 (none_done V)
+  untouched_tree waits zero' = record {
     main = main;
     leased_is = refl;
     next_is = refl;
@@ -77,34 +112,33 @@ module _ {V : Type 0} (told : V → DeviceTold) (p : PlanMeant) (a : Seen V) (fi
     waits_are = refl;
     rows = tt;
     few = omega arith;
-    some = λ e l. absurd (omega (arith, l, none));
+    some = λ e l. absurd (omega (arith, l, zero'));
     empty = λ k r low high w. stream_rows p a.seat first k r high w;
     splits = let s = ap (λ (v : View V). v.splits) first.is in let n = first.all_splits in omega (arith, s, n);
-    spare = let s = first_spare p a.seat first in let o = first_owes p a.seat first in omega (arith, s, o);
+    spare = let s = first_spare p a.seat first in let o = first_owes p a.seat first in let c = parts_count in omega (arith, s, o, c);
+    noted = λ e. sym (ap (λ E. filter is_table_note E) (first_given p a.seat first));
   }
 
-  -- and the outer stream
-  pub untouched_outer : (old : DepotTold) → length p.tables ≤ a.rows → used a ≡ 0 → p.take ≢ Some 0 → StandsOuter told p old old (values_of []) first_outer None false a (moved (none_done V) [] 0 0 [] None)
-  untouched_outer old rows used_none some = record {
-    o = Some lacks.Memory;
-    tables = untried told p old a (moved (none_done V) [] 0 0 [] None) refl;
-    values = refl;
-    begun = λ e. cc;
-    read = λ e. cc;
-    ended = λ e. cc;
-    unread = λ n. (refl, inl (record { untried = refl; open_still = refl; begun = refl; tables = refl; depot = refl; rows = tables_empty p a.seat first; room = omega (arith, rows, used_none) }));
-    nobody = λ w. absurd (some w);
-  }
+module _ {V : Type 0} (told : V → DeviceTold) (p : PlanMeant) where
+  unlisted_yet : (o : Option ListSpec) (b : Seen V) → IfSome o (λ l. StandsList p told l [] [] Cut b)
+  unlisted_yet None b = tt
+  unlisted_yet (Some l) b = unopened refl refl refl
 
-  -- where no frame is wanted it is halted, and tried nothing
-  pub unwanted_outer : (old : DepotTold) (m : Bool) (b : Seen V) (u : Progress V) → p.take ≡ Some 0 → KeepsRows a.seat b.seat → u.tables ≡ [] → StandsOuter told p old old (values_of []) first_outer (Some how.Halted) m b u
-  unwanted_outer old m b u none rows same = record {
-    o = Some lacks.Memory;
-    tables = tables_kept told p old old (Some lacks.Memory) (moved (none_done V) [] 0 0 [] None) u a b rows same (untried told p old a (moved (none_done V) [] 0 0 [] None) refl);
-    values = refl;
-    begun = λ e. cc;
-    read = λ e. cc;
-    ended = λ e. cc;
-    unread = λ n. (refl, inr (how.Halted, refl, (none, refl)));
-    nobody = λ w. (refl, refl);
+  -- the outer stream that gave nothing
+  pub untouched_outer : (over : Option How) (m : Bool) (b : Seen V) → given b.seat ≡ [] → list_end p None over ≡ Cut → IfSome over (EndsRead p [] (given b.seat)) → (p.take ≡ Some 0 → over ≡ Some how.Halted) → StandsBy p told [] [] [] 0 0 [] over m b
+  untouched_outer over m b nothing_given cut ended nobody = record {
+    lack = None;
+    tried = none;
+    rows = tt;
+    read = λ e. (refl, tt);
+    unread = λ w e. none_some w e;
+    turns = λ i l. absurd (omega (arith, l));
+    ahead = λ i l n. omega arith;
+    behind = λ o i. absurd (among_nil i);
+    lines_are = omega arith;
+    noted = (all_given p [], ap (λ E. E ++ all_given p []) nothing_given);
+    acquired = λ r s i. absurd (among_nil (subst (λ E. IsAmong (Acquire r s) E) nothing_given i));
+    list = subst (λ e. IfSome p.list (λ l. StandsList p told l [] [] e b)) (sym cut) (unlisted_yet p.list b);
+    ended = λ e. ended;
+    nobody = λ w. (refl, refl, nobody w);
   }

@@ -1,5 +1,5 @@
 -- The tale of a collector before its first stream.
-use Rattle.std.proofs.Common.{◌≡◌, ◌≢◌, true, false, List, [], ◌++◌, length, Some, None, refl, sym, ◌∙◌, ap}
+use Rattle.std.proofs.Common.{◌≡◌, ◌≢◌, true, false, List, [], ◌++◌, Some, None, refl, sym, ◌∙◌, ap}
 use Rattle.chunk_core.specs.declared.code.How.TheVariants as how
 use Rattle.device_port.specs.Sink.{SinkTold}
 use Rattle.interrupt_ctx.specs.Ends.{BoardSeen, SeatSeen}
@@ -15,9 +15,9 @@ use Rattle.join_tale.specs.Tales.{Tale}
 use Rattle.join_tale.proofs.Growing.{found_more, marked_known}
 use Rattle.join_report.proofs.Learning.{learns_known, unknown_is}
 use Rattle.join_tale.proofs.Steps.{starts, starts_met}
-use Rattle.pipeline_desc.specs.Meant.{PlanMeant}
+use Rattle.pipeline_desc.specs.Meant.{PlanMeant, stream_limit}
 use Rattle.collector.specs.declared.collector.JoinRoom.{JoinRoom}
-use Rattle.dealt_streams.specs.Works.{bare_work}
+use Rattle.dealt_streams.specs.Works.{plan_bounds}
 use Rattle.collector.specs.Collecting.{KeepsTale}
 use Rattle.collector.specs.Starting.{IsRoomFor}
 use Rattle.collector.proofs.OuterSteps.{whole_found}
@@ -33,7 +33,7 @@ module _ {S V F D T : Type 0} (p : PlanMeant) (room : JoinRoom S V F D T) (fr : 
   -- where frames are wanted
   pub tale_starts : p.take ≢ Some 0 → KeepsTale p None room.report room.stops 0 s0 s0 [] first_tale
   tale_starts some = record {
-    is_tale = starts (bare_work p) some;
+    is_tale = starts (plan_bounds p) some;
     fates_are = refl;
     outer_is = refl;
     report_is = fr.some some;
@@ -51,10 +51,10 @@ module _ {S V F D T : Type 0} (p : PlanMeant) (room : JoinRoom S V F D T) (fr : 
 
     pub tale_unwanted : KeepsTale p None room.report again 0 s0 s0 [] unwanted
     tale_unwanted = record {
-      is_tale = starts_met (bare_work p) m.0 m.1 m.2 none;
+      is_tale = starts_met (plan_bounds p) m.0 m.1 m.2 none;
       fates_are = refl;
       outer_is = refl;
-      report_is = reports.learns p.take (length p.streams) (record first_tale { ceased = true }) room.report (fr.none none) m.0 m.1;
+      report_is = reports.learns p.take (stream_limit p) (record first_tale { ceased = true }) room.report (fr.none none) m.0 m.1;
       known = let n = learns_known first_tale room.stops again m.0 m.1 first_known m.3 in record { set = n.set; seen = n.seen };
       seated = seated;
       seats = m.3.out ∙ first_seats;

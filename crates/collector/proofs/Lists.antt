@@ -1,5 +1,6 @@
 -- Lists that grow at their ends, and lists by place.
-use Rattle.std.proofs.Common.{◌≡◌, ◌⊎◌, ℕ, zero, suc, ◌+◌, ◌<◌, ◌≤◌, List, [], ◌∷◌, ◌++◌, map, length, drop, Some, refl, sym, ap, subst, ⊎_elim, arith, slice_get}
+use Rattle.std.proofs.Common.{◌≡◌, ◌⊎◌, ℕ, zero, suc, ◌+◌, ◌<◌, ◌≤◌, List, [], ◌∷◌, ◌++◌, map, length, drop, Some, refl, sym, ◌∙◌, ap, subst, ⊎_elim, arith, slice_get}
+use Rattle.std.specs.List.{range_with_len}
 use Rattle.chunk_core.specs.Lists.{IsAmong}
 use Rattle.chunk_core.specs.Lists.IsAmong.{here, there}
 use Rattle.chunk_core.proofs.Members.{among_cons, among_nil}
@@ -71,10 +72,26 @@ pub run_length : (n k : ℕ) → length (run n k) ≡ k
 run_length n zero = refl
 run_length n (suc k) = ap suc (run_length (suc n) k)
 
--- a row that is acquired is one of those
-pub acquired_within : (n k r s : ℕ) → IsAmong (Acquire r s) (acquires 0 n k) → r < n + k
-acquired_within n k r s m =
-    let x = among_map (λ q. Acquire q 0) (Acquire r s) (run n k) m in
-    let same : Acquire x.0 0 ≡ Acquire r s = x.2 in
+-- a row that is acquired in a scope is one of those
+pub acquired_within : (c n k r s : ℕ) → IsAmong (Acquire r s) (acquires c n k) → (n ≤ r) × (r < n + k)
+acquired_within c n k r s m =
+    let x = among_map (λ q. Acquire q c) (Acquire r s) (run n k) m in
+    let same : Acquire x.0 c ≡ Acquire r s = x.2 in
     let is : x.0 ≡ r = cc in
-    subst (λ q. q < n + k) is (run_within n k x.0 x.1).1
+    subst (λ q. (n ≤ q) × (q < n + k)) is (run_within n k x.0 x.1)
+
+-- a run in two parts
+pub run_split : (n k d : ℕ) → run n (k + d) ≡ run n k ++ run (n + k) d
+run_split n zero d =
+    let z : 0 + d ≡ d = omega arith in
+    let y : n + 0 ≡ n = omega arith in
+    ap (λ m. run n m) z ∙ sym (ap (λ m. run m d) y)
+run_split n (suc k) d =
+    let z : suc k + d ≡ suc (k + d) = omega arith in
+    let y : suc n + k ≡ n + suc k = omega arith in
+    ap (λ m. run n m) z ∙ ap (λ l. n ∷ l) (run_split (suc n) k d ∙ ap (λ m. run (suc n) k ++ run m d) y)
+
+-- it is a range
+pub run_range : (n k : ℕ) → run n k ≡ range_with_len n k
+run_range n zero = refl
+run_range n (suc k) = let e : suc n ≡ n + 1 = omega arith in ap (λ l. n ∷ l) (run_range (suc n) k ∙ ap (λ m. range_with_len m k) e)

@@ -2,13 +2,11 @@
 use Rattle.std.proofs.Common.{◌≡◌, ℕ, ◌<◌, List, [], ◌∷◌, ◌++◌, ◌-◌, ◌^◌, false, map, length, Option, Some, None, refl, sym, ◌∙◌, ap, subst, inl, inr, ⊎_elim, arith}
 use Rattle.std.proofs.lemmas.List.{map-append}
 use Rattle.chunk_core.specs.Elements.{elements, rendering_of}
-use Rattle.chunk_core.specs.Tables.{Values}
 use Rattle.chunk_core.specs.declared.load.Load.{Load}
 use Rattle.chunk_core.proofs.Each.{each_right}
 use Rattle.channel_bounded.specs.Ends.{HubSeen, ReceiverSeen}
 use Rattle.channel_bounded.specs.declared.message.Msg.{Msg}
 use Rattle.device_port.specs.Depot.{DepotTold}
-use Rattle.device_port.specs.Device.{DeviceTold}
 use Rattle.device_port.specs.Sink.{SinkTold}
 use Rattle.interrupt_ctx.specs.Ends.{BoardSeen}
 use Rattle.interrupt_ctx.specs.declared.why.Why.{Why}
@@ -24,13 +22,10 @@ use Rattle.join_tale.specs.Steps.{learned}
 use Rattle.join_tale.specs.Tales as tales
 use Rattle.join_tale.specs.Tales.{HasCome, IsBegun, IsOpen, Tale}
 use Rattle.join_tree.specs.Progress.{Progress}
-use Rattle.pipeline_desc.specs.Meant.{PlanMeant}
-use Rattle.pull_turns.specs.Piping.{StateMeaning}
-use Rattle.row_seat.specs.declared.view.View.{View}
+use Rattle.pipeline_desc.specs.Meant.{PlanMeant, stream_limit}
 use Rattle.run_rules.specs.Facts.{at}
 use Rattle.scope_tree.specs.Calls.{Seen}
 use Rattle.scope_tree.specs.Trees.{seen}
-use Rattle.scope_tree.specs.declared.leases.Lease.{Lease}
 use Rattle.stream_jobs.specs.declared.job.Job.{Job}
 use Rattle.stream_jobs.specs.Messages.{IsFullMessage, load_message}
 use Rattle.stream_jobs.specs.Running.{Origin}
@@ -38,16 +33,16 @@ use Rattle.frames.proofs.Rendered.{rendering_some}
 use Rattle.collector.specs.declared.collector.Collector.{Collector}
 use Rattle.dealt_streams.specs.declared.leftover.Leftover.{Leftover}
 use Rattle.dealt_streams.specs.Kept.{AreKept, Gone, IsKept, told_message}
-use Rattle.dealt_streams.specs.Works.{bare_work}
-use Rattle.outer_stream.proofs.Standing.{stands_on}
-use Rattle.outer_stream.proofs.Steps.{rows_same}
-use Rattle.collector.proofs.Steps.{parts_read}
-use Rattle.collector.specs.Collecting.{IsCollectingWith, KeepsStreams}
+use Rattle.dealt_streams.specs.Works.{plan_bounds}
+use Rattle.collector.specs.Collecting.{IsCollecting, Moment}
+use Rattle.collector.specs.Members.{Members}
+use Rattle.collector.specs.Streams.{KeepsStreams}
 use Rattle.dealt_streams.specs.Kept.Gone.{Came, Missed}
-use Rattle.dealt_streams.specs.Parts.{Part, fate_of}
+use Rattle.dealt_streams.specs.Parts.{Part}
 use Rattle.collector.specs.Receiving.{HasGot}
 use Rattle.collector.proofs.Loads.{LoadGoes, SameEnds, goes_on, goes_on_stopped, wrote_none}
 use Rattle.res_ledger.proofs.Mapped.{among_map}
+use Rattle.collector.proofs.Steps.{retold}
 use Rattle.collector.proofs.Turning.{job_at}
 use Rattle.collector.proofs.Opening.{is_open}
 use Rattle.collector.proofs.OneStream.{of_rest}
@@ -55,13 +50,6 @@ use Rattle.collector.proofs.OneStream.{of_rest}
 -- a receiver that got m too
 abbrev pub grown : ReceiverSeen → Msg → ReceiverSeen
 grown had m = record had { got = had.got ++ m ∷ [] }
-
-none_begun : (fs : List tales.Fate) (k : ℕ) → fs ≡ [] → at fs k ≡ Some tales.Fate.Begun → ⊥
-none_begun fs k e b = let f : at [] k ≡ Some tales.Fate.Begun = subst (λ xs. at xs k ≡ Some tales.Fate.Begun) e b in cc
-
--- what was said of no stream isn't asked for once one is open
-pub some_part : {V F : Type 0} (parts : List (Part V F)) (t : Tale) (k : ℕ) → t.fates ≡ map fate_of parts → IsOpen t k → parts ≡ [] → ⊥
-some_part parts t k fates o e = none_begun t.fates k (fates ∙ ap (λ ps. map fate_of ps) e) o.0
 
 pub got_map : (had : List Msg) (m : Msg) (ms : List tales.Message) → map told_message had ≡ ms → map told_message (had ++ m ∷ []) ≡ ms ++ told_message m ∷ []
 got_map had m ms e = map-append told_message had (m ∷ []) ∙ ap (λ xs. xs ++ told_message m ∷ []) e
@@ -73,9 +61,9 @@ same_set (last a b c) = (refl, refl)
 same_set (sink a b) = (refl, refl)
 same_set (memory a b c) = (refl, refl)
 
-module _ {S V F D T : Type 0} (view : S → View V) (told : V → DeviceTold) (fits : S → D → Type 0) (values : T → Values) (P : Values → StateMeaning F) where
+module _ {S V F D T : Type 0} (M : Members S V F D T) where
   module _ (parts : List (Part V F)) (progress : Progress V) (had : ReceiverSeen) (m : Msg) (t v : Tale) (same : SameEnds t v) (o : IsOpen t m.stream) where
-    back_stays : (x : Leftover V) (g : Gone S V F) → IsKept view told P parts progress had t x g → IsKept view told P parts progress (grown had m) v x g
+    back_stays : (x : Leftover V) (g : Gone S V F) → IsKept M.view M.told M.stands parts progress had t x g → IsKept M.view M.told M.stands parts progress (grown had m) v x g
     back_stays x (Came n ds w e) h = record {
       begun = h.begun;
       ends = h.ends;
@@ -90,7 +78,7 @@ module _ {S V F D T : Type 0} (view : S → View V) (told : V → DeviceTold) (f
     }
     back_stays x (Missed k ds) h = h
 
-    kept_stays : (xs : List (Leftover V)) (gs : List (Gone S V F)) → AreKept view told P parts progress had t xs gs → AreKept view told P parts progress (grown had m) v xs gs
+    kept_stays : (xs : List (Leftover V)) (gs : List (Gone S V F)) → AreKept M.view M.told M.stands parts progress had t xs gs → AreKept M.view M.told M.stands parts progress (grown had m) v xs gs
     kept_stays [] [] h = tt
     kept_stays [] (g ∷ gs) h = absurd h
     kept_stays (x ∷ xs) [] h = absurd h
@@ -109,7 +97,7 @@ module _ {S V F D T : Type 0} (view : S → View V) (told : V → DeviceTold) (f
     come_back k h = (h.0, same.back k h.0 h.1)
 
     pub streams_on : (hub : HubSeen) (board : BoardSeen) (d : D) (b : Seen V) (js : List (Job S V F V D T)) (left : List (Leftover V)) → (v.front ++ v.late ≡ (t.front ++ t.late) ++ told_message m ∷ [])
-        → KeepsStreams view told fits values P hub board d b js left had parts progress t → KeepsStreams view told fits values P hub board d b js left (grown had m) parts progress v
+        → KeepsStreams M hub board d b js left had parts progress t → KeepsStreams M hub board d b js left (grown had m) parts progress v
     streams_on hub board d b js left got s = record {
       origins = s.origins;
       jobs_are = s.jobs_are;
@@ -128,28 +116,23 @@ module _ {S V F D T : Type 0} (view : S → View V) (told : V → DeviceTold) (f
       closed = λ k sent a. come_on k (s.closed k sent a);
     }
 
-  module _ (p : PlanMeant) (d0 : DepotTold) (s0 : SinkTold) (t : Values) (waits : ℕ) (ws : List Lease) (js : List (Job S V F V D T)) (had : ReceiverSeen) (depot : DepotTold) (sink now : SinkTold) (d : D) (c : Collector S V F D T) (i : IsCollectingWith view told fits values P p d0 s0 t waits ws js had depot sink d c) (k : ℕ) (l : Load) (r : ReceiverSeen) (h : HasGot had (load_message k l) r) where
-    abbrev m : Msg
-    m = load_message k l
+module _ {S V F D T : Type 0} {M : Members S V F D T} {p : PlanMeant} {d0 : DepotTold} {s0 : SinkTold} {o : Moment S V F D T} (i : IsCollecting M p d0 s0 o) (k : ℕ) (l : Load) (r : ReceiverSeen) (h : HasGot o.receiver (load_message k l) r) where
+  abbrev m : Msg
+  m = load_message k l
 
-    pub open_load : IsOpen i.tale k
-    open_load = is_open view told fits values P c.hub c.stops.board d (seen view c.tree) js c.left.items had i.parts i.progress i.tale i.streams i.telling.fates_are m r h
+  abbrev c : Collector S V F D T
+  c = o.collector
 
-    -- the collector behind it
-    with_load : (v : Tale) (report : Report) (stops : Stops) → LoadGoes (bare_work p) i.tale v k (rendering_of (elements l)) s0 now → IsReport p.take (length p.streams) v report → TellsKnown v stops → IsSeated stops → stops.board ≡ c.stops.board → (view_of stops).out ≡ (view_of c.stops).out
-        → IsCollectingWith view told fits values P p d0 s0 t waits ws js r depot now d (record c { report = report; stops = stops })
-    with_load v report stops g is known seated board out = subst (λ x. IsCollectingWith view told fits values P p d0 s0 t waits ws js x depot now d (record c { report = report; stops = stops })) (sym h.is) (record {
-      fits_desk = i.fits_desk;
-      parts = i.parts;
-      progress = i.progress;
-      tale = v;
-      mid = i.mid;
-      tree = i.tree;
-      next = i.next;
-      stands = stands_on told p d0 i.mid t c.outer_stream c.outer i.tale.memory (seen view c.tree) i.progress i.stands (parts_read view told fits values P p d0 s0 t waits ws js had depot sink d c i (λ none. some_part i.parts i.tale k i.telling.fates_are open_load none)) (seen view c.tree) i.progress v.memory (rows_same (seen view c.tree)) refl;
-      dealt = i.dealt;
-      streams = subst (λ b. KeepsStreams view told fits values P c.hub b d (seen view c.tree) js c.left.items (grown had m) i.parts i.progress v) (sym board) (streams_on i.parts i.progress had m i.tale v g.same open_load c.hub c.stops.board d (seen view c.tree) js c.left.items g.got i.streams);
-      telling = record {
+  pub open_load : IsOpen i.tale k
+  open_load = is_open M c.hub c.stops.board o.desk (seen M.view c.tree) o.jobs c.left.items o.receiver i.parts i.progress i.tale i.streams i.telling.fates_are m r h
+
+  -- the collector behind it
+  with_load : (v : Tale) (report : Report) (stops : Stops) (now : SinkTold) → LoadGoes (plan_bounds p) i.tale v k (rendering_of (elements l)) s0 now → IsReport p.take (stream_limit p) v report → TellsKnown v stops → IsSeated stops → stops.board ≡ c.stops.board → (view_of stops).out ≡ (view_of c.stops).out
+      → IsCollecting M p d0 s0 (record o { receiver = r; sink = now; collector = record c { report = report; stops = stops } })
+  with_load v report stops now g is known seated board out = subst (λ x. IsCollecting M p d0 s0 (record o { receiver = x; sink = now; collector = record c { report = report; stops = stops } })) (sym h.is)
+      (retold i o.jobs (grown o.receiver m) now o.desk c.jobs report stops v g.same.memory i.fits_desk
+      (subst (λ b. KeepsStreams M c.hub b o.desk (seen M.view c.tree) o.jobs c.left.items (grown o.receiver m) i.parts i.progress v) (sym board) (streams_on M i.parts i.progress o.receiver m i.tale v g.same open_load c.hub c.stops.board o.desk (seen M.view c.tree) o.jobs c.left.items g.got i.streams))
+      (record {
         is_tale = g.is_tale;
         fates_are = g.same.fates ∙ i.telling.fates_are;
         outer_is = g.same.outer ∙ i.telling.outer_is;
@@ -159,52 +142,50 @@ module _ {S V F D T : Type 0} (view : S → View V) (told : V → DeviceTold) (f
         seats = out ∙ i.telling.seats;
         contexts = ap (λ (b : BoardSeen). b.contexts) board ∙ i.telling.contexts;
         wrote = g.wrote;
-      };
-      room = record { waiting = i.room.waiting; jobs_room = i.room.jobs_room; queue = i.room.queue; few = i.room.few; left = i.room.left };
-    })
+      }) refl refl)
 
-    pub full_elements : 0 < length (elements l)
-    full_elements = (each_right IsFullMessage had.got (m ∷ h.rest) h.sees.1).0
+  pub full_elements : 0 < length (elements l)
+  full_elements = (each_right IsFullMessage o.receiver.got (m ∷ h.rest) h.sees.1).0
 
-    full : 0 < length (rendering_of (elements l))
-    full = rendering_some (elements l) full_elements
+  full : 0 < length (rendering_of (elements l))
+  full = rendering_some (elements l) full_elements
 
-    -- its number is that of a stream of the plan
-    pub number_below : k < length p.streams
-    number_below =
-        let a = among_map (λ (w : Origin V F). w.stream) k i.streams.origins ((i.streams.opens k).1 open_load) in
-        let j = job_at view told fits values P c.hub c.stops.board d i.parts js i.streams.origins a.0 i.streams.jobs_are a.1 in
-        let number = j.2.job.sender in
-        let is = a.2 in
-        let context = j.2.place.context in
-        let contexts = i.telling.contexts in
-        omega (arith, number, is, context, contexts)
+  -- its number is that of a stream that there may be
+  pub number_below : k < stream_limit p
+  number_below =
+      let a = among_map (λ (w : Origin V F). w.stream) k i.streams.origins ((i.streams.opens k).1 open_load) in
+      let j = job_at M c.hub c.stops.board o.desk i.parts o.jobs i.streams.origins a.0 i.streams.jobs_are a.1 in
+      let number = j.2.job.sender in
+      let is = a.2 in
+      let context = j.2.place.context in
+      let contexts = i.telling.contexts in
+      omega (arith, number, is, context, contexts)
 
-    pub has_stream : HasStream c.report k
-    has_stream = let n = i.telling.report_is.unwritten in let b = number_below in omega (arith, n, b)
+  pub has_stream : HasStream c.report k
+  has_stream = let n = i.telling.report_is.unwritten in let b = number_below in omega (arith, n, b)
 
-    pub some_context : 0 < c.stops.board.contexts
-    some_context = let e = i.telling.contexts in omega (arith, e)
+  pub some_context : 0 < c.stops.board.contexts
+  some_context = let e = i.telling.contexts in omega (arith, e)
 
-    -- while frames are written no write failed
-    pub room_while : s0.faults < 2 ^ 64 - 1 → c.report.ceased ≡ false → sink.faults < 2 ^ 64 - 1
-    room_while few ceased =
-        let quiet = i.telling.is_tale.frames.quiet (sym i.telling.report_is.ceased ∙ ceased) in
-        subst (λ n. n < 2 ^ 64 - 1) (sym (ap (λ (s : SinkTold). s.faults) (wrote_none s0 sink i.tale quiet.1 i.telling.wrote))) few
+  -- while frames are written no write failed
+  pub room_while : c.report.ceased ≡ false → o.sink.faults < 2 ^ 64 - 1
+  room_while ceased =
+      let quiet = i.telling.is_tale.frames.quiet (sym i.telling.report_is.ceased ∙ ceased) in
+      subst (λ n. n < 2 ^ 64 - 1) (sym (ap (λ (s : SinkTold). s.faults) (wrote_none s0 o.sink i.tale quiet.1 i.telling.wrote))) i.few_faults
 
-    module _ (report : Report) (answer : Option Why) (writes : WritesLoad k l c.report report sink now answer) where
-      abbrev goes : (u : Tale) × Writes p.take i.tale k l sink now answer u × IsReport p.take (length p.streams) u report
-      goes = writes p.take (length p.streams) i.tale i.telling.report_is open_load
+  module _ (now : SinkTold) (report : Report) (answer : Option Why) (writes : WritesLoad k l c.report report o.sink now answer) where
+    abbrev goes : (u : Tale) × Writes p.take i.tale k l o.sink now answer u × IsReport p.take (stream_limit p) u report
+    goes = writes p.take (stream_limit p) i.tale i.telling.report_is open_load
 
-      pub load_taken : answer ≡ None → IsCollectingWith view told fits values P p d0 s0 t waits ws js r depot now d (record c { report = report })
-      load_taken e =
-          let w = subst (λ a. Writes p.take i.tale k l sink now a goes.0) e goes.1 in
-          let same = same_set goes.1 in
-          with_load goes.0 report c.stops (goes_on (bare_work p) i.tale k l s0 sink now i.telling.is_tale open_load full i.telling.wrote goes.0 w) goes.2 (record { set = same.0 ∙ i.telling.known.set; seen = same.1 ∙ i.telling.known.seen }) i.telling.seated refl refl
+    pub load_taken : answer ≡ None → IsCollecting M p d0 s0 (record o { receiver = r; sink = now; collector = record c { report = report } })
+    load_taken e =
+        let w = subst (λ a. Writes p.take i.tale k l o.sink now a goes.0) e goes.1 in
+        let same = same_set goes.1 in
+        with_load goes.0 report c.stops now (goes_on (plan_bounds p) i.tale k l s0 o.sink now i.telling.is_tale open_load full i.telling.wrote goes.0 w) goes.2 (record { set = same.0 ∙ i.telling.known.set; seen = same.1 ∙ i.telling.known.seen }) i.telling.seated refl refl
 
-      pub load_stopped : (w : Why) (stops : Stops) → answer ≡ Some w → Interrupts c.stops stops 0 w → IsSeated stops → IsCollectingWith view told fits values P p d0 s0 t waits ws js r depot now d (record c { report = report; stops = stops })
-      load_stopped w stops e (vs, cs, marks, learned_so) seated =
-          let wr = subst (λ a. Writes p.take i.tale k l sink now a goes.0) e goes.1 in
-          let same = same_set goes.1 in
-          let known : TellsKnown goes.0 c.stops = record { set = same.0 ∙ i.telling.known.set; seen = same.1 ∙ i.telling.known.seen } in
-          with_load (learned goes.0 vs cs) report stops (goes_on_stopped (bare_work p) i.tale k l s0 sink now i.telling.is_tale open_load full i.telling.wrote goes.0 w vs cs wr marks) (learns p.take (length p.streams) goes.0 report goes.2 vs cs) (learns_known goes.0 c.stops stops vs cs known learned_so) seated learned_so.board learned_so.out
+    pub load_stopped : (w : Why) (stops : Stops) → answer ≡ Some w → Interrupts c.stops stops 0 w → IsSeated stops → IsCollecting M p d0 s0 (record o { receiver = r; sink = now; collector = record c { report = report; stops = stops } })
+    load_stopped w stops e (vs, cs, marks, learned_so) seated =
+        let wr = subst (λ a. Writes p.take i.tale k l o.sink now a goes.0) e goes.1 in
+        let same = same_set goes.1 in
+        let known : TellsKnown goes.0 c.stops = record { set = same.0 ∙ i.telling.known.set; seen = same.1 ∙ i.telling.known.seen } in
+        with_load (learned goes.0 vs cs) report stops now (goes_on_stopped (plan_bounds p) i.tale k l s0 o.sink now i.telling.is_tale open_load full i.telling.wrote goes.0 w vs cs wr marks) (learns p.take (stream_limit p) goes.0 report goes.2 vs cs) (learns_known goes.0 c.stops stops vs cs known learned_so) seated learned_so.board learned_so.out

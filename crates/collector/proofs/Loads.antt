@@ -12,12 +12,12 @@ use Rattle.interrupt_ctx.specs.declared.view.Interruption.{Interruption}
 use Rattle.interrupt_ctx.specs.declared.why.Why.{Why}
 use Rattle.join_report.specs.Calls.{Writes}
 use Rattle.join_report.specs.Calls.Writes.{late, some, last, sink, memory}
+use Rattle.join_tale.specs.Bounds.{Bounds}
 use Rattle.join_tale.specs.Keeping.{IsTale}
 use Rattle.join_tale.specs.Steps.{Marks, learned}
 use Rattle.join_tale.specs.Tales.{Came, IsOpen, Tale, end_of, frames_of, load_of}
 use Rattle.join_tale.proofs.Parts.{end_before_load, frames_load}
 use Rattle.join_tale.proofs.Receiving as receiving
-use Rattle.run_rules.specs.Work.{Work, most_of}
 use Rattle.collector.specs.Collecting.{WritesTale}
 
 -- the same ends came, and the streams are as they were
@@ -106,8 +106,8 @@ module _ (s0 : SinkTold) where
       }
 
 -- the load x of stream k came behind the tale t, which goes on so
-pub record LoadGoes (work : Work) (t v : Tale) (k : ℕ) (x : List ℕ) (s0 new : SinkTold) : Type 0 where
-  pub is_tale : IsTale work v
+pub record LoadGoes (bounds : Bounds) (t v : Tale) (k : ℕ) (x : List ℕ) (s0 new : SinkTold) : Type 0 where
+  pub is_tale : IsTale bounds v
   pub same : SameEnds t v
   pub got : v.front ++ v.late ≡ (t.front ++ t.late) ++ load_of k x ∷ []
   pub wrote : WritesTale s0 new v
@@ -119,14 +119,14 @@ got_front t v k x none f l = ap (λ ms. v.front ++ ms) (l ∙ none) ∙ (append-
 got_late : (t v : Tale) (k : ℕ) (x : List ℕ) → v.front ≡ t.front → v.late ≡ t.late ++ load_of k x ∷ [] → v.front ++ v.late ≡ (t.front ++ t.late) ++ load_of k x ∷ []
 got_late t v k x f l = ap (λ ms. ms ++ v.late) f ∙ (ap (λ ms. t.front ++ ms) l ∙ sym (append_assoc t.front t.late (load_of k x ∷ [])))
 
-module _ (work : Work) (t : Tale) (k : ℕ) (load : Load) (s0 old new : SinkTold) (i : IsTale work t) (o : IsOpen t k) (full : 0 < length (rendering_of (elements load))) (w : WritesTale s0 old t) where
+module _ (bounds : Bounds) (t : Tale) (k : ℕ) (load : Load) (s0 old new : SinkTold) (i : IsTale bounds t) (o : IsOpen t k) (full : 0 < length (rendering_of (elements load))) (w : WritesTale s0 old t) where
   abbrev x : List ℕ
   x = rendering_of (elements load)
 
   -- nothing was to be interrupted
-  pub goes_on : (u : Tale) → Writes (most_of work) t k load old new None u → LoadGoes work t u k x s0 new
+  pub goes_on : (u : Tale) → Writes bounds.most t k load old new None u → LoadGoes bounds t u k x s0 new
   goes_on u (late ceased same) = record {
-    is_tale = receiving.drops work t k x i o full ceased;
+    is_tale = receiving.drops bounds t k x i o full ceased;
     same = record { fates = refl; outer = refl; memory = λ m. m; came = came_late t u k x refl refl; back = back_late t u k x refl refl };
     got = got_late t u k x refl refl;
     wrote = subst (λ s. WritesTale s0 s u) (sym same) (wrote_same s0 old t u refl refl w);
@@ -134,19 +134,19 @@ module _ (work : Work) (t : Tale) (k : ℕ) (load : Load) (s0 old new : SinkTold
   goes_on u (some ceased most is) =
       let quiet = i.frames.quiet ceased in
       record {
-        is_tale = receiving.writes work t k x i o full ceased most;
+        is_tale = receiving.writes bounds t k x i o full ceased most;
         same = record { fates = refl; outer = refl; memory = λ m. m; came = came_front t u k x refl refl; back = back_front t u k x refl refl };
         got = got_front t u k x quiet.0 refl refl;
         wrote = wrote_more s0 old new t u k x quiet.1 quiet.1 refl is w;
       }
 
   -- the whole run was interrupted for the cause that was told
-  pub goes_on_stopped : (u : Tale) (cause : Why) (vs cs : List Interruption) → Writes (most_of work) t k load old new (Some cause) u → Marks 0 cause vs cs → LoadGoes work t (learned u vs cs) k x s0 new
+  pub goes_on_stopped : (u : Tale) (cause : Why) (vs cs : List Interruption) → Writes bounds.most t k load old new (Some cause) u → Marks 0 cause vs cs → LoadGoes bounds t (learned u vs cs) k x s0 new
   goes_on_stopped u cause vs cs (last ceased most is) marks =
       let quiet = i.frames.quiet ceased in
       let v : Tale = learned u vs cs in
       record {
-        is_tale = receiving.meets work t k x i o full vs cs marks ceased most;
+        is_tale = receiving.meets bounds t k x i o full vs cs marks ceased most;
         same = record { fates = refl; outer = refl; memory = λ m. m; came = came_front t v k x refl refl; back = back_front t v k x refl refl };
         got = got_front t v k x quiet.0 refl refl;
         wrote = wrote_more s0 old new t v k x quiet.1 quiet.1 refl is w;
@@ -156,7 +156,7 @@ module _ (work : Work) (t : Tale) (k : ℕ) (load : Load) (s0 old new : SinkTold
       let v : Tale = learned u vs cs in
       let behind : v.late ≡ t.late ++ load_of k x ∷ [] = ap (λ ms. ms ++ load_of k x ∷ []) (sym quiet.0) in
       record {
-        is_tale = receiving.fails work t k x i o full vs cs marks ceased;
+        is_tale = receiving.fails bounds t k x i o full vs cs marks ceased;
         same = record { fates = refl; outer = refl; memory = λ m. m; came = came_late t v k x refl behind; back = back_late t v k x refl behind };
         got = got_late t v k x refl behind;
         wrote = wrote_cut s0 old new t v k x quiet.1 refl refl breaks w;
@@ -166,7 +166,7 @@ module _ (work : Work) (t : Tale) (k : ℕ) (load : Load) (s0 old new : SinkTold
       let v : Tale = learned u vs cs in
       let behind : v.late ≡ t.late ++ load_of k x ∷ [] = ap (λ ms. ms ++ load_of k x ∷ []) (sym quiet.0) in
       record {
-        is_tale = receiving.lacks work t k x i o full vs cs marks ceased;
+        is_tale = receiving.lacks bounds t k x i o full vs cs marks ceased;
         same = record { fates = refl; outer = refl; memory = λ m. refl; came = came_late t v k x refl behind; back = back_late t v k x refl behind };
         got = got_late t v k x refl behind;
         wrote = subst (λ s. WritesTale s0 s v) (sym same) (wrote_same s0 old t v refl refl w);

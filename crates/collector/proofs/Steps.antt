@@ -1,13 +1,13 @@
 -- What each small call of a collector keeps.
-use Rattle.std.proofs.Common.{◌≡◌, ◌≢◌, ◌⊎◌, ℕ, suc, ◌+◌, ◌<◌, ◌≤◌, true, ◌||◌, List, [], ◌∷◌, ◌++◌, map, length, Option, Some, None, inl, inr, refl, sym, ◌∙◌, ap, subst, ⊎_elim, arith, eqb-true, slice_get, vec_capacity}
+use Rattle.std.proofs.Common.{◌≡◌, ◌≢◌, ◌⊎◌, ℕ, suc, ◌+◌, ◌-◌, ◌<◌, ◌≤◌, Bool, true, false, ◌||◌, List, [], ◌∷◌, ◌++◌, append-nil, map, length, Some, None, inl, inr, refl, sym, ◌∙◌, ap, subst, ⊎_elim, arith, eqb-true, vec_capacity}
+use Rattle.std.specs.Global.{Global}
 use Rattle.std.specs.VecDeque.{deque_capacity}
+use Rattle.std.specs.declared.collections.vec_deque.VecDeque.{VecDeque}
+use Rattle.std.specs.declared.vec.Vec.{Vec}
 use Rattle.chunk_core.specs.Lists.{IsAmong}
 use Rattle.chunk_core.specs.Outcomes.{exit_of}
-use Rattle.chunk_core.specs.Tables.{Values}
-use Rattle.chunk_core.specs.declared.code.How.{How}
 use Rattle.chunk_core.specs.declared.code.How.TheVariants as how
 use Rattle.channel_bounded.specs.Ends.{ReceiverSeen}
-use Rattle.device_port.specs.Device.{DeviceTold}
 use Rattle.device_port.specs.Depot.{DepotTold}
 use Rattle.device_port.specs.Sink.{SinkTold}
 use Rattle.interrupt_ctx.specs.Views.{interruption}
@@ -22,45 +22,50 @@ use Rattle.join_tale.specs.Keeping.{IsOuterStopped, IsOwnCode}
 use Rattle.join_tale.specs.Steps.{Marks, TellsOuter, fated, learned, outer_ended, unmade}
 use Rattle.join_tale.specs.Tales as tales
 use Rattle.join_tale.specs.Tales.{IsFoundSet, IsSet, Tale}
-use Rattle.join_tree.specs.Progress.{Progress, closing_root, skipping}
-use Rattle.join_tree.specs.Steps.{KeepsGuests, KeepsRows}
+use Rattle.join_tree.specs.Given.{GivesMore, given}
+use Rattle.join_tree.specs.Progress.{closing_root, skipping}
+use Rattle.join_tree.specs.Steps.{KeepsRows}
 use Rattle.join_tree.proofs.Outs.{guests_stay}
-use Rattle.outer_tables.specs.declared.not_read.NotRead.{NotRead}
-use Rattle.pipeline_desc.specs.Meant.{PlanMeant}
+use Rattle.pipeline_desc.specs.Meant.{PlanMeant, stream_limit}
 use Rattle.pipeline_desc.specs.declared.stream.StreamSpec.{StreamSpec}
 use Rattle.pull_stepper.specs.Held.{FinishesDevice}
-use Rattle.pull_turns.specs.Piping.{StateMeaning}
 use Rattle.res_ledger.specs.declared.event.StreamNo.{StreamNo}
 use Rattle.res_ledger.specs.declared.event.StreamNo.TheVariants.{Outer}
 use Rattle.row_seat.specs.declared.view.View.{View}
 use Rattle.row_seat.specs.Views.{OthersFit, split_main}
-use Rattle.run_rules.specs.Facts.{is_memory}
 use Rattle.scope_tree.specs.Calls.{Seen}
 use Rattle.scope_tree.specs.Trees.{Fits, seen}
-use Rattle.scope_tree.specs.declared.leases.Lease.{Lease}
+use Rattle.scope_tree.specs.Visible.{lessee, rows_covered}
 use Rattle.scope_tree.specs.declared.tree.Tree.{Tree}
 use Rattle.stream_jobs.specs.declared.job.Job.{Job}
-use Rattle.collector.specs.declared.collector.Collector.{Collector}
+use Rattle.stream_parts.specs.Named.{IsNamed, named_stream}
+use Rattle.outer_source.specs.Standing.{IsAmidAll}
+use Rattle.outer_stream.specs.Steps.{KeepsOthers}
+use Rattle.outer_stream.proofs.Keeping.{others_kept, others_same, rows_same}
 use Rattle.dealt_streams.specs.declared.leftover.Leftover.{Leftover}
-use Rattle.dealt_streams.specs.Works.{bare_work}
-use Rattle.outer_stream.specs.Tables.{EndsRead, StandsOuter}
-use Rattle.outer_stream.specs.Pulls.{KeepsOthers}
-use Rattle.outer_stream.proofs.Steps.{others_kept, others_same, rows_same}
-use Rattle.outer_stream.proofs.Standing.{given_read, stands_on, stands_over}
-use Rattle.collector.specs.Collecting.{IsCollectingWith, KeepsStreams, KeepsTale, KeepsTree, guest_of, waiting_of}
-use Rattle.dealt_streams.specs.Parts.{AreDealt, Deals, MakesUnmade, Part, fate_of}
+use Rattle.dealt_streams.specs.Moves.{AreMoved, contents_of, dealt_of, lines_of, opened_of}
+use Rattle.dealt_streams.specs.Moves.Move.{Dealt}
+use Rattle.dealt_streams.specs.Parts.{Deals, MakesUnmade, Part, fate_of, line_at, spec_of}
 use Rattle.dealt_streams.specs.Parts.Part.{Skipped, Unmade}
+use Rattle.dealt_streams.specs.Standing.{StandsOuter, plan_parts}
+use Rattle.dealt_streams.specs.Works.{plan_bounds}
+use Rattle.collector.specs.declared.collector.Collector.{Collector}
+use Rattle.collector.specs.declared.waiting.Waiting.{Waiting}
+use Rattle.collector.specs.Collecting.{IsCollecting, KeepsTale, Moment}
+use Rattle.collector.specs.Members.{Members}
 use Rattle.collector.specs.Starting.{ClosesOuter, MaySkip, PassesOver}
+use Rattle.collector.specs.Streams.{KeepsStreams, guest_of}
+use Rattle.collector.specs.Trees.{HaveLines, KeepsTree, waiting_of}
 use Rattle.collector.proofs.Lists.{map_length, map_snoc, snoc_length}
+use Rattle.collector.proofs.Moving.{dealt_snoc, lines_dealt, moved_snoc, opened_dealt}
+use Rattle.collector.proofs.Naming.{line_there}
+use Rattle.collector.proofs.Standing.{stands_dealt, stands_halted, stands_on}
 use Rattle.collector.proofs.Streams.{jobs_number, streams_missed, streams_skipped, streams_stay}
 use Rattle.collector.proofs.Telling.{found_so, tale_closes, tale_learns, tale_misses, tale_skips}
-use Rattle.collector.proofs.Tree.{idle, some_given, closed, next_below, passed, tree_widened}
+use Rattle.collector.proofs.Tree.{amid_kept, closed, next_below, next_is, next_leased, passed, tree_widened}
 
-module _ {V F : Type 0} (told : V → DeviceTold) (p : PlanMeant) (t : Values) where
-  -- one stream more was dealt with
-  pub dealt_snoc : (k : ℕ) (old mid new : DepotTold) (xs : List (Part V F)) (x : Part V F) → AreDealt told p t k old xs mid → Deals told p t (k + length xs) mid new x → AreDealt told p t k old (xs ++ x ∷ []) new
-  dealt_snoc k old mid new [] x h d = let z : k + 0 ≡ k = omega arith in (new, subst (λ m. Deals told p t k m new x) h (subst (λ i. Deals told p t i mid new x) z d), refl)
-  dealt_snoc k old mid new (y ∷ xs) x h d = let z : k + suc (length xs) ≡ suc k + length xs = omega arith in (h.0, h.1, dealt_snoc (suc k) h.0 mid new xs x h.2 (subst (λ i. Deals told p t i mid new x) z d))
+pub gives_none : {V : Type 0} (b : Seen V) → GivesMore [] b b
+gives_none b = sym (append-nil (given b.seat))
 
 pub split_keeps : {V : Type 0} (b c : Seen V) (j from to n : ℕ) → c ≡ record b { seat = split_main b.seat j from to n } → KeepsRows b.seat c.seat
 split_keeps b c j from to n e = subst (λ (x : Seen _). KeepsRows b.seat x.seat) (sym e) (record { noted = λ y m. m; left = λ y m. m; opened = λ y m. inl m; given = λ y m. m })
@@ -76,211 +81,308 @@ fits_other view fits t d e k o ne f = record { seat = o t.seat ne f.seat; sound 
 pub seated_out : (s : Stops) → IsSeated s → IsSeated (with_seat_out s)
 seated_out s i = record { fits = i.fits; first = i.first; settled = λ z. absurd (omega (arith, z)) }
 
-module _ {S V F D T : Type 0} (view : S → View V) (told : V → DeviceTold) (fits : S → D → Type 0) (values : T → Values) (P : Values → StateMeaning F) (p : PlanMeant) (d0 : DepotTold) (s0 : SinkTold) (t : Values) where
-  abbrev pub With : ℕ → List Lease → List (Job S V F V D T) → ReceiverSeen → DepotTold → SinkTold → D → Collector S V F D T → Type 0
-  With = IsCollectingWith view told fits values P p d0 s0 t
+module _ {S V F D T : Type 0} {M : Members S V F D T} {p : PlanMeant} {d0 : DepotTold} {s0 : SinkTold} {m : Moment S V F D T} (k : IsCollecting M p d0 s0 m) where
+  abbrev c : Collector S V F D T
+  c = m.collector
+
+  abbrev b : Seen V
+  b = seen M.view c.tree
 
   -- so many streams may wait
-  pub widened : (waits again : ℕ) (ws : List Lease) (js : List (Job S V F V D T)) (r : ReceiverSeen) (depot : DepotTold) (sink : SinkTold) (d : D) (c : Collector S V F D T) → With waits ws js r depot sink d c → length ws ≤ again → (c.outer ≡ None → 0 < again → 1 ≤ length ws) → With again ws js r depot sink d c
-  widened waits again ws js r depot sink d c k few some = record {
+  pub widened : (again : ℕ) → length m.waiting ≤ again → (c.outer ≡ None → 0 < again → 1 ≤ length m.waiting) → IsCollecting M p d0 s0 (record m { waits = again })
+  widened again few some = record {
+    sound = k.sound;
+    few_faults = k.few_faults;
     fits_desk = k.fits_desk;
+    its_parts = k.its_parts;
+    moves = k.moves;
     parts = k.parts;
+    parts_are = k.parts_are;
     progress = k.progress;
     tale = k.tale;
-    mid = k.mid;
-    tree = tree_widened told p waits (seen view c.tree) c.outer c.outer_stream ws k.parts k.progress k.tree again few some;
+    moved = k.moved;
+    tree = tree_widened M.told p k.tree again few some;
+    lines = k.lines;
     next = k.next;
+    amid = k.amid;
+    begun = k.begun;
+    begun_is = k.begun_is;
     stands = k.stands;
-    dealt = k.dealt;
     streams = k.streams;
     telling = k.telling;
     room = k.room;
   }
 
-  -- the queue of leases is another with as much room
-  pub requeued : (waits : ℕ) (ws : List Lease) (js : List (Job S V F V D T)) (r : ReceiverSeen) (depot : DepotTold) (sink : SinkTold) (d : D) (c z : Collector S V F D T) → With waits ws js r depot sink d c → deque_capacity z.waiting ≡ deque_capacity c.waiting → With waits ws js r depot sink d (record c { waiting = z.waiting })
-  requeued waits ws js r depot sink d c z h capacity = record {
-    fits_desk = h.fits_desk;
-    parts = h.parts;
-    progress = h.progress;
-    tale = h.tale;
-    mid = h.mid;
-    tree = h.tree;
-    next = h.next;
-    stands = h.stands;
-    dealt = h.dealt;
-    streams = h.streams;
-    telling = h.telling;
-    room = record { waiting = capacity ∙ h.room.waiting; jobs_room = h.room.jobs_room; queue = h.room.queue; few = h.room.few; left = h.room.left };
+  -- those that wait are these, in a queue with as much room
+  pub requeued : (ws : List Waiting) (q : VecDeque Waiting Global) → m.waiting ≡ ws → deque_capacity q ≡ deque_capacity c.waiting → IsCollecting M p d0 s0 (record m { waiting = ws; collector = record c { waiting = q } })
+  requeued ws q is capacity = record {
+    sound = k.sound;
+    few_faults = k.few_faults;
+    fits_desk = k.fits_desk;
+    its_parts = k.its_parts;
+    moves = k.moves;
+    parts = k.parts;
+    parts_are = k.parts_are;
+    progress = k.progress;
+    tale = k.tale;
+    moved = k.moved;
+    tree = subst (λ xs. KeepsTree p M.told m.waits b c.outer c.outer_stream xs (length k.parts) k.progress) is k.tree;
+    lines = subst (λ xs. HaveLines p (lines_of k.moves) xs) is k.lines;
+    next = k.next;
+    amid = k.amid;
+    begun = k.begun;
+    begun_is = k.begun_is;
+    stands = k.stands;
+    streams = k.streams;
+    telling = k.telling;
+    room = record { waiting = capacity ∙ k.room.waiting; jobs_room = k.room.jobs_room; queue = k.room.queue; few = k.room.few; left = k.room.left };
   }
 
-  -- the first lease was taken from it
-  pub popped : (waits : ℕ) (l : Lease) (js : List (Job S V F V D T)) (r : ReceiverSeen) (depot : DepotTold) (sink : SinkTold) (d : D) (c z : Collector S V F D T) → With waits c.waiting.items js r depot sink d c → c.waiting.items ≡ l ∷ z.waiting.items → deque_capacity z.waiting ≡ deque_capacity c.waiting
-      → With waits (l ∷ z.waiting.items) js r depot sink d (record c { waiting = z.waiting })
-  popped waits l js r depot sink d c z k is capacity = requeued waits (l ∷ z.waiting.items) js r depot sink d c z (subst (λ ws. With waits ws js r depot sink d c) is k) capacity
+  -- the main tree and the outer stream are as they were, and so are the streams that were dealt with
+  pub retold : (js : List (Job S V F V D T)) (r : ReceiverSeen) (sink : SinkTold) (e : D) (jobs : VecDeque (Job S V F V D T) Global) (report : Report) (stops : Stops) (v : Tale) → (k.tale.memory ≡ true → v.memory ≡ true) → Fits M.view M.fits c.tree e
+      → KeepsStreams M c.hub stops.board e b js c.left.items r k.parts k.progress v → KeepsTale p c.outer report stops (length js) s0 sink (map fate_of k.parts) v → length js ≡ length m.jobs → deque_capacity jobs ≡ deque_capacity c.jobs
+      → IsCollecting M p d0 s0 (record m { jobs = js; receiver = r; sink = sink; desk = e; collector = record c { jobs = jobs; report = report; stops = stops } })
+  retold js r sink e jobs report stops v more fit streams telling count capacity = record {
+    sound = k.sound;
+    few_faults = k.few_faults;
+    fits_desk = fit;
+    its_parts = k.its_parts;
+    moves = k.moves;
+    parts = k.parts;
+    parts_are = k.parts_are;
+    progress = k.progress;
+    tale = v;
+    moved = k.moved;
+    tree = k.tree;
+    lines = k.lines;
+    next = k.next;
+    amid = k.amid;
+    begun = k.begun;
+    begun_is = k.begun_is;
+    stands = stands_on M.told p k.stands b v.memory more (rows_same b) (gives_none b);
+    streams = streams;
+    telling = telling;
+    room = record {
+      waiting = k.room.waiting;
+      jobs_room = capacity ∙ k.room.jobs_room;
+      queue = k.room.queue;
+      few = let f = k.room.few in omega (arith, f, count);
+      left = let f = k.room.left in omega (arith, f, count);
+    };
+  }
 
-  module _ (waits : ℕ) (ws : List Lease) (js : List (Job S V F V D T)) (r : ReceiverSeen) (depot : DepotTold) (sink : SinkTold) (d : D) (c : Collector S V F D T) (k : With waits ws js r depot sink d c) where
-    -- contexts were found set
-    pub learns_step : (again : Stops) (cs : List Interruption) → Learns c.stops again [] cs → IsSeated again → With waits ws js r depot sink d (record c { stops = again })
-    learns_step again cs l seated = record {
-      fits_desk = k.fits_desk;
-      parts = k.parts;
-      progress = k.progress;
-      tale = learned k.tale [] cs;
-      mid = k.mid;
-      tree = k.tree;
-      next = k.next;
-      stands = k.stands;
-      dealt = k.dealt;
-      streams = streams_stay view told fits values P c.hub c.stops.board d (seen view c.tree) js c.left.items r k.parts k.progress k.tale k.streams again.board d (seen view c.tree) l.board (λ x ne f. f) (others_same 0 (seen view c.tree)) (rows_same (seen view c.tree))
-          k.tale.outer (k.tale.set ++ []) (k.tale.seen ++ cs) k.tale.ceased k.tale.memory k.progress.waits k.progress.next k.progress.leased k.progress.tables k.progress.root;
-      telling = tale_learns p c.outer c.report c.stops (length js) s0 sink (map fate_of k.parts) k.tale k.telling again cs l seated;
-      room = record { waiting = k.room.waiting; jobs_room = k.room.jobs_room; queue = k.room.queue; few = k.room.few; left = k.room.left };
-    }
+  -- contexts were found set
+  pub learns_step : (again : Stops) (cs : List Interruption) → Learns c.stops again [] cs → IsSeated again → IsCollecting M p d0 s0 (record m { collector = record c { stops = again } })
+  learns_step again cs l seated = retold m.jobs m.receiver m.sink m.desk c.jobs c.report again (learned k.tale [] cs) (λ z. z) k.fits_desk
+      (streams_stay M c.hub c.stops.board m.desk b m.jobs c.left.items m.receiver k.parts k.progress k.tale k.streams again.board m.desk b l.board (λ x ne f. f) (others_same 0 b) (rows_same b)
+      k.tale.outer (k.tale.set ++ []) (k.tale.seen ++ cs) k.tale.ceased k.tale.memory k.progress.waits k.progress.next k.progress.leased k.progress.tables k.progress.root)
+      (tale_learns p c.outer c.report c.stops (length m.jobs) s0 m.sink (map fate_of k.parts) k.tale k.telling again cs l seated) refl refl
 
-    -- nothing was done to the main tree, in the outer stream's name
-    pub still_step : (tree : Tree S V D) (e : D) → seen view tree ≡ seen view c.tree → Fits view fits tree e → OthersFit view fits Outer d e → With waits ws js r depot sink e (record c { tree = tree })
-    still_step tree e same fit others = record {
-      fits_desk = fit;
-      parts = k.parts;
-      progress = k.progress;
-      tale = k.tale;
-      mid = k.mid;
-      tree = subst (λ (b : Seen V). KeepsTree p told waits b c.outer c.outer_stream ws k.parts k.progress) (sym same) k.tree;
-      next = k.next;
-      stands = subst (λ (b : Seen V). StandsOuter told p d0 k.mid t c.outer_stream c.outer k.tale.memory b k.progress) (sym same) k.stands;
-      dealt = k.dealt;
-      streams = streams_stay view told fits values P c.hub c.stops.board d (seen view c.tree) js c.left.items r k.parts k.progress k.tale k.streams c.stops.board e (seen view tree) refl others (subst (λ (b : Seen V). KeepsOthers 0 (seen view c.tree) b) (sym same) (others_same 0 (seen view c.tree)))
-          (subst (λ (b : Seen V). KeepsRows (seen view c.tree).seat b.seat) (sym same) (record { noted = λ x m. m; left = λ x m. m; opened = λ x m. inl m; given = λ x m. m }))
-          k.tale.outer k.tale.set k.tale.seen k.tale.ceased k.tale.memory k.progress.waits k.progress.next k.progress.leased k.progress.tables k.progress.root;
-      telling = k.telling;
-      room = record { waiting = k.room.waiting; jobs_room = k.room.jobs_room; queue = k.room.queue; few = k.room.few; left = k.room.left };
-    }
+  -- nothing was done to the main tree, in the outer stream's name
+  pub still_step : (tree : Tree S V D) (e : D) → seen M.view tree ≡ b → Fits M.view M.fits tree e → OthersFit M.view M.fits Outer m.desk e → IsCollecting M p d0 s0 (record m { desk = e; collector = record c { tree = tree } })
+  still_step tree e same fit others = record {
+    sound = k.sound;
+    few_faults = k.few_faults;
+    fits_desk = fit;
+    its_parts = k.its_parts;
+    moves = k.moves;
+    parts = k.parts;
+    parts_are = k.parts_are;
+    progress = k.progress;
+    tale = k.tale;
+    moved = k.moved;
+    tree = subst (λ (x : Seen V). KeepsTree p M.told m.waits x c.outer c.outer_stream m.waiting (length k.parts) k.progress) (sym same) k.tree;
+    lines = k.lines;
+    next = k.next;
+    amid = λ e. subst (λ (x : Seen V). IsAmidAll M.told p (plan_parts p) (opened_of k.moves) (lines_of k.moves) c.outer_stream x) (sym same) (k.amid e);
+    begun = k.begun;
+    begun_is = k.begun_is;
+    stands = subst (λ (x : Seen V). StandsOuter p M.told k.moves k.begun c.outer_stream.outer.leased c.outer_stream.outer.tables c.outer k.tale.memory x) (sym same) k.stands;
+    streams = streams_stay M c.hub c.stops.board m.desk b m.jobs c.left.items m.receiver k.parts k.progress k.tale k.streams c.stops.board e (seen M.view tree) refl others (subst (λ (x : Seen V). KeepsOthers 0 b x) (sym same) (others_same 0 b))
+        (subst (λ (x : Seen V). KeepsRows b.seat x.seat) (sym same) (rows_same b))
+        k.tale.outer k.tale.set k.tale.seen k.tale.ceased k.tale.memory k.progress.waits k.progress.next k.progress.leased k.progress.tables k.progress.root;
+    telling = k.telling;
+    room = record { waiting = k.room.waiting; jobs_room = k.room.jobs_room; queue = k.room.queue; few = k.room.few; left = k.room.left };
+  }
 
-    -- no more seats are out than jobs are open
-    pub few_out : length (view c.tree.seat).out ≤ length js
-    few_out =
-        let f = (guests_stay V).few (seen view c.tree) k.progress.splits (map guest_of k.streams.origins) k.tree.main.apart k.streams.out in
-        let n = map_length guest_of k.streams.origins in
-        let m = jobs_number view told fits values P c.hub c.stops.board d (seen view c.tree) js c.left.items r k.parts k.progress k.tale k.streams in
-        omega (arith, f, n, m)
+  -- no more seats are out than jobs are open
+  pub few_out : length b.seat.out ≤ length m.jobs
+  few_out =
+      let f = (guests_stay V).few b k.progress.splits (map guest_of k.streams.origins) k.tree.main.apart k.streams.out in
+      let n = map_length guest_of k.streams.origins in
+      let j = jobs_number M c.hub c.stops.board m.desk b m.jobs c.left.items m.receiver k.parts k.progress k.tale k.streams in
+      omega (arith, f, n, j)
 
-    -- where the open jobs and the leases that wait are as many as may be open at most, so are the seats that are out and these
-    pub may_lease : length js + length ws ≤ p.max_open → length (seen view c.tree).seat.out + length k.progress.waits ≤ p.max_open
-    may_lease few =
-        let o = few_out in
-        let w = ap (λ (xs : List (ℕ × List ℕ)). length xs) k.tree.waits_are in
-        let n = map_length waiting_of ws in
-        omega (arith, few, o, w, n)
+  -- where the open jobs and the leases that wait are as many as may be open at most, so are the seats that are out and these
+  pub may_lease : length m.jobs + length m.waiting ≤ p.max_open → length b.seat.out + length k.progress.waits ≤ p.max_open
+  may_lease few =
+      let o = few_out in
+      let w = ap (λ (xs : List (ℕ × List ℕ)). length xs) k.tree.waits_are in
+      let n = map_length waiting_of m.waiting in
+      omega (arith, few, o, w, n)
 
-    -- where a stream waits or was dealt with all tables were read
-    pub given_so : ¬ (c.outer_stream.leased ≡ 0) → k.stands.o ≡ None
-    given_so some = given_read told p d0 k.mid t c.outer_stream c.outer k.tale.memory (seen view c.tree) k.progress k.stands some
+  -- the outer stream found a code
+  pub halt_step : (tree : Tree S V D) (report : Report) (e : D) → c.outer ≡ None → ClosesOuter (FinishesDevice M.told) how.Halted b (seen M.view tree) → Fits M.view M.fits tree e → OthersFit M.view M.fits Outer m.desk e → EndsOuter how.Halted c.report report
+      → TellsOuter (plan_bounds p) (learned (outer_ended k.tale how.Halted) [] []) how.Halted [] → Learns c.stops c.stops [] [] → IsCollecting M p d0 s0 (record m { desk = e; collector = record c { tree = tree; report = report; outer = Some how.Halted } })
+  halt_step tree report e none close fit others ends tells l = record {
+    sound = k.sound;
+    few_faults = k.few_faults;
+    fits_desk = fit;
+    its_parts = k.its_parts;
+    moves = k.moves;
+    parts = k.parts;
+    parts_are = k.parts_are;
+    progress = closing_root k.progress (exit_of how.Halted);
+    tale = learned (outer_ended k.tale how.Halted) [] [];
+    moved = k.moved;
+    tree = closed M.told p k.tree how.Halted (seen M.view tree) none close;
+    lines = k.lines;
+    next = k.next;
+    amid = λ e. cc;
+    begun = k.begun;
+    begun_is = λ z. cc;
+    stands = stands_on M.told p (stands_halted M.told p (subst (λ o. StandsOuter p M.told k.moves k.begun c.outer_stream.outer.leased c.outer_stream.outer.tables o k.tale.memory b) none k.stands)) (seen M.view tree) (k.tale.memory || false) (λ z. or_more k.tale.memory z) close.rows close.gives;
+    streams = streams_stay M c.hub c.stops.board m.desk b m.jobs c.left.items m.receiver k.parts k.progress k.tale k.streams c.stops.board e (seen M.view tree) refl others (others_kept 0 b (seen M.view tree) close.guests) close.rows
+        (Some how.Halted) (k.tale.set ++ []) (k.tale.seen ++ []) (k.tale.ceased || false) (k.tale.memory || false) k.progress.waits k.progress.next k.progress.leased k.progress.tables (Some (exit_of how.Halted));
+    telling = tale_closes p c.outer c.report c.stops (length m.jobs) s0 m.sink (map fate_of k.parts) k.tale k.telling how.Halted c.stops report [] [] none l k.telling.seated ends tells;
+    room = record { waiting = k.room.waiting; jobs_room = k.room.jobs_room; queue = k.room.queue; few = k.room.few; left = k.room.left };
+  }
+    where
+      or_more : (x : Bool) → x ≡ true → (x || false) ≡ true
+      or_more true z = refl
+      or_more false z = absurd cc
 
-    pub all_read : 1 ≤ length ws → k.stands.o ≡ None
-    all_read some = given_so (some_given told p waits (seen view c.tree) c.outer c.outer_stream ws k.parts k.progress k.tree some)
+-- Of a collector of which a stream waits.
+module _ {S V F D T : Type 0} {M : Members S V F D T} {p : PlanMeant} {d0 : DepotTold} {s0 : SinkTold} (m : Moment S V F D T) {w : Waiting} {ws : List Waiting} (k : IsCollecting M p d0 s0 (record m { waiting = w ∷ ws })) where
+  abbrev z : Collector S V F D T
+  z = m.collector
 
-    pub parts_read : (k.parts ≡ [] → ⊥) → k.stands.o ≡ None
-    parts_read some = given_so (λ z. some (idle told p waits (seen view c.tree) c.outer c.outer_stream ws k.parts k.progress k.tree z).0)
+  abbrev a : Seen V
+  a = seen M.view z.tree
 
-    -- the outer stream ended, and a code was set or found before
-    pub close_step : (h : How) (tree : Tree S V D) (again : Stops) (report : Report) (e : D) (vs cs : List Interruption) → c.outer ≡ None → ClosesOuter (FinishesDevice told) h (seen view c.tree) (seen view tree) → Fits view fits tree e → OthersFit view fits Outer d e → Learns c.stops again vs cs → IsSeated again → EndsOuter h c.report report
-        → ((v : Tale) → v ≡ k.tale → TellsOuter (bare_work p) (learned (outer_ended v h) vs cs) h vs) → k.stands.o ≡ None → EndsRead p c.outer_stream.leased h → With waits ws js r depot sink e (record c { tree = tree; stops = again; report = report; outer = Some h })
-    close_step h tree again report e vs cs none close fit others l seated ends tells read read_so = record {
-      fits_desk = fit;
-      parts = k.parts;
-      progress = closing_root k.progress (exit_of h);
-      tale = learned (outer_ended k.tale h) vs cs;
-      mid = k.mid;
-      tree = closed told p waits (seen view c.tree) c.outer c.outer_stream ws k.parts k.progress k.tree h (seen view tree) none close;
-      next = k.next;
-      stands = stands_over told p d0 k.mid t c.outer_stream c.outer k.tale.memory (seen view c.tree) k.progress k.stands read none h read_so (seen view tree) (closing_root k.progress (exit_of h)) (k.tale.memory || is_memory h) close.rows refl;
-      dealt = k.dealt;
-      streams = streams_stay view told fits values P c.hub c.stops.board d (seen view c.tree) js c.left.items r k.parts k.progress k.tale k.streams again.board e (seen view tree) l.board others (others_kept 0 (seen view c.tree) (seen view tree) close.guests) close.rows
-          (Some h) (k.tale.set ++ vs) (k.tale.seen ++ cs) (k.tale.ceased || is_memory h) (k.tale.memory || is_memory h) k.progress.waits k.progress.next k.progress.leased k.progress.tables (Some (exit_of h));
-      telling = tale_closes p c.outer c.report c.stops (length js) s0 sink (map fate_of k.parts) k.tale k.telling h again report vs cs none l seated ends (tells k.tale refl);
-      room = record { waiting = k.room.waiting; jobs_room = k.room.jobs_room; queue = k.room.queue; few = k.room.few; left = k.room.left };
-    }
+  count : length k.parts ≡ length k.tale.fates
+  count = sym (ap (λ (fs : List tales.Fate). length fs) k.telling.fates_are ∙ map_length fate_of k.parts)
 
-  -- Of a collector of which a lease waits.
-  module _ (waits : ℕ) (l : Lease) (ws : List Lease) (js : List (Job S V F V D T)) (r : ReceiverSeen) (depot : DepotTold) (sink : SinkTold) (d : D) (c : Collector S V F D T) (k : With waits (l ∷ ws) js r depot sink d c) where
-    count : length k.parts ≡ length k.tale.fates
-    count = sym (ap (λ (fs : List tales.Fate). length fs) k.telling.fates_are ∙ map_length fate_of k.parts)
+  pub counted : z.next ≡ length k.tale.fates
+  counted = k.next ∙ count
 
-    pub counted : c.next ≡ length k.tale.fates
-    counted = k.next ∙ count
+  pub below : z.next < stream_limit p
+  below = let l = next_below M.told p k.tree in let n = k.next in omega (arith, l, n)
 
-    pub below : c.next < length p.streams
-    below = let b = next_below told p waits (seen view c.tree) c.outer c.outer_stream l ws k.parts k.progress k.tree in let n = k.next in omega (arith, b, n)
+  -- it is the next stream's, and has its line if it is one of the list
+  pub its_lease : lessee w.lease ≡ z.next
+  its_lease = next_is M.told p k.tree ∙ sym k.next
 
-    pub all_parts_read : k.stands.o ≡ None
-    all_parts_read = all_read waits (l ∷ ws) js r depot sink d c k (omega arith)
+  pub given_line : length k.parts < length p.streams + length (lines_of k.moves)
+  given_line = let l = next_leased M.told p k.tree in let n = k.stands.lines_are in omega (arith, l, n)
 
-    found : (context : ℕ) (w : Why) → IsAmong (interruption context w) (view_of c.stops).seen → IsFoundSet k.tale context
-    found = found_so p c.outer c.report c.stops (length js) s0 sink (map fate_of k.parts) k.tale k.telling
+  pub line_is : w.path ≡ line_at p (lines_of k.moves) (length k.parts)
+  line_is = k.lines.0 ∙ ap (λ i. line_at p (lines_of k.moves) i) (next_is M.told p k.tree)
 
-    -- a code that is the stream's own had been set by then, where there is room for one job alone
-    own_code : (w : Why) → IsAmong (interruption (1 + c.next) w) (view_of c.stops).seen → (deque_capacity c.jobs ≡ 1 → IsAmong (interruption (1 + c.next) w) (view_of c.stops).set) → IsOwnCode (bare_work p) k.tale (length k.tale.fates)
-    own_code w m set =
-        let own : 1 + c.next ≡ suc (length k.tale.fates) = let n = counted in omega (arith, n) in (
-          subst (λ n. IsFoundSet k.tale n) own (found (1 + c.next) w m),
-          λ turn. subst (λ n. IsSet k.tale n) own (w, subst (λ xs. IsAmong (interruption (1 + c.next) w) xs) (sym k.telling.known.set) (set (k.room.jobs_room ∙ eqb-true p.max_open 1 turn))),
-        )
+  pub is_named : IsNamed p z.next w.path
+  is_named behind = let g = given_line in let n = k.next in line_there p (lines_of k.moves) (length k.parts) w.path line_is (omega (arith, behind, n)) g
 
-    cause_so : MaySkip c → IsFoundSet k.tale 0 ⊎ IsOwnCode (bare_work p) k.tale (length k.tale.fates) ⊎ IsOuterStopped k.tale
-    cause_so m = ⊎_elim (λ f. inl (found 0 f.0 f.1)) (λ y. inr (⊎_elim (λ f. inl (own_code f.0 f.1 f.2)) (λ h. inr (h.0, k.telling.outer_is ∙ h.1, h.2)) y)) m
+  pub its_spec : (s : StreamSpec) → named_stream p z.next w.path ≡ Some s → spec_of p (lines_of k.moves) (length k.parts) ≡ Some s
+  its_spec s is = sym (ap (λ i. named_stream p i w.path) k.next ∙ ap (λ l. named_stream p (length k.parts) l) line_is) ∙ is
 
-    -- its stream was skipped
-    pub skip_step : (tree : Tree S V D) (e : D) → PassesOver (FinishesDevice told) l.stream l.rows.items (seen view c.tree) (seen view tree) → Fits view fits tree e → OthersFit view fits Outer d e → MaySkip c → (again : ℕ) → length ws ≤ again → (c.outer ≡ None → 0 < again → 1 ≤ length ws)
-        → With again ws js r depot sink e (record c { tree = tree; next = c.next + 1 })
-    skip_step tree e pass fit others may again few some =
-        let x : Part V F = Skipped in
-        let more = snoc_length k.parts x in
-        let n = k.next in
-        record {
-          fits_desk = fit;
-          parts = k.parts ++ Skipped ∷ [];
-          progress = skipping k.progress (map waiting_of ws);
-          tale = fated k.tale tales.Fate.Skipped;
-          mid = k.mid;
-          tree = passed told p waits (seen view c.tree) c.outer c.outer_stream l ws k.parts k.progress k.tree (seen view tree) Skipped again pass few some;
-          next = omega (arith, more, n);
-          stands = stands_on told p d0 k.mid t c.outer_stream c.outer k.tale.memory (seen view c.tree) k.progress k.stands all_parts_read (seen view tree) (skipping k.progress (map waiting_of ws)) k.tale.memory pass.rows refl;
-          dealt = dealt_snoc told p t 0 k.mid depot depot k.parts Skipped k.dealt refl;
-          streams = streams_skipped view told fits values P c.hub c.stops.board d (seen view c.tree) js c.left.items r k.parts k.progress k.tale k.streams c.stops.board e (seen view tree) refl others (others_kept 0 (seen view c.tree) (seen view tree) pass.guests) pass.rows Skipped tales.Fate.Skipped (λ z. cc) (λ z. cc)
-              k.tale.outer k.tale.set k.tale.seen k.tale.ceased k.tale.memory (map waiting_of ws) (suc k.progress.next) k.progress.leased k.progress.tables k.progress.root;
-          telling = subst (λ fs. KeepsTale p c.outer c.report c.stops (length js) s0 sink fs (fated k.tale tales.Fate.Skipped)) (sym (map_snoc fate_of k.parts Skipped)) (tale_skips p c.outer c.report c.stops (length js) s0 sink (map fate_of k.parts) k.tale k.telling (cause_so may));
-          room = record { waiting = k.room.waiting; jobs_room = k.room.jobs_room; queue = k.room.queue; few = k.room.few; left = let f = k.room.left in omega (arith, f, more) };
-        }
+  found : (context : ℕ) (x : Why) → IsAmong (interruption context x) (view_of z.stops).seen → IsFoundSet k.tale context
+  found = found_so p z.outer z.report z.stops (length m.jobs) s0 m.sink (map fate_of k.parts) k.tale k.telling
 
-    -- there was no memory to make its stream, and what was made for it is kept
-    pub miss_step : (z : Collector S V F D T) (e : D) (vs cs : List Interruption) (now : DepotTold) (ds : List V) (y : Leftover V) (s : StreamSpec) → PassesOver (FinishesDevice told) l.stream l.rows.items (seen view c.tree) (seen view z.tree) → Fits view fits z.tree e → OthersFit view fits Outer d e
-        → Marks 0 why.Memory vs cs → Learns c.stops z.stops vs cs → IsSeated z.stops → MissesStream c.next c.report z.report → slice_get p.streams c.next ≡ Some s → MakesUnmade told s depot now ds → y.shelf ≡ [] → y.unopened ≡ ds → z.left.items ≡ c.left.items ++ y ∷ [] → vec_capacity z.left ≡ vec_capacity c.left
-        → (again : ℕ) → length ws ≤ again → (c.outer ≡ None → 0 < again → 1 ≤ length ws) → With again ws js r now sink e (record c { tree = z.tree; stops = z.stops; report = z.report; next = c.next + 1; left = z.left })
-    miss_step z e vs cs now ds y s pass fit others mark l' seated misses is makes shelf unopened pushed capacity again few some =
-        let x : Part V F = Unmade ds in
-        let more = snoc_length k.parts x in
-        let n = k.next in
-        let here' : c.next ≡ 0 + length k.parts = omega (arith, n) in
-        record {
-          fits_desk = fit;
-          parts = k.parts ++ x ∷ [];
-          progress = skipping k.progress (map waiting_of ws);
-          tale = learned (unmade k.tale) vs cs;
-          mid = k.mid;
-          tree = passed told p waits (seen view c.tree) c.outer c.outer_stream l ws k.parts k.progress k.tree (seen view z.tree) x again pass few some;
-          next = omega (arith, more, n);
-          stands = stands_on told p d0 k.mid t c.outer_stream c.outer k.tale.memory (seen view c.tree) k.progress k.stands all_parts_read (seen view z.tree) (skipping k.progress (map waiting_of ws)) true pass.rows refl;
-          dealt = dealt_snoc told p t 0 k.mid depot now k.parts x k.dealt (subst (λ i. Deals told p t i depot now x) here' (s, is, makes));
-          streams = subst (λ xs. KeepsStreams view told fits values P c.hub z.stops.board e (seen view z.tree) js xs r (k.parts ++ x ∷ []) (skipping k.progress (map waiting_of ws)) (learned (unmade k.tale) vs cs)) (sym pushed)
-              (streams_missed view told fits values P c.hub c.stops.board d (seen view c.tree) js c.left.items r k.parts k.progress k.tale k.streams z.stops.board e (seen view z.tree) l'.board others (others_kept 0 (seen view c.tree) (seen view z.tree) pass.guests) pass.rows x tales.Fate.Unmade (λ q. cc) refl ds y refl shelf unopened count k.telling.report_is.ours
-              k.tale.outer (k.tale.set ++ vs) (k.tale.seen ++ cs) true true (map waiting_of ws) (suc k.progress.next) k.progress.leased k.progress.tables k.progress.root);
-          telling = subst (λ fs. KeepsTale p c.outer z.report z.stops (length js) s0 sink fs (learned (unmade k.tale) vs cs)) (sym (map_snoc fate_of k.parts x)) (tale_misses p c.outer c.report c.stops (length js) s0 sink (map fate_of k.parts) k.tale k.telling c.next z.stops z.report vs cs (sym counted) mark l' seated misses);
-          room = record {
-            waiting = k.room.waiting;
-            jobs_room = k.room.jobs_room;
-            queue = k.room.queue;
-            few = k.room.few;
-            left = let f = k.room.left in let g = ap (λ (xs : List (Leftover V)). length xs) pushed ∙ snoc_length c.left.items y in let b = below in omega (arith, f, g, more, capacity, b, n);
-          };
-        }
+  -- a code that is the stream's own had been set by then, where there is room for one job alone
+  own_code : (x : Why) → IsAmong (interruption (1 + z.next) x) (view_of z.stops).seen → (deque_capacity z.jobs ≡ 1 → IsAmong (interruption (1 + z.next) x) (view_of z.stops).set) → IsOwnCode (plan_bounds p) k.tale (length k.tale.fates)
+  own_code x i set =
+      let own : 1 + z.next ≡ suc (length k.tale.fates) = let n = counted in omega (arith, n) in (
+        subst (λ n. IsFoundSet k.tale n) own (found (1 + z.next) x i),
+        λ turn. subst (λ n. IsSet k.tale n) own (x, subst (λ xs. IsAmong (interruption (1 + z.next) x) xs) (sym k.telling.known.set) (set (k.room.jobs_room ∙ eqb-true p.max_open 1 turn))),
+      )
+
+  cause_so : MaySkip z → IsFoundSet k.tale 0 ⊎ IsOwnCode (plan_bounds p) k.tale (length k.tale.fates) ⊎ IsOuterStopped k.tale
+  cause_so i = ⊎_elim (λ f. inl (found 0 f.0 f.1)) (λ y. inr (⊎_elim (λ f. inl (own_code f.0 f.1 f.2)) (λ h. inr (h.0, k.telling.outer_is ∙ h.1, h.2)) y)) i
+
+  -- a stream more was dealt with, by which the depot came to stand so
+  module _ (x : Part V F) where
+    pub more_parts : dealt_of (k.moves ++ Dealt x ∷ []) ≡ k.parts ++ x ∷ []
+    more_parts = dealt_snoc k.moves (Dealt x) ∙ ap (λ l. l ++ x ∷ []) k.parts_are
+
+    pub moved_on : (now : DepotTold) → Deals M.told p (contents_of k.moves) (lines_of k.moves) (length k.parts) m.depot now x → AreMoved M.told p [] d0 (k.moves ++ Dealt x ∷ []) now
+    moved_on now deals = moved_snoc M.told p d0 m.depot now k.moves (Dealt x) k.moved (subst (λ l. Deals M.told p (contents_of k.moves) (lines_of k.moves) (length l) m.depot now x) (sym k.parts_are) deals)
+
+    pub lines_on : HaveLines p (lines_of (k.moves ++ Dealt x ∷ [])) ws
+    lines_on = subst (λ l. HaveLines p l ws) (sym (lines_dealt k.moves x)) k.lines.1
+
+    pub dealt_amid : (b : Seen V) → IsAmidAll M.told p (plan_parts p) (opened_of k.moves) (lines_of k.moves) z.outer_stream b → IsAmidAll M.told p (plan_parts p) (opened_of (k.moves ++ Dealt x ∷ [])) (lines_of (k.moves ++ Dealt x ∷ [])) z.outer_stream b
+    dealt_amid b h = subst (λ o. IsAmidAll M.told p (plan_parts p) o (lines_of (k.moves ++ Dealt x ∷ [])) z.outer_stream b) (sym (opened_dealt k.moves x)) (subst (λ l. IsAmidAll M.told p (plan_parts p) (opened_of k.moves) l z.outer_stream b) (sym (lines_dealt k.moves x)) h)
+
+    pub fates_on : map fate_of k.parts ++ fate_of x ∷ [] ≡ map fate_of (k.parts ++ x ∷ [])
+    fates_on = sym (map_snoc fate_of k.parts x)
+
+  -- its stream was skipped
+  pub skip_step : (tree : Tree S V D) (e : D) → PassesOver (FinishesDevice M.told) (lessee w.lease) (rows_covered w.lease) a (seen M.view tree) → Fits M.view M.fits tree e → OthersFit M.view M.fits Outer m.desk e → MaySkip z → (again : ℕ) → length ws ≤ again → (z.outer ≡ None → 0 < again → 1 ≤ length ws)
+      → IsCollecting M p d0 s0 (record m { waits = again; waiting = ws; desk = e; collector = record z { tree = tree; next = z.next + 1 } })
+  skip_step tree e pass fit others may again few some =
+      let x : Part V F = Skipped in
+      let more = snoc_length k.parts x in
+      let n = k.next in
+      record {
+        sound = k.sound;
+        few_faults = k.few_faults;
+        fits_desk = fit;
+        its_parts = k.its_parts;
+        moves = k.moves ++ Dealt x ∷ [];
+        parts = k.parts ++ x ∷ [];
+        parts_are = more_parts x;
+        progress = skipping k.progress (map waiting_of ws);
+        tale = fated k.tale tales.Fate.Skipped;
+        moved = moved_on x m.depot (given_line, refl);
+        tree = subst (λ i. KeepsTree p M.told again (seen M.view tree) z.outer z.outer_stream ws i (skipping k.progress (map waiting_of ws))) (sym more) (passed M.told p k.tree (seen M.view tree) again pass few some);
+        lines = lines_on x;
+        next = omega (arith, more, n);
+        amid = λ i. dealt_amid x (seen M.view tree) (amid_kept (k.amid i) (seen M.view tree) pass.gives pass.scopes pass.room pass.opened (λ r l m. pass.guests.empty r m));
+        begun = k.begun;
+        begun_is = k.begun_is;
+        stands = stands_dealt M.told p k.moves (stands_on M.told p k.stands (seen M.view tree) k.tale.memory (λ i. i) pass.rows pass.gives) x;
+        streams = streams_skipped M z.hub z.stops.board m.desk a m.jobs z.left.items m.receiver k.parts k.progress k.tale k.streams z.stops.board e (seen M.view tree) refl others (others_kept 0 a (seen M.view tree) pass.guests) pass.rows x tales.Fate.Skipped (λ i. cc) (λ i. cc)
+            k.tale.outer k.tale.set k.tale.seen k.tale.ceased k.tale.memory (map waiting_of ws) (suc k.progress.next) k.progress.leased k.progress.tables k.progress.root;
+        telling = subst (λ fs. KeepsTale p z.outer z.report z.stops (length m.jobs) s0 m.sink fs (fated k.tale tales.Fate.Skipped)) (fates_on x) (tale_skips p z.outer z.report z.stops (length m.jobs) s0 m.sink (map fate_of k.parts) k.tale k.telling (cause_so may));
+        room = record { waiting = k.room.waiting; jobs_room = k.room.jobs_room; queue = k.room.queue; few = k.room.few; left = let f = k.room.left in omega (arith, f, more) };
+      }
+
+  -- there was no memory to make its stream, and what was made for it is kept
+  pub miss_step : (tree : Tree S V D) (stops : Stops) (report : Report) (left : Vec (Leftover V) Global) (e : D) (vs cs : List Interruption) (now : DepotTold) (ds : List V) (y : Leftover V) (s : StreamSpec) → PassesOver (FinishesDevice M.told) (lessee w.lease) (rows_covered w.lease) a (seen M.view tree)
+      → Fits M.view M.fits tree e → OthersFit M.view M.fits Outer m.desk e → Marks 0 why.Memory vs cs → Learns z.stops stops vs cs → IsSeated stops → MissesStream z.next z.report report → named_stream p z.next w.path ≡ Some s → MakesUnmade M.told s m.depot now ds → y.shelf ≡ [] → y.unopened ≡ ds
+      → left.items ≡ z.left.items ++ y ∷ [] → vec_capacity left ≡ vec_capacity z.left → (again : ℕ) → length ws ≤ again → (z.outer ≡ None → 0 < again → 1 ≤ length ws)
+      → IsCollecting M p d0 s0 (record m { waits = again; waiting = ws; depot = now; desk = e; collector = record z { tree = tree; stops = stops; report = report; next = z.next + 1; left = left } })
+  miss_step tree stops report left e vs cs now ds y s pass fit others mark l seated misses is makes shelf unopened pushed capacity again few some =
+      let x : Part V F = Unmade ds in
+      let more = snoc_length k.parts x in
+      let n = k.next in
+      record {
+        sound = k.sound;
+        few_faults = k.few_faults;
+        fits_desk = fit;
+        its_parts = k.its_parts;
+        moves = k.moves ++ Dealt x ∷ [];
+        parts = k.parts ++ x ∷ [];
+        parts_are = more_parts x;
+        progress = skipping k.progress (map waiting_of ws);
+        tale = learned (unmade k.tale) vs cs;
+        moved = moved_on x now (s, its_spec s is, given_line, makes);
+        tree = subst (λ i. KeepsTree p M.told again (seen M.view tree) z.outer z.outer_stream ws i (skipping k.progress (map waiting_of ws))) (sym more) (passed M.told p k.tree (seen M.view tree) again pass few some);
+        lines = lines_on x;
+        next = omega (arith, more, n);
+        amid = λ i. dealt_amid x (seen M.view tree) (amid_kept (k.amid i) (seen M.view tree) pass.gives pass.scopes pass.room pass.opened (λ r l m. pass.guests.empty r m));
+        begun = k.begun;
+        begun_is = k.begun_is;
+        stands = stands_dealt M.told p k.moves (stands_on M.told p k.stands (seen M.view tree) true (λ i. refl) pass.rows pass.gives) x;
+        streams = subst (λ xs. KeepsStreams M z.hub stops.board e (seen M.view tree) m.jobs xs m.receiver (k.parts ++ x ∷ []) (skipping k.progress (map waiting_of ws)) (learned (unmade k.tale) vs cs)) (sym pushed)
+            (streams_missed M z.hub z.stops.board m.desk a m.jobs z.left.items m.receiver k.parts k.progress k.tale k.streams stops.board e (seen M.view tree) l.board others (others_kept 0 a (seen M.view tree) pass.guests) pass.rows x tales.Fate.Unmade (λ q. cc) refl ds y refl shelf unopened count k.telling.report_is.ours
+            k.tale.outer (k.tale.set ++ vs) (k.tale.seen ++ cs) true true (map waiting_of ws) (suc k.progress.next) k.progress.leased k.progress.tables k.progress.root);
+        telling = subst (λ fs. KeepsTale p z.outer report stops (length m.jobs) s0 m.sink fs (learned (unmade k.tale) vs cs)) (fates_on x) (tale_misses p z.outer z.report z.stops (length m.jobs) s0 m.sink (map fate_of k.parts) k.tale k.telling z.next stops report vs cs (sym counted) mark l seated misses);
+        room = record {
+          waiting = k.room.waiting;
+          jobs_room = k.room.jobs_room;
+          queue = k.room.queue;
+          few = k.room.few;
+          left = let f = k.room.left in let g = ap (λ (xs : List (Leftover V)). length xs) pushed ∙ snoc_length z.left.items y in let l = below in omega (arith, f, g, more, capacity, l, n);
+        };
+      }

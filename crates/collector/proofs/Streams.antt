@@ -3,7 +3,6 @@ use Rattle.std.proofs.Common.{◌≡◌, ◌≢◌, ◌⊎◌, ◌↔◌, ℕ, s
 use Rattle.std.specs.List.{IsDistinct}
 use Rattle.chunk_core.specs.Lists.{IsAmong, has}
 use Rattle.chunk_core.specs.Lists.IsAmong.{here, there}
-use Rattle.chunk_core.specs.Tables.{Values}
 use Rattle.chunk_core.specs.declared.code.Exit.{Exit}
 use Rattle.chunk_core.specs.declared.code.How.{How}
 use Rattle.chunk_core.proofs.Bools.{has_in, in_has}
@@ -11,7 +10,6 @@ use Rattle.chunk_core.proofs.Distinct.{distinct_append, distinct_one}
 use Rattle.chunk_core.proofs.Members.{among_cons, among_last, among_left, among_nil, among_snoc}
 use Rattle.channel_bounded.specs.Ends.{HubSeen, ReceiverSeen}
 use Rattle.channel_bounded.specs.Streams.{of_stream}
-use Rattle.device_port.specs.Device.{DeviceTold}
 use Rattle.interrupt_ctx.specs.Ends.{BoardSeen}
 use Rattle.interrupt_ctx.specs.declared.view.Interruption.{Interruption}
 use Rattle.join_tale.specs.Steps.{fated}
@@ -21,13 +19,10 @@ use Rattle.join_tale.proofs.Places.{at_below, at_left, at_snoc}
 use Rattle.join_tree.specs.Guests.{AreOut}
 use Rattle.join_tree.specs.Progress.{Progress}
 use Rattle.join_tree.specs.Steps.{KeepsRows}
-use Rattle.outer_stream.specs.Pulls.{KeepsOthers}
-use Rattle.outer_stream.proofs.Steps.{outs_others}
-use Rattle.join_tree.proofs.Outs.{outs_stay}
-use Rattle.pull_turns.specs.Piping.{StateMeaning}
+use Rattle.outer_stream.specs.Steps.{KeepsOthers}
+use Rattle.outer_stream.proofs.Keeping.{outs_others}
 use Rattle.res_ledger.specs.declared.event.StreamNo.TheVariants.{Outer}
 use Rattle.res_ledger.specs.declared.event.What.{What}
-use Rattle.row_seat.specs.declared.view.View.{View}
 use Rattle.row_seat.specs.Views.{OthersFit}
 use Rattle.run_rules.specs.Facts.{at}
 use Rattle.scope_tree.specs.Calls.{Seen}
@@ -38,7 +33,8 @@ use Rattle.stream_jobs.proofs.Others.{others_leave}
 use Rattle.tree_families.specs.Families.{Split}
 use Rattle.dealt_streams.specs.declared.leftover.Leftover.{Leftover}
 use Rattle.dealt_streams.specs.Kept.{AreKept, Gone, IsKept, number_of}
-use Rattle.collector.specs.Collecting.{AreJobs, IsJobOf, KeepsStreams, guest_of}
+use Rattle.collector.specs.Members.{Members}
+use Rattle.collector.specs.Streams.{AreJobs, IsJobOf, KeepsStreams, guest_of}
 use Rattle.dealt_streams.specs.Kept.Gone.{Came as Back, Missed}
 use Rattle.dealt_streams.specs.Parts.{Part}
 use Rattle.dealt_streams.specs.Parts.Part.{Unmade}
@@ -52,10 +48,10 @@ retold t outer set seen ceased memory = record t { outer = outer; set = set; see
 abbrev pub moved : {P : Type 0} → Progress P → List (ℕ × List ℕ) → ℕ → ℕ → List What → Option Exit → Progress P
 moved q waits next leased tables root = record q { waits = waits; next = next; leased = leased; tables = tables; root = root }
 
-module _ {S V F D T : Type 0} (view : S → View V) (told : V → DeviceTold) (fits : S → D → Type 0) (values : T → Values) (P : Values → StateMeaning F) where
+module _ {S V F D T : Type 0} (M : Members S V F D T) where
   -- the jobs are those of these origins still, where the desk, the board's name and further parts leave them so
   pub jobs_kept : (hub : HubSeen) (board again : BoardSeen) (d e : D) (parts more : List (Part V F)) → again ≡ board → ((k : ℕ) (x : Part V F) → at parts k ≡ Some x → at more k ≡ Some x) → (js : List (Job S V F V D T)) (ws : List (Origin V F))
-      → ((w : Origin V F) → IsAmong w ws → (j : Job S V F V D T) → IsJob view values told P w j → FitsJob view told fits j d → FitsJob view told fits j e) → AreJobs view told fits values P hub board d parts js ws → AreJobs view told fits values P hub again e more js ws
+      → ((w : Origin V F) → IsAmong w ws → (j : Job S V F V D T) → IsJob M.view M.values M.told M.stands w j → FitsJob M.view M.told M.fits j d → FitsJob M.view M.told M.fits j e) → AreJobs M hub board d parts js ws → AreJobs M hub again e more js ws
   jobs_kept hub board again d e parts more same grow [] [] stays h = tt
   jobs_kept hub board again d e parts more same grow [] (w ∷ ws) stays h = h
   jobs_kept hub board again d e parts more same grow (j ∷ js) [] stays h = h
@@ -66,19 +62,19 @@ module _ {S V F D T : Type 0} (view : S → View V) (told : V → DeviceTold) (f
       begun = grow w.stream _ h.0.begun;
       job = h.0.job;
       fits_desk = stays w (here ws) j h.0.job h.0.fits_desk;
-      place = subst (λ (x : BoardSeen). IsAt (seen_job view values j) hub x) (sym same) h.0.place;
+      place = subst (λ (x : BoardSeen). IsAt (seen_job M.view M.values j) hub x) (sym same) h.0.place;
     },
     jobs_kept hub board again d e parts more same grow js ws (λ v m. stays v (there w m)) h.1,
   )
 
-  pub jobs_snoc : (hub : HubSeen) (board : BoardSeen) (d : D) (parts : List (Part V F)) (js : List (Job S V F V D T)) (ws : List (Origin V F)) (j : Job S V F V D T) (w : Origin V F) → AreJobs view told fits values P hub board d parts js ws → IsJobOf view told fits values P hub board d parts j w
-      → AreJobs view told fits values P hub board d parts (js ++ j ∷ []) (ws ++ w ∷ [])
+  pub jobs_snoc : (hub : HubSeen) (board : BoardSeen) (d : D) (parts : List (Part V F)) (js : List (Job S V F V D T)) (ws : List (Origin V F)) (j : Job S V F V D T) (w : Origin V F) → AreJobs M hub board d parts js ws → IsJobOf M hub board d parts j w
+      → AreJobs M hub board d parts (js ++ j ∷ []) (ws ++ w ∷ [])
   jobs_snoc hub board d parts [] [] j w h i = (i, tt)
   jobs_snoc hub board d parts [] (v ∷ ws) j w h i = absurd h
   jobs_snoc hub board d parts (y ∷ js) [] j w h i = absurd h
   jobs_snoc hub board d parts (y ∷ js) (v ∷ ws) j w h i = (h.0, jobs_snoc hub board d parts js ws j w h.1 i)
 
-  pub jobs_count : (hub : HubSeen) (board : BoardSeen) (d : D) (parts : List (Part V F)) (js : List (Job S V F V D T)) (ws : List (Origin V F)) → AreJobs view told fits values P hub board d parts js ws → length js ≡ length ws
+  pub jobs_count : (hub : HubSeen) (board : BoardSeen) (d : D) (parts : List (Part V F)) (js : List (Job S V F V D T)) (ws : List (Origin V F)) → AreJobs M hub board d parts js ws → length js ≡ length ws
   jobs_count hub board d parts [] [] h = refl
   jobs_count hub board d parts [] (w ∷ ws) h = absurd h
   jobs_count hub board d parts (j ∷ js) [] h = absurd h
@@ -86,7 +82,7 @@ module _ {S V F D T : Type 0} (view : S → View V) (told : V → DeviceTold) (f
 
   -- what was left is kept
   pub kept_stays : (parts more : List (Part V F)) (q u : Progress V) (r s : ReceiverSeen) (t v : Tale) → ((k : ℕ) (x : Part V F) → at parts k ≡ Some x → at more k ≡ Some x) → u.back ≡ q.back → s.got ≡ r.got → s.closed ≡ r.closed → ((k : ℕ) (h : How) → Came t k h → Came v k h)
-      → (xs : List (Leftover V)) (gs : List (Gone S V F)) → AreKept view told P parts q r t xs gs → AreKept view told P more u s v xs gs
+      → (xs : List (Leftover V)) (gs : List (Gone S V F)) → AreKept M.view M.told M.stands parts q r t xs gs → AreKept M.view M.told M.stands more u s v xs gs
   kept_stays parts more q u r s t v grow back got closed came [] [] h = tt
   kept_stays parts more q u r s t v grow back got closed came [] (g ∷ gs) h = h
   kept_stays parts more q u r s t v grow back got closed came (x ∷ xs) [] h = h
@@ -108,14 +104,14 @@ module _ {S V F D T : Type 0} (view : S → View V) (told : V → DeviceTold) (f
         kept_stays parts more q u r s t v grow back got closed came xs gs h.1,
       )
 
-  pub kept_snoc : (parts : List (Part V F)) (q : Progress V) (r : ReceiverSeen) (t : Tale) (xs : List (Leftover V)) (gs : List (Gone S V F)) (x : Leftover V) (g : Gone S V F) → AreKept view told P parts q r t xs gs → IsKept view told P parts q r t x g
-      → AreKept view told P parts q r t (xs ++ x ∷ []) (gs ++ g ∷ [])
+  pub kept_snoc : (parts : List (Part V F)) (q : Progress V) (r : ReceiverSeen) (t : Tale) (xs : List (Leftover V)) (gs : List (Gone S V F)) (x : Leftover V) (g : Gone S V F) → AreKept M.view M.told M.stands parts q r t xs gs → IsKept M.view M.told M.stands parts q r t x g
+      → AreKept M.view M.told M.stands parts q r t (xs ++ x ∷ []) (gs ++ g ∷ [])
   kept_snoc parts q r t [] [] x g h i = (i, tt)
   kept_snoc parts q r t [] (y ∷ gs) x g h i = absurd h
   kept_snoc parts q r t (y ∷ xs) [] x g h i = absurd h
   kept_snoc parts q r t (y ∷ xs) (z ∷ gs) x g h i = (h.0, kept_snoc parts q r t xs gs x g h.1 i)
 
-  module _ (hub : HubSeen) (board : BoardSeen) (d : D) (b : Seen V) (js : List (Job S V F V D T)) (left : List (Leftover V)) (r : ReceiverSeen) (parts : List (Part V F)) (q : Progress V) (t : Tale) (ks : KeepsStreams view told fits values P hub board d b js left r parts q t) where
+  module _ (hub : HubSeen) (board : BoardSeen) (d : D) (b : Seen V) (js : List (Job S V F V D T)) (left : List (Leftover V)) (r : ReceiverSeen) (parts : List (Part V F)) (q : Progress V) (t : Tale) (ks : KeepsStreams M hub board d b js left r parts q t) where
     pub jobs_number : length js ≡ length ks.origins
     jobs_number = jobs_count hub board d parts js ks.origins ks.jobs_are
 
@@ -137,13 +133,14 @@ module _ {S V F D T : Type 0} (view : S → View V) (told : V → DeviceTold) (f
         no_origins (w ∷ ws) e = absurd (omega (arith, e))
 
     -- a call in the outer stream's name leaves them
-    module _ (again : BoardSeen) (e : D) (c : Seen V) (same : again ≡ board) (others : OthersFit view fits Outer d e) {u : ℕ} (guests : KeepsOthers u b c) (rows : KeepsRows b.seat c.seat) where
-      outer_stays : (w : Origin V F) → IsAmong w ks.origins → (j : Job S V F V D T) → IsJob view values told P w j → FitsJob view told fits j d → FitsJob view told fits j e
-      outer_stays w m j job f = (others_leave view values told P fits).outer w j d e job f others
+    module _ (again : BoardSeen) (e : D) (c : Seen V) (same : again ≡ board) (others : OthersFit M.view M.fits Outer d e) {u : ℕ} (guests : KeepsOthers u b c) where
+      outer_stays : (w : Origin V F) → IsAmong w ks.origins → (j : Job S V F V D T) → IsJob M.view M.values M.told M.stands w j → FitsJob M.view M.told M.fits j d → FitsJob M.view M.told M.fits j e
+      outer_stays w m j job f = (others_leave M.view M.values M.told M.stands M.fits).outer w j d e job f others
 
-      pub streams_stay : (outer : Option How) (set seen : List Interruption) (ceased memory : Bool) (waits : List (ℕ × List ℕ)) (next leased : ℕ) (tables : List What) (root : Option Exit)
-          → KeepsStreams view told fits values P hub again e c js left r parts (moved q waits next leased tables root) (retold t outer set seen ceased memory)
-      streams_stay outer set seen ceased memory waits next leased tables root = record {
+      -- where what was handed over stays so
+      pub streams_handed : ((y : ℕ × V) → IsAmong y b.seat.given → IsAmong y c.seat.given) → (outer : Option How) (set seen : List Interruption) (ceased memory : Bool) (waits : List (ℕ × List ℕ)) (next leased : ℕ) (tables : List What) (root : Option Exit)
+          → KeepsStreams M hub again e c js left r parts (moved q waits next leased tables root) (retold t outer set seen ceased memory)
+      streams_handed handed outer set seen ceased memory waits next leased tables root = record {
         origins = ks.origins;
         jobs_are = jobs_kept hub board again d e parts parts same (λ k x i. i) js ks.origins outer_stays ks.jobs_are;
         out = outs_others u b c q.splits (map guest_of ks.origins) guests ks.out;
@@ -153,13 +150,18 @@ module _ {S V F D T : Type 0} (view : S → View V) (told : V → DeviceTold) (f
         kept = kept_stays parts parts q (moved q waits next leased tables root) r r t (retold t outer set seen ceased memory) (λ k x i. i) refl refl refl (λ k h i. i) left ks.gone ks.kept;
         apart = ks.apart;
         numbers = ks.numbers;
-        given = λ y m z i. rows.given z (ks.given y m z i);
+        given = λ y m z i. handed z (ks.given y m z i);
         home = ks.home;
         hub_is = ks.hub_is;
         got = ks.got;
         made = ks.made;
         closed = ks.closed;
       }
+
+    module _ (again : BoardSeen) (e : D) (c : Seen V) (same : again ≡ board) (others : OthersFit M.view M.fits Outer d e) {u : ℕ} (guests : KeepsOthers u b c) (rows : KeepsRows b.seat c.seat) where
+      pub streams_stay : (outer : Option How) (set seen : List Interruption) (ceased memory : Bool) (waits : List (ℕ × List ℕ)) (next leased : ℕ) (tables : List What) (root : Option Exit)
+          → KeepsStreams M hub again e c js left r parts (moved q waits next leased tables root) (retold t outer set seen ceased memory)
+      streams_stay = streams_handed again e c same others guests rows.given
 
       -- a stream that was dealt with isn't begun
       module _ (x : Part V F) (f : Fate) (not : f ≢ tales.Fate.Begun) where
@@ -173,10 +175,10 @@ module _ {S V F D T : Type 0} (view : S → View V) (told : V → DeviceTold) (f
         opens_so k = (λ m. let o = (ks.opens k).0 m in (at_left t.fates (f ∷ []) k tales.Fate.Begun o.0, o.1), λ o. (ks.opens k).1 (begun_less k o.0, o.1))
 
         pub streams_skipped : f ≢ tales.Fate.Unmade → (outer : Option How) (set seen : List Interruption) (ceased memory : Bool) (waits : List (ℕ × List ℕ)) (next leased : ℕ) (tables : List What) (root : Option Exit)
-            → KeepsStreams view told fits values P hub again e c js left r (parts ++ x ∷ []) (moved q waits next leased tables root) (retold (fated t f) outer set seen ceased memory)
+            → KeepsStreams M hub again e c js left r (parts ++ x ∷ []) (moved q waits next leased tables root) (retold (fated t f) outer set seen ceased memory)
         streams_skipped made outer set seen ceased memory waits next leased tables root = record {
           origins = ks.origins;
-          jobs_are = jobs_kept hub board again d e parts (parts ++ x ∷ []) same grow js ks.origins outer_stays ks.jobs_are;
+          jobs_are = jobs_kept hub board again d e parts (parts ++ x ∷ []) same grow js ks.origins (outer_stays again e c same others guests) ks.jobs_are;
           out = outs_others u b c q.splits (map guest_of ks.origins) guests ks.out;
           opens = opens_so;
           begun = λ k. (λ i. (ks.begun k).0 (begun_less k i), λ m. at_left t.fates (f ∷ []) k tales.Fate.Begun ((ks.begun k).1 m));
@@ -197,10 +199,10 @@ module _ {S V F D T : Type 0} (view : S → View V) (told : V → DeviceTold) (f
 
         -- there was no memory to make it, and what was made for it is kept
         pub streams_missed : f ≡ tales.Fate.Unmade → (ds : List V) (y : Leftover V) → x ≡ Unmade ds → y.shelf ≡ [] → y.unopened ≡ ds → length parts ≡ length t.fates → ((k : ℕ) → HasCome t k → at t.fates k ≡ Some tales.Fate.Begun) → (outer : Option How) (set seen : List Interruption) (ceased memory : Bool) (waits : List (ℕ × List ℕ)) (next leased : ℕ) (tables : List What) (root : Option Exit)
-            → KeepsStreams view told fits values P hub again e c js (left ++ y ∷ []) r (parts ++ x ∷ []) (moved q waits next leased tables root) (retold (fated t f) outer set seen ceased memory)
+            → KeepsStreams M hub again e c js (left ++ y ∷ []) r (parts ++ x ∷ []) (moved q waits next leased tables root) (retold (fated t f) outer set seen ceased memory)
         streams_missed is ds y x_is shelf unopened count ours outer set seen ceased memory waits next leased tables root = record {
           origins = ks.origins;
-          jobs_are = jobs_kept hub board again d e parts (parts ++ x ∷ []) same grow js ks.origins outer_stays ks.jobs_are;
+          jobs_are = jobs_kept hub board again d e parts (parts ++ x ∷ []) same grow js ks.origins (outer_stays again e c same others guests) ks.jobs_are;
           out = outs_others u b c q.splits (map guest_of ks.origins) guests ks.out;
           opens = opens_so;
           begun = λ k. (λ i. (ks.begun k).0 (begun_less k i), λ m. at_left t.fates (f ∷ []) k tales.Fate.Begun ((ks.begun k).1 m));
@@ -235,7 +237,7 @@ module _ {S V F D T : Type 0} (view : S → View V) (told : V → DeviceTold) (f
 
     -- the next stream began
     module _ (e : D) (c : Seen V) (w : Origin V F) (x : Part V F) (j : Job S V F V D T) (m : Split) (is : w.stream ≡ length parts) (count : length parts ≡ length t.fates) (ours : (k : ℕ) → HasCome t k → at t.fates k ≡ Some tales.Fate.Begun) (split : m.stream ≡ length parts)
-        (stays : (v : Origin V F) → IsAmong v ks.origins → (y : Job S V F V D T) → IsJob view values told P v y → FitsJob view told fits y d → FitsJob view told fits y e) (job : IsJobOf view told fits values P hub board e (parts ++ x ∷ []) j w) (out : AreOut c (q.splits ++ m ∷ []) (map guest_of ks.origins ++ guest_of w ∷ [])) (given : (z : ℕ × V) → IsAmong z b.seat.given → IsAmong z c.seat.given) where
+        (stays : (v : Origin V F) → IsAmong v ks.origins → (y : Job S V F V D T) → IsJob M.view M.values M.told M.stands v y → FitsJob M.view M.told M.fits y d → FitsJob M.view M.told M.fits y e) (job : IsJobOf M hub board e (parts ++ x ∷ []) j w) (out : AreOut c (q.splits ++ m ∷ []) (map guest_of ks.origins ++ guest_of w ∷ [])) (given : (z : ℕ × V) → IsAmong z b.seat.given → IsAmong z c.seat.given) where
       abbrev fates : List Fate
       fates = t.fates ++ tales.Fate.Begun ∷ []
 
@@ -248,7 +250,7 @@ module _ {S V F D T : Type 0} (view : S → View V) (told : V → DeviceTold) (f
       began : (k : ℕ) → at fates k ≡ Some tales.Fate.Begun → (at t.fates k ≡ Some tales.Fate.Begun) ⊎ (k ≡ length parts)
       began k i = ⊎_elim (λ o. inl o) (λ n. inr (n.0 ∙ sym count)) (at_snoc t.fates tales.Fate.Begun k tales.Fate.Begun i)
 
-      pub streams_begun : (waits : List (ℕ × List ℕ)) (next : ℕ) → KeepsStreams view told fits values P hub board e c (js ++ j ∷ []) left (record r { made = r.made ++ length parts ∷ [] }) (parts ++ x ∷ []) (record q { splits = q.splits ++ m ∷ []; waits = waits; next = next }) (fated t tales.Fate.Begun)
+      pub streams_begun : (waits : List (ℕ × List ℕ)) (next : ℕ) → KeepsStreams M hub board e c (js ++ j ∷ []) left (record r { made = r.made ++ length parts ∷ [] }) (parts ++ x ∷ []) (record q { splits = q.splits ++ m ∷ []; waits = waits; next = next }) (fated t tales.Fate.Begun)
       streams_begun waits next = record {
         origins = ks.origins ++ w ∷ [];
         jobs_are = jobs_snoc hub board e (parts ++ x ∷ []) js ks.origins j w (jobs_kept hub board board d e parts (parts ++ x ∷ []) refl (λ k y i. at_left parts (x ∷ []) k y i) js ks.origins stays ks.jobs_are) job;

@@ -24,9 +24,9 @@ use Rattle.join_tale.specs.Tales.{Fate, IsFoundSet, IsKnown, Tale}
 use Rattle.join_tale.specs.Keeping.{IsOuterStopped, IsOwnCode, IsTale}
 use Rattle.join_tale.proofs.Growing.{marked_caused, marked_known}
 use Rattle.join_tale.proofs.Steps as steps
-use Rattle.pipeline_desc.specs.Meant.{PlanMeant}
-use Rattle.run_rules.specs.Work.{Work}
-use Rattle.dealt_streams.specs.Works.{bare_work}
+use Rattle.join_tale.specs.Bounds.{Bounds}
+use Rattle.pipeline_desc.specs.Meant.{PlanMeant, stream_limit}
+use Rattle.dealt_streams.specs.Works.{plan_bounds}
 use Rattle.collector.specs.Collecting.{KeepsTale, WritesTale}
 
 -- nothing was learned
@@ -41,10 +41,10 @@ module _ (p : PlanMeant) (outer : Option How) (report : Report) (stops : Stops) 
   -- contexts were found set
   pub tale_learns : (again : Stops) (cs : List Interruption) → Learns stops again [] cs → IsSeated again → KeepsTale p outer report again out old new fates (learned t [] cs)
   tale_learns again cs l seated = record {
-    is_tale = steps.learns (bare_work p) t kt.is_tale [] cs (λ context w m. absurd (among_nil m));
+    is_tale = steps.learns (plan_bounds p) t kt.is_tale [] cs (λ context w m. absurd (among_nil m));
     fates_are = kt.fates_are;
     outer_is = kt.outer_is;
-    report_is = reports.learns p.take (length p.streams) t report kt.report_is [] cs;
+    report_is = reports.learns p.take (stream_limit p) t report kt.report_is [] cs;
     known = learns_known t stops again [] cs kt.known l;
     seated = seated;
     seats = l.out ∙ kt.seats;
@@ -53,12 +53,12 @@ module _ (p : PlanMeant) (outer : Option How) (report : Report) (stops : Stops) 
   }
 
   -- the next stream was skipped
-  pub tale_skips : IsFoundSet t 0 ⊎ IsOwnCode (bare_work p) t (length t.fates) ⊎ IsOuterStopped t → KeepsTale p outer report stops out old new (fates ++ tales.Fate.Skipped ∷ []) (fated t tales.Fate.Skipped)
+  pub tale_skips : IsFoundSet t 0 ⊎ IsOwnCode (plan_bounds p) t (length t.fates) ⊎ IsOuterStopped t → KeepsTale p outer report stops out old new (fates ++ tales.Fate.Skipped ∷ []) (fated t tales.Fate.Skipped)
   tale_skips cause = record {
-    is_tale = steps.skips (bare_work p) t kt.is_tale cause;
+    is_tale = steps.skips (plan_bounds p) t kt.is_tale cause;
     fates_are = ap (λ fs. fs ++ tales.Fate.Skipped ∷ []) kt.fates_are;
     outer_is = kt.outer_is;
-    report_is = reports.fates p.take (length p.streams) t report kt.report_is tales.Fate.Skipped (λ e. cc);
+    report_is = reports.fates p.take (stream_limit p) t report kt.report_is tales.Fate.Skipped (λ e. cc);
     known = record { set = kt.known.set; seen = kt.known.seen };
     seated = kt.seated;
     seats = kt.seats;
@@ -67,12 +67,12 @@ module _ (p : PlanMeant) (outer : Option How) (report : Report) (stops : Stops) 
   }
 
   -- the outer stream ended
-  pub tale_closes : (h : How) (again : Stops) (told : Report) (vs cs : List Interruption) → outer ≡ None → Learns stops again vs cs → IsSeated again → EndsOuter h report told → TellsOuter (bare_work p) (learned (outer_ended t h) vs cs) h vs → KeepsTale p (Some h) told again out old new fates (learned (outer_ended t h) vs cs)
+  pub tale_closes : (h : How) (again : Stops) (told : Report) (vs cs : List Interruption) → outer ≡ None → Learns stops again vs cs → IsSeated again → EndsOuter h report told → TellsOuter (plan_bounds p) (learned (outer_ended t h) vs cs) h vs → KeepsTale p (Some h) told again out old new fates (learned (outer_ended t h) vs cs)
   tale_closes h again told vs cs none l seated ends tells = record {
-    is_tale = steps.outer_ends (bare_work p) t kt.is_tale h vs cs (kt.outer_is ∙ none) tells;
+    is_tale = steps.outer_ends (plan_bounds p) t kt.is_tale h vs cs (kt.outer_is ∙ none) tells;
     fates_are = kt.fates_are;
     outer_is = refl;
-    report_is = reports.learns p.take (length p.streams) (outer_ended t h) told (ends p.take (length p.streams) t kt.report_is) vs cs;
+    report_is = reports.learns p.take (stream_limit p) (outer_ended t h) told (ends p.take (stream_limit p) t kt.report_is) vs cs;
     known = learns_known (outer_ended t h) stops again vs cs (record { set = kt.known.set; seen = kt.known.seen }) l;
     seated = seated;
     seats = l.out ∙ kt.seats;
@@ -83,10 +83,10 @@ module _ (p : PlanMeant) (outer : Option How) (report : Report) (stops : Stops) 
   -- there was no memory to make the next stream
   pub tale_misses : (k : ℕ) (again : Stops) (told : Report) (vs cs : List Interruption) → length t.fates ≡ k → Marks 0 why.Memory vs cs → Learns stops again vs cs → IsSeated again → MissesStream k report told → KeepsTale p outer told again out old new (fates ++ tales.Fate.Unmade ∷ []) (learned (unmade t) vs cs)
   tale_misses k again told vs cs count mark l seated misses = record {
-    is_tale = steps.wants (bare_work p) t kt.is_tale vs cs mark;
+    is_tale = steps.wants (plan_bounds p) t kt.is_tale vs cs mark;
     fates_are = ap (λ fs. fs ++ tales.Fate.Unmade ∷ []) kt.fates_are;
     outer_is = kt.outer_is;
-    report_is = reports.learns p.take (length p.streams) (unmade t) told (misses p.take (length p.streams) t kt.report_is count) vs cs;
+    report_is = reports.learns p.take (stream_limit p) (unmade t) told (misses p.take (stream_limit p) t kt.report_is count) vs cs;
     known = learns_known (unmade t) stops again vs cs (record { set = kt.known.set; seen = kt.known.seen }) l;
     seated = seated;
     seats = l.out ∙ kt.seats;
@@ -95,12 +95,12 @@ module _ (p : PlanMeant) (outer : Option How) (report : Report) (stops : Stops) 
   }
 
   -- the next stream began
-  pub tale_begins : IsSeated (with_seat_out stops) → MayBegin (bare_work p) t → KeepsTale p outer report (with_seat_out stops) (out + 1) old new (fates ++ tales.Fate.Begun ∷ []) (fated t tales.Fate.Begun)
+  pub tale_begins : IsSeated (with_seat_out stops) → MayBegin (plan_bounds p) t → KeepsTale p outer report (with_seat_out stops) (out + 1) old new (fates ++ tales.Fate.Begun ∷ []) (fated t tales.Fate.Begun)
   tale_begins seated may = record {
-    is_tale = steps.begins (bare_work p) t kt.is_tale may;
+    is_tale = steps.begins (plan_bounds p) t kt.is_tale may;
     fates_are = ap (λ fs. fs ++ tales.Fate.Begun ∷ []) kt.fates_are;
     outer_is = kt.outer_is;
-    report_is = reports.fates p.take (length p.streams) t report kt.report_is tales.Fate.Begun (λ e. cc);
+    report_is = reports.fates p.take (stream_limit p) t report kt.report_is tales.Fate.Begun (λ e. cc);
     known = record { set = kt.known.set; seen = kt.known.seen };
     seated = seated;
     seats = ap (λ n. n + 1) kt.seats;
@@ -113,34 +113,34 @@ module _ (p : PlanMeant) (outer : Option How) (report : Report) (stops : Stops) 
   found_so context w m = (w, subst (λ l. IsAmong (interruption context w) l) (sym kt.known.seen) m)
 
 -- where nothing is known of the whole run the outer stream gave all streams, if it has ended
-pub outer_done : (work : Work) (t : Tale) → IsTale work t → ¬ (IsKnown t 0) → (h : How) → t.outer ≡ Some h → h ≡ how.Done
-outer_done work t i free how.Done e = refl
-outer_done work t i free how.Halted e = absurd (free (inr (i.fates.outer_halted e)))
-outer_done work t i free (how.Fault c) e = absurd (free (i.fates.outer_fault c e))
-outer_done work t i free how.Memory e = absurd (free (i.stop (wanting t.ceased refl)))
+pub outer_done : (bounds : Bounds) (t : Tale) → IsTale bounds t → ¬ (IsKnown t 0) → (h : How) → t.outer ≡ Some h → h ≡ how.Done
+outer_done bounds t i free how.Done e = refl
+outer_done bounds t i free how.Halted e = absurd (free (inr (i.fates.outer_halted e)))
+outer_done bounds t i free (how.Fault c) e = absurd (free (i.fates.outer_fault c e))
+outer_done bounds t i free how.Memory e = absurd (free (i.stop (wanting t.ceased refl)))
   where
     wanting : (b : Bool) → t.ceased ≡ b → t.ceased ≡ true
     wanting true q = q
     wanting false q = let z : false ≡ true = sym (i.frames.quiet q).2 ∙ i.fates.outer_memory e in cc
 
 -- what is told where the outer stream ends: it gave all streams, or it found a code, or it set one at a fault or for want of memory
-pub tells_done : (p : PlanMeant) (u : Tale) → TellsOuter (bare_work p) u how.Done []
+pub tells_done : (p : PlanMeant) (u : Tale) → TellsOuter (plan_bounds p) u how.Done []
 tells_done p u = record { caused = λ context w m. absurd (among_nil m); halted = λ e. cc; fault = λ c e. cc; memory = λ e. cc }
 
-pub tells_halted : (p : PlanMeant) (u : Tale) → IsFoundSet u 0 → TellsOuter (bare_work p) u how.Halted []
+pub tells_halted : (p : PlanMeant) (u : Tale) → IsFoundSet u 0 → TellsOuter (plan_bounds p) u how.Halted []
 tells_halted p u f = record { caused = λ context w m. absurd (among_nil m); halted = λ e. f; fault = λ c e. cc; memory = λ e. cc }
 
-pub tells_fault : (p : PlanMeant) (t : Tale) (c : Code) (vs cs : List Interruption) → Marks 0 why.Fault vs cs → TellsOuter (bare_work p) (learned (outer_ended t (how.Fault c)) vs cs) (how.Fault c) vs
+pub tells_fault : (p : PlanMeant) (t : Tale) (c : Code) (vs cs : List Interruption) → Marks 0 why.Fault vs cs → TellsOuter (plan_bounds p) (learned (outer_ended t (how.Fault c)) vs cs) (how.Fault c) vs
 tells_fault p t c vs cs mark = record {
-  caused = marked_caused (bare_work p) (learned (outer_ended t (how.Fault c)) vs cs) 0 why.Fault vs cs mark (refl, inr (c, refl));
+  caused = marked_caused (plan_bounds p) (learned (outer_ended t (how.Fault c)) vs cs) 0 why.Fault vs cs mark (refl, inr (c, refl));
   halted = λ e. cc;
   fault = λ d e. marked_known (outer_ended t (how.Fault c)) 0 why.Fault vs cs mark;
   memory = λ e. cc;
 }
 
-pub tells_memory : (p : PlanMeant) (t : Tale) (vs cs : List Interruption) → Marks 0 why.Memory vs cs → TellsOuter (bare_work p) (learned (outer_ended t how.Memory) vs cs) how.Memory vs
+pub tells_memory : (p : PlanMeant) (t : Tale) (vs cs : List Interruption) → Marks 0 why.Memory vs cs → TellsOuter (plan_bounds p) (learned (outer_ended t how.Memory) vs cs) how.Memory vs
 tells_memory p t vs cs mark = record {
-  caused = marked_caused (bare_work p) (learned (outer_ended t how.Memory) vs cs) 0 why.Memory vs cs mark (refl, or_true t.memory);
+  caused = marked_caused (plan_bounds p) (learned (outer_ended t how.Memory) vs cs) 0 why.Memory vs cs mark (refl, or_true t.memory);
   halted = λ e. cc;
   fault = λ d e. cc;
   memory = λ e. marked_known (outer_ended t how.Memory) 0 why.Memory vs cs mark;

@@ -1,5 +1,5 @@
 -- How a collector begins, and what its small calls do.
-use Rattle.std.specs.Prelude.{◌≡◌, ◌≢◌, ◌⊎◌, ℕ, ◌+◌, ◌*◌, ◌≤◌, Bool, true, false, List, [], ◌∷◌, ◌++◌, length, Option, Some, None, IsSome, vec_capacity}
+use Rattle.std.specs.Prelude.{◌≡◌, ◌≢◌, ◌⊎◌, ℕ, ◌+◌, ◌*◌, ◌≤◌, Bool, true, List, [], ◌∷◌, ◌++◌, length, option_to_list, Option, Some, None, IsSome, vec_capacity}
 use Rattle.std.specs.VecDeque.{deque_capacity}
 use Rattle.chunk_core.specs.Lists.{IsAmong}
 use Rattle.chunk_core.specs.Outcomes.{exit_of}
@@ -15,21 +15,23 @@ use Rattle.interrupt_ctx.specs.declared.why.Why.TheVariants as why
 use Rattle.join_report.specs.Reports.{IsReport}
 use Rattle.join_report.specs.Stopping.{IsSeated, IsUnknown, view_of, with_seat_out}
 use Rattle.join_tale.specs.Steps.{first_tale}
+use Rattle.join_tree.specs.Given.{GivesMore}
 use Rattle.join_tree.specs.Mains.{IsMain}
 use Rattle.join_tree.specs.Progress.{Progress, closing_root, none_done, skipping}
 use Rattle.join_tree.specs.Steps.{KeepsGuests, KeepsRows, TakesEvents}
-use Rattle.pipeline_desc.specs.Meant.{PlanMeant}
-use Rattle.pipeline_desc.specs.Places.{first_row}
+pub use Rattle.outer_source.specs.Standing.{unpulled}
+use Rattle.pipeline_desc.specs.Meant.{PlanMeant, stream_limit}
+use Rattle.pipeline_desc.specs.Places.{first_row, outer_rows}
+use Rattle.pipeline_desc.specs.Sound.{IsSoundPlan}
 use Rattle.pull_nodes.specs.Shape.{places_of, scope_count}
 use Rattle.pull_nodes.specs.declared.node.Node.{Node}
 use Rattle.pull_stepper.specs.Held.{FinishesDevice}
 use Rattle.pull_stepper.specs.Placing.{first_of}
 use Rattle.pull_stepper.specs.Stepping.{begun}
-use Rattle.pull_turns.specs.Piping.{StateMeaning}
 use Rattle.res_ledger.specs.declared.event.StreamNo.TheVariants.{Outer}
 use Rattle.row_seat.specs.declared.view.View.{View}
 use Rattle.row_seat.specs.Views.{IsWithin, start}
-use Rattle.scope_tree.specs.Calls.{Seen, used}
+use Rattle.scope_tree.specs.Calls.{KeepsScopes, Seen, TakesRoom, used}
 use Rattle.scope_tree.specs.Released.{away}
 use Rattle.scope_tree.specs.declared.room.Room.{Room}
 use Rattle.scope_tree.specs.Trees.{Fits, seen}
@@ -40,47 +42,60 @@ use Rattle.stream_jobs.specs.Running.{Origin}
 use Rattle.stream_jobs.specs.Unmade.{IsOfNode}
 use Rattle.collector.specs.declared.collector.Collector.{Collector}
 use Rattle.collector.specs.declared.collector.JoinRoom.{JoinRoom}
-use Rattle.collector.specs.Collecting.{events_from}
+use Rattle.dealt_streams.specs.Standing.{plan_parts}
+use Rattle.collector.specs.Members.{Members}
+use Rattle.collector.specs.Trees.{events_from}
 
 -- Room for the streams of a plan: the board, on which nothing is set, with its first seat; a channel in which nothing was sent, which queues as many messages as the plan says; a report in which nothing was noted; and no lease, no job and nothing that was left.
 pub record IsRoomFor {S V F D T : Type 0} (p : PlanMeant) (r : JoinRoom S V F D T) : Type 0 where
   pub seated : IsSeated r.stops
   pub seat : r.stops.seat ≡ first_seat r.stops.board.id
-  pub contexts : r.stops.board.contexts ≡ length p.streams + 1
+  pub contexts : r.stops.board.contexts ≡ stream_limit p + 1
   pub receiver : r.receiver ≡ record { hub = r.hub.id; got = []; made = []; closed = [] }
   pub queue : r.hub.capacity ≡ p.queue
-  pub some : p.take ≢ Some 0 → IsReport p.take (length p.streams) first_tale r.report
-  pub none : p.take ≡ Some 0 → IsReport p.take (length p.streams) (record first_tale { ceased = true }) r.report
+  pub some : p.take ≢ Some 0 → IsReport p.take (stream_limit p) first_tale r.report
+  pub none : p.take ≡ Some 0 → IsReport p.take (stream_limit p) (record first_tale { ceased = true }) r.report
   pub waiting : r.queues.waiting.items ≡ []
   pub waiting_room : deque_capacity r.queues.waiting ≡ 2
   pub jobs : r.queues.jobs.items ≡ []
   pub jobs_room : deque_capacity r.queues.jobs ≡ p.max_open
   pub left : r.left.items ≡ []
-  pub left_room : length p.streams ≤ vec_capacity r.left
+  pub left_room : stream_limit p ≤ vec_capacity r.left
+  pub parts : r.parts ≡ plan_parts p
 
 -- what a collector took for good
 abbrev pub room_of : {S V F D T : Type 0} → Collector S V F D T → JoinRoom S V F D T
-room_of c = record { stops = c.stops; hub = c.hub; receiver = c.receiver; report = c.report; queues = record { waiting = c.waiting; jobs = c.jobs }; left = c.left }
+room_of c = record { stops = c.stops; hub = c.hub; receiver = c.receiver; report = c.report; queues = record { waiting = c.waiting; jobs = c.jobs }; left = c.left; parts = c.parts }
 
--- The seat is the main one, with all rows of a plan, and room for all events and seats of its streams and for those of its tables.
+-- the scopes that the outer stream opens at most: one for each group, and one for the list
+abbrev pub child_scopes : PlanMeant → ℕ
+child_scopes p = length p.groups + length (option_to_list p.list)
+
+-- the events that it notes at most beside its leases and the Close of its root: an Acquire and a Final for each of its rows, and an Open and a Close for each of these scopes
+abbrev pub outer_events : PlanMeant → ℕ
+outer_events p = 2 * outer_rows p + 2 * child_scopes p
+
+-- The seat is the main one, with all rows of a plan, and room for all events and seats of its streams and of its outer stream.
 pub record IsFirstSeat {P : Type 0} (p : PlanMeant) (v : View P) : Type 0 where
   pub rows : ℕ
   pub events : ℕ
   pub splits : ℕ
   pub is : v ≡ start Outer rows events splits
-  pub all_rows : first_row p (length p.streams) ≤ rows
-  pub all_events : 2 * length p.tables + 1 + length p.streams + events_from p 0 ≤ events
-  pub all_splits : length p.streams ≤ splits
+  pub all_rows : first_row p (stream_limit p) ≤ rows
+  pub all_events : 1 + outer_events p + stream_limit p + events_from p 0 ≤ events
+  pub all_splits : stream_limit p ≤ splits
 
--- the collector of a plan is about to begin, over a main tree that has just begun, with room for the rows of the tables
-pub record IsFresh {S V F D T : Type 0} (view : S → View V) (told : V → DeviceTold) (fits : S → D → Type 0) (p : PlanMeant) (d : D) (c : Collector S V F D T) : Type 0 where
-  pub fits_desk : Fits view fits c.tree d
-  pub main : IsMain (FinishesDevice told) p.max_open (length p.streams) (seen view c.tree) (none_done V)
-  pub seat : IsFirstSeat p (seen view c.tree).seat
-  pub rows : length p.tables ≤ (seen view c.tree).rows
-  pub used : used (seen view c.tree) ≡ 0
+-- the collector of a plan is about to begin, over a main tree that has just begun, with room for the rows and the scopes of the outer stream
+pub record IsFresh {S V F D T : Type 0} (M : Members S V F D T) (p : PlanMeant) (d : D) (c : Collector S V F D T) : Type 0 where
+  pub sound : IsSoundPlan p
+  pub fits_desk : Fits M.view M.fits c.tree d
+  pub main : IsMain (FinishesDevice M.told) p.max_open (stream_limit p) (seen M.view c.tree) (none_done V)
+  pub seat : IsFirstSeat p (seen M.view c.tree).seat
+  pub rows : outer_rows p ≤ (seen M.view c.tree).rows
+  pub used : used (seen M.view c.tree) ≡ 0
+  pub scopes : 1 + child_scopes p ≤ (seen M.view c.tree).scopes
   pub outer : c.outer ≡ None
-  pub given : c.outer_stream ≡ record { leased = 0; begun = false; tables = [] }
+  pub given : c.outer_stream ≡ unpulled
   pub next : c.next ≡ 0
   pub room : IsRoomFor p (room_of c)
 
@@ -90,6 +105,10 @@ module _ {P : Type 0} (ends : P → Exit → Bool → P → Type 0) where
     pub main : (width n : ℕ) (p : Progress P) (us : List (ℕ × List ℕ)) → IsMain ends width n a p → p.waits ≡ (j, T) ∷ us → IsMain ends width n b (skipping p us)
     pub guests : KeepsGuests a b
     pub rows : KeepsRows a.seat b.seat
+    pub scopes : KeepsScopes a b
+    pub room : TakesRoom 0 0 a b
+    pub gives : GivesMore [] a b
+    pub opened : b.seat.opened ≡ a.seat.opened
     pub events : TakesEvents (1 + away T a.seat.opened) a b
 
   -- the root was closed as the outer stream ended
@@ -97,6 +116,7 @@ module _ {P : Type 0} (ends : P → Exit → Bool → P → Type 0) where
     pub main : (width n : ℕ) (p : Progress P) → IsMain ends width n a p → p.root ≡ None → IsMain ends width n b (closing_root p (exit_of h))
     pub guests : KeepsGuests a b
     pub rows : KeepsRows a.seat b.seat
+    pub gives : GivesMore [] a b
     pub events : TakesEvents 0 a b
 
 -- why the run is interrupted where the outer stream is over so: it failed, or memory was wanting
@@ -112,7 +132,7 @@ MaySkip c = ((w : Why) × IsAmong (interruption 0 w) (view_of c.stops).seen) ⊎
 
 -- where the whole run is known to be interrupted, the outer stream has ended, and gave no further stream
 abbrev pub GivesNoneIfStopped : {S V F D T : Type 0} → Collector S V F D T → Collector S V F D T → Type 0
-GivesNoneIfStopped old new = (w : Why) → old.outer ≡ None → Knows (view_of old.stops) 0 w → IsSome new.outer × (new.outer_stream.leased ≡ old.outer_stream.leased)
+GivesNoneIfStopped old new = (w : Why) → old.outer ≡ None → Knows (view_of old.stops) 0 w → IsSome new.outer × (new.outer_stream.outer.leased ≡ old.outer_stream.outer.leased)
 
 -- a further stream waits, or the outer stream has ended
 abbrev pub IsAhead : {S V F D T : Type 0} → Collector S V F D T → Type 0
@@ -138,11 +158,11 @@ abbrev pub with_seats_out : {S V F D T : Type 0} → Collector S V F D T → Col
 with_seats_out c = record c { stops = with_seat_out c.stops; receiver = record c.receiver { made = c.receiver.made ++ c.next ∷ [] } }
 
 -- The job of the next stream was made over a tree whose seat stood so: it is of such an origin, fits the desk, and is at the hub and at the board.
-pub record MakesJob {S V F D T : Type 0} (view : S → View V) (told : V → DeviceTold) (fits : S → D → Type 0) (values : T → Values) (P : Values → StateMeaning F) (c : Collector S V F D T) (v : View V) (rows : List ℕ) (n : Node) (ds : List V) (t : Values) (chunk : ℕ) (d : D) (j : Job S V F V D T) : Type 0 where
+pub record MakesJob {S V F D T : Type 0} (M : Members S V F D T) (c : Collector S V F D T) (v : View V) (rows : List ℕ) (n : Node) (ds : List V) (t : Values) (chunk : ℕ) (d : D) (j : Job S V F V D T) : Type 0 where
   pub site : Seen V
   pub seat : site.seat ≡ v
   pub scopes : site.scopes ≡ scope_count n + 1
-  pub is_of : IsOfNode told n site ds (origin_of c rows n site ds t chunk)
-  pub job : IsJob view values told P (origin_of c rows n site ds t chunk) j
-  pub fits_desk : FitsJob view told fits j d
-  pub place : IsAt (seen_job view values j) c.hub c.stops.board
+  pub is_of : IsOfNode M.told n site ds (origin_of c rows n site ds t chunk)
+  pub job : IsJob M.view M.values M.told M.stands (origin_of c rows n site ds t chunk) j
+  pub fits_desk : FitsJob M.view M.told M.fits j d
+  pub place : IsAt (seen_job M.view M.values j) c.hub c.stops.board

@@ -1,10 +1,9 @@
 //! The collector's own state.
-ghost use Rattle.std.specs.Prelude.{◌≡◌, ℕ, ◌+◌, ◌-◌, ◌^◌, ◌<◌, ◌≤◌, ◌∷◌, [], List, Some, None, IfOk, false};
+ghost use Rattle.std.specs.Prelude.{◌≡◌, ℕ, ◌+◌, ◌-◌, ◌^◌, ◌<◌, ◌≤◌, ◌∷◌, [], List, Some, None, IfOk, length, max};
 ghost use Rattle.std.specs.VecDeque.{deque_capacity};
 ghost use Rattle.join_report.specs.Calls.{EndsOuter};
 ghost use Rattle.join_tree.specs.Mains.{IsMain};
 ghost use Rattle.join_tree.specs.Progress.{Progress};
-ghost use Rattle.pipeline_desc.specs.Sound.{IsSoundPlan};
 ghost use Rattle.pull_stepper.specs.Held.{FinishesDevice};
 ghost use Rattle.res_ledger.specs.declared.event.StreamNo.TheVariants.{Outer as outer_name};
 ghost use Rattle.row_seat.specs.Views.{OthersFit};
@@ -12,16 +11,19 @@ ghost use Rattle.scope_tree.specs.Released.{away};
 ghost use Rattle.scope_tree.specs.Trees.{Fits, seen};
 ghost use Rattle.scope_tree.specs.Trace.{owed};
 ghost use Rattle.scope_tree.specs.Visible.{lessee, rows_covered};
-ghost use Rattle.collector.specs.Starting.{ClosesOuter, IsRoomFor, PassesOver};
+ghost use Rattle.collector.specs.Starting.{ClosesOuter, IsRoomFor, PassesOver, unpulled};
 
 use crate::filled::Filled;
+use crate::parts::parts_of;
+use crate::waiting::Waiting;
 use channel_bounded::{Hub, HubRef, Receiver};
-use chunk_core::How;
+use chunk_core::{How, List};
 use dealt_streams::Leftover;
 use device_port::Device;
 use join_report::{Report, Stops};
 use join_tree::{cancel_waiting, close_outer};
-use outer_stream::Outer;
+use outer_source::OuterSource;
+use outer_stream::OuterPart;
 use pipeline_desc::Plan;
 use pull_nodes::PipeState;
 use pull_stepper::Held;
@@ -31,14 +33,14 @@ use std::alloc::{AllocError, Global};
 use std::collections::VecDeque;
 use stream_workers::Open;
 
-/// The leases that wait, and the jobs of the open streams.
+/// The streams that wait, and the jobs of the open ones.
 pub(crate) struct Queues<S: RowSeat<Pay = Held<V>>, V: Device, F: PipeState> {
-    pub(crate) waiting: VecDeque<Lease>,
+    pub(crate) waiting: VecDeque<Waiting>,
     pub(crate) jobs: VecDeque<Open<S, V, F>>,
 }
 
 impl<S: RowSeat<Pay = Held<V>>, V: Device, F: PipeState> Queues<S, V, F> {
-    /// Room for two leases and so many jobs.
+    /// Room for two streams that wait and so many jobs.
     fn new(alloc: Global, max_open: u32) -> Result<Queues<S, V, F>, AllocError>
         ensures waiting { IfOk result (λ q. (q.waiting.items ≡ []) × (deque_capacity q.waiting ≡ 2)) }
         ensures jobs { IfOk result (λ q. (q.jobs.items ≡ []) × (deque_capacity q.jobs ≡ max_open)) }
@@ -62,20 +64,21 @@ pub struct JoinRoom<S: RowSeat<Pay = Held<V>>, V: Device, F: PipeState> {
     pub(crate) report: Report,
     pub(crate) queues: Queues<S, V, F>,
     pub(crate) left: Vec<Leftover<V>>,
+    pub(crate) parts: List<OuterPart>,
 }
 
 impl<V: Device + Drop, S: RowSeat<Pay = Held<V>>, F: PipeState> JoinRoom<S, V, F> {
-    /// Room for the streams of a plan.
+    /// Room for the streams of a plan, as many as there may be.
     pub fn new(alloc: Global, plan: &Plan) -> Result<JoinRoom<S, V, F>, AllocError>
-        requires limits { IsSoundPlan plan.now }
         ensures { IfOk result (IsRoomFor plan.now) }
     {
-        let streams = plan.streams().len() as u32;
+        let streams = plan.stream_limit();
         let stops = Stops::new(alloc, streams)?;
         let (hub, receiver) = Hub::new(alloc, plan.queue())?;
         let hub = HubRef::new(alloc, hub)?;
         let report = Report::new(alloc, streams, plan.take())?;
         let left = Vec::with_capacity(alloc, streams as usize)?;
+        let parts = parts_of(alloc, plan)?;
         let queues = Queues::new(alloc, plan.max_open())?;
         Ok(JoinRoom {
             stops,
@@ -84,6 +87,7 @@ impl<V: Device + Drop, S: RowSeat<Pay = Held<V>>, F: PipeState> JoinRoom<S, V, F
             report,
             queues,
             left,
+            parts,
         })
     }
 }
@@ -97,29 +101,31 @@ pub struct Collector<S: RowSeat<Pay = Held<V>>, V: Device, F: PipeState> {
     pub(crate) report: Report,
     /// How the outer stream ended, once it has.
     pub(crate) outer: Option<How>,
-    /// The outer stream, which gives the streams.
-    pub(crate) outer_stream: Outer,
+    /// The outer stream, which gives the streams, and its parts.
+    pub(crate) outer_stream: OuterSource,
+    pub(crate) parts: List<OuterPart>,
     /// The first stream that wasn't dealt with.
     pub(crate) next: u32,
-    /// The leases of the streams that wait, of which there are at most two.
-    pub(crate) waiting: VecDeque<Lease>,
+    /// The streams that wait, of which there are at most two.
+    pub(crate) waiting: VecDeque<Waiting>,
     pub(crate) jobs: VecDeque<Open<S, V, F>>,
     pub(crate) left: Vec<Leftover<V>>,
 }
 
 /// What is left of a collector: the main tree, which may be settled, what is reported, how the outer
-/// stream ended, and the devices of the streams.
+/// stream ended, how many streams there were, and their devices.
 pub struct Ended<S: RowSeat, V> {
     pub tree: Tree<S>,
     pub report: Report,
     pub outer: How,
+    pub streams: u32,
     pub left: Vec<Leftover<V>>,
 }
 
 impl<V: Device + Drop, S: RowSeat<Pay = Held<V>>, F: PipeState> Collector<S, V, F> {
     /// The collector of a main tree that has begun.
     pub fn new(alloc: Global, tree: Tree<S>, room: JoinRoom<S, V, F>) -> Collector<S, V, F>
-        ensures { result ≡ record { tree = tree; stops = room.stops; hub = room.hub; receiver = room.receiver; report = room.report; outer = None; outer_stream = record { leased = 0; begun = false; tables = [] }; next = 0; waiting = room.queues.waiting; jobs = room.queues.jobs; left = room.left } }
+        ensures { result ≡ record { tree = tree; stops = room.stops; hub = room.hub; receiver = room.receiver; report = room.report; outer = None; outer_stream = unpulled; parts = room.parts; next = 0; waiting = room.queues.waiting; jobs = room.queues.jobs; left = room.left } }
     {
         let JoinRoom {
             stops,
@@ -128,6 +134,7 @@ impl<V: Device + Drop, S: RowSeat<Pay = Held<V>>, F: PipeState> Collector<S, V, 
             report,
             queues,
             left,
+            parts,
         } = room;
         let Queues { waiting, jobs } = queues;
         Collector {
@@ -137,7 +144,8 @@ impl<V: Device + Drop, S: RowSeat<Pay = Held<V>>, F: PipeState> Collector<S, V, 
             receiver,
             report,
             outer: None,
-            outer_stream: Outer::new(alloc),
+            outer_stream: OuterSource::new(alloc),
+            parts,
             next: 0,
             waiting,
             jobs,
@@ -145,15 +153,19 @@ impl<V: Device + Drop, S: RowSeat<Pay = Held<V>>, F: PipeState> Collector<S, V, 
         }
     }
 
-    /// What is left once no stream waits and none is open.
-    pub fn into_ended(self) -> Ended<S, V>
+    /// What is left once no stream waits and none is open. The streams are those that the plan describes,
+    /// and those of its list that were given.
+    pub fn into_ended(self, plan: &Plan) -> Ended<S, V>
         requires waiting { self.waiting.items ≡ [] }
         requires jobs { self.jobs.items ≡ [] }
         ensures tree { result.tree ≡ self.tree }
         ensures report { result.report ≡ self.report }
         ensures outer { (h : How) → self.outer ≡ Some h → result.outer ≡ h }
+        ensures streams { result.streams ≡ max (length plan.now.streams) self.outer_stream.outer.leased }
         ensures left { result.left ≡ self.left }
     {
+        let described = plan.streams().len() as u32;
+        let streams = described.max(self.outer_stream.outer.leased);
         let Collector {
             tree,
             report,
@@ -161,10 +173,11 @@ impl<V: Device + Drop, S: RowSeat<Pay = Held<V>>, F: PipeState> Collector<S, V, 
             waiting,
             jobs,
             left,
+            outer_stream: _,
             stops: _,
             hub: _,
             receiver: _,
-            outer_stream: _,
+            parts: _,
             next: _,
         } = self;
         waiting.destroy_empty();
@@ -173,6 +186,7 @@ impl<V: Device + Drop, S: RowSeat<Pay = Held<V>>, F: PipeState> Collector<S, V, 
             tree,
             report,
             outer: outer.unwrap_or(How::Halted),
+            streams,
             left,
         }
     }

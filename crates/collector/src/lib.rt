@@ -5,7 +5,8 @@
 //! `AllocError`. `Collector::new` is the collector of a main tree that has begun (`join_tree::begin`).
 //!
 //! `Collector::run` opens the outer stream, which reads its tables, and goes round until no stream waits
-//! and none is open. A round begins a worker for the stream that waits, where fewer are open than may be
+//! and none is open. There is room for as many streams as the plan describes and as its list may have; one
+//! of the list reads the file that its line names, and each looks up the tables of the top and of its group. A round begins a worker for the stream that waits, where fewer are open than may be
 //! (`stream_workers::begin`); else it receives one message, so that a stream that may begin never waits
 //! for what the others still send. A load is written as a frame. A stream whose end came is taken in before
 //! anything else is done, once its worker has returned. It has no error: a fault, want of memory, a failed
@@ -18,11 +19,11 @@
 //! none is here either the collector pauses (`stream_workers::Pause`).
 //!
 //! `Collector::into_ended` takes apart a collector that has come to its end (`Ended`): the main tree, which
-//! may be settled, the report, how the outer stream ended, and the devices of the streams, which are to go
-//! back to their depot once the ledger is finished (`Leftover`).
+//! may be settled, the report, how the outer stream ended, how many streams there were, and their devices,
+//! which are to go back to their depot once the ledger is finished (`Leftover`).
 //!
-//! What holds between any two of these steps is `IsCollecting`, to which an open job is the job as it began,
-//! wherever it is. The main tree and the room were made before the first file is opened, and the collector
+//! What holds at any time is `IsCollecting`, to which an open job is the job as it began, wherever it is. Each
+//! step asks that a collector is under way (`IsUnderWay`), and ensures that it goes on (`GoesOn`). The main tree and the room were made before the first file is opened, and the collector
 //! is lent to the scope of its workers, in which it runs:
 //!
 //! ```
@@ -36,15 +37,16 @@
 //!     tree,
 //!     report,
 //!     outer,
+//!     streams,
 //!     left,
-//! } = collector.into_ended();
+//! } = collector.into_ended(plan);
 //! let (ledger, shelf) = settle(tree, desk);
 //! retire_shelf(depot, shelf);
 //! retire_left(depot, left);
 //! Outcome {
 //!     sink_failed: report.sink_failed(),
 //!     memory: report.memory(),
-//!     ends: report.into_ends(outer),
+//!     ends: report.into_ends(outer, streams),
 //!     ledger,
 //! }
 //! ```
@@ -53,10 +55,14 @@
 pub mod collector;
 pub mod filled;
 mod outer;
+mod parts;
 mod receive;
 mod rounds;
 mod start;
+mod tables;
+pub mod waiting;
 
 pub use collector::{Collector, Ended, JoinRoom};
 pub use dealt_streams::Leftover;
 pub use filled::Filled;
+pub use waiting::Waiting;

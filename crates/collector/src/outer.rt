@@ -1,7 +1,6 @@
 //! The pulls of the outer stream.
-ghost use Rattle.std.specs.Prelude.{◌≡◌, ℕ, ◌+◌, ◌<◌, ◌≤◌, [], length, None, Some, IfSome, true, false};
-ghost use Rattle.chunk_core.specs.Tables.{Values};
-ghost use Rattle.csv_pipes.specs.Dictionaries.{values_of};
+ghost use Rattle.std.specs.Prelude.{◌≡◌, ℕ, ◌+◌, ◌-◌, ◌^◌, ◌<◌, ◌≤◌, ◌∷◌, ◌++◌, [], length, None, Some, IfSome, true, false};
+ghost use Rattle.std.specs.VecDeque.{deque_capacity};
 ghost use Rattle.device_port.specs.Depot.{DepotTold};
 ghost use Rattle.device_port.specs.Sink.{SinkTold};
 ghost use Rattle.join_report.specs.Calls.{EndsOuter};
@@ -9,24 +8,26 @@ ghost use Rattle.join_report.specs.Stopping.{Interrupts, IsSeated};
 ghost use Rattle.join_tree.specs.Mains.{IsMain};
 ghost use Rattle.join_tree.specs.Progress.{Progress};
 ghost use Rattle.pipeline_desc.specs.Meant.{PlanMeant};
-ghost use Rattle.pipeline_desc.specs.Sound.{IsSoundPlan};
 ghost use Rattle.pull_stepper.specs.Held.{FinishesDevice};
 ghost use Rattle.pull_turns.specs.Piping.{standing};
 ghost use Rattle.res_ledger.specs.declared.event.StreamNo.TheVariants.{Outer as outer_name};
 ghost use Rattle.row_seat.specs.Views.{OthersFit};
 ghost use Rattle.scope_tree.specs.Trees.{Fits, seen};
-ghost use Rattle.collector.specs.Collecting.{IsCollecting};
+ghost use Rattle.collector.specs.Collecting.{GoesOn, IsCollecting, IsUnderWay, between};
+ghost use Rattle.collector.specs.Members.{members};
 ghost use Rattle.collector.specs.Starting.{ClosesOuter, GivesNoneIfStopped, IsFresh, MaySkip, cause_of};
 
 use crate::collector::Collector;
-use chunk_core::How;
+use crate::waiting::Waiting;
+use chunk_core::{How, Word};
 use device_port::{Depot, Device};
 use interrupt_ctx::Why;
-use outer_stream::Next;
+use outer_source::Next;
 use pipeline_desc::Plan;
 use pull_nodes::PipeState;
 use pull_stepper::Held;
 use row_seat::RowSeat;
+use scope_tree::Lease;
 use std::alloc::Global;
 
 /// Whether no frame is wanted.
@@ -51,16 +52,16 @@ fn why_stopped(how: How) -> Option<Why>
 impl<V: Device + Drop, S: RowSeat<Pay = Held<V>>, F: PipeState> Collector<S, V, F> {
     /// Passes over the stream that waits, where one does.
     fn skip(&mut self, desk: &mut S::Desk)
-        requires collecting { (p : PlanMeant) × (d0 : DepotTold) × (s0 : SinkTold) × (t : Values) × (depot : DepotTold) × (sink : SinkTold) × IsSoundPlan p × IsCollecting S.view V.told S.fits F.values (standing F.stands F.comes) p d0 s0 t 1 depot sink desk.old self.old }
+        requires collecting { (p : PlanMeant) × (depot : DepotTold) × (sink : SinkTold) × IsUnderWay (members S.view V.told S.fits F.values (standing F.stands F.comes)) p (between 1 depot sink desk.old self.old) }
         requires may { MaySkip self.old }
-        ensures collecting { (p : PlanMeant) (d0 : DepotTold) (s0 : SinkTold) (t : Values) (depot : DepotTold) (sink : SinkTold) → IsSoundPlan p → IsCollecting S.view V.told S.fits F.values (standing F.stands F.comes) p d0 s0 t 1 depot sink desk.old self.old → IsCollecting S.view V.told S.fits F.values (standing F.stands F.comes) p d0 s0 t 0 depot sink desk.new self.new }
+        ensures collecting { (p : PlanMeant) (depot : DepotTold) (sink : SinkTold) → GoesOn (members S.view V.told S.fits F.values (standing F.stands F.comes)) p (between 1 depot sink desk.old self.old) (between 0 depot sink desk.new self.new) }
         ensures stops { self.new.stops ≡ self.old.stops }
         ensures outer { self.new.outer ≡ self.old.outer }
         ensures given { self.new.outer_stream ≡ self.old.outer_stream }
         ensures jobs { self.new.jobs ≡ self.old.jobs }
     {
         match self.waiting.pop_front() {
-            Some(lease) => self.pass_over(desk, lease),
+            Some(Waiting { lease, path: _ }) => self.pass_over(desk, lease),
             None => {}
         }
     }
@@ -86,8 +87,8 @@ impl<V: Device + Drop, S: RowSeat<Pay = Held<V>>, F: PipeState> Collector<S, V, 
     /// No frame is wanted: the run is interrupted, and the outer stream ends, which finds that.
     fn want_none(&mut self, desk: &mut S::Desk, plan: &Plan)
         requires none { plan.now.take ≡ Some 0 }
-        requires fresh { IsFresh S.view V.told S.fits plan.now desk.old self.old }
-        ensures collecting { (d0 : DepotTold) (s0 : SinkTold) → IsCollecting S.view V.told S.fits F.values (standing F.stands F.comes) plan.now d0 s0 (values_of self.new.outer_stream.tables) 1 d0 s0 desk.new self.new }
+        requires fresh { IsFresh (members S.view V.told S.fits F.values (standing F.stands F.comes)) plan.now desk.old self.old }
+        ensures collecting { (d0 : DepotTold) (s0 : SinkTold) → s0.faults < 2 ^ 64 - 1 → IsCollecting (members S.view V.told S.fits F.values (standing F.stands F.comes)) plan.now d0 s0 (between 1 d0 s0 desk.new self.new) }
     {
         self.stops.interrupt(0, Why::Take);
         if self.stops.is_set(0) {
@@ -105,20 +106,24 @@ impl<V: Device + Drop, S: RowSeat<Pay = Held<V>>, F: PipeState> Collector<S, V, 
         plan: &Plan,
         depot: &mut D,
     )
-        requires limits { IsSoundPlan plan.now }
         requires waits { length self.old.waiting.items ≤ 1 }
         requires few { length self.old.jobs.items + length self.old.waiting.items ≤ plan.now.max_open }
         requires outer { self.old.outer ≡ None }
-        requires collecting { (d0 : DepotTold) × (s0 : SinkTold) × (t : Values) × (sink : SinkTold) × IsCollecting S.view V.told S.fits F.values (standing F.stands F.comes) plan.now d0 s0 t (length self.old.waiting.items) (D.told depot.old) sink desk.old self.old }
-        ensures collecting { (d0 : DepotTold) (s0 : SinkTold) (t : Values) (sink : SinkTold) → IsCollecting S.view V.told S.fits F.values (standing F.stands F.comes) plan.now d0 s0 t (length self.old.waiting.items) (D.told depot.old) sink desk.old self.old → IsCollecting S.view V.told S.fits F.values (standing F.stands F.comes) plan.now d0 s0 (values_of self.new.outer_stream.tables) (1 + length self.old.waiting.items) (D.told depot.new) sink desk.new self.new }
+        requires collecting { (sink : SinkTold) × IsUnderWay (members S.view V.told S.fits F.values (standing F.stands F.comes)) plan.now (between (length self.old.waiting.items) (D.told depot.old) sink desk.old self.old) }
+        ensures collecting { (sink : SinkTold) → GoesOn (members S.view V.told S.fits F.values (standing F.stands F.comes)) plan.now (between (length self.old.waiting.items) (D.told depot.old) sink desk.old self.old) (between (1 + length self.old.waiting.items) (D.told depot.new) sink desk.new self.new) }
         ensures ahead { self.new.outer ≡ None → length self.new.waiting.items ≡ 1 + length self.old.waiting.items }
         ensures jobs { self.new.jobs ≡ self.old.jobs }
     {
-        match self
-            .outer_stream
-            .pull::<D, S>(alloc, &mut self.tree, desk, plan, depot)
-        {
-            Next::Leased(lease) => self.waiting.push_back_reserved(lease),
+        match self.outer_stream.pull::<D, S>(
+            alloc,
+            &mut self.tree,
+            desk,
+            self.parts.as_slice(),
+            plan,
+            depot,
+        ) {
+            Next::Leased(lease) => self.let_wait(lease, None),
+            Next::Listed(lease, path) => self.let_wait(lease, Some(path)),
             Next::Over(how) => match why_stopped(how) {
                 Some(why) => {
                     self.stop(desk, why, how);
@@ -129,6 +134,16 @@ impl<V: Device + Drop, S: RowSeat<Pay = Held<V>>, F: PipeState> Collector<S, V, 
         }
     }
 
+    /// The next stream waits, which has this lease, and reads this file if it is one of the list.
+    fn let_wait(&mut self, lease: Lease, path: Option<Word>)
+        requires room { length self.old.waiting.items < deque_capacity self.old.waiting }
+        ensures items { self.new.waiting.items ≡ self.old.waiting.items ++ record { lease = lease; path = path } ∷ [] }
+        ensures room { deque_capacity self.new.waiting ≡ deque_capacity self.old.waiting }
+        ensures same { self.new ≡ record self.old { waiting = self.new.waiting } }
+    {
+        self.waiting.push_back_reserved(Waiting { lease, path });
+    }
+
     /// Pulls the outer stream for the first time, unless no frame is wanted.
     pub(crate) fn open<D: Depot<Dev = V>>(
         &mut self,
@@ -137,9 +152,8 @@ impl<V: Device + Drop, S: RowSeat<Pay = Held<V>>, F: PipeState> Collector<S, V, 
         plan: &Plan,
         depot: &mut D,
     )
-        requires limits { IsSoundPlan plan.now }
-        requires fresh { IsFresh S.view V.told S.fits plan.now desk.old self.old }
-        ensures collecting { (s0 : SinkTold) → IsCollecting S.view V.told S.fits F.values (standing F.stands F.comes) plan.now (D.told depot.old) s0 (values_of self.new.outer_stream.tables) 1 (D.told depot.new) s0 desk.new self.new }
+        requires fresh { IsFresh (members S.view V.told S.fits F.values (standing F.stands F.comes)) plan.now desk.old self.old }
+        ensures collecting { (s0 : SinkTold) → s0.faults < 2 ^ 64 - 1 → IsCollecting (members S.view V.told S.fits F.values (standing F.stands F.comes)) plan.now (D.told depot.old) s0 (between 1 (D.told depot.new) s0 desk.new self.new) }
     {
         if wants_none(plan.take()) {
             self.want_none(desk, plan);
@@ -158,10 +172,9 @@ impl<V: Device + Drop, S: RowSeat<Pay = Held<V>>, F: PipeState> Collector<S, V, 
         plan: &Plan,
         depot: &mut D,
     )
-        requires limits { IsSoundPlan plan.now }
         requires few { length self.old.jobs.items < plan.now.max_open }
-        requires collecting { (d0 : DepotTold) × (s0 : SinkTold) × (t : Values) × (sink : SinkTold) × IsCollecting S.view V.told S.fits F.values (standing F.stands F.comes) plan.now d0 s0 t 1 (D.told depot.old) sink desk.old self.old }
-        ensures collecting { (d0 : DepotTold) (s0 : SinkTold) (t : Values) (sink : SinkTold) → IsCollecting S.view V.told S.fits F.values (standing F.stands F.comes) plan.now d0 s0 t 1 (D.told depot.old) sink desk.old self.old → IsCollecting S.view V.told S.fits F.values (standing F.stands F.comes) plan.now d0 s0 (values_of self.new.outer_stream.tables) 2 (D.told depot.new) sink desk.new self.new }
+        requires collecting { (sink : SinkTold) × IsUnderWay (members S.view V.told S.fits F.values (standing F.stands F.comes)) plan.now (between 1 (D.told depot.old) sink desk.old self.old) }
+        ensures collecting { (sink : SinkTold) → GoesOn (members S.view V.told S.fits F.values (standing F.stands F.comes)) plan.now (between 1 (D.told depot.old) sink desk.old self.old) (between 2 (D.told depot.new) sink desk.new self.new) }
         ensures ahead { self.new.outer ≡ None → length self.new.waiting.items ≡ 2 }
         ensures stops { GivesNoneIfStopped self.old self.new }
         ensures jobs { self.new.jobs ≡ self.old.jobs }

@@ -3,30 +3,32 @@ ghost use Rattle.std.specs.Prelude.{◌≡◌, ◌≢◌, ◌⊎◌, ℕ, ◌+�
 ghost use Rattle.std.specs.List.{AllByRecursion};
 ghost use Rattle.std.specs.VecDeque.{deque_capacity};
 ghost use Rattle.chunk_core.specs.Elements.{elements};
-ghost use Rattle.chunk_core.specs.Tables.{Values};
 ghost use Rattle.channel_bounded.specs.Ends.{ReceiverSeen};
 ghost use Rattle.channel_bounded.specs.Streams.{IsWhole};
 ghost use Rattle.channel_bounded.specs.declared.message.Msg.{Msg as MsgTold};
 ghost use Rattle.device_port.specs.Depot.{DepotTold};
 ghost use Rattle.device_port.specs.Sink.{SinkTold};
 ghost use Rattle.join_report.specs.Stopping.{IsSeated, with_seat_in};
+ghost use Rattle.join_tree.specs.Given.{GivesMore};
 ghost use Rattle.join_tree.specs.Guests.{AreOut, Guest, IsOut};
 ghost use Rattle.join_tree.specs.Mains.{IsMain};
 ghost use Rattle.join_tree.specs.Progress.{Progress, joining};
 ghost use Rattle.pipeline_desc.specs.Meant.{PlanMeant};
-ghost use Rattle.pipeline_desc.specs.Sound.{IsSoundPlan};
 ghost use Rattle.pull_stepper.specs.Held.{FinishesDevice};
 ghost use Rattle.pull_turns.specs.Piping.{standing};
 ghost use Rattle.res_ledger.specs.declared.event.StreamNo.TheVariants.{Inner, Outer};
 ghost use Rattle.row_seat.specs.Views.{OthersFit, joined};
+ghost use Rattle.scope_tree.specs.Calls.{KeepsScopes, TakesRoom};
 ghost use Rattle.scope_tree.specs.Trees.{Fits, seen};
 ghost use Rattle.scope_tree.specs.Trace.{owed};
 ghost use Rattle.stream_jobs.specs.Jobs.{EndsJob, FitsJob, IsAt, IsJob, seen_job};
 ghost use Rattle.stream_jobs.specs.Messages.{end_message, load_message};
 ghost use Rattle.stream_jobs.specs.Running.{Origin};
 ghost use Rattle.tree_families.specs.Families.{Split};
-ghost use Rattle.collector.specs.Collecting.{IsCollecting, IsCollectingWith, guest_of};
+ghost use Rattle.collector.specs.Collecting.{GoesOn, IsUnderWay, between, having_job, having_received};
+ghost use Rattle.collector.specs.Members.{members};
 ghost use Rattle.collector.specs.Receiving.{EndsWith, GoesBehind, HasGot, StopsOne, StopsThose, TakesOut};
+ghost use Rattle.collector.specs.Streams.{guest_of};
 
 use crate::collector::Collector;
 use channel_bounded::{Body, Msg};
@@ -75,7 +77,7 @@ fn stop_until(stops: &mut Stops, plan: &Plan, i: u32, stream: u32)
 /// Interrupts each stream that is to end with this one.
 fn stop_those_until(stops: &mut Stops, plan: &Plan, stream: u32)
     requires seated { IsSeated stops.old }
-    requires contexts { stops.old.board.contexts ≡ length plan.now.streams + 1 }
+    requires contexts { length plan.now.streams < stops.old.board.contexts }
     ensures stops { StopsThose plan.now stream (length plan.now.streams) stops.old stops.new }
     ensures seated { IsSeated stops.new }
 {
@@ -97,9 +99,8 @@ impl<V: Device + Drop, S: RowSeat<Pay = Held<V>>, F: PipeState> Collector<S, V, 
     ) -> bool
     where
         F::Tables: Drop,
-        requires limits { IsSoundPlan plan.now }
-        requires collecting { (d0 : DepotTold) × (s0 : SinkTold) × (t : Values) × (depot : DepotTold) × (s0.faults < 2 ^ 64 - 1) × IsCollecting S.view V.told S.fits F.values (standing F.stands F.comes) plan.now d0 s0 t 1 depot (K.told out.old) desk.old self.old }
-        ensures collecting { (d0 : DepotTold) (s0 : SinkTold) (t : Values) (depot : DepotTold) → s0.faults < 2 ^ 64 - 1 → IsCollecting S.view V.told S.fits F.values (standing F.stands F.comes) plan.now d0 s0 t 1 depot (K.told out.old) desk.old self.old → IsCollecting S.view V.told S.fits F.values (standing F.stands F.comes) plan.now d0 s0 t 1 depot (K.told out.new) desk.new self.new }
+        requires collecting { (depot : DepotTold) × IsUnderWay (members S.view V.told S.fits F.values (standing F.stands F.comes)) plan.now (between 1 depot (K.told out.old) desk.old self.old) }
+        ensures collecting { (depot : DepotTold) → GoesOn (members S.view V.told S.fits F.values (standing F.stands F.comes)) plan.now (between 1 depot (K.told out.old) desk.old self.old) (between 1 depot (K.told out.new) desk.new self.new) }
     {
         match self.receiver.try_recv(rt, self.hub.get()) {
             Some(message) => {
@@ -124,9 +125,8 @@ impl<V: Device + Drop, S: RowSeat<Pay = Held<V>>, F: PipeState> Collector<S, V, 
     )
     where
         F::Tables: Drop,
-        requires limits { IsSoundPlan plan.now }
-        requires collecting { (d0 : DepotTold) × (s0 : SinkTold) × (t : Values) × (depot : DepotTold) × (had : ReceiverSeen) × (s0.faults < 2 ^ 64 - 1) × HasGot had message self.old.receiver × IsCollectingWith S.view V.told S.fits F.values (standing F.stands F.comes) plan.now d0 s0 t 1 self.old.waiting.items self.old.jobs.items had depot (K.told out.old) desk.old self.old }
-        ensures collecting { (d0 : DepotTold) (s0 : SinkTold) (t : Values) (depot : DepotTold) (had : ReceiverSeen) → s0.faults < 2 ^ 64 - 1 → HasGot had message self.old.receiver → IsCollectingWith S.view V.told S.fits F.values (standing F.stands F.comes) plan.now d0 s0 t 1 self.old.waiting.items self.old.jobs.items had depot (K.told out.old) desk.old self.old → IsCollecting S.view V.told S.fits F.values (standing F.stands F.comes) plan.now d0 s0 t 1 depot (K.told out.new) desk.new self.new }
+        requires collecting { (depot : DepotTold) × (had : ReceiverSeen) × HasGot had message self.old.receiver × IsUnderWay (members S.view V.told S.fits F.values (standing F.stands F.comes)) plan.now (having_received had (between 1 depot (K.told out.old) desk.old self.old)) }
+        ensures collecting { (depot : DepotTold) (had : ReceiverSeen) → HasGot had message self.old.receiver → GoesOn (members S.view V.told S.fits F.values (standing F.stands F.comes)) plan.now (having_received had (between 1 depot (K.told out.old) desk.old self.old)) (between 1 depot (K.told out.new) desk.new self.new) }
     {
         let Msg { stream, body } = message;
         match body {
@@ -137,8 +137,8 @@ impl<V: Device + Drop, S: RowSeat<Pay = Held<V>>, F: PipeState> Collector<S, V, 
 
     /// A load of an open stream came: it is written as a frame, unless it is too late for that.
     fn write<K: Sink>(&mut self, alloc: Global, out: &mut K, stream: u32, load: &Load)
-        requires collecting { (p : PlanMeant) × (d0 : DepotTold) × (s0 : SinkTold) × (t : Values) × (depot : DepotTold) × (d : S.Desk) × (had : ReceiverSeen) × (s0.faults < 2 ^ 64 - 1) × HasGot had (load_message stream load.now) self.old.receiver × IsCollectingWith S.view V.told S.fits F.values (standing F.stands F.comes) p d0 s0 t 1 self.old.waiting.items self.old.jobs.items had depot (K.told out.old) d self.old }
-        ensures collecting { (p : PlanMeant) (d0 : DepotTold) (s0 : SinkTold) (t : Values) (depot : DepotTold) (d : S.Desk) (had : ReceiverSeen) → HasGot had (load_message stream load.now) self.old.receiver → IsCollectingWith S.view V.told S.fits F.values (standing F.stands F.comes) p d0 s0 t 1 self.old.waiting.items self.old.jobs.items had depot (K.told out.old) d self.old → IsCollecting S.view V.told S.fits F.values (standing F.stands F.comes) p d0 s0 t 1 depot (K.told out.new) d self.new }
+        requires collecting { (p : PlanMeant) × (depot : DepotTold) × (d : S.Desk) × (had : ReceiverSeen) × HasGot had (load_message stream load.now) self.old.receiver × IsUnderWay (members S.view V.told S.fits F.values (standing F.stands F.comes)) p (having_received had (between 1 depot (K.told out.old) d self.old)) }
+        ensures collecting { (p : PlanMeant) (depot : DepotTold) (d : S.Desk) (had : ReceiverSeen) → HasGot had (load_message stream load.now) self.old.receiver → GoesOn (members S.view V.told S.fits F.values (standing F.stands F.comes)) p (having_received had (between 1 depot (K.told out.old) d self.old)) (between 1 depot (K.told out.new) d self.new) }
     {
         match self.report.write(alloc, out, stream, load) {
             Some(why) => self.stops.interrupt(0, why),
@@ -158,9 +158,8 @@ impl<V: Device + Drop, S: RowSeat<Pay = Held<V>>, F: PipeState> Collector<S, V, 
     )
     where
         F::Tables: Drop,
-        requires limits { IsSoundPlan plan.now }
-        requires collecting { (d0 : DepotTold) × (s0 : SinkTold) × (t : Values) × (depot : DepotTold) × (sink : SinkTold) × (had : ReceiverSeen) × HasGot had (end_message stream how) self.old.receiver × IsCollectingWith S.view V.told S.fits F.values (standing F.stands F.comes) plan.now d0 s0 t 1 self.old.waiting.items self.old.jobs.items had depot sink desk.old self.old }
-        ensures collecting { (d0 : DepotTold) (s0 : SinkTold) (t : Values) (depot : DepotTold) (sink : SinkTold) (had : ReceiverSeen) → HasGot had (end_message stream how) self.old.receiver → IsCollectingWith S.view V.told S.fits F.values (standing F.stands F.comes) plan.now d0 s0 t 1 self.old.waiting.items self.old.jobs.items had depot sink desk.old self.old → IsCollecting S.view V.told S.fits F.values (standing F.stands F.comes) plan.now d0 s0 t 1 depot sink desk.new self.new }
+        requires collecting { (depot : DepotTold) × (sink : SinkTold) × (had : ReceiverSeen) × HasGot had (end_message stream how) self.old.receiver × IsUnderWay (members S.view V.told S.fits F.values (standing F.stands F.comes)) plan.now (having_received had (between 1 depot sink desk.old self.old)) }
+        ensures collecting { (depot : DepotTold) (sink : SinkTold) (had : ReceiverSeen) → HasGot had (end_message stream how) self.old.receiver → GoesOn (members S.view V.told S.fits F.values (standing F.stands F.comes)) plan.now (having_received had (between 1 depot sink desk.old self.old)) (between 1 depot sink desk.new self.new) }
     {
         match self.take_job(stream) {
             Some(job) => self.end_job(rt, desk, plan, gate, stream, how, job),
@@ -223,8 +222,8 @@ impl<V: Device + Drop, S: RowSeat<Pay = Held<V>>, F: PipeState> Collector<S, V, 
     where
         F::Tables: Drop,
         requires number { job.sender.stream ≡ stream }
-        requires collecting { (d0 : DepotTold) × (s0 : SinkTold) × (t : Values) × (depot : DepotTold) × (sink : SinkTold) × (had : ReceiverSeen) × HasGot had (end_message stream how) self.old.receiver × IsCollectingWith S.view V.told S.fits F.values (standing F.stands F.comes) plan.now d0 s0 t 1 self.old.waiting.items (job ∷ self.old.jobs.items) had depot sink desk.old self.old }
-        ensures collecting { (d0 : DepotTold) (s0 : SinkTold) (t : Values) (depot : DepotTold) (sink : SinkTold) (had : ReceiverSeen) → HasGot had (end_message stream how) self.old.receiver → IsCollectingWith S.view V.told S.fits F.values (standing F.stands F.comes) plan.now d0 s0 t 1 self.old.waiting.items (job ∷ self.old.jobs.items) had depot sink desk.old self.old → IsCollecting S.view V.told S.fits F.values (standing F.stands F.comes) plan.now d0 s0 t 1 depot sink desk.new self.new }
+        requires collecting { (depot : DepotTold) × (sink : SinkTold) × (had : ReceiverSeen) × HasGot had (end_message stream how) self.old.receiver × IsUnderWay (members S.view V.told S.fits F.values (standing F.stands F.comes)) plan.now (having_job job (having_received had (between 1 depot sink desk.old self.old))) }
+        ensures collecting { (depot : DepotTold) (sink : SinkTold) (had : ReceiverSeen) → HasGot had (end_message stream how) self.old.receiver → GoesOn (members S.view V.told S.fits F.values (standing F.stands F.comes)) plan.now (having_job job (having_received had (between 1 depot sink desk.old self.old))) (between 1 depot sink desk.new self.new) }
     {
         let left = self.finish(rt, desk, gate, job);
         self.take_back(desk, left);
@@ -267,12 +266,15 @@ impl<V: Device + Drop, S: RowSeat<Pay = Held<V>>, F: PipeState> Collector<S, V, 
         ensures out { (ms : List Split) (w : Origin V F) (gs : List Guest) → EndsJob S.view V.told (standing F.stands F.comes) w end → AreOut (seen S.view self.old.tree) ms (guest_of w ∷ gs) → AreOut (seen S.view self.new.tree) ms gs }
         ensures seen { seen S.view self.new.tree ≡ record (seen S.view self.old.tree) { seat = joined (seen S.view self.old.tree).seat (S.view end.seat) } }
         ensures owed { owed (seen S.view self.new.tree).seat ≡ owed (seen S.view self.old.tree).seat }
+        ensures gives { GivesMore [] (seen S.view self.old.tree) (seen S.view self.new.tree) }
+        ensures scopes { KeepsScopes (seen S.view self.old.tree) (seen S.view self.new.tree) }
+        ensures room { TakesRoom 0 0 (seen S.view self.old.tree) (seen S.view self.new.tree) }
         ensures fits { Fits S.view S.fits self.new.tree desk.new }
         ensures others { (o : S) → (S.view o).by ≢ Outer → (S.view o).by ≢ (S.view end.seat).by → S.fits o desk.old → S.fits o desk.new }
         ensures seated { IsSeated self.new.stops }
         ensures whole { (queued : List MsgTold) × IsWhole end.sender.stream end.sender.sent self.old.receiver.got queued }
         ensures kept { self.new.left.items ≡ self.old.left.items ++ record { shelf = end.shelf; unopened = end.unopened } ∷ [] }
-        ensures room { vec_capacity self.new.left ≡ vec_capacity self.old.left }
+        ensures capacity { vec_capacity self.new.left ≡ vec_capacity self.old.left }
         ensures same { self.new ≡ record self.old { tree = self.new.tree; stops = with_seat_in self.old.stops end.board; receiver = record self.old.receiver { closed = self.old.receiver.closed ++ (end.sender.stream, end.sender.sent) ∷ [] }; left = self.new.left } }
     {
         let JobEnd {

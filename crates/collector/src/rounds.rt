@@ -1,17 +1,16 @@
 //! The rounds.
 ghost use Rattle.std.specs.Prelude.{◌≡◌, ◌⊎◌, ℕ, ◌-◌, ◌^◌, ◌<◌, ◌≤◌, [], List, length, true, false};
-ghost use Rattle.chunk_core.specs.Tables.{Values};
 ghost use Rattle.csv_pipes.specs.Dictionaries.{Dictionary, values_of};
 ghost use Rattle.device_port.specs.Depot.{DepotTold};
 ghost use Rattle.device_port.specs.Sink.{SinkTold};
 ghost use Rattle.pipeline_desc.specs.Meant.{PlanMeant};
-ghost use Rattle.pipeline_desc.specs.Sound.{IsSoundPlan};
 ghost use Rattle.pull_turns.specs.Piping.{standing};
 ghost use Rattle.res_ledger.specs.declared.event.StreamNo.TheVariants.{Inner};
 ghost use Rattle.row_seat.specs.Views.{OthersFit};
 ghost use Rattle.stream_jobs.specs.Jobs.{FitsJob, IsAt, IsJob, IsSameJob, seen_job};
 ghost use Rattle.stream_jobs.specs.Running.{Origin};
-ghost use Rattle.collector.specs.Collecting.{IsCollecting};
+ghost use Rattle.collector.specs.Collecting.{GoesOn, IsCollecting, IsUnderWay, between};
+ghost use Rattle.collector.specs.Members.{members};
 ghost use Rattle.collector.specs.Starting.{IsFresh};
 
 use crate::collector::Collector;
@@ -41,9 +40,8 @@ impl<V: Device + Drop, S: SharesDesk + RowSeat<Pay = Held<V>>, F: PipeState> Col
     ) -> bool
     where
         F::Tables: Drop,
-        requires limits { IsSoundPlan plan.now }
-        requires collecting { (d0 : DepotTold) × (s0 : SinkTold) × (t : Values) × (depot : DepotTold) × (s0.faults < 2 ^ 64 - 1) × IsCollecting S.view V.told S.fits F.values (standing F.stands F.comes) plan.now d0 s0 t 1 depot (K.told out.old) desk.old self.old }
-        ensures collecting { (d0 : DepotTold) (s0 : SinkTold) (t : Values) (depot : DepotTold) → s0.faults < 2 ^ 64 - 1 → IsCollecting S.view V.told S.fits F.values (standing F.stands F.comes) plan.now d0 s0 t 1 depot (K.told out.old) desk.old self.old → IsCollecting S.view V.told S.fits F.values (standing F.stands F.comes) plan.now d0 s0 t 1 depot (K.told out.new) desk.new self.new }
+        requires collecting { (depot : DepotTold) × IsUnderWay (members S.view V.told S.fits F.values (standing F.stands F.comes)) plan.now (between 1 depot (K.told out.old) desk.old self.old) }
+        ensures collecting { (depot : DepotTold) → GoesOn (members S.view V.told S.fits F.values (standing F.stands F.comes)) plan.now (between 1 depot (K.told out.old) desk.old self.old) (between 1 depot (K.told out.new) desk.new self.new) }
     {
         if self.receive_next(rt, alloc, desk, plan, out, gate) {
             return true;
@@ -55,8 +53,8 @@ impl<V: Device + Drop, S: SharesDesk + RowSeat<Pay = Held<V>>, F: PipeState> Col
     fn give_turns<R: Wait, G: Gate>(&mut self, rt: &R, desk: &mut S::Desk, gate: &G) -> bool
     where
         F::Tables: Drop,
-        requires collecting { (p : PlanMeant) × (d0 : DepotTold) × (s0 : SinkTold) × (t : Values) × (depot : DepotTold) × (sink : SinkTold) × IsCollecting S.view V.told S.fits F.values (standing F.stands F.comes) p d0 s0 t 1 depot sink desk.old self.old }
-        ensures collecting { (p : PlanMeant) (d0 : DepotTold) (s0 : SinkTold) (t : Values) (depot : DepotTold) (sink : SinkTold) → IsCollecting S.view V.told S.fits F.values (standing F.stands F.comes) p d0 s0 t 1 depot sink desk.old self.old → IsCollecting S.view V.told S.fits F.values (standing F.stands F.comes) p d0 s0 t 1 depot sink desk.new self.new }
+        requires collecting { (p : PlanMeant) × (depot : DepotTold) × (sink : SinkTold) × IsUnderWay (members S.view V.told S.fits F.values (standing F.stands F.comes)) p (between 1 depot sink desk.old self.old) }
+        ensures collecting { (p : PlanMeant) (depot : DepotTold) (sink : SinkTold) → GoesOn (members S.view V.told S.fits F.values (standing F.stands F.comes)) p (between 1 depot sink desk.old self.old) (between 1 depot sink desk.new self.new) }
     {
         let mut here = false;
         'turns: for _ in 0..self.jobs.len() {
@@ -71,8 +69,8 @@ impl<V: Device + Drop, S: SharesDesk + RowSeat<Pay = Held<V>>, F: PipeState> Col
     fn give_turn<R: Wait, G: Gate>(&mut self, rt: &R, desk: &mut S::Desk, gate: &G) -> bool
     where
         F::Tables: Drop,
-        requires collecting { (p : PlanMeant) × (d0 : DepotTold) × (s0 : SinkTold) × (t : Values) × (depot : DepotTold) × (sink : SinkTold) × IsCollecting S.view V.told S.fits F.values (standing F.stands F.comes) p d0 s0 t 1 depot sink desk.old self.old }
-        ensures collecting { (p : PlanMeant) (d0 : DepotTold) (s0 : SinkTold) (t : Values) (depot : DepotTold) (sink : SinkTold) → IsCollecting S.view V.told S.fits F.values (standing F.stands F.comes) p d0 s0 t 1 depot sink desk.old self.old → IsCollecting S.view V.told S.fits F.values (standing F.stands F.comes) p d0 s0 t 1 depot sink desk.new self.new }
+        requires collecting { (p : PlanMeant) × (depot : DepotTold) × (sink : SinkTold) × IsUnderWay (members S.view V.told S.fits F.values (standing F.stands F.comes)) p (between 1 depot sink desk.old self.old) }
+        ensures collecting { (p : PlanMeant) (depot : DepotTold) (sink : SinkTold) → GoesOn (members S.view V.told S.fits F.values (standing F.stands F.comes)) p (between 1 depot sink desk.old self.old) (between 1 depot sink desk.new self.new) }
     {
         match self.jobs.pop_front() {
             Some(job) => {
@@ -138,11 +136,10 @@ where
         S: 's,
         F: 's,
         S::Desk: 's,
-        requires limits { IsSoundPlan plan.now }
-        requires fresh { IsFresh S.view V.told S.fits plan.now desk.old self.old }
+        requires fresh { IsFresh (members S.view V.told S.fits F.values (standing F.stands F.comes)) plan.now desk.old self.old }
         requires values { (tables : List Dictionary) → F.values tables ≡ values_of tables }
         requires sink { (K.told out.old).faults < 2 ^ 64 - 1 }
-        ensures collecting { (t : Values) × IsCollecting S.view V.told S.fits F.values (standing F.stands F.comes) plan.now (D.told depot.old) (K.told out.old) t 1 (D.told depot.new) (K.told out.new) desk.new self.new }
+        ensures collecting { IsCollecting (members S.view V.told S.fits F.values (standing F.stands F.comes)) plan.now (D.told depot.old) (K.told out.old) (between 1 (D.told depot.new) (K.told out.new) desk.new self.new) }
         ensures waiting { self.new.waiting.items ≡ [] }
         ensures jobs { self.new.jobs.items ≡ [] }
     {
@@ -173,10 +170,9 @@ where
         S: 's,
         F: 's,
         S::Desk: 's,
-        requires limits { IsSoundPlan plan.now }
         requires values { (tables : List Dictionary) → F.values tables ≡ values_of tables }
-        requires collecting { (d0 : DepotTold) × (s0 : SinkTold) × (s0.faults < 2 ^ 64 - 1) × IsCollecting S.view V.told S.fits F.values (standing F.stands F.comes) plan.now d0 s0 (values_of self.old.outer_stream.tables) 1 (D.told depot.old) (K.told out.old) desk.old self.old }
-        ensures collecting { (d0 : DepotTold) (s0 : SinkTold) → s0.faults < 2 ^ 64 - 1 → IsCollecting S.view V.told S.fits F.values (standing F.stands F.comes) plan.now d0 s0 (values_of self.old.outer_stream.tables) 1 (D.told depot.old) (K.told out.old) desk.old self.old → IsCollecting S.view V.told S.fits F.values (standing F.stands F.comes) plan.now d0 s0 (values_of self.new.outer_stream.tables) 1 (D.told depot.new) (K.told out.new) desk.new self.new }
+        requires collecting { IsUnderWay (members S.view V.told S.fits F.values (standing F.stands F.comes)) plan.now (between 1 (D.told depot.old) (K.told out.old) desk.old self.old) }
+        ensures collecting { GoesOn (members S.view V.told S.fits F.values (standing F.stands F.comes)) plan.now (between 1 (D.told depot.old) (K.told out.old) desk.old self.old) (between 1 (D.told depot.new) (K.told out.new) desk.new self.new) }
         ensures waiting { self.new.waiting.items ≡ [] }
         ensures jobs { self.new.jobs.items ≡ [] }
     {
@@ -208,10 +204,9 @@ where
         S: 's,
         F: 's,
         S::Desk: 's,
-        requires limits { IsSoundPlan plan.now }
         requires values { (tables : List Dictionary) → F.values tables ≡ values_of tables }
-        requires collecting { (d0 : DepotTold) × (s0 : SinkTold) × (s0.faults < 2 ^ 64 - 1) × IsCollecting S.view V.told S.fits F.values (standing F.stands F.comes) plan.now d0 s0 (values_of self.old.outer_stream.tables) 1 (D.told depot.old) (K.told out.old) desk.old self.old }
-        ensures collecting { (d0 : DepotTold) (s0 : SinkTold) → s0.faults < 2 ^ 64 - 1 → IsCollecting S.view V.told S.fits F.values (standing F.stands F.comes) plan.now d0 s0 (values_of self.old.outer_stream.tables) 1 (D.told depot.old) (K.told out.old) desk.old self.old → IsCollecting S.view V.told S.fits F.values (standing F.stands F.comes) plan.now d0 s0 (values_of self.new.outer_stream.tables) 1 (D.told depot.new) (K.told out.new) desk.new self.new }
+        requires collecting { IsUnderWay (members S.view V.told S.fits F.values (standing F.stands F.comes)) plan.now (between 1 (D.told depot.old) (K.told out.old) desk.old self.old) }
+        ensures collecting { GoesOn (members S.view V.told S.fits F.values (standing F.stands F.comes)) plan.now (between 1 (D.told depot.old) (K.told out.old) desk.old self.old) (between 1 (D.told depot.new) (K.told out.new) desk.new self.new) }
         ensures over { result ≡ false → (self.new.waiting.items ≡ []) × (self.new.jobs.items ≡ []) }
     {
         if self.may_begin(plan) {

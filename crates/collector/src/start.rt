@@ -1,28 +1,32 @@
 //! How streams begin.
-ghost use Rattle.std.specs.Prelude.{◌≡◌, ◌≢◌, ℕ, ◌+◌, ◌-◌, ◌^◌, ◌<◌, ◌≤◌, ◌∷◌, [], List, length, slice_get, IfOk, OnErr, None, Some};
+ghost use Rattle.std.specs.Prelude.{◌≡◌, ◌≢◌, ℕ, ◌+◌, ◌-◌, ◌^◌, ◌<◌, ◌≤◌, ◌∷◌, [], List, length, take, IfOk, OnErr, Option, None, Some};
 ghost use Rattle.chunk_core.specs.Lists.{IsAmong};
-ghost use Rattle.chunk_core.specs.Tables.{Values};
 ghost use Rattle.csv_pipes.specs.Dictionaries.{Dictionary, values_of};
 ghost use Rattle.device_port.specs.Depot.{DepotTold};
 ghost use Rattle.device_port.specs.Sink.{SinkTold};
 ghost use Rattle.join_report.specs.Stopping.{IsSeated};
-ghost use Rattle.pipeline_desc.specs.Sound.{IsSoundPlan};
+ghost use Rattle.pipeline_desc.specs.Meant.{stream_limit};
 ghost use Rattle.pipeline_desc.specs.declared.stream.StreamSpec.{StreamSpec};
 ghost use Rattle.pull_stepper.specs.Stepping.{IsSupplied};
 ghost use Rattle.pull_turns.specs.Piping.{standing};
 ghost use Rattle.res_ledger.specs.declared.event.StreamNo.TheVariants.{Inner};
 ghost use Rattle.row_seat.specs.Views.{OthersFit};
+ghost use Rattle.plan_work.specs.Plans.{visible};
+ghost use Rattle.stream_parts.specs.Named.{IsNamed, named_stream};
 ghost use Rattle.stream_parts.specs.Parts.{MakesNoParts, MakesParts};
 ghost use Rattle.tree_laws.specs.Visits.{IsNewGuest};
-ghost use Rattle.collector.specs.Collecting.{IsCollecting, IsCollectingWith};
+ghost use Rattle.collector.specs.Collecting.{GoesOn, IsUnderWay, between, holding};
+ghost use Rattle.collector.specs.Members.{members};
 ghost use Rattle.dealt_streams.specs.Parts.{MakesUnmade};
 ghost use Rattle.collector.specs.Starting.{HasRoomAsGuest, IsAhead, MakesJob, MayBegin, with_seats_out};
 ghost use Rattle.scope_tree.specs.Visible.{lessee, rows_covered};
 
 use crate::collector::Collector;
 use crate::filled::Filled;
+use crate::tables::share_visible;
+use crate::waiting::Waiting;
 use channel_bounded::HubRef;
-use chunk_core::List;
+use chunk_core::{List, Word};
 use csv_pipes::Dicts;
 use dealt_streams::Leftover;
 use device_port::{Depot, Device, Gate};
@@ -63,21 +67,24 @@ impl<V: Device + Drop> Made<V> {
     }
 }
 
-/// Makes what stream k takes, and shares the tables with it.
+/// Makes what stream k takes, which reads this file if it is one of the list, and shares with it the
+/// tables that it may look up.
 fn make_one<D: Depot>(
     alloc: Global,
     tables: &Dicts,
     plan: &Plan,
     k: u32,
+    path: &Option<Word>,
     depot: &mut D,
 ) -> Result<Made<D::Dev>, AllocError>
-    requires { k < length plan.now.streams }
-    ensures tables { IfOk result (λ made. made.tables ≡ tables.now) }
-    ensures parts { IfOk result (λ made. MakesParts D.Dev.Device.told plan.now k (D.told depot.old) (D.told depot.new) made.parts) }
-    ensures unmade { OnErr result (MakesNoParts plan.now k (D.told depot.old) (D.told depot.new)) }
+    requires within { k < stream_limit plan.now }
+    requires named { IsNamed plan.now k path.now }
+    ensures tables { IfOk result (λ made. made.tables ≡ take (visible plan.now k) tables.now) }
+    ensures parts { IfOk result (λ made. MakesParts D.Dev.Device.told plan.now k path.now (D.told depot.old) (D.told depot.new) made.parts) }
+    ensures unmade { OnErr result (MakesNoParts plan.now k path.now (D.told depot.old) (D.told depot.new)) }
 {
-    let tables = tables.share(alloc)?;
-    let parts = make_parts(alloc, plan, k, depot)?;
+    let tables = share_visible(alloc, tables, plan, k)?;
+    let parts = make_parts(alloc, plan, k, path, depot)?;
     Ok(Made { tables, parts })
 }
 
@@ -118,6 +125,7 @@ fn equip<S: SharesDesk, D: Depot>(
     tables: &Dicts,
     plan: &Plan,
     k: u32,
+    path: &Option<Word>,
     depot: &mut D,
     desk: &S::Desk,
     hub: &HubRef<Filled>,
@@ -125,15 +133,16 @@ fn equip<S: SharesDesk, D: Depot>(
 ) -> Result<Outfit<S, D::Dev>, AllocError>
 where
     S::Desk: Drop,
-    requires { k < length plan.now.streams }
-    ensures tables { IfOk result (λ o. o.made.tables ≡ tables.now) }
-    ensures parts { IfOk result (λ o. MakesParts D.Dev.Device.told plan.now k (D.told depot.old) (D.told depot.new) o.made.parts) }
+    requires within { k < stream_limit plan.now }
+    requires named { IsNamed plan.now k path.now }
+    ensures tables { IfOk result (λ o. o.made.tables ≡ take (visible plan.now k) tables.now) }
+    ensures parts { IfOk result (λ o. MakesParts D.Dev.Device.told plan.now k path.now (D.told depot.old) (D.told depot.new) o.made.parts) }
     ensures desk { IfOk result (λ o. (s : S) → S.fits s desk.now → S.fits s o.own.desk) }
     ensures handles { IfOk result (λ o. (o.own.hub ≡ hub.now) × (o.own.board ≡ stops.now.board)) }
-    ensures unmade { OnErr result (MakesNoParts plan.now k (D.told depot.old) (D.told depot.new)) }
+    ensures unmade { OnErr result (MakesNoParts plan.now k path.now (D.told depot.old) (D.told depot.new)) }
 {
     let own = share_all::<S>(desk, hub, stops)?;
-    let made = make_one(alloc, tables, plan, k, depot)?;
+    let made = make_one(alloc, tables, plan, k, path, depot)?;
     Ok(Outfit { made, own })
 }
 
@@ -161,27 +170,26 @@ where
         S: 's,
         F: 's,
         S::Desk: 's,
-        requires limits { IsSoundPlan plan.now }
         requires values { (tables : List Dictionary) → F.values tables ≡ values_of tables }
         requires waits { 1 ≤ length self.old.waiting.items }
         requires few { length self.old.jobs.items < plan.now.max_open }
-        requires collecting { (d0 : DepotTold) × (s0 : SinkTold) × (sink : SinkTold) × IsCollecting S.view V.told S.fits F.values (standing F.stands F.comes) plan.now d0 s0 (values_of self.old.outer_stream.tables) 1 (D.told depot.old) sink desk.old self.old }
-        ensures collecting { (d0 : DepotTold) (s0 : SinkTold) (sink : SinkTold) → IsCollecting S.view V.told S.fits F.values (standing F.stands F.comes) plan.now d0 s0 (values_of self.old.outer_stream.tables) 1 (D.told depot.old) sink desk.old self.old → IsCollecting S.view V.told S.fits F.values (standing F.stands F.comes) plan.now d0 s0 (values_of self.new.outer_stream.tables) 1 (D.told depot.new) sink desk.new self.new }
+        requires collecting { (sink : SinkTold) × IsUnderWay (members S.view V.told S.fits F.values (standing F.stands F.comes)) plan.now (between 1 (D.told depot.old) sink desk.old self.old) }
+        ensures collecting { (sink : SinkTold) → GoesOn (members S.view V.told S.fits F.values (standing F.stands F.comes)) plan.now (between 1 (D.told depot.old) sink desk.old self.old) (between 1 (D.told depot.new) sink desk.new self.new) }
     {
         self.pull::<D>(alloc, desk, plan, depot);
-        if let Some(lease) = self.waiting.pop_front() {
-            self.start_leased(scope, place, alloc, desk, lease, plan, depot);
+        if let Some(waiting) = self.waiting.pop_front() {
+            self.start_waiting(scope, place, alloc, desk, waiting, plan, depot);
         }
     }
 
-    /// Begins the stream that is next, which has this lease.
-    fn start_leased<'s, E, R: Wait + Sync + 's, G: Gate + Sync + 's, D: Depot<Dev = V>>(
+    /// Begins the stream that is next, which was the first that waits.
+    fn start_waiting<'s, E, R: Wait + Sync + 's, G: Gate + Sync + 's, D: Depot<Dev = V>>(
         &mut self,
         scope: &Scope<'s, E>,
         place: &'s Place<'s, R, G>,
         alloc: Global,
         desk: &mut S::Desk,
-        lease: Lease,
+        waiting: Waiting,
         plan: &Plan,
         depot: &mut D,
     )
@@ -190,22 +198,23 @@ where
         S: 's,
         F: 's,
         S::Desk: 's,
-        requires limits { IsSoundPlan plan.now }
         requires values { (tables : List Dictionary) → F.values tables ≡ values_of tables }
         requires ahead { IsAhead self.old }
         requires few { length self.old.jobs.items < plan.now.max_open }
-        requires collecting { (d0 : DepotTold) × (s0 : SinkTold) × (t : Values) × (sink : SinkTold) × IsCollectingWith S.view V.told S.fits F.values (standing F.stands F.comes) plan.now d0 s0 t 2 (lease ∷ self.old.waiting.items) self.old.jobs.items self.old.receiver (D.told depot.old) sink desk.old self.old }
-        ensures collecting { (d0 : DepotTold) (s0 : SinkTold) (t : Values) (sink : SinkTold) → IsCollectingWith S.view V.told S.fits F.values (standing F.stands F.comes) plan.now d0 s0 t 2 (lease ∷ self.old.waiting.items) self.old.jobs.items self.old.receiver (D.told depot.old) sink desk.old self.old → IsCollecting S.view V.told S.fits F.values (standing F.stands F.comes) plan.now d0 s0 t 1 (D.told depot.new) sink desk.new self.new }
+        requires collecting { (sink : SinkTold) × IsUnderWay (members S.view V.told S.fits F.values (standing F.stands F.comes)) plan.now (holding waiting (between 2 (D.told depot.old) sink desk.old self.old)) }
+        ensures collecting { (sink : SinkTold) → GoesOn (members S.view V.told S.fits F.values (standing F.stands F.comes)) plan.now (holding waiting (between 2 (D.told depot.old) sink desk.old self.old)) (between 1 (D.told depot.new) sink desk.new self.new) }
     {
+        let Waiting { lease, path } = waiting;
         if self.stops.is_set(1 + self.next) {
             self.pass_over(desk, lease);
             return;
         }
         match equip::<S, D>(
             alloc,
-            &self.outer_stream.tables,
+            &self.outer_stream.outer.tables,
             plan,
             self.next,
+            &path,
             depot,
             desk,
             &self.hub,
@@ -228,10 +237,9 @@ where
         lease: Lease,
         unopened: List<V>,
     )
-        requires limits { IsSoundPlan plan.now }
         requires ahead { IsAhead self.old }
-        requires collecting { (d0 : DepotTold) × (s0 : SinkTold) × (t : Values) × (before : DepotTold) × (sink : SinkTold) × IsCollectingWith S.view V.told S.fits F.values (standing F.stands F.comes) plan.now d0 s0 t 2 (lease ∷ self.old.waiting.items) self.old.jobs.items self.old.receiver before sink desk.old self.old }
-        ensures collecting { (d0 : DepotTold) (s0 : SinkTold) (t : Values) (before now : DepotTold) (sink : SinkTold) → IsCollectingWith S.view V.told S.fits F.values (standing F.stands F.comes) plan.now d0 s0 t 2 (lease ∷ self.old.waiting.items) self.old.jobs.items self.old.receiver before sink desk.old self.old → (s : StreamSpec) → slice_get plan.now.streams self.old.next ≡ Some s → MakesUnmade V.told s before now unopened → IsCollecting S.view V.told S.fits F.values (standing F.stands F.comes) plan.now d0 s0 t 1 now sink desk.new self.new }
+        requires collecting { (path : Option (List ℕ)) × (before : DepotTold) × (sink : SinkTold) × IsUnderWay (members S.view V.told S.fits F.values (standing F.stands F.comes)) plan.now (holding (record { lease = lease; path = path }) (between 2 before sink desk.old self.old)) }
+        ensures collecting { (path : Option (List ℕ)) (before now : DepotTold) (sink : SinkTold) (s : StreamSpec) → named_stream plan.now self.old.next path ≡ Some s → MakesUnmade V.told s before now unopened → GoesOn (members S.view V.told S.fits F.values (standing F.stands F.comes)) plan.now (holding (record { lease = lease; path = path }) (between 2 before sink desk.old self.old)) (between 1 now sink desk.new self.new) }
     {
         self.stops.interrupt(0, Why::Memory);
         self.report.miss(self.next);
@@ -259,14 +267,14 @@ where
         S: 's,
         F: 's,
         S::Desk: 's,
-        requires limits { IsSoundPlan plan.now }
         requires own { (s : S) → S.fits s desk.old → S.fits s own.desk }
         requires handles { (own.hub ≡ self.old.hub) × (own.board ≡ self.old.stops.board) }
         requires ahead { IsAhead self.old }
         requires may { MayBegin self.old }
         requires few { length self.old.jobs.items < plan.now.max_open }
-        requires collecting { (d0 : DepotTold) × (s0 : SinkTold) × (before now : DepotTold) × (sink : SinkTold) × IsCollectingWith S.view V.told S.fits F.values (standing F.stands F.comes) plan.now d0 s0 (F.values made.tables) 2 (lease ∷ self.old.waiting.items) self.old.jobs.items self.old.receiver before sink desk.old self.old × MakesParts V.told plan.now self.old.next before now made.parts }
-        ensures collecting { (d0 : DepotTold) (s0 : SinkTold) (before now : DepotTold) (sink : SinkTold) → IsCollectingWith S.view V.told S.fits F.values (standing F.stands F.comes) plan.now d0 s0 (F.values made.tables) 2 (lease ∷ self.old.waiting.items) self.old.jobs.items self.old.receiver before sink desk.old self.old → MakesParts V.told plan.now self.old.next before now made.parts → IsCollecting S.view V.told S.fits F.values (standing F.stands F.comes) plan.now d0 s0 (F.values made.tables) 1 now sink desk.new self.new }
+        requires tables { F.values made.tables ≡ values_of (take (visible plan.now self.old.next) self.old.outer_stream.outer.tables) }
+        requires collecting { (path : Option (List ℕ)) × (before now : DepotTold) × (sink : SinkTold) × MakesParts V.told plan.now self.old.next path before now made.parts × IsUnderWay (members S.view V.told S.fits F.values (standing F.stands F.comes)) plan.now (holding (record { lease = lease; path = path }) (between 2 before sink desk.old self.old)) }
+        ensures collecting { (path : Option (List ℕ)) (before now : DepotTold) (sink : SinkTold) → MakesParts V.told plan.now self.old.next path before now made.parts → GoesOn (members S.view V.told S.fits F.values (standing F.stands F.comes)) plan.now (holding (record { lease = lease; path = path }) (between 2 before sink desk.old self.old)) (between 1 now sink desk.new self.new) }
     {
         let k = self.next;
         match split_off(
@@ -313,7 +321,7 @@ where
         requires room { HasRoomAsGuest (S.view seat) made.parts.node made.parts.room (rows_covered lease) }
         requires chunk { 1 ≤ chunk }
         requires fits { S.fits seat desk.old }
-        ensures makes { MakesJob S.view V.told S.fits F.values (standing F.stands F.comes) self.old (S.view seat) (rows_covered lease) made.parts.node made.parts.devices (F.values made.tables) chunk desk.new result }
+        ensures makes { MakesJob (members S.view V.told S.fits F.values (standing F.stands F.comes)) self.old (S.view seat) (rows_covered lease) made.parts.node made.parts.devices (F.values made.tables) chunk desk.new result }
         ensures same { self.new ≡ with_seats_out self.old }
         ensures others { OthersFit S.view S.fits (Inner self.old.next) desk.old desk.new }
     {

@@ -1,5 +1,5 @@
 //! The dictionaries of a run's tables.
-ghost use Rattle.std.specs.Prelude.{◌≡◌, ◌++◌, ◌∷◌, ℕ, List, [], IfOk, OnOk, OnErr, length};
+ghost use Rattle.std.specs.Prelude.{◌≡◌, ◌++◌, ◌∷◌, ℕ, List, [], IfOk, OnOk, OnErr, length, map as each, take};
 ghost use Rattle.std.specs.Arc.{arc_value};
 ghost use Rattle.std.specs.FinMap as map;
 ghost use Rattle.csv_pipes.specs.Dictionaries.{values_of};
@@ -56,12 +56,25 @@ impl Dicts {
         self.tables.len()
     }
 
-    /// The same dictionaries once more, without a copy.
-    pub fn share(&self, alloc: Global) -> Result<Dicts, AllocError>
-        ensures { IfOk result (λ dicts. dicts ≡ self.now) }
+    /// The first so many, or all where there are fewer.
+    fn first(&self, count: u32) -> &[Arc<Dict>]
+        ensures { each arc_value result.now ≡ take count self.now }
     {
-        let mut tables = Vec::with_capacity(alloc, self.tables.len())?;
-        for table in &self.tables {
+        let all = self.tables.as_slice();
+        if (count as usize) < all.len() {
+            &all[..count as usize]
+        } else {
+            all
+        }
+    }
+
+    /// The dictionaries of the first so many tables once more, without a copy.
+    pub fn share_first(&self, alloc: Global, count: u32) -> Result<Dicts, AllocError>
+        ensures { IfOk result (λ dicts. dicts ≡ take count self.now) }
+    {
+        let first = self.first(count);
+        let mut tables = Vec::with_capacity(alloc, first.len())?;
+        for table in first {
             tables.push(Arc::try_clone(table)?)?;
         }
         Ok(Dicts { tables })

@@ -11,7 +11,7 @@
 //! dropped.
 //!
 //! `table_of` makes the dictionary of a table's text (`Dict`), or tells why there is none
-//! (`TableRefused`). `Dicts` has the dictionaries of a run's tables by their numbers, and shares them.
+//! (`TableRefused`). `Dicts` has the dictionaries of a run's tables by their numbers, and shares the first of them.
 //!
 //! ```
 //! let mut dicts = Dicts::new(alloc);

@@ -1,3 +1,5 @@
 pub mod Parts
+pub mod Moves
+pub mod Standing
 pub mod Works
 pub mod Kept

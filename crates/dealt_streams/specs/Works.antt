@@ -1,10 +1,13 @@
--- The work of a plan, as its tale reads it.
-use Rattle.std.specs.Prelude.{map, Some}
-use Rattle.join_tale.specs.Records.{bare}
+-- What the tale of a plan goes by.
+use Rattle.std.specs.Prelude.{ℕ, List, Option, Some, None, slice_get}
+use Rattle.join_tale.specs.Bounds.{Bounds}
 use Rattle.pipeline_desc.specs.Meant.{PlanMeant}
-use Rattle.plan_work.specs.Plans.{opener_of, stream_of}
-use Rattle.run_rules.specs.Work.{Work}
+use Rattle.pipeline_desc.specs.declared.stream.StreamSpec.{StreamSpec}
 
--- the work of a plan, of which it isn't said what its streams give
-abbrev pub bare_work : PlanMeant → Work
-bare_work p = bare (Some (opener_of p)) (map stream_of p.streams)
+-- the stream whose end stops stream k, and none for one of the list
+abbrev pub until_of : List StreamSpec → ℕ → Option ℕ
+until_of streams k = elim (slice_get streams k) [ Some s ↦ s.until | None ↦ None ]
+
+-- how many frames are printed at most, how many streams are open at once, and which stream stops which, whatever lines a list has
+abbrev pub plan_bounds : PlanMeant → Bounds
+plan_bounds p = record { most = p.take; max_open = p.max_open; until = until_of p.streams }

@@ -1,6 +1,6 @@
 -- What the streams write to is no other path of a description.
 use Rattle.std.proofs.Common.{◌≡◌, ◌≢◌, ◌⊎◌, ℕ, suc, ◌+◌, ◌<◌, cond, List, [], ◌∷◌, ◌++◌, length, Option, Some, None, inl, inr, ⊎_elim, refl, ap, ◌∙◌, sym, subst, arith, leb-true, leb-false, flat_map, append_assoc}
-use Rattle.std.specs.Prelude.{unwrap_or}
+use Rattle.std.specs.Prelude.{option_to_list, unwrap_or}
 use Rattle.std.specs.Str.{bytes_eq}
 use Rattle.std.proofs.lemmas.Bool.{cases_eq, cases_lt}
 use Rattle.std.proofs.lemmas.List.{length-append}
@@ -11,9 +11,10 @@ use Rattle.std.proofs.lemmas.Slice.Eq.{bytes_eq-Decides}
 use Rattle.toml.specs.Data.{no_members}
 use Rattle.device_port.specs.Device.{Place, to_write}
 use Rattle.pipeline_desc.specs.Outputs.{alone_from, is_alone, outputs_alone}
-use Rattle.pipeline_desc.specs.Places.{all_places, stream_places, table_places}
+use Rattle.pipeline_desc.specs.Places.{all_places, list_places, stream_places, table_places}
 use Rattle.pipeline_desc.specs.Reading.{passes}
 use Rattle.pipeline_desc.specs.declared.refusal.RefusalKind.TheVariants as refused
+use Rattle.pipeline_desc.specs.declared.listing.ListSpec.{ListSpec}
 use Rattle.pipeline_desc.specs.declared.stream.StreamSpec.{StreamSpec}
 use Rattle.pipeline_desc.specs.declared.table.TableSpec.{TableSpec}
 use Rattle.desc_laws.specs.Flaws.{Flaw, Key}
@@ -21,22 +22,23 @@ use Rattle.desc_laws.specs.Flaws.Flaw.{OtherPath}
 use Rattle.desc_laws.specs.Flaws.Key.{Path, With, To}
 use Rattle.desc_laws.specs.Flaws.Part.{Table, Stream}
 use Rattle.desc_laws.specs.Has.{HasFlaw, flaws_from, flaws_of_outputs}
-use Rattle.desc_laws.specs.Places.{HasText, streams_in, tables_in, text_in, value_at, value_in}
+use Rattle.desc_laws.specs.Places.{HasText, list_in, streams_in, tables_in, text_in, value_at, value_in}
 use Rattle.desc_laws.specs.Says.{SaysStream, SaysStreams, SaysTables}
 use Rattle.desc_laws.specs.Stages.{IsPathBeside}
 use Rattle.desc_laws.proofs.Agree.{Agrees, test_agrees, then_agrees}
-use Rattle.desc_laws.proofs.Outputs.{IsNamed, IsOne, IsRead, IsTable, Tells, both_tell, count, given_text, reads, reads_tell, streams_tell, tables_tell}
+use Rattle.desc_laws.proofs.Lists.{AreListed}
+use Rattle.desc_laws.proofs.Outputs.{IsNamed, IsOne, IsRead, IsTable, Tells, both_tell, count, given_text, list_tells, reads, reads_tell, streams_tell, tables_tell}
 use Rattle.desc_laws.proofs.Positions.{at_stream}
 
 -- where a text stands, there is a table or a stream
 nothing_there : (t : List ℕ) → None ≡ Some t → ⊥
 nothing_there t e = cc
 
-stream_within : (bytes : List ℕ) (k : ℕ) (key : Key) (t : List ℕ) → HasText bytes (Stream k) key t → k < length (streams_in bytes)
+stream_within : (bytes : List ℕ) (k : ℕ) (key : Key) (t : List ℕ) → HasText bytes (Stream k) key t → k < length (streams_in bytes ++ list_in bytes)
 stream_within bytes k key t h =
     ⊎_elim (λ below. below)
-    (λ past. absurd (nothing_there t (sym (ap (λ o. text_in (value_in (unwrap_or o no_members) key)) (slice_get_past (streams_in bytes) k past)) ∙ h)))
-    (cases_lt k (length (streams_in bytes)))
+    (λ past. absurd (nothing_there t (sym (ap (λ o. text_in (value_in (unwrap_or o no_members) key)) (slice_get_past (streams_in bytes ++ list_in bytes) k past)) ∙ h)))
+    (cases_lt k (length (streams_in bytes ++ list_in bytes)))
 
 table_within : (bytes : List ℕ) (i : ℕ) (key : Key) (t : List ℕ) → HasText bytes (Table i) key t → i < length (tables_in bytes)
 table_within bytes i key t h =
@@ -50,20 +52,34 @@ said_split bytes i n [] rest s e h = let same : i ≡ n = omega (arith, e) in (t
 said_split bytes i n (x ∷ before) rest s e h =
     let (a, b, c) = said_split bytes (i + 1) n before rest s (omega (arith, e)) h.1 in ((h.0, a), b, c)
 
-module _ (bytes : List ℕ) (tables : List TableSpec) (streams : List StreamSpec) (tables_said : SaysTables bytes 0 tables) (few : length tables ≡ length (tables_in bytes)) (streams_said : SaysStreams bytes 0 streams) (many : length streams ≡ length (streams_in bytes)) where
+module _ (bytes : List ℕ) (tables : List TableSpec) (list : Option ListSpec) (streams : List StreamSpec) (tables_said : SaysTables bytes 0 tables) (few : length tables ≡ length (tables_in bytes)) (list_said : AreListed bytes list)
+    (streams_said : SaysStreams bytes 0 streams) (many : length streams ≡ length (streams_in bytes)) where
   abbrev places : List Place
-  places = all_places tables streams
+  places = all_places tables list streams
+
+  -- the number of the list, and whether there is one
+  abbrev last : ℕ
+  last = length (streams_in bytes)
+
+  abbrev listed : ℕ
+  listed = length (option_to_list list)
 
   module _ (before rest : List StreamSpec) (s : StreamSpec) (t : List ℕ) (all : streams ≡ before ++ s ∷ rest) (to : s.to ≡ Some t) where
     -- the other places
     abbrev others : List Place
-    others = table_places tables ++ (flat_map stream_places before ++ (reads t bytes s ++ flat_map stream_places rest))
+    others = table_places tables ++ (list_places list ++ (flat_map stream_places before ++ (reads t bytes s ++ flat_map stream_places rest)))
+
+    abbrev of_streams : List Place
+    of_streams = flat_map stream_places before ++ (reads t bytes s ++ flat_map stream_places rest)
 
     abbrev Named : ℕ → Type 0
     Named = IsNamed t bytes
 
+    abbrev AmongStreams : ℕ → Type 0
+    AmongStreams n = IsOne Named 0 (length before) ⊎ (IsRead t bytes n ⊎ IsOne Named (n + 1) (length rest))
+
     abbrev Beside : ℕ → Type 0
-    Beside n = IsOne (IsTable t bytes) 0 (length tables) ⊎ (IsOne Named 0 (length before) ⊎ (IsRead t bytes n ⊎ IsOne Named (n + 1) (length rest)))
+    Beside n = IsOne (IsTable t bytes) 0 (length tables) ⊎ (IsOne Named last listed ⊎ AmongStreams n)
 
     split : (n : ℕ) → n ≡ 0 + length before → SaysStreams bytes 0 before × SaysStream bytes n s × SaysStreams bytes (n + 1) rest
     split n e = said_split bytes 0 n before rest s e (subst (SaysStreams bytes 0) all streams_said)
@@ -71,29 +87,35 @@ module _ (bytes : List ℕ) (tables : List TableSpec) (streams : List StreamSpec
     others_tell : (n : ℕ) → n ≡ 0 + length before → Tells t others (Beside n)
     others_tell n e =
         let (a, b, c) = split n e in
-        both_tell t (table_places tables) (flat_map stream_places before ++ (reads t bytes s ++ flat_map stream_places rest)) (IsOne (IsTable t bytes) 0 (length tables)) (IsOne Named 0 (length before) ⊎ (IsRead t bytes n ⊎ IsOne Named (n + 1) (length rest)))
+        both_tell t (table_places tables) (list_places list ++ of_streams) (IsOne (IsTable t bytes) 0 (length tables)) (IsOne Named last listed ⊎ AmongStreams n)
         (tables_tell t bytes 0 tables tables_said)
+        (both_tell t (list_places list) of_streams (IsOne Named last listed) (AmongStreams n) (list_tells t bytes last (list_in bytes) list list_said.says list_said.number list_said.bare)
         (both_tell t (flat_map stream_places before) (reads t bytes s ++ flat_map stream_places rest) (IsOne Named 0 (length before)) (IsRead t bytes n ⊎ IsOne Named (n + 1) (length rest)) (streams_tell t bytes 0 before a)
-        (both_tell t (reads t bytes s) (flat_map stream_places rest) (IsRead t bytes n) (IsOne Named (n + 1) (length rest)) (reads_tell t bytes n s b) (streams_tell t bytes (n + 1) rest c)))
+        (both_tell t (reads t bytes s) (flat_map stream_places rest) (IsRead t bytes n) (IsOne Named (n + 1) (length rest)) (reads_tell t bytes n s b) (streams_tell t bytes (n + 1) rest c))))
 
     -- the path stands once more than among the others
     once_more : count t places ≡ 1 + count t others
     once_more =
         let own : count t (stream_places s) ≡ 1 + count t (reads t bytes s) = ap (λ o. count t (stream_places (record s { to = o }))) to ∙ (sum_by-cons (λ q. cond (bytes_eq t q.path) 1 0) (to_write t) (reads t bytes s)
         ∙ ap (λ b. cond {A = ℕ} b 1 0 + count t (reads t bytes s)) ((bytes_eq-Decides t t).1 refl)) in
-        let whole : count t places ≡ count t (table_places tables) + count t (flat_map stream_places streams) = sum_by-append (λ q. cond (bytes_eq t q.path) 1 0) (table_places tables) (flat_map stream_places streams) in
+        let whole : count t places ≡ count t (table_places tables) + count t (list_places list ++ flat_map stream_places streams) = sum_by-append (λ q. cond (bytes_eq t q.path) 1 0) (table_places tables) (list_places list ++ flat_map stream_places streams) in
+        let listed_too : count t (list_places list ++ flat_map stream_places streams) ≡ count t (list_places list) + count t (flat_map stream_places streams) = sum_by-append (λ q. cond (bytes_eq t q.path) 1 0) (list_places list) (flat_map stream_places streams) in
         let parts : count t (flat_map stream_places streams) ≡ count t (flat_map stream_places before) + count t (stream_places s ++ flat_map stream_places rest) =
         ap (λ l. count t (flat_map stream_places l)) all ∙ (ap (count t) (flat_map-append stream_places before (s ∷ rest)) ∙ sum_by-append (λ q. cond (bytes_eq t q.path) 1 0) (flat_map stream_places before) (stream_places s ++ flat_map stream_places rest)) in
         let here = sum_by-append (λ q. cond (bytes_eq t q.path) 1 0) (stream_places s) (flat_map stream_places rest) in
-        let first = sum_by-append (λ q. cond (bytes_eq t q.path) 1 0) (table_places tables) (flat_map stream_places before ++ (reads t bytes s ++ flat_map stream_places rest)) in
+        let first = sum_by-append (λ q. cond (bytes_eq t q.path) 1 0) (table_places tables) (list_places list ++ of_streams) in
+        let next = sum_by-append (λ q. cond (bytes_eq t q.path) 1 0) (list_places list) of_streams in
         let second = sum_by-append (λ q. cond (bytes_eq t q.path) 1 0) (flat_map stream_places before) (reads t bytes s ++ flat_map stream_places rest) in
         let third = sum_by-append (λ q. cond (bytes_eq t q.path) 1 0) (reads t bytes s) (flat_map stream_places rest) in
-        omega (arith, own, whole, parts, here, first, second, third)
+        omega (arith, own, whole, listed_too, parts, here, first, next, second, third)
 
-    within : (j : ℕ) → Named j → j < length before + suc (length rest)
+    within : (j : ℕ) → Named j → j < last + listed
     within j h =
-        let below : j < length (streams_in bytes) = ⊎_elim (λ e. stream_within bytes j To t e) (λ r. ⊎_elim (λ e. stream_within bytes j Path t e) (λ e. stream_within bytes j With t e) r) h in
-        omega (arith, below, many, ap length all, length-append before (s ∷ rest))
+        let below : j < length (streams_in bytes ++ list_in bytes) = ⊎_elim (λ e. stream_within bytes j To t e) (λ r. ⊎_elim (λ e. stream_within bytes j Path t e) (λ e. stream_within bytes j With t e) r) h in
+        omega (arith, below, length-append (streams_in bytes) (list_in bytes), list_said.number)
+
+    in_all : last ≡ length before + suc (length rest)
+    in_all = omega (arith, many, ap length all, length-append before (s ∷ rest))
 
     -- they are those that another key names
     beside_one : (n : ℕ) → n ≡ 0 + length before → IsPathBeside bytes n t → Beside n
@@ -102,9 +124,10 @@ module _ (bytes : List ℕ) (tables : List TableSpec) (streams : List StreamSpec
         -- one of stream j
         placed : (j : ℕ) → Named j → (j ≡ n → IsRead t bytes n) → Beside n
         placed j named own =
-            ⊎_elim (λ same. inr (inr (inl (own same))))
-            (λ other. ⊎_elim (λ low. inr (inl (record { number = j; low = omega arith; high = omega (arith, low, e); is = named })))
-            (λ past. inr (inr (inr (record { number = j; low = omega (arith, past, other); high = omega (arith, e, within j named); is = named })))) (cases_lt j n))
+            ⊎_elim (λ same. inr (inr (inr (inl (own same)))))
+            (λ other. ⊎_elim (λ low. inr (inr (inl (record { number = j; low = omega arith; high = omega (arith, low, e); is = named }))))
+            (λ past. ⊎_elim (λ inside. inr (inr (inr (inr (record { number = j; low = omega (arith, past, other); high = omega (arith, e, inside, in_all); is = named })))))
+            (λ behind. inr (inl (record { number = j; low = behind; high = within j named; is = named }))) (cases_lt j last)) (cases_lt j n))
             (cases_eq j n)
 
         stream_one : (j : ℕ) → HasText bytes (Stream j) Path t ⊎ (HasText bytes (Stream j) With t ⊎ ((j ≢ n) × HasText bytes (Stream j) To t)) → Beside n
@@ -116,8 +139,9 @@ module _ (bytes : List ℕ) (tables : List TableSpec) (streams : List StreamSpec
     one_beside : (n : ℕ) → n ≡ 0 + length before → Beside n → IsPathBeside bytes n t
     one_beside n e h =
         ⊎_elim (λ table. inl (table.number, table.is))
+        (λ some. ⊎_elim (λ list. stream_beside list.number list.is (λ same. omega (arith, same, list.low, in_all, e)))
         (λ more. ⊎_elim (λ early. stream_beside early.number early.is (λ same. omega (arith, same, early.high, e)))
-        (λ later. ⊎_elim (λ own. inr (n, ⊎_elim (λ path. inl path) (λ side. inr (inl side)) own)) (λ late. stream_beside late.number late.is (λ same. omega (arith, same, late.low))) later) more)
+        (λ later. ⊎_elim (λ own. inr (n, ⊎_elim (λ path. inl path) (λ side. inr (inl side)) own)) (λ late. stream_beside late.number late.is (λ same. omega (arith, same, late.low))) later) more) some)
         h
       where
         stream_beside : (j : ℕ) → Named j → j ≢ n → IsPathBeside bytes n t
@@ -155,5 +179,5 @@ module _ (bytes : List ℕ) (tables : List TableSpec) (streams : List StreamSpec
   flaws_alike of i (x ∷ xs) [] e = absurd (omega (arith, e))
 
   -- all that the streams write to
-  pub outputs_agree : Agrees (HasFlaw bytes) (flaws_of_outputs bytes) (outputs_alone tables streams)
-  outputs_agree = subst (λ fs. Agrees (HasFlaw bytes) fs (outputs_alone tables streams)) (flaws_alike (λ k. OtherPath k ∷ []) 0 streams (streams_in bytes) many) (alone_follow [] streams 0 refl refl)
+  pub outputs_agree : Agrees (HasFlaw bytes) (flaws_of_outputs bytes) (outputs_alone tables list streams)
+  outputs_agree = subst (λ fs. Agrees (HasFlaw bytes) fs (outputs_alone tables list streams)) (flaws_alike (λ k. OtherPath k ∷ []) 0 streams (streams_in bytes) many) (alone_follow [] streams 0 refl refl)

@@ -120,12 +120,12 @@ said_between tables [] (s ∷ steps) h = absurd h
 said_between tables (word ∷ words) [] h = absurd h
 
 -- the steps of a stream are few, and one of them at most puts a line between each two
-pub fitting_agrees : (bytes : List ℕ) (k : ℕ) (steps : List Step) → SaysSteps (names_in bytes) (words_of bytes k) steps → Agrees (HasFlaw bytes) (ManySteps k ∷ TwoBetween k ∷ []) (are_fitting k steps)
+pub fitting_agrees : (bytes : List ℕ) (k : ℕ) (steps : List Step) → SaysSteps (names_in bytes k) (words_of bytes k) steps → Agrees (HasFlaw bytes) (ManySteps k ∷ TwoBetween k ∷ []) (are_fitting k steps)
 fitting_agrees bytes k steps said =
     then_agrees (HasFlaw bytes) (ManySteps k ∷ []) (TwoBetween k ∷ []) (passes (are_few steps) refused.OutOfRange (at_stream k).0) (λ _. passes (put_one_between steps) refused.OutOfRange (at_stream k).0)
     (test_agrees (HasFlaw bytes) (ManySteps k) (are_few steps)
-    (λ e h. omega (arith, h, leb-true (length steps) most_steps e, said_length (names_in bytes) (words_of bytes k) steps said))
-    (λ e. let more = leb-false (length steps) most_steps e in omega (arith, more, said_length (names_in bytes) (words_of bytes k) steps said)))
+    (λ e h. omega (arith, h, leb-true (length steps) most_steps e, said_length (names_in bytes k) (words_of bytes k) steps said))
+    (λ e. let more = leb-false (length steps) most_steps e in omega (arith, more, said_length (names_in bytes k) (words_of bytes k) steps said)))
     (λ u is. test_agrees (HasFlaw bytes) (TwoBetween k) (put_one_between steps)
-    (λ e h. omega (arith, h, leb-true (count_by puts_between steps) 1 e, said_between (names_in bytes) (words_of bytes k) steps said))
-    (λ e. let more = leb-false (count_by puts_between steps) 1 e in omega (arith, more, said_between (names_in bytes) (words_of bytes k) steps said)))
+    (λ e h. omega (arith, h, leb-true (count_by puts_between steps) 1 e, said_between (names_in bytes k) (words_of bytes k) steps said))
+    (λ e. let more = leb-false (count_by puts_between steps) 1 e in omega (arith, more, said_between (names_in bytes k) (words_of bytes k) steps said)))

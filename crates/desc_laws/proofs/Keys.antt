@@ -1,5 +1,8 @@
 -- The keys of a part, and the value at one of them.
-use Rattle.std.proofs.Common.{◌≡◌, ℕ, true, false, List, [], ◌∷◌, Option, Some, None, Ok, Err, inl, inr, ⊎_elim, refl, ◌∙◌, sym, subst}
+use Rattle.std.specs.Cmp.Lexicographic.{slice_cmp}
+use Rattle.std.specs.Ordering.{match_ordering}
+use Rattle.std.proofs.lemmas.Map.Text.{is_eq-slice_cmp}
+use Rattle.std.proofs.Common.{◌≡◌, ℕ, Bool, Ordering, Less, Equal, Greater, nat_cmp, is_eq, true, false, List, [], ◌∷◌, Option, Some, None, Ok, Err, inl, inr, ⊎_elim, refl, ◌∙◌, sym, subst}
 use Rattle.std.specs.List.{list_any}
 use Rattle.std.specs.Str.{bytes_eq}
 use Rattle.std.proofs.lemmas.Bool.{or_cases, or_left, or_right, and_parts, and_cases, false≢true, true≢false}
@@ -7,7 +10,7 @@ use Rattle.std.proofs.lemmas.Slice.Eq.{bytes_eq-Decides}
 use Rattle.chunk_core.specs.Lists.{IsAmong}
 use Rattle.chunk_core.specs.Lists.IsAmong.{here, there}
 use Rattle.chunk_core.proofs.Members.{among_cons, among_nil}
-use Rattle.toml.specs.Data.{Data, Members, no_members, member}
+use Rattle.toml.specs.Data.{Data, Members, no_members, member, get_member}
 use Rattle.pipeline_desc.specs.Reading.{Reading, ◌>>=◌, present, refusal_of}
 use Rattle.pipeline_desc.specs.Values.{all_known, where_given}
 use Rattle.pipeline_desc.specs.declared.refusal.RefusalKind.TheVariants as refused
@@ -23,7 +26,7 @@ is_among k [] h = absurd (false≢true h)
 is_among k (n ∷ names) h =
     ⊎_elim (λ e. subst (λ m. IsAmong k (m ∷ names)) ((bytes_eq-Decides k n).0 e) (here names)) (λ later. there n (is_among k names later)) (or_cases (bytes_eq k n) (list_any (bytes_eq k) names) h)
 
-is_found : (k : List ℕ) (names : List (List ℕ)) → IsAmong k names → list_any (bytes_eq k) names ≡ true
+pub is_found : (k : List ℕ) (names : List (List ℕ)) → IsAmong k names → list_any (bytes_eq k) names ≡ true
 is_found k [] i = absurd (among_nil i)
 is_found k (n ∷ names) i =
     ⊎_elim (λ e. or_left (bytes_eq k n) (list_any (bytes_eq k) names) ((bytes_eq-Decides k n).1 e)) (λ later. or_right (bytes_eq k n) (list_any (bytes_eq k) names) (is_found k names later)) (among_cons i)
@@ -88,3 +91,19 @@ given_agrees bytes at k read optional each = go (value_at bytes at k) refl
     go : (o : Option Data) → value_at bytes at k ≡ o → Agrees (HasFlaw bytes) (flaws_at at k) (where_given read o)
     go None e = nothing_wrong bytes at k e optional
     go (Some d) e = made_agrees (HasFlaw bytes) (flaws_at at k) (read d) (λ x. Ok (Some x)) (each d e) (λ x is. tt)
+
+passed_by : (o : Ordering) (rest : Option Data) (d : Data) → is_eq o ≡ false → match_ordering o rest (Some d) rest ≡ rest
+passed_by Less rest d e = refl
+passed_by Equal rest d e = absurd (true≢false e)
+passed_by Greater rest d e = refl
+
+-- where all keys are known, nothing stands at another one
+pub unknown_missing : (names : List (List ℕ)) (key : List ℕ) (ms : Members) → all_known names ms ≡ true → list_any (bytes_eq key) names ≡ false → get_member key ms ≡ None
+unknown_missing names key no_members h other = refl
+unknown_missing names key (member k d ms) h other =
+    let parts = and_parts (list_any (bytes_eq k) names) (all_known names ms) h in
+    passed_by (slice_cmp nat_cmp key k) (get_member key ms) d (is_eq-slice_cmp key k ∙ differ (bytes_eq key k) refl parts.0) ∙ unknown_missing names key ms parts.1 other
+  where
+    differ : (b : Bool) → bytes_eq key k ≡ b → list_any (bytes_eq k) names ≡ true → b ≡ false
+    differ true e known = absurd (true≢false (sym (subst (λ l. list_any (bytes_eq l) names ≡ true) (sym ((bytes_eq-Decides key k).0 e)) known) ∙ other))
+    differ false e known = refl

@@ -2,8 +2,10 @@ mod Agree
 mod Alone
 mod Between
 mod Keys
+mod Lists
 mod Numbers
 mod Outputs
+mod Parts
 mod Plans
 mod Positions
 mod Said

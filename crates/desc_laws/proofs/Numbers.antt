@@ -1,5 +1,5 @@
 -- Numbers that were read of an accepted description.
-use Rattle.std.proofs.Common.{◌≡◌, ℕ, Bool, true, false, Option, Some, None, Ok, if◌then◌else◌, refl, ap, sym, subst, ℤ, pos, negsuc}
+use Rattle.std.proofs.Common.{◌≡◌, ℕ, Bool, true, false, Option, Some, None, Ok, if◌then◌else◌, refl, ap, ◌∙◌, sym, subst, ℤ, pos, negsuc}
 use Rattle.std.specs.Prelude.{unwrap_or}
 use Rattle.toml.specs.Data.{Data, as_integer}
 use Rattle.pipeline_desc.specs.Limits.{is_another_stream, is_between}
@@ -34,3 +34,14 @@ says_limit (Some d) low high z e = number_at (as_integer d) refused.OutOfRange (
 pub says_until : (k : ℕ) (o : Option Data) (count : ℕ) (z : Option ℕ) → where_given (until_meant count k) o ≡ Ok z → SaysLimit o z
 says_until k None count z e = let none : None ≡ z = cc in sym none
 says_until k (Some d) count z e = number_at (as_integer d) refused.BadUntil (is_another_stream count k) (at_stream k).0 z e
+
+-- so is a number of a stream or of the list
+pub says_number_at : (k : ℕ) (o : Option Data) (low high otherwise : ℕ) (z : Option ℕ) → where_given (number_within low high (at_stream k).0) o ≡ Ok z → SaysNumber o otherwise (unwrap_or z otherwise)
+says_number_at k None low high otherwise z e = let none : None ≡ z = cc in ap (λ o. unwrap_or o otherwise) (sym none)
+says_number_at k (Some d) low high otherwise z e =
+    let (n, is, same) = number_at (as_integer d) refused.OutOfRange (is_between low high) (at_stream k).0 z e in subst (λ m. as_integer d ≡ Some (pos m)) (sym (ap (λ o. unwrap_or o otherwise) same)) is
+
+-- one number alone is said
+pub says_one : (o : Option Data) (otherwise m n : ℕ) → SaysNumber o otherwise m → SaysNumber o otherwise n → m ≡ n
+says_one None otherwise m n a b = a ∙ sym b
+says_one (Some d) otherwise m n a b = let both : Some (pos m) ≡ Some (pos n) = sym a ∙ b in cc

@@ -4,16 +4,17 @@ use Rattle.std.specs.Str.{bytes_eq}
 use Rattle.std.proofs.lemmas.Bool.{cases_eq}
 use Rattle.std.proofs.lemmas.List.Sums.{sum_by-append, sum_by-cons}
 use Rattle.std.proofs.lemmas.Slice.Eq.{bytes_eq-Decides}
-use Rattle.toml.specs.Data.{Data}
+use Rattle.toml.specs.Data.{Data, Members}
 use Rattle.device_port.specs.Device.{Place, to_read, to_write}
-use Rattle.pipeline_desc.specs.Places.{second_path, stream_places, table_places}
+use Rattle.pipeline_desc.specs.Places.{list_places, second_path, stream_places, table_places}
+use Rattle.pipeline_desc.specs.declared.listing.ListSpec.{ListSpec}
 use Rattle.pipeline_desc.specs.declared.stream.Second.{Second}
 use Rattle.pipeline_desc.specs.declared.stream.StreamSpec.{StreamSpec}
 use Rattle.pipeline_desc.specs.declared.table.TableSpec.{TableSpec}
 use Rattle.desc_laws.specs.Flaws.Key.{Path, With, To}
 use Rattle.desc_laws.specs.Flaws.Part.{Table, Stream}
 use Rattle.desc_laws.specs.Places.{HasText, text_in, value_at}
-use Rattle.desc_laws.specs.Says.{SaysGiven, SaysSecond, SaysStream, SaysStreams, SaysTables, SaysText}
+use Rattle.desc_laws.specs.Says.{SaysGiven, SaysListed, SaysSecond, SaysStream, SaysStreams, SaysTables, SaysText}
 
 -- what is said to stand there does
 pub given_text : (o : Option Data) (given : Option (List ℕ)) → SaysGiven o given → text_in o ≡ given
@@ -140,3 +141,30 @@ module _ (t : List ℕ) where
       where
         path : text_in (value_at bytes (Table i) Path) ≡ Some table.path
         path = said_text (value_at bytes (Table i) Path) table.path said.0.path
+
+    -- the list's path, where there is a list, which has number k
+    pub list_tells : (k : ℕ) (entries : List Members) (list : Option ListSpec) → SaysListed bytes k entries list → length entries ≡ length (option_to_list list)
+        → (0 < length entries → (value_at bytes (Stream k) With ≡ None) × (value_at bytes (Stream k) To ≡ None)) → Tells (list_places list) (IsOne IsNamed k (length (option_to_list list)))
+    list_tells k entries None said number bare = told_so [] ⊥ (IsOne IsNamed k 0) none_tells (no_more IsNamed k)
+    list_tells k [] (Some l) said number bare = absurd (omega (arith, number))
+    list_tells k (ms ∷ more) (Some l) (x, is, said) number bare =
+        told_so (to_read l.path ∷ []) (t ≡ l.path) (IsOne IsNamed k 1) (one_tells (to_read l.path)) (
+          (λ e. (one_more IsNamed k 0).0 (inl (inr (inl (path ∙ ap (λ (y : List ℕ). Some y) (sym e)))))),
+          (λ h. ⊎_elim (λ named. own named) (λ none. absurd ((no_more IsNamed (k + 1)).1 none)) ((one_more IsNamed k 0).1 h)),
+        )
+      where
+        some_same : (a b : ListSpec) → Some a ≡ Some b → a ≡ b
+        some_same a b e = cc
+
+        path : text_in (value_at bytes (Stream k) Path) ≡ Some l.path
+        path = said_text (value_at bytes (Stream k) Path) x.path said.path ∙ ap (λ (y : ListSpec). Some y.path) (some_same x l (sym is))
+
+        no_text : (o : Option Data) → o ≡ None → text_in o ≡ Some t → ⊥
+        no_text o e h = let no : None ≡ Some t = sym (ap text_in e) ∙ h in cc
+
+        clean : (value_at bytes (Stream k) With ≡ None) × (value_at bytes (Stream k) To ≡ None)
+        clean = bare (omega arith)
+
+        own : IsNamed k → t ≡ l.path
+        own named = ⊎_elim (λ to. absurd (no_text (value_at bytes (Stream k) To) clean.1 to))
+            (λ r. ⊎_elim (λ at. let both : Some l.path ≡ Some t = sym path ∙ at in let one : l.path ≡ t = cc in sym one) (λ side. absurd (no_text (value_at bytes (Stream k) With) clean.0 side)) r) named

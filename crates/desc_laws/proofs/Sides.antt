@@ -122,7 +122,7 @@ until_agrees bytes k = number_or_agrees bytes (Stream k) Until refused.BadUntil 
 pub record AreRead (bytes : List ℕ) (k : ℕ) (side : Option (List ℕ)) (joined : Option Join) (after : List Step) : Type 0 where
   pub side_is : SaysGiven (value_at bytes (Stream k) With) side
   pub join_is : IsJoinGiven (value_at bytes (Stream k) JoinKey) joined
-  pub after_is : SaysSteps (names_in bytes) (words_at bytes k After) after
+  pub after_is : SaysSteps (names_in bytes k) (words_at bytes k After) after
 
 given_none : (o : Option Data) (x : Option (List ℕ)) → SaysGiven o x → x ≡ None → o ≡ None
 given_none None x h e = refl
@@ -168,7 +168,7 @@ not_given bytes k key e h = let (d, some) = h in let no : None ≡ Some d = sym 
 pub second_agrees : (bytes : List ℕ) (k : ℕ) (side : Option (List ℕ)) (joined : Option Join) (after : List Step) → AreRead bytes k side joined after
     → Agrees (HasFlaw bytes) (HalfJoined k ∷ []) (second_meant (at_stream k).0 side joined after)
 second_agrees bytes k None None [] are = (
-  (λ h. ⊎_elim (λ a. no_side a.0) (λ b. ⊎_elim (λ c. not_given bytes k JoinKey (join_none (value_at bytes (Stream k) JoinKey) are.join_is) c.0) (λ d. d.0 (said_nothing (names_in bytes) (words_at bytes k After) are.after_is)) b) h),
+  (λ h. ⊎_elim (λ a. no_side a.0) (λ b. ⊎_elim (λ c. not_given bytes k JoinKey (join_none (value_at bytes (Stream k) JoinKey) are.join_is) c.0) (λ d. d.0 (said_nothing (names_in bytes k) (words_at bytes k After) are.after_is)) b) h),
   tt,
 )
   where
@@ -176,7 +176,7 @@ second_agrees bytes k None None [] are = (
     no_side = not_given bytes k With (given_none (value_at bytes (Stream k) With) None are.side_is refl)
 second_agrees bytes k None None (s ∷ steps) are = inl (inr (inr (some (words_at bytes k After) are.after_is, not_given bytes k With (given_none (value_at bytes (Stream k) With) None are.side_is refl))), refl)
   where
-    some : (words : List (List ℕ)) → SaysSteps (names_in bytes) words (s ∷ steps) → words ≢ []
+    some : (words : List (List ℕ)) → SaysSteps (names_in bytes k) words (s ∷ steps) → words ≢ []
     some [] h e = h
     some (word ∷ words) h e = let no : word ∷ words ≡ [] = e in cc
 second_agrees bytes k None (Some j) after are =
@@ -205,23 +205,23 @@ second_is k (Some path) None after second e = (cc)
 second_is k (Some path) (Some j) after second e = let same : Some (record { join = j; path = path; after = after }) ≡ second = cc in subst (SecondIs (Some path) (Some j) after) same (refl, refl, refl)
 
 module _ (bytes : List ℕ) (k : ℕ) (side : Option (List ℕ)) (joined : Option Join) (after : List Step) (are : AreRead bytes k side joined after) where
-  pub second_stands : (second : Option Second) → SecondIs side joined after second → IsSecond (names_in bytes) k (text_in (value_at bytes (Stream k) JoinKey)) (words_at bytes k After) second
+  pub second_stands : (second : Option Second) → SecondIs side joined after second → IsSecond (names_in bytes k) k (text_in (value_at bytes (Stream k) JoinKey)) (words_at bytes k After) second
   second_stands None h =
       let (s, j, a) = h in (
         ap text_in (join_none (value_at bytes (Stream k) JoinKey) (subst (IsJoinGiven (value_at bytes (Stream k) JoinKey)) j are.join_is)),
-        said_nothing (names_in bytes) (words_at bytes k After) (subst (SaysSteps (names_in bytes) (words_at bytes k After)) a are.after_is),
+        said_nothing (names_in bytes k) (words_at bytes k After) (subst (SaysSteps (names_in bytes k) (words_at bytes k After)) a are.after_is),
       )
   second_stands (Some x) h =
       let (s, j, a) = h in
       let (name, text, named) = join_some (value_at bytes (Stream k) JoinKey) x.join (subst (IsJoinGiven (value_at bytes (Stream k) JoinKey)) j are.join_is) in
-      (name, text, named, subst (SaysSteps (names_in bytes) (words_at bytes k After)) (sym a) are.after_is)
+      (name, text, named, subst (SaysSteps (names_in bytes k) (words_at bytes k After)) (sym a) are.after_is)
 
   pub second_said : (second : Option Second) → SecondIs side joined after second → SaysSecond bytes k second
   second_said None h =
       let (s, j, a) = h in (
         given_none (value_at bytes (Stream k) With) side are.side_is s,
         join_none (value_at bytes (Stream k) JoinKey) (subst (IsJoinGiven (value_at bytes (Stream k) JoinKey)) j are.join_is),
-        said_nothing (names_in bytes) (words_at bytes k After) (subst (SaysSteps (names_in bytes) (words_at bytes k After)) a are.after_is),
+        said_nothing (names_in bytes k) (words_at bytes k After) (subst (SaysSteps (names_in bytes k) (words_at bytes k After)) a are.after_is),
       )
   second_said (Some x) h =
       let (s, j, a) = h in
@@ -229,5 +229,5 @@ module _ (bytes : List ℕ) (k : ℕ) (side : Option (List ℕ)) (joined : Optio
       record {
         path = given_some (value_at bytes (Stream k) With) x.path (subst (SaysGiven (value_at bytes (Stream k) With)) s are.side_is);
         join = subst (SaysText (value_at bytes (Stream k) JoinKey)) (join_is name x.join named) (there_text (value_at bytes (Stream k) JoinKey) name text);
-        after = subst (SaysSteps (names_in bytes) (words_at bytes k After)) (sym a) are.after_is;
+        after = subst (SaysSteps (names_in bytes k) (words_at bytes k After)) (sym a) are.after_is;
       }

@@ -59,7 +59,7 @@ after_stand bytes k n j word is e =
 
 module _ (bytes : List ℕ) (k : ℕ) where
   abbrev reads : ℕ → List (List ℕ) → Reading (List Step)
-  reads i words = each_from (step_meant (setting_in bytes) k) i words
+  reads i words = each_from (step_meant (setting_in bytes k) k) i words
 
   -- words that stand at these numbers
   abbrev Stand : ℕ → List (List ℕ) → Type 0
@@ -68,7 +68,7 @@ module _ (bytes : List ℕ) (k : ℕ) where
   each_agrees : (i : ℕ) (words : List (List ℕ)) → Stand i words → Agrees (HasFlaw bytes) (flaws_from (flaws_of_step k) i words) (reads i words)
   each_agrees i [] stand = tt
   each_agrees i (word ∷ words) stand =
-      then_agrees (HasFlaw bytes) (flaws_of_step k i) (flaws_from (flaws_of_step k) (i + 1) words) (step_meant (setting_in bytes) k i word) (λ y. reads (i + 1) words >>= (λ ys. Ok (y ∷ ys)))
+      then_agrees (HasFlaw bytes) (flaws_of_step k i) (flaws_from (flaws_of_step k) (i + 1) words) (step_meant (setting_in bytes k) k i word) (λ y. reads (i + 1) words >>= (λ ys. Ok (y ∷ ys)))
       (step_agrees bytes k i word (let zero_more : i ≡ i + 0 = omega arith in ap (slice_get (stages_of bytes k)) zero_more ∙ stand 0 word refl))
       (λ y is. made_agrees (HasFlaw bytes) (flaws_from (flaws_of_step k) (i + 1) words) (reads (i + 1) words) (λ ys. Ok (y ∷ ys))
       (each_agrees (i + 1) words (λ j w e. ap (slice_get (stages_of bytes k)) (next j) ∙ stand (suc j) w e)) (λ ys are. tt))
@@ -77,13 +77,13 @@ module _ (bytes : List ℕ) (k : ℕ) where
       next j = omega arith
 
   -- steps that were read are what the words mean
-  each_said : (i : ℕ) (words : List (List ℕ)) (steps : List Step) → reads i words ≡ Ok steps → SaysSteps (names_in bytes) words steps
-  each_said i [] steps e = let none : [] ≡ steps = cc in subst (SaysSteps (names_in bytes) []) none tt
+  each_said : (i : ℕ) (words : List (List ℕ)) (steps : List Step) → reads i words ≡ Ok steps → SaysSteps (names_in bytes k) words steps
+  each_said i [] steps e = let none : [] ≡ steps = cc in subst (SaysSteps (names_in bytes k) []) none tt
   each_said i (word ∷ words) steps e =
-      let (s, is, more) = bind_ok (step_meant (setting_in bytes) k i word) (λ y. reads (i + 1) words >>= (λ ys. Ok (y ∷ ys))) steps e in
+      let (s, is, more) = bind_ok (step_meant (setting_in bytes k) k i word) (λ y. reads (i + 1) words >>= (λ ys. Ok (y ∷ ys))) steps e in
       let (others, are, last) = bind_ok (reads (i + 1) words) (λ ys. Ok (s ∷ ys)) steps more in
       let whole : s ∷ others ≡ steps = cc in
-      subst (SaysSteps (names_in bytes) (word ∷ words)) whole (step_said bytes k i word s is, each_said (i + 1) words others are)
+      subst (SaysSteps (names_in bytes k) (word ∷ words)) whole (step_said bytes k i word s is, each_said (i + 1) words others are)
 
   module _ (key : Key) (type : (d : Data) → IsOfType key d ≡ IsArrayOf as_str d) (optional : is_required key ≡ false) where
     -- the array of words
@@ -119,15 +119,15 @@ module _ (bytes : List ℕ) (k : ℕ) where
 
   -- the words at a key, which are steps from number i on
   pub words_agree : (key : Key) (i : ℕ) → ((d : Data) → IsOfType key d ≡ IsArrayOf as_str d) → is_required key ≡ false → Stand i (words_at bytes k key)
-      → Agrees (HasFlaw bytes) (flaws_of_words k key i (words_at bytes k key)) (steps_at (setting_in bytes) k i (value_at bytes (Stream k) key))
+      → Agrees (HasFlaw bytes) (flaws_of_words k key i (words_at bytes k key)) (steps_at (setting_in bytes k) k i (value_at bytes (Stream k) key))
   words_agree key i type optional stand =
       then_agrees (HasFlaw bytes) (OtherType (Stream k) key ∷ []) (flaws_from (flaws_of_step k) i (words_at bytes k key)) (list_at as_str (at_stream k).0 (value_at bytes (Stream k) key)) (reads i) (list_agrees key type optional)
       (λ xs is. subst (λ ys. Agrees (HasFlaw bytes) (flaws_from (flaws_of_step k) i (words_at bytes k key)) (reads i ys)) (list_seen (value_at bytes (Stream k) key) xs is) (each_agrees i (words_at bytes k key) stand))
 
-  pub words_said : (key : Key) (i : ℕ) (steps : List Step) → steps_at (setting_in bytes) k i (value_at bytes (Stream k) key) ≡ Ok steps → SaysSteps (names_in bytes) (words_at bytes k key) steps
+  pub words_said : (key : Key) (i : ℕ) (steps : List Step) → steps_at (setting_in bytes k) k i (value_at bytes (Stream k) key) ≡ Ok steps → SaysSteps (names_in bytes k) (words_at bytes k key) steps
   words_said key i steps e =
       let (xs, is, more) = bind_ok (list_at as_str (at_stream k).0 (value_at bytes (Stream k) key)) (reads i) steps e in
-      subst (λ ys. SaysSteps (names_in bytes) ys steps) (sym (list_seen (value_at bytes (Stream k) key) xs is)) (each_said i xs steps more)
+      subst (λ ys. SaysSteps (names_in bytes k) ys steps) (sym (list_seen (value_at bytes (Stream k) key) xs is)) (each_said i xs steps more)
 
 -- as many steps as words
 pub said_length : (tables : NamedTables) (words : List (List ℕ)) (steps : List Step) → SaysSteps tables words steps → length steps ≡ length words

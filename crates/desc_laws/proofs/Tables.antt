@@ -7,20 +7,19 @@ use Rattle.std.proofs.lemmas.Bool.{and_parts, and_from, or_cases, or_left, or_ri
 use Rattle.std.proofs.lemmas.List.Folds.{list_any-append}
 use Rattle.std.proofs.lemmas.Slice.Eq.{bytes_eq-Decides}
 use Rattle.toml.specs.Data.{Data, Items, no_items, Members, no_members, as_array, as_str, as_table, get_member}
-use Rattle.pipeline_desc.specs.Limits.{is_name, is_path, most_streams, most_tables}
-use Rattle.pipeline_desc.specs.Plans.{Top, top_keys, top_meant}
+use Rattle.pipeline_desc.specs.Limits.{is_name, is_path}
 use Rattle.pipeline_desc.specs.Reading.{Reading, ◌>>=◌, each_behind, passes, present, refusal_of}
 use Rattle.pipeline_desc.specs.Tables.{is_new_name, table_keys, table_meant, tables_meant}
-use Rattle.pipeline_desc.specs.Values.{each_as, known_keys, number_within, required, tables_at, text_that, where_given}
+use Rattle.pipeline_desc.specs.Values.{each_as, known_keys, required, tables_at, text_that}
 use Rattle.pipeline_desc.specs.declared.refusal.Refusal.{Refusal}
 use Rattle.pipeline_desc.specs.declared.refusal.RefusalKind.TheVariants as refused
 use Rattle.pipeline_desc.specs.declared.table.TableSpec.{TableSpec}
-use Rattle.desc_laws.specs.Flaws.{Key, of_kind}
+use Rattle.desc_laws.specs.Flaws.{of_kind}
 use Rattle.desc_laws.specs.Flaws.Flaw.{OtherKey}
-use Rattle.desc_laws.specs.Flaws.Key.{Version, MaxOpen, Queue, Chunk, Take, Tables, Streams, Name, Path}
+use Rattle.desc_laws.specs.Flaws.Key.{Name, Path}
 use Rattle.desc_laws.specs.Flaws.Part.{Table}
 use Rattle.desc_laws.specs.Has.{HasFlaw, flaws_from, flaws_of_keys, flaws_of_part, flaws_of_tables, keys_of}
-use Rattle.desc_laws.specs.Places.{document_in, entries_in, part_in, streams_in, tables_in, value_at, value_in}
+use Rattle.desc_laws.specs.Places.{entries_in, part_in, tables_in, value_at}
 use Rattle.desc_laws.specs.Values.{HasNameBefore, IsNewName}
 use Rattle.desc_laws.proofs.Agree.{Agrees, or_refused, then_agrees}
 use Rattle.desc_laws.proofs.Positions.{at_top}
@@ -153,7 +152,7 @@ few_seen ys xs false r e = (cc)
 abbrev few_of : ℕ → List Members → Reading (List Members)
 few_of most ys = or_refused (nat_le (length ys) most) (of_kind refused.OutOfRange) >>= (λ _. Ok ys)
 
-tables_seen : (most : ℕ) (o : Option Data) (xs : List Members) → tables_at most o ≡ Ok xs → entries_in as_table o ≡ xs
+pub tables_seen : (most : ℕ) (o : Option Data) (xs : List Members) → tables_at most o ≡ Ok xs → entries_in as_table o ≡ xs
 tables_seen most None xs e = few_seen [] xs (nat_le 0 most) (of_kind refused.OutOfRange) e
 tables_seen most (Some d) xs e = go (as_array d) e
   where
@@ -164,41 +163,3 @@ tables_seen most (Some d) xs e = go (as_array d) e
     go : (o : Option Items) → ((present o refused.WrongType at_top.0 >>= (λ ds. present (each_as as_table ds) refused.WrongType at_top.0)) >>= few_of most) ≡ Ok xs → unwrap_or (each_as as_table (unwrap_or o no_items)) [] ≡ xs
     go None e = (cc)
     go (Some items) e = each (each_as as_table items) e
-
--- what was read last of the top
-last_read : {A B C D E F : Type 0} (a : Reading A) (b : Reading B) (c : Reading C) (d : Reading D) (e : Reading E) (f : Reading F) (t s : Reading (List Members)) (made : C → D → E → F → List Members → List Members → Top) (top : Top)
-    → (a >>= (λ _. b >>= (λ _. c >>= (λ z. d >>= (λ w. e >>= (λ x. f >>= (λ y. t >>= (λ tables. s >>= (λ streams. Ok (made z w x y tables streams)))))))))) ≡ Ok top
-    → (z : C) × (w : D) × (x : E) × (y : F) × (tables : List Members) × (streams : List Members) × (c ≡ Ok z) × (d ≡ Ok w) × (e ≡ Ok x) × (f ≡ Ok y) × (t ≡ Ok tables) × (s ≡ Ok streams) × (made z w x y tables streams ≡ top)
-last_read (Ok a) (Ok b) (Ok z) (Ok w) (Ok x) (Ok y) (Ok tables) (Ok streams) made top h = (z, w, x, y, tables, streams, refl, refl, refl, refl, refl, refl, (let whole : Ok (made z w x y tables streams) ≡ Ok top = h in cc))
-last_read (Err r) b c d e f t s made top h = (cc)
-last_read (Ok a) (Err r) c d e f t s made top h = (cc)
-last_read (Ok a) (Ok b) (Err r) d e f t s made top h = (cc)
-last_read (Ok a) (Ok b) (Ok z) (Err r) e f t s made top h = (cc)
-last_read (Ok a) (Ok b) (Ok z) (Ok w) (Err r) f t s made top h = (cc)
-last_read (Ok a) (Ok b) (Ok z) (Ok w) (Ok x) (Err r) t s made top h = (cc)
-last_read (Ok a) (Ok b) (Ok z) (Ok w) (Ok x) (Ok y) (Err r) s made top h = (cc)
-last_read (Ok a) (Ok b) (Ok z) (Ok w) (Ok x) (Ok y) (Ok tables) (Err r) made top h = (cc)
-
--- a number of the top as it is read, and the top of such numbers
-abbrev pub number_read : List ℕ → ℕ → ℕ → Key → Reading (Option ℕ)
-number_read bytes low high k = where_given (number_within low high at_top.0) (value_in (document_in bytes) k)
-
-abbrev pub top_of : Option ℕ → Option ℕ → Option ℕ → Option ℕ → List Members → List Members → Top
-top_of z w x y tables streams = record { max_open = unwrap_or z 4; queue = unwrap_or w 16; chunk = unwrap_or x 4096; take = y; tables = tables; streams = streams }
-
--- what was read of the top
-pub top_read : (bytes : List ℕ) (top : Top) → top_meant (document_in bytes) ≡ Ok top
-    → (z w x y : Option ℕ) × (tables streams : List Members) × (number_read bytes 1 64 MaxOpen ≡ Ok z) × (number_read bytes 1 64 Queue ≡ Ok w) × (number_read bytes 1 65536 Chunk ≡ Ok x) × (number_read bytes 0 1000000000 Take ≡ Ok y)
-    × (tables_at most_tables (value_in (document_in bytes) Tables) ≡ Ok tables) × (tables_at most_streams (value_in (document_in bytes) Streams) ≡ Ok streams) × (top_of z w x y tables streams ≡ top)
-top_read bytes top e =
-    let ms = document_in bytes in
-    last_read (known_keys top_keys at_top.0 ms) (number_read bytes 1 1 Version) (number_read bytes 1 64 MaxOpen) (number_read bytes 1 64 Queue) (number_read bytes 1 65536 Chunk) (number_read bytes 0 1000000000 Take)
-    (tables_at most_tables (value_in ms Tables)) (tables_at most_streams (value_in ms Streams)) top_of top e
-
--- what is described below the top is what stands there
-pub top_is : (bytes : List ℕ) (top : Top) → top_meant (document_in bytes) ≡ Ok top → (top.tables ≡ tables_in bytes) × (top.streams ≡ streams_in bytes)
-top_is bytes top e =
-    let (z, w, x, y, tables, streams, a, b, c, d, t, s, made) = top_read bytes top e in (
-      sym (ap (λ (v : Top). v.tables) made) ∙ sym (tables_seen most_tables (value_in (document_in bytes) Tables) tables t),
-      sym (ap (λ (v : Top). v.streams) made) ∙ sym (tables_seen most_streams (value_in (document_in bytes) Streams) streams s),
-    )

@@ -76,10 +76,10 @@ kind_then tables (s ∷ xs) ys j = go (kind_behind_stage tables s j) (λ x. kind
 
 module _ (bytes : List ℕ) (k : ℕ) where
   -- a stage that doesn't take the kind that comes to it, behind those before it
-  stage_agrees : (before stages : List Stage) (s : Stage) (j : Kind) → stages_of bytes k ≡ before ++ s ∷ stages → kind_behind (names_in bytes) before kind.Bytes ≡ Some j
-      → Agrees (HasFlaw bytes) (OtherKind k (length before) ∷ []) (present (kind_behind_stage (names_in bytes) s j) refused.KindClash (at_step k (length before)).0)
+  stage_agrees : (before stages : List Stage) (s : Stage) (j : Kind) → stages_of bytes k ≡ before ++ s ∷ stages → kind_behind (names_in bytes k) before kind.Bytes ≡ Some j
+      → Agrees (HasFlaw bytes) (OtherKind k (length before) ∷ []) (present (kind_behind_stage (names_in bytes k) s j) refused.KindClash (at_step k (length before)).0)
   stage_agrees before stages s j all so_far =
-      value_agrees (HasFlaw bytes) (OtherKind k (length before)) (kind_behind_stage (names_in bytes) s j) refused.KindClash (at_step k (length before)).0 refl
+      value_agrees (HasFlaw bytes) (OtherKind k (length before)) (kind_behind_stage (names_in bytes k) s j) refused.KindClash (at_step k (length before)).0 refl
       (λ x e h. let (other, kind, there, comes, none) = h in
       let one : Some s ≡ Some other = sym at ∙ there in
       let two : Some j ≡ Some kind = sym come ∙ comes in
@@ -89,35 +89,35 @@ module _ (bytes : List ℕ) (k : ℕ) where
       at : slice_get (stages_of bytes k) (length before) ≡ Some s
       at = ap (λ l. slice_get l (length before)) all ∙ get_behind before (s ∷ stages) (length before) 0 (omega arith)
 
-      come : kind_behind (names_in bytes) (take (length before) (stages_of bytes k)) kind.Bytes ≡ Some j
-      come = ap (λ l. kind_behind (names_in bytes) l kind.Bytes) (ap (take (length before)) all ∙ take-append_seam before (s ∷ stages)) ∙ so_far
+      come : kind_behind (names_in bytes k) (take (length before) (stages_of bytes k)) kind.Bytes ≡ Some j
+      come = ap (λ l. kind_behind (names_in bytes k) l kind.Bytes) (ap (take (length before)) all ∙ take-append_seam before (s ∷ stages)) ∙ so_far
 
       get : Option Stage → Option Kind
       get None = None
-      get (Some t) = kind_behind_stage (names_in bytes) t j
+      get (Some t) = kind_behind_stage (names_in bytes k) t j
 
       of : Stage → Option Kind → Option Kind
       of t None = None
-      of t (Some i) = kind_behind_stage (names_in bytes) t i
+      of t (Some i) = kind_behind_stage (names_in bytes k) t i
 
-  stages_agree : (before stages : List Stage) (j : Kind) (i : ℕ) → i ≡ length before → stages_of bytes k ≡ before ++ stages → kind_behind (names_in bytes) before kind.Bytes ≡ Some j
-      → Agrees (HasFlaw bytes) (flaws_from (λ n. OtherKind k n ∷ []) i stages) (through (names_in bytes) k i stages j)
+  stages_agree : (before stages : List Stage) (j : Kind) (i : ℕ) → i ≡ length before → stages_of bytes k ≡ before ++ stages → kind_behind (names_in bytes k) before kind.Bytes ≡ Some j
+      → Agrees (HasFlaw bytes) (flaws_from (λ n. OtherKind k n ∷ []) i stages) (through (names_in bytes k) k i stages j)
   stages_agree before [] j i number all so_far = tt
   stages_agree before (s ∷ stages) j i number all so_far =
-      then_agrees (HasFlaw bytes) (OtherKind k i ∷ []) (flaws_from (λ n. OtherKind k n ∷ []) (i + 1) stages) (present (kind_behind_stage (names_in bytes) s j) refused.KindClash (at_step k i).0) (through (names_in bytes) k (i + 1) stages)
-      (subst (λ n. Agrees (HasFlaw bytes) (OtherKind k n ∷ []) (present (kind_behind_stage (names_in bytes) s j) refused.KindClash (at_step k n).0)) (sym number) (stage_agrees before stages s j all so_far))
+      then_agrees (HasFlaw bytes) (OtherKind k i ∷ []) (flaws_from (λ n. OtherKind k n ∷ []) (i + 1) stages) (present (kind_behind_stage (names_in bytes k) s j) refused.KindClash (at_step k i).0) (through (names_in bytes k) k (i + 1) stages)
+      (subst (λ n. Agrees (HasFlaw bytes) (OtherKind k n ∷ []) (present (kind_behind_stage (names_in bytes k) s j) refused.KindClash (at_step k n).0)) (sym number) (stage_agrees before stages s j all so_far))
       (λ x is. stages_agree (before ++ s ∷ []) stages x (i + 1) (omega (arith, number, length-append before (s ∷ []))) (all ∙ sym (append_assoc before (s ∷ []) stages))
-      (kind_then (names_in bytes) before (s ∷ []) kind.Bytes ∙ (ap (option_and_then (kind_behind (names_in bytes) (s ∷ []))) so_far ∙ ap (option_and_then (kind_behind (names_in bytes) [])) (taken (kind_behind_stage (names_in bytes) s j) x is))))
+      (kind_then (names_in bytes k) before (s ∷ []) kind.Bytes ∙ (ap (option_and_then (kind_behind (names_in bytes k) (s ∷ []))) so_far ∙ ap (option_and_then (kind_behind (names_in bytes k) [])) (taken (kind_behind_stage (names_in bytes k) s j) x is))))
     where
       taken : (o : Option Kind) (x : Kind) → present o refused.KindClash (at_step k i).0 ≡ Ok x → o ≡ Some x
       taken None x e = (cc)
       taken (Some y) x e = (cc)
 
   -- the kinds of a stream
-  pub kinds_agree : (steps : List Step) (second : Option Second) → SaysSteps (names_in bytes) (words_at bytes k Steps) steps → IsSecond (names_in bytes) k (text_in (value_at bytes (Stream k) JoinKey)) (words_at bytes k After) second
+  pub kinds_agree : (steps : List Step) (second : Option Second) → SaysSteps (names_in bytes k) (words_at bytes k Steps) steps → IsSecond (names_in bytes k) k (text_in (value_at bytes (Stream k) JoinKey)) (words_at bytes k After) second
       → Agrees (HasFlaw bytes) (flaws_from (λ n. OtherKind k n ∷ []) 0 (stages_of bytes k)) (kind_given k steps second)
   kinds_agree steps second said is =
-      let tables = names_in bytes in
+      let tables = names_in bytes k in
       let words = words_at bytes k Steps in
       let behind = Joined (text_in (value_at bytes (Stream k) JoinKey)) ∷ map Word (words_at bytes k After) in
       subst (Agrees (HasFlaw bytes) (flaws_from (λ n. OtherKind k n ∷ []) 0 (stages_of bytes k)))

@@ -1,24 +1,24 @@
 -- The bytes of a description, and its top.
-use Rattle.std.proofs.Common.{◌≡◌, ℕ, ◌≤◌, Bool, true, false, List, [], ◌∷◌, length, map, Option, Some, None, Ok, if◌then◌else◌, refl, ap, ◌∙◌, sym, subst, nat_le, leb-true, leb-false, le-leb, ℤ, pos, negsuc, arith, Decides}
+use Rattle.std.proofs.Common.{◌≡◌, ℕ, ◌≤◌, Bool, true, false, List, [], ◌∷◌, length, Option, Some, None, Ok, if◌then◌else◌, refl, ap, ◌∙◌, sym, subst, nat_le, leb-true, leb-false, le-leb, ℤ, pos, negsuc, arith, Decides}
 use Rattle.std.specs.Prelude.{unwrap_or}
 use Rattle.std.specs.Str.{is_utf8}
 use Rattle.std.proofs.lemmas.Bool.{and_parts, and_from, false≢true}
 use Rattle.std.proofs.lemmas.Str.{IsUtf8-from_is_utf8, is_utf8-from_IsUtf8}
 use Rattle.toml.specs.Data.{Data, Items, no_items, Members, no_members, as_integer, as_array, as_table}
 use Rattle.toml.specs.Parse.{parse_document}
-use Rattle.pipeline_desc.specs.Limits.{is_between, most_bytes, most_streams, most_tables}
-use Rattle.pipeline_desc.specs.Plans.{document_of, top_meant}
+use Rattle.pipeline_desc.specs.Limits.{is_between, most_bytes}
+use Rattle.pipeline_desc.specs.Plans.{document_of, numbers_meant}
 use Rattle.pipeline_desc.specs.Reading.{Reading, ◌>>=◌, present, refusal_of}
 use Rattle.pipeline_desc.specs.Values.{all_known, each_as, limited, list_at, number_or, number_within, tables_at, where_given}
 use Rattle.pipeline_desc.specs.declared.refusal.Refusal.{Refusal}
 use Rattle.pipeline_desc.specs.declared.refusal.RefusalKind.{RefusalKind}
 use Rattle.pipeline_desc.specs.declared.refusal.RefusalKind.TheVariants as refused
 use Rattle.desc_laws.specs.First.{IsFirst}
-use Rattle.desc_laws.specs.Flaws.{Key, Part, key_text, limit_kind, of_kind, of_part, refusal_for}
+use Rattle.desc_laws.specs.Flaws.{Key, Part, limit_kind, of_kind, of_part, refusal_for}
 use Rattle.desc_laws.specs.Flaws.Flaw.{TooLong, NotUtf8, NotToml, OtherKey}
-use Rattle.desc_laws.specs.Flaws.Key.{Version, MaxOpen, Queue, Chunk, Take, Tables, Streams}
+use Rattle.desc_laws.specs.Flaws.Key.{Version, MaxOpen, Queue, Chunk, Take}
 use Rattle.desc_laws.specs.Flaws.Part.{Top}
-use Rattle.desc_laws.specs.Has.{HasFlaw, flaws_at, flaws_of_bytes, flaws_of_key, flaws_of_part, flaws_of_keys, keys_of}
+use Rattle.desc_laws.specs.Has.{HasFlaw, flaws_at, flaws_of_bytes, flaws_of_key, flaws_of_keys, keys_known}
 use Rattle.desc_laws.specs.Places.{document_in, entries_in, part_in, value_at}
 use Rattle.desc_laws.specs.Values.{IsArrayOf, IsInteger, IsNumber, IsOfType, IsWithin, is_required}
 use Rattle.desc_laws.proofs.Agree.{Agrees, or_refused, test_agrees, then_agrees, value_agrees}
@@ -33,9 +33,9 @@ bytes_agree bytes =
     (λ y is. value_agrees (HasFlaw bytes) NotToml (parse_document bytes) refused.NotToml _ refl (λ ms e h. let no : None ≡ Some ms = sym h ∙ e in cc) (λ e. e)))
 
 -- a part has no key of another name
-pub keys_agree : (bytes : List ℕ) (at : Part) → Agrees (HasFlaw bytes) (OtherKey at ∷ []) (or_refused (all_known (map key_text (keys_of at)) (part_in bytes at)) (refusal_for (OtherKey at)))
+pub keys_agree : (bytes : List ℕ) (at : Part) → Agrees (HasFlaw bytes) (OtherKey at ∷ []) (or_refused (all_known (keys_known bytes at) (part_in bytes at)) (refusal_for (OtherKey at)))
 keys_agree bytes at =
-    test_agrees (HasFlaw bytes) (OtherKey at) (all_known (map key_text (keys_of at)) (part_in bytes at)) (none_other (map key_text (keys_of at)) (part_in bytes at)) (some_other (map key_text (keys_of at)) (part_in bytes at))
+    test_agrees (HasFlaw bytes) (OtherKey at) (all_known (keys_known bytes at) (part_in bytes at)) (none_other (keys_known bytes at) (part_in bytes at)) (some_other (keys_known bytes at) (part_in bytes at))
 
 between : (low high n : ℕ) → is_between low high n ≡ true → (low ≤ n) × (n ≤ high)
 between low high n e = let parts = and_parts (nat_le low n) (nat_le n high) e in (leb-true low n parts.0, leb-true n high parts.1)
@@ -113,16 +113,14 @@ pub key_then : {A B : Type 0} (bytes : List ℕ) (at : Part) (k : Key) (ks : Lis
     → Agrees (HasFlaw bytes) (flaws_of_keys bytes at (k ∷ ks)) (m >>= f)
 key_then bytes at k ks m f one more = then_agrees (HasFlaw bytes) (flaws_of_key bytes at k) (flaws_of_keys bytes at ks) m f one more
 
-pub top_agrees : (bytes : List ℕ) → Agrees (HasFlaw bytes) (flaws_of_part bytes Top) (top_meant (document_in bytes))
-top_agrees bytes =
-    then_agrees (HasFlaw bytes) (OtherKey Top ∷ []) (flaws_of_keys bytes Top (keys_of Top)) _ _ (keys_agree bytes Top) (λ x is.
-    key_then bytes Top Version (MaxOpen ∷ Queue ∷ Chunk ∷ Take ∷ Tables ∷ Streams ∷ []) _ _ (number_agrees bytes Top Version 1 1 _ refl refl refl (λ d. refl) (λ d. refl)) (λ x is.
-    key_then bytes Top MaxOpen (Queue ∷ Chunk ∷ Take ∷ Tables ∷ Streams ∷ []) _ _ (number_agrees bytes Top MaxOpen 1 64 _ refl refl refl (λ d. refl) (λ d. refl)) (λ x is.
-    key_then bytes Top Queue (Chunk ∷ Take ∷ Tables ∷ Streams ∷ []) _ _ (number_agrees bytes Top Queue 1 64 _ refl refl refl (λ d. refl) (λ d. refl)) (λ x is.
-    key_then bytes Top Chunk (Take ∷ Tables ∷ Streams ∷ []) _ _ (number_agrees bytes Top Chunk 1 65536 _ refl refl refl (λ d. refl) (λ d. refl)) (λ x is.
-    key_then bytes Top Take (Tables ∷ Streams ∷ []) _ _ (number_agrees bytes Top Take 0 1000000000 _ refl refl refl (λ d. refl) (λ d. refl)) (λ x is.
-    key_then bytes Top Tables (Streams ∷ []) _ _ (tables_agree bytes Tables most_tables refl refl (λ d. refl) (λ d. refl)) (λ x is.
-    key_then bytes Top Streams [] _ _ (tables_agree bytes Streams most_streams refl refl (λ d. refl) (λ d. refl)) (λ x is. tt))))))))
+-- the numbers of the top
+pub numbers_agree : (bytes : List ℕ) → Agrees (HasFlaw bytes) (flaws_of_keys bytes Top (Version ∷ MaxOpen ∷ Queue ∷ Chunk ∷ Take ∷ [])) (numbers_meant (document_in bytes))
+numbers_agree bytes =
+    key_then bytes Top Version (MaxOpen ∷ Queue ∷ Chunk ∷ Take ∷ []) _ _ (number_agrees bytes Top Version 1 2 _ refl refl refl (λ d. refl) (λ d. refl)) (λ x is.
+    key_then bytes Top MaxOpen (Queue ∷ Chunk ∷ Take ∷ []) _ _ (number_agrees bytes Top MaxOpen 1 64 _ refl refl refl (λ d. refl) (λ d. refl)) (λ x is.
+    key_then bytes Top Queue (Chunk ∷ Take ∷ []) _ _ (number_agrees bytes Top Queue 1 64 _ refl refl refl (λ d. refl) (λ d. refl)) (λ x is.
+    key_then bytes Top Chunk (Take ∷ []) _ _ (number_agrees bytes Top Chunk 1 65536 _ refl refl refl (λ d. refl) (λ d. refl)) (λ x is.
+    key_then bytes Top Take [] _ _ (number_agrees bytes Top Take 0 1000000000 _ refl refl refl (λ d. refl) (λ d. refl)) (λ x is. tt)))))
 
 is_read : (a b : Bool) (o : Option Members) (ms : Members) (r s : Refusal) (position : _) → (or_refused a r >>= (λ _. or_refused b s >>= (λ _. present o refused.NotToml position))) ≡ Ok ms → unwrap_or o no_members ≡ ms
 is_read true true (Some x) ms r s position e = (cc)

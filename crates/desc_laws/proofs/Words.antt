@@ -145,33 +145,33 @@ module _ (k at : ℕ) where
     step_reads name (Some text) = given name text
 
 -- what the keys of a stream may name
-abbrev pub setting_in : List ℕ → SettingMeant
-setting_in bytes = record { tables = names_in bytes; count = length (streams_in bytes) }
+abbrev pub setting_in : List ℕ → ℕ → SettingMeant
+setting_in bytes k = record { tables = names_in bytes k; count = length (streams_in bytes) }
 
 -- a word as it is read at its place
-reads_word : (bytes : List ℕ) (k i : ℕ) (word : List ℕ) → Reads k i (word_means (names_in bytes) word) (step_meant (setting_in bytes) k i word)
-reads_word bytes k i word = step_reads k i (names_in bytes) (before_space word) (behind_space word)
+reads_word : (bytes : List ℕ) (k i : ℕ) (word : List ℕ) → Reads k i (word_means (names_in bytes k) word) (step_meant (setting_in bytes k) k i word)
+reads_word bytes k i word = step_reads k i (names_in bytes k) (before_space word) (behind_space word)
 
 -- a step that was read is what the word means
-pub step_said : (bytes : List ℕ) (k i : ℕ) (word : List ℕ) (s : Step) → step_meant (setting_in bytes) k i word ≡ Ok s → word_means (names_in bytes) word ≡ Ok s
-step_said bytes k i word s e = go (word_means (names_in bytes) word) (reads_word bytes k i word)
+pub step_said : (bytes : List ℕ) (k i : ℕ) (word : List ℕ) (s : Step) → step_meant (setting_in bytes k) k i word ≡ Ok s → word_means (names_in bytes k) word ≡ Ok s
+step_said bytes k i word s e = go (word_means (names_in bytes k) word) (reads_word bytes k i word)
   where
-    go : (m : Meant) → Reads k i m (step_meant (setting_in bytes) k i word) → m ≡ Ok s
+    go : (m : Meant) → Reads k i m (step_meant (setting_in bytes k) k i word) → m ≡ Ok s
     go (Ok x) h = let same : Ok s ≡ Ok x = sym e ∙ h in (cc)
     go (Err kind) h = let no : Ok s ≡ Err (of_step k i kind) = sym e ∙ h.1 in (cc)
 
 module _ (bytes : List ℕ) (k i : ℕ) (word : List ℕ) (at : slice_get (stages_of bytes k) i ≡ Some (Word word)) where
   -- what is wrong at this place is wrong with this word
-  only : (wrong : RefusalKind) → IsWrongWord bytes k i wrong → word_means (names_in bytes) word ≡ Err wrong
-  only wrong h = let (other, there, means) = h in let both : Some (Word word) ≡ Some (Word other) = sym at ∙ there in let same : other ≡ word = cc in subst (λ w. word_means (names_in bytes) w ≡ Err wrong) same means
+  only : (wrong : RefusalKind) → IsWrongWord bytes k i wrong → word_means (names_in bytes k) word ≡ Err wrong
+  only wrong h = let (other, there, means) = h in let both : Some (Word word) ≡ Some (Word other) = sym at ∙ there in let same : other ≡ word = cc in subst (λ w. word_means (names_in bytes k) w ≡ Err wrong) same means
 
-  differ : (a b : RefusalKind) → word_means (names_in bytes) word ≡ Err a → word_means (names_in bytes) word ≡ Err b → a ≡ b
+  differ : (a b : RefusalKind) → word_means (names_in bytes k) word ≡ Err a → word_means (names_in bytes k) word ≡ Err b → a ≡ b
   differ a b p q = let both : Err a ≡ Err b = sym p ∙ q in cc
 
-  pub step_agrees : Agrees (HasFlaw bytes) (flaws_of_step k i) (step_meant (setting_in bytes) k i word)
-  step_agrees = go (word_means (names_in bytes) word) refl (reads_word bytes k i word)
+  pub step_agrees : Agrees (HasFlaw bytes) (flaws_of_step k i) (step_meant (setting_in bytes k) k i word)
+  step_agrees = go (word_means (names_in bytes k) word) refl (reads_word bytes k i word)
     where
-      go : (m : Meant) → word_means (names_in bytes) word ≡ m → Reads k i m (step_meant (setting_in bytes) k i word) → Agrees (HasFlaw bytes) (flaws_of_step k i) (step_meant (setting_in bytes) k i word)
+      go : (m : Meant) → word_means (names_in bytes k) word ≡ m → Reads k i m (step_meant (setting_in bytes k) k i word) → Agrees (HasFlaw bytes) (flaws_of_step k i) (step_meant (setting_in bytes k) k i word)
       go (Ok s) is h = subst (Agrees (HasFlaw bytes) (flaws_of_step k i)) (sym h) (none refused.UnknownStep, (none refused.OutOfRange, (none refused.UnknownTable, tt)))
         where
           none : (wrong : RefusalKind) → IsWrongWord bytes k i wrong → ⊥
@@ -187,7 +187,7 @@ module _ (bytes : List ℕ) (k i : ℕ) (word : List ℕ) (at : slice_get (stage
           more)
           h.0)
         where
-          means : (other : RefusalKind) → kind ≡ other → word_means (names_in bytes) word ≡ Err other
+          means : (other : RefusalKind) → kind ≡ other → word_means (names_in bytes k) word ≡ Err other
           means other e = is ∙ ap (λ c. Err c) e
 
           wrong : (other : RefusalKind) → kind ≡ other → IsWrongWord bytes k i other

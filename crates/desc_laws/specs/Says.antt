@@ -1,16 +1,17 @@
 -- What the keys of a description say of its plan.
 use Rattle.std.specs.Prelude.{◌≡◌, ℕ, ◌+◌, List, [], ◌∷◌, length, codes, Option, Some, None, Ok, pos}
-use Rattle.toml.specs.Data.{Data, as_integer, as_str}
+use Rattle.toml.specs.Data.{Data, Members, as_integer, as_str}
 use Rattle.pipeline_desc.specs.Meant.{NamedTables, PlanMeant}
 use Rattle.pipeline_desc.specs.declared.join.Join.{Join}
 use Rattle.pipeline_desc.specs.declared.join.Join.TheVariants as join
+use Rattle.pipeline_desc.specs.declared.listing.ListSpec.{ListSpec}
 use Rattle.pipeline_desc.specs.declared.step.Step.{Step}
 use Rattle.pipeline_desc.specs.declared.stream.Second.{Second}
 use Rattle.pipeline_desc.specs.declared.stream.StreamSpec.{StreamSpec}
 use Rattle.pipeline_desc.specs.declared.table.TableSpec.{TableSpec}
-use Rattle.desc_laws.specs.Flaws.Key.{MaxOpen, Queue, Chunk, Take, Name, Path, Steps, With, Join as JoinKey, After, OnFault, To, Until}
+use Rattle.desc_laws.specs.Flaws.Key.{MaxOpen, Queue, Chunk, Take, Name, Path, Steps, With, Join as JoinKey, After, OnFault, To, Until, Max}
 use Rattle.desc_laws.specs.Flaws.Part.{Top, Table, Stream}
-use Rattle.desc_laws.specs.Places.{streams_in, tables_in, value_at, words_at}
+use Rattle.desc_laws.specs.Places.{list_in, spans_in, streams_in, tables_in, value_at, words_at}
 use Rattle.desc_laws.specs.Stages.{names_in}
 use Rattle.desc_laws.specs.Words.{word_means}
 
@@ -61,7 +62,7 @@ join_text join.Merge = codes "merge"
 pub record SaysSide (bytes : List ℕ) (k : ℕ) (second : Second) : Type 0 where
   pub path : SaysText (value_at bytes (Stream k) With) second.path
   pub join : SaysText (value_at bytes (Stream k) JoinKey) (join_text second.join)
-  pub after : SaysSteps (names_in bytes) (words_at bytes k After) second.after
+  pub after : SaysSteps (names_in bytes k) (words_at bytes k After) second.after
 
 -- there is one where these keys are there, and none where none of them says anything
 abbrev pub SaysSecond : List ℕ → ℕ → Option Second → Type 0
@@ -71,7 +72,7 @@ SaysSecond bytes k (Some second) = SaysSide bytes k second
 -- a stream is what stands in stream k
 pub record SaysStream (bytes : List ℕ) (k : ℕ) (s : StreamSpec) : Type 0 where
   pub path : SaysText (value_at bytes (Stream k) Path) s.path
-  pub steps : SaysSteps (names_in bytes) (words_at bytes k Steps) s.steps
+  pub steps : SaysSteps (names_in bytes k) (words_at bytes k Steps) s.steps
   pub second : SaysSecond bytes k s.second
   pub on_fault : SaysGiven (value_at bytes (Stream k) OnFault) s.on_fault
   pub to : SaysGiven (value_at bytes (Stream k) To) s.to
@@ -81,6 +82,18 @@ pub record SaysStream (bytes : List ℕ) (k : ℕ) (s : StreamSpec) : Type 0 whe
 abbrev pub SaysStreams : List ℕ → ℕ → List StreamSpec → Type 0
 SaysStreams bytes k [] = Unit {0}
 SaysStreams bytes k (s ∷ streams) = SaysStream bytes k s × SaysStreams bytes (k + 1) streams
+
+-- a list is what stands behind k streams
+pub record SaysList (bytes : List ℕ) (k : ℕ) (l : ListSpec) : Type 0 where
+  pub path : SaysText (value_at bytes (Stream k) Path) l.path
+  pub steps : SaysSteps (names_in bytes k) (words_at bytes k Steps) l.steps
+  pub on_fault : SaysGiven (value_at bytes (Stream k) OnFault) l.on_fault
+  pub max : SaysNumber (value_at bytes (Stream k) Max) 64 l.max
+
+-- there is a list where one stands there
+abbrev pub SaysListed : List ℕ → ℕ → List Members → Option ListSpec → Type 0
+SaysListed bytes k [] o = o ≡ None
+SaysListed bytes k (ms ∷ more) o = (l : ListSpec) × (o ≡ Some l) × SaysList bytes k l
 
 -- the plan is what the keys say
 pub record SaysPlan (bytes : List ℕ) (p : PlanMeant) : Type 0 where
@@ -92,3 +105,5 @@ pub record SaysPlan (bytes : List ℕ) (p : PlanMeant) : Type 0 where
   pub tables : SaysTables bytes 0 p.tables
   pub stream_count : length p.streams ≡ length (streams_in bytes)
   pub streams : SaysStreams bytes 0 p.streams
+  pub groups : p.groups ≡ spans_in bytes
+  pub list : SaysListed bytes (length (streams_in bytes)) (list_in bytes) p.list

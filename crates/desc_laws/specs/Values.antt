@@ -1,12 +1,12 @@
 -- Which values the keys of a description may have.
 use Rattle.std.specs.Prelude.{◌≡◌, ◌≢◌, ℕ, ◌≤◌, ◌<◌, Bool, true, false, List, [], ◌∷◌, length, codes, Option, Some, None, pos, ℤ}
-use Rattle.toml.specs.Data.{Data, Items, as_integer, as_str, as_array, as_table}
+use Rattle.toml.specs.Data.{Data, Items, Members, as_integer, as_str, as_array, as_table}
 use Rattle.chunk_core.specs.Lists.{IsAmong}
-use Rattle.pipeline_desc.specs.Limits.{is_name, is_path, is_short, most_streams, most_tables}
+use Rattle.pipeline_desc.specs.Limits.{is_name, is_path, is_short, most_groups, most_streams, most_tables}
 use Rattle.pipeline_desc.specs.Values.{each_as}
 use Rattle.desc_laws.specs.Flaws.{Key, Part}
-use Rattle.desc_laws.specs.Flaws.Key.{Version, MaxOpen, Queue, Chunk, Take, Tables, Streams, Name, Path, Steps, With, Join, After, OnFault, To, Until}
-use Rattle.desc_laws.specs.Flaws.Part.{Top, Table, Stream}
+use Rattle.desc_laws.specs.Flaws.Key.{Version, MaxOpen, Queue, Chunk, Take, Tables, Streams, Groups, Listing, Name, Path, Steps, With, Join, After, OnFault, To, Until, Max}
+use Rattle.desc_laws.specs.Flaws.Part.{Top, Group, Table, Stream}
 use Rattle.desc_laws.specs.Places.{entries_in, streams_in, value_at}
 
 -- an integer, a text, and an array of entries that are all such
@@ -19,6 +19,10 @@ IsText d = (text : List ℕ) × (as_str d ≡ Some text)
 abbrev pub IsArrayOf : {A : Type 0} → (Data → Option A) → Data → Type 0
 IsArrayOf {A} f d = (items : Items) × (entries : List A) × (as_array d ≡ Some items) × (each_as f items ≡ Some entries)
 
+-- a table
+abbrev pub IsTable : Data → Type 0
+IsTable d = (ms : Members) × (as_table d ≡ Some ms)
+
 -- the value has the key's type
 abbrev pub IsOfType : Key → Data → Type 0
 IsOfType Version d = IsInteger d
@@ -28,6 +32,8 @@ IsOfType Chunk d = IsInteger d
 IsOfType Take d = IsInteger d
 IsOfType Tables d = IsArrayOf as_table d
 IsOfType Streams d = IsArrayOf as_table d
+IsOfType Groups d = IsArrayOf as_table d
+IsOfType Listing d = IsTable d
 IsOfType Name d = IsText d
 IsOfType Path d = IsText d
 IsOfType Steps d = IsArrayOf as_str d
@@ -37,6 +43,7 @@ IsOfType After d = IsArrayOf as_str d
 IsOfType OnFault d = IsText d
 IsOfType To d = IsText d
 IsOfType Until d = IsInteger d
+IsOfType Max d = IsInteger d
 
 -- the key may not be missing
 abbrev pub is_required : Key → Bool
@@ -64,6 +71,7 @@ IsNewName bytes i d = (name : List ℕ) × (as_str d ≡ Some name) × (is_name 
 abbrev pub IsNameOf : List ℕ → Part → Data → Type 0
 IsNameOf bytes (Table i) d = IsNewName bytes i d
 IsNameOf bytes Top d = Unit {0}
+IsNameOf bytes (Group g) d = Unit {0}
 IsNameOf bytes (Stream k) d = Unit {0}
 
 -- the names of joins
@@ -82,17 +90,20 @@ IsOtherStream bytes k d = (n : ℕ) × (as_integer d ≡ Some (pos n)) × (n < l
 abbrev pub IsUntilOf : List ℕ → Part → Data → Type 0
 IsUntilOf bytes (Stream k) d = IsOtherStream bytes k d
 IsUntilOf bytes Top d = Unit {0}
+IsUntilOf bytes (Group g) d = Unit {0}
 IsUntilOf bytes (Table i) d = Unit {0}
 
 -- the value is within the key's limits in a part of the description; the steps of an array are looked at one by one
 abbrev pub IsWithin : List ℕ → Part → Key → Data → Type 0
-IsWithin bytes at Version d = IsNumber 1 1 d
+IsWithin bytes at Version d = IsNumber 1 2 d
 IsWithin bytes at MaxOpen d = IsNumber 1 64 d
 IsWithin bytes at Queue d = IsNumber 1 64 d
 IsWithin bytes at Chunk d = IsNumber 1 65536 d
 IsWithin bytes at Take d = IsNumber 0 1000000000 d
 IsWithin bytes at Tables d = length (entries_in as_table (Some d)) ≤ most_tables
 IsWithin bytes at Streams d = length (entries_in as_table (Some d)) ≤ most_streams
+IsWithin bytes at Groups d = length (entries_in as_table (Some d)) ≤ most_groups
+IsWithin bytes at Listing d = Unit {0}
 IsWithin bytes at Name d = IsNameOf bytes at d
 IsWithin bytes at Path d = IsTextThat is_path d
 IsWithin bytes at Steps d = Unit {0}
@@ -102,6 +113,7 @@ IsWithin bytes at After d = Unit {0}
 IsWithin bytes at OnFault d = IsTextThat is_short d
 IsWithin bytes at To d = IsTextThat is_path d
 IsWithin bytes at Until d = IsUntilOf bytes at d
+IsWithin bytes at Max d = IsNumber 1 most_streams d
 
 -- the value is of another type, or isn't there and would have to be
 abbrev pub IsMistyped : Key → Option Data → Type 0

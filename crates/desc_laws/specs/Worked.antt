@@ -1,9 +1,9 @@
 -- Descriptions that are written out, and what may be wrong with them.
 use Rattle.std.specs.Prelude.{◌≡◌, ℕ, List, [], ◌∷◌, ◌++◌, codes}
 use Rattle.desc_laws.specs.Flaws.{Flaw, Key, Part}
-use Rattle.desc_laws.specs.Flaws.Flaw.{TooLong, NotUtf8, NotToml, OtherKey, OtherType, OutOfLimits, OtherStep, OtherArgument, OtherTable, HalfJoined, ManySteps, TwoBetween, OtherKind, OtherPath}
-use Rattle.desc_laws.specs.Flaws.Key.{Version, MaxOpen, Queue, Chunk, Take, Tables, Streams, Path, Steps, With, Join, After, OnFault, To, Until}
-use Rattle.desc_laws.specs.Flaws.Part.{Top, Stream}
+use Rattle.desc_laws.specs.Flaws.Flaw.{TooLong, NotUtf8, NotToml, OtherKey, OtherType, OutOfLimits, OtherStep, OtherArgument, OtherTable, HalfJoined, ManySteps, TwoBetween, OtherKind, OtherPath, ManyTables, ManyStreams, OtherListKey, ManyListed}
+use Rattle.desc_laws.specs.Flaws.Key.{Version, MaxOpen, Queue, Chunk, Take, Tables, Streams, Groups, Listing, Name, Path, Steps, With, Join, After, OnFault, To, Until, Max}
+use Rattle.desc_laws.specs.Flaws.Part.{Top, Group, Table, Stream}
 use Rattle.desc_laws.specs.Has.{HasFlaw, flaws_of}
 
 -- the type and the limits of a value
@@ -15,6 +15,7 @@ abbrev pub of_front : List Flaw
 of_front =
     (TooLong ∷ NotUtf8 ∷ NotToml ∷ OtherKey Top ∷ [])
     ++ of_value Top Version ++ of_value Top MaxOpen ++ of_value Top Queue ++ of_value Top Chunk ++ of_value Top Take ++ of_value Top Tables ++ of_value Top Streams
+    ++ of_value Top Groups ++ of_value Top Listing ++ ManyTables ∷ ManyStreams ∷ []
 
 -- what may be wrong with step i of stream k
 abbrev pub of_word : ℕ → ℕ → List Flaw
@@ -49,3 +50,26 @@ FlawsAreThere =
     × HasFlaw (one_stream (codes "with = 'b'\n")) (HalfJoined 0)
     × HasFlaw (one_stream (codes "until = 0\n")) (OutOfLimits (Stream 0) Until)
     × HasFlaw (one_stream (codes "to = 'a'\n")) (OtherPath 0)
+
+-- a group with a table and no stream, and a list behind it
+abbrev pub a_group_and_a_list : List ℕ
+a_group_and_a_list = codes "version = 2\n[[group]]\ntable = [{name = 't', path = 'a'}]\n[list]\npath = 'l'\n"
+
+-- the keys of each group are looked at behind the top's, and how many there are in all behind these; then come all tables, and the list behind the streams
+abbrev pub PartsFollow : Type 0
+PartsFollow =
+    flaws_of a_group_and_a_list
+    ≡ (TooLong ∷ NotUtf8 ∷ NotToml ∷ OtherKey Top ∷ [])
+    ++ of_value Top Version ++ of_value Top MaxOpen ++ of_value Top Queue ++ of_value Top Chunk ++ of_value Top Take ++ of_value Top Tables ++ of_value Top Streams
+    ++ of_value Top Groups ++ of_value Top Listing
+    ++ (OtherKey (Group 0) ∷ OtherType (Group 0) Tables ∷ OtherType (Group 0) Streams ∷ ManyTables ∷ ManyStreams ∷ OtherKey (Table 0) ∷ [])
+    ++ of_value (Table 0) Name ++ of_value (Table 0) Path
+    ++ (OtherListKey 0 ∷ []) ++ of_value (Stream 0) Path ++ (OtherType (Stream 0) Steps ∷ []) ++ of_value (Stream 0) OnFault ++ of_value (Stream 0) Max
+    ++ (ManyListed 0 ∷ ManySteps 0 ∷ TwoBetween 0 ∷ OtherKind 0 0 ∷ [])
+
+-- a key of the second version in a description of the first, a list of another key, and a table that another group has
+abbrev pub PartsHaveFlaws : Type 0
+PartsHaveFlaws =
+    HasFlaw (codes "list = {path = 'l'}\n") (OtherKey Top)
+    × HasFlaw (codes "version = 2\nlist = {path = 'l', to = 'a'}\n") (OtherListKey 0)
+    × HasFlaw (codes "version = 2\n[[group]]\ntable = [{name = 't', path = 'a'}]\n[[group]]\nstream = [{path = 'b', steps = ['csv', 'lookup t 0']}]\n") (OtherTable 0 1)

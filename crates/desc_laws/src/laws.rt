@@ -1,11 +1,13 @@
 //! The laws, each a function that does nothing: its contract is the law.
 ghost use Rattle.desc_laws.specs.Laws.{IsAcceptedWithoutFlaws, IsRefusedForTheFirst, PlanIsWhatKeysSay};
-ghost use Rattle.desc_laws.specs.Worked.{FlawsAreThere, FlawsFollow};
+ghost use Rattle.desc_laws.specs.Worked.{FlawsAreThere, FlawsFollow, PartsFollow, PartsHaveFlaws};
 
 /// What may be wrong with descriptions, in order, and flaws that are there.
 pub fn worked()
     ensures follow { FlawsFollow }
     ensures there { FlawsAreThere }
+    ensures parts { PartsFollow }
+    ensures flaws { PartsHaveFlaws }
 {}
 
 /// A description is refused exactly where it has a flaw, and then for the first.

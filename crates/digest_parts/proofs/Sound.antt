@@ -3,7 +3,7 @@ use Rattle.std.proofs.Common.{◌≡◌, ℕ, zero, suc, ◌≤◌, true, Some, 
 use Rattle.std.specs.List.{AllByRecursion, slice_get}
 use Rattle.std.proofs.lemmas.List.{length-map}
 use Rattle.pipeline_desc.specs.Limits.{is_path, most_streams}
-use Rattle.pipeline_desc.specs.Meant.{setting_of}
+use Rattle.pipeline_desc.specs.Meant.{setting_at}
 use Rattle.pipeline_desc.specs.Outputs.{is_alone}
 use Rattle.pipeline_desc.specs.Places.{all_places}
 use Rattle.pipeline_desc.specs.Sound.{AreSoundTables, IsSoundPlan, IsSoundStream}
@@ -22,7 +22,7 @@ stream_at [] k s all e = absurd (none_is_some s e)
 stream_at (p ∷ paths) zero s all e = (p, all.0, some_is (lines_of p) s e)
 stream_at (p ∷ paths) (suc k) s all e = stream_at paths k s all.1 e
 
-one_stream : (count k : ℕ) (p : List ℕ) → is_path p ≡ true → IsSoundStream (setting_of [] count) k (lines_of p)
+one_stream : (count k : ℕ) (p : List ℕ) → is_path p ≡ true → IsSoundStream (setting_at [] [] count k) k (lines_of p)
 one_stream count k p fit = record { path = fit; steps = refl; second = tt; few = lit≤ tt; between = lit≤ tt; on_fault = tt; to = tt; until = tt; kinds = refl }
 
 no_tables : AreSoundTables []
@@ -40,6 +40,9 @@ sound paths few all = record {
   few_tables = lit≤ tt;
   few_streams = omega (arith, few, length-map paths lines_of);
   tables = no_tables;
-  streams = λ k s e. let at = stream_at paths k s all e in subst (λ x. IsSoundStream (setting_of [] (length (map lines_of paths))) k x) at.2 (one_stream (length (map lines_of paths)) k at.0 at.1);
-  alone = λ k s e. let at = stream_at paths k s all e in subst (λ x. is_alone (all_places [] (map lines_of paths)) x.to ≡ true) at.2 refl;
+  few_groups = lit≤ tt;
+  follow = (refl, refl);
+  streams = λ k s e. let at = stream_at paths k s all e in subst (λ x. IsSoundStream (setting_at [] [] (length (map lines_of paths)) k) k x) at.2 (one_stream (length (map lines_of paths)) k at.0 at.1);
+  list = tt;
+  alone = λ k s e. let at = stream_at paths k s all e in subst (λ x. is_alone (all_places [] None (map lines_of paths)) x.to ≡ true) at.2 refl;
 }

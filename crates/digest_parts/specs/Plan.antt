@@ -11,4 +11,4 @@ lines_of path = record { path = path; steps = step.Pipe pipe.Lines ∷ step.Pipe
 
 -- the plan that counts the lines of each of these files
 abbrev pub counting_plan : List (List ℕ) → PlanMeant
-counting_plan paths = record { max_open = 4; queue = 16; chunk = 4096; take = None; tables = []; streams = map lines_of paths }
+counting_plan paths = record { max_open = 4; queue = 16; chunk = 4096; take = None; tables = []; streams = map lines_of paths; groups = []; list = None }

@@ -24,7 +24,7 @@ pub fn count_lines(alloc: Global, paths: &[Word]) -> Result<Option<Plan>, AllocE
         return Ok(None);
     }
     let streams = streams_of(alloc, paths)?;
-    Ok(Some(Plan::of(4, 16, 4096, None, List::new(alloc), streams)))
+    Ok(Some(Plan::of(alloc, 4, 16, 4096, None, List::new(alloc), streams)))
 }
 
 fn is_fit(path: &Word) -> bool

@@ -40,7 +40,14 @@ IdealLineRuns d = Piped (part_of no_values pipe.Lines) (all_of no_values pipe.Li
 
 -- one stream of one row, which gives the lines of a file
 abbrev pub reading_work : List ℕ → Work
-reading_work path = record { opener = None; streams = record { places = to_read path ∷ []; scopes = 0; until = None } ∷ []; runs = λ k v w. LineRuns (w 0); ideal_runs = λ k v w. IdealLineRuns (w 0) }
+reading_work path = record {
+  opener = None;
+  streams = record { places = to_read path ∷ []; scopes = 0; until = None } ∷ [];
+  runs = λ k v w. LineRuns (w 0);
+  ideal_runs = λ k v w. IdealLineRuns (w 0);
+  listing = λ d ys e. ⊥;
+  ideal_listing = λ d ys e. ⊥;
+}
 
 -- What was begun to be printed is a front of the answer to these lines, which ended so. Where stream 0 ended by itself it is the whole answer, whose end is its end.
 pub record IsAnswered (steps : List Step) (n : ℕ) (xs : List Element) (e : End) (c : RunRecord) (h : How) : Type 0 where

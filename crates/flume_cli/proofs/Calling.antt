@@ -31,6 +31,7 @@ use Rattle.flume_cli.specs.Headline.{AuditsLedger, Call, DidNothing, Does, DoesP
 use Rattle.flume_cli.specs.Call.{call_of}
 use Rattle.flume_cli.specs.Finish.{Reports, Tells}
 use Rattle.run_rules.specs.Run.{Performs}
+use Rattle.run_rules.specs.Work.{Work}
 use Rattle.flume_cli.proofs.Telling.{DoesRun, kept, report_is, rose, run_told as run_told_by, work_tells_memory}
 
 -- what was asked and done, where there was memory to read the words
@@ -66,14 +67,15 @@ pub run_told : (words : List (List ℕ)) (most : Option ℕ) (src src' : SourceT
     → RunsStreams (call_of words src src' dold dnew so sn eold enew r)
 run_told words most src src' dold dnew so mid sn eold enew o r plan ran asked (bytes, input, is) same ran_plan told =
     let runs : RunsPlan (with_most most plan) dold dnew so mid o = subst (λ p. RunsPlan p dold dnew so mid o) same ran_plan in
-    let did : DoesRun (Performs (run_work (with_most most plan))) dold dnew so mid o runs.frames runs.cut runs.rest = record { broke = runs.broke; performs = runs.performs; wrote = runs.wrote; begun = runs.begun; remembered = work_tells_memory (run_work (with_most most plan)) dold dnew runs.frames runs.cut runs.rest o runs.performs } in
-    let t = run_told_by words src src' dold dnew so mid sn eold enew o (Performs (run_work (with_most most plan))) runs.frames runs.cut runs.rest (ap is_meant asked) (quiet src src' bytes input) did r told in
+    let work : Work = run_work (with_most most plan) runs.lines in
+    let did : DoesRun (Performs work) dold dnew so mid o runs.frames runs.cut runs.rest = record { broke = runs.broke; performs = runs.performs; wrote = runs.wrote; begun = runs.begun; remembered = work_tells_memory work dold dnew runs.frames runs.cut runs.rest o runs.performs } in
+    let t = run_told_by words src src' dold dnew so mid sn eold enew o (Performs work) runs.frames runs.cut runs.rest (ap is_meant asked) (quiet src src' bytes input) did r told in
     let c : Call = call_of words src src' dold dnew so sn eold enew r in
     record {
       causes = t.causes;
       status = t.status;
       source = source_for c t.causes (Some (Run most)) t.early asked tt;
-      does = done_for c t.causes (Some (Run most)) t.early asked (inr (record { bytes = bytes; input = input; plan = subst (λ (q : Result PlanMeant Refusal). DoesPlan c t.causes most q) (sym is) (t.refused, t.tells) }));
+      does = done_for c t.causes (Some (Run most)) t.early asked (inr (record { bytes = bytes; input = input; plan = subst (λ (q : Result PlanMeant Refusal). DoesPlan c t.causes most q) (sym is) (t.refused, (runs.lines, t.tells)) }));
     }
 
 -- nothing was done and told

@@ -1,5 +1,5 @@
 -- The devices of a case, on which no call failed.
-use Rattle.std.proofs.Common.{◌≡◌, ℕ, zero, suc, ◌+◌, ◌<◌, ◌≤◌, ◌&&◌, ◌||◌, Bool, true, false, cond, not, nat_eq, List, [], ◌∷◌, map, length, refl, sym, subst, ⊎_elim, arith}
+use Rattle.std.proofs.Common.{◌≡◌, ℕ, zero, suc, ◌+◌, ◌<◌, ◌≤◌, ◌&&◌, ◌||◌, Bool, true, false, cond, not, nat_eq, List, [], ◌∷◌, map, length, refl, sym, ap, subst, ⊎_elim, append-nil, arith}
 use Rattle.std.specs.Prelude.{count_by, flat_map}
 use Rattle.std.specs.List.{AllByRecursion, range_with_len}
 use Rattle.std.specs.Str.{bytes_eq}
@@ -18,7 +18,8 @@ use Rattle.device_port.specs.Depot.{DepotTold}
 use Rattle.device_port.specs.Device.{DeviceTold, Place, faults_of, is_read}
 use Rattle.run_rules.specs.Devices.{DevicesAccounted, came_back, made_for, named, numbered}
 use Rattle.run_rules.specs.Facts.{is_mode, is_place}
-use Rattle.run_rules.specs.Work.{row_places}
+use Rattle.pipeline_desc.specs.declared.stream.StreamSpec.{StreamSpec}
+use Rattle.run_rules.specs.Work.{Stream, row_places}
 use Rattle.joined_runs.proofs.Places.{place_itself}
 use Rattle.plan_work.specs.Plans.{run_work, stream_of}
 use Rattle.gen_case.specs.Plan.{plan_of_case, stream_spec}
@@ -83,6 +84,10 @@ each_without : (ds : List DeviceTold) → are_unfailed ds ≡ true → AllByRecu
 each_without [] h reads = tt
 each_without (d ∷ ds) h reads = let parts = and_parts (nat_eq (faults_but_writes d) 0 && is_unwritten d) (are_unfailed ds) h in (without_faults d reads.0 parts.0, each_without ds parts.1 reads.1)
 
+-- the streams of its work are those that are described
+streams_are : (case : Case) → (run_work (plan_of_case case) []).streams ≡ map stream_of (map stream_spec (range_with_len 0 case.streams))
+streams_are case = ap (λ (ss : List StreamSpec). map stream_of ss) (append-nil (map stream_spec (range_with_len 0 case.streams)))
+
 -- a run of a case over a depot of which nothing but writes fail had no fault
-pub no_faults : (case : Case) (depot : DepotTold) (L : List Event) → are_unfailed depot.retired ≡ true → DevicesAccounted (depot_of case) depot (row_places (run_work (plan_of_case case))) L → AllByRecursion (λ d. faults_of d ≡ 0) (came_back (depot_of case) depot)
-no_faults case depot L quiet d = each_without depot.retired quiet (came_to_read (depot_of case) depot (row_places (run_work (plan_of_case case))) L (refl, streams_read case.streams 0) d)
+pub no_faults : (case : Case) (depot : DepotTold) (L : List Event) → are_unfailed depot.retired ≡ true → DevicesAccounted (depot_of case) depot (row_places (run_work (plan_of_case case) [])) L → AllByRecursion (λ d. faults_of d ≡ 0) (came_back (depot_of case) depot)
+no_faults case depot L quiet d = each_without depot.retired quiet (came_to_read (depot_of case) depot (row_places (run_work (plan_of_case case) [])) L (refl, subst (λ (ss : List Stream). AllByRecursion IsForReading (flat_map (λ s. s.places) ss)) (sym (streams_are case)) (streams_read case.streams 0)) d)

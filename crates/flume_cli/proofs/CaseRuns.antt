@@ -1,5 +1,5 @@
 -- A case that was run over its files.
-use Rattle.std.proofs.Common.{◌≡◌, ◌⊎◌, ℕ, zero, suc, ◌+◌, ◌<◌, ◌≤◌, ◌||◌, Bool, true, false, not, is_some, List, [], ◌∷◌, map, length, Option, Some, None, IfSome, refl, sym, ap, ◌∙◌, subst, inl, inr, ⊎_elim, arith, lit<}
+use Rattle.std.proofs.Common.{◌≡◌, ◌⊎◌, ℕ, zero, suc, ◌+◌, ◌<◌, ◌≤◌, ◌||◌, Bool, true, false, not, is_some, List, [], ◌∷◌, map, length, Option, Some, None, IfSome, refl, sym, ap, ◌∙◌, subst, inl, inr, ⊎_elim, append-nil, arith, lit<}
 use Rattle.std.specs.Prelude.{flat_map}
 use Rattle.std.specs.List.{AllByRecursion, list_all as all, list_any as any, range_with_len}
 use Rattle.std.proofs.lemmas.List.{length-map}
@@ -24,8 +24,9 @@ use Rattle.run_rules.specs.Opening.{HasOuterEnd, IsOuterEnd, IsRefusedBy, IsTabl
 use Rattle.run_rules.specs.Outputs.{AreOutputs, IsOutput, IsReported, IsRest, elements_in_pieces}
 use Rattle.run_rules.specs.Run.{Ran}
 use Rattle.run_rules.specs.Wholeness.{AreUnfailed, IsWholeRun, NothingFailed}
-use Rattle.run_rules.specs.Work.{Opener, RunRecord, Stream, Work, inner_ends}
-use Rattle.plan_work.specs.Plans.{opener_of, run_work, stream_of}
+use Rattle.run_rules.specs.Work.{Lister, Opener, RunRecord, Stream, Values, Work, inner_ends}
+use Rattle.pipeline_desc.specs.declared.stream.StreamSpec.{StreamSpec}
+use Rattle.plan_work.specs.Plans.{below, opener_of, run_work, stream_of, visible}
 use Rattle.gen_case.specs.Case.{stream_path, table_path, table_text}
 use Rattle.gen_case.specs.Ideal.{AreIdeal, ideal_text}
 use Rattle.gen_case.specs.Plan.{plan_of_case, stream_spec}
@@ -70,6 +71,9 @@ none_told Cut h sound told = ⊎_elim (λ t. ap is_fault t) (λ t. ap is_fault t
 no_code : (c : Code) → ◌≡◌ {A = Option Code} None (Some c) → ⊥
 no_code c e = cc
 
+no_list : (l : Lister) → ◌≡◌ {A = Option Lister} None (Some l) → ⊥
+no_list l e = cc
+
 -- the streams of a case, from number a on
 abbrev streams_from : ℕ → ℕ → List Stream
 streams_from a n = map stream_of (map stream_spec (range_with_len a n))
@@ -87,10 +91,16 @@ module _ (case : Case) (few : case.streams ≤ 64) (short : case.lines ≤ 10000
   run = case_run case depot ends L F cut rest memory
 
   abbrev work : Work
-  work = run_work (plan_of_case case)
+  work = run_work (plan_of_case case) []
 
   abbrev opener : Opener
-  opener = opener_of (plan_of_case case)
+  opener = opener_of (plan_of_case case) []
+
+  streams_are : work.streams ≡ streams_from 0 case.streams
+  streams_are = ap (λ (ss : List StreamSpec). map stream_of ss) (append-nil (map stream_spec (range_with_len 0 case.streams)))
+
+  count_is : length work.streams ≡ case.streams
+  count_is = ap (λ (ss : List Stream). length ss) streams_are ∙ streams_count case.streams
 
   found : FindsFiles case
   found = files_are_found case (omega (arith, few))
@@ -123,19 +133,23 @@ module _ (case : Case) (few : case.streams ≤ 64) (short : case.lines ≤ 10000
         subst (λ m. IsFileAt m (stream_path (a + suc i))) x (subst (λ m. IsFileAt (r + 1 + i) (stream_path m)) y (stream_rows n (a + 1) (r + 1) h.3 i (omega (arith, l))))
 
     stream_at : (k : ℕ) → k < case.streams → IsFileAt (1 + k) (stream_path k)
-    stream_at k l = let z : 0 + k ≡ k = omega arith in subst (λ m. IsFileAt (1 + k) (stream_path m)) z (stream_rows case.streams 0 1 ran.rows.at_home.3 k l)
+    stream_at k l = let z : 0 + k ≡ k = omega arith in subst (λ m. IsFileAt (1 + k) (stream_path m)) z (stream_rows case.streams 0 1 (subst (λ (ss : List Stream). AreAtHome run home 1 (flat_map (λ s. s.places) ss)) streams_are ran.rows.at_home.3) k l)
 
     values : (key : List ℕ) → ran.values 0 key ≡ table_value table_text key
     values key = subst (λ o. IfSome o (λ bytes. ran.values 0 key ≡ table_value bytes key)) (table_at.content ∙ found.table) (ran.rows.values 0 key (lit< tt))
 
-    over : (k : ℕ) → k < case.streams → IsOverFiles case k ran.values home
+    -- what stream k sees of the values: all, since the case has no groups
+    abbrev seen : ℕ → Values
+    seen k = below (visible (plan_of_case case) k) ran.values
+
+    over : (k : ℕ) → k < case.streams → IsOverFiles case k (seen k) home
     over k l = record { values = values; content = (stream_at k l).content ∙ found.streams k l }
 
     -- no stream failed
     inner_end : (k : ℕ) (h : How) → k < case.streams → IsOutput work ran.values home F k h → is_fault h ≡ false
     inner_end k h l o =
         let none = (stream_at k l).unfailed in
-        none_told o.end h (nodes_never_fail case k ran.values home o.run.0 (elements_in_pieces o.pieces) o.end short o.run.1 (over k l) (omega (arith, none)) (omega (arith, none)) o.run.2) o.reported
+        none_told o.end h (nodes_never_fail case k (seen k) home o.run.0 (elements_in_pieces o.pieces) o.end short o.run.1 (over k l) (omega (arith, none)) (omega (arith, none)) o.run.2) o.reported
 
     inner_ends_are : (n k : ℕ) (es : List EndOf) → k + n ≤ case.streams → AreOutputs work ran.values home F k (streams_from k n) es → any (λ e. is_fault e.how) es ≡ false
     inner_ends_are zero k es l h = ap (λ (xs : List EndOf). any (λ (e : EndOf). is_fault e.how) xs) h
@@ -148,15 +162,15 @@ module _ (case : Case) (few : case.streams ≤ 64) (short : case.lines ≤ 10000
     table_never_fails f (back, inr (opens, inl (failed, is))) = let none = table_at.unfailed in omega (arith, none, failed)
     table_never_fails f (back, inr (opens, inr (read, refused))) = no_code f (sym table_is_read ∙ subst (λ o. IsRefusedBy opener o f) (table_at.content ∙ found.table) refused)
 
-    outer_end : (h : How) → IsOuterEnd opener (length work.streams) run home h → is_fault h ≡ false
+    outer_end : (h : How) → IsOuterEnd opener work.listing (length work.streams) run home h → is_fault h ≡ false
     outer_end how.Done e = refl
     outer_end how.Halted e = refl
     outer_end how.Memory e = refl
-    outer_end (how.Fault f) e = ⊎_elim (λ t. absurd (table_never_fails f t.0)) (λ t. absurd t.1) e
+    outer_end (how.Fault f) e = ⊎_elim (λ t. ⊎_elim (λ r. absurd (table_never_fails f r.0)) (λ r. absurd r.1) t.0) (λ l. absurd (no_list l.1.0 l.1.1)) e
 
-    all_ends : (es : List EndOf) → HasOuterEnd work.opener (length work.streams) run home es → AreOutputs work ran.values home F 0 work.streams (inner_ends work es) → any (λ e. is_fault e.how) es ≡ false
+    all_ends : (es : List EndOf) → HasOuterEnd work.opener work.listing (length work.streams) run home es → AreOutputs work ran.values home F 0 work.streams (inner_ends work es) → any (λ e. is_fault e.how) es ≡ false
     all_ends [] outer outputs = absurd outer
-    all_ends (e ∷ es) outer outputs = λ i. outer_end e.how outer.end i || inner_ends_are case.streams 0 es (omega arith) outputs i
+    all_ends (e ∷ es) outer outputs = λ i. outer_end e.how outer.end i || inner_ends_are case.streams 0 es (omega arith) (subst (λ (ss : List Stream). AreOutputs work ran.values home F 0 ss es) streams_are outputs) i
 
     pub ends_unfailed : any (λ e. is_fault e.how) ends ≡ false
     ends_unfailed = all_ends ends ran.ends.outer ran.outputs.outputs
@@ -165,16 +179,17 @@ module _ (case : Case) (few : case.streams ≤ 64) (short : case.lines ≤ 10000
     module _ (uncut : cut ≡ None) (ample : memory ≡ false) where
       ends_done : (k : ℕ) → k < case.streams → (u : ℕ → DeviceTold) (ys : List Element) (e : End) → AreUnfailed u home → work.ideal_runs k ran.values u ys e → e ≡ Done
       ends_done k l u ys e same (n, node, ideal) =
-          (nodes_run_ideal case k ran.values u n ys e short node (record { values = values; content = (same (1 + k)).1 ∙ (over k l).content }) ideal).0
+          (nodes_run_ideal case k (seen k) u n ys e short node (record { values = values; content = (same (1 + k)).1 ∙ (over k l).content }) ideal).0
 
       nothing_failed : NothingFailed work run ran.values home
       nothing_failed = record {
         written = uncut;
         devices = sound;
         tables = ((table_text, found.table, table_is_read), tt);
-        ideal = each_below (λ k. (u : ℕ → DeviceTold) (ys : List Element) (e : End) → AreUnfailed u home → work.ideal_runs k ran.values u ys e → e ≡ Done) (length work.streams) (λ k l. ends_done k (subst (λ m. k < m) (streams_count case.streams) l));
+        list = tt;
+        ideal = each_below (λ k. (u : ℕ → DeviceTold) (ys : List Element) (e : End) → AreUnfailed u home → work.ideal_runs k ran.values u ys e → e ≡ Done) (length work.streams) (λ k l. ends_done k (subst (λ m. k < m) count_is l));
         most = tt;
-        until = never_stopped case.streams 0;
+        until = subst (λ (ss : List Stream). all (λ s. not (is_some s.until)) ss ≡ true) (sym streams_are) (never_stopped case.streams 0);
       }
 
       whole_run : IsWholeRun work run ran.values home
@@ -182,13 +197,13 @@ module _ (case : Case) (few : case.streams ≤ 64) (short : case.lines ≤ 10000
 
       prints : (k : ℕ) → k < case.streams → payloads_of k F ≡ ideal_text case k
       prints k l =
-          let o = number_below (λ k. (ys : List Element) × work.ideal_runs k ran.values home ys Done × (payloads_of k F ≡ rendering_of ys)) (length work.streams) k (subst (λ m. k < m) (sym (streams_count case.streams)) l) whole_run.output in
-          let r = nodes_run_ideal case k ran.values home o.1.0 o.0 Done short o.1.1 (over k l) o.1.2 in
+          let o = number_below (λ k. (ys : List Element) × work.ideal_runs k ran.values home ys Done × (payloads_of k F ≡ rendering_of ys)) (length work.streams) k (subst (λ m. k < m) (sym count_is) l) whole_run.output in
+          let r = nodes_run_ideal case k (seen k) home o.1.0 o.0 Done short o.1.1 (over k l) o.1.2 in
           o.2 ∙ (ap rendering_of r.1 ∙ (streams_render_ideal case k short).text)
 
       ours_from : (G : List Frame) → AllByRecursion (λ f. (f.stream < length work.streams) × (0 < length f.payload)) G → AllByRecursion (λ f. f.stream < case.streams) G
       ours_from [] h = tt
-      ours_from (f ∷ G) h = (subst (λ m. f.stream < m) (streams_count case.streams) h.0.0, ours_from G h.1)
+      ours_from (f ∷ G) h = (subst (λ m. f.stream < m) count_is h.0.0, ours_from G h.1)
 
       ideal : AreIdeal case F
       ideal = record { ours = ours_from F ran.outputs.numbers; whole = prints }

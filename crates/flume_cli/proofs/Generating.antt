@@ -39,7 +39,7 @@ use Rattle.flume_cli.proofs.Telling.{kept, report_is, rose}
 -- no memory to begin with
 nothing_generated : (case : Case) → Generates case [] [] None
 nothing_generated case = record {
-  runs = record { depot = depot_of case; frames = []; cut = None; rest = []; memory = true; performs = performs_nothing (run_work (plan_of_case case)) (depot_of case); unfailed = refl };
+  runs = record { depot = depot_of case; frames = []; cut = None; rest = []; memory = true; performs = performs_nothing (run_work (plan_of_case case) []) (depot_of case); unfailed = refl };
   summed = tt;
 }
 
@@ -71,7 +71,7 @@ module _ (case : Case) (few : case.streams ≤ 64) (short : case.lines ≤ 10000
     uncut : did.cut ≡ None
     uncut = not_cut did.cut (did.broke ∙ sums.written)
 
-    ran : Ran (run_work (plan_of_case case)) (case_run case depot o.ends o.ledger did.frames did.cut did.rest o.memory)
+    ran : Ran (run_work (plan_of_case case) []) (case_run case depot o.ends o.ledger did.frames did.cut did.rest o.memory)
     ran = ⊎_elim (λ u. absurd (both_ways o.memory sums.memory u.memory)) (λ r. r) did.performs.ran
 
     written : sn.written ≡ Some (frames_text did.frames)

@@ -1,5 +1,5 @@
 -- How a case is run and summed up.
-use Rattle.std.specs.Prelude.{◌≡◌, ℕ, Bool, false, List, Option, Some, IfSome, MatchOption}
+use Rattle.std.specs.Prelude.{◌≡◌, ℕ, Bool, false, List, [], Option, Some, IfSome, MatchOption}
 use Rattle.std.specs.List.{list_any as any, AllByRecursion}
 use Rattle.chunk_core.specs.Texts.{Frame, frames_text}
 use Rattle.chunk_core.specs.declared.code.How.TheVariants as how
@@ -31,7 +31,7 @@ pub record RunsCase (case : Case) (ends : List EndOf) (L : List Event) : Type 0 
   pub cut : Option Frame
   pub rest : List ℕ
   pub memory : Bool
-  pub performs : Performs (run_work (plan_of_case case)) (case_run case depot ends L frames cut rest memory)
+  pub performs : Performs (run_work (plan_of_case case) []) (case_run case depot ends L frames cut rest memory)
   pub unfailed : any (λ e. is_fault e.how) ends ≡ false
 
 -- all of the case was printed: each stream is done, no finalizer failed, the frames of each stream are together the text that follows of the case, and so

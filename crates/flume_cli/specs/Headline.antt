@@ -143,9 +143,13 @@ abbrev pub DoesChain : List ℕ → ℕ → Reading (List Step) → Call → Cau
 DoesChain path n (Ok steps) c k = TellsEvaluation path steps n c k
 DoesChain path n (Err refusal) c k = DidNothing c
 
+-- a plan was run and told, some lines of whose list were given streams, where it has one
+abbrev pub TellsPlan : PlanMeant → Call → Causes → Type 0
+TellsPlan plan c k = (lines : List (List ℕ)) × TellsWork (run_work plan lines) c k
+
 -- what the bytes of a description mean was done: its plan was run, with as many streams open at a time as the words tell, or nothing was done where it is refused
 abbrev pub DoesPlan : Call → Causes → Option ℕ → Reading PlanMeant → Type 0
-DoesPlan c k most (Ok plan) = (k.refused ≡ None) × TellsWork (run_work (with_most most plan)) c k
+DoesPlan c k most (Ok plan) = (k.refused ≡ None) × TellsPlan (with_most most plan) c k
 DoesPlan c k most (Err refusal) = (k.refused ≡ Some refusal) × DidNothing c
 
 -- the source was read whole, and what its bytes mean was done

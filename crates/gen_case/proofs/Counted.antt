@@ -1,6 +1,7 @@
 -- The row of each stream of a case.
 use Rattle.std.proofs.Common.{◌≡◌, ℕ, zero, suc, ◌+◌, ◌<◌, ◌≤◌, map, take, refl, ap, ◌∙◌, arith}
 use Rattle.std.specs.List.{range_with_len, sum_by}
+use Rattle.std.proofs.lemmas.List.FromFn.{length-map-range_with_len}
 use Rattle.std.proofs.lemmas.List.Sums.{sum_by-cons}
 use Rattle.pipeline_desc.specs.Places.{first_row, row_count}
 use Rattle.gen_case.specs.Plan.{plan_of_case, stream_spec}
@@ -16,4 +17,4 @@ one_each (suc n) a (suc k) h =
 
 -- and the table has the first
 pub rows_before : (c : Case) (k : ℕ) → k < c.streams → first_row (plan_of_case c) k ≡ 1 + k
-rows_before c k h = ap (λ m. 1 + m) (one_each c.streams 0 k (omega (arith, h)))
+rows_before c k h = omega (arith, h, one_each c.streams 0 k (omega (arith, h)), length-map-range_with_len stream_spec 0 c.streams)

@@ -1,6 +1,7 @@
 -- What the streams of a case do over its files.
 use Rattle.std.proofs.Common.{◌≡◌, ◌⊎◌, ℕ, zero, suc, ◌+◌, ◌<◌, ◌≤◌, ◌^◌, false, Option, Some, None, List, [], ◌∷◌, ◌++◌, map, take, length, refl, sym, ap, ◌∙◌, subst, inl, inr, ⊎_elim, append-nil, append_assoc, length-append, arith, lit≤, lit<}
 use Rattle.std.specs.List.{slice_get, sum_by}
+use Rattle.std.specs.Option.{option_or}
 use Rattle.std.specs.Prelude.{IfSome}
 use Rattle.std.proofs.lemmas.Bool.{le-ltb}
 use Rattle.std.proofs.lemmas.List.{length-take, take_all}
@@ -50,10 +51,15 @@ lookup_node p x y = Through' y (csv_node p x) (pipe.Lookup 0 0)
 abbrev case_node : ℕ → Boxed → Boxed → Boxed → Node
 case_node p x y z = Weak' p z (lookup_node p x y)
 
+or_none : (o : Option StreamSpec) → option_or o None ≡ o
+or_none None = refl
+or_none (Some s) = refl
+
 -- each node of a stream is such a one
 node_is : (c : Case) (k : ℕ) (n : Node) → IsNodeOf (plan_of_case c) k n → (x y z : Boxed) × (n ≡ case_node (1 + k) x y z)
-node_is c k n (s, found, node) =
-    let at = stream_at c.streams k s found in
+node_is c k n whole =
+    let (s, found, node) = whole [] in
+    let at = stream_at c.streams k s (sym (or_none (slice_get (streams_of c) k)) ∙ found) in
     let row : first_row (plan_of_case c) k ≡ 1 + k = rows_before c k at.0 in
     of_spec (subst (λ p. IsStreamNode p (stream_spec k) n) row (subst (λ (x : StreamSpec). IsStreamNode (first_row (plan_of_case c) k) x n) (sym at.1) node))
   where

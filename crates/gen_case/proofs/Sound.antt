@@ -1,12 +1,12 @@
 -- The plan of a case is within the limits of plans.
-use Rattle.std.proofs.Common.{◌≡◌, ℕ, zero, suc, ◌<◌, ◌≤◌, ◌^◌, ◌&&◌, Some, true, [], length, map, decimal, refl, sym, ◌∙◌, subst, lit≤, lit<, arith}
+use Rattle.std.proofs.Common.{◌≡◌, ℕ, zero, suc, ◌<◌, ◌≤◌, ◌^◌, ◌&&◌, Some, None, true, [], length, map, decimal, refl, sym, ◌∙◌, subst, lit≤, lit<, arith}
 use Rattle.std.specs.List.{slice_get}
 use Rattle.std.proofs.lemmas.Bool.{le-leb}
 use Rattle.std.proofs.lemmas.Option.{get_or_from_slice_get, slice_get_within}
 use Rattle.std.proofs.lemmas.List.FromFn.{get_or-map-range_with_len, length-map-range_with_len}
 use Rattle.std.proofs.lemmas.Fmt.{length-decimal-le}
 use Rattle.pipeline_desc.specs.Limits.{is_path, most_streams}
-use Rattle.pipeline_desc.specs.Meant.{setting_of}
+use Rattle.pipeline_desc.specs.Meant.{setting_at}
 use Rattle.pipeline_desc.specs.Sound.{AreAlone, AreSoundStreams, AreSoundTables, IsSoundStream, IsSoundTable}
 use Rattle.pipeline_desc.specs.Places.{all_places}
 use Rattle.pipeline_desc.specs.Outputs.{is_alone}
@@ -32,7 +32,7 @@ path_is k h =
     let short : length (decimal k) ≤ 20 = length-decimal-le 20 k (lit< tt) (omega arith) h in
     (λ i. le-leb 1 (suc (length (decimal k))) (omega arith) i && le-leb (suc (length (decimal k))) 1024 (omega arith) i)
 
-one_stream : (count k : ℕ) → k < 2 ^ 64 → IsSoundStream (setting_of tables_of_case count) k (stream_spec k)
+one_stream : (count k : ℕ) → k < 2 ^ 64 → IsSoundStream (setting_at tables_of_case [] count k) k (stream_spec k)
 one_stream count k h = record {
   path = path_is k h;
   steps = refl;
@@ -45,13 +45,13 @@ one_stream count k h = record {
   kinds = refl;
 }
 
-streams_sound : (c : Case) → c.streams ≤ most_streams → AreSoundStreams (setting_of tables_of_case (length (streams_of c))) (streams_of c)
+streams_sound : (c : Case) → c.streams ≤ most_streams → AreSoundStreams (setting_at tables_of_case [] (length (streams_of c))) (streams_of c)
 streams_sound c few k s e =
     let at = stream_at c.streams k s e in
-    subst (λ x. IsSoundStream (setting_of tables_of_case (length (streams_of c))) k x) at.1 (one_stream (length (streams_of c)) k (omega (arith, at.0)))
+    subst (λ x. IsSoundStream (setting_at tables_of_case [] (length (streams_of c)) k) k x) at.1 (one_stream (length (streams_of c)) k (omega (arith, at.0)))
 
-streams_alone : (c : Case) → AreAlone (all_places tables_of_case (streams_of c)) (streams_of c)
-streams_alone c k s e = subst (λ x. is_alone (all_places tables_of_case (streams_of c)) x.to ≡ true) (stream_at c.streams k s e).1 refl
+streams_alone : (c : Case) → AreAlone (all_places tables_of_case None (streams_of c)) (streams_of c)
+streams_alone c k s e = subst (λ x. is_alone (all_places tables_of_case None (streams_of c)) x.to ≡ true) (stream_at c.streams k s e).1 refl
 
 pub plans_are_sound : PlansAreSound
 plans_are_sound c few = record {
@@ -65,6 +65,9 @@ plans_are_sound c few = record {
   few_tables = lit≤ tt;
   few_streams = omega (arith, length-map-range_with_len stream_spec 0 c.streams);
   tables = tables_sound;
+  few_groups = lit≤ tt;
+  follow = (refl, refl);
   streams = streams_sound c few;
+  list = tt;
   alone = streams_alone c;
 }

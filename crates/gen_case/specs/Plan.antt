@@ -29,7 +29,7 @@ streams_of c = map stream_spec (first_numbers c.streams)
 
 -- the whole plan, whose other values are those of a description that doesn't give them
 abbrev pub plan_of_case : Case → PlanMeant
-plan_of_case c = record { max_open = 4; queue = 16; chunk = 4096; take = None; tables = tables_of_case; streams = streams_of c }
+plan_of_case c = record { max_open = 4; queue = 16; chunk = 4096; take = None; tables = tables_of_case; streams = streams_of c; groups = []; list = None }
 
 -- the plan is within the limits of plans, where it may have so many streams
 abbrev pub PlansAreSound : Type 0

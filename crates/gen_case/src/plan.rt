@@ -65,5 +65,5 @@ pub fn plan_of(alloc: Global, case: Case) -> Result<Plan, AllocError>
 {
     let tables = tables_of(alloc)?;
     let streams = streams_of(alloc, case)?;
-    Ok(Plan::of(4, 16, 4096, None, tables, streams))
+    Ok(Plan::of(alloc, 4, 16, 4096, None, tables, streams))
 }

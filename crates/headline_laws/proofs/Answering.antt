@@ -13,7 +13,6 @@ use Rattle.chunk_core.specs.Tables.{no_values}
 use Rattle.chunk_core.specs.declared.code.Exit.TheVariants.{Succeeded}
 use Rattle.chunk_core.specs.declared.code.How.TheVariants as how
 use Rattle.chunk_core.proofs.Each.{among_each}
-use Rattle.chunk_core.proofs.Filters.{among_right}
 use Rattle.chunk_core.proofs.Members.{among_cons, among_nil}
 use Rattle.command_words.specs.Words.{command_of}
 use Rattle.command_words.specs.declared.asked.Asked.TheVariants.{Eval}
@@ -24,7 +23,7 @@ use Rattle.pipeline_desc.specs.declared.step.Step.{Step}
 use Rattle.pull_nodes.specs.Lines.{ended_lines, open_line, without_pairs}
 use Rattle.res_ledger.specs.Ledger.{NotesClose}
 use Rattle.res_ledger.specs.declared.event.Event.{Event}
-use Rattle.res_ledger.specs.declared.event.StreamNo.TheVariants.{Inner, Outer}
+use Rattle.res_ledger.specs.declared.event.StreamNo.TheVariants.{Inner}
 use Rattle.res_ledger.specs.declared.event.What.TheVariants.{Acquire, Close, Final}
 use Rattle.res_ledger.proofs.Judged.{complete_sound, legal_sound}
 use Rattle.res_ledger.proofs.Ordering.{ordered_sound}
@@ -33,7 +32,7 @@ use Rattle.run_rules.specs.Devices.{DevicesAccounted}
 use Rattle.run_rules.specs.Ends.{HaveEnds}
 use Rattle.run_rules.specs.Facts.{at}
 use Rattle.run_rules.specs.Homes.{AreLeftAlone, HaveHomes}
-use Rattle.run_rules.specs.Rules.{IsOurs, KeepsRules, LendsTables}
+use Rattle.run_rules.specs.Rules.{IsOurs, KeepsRules}
 use Rattle.run_rules.specs.Texts.{tail_text}
 use Rattle.run_rules.specs.Work.{RunRecord, Work, owners_of}
 use Rattle.run_rules.specs.declared.end.EndOf.{EndOf}
@@ -78,15 +77,6 @@ ours = (acquire_ours, (close_ours, (final_ours, tt)))
 by_0 : (e : Event) → IsAmong e L → e.by ≡ Inner 0
 by_0 e m = ⊎_elim (λ (i : e.by ≡ Inner 0). i) (λ m. absurd (among_nil m)) (among_cons (among_each (IsOurs work) e L ours m).by)
 
-not_outer : (e : Event) → IsAmong e L → e.by ≡ Outer → ⊥
-not_outer e m by = let no : Inner 0 ≡ Outer = sym (by_0 e m) ∙ by in cc
-
-lends : LendsTables 0 L
-lends = record {
-  rise = λ P Q e r s q t is by what n. absurd (not_outer e (subst (λ l. IsAmong e l) (sym is) (among_right e P (e ∷ Q) (here Q))) by);
-  covers = λ j s r n l. absurd (omega (arith, l));
-}
-
 rules : KeepsRules work L
 rules = record {
   stamped = stamped_sound L L refl refl;
@@ -96,8 +86,7 @@ rules = record {
   ours = ours;
   scopes = (omega arith, tt);
   leaving = never_leaves L refl;
-  tables = lends;
-  pace = tt;
+  given = tt;
 }
 
 devices : DevicesAccounted (depot_before two_lines) (depot_after two_lines (lines_device ∷ [])) (to_read a ∷ []) L

@@ -61,7 +61,7 @@ case_not_made_holds = record {
   source = source_for case_not_made causes_of_none (Some (Gen 0 1 3)) refl gen_asks (record { kept = refl; refused = refl });
   does = done_for case_not_made causes_of_none (Some (Gen 0 1 3)) refl gen_asks (record {
     kept = refl;
-    runs = record { depot = depot_of case; frames = []; cut = None; rest = []; memory = true; performs = performs_nothing (run_work (plan_of_case case)) (depot_of case); unfailed = refl };
+    runs = record { depot = depot_of case; frames = []; cut = None; rest = []; memory = true; performs = performs_nothing (run_work (plan_of_case case) []) (depot_of case); unfailed = refl };
     told = inl (record { memory = refl; out = refl });
   });
 }

@@ -1,25 +1,19 @@
 -- Each call of run that went as it should meets the contract.
-use Rattle.std.proofs.Common.{◌≡◌, ◌≢◌, ℕ, true, false, List, [], ◌∷◌, ◌++◌, length, Some, None, Ok, Err, refl, sym, ap, subst, inl, inr, ◌∙◌, ⊎_elim, arith, Result}
+use Rattle.std.proofs.Common.{◌≡◌, ◌≢◌, true, false, [], ◌++◌, length, Some, None, Ok, Err, refl, sym, ap, subst, inl, inr, ◌∙◌, ⊎_elim, arith, Result}
 use Rattle.std.specs.Fmt.{digits}
 use Rattle.std.specs.Str.{is_utf8, chars}
 use Rattle.std.proofs.lemmas.Bool.{false≢true}
 use Rattle.std.proofs.lemmas.List.Sorted.{IsPermutation-refl}
 use Rattle.toml.proofs.OnLiterals.{toml_on_literals}
 use Rattle.chunk_core.specs.Texts.{frames_text}
-use Rattle.chunk_core.specs.Lists.{IsAmong}
 use Rattle.chunk_core.specs.Lists.IsAmong.{here}
 use Rattle.chunk_core.specs.declared.code.Exit.TheVariants.{Succeeded}
 use Rattle.chunk_core.specs.declared.code.How.TheVariants as how
 use Rattle.chunk_core.proofs.Distinct.{distinct_nil}
-use Rattle.chunk_core.proofs.Each.{among_each}
-use Rattle.chunk_core.proofs.Filters.{among_right}
 use Rattle.chunk_core.proofs.Members.{among_cons, among_nil}
 use Rattle.res_ledger.specs.declared.event.Event.{Event}
 use Rattle.res_ledger.specs.declared.event.StreamNo.TheVariants.{Inner, Outer}
-use Rattle.res_ledger.specs.declared.event.What.TheVariants.{Acquire, Close, Lease}
-use Rattle.res_ledger.proofs.Judged.{complete_sound, legal_sound}
-use Rattle.res_ledger.proofs.Ordering.{ordered_sound}
-use Rattle.res_ledger.proofs.Stamps.{stamped_sound}
+use Rattle.res_ledger.specs.declared.event.What.TheVariants.{Close}
 use Rattle.device_port.specs.Sink.{with_bytes}
 use Rattle.pipeline_desc.specs.Meant.{PlanMeant}
 use Rattle.pipeline_desc.specs.Plans.{plan_of}
@@ -30,10 +24,11 @@ use Rattle.run_rules.specs.Rules.{KeepsRules}
 use Rattle.run_rules.specs.Run.{Performs}
 use Rattle.run_rules.specs.Texts.{tail_text}
 use Rattle.run_rules.specs.Work.{Values}
+use Rattle.run_laws.proofs.GivingTested.{outer_by, rules_by}
 use Rattle.plan_work.specs.Plans.{run_work}
 use Rattle.flume_cli.specs.declared.status.Status.TheVariants as status
 use Rattle.flume_cli.specs.Status.{Causes, line_of}
-use Rattle.flume_cli.specs.Headline.{DoesPlan, run_of_call, RunsStreams, TellsWork}
+use Rattle.flume_cli.specs.Headline.{DoesPlan, run_of_call, RunsStreams, TellsPlan}
 use Rattle.headline_laws.specs.Described.{clash, clash_refusal, empty_description, no_memory, outer_ledger, refused_description, unread_source}
 use Rattle.headline_laws.specs.Calls.{event}
 use Rattle.headline_laws.specs.Worked.{missing_device}
@@ -86,41 +81,8 @@ text_of_empty_description : empty_description.out_new.written ≡ Some ([] ++ (f
 unfolding digits
 text_of_empty_description = refl
 
--- the outer stream noted its Close alone
-record IsTheClose (e : Event) : Type 0 where
-  by : e.by ≡ Outer
-  what : e.what ≡ Close 0 Succeeded
-
-close_alone : (P Q : List Event) (e : Event) → outer_ledger ≡ P ++ e ∷ Q → IsTheClose e
-close_alone P Q e is = among_each IsTheClose e outer_ledger (record { by = refl; what = refl }, tt) (subst (λ l. IsAmong e l) (sym is) (among_right e P (e ∷ Q) (here Q)))
-
-outer_alone : (P Q : List Event) (e : Event) (k : ℕ) → outer_ledger ≡ P ++ e ∷ Q → e.by ≡ Inner k → ⊥
-outer_alone P Q e k is by = let o = (close_alone P Q e is).by in cc
-
-no_lease : (P Q : List Event) (e : Event) (j s : ℕ) → outer_ledger ≡ P ++ e ∷ Q → e.what ≡ Lease j s → ⊥
-no_lease P Q e j s is what = let c = (close_alone P Q e is).what in cc
-
-no_row : (P Q : List Event) (e : Event) (r s : ℕ) → outer_ledger ≡ P ++ e ∷ Q → e.what ≡ Acquire r s → ⊥
-no_row P Q e r s is what = let c = (close_alone P Q e is).what in cc
-
-rules_of_none : KeepsRules (run_work (plan_by_default [])) outer_ledger
-rules_of_none = record {
-  stamped = stamped_sound outer_ledger outer_ledger refl refl;
-  legal = legal_sound outer_ledger refl;
-  complete = complete_sound outer_ledger (legal_sound outer_ledger refl) refl;
-  ordered = ordered_sound outer_ledger refl;
-  ours = (record { by = here []; leases = λ j s e. let x : ⊥ = cc in absurd x; owns = λ r s e. let x : ⊥ = cc in absurd x }, tt);
-  scopes = (omega arith, tt);
-  leaving = λ P Q e j x is by what. absurd (outer_alone P Q e j is by);
-  tables = record { rise = λ P Q e r s q t is by what n. absurd (no_row P Q e r s is what); covers = λ j s r n l. absurd (omega (arith, l)) };
-  pace = record {
-    ahead = λ P Q e k is by. absurd (outer_alone P Q e k is by);
-    within = λ P Q e is. omega arith;
-    leases = λ P Q e i j s is what l. absurd (no_lease P Q e j s is what);
-    waits = λ P Q e is. omega arith;
-    begins = λ P Q e k is by. absurd (outer_alone P Q e k is by);
-  };
-}
+rules_of_none : KeepsRules (run_work (plan_by_default []) []) outer_ledger
+rules_of_none = rules_by (run_work (plan_by_default []) []) outer_ledger refl refl refl refl refl (omega arith, tt) refl refl
 
 none_some : {A : Type 0} {x : A} → None ≢ Some x
 none_some e = cc
@@ -131,7 +93,7 @@ no_values t key = None
 abbrev causes_of_none : Causes
 causes_of_none = record { early = false; words = true; unread = false; refused = None; unwritten = false; memory = false; faulty = false; unclean = false }
 
-none_performs : Performs (run_work (plan_by_default [])) (run_of_call empty_description [] None [] false)
+none_performs : Performs (run_work (plan_by_default []) []) (run_of_call empty_description [] None [] false)
 none_performs = record {
   devices = record { made = refl; few = tt; retired = refl; once = IsPermutation-refl _; shut = tt; rows = (tt, tt); acquired = tt; failed = tt; exits = λ x. tt; files = λ path. inr refl; stored = tt };
   ledger = rules_of_none;
@@ -143,26 +105,29 @@ none_performs = record {
     ends = record {
       named = refl;
       caused = (record { halted = λ e. let x : ⊥ = cc in absurd x; fault = tt; root = λ b. (Succeeded, (event 0 Outer (Close 0 Succeeded), here [], refl, refl)) }, tt);
-      outer = record { end = (tt, tt); gives = λ j s n. tt; nobody = λ e. absurd (none_some e) };
+      outer = outer_by (tt, refl, tt) tt refl tt tt (λ e. absurd (none_some e));
       stopped = record { failed = λ t. absurd (false≢true t); silenced = λ t. absurd (false≢true t); ended = λ t. absurd (false≢true t); halted = λ e k m who is early. ⊎_elim (λ (q : e ≡ record { who = Outer; how = how.Done }). let d = ap (λ (x : EndOf). x.who) q in let x : ⊥ = cc in absurd x) (λ m. absurd (among_nil m)) (among_cons m); nobody = λ t. absurd (none_some t) };
       begins = λ k a. absurd (⊎_elim (λ (q : a.0 ≡ event 0 Outer (Close 0 Succeeded)). let d : Outer ≡ Inner k = sym (ap (λ (x : Event). x.by) q) ∙ a.2 in cc) (λ m. among_nil m) (among_cons a.1));
       memory = λ e m is. ⊎_elim (λ (q : e ≡ record { who = Outer; how = how.Done }). let d = ap (λ (x : EndOf). x.how) q in let x : ⊥ = cc in absurd x) (λ m. absurd (among_nil m)) (among_cons m);
     };
     exits = (record { how = how.Done; same = inl refl; told = (refl, tt); ran = λ k e. let x : ⊥ = cc in absurd x }, tt);
     wanting = λ t. absurd (false≢true t);
-    completeness = λ m n. record { done = (refl, tt); clean = refl; output = tt };
+    completeness = λ m n. record { done = (refl, tt); clean = refl; listed = tt; output = tt };
   });
 }
 
-none_told : TellsWork (run_work (plan_by_default [])) empty_description causes_of_none
-none_told = record {
-  frames = [];
-  cut = None;
-  rest = [];
-  wanted = false;
-  performs = none_performs;
-  text = record { said = tail_text empty_description.ends empty_description.events; written = text_of_empty_description; tail = refl; spoke = λ e. absurd (some_end e); once = omega arith };
-}
+none_told : TellsPlan (plan_by_default []) empty_description causes_of_none
+none_told = (
+  [],
+  record {
+    frames = [];
+    cut = None;
+    rest = [];
+    wanted = false;
+    performs = none_performs;
+    text = record { said = tail_text empty_description.ends empty_description.events; written = text_of_empty_description; tail = refl; spoke = λ e. absurd (some_end e); once = omega arith };
+  },
+)
   where
     some_end : empty_description.ends ≡ [] → ⊥
     some_end e = cc

@@ -6,7 +6,6 @@ use Rattle.std.specs.List.{AllByRecursion}
 use Rattle.std.proofs.lemmas.Bool.{false≢true}
 use Rattle.std.proofs.lemmas.List.Sorted.{IsPermutation-refl}
 use Rattle.chunk_core.proofs.Each.{among_each}
-use Rattle.chunk_core.proofs.Filters.{among_right}
 use Rattle.chunk_core.proofs.Members.{among_cons, among_nil}
 use Rattle.chunk_core.specs.Texts.{Frame, frame_text, frames_text}
 use Rattle.chunk_core.specs.Elements.{Byte}
@@ -32,13 +31,13 @@ use Rattle.run_rules.specs.declared.end.EndOf.{EndOf}
 use Rattle.run_rules.specs.Ends.{HasCauseToHalt, HaveEnds, IsLast, IsShown}
 use Rattle.run_rules.specs.Homes.{AreLeftAlone}
 use Rattle.run_rules.specs.Outputs.{HaveOutputs, elements_in_pieces}
-use Rattle.run_rules.specs.Rules.{ClosesBeforeLeaving, IsOurs, KeepsRules, LendsTables}
+use Rattle.run_rules.specs.Rules.{ClosesBeforeLeaving, IsOurs, KeepsRules}
 use Rattle.run_rules.specs.Run.{Performs}
 use Rattle.run_rules.specs.Wholeness.{IsWholeRun, NothingFailed}
 use Rattle.run_rules.specs.Work.{RunRecord, Values, owners_of}
 use Rattle.res_ledger.specs.Judge.{each_after}
 use Rattle.res_ledger.specs.Own.{opens, own}
-use Rattle.res_ledger.specs.declared.event.StreamNo.TheVariants.{Inner, Outer}
+use Rattle.res_ledger.specs.declared.event.StreamNo.TheVariants.{Inner}
 use Rattle.res_ledger.specs.Ledger.{NotesClose}
 use Rattle.res_ledger.proofs.Judged.{each_event}
 use Rattle.res_ledger.proofs.Stamps.{stamped_sound}
@@ -49,7 +48,6 @@ use Rattle.headline_laws.specs.Calls.{a, closed_device, depot_after, depot_befor
 use Rattle.headline_laws.specs.Worked.{hello_device, words_not_read, missing_device, whole_file, empty_file, missing_file, read_fault, failed_close, failed_write}
 use Rattle.headline_laws.proofs.Asked.{cat_holds, cat_means}
 use Rattle.chunk_core.proofs.Distinct.{distinct_one}
-use Rattle.chunk_core.specs.Lists.{IsAmong}
 use Rattle.chunk_core.specs.Lists.IsAmong.{here, there}
 
 some_none : {A : Type 0} {x : A} → Some x ≢ None
@@ -71,16 +69,6 @@ cancels_nothing w = true
 pub never_leaves : (L : List Event) → each_after (λ P e. cancels_nothing e.what) [] L ≡ true → ClosesBeforeLeaving L
 never_leaves L h P Q e j x is by what = absurd (false≢true (ap cancels_nothing (sym what) ∙ each_event (λ P e. cancels_nothing e.what) L P Q e h is))
 
--- cat has no outer stream
-not_outer : (L : List Event) → AllByRecursion (IsOurs (cat_work a)) L → (e : Event) → IsAmong e L → e.by ≡ Outer → ⊥
-not_outer L ours e m by = ⊎_elim (λ (i : e.by ≡ Inner 0). let x : ⊥ = cc in x) among_nil (among_cons (among_each (IsOurs (cat_work a)) e L ours m).by)
-
-lends_nothing : (L : List Event) → AllByRecursion (IsOurs (cat_work a)) L → LendsTables 0 L
-lends_nothing L ours = record {
-  rise = λ P Q e r s q t is by what n. absurd (not_outer L ours e (subst (λ l. IsAmong e l) (sym is) (among_right e P (e ∷ Q) (here Q))) by);
-  covers = λ j s r n l. absurd (omega (arith, l));
-}
-
 rules_of : (L : List Event) → each_after (λ P e. nat_eq e.stamp (length P)) [] L ≡ true → is_legal L ≡ true → is_complete L ≡ true → is_ordered L ≡ true → AllByRecursion (IsOurs (cat_work a)) L → length (opens (own (Inner 0) L)) ≤ 0 → each_after (λ P e. cancels_nothing e.what) [] L ≡ true → KeepsRules (cat_work a) L
 rules_of L stamped legal complete ordered ours scopes none = record {
   stamped = stamped_sound L L refl stamped;
@@ -90,8 +78,7 @@ rules_of L stamped legal complete ordered ours scopes none = record {
   ours = ours;
   scopes = (scopes, tt);
   leaving = never_leaves L none;
-  tables = lends_nothing L ours;
-  pace = tt;
+  given = tt;
 }
 
 -- the events of the one row are cat's
@@ -248,7 +235,7 @@ whole_file_holds =
         performs = row_performs (codes "hello\n") 6 true Succeeded 0 0 true (hello_frame ∷ []) None how.Done tt refl refl
             (record { numbers = ((omega arith, omega arith), tt); few = tt; in_turn = λ t. absurd (false≢true t); outputs = (record { pieces = map Byte (codes "hello\n") ∷ []; end = Done; run = inl (inl (refl, refl, inl (refl, (refl, omega arith, refl, refl)))); printed = refl; reported = refl }, refl); rest = refl })
             (λ e. let x : ⊥ = cc in absurd x) tt (λ e. cc)
-            (λ n. record { done = (refl, tt); clean = refl; output = ((map Byte (codes "hello\n"), inl (omega arith, refl, refl), refl), tt) });
+            (λ n. record { done = (refl, tt); clean = refl; listed = tt; output = ((map Byte (codes "hello\n"), inl (omega arith, refl, refl), refl), tt) });
         text = record { said = tail_text whole_file.ends whole_file.events; written = text_of_whole_file; tail = refl; spoke = λ e. absurd (no_nil _ _ e); once = omega arith };
       },
       record { fits = (omega arith, tt); cut_fits = tt },
@@ -267,7 +254,7 @@ empty_file_holds =
         performs = row_performs [] 0 true Succeeded 0 0 true [] None how.Done tt refl refl
             (record { numbers = tt; few = tt; in_turn = λ t. absurd (false≢true t); outputs = (record { pieces = []; end = Done; run = inl (inl (refl, refl, inl (refl, (refl, omega arith, refl, refl)))); printed = refl; reported = refl }, refl); rest = refl })
             (λ e. let x : ⊥ = cc in absurd x) tt (λ e. cc)
-            (λ n. record { done = (refl, tt); clean = refl; output = (([], inl (omega arith, refl, refl), refl), tt) });
+            (λ n. record { done = (refl, tt); clean = refl; listed = tt; output = (([], inl (omega arith, refl, refl), refl), tt) });
         text = record { said = tail_text empty_file.ends empty_file.events; written = text_of_empty_file; tail = refl; spoke = λ e. absurd (no_nil _ _ e); once = omega arith };
       },
       record { fits = tt; cut_fits = tt },

@@ -15,3 +15,5 @@ pub mod Ledgers
 pub mod Teeing
 pub mod Evaluating
 pub mod Answering
+pub mod Listing
+pub mod Mislisting

@@ -77,11 +77,11 @@ known_bytes : (c : Call) (left : List ℕ) → c.source_old.left ≡ Some left �
 known_bytes c left is bytes i = subst (λ o. IfSome o (λ xs. bytes ≡ take 1048577 xs)) is i.given
 
 -- what was done for a description that is known, where it wasn't stopped before
-done_for : (c : Call) (k : Causes) (left : List ℕ) (means : Reading PlanMeant) → c.source_old.left ≡ Some left → plan_of (take 1048577 left) ≡ means → RunsInput c k None → DoesPlan c k None means
+pub done_for : (c : Call) (k : Causes) (left : List ℕ) (means : Reading PlanMeant) → c.source_old.left ≡ Some left → plan_of (take 1048577 left) ≡ means → RunsInput c k None → DoesPlan c k None means
 done_for c k left means is m r = subst (λ q. DoesPlan c k None q) (ap plan_of (known_bytes c left is r.bytes r.input) ∙ m) r.plan
 
 -- nothing was done, where a description is refused
-nothing_done : (c : Call) (k : Causes) (left : List ℕ) (refusal : Refusal) → c.source_old.left ≡ Some left → plan_of (take 1048577 left) ≡ Err refusal → StopsBefore c k ⊎ RunsInput c k None → DidNothing c
+pub nothing_done : (c : Call) (k : Causes) (left : List ℕ) (refusal : Refusal) → c.source_old.left ≡ Some left → plan_of (take 1048577 left) ≡ Err refusal → StopsBefore c k ⊎ RunsInput c k None → DidNothing c
 nothing_done c k left refusal is m d = ⊎_elim (λ (x : StopsBefore c k). x.nothing) (λ (x : RunsInput c k None). (done_for c k left (Err refusal) is m x).1) d
 
 -- the cause of a refusal is the description's

@@ -274,7 +274,7 @@ two_performs = record {
     ends = ends_of how.Done two_files both home_of_two (λ e. cc) (λ e. cc) tt root_of_two mine_two;
     exits = (record { how = how.Done; same = inl refl; told = (tt, (tt, (tt, (tt, (tt, (tt, (tt, (refl, (tt, (tt, tt)))))))))); ran = λ k q. ([], Done, (refl, pieces_of_two), refl) }, tt);
     wanting = λ t. absurd (false≢true t);
-    completeness = λ m n. record { done = (refl, tt); clean = refl; output = (([], (refl, pieces_of_two, inl refl), refl), tt) };
+    completeness = λ m n. record { done = (refl, tt); clean = refl; listed = tt; output = (([], (refl, pieces_of_two, inl refl), refl), tt) };
   });
 }
   where

@@ -28,7 +28,7 @@ unfolding clap_on_literals
 turn_asks = refl
 
 module _ (c : Call) (h : RunsStreams c) (most : Option ℕ) (asks : command_of c.words ≡ Some (Run most)) (some : c.ends ≢ []) where
-  ran_as : RunsInput c h.causes most
+  pub ran_as : RunsInput c h.causes most
   ran_as =
       ⊎_elim
       (λ (x : StopsBefore c h.causes). absurd (some x.nothing.ends))
@@ -40,7 +40,7 @@ module _ (c : Call) (h : RunsStreams c) (most : Option ℕ) (asks : command_of c
   files_kept = go (plan_of ran_as.bytes) ran_as.plan
     where
       go : (q : Result PlanMeant Refusal) → DoesPlan c h.causes most q → KeepsFilesBut (IsWrittenBy (came_back c.depot_old c.depot_new)) c.depot_old.files c.depot_new.files
-      go (Ok plan) d = d.1.performs.devices.files
+      go (Ok plan) d = d.1.1.performs.devices.files
       go (Err refusal) d = absurd (some d.1.ends)
 
 -- and the streams begin in their order, where as many may be open as the words tell
@@ -48,7 +48,7 @@ begun : (c : Call) (h : RunsStreams c) (width : ℕ) → command_of c.words ≡ 
 begun c h width asks some = go (plan_of (ran_as c h (Some width) asks some).bytes) (ran_as c h (Some width) asks some).plan
   where
     go : (q : Result PlanMeant Refusal) → DoesPlan c h.causes (Some width) q → BeginInOrder width c.events
-    go (Ok plan) d = d.1.performs.ledger.pace.begins
+    go (Ok plan) d = d.1.1.performs.ledger.given.pace.begins
     go (Err refusal) d = absurd (some d.1.ends)
 
 pub emptied_unopened_refused : ¬ (RunsStreams emptied_unopened)

@@ -10,3 +10,4 @@ pub mod Audited
 pub mod Rotated
 pub mod Branched
 pub mod Evaluated
+pub mod Listed

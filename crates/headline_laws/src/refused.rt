@@ -7,6 +7,7 @@ ghost use Rattle.headline_laws.specs.Branched.{branch_halted_for_nothing, branch
 ghost use Rattle.headline_laws.specs.Cases.{case_of_the_depot, case_of_the_source, failed_case, halted_case, nothing_summed, summary_of_another_seed, summary_without_memory};
 ghost use Rattle.headline_laws.specs.Described.{drained, end_not_read, made_though_refused, never_read, next_stream_refused, read_by_cat, read_on, refusal_printed, refused_though_good, stream_left_out, unread_but_refused, unread_without_a_fault};
 ghost use Rattle.headline_laws.specs.Evaluated.{evaluated_and_open, evaluation_halted, group_lost, groups_joined, groups_swapped};
+ghost use Rattle.headline_laws.specs.Listed.{line_before_read, line_forgotten, other_group_run};
 ghost use Rattle.headline_laws.specs.Rotated.{closed_at_the_end, cut_piece, done_as_errored, halted_rotation, printed_too, too_many_of_six, unfailed_write};
 ghost use Rattle.headline_laws.specs.Surplus.{halted_by_the_tail, halted_for_memory, idle_devices, invented_scopes, larger_frame, made_without_words, memory_at_the_end, opened_again, writes_on};
 ghost use Rattle.headline_laws.specs.Unruly.{emptied_unopened, opened_though_missing, opened_twice, out_of_turn};
@@ -90,6 +91,14 @@ pub fn wrong_descriptions()
     ensures is_end_not_read { ¬ (Headline end_not_read) }
     ensures is_made_though_refused { ¬ (Headline made_though_refused) }
     ensures is_refusal_printed { ¬ (Headline refusal_printed) }
+{}
+
+/// A listed stream that read the file of another line, a list that is done and of which a line is
+/// left, and a table that a stream of another group looks up.
+pub fn wrong_lists_and_groups()
+    ensures is_line_before_read { ¬ (Headline line_before_read) }
+    ensures is_line_forgotten { ¬ (Headline line_forgotten) }
+    ensures is_other_group_run { ¬ (Headline other_group_run) }
 {}
 
 /// Cases that took something from outside, failed, were left, or were summed up otherwise.

@@ -5,6 +5,7 @@ ghost use Rattle.headline_laws.specs.Branched.{branches_turned, two_branches};
 ghost use Rattle.headline_laws.specs.Cases.{case_not_made};
 ghost use Rattle.headline_laws.specs.Described.{empty_description, no_memory, refused_description, unread_source};
 ghost use Rattle.headline_laws.specs.Evaluated.{two_groups};
+ghost use Rattle.headline_laws.specs.Listed.{other_group_refused, two_lines_listed};
 ghost use Rattle.headline_laws.specs.Rotated.{two_pieces, unopened_piece};
 ghost use Rattle.headline_laws.specs.Worked.{whole_file, empty_file, missing_file, read_fault, failed_close, failed_write, words_not_read};
 
@@ -37,6 +38,12 @@ pub fn descriptions()
     ensures is_unread_source { Headline unread_source }
     ensures is_no_memory { Headline no_memory }
     ensures is_empty_description { Headline empty_description }
+{}
+
+/// A list whose lines were given streams, and groups one of which looks up the other's table.
+pub fn lists_and_groups()
+    ensures is_two_lines_listed { Headline two_lines_listed }
+    ensures is_other_group_refused { Headline other_group_refused }
 {}
 
 /// A case for which there was no memory.

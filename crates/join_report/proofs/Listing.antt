@@ -1,8 +1,8 @@
 -- The ends of the outer stream and of each stream in order.
-use Rattle.std.proofs.Common.{◌≡◌, ℕ, zero, suc, ◌+◌, Bool, List, [], ◌∷◌, ◌++◌, map, length, replicate, refl, sym, ap, ◌∙◌, arith}
+use Rattle.std.proofs.Common.{◌≡◌, ℕ, zero, suc, ◌+◌, ◌≤◌, Bool, List, [], ◌∷◌, ◌++◌, map, length, replicate, take, refl, sym, ap, subst, ◌∙◌, arith}
 use Rattle.std.proofs.Math.ListN.{set, get_or}
-use Rattle.std.proofs.lemmas.List.{map-set}
-use Rattle.std.proofs.lemmas.List.FromFn.{length-range_with_len, map-range_with_len_more}
+use Rattle.std.proofs.lemmas.List.{map-set, take-map}
+use Rattle.std.proofs.lemmas.List.FromFn.{length-range_with_len, map-range_with_len_more, take-map-range_with_len}
 use Rattle.std.specs.List.{range_with_len}
 use Rattle.std.proofs.Math.Seq.{map-set_same}
 use Rattle.chunk_core.specs.declared.code.How.{How}
@@ -65,3 +65,25 @@ names_shift k (suc n) (s ∷ ss) e = ap (λ l. Inner k ∷ l) (let q : k + 1 ≡
 -- the names of the streams that run
 pub names_agree : (ss : List Stream) → names_below (length ss) ≡ names_from 0 ss
 names_agree ss = names_shift 0 (length ss) ss refl
+
+-- the ends of the first so many streams, and the outer stream's, which ended so
+pub record AreFirst (es : List EndOf) (n : ℕ) (h : How) (xs : List EndOf) : Type 0 where
+  pub names : map (λ (e : EndOf). e.who) xs ≡ Outer ∷ names_below n
+  pub hows : map (λ (e : EndOf). e.how) xs ≡ h ∷ take n (hows_behind es)
+
+first_of : (es : List EndOf) (bs : List Bool) (n : ℕ) (h : How) (d : EndOf) → IsListed es bs → n ≤ length bs → d ≡ get_or (take (suc n) es) 0 d → AreFirst es n h (set (take (suc n) es) 0 (record { who = d.who; how = h }))
+first_of [] bs n h d l few is = absurd (let z : [] ≡ Outer ∷ names_below (length bs) = l in cc)
+first_of (e ∷ es) bs n h d l few is =
+    let who : e.who ≡ Outer = cc in
+    let rest : map (λ (x : EndOf). x.who) es ≡ names_below (length bs) = cc in
+    let first : d.who ≡ Outer = ap (λ (x : EndOf). x.who) is ∙ who in
+    record {
+      names = ap (λ w. w ∷ map (λ (x : EndOf). x.who) (take n es)) first ∙ ap (λ l. Outer ∷ l) (sym (take-map (λ (x : EndOf). x.who) n es) ∙ (ap (λ l. take n l) rest ∙ take-map-range_with_len Inner 0 (length bs) n few));
+      hows = ap (λ l. h ∷ l) (sym (take-map (λ (x : EndOf). x.how) n es));
+    }
+
+pub first_ends : (es : List EndOf) (bs : List Bool) (n : ℕ) (h : How) (d : EndOf) (xs : List EndOf) → IsListed es bs → n ≤ length bs → xs ≡ take (n + 1) es → d ≡ get_or xs 0 d → AreFirst es n h (set xs 0 (record { who = d.who; how = h }))
+first_ends es bs n h d xs l few is first =
+    let more : n + 1 ≡ suc n = omega arith in
+    let at : xs ≡ take (suc n) es = is ∙ ap (λ m. take m es) more in
+    subst (λ ys. AreFirst es n h (set ys 0 (record { who = d.who; how = h }))) (sym at) (first_of es bs n h d l few (subst (λ ys. d ≡ get_or ys 0 d) at first))

@@ -1,5 +1,5 @@
 //! How each stream is reported, and of which a load was left unwritten.
-ghost use Rattle.std.specs.Prelude.{◌≡◌, ◌<◌, ◌∷◌, true, false, map, length, replicate, slice_index_or, slice_set, IfOk};
+ghost use Rattle.std.specs.Prelude.{◌≡◌, ◌<◌, ◌≤◌, ◌∷◌, true, false, map, length, replicate, slice_index_or, slice_set, take, IfOk};
 ghost use Rattle.join_report.specs.Accounts.{names_below};
 
 use chunk_core::{How, List};
@@ -67,12 +67,14 @@ impl Accounts {
         self.unwritten[stream as usize]
     }
 
-    /// The outer stream's end, and those of the streams in order.
-    pub(crate) fn into_ends(self, outer: How) -> List<EndOf>
-        ensures names { map (λ e. e.who) result ≡ StreamNo.Outer ∷ names_below (length self.unwritten) }
-        ensures hows { map (λ e. e.how) result ≡ outer ∷ self.hows }
+    /// The outer stream's end, and those of so many streams in order.
+    pub(crate) fn into_ends(self, outer: How, streams: u32) -> List<EndOf>
+        requires { streams ≤ length self.unwritten }
+        ensures names { map (λ e. e.who) result ≡ StreamNo.Outer ∷ names_below streams }
+        ensures hows { map (λ e. e.how) result ≡ outer ∷ take streams self.hows }
     {
         let Accounts { mut ends, .. } = self;
+        ends.truncate(streams as usize + 1);
         let end = &mut ends[0];
         end.how = outer;
         List::of_vec(ends)

@@ -3,8 +3,8 @@
 //! A `Report` is what is known of a run so far: how many frames more may be written, whether anything
 //! stopped that, and how each stream is reported. `write` writes a load as a frame, or counts it as
 //! one that came too late; `end`, `miss` and `outer` note how a stream ended, that there was no
-//! memory to make one, and how the outer stream ended. `into_ends` lists the ends, and takes no
-//! memory: all room is made by `Report::new`.
+//! memory to make one, and how the outer stream ended. `into_ends` lists the ends of the streams that
+//! there were, and takes no memory: all room is made by `Report::new`, for as many as there may be.
 //!
 //! `Stops` is the board of interruption with the collector's own seat at it: what the collector set
 //! and found stands in its view, and once all other seats are taken in, all of that was set.
@@ -23,7 +23,7 @@
 //! holds(&rt, !report.sink_failed());
 //! holds(&rt, !report.memory());
 //! let mut hows = Vec::new(rt.alloc());
-//! for end in report.into_ends(How::Done).as_slice() {
+//! for end in report.into_ends(How::Done, 1).as_slice() {
 //!     hows.push(end.how)?;
 //! }
 //! same(&rt, hows.as_slice(), [How::Done, How::Halted].as_slice());

@@ -1,5 +1,5 @@
 //! What is known of a run so far, and how each stream is reported.
-ghost use Rattle.std.specs.Prelude.{◌≡◌, ◌≢◌, ◌-◌, ◌^◌, ◌<◌, ◌∷◌, true, false, map, length, Some, None, IfOk, slice_index_or};
+ghost use Rattle.std.specs.Prelude.{◌≡◌, ◌≢◌, ◌-◌, ◌^◌, ◌<◌, ◌≤◌, ◌∷◌, true, false, map, length, take, Some, None, IfOk, slice_index_or};
 ghost use Rattle.chunk_core.specs.Elements.{elements};
 ghost use Rattle.join_tale.specs.Steps.{first_tale};
 ghost use Rattle.join_report.specs.Accounts.{names_below};
@@ -119,12 +119,14 @@ impl Report {
         self.memory
     }
 
-    /// The ends of the outer stream, which ended so, and of each stream in order.
-    pub fn into_ends(self, outer: How) -> List<EndOf>
-        ensures names { map (λ e. e.who) result ≡ StreamNo.Outer ∷ names_below (count_of self) }
-        ensures hows { map (λ e. e.how) result ≡ outer ∷ self.streams.hows }
+    /// The ends of the outer stream, which ended so, and of each stream in order, of which there were
+    /// so many.
+    pub fn into_ends(self, outer: How, streams: u32) -> List<EndOf>
+        requires { streams ≤ count_of self }
+        ensures names { map (λ e. e.who) result ≡ StreamNo.Outer ∷ names_below streams }
+        ensures hows { map (λ e. e.how) result ≡ outer ∷ take streams self.streams.hows }
     {
-        self.streams.into_ends(outer)
+        self.streams.into_ends(outer, streams)
     }
 
     /// A frame was written: it is counted, and the cause is told where it was the last.

@@ -1,5 +1,5 @@
 -- Why a stream is halted, in the words of a record.
-use Rattle.std.proofs.Common.{◌≡◌, ◌≢◌, ◌⊎◌, ℕ, zero, suc, ◌+◌, ◌<◌, ◌≤◌, true, false, List, [], ◌∷◌, ◌++◌, map, length, Option, Some, None, IfSome, is_some, inl, inr, refl, sym, ap, ◌∙◌, subst, ⊎_elim, arith}
+use Rattle.std.proofs.Common.{◌≡◌, ◌≢◌, ◌⊎◌, ℕ, zero, suc, ◌+◌, ◌<◌, ◌≤◌, true, List, [], ◌∷◌, ◌++◌, map, length, Option, Some, None, IfSome, is_some, inl, inr, refl, sym, ap, ◌∙◌, subst, ⊎_elim, arith}
 use Rattle.std.specs.Prelude.{option_map}
 use Rattle.std.specs.List.{last_or}
 use Rattle.chunk_core.specs.Lists.{IsAmong}
@@ -18,16 +18,17 @@ use Rattle.run_rules.specs.declared.end.EndOf.{EndOf}
 use Rattle.run_rules.specs.Ends.{EndStops, HasCauseToHalt, IsSilenced, MayStop}
 use Rattle.run_rules.specs.Facts.{Acts}
 use Rattle.run_rules.specs.Work.{Work, Opener, RunRecord, Stream, begun_frames, names_from, until_by}
+use Rattle.join_tale.specs.Bounds.{Bounds, bounds_of}
 use Rattle.join_tale.specs.Ended.{Ended}
 use Rattle.join_tale.specs.Ended.Ended.{told, wanting, whole, halted, unmade, skipped}
 use Rattle.join_tale.specs.Keeping.{HasCeased, IsEndedInTurn, IsHighest, IsLast, IsOuterStopped, IsTale, IsToldToHalt}
-use Rattle.join_tale.specs.Records.{EndedSo, IsRecordOf, IsSettled}
+use Rattle.join_tale.specs.Records.{EndedSo, IsRecordOf, IsSettled, bare}
 use Rattle.join_tale.specs.Tales.{Came, HasCome, HasFailed, HasMet, IsBegun, IsCaused, IsFoundSet, Tale, end_of, frames_begun, frames_of, load_of}
 use Rattle.join_tale.proofs.Endings.{come_begun, ended_once}
 use Rattle.join_tale.proofs.Growing.{until_came}
 use Rattle.join_tale.proofs.Leaving.{left_fact}
 use Rattle.join_tale.proofs.Parts.{frame_came}
-use Rattle.join_tale.proofs.Places.{at_below, last_among, none_is_some, none_some, not_both, some_is}
+use Rattle.join_tale.proofs.Places.{at_below, last_among, none_is_some, none_some, some_is}
 use Rattle.join_tale.proofs.Ceasing.{late_ceased}
 
 cut_some : (o p : Option Frame) → o ≡ p → o ≢ None → is_some p ≡ true
@@ -41,13 +42,8 @@ name_in k [] j n e l = absurd (omega arith)
 name_in k (s ∷ ss) zero n e l = let q : k ≡ n = omega (arith, e) in subst (λ m. IsAmong (Inner m) (Inner k ∷ names_from (suc k) ss)) q (here (names_from (suc k) ss))
 name_in k (s ∷ ss) (suc j) n e l = there (Inner k) (name_in (suc k) ss j n (omega (arith, e)) (omega arith))
 
-inner_in : (o : Option Opener) (ss : List Stream) (j : ℕ) → j < length ss → IsAmong (Inner j) (elim o [ Some q ↦ Outer ∷ names_from 0 ss | None ↦ names_from 0 ss ])
-inner_in (Some q) ss j l = there Outer (name_in 0 ss j j (omega arith) l)
-inner_in None ss j l = name_in 0 ss j j (omega arith) l
-
-outer_in : (o : Option Opener) (ss : List Stream) → is_some o ≡ true → IsAmong Outer (elim o [ Some q ↦ Outer ∷ names_from 0 ss | None ↦ names_from 0 ss ])
-outer_in (Some q) ss e = here (names_from 0 ss)
-outer_in None ss e = absurd (not_both false refl e)
+inner_in : (ss : List Stream) (j : ℕ) → j < length ss → IsAmong (Inner j) (Outer ∷ names_from 0 ss)
+inner_in ss j l = there Outer (name_in 0 ss j j (omega arith) l)
 
 end_named : (es : List EndOf) (k : StreamNo) → IsAmong k (map (λ e. e.who) es) → (e : EndOf) × IsAmong e es × (e.who ≡ k)
 end_named [] k m = absurd (among_nil m)
@@ -63,133 +59,141 @@ outer_stops work (Inner k) = tt
 abbrev pub MayAllStop : Work → Tale → StreamNo → Type 0
 MayAllStop work t k = (j : ℕ) → IsBegun t j → MayStop work (Inner j) k
 
-pub last_stops : (work : Work) (t : Tale) (k : ℕ) → IsLast work t k → MayAllStop work t (Inner k)
-last_stops work t k l j b w = l w j b
+pub last_stops : (o : Opener) (ss : List Stream) (t : Tale) (k : ℕ) → IsLast (bounds_of o ss) t k → MayAllStop (bare (Some o) ss) t (Inner k)
+last_stops o ss t k l j b w = l w j b
 
-module _ (work : Work) (t : Tale) (c : RunRecord) (i : IsTale work t) (r : IsRecordOf work t c) where
-  -- each stream that has a fate has an end
-  pub end_of_inner : (k : ℕ) → k < length t.fates → (e : EndOf) × IsAmong e c.ends × (e.who ≡ Inner k)
-  end_of_inner k l = end_named c.ends (Inner k) (subst (λ x. IsAmong (Inner k) x) (sym r.named) (inner_in work.opener work.streams k (omega (arith, l, r.count))))
+module _ (opener : Opener) (ss : List Stream) where
+  -- the work, of which it isn't said what the streams give
+  abbrev work : Work
+  work = bare (Some opener) ss
 
-  pub end_of_outer : (e : EndOf) × IsAmong e c.ends × (e.who ≡ Outer)
-  end_of_outer = end_named c.ends Outer (subst (λ l. IsAmong Outer l) (sym r.named) (outer_in work.opener work.streams r.opener))
+  abbrev bounds : Bounds
+  bounds = bounds_of opener ss
 
-  pub same_begun : begun_frames c ≡ frames_begun t
-  same_begun = ap (λ (F : List Frame). F ++ elim c.cut [ Some f ↦ f ∷ [] | None ↦ [] ]) r.frames ∙ ap (λ (o : Option Frame). frames_of t.front ++ elim o [ Some f ↦ f ∷ [] | None ↦ [] ]) r.cut
+  module _ (t : Tale) (c : RunRecord) (i : IsTale bounds t) (r : IsRecordOf work t c) where
+    -- each stream that has a fate has an end
+    pub end_of_inner : (k : ℕ) → k < length t.fates → (e : EndOf) × IsAmong e c.ends × (e.who ≡ Inner k)
+    end_of_inner k l = end_named c.ends (Inner k) (subst (λ x. IsAmong (Inner k) x) (sym r.named) (inner_in ss k (omega (arith, l, r.count))))
 
-  written_begun : (f : Frame) → IsAmong f (frames_of t.front) → IsBegun t f.stream
-  written_begun f m = (i.frames.ours (load_of f.stream f.payload) (inl (frame_came f t.front m))).0
+    pub end_of_outer : (e : EndOf) × IsAmong e c.ends × (e.who ≡ Outer)
+    end_of_outer = end_named c.ends Outer (subst (λ l. IsAmong Outer l) (sym r.named) (here (names_from 0 ss)))
 
-  cut_begun : (o : Option Frame) (f : Frame) → t.cut ≡ o → IsAmong f (elim o [ Some g ↦ g ∷ [] | None ↦ [] ]) → IsBegun t f.stream
-  cut_begun None f e m = absurd (among_nil m)
-  cut_begun (Some g) f e m =
-      let q = i.frames.cut g e in
-      let b : IsBegun t g.stream = (i.frames.ours (load_of g.stream g.payload) (inr (subst (λ l. IsAmong (load_of g.stream g.payload) l) (sym q.1) (here q.0)))).0 in
-      ⊎_elim (λ (s : f ≡ g). subst (λ (h : Frame). IsBegun t h.stream) (sym s) b) (λ n. absurd (among_nil n)) (among_cons m)
+    pub same_begun : begun_frames c ≡ frames_begun t
+    same_begun = ap (λ (F : List Frame). F ++ elim c.cut [ Some f ↦ f ∷ [] | None ↦ [] ]) r.frames ∙ ap (λ (o : Option Frame). frames_of t.front ++ elim o [ Some f ↦ f ∷ [] | None ↦ [] ]) r.cut
 
-  -- the stream of a frame that was begun last was begun
-  pub last_begun : (f : Frame) → last_or None (begun_frames c) ≡ Some f → IsBegun t f.stream
-  last_begun f e = ⊎_elim
-      (λ m. ⊎_elim (λ n. written_begun f n) (λ n. cut_begun t.cut f refl n) (among_append f (frames_of t.front) (elim t.cut [ Some g ↦ g ∷ [] | None ↦ [] ]) (subst (λ l. IsAmong f l) same_begun m)))
-      (λ n. absurd (none_some n))
-      (last_among None (begun_frames c) f e)
+    written_begun : (f : Frame) → IsAmong f (frames_of t.front) → IsBegun t f.stream
+    written_begun f m = (i.frames.ours (load_of f.stream f.payload) (inl (frame_came f t.front m))).0
 
-  pub act_begun : (k : ℕ) → Acts (Inner k) c.events → IsBegun t k
-  act_begun k a = r.begun a.0 k a.1 a.2
+    cut_begun : (o : Option Frame) (f : Frame) → t.cut ≡ o → IsAmong f (elim o [ Some g ↦ g ∷ [] | None ↦ [] ]) → IsBegun t f.stream
+    cut_begun None f e m = absurd (among_nil m)
+    cut_begun (Some g) f e m =
+        let q = i.frames.cut g e in
+        let b : IsBegun t g.stream = (i.frames.ours (load_of g.stream g.payload) (inr (subst (λ l. IsAmong (load_of g.stream g.payload) l) (sym q.1) (here q.0)))).0 in
+        ⊎_elim (λ (s : f ≡ g). subst (λ (h : Frame). IsBegun t h.stream) (sym s) b) (λ n. absurd (among_nil n)) (among_cons m)
 
-  pub silenced_is : IsSilenced work c → HasMet work t ⊎ (is_some t.cut ≡ true)
-  silenced_is s = ⊎_elim (λ n. inr (cut_some c.cut t.cut r.cut n)) (λ m. inl (m ∙ ap (λ (F : List Frame). Some (length F)) r.frames)) s
+    -- the stream of a frame that was begun last was begun
+    pub last_begun : (f : Frame) → last_or None (begun_frames c) ≡ Some f → IsBegun t f.stream
+    last_begun f e = ⊎_elim
+        (λ m. ⊎_elim (λ n. written_begun f n) (λ n. cut_begun t.cut f refl n) (among_append f (frames_of t.front) (elim t.cut [ Some g ↦ g ∷ [] | None ↦ [] ]) (subst (λ l. IsAmong f l) same_begun m)))
+        (λ n. absurd (none_some n))
+        (last_among None (begun_frames c) f e)
 
-  met_silences : HasMet work t → IsSilenced work c
-  met_silences m = inr (m ∙ ap (λ (F : List Frame). Some (length F)) (sym r.frames))
+    pub act_begun : (k : ℕ) → Acts (Inner k) c.events → IsBegun t k
+    act_begun k a = r.begun a.0 k a.1 a.2
 
-  cut_silences : is_some t.cut ≡ true → IsSilenced work c
-  cut_silences s = inl (λ e. none_is_some t.cut (sym r.cut ∙ e) s)
+    pub silenced_is : IsSilenced work c → HasMet bounds t ⊎ (is_some t.cut ≡ true)
+    silenced_is s = ⊎_elim (λ n. inr (cut_some c.cut t.cut r.cut n)) (λ m. inl (m ∙ ap (λ (F : List Frame). Some (length F)) r.frames)) s
 
-  last_may : (k : StreamNo) → MayAllStop work t k → (l : Option Frame) → ((f : Frame) → l ≡ Some f → IsBegun t f.stream) → IfSome (option_map (λ (f : Frame). f.stream) l) (λ j. MayStop work (Inner j) k)
-  last_may k all (Some f) b = all f.stream (b f refl)
-  last_may k all None b = tt
+    met_silences : HasMet bounds t → IsSilenced work c
+    met_silences m = inr (m ∙ ap (λ (F : List Frame). Some (length F)) (sym r.frames))
 
-  silence_cause : (k : StreamNo) → MayAllStop work t k → IsSilenced work c → HasCauseToHalt work c k
-  silence_cause k all s = inl (s, last_may k all (last_or None (begun_frames c)) last_begun)
+    cut_silences : is_some t.cut ≡ true → IsSilenced work c
+    cut_silences s = inl (λ e. none_is_some t.cut (sym r.cut ∙ e) s)
 
-  memory_cause : (k : StreamNo) → t.memory ≡ true → HasCauseToHalt work c k
-  memory_cause k m = inr (inl (r.memory ∙ m))
+    last_may : (k : StreamNo) → MayAllStop work t k → (l : Option Frame) → ((f : Frame) → l ≡ Some f → IsBegun t f.stream) → IfSome (option_map (λ (f : Frame). f.stream) l) (λ j. MayStop work (Inner j) k)
+    last_may k all (Some f) b = all f.stream (b f refl)
+    last_may k all None b = tt
 
-  ceased_cause : (k : StreamNo) → MayAllStop work t k → HasCeased work t → HasCauseToHalt work c k
-  ceased_cause k all s = ⊎_elim (λ m. silence_cause k all (met_silences m)) (λ z. ⊎_elim (λ q. silence_cause k all (cut_silences q)) (λ m. memory_cause k m) z) s
+    silence_cause : (k : StreamNo) → MayAllStop work t k → IsSilenced work c → HasCauseToHalt work c k
+    silence_cause k all s = inl (s, last_may k all (last_or None (begun_frames c)) last_begun)
 
-  pub inner_is : (e : EndOf) (k : ℕ) → IsAmong e c.ends → e.who ≡ Inner k → Ended t k e.how
-  inner_is e k m w = subst (λ (q : StreamNo). EndedSo t q e.how) w (r.told e m)
+    memory_cause : (k : StreamNo) → t.memory ≡ true → HasCauseToHalt work c k
+    memory_cause k m = inr (inl (r.memory ∙ m))
 
-  pub outer_is : (e : EndOf) → IsAmong e c.ends → e.who ≡ Outer → t.outer ≡ Some e.how
-  outer_is e m w = subst (λ (q : StreamNo). EndedSo t q e.how) w (r.told e m)
+    ceased_cause : (k : StreamNo) → MayAllStop work t k → HasCeased bounds t → HasCauseToHalt work c k
+    ceased_cause k all s = ⊎_elim (λ m. silence_cause k all (met_silences m)) (λ z. ⊎_elim (λ q. silence_cause k all (cut_silences q)) (λ m. memory_cause k m) z) s
 
-  inner_failed : (k : StreamNo) → MayAllStop work t k → (j : ℕ) (f : Code) → Came t j (how.Fault f) → HasCauseToHalt work c k
-  inner_failed k all j f (inl m) =
-      let b : IsBegun t j = come_begun work t j i (how.Fault f) (inl m) in
-      let e = end_of_inner j (at_below t.fates j _ b) in
-      let same : e.0.how ≡ how.Fault f = ended_once work t j i e.0.how (how.Fault f) (inner_is e.0 j e.1 e.2) (told m) in
-      inr (inr (inl (e.0, e.1, (f, same), subst (λ (q : StreamNo). MayStop work q k) (sym e.2) (all j b))))
-  inner_failed k all j f (inr m) = ceased_cause k all (i.frames.ceased (late_ceased work t i (end_of j (how.Fault f)) m))
+    pub inner_is : (e : EndOf) (k : ℕ) → IsAmong e c.ends → e.who ≡ Inner k → Ended t k e.how
+    inner_is e k m w = subst (λ (q : StreamNo). EndedSo t q e.how) w (r.told e m)
 
-  outer_failed : (k : StreamNo) (f : Code) → t.outer ≡ Some (how.Fault f) → HasCauseToHalt work c k
-  outer_failed k f o =
-      let e = end_of_outer in
-      let same : e.0.how ≡ how.Fault f = some_is e.0.how (how.Fault f) (sym (outer_is e.0 e.1 e.2) ∙ o) in
-      inr (inr (inl (e.0, e.1, (f, same), subst (λ (q : StreamNo). MayStop work q k) (sym e.2) (outer_stops work k))))
+    pub outer_is : (e : EndOf) → IsAmong e c.ends → e.who ≡ Outer → t.outer ≡ Some e.how
+    outer_is e m w = subst (λ (q : StreamNo). EndedSo t q e.how) w (r.told e m)
 
-  failed_cause : (k : StreamNo) → MayAllStop work t k → HasFailed t → HasCauseToHalt work c k
-  failed_cause k all f = ⊎_elim (λ x. inner_failed k all x.0 x.1 x.2) (λ x. outer_failed k x.0 x.1) f
+    inner_failed : (k : StreamNo) → MayAllStop work t k → (j : ℕ) (f : Code) → Came t j (how.Fault f) → HasCauseToHalt work c k
+    inner_failed k all j f (inl m) =
+        let b : IsBegun t j = come_begun bounds t j i (how.Fault f) (inl m) in
+        let e = end_of_inner j (at_below t.fates j _ b) in
+        let same : e.0.how ≡ how.Fault f = ended_once bounds t j i e.0.how (how.Fault f) (inner_is e.0 j e.1 e.2) (told m) in
+        inr (inr (inl (e.0, e.1, (f, same), subst (λ (q : StreamNo). MayStop work q k) (sym e.2) (all j b))))
+    inner_failed k all j f (inr m) = ceased_cause k all (i.frames.ceased (late_ceased bounds t i (end_of j (how.Fault f)) m))
 
-  -- the code for all streams is set
-  run_cause : (k : StreamNo) → MayAllStop work t k → (w : Why) → IsCaused work t 0 w → HasCauseToHalt work c k
-  run_cause k all why.Take h = silence_cause k all (met_silences h.1)
-  run_cause k all why.Until h = absurd (let q : 0 ≡ suc h.0 = h.2 in omega (q, arith))
-  run_cause k all why.Sink h = silence_cause k all (cut_silences h.1)
-  run_cause k all why.Memory h = memory_cause k h.1
-  run_cause k all why.Fault h = failed_cause k all h.1
+    outer_failed : (k : StreamNo) (f : Code) → t.outer ≡ Some (how.Fault f) → HasCauseToHalt work c k
+    outer_failed k f o =
+        let e = end_of_outer in
+        let same : e.0.how ≡ how.Fault f = some_is e.0.how (how.Fault f) (sym (outer_is e.0 e.1 e.2) ∙ o) in
+        inr (inr (inl (e.0, e.1, (f, same), subst (λ (q : StreamNo). MayStop work q k) (sym e.2) (outer_stops work k))))
 
-  -- the one has ended whose end stops k
-  end_stops : (k j : ℕ) → until_by work (Inner k) ≡ Some j → HasCome t j → IsEndedInTurn work t k → EndStops work c (Inner k)
-  end_stops k j is come turn = (j, is, left_fact j c.events (r.leaves j come), λ w. let e = turn w in subst (λ z. z ≤ k) (some_is e.0 j (sym e.1 ∙ is)) e.3)
+    failed_cause : (k : StreamNo) → MayAllStop work t k → HasFailed t → HasCauseToHalt work c k
+    failed_cause k all f = ⊎_elim (λ x. inner_failed k all x.0 x.1 x.2) (λ x. outer_failed k x.0 x.1) f
 
-  module _ (settled : IsSettled t) where
-    found_run : (k : StreamNo) → MayAllStop work t k → IsFoundSet t 0 → HasCauseToHalt work c k
-    found_run k all f = let s = settled 0 f.0 f.1 in run_cause k all s.0 (i.caused 0 s.0 s.1)
+    -- the code for all streams is set
+    run_cause : (k : StreamNo) → MayAllStop work t k → (w : Why) → IsCaused bounds t 0 w → HasCauseToHalt work c k
+    run_cause k all why.Take h = silence_cause k all (met_silences h.1)
+    run_cause k all why.Until h = absurd (let q : 0 ≡ suc h.0 = h.2 in omega (q, arith))
+    run_cause k all why.Sink h = silence_cause k all (cut_silences h.1)
+    run_cause k all why.Memory h = memory_cause k h.1
+    run_cause k all why.Fault h = failed_cause k all h.1
 
-    -- its own code was found
-    pub own_stops : (k : ℕ) → IsFoundSet t (suc k) × IsEndedInTurn work t k → EndStops work c (Inner k)
-    own_stops k f = let s = settled (suc k) f.0.0 f.0.1 in let u = until_came work t k s.0 (i.caused (suc k) s.0 s.1) in end_stops k u.0 u.1 u.2 f.1
+    -- the one has ended whose end stops k
+    end_stops : (k j : ℕ) → until_by work (Inner k) ≡ Some j → HasCome t j → IsEndedInTurn bounds t k → EndStops work c (Inner k)
+    end_stops k j is come turn = (j, is, left_fact j c.events (r.leaves j come), λ w. let e = turn w in subst (λ z. z ≤ k) (some_is e.0 j (sym e.1 ∙ is)) e.3)
 
-    own_cause : (k : ℕ) → IsFoundSet t (suc k) × IsEndedInTurn work t k → HasCauseToHalt work c (Inner k)
-    own_cause k f = inr (inr (inr (own_stops k f)))
+    module _ (settled : IsSettled t) where
+      found_run : (k : StreamNo) → MayAllStop work t k → IsFoundSet t 0 → HasCauseToHalt work c k
+      found_run k all f = let s = settled 0 f.0 f.1 in run_cause k all s.0 (i.caused 0 s.0 s.1)
 
-    told_cause : (k : ℕ) → IsToldToHalt work t k → HasCauseToHalt work c (Inner k)
-    told_cause k h = ⊎_elim (λ f. own_cause k f) (λ f. found_run (Inner k) (last_stops work t k f.1) f.0) h
+      -- its own code was found
+      pub own_stops : (k : ℕ) → IsFoundSet t (suc k) × IsEndedInTurn bounds t k → EndStops work c (Inner k)
+      own_stops k f = let s = settled (suc k) f.0.0 f.0.1 in let u = until_came bounds t k s.0 (i.caused (suc k) s.0 s.1) in end_stops k u.0 u.1 u.2 f.1
 
-    outer_stopped : (k : StreamNo) → MayAllStop work t k → (h : How) → t.outer ≡ Some h → h ≢ how.Done → HasCauseToHalt work c k
-    outer_stopped k all how.Halted e n = found_run k all (i.fates.outer_halted e)
-    outer_stopped k all (how.Fault f) e n = outer_failed k f e
-    outer_stopped k all how.Memory e n = memory_cause k (i.fates.outer_memory e)
-    outer_stopped k all how.Done e n = absurd (n refl)
+      own_cause : (k : ℕ) → IsFoundSet t (suc k) × IsEndedInTurn bounds t k → HasCauseToHalt work c (Inner k)
+      own_cause k f = inr (inr (inr (own_stops k f)))
 
-    run_stopped : (k : ℕ) → IsFoundSet t 0 ⊎ IsOuterStopped t → IsHighest t k → HasCauseToHalt work c (Inner k)
-    run_stopped k s l =
-        let all : MayAllStop work t (Inner k) = last_stops work t k (λ w. l) in
-        ⊎_elim (λ f. found_run (Inner k) all f) (λ o. outer_stopped (Inner k) all o.0 o.1 o.2) s
+      told_cause : (k : ℕ) → IsToldToHalt bounds t k → HasCauseToHalt work c (Inner k)
+      told_cause k h = ⊎_elim (λ f. own_cause k f) (λ f. found_run (Inner k) (last_stops opener ss t k f.1) f.0) h
 
-    inner_halted : (k : ℕ) (h : How) → Ended t k h → h ≡ how.Halted → HasCauseToHalt work c (Inner k)
-    inner_halted k h (told m) is = told_cause k (i.ends.halted k (inl (subst (λ z. IsAmong (end_of k z) t.front) is m)))
-    inner_halted k h (wanting m e) is = absurd (let q : how.Memory ≡ how.Halted = sym e ∙ is in cc)
-    inner_halted k h (whole m n e) is = absurd (let q : how.Done ≡ how.Halted = sym e ∙ is in cc)
-    inner_halted k h (halted e m n l q) is = ceased_cause (Inner k) (last_stops work t k (i.ends.late k e m)) (i.frames.ceased (late_ceased work t i (end_of k e) m))
-    inner_halted k h (unmade e q) is = absurd (let z : how.Memory ≡ how.Halted = sym q ∙ is in cc)
-    inner_halted k h (skipped e q) is = ⊎_elim (λ f. own_cause k f) (λ s. run_stopped k s.0 s.1) (i.fates.skipped k e)
+      outer_stopped : (k : StreamNo) → MayAllStop work t k → (h : How) → t.outer ≡ Some h → h ≢ how.Done → HasCauseToHalt work c k
+      outer_stopped k all how.Halted e n = found_run k all (i.fates.outer_halted e)
+      outer_stopped k all (how.Fault f) e n = outer_failed k f e
+      outer_stopped k all how.Memory e n = memory_cause k (i.fates.outer_memory e)
+      outer_stopped k all how.Done e n = absurd (n refl)
 
-    halted_by : (k : StreamNo) (h : How) → EndedSo t k h → h ≡ how.Halted → HasCauseToHalt work c k
-    halted_by Outer h e is = outer_stopped Outer (λ j b. tt) h e (λ d. let q : how.Halted ≡ how.Done = sym is ∙ d in cc)
-    halted_by (Inner k) h e is = inner_halted k h e is
+      run_stopped : (k : ℕ) → IsFoundSet t 0 ⊎ IsOuterStopped t → IsHighest t k → HasCauseToHalt work c (Inner k)
+      run_stopped k s l =
+          let all : MayAllStop work t (Inner k) = last_stops opener ss t k (λ w. l) in
+          ⊎_elim (λ f. found_run (Inner k) all f) (λ o. outer_stopped (Inner k) all o.0 o.1 o.2) s
 
-    pub halted_has_cause : (e : EndOf) → IsAmong e c.ends → e.how ≡ how.Halted → HasCauseToHalt work c e.who
-    halted_has_cause e m is = halted_by e.who e.how (r.told e m) is
+      inner_halted : (k : ℕ) (h : How) → Ended t k h → h ≡ how.Halted → HasCauseToHalt work c (Inner k)
+      inner_halted k h (told m) is = told_cause k (i.ends.halted k (inl (subst (λ z. IsAmong (end_of k z) t.front) is m)))
+      inner_halted k h (wanting m e) is = absurd (let q : how.Memory ≡ how.Halted = sym e ∙ is in cc)
+      inner_halted k h (whole m n e) is = absurd (let q : how.Done ≡ how.Halted = sym e ∙ is in cc)
+      inner_halted k h (halted e m n l q) is = ceased_cause (Inner k) (last_stops opener ss t k (i.ends.late k e m)) (i.frames.ceased (late_ceased bounds t i (end_of k e) m))
+      inner_halted k h (unmade e q) is = absurd (let z : how.Memory ≡ how.Halted = sym q ∙ is in cc)
+      inner_halted k h (skipped e q) is = ⊎_elim (λ f. own_cause k f) (λ s. run_stopped k s.0 s.1) (i.fates.skipped k e)
+
+      halted_by : (k : StreamNo) (h : How) → EndedSo t k h → h ≡ how.Halted → HasCauseToHalt work c k
+      halted_by Outer h e is = outer_stopped Outer (λ j b. tt) h e (λ d. let q : how.Halted ≡ how.Done = sym is ∙ d in cc)
+      halted_by (Inner k) h e is = inner_halted k h e is
+
+      pub halted_has_cause : (e : EndOf) → IsAmong e c.ends → e.how ≡ how.Halted → HasCauseToHalt work c e.who
+      halted_has_cause e m is = halted_by e.who e.how (r.told e m) is

@@ -2,12 +2,12 @@
 use Rattle.std.proofs.Common.{◌≡◌, Bool, true, false, is_some, refl, subst}
 use Rattle.chunk_core.specs.Lists.{IsAmong}
 use Rattle.chunk_core.proofs.Members.{among_nil}
-use Rattle.run_rules.specs.Work.{Work}
+use Rattle.join_tale.specs.Bounds.{Bounds}
 use Rattle.join_tale.specs.Keeping.{IsTale}
 use Rattle.join_tale.specs.Tales.{Message, Tale}
 use Rattle.join_tale.proofs.Places.{none_is_some, not_both}
 
-module _ (work : Work) (t : Tale) (i : IsTale work t) where
+module _ (bounds : Bounds) (t : Tale) (i : IsTale bounds t) where
   by_ceased : (b : Bool) → (b ≡ false → ⊥) → b ≡ true
   by_ceased true n = refl
   by_ceased false n = absurd (n refl)

@@ -6,9 +6,8 @@ use Rattle.chunk_core.proofs.Members.{among_last, among_left, among_nil}
 use Rattle.chunk_core.specs.declared.code.How.{How}
 use Rattle.chunk_core.specs.declared.code.How.TheVariants as how
 use Rattle.interrupt_ctx.specs.declared.view.Interruption.{Interruption}
-use Rattle.res_ledger.specs.declared.event.StreamNo.TheVariants.{Inner}
 use Rattle.run_rules.specs.Facts.{is_memory}
-use Rattle.run_rules.specs.Work.{Work, until_by}
+use Rattle.join_tale.specs.Bounds.{Bounds}
 use Rattle.join_tale.specs.Keeping.{IsLast, IsOwnCode, IsTale, IsToldToHalt, KeepsFrames}
 use Rattle.join_tale.specs.Steps.{TellsEnd, ended, ended_late, learned}
 use Rattle.join_tale.specs.Tales.{AreCaused, HasCome, IsBegun, IsOpen, Message, Tale, end_of}
@@ -19,30 +18,30 @@ use Rattle.join_tale.proofs.Places.{not_both}
 use Rattle.join_tale.proofs.Room.{ends_late_pass, ends_pass, room_passes}
 use Rattle.join_tale.proofs.Steps.{memory_is}
 
-module _ (work : Work) (t : Tale) (k : ℕ) (h : How) (vs cs : List Interruption) (i : IsTale work t) (o : IsOpen t k) where
-  last : IsLast work t k
-  last = open_last work t k i.ends o
+module _ (bounds : Bounds) (t : Tale) (k : ℕ) (h : How) (vs cs : List Interruption) (i : IsTale bounds t) (o : IsOpen t k) where
+  last : IsLast bounds t k
+  last = open_last bounds t k i.ends o
 
   -- this end alone comes
   abbrev New : ℕ → How → Type 0
   New j g = (j ≡ k) × (g ≡ h)
 
-  new_fresh : (u : Tale) → TellsEnd work u k h vs → (IsOwnCode work u k → IsToldToHalt work u k) → IsLast work u k → (h ≡ how.Memory → u.memory ≡ true) → AreFresh work t u New
+  new_fresh : (u : Tale) → TellsEnd bounds u k h vs → (IsOwnCode bounds u k → IsToldToHalt bounds u k) → IsLast bounds u k → (h ≡ how.Memory → u.memory ≡ true) → AreFresh bounds t u New
   new_fresh u tells own above memory = record {
-    halted = λ j n. subst (λ z. IsToldToHalt work u z) (sym n.0) (⊎_elim (λ f. inr (f, above)) (λ f. own f) (tells.halted (sym n.1)));
+    halted = λ j n. subst (λ z. IsToldToHalt bounds u z) (sym n.0) (⊎_elim (λ f. inr (f, above)) (λ f. own f) (tells.halted (sym n.1)));
     fault = λ j c n. tells.fault c (sym n.1);
     memory = λ j n. memory (sym n.1);
-    until = λ j m g n is. tells.until m (subst (λ z. until_by work (Inner m) ≡ Some z) n.0 is);
-    last = λ j g n. subst (λ z. IsLast work t z) (sym n.0) last;
+    until = λ j m g n is. tells.until m (subst (λ z. bounds.until m ≡ Some z) n.0 is);
+    last = λ j g n. subst (λ z. IsLast bounds t z) (sym n.0) last;
     alone = λ j g n c. o.1 (subst (λ z. HasCome t z) n.0 c);
     one = λ j g q n m. n.1 ∙ sym m.1;
   }
 
   -- all that have come were begun, and so aren't above k
-  own_so : (u : Tale) → AreCaused work u u.set → ((m : Message) → IsAmong m u.front ⊎ IsAmong m u.late → IsBegun t m.stream) → IsOwnCode work u k → IsToldToHalt work u k
-  own_so u caused ours own = inl (own_told work u k caused (λ w j c. last w j (ours (end_of j c.0) c.1)) own)
+  own_so : (u : Tale) → AreCaused bounds u u.set → ((m : Message) → IsAmong m u.front ⊎ IsAmong m u.late → IsBegun t m.stream) → IsOwnCode bounds u k → IsToldToHalt bounds u k
+  own_so u caused ours own = inl (own_told bounds u k caused (λ w j c. last w j (ours (end_of j c.0) c.1)) own)
 
-  pub ends : t.ceased ≡ false → TellsEnd work (learned (ended t k h) vs cs) k h vs → IsTale work (learned (ended t k h) vs cs)
+  pub ends : t.ceased ≡ false → TellsEnd bounds (learned (ended t k h) vs cs) k h vs → IsTale bounds (learned (ended t k h) vs cs)
   ends c tells =
       let u : Tale = learned (ended t k h) vs cs in
       let empty : t.late ≡ [] = (i.frames.quiet c).0 in
@@ -53,19 +52,19 @@ module _ (work : Work) (t : Tale) (k : ℕ) (h : How) (vs cs : List Interruption
         known = known_more t vs cs;
         memory = λ e. absurd (not_both t.memory (i.frames.quiet c).2 e);
       } in
-      let frames : KeepsFrames work u = frames_end_front work t i.frames k h o (t.set ++ vs) (t.seen ++ cs) (is_memory h) c in
-      let caused : AreCaused work u u.set = caused_more work t u g vs (λ m. absurd (not_met work t i.frames c m)) (λ z. z) (λ a e. e) i.caused tells.caused in
+      let frames : KeepsFrames bounds u = frames_end_front bounds t i.frames k h o (t.set ++ vs) (t.seen ++ cs) (is_memory h) c in
+      let caused : AreCaused bounds u u.set = caused_more bounds t u g vs (λ m. absurd (not_met bounds t i.frames c m)) (λ z. z) (λ a e. e) i.caused tells.caused in
       record {
         frames = frames;
-        ends = ends_kept work t u g New (new_fresh u tells (own_so u caused (λ m n. (frames.ours m n).0)) last (λ e. ap is_memory e)) i.ends (λ j q m. end_before_end j k q h t.front m) (λ j q m. inl m) (λ j q r m n. among_nil (subst (λ l. IsAmong (end_of j r) l) empty n));
-        fates = fates_stay work t u g i.fates refl refl;
-        room = room_passes work t u g (ends_pass work t i.frames k o h (t.set ++ vs) (t.seen ++ cs) (is_memory h)) i.room;
+        ends = ends_kept bounds t u g New (new_fresh u tells (own_so u caused (λ m n. (frames.ours m n).0)) last (λ e. ap is_memory e)) i.ends (λ j q m. end_before_end j k q h t.front m) (λ j q m. inl m) (λ j q r m n. among_nil (subst (λ l. IsAmong (end_of j r) l) empty n));
+        fates = fates_stay bounds t u g i.fates refl refl;
+        room = room_passes bounds t u g (ends_pass bounds t i.frames k o h (t.set ++ vs) (t.seen ++ cs) (is_memory h)) i.room;
         caused = caused;
         lacked = λ e. inl (k, inl (subst (λ z. IsAmong (end_of k z) u.front) (memory_is h e) (among_last t.front (end_of k h))));
         stop = λ e. tells.memory (memory_is h e);
       }
 
-  pub ends_late : t.ceased ≡ true → TellsEnd work (learned (ended_late t k h) vs cs) k h vs → IsTale work (learned (ended_late t k h) vs cs)
+  pub ends_late : t.ceased ≡ true → TellsEnd bounds (learned (ended_late t k h) vs cs) k h vs → IsTale bounds (learned (ended_late t k h) vs cs)
   ends_late c tells =
       let u : Tale = learned (ended_late t k h) vs cs in
       let g : Grows t u = record {
@@ -75,17 +74,17 @@ module _ (work : Work) (t : Tale) (k : ℕ) (h : How) (vs cs : List Interruption
         known = known_more t vs cs;
         memory = or_left t.memory (is_memory h);
       } in
-      let frames : KeepsFrames work u = frames_end_late work t i.frames k h o (t.set ++ vs) (t.seen ++ cs) (t.memory || is_memory h) c (or_left t.memory (is_memory h)) in
-      let caused : AreCaused work u u.set = caused_more work t u g vs (λ z. z) (λ z. z) (λ a e. e) i.caused tells.caused in
+      let frames : KeepsFrames bounds u = frames_end_late bounds t i.frames k h o (t.set ++ vs) (t.seen ++ cs) (t.memory || is_memory h) c (or_left t.memory (is_memory h)) in
+      let caused : AreCaused bounds u u.set = caused_more bounds t u g vs (λ z. z) (λ z. z) (λ a e. e) i.caused tells.caused in
       record {
         frames = frames;
-        ends = ends_kept work t u g New (new_fresh u tells (own_so u caused (λ m n. (frames.ours m n).0)) last (λ e. or_right t.memory (is_memory h) (ap is_memory e))) i.ends (λ j q m. inl m) (λ j q m. end_before_end j k q h t.late m)
+        ends = ends_kept bounds t u g New (new_fresh u tells (own_so u caused (λ m n. (frames.ours m n).0)) last (λ e. or_right t.memory (is_memory h) (ap is_memory e))) i.ends (λ j q m. inl m) (λ j q m. end_before_end j k q h t.late m)
             (λ j q r m n. ⊎_elim (λ a. i.ends.apart j q r m a) (λ e. o.1 (subst (λ z. HasCome t z) e.0 (q, inl m))) (end_before_end j k r h t.late n));
-        fates = fates_stay work t u g i.fates refl refl;
-        room = room_passes work t u g (ends_late_pass work t i.frames k o h (t.set ++ vs) (t.seen ++ cs) (t.memory || is_memory h)) i.room;
+        fates = fates_stay bounds t u g i.fates refl refl;
+        room = room_passes bounds t u g (ends_late_pass bounds t i.frames k o h (t.set ++ vs) (t.seen ++ cs) (t.memory || is_memory h)) i.room;
         caused = caused;
         lacked = λ e. ⊎_elim
-            (λ m. lacked_grows work t u g (λ z. z) (λ j z. z) (lacks_more work t u (end_of k h ∷ []) refl refl refl) (i.lacked m))
+            (λ m. lacked_grows bounds t u g (λ z. z) (λ j z. z) (lacks_more bounds t u (end_of k h ∷ []) refl refl refl) (i.lacked m))
             (λ m. inl (k, inr (subst (λ z. IsAmong (end_of k z) u.late) (memory_is h m) (among_last t.late (end_of k h)))))
             (either t.memory (is_memory h) e);
         stop = λ e. known_more t vs cs 0 (i.stop c);

@@ -6,7 +6,7 @@ use Rattle.chunk_core.specs.Texts.{Frame}
 use Rattle.chunk_core.specs.declared.code.How.{How}
 use Rattle.chunk_core.specs.declared.code.How.TheVariants as how
 use Rattle.run_rules.specs.Facts.{at}
-use Rattle.run_rules.specs.Work.{Work}
+use Rattle.join_tale.specs.Bounds.{Bounds}
 use Rattle.join_tale.specs.Ended.{Ended}
 use Rattle.join_tale.specs.Ended.Ended.{told, wanting, whole, halted, unmade, skipped}
 use Rattle.join_tale.specs.Keeping.{IsTale}
@@ -90,7 +90,7 @@ fate_one f h g (inl a) (inr b) = absurd (both_fates f a.0 b.0)
 fate_one f h g (inr a) (inl b) = absurd (both_fates f b.0 a.0)
 fate_one f h g (inr a) (inr b) = a.1 ∙ sym b.1
 
-module _ (work : Work) (t : Tale) (k : ℕ) (i : IsTale work t) where
+module _ (bounds : Bounds) (t : Tale) (k : ℕ) (i : IsTale bounds t) where
   -- a stream whose end came was begun
   pub come_begun : (h : How) → Came t k h → IsBegun t k
   come_begun h c = (i.frames.ours (end_of k h) c).0
@@ -116,30 +116,30 @@ module _ (work : Work) (t : Tale) (k : ℕ) (i : IsTale work t) where
   pub ended_once : (h g : How) → Ended t k h → Ended t k g → h ≡ g
   ended_once h g a b = same_end h g (one_end t k h a) (one_end t k g b)
 
-pub printed : (work : Work) (t : Tale) (k : ℕ) (h : How) → IsTale work t → Ended t k h → IsPrinted t k h
-printed work t k h i (told m) = inl (inl m, i.frames.whole k h m)
-printed work t k h i (wanting m q) = inr (inr q)
-printed work t k h i (whole m n q) = inl (subst (λ z. Came t k z) (sym q) (inr m), n)
-printed work t k h i (halted e m n l q) = inr (inl q)
-printed work t k h i (unmade e q) = inr (inr q)
-printed work t k h i (skipped e q) = inr (inl q)
+pub printed : (bounds : Bounds) (t : Tale) (k : ℕ) (h : How) → IsTale bounds t → Ended t k h → IsPrinted t k h
+printed bounds t k h i (told m) = inl (inl m, i.frames.whole k h m)
+printed bounds t k h i (wanting m q) = inr (inr q)
+printed bounds t k h i (whole m n q) = inl (subst (λ z. Came t k z) (sym q) (inr m), n)
+printed bounds t k h i (halted e m n l q) = inr (inl q)
+printed bounds t k h i (unmade e q) = inr (inr q)
+printed bounds t k h i (skipped e q) = inr (inl q)
 
-pub told_so : (work : Work) (t : Tale) (k : ℕ) (h : How) → IsTale work t → Ended t k h → h ≢ how.Halted → Came t k h ⊎ ((at t.fates k ≡ Some Unmade) × (h ≡ how.Memory))
-told_so work t k h i (told m) n = inl (inl m)
-told_so work t k h i (wanting m q) n = inl (subst (λ z. Came t k z) (sym q) (inr m))
-told_so work t k h i (whole m l q) n = inl (subst (λ z. Came t k z) (sym q) (inr m))
-told_so work t k h i (halted e m l r q) n = absurd (n q)
-told_so work t k h i (unmade e q) n = inr (e, q)
-told_so work t k h i (skipped e q) n = absurd (n q)
+pub told_so : (bounds : Bounds) (t : Tale) (k : ℕ) (h : How) → IsTale bounds t → Ended t k h → h ≢ how.Halted → Came t k h ⊎ ((at t.fates k ≡ Some Unmade) × (h ≡ how.Memory))
+told_so bounds t k h i (told m) n = inl (inl m)
+told_so bounds t k h i (wanting m q) n = inl (subst (λ z. Came t k z) (sym q) (inr m))
+told_so bounds t k h i (whole m l q) n = inl (subst (λ z. Came t k z) (sym q) (inr m))
+told_so bounds t k h i (halted e m l r q) n = absurd (n q)
+told_so bounds t k h i (unmade e q) n = inr (e, q)
+told_so bounds t k h i (skipped e q) n = absurd (n q)
 
-pub cut_goes_on : (work : Work) (t : Tale) (f : Frame) → IsTale work t → t.cut ≡ Some f → IsBegun t f.stream × (0 < length f.payload) × ((xs : List (List ℕ)) × (loads_of f.stream t.late ≡ f.payload ∷ xs))
-cut_goes_on work t f i e =
+pub cut_goes_on : (bounds : Bounds) (t : Tale) (f : Frame) → IsTale bounds t → t.cut ≡ Some f → IsBegun t f.stream × (0 < length f.payload) × ((xs : List (List ℕ)) × (loads_of f.stream t.late ≡ f.payload ∷ xs))
+cut_goes_on bounds t f i e =
     let q = i.frames.cut f e in
     let o = i.frames.ours (load_of f.stream f.payload) (inr (subst (λ l. IsAmong (load_of f.stream f.payload) l) (sym q.1) (here q.0))) in
     (o.0, o.1, (loads_of f.stream q.0, ap (loads_of f.stream) q.1 ∙ loads_first f.stream f.payload q.0))
 
-pub streams_end_once : (work : Work) → StreamsEndOnce work
-streams_end_once work = record { some = some_end; one = λ t k h g i a b. ended_once work t k i h g a b }
+pub streams_end_once : (bounds : Bounds) → StreamsEndOnce bounds
+streams_end_once bounds = record { some = some_end; one = λ t k h g i a b. ended_once bounds t k i h g a b }
 
-pub outputs_follow : (work : Work) → OutputsFollow work
-outputs_follow work = record { payloads = payloads_loads; ended = printed work; cut = cut_goes_on work; told = told_so work }
+pub outputs_follow : (bounds : Bounds) → OutputsFollow bounds
+outputs_follow bounds = record { payloads = payloads_loads; ended = printed bounds; cut = cut_goes_on bounds; told = told_so bounds }

@@ -7,7 +7,7 @@ use Rattle.chunk_core.specs.declared.code.How.{How}
 use Rattle.interrupt_ctx.specs.declared.view.Interruption.{Interruption}
 use Rattle.run_rules.specs.Facts.{at}
 use Rattle.run_rules.specs.Outputs.{NeverFall}
-use Rattle.run_rules.specs.Work.{Work, most_of, runs_in_turn}
+use Rattle.join_tale.specs.Bounds.{Bounds, is_in_turn}
 use Rattle.join_tale.specs.Keeping.{IsFull, IsLast, KeepsEnds, KeepsFrames}
 use Rattle.join_tale.specs.Tales.{Fate, HasCome, HasMet, IsBegun, IsOpen, Message, Tale, end_of, frames_begun, frames_of, load_of, loads_of}
 use Rattle.join_tale.specs.Tales.Fate.{Begun}
@@ -15,16 +15,16 @@ use Rattle.join_tale.proofs.Parts.{falls_never, frame_came, frame_of, frames_end
 use Rattle.join_tale.proofs.Places.{last_snoc, none_is_some, none_some, not_both, some_is, within_more}
 
 -- a stream that is open is the last one that was begun, where one is open at a time
-pub open_last : (work : Work) (t : Tale) (k : ℕ) → KeepsEnds work t → IsOpen t k → IsLast work t k
-open_last work t k i o w j b = ⊎_elim (λ c. absurd (o.1 c)) (λ l. l j b) (i.in_turn w k o.0)
+pub open_last : (bounds : Bounds) (t : Tale) (k : ℕ) → KeepsEnds bounds t → IsOpen t k → IsLast bounds t k
+open_last bounds t k i o w j b = ⊎_elim (λ c. absurd (o.1 c)) (λ l. l j b) (i.in_turn w k o.0)
 
-module _ (work : Work) (t : Tale) (i : KeepsFrames work t) where
-  pub not_met : t.ceased ≡ false → HasMet work t → ⊥
+module _ (bounds : Bounds) (t : Tale) (i : KeepsFrames bounds t) where
+  pub not_met : t.ceased ≡ false → HasMet bounds t → ⊥
   not_met c m = not_both t.ceased c (i.met m)
 
   -- neither frames nor loads come
-  pub frames_stay : (fs : List Fate) (o : Option How) (xs ys : List Interruption) (b m : Bool) → (b ≡ false → (t.ceased ≡ false) × (m ≡ false)) → (b ≡ true → HasMet work t ⊎ (is_some t.cut ≡ true) ⊎ (m ≡ true)) → (t.ceased ≡ true → b ≡ true)
-      → ((k : ℕ) → IsBegun t k → at fs k ≡ Some Begun) → (HasMet work t ⊎ (is_some t.cut ≡ true) → (k : ℕ) → at fs k ≡ Some Begun → IsBegun t k) → KeepsFrames work (record t { fates = fs; outer = o; set = xs; seen = ys; ceased = b; memory = m })
+  pub frames_stay : (fs : List Fate) (o : Option How) (xs ys : List Interruption) (b m : Bool) → (b ≡ false → (t.ceased ≡ false) × (m ≡ false)) → (b ≡ true → HasMet bounds t ⊎ (is_some t.cut ≡ true) ⊎ (m ≡ true)) → (t.ceased ≡ true → b ≡ true)
+      → ((k : ℕ) → IsBegun t k → at fs k ≡ Some Begun) → (HasMet bounds t ⊎ (is_some t.cut ≡ true) → (k : ℕ) → at fs k ≡ Some Begun → IsBegun t k) → KeepsFrames bounds (record t { fates = fs; outer = o; set = xs; seen = ys; ceased = b; memory = m })
   frames_stay fs o xs ys b m quiet ceased stays on back = record {
     quiet = λ e. let q = quiet e in (let r = i.quiet q.0 in (r.0, r.1, q.1));
     ceased = ceased;
@@ -41,20 +41,20 @@ module _ (work : Work) (t : Tale) (i : KeepsFrames work t) where
   open_apart : (k j : ℕ) (h : How) → IsOpen t k → IsAmong (end_of j h) t.front → j ≡ k → ⊥
   open_apart k j h o m e = o.1 (subst (λ q. HasCome t q) e (h, inl m))
 
-  module _ (k : ℕ) (x : List ℕ) (o : IsOpen t k) (last : IsLast work t k) (full : 0 < length x) where
+  module _ (k : ℕ) (x : List ℕ) (o : IsOpen t k) (last : IsLast bounds t k) (full : 0 < length x) where
     new_ours : (m : Message) → m ≡ load_of k x → IsBegun t m.stream × IsFull m.body
     new_ours m e = subst (λ (q : Message). IsBegun t q.stream × IsFull q.body) (sym e) (o.0, full)
 
-    written_below : runs_in_turn work ≡ true → (f : Frame) → IsAmong f (frames_of t.front) → f.stream ≤ k
+    written_below : is_in_turn bounds ≡ true → (f : Frame) → IsAmong f (frames_of t.front) → f.stream ≤ k
     written_below w f m = last w f.stream (i.ours (load_of f.stream f.payload) (inl (frame_came f t.front m))).0
 
     -- the frame of the load is of no earlier stream than those before it
-    one_more : runs_in_turn work ≡ true → NeverFall (frames_of t.front) → NeverFall (frames_of t.front ++ frame_of k x ∷ [])
+    one_more : is_in_turn bounds ≡ true → NeverFall (frames_of t.front) → NeverFall (frames_of t.front ++ frame_of k x ∷ [])
     one_more w n = falls_never (frames_of t.front) (frame_of k x) n (written_below w)
 
     -- a load is written; b says whether enough are then
-    pub frames_write : (xs ys : List Interruption) (b : Bool) → t.ceased ≡ false → (b ≡ true → most_of work ≡ Some (suc (length (frames_of t.front)))) → (most_of work ≡ Some (suc (length (frames_of t.front))) → b ≡ true)
-        → KeepsFrames work (record t { front = t.front ++ load_of k x ∷ []; set = xs; seen = ys; ceased = b })
+    pub frames_write : (xs ys : List Interruption) (b : Bool) → t.ceased ≡ false → (b ≡ true → bounds.most ≡ Some (suc (length (frames_of t.front)))) → (bounds.most ≡ Some (suc (length (frames_of t.front))) → b ≡ true)
+        → KeepsFrames bounds (record t { front = t.front ++ load_of k x ∷ []; set = xs; seen = ys; ceased = b })
     frames_write xs ys b c enough met =
         let more : length (frames_of (t.front ++ load_of k x ∷ [])) ≡ suc (length (frames_of t.front)) = more_frames t.front k x in
         let q : (t.late ≡ []) × (t.cut ≡ None) × (t.memory ≡ false) = i.quiet c in
@@ -63,16 +63,16 @@ module _ (work : Work) (t : Tale) (i : KeepsFrames work t) where
           quiet = λ e. q;
           ceased = λ e. inl (enough e ∙ ap Some (sym more));
           met = λ h. met (h ∙ ap Some more);
-          few = within_more (most_of work) (length (frames_of t.front)) (length (frames_of (t.front ++ load_of k x ∷ []) ++ elim t.cut [ Some f ↦ f ∷ [] | None ↦ [] ])) (subst (λ (l : List Frame). IfSome (most_of work) (λ n. length l ≤ n)) (shut (frames_of t.front)) i.few) (λ h. not_met c h) (ap length (shut (frames_of (t.front ++ load_of k x ∷ []))) ∙ more);
+          few = within_more bounds.most (length (frames_of t.front)) (length (frames_of (t.front ++ load_of k x ∷ []) ++ elim t.cut [ Some f ↦ f ∷ [] | None ↦ [] ])) (subst (λ (l : List Frame). IfSome bounds.most (λ n. length l ≤ n)) (shut (frames_of t.front)) i.few) (λ h. not_met c h) (ap length (shut (frames_of (t.front ++ load_of k x ∷ []))) ∙ more);
           cut = i.cut;
           in_turn = λ w. subst (λ l. NeverFall l) (sym (shut (frames_of (t.front ++ load_of k x ∷ [])) ∙ frames_load t.front k x)) (one_more w (subst (λ l. NeverFall l) (shut (frames_of t.front)) (i.in_turn w)));
-          last = λ h f e. subst (λ j. IsLast work t j) (last_written t.front k x t.cut f q.1 e) last;
+          last = λ h f e. subst (λ j. IsLast bounds t j) (last_written t.front k x t.cut f q.1 e) last;
           whole = λ j h m. ap (λ l. loads_of j l) q.0;
           ours = λ m h. ⊎_elim (λ a. ⊎_elim (λ z. i.ours m (inl z)) (λ z. new_ours m z) (among_snoc t.front m (load_of k x) a)) (λ a. i.ours m (inr a)) h;
         }
 
     -- the write of a load fails
-    pub frames_fail : (xs ys : List Interruption) → t.ceased ≡ false → KeepsFrames work (record t { late = load_of k x ∷ []; set = xs; seen = ys; ceased = true; cut = Some (frame_of k x) })
+    pub frames_fail : (xs ys : List Interruption) → t.ceased ≡ false → KeepsFrames bounds (record t { late = load_of k x ∷ []; set = xs; seen = ys; ceased = true; cut = Some (frame_of k x) })
     frames_fail xs ys c =
         let q : (t.late ≡ []) × (t.cut ≡ None) × (t.memory ≡ false) = i.quiet c in
         let shut : frames_begun t ≡ frames_of t.front = ap (λ (u : Option Frame). frames_of t.front ++ elim u [ Some f ↦ f ∷ [] | None ↦ [] ]) q.1 ∙ append-nil (frames_of t.front) in
@@ -80,16 +80,16 @@ module _ (work : Work) (t : Tale) (i : KeepsFrames work t) where
           quiet = λ e. absurd (not_both true e refl);
           ceased = λ e. inr (inl refl);
           met = λ h. refl;
-          few = within_more (most_of work) (length (frames_of t.front)) (length (frames_of t.front ++ frame_of k x ∷ [])) (subst (λ (l : List Frame). IfSome (most_of work) (λ n. length l ≤ n)) shut i.few) (λ h. not_met c h) (length_one (frames_of t.front) (frame_of k x));
+          few = within_more bounds.most (length (frames_of t.front)) (length (frames_of t.front ++ frame_of k x ∷ [])) (subst (λ (l : List Frame). IfSome bounds.most (λ n. length l ≤ n)) shut i.few) (λ h. not_met c h) (length_one (frames_of t.front) (frame_of k x));
           cut = λ f e. ([], subst (λ (g : Frame). load_of k x ∷ [] ≡ load_of g.stream g.payload ∷ []) (some_is (frame_of k x) f e) refl);
           in_turn = λ w. one_more w (subst (λ l. NeverFall l) shut (i.in_turn w));
-          last = λ h f e. subst (λ (g : Frame). IsLast work t g.stream) (some_is (frame_of k x) f (sym (last_snoc None (frames_of t.front) (frame_of k x)) ∙ e)) last;
+          last = λ h f e. subst (λ (g : Frame). IsLast bounds t g.stream) (some_is (frame_of k x) f (sym (last_snoc None (frames_of t.front) (frame_of k x)) ∙ e)) last;
           whole = λ j h m. loads_other j k x [] (λ e. open_apart k j h o m e);
           ours = λ m h. ⊎_elim (λ a. i.ours m (inl a)) (λ a. ⊎_elim (λ z. new_ours m z) (λ z. absurd (among_nil z)) (among_cons a)) h;
         }
 
     -- there is no memory to render a load
-    pub frames_lack : (xs ys : List Interruption) → t.ceased ≡ false → KeepsFrames work (record t { late = load_of k x ∷ []; set = xs; seen = ys; ceased = true; memory = true })
+    pub frames_lack : (xs ys : List Interruption) → t.ceased ≡ false → KeepsFrames bounds (record t { late = load_of k x ∷ []; set = xs; seen = ys; ceased = true; memory = true })
     frames_lack xs ys c =
         let q : (t.late ≡ []) × (t.cut ≡ None) × (t.memory ≡ false) = i.quiet c in
         record {
@@ -105,7 +105,7 @@ module _ (work : Work) (t : Tale) (i : KeepsFrames work t) where
         }
 
     -- a load comes too late
-    pub frames_drop : t.ceased ≡ true → KeepsFrames work (record t { late = t.late ++ load_of k x ∷ [] })
+    pub frames_drop : t.ceased ≡ true → KeepsFrames bounds (record t { late = t.late ++ load_of k x ∷ [] })
     frames_drop c = record {
       quiet = λ e. absurd (not_both t.ceased e c);
       ceased = i.ceased;
@@ -123,16 +123,16 @@ module _ (work : Work) (t : Tale) (i : KeepsFrames work t) where
     end_ours m e = subst (λ (q : Message). IsBegun t q.stream × IsFull q.body) (sym e) (o.0, tt)
 
     -- an end comes while frames are written
-    pub frames_end_front : (xs ys : List Interruption) (b : Bool) → t.ceased ≡ false → KeepsFrames work (record t { front = t.front ++ end_of k h ∷ []; set = xs; seen = ys; ceased = b; memory = b })
+    pub frames_end_front : (xs ys : List Interruption) (b : Bool) → t.ceased ≡ false → KeepsFrames bounds (record t { front = t.front ++ end_of k h ∷ []; set = xs; seen = ys; ceased = b; memory = b })
     frames_end_front xs ys b c =
         let q : (t.late ≡ []) × (t.cut ≡ None) × (t.memory ≡ false) = i.quiet c in
         let same : frames_of (t.front ++ end_of k h ∷ []) ≡ frames_of t.front = frames_end t.front k h in
-        let unmet : most_of work ≡ Some (length (frames_of (t.front ++ end_of k h ∷ []))) → ⊥ = λ m. not_met c (m ∙ ap (λ (l : List Frame). Some (length l)) same) in
+        let unmet : bounds.most ≡ Some (length (frames_of (t.front ++ end_of k h ∷ []))) → ⊥ = λ m. not_met c (m ∙ ap (λ (l : List Frame). Some (length l)) same) in
         record {
           quiet = λ e. (q.0, q.1, e);
           ceased = λ e. inr (inr e);
           met = λ m. absurd (unmet m);
-          few = subst (λ (l : List Frame). IfSome (most_of work) (λ n. length (l ++ elim t.cut [ Some f ↦ f ∷ [] | None ↦ [] ]) ≤ n)) (sym same) i.few;
+          few = subst (λ (l : List Frame). IfSome bounds.most (λ n. length (l ++ elim t.cut [ Some f ↦ f ∷ [] | None ↦ [] ]) ≤ n)) (sym same) i.few;
           cut = i.cut;
           in_turn = λ w. subst (λ (l : List Frame). NeverFall (l ++ elim t.cut [ Some f ↦ f ∷ [] | None ↦ [] ])) (sym same) (i.in_turn w);
           last = λ m f e. absurd (⊎_elim (λ z. unmet z) (λ z. none_is_some t.cut q.1 z) m);
@@ -141,7 +141,7 @@ module _ (work : Work) (t : Tale) (i : KeepsFrames work t) where
         }
 
     -- an end comes later
-    pub frames_end_late : (xs ys : List Interruption) (b : Bool) → t.ceased ≡ true → (t.memory ≡ true → b ≡ true) → KeepsFrames work (record t { late = t.late ++ end_of k h ∷ []; set = xs; seen = ys; memory = b })
+    pub frames_end_late : (xs ys : List Interruption) (b : Bool) → t.ceased ≡ true → (t.memory ≡ true → b ≡ true) → KeepsFrames bounds (record t { late = t.late ++ end_of k h ∷ []; set = xs; seen = ys; memory = b })
     frames_end_late xs ys b c memory = record {
       quiet = λ e. absurd (not_both t.ceased e c);
       ceased = λ e. ⊎_elim (λ z. inl z) (λ z. ⊎_elim (λ y. inr (inl y)) (λ y. inr (inr (memory y))) z) (i.ceased e);

@@ -11,9 +11,8 @@ use Rattle.interrupt_ctx.specs.Views.{interruption}
 use Rattle.interrupt_ctx.specs.declared.view.Interruption.{Interruption}
 use Rattle.interrupt_ctx.specs.declared.why.Why.{Why}
 use Rattle.interrupt_ctx.specs.declared.why.Why.TheVariants as why
-use Rattle.res_ledger.specs.declared.event.StreamNo.TheVariants.{Inner}
 use Rattle.run_rules.specs.Facts.{at}
-use Rattle.run_rules.specs.Work.{Work, runs_in_turn, until_by}
+use Rattle.join_tale.specs.Bounds.{Bounds, is_in_turn}
 use Rattle.join_tale.specs.Keeping.{HasLacked, IsEndedInTurn, IsHighest, IsLast, IsOuterStopped, IsOwnCode, IsPassedOver, IsToldToHalt, KeepsEnds, KeepsFates, LacksForLoad}
 use Rattle.join_tale.specs.Steps.{Marks, learned}
 use Rattle.join_tale.specs.Steps.Marks.{fresh, stale}
@@ -31,21 +30,21 @@ pub marked_known : (t : Tale) (c : ℕ) (w : Why) (vs cs : List Interruption) �
 marked_known t c w vs cs fresh = inl (w, among_last t.set (interruption c w))
 marked_known t c w vs cs (stale there) = inr (there, among_last t.seen (interruption c there))
 
-pub marked_caused : (work : Work) (u : Tale) (c : ℕ) (w : Why) (vs cs : List Interruption) → Marks c w vs cs → IsCaused work u c w → AreCaused work u vs
-marked_caused work u c w vs cs fresh is d v m = ⊎_elim (λ e. subst (λ (z : Interruption). IsCaused work u z.context z.why) (sym e) is) (λ n. absurd (among_nil n)) (among_cons m)
-marked_caused work u c w vs cs (stale there) is d v m = absurd (among_nil m)
+pub marked_caused : (bounds : Bounds) (u : Tale) (c : ℕ) (w : Why) (vs cs : List Interruption) → Marks c w vs cs → IsCaused bounds u c w → AreCaused bounds u vs
+marked_caused bounds u c w vs cs fresh is d v m = ⊎_elim (λ e. subst (λ (z : Interruption). IsCaused bounds u z.context z.why) (sym e) is) (λ n. absurd (among_nil n)) (among_cons m)
+marked_caused bounds u c w vs cs (stale there) is d v m = absurd (among_nil m)
 
 -- a code in the context of k is set for the end that stops k
-pub until_came : (work : Work) (t : Tale) (k : ℕ) (w : Why) → IsCaused work t (suc k) w → (j : ℕ) × (until_by work (Inner k) ≡ Some j) × HasCome t j
-until_came work t k why.Take h = absurd (let q : suc k ≡ 0 = h.0 in omega (q, arith))
-until_came work t k why.Until h = let same : h.0 ≡ k = (let q : suc k ≡ suc h.0 = h.2 in omega (q, arith)) in (h.1, subst (λ n. until_by work (Inner n) ≡ Some h.1) same h.3, h.4)
-until_came work t k why.Sink h = absurd (let q : suc k ≡ 0 = h.0 in omega (q, arith))
-until_came work t k why.Memory h = absurd (let q : suc k ≡ 0 = h.0 in omega (q, arith))
-until_came work t k why.Fault h = absurd (let q : suc k ≡ 0 = h.0 in omega (q, arith))
+pub until_came : (bounds : Bounds) (t : Tale) (k : ℕ) (w : Why) → IsCaused bounds t (suc k) w → (j : ℕ) × (bounds.until k ≡ Some j) × HasCome t j
+until_came bounds t k why.Take h = absurd (let q : suc k ≡ 0 = h.0 in omega (q, arith))
+until_came bounds t k why.Until h = let same : h.0 ≡ k = (let q : suc k ≡ suc h.0 = h.2 in omega (q, arith)) in (h.1, subst (λ n. bounds.until n ≡ Some h.1) same h.3, h.4)
+until_came bounds t k why.Sink h = absurd (let q : suc k ≡ 0 = h.0 in omega (q, arith))
+until_came bounds t k why.Memory h = absurd (let q : suc k ≡ 0 = h.0 in omega (q, arith))
+until_came bounds t k why.Fault h = absurd (let q : suc k ≡ 0 = h.0 in omega (q, arith))
 
 -- where none that has come is above k, its own code tells it to halt, the end having come whose end stops it
-pub own_told : (work : Work) (t : Tale) (k : ℕ) → AreCaused work t t.set → (runs_in_turn work ≡ true → (j : ℕ) → HasCome t j → j ≤ k) → IsOwnCode work t k → IsFoundSet t (suc k) × IsEndedInTurn work t k
-own_told work t k caused below own = (own.0, λ w. let s = own.1 w in let u = until_came work t k s.0 (caused (suc k) s.0 s.1) in (u.0, u.1, u.2, below w u.0 u.2))
+pub own_told : (bounds : Bounds) (t : Tale) (k : ℕ) → AreCaused bounds t t.set → (is_in_turn bounds ≡ true → (j : ℕ) → HasCome t j → j ≤ k) → IsOwnCode bounds t k → IsFoundSet t (suc k) × IsEndedInTurn bounds t k
+own_told bounds t k caused below own = (own.0, λ w. let s = own.1 w in let u = until_came bounds t k s.0 (caused (suc k) s.0 s.1) in (u.0, u.1, u.2, below w u.0 u.2))
 
 -- nothing is begun, and what came and what is known stay
 pub record Grows (t u : Tale) : Type 0 where
@@ -56,12 +55,12 @@ pub record Grows (t u : Tale) : Type 0 where
   pub memory : t.memory ≡ true → u.memory ≡ true
 
 -- ends that came anew
-pub record AreFresh (work : Work) (t u : Tale) (N : ℕ → How → Type 0) : Type 0 where
-  pub halted : (k : ℕ) → N k how.Halted → IsToldToHalt work u k
+pub record AreFresh (bounds : Bounds) (t u : Tale) (N : ℕ → How → Type 0) : Type 0 where
+  pub halted : (k : ℕ) → N k how.Halted → IsToldToHalt bounds u k
   pub fault : (k : ℕ) (c : Code) → N k (how.Fault c) → IsKnown u 0
   pub memory : (k : ℕ) → N k how.Memory → u.memory ≡ true
-  pub until : (j k : ℕ) (h : How) → N j h → until_by work (Inner k) ≡ Some j → IsKnown u (suc k)
-  pub last : (k : ℕ) (h : How) → N k h → IsLast work t k
+  pub until : (j k : ℕ) (h : How) → N j h → bounds.until k ≡ Some j → IsKnown u (suc k)
+  pub last : (k : ℕ) (h : How) → N k h → IsLast bounds t k
   pub alone : (k : ℕ) (h : How) → N k h → ¬ (HasCome t k)
   pub one : (k : ℕ) (h g : How) → N k h → N k g → h ≡ g
 
@@ -69,8 +68,8 @@ pub record AreFresh (work : Work) (t u : Tale) (N : ℕ → How → Type 0) : Ty
 abbrev pub NoEnd : ℕ → How → Type 0
 NoEnd k h = ⊥
 
-pub none_fresh : (work : Work) (t u : Tale) → AreFresh work t u NoEnd
-none_fresh work t u = record {
+pub none_fresh : (bounds : Bounds) (t u : Tale) → AreFresh bounds t u NoEnd
+none_fresh bounds t u = record {
   halted = λ k n. absurd n;
   fault = λ k c n. absurd n;
   memory = λ k n. absurd n;
@@ -81,8 +80,8 @@ none_fresh work t u = record {
 }
 
 -- what memory was wanting for is a load still, where later messages alone came
-pub lacks_more : (work : Work) (t u : Tale) (ms : List Message) → u.late ≡ t.late ++ ms → u.cut ≡ t.cut → frames_of u.front ≡ frames_of t.front → (k : ℕ) → LacksForLoad work t k → LacksForLoad work u k
-lacks_more work t u ms late cut front k l = record {
+pub lacks_more : (bounds : Bounds) (t u : Tale) (ms : List Message) → u.late ≡ t.late ++ ms → u.cut ≡ t.cut → frames_of u.front ≡ frames_of t.front → (k : ℕ) → LacksForLoad bounds t k → LacksForLoad bounds u k
+lacks_more bounds t u ms late cut front k l = record {
   load = l.load;
   others = l.others ++ ms;
   late = late ∙ ap (λ xs. xs ++ ms) l.late;
@@ -90,28 +89,28 @@ lacks_more work t u ms late cut front k l = record {
   unmet = λ m. l.unmet (m ∙ ap (λ (F : List Frame). Some (length F)) front);
 }
 
-pub lacks_still : (work : Work) (t u : Tale) → u.late ≡ t.late → u.cut ≡ t.cut → frames_of u.front ≡ frames_of t.front → (k : ℕ) → LacksForLoad work t k → LacksForLoad work u k
-lacks_still work t u late = lacks_more work t u [] (late ∙ sym (append-nil t.late))
+pub lacks_still : (bounds : Bounds) (t u : Tale) → u.late ≡ t.late → u.cut ≡ t.cut → frames_of u.front ≡ frames_of t.front → (k : ℕ) → LacksForLoad bounds t k → LacksForLoad bounds u k
+lacks_still bounds t u late = lacks_more bounds t u [] (late ∙ sym (append-nil t.late))
 
-module _ (work : Work) (t u : Tale) (g : Grows t u) where
-  pub last_grows : (k : ℕ) → IsLast work t k → IsLast work u k
+module _ (bounds : Bounds) (t u : Tale) (g : Grows t u) where
+  pub last_grows : (k : ℕ) → IsLast bounds t k → IsLast bounds u k
   last_grows k l w j b = l w j (g.begun j b)
 
-  pub own_grows : (k : ℕ) → IsFoundSet t (suc k) × IsEndedInTurn work t k → IsFoundSet u (suc k) × IsEndedInTurn work u k
+  pub own_grows : (k : ℕ) → IsFoundSet t (suc k) × IsEndedInTurn bounds t k → IsFoundSet u (suc k) × IsEndedInTurn bounds u k
   own_grows k f = (g.found (suc k) f.0, λ w. let e = f.1 w in (e.0, e.1, (e.2.0, g.came e.0 e.2.0 e.2.1), e.3))
 
-  pub told_grows : (k : ℕ) → IsToldToHalt work t k → IsToldToHalt work u k
+  pub told_grows : (k : ℕ) → IsToldToHalt bounds t k → IsToldToHalt bounds u k
   told_grows k h = ⊎_elim (λ f. inl (own_grows k f)) (λ f. inr (g.found 0 f.0, last_grows k f.1)) h
 
   highest_grows : (k : ℕ) → IsHighest t k → IsHighest u k
   highest_grows k l j b = l j (g.begun j b)
 
-  passed_grows : (IsOuterStopped t → IsOuterStopped u) → (k : ℕ) → IsPassedOver work t k → IsPassedOver work u k
+  passed_grows : (IsOuterStopped t → IsOuterStopped u) → (k : ℕ) → IsPassedOver bounds t k → IsPassedOver bounds u k
   passed_grows outer k h = ⊎_elim (λ f. inl (own_grows k f)) (λ f. inr (⊎_elim (λ a. inl (g.found 0 a)) (λ s. inr (outer s)) f.0, highest_grows k f.1)) h
 
   -- the ends, where these came anew
-  pub ends_kept : (N : ℕ → How → Type 0) → AreFresh work t u N → KeepsEnds work t → ((k : ℕ) (h : How) → IsAmong (end_of k h) u.front → IsAmong (end_of k h) t.front ⊎ N k h) → ((k : ℕ) (h : How) → IsAmong (end_of k h) u.late → IsAmong (end_of k h) t.late ⊎ N k h)
-      → ((k : ℕ) (h q : How) → IsAmong (end_of k h) u.front → ¬ (IsAmong (end_of k q) u.late)) → KeepsEnds work u
+  pub ends_kept : (N : ℕ → How → Type 0) → AreFresh bounds t u N → KeepsEnds bounds t → ((k : ℕ) (h : How) → IsAmong (end_of k h) u.front → IsAmong (end_of k h) t.front ⊎ N k h) → ((k : ℕ) (h : How) → IsAmong (end_of k h) u.late → IsAmong (end_of k h) t.late ⊎ N k h)
+      → ((k : ℕ) (h q : How) → IsAmong (end_of k h) u.front → ¬ (IsAmong (end_of k q) u.late)) → KeepsEnds bounds u
   ends_kept N f i front late apart =
       let back : (k : ℕ) (h : How) → Came u k h → Came t k h ⊎ N k h = λ k h c. ⊎_elim (λ m. ⊎_elim (λ o. inl (inl o)) (λ n. inr n) (front k h m)) (λ m. ⊎_elim (λ o. inl (inr o)) (λ n. inr n) (late k h m)) c in
       record {
@@ -132,8 +131,8 @@ module _ (work : Work) (t u : Tale) (g : Grows t u) where
       }
 
   -- what became of the streams, where these weren't begun anew, and of the outer one
-  pub fates_kept : KeepsFates work t → ((k : ℕ) → at u.fates k ≡ Some Skipped → (at t.fates k ≡ Some Skipped) ⊎ IsPassedOver work u k) → ((k : ℕ) → at u.fates k ≡ Some Unmade → (at t.fates k ≡ Some Unmade) ⊎ ((u.memory ≡ true) × IsLast work u k)) → (IsOuterStopped t → IsOuterStopped u)
-      → (u.outer ≡ Some how.Halted → IsFoundSet u 0) → ((c : Code) → u.outer ≡ Some (how.Fault c) → IsKnown u 0) → (u.outer ≡ Some how.Memory → u.memory ≡ true) → KeepsFates work u
+  pub fates_kept : KeepsFates bounds t → ((k : ℕ) → at u.fates k ≡ Some Skipped → (at t.fates k ≡ Some Skipped) ⊎ IsPassedOver bounds u k) → ((k : ℕ) → at u.fates k ≡ Some Unmade → (at t.fates k ≡ Some Unmade) ⊎ ((u.memory ≡ true) × IsLast bounds u k)) → (IsOuterStopped t → IsOuterStopped u)
+      → (u.outer ≡ Some how.Halted → IsFoundSet u 0) → ((c : Code) → u.outer ≡ Some (how.Fault c) → IsKnown u 0) → (u.outer ≡ Some how.Memory → u.memory ≡ true) → KeepsFates bounds u
   fates_kept i skipped unmade outer halted fault memory = record {
     skipped = λ k e. ⊎_elim (λ o. passed_grows outer k (i.skipped k o)) (λ n. n) (skipped k e);
     unmade = λ k e. ⊎_elim (λ o. let q = i.unmade k o in (g.memory q.0, last_grows k q.1)) (λ n. n) (unmade k e);
@@ -144,7 +143,7 @@ module _ (work : Work) (t u : Tale) (g : Grows t u) where
   }
 
   -- nothing became of one, nor of the outer one
-  pub fates_stay : KeepsFates work t → u.fates ≡ t.fates → u.outer ≡ t.outer → KeepsFates work u
+  pub fates_stay : KeepsFates bounds t → u.fates ≡ t.fates → u.outer ≡ t.outer → KeepsFates bounds u
   fates_stay i same outer = fates_kept i
       (λ k e. inl (sym (ap (λ (l : List Fate). at l k) same) ∙ e))
       (λ k e. inl (sym (ap (λ (l : List Fate). at l k) same) ∙ e))
@@ -154,19 +153,19 @@ module _ (work : Work) (t u : Tale) (g : Grows t u) where
       (λ e. g.memory (i.outer_memory (sym outer ∙ e)))
 
   -- what memory was wanting for stays so
-  pub lacked_grows : (t.outer ≡ Some how.Memory → u.outer ≡ Some how.Memory) → ((k : ℕ) → at t.fates k ≡ Some Unmade → at u.fates k ≡ Some Unmade) → ((k : ℕ) → LacksForLoad work t k → LacksForLoad work u k) → HasLacked work t → HasLacked work u
+  pub lacked_grows : (t.outer ≡ Some how.Memory → u.outer ≡ Some how.Memory) → ((k : ℕ) → at t.fates k ≡ Some Unmade → at u.fates k ≡ Some Unmade) → ((k : ℕ) → LacksForLoad bounds t k → LacksForLoad bounds u k) → HasLacked bounds t → HasLacked bounds u
   lacked_grows outer fates late h = ⊎_elim
       (λ c. inl (c.0, g.came c.0 how.Memory c.1))
       (λ y. inr (⊎_elim (λ o. inl (outer o)) (λ z. inr (⊎_elim (λ f. inl (f.0, fates f.0 f.1)) (λ l. inr (l.0, late l.0 l.1)) z)) y))
       h
 
   -- a cause stays one
-  pub cause_grows : (HasMet work t → HasMet work u) → (is_some t.cut ≡ true → is_some u.cut ≡ true) → ((c : Code) → t.outer ≡ Some (how.Fault c) → u.outer ≡ Some (how.Fault c)) → (c : ℕ) (w : Why) → IsCaused work t c w → IsCaused work u c w
+  pub cause_grows : (HasMet bounds t → HasMet bounds u) → (is_some t.cut ≡ true → is_some u.cut ≡ true) → ((c : Code) → t.outer ≡ Some (how.Fault c) → u.outer ≡ Some (how.Fault c)) → (c : ℕ) (w : Why) → IsCaused bounds t c w → IsCaused bounds u c w
   cause_grows met cut outer c why.Take i = (i.0, met i.1)
   cause_grows met cut outer c why.Until i = (i.0, i.1, i.2, i.3, (i.4.0, g.came i.1 i.4.0 i.4.1))
   cause_grows met cut outer c why.Sink i = (i.0, cut i.1)
   cause_grows met cut outer c why.Memory i = (i.0, g.memory i.1)
   cause_grows met cut outer c why.Fault i = (i.0, ⊎_elim (λ x. inl (x.0, x.1, g.came x.0 (how.Fault x.1) x.2)) (λ x. inr (x.0, outer x.0 x.1)) i.1)
 
-  pub caused_more : (vs : List Interruption) → (HasMet work t → HasMet work u) → (is_some t.cut ≡ true → is_some u.cut ≡ true) → ((c : Code) → t.outer ≡ Some (how.Fault c) → u.outer ≡ Some (how.Fault c)) → AreCaused work t t.set → AreCaused work u vs → AreCaused work u (t.set ++ vs)
+  pub caused_more : (vs : List Interruption) → (HasMet bounds t → HasMet bounds u) → (is_some t.cut ≡ true → is_some u.cut ≡ true) → ((c : Code) → t.outer ≡ Some (how.Fault c) → u.outer ≡ Some (how.Fault c)) → AreCaused bounds t t.set → AreCaused bounds u vs → AreCaused bounds u (t.set ++ vs)
   caused_more vs met cut outer old new c w m = ⊎_elim (λ o. cause_grows met cut outer c w (old c w o)) (λ n. new c w n) (among_append (interruption c w) t.set vs m)

@@ -2,7 +2,7 @@
 use Rattle.std.proofs.Common.{◌≡◌, ℕ, false, List, [], ◌∷◌, ◌++◌, sym, ap, ◌∙◌, append_assoc, append-nil}
 use Rattle.std.proofs.lemmas.Grind.{flat_map-append}
 use Rattle.chunk_core.specs.declared.code.How.{How}
-use Rattle.run_rules.specs.Work.{Work}
+use Rattle.join_tale.specs.Bounds.{Bounds}
 use Rattle.join_tale.specs.Keeping.{IsTale}
 use Rattle.join_tale.specs.Laws.{GainsLoad, KeepsLoads, LoadsAreReceived}
 use Rattle.join_tale.specs.Steps.{dropped, ended, ended_late, failed, lacked, written}
@@ -20,11 +20,11 @@ loads_one j ms m = flat_map-append (loads_in j) ms (m ∷ []) ∙ ap (λ (l : Lo
 beside_none : (a b c : Loads) → b ≡ [] → (a ++ b) ++ c ≡ a ++ c
 beside_none a b c e = ap (λ (l : Loads). (a ++ l) ++ c) e ∙ ap (λ (l : Loads). l ++ c) (append-nil a)
 
-module _ (work : Work) (t : Tale) (k : ℕ) (x : List ℕ) where
-  none_late : IsTale work t → t.ceased ≡ false → (j : ℕ) → loads_of j t.late ≡ []
+module _ (bounds : Bounds) (t : Tale) (k : ℕ) (x : List ℕ) where
+  none_late : IsTale bounds t → t.ceased ≡ false → (j : ℕ) → loads_of j t.late ≡ []
   none_late i c j = ap (λ (l : List Message). loads_of j l) (i.frames.quiet c).0
 
-  write_gains : IsTale work t → t.ceased ≡ false → GainsLoad t (written t k x) k x
+  write_gains : IsTale bounds t → t.ceased ≡ false → GainsLoad t (written t k x) k x
   write_gains i c j =
       let e : loads_of j t.late ≡ [] = none_late i c j in
       ap (λ (l : Loads). l ++ loads_of j t.late) (loads_one j t.front (load_of k x))
@@ -32,12 +32,12 @@ module _ (work : Work) (t : Tale) (k : ℕ) (x : List ℕ) where
       ∙ append-nil (loads_of j t.front ++ loads_in j (load_of k x))
       ∙ sym (beside_none (loads_of j t.front) (loads_of j t.late) (loads_in j (load_of k x)) e)
 
-  fail_gains : IsTale work t → t.ceased ≡ false → GainsLoad t (failed t k x) k x
+  fail_gains : IsTale bounds t → t.ceased ≡ false → GainsLoad t (failed t k x) k x
   fail_gains i c j =
       ap (λ (l : Loads). loads_of j t.front ++ l) (append-nil (loads_in j (load_of k x)))
       ∙ sym (beside_none (loads_of j t.front) (loads_of j t.late) (loads_in j (load_of k x)) (none_late i c j))
 
-  lack_gains : IsTale work t → t.ceased ≡ false → GainsLoad t (lacked t k x) k x
+  lack_gains : IsTale bounds t → t.ceased ≡ false → GainsLoad t (lacked t k x) k x
   lack_gains i c j =
       ap (λ (l : Loads). loads_of j t.front ++ l) (append-nil (loads_in j (load_of k x)))
       ∙ sym (beside_none (loads_of j t.front) (loads_of j t.late) (loads_in j (load_of k x)) (none_late i c j))
@@ -53,12 +53,12 @@ end_keeps t k h j = ap (λ (l : Loads). l ++ loads_of j t.late) (loads_end j k h
 late_end_keeps : (t : Tale) (k : ℕ) (h : How) → KeepsLoads t (ended_late t k h)
 late_end_keeps t k h j = ap (λ (l : Loads). loads_of j t.front ++ l) (loads_end j k h t.late)
 
-pub loads_are_received : (work : Work) → LoadsAreReceived work
-loads_are_received work = record {
-  written = λ t k x i c. write_gains work t k x i c;
-  failed = λ t k x i c. fail_gains work t k x i c;
-  lacked = λ t k x i c. lack_gains work t k x i c;
-  dropped = λ t k x. drop_gains work t k x;
+pub loads_are_received : (bounds : Bounds) → LoadsAreReceived bounds
+loads_are_received bounds = record {
+  written = λ t k x i c. write_gains bounds t k x i c;
+  failed = λ t k x i c. fail_gains bounds t k x i c;
+  lacked = λ t k x i c. lack_gains bounds t k x i c;
+  dropped = λ t k x. drop_gains bounds t k x;
   ended = end_keeps;
   ended_late = late_end_keeps;
 }

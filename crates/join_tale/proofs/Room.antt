@@ -13,7 +13,7 @@ use Rattle.chunk_core.specs.declared.code.How.TheVariants as how
 use Rattle.interrupt_ctx.specs.declared.view.Interruption.{Interruption}
 use Rattle.run_rules.specs.Ends.{PrintsBehind}
 use Rattle.run_rules.specs.Facts.{at}
-use Rattle.run_rules.specs.Work.{Work, most_of}
+use Rattle.join_tale.specs.Bounds.{Bounds}
 use Rattle.join_tale.specs.Keeping.{HasEndedAll, IsTale, KeepsFrames, KeepsRoom, PrintedLast, WasOpen}
 use Rattle.join_tale.specs.Steps.{MayBegin, fated}
 use Rattle.join_tale.specs.Tales.{Came, Fate, HasCome, IsBegun, IsKnown, IsOpen, Tale, end_of, frames_begun, frames_of, load_of}
@@ -51,27 +51,27 @@ printed_snoc F x k i p = ⊎_elim
 -- Steps.
 
 -- what came in the step from t to u is of open streams alone
-pub record Passes (work : Work) (t u : Tale) : Type 0 where
+pub record Passes (bounds : Bounds) (t u : Tale) : Type 0 where
   pub printed : (k i : ℕ) → PrintsBehind (frames_begun u) k i → PrintsBehind (frames_begun t) k i ⊎ IsOpen t i
   pub came : (i : ℕ) (h : How) → Came u i h → Came t i h ⊎ IsOpen t i
   pub late : (i : ℕ) (h : How) → IsAmong (end_of i h) u.late → IsAmong (end_of i h) t.late ⊎ IsOpen t i
   pub unmade : (k i : ℕ) → i < k → IsBegun t k → at u.fates i ≡ Some Unmade → at t.fates i ≡ Some Unmade
-  pub last : (i : ℕ) → PrintedLast work u i → PrintedLast work t i ⊎ IsOpen t i
+  pub last : (i : ℕ) → PrintedLast bounds u i → PrintedLast bounds t i ⊎ IsOpen t i
 
-module _ (work : Work) (t u : Tale) (g : Grows t u) (p : Passes work t u) where
+module _ (bounds : Bounds) (t u : Tale) (g : Grows t u) (p : Passes bounds t u) where
   open_before : (i : ℕ) → IsOpen u i → IsOpen t i
   open_before i o = (g.begun i o.0, λ c. o.1 (c.0, g.came i c.0 c.1))
 
-  by_end : (k i : ℕ) → HasEndedAll work t i ⊎ IsOpen t i → WasOpen work t k i
+  by_end : (k i : ℕ) → HasEndedAll bounds t i ⊎ IsOpen t i → WasOpen bounds t k i
   by_end k i h = ⊎_elim (λ e. inr (inr (inl e))) (λ o. inl o) h
 
-  ended_before : (k i : ℕ) → i < k → IsBegun t k → HasEndedAll work u i → HasEndedAll work t i ⊎ IsOpen t i
+  ended_before : (k i : ℕ) → i < k → IsBegun t k → HasEndedAll bounds u i → HasEndedAll bounds t i ⊎ IsOpen t i
   ended_before k i l b h = ⊎_elim
       (λ f. ⊎_elim (λ c. inl (inl (f.0, c))) (λ o. inr o) (p.came i (how.Fault f.0) f.1))
       (λ x. ⊎_elim
       (λ m. ⊎_elim (λ c. inl (inr (inl c))) (λ o. inr o) (p.came i how.Memory m))
       (λ y. ⊎_elim
-      (λ s. ⊎_elim (λ c. inl (inr (inr (inl (c, λ f. s.1 (own_grows work t u g i f)))))) (λ o. inr o) (p.came i how.Halted s.0))
+      (λ s. ⊎_elim (λ c. inl (inr (inr (inl (c, λ f. s.1 (own_grows bounds t u g i f)))))) (λ o. inr o) (p.came i how.Halted s.0))
       (λ z. ⊎_elim
       (λ m. ⊎_elim (λ c. inl (inr (inr (inr (inl (m.0, c)))))) (λ o. inr o) (p.late i m.0 m.1))
       (λ e. inl (inr (inr (inr (inr (p.unmade k i l b e))))))
@@ -80,7 +80,7 @@ module _ (work : Work) (t u : Tale) (g : Grows t u) (p : Passes work t u) where
       x)
       h
 
-  was_before : (k i : ℕ) → i < k → IsBegun t k → WasOpen work u k i → WasOpen work t k i
+  was_before : (k i : ℕ) → i < k → IsBegun t k → WasOpen bounds u k i → WasOpen bounds t k i
   was_before k i l b w = ⊎_elim
       (λ o. inl (open_before i o))
       (λ x. ⊎_elim
@@ -96,15 +96,15 @@ module _ (work : Work) (t u : Tale) (g : Grows t u) (p : Passes work t u) where
       w
 
   -- the room that was there is known as before
-  pub room_passes : KeepsRoom work t → KeepsRoom work u
-  room_passes r o is k b = let c = g.begun k b in let h = r o is k c in (h.0, h.1, λ i l w. h.2 i l (was_before k i l c w))
+  pub room_passes : KeepsRoom bounds t → KeepsRoom bounds u
+  room_passes r k b = let c = g.begun k b in let h = r k c in (h.0, h.1, λ i l w. h.2 i l (was_before k i l c w))
 
-module _ (work : Work) (t : Tale) where
+module _ (bounds : Bounds) (t : Tale) where
   -- nothing came
-  pub stays : (fs : List Fate) (o : Option How) (xs ys : List Interruption) (b m : Bool) → ((k i : ℕ) → i < k → IsBegun t k → at fs i ≡ Some Unmade → at t.fates i ≡ Some Unmade) → Passes work t (record t { fates = fs; outer = o; set = xs; seen = ys; ceased = b; memory = m })
+  pub stays : (fs : List Fate) (o : Option How) (xs ys : List Interruption) (b m : Bool) → ((k i : ℕ) → i < k → IsBegun t k → at fs i ≡ Some Unmade → at t.fates i ≡ Some Unmade) → Passes bounds t (record t { fates = fs; outer = o; set = xs; seen = ys; ceased = b; memory = m })
   stays fs o xs ys b m unmade = record { printed = λ k i q. inl q; came = λ i h c. inl c; late = λ i h n. inl n; unmade = unmade; last = λ i q. inl q }
 
-  module _ (f : KeepsFrames work t) (k : ℕ) (o : IsOpen t k) where
+  module _ (f : KeepsFrames bounds t) (k : ℕ) (o : IsOpen t k) where
     open_too : (i : ℕ) → k ≡ i → IsOpen t i
     open_too i e = subst (λ n. IsOpen t n) e o
 
@@ -116,7 +116,7 @@ module _ (work : Work) (t : Tale) where
       no_end_late i h m = ⊎_elim (λ e. no_end i k h x e) (λ n. among_nil n) (among_cons m)
 
       -- a load is written
-      pub writes_pass : (xs ys : List Interruption) (b : Bool) → t.ceased ≡ false → Passes work t (record t { front = t.front ++ load_of k x ∷ []; set = xs; seen = ys; ceased = b })
+      pub writes_pass : (xs ys : List Interruption) (b : Bool) → t.ceased ≡ false → Passes bounds t (record t { front = t.front ++ load_of k x ∷ []; set = xs; seen = ys; ceased = b })
       writes_pass xs ys b c =
           let none : t.cut ≡ None = (f.quiet c).1 in
           let shut : (l : List Frame) → l ++ elim t.cut [ Some z ↦ z ∷ [] | None ↦ [] ] ≡ l = λ l. ap (λ (q : Option Frame). l ++ elim q [ Some z ↦ z ∷ [] | None ↦ [] ]) none ∙ append-nil l in
@@ -130,7 +130,7 @@ module _ (work : Work) (t : Tale) where
           }
 
       -- the write of a load fails
-      pub fails_pass : (xs ys : List Interruption) → t.ceased ≡ false → Passes work t (record t { late = load_of k x ∷ []; set = xs; seen = ys; ceased = true; cut = Some (frame_of k x) })
+      pub fails_pass : (xs ys : List Interruption) → t.ceased ≡ false → Passes bounds t (record t { late = load_of k x ∷ []; set = xs; seen = ys; ceased = true; cut = Some (frame_of k x) })
       fails_pass xs ys c =
           let shut : frames_begun t ≡ frames_of t.front = ap (λ (q : Option Frame). frames_of t.front ++ elim q [ Some z ↦ z ∷ [] | None ↦ [] ]) (f.quiet c).1 ∙ append-nil (frames_of t.front) in
           record {
@@ -142,7 +142,7 @@ module _ (work : Work) (t : Tale) where
           }
 
       -- there is no memory to render a load
-      pub lacks_pass : (xs ys : List Interruption) → Passes work t (record t { late = load_of k x ∷ []; set = xs; seen = ys; ceased = true; memory = true })
+      pub lacks_pass : (xs ys : List Interruption) → Passes bounds t (record t { late = load_of k x ∷ []; set = xs; seen = ys; ceased = true; memory = true })
       lacks_pass xs ys = record {
         printed = λ j i q. inl q;
         came = λ i h m. ⊎_elim (λ a. inl (inl a)) (λ a. absurd (no_end_late i h a)) m;
@@ -152,7 +152,7 @@ module _ (work : Work) (t : Tale) where
       }
 
       -- a load comes too late
-      pub drops_pass : Passes work t (record t { late = t.late ++ load_of k x ∷ [] })
+      pub drops_pass : Passes bounds t (record t { late = t.late ++ load_of k x ∷ [] })
       drops_pass = record {
         printed = λ j i q. inl q;
         came = λ i h m. inl (⊎_elim (λ a. inl a) (λ a. inr (end_before_load i k h x t.late a)) m);
@@ -164,10 +164,10 @@ module _ (work : Work) (t : Tale) where
     module _ (h : How) where
       -- the frames are these, and the one whose write failed
       abbrev LastOf : ℕ → List Frame → Type 0
-      LastOf i F = ((most_of work ≡ Some (length F)) ⊎ (is_some t.cut ≡ true)) × (z : Frame) × (last_or None (F ++ elim t.cut [ Some y ↦ y ∷ [] | None ↦ [] ]) ≡ Some z) × (z.stream ≡ i)
+      LastOf i F = ((bounds.most ≡ Some (length F)) ⊎ (is_some t.cut ≡ true)) × (z : Frame) × (last_or None (F ++ elim t.cut [ Some y ↦ y ∷ [] | None ↦ [] ]) ≡ Some z) × (z.stream ≡ i)
 
       -- an end comes while frames are written
-      pub ends_pass : (xs ys : List Interruption) (b : Bool) → Passes work t (record t { front = t.front ++ end_of k h ∷ []; set = xs; seen = ys; ceased = b; memory = b })
+      pub ends_pass : (xs ys : List Interruption) (b : Bool) → Passes bounds t (record t { front = t.front ++ end_of k h ∷ []; set = xs; seen = ys; ceased = b; memory = b })
       ends_pass xs ys b =
           let same : frames_of (t.front ++ end_of k h ∷ []) ≡ frames_of t.front = frames_end t.front k h in
           record {
@@ -179,7 +179,7 @@ module _ (work : Work) (t : Tale) where
           }
 
       -- an end comes later
-      pub ends_late_pass : (xs ys : List Interruption) (b : Bool) → Passes work t (record t { late = t.late ++ end_of k h ∷ []; set = xs; seen = ys; memory = b })
+      pub ends_late_pass : (xs ys : List Interruption) (b : Bool) → Passes bounds t (record t { late = t.late ++ end_of k h ∷ []; set = xs; seen = ys; memory = b })
       ends_late_pass xs ys b = record {
         printed = λ j i q. inl q;
         came = λ i g m. ⊎_elim (λ a. inl (inl a)) (λ a. ⊎_elim (λ n. inl (inr n)) (λ e. inr (open_too i (sym e.0))) (end_before_end i k g h t.late a)) m;
@@ -190,7 +190,7 @@ module _ (work : Work) (t : Tale) where
 
 -- A stream begins.
 
-module _ (work : Work) (t : Tale) (i : IsTale work t) (may : MayBegin work t) where
+module _ (bounds : Bounds) (t : Tale) (i : IsTale bounds t) (may : MayBegin bounds t) where
   -- the stream of a frame was begun
   cut_begun : (c : Option Frame) (f : Frame) → t.cut ≡ c → IsAmong f (elim c [ Some z ↦ z ∷ [] | None ↦ [] ]) → IsBegun t f.stream
   cut_begun None f e m = absurd (among_nil m)
@@ -209,20 +209,20 @@ module _ (work : Work) (t : Tale) (i : IsTale work t) (may : MayBegin work t) wh
   never k = may.run k
 
   -- no stream came to an end by which no further one begins
-  none_ended : (j : ℕ) → HasEndedAll work t j → ⊥
+  none_ended : (j : ℕ) → HasEndedAll bounds t j → ⊥
   none_ended j h = ⊎_elim
       (λ f. never (i.ends.fault j f.0 f.1).0)
       (λ x. ⊎_elim
-      (λ m. never (i.stop (memory_ceased work t i (i.ends.memory j m).0)))
+      (λ m. never (i.stop (memory_ceased bounds t i (i.ends.memory j m).0)))
       (λ y. ⊎_elim
       (λ s. ⊎_elim (λ f. s.1 f) (λ f. never (inr f.0)) (i.ends.halted j s.0))
-      (λ z. ⊎_elim (λ m. never (i.stop (late_ceased work t i (end_of j m.0) m.1))) (λ e. never (i.stop (memory_ceased work t i (i.fates.unmade j e).0))) z)
+      (λ z. ⊎_elim (λ m. never (i.stop (late_ceased bounds t i (end_of j m.0) m.1))) (λ e. never (i.stop (memory_ceased bounds t i (i.fates.unmade j e).0))) z)
       y)
       x)
       h
 
-  none_last : (j : ℕ) → PrintedLast work t j → ⊥
-  none_last j p = never (i.stop (⊎_elim (λ m. i.frames.met m) (λ c. cut_ceased work t i c) p.0))
+  none_last : (j : ℕ) → PrintedLast bounds t j → ⊥
+  none_last j p = never (i.stop (⊎_elim (λ m. i.frames.met m) (λ c. cut_ceased bounds t i c) p.0))
 
   -- a stream below the new one is open now if it was before
   open_below : (j : ℕ) → j < length t.fates → IsOpen (fated t Begun) j → IsOpen t j
@@ -231,18 +231,18 @@ module _ (work : Work) (t : Tale) (i : IsTale work t) (may : MayBegin work t) wh
   unmade_below : (j : ℕ) → at (t.fates ++ Begun ∷ []) j ≡ Some Unmade → at t.fates j ≡ Some Unmade
   unmade_below j e = ⊎_elim (λ o. o) (λ n. absurd (let q : Unmade ≡ Begun = n.1 in cc)) (at_snoc t.fates Begun j Unmade e)
 
-  ended_below : (j : ℕ) → HasEndedAll work (fated t Begun) j → HasEndedAll work t j
+  ended_below : (j : ℕ) → HasEndedAll bounds (fated t Begun) j → HasEndedAll bounds t j
   ended_below j h = ⊎_elim (λ f. inl f) (λ x. ⊎_elim (λ m. inr (inl m)) (λ y. ⊎_elim (λ s. inr (inr (inl s))) (λ z. ⊎_elim (λ m. inr (inr (inr (inl m)))) (λ e. inr (inr (inr (inr (unmade_below j e))))) z) y) x) h
 
   -- for a stream that was begun before nothing changes
-  as_before : (k j : ℕ) → j < k → IsBegun t k → WasOpen work (fated t Begun) k j → WasOpen work t k j
+  as_before : (k j : ℕ) → j < k → IsBegun t k → WasOpen bounds (fated t Begun) k j → WasOpen bounds t k j
   as_before k j l b w = ⊎_elim
       (λ o. inl (open_below j (let m = at_below t.fates k Begun b in omega (arith, l, m)) o))
       (λ x. ⊎_elim (λ q. inr (inl q)) (λ y. ⊎_elim (λ e. inr (inr (inl (ended_below j e)))) (λ z. ⊎_elim (λ q. inr (inr (inr (inl q)))) (λ q. inr (inr (inr (inr q)))) z) y) x)
       w
 
   -- of the new stream none printed, and those before it that were open are open still
-  open_now : (k j : ℕ) → k ≡ length t.fates → j < k → WasOpen work (fated t Begun) k j → IsOpen t j
+  open_now : (k j : ℕ) → k ≡ length t.fates → j < k → WasOpen bounds (fated t Begun) k j → IsOpen t j
   open_now k j is l w = ⊎_elim
       (λ o. open_below j (omega (arith, is, l)) o)
       (λ x. ⊎_elim
@@ -257,8 +257,8 @@ module _ (work : Work) (t : Tale) (i : IsTale work t) (may : MayBegin work t) wh
       x)
       w
 
-  pub begun_room : KeepsRoom work (fated t Begun)
-  begun_room o is k b = ⊎_elim
-      (λ old. let h = i.room o is k old in (h.0, h.1, λ j l w. h.2 j l (as_before k j l old w)))
-      (λ new. let h = may.few o is in (h.0, h.1, λ j l w. h.2 j (open_now k j new.0 l w)))
+  pub begun_room : KeepsRoom bounds (fated t Begun)
+  begun_room k b = ⊎_elim
+      (λ old. let h = i.room k old in (h.0, h.1, λ j l w. h.2 j l (as_before k j l old w)))
+      (λ new. let h = may.few in (h.0, h.1, λ j l w. h.2 j (open_now k j new.0 l w)))
       (at_snoc t.fates Begun k Begun b)

@@ -1,5 +1,5 @@
 -- The tale that is written out, step by step, and those that can't be.
-use Rattle.std.proofs.Common.{◌≡◌, ℕ, zero, suc, ◌<◌, ◌≤◌, true, false, List, [], ◌∷◌, Some, inl, refl, ap, subst, ⊎_elim, arith}
+use Rattle.std.proofs.Common.{◌≡◌, ℕ, zero, suc, ◌<◌, ◌≤◌, true, false, List, [], ◌∷◌, Some, inl, refl, ap, ⊎_elim, arith}
 use Rattle.chunk_core.specs.Lists.{IsAmong}
 use Rattle.chunk_core.specs.Lists.IsAmong.{here, there}
 use Rattle.chunk_core.proofs.Members.{among_cons, among_nil}
@@ -9,16 +9,14 @@ use Rattle.chunk_core.specs.declared.code.How.TheVariants as how
 use Rattle.interrupt_ctx.specs.Views.{interruption}
 use Rattle.interrupt_ctx.specs.declared.view.Interruption.{Interruption}
 use Rattle.interrupt_ctx.specs.declared.why.Why.TheVariants as why
-use Rattle.res_ledger.specs.declared.event.StreamNo.TheVariants.{Inner}
 use Rattle.run_rules.specs.Facts.{at}
-use Rattle.run_rules.specs.Work.{Opener, until_by}
 use Rattle.join_tale.specs.Ended.Ended.{halted, told}
 use Rattle.join_tale.specs.Keeping.{HasLacked, IsTale}
-use Rattle.join_tale.specs.Steps.{AreFewOpen, MayBegin, TellsEnd, TellsOuter, dropped, ended, ended_late, fated, first_tale, learned, outer_ended, written}
+use Rattle.join_tale.specs.Steps.{MayBegin, TellsEnd, TellsOuter, dropped, ended, ended_late, fated, first_tale, learned, outer_ended, written}
 use Rattle.join_tale.specs.Steps.Marks.{fresh}
 use Rattle.join_tale.specs.Tales.{HasCome, IsBegun, Message, Tale, end_of, load_of}
 use Rattle.join_tale.specs.Tales.Fate.{Begun, Unmade}
-use Rattle.join_tale.specs.Worked.{AreRefused, IsWorked, plain_tale, two_frames, two_streams, worked_tale}
+use Rattle.join_tale.specs.Worked.{AreRefused, IsWorked, plain_tale, two_streams, worked_tale}
 use Rattle.join_tale.proofs.Ending.{ends, ends_late}
 use Rattle.join_tale.proofs.Parts.{frame_of, no_end, same_end}
 use Rattle.join_tale.proofs.Places.{none_some, not_both, some_is}
@@ -28,7 +26,7 @@ use Rattle.join_tale.proofs.Steps.{begins, outer_ends, starts}
 not_number : (a b : ℕ) → (a ≡ b → ⊥) → Some a ≡ Some b → ⊥
 not_number a b n e = n (some_is a b e)
 
-no_until : (i k : ℕ) → until_by two_streams (Inner i) ≡ Some k → ⊥
+no_until : (i k : ℕ) → two_streams.until i ≡ Some k → ⊥
 no_until zero k e = none_some e
 no_until (suc zero) k e = none_some e
 no_until (suc (suc i)) k e = none_some e
@@ -69,7 +67,7 @@ may_0 = record {
   run = λ k. ⊎_elim (λ s. among_nil s.1) (λ s. among_nil s.1) k;
   own = λ k. ⊎_elim (λ s. among_nil s.1) (λ s. among_nil s.1) k;
   alone = λ w j b. absurd (none_some b);
-  few = λ o is. subst (λ (q : Opener). AreFewOpen q.max_open first_tale) (some_is two_frames o is) ([], omega arith, λ k b. absurd (none_some b.0));
+  few = ([], omega arith, λ k b. absurd (none_some b.0));
 }
 
 may_1 : MayBegin two_streams done_0
@@ -77,7 +75,7 @@ may_1 = record {
   run = λ k. ⊎_elim (λ s. among_nil s.1) (λ s. among_nil s.1) k;
   own = λ k. ⊎_elim (λ s. among_nil s.1) (λ s. among_nil s.1) k;
   alone = λ w j b. by_number j b;
-  few = λ o is. subst (λ (q : Opener). AreFewOpen q.max_open done_0) (some_is two_frames o is) ([], omega arith, λ k b. absurd (b.1 (by_number k b.0)));
+  few = ([], omega arith, λ k b. absurd (b.1 (by_number k b.0)));
 }
   where
     by_number : (j : ℕ) → IsBegun done_0 j → HasCome done_0 j

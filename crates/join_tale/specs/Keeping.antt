@@ -6,11 +6,10 @@ use Rattle.chunk_core.specs.Texts.{Frame}
 use Rattle.chunk_core.specs.declared.code.Code.{Code}
 use Rattle.chunk_core.specs.declared.code.How.{How}
 use Rattle.chunk_core.specs.declared.code.How.TheVariants as how
-use Rattle.res_ledger.specs.declared.event.StreamNo.TheVariants.{Inner}
 use Rattle.run_rules.specs.Facts.{at}
 use Rattle.run_rules.specs.Ends.{PrintsBehind}
 use Rattle.run_rules.specs.Outputs.{NeverFall}
-use Rattle.run_rules.specs.Work.{Opener, Work, most_of, runs_in_turn, until_by}
+use Rattle.join_tale.specs.Bounds.{Bounds, is_in_turn}
 use Rattle.join_tale.specs.Tales.{AreCaused, Body, Came, HasCome, HasMet, IsBegun, IsFoundSet, IsKnown, IsOpen, IsSet, Message, Tale, end_of, frames_begun, load_of, loads_of}
 use Rattle.join_tale.specs.Tales.Body.{End, Load}
 use Rattle.join_tale.specs.Tales.Fate.{Skipped, Unmade}
@@ -20,28 +19,28 @@ abbrev pub IsHighest : Tale → ℕ → Type 0
 IsHighest t k = (j : ℕ) → IsBegun t j → j ≤ k
 
 -- where one stream is open at a time, none above k was begun
-abbrev pub IsLast : Work → Tale → ℕ → Type 0
-IsLast work t k = runs_in_turn work ≡ true → IsHighest t k
+abbrev pub IsLast : Bounds → Tale → ℕ → Type 0
+IsLast bounds t k = is_in_turn bounds ≡ true → IsHighest t k
 
 -- where one stream is open at a time, the one has come whose end stops k, and it isn't above k
-abbrev pub IsEndedInTurn : Work → Tale → ℕ → Type 0
-IsEndedInTurn work t k = runs_in_turn work ≡ true → (j : ℕ) × (until_by work (Inner k) ≡ Some j) × HasCome t j × (j ≤ k)
+abbrev pub IsEndedInTurn : Bounds → Tale → ℕ → Type 0
+IsEndedInTurn bounds t k = is_in_turn bounds ≡ true → (j : ℕ) × (bounds.until k ≡ Some j) × HasCome t j × (j ≤ k)
 
 -- a code was found that is for k: its own, or that of all streams, behind which none was begun
-abbrev pub IsToldToHalt : Work → Tale → ℕ → Type 0
-IsToldToHalt work t k = (IsFoundSet t (suc k) × IsEndedInTurn work t k) ⊎ (IsFoundSet t 0 × IsLast work t k)
+abbrev pub IsToldToHalt : Bounds → Tale → ℕ → Type 0
+IsToldToHalt bounds t k = (IsFoundSet t (suc k) × IsEndedInTurn bounds t k) ⊎ (IsFoundSet t 0 × IsLast bounds t k)
 
 -- the outer stream has ended, and not by itself
 abbrev pub IsOuterStopped : Tale → Type 0
 IsOuterStopped t = (h : How) × (t.outer ≡ Some h) × (h ≢ how.Done)
 
 -- a code was found in the context of k; where one stream is open at a time, it had been set by then
-abbrev pub IsOwnCode : Work → Tale → ℕ → Type 0
-IsOwnCode work t k = IsFoundSet t (suc k) × (runs_in_turn work ≡ true → IsSet t (suc k))
+abbrev pub IsOwnCode : Bounds → Tale → ℕ → Type 0
+IsOwnCode bounds t k = IsFoundSet t (suc k) × (is_in_turn bounds ≡ true → IsSet t (suc k))
 
 -- why k wasn't begun: a code was found that is its own, or one for all streams or the outer stream was stopped, and then none above k was begun, however many may be open
-abbrev pub IsPassedOver : Work → Tale → ℕ → Type 0
-IsPassedOver work t k = (IsFoundSet t (suc k) × IsEndedInTurn work t k) ⊎ ((IsFoundSet t 0 ⊎ IsOuterStopped t) × IsHighest t k)
+abbrev pub IsPassedOver : Bounds → Tale → ℕ → Type 0
+IsPassedOver bounds t k = (IsFoundSet t (suc k) × IsEndedInTurn bounds t k) ⊎ ((IsFoundSet t 0 ⊎ IsOuterStopped t) × IsHighest t k)
 
 -- a load isn't empty
 abbrev pub IsFull : Body → Type 0
@@ -49,49 +48,49 @@ IsFull (Load x) = 0 < length x
 IsFull (End h) = Unit {0}
 
 -- no more frames are written since enough were, a write failed, or memory was wanting
-abbrev pub HasCeased : Work → Tale → Type 0
-HasCeased work t = HasMet work t ⊎ (is_some t.cut ≡ true) ⊎ (t.memory ≡ true)
+abbrev pub HasCeased : Bounds → Tale → Type 0
+HasCeased bounds t = HasMet bounds t ⊎ (is_some t.cut ≡ true) ⊎ (t.memory ≡ true)
 
 -- the first that came too late to be written is a load of stream k, though no write failed and not enough frames were printed
-pub record LacksForLoad (work : Work) (t : Tale) (k : ℕ) : Type 0 where
+pub record LacksForLoad (bounds : Bounds) (t : Tale) (k : ℕ) : Type 0 where
   pub load : List ℕ
   pub others : List Message
   pub late : t.late ≡ load_of k load ∷ others
   pub uncut : t.cut ≡ None
-  pub unmet : ¬ (HasMet work t)
+  pub unmet : ¬ (HasMet bounds t)
 
 -- memory was wanting for a stream that ended so, for the outer one, to make a stream, or to write a load
-abbrev pub HasLacked : Work → Tale → Type 0
-HasLacked work t = ((k : ℕ) × Came t k how.Memory) ⊎ (t.outer ≡ Some how.Memory) ⊎ ((k : ℕ) × (at t.fates k ≡ Some Unmade)) ⊎ ((k : ℕ) × LacksForLoad work t k)
+abbrev pub HasLacked : Bounds → Tale → Type 0
+HasLacked bounds t = ((k : ℕ) × Came t k how.Memory) ⊎ (t.outer ≡ Some how.Memory) ⊎ ((k : ℕ) × (at t.fates k ≡ Some Unmade)) ⊎ ((k : ℕ) × LacksForLoad bounds t k)
 
 -- the frames and the loads that came too late to be written
-pub record KeepsFrames (work : Work) (t : Tale) : Type 0 where
+pub record KeepsFrames (bounds : Bounds) (t : Tale) : Type 0 where
   pub quiet : t.ceased ≡ false → (t.late ≡ []) × (t.cut ≡ None) × (t.memory ≡ false)
-  pub ceased : t.ceased ≡ true → HasCeased work t
-  pub met : HasMet work t → t.ceased ≡ true
-  pub few : IfSome (most_of work) (λ n. length (frames_begun t) ≤ n)
+  pub ceased : t.ceased ≡ true → HasCeased bounds t
+  pub met : HasMet bounds t → t.ceased ≡ true
+  pub few : IfSome bounds.most (λ n. length (frames_begun t) ≤ n)
   pub cut : (f : Frame) → t.cut ≡ Some f → (ms : List Message) × (t.late ≡ load_of f.stream f.payload ∷ ms)
-  pub in_turn : runs_in_turn work ≡ true → NeverFall (frames_begun t)
-  pub last : HasMet work t ⊎ (is_some t.cut ≡ true) → (f : Frame) → last_or None (frames_begun t) ≡ Some f → IsLast work t f.stream
+  pub in_turn : is_in_turn bounds ≡ true → NeverFall (frames_begun t)
+  pub last : HasMet bounds t ⊎ (is_some t.cut ≡ true) → (f : Frame) → last_or None (frames_begun t) ≡ Some f → IsLast bounds t f.stream
   pub whole : (k : ℕ) (h : How) → IsAmong (end_of k h) t.front → loads_of k t.late ≡ []
   pub ours : (m : Message) → IsAmong m t.front ⊎ IsAmong m t.late → IsBegun t m.stream × IsFull m.body
 
 -- the ends of the streams: each has one, and where one stream is open at a time nothing begins behind an end that stops the run
-pub record KeepsEnds (work : Work) (t : Tale) : Type 0 where
-  pub halted : (k : ℕ) → Came t k how.Halted → IsToldToHalt work t k
-  pub fault : (k : ℕ) (c : Code) → Came t k (how.Fault c) → IsKnown t 0 × IsLast work t k
-  pub memory : (k : ℕ) → Came t k how.Memory → (t.memory ≡ true) × IsLast work t k
-  pub until : (j k : ℕ) → HasCome t j → until_by work (Inner k) ≡ Some j → IsKnown t (suc k) × (runs_in_turn work ≡ true → IsBegun t k → k ≤ j)
-  pub late : (k : ℕ) (h : How) → IsAmong (end_of k h) t.late → IsLast work t k
-  pub in_turn : runs_in_turn work ≡ true → (k : ℕ) → IsBegun t k → HasCome t k ⊎ ((j : ℕ) → IsBegun t j → j ≤ k)
+pub record KeepsEnds (bounds : Bounds) (t : Tale) : Type 0 where
+  pub halted : (k : ℕ) → Came t k how.Halted → IsToldToHalt bounds t k
+  pub fault : (k : ℕ) (c : Code) → Came t k (how.Fault c) → IsKnown t 0 × IsLast bounds t k
+  pub memory : (k : ℕ) → Came t k how.Memory → (t.memory ≡ true) × IsLast bounds t k
+  pub until : (j k : ℕ) → HasCome t j → bounds.until k ≡ Some j → IsKnown t (suc k) × (is_in_turn bounds ≡ true → IsBegun t k → k ≤ j)
+  pub late : (k : ℕ) (h : How) → IsAmong (end_of k h) t.late → IsLast bounds t k
+  pub in_turn : is_in_turn bounds ≡ true → (k : ℕ) → IsBegun t k → HasCome t k ⊎ ((j : ℕ) → IsBegun t j → j ≤ k)
   pub once : (k : ℕ) (h g : How) → Came t k h → Came t k g → h ≡ g
   pub apart : (k : ℕ) (h g : How) → IsAmong (end_of k h) t.front → ¬ (IsAmong (end_of k g) t.late)
 
 -- the streams that weren't begun, and the outer one
-pub record KeepsFates (work : Work) (t : Tale) : Type 0 where
-  pub skipped : (k : ℕ) → at t.fates k ≡ Some Skipped → IsPassedOver work t k
-  pub unmade : (k : ℕ) → at t.fates k ≡ Some Unmade → (t.memory ≡ true) × IsLast work t k
-  pub nobody : most_of work ≡ Some 0 → IsKnown t 0 × ((k : ℕ) → ¬ (IsBegun t k))
+pub record KeepsFates (bounds : Bounds) (t : Tale) : Type 0 where
+  pub skipped : (k : ℕ) → at t.fates k ≡ Some Skipped → IsPassedOver bounds t k
+  pub unmade : (k : ℕ) → at t.fates k ≡ Some Unmade → (t.memory ≡ true) × IsLast bounds t k
+  pub nobody : bounds.most ≡ Some 0 → IsKnown t 0 × ((k : ℕ) → ¬ (IsBegun t k))
   pub outer_halted : t.outer ≡ Some how.Halted → IsFoundSet t 0
   pub outer_fault : (c : Code) → t.outer ≡ Some (how.Fault c) → IsKnown t 0
   pub outer_memory : t.outer ≡ Some how.Memory → t.memory ≡ true
@@ -99,30 +98,30 @@ pub record KeepsFates (work : Work) (t : Tale) : Type 0 where
 -- Which streams were open when another one began.
 
 -- i has come to an end by which no further stream begins: it failed or found no memory, it was halted and not by its own code, its end came too late, or there was no memory to make it
-abbrev pub HasEndedAll : Work → Tale → ℕ → Type 0
-HasEndedAll work t i = ((c : Code) × Came t i (how.Fault c)) ⊎ Came t i how.Memory ⊎ (Came t i how.Halted × ¬ (IsFoundSet t (suc i) × IsEndedInTurn work t i)) ⊎ ((h : How) × IsAmong (end_of i h) t.late) ⊎ (at t.fates i ≡ Some Unmade)
+abbrev pub HasEndedAll : Bounds → Tale → ℕ → Type 0
+HasEndedAll bounds t i = ((c : Code) × Came t i (how.Fault c)) ⊎ Came t i how.Memory ⊎ (Came t i how.Halted × ¬ (IsFoundSet t (suc i) × IsEndedInTurn bounds t i)) ⊎ ((h : How) × IsAmong (end_of i h) t.late) ⊎ (at t.fates i ≡ Some Unmade)
 
 -- no more is printed, and i printed last
-abbrev pub PrintedLast : Work → Tale → ℕ → Type 0
-PrintedLast work t i = (HasMet work t ⊎ (is_some t.cut ≡ true)) × (f : Frame) × (last_or None (frames_begun t) ≡ Some f) × (f.stream ≡ i)
+abbrev pub PrintedLast : Bounds → Tale → ℕ → Type 0
+PrintedLast bounds t i = (HasMet bounds t ⊎ (is_some t.cut ≡ true)) × (f : Frame) × (last_or None (frames_begun t) ≡ Some f) × (f.stream ≡ i)
 
 -- i is open, or it was when k began: it printed behind k, by its end no further stream begins, it printed last, or its end stops k
-abbrev pub WasOpen : Work → Tale → ℕ → ℕ → Type 0
-WasOpen work t k i = IsOpen t i ⊎ PrintsBehind (frames_begun t) k i ⊎ HasEndedAll work t i ⊎ PrintedLast work t i ⊎ ((until_by work (Inner k) ≡ Some i) × HasCome t i)
+abbrev pub WasOpen : Bounds → Tale → ℕ → ℕ → Type 0
+WasOpen bounds t k i = IsOpen t i ⊎ PrintsBehind (frames_begun t) k i ⊎ HasEndedAll bounds t i ⊎ PrintedLast bounds t i ⊎ ((bounds.until k ≡ Some i) × HasCome t i)
 
--- fewer than `width` of the streams before k were open when it began
-abbrev pub HadRoom : ℕ → Work → Tale → ℕ → Type 0
-HadRoom width work t k = (others : List ℕ) × (length others < width) × ((i : ℕ) → i < k → WasOpen work t k i → IsAmong i others)
+-- fewer of the streams before k were open when it began than may be
+abbrev pub HadRoom : Bounds → Tale → ℕ → Type 0
+HadRoom bounds t k = (others : List ℕ) × (length others < bounds.max_open) × ((i : ℕ) → i < k → WasOpen bounds t k i → IsAmong i others)
 
 -- each stream began in room that was there
-abbrev pub KeepsRoom : Work → Tale → Type 0
-KeepsRoom work t = (o : Opener) → work.opener ≡ Some o → (k : ℕ) → IsBegun t k → HadRoom o.max_open work t k
+abbrev pub KeepsRoom : Bounds → Tale → Type 0
+KeepsRoom bounds t = (k : ℕ) → IsBegun t k → HadRoom bounds t k
 
-pub record IsTale (work : Work) (t : Tale) : Type 0 where
-  pub frames : KeepsFrames work t
-  pub ends : KeepsEnds work t
-  pub fates : KeepsFates work t
-  pub room : KeepsRoom work t
-  pub caused : AreCaused work t t.set
-  pub lacked : t.memory ≡ true → HasLacked work t
+pub record IsTale (bounds : Bounds) (t : Tale) : Type 0 where
+  pub frames : KeepsFrames bounds t
+  pub ends : KeepsEnds bounds t
+  pub fates : KeepsFates bounds t
+  pub room : KeepsRoom bounds t
+  pub caused : AreCaused bounds t t.set
+  pub lacked : t.memory ≡ true → HasLacked bounds t
   pub stop : t.ceased ≡ true → IsKnown t 0

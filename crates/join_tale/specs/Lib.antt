@@ -1,3 +1,4 @@
+pub mod Bounds
 pub mod Tales
 pub mod Ended
 pub mod Keeping

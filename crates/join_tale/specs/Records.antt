@@ -14,13 +14,14 @@ use Rattle.run_rules.specs.Ends.{BeginInRoom, HasCauseToHalt, IsSilenced, IsStop
 use Rattle.run_rules.specs.Facts.{has_left, is_fault}
 use Rattle.run_rules.specs.Outputs.{NeverFall}
 use Rattle.run_rules.specs.Work.{Work, Opener, RunRecord, Stream, begun_frames, most_of, names_of, runs_in_turn}
+use Rattle.join_tale.specs.Bounds.{bounds_of}
 use Rattle.join_tale.specs.Ended.{Ended}
 use Rattle.join_tale.specs.Keeping.{LacksForLoad}
 use Rattle.join_tale.specs.Tales.{HasCome, IsBegun, IsSet, Tale, frames_of}
 
--- a run of which it isn't said what its streams give: a tale, why a stream may be halted and what may begin don't depend on that
+-- a run of which it isn't said what its streams give: why a stream may be halted and what may begin don't depend on that
 abbrev pub bare : Option Opener → List Stream → Work
-bare o ss = record { opener = o; streams = ss; runs = λ k v w ys e. ⊥; ideal_runs = λ k v w ys e. ⊥ }
+bare o ss = record { opener = o; streams = ss; runs = λ k v w ys e. ⊥; ideal_runs = λ k v w ys e. ⊥; listing = λ d ys e. ⊥; ideal_listing = λ d ys e. ⊥ }
 
 -- each context that was found set has been set, as is known once all seats are in
 abbrev pub IsSettled : Tale → Type 0
@@ -55,8 +56,10 @@ pub record Follows (work : Work) (c : RunRecord) : Type 0 where
   pub few : IfSome (most_of work) (λ n. length (begun_frames c) ≤ n)
 
 -- memory was wanting for an end that says so, or for a load of stream k, which was halted though frames could be printed
-abbrev pub WantsFor : Work → Tale → RunRecord → Type 0
-WantsFor work t c = (e : EndOf) × IsAmong e c.ends × ((e.how ≡ how.Memory) ⊎ ((e.how ≡ how.Halted) × ¬ (IsSilenced work c) × ((k : ℕ) × (e.who ≡ Inner k) × LacksForLoad work t k)))
+abbrev pub WantsFor : Opener → List Stream → Tale → RunRecord → Type 0
+WantsFor o ss t c =
+    (e : EndOf) × IsAmong e c.ends
+    × ((e.how ≡ how.Memory) ⊎ ((e.how ≡ how.Halted) × ¬ (IsSilenced (bare (Some o) ss) c) × ((k : ℕ) × (e.who ≡ Inner k) × LacksForLoad (bounds_of o ss) t k)))
 
 -- nothing that stops a stream came about: all was written, memory was never wanting, fewer frames were printed than may be, no stream ends with another, and none failed
 pub record IsUndisturbed (work : Work) (c : RunRecord) : Type 0 where

@@ -7,10 +7,9 @@ use Rattle.interrupt_ctx.specs.Views.{interruption}
 use Rattle.interrupt_ctx.specs.declared.view.Interruption.{Interruption}
 use Rattle.interrupt_ctx.specs.declared.why.Why.{Why}
 use Rattle.interrupt_ctx.specs.declared.why.Why.TheVariants as why
-use Rattle.res_ledger.specs.declared.event.StreamNo.TheVariants.{Inner}
 use Rattle.run_rules.specs.Facts.{is_memory}
 use Rattle.chunk_core.specs.Lists.{IsAmong}
-use Rattle.run_rules.specs.Work.{Opener, Work, most_of, runs_in_turn, until_by}
+use Rattle.join_tale.specs.Bounds.{Bounds, is_in_turn}
 use Rattle.join_tale.specs.Keeping.{IsOuterStopped, IsOwnCode, IsTale}
 use Rattle.join_tale.specs.Tales.{AreCaused, Fate, HasCome, IsBegun, IsCaused, IsFoundSet, IsKnown, IsOpen, Tale, end_of, frames_of, load_of}
 use Rattle.join_tale.specs.Tales.Fate.{Begun, Skipped, Unmade}
@@ -65,16 +64,16 @@ pub data Marks (context : ℕ) (w : Why) : List Interruption → List Interrupti
   stale : (there : Why) → Marks context w [] (interruption context there ∷ [])
 
 -- what is known when the end h of stream k is received: u is the tale behind it, and vs was set since
-pub record TellsEnd (work : Work) (u : Tale) (k : ℕ) (h : How) (vs : List Interruption) : Type 0 where
-  pub caused : AreCaused work u vs
-  pub halted : h ≡ how.Halted → IsFoundSet u 0 ⊎ IsOwnCode work u k
+pub record TellsEnd (bounds : Bounds) (u : Tale) (k : ℕ) (h : How) (vs : List Interruption) : Type 0 where
+  pub caused : AreCaused bounds u vs
+  pub halted : h ≡ how.Halted → IsFoundSet u 0 ⊎ IsOwnCode bounds u k
   pub fault : (c : Code) → h ≡ how.Fault c → IsKnown u 0
   pub memory : h ≡ how.Memory → IsKnown u 0
-  pub until : (i : ℕ) → until_by work (Inner i) ≡ Some k → IsKnown u (suc i)
+  pub until : (i : ℕ) → bounds.until i ≡ Some k → IsKnown u (suc i)
 
 -- what is known when the outer stream has ended so
-pub record TellsOuter (work : Work) (u : Tale) (h : How) (vs : List Interruption) : Type 0 where
-  pub caused : AreCaused work u vs
+pub record TellsOuter (bounds : Bounds) (u : Tale) (h : How) (vs : List Interruption) : Type 0 where
+  pub caused : AreCaused bounds u vs
   pub halted : h ≡ how.Halted → IsFoundSet u 0
   pub fault : (c : Code) → h ≡ how.Fault c → IsKnown u 0
   pub memory : h ≡ how.Memory → IsKnown u 0
@@ -84,34 +83,34 @@ abbrev pub AreFewOpen : ℕ → Tale → Type 0
 AreFewOpen width t = (others : List ℕ) × (length others < width) × ((k : ℕ) → IsOpen t k → IsAmong k others)
 
 -- a stream may begin: its contexts aren't set, fewer are open than may be, and where one stream is open at a time all that were begun have ended
-pub record MayBegin (work : Work) (t : Tale) : Type 0 where
+pub record MayBegin (bounds : Bounds) (t : Tale) : Type 0 where
   pub run : ¬ (IsKnown t 0)
   pub own : ¬ (IsKnown t (suc (length t.fates)))
-  pub alone : runs_in_turn work ≡ true → (j : ℕ) → IsBegun t j → HasCome t j
-  pub few : (o : Opener) → work.opener ≡ Some o → AreFewOpen o.max_open t
+  pub alone : is_in_turn bounds ≡ true → (j : ℕ) → IsBegun t j → HasCome t j
+  pub few : AreFewOpen bounds.max_open t
 
 -- how a tale begins, and what keeps it
-pub record StepsKeepTale (work : Work) : Type 0 where
-  pub starts : most_of work ≢ Some 0 → IsTale work first_tale
-  pub starts_met : (vs cs : List Interruption) → Marks 0 why.Take vs cs → most_of work ≡ Some 0 → IsTale work (record (learned first_tale vs cs) { ceased = true })
-  pub learns : (t : Tale) (vs cs : List Interruption) → IsTale work t → AreCaused work t vs → IsTale work (learned t vs cs)
-  pub begins : (t : Tale) → IsTale work t → MayBegin work t → IsTale work (fated t Begun)
-  pub skips : (t : Tale) → IsTale work t → IsFoundSet t 0 ⊎ IsOwnCode work t (length t.fates) ⊎ IsOuterStopped t → IsTale work (fated t Skipped)
-  pub wants : (t : Tale) (vs cs : List Interruption) → Marks 0 why.Memory vs cs → IsTale work t → IsTale work (learned (unmade t) vs cs)
-  pub writes : (t : Tale) (k : ℕ) (x : List ℕ) → IsTale work t → t.ceased ≡ false → IsOpen t k → 0 < length x → most_of work ≢ Some (suc (length (frames_of t.front))) → IsTale work (written t k x)
-  pub meets : (t : Tale) (k : ℕ) (x : List ℕ) (vs cs : List Interruption) → Marks 0 why.Take vs cs → IsTale work t → t.ceased ≡ false → IsOpen t k → 0 < length x → most_of work ≡ Some (suc (length (frames_of t.front))) → IsTale work (record (learned (written t k x) vs cs) { ceased = true })
-  pub fails : (t : Tale) (k : ℕ) (x : List ℕ) (vs cs : List Interruption) → Marks 0 why.Sink vs cs → IsTale work t → t.ceased ≡ false → IsOpen t k → 0 < length x → IsTale work (learned (failed t k x) vs cs)
-  pub lacks : (t : Tale) (k : ℕ) (x : List ℕ) (vs cs : List Interruption) → Marks 0 why.Memory vs cs → IsTale work t → t.ceased ≡ false → IsOpen t k → 0 < length x → IsTale work (learned (lacked t k x) vs cs)
-  pub drops : (t : Tale) (k : ℕ) (x : List ℕ) → IsTale work t → t.ceased ≡ true → IsOpen t k → 0 < length x → IsTale work (dropped t k x)
-  pub ends : (t : Tale) (k : ℕ) (h : How) (vs cs : List Interruption) → IsTale work t → t.ceased ≡ false → IsOpen t k → TellsEnd work (learned (ended t k h) vs cs) k h vs → IsTale work (learned (ended t k h) vs cs)
-  pub ends_late : (t : Tale) (k : ℕ) (h : How) (vs cs : List Interruption) → IsTale work t → t.ceased ≡ true → IsOpen t k → TellsEnd work (learned (ended_late t k h) vs cs) k h vs → IsTale work (learned (ended_late t k h) vs cs)
-  pub outer_ends : (t : Tale) (h : How) (vs cs : List Interruption) → IsTale work t → t.outer ≡ None → TellsOuter work (learned (outer_ended t h) vs cs) h vs → IsTale work (learned (outer_ended t h) vs cs)
+pub record StepsKeepTale (bounds : Bounds) : Type 0 where
+  pub starts : bounds.most ≢ Some 0 → IsTale bounds first_tale
+  pub starts_met : (vs cs : List Interruption) → Marks 0 why.Take vs cs → bounds.most ≡ Some 0 → IsTale bounds (record (learned first_tale vs cs) { ceased = true })
+  pub learns : (t : Tale) (vs cs : List Interruption) → IsTale bounds t → AreCaused bounds t vs → IsTale bounds (learned t vs cs)
+  pub begins : (t : Tale) → IsTale bounds t → MayBegin bounds t → IsTale bounds (fated t Begun)
+  pub skips : (t : Tale) → IsTale bounds t → IsFoundSet t 0 ⊎ IsOwnCode bounds t (length t.fates) ⊎ IsOuterStopped t → IsTale bounds (fated t Skipped)
+  pub wants : (t : Tale) (vs cs : List Interruption) → Marks 0 why.Memory vs cs → IsTale bounds t → IsTale bounds (learned (unmade t) vs cs)
+  pub writes : (t : Tale) (k : ℕ) (x : List ℕ) → IsTale bounds t → t.ceased ≡ false → IsOpen t k → 0 < length x → bounds.most ≢ Some (suc (length (frames_of t.front))) → IsTale bounds (written t k x)
+  pub meets : (t : Tale) (k : ℕ) (x : List ℕ) (vs cs : List Interruption) → Marks 0 why.Take vs cs → IsTale bounds t → t.ceased ≡ false → IsOpen t k → 0 < length x → bounds.most ≡ Some (suc (length (frames_of t.front))) → IsTale bounds (record (learned (written t k x) vs cs) { ceased = true })
+  pub fails : (t : Tale) (k : ℕ) (x : List ℕ) (vs cs : List Interruption) → Marks 0 why.Sink vs cs → IsTale bounds t → t.ceased ≡ false → IsOpen t k → 0 < length x → IsTale bounds (learned (failed t k x) vs cs)
+  pub lacks : (t : Tale) (k : ℕ) (x : List ℕ) (vs cs : List Interruption) → Marks 0 why.Memory vs cs → IsTale bounds t → t.ceased ≡ false → IsOpen t k → 0 < length x → IsTale bounds (learned (lacked t k x) vs cs)
+  pub drops : (t : Tale) (k : ℕ) (x : List ℕ) → IsTale bounds t → t.ceased ≡ true → IsOpen t k → 0 < length x → IsTale bounds (dropped t k x)
+  pub ends : (t : Tale) (k : ℕ) (h : How) (vs cs : List Interruption) → IsTale bounds t → t.ceased ≡ false → IsOpen t k → TellsEnd bounds (learned (ended t k h) vs cs) k h vs → IsTale bounds (learned (ended t k h) vs cs)
+  pub ends_late : (t : Tale) (k : ℕ) (h : How) (vs cs : List Interruption) → IsTale bounds t → t.ceased ≡ true → IsOpen t k → TellsEnd bounds (learned (ended_late t k h) vs cs) k h vs → IsTale bounds (learned (ended_late t k h) vs cs)
+  pub outer_ends : (t : Tale) (h : How) (vs cs : List Interruption) → IsTale bounds t → t.outer ≡ None → TellsOuter bounds (learned (outer_ended t h) vs cs) h vs → IsTale bounds (learned (outer_ended t h) vs cs)
 
 -- a code that was set or found for its cause
-pub record IsMarked (work : Work) (t : Tale) (context : ℕ) (vs : List Interruption) : Type 0 where
-  pub caused : AreCaused work t vs
+pub record IsMarked (bounds : Bounds) (t : Tale) (context : ℕ) (vs : List Interruption) : Type 0 where
+  pub caused : AreCaused bounds t vs
   pub known : IsKnown t context
 
 -- what is marked is known, and caused
-abbrev pub MarksAreKnown : Work → Type 0
-MarksAreKnown work = (t : Tale) (context : ℕ) (w : Why) (vs cs : List Interruption) → Marks context w vs cs → IsCaused work (learned t vs cs) context w → IsMarked work (learned t vs cs) context vs
+abbrev pub MarksAreKnown : Bounds → Type 0
+MarksAreKnown bounds = (t : Tale) (context : ℕ) (w : Why) (vs cs : List Interruption) → Marks context w vs cs → IsCaused bounds (learned t vs cs) context w → IsMarked bounds (learned t vs cs) context vs

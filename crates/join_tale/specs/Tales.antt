@@ -9,9 +9,8 @@ use Rattle.interrupt_ctx.specs.Views.{interruption}
 use Rattle.interrupt_ctx.specs.declared.view.Interruption.{Interruption}
 use Rattle.interrupt_ctx.specs.declared.why.Why.{Why}
 use Rattle.interrupt_ctx.specs.declared.why.Why.TheVariants as why
-use Rattle.res_ledger.specs.declared.event.StreamNo.TheVariants.{Inner}
 use Rattle.run_rules.specs.Facts.{at}
-use Rattle.run_rules.specs.Work.{Work, most_of, until_by}
+use Rattle.join_tale.specs.Bounds.{Bounds}
 
 -- what a stream sends: a load, or how it ended
 pub data Body : Type 0 where
@@ -88,8 +87,8 @@ abbrev pub IsOpen : Tale → ℕ → Type 0
 IsOpen t k = IsBegun t k × ¬ (HasCome t k)
 
 -- as many frames were printed as may be
-abbrev pub HasMet : Work → Tale → Type 0
-HasMet work t = most_of work ≡ Some (length (frames_of t.front))
+abbrev pub HasMet : Bounds → Tale → Type 0
+HasMet bounds t = bounds.most ≡ Some (length (frames_of t.front))
 
 -- a stream failed, or the outer one
 abbrev pub HasFailed : Tale → Type 0
@@ -106,13 +105,13 @@ abbrev pub IsKnown : Tale → ℕ → Type 0
 IsKnown t context = IsSet t context ⊎ IsFoundSet t context
 
 -- why a context is set
-abbrev pub IsCaused : Work → Tale → ℕ → Why → Type 0
-IsCaused work t context why.Take = (context ≡ 0) × HasMet work t
-IsCaused work t context why.Until = (k j : ℕ) × (context ≡ suc k) × (until_by work (Inner k) ≡ Some j) × HasCome t j
-IsCaused work t context why.Sink = (context ≡ 0) × (is_some t.cut ≡ true)
-IsCaused work t context why.Memory = (context ≡ 0) × (t.memory ≡ true)
-IsCaused work t context why.Fault = (context ≡ 0) × HasFailed t
+abbrev pub IsCaused : Bounds → Tale → ℕ → Why → Type 0
+IsCaused bounds t context why.Take = (context ≡ 0) × HasMet bounds t
+IsCaused bounds t context why.Until = (k j : ℕ) × (context ≡ suc k) × (bounds.until k ≡ Some j) × HasCome t j
+IsCaused bounds t context why.Sink = (context ≡ 0) × (is_some t.cut ≡ true)
+IsCaused bounds t context why.Memory = (context ≡ 0) × (t.memory ≡ true)
+IsCaused bounds t context why.Fault = (context ≡ 0) × HasFailed t
 
 -- each of these was set for its cause
-abbrev pub AreCaused : Work → Tale → List Interruption → Type 0
-AreCaused work t xs = (context : ℕ) (w : Why) → IsAmong (interruption context w) xs → IsCaused work t context w
+abbrev pub AreCaused : Bounds → Tale → List Interruption → Type 0
+AreCaused bounds t xs = (context : ℕ) (w : Why) → IsAmong (interruption context w) xs → IsCaused bounds t context w

@@ -4,10 +4,10 @@ use Rattle.chunk_core.specs.declared.code.Code.TheVariants as code
 use Rattle.chunk_core.specs.declared.code.How.TheVariants as how
 use Rattle.interrupt_ctx.specs.Views.{interruption}
 use Rattle.interrupt_ctx.specs.declared.why.Why.TheVariants as why
-use Rattle.run_rules.specs.Work.{Opener, Stream, Work}
+use Rattle.run_rules.specs.Work.{Opener, Stream}
+use Rattle.join_tale.specs.Bounds.{Bounds, bounds_of}
 use Rattle.join_tale.specs.Ended.{Ended}
 use Rattle.join_tale.specs.Keeping.{IsTale}
-use Rattle.join_tale.specs.Records.{bare}
 use Rattle.join_tale.specs.Steps.{first_tale}
 use Rattle.join_tale.specs.Tales.{Fate, Message, Tale, end_of, load_of}
 use Rattle.join_tale.specs.Tales.Fate.{Begun, Skipped}
@@ -17,18 +17,18 @@ abbrev pub one_stream : Stream
 one_stream = record { places = []; scopes = 1; until = None }
 
 abbrev pub two_frames : Opener
-two_frames = record { tables = []; fault_of = λ bytes. None; value_of = λ bytes key. None; scopes = 1; max_open = 1; most = Some 2 }
+two_frames = record { tables = []; groups = []; list = None; fault_of = λ bytes. None; value_of = λ bytes key. None; max_open = 1; most = Some 2 }
 
-abbrev pub two_streams : Work
-two_streams = bare (Some two_frames) (one_stream ∷ one_stream ∷ [])
+abbrev pub two_streams : Bounds
+two_streams = bounds_of two_frames (one_stream ∷ one_stream ∷ [])
 
 -- two streams that may be open at once, and two frames at most
-abbrev pub wide_streams : Work
-wide_streams = bare (Some (record two_frames { max_open = 2 })) (one_stream ∷ one_stream ∷ [])
+abbrev pub wide_streams : Bounds
+wide_streams = bounds_of (record two_frames { max_open = 2 }) (one_stream ∷ one_stream ∷ [])
 
 -- two streams, of which one is open at a time, any number of frames, and the end of the second stops the first
-abbrev pub stopped_streams : Work
-stopped_streams = bare (Some (record two_frames { most = None })) (record one_stream { until = Some 1 } ∷ one_stream ∷ [])
+abbrev pub stopped_streams : Bounds
+stopped_streams = bounds_of (record two_frames { most = None }) (record one_stream { until = Some 1 } ∷ one_stream ∷ [])
 
 -- stream 0 gave A and was done; stream 1 gave B, the last frame, and then C, which came too late, and was done; the outer stream found the code
 abbrev pub worked_tale : Tale

@@ -1,13 +1,12 @@
 -- Child scopes of the root are opened and closed.
-use Rattle.std.proofs.Common.{◌≡◌, ◌≢◌, ℕ, zero, suc, ◌+◌, ◌<◌, ◌≤◌, ◌⊎◌, Bool, true, false, List, [], ◌∷◌, ◌++◌, None, length, inl, inr, refl, sym, ap, ◌∙◌, subst, ⊎_elim, arith}
+use Rattle.std.proofs.Common.{◌≡◌, ℕ, zero, suc, ◌+◌, ◌<◌, ◌≤◌, ◌⊎◌, Bool, true, false, List, [], ◌∷◌, None, length, inl, inr, refl, sym, ap, ◌∙◌, subst, ⊎_elim, arith}
 use Rattle.chunk_core.specs.declared.code.Exit.{Exit}
 use Rattle.chunk_core.specs.Lists.{IsAmong}
 use Rattle.chunk_core.specs.Lists.IsAmong.{here}
 use Rattle.chunk_core.proofs.Members.{among_cons, among_left, among_nil, among_snoc}
 use Rattle.res_ledger.specs.declared.event.Event.{Event}
-use Rattle.res_ledger.specs.declared.event.What.{What}
 use Rattle.res_ledger.specs.declared.event.What.TheVariants.{Acquire, Close, Open}
-use Rattle.res_ledger.specs.Ledger.{IsClosed, LiesWithin, Notes}
+use Rattle.res_ledger.specs.Ledger.{LiesWithin, Notes}
 use Rattle.res_ledger.specs.Ledger.LiesWithin.{same, below}
 use Rattle.res_ledger.specs.Own.{leased_of, opens, rows}
 use Rattle.scope_tree.specs.declared.branch.AcquiredRow.{AcquiredRow}
@@ -24,7 +23,6 @@ use Rattle.scope_tree.specs.Trace.{closing as closing_event, numbers, opening as
 use Rattle.scope_tree.proofs.Beneath.{noted_scope}
 use Rattle.scope_tree.proofs.Follows.{is_end}
 use Rattle.scope_tree.proofs.Use.{close_follows, first_is}
-use Rattle.tree_laws.specs.Alone.{StaysAlone}
 use Rattle.tree_laws.specs.Called.{Called, MayOpen}
 use Rattle.tree_laws.specs.Called.Called.{none, opened}
 use Rattle.tree_laws.proofs.Kept.{lent_stays}

@@ -1,28 +1,12 @@
 -- In which order streams leave.
-use Rattle.std.proofs.Common.{◌≡◌, ℕ, ◌<◌, Bool, true, false, List, [], ◌∷◌, ◌++◌, length, length-append, refl, sym, ap, ◌∙◌, subst, ⊎_elim, append_assoc, arith}
-use Rattle.chunk_core.specs.declared.code.Exit.{Exit}
-use Rattle.chunk_core.specs.declared.code.Exit.TheVariants.{Succeeded}
+use Rattle.std.proofs.Common.{◌≡◌, ◌<◌, List, ◌∷◌, ◌++◌, length, length-append, sym, ap, ◌∙◌, subst, ⊎_elim, append_assoc, arith}
 use Rattle.chunk_core.specs.Lists.{IsAmong}
 use Rattle.chunk_core.proofs.Cuts.{among_parts}
 use Rattle.chunk_core.proofs.Filters.{among_append}
-use Rattle.chunk_core.proofs.Members.{among_cons, among_last, among_left, among_mid, among_nil}
+use Rattle.chunk_core.proofs.Members.{among_cons, among_mid}
 use Rattle.res_ledger.specs.declared.event.Event.{Event}
-use Rattle.res_ledger.specs.declared.event.StreamNo.{StreamNo}
 use Rattle.res_ledger.specs.declared.event.StreamNo.TheVariants.{Inner, Outer}
-use Rattle.res_ledger.specs.declared.event.What.{What}
-use Rattle.res_ledger.specs.declared.event.What.TheVariants.{Acquire, Cancel, Close, Lease, Open}
-use Rattle.res_ledger.specs.Ledger.{IsClosed, IsStamped, Notes, NotesClose}
-use Rattle.res_ledger.specs.Order.{finals}
-use Rattle.res_ledger.specs.Own.{own}
-use Rattle.scope_tree.specs.Calls.{Seen}
-use Rattle.scope_tree.specs.Released.{said}
-use Rattle.scope_tree.specs.Trace.{canceling, trace}
-use Rattle.scope_tree.proofs.Bridge.{noted_in, within_cases}
-use Rattle.scope_tree.proofs.Follows.{is_end}
-use Rattle.scope_tree.proofs.Parting.{join_trace}
-use Rattle.scope_tree.proofs.Use.{acquired_said, cancel_follows, closed_said, leased_said, opened_said}
-use Rattle.tree_laws.specs.Called.{Called}
-use Rattle.tree_laws.specs.Called.Called.{none, opened, acquired, written, leased, cancelled, closed, split, taken_in}
+use Rattle.res_ledger.specs.Ledger.{IsStamped}
 use Rattle.join_tree.specs.Laws.{StreamsLeaveLast}
 
 -- what has a lesser stamp than the event behind P stands in P

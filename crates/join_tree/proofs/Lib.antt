@@ -1,3 +1,4 @@
+pub mod Given
 pub mod Queue
 pub mod Telling
 pub mod Ending

@@ -16,6 +16,7 @@ use Rattle.scope_tree.specs.Released.Holder.{owner, lease}
 use Rattle.scope_tree.specs.Released.Released.{done, stays, ends_so}
 use Rattle.scope_tree.specs.Rows.{Once}
 use Rattle.scope_tree.proofs.Follows.{go_follows, let_go}
+use Rattle.scope_tree.proofs.Lessee.{lease_opened}
 use Rattle.scope_tree.proofs.Lists.{keep_row}
 use Rattle.scope_tree.proofs.Once.{once_pay}
 use Rattle.join_tree.specs.Steps.{KeepsRows}
@@ -65,6 +66,13 @@ module _ {P : Type 0} {ends : P → Exit → Bool → P → Type 0} where
   pub cancel_pays : (b c : Seen P) (j : ℕ) (T : List ℕ) (x : Exit) → Once b.seat.opened → Cancels ends b j T x c → KeepsRows b.seat c.seat
   cancel_pays b c j T x once o = let k = released_pays o.left.2 once in record { noted = λ e m. k.noted e (among_left _ m); left = k.left; given = k.given; opened = k.opened }
 
+  -- a lease that is given back leaves each row open that was
+  pub cancel_opened : (b c : Seen P) (j : ℕ) (T : List ℕ) (x : Exit) → Cancels ends b j T x c → c.seat.opened ≡ b.seat.opened
+  cancel_opened b c j T x o = lease_opened o.left.2
+
 module _ {P : Type 0} where
   pub lease_pays : (b c : Seen P) (s j : ℕ) (T : List ℕ) → Leases b s j T c → KeepsRows b.seat c.seat
   lease_pays b c s j T o = pays_same b.seat c.seat (λ e m. subst (λ xs. IsAmong e xs) (sym (ap (λ u. u.events) o.seat)) (among_left _ m)) (ap (λ u. u.opened) o.seat) (ap (λ u. u.left) o.seat) (ap (λ u. u.given) o.seat)
+
+  pub leases_opened : (b c : Seen P) (s j : ℕ) (T : List ℕ) → Leases b s j T c → c.seat.opened ≡ b.seat.opened
+  leases_opened b c s j T o = ap (λ u. u.opened) o.seat

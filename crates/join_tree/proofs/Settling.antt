@@ -1,5 +1,5 @@
 -- What the ledger of a main tree tells.
-use Rattle.std.proofs.Common.{arith, ◌≡◌, ◌+◌, ◌≤◌, ◌↔◌, Bool, List, length, map, inl, inr, sym, ap, ◌∙◌, subst, ⊎_elim}
+use Rattle.std.proofs.Common.{arith, ◌≡◌, ◌+◌, ◌≤◌, ◌↔◌, Bool, List, filter, length, map, inl, inr, sym, ap, ◌∙◌, subst, ⊎_elim}
 use Rattle.chunk_core.specs.declared.code.Exit.{Exit}
 use Rattle.chunk_core.specs.Lists.{IsAmong}
 use Rattle.chunk_core.proofs.Members.{among_nil}
@@ -20,6 +20,7 @@ use Rattle.tree_laws.proofs.Room.{called_room}
 use Rattle.tree_laws.proofs.Said.{called_said}
 use Rattle.tree_families.proofs.Families.{family_whole}
 use Rattle.tree_families.proofs.Pacing.{family_ahead, family_begins, family_within}
+use Rattle.run_rules.specs.Giving.{is_giving}
 use Rattle.join_tree.specs.Laws.{MainMayFinish, MainSettles}
 use Rattle.join_tree.specs.Mains.{IsRoot, Waits}
 use Rattle.join_tree.specs.Progress.{Progress}
@@ -80,6 +81,7 @@ module _ {P : Type 0} {ends : P → Exit → Bool → P → Type 0} where
         covers = leases_cover p L ledger.stamped told gives ledger.legal;
         told = told;
         scopes = subst (λ E. length (opens E) + 1 ≤ b.scopes) (sym mine) (called_room h.family.start h.room h.family.calls).0;
+        gave = ap (filter is_giving) mine;
         names = λ e m. ⊎_elim
             (λ o. inl o)
             (λ y.

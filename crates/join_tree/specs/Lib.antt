@@ -1,4 +1,5 @@
 pub mod Progress
+pub mod Given
 pub mod Notes
 pub mod Mains
 pub mod Guests

@@ -14,6 +14,8 @@ use Rattle.scope_tree.specs.Released.{said}
 use Rattle.tree_families.specs.Families.{Split}
 use Rattle.tree_laws.specs.Ends.{IsFinishedLedger}
 use Rattle.tree_laws.specs.Whole.{IsWholeLedger}
+use Rattle.run_rules.specs.Giving.{givings}
+use Rattle.join_tree.specs.Given.{given}
 use Rattle.join_tree.specs.Progress.{Progress}
 use Rattle.join_tree.specs.Notes.{IsTold}
 
@@ -29,6 +31,8 @@ pub record Settles {P : Type 0} (width n : ℕ) (b : Seen P) (p : Progress P) (L
   -- what its events tell; the outer stream opened no more scopes than it had room for
   pub told : IsTold p L
   pub scopes : length (opens (own Outer L)) + 1 ≤ b.scopes
+  -- and what it noted as it gave streams
+  pub gave : givings L ≡ given b.seat
   -- each event is the outer stream's or one of the n's
   pub names : (e : Event) → IsAmong e L → (e.by ≡ Outer) ⊎ ((j : ℕ) × (j < n) × (e.by ≡ Inner j))
   -- the streams that were leased for are among the n, and those that were dealt with among these

@@ -9,6 +9,7 @@ ghost use Rattle.scope_tree.specs.Trace.{owed};
 ghost use Rattle.tree_laws.specs.Visits.{HasNothingOpen, IsNewGuest, Visits};
 ghost use Rattle.tree_families.specs.Families.{Split};
 ghost use Rattle.join_tree.specs.Guests.{AreOut, Guest, IsOut, IsReady};
+ghost use Rattle.join_tree.specs.Given.{GivesMore};
 ghost use Rattle.join_tree.specs.Mains.{IsMain};
 ghost use Rattle.join_tree.specs.Progress.{Progress, joining, splitting};
 ghost use Rattle.join_tree.specs.Steps.{guest_of};
@@ -42,6 +43,7 @@ where
     ensures out { (width n : ℕ) (p : Progress S.Pay) (T : List ℕ) (us : List (ℕ × List ℕ)) (gs : List Guest) → IsMain S.Pay.ends width n (seen S.view tree.old) p → p.waits ≡ (stream, T) ∷ us → AreOut (seen S.view tree.old) p.splits gs → IfOk result (λ s. AreOut (seen S.view tree.new) (splitting p (seen S.view tree.old).seat stream us).splits (gs ++ guest_of (seen S.view tree.old).seat stream T ∷ [])) }
     ensures seen { IfOk result (λ s. seen S.view tree.new ≡ record (seen S.view tree.old) { seat = split_main (seen S.view tree.old).seat stream rows.from rows.to events }) }
     ensures owed { owed (seen S.view tree.new).seat ≡ owed (seen S.view tree.old).seat }
+    ensures gives { GivesMore [] (seen S.view tree.old) (seen S.view tree.new) }
     ensures scopes { KeepsScopes (seen S.view tree.old) (seen S.view tree.new) }
     ensures room { TakesRoom 0 0 (seen S.view tree.old) (seen S.view tree.new) }
     ensures err { IfErr result (λ e. seen S.view tree.new ≡ seen S.view tree.old) }
@@ -63,6 +65,7 @@ where
     ensures out { (ms : List Split) (g : Guest) (gs : List Guest) (y : Seen S.Pay) → AreOut (seen S.view tree.old) ms (g ∷ gs) → Visits S.Pay.ends g.stream g.floor g.rows y → S.view seat ≡ y.seat → AreOut (seen S.view tree.new) ms gs }
     ensures seen { seen S.view tree.new ≡ record (seen S.view tree.old) { seat = joined (seen S.view tree.old).seat (S.view seat) } }
     ensures owed { owed (seen S.view tree.new).seat ≡ owed (seen S.view tree.old).seat }
+    ensures gives { GivesMore [] (seen S.view tree.old) (seen S.view tree.new) }
     ensures scopes { KeepsScopes (seen S.view tree.old) (seen S.view tree.new) }
     ensures room { TakesRoom 0 0 (seen S.view tree.old) (seen S.view tree.new) }
     ensures fits { Fits S.view S.fits tree.new desk.new }

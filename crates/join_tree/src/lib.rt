@@ -17,7 +17,8 @@
 //! is pulled while the seats that are out and the leases that wait are as many as the width at most. So
 //! the finished ledger is in pace: the outer stream acquires its rows in their order, leases the root
 //! for the streams in theirs once its rows are acquired, and of its leases at most the width and one
-//! more stand at once (`GivesInPace`). What the ledger tells is `Settles`.
+//! more stand at once (`GivesInPace`). Each call also tells exactly what it noted of child scopes, rows
+//! and leases (`GivesMore`). What the ledger tells is `Settles`.
 //!
 //! Here one stream is given, and never begun; the caller's contract has `IsMain` before and behind it:
 //!

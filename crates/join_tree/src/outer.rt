@@ -1,16 +1,17 @@
 //! What the outer stream does: it begins, is pulled, and ends.
-ghost use Rattle.std.specs.Prelude.{◌≡◌, ℕ, ◌+◌, ◌<◌, ◌≤◌, ◌∷◌, [], length, List, Some, None};
+ghost use Rattle.std.specs.Prelude.{◌≡◌, ℕ, ◌+◌, ◌<◌, ◌≤◌, ◌∷◌, [], length, List, Some, None, IfOk};
 ghost use Rattle.chunk_core.specs.declared.code.Exit.{Exit};
 ghost use Rattle.chunk_core.specs.declared.code.Exit.TheVariants.{Succeeded};
 ghost use Rattle.res_ledger.specs.declared.event.StreamNo.TheVariants.{Outer};
 ghost use Rattle.row_seat.specs.Views.{OthersFit, start};
-ghost use Rattle.res_ledger.specs.declared.event.What.TheVariants.{Close, Open};
+ghost use Rattle.res_ledger.specs.declared.event.What.TheVariants.{Close, Lease as lease_note, Open};
 ghost use Rattle.res_ledger.specs.Own.{opens};
 ghost use Rattle.scope_tree.specs.Calls.{IsOpenScope, KeepsScopes, Seen, TakesRoom, used};
 ghost use Rattle.scope_tree.specs.Released.{away};
 ghost use Rattle.scope_tree.specs.Trees.{Fits, seen};
 ghost use Rattle.scope_tree.specs.Trace.{owed, trace};
 ghost use Rattle.scope_tree.specs.Visible.{lessee, row_room, rows_covered, scope_room};
+ghost use Rattle.join_tree.specs.Given.{GivesMore, given, pulled};
 ghost use Rattle.join_tree.specs.Mains.{IsMain};
 ghost use Rattle.join_tree.specs.Progress.{Progress, closing_root, none_done, reading, skipping};
 ghost use Rattle.join_tree.specs.Steps.{KeepsGuests, KeepsRows, LeasesNext, Pulls, TakesEvents};
@@ -30,6 +31,7 @@ where
     ensures room { ((seen S.view result).scopes ≡ scope_room room) × ((seen S.view result).rows ≡ row_room room) }
     ensures used { used (seen S.view result) ≡ 0 }
     ensures owed { owed (seen S.view result).seat ≡ 1 }
+    ensures gives { given (seen S.view result).seat ≡ [] }
     ensures fits { (d : S.Desk) → S.fits seat d → Fits S.view S.fits result d }
 {
     Tree::new(seat, room)
@@ -44,6 +46,8 @@ where
     requires room { length (opens (trace (seen S.view tree.old).seat)) + 1 < (seen S.view tree.old).scopes }
     requires free { owed (seen S.view tree.old).seat + 2 ≤ (seen S.view tree.old).seat.spare }
     ensures main { (width n : ℕ) (p : Progress S.Pay) → IsMain S.Pay.ends width n (seen S.view tree.old) p → p.root ≡ None → IsMain S.Pay.ends width n (seen S.view tree.new) (reading p (Open result 0 ∷ [])) }
+    ensures number { result ≡ length (opens (trace (seen S.view tree.old).seat)) + 1 }
+    ensures gives { GivesMore (Open result 0 ∷ []) (seen S.view tree.old) (seen S.view tree.new) }
     ensures child { (1 ≤ result) × IsOpenScope (seen S.view tree.new) result }
     ensures scopes { KeepsScopes (seen S.view tree.old) (seen S.view tree.new) }
     ensures guests { KeepsGuests (seen S.view tree.old) (seen S.view tree.new) }
@@ -64,6 +68,7 @@ where
     requires main { (width n : ℕ) × (p : Progress S.Pay) × IsMain S.Pay.ends width n (seen S.view tree.old) p × (p.root ≡ None) }
     requires child { (1 ≤ scope) × IsOpenScope (seen S.view tree.old) scope }
     ensures main { (width n : ℕ) (p : Progress S.Pay) → IsMain S.Pay.ends width n (seen S.view tree.old) p → p.root ≡ None → IsMain S.Pay.ends width n (seen S.view tree.new) (reading p (Close scope Succeeded ∷ [])) }
+    ensures gives { GivesMore (Close scope Succeeded ∷ []) (seen S.view tree.old) (seen S.view tree.new) }
     ensures guests { KeepsGuests (seen S.view tree.old) (seen S.view tree.new) }
     ensures rows { KeepsRows (seen S.view tree.old).seat (seen S.view tree.new).seat }
     ensures events { TakesEvents 0 (seen S.view tree.old) (seen S.view tree.new) }
@@ -90,9 +95,11 @@ where
     requires scope { IsOpenScope (seen S.view tree.old) scope }
     requires free { owed (seen S.view tree.old).seat + 2 ≤ (seen S.view tree.old).seat.spare }
     ensures leases { (width n : ℕ) (p : Progress S.Pay) → IsMain S.Pay.ends width n (seen S.view tree.old) p → p.root ≡ None → p.leased ≡ stream → p.leased < n → length (seen S.view tree.old).seat.out + length p.waits ≤ width → LeasesNext S.Pay.ends width n (seen S.view tree.old) (seen S.view tree.new) p scope result }
+    ensures gives { IfOk result (λ l. GivesMore (lease_note stream scope ∷ []) (seen S.view tree.old) (seen S.view tree.new)) }
     ensures scopes { KeepsScopes (seen S.view tree.old) (seen S.view tree.new) }
     ensures guests { KeepsGuests (seen S.view tree.old) (seen S.view tree.new) }
     ensures rows { KeepsRows (seen S.view tree.old).seat (seen S.view tree.new).seat }
+    ensures opened { (seen S.view tree.new).seat.opened ≡ (seen S.view tree.old).seat.opened }
     ensures events { TakesEvents 1 (seen S.view tree.old) (seen S.view tree.new) }
     ensures room { TakesRoom 0 0 (seen S.view tree.old) (seen S.view tree.new) }
     ensures fits { Fits S.view S.fits tree.new desk.new }
@@ -118,6 +125,7 @@ where
     requires main { (width : ℕ) × (p : Progress S.Pay) × IsMain S.Pay.ends width streams (seen S.view tree.old) p × (p.root ≡ None) × (p.leased ≡ leased) }
     requires free { leased < streams → owed (seen S.view tree.old).seat + 2 ≤ (seen S.view tree.old).seat.spare }
     ensures pulls { (width : ℕ) (p : Progress S.Pay) → IsMain S.Pay.ends width streams (seen S.view tree.old) p → p.root ≡ None → p.leased ≡ leased → length (seen S.view tree.old).seat.out + length p.waits ≤ width → Pulls S.Pay.ends width streams (seen S.view tree.old) (seen S.view tree.new) p result }
+    ensures gives { IfOk result (λ o. GivesMore (pulled leased o) (seen S.view tree.old) (seen S.view tree.new)) }
     ensures guests { KeepsGuests (seen S.view tree.old) (seen S.view tree.new) }
     ensures rows { KeepsRows (seen S.view tree.old).seat (seen S.view tree.new).seat }
     ensures events { TakesEvents 1 (seen S.view tree.old) (seen S.view tree.new) }
@@ -141,8 +149,10 @@ where
     requires main { (width n : ℕ) × (p : Progress S.Pay) × (us : List (ℕ × List ℕ)) × IsMain S.Pay.ends width n (seen S.view tree.old) p × (p.waits ≡ (lessee lease, rows_covered lease) ∷ us) }
     requires free { owed (seen S.view tree.old).seat + 1 + away (rows_covered lease) (seen S.view tree.old).seat.opened ≤ (seen S.view tree.old).seat.spare }
     ensures main { (width n : ℕ) (p : Progress S.Pay) (us : List (ℕ × List ℕ)) → IsMain S.Pay.ends width n (seen S.view tree.old) p → p.waits ≡ (lessee lease, rows_covered lease) ∷ us → IsMain S.Pay.ends width n (seen S.view tree.new) (skipping p us) }
+    ensures gives { GivesMore [] (seen S.view tree.old) (seen S.view tree.new) }
     ensures guests { KeepsGuests (seen S.view tree.old) (seen S.view tree.new) }
     ensures rows { KeepsRows (seen S.view tree.old).seat (seen S.view tree.new).seat }
+    ensures opened { (seen S.view tree.new).seat.opened ≡ (seen S.view tree.old).seat.opened }
     ensures scopes { KeepsScopes (seen S.view tree.old) (seen S.view tree.new) }
     ensures room { TakesRoom 0 0 (seen S.view tree.old) (seen S.view tree.new) }
     ensures events { TakesEvents (1 + away (rows_covered lease) (seen S.view tree.old).seat.opened) (seen S.view tree.old) (seen S.view tree.new) }
@@ -159,6 +169,7 @@ where
     requires fits { Fits S.view S.fits tree.old desk.old }
     requires main { (width n : ℕ) × (p : Progress S.Pay) × IsMain S.Pay.ends width n (seen S.view tree.old) p × (p.root ≡ None) }
     ensures main { (width n : ℕ) (p : Progress S.Pay) → IsMain S.Pay.ends width n (seen S.view tree.old) p → p.root ≡ None → IsMain S.Pay.ends width n (seen S.view tree.new) (closing_root p exit) }
+    ensures gives { GivesMore [] (seen S.view tree.old) (seen S.view tree.new) }
     ensures guests { KeepsGuests (seen S.view tree.old) (seen S.view tree.new) }
     ensures rows { KeepsRows (seen S.view tree.old).seat (seen S.view tree.new).seat }
     ensures events { TakesEvents 0 (seen S.view tree.old) (seen S.view tree.new) }

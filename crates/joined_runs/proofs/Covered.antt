@@ -5,13 +5,14 @@ use Rattle.chunk_core.specs.Outcomes.{End, Cut, Done, Fault, Outcomes}
 use Rattle.chunk_core.specs.Tables.{Values}
 use Rattle.chunk_core.specs.declared.code.Code.{Code}
 use Rattle.device_port.specs.Device.{DeviceTold, faults_of}
+use Rattle.pull_nodes.specs.Plain.{IsFront}
 use Rattle.run_rules.specs.Ends.{act_count}
 use Rattle.run_rules.specs.Facts.{at}
 use Rattle.run_rules.specs.Homes.{IsUntouched}
 use Rattle.run_rules.specs.Opening.{IsTableFault}
 use Rattle.run_rules.specs.Wholeness.{AreUnfailed}
 use Rattle.join_tale.specs.Records.{bare}
-use Rattle.run_rules.specs.Work.{Opener, Stream, first_row_of}
+use Rattle.run_rules.specs.Work.{Opener, Stream, first_row_of, list_row}
 
 -- Stream k, which has these rows, may be left before it did anything, and wherever it goes on. A fault of it has a device of its rows that shows it; and where nothing failed it is done, and
 -- what it gave is an ideal run.
@@ -22,6 +23,17 @@ pub record IsCovered (runs ideal : ℕ → Values → (ℕ → DeviceTold) → O
   pub whole : (ys : List Element) (e : End) → runs k values home ys e → e ≢ Cut → ((r : ℕ) → from ≤ r → r < to → faults_of (home r) ≡ 0)
       → ((u : ℕ → DeviceTold) (zs : List Element) (g : End) → AreUnfailed u home → ideal k values u zs g → g ≡ Done)
       → (e ≡ Done) × ((zs : List Element) × ideal k values home zs Done × (rendering_of ys ≡ rendering_of zs))
+
+-- What the list may give, which has this device. A fault of it shows on the device; and where nothing failed there, what it gave and ended by itself is what it gives where nothing is left,
+-- and else a front of that.
+pub record IsListCovered (listing ideal : DeviceTold → Outcomes) (d : DeviceTold) : Type 0 where
+  pub shown : (ys : List Element) (c : Code) → listing d ys (Fault c) → IfSome (act_count c) (λ n. 0 < n d)
+  pub whole : (ys : List Element) (e : End) → listing d ys e → e ≢ Cut → faults_of d ≡ 0 → ideal d ys e
+  pub front : (ys : List Element) (e : End) → listing d ys e → faults_of d ≡ 0 → (zs : List Element) × (g : End) × ideal d zs g × IsFront ys zs
+
+-- so is the list, where there is one
+abbrev pub CoversList : Opener → (DeviceTold → Outcomes) → (DeviceTold → Outcomes) → (ℕ → DeviceTold) → Type 0
+CoversList opener listing ideal home = IfSome opener.list (λ l. IsListCovered listing ideal (home (list_row opener)))
 
 -- what a table holds is refused for what it holds
 abbrev pub RefusesTables : Opener → Type 0

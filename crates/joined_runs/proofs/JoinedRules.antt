@@ -1,5 +1,5 @@
 -- The rules of a ledger that an outer stream and the streams that it gives share.
-use Rattle.std.proofs.Common.{◌≡◌, ℕ, zero, suc, ◌+◌, ◌<◌, ◌≤◌, Bool, nat_eq, if◌then◌else◌, List, [], ◌∷◌, ◌++◌, map, flat_map, length, Option, Some, None, refl, sym, ◌∙◌, ap, subst, ⊎_elim, arith, length-append}
+use Rattle.std.proofs.Common.{◌≡◌, ℕ, zero, suc, ◌+◌, ◌<◌, ◌≤◌, Bool, nat_eq, List, [], ◌∷◌, ◌++◌, map, flat_map, length, Option, Some, None, refl, sym, ◌∙◌, ap, subst, ⊎_elim, arith, length-append}
 use Rattle.std.proofs.lemmas.Bool.{cases_lt}
 use Rattle.std.specs.List.{AllByRecursion}
 use Rattle.chunk_core.specs.Lists.{IsAmong}
@@ -12,30 +12,30 @@ use Rattle.chunk_core.proofs.Members.{among_mid}
 use Rattle.res_ledger.specs.declared.event.StreamNo.{StreamNo}
 use Rattle.res_ledger.specs.declared.event.StreamNo.TheVariants.{Inner, Outer}
 use Rattle.res_ledger.specs.declared.event.What.{What}
-use Rattle.res_ledger.specs.declared.event.What.TheVariants.{Acquire, Cancel, Close, Final, Lease}
+use Rattle.res_ledger.specs.declared.event.What.TheVariants.{Acquire, Cancel, Final, Lease}
 use Rattle.res_ledger.specs.declared.event.Event.{Event}
 use Rattle.res_ledger.specs.Ledger.{IsAcquired, Notes}
-use Rattle.res_ledger.specs.Own.{opens, opens_of, own}
-use Rattle.res_ledger.specs.Streams.{same_stream}
+use Rattle.res_ledger.specs.Own.{opens, own}
 use Rattle.res_ledger.proofs.Prefixes.{split_append, split_at}
 use Rattle.device_port.specs.Device.{DeviceTold}
 use Rattle.run_rules.specs.Facts.{at, leased_stream}
 use Rattle.run_rules.specs.Rules.{ClosesBeforeLeaving, HaveScopes, IsOurs, KeepsRules}
-use Rattle.run_rules.specs.Work.{Opener, Stream, Values, Work, names_from, names_of, owners_from, owners_of, scopes_by}
+use Rattle.run_rules.specs.Work.{Opener, Stream, Values, Work, names_from, names_of, opener_places, owners_from, owners_of, scopes_by}
 use Rattle.plan_work.specs.Joined.{joined, places_in}
 use Rattle.joined_runs.specs.Shares.{AreTablesKept, ClosesRootBelow, IsJoinedLedger, IsOuterNote}
+use Rattle.joined_runs.proofs.Lending.{few_opened, lends}
 use Rattle.joined_runs.proofs.MadeRows.{at_some}
 use Rattle.joined_runs.proofs.RowAccounts.{AreRowsKept}
 use Rattle.joined_runs.proofs.RowPlaces.{owner_left}
 
--- whose the rows are: those of the tables come first
+-- whose the rows are: those of the outer stream come first
 abbrev pub owners_in : Opener → List Stream → List StreamNo
-owners_in opener streams = map (λ p. Outer) opener.tables ++ owners_from 0 streams
+owners_in opener streams = map (λ p. Outer) (opener_places opener) ++ owners_from 0 streams
 
 -- what the streams noted, each of rows of its own, and of rows of tables that it was the last to leave
 pub record AreSharesKept (opener : Opener) (streams : List Stream) (w : ℕ → DeviceTold) (L : List Event) : Type 0 where
   pub acquired : (k r s : ℕ) → k < length streams → Notes L (Inner k) (Acquire r s) → (r < length (places_in opener streams)) × ((w r).opens ≡ 1) × (at (owners_in opener streams) r ≡ Some (Inner k))
-  pub each : (r : ℕ) → length opener.tables ≤ r → r < length (places_in opener streams) → (w r).opens ≡ 1 → IsAcquired L r
+  pub each : (r : ℕ) → length (opener_places opener) ≤ r → r < length (places_in opener streams) → (w r).opens ≡ 1 → IsAcquired L r
   pub ended : (k r : ℕ) (x : Exit) (ok : Bool) → k < length streams → Notes L (Inner k) (Final r x ok) → ((w r).exit ≡ Some x) × (ok ≡ nat_eq (w r).close_faults 0)
   pub leases : (k : ℕ) (e : Event) → k < length streams → IsAmong e L → e.by ≡ Inner k → leased_stream e.what ≡ None
   pub opened : (k : ℕ) (s : Stream) → at streams k ≡ Some s → length (opens (own (Inner k) L)) ≤ s.scopes
@@ -64,28 +64,10 @@ not_outer k e = cc
 pub none_leased : (v : What) (j s : ℕ) → leased_stream v ≡ None → v ≡ Lease j s → ⊥
 none_leased v j s none is = let x : Some j ≡ None = ap leased_stream (sym is) ∙ none in cc
 
-module _ (t n : ℕ) (how : How) where
-  opens_none : (v : What) → IsOuterNote t n how v → opens_of v ≡ []
-  opens_none (Acquire r s) h = refl
-  opens_none (Final r x ok) h = refl
-  opens_none (Lease j s) h = refl
-  opens_none (Close s x) h = refl
-  opens_none (Cancel j x) h = refl
-  opens_none v h = absurd h
-
-  no_opens : (M : List Event) → ((e : Event) → IsAmong e M → e.by ≡ Outer → IsOuterNote t n how e.what) → opens (own Outer M) ≡ []
-  no_opens [] h = refl
-  no_opens (e ∷ M) h =
-      let rest = no_opens M (λ x i. h x (there e i)) in
-      (elim e.by as (λ b. e.by ≡ b → opens (if same_stream b Outer then e.what ∷ own Outer M else own Outer M) ≡ []) [
-        | Outer ↦ λ q. ap (λ l. l ++ opens (own Outer M)) (opens_none e.what (h e (here M) q)) ∙ rest
-        | Inner j ↦ λ q. rest
-      ]) refl
-
-module _ (opener : Opener) (streams : List Stream) (runs ideal : ℕ → Values → (ℕ → DeviceTold) → Outcomes) (w : ℕ → DeviceTold) (how : How) (L : List Event)
-    (a : IsJoinedLedger opener.max_open (length opener.tables) (length streams) how L) (t : AreTablesKept (length opener.tables) w L) (k : AreSharesKept opener streams w L) where
+module _ (opener : Opener) (streams : List Stream) (runs ideal : ℕ → Values → (ℕ → DeviceTold) → Outcomes) (listing ideal_listing : DeviceTold → Outcomes) (w : ℕ → DeviceTold) (how : How) (L : List Event)
+    (a : IsJoinedLedger opener (length streams) how L) (t : AreTablesKept (length (opener_places opener)) w L) (k : AreSharesKept opener streams w L) where
   abbrev work : Work
-  work = joined opener streams runs ideal
+  work = joined opener streams runs ideal listing ideal_listing
 
   abbrev n : ℕ
   n = length streams
@@ -97,18 +79,18 @@ module _ (opener : Opener) (streams : List Stream) (runs ideal : ℕ → Values 
   by_whom : (P : StreamNo → Type 0) (e : Event) → IsAmong e L → (e.by ≡ Outer → P Outer) → ((j : ℕ) → j < n → e.by ≡ Inner j → P (Inner j)) → P e.by
   by_whom P e i p q = ⊎_elim (λ o. subst P (sym o) (p o)) (λ x. subst P (sym x.2) (q x.0 x.1 x.2)) (a.names e i)
 
-  -- the rows of the tables are rows
-  table_row : (r : ℕ) → r < length opener.tables → r < count
-  table_row r l = let sum = length-append opener.tables (flat_map (λ (s : Stream). s.places) streams) in omega (arith, l, sum)
+  -- the rows of the outer stream are rows
+  outer_row : (r : ℕ) → r < length (opener_places opener) → r < count
+  outer_row r l = let sum = length-append (opener_places opener) (flat_map (λ (s : Stream). s.places) streams) in omega (arith, l, sum)
 
   acquired : (q : StreamNo) (r s : ℕ) → Notes L q (Acquire r s) → (r < count) × ((w r).opens ≡ 1)
   acquired q r s m =
       by_whom (λ b. (r < count) × ((w r).opens ≡ 1)) m.0 m.1
-      (λ o. let x : IsOuterNote (length opener.tables) n how (Acquire r s) = subst (λ v. IsOuterNote (length opener.tables) n how v) m.3 (a.outer_notes m.0 m.1 o) in (table_row r x.0, t.acquired r s (m.0, m.1, o, m.3)))
+      (λ o. let x : IsOuterNote (length (opener_places opener)) n how (Acquire r s) = subst (λ v. IsOuterNote (length (opener_places opener)) n how v) m.3 (a.outer_notes m.0 m.1 o) in (outer_row r x, t.acquired r s (m.0, m.1, o, m.3)))
       (λ j l o. let x = k.acquired j r s l (m.0, m.1, o, m.3) in (x.0, x.1))
 
   each : (r : ℕ) → r < count → (w r).opens ≡ 1 → IsAcquired L r
-  each r l o = ⊎_elim (λ (b : r < length opener.tables). (Outer, 0, t.each r b o)) (λ (b : length opener.tables ≤ r). k.each r b l o) (cases_lt r (length opener.tables))
+  each r l o = ⊎_elim (λ (b : r < length (opener_places opener)). (let x = t.each r b o in (Outer, x.0, x.1))) (λ (b : length (opener_places opener) ≤ r). k.each r b l o) (cases_lt r (length (opener_places opener)))
 
   ended : (q : StreamNo) (r : ℕ) (x : Exit) (ok : Bool) → Notes L q (Final r x ok) → ((w r).exit ≡ Some x) × (ok ≡ nat_eq (w r).close_faults 0)
   ended q r x ok m =
@@ -128,8 +110,8 @@ module _ (opener : Opener) (streams : List Stream) (runs ideal : ℕ → Values 
       let x = by_whom (IsOursBy e) e i
       (λ o. (
         here (names_from 0 streams),
-        (λ j s v. let y : IsOuterNote (length opener.tables) n how (Lease j s) = subst (λ z. IsOuterNote (length opener.tables) n how z) v (a.outer_notes e i o) in (refl, y.0)),
-        (λ r s v. let y : IsOuterNote (length opener.tables) n how (Acquire r s) = subst (λ z. IsOuterNote (length opener.tables) n how z) v (a.outer_notes e i o) in owner_left Outer opener.tables (owners_from 0 streams) r y.0),
+        (λ j s v. let y : IsOuterNote (length (opener_places opener)) n how (Lease j s) = subst (λ z. IsOuterNote (length (opener_places opener)) n how z) v (a.outer_notes e i o) in (refl, y)),
+        (λ r s v. let y : IsOuterNote (length (opener_places opener)) n how (Acquire r s) = subst (λ z. IsOuterNote (length (opener_places opener)) n how z) v (a.outer_notes e i o) in owner_left Outer (opener_places opener) (owners_from 0 streams) r y),
       ))
       (λ j l o. (
         there Outer (name_among 0 j j streams (omega arith) l),
@@ -140,7 +122,7 @@ module _ (opener : Opener) (streams : List Stream) (runs ideal : ℕ → Values 
 
   scopes : HaveScopes work L
   scopes = (
-    let none = ap length (no_opens (length opener.tables) n how L a.outer_notes) in omega (arith, none),
+    few_opened opener n L a.order,
     each_name (λ q. length (opens (own q L)) ≤ scopes_by work q) 0 streams (λ i l.
         let s = at_some streams i l in
         let same : i ≡ 0 + i = omega arith in
@@ -179,6 +161,5 @@ module _ (opener : Opener) (streams : List Stream) (runs ideal : ℕ → Values 
     ours = each_among (IsOurs work) L ours;
     scopes = scopes;
     leaving = leaving;
-    tables = a.tables;
-    pace = a.paced;
+    given = record { order = a.order; tables = lends opener n L a.order a.legal; pace = a.paced };
   }

@@ -3,9 +3,13 @@ pub mod Counting
 pub mod RowPlaces
 pub mod RowAccounts
 pub mod MadeRows
+pub mod Giving
+pub mod Lending
 pub mod JoinedRules
 pub mod Covered
 pub mod TableFaults
+pub mod Listings
+pub mod OuterFaults
 pub mod StreamRows
 pub mod SharesKept
 pub mod Parted
@@ -17,6 +21,9 @@ pub mod StepRuns
 pub mod SideRuns
 pub mod NodeCovered
 pub mod PlanCovered
+pub mod ListCovered
+pub mod PlanRows
+pub mod PlanBounds
 pub mod PlansTogether
 pub mod WrittenOut
 pub mod WorkedTale

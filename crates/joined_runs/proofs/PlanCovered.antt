@@ -1,7 +1,7 @@
 -- The runs of a plan's stream are covered by the devices of its rows.
-use Rattle.std.proofs.Common.{◌≡◌, ◌≢◌, ℕ, ◌+◌, ◌<◌, ◌≤◌, ◌^◌, List, [], ◌∷◌, ◌++◌, inl, inr, length, Option, Some, None, refl, sym, ◌∙◌, ap, subst, arith}
+use Rattle.std.proofs.Common.{◌≡◌, ◌≢◌, ℕ, ◌+◌, ◌<◌, ◌≤◌, ◌^◌, List, [], ◌∷◌, ◌++◌, inl, inr, length, Option, Some, None, refl, sym, ap, subst, arith}
 use Rattle.std.proofs.lemmas.Bool.{false≢true}
-use Rattle.std.specs.Prelude.{IsSome, option_map, option_to_list, slice_get}
+use Rattle.std.specs.Prelude.{IsSome, option_map, option_to_list}
 use Rattle.chunk_core.specs.Elements.{Element, rendering_of}
 use Rattle.chunk_core.specs.Outcomes.{End, Done, Fault, Cut}
 use Rattle.chunk_core.specs.Tables.{Values}
@@ -26,6 +26,7 @@ use Rattle.pipeline_desc.specs.declared.stream.StreamSpec.{StreamSpec}
 use Rattle.run_rules.specs.Homes.{IsUntouched}
 use Rattle.run_rules.specs.Wholeness.{AreUnfailed}
 use Rattle.plan_work.specs.Plans.{IdealPlanRuns, PlanRuns}
+use Rattle.plan_work.specs.Seen.{below, visible}
 use Rattle.joined_runs.proofs.Covered.{IsCovered}
 use Rattle.joined_runs.proofs.NodeCovered.{AreAlike, IsCalm, IsSeenAt, WritesNothing, WritesOutside, each_nothing, node_shows, node_whole, outside}
 use Rattle.joined_runs.proofs.Reading.{IsCountedBy, cleared}
@@ -181,45 +182,51 @@ cleared_alike d = record { content = refl; at = refl; written = refl }
 alike_itself : (d : DeviceTold) → AreAlike d d
 alike_itself d = record { content = refl; at = refl; written = refl }
 
-module _ (b : Boxed) (p : PlanMeant) (k : ℕ) (s : StreamSpec) (is : slice_get p.streams k ≡ Some s) (kinds : (a : Node) → IsBody (path_row (first_row p k) s) s a → IsSome (node_kind a)) (values : Values) (w : ℕ → DeviceTold) where
+-- stream k of the plan has a node as s has, which doesn't depend on the file that a stream of the list reads
+pub record HasShape (p : PlanMeant) (k : ℕ) (s : StreamSpec) : Type 0 where
+  pub node : (n : Node) → IsNodeOf p k n → IsStreamNode (first_row p k) s n
+  pub made : (n : Node) → IsStreamNode (first_row p k) s n → IsNodeOf p k n
+
+module _ (b : Boxed) (p : PlanMeant) (k : ℕ) (s : StreamSpec) (shape : HasShape p k s) (kinds : (a : Node) → IsBody (path_row (first_row p k) s) s a → IsSome (node_kind a)) (values : Values) (w : ℕ → DeviceTold) where
   abbrev from : ℕ
   from = first_row p k
 
   abbrev to : ℕ
   to = from + row_count s
 
-  same_some : (x y : StreamSpec) → Some x ≡ Some y → x ≡ y
-  same_some x y e = cc
+  -- the values that it sees
+  abbrev seen : Values
+  seen = below (visible p k) values
 
   -- the rows of the stream are the places of its node
   node_holds : (Q : ℕ → Type 0) (n : Node) → ((r : ℕ) → from ≤ r → r < to → Q r) → IsNodeOf p k n → HoldsOutside Q n
-  node_holds Q n rows (x, at, h) = stream_holds Q from s n rows (subst (λ y. IsStreamNode from y n) (same_some x s (sym at ∙ is)) h)
+  node_holds Q n rows of = stream_holds Q from s n rows (shape.node n of)
 
   idle : ((r : ℕ) → from ≤ r → r < to → IsUntouched (w r)) → PlanRuns p k values w [] Cut
   idle rest =
       let n = some_node b from s kinds in
-      let of : IsNodeOf p k n.0 = (s, is, n.1) in
+      let of : IsNodeOf p k n.0 = shape.made n.0 n.1 in
       (n.0, of, inr (refl, inl (refl, (node_holds (λ r. IsUnwritten (w r)) n.0 (λ r l m. (rest r l m).written) of).written)))
 
   left : (ys more : List Element) (e : End) → PlanRuns p k values w (ys ++ more) e → PlanRuns p k values w ys Cut
-  left ys more e (n, of, run) = (n, of, leaving.left (IsIdle w n) (Gives any_leeway values w n) ys more e run)
+  left ys more e (n, of, run) = (n, of, leaving.left (IsIdle w n) (Gives any_leeway seen w n) ys more e run)
 
   -- the count of a device of its rows rose
   abbrev Rose : (DeviceTold → ℕ) → Type 0
   Rose n = (r : ℕ) × (from ≤ r) × (r < to) × (0 < n (w r))
 
-  shows : (n : Node) → IsNodeOf p k n → (ys : List Element) (c : Code) → IsRun values w n ys (Fault c) → IsCountedBy Rose c
+  shows : (n : Node) → IsNodeOf p k n → (ys : List Element) (c : Code) → IsRun seen w n ys (Fault c) → IsCountedBy Rose c
   shows n of =
-      let h = node_holds (λ r. IsSeenAt Rose values w r) n (λ r l m count some. (r, l, m, some)) of in
-      left_shows Rose (Gives any_leeway values w n) (node_shows Rose values w n h.acquired h.used) (IsIdle w n)
+      let h = node_holds (λ r. IsSeenAt Rose seen w r) n (λ r l m count some. (r, l, m, some)) of in
+      left_shows Rose (Gives any_leeway seen w n) (node_shows Rose seen w n h.acquired h.used) (IsIdle w n)
 
   whole : ((r : ℕ) → from ≤ r → r < to → (w r).at ≤ 2 ^ 40) → (ys : List Element) (e : End) → PlanRuns p k values w ys e → e ≢ Cut → ((r : ℕ) → from ≤ r → r < to → faults_of (w r) ≡ 0)
       → ((u : ℕ → DeviceTold) (zs : List Element) (g : End) → AreUnfailed u w → IdealPlanRuns p k values u zs g → g ≡ Done)
       → (e ≡ Done) × ((zs : List Element) × IdealPlanRuns p k values w zs Done × (rendering_of ys ≡ rendering_of zs))
   whole within ys e (n, of, r) c calm ideal =
       let h = node_holds (λ q. IsCalm (w q)) n (λ q l m. record { faults = calm q l m; within = within q l m }) of in
-      let done : e ≡ Done = ideal (clean w) ys e (λ q. (refl, refl)) (n, of, node_whole values w (clean w) (λ q. cleared_alike (w q)) n h.outside h.acquired h.used ys e r c) in
-      (done, (ys, (n, of, subst (λ g. IsIdealRun values w n ys g) done (node_whole values w w (λ q. alike_itself (w q)) n h.outside h.acquired h.used ys e r c)), refl))
+      let done : e ≡ Done = ideal (clean w) ys e (λ q. (refl, refl)) (n, of, node_whole seen w (clean w) (λ q. cleared_alike (w q)) n h.outside h.acquired h.used ys e r c) in
+      (done, (ys, (n, of, subst (λ g. IsIdealRun seen w n ys g) done (node_whole seen w w (λ q. alike_itself (w q)) n h.outside h.acquired h.used ys e r c)), refl))
 
   pub plan_covered : ((r : ℕ) → from ≤ r → r < to → (w r).at ≤ 2 ^ 40) → IsCovered (PlanRuns p) (IdealPlanRuns p) values k from to w
   plan_covered within = record { idle = idle; left = left; shown = λ ys c r. shows r.0 r.1 ys c r.2; whole = whole within }

@@ -27,7 +27,7 @@ own_none k (e ∷ M) h =
     (λ d. ap (λ b. if b then e.what ∷ own k M else own k M) d.1 ∙ own_none k M (λ x i. h x (there e i)))
     (stream_cases e.by k)
 
-module _ (opener : Opener) (ss : List Stream) (runs : ℕ → Values → (ℕ → DeviceTold) → Outcomes) (c : RunRecord) (r : RunsTogether opener ss runs c) where
+module _ (opener : Opener) (ss : List Stream) (runs : ℕ → Values → (ℕ → DeviceTold) → Outcomes) (listing : DeviceTold → Outcomes) (c : RunRecord) (r : RunsTogether opener ss runs listing c) where
   -- stream k was begun, or it noted nothing
   pub silent : (k : ℕ) (s : Stream) → HasNotRun r.home r.tale k (first_row_of (bare (Some opener) ss) k) s → (e : Event) → IsAmong e c.events → e.by ≢ Inner k
   silent k s u e i b = u.unbegun (r.recorded.begun e k i b)

@@ -16,6 +16,7 @@ use Rattle.run_rules.specs.Facts.{at}
 use Rattle.run_rules.specs.Memory.{IsWanting, LostPiece}
 use Rattle.run_rules.specs.Outputs.{AreOutputs, HaveOutputs, IsOutput, IsReported, IsRest, elements_in_pieces, payloads_by}
 use Rattle.run_rules.specs.Work.{Opener, RunRecord, Stream, Work, names_from, first_row_of}
+use Rattle.join_tale.specs.Bounds.{Bounds, bounds_of}
 use Rattle.join_tale.specs.Ended.{Ended}
 use Rattle.join_tale.specs.Keeping.{LacksForLoad}
 use Rattle.join_tale.specs.Laws.{OutputsFollow}
@@ -63,19 +64,23 @@ module _ (work : Work) (v : Values) (w : ℕ → DeviceTold) (F : List Frame) wh
         outputs_from (j + 1) ss es (subst (λ q. map (λ (x : EndOf). x.who) es ≡ names_from q ss) next rest) (λ k i t x is stands m by. h k (suc i) t x (omega (arith, is)) stands (there e m) by),
       )
 
-module _ (opener : Opener) (ss : List Stream) (runs ideal : ℕ → Values → (ℕ → DeviceTold) → Outcomes) (c : RunRecord) (r : RunsTogether opener ss runs c) where
+module _ (opener : Opener) (ss : List Stream) (runs ideal : ℕ → Values → (ℕ → DeviceTold) → Outcomes) (listing ideal_listing : DeviceTold → Outcomes) (c : RunRecord) (r : RunsTogether opener ss runs listing c) where
   abbrev pub work : Work
-  work = joined opener ss runs ideal
+  work = joined opener ss runs ideal listing ideal_listing
 
   -- the work, of which it isn't said what its streams give
   abbrev pub plain_work : Work
   plain_work = bare (Some opener) ss
 
-  pub outputs_law : OutputsFollow plain_work
-  outputs_law = outputs_follow plain_work
+  -- what its tale goes by
+  abbrev pub bounds : Bounds
+  bounds = bounds_of opener ss
+
+  pub outputs_law : OutputsFollow bounds
+  outputs_law = outputs_follow bounds
 
   pub follows : Follows plain_work c
-  follows = record_follows plain_work r.tale c r.is_tale r.recorded r.settled
+  follows = record_follows opener ss r.tale c r.is_tale r.recorded r.settled
 
   -- stream k was begun, or it was not
   abbrev pub Ran : ℕ → Stream → Type 0
@@ -90,7 +95,7 @@ module _ (opener : Opener) (ss : List Stream) (runs ideal : ℕ → Values → (
 
   -- of a stream that wasn't begun no end came
   pub never_came : (k : ℕ) (s : Stream) → NotRan k s → (h : How) → Came r.tale k h → ⊥
-  never_came k s u h m = u.unbegun (come_begun plain_work r.tale k r.is_tale h m)
+  never_came k s u h m = u.unbegun (come_begun bounds r.tale k r.is_tale h m)
 
   -- so it was left
   pub left_undone : (k : ℕ) (s : Stream) → NotRan k s → (h : How) → Ended r.tale k h → IsReported Cut h
@@ -179,7 +184,7 @@ module _ (opener : Opener) (ss : List Stream) (runs ideal : ℕ → Values → (
     stream_outputs = record { numbers = follows.numbers; few = follows.few; in_turn = follows.in_turn; outputs = outputs_by c.ends refl r.recorded.named; rest = rest_of c.cut refl r.rest }
 
     -- a load of stream k that memory was wanting for goes on with a run of it
-    lost_piece : (e : EndOf) → e.how ≡ how.Halted → ¬ (IsSilenced plain_work c) → (k : ℕ) → e.who ≡ Inner k → LacksForLoad plain_work r.tale k → LostPiece work c r.values r.home e
+    lost_piece : (e : EndOf) → e.how ≡ how.Halted → ¬ (IsSilenced plain_work c) → (k : ℕ) → e.who ≡ Inner k → LacksForLoad bounds r.tale k → LostPiece work c r.values r.home e
     lost_piece e halted printing k who l =
         let b = r.is_tale.frames.ours (load_of k l.load) (inr (subst (λ ms. IsAmong (load_of k l.load) ms) (sym l.late) (here l.others))) in
         let s = at_some ss k (begun_below k b.0) in
@@ -206,5 +211,5 @@ module _ (opener : Opener) (ss : List Stream) (runs ideal : ℕ → Values → (
 
     pub stream_wants : c.memory ≡ true → IsWanting work c r.values r.home
     stream_wants m =
-        let h = wants_for plain_work r.tale c r.is_tale r.recorded m in
+        let h = wants_for opener ss r.tale c r.is_tale r.recorded m in
         (h.0, h.1, ⊎_elim (λ z. inl z) (λ z. inr (lost_piece h.0 z.0 z.1 z.2.0 z.2.1 z.2.2)) h.2)

@@ -7,7 +7,7 @@ use Rattle.std.proofs.lemmas.List.Sums.{sum_by-cons}
 use Rattle.res_ledger.specs.declared.event.StreamNo.TheVariants.{Inner, Outer}
 use Rattle.device_port.specs.Device.{Place}
 use Rattle.run_rules.specs.Facts.{at}
-use Rattle.run_rules.specs.Work.{Opener, Stream, owners_from, first_row_of}
+use Rattle.run_rules.specs.Work.{Opener, Stream, first_row_of, opener_places, owners_from}
 use Rattle.join_tale.specs.Records.{bare}
 use Rattle.plan_work.specs.Joined.{places_in}
 use Rattle.joined_runs.proofs.JoinedRules.{owners_in}
@@ -90,8 +90,8 @@ rows_inside (t ∷ ss) zero s e =
 rows_inside (t ∷ ss) (suc k) s e = let sum = length-append t.places (stream_rows ss) in let i = rows_inside ss k s e in omega (arith, sum, i)
 
 module _ (opener : Opener) (ss : List Stream) where
-  pub count_is : length (places_in opener ss) ≡ length opener.tables + length (stream_rows ss)
-  count_is = length-append opener.tables (stream_rows ss)
+  pub count_is : length (places_in opener ss) ≡ length (opener_places opener) + length (stream_rows ss)
+  count_is = length-append (opener_places opener) (stream_rows ss)
 
   -- what holds of stream k and of its rows, which begin with `from`
   module _ (k : ℕ) (s : Stream) (is : at ss k ≡ Some s) where
@@ -101,11 +101,11 @@ module _ (opener : Opener) (ss : List Stream) where
     abbrev pub to : ℕ
     to = from + length s.places
 
-    from_is : from ≡ length opener.tables + rows_before ss k
+    from_is : from ≡ length (opener_places opener) + rows_before ss k
     from_is = let b = before_is ss k in omega (arith, b)
 
-    pub behind_tables : length opener.tables ≤ from
-    behind_tables = omega arith
+    pub behind_outer : length (opener_places opener) ≤ from
+    behind_outer = omega arith
 
     pub inside : to ≤ length (places_in opener ss)
     inside = let f = from_is in let c = count_is in let i = rows_inside ss k s is in omega (arith, f, c, i)
@@ -114,17 +114,17 @@ module _ (opener : Opener) (ss : List Stream) where
     pub place_of : (r : ℕ) → from ≤ r → r < to → at (places_in opener ss) r ≡ at s.places (r - from)
     place_of r l m =
         let f = from_is in
-        let z : r - length opener.tables ≡ rows_before ss k + (r - from) = omega (arith, f, l) in
-        at_right opener.tables (stream_rows ss) r (omega (arith, f, l)) ∙ (ap (at (stream_rows ss)) z ∙ place_at ss k s (r - from) is (omega (arith, l, m)))
+        let z : r - length (opener_places opener) ≡ rows_before ss k + (r - from) = omega (arith, f, l) in
+        at_right (opener_places opener) (stream_rows ss) r (omega (arith, f, l)) ∙ (ap (at (stream_rows ss)) z ∙ place_at ss k s (r - from) is (omega (arith, l, m)))
 
     pub owner_of : (r : ℕ) → from ≤ r → r < to → at (owners_in opener ss) r ≡ Some (Inner k)
     owner_of r l m =
         let f = from_is in
-        let z : r - length opener.tables ≡ rows_before ss k + (r - from) = omega (arith, f, l) in
+        let z : r - length (opener_places opener) ≡ rows_before ss k + (r - from) = omega (arith, f, l) in
         let same : 0 + k ≡ k = omega arith in
-        owner_right Outer opener.tables (owners_from 0 ss) r (omega (arith, f, l)) ∙ (ap (at (owners_from 0 ss)) z ∙ (owner_at_row 0 ss k s (r - from) is (omega (arith, l, m)) ∙ ap (λ n. Some (Inner n)) same))
+        owner_right Outer (opener_places opener) (owners_from 0 ss) r (omega (arith, f, l)) ∙ (ap (at (owners_from 0 ss)) z ∙ (owner_at_row 0 ss k s (r - from) is (omega (arith, l, m)) ∙ ap (λ n. Some (Inner n)) same))
 
-  -- a row behind the tables' is one of a stream
+  -- a row behind the outer stream's is one of a stream
   pub record IsRowHere (r : ℕ) : Type 0 where
     pub number : ℕ
     pub stream : Stream
@@ -132,10 +132,10 @@ module _ (opener : Opener) (ss : List Stream) where
     pub low : first_row_of (bare (Some opener) ss) number ≤ r
     pub high : r < first_row_of (bare (Some opener) ss) number + length stream.places
 
-  pub row_here : (r : ℕ) → length opener.tables ≤ r → r < length (places_in opener ss) → IsRowHere r
+  pub row_here : (r : ℕ) → length (opener_places opener) ≤ r → r < length (places_in opener ss) → IsRowHere r
   row_here r l m =
       let c = count_is in
-      let x = row_found ss (r - length opener.tables) (omega (arith, l, m, c)) in
+      let x = row_found ss (r - length (opener_places opener)) (omega (arith, l, m, c)) in
       let f = from_is x.number x.stream x.is in
       let low = x.from in
       let high = x.to in

@@ -1,20 +1,18 @@
--- A fault of a table has a device that shows it, and comes of a device that failed or of what the table holds.
+-- A fault of a table shows on its device, and comes of a device that failed or of what the table holds.
 use Rattle.std.proofs.Common.{◌≡◌, ℕ, suc, ◌+◌, ◌<◌, ◌≤◌, List, [], ◌∷◌, inl, inr, flat_map, length, Option, Some, None, IfSome, refl, sym, ◌∙◌, ap, subst, ⊎_elim, arith}
 use Rattle.std.specs.List.{AllByRecursion}
 use Rattle.chunk_core.specs.declared.code.Code.{Code}
 use Rattle.chunk_core.specs.declared.code.Code.TheVariants as code
-use Rattle.chunk_core.specs.declared.code.How.{How}
 use Rattle.device_port.specs.Device.{DeviceTold, Place, faults_of}
 use Rattle.device_port.specs.Depot.{content_at}
-use Rattle.run_rules.specs.Devices.{came_back}
-use Rattle.run_rules.specs.Ends.{IsShown, act_count}
+use Rattle.run_rules.specs.Ends.{act_count}
 use Rattle.run_rules.specs.Facts.{at}
-use Rattle.run_rules.specs.Opening.{AreTablesFailed, IsOuterEnd, IsRefusedBy, IsTableFailed, IsTableFault}
-use Rattle.run_rules.specs.Work.{Opener, RunRecord, Stream}
+use Rattle.run_rules.specs.Opening.{AreTablesFailed, IsRefusedBy, IsTableFailed, IsTableFault}
+use Rattle.run_rules.specs.Work.{Opener, RunRecord, Stream, list_places, opener_places}
 use Rattle.joined_runs.specs.Devices.{MadeComeBack}
 use Rattle.plan_work.specs.Joined.{places_in}
 use Rattle.joined_runs.proofs.Covered.{RefusesTables}
-use Rattle.joined_runs.proofs.MadeRows.{IsCountedRow, at_below, at_some, place_found, placed_at, shown}
+use Rattle.joined_runs.proofs.MadeRows.{at_below, placed_at}
 use Rattle.joined_runs.proofs.RowPlaces.{at_left}
 
 -- a fault of what a table holds names no act of a device
@@ -44,23 +42,19 @@ module _ (opener : Opener) (refuses : RefusesTables opener) (c : RunRecord) (w :
   row_behind (Some n) i m (r, l, u, h) = (r, omega (arith, l), omega (arith, u), h)
 
   -- so has one of the tables
-  tables_show : (i : ℕ) (ps : List Place) → AreTablesFailed opener c w i ps f → IfSome (act_count f) (λ n. (r : ℕ) × (i ≤ r) × (r < i + length ps) × (0 < n (w r)))
+  pub tables_show : (i : ℕ) (ps : List Place) → AreTablesFailed opener c w i ps f → IfSome (act_count f) (λ n. (r : ℕ) × (i ≤ r) × (r < i + length ps) × (0 < n (w r)))
   tables_show i [] h = absurd h
   tables_show i (p ∷ ps) (inl h) = row_shows (act_count f) i (suc (length ps)) (omega arith) (table_shows (w i) h.0)
   tables_show i (p ∷ ps) (inr h) = row_behind (act_count f) i (length ps) (tables_show (i + 1) ps h.1)
 
 module _ (opener : Opener) (ss : List Stream) (c : RunRecord) (w : ℕ → DeviceTold) (d : MadeComeBack c.depot_old c.depot_new (places_in opener ss) w) where
-  -- the rows of the tables come first
-  pub table_stands : (q : ℕ) (p : Place) → at opener.tables q ≡ Some p → at (places_in opener ss) q ≡ Some p
-  table_stands q p is = at_left opener.tables (flat_map (λ (s : Stream). s.places) ss) q (at_below opener.tables q p is) ∙ is
+  -- the rows of the outer stream come first
+  pub outer_stands : (q : ℕ) (p : Place) → at (opener_places opener) q ≡ Some p → at (places_in opener ss) q ≡ Some p
+  outer_stands q p is = at_left (opener_places opener) (flat_map (λ (s : Stream). s.places) ss) q (at_below (opener_places opener) q p is) ∙ is
 
-  -- a fault of the outer stream has a device of a table that shows it
-  pub outer_shown : RefusesTables opener → (outer : How) → IsOuterEnd opener (length ss) c w outer → IsShown (came_back c.depot_old c.depot_new) opener.tables outer
-  outer_shown refuses outer came = shown (places_in opener ss) c.depot_old c.depot_new w d opener.tables outer (λ f is. at_tables (act_count f) (tables_show opener refuses c w f 0 opener.tables (subst (λ h. IsOuterEnd opener (length ss) c w h) is came)))
-    where
-      at_tables : (a : Option (DeviceTold → ℕ)) → IfSome a (λ n. (q : ℕ) × (0 ≤ q) × (q < 0 + length opener.tables) × (0 < n (w q))) → IfSome a (IsCountedRow (places_in opener ss) c.depot_old c.depot_new w d opener.tables)
-      at_tables None h = tt
-      at_tables (Some n) (q, l, u, h) = let p = at_some opener.tables q (omega (arith, u)) in (q, p.0, table_stands q p.0 p.1, place_found opener.tables q p.0 p.1, h)
+  -- and those of the tables first of all
+  pub table_stands : (q : ℕ) (p : Place) → at opener.tables q ≡ Some p → at (opener_places opener) q ≡ Some p
+  table_stands q p is = at_left opener.tables (list_places opener.list) q (at_below opener.tables q p is) ∙ is
 
   module _ (calm : (r : ℕ) → r < length (places_in opener ss) → faults_of (w r) ≡ 0) where
     -- a table whose content is told and isn't refused has not failed
@@ -83,4 +77,4 @@ module _ (opener : Opener) (ss : List Stream) (c : RunRecord) (w : ℕ → Devic
 
     -- none failed where each is told and isn't refused
     pub tables_well : (f : Code) → AllByRecursion (λ p. (bytes : List ℕ) × (content_at c.depot_old.files p.path ≡ Some bytes) × (opener.fault_of bytes ≡ None)) opener.tables → AreTablesFailed opener c w 0 opener.tables f → ⊥
-    tables_well f good h = tables_from f 0 opener.tables (λ q p is. let same : 0 + q ≡ q = omega arith in ap (at (places_in opener ss)) same ∙ table_stands q p is) good h
+    tables_well f good h = tables_from f 0 opener.tables (λ q p is. let same : 0 + q ≡ q = omega arith in ap (at (places_in opener ss)) same ∙ outer_stands q p (table_stands q p is)) good h

@@ -19,7 +19,7 @@ use Rattle.run_rules.specs.Facts.{IsFailure}
 use Rattle.run_rules.specs.Work.{RunRecord}
 use Rattle.join_tale.proofs.Places.{none_some, some_is}
 use Rattle.joined_runs.specs.Shares.{IsOuterNote}
-use Rattle.joined_runs.specs.Worked.{AreRefused, IsRefused, both_ran, byte_of, ended_so, file_runs, first_ran, given, noted, one_frame, reads_file, two_files, worked_run}
+use Rattle.joined_runs.specs.Worked.{AreRefused, IsRefused, both_ran, byte_of, ended_so, file_runs, first_ran, given, no_list, noted, one_frame, reads_file, two_files, worked_run}
 use Rattle.joined_runs.proofs.StreamEnds.{outer_so}
 use Rattle.joined_runs.proofs.StreamOutputs.{follows, left_undone}
 
@@ -30,7 +30,7 @@ other_order : IsRefused (record worked_run { ends = ended_so (Inner 0) how.Done 
 other_order r = let names = r.recorded.named in cc
 
 second_frame : IsRefused (record worked_run { frames = byte_of 0 ∷ byte_of 1 ∷ [] })
-second_frame r = let few : 2 ≤ 1 = (follows one_frame two_files file_runs file_runs (record worked_run { frames = byte_of 0 ∷ byte_of 1 ∷ [] }) r).few in omega (arith, few)
+second_frame r = let few : 2 ≤ 1 = (follows one_frame two_files file_runs file_runs no_list no_list (record worked_run { frames = byte_of 0 ∷ byte_of 1 ∷ [] }) r).few in omega (arith, few)
 
 whole_rest : IsRefused (record worked_run { frames = []; cut = Some (byte_of 0); rest = frame_text 0 (codes "x") })
 whole_rest r =
@@ -52,7 +52,7 @@ halted_for_nothing : IsRefused (record worked_run { frames = [] })
 halted_for_nothing r =
     ⊎_elim (λ x. ⊎_elim (λ n. n refl) (λ e. let f = some_is 1 0 e in omega (arith, f)) x.0)
     (λ x. ⊎_elim false≢true (λ y. ⊎_elim (λ z. none_failed z.0 z.1 z.2) (λ z. none_some z.1) y) x)
-    ((follows one_frame two_files file_runs file_runs (record worked_run { frames = [] }) r).halted (ended_so (Inner 1) how.Halted) (there (ended_so Outer how.Done) (there (ended_so (Inner 0) how.Done) (here []))) refl)
+    ((follows one_frame two_files file_runs file_runs no_list no_list (record worked_run { frames = [] }) r).halted (ended_so (Inner 1) how.Halted) (there (ended_so Outer how.Done) (there (ended_so (Inner 0) how.Done) (here []))) refl)
 
 -- no event of the first stream alone is one of the second
 abbrev silent_run : RunRecord
@@ -72,7 +72,7 @@ done_in_silence r =
     ⊎_elim
     (λ x. let n = x.share.closed.1 in second_silent n.0 n.1 n.2)
     (λ u. ⊎_elim (λ e. let f : how.Done ≡ how.Halted = e in cc) (λ e. let f : how.Done ≡ how.Memory = e in cc)
-    (left_undone one_frame two_files file_runs file_runs silent_run r 1 (reads_file (codes "b")) u how.Done (r.recorded.told (ended_so (Inner 1) how.Done) (there (ended_so Outer how.Done) (there (ended_so (Inner 0) how.Done) (here []))))))
+    (left_undone one_frame two_files file_runs file_runs no_list no_list silent_run r 1 (reads_file (codes "b")) u how.Done (r.recorded.told (ended_so (Inner 1) how.Done) (there (ended_so Outer how.Done) (there (ended_so (Inner 0) how.Done) (here []))))))
     (r.each 1 (reads_file (codes "b")) refl)
 
 abbrev stray : Event
@@ -90,9 +90,9 @@ other_run = record worked_run { events = given Canceled both_ran }
 
 closed_otherwise : IsRefused other_run
 closed_otherwise r =
-    let done : r.outer ≡ how.Done = outer_so one_frame two_files file_runs file_runs other_run r how.Done (r.recorded.told (ended_so Outer how.Done) (here (ended_so (Inner 0) how.Done ∷ ended_so (Inner 1) how.Halted ∷ []))) in
+    let done : r.outer ≡ how.Done = outer_so one_frame two_files file_runs file_runs no_list no_list other_run r how.Done (r.recorded.told (ended_so Outer how.Done) (here (ended_so (Inner 0) how.Done ∷ ended_so (Inner 1) how.Halted ∷ []))) in
     let word : IsOuterNote 0 2 r.outer (Close 0 Canceled) = r.account.outer_notes (noted 2 Outer (Close 0 Canceled)) (there (noted 0 Outer (Lease 0 0)) (there (noted 1 Outer (Lease 1 0)) (here both_ran))) refl in
-    let exit : Canceled ≡ Succeeded = word.1 ∙ ap exit_of done in
+    let exit : Canceled ≡ Succeeded = word ∙ ap exit_of done in
     cc
 
 pub are_refused : AreRefused

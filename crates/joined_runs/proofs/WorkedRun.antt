@@ -1,5 +1,5 @@
 -- The run that is written out is one of streams that ran side by side.
-use Rattle.std.proofs.Common.{◌≡◌, ◌⊎◌, ℕ, zero, suc, ◌<◌, ◌≤◌, ◌^◌, true, false, List, [], ◌∷◌, inl, inr, Some, refl, sym, ap, ◌∙◌, subst, ⊎_elim, arith}
+use Rattle.std.proofs.Common.{◌≡◌, ◌⊎◌, ℕ, zero, suc, ◌<◌, ◌≤◌, ◌^◌, true, false, List, [], ◌∷◌, take, inl, inr, Some, refl, sym, ap, ◌∙◌, subst, ⊎_elim, arith}
 use Rattle.std.specs.Prelude.{codes}
 use Rattle.std.proofs.lemmas.List.Sorted.{IsPermutation-middle}
 use Rattle.chunk_core.specs.Elements.{Byte}
@@ -22,7 +22,9 @@ use Rattle.device_port.specs.declared.device.Mode.TheVariants as mode
 use Rattle.device_port.specs.Device.{Place, to_read}
 use Rattle.run_rules.specs.declared.end.EndOf.{EndOf}
 use Rattle.run_rules.specs.Facts.{at, has_left}
-use Rattle.run_rules.specs.Work.{Stream, first_row_of}
+use Rattle.run_rules.specs.Opening.{AreTablesRead}
+use Rattle.run_rules.specs.Work.{Stream, all_parts, first_row_of, rows_up_to}
+use Rattle.join_tale.specs.Bounds.{bounds_of}
 use Rattle.join_tale.specs.Records.{EndedSo, IsRecordOf, bare}
 use Rattle.join_tale.specs.Tales.{HasCome, IsBegun}
 use Rattle.join_tale.proofs.Endings.{come_begun}
@@ -94,17 +96,17 @@ by_0 = inr (0, omega arith, refl)
 by_1 : (Inner 1 ≡ Outer) ⊎ ((k : ℕ) × (k < 2) × (Inner 1 ≡ Inner k))
 by_1 = inr (1, omega arith, refl)
 
-account : IsJoinedLedger 2 0 2 how.Done L
-account = account_of 2 2 how.Done L (omega arith)
+account : IsJoinedLedger one_frame 2 how.Done L
+account = account_of one_frame 2 how.Done L (omega arith)
     (inl refl, (inl refl, (inl refl, (by_0, (by_1, (by_0, (by_1, (by_0, (by_1, (by_0, (by_1, tt)))))))))))
-    ((λ q. (omega arith, refl)), ((λ q. (omega arith, refl)), ((λ q. (refl, refl)), ((λ q. absurd (not_outer 0 q)), ((λ q. absurd (not_outer 1 q)), ((λ q. absurd (not_outer 0 q)), ((λ q. absurd (not_outer 1 q)), ((λ q. absurd (not_outer 0 q)), ((λ q. absurd (not_outer 1 q)), ((λ q. absurd (not_outer 0 q)), ((λ q. absurd (not_outer 1 q)), tt)))))))))))
+    ((λ q. omega arith), ((λ q. omega arith), ((λ q. refl), ((λ q. absurd (not_outer 0 q)), ((λ q. absurd (not_outer 1 q)), ((λ q. absurd (not_outer 0 q)), ((λ q. absurd (not_outer 1 q)), ((λ q. absurd (not_outer 0 q)), ((λ q. absurd (not_outer 1 q)), ((λ q. absurd (not_outer 0 q)), ((λ q. absurd (not_outer 1 q)), tt)))))))))))
     (Succeeded, (noted 2 Outer (Close 0 Succeeded), there (noted 0 Outer (Lease 0 0)) (there (noted 1 Outer (Lease 1 0)) (here both_ran)), refl, refl))
-    refl refl refl refl refl refl
+    ([], refl) refl refl refl refl refl refl
 
 -- an outer stream without tables keeps none
 tables : AreTablesKept 0 worked_home L
 tables = record {
-  acquired = λ r s m. let x : IsOuterNote 0 2 how.Done (Acquire r s) = subst (λ v. IsOuterNote 0 2 how.Done v) m.3 (account.outer_notes m.0 m.1 m.2) in let l = x.0 in absurd (omega (arith, l));
+  acquired = λ r s m. let x : IsOuterNote 0 2 how.Done (Acquire r s) = subst (λ v. IsOuterNote 0 2 how.Done v) m.3 (account.outer_notes m.0 m.1 m.2) in absurd (omega (arith, x));
   each = λ r l o. absurd (omega (arith, l));
   ended = λ r x ok m. let y : IsOuterNote 0 2 how.Done (Final r x ok) = subst (λ v. IsOuterNote 0 2 how.Done v) m.3 (account.outer_notes m.0 m.1 m.2) in absurd (omega (arith, y));
 }
@@ -182,7 +184,7 @@ recorded = record {
   count = omega arith;
   begun = λ e k m b. begun_by e m k b;
   left = left_come;
-  leaves = λ j c. come_left j (come_begun (bare (Some one_frame) two_files) worked_tale j worked_is_tale c.0 c.1);
+  leaves = λ j c. come_left j (come_begun (bounds_of one_frame two_files) worked_tale j worked_is_tale c.0 c.1);
 }
 
 -- The streams.
@@ -218,6 +220,11 @@ each_ran zero s e = let same : reads_file (codes "a") ≡ s = cc in inl (subst (
 each_ran (suc zero) s e = let same : reads_file (codes "b") ≡ s = cc in inl (subst (λ t. HasRun (file_runs 1 no_values worked_home) worked_home worked_tale L 1 1 t) same ran_1)
 each_ran (suc (suc k)) s e = absurd (none_some e)
 
+-- an outer stream without tables has read them
+none_read : (n : ℕ) → AreTablesRead one_frame worked_run worked_home 0 (take n [])
+none_read zero = tt
+none_read (suc n) = tt
+
 pub is_worked : IsWorked
 is_worked = record {
   together = record {
@@ -231,8 +238,11 @@ is_worked = record {
     account = account;
     tables = tables;
     came = record {
-      end = (tt, ((Outer, 0, (noted 0 Outer (Lease 0 0), here (noted 1 Outer (Lease 1 0) ∷ noted 2 Outer (Close 0 Succeeded) ∷ both_ran), refl, refl)), ((Outer, 0, (noted 1 Outer (Lease 1 0), there (noted 0 Outer (Lease 0 0)) (here (noted 2 Outer (Close 0 Succeeded) ∷ both_ran)), refl, refl)), tt)));
-      gives = λ j s m. tt;
+      end = (tt, refl, tt);
+      gives = λ j s m. none_read (rows_up_to 0 0 (all_parts one_frame 2) j);
+      turns = λ q j l. absurd (omega (arith, l));
+      behind = tt;
+      listed = tt;
       nobody = λ e. absurd (let f = some_is 1 0 e in omega (arith, f));
     };
     is_tale = worked_is_tale;

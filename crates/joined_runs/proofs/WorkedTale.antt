@@ -1,5 +1,5 @@
 -- The tale of the run that is written out, step by step.
-use Rattle.std.proofs.Common.{◌≡◌, ℕ, zero, suc, true, List, [], ◌∷◌, Option, Some, inl, inr, refl, subst, ⊎_elim, arith}
+use Rattle.std.proofs.Common.{◌≡◌, ℕ, zero, suc, true, List, [], ◌∷◌, Option, Some, inl, inr, refl, ⊎_elim, arith}
 use Rattle.std.specs.Prelude.{codes}
 use Rattle.std.proofs.lemmas.Bool.{false≢true}
 use Rattle.chunk_core.specs.Lists.{IsAmong}
@@ -9,13 +9,12 @@ use Rattle.chunk_core.specs.declared.code.How.{How}
 use Rattle.chunk_core.specs.declared.code.How.TheVariants as how
 use Rattle.interrupt_ctx.specs.Views.{interruption}
 use Rattle.interrupt_ctx.specs.declared.why.Why.TheVariants as why
-use Rattle.res_ledger.specs.declared.event.StreamNo.TheVariants.{Inner}
-use Rattle.run_rules.specs.Work.{Opener, Work, until_by}
+use Rattle.join_tale.specs.Bounds.{Bounds, bounds_of}
 use Rattle.join_tale.specs.Ended.{Ended}
 use Rattle.join_tale.specs.Ended.Ended.{halted, whole}
 use Rattle.join_tale.specs.Keeping.{IsTale}
-use Rattle.join_tale.specs.Records.{IsSettled, bare}
-use Rattle.join_tale.specs.Steps.{AreFewOpen, MayBegin, TellsEnd, TellsOuter, dropped, ended_late, fated, first_tale, learned, outer_ended, written}
+use Rattle.join_tale.specs.Records.{IsSettled}
+use Rattle.join_tale.specs.Steps.{MayBegin, TellsEnd, TellsOuter, dropped, ended_late, fated, first_tale, learned, outer_ended, written}
 use Rattle.join_tale.specs.Steps.Marks.{fresh}
 use Rattle.join_tale.specs.Tales.{Came, HasCome, IsBegun, IsOpen, Message, Tale, end_of, load_of}
 use Rattle.join_tale.specs.Tales.Fate.{Begun}
@@ -26,8 +25,8 @@ use Rattle.join_tale.proofs.Receiving.{drops, meets}
 use Rattle.join_tale.proofs.Steps.{begins, outer_ends, starts}
 use Rattle.joined_runs.specs.Worked.{one_frame, two_files}
 
-abbrev plain : Work
-plain = bare (Some one_frame) two_files
+abbrev plain : Bounds
+plain = bounds_of one_frame two_files
 
 -- the byte of each file
 abbrev byte : List ℕ
@@ -57,7 +56,7 @@ abbrev pub worked_tale : Tale
 worked_tale = learned (ended_late done_0 1 how.Halted) [] (interruption 0 why.Take ∷ [])
 
 -- no stream is stopped by the end of another
-no_until : (i k : ℕ) → until_by plain (Inner i) ≡ Some k → ⊥
+no_until : (i k : ℕ) → plain.until i ≡ Some k → ⊥
 no_until zero k e = none_some e
 no_until (suc zero) k e = none_some e
 no_until (suc (suc i)) k e = none_some e
@@ -77,7 +76,7 @@ may_0 = record {
   run = λ k. ⊎_elim (λ s. among_nil s.1) (λ s. among_nil s.1) k;
   own = λ k. ⊎_elim (λ s. among_nil s.1) (λ s. among_nil s.1) k;
   alone = λ w. absurd (false≢true w);
-  few = λ o is. subst (λ (q : Opener). AreFewOpen q.max_open first_tale) (some_is one_frame o is) ([], omega arith, λ k b. absurd (none_some b.0));
+  few = ([], omega arith, λ k b. absurd (none_some b.0));
 }
 
 may_1 : MayBegin plain begun_0
@@ -85,7 +84,7 @@ may_1 = record {
   run = λ k. ⊎_elim (λ s. among_nil s.1) (λ s. among_nil s.1) k;
   own = λ k. ⊎_elim (λ s. among_nil s.1) (λ s. among_nil s.1) k;
   alone = λ w. absurd (false≢true w);
-  few = λ o is. subst (λ (q : Opener). AreFewOpen q.max_open begun_0) (some_is one_frame o is) (0 ∷ [], omega arith, λ k b. first k b.0);
+  few = (0 ∷ [], omega arith, λ k b. first k b.0);
 }
   where
     first : (k : ℕ) → IsBegun begun_0 k → IsAmong k (0 ∷ [])

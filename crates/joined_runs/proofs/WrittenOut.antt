@@ -30,6 +30,8 @@ use Rattle.res_ledger.proofs.Tests.{exit_is, name}
 use Rattle.device_port.specs.Device.{DeviceTold}
 use Rattle.run_rules.specs.Facts.{first_numbers, has_event, holds_number, leased_stream, root_exit}
 use Rattle.run_rules.specs.Pace.{IsAnnounced, LeasesAhead, LeasesInOrder, is_active, is_standing}
+use Rattle.run_rules.specs.Giving.{GivesInOrder}
+use Rattle.run_rules.specs.Work.{Opener, opener_places}
 use Rattle.joined_runs.specs.Shares.{ClosesRootBelow, IsJoinedLedger, IsOuterNote, IsShare}
 
 -- the outer stream leased for k
@@ -92,30 +94,28 @@ few_pass p n m l = let few = count_by-le-length p (first_numbers n) in let all =
 abbrev pub IsByOne : ℕ → Event → Type 0
 IsByOne n e = (e.by ≡ Outer) ⊎ ((k : ℕ) × (k < n) × (e.by ≡ Inner k))
 
-no_less : (r : ℕ) → r < 0 → ⊥
-no_less r l = omega (arith, l)
+module _ (opener : Opener) (n : ℕ) (how : How) (L : List Event) where
+  -- what the outer stream may note
+  abbrev IsNote : What → Type 0
+  IsNote w = IsOuterNote (length (opener_places opener)) n how w
 
-module _ (width n : ℕ) (how : How) (L : List Event) where
-  -- a ledger that is written out, of an outer stream without tables and of no more streams than may be open, is judged by its tests
-  pub account_of : n ≤ width → AllByRecursion (IsByOne n) L → AllByRecursion (λ e. e.by ≡ Outer → IsOuterNote 0 n how e.what) L → NotesClose L Outer 0
-      → each_after (λ P e. nat_eq e.stamp (length P)) [] L ≡ true → is_legal L ≡ true → is_complete L ≡ true → is_ordered L ≡ true → each_after is_ahead [] L ≡ true → each_after is_next [] L ≡ true → IsJoinedLedger width 0 n how L
-  account_of wide by outer_notes root in_place legal complete ordered before behind =
+  -- a ledger that is written out, of an outer stream and of no more streams than may be open, is judged by its tests
+  pub account_of : n ≤ opener.max_open → AllByRecursion (IsByOne n) L → AllByRecursion (λ e. e.by ≡ Outer → IsNote e.what) L → NotesClose L Outer 0 → GivesInOrder opener n L
+      → each_after (λ P e. nat_eq e.stamp (length P)) [] L ≡ true → is_legal L ≡ true → is_complete L ≡ true → is_ordered L ≡ true → each_after is_ahead [] L ≡ true → each_after is_next [] L ≡ true → IsJoinedLedger opener n how L
+  account_of wide by outer_notes root order in_place legal complete ordered before behind =
       let names : (e : Event) → IsAmong e L → IsByOne n e = λ e i. among_each (IsByOne n) e L by i in
-      let notes : (e : Event) → IsAmong e L → e.by ≡ Outer → IsOuterNote 0 n how e.what = λ e i b. among_each (λ (x : Event). x.by ≡ Outer → IsOuterNote 0 n how x.what) e L outer_notes i b in
+      let notes : (e : Event) → IsAmong e L → e.by ≡ Outer → IsNote e.what = λ e i b. among_each (λ (x : Event). x.by ≡ Outer → IsNote x.what) e L outer_notes i b in
       record {
         stamped = stamped_sound L L refl in_place;
         legal = legal_sound L legal;
         complete = complete_sound L (legal_sound L legal) complete;
         ordered = ordered_sound L ordered;
-        tables = record {
-          rise = λ P Q e r s q t is b v m. let x : IsOuterNote 0 n how (Acquire r s) = subst (λ z. IsOuterNote 0 n how z) v (notes e (stands P Q e is) b) in absurd (no_less r x.0);
-          covers = λ j s r m l. absurd (no_less r l);
-        };
+        order = order;
         paced = record {
           ahead = ahead L before;
-          within = λ P Q e is. few_pass (is_active P e) n width wide;
+          within = λ P Q e is. few_pass (is_active P e) n opener.max_open wide;
           leases = in_order L behind;
-          waits = λ P Q e is. few_pass (is_standing (P ++ e ∷ [])) n (width + 1) (omega (arith, wide));
+          waits = λ P Q e is. few_pass (is_standing (P ++ e ∷ [])) n (opener.max_open + 1) (omega (arith, wide));
           begins = λ P Q e k is b. below k (names e (stands P Q e is)) b (few_pass (λ i. not (has_event (is_cancel i) P)) k k (omega arith));
         };
         names = names;
@@ -126,7 +126,7 @@ module _ (width n : ℕ) (how : How) (L : List Event) where
       stands : (P Q : List Event) (e : Event) → L ≡ P ++ e ∷ Q → IsAmong e L
       stands P Q e is = subst (λ l. IsAmong e l) (sym is) (among_mid P Q e)
 
-      below : {m : ℕ} {q : StreamNo} (k : ℕ) → (q ≡ Outer) ⊎ ((j : ℕ) × (j < n) × (q ≡ Inner j)) → q ≡ Inner k → m ≤ k → m < width
+      below : {m : ℕ} {q : StreamNo} (k : ℕ) → (q ≡ Outer) ⊎ ((j : ℕ) × (j < n) × (q ≡ Inner j)) → q ≡ Inner k → m ≤ k → m < opener.max_open
       below k x b few = ⊎_elim (λ o. absurd (let y : Outer ≡ Inner k = sym o ∙ b in let z : ⊥ = cc in z)) (λ i. let j_is = inner_is i.0 k (sym i.2 ∙ b) in let l = i.1 in omega (arith, l, j_is, few, wide)) x
 
 module _ (k from to scopes : ℕ) (w : ℕ → DeviceTold) (how : How) (L : List Event) where

@@ -11,7 +11,8 @@ use Rattle.run_rules.specs.Facts.{at}
 use Rattle.run_rules.specs.Homes.{HaveValues, IsUntouched}
 use Rattle.run_rules.specs.Opening.{OuterHasRun}
 use Rattle.run_rules.specs.Outputs.{IsReported, elements_in_pieces}
-use Rattle.run_rules.specs.Work.{Opener, RunRecord, Stream, first_row_of}
+use Rattle.run_rules.specs.Work.{Opener, RunRecord, Stream, first_row_of, opener_places}
+use Rattle.join_tale.specs.Bounds.{bounds_of}
 use Rattle.join_tale.specs.Keeping.{IsTale}
 use Rattle.join_tale.specs.Records.{IsRecordOf, IsSettled, bare}
 use Rattle.join_tale.specs.Tales.{Came, IsBegun, Tale, loads_received}
@@ -37,9 +38,9 @@ pub record HasNotRun (home : ℕ → DeviceTold) (t : Tale) (k from : ℕ) (s : 
   pub unbegun : ¬ (IsBegun t k)
   pub untouched : (r : ℕ) → from ≤ r → r < from + length s.places → IsUntouched (home r)
 
--- The outer stream, which reads its tables, and the streams that it gives, which run side by side, came to their ends. The devices that were made came back, the ledger is whole, and no
--- stream's device was read beyond its limit. The record tells the tale of the collector, and each stream was begun and ran over its devices, or was never begun.
-pub record RunsTogether (opener : Opener) (streams : List Stream) (runs : ℕ → Values → (ℕ → DeviceTold) → Outcomes) (c : RunRecord) : Type 0 where
+-- The outer stream, which reads its tables and its list, and the streams that it gives, which run side by side, came to their ends. The devices that were made came back, the ledger is whole,
+-- and no device of the list or of a stream was read beyond its limit. The record tells the tale of the collector, and each stream was begun and ran over its devices, or was never begun.
+pub record RunsTogether (opener : Opener) (streams : List Stream) (runs : ℕ → Values → (ℕ → DeviceTold) → Outcomes) (listing : DeviceTold → Outcomes) (c : RunRecord) : Type 0 where
   pub home : ℕ → DeviceTold
   pub values : Values
   pub outer : How
@@ -47,10 +48,10 @@ pub record RunsTogether (opener : Opener) (streams : List Stream) (runs : ℕ �
   pub devices : MadeComeBack c.depot_old c.depot_new (places_in opener streams) home
   pub valued : HaveValues (Some opener) home values
   pub within : (r : ℕ) → length opener.tables ≤ r → r < length (places_in opener streams) → (home r).at ≤ 2 ^ 40
-  pub account : IsJoinedLedger opener.max_open (length opener.tables) (length streams) outer c.events
-  pub tables : AreTablesKept (length opener.tables) home c.events
-  pub came : OuterHasRun opener (length streams) c home outer
-  pub is_tale : IsTale (bare (Some opener) streams) tale
+  pub account : IsJoinedLedger opener (length streams) outer c.events
+  pub tables : AreTablesKept (length (opener_places opener)) home c.events
+  pub came : OuterHasRun opener listing (length streams) c home outer
+  pub is_tale : IsTale (bounds_of opener streams) tale
   pub settled : IsSettled tale
   pub recorded : IsRecordOf (bare (Some opener) streams) tale c
   pub outer_is : tale.outer ≡ Some outer

@@ -23,7 +23,7 @@ use Rattle.joined_runs.specs.Together.{RunsTogether}
 
 -- both streams are open at once, and one frame is printed at most
 abbrev pub one_frame : Opener
-one_frame = record { tables = []; fault_of = λ bytes. None; value_of = λ bytes key. None; scopes = 0; max_open = 2; most = Some 1 }
+one_frame = record { tables = []; groups = []; list = None; fault_of = λ bytes. None; value_of = λ bytes key. None; max_open = 2; most = Some 1 }
 
 -- one row, whose file is read
 abbrev pub reads_file : List ℕ → Stream
@@ -35,6 +35,10 @@ two_files = reads_file (codes "a") ∷ reads_file (codes "b") ∷ []
 -- stream k opens the device of row k and reads it, and may be left at any time
 abbrev pub file_runs : ℕ → Values → (ℕ → DeviceTold) → Outcomes
 file_runs k v w = OrLeft (Unit {0}) (OpensThen (w k) (OrLeft (Unit {0}) (Reads (w k))) (Unit {0}))
+
+-- there is no list
+abbrev pub no_list : DeviceTold → Outcomes
+no_list d ys e = ⊥
 
 -- The devices.
 
@@ -92,11 +96,11 @@ worked_run = record {
 
 -- so it was
 pub record IsWorked : Type 0 where
-  pub together : RunsTogether one_frame two_files file_runs worked_run
+  pub together : RunsTogether one_frame two_files file_runs no_list worked_run
 
 -- such a run can't be
 abbrev pub IsRefused : RunRecord → Type 0
-IsRefused c = ¬ (RunsTogether one_frame two_files file_runs c)
+IsRefused c = ¬ (RunsTogether one_frame two_files file_runs no_list c)
 
 -- No such run: an end is missing; the ends stand in another order; a frame more was printed than may be; the whole frame is said to be the rest of one whose write failed; a stream is halted
 -- for nothing; a stream is done that noted nothing; a stream noted something that isn't there; the outer stream is done and closed its root as canceled.

@@ -9,7 +9,7 @@ use Rattle.chunk_core.specs.declared.code.How.{How}
 use Rattle.chunk_core.proofs.Each.{each_among, among_each}
 use Rattle.chunk_core.proofs.Members.{among_mid}
 use Rattle.res_ledger.specs.declared.event.StreamNo.{StreamNo}
-use Rattle.res_ledger.specs.declared.event.StreamNo.TheVariants.{Inner, Outer}
+use Rattle.res_ledger.specs.declared.event.StreamNo.TheVariants.{Inner}
 use Rattle.res_ledger.specs.declared.event.What.{What}
 use Rattle.res_ledger.specs.declared.event.What.TheVariants.{Cancel, Close}
 use Rattle.res_ledger.specs.declared.event.Event.{Event}
@@ -20,9 +20,9 @@ use Rattle.run_rules.specs.Facts.{at, leased_stream, is_failed, has_event}
 use Rattle.run_rules.specs.declared.end.EndOf.{EndOf}
 use Rattle.run_rules.specs.Ends.{IsLast}
 use Rattle.run_rules.specs.Exits.{HasExit}
-use Rattle.run_rules.specs.Rules.{ClosesBeforeLeaving, IsOurs, LendsTables}
+use Rattle.run_rules.specs.Rules.{ClosesBeforeLeaving, IsOurs}
 use Rattle.lone_stream.specs.Account.{alone, IsAccount, IsAccountOf}
-use Rattle.joined_runs.proofs.JoinedRules.{none_leased, not_outer}
+use Rattle.joined_runs.proofs.JoinedRules.{none_leased}
 use Rattle.joined_runs.proofs.RowAccounts as rows
 use Rattle.joined_runs.proofs.RowAccounts.{AreRowsKept}
 
@@ -59,16 +59,6 @@ module _ (count scopes : ℕ) (w : ℕ → DeviceTold) (how : How) (L : List Eve
   -- no stream above any noted something
   pub none_above : (k : ℕ) → IsLast k L
   none_above k j acts = let n = inner_is j 0 (sym acts.2 ∙ its_own count scopes w how L a acts.0 acts.1) in omega (arith, n)
-
-  -- no event is an outer stream's
-  no_outer : (e : Event) → IsAmong e L → e.by ≡ Outer → ⊥
-  no_outer e i o = not_outer 0 (sym o ∙ its_own count scopes w how L a e i)
-
-  pub lends_none : LendsTables 0 L
-  lends_none = record {
-    rise = λ P Q e r s q t is by what m. absurd (no_outer e (subst (λ l. IsAmong e l) (sym is) (among_mid P Q e)) by);
-    covers = λ j s r m l. absurd (no_outer m.0 m.1 m.2);
-  }
 
   abbrev end_0 : EndOf
   end_0 = record { who = Inner 0; how = how }

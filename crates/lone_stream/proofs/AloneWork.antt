@@ -19,7 +19,7 @@ use Rattle.res_ledger.proofs.Permuted.{range_among, range_distinct}
 use Rattle.lone_stream.specs.Account.{alone, ComesBack, IsAccount, IsAccountOf}
 use Rattle.joined_runs.specs.Devices.{MadeComeBack}
 use Rattle.job_runs.proofs.Returned.{are_made, places_are}
-use Rattle.lone_stream.proofs.Accounts.{kept, leaves_closed, lends_none, ours}
+use Rattle.lone_stream.proofs.Accounts.{kept, leaves_closed, ours}
 use Rattle.joined_runs.proofs.MadeRows as made
 use Rattle.joined_runs.proofs.MadeRows.{at_below, at_some, place_found}
 
@@ -74,6 +74,5 @@ module _ (places : List Place) (scopes : ℕ) (runs ideal : (ℕ → DeviceTold)
     ours = ours places scopes w h L a runs ideal;
     scopes = (a.opened, tt);
     leaving = leaves_closed (length places) scopes w h L a;
-    tables = lends_none (length places) scopes w h L a;
-    pace = tt;
+    given = tt;
   }

@@ -22,7 +22,14 @@ use Rattle.joined_runs.specs.Devices.{AreReturned}
 
 -- one stream, with a row for each of these places, and at most so many scopes
 abbrev pub alone : List Place → ℕ → ((ℕ → DeviceTold) → Outcomes) → ((ℕ → DeviceTold) → Outcomes) → Work
-alone places scopes runs ideal_runs = record { opener = None; streams = record { places = places; scopes = scopes; until = None } ∷ []; runs = λ k v w. runs w; ideal_runs = λ k v w. ideal_runs w }
+alone places scopes runs ideal_runs = record {
+  opener = None;
+  streams = record { places = places; scopes = scopes; until = None } ∷ [];
+  runs = λ k v w. runs w;
+  ideal_runs = λ k v w. ideal_runs w;
+  listing = λ d ys e. ⊥;
+  ideal_listing = λ d ys e. ⊥;
+}
 
 -- the depot made a device for each place, and each came back, in any order, with what was written to it kept; files changed only where one was opened for writing, and none was opened to be read
 -- that isn't there

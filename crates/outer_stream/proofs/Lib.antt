@@ -1,2 +1,6 @@
-pub mod Steps
-pub mod Standing
+pub mod Keeping
+pub mod Gave
+pub mod Follow
+pub mod Stepping
+pub mod Begun
+pub mod Going

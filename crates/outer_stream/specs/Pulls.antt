@@ -1,122 +1,149 @@
 -- What a pull of the outer stream does.
-use Rattle.std.specs.Prelude.{◌≡◌, ◌⊎◌, ℕ, suc, ◌+◌, ◌*◌, ◌-◌, ◌<◌, ◌≤◌, Bool, true, false, if◌then◌else◌, List, [], ◌++◌, length, map, Option, Some, None, Result}
-use Rattle.std.specs.Result.{result_err}
-use Rattle.chunk_core.specs.declared.code.Exit.{Exit}
+use Rattle.std.specs.Prelude.{◌≡◌, ℕ, ◌+◌, ◌*◌, ◌-◌, ◌^◌, ◌<◌, ◌≤◌, Bool, true, false, List, [], ◌∷◌, ◌++◌, filter, length, Option, Some, None, Result, Ok, Err, OnOk}
+use Rattle.std.specs.List.{slice_get}
+use Rattle.chunk_core.specs.declared.code.How.{How}
 use Rattle.chunk_core.specs.declared.code.How.TheVariants as how
 use Rattle.chunk_core.specs.Lists.{IsAmong}
 use Rattle.device_port.specs.Device.{DeviceTold}
 use Rattle.device_port.specs.Depot.{DepotTold}
+use Rattle.join_tree.specs.Given.{GivesMore, given}
 use Rattle.join_tree.specs.Mains.{IsMain}
+use Rattle.join_tree.specs.Notes.{is_table_note}
 use Rattle.join_tree.specs.Progress.{Progress, leasing_next, reading}
-use Rattle.join_tree.specs.Steps.{KeepsRows}
+use Rattle.join_tree.specs.Steps.{KeepsRows, TakesEvents}
 use Rattle.outer_tables.specs.declared.not_read.NotRead.{NotRead}
 use Rattle.outer_tables.specs.declared.not_read.NotRead.TheVariants as why
 use Rattle.outer_tables.specs.Outcomes.{AreOf}
-use Rattle.outer_tables.specs.Rows.{acquires}
-use Rattle.outer_tables.specs.Tables.{TriesTables}
-use Rattle.pipeline_desc.specs.Meant.{PlanMeant}
-use Rattle.pull_stepper.specs.Held.{FinishesDevice}
+use Rattle.outer_tables.specs.Tables.{ReadsTables, TriesTables}
+use Rattle.pipeline_desc.specs.declared.table.TableSpec.{TableSpec}
 use Rattle.res_ledger.specs.Own.{leased_rows}
 use Rattle.res_ledger.specs.declared.event.What.{What}
-use Rattle.res_ledger.specs.declared.event.What.TheVariants.{Acquire}
-use Rattle.scope_tree.specs.Calls.{Seen, used}
+use Rattle.res_ledger.specs.declared.event.What.TheVariants.{Acquire, Lease as lease_note}
+use Rattle.scope_tree.specs.declared.leases.Lease.{Lease}
+use Rattle.scope_tree.specs.Calls.{IsOpenScope, Seen, TakesRoom, used}
 use Rattle.scope_tree.specs.Trace.{owed, trace}
 use Rattle.scope_tree.specs.Visible.{lessee, rows_covered}
-use Rattle.tree_laws.specs.Lent.{Lent}
 use Rattle.outer_stream.specs.declared.next.Next.{Next}
 use Rattle.outer_stream.specs.declared.next.Next.TheVariants as next
+use Rattle.outer_stream.specs.declared.next.OuterPart.{OuterPart}
 use Rattle.outer_stream.specs.declared.outer.Outer.{Outer}
+use Rattle.outer_stream.specs.Parts.{FillsRoom, GaveLast, IsAmid, MayPull, beginning, closing, left_of, paths_of}
+use Rattle.outer_stream.specs.Steps.{KeepsOthers, ends}
 
--- no seat went out or came in, no lease was lost, and no right to an empty row but to those below t
-pub record KeepsOthers {P : Type 0} (t : ℕ) (a b : Seen P) : Type 0 where
-  pub out : b.seat.out ≡ a.seat.out
-  pub splits : b.seat.splits ≡ a.seat.splits
-  pub empty : (r : ℕ) → t ≤ r → IsAmong r a.seat.empty → IsAmong r b.seat.empty
-  pub lent : (j : ℕ) (T : List ℕ) → Lent a.seat j T → Lent b.seat j T
+-- how the outer stream is over where its tables weren't read
+abbrev pub how_unread : NotRead → How
+how_unread (why.Fault f) = how.Fault f
+how_unread why.Memory = how.Memory
 
-module _ (p : PlanMeant) where
-  -- the rows that the outer stream acquires are the first so many
-  abbrev pub outer_rows : ℕ
-  outer_rows = length p.tables
+-- the tables of the part p, which are the next ones, may be read in the scope of x
+pub record MayRead {V : Type 0} (T : ℕ) (p : OuterPart) (x : Outer) (a : Seen V) : Type 0 where
+  pub scope : IsOpenScope a x.scope
+  pub from : p.tables.from ≡ x.table
+  pub to : x.table ≤ p.tables.to
+  pub within : p.tables.to ≤ T
+  pub rows : (r : ℕ) → x.table ≤ r → r < T → IsAmong r a.seat.empty
+  pub used : used a + (T - x.table) ≤ a.rows
+  pub free : owed a.seat + 2 * (T - x.table) ≤ a.seat.spare
 
-  -- the events that the outer stream may note still, beside its leases and what it owes: an Acquire of each table, and what that then owes
-  abbrev pub outer_left : Outer → ℕ
-  outer_left x = if x.begun then 0 else 2 * length p.tables
+module _ {V : Type 0} (told : V → DeviceTold) (tables : List TableSpec) where
+  -- the tables of this part were read in the scope of x, or one of them wasn't
+  pub record ReadsPart (p : OuterPart) (x y : Outer) (old new : DepotTold) (a b : Seen V) (result : Result (Unit {0}) NotRead) : Type 0 where
+    pub reads : ReadsTables told (ends told) x.scope p.tables.from (paths_of tables p) old new a b x.tables y.tables result
+    pub now : OnOk result (y ≡ record x { part = x.part + 1; behind = p.behind; table = p.tables.to; tables = y.tables })
+    pub leased : y.leased ≡ x.leased
 
-  -- there is room for a lease for each stream that is left
-  pub record MayGive {V : Type 0} (x : Outer) (a : Seen V) : Type 0 where
-    pub few : x.leased ≤ length p.streams
-    pub free : x.leased < length p.streams → owed a.seat + (length p.streams - x.leased) + 1 ≤ a.seat.spare
+module _ {V : Type 0} (told : V → DeviceTold) (parts : List OuterPart) (tables : List TableSpec) where
+  -- The next part was begun, so far that its tables came out so: the child scope of the part before was closed, one for this part was opened, and its tables were tried there.
+  pub record BeginsPart (x y : Outer) (old new : DepotTold) (a b : Seen V) (o : Option NotRead) : Type 0 where
+    pub part : OuterPart
+    pub is : slice_get parts x.part ≡ Some part
+    pub ready : Seen V
+    pub kept : KeepsRows a.seat ready.seat
+    pub tries : TriesTables told (ends told) x.part part.tables.from (paths_of tables part) old new ready b o
+    pub noted : GivesMore (closing x.scope ++ beginning x.part part (length tries.devices)) a b
+    pub leased : y.leased ≡ x.leased
+    pub now : o ≡ None → (y.part ≡ x.part + 1) × (y.scope ≡ x.part) × (y.table ≡ part.tables.to) × (y.behind ≡ part.behind)
+    pub values : o ≡ None → (bss : List (List ℕ)) → AreOf x.tables bss → AreOf y.tables (bss ++ tries.contents)
 
-  -- and for what the outer stream does before
-  pub record MayPull {V : Type 0} (x : Outer) (a : Seen V) : Type 0 where
-    pub few : x.leased ≤ length p.streams
-    pub rows : x.begun ≡ false → (r : ℕ) → r < length p.tables → IsAmong r a.seat.empty
-    pub room : x.begun ≡ false → used a + length p.tables ≤ a.rows
-    pub free : owed a.seat + outer_left x ≤ a.seat.spare
-    pub leases : x.leased < length p.streams → owed a.seat + outer_left x + (length p.streams - x.leased) + 1 ≤ a.seat.spare
+  -- parts were begun, one after another
+  pub data Went : (x y : Outer) (old new : DepotTold) (a b : Seen V) → Type 0 where
+    nowhere : {x : Outer} {old : DepotTold} {a : Seen V} → Went x x old old a a
+    on : {x y z : Outer} {old mid new : DepotTold} {a b c : Seen V} → Went x y old mid a b → BeginsPart y z mid new b c None → Went x z old new a c
 
-module _ {V : Type 0} (told : V → DeviceTold) where
-  abbrev pub ends : V → Exit → Bool → V → Type 0
-  ends = FinishesDevice told
+  module _ (n width N : ℕ) where
+    -- The main tree, with room for N streams, is as far as the outer stream, with n streams: its root is open, so many streams were given, and so much was noted of tables and child scopes. The seats that are out and the leases that wait are as many as the width at most.
+    pub record IsOpenAt (q : Progress V) (x : Outer) (a : Seen V) : Type 0 where
+      pub main : IsMain (ends told) width N a q
+      pub root : q.root ≡ None
+      pub leased : q.leased ≡ x.leased
+      pub noted : q.tables ≡ filter is_table_note (given a.seat)
+      pub narrow : length a.seat.out + length q.waits ≤ width
+      pub few : n ≤ N
+      pub small : n < 2 ^ 32
+      pub amid : IsAmid parts (length tables) n x a
+      pub may : MayPull parts (length tables) n x a
 
-  -- The main tree is as far as the outer stream: its root is open, and so many streams were given. Nothing was read before the first pull. The seats that are out and the leases that wait are as many as the width at most.
-  pub record IsOpenAt (width n : ℕ) (q : Progress V) (x : Outer) (a : Seen V) : Type 0 where
-    pub main : IsMain ends width n a q
-    pub root : q.root ≡ None
-    pub leased : q.leased ≡ x.leased
-    pub first : x.begun ≡ false → (q.leased ≡ 0) × (q.tables ≡ [])
-    pub narrow : length a.seat.out + length q.waits ≤ width
-
-  module _ (p : PlanMeant) where
-    -- the paths of the tables
-    abbrev pub table_paths : List (List ℕ)
-    table_paths = map (λ t. t.path) p.tables
-
-    -- what was read before the next stream, with these notes, so far that it came out so: nothing but at the first pull, which tries the tables
-    pub data Reads (x y : Outer) (old new : DepotTold) (a b : Seen V) (o : Option NotRead) (E : List What) : Type 0 where
-      nothing : x.begun ≡ true → y ≡ x → new ≡ old → b ≡ a → o ≡ None → E ≡ [] → Reads x y old new a b o E
-      tables : x.begun ≡ false → y.begun ≡ true → y.leased ≡ x.leased → (t : TriesTables told ends 0 0 table_paths old new a b o) → (o ≡ None → (bss : List (List ℕ)) → AreOf x.tables bss → AreOf y.tables (bss ++ t.contents)) → E ≡ acquires 0 0 (length t.devices) → Reads x y old new a b o E
-
-    -- what the outer stream does before it gives the next stream
-    pub record Begins (x y : Outer) (old new : DepotTold) (a b : Seen V) (result : Result (Unit {0}) NotRead) : Type 0 where
+    -- parts were begun, by which the main tree is so much further
+    pub record Goes (q : Progress V) (x y : Outer) (old new : DepotTold) (a b : Seen V) : Type 0 where
+      pub went : Went x y old new a b
       pub noted : List What
-      pub reads : Reads x y old new a b (result_err result) noted
-      pub main : (width n : ℕ) (q : Progress V) → IsOpenAt width n q x a → IsMain ends width n b (reading q noted)
-      pub keeps : KeepsOthers (outer_rows p) a b
+      pub gives : GivesMore noted a b
+      pub now : IsOpenAt (reading q noted) y b
+      pub leased : y.leased ≡ x.leased
+      pub keeps : KeepsOthers (length tables) a b
       pub rows : KeepsRows a.seat b.seat
-      pub events : a.seat.spare + owed b.seat + outer_left p y ≤ b.seat.spare + owed a.seat + outer_left p x
+      pub room : FillsRoom parts (length tables) n x y a b
+      pub paid : a.seat.spare + owed b.seat + left_of parts (length tables) y ≤ b.seat.spare + owed a.seat + left_of parts (length tables) x
 
-    module _ (width : ℕ) (q : Progress V) (x y : Outer) (a b : Seen V) where
-      -- the root was leased for the next stream, on the rows that are open in it, which are those of tables; or no stream is left, or memory was wanting, and nothing was done
-      abbrev pub Comes : Next → Type 0
-      Comes (next.Leased l) = (q.leased < length p.streams) × (y.leased ≡ suc x.leased) × (lessee l ≡ q.leased) × (rows_covered l ≡ leased_rows (trace a.seat) 0) × ((r : ℕ) → IsAmong r (rows_covered l) → (s : ℕ) × IsAmong (Acquire r s) q.tables) × IsMain ends width (length p.streams) b (leasing_next q (rows_covered l))
-      Comes (next.Over h) = (b ≡ a) × (y ≡ x) × (((h ≡ how.Done) × (q.leased ≡ length p.streams)) ⊎ (h ≡ how.Memory))
+    -- the scope of x was leased for the next stream, on the rows that a lease of it covers, which are those of tables
+    pub record Leases (q : Progress V) (x y : Outer) (a b : Seen V) (l : Lease) : Type 0 where
+      pub less : x.leased < n
+      pub lessee : lessee l ≡ x.leased
+      pub rows : rows_covered l ≡ leased_rows (trace a.seat) x.scope
+      pub lent : (r : ℕ) → IsAmong r (rows_covered l) → (s : ℕ) × IsAmong (Acquire r s) q.tables
+      pub gives : GivesMore (lease_note x.leased x.scope ∷ []) a b
+      pub main : IsMain (ends told) width N b (leasing_next q (rows_covered l))
+      pub now : y ≡ record x { leased = x.leased + 1 }
+      pub amid : IsAmid parts (length tables) n y b
+      pub keeps : KeepsOthers 0 a b
+      pub kept : KeepsRows a.seat b.seat
+      pub room : TakesRoom 0 0 a b
+      pub paid : TakesEvents 1 a b
 
-      pub record Gives (n : Next) : Type 0 where
-        pub comes : Comes n
-        pub others : (y.begun ≡ x.begun) × (y.tables ≡ x.tables)
-        pub keeps : KeepsOthers 0 a b
-        pub rows : KeepsRows a.seat b.seat
-        pub events : a.seat.spare + owed b.seat ≤ b.seat.spare + owed a.seat + (y.leased - x.leased)
+    -- why the outer stream is over: behind the last stream of the last part, whose child scope was closed; by a table of the next part; or memory was wanting for the lease of the next stream, and nothing was done
+    pub data IsOverBy (x y : Outer) (old new : DepotTold) (a b : Seen V) : How → Type 0 where
+      done : x.part ≡ length parts → x.leased ≡ n → y ≡ record x { scope = 0 } → new ≡ old → GivesMore (closing x.scope) a b → IsOverBy x y old new a b how.Done
+      unread : (w : NotRead) → BeginsPart x y old new a b (Some w) → IsOverBy x y old new a b (how_unread w)
+      unleased : y ≡ x → new ≡ old → b ≡ a → IsOverBy x y old new a b how.Memory
 
-    -- how the outer stream is over, of whose reading this came out
-    abbrev pub IsOverBy : Option NotRead → Next → Type 0
-    IsOverBy None n = Unit {0}
-    IsOverBy (Some (why.Fault f)) n = n ≡ next.Over (how.Fault f)
-    IsOverBy (Some why.Memory) n = n ≡ next.Over how.Memory
+    pub record Ends (q : Progress V) (x y : Outer) (old new : DepotTold) (a b : Seen V) (h : How) : Type 0 where
+      pub cause : IsOverBy x y old new a b h
+      pub noted : List What
+      pub gives : GivesMore noted a b
+      pub main : IsMain (ends told) width N b (reading q noted)
+      pub gave : GaveLast parts n h (given b.seat)
+      pub leased : y.leased ≡ x.leased
+      pub keeps : KeepsOthers (length tables) a b
+      pub rows : KeepsRows a.seat b.seat
+      pub room : h ≡ how.Done → TakesRoom 0 0 a b
+      pub paid : a.seat.spare + owed b.seat ≤ b.seat.spare + owed a.seat + left_of parts (length tables) x
 
-    -- A pull: what was read, and then what comes. Where not all was read nothing more was done, and it is told why.
-    pub record Pulls (width : ℕ) (q : Progress V) (x y : Outer) (old new : DepotTold) (a b : Seen V) (n : Next) : Type 0 where
-      pub mid : Seen V
+    -- the next part was begun, or there is none, or a table of it wasn't read
+    abbrev pub NextPart : (q : Progress V) (x y : Outer) (old new : DepotTold) (a b : Seen V) → Result Bool NotRead → Type 0
+    NextPart q x y old new a b (Ok true) = (x.part < length parts) × (y.part ≡ x.part + 1) × Goes q x y old new a b
+    NextPart q x y old new a b (Ok false) = Ends q x y old new a b how.Done
+    NextPart q x y old new a b (Err w) = Ends q x y old new a b (how_unread w)
+
+    abbrev pub Comes : (q : Progress V) (x y : Outer) (old new : DepotTold) (a b : Seen V) → Next → Type 0
+    Comes q x y old new a b (next.Leased l) = (new ≡ old) × Leases q x y a b l
+    Comes q x y old new a b (next.Over h) = Ends q x y old new a b h
+
+    -- A pull: the parts that were begun, and then what comes.
+    pub record Pulls (q : Progress V) (x y : Outer) (old new : DepotTold) (a b : Seen V) (n' : Next) : Type 0 where
       pub between : Outer
-      pub o : Option NotRead
-      pub noted : List What
-      pub reads : Reads x between old new a mid o noted
-      pub main : IsMain ends width (length p.streams) mid (reading q noted)
-      pub over : IsOverBy o n
-      pub stopped : (w : NotRead) → o ≡ Some w → (b ≡ mid) × (y ≡ between)
-      pub gives : o ≡ None → Gives width (reading q noted) between y mid b n
-      pub keeps : KeepsOthers (outer_rows p) a b
+      pub depot : DepotTold
+      pub mid : Seen V
+      pub goes : Goes q x between old depot a mid
+      pub comes : Comes (reading q goes.noted) between y depot new mid b n'
+      pub keeps : KeepsOthers (length tables) a b
       pub rows : KeepsRows a.seat b.seat
-      pub events : a.seat.spare + owed b.seat + outer_left p y ≤ b.seat.spare + owed a.seat + outer_left p x + (y.leased - x.leased)

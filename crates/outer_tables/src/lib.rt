@@ -9,7 +9,8 @@
 //! can't be opened, which goes back to the depot at once; of a read that fails; or of what the table
 //! holds. A table has at most 16,777,216 bytes, and no more than one byte beyond is read. At
 //! `NotRead::Memory` each device is in its row too, or none was made. In no case is the root closed:
-//! the caller closes it with the exit of the outer stream, which closes the devices.
+//! the caller closes it with the exit of the outer stream, which closes the devices. `open_device` makes
+//! and opens a device alone, for what the outer stream reads otherwise.
 //!
 //! What was done stands in a `ReadsTables`, plain data that only contracts see: the devices in their
 //! rows, the one that came back, and how each table came out (`ComeOut`).
@@ -32,10 +33,11 @@
 #![tactic(auto)]
 
 pub mod not_read;
-pub(crate) mod opening;
+pub mod opening;
 pub(crate) mod table;
 pub mod tables;
 pub(crate) mod whole;
 
 pub use not_read::NotRead;
+pub use opening::open_device;
 pub use tables::read_tables;

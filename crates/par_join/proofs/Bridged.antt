@@ -1,5 +1,5 @@
 -- A collector with no lease that waits and no job that is open has come to its end.
-use Rattle.std.proofs.Common.{◌≡◌, ◌≢◌, ◌⊎◌, ℕ, ◌+◌, nat_eq, List, [], ◌∷◌, inl, inr, map, length, Option, Some, None, IfSome, option_map, refl, sym, ◌∙◌, ap, subst, ⊎_elim, arith}
+use Rattle.std.proofs.Common.{◌≡◌, ◌≢◌, ◌⊎◌, ℕ, nat_eq, List, [], ◌∷◌, inl, inr, map, length, Option, Some, None, option_map, refl, sym, ◌∙◌, ap, subst, ⊎_elim, arith}
 use Rattle.std.proofs.lemmas.Bool.{cases_eq}
 use Rattle.std.specs.List.{IsDistinct}
 use Rattle.chunk_core.specs.Lists.{IsAmong}
@@ -8,13 +8,12 @@ use Rattle.chunk_core.specs.Outcomes.{exit_of}
 use Rattle.chunk_core.specs.Tables.{Values}
 use Rattle.chunk_core.specs.declared.code.Exit.{Exit}
 use Rattle.chunk_core.specs.declared.code.How.{How}
-use Rattle.chunk_core.specs.declared.code.How.TheVariants as how
 use Rattle.chunk_core.proofs.Members.{among_cons, among_nil}
 use Rattle.collector.specs.declared.collector.Collector.{Collector}
-use Rattle.collector.specs.Collecting as collecting
-use Rattle.outer_stream.specs.Tables.{EndsRead, IsStoppedBy}
-use Rattle.collector.proofs.Tree.{idle}
-use Rattle.collector.specs.Collecting.{IsCollecting}
+use Rattle.collector.specs.Collecting.{IsCollecting, between}
+use Rattle.collector.specs.Members.{members}
+use Rattle.collector.specs.Streams.{AreJobs}
+use Rattle.collector.specs.Trees.{waiting_of}
 use Rattle.device_port.specs.Device.{DeviceTold}
 use Rattle.device_port.specs.Depot.{DepotTold}
 use Rattle.device_port.specs.Sink.{SinkTold}
@@ -34,6 +33,7 @@ use Rattle.scope_tree.specs.declared.tree.Tree.{Tree}
 use Rattle.scope_tree.proofs.Owed.{nothing_owed}
 use Rattle.stream_jobs.specs.Running.{Origin}
 use Rattle.collected.specs.Collected.{IsCollected}
+use Rattle.dealt_streams.specs.Standing.{StandsOuter}
 
 -- Whether an end came.
 
@@ -78,25 +78,23 @@ root_closed : {P : Type 0} (b : Seen P) (o : Option Exit) (x : Exit) → o ≡ S
 root_closed b None x e r = absurd (let f : None ≡ Some x = e in cc)
 root_closed b (Some y) x e r = r
 
-some_how : (a b : How) → Some a ≡ Some b → a ≡ b
-some_how a b e = cc
-
-module _ {S V F D T : Type 0} (view : S → View V) (told : V → DeviceTold) (fits : S → D → Type 0) (values : T → Values) (P : Values → StateMeaning F) (p : PlanMeant) (d0 : DepotTold) (s0 : SinkTold) (t : Values) (depot : DepotTold) (sink : SinkTold) (d : D) (c : Collector S V F D T)
-    (i : IsCollecting view told fits values P p d0 s0 t 1 depot sink d c) (none_waits : c.waiting.items ≡ []) (none_open : c.jobs.items ≡ []) where
+module _ {S V F D T : Type 0} (view : S → View V) (told : V → DeviceTold) (fits : S → D → Type 0) (values : T → Values) (P : Values → StateMeaning F) (p : PlanMeant) (d0 : DepotTold) (s0 : SinkTold) (depot : DepotTold) (sink : SinkTold) (d : D) (c : Collector S V F D T)
+    (i : IsCollecting (members view told fits values P) p d0 s0 (between 1 depot sink d c)) (none_waits : c.waiting.items ≡ []) (none_open : c.jobs.items ≡ []) where
   -- the collector has come to its end: how its outer stream ended, and what stands
   pub record IsAtEnd : Type 0 where
     pub outer : How
     pub outer_is : c.outer ≡ Some outer
-    pub collected : IsCollected view told P p d0 depot t outer (seen view c.tree) c.left.items c.receiver i.tale
+    pub collected : IsCollected view told P p d0 depot outer (seen view c.tree) c.left.items c.receiver i.tale
+    pub moves_are : collected.moves ≡ i.moves
 
   outer_some : (o : Option How) → c.outer ≡ o → (h : How) × (c.outer ≡ Some h)
   outer_some (Some h) e = (h, e)
   outer_some None e = absurd (let l = i.tree.some e (omega arith) in let z = ap (λ (xs : List _). length xs) none_waits in omega (arith, l, z))
 
-  no_origins : (ws : List (Origin V F)) → collecting.AreJobs view told fits values P c.hub c.stops.board d i.parts c.jobs.items ws → ws ≡ []
+  pub no_origins : (ws : List (Origin V F)) → AreJobs (members view told fits values P) c.hub c.stops.board d i.parts c.jobs.items ws → ws ≡ []
   no_origins ws j = by_list c.jobs.items ws none_open j
     where
-      by_list : (js : List _) (ws : List (Origin V F)) → js ≡ [] → collecting.AreJobs view told fits values P c.hub c.stops.board d i.parts js ws → ws ≡ []
+      by_list : (js : List _) (ws : List (Origin V F)) → js ≡ [] → AreJobs (members view told fits values P) c.hub c.stops.board d i.parts js ws → ws ≡ []
       by_list [] [] e j = refl
       by_list [] (w ∷ ws) e j = absurd j
       by_list (x ∷ js) ws e j = cc
@@ -121,27 +119,21 @@ module _ {S V F D T : Type 0} (view : S → View V) (told : V → DeviceTold) (f
         outer = outer;
         outer_is = o.1;
         collected = record {
+          moves = i.moves;
           parts = i.parts;
+          parts_are = i.parts_are;
           progress = i.progress;
-          mid = i.mid;
-          o = i.stands.o;
           main = i.tree.main;
           next = i.tree.next_is;
-          waits = i.tree.waits_are ∙ ap (map collecting.waiting_of) none_waits;
+          waits = i.tree.waits_are ∙ ap (map waiting_of) none_waits;
           root = root;
           shut = rests.0;
           once = rests.1;
-          tables = i.stands.tables;
-          read = i.stands.read;
-          ended = λ e. subst (λ l. EndsRead p l outer) (sym i.tree.leased_is) (subst (λ q. IfSome q (EndsRead p c.outer_stream.leased)) o.1 (i.stands.ended e));
-          nobody = λ e. let n = i.stands.nobody e in (n.0, some_how outer how.Halted (sym o.1 ∙ n.1));
-          unread = λ n.
-              let u = i.stands.unread n in
-              let tried = length i.stands.tables.devices + length i.stands.tables.back in (
-                (idle told p 1 (seen view c.tree) c.outer c.outer_stream c.waiting.items i.parts i.progress i.tree u.0).0,
-                ⊎_elim (λ y. let z : None ≡ Some outer = sym y.open_still ∙ o.1 in cc) (λ y. subst (λ x. IsStoppedBy told p i.stands.o tried i.tale.memory x) (some_how y.0 outer (sym y.1 ∙ o.1)) y.2) u.1,
-              );
-          dealt = i.dealt;
+          moved = i.moved;
+          begun = i.begun;
+          dicts = c.outer_stream.outer.tables;
+          stands = subst (λ l. StandsOuter p told i.moves i.begun l c.outer_stream.outer.tables (Some outer) i.tale.memory (seen view c.tree)) (sym i.tree.leased_is)
+              (subst (λ q. StandsOuter p told i.moves i.begun c.outer_stream.outer.leased c.outer_stream.outer.tables q i.tale.memory (seen view c.tree)) o.1 i.stands);
           streams = record {
             begun = i.streams.begun;
             come = come;
@@ -158,4 +150,5 @@ module _ {S V F D T : Type 0} (view : S → View V) (told : V → DeviceTold) (f
           outer_is = i.telling.outer_is ∙ o.1;
           settled = settles i.tale c.stops i.telling.known i.telling.seated (i.telling.seats ∙ ap (λ (js : List _). length js) none_open);
         };
+        moves_are = refl;
       }

@@ -11,11 +11,12 @@ use Rattle.cat_run.proofs.Unmade.{performs_nothing, unmade_outcome, wrote_none}
 pub plan_unmade : (p : PlanMeant) (old new : DepotTold) (so sn : SinkTold) → new ≡ old → sn ≡ so → RunsPlan p old new so sn unmade_outcome
 plan_unmade p old new so sn e quiet =
     subst (λ x. RunsPlan p old x so sn unmade_outcome) (sym e) (record {
+      lines = [];
       frames = [];
       cut = None;
       rest = [];
       broke = refl;
-      performs = performs_nothing (run_work p) old;
+      performs = performs_nothing (run_work p []) old;
       wrote = wrote_none so sn quiet;
       begun = λ k. (refl, refl);
     })

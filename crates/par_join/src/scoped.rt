@@ -1,13 +1,13 @@
 //! A run in a scope of its own, in which the streams' threads begin and end.
-ghost use Rattle.std.specs.Prelude.{◌≡◌, ◌-◌, ◌^◌, ◌<◌, [], List};
-ghost use Rattle.chunk_core.specs.Tables.{Values};
-ghost use Rattle.collector.specs.Collecting.{IsCollecting};
-ghost use Rattle.collector.specs.Starting.{IsFresh};
+ghost use Rattle.std.specs.Prelude.{◌≡◌, ◌-◌, ◌^◌, ◌<◌, List};
 ghost use Rattle.csv_pipes.specs.Dictionaries.{Dictionary, values_of};
 ghost use Rattle.pipeline_desc.specs.Sound.{IsSoundPlan};
-ghost use Rattle.pull_turns.specs.Piping.{standing};
+ghost use Rattle.par_join.specs.Plans.{RunsPlan};
+ghost use Rattle.par_join.specs.Room.{IsRoomOfRun};
 
-use collector::Collector;
+use crate::room::RunRoom;
+use crate::streams::run_in;
+use cat_run::Outcome;
 use csv_pipes::Dicts;
 use device_port::{Depot, Device, Gate, Sink};
 use pipeline_desc::Plan;
@@ -22,7 +22,7 @@ use std::thread;
 use std::thread::{Scope, Threads};
 use stream_workers::Place;
 
-/// Lends all that a run uses to its scope until it has come to its end.
+/// Lends all that a run uses to a scope of threads, in which it comes to its end.
 pub(crate) fn run_lending<
     R: Threads + Wait + Sync,
     V: Device + Drop + Send,
@@ -34,51 +34,52 @@ pub(crate) fn run_lending<
 >(
     rt: &R,
     alloc: Global,
-    collector: &mut Collector<S, V, F>,
+    room: RunRoom<S, Held<V>>,
     desk: &mut S::Desk,
     plan: &Plan,
     depot: &mut D,
     out: &mut K,
     gate: &G,
-)
+) -> Outcome
 where
     S::Desk: Drop + Send,
     requires limits { IsSoundPlan plan.now }
-    requires fresh { IsFresh S.view V.told S.fits plan.now desk.old collector.old }
+    requires room { IsRoomOfRun S.view plan.now room }
+    requires fits { S.fits room.seat desk.old }
     requires values { (tables : List Dictionary) → F.values tables ≡ values_of tables }
     requires sink { (K.told out.old).faults < 2 ^ 64 - 1 }
-    ensures collecting { (t : Values) × IsCollecting S.view V.told S.fits F.values (standing F.stands F.comes) plan.now (D.told depot.old) (K.told out.old) t 1 (D.told depot.new) (K.told out.new) desk.new collector.new }
-    ensures waiting { collector.new.waiting.items ≡ [] }
-    ensures jobs { collector.new.jobs.items ≡ [] }
+    ensures { RunsPlan plan.now (D.told depot.old) (D.told depot.new) (K.told out.old) (K.told out.new) result }
 {
+    let mut outcome = Outcome::unmade(alloc);
     let lent = Lent {
-        collector,
+        told: &mut outcome,
         desk,
         depot,
         out,
     };
     let Lent {
-        collector,
+        told,
         desk,
         depot,
         out,
-    } = run_scoped(rt, alloc, plan, gate, lent);
-    let _ = collector;
+    } = run_scoped::<R, V, S, F, D, K, G>(rt, alloc, room, plan, gate, lent);
+    let _ = told;
     let _ = desk;
     let _ = depot;
     let _ = out;
+    outcome
 }
 
-/// What a run lends to the scope of its threads, which hands it back.
+/// What a run lends to the scope of its threads, which hands it back, with what came of the run.
 #[derive(Drop)]
-struct Lent<'a, S: RowSeat<Pay = Held<V>>, V: Device, F: PipeState, D, K> {
-    collector: &'a mut Collector<S, V, F>,
+struct Lent<'a, S: RowSeat + 'a, D, K> {
+    told: &'a mut Outcome,
     desk: &'a mut S::Desk,
     depot: &'a mut D,
     out: &'a mut K,
 }
 
-/// Runs a collector to its end in a scope, in which threads may be begun.
+/// Does a run in a scope, in which threads may be begun.
 fn run_scoped<
     'a,
     R: Threads + Wait + Sync,
@@ -91,19 +92,20 @@ fn run_scoped<
 >(
     rt: &R,
     alloc: Global,
+    room: RunRoom<S, Held<V>>,
     plan: &Plan,
     gate: &G,
-    lent: Lent<'a, S, V, F, D, K>,
-) -> Lent<'a, S, V, F, D, K>
+    lent: Lent<'a, S, D, K>,
+) -> Lent<'a, S, D, K>
 where
     S::Desk: Drop + Send,
     requires limits { IsSoundPlan plan.now }
-    requires fresh { IsFresh S.view V.told S.fits plan.now lent.desk.now lent.collector.now }
+    requires room { IsRoomOfRun S.view plan.now room }
+    requires fits { S.fits room.seat lent.desk.now }
     requires values { (tables : List Dictionary) → F.values tables ≡ values_of tables }
     requires sink { (K.told lent.out.now).faults < 2 ^ 64 - 1 }
-    ensures names { (result.collector.ghost_name ≡ lent.entry.collector.ghost_name) × (result.desk.ghost_name ≡ lent.entry.desk.ghost_name) × (result.depot.ghost_name ≡ lent.entry.depot.ghost_name) × (result.out.ghost_name ≡ lent.entry.out.ghost_name) }
-    ensures collecting { (t : Values) × IsCollecting S.view V.told S.fits F.values (standing F.stands F.comes) plan.now (D.told lent.entry.depot.now) (K.told lent.entry.out.now) t 1 (D.told result.depot.now) (K.told result.out.now) result.desk.now result.collector.now }
-    ensures empty { (result.collector.now.waiting.items ≡ []) × (result.collector.now.jobs.items ≡ []) }
+    ensures names { (result.told.ghost_name ≡ lent.entry.told.ghost_name) × (result.depot.ghost_name ≡ lent.entry.depot.ghost_name) × (result.out.ghost_name ≡ lent.entry.out.ghost_name) }
+    ensures ran { RunsPlan plan.now (D.told lent.entry.depot.now) (D.told result.depot.now) (K.told lent.entry.out.now) (K.told result.out.now) result.told.now }
 {
     let refused = AtomicU64::new(0);
     let place = Place {
@@ -115,14 +117,14 @@ where
     thread::scope(
         thread::scope_env(),
         rt,
-        move |scope| -> Lent<'_, S, V, F, D, K>
-            requires { IsSoundPlan plan.now × IsFresh S.view V.told S.fits plan.now lent.desk.now lent.collector.now × ((tables : List Dictionary) → F.values tables ≡ values_of tables) × ((K.told lent.out.now).faults < 2 ^ 64 - 1) }
-            ensures { (result.collector.ghost_name ≡ lent.entry.collector.ghost_name) × (result.desk.ghost_name ≡ lent.entry.desk.ghost_name) × (result.depot.ghost_name ≡ lent.entry.depot.ghost_name) × (result.out.ghost_name ≡ lent.entry.out.ghost_name) × ((t : Values) × IsCollecting S.view V.told S.fits F.values (standing F.stands F.comes) plan.entry.now (D.told lent.entry.depot.now) (K.told lent.entry.out.now) t 1 (D.told result.depot.now) (K.told result.out.now) result.desk.now result.collector.now) × (result.collector.now.waiting.items ≡ []) × (result.collector.now.jobs.items ≡ []) }
-        { run_lent(scope, place, alloc, plan, lent) },
+        move |scope| -> Lent<'_, S, D, K>
+            requires { IsSoundPlan plan.now × IsRoomOfRun S.view plan.now room × S.fits room.seat lent.desk.now × ((tables : List Dictionary) → F.values tables ≡ values_of tables) × ((K.told lent.out.now).faults < 2 ^ 64 - 1) }
+            ensures { (result.told.ghost_name ≡ lent.entry.told.ghost_name) × (result.depot.ghost_name ≡ lent.entry.depot.ghost_name) × (result.out.ghost_name ≡ lent.entry.out.ghost_name) × RunsPlan plan.entry.now (D.told lent.entry.depot.now) (D.told result.depot.now) (K.told lent.entry.out.now) (K.told result.out.now) result.told.now }
+        { run_lent::<_, R, V, S, F, D, K, G>(scope, place, alloc, room, plan, lent) },
     )
 }
 
-/// Runs a collector to its end.
+/// Does a run with what is lent to its scope.
 fn run_lent<
     's,
     'a,
@@ -138,28 +140,29 @@ fn run_lent<
     scope: &Scope<'s, E>,
     place: &'s Place<'s, R, G>,
     alloc: Global,
+    room: RunRoom<S, Held<V>>,
     plan: &Plan,
-    lent: Lent<'a, S, V, F, D, K>,
-) -> Lent<'a, S, V, F, D, K>
+    lent: Lent<'a, S, D, K>,
+) -> Lent<'a, S, D, K>
 where
     S::Desk: Drop + Send + 's,
     requires limits { IsSoundPlan plan.now }
-    requires fresh { IsFresh S.view V.told S.fits plan.now lent.desk.now lent.collector.now }
+    requires room { IsRoomOfRun S.view plan.now room }
+    requires fits { S.fits room.seat lent.desk.now }
     requires values { (tables : List Dictionary) → F.values tables ≡ values_of tables }
     requires sink { (K.told lent.out.now).faults < 2 ^ 64 - 1 }
-    ensures names { (result.collector.ghost_name ≡ lent.entry.collector.ghost_name) × (result.desk.ghost_name ≡ lent.entry.desk.ghost_name) × (result.depot.ghost_name ≡ lent.entry.depot.ghost_name) × (result.out.ghost_name ≡ lent.entry.out.ghost_name) }
-    ensures collecting { (t : Values) × IsCollecting S.view V.told S.fits F.values (standing F.stands F.comes) plan.now (D.told lent.entry.depot.now) (K.told lent.entry.out.now) t 1 (D.told result.depot.now) (K.told result.out.now) result.desk.now result.collector.now }
-    ensures empty { (result.collector.now.waiting.items ≡ []) × (result.collector.now.jobs.items ≡ []) }
+    ensures names { (result.told.ghost_name ≡ lent.entry.told.ghost_name) × (result.depot.ghost_name ≡ lent.entry.depot.ghost_name) × (result.out.ghost_name ≡ lent.entry.out.ghost_name) }
+    ensures ran { RunsPlan plan.now (D.told lent.entry.depot.now) (D.told result.depot.now) (K.told lent.entry.out.now) (K.told result.out.now) result.told.now }
 {
     let Lent {
-        collector,
+        told,
         desk,
         depot,
         out,
     } = lent;
-    collector.run(scope, place, alloc, desk, plan, depot, out);
+    *told = run_in::<E, R, V, S, F, D, K, G>(scope, place, alloc, room, desk, plan, depot, out);
     Lent {
-        collector,
+        told,
         desk,
         depot,
         out,

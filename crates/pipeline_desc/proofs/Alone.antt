@@ -14,7 +14,8 @@ use Rattle.device_port.specs.Device.{Place, to_read, to_write}
 use Rattle.device_port.specs.declared.device.Mode.TheVariants as mode
 use Rattle.pipeline_desc.specs.Laws.{WrittenPathsStandAlone}
 use Rattle.pipeline_desc.specs.Outputs.{is_alone}
-use Rattle.pipeline_desc.specs.Places.{all_places, second_path, stream_places, table_places}
+use Rattle.pipeline_desc.specs.Places.{all_places, list_places, second_path, stream_places, table_places}
+use Rattle.pipeline_desc.specs.declared.listing.ListSpec.{ListSpec}
 use Rattle.pipeline_desc.specs.declared.stream.Second.{Second}
 use Rattle.pipeline_desc.specs.declared.stream.StreamSpec.{StreamSpec}
 use Rattle.pipeline_desc.specs.declared.table.TableSpec.{TableSpec}
@@ -77,6 +78,10 @@ tables_read : (tables : List TableSpec) (a : Place) → IsAmong a (table_places 
 tables_read [] a i writes = among_nil i
 tables_read (t ∷ tables) a i writes = ⊎_elim (λ e. not_written t.path a e writes) (λ m. tables_read tables a m writes) (among_cons i)
 
+list_read : (list : Option ListSpec) (a : Place) → IsAmong a (list_places list) → a.mode ≡ mode.Write → ⊥
+list_read None a i writes = among_nil i
+list_read (Some l) a i writes = ⊎_elim (λ e. not_written l.path a e writes) among_nil (among_cons i)
+
 -- one of these streams writes to the path
 record IsWrittenBy (streams : List StreamSpec) (path : List ℕ) : Type 0 where
   number : ℕ
@@ -93,10 +98,12 @@ streams_write (s ∷ streams) a i writes =
 
 pub written_alone : WrittenPathsStandAlone
 written_alone p sound r q a b is are writes same =
-    let places = all_places p.tables p.streams in
+    let places = all_places p.tables p.list p.streams in
+    let behind = list_places p.list ++ flat_map stream_places p.streams in
     let found : IsWrittenBy p.streams a.path =
-    ⊎_elim (λ m. absurd (tables_read p.tables a m writes)) (λ m. streams_write p.streams a m writes)
-    (among_append a (table_places p.tables) (flat_map stream_places p.streams) (among_get places r a is)) in
+    ⊎_elim (λ m. absurd (tables_read p.tables a m writes))
+    (λ n. ⊎_elim (λ m. absurd (list_read p.list a m writes)) (λ m. streams_write p.streams a m writes) (among_append a (list_places p.list) (flat_map stream_places p.streams) n))
+    (among_append a (table_places p.tables) behind (among_get places r a is)) in
     let once : is_alone places (Some a.path) ≡ true = subst (λ o. is_alone places o ≡ true) found.to (sound.alone found.number found.stream found.is) in
     let itself : bytes_eq a.path a.path ≡ true = (bytes_eq-Decides a.path a.path).1 refl in
     same_place (λ (p : Place). bytes_eq a.path p.path) places r q a b is are itself (subst (λ path. bytes_eq a.path path ≡ true) same itself)

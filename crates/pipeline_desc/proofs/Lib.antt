@@ -3,6 +3,7 @@ pub mod Bodies
 pub mod Documents
 pub mod Each
 pub mod Entries
+pub mod Groups
 pub mod NodeLaws
 pub mod Numerals
 pub mod Parts
@@ -12,4 +13,5 @@ pub mod Seen
 pub mod Settings
 pub mod TableNames
 pub mod Uses
+pub mod Wholes
 pub mod Written

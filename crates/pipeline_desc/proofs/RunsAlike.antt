@@ -133,10 +133,12 @@ module _ (l : Leeway) (t : Values) (w : ℕ → DeviceTold) where
       written_alike place s.to x y m n (or_text_alike k s.on_fault a b x y h (subst (λ z. IsOrText z s.on_fault a x) same d) e) i q
 
   pub node_alike : (p : PlanMeant) (k : ℕ) (m n : Node) → IsNodeOf p k m → IsNodeOf p k n → GiveAlike m n
-  node_alike p k m n (r, is, d) (s, are, e) =
+  node_alike p k m n d e =
+      let (r, is, one) = d [] in
+      let (s, are, other) = e [] in
       let both : Some r ≡ Some s = sym is ∙ are in
       let same : r ≡ s = cc in
-      stream_alike (first_row p k) s m n (subst (λ x. IsStreamNode (first_row p k) x m) same d) e
+      stream_alike (first_row p k) s m n (subst (λ x. IsStreamNode (first_row p k) x m) same one) other
 
 -- the same relations, either way
 same_outcomes : (R S : Outcomes) → R ≡ S → (ys : List Element) (e : End) → R ys e ↔ S ys e

@@ -88,15 +88,11 @@ module _ {A : Type 0} (f : Data → Option A) (position : Position) (d : Option 
   pub list_found : list_all (λ v. is_some (f (view v))) vs ≡ true → list_at f position d ≡ Ok (seen_as f vs)
   list_found all = rw array (present_some (each_as f (items_view vs)) refused.WrongType position (sym (all_seen f vs) ∙ all))
 
-module _ (most : ℕ) (d : Option Data) (vs : List Value) (array : array_at Nowhere d ≡ Ok (items_view vs)) where
-  -- not each value is a table
-  pub tables_refused : list_all (λ v. is_some (as_table (view v))) vs ≡ false → tables_at most d ≡ refuse refused.WrongType Nowhere
-  tables_refused none = rw (list_refused as_table Nowhere d vs array none) refl
-
+module _ (most : ℕ) (d : Option Data) (vs : List Value) (all : is_some (each_as as_table (items_view vs)) ≡ true) (read : list_at as_table Nowhere d ≡ Ok (seen_as as_table vs)) where
   -- more tables than may stand there
-  pub tables_many : list_all (λ v. is_some (as_table (view v))) vs ≡ true → most < length vs → tables_at most d ≡ refuse refused.OutOfRange Nowhere
-  tables_many all more = rw (list_found as_table Nowhere d vs array all, length_seen as_table vs (sym (all_seen as_table vs) ∙ all), lt-leb (length vs) most more) refl
+  pub tables_many : most < length vs → tables_at most d ≡ refuse refused.OutOfRange Nowhere
+  tables_many more = rw (read, length_seen as_table vs all, lt-leb (length vs) most more) refl
 
   -- no more tables than may stand there
-  pub tables_few : list_all (λ v. is_some (as_table (view v))) vs ≡ true → length vs ≤ most → tables_at most d ≡ Ok (seen_as as_table vs)
-  tables_few all few = rw (list_found as_table Nowhere d vs array all, length_seen as_table vs (sym (all_seen as_table vs) ∙ all), le-leb (length vs) most few) refl
+  pub tables_few : length vs ≤ most → tables_at most d ≡ Ok (seen_as as_table vs)
+  tables_few few = rw (read, length_seen as_table vs all, le-leb (length vs) most few) refl

@@ -1,5 +1,5 @@
 -- The paths that are written, among all paths.
-use Rattle.std.proofs.Common.{◌≡◌, ℕ, ◌+◌, ◌*◌, ◌<◌, ◌≤◌, Bool, true, cond, List, [], ◌∷◌, ◌++◌, count_by, drop, get_or, length, nat_le, nat_lt, Some, refl, ap, ◌∙◌, sym, subst, ⊎_elim, add-one, arith}
+use Rattle.std.proofs.Common.{◌≡◌, ℕ, ◌+◌, ◌*◌, ◌<◌, ◌≤◌, Bool, true, cond, List, [], ◌∷◌, ◌++◌, count_by, drop, get_or, length, nat_lt, Option, Some, None, refl, ap, ◌∙◌, sym, subst, ⊎_elim, add-one, arith}
 use Rattle.std.specs.Prelude.{slice_get}
 use Rattle.std.specs.List.{flat_map, sum_by}
 use Rattle.std.specs.Str.{bytes_eq}
@@ -9,8 +9,9 @@ use Rattle.std.proofs.lemmas.Option.{slice_get_read}
 use Rattle.std.proofs.lemmas.List.Sums.{count_by-le-length, sum_by-append, sum_by-cons}
 use Rattle.device_port.specs.Device.{Place, to_read}
 use Rattle.pipeline_desc.specs.Outputs.{alone_from, is_alone}
-use Rattle.pipeline_desc.specs.Places.{all_places, stream_places, table_places}
+use Rattle.pipeline_desc.specs.Places.{all_places, list_places, stream_places, table_places}
 use Rattle.pipeline_desc.specs.Reading.{Reading}
+use Rattle.pipeline_desc.specs.declared.listing.ListSpec.{ListSpec}
 use Rattle.pipeline_desc.specs.declared.stream.StreamSpec.{StreamSpec}
 use Rattle.pipeline_desc.specs.declared.table.TableSpec.{TableSpec}
 use Rattle.pipeline_desc.proofs.NodeLaws.{row_count_le}
@@ -31,23 +32,30 @@ count_in_tables path [] = refl
 count_in_tables path (t ∷ tables) =
     omega (arith, count_in_tables path tables, sum_by-cons (λ (u : TableSpec). cond (bytes_eq path u.path) 1 0) t tables, sum_by-cons (λ (p : Place). cond (bytes_eq path p.path) 1 0) (to_read t.path) (table_places tables))
 
--- the places of a path are those of the tables, and those of the streams
-pub count_in_all : (path : List ℕ) (tables : List TableSpec) (streams : List StreamSpec)
-    → count_by (λ p. bytes_eq path p.path) (all_places tables streams) ≡ count_by (λ t. bytes_eq path t.path) tables + sum_by (λ s. count_by (λ p. bytes_eq path p.path) (stream_places s)) streams
-count_in_all path tables streams =
+-- the places of a path are those of the tables, that of the list, and those of the streams
+pub count_in_all : (path : List ℕ) (tables : List TableSpec) (list : Option ListSpec) (streams : List StreamSpec)
+    → count_by (λ p. bytes_eq path p.path) (all_places tables list streams)
+    ≡ count_by (λ t. bytes_eq path t.path) tables + count_by (λ p. bytes_eq path p.path) (list_places list) + sum_by (λ s. count_by (λ p. bytes_eq path p.path) (stream_places s)) streams
+count_in_all path tables list streams =
     let test = λ (p : Place). bytes_eq path p.path in
-    omega (arith, count_append test (table_places tables) (flat_map stream_places streams), count_in_tables path tables, count_in_streams test streams)
+    omega (
+      arith,
+      count_append test (table_places tables) (list_places list ++ flat_map stream_places streams),
+      count_append test (list_places list) (flat_map stream_places streams),
+      count_in_tables path tables,
+      count_in_streams test streams,
+    )
+
+-- a list has one place
+pub list_places_le : (list : Option ListSpec) → length (list_places list) ≤ 1
+list_places_le None = omega arith
+list_places_le (Some l) = omega arith
 
 -- at most three for each stream
 pub count_in_streams_le : (test : Place → Bool) (streams : List StreamSpec) → sum_by (λ s. count_by test (stream_places s)) streams ≤ 3 * length streams
 count_in_streams_le test [] = omega arith
 count_in_streams_le test (s ∷ streams) =
     omega (arith, sum_by-cons (λ (s : StreamSpec). count_by test (stream_places s)) s streams, count_by-le-length test (stream_places s), row_count_le s, count_in_streams_le test streams)
-
--- the test of a path by these two counts
-pub alone_by_counts : (path : List ℕ) (tables : List TableSpec) (streams : List StreamSpec) (m n : ℕ) → m ≡ count_by (λ t. bytes_eq path t.path) tables
-    → n ≡ sum_by (λ s. count_by (λ p. bytes_eq path p.path) (stream_places s)) streams → nat_le (m + n) 1 ≡ is_alone (all_places tables streams) (Some path)
-alone_by_counts path tables streams m n some more = ap (λ k. nat_le k 1) (omega (arith, some, more, count_in_all path tables streams))
 
 module _ (places : List Place) (streams : List StreamSpec) (k : ℕ) (s : StreamSpec) (within : k < length streams) (at : s ≡ get_or streams k s) where
   -- the stream at a place stands before those behind it

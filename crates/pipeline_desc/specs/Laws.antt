@@ -24,5 +24,5 @@ NodesRunAlike = (p : PlanMeant) (k : ℕ) (m n : Node) → IsNodeOf p k m → Is
 -- the path of a row that is written is that of no other row of the plan
 abbrev pub WrittenPathsStandAlone : Type 0
 WrittenPathsStandAlone =
-    (p : PlanMeant) → IsSoundPlan p → (r q : ℕ) (a b : Place) → slice_get (all_places p.tables p.streams) r ≡ Some a → slice_get (all_places p.tables p.streams) q ≡ Some b
+    (p : PlanMeant) → IsSoundPlan p → (r q : ℕ) (a b : Place) → slice_get (all_places p.tables p.list p.streams) r ≡ Some a → slice_get (all_places p.tables p.list p.streams) q ≡ Some b
     → a.mode ≡ mode.Write → a.path ≡ b.path → r ≡ q

@@ -1,3 +1,4 @@
+pub mod Groups
 pub mod Laws
 pub mod Limits
 pub mod Meant
@@ -13,3 +14,4 @@ pub mod Streams
 pub mod Tables
 pub mod Values
 pub mod Worked
+pub mod WorkedParts

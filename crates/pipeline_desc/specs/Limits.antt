@@ -43,6 +43,14 @@ most_tables = 8
 abbrev pub most_streams : ℕ
 most_streams = 1024
 
+-- the most groups of a description
+abbrev pub most_groups : ℕ
+most_groups = 16
+
+-- as many streams a list may have where no number is given
+abbrev pub listed_by_default : ℕ
+listed_by_default = 64
+
 -- the most steps of a stream
 abbrev pub most_steps : ℕ
 most_steps = 16

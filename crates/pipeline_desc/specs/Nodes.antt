@@ -1,5 +1,5 @@
 -- The nodes and the events of a plan's streams.
-use Rattle.std.specs.Prelude.{◌≡◌, ℕ, ◌+◌, ◌*◌, Bool, List, [], ◌∷◌, length, Option, Some, None, option_map, option_to_list, slice_get}
+use Rattle.std.specs.Prelude.{◌≡◌, ℕ, ◌+◌, ◌*◌, ◌≤◌, Bool, List, [], ◌∷◌, ◌++◌, length, Option, Some, None, option_map, option_to_list}
 use Rattle.std.specs.Global.{Box}
 use Rattle.chunk_core.specs.declared.load.Load.{Load}
 use Rattle.chunk_core.specs.declared.load.Load.TheVariants as load
@@ -10,8 +10,10 @@ use Rattle.pull_nodes.specs.declared.kind.Kind.TheVariants as kind
 use Rattle.pull_nodes.specs.declared.node.Node.{Node}
 use Rattle.pull_nodes.specs.declared.node.Node.TheVariants.{Emit, Read, Weak', Scope', Append', OnFault', Through', Take', Zip', Merge', Into'}
 use Rattle.device_port.specs.declared.device.Mode.{Mode}
-use Rattle.pipeline_desc.specs.Meant.{PlanMeant}
-use Rattle.pipeline_desc.specs.Places.{first_row, row_count, rows_that, stream_places}
+use Rattle.pipeline_desc.specs.Meant.{PlanMeant, stream_at}
+use Rattle.pipeline_desc.specs.Limits.{most_steps}
+use Rattle.pipeline_desc.specs.Steps.{steps_behind}
+use Rattle.pipeline_desc.specs.Places.{first_row, outer_rows, row_count, rows_that, stream_places}
 use Rattle.pipeline_desc.specs.declared.join.Join.{Join}
 use Rattle.pipeline_desc.specs.declared.join.Join.TheVariants as join
 use Rattle.pipeline_desc.specs.declared.step.Step.{Step}
@@ -80,9 +82,17 @@ abbrev pub IsStreamNode : ℕ → StreamSpec → Node → Type 0
 IsStreamNode place s n =
     (a m : Node) × (k : Kind) × IsBody (path_row place s) s a × (node_kind a ≡ Some k) × IsOrText k s.on_fault a m × IsWritten place s.to m n
 
--- n is the node of stream k
+-- stream k as far as its node goes, which doesn't depend on the file that a stream of the list reads
+abbrev pub shape_of : PlanMeant → ℕ → Option StreamSpec
+shape_of p k = stream_at p [] k
+
+-- n is made as the node of stream k, which has few steps
+abbrev pub IsMade : PlanMeant → ℕ → Node → Type 0
+IsMade p k n = (s : StreamSpec) × (shape_of p k ≡ Some s) × IsStreamNode (first_row p k) s n × (length (s.steps ++ steps_behind s.second) ≤ most_steps)
+
+-- n is the node of stream k, and if that is one of the list, whichever file it reads
 abbrev pub IsNodeOf : PlanMeant → ℕ → Node → Type 0
-IsNodeOf p k n = (s : StreamSpec) × (slice_get p.streams k ≡ Some s) × IsStreamNode (first_row p k) s n
+IsNodeOf p k n = (line : List ℕ) → (s : StreamSpec) × (stream_at p line k ≡ Some s) × IsStreamNode (first_row p k) s n
 
 -- the most events that a run of a node notes: two for each place, two for each scope, and the close of the root
 abbrev pub event_count : Node → ℕ
@@ -90,7 +100,7 @@ event_count n = 2 * length (places_of n) + 2 * scope_count n + 1
 
 -- the rows of stream k whose mode passes
 abbrev pub rows_for : (Mode → Bool) → PlanMeant → ℕ → Option (List ℕ)
-rows_for test p k = option_map (λ s. rows_that test (first_row p k) (stream_places s)) (slice_get p.streams k)
+rows_for test p k = option_map (λ s. rows_that test (first_row p k) (stream_places s)) (shape_of p k)
 
 -- how many scopes the node of a stream has: one around it, where a text stands in for a fault
 abbrev pub scopes_in : StreamSpec → ℕ
@@ -98,13 +108,13 @@ scopes_in s = length (option_to_list s.on_fault)
 
 -- how many scopes the node of stream k has
 abbrev pub scopes_of : PlanMeant → ℕ → Option ℕ
-scopes_of p k = option_map scopes_in (slice_get p.streams k)
+scopes_of p k = option_map scopes_in (shape_of p k)
 
--- the most events that a stream notes beside so many tables: two for each row, two for each scope, the close of the root, the end of the lease, and
--- then the end of each table
+-- the most events that a stream notes beside so many rows of the outer stream: two for each row, two for each scope, the close of the root, the end of
+-- the lease, and then the end of each of those rows
 abbrev pub stream_events : ℕ → StreamSpec → ℕ
-stream_events tables s = 2 * row_count s + 2 * scopes_in s + 1 + 1 + tables
+stream_events outer s = 2 * row_count s + 2 * scopes_in s + 1 + 1 + outer
 
 -- the most events that stream k notes
 abbrev pub events_of : PlanMeant → ℕ → Option ℕ
-events_of p k = option_map (stream_events (length p.tables)) (slice_get p.streams k)
+events_of p k = option_map (stream_events (outer_rows p)) (shape_of p k)

@@ -6,6 +6,7 @@ use Rattle.pipeline_desc.specs.Places.{all_places}
 use Rattle.pipeline_desc.specs.Reading.{Reading, ◌>>=◌, passes}
 use Rattle.pipeline_desc.specs.declared.refusal.Position.TheVariants.{InStream}
 use Rattle.pipeline_desc.specs.declared.refusal.RefusalKind.TheVariants as refused
+use Rattle.pipeline_desc.specs.declared.listing.ListSpec.{ListSpec}
 use Rattle.pipeline_desc.specs.declared.stream.StreamSpec.{StreamSpec}
 use Rattle.pipeline_desc.specs.declared.table.TableSpec.{TableSpec}
 
@@ -20,5 +21,5 @@ alone_from places k [] = Ok tt
 alone_from places k (s ∷ streams) = passes (is_alone places s.to) refused.OutOfRange (InStream k) >>= (λ _. alone_from places (k + 1) streams)
 
 -- no stream writes to another path of the description
-abbrev pub outputs_alone : List TableSpec → List StreamSpec → Reading (Unit {0})
-outputs_alone tables streams = alone_from (all_places tables streams) 0 streams
+abbrev pub outputs_alone : List TableSpec → Option ListSpec → List StreamSpec → Reading (Unit {0})
+outputs_alone tables list streams = alone_from (all_places tables list streams) 0 streams

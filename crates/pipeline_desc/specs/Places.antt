@@ -5,6 +5,7 @@ use Rattle.chunk_core.specs.declared.code.Span.{Span}
 use Rattle.device_port.specs.Device.{Place, to_read, to_write}
 use Rattle.device_port.specs.declared.device.Mode.{Mode}
 use Rattle.pipeline_desc.specs.Meant.{PlanMeant}
+use Rattle.pipeline_desc.specs.declared.listing.ListSpec.{ListSpec}
 use Rattle.pipeline_desc.specs.declared.stream.Second.{Second}
 use Rattle.pipeline_desc.specs.declared.stream.StreamSpec.{StreamSpec}
 use Rattle.pipeline_desc.specs.declared.table.TableSpec.{TableSpec}
@@ -21,17 +22,26 @@ stream_places s = option_to_list (option_map to_write s.to) ++ to_read s.path �
 abbrev pub table_places : List TableSpec → List Place
 table_places tables = map (λ t. to_read t.path) tables
 
--- the places of all rows, in the order of the rows: those of the tables come first, and then those of each stream
-abbrev pub all_places : List TableSpec → List StreamSpec → List Place
-all_places tables streams = table_places tables ++ flat_map stream_places streams
+-- the place of the list's row, where there is a list
+abbrev pub list_places : Option ListSpec → List Place
+list_places list = option_to_list (option_map (λ l. to_read l.path) list)
+
+-- the places of all rows that are described, in the order of the rows: those of the tables come first, then that of the list, and then those of each
+-- described stream
+abbrev pub all_places : List TableSpec → Option ListSpec → List StreamSpec → List Place
+all_places tables list streams = table_places tables ++ (list_places list ++ flat_map stream_places streams)
 
 -- how many rows a stream has
 abbrev pub row_count : StreamSpec → ℕ
 row_count s = length (stream_places s)
 
--- the first row of stream k
+-- how many rows the outer stream has: one for each table, and one for the list, where there is one
+abbrev pub outer_rows : PlanMeant → ℕ
+outer_rows p = length p.tables + length (option_to_list p.list)
+
+-- the first row of stream k: behind the outer stream's rows and those of the described streams before it; each stream of the list has one
 abbrev pub first_row : PlanMeant → ℕ → ℕ
-first_row p k = length p.tables + sum_by row_count (take k p.streams)
+first_row p k = outer_rows p + sum_by row_count (take k p.streams) + (k - length p.streams)
 
 -- the rows of stream k, which end where those of the next one begin
 abbrev pub rows_of : PlanMeant → ℕ → Span

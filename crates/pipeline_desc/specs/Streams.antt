@@ -1,14 +1,16 @@
 -- What the table of a stream means.
-use Rattle.std.specs.Prelude.{ℕ, ◌+◌, List, [], ◌∷◌, ◌++◌, length, codes, Option, Some, None, Ok, if◌then◌else◌}
+use Rattle.std.specs.Prelude.{ℕ, ◌+◌, nat_le, List, [], ◌∷◌, ◌++◌, length, codes, Option, Some, None, Ok, if◌then◌else◌, unwrap_or}
 use Rattle.std.specs.Str.{bytes_eq}
 use Rattle.toml.specs.Data.{Data, Members, as_str, get_member}
-use Rattle.pipeline_desc.specs.Limits.{is_another_stream, is_path, is_short}
-use Rattle.pipeline_desc.specs.Meant.{SettingMeant, setting_of}
-use Rattle.pipeline_desc.specs.Reading.{Reading, refuse, ◌>>=◌, present, each_from}
+use Rattle.pipeline_desc.specs.Limits.{is_another_stream, is_path, is_short, listed_by_default, most_streams}
+use Rattle.pipeline_desc.specs.Meant.{SettingMeant, setting_at}
+use Rattle.pipeline_desc.specs.Reading.{Reading, refuse, ◌>>=◌, passes, present, each_from}
 use Rattle.pipeline_desc.specs.Steps.{are_fitting, kind_given, steps_at, steps_behind}
-use Rattle.pipeline_desc.specs.Values.{known_keys, number_or, required, text_that, where_given}
+use Rattle.pipeline_desc.specs.Values.{known_keys, number_or, number_within, required, text_that, where_given}
+use Rattle.pipeline_desc.specs.declared.group.GroupSpec.{GroupSpec}
 use Rattle.pipeline_desc.specs.declared.join.Join.{Join}
 use Rattle.pipeline_desc.specs.declared.join.Join.TheVariants as join
+use Rattle.pipeline_desc.specs.declared.listing.ListSpec.{ListSpec}
 use Rattle.pipeline_desc.specs.declared.refusal.Position.{Position}
 use Rattle.pipeline_desc.specs.declared.refusal.Position.TheVariants.{InStream}
 use Rattle.pipeline_desc.specs.declared.refusal.RefusalKind.TheVariants as refused
@@ -63,6 +65,33 @@ stream_meant setting k ms =
     kind_given k steps second >>= (λ _.
     Ok (record { path = path; steps = steps; second = second; on_fault = on_fault; to = to; until = until })))))))))))))
 
--- the tables of all streams, beside these tables of records
-abbrev pub streams_meant : List TableSpec → List Members → Reading (List StreamSpec)
-streams_meant tables streams = each_from (stream_meant (setting_of tables (length streams))) 0 streams
+-- the tables of all streams, beside these tables of records and groups
+abbrev pub streams_meant : List TableSpec → List GroupSpec → List Members → Reading (List StreamSpec)
+streams_meant tables groups streams = each_from (λ k. stream_meant (setting_at tables groups (length streams) k) k) 0 streams
+
+-- the keys of the list
+abbrev pub list_keys : List (List ℕ)
+list_keys = codes "path" ∷ codes "steps" ∷ codes "on_fault" ∷ codes "max" ∷ []
+
+-- how many streams the list behind k streams may have: a number within limits, and no more than there may be in all
+abbrev pub max_meant : ℕ → Option Data → Reading ℕ
+max_meant k d =
+    where_given (number_within 1 most_streams (InStream k)) d >>= (λ max.
+    passes (nat_le (k + unwrap_or max listed_by_default) most_streams) refused.OutOfRange (InStream k) >>= (λ _. Ok (unwrap_or max listed_by_default)))
+
+-- the table of the list behind k streams: its keys in their order, and then what holds of several of them; its streams have the numbers from k on
+abbrev pub list_meant : SettingMeant → ℕ → Members → Reading ListSpec
+list_meant setting k ms =
+    known_keys list_keys (InStream k) ms >>= (λ _.
+    required (text_that is_path (InStream k)) (InStream k) (get_member (codes "path") ms) >>= (λ path.
+    steps_at setting k 0 (get_member (codes "steps") ms) >>= (λ steps.
+    where_given (text_that is_short (InStream k)) (get_member (codes "on_fault") ms) >>= (λ on_fault.
+    max_meant k (get_member (codes "max") ms) >>= (λ max.
+    are_fitting k (steps ++ steps_behind None) >>= (λ _.
+    kind_given k steps None >>= (λ _.
+    Ok (record { path = path; steps = steps; on_fault = on_fault; max = max }))))))))
+
+-- that of the list behind these streams, where there is one; it may look up the tables of the top
+abbrev pub list_behind : List TableSpec → List GroupSpec → ℕ → Option Members → Reading (Option ListSpec)
+list_behind tables groups k None = Ok None
+list_behind tables groups k (Some ms) = list_meant (setting_at tables groups k k) k ms >>= (λ l. Ok (Some l))

@@ -49,6 +49,10 @@ abbrev pub text_that : (List ℕ → Bool) → Position → Data → Reading (Li
 text_that test position d =
     present (as_str d) refused.WrongType position >>= (λ text. passes (test text) refused.OutOfRange position >>= (λ _. Ok text))
 
+-- a table
+abbrev pub table_that : Position → Data → Reading Members
+table_that position d = present (as_table d) refused.WrongType position
+
 -- an element and then others, where all are there
 abbrev pub both_or_none : {A : Type 0} → Option A → Option (List A) → Option (List A)
 both_or_none None more = None

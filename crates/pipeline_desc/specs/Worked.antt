@@ -36,7 +36,7 @@ with_steps words = stream_with (codes "steps = [" ++ words ++ codes "]\n")
 
 -- a plan of these streams, with all other values as they are where none is given
 abbrev pub plan_by_default : List StreamSpec → PlanMeant
-plan_by_default streams = record { max_open = 4; queue = 16; chunk = 4096; take = None; tables = []; streams = streams }
+plan_by_default streams = record { max_open = 4; queue = 16; chunk = 4096; take = None; tables = []; streams = streams; groups = []; list = None }
 
 -- one stream of a file, with these steps
 abbrev pub stream_of : List ℕ → List Step → StreamSpec
@@ -54,7 +54,7 @@ DocumentsMean =
 abbrev pub TopsMean : Type 0
 TopsMean =
     IsRefused (codes "chunk = 0\nchunks = 1\n") refused.UnknownKey Nowhere
-    × IsRefused (codes "version = 2\n") refused.OutOfRange Nowhere
+    × IsRefused (codes "version = 3\n") refused.OutOfRange Nowhere
     × IsRefused (codes "queue = 65\nmax_open = 'a'\n") refused.WrongType Nowhere
     × IsRefused (codes "max_open = 0\nqueue = 1.0\n") refused.OutOfRange Nowhere
     × IsRefused (codes "chunk = 65537\ntake = 'a'\n") refused.OutOfRange Nowhere
@@ -62,7 +62,7 @@ TopsMean =
     × IsRefused (codes "table = 1\nstream = [{}, {}]\n") refused.WrongType Nowhere
     × IsRefused (codes "group = []\n") refused.UnknownKey Nowhere
     × IsPlanOf (codes "version = 1\nmax_open = 64\nqueue = 1\nchunk = 65536\ntake = 1000000000\n")
-    (record { max_open = 64; queue = 1; chunk = 65536; take = Some 1000000000; tables = []; streams = [] })
+    (record { max_open = 64; queue = 1; chunk = 65536; take = Some 1000000000; tables = []; streams = []; groups = []; list = None })
 
 -- a table of records with these further keys, and one of this name
 abbrev pub table_with : List ℕ → List ℕ
@@ -248,7 +248,7 @@ abbrev pub RowsFollow : Type 0
 RowsFollow =
     (rows_of plan_of_two 0 ≡ rows_from_to 1 4)
     × (rows_of plan_of_two 1 ≡ rows_from_to 4 5)
-    × (all_places plan_of_two.tables plan_of_two.streams ≡ to_read (codes "t.csv") ∷ to_write (codes "c") ∷ to_read (codes "a") ∷ to_read (codes "b") ∷ to_read (codes "d") ∷ [])
+    × (all_places plan_of_two.tables plan_of_two.list plan_of_two.streams ≡ to_read (codes "t.csv") ∷ to_write (codes "c") ∷ to_read (codes "a") ∷ to_read (codes "b") ∷ to_read (codes "d") ∷ [])
     × (rows_for is_read plan_of_two 0 ≡ Some (2 ∷ 3 ∷ []))
     × (rows_for is_write plan_of_two 0 ≡ Some (1 ∷ []))
     × (events_of plan_of_two 0 ≡ Some 9)

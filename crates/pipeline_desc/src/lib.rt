@@ -32,9 +32,13 @@
 //! ```
 #![tactic(auto)]
 
+pub(crate) mod described;
+pub mod group;
 pub mod join;
 pub mod kinds;
 pub mod laws;
+pub mod listing;
+pub(crate) mod lists;
 pub mod nodes;
 pub(crate) mod outputs;
 pub mod plan;
@@ -50,8 +54,10 @@ pub(crate) mod tables;
 pub(crate) mod values;
 pub mod words;
 
+pub use group::GroupSpec;
 pub use join::Join;
-pub use nodes::{events, node, rows};
+pub use listing::ListSpec;
+pub use nodes::{events, node, outer_rows, rows};
 pub use plan::Plan;
 pub use reader::read;
 pub use refusal::{Refusal, RefusalKind, Refused};

@@ -1,5 +1,5 @@
 //! The nodes, the rows and the events of a plan's streams.
-ghost use Rattle.std.specs.Prelude.{◌≡◌, ℕ, ◌+◌, ◌^◌, ◌≤◌, ◌<◌, true, Some, IsOk, IsSome, length, IfOk};
+ghost use Rattle.std.specs.Prelude.{◌≡◌, ℕ, ◌+◌, ◌*◌, ◌^◌, ◌≤◌, ◌<◌, true, Some, IsOk, IsSome, length, [], None, option_to_list, IfOk};
 ghost use Rattle.std.specs.List.{sum_by};
 ghost use Rattle.pull_nodes.specs.Kinds.{node_kind};
 ghost use Rattle.pull_nodes.specs.Placed.{is_placed};
@@ -7,10 +7,13 @@ ghost use Rattle.pull_nodes.specs.Shape.{node_count, places_of, reads_of, scope_
 ghost use Rattle.pipeline_desc.specs.Steps.{kind_given};
 ghost use Rattle.pull_nodes.specs.declared.kind.Kind.{Kind};
 ghost use Rattle.device_port.specs.Device.{is_read, is_write};
-ghost use Rattle.pipeline_desc.specs.Nodes.{IsBehind, IsBehindStep, IsBeside, IsBody, IsCore, IsJoined, IsNodeOf, IsOrText, IsStreamNode, IsWritten, event_count, events_of, load_of, path_row, rows_for, scopes_in, scopes_of};
-ghost use Rattle.pipeline_desc.specs.Places.{first_row, row_count, rows_within, rows_of};
+ghost use Rattle.pipeline_desc.specs.Nodes.{IsBehind, IsBehindStep, IsBeside, IsBody, IsCore, IsJoined, IsMade, IsNodeOf, IsOrText, IsStreamNode, IsWritten, event_count, events_of, load_of, path_row, rows_for, scopes_of};
+ghost use Rattle.pipeline_desc.specs.Limits.{most_tables};
+ghost use Rattle.pipeline_desc.specs.Meant.{listed_stream, stream_limit};
+ghost use Rattle.pipeline_desc.specs.Places.{first_row, outer_rows, row_count, rows_within, rows_of};
 
 use crate::join::Join;
+use crate::listing::ListSpec;
 use crate::plan::Plan;
 use crate::step::Step;
 use crate::stream::{Second, StreamSpec};
@@ -168,6 +171,23 @@ fn stream_node(alloc: Global, place: u32, stream: &StreamSpec) -> Result<Node, A
     written(alloc, place, &stream.to, part)
 }
 
+/// The node that acquires the device at a place, reads it, and goes through the list's steps.
+fn listed_body(alloc: Global, place: u32, list: &ListSpec) -> Result<Node, AllocError>
+    ensures { IfOk result (λ n. IsBody place (listed_stream list.now []) n) }
+{
+    let core = behind(alloc, list.steps.as_slice(), Node::Read(place))?;
+    Ok(Node::Weak(place, Box::new(alloc, core)?))
+}
+
+/// The node of a stream of the list whose row is this.
+fn listed_node(alloc: Global, place: u32, list: &ListSpec) -> Result<Node, AllocError>
+    requires { (k : ℕ) × IsOk (kind_given k list.now.steps None) }
+    ensures { IfOk result (λ n. IsStreamNode place (listed_stream list.now []) n) }
+{
+    let body = listed_body(alloc, place, list)?;
+    with_text(alloc, &list.on_fault, body)
+}
+
 /// The row of a stream's path: behind that of its `to`.
 fn path_row(place: u32, stream: &StreamSpec) -> u32
     requires { place + 1 < 2 ^ 32 }
@@ -208,19 +228,37 @@ fn rows_of_all(streams: &[StreamSpec]) -> u32
     rows
 }
 
+/// How many rows the outer stream has: one for each table, and one for the list.
+pub fn outer_rows(plan: &Plan) -> u32
+    ensures value { result ≡ outer_rows plan.now }
+    ensures few { result ≤ most_tables + 1 }
+{
+    let listed = match plan.list() {
+        Some(_) => 1,
+        None => 0,
+    };
+    plan.tables().len() as u32 + listed
+}
+
 /// The first row of stream k, or behind the last stream the one behind its rows.
 fn first_row(plan: &Plan, k: usize) -> u32
-    requires { k ≤ length plan.now.streams }
+    requires { k ≤ stream_limit plan.now }
     ensures row { result ≡ first_row plan.now k }
     ensures few { result + 2 < 2 ^ 32 }
 {
-    let before = &plan.streams().as_slice()[..k];
-    plan.tables().len() as u32 + rows_of_all(before)
+    plan.limits();
+    let described = plan.streams().as_slice();
+    let outer = outer_rows(plan);
+    if k <= described.len() {
+        return outer + rows_of_all(&described[..k]);
+    }
+    outer + rows_of_all(described) + (k - described.len()) as u32
 }
 
-/// The rows of stream k, which its devices have.
+/// The rows of stream k, in the order in which the outer stream's devices, then all described
+/// streams', and then those of the list's streams are numbered.
 pub fn rows(plan: &Plan, k: u32) -> Span
-    requires { k < length plan.now.streams }
+    requires { k < stream_limit plan.now }
     ensures { result ≡ rows_of plan.now k }
 {
     let k = k as usize;
@@ -230,10 +268,45 @@ pub fn rows(plan: &Plan, k: u32) -> Span
     }
 }
 
-/// The node of stream k. It has a kind and acquires the devices of the stream's rows in their
-/// order: it writes the first where the stream has a `to`, and reads the others.
-pub fn node(alloc: Global, plan: &Plan, k: u32) -> Result<Node, AllocError>
+/// The node of stream k, which is described.
+fn described_node(alloc: Global, plan: &Plan, k: u32) -> Result<Node, AllocError>
     requires { k < length plan.now.streams }
+    ensures { IfOk result (IsMade plan.now k) }
+{
+    let place = first_row(plan, k as usize);
+    let stream = plan.stream(k);
+    stream_node(alloc, place, stream)
+}
+
+/// The node of stream k, which is one of the list.
+fn node_of_list(alloc: Global, plan: &Plan, k: u32) -> Result<Node, AllocError>
+    requires behind { length plan.now.streams ≤ k }
+    requires within { k < stream_limit plan.now }
+    ensures { IfOk result (IsMade plan.now k) }
+{
+    plan.limits();
+    let place = first_row(plan, k as usize);
+    let list = plan.listed();
+    listed_node(alloc, place, list)
+}
+
+/// The node of stream k as it is made.
+fn node_made(alloc: Global, plan: &Plan, k: u32) -> Result<Node, AllocError>
+    requires { k < stream_limit plan.now }
+    ensures { IfOk result (IsMade plan.now k) }
+{
+    if (k as usize) < plan.streams().len() {
+        described_node(alloc, plan, k)
+    } else {
+        node_of_list(alloc, plan, k)
+    }
+}
+
+/// The node of stream k. It has a kind and acquires the devices of the stream's rows in their
+/// order: it writes the first where the stream has a `to`, and reads the others. That of a stream of
+/// the list is the same whichever file it reads.
+pub fn node(alloc: Global, plan: &Plan, k: u32) -> Result<Node, AllocError>
+    requires { k < stream_limit plan.now }
     ensures node { IfOk result (IsNodeOf plan.now k) }
     ensures kind { IfOk result (λ n. IsSome (node_kind n)) }
     ensures few { IfOk result (λ n. node_count n < 2 ^ 32) }
@@ -242,31 +315,57 @@ pub fn node(alloc: Global, plan: &Plan, k: u32) -> Result<Node, AllocError>
     ensures reads { IfOk result (λ n. rows_for is_read plan.now k ≡ Some (reads_of n)) }
     ensures writes { IfOk result (λ n. rows_for is_write plan.now k ≡ Some (writes_of n)) }
     ensures scopes { IfOk result (λ n. scopes_of plan.now k ≡ Some (scope_count n)) }
-    ensures events { IfOk result (λ n. events_of plan.now k ≡ Some (event_count n + 1 + length plan.now.tables)) }
+    ensures events { IfOk result (λ n. events_of plan.now k ≡ Some (event_count n + 1 + outer_rows plan.now)) }
 {
-    let stream = plan.stream(k);
-    let place = first_row(plan, k as usize);
-    stream_node(alloc, place, stream)
+    node_made(alloc, plan, k)
 }
 
 /// How many scopes the node of a stream has.
-fn scope_count(stream: &StreamSpec) -> u32
-    ensures { result ≡ scopes_in stream.now }
+fn scope_count(on_fault: &Option<Line>) -> u32
+    ensures { result ≡ length (option_to_list on_fault.now) }
 {
-    match stream.on_fault {
+    match on_fault {
         Some(_) => 1,
         None => 0,
     }
 }
 
-/// The most events that stream k notes: two for each of its rows, two for each scope, the close of
-/// the root, the end of its lease, and then the end of each table.
-pub fn events(plan: &Plan, k: u32) -> u64
+/// The most events that a stream of so many rows notes beside so many of the outer stream's.
+fn events_by(places: u32, on_fault: &Option<Line>, outer: u32) -> u64
+    ensures { result ≡ 2 * places + 2 * length (option_to_list on_fault.now) + 1 + 1 + outer }
+{
+    let scopes = u64::from(scope_count(on_fault));
+    2 * u64::from(places) + 2 * scopes + 1 + 1 + u64::from(outer)
+}
+
+/// The most events that stream k notes, which is described.
+fn described_events(plan: &Plan, k: u32) -> u64
     requires { k < length plan.now.streams }
     ensures { events_of plan.now k ≡ Some result }
 {
     let stream = plan.stream(k);
-    let places = u64::from(row_count(stream));
-    let scopes = u64::from(scope_count(stream));
-    2 * places + 2 * scopes + 1 + 1 + plan.tables().len() as u64
+    events_by(row_count(stream), &stream.on_fault, outer_rows(plan))
+}
+
+/// The most events that stream k notes, which is one of the list.
+fn listed_events(plan: &Plan, k: u32) -> u64
+    requires behind { length plan.now.streams ≤ k }
+    requires within { k < stream_limit plan.now }
+    ensures { events_of plan.now k ≡ Some result }
+{
+    let list = plan.listed();
+    events_by(1, &list.on_fault, outer_rows(plan))
+}
+
+/// The most events that stream k notes: two for each of its rows, two for each scope, the close of
+/// the root, the end of its lease, and then the end of each row of the outer stream.
+pub fn events(plan: &Plan, k: u32) -> u64
+    requires { k < stream_limit plan.now }
+    ensures { events_of plan.now k ≡ Some result }
+{
+    if (k as usize) < plan.streams().len() {
+        described_events(plan, k)
+    } else {
+        listed_events(plan, k)
+    }
 }

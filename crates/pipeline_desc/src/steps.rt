@@ -34,7 +34,7 @@ fn each_step(
     requires seen { is_some (each_as as_str (items_view words.now)) ≡ true }
     requires first { first < 2 ^ 32 }
     ensures meant { ReadsAs (λ s. s) result (each_from (step_meant setting.now k) first (seen_as as_str words.now)) }
-    ensures sound { IfOk result (λ s. list_all (is_sound_step (length setting.now.tables)) s ≡ true) }
+    ensures sound { IfOk result (λ s. list_all (is_sound_step setting.now.tables) s ≡ true) }
     ensures few { IfOk result (λ s. first + length s + 1 < 2 ^ 32) }
 {
     // A description is too short for 2^32 steps.
@@ -63,7 +63,7 @@ pub(crate) fn steps(
 ) -> Result<List<Step>, Refused>
     requires { first < 2 ^ 32 }
     ensures meant { ReadsAs (λ s. s) result (steps_at setting.now k first (get_member key.now (table_view table.now))) }
-    ensures sound { IfOk result (λ s. list_all (is_sound_step (length setting.now.tables)) s ≡ true) }
+    ensures sound { IfOk result (λ s. list_all (is_sound_step setting.now.tables) s ≡ true) }
     ensures few { IfOk result (λ s. first + length s + 1 < 2 ^ 32) }
 {
     let words = texts(table, key, Position::InStream(k))?;

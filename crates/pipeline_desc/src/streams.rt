@@ -1,17 +1,19 @@
 //! The streams of a description.
-ghost use Rattle.std.specs.Prelude.{◌≡◌, ◌+◌, ◌^◌, ◌<◌, ◌≤◌, true, codes, is_some, length, IfOk, IfSome};
+ghost use Rattle.std.specs.Prelude.{◌≡◌, ◌+◌, ◌^◌, ◌<◌, ◌≤◌, true, codes, length, IfOk, IfSome};
 ghost use Rattle.std.specs.List.{list_all};
-ghost use Rattle.toml.specs.Data.{as_table, get_member};
-ghost use Rattle.toml.specs.View.{items_view, table_view, view};
+ghost use Rattle.toml.specs.Data.{get_member};
+ghost use Rattle.toml.specs.View.{table_view, view};
+ghost use Rattle.pipeline_desc.specs.Groups.{HaveTables, members_of};
 ghost use Rattle.pipeline_desc.specs.Limits.{most_streams, most_tables};
-ghost use Rattle.pipeline_desc.specs.Meant.{setting_of};
+ghost use Rattle.pipeline_desc.specs.Meant.{setting_at};
 ghost use Rattle.pipeline_desc.specs.Reading.{ReadsAs, each_from};
 ghost use Rattle.pipeline_desc.specs.Places.{second_path};
 ghost use Rattle.pipeline_desc.specs.Sound.{AreSoundStreams, IsAnotherStream, IsSoundStream, is_sound_step};
 ghost use Rattle.pipeline_desc.specs.Steps.{steps_at, steps_behind};
 ghost use Rattle.pipeline_desc.specs.Streams.{join_meant, join_named, second_meant, stream_meant, streams_meant, until_meant};
-ghost use Rattle.pipeline_desc.specs.Values.{each_as, seen_as, where_given};
+ghost use Rattle.pipeline_desc.specs.Values.{where_given};
 
+use crate::group::GroupSpec;
 use crate::join::Join;
 use crate::kinds::kind_given;
 use crate::refusal::{Position, RefusalKind, Refused, refuse};
@@ -20,13 +22,12 @@ use crate::step::Step;
 use crate::steps::{check_steps, steps};
 use crate::stream::{Second, StreamSpec};
 use crate::table::TableSpec;
-use crate::values::{LONGEST_PATH, check_keys, line_or_none, member, word, word_or_none};
+use crate::values::{
+    LONGEST_PATH, LONGEST_TEXT, check_keys, line_or_none, member, word, word_or_none,
+};
 use chunk_core::{List, Word};
 use std::alloc::Global;
 use toml::{Table, Value};
-
-/// The most bytes of a text that stands in for a fault.
-const LONGEST_TEXT: usize = 1024;
 
 /// The join of a name.
 fn join_named(name: &str) -> Option<Join>
@@ -84,7 +85,7 @@ fn steps_after(
 ) -> Result<List<Step>, Refused>
     requires { length before.now + 1 < 2 ^ 32 }
     ensures meant { ReadsAs (λ s. s) result (steps_at setting.now k (length before.now + 1) (get_member (codes "after") (table_view table.now))) }
-    ensures sound { IfOk result (λ s. list_all (is_sound_step (length setting.now.tables)) s ≡ true) }
+    ensures sound { IfOk result (λ s. list_all (is_sound_step setting.now.tables) s ≡ true) }
     ensures few { IfOk result (λ s. length before.now + 1 + length s < 2 ^ 32) }
 {
     steps(alloc, setting, table, "after", k, before.len() + 1)
@@ -155,42 +156,43 @@ fn stream(
     })
 }
 
-/// The stream of each table, in order.
+/// The stream of each table, in order, where there are so many.
 fn each_stream(
     alloc: Global,
-    setting: &Setting<'_>,
-    described: &[Value],
+    tables: &[TableSpec],
+    groups: &[GroupSpec],
+    count: u32,
+    described: &[&Table],
 ) -> Result<List<StreamSpec>, Refused>
-    requires seen { is_some (each_as as_table (items_view described.now)) ≡ true }
     requires few { length described.now ≤ most_streams }
-    ensures meant { ReadsAs (λ s. s) result (each_from (stream_meant setting.now) 0 (seen_as as_table described.now)) }
-    ensures sound { IfOk result (AreSoundStreams setting.now) }
+    requires few_tables { length tables.now ≤ most_tables }
+    requires tables { HaveTables (length tables.now) groups.now }
+    ensures meant { ReadsAs (λ s. s) result (each_from (λ k. stream_meant (setting_at tables.now groups.now count k) k) 0 (members_of described.now)) }
+    ensures sound { IfOk result (AreSoundStreams (setting_at tables.now groups.now count)) }
     ensures count { IfOk result (λ s. length s ≡ length described.now) }
 {
     let mut streams = List::new(alloc);
     for i in 0..described.len() {
-        let Some(table) = described[i].as_table() else {
-            unreachable!()
-        };
-        let stream = stream(alloc, setting, table, i as u32)?;
+        let setting = Setting::at(tables, groups, count, i as u32);
+        let stream = stream(alloc, &setting, described[i], i as u32)?;
         streams.push(stream)?;
     }
     Ok(streams)
 }
 
-/// The streams that are described beside tables of records.
+/// The streams that are described beside tables of records and groups.
 pub(crate) fn streams(
     alloc: Global,
     tables: &[TableSpec],
-    described: &[Value],
+    groups: &[GroupSpec],
+    described: &[&Table],
 ) -> Result<List<StreamSpec>, Refused>
-    requires seen { is_some (each_as as_table (items_view described.now)) ≡ true }
     requires few { length described.now ≤ most_streams }
-    requires tables { length tables.now ≤ most_tables }
-    ensures meant { ReadsAs (λ s. s) result (streams_meant tables.now (seen_as as_table described.now)) }
-    ensures sound { IfOk result (λ s. AreSoundStreams (setting_of tables.now (length s)) s) }
-    ensures few { IfOk result (λ s. length s ≤ most_streams) }
+    requires few_tables { length tables.now ≤ most_tables }
+    requires tables { HaveTables (length tables.now) groups.now }
+    ensures meant { ReadsAs (λ s. s) result (streams_meant tables.now groups.now (members_of described.now)) }
+    ensures sound { IfOk result (λ s. AreSoundStreams (setting_at tables.now groups.now (length s)) s) }
+    ensures count { IfOk result (λ s. length s ≡ length described.now) }
 {
-    let setting = Setting::of(tables, described.len() as u32);
-    each_stream(alloc, &setting, described)
+    each_stream(alloc, tables, groups, described.len() as u32, described)
 }

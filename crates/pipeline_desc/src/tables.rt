@@ -1,14 +1,15 @@
 //! The tables of records of a description.
-ghost use Rattle.std.specs.Prelude.{◌≡◌, true, codes, is_some, length, IfOk};
+ghost use Rattle.std.specs.Prelude.{◌≡◌, true, codes, length, IfOk};
 ghost use Rattle.std.specs.List.{list_all, list_any};
 ghost use Rattle.std.specs.Str.{bytes_eq};
-ghost use Rattle.toml.specs.Data.{as_table, get_member};
-ghost use Rattle.toml.specs.View.{items_view, table_view};
+ghost use Rattle.toml.specs.Data.{get_member};
+ghost use Rattle.toml.specs.View.{table_view};
+ghost use Rattle.pipeline_desc.specs.Groups.{members_of};
 ghost use Rattle.pipeline_desc.specs.Limits.{is_name, is_name_byte};
 ghost use Rattle.pipeline_desc.specs.Reading.{ReadsAs};
 ghost use Rattle.pipeline_desc.specs.Sound.{AreSoundTables, IsSoundTable};
 ghost use Rattle.pipeline_desc.specs.Tables.{is_new_name, table_meant, tables_meant};
-ghost use Rattle.pipeline_desc.specs.Values.{each_as, required, seen_as, text_that};
+ghost use Rattle.pipeline_desc.specs.Values.{required, text_that};
 ghost use Rattle.pipeline_desc.specs.declared.refusal.Position.TheVariants.{Nowhere};
 
 use crate::refusal::{Position, RefusalKind, Refused, refuse};
@@ -16,7 +17,7 @@ use crate::table::TableSpec;
 use crate::values::{LONGEST_PATH, check_keys, member, word};
 use chunk_core::{List, Word};
 use std::alloc::Global;
-use toml::{Table, Value};
+use toml::Table;
 
 /// The most bytes of a name.
 const LONGEST_NAME: usize = 32;
@@ -86,18 +87,14 @@ fn table(alloc: Global, before: &[TableSpec], table: &Table) -> Result<TableSpec
 }
 
 /// The tables that are described.
-pub(crate) fn record_tables(alloc: Global, described: &[Value]) -> Result<List<TableSpec>, Refused>
-    requires { is_some (each_as as_table (items_view described.now)) ≡ true }
-    ensures meant { ReadsAs (λ t. t) result (tables_meant (seen_as as_table described.now)) }
+pub(crate) fn record_tables(alloc: Global, described: &[&Table]) -> Result<List<TableSpec>, Refused>
+    ensures meant { ReadsAs (λ t. t) result (tables_meant (members_of described.now)) }
     ensures sound { IfOk result AreSoundTables }
     ensures count { IfOk result (λ t. length t ≡ length described.now) }
 {
     let mut tables = List::new(alloc);
     for i in 0..described.len() {
-        let Some(entry) = described[i].as_table() else {
-            unreachable!()
-        };
-        let table = table(alloc, tables.as_slice(), entry)?;
+        let table = table(alloc, tables.as_slice(), described[i])?;
         tables.push(table)?;
     }
     Ok(tables)

@@ -7,7 +7,8 @@ ghost use Rattle.toml.specs.Data.{as_str, as_table, get_member};
 ghost use Rattle.toml.specs.View.{items_view, table_view, view};
 ghost use Rattle.pipeline_desc.specs.Limits.{is_sized};
 ghost use Rattle.pipeline_desc.specs.Reading.{ReadsAs};
-ghost use Rattle.pipeline_desc.specs.Values.{all_known, array_at, each_as, known_keys, list_at, number_within, required, seen_as, tables_at, text_that, where_given};
+ghost use Rattle.pipeline_desc.specs.Values.{all_known, array_at, each_as, known_keys, list_at, number_within, required, seen_as, table_that, tables_at, text_that, where_given};
+ghost use Rattle.pipeline_desc.specs.declared.refusal.Position.TheVariants.{Nowhere};
 
 use crate::refusal::{Position, RefusalKind, Refused, refuse};
 use chunk_core::{Line, Word};
@@ -16,6 +17,9 @@ use toml::{Table, Value};
 
 /// The most bytes of a path.
 pub(crate) const LONGEST_PATH: usize = 1024;
+
+/// The most bytes of a text that stands in for a fault.
+pub(crate) const LONGEST_TEXT: usize = 1024;
 
 /// The value at a key.
 pub(crate) fn member<'a>(table: &'a Table, key: &str) -> Option<&'a Value>
@@ -203,18 +207,44 @@ pub(crate) fn texts<'a>(
     Ok(values)
 }
 
+/// The tables of the array at a key, or none where there is no value.
+pub(crate) fn tables_in<'a>(table: &'a Table, key: &str) -> Result<&'a [Value], Refused>
+    ensures meant { ReadsAs (λ s. seen_as as_table s.now) result (list_at as_table Nowhere (get_member key.now (table_view table.now))) }
+    ensures seen { IfOk result (λ s. is_some (each_as as_table (items_view s.now)) ≡ true) }
+{
+    let values = array(table, key, Position::Nowhere)?;
+    if !are_tables(values) {
+        return Err(refuse(RefusalKind::WrongType, Position::Nowhere));
+    }
+    Ok(values)
+}
+
 /// The tables of the array at a key, of at most so many, or none where there is no value.
 pub(crate) fn tables<'a>(table: &'a Table, key: &str, most: usize) -> Result<&'a [Value], Refused>
     ensures meant { ReadsAs (λ s. seen_as as_table s.now) result (tables_at most (get_member key.now (table_view table.now))) }
     ensures seen { IfOk result (λ s. is_some (each_as as_table (items_view s.now)) ≡ true) }
     ensures few { IfOk result (λ s. length s.now ≤ most) }
 {
-    let values = array(table, key, Position::Nowhere)?;
-    if !are_tables(values) {
-        return Err(refuse(RefusalKind::WrongType, Position::Nowhere));
-    }
+    let values = tables_in(table, key)?;
     if values.len() > most {
         return Err(refuse(RefusalKind::OutOfRange, Position::Nowhere));
     }
     Ok(values)
+}
+
+/// The table at a key, where there is a value.
+pub(crate) fn table_or_none<'a>(
+    table: &'a Table,
+    key: &str,
+    position: Position,
+) -> Result<Option<&'a Table>, Refused>
+    ensures { ReadsAs (λ o. option_map (λ t. table_view t.now) o) result (where_given (table_that position) (get_member key.now (table_view table.now))) }
+{
+    let Some(value) = member(table, key) else {
+        return Ok(None);
+    };
+    match value.as_table() {
+        Some(inner) => Ok(Some(inner)),
+        None => Err(refuse(RefusalKind::WrongType, position)),
+    }
 }

@@ -1,5 +1,5 @@
 //! The word of one step.
-ghost use Rattle.std.specs.Prelude.{◌≡◌, ◌≤◌, ◌==◌, true, option_map, length, IfOk};
+ghost use Rattle.std.specs.Prelude.{◌≡◌, ◌≤◌, ◌==◌, true, option_map, IfOk};
 ghost use Rattle.std.specs.List.{list_all, position};
 ghost use Rattle.std.specs.Char.{is_ascii_digit};
 ghost use Rattle.pipeline_desc.specs.Limits.{is_sized};
@@ -79,7 +79,7 @@ fn text_in(
 /// The name of a table, one space, and a number, which are a step's argument.
 fn lookup(setting: &Setting<'_>, text: &[u8], position: Position) -> Result<Pipe, Refused>
     ensures meant { ReadsAs (λ p. p) result (lookup_argument setting.now.tables position text.now) }
-    ensures sound { IfOk result (λ p. is_sound_pipe (length setting.now.tables) p ≡ true) }
+    ensures sound { IfOk result (λ p. is_sound_pipe setting.now.tables p ≡ true) }
 {
     let (name, number) = cut(text);
     let Some(number) = number else {
@@ -128,7 +128,7 @@ fn with(
     position: Position,
 ) -> Result<Step, Refused>
     ensures meant { ReadsAs (λ s. s) result (step_with setting.now.tables position name.now argument.now) }
-    ensures sound { IfOk result (λ s. is_sound_step (length setting.now.tables) s ≡ true) }
+    ensures sound { IfOk result (λ s. is_sound_step setting.now.tables s ≡ true) }
 {
     if name == b"take".as_slice() {
         let n = number_in(argument, 0, 999_999_999, position)?;
@@ -169,7 +169,7 @@ fn named(
     position: Position,
 ) -> Result<Step, Refused>
     ensures meant { ReadsAs (λ s. s) result (step_named setting.now.tables position name.now (option_map (λ t. t.now) argument.entry)) }
-    ensures sound { IfOk result (λ s. is_sound_step (length setting.now.tables) s ≡ true) }
+    ensures sound { IfOk result (λ s. is_sound_step setting.now.tables s ≡ true) }
 {
     if let Some(argument) = argument {
         return with(alloc, setting, name, argument, position);
@@ -207,7 +207,7 @@ pub fn step(
     i: u32,
 ) -> Result<Step, Refused>
     ensures meant { ReadsAs (λ s. s) result (step_meant setting.now k i word.now) }
-    ensures sound { IfOk result (λ s. is_sound_step (length setting.now.tables) s ≡ true) }
+    ensures sound { IfOk result (λ s. is_sound_step setting.now.tables s ≡ true) }
 {
     let (name, argument) = cut(word);
     named(alloc, setting, name, argument, Position::AtStep(k, i))

@@ -91,4 +91,6 @@ rotate_work path prefix n = record {
   streams = record { places = rotate_places path prefix; scopes = most_files; until = None } ∷ [];
   runs = λ k v w. RotatingRuns n w;
   ideal_runs = λ k v w. IdealRotatingRuns n w;
+  listing = λ d ys e. ⊥;
+  ideal_listing = λ d ys e. ⊥;
 }

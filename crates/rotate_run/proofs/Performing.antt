@@ -33,7 +33,7 @@ use Rattle.joined_runs.proofs.MadeRows.{at_some, place_found}
 use Rattle.cat_run.specs.declared.outcome.Outcome.{Outcome}
 use Rattle.lone_stream.specs.Account.{IsAccount, alone}
 use Rattle.cat_run.specs.Cat.{run_record_of}
-use Rattle.lone_stream.proofs.Accounts.{clean, kept, leaves_closed, lends_none, none_above, ours, told_as_ended}
+use Rattle.lone_stream.proofs.Accounts.{clean, kept, leaves_closed, none_above, ours, told_as_ended}
 use Rattle.rotate_rules.specs.Pieces.{EndSays, IdealRotatingRuns, RotatingRuns, Rotated}
 use Rattle.rotate_rules.specs.Rotation.{HoldsTwo, IsRotation, TellsFaults}
 
@@ -94,8 +94,7 @@ module _ (places : List Place) (n : ℕ) (old new : DepotTold) (w : ℕ → Devi
       ours = ours places 1024 w h o.ledger q.account (RotatingRuns n) (IdealRotatingRuns n);
       scopes = (q.account.opened, tt);
       leaving = leaves_closed (length places) 1024 w h o.ledger q.account;
-      tables = lends_none (length places) 1024 w h o.ledger q.account;
-      pace = tt;
+      given = tt;
     }
 
     counted_so : (a : Option (DeviceTold → ℕ)) → IfSome a (λ m. (r : ℕ) × (r < length places) × (0 < m (w r))) → IfSome a (made.IsCountedRow places old new w q.devices places)
@@ -164,6 +163,7 @@ module _ (places : List Place) (n : ℕ) (old new : DepotTold) (w : ℕ → Devi
         record {
           done = subst (λ es. AllByRecursion (λ (e : EndOf). e.how ≡ how.Done) es) (sym q.ends) (d, tt);
           clean = clean (length places) 1024 w h o.ledger q.account (λ r l. let z = faultless f r in omega (arith, z));
+          listed = tt;
           output = (([], (refl, subst (λ t. Rotated n w (end_of t)) d q.rotated, inl refl), refl), tt);
         }
 

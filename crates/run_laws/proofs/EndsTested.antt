@@ -1,5 +1,5 @@
 -- The tests of ends are exact.
-use Rattle.std.proofs.Common.{◌≡◌, ◌⊎◌, ℕ, ◌<◌, ◌≤◌, Bool, true, ◌&&◌, ◌||◌, not, nat_le, nat_lt, List, map, length, Some, None, refl, sym, subst}
+use Rattle.std.proofs.Common.{◌≡◌, ◌⊎◌, ℕ, ◌<◌, ◌≤◌, Bool, true, ◌&&◌, ◌||◌, not, nat_le, nat_lt, List, length, Some, None, refl, sym, subst}
 use Rattle.std.specs.Prelude.{is_some}
 use Rattle.std.proofs.lemmas.Bool.{false≢true}
 use Rattle.std.specs.Bool.{Decides}
@@ -16,11 +16,10 @@ use Rattle.run_rules.specs.declared.end.EndOf.{EndOf}
 use Rattle.run_rules.specs.Devices.{came_back}
 use Rattle.run_rules.specs.Ends.{EndIsCaused, EndStops, FaultStops, HasBegun, HasCauseToHalt, IsLast, IsShown, IsSilenced, IsStopped, MayStop, SilenceStops, act_count, last_stream}
 use Rattle.run_rules.specs.Facts.{Acts, HasLeft, IsFailure, IsOver, acts, at, first_numbers, has_left, is_fault, is_halted, is_memory, holds_number, is_over, is_place}
-use Rattle.run_rules.specs.Opening.{HasOuterEnd}
-use Rattle.run_rules.specs.Work.{RunRecord, Work, most_of, names_of, places_by, runs_in_turn, until_by}
+use Rattle.run_rules.specs.Work.{RunRecord, Work, most_of, places_by, runs_in_turn, until_by}
 use Rattle.run_laws.specs.EndTests.{end_stops, fault_stops, has_begun, has_cause_to_halt, is_caused, is_last, is_memory_known, is_root_closed, is_shown, is_silenced, is_stopped, may_stop, silence_stops, stops_by_end, stops_by_failure, stops_by_halt, stops_when_silenced}
 use Rattle.run_laws.specs.Laws.{StopsByEnd, StopsByFailure, StopsWhenSilenced}
-use Rattle.run_laws.proofs.Deciding.{Decides-to, acts_so, all_so, always, and_so, any_so, at_below, at_most, each_so, each_some_so, fault_so, first_so, flag, found_so, halted_so, if_so, if_some_so, inner_so, left_so, less, memory_so, not_so, number_so, or_so, over_so, root_so, same_place, same_stream_so, some_so}
+use Rattle.run_laws.proofs.Deciding.{Decides-to, acts_so, all_so, always, and_so, any_so, at_below, at_most, each_some_so, fault_so, first_so, flag, found_so, halted_so, if_so, if_some_so, inner_so, left_so, less, memory_so, not_so, number_so, or_so, over_so, root_so, same_place, same_stream_so, some_so}
 
 -- Why a stream may be halted.
 

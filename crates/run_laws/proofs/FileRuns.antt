@@ -27,7 +27,6 @@ use Rattle.run_rules.specs.Run.{Performs}
 use Rattle.run_rules.specs.Wholeness.{IsWholeRun, NothingFailed}
 use Rattle.run_rules.specs.Work.{RunRecord, Work}
 use Rattle.run_laws.specs.Files.{file_device, file_events, file_run, file_work, path_a}
-use Rattle.run_laws.specs.Streams.{opener}
 use Rattle.run_laws.specs.Written.{homes_of}
 use Rattle.run_laws.proofs.Performing.{read_only}
 use Rattle.run_laws.proofs.Deciding.{root_so}
@@ -35,7 +34,7 @@ use Rattle.run_laws.proofs.EndsTested.{caused_so, memory_known_so, stopped_so, u
 use Rattle.run_laws.proofs.RoomTested.{begin_in_room_so}
 use Rattle.run_laws.proofs.ExitsTested.{outer_ends, told_as_reported}
 use Rattle.run_laws.proofs.RowsTested.{housed_by, left_alone_so}
-use Rattle.run_laws.proofs.Tested.{paced, rules_by}
+use Rattle.run_laws.proofs.GivingTested.{outer_by, rules_by}
 
 not_halted : (h : How) → h ≡ how.Halted → is_halted h ≡ false → ⊥
 not_halted h e f = false≢true (sym f ∙ ap is_halted e)
@@ -52,9 +51,9 @@ module _ (runs ideal : DeviceTold → Outcomes) where
   work = file_work runs ideal
 
   file_rules : (x : Exit) → KeepsRules work (stamped 0 (file_events x))
-  file_rules Succeeded = rules_by work (stamped 0 (file_events Succeeded)) refl refl refl refl refl (omega arith, (omega arith, tt)) refl refl (paced (opener [] 4 None) 1 (stamped 0 (file_events Succeeded)) refl)
-  file_rules Errored = rules_by work (stamped 0 (file_events Errored)) refl refl refl refl refl (omega arith, (omega arith, tt)) refl refl (paced (opener [] 4 None) 1 (stamped 0 (file_events Errored)) refl)
-  file_rules Canceled = rules_by work (stamped 0 (file_events Canceled)) refl refl refl refl refl (omega arith, (omega arith, tt)) refl refl (paced (opener [] 4 None) 1 (stamped 0 (file_events Canceled)) refl)
+  file_rules Succeeded = rules_by work (stamped 0 (file_events Succeeded)) refl refl refl refl refl (omega arith, (omega arith, tt)) refl refl
+  file_rules Errored = rules_by work (stamped 0 (file_events Errored)) refl refl refl refl refl (omega arith, (omega arith, tt)) refl refl
+  file_rules Canceled = rules_by work (stamped 0 (file_events Canceled)) refl refl refl refl refl (omega arith, (omega arith, tt)) refl refl
 
   module _ (bytes : List ℕ) (at : ℕ) (ended : Bool) (h : How) (frames : List Frame) where
     abbrev c : RunRecord
@@ -98,7 +97,7 @@ module _ (runs ideal : DeviceTold → Outcomes) where
           ends = record {
             named = refl;
             caused = ((caused_so work c (record { who = Outer; how = how.Done })).0 refl, (record { halted = λ e. absurd (not_halted h e going); fault = shown; root = λ b. (root_so c.events (Inner 0)).0 refl }, tt));
-            outer = record { end = (tt, ((Outer, 0, (_, here _, refl, refl)), tt)); gives = λ j s m. tt; nobody = unbounded };
+            outer = outer_by (tt, refl, tt) (tt, tt) refl tt tt unbounded;
             stopped = (stopped_so work c).0 (ap (λ b. ((not b || true) && true) && true) going);
             begins = (begin_in_room_so work.opener work c).0 refl;
             memory = (memory_known_so c).0 (ap (λ b. not (b || false) || false) known);
@@ -115,7 +114,7 @@ module _ (runs ideal : DeviceTold → Outcomes) where
           (record { pieces = pieces; end = Done; run = run; printed = printed; reported = e })
           (ap is_halted e) (ap is_memory e)
           (subst (λ (g : How). IsShown (file_device bytes at ended h ∷ []) (to_read path_a ∷ []) g) (sym e) tt)
-          (λ n. record { done = (refl, (e, tt)); clean = refl; output = ((elements_in_pieces pieces, whole, text), tt) })
+          (λ n. record { done = (refl, (e, tt)); clean = refl; listed = tt; output = ((elements_in_pieces pieces, whole, text), tt) })
 
       faultless : (r : ℕ) → faults_of (home r) ≡ 0
       faultless zero = refl

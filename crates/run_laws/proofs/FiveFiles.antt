@@ -1,5 +1,5 @@
 -- The run of five files is right.
-use Rattle.std.proofs.Common.{◌≡◌, ◌⊎◌, ◌<◌, ◌≤◌, ◌^◌, ℕ, zero, suc, true, List, [], ◌∷◌, ◌++◌, map, length, Some, None, inl, inr, refl, sym, ap, ◌∙◌, subst, ⊎_elim, arith, append-nil}
+use Rattle.std.proofs.Common.{◌≡◌, ◌⊎◌, ◌<◌, ◌≤◌, ◌^◌, ℕ, zero, suc, true, List, [], ◌∷◌, ◌++◌, map, length, Some, inl, inr, refl, sym, ap, ◌∙◌, subst, ⊎_elim, arith, append-nil}
 use Rattle.std.specs.Prelude.{codes}
 use Rattle.std.specs.Fmt.{digits}
 use Rattle.std.specs.List.{AllByRecursion}
@@ -29,7 +29,7 @@ use Rattle.run_rules.specs.Work.{RunRecord, begun_frames, until_by}
 use Rattle.run_rules.specs.declared.end.EndOf.{EndOf}
 use Rattle.run_laws.specs.FiveFiles.{block, file_d, file_e, five, five_devices, five_files, five_frames, five_frames_text, five_run, five_tail_text, five_text, five_work}
 use Rattle.run_laws.specs.LedgerTests.{never_fall}
-use Rattle.run_laws.specs.Streams.{InFile, opener}
+use Rattle.run_laws.specs.Streams.{InFile}
 use Rattle.run_laws.specs.Written.{IsRightRun, homes_of, read_device}
 use Rattle.run_laws.proofs.Devices.{accounted}
 use Rattle.run_laws.proofs.EndsTested.{unbounded}
@@ -37,7 +37,7 @@ use Rattle.run_laws.proofs.RoomTested.{ends_in_room}
 use Rattle.run_laws.proofs.ExitsTested.{ran_by}
 use Rattle.run_laws.proofs.Performing.{byte_pieces, bytes_of_frames, bytes_rendered, read_only}
 use Rattle.run_laws.proofs.RowsTested.{housed_by, left_alone_so, never_fall_so}
-use Rattle.run_laws.proofs.Tested.{leased, paced, rules_by}
+use Rattle.run_laws.proofs.GivingTested.{outer_by, rules_by}
 
 -- a stream that is done stopped nothing
 not_stopped : {P : Type 0} (h : How) → h ≡ how.Done → IsFailure h ⊎ (h ≡ how.Memory) ⊎ ((h ≡ how.Halted) × P) → ⊥
@@ -99,7 +99,7 @@ module _ (a b c d e : List ℕ) (frames : List Frame) where
     all_done = record {
       devices = accounted (five_devices a b c d e) (to_read (codes "a") ∷ to_read (codes "b") ∷ to_read (codes "c") ∷ to_read (codes "d") ∷ to_read (codes "e") ∷ []) run.events (five_files a b c d e) (five_files a b c d e) refl refl refl refl refl refl refl refl refl (λ path. inr refl)
           (read_only run.depot_new.files (read_device 0 (codes "a") a Succeeded) refl, (read_only run.depot_new.files (read_device 1 (codes "b") b Succeeded) refl, (read_only run.depot_new.files (read_device 2 (codes "c") c Succeeded) refl, (read_only run.depot_new.files (read_device 3 (codes "d") d Succeeded) refl, (read_only run.depot_new.files (read_device 4 (codes "e") e Succeeded) refl, tt)))));
-      ledger = rules_by five_work run.events refl refl refl refl refl (omega arith, (omega arith, (omega arith, (omega arith, (omega arith, (omega arith, tt)))))) refl refl (paced (opener [] 1 None) 5 run.events refl);
+      ledger = rules_by five_work run.events refl refl refl refl refl (omega arith, (omega arith, (omega arith, (omega arith, (omega arith, (omega arith, tt)))))) refl refl;
       ran = inr (ran_by five_work run no_values home
           (record {
             at_home = (refl, refl, inl (here _), (refl, refl, inl (there _ (here _)), (refl, refl, inl (there _ (there _ (here _))), (refl, refl, inl (there _ (there _ (there _ (here _)))), (refl, refl, inl (there _ (there _ (there _ (there _ (here _))))), tt)))));
@@ -117,12 +117,13 @@ module _ (a b c d e : List ℕ) (frames : List Frame) where
             rest = refl;
           })
           (ends_in_room five_work run home refl refl
-          (record { end = (tt, (leased run.events 0 refl, (leased run.events 1 refl, (leased run.events 2 refl, (leased run.events 3 refl, (leased run.events 4 refl, tt)))))); gives = λ j s m. tt; nobody = unbounded })
+          (outer_by (tt, refl, tt) (tt, (tt, (tt, (tt, (tt, tt))))) refl tt tt unbounded)
           refl in_room refl)
           refl
           (λ m n. record {
             done = (refl, (refl, (refl, (refl, (refl, (refl, tt))))));
             clean = refl;
+            listed = tt;
             output = ((map Byte a, inl (a_size, refl, refl), a_text ∙ bytes_rendering a), ((map Byte b, inl (b_size, refl, refl), b_text ∙ bytes_rendering b), ((map Byte c, inl (c_size, refl, refl), c_text ∙ bytes_rendering c), ((map Byte d, inl (d_size, refl, refl), d_text ∙ bytes_rendering d), ((map Byte e, inl (e_size, refl, refl), e_text ∙ bytes_rendering e), tt)))));
           }));
     }

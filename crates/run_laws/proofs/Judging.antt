@@ -10,15 +10,17 @@ use Rattle.run_rules.specs.Ends.{EndIsCaused}
 use Rattle.run_rules.specs.Pace.{IsPaced}
 use Rattle.run_rules.specs.Rules.{IsOurs}
 use Rattle.run_rules.specs.Run.{IsUnmade, Performs, Ran}
-use Rattle.run_rules.specs.Work.{RunRecord, Work, begun_frames, runs_in_turn, tables_of}
+use Rattle.run_rules.specs.Work.{RunRecord, Work, begun_frames, runs_in_turn}
 use Rattle.run_laws.specs.EndTests.{begin_in_room, has_one_exit, is_caused, is_memory_told, is_stopped}
-use Rattle.run_laws.specs.LedgerTests.{are_left_alone, is_leaving_closed, is_ours, is_paced, is_shut, lends_tables, never_fall}
+use Rattle.run_laws.specs.GivingTests.{is_given_by}
+use Rattle.run_laws.specs.LedgerTests.{are_left_alone, is_leaving_closed, is_ours, is_paced, is_shut, never_fall}
 use Rattle.run_laws.proofs.Deciding.{each_so}
 use Rattle.run_laws.proofs.EndsTested.{caused_so, stopped_so}
 use Rattle.run_laws.proofs.ExitsTested.{exits_pass}
 use Rattle.run_laws.proofs.RoomTested.{begin_in_room_so, memory_passes}
 use Rattle.run_laws.proofs.RowsTested.{left_alone_so, never_fall_so, shut_so}
-use Rattle.run_laws.proofs.Tested.{leaving_so, lends_so, ours_so, paced_so}
+use Rattle.run_laws.proofs.GivingTested.{given_by_so}
+use Rattle.run_laws.proofs.Tested.{leaving_so, ours_so, paced_so}
 
 pub no_nil : {A : Type 0} (x : A) (xs : List A) → (x ∷ xs) ≢ []
 no_nil x xs e = cc
@@ -41,8 +43,8 @@ module _ (work : Work) (c : RunRecord) where
   pub by_leaving : is_leaving_closed c.events ≡ false → ¬ (Performs work c)
   by_leaving f h = failing (leaving_so c.events) f h.ledger.leaving
 
-  pub by_tables : lends_tables (length (tables_of work)) c.events ≡ false → ¬ (Performs work c)
-  by_tables f h = failing (lends_so (length (tables_of work)) c.events h.ledger.legal) f h.ledger.tables
+  pub by_giving : is_given_by work.opener (length work.streams) c.events ≡ false → ¬ (Performs work c)
+  by_giving f h = failing (given_by_so work.opener (length work.streams) c.events h.ledger.legal) f h.ledger.given
 
   pub by_shut : all is_shut (came_back c.depot_old c.depot_new) ≡ false → ¬ (Performs work c)
   by_shut f h = failing (each_so is_shut IsShut shut_so (came_back c.depot_old c.depot_new)) f h.devices.shut

@@ -3,6 +3,7 @@ pub mod EndsTested
 pub mod RoomTested
 pub mod ExitsTested
 pub mod Tested
+pub mod GivingTested
 pub mod RowsTested
 pub mod Performing
 pub mod Devices
@@ -14,7 +15,16 @@ pub mod Within
 pub mod Sides
 pub mod OneStream
 pub mod FiveFiles
+pub mod Groups
+pub mod ListRuns
+pub mod Lists
 pub mod Judging
 pub mod Refusing
+pub mod Housed
 pub mod Unacceptable
+pub mod UnfitGroups
+pub mod ListFaults
+pub mod UnfitLists
 pub mod Left
+pub mod Given
+pub mod Plain

@@ -7,12 +7,14 @@ use Rattle.chunk_core.specs.Lists.{IsAmong}
 use Rattle.chunk_core.specs.Feed.{Given}
 use Rattle.chunk_core.specs.Outcomes.{End, Cut, Done, Fault, Outcomes}
 use Rattle.chunk_core.specs.Tables.{no_values}
+use Rattle.chunk_core.specs.declared.code.Code.{Code}
+use Rattle.chunk_core.specs.declared.code.Code.TheVariants as code
 use Rattle.chunk_core.specs.declared.code.Exit.TheVariants.{Errored}
 use Rattle.chunk_core.specs.declared.code.How.{How}
 use Rattle.chunk_core.specs.declared.code.How.TheVariants as how
 use Rattle.chunk_core.proofs.Members.{among_cons, among_nil}
 use Rattle.res_ledger.specs.declared.event.Event.{Event}
-use Rattle.res_ledger.specs.Ledger.{IsAcquired, IsLeased}
+use Rattle.res_ledger.specs.Ledger.{IsAcquired}
 use Rattle.res_ledger.proofs.Apart.{apart}
 use Rattle.res_ledger.proofs.Judged.{legal_found}
 use Rattle.res_ledger.proofs.Ordering.{ordered_complete}
@@ -26,14 +28,16 @@ use Rattle.pull_nodes.specs.declared.pipe.Pipe.TheVariants as pipe
 use Rattle.pull_nodes.proofs.Fronts.{front_cons}
 use Rattle.pull_nodes.proofs.Lines.{lines_lawful}
 use Rattle.run_rules.specs.Homes.{IsUntouched}
+use Rattle.run_rules.specs.Opening.{AreTablesFailed, IsOuterEnd}
 use Rattle.run_rules.specs.Outputs.{IsReported, elements_in_pieces}
 use Rattle.run_rules.specs.Run.{Performs}
+use Rattle.run_rules.specs.Work.{Opener, RunRecord}
 use Rattle.run_laws.specs.FiveFiles.{five_work}
 use Rattle.run_laws.specs.OneStream.{one_stream_work}
 use Rattle.run_laws.specs.Others.{copy_work, no_streams, silent_work, stopped_work, u_csv}
 use Rattle.run_laws.specs.Refused.{another_number, another_value, begins_behind_a_failed_write, begins_behind_a_fault, begins_in_silence, begins_unwanted, cancel_told_otherwise, canceled_by_another, crossed_pairs, cut_behind_the_last, done_without_close, fault_of_no_device, first_table_first, halted_by_a_later_one, in_turn_work, invented_scope, lease_by_a_stream, leased_table_ended, left_before_closing, next_table_tried, nobody_given, one_frame_too_many, one_frame_work, other_bytes_stored, root_never_closed, root_told_otherwise, second_device, side_left_open, stolen_row, stopped_by_nothing, stopped_one_begins, tables_never_acquired, third_pair, third_too_early, two_open, with_text, without_lease}
 use Rattle.run_laws.specs.Sides.{LinesIn, paired, pairs_work, three_lines, two_lines}
-use Rattle.run_laws.specs.Streams.{Gathered, InFile, Leaves, ThroughPipe, value_in}
+use Rattle.run_laws.specs.Streams.{Gathered, InFile, Leaves, ThroughPipe, no_listing, opener, value_in}
 use Rattle.run_laws.specs.Tables.{looked_up, lookup_work, t_csv, table_bytes, unread_table_device}
 use Rattle.run_laws.specs.Written.{read_device}
 use Rattle.run_laws.proofs.Judging.{by_causes, by_exits, by_leaving, by_ours, by_pace, by_shut, by_stops, no_nil, ran}
@@ -44,10 +48,10 @@ use Rattle.run_laws.proofs.Within.{IsWithin, file_within, front_trans, left_with
 -- How far the outer stream is ahead, and how many are open.
 
 pub without_lease_refused : ¬ (Performs stopped_work without_lease)
-without_lease_refused h = by_pace without_lease.events refl h.ledger.pace
+without_lease_refused h = by_pace without_lease.events refl h.ledger.given.pace
 
 pub two_open_refused : ¬ (Performs in_turn_work two_open)
-two_open_refused h = by_pace two_open.events refl h.ledger.pace
+two_open_refused h = by_pace two_open.events refl h.ledger.given.pace
 
 -- Rows.
 
@@ -161,8 +165,7 @@ tables_never_acquired_refused h =
 pub nobody_given_refused : ¬ (Performs in_turn_work nobody_given)
 nobody_given_refused h =
     let r = ran in_turn_work nobody_given (no_nil _ _) h in
-    let a : IsLeased nobody_given.events 0 = r.ends.outer.end.1.0 in
-    ⊎_elim (λ e. apart (ap (λ (x : Event). x.what) (sym e) ∙ a.2.3) refl) among_nil (among_cons a.2.1)
+    no_nil _ _ (sym r.ends.outer.end.1)
 
 abbrev first_of : List ℕ → ℕ
 first_of [] = 0
@@ -178,6 +181,11 @@ first_device d x y at other m = ⊎_elim
     (among_cons n))
     (among_cons m)
 
+-- without a list the outer stream fails by a table
+failed_by_a_table : (o : Opener) (A : DeviceTold → Outcomes) (n : ℕ) (c : RunRecord) (w : ℕ → DeviceTold) (f : Code) → o.list ≡ None → IsOuterEnd o A n c w (how.Fault f) → AreTablesFailed o c w 0 o.tables f
+failed_by_a_table o A n c w f none (inl t) = t.0
+failed_by_a_table o A n c w f none (inr l) = let e = sym none ∙ l.1.1 in let x : ⊥ = cc in absurd x
+
 pub next_table_tried_refused : ¬ (Performs (no_streams (t_csv ∷ u_csv ∷ [])) next_table_tried)
 next_table_tried_refused h =
     let r = ran (no_streams (t_csv ∷ u_csv ∷ [])) next_table_tried (no_nil _ _) h in
@@ -191,7 +199,7 @@ next_table_tried_refused h =
     let u : (r.home 0).read_faults ≡ 0 = x.0.unfailed in omega (arith, f, u))
     (λ (n : IsUntouched (r.home 0)). let z = n.opens in let o : (r.home 0).opens ≡ 1 = r.rows.tied.0 in omega (arith, z, o))
     r.rows.at_home.2)
-    r.ends.outer.end
+    (failed_by_a_table (opener (t_csv ∷ u_csv ∷ []) 4 None) no_listing 0 next_table_tried r.home code.Read refl r.ends.outer.end)
 
 -- Stopping.
 
@@ -264,7 +272,7 @@ side_left_open_refused = by_shut pairs_work side_left_open refl
 -- Five files.
 
 pub third_too_early_refused : ¬ (Performs five_work third_too_early)
-third_too_early_refused h = by_pace third_too_early.events refl h.ledger.pace
+third_too_early_refused h = by_pace third_too_early.events refl h.ledger.given.pace
 
 pub another_number_refused : ¬ (Performs five_work another_number)
 another_number_refused h =

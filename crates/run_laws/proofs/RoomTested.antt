@@ -1,17 +1,15 @@
 -- The tests of what stood open when a stream began, and of want of memory, are exact; and ends that pass the tests.
-use Rattle.std.proofs.Common.{◌≡◌, ◌≢◌, ◌⊎◌, ℕ, ◌<◌, ◌≤◌, Bool, true, false, ◌&&◌, ◌||◌, not, nat_eq, nat_lt, List, [], ◌∷◌, ◌++◌, map, length, filter, Option, Some, None, inl, inr, refl, sym, ap, ◌∙◌, subst, ⊎_elim, arith}
+use Rattle.std.proofs.Common.{◌≡◌, ◌≢◌, ◌⊎◌, ℕ, ◌≤◌, Bool, true, ◌&&◌, ◌||◌, not, nat_eq, List, [], ◌∷◌, ◌++◌, map, length, filter, Option, Some, None, inl, inr, refl, sym, ap, ◌∙◌, subst, ⊎_elim, arith}
 use Rattle.std.specs.Bool.{Decides}
 use Rattle.std.specs.List.{list_any as any, list_all as all}
-use Rattle.chunk_core.specs.Elements.{Element, element_text, rendering_of}
+use Rattle.chunk_core.specs.Elements.{rendering_of}
 use Rattle.chunk_core.specs.Elements.Element.{Byte}
 use Rattle.chunk_core.specs.Lists.{IsAmong}
-use Rattle.chunk_core.specs.Lists.IsAmong.{here}
 use Rattle.chunk_core.specs.Texts.{Frame}
 use Rattle.chunk_core.specs.declared.code.How.TheVariants as how
 use Rattle.chunk_core.proofs.Bools.{and_true, any_at, any_found, both, either, or_left, or_right}
 use Rattle.chunk_core.proofs.Distinct.{distinct_filter}
 use Rattle.chunk_core.proofs.Filters.{among_filter, filter_among}
-use Rattle.res_ledger.specs.declared.event.Event.{Event}
 use Rattle.res_ledger.specs.declared.event.StreamNo.{StreamNo}
 use Rattle.res_ledger.specs.declared.event.StreamNo.TheVariants.{Inner, Outer}
 use Rattle.res_ledger.specs.Streams.{same_stream}
@@ -147,7 +145,7 @@ memory_told_so o ss c v w = (
 )
 
 -- the ends, where the tests pass and streams began in room that was there
-pub ends_in_room : (work : Work) (c : RunRecord) (w : ℕ → DeviceTold) → map (λ (e : EndOf). e.who) c.ends ≡ names_of work → all (is_caused work c) c.ends ≡ true → HasOuterEnd work.opener (length work.streams) c w c.ends → is_stopped work c ≡ true → BeginInRoom work.opener work c → is_memory_known c ≡ true → HaveEnds work c w
+pub ends_in_room : (work : Work) (c : RunRecord) (w : ℕ → DeviceTold) → map (λ (e : EndOf). e.who) c.ends ≡ names_of work → all (is_caused work c) c.ends ≡ true → HasOuterEnd work.opener work.listing (length work.streams) c w c.ends → is_stopped work c ≡ true → BeginInRoom work.opener work c → is_memory_known c ≡ true → HaveEnds work c w
 ends_in_room work c w named caused outer stopped room known = record {
   named = named;
   caused = (each_so (is_caused work c) (EndIsCaused work c) (caused_so work c) c.ends).0 caused;
@@ -158,5 +156,5 @@ ends_in_room work c w named caused outer stopped room known = record {
 }
 
 -- the ends, where the tests pass
-pub ends_by : (work : Work) (c : RunRecord) (w : ℕ → DeviceTold) → map (λ (e : EndOf). e.who) c.ends ≡ names_of work → all (is_caused work c) c.ends ≡ true → HasOuterEnd work.opener (length work.streams) c w c.ends → is_stopped work c ≡ true → begin_in_room work.opener work c ≡ true → is_memory_known c ≡ true → HaveEnds work c w
+pub ends_by : (work : Work) (c : RunRecord) (w : ℕ → DeviceTold) → map (λ (e : EndOf). e.who) c.ends ≡ names_of work → all (is_caused work c) c.ends ≡ true → HasOuterEnd work.opener work.listing (length work.streams) c w c.ends → is_stopped work c ≡ true → begin_in_room work.opener work c ≡ true → is_memory_known c ≡ true → HaveEnds work c w
 ends_by work c w named caused outer stopped room known = ends_in_room work c w named caused outer stopped ((begin_in_room_so work.opener work c).0 room) known

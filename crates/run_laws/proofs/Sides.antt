@@ -12,7 +12,6 @@ use Rattle.chunk_core.specs.Tables.{no_values}
 use Rattle.chunk_core.specs.Texts.{Frame, frames_text, payloads_of}
 use Rattle.chunk_core.specs.declared.code.Exit.TheVariants.{Succeeded}
 use Rattle.chunk_core.proofs.Distinct.{test_distinct}
-use Rattle.res_ledger.specs.declared.event.StreamNo.TheVariants.{Outer}
 use Rattle.device_port.specs.Device.{DeviceTold, to_read}
 use Rattle.pull_nodes.specs.PipeRule.{without_fault}
 use Rattle.pull_nodes.specs.Lines.{without_pairs, ended_lines, open_line}
@@ -24,7 +23,7 @@ use Rattle.run_rules.specs.Run.{Performs}
 use Rattle.run_rules.specs.Texts.{tail_text}
 use Rattle.run_rules.specs.Work.{RunRecord}
 use Rattle.run_laws.specs.Sides.{LinesIn, MergeIn, PairsIn, WholeLines, WholeMerge, WholePairs, merge_work, merged, merged_back, merged_back_text, merged_text, paired, paired_text, pairs_work, path_p, path_q, sides_run, sides_work, three_lines, two_lines}
-use Rattle.run_laws.specs.Streams.{Leaves, opener}
+use Rattle.run_laws.specs.Streams.{Leaves}
 use Rattle.run_laws.specs.Written.{IsRightRun, homes_of, read_device}
 use Rattle.run_laws.proofs.Devices.{accounted}
 use Rattle.run_laws.proofs.Performing.{piped_done, piped_left, read_only}
@@ -32,7 +31,7 @@ use Rattle.run_laws.proofs.EndsTested.{unbounded}
 use Rattle.run_laws.proofs.RoomTested.{ends_by}
 use Rattle.run_laws.proofs.ExitsTested.{ran_by}
 use Rattle.run_laws.proofs.RowsTested.{housed_by, left_alone_so}
-use Rattle.run_laws.proofs.Tested.{paced, rules_by}
+use Rattle.run_laws.proofs.GivingTested.{outer_by, rules_by}
 
 -- a run of two sides that is done
 module _ (runs ideal : DeviceTold → DeviceTold → Outcomes) (p_bytes q_bytes : List ℕ) (ended : Bool) (frames : List Frame) where
@@ -49,13 +48,13 @@ module _ (runs ideal : DeviceTold → DeviceTold → Outcomes) (p_bytes q_bytes 
       → Performs (sides_work runs ideal) c
   sides_done pieces numbers printed text run whole = record {
     devices = accounted (p_device ∷ q_device ∷ []) (to_read path_p ∷ to_read path_q ∷ []) c.events ((path_p, p_bytes) ∷ (path_q, q_bytes) ∷ []) ((path_p, p_bytes) ∷ (path_q, q_bytes) ∷ []) refl refl refl refl refl refl refl refl refl (λ path. inr refl) (read_only c.depot_new.files p_device refl, (read_only c.depot_new.files q_device refl, tt));
-    ledger = rules_by (sides_work runs ideal) c.events refl refl refl refl refl (omega arith, (omega arith, tt)) refl refl (paced (opener [] 4 None) 1 c.events refl);
+    ledger = rules_by (sides_work runs ideal) c.events refl refl refl refl refl (omega arith, (omega arith, tt)) refl refl;
     ran = inr (ran_by (sides_work runs ideal) c no_values (homes_of (p_device ∷ q_device ∷ []))
         (record { at_home = (refl, refl, inl (here _), (refl, refl, inl (there _ (here _)), tt)); apart = test_distinct (0 ∷ 1 ∷ []) refl; tied = (tt, (tt, (refl, (refl, (tt, ((refl, refl), ((refl, refl), (tt, tt)))))))); values = λ t key l. absurd (omega (arith, l)); alone = (left_alone_so (sides_work runs ideal) c (homes_of (p_device ∷ q_device ∷ []))).0 refl; housed = housed_by (sides_work runs ideal) c (homes_of (p_device ∷ q_device ∷ [])) ((0, omega arith, refl), ((1, omega arith, refl), tt)) })
         (record { numbers = numbers; few = tt; in_turn = λ t. absurd (false≢true t); outputs = (record { pieces = pieces; end = Done; run = run; printed = printed; reported = refl }, refl); rest = refl })
-        (ends_by (sides_work runs ideal) c (homes_of (p_device ∷ q_device ∷ [])) refl refl (record { end = (tt, ((Outer, 0, (_, here _, refl, refl)), tt)); gives = λ j s m. tt; nobody = unbounded }) refl refl refl)
+        (ends_by (sides_work runs ideal) c (homes_of (p_device ∷ q_device ∷ [])) refl refl (outer_by (tt, refl, tt) (tt, tt) refl tt tt unbounded) refl refl refl)
         refl
-        (λ m n. record { done = (refl, (refl, tt)); clean = refl; output = ((elements_in_pieces pieces, whole, text), tt) }));
+        (λ m n. record { done = (refl, (refl, tt)); clean = refl; listed = tt; output = ((elements_in_pieces pieces, whole, text), tt) }));
   }
 
 -- The lines.

@@ -1,5 +1,5 @@
 -- Each run that no user would accept is refused.
-use Rattle.std.proofs.Common.{◌≡◌, ◌+◌, ◌<◌, ◌⊎◌, ℕ, zero, suc, true, List, [], ◌∷◌, ◌++◌, map, length, Some, None, inl, inr, refl, sym, ap, ◌∙◌, subst, arith, ⊎_elim, length-append}
+use Rattle.std.proofs.Common.{◌≡◌, ◌+◌, ◌<◌, ℕ, true, List, [], ◌∷◌, ◌++◌, map, length, Some, None, inl, inr, refl, sym, ap, ◌∙◌, subst, arith, ⊎_elim, length-append}
 use Rattle.std.specs.Prelude.{codes}
 use Rattle.std.proofs.lemmas.Bool.{false≢true, lt-ltb}
 use Rattle.chunk_core.specs.Lists.{IsAmong}
@@ -34,7 +34,8 @@ use Rattle.run_laws.specs.Tables.{a_csv, lookup_work, path_b, t_csv}
 use Rattle.run_laws.specs.Unacceptable.{AreUnacceptable, all_fail, backwards, begins_before_its_turn, begins_behind_its_until, begins_behind_the_last_frame, both_devices, ends_swapped, failed_though_written, fault_hidden_by_until, frames_before_their_turn, frames_out_of_turn, given_without_waiting, half_table, halted_beforehand, halted_by_a_later_end, halted_by_later_memory, halted_though_whole, leased_before_table, leased_for_nobody, line_cut_in_two, looked_up_unopened, lost_file, memory_for_a_missing_table, memory_for_an_until, memory_for_the_last_frame, missing_opened, one_device_for_both, one_of_three_work, opened_twice, passed_over, passed_over_for_nothing, printed_by_nobody, ran_behind_missing_table, ran_over_half_a_table, read_file_changed, read_for_nobody, same_file_work, second_table_alone, side_by_side_work, silent_copy_work, succeeded_though_left, tabled_work, tables_backwards, three_work, told_two_exits, tried_unbegun, tried_unmade, until_later_work, until_second_work, wanting_at_no_end}
 use Rattle.run_laws.proofs.Deciding.{acts_so}
 use Rattle.run_laws.proofs.Files.{cut_all, cut_part}
-use Rattle.run_laws.proofs.Judging.{by_causes, by_exits, by_memory, by_ours, by_pace, by_room, by_shut, by_stops, by_tables, by_turn, no_nil, ran}
+use Rattle.run_laws.proofs.Housed.{below_two, first_byte, moved, only_one, path_byte}
+use Rattle.run_laws.proofs.Judging.{by_causes, by_exits, by_memory, by_ours, by_pace, by_room, by_shut, by_stops, by_giving, by_turn, no_nil, ran}
 use Rattle.run_laws.specs.Written.{missing_device, read_device, used_device}
 use Rattle.run_laws.proofs.Performing.{read_write}
 use Rattle.run_laws.proofs.Refusing.{done, lines_within, size_of}
@@ -127,22 +128,6 @@ half_a_table_refused h =
 
 -- Streams that are left, and tables without memory.
 
--- the rows of two
-below_two : (r : ℕ) → r < 2 → (r ≡ 0) ⊎ (r ≡ 1)
-below_two zero l = inl refl
-below_two (suc zero) l = inr refl
-below_two (suc (suc r)) l = absurd (omega (arith, l))
-
--- the first byte of a device's path
-abbrev first_byte : DeviceTold → ℕ
-first_byte d = elim d.place.path [ [] ↦ 0 | b ∷ bs ↦ b ]
-
-path_byte : (d : DeviceTold) (p : Place) → d.place ≡ p → first_byte d ≡ elim p.path [ [] ↦ 0 | b ∷ bs ↦ b ]
-path_byte d p e = ap (λ (q : Place). elim q.path as (λ bs. ℕ) [ [] ↦ 0 | b ∷ bs ↦ b ]) e
-
-moved : (w : ℕ → DeviceTold) (d : DeviceTold) (r q : ℕ) → d ≡ w r → r ≡ q → d ≡ w q
-moved w d r q e z = subst (λ x. d ≡ w x) z e
-
 tried_so : Ran in_turn_work tried_unbegun → ⊥
 tried_so r =
     let at = r.rows.housed (missing_device 1 path_b) (there _ (here _)) in
@@ -159,9 +144,6 @@ tried_so r =
 tried_unbegun_refused : ¬ (Performs in_turn_work tried_unbegun)
 tried_unbegun_refused h = tried_so (ran in_turn_work tried_unbegun (no_nil _ _) h)
 
-only_one : (d x : DeviceTold) → IsAmong d (x ∷ []) → d ≡ x
-only_one d x m = ⊎_elim (λ e. e) (λ n. absurd (among_nil n)) (among_cons m)
-
 missing_so : Ran lookup_work memory_for_a_missing_table → ⊥
 missing_so r =
     let at = r.rows.housed (missing_device 0 t_csv) (here _) in
@@ -172,7 +154,7 @@ missing_so r =
     (λ z. let b = ap first_byte (moved r.home (missing_device 0 t_csv) at.0 1 at.2 z) ∙ path_byte (r.home 1) (to_read a_csv) second in omega (arith, b))
     (below_two at.0 at.1))
     (λ t. false≢true (ap (λ (d : DeviceTold). d.ended) (sym (only_one (r.home 0) (missing_device 0 t_csv) t.0.back)) ∙ t.0.ended))
-    r.ends.outer.end
+    r.ends.outer.end.0
 
 memory_for_a_missing_table_refused : ¬ (Performs lookup_work memory_for_a_missing_table)
 memory_for_a_missing_table_refused h = missing_so (ran lookup_work memory_for_a_missing_table (no_nil _ _) h)
@@ -185,7 +167,7 @@ second_table_alone_refused h =
     ⊎_elim
     (λ l. false≢true (sym l.2.0 ∙ lt-ltb 0 ((r.home 1).opens + (r.home 1).open_faults) (omega (arith, opened))))
     (λ t. let e = only_one (r.home 0) (read_device 0 u_csv (codes "k,w\n") Canceled) t.0.back in let b = ap first_byte (sym e) ∙ path_byte (r.home 0) (to_read t_csv) first in omega (arith, b))
-    r.ends.outer.end
+    r.ends.outer.end.0
 
 -- Left and told otherwise.
 
@@ -266,26 +248,26 @@ for_an_until_refused h = for_an_until_so (ran stopped_work memory_for_an_until (
 
 pub unacceptable : AreUnacceptable
 unacceptable = record {
-  leased_before = by_tables lookup_work leased_before_table refl;
-  ran_behind_missing = by_tables lookup_work ran_behind_missing_table refl;
-  unopened = by_tables lookup_work looked_up_unopened refl;
+  leased_before = by_giving lookup_work leased_before_table refl;
+  ran_behind_missing = by_giving lookup_work ran_behind_missing_table refl;
+  unopened = by_giving lookup_work looked_up_unopened refl;
   lost = lost_file_refused;
-  backward = λ h. by_pace backwards.events refl h.ledger.pace;
+  backward = λ h. by_pace backwards.events refl h.ledger.given.pace;
   out_of_turn = by_turn in_turn_work frames_out_of_turn (no_nil _ _) refl refl;
   two_exits = by_exits (one_stream_work (Some 1)) told_two_exits (no_nil _ _) refl;
-  beforehand = λ h. by_pace halted_beforehand.events refl h.ledger.pace;
+  beforehand = λ h. by_pace halted_beforehand.events refl h.ledger.given.pace;
   by_a_later_end = by_causes until_later_work halted_by_a_later_end (no_nil _ _) refl;
   twice = by_shut (one_stream_work (Some 0)) opened_twice refl;
   cut_line = line_cut_in_two_refused;
   for_nobody = read_for_nobody_refused;
-  tables_back = by_tables (no_streams (t_csv ∷ u_csv ∷ [])) tables_backwards refl;
+  tables_back = by_giving (no_streams (t_csv ∷ u_csv ∷ [])) tables_backwards refl;
   unmade = tried_unmade_refused;
   whole = by_exits (two_files (opener [] 4 None) None) halted_though_whole (no_nil _ _) refl;
   hidden = by_exits (two_files (opener [] 4 None) (Some 0)) fault_hidden_by_until (no_nil _ _) refl;
   missing = by_shut (one_stream_work None) missing_opened refl;
   wanting = by_memory lookup_work wanting_at_no_end (no_nil _ _) refl;
-  before_its_turn = λ h. by_pace begins_before_its_turn.events refl h.ledger.pace;
-  without_waiting = λ h. by_pace given_without_waiting.events refl h.ledger.pace;
+  before_its_turn = λ h. by_pace begins_before_its_turn.events refl h.ledger.given.pace;
+  without_waiting = λ h. by_pace given_without_waiting.events refl h.ledger.given.pace;
   for_nothing = by_causes side_by_side_work passed_over_for_nothing (no_nil _ _) refl;
   to_nobody = by_ours side_by_side_work leased_for_nobody refl;
   one_device = one_device_refused;

@@ -24,7 +24,7 @@ cut_done e = cc
 pub fault_done : (c : Code) → Fault c ≢ Done
 fault_done c e = cc
 
-none_some : (c : Code) → None ≢ Some c
+pub none_some : (c : Code) → None ≢ Some c
 none_some c e = cc
 
 front_nil : {A : Type 0} (ws : List A) → IsFront [] ws

@@ -18,7 +18,7 @@ use Rattle.pull_nodes.specs.PipeRule.{without_fault}
 use Rattle.pull_nodes.specs.declared.pipe.Pipe.TheVariants as pipe
 use Rattle.pull_nodes.specs.Runs.{Reads, ReadsWhole, Taken}
 use Rattle.run_rules.specs.Work.{RunRecord, Work}
-use Rattle.run_laws.specs.Streams.{Gathered, InFile, Leaves, ThroughPipe, file_stream, opener, piped_work}
+use Rattle.run_laws.specs.Streams.{Gathered, InFile, Leaves, ThroughPipe, file_stream, no_listing, opener, piped_work}
 use Rattle.run_laws.specs.Written.{ends_of, frame, run_of, used_device}
 
 abbrev pub path_a : List ℕ
@@ -38,7 +38,7 @@ file_run bytes at ended h frames = run_of ((path_a, bytes) ∷ []) ((path_a, byt
 
 -- one stream of one file, and what it may give
 abbrev pub file_work : (DeviceTold → Outcomes) → (DeviceTold → Outcomes) → Work
-file_work runs ideal = record { opener = Some (opener [] 4 None); streams = file_stream path_a ∷ []; runs = λ k v w. runs (w 0); ideal_runs = λ k v w. ideal (w 0) }
+file_work runs ideal = record { opener = Some (opener [] 4 None); streams = file_stream path_a ∷ []; runs = λ k v w. runs (w 0); ideal_runs = λ k v w. ideal (w 0); listing = no_listing; ideal_listing = no_listing }
 
 -- a line end that two reads cut in two
 abbrev pub cut_line_end : RunRecord

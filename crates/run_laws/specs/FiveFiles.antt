@@ -10,7 +10,7 @@ use Rattle.res_ledger.specs.declared.event.What.TheVariants.{Acquire, Lease, Can
 use Rattle.device_port.specs.Device.{DeviceTold}
 use Rattle.pull_nodes.specs.Runs.{Reads, ReadsWhole}
 use Rattle.run_rules.specs.Work.{RunRecord, Work}
-use Rattle.run_laws.specs.Streams.{InFile, file_stream, opener}
+use Rattle.run_laws.specs.Streams.{InFile, file_stream, no_listing, opener}
 use Rattle.run_laws.specs.Written.{Listing, ends_of, frame, read_device, run_of}
 
 -- so many letters c
@@ -33,6 +33,8 @@ five_work = record {
   streams = file_stream (codes "a") ∷ file_stream (codes "b") ∷ file_stream (codes "c") ∷ file_stream (codes "d") ∷ file_stream (codes "e") ∷ [];
   runs = λ k v w. InFile (w k) (Reads (w k));
   ideal_runs = λ k v w. ReadsWhole (w k);
+  listing = no_listing;
+  ideal_listing = no_listing;
 }
 
 -- stream k acquires its file, and ends

@@ -1,18 +1,20 @@
 -- What follows of the rules of a run's ledger, and parts of the rules.
-use Rattle.std.specs.Prelude.{◌≡◌, ◌⊎◌, ℕ, ◌<◌, Bool, List, ◌∷◌, ◌++◌, Option, Some, IfSome}
+use Rattle.std.specs.Prelude.{◌≡◌, ◌⊎◌, ℕ, ◌<◌, Bool, true, List, [], ◌∷◌, ◌++◌, length, Option, Some, None, IfSome}
 use Rattle.chunk_core.specs.Lists.{IsAmong}
 use Rattle.chunk_core.specs.declared.code.Exit.{Exit}
 use Rattle.chunk_core.specs.declared.code.How.TheVariants as how
-use Rattle.res_ledger.specs.Ledger.{Covers, IsLegal, Notes}
+use Rattle.res_ledger.specs.Ledger.{Covers, IsLeased, IsLegal, Notes}
 use Rattle.res_ledger.specs.declared.event.Event.{Event}
 use Rattle.res_ledger.specs.declared.event.StreamNo.{StreamNo}
 use Rattle.res_ledger.specs.declared.event.StreamNo.TheVariants.{Inner, Outer}
 use Rattle.res_ledger.specs.declared.event.What.TheVariants.{Acquire, Cancel, Final, Lease}
+use Rattle.device_port.specs.Device.{DeviceTold}
 use Rattle.run_rules.specs.declared.end.EndOf.{EndOf}
 use Rattle.run_rules.specs.Ends.{IsLast, IsSilenced, last_stream}
 use Rattle.run_rules.specs.Facts.{Acts, HasLeft, IsFailure}
 use Rattle.run_rules.specs.Rules.{ClosesBeforeLeaving}
-use Rattle.run_rules.specs.Work.{Opener, RunRecord, Stream, Work, until_by}
+use Rattle.run_rules.specs.Homes.{is_tried}
+use Rattle.run_rules.specs.Work.{Opener, RunRecord, Stream, Work, all_parts, opener_places, streams_before, until_by}
 
 -- only the outer stream leases
 abbrev pub OnlyOuterLeases : List Event → Type 0
@@ -26,7 +28,7 @@ LeaversAreSilent =
 
 -- a work of these streams, which may give anything
 abbrev pub work_of : Option Opener → List Stream → Work
-work_of o ss = record { opener = o; streams = ss; runs = λ k v w xs e. Unit {0}; ideal_runs = λ k v w xs e. Unit {0} }
+work_of o ss = record { opener = o; streams = ss; runs = λ k v w xs e. Unit {0}; ideal_runs = λ k v w xs e. Unit {0}; listing = λ d xs e. Unit {0}; ideal_listing = λ d xs e. Unit {0} }
 
 -- The parts of rules that have a test of their own.
 
@@ -49,3 +51,11 @@ TablesRise L = (P Q : List Event) (e : Event) (r s q t : ℕ) → L ≡ P ++ e �
 -- each lease of the outer stream covers the first n rows
 abbrev pub TablesCovered : ℕ → List Event → Type 0
 TablesCovered n L = (j s r : ℕ) → Notes L Outer (Lease j s) → r < n → Covers L j Outer r
+
+-- a row of the outer stream is tried only once the streams of the parts before were leased
+abbrev pub TakesTurns : Opener → ℕ → List Event → (ℕ → DeviceTold) → Type 0
+TakesTurns o n L w = (r j : ℕ) → r < length (opener_places o) → is_tried (w r) ≡ true → j < streams_before 0 0 (all_parts o n) r → IsLeased L j
+
+-- an outer stream without groups and a list
+abbrev pub IsPlain : Opener → Type 0
+IsPlain o = (o.groups ≡ []) × (o.list ≡ None)

@@ -1,17 +1,16 @@
 -- Tests of a run's ledger, devices, rows and frames beyond those of res_ledger. They compute on a run that is written out.
 use Rattle.std.specs.Prelude.{ℕ, ◌+◌, Bool, true, false, ◌&&◌, ◌||◌, not, nat_eq, nat_le, nat_lt, Option, Some, None, List, [], ◌∷◌, ◌++◌, length, count_by, flat_map}
 use Rattle.std.specs.List.{list_any as any, list_all as all, range_with_len}
-use Rattle.chunk_core.specs.Lists.{has}
 use Rattle.chunk_core.specs.Texts.{Frame}
 use Rattle.chunk_core.specs.declared.code.Exit.TheVariants.{Succeeded}
 use Rattle.res_ledger.specs.declared.event.StreamNo.{StreamNo}
 use Rattle.res_ledger.specs.declared.event.StreamNo.TheVariants.{Outer, Inner}
 use Rattle.res_ledger.specs.declared.event.What.{What}
-use Rattle.res_ledger.specs.declared.event.What.TheVariants.{Acquire, Cancel, Close, Lease}
+use Rattle.res_ledger.specs.declared.event.What.TheVariants.{Cancel, Close, Lease}
 use Rattle.res_ledger.specs.declared.event.Event.{Event}
 use Rattle.res_ledger.specs.Judge.{each_after, is_leased}
-use Rattle.res_ledger.specs.Order.{covered_by, same_exit}
-use Rattle.res_ledger.specs.Own.{leased_of, own, rows}
+use Rattle.res_ledger.specs.Order.{same_exit}
+use Rattle.res_ledger.specs.Own.{leased_of, own}
 use Rattle.res_ledger.specs.Streams.{same_stream}
 use Rattle.res_ledger.specs.Whole.{is_cancel}
 use Rattle.device_port.specs.declared.device.Mode.TheVariants as mode
@@ -95,25 +94,6 @@ begin_in_order width L = each_after (λ P e. begins_in_turn width P e.by) [] L
 -- all of it
 abbrev pub is_paced : ℕ → ℕ → List Event → Bool
 is_paced width n L = is_ahead L && (is_within width n L && (leases_in_order L && (outer_waits width n L && begin_in_order width L)))
-
--- Tables.
-
--- a row that the outer stream acquires comes behind those that it has
-abbrev pub rises : List Event → StreamNo → What → Bool
-rises P Outer (Acquire r s) = all (λ x. nat_lt x.0 r) (rows (own Outer P))
-rises P k w = true
-
--- the outer stream acquires its rows in their order
-abbrev pub tables_rise : List Event → Bool
-tables_rise L = each_after (λ P e. rises P e.by e.what) [] L
-
--- each lease of the outer stream covers the first n rows
-abbrev pub tables_covered : ℕ → List Event → Bool
-tables_covered n L = all (λ l. all (λ r. has r (covered_by L l.0)) (first_numbers n)) (flat_map leased_of (own Outer L))
-
--- all of it
-abbrev pub lends_tables : ℕ → List Event → Bool
-lends_tables n L = tables_rise L && tables_covered n L
 
 -- Devices, rows and frames.
 

@@ -7,7 +7,12 @@ pub mod Sides
 pub mod FiveFiles
 pub mod OneStream
 pub mod Refused
+pub mod Groups
+pub mod Lists
+pub mod UnfitGroups
 pub mod Unacceptable
+pub mod UnfitLists
 pub mod EndTests
 pub mod LedgerTests
+pub mod GivingTests
 pub mod Laws

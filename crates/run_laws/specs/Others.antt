@@ -15,7 +15,7 @@ use Rattle.pull_nodes.specs.Runs.{Exactly, Follows, IsFault, IsUnwritten, OpensT
 use Rattle.pull_nodes.specs.declared.pipe.Pipe.TheVariants as pipe
 use Rattle.run_rules.specs.Work.{RunRecord, Work}
 use Rattle.run_laws.specs.Files.{file_work, path_a}
-use Rattle.run_laws.specs.Streams.{InFile, Leaves, ThroughPipe, opener, two_files}
+use Rattle.run_laws.specs.Streams.{InFile, Leaves, ThroughPipe, no_listing, opener, two_files}
 use Rattle.run_laws.specs.Tables.{path_b, t_csv, table_bytes}
 use Rattle.run_laws.specs.Written.{Listing, ends_of, frame, read_device, run_of, used_device}
 
@@ -25,7 +25,7 @@ abbrev pub u_csv : List ℕ
 u_csv = codes "u.csv"
 
 abbrev pub no_streams : List (List ℕ) → Work
-no_streams tables = record { opener = Some (opener tables 4 None); streams = []; runs = λ k v w ys e. ⊥; ideal_runs = λ k v w ys e. ⊥ }
+no_streams tables = record { opener = Some (opener tables 4 None); streams = []; runs = λ k v w ys e. ⊥; ideal_runs = λ k v w ys e. ⊥; listing = no_listing; ideal_listing = no_listing }
 
 abbrev pub table_files : Listing
 table_files = (t_csv, table_bytes) ∷ (u_csv, codes "k,w\n") ∷ []
@@ -105,6 +105,8 @@ copy_work = record {
   streams = record { places = to_write path_b ∷ to_read path_a ∷ []; scopes = 0; until = None } ∷ [];
   runs = λ k v w. OrLeft (IsUnwritten (w 0)) (OpensThen (w 0) (OrLeft (IsUnwritten (w 0)) (Written (w 0) (InFile (w 1) (Reads (w 1))))) (IsUnwritten (w 0)));
   ideal_runs = λ k v w. WrittenWhole (w 0) (ReadsWhole (w 1));
+  listing = no_listing;
+  ideal_listing = no_listing;
 }
 
 -- a stream of two rows: the one that was acquired first ends last

@@ -9,7 +9,7 @@ use Rattle.pull_nodes.specs.Runs.{Merged, Reads, ReadsWhole, Zipped}
 use Rattle.pull_nodes.specs.declared.pipe.Pipe.TheVariants as pipe
 use Rattle.run_rules.specs.Work.{RunRecord, Work}
 use Rattle.run_laws.specs.Others.{two_row_events}
-use Rattle.run_laws.specs.Streams.{InFile, Leaves, ThroughPipe, opener}
+use Rattle.run_laws.specs.Streams.{InFile, Leaves, ThroughPipe, no_listing, opener}
 use Rattle.run_laws.specs.Written.{ends_of, frame, read_device, run_of}
 
 abbrev pub path_p : List ℕ
@@ -33,6 +33,8 @@ sides_work runs ideal = record {
   streams = record { places = to_read path_p ∷ to_read path_q ∷ []; scopes = 0; until = None } ∷ [];
   runs = λ k v w. runs (w 0) (w 1);
   ideal_runs = λ k v w. ideal (w 0) (w 1);
+  listing = no_listing;
+  ideal_listing = no_listing;
 }
 
 -- a run of two files with these bytes, of which the second was read to its end, and the first too or not

@@ -41,9 +41,9 @@ Gathered A given = Piped (λ xs. without_fault []) (λ xs. given) A
 
 -- The works.
 
--- the only key of the tables
+-- the tables have one key, with one of two values
 abbrev pub value_in : List ℕ → List ℕ → Option (List ℕ)
-value_in bytes key = if bytes_eq bytes (codes "k,v\n") then (if bytes_eq key (codes "k") then Some (codes "v") else None) else None
+value_in bytes key = if bytes_eq key (codes "k") then (if bytes_eq bytes (codes "k,v\n") then Some (codes "v") else (if bytes_eq bytes (codes "k,w\n") then Some (codes "w") else None)) else None
 
 -- a record of one field is refused
 abbrev pub fault_in : List ℕ → Option Code
@@ -51,12 +51,16 @@ fault_in bytes = if bytes_eq bytes (codes "k\n") then Some code.NoField else Non
 
 -- tables, so many streams open at once, and at most so many frames
 abbrev pub opener : List (List ℕ) → ℕ → Option ℕ → Opener
-opener [] max_open most = record { tables = []; fault_of = fault_in; value_of = value_in; scopes = 0; max_open = max_open; most = most }
+opener [] max_open most = record { tables = []; groups = []; list = None; fault_of = fault_in; value_of = value_in; max_open = max_open; most = most }
 opener (t ∷ ts) max_open most = record (opener ts max_open most) { tables = to_read t ∷ (opener ts max_open most).tables }
 
 -- a stream of one file
 abbrev pub file_stream : List ℕ → Stream
 file_stream path = record { places = to_read path ∷ []; scopes = 0; until = None }
+
+-- no list is read
+abbrev pub no_listing : DeviceTold → Outcomes
+no_listing d ys e = ⊥
 
 -- one file through pipes
 abbrev pub piped_work : List ℕ → List Pipe → Work
@@ -65,6 +69,8 @@ piped_work path pipes = record {
   streams = file_stream path ∷ [];
   runs = λ k v w. InFile (w 0) (ThroughPipes (Reads (w 0)) pipes);
   ideal_runs = λ k v w. ThroughWhole (ReadsWhole (w 0)) pipes;
+  listing = no_listing;
+  ideal_listing = no_listing;
 }
 
 -- two files as they are, of which the second stands behind the first
@@ -74,4 +80,6 @@ two_files o until = record {
   streams = file_stream (codes "a") ∷ record (file_stream (codes "b")) { until = until } ∷ [];
   runs = λ k v w. InFile (w k) (Reads (w k));
   ideal_runs = λ k v w. ReadsWhole (w k);
+  listing = no_listing;
+  ideal_listing = no_listing;
 }

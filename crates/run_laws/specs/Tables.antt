@@ -15,7 +15,7 @@ use Rattle.device_port.specs.Device.{DeviceTold, to_read}
 use Rattle.pull_nodes.specs.PipeRule.{without_fault}
 use Rattle.pull_nodes.specs.Runs.{Reads, ReadsWhole}
 use Rattle.run_rules.specs.Work.{RunRecord, Values, Work}
-use Rattle.run_laws.specs.Streams.{Gathered, InFile, Leaves, file_stream, opener}
+use Rattle.run_laws.specs.Streams.{Gathered, InFile, Leaves, file_stream, no_listing, opener}
 use Rattle.run_laws.specs.Written.{Listing, ends_of, frame, idle_device, missing_device, read_device, run_of, used_device}
 
 abbrev pub path_b : List ℕ
@@ -38,9 +38,12 @@ keys_bytes = codes "k\nz\n"
 abbrev pub lookup_files : Listing
 lookup_files = (t_csv, table_bytes) ∷ (a_csv, keys_bytes) ∷ []
 
--- the two keys, each with its value
+-- the two keys, each with its value in the table t
+abbrev pub looked_up_in : ℕ → Values → Given
+looked_up_in t v = without_fault (Row (codes "k" ∷ unwrap_or (v t (codes "k")) [] ∷ []) ∷ Row (codes "z" ∷ unwrap_or (v t (codes "z")) [] ∷ []) ∷ [])
+
 abbrev pub looked_up : Values → Given
-looked_up v = without_fault (Row (codes "k" ∷ unwrap_or (v 0 (codes "k")) [] ∷ []) ∷ Row (codes "z" ∷ unwrap_or (v 0 (codes "z")) [] ∷ []) ∷ [])
+looked_up v = looked_up_in 0 v
 
 abbrev pub lookup_work : Work
 lookup_work = record {
@@ -48,6 +51,8 @@ lookup_work = record {
   streams = file_stream a_csv ∷ [];
   runs = λ k v w. InFile (w 1) (Gathered (Leaves (Reads (w 1))) (looked_up v));
   ideal_runs = λ k v w. Gathered (ReadsWhole (w 1)) (looked_up v);
+  listing = no_listing;
+  ideal_listing = no_listing;
 }
 
 -- the table's row waits for the lease, and ends with the exit of its Cancel

@@ -17,7 +17,7 @@ use Rattle.run_laws.specs.FiveFiles.{five_files, five_devices, five_work, visit}
 use Rattle.run_laws.specs.OneStream.{one_stream_work, x_listing}
 use Rattle.run_laws.specs.Others.{copy_work, hello, no_streams, silent_work, stopped, stopped_work, table_files, two_listing, two_tables, u_csv, x_device}
 use Rattle.run_laws.specs.Refused.{in_turn_work, with_events}
-use Rattle.run_laws.specs.Streams.{InFile, file_stream, opener, two_files}
+use Rattle.run_laws.specs.Streams.{InFile, file_stream, no_listing, opener, two_files}
 use Rattle.run_laws.specs.Tables.{a_csv, keys_bytes, lookup, lookup_files, lookup_work, missing_files, path_b, t_csv, table_bytes}
 use Rattle.run_laws.specs.Written.{Listing, ends_of, frame, missing_device, read_device, run_of, used_device}
 
@@ -132,6 +132,8 @@ three_work max_open = record {
   streams = file_stream path_a ∷ file_stream path_b ∷ file_stream path_c ∷ [];
   runs = λ k v w. InFile (w k) (Reads (w k));
   ideal_runs = λ k v w. ReadsWhole (w k);
+  listing = no_listing;
+  ideal_listing = no_listing;
 }
 
 -- a run of the three files with this ledger, in which all are done

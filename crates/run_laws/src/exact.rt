@@ -7,14 +7,13 @@ ghost use Rattle.chunk_core.specs.Texts.{Frame};
 ghost use Rattle.chunk_core.specs.declared.code.How.{How};
 ghost use Rattle.chunk_core.specs.declared.code.How.TheVariants as how;
 ghost use Rattle.device_port.specs.Device.{DeviceTold, Place};
-ghost use Rattle.res_ledger.specs.Ledger.{Covers, IsLegal, Notes};
+ghost use Rattle.res_ledger.specs.Ledger.{IsLegal};
 ghost use Rattle.res_ledger.specs.declared.event.Event.{Event};
 ghost use Rattle.res_ledger.specs.declared.event.StreamNo.{StreamNo};
-ghost use Rattle.res_ledger.specs.declared.event.StreamNo.TheVariants.{Inner, Outer};
-ghost use Rattle.res_ledger.specs.declared.event.What.TheVariants.{Lease};
 ghost use Rattle.run_laws.specs.EndTests.{begin_in_room, end_stops, fault_stops, has_begun, has_cause_to_halt, has_one_exit, has_stopped_all, is_caused, is_exit_hidden, is_last, is_memory_known, is_memory_told, is_shown, is_silenced, is_stopped, may_stop, prints_behind, silence_stops, stops_by_end, stops_by_failure, stops_when_silenced, was_open};
-ghost use Rattle.run_laws.specs.Laws.{StopsByEnd, StopsByFailure, StopsWhenSilenced, TablesCovered, TablesRise, work_of};
-ghost use Rattle.run_laws.specs.LedgerTests.{are_left_alone, begin_in_order, is_ahead, is_leaving_closed, is_ours, is_paced, is_shut, is_untouched, is_within, leases_in_order, lends_tables, never_fall, outer_waits, tables_covered, tables_rise};
+ghost use Rattle.run_laws.specs.GivingTests.{gives_all, gives_in_order, is_given_by, lends_tables, takes_turns};
+ghost use Rattle.run_laws.specs.Laws.{StopsByEnd, StopsByFailure, StopsWhenSilenced, TakesTurns, work_of};
+ghost use Rattle.run_laws.specs.LedgerTests.{are_left_alone, begin_in_order, is_ahead, is_leaving_closed, is_ours, is_paced, is_shut, is_untouched, is_within, leases_in_order, never_fall, outer_waits};
 ghost use Rattle.run_rules.specs.Devices.{IsShut};
 ghost use Rattle.run_rules.specs.Ends.{BeginInRoom, EndIsCaused, EndStops, FaultStops, HasBegun, HasCauseToHalt, HasStoppedAll, IsLast, IsShown, IsSilenced, IsStopped, MayStop, PrintsBehind, SilenceStops, WasOpen};
 ghost use Rattle.run_rules.specs.Exits.{HasOneExit, IsExitHidden};
@@ -22,7 +21,8 @@ ghost use Rattle.run_rules.specs.Homes.{AreLeftAlone, IsUntouched};
 ghost use Rattle.run_rules.specs.Memory.{IsWanting};
 ghost use Rattle.run_rules.specs.Outputs.{NeverFall};
 ghost use Rattle.run_rules.specs.Pace.{BeginInOrder, IsPaced, LeasesAhead, LeasesInOrder, OuterWaits, WithinWidth};
-ghost use Rattle.run_rules.specs.Rules.{ClosesBeforeLeaving, IsOurs, LendsTables};
+ghost use Rattle.run_rules.specs.Giving.{GivesAll, GivesInOrder};
+ghost use Rattle.run_rules.specs.Rules.{ClosesBeforeLeaving, IsGivenBy, IsOurs, LendsTables};
 ghost use Rattle.run_rules.specs.Work.{Opener, RunRecord, Stream, Values};
 ghost use Rattle.run_rules.specs.declared.end.EndOf.{EndOf};
 ghost use Rattle.std.specs.Bool.{Decides};
@@ -86,11 +86,14 @@ pub fn tests_of_pace()
     ensures of_pace { (width n : ℕ) (L : List Event) → Decides (is_paced width n L) (IsPaced width n L) }
 {}
 
-/// That the tables are lent, where the ledger is legal.
-pub fn tests_of_tables()
-    ensures of_rise { (L : List Event) → Decides (tables_rise L) (TablesRise L) }
-    ensures of_covered { (n : ℕ) (L : List Event) → IsLegal L → Decides (tables_covered n L) (TablesCovered n L) }
-    ensures of_lent { (n : ℕ) (L : List Event) → IsLegal L → Decides (lends_tables n L) (LendsTables n L) }
+/// What the outer stream gives and in which order, and that the tables are lent, where the ledger is
+/// legal.
+pub fn tests_of_giving()
+    ensures of_order { (o : Opener) (n : ℕ) (L : List Event) → Decides (gives_in_order o n L) (GivesInOrder o n L) }
+    ensures of_all { (o : Opener) (n : ℕ) (L : List Event) → Decides (gives_all o n L) (GivesAll o n L) }
+    ensures of_lent { (o : Opener) (n : ℕ) (L : List Event) → IsLegal L → Decides (lends_tables o n L) (LendsTables o n L) }
+    ensures of_given { (o : Option Opener) (n : ℕ) (L : List Event) → IsLegal L → Decides (is_given_by o n L) (IsGivenBy o n L) }
+    ensures of_turns { (o : Opener) (n : ℕ) (L : List Event) (w : ℕ → DeviceTold) → Decides (takes_turns o n L w) (TakesTurns o n L w) }
 {}
 
 /// Devices that came back or were left alone, and frames in order of their streams.

@@ -5,6 +5,7 @@
 #![tactic(auto)]
 
 pub mod exact;
+pub mod giving;
 pub mod leaving;
 pub mod refused;
 pub mod worked;

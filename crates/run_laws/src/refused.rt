@@ -6,6 +6,8 @@ ghost use Rattle.run_laws.specs.Refused.{another_number, another_value, begins_b
 ghost use Rattle.run_laws.specs.Sides.{pairs_work};
 ghost use Rattle.run_laws.specs.Tables.{lookup_work, t_csv};
 ghost use Rattle.run_laws.specs.Unacceptable.{AreUnacceptable};
+ghost use Rattle.run_laws.specs.UnfitGroups.{AreUnfitGroups};
+ghost use Rattle.run_laws.specs.UnfitLists.{AreUnfitLists};
 ghost use Rattle.run_rules.specs.Run.{Performs};
 ghost use Rattle.std.specs.Prelude.{[], ◌∷◌, None, Some};
 
@@ -87,4 +89,15 @@ pub fn wrong_stream()
 /// Runs of which each is all right but for one thing, and that no user would accept.
 pub fn unacceptable()
     ensures { AreUnacceptable }
+{}
+
+/// Runs of groups of which each is all right but for one thing.
+pub fn unfit_groups()
+    ensures { AreUnfitGroups }
+{}
+
+/// Runs over the lines of a list of which each is all right but for one thing, whichever lines are
+/// said to have been given streams.
+pub fn unfit_lists()
+    ensures { AreUnfitLists }
 {}

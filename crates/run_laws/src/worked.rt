@@ -1,10 +1,12 @@
 //! Runs that went as they should, each with what it prints.
-ghost use Rattle.run_laws.specs.Files.{cut_line_end, cut_line_end_text, filtered_log, filtered_log_text, filtered_log_work, lines_work, lossy_hexadecimal, lossy_hexadecimal_text, lossy_hexadecimal_work, malformed_character, malformed_character_text, second_field, second_field_text, second_field_work, taker_stops, taker_stops_text, taker_stops_work, truncated_character, truncated_character_text, uneven_records, uneven_records_text, uneven_records_work, utf8_work, whole_character, whole_character_text};
+ghost use Rattle.run_laws.specs.Files.{path_a, cut_line_end, cut_line_end_text, filtered_log, filtered_log_text, filtered_log_work, lines_work, lossy_hexadecimal, lossy_hexadecimal_text, lossy_hexadecimal_work, malformed_character, malformed_character_text, second_field, second_field_text, second_field_work, taker_stops, taker_stops_text, taker_stops_work, truncated_character, truncated_character_text, uneven_records, uneven_records_text, uneven_records_work, utf8_work, whole_character, whole_character_text};
 ghost use Rattle.run_laws.specs.FiveFiles.{five, five_text, five_work};
+ghost use Rattle.run_laws.specs.Groups.{group_work, grouped, grouped_text, pair, pair_text, pair_work};
+ghost use Rattle.run_laws.specs.Lists.{bad_line, bad_line_text, list_work, one_line_work, one_too_many, one_too_many_text, two_listed, two_listed_text};
 ghost use Rattle.run_laws.specs.OneStream.{one_stream_work, unbegun, ungiven, ungiven_text};
 ghost use Rattle.run_laws.specs.Others.{copy_work, handled_work, no_streams, silent_work, stopped_work, u_csv, two_tables, nothing_described, silent, stopped, handled, copied, uncopied, two_tables_text, nothing_described_text, silent_text, stopped_text, handled_text, copied_text, uncopied_text};
 ghost use Rattle.run_laws.specs.Sides.{merge_work, merged, merged_back, merged_back_text, merged_text, paired, paired_text, pairs_work};
-ghost use Rattle.run_laws.specs.Tables.{lookup_work, t_csv, lookup, unread_table, refused_table, missing_table, unopened_file, unread_file, unclean_table, unclean_file, lookup_text, unread_table_text, refused_table_text, missing_table_text, unopened_file_text, unread_file_text, unclean_table_text, unclean_file_text};
+ghost use Rattle.run_laws.specs.Tables.{lookup_work, path_b, t_csv, lookup, unread_table, refused_table, missing_table, unopened_file, unread_file, unclean_table, unclean_file, lookup_text, unread_table_text, refused_table_text, missing_table_text, unopened_file_text, unread_file_text, unclean_table_text, unclean_file_text};
 ghost use Rattle.run_laws.specs.Written.{IsRightRun};
 ghost use Rattle.run_rules.specs.Run.{Performs};
 ghost use Rattle.std.specs.Prelude.{[], ◌∷◌, None, Some};
@@ -66,4 +68,19 @@ pub fn several_files()
 pub fn one_stream()
     ensures is_ungiven { IsRightRun (one_stream_work (Some 0)) ungiven ungiven_text }
     ensures is_unbegun { Performs (one_stream_work None) unbegun }
+{}
+
+/// A table and a stream of a group, and two streams of a group, whose table stands beside one of the
+/// top.
+pub fn groups()
+    ensures is_grouped { IsRightRun group_work grouped grouped_text }
+    ensures is_pair { IsRightRun pair_work pair pair_text }
+{}
+
+/// The lines of a list: two, one with an empty line behind it, and one with a further line where
+/// only one is allowed.
+pub fn lists()
+    ensures is_two_listed { IsRightRun (list_work (path_a ∷ path_b ∷ [])) two_listed two_listed_text }
+    ensures is_bad_line { IsRightRun (list_work (path_a ∷ [])) bad_line bad_line_text }
+    ensures is_one_too_many { IsRightRun (one_line_work (path_a ∷ [])) one_too_many one_too_many_text }
 {}

@@ -119,7 +119,7 @@ BeginInRoom (Some o) work c = (k : ℕ) → Acts (Inner k) c.events → HadRoom 
 pub record HaveEnds (work : Work) (c : RunRecord) (w : ℕ → DeviceTold) : Type 0 where
   pub named : map (λ e. e.who) c.ends ≡ names_of work
   pub caused : AllByRecursion (EndIsCaused work c) c.ends
-  pub outer : HasOuterEnd work.opener (length work.streams) c w c.ends
+  pub outer : HasOuterEnd work.opener work.listing (length work.streams) c w c.ends
   pub stopped : IsStopped work c
   pub begins : BeginInRoom work.opener work c
   pub memory : (e : EndOf) → IsAmong e c.ends → e.how ≡ how.Memory → c.memory ≡ true

@@ -1,5 +1,7 @@
 pub mod Facts
 pub mod Work
+pub mod Giving
+pub mod Listing
 pub mod Devices
 pub mod Pace
 pub mod Rules

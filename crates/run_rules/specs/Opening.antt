@@ -1,6 +1,7 @@
 -- How the outer stream ended.
-use Rattle.std.specs.Prelude.{◌≡◌, ◌⊎◌, ℕ, ◌+◌, true, false, List, [], ◌∷◌, length, Option, Some, None, IfSome}
-use Rattle.std.specs.List.{AllByRecursion}
+use Rattle.std.specs.Prelude.{◌≡◌, ◌⊎◌, ℕ, ◌+◌, ◌-◌, ◌<◌, true, false, List, [], ◌∷◌, length, take, drop, Option, Some, None, IfSome}
+use Rattle.std.specs.List.{range_with_len, AllByRecursion}
+use Rattle.chunk_core.specs.Outcomes.{Done, Fault, Cut, Outcomes}
 use Rattle.chunk_core.specs.declared.code.Code.{Code}
 use Rattle.chunk_core.specs.declared.code.Code.TheVariants as code
 use Rattle.chunk_core.specs.declared.code.How.{How}
@@ -11,9 +12,11 @@ use Rattle.res_ledger.specs.declared.event.What.TheVariants.{Lease}
 use Rattle.res_ledger.specs.Ledger.{IsAcquired, IsLeased, Notes}
 use Rattle.device_port.specs.Device.{Place, DeviceTold}
 use Rattle.run_rules.specs.declared.end.EndOf.{EndOf}
-use Rattle.run_rules.specs.Facts.{IsOver, first_numbers}
+use Rattle.run_rules.specs.Facts.{IsOver}
+use Rattle.run_rules.specs.Giving.{GivesAll}
 use Rattle.run_rules.specs.Homes.{IsBack, is_tried}
-use Rattle.run_rules.specs.Work.{Opener, RunRecord}
+use Rattle.run_rules.specs.Listing.{IsListing, IsReadInTime}
+use Rattle.run_rules.specs.Work.{Lister, Opener, Part, RunRecord, all_parts, list_row, opener_places, rows_up_to, streams_before, top_of}
 
 -- the table's row was acquired, and its device was read to the end of a content that isn't refused
 pub record IsTableRead (o : Opener) (c : RunRecord) (r : ℕ) (d : DeviceTold) : Type 0 where
@@ -64,25 +67,60 @@ AreTablesLeft o c w r [] = Unit {0}
 AreTablesLeft o c w r (p ∷ ps) =
     (((w r).open_faults ≡ 0) × ((w r).read_faults ≡ 0) × AreUntried w (r + 1) ps) ⊎ (IsTableRead o c r (w r) × AreTablesLeft o c w (r + 1) ps)
 
--- each of the n streams has a lease
-abbrev pub AreLeased : ℕ → List Event → Type 0
-AreLeased n L = AllByRecursion (λ k. IsLeased L k) (first_numbers n)
+-- the tables of these parts, from r on: of each part all were read, or nothing was tried on them nor on those behind them
+abbrev pub ArePartsRead : Opener → RunRecord → (ℕ → DeviceTold) → ℕ → List Place → List Part → Type 0
+ArePartsRead o c w r ts [] = Unit {0}
+ArePartsRead o c w r ts (p ∷ ps) = AreUntried w r ts ⊎ (AreTablesRead o c w r (take p.tables ts) × ArePartsRead o c w (r + p.tables) (drop p.tables ts) ps)
 
--- the outer stream is done where all tables were read and all n streams given, it fails by a table, where it was halted all tables were read or none was tried, and where it found no memory those were read that come before the one that it was at
-abbrev pub IsOuterEnd : Opener → ℕ → RunRecord → (ℕ → DeviceTold) → How → Type 0
-IsOuterEnd o n c w how.Done = AreTablesRead o c w 0 o.tables × AreLeased n c.events
-IsOuterEnd o n c w (how.Fault f) = AreTablesFailed o c w 0 o.tables f
-IsOuterEnd o n c w how.Halted = AreTablesRead o c w 0 o.tables ⊎ AreUntried w 0 o.tables
-IsOuterEnd o n c w how.Memory = AreTablesLeft o c w 0 o.tables
+-- the list's row was acquired, and its device was read to the end
+pub record IsListRead (c : RunRecord) (r : ℕ) (d : DeviceTold) : Type 0 where
+  pub acquired : IsAcquired c.events r
+  pub back : IsBack c d
+  pub ended : d.ended ≡ true
+  pub unfailed : d.read_faults ≡ 0
+  pub whole : IfSome d.content (λ bytes. d.at ≡ length bytes)
 
--- the outer stream gave its streams and ended so: it leases only once all tables were read, and where nothing may be printed it tries no table, and neither ends by itself nor fails
-pub record OuterHasRun (o : Opener) (n : ℕ) (c : RunRecord) (w : ℕ → DeviceTold) (h : How) : Type 0 where
-  pub end : IsOuterEnd o n c w h
-  pub gives : (j s : ℕ) → Notes c.events Outer (Lease j s) → AreTablesRead o c w 0 o.tables
-  pub nobody : o.most ≡ Some 0 → AreUntried w 0 o.tables × ¬ (IsOver h)
+-- the reading of the list was left, also before it began, and nothing of it had failed
+pub record IsListLeft (l : Lister) (A : Outcomes) (d : DeviceTold) : Type 0 where
+  pub lines : IsListing l A Cut
+  pub opening : d.open_faults ≡ 0
+  pub reading : d.read_faults ≡ 0
+
+-- the list with the lines of the last of n streams: each of these has a lease, and it was read in time
+pub record IsListed (l : Lister) (n : ℕ) (L : List Event) (d : DeviceTold) : Type 0 where
+  pub leased : AllByRecursion (λ k. IsLeased L k) (range_with_len (n - length l.lines) (length l.lines))
+  pub in_time : IsReadInTime l d
+
+module _ (o : Opener) (A : DeviceTold → Outcomes) (n : ℕ) (c : RunRecord) (w : ℕ → DeviceTold) where
+  -- how the list came out, where there is one, of which A says what it may give: it was read to its end, it failed so, or it was left
+  abbrev pub ListIsDone : Type 0
+  ListIsDone = IfSome o.list (λ l. IsListRead c (list_row o) (w (list_row o)) × IsListing l (A (w (list_row o))) Done)
+
+  abbrev pub ListFails : Code → Type 0
+  ListFails f = (l : Lister) × (o.list ≡ Some l) × IsBack c (w (list_row o)) × IsListing l (A (w (list_row o))) (Fault f)
+
+  abbrev pub ListIsLeft : Type 0
+  ListIsLeft = IfSome o.list (λ l. IsListLeft l (A (w (list_row o))) (w (list_row o)))
+
+  -- the outer stream is done where all tables were read, the list too, and all was given; it fails by a table or by the list; where it was halted all tables of each part were read or none was tried; and where it found no memory those were read that come before the one that it was at
+  abbrev pub IsOuterEnd : How → Type 0
+  IsOuterEnd how.Done = AreTablesRead o c w 0 o.tables × GivesAll o n c.events × ListIsDone
+  IsOuterEnd (how.Fault f) = (AreTablesFailed o c w 0 o.tables f × ListIsLeft) ⊎ (AreTablesRead o c w 0 o.tables × ListFails f)
+  IsOuterEnd how.Halted = ArePartsRead o c w 0 o.tables (top_of o n ∷ o.groups) × ListIsLeft
+  IsOuterEnd how.Memory = AreTablesLeft o c w 0 o.tables × ListIsLeft
+
+  -- The outer stream gave its streams and ended so. It leases for a stream only once all tables up to those of its part were read, and tries a row only once the streams
+  -- of the parts before were leased, and the list only once all tables were read. Where nothing may be printed it tries no row, and neither ends by itself nor fails.
+  pub record OuterHasRun (h : How) : Type 0 where
+    pub end : IsOuterEnd h
+    pub gives : (j s : ℕ) → Notes c.events Outer (Lease j s) → AreTablesRead o c w 0 (take (rows_up_to 0 0 (all_parts o n) j) o.tables)
+    pub turns : (r j : ℕ) → r < length (opener_places o) → is_tried (w r) ≡ true → j < streams_before 0 0 (all_parts o n) r → IsLeased c.events j
+    pub behind : IfSome o.list (λ l. is_tried (w (list_row o)) ≡ true → AreTablesRead o c w 0 o.tables)
+    pub listed : IfSome o.list (λ l. IsListed l n c.events (w (list_row o)))
+    pub nobody : o.most ≡ Some 0 → AreUntried w 0 (opener_places o) × ¬ (IsOver h)
 
 -- where there is an outer stream, the first end is its
-abbrev pub HasOuterEnd : Option Opener → ℕ → RunRecord → (ℕ → DeviceTold) → List EndOf → Type 0
-HasOuterEnd None n c w es = Unit {0}
-HasOuterEnd (Some o) n c w [] = ⊥
-HasOuterEnd (Some o) n c w (e ∷ es) = OuterHasRun o n c w e.how
+abbrev pub HasOuterEnd : Option Opener → (DeviceTold → Outcomes) → ℕ → RunRecord → (ℕ → DeviceTold) → List EndOf → Type 0
+HasOuterEnd None A n c w es = Unit {0}
+HasOuterEnd (Some o) A n c w [] = ⊥
+HasOuterEnd (Some o) A n c w (e ∷ es) = OuterHasRun o A n c w e.how

@@ -1,5 +1,5 @@
 -- The rules of a run's ledger.
-use Rattle.std.specs.Prelude.{◌≡◌, ℕ, ◌<◌, ◌≤◌, List, ◌∷◌, ◌++◌, length, Option, Some, None}
+use Rattle.std.specs.Prelude.{◌≡◌, ℕ, ◌<◌, ◌≤◌, true, List, ◌∷◌, ◌++◌, length, Option, Some, None}
 use Rattle.std.specs.List.{AllByRecursion}
 use Rattle.chunk_core.specs.Lists.{IsAmong}
 use Rattle.chunk_core.specs.declared.code.Exit.{Exit}
@@ -11,8 +11,9 @@ use Rattle.res_ledger.specs.Order.{IsOrdered}
 use Rattle.res_ledger.specs.Own.{opens, own}
 use Rattle.res_ledger.specs.Whole.{IsComplete}
 use Rattle.run_rules.specs.Facts.{at}
+use Rattle.run_rules.specs.Giving.{GivesInOrder}
 use Rattle.run_rules.specs.Pace.{IsPaced}
-use Rattle.run_rules.specs.Work.{Work, Opener, names_of, owners_of, scopes_by, tables_of}
+use Rattle.run_rules.specs.Work.{Work, Opener, is_lent, names_of, opener_places, owners_of, scopes_by}
 
 -- an event is by a stream of the work; only the outer stream leases, and for streams that are there; and each row is acquired by its own stream
 pub record IsOurs (work : Work) (e : Event) : Type 0 where
@@ -28,15 +29,21 @@ HaveScopes work L = AllByRecursion (λ k. length (opens (own k L)) ≤ scopes_by
 abbrev pub ClosesBeforeLeaving : List Event → Type 0
 ClosesBeforeLeaving L = (P Q : List Event) (e : Event) (j : ℕ) (x : Exit) → L ≡ P ++ e ∷ Q → e.by ≡ Inner j → e.what ≡ Cancel j x → NotesClose P (Inner j) 0
 
--- the outer stream acquires its n tables in their order, and each of its leases covers them all
-pub record LendsTables (n : ℕ) (L : List Event) : Type 0 where
-  pub rise : (P Q : List Event) (e : Event) (r s q t : ℕ) → L ≡ P ++ e ∷ Q → e.by ≡ Outer → e.what ≡ Acquire r s → Notes P Outer (Acquire q t) → q < r
-  pub covers : (j s r : ℕ) → Notes L Outer (Lease j s) → r < n → Covers L j Outer r
+-- each lease of the outer stream covers the rows that its stream is lent, and no other
+pub record LendsTables (o : Opener) (n : ℕ) (L : List Event) : Type 0 where
+  pub covers : (j s r : ℕ) → Notes L Outer (Lease j s) → r < length (opener_places o) → is_lent o n r j ≡ true → Covers L j Outer r
+  pub only : (j s r : ℕ) → Notes L Outer (Lease j s) → Covers L j Outer r → is_lent o n r j ≡ true
 
--- where there is an outer stream, the n streams keep pace with it
-abbrev pub KeepsPace : Option Opener → ℕ → List Event → Type 0
-KeepsPace None n L = Unit {0}
-KeepsPace (Some o) n L = IsPaced o.max_open n L
+-- an outer stream gave the n streams: in its order, with their tables, and in pace
+pub record IsGiven (o : Opener) (n : ℕ) (L : List Event) : Type 0 where
+  pub order : GivesInOrder o n L
+  pub tables : LendsTables o n L
+  pub pace : IsPaced o.max_open n L
+
+-- where there is an outer stream, it gave the n streams
+abbrev pub IsGivenBy : Option Opener → ℕ → List Event → Type 0
+IsGivenBy None n L = Unit {0}
+IsGivenBy (Some o) n L = IsGiven o n L
 
 -- the rules of a ledger
 pub record KeepsRules (work : Work) (L : List Event) : Type 0 where
@@ -47,5 +54,4 @@ pub record KeepsRules (work : Work) (L : List Event) : Type 0 where
   pub ours : AllByRecursion (IsOurs work) L
   pub scopes : HaveScopes work L
   pub leaving : ClosesBeforeLeaving L
-  pub tables : LendsTables (length (tables_of work)) L
-  pub pace : KeepsPace work.opener (length work.streams) L
+  pub given : IsGivenBy work.opener (length work.streams) L

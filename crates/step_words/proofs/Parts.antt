@@ -1,7 +1,7 @@
 -- How the parts of a word are read one after another.
-use Rattle.std.proofs.Common.{◌≡◌, ℕ, Bool, true, false, List, [], ◌∷◌, ◌++◌, Option, Some, None, Result, Ok, Err, IsErrAnd, refl, ap, ◌∙◌, sym, subst, append_assoc, append-nil, ◌<◌, arith}
-use Rattle.std.proofs.lemmas.Bool.{ltb-true}
-use Rattle.std.specs.Prelude.{◌&&◌, IsErr, nat_lt, nat_le}
+use Rattle.std.proofs.Common.{◌≡◌, ℕ, true, List, [], ◌∷◌, ◌++◌, Option, Some, None, Result, Ok, Err, IsErrAnd, refl, ap, ◌∙◌, sym, subst, append_assoc, append-nil}
+use Rattle.std.proofs.lemmas.Bool.{false≢true}
+use Rattle.std.specs.Prelude.{IsErr}
 use Rattle.pipeline_desc.specs.Reading.{Reading, ◌>>=◌, RefusesAs}
 use Rattle.pipeline_desc.specs.Sound.{is_sound_step}
 use Rattle.pipeline_desc.specs.Steps.{step_meant}
@@ -36,17 +36,10 @@ module _ (whole : Reading (List Step)) (found : List Step) (parts : List (List �
 pub parts_end : (whole : Reading (List Step)) (found : List Step) → whole ≡ after found (each_meant []) → whole ≡ Ok found
 parts_end whole found so_far = so_far ∙ ap (λ (z : List Step). Ok z) (append-nil found)
 
-both_true : (b c : Bool) → (b && c) ≡ true → b ≡ true
-both_true true c h = refl
-both_true false c h = h
-
-none_below : (t : ℕ) → nat_lt t 0 ≡ true → ⊥
-none_below t h = let b : t < 0 = ltb-true t 0 h in omega (arith, b)
-
 -- beside no tables a step within its limits looks nothing up
-pub looks_nothing_up : (s : Step) → is_sound_step 0 s ≡ true → needs_no_table s ≡ true
+pub looks_nothing_up : (s : Step) → is_sound_step [] s ≡ true → needs_no_table s ≡ true
 looks_nothing_up (step.Take n) h = refl
-looks_nothing_up (step.Pipe (pipe.Lookup t i)) h = absurd (none_below t (both_true (nat_lt t 0) (nat_le i 999999999) h))
+looks_nothing_up (step.Pipe (pipe.Lookup t i)) h = absurd (false≢true h)
 looks_nothing_up (step.Pipe _) h = refl
 
 -- the failure of a description is that of a word

@@ -1,3 +1,4 @@
 pub mod Exchanged
 pub mod Making
+pub mod Naming
 pub mod PartsMade

@@ -2,10 +2,8 @@
 use Rattle.std.proofs.Common.{◌≡◌, ℕ, suc, ◌+◌, ◌-◌, ◌<◌, ◌≤◌, ◌^◌, Bool, true, false, cond, List, [], ◌∷◌, ◌⊎◌, inl, inr, map, length, Option, Some, None, IsSome, refl, sym, ◌∙◌, ap, subst, ⊎_elim, arith}
 use Rattle.std.proofs.lemmas.List.{length-append, length-map}
 use Rattle.std.proofs.lemmas.List.FromFn.{length-range_with_len}
-use Rattle.std.proofs.lemmas.List.Sums.{sum_by_more}
-use Rattle.std.proofs.lemmas.Option.{get_or_from_slice_get}
 use Rattle.std.specs.List.{AllByRecursion, range_with_len}
-use Rattle.std.specs.Prelude.{option_map, option_to_list, slice_get}
+use Rattle.std.specs.Prelude.{option_map, option_to_list}
 use Rattle.chunk_core.specs.declared.code.Span.{Span}
 use Rattle.chunk_core.specs.Lists.{IsAmong}
 use Rattle.chunk_core.proofs.Distinct.{distinct_test}
@@ -15,10 +13,11 @@ use Rattle.device_port.specs.declared.device.Mode.{Mode}
 use Rattle.device_port.specs.declared.device.Mode.TheVariants as mode
 use Rattle.device_port.specs.Device.{Place, DeviceTold, is_read, is_write, to_read, to_write}
 use Rattle.device_port.specs.Depot.{DepotTold, fresh}
-use Rattle.pipeline_desc.specs.Meant.{PlanMeant}
+use Rattle.pipeline_desc.specs.Meant.{PlanMeant, stream_at}
 use Rattle.pipeline_desc.specs.Nodes.{rows_for}
 use Rattle.pipeline_desc.specs.Places.{first_row, row_count, rows_of, rows_that, rows_within, second_path, stream_places}
 use Rattle.pipeline_desc.specs.declared.stream.StreamSpec.{StreamSpec}
+use Rattle.pipeline_desc.proofs.NodeLaws.{rows_are as rows_told}
 use Rattle.pipeline_desc.proofs.Uses.{each_read, each_written}
 use Rattle.pull_nodes.specs.Kinds.{node_kind}
 use Rattle.pull_nodes.specs.Placed.{is_placed}
@@ -32,6 +31,7 @@ use Rattle.pull_stepper.proofs.Slots.{slot_here, slot_past}
 use Rattle.stream_parts.specs.Made.{MakesEach, fresh_for, having_made}
 use Rattle.stream_parts.proofs.Exchanged.{is_writing}
 use Rattle.stream_parts.proofs.Making.{made_unused}
+use Rattle.stream_parts.proofs.Naming.{SameRows, same_rows}
 use Rattle.res_ledger.proofs.Mapped.{map_among}
 use Rattle.res_ledger.proofs.Permuted.{among_range, range_distinct}
 
@@ -83,17 +83,23 @@ module _ {V : Type 0} (told : V → DeviceTold) (test : Mode → Bool) (m : Mode
       (subst (λ q. slot_of r q (map Some devices) ≡ Some (Some x)) next (sym (slot_past r i (Some d) (map Some devices) (λ s. omega (arith, l, s))) ∙ is)))
       (chosen_row test r i p ps n)
 
-module _ (p : PlanMeant) (k : ℕ) (s : StreamSpec) (within : k < length p.streams) (is : slice_get p.streams k ≡ Some s) where
-  -- a stream's rows end where those of the next one begin
-  pub row_behind : first_row p (k + 1) ≡ first_row p k + row_count s
-  row_behind = let m = sum_by_more row_count p.streams k s within in let e = ap row_count (get_or_from_slice_get p.streams k s s is) in omega (arith, m, e)
+module _ (p : PlanMeant) (line : List ℕ) (k : ℕ) (s : StreamSpec) (is : stream_at p line k ≡ Some s) where
+  shape : SameRows p k s
+  shape = same_rows p line k s is
 
   some_rows : 0 < row_count s
   some_rows = let l = length-append (option_to_list (option_map to_write s.to)) (to_read s.path ∷ option_to_list (option_map to_read (second_path s.second))) in omega (arith, l)
 
   -- they are so many from the first on
   pub rows_are : rows_within (rows_of p k) ≡ range_with_len (first_row p k) (row_count s)
-  rows_are = let n : first_row p (k + 1) - first_row p k ≡ row_count s = omega (arith, row_behind) in ap (range_with_len (first_row p k)) n
+  rows_are = rows_told p k shape.spec shape.shape ∙ ap (λ n. range_with_len (first_row p k) n) shape.count
+
+  -- a stream's rows end where those of the next one begin
+  pub row_behind : first_row p (k + 1) ≡ first_row p k + row_count s
+  row_behind =
+      let l : first_row p (k + 1) - first_row p k ≡ row_count s = sym (length-range_with_len (first_row p k) (first_row p (k + 1) - first_row p k)) ∙ (ap (λ rs. length rs) rows_are ∙ length-range_with_len (first_row p k) (row_count s)) in
+      let some = some_rows in
+      omega (arith, l, some)
 
   module _ (n : Node) (places : places_of n ≡ rows_within (rows_of p k)) where
     pub places_count : length (places_of n) ≡ row_count s
@@ -131,7 +137,7 @@ module _ (p : PlanMeant) (k : ℕ) (s : StreamSpec) (within : k < length p.strea
       }
         where
           rows_of_mode : (test : Mode → Bool) (rs : List ℕ) → rows_for test p k ≡ Some rs → rs ≡ rows_that test (first_row p k) (stream_places s)
-          rows_of_mode test rs e = some_one rs (rows_that test (first_row p k) (stream_places s)) (sym e ∙ ap (option_map (λ (x : StreamSpec). rows_that test (first_row p k) (stream_places x))) is)
+          rows_of_mode test rs e = some_one rs (rows_that test (first_row p k) (stream_places shape.spec)) (sym e ∙ ap (option_map (λ (x : StreamSpec). rows_that test (first_row p k) (stream_places x))) shape.shape) ∙ shape.rows test (first_row p k)
 
           for_mode : (test : Mode → Bool) (m : Mode) → ((x : Mode) → test x ≡ true → x ≡ m) → AllByRecursion (IsFor told (first_of (places_of n)) devices m) (rows_that test (first_row p k) (stream_places s))
           for_mode test m means = subst (λ i. AllByRecursion (IsFor told i devices m) (rows_that test (first_row p k) (stream_places s))) (sym first_place)

@@ -1,4 +1,5 @@
 pub mod Retire
 pub mod Made
+pub mod Named
 pub mod Same
 pub mod Parts

@@ -3,7 +3,6 @@ use Rattle.std.specs.Prelude.{◌≡◌, ℕ, Bool, ◌&&◌, List, [], ◌++◌
 use Rattle.std.specs.List.{AllByRecursion, IsDistinct}
 use Rattle.std.specs.List.Sorted.{IsPermutation}
 use Rattle.std.specs.Str.{bytes_eq}
-use Rattle.chunk_core.specs.Lists.{IsAmong}
 use Rattle.device_port.specs.declared.device.Mode.TheVariants as mode
 use Rattle.device_port.specs.Device.{Place, DeviceTold, is_write}
 use Rattle.device_port.specs.Depot.{DepotTold, HaveOwnNumbers, MayReturn, KeepsFilesBut, KeepsWritten}

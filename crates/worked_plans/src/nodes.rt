@@ -1,6 +1,6 @@
 //! The nodes of streams, and the rows and the events that a run of each needs.
 use crate::asserts::same_at;
-use pipeline_desc::{Plan, events, node, read, rows};
+use pipeline_desc::{Plan, events, node, outer_rows, read, rows};
 use pull_nodes::Kind;
 use std::alloc::Global;
 use std::process::Abort;
@@ -34,15 +34,15 @@ pub(crate) fn stream_is(
     row: &Row<'_>,
 ) -> Result<(), Fail> {
     let (place, k, kind, span, most) = *row;
-    assert!(rt; (k as usize) < plan.streams().len());
+    assert!(rt; k < plan.stream_limit());
     let rows = rows(plan, k);
     same_at(rt, (rows.from, rows.to), span, place);
     same_at(rt, events(plan, k), most, place);
     let node = node(alloc, plan, k)?;
     same_at(rt, node.kind(), Ok(kind), place);
     same_at(rt, node.placed(rows), true, place);
-    let of_tables = plan.tables().len() as u64;
-    same_at(rt, node.events() + 1 + of_tables, most, place);
+    let of_others = u64::from(outer_rows(plan));
+    same_at(rt, node.events() + 1 + of_others, most, place);
     Ok(())
 }
 

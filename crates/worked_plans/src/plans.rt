@@ -17,7 +17,7 @@ fn a_plan_of_no_parts(rt: HostRuntime) {
     let alloc = rt.alloc();
     let tables: List<TableSpec> = List::new(alloc);
     let streams: List<StreamSpec> = List::new(alloc);
-    let plan = Plan::of(1, 64, 65536, Some(0), tables, streams);
+    let plan = Plan::of(alloc, 1, 64, 65536, Some(0), tables, streams);
     same(
         &rt,
         (plan.max_open(), plan.queue(), plan.chunk(), plan.take()),

@@ -1,5 +1,6 @@
 //! Runs of which each write fails in turn, and runs of which ever more frames are wanted.
 use crate::asserts::{holds_at, same_at};
+use crate::listed::{LINES, listed_in};
 use crate::payloads::count_frames;
 use crate::tables::{KEYS, LOOKUP};
 use flume_cli::Status;
@@ -75,7 +76,8 @@ fn five_of<'a>(text: &'a str, others: &'a [(&'a str, &'a [u8])]) -> Case<'a> {
     }
 }
 
-/// A frame of a lookup and the tail are two writes; seven frames and the tail are eight.
+/// A frame of a lookup and the tail are two writes; seven frames and the tail are eight, and two of a
+/// list three.
 #[test]
 fn each_write_fails_in_turn(rt: HostRuntime) -> Result<(), Fail> {
     let alloc = rt.alloc();
@@ -87,6 +89,8 @@ fn each_write_fails_in_turn(rt: HostRuntime) -> Result<(), Fail> {
     let long = filled(alloc, &[("", 10_000)])?;
     let others = others_of(&long);
     writes_fail(&rt, alloc, &five_of(FIVE, &others), 8)?;
+    let listed = listed_in(&[("l", LINES), ("b", b"y\n")]);
+    writes_fail(&rt, alloc, &listed, 3)?;
     Ok(())
 }
 

@@ -1,6 +1,6 @@
 //! Calls over an outside in memory, of which calls of devices, of the output or of memory fail, with what
 //! they print and leave written out by hand: `cat`, descriptions that can't be read, runs of one stream
-//! and of many, side by side, cases that are made of numbers, and audits.
+//! and of many, side by side, of groups and of lists, cases that are made of numbers, and audits.
 #![tactic(auto)]
 
 #[cfg(test)]
@@ -26,7 +26,11 @@ mod faults;
 #[cfg(test)]
 mod generated;
 #[cfg(test)]
+mod grouped;
+#[cfg(test)]
 mod in_turn;
+#[cfg(test)]
+mod listed;
 #[cfg(test)]
 mod meeting;
 #[cfg(test)]

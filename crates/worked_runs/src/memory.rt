@@ -1,6 +1,7 @@
 //! What is seen where memory is wanting.
 use crate::asserts::{holds, same};
 use crate::cats::TAIL;
+use crate::listed::{FRAMES, LINES, LISTED, listed_in};
 use crate::tables::{KEYS, LOOKUP};
 use device_port::Act;
 use flume_cli::Status;
@@ -47,6 +48,13 @@ fn wanting_memory_of_a_lookup_is_told(rt: HostRuntime) {
         0 close 0 succeeded\n0 final 1 succeeded ok\n0 cancel 0 succeeded\n\
         0 final 0 succeeded ok\n";
     tells(&rt, rt.alloc(), &case, b"0 7\nk,v\nz,\n\n", tail);
+}
+
+/// The same of a list, whose lines are given streams.
+#[test]
+fn wanting_memory_of_a_list_is_told(rt: HostRuntime) {
+    let case = listed_in(&[("l", LINES), ("b", b"y\n")]);
+    tells(&rt, rt.alloc(), &case, FRAMES, LISTED);
 }
 
 /// The same of words: they are read, or nothing is done.

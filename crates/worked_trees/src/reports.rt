@@ -34,7 +34,7 @@ fn a_stream_is_halted_whose_load_comes_behind_the_last_frame(rt: HostRuntime) ->
     holds(&rt, !report.sink_failed());
     holds(&rt, !report.memory());
     let mut hows = Vec::new(rt.alloc());
-    for end in report.into_ends(How::Done).as_slice() {
+    for end in report.into_ends(How::Done, 1).as_slice() {
         hows.push(end.how)?;
     }
     same(&rt, hows.as_slice(), [How::Done, How::Halted].as_slice());

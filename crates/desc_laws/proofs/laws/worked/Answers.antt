@@ -2,12 +2,16 @@ use Rattle.std.proofs.Common.{◌≡◌, ◌<◌, codes, None, Some, inl, inr, r
 use Rattle.std.specs.Str.{is_utf8, chars}
 use Rattle.toml.proofs.OnLiterals.{toml_on_literals}
 use Rattle.pull_nodes.specs.declared.kind.Kind.TheVariants as kind
-use Rattle.desc_laws.specs.Flaws.Flaw.{HalfJoined, OutOfLimits, OtherArgument, OtherKind, OtherPath, OtherStep, OtherTable}
+use Rattle.desc_laws.specs.Flaws.Flaw.{HalfJoined, OutOfLimits, OtherArgument, OtherKey, OtherKind, OtherListKey, OtherPath, OtherStep, OtherTable}
 use Rattle.desc_laws.specs.Flaws.Key.{Until}
-use Rattle.desc_laws.specs.Flaws.Part.{Stream}
+use Rattle.desc_laws.specs.Flaws.Part.{Stream, Top}
 use Rattle.desc_laws.specs.Has.{HasFlaw}
 use Rattle.desc_laws.specs.Stages.Stage.{Word}
-use Rattle.desc_laws.specs.Worked.{FlawsAreThere, FlawsFollow, one_stream}
+use Rattle.desc_laws.specs.Worked.{FlawsAreThere, FlawsFollow, PartsFollow, PartsHaveFlaws, one_stream}
+use Rattle.desc_laws.proofs.Keys.{is_found}
+use Rattle.std.proofs.lemmas.Bool.{false≢true}
+use Rattle.pipeline_desc.specs.Plans.{first_keys}
+use Rattle.pipeline_desc.specs.Streams.{list_keys}
 use Rattle.desc_laws.proofs.laws.worked.Goals as goal
 
 flaws_follow : FlawsFollow
@@ -44,6 +48,31 @@ other_path = (codes "a", refl, inr (0, inl refl))
 
 flaws_are_there : FlawsAreThere
 flaws_are_there = (other_kind, other_step, other_argument, other_table, half_joined, bad_until, other_path)
+
+parts_follow : PartsFollow
+unfolding toml_on_literals is_utf8 chars
+parts_follow = refl
+
+first_version : HasFlaw (codes "list = {path = 'l'}\n") (OtherKey Top)
+unfolding toml_on_literals is_utf8 chars
+first_version = inl (λ i. false≢true (is_found (codes "list") first_keys i))
+
+written_list : HasFlaw (codes "version = 2\nlist = {path = 'l', to = 'a'}\n") (OtherListKey 0)
+unfolding toml_on_literals is_utf8 chars
+written_list = inr (inl (λ i. false≢true (is_found (codes "to") list_keys i)))
+
+other_group : HasFlaw (codes "version = 2\n[[group]]\ntable = [{name = 't', path = 'a'}]\n[[group]]\nstream = [{path = 'b', steps = ['csv', 'lookup t 0']}]\n") (OtherTable 0 1)
+unfolding toml_on_literals is_utf8 chars
+other_group = (codes "lookup t 0", refl, refl)
+
+parts_have_flaws : PartsHaveFlaws
+parts_have_flaws = (first_version, written_list, other_group)
+
+pub returns-clause-parts : goal.returns-clause-parts
+returns-clause-parts c = parts_follow
+
+pub returns-clause-flaws : goal.returns-clause-flaws
+returns-clause-flaws c = parts_have_flaws
 
 pub returns-clause-follow : goal.returns-clause-follow
 returns-clause-follow c = flaws_follow

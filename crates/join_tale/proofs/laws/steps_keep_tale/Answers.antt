@@ -1,4 +1,3 @@
-use Rattle.join_tale.specs.Records.{bare}
 use Rattle.join_tale.proofs.Ending.{ends, ends_late}
 use Rattle.join_tale.proofs.Growing.{marked_caused, marked_known}
 use Rattle.join_tale.proofs.Receiving.{drops, fails, lacks, meets, writes}
@@ -7,22 +6,22 @@ use Rattle.join_tale.specs.Steps.{learned}
 use Rattle.join_tale.proofs.laws.steps_keep_tale.Goals as goal
 
 pub returns-clause-steps : goal.returns-clause-steps
-returns-clause-steps c out ss = record {
-  starts = starts (bare out ss);
-  starts_met = starts_met (bare out ss);
-  learns = λ t vs cs i new. learns (bare out ss) t i vs cs new;
-  begins = begins (bare out ss);
-  skips = skips (bare out ss);
-  wants = λ t vs cs mark i. wants (bare out ss) t i vs cs mark;
-  writes = λ t k x i c o full doesnt. writes (bare out ss) t k x i o full c doesnt;
-  meets = λ t k x vs cs mark i c o full does. meets (bare out ss) t k x i o full vs cs mark c does;
-  fails = λ t k x vs cs mark i c o full. fails (bare out ss) t k x i o full vs cs mark c;
-  lacks = λ t k x vs cs mark i c o full. lacks (bare out ss) t k x i o full vs cs mark c;
-  drops = λ t k x i c o full. drops (bare out ss) t k x i o full c;
-  ends = λ t k h vs cs i c o tells. ends (bare out ss) t k h vs cs i o c tells;
-  ends_late = λ t k h vs cs i c o tells. ends_late (bare out ss) t k h vs cs i o c tells;
-  outer_ends = λ t h vs cs i none tells. outer_ends (bare out ss) t i h vs cs none tells;
+returns-clause-steps c bounds = record {
+  starts = starts bounds;
+  starts_met = starts_met bounds;
+  learns = λ t vs cs i new. learns bounds t i vs cs new;
+  begins = begins bounds;
+  skips = skips bounds;
+  wants = λ t vs cs mark i. wants bounds t i vs cs mark;
+  writes = λ t k x i c o full doesnt. writes bounds t k x i o full c doesnt;
+  meets = λ t k x vs cs mark i c o full does. meets bounds t k x i o full vs cs mark c does;
+  fails = λ t k x vs cs mark i c o full. fails bounds t k x i o full vs cs mark c;
+  lacks = λ t k x vs cs mark i c o full. lacks bounds t k x i o full vs cs mark c;
+  drops = λ t k x i c o full. drops bounds t k x i o full c;
+  ends = λ t k h vs cs i c o tells. ends bounds t k h vs cs i o c tells;
+  ends_late = λ t k h vs cs i c o tells. ends_late bounds t k h vs cs i o c tells;
+  outer_ends = λ t h vs cs i none tells. outer_ends bounds t i h vs cs none tells;
 }
 
 pub returns-clause-marks : goal.returns-clause-marks
-returns-clause-marks c out ss t d w vs cs mark is = record { caused = marked_caused (bare out ss) (learned t vs cs) d w vs cs mark is; known = marked_known t d w vs cs mark }
+returns-clause-marks c bounds t d w vs cs mark is = record { caused = marked_caused bounds (learned t vs cs) d w vs cs mark is; known = marked_known t d w vs cs mark }

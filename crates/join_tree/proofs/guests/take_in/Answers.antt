@@ -2,6 +2,7 @@ use Rattle.scope_tree.specs.Trees.{seen}
 use Rattle.join_tree.proofs.Children.{joined_room}
 use Rattle.join_tree.proofs.Outs.{outs_take_in}
 use Rattle.join_tree.proofs.Passing.{can_take_in, main_takes_in}
+use Rattle.join_tree.proofs.Given.{join_gives}
 use Rattle.join_tree.proofs.guests.take_in.Goals as goal
 
 pub join-requires-clause-can : goal.join-requires-clause-can
@@ -24,3 +25,6 @@ returns-clause-out g c ms k gs y o visit is =
 
 pub returns-clause-room : goal.returns-clause-room
 returns-clause-room g c = joined_room (seen g.S.RowSeat.view c.args.tree.now) (seen g.S.RowSeat.view c.join.new.self) (g.S.RowSeat.view c.args.seat) c.join.ensures.apart c.join.ensures.seen
+
+pub returns-clause-gives : goal.returns-clause-gives
+returns-clause-gives g c = join_gives (seen g.S.RowSeat.view c.args.tree.now) (seen g.S.RowSeat.view c.join.new.self) (g.S.RowSeat.view c.args.seat) c.join.ensures.apart c.join.ensures.seen

@@ -4,7 +4,8 @@ use Rattle.chunk_core.specs.declared.code.Exit.TheVariants.{Canceled}
 use Rattle.scope_tree.specs.Trees.{seen}
 use Rattle.join_tree.proofs.Growing.{main_cancels, main_may_cancel}
 use Rattle.join_tree.proofs.Keeping.{keeps_cancels, main_no_strangers}
-use Rattle.join_tree.proofs.Paying.{cancel_pays}
+use Rattle.join_tree.proofs.Paying.{cancel_opened, cancel_pays}
+use Rattle.join_tree.proofs.Given.{cancel_gives}
 use Rattle.join_tree.proofs.outer.cancel_waiting.Goals as goal
 
 pub cancel-requires-clause-may : goal.cancel-requires-clause-may
@@ -30,6 +31,9 @@ returns-clause-guests g c =
 pub returns-clause-rows : goal.returns-clause-rows
 returns-clause-rows g c = cancel_pays (seen g.S.RowSeat.view c.args.tree.now) (seen g.S.RowSeat.view c.cancel.new.self) c.args.lease.stream c.args.lease.rows.items Canceled c.requires.fits.sound.kept.holds.once c.cancel.ensures.cancels
 
+pub returns-clause-opened : goal.returns-clause-opened
+returns-clause-opened g c = cancel_opened (seen g.S.RowSeat.view c.args.tree.now) (seen g.S.RowSeat.view c.cancel.new.self) c.args.lease.stream c.args.lease.rows.items Canceled c.cancel.ensures.cancels
+
 pub returns-clause-room : goal.returns-clause-room
 returns-clause-room g c =
     let m = c.requires.main in
@@ -37,3 +41,6 @@ returns-clause-room g c =
     let r = c.cancel.ensures.room in
     let l = r.1 in
     subst (λ k. TakesRoom 0 k (seen g.S.RowSeat.view c.args.tree.now) (seen g.S.RowSeat.view c.cancel.new.self)) (let e : r.0 ≡ 0 = omega (l, n, arith) in e) r.2
+
+pub returns-clause-gives : goal.returns-clause-gives
+returns-clause-gives g c = cancel_gives (seen g.S.RowSeat.view c.args.tree.now) (seen g.S.RowSeat.view c.cancel.new.self) c.args.lease.stream c.args.lease.rows.items Canceled c.cancel.ensures.cancels

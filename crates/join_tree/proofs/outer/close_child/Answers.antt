@@ -1,11 +1,11 @@
-use Rattle.std.proofs.Common.{◌≡◌, suc, ◌-◌, ◌≤◌, sym, subst, arith, refl}
 use Rattle.chunk_core.specs.declared.code.Exit.TheVariants.{Succeeded}
-use Rattle.scope_tree.specs.Calls.{ClosesScope, IsOpenScope}
+use Rattle.scope_tree.specs.Calls.{IsOpenScope}
 use Rattle.scope_tree.specs.Trees.{seen}
 use Rattle.join_tree.proofs.Children.{closes_child, root_stays_open}
 use Rattle.join_tree.proofs.Growing.{root_open}
 use Rattle.join_tree.proofs.Keeping.{keeps_closes}
 use Rattle.join_tree.proofs.Paying.{close_pays}
+use Rattle.join_tree.proofs.Given.{close_child_gives}
 use Rattle.join_tree.proofs.outer.close_child.Goals as goal
 
 pub returns-clause-main : goal.returns-clause-main
@@ -22,3 +22,6 @@ returns-clause-guests g c = keeps_closes (seen g.S.RowSeat.view c.args.tree.now)
 
 pub returns-clause-rows : goal.returns-clause-rows
 returns-clause-rows g c = close_pays (seen g.S.RowSeat.view c.args.tree.now) (seen g.S.RowSeat.view c.close.new.self) c.args.scope Succeeded c.requires.fits.sound.kept.holds.once c.close.ensures.closes
+
+pub returns-clause-gives : goal.returns-clause-gives
+returns-clause-gives g c = close_child_gives (seen g.S.RowSeat.view c.args.tree.now) (seen g.S.RowSeat.view c.close.new.self) c.args.scope Succeeded c.requires.child.0 c.close.ensures.closes

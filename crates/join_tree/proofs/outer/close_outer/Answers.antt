@@ -2,6 +2,7 @@ use Rattle.scope_tree.specs.Trees.{seen}
 use Rattle.join_tree.proofs.Growing.{main_closes, root_open}
 use Rattle.join_tree.proofs.Keeping.{keeps_closes}
 use Rattle.join_tree.proofs.Paying.{close_pays}
+use Rattle.join_tree.proofs.Given.{close_gives}
 use Rattle.join_tree.proofs.outer.close_outer.Goals as goal
 
 pub returns-clause-main : goal.returns-clause-main
@@ -14,3 +15,6 @@ returns-clause-guests g c =
 
 pub returns-clause-rows : goal.returns-clause-rows
 returns-clause-rows g c = close_pays (seen g.S.RowSeat.view c.args.tree.now) (seen g.S.RowSeat.view c.close.new.self) 0 c.args.exit c.requires.fits.sound.kept.holds.once c.close.ensures.closes
+
+pub returns-clause-gives : goal.returns-clause-gives
+returns-clause-gives g c = close_gives (seen g.S.RowSeat.view c.args.tree.now) (seen g.S.RowSeat.view c.close.new.self) c.args.exit c.close.ensures.closes

@@ -4,7 +4,8 @@ use Rattle.tree_laws.specs.Called.{MayLease}
 use Rattle.scope_tree.specs.Trees.{seen}
 use Rattle.join_tree.proofs.Growing.{main_leases, main_main, main_may_lease}
 use Rattle.join_tree.proofs.Keeping.{keeps_leases, leased_tables, leases_take}
-use Rattle.join_tree.proofs.Paying.{lease_pays}
+use Rattle.join_tree.proofs.Paying.{lease_pays, leases_opened}
+use Rattle.join_tree.proofs.Given.{lease_gives}
 use Rattle.join_tree.proofs.outer.lease_next.Goals as goal
 
 pub lease-requires-clause-main : goal.lease-requires-clause-main
@@ -37,3 +38,9 @@ returns-clause-events g c = leases_take g.S.Pay.Finish.ends (seen g.S.RowSeat.vi
 
 pub returns-clause-rows : goal.returns-clause-rows
 returns-clause-rows g c = lease_pays (seen g.S.RowSeat.view c.args.tree.now) (seen g.S.RowSeat.view c.lease.new.self) c.args.scope c.args.stream c.in_ok-lease.lease.rows.items c.in_ok-lease.ensures.ok.1
+
+pub returns-clause-opened : goal.returns-clause-opened
+returns-clause-opened g c = leases_opened (seen g.S.RowSeat.view c.args.tree.now) (seen g.S.RowSeat.view c.lease.new.self) c.args.scope c.args.stream c.in_ok-lease.lease.rows.items c.in_ok-lease.ensures.ok.1
+
+pub returns-clause-gives : goal.returns-clause-gives
+returns-clause-gives g c = lease_gives (seen g.S.RowSeat.view c.args.tree.now) (seen g.S.RowSeat.view c.lease.new.self) c.args.scope c.args.stream c.in_ok-lease.lease.rows.items c.in_ok-lease.ensures.ok.1

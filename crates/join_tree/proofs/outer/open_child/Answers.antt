@@ -3,6 +3,7 @@ use Rattle.row_seat.specs.declared.view.View.{View}
 use Rattle.scope_tree.specs.Trees.{seen}
 use Rattle.join_tree.proofs.Children.{keeps_opens, main_opens, open_pays}
 use Rattle.join_tree.proofs.Growing.{root_open}
+use Rattle.join_tree.proofs.Given.{open_gives}
 use Rattle.join_tree.proofs.outer.open_child.Goals as goal
 
 pub open-requires-clause-root : goal.open-requires-clause-root
@@ -22,3 +23,6 @@ returns-clause-rows g c = open_pays (seen g.S.RowSeat.view c.args.tree.now) (see
 
 pub returns-clause-events : goal.returns-clause-events
 returns-clause-events g c = let e = c.open.ensures in let s = ap (λ (v : View g.row.S-Pay.Denot). v.spare) e.opens.seat in let f = c.requires.free in omega (e.owed, s, f, arith)
+
+pub returns-clause-gives : goal.returns-clause-gives
+returns-clause-gives g c = let m = c.requires.main in open_gives (seen g.S.RowSeat.view c.args.tree.now) (seen g.S.RowSeat.view c.open.new.self) c.open.result (root_open m.3 m.4) c.open.ensures.opens

@@ -6,6 +6,7 @@ use Rattle.scope_tree.specs.Trees.{seen}
 use Rattle.join_tree.proofs.Growing.{main_closes, main_leases, main_main, main_may_lease, root_open}
 use Rattle.join_tree.proofs.Keeping.{keeps_closes, keeps_leases, leased_tables, leases_take}
 use Rattle.join_tree.proofs.Paying.{close_pays, lease_pays}
+use Rattle.join_tree.proofs.Given.{close_gives, lease_gives}
 use Rattle.join_tree.proofs.outer.pull.Goals as goal
 
 pub lease-requires-clause-main : goal.lease-requires-clause-main
@@ -53,3 +54,9 @@ returns-in_ok-lease-clause-rows g c = lease_pays (seen g.S.RowSeat.view c.args.t
 
 pub returns-else-leased-streams-clause-rows : goal.returns-else-leased-streams-clause-rows
 returns-else-leased-streams-clause-rows g c = close_pays (seen g.S.RowSeat.view c.args.tree.now) (seen g.S.RowSeat.view c.close.new.self) 0 Succeeded c.requires.fits.sound.kept.holds.once c.close.ensures.closes
+
+pub returns-in_ok-lease-clause-gives : goal.returns-in_ok-lease-clause-gives
+returns-in_ok-lease-clause-gives g c = lease_gives (seen g.S.RowSeat.view c.args.tree.now) (seen g.S.RowSeat.view c.lease.new.self) 0 c.args.leased c.in_ok-lease.lease.rows.items c.in_ok-lease.ensures.ok.1
+
+pub returns-else-leased-streams-clause-gives : goal.returns-else-leased-streams-clause-gives
+returns-else-leased-streams-clause-gives g c = close_gives (seen g.S.RowSeat.view c.args.tree.now) (seen g.S.RowSeat.view c.close.new.self) Succeeded c.close.ensures.closes

@@ -8,7 +8,7 @@ use Rattle.pipeline_desc.proofs.outputs.check_outputs.Goals as goal
 
 pub loop-k-preserved : goal.loop-k-preserved
 loop-k-preserved c =
-    let places = all_places c.args.tables.now c.args.streams.now in
+    let places = all_places c.args.tables.now c.args.list.now c.args.streams.now in
     let s = c.index-streams-k.result in
     let alone : is_alone places s.to ≡ true = ap (λ (x : StreamSpec). is_alone places x.to) c.index-streams-k.is ∙ (sym c.is_alone.ensures ∙ c.if-not-is_alone.false) in
     record {

@@ -7,6 +7,6 @@ use Rattle.pipeline_desc.proofs.outputs.check_outputs.Given as goal
 
 abbrev pub invariant-loop-k : goal.invariant-loop-k
 invariant-loop-k l = record {
-  read : outputs_alone l.tables l.streams ≡ alone_from (all_places l.tables l.streams) l.k (drop l.k l.streams);
-  alone : (i : ℕ) (s : StreamSpec) → i < l.k → slice_get l.streams i ≡ Some s → is_alone (all_places l.tables l.streams) s.to ≡ true;
+  read : outputs_alone l.tables l.list l.streams ≡ alone_from (all_places l.tables l.list l.streams) l.k (drop l.k l.streams);
+  alone : (i : ℕ) (s : StreamSpec) → i < l.k → slice_get l.streams i ≡ Some s → is_alone (all_places l.tables l.list l.streams) s.to ≡ true;
 }

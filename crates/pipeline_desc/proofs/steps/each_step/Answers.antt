@@ -1,4 +1,4 @@
-use Rattle.std.proofs.Common.{◌≡◌, ◌+◌, ◌∷◌, ◌++◌, ◌∙◌, ℕ, List, [], Some, ap, arith, drop, length, length-append, rules, subst}
+use Rattle.std.proofs.Common.{◌≡◌, ◌+◌, ◌∷◌, ◌++◌, ◌∙◌, ℕ, List, [], Some, ap, arith, drop, length-append, rules, subst}
 use Rattle.toml.specs.Data.{as_str}
 use Rattle.pipeline_desc.specs.Reading.{each_from}
 use Rattle.pipeline_desc.specs.Steps.{step_meant}
@@ -28,7 +28,7 @@ loop-i-preserved c =
       read = rw pushed (subst (λ n. each_from meant c.args.first seen ≡ after (c.loop-i.steps ++ c.in_ok-step.step ∷ []) (each_from meant n (drop (c.loop-i.i + 1) seen))) behind
           (entry_next as_str meant c.args.words.now c.requires.seen c.loop-i.steps (c.args.first + c.loop-i.i) c.loop-i.i _ c.loop-i.invariant.read
           c.index-words-i.result c.as_bytes.result.now c.in_ok-step.step (omega arith) c.index-words-i.is (ap (λ (t : List ℕ). Some t) c.as_bytes.ensures.value ∙ c.in-Some.ensures) c.in_ok-step.ensures.meant));
-      sound = rw pushed (all_and (is_sound_step (length c.args.setting.now.tables)) c.loop-i.steps c.in_ok-step.step c.loop-i.invariant.sound c.in_ok-step.ensures.sound);
+      sound = rw pushed (all_and (is_sound_step c.args.setting.now.tables) c.loop-i.steps c.in_ok-step.step c.loop-i.invariant.sound c.in_ok-step.ensures.sound);
       count = rw (pushed, length-append) (omega (arith, c.loop-i.invariant.count));
     }
 

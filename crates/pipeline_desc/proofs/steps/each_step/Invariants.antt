@@ -11,6 +11,6 @@ use Rattle.pipeline_desc.proofs.steps.each_step.Given as goal
 abbrev pub invariant-loop-i : goal.invariant-loop-i
 invariant-loop-i l = record {
   read : each_from (step_meant l.setting l.k) l.first (seen_as as_str l.words) ≡ after l.steps (each_from (step_meant l.setting l.k) (l.first + l.i) (drop l.i (seen_as as_str l.words)));
-  sound : list_all (is_sound_step (length l.setting.tables)) l.steps ≡ true;
+  sound : list_all (is_sound_step l.setting.tables) l.steps ≡ true;
   count : length l.steps ≡ l.i;
 }

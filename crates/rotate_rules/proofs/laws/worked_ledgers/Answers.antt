@@ -62,9 +62,6 @@ ours_is (Inner zero) h = refl
 ours_is (Inner (suc k)) h = absurd (false≢true h)
 ours_is Outer h = absurd (false≢true h)
 
-not_outer : Inner 0 ≡ Outer → ⊥
-not_outer e = cc
-
 module _ (n : ℕ) (path prefix : List ℕ) where
   owner : (r : ℕ) → r ≤ 2 → at (owners_of (rotate_work path prefix n)) r ≡ Some (Inner 0)
   owner zero l = refl
@@ -93,11 +90,7 @@ module _ (n : ℕ) (path prefix : List ℕ) where
       });
       scopes = (scopes, tt);
       leaving = λ P Q e j x is by what. absurd (false≢true (sym (ap cancels_nothing what) ∙ stays P Q e is));
-      tables = record {
-        rise = λ P Q e r s q t is by what m. absurd (not_outer (sym (ours_is e.by (mine P Q e is)) ∙ by));
-        covers = λ j s r m l. absurd (not_outer (sym (by_0 m.0 m.1) ∙ m.2));
-      };
-      pace = tt;
+      given = tt;
     }
 
 pub returns : goal.returns

@@ -1,4 +1,4 @@
-use Rattle.std.proofs.Common.{◌≡◌, ◌∷◌, [], ◌++◌, ◌∙◌, Ok, ap, length, refl, rules, subst, sym, true}
+use Rattle.std.proofs.Common.{◌≡◌, ◌∷◌, [], ◌++◌, ◌∙◌, Ok, ap, refl, rules, subst, sym, true}
 use Rattle.std.specs.Prelude.{option_map}
 use Rattle.std.specs.List.{list_all}
 use Rattle.pipeline_desc.specs.Meant.{SettingMeant}
@@ -22,8 +22,8 @@ parts-preserved c =
     let pushed : c.push.new.self ≡ c.parts.steps ++ c.in_ok-step.step ∷ [] = search rules in
     let alone : c.of-setting.result ≡ no_setting = c.of-setting.ensures in
     let meant = ap (λ s. step_meant s 0 0 c.cut.result.0.now) (sym alone) ∙ c.in_ok-step.ensures.meant in
-    let sound : is_sound_step (length c.of-setting.result.tables) c.in_ok-step.step ≡ true = c.in_ok-step.ensures.sound in
-    let none : is_sound_step 0 c.in_ok-step.step ≡ true = subst (λ (s : SettingMeant). is_sound_step (length s.tables) c.in_ok-step.step ≡ true) alone sound in
+    let sound : is_sound_step c.of-setting.result.tables c.in_ok-step.step ≡ true = c.in_ok-step.ensures.sound in
+    let none : is_sound_step [] c.in_ok-step.step ≡ true = subst (λ (s : SettingMeant). is_sound_step s.tables c.in_ok-step.step ≡ true) alone sound in
     record {
       read = rw pushed (part_read _ c.parts.steps _ c.parts.invariant.read c.cut.result.0.now _ (ap (λ o. parts_left (option_map (λ t. t.now) o)) c.in-Some.is ∙ c.cut.ensures) c.in_ok-step.step meant);
       tables = rw pushed (all_and needs_no_table c.parts.steps c.in_ok-step.step c.parts.invariant.tables (looks_nothing_up c.in_ok-step.step none));

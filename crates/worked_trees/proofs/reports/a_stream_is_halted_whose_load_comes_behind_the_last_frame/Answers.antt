@@ -36,3 +36,11 @@ end-requires g c =
     let came = c.write-last.ensures (Some 1) 1 (fated first_tale Begun) (fates (Some 1) 1 first_tale _ (c.in_ok-report.ensures.some one_wanted) Begun (λ e. cc)) is_open in
     let late = c.write-late.ensures (Some 1) 1 came.0 came.2 (still_open _ _ _ _ _ _ _ _ came.1 0 is_open) in
     omega (arith, late.2.unwritten)
+
+pub into_ends-requires : goal.into_ends-requires
+into_ends-requires g c =
+    let came = c.write-last.ensures (Some 1) 1 (fated first_tale Begun) (fates (Some 1) 1 first_tale _ (c.in_ok-report.ensures.some one_wanted) Begun (λ e. cc)) is_open in
+    let first = still_open _ _ _ _ _ _ _ _ came.1 0 is_open in
+    let late = c.write-late.ensures (Some 1) 1 came.0 came.2 first in
+    let last = c.end.ensures (Some 1) 1 late.0 late.2 (still_open _ _ _ _ _ _ _ _ late.1 0 first) in
+    omega (arith, last.unwritten)

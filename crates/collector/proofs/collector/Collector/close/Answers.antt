@@ -13,5 +13,6 @@ returns-clause-closes g c =
       main = λ width n q m root. subst (λ x. IsMain (FinishesDevice g.V.Device.told) width n (seen g.S.RowSeat.view c.close_outer.new.tree) (closing_root q x)) c.exit.ensures (e.main width n q m root);
       guests = e.guests;
       rows = e.rows;
+      gives = e.gives;
       events = e.events;
     }

@@ -1,171 +1,127 @@
 -- The outer stream is pulled, and gives the next stream or ends.
-use Rattle.std.proofs.Common.{◌≡◌, ℕ, suc, ◌+◌, [], ◌∷◌, ◌++◌, length, Some, None, inr, refl, sym, ap, ◌∙◌, subst, arith}
-use Rattle.csv_pipes.specs.Dictionaries.{values_of}
-use Rattle.join_tree.specs.Progress.{reading}
-use Rattle.outer_stream.specs.declared.next.Next.TheVariants as next
+use Rattle.std.proofs.Common.{◌≡◌, ◌+◌, List, [], length, Some, None, refl, sym, ap, ◌∙◌, subst, arith}
+use Rattle.chunk_core.specs.declared.code.How.TheVariants as how
+use Rattle.join_tale.specs.Steps.{TellsOuter, learned, outer_ended}
+use Rattle.outer_stream.specs.declared.next.OuterPart.{OuterPart}
+use Rattle.pipeline_desc.specs.Meant.{stream_limit}
 use Rattle.pull_turns.specs.Piping.{standing}
-use Rattle.scope_tree.specs.Trees.{seen}
-use Rattle.collector.specs.Collecting.{IsCollectingWith}
+use Rattle.dealt_streams.specs.Moves.{lines_of, opened_of}
+use Rattle.dealt_streams.specs.Standing.{group_part}
+use Rattle.dealt_streams.specs.Works.{plan_bounds}
+use Rattle.collector.specs.Collecting.{IsCollecting, between}
+use Rattle.collector.specs.Members.{members}
 use Rattle.collector.specs.declared.collector.Collector.{Collector}
-use Rattle.collector.proofs.OuterSteps.{drawn_done, drawn_stopped, more_now, retold_now}
-use Rattle.collector.proofs.Pulling.{drawn_step, may_draw, open_at, over_main}
+use Rattle.collector.proofs.Drawn.{came, pulled_by, source_of}
+use Rattle.collector.proofs.Lists.{map_length}
+use Rattle.collector.proofs.OuterSteps.{more_may, surely_done, tells_stop}
+use Rattle.collector.proofs.Pulling.{leased_step, over_step}
+use Rattle.collector.proofs.Standing.{none_some}
+use Rattle.collector.proofs.Telling.{learns_none, tells_done}
 use Rattle.collector.proofs.Tree.{root_open}
 use Rattle.collector.proofs.collector.Collector.draw.Goals as goal
 
+pub pull-requires-clause-limit : goal.pull-requires-clause-limit
+pull-requires-clause-limit g c =
+    let k = c.requires.collecting.1.2 in
+    let few = k.sound.few_groups in
+    let count = map_length group_part c.args.plan.now.groups in
+    let own = ap (λ (ps : List OuterPart). length ps) (c.as_slice.ensures ∙ k.its_parts) in
+    omega (arith, few, count, own)
+
 pub pull-requires-clause-main : goal.pull-requires-clause-main
 pull-requires-clause-main g c =
-    let view = g.S.RowSeat.view in
-    let told = g.V.Device.told in
-    let fits = g.S.RowSeat.fits in
-    let values = g.F.PipeState.values in
-    let P = standing g.F.Feed.stands g.F.Feed.comes in
-    let a = c.args.self.now in
-    let p = c.args.plan.now in
-    let ws = a.waiting.items in
-    let old = g.D.Depot.told c.args.depot.now in
-    let r = c.requires.collecting in
-    let k = r.4 in
-    let at = open_at view told fits values P p r.0 r.1 r.2 (length ws) ws a.jobs.items a.receiver old r.3 c.args.desk.now a k c.requires.outer c.requires.few in
-    (p.max_open, k.progress, at)
-
-pub pull-requires-clause-may : goal.pull-requires-clause-may
-pull-requires-clause-may g c =
-    let view = g.S.RowSeat.view in
-    let told = g.V.Device.told in
-    let fits = g.S.RowSeat.fits in
-    let values = g.F.PipeState.values in
-    let P = standing g.F.Feed.stands g.F.Feed.comes in
-    let a = c.args.self.now in
-    let p = c.args.plan.now in
-    let ws = a.waiting.items in
-    let old = g.D.Depot.told c.args.depot.now in
-    let r = c.requires.collecting in
-    may_draw view told fits values P p r.0 r.1 r.2 (length ws) ws a.jobs.items a.receiver old r.3 c.args.desk.now a r.4 c.requires.outer
+    let k = c.requires.collecting.1.2 in
+    (c.args.plan.now.max_open, opened_of k.moves, lines_of k.moves, k.progress, source_of k c.requires.outer c.requires.few (c.as_slice.ensures ∙ k.its_parts))
 
 pub stop-requires-clause-main : goal.stop-requires-clause-main
 stop-requires-clause-main g c =
-    let view = g.S.RowSeat.view in
-    let told = g.V.Device.told in
-    let fits = g.S.RowSeat.fits in
-    let values = g.F.PipeState.values in
-    let P = standing g.F.Feed.stands g.F.Feed.comes in
-    let a = c.args.self.now in
-    let p = c.args.plan.now in
-    let ws = a.waiting.items in
-    let old = g.D.Depot.told c.args.depot.now in
-    let r = c.requires.collecting in
-    let k = r.4 in
-    let at = open_at view told fits values P p r.0 r.1 r.2 (length ws) ws a.jobs.items a.receiver old r.3 c.args.desk.now a k c.requires.outer c.requires.few in
-    let new = g.D.Depot.told c.pull.new.depot in
-    let b = seen view c.pull.new.tree in
-    let pl = c.in-Over.ensures.pulls p.max_open k.progress at in
-    (p.max_open, length p.streams, reading k.progress pl.noted, over_main view told fits values P p r.0 r.1 r.2 (length ws) ws a.jobs.items a.receiver old r.3 c.args.desk.now a k new c.pull.new.self b (next.Over c.in-Over.how) pl c.requires.outer c.in-Over.how refl, root_open told p (length ws) (seen view a.tree) a.outer a.outer_stream ws k.parts k.progress k.tree c.requires.outer)
+    let k = c.requires.collecting.1.2 in
+    let o = came k c.requires.outer c.requires.few (c.as_slice.ensures ∙ k.its_parts) c.in-Over.ensures.pulls in
+    (c.args.plan.now.max_open, stream_limit c.args.plan.now, record k.progress { tables = o.tables }, o.main, root_open g.V.Device.told c.args.plan.now k.tree c.requires.outer)
 
 pub close-requires-clause-main : goal.close-requires-clause-main
 close-requires-clause-main g c =
-    let view = g.S.RowSeat.view in
-    let told = g.V.Device.told in
-    let fits = g.S.RowSeat.fits in
-    let values = g.F.PipeState.values in
-    let P = standing g.F.Feed.stands g.F.Feed.comes in
-    let a = c.args.self.now in
-    let p = c.args.plan.now in
-    let ws = a.waiting.items in
-    let old = g.D.Depot.told c.args.depot.now in
-    let r = c.requires.collecting in
-    let k = r.4 in
-    let at = open_at view told fits values P p r.0 r.1 r.2 (length ws) ws a.jobs.items a.receiver old r.3 c.args.desk.now a k c.requires.outer c.requires.few in
-    let new = g.D.Depot.told c.pull.new.depot in
-    let b = seen view c.pull.new.tree in
-    let pl = c.in-Over.ensures.pulls p.max_open k.progress at in
-    (p.max_open, length p.streams, reading k.progress pl.noted, over_main view told fits values P p r.0 r.1 r.2 (length ws) ws a.jobs.items a.receiver old r.3 c.args.desk.now a k new c.pull.new.self b (next.Over c.in-Over.how) pl c.requires.outer c.in-Over.how refl, root_open told p (length ws) (seen view a.tree) a.outer a.outer_stream ws k.parts k.progress k.tree c.requires.outer)
+    let k = c.requires.collecting.1.2 in
+    let o = came k c.requires.outer c.requires.few (c.as_slice.ensures ∙ k.its_parts) c.in-Over.ensures.pulls in
+    (c.args.plan.now.max_open, stream_limit c.args.plan.now, record k.progress { tables = o.tables }, o.main, root_open g.V.Device.told c.args.plan.now k.tree c.requires.outer)
 
 pub skip-requires-clause-collecting : goal.skip-requires-clause-collecting
 skip-requires-clause-collecting g c =
-    let view = g.S.RowSeat.view in
-    let told = g.V.Device.told in
-    let fits = g.S.RowSeat.fits in
-    let values = g.F.PipeState.values in
-    let P = standing g.F.Feed.stands g.F.Feed.comes in
-    let a = c.args.self.now in
-    let p = c.args.plan.now in
-    let ws = a.waiting.items in
-    let old = g.D.Depot.told c.args.depot.now in
+    let M = members g.S.RowSeat.view g.V.Device.told g.S.RowSeat.fits g.F.PipeState.values (standing g.F.Feed.stands g.F.Feed.comes) in
     let r = c.requires.collecting in
-    let k = r.4 in
-    let at = open_at view told fits values P p r.0 r.1 r.2 (length ws) ws a.jobs.items a.receiver old r.3 c.args.desk.now a k c.requires.outer c.requires.few in
+    let sink = r.0 in
+    let d0 = r.1.0 in
+    let s0 = r.1.1 in
+    let k = r.1.2 in
+    let a = c.args.self.now in
+    let own = c.as_slice.ensures ∙ k.its_parts in
+    let u = c.in-Over.ensures in
+    let pl = pulled_by k c.requires.outer c.requires.few own u.pulls in
+    let o = came k c.requires.outer c.requires.few own u.pulls in
+    let e = c.stop.ensures in
+    let mk = e.marks in
     let new = g.D.Depot.told c.pull.new.depot in
-    let b = seen view c.pull.new.tree in
-    let pl = c.in-Over.ensures.pulls p.max_open k.progress at in
-    let m : Collector _ _ _ _ _ = record a { tree = c.pull.new.tree; outer_stream = c.pull.new.self } in
-    let e = c.stop.ensures in (
-      p,
-      r.0,
-      r.1,
-      values_of c.pull.new.self.tables,
-      new,
-      r.3,
-      c.requires.limits,
-      drawn_stopped view told fits values P p r.0 r.1 r.2 (length ws) 1 old new r.3 c.args.desk.now c.pull.new.desk c.stop.new.desk a m c.stop.new.self k c.requires.waits c.requires.outer refl c.in-Over.how pl c.in-Over.ensures.fits c.in-Over.ensures.others e.fits e.others e.closes c.in-Some.why (sym c.in-Some.ensures) e.report e.marks e.seated e.same,
-    )
+    let z = c.stop.new.self in
+    let over = over_step k c.requires.outer pl.keeps pl.rows o z.tree z.stops z.report c.stop.new.desk mk.0 mk.1 e.closes e.fits (λ s ne f. e.others s ne (u.others s ne f)) e.report mk.3 e.seated (tells_stop c.args.plan.now c.in-Over.how c.in-Some.why (sym c.in-Some.ensures) k.tale mk.0 mk.1 mk.2) in
+    let stopped = subst (λ (x : Collector _ _ _ _ _). IsCollecting M c.args.plan.now d0 s0 (between 1 new sink c.stop.new.desk x)) (sym e.same) (more_may over 1 c.requires.waits (λ n. none_some c.in-Over.how (sym n))) in
+    (c.args.plan.now, new, sink, (d0, s0, stopped))
 
 pub returns-in-Leased-clause-collecting : goal.returns-in-Leased-clause-collecting
-returns-in-Leased-clause-collecting g c d0 s0 t sink k =
-    let view = g.S.RowSeat.view in
-    let told = g.V.Device.told in
-    let fits = g.S.RowSeat.fits in
-    let values = g.F.PipeState.values in
-    let P = standing g.F.Feed.stands g.F.Feed.comes in
+returns-in-Leased-clause-collecting g c sink d0 s0 k =
+    let M = members g.S.RowSeat.view g.V.Device.told g.S.RowSeat.fits g.F.PipeState.values (standing g.F.Feed.stands g.F.Feed.comes) in
     let a = c.args.self.now in
-    let p = c.args.plan.now in
-    let ws = a.waiting.items in
-    let old = g.D.Depot.told c.args.depot.now in
-    let new = g.D.Depot.told c.pull.new.depot in
-    let at = open_at view told fits values P p d0 s0 t (length ws) ws a.jobs.items a.receiver old sink c.args.desk.now a k c.requires.outer c.requires.few in
-    let l = c.in-Leased.lease in
+    let own = c.as_slice.ensures ∙ k.its_parts in
     let e = c.in-Leased.ensures in
-    let z : Collector _ _ _ _ _ = record a { tree = c.pull.new.tree; outer_stream = c.pull.new.self; waiting = c.push_back_reserved.new.self } in
-    subst (λ xs. IsCollectingWith view told fits values P p d0 s0 (values_of c.pull.new.self.tables) (1 + length ws) xs a.jobs.items a.receiver new sink c.pull.new.desk z) (sym c.push_back_reserved.ensures.items)
-    (drawn_step view told fits values P p d0 s0 t (length ws) ws a.jobs.items a.receiver old sink c.args.desk.now a k new c.pull.new.self (seen view c.pull.new.tree) (next.Leased l) (e.pulls p.max_open k.progress at) c.requires.outer l refl z c.pull.new.desk refl e.fits e.others c.push_back_reserved.ensures.capacity)
+    let pl = pulled_by k c.requires.outer c.requires.few own e.pulls in
+    let waits = c.let_wait.ensures in
+    let q = c.let_wait.new.self.waiting in
+    subst (λ (x : Collector _ _ _ _ _). IsCollecting M c.args.plan.now d0 s0 (between (1 + length a.waiting.items) (g.D.Depot.told c.pull.new.depot) sink c.pull.new.desk x)) (sym waits.same)
+    (subst (λ ws. IsCollecting M c.args.plan.now d0 s0 (record (between (1 + length a.waiting.items) (g.D.Depot.told c.pull.new.depot) sink c.pull.new.desk (record a { tree = c.pull.new.tree; outer_stream = c.pull.new.self; waiting = q })) { waiting = ws })) (sym waits.items)
+    (leased_step k c.requires.outer pl.keeps pl.rows (came k c.requires.outer c.requires.few own e.pulls) c.pull.new.tree q c.pull.new.desk refl e.fits e.others waits.room))
+
+pub returns-in-Listed-clause-collecting : goal.returns-in-Listed-clause-collecting
+returns-in-Listed-clause-collecting g c sink d0 s0 k =
+    let M = members g.S.RowSeat.view g.V.Device.told g.S.RowSeat.fits g.F.PipeState.values (standing g.F.Feed.stands g.F.Feed.comes) in
+    let a = c.args.self.now in
+    let own = c.as_slice.ensures ∙ k.its_parts in
+    let e = c.in-Listed.ensures in
+    let pl = pulled_by k c.requires.outer c.requires.few own e.pulls in
+    let waits = c.let_wait-in-Listed.ensures in
+    let q = c.let_wait-in-Listed.new.self.waiting in
+    subst (λ (x : Collector _ _ _ _ _). IsCollecting M c.args.plan.now d0 s0 (between (1 + length a.waiting.items) (g.D.Depot.told c.pull.new.depot) sink c.pull.new.desk x)) (sym waits.same)
+    (subst (λ ws. IsCollecting M c.args.plan.now d0 s0 (record (between (1 + length a.waiting.items) (g.D.Depot.told c.pull.new.depot) sink c.pull.new.desk (record a { tree = c.pull.new.tree; outer_stream = c.pull.new.self; waiting = q })) { waiting = ws })) (sym waits.items)
+    (leased_step k c.requires.outer pl.keeps pl.rows (came k c.requires.outer c.requires.few own e.pulls) c.pull.new.tree q c.pull.new.desk refl e.fits e.others waits.room))
 
 pub returns-in-Some-clause-collecting : goal.returns-in-Some-clause-collecting
-returns-in-Some-clause-collecting g c d0 s0 t sink k =
-    let view = g.S.RowSeat.view in
-    let told = g.V.Device.told in
-    let fits = g.S.RowSeat.fits in
-    let values = g.F.PipeState.values in
-    let P = standing g.F.Feed.stands g.F.Feed.comes in
+returns-in-Some-clause-collecting g c sink d0 s0 k =
+    let M = members g.S.RowSeat.view g.V.Device.told g.S.RowSeat.fits g.F.PipeState.values (standing g.F.Feed.stands g.F.Feed.comes) in
     let a = c.args.self.now in
-    let p = c.args.plan.now in
-    let ws = a.waiting.items in
-    let old = g.D.Depot.told c.args.depot.now in
-    let new = g.D.Depot.told c.pull.new.depot in
-    let at = open_at view told fits values P p d0 s0 t (length ws) ws a.jobs.items a.receiver old sink c.args.desk.now a k c.requires.outer c.requires.few in
-    let m : Collector _ _ _ _ _ = record a { tree = c.pull.new.tree; outer_stream = c.pull.new.self } in
-    let pl = c.in-Over.ensures.pulls p.max_open k.progress at in
+    let own = c.as_slice.ensures ∙ k.its_parts in
+    let u = c.in-Over.ensures in
+    let pl = pulled_by k c.requires.outer c.requires.few own u.pulls in
+    let o = came k c.requires.outer c.requires.few own u.pulls in
     let e = c.stop.ensures in
-    let stopped = drawn_stopped view told fits values P p d0 s0 t (length ws) 1 old new sink c.args.desk.now c.pull.new.desk c.stop.new.desk a m c.stop.new.self k c.requires.waits c.requires.outer refl c.in-Over.how pl c.in-Over.ensures.fits c.in-Over.ensures.others e.fits e.others e.closes c.in-Some.why (sym c.in-Some.ensures) e.report e.marks e.seated e.same in
-    let tables = values_of c.pull.new.self.tables in
-    let skipped = c.skip.ensures.collecting p d0 s0 tables new sink c.requires.limits stopped in
-    retold_now view told fits values P p d0 s0 tables (1 + length ws) new sink c.skip.new.desk c.skip.new.self
-    (more_now view told fits values P p d0 s0 tables 0 (1 + length ws) new sink c.skip.new.desk c.skip.new.self skipped (omega arith)
-    (λ n. let z : None ≡ Some c.in-Over.how = sym n ∙ (c.skip.ensures.outer ∙ ap (λ x. x.outer) e.same) in cc))
+    let mk = e.marks in
+    let new = g.D.Depot.told c.pull.new.depot in
+    let z = c.stop.new.self in
+    let over = over_step k c.requires.outer pl.keeps pl.rows o z.tree z.stops z.report c.stop.new.desk mk.0 mk.1 e.closes e.fits (λ s ne f. e.others s ne (u.others s ne f)) e.report mk.3 e.seated (tells_stop c.args.plan.now c.in-Over.how c.in-Some.why (sym c.in-Some.ensures) k.tale mk.0 mk.1 mk.2) in
+    let stopped = subst (λ (x : Collector _ _ _ _ _). IsCollecting M c.args.plan.now d0 s0 (between 1 new sink c.stop.new.desk x)) (sym e.same) (more_may over 1 c.requires.waits (λ n. none_some c.in-Over.how (sym n))) in
+    let skipped = c.skip.ensures.collecting c.args.plan.now new sink d0 s0 stopped in
+    more_may skipped (1 + length a.waiting.items) (omega arith) (λ n. none_some c.in-Over.how (sym n ∙ (c.skip.ensures.outer ∙ ap (λ (x : Collector _ _ _ _ _). x.outer) e.same)))
 
 pub returns-in-None-clause-collecting : goal.returns-in-None-clause-collecting
-returns-in-None-clause-collecting g c d0 s0 t sink k =
-    let view = g.S.RowSeat.view in
-    let told = g.V.Device.told in
-    let fits = g.S.RowSeat.fits in
-    let values = g.F.PipeState.values in
-    let P = standing g.F.Feed.stands g.F.Feed.comes in
+returns-in-None-clause-collecting g c sink d0 s0 k =
+    let M = members g.S.RowSeat.view g.V.Device.told g.S.RowSeat.fits g.F.PipeState.values (standing g.F.Feed.stands g.F.Feed.comes) in
     let a = c.args.self.now in
     let p = c.args.plan.now in
-    let ws = a.waiting.items in
-    let old = g.D.Depot.told c.args.depot.now in
-    let new = g.D.Depot.told c.pull.new.depot in
-    let at = open_at view told fits values P p d0 s0 t (length ws) ws a.jobs.items a.receiver old sink c.args.desk.now a k c.requires.outer c.requires.few in
-    let m : Collector _ _ _ _ _ = record a { tree = c.pull.new.tree; outer_stream = c.pull.new.self } in
-    let pl = c.in-Over.ensures.pulls p.max_open k.progress at in
+    let own = c.as_slice.ensures ∙ k.its_parts in
+    let u = c.in-Over.ensures in
+    let pl = pulled_by k c.requires.outer c.requires.few own u.pulls in
+    let o = came k c.requires.outer c.requires.few own u.pulls in
     let e = c.close.ensures in
-    retold_now view told fits values P p d0 s0 (values_of c.pull.new.self.tables) (1 + length ws) new sink c.close.new.desk c.close.new.self
-    (drawn_done view told fits values P p d0 s0 t (length ws) (1 + length ws) old new sink c.args.desk.now c.pull.new.desk c.close.new.desk a m c.close.new.self k (omega arith) c.requires.outer refl c.in-Over.how pl c.in-Over.ensures.fits c.in-Over.ensures.others e.fits e.others e.closes (sym c.in-None.ensures) e.report e.same)
+    let h = c.in-Over.how in
+    let done = surely_done h o.unhalted (sym c.in-None.ensures) in
+    let tells = subst (λ i. TellsOuter (plan_bounds p) (learned (outer_ended k.tale i) [] []) i []) (sym done) (tells_done p (learned (outer_ended k.tale how.Done) [] [])) in
+    let z = c.close.new.self in
+    let over = over_step k c.requires.outer pl.keeps pl.rows o z.tree a.stops z.report c.close.new.desk [] [] e.closes e.fits (λ s ne f. e.others s ne (u.others s ne f)) e.report (learns_none a.stops) k.telling.seated tells in
+    subst (λ (x : Collector _ _ _ _ _). IsCollecting M p d0 s0 (between (1 + length a.waiting.items) (g.D.Depot.told c.pull.new.depot) sink c.close.new.desk x)) (sym e.same) (more_may over (1 + length a.waiting.items) (omega arith) (λ n. none_some h (sym n)))

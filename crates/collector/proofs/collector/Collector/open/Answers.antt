@@ -1,15 +1,15 @@
 -- The outer stream is pulled for the first time, unless no frame is wanted.
 use Rattle.std.proofs.Common.{◌≡◌, ◌≢◌, ◌+◌, [], None, Some, ap, arith, length, subst, sym, ◌∙◌}
-use Rattle.csv_pipes.specs.Dictionaries.{values_of}
 use Rattle.device_port.specs.Sink.{SinkTold}
 use Rattle.pull_turns.specs.Piping.{standing}
-use Rattle.collector.specs.Collecting.{IsCollecting}
+use Rattle.collector.specs.Collecting.{IsCollecting, between}
+use Rattle.collector.specs.Members.{members}
 use Rattle.collector.proofs.Fresh.{take_some}
 use Rattle.collector.proofs.FreshStands.{fresh_stands}
 use Rattle.collector.proofs.collector.Collector.open.Goals as goal
 
 -- a sink of which nothing is told
-blank_sink : SinkTold
+abbrev blank_sink : SinkTold
 blank_sink = record { written = None; faults = 0 }
 
 pub want_none-requires-clause-none : goal.want_none-requires-clause-none
@@ -26,27 +26,22 @@ draw-requires-clause-outer g c = c.requires.fresh.outer
 
 pub draw-requires-clause-collecting : goal.draw-requires-clause-collecting
 draw-requires-clause-collecting g c =
+    let M = members g.S.RowSeat.view g.V.Device.told g.S.RowSeat.fits g.F.PipeState.values (standing g.F.Feed.stands g.F.Feed.comes) in
     let some = subst (λ o. o ≢ Some 0) c.take.ensures.value (take_some c.take.result (c.wants_none.ensures.some c.if-wants_none.false)) in
-    let old = g.D.Depot.told c.args.depot.now in (
-      old,
-      blank_sink,
-      values_of [],
-      blank_sink,
-      fresh_stands g.S.RowSeat.view g.V.Device.told g.S.RowSeat.fits g.F.PipeState.values (standing g.F.Feed.stands g.F.Feed.comes) c.args.plan.now old blank_sink c.args.desk.now c.args.self.now c.requires.fresh some,
-    )
+    let old = g.D.Depot.told c.args.depot.now in
+    (blank_sink, (old, blank_sink, fresh_stands M c.args.plan.now old blank_sink c.args.desk.now c.args.self.now c.requires.fresh (omega arith) some))
 
 pub returns-then-wants_none : goal.returns-then-wants_none
-returns-then-wants_none g c = record { collecting = λ s0. c.want_none.ensures.collecting (g.D.Depot.told c.args.depot.now) s0 }
+returns-then-wants_none g c = record { collecting = λ s0 few. c.want_none.ensures.collecting (g.D.Depot.told c.args.depot.now) s0 few }
 
 pub returns-else-wants_none : goal.returns-else-wants_none
 returns-else-wants_none g c = record {
-  collecting = λ s0.
-      let view = g.S.RowSeat.view in
-      let P = standing g.F.Feed.stands g.F.Feed.comes in
+  collecting = λ s0 few.
+      let M = members g.S.RowSeat.view g.V.Device.told g.S.RowSeat.fits g.F.PipeState.values (standing g.F.Feed.stands g.F.Feed.comes) in
       let p = c.args.plan.now in
       let fr = c.requires.fresh in
       let some = subst (λ o. o ≢ Some 0) c.take.ensures.value (take_some c.take.result (c.wants_none.ensures.some c.if-wants_none.false)) in
       let old = g.D.Depot.told c.args.depot.now in
-      subst (λ n. IsCollecting view g.V.Device.told g.S.RowSeat.fits g.F.PipeState.values P p old s0 (values_of c.draw.new.self.outer_stream.tables) n (g.D.Depot.told c.draw.new.depot) s0 c.draw.new.desk c.draw.new.self) (ap (λ ws. 1 + length ws) fr.room.waiting)
-      (c.draw.ensures.collecting old s0 (values_of []) s0 (fresh_stands view g.V.Device.told g.S.RowSeat.fits g.F.PipeState.values P p old s0 c.args.desk.now c.args.self.now fr some));
+      subst (λ n. IsCollecting M p old s0 (between n (g.D.Depot.told c.draw.new.depot) s0 c.draw.new.desk c.draw.new.self)) (ap (λ ws. 1 + length ws) fr.room.waiting)
+      (c.draw.ensures.collecting s0 old s0 (fresh_stands M p old s0 c.args.desk.now c.args.self.now fr few some));
 }

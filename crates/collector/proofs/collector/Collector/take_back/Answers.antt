@@ -1,6 +1,6 @@
 use Rattle.std.proofs.Common.{sym, subst}
 use Rattle.tree_laws.specs.Visits.{HasNothingOpen}
-use Rattle.collector.specs.Collecting.{guest_of}
+use Rattle.collector.specs.Streams.{guest_of}
 use Rattle.collector.proofs.collector.Collector.take_back.Goals as goal
 
 pub take_in-requires-clause-rest : goal.take_in-requires-clause-rest

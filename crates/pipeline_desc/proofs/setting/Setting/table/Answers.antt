@@ -1,20 +1,25 @@
-use Rattle.std.proofs.Common.{◌∙◌, ap, length, sym, arith}
-use Rattle.pipeline_desc.specs.Meant.{SettingMeant}
+use Rattle.std.proofs.Common.{◌∙◌, ap, sym}
+use Rattle.std.specs.Option.{option_or}
+use Rattle.pipeline_desc.specs.Meant.{SettingMeant, named_from}
 use Rattle.pipeline_desc.specs.Steps.{table_named}
-use Rattle.pipeline_desc.proofs.TableNames.{length-named, named_at, place_within}
+use Rattle.pipeline_desc.proofs.TableNames.{known_if, named_both}
 use Rattle.pipeline_desc.proofs.setting.Setting.table.Goals as goal
 
 pub returns-clause-table : goal.returns-clause-table
 returns-clause-table c =
-    sym c.in_ok-at.was ∙ (c.place_of.ensures ∙ (named_at c.args.name.now c.self.inside.tables.now ∙ ap (λ (s : SettingMeant). table_named c.args.name.now s.tables) c.self.view_is))
+    let name = c.args.name.now in
+    let top = named_from 0 c.self.inside.top.now in
+    let own = named_from c.self.inside.first_own c.self.inside.own.now in
+    c.or.ensures
+    ∙ (ap (λ o. option_or o c.number_in-in_group.result) c.number_in-at_top.ensures
+    ∙ (ap (λ o. option_or (table_named name top) o) c.number_in-in_group.ensures ∙ (sym (named_both name top own) ∙ ap (λ (s : SettingMeant). table_named name s.tables) c.self.view_is)))
 
-pub returns-clause-within : goal.returns-clause-within
-returns-clause-within c =
-    let within = place_within c.args.name.now c.self.inside.tables.now c.in_ok-at.at (sym c.place_of.ensures ∙ c.in_ok-at.was) in
-    let same = ap (λ (s : SettingMeant). length s.tables) c.self.view_is in
-    omega (arith, within, same, length-named 0 c.self.inside.tables.now)
-
-pub returns-in_err-at : goal.returns-in_err-at
-returns-in_err-at c =
-    let none = sym c.in_err-at.was ∙ (c.place_of.ensures ∙ (named_at c.args.name.now c.self.inside.tables.now ∙ ap (λ (s : SettingMeant). table_named c.args.name.now s.tables) c.self.view_is)) in
-    record { table = c.from_residual.ensures ∙ none; within = rw c.from_residual.ensures tt }
+pub returns-clause-known : goal.returns-clause-known
+returns-clause-known c =
+    let name = c.args.name.now in
+    let top = named_from 0 c.self.inside.top.now in
+    let own = named_from c.self.inside.first_own c.self.inside.own.now in
+    known_if name c.args.self.now.tables c.or.result
+    (c.or.ensures
+    ∙ (ap (λ o. option_or o c.number_in-in_group.result) c.number_in-at_top.ensures
+    ∙ (ap (λ o. option_or (table_named name top) o) c.number_in-in_group.ensures ∙ (sym (named_both name top own) ∙ ap (λ (s : SettingMeant). table_named name s.tables) c.self.view_is))))

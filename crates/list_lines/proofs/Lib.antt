@@ -1,0 +1,4 @@
+pub mod Runs
+pub mod Timely
+pub mod Reading
+pub mod Given

@@ -1,0 +1,5 @@
+pub mod Steps
+pub mod Runs
+pub mod Texts
+pub mod Timely
+pub mod Listings
