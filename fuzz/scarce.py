@@ -6,7 +6,7 @@ of what it may give, whole where it is done, that the ledger is in order, and th
 usage: fuzz/scarce.py threads|descriptors|memory [--seed S] [--cases N]
 
 FLUME as in fuzz/runs.py. Memory is made scarce by a limit of addresses, which the proved program alone can meet: one that was built
-unproved carries a checker of memory, which takes far more (fuzz/memory.sh refuses it memory otherwise)."""
+unproved carries a checker of memory, which takes far more (fuzz/refused.py refuses single requests)."""
 import argparse, os, pathlib, random, resource, shlex, sys, tempfile, time
 
 sys.path.insert(0, str(pathlib.Path(__file__).resolve().parent))
