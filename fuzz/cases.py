@@ -172,7 +172,8 @@ class Text:
 
     def all(self, name):
         """All tables or streams in their order."""
-        return getattr(self, f"{name}s") + [it for group in self.groups for it in group.get(name, []) if isinstance(it, dict)]
+        lists = [group.get(name) for group in self.groups]
+        return getattr(self, f"{name}s") + [it for made in lists if isinstance(made, list) for it in made if isinstance(it, dict)]
 
 
 class Described:
