@@ -102,11 +102,11 @@ fn stream_of(
 fn table_content(dice: &mut Dice) -> Result<Vec<u8>, AllocError> {
     let mut text = String::new(dice.alloc);
     let width = dice.pick(&[2, 2, 2, 2, 2, 2, 2, 2, 3, 3, 3, 1]);
-    for _ in 0..dice.few(8) {
+    for place in 0..dice.few(8) {
         let key = dice.pick(&KEYS);
         text.push_str(key)?;
         if width > 1 {
-            write!(text, ",w{key}")?;
+            write!(text, ",w{key}{place}")?;
         }
         if width > 2 || dice.chance(90) {
             text.push_str(",more")?;

@@ -11,13 +11,12 @@ const AT_TOP: [(&str, u8); 3] = [
     ("[[table]]\nname = 'n9'\n", 3),
 ];
 
-const IN_STREAM: [(&str, u8); 9] = [
+const IN_STREAM: [(&str, u8); 8] = [
     ("steps = []", 3),
     ("path = ''", 4),
     ("path = 'x'\npaths = 'y'", 2),
     ("path = 'x'\nwith = 'y'", 4),
     ("path = 'x'\nafter = ['lines']", 4),
-    ("path = 'x'\nto = 'x'", 4),
     ("path = 'x'\nuntil = 2000", 8),
     ("path = 'x'\non_fault = 1", 3),
     ("# þ\npath = 'x'\nuntil = -1", 8),
@@ -88,6 +87,11 @@ pub fn spoil(
             let (lines, number) = dice.pick(&AT_TOP);
             source.push_str(lines)?;
             format!(in alloc; "{REFUSED} {number}\n")?
+        }
+        // Refused behind what may be wrong with any stream, as it is with one of a group that is moved to the number of its own `until`.
+        3 if k == plan.streams.len() => {
+            source.push_str("[[stream]]\npath = 'x'\nto = 'x'\n")?;
+            format!(in alloc; "{REFUSED} 4 stream {k}\n")?
         }
         3..=11 => {
             let (keys, number) = dice.pick(&IN_STREAM);
