@@ -69,7 +69,7 @@ module _ (places : List Place) (scopes : ℕ) (runs ideal : (ℕ → DeviceTold)
         → (r.how ≡ how.Done) × ((ys : List Element) × ideal r.home ys Done × (rendering_of given ≡ rendering_of ys))
 
   output : IsOutput work no_values r.home frames 0 r.how
-  output = record { pieces = r.printed.pieces; end = r.run.end; run = r.run.run; printed = frames_pieces 0 r.printed.pieces; reported = r.run.reported }
+  output = record { pieces = r.printed.pieces; end = r.run.end; run = inl r.run.run; printed = frames_pieces 0 r.printed.pieces; reported = r.run.reported }
 
   outputs : HaveOutputs work run_record no_values r.home
   outputs = record {

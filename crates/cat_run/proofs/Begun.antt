@@ -9,7 +9,7 @@ use Rattle.chunk_core.specs.declared.code.How.TheVariants as how
 use Rattle.device_port.specs.Device.{DeviceTold}
 use Rattle.device_port.specs.Sink.{SinkTold}
 use Rattle.device_port.proofs.Puts.{with_bytes_none}
-use Rattle.pull_nodes.specs.Runs.{IsRun}
+use Rattle.pull_nodes.specs.Failures.{IsToldRun}
 use Rattle.pull_nodes.specs.declared.node.Node.{Node}
 use Rattle.pull_stepper.specs.Sites.{told_at}
 use Rattle.pull_stepper.specs.Stepping.{Stepping}
@@ -27,10 +27,10 @@ use Rattle.cat_run.specs.Streams.{RunsPrinted}
 
 module _ {V : Type 0} (told : V → DeviceTold) (n : Node) (devices : List V) (chunk : ℕ) (old new : SinkTold) where
   -- pieces of a run of the node were printed
-  pub begun_prints : {F : Type 0} (P : Values → StateMeaning F) (x z : Stepping V F) (h : How) (r : Stopped) → IsBegun P told (Inner 0) n devices chunk x → PrintsAll P told 0 x z old new r → z.how ≡ Some h → PrintsRun (IsRun no_values (told_at told z.site) n) (HasNoPipeOf n) (widest_of chunk n) 0 old new (Some h) r
+  pub begun_prints : {F : Type 0} (P : Values → StateMeaning F) (x z : Stepping V F) (h : How) (r : Stopped) → IsBegun P told (Inner 0) n devices chunk x → PrintsAll P told 0 x z old new r → z.how ≡ Some h → PrintsRun (IsToldRun no_values (told_at told z.site) n) (HasNoPipeOf n) (widest_of chunk n) 0 old new (Some h) r
   begun_prints {F = F} P x z h r i prints ended =
-      subst (λ e. PrintsRun (IsRun no_values (told_at told z.site) n) (HasNoPipeOf n) (widest_of chunk n) 0 old new e r) ended
-      (subst (λ v. PrintsRun (IsRun v (told_at told z.site) n) (HasNoPipeOf n) (widest_of chunk n) 0 old new z.how r) i.none (subst (λ (y : Stepping V F). PrintsAll P told 0 y z old new r) i.is prints))
+      subst (λ e. PrintsRun (IsToldRun no_values (told_at told z.site) n) (HasNoPipeOf n) (widest_of chunk n) 0 old new e r) ended
+      (subst (λ v. PrintsRun (IsToldRun v (told_at told z.site) n) (HasNoPipeOf n) (widest_of chunk n) 0 old new z.how r) i.none (subst (λ (y : Stepping V F). PrintsAll P told 0 y z old new r) i.is prints))
 
   -- it wasn't begun for want of memory
   pub unbegun_prints : (r : Ran V) → r.how ≡ how.Memory → RunsLone told (Inner 0) n devices [] r → new ≡ old → RunsPrinted told n devices chunk old new r stopped.Memory
@@ -45,7 +45,7 @@ module _ {V : Type 0} (told : V → DeviceTold) (n : Node) (devices : List V) (c
       small = λ plain. record { fits = tt; next_fits = omega arith };
       run = record {
         end = Cut;
-        run = subst (λ e. IsRun no_values lone.home n [] e) (cut_is lone.end (subst (λ h. IsReported lone.end h) is lone.reported)) lone.run;
+        run = subst (λ e. IsToldRun no_values lone.home n [] e) (cut_is lone.end (subst (λ h. IsReported lone.end h) is lone.reported)) lone.run;
         goes_on = λ e. absurd (false≢true e);
         reported = inr refl;
         silenced = λ e. absurd (false≢true e);

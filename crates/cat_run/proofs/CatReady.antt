@@ -7,7 +7,7 @@ use Rattle.device_port.specs.Sink.{SinkTold}
 use Rattle.pull_nodes.specs.declared.node.Node.{Node}
 use Rattle.pull_nodes.specs.declared.node.Node.TheVariants.{Read, Weak'}
 use Rattle.res_ledger.specs.declared.event.StreamNo.TheVariants.{Inner}
-use Rattle.run_rules.specs.Devices.{OpensWhatIsThere}
+use Rattle.run_rules.specs.Devices.{KeepsToWhatIsThere}
 use Rattle.stream_parts.specs.Retire.{Returns, MayReturnAll, devices_of}
 use Rattle.lone_stream.specs.declared.run.Ran.{Ran}
 use Rattle.lone_stream.specs.Rooms.{IsFileNode}
@@ -33,7 +33,7 @@ module _ {V : Type 0} (told : V → DeviceTold) (path : List ℕ) (chunk : ℕ) 
   abbrev left_so : Ran V
   left_so = record { how = ran_so.how; ledger = r.outcome.ledger; shelf = r.shelf; unopened = r.unopened }
 
-  module _ (each_there : (v : V) → OpensWhatIsThere (told v)) (new : DepotTold) (back : Returns mid new (devices_of told r.shelf r.unopened)) where
+  module _ (each_there : (v : V) → KeepsToWhatIsThere (told v)) (new : DepotTold) (back : Returns mid new (devices_of told r.shelf r.unopened)) where
     -- the stream ran over its file
     runs_alone : RunsAlone (to_read path ∷ []) 0 (λ w. FileRuns (w 0)) chunk old new so sn r.outcome
     runs_alone = record {

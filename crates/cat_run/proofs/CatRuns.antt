@@ -40,7 +40,7 @@ opens_bytes d ys e (inl r) = left_bytes (Reads d) (λ xs g h. first_bytes d.cont
 opens_bytes d ys e (inr r) = subst (λ xs. AllByRecursion IsByte xs) (sym r.2) tt
 
 pub file_bytes : (d : DeviceTold) (ys : List Element) (e : End) → FileRuns d ys e → AllByRecursion IsByte ys
-file_bytes d ys e r = left_bytes (OpensThen d (OrLeft (Unit {0}) (Reads d)) (Unit {0})) (opens_bytes d) ys e r
+file_bytes d ys e r = left_bytes (OpensThen d (OrLeft (Unit {0}) (Reads d)) (Unit {0})) (opens_bytes d) ys e r.0
 
 -- A fault shows on its device.
 
@@ -50,18 +50,18 @@ in_row_0 w None h = tt
 in_row_0 w (Some n) h = (0, omega arith, h)
 
 pub file_shows : (d : DeviceTold) (ys : List Element) (c : Code) → FileRuns d ys (Fault c) → IsCounted d c
-file_shows d ys c (inr h) = absurd (fault_cut c h.0)
-file_shows d ys c (inl (inl (o, f, inl r))) = stops_shows d c r.1
-file_shows d ys c (inl (inl (o, f, inr h))) = absurd (fault_cut c h.0)
-file_shows d ys c (inl (inr r)) = counted_as (λ n. 0 < n d) c code.Open (fault_is c code.Open r.3) (omega (arith, r.1))
+file_shows d ys c (inr h, t) = absurd (fault_cut c h.0)
+file_shows d ys c (inl (inl (o, f, inl r)), t) = stops_shows d c r.1
+file_shows d ys c (inl (inl (o, f, inr h)), t) = absurd (fault_cut c h.0)
+file_shows d ys c (inl (inr r), t) = counted_as (λ n. 0 < n d) c code.Open (fault_is c code.Open r.3) (omega (arith, r.1))
 
 -- A run that was not left, of a device of which no act failed, is an ideal one.
 
 pub ideal_is : (d : DeviceTold) (ys : List Element) (e : End) → faults_of d ≡ 0 → (e ≢ Cut) → FileRuns d ys e → IdealFileRuns d ys e
-ideal_is d ys e calm n (inr c) = absurd (n c.0)
-ideal_is d ys e calm n (inl (inl (o, f, inl r))) = whole_is d ys e calm n r
-ideal_is d ys e calm n (inl (inl (o, f, inr c))) = absurd (n c.0)
-ideal_is d ys e calm n (inl (inr r)) = absurd (omega (arith, calm, r.1))
+ideal_is d ys e calm n (inr c, t) = absurd (n c.0)
+ideal_is d ys e calm n (inl (inl (o, f, inl r)), t) = whole_is d ys e calm n r
+ideal_is d ys e calm n (inl (inl (o, f, inr c)), t) = absurd (n c.0)
+ideal_is d ys e calm n (inl (inr r), t) = absurd (omega (arith, calm, r.1))
 
 none_some : (x : EndOf) (xs : List EndOf) → (x ∷ xs) ≢ []
 none_some x xs e = cc

@@ -26,6 +26,6 @@ module _ (work : Work) (v : Values) (w : ℕ → DeviceTold) (pieces : List (Lis
     front = c.2;
     text = c.3;
     pieces = pieces ++ next ∷ [];
-    run = subst (λ xs. work.runs 0 v w xs Cut) (sym (elements_both pieces (next ∷ []) ∙ ap (λ xs. elements_in_pieces pieces ++ xs) (append-nil next))) (goes_on refl);
+    run = ([], Cut, subst (λ xs. work.runs 0 v w xs Cut) (sym (append-nil (elements_in_pieces (pieces ++ next ∷ [])) ∙ (elements_both pieces (next ∷ []) ∙ ap (λ xs. elements_in_pieces pieces ++ xs) (append-nil next)))) (goes_on refl));
     goes_on = ap (λ l. l ++ rendering_of next ∷ []) (frames_pieces 0 pieces) ∙ sym (map-append rendering_of pieces (next ∷ []));
   }

@@ -19,7 +19,7 @@ use Rattle.pull_turns.specs.Around.{Around}
 use Rattle.pull_turns.specs.Led.{CanBeCut, Led, TouchesOnly, Turns}
 use Rattle.pull_turns.specs.Turned.{Over}
 use Rattle.pull_turns.specs.Piping.{StateMeaning}
-use Rattle.pull_turns.specs.Rest.{IsRunOfRest}
+use Rattle.pull_turns.specs.Failures.{IsToldRunOfRest}
 use Rattle.pull_turns.specs.Sizes.{HasNoPipe, Sized, widest}
 use Rattle.pull_turns.specs.declared.rest.Rest.{Rest}
 use Rattle.pull_turns.specs.declared.rest.Rest.TheVariants.{Nil}
@@ -76,7 +76,7 @@ over_later now last r t = record { over = λ p l. t.others p (λ m. m); goes = t
 
 -- what was printed is a front of a run, where what was left may be left, whatever the devices come to tell by their closes
 cut_later : {F : Type 0} (P : StateMeaning F) (first before now last : ℕ → DeviceTold) (start rest : Rest F) (xs : List Element) → Led P first before start rest xs → TouchesOnly before now rest → CanBeCut P now rest → TouchesOnly {F = F} now last Nil
-    → IsRunOfRest P last start xs Cut
+    → IsToldRunOfRest P last start xs Cut
 cut_later P first before now last start rest xs h t cut closes = led_ends P first before now start rest xs Cut h t cut last (over_later now last start closes)
 
 module _ {F : Type 0} (P : StateMeaning F) (first before : ℕ → DeviceTold) (n : ℕ) (start rest : Rest F) (k : ℕ) (old mid : SinkTold) (p : PrintsOn P first before n start rest k old mid) where
@@ -95,7 +95,7 @@ module _ {F : Type 0} (P : StateMeaning F) (first before : ℕ → DeviceTold) (
   whole_small f = record { fits = (p.small f).fits; next_fits = omega arith }
 
   -- memory was wanting in a turn
-  pub prints_wanting : (now last : ℕ → DeviceTold) → TouchesOnly before now rest → CanBeCut P now rest → TouchesOnly {F = F} now last Nil → PrintsRun (IsRunOfRest P last start) (HasNoPipe start) (widest n start) k old mid (Some how.Memory) stopped.Memory
+  pub prints_wanting : (now last : ℕ → DeviceTold) → TouchesOnly before now rest → CanBeCut P now rest → TouchesOnly {F = F} now last Nil → PrintsRun (IsToldRunOfRest P last start) (HasNoPipe start) (widest n start) k old mid (Some how.Memory) stopped.Memory
   prints_wanting now last h cut t = record {
     how = how.Memory;
     ended_is = refl;
@@ -145,7 +145,7 @@ module _ {F : Type 0} (P : StateMeaning F) (first : ℕ → DeviceTold) (before 
     wrote = p.wrote;
   }
 
-  pub prints_done : Turns P before now n rest next turn.Done → PrintsRun (IsRunOfRest P now.told start) (HasNoPipe start) (widest n start) k old mid (Some how.Done) stopped.Ended
+  pub prints_done : Turns P before now n rest next turn.Done → PrintsRun (IsToldRunOfRest P now.told start) (HasNoPipe start) (widest n start) k old mid (Some how.Done) stopped.Ended
   prints_done h = record {
     how = how.Done;
     ended_is = refl;
@@ -164,7 +164,7 @@ module _ {F : Type 0} (P : StateMeaning F) (first : ℕ → DeviceTold) (before 
     };
   }
 
-  pub prints_fault : (c : Code) → Turns P before now n rest next (turn.Fault c) → PrintsRun (IsRunOfRest P now.told start) (HasNoPipe start) (widest n start) k old mid (Some (how.Fault c)) stopped.Ended
+  pub prints_fault : (c : Code) → Turns P before now n rest next (turn.Fault c) → PrintsRun (IsToldRunOfRest P now.told start) (HasNoPipe start) (widest n start) k old mid (Some (how.Fault c)) stopped.Ended
   prints_fault c h = record {
     how = how.Fault c;
     ended_is = refl;
@@ -185,17 +185,17 @@ module _ {F : Type 0} (P : StateMeaning F) (first : ℕ → DeviceTold) (before 
 
   module _ (last : ℕ → DeviceTold) (t : TouchesOnly {F = F} now.told last Nil) where
     -- the stream may be left behind the piece that came, and behind those before it
-    left_behind : (l : Load) → Turns P before now n rest next (turn.Chunk l) → IsRunOfRest P last start (elements_in_pieces p.pieces ++ elements l) Cut
+    left_behind : (l : Load) → Turns P before now n rest next (turn.Chunk l) → IsToldRunOfRest P last start (elements_in_pieces p.pieces ++ elements l) Cut
     left_behind l h =
         cut_later P first now.told now.told last start next (elements_in_pieces p.pieces ++ elements l) (led_chunk P first before now n start rest next (elements_in_pieces p.pieces) p.led l h) (tells_same now.told next)
-        (cut_unwritten P now now 0 next (h.can tt) (λ q. (refl, refl))) t
+        (cut_unwritten P now now 0 next (h.can tt) (λ q. (refl, refl, refl, refl))) t
 
-    left_before : (l : Load) → Turns P before now n rest next (turn.Chunk l) → IsRunOfRest P last start (elements_in_pieces p.pieces) Cut
-    left_before l h = left_earlier P last start (elements_in_pieces p.pieces) (elements l) Cut (left_behind l h)
+    left_before : (l : Load) → Turns P before now n rest next (turn.Chunk l) → IsToldRunOfRest P last start (elements_in_pieces p.pieces) Cut
+    left_before l h = let r = left_behind l h in (left_earlier P last start (elements_in_pieces p.pieces) (elements l) Cut r.0, r.1)
 
     -- what was printed of a stream that was halted
     abbrev Halts : SinkTold → Stopped → Type 0
-    Halts new r = PrintsRun (IsRunOfRest P last start) (HasNoPipe start) (widest n start) k old new (Some how.Halted) r
+    Halts new r = PrintsRun (IsToldRunOfRest P last start) (HasNoPipe start) (widest n start) k old new (Some how.Halted) r
 
     -- memory was wanting for the text of a piece
     prints_unrendered : (new : SinkTold) (l : Load) → Turns P before now n rest next (turn.Chunk l) → new ≡ mid → kind_of l ≢ Bytes → Halts new stopped.Memory

@@ -7,15 +7,16 @@ use Rattle.chunk_core.specs.declared.code.How.TheVariants as how
 use Rattle.device_port.specs.Device.{DeviceTold, to_read}
 use Rattle.device_port.specs.Depot.{DepotTold}
 use Rattle.device_port.specs.Sink.{SinkTold, with_bytes}
+use Rattle.pull_nodes.specs.Failures.{FileTells}
 use Rattle.pull_nodes.specs.Runs.{OrLeft, Reads, ReadsWhole, OpensThen}
 use Rattle.run_rules.specs.Work.{Work, RunRecord}
 use Rattle.run_rules.specs.Run.{Performs}
 use Rattle.cat_run.specs.declared.outcome.Outcome.{Outcome}
 pub use Rattle.cat_run.specs.Alone.{and_one}
 
--- a device is opened and read, and may be left at any time
+-- a device is opened and read, and may be left at any time; the end tells of each failure of it
 abbrev pub FileRuns : DeviceTold → Outcomes
-FileRuns d = OrLeft (Unit {0}) (OpensThen d (OrLeft (Unit {0}) (Reads d)) (Unit {0}))
+FileRuns d ys e = OrLeft (Unit {0}) (OpensThen d (OrLeft (Unit {0}) (Reads d)) (Unit {0})) ys e × FileTells d e
 
 -- a device is read whole
 abbrev pub IdealFileRuns : DeviceTold → Outcomes

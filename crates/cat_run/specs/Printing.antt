@@ -10,7 +10,7 @@ use Rattle.chunk_core.specs.declared.load.Load.{Load}
 use Rattle.device_port.specs.Sink.{SinkTold, with_bytes, BreaksOff}
 use Rattle.device_port.specs.Device.{DeviceTold}
 use Rattle.pull_turns.specs.Piping.{StateMeaning}
-use Rattle.pull_turns.specs.Rest.{IsRunOfRest}
+use Rattle.pull_turns.specs.Failures.{IsToldRunOfRest}
 use Rattle.pull_turns.specs.Sizes.{HasNoPipe, widest}
 use Rattle.pull_stepper.specs.Sites.{told_at}
 use Rattle.pull_stepper.specs.Stepping.{Stepping}
@@ -55,4 +55,4 @@ pub record PrintsRun (runs : Outcomes) (Plain : Type 0) (size k : ℕ) (old new 
 
 -- a stepper was run to its end: what was printed as stream k are pieces of a run of what was left of its node
 abbrev pub PrintsAll : {V F : Type 0} → (Values → StateMeaning F) → (V → DeviceTold) → ℕ → Stepping V F → Stepping V F → SinkTold → SinkTold → Stopped → Type 0
-PrintsAll P told k a b old new r = PrintsRun (IsRunOfRest (P a.tables) (told_at told b.site) a.rest) (HasNoPipe a.rest) (widest a.chunk a.rest) k old new b.how r
+PrintsAll P told k a b old new r = PrintsRun (IsToldRunOfRest (P a.tables) (told_at told b.site) a.rest) (HasNoPipe a.rest) (widest a.chunk a.rest) k old new b.how r

@@ -4,7 +4,7 @@ use Rattle.chunk_core.specs.declared.code.How.{How}
 use Rattle.res_ledger.specs.declared.event.StreamNo.TheVariants.{Inner}
 use Rattle.device_port.specs.Device.{DeviceTold}
 use Rattle.device_port.specs.Sink.{SinkTold}
-use Rattle.pull_nodes.specs.Runs.{IsRun}
+use Rattle.pull_nodes.specs.Failures.{IsToldRun}
 use Rattle.chunk_core.specs.Tables.{no_values}
 use Rattle.pull_nodes.specs.declared.node.Node.{Node}
 use Rattle.pull_turns.specs.Sizes.{HasNoPipeOf, widest_of}
@@ -20,7 +20,7 @@ module _ {V : Type 0} (told : V → DeviceTold) where
   pub record RunsPrinted (n : Node) (devices : List V) (chunk : ℕ) (old new : SinkTold) (r : Ran V) (s : Stopped) : Type 0 where
     pub home : ℕ → DeviceTold
     pub comes : ComesHome told (Inner 0) n devices home r
-    pub prints : PrintsRun (IsRun no_values home n) (HasNoPipeOf n) (widest_of chunk n) 0 old new (Some r.how) s
+    pub prints : PrintsRun (IsToldRun no_values home n) (HasNoPipeOf n) (widest_of chunk n) 0 old new (Some r.how) s
 
   -- the same of what is told of it
   pub record RunsStream (n : Node) (devices : List V) (chunk : ℕ) (old new : SinkTold) (r : Printed V) : Type 0 where
@@ -29,5 +29,5 @@ module _ {V : Type 0} (told : V → DeviceTold) where
     pub comes : ComesHome told (Inner 0) n devices home (record { how = how; ledger = r.outcome.ledger; shelf = r.shelf; unopened = r.unopened })
     pub printed : PrintsPieces 0 old new r.outcome.sink_failed
     pub small : HasNoPipeOf n → AreSmall (widest_of chunk n) printed.pieces printed.next
-    pub run : IsRunIn (IsRun no_values home n) printed.pieces printed.next r.outcome.sink_failed r.outcome.memory how
+    pub run : IsRunIn (IsToldRun no_values home n) printed.pieces printed.next r.outcome.sink_failed r.outcome.memory how
     pub ends : r.outcome.ends ≡ record { who = Inner 0; how = how } ∷ []

@@ -29,7 +29,7 @@ use Rattle.pull_turns.specs.Piping.{StateMeaning}
 use Rattle.res_ledger.specs.declared.event.Event.{Event}
 use Rattle.res_ledger.specs.declared.event.What.TheVariants.{Lease}
 use Rattle.row_seat.specs.declared.view.View.{View}
-use Rattle.run_rules.specs.Devices.{OpensWhatIsThere}
+use Rattle.run_rules.specs.Devices.{KeepsToWhatIsThere}
 use Rattle.run_rules.specs.Homes.{HaveValues}
 use Rattle.run_rules.specs.Opening.{OuterHasRun}
 use Rattle.run_rules.specs.Work.{Opener, RunRecord, Stream, opener_places}
@@ -129,7 +129,7 @@ module _ {S V F : Type 0} (view : S → View V) (told : V → DeviceTold) (P : V
       joined_ledger p.max_open (stream_limit p) b h.progress L s (outer_rows p) (acquired_below view told P p limits d0 now outer b left receiver tale h L s) op n' (order view told P p limits d0 now outer b left receiver tale h L s) (leased_below view told P p limits d0 now outer b left receiver tale h) outer
       (count_few view told P p limits d0 now outer b left receiver tale h) refl (sym rows_are) h.root
 
-  module _ (lawful : (d : V) → OpensWhatIsThere (told d)) (last : DepotTold) (c : RunRecord) (again : Returns now last (all_left told b.shelf left)) (r : IsRunOf p n' outer tale L d0 last c) where
+  module _ (lawful : (d : V) → KeepsToWhatIsThere (told d)) (last : DepotTold) (c : RunRecord) (again : Returns now last (all_left told b.shelf left)) (r : IsRunOf p n' outer tale L d0 last c) where
     back : MadeComeBack d0 last (plan_rows p lines') W'
     back = came view told P p limits d0 now outer b left receiver tale h L s (places_alone view told P p limits d0 now outer b left receiver tale h) (all_lawful told lawful b.shelf left) last again
 

@@ -1,5 +1,5 @@
 -- The devices of all rows once the ledger is there, and those that are left.
-use Rattle.std.proofs.Common.{◌≡◌, ℕ, ◌+◌, ◌-◌, ◌<◌, ◌≤◌, nat_eq, List, [], ◌∷◌, ◌++◌, inl, inr, map, flat_map, length, Option, Some, None, Result, Ok, Err, refl, sym, ◌∙◌, ap, subst, ⊎_elim, arith, append-nil, append_assoc}
+use Rattle.std.proofs.Common.{◌≡◌, ℕ, ◌+◌, ◌-◌, ◌<◌, ◌≤◌, nat_eq, List, [], ◌∷◌, ◌++◌, inl, inr, map, flat_map, length, Option, Some, None, IfSome, Result, Ok, Err, refl, sym, ◌∙◌, ap, subst, ⊎_elim, arith, append-nil, append_assoc}
 use Rattle.std.proofs.lemmas.Bool.{cases_lt}
 use Rattle.std.proofs.lemmas.List.{map-append}
 use Rattle.std.proofs.lemmas.List.Sorted.{IsPermutation-append, IsPermutation-append_right, IsPermutation-trans}
@@ -31,7 +31,7 @@ use Rattle.res_ledger.specs.declared.event.Event.{Event}
 use Rattle.res_ledger.proofs.Noted.{flat_found, flat_holds, only}
 use Rattle.res_ledger.proofs.Permuted.{among_range, range_among, range_distinct}
 use Rattle.row_seat.specs.declared.view.View.{View}
-use Rattle.run_rules.specs.Devices.{OpensWhatIsThere}
+use Rattle.run_rules.specs.Devices.{KeepsToWhatIsThere}
 use Rattle.run_rules.specs.Facts.{at}
 use Rattle.scope_tree.specs.Calls.{Seen}
 use Rattle.scope_tree.specs.Released.{said}
@@ -57,6 +57,7 @@ use Rattle.collected.proofs.DealtRows.{HaveHome, Leaves}
 use Rattle.collected.proofs.HeldRows.{IsHeld, IsListHeld, IsRow, in_order, list_held, opens_at, outer_held, row_below, table_held, without}
 use Rattle.collected.proofs.HeldRows.IsOuter.{table, list}
 use Rattle.collected.proofs.MovedRows.{AllMoved, AreInOrder, Homes, IsAhead, held_rows, rows_after, rows_in}
+use Rattle.collected.proofs.OwnRows.{WasNeverOpen}
 use Rattle.collected.proofs.PlanPlaces.{plan_rows, rows_grow}
 use Rattle.collected.proofs.Rested.{Rested, all_of, arranged, left_are, lent_of, named_is, named_none, own_of}
 use Rattle.collected.proofs.Rows.{bare_row}
@@ -292,7 +293,7 @@ module _ {S V F : Type 0} (view : S → View V) (told : V → DeviceTold) (P : V
   may_go = may_permuted now moved.left (all_left told b.shelf left) all_arranged moved.rows.may
 
   -- and once it went back all devices were made and came back
-  pub came : AreWrittenAlone rows → AllByRecursion OpensWhatIsThere (all_left told b.shelf left) → (last : DepotTold) → Returns now last (all_left told b.shelf left) → MadeComeBack d0 last rows W
+  pub came : AreWrittenAlone rows → AllByRecursion KeepsToWhatIsThere (all_left told b.shelf left) → (last : DepotTold) → Returns now last (all_left told b.shelf left) → MadeComeBack d0 last rows W
   came alone lawful last again =
       let m = moved.rows in
       let places = map (λ r. (W r).place) m.rows in
@@ -304,7 +305,11 @@ module _ {S V F : Type 0} (view : S → View V) (told : V → DeviceTold) (P : V
       (IsPermutation-append_right moved.gone moved.left again.back (IsPermutation-trans moved.left (all_left told b.shelf left) again.back all_arranged again.each)))
       m.devices
       (λ r p e n. m.others r p (everywhere r) e n)
-      (each_append OpensWhatIsThere moved.gone again.back (each_among OpensWhatIsThere moved.gone (λ d i. unopened_there d (among_each (λ (x : DeviceTold). x.opens ≡ 0) d moved.gone m.unopened i))) (each_permuted OpensWhatIsThere (all_left told b.shelf left) again.back again.each lawful))
+      (each_append KeepsToWhatIsThere moved.gone again.back (each_among KeepsToWhatIsThere moved.gone (λ d i. unopened_there d (among_each WasNeverOpen d moved.gone m.unopened i))) (each_permuted KeepsToWhatIsThere (all_left told b.shelf left) again.back again.each lawful))
     where
-      unopened_there : (d : DeviceTold) → d.opens ≡ 0 → OpensWhatIsThere d
-      unopened_there d e m q = e
+      unread : (content : Option (List ℕ)) (n : ℕ) → n ≡ 0 → IfSome content (λ bytes. n ≤ length bytes)
+      unread None n e = tt
+      unread (Some bytes) n e = omega (arith, e)
+
+      unopened_there : (d : DeviceTold) → WasNeverOpen d → KeepsToWhatIsThere d
+      unopened_there d u = ((λ m q. u.opens), unread d.content d.at u.at)

@@ -23,7 +23,8 @@ use Rattle.pipeline_desc.specs.declared.stream.StreamSpec.{StreamSpec}
 use Rattle.pipeline_desc.proofs.NodeLaws.{shape_described, shape_listed, told_of}
 use Rattle.plan_work.specs.Plans.{PlanRuns, specs_of, stream_of}
 use Rattle.plan_work.specs.Seen.{below, visible}
-use Rattle.pull_nodes.specs.Runs.{IsRun}
+use Rattle.pull_nodes.specs.Failures.{IsToldRun}
+use Rattle.pull_nodes.proofs.Failures.{tells_agrees}
 use Rattle.pull_nodes.specs.Shape.{places_of, scope_count}
 use Rattle.pull_nodes.specs.declared.node.Node.{Node}
 use Rattle.pull_turns.specs.Led.{end_of}
@@ -183,8 +184,8 @@ module _ {S V F : Type 0} (view : S → View V) (told : V → DeviceTold) (P : V
     run_so =
         let holds = stream_holds (Agrees j.home W') (first_row p k) spec n (λ r l u. sym (agrees r l u)) shaped in
         let tables = is_made.tables ∙ first_values W' (contents_of at_it.before) (contents_of at_it.rest) (contents_of h.moves) (visible p k) contents_split is_made.read in
-        let run = subst (λ v. IsRun v j.home n (elements_of j.loads) (end_of c.e.how)) (says w.start.tables ∙ tables) j.run in
-        (n, is_made.node, run_agrees j.home W' (below (visible p k) values) n holds.acquired holds.used holds.written (elements_of j.loads) (end_of c.e.how) run)
+        let run = subst (λ v. IsToldRun v j.home n (elements_of j.loads) (end_of c.e.how)) (says w.start.tables ∙ tables) j.run in
+        (n, is_made.node, (run_agrees j.home W' (below (visible p k) values) n holds.acquired holds.used holds.written (elements_of j.loads) (end_of c.e.how) run.0, tells_agrees j.home W' n holds.acquired holds.used (end_of c.e.how) run.1))
 
     pub come : tales.Came tale k c.e.how
     come = subst (λ q. tales.Came tale q c.e.how) is_made.stream c.back.came

@@ -30,6 +30,7 @@ use Rattle.res_ledger.specs.declared.event.StreamNo.TheVariants.{Outer}
 use Rattle.row_seat.specs.declared.view.View.{View}
 use Rattle.run_rules.specs.Homes.{is_tried}
 use Rattle.run_rules.specs.Listing.{IsListing, IsReadInTime}
+use Rattle.run_rules.specs.Opening.{IsListFault}
 use Rattle.scope_tree.specs.Calls.{Seen}
 use Rattle.joined_runs.proofs.OuterFaults.{if_there}
 use Rattle.collected.specs.Collected.{IsCollected}
@@ -70,6 +71,9 @@ done_fault c e = cc
 cut_fault : (c : Code) → Cut ≡ Fault c → ⊥
 cut_fault c e = cc
 
+same_fault : (f g : Code) → Fault f ≡ Fault g → f ≡ g
+same_fault f g e = cc
+
 module _ {S V F : Type 0} (view : S → View V) (told : V → DeviceTold) (P : Values → StateMeaning F) (p : PlanMeant) (limits : IsSoundPlan p) (d0 now : DepotTold) (outer : How) (b : Seen V) (left : List (Leftover V)) (receiver : ReceiverSeen) (tale : Tale) (h : IsCollected view told P p d0 now outer b left receiver tale)
     (L : List Event) (s : Settles p.max_open (stream_limit p) b h.progress L) where
   abbrev lines'' : List (List ℕ)
@@ -90,6 +94,7 @@ module _ {S V F : Type 0} (view : S → View V) (told : V → DeviceTold) (P : V
     pub in_time : IsReadInTime (lister_of p lines'' l) (W' row)
     pub seen : (g ≡ Cut) ⊎ (0 < (W' row).opens + faults_of (W' row))
     pub unfailed : g ≡ Cut → ((W' row).open_faults ≡ 0) × ((W' row).read_faults ≡ 0)
+    pub told_so : (f : Code) → g ≡ Fault f → IsListFault (W' row) f
     pub acquired : g ≡ Done → IsAcquired L row
     pub within : (W' row).at ≤ 2 ^ 40
     pub tried : is_tried (W' row) ≡ true → (r : Result V NotRead) × IsAmong r (opened_of h.moves)
@@ -102,6 +107,7 @@ module _ {S V F : Type 0} (view : S → View V) (told : V → DeviceTold) (P : V
     in_time = fresh_time p lines'' l (W' row) (ap (λ (d : DeviceTold). d.at) is) (ap (λ (d : DeviceTold). d.ended) is);
     seen = inl cut;
     unfailed = λ c. (ap (λ (d : DeviceTold). d.open_faults) is, ap (λ (d : DeviceTold). d.read_faults) is);
+    told_so = λ f e. absurd (cut_fault f (sym cut ∙ e));
     acquired = λ e. absurd (done_cut (sym e ∙ cut));
     within = let a = ap (λ (d : DeviceTold). d.at) is in omega (arith, a);
     tried = λ t. absurd (false≢true (sym (ap is_tried is) ∙ t));
@@ -117,6 +123,7 @@ module _ {S V F : Type 0} (view : S → View V) (told : V → DeviceTold) (P : V
         in_time = fresh_time p lines'' l (W' row) (ap (λ (d : DeviceTold). d.at) is) (ap (λ (d : DeviceTold). d.ended) is);
         seen = inr (omega (arith, faults));
         unfailed = λ c. absurd (cut_fault f (sym c ∙ end));
+        told_so = λ c e. inl (faults, same_fault c f (sym e ∙ end) ∙ open');
         acquired = λ e. absurd (done_fault f (sym e ∙ end));
         within = let a = ap (λ (d : DeviceTold). d.at) is in omega (arith, a);
         tried = λ t. (Err (why.Fault f), m);
@@ -131,16 +138,15 @@ module _ {S V F : Type 0} (view : S → View V) (told : V → DeviceTold) (P : V
       let o = q.is_held.open' in
       let opens : (W' row).opens ≡ 1 = ap (λ (x : DeviceTold). x.opens) c.is ∙ (closed_field (λ x. x.opens) c.exit c.ok (told d) refl refl ∙ o.opens) in
       let at_is : (W' row).at ≡ (told d).at = ap (λ (x : DeviceTold). x.at) c.is ∙ closed_field (λ x. x.at) c.exit c.ok (told d) refl refl in
+      let unopened_faults : (W' row).open_faults ≡ 0 = ap (λ (x : DeviceTold). x.open_faults) c.is ∙ (closed_field (λ x. x.open_faults) c.exit c.ok (told d) refl refl ∙ o.open_faults) in
+      let read_faults_are : (W' row).read_faults ≡ (told d).read_faults = ap (λ (x : DeviceTold). x.read_faults) c.is ∙ closed_field (λ x. x.read_faults) c.exit c.ok (told d) refl refl in
+      let unread_faults : faults ≡ 0 → (W' row).read_faults ≡ 0 = λ z. read_faults_are ∙ (ap (λ (x : DeviceTold). x.read_faults) was ∙ omega (arith, z, none_failed)) in
       record {
         listing = closed_listing (lister_of p lines'' l) (told d) (W' row) c g lists;
         in_time = closed_in_time (lister_of p lines'' l) (told d) (W' row) c in_time;
         seen = inr (omega (arith, opens));
-        unfailed = λ cut. (
-          ap (λ (x : DeviceTold). x.open_faults) c.is ∙ (closed_field (λ x. x.open_faults) c.exit c.ok (told d) refl refl ∙ o.open_faults),
-          ap (λ (x : DeviceTold). x.read_faults) c.is
-              ∙ (closed_field (λ x. x.read_faults) c.exit c.ok (told d) refl refl
-              ∙ (ap (λ (x : DeviceTold). x.read_faults) was ∙ ⊎_elim (λ z. omega (arith, z, none_failed)) (λ e. absurd (cut_fault code.Read (sym cut ∙ e))) calm)),
-        );
+        unfailed = λ cut. (unopened_faults, unread_faults (⊎_elim (λ z. z) (λ e. absurd (cut_fault code.Read (sym cut ∙ e))) calm));
+        told_so = λ f e. inr (unopened_faults, ⊎_elim (λ z. inr (unread_faults z)) (λ k. inl (same_fault f code.Read (sym e ∙ k))) calm);
         acquired = λ e. let k = q.is_held.noted in (Outer, k.0, acquired_so told p.max_open (stream_limit p) b h.progress L h.main s (guests view told P p limits d0 now outer b left receiver tale h L s) row k.0 k.1);
         within = omega (arith, at_is, within);
         tried = λ t. (Ok first, m);

@@ -36,7 +36,7 @@ use Rattle.run_rules.specs.Facts.{IsOver}
 use Rattle.run_rules.specs.Homes.{IsBack, is_tried}
 use Rattle.run_rules.specs.Giving.{GivesAll, GivesInOrder}
 use Rattle.run_rules.specs.Listing.{IsListing, IsReadInTime}
-use Rattle.run_rules.specs.Opening.{AreTablesRead, AreUntried, IsListLeft, IsListRead, IsListed, IsOuterEnd, IsTableRead, ListFails, ListIsDone, ListIsLeft, OuterHasRun}
+use Rattle.run_rules.specs.Opening.{AreTablesRead, AreUntried, IsListFault, IsListLeft, IsListRead, IsListed, IsOuterEnd, IsTableRead, ListFails, ListIsDone, ListIsLeft, OuterHasRun}
 use Rattle.run_rules.specs.Work as work
 use Rattle.run_rules.specs.Work.{Lister, Opener, Part, RunRecord, all_parts, list_parts, list_row, opener_places, rows_up_to}
 use Rattle.scope_tree.specs.Calls.{Seen}
@@ -185,6 +185,7 @@ module _ {S V F : Type 0} (view : S → View V) (told : V → DeviceTold) (P : V
           ap (option_map (lister_of p lines'')) is,
           at_row (λ d. IsBack c d) back,
           at_row (λ d. IsListing (lister_of p lines'' l) (ListRuns d) (Fault f)) (subst (λ g. IsListing (lister_of p lines'' l) (ListRuns (W' T)) g) end x.listing),
+          at_row (λ d. IsListFault d f) (x.told_so f end),
         )
       where
         not_both : Fault f ≡ Cut → ⊥

@@ -18,7 +18,7 @@ use Rattle.stream_parts.proofs.Making.{laid, laid_outside}
 use Rattle.joined_runs.specs.Devices.{AreReturned, IsReturned}
 use Rattle.joined_runs.proofs.MadeRows.{at_below, at_some}
 use Rattle.job_runs.proofs.DevicesBack.{at_among}
-use Rattle.collected.proofs.OwnRows.{bare_home, laid_at}
+use Rattle.collected.proofs.OwnRows.{WasNeverOpen, bare_home, laid_at}
 use Rattle.collected.proofs.Rows.{IsIn, RowsMade, bare_at, bare_row, either_home, home_in, home_out, map_same, rows_own}
 use Rattle.collected.proofs.TableHomes.{AreClosed, IsClosedOf, closed_field, closed_returned, read_open, tables_returned}
 use Rattle.collected.proofs.TriedRows.{AreTried, left_rows, tried_own}
@@ -52,7 +52,7 @@ module _ (all : List Place) (files : Option Files) (ended : ℕ → DeviceTold) 
     home = block_home row m back
 
     pub block_made : m + length back ≤ length paths → MakesDevices old new (take (m + length back) paths) back → AreReturned old.files (length old.made) home row (map to_read (take (m + length back) paths)) → ((r : ℕ) → row ≤ r → r < row + m → IsUnknown (ended r).number old.retired)
-        → AllByRecursion (λ d. d.place.mode ≡ mode.Read) back → AllByRecursion (λ d. d.opens ≡ 0) back → RowsMade all files home (IsIn row (row + length paths)) old new back (map ended (range_with_len row m))
+        → AllByRecursion (λ d. d.place.mode ≡ mode.Read) back → AllByRecursion WasNeverOpen back → RowsMade all files home (IsIn row (row + length paths)) old new back (map ended (range_with_len row m))
     block_made few made returned unknown reads unopened =
         let t : AreTried home row paths old new m back = record {
           few = few;
@@ -82,11 +82,11 @@ module _ {V : Type 0} (told : V → DeviceTold) (files : Option Files) where
   back_reads unmade = tt
   back_reads (cut d h) = tt
 
-  -- and wasn't opened
-  back_closed : {n : ℕ} {paths bss : List (List ℕ)} {ds : List V} {back : List DeviceTold} {o : Option NotRead} → ComeOut told files n paths ds back bss o → AllByRecursion (λ d. d.opens ≡ 0) back
+  -- and wasn't opened, nor read
+  back_closed : {n : ℕ} {paths bss : List (List ℕ)} {ds : List V} {back : List DeviceTold} {o : Option NotRead} → ComeOut told files n paths ds back bss o → AllByRecursion WasNeverOpen back
   back_closed none = tt
   back_closed (read d g fine out) = back_closed out
-  back_closed closed = (refl, tt)
+  back_closed closed = (record { opens = refl; at = refl }, tt)
   back_closed (unread d h) = tt
   back_closed (refused d bytes f g h) = tt
   back_closed unmade = tt
@@ -152,4 +152,4 @@ module _ {V : Type 0} (told : V → DeviceTold) (all : List Place) (files : Opti
       (subst (IsReturned old.files (length old.made) (to_read path)) (sym is) (record { number_is = refl; place_is = refl; content_is = refl; rest = record { shut = refl; stage = inl (refl, refl, refl, refl) } }), tt)
       (λ r low high. absurd (omega (arith, low, high)))
       (refl, tt)
-      (refl, tt)
+      (record { opens = refl; at = refl }, tt)

@@ -44,6 +44,11 @@ map_laid w r (d ∷ ds) h =
     ap (λ x. x ∷ map w (range_with_len (r + 1) (length ds))) (subst (λ k. w k ≡ d) z (h 0 d refl))
     ∙ ap (λ l. d ∷ l) (map_laid w (r + 1) ds (λ i e is. let y : r + suc i ≡ r + 1 + i = omega arith in subst (λ k. w k ≡ e) y (h (suc i) e is)))
 
+-- it was never opened, and nothing was read of it
+pub record WasNeverOpen (d : DeviceTold) : Type 0 where
+  pub opens : d.opens ≡ 0
+  pub at : d.at ≡ 0
+
 -- for the first of these places devices were made, which are those of the rows from `from` on; they are gone and were never opened, or are left and may go back
 pub record OwnRows (own : ℕ → DeviceTold) (from : ℕ) (places : List Place) (old new : DepotTold) (gone left : List DeviceTold) : Type 0 where
   pub first : List Place
@@ -54,7 +59,7 @@ pub record OwnRows (own : ℕ → DeviceTold) (from : ℕ) (places : List Place)
   pub each : IsPermutation (map own (range_with_len from (length first))) (gone ++ left)
   pub others : (i : ℕ) (p : Place) → at rest i ≡ Some p → IsUnmadeAt old.files p (own (from + length first + i))
   pub may : MayReturnAll new left
-  pub unopened : AllByRecursion (λ d. d.opens ≡ 0) gone
+  pub unopened : AllByRecursion WasNeverOpen gone
 
 -- what the rows from `from` on have where none was made for them
 abbrev pub bare_rows : Option Files → ℕ → List Place → ℕ → DeviceTold
@@ -177,7 +182,7 @@ module _ (from : ℕ) (places : List Place) (old : DepotTold) where
     each = subst (λ l. IsPermutation l (v.back.back ++ [])) (sym (all_laid v.mid v.first v.rest v.split v.ds v.makes)) (subst (λ l. IsPermutation v.ds l) (sym (append-nil v.back.back)) v.back.each);
     others = laid_others v.mid v.first v.rest v.split v.ds v.makes;
     may = record { each = tt; apart = distinct_nil };
-    unopened = each_permuted (λ (d : DeviceTold). d.opens ≡ 0) v.ds v.back.back v.back.each (each_among (λ (d : DeviceTold). d.opens ≡ 0) v.ds (λ d m. (among_each IsUnused d v.ds (made_unused old v.mid v.first v.ds v.makes) m).opens));
+    unopened = each_permuted WasNeverOpen v.ds v.back.back v.back.each (each_among WasNeverOpen v.ds (λ d m. let u = among_each IsUnused d v.ds (made_unused old v.mid v.first v.ds v.makes) m in record { opens = u.opens; at = u.at }));
   }
 
   -- they were made, run over, and left at rest

@@ -36,6 +36,7 @@ use Rattle.res_ledger.specs.Streams.{by_stream}
 use Rattle.res_ledger.specs.Whole.{is_cancel}
 use Rattle.res_ledger.proofs.Ledgers.{by_in, by_out}
 use Rattle.row_seat.specs.declared.view.View.{View}
+use Rattle.run_rules.specs.Ends.{HadTurn, WasIn}
 use Rattle.run_rules.specs.Facts.{at, has_left}
 use Rattle.run_rules.specs.Work.{RunRecord}
 use Rattle.run_rules.specs.declared.end.EndOf.{EndOf}
@@ -192,4 +193,6 @@ module _ {S V F : Type 0} (view : S → View V) (told : V → DeviceTold) (P : V
       begun = λ e k m by. begun_still tale more k (began e k (subst (λ E. IsAmong e E) r.events m) by);
       left = λ j e. left_come j (subst (λ E. has_left j E ≡ true) r.events e);
       leaves = λ j d. subst (λ E. has_left j E ≡ true) (sym r.events) (left_so j d);
+      turns = λ k t. ⊎_elim (λ m. inl (begun_still tale more k ((h.streams.begun k).1 m))) (λ w. inr (h.turns.pulled k w)) (s.turns k (subst (λ E. HadTurn E k) r.events t));
+      room = λ k i l w. h.turns.room k i l (s.stood k i l (subst (λ E. WasIn E k i) r.events w));
     }

@@ -24,7 +24,7 @@ use Rattle.joined_runs.specs.Devices.{AreMade, IsReturned, IsUnmadeAt}
 use Rattle.joined_runs.proofs.MadeRows.{at_below, at_some}
 use Rattle.joined_runs.proofs.RowPlaces.{at_left, at_right}
 use Rattle.job_runs.proofs.DevicesBack.{made_both}
-use Rattle.collected.proofs.OwnRows.{OwnRows, bare_home, bare_unmade}
+use Rattle.collected.proofs.OwnRows.{OwnRows, WasNeverOpen, bare_home, bare_unmade}
 use Rattle.job_runs.proofs.Returned.{are_made, places_are}
 
 -- the second part of the first list and the first one of the second change places
@@ -85,7 +85,7 @@ module _ (all : List Place) (files : Option Files) where
     pub each : IsPermutation (map own rows) (gone ++ left)
     pub others : (r : ℕ) (p : Place) → these r → at all r ≡ Some p → ¬ (IsAmong r rows) → IsUnmadeAt files p (own r)
     pub may : MayReturnAll new left
-    pub unopened : AllByRecursion (λ d. d.opens ≡ 0) gone
+    pub unopened : AllByRecursion WasNeverOpen gone
 
   -- rows agree there
   pub rows_same : (v w : ℕ → DeviceTold) (these : ℕ → Type 0) (old new : DepotTold) (gone left : List DeviceTold) → ((r : ℕ) → these r → v r ≡ w r) → RowsMade v these old new gone left → RowsMade w these old new gone left
@@ -173,7 +173,7 @@ module _ (all : List Place) (files : Option Files) where
           (IsPermutation-trans (map own a.rows ++ map own b.rows) ((xs ++ ys) ++ (zs ++ us)) ((xs ++ zs) ++ (ys ++ us)) (IsPermutation-append (map own a.rows) (xs ++ ys) (map own b.rows) (zs ++ us) a.each b.each) (swapped xs ys zs us));
       others = λ r p t e n. ⊎_elim (λ i. a.others r p i e (λ m. n (among_left b.rows m))) (λ i. b.others r p i e (λ m. n (among_right r a.rows b.rows m))) t;
       may = may_both new ys us (may_after now new (map (λ r. (own r).place) b.rows) zs ys b.exchanges a.may (λ x y i j. numbers_apart x y (among_left us i) j)) b.may (λ x y i j e. numbers_apart y x (among_right y zs us j) i (sym e));
-      unopened = each_append (λ (d : DeviceTold). d.opens ≡ 0) xs zs a.unopened b.unopened;
+      unopened = each_append WasNeverOpen xs zs a.unopened b.unopened;
     }
 
   -- first some rows from a up to b, and then others

@@ -18,7 +18,7 @@ use Rattle.res_ledger.proofs.Mapped.{among_map}
 use Rattle.res_ledger.proofs.Permuted.{among_range, range_distinct}
 use Rattle.joined_runs.specs.Devices.{AreReturned, IsReturned, IsUnmadeAt}
 use Rattle.joined_runs.proofs.MadeRows.{at_below, distinct_map, map_twice}
-use Rattle.collected.proofs.OwnRows.{OwnRows, bare_home, bare_unmade, map_laid}
+use Rattle.collected.proofs.OwnRows.{OwnRows, WasNeverOpen, bare_home, bare_unmade, map_laid}
 
 pub returned_at : (files : Option Files) (w : ℕ → DeviceTold) (n r : ℕ) (ps : List Place) → AreReturned files n w r ps → (i : ℕ) → i < length ps → (p : Place) × IsReturned files (n + i) p (w (r + i))
 returned_at files w n r [] a i l = absurd (omega (arith, l))
@@ -62,7 +62,7 @@ module _ (own : ℕ → DeviceTold) (from : ℕ) (paths : List (List ℕ)) (old 
     pub others : (i : ℕ) (d : DeviceTold) → at back i ≡ Some d → own (from + m + i) ≡ d
     pub unknown : (r : ℕ) → from ≤ r → r < from + m → IsUnknown (own r).number old.retired
     pub reads : AllByRecursion (λ d. d.place.mode ≡ mode.Read) back
-    pub closed : AllByRecursion (λ d. d.opens ≡ 0) back
+    pub closed : AllByRecursion WasNeverOpen back
     pub bare : (i : ℕ) (path : List ℕ) → at paths i ≡ Some path → m + length back ≤ i → own (from + i) ≡ bare_home old.files (to_read path)
 
   module _ (t : AreTried) where

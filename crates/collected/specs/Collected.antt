@@ -41,6 +41,7 @@ use Rattle.dealt_streams.specs.Kept.Gone.{Came}
 use Rattle.dealt_streams.specs.Moves.{AreMoved, Move, dealt_of}
 use Rattle.dealt_streams.specs.Parts.{Part, fate_of}
 use Rattle.dealt_streams.specs.Standing.{StandsOuter}
+use Rattle.dealt_streams.specs.Turns.{KeepsTurns}
 use Rattle.dealt_streams.specs.Works.{plan_bounds}
 use Rattle.dealt_streams.specs.declared.leftover.Leftover.{Leftover}
 
@@ -79,6 +80,7 @@ module _ {S V F : Type 0} (view : S → View V) (told : V → DeviceTold) (P : V
     pub fates_are : tale.fates ≡ map fate_of parts
     pub outer_is : tale.outer ≡ Some outer
     pub settled : IsSettled tale
+    pub turns : KeepsTurns progress tale
 
 -- all devices that are to go back once the ledger is there: those on the main tree's shelf, and those that are left of the streams
 abbrev pub all_left : {V : Type 0} → (V → DeviceTold) → List (Spent V) → List (Leftover V) → List DeviceTold

@@ -12,6 +12,7 @@ use Rattle.device_port.specs.Depot.{DepotTold}
 use Rattle.device_port.specs.Sink.{SinkTold}
 use Rattle.join_report.specs.Stopping.{with_seat_out}
 use Rattle.join_report.proofs.Learning.{unknown_is}
+use Rattle.join_tale.specs.Keeping.{HasRoom}
 use Rattle.join_tale.specs.Steps as Tales
 use Rattle.join_tale.specs.Steps.{fated}
 use Rattle.join_tale.specs.Tales as tales
@@ -59,11 +60,13 @@ use Rattle.collector.specs.Members.{Members}
 use Rattle.collector.specs.Starting.{MakesJob, MayBegin, origin_of}
 use Rattle.collector.specs.Streams.{IsJobOf, KeepsStreams, guest_of}
 use Rattle.collector.specs.Trees.{KeepsTree, waiting_of}
-use Rattle.collector.proofs.Lists.{at_last, map_length, map_snoc, snoc_length}
+use Rattle.collector.proofs.Lists.{at_last, map_snoc, snoc_length}
 use Rattle.collector.proofs.Standing.{stands_dealt, stands_on}
 use Rattle.collector.proofs.Steps.{below, counted, dealt_amid, fits_other, given_line, its_spec, lines_on, more_parts, moved_on, seated_out, split_at, split_keeps}
-use Rattle.collector.proofs.Streams.{all_came, jobs_number, streams_begun}
+use Rattle.collector.proofs.Streams.{all_came, streams_begun}
 use Rattle.collector.proofs.Telling.{outer_done, tale_begins}
+use Rattle.collector.proofs.Turned.{out_open}
+use Rattle.collector.proofs.Turns.{turns_split}
 use Rattle.collector.proofs.Tree.{amid_kept, next_is, next_leased, split_empty, split_so}
 use Rattle.collector.proofs.Visible.{moved_whole, values_first, visible_read}
 
@@ -105,7 +108,7 @@ module _ {S V F D T : Type 0} {M : Members S V F D T} {p : PlanMeant} {d0 : Depo
           absurd (not_stopped w k.tale.memory u.0 done u.2)
 
   -- its seat was split off, and its job made
-  module _ (B : Tree S V D) (q : VecDeque (Job S V F V D T) Global) (e g : D) (before' : MayBegin c) (few_open : length m.jobs < p.max_open) (now : DepotTold) (parts : StreamParts V) (made : MakesParts M.told p c.next y.path m.depot now parts) (t : Values) (tables : t ≡ values_of (take (visible p c.next) c.outer_stream.outer.tables)) (v : View V) (chunk : ℕ) (size : chunk ≡ p.chunk) (j : Job S V F V D T)
+  module _ (B : Tree S V D) (q : VecDeque (Job S V F V D T) Global) (e g : D) (before' : MayBegin c) (few_open : length m.jobs < p.max_open) (has : HasRoom (plan_bounds p) k.tale) (now : DepotTold) (parts : StreamParts V) (made : MakesParts M.told p c.next y.path m.depot now parts) (t : Values) (tables : t ≡ values_of (take (visible p c.next) c.outer_stream.outer.tables)) (v : View V) (chunk : ℕ) (size : chunk ≡ p.chunk) (j : Job S V F V D T)
       (seat : v.floor ≡ next_stamp a.seat.events) (job : MakesJob M (record c { tree = B }) v T' parts.node parts.devices t chunk g j) where
     abbrev w : Origin V F
     w = origin_of c T' parts.node job.site parts.devices t chunk
@@ -171,14 +174,12 @@ module _ {S V F D T : Type 0} {M : Members S V F D T} {p : PlanMeant} {d0 : Depo
       run = free;
       own = let n = numbered in let own' : 1 + c.next ≡ suc (length k.tale.fates) = omega (arith, n) in subst (λ i. ¬ (IsKnown k.tale i)) own' (unknown_is k.tale c.stops (1 + c.next) k.telling.known before'.1);
       alone = λ turn i h. all_came M c.hub c.stops.board m.desk a m.jobs c.left.items m.receiver k.parts k.progress k.tale k.streams (let z = eqb-true p.max_open 1 turn in omega (arith, z, few_open)) i h;
-      few = (
-        map (λ (z : Origin V F). z.stream) k.streams.origins,
-        (let z = map_length (λ (z : Origin V F). z.stream) k.streams.origins in
-            let n = jobs_number M c.hub c.stops.board m.desk a m.jobs c.left.items m.receiver k.parts k.progress k.tale k.streams in
-            omega (arith, z, n, few_open)),
-        λ i h. (k.streams.opens i).1 h,
-      );
+      room = has;
     }
+
+    -- those whose seats are out are told to be open in its turn
+    told_open : (i : ℕ) → IsAmong i a.seat.out → IsAmong i (k.tale.room l)
+    told_open i o = let n = number in let same : l ≡ length k.tale.fates = stream_is ∙ n in subst (λ x. IsAmong i (k.tale.room x)) (sym same) (has.1 i (out_open k i o))
 
     pub begin_step : (n : ℕ) → events_of p c.next ≡ Some n → IsMain (FinishesDevice M.told) p.max_open (stream_limit p) b (splitting k.progress a.seat l (map waiting_of ws)) → b ≡ split_at a l (rows_of p (length k.parts)).from (rows_of p (length k.parts)).to n → owed b.seat ≡ owed a.seat
         → GivesMore [] a b → KeepsScopes a b → TakesRoom 0 0 a b → AreOut b (k.progress.splits ++ split_of a.seat l ∷ []) (map guest_of k.streams.origins ++ tree_guest a.seat l T' ∷ []) → Fits M.view M.fits B e → OthersFit M.view M.fits Outer m.desk e → OthersFit M.view M.fits (Inner c.next) e g
@@ -221,6 +222,7 @@ module _ {S V F D T : Type 0} {M : Members S V F D T} {p : PlanMeant} {d0 : Depo
               (λ o i z f h. (others_leave M.view M.values M.told M.stands M.fits).inner o c.next (other_name o i) z e g f ((others_leave M.view M.values M.told M.stands M.fits).outer o z m.desk e f h others) inner) job_of
               (subst (λ z. AreOut b (k.progress.splits ++ split_of a.seat l ∷ []) (map guest_of k.streams.origins ++ z ∷ [])) (sym guest_is) out)
               keeps.given (map waiting_of ws) (suc k.progress.next));
+          turns = turns_split k.progress k.tale k.turns (fated k.tale tales.Fate.Begun) refl refl a.seat l (map waiting_of ws) told_open;
           telling = subst (λ n. KeepsTale p c.outer c.report (with_seat_out c.stops) n s0 m.sink (map fate_of (k.parts ++ x ∷ [])) (fated k.tale tales.Fate.Begun)) (let o : length m.jobs + 1 ≡ length (m.jobs ++ j ∷ []) = omega (arith, jobs) in o)
               (subst (λ fs. KeepsTale p c.outer c.report (with_seat_out c.stops) (length m.jobs + 1) s0 m.sink fs (fated k.tale tales.Fate.Begun)) (sym (map_snoc fate_of k.parts x))
               (tale_begins p c.outer c.report c.stops (length m.jobs) s0 m.sink (map fate_of k.parts) k.tale k.telling (seated_out c.stops k.telling.seated) may));

@@ -1,5 +1,5 @@
 -- What came of a pull of the outer stream.
-use Rattle.std.proofs.Common.{◌≡◌, ℕ, suc, ◌+◌, ◌-◌, ◌<◌, ◌≤◌, ◌||◌, List, [], ◌∷◌, ◌++◌, append-nil, filter, length, map, Option, Some, None, inl, refl, sym, ap, ◌∙◌, subst, arith}
+use Rattle.std.proofs.Common.{◌≡◌, ℕ, ◌+◌, ◌-◌, ◌<◌, ◌≤◌, ◌||◌, List, [], ◌∷◌, ◌++◌, append-nil, filter, length, map, Option, Some, None, inl, refl, sym, ap, ◌∙◌, subst, arith}
 use Rattle.std.specs.List.{AllByRecursion}
 use Rattle.std.specs.Prelude.{IfSome, IsSome, Result, Ok, Err, option_to_list}
 use Rattle.chunk_core.specs.Lists.{IsAmong}
@@ -120,7 +120,6 @@ module _ {S V F D T' : Type 0} {M : Members S V F D T'} {p : PlanMeant} {d0 : De
           moved = moved_snoc M.told p d0 new new moves (Gave_line line) moved refl;
           dealt = dealt_snoc moves (Gave_line line) ∙ (append-nil (dealt_of moves) ∙ dealt);
           tables = tables;
-          leased = suc k.progress.leased;
           waits = k.progress.waits ++ (k.progress.leased, rows_covered lease) ∷ [];
           tree = tree_ends M.told p (tree_leases M.told p tree d w (length parts) gl.main gl.less gl.lessee_is gl.keeps gl.gives gl.paid table) c.outer y none (omega (arith, one)) (omega (arith, free, reader));
           lines = subst (λ ls. HaveLines p ls (m.waiting ++ w ∷ [])) (sym lines')
@@ -196,7 +195,6 @@ module _ {S V F D T' : Type 0} {M : Members S V F D T'} {p : PlanMeant} {d0 : De
           moved = moved1;
           dealt = dealt1;
           tables = k.progress.tables ++ g.noted;
-          leased = suc k.progress.leased;
           waits = k.progress.waits ++ (k.progress.leased, rows_covered l) ∷ [];
           tree = tree_ends M.told p (tree_leases M.told p tree1 b w between.scope le.main (omega (arith, less, same)) its le.keeps (subst (λ i. GivesMore (Lease_note i between.scope ∷ []) mid b) same le.gives) le.paid table) c.outer y none (omega (arith, one, same)) (omega (arith, left', lists));
           lines = each_snoc (λ (v : Waiting). v.path ≡ line_at p (lines_of moves1) (lessee v.lease)) m.waiting w (subst (λ ls. HaveLines p ls m.waiting) (sym (lines_more k.moves on.0.more)) k.lines) (sym (own_line p (lines_of moves1) (lessee l) (omega (arith, its, less, same))));

@@ -52,6 +52,7 @@ use Rattle.dealt_streams.specs.declared.leftover.Leftover.{Leftover}
 use Rattle.collector.specs.Collecting.{IsCollecting, Moment, having_job}
 use Rattle.collector.specs.declared.waiting.Waiting.{Waiting}
 use Rattle.collector.specs.Members.{Members}
+use Rattle.collector.proofs.Turns.{turns_joined}
 use Rattle.collector.specs.Streams.{AreJobs, IsJobOf, KeepsStreams, guest_of}
 use Rattle.collector.specs.Trees.{KeepsTree}
 use Rattle.collector.specs.Receiving.{HasGot, StopsThose}
@@ -206,6 +207,8 @@ module _ {S V F D T : Type 0} {M : Members S V F D T} {p : PlanMeant} {d0 : Depo
           ending_learned = record {
             fates = ending.fates;
             outer = ending.outer;
+            pulled = ending.pulled;
+            room = ending.room;
             cut = ending.cut;
             frames = ending.frames;
             memory = ending.memory;
@@ -256,6 +259,7 @@ module _ {S V F D T : Type 0} {M : Members S V F D T} {p : PlanMeant} {d0 : Depo
             begun_is = i.begun_is;
             stands = stands_on M.told p i.stands b tale.memory ending.more (keeps M.told p a b (M.view e.seat) B_is) gives;
             streams = subst (λ x. KeepsStreams M c.hub x d2 b m.jobs L.items R i.parts (joining i.progress ends.left.leaves.last) tale) (sym those.learns.board) streams_now;
+            turns = turns_joined i.progress i.tale ends.left.leaves.last tale ending.pulled ending.room i.turns;
             telling = record {
               is_tale = is_tale p i.tale k h i.telling.is_tale open_end e.board.view set_for own_set (with_seat_in c.stops e.board) stops those;
               fates_are = ending.fates ∙ i.telling.fates_are;

@@ -32,6 +32,8 @@ use Rattle.collector.proofs.Lists.{below_is}
 pub record EndComes (t u : Tale) (k : ℕ) (h : How) : Type 0 where
   pub fates : u.fates ≡ t.fates
   pub outer : u.outer ≡ t.outer
+  pub pulled : u.pulled ≡ t.pulled
+  pub room : u.room ≡ t.room
   pub cut : u.cut ≡ t.cut
   pub frames : frames_of u.front ≡ frames_of t.front
   pub memory : h ≡ how.Memory → u.memory ≡ true
@@ -45,6 +47,8 @@ comes_front : (t : Tale) (k : ℕ) (h : How) → t.late ≡ [] → t.memory ≡ 
 comes_front t k h none calm = record {
   fates = refl;
   outer = refl;
+  pulled = refl;
+  room = refl;
   cut = refl;
   frames = frames_end t.front k h;
   memory = λ e. ap is_memory e;
@@ -67,6 +71,8 @@ comes_late : (t : Tale) (k : ℕ) (h : How) → EndComes t (ended_late t k h) k 
 comes_late t k h = record {
   fates = refl;
   outer = refl;
+  pulled = refl;
+  room = refl;
   cut = refl;
   frames = refl;
   memory = λ e. or_right t.memory (is_memory h) (ap is_memory e);

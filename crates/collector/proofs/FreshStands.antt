@@ -37,6 +37,7 @@ use Rattle.collector.specs.declared.collector.Collector.{Collector}
 use Rattle.collector.specs.declared.waiting.Waiting.{Waiting}
 use Rattle.collector.specs.Collecting.{IsCollecting, KeepsTale, between}
 use Rattle.collector.specs.Members.{Members}
+use Rattle.collector.proofs.Turns.{turns_none}
 use Rattle.collector.specs.Starting.{ClosesOuter, IsFresh, room_of, unpulled}
 use Rattle.collector.specs.Streams.{KeepsStreams}
 use Rattle.collector.specs.Trees.{KeepsTree}
@@ -109,6 +110,7 @@ module _ {S V F D T : Type 0} (M : Members S V F D T) (p : PlanMeant) where
           streams = subst (λ (r : ReceiverSeen). KeepsStreams M c.hub stops.board e (seen M.view tree) [] c.left.items r [] q tale) (sym fr.room.receiver)
               (subst (λ (xs : List (Leftover V)). KeepsStreams M c.hub stops.board e (seen M.view tree) [] xs (record { hub = c.hub.id; got = []; made = []; closed = [] }) [] q tale) (sym fr.room.left)
               (streams_none c.hub stops.board e (seen M.view tree) [] root outer set found ceased memory out));
+          turns = turns_none root outer set found ceased memory;
           telling = telling;
           room = record { waiting = fr.room.waiting_room; jobs_room = fr.room.jobs_room; queue = fr.room.queue; few = omega arith; left = let n = ap (λ (xs : List (Leftover V)). length xs) fr.room.left in let m = fr.room.left_room in omega (arith, n, m) };
         } in

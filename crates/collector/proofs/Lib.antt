@@ -13,7 +13,9 @@ pub mod ListGiven
 pub mod Pulled
 pub mod Streams
 pub mod Telling
+pub mod Turns
 pub mod Steps
+pub mod Turned
 pub mod Begun
 pub mod Pulling
 pub mod ListSteps

@@ -36,6 +36,7 @@ use Rattle.dealt_streams.specs.Kept.{AreKept, Gone, IsKept, told_message}
 use Rattle.dealt_streams.specs.Works.{plan_bounds}
 use Rattle.collector.specs.Collecting.{IsCollecting, Moment}
 use Rattle.collector.specs.Members.{Members}
+use Rattle.collector.proofs.Turns.{turns_same}
 use Rattle.collector.specs.Streams.{KeepsStreams}
 use Rattle.dealt_streams.specs.Kept.Gone.{Came, Missed}
 use Rattle.dealt_streams.specs.Parts.{Part}
@@ -142,7 +143,8 @@ module _ {S V F D T : Type 0} {M : Members S V F D T} {p : PlanMeant} {d0 : Depo
         seats = out ∙ i.telling.seats;
         contexts = ap (λ (b : BoardSeen). b.contexts) board ∙ i.telling.contexts;
         wrote = g.wrote;
-      }) refl refl)
+      })
+      (turns_same i.progress i.tale v g.same.pulled g.same.room i.turns) refl refl)
 
   pub full_elements : 0 < length (elements l)
   full_elements = (each_right IsFullMessage o.receiver.got (m ∷ h.rest) h.sees.1).0

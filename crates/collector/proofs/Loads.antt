@@ -24,6 +24,8 @@ use Rattle.collector.specs.Collecting.{WritesTale}
 pub record SameEnds (t v : Tale) : Type 0 where
   pub fates : v.fates ≡ t.fates
   pub outer : v.outer ≡ t.outer
+  pub pulled : v.pulled ≡ t.pulled
+  pub room : v.room ≡ t.room
   pub memory : t.memory ≡ true → v.memory ≡ true
   pub came : (j : ℕ) (h : How) → Came t j h → Came v j h
   pub back : (j : ℕ) (h : How) → Came v j h → Came t j h
@@ -127,7 +129,7 @@ module _ (bounds : Bounds) (t : Tale) (k : ℕ) (load : Load) (s0 old new : Sink
   pub goes_on : (u : Tale) → Writes bounds.most t k load old new None u → LoadGoes bounds t u k x s0 new
   goes_on u (late ceased same) = record {
     is_tale = receiving.drops bounds t k x i o full ceased;
-    same = record { fates = refl; outer = refl; memory = λ m. m; came = came_late t u k x refl refl; back = back_late t u k x refl refl };
+    same = record { fates = refl; outer = refl; pulled = refl; room = refl; memory = λ m. m; came = came_late t u k x refl refl; back = back_late t u k x refl refl };
     got = got_late t u k x refl refl;
     wrote = subst (λ s. WritesTale s0 s u) (sym same) (wrote_same s0 old t u refl refl w);
   }
@@ -135,7 +137,7 @@ module _ (bounds : Bounds) (t : Tale) (k : ℕ) (load : Load) (s0 old new : Sink
       let quiet = i.frames.quiet ceased in
       record {
         is_tale = receiving.writes bounds t k x i o full ceased most;
-        same = record { fates = refl; outer = refl; memory = λ m. m; came = came_front t u k x refl refl; back = back_front t u k x refl refl };
+        same = record { fates = refl; outer = refl; pulled = refl; room = refl; memory = λ m. m; came = came_front t u k x refl refl; back = back_front t u k x refl refl };
         got = got_front t u k x quiet.0 refl refl;
         wrote = wrote_more s0 old new t u k x quiet.1 quiet.1 refl is w;
       }
@@ -147,7 +149,7 @@ module _ (bounds : Bounds) (t : Tale) (k : ℕ) (load : Load) (s0 old new : Sink
       let v : Tale = learned u vs cs in
       record {
         is_tale = receiving.meets bounds t k x i o full vs cs marks ceased most;
-        same = record { fates = refl; outer = refl; memory = λ m. m; came = came_front t v k x refl refl; back = back_front t v k x refl refl };
+        same = record { fates = refl; outer = refl; pulled = refl; room = refl; memory = λ m. m; came = came_front t v k x refl refl; back = back_front t v k x refl refl };
         got = got_front t v k x quiet.0 refl refl;
         wrote = wrote_more s0 old new t v k x quiet.1 quiet.1 refl is w;
       }
@@ -157,7 +159,7 @@ module _ (bounds : Bounds) (t : Tale) (k : ℕ) (load : Load) (s0 old new : Sink
       let behind : v.late ≡ t.late ++ load_of k x ∷ [] = ap (λ ms. ms ++ load_of k x ∷ []) (sym quiet.0) in
       record {
         is_tale = receiving.fails bounds t k x i o full vs cs marks ceased;
-        same = record { fates = refl; outer = refl; memory = λ m. m; came = came_late t v k x refl behind; back = back_late t v k x refl behind };
+        same = record { fates = refl; outer = refl; pulled = refl; room = refl; memory = λ m. m; came = came_late t v k x refl behind; back = back_late t v k x refl behind };
         got = got_late t v k x refl behind;
         wrote = wrote_cut s0 old new t v k x quiet.1 refl refl breaks w;
       }
@@ -167,7 +169,7 @@ module _ (bounds : Bounds) (t : Tale) (k : ℕ) (load : Load) (s0 old new : Sink
       let behind : v.late ≡ t.late ++ load_of k x ∷ [] = ap (λ ms. ms ++ load_of k x ∷ []) (sym quiet.0) in
       record {
         is_tale = receiving.lacks bounds t k x i o full vs cs marks ceased;
-        same = record { fates = refl; outer = refl; memory = λ m. refl; came = came_late t v k x refl behind; back = back_late t v k x refl behind };
+        same = record { fates = refl; outer = refl; pulled = refl; room = refl; memory = λ m. refl; came = came_late t v k x refl behind; back = back_late t v k x refl behind };
         got = got_late t v k x refl behind;
         wrote = subst (λ s. WritesTale s0 s v) (sym same) (wrote_same s0 old t v refl refl w);
       }

@@ -21,7 +21,7 @@ module _ (old new : Stops) (context : ℕ) (b : Bool) (looks : Looks old new con
   unfound e = subst (λ x. Looks old new context x) e looks
 
 -- what was unknown and not found is unknown
-unknown_still : (old new : Stops) (context : ℕ) → Learns old new [] [] → IsUnknown (view_of old) context → IsUnknown (view_of new) context
+pub unknown_still : (old new : Stops) (context : ℕ) → Learns old new [] [] → IsUnknown (view_of old) context → IsUnknown (view_of new) context
 unknown_still old new context l n w k = n w (⊎_elim
     (λ m. inl (subst (λ xs. IsAmong (interruption context w) xs) (l.set ∙ append-nil (view_of old).set) m))
     (λ m. inr (subst (λ xs. IsAmong (interruption context w) xs) (l.seen ∙ append-nil (view_of old).seen) m))

@@ -1,5 +1,5 @@
 -- What a pull of the outer stream keeps.
-use Rattle.std.proofs.Common.{◌≡◌, ℕ, ◌+◌, ◌≤◌, ◌||◌, List, [], ◌∷◌, ◌++◌, map, length, Some, None, refl, sym, ◌∙◌, subst, arith}
+use Rattle.std.proofs.Common.{◌≡◌, ℕ, suc, ◌+◌, ◌≤◌, ◌||◌, List, [], ◌∷◌, ◌++◌, map, length, Some, None, refl, sym, ◌∙◌, subst, arith}
 use Rattle.std.specs.Global.{Global}
 use Rattle.std.specs.VecDeque.{deque_capacity}
 use Rattle.std.specs.declared.collections.vec_deque.VecDeque.{VecDeque}
@@ -17,7 +17,7 @@ use Rattle.join_report.specs.declared.stops.Stops.{Stops}
 use Rattle.join_tale.specs.Steps.{TellsOuter, learned, outer_ended}
 use Rattle.join_tree.specs.Given.{given}
 use Rattle.join_tree.specs.Mains.{IsMain}
-use Rattle.join_tree.specs.Progress.{closing_root}
+use Rattle.join_tree.specs.Progress.{closing_root, standing}
 use Rattle.list_rows.specs.Reading.{KeepsRowsBut}
 use Rattle.outer_source.specs.Standing.{IsAmidAll, IsSourceAt}
 use Rattle.outer_source.specs.declared.next.Next.{Next}
@@ -47,9 +47,10 @@ use Rattle.collector.specs.Trees.{HaveLines, KeepsTree}
 use Rattle.outer_stream.proofs.Keeping.{others_kept, others_then}
 use Rattle.collector.proofs.Standing.{stands_on}
 use Rattle.collector.proofs.Steps.{may_lease}
-use Rattle.collector.proofs.Streams.{streams_handed}
+use Rattle.collector.proofs.Streams.{moved, streams_handed, streams_retold}
 use Rattle.collector.proofs.Telling.{tale_closes}
-use Rattle.collector.proofs.Tree.{source_at}
+use Rattle.collector.proofs.Tree.{root_open, source_at}
+use Rattle.collector.proofs.Turns.{IsReady, turns_closed, turns_leased}
 
 -- A pull of a collector's outer stream, whose root is open.
 module _ {S V F D T : Type 0} {M : Members S V F D T} {p : PlanMeant} {d0 : DepotTold} {s0 : SinkTold} {m : Moment S V F D T} (k : IsCollecting M p d0 s0 m) where
@@ -69,9 +70,8 @@ module _ {S V F D T : Type 0} {M : Members S V F D T} {p : PlanMeant} {d0 : Depo
     pub moved : AreMoved M.told p [] d0 moves new
     pub dealt : dealt_of moves ≡ k.parts
     pub tables : List What
-    pub leased : ℕ
     pub waits : List (ℕ × List ℕ)
-    pub tree : KeepsTree p M.told (1 + length m.waiting) b c.outer y (m.waiting ++ w ∷ []) (length k.parts) (record k.progress { waits = waits; leased = leased; tables = tables })
+    pub tree : KeepsTree p M.told (1 + length m.waiting) b c.outer y (m.waiting ++ w ∷ []) (length k.parts) (record k.progress { waits = waits; leased = suc k.progress.leased; tables = tables; ahead = (k.progress.leased, standing k.progress) ∷ k.progress.ahead })
     pub lines : HaveLines p (lines_of moves) (m.waiting ++ w ∷ [])
     pub amid : IsAmidAll M.told p (plan_parts p) (opened_of moves) (lines_of moves) y b
     pub stands : StandsOuter p M.told moves y.outer.part y.outer.leased y.outer.tables None k.tale.memory b
@@ -95,7 +95,7 @@ module _ {S V F D T : Type 0} {M : Members S V F D T} {p : PlanMeant} {d0 : Depo
   Drawn y new b (next.Listed l path) = HasLeased y new b (record { lease = l; path = Some path })
   Drawn y new b (next.Over h) = HasOver y new b h
 
-  module _ (none : c.outer ≡ None) {y : OuterSource} {new : DepotTold} {b : Seen V} (keeps : KeepsOthers (outer_rows p) a b) (rows : KeepsRowsBut (length p.tables) a.seat b.seat) where
+  module _ (ready : IsReady k.progress k.tale) (none : c.outer ≡ None) {y : OuterSource} {new : DepotTold} {b : Seen V} (keeps : KeepsOthers (outer_rows p) a b) (rows : KeepsRowsBut (length p.tables) a.seat b.seat) where
     -- the stream that it leased for waits
     pub leased_step : {w : Waiting} → HasLeased y new b w → (t : Tree S V D) (q : VecDeque Waiting Global) (e : D) → seen M.view t ≡ b → Fits M.view M.fits t e → OthersFit M.view M.fits Outer m.desk e → deque_capacity q ≡ deque_capacity c.waiting
         → IsCollecting M p d0 s0 (record m { waits = 1 + length m.waiting; waiting = m.waiting ++ w ∷ []; depot = new; desk = e; collector = record c { tree = t; outer_stream = y; waiting = q } })
@@ -107,10 +107,10 @@ module _ {S V F D T : Type 0} {M : Members S V F D T} {p : PlanMeant} {d0 : Depo
       moves = h.moves;
       parts = k.parts;
       parts_are = h.dealt;
-      progress = record k.progress { waits = h.waits; leased = h.leased; tables = h.tables };
+      progress = record k.progress { waits = h.waits; leased = suc k.progress.leased; tables = h.tables; ahead = (k.progress.leased, standing k.progress) ∷ k.progress.ahead };
       tale = k.tale;
       moved = h.moved;
-      tree = subst (λ z. KeepsTree p M.told (1 + length m.waiting) z c.outer y (m.waiting ++ w ∷ []) (length k.parts) (record k.progress { waits = h.waits; leased = h.leased; tables = h.tables })) (sym same) h.tree;
+      tree = subst (λ z. KeepsTree p M.told (1 + length m.waiting) z c.outer y (m.waiting ++ w ∷ []) (length k.parts) (record k.progress { waits = h.waits; leased = suc k.progress.leased; tables = h.tables; ahead = (k.progress.leased, standing k.progress) ∷ k.progress.ahead })) (sym same) h.tree;
       lines = h.lines;
       next = k.next;
       amid = λ i. subst (λ z. IsAmidAll M.told p (plan_parts p) (opened_of h.moves) (lines_of h.moves) y z) (sym same) h.amid;
@@ -118,9 +118,12 @@ module _ {S V F D T : Type 0} {M : Members S V F D T} {p : PlanMeant} {d0 : Depo
       begun_is = λ z. refl;
       stands = subst (λ z. StandsOuter p M.told h.moves y.outer.part y.outer.leased y.outer.tables c.outer k.tale.memory z) (sym same)
           (subst (λ o. StandsOuter p M.told h.moves y.outer.part y.outer.leased y.outer.tables o k.tale.memory b) (sym none) h.stands);
-      streams = streams_handed M c.hub c.stops.board m.desk a m.jobs c.left.items m.receiver k.parts k.progress k.tale k.streams c.stops.board e (seen M.view t) refl others (subst (λ z. KeepsOthers (outer_rows p) a z) (sym same) keeps)
+      streams = streams_retold M c.hub c.stops.board e (seen M.view t) m.jobs c.left.items m.receiver k.parts (moved k.progress h.waits k.progress.next (suc k.progress.leased) h.tables k.progress.root) k.tale
+          (streams_handed M c.hub c.stops.board m.desk a m.jobs c.left.items m.receiver k.parts k.progress k.tale k.streams c.stops.board e (seen M.view t) refl others (subst (λ z. KeepsOthers (outer_rows p) a z) (sym same) keeps)
           (subst (λ (z : Seen V). (i : ℕ × V) → IsAmong i a.seat.given → IsAmong i z.seat.given) (sym same) rows.given)
-          k.tale.outer k.tale.set k.tale.seen k.tale.ceased k.tale.memory h.waits k.progress.next h.leased h.tables k.progress.root;
+          k.tale.outer k.tale.set k.tale.seen k.tale.ceased k.tale.memory h.waits k.progress.next (suc k.progress.leased) h.tables k.progress.root)
+          k.progress.out ((k.progress.leased, standing k.progress) ∷ k.progress.ahead) k.progress.last k.tale.pulled k.tale.room;
+      turns = turns_leased k.progress k.tale k.turns ready (root_open M.told p k.tree none) h.waits h.tables;
       telling = k.telling;
       room = record { waiting = capacity ∙ k.room.waiting; jobs_room = k.room.jobs_room; queue = k.room.queue; few = k.room.few; left = k.room.left };
     }
@@ -146,9 +149,12 @@ module _ {S V F D T : Type 0} {M : Members S V F D T} {p : PlanMeant} {d0 : Depo
       begun = o.begun;
       begun_is = λ z. cc;
       stands = stands_on M.told p o.stands (seen M.view t) (k.tale.memory || is_memory h) (λ z. z) close.rows close.gives;
-      streams = streams_handed M c.hub c.stops.board m.desk a m.jobs c.left.items m.receiver k.parts k.progress k.tale k.streams stops.board e (seen M.view t) l.board others (others_then 0 (outer_rows p) a b (seen M.view t) (omega arith) keeps (others_kept 0 b (seen M.view t) close.guests))
+      streams = streams_retold M c.hub stops.board e (seen M.view t) m.jobs c.left.items m.receiver k.parts (moved k.progress k.progress.waits k.progress.next k.progress.leased o.tables (Some (exit_of h))) (learned (outer_ended k.tale h) vs cs)
+          (streams_handed M c.hub c.stops.board m.desk a m.jobs c.left.items m.receiver k.parts k.progress k.tale k.streams stops.board e (seen M.view t) l.board others (others_then 0 (outer_rows p) a b (seen M.view t) (omega arith) keeps (others_kept 0 b (seen M.view t) close.guests))
           (λ i r. close.rows.given i (rows.given i r))
-          (Some h) (k.tale.set ++ vs) (k.tale.seen ++ cs) (k.tale.ceased || is_memory h) (k.tale.memory || is_memory h) k.progress.waits k.progress.next k.progress.leased o.tables (Some (exit_of h));
+          (Some h) (k.tale.set ++ vs) (k.tale.seen ++ cs) (k.tale.ceased || is_memory h) (k.tale.memory || is_memory h) k.progress.waits k.progress.next k.progress.leased o.tables (Some (exit_of h)))
+          k.progress.out k.progress.ahead (standing k.progress) k.tale.pulled k.tale.room;
+      turns = turns_closed k.progress k.tale k.turns ready (learned (outer_ended k.tale h) vs cs) refl refl o.tables (exit_of h);
       telling = tale_closes p c.outer c.report c.stops (length m.jobs) s0 m.sink (map fate_of k.parts) k.tale k.telling h stops report vs cs none l seated ends tells;
       room = record { waiting = k.room.waiting; jobs_room = k.room.jobs_room; queue = k.room.queue; few = k.room.few; left = k.room.left };
     }

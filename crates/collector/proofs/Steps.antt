@@ -23,7 +23,7 @@ use Rattle.join_tale.specs.Steps.{Marks, TellsOuter, fated, learned, outer_ended
 use Rattle.join_tale.specs.Tales as tales
 use Rattle.join_tale.specs.Tales.{IsFoundSet, IsSet, Tale}
 use Rattle.join_tree.specs.Given.{GivesMore, given}
-use Rattle.join_tree.specs.Progress.{closing_root, skipping}
+use Rattle.join_tree.specs.Progress.{closing_root, skipping, standing}
 use Rattle.join_tree.specs.Steps.{KeepsRows}
 use Rattle.join_tree.proofs.Outs.{guests_stay}
 use Rattle.pipeline_desc.specs.Meant.{PlanMeant, stream_limit}
@@ -48,6 +48,7 @@ use Rattle.dealt_streams.specs.Moves.Move.{Dealt}
 use Rattle.dealt_streams.specs.Parts.{Deals, MakesUnmade, Part, fate_of, line_at, spec_of}
 use Rattle.dealt_streams.specs.Parts.Part.{Skipped, Unmade}
 use Rattle.dealt_streams.specs.Standing.{StandsOuter, plan_parts}
+use Rattle.dealt_streams.specs.Turns.{KeepsTurns}
 use Rattle.dealt_streams.specs.Works.{plan_bounds}
 use Rattle.collector.specs.declared.collector.Collector.{Collector}
 use Rattle.collector.specs.declared.waiting.Waiting.{Waiting}
@@ -60,8 +61,9 @@ use Rattle.collector.proofs.Lists.{map_length, map_snoc, snoc_length}
 use Rattle.collector.proofs.Moving.{dealt_snoc, lines_dealt, moved_snoc, opened_dealt}
 use Rattle.collector.proofs.Naming.{line_there}
 use Rattle.collector.proofs.Standing.{stands_dealt, stands_halted, stands_on}
-use Rattle.collector.proofs.Streams.{jobs_number, streams_missed, streams_skipped, streams_stay}
+use Rattle.collector.proofs.Streams.{jobs_number, moved, streams_missed, streams_retold, streams_skipped, streams_stay}
 use Rattle.collector.proofs.Telling.{found_so, tale_closes, tale_learns, tale_misses, tale_skips}
+use Rattle.collector.proofs.Turns.{turns_halted}
 use Rattle.collector.proofs.Tree.{amid_kept, closed, next_below, next_is, next_leased, passed, tree_widened}
 
 pub gives_none : {V : Type 0} (b : Seen V) → GivesMore [] b b
@@ -109,6 +111,7 @@ module _ {S V F D T : Type 0} {M : Members S V F D T} {p : PlanMeant} {d0 : Depo
     begun_is = k.begun_is;
     stands = k.stands;
     streams = k.streams;
+    turns = k.turns;
     telling = k.telling;
     room = k.room;
   }
@@ -134,15 +137,16 @@ module _ {S V F D T : Type 0} {M : Members S V F D T} {p : PlanMeant} {d0 : Depo
     begun_is = k.begun_is;
     stands = k.stands;
     streams = k.streams;
+    turns = k.turns;
     telling = k.telling;
     room = record { waiting = capacity ∙ k.room.waiting; jobs_room = k.room.jobs_room; queue = k.room.queue; few = k.room.few; left = k.room.left };
   }
 
   -- the main tree and the outer stream are as they were, and so are the streams that were dealt with
   pub retold : (js : List (Job S V F V D T)) (r : ReceiverSeen) (sink : SinkTold) (e : D) (jobs : VecDeque (Job S V F V D T) Global) (report : Report) (stops : Stops) (v : Tale) → (k.tale.memory ≡ true → v.memory ≡ true) → Fits M.view M.fits c.tree e
-      → KeepsStreams M c.hub stops.board e b js c.left.items r k.parts k.progress v → KeepsTale p c.outer report stops (length js) s0 sink (map fate_of k.parts) v → length js ≡ length m.jobs → deque_capacity jobs ≡ deque_capacity c.jobs
+      → KeepsStreams M c.hub stops.board e b js c.left.items r k.parts k.progress v → KeepsTale p c.outer report stops (length js) s0 sink (map fate_of k.parts) v → KeepsTurns k.progress v → length js ≡ length m.jobs → deque_capacity jobs ≡ deque_capacity c.jobs
       → IsCollecting M p d0 s0 (record m { jobs = js; receiver = r; sink = sink; desk = e; collector = record c { jobs = jobs; report = report; stops = stops } })
-  retold js r sink e jobs report stops v more fit streams telling count capacity = record {
+  retold js r sink e jobs report stops v more fit streams telling turns count capacity = record {
     sound = k.sound;
     few_faults = k.few_faults;
     fits_desk = fit;
@@ -161,6 +165,7 @@ module _ {S V F D T : Type 0} {M : Members S V F D T} {p : PlanMeant} {d0 : Depo
     begun_is = k.begun_is;
     stands = stands_on M.told p k.stands b v.memory more (rows_same b) (gives_none b);
     streams = streams;
+    turns = turns;
     telling = telling;
     room = record {
       waiting = k.room.waiting;
@@ -176,7 +181,7 @@ module _ {S V F D T : Type 0} {M : Members S V F D T} {p : PlanMeant} {d0 : Depo
   learns_step again cs l seated = retold m.jobs m.receiver m.sink m.desk c.jobs c.report again (learned k.tale [] cs) (λ z. z) k.fits_desk
       (streams_stay M c.hub c.stops.board m.desk b m.jobs c.left.items m.receiver k.parts k.progress k.tale k.streams again.board m.desk b l.board (λ x ne f. f) (others_same 0 b) (rows_same b)
       k.tale.outer (k.tale.set ++ []) (k.tale.seen ++ cs) k.tale.ceased k.tale.memory k.progress.waits k.progress.next k.progress.leased k.progress.tables k.progress.root)
-      (tale_learns p c.outer c.report c.stops (length m.jobs) s0 m.sink (map fate_of k.parts) k.tale k.telling again cs l seated) refl refl
+      (tale_learns p c.outer c.report c.stops (length m.jobs) s0 m.sink (map fate_of k.parts) k.tale k.telling again cs l seated) (record { pulled = k.turns.pulled; ahead = k.turns.ahead; room = k.turns.room }) refl refl
 
   -- nothing was done to the main tree, in the outer stream's name
   pub still_step : (tree : Tree S V D) (e : D) → seen M.view tree ≡ b → Fits M.view M.fits tree e → OthersFit M.view M.fits Outer m.desk e → IsCollecting M p d0 s0 (record m { desk = e; collector = record c { tree = tree } })
@@ -201,6 +206,7 @@ module _ {S V F D T : Type 0} {M : Members S V F D T} {p : PlanMeant} {d0 : Depo
     streams = streams_stay M c.hub c.stops.board m.desk b m.jobs c.left.items m.receiver k.parts k.progress k.tale k.streams c.stops.board e (seen M.view tree) refl others (subst (λ (x : Seen V). KeepsOthers 0 b x) (sym same) (others_same 0 b))
         (subst (λ (x : Seen V). KeepsRows b.seat x.seat) (sym same) (rows_same b))
         k.tale.outer k.tale.set k.tale.seen k.tale.ceased k.tale.memory k.progress.waits k.progress.next k.progress.leased k.progress.tables k.progress.root;
+    turns = k.turns;
     telling = k.telling;
     room = record { waiting = k.room.waiting; jobs_room = k.room.jobs_room; queue = k.room.queue; few = k.room.few; left = k.room.left };
   }
@@ -242,8 +248,11 @@ module _ {S V F D T : Type 0} {M : Members S V F D T} {p : PlanMeant} {d0 : Depo
     begun = k.begun;
     begun_is = λ z. cc;
     stands = stands_on M.told p (stands_halted M.told p (subst (λ o. StandsOuter p M.told k.moves k.begun c.outer_stream.outer.leased c.outer_stream.outer.tables o k.tale.memory b) none k.stands)) (seen M.view tree) (k.tale.memory || false) (λ z. or_more k.tale.memory z) close.rows close.gives;
-    streams = streams_stay M c.hub c.stops.board m.desk b m.jobs c.left.items m.receiver k.parts k.progress k.tale k.streams c.stops.board e (seen M.view tree) refl others (others_kept 0 b (seen M.view tree) close.guests) close.rows
-        (Some how.Halted) (k.tale.set ++ []) (k.tale.seen ++ []) (k.tale.ceased || false) (k.tale.memory || false) k.progress.waits k.progress.next k.progress.leased k.progress.tables (Some (exit_of how.Halted));
+    streams = streams_retold M c.hub c.stops.board e (seen M.view tree) m.jobs c.left.items m.receiver k.parts (moved k.progress k.progress.waits k.progress.next k.progress.leased k.progress.tables (Some (exit_of how.Halted))) (learned (outer_ended k.tale how.Halted) [] [])
+        (streams_stay M c.hub c.stops.board m.desk b m.jobs c.left.items m.receiver k.parts k.progress k.tale k.streams c.stops.board e (seen M.view tree) refl others (others_kept 0 b (seen M.view tree) close.guests) close.rows
+        (Some how.Halted) (k.tale.set ++ []) (k.tale.seen ++ []) (k.tale.ceased || false) (k.tale.memory || false) k.progress.waits k.progress.next k.progress.leased k.progress.tables (Some (exit_of how.Halted)))
+        k.progress.out k.progress.ahead (standing k.progress) k.tale.pulled k.tale.room;
+    turns = turns_halted k.progress k.tale (learned (outer_ended k.tale how.Halted) [] []) refl refl k.turns;
     telling = tale_closes p c.outer c.report c.stops (length m.jobs) s0 m.sink (map fate_of k.parts) k.tale k.telling how.Halted c.stops report [] [] none l k.telling.seated ends tells;
     room = record { waiting = k.room.waiting; jobs_room = k.room.jobs_room; queue = k.room.queue; few = k.room.few; left = k.room.left };
   }
@@ -343,6 +352,7 @@ module _ {S V F D T : Type 0} {M : Members S V F D T} {p : PlanMeant} {d0 : Depo
         stands = stands_dealt M.told p k.moves (stands_on M.told p k.stands (seen M.view tree) k.tale.memory (λ i. i) pass.rows pass.gives) x;
         streams = streams_skipped M z.hub z.stops.board m.desk a m.jobs z.left.items m.receiver k.parts k.progress k.tale k.streams z.stops.board e (seen M.view tree) refl others (others_kept 0 a (seen M.view tree) pass.guests) pass.rows x tales.Fate.Skipped (λ i. cc) (λ i. cc)
             k.tale.outer k.tale.set k.tale.seen k.tale.ceased k.tale.memory (map waiting_of ws) (suc k.progress.next) k.progress.leased k.progress.tables k.progress.root;
+        turns = record { pulled = k.turns.pulled; ahead = k.turns.ahead; room = k.turns.room };
         telling = subst (λ fs. KeepsTale p z.outer z.report z.stops (length m.jobs) s0 m.sink fs (fated k.tale tales.Fate.Skipped)) (fates_on x) (tale_skips p z.outer z.report z.stops (length m.jobs) s0 m.sink (map fate_of k.parts) k.tale k.telling (cause_so may));
         room = record { waiting = k.room.waiting; jobs_room = k.room.jobs_room; queue = k.room.queue; few = k.room.few; left = let f = k.room.left in omega (arith, f, more) };
       }
@@ -377,6 +387,7 @@ module _ {S V F D T : Type 0} {M : Members S V F D T} {p : PlanMeant} {d0 : Depo
         streams = subst (λ xs. KeepsStreams M z.hub stops.board e (seen M.view tree) m.jobs xs m.receiver (k.parts ++ x ∷ []) (skipping k.progress (map waiting_of ws)) (learned (unmade k.tale) vs cs)) (sym pushed)
             (streams_missed M z.hub z.stops.board m.desk a m.jobs z.left.items m.receiver k.parts k.progress k.tale k.streams stops.board e (seen M.view tree) l.board others (others_kept 0 a (seen M.view tree) pass.guests) pass.rows x tales.Fate.Unmade (λ q. cc) refl ds y refl shelf unopened count k.telling.report_is.ours
             k.tale.outer (k.tale.set ++ vs) (k.tale.seen ++ cs) true true (map waiting_of ws) (suc k.progress.next) k.progress.leased k.progress.tables k.progress.root);
+        turns = record { pulled = k.turns.pulled; ahead = k.turns.ahead; room = k.turns.room };
         telling = subst (λ fs. KeepsTale p z.outer report stops (length m.jobs) s0 m.sink fs (learned (unmade k.tale) vs cs)) (fates_on x) (tale_misses p z.outer z.report z.stops (length m.jobs) s0 m.sink (map fate_of k.parts) k.tale k.telling z.next stops report vs cs (sym counted) mark l seated misses);
         room = record {
           waiting = k.room.waiting;

@@ -132,6 +132,26 @@ module _ {S V F D T : Type 0} (M : Members S V F D T) where
         no_origins [] e = refl
         no_origins (w ∷ ws) e = absurd (omega (arith, e))
 
+    -- whose turn it was changes nothing of them
+    pub streams_retold : (out : List ℕ) (ahead : List (ℕ × List ℕ)) (last pulled : List ℕ) (room : ℕ → List ℕ) → KeepsStreams M hub board d b js left r parts (record q { out = out; ahead = ahead; last = last }) (record t { pulled = pulled; room = room })
+    streams_retold out ahead last pulled room = record {
+      origins = ks.origins;
+      jobs_are = ks.jobs_are;
+      out = ks.out;
+      opens = ks.opens;
+      begun = ks.begun;
+      gone = ks.gone;
+      kept = kept_stays parts parts q (record q { out = out; ahead = ahead; last = last }) r r t (record t { pulled = pulled; room = room }) (λ k x i. i) refl refl refl (λ k h i. i) left ks.gone ks.kept;
+      apart = ks.apart;
+      numbers = ks.numbers;
+      given = ks.given;
+      home = ks.home;
+      hub_is = ks.hub_is;
+      got = ks.got;
+      made = ks.made;
+      closed = ks.closed;
+    }
+
     -- a call in the outer stream's name leaves them
     module _ (again : BoardSeen) (e : D) (c : Seen V) (same : again ≡ board) (others : OthersFit M.view M.fits Outer d e) {u : ℕ} (guests : KeepsOthers u b c) where
       outer_stays : (w : Origin V F) → IsAmong w ks.origins → (j : Job S V F V D T) → IsJob M.view M.values M.told M.stands w j → FitsJob M.view M.told M.fits j d → FitsJob M.view M.told M.fits j e
@@ -250,7 +270,7 @@ module _ {S V F D T : Type 0} (M : Members S V F D T) where
       began : (k : ℕ) → at fates k ≡ Some tales.Fate.Begun → (at t.fates k ≡ Some tales.Fate.Begun) ⊎ (k ≡ length parts)
       began k i = ⊎_elim (λ o. inl o) (λ n. inr (n.0 ∙ sym count)) (at_snoc t.fates tales.Fate.Begun k tales.Fate.Begun i)
 
-      pub streams_begun : (waits : List (ℕ × List ℕ)) (next : ℕ) → KeepsStreams M hub board e c (js ++ j ∷ []) left (record r { made = r.made ++ length parts ∷ [] }) (parts ++ x ∷ []) (record q { splits = q.splits ++ m ∷ []; waits = waits; next = next }) (fated t tales.Fate.Begun)
+      pub streams_begun : (waits : List (ℕ × List ℕ)) (next : ℕ) → KeepsStreams M hub board e c (js ++ j ∷ []) left (record r { made = r.made ++ length parts ∷ [] }) (parts ++ x ∷ []) (record q { splits = q.splits ++ m ∷ []; waits = waits; next = next; out = m.stream ∷ q.out }) (fated t tales.Fate.Begun)
       streams_begun waits next = record {
         origins = ks.origins ++ w ∷ [];
         jobs_are = jobs_snoc hub board e (parts ++ x ∷ []) js ks.origins j w (jobs_kept hub board board d e parts (parts ++ x ∷ []) refl (λ k y i. at_left parts (x ∷ []) k y i) js ks.origins stays ks.jobs_are) job;
@@ -268,7 +288,7 @@ module _ {S V F D T : Type 0} (M : Members S V F D T) where
           λ p. ⊎_elim (λ o. at_left t.fates (tales.Fate.Begun ∷ []) k tales.Fate.Begun ((ks.begun k).1 (p.0, o, p.2))) (λ z. here_begun k (sym p.2 ∙ (ap (λ (y : Split). y.stream) z ∙ split))) (among_snoc q.splits p.0 m p.1),
         );
         gone = ks.gone;
-        kept = kept_stays parts (parts ++ x ∷ []) q (record q { splits = q.splits ++ m ∷ []; waits = waits; next = next }) r (record r { made = r.made ++ length parts ∷ [] }) t (fated t tales.Fate.Begun) (λ k y i. at_left parts (x ∷ []) k y i) refl refl refl (λ k h i. i) left ks.gone ks.kept;
+        kept = kept_stays parts (parts ++ x ∷ []) q (record q { splits = q.splits ++ m ∷ []; waits = waits; next = next; out = m.stream ∷ q.out }) r (record r { made = r.made ++ length parts ∷ [] }) t (fated t tales.Fate.Begun) (λ k y i. at_left parts (x ∷ []) k y i) refl refl refl (λ k h i. i) left ks.gone ks.kept;
         apart = ks.apart;
         numbers = λ k. (
           λ i. ⊎_elim (λ o. inl o) (λ o. inr (at_left t.fates (tales.Fate.Begun ∷ []) k tales.Fate.Unmade o)) ((ks.numbers k).0 i),

@@ -52,6 +52,20 @@ module _ (p : PlanMeant) (outer : Option How) (report : Report) (stops : Stops) 
     wrote = record { rest = kt.wrote.rest; cut = kt.wrote.cut; wrote = kt.wrote.wrote };
   }
 
+  -- whose turn it was is told otherwise
+  pub tale_turns : (pulled : List ℕ) (room : ℕ → List ℕ) → IsTale (plan_bounds p) (record t { pulled = pulled; room = room }) → KeepsTale p outer report stops out old new fates (record t { pulled = pulled; room = room })
+  tale_turns pulled room is = record {
+    is_tale = is;
+    fates_are = kt.fates_are;
+    outer_is = kt.outer_is;
+    report_is = reports.turns p.take (stream_limit p) t report kt.report_is pulled room;
+    known = record { set = kt.known.set; seen = kt.known.seen };
+    seated = kt.seated;
+    seats = kt.seats;
+    contexts = kt.contexts;
+    wrote = record { rest = kt.wrote.rest; cut = kt.wrote.cut; wrote = kt.wrote.wrote };
+  }
+
   -- the next stream was skipped
   pub tale_skips : IsFoundSet t 0 ⊎ IsOwnCode (plan_bounds p) t (length t.fates) ⊎ IsOuterStopped t → KeepsTale p outer report stops out old new (fates ++ tales.Fate.Skipped ∷ []) (fated t tales.Fate.Skipped)
   tale_skips cause = record {

@@ -4,7 +4,7 @@ ghost use Rattle.std.specs.VecDeque.{deque_capacity};
 ghost use Rattle.device_port.specs.Depot.{DepotTold};
 ghost use Rattle.device_port.specs.Sink.{SinkTold};
 ghost use Rattle.join_report.specs.Calls.{EndsOuter};
-ghost use Rattle.join_report.specs.Stopping.{Interrupts, IsSeated};
+ghost use Rattle.join_report.specs.Stopping.{Interrupts, IsSeated, IsUnknown, view_of};
 ghost use Rattle.join_tree.specs.Mains.{IsMain};
 ghost use Rattle.join_tree.specs.Progress.{Progress};
 ghost use Rattle.pipeline_desc.specs.Meant.{PlanMeant};
@@ -109,6 +109,8 @@ impl<V: Device + Drop, S: RowSeat<Pay = Held<V>>, F: PipeState> Collector<S, V, 
         requires waits { length self.old.waiting.items ≤ 1 }
         requires few { length self.old.jobs.items + length self.old.waiting.items ≤ plan.now.max_open }
         requires outer { self.old.outer ≡ None }
+        requires first { length self.old.waiting.items ≡ 0 → self.old.next ≡ 0 }
+        requires unknown { IsUnknown (view_of self.old.stops) 0 }
         requires collecting { (sink : SinkTold) × IsUnderWay (members S.view V.told S.fits F.values (standing F.stands F.comes)) plan.now (between (length self.old.waiting.items) (D.told depot.old) sink desk.old self.old) }
         ensures collecting { (sink : SinkTold) → GoesOn (members S.view V.told S.fits F.values (standing F.stands F.comes)) plan.now (between (length self.old.waiting.items) (D.told depot.old) sink desk.old self.old) (between (1 + length self.old.waiting.items) (D.told depot.new) sink desk.new self.new) }
         ensures ahead { self.new.outer ≡ None → length self.new.waiting.items ≡ 1 + length self.old.waiting.items }

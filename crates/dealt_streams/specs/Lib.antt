@@ -3,3 +3,4 @@ pub mod Moves
 pub mod Standing
 pub mod Works
 pub mod Kept
+pub mod Turns

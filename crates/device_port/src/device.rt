@@ -71,6 +71,9 @@ pub trait Device {
     /// A device that was never closed has no exit.
     ghost no_exit: { (d : Self) → (told d).closes ≡ 0 → (told d).exit ≡ None };
 
+    /// No more was read of a device than there is.
+    ghost within: { (d : Self) → IfSome (told d).content (λ c. (told d).at ≤ length c) };
+
     /// A device to read a path that isn't there was never opened.
     ghost no_open: { (d : Self) → (told d).place.mode ≡ mode.Read → (told d).present ≡ Some false → (told d).opens ≡ 0 };
 }

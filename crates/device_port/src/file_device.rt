@@ -72,6 +72,8 @@ where
 
     ghost no_exit = { λ d. no_exit_at (stage_of d.held) };
 
+    ghost within = { λ d. tt };
+
     ghost no_open = { λ d. no_open_untold d.mode (stage_of d.held) };
 
     fn number(&self) -> u64 {

@@ -54,6 +54,8 @@ impl Device for MemDevice {
 
     ghost no_exit = { λ d. no_exit_at d.facts.stage };
 
+    ghost within = { λ d. d.within };
+
     ghost no_open = { λ d. no_open_at d.facts.mode d.facts.present d.facts.stage d.unopened };
 
     fn number(&self) -> u64 {

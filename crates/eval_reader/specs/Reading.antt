@@ -17,7 +17,7 @@ use Rattle.pull_stepper.specs.Stepping.{CanGo, IsOver, Stepping}
 use Rattle.pull_turns.specs.Around.{Goes}
 use Rattle.pull_turns.specs.Led.{Led}
 use Rattle.pull_turns.specs.Piping.{HasKind, StateMeaning}
-use Rattle.pull_turns.specs.Rest.{IsRunOfRest}
+use Rattle.pull_turns.specs.Failures.{IsToldRunOfRest}
 use Rattle.pull_turns.specs.Turned.{Spends, SpendsWithin}
 use Rattle.pull_turns.specs.Work.{work_left}
 use Rattle.row_seat.specs.declared.view.View.{View}
@@ -83,7 +83,7 @@ module _ {V F : Type 0} (P : Values → StateMeaning F) (told : V → DeviceTold
   -- turns were made since a, which gave these elements, and it has ended so
   pub record HasEnded (a b : Stepping V F) (given : List Element) (h : How) : Type 0 where
     pub end : End
-    pub run : IsRunOfRest (P a.tables) (told_at told b.site) a.rest given end
+    pub run : IsToldRunOfRest (P a.tables) (told_at told b.site) a.rest given end
     pub reported : IsReported end h
     pub over : IsOver told b
     pub goes : (p : ℕ) → Goes (told_at told a.site p) (told_at told b.site p)

@@ -14,6 +14,7 @@ use Rattle.device_port.specs.Device.{DeviceTold, faults_of, to_read}
 use Rattle.pipeline_desc.specs.declared.step.Step.{Step}
 use Rattle.pull_nodes.specs.Pipes.{all_of, part_of}
 use Rattle.pull_nodes.specs.Plain.{IsFront}
+use Rattle.pull_nodes.specs.Failures.{FileTells}
 use Rattle.pull_nodes.specs.Runs.{OpensThen, OrLeft, Piped, Reads, ReadsWhole}
 use Rattle.pull_nodes.specs.declared.pipe.Pipe.TheVariants as pipe
 use Rattle.res_ledger.specs.declared.event.Event.{Event}
@@ -31,8 +32,12 @@ use Rattle.run_rules.specs.Work.{Work, RunRecord, begun_frames}
 use Rattle.eval_rules.specs.Answers.{answer_of, answer_to, group_over, groups_of, how_of}
 
 -- a device is opened and read, and the lines of its bytes are given; it may be left at any time
+abbrev pub LinesComeOf : DeviceTold → Outcomes
+LinesComeOf d = OrLeft (Unit {0}) (OpensThen d (OrLeft (Unit {0}) (Piped (part_of no_values pipe.Lines) (all_of no_values pipe.Lines) (OrLeft (Unit {0}) (Reads d)))) (Unit {0}))
+
+-- and the end tells of each failure of the device
 abbrev pub LineRuns : DeviceTold → Outcomes
-LineRuns d = OrLeft (Unit {0}) (OpensThen d (OrLeft (Unit {0}) (Piped (part_of no_values pipe.Lines) (all_of no_values pipe.Lines) (OrLeft (Unit {0}) (Reads d)))) (Unit {0}))
+LineRuns d ys e = LinesComeOf d ys e × FileTells d e
 
 -- the lines of a device that is read whole
 abbrev pub IdealLineRuns : DeviceTold → Outcomes

@@ -20,7 +20,7 @@ use Rattle.device_port.specs.Depot.{DepotTold}
 use Rattle.device_port.specs.Device.{DeviceTold, faults_of, to_read}
 use Rattle.device_port.specs.Sink.{SinkTold}
 use Rattle.eval_rules.specs.Answers.{Answer, answer_of, answer_to, group_over, groups_of, how_of, lines_over}
-use Rattle.eval_rules.specs.Evaluation.{HasRun, IdealLineRuns, IsAnswered, IsUnfailed, LineRuns, PrintsAnswer, TellsReading, reading_work}
+use Rattle.eval_rules.specs.Evaluation.{HasRun, IdealLineRuns, IsAnswered, IsUnfailed, LineRuns, LinesComeOf, PrintsAnswer, TellsReading, reading_work}
 use Rattle.eval_work.specs.Works.{result_of}
 use Rattle.joined_runs.proofs.Reading.{IsCountedBy, fault_run}
 use Rattle.lone_stream.specs.Account.{ComesBack, IsAccount}
@@ -150,7 +150,7 @@ module _ (path : List ℕ) (steps : List Step) (n : ℕ) (old new : DepotTold) (
   IsSeen k = (r : ℕ) × (r < 1) × (0 < k (home r))
 
   seen_by : (z : Option Stop) (F : List Frame) → TellsAnswer steps n given h F z → (d : Code) → ending_of h z ≡ how.Fault d → IsCountedBy IsSeen d
-  seen_by None F t d e = IfSome_then (act_count d) (lines_shows (home 0) given d (fault_run (LineRuns (home 0)) given end h reported run d e)) (λ k m. (0, omega arith, m))
+  seen_by None F t d e = IfSome_then (act_count d) (lines_shows (home 0) given d (fault_run (LinesComeOf (home 0)) given end h reported run.0 d e)) (λ k m. (0, omega arith, m))
   seen_by (Some (stop.Fault k)) F t d e = group_mild IsSeen steps t.1.0 d (t.1.2 ∙ ap (λ x. Fault x) (code_is k d e))
   seen_by (Some stop.Unwritten) F t d e = cc
   seen_by (Some stop.Memory) F t d e = cc
@@ -232,13 +232,13 @@ module _ (path : List ℕ) (steps : List Step) (n : ℕ) (old new : DepotTold) (
 
     -- all lines were read, where the reading ended by itself
     read_whole : is_over h ≡ true → came given end ≡ lines_over bytes
-    read_whole over = ideal given end ((lines_near (home 0) calm within).whole given end run (not_cut end h reported over))
+    read_whole over = ideal given end ((lines_near (home 0) calm within).whole given end run.0 (not_cut end h reported over))
 
     fault_answer : (F : List Frame) (d : Code) → ((more : List Element) (e : End) → (is_over h ≡ true → more ≡ []) → answer_of steps n (given ++ more) e ≡ the_answer F (Fault d)) → (b : Bool) → is_over h ≡ b → answer_to steps n bytes ≡ the_answer F (Fault d)
     fault_answer F d all true e =
         ap answer_by (sym (read_whole e)) ∙ (ap (λ (xs : List Element). answer_of steps n xs end) (sym (append-nil given)) ∙ all [] end (λ i. refl))
     fault_answer F d all false e =
-        let f = (lines_near (home 0) calm within).front given end run in
+        let f = (lines_near (home 0) calm within).front given end run.0 in
         ap answer_by (sym (ideal f.0 f.1 f.2)) ∙ (ap (λ (xs : List Element). answer_of steps n xs f.1) f.3.1 ∙ all f.3.0 f.1 (λ t. absurd (false≢true (sym e ∙ t))))
 
     whole_by : (z : Option Stop) (F : List Frame) → TellsAnswer steps n given h F z → is_unwritten z ≡ false → is_wanting z ≡ false → (F ≡ (answer_to steps n bytes).frames) × (ending_of h z ≡ how_of (answer_to steps n bytes).end)

@@ -13,10 +13,10 @@ use Rattle.lone_stream.specs.Account.{IsAccount, IsAccountOf}
 use Rattle.lone_stream.specs.declared.run.Ran.{Ran}
 use Rattle.lone_stream.proofs.OneFile as file
 use Rattle.pipeline_desc.specs.declared.step.Step.{Step}
-use Rattle.pull_nodes.specs.Runs.{IsRun}
+use Rattle.pull_nodes.specs.Failures.{IsToldRun}
 use Rattle.pull_nodes.specs.declared.node.Node.{Node}
 use Rattle.res_ledger.specs.declared.event.StreamNo.TheVariants.{Inner}
-use Rattle.run_rules.specs.Devices.{OpensWhatIsThere}
+use Rattle.run_rules.specs.Devices.{KeepsToWhatIsThere}
 use Rattle.stream_parts.specs.Retire.{MayReturnAll, Returns, devices_of}
 use Rattle.eval_run.specs.Eval.{RunsEval}
 use Rattle.eval_run.specs.Printing.{ending_of, is_unwritten, is_wanting}
@@ -35,13 +35,13 @@ module _ {V : Type 0} (told : V → DeviceTold) (path : List ℕ) (steps : List 
   may_return = file.may_return told path old mid d makes (Inner 0) node home r e.runs.comes
 
   run : LineRuns (home 0) e.given e.runs.end
-  run = subst (λ m. IsRun no_values home m e.given e.runs.end) is.2 e.runs.run
+  run = subst (λ m. IsToldRun no_values home m e.given e.runs.end) is.2 e.runs.run
 
   account : IsAccount 1 0 home r.how r.ledger
   account = subst (λ k. IsAccountOf (Inner 0) 1 k home r.how r.ledger) (lines_scopes node is) e.runs.comes.account
 
   -- the device came back
-  pub eval_ran : ((v : V) → OpensWhatIsThere (told v)) → (new : DepotTold) → Returns mid new (devices_of told r.shelf r.unopened) → (o : Outcome) → o.ends ≡ record { who = Inner 0; how = ending_of r.how s } ∷ [] → o.ledger ≡ r.ledger → o.sink_failed ≡ is_unwritten s → o.memory ≡ is_wanting s
+  pub eval_ran : ((v : V) → KeepsToWhatIsThere (told v)) → (new : DepotTold) → Returns mid new (devices_of told r.shelf r.unopened) → (o : Outcome) → o.ends ≡ record { who = Inner 0; how = ending_of r.how s } ∷ [] → o.ledger ≡ r.ledger → o.sink_failed ≡ is_unwritten s → o.memory ≡ is_wanting s
       → RunsEval path n steps old new so sn o
   eval_ran each_there new back o ends ledger broken memory =
       let came = file.comes_back told path old mid d makes (Inner 0) node home r e.runs.comes each_there new back in

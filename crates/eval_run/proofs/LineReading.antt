@@ -10,7 +10,7 @@ use Rattle.chunk_core.specs.declared.code.Code.TheVariants as code
 use Rattle.chain_pipes.specs.Over.{Came, came, through}
 use Rattle.device_port.specs.Device.{DeviceTold, faults_of}
 use Rattle.eval_rules.specs.Answers.{file_over, lines_over}
-use Rattle.eval_rules.specs.Evaluation.{IdealLineRuns, LineRuns}
+use Rattle.eval_rules.specs.Evaluation.{IdealLineRuns, LinesComeOf}
 use Rattle.joined_runs.proofs.Reading.{IsCounted, front_read, some_read, stops_shows, whole_is}
 use Rattle.joined_runs.proofs.StepRuns.{Nears, left_nears, left_shows, opens_nears, opens_shows, piped_nears, piped_shows}
 use Rattle.pull_nodes.specs.Pipes.{all_of, part_of}
@@ -29,7 +29,7 @@ abbrev reading : DeviceTold → Outcomes
 reading d = OrLeft (Unit {0}) (Reads d)
 
 -- a fault of the reading shows on its device
-pub lines_shows : (d : DeviceTold) (ys : List Element) (c : Code) → LineRuns d ys (Fault c) → IsCounted d c
+pub lines_shows : (d : DeviceTold) (ys : List Element) (c : Code) → LinesComeOf d ys (Fault c) → IsCounted d c
 lines_shows d =
     let X : (DeviceTold → ℕ) → Type 0 = λ n. 0 < n d in
     left_shows X (OpensThen d (OrLeft (Unit {0}) (Piped part all (reading d))) (Unit {0}))
@@ -39,7 +39,7 @@ lines_shows d =
     (Unit {0})
 
 -- a reading of a device without a fault is near the one of all its bytes
-pub lines_near : (d : DeviceTold) → faults_of d ≡ 0 → d.at ≤ 2 ^ 40 → Nears (LineRuns d) (IdealLineRuns d)
+pub lines_near : (d : DeviceTold) → faults_of d ≡ 0 → d.at ≤ 2 ^ 40 → Nears (LinesComeOf d) (IdealLineRuns d)
 lines_near d calm within =
     let near : Nears (Reads d) (ReadsWhole d) = record { some = some_read d.content d within; whole = λ ys e r n. whole_is d ys e calm n r; front = λ ys e r. front_read d.content d ys within r.0 } in
     left_nears (Unit {0}) (OpensThen d (OrLeft (Unit {0}) (Piped part all (reading d))) (Unit {0})) (IdealLineRuns d)

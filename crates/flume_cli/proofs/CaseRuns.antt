@@ -21,12 +21,12 @@ use Rattle.run_rules.specs.Devices.{came_back}
 use Rattle.run_rules.specs.Facts.{first_numbers, is_fault}
 use Rattle.run_rules.specs.Homes.{AreAtHome, IsBack, IsUntouched}
 use Rattle.run_rules.specs.Opening.{HasOuterEnd, IsOuterEnd, IsRefusedBy, IsTableFailed}
-use Rattle.run_rules.specs.Outputs.{AreOutputs, IsOutput, IsReported, IsRest, elements_in_pieces}
+use Rattle.run_rules.specs.Outputs.{AreOutputs, IsOutput, IsReported, IsRest, RunsOrLeft, elements_in_pieces}
 use Rattle.run_rules.specs.Run.{Ran}
 use Rattle.run_rules.specs.Wholeness.{AreUnfailed, IsWholeRun, NothingFailed}
 use Rattle.run_rules.specs.Work.{Lister, Opener, RunRecord, Stream, Values, Work, inner_ends}
 use Rattle.pipeline_desc.specs.declared.stream.StreamSpec.{StreamSpec}
-use Rattle.plan_work.specs.Plans.{below, opener_of, run_work, stream_of, visible}
+use Rattle.plan_work.specs.Plans.{PlanRuns, below, opener_of, run_work, stream_of, visible}
 use Rattle.gen_case.specs.Case.{stream_path, table_path, table_text}
 use Rattle.gen_case.specs.Ideal.{AreIdeal, ideal_text}
 use Rattle.gen_case.specs.Plan.{plan_of_case, stream_spec}
@@ -148,8 +148,14 @@ module _ (case : Case) (few : case.streams ≤ 64) (short : case.lines ≤ 10000
     -- no stream failed
     inner_end : (k : ℕ) (h : How) → k < case.streams → IsOutput work ran.values home F k h → is_fault h ≡ false
     inner_end k h l o =
-        let none = (stream_at k l).unfailed in
-        none_told o.end h (nodes_never_fail case k (seen k) home o.run.0 (elements_in_pieces o.pieces) o.end short o.run.1 (over k l) (omega (arith, none)) (omega (arith, none)) o.run.2) o.reported
+        none_told o.end h (ends_well (elements_in_pieces o.pieces) o.end o.run) o.reported
+      where
+        -- no run of its node ends with a fault, nor does one that was left
+        ends_well : (ys : List Element) (e : End) → RunsOrLeft (PlanRuns (plan_of_case case) k ran.values home) ys e → IsFault e → ⊥
+        ends_well ys e (inl (n, of, (run, told))) =
+            let none = (stream_at k l).unfailed in
+            nodes_never_fail case k (seen k) home n ys e short of (over k l) (omega (arith, none)) (omega (arith, none)) run
+        ends_well ys e (inr (cut, more)) = λ f. subst IsFault cut f
 
     inner_ends_are : (n k : ℕ) (es : List EndOf) → k + n ≤ case.streams → AreOutputs work ran.values home F k (streams_from k n) es → any (λ e. is_fault e.how) es ≡ false
     inner_ends_are zero k es l h = ap (λ (xs : List EndOf). any (λ (e : EndOf). is_fault e.how) xs) h

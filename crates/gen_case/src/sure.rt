@@ -30,6 +30,8 @@ impl Device for SureDevice {
 
     ghost no_exit = { λ d. no_exit_at d.device.facts.stage };
 
+    ghost within = { λ d. d.device.within };
+
     ghost no_open = { λ d. no_open_at d.device.facts.mode d.device.facts.present d.device.facts.stage d.device.unopened };
 
     fn number(&self) -> u64 {

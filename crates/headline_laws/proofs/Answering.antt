@@ -95,7 +95,7 @@ devices = record {
   few = (omega arith, tt);
   retired = refl;
   once = IsPermutation-refl _;
-  shut = (record { shut = refl; closes = refl; once = omega arith; there = λ reads missing. absurd (is_there missing) }, tt);
+  shut = (record { shut = refl; closes = refl; once = omega arith; there = λ reads missing. absurd (is_there missing); within = omega arith }, tt);
   rows = (omega arith, (tt, (tt, tt)));
   acquired = (refl, (refl, tt));
   failed = tt;
@@ -142,7 +142,7 @@ lines = Line (codes "x") ∷ Line (codes "y") ∷ []
 
 read : LineRuns lines_device lines Done
 unfolding without_pairs ended_lines open_line
-read = inl (inl (refl, refl, inl (map Byte two_lines, Done, inl (refl, (refl, omega arith, refl, refl)), (refl, refl))))
+read = (inl (inl (refl, refl, inl (map Byte two_lines, Done, inl (refl, (refl, omega arith, refl, refl)), (refl, refl)))), inl (refl, inl (refl, tt)))
 
 answered_whole : IsAnswered splitting 1 lines Done run how.Done
 unfolding without_pairs ended_lines open_line

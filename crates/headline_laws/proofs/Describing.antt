@@ -1,11 +1,12 @@
 -- Each call of run that went as it should meets the contract.
-use Rattle.std.proofs.Common.{◌≡◌, ◌≢◌, true, false, [], ◌++◌, length, Some, None, Ok, Err, refl, sym, ap, subst, inl, inr, ◌∙◌, ⊎_elim, arith, Result}
+use Rattle.std.proofs.Common.{◌≡◌, ◌≢◌, ℕ, ◌+◌, true, false, [], ◌∷◌, ◌++◌, length, Some, None, Ok, Err, refl, sym, ap, subst, inl, inr, ◌∙◌, ⊎_elim, arith, Result}
 use Rattle.std.specs.Fmt.{digits}
 use Rattle.std.specs.Str.{is_utf8, chars}
 use Rattle.std.proofs.lemmas.Bool.{false≢true}
 use Rattle.std.proofs.lemmas.List.Sorted.{IsPermutation-refl}
 use Rattle.toml.proofs.OnLiterals.{toml_on_literals}
 use Rattle.chunk_core.specs.Texts.{frames_text}
+use Rattle.chunk_core.specs.Lists.{IsAmong}
 use Rattle.chunk_core.specs.Lists.IsAmong.{here}
 use Rattle.chunk_core.specs.declared.code.Exit.TheVariants.{Succeeded}
 use Rattle.chunk_core.specs.declared.code.How.TheVariants as how
@@ -13,13 +14,15 @@ use Rattle.chunk_core.proofs.Distinct.{distinct_nil}
 use Rattle.chunk_core.proofs.Members.{among_cons, among_nil}
 use Rattle.res_ledger.specs.declared.event.Event.{Event}
 use Rattle.res_ledger.specs.declared.event.StreamNo.TheVariants.{Inner, Outer}
-use Rattle.res_ledger.specs.declared.event.What.TheVariants.{Close}
+use Rattle.res_ledger.specs.declared.event.What.TheVariants.{Close, Lease}
 use Rattle.device_port.specs.Sink.{with_bytes}
 use Rattle.pipeline_desc.specs.Meant.{PlanMeant}
 use Rattle.pipeline_desc.specs.Plans.{plan_of}
 use Rattle.pipeline_desc.specs.Worked.{plan_by_default}
 use Rattle.pipeline_desc.specs.declared.refusal.Refusal.{Refusal}
 use Rattle.run_rules.specs.declared.end.EndOf.{EndOf}
+use Rattle.run_rules.specs.Ends.{HadTurn}
+use Rattle.run_rules.specs.Facts.{leased_stream}
 use Rattle.run_rules.specs.Rules.{KeepsRules}
 use Rattle.run_rules.specs.Run.{Performs}
 use Rattle.run_rules.specs.Texts.{tail_text}
@@ -93,6 +96,29 @@ no_values t key = None
 abbrev causes_of_none : Causes
 causes_of_none = record { early = false; words = true; unread = false; refused = None; unwritten = false; memory = false; faulty = false; unclean = false }
 
+-- the one event of the run that lists nothing
+abbrev only_close : Event
+only_close = event 0 Outer (Close 0 Succeeded)
+
+-- with it no stream had its turn
+no_turn : (k : ℕ) → HadTurn (only_close ∷ []) k → ⊥
+no_turn k (e, among, turn) = ⊎_elim
+    (λ (q : e ≡ only_close). ⊎_elim
+    (λ by. let d : Outer ≡ Inner k = sym (ap (λ (x : Event). x.by) q) ∙ by in cc)
+    (λ t. ⊎_elim
+    (λ leased. let d : None ≡ Some (k + 1) = sym (ap (λ (x : Event). leased_stream x.what) q) ∙ leased in cc)
+    (λ c. let l = c.2 in let n = l.2 in not_leased n.0 k l.1 n.1 n.3)
+    t)
+    turn)
+    (λ m. among_nil m)
+    (among_cons among)
+  where
+    not_leased : (f : Event) (j s : ℕ) → IsAmong f (only_close ∷ []) → f.what ≡ Lease j s → ⊥
+    not_leased f j s m w = ⊎_elim
+        (λ (q : f ≡ only_close). let d : Close 0 Succeeded ≡ Lease j s = sym (ap (λ (x : Event). x.what) q) ∙ w in cc)
+        (λ m. among_nil m)
+        (among_cons m)
+
 none_performs : Performs (run_work (plan_by_default []) []) (run_of_call empty_description [] None [] false)
 none_performs = record {
   devices = record { made = refl; few = tt; retired = refl; once = IsPermutation-refl _; shut = tt; rows = (tt, tt); acquired = tt; failed = tt; exits = λ x. tt; files = λ path. inr refl; stored = tt };
@@ -107,7 +133,10 @@ none_performs = record {
       caused = (record { halted = λ e. let x : ⊥ = cc in absurd x; fault = tt; root = λ b. (Succeeded, (event 0 Outer (Close 0 Succeeded), here [], refl, refl)) }, tt);
       outer = outer_by (tt, refl, tt) tt refl tt tt (λ e. absurd (none_some e));
       stopped = record { failed = λ t. absurd (false≢true t); silenced = λ t. absurd (false≢true t); ended = λ t. absurd (false≢true t); halted = λ e k m who is early. ⊎_elim (λ (q : e ≡ record { who = Outer; how = how.Done }). let d = ap (λ (x : EndOf). x.who) q in let x : ⊥ = cc in absurd x) (λ m. absurd (among_nil m)) (among_cons m); nobody = λ t. absurd (none_some t) };
-      begins = λ k a. absurd (⊎_elim (λ (q : a.0 ≡ event 0 Outer (Close 0 Succeeded)). let d : Outer ≡ Inner k = sym (ap (λ (x : Event). x.by) q) ∙ a.2 in cc) (λ m. among_nil m) (among_cons a.1));
+      begins = record {
+        room = λ k h. absurd (no_turn k h);
+        passed = λ e k m who idle. ⊎_elim (λ (q : e ≡ record { who = Outer; how = how.Done }). let d : Outer ≡ Inner k = sym (ap (λ (x : EndOf). x.who) q) ∙ who in let x : ⊥ = cc in absurd x) (λ m. absurd (among_nil m)) (among_cons m);
+      };
       memory = λ e m is. ⊎_elim (λ (q : e ≡ record { who = Outer; how = how.Done }). let d = ap (λ (x : EndOf). x.how) q in let x : ⊥ = cc in absurd x) (λ m. absurd (among_nil m)) (among_cons m);
     };
     exits = (record { how = how.Done; same = inl refl; told = (refl, tt); ran = λ k e. let x : ⊥ = cc in absurd x }, tt);

@@ -8,8 +8,8 @@ use Rattle.std.proofs.lemmas.List.Sorted.{IsPermutation-refl}
 use Rattle.chunk_core.proofs.Each.{among_each}
 use Rattle.chunk_core.proofs.Members.{among_cons, among_nil}
 use Rattle.chunk_core.specs.Texts.{Frame, frame_text, frames_text}
-use Rattle.chunk_core.specs.Elements.{Byte}
-use Rattle.chunk_core.specs.Outcomes.{Done, Fault, Cut, exit_of}
+use Rattle.chunk_core.specs.Elements.{Byte, Element}
+use Rattle.chunk_core.specs.Outcomes.{Done, End, Fault, Cut, exit_of}
 use Rattle.chunk_core.specs.declared.code.Code.TheVariants as code
 use Rattle.chunk_core.specs.declared.code.Exit.{Exit}
 use Rattle.chunk_core.specs.declared.code.Exit.TheVariants.{Succeeded, Errored, Canceled}
@@ -30,7 +30,7 @@ use Rattle.run_rules.specs.Texts.{tail_text}
 use Rattle.run_rules.specs.declared.end.EndOf.{EndOf}
 use Rattle.run_rules.specs.Ends.{HasCauseToHalt, HaveEnds, IsLast, IsShown}
 use Rattle.run_rules.specs.Homes.{AreLeftAlone}
-use Rattle.run_rules.specs.Outputs.{HaveOutputs, elements_in_pieces}
+use Rattle.run_rules.specs.Outputs.{HaveOutputs, IsReported}
 use Rattle.run_rules.specs.Rules.{ClosesBeforeLeaving, IsOurs, KeepsRules}
 use Rattle.run_rules.specs.Run.{Performs}
 use Rattle.run_rules.specs.Wholeness.{IsWholeRun, NothingFailed}
@@ -42,7 +42,7 @@ use Rattle.res_ledger.specs.Ledger.{NotesClose}
 use Rattle.res_ledger.proofs.Judged.{each_event}
 use Rattle.res_ledger.proofs.Stamps.{stamped_sound}
 use Rattle.device_port.specs.declared.device.Mode.TheVariants as mode
-use Rattle.cat_run.specs.Cat.{cat_work}
+use Rattle.cat_run.specs.Cat.{FileRuns, cat_work}
 use Rattle.flume_cli.specs.Headline.{RunsStreams}
 use Rattle.headline_laws.specs.Calls.{a, closed_device, depot_after, depot_before, end_of_0, event, one_row_ledger}
 use Rattle.headline_laws.specs.Worked.{hello_device, words_not_read, missing_device, whole_file, empty_file, missing_file, read_fault, failed_close, failed_write}
@@ -164,16 +164,16 @@ module _ (bytes : List ℕ) (at : ℕ) (ended : Bool) (x : Exit) (reads closes :
   root_closed = (x, (event 1 (Inner 0) (Close 0 x), there _ (here _), refl, refl))
 
   -- the work was done, where its parts were that differ from call to call
-  row_performs : AreAsMany (λ d. nat_lt 0 d.close_faults) failed_row (device ∷ []) (to_read a ∷ []) (one_row_ledger x ok) → ok ≡ nat_eq closes 0 → x ≡ exit_of h → HaveOutputs (cat_work a) run_record no_values (λ r. device)
+  row_performs : at ≤ length bytes → AreAsMany (λ d. nat_lt 0 d.close_faults) failed_row (device ∷ []) (to_read a ∷ []) (one_row_ledger x ok) → ok ≡ nat_eq closes 0 → x ≡ exit_of h → HaveOutputs (cat_work a) run_record no_values (λ r. device) → ((ys : List Element) × (end : End) × FileRuns device ys end × IsReported end h)
       → (h ≡ how.Halted → HasCauseToHalt (cat_work a) run_record (Inner 0)) → IsShown (device ∷ []) (to_read a ∷ []) h → h ≢ how.Memory
       → (NothingFailed (cat_work a) run_record no_values (λ r. device) → IsWholeRun (cat_work a) run_record no_values (λ r. device)) → Performs (cat_work a) run_record
-  row_performs failed tied exit outputs halted fault ample whole = record {
+  row_performs within failed tied exit outputs run halted fault ample whole = record {
     devices = record {
       made = refl;
       few = (omega arith, tt);
       retired = refl;
       once = IsPermutation-refl _;
-      shut = (record { shut = refl; closes = refl; once = omega arith; there = λ reads missing. absurd (is_there missing) }, tt);
+      shut = (record { shut = refl; closes = refl; once = omega arith; there = λ reads missing. absurd (is_there missing); within = within }, tt);
       rows = (omega arith, (tt, (tt, tt)));
       acquired = (refl, (refl, tt));
       failed = failed;
@@ -188,7 +188,7 @@ module _ (bytes : List ℕ) (at : ℕ) (ended : Bool) (x : Exit) (reads closes :
       rows = record { at_home = (refl, refl, inl (here []), tt); apart = one_apart device; tied = (refl, (tt, ((refl, tied), tt))); values = tt; alone = left_alone (depot_before bytes) (depot_after bytes (device ∷ [])) h (one_row_ledger x ok) frames cut (λ r. device) root_closed; housed = λ d b. ⊎_elim (λ (q : d ≡ device). (0, omega arith, q)) (λ m. absurd (among_nil m)) (among_cons b) };
       outputs = outputs;
       ends = ends_of _ _ h (one_row_ledger x ok) frames cut (λ r. device) halted fault root_closed ample (row_ours x ok);
-      exits = (record { how = h; same = inl refl; told = (tt, (exit, (tt, tt))); ran = λ k q. (elements_in_pieces outputs.outputs.0.pieces, outputs.outputs.0.end, outputs.outputs.0.run, outputs.outputs.0.reported) }, tt);
+      exits = (record { how = h; same = inl refl; told = (tt, (exit, (tt, tt))); ran = λ k q. run }, tt);
       wanting = λ t. absurd (false≢true t);
       completeness = λ m n. whole n;
     });
@@ -232,8 +232,9 @@ whole_file_holds =
         cut = None;
         rest = [];
         wanted = false;
-        performs = row_performs (codes "hello\n") 6 true Succeeded 0 0 true (hello_frame ∷ []) None how.Done tt refl refl
-            (record { numbers = ((omega arith, omega arith), tt); few = tt; in_turn = λ t. absurd (false≢true t); outputs = (record { pieces = map Byte (codes "hello\n") ∷ []; end = Done; run = inl (inl (refl, refl, inl (refl, (refl, omega arith, refl, refl)))); printed = refl; reported = refl }, refl); rest = refl })
+        performs = row_performs (codes "hello\n") 6 true Succeeded 0 0 true (hello_frame ∷ []) None how.Done (omega arith) tt refl refl
+            (record { numbers = ((omega arith, omega arith), tt); few = tt; in_turn = λ t. absurd (false≢true t); outputs = (record { pieces = map Byte (codes "hello\n") ∷ []; end = Done; run = inl (inl (inl (refl, refl, inl (refl, (refl, omega arith, refl, refl)))), inl (refl, inl (refl, tt))); printed = refl; reported = refl }, refl); rest = refl })
+            (map Byte (codes "hello\n"), Done, (inl (inl (refl, refl, inl (refl, (refl, omega arith, refl, refl)))), inl (refl, inl (refl, tt))), refl)
             (λ e. let x : ⊥ = cc in absurd x) tt (λ e. cc)
             (λ n. record { done = (refl, tt); clean = refl; listed = tt; output = ((map Byte (codes "hello\n"), inl (omega arith, refl, refl), refl), tt) });
         text = record { said = tail_text whole_file.ends whole_file.events; written = text_of_whole_file; tail = refl; spoke = λ e. absurd (no_nil _ _ e); once = omega arith };
@@ -251,8 +252,9 @@ empty_file_holds =
         cut = None;
         rest = [];
         wanted = false;
-        performs = row_performs [] 0 true Succeeded 0 0 true [] None how.Done tt refl refl
-            (record { numbers = tt; few = tt; in_turn = λ t. absurd (false≢true t); outputs = (record { pieces = []; end = Done; run = inl (inl (refl, refl, inl (refl, (refl, omega arith, refl, refl)))); printed = refl; reported = refl }, refl); rest = refl })
+        performs = row_performs [] 0 true Succeeded 0 0 true [] None how.Done (omega arith) tt refl refl
+            (record { numbers = tt; few = tt; in_turn = λ t. absurd (false≢true t); outputs = (record { pieces = []; end = Done; run = inl (inl (inl (refl, refl, inl (refl, (refl, omega arith, refl, refl)))), inl (refl, inl (refl, tt))); printed = refl; reported = refl }, refl); rest = refl })
+            ([], Done, (inl (inl (refl, refl, inl (refl, (refl, omega arith, refl, refl)))), inl (refl, inl (refl, tt))), refl)
             (λ e. let x : ⊥ = cc in absurd x) tt (λ e. cc)
             (λ n. record { done = (refl, tt); clean = refl; listed = tt; output = (([], inl (omega arith, refl, refl), refl), tt) });
         text = record { said = tail_text empty_file.ends empty_file.events; written = text_of_empty_file; tail = refl; spoke = λ e. absurd (no_nil _ _ e); once = omega arith };
@@ -270,8 +272,9 @@ read_fault_holds =
         cut = None;
         rest = [];
         wanted = false;
-        performs = row_performs (codes "hello\n") 2 false Errored 1 0 true (record { stream = 0; payload = codes "he" } ∷ []) None (how.Fault code.Read) tt refl refl
-            (record { numbers = ((omega arith, omega arith), tt); few = tt; in_turn = λ t. absurd (false≢true t); outputs = (record { pieces = map Byte (codes "he") ∷ []; end = Fault code.Read; run = inl (inl (refl, refl, inl (refl, refl))); printed = refl; reported = refl }, refl); rest = refl })
+        performs = row_performs (codes "hello\n") 2 false Errored 1 0 true (record { stream = 0; payload = codes "he" } ∷ []) None (how.Fault code.Read) (omega arith) tt refl refl
+            (record { numbers = ((omega arith, omega arith), tt); few = tt; in_turn = λ t. absurd (false≢true t); outputs = (record { pieces = map Byte (codes "he") ∷ []; end = Fault code.Read; run = inl (inl (inl (refl, refl, inl (refl, refl))), inl (refl, inr (refl, refl, tt))); printed = refl; reported = refl }, refl); rest = refl })
+            (map Byte (codes "he"), Fault code.Read, (inl (inl (refl, refl, inl (refl, refl))), inl (refl, inr (refl, refl, tt))), refl)
             (λ e. let x : ⊥ = cc in absurd x) (hello_device 2 false Errored 1 0, here [], here [], omega arith) (λ e. cc)
             (λ n. let z = n.devices.0 in absurd (omega (arith, z)));
         text = record { said = tail_text read_fault.ends read_fault.events; written = text_of_read_fault; tail = refl; spoke = λ e. absurd (no_nil _ _ e); once = omega arith };
@@ -289,8 +292,9 @@ failed_close_holds =
         cut = None;
         rest = [];
         wanted = false;
-        performs = row_performs (codes "hello\n") 6 true Succeeded 0 1 false (hello_frame ∷ []) None how.Done (refl, (refl, tt)) refl refl
-            (record { numbers = ((omega arith, omega arith), tt); few = tt; in_turn = λ t. absurd (false≢true t); outputs = (record { pieces = map Byte (codes "hello\n") ∷ []; end = Done; run = inl (inl (refl, refl, inl (refl, (refl, omega arith, refl, refl)))); printed = refl; reported = refl }, refl); rest = refl })
+        performs = row_performs (codes "hello\n") 6 true Succeeded 0 1 false (hello_frame ∷ []) None how.Done (omega arith) (refl, (refl, tt)) refl refl
+            (record { numbers = ((omega arith, omega arith), tt); few = tt; in_turn = λ t. absurd (false≢true t); outputs = (record { pieces = map Byte (codes "hello\n") ∷ []; end = Done; run = inl (inl (inl (refl, refl, inl (refl, (refl, omega arith, refl, refl)))), inl (refl, inl (refl, tt))); printed = refl; reported = refl }, refl); rest = refl })
+            (map Byte (codes "hello\n"), Done, (inl (inl (refl, refl, inl (refl, (refl, omega arith, refl, refl)))), inl (refl, inl (refl, tt))), refl)
             (λ e. let x : ⊥ = cc in absurd x) tt (λ e. cc)
             (λ n. let z = n.devices.0 in absurd (omega (arith, z)));
         text = record { said = tail_text failed_close.ends failed_close.events; written = text_of_failed_close; tail = refl; spoke = λ e. absurd (no_nil _ _ e); once = omega arith };
@@ -308,8 +312,9 @@ failed_write_holds =
         cut = Some hello_frame;
         rest = [];
         wanted = false;
-        performs = row_performs (codes "hello\n") 6 false Canceled 0 0 true [] (Some hello_frame) how.Halted tt refl refl
-            (record { numbers = tt; few = tt; in_turn = λ t. absurd (false≢true t); outputs = (record { pieces = []; end = Cut; run = inr (refl, inl (refl, tt)); printed = refl; reported = inl refl }, refl); rest = record { stream = omega arith; some = omega arith; more = frame_text 0 (codes "hello\n"); front = failed_frame; text = refl; pieces = map Byte (codes "hello\n") ∷ []; run = inl (inl (refl, refl, inl (refl, tt))); goes_on = refl } })
+        performs = row_performs (codes "hello\n") 6 false Canceled 0 0 true [] (Some hello_frame) how.Halted (omega arith) tt refl refl
+            (record { numbers = tt; few = tt; in_turn = λ t. absurd (false≢true t); outputs = (record { pieces = []; end = Cut; run = inl (inr (refl, inl (refl, tt)), inl (refl, inl (refl, tt))); printed = refl; reported = inl refl }, refl); rest = record { stream = omega arith; some = omega arith; more = frame_text 0 (codes "hello\n"); front = failed_frame; text = refl; pieces = map Byte (codes "hello\n") ∷ []; run = ([], Cut, (inl (inl (refl, refl, inl (refl, tt))), inl (refl, inl (refl, tt)))); goes_on = refl } })
+            ([], Cut, (inr (refl, inl (refl, tt)), inl (refl, inl (refl, tt))), inl refl)
             (λ e. inl (inl (λ n. some_none n), λ t. omega arith)) tt (λ e. cc)
             (λ n. absurd (some_none n.written));
         text = record { said = []; written = refl; tail = (refl, refl); spoke = λ e. absurd (no_nil _ _ e); once = omega arith };
@@ -331,15 +336,15 @@ missing_file_holds =
         rest = [];
         wanted = false;
         performs = record {
-          devices = record { made = refl; few = (omega arith, tt); retired = refl; once = IsPermutation-refl _; shut = (record { shut = refl; closes = refl; once = omega arith; there = λ reads missing. refl }, tt); rows = (tt, tt); acquired = tt; failed = tt; exits = λ x. tt; files = λ path. inr refl; stored = ((λ writes. absurd (reads_only writes)), tt) };
+          devices = record { made = refl; few = (omega arith, tt); retired = refl; once = IsPermutation-refl _; shut = (record { shut = refl; closes = refl; once = omega arith; there = λ reads missing. refl; within = omega arith }, tt); rows = (tt, tt); acquired = tt; failed = tt; exits = λ x. tt; files = λ path. inr refl; stored = ((λ writes. absurd (reads_only writes)), tt) };
           ledger = rules_of missing_file.events refl refl refl refl (close_ours 0 0 Errored, tt) (omega arith) refl;
           ran = inr (record {
             values = no_values;
             home = λ r. missing_device;
             rows = record { at_home = (refl, refl, inl (here []), tt); apart = one_apart missing_device; tied = (tt, tt); values = tt; alone = left_alone missing_file.depot_old missing_file.depot_new (how.Fault code.Open) missing_file.events [] None (λ r. missing_device) missing_root; housed = λ d b. ⊎_elim (λ (q : d ≡ missing_device). (0, omega arith, q)) (λ m. absurd (among_nil m)) (among_cons b) };
-            outputs = record { numbers = tt; few = tt; in_turn = λ t. absurd (false≢true t); outputs = (record { pieces = []; end = Fault code.Open; run = inl (inr (refl, refl, refl, refl, tt)); printed = refl; reported = refl }, refl); rest = refl };
+            outputs = record { numbers = tt; few = tt; in_turn = λ t. absurd (false≢true t); outputs = (record { pieces = []; end = Fault code.Open; run = inl (inl (inr (refl, refl, refl, refl, tt)), inr (refl, refl, refl)); printed = refl; reported = refl }, refl); rest = refl };
             ends = ends_of _ _ (how.Fault code.Open) missing_file.events [] None (λ r. missing_device) (λ e. let x : ⊥ = cc in absurd x) (missing_device, here [], here [], omega arith) missing_root (λ e. cc) (close_ours 0 0 Errored, tt);
-            exits = (record { how = how.Fault code.Open; same = inl refl; told = (refl, tt); ran = λ k q. ([], Fault code.Open, inl (inr (refl, refl, refl, refl, tt)), refl) }, tt);
+            exits = (record { how = how.Fault code.Open; same = inl refl; told = (refl, tt); ran = λ k q. ([], Fault code.Open, (inl (inr (refl, refl, refl, refl, tt)), inr (refl, refl, refl)), refl) }, tt);
             wanting = λ t. absurd (false≢true t);
             completeness = λ m n. let z = n.devices.0 in absurd (omega (arith, z));
           });

@@ -7,6 +7,7 @@ pub mod Misdescribing
 pub mod Reading
 pub mod Cases
 pub mod Unruly
+pub mod Untold
 pub mod Auditing
 pub mod Misrotated
 pub mod Rotations

@@ -11,6 +11,7 @@ use Rattle.chunk_core.specs.Lists.IsAmong.{here, there}
 use Rattle.chunk_core.specs.Outcomes.{Done}
 use Rattle.chunk_core.specs.Tables.{no_values}
 use Rattle.chunk_core.specs.declared.code.Exit.TheVariants.{Succeeded}
+use Rattle.chunk_core.specs.declared.code.How.TheVariants as how
 use Rattle.chunk_core.proofs.Distinct.{test_distinct}
 use Rattle.res_ledger.specs.declared.event.StreamNo.TheVariants.{Outer}
 use Rattle.device_port.specs.Device.{DeviceTold, to_read}
@@ -35,7 +36,7 @@ use Rattle.run_laws.specs.Tables.{path_b}
 use Rattle.run_laws.specs.Written.{homes_of, read_device}
 use Rattle.run_laws.proofs.Devices.{accounted}
 use Rattle.run_laws.proofs.EndsTested.{unbounded}
-use Rattle.run_laws.proofs.ExitsTested.{ran_by}
+use Rattle.run_laws.proofs.ExitsTested.{ends_at, outer_ends, ran_so}
 use Rattle.run_laws.proofs.GivingTested.{outer_by, rules_by}
 use Rattle.run_laws.proofs.ListRuns.{ideal_list, none_ended, two_ended, two_lines, two_spelled, whole_list}
 use Rattle.run_laws.proofs.Lists.{two_listed_right}
@@ -99,7 +100,13 @@ performs = record {
   devices = accounted list_devices (to_read path_l ∷ to_read path_a ∷ to_read path_b ∷ []) two_listed.events (list_files list_bytes) (list_files list_bytes) refl refl refl refl refl refl refl refl refl (λ path. inr refl)
       (read_only two_listed.depot_new.files list_device refl, (read_only two_listed.depot_new.files (read_device 1 path_a (codes "x\n") Succeeded) refl, (read_only two_listed.depot_new.files (read_device 2 path_b (codes "y\n") Succeeded) refl, tt)));
   ledger = rules_by work two_listed.events refl refl refl refl refl (omega arith, (omega arith, (omega arith, tt))) refl refl;
-  ran = inr (ran_by work two_listed no_values homes
+  ran = inr (ran_so work two_listed no_values homes (
+    outer_ends work no_values homes how.Done,
+    (
+      ends_at work no_values homes 0 (bytes_of (codes "x\n")) Done how.Done (node_at 0, first_node, (inl (inl (refl, refl, inl (refl, (refl, omega arith, refl, refl)))), inl (refl, inl (refl, tt)))) refl,
+      (ends_at work no_values homes 1 (bytes_of (codes "y\n")) Done how.Done (node_at 1, second_node, (inl (inl (refl, refl, inl (refl, (refl, omega arith, refl, refl)))), inl (refl, inl (refl, tt)))) refl, tt),
+    ),
+  )
       (record {
         at_home = (refl, refl, inl (here _), (refl, refl, inl (there _ (here _)), (refl, refl, inl (there _ (there _ (here _))), tt)));
         apart = test_distinct (0 ∷ 1 ∷ 2 ∷ []) refl;
@@ -113,8 +120,8 @@ performs = record {
         few = tt;
         in_turn = λ t. (never_fall_so (begun_frames two_listed)).0 refl;
         outputs = (
-          record { pieces = bytes_of (codes "x\n") ∷ []; end = Done; run = (node_at 0, first_node, inl (inl (refl, refl, inl (refl, (refl, omega arith, refl, refl))))); printed = refl; reported = refl },
-          (record { pieces = bytes_of (codes "y\n") ∷ []; end = Done; run = (node_at 1, second_node, inl (inl (refl, refl, inl (refl, (refl, omega arith, refl, refl))))); printed = refl; reported = refl }, refl),
+          record { pieces = bytes_of (codes "x\n") ∷ []; end = Done; run = inl (node_at 0, first_node, (inl (inl (refl, refl, inl (refl, (refl, omega arith, refl, refl)))), inl (refl, inl (refl, tt)))); printed = refl; reported = refl },
+          (record { pieces = bytes_of (codes "y\n") ∷ []; end = Done; run = inl (node_at 1, second_node, (inl (inl (refl, refl, inl (refl, (refl, omega arith, refl, refl)))), inl (refl, inl (refl, tt)))); printed = refl; reported = refl }, refl),
         );
         rest = refl;
       })

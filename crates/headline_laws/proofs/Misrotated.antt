@@ -6,6 +6,7 @@ use Rattle.std.specs.List.{AllByRecursion}
 use Rattle.std.specs.Str.{bytes_eq}
 use Rattle.std.proofs.lemmas.Bool.{cases_eq, false≢true}
 use Rattle.chunk_core.specs.Lists.{IsAmong}
+use Rattle.chunk_core.specs.Elements.{Element}
 use Rattle.chunk_core.specs.Outcomes.{End, Done, Fault, Cut, exit_of}
 use Rattle.chunk_core.specs.declared.code.Code.{Code}
 use Rattle.chunk_core.specs.declared.code.Code.TheVariants as code
@@ -17,9 +18,9 @@ use Rattle.chunk_core.proofs.Members.{among_cons, among_nil}
 use Rattle.device_port.specs.Device.{DeviceTold, Place, is_write, to_write}
 use Rattle.device_port.specs.Depot.{DepotTold}
 use Rattle.res_ledger.specs.declared.event.Event.{Event}
-use Rattle.run_rules.specs.Outputs.{IsReported}
+use Rattle.run_rules.specs.Outputs.{IsReported, RunsOrLeft, elements_in_pieces}
 use Rattle.run_rules.specs.Run.{IsUnmade, Ran}
-use Rattle.rotate_rules.specs.Pieces.{EndSays, IsLast, IsTooMuch, IsWhole, Rotated, file_name, piece_of, rotate_work}
+use Rattle.rotate_rules.specs.Pieces.{EndSays, IsLast, IsTooMuch, IsWhole, Rotated, RotatingRuns, file_name, piece_of, rotate_work}
 use Rattle.rotate_rules.specs.Rotation.{RotatesFiles}
 use Rattle.rotate_rules.specs.Worked.{failed_open, late, two_files}
 use Rattle.headline_laws.proofs.Ledgers.{late_holds_more}
@@ -57,13 +58,25 @@ module _ (n : ℕ) (new : DepotTold) (L : List Event) (m : Bool) where
 pub never_three : (n : ℕ) (new : DepotTold) (h : How) (m : Bool) → ¬ (RotatesFiles a p n (rotation_record new h late m))
 never_three n new h m r = late_holds_more r.rotation.two
 
+-- what ended by itself was not left
+over_run : (n : ℕ) (w : ℕ → DeviceTold) (e : End) (ys : List Element) → (e ≡ Cut → ⊥) → RunsOrLeft (RotatingRuns n w) ys e → RotatingRuns n w ys e
+over_run n w e ys never (inl r) = r
+over_run n w e ys never (inr r) = absurd (never r.0)
+
+fault_is_left : (c : Code) → Fault c ≡ Cut → ⊥
+fault_is_left c e = cc
+
+done_is_left : Done ≡ Cut → ⊥
+done_is_left e = cc
+
 -- a file of six bytes isn't too long
 pub never_too_many : (new : DepotTold) (L : List Event) (m : Bool) → ¬ (RotatesFiles a p 4 (rotation_record new (how.Fault code.TooMany) L m))
 never_too_many new L m r =
     let ran = rotated 4 new (how.Fault code.TooMany) L m r in
     let o = ran.outputs.outputs.0 in
-    let much : IsTooMuch 4 (ran.home 0) o.run.1.given = subst (λ e. EndSays 4 (ran.home 0) o.run.1.given e) (reported_fault o.end code.TooMany o.reported) o.run.1.says in
-    let long = (subst (λ x. IfSome x (λ c. (4096 < length c) × (o.run.1.given ≡ take 4096 c))) ran.rows.at_home.1 much.bytes).0 in
+    let s : Rotated 4 ran.home o.end = (over_run 4 ran.home o.end (elements_in_pieces o.pieces) (λ e. fault_is_left code.TooMany (sym (reported_fault o.end code.TooMany o.reported) ∙ e)) o.run).1 in
+    let much : IsTooMuch 4 (ran.home 0) s.given = subst (λ e. EndSays 4 (ran.home 0) s.given e) (reported_fault o.end code.TooMany o.reported) s.says in
+    let long = (subst (λ x. IfSome x (λ c. (4096 < length c) × (s.given ≡ take 4096 c))) ran.rows.at_home.1 much.bytes).0 in
     omega (arith, long)
 
 -- the root is closed with the exit of the end
@@ -105,8 +118,8 @@ pub never_cut : (second : List ℕ) (m : Bool) → length second < 2 → ¬ (Rot
 never_cut second m short r =
     let ran = rotated 4 _ how.Done two_files m r in
     let o = ran.outputs.outputs.0 in
-    let s : Rotated 4 ran.home o.end = o.run.1 in
     let e : o.end ≡ Done = reported_done o.end o.reported in
+    let s : Rotated 4 ran.home o.end = (over_run 4 ran.home o.end (elements_in_pieces o.pieces) (λ q. done_is_left (sym e ∙ q)) o.run).1 in
     let whole : IsWhole (ran.home 0) s.given = subst (λ e. EndSays 4 (ran.home 0) s.given e) e s.says in
     let given : s.given ≡ six = subst (λ x. IfSome x (λ c. s.given ≡ c)) ran.rows.at_home.1 whole.bytes in
     let l : length s.given ≡ 6 = ap (λ (xs : List ℕ). length xs) given in

@@ -10,7 +10,7 @@ use Rattle.std.proofs.lemmas.List.Sorted.{length_permutation}
 use Rattle.chunk_core.specs.Texts.{Frame, frame_text, frames_text, payloads_of}
 use Rattle.chunk_core.specs.Lists.{IsAmong}
 use Rattle.chunk_core.specs.Elements.{Element, Byte, element_text, rendering_of}
-use Rattle.chunk_core.specs.Outcomes.{End, Done, Fault, Cut, exit_of}
+use Rattle.chunk_core.specs.Outcomes.{End, Done, Fault, Cut, Outcomes, exit_of}
 use Rattle.chunk_core.specs.declared.code.Exit.TheVariants.{Succeeded, Errored, Canceled}
 use Rattle.chunk_core.specs.declared.code.How.{How}
 use Rattle.chunk_core.specs.declared.code.How.TheVariants as how
@@ -20,7 +20,7 @@ use Rattle.run_rules.specs.Ends.{HasCauseToHalt}
 use Rattle.run_rules.specs.Exits.{HasOneExit, IsExitHidden}
 use Rattle.run_rules.specs.Facts.{IsFailure, is_fault}
 use Rattle.run_rules.specs.Homes.{IsUntouched}
-use Rattle.run_rules.specs.Outputs.{IsReported, IsRest, elements_in_pieces, payloads_by}
+use Rattle.run_rules.specs.Outputs.{IsReported, IsRest, RunsOrLeft, elements_in_pieces, payloads_by}
 use Rattle.run_rules.specs.Run.{IsUnmade, Ran}
 use Rattle.run_rules.specs.Work.{RunRecord, Values}
 use Rattle.res_ledger.specs.declared.event.StreamNo.TheVariants.{Inner}
@@ -133,17 +133,22 @@ done (Fault c) r = let h = ap number r in absurd (omega (arith, h))
 done Cut (inl r) = let h = ap number r in absurd (omega (arith, h))
 done Cut (inr r) = let h = ap number r in absurd (omega (arith, h))
 
+-- what is done was not left
+ended_run : (A : Outcomes) (ys : List Element) (e : End) → e ≡ Done → RunsOrLeft A ys e → A ys e
+ended_run A ys e q (inl x) = x
+ended_run A ys e q (inr x) = let h = ap place (sym q ∙ x.0) in absurd (omega (arith, h))
+
 -- a run that is done opened its device
 opened : (d : DeviceTold) (ys : List Element) (e : End) → e ≡ Done → FileRuns d ys e → d.opens ≡ 1
-opened d ys e q (inl (inl x)) = x.0
-opened d ys e q (inl (inr x)) = let h = ap place (sym q ∙ x.3) in absurd (omega (arith, h))
-opened d ys e q (inr x) = let h = ap place (sym q ∙ x.0) in absurd (omega (arith, h))
+opened d ys e q (inl (inl x), t) = x.0
+opened d ys e q (inl (inr x), t) = let h = ap place (sym q ∙ x.3) in absurd (omega (arith, h))
+opened d ys e q (inr x, t) = let h = ap place (sym q ∙ x.0) in absurd (omega (arith, h))
 
 pub invented_output_refused : ¬ (RunsStreams invented_output)
 invented_output_refused h =
     let g = good h.causes h.status.status in
     let r = ran_with_ends invented_output h.causes (work_of invented_output h refl (an_end _ [])) (an_end _ []) in
-    let o = opened (r.home 0) (elements_in_pieces r.outputs.outputs.0.pieces) r.outputs.outputs.0.end (done r.outputs.outputs.0.end r.outputs.outputs.0.reported) r.outputs.outputs.0.run in
+    let o = opened (r.home 0) (elements_in_pieces r.outputs.outputs.0.pieces) r.outputs.outputs.0.end (done r.outputs.outputs.0.end r.outputs.outputs.0.reported) (ended_run (FileRuns (r.home 0)) (elements_in_pieces r.outputs.outputs.0.pieces) r.outputs.outputs.0.end (done r.outputs.outputs.0.end r.outputs.outputs.0.reported) r.outputs.outputs.0.run) in
     ⊎_elim among_nil (λ (x : IsUntouched (r.home 0)). let z = x.opens in omega (arith, o, z)) r.rows.at_home.2
 
 pub row_of_no_plan_refused : ¬ (RunsStreams row_of_no_plan)
@@ -218,9 +223,9 @@ read_left c d is ys e q (inl x) = read_whole c d is ys e q x
 read_left c d is ys e q (inr x) = let h = ap place (sym q ∙ x.0) in absurd (omega (arith, h))
 
 given_whole : (c : List ℕ) (d : DeviceTold) → d.content ≡ Some c → (ys : List Element) (e : End) → e ≡ Done → FileRuns d ys e → ys ≡ map Byte c
-given_whole c d is ys e q (inl (inl x)) = read_left c d is ys e q x.2
-given_whole c d is ys e q (inl (inr x)) = let h = ap place (sym q ∙ x.3) in absurd (omega (arith, h))
-given_whole c d is ys e q (inr x) = let h = ap place (sym q ∙ x.0) in absurd (omega (arith, h))
+given_whole c d is ys e q (inl (inl x), t) = read_left c d is ys e q x.2
+given_whole c d is ys e q (inl (inr x), t) = let h = ap place (sym q ∙ x.3) in absurd (omega (arith, h))
+given_whole c d is ys e q (inr x, t) = let h = ap place (sym q ∙ x.0) in absurd (omega (arith, h))
 
 abbrev pub bytes_of : Option (List ℕ) → List ℕ
 bytes_of None = []
@@ -247,7 +252,7 @@ cut_output_refused h =
     let w = went h.causes g t.text.said _ (is_some t.cut) t.wanted t.text.tail in
     let r = ran_with_ends cut_output h.causes t (an_end _ []) in
     let o = r.outputs.outputs.0 in
-    let ys = given_whole (codes "hello world\n") (r.home 0) r.rows.at_home.1 (elements_in_pieces o.pieces) o.end (done o.end o.reported) o.run in
+    let ys = given_whole (codes "hello world\n") (r.home 0) r.rows.at_home.1 (elements_in_pieces o.pieces) o.end (done o.end o.reported) (ended_run (FileRuns (r.home 0)) (elements_in_pieces o.pieces) o.end (done o.end o.reported) o.run) in
     let n : length (payloads_of 0 (work_of cut_output h refl (an_end _ [])).frames) ≡ 12 = ap (λ x. length x) (printed_as 0 t.frames o.pieces o.printed ∙ ap (λ x. rendering_of x) ys) in
     let f : 12 ≤ length (frames_text (work_of cut_output h refl (an_end _ [])).frames) = omega (arith, n, within 0 (work_of cut_output h refl (an_end _ [])).frames) in
     too_short _ (frames_text (work_of cut_output h refl (an_end _ [])).frames) (work_of cut_output h refl (an_end _ [])).rest (work_of cut_output h refl (an_end _ [])).text.said _ (ap (λ x. bytes_of x) (work_of cut_output h refl (an_end _ [])).text.written) (rest_none r.values r.home t.frames t.rest t.cut w.broke_is r.outputs.rest) w.said_is tail_is_long f
@@ -303,17 +308,17 @@ read_met d ys e q (inl x) = let r = subst (λ (g : End). Reads d ys g) q x in (r
 read_met d ys e q (inr x) = let h = ap place (sym q ∙ x.0) in absurd (omega (arith, h))
 
 met : (d : DeviceTold) (ys : List Element) (e : End) → e ≡ Done → FileRuns d ys e → (d.ended ≡ true) × (d.read_faults ≡ 0)
-met d ys e q (inl (inl x)) = read_met d ys e q x.2
-met d ys e q (inl (inr x)) = let h = ap place (sym q ∙ x.3) in absurd (omega (arith, h))
-met d ys e q (inr x) = let h = ap place (sym q ∙ x.0) in absurd (omega (arith, h))
+met d ys e q (inl (inl x), t) = read_met d ys e q x.2
+met d ys e q (inl (inr x), t) = let h = ap place (sym q ∙ x.3) in absurd (omega (arith, h))
+met d ys e q (inr x, t) = let h = ap place (sym q ∙ x.0) in absurd (omega (arith, h))
 
 pub failed_read_forgotten_refused : ¬ (RunsStreams failed_read_forgotten)
 failed_read_forgotten_refused h =
     let g = good h.causes h.status.status in
     let r = ran_with_ends failed_read_forgotten h.causes (work_of failed_read_forgotten h refl (an_end _ [])) (an_end _ []) in
     let o = r.outputs.outputs.0 in
-    let m = met (r.home 0) (elements_in_pieces o.pieces) o.end (done o.end o.reported) o.run in
-    let n = opened (r.home 0) (elements_in_pieces o.pieces) o.end (done o.end o.reported) o.run in
+    let m = met (r.home 0) (elements_in_pieces o.pieces) o.end (done o.end o.reported) (ended_run (FileRuns (r.home 0)) (elements_in_pieces o.pieces) o.end (done o.end o.reported) o.run) in
+    let n = opened (r.home 0) (elements_in_pieces o.pieces) o.end (done o.end o.reported) (ended_run (FileRuns (r.home 0)) (elements_in_pieces o.pieces) o.end (done o.end o.reported) o.run) in
     ⊎_elim
     (λ b. ⊎_elim (λ e. let f = ap (λ (d : DeviceTold). d.read_faults) e in let z = m.1 in omega (arith, f, z)) among_nil (among_cons b))
     (λ (x : IsUntouched (r.home 0)). let z = x.opens in omega (arith, n, z))
@@ -324,8 +329,8 @@ end_never_met_refused h =
     let g = good h.causes h.status.status in
     let r = ran_with_ends end_never_met h.causes (work_of end_never_met h refl (an_end _ [])) (an_end _ []) in
     let o = r.outputs.outputs.0 in
-    let m = met (r.home 0) (elements_in_pieces o.pieces) o.end (done o.end o.reported) o.run in
-    let n = opened (r.home 0) (elements_in_pieces o.pieces) o.end (done o.end o.reported) o.run in
+    let m = met (r.home 0) (elements_in_pieces o.pieces) o.end (done o.end o.reported) (ended_run (FileRuns (r.home 0)) (elements_in_pieces o.pieces) o.end (done o.end o.reported) o.run) in
+    let n = opened (r.home 0) (elements_in_pieces o.pieces) o.end (done o.end o.reported) (ended_run (FileRuns (r.home 0)) (elements_in_pieces o.pieces) o.end (done o.end o.reported) o.run) in
     ⊎_elim
     (λ b. ⊎_elim (λ e. false≢true (ap (λ (d : DeviceTold). d.ended) (sym e) ∙ m.0)) among_nil (among_cons b))
     (λ (x : IsUntouched (r.home 0)). let z = x.opens in omega (arith, n, z))

@@ -206,7 +206,7 @@ accounted_two = record {
   few = few_made;
   retired = refl;
   once = IsPermutation-refl _;
-  shut = (record { shut = refl; closes = refl; once = omega arith; there = λ reads missing. absurd (not_missing missing) }, (record { shut = refl; closes = refl; once = omega arith; there = λ reads missing. let no : ⊥ = cc in absurd no }, (record { shut = refl; closes = refl; once = omega arith; there = λ reads missing. let no : ⊥ = cc in absurd no }, tt)));
+  shut = (record { shut = refl; closes = refl; once = omega arith; there = λ reads missing. absurd (not_missing missing); within = omega arith }, (record { shut = refl; closes = refl; once = omega arith; there = λ reads missing. let no : ⊥ = cc in absurd no; within = omega arith }, (record { shut = refl; closes = refl; once = omega arith; there = λ reads missing. let no : ⊥ = cc in absurd no; within = omega arith }, tt)));
   rows = (omega arith, (tt, (omega arith, (tt, (omega arith, (tt, (tt, (tt, (tt, (tt, tt))))))))));
   acquired = acquired_two;
   failed = tt;
@@ -270,7 +270,7 @@ two_performs = record {
       alone = alone;
       housed = housed_by how.Done two_files both reader first second refl refl refl refl refl refl refl;
     };
-    outputs = record { numbers = tt; few = tt; in_turn = λ t. absurd (false≢true t); outputs = (record { pieces = []; end = Done; run = (refl, pieces_of_two); printed = refl; reported = refl }, refl); rest = refl };
+    outputs = record { numbers = tt; few = tt; in_turn = λ t. absurd (false≢true t); outputs = (record { pieces = []; end = Done; run = inl (refl, pieces_of_two); printed = refl; reported = refl }, refl); rest = refl };
     ends = ends_of how.Done two_files both home_of_two (λ e. cc) (λ e. cc) tt root_of_two mine_two;
     exits = (record { how = how.Done; same = inl refl; told = (tt, (tt, (tt, (tt, (tt, (tt, (tt, (refl, (tt, (tt, tt)))))))))); ran = λ k q. ([], Done, (refl, pieces_of_two), refl) }, tt);
     wanting = λ t. absurd (false≢true t);
@@ -337,7 +337,7 @@ accounted_one = record {
   few = few_made;
   retired = refl;
   once = IsPermutation-refl _;
-  shut = (record { shut = refl; closes = refl; once = omega arith; there = λ reads missing. absurd (not_missing missing) }, (record { shut = refl; closes = refl; once = omega arith; there = λ reads missing. let no : ⊥ = cc in absurd no }, (record { shut = refl; closes = refl; once = omega arith; there = λ reads missing. refl }, tt)));
+  shut = (record { shut = refl; closes = refl; once = omega arith; there = λ reads missing. absurd (not_missing missing); within = omega arith }, (record { shut = refl; closes = refl; once = omega arith; there = λ reads missing. let no : ⊥ = cc in absurd no; within = omega arith }, (record { shut = refl; closes = refl; once = omega arith; there = λ reads missing. refl; within = omega arith }, tt)));
   rows = (omega arith, (tt, (omega arith, (tt, (tt, (tt, tt))))));
   acquired = acquired_one;
   failed = tt;
@@ -395,7 +395,7 @@ one_performs = record {
       alone = alone;
       housed = housed_by (how.Fault code.Open) failed_open one stopped_reader only unopened refl refl refl refl refl refl refl;
     };
-    outputs = record { numbers = tt; few = tt; in_turn = λ t. absurd (false≢true t); outputs = (record { pieces = []; end = Fault code.Open; run = (refl, pieces_of_one); printed = refl; reported = refl }, refl); rest = refl };
+    outputs = record { numbers = tt; few = tt; in_turn = λ t. absurd (false≢true t); outputs = (record { pieces = []; end = Fault code.Open; run = inl (refl, pieces_of_one); printed = refl; reported = refl }, refl); rest = refl };
     ends = ends_of (how.Fault code.Open) failed_open one home_of_one (λ e. cc) (λ e. cc) shown_one root_of_one mine_one;
     exits = (record { how = how.Fault code.Open; same = inl refl; told = (tt, (tt, (tt, (refl, (tt, (tt, tt)))))); ran = λ k q. ([], Fault code.Open, (refl, pieces_of_one), refl) }, tt);
     wanting = λ t. absurd (false≢true t);

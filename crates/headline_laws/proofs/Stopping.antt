@@ -7,7 +7,7 @@ use Rattle.std.proofs.lemmas.Bool.{false≢true}
 use Rattle.std.proofs.lemmas.Fmt.{decimal_digit}
 use Rattle.std.proofs.lemmas.List.{length-map}
 use Rattle.chunk_core.specs.Elements.{Element, Byte, rendering_of}
-use Rattle.chunk_core.specs.Outcomes.{Cut, End, Outcomes}
+use Rattle.chunk_core.specs.Outcomes.{End, Outcomes}
 use Rattle.chunk_core.specs.Texts.{Frame, frame_text, frames_text, payloads_of}
 use Rattle.chunk_core.specs.declared.code.How.{How}
 use Rattle.chunk_core.specs.declared.code.How.TheVariants as how
@@ -15,13 +15,15 @@ use Rattle.res_ledger.specs.declared.event.StreamNo.TheVariants.{Inner}
 use Rattle.device_port.specs.Depot.{DepotTold, content_at}
 use Rattle.device_port.specs.Device.{DeviceTold}
 use Rattle.pull_nodes.specs.Runs.{FirstBytes, OpensThen, OrLeft, Reads}
-use Rattle.run_rules.specs.Outputs.{AreOutputs, IsCutFrame, IsRest, elements_in_pieces}
+use Rattle.run_rules.specs.Outputs.{AreOutputs, IsCutFrame, IsRest, RunsOrLeft, StartsRunOf, elements_in_pieces}
 use Rattle.run_rules.specs.Run.{Ran}
 use Rattle.run_rules.specs.Texts.{tail_text}
 use Rattle.cat_run.specs.Cat.{FileRuns, cat_work}
 use Rattle.flume_cli.specs.Status.{Causes}
 use Rattle.flume_cli.specs.declared.status.Status.TheVariants as status
 use Rattle.flume_cli.specs.Headline.{Call, run_of_call, RunsStreams, SaysTail, TellsWork}
+use Rattle.chunk_core.proofs.Each.{each_left}
+use Rattle.cat_run.specs.Alone.{IsByte}
 use Rattle.cat_run.proofs.CatRuns.{file_bytes}
 use Rattle.cat_run.proofs.Pieces.{bytes_length}
 use Rattle.headline_laws.specs.Calls.{a}
@@ -115,9 +117,21 @@ opens_length c d is ys e (inr r) = let l = ap (λ (xs : List Element). length xs
 -- no more is rendered than the file has
 rendered : (c : List ℕ) (d : DeviceTold) → d.content ≡ Some c → (ys : List Element) (e : End) → FileRuns d ys e → length (rendering_of ys) ≤ length c
 rendered c d is ys e r =
-    let l = left_length (length c) (OpensThen d (OrLeft (Unit {0}) (Reads d)) (Unit {0})) (opens_length c d is) ys e r in
+    let l = left_length (length c) (OpensThen d (OrLeft (Unit {0}) (Reads d)) (Unit {0})) (opens_length c d is) ys e r.0 in
     let n = bytes_length ys (file_bytes d ys e r) in
     omega (arith, l, n)
+
+-- nor is of what comes first in a run
+rendered_first : (c : List ℕ) (d : DeviceTold) → d.content ≡ Some c → (ys : List Element) → StartsRunOf (FileRuns d) ys → length (rendering_of ys) ≤ length c
+rendered_first c d is ys r =
+    let l = left_length (length c) (OpensThen d (OrLeft (Unit {0}) (Reads d)) (Unit {0})) (opens_length c d is) (ys ++ r.0) r.1 r.2.0 in
+    let a = length-append ys r.0 in
+    let n = bytes_length ys (each_left IsByte ys r.0 (file_bytes d (ys ++ r.0) r.1 r.2)) in
+    omega (arith, l, a, n)
+
+rendered_or_left : (c : List ℕ) (d : DeviceTold) → d.content ≡ Some c → (ys : List Element) (e : End) → RunsOrLeft (FileRuns d) ys e → length (rendering_of ys) ≤ length c
+rendered_or_left c d is ys e (inl r) = rendered c d is ys e r
+rendered_or_left c d is ys e (inr r) = rendered_first c d is ys r.1
 
 payloads_behind : (k : ℕ) (p : List ℕ) (fs : List Frame) → 0 ≡ k → payloads_of 0 (record { stream = k; payload = p } ∷ fs) ≡ p ++ payloads_of 0 fs
 payloads_behind k p fs e = subst (λ j. payloads_of 0 (record { stream = j; payload = p } ∷ fs) ≡ p ++ payloads_of 0 fs) e refl
@@ -152,7 +166,7 @@ module _ (c : Call) (k : Causes) (t : TellsWork (cat_work a) c k) (some : c.ends
   printed_few : length (payloads_of 0 t.frames) ≤ 6
   printed_few =
       let o = (subst (λ es. AreOutputs (cat_work a) run.values run.home t.frames 0 (cat_work a).streams es) one run.outputs.outputs).0 in
-      let l = rendered (codes "hello\n") (run.home 0) (run.rows.at_home.1 ∙ content) (elements_in_pieces o.pieces) o.end o.run in
+      let l = rendered_or_left (codes "hello\n") (run.home 0) (run.rows.at_home.1 ∙ content) (elements_in_pieces o.pieces) o.end o.run in
       let p = ap (λ (xs : List ℕ). length xs) (printed_as 0 t.frames o.pieces o.printed) in
       omega (arith, l, p)
 
@@ -239,7 +253,7 @@ module _ (h : RunsStreams halted_by_the_tail) where
       let rest : IsCutFrame (cat_work a) ran_here.values ran_here.home tells.frames f tells.rest = subst (λ o. IsRest (cat_work a) ran_here.values ran_here.home tells.frames o tells.rest) e ran_here.outputs.rest in
       let z : 0 ≡ f.stream = let l = rest.stream in omega (arith, l) in
       let text : codes "0 6\nhello\n\n" ≡ frames_text tells.frames ++ (tells.rest ++ []) = ap bytes_of tells.text.written ∙ ap (λ x. frames_text tells.frames ++ (tells.rest ++ x)) said.1 in
-      let few : length (payloads_of f.stream tells.frames ++ f.payload) ≤ 6 = (let l = rendered (codes "hello\n") (ran_here.home 0) ran_here.rows.at_home.1 (elements_in_pieces rest.pieces) Cut rest.run in let p = ap (λ (xs : List ℕ). length xs) (goes_on_as f.stream tells.frames f.payload rest.pieces rest.goes_on) in omega (arith, l, p)) in
+      let few : length (payloads_of f.stream tells.frames ++ f.payload) ≤ 6 = (let l = rendered_first (codes "hello\n") (ran_here.home 0) ran_here.rows.at_home.1 (elements_in_pieces rest.pieces) rest.run in let p = ap (λ (xs : List ℕ). length xs) (goes_on_as f.stream tells.frames f.payload rest.pieces rest.goes_on) in omega (arith, l, p)) in
       let few_0 : length (payloads_of 0 tells.frames ++ f.payload) ≤ 6 = subst (λ j. length (payloads_of j tells.frames ++ f.payload) ≤ 6) (sym z) few in
       let s = length-append (payloads_of 0 tells.frames) f.payload in
       six_bytes tells.frames f tells.rest rest.more ran_here.outputs.numbers z rest.some rest.front rest.text (omega (arith, few_0, s)) text

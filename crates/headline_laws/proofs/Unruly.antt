@@ -11,7 +11,7 @@ use Rattle.pipeline_desc.specs.declared.refusal.Refusal.{Refusal}
 use Rattle.run_rules.specs.Devices.{IsWrittenBy, came_back}
 use Rattle.run_rules.specs.Pace.{BeginInOrder}
 use Rattle.flume_cli.specs.Headline.{Call, DoesPlan, RunsInput, RunsStreams, StopsBefore}
-use Rattle.headline_laws.specs.Unruly.{b, emptied_unopened, opened_though_missing, opened_twice, out_of_turn, second_first_ledger}
+use Rattle.headline_laws.specs.Unruly.{b, emptied_unopened, opened_though_missing, opened_twice, out_of_turn, read_beyond_the_end, second_first_ledger}
 use Rattle.headline_laws.proofs.Asked.{done_if, run_asks, unless_early, work_of}
 use Rattle.headline_laws.proofs.Refusing.{an_end, bytes_of}
 
@@ -20,6 +20,9 @@ opened_twice_refused h = let l = (work_of opened_twice h refl (an_end _ [])).per
 
 pub opened_though_missing_refused : ¬ (RunsStreams opened_though_missing)
 opened_though_missing_refused h = let n = (work_of opened_though_missing h refl (an_end _ [])).performs.devices.shut.0.there refl refl in omega (arith, n)
+
+pub read_beyond_the_end_refused : ¬ (RunsStreams read_beyond_the_end)
+read_beyond_the_end_refused h = let l = (work_of read_beyond_the_end h refl (an_end _ [])).performs.devices.shut.0.within in omega (arith, l)
 
 -- What was done for run, where there are ends.
 

@@ -1,5 +1,5 @@
 -- Calls that do more than they may.
-use Rattle.std.specs.Prelude.{true, ℕ, [], ◌∷◌, Some, codes}
+use Rattle.std.specs.Prelude.{true, false, ℕ, [], ◌∷◌, Some, codes}
 use Rattle.chunk_core.specs.declared.code.Exit.TheVariants.{Succeeded, Canceled}
 use Rattle.chunk_core.specs.declared.code.How.TheVariants as how
 use Rattle.res_ledger.specs.declared.event.StreamNo.TheVariants.{Inner}
@@ -54,6 +54,10 @@ memory_at_the_end = record (file_call (codes "hello\n") whole_device (output_of 
 abbrev pub halted_for_memory : Call
 halted_for_memory = record (file_call (codes "hello\n") (closed_device (codes "hello\n") 6 true Canceled 0 0)
     (output_of (codes "0 2\nhe\nend 0 halted\nledger 3\n0 acquire 0 0\n0 close 0 canceled\n0 final 0 canceled ok\n") 0) status.Memory how.Halted (one_row_ledger Canceled true)) { err_new = told_of_memory }
+
+-- a read failed behind the two bytes that were printed, and memory is said to have been wanting
+abbrev pub failed_read_told_as_memory : Call
+failed_read_told_as_memory = record (file_call (codes "hello\n") (closed_device (codes "hello\n") 2 false Canceled 1 0) (output_of (codes "0 2\nhe\n") 0) status.Memory how.Memory (one_row_ledger Canceled true)) { err_new = told_of_memory }
 
 -- at most four bytes a frame are asked for, and six are printed in one
 abbrev pub larger_frame : Call

@@ -1,5 +1,5 @@
 -- Calls with devices, files or streams that do as none does.
-use Rattle.std.specs.Prelude.{ℕ, true, cond, List, [], ◌∷◌, Option, Some, None, codes}
+use Rattle.std.specs.Prelude.{ℕ, true, false, cond, List, [], ◌∷◌, Option, Some, None, codes}
 use Rattle.std.specs.Str.{bytes_eq}
 use Rattle.chunk_core.specs.declared.code.Exit.TheVariants.{Succeeded, Canceled}
 use Rattle.chunk_core.specs.declared.code.How.TheVariants as how
@@ -10,7 +10,7 @@ use Rattle.device_port.specs.Depot.{Files}
 use Rattle.device_port.specs.Device.{DeviceTold, to_read}
 use Rattle.flume_cli.specs.declared.status.Status.TheVariants as status
 use Rattle.flume_cli.specs.Headline.{Call}
-use Rattle.headline_laws.specs.Calls.{a, event, closed_device, depot_before, depot_after, end_of_0, no_input, output_of, one_row_ledger, cat_call}
+use Rattle.headline_laws.specs.Calls.{a, event, closed_device, depot_before, depot_after, end_of_0, no_input, output_of, one_row_ledger, cat_call, file_call}
 use Rattle.headline_laws.specs.Described.{source_of}
 use Rattle.headline_laws.specs.Surplus.{idle_device_at, told_of_memory}
 use Rattle.headline_laws.specs.Worked.{missing_device}
@@ -25,6 +25,10 @@ abbrev pub opened_though_missing : Call
 opened_though_missing =
     cat_call (record { files = Some (λ p. None); made = []; retired = [] }) (record { files = Some (λ p. None); made = to_read a ∷ []; retired = record missing_device { ended = true; opens = 1; closes = 1; exit = Some Succeeded; open_faults = 0 } ∷ [] })
     (output_of (codes "end 0 done\nledger 3\n0 acquire 0 0\n0 close 0 succeeded\n0 final 0 succeeded ok\n") 0) status.Good how.Done (one_row_ledger Succeeded true)
+
+-- the first write failed, and seven bytes of a file of six had been read
+abbrev pub read_beyond_the_end : Call
+read_beyond_the_end = file_call (codes "hello\n") (closed_device (codes "hello\n") 7 false Canceled 0 0) (output_of [] 1) status.NotWritten how.Halted (one_row_ledger Canceled true)
 
 -- the path of another file
 abbrev pub b : List ℕ

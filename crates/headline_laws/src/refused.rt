@@ -9,8 +9,8 @@ ghost use Rattle.headline_laws.specs.Described.{drained, end_not_read, made_thou
 ghost use Rattle.headline_laws.specs.Evaluated.{evaluated_and_open, evaluation_halted, group_lost, groups_joined, groups_swapped};
 ghost use Rattle.headline_laws.specs.Listed.{line_before_read, line_forgotten, other_group_run};
 ghost use Rattle.headline_laws.specs.Rotated.{closed_at_the_end, cut_piece, done_as_errored, halted_rotation, printed_too, too_many_of_six, unfailed_write};
-ghost use Rattle.headline_laws.specs.Surplus.{halted_by_the_tail, halted_for_memory, idle_devices, invented_scopes, larger_frame, made_without_words, memory_at_the_end, opened_again, writes_on};
-ghost use Rattle.headline_laws.specs.Unruly.{emptied_unopened, opened_though_missing, opened_twice, out_of_turn};
+ghost use Rattle.headline_laws.specs.Surplus.{failed_read_told_as_memory, halted_by_the_tail, halted_for_memory, idle_devices, invented_scopes, larger_frame, made_without_words, memory_at_the_end, opened_again, writes_on};
+ghost use Rattle.headline_laws.specs.Unruly.{emptied_unopened, opened_though_missing, opened_twice, out_of_turn, read_beyond_the_end};
 
 /// Outputs that no device gave.
 pub fn invented_outputs()
@@ -57,11 +57,12 @@ pub fn surplus()
     ensures is_made_without_words { ¬ (Headline made_without_words) }
 {}
 
-/// Devices that were opened as none is, a file that changed though nobody opened it, and streams
+/// Devices that were opened or read as none is, a file that changed though nobody opened it, and streams
 /// that came out of turn.
 pub fn unruly()
     ensures is_opened_twice { ¬ (Headline opened_twice) }
     ensures is_opened_though_missing { ¬ (Headline opened_though_missing) }
+    ensures is_read_beyond_the_end { ¬ (Headline read_beyond_the_end) }
     ensures is_emptied_unopened { ¬ (Headline emptied_unopened) }
     ensures is_out_of_turn { ¬ (Headline out_of_turn) }
 {}
@@ -72,6 +73,7 @@ pub fn missing_causes()
     ensures is_halted_without_a_cause { ¬ (Headline halted_without_a_cause) }
     ensures is_fault_without_a_fault { ¬ (Headline fault_without_a_fault) }
     ensures is_failed_read_forgotten { ¬ (Headline failed_read_forgotten) }
+    ensures is_failed_read_told_as_memory { ¬ (Headline failed_read_told_as_memory) }
     ensures is_end_never_met { ¬ (Headline end_never_met) }
     ensures is_failed_close_not_told { ¬ (Headline failed_close_not_told) }
     ensures is_silent_call { ¬ (Headline silent_call) }

@@ -9,7 +9,7 @@ use Rattle.chunk_core.proofs.Distinct.{distinct_head, distinct_tail}
 use Rattle.chunk_core.proofs.Each.{each_among}
 use Rattle.device_port.specs.Device.{Place, DeviceTold}
 use Rattle.device_port.specs.Depot.{DepotTold, Files, KeepsFilesBut, KeepsWritten, content_at}
-use Rattle.run_rules.specs.Devices.{IsWrittenBy, OpensWhatIsThere}
+use Rattle.run_rules.specs.Devices.{IsWrittenBy, KeepsToWhatIsThere}
 use Rattle.run_rules.specs.Facts.{at}
 use Rattle.stream_parts.specs.Retire.{AreWrittenAlone, Exchanges, HaveOwnOutputs, write_alike}
 use Rattle.stream_parts.proofs.Exchanged.{alike_so, outputs_permuted}
@@ -76,7 +76,7 @@ module _ (places : List Place) (w : ℕ → DeviceTold) where
 
     -- the devices that were made for some rows came back, in any order
     pub come_back : (old new : DepotTold) (rows : List ℕ) (back : List DeviceTold) → Exchanges old new (map (λ r. (w r).place) rows) back → IsDistinct nat_eq rows → IsPermutation (map w rows) back → AreMade old.files places (length old.made) w rows
-        → ((r : ℕ) (p : Place) → at places r ≡ Some p → ¬ (IsAmong r rows) → IsUnmadeAt old.files p (w r)) → AllByRecursion OpensWhatIsThere back → MadeComeBack old new places w
+        → ((r : ℕ) (p : Place) → at places r ≡ Some p → ¬ (IsAmong r rows) → IsUnmadeAt old.files p (w r)) → AllByRecursion KeepsToWhatIsThere back → MadeComeBack old new places w
     come_back old new rows back e apart each devices others opened =
         let placed : (r : ℕ) → IsAmong r rows → at places r ≡ Some (w r).place = λ r m. let p = made_place old.files r (length old.made) rows devices m in p.1 ∙ ap Some (sym p.2) in
         record {

@@ -8,7 +8,7 @@ use Rattle.chunk_core.specs.declared.code.How.{How}
 use Rattle.chunk_core.specs.declared.load.Load.{Load}
 use Rattle.chunk_core.specs.Elements.{elements_of}
 use Rattle.device_port.specs.Device.{DeviceTold}
-use Rattle.pull_nodes.specs.Runs.{IsRun}
+use Rattle.pull_nodes.specs.Failures.{IsToldRun}
 use Rattle.pull_nodes.specs.Shape.{scope_count}
 use Rattle.pull_nodes.specs.declared.node.Node.{Node}
 use Rattle.pull_turns.specs.Led.{end_of}
@@ -67,7 +67,7 @@ module _ {V : Type 0} (told : V → DeviceTold) where
     pub visited : HasVisited n devices k floor T home (view e.seat) e.shelf e.unopened e.how
     pub loads : List Load
     pub filled : AreFilled loads
-    pub run : IsRun values home n (elements_of loads) (end_of e.how)
+    pub run : IsToldRun values home n (elements_of loads) (end_of e.how)
     pub texts : List Load
     pub texts_are : AreTextsOf loads texts
     pub sent : e.sender.sent ≡ load_messages k texts ++ end_message k e.how ∷ []

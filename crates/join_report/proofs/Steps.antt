@@ -89,6 +89,22 @@ module _ (most : Option ℕ) (n : ℕ) (t : Tale) (r : Report) (i : IsReport mos
     accounts = accounts_on n t (learned t vs cs) r.streams 0 i.accounts (λ j. agrees_same t (learned t vs cs) j refl refl refl);
   }
 
+  -- whose turn it was changes nothing
+  pub turns : (pulled : List ℕ) (room : ℕ → List ℕ) → IsReport most n (record t { pulled = pulled; room = room }) r
+  turns pulled room =
+      let u : Tale = record t { pulled = pulled; room = room } in
+      record {
+        wanted = i.wanted;
+        ceased = i.ceased;
+        sink_failed = i.sink_failed;
+        memory = i.memory;
+        quiet = λ c. record { wanted = (i.quiet c).wanted; late = (i.quiet c).late; memory = (i.quiet c).memory };
+        ours = i.ours;
+        hows = i.hows;
+        unwritten = i.unwritten;
+        accounts = accounts_on n t u r.streams 0 i.accounts (λ j. agrees_same t u j refl refl refl);
+      }
+
   -- the next stream began or was skipped
   pub fates : (f : Fate) → (f ≡ Unmade → ⊥) → IsReport most n (fated t f) r
   fates f not = record {

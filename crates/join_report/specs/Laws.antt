@@ -13,11 +13,12 @@ use Rattle.join_report.specs.Stopping.{IsSeated, IsUnknown, Learns, TellsKnown, 
 use Rattle.join_report.specs.declared.report.Report.{Report}
 use Rattle.join_report.specs.declared.stops.Stops.{Stops}
 
--- a report stays one where a stream begins or is skipped, and where contexts are set or found set
+-- a report stays one where a stream begins or is skipped, where contexts are set or found set, and whoever's turn it was
 pub record ReportStays (most : Option ℕ) (n : ℕ) (t : Tale) (r : Report) : Type 0 where
   pub begins : IsReport most n (fated t Begun) r
   pub skips : IsReport most n (fated t Skipped) r
   pub learns : (vs cs : List Interruption) → IsReport most n (learned t vs cs) r
+  pub turns : (pulled : List ℕ) (room : ℕ → List ℕ) → IsReport most n (record t { pulled = pulled; room = room }) r
 
 abbrev pub ReportsStay : Type 0
 ReportsStay = (most : Option ℕ) (n : ℕ) (t : Tale) (r : Report) → IsReport most n t r → ReportStays most n t r

@@ -189,7 +189,7 @@ module _ (opener : Opener) (ss : List Stream) where
       inner_halted k h (whole m n e) is = absurd (let q : how.Done ≡ how.Halted = sym e ∙ is in cc)
       inner_halted k h (halted e m n l q) is = ceased_cause (Inner k) (last_stops opener ss t k (i.ends.late k e m)) (i.frames.ceased (late_ceased bounds t i (end_of k e) m))
       inner_halted k h (unmade e q) is = absurd (let z : how.Memory ≡ how.Halted = sym q ∙ is in cc)
-      inner_halted k h (skipped e q) is = ⊎_elim (λ f. own_cause k f) (λ s. run_stopped k s.0 s.1) (i.fates.skipped k e)
+      inner_halted k h (skipped e q) is = ⊎_elim (λ f. own_cause k f) (λ s. run_stopped k s.0 (λ j b. s.1 j (inl b))) (i.fates.skipped k e)
 
       halted_by : (k : StreamNo) (h : How) → EndedSo t k h → h ≡ how.Halted → HasCauseToHalt work c k
       halted_by Outer h e is = outer_stopped Outer (λ j b. tt) h e (λ d. let q : how.Halted ≡ how.Done = sym is ∙ d in cc)

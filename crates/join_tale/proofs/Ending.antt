@@ -51,6 +51,7 @@ module _ (bounds : Bounds) (t : Tale) (k : ℕ) (h : How) (vs cs : List Interrup
         found = found_more t vs cs;
         known = known_more t vs cs;
         memory = λ e. absurd (not_both t.memory (i.frames.quiet c).2 e);
+        pulled = λ j m. m;
       } in
       let frames : KeepsFrames bounds u = frames_end_front bounds t i.frames k h o (t.set ++ vs) (t.seen ++ cs) (is_memory h) c in
       let caused : AreCaused bounds u u.set = caused_more bounds t u g vs (λ m. absurd (not_met bounds t i.frames c m)) (λ z. z) (λ a e. e) i.caused tells.caused in
@@ -73,6 +74,7 @@ module _ (bounds : Bounds) (t : Tale) (k : ℕ) (h : How) (vs cs : List Interrup
         found = found_more t vs cs;
         known = known_more t vs cs;
         memory = or_left t.memory (is_memory h);
+        pulled = λ j m. m;
       } in
       let frames : KeepsFrames bounds u = frames_end_late bounds t i.frames k h o (t.set ++ vs) (t.seen ++ cs) (t.memory || is_memory h) c (or_left t.memory (is_memory h)) in
       let caused : AreCaused bounds u u.set = caused_more bounds t u g vs (λ z. z) (λ z. z) (λ a e. e) i.caused tells.caused in

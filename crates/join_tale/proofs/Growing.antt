@@ -13,7 +13,7 @@ use Rattle.interrupt_ctx.specs.declared.why.Why.{Why}
 use Rattle.interrupt_ctx.specs.declared.why.Why.TheVariants as why
 use Rattle.run_rules.specs.Facts.{at}
 use Rattle.join_tale.specs.Bounds.{Bounds, is_in_turn}
-use Rattle.join_tale.specs.Keeping.{HasLacked, IsEndedInTurn, IsHighest, IsLast, IsOuterStopped, IsOwnCode, IsPassedOver, IsToldToHalt, KeepsEnds, KeepsFates, LacksForLoad}
+use Rattle.join_tale.specs.Keeping.{HadTurn, HasLacked, IsEndedInTurn, IsLast, IsLastTurn, IsOuterStopped, IsOwnCode, IsPassedOver, IsToldToHalt, KeepsEnds, KeepsFates, LacksForLoad}
 use Rattle.join_tale.specs.Steps.{Marks, learned}
 use Rattle.join_tale.specs.Steps.Marks.{fresh, stale}
 use Rattle.join_tale.specs.Tales.{AreCaused, Came, Fate, HasCome, HasMet, IsBegun, IsCaused, IsFoundSet, IsKnown, Message, Tale, end_of, frames_of}
@@ -46,13 +46,14 @@ until_came bounds t k why.Fault h = absurd (let q : suc k ≡ 0 = h.0 in omega (
 pub own_told : (bounds : Bounds) (t : Tale) (k : ℕ) → AreCaused bounds t t.set → (is_in_turn bounds ≡ true → (j : ℕ) → HasCome t j → j ≤ k) → IsOwnCode bounds t k → IsFoundSet t (suc k) × IsEndedInTurn bounds t k
 own_told bounds t k caused below own = (own.0, λ w. let s = own.1 w in let u = until_came bounds t k s.0 (caused (suc k) s.0 s.1) in (u.0, u.1, u.2, below w u.0 u.2))
 
--- nothing is begun, and what came and what is known stay
+-- nothing is begun nor pulled, and what came and what is known stay
 pub record Grows (t u : Tale) : Type 0 where
   pub begun : (k : ℕ) → IsBegun u k → IsBegun t k
   pub came : (k : ℕ) (h : How) → Came t k h → Came u k h
   pub found : (c : ℕ) → IsFoundSet t c → IsFoundSet u c
   pub known : (c : ℕ) → IsKnown t c → IsKnown u c
   pub memory : t.memory ≡ true → u.memory ≡ true
+  pub pulled : (k : ℕ) → IsAmong k u.pulled → IsAmong k t.pulled
 
 -- ends that came anew
 pub record AreFresh (bounds : Bounds) (t u : Tale) (N : ℕ → How → Type 0) : Type 0 where
@@ -102,11 +103,14 @@ module _ (bounds : Bounds) (t u : Tale) (g : Grows t u) where
   pub told_grows : (k : ℕ) → IsToldToHalt bounds t k → IsToldToHalt bounds u k
   told_grows k h = ⊎_elim (λ f. inl (own_grows k f)) (λ f. inr (g.found 0 f.0, last_grows k f.1)) h
 
-  highest_grows : (k : ℕ) → IsHighest t k → IsHighest u k
-  highest_grows k l j b = l j (g.begun j b)
+  pub turn_grows : (k : ℕ) → HadTurn u k → HadTurn t k
+  turn_grows k h = ⊎_elim (λ b. inl (g.begun k b)) (λ m. inr (g.pulled k m)) h
+
+  last_turn_grows : (k : ℕ) → IsLastTurn t k → IsLastTurn u k
+  last_turn_grows k l j h = l j (turn_grows j h)
 
   passed_grows : (IsOuterStopped t → IsOuterStopped u) → (k : ℕ) → IsPassedOver bounds t k → IsPassedOver bounds u k
-  passed_grows outer k h = ⊎_elim (λ f. inl (own_grows k f)) (λ f. inr (⊎_elim (λ a. inl (g.found 0 a)) (λ s. inr (outer s)) f.0, highest_grows k f.1)) h
+  passed_grows outer k h = ⊎_elim (λ f. inl (own_grows k f)) (λ f. inr (⊎_elim (λ a. inl (g.found 0 a)) (λ s. inr (outer s)) f.0, last_turn_grows k f.1)) h
 
   -- the ends, where these came anew
   pub ends_kept : (N : ℕ → How → Type 0) → AreFresh bounds t u N → KeepsEnds bounds t → ((k : ℕ) (h : How) → IsAmong (end_of k h) u.front → IsAmong (end_of k h) t.front ⊎ N k h) → ((k : ℕ) (h : How) → IsAmong (end_of k h) u.late → IsAmong (end_of k h) t.late ⊎ N k h)
@@ -131,11 +135,11 @@ module _ (bounds : Bounds) (t u : Tale) (g : Grows t u) where
       }
 
   -- what became of the streams, where these weren't begun anew, and of the outer one
-  pub fates_kept : KeepsFates bounds t → ((k : ℕ) → at u.fates k ≡ Some Skipped → (at t.fates k ≡ Some Skipped) ⊎ IsPassedOver bounds u k) → ((k : ℕ) → at u.fates k ≡ Some Unmade → (at t.fates k ≡ Some Unmade) ⊎ ((u.memory ≡ true) × IsLast bounds u k)) → (IsOuterStopped t → IsOuterStopped u)
+  pub fates_kept : KeepsFates bounds t → ((k : ℕ) → at u.fates k ≡ Some Skipped → (at t.fates k ≡ Some Skipped) ⊎ IsPassedOver bounds u k) → ((k : ℕ) → at u.fates k ≡ Some Unmade → (at t.fates k ≡ Some Unmade) ⊎ ((u.memory ≡ true) × IsLastTurn u k)) → (IsOuterStopped t → IsOuterStopped u)
       → (u.outer ≡ Some how.Halted → IsFoundSet u 0) → ((c : Code) → u.outer ≡ Some (how.Fault c) → IsKnown u 0) → (u.outer ≡ Some how.Memory → u.memory ≡ true) → KeepsFates bounds u
   fates_kept i skipped unmade outer halted fault memory = record {
     skipped = λ k e. ⊎_elim (λ o. passed_grows outer k (i.skipped k o)) (λ n. n) (skipped k e);
-    unmade = λ k e. ⊎_elim (λ o. let q = i.unmade k o in (g.memory q.0, last_grows k q.1)) (λ n. n) (unmade k e);
+    unmade = λ k e. ⊎_elim (λ o. let q = i.unmade k o in (g.memory q.0, last_turn_grows k q.1)) (λ n. n) (unmade k e);
     nobody = λ m. let q = i.nobody m in (g.known 0 q.0, λ k b. q.1 k (g.begun k b));
     outer_halted = halted;
     outer_fault = fault;

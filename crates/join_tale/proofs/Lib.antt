@@ -5,6 +5,7 @@ pub mod Growing
 pub mod Room
 pub mod Framing
 pub mod Steps
+pub mod Turns
 pub mod Receiving
 pub mod Ending
 pub mod Endings

@@ -31,7 +31,7 @@ module _ (bounds : Bounds) (t : Tale) (k : ℕ) (x : List ℕ) (i : IsTale bound
   pub writes : t.ceased ≡ false → bounds.most ≢ Some (suc (length (frames_of t.front))) → IsTale bounds (written t k x)
   writes c doesnt =
       let u : Tale = written t k x in
-      let g : Grows t u = record { begun = λ j b. b; came = came_front; found = λ d f. f; known = λ d f. f; memory = λ e. e } in
+      let g : Grows t u = record { begun = λ j b. b; came = came_front; found = λ d f. f; known = λ d f. f; memory = λ e. e; pulled = λ j m. m } in
       record {
         frames = frames_write bounds t i.frames k x o last full t.set t.seen t.ceased c (λ e. absurd (not_both t.ceased c e)) (λ m. absurd (doesnt m));
         ends = ends_kept bounds t u g NoEnd (none_fresh bounds t u) i.ends (λ j h m. inl (end_before_load j k h x t.front m)) (λ j h m. inl m) (λ j h q m n. i.ends.apart j h q (end_before_load j k h x t.front m) n);
@@ -45,7 +45,7 @@ module _ (bounds : Bounds) (t : Tale) (k : ℕ) (x : List ℕ) (i : IsTale bound
   pub meets : (vs cs : List Interruption) → Marks 0 why.Take vs cs → t.ceased ≡ false → bounds.most ≡ Some (suc (length (frames_of t.front))) → IsTale bounds (record (learned (written t k x) vs cs) { ceased = true })
   meets vs cs mark c does =
       let u : Tale = record (learned (written t k x) vs cs) { ceased = true } in
-      let g : Grows t u = record { begun = λ j b. b; came = came_front; found = found_more t vs cs; known = known_more t vs cs; memory = λ e. e } in
+      let g : Grows t u = record { begun = λ j b. b; came = came_front; found = found_more t vs cs; known = known_more t vs cs; memory = λ e. e; pulled = λ j m. m } in
       record {
         frames = frames_write bounds t i.frames k x o last full (t.set ++ vs) (t.seen ++ cs) true c (λ e. does) (λ m. refl);
         ends = ends_kept bounds t u g NoEnd (none_fresh bounds t u) i.ends (λ j h m. inl (end_before_load j k h x t.front m)) (λ j h m. inl m) (λ j h q m n. i.ends.apart j h q (end_before_load j k h x t.front m) n);
@@ -66,7 +66,7 @@ module _ (bounds : Bounds) (t : Tale) (k : ℕ) (x : List ℕ) (i : IsTale bound
   pub fails : (vs cs : List Interruption) → Marks 0 why.Sink vs cs → t.ceased ≡ false → IsTale bounds (learned (failed t k x) vs cs)
   fails vs cs mark c =
       let u : Tale = learned (failed t k x) vs cs in
-      let g : Grows t u = record { begun = λ j b. b; came = first_late c; found = found_more t vs cs; known = known_more t vs cs; memory = λ e. e } in
+      let g : Grows t u = record { begun = λ j b. b; came = first_late c; found = found_more t vs cs; known = known_more t vs cs; memory = λ e. e; pulled = λ j m. m } in
       record {
         frames = frames_fail bounds t i.frames k x o last full (t.set ++ vs) (t.seen ++ cs) c;
         ends = ends_kept bounds t u g NoEnd (none_fresh bounds t u) i.ends (λ j h m. inl m) (λ j h m. absurd (no_end_late j h m)) (λ j h q m n. no_end_late j q n);
@@ -80,7 +80,7 @@ module _ (bounds : Bounds) (t : Tale) (k : ℕ) (x : List ℕ) (i : IsTale bound
   pub lacks : (vs cs : List Interruption) → Marks 0 why.Memory vs cs → t.ceased ≡ false → IsTale bounds (learned (lacked t k x) vs cs)
   lacks vs cs mark c =
       let u : Tale = learned (lacked t k x) vs cs in
-      let g : Grows t u = record { begun = λ j b. b; came = first_late c; found = found_more t vs cs; known = known_more t vs cs; memory = λ e. refl } in
+      let g : Grows t u = record { begun = λ j b. b; came = first_late c; found = found_more t vs cs; known = known_more t vs cs; memory = λ e. refl; pulled = λ j m. m } in
       record {
         frames = frames_lack bounds t i.frames k x o last full (t.set ++ vs) (t.seen ++ cs) c;
         ends = ends_kept bounds t u g NoEnd (none_fresh bounds t u) i.ends (λ j h m. inl m) (λ j h m. absurd (no_end_late j h m)) (λ j h q m n. no_end_late j q n);
@@ -94,7 +94,7 @@ module _ (bounds : Bounds) (t : Tale) (k : ℕ) (x : List ℕ) (i : IsTale bound
   pub drops : t.ceased ≡ true → IsTale bounds (dropped t k x)
   drops c =
       let u : Tale = dropped t k x in
-      let g : Grows t u = record { begun = λ j b. b; came = λ j h m. ⊎_elim (λ a. inl a) (λ a. inr (among_left (load_of k x ∷ []) a)) m; found = λ d f. f; known = λ d f. f; memory = λ e. e } in
+      let g : Grows t u = record { begun = λ j b. b; came = λ j h m. ⊎_elim (λ a. inl a) (λ a. inr (among_left (load_of k x ∷ []) a)) m; found = λ d f. f; known = λ d f. f; memory = λ e. e; pulled = λ j m. m } in
       record {
         frames = frames_drop bounds t i.frames k x o last full c;
         ends = ends_kept bounds t u g NoEnd (none_fresh bounds t u) i.ends (λ j h m. inl m) (λ j h m. inl (end_before_load j k h x t.late m)) (λ j h q m n. i.ends.apart j h q m (end_before_load j k q x t.late n));

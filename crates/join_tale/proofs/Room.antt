@@ -1,5 +1,6 @@
 -- Each stream begins in room that was there.
-use Rattle.std.proofs.Common.{◌≡◌, ◌⊎◌, ℕ, suc, ◌<◌, Bool, true, false, List, [], ◌∷◌, ◌++◌, length, Option, Some, None, is_some, inl, inr, refl, sym, ap, ◌∙◌, subst, ⊎_elim, arith, append-nil}
+use Rattle.std.proofs.Common.{◌≡◌, ◌⊎◌, ℕ, suc, ◌<◌, ◌≤◌, Bool, true, false, List, [], ◌∷◌, ◌++◌, length, Option, Some, None, is_some, inl, inr, refl, sym, ap, ◌∙◌, subst, ⊎_elim, arith, append-nil, length-append}
+use Rattle.std.proofs.lemmas.Bool.{cases_eq}
 use Rattle.std.specs.List.{last_or}
 use Rattle.chunk_core.specs.Lists.{IsAmong}
 use Rattle.chunk_core.specs.Lists.IsAmong.{here}
@@ -7,19 +8,18 @@ use Rattle.chunk_core.specs.Texts.{Frame}
 use Rattle.chunk_core.proofs.Cuts.{cut}
 use Rattle.chunk_core.proofs.Filters.{among_append}
 use Rattle.chunk_core.proofs.Members.{among_cons, among_mid, among_nil, among_snoc}
-use Rattle.chunk_core.specs.declared.code.Code.{Code}
 use Rattle.chunk_core.specs.declared.code.How.{How}
 use Rattle.chunk_core.specs.declared.code.How.TheVariants as how
 use Rattle.interrupt_ctx.specs.declared.view.Interruption.{Interruption}
 use Rattle.run_rules.specs.Ends.{PrintsBehind}
 use Rattle.run_rules.specs.Facts.{at}
 use Rattle.join_tale.specs.Bounds.{Bounds}
-use Rattle.join_tale.specs.Keeping.{HasEndedAll, IsTale, KeepsFrames, KeepsRoom, PrintedLast, WasOpen}
-use Rattle.join_tale.specs.Steps.{MayBegin, fated}
+use Rattle.join_tale.specs.Keeping.{HadRoom, HadTurn, HasEndedAll, HasRoom, IsTale, KeepsFrames, KeepsRoom, PrintedLast, WasOpen}
+use Rattle.join_tale.specs.Steps.{MayBegin, fated, pulled}
 use Rattle.join_tale.specs.Tales.{Came, Fate, HasCome, IsBegun, IsKnown, IsOpen, Tale, end_of, frames_begun, frames_of, load_of}
 use Rattle.join_tale.specs.Tales.Fate.{Begun, Unmade}
 use Rattle.join_tale.proofs.Ceasing.{cut_ceased, late_ceased, memory_ceased}
-use Rattle.join_tale.proofs.Growing.{Grows, own_grows}
+use Rattle.join_tale.proofs.Growing.{Grows, own_grows, turn_grows}
 use Rattle.join_tale.proofs.Parts.{end_before_end, end_before_load, frame_came, frame_of, frames_end, frames_load, last_written, no_end}
 use Rattle.join_tale.proofs.Places.{at_below, at_snoc, last_snoc, some_is}
 
@@ -55,17 +55,19 @@ pub record Passes (bounds : Bounds) (t u : Tale) : Type 0 where
   pub printed : (k i : ℕ) → PrintsBehind (frames_begun u) k i → PrintsBehind (frames_begun t) k i ⊎ IsOpen t i
   pub came : (i : ℕ) (h : How) → Came u i h → Came t i h ⊎ IsOpen t i
   pub late : (i : ℕ) (h : How) → IsAmong (end_of i h) u.late → IsAmong (end_of i h) t.late ⊎ IsOpen t i
-  pub unmade : (k i : ℕ) → i < k → IsBegun t k → at u.fates i ≡ Some Unmade → at t.fates i ≡ Some Unmade
+  pub unmade : (k i : ℕ) → i < k → HadTurn t k → at u.fates i ≡ Some Unmade → at t.fates i ≡ Some Unmade
   pub last : (i : ℕ) → PrintedLast bounds u i → PrintedLast bounds t i ⊎ IsOpen t i
+  pub longer : length t.fates ≤ length u.fates
+  pub room : (k : ℕ) → u.room k ≡ t.room k
 
 module _ (bounds : Bounds) (t u : Tale) (g : Grows t u) (p : Passes bounds t u) where
   open_before : (i : ℕ) → IsOpen u i → IsOpen t i
   open_before i o = (g.begun i o.0, λ c. o.1 (c.0, g.came i c.0 c.1))
 
   by_end : (k i : ℕ) → HasEndedAll bounds t i ⊎ IsOpen t i → WasOpen bounds t k i
-  by_end k i h = ⊎_elim (λ e. inr (inr (inl e))) (λ o. inl o) h
+  by_end k i h = ⊎_elim (λ e. inr (inl e)) (λ o. inl o) h
 
-  ended_before : (k i : ℕ) → i < k → IsBegun t k → HasEndedAll bounds u i → HasEndedAll bounds t i ⊎ IsOpen t i
+  ended_before : (k i : ℕ) → i < k → HadTurn t k → HasEndedAll bounds u i → HasEndedAll bounds t i ⊎ IsOpen t i
   ended_before k i l b h = ⊎_elim
       (λ f. ⊎_elim (λ c. inl (inl (f.0, c))) (λ o. inr o) (p.came i (how.Fault f.0) f.1))
       (λ x. ⊎_elim
@@ -80,29 +82,41 @@ module _ (bounds : Bounds) (t u : Tale) (g : Grows t u) (p : Passes bounds t u) 
       x)
       h
 
-  was_before : (k i : ℕ) → i < k → IsBegun t k → WasOpen bounds u k i → WasOpen bounds t k i
-  was_before k i l b w = ⊎_elim
+  outlasts_before : (k i : ℕ) → IsBegun u k × (PrintsBehind (frames_begun u) k i ⊎ ((bounds.until k ≡ Some i) × HasCome u i)) → WasOpen bounds t k i
+  outlasts_before k i w =
+      let b = g.begun k w.0 in
+      ⊎_elim
+      (λ q. ⊎_elim (λ o. inr (inr (inr (b, inl o)))) (λ o. inl o) (p.printed k i q))
+      (λ q. ⊎_elim (λ c. inr (inr (inr (b, inr (q.0, (q.1.0, c)))))) (λ o. inl o) (p.came i q.1.0 q.1.1))
+      w.1
+
+  was_before : (k i : ℕ) → i < k → HadTurn t k → WasOpen bounds u k i → WasOpen bounds t k i
+  was_before k i l h w = ⊎_elim
       (λ o. inl (open_before i o))
       (λ x. ⊎_elim
-      (λ q. ⊎_elim (λ o. inr (inl o)) (λ o. inl o) (p.printed k i q))
+      (λ e. by_end k i (ended_before k i l h e))
       (λ y. ⊎_elim
-      (λ e. by_end k i (ended_before k i l b e))
-      (λ z. ⊎_elim
-      (λ q. ⊎_elim (λ o. inr (inr (inr (inl o)))) (λ o. inl o) (p.last i q))
-      (λ q. ⊎_elim (λ c. inr (inr (inr (inr (q.0, (q.1.0, c)))))) (λ o. inl o) (p.came i q.1.0 q.1.1))
-      z)
+      (λ q. ⊎_elim (λ o. inr (inr (inl o))) (λ o. inl o) (p.last i q))
+      (λ q. outlasts_before k i q)
       y)
       x)
       w
 
   -- the room that was there is known as before
   pub room_passes : KeepsRoom bounds t → KeepsRoom bounds u
-  room_passes r k b = let c = g.begun k b in let h = r k c in (h.0, h.1, λ i l w. h.2 i l (was_before k i l c w))
+  room_passes r = record {
+    had = λ k h. let c = turn_grows bounds t u g k h in let o = r.had k c in (subst (λ l. length l < bounds.max_open) (sym (p.room k)) o.0, λ i l w. subst (λ y. IsAmong i y) (sym (p.room k)) (o.1 i l (was_before k i l c w)));
+    now = λ m i o.
+        let n = g.pulled (length u.fates) m in
+        let same : length u.fates ≡ length t.fates = (let a = r.next (length u.fates) n in let b = p.longer in omega (arith, a, b)) in
+        subst (λ l. IsAmong i l) (sym (p.room (length u.fates))) (subst (λ k. IsAmong i (t.room k)) (sym same) (r.now (subst (λ k. IsAmong k t.pulled) same n) i (open_before i o)));
+    next = λ k m. (let a = r.next k (g.pulled k m) in let b = p.longer in omega (arith, a, b));
+  }
 
 module _ (bounds : Bounds) (t : Tale) where
   -- nothing came
-  pub stays : (fs : List Fate) (o : Option How) (xs ys : List Interruption) (b m : Bool) → ((k i : ℕ) → i < k → IsBegun t k → at fs i ≡ Some Unmade → at t.fates i ≡ Some Unmade) → Passes bounds t (record t { fates = fs; outer = o; set = xs; seen = ys; ceased = b; memory = m })
-  stays fs o xs ys b m unmade = record { printed = λ k i q. inl q; came = λ i h c. inl c; late = λ i h n. inl n; unmade = unmade; last = λ i q. inl q }
+  pub stays : (fs : List Fate) (o : Option How) (xs ys : List Interruption) (b m : Bool) → length t.fates ≤ length fs → ((k i : ℕ) → i < k → HadTurn t k → at fs i ≡ Some Unmade → at t.fates i ≡ Some Unmade) → Passes bounds t (record t { fates = fs; outer = o; set = xs; seen = ys; ceased = b; memory = m })
+  stays fs o xs ys b m longer unmade = record { printed = λ k i q. inl q; came = λ i h c. inl c; late = λ i h n. inl n; unmade = unmade; last = λ i q. inl q; longer = longer; room = λ k. refl }
 
   module _ (f : KeepsFrames bounds t) (k : ℕ) (o : IsOpen t k) where
     open_too : (i : ℕ) → k ≡ i → IsOpen t i
@@ -127,6 +141,8 @@ module _ (bounds : Bounds) (t : Tale) where
             late = λ i h m. inl m;
             unmade = λ j i l d e. e;
             last = λ i q. inr (open_too i (last_written t.front k x t.cut q.1 none q.2 ∙ q.3));
+            longer = omega arith;
+            room = λ j. refl;
           }
 
       -- the write of a load fails
@@ -139,6 +155,8 @@ module _ (bounds : Bounds) (t : Tale) where
             late = λ i h m. absurd (no_end_late i h m);
             unmade = λ j i l d e. e;
             last = λ i q. inr (open_too i (ap (λ (z : Frame). z.stream) (some_is (frame_of k x) q.1 (sym (last_snoc None (frames_of t.front) (frame_of k x)) ∙ q.2)) ∙ q.3));
+            longer = omega arith;
+            room = λ j. refl;
           }
 
       -- there is no memory to render a load
@@ -149,6 +167,8 @@ module _ (bounds : Bounds) (t : Tale) where
         late = λ i h m. absurd (no_end_late i h m);
         unmade = λ j i l d e. e;
         last = λ i q. inl q;
+        longer = omega arith;
+        room = λ j. refl;
       }
 
       -- a load comes too late
@@ -159,6 +179,8 @@ module _ (bounds : Bounds) (t : Tale) where
         late = λ i h m. inl (end_before_load i k h x t.late m);
         unmade = λ j i l d e. e;
         last = λ i q. inl q;
+        longer = omega arith;
+        room = λ j. refl;
       }
 
     module _ (h : How) where
@@ -176,6 +198,8 @@ module _ (bounds : Bounds) (t : Tale) where
             late = λ i g m. inl m;
             unmade = λ j i l d e. e;
             last = λ i q. inl (subst (λ l. LastOf i l) same q);
+            longer = omega arith;
+            room = λ j. refl;
           }
 
       -- an end comes later
@@ -186,11 +210,21 @@ module _ (bounds : Bounds) (t : Tale) where
         late = λ i g m. ⊎_elim (λ n. inl n) (λ e. inr (open_too i (sym e.0))) (end_before_end i k g h t.late m);
         unmade = λ j i l d e. e;
         last = λ i q. inl q;
+        longer = omega arith;
+        room = λ j. refl;
       }
 
--- A stream begins.
+-- The outer stream is pulled, or a stream begins.
 
-module _ (bounds : Bounds) (t : Tale) (i : IsTale bounds t) (may : MayBegin bounds t) where
+-- a number up to another is below it or the same
+below_or_same : (k n : ℕ) → k ≤ n → (k < n) ⊎ (k ≡ n)
+below_or_same k n l = ⊎_elim (λ e. inr e) (λ ne. inl (omega (arith, l, ne))) (cases_eq k n)
+
+module _ (bounds : Bounds) (t : Tale) (i : IsTale bounds t) where
+  -- one that had its turn isn't above the next one
+  pub turn_next : (k : ℕ) → HadTurn t k → k ≤ length t.fates
+  turn_next k h = ⊎_elim (λ b. (let l = at_below t.fates k Begun b in omega (arith, l))) (λ m. i.room.next k m) h
+
   -- the stream of a frame was begun
   cut_begun : (c : Option Frame) (f : Frame) → t.cut ≡ c → IsAmong f (elim c [ Some z ↦ z ∷ [] | None ↦ [] ]) → IsBegun t f.stream
   cut_begun None f e m = absurd (among_nil m)
@@ -205,24 +239,54 @@ module _ (bounds : Bounds) (t : Tale) (i : IsTale bounds t) (may : MayBegin boun
       (λ n. cut_begun t.cut f refl n)
       (among_append f (frames_of t.front) (elim t.cut [ Some z ↦ z ∷ [] | None ↦ [] ]) m)
 
-  never : IsKnown t 0 → ⊥
-  never k = may.run k
+  -- none printed behind a stream that wasn't begun
+  none_behind : (k j : ℕ) → length t.fates ≤ k → PrintsBehind (frames_begun t) k j → ⊥
+  none_behind k j l p = let b = frame_begun p.3 (subst (λ F. IsAmong p.3 F) (sym p.4) (among_mid p.0 p.1 p.3)) in let m = at_below t.fates p.3.stream Begun b in let e = p.5 in omega (arith, m, e, l)
 
-  -- no stream came to an end by which no further one begins
-  none_ended : (j : ℕ) → HasEndedAll bounds t j → ⊥
-  none_ended j h = ⊎_elim
-      (λ f. never (i.ends.fault j f.0 f.1).0)
-      (λ x. ⊎_elim
-      (λ m. never (i.stop (memory_ceased bounds t i (i.ends.memory j m).0)))
-      (λ y. ⊎_elim
-      (λ s. ⊎_elim (λ f. s.1 f) (λ f. never (inr f.0)) (i.ends.halted j s.0))
-      (λ z. ⊎_elim (λ m. never (i.stop (late_ceased bounds t i (end_of j m.0) m.1))) (λ e. never (i.stop (memory_ceased bounds t i (i.fates.unmade j e).0))) z)
-      y)
-      x)
-      h
+  module _ (unknown : ¬ (IsKnown t 0)) where
+    -- no stream came to an end by which no further one begins
+    pub none_ended : (j : ℕ) → HasEndedAll bounds t j → ⊥
+    none_ended j h = ⊎_elim
+        (λ f. unknown (i.ends.fault j f.0 f.1).0)
+        (λ x. ⊎_elim
+        (λ m. unknown (i.stop (memory_ceased bounds t i (i.ends.memory j m).0)))
+        (λ y. ⊎_elim
+        (λ s. ⊎_elim (λ f. s.1 f) (λ f. unknown (inr f.0)) (i.ends.halted j s.0))
+        (λ z. ⊎_elim (λ m. unknown (i.stop (late_ceased bounds t i (end_of j m.0) m.1))) (λ e. unknown (i.stop (memory_ceased bounds t i (i.fates.unmade j e).0))) z)
+        y)
+        x)
+        h
 
-  none_last : (j : ℕ) → PrintedLast bounds t j → ⊥
-  none_last j p = never (i.stop (⊎_elim (λ m. i.frames.met m) (λ c. cut_ceased bounds t i c) p.0))
+    pub none_last : (j : ℕ) → PrintedLast bounds t j → ⊥
+    none_last j p = unknown (i.stop (⊎_elim (λ m. i.frames.met m) (λ c. cut_ceased bounds t i c) p.0))
+
+    module _ (room : HasRoom bounds t) where
+      -- those that were open when the next stream has its turn are open still
+      open_next : (j : ℕ) → WasOpen bounds t (length t.fates) j → IsOpen t j
+      open_next j w = ⊎_elim
+          (λ o. o)
+          (λ x. ⊎_elim
+          (λ e. absurd (none_ended j e))
+          (λ y. ⊎_elim
+          (λ q. absurd (none_last j q))
+          (λ q. absurd (let l = at_below t.fates (length t.fates) Begun q.0 in omega (arith, l)))
+          y)
+          x)
+          w
+
+      next_room : (k : ℕ) → k ≡ length t.fates → HadRoom bounds t k
+      next_room k e = subst (λ n. HadRoom bounds t n) (sym e) (room.0, λ j l w. room.1 j (open_next j w))
+
+      pub pulled_room : KeepsRoom bounds (pulled t)
+      pulled_room = record {
+        had = λ k h. ⊎_elim (λ b. i.room.had k (inl b)) (λ m. ⊎_elim (λ e. next_room k e) (λ n. i.room.had k (inr n)) (among_cons m)) h;
+        now = λ m. room.1;
+        next = λ k m. ⊎_elim (λ e. (omega (arith, e))) (λ n. i.room.next k n) (among_cons m);
+      }
+
+module _ (bounds : Bounds) (t : Tale) (i : IsTale bounds t) (may : MayBegin bounds t) where
+  count : length (t.fates ++ Begun ∷ []) ≡ suc (length t.fates)
+  count = let a = length-append t.fates (Begun ∷ []) in omega (arith, a)
 
   -- a stream below the new one is open now if it was before
   open_below : (j : ℕ) → j < length t.fates → IsOpen (fated t Begun) j → IsOpen t j
@@ -234,11 +298,17 @@ module _ (bounds : Bounds) (t : Tale) (i : IsTale bounds t) (may : MayBegin boun
   ended_below : (j : ℕ) → HasEndedAll bounds (fated t Begun) j → HasEndedAll bounds t j
   ended_below j h = ⊎_elim (λ f. inl f) (λ x. ⊎_elim (λ m. inr (inl m)) (λ y. ⊎_elim (λ s. inr (inr (inl s))) (λ z. ⊎_elim (λ m. inr (inr (inr (inl m)))) (λ e. inr (inr (inr (inr (unmade_below j e))))) z) y) x) h
 
-  -- for a stream that was begun before nothing changes
-  as_before : (k j : ℕ) → j < k → IsBegun t k → WasOpen bounds (fated t Begun) k j → WasOpen bounds t k j
+  -- for a stream that had its turn before nothing changes
+  as_before : (k j : ℕ) → j < k → k < length t.fates → WasOpen bounds (fated t Begun) k j → WasOpen bounds t k j
   as_before k j l b w = ⊎_elim
-      (λ o. inl (open_below j (let m = at_below t.fates k Begun b in omega (arith, l, m)) o))
-      (λ x. ⊎_elim (λ q. inr (inl q)) (λ y. ⊎_elim (λ e. inr (inr (inl (ended_below j e)))) (λ z. ⊎_elim (λ q. inr (inr (inr (inl q)))) (λ q. inr (inr (inr (inr q)))) z) y) x)
+      (λ o. inl (open_below j (omega (arith, l, b)) o))
+      (λ x. ⊎_elim
+      (λ e. inr (inl (ended_below j e)))
+      (λ y. ⊎_elim
+      (λ q. inr (inr (inl q)))
+      (λ q. inr (inr (inr (⊎_elim (λ o. o) (λ n. absurd (let e : k ≡ length t.fates = n.0 in omega (arith, e, b))) (at_snoc t.fates Begun k Begun q.0), q.1))))
+      y)
+      x)
       w
 
   -- of the new stream none printed, and those before it that were open are open still
@@ -246,19 +316,29 @@ module _ (bounds : Bounds) (t : Tale) (i : IsTale bounds t) (may : MayBegin boun
   open_now k j is l w = ⊎_elim
       (λ o. open_below j (omega (arith, is, l)) o)
       (λ x. ⊎_elim
-      (λ p. absurd (let b = frame_begun p.3 (subst (λ F. IsAmong p.3 F) (sym p.4) (among_mid p.0 p.1 p.3)) in let m = at_below t.fates p.3.stream Begun b in let e = p.5 in omega (arith, m, e, is)))
+      (λ e. absurd (none_ended bounds t i may.run j (ended_below j e)))
       (λ y. ⊎_elim
-      (λ e. absurd (none_ended j (ended_below j e)))
-      (λ z. ⊎_elim
-      (λ q. absurd (none_last j q))
-      (λ q. absurd (may.own (subst (λ n. IsKnown t (suc n)) is (i.ends.until j k q.1 q.0).0)))
-      z)
+      (λ q. absurd (none_last bounds t i may.run j q))
+      (λ q. ⊎_elim
+      (λ p. absurd (none_behind bounds t i k j (omega (arith, is)) p))
+      (λ u. absurd (may.own (subst (λ n. IsKnown t (suc n)) is (i.ends.until j k u.1 u.0).0)))
+      q.1)
       y)
       x)
       w
 
+  new_room : (k : ℕ) → k ≡ length t.fates → HadRoom bounds (fated t Begun) k
+  new_room k e = (subst (λ n. length (t.room n) < bounds.max_open) (sym e) may.room.0, λ j l w. subst (λ n. IsAmong j (t.room n)) (sym e) (may.room.1 j (open_now k j e l w)))
+
+  old_room : (k : ℕ) → HadTurn t k → HadRoom bounds (fated t Begun) k
+  old_room k h = ⊎_elim
+      (λ l. let r = i.room.had k h in (r.0, λ j m w. r.1 j m (as_before k j m l w)))
+      (λ e. new_room k e)
+      (below_or_same k (length t.fates) (turn_next bounds t i k h))
+
   pub begun_room : KeepsRoom bounds (fated t Begun)
-  begun_room k b = ⊎_elim
-      (λ old. let h = i.room k old in (h.0, h.1, λ j l w. h.2 j l (as_before k j l old w)))
-      (λ new. let h = may.few in (h.0, h.1, λ j l w. h.2 j (open_now k j new.0 l w)))
-      (at_snoc t.fates Begun k Begun b)
+  begun_room = record {
+    had = λ k h. ⊎_elim (λ b. ⊎_elim (λ old. old_room k (inl old)) (λ new. new_room k new.0) (at_snoc t.fates Begun k Begun b)) (λ m. old_room k (inr m)) h;
+    now = λ m. absurd (let l = i.room.next (length (t.fates ++ Begun ∷ [])) m in omega (arith, l, count));
+    next = λ k m. (let l = i.room.next k m in omega (arith, l, count));
+  }

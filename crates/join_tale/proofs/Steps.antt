@@ -1,6 +1,5 @@
 -- How a tale begins, and what keeps it but messages.
-use Rattle.std.proofs.Common.{◌≡◌, ◌≢◌, ◌⊎◌, ℕ, suc, ◌≤◌, Bool, true, false, ◌||◌, List, [], ◌∷◌, ◌++◌, length, Option, Some, None, IfSome, is_some, inl, inr, refl, sym, ap, ◌∙◌, subst, ⊎_elim, arith}
-use Rattle.chunk_core.specs.Lists.{IsAmong}
+use Rattle.std.proofs.Common.{◌≡◌, ◌≢◌, ◌⊎◌, ℕ, suc, ◌≤◌, Bool, true, false, ◌||◌, List, [], ◌∷◌, ◌++◌, length, Option, Some, None, IfSome, inl, inr, refl, sym, ap, ◌∙◌, subst, ⊎_elim, arith, length-append}
 use Rattle.chunk_core.proofs.Bools.{either, or_left, or_right}
 use Rattle.chunk_core.proofs.Members.{among_nil}
 use Rattle.chunk_core.specs.declared.code.How.{How}
@@ -10,15 +9,15 @@ use Rattle.interrupt_ctx.specs.declared.why.Why.{Why}
 use Rattle.interrupt_ctx.specs.declared.why.Why.TheVariants as why
 use Rattle.run_rules.specs.Facts.{is_memory}
 use Rattle.join_tale.specs.Bounds.{Bounds}
-use Rattle.join_tale.specs.Keeping.{IsEndedInTurn, IsHighest, IsOuterStopped, IsOwnCode, IsTale, KeepsEnds, KeepsFates, KeepsFrames}
+use Rattle.join_tale.specs.Keeping.{IsEndedInTurn, IsLastTurn, IsOuterStopped, IsOwnCode, IsTale, KeepsEnds, KeepsFates, KeepsFrames, KeepsRoom}
 use Rattle.join_tale.specs.Steps.{Marks, MayBegin, TellsOuter, fated, first_tale, learned, outer_ended, unmade}
-use Rattle.join_tale.specs.Tales.{AreCaused, Fate, HasCome, IsBegun, IsCaused, IsFoundSet, IsKnown, Message, Tale, end_of}
+use Rattle.join_tale.specs.Tales.{AreCaused, Fate, HasCome, IsBegun, IsCaused, IsFoundSet, IsKnown, Tale, end_of}
 use Rattle.join_tale.specs.Tales.Fate.{Begun, Skipped, Unmade}
 use Rattle.join_tale.proofs.Ceasing.{cut_ceased, late_ceased, memory_ceased}
 use Rattle.join_tale.proofs.Framing.{frames_stay}
 use Rattle.join_tale.proofs.Growing.{Grows, NoEnd, cause_grows, caused_more, ends_kept, fates_kept, fates_stay, found_more, known_more, lacked_grows, lacks_still, marked_caused, marked_known, none_fresh, own_grows, own_told}
-use Rattle.join_tale.proofs.Room.{begun_room, room_passes, stays}
-use Rattle.join_tale.proofs.Places.{at_below, at_last, at_left, at_snoc, none_is_some, none_some, not_both, or_false, some_is}
+use Rattle.join_tale.proofs.Room.{begun_room, room_passes, stays, turn_next}
+use Rattle.join_tale.proofs.Places.{at_below, at_last, at_left, at_snoc, none_some, not_both, or_false, some_is}
 
 pub memory_is : (h : How) → is_memory h ≡ true → h ≡ how.Memory
 memory_is how.Memory e = refl
@@ -72,12 +71,15 @@ module _ (bounds : Bounds) (vs cs : List Interruption) (b : Bool) where
     outer_memory = λ e. absurd (none_some e);
   }
 
+  first_room : KeepsRoom bounds (record first_tale { set = vs; seen = cs; ceased = b })
+  first_room = record { had = λ k h. absurd (⊎_elim (λ e. none_some e) (λ m. among_nil m) h); now = λ m. absurd (among_nil m); next = λ k m. absurd (among_nil m) }
+
 pub starts : (bounds : Bounds) → bounds.most ≢ Some 0 → IsTale bounds first_tale
 starts bounds doesnt = record {
   frames = first_frames bounds [] [] false (λ e. absurd (not_both false refl e)) (λ m. absurd (doesnt m));
   ends = first_ends bounds [] [] false;
   fates = first_fates bounds [] [] false (λ m. absurd (doesnt m));
-  room = λ k b. absurd (none_some b);
+  room = first_room bounds [] [] false;
   caused = λ c w m. absurd (among_nil m);
   lacked = λ m. absurd (not_both false refl m);
   stop = λ e. absurd (not_both false refl e);
@@ -90,7 +92,7 @@ starts_met bounds vs cs mark does =
       frames = first_frames bounds vs cs true (λ e. does) (λ e. refl);
       ends = first_ends bounds vs cs true;
       fates = first_fates bounds vs cs true (λ m. known);
-      room = λ k b. absurd (none_some b);
+      room = first_room bounds vs cs true;
       caused = marked_caused bounds (record (learned first_tale vs cs) { ceased = true }) 0 why.Take vs cs mark (refl, does);
       lacked = λ m. absurd (not_both false refl m);
       stop = λ e. known;
@@ -113,12 +115,12 @@ module _ (bounds : Bounds) (t : Tale) (i : IsTale bounds t) where
   pub learns : (vs cs : List Interruption) → AreCaused bounds t vs → IsTale bounds (learned t vs cs)
   learns vs cs new =
       let u : Tale = learned t vs cs in
-      let g : Grows t u = record { begun = λ k b. b; came = λ k h c. c; found = found_more t vs cs; known = known_more t vs cs; memory = λ e. e } in
+      let g : Grows t u = record { begun = λ k b. b; came = λ k h c. c; found = found_more t vs cs; known = known_more t vs cs; memory = λ e. e; pulled = λ j m. m } in
       record {
         frames = frames_stay bounds t i.frames t.fates t.outer (t.set ++ vs) (t.seen ++ cs) t.ceased t.memory (λ e. (e, (i.frames.quiet e).2)) i.frames.ceased (λ e. e) (λ k b. b) (λ h k b. b);
         ends = ends_kept bounds t u g NoEnd (none_fresh bounds t u) i.ends (λ k h m. inl m) (λ k h m. inl m) i.ends.apart;
         fates = fates_stay bounds t u g i.fates refl refl;
-        room = room_passes bounds t u g (stays bounds t t.fates t.outer (t.set ++ vs) (t.seen ++ cs) t.ceased t.memory (λ k j l b e. e)) i.room;
+        room = room_passes bounds t u g (stays bounds t t.fates t.outer (t.set ++ vs) (t.seen ++ cs) t.ceased t.memory (omega arith) (λ k j l b e. e)) i.room;
         caused = caused_more bounds t u g vs (λ m. m) (λ c. c) (λ c e. e) i.caused (λ c w m. cause_grows bounds t u g (λ z. z) (λ z. z) (λ d e. e) c w (new c w m));
         lacked = λ m. lacked_grows bounds t u g (λ e. e) (λ k e. e) (lacks_still bounds t u refl refl refl) (i.lacked m);
         stop = λ e. known_more t vs cs 0 (i.stop e);
@@ -176,8 +178,11 @@ module _ (bounds : Bounds) (t : Tale) (i : IsTale bounds t) where
     back : (k : ℕ) → IsBegun (fated t f) k → IsBegun t k
     back k b = ⊎_elim (λ o. o) (λ n. absurd (other n.1)) (at_snoc t.fates f k Begun b)
 
-    above : (k : ℕ) → k ≡ length t.fates → IsHighest (fated t f) k
-    above k is j b = let l = at_below t.fates j Begun (back j b) in omega (arith, l, is)
+    above : (k : ℕ) → k ≡ length t.fates → IsLastTurn (fated t f) k
+    above k is j h = let l = turn_next bounds t i j (⊎_elim (λ b. inl (back j b)) (λ m. inr m) h) in omega (arith, l, is)
+
+    longer : length t.fates ≤ length (t.fates ++ f ∷ [])
+    longer = let a = length-append t.fates (f ∷ []) in omega (arith, a)
 
   not_skipped : Begun ≡ Skipped → ⊥
   not_skipped e = cc
@@ -191,7 +196,7 @@ module _ (bounds : Bounds) (t : Tale) (i : IsTale bounds t) where
   pub skips : IsFoundSet t 0 ⊎ IsOwnCode bounds t (length t.fates) ⊎ IsOuterStopped t → IsTale bounds (fated t Skipped)
   skips cause =
       let u : Tale = fated t Skipped in
-      let g : Grows t u = record { begun = back Skipped not_skipped; came = λ k h c. c; found = λ c h. h; known = λ c h. h; memory = λ e. e } in
+      let g : Grows t u = record { begun = back Skipped not_skipped; came = λ k h c. c; found = λ c h. h; known = λ c h. h; memory = λ e. e; pulled = λ j m. m } in
       record {
         frames = frames_stay bounds t i.frames (t.fates ++ Skipped ∷ []) t.outer t.set t.seen t.ceased t.memory (λ e. (e, (i.frames.quiet e).2)) i.frames.ceased (λ e. e) (λ k b. at_left t.fates (Skipped ∷ []) k Begun b) (λ h k b. back Skipped not_skipped k b);
         ends = ends_kept bounds t u g NoEnd (none_fresh bounds t u) i.ends (λ k h m. inl m) (λ k h m. inl m) i.ends.apart;
@@ -205,7 +210,7 @@ module _ (bounds : Bounds) (t : Tale) (i : IsTale bounds t) where
             (at_snoc t.fates Skipped k Skipped e))
             (λ k e. ⊎_elim (λ o. inl o) (λ n. absurd (let q : Unmade ≡ Skipped = n.1 in cc)) (at_snoc t.fates Skipped k Unmade e))
             (λ s. s) i.fates.outer_halted i.fates.outer_fault i.fates.outer_memory;
-        room = room_passes bounds t u g (stays bounds t (t.fates ++ Skipped ∷ []) t.outer t.set t.seen t.ceased t.memory (λ k j l b e. ⊎_elim (λ o. o) (λ n. absurd (let q : Unmade ≡ Skipped = n.1 in cc)) (at_snoc t.fates Skipped j Unmade e))) i.room;
+        room = room_passes bounds t u g (stays bounds t (t.fates ++ Skipped ∷ []) t.outer t.set t.seen t.ceased t.memory (longer Skipped not_skipped) (λ k j l b e. ⊎_elim (λ o. o) (λ n. absurd (let q : Unmade ≡ Skipped = n.1 in cc)) (at_snoc t.fates Skipped j Unmade e))) i.room;
         caused = λ c w m. cause_grows bounds t u g (λ z. z) (λ z. z) (λ d e. e) c w (i.caused c w m);
         lacked = λ m. lacked_grows bounds t u g (λ e. e) (λ k e. at_left t.fates (Skipped ∷ []) k Unmade e) (lacks_still bounds t u refl refl refl) (i.lacked m);
         stop = i.stop;
@@ -214,15 +219,15 @@ module _ (bounds : Bounds) (t : Tale) (i : IsTale bounds t) where
   pub wants : (vs cs : List Interruption) → Marks 0 why.Memory vs cs → IsTale bounds (learned (unmade t) vs cs)
   wants vs cs mark =
       let u : Tale = learned (unmade t) vs cs in
-      let g : Grows t u = record { begun = back Unmade not_unmade; came = λ k h c. c; found = found_more t vs cs; known = known_more t vs cs; memory = λ e. refl } in
+      let g : Grows t u = record { begun = back Unmade not_unmade; came = λ k h c. c; found = found_more t vs cs; known = known_more t vs cs; memory = λ e. refl; pulled = λ j m. m } in
       record {
         frames = frames_stay bounds t i.frames (t.fates ++ Unmade ∷ []) t.outer (t.set ++ vs) (t.seen ++ cs) true true (λ e. absurd (not_both true e refl)) (λ e. inr (inr refl)) (λ e. refl) (λ k b. at_left t.fates (Unmade ∷ []) k Begun b) (λ h k b. back Unmade not_unmade k b);
         ends = ends_kept bounds t u g NoEnd (none_fresh bounds t u) i.ends (λ k h m. inl m) (λ k h m. inl m) i.ends.apart;
         fates = fates_kept bounds t u g i.fates
             (λ k e. ⊎_elim (λ o. inl o) (λ n. absurd (let q : Skipped ≡ Unmade = n.1 in cc)) (at_snoc t.fates Unmade k Skipped e))
-            (λ k e. ⊎_elim (λ o. inl o) (λ n. inr (refl, λ w. above Unmade not_unmade k n.0)) (at_snoc t.fates Unmade k Unmade e))
+            (λ k e. ⊎_elim (λ o. inl o) (λ n. inr (refl, above Unmade not_unmade k n.0)) (at_snoc t.fates Unmade k Unmade e))
             (λ s. s) (λ e. g.found 0 (i.fates.outer_halted e)) (λ c e. g.known 0 (i.fates.outer_fault c e)) (λ e. refl);
-        room = room_passes bounds t u g (stays bounds t (t.fates ++ Unmade ∷ []) t.outer (t.set ++ vs) (t.seen ++ cs) true true (λ k j l b e. ⊎_elim (λ o. o) (λ n. absurd (let m = at_below t.fates k Begun b in let q : j ≡ length t.fates = n.0 in omega (arith, m, q, l))) (at_snoc t.fates Unmade j Unmade e))) i.room;
+        room = room_passes bounds t u g (stays bounds t (t.fates ++ Unmade ∷ []) t.outer (t.set ++ vs) (t.seen ++ cs) true true (longer Unmade not_unmade) (λ k j l b e. ⊎_elim (λ o. o) (λ n. absurd (let m = turn_next bounds t i k b in let q : j ≡ length t.fates = n.0 in omega (arith, m, q, l))) (at_snoc t.fates Unmade j Unmade e))) i.room;
         caused = caused_more bounds t u g vs (λ m. m) (λ c. c) (λ c e. e) i.caused (marked_caused bounds u 0 why.Memory vs cs mark (refl, refl));
         lacked = λ m. inr (inr (inl (length t.fates, at_last t.fates Unmade)));
         stop = λ e. marked_known t 0 why.Memory vs cs mark;
@@ -232,7 +237,7 @@ module _ (bounds : Bounds) (t : Tale) (i : IsTale bounds t) where
   pub outer_ends : (h : How) (vs cs : List Interruption) → t.outer ≡ None → TellsOuter bounds (learned (outer_ended t h) vs cs) h vs → IsTale bounds (learned (outer_ended t h) vs cs)
   outer_ends h vs cs none tells =
       let u : Tale = learned (outer_ended t h) vs cs in
-      let g : Grows t u = record { begun = λ k b. b; came = λ k j c. c; found = found_more t vs cs; known = known_more t vs cs; memory = or_left t.memory (is_memory h) } in
+      let g : Grows t u = record { begun = λ k b. b; came = λ k j c. c; found = found_more t vs cs; known = known_more t vs cs; memory = or_left t.memory (is_memory h); pulled = λ j m. m } in
       record {
         frames = frames_stay bounds t i.frames t.fates (Some h) (t.set ++ vs) (t.seen ++ cs) (t.ceased || is_memory h) (t.memory || is_memory h)
             (λ e. let q = or_false t.ceased (is_memory h) e in (q.0, ap (λ b. b || is_memory h) (i.frames.quiet q.0).2 ∙ q.1))
@@ -244,7 +249,7 @@ module _ (bounds : Bounds) (t : Tale) (i : IsTale bounds t) where
         ends = ends_kept bounds t u g NoEnd (none_fresh bounds t u) i.ends (λ k j m. inl m) (λ k j m. inl m) i.ends.apart;
         fates = fates_kept bounds t u g i.fates (λ k e. inl e) (λ k e. inl e) (λ s. absurd (none_some (sym none ∙ s.1)))
             (λ e. tells.halted (some_is h how.Halted e)) (λ c e. tells.fault c (some_is h (how.Fault c) e)) (λ e. or_right t.memory (is_memory h) (ap is_memory (some_is h how.Memory e)));
-        room = room_passes bounds t u g (stays bounds t t.fates (Some h) (t.set ++ vs) (t.seen ++ cs) (t.ceased || is_memory h) (t.memory || is_memory h) (λ k j l b e. e)) i.room;
+        room = room_passes bounds t u g (stays bounds t t.fates (Some h) (t.set ++ vs) (t.seen ++ cs) (t.ceased || is_memory h) (t.memory || is_memory h) (omega arith) (λ k j l b e. e)) i.room;
         caused = caused_more bounds t u g vs (λ m. m) (λ c. c) (λ c e. absurd (none_some (sym none ∙ e))) i.caused tells.caused;
         lacked = λ e. ⊎_elim (λ m. lacked_grows bounds t u g (λ o. absurd (none_some (sym none ∙ o))) (λ k f. f) (lacks_still bounds t u refl refl refl) (i.lacked m)) (λ m. inr (inl (ap (λ q. Some q) (memory_is h m)))) (either t.memory (is_memory h) e);
         stop = λ e. ⊎_elim (λ c. known_more t vs cs 0 (i.stop c)) (λ m. tells.memory (memory_is h m)) (either t.ceased (is_memory h) e);

@@ -1,5 +1,5 @@
 -- What else follows of a record.
-use Rattle.std.proofs.Common.{◌≡◌, ◌≢◌, ◌⊎◌, ℕ, ◌<◌, ◌≤◌, true, List, [], ◌∷◌, length, Option, Some, None, IfSome, is_some, inl, inr, refl, sym, ap, ◌∙◌, subst, ⊎_elim, arith}
+use Rattle.std.proofs.Common.{◌≡◌, ◌⊎◌, ℕ, ◌<◌, ◌≤◌, true, List, [], ◌∷◌, length, Option, Some, None, IfSome, inl, inr, refl, sym, ap, ◌∙◌, subst, ⊎_elim, arith}
 use Rattle.std.specs.Prelude.{option_map}
 use Rattle.std.specs.List.{last_or, AllByRecursion}
 use Rattle.chunk_core.specs.Lists.{IsAmong}
@@ -10,7 +10,6 @@ use Rattle.chunk_core.specs.declared.code.How.{How}
 use Rattle.chunk_core.specs.declared.code.How.TheVariants as how
 use Rattle.res_ledger.specs.declared.event.StreamNo.{StreamNo}
 use Rattle.res_ledger.specs.declared.event.StreamNo.TheVariants.{Outer, Inner}
-use Rattle.run_rules.specs.declared.end.EndOf.{EndOf}
 use Rattle.run_rules.specs.Ends as ends
 use Rattle.run_rules.specs.Ends.{EndStops, IsSilenced, IsStopped, last_stream}
 use Rattle.run_rules.specs.Facts.{Acts, IsFailure}
@@ -21,7 +20,7 @@ use Rattle.join_tale.specs.Ended.{Ended}
 use Rattle.join_tale.specs.Ended.Ended.{told, wanting, whole, halted, unmade, skipped}
 use Rattle.join_tale.specs.Keeping.{HasLacked, IsHighest, IsLast, IsTale, LacksForLoad}
 use Rattle.join_tale.specs.Records.{EndedSo, Follows, IsRecordOf, IsSettled, WantsFor, bare}
-use Rattle.join_tale.specs.Tales.{Came, HasCome, HasMet, IsBegun, Message, Tale, end_of, frames_of, load_of, loads_of}
+use Rattle.join_tale.specs.Tales.{Came, HasCome, IsBegun, Message, Tale, end_of, frames_of, load_of, loads_of}
 use Rattle.join_tale.proofs.Causes.{act_begun, end_of_inner, end_of_outer, halted_has_cause, inner_is, outer_is, own_stops, same_begun, silenced_is}
 use Rattle.join_tale.proofs.Endings.{come_begun, ended_once}
 use Rattle.join_tale.proofs.InRoom.{begin_in_room}
@@ -48,7 +47,7 @@ module _ (opener : Opener) (ss : List Stream) where
     failed_last k h (wanting m e) is = (i.ends.memory k (inr m)).1
     failed_last k h (whole m n e) is = absurd (⊎_elim (λ f. let q : how.Done ≡ how.Fault f.0 = sym e ∙ f.1 in cc) (λ s. let q : how.Done ≡ how.Memory = sym e ∙ s in cc) is)
     failed_last k h (halted e m n l q) is = i.ends.late k e m
-    failed_last k h (unmade e q) is = (i.fates.unmade k e).1
+    failed_last k h (unmade e q) is = λ w j b. (i.fates.unmade k e).1 j (inl b)
     failed_last k h (skipped e q) is = absurd (⊎_elim (λ f. let z : how.Halted ≡ how.Fault f.0 = sym q ∙ f.1 in cc) (λ s. let z : how.Halted ≡ how.Memory = sym q ∙ s in cc) is)
 
     silence_stops : runs_in_turn work ≡ true → IsSilenced work c → IfSome (last_stream c) (λ j. ends.IsLast j c.events)
@@ -86,7 +85,7 @@ module _ (opener : Opener) (ss : List Stream) where
       halted_stops k h (whole m n e) is a = absurd (let q : how.Done ≡ how.Halted = sym e ∙ is in cc)
       halted_stops k h (halted e m n l q) is a = inr (come_last k (e, inr m) (i.ends.late k e m) a)
       halted_stops k h (unmade e q) is a = absurd (let z : how.Memory ≡ how.Halted = sym q ∙ is in cc)
-      halted_stops k h (skipped e q) is a = ⊎_elim (λ f. inl (own_stops opener ss t c i r settled k f)) (λ s. inr (highest_events k s.1)) (i.fates.skipped k e)
+      halted_stops k h (skipped e q) is a = ⊎_elim (λ f. inl (own_stops opener ss t c i r settled k f)) (λ s. inr (highest_events k (λ j b. s.1 j (inl b)))) (i.fates.skipped k e)
 
       stopped : IsStopped work c
       stopped = record {

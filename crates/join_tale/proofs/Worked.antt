@@ -1,5 +1,5 @@
 -- The tale that is written out, step by step, and those that can't be.
-use Rattle.std.proofs.Common.{◌≡◌, ℕ, zero, suc, ◌<◌, ◌≤◌, true, false, List, [], ◌∷◌, Some, inl, refl, ap, ⊎_elim, arith}
+use Rattle.std.proofs.Common.{◌≡◌, ℕ, zero, suc, ◌<◌, ◌≤◌, true, false, List, [], ◌∷◌, Some, inl, inr, refl, ap, ⊎_elim, arith}
 use Rattle.chunk_core.specs.Lists.{IsAmong}
 use Rattle.chunk_core.specs.Lists.IsAmong.{here, there}
 use Rattle.chunk_core.proofs.Members.{among_cons, among_nil}
@@ -67,7 +67,7 @@ may_0 = record {
   run = λ k. ⊎_elim (λ s. among_nil s.1) (λ s. among_nil s.1) k;
   own = λ k. ⊎_elim (λ s. among_nil s.1) (λ s. among_nil s.1) k;
   alone = λ w j b. absurd (none_some b);
-  few = ([], omega arith, λ k b. absurd (none_some b.0));
+  room = (omega arith, λ k b. absurd (none_some b.0));
 }
 
 may_1 : MayBegin two_streams done_0
@@ -75,7 +75,7 @@ may_1 = record {
   run = λ k. ⊎_elim (λ s. among_nil s.1) (λ s. among_nil s.1) k;
   own = λ k. ⊎_elim (λ s. among_nil s.1) (λ s. among_nil s.1) k;
   alone = λ w j b. by_number j b;
-  few = ([], omega arith, λ k b. absurd (b.1 (by_number k b.0)));
+  room = (omega arith, λ k b. absurd (b.1 (by_number k b.0)));
 }
   where
     by_number : (j : ℕ) → IsBegun done_0 j → HasCome done_0 j
@@ -175,7 +175,8 @@ are_refused = record {
       (i.ends.halted 0 (inl (here (end_of 1 how.Done ∷ []))));
   begun_behind_skipped = λ i. ⊎_elim
       (λ f. let q : 1 ≡ 0 = (⊎_elim (λ (m : interruption 1 f.0.0 ≡ interruption 0 why.Fault). ap (λ (x : Interruption). x.context) m) (λ n. absurd (among_nil n)) (among_cons f.0.1)) in one_zero q)
-      (λ s. let l : 1 ≤ 0 = s.1 1 refl in omega (l, arith))
+      (λ s. let l : 1 ≤ 0 = s.1 1 (inl refl) in omega (l, arith))
       (i.fates.skipped 0 refl);
+  pulled_behind_fault = λ i. among_nil ((i.room.had 1 (inr (here []))).1 0 (omega arith) (inr (inl (inl (code.Read, inl (here []))))));
   goes_on = λ i. not_both false refl (i.frames.met refl);
 }

@@ -30,6 +30,14 @@ IsEndedInTurn bounds t k = is_in_turn bounds ≡ true → (j : ℕ) × (bounds.u
 abbrev pub IsToldToHalt : Bounds → Tale → ℕ → Type 0
 IsToldToHalt bounds t k = (IsFoundSet t (suc k) × IsEndedInTurn bounds t k) ⊎ (IsFoundSet t 0 × IsLast bounds t k)
 
+-- k had its turn: it was begun, or the outer stream was pulled in it
+abbrev pub HadTurn : Tale → ℕ → Type 0
+HadTurn t k = IsBegun t k ⊎ IsAmong k t.pulled
+
+-- no stream above k had its turn
+abbrev pub IsLastTurn : Tale → ℕ → Type 0
+IsLastTurn t k = (j : ℕ) → HadTurn t j → j ≤ k
+
 -- the outer stream has ended, and not by itself
 abbrev pub IsOuterStopped : Tale → Type 0
 IsOuterStopped t = (h : How) × (t.outer ≡ Some h) × (h ≢ how.Done)
@@ -38,9 +46,9 @@ IsOuterStopped t = (h : How) × (t.outer ≡ Some h) × (h ≢ how.Done)
 abbrev pub IsOwnCode : Bounds → Tale → ℕ → Type 0
 IsOwnCode bounds t k = IsFoundSet t (suc k) × (is_in_turn bounds ≡ true → IsSet t (suc k))
 
--- why k wasn't begun: a code was found that is its own, or one for all streams or the outer stream was stopped, and then none above k was begun, however many may be open
+-- why k wasn't begun: a code was found that is its own, or one for all streams or the outer stream was stopped, and then none above k had its turn, however many may be open
 abbrev pub IsPassedOver : Bounds → Tale → ℕ → Type 0
-IsPassedOver bounds t k = (IsFoundSet t (suc k) × IsEndedInTurn bounds t k) ⊎ ((IsFoundSet t 0 ⊎ IsOuterStopped t) × IsHighest t k)
+IsPassedOver bounds t k = (IsFoundSet t (suc k) × IsEndedInTurn bounds t k) ⊎ ((IsFoundSet t 0 ⊎ IsOuterStopped t) × IsLastTurn t k)
 
 -- a load isn't empty
 abbrev pub IsFull : Body → Type 0
@@ -89,13 +97,13 @@ pub record KeepsEnds (bounds : Bounds) (t : Tale) : Type 0 where
 -- the streams that weren't begun, and the outer one
 pub record KeepsFates (bounds : Bounds) (t : Tale) : Type 0 where
   pub skipped : (k : ℕ) → at t.fates k ≡ Some Skipped → IsPassedOver bounds t k
-  pub unmade : (k : ℕ) → at t.fates k ≡ Some Unmade → (t.memory ≡ true) × IsLast bounds t k
+  pub unmade : (k : ℕ) → at t.fates k ≡ Some Unmade → (t.memory ≡ true) × IsLastTurn t k
   pub nobody : bounds.most ≡ Some 0 → IsKnown t 0 × ((k : ℕ) → ¬ (IsBegun t k))
   pub outer_halted : t.outer ≡ Some how.Halted → IsFoundSet t 0
   pub outer_fault : (c : Code) → t.outer ≡ Some (how.Fault c) → IsKnown t 0
   pub outer_memory : t.outer ≡ Some how.Memory → t.memory ≡ true
 
--- Which streams were open when another one began.
+-- Which streams were open when another one had its turn.
 
 -- i has come to an end by which no further stream begins: it failed or found no memory, it was halted and not by its own code, its end came too late, or there was no memory to make it
 abbrev pub HasEndedAll : Bounds → Tale → ℕ → Type 0
@@ -105,17 +113,23 @@ HasEndedAll bounds t i = ((c : Code) × Came t i (how.Fault c)) ⊎ Came t i how
 abbrev pub PrintedLast : Bounds → Tale → ℕ → Type 0
 PrintedLast bounds t i = (HasMet bounds t ⊎ (is_some t.cut ≡ true)) × (f : Frame) × (last_or None (frames_begun t) ≡ Some f) × (f.stream ≡ i)
 
--- i is open, or it was when k began: it printed behind k, by its end no further stream begins, it printed last, or its end stops k
+-- i is open, or it was when k had its turn: by its end no further stream begins, or it printed last; or k was begun then, and i printed behind it or its end stops k
 abbrev pub WasOpen : Bounds → Tale → ℕ → ℕ → Type 0
-WasOpen bounds t k i = IsOpen t i ⊎ PrintsBehind (frames_begun t) k i ⊎ HasEndedAll bounds t i ⊎ PrintedLast bounds t i ⊎ ((bounds.until k ≡ Some i) × HasCome t i)
+WasOpen bounds t k i = IsOpen t i ⊎ HasEndedAll bounds t i ⊎ PrintedLast bounds t i ⊎ (IsBegun t k × (PrintsBehind (frames_begun t) k i ⊎ ((bounds.until k ≡ Some i) × HasCome t i)))
 
--- fewer of the streams before k were open when it began than may be
+-- the streams before k that were open when it had its turn are among those that are told, which are fewer than may be
 abbrev pub HadRoom : Bounds → Tale → ℕ → Type 0
-HadRoom bounds t k = (others : List ℕ) × (length others < bounds.max_open) × ((i : ℕ) → i < k → WasOpen bounds t k i → IsAmong i others)
+HadRoom bounds t k = (length (t.room k) < bounds.max_open) × ((i : ℕ) → i < k → WasOpen bounds t k i → IsAmong i (t.room k))
 
--- each stream began in room that was there
-abbrev pub KeepsRoom : Bounds → Tale → Type 0
-KeepsRoom bounds t = (k : ℕ) → IsBegun t k → HadRoom bounds t k
+-- the next stream has room: the streams that are open are among those that are told, which are fewer than may be
+abbrev pub HasRoom : Bounds → Tale → Type 0
+HasRoom bounds t = (length (t.room (length t.fates)) < bounds.max_open) × ((i : ℕ) → IsOpen t i → IsAmong i (t.room (length t.fates)))
+
+-- each stream had its turn in room that was there, and the next one has it still where the outer stream was pulled in its turn
+pub record KeepsRoom (bounds : Bounds) (t : Tale) : Type 0 where
+  pub had : (k : ℕ) → HadTurn t k → HadRoom bounds t k
+  pub now : IsAmong (length t.fates) t.pulled → (i : ℕ) → IsOpen t i → IsAmong i (t.room (length t.fates))
+  pub next : (k : ℕ) → IsAmong k t.pulled → k ≤ length t.fates
 
 pub record IsTale (bounds : Bounds) (t : Tale) : Type 0 where
   pub frames : KeepsFrames bounds t

@@ -10,13 +10,14 @@ use Rattle.res_ledger.specs.declared.event.Event.{Event}
 use Rattle.res_ledger.specs.declared.event.StreamNo.{StreamNo}
 use Rattle.res_ledger.specs.declared.event.StreamNo.TheVariants.{Outer, Inner}
 use Rattle.run_rules.specs.declared.end.EndOf.{EndOf}
-use Rattle.run_rules.specs.Ends.{BeginInRoom, HasCauseToHalt, IsSilenced, IsStopped}
+use Rattle.run_rules.specs.Ends as ends
+use Rattle.run_rules.specs.Ends.{BeginInRoom, HasCauseToHalt, IsSilenced, IsStopped, WasIn}
 use Rattle.run_rules.specs.Facts.{has_left, is_fault}
 use Rattle.run_rules.specs.Outputs.{NeverFall}
 use Rattle.run_rules.specs.Work.{Work, Opener, RunRecord, Stream, begun_frames, most_of, names_of, runs_in_turn}
 use Rattle.join_tale.specs.Bounds.{bounds_of}
 use Rattle.join_tale.specs.Ended.{Ended}
-use Rattle.join_tale.specs.Keeping.{LacksForLoad}
+use Rattle.join_tale.specs.Keeping.{HadTurn, LacksForLoad}
 use Rattle.join_tale.specs.Tales.{HasCome, IsBegun, IsSet, Tale, frames_of}
 
 -- a run of which it isn't said what its streams give: why a stream may be halted and what may begin don't depend on that
@@ -32,7 +33,8 @@ abbrev pub EndedSo : Tale → StreamNo → How → Type 0
 EndedSo t Outer h = t.outer ≡ Some h
 EndedSo t (Inner k) h = Ended t k h
 
--- the record tells what the tale does: its ends, the frames, and of its events that only streams that were begun noted some, and those left whose end was received
+-- the record tells what the tale does: its ends, the frames, and of its events that only streams that were begun noted some, those left whose end was received, and each had its turn while those alone
+-- hadn't left that are told to have been open
 pub record IsRecordOf (work : Work) (t : Tale) (c : RunRecord) : Type 0 where
   pub frames : c.frames ≡ frames_of t.front
   pub cut : c.cut ≡ t.cut
@@ -44,6 +46,8 @@ pub record IsRecordOf (work : Work) (t : Tale) (c : RunRecord) : Type 0 where
   pub begun : (e : Event) (k : ℕ) → IsAmong e c.events → e.by ≡ Inner k → IsBegun t k
   pub left : (j : ℕ) → has_left j c.events ≡ true → HasCome t j
   pub leaves : (j : ℕ) → HasCome t j → has_left j c.events ≡ true
+  pub turns : (k : ℕ) → ends.HadTurn c.events k → HadTurn t k
+  pub room : (k i : ℕ) → i < k → WasIn c.events k i → IsAmong i (t.room k)
 
 -- what follows of the record
 pub record Follows (work : Work) (c : RunRecord) : Type 0 where

@@ -10,13 +10,13 @@ use Rattle.interrupt_ctx.specs.declared.why.Why.TheVariants as why
 use Rattle.run_rules.specs.Facts.{is_memory}
 use Rattle.chunk_core.specs.Lists.{IsAmong}
 use Rattle.join_tale.specs.Bounds.{Bounds, is_in_turn}
-use Rattle.join_tale.specs.Keeping.{IsOuterStopped, IsOwnCode, IsTale}
+use Rattle.join_tale.specs.Keeping.{HadTurn, HasRoom, IsOuterStopped, IsOwnCode, IsTale}
 use Rattle.join_tale.specs.Tales.{AreCaused, Fate, HasCome, IsBegun, IsCaused, IsFoundSet, IsKnown, IsOpen, Tale, end_of, frames_of, load_of}
 use Rattle.join_tale.specs.Tales.Fate.{Begun, Skipped, Unmade}
 
 -- before the first message
 abbrev pub first_tale : Tale
-first_tale = record { front = []; late = []; fates = []; outer = None; set = []; seen = []; ceased = false; cut = None; memory = false }
+first_tale = record { front = []; late = []; fates = []; outer = None; set = []; seen = []; ceased = false; cut = None; memory = false; pulled = []; room = λ k. [] }
 
 -- these were set, and those found set
 abbrev pub learned : Tale → List Interruption → List Interruption → Tale
@@ -25,6 +25,14 @@ learned t vs cs = record t { set = t.set ++ vs; seen = t.seen ++ cs }
 -- the next stream has this fate
 abbrev pub fated : Tale → Fate → Tale
 fated t f = record t { fates = t.fates ++ f ∷ [] }
+
+-- the outer stream is pulled in the turn of the next stream
+abbrev pub pulled : Tale → Tale
+pulled t = record t { pulled = length t.fates ∷ t.pulled }
+
+-- so it is told which streams were open
+abbrev pub housed : Tale → (ℕ → List ℕ) → Tale
+housed t room = record t { room = room }
 
 -- a load is written as a frame
 abbrev pub written : Tale → ℕ → List ℕ → Tale
@@ -82,18 +90,26 @@ pub record TellsOuter (bounds : Bounds) (u : Tale) (h : How) (vs : List Interrup
 abbrev pub AreFewOpen : ℕ → Tale → Type 0
 AreFewOpen width t = (others : List ℕ) × (length others < width) × ((k : ℕ) → IsOpen t k → IsAmong k others)
 
--- a stream may begin: its contexts aren't set, fewer are open than may be, and where one stream is open at a time all that were begun have ended
+-- the next stream has room if that is told so, and of those that had their turn it is told as before
+pub record MakesRoom (bounds : Bounds) (t : Tale) (room : ℕ → List ℕ) : Type 0 where
+  pub is_tale : IsTale bounds (housed t room)
+  pub has : HasRoom bounds (housed t room)
+  pub same : (k : ℕ) → HadTurn t k → room k ≡ t.room k
+
+-- a stream may begin: its contexts aren't set, it has room, and where one stream is open at a time all that were begun have ended
 pub record MayBegin (bounds : Bounds) (t : Tale) : Type 0 where
   pub run : ¬ (IsKnown t 0)
   pub own : ¬ (IsKnown t (suc (length t.fates)))
   pub alone : is_in_turn bounds ≡ true → (j : ℕ) → IsBegun t j → HasCome t j
-  pub few : AreFewOpen bounds.max_open t
+  pub room : HasRoom bounds t
 
 -- how a tale begins, and what keeps it
 pub record StepsKeepTale (bounds : Bounds) : Type 0 where
   pub starts : bounds.most ≢ Some 0 → IsTale bounds first_tale
   pub starts_met : (vs cs : List Interruption) → Marks 0 why.Take vs cs → bounds.most ≡ Some 0 → IsTale bounds (record (learned first_tale vs cs) { ceased = true })
   pub learns : (t : Tale) (vs cs : List Interruption) → IsTale bounds t → AreCaused bounds t vs → IsTale bounds (learned t vs cs)
+  pub houses : (t : Tale) → IsTale bounds t → AreFewOpen bounds.max_open t → (room : ℕ → List ℕ) × MakesRoom bounds t room
+  pub pulls : (t : Tale) → IsTale bounds t → ¬ (IsKnown t 0) → HasRoom bounds t → IsTale bounds (pulled t)
   pub begins : (t : Tale) → IsTale bounds t → MayBegin bounds t → IsTale bounds (fated t Begun)
   pub skips : (t : Tale) → IsTale bounds t → IsFoundSet t 0 ⊎ IsOwnCode bounds t (length t.fates) ⊎ IsOuterStopped t → IsTale bounds (fated t Skipped)
   pub wants : (t : Tale) (vs cs : List Interruption) → Marks 0 why.Memory vs cs → IsTale bounds t → IsTale bounds (learned (unmade t) vs cs)

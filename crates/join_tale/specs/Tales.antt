@@ -37,6 +37,7 @@ pub data Fate : Type 0 where
 -- became of each stream, in order, and `outer` how the outer one ended, if it has. `set` are the contexts that were set, also by the
 -- seats that were taken in, and `seen` those found set; context 0 is that of all streams, and 1 + k that of stream k. `ceased`: no
 -- frame is written any more; `cut` is the frame whose write failed, which stands first in `late`; `memory`: memory was wanting.
+-- `pulled` are the streams in whose turn the outer one was pulled, and `room` tells of each stream that had its turn which others were open then.
 pub record Tale : Type 0 where
   pub front : List Message
   pub late : List Message
@@ -47,6 +48,8 @@ pub record Tale : Type 0 where
   pub ceased : Bool
   pub cut : Option Frame
   pub memory : Bool
+  pub pulled : List ℕ
+  pub room : ℕ → List ℕ
 
 -- the frames of a message
 abbrev pub frames_in : Message → List Frame

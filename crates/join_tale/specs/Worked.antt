@@ -42,6 +42,8 @@ worked_tale = record {
   ceased = true;
   cut = None;
   memory = false;
+  pulled = [];
+  room = λ k. [];
 }
 
 -- it is a tale, by which stream 0 is done and stream 1, which wasn't printed whole, is halted
@@ -54,7 +56,7 @@ pub record IsWorked : Type 0 where
 abbrev pub plain_tale : List Message → List Fate → Tale
 plain_tale ms fates = record first_tale { front = ms; fates = fates }
 
--- no tale: a stream is halted for nothing; three frames were printed; a stream was begun behind one that failed; a load came of a stream that wasn't begun, or an empty one; a stream ended twice; no code was set though enough was printed; a frame of stream 0 came behind one of stream 1; memory was wanting for nothing; stream 0 is halted by the end of stream 1, which began only once stream 0 had ended; where two may be open, one was begun behind one that was skipped since the outer stream failed
+-- no tale: a stream is halted for nothing; three frames were printed; a stream was begun behind one that failed; a load came of a stream that wasn't begun, or an empty one; a stream ended twice; no code was set though enough was printed; a frame of stream 0 came behind one of stream 1; memory was wanting for nothing; stream 0 is halted by the end of stream 1, which began only once stream 0 had ended; where two may be open, one was begun behind one that was skipped since the outer stream failed; where one may be open, the outer stream was pulled behind one that failed
 pub record AreRefused : Type 0 where
   pub halted_for_nothing : ¬ (IsTale two_streams (plain_tale (end_of 0 how.Halted ∷ []) (Begun ∷ [])))
   pub three_frames : ¬ (IsTale two_streams (plain_tale (load_of 0 (65 ∷ []) ∷ load_of 0 (66 ∷ []) ∷ load_of 0 (67 ∷ []) ∷ []) (Begun ∷ [])))
@@ -66,4 +68,5 @@ pub record AreRefused : Type 0 where
   pub wanting_for_nothing : ¬ (IsTale two_streams (record (plain_tale [] (Begun ∷ [])) { set = interruption 0 why.Memory ∷ []; ceased = true; memory = true }))
   pub halted_by_a_later_end : ¬ (IsTale stopped_streams (record (plain_tale (end_of 0 how.Halted ∷ end_of 1 how.Done ∷ []) (Begun ∷ Begun ∷ [])) { set = interruption 1 why.Until ∷ []; seen = interruption 1 why.Until ∷ [] }))
   pub begun_behind_skipped : ¬ (IsTale wide_streams (record (plain_tale [] (Skipped ∷ Begun ∷ [])) { outer = Some (how.Fault code.Read); set = interruption 0 why.Fault ∷ []; seen = interruption 0 why.Fault ∷ [] }))
+  pub pulled_behind_fault : ¬ (IsTale two_streams (record (plain_tale (end_of 0 (how.Fault code.Read) ∷ []) (Begun ∷ [])) { set = interruption 0 why.Fault ∷ []; pulled = 1 ∷ [] }))
   pub goes_on : ¬ (IsTale two_streams (plain_tale (load_of 0 (65 ∷ []) ∷ load_of 0 (66 ∷ []) ∷ []) (Begun ∷ [])))

@@ -28,7 +28,7 @@ pub fn records_follow()
     ensures done { ForAny UndisturbedIsDone }
 {}
 
-/// A tale of two streams that is written out, and eleven that can't be.
+/// A tale of two streams that is written out, and twelve that can't be.
 pub fn worked()
     ensures tale { IsWorked }
     ensures refused { AreRefused }

@@ -104,7 +104,7 @@ module _ {P : Type 0} {ends : P → Exit → Bool → P → Type 0} {width n : �
   standing = b.seat.out ++ map (λ w. w.0) p.waits
 
   -- each stream below `leased` is one of these, or its lease has a Cancel
-  stands_or_gone : (i : ℕ) → i < p.leased → IsAmong i standing ⊎ ((k : StreamNo) × (x : Exit) × Notes b.seat.events k (Cancel i x))
+  pub stands_or_gone : (i : ℕ) → i < p.leased → IsAmong i standing ⊎ ((k : StreamNo) × (x : Exit) × Notes b.seat.events k (Cancel i x))
   stands_or_gone i l = ⊎_elim
       (λ low. ⊎_elim
       (λ s.

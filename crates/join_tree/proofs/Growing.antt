@@ -35,11 +35,13 @@ use Rattle.tree_families.specs.Families.{IsFamily, Split}
 use Rattle.tree_families.proofs.Families.{family_calls}
 use Rattle.tree_families.proofs.Noting.{follows_cases}
 use Rattle.join_tree.specs.Mains.{IsMain, IsRoot, Waits}
-use Rattle.join_tree.specs.Progress.{Follow, Progress, closing_root, leasing_next, none_done, reading, skipping}
+use Rattle.join_tree.specs.Progress.{Follow, Progress, closing_root, leasing_next, none_done, reading, skipping, standing}
 use Rattle.join_tree.specs.Notes.{GivesInPace, IsOuterNote, IsTold, RowsRise, is_table_note}
+use Rattle.join_tree.specs.Turns.{KeepsOuts}
 use Rattle.join_tree.proofs.Ending.{ended_own}
 use Rattle.join_tree.proofs.Giving.{gives_calm, gives_leases, gives_none, gives_reads, paced_more}
 use Rattle.join_tree.proofs.Queue.{follow_least, follow_other, follow_snoc, waits_less, waits_more, waits_same}
+use Rattle.join_tree.proofs.Turns.{not_root, outs_calm, outs_closes, outs_leases, outs_none}
 use Rattle.join_tree.proofs.Telling.{below_or, end_note, notes_more, some_is, table_note, told_calls, note_stays}
 
 module _ {P : Type 0} where
@@ -112,6 +114,7 @@ module _ {P : Type 0} {ends : P → Exit → Bool → P → Type 0} {width n : �
           back = λ y m. absurd (among_nil m);
         };
         gives = gives_none b.seat.events nothing;
+        outs = outs_none b.seat (λ j m. among_nil (subst (λ l. IsAmong j l) alone.out m)) nothing;
         met = λ m i. absurd (among_nil i);
         home = λ y j i. absurd (among_nil i);
       }
@@ -129,8 +132,8 @@ module _ {P : Type 0} {ends : P → Exit → Bool → P → Type 0} {width n : �
       root
 
   -- a call by which no seat goes out or comes in
-  pub main_calls : (b c : Seen P) (p : Progress P) (ws : List (ℕ × List ℕ)) (next leased : ℕ) (E : List What) (o : Option Exit) (Ds : List (ℕ × List ℕ)) → IsMain ends width n b p → Called ends b Ds c → ((j : ℕ) (T : List ℕ) → IsAmong (j, T) Ds → Lent b.seat j T) → c.seat.had ≡ b.seat.had → c.seat.out ≡ b.seat.out → Follow next ws leased → leased ≤ n → p.next ≤ next → Waits c.seat ws → ((j : ℕ) (T : List ℕ) → IsAmong (j, T) ws → Lent c.seat j T) → IsRoot c o → IsTold (record p { waits = ws; next = next; leased = leased; tables = E; root = o }) c.seat.events → GivesInPace width c.seat.events → IsMain ends width n c (record p { waits = ws; next = next; leased = leased; tables = E; root = o })
-  main_calls b c p ws next' leased' E o Ds h k lent had out order few older waits lents root told gives = record {
+  pub main_calls : (b c : Seen P) (p : Progress P) (ws : List (ℕ × List ℕ)) (next leased : ℕ) (E : List What) (o : Option Exit) (stood : List (ℕ × List ℕ)) (last : List ℕ) (Ds : List (ℕ × List ℕ)) → IsMain ends width n b p → Called ends b Ds c → ((j : ℕ) (T : List ℕ) → IsAmong (j, T) Ds → Lent b.seat j T) → c.seat.had ≡ b.seat.had → c.seat.out ≡ b.seat.out → Follow next ws leased → leased ≤ n → p.next ≤ next → Waits c.seat ws → ((j : ℕ) (T : List ℕ) → IsAmong (j, T) ws → Lent c.seat j T) → IsRoot c o → IsTold (record p { waits = ws; next = next; leased = leased; tables = E; root = o; ahead = stood; last = last }) c.seat.events → GivesInPace width c.seat.events → KeepsOuts p.out stood last leased c.seat → IsMain ends width n c (record p { waits = ws; next = next; leased = leased; tables = E; root = o; ahead = stood; last = last })
+  main_calls b c p ws next' leased' E o stood last Ds h k lent had out order few older waits lents root told gives outs = record {
     family = onward h.family (family_calls b c p.splits Ds h.family k had out lent) k lent;
     shelf = h.shelf;
     room = h.room;
@@ -145,6 +148,7 @@ module _ {P : Type 0} {ends : P → Exit → Bool → P → Type 0} {width n : �
     root = root;
     told = told;
     gives = gives;
+    outs = outs;
     met = λ m i. ⊎_elim (λ x. inl (subst (λ l. IsAmong m.stream l) (sym out) x)) (λ y. inr y) (h.met m i);
     home = λ y j i e m. h.home y j i e (subst (λ l. IsAmong j l) out m);
   }
@@ -180,6 +184,20 @@ module _ {P : Type 0} {ends : P → Exit → Bool → P → Type 0} {width n : �
       gives_calm b.seat.events c.seat.events h.gives more
       (λ e j s m w. old e (Lease j s) m w refl (leases j s))
       (λ e r s m by w. old e (Acquire r s) m w refl (acquires r s))
+
+  -- nor does it close the root, where that event isn't such a Close: so what stood is told still
+  follows_outs : (b c : Seen P) (p : Progress P) (x : Event) → IsMain ends width n b p → ((e : Event) → IsAmong e b.seat.events → IsAmong e c.seat.events) → c.seat.out ≡ b.seat.out → Follows (noted b.seat x) c.seat → ((j s : ℕ) → Lease j s ≡ x.what → ⊥) → ((y : Exit) → Close 0 y ≡ x.what → ⊥) → KeepsOuts p.out p.ahead p.last p.leased c.seat
+  follows_outs b c p x h more out f leases closes =
+      let old : (e : Event) (w : What) → IsAmong e c.seat.events → e.what ≡ w → is_end w ≡ false → (w ≡ x.what → ⊥) → IsAmong e b.seat.events = λ e w m i no other. ⊎_elim
+      (λ o. o)
+      (λ o. ⊎_elim
+      (λ q. absurd (other (sym i ∙ ap (λ (z : Event). z.what) q)))
+      (λ q. let z : false ≡ true = sym no ∙ (ap is_end (sym i) ∙ q.1) in cc)
+      o)
+      (follows_cases b.seat c.seat x f e m) in
+      outs_calm b.seat c.seat h.outs (λ j m. subst (λ l. IsAmong j l) out m) more
+      (λ e j s m w. old e (Lease j s) m w refl (leases j s))
+      (λ e y m by w. old e (Close 0 y) m w refl (closes y))
 
   -- a stream that had a seat was dealt with
   pub had_older : {b : Seen P} {p : Progress P} → IsMain ends width n b p → (j : ℕ) → IsAmong j b.seat.had → j < p.next
@@ -225,7 +243,7 @@ module _ {P : Type 0} {ends : P → Exit → Bool → P → Type 0} {width n : �
       let more : (e : Event) → IsAmong e v.events → IsAmong e c.seat.events = events_stay call in
       let old : (e : Event) → IsAmong e c.seat.events → IsAmong e v.events ⊎ (e ≡ x) = λ e m. among_snoc v.events e x (subst (λ l. IsAmong e l) events m) in
       let now : Notes c.seat.events Outer (Lease k s) = (x, subst (λ l. IsAmong x l) (sym events) (among_last v.events x), h.by, refl) in
-      main_calls b c p (p.waits ++ (k, T) ∷ []) p.next (suc k) p.tables p.root [] h call (λ j U m. absurd (among_nil m)) (ap (λ u. u.had) o.seat) (ap (λ u. u.out) o.seat)
+      main_calls b c p (p.waits ++ (k, T) ∷ []) p.next (suc k) p.tables p.root ((k, standing p) ∷ p.ahead) p.last [] h call (λ j U m. absurd (among_nil m)) (ap (λ u. u.had) o.seat) (ap (λ u. u.out) o.seat)
       (follow_snoc p.next p.waits k T h.order)
       (omega (less, arith))
       (omega arith)
@@ -245,6 +263,7 @@ module _ {P : Type 0} {ends : P → Exit → Bool → P → Type 0} {width n : �
       (λ q. let z : Cancel j y ≡ Lease k s = sym m.3 ∙ ap (λ (e : Event). e.what) q in cc)
       (old m.0 m.1)))
       (gives_leases b p h c s T fits o)
+      (outs_leases b p h none' c s T o)
 
   -- the root was closed
   pub main_closes : (b c : Seen P) (p : Progress P) (x : Exit) → IsMain ends width n b p → p.root ≡ None → ClosesScope ends b 0 x c → IsClosedScope c 0 → IsMain ends width n c (closing_root p x)
@@ -259,7 +278,7 @@ module _ {P : Type 0} {ends : P → Exit → Bool → P → Type 0} {width n : �
       let old = follows_cases v c.seat y f in
       let now : Notes c.seat.events Outer (Close 0 x) = (y, follows_last v c.seat y f, h.by, refl) in
       let ended : (r : ℕ) (z : Exit) (ok : Bool) → Notes c.seat.events Outer (Final r z ok) → (s : ℕ) × IsAmong (Acquire r s) p.tables = main_ended b c p p.tables [] h call (λ j U m. absurd (among_nil m)) (follows_acquired b c p y h f (λ r s e. cc)) in
-      main_calls b c p p.waits p.next p.leased p.tables (Some x) [] h call (λ j U m. absurd (among_nil m)) (ap (λ z. z.had) f.same) (ap (λ z. z.out) f.same)
+      main_calls b c p p.waits p.next p.leased p.tables (Some x) p.ahead (standing p) [] h call (λ j U m. absurd (among_nil m)) (ap (λ z. z.had) f.same) (ap (λ z. z.out) f.same)
       h.order
       h.few
       (omega arith)
@@ -288,6 +307,7 @@ module _ {P : Type 0} {ends : P → Exit → Bool → P → Type 0} {width n : �
       s)
       (old m.0 m.1)))
       (follows_gives b c p y h more f (λ r s e. cc) (λ j s e. cc))
+      (outs_closes b p h none' c x o more)
 
   -- a child scope was closed
   pub main_closes_child : (b c : Seen P) (p : Progress P) (s : ℕ) (x : Exit) → IsMain ends width n b p → p.root ≡ None → IsOpenScope b (suc s) → ClosesScope ends b (suc s) x c → IsOpenScope c 0 → IsMain ends width n c (reading p (Close (suc s) x ∷ []))
@@ -301,7 +321,7 @@ module _ {P : Type 0} {ends : P → Exit → Bool → P → Type 0} {width n : �
       let more : (e : Event) → IsAmong e v.events → IsAmong e c.seat.events = events_stay call in
       let old = follows_cases v c.seat y f in
       let ended : (r : ℕ) (z : Exit) (ok : Bool) → Notes c.seat.events Outer (Final r z ok) → (t : ℕ) × IsAmong (Acquire r t) (p.tables ++ w ∷ []) = main_ended b c p (p.tables ++ w ∷ []) [] h call (λ j U m. absurd (among_nil m)) (λ r t m. among_left (w ∷ []) (follows_acquired b c p y h f (λ i j e. cc) r t m)) in
-      main_calls b c p p.waits p.next p.leased (p.tables ++ w ∷ []) p.root [] h call (λ j U m. absurd (among_nil m)) (ap (λ z. z.had) f.same) (ap (λ z. z.out) f.same)
+      main_calls b c p p.waits p.next p.leased (p.tables ++ w ∷ []) p.root p.ahead p.last [] h call (λ j U m. absurd (among_nil m)) (ap (λ z. z.had) f.same) (ap (λ z. z.out) f.same)
       h.order
       h.few
       (omega arith)
@@ -330,6 +350,7 @@ module _ {P : Type 0} {ends : P → Exit → Bool → P → Type 0} {width n : �
       t)
       (old m.0 m.1)))
       (follows_gives b c p y h more f (λ r i e. cc) (λ j i e. cc))
+      (follows_outs b c p y h more (ap (λ z. z.out) f.same) f (λ j i e. cc) (λ z e. not_root s z x e))
 
   -- the first lease that waits may be cancelled
   pub main_may_cancel : (b : Seen P) (p : Progress P) (us : List (ℕ × List ℕ)) (j : ℕ) (T : List ℕ) → IsMain ends width n b p → p.waits ≡ (j, T) ∷ us → MayCancel b j T
@@ -358,7 +379,7 @@ module _ {P : Type 0} {ends : P → Exit → Bool → P → Type 0} {width n : �
       let now : Notes c.seat.events Outer (Cancel j Canceled) = (y, follows_last v c.seat y f, h.by, refl) in
       let lent : (i : ℕ) (U : List ℕ) → IsAmong {A = ℕ × List ℕ} (i, U) ((j, T) ∷ []) → Lent v i U = λ i U m. ⊎_elim (λ e. subst (λ (z : ℕ × List ℕ). Lent v z.0 z.1) (sym e) (h.lent j T (among j T (here us)))) (λ z. absurd (among_nil z)) (among_cons m) in
       let ended : (r : ℕ) (z : Exit) (ok : Bool) → Notes c.seat.events Outer (Final r z ok) → (s : ℕ) × IsAmong (Acquire r s) p.tables = main_ended b c p p.tables ((j, T) ∷ []) h call lent (follows_acquired b c p y h f (λ r s e. cc)) in
-      main_calls b c p us (suc p.next) p.leased p.tables p.root ((j, T) ∷ []) h call
+      main_calls b c p us (suc p.next) p.leased p.tables p.root p.ahead p.last ((j, T) ∷ []) h call
       lent
       (ap (λ z. z.had) f.same) (ap (λ z. z.out) f.same)
       order.1
@@ -400,6 +421,7 @@ module _ {P : Type 0} {ends : P → Exit → Bool → P → Type 0} {width n : �
       s)
       (old m.0 m.1)))
       (follows_gives b c p y h more f (λ r s e. cc) (λ i s e. cc))
+      (follows_outs b c p y h more (ap (λ z. z.out) f.same) f (λ i s e. cc) (λ z e. cc))
 
   -- calls for the tables
   pub main_reads : (b c : Seen P) (p : Progress P) (E : List What) → IsMain ends width n b p → p.root ≡ None → Called ends b [] c → StaysAlone b.seat c.seat → IsOpenScope c 0 → ((e : Event) → IsAmong e c.seat.events → IsAmong e b.seat.events ⊎ IsAmong e.what E) → ((w : What) → IsAmong w E → is_table_note w ≡ true) → ((r : ℕ) → IsAmong (Acquire r 0) E → Notes c.seat.events Outer (Acquire r 0)) → ((r : ℕ) → IsAmong (Acquire r 0) E → p.leased ≡ 0) → RowsRise c.seat.events → IsMain ends width n c (reading p E)
@@ -411,7 +433,7 @@ module _ {P : Type 0} {ends : P → Exit → Bool → P → Type 0} {width n : �
       (λ i. among_left E (h.told.outer (Acquire r s) (m.0, i, m.2, m.3)))
       (λ i. among_right (Acquire r s) p.tables E (subst (λ w. IsAmong w E) m.3 i))
       (new m.0 m.1)) in
-      main_calls b c p p.waits p.next p.leased (p.tables ++ E) p.root [] h call (λ j U m. absurd (among_nil m)) alone.had alone.out
+      main_calls b c p p.waits p.next p.leased (p.tables ++ E) p.root p.ahead p.last [] h call (λ j U m. absurd (among_nil m)) alone.had alone.out
       h.order
       h.few
       (omega arith)
@@ -437,3 +459,6 @@ module _ {P : Type 0} {ends : P → Exit → Bool → P → Type 0} {width n : �
       (λ e j s m w. ⊎_elim (λ i. i) (λ i. let z : false ≡ true = ap is_table_note (sym w) ∙ table e.what i in cc) (new e m))
       rise
       (λ e r m w. ⊎_elim (λ i. inl i) (λ i. inr (first r (subst (λ u. IsAmong u E) w i))) (new e m)))
+      (outs_calm v c.seat h.outs (λ j m. subst (λ l. IsAmong j l) alone.out m) more
+      (λ e j s m w. ⊎_elim (λ i. i) (λ i. let z : false ≡ true = ap is_table_note (sym w) ∙ table e.what i in cc) (new e m))
+      (λ e x m by w. ⊎_elim (λ i. i) (λ i. let z : false ≡ true = ap is_table_note (sym w) ∙ table e.what i in cc) (new e m)))

@@ -1,9 +1,11 @@
 pub mod Given
 pub mod Queue
 pub mod Telling
+pub mod Turns
 pub mod Ending
 pub mod Giving
 pub mod Growing
+pub mod Retold
 pub mod Passing
 pub mod Keeping
 pub mod Children

@@ -37,6 +37,7 @@ use Rattle.join_tree.proofs.Giving.{below_next, cancel_below, gives_calm, paced_
 use Rattle.join_tree.proofs.Growing.{had_older, main_main, not_inner, onward, out_had, root_same, root_stays}
 use Rattle.join_tree.proofs.Queue.{follow_length, follow_other, waits_first, waits_less, waits_same}
 use Rattle.join_tree.proofs.Telling.{notes_more, told_splits}
+use Rattle.join_tree.proofs.Turns.{outs_calm, outs_splits}
 
 -- an earlier split is in pace still
 paced_wider : {width : ℕ} (L : List Event) (ms : List Split) (later m : Split) → IsInPace width L Outer ms m → m.stream ≤ later.stream → IsInPace width L Outer (ms ++ later ∷ []) m
@@ -150,6 +151,7 @@ module _ {P : Type 0} {ends : P → Exit → Bool → P → Type 0} {width n : �
         root = root_same b c p.root (ap (λ u. u.by) seat) events h.root;
         told = subst (λ L. IsTold (splitting p v j us) L) (sym events) (told_splits p v.events m us h.told first);
         gives = subst (λ L. GivesInPace width L) (sym events) h.gives;
+        outs = outs_splits v c.seat j h.outs out events;
         met = λ q i. ⊎_elim
             (λ o. ⊎_elim (λ a. inl (subst (λ l. IsAmong q.stream l) (sym out) (among_left (j ∷ []) a))) (λ y. inr y) (h.met q o))
             (λ e. inl (subst (λ l. IsAmong q.stream l) (sym out) (subst (λ k. IsAmong k (v.out ++ j ∷ [])) (sym (ap (λ (y : Split). y.stream) e)) (among_last v.out j))))
@@ -232,6 +234,9 @@ module _ {P : Type 0} {ends : P → Exit → Bool → P → Type 0} {width n : �
         gives = gives_calm v.events c.seat.events h.gives (events_stay call)
             (λ e j s m w. ⊎_elim (λ i. i) (λ i. absurd ((visit_own visit e i).1 j s w)) (cases e m))
             (λ e r s m k w. ⊎_elim (λ i. i) (λ i. absurd (let z : Outer ≡ Inner g.stream = sym k ∙ ((visit_own visit e i).0 ∙ by) in cc)) (cases e m));
+        outs = outs_calm v c.seat h.outs (λ i m. (fewer i m).0) (events_stay call)
+            (λ e j s m w. ⊎_elim (λ i. i) (λ i. absurd ((visit_own visit e i).1 j s w)) (cases e m))
+            (λ e x m k w. ⊎_elim (λ i. i) (λ i. absurd (let z : Outer ≡ Inner g.stream = sym k ∙ ((visit_own visit e i).0 ∙ by) in cc)) (cases e m));
         met = λ m i. ⊎_elim
             (λ a. ⊎_elim
             (λ e. inr (y, among_last p.back y, by ∙ ap Inner (sym e)))

@@ -1,4 +1,5 @@
 -- What the ledger of a main tree tells.
+use Rattle.std.specs.Prelude.{not}
 use Rattle.std.proofs.Common.{arith, ◌≡◌, ◌+◌, ◌≤◌, ◌↔◌, Bool, List, filter, length, map, inl, inr, sym, ap, ◌∙◌, subst, ⊎_elim}
 use Rattle.chunk_core.specs.declared.code.Exit.{Exit}
 use Rattle.chunk_core.specs.Lists.{IsAmong}
@@ -19,7 +20,7 @@ use Rattle.tree_laws.proofs.Guests.{nothing_among}
 use Rattle.tree_laws.proofs.Room.{called_room}
 use Rattle.tree_laws.proofs.Said.{called_said}
 use Rattle.tree_families.proofs.Families.{family_whole}
-use Rattle.tree_families.proofs.Pacing.{family_ahead, family_begins, family_within}
+use Rattle.tree_families.proofs.Pacing.{family_ahead, family_begins, family_room, family_within}
 use Rattle.run_rules.specs.Giving.{is_giving}
 use Rattle.join_tree.specs.Laws.{MainMayFinish, MainSettles}
 use Rattle.join_tree.specs.Mains.{IsRoot, Waits}
@@ -29,6 +30,7 @@ use Rattle.join_tree.proofs.Giving.{gives_same}
 use Rattle.join_tree.proofs.Growing.{main_main}
 use Rattle.join_tree.proofs.Pacing.{leases_cover, leases_in_order, outer_waits, rows_rise}
 use Rattle.join_tree.proofs.Queue.{follow_least}
+use Rattle.join_tree.proofs.Turns.{stood_in, turns_taken}
 use Rattle.join_tree.proofs.Telling.{notes_more}
 
 -- lists with the same events tell the same
@@ -79,6 +81,8 @@ module _ {P : Type 0} {ends : P → Exit → Bool → P → Type 0} where
         };
         rise = rows_rise p L ledger.stamped told gives;
         covers = leases_cover p L ledger.stamped told gives ledger.legal;
+        turns = turns_taken p L told;
+        stood = stood_in p L told v ledger.stamped ledger.whole h.outs (λ R S e k i is by l none. family_room b p.splits L width h.family h.by out ledger h.paced R S e k i is by l (ap not none));
         told = told;
         scopes = subst (λ E. length (opens E) + 1 ≤ b.scopes) (sym mine) (called_room h.family.start h.room h.family.calls).0;
         gave = ap (filter is_giving) mine;

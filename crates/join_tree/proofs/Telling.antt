@@ -84,9 +84,9 @@ module _ {P : Type 0} where
       }
 
   -- a seat was split off for the next stream
-  pub told_splits : (p : Progress P) (L : List Event) (m : Split) (us : List (ℕ × List ℕ)) → IsTold p L → m.stream ≡ p.next → let q : Progress P = record p { splits = p.splits ++ m ∷ []; waits = us; next = suc p.next } in IsTold q L
+  pub told_splits : (p : Progress P) (L : List Event) (m : Split) (us : List (ℕ × List ℕ)) → IsTold p L → m.stream ≡ p.next → let q : Progress P = record p { splits = p.splits ++ m ∷ []; waits = us; next = suc p.next; out = m.stream ∷ p.out } in IsTold q L
   told_splits p L m us t is =
-      let q : Progress P = record p { splits = p.splits ++ m ∷ []; waits = us; next = suc p.next } in
+      let q : Progress P = record p { splits = p.splits ++ m ∷ []; waits = us; next = suc p.next; out = m.stream ∷ p.out } in
       let ahead : (j : ℕ) → IsBegun p j → IsBegun q j = λ j b. (b.0, among_left (m ∷ []) b.1, b.2) in
       record {
         outer = λ w n. note_stays p q (omega arith) (omega arith) (λ x r. r) (λ z i. i) w (t.outer w n);

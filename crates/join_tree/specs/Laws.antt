@@ -19,7 +19,7 @@ use Rattle.tree_families.specs.Families.{Split}
 use Rattle.join_tree.specs.Guests.{AreOut, Guest, IsOut, IsReady}
 use Rattle.tree_families.specs.Leaving.{LeavesLast}
 use Rattle.join_tree.specs.Mains.{IsMain}
-use Rattle.join_tree.specs.Progress.{Progress, closing_root, joining, leasing_next, none_done, reading, skipping, splitting}
+use Rattle.join_tree.specs.Progress.{Progress, closing_root, joining, leasing_next, none_done, reading, skipping, splitting, telling_out}
 use Rattle.join_tree.specs.Settled.{Settles}
 use Rattle.join_tree.specs.Steps.{KeepsGuests}
 use Rattle.join_tree.specs.Notes.{RowsRise, is_table_note}
@@ -32,6 +32,8 @@ module _ {P : Type 0} (ends : P → Exit → Bool → P → Type 0) where
     pub reads : (width n : ℕ) (b c : Seen P) (p : Progress P) (E : List What) → IsMain ends width n b p → p.root ≡ None → Called ends b [] c → StaysAlone b.seat c.seat → IsOpenScope c 0 → ((e : Event) → IsAmong e c.seat.events → IsAmong e b.seat.events ⊎ IsAmong e.what E) → ((w : What) → IsAmong w E → is_table_note w ≡ true) → ((r : ℕ) → IsAmong (Acquire r 0) E → Notes c.seat.events Outer (Acquire r 0)) → ((r : ℕ) → IsAmong (Acquire r 0) E → p.leased ≡ 0) → RowsRise c.seat.events → IsMain ends width n c (reading p E)
     -- an open scope is leased for the next stream; the seats that are out and the leases that wait are `width` at most, so that with the new one at most one more stands
     pub leases : (width n : ℕ) (b c : Seen P) (p : Progress P) (s : ℕ) (T : List ℕ) → IsMain ends width n b p → p.root ≡ None → p.leased < n → length b.seat.out + length p.waits ≤ width → IsOpenScope b s → Leases b s p.leased T c → KeepsScopes b c → IsMain ends width n c (leasing_next p T)
+    -- it may be told anew which streams are out, if those that are stand among them
+    pub tells_out : (width n : ℕ) (b : Seen P) (p : Progress P) (out : List ℕ) → IsMain ends width n b p → ((j : ℕ) → IsAmong j b.seat.out → IsAmong j out) → IsMain ends width n b (telling_out p out)
     pub closes : (width n : ℕ) (b c : Seen P) (p : Progress P) (x : Exit) → IsMain ends width n b p → p.root ≡ None → ClosesScope ends b 0 x c → IsClosedScope c 0 → IsMain ends width n c (closing_root p x)
     -- a child scope was closed, and the root is open still
     pub closes_child : (width n : ℕ) (b c : Seen P) (p : Progress P) (s : ℕ) (x : Exit) → IsMain ends width n b p → p.root ≡ None → IsOpenScope b (suc s) → ClosesScope ends b (suc s) x c → IsOpenScope c 0 → IsMain ends width n c (reading p (Close (suc s) x ∷ []))

@@ -1,6 +1,7 @@
 pub mod Progress
 pub mod Given
 pub mod Notes
+pub mod Turns
 pub mod Mains
 pub mod Guests
 pub mod Steps

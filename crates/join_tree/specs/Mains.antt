@@ -11,6 +11,7 @@ use Rattle.tree_families.specs.Families.{IsFamily, Split}
 use Rattle.tree_families.specs.Pace.{IsInPace}
 use Rattle.join_tree.specs.Progress.{Follow, Progress}
 use Rattle.join_tree.specs.Notes.{GivesInPace, IsTold}
+use Rattle.join_tree.specs.Turns.{KeepsOuts}
 
 module _ {P : Type 0} where
   -- the Leases that the seat keeps are those of ws, each with leases on its rows, and it has no others
@@ -43,6 +44,7 @@ module _ {P : Type 0} where
     pub root : IsRoot b p.root
     pub told : IsTold p b.seat.events
     pub gives : GivesInPace width b.seat.events
+    pub outs : KeepsOuts p.out p.ahead p.last p.leased b.seat
     -- each seat that was split off is out, or its tree is among those that came back, of which none is out
     pub met : (m : Split) → IsAmong m p.splits → IsAmong m.stream b.seat.out ⊎ ((y : Seen P) × IsAmong y p.back × (y.seat.by ≡ Inner m.stream))
     pub home : (y : Seen P) (j : ℕ) → IsAmong y p.back → y.seat.by ≡ Inner j → ¬ (IsAmong j b.seat.out)

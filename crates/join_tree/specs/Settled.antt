@@ -8,6 +8,7 @@ use Rattle.res_ledger.specs.Ledger.{Covers, Notes}
 use Rattle.res_ledger.specs.Order.{firsts}
 use Rattle.res_ledger.specs.Own.{opens, own}
 use Rattle.row_seat.specs.Views.{IsLedgerOf}
+use Rattle.run_rules.specs.Ends.{HadTurn, WasIn}
 use Rattle.run_rules.specs.Pace.{IsPaced}
 use Rattle.scope_tree.specs.Calls.{Seen}
 use Rattle.scope_tree.specs.Released.{said}
@@ -18,6 +19,7 @@ use Rattle.run_rules.specs.Giving.{givings}
 use Rattle.join_tree.specs.Given.{given}
 use Rattle.join_tree.specs.Progress.{Progress}
 use Rattle.join_tree.specs.Notes.{IsTold}
+use Rattle.join_tree.specs.Turns.{StoodIn, TookTurn}
 
 -- L is the ledger of the main tree b, which is as far as p says, once all streams are back
 pub record Settles {P : Type 0} (width n : ℕ) (b : Seen P) (p : Progress P) (L : List Event) : Type 0 where
@@ -28,6 +30,9 @@ pub record Settles {P : Type 0} (width n : ℕ) (b : Seen P) (p : Progress P) (L
   -- the outer stream acquired rows in their order, and each of its leases covers the rows of its root
   pub rise : (P Q : List Event) (e : Event) (r s q t : ℕ) → L ≡ P ++ e ∷ Q → e.by ≡ Outer → e.what ≡ Acquire r s → Notes P Outer (Acquire q t) → q < r
   pub covers : (j s r : ℕ) → Notes L Outer (Lease j s) → IsAmong (Acquire r 0) p.tables → Covers L j Outer r
+  -- each stream had its turn as is told, while those alone hadn't left that stood then
+  pub turns : (k : ℕ) → HadTurn L k → TookTurn p k
+  pub stood : (k i : ℕ) → i < k → WasIn L k i → StoodIn p k i
   -- what its events tell; the outer stream opened no more scopes than it had room for
   pub told : IsTold p L
   pub scopes : length (opens (own Outer L)) + 1 ≤ b.scopes

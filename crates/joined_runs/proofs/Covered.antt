@@ -1,5 +1,5 @@
 -- What holds of the runs of one stream, and of what tables are refused for.
-use Rattle.std.proofs.Common.{◌≡◌, ◌≢◌, ℕ, ◌+◌, ◌<◌, ◌≤◌, List, [], ◌++◌, length, Some, IfSome}
+use Rattle.std.proofs.Common.{◌≡◌, ◌≢◌, ℕ, ◌+◌, ◌<◌, ◌≤◌, List, [], length, Some, IfSome}
 use Rattle.chunk_core.specs.Elements.{Element, rendering_of}
 use Rattle.chunk_core.specs.Outcomes.{End, Cut, Done, Fault, Outcomes}
 use Rattle.chunk_core.specs.Tables.{Values}
@@ -14,11 +14,10 @@ use Rattle.run_rules.specs.Wholeness.{AreUnfailed}
 use Rattle.join_tale.specs.Records.{bare}
 use Rattle.run_rules.specs.Work.{Opener, Stream, first_row_of, list_row}
 
--- Stream k, which has these rows, may be left before it did anything, and wherever it goes on. A fault of it has a device of its rows that shows it; and where nothing failed it is done, and
+-- Stream k, which has these rows, may be left before it did anything. A fault of it has a device of its rows that shows it; and where nothing failed it is done, and
 -- what it gave is an ideal run.
 pub record IsCovered (runs ideal : ℕ → Values → (ℕ → DeviceTold) → Outcomes) (values : Values) (k from to : ℕ) (home : ℕ → DeviceTold) : Type 0 where
   pub idle : ((r : ℕ) → from ≤ r → r < to → IsUntouched (home r)) → runs k values home [] Cut
-  pub left : (ys more : List Element) (e : End) → runs k values home (ys ++ more) e → runs k values home ys Cut
   pub shown : (ys : List Element) (c : Code) → runs k values home ys (Fault c) → IfSome (act_count c) (λ n. (r : ℕ) × (from ≤ r) × (r < to) × (0 < n (home r)))
   pub whole : (ys : List Element) (e : End) → runs k values home ys e → e ≢ Cut → ((r : ℕ) → from ≤ r → r < to → faults_of (home r) ≡ 0)
       → ((u : ℕ → DeviceTold) (zs : List Element) (g : End) → AreUnfailed u home → ideal k values u zs g → g ≡ Done)

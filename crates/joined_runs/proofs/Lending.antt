@@ -1,5 +1,5 @@
 -- An outer stream that gives in its order lends each stream the rows that are lent to it, and opens no more scopes than it has parts for them.
-use Rattle.std.proofs.Common.{◌≡◌, ◌⊎◌, ℕ, zero, suc, ◌+◌, ◌≤◌, true, if◌then◌else◌, List, [], ◌∷◌, ◌++◌, filter, length, inr, refl, sym, ◌∙◌, ap, subst, ⊎_elim, append_assoc, arith, length-append}
+use Rattle.std.proofs.Common.{◌≡◌, ℕ, zero, suc, ◌≤◌, true, if◌then◌else◌, List, [], ◌∷◌, ◌++◌, filter, length, inr, refl, sym, ◌∙◌, ap, subst, ⊎_elim, append_assoc, arith, length-append}
 use Rattle.std.proofs.lemmas.Grind.{flat_map-append}
 use Rattle.std.proofs.lemmas.List.Elements.{filter-append}
 use Rattle.chunk_core.specs.Lists.{IsAmong}

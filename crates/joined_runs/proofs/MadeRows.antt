@@ -21,7 +21,7 @@ use Rattle.res_ledger.specs.declared.event.Event.{Event}
 use Rattle.device_port.specs.Device.{Place, DeviceTold, faults_of}
 use Rattle.device_port.specs.Depot.{HaveOwnNumbers, DepotTold, Files, KeepsFilesBut, KeepsWritten, content_at, device_numbers}
 use Rattle.run_rules.specs.Facts.{acquired_row, at, first_numbers, ended_row, failed_row, is_place}
-use Rattle.run_rules.specs.Devices.{AreAsMany, AreNoMore, DevicesAccounted, IsShut, IsWrittenBy, OpensWhatIsThere, came_back, is_closed_with, made_for, named, numbered, place_of_row}
+use Rattle.run_rules.specs.Devices.{AreAsMany, AreNoMore, DevicesAccounted, IsShut, IsWrittenBy, KeepsToWhatIsThere, came_back, is_closed_with, made_for, named, numbered, place_of_row}
 use Rattle.run_rules.specs.Work.{Work, Values, RunRecord, row_places}
 use Rattle.run_rules.specs.Ends.{IsShown, act_count}
 use Rattle.run_rules.specs.Homes.{AreAtHome, AreLeftAlone, HaveHomes, HaveValues, IsBack, IsTied, IsUntouched, is_tried}
@@ -177,12 +177,13 @@ module _ (places : List Place) (old new : DepotTold) (w : ℕ → DeviceTold) (d
       omega (arith, counted, less, whole))
       (map (λ r. (w r).place) d.rows)
 
-  shut_by : (x : DeviceTold) → IsAtRest x → OpensWhatIsThere x → IsShut x
+  shut_by : (x : DeviceTold) → IsAtRest x → KeepsToWhatIsThere x → IsShut x
   shut_by x rest found = record {
     shut = rest.shut;
     closes = ⊎_elim (λ s. s.1 ∙ sym s.0) (λ s. s.1 ∙ sym s.0) rest.stage;
     once = ⊎_elim (λ s. let o = s.0 in omega (arith, o)) (λ s. let o = s.0 in omega (arith, o)) rest.stage;
-    there = found;
+    there = found.0;
+    within = found.1;
   }
 
   -- a device that came back is that of a row for which one was made
@@ -190,7 +191,7 @@ module _ (places : List Place) (old new : DepotTold) (w : ℕ → DeviceTold) (d
   back_row x i = among_map w x d.rows (among_permuted d.back (map w d.rows) (IsPermutation-sym (map w d.rows) d.back d.each) x i)
 
   each_shut : AllByRecursion IsShut d.back
-  each_shut = each_among IsShut d.back (λ x i. let r = back_row x i in shut_by x (subst IsAtRest r.2 (at_rest r.0 r.1)) (among_each OpensWhatIsThere x d.back d.there i))
+  each_shut = each_among IsShut d.back (λ x i. let r = back_row x i in shut_by x (subst IsAtRest r.2 (at_rest r.0 r.1)) (among_each KeepsToWhatIsThere x d.back d.there i))
 
   -- no two rows have one device with which something was tried
   pub apart : HaveOwnNumbers (filter is_tried (map w (first_numbers count)))

@@ -10,7 +10,7 @@ use Rattle.device_port.specs.Device.{DeviceTold, faults_of, to_read, to_write}
 use Rattle.pull_nodes.specs.Kinds.{node_kind}
 use Rattle.pull_nodes.specs.Runs.{Gives, IsIdealRun, IsIdle, IsRun, IsUnwritten, any_leeway}
 use Rattle.pull_nodes.specs.Shape.{EachPlace, EachWrite, acquired_place, used_place}
-use Rattle.pull_nodes.proofs.Left as leaving
+use Rattle.pull_nodes.proofs.Failures.{IsWell, no_failure, node_tells}
 use Rattle.pull_nodes.specs.declared.kind.Kind.{Kind}
 use Rattle.pull_nodes.specs.declared.node.Node.{Node}
 use Rattle.pull_nodes.specs.declared.node.Node.TheVariants.{Append', Emit, Into', Merge', OnFault', Read, Scope', Take', Through', Weak', Zip'}
@@ -172,6 +172,10 @@ module _ (Q : ℕ → Type 0) where
 
 -- The stream of a plan.
 
+-- no act failed on a device that nothing was done on
+untouched_well : (d : DeviceTold) → IsUntouched d → IsWell d
+untouched_well d h = record { opening = omega (arith, h.faults); reading = omega (arith, h.faults); writing = omega (arith, h.faults) }
+
 -- all devices without their faults
 abbrev clean : (ℕ → DeviceTold) → ℕ → DeviceTold
 clean w r = cleared (w r)
@@ -206,10 +210,9 @@ module _ (b : Boxed) (p : PlanMeant) (k : ℕ) (s : StreamSpec) (shape : HasShap
   idle rest =
       let n = some_node b from s kinds in
       let of : IsNodeOf p k n.0 = shape.made n.0 n.1 in
-      (n.0, of, inr (refl, inl (refl, (node_holds (λ r. IsUnwritten (w r)) n.0 (λ r l m. (rest r l m).written) of).written)))
-
-  left : (ys more : List Element) (e : End) → PlanRuns p k values w (ys ++ more) e → PlanRuns p k values w ys Cut
-  left ys more e (n, of, run) = (n, of, leaving.left (IsIdle w n) (Gives any_leeway seen w n) ys more e run)
+      let unwritten = (node_holds (λ r. IsUnwritten (w r)) n.0 (λ r l m. (rest r l m).written) of).written in
+      let well = node_holds (λ r. IsWell (w r)) n.0 (λ r l m. untouched_well (w r) (rest r l m)) of in
+      (n.0, of, (inr (refl, inl (refl, unwritten)), node_tells w n.0 Cut (no_failure w n.0 well.acquired well.used)))
 
   -- the count of a device of its rows rose
   abbrev Rose : (DeviceTold → ℕ) → Type 0
@@ -220,13 +223,16 @@ module _ (b : Boxed) (p : PlanMeant) (k : ℕ) (s : StreamSpec) (shape : HasShap
       let h = node_holds (λ r. IsSeenAt Rose seen w r) n (λ r l m count some. (r, l, m, some)) of in
       left_shows Rose (Gives any_leeway seen w n) (node_shows Rose seen w n h.acquired h.used) (IsIdle w n)
 
+  shown : (ys : List Element) (c : Code) → PlanRuns p k values w ys (Fault c) → IsCountedBy Rose c
+  shown ys c (n, of, run) = shows n of ys c run.0
+
   whole : ((r : ℕ) → from ≤ r → r < to → (w r).at ≤ 2 ^ 40) → (ys : List Element) (e : End) → PlanRuns p k values w ys e → e ≢ Cut → ((r : ℕ) → from ≤ r → r < to → faults_of (w r) ≡ 0)
       → ((u : ℕ → DeviceTold) (zs : List Element) (g : End) → AreUnfailed u w → IdealPlanRuns p k values u zs g → g ≡ Done)
       → (e ≡ Done) × ((zs : List Element) × IdealPlanRuns p k values w zs Done × (rendering_of ys ≡ rendering_of zs))
-  whole within ys e (n, of, r) c calm ideal =
+  whole within ys e (n, of, (r, told)) c calm ideal =
       let h = node_holds (λ q. IsCalm (w q)) n (λ q l m. record { faults = calm q l m; within = within q l m }) of in
       let done : e ≡ Done = ideal (clean w) ys e (λ q. (refl, refl)) (n, of, node_whole seen w (clean w) (λ q. cleared_alike (w q)) n h.outside h.acquired h.used ys e r c) in
       (done, (ys, (n, of, subst (λ g. IsIdealRun seen w n ys g) done (node_whole seen w w (λ q. alike_itself (w q)) n h.outside h.acquired h.used ys e r c)), refl))
 
   pub plan_covered : ((r : ℕ) → from ≤ r → r < to → (w r).at ≤ 2 ^ 40) → IsCovered (PlanRuns p) (IdealPlanRuns p) values k from to w
-  plan_covered within = record { idle = idle; left = left; shown = λ ys c r. shows r.0 r.1 ys c r.2; whole = whole within }
+  plan_covered within = record { idle = idle; shown = shown; whole = whole within }

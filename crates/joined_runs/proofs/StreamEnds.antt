@@ -178,7 +178,7 @@ module _ (opener : Opener) (ss : List Stream) (runs ideal : ℕ → Values → (
           caused = each_among (EndIsCaused (work opener ss runs ideal listing ideal_listing c r) c) c.ends (λ e i. caused_by e.who e.how (r.recorded.told e i) (f.halted e i));
           outer = outer_first c.ends _ refl r.recorded.named;
           stopped = record { failed = f.stopped.failed; silenced = f.stopped.silenced; ended = f.stopped.ended; halted = f.stopped.halted; nobody = f.stopped.nobody };
-          begins = f.begins;
+          begins = record { room = f.begins.room; passed = f.begins.passed };
           memory = f.memory;
         }
 

@@ -1,5 +1,5 @@
 -- What was printed of streams that ran side by side.
-use Rattle.std.proofs.Common.{◌≡◌, ℕ, suc, ◌+◌, ◌<◌, ◌⊎◌, true, false, cond, if◌then◌else◌, nat_eq, filter, List, [], ◌∷◌, ◌++◌, inl, inr, map, flat_map, drop, length, Option, Some, None, refl, sym, ◌∙◌, ap, subst, ⊎_elim, arith, append-nil, append_assoc}
+use Rattle.std.proofs.Common.{◌≡◌, ℕ, suc, ◌+◌, ◌<◌, true, false, cond, if◌then◌else◌, nat_eq, filter, List, [], ◌∷◌, ◌++◌, inl, inr, map, flat_map, drop, length, Option, Some, None, refl, sym, ◌∙◌, ap, subst, ⊎_elim, arith, append-nil, append_assoc}
 use Rattle.chunk_core.specs.Elements.{Element, rendering_of}
 use Rattle.chunk_core.specs.Lists.{IsAmong}
 use Rattle.chunk_core.specs.Lists.IsAmong.{here, there}
@@ -14,7 +14,7 @@ use Rattle.run_rules.specs.declared.end.EndOf.{EndOf}
 use Rattle.run_rules.specs.Ends.{IsSilenced}
 use Rattle.run_rules.specs.Facts.{at}
 use Rattle.run_rules.specs.Memory.{IsWanting, LostPiece}
-use Rattle.run_rules.specs.Outputs.{AreOutputs, HaveOutputs, IsOutput, IsReported, IsRest, elements_in_pieces, payloads_by}
+use Rattle.run_rules.specs.Outputs.{AreOutputs, HaveOutputs, StartsRunOf, IsOutput, IsReported, IsRest, elements_in_pieces, payloads_by}
 use Rattle.run_rules.specs.Work.{Opener, RunRecord, Stream, Work, names_from, first_row_of}
 use Rattle.join_tale.specs.Bounds.{Bounds, bounds_of}
 use Rattle.join_tale.specs.Ended.{Ended}
@@ -120,32 +120,31 @@ module _ (opener : Opener) (ss : List Stream) (runs ideal : ℕ → Values → (
   pub whole_printed : (k : ℕ) (s : Stream) (x : Ran k s) → loads_of k r.tale.late ≡ [] → payloads_of k c.frames ≡ rendering_of (elements_in_pieces x.pieces)
   whole_printed k s x none = printed_loads k ∙ (ap together (all_came k s x none) ∙ rendered x.pieces)
 
-  -- a front of the pieces is that of a run that was left
+  -- a front of the pieces is one of the run
   module _ (covers : AreCovered opener ss runs ideal r.values r.home) where
-    front_run : (k : ℕ) (s : Stream) → at ss k ≡ Some s → (x : Ran k s) (ps qs : List (List Element)) → x.pieces ≡ ps ++ qs → runs k r.values r.home (elements_in_pieces ps) Cut
-    front_run k s is x ps qs e =
-        (covers k s is).left (elements_in_pieces ps) (elements_in_pieces qs) x.end (subst (λ l. runs k r.values r.home l x.end) (ap elements_in_pieces e ∙ elements_both ps qs) x.run)
+    front_run : (k : ℕ) (s : Stream) → (x : Ran k s) (ps qs : List (List Element)) → x.pieces ≡ ps ++ qs → StartsRunOf (runs k r.values r.home) (elements_in_pieces ps)
+    front_run k s x ps qs e = (elements_in_pieces qs, x.end, subst (λ l. runs k r.values r.home l x.end) (ap elements_in_pieces e ∙ elements_both ps qs) x.run)
 
-    ran_output : (k : ℕ) (s : Stream) → at ss k ≡ Some s → Ran k s → (h : How) → Ended r.tale k h → IsOutput work r.values r.home c.frames k h
-    ran_output k s is x h e =
+    ran_output : (k : ℕ) (s : Stream) → Ran k s → (h : How) → Ended r.tale k h → IsOutput work r.values r.home c.frames k h
+    ran_output k s x h e =
         ⊎_elim
-        (λ w. record { pieces = x.pieces; end = x.end; run = x.run; printed = framed k ∙ all_came k s x w.1; reported = subst (λ z. IsReported x.end z) (ended_as k s x h w.0) x.reported })
+        (λ w. record { pieces = x.pieces; end = x.end; run = inl x.run; printed = framed k ∙ all_came k s x w.1; reported = subst (λ z. IsReported x.end z) (ended_as k s x h w.0) x.reported })
         (λ cut.
         let p = map_parts rendering_of x.pieces (loads_of k r.tale.front) (loads_of k r.tale.late) (sym x.received) in
-        record { pieces = p.0; end = Cut; run = front_run k s is x p.0 p.1 p.2; printed = framed k ∙ sym p.3; reported = cut })
+        record { pieces = p.0; end = Cut; run = inr (refl, front_run k s x p.0 p.1 p.2); printed = framed k ∙ sym p.3; reported = cut })
         (outputs_law.ended r.tale k h r.is_tale e)
 
     unbegun_output : (k : ℕ) (s : Stream) → at ss k ≡ Some s → NotRan k s → (h : How) → Ended r.tale k h → IsOutput work r.values r.home c.frames k h
     unbegun_output k s is u h e = record {
       pieces = [];
       end = Cut;
-      run = (covers k s is).idle u.untouched;
+      run = inl ((covers k s is).idle u.untouched);
       printed = framed k ∙ loads_none k r.tale.front (λ m i q. u.unbegun (subst (λ j. IsBegun r.tale j) q (r.is_tale.frames.ours m (inl i)).0));
       reported = left_undone k s u h e;
     }
 
     output_of : (k : ℕ) (s : Stream) → at ss k ≡ Some s → (h : How) → Ended r.tale k h → IsOutput work r.values r.home c.frames k h
-    output_of k s is h e = ⊎_elim (λ x. ran_output k s is x h e) (λ u. unbegun_output k s is u h e) (r.each k s is)
+    output_of k s is h e = ⊎_elim (λ x. ran_output k s x h e) (λ u. unbegun_output k s is u h e) (r.each k s is)
 
     -- the frame whose write failed goes on with a run of its stream
     rest_of : (o : Option Frame) → c.cut ≡ o → IsRestOf o c.rest → IsRest work r.values r.home c.frames o c.rest
@@ -166,7 +165,7 @@ module _ (opener : Opener) (ss : List Stream) (runs ideal : ℕ → Values → (
           front = h.1;
           text = h.2;
           pieces = p.0;
-          run = front_run f.stream s.0 s.1 x p.0 p.1 p.2;
+          run = front_run f.stream s.0 x p.0 p.1 p.2;
           goes_on = ap (λ l. l ++ f.payload ∷ []) (framed f.stream) ∙ sym p.3;
         })
         (λ u. absurd (u.unbegun q.0))
@@ -203,7 +202,7 @@ module _ (opener : Opener) (ss : List Stream) (runs ideal : ℕ → Values → (
           payload = l.load;
           some = b.1;
           pieces = p.0;
-          run = front_run k s.0 s.1 x p.0 p.1 p.2;
+          run = front_run k s.0 x p.0 p.1 p.2;
           goes_on = ap (λ y. y ++ l.load ∷ []) (framed k) ∙ sym p.3;
         })
         (λ u. absurd (u.unbegun b.0))

@@ -1,5 +1,5 @@
 -- The run that is written out is one of streams that ran side by side.
-use Rattle.std.proofs.Common.{◌≡◌, ◌⊎◌, ℕ, zero, suc, ◌<◌, ◌≤◌, ◌^◌, true, false, List, [], ◌∷◌, take, inl, inr, Some, refl, sym, ap, ◌∙◌, subst, ⊎_elim, arith}
+use Rattle.std.proofs.Common.{◌≡◌, ◌⊎◌, ℕ, zero, suc, ◌+◌, ◌<◌, ◌≤◌, ◌^◌, true, false, List, [], ◌∷◌, take, inl, inr, Some, refl, sym, ap, ◌∙◌, subst, ⊎_elim, arith}
 use Rattle.std.specs.Prelude.{codes}
 use Rattle.std.proofs.lemmas.List.Sorted.{IsPermutation-middle}
 use Rattle.chunk_core.specs.Elements.{Byte}
@@ -12,6 +12,7 @@ use Rattle.chunk_core.specs.declared.code.How.TheVariants as how
 use Rattle.chunk_core.proofs.Bools.{any_found}
 use Rattle.chunk_core.proofs.Distinct.{test_distinct}
 use Rattle.chunk_core.proofs.Each.{among_each}
+use Rattle.chunk_core.proofs.Members.{among_mid}
 use Rattle.res_ledger.specs.declared.event.StreamNo.TheVariants.{Inner, Outer}
 use Rattle.res_ledger.specs.declared.event.What.TheVariants.{Acquire, Cancel, Close, Final, Lease}
 use Rattle.res_ledger.specs.declared.event.Event.{Event}
@@ -21,7 +22,8 @@ use Rattle.res_ledger.proofs.Ledgers.{by_in, inner_is}
 use Rattle.device_port.specs.declared.device.Mode.TheVariants as mode
 use Rattle.device_port.specs.Device.{Place, to_read}
 use Rattle.run_rules.specs.declared.end.EndOf.{EndOf}
-use Rattle.run_rules.specs.Facts.{at, has_left}
+use Rattle.run_rules.specs.Ends.{IsTurn}
+use Rattle.run_rules.specs.Facts.{at, has_left, leased_stream}
 use Rattle.run_rules.specs.Opening.{AreTablesRead}
 use Rattle.run_rules.specs.Work.{Stream, all_parts, first_row_of, rows_up_to}
 use Rattle.join_tale.specs.Bounds.{bounds_of}
@@ -34,7 +36,7 @@ use Rattle.plan_work.specs.Joined.{places_in}
 use Rattle.joined_runs.specs.Shares.{AreTablesKept, IsJoinedLedger, IsOuterNote, IsShare}
 use Rattle.joined_runs.specs.Together.{HasNotRun, HasRun}
 use Rattle.joined_runs.specs.Worked.{IsWorked, both_ran, file_runs, full_depot, noted, one_frame, read_depot, reads_file, two_files, worked_home, worked_run}
-use Rattle.joined_runs.proofs.WorkedTale.{came_0, came_1, come_of, ended_0, ended_1, worked_is_tale, worked_settled, worked_tale}
+use Rattle.joined_runs.proofs.WorkedTale.{came_0, came_1, come_of, ended_0, ended_1, others, worked_is_tale, worked_settled, worked_tale}
 use Rattle.joined_runs.proofs.WrittenOut.{account_of, share_of}
 
 -- The devices.
@@ -66,7 +68,7 @@ devices_back = record {
   others = λ r p e n. absurd (no_third r p e n);
   files = λ path. inr refl;
   stored = ((λ w. absurd (read_write w)), ((λ w. absurd (read_write w)), tt));
-  there = ((λ m p. absurd (there_not p)), ((λ m p. absurd (there_not p)), tt));
+  there = (((λ m p. absurd (there_not p)), omega arith), (((λ m p. absurd (there_not p)), omega arith), tt));
 }
 
 read_within : (r : ℕ) → (worked_home r).at ≤ 2 ^ 40
@@ -173,6 +175,31 @@ come_left zero b = refl
 come_left (suc zero) b = refl
 come_left (suc (suc j)) b = absurd (none_some b)
 
+-- of what is leased for
+abbrev LeasesLow : Event → Type 0
+LeasesLow e = (j : ℕ) → leased_stream e.what ≡ Some j → j ≤ 1
+
+leases_low : (e : Event) → IsAmong e L → LeasesLow e
+leases_low e m = among_each LeasesLow e L
+    ((λ j q. let z = some_is 0 j q in omega (arith, z)), ((λ j q. let z = some_is 1 j q in omega (arith, z)), ((λ j q. absurd (none_some q)), ((λ j q. absurd (none_some q)), ((λ j q. absurd (none_some q)), ((λ j q. absurd (none_some q)), ((λ j q. absurd (none_some q)), ((λ j q. absurd (none_some q)), ((λ j q. absurd (none_some q)), ((λ j q. absurd (none_some q)), ((λ j q. absurd (none_some q)), tt)))))))))))
+    m
+
+-- no other stream had its turn
+turn_low : (k : ℕ) (e : Event) → IsAmong e L → IsTurn L k e → k ≤ 1
+turn_low k e m t = ⊎_elim
+    (λ by. ⊎_elim (λ o. absurd (not_inner k (sym o ∙ by))) (λ x. let l = x.1 in let q = inner_is x.0 k (sym x.2 ∙ by) in omega (arith, l, q)) (account.names e m))
+    (λ s. ⊎_elim (λ l. let z = leases_low e m (k + 1) l in omega (arith, z)) (λ q. let n = q.2.2 in leases_low n.0 n.1 k (ap leased_stream n.3)) s)
+    t
+
+low_begun : (k : ℕ) → k ≤ 1 → IsBegun worked_tale k
+low_begun zero l = refl
+low_begun (suc zero) l = refl
+low_begun (suc (suc k)) l = absurd (omega (arith, l))
+
+low_told : (k i : ℕ) → i < k → k ≤ 1 → IsAmong i (others k)
+low_told zero i l m = absurd (omega (arith, l))
+low_told (suc k) i l m = let z : i ≡ 0 = omega (arith, l, m) in subst (λ j. IsAmong j (0 ∷ [])) (sym z) (here [])
+
 recorded : IsRecordOf (bare (Some one_frame) two_files) worked_tale worked_run
 recorded = record {
   frames = refl;
@@ -185,6 +212,8 @@ recorded = record {
   begun = λ e k m b. begun_by e m k b;
   left = left_come;
   leaves = λ j c. come_left j (come_begun (bounds_of one_frame two_files) worked_tale j worked_is_tale c.0 c.1);
+  turns = λ k h. inl (low_begun k (turn_low k h.0 h.1 h.2));
+  room = λ k i l w. low_told k i l (turn_low k w.2 (subst (λ E. IsAmong w.2 E) (sym w.3) (among_mid w.0 w.1 w.2)) w.4);
 }
 
 -- The streams.

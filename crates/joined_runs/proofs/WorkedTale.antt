@@ -12,9 +12,9 @@ use Rattle.interrupt_ctx.specs.declared.why.Why.TheVariants as why
 use Rattle.join_tale.specs.Bounds.{Bounds, bounds_of}
 use Rattle.join_tale.specs.Ended.{Ended}
 use Rattle.join_tale.specs.Ended.Ended.{halted, whole}
-use Rattle.join_tale.specs.Keeping.{IsTale}
+use Rattle.join_tale.specs.Keeping.{HasRoom, IsTale}
 use Rattle.join_tale.specs.Records.{IsSettled}
-use Rattle.join_tale.specs.Steps.{MayBegin, TellsEnd, TellsOuter, dropped, ended_late, fated, first_tale, learned, outer_ended, written}
+use Rattle.join_tale.specs.Steps.{MayBegin, TellsEnd, TellsOuter, dropped, ended_late, fated, first_tale, housed, learned, outer_ended, pulled, written}
 use Rattle.join_tale.specs.Steps.Marks.{fresh}
 use Rattle.join_tale.specs.Tales.{Came, HasCome, IsBegun, IsOpen, Message, Tale, end_of, load_of}
 use Rattle.join_tale.specs.Tales.Fate.{Begun}
@@ -23,6 +23,7 @@ use Rattle.join_tale.proofs.Parts.{no_end, same_end}
 use Rattle.join_tale.proofs.Places.{none_some, some_is}
 use Rattle.join_tale.proofs.Receiving.{drops, meets}
 use Rattle.join_tale.proofs.Steps.{begins, outer_ends, starts}
+use Rattle.join_tale.proofs.Turns.{housed_makes, pulls}
 use Rattle.joined_runs.specs.Worked.{one_frame, two_files}
 
 abbrev plain : Bounds
@@ -32,13 +33,27 @@ plain = bounds_of one_frame two_files
 abbrev byte : List ℕ
 byte = codes "x"
 
--- Both streams are begun, and the outer one is done; the byte of stream 0 is the last frame, that of stream 1 comes too late, and then their ends come.
+-- which streams are told to have been open in the turn of each
+abbrev pub others : ℕ → List ℕ
+others zero = []
+others (suc k) = 0 ∷ []
+
+-- Both streams are begun, each behind a pull, and the outer one is done; the byte of stream 0 is the last frame, that of stream 1 comes too late, and then their ends come.
+
+abbrev told_0 : Tale
+told_0 = housed first_tale others
+
+abbrev pulled_0 : Tale
+pulled_0 = pulled told_0
 
 abbrev begun_0 : Tale
-begun_0 = fated first_tale Begun
+begun_0 = fated pulled_0 Begun
+
+abbrev pulled_1 : Tale
+pulled_1 = pulled begun_0
 
 abbrev begun_1 : Tale
-begun_1 = fated begun_0 Begun
+begun_1 = fated pulled_1 Begun
 
 abbrev gave_both : Tale
 gave_both = learned (outer_ended begun_1 how.Done) [] []
@@ -71,28 +86,39 @@ skip_load k j h x ms m = ⊎_elim (λ e. absurd (no_end k j h x e)) (λ n. n) (a
 skip_end : (k j : ℕ) (h g : How) (ms : List Message) → (k ≡ j → ⊥) → IsAmong (end_of k h) (end_of j g ∷ ms) → IsAmong (end_of k h) ms
 skip_end k j h g ms n m = ⊎_elim (λ e. absurd (n (same_end k j h g e).0)) (λ o. o) (among_cons m)
 
-may_0 : MayBegin plain first_tale
+room_0 : HasRoom plain told_0
+room_0 = (omega arith, λ k b. absurd (none_some b.0))
+
+may_0 : MayBegin plain pulled_0
 may_0 = record {
   run = λ k. ⊎_elim (λ s. among_nil s.1) (λ s. among_nil s.1) k;
   own = λ k. ⊎_elim (λ s. among_nil s.1) (λ s. among_nil s.1) k;
   alone = λ w. absurd (false≢true w);
-  few = ([], omega arith, λ k b. absurd (none_some b.0));
+  room = room_0;
 }
 
-may_1 : MayBegin plain begun_0
-may_1 = record {
-  run = λ k. ⊎_elim (λ s. among_nil s.1) (λ s. among_nil s.1) k;
-  own = λ k. ⊎_elim (λ s. among_nil s.1) (λ s. among_nil s.1) k;
-  alone = λ w. absurd (false≢true w);
-  few = (0 ∷ [], omega arith, λ k b. first k b.0);
-}
+first_begun : IsTale plain begun_0
+first_begun =
+    let told : IsTale plain told_0 = (housed_makes plain first_tale (starts plain one_zero) others (λ k h. absurd (⊎_elim (λ b. none_some b) (λ m. among_nil m) h)) room_0).is_tale in
+    begins plain pulled_0 (pulls plain told_0 told (λ k. ⊎_elim (λ s. among_nil s.1) (λ s. among_nil s.1) k) room_0) may_0
+
+room_1 : HasRoom plain begun_0
+room_1 = (omega arith, λ k b. first k b.0)
   where
     first : (k : ℕ) → IsBegun begun_0 k → IsAmong k (0 ∷ [])
     first zero b = here []
     first (suc k) b = absurd (none_some b)
 
+may_1 : MayBegin plain pulled_1
+may_1 = record {
+  run = λ k. ⊎_elim (λ s. among_nil s.1) (λ s. among_nil s.1) k;
+  own = λ k. ⊎_elim (λ s. among_nil s.1) (λ s. among_nil s.1) k;
+  alone = λ w. absurd (false≢true w);
+  room = room_1;
+}
+
 both_begun : IsTale plain begun_1
-both_begun = begins plain begun_0 (begins plain first_tale (starts plain one_zero) may_0) may_1
+both_begun = begins plain pulled_1 (pulls plain begun_0 first_begun (λ k. ⊎_elim (λ s. among_nil s.1) (λ s. among_nil s.1) k) room_1) may_1
 
 tells_outer : TellsOuter plain gave_both how.Done []
 tells_outer = record { caused = λ d w m. absurd (among_nil m); halted = λ e. cc; fault = λ c e. cc; memory = λ e. cc }

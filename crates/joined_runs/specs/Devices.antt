@@ -5,7 +5,7 @@ use Rattle.std.specs.List.Sorted.{IsPermutation}
 use Rattle.chunk_core.specs.Lists.{IsAmong}
 use Rattle.device_port.specs.Device.{Place, DeviceTold}
 use Rattle.device_port.specs.Depot.{DepotTold, Files, KeepsFilesBut, KeepsWritten, content_at}
-use Rattle.run_rules.specs.Devices.{IsWrittenBy, OpensWhatIsThere}
+use Rattle.run_rules.specs.Devices.{IsWrittenBy, KeepsToWhatIsThere}
 use Rattle.run_rules.specs.Facts.{at}
 use Rattle.run_rules.specs.Homes.{IsUntouched}
 
@@ -41,8 +41,8 @@ pub record IsUnmadeAt (files : Option Files) (place : Place) (d : DeviceTold) : 
   pub content_is : d.content ≡ content_at files place.path
   pub untouched : IsUntouched d
 
--- the depot made a device for each of some rows, and each came back, in any order, with what was written to it kept; files changed only where one was opened for writing, and none was opened to
--- be read that isn't there
+-- the depot made a device for each of some rows, and each came back, in any order, with what was written to it kept; files changed only where one was opened for writing, none was opened to be
+-- read that isn't there, and no more was read of one than there is
 pub record MadeComeBack (old new : DepotTold) (places : List Place) (w : ℕ → DeviceTold) : Type 0 where
   pub rows : List ℕ
   pub apart : IsDistinct nat_eq rows
@@ -54,4 +54,4 @@ pub record MadeComeBack (old new : DepotTold) (places : List Place) (w : ℕ →
   pub others : (r : ℕ) (p : Place) → at places r ≡ Some p → ¬ (IsAmong r rows) → IsUnmadeAt old.files p (w r)
   pub files : KeepsFilesBut (IsWrittenBy back) old.files new.files
   pub stored : AllByRecursion (KeepsWritten new.files) back
-  pub there : AllByRecursion OpensWhatIsThere back
+  pub there : AllByRecursion KeepsToWhatIsThere back

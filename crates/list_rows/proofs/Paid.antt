@@ -12,6 +12,7 @@ use Rattle.join_tree.specs.Progress.{Progress}
 use Rattle.join_tree.specs.Steps.{KeepsGuests, TakesEvents}
 use Rattle.join_tree.proofs.Given.{gives_none}
 use Rattle.join_tree.proofs.Growing.{main_calls, root_same}
+use Rattle.join_tree.proofs.Turns.{outs_calm}
 use Rattle.join_tree.proofs.Queue.{waits_same}
 use Rattle.row_seat.specs.Views.{HasRow, paid, with_row}
 use Rattle.scope_tree.specs.Calls.{IsClosedScope, IsOpenScope, KeepsScopes, Seen, TakesRoom}
@@ -77,7 +78,7 @@ module _ {P : Type 0} where
       pub paid_main : (width n : ℕ) (q : Progress P) → IsMain ends width n a q → IsMain ends width n b q
       paid_main width n q h =
           let events : b.seat.events ≡ a.seat.events = ap (λ (z : Seen P). z.seat.events) e in
-          main_calls a b q q.waits q.next q.leased q.tables q.root [] h (written a b r p none has e) (λ j U m. absurd (among_nil m)) (ap (λ (z : Seen P). z.seat.had) e) (ap (λ (z : Seen P). z.seat.out) e)
+          main_calls a b q q.waits q.next q.leased q.tables q.root q.ahead q.last [] h (written a b r p none has e) (λ j U m. absurd (among_nil m)) (ap (λ (z : Seen P). z.seat.had) e) (ap (λ (z : Seen P). z.seat.out) e)
           h.order
           h.few
           (omega arith)
@@ -86,3 +87,8 @@ module _ {P : Type 0} where
           (root_same a b q.root (ap (λ (z : Seen P). z.seat.by) e) events h.root)
           (subst (λ L. IsTold q L) (sym events) h.told)
           (subst (λ L. GivesInPace width L) (sym events) h.gives)
+          (outs_calm a.seat b.seat h.outs
+          (λ j m. subst (λ l. IsAmong j l) (ap (λ (z : Seen P). z.seat.out) e) m)
+          (λ x m. subst (λ l. IsAmong x l) (sym events) m)
+          (λ x j s m w. subst (λ l. IsAmong x l) events m)
+          (λ x y m by w. subst (λ l. IsAmong x l) events m))

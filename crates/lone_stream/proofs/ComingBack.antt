@@ -6,7 +6,7 @@ use Rattle.chunk_core.specs.Lists.{IsAmong}
 use Rattle.chunk_core.proofs.Each.{each_among, each_append, each_permuted}
 use Rattle.device_port.specs.Device.{Place, DeviceTold}
 use Rattle.device_port.specs.Depot.{DepotTold}
-use Rattle.run_rules.specs.Devices.{OpensWhatIsThere}
+use Rattle.run_rules.specs.Devices.{KeepsToWhatIsThere}
 use Rattle.run_rules.specs.Facts.{at, first_numbers}
 use Rattle.scope_tree.specs.declared.branch.Spent.{Spent}
 use Rattle.stream_parts.specs.Retire.{AreWrittenAlone, Exchanges, devices_of}
@@ -17,19 +17,19 @@ use Rattle.job_runs.proofs.DevicesBack.{made_place, stored_so}
 use Rattle.job_runs.proofs.Returned.{are_made}
 use Rattle.lone_stream.specs.Account.{ComesBack}
 
-module _ {V : Type 0} (told : V → DeviceTold) (each_there : (d : V) → OpensWhatIsThere (told d)) where
-  told_there : {A : Type 0} (f : A → V) (xs : List A) → AllByRecursion OpensWhatIsThere (map (λ x. told (f x)) xs)
-  told_there f xs = each_among OpensWhatIsThere (map (λ x. told (f x)) xs) (λ y m. let x = among_map (λ z. told (f z)) y xs m in subst OpensWhatIsThere x.2 (each_there (f x.0)))
+module _ {V : Type 0} (told : V → DeviceTold) (each_there : (d : V) → KeepsToWhatIsThere (told d)) where
+  told_there : {A : Type 0} (f : A → V) (xs : List A) → AllByRecursion KeepsToWhatIsThere (map (λ x. told (f x)) xs)
+  told_there f xs = each_among KeepsToWhatIsThere (map (λ x. told (f x)) xs) (λ y m. let x = among_map (λ z. told (f z)) y xs m in subst KeepsToWhatIsThere x.2 (each_there (f x.0)))
 
-  -- of devices that open only what is there, those that came back did
-  pub back_there : (shelf : List (Spent V)) (unopened : List V) (back : List DeviceTold) → IsPermutation (devices_of told shelf unopened) back → AllByRecursion OpensWhatIsThere back
+  -- of devices that keep to what is there, those that came back did
+  pub back_there : (shelf : List (Spent V)) (unopened : List V) (back : List DeviceTold) → IsPermutation (devices_of told shelf unopened) back → AllByRecursion KeepsToWhatIsThere back
   back_there shelf unopened back each =
-      each_permuted OpensWhatIsThere (devices_of told shelf unopened) back each
-      (each_append OpensWhatIsThere (map (λ x. told x.pay) shelf) (map told unopened) (told_there (λ x. x.pay) shelf) (told_there (λ d. d) unopened))
+      each_permuted KeepsToWhatIsThere (devices_of told shelf unopened) back each
+      (each_append KeepsToWhatIsThere (map (λ x. told x.pay) shelf) (map told unopened) (told_there (λ x. x.pay) shelf) (told_there (λ d. d) unopened))
 
 module _ (places : List Place) (w : ℕ → DeviceTold) (alone : AreWrittenAlone places) where
-  -- a device was made for each row, and they came back, in any order, and none was opened to be read that isn't there
-  pub all_come_back : (old new : DepotTold) (back : List DeviceTold) → Exchanges old new places back → IsPermutation (map w (first_numbers (length places))) back → AreReturned old.files (length old.made) w 0 places → AllByRecursion OpensWhatIsThere back → ComesBack old new places w
+  -- a device was made for each row, and they came back, in any order, and each kept to what is there
+  pub all_come_back : (old new : DepotTold) (back : List DeviceTold) → Exchanges old new places back → IsPermutation (map w (first_numbers (length places))) back → AreReturned old.files (length old.made) w 0 places → AllByRecursion KeepsToWhatIsThere back → ComesBack old new places w
   all_come_back old new back e each devices found =
       let rows : List ℕ = first_numbers (length places) in
       let made = are_made old.files w places (length old.made) 0 places devices (λ i p h. let same : 0 + i ≡ i = omega arith in ap (λ k. at places k) same ∙ h) in

@@ -13,12 +13,12 @@ use Rattle.chunk_core.specs.declared.code.Exit.TheVariants as exit
 use Rattle.chunk_core.specs.declared.code.How.{How}
 use Rattle.chunk_core.specs.declared.code.How.TheVariants as how
 use Rattle.device_port.specs.Device.{DeviceTold}
-use Rattle.pull_nodes.specs.Runs.{IsRun}
+use Rattle.pull_nodes.specs.Failures.{IsToldRun}
 use Rattle.pull_nodes.specs.Shape.{places_of, scope_count}
 use Rattle.pull_nodes.specs.declared.node.Node.{Node}
 use Rattle.pull_turns.specs.Around.{Goes}
 use Rattle.pull_turns.specs.Piping.{StateMeaning}
-use Rattle.pull_turns.specs.Rest.{IsRunOfRest}
+use Rattle.pull_turns.specs.Failures.{IsToldRunOfRest}
 use Rattle.pull_turns.specs.Sizes.{HasNoPipeOf, widest_of}
 use Rattle.pull_turns.specs.Turned.{SpendsWithin}
 use Rattle.res_ledger.specs.Order.{firsts}
@@ -146,11 +146,11 @@ module _ {V : Type 0} (told : V → DeviceTold) (n : Node) (devices : List V) (c
       unmade_here supplied s.closes s.leaves s.spare
 
   -- it may be left before it is begun
-  pub unbegun_run : {F : Type 0} (P : Values → StateMeaning F) (t : Values) → (P t).values ≡ no_values → 1 ≤ chunk → IsSupplied told n devices → IsRun no_values (told_at told (site_of n a devices)) n [] Cut
+  pub unbegun_run : {F : Type 0} (P : Values → StateMeaning F) (t : Values) → (P t).values ≡ no_values → 1 ≤ chunk → IsSupplied told n devices → IsToldRun no_values (told_at told (site_of n a devices)) n [] Cut
   unbegun_run {F = F} P t empty_values some supplied =
       let x = site_of n a devices in
-      let cut : IsRunOfRest (P t) (told_at told x) (rest.Start n) [] Cut = cut_unwritten (P t) (around told x) (around told x) 0 (rest.Start n) (begun_can told n a devices supplied room P t chunk some).step (λ p. (refl, refl)) (told_at told x) (over_now (told_at told x) (rest.Start n)) in
-      subst (λ v. IsRun v (told_at told x) n [] Cut) empty_values cut
+      let cut : IsToldRunOfRest (P t) (told_at told x) (rest.Start n) [] Cut = cut_unwritten (P t) (around told x) (around told x) 0 (rest.Start n) (begun_can told n a devices supplied room P t chunk some).step (λ p. (refl, refl, refl, refl)) (told_at told x) (over_now (told_at told x) (rest.Start n)) in
+      subst (λ v. IsToldRun v (told_at told x) n [] Cut) empty_values cut
 
 -- A stepper that was begun over a fresh seat has ended, and left its tree so.
 pub begun_ran : {V F : Type 0} (P : Values → StateMeaning F) (told : V → DeviceTold) (who : StreamNo) (n : Node) (devices : List V) (chunk : ℕ) (x z : Stepping V F) (b : Seen V) (h : How) (ds : List V) → IsBegun P told who n devices chunk x → IsPast told x z → StepperEnds told z b h ds → used b ≤ b.rows → owed b.seat ≡ 0

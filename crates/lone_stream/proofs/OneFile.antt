@@ -11,7 +11,7 @@ use Rattle.pull_stepper.proofs.Beginning.{fresh_unused}
 use Rattle.pull_stepper.specs.Sites.{IsUnused}
 use Rattle.pull_stepper.specs.Stepping.{IsSupplied}
 use Rattle.res_ledger.specs.declared.event.StreamNo.{StreamNo}
-use Rattle.run_rules.specs.Devices.{OpensWhatIsThere}
+use Rattle.run_rules.specs.Devices.{KeepsToWhatIsThere}
 use Rattle.stream_parts.specs.Made.{MakesEach}
 use Rattle.stream_parts.specs.Retire.{AreWrittenAlone, MayReturnAll, Returns, devices_of}
 use Rattle.stream_parts.proofs.Exchanged.{exchanges_then, may_permuted}
@@ -52,7 +52,7 @@ module _ {V : Type 0} (told : V → DeviceTold) (path : List ℕ) (old mid : Dep
       (same_may_return told home mid 0 (d ∷ []) (made_may_return old mid (to_read path ∷ []) (told d ∷ []) made) came.same (λ q l m. (came.rest q m).shut))
 
   -- and came back
-  pub comes_back : ((v : V) → OpensWhatIsThere (told v)) → (new : DepotTold) → Returns mid new (devices_of told r.shelf r.unopened) → ComesBack old new (to_read path ∷ []) home
+  pub comes_back : ((v : V) → KeepsToWhatIsThere (told v)) → (new : DepotTold) → Returns mid new (devices_of told r.shelf r.unopened) → ComesBack old new (to_read path ∷ []) home
   comes_back each_there new back = all_come_back (to_read path ∷ []) home (one_alone (to_read path)) old new back.back
       (exchanges_then old mid new (to_read path ∷ []) [] [] back.back (made_exchanges old mid (to_read path ∷ []) (told d ∷ []) made) back.exchanges)
       (IsPermutation-trans (home 0 ∷ []) (devices_of told r.shelf r.unopened) back.back came.each back.each)

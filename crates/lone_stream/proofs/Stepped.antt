@@ -15,7 +15,6 @@ use Rattle.pull_stepper.specs.Stepping.{CanGo, Halts, IsOver, Stepping, TakesTur
 use Rattle.pull_turns.specs.Around.{Around, Affords, Goes}
 use Rattle.pull_turns.specs.Led.{CanBeCut, Led, TouchesOnly, Turns}
 use Rattle.pull_turns.specs.Piping.{HasKind, StateMeaning}
-use Rattle.pull_turns.specs.Rest.{IsRunOfRest}
 use Rattle.pull_turns.specs.Turned.{Over, Spends, SpendsWithin}
 use Rattle.pull_turns.specs.declared.rest.Rest.{Rest}
 use Rattle.pull_turns.specs.declared.rest.Rest.TheVariants.{Nil}

@@ -16,7 +16,7 @@ use Rattle.res_ledger.specs.Order.{IsOrdered}
 use Rattle.device_port.specs.Device.{Place, DeviceTold}
 use Rattle.device_port.specs.Depot.{DepotTold, KeepsFilesBut, KeepsWritten}
 use Rattle.run_rules.specs.Facts.{leased_stream, first_numbers}
-use Rattle.run_rules.specs.Devices.{IsWrittenBy, OpensWhatIsThere}
+use Rattle.run_rules.specs.Devices.{IsWrittenBy, KeepsToWhatIsThere}
 use Rattle.run_rules.specs.Work.{Work}
 use Rattle.joined_runs.specs.Devices.{AreReturned}
 
@@ -41,7 +41,7 @@ pub record ComesBack (old new : DepotTold) (places : List Place) (w : ℕ → De
   pub devices : AreReturned old.files (length old.made) w 0 places
   pub files : KeepsFilesBut (IsWrittenBy back) old.files new.files
   pub stored : AllByRecursion (KeepsWritten new.files) back
-  pub there : AllByRecursion OpensWhatIsThere back
+  pub there : AllByRecursion KeepsToWhatIsThere back
 
 -- the ledger of this stream alone: it acquired the rows whose devices were opened and ended them as those were closed, leased nothing, opened at most so many scopes, and closed its root as it ended
 pub record IsAccountOf (who : StreamNo) (count scopes : ℕ) (w : ℕ → DeviceTold) (how : How) (L : List Event) : Type 0 where

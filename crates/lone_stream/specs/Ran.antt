@@ -6,7 +6,7 @@ use Rattle.chunk_core.specs.Outcomes.{End}
 use Rattle.chunk_core.specs.Tables.{no_values}
 use Rattle.device_port.specs.Device.{DeviceTold}
 use Rattle.joined_runs.specs.Devices.{IsAtRest}
-use Rattle.pull_nodes.specs.Runs.{IsRun}
+use Rattle.pull_nodes.specs.Failures.{IsToldRun}
 use Rattle.pull_nodes.specs.Shape.{scope_count}
 use Rattle.pull_nodes.specs.declared.node.Node.{Node}
 use Rattle.res_ledger.specs.declared.event.StreamNo.{StreamNo}
@@ -27,10 +27,10 @@ module _ {V : Type 0} (told : V → DeviceTold) where
     pub within : (k : ℕ) → (home k).at ≤ 2 ^ 40
     pub account : IsAccountOf who (length devices) (scope_count n) home r.how r.ledger
 
-  -- the stream gave these elements over its devices, as a run of the node, and ended as the run did
+  -- the stream gave these elements over its devices, as a run of the node, and ended as the run did, which tells of each failure of the devices
   pub record RunsLone (who : StreamNo) (n : Node) (devices : List V) (given : List Element) (r : Ran V) : Type 0 where
     pub home : ℕ → DeviceTold
     pub end : End
-    pub run : IsRun no_values home n given end
+    pub run : IsToldRun no_values home n given end
     pub reported : IsReported end r.how
     pub comes : ComesHome who n devices home r

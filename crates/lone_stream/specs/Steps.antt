@@ -14,7 +14,7 @@ use Rattle.pull_stepper.specs.Stepping.{CanGo, HasRoomFor, IsOver, IsSupplied, S
 use Rattle.pull_turns.specs.Around.{Goes}
 use Rattle.pull_turns.specs.Led.{Led}
 use Rattle.pull_turns.specs.Piping.{HasKind, StateMeaning}
-use Rattle.pull_turns.specs.Rest.{IsRunOfRest}
+use Rattle.pull_turns.specs.Failures.{IsToldRunOfRest}
 use Rattle.pull_turns.specs.Turned.{Spends, SpendsWithin}
 use Rattle.res_ledger.specs.declared.event.StreamNo.{StreamNo}
 use Rattle.run_rules.specs.Outputs.{IsReported}
@@ -57,7 +57,7 @@ module _ {V F : Type 0} (P : Values → StateMeaning F) (told : V → DeviceTold
   -- turns were made since a, which gave these elements, and it has ended so, by itself or halted
   pub record HasEnded (a b : Stepping V F) (given : List Element) (h : How) : Type 0 where
     pub end : End
-    pub run : IsRunOfRest (P a.tables) (told_at told b.site) a.rest given end
+    pub run : IsToldRunOfRest (P a.tables) (told_at told b.site) a.rest given end
     pub reported : IsReported end h
     pub over : IsOver told b
     pub goes : (p : ℕ) → Goes (told_at told a.site p) (told_at told b.site p)

@@ -27,7 +27,7 @@ use Rattle.pull_turns.specs.Piping.{StateMeaning}
 use Rattle.res_ledger.specs.declared.event.Event.{Event}
 use Rattle.res_ledger.specs.declared.event.StreamNo.TheVariants.{Outer}
 use Rattle.row_seat.specs.declared.view.View.{View}
-use Rattle.run_rules.specs.Devices.{OpensWhatIsThere}
+use Rattle.run_rules.specs.Devices.{KeepsToWhatIsThere}
 use Rattle.run_rules.specs.Work.{RunRecord}
 use Rattle.run_rules.specs.declared.end.EndOf.{EndOf}
 use Rattle.scope_tree.specs.Trees.{seen}
@@ -78,7 +78,7 @@ module _ {S V F D T : Type 0} (view : S → View V) (told : V → DeviceTold) (f
     pub may_go : MayReturnAll depot (all_left told (seen view c.tree).shelf c.left.items)
     may_go = (collected_runs view told P says).may_go p d0 depot it.outer (seen view c.tree) c.left.items c.receiver i.tale L limits it.collected s
 
-    module _ (lawful : (d : V) → OpensWhatIsThere (told d)) (last : DepotTold) (again : Returns depot last (all_left told (seen view c.tree).shelf c.left.items)) (o : Outcome) (ledger : o.ledger ≡ L) (failed : o.sink_failed ≡ c.report.sink_failed) (memory : o.memory ≡ c.report.memory)
+    module _ (lawful : (d : V) → KeepsToWhatIsThere (told d)) (last : DepotTold) (again : Returns depot last (all_left told (seen view c.tree).shelf c.left.items)) (o : Outcome) (ledger : o.ledger ≡ L) (failed : o.sink_failed ≡ c.report.sink_failed) (memory : o.memory ≡ c.report.memory)
         (names : map (λ (e : EndOf). e.who) o.ends ≡ Outer ∷ names_below streams) (hows : map (λ (e : EndOf). e.how) o.ends ≡ it.outer ∷ take streams c.report.streams.hows) where
       abbrev record_is : RunRecord
       record_is = run_record_of d0 last (frames_of i.tale.front) i.tale.cut i.telling.wrote.rest o

@@ -9,7 +9,8 @@ use Rattle.pipeline_desc.specs.Nodes.{IsNodeOf, scopes_in}
 use Rattle.pipeline_desc.specs.Places.{stream_places, table_places}
 use Rattle.pipeline_desc.specs.declared.group.GroupSpec.{GroupSpec}
 use Rattle.pipeline_desc.specs.declared.stream.StreamSpec.{StreamSpec}
-use Rattle.pull_nodes.specs.Runs.{IsIdealRun, IsRun}
+use Rattle.pull_nodes.specs.Failures.{IsToldRun}
+use Rattle.pull_nodes.specs.Runs.{IsIdealRun}
 use Rattle.pull_nodes.specs.declared.node.Node.{Node}
 use Rattle.run_rules.specs.Work.{Opener, Part, Stream, Work}
 use Rattle.plan_work.specs.Joined.{joined}
@@ -43,9 +44,9 @@ opener_of p lines = record {
   most = p.take;
 }
 
--- what a node of the plan's stream k may give, over these devices and these tables, of which it sees those of the top and of its group
+-- what a node of the plan's stream k may give, over these devices and these tables, of which it sees those of the top and of its group; its end tells of each failure of the devices
 abbrev pub PlanRuns : PlanMeant → ℕ → Values → (ℕ → DeviceTold) → Outcomes
-PlanRuns p k v w ys e = (n : Node) × IsNodeOf p k n × IsRun (below (visible p k) v) w n ys e
+PlanRuns p k v w ys e = (n : Node) × IsNodeOf p k n × IsToldRun (below (visible p k) v) w n ys e
 
 -- what it gives where nothing is left and no device fails
 abbrev pub IdealPlanRuns : PlanMeant → ℕ → Values → (ℕ → DeviceTold) → Outcomes

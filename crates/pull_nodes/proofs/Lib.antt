@@ -6,6 +6,7 @@ pub mod Count
 pub mod Counts
 pub mod Csv
 pub mod Drop
+pub mod Failures
 pub mod Field
 pub mod Filter
 pub mod Folds

@@ -14,7 +14,7 @@ use Rattle.pull_nodes.specs.Shape.{places_of, uses_of}
 use Rattle.chunk_core.specs.Tables.{Values}
 use Rattle.pull_nodes.specs.declared.kind.Kind.{Kind}
 use Rattle.pull_nodes.specs.declared.node.Node.{Node}
-use Rattle.pull_turns.specs.Around.{OpenAreHeld}
+use Rattle.pull_turns.specs.Around.{IsUntried, OpenAreHeld}
 use Rattle.pull_turns.specs.Piping.{StateMeaning, PipesFitOf}
 use Rattle.pull_turns.specs.Rest.{IsToRead, IsToWrite}
 use Rattle.pull_turns.proofs.NodeKinds.{fits_kind}
@@ -100,6 +100,11 @@ module _ {V : Type 0} (told : V → DeviceTold) (n : Node) (a : Seen V) (devices
   told_of : (p : ℕ) (i : IsAmong p (places_of n)) → told_at told first p ≡ told (device_of p i).0
   told_of p i = ap (λ o. told_by told o (pay_of a p)) (device_of p i).1
 
+  untried_of : (p : ℕ) → IsAmong p (places_of n) → IsUntried (told_at told first p)
+  untried_of p i =
+      let t = device_of p i in let u = h.unused t.0 t.2 in
+      subst IsUntried (sym (told_of p i)) (record { opens = u.opens; open_faults = u.open_faults })
+
   reads_of : (p : ℕ) → IsAmong p (places_of n) → IsFor told first.from devices mode.Read p → IsToRead (told_at told first p)
   reads_of p i f =
       let t = device_of p i in let u = h.unused t.0 t.2 in
@@ -116,7 +121,7 @@ module _ {V : Type 0} (told : V → DeviceTold) (n : Node) (a : Seen V) (devices
     memory = refl;
     chunk = omega (arith, some);
     step = record {
-      ready = placed_fresh (around told first) 0 (span_of n (length devices)) n h.placed (λ p i. let t = device_of p i in (t.0, t.1, h.unused t.0 t.2))
+      ready = placed_fresh (around told first) 0 (span_of n (length devices)) n h.placed (λ p i. let t = device_of p i in ((t.0, t.1, h.unused t.0 t.2), untried_of p i))
           (each_read (IsFor told first.from devices mode.Read) (λ p. IsToRead (told_at told first p)) n (λ p i. reads_of p (used_of p i)) h.reads)
           (each_write (IsFor told first.from devices mode.Write) (λ p. IsToWrite (told_at told first p)) n (λ p i. writes_of p (used_of p i)) h.writes);
       pipes = pipes_fit (P t).values n h.kind;

@@ -13,7 +13,7 @@ use Rattle.pull_nodes.specs.Placed.{are_apart, is_inside, is_once, is_placed, is
 use Rattle.pull_nodes.proofs.Joins.{distinct_append, once_append}
 use Rattle.pull_nodes.specs.declared.node.Node.{Node}
 use Rattle.pull_nodes.specs.declared.node.Node.TheVariants.{Nil, Emit, Raise, Read, Weak', Scope', Append', OnFault', Through', Take', Into', Zip', Merge'}
-use Rattle.pull_turns.specs.Around.{Around}
+use Rattle.pull_turns.specs.Around.{Around, IsUntried}
 use Rattle.pull_turns.specs.Rest.{IsAsked, IsFresh, IsIn, IsToRead, IsToWrite, NoPlace}
 
 -- no number stands in both lists
@@ -261,15 +261,16 @@ module _ (P Q : ℕ → Type 0) where
 
 module _ (a : Around) (s : ℕ) where
   part_fresh : (P : ℕ → Type 0) (ps : List ℕ) (n : Node) → Part ps n
-      → ((p : ℕ) → IsAmong p (places_of n) → a.waits p) → EachRead (λ p. IsToRead (a.told p)) n → EachWrite (λ p. IsToWrite (a.told p)) n → ((p : ℕ) → IsAmong p ps → P p) → IsFresh a P s n
+      → ((p : ℕ) → IsAmong p (places_of n) → a.waits p × IsUntried (a.told p)) → EachRead (λ p. IsToRead (a.told p)) n → EachWrite (λ p. IsToWrite (a.told p)) n → ((p : ℕ) → IsAmong p ps → P p) → IsFresh a P s n
   part_fresh P ps Nil h w r t u = tt
   part_fresh P ps (Emit l) h w r t u = tt
   part_fresh P ps (Raise c) h w r t u = tt
   part_fresh P ps (Read q) h w r t u = (r.0, inl (u q (found q ps h.all_inside)))
   part_fresh P ps (Weak' q _ n) h w r t u = (
-    w q (here (places_of n)),
+    (w q (here (places_of n))).0,
     (λ i. absent q (places_of n) (both (not (any (nat_eq q) (places_of n))) (are_distinct (places_of n)) h.distinct).0 (asked_places q n i)),
     part_fresh (λ r. (r ≡ q) ⊎ P r) (q ∷ ps) n (part_inside ps q n h) (λ p i. w p (there q i)) r t (λ p i. elim (among_cons i) [ inl e ↦ inl e | inr j ↦ inr (u p j) ]),
+    (w q (here (places_of n))).1,
   )
   part_fresh P ps (Scope' _ n) h w r t u = part_fresh P ps n h w r t u
   part_fresh P ps (Append' _ n _ m) h w r t u = (
@@ -319,8 +320,8 @@ module _ (a : Around) (s : ℕ) where
     pub used_placed : (p : ℕ) → IsAmong p (uses_of n) → IsAmong p (places_of n)
     used_placed p i = elim (used_above p [] n tests_of.1.1.1 i) [ inl j ↦ elim j [ ] | inr j ↦ j ]
 
-    -- a placed node may be run where the devices of its places wait
-    pub placed_fresh : ((p : ℕ) → IsAmong p (places_of n) → a.waits p) → EachRead (λ p. IsToRead (a.told p)) n → EachWrite (λ p. IsToWrite (a.told p)) n → IsFresh a NoPlace s n
+    -- a placed node may be run where the devices of its places wait, none of which was tried
+    pub placed_fresh : ((p : ℕ) → IsAmong p (places_of n) → a.waits p × IsUntried (a.told p)) → EachRead (λ p. IsToRead (a.told p)) n → EachWrite (λ p. IsToWrite (a.told p)) n → IsFresh a NoPlace s n
     placed_fresh f reads writes =
         part_fresh NoPlace [] n
         (record {

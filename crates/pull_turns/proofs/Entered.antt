@@ -26,6 +26,8 @@ use Rattle.pull_turns.proofs.Grouped.{some_size}
 use Rattle.pull_turns.proofs.Grouping.{groups_entered}
 use Rattle.pull_turns.proofs.Kept.{in_itself}
 use Rattle.pull_turns.proofs.Sized.{emit_sized}
+use Rattle.pull_turns.proofs.Telling.{tells_none}
+use Rattle.pull_turns.proofs.TellingActs.{piped_tells, refused_tells, taker_tells, weak_tells}
 use Rattle.pull_turns.proofs.Work.{append_enter_work, emit_work, guard_enter_work, into_enter_work, merge_enter_work, through_enter_work, zip_enter_work}
 
 fault_is_not_quiet : (c : Code) → turn.Fault c ≡ turn.Quiet → ⊥
@@ -57,6 +59,7 @@ module _ {F : Type 0} (P : StateMeaning F) (due : F → ℕ) where
     whole = λ e. tt;
     grouped = λ e. record { most = λ k i. (tt, tt); group = tt; waits = tt };
     scoped = tt;
+    failures = λ w o. tt;
   }
 
   pub emit_entered : (a : Around) (s n : ℕ) (above : Bool) (l : Load) → Stepped P due a a s n above (Start (node.Emit l)) Nil (giving l)
@@ -67,6 +70,7 @@ module _ {F : Type 0} (P : StateMeaning F) (due : F → ℕ) where
     whole = λ e. tt;
     grouped = λ e. record { most = λ k i. (tt, most_given k (length (elements l)) l i); group = tt; waits = tt };
     scoped = tt;
+    failures = tells_none a.told (Start (node.Emit l)) Nil (giving l) (λ w e. tt);
   }
 
   pub raise_entered : (a : Around) (s n : ℕ) (above : Bool) (c : ℕ) → Stepped P due a a s n above (Start (node.Raise c)) Nil (turn.Fault (code.Raised c))
@@ -77,6 +81,7 @@ module _ {F : Type 0} (P : StateMeaning F) (due : F → ℕ) where
     whole = λ e. tt;
     grouped = λ e. record { most = λ k i. (tt, tt); group = tt; waits = tt };
     scoped = tt;
+    failures = λ w o. tt;
   }
 
   pub read_entered : (a : Around) (s n : ℕ) (above : Bool) (p : ℕ) → CanStep P a s (Start (node.Read p)) → Stepped P due a a s n above (Start (node.Read p)) (Read p 0) turn.Quiet
@@ -87,6 +92,7 @@ module _ {F : Type 0} (P : StateMeaning F) (due : F → ℕ) where
     whole = λ e. tt;
     grouped = λ e. record { most = λ k i. absurd i; group = tt; waits = tt };
     scoped = tt;
+    failures = λ w o e i. i;
   }
 
   pub weak_entered : (a b : Around) (s n : ℕ) (above : Bool) (p : ℕ) (q : Box (Unit {0}) Global) (x : Node) → IsUntried (a.told p) → CanStep P a s (Start (node.Weak' p q x)) → AcquiresDevice a s p b
@@ -98,6 +104,7 @@ module _ {F : Type 0} (P : StateMeaning F) (due : F → ℕ) where
     whole = λ e. tt;
     grouped = λ e. record { most = λ k i. (i, tt); group = tt; waits = tt };
     scoped = λ e. got.held;
+    failures = weak_tells P a b s p q x untried got;
   }
 
   pub weak_failed : (a b : Around) (s n : ℕ) (above : Bool) (p : ℕ) (q : Box (Unit {0}) Global) (x : Node) → IsUntried (a.told p) → CanStep P a s (Start (node.Weak' p q x)) → Refuses a p b
@@ -109,6 +116,7 @@ module _ {F : Type 0} (P : StateMeaning F) (due : F → ℕ) where
     whole = λ e. tt;
     grouped = λ e. record { most = λ k i. (tt, tt); group = tt; waits = tt };
     scoped = λ e. absurd (fault_is_not_quiet code.Open e);
+    failures = refused_tells P a b s p q x untried can not;
   }
 
   pub scope_entered : (a b : Around) (s n : ℕ) (above : Bool) (c : ℕ) (q r : Box (Unit {0}) Global) (x : Node) → CanStep P a s (Start (node.Scope' q x)) → Enters a s c b
@@ -120,6 +128,7 @@ module _ {F : Type 0} (P : StateMeaning F) (due : F → ℕ) where
     whole = λ e. tt;
     grouped = λ e. record { most = λ k i. (i, tt); group = tt; waits = tt };
     scoped = (c, r, refl, refl, (opens.within s).1 (inr (in_itself a can.nested s)), opens.fresh s can.opened, opens.opened, λ o. opens.fresh c o ((opens.within c).1 (inl refl)));
+    failures = λ w o e i. i;
   }
 
   pub append_entered : (a : Around) (s n : ℕ) (above : Bool) (p q r : Box (Unit {0}) Global) (b : Box Node Global) (x : Node) → CanStep P a s (Start (node.Append' p x q b.value))
@@ -131,6 +140,7 @@ module _ {F : Type 0} (P : StateMeaning F) (due : F → ℕ) where
     whole = λ e. (tt, tt);
     grouped = λ e. record { most = λ k i. (i, tt); group = tt; waits = tt };
     scoped = tt;
+    failures = λ w o e i. i;
   }
 
   pub guard_entered : (a : Around) (s n : ℕ) (above : Bool) (p q r : Box (Unit {0}) Global) (b : Box Node Global) (x : Node) → CanStep P a s (Start (node.OnFault' p x q b.value))
@@ -142,6 +152,7 @@ module _ {F : Type 0} (P : StateMeaning F) (due : F → ℕ) where
     whole = λ e. (tt, tt);
     grouped = λ e. record { most = λ k i. (i, tt); group = tt; waits = tt };
     scoped = tt;
+    failures = λ w o e i. i;
   }
 
   pub take_entered : (a : Around) (s n : ℕ) (above : Bool) (m : ℕ) (p r : Box (Unit {0}) Global) (x : Node) → CanStep P a s (Start (node.Take' m p x)) → Stepped P due a a s n above (Start (node.Take' m p x)) (Take' m r (Start x)) turn.Quiet
@@ -152,6 +163,7 @@ module _ {F : Type 0} (P : StateMeaning F) (due : F → ℕ) where
     whole = λ e. tt;
     grouped = λ e. record { most = λ k i. absurd i; group = tt; waits = tt };
     scoped = tt;
+    failures = taker_tells P a a s m p r x can;
   }
 
   pub into_entered : (a : Around) (s n : ℕ) (above : Bool) (p : ℕ) (q r : Box (Unit {0}) Global) (v : Option (List ℕ)) (x : Node) → v ≡ (a.told p).written → CanStep P a s (Start (node.Into' p q x))
@@ -163,6 +175,7 @@ module _ {F : Type 0} (P : StateMeaning F) (due : F → ℕ) where
     whole = λ e. tt;
     grouped = λ e. record { most = λ k i. (tt, tt); group = tt; waits = tt };
     scoped = tt;
+    failures = λ w o e i. i;
   }
 
   pub zip_entered : (a : Around) (s n : ℕ) (above : Bool) (p q u v : Box (Unit {0}) Global) (x y : Node) → CanStep P a s (Start (node.Zip' p x q y))
@@ -174,6 +187,7 @@ module _ {F : Type 0} (P : StateMeaning F) (due : F → ℕ) where
     whole = λ e. (tt, tt);
     grouped = λ e. record { most = λ k i. absurd i; group = tt; waits = tt };
     scoped = tt;
+    failures = λ w o e i. i;
   }
 
   pub merge_entered : (a : Around) (s n : ℕ) (above : Bool) (p q u v : Box (Unit {0}) Global) (x y : Node) → CanStep P a s (Start (node.Merge' p x q y))
@@ -185,6 +199,7 @@ module _ {F : Type 0} (P : StateMeaning F) (due : F → ℕ) where
     whole = λ e. (tt, tt);
     grouped = λ e. record { most = λ k i. (i, tt); group = tt; waits = tt };
     scoped = tt;
+    failures = λ w o e i. i;
   }
 
   pub through_entered : ((q : F) → IsSound (P.stands q)) → (a : Around) (s n : ℕ) (above : Bool) (p r : Box (Unit {0}) Global) (x : Node) (pipe : Pipe) (q : F) (y : Rest F) → CanStep P a s (Start (node.Through' p x pipe))
@@ -196,4 +211,5 @@ module _ {F : Type 0} (P : StateMeaning F) (due : F → ℕ) where
     whole = pipe_whole above pipe r x q y made;
     grouped = pipe_groups above p r x pipe q y made;
     scoped = tt;
+    failures = piped_tells P a a s p r x pipe q (size_above above pipe) y made;
   }

@@ -26,7 +26,7 @@ use Rattle.pull_turns.proofs.Leads.{by_left, can_stop, stopped}
 use Rattle.pull_turns.proofs.Pieces.{read_held}
 use Rattle.pull_turns.proofs.Scoped.{closed_same, scoped_kept}
 use Rattle.pull_turns.proofs.Turns.{by_three, cause_none, cause_part, caused_part, moved_part, moved_place, once_before, one_of_three, quiet_goes_on}
-use Rattle.pull_turns.proofs.Unwritten.{writes_no_more, writes_same, written_same}
+use Rattle.pull_turns.proofs.Unwritten.{writes_no_more, stays_well, written_same}
 use Rattle.pull_turns.proofs.Written.{none_behind, some_written, written_ends, written_fails, written_lead}
 
 -- the turn is one of what is written
@@ -202,7 +202,7 @@ module _ {F : Type 0} (P : StateMeaning F) (a m b : Around) (s n p : ℕ) (v g :
             over = λ i live never. back i live;
             goes = λ i. goes_on (m.told i) (b.told i) (w i) (later i) (o.goes i);
           } in
-          let none = writes_no_more m w s new (k.ready tt) (λ i j. writes_same (m.told i) (w i) (back i (k.live i j))) in
+          let none = writes_no_more m w s new (k.ready tt) (λ i j. stays_well (m.told i) (w i) (back i (k.live i j))) in
           subst (λ zs. IsRunOfRest P w x zs Cut) (append-nil (elements l)) ((k.gave.1 w ends).gives [] Cut (can_stop P w new none))
         where
           later : (i : ℕ) → Goes (m.told i) (b.told i)

@@ -6,7 +6,7 @@ use Rattle.device_port.specs.Device.{DeviceTold, Place}
 use Rattle.pull_nodes.specs.declared.node.Node.{Node}
 use Rattle.pull_nodes.specs.declared.node.Node.TheVariants as node
 use Rattle.pull_turns.specs.Around.IsNested.{nesting}
-use Rattle.pull_turns.specs.Around.{Around, Enters, Goes, IsNested, IsSpared, Keeps, StaysOpen, AcquiresDevice, gist}
+use Rattle.pull_turns.specs.Around.{Around, Enters, Goes, IsNested, IsSpared, IsUntried, Keeps, StaysOpen, AcquiresDevice, gist}
 use Rattle.pull_turns.specs.Rest.{AreApart, IsIn, IsAsked, IsFresh, IsHeldBy, IsLive, IsReady, IsScopeOf, IsToRead, IsToWrite, NoPlace}
 use Rattle.pull_turns.specs.declared.rest.Rest.{Rest}
 use Rattle.pull_turns.specs.declared.rest.Rest.TheVariants.{Nil, Start, Read, Within', Then', Through', Finishing, Faulty, Groups', Take', Into', Zip', Merge'}
@@ -124,46 +124,51 @@ still_to_write d e k h = record {
   faults = k.write_faults ∙ h.faults;
 }
 
+still_untried : (d e : DeviceTold) → gist e ≡ gist d → IsUntried d → IsUntried e
+still_untried d e k h = record { opens = ap (λ (x : DeviceTold). x.opens) k ∙ h.opens; open_faults = ap (λ (x : DeviceTold). x.open_faults) k ∙ h.open_faults }
+
 -- a node may still be run where its places are as they were, or are held by now
 module _ (a b : Around) (s t : ℕ) where
   pub fresh_on : (P Q : ℕ → Type 0) (n : Node)
       → ((p : ℕ) → IsIn p n → StaysNew (a.told p) (b.told p))
       → ((p : ℕ) → IsAsked p n → a.waits p → b.waits p)
+      → ((p : ℕ) → IsAsked p n → IsUntried (a.told p) → IsUntried (b.told p))
       → ((p : ℕ) → IsIn p n → IsHeldBy a s p → IsHeldBy b t p)
       → ((p : ℕ) → P p → Q p ⊎ IsHeldBy b t p)
       → IsFresh a P s n → IsFresh b Q t n
-  fresh_on P Q node.Nil d w o f h = tt
-  fresh_on P Q (node.Emit l) d w o f h = tt
-  fresh_on P Q (node.Raise c) d w o f h = tt
-  fresh_on P Q (node.Read q) d w o f h =
+  fresh_on P Q node.Nil d w u o f h = tt
+  fresh_on P Q (node.Emit l) d w u o f h = tt
+  fresh_on P Q (node.Raise c) d w u o f h = tt
+  fresh_on P Q (node.Read q) d w u o f h =
       (still_to_read (a.told q) (b.told q) (d q refl) h.0, elim h.1 [ inl i ↦ f q i | inr i ↦ inr (o q refl i) ])
-  fresh_on P Q (node.Weak' q _ n) d w o f h = (
+  fresh_on P Q (node.Weak' q _ n) d w u o f h = (
     w q (inl refl) h.0,
     h.1,
-    fresh_on (λ r. (r ≡ q) ⊎ P r) (λ r. (r ≡ q) ⊎ Q r) n (λ p i. d p (inr i)) (λ p i. w p (inr i)) (λ p i. o p (inr i))
+    fresh_on (λ r. (r ≡ q) ⊎ P r) (λ r. (r ≡ q) ⊎ Q r) n (λ p i. d p (inr i)) (λ p i. w p (inr i)) (λ p i. u p (inr i)) (λ p i. o p (inr i))
         (λ p. elim [ inl i ↦ inl (inl i) | inr i ↦ elim (f p i) [ inl j ↦ inl (inr j) | inr j ↦ inr j ] ]) h.2,
+    u q (inl refl) h.3,
   )
-  fresh_on P Q (node.Scope' _ n) d w o f h = fresh_on P Q n d w o f h
-  fresh_on P Q (node.Append' _ n _ m) d w o f h =
-      (h.0, (fresh_on P Q n (λ p i. d p (inl i)) (λ p i. w p (inl i)) (λ p i. o p (inl i)) f h.1.0, fresh_on P Q m (λ p i. d p (inr i)) (λ p i. w p (inr i)) (λ p i. o p (inr i)) f h.1.1))
-  fresh_on P Q (node.OnFault' _ n _ m) d w o f h =
-      (h.0, (fresh_on P Q n (λ p i. d p (inl i)) (λ p i. w p (inl i)) (λ p i. o p (inl i)) f h.1.0, fresh_on P Q m (λ p i. d p (inr i)) (λ p i. w p (inr i)) (λ p i. o p (inr i)) f h.1.1))
-  fresh_on P Q (node.Through' _ n q) d w o f h = fresh_on P Q n d w o f h
-  fresh_on P Q (node.Take' n _ m) d w o f h = fresh_on P Q m d w o f h
-  fresh_on P Q (node.Zip' _ n _ m) d w o f h =
-      (h.0, (fresh_on P Q n (λ p i. d p (inl i)) (λ p i. w p (inl i)) (λ p i. o p (inl i)) f h.1.0, fresh_on P Q m (λ p i. d p (inr i)) (λ p i. w p (inr i)) (λ p i. o p (inr i)) f h.1.1))
-  fresh_on P Q (node.Merge' _ n _ m) d w o f h =
-      (h.0, (fresh_on P Q n (λ p i. d p (inl i)) (λ p i. w p (inl i)) (λ p i. o p (inl i)) f h.1.0, fresh_on P Q m (λ p i. d p (inr i)) (λ p i. w p (inr i)) (λ p i. o p (inr i)) f h.1.1))
-  fresh_on P Q (node.Into' q _ n) d w o f h = (
+  fresh_on P Q (node.Scope' _ n) d w u o f h = fresh_on P Q n d w u o f h
+  fresh_on P Q (node.Append' _ n _ m) d w u o f h =
+      (h.0, (fresh_on P Q n (λ p i. d p (inl i)) (λ p i. w p (inl i)) (λ p i. u p (inl i)) (λ p i. o p (inl i)) f h.1.0, fresh_on P Q m (λ p i. d p (inr i)) (λ p i. w p (inr i)) (λ p i. u p (inr i)) (λ p i. o p (inr i)) f h.1.1))
+  fresh_on P Q (node.OnFault' _ n _ m) d w u o f h =
+      (h.0, (fresh_on P Q n (λ p i. d p (inl i)) (λ p i. w p (inl i)) (λ p i. u p (inl i)) (λ p i. o p (inl i)) f h.1.0, fresh_on P Q m (λ p i. d p (inr i)) (λ p i. w p (inr i)) (λ p i. u p (inr i)) (λ p i. o p (inr i)) f h.1.1))
+  fresh_on P Q (node.Through' _ n q) d w u o f h = fresh_on P Q n d w u o f h
+  fresh_on P Q (node.Take' n _ m) d w u o f h = fresh_on P Q m d w u o f h
+  fresh_on P Q (node.Zip' _ n _ m) d w u o f h =
+      (h.0, (fresh_on P Q n (λ p i. d p (inl i)) (λ p i. w p (inl i)) (λ p i. u p (inl i)) (λ p i. o p (inl i)) f h.1.0, fresh_on P Q m (λ p i. d p (inr i)) (λ p i. w p (inr i)) (λ p i. u p (inr i)) (λ p i. o p (inr i)) f h.1.1))
+  fresh_on P Q (node.Merge' _ n _ m) d w u o f h =
+      (h.0, (fresh_on P Q n (λ p i. d p (inl i)) (λ p i. w p (inl i)) (λ p i. u p (inl i)) (λ p i. o p (inl i)) f h.1.0, fresh_on P Q m (λ p i. d p (inr i)) (λ p i. w p (inr i)) (λ p i. u p (inr i)) (λ p i. o p (inr i)) f h.1.1))
+  fresh_on P Q (node.Into' q _ n) d w u o f h = (
     still_to_write (a.told q) (b.told q) (d q (inl refl)) h.0,
     elim h.1 [ inl i ↦ f q i | inr i ↦ inr (o q (inl refl) i) ],
     h.2,
-    fresh_on P Q n (λ p i. d p (inr i)) w (λ p i. o p (inr i)) f h.3,
+    fresh_on P Q n (λ p i. d p (inr i)) w u (λ p i. o p (inr i)) f h.3,
   )
 
   fresh_by : (T C : ℕ → Type 0) (n : Node) → Keeps a T C b → ((p : ℕ) → IsIn p n → T p → ⊥) → ((p : ℕ) → IsIn p n → IsHeldBy a s p → IsHeldBy b t p) → IsFresh a NoPlace s n → IsFresh b NoPlace t n
   fresh_by T C n k never o h =
-      fresh_on NoPlace NoPlace n (λ p i. new_gist (a.told p) (b.told p) (k.told p (never p i))) (λ p i. k.waits p (never p (asked_in p n i))) o (λ p i. absurd i) h
+      fresh_on NoPlace NoPlace n (λ p i. new_gist (a.told p) (b.told p) (k.told p (never p i))) (λ p i. k.waits p (never p (asked_in p n i))) (λ p i. still_untried (a.told p) (b.told p) (k.told p (never p (asked_in p n i)))) o (λ p i. absurd i) h
 
 -- in a scope that is spared
 pub fresh_kept : (a b : Around) (T C : ℕ → Type 0) (s : ℕ) (n : Node) → SparesAround a C → Keeps a T C b → ((p : ℕ) → IsIn p n → T p → ⊥) → IsSpared a C s → IsFresh a NoPlace s n → IsFresh b NoPlace s n
@@ -232,6 +237,7 @@ module _ (a b : Around) (s p : ℕ) (nested : IsNested a) (open' : a.opened s) (
       fresh_on a b s s (λ q. (q ≡ p) ⊎ NoPlace q) NoPlace n
       (λ q i. elim (eqb_tells q p) [ inl m ↦ subst (λ r. StaysNew (a.told r) (b.told r)) (sym m.1) new_p | inr m ↦ new_gist (a.told q) (b.told q) (h.keeps.told q m.1) ])
       (λ q i. h.keeps.waits q (λ e. never (subst (λ r. IsAsked r n) e i)))
+      (λ q i. still_untried (a.told q) (b.told q) (h.keeps.told q (λ e. never (subst (λ r. IsAsked r n) e i))))
       (λ q i held. let j = all_spared a held.0 held.1 in (held.0, (h.keeps.stays held.0 j).opened, (stays.within held.0).1 held.2, h.holds q held.0 held.3))
       (λ q. elim [ inl e ↦ inr (s, stays.opened, (stays.within s).1 (in_itself a nested s), subst (λ r. b.holds r s) (sym e) h.held) | inr i ↦ absurd i ])
       fresh

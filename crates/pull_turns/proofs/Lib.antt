@@ -21,6 +21,9 @@ pub mod Grouping
 pub mod Grouped
 pub mod Scoped
 pub mod Into
+pub mod Failures
+pub mod Telling
+pub mod TellingActs
 pub mod Writes
 pub mod Led
 pub mod Work

@@ -26,7 +26,7 @@ use Rattle.pull_turns.proofs.Leads.{by_left, can_stop, left_earlier}
 use Rattle.pull_turns.proofs.Merges.{by_merged_left, by_merged_right, merged_ends, merged_stops}
 use Rattle.pull_turns.proofs.Steps.{opened_in}
 use Rattle.pull_turns.proofs.Turns.{caused_whole, cause_none, cause_part, chunk_goes_on, moved_part, quiet_goes_on, by_three}
-use Rattle.pull_turns.proofs.Unwritten.{writes_no_more, writes_same}
+use Rattle.pull_turns.proofs.Unwritten.{writes_no_more, stays_well}
 
 -- nothing is left
 abbrev none_of : (F : Type 0) → Rest F
@@ -59,7 +59,7 @@ module _ {F : Type 0} (P : StateMeaning F) (a b : Around) (s n : ℕ) (m : Merge
     -- the other side may be left as it stands
     left_other_stops : (t : Turn) → Turned P a b s n x new t → (d : ℕ → DeviceTold) → Over b.told d (Merge' m p x q y) → IsRunOfRest P d y [] Cut
     left_other_stops t h d o =
-        can_stop P d y (writes_no_more b d s y (other_ready P a b s n x new y t (can_merge_left) h r.ready.0 r.ready.2) (λ k i. writes_same (b.told k) (d k) (o.over k (inr i))))
+        can_stop P d y (writes_no_more b d s y (other_ready P a b s n x new y t (can_merge_left) h r.ready.0 r.ready.2) (λ k i. stays_well (b.told k) (d k) (o.over k (inr i))))
 
     -- a turn that goes on, after which the other side is next
     left_goes_on : (t : Turn) → GoesOn t → ((k : LoadKind) → HasKind P k (Merge' m p x q y) → GivesKind P k (Merge' (record m { turn = other Left }) u new v y) t) → Turned P a b s n x new t → Gave P b.told (Merge' m p x q y) (Merge' (record m { turn = other Left }) u new v y) t → Turned P a b s n (Merge' m p x q y) (Merge' (record m { turn = other Left }) u new v y) t
@@ -153,7 +153,7 @@ module _ {F : Type 0} (P : StateMeaning F) (a b : Around) (s n : ℕ) (m : Merge
     -- the other side may be left as it stands
     right_other_stops : (t : Turn) → Turned P a b s n y new t → (d : ℕ → DeviceTold) → Over b.told d (Merge' m p x q y) → IsRunOfRest P d x [] Cut
     right_other_stops t h d o =
-        can_stop P d x (writes_no_more b d s x (other_ready P a b s n y new x t (can_merge_right) h (apart_across a x y r.ready.0) r.ready.1) (λ k i. writes_same (b.told k) (d k) (o.over k (inl i))))
+        can_stop P d x (writes_no_more b d s x (other_ready P a b s n y new x t (can_merge_right) h (apart_across a x y r.ready.0) r.ready.1) (λ k i. stays_well (b.told k) (d k) (o.over k (inl i))))
 
     -- a turn that goes on, after which the other side is next
     right_goes_on : (t : Turn) → GoesOn t → ((k : LoadKind) → HasKind P k (Merge' m p x q y) → GivesKind P k (Merge' (record m { turn = other Right }) u x v new) t) → Turned P a b s n y new t → Gave P b.told (Merge' m p x q y) (Merge' (record m { turn = other Right }) u x v new) t → Turned P a b s n (Merge' m p x q y) (Merge' (record m { turn = other Right }) u x v new) t

@@ -29,7 +29,7 @@ use Rattle.pull_turns.specs.declared.turn.Turn.TheVariants as turn
 use Rattle.pull_turns.proofs.Leads.{by_left, can_stop}
 use Rattle.pull_turns.proofs.Lists.{no_length}
 use Rattle.pull_turns.proofs.Piped.{at_fault, fault_fed, load_fed, none_fed, nothing_fed, some_piped}
-use Rattle.pull_turns.proofs.Unwritten.{writes_no_more, writes_same}
+use Rattle.pull_turns.proofs.Unwritten.{writes_no_more, stays_well}
 use Rattle.pull_turns.proofs.Turns.{by_three, cause_none, cause_part, caused_part, one_of_three, chunk_goes_on, quiet_goes_on}
 
 -- a fault of a pipe is none of a device
@@ -116,7 +116,7 @@ module _ {F : Type 0} (P : StateMeaning F) (sound : (q : F) → IsSound (P.stand
     stopped_below : (w : ℕ → DeviceTold) → Over b.told w x → IsRunOfRest P w x (elements l) Cut
     stopped_below w o =
         let ends : TellsAtEnd b.told w x new = record { over = λ k i never. o.over k i; goes = o.goes } in
-        let none = writes_no_more b w s new (h.ready tt) (λ k i. writes_same (b.told k) (w k) (o.over k (h.live k i))) in
+        let none = writes_no_more b w s new (h.ready tt) (λ k i. stays_well (b.told k) (w k) (o.over k (h.live k i))) in
         subst (λ zs. IsRunOfRest P w x zs Cut) (append-nil (elements l)) ((h.gave.1 w ends).gives [] Cut (can_stop P w new none))
 
     out_kinds : (o : Load) → Answered (fed.Out o)

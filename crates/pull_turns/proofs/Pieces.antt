@@ -7,7 +7,7 @@ use Rattle.chunk_core.specs.Elements.{Element, Byte, elements}
 use Rattle.chunk_core.specs.Outcomes.{Cut, Done, Fault}
 use Rattle.device_port.specs.Device.{DeviceTold, Place}
 use Rattle.pull_nodes.specs.Runs.{FirstBytes, Reads}
-use Rattle.pull_turns.specs.Around.{Around, KeepsBut}
+use Rattle.pull_turns.specs.Around.{Around, KeepsBut, StaysWell}
 use Rattle.chunk_core.specs.Elements.LoadKind.{Bytes}
 use Rattle.chunk_core.specs.Elements.{kind_of, LoadKind}
 use Rattle.chunk_core.specs.declared.load.Load.{Load}
@@ -15,13 +15,13 @@ use Rattle.chunk_core.specs.declared.load.Load.TheVariants as load
 use Rattle.pull_turns.specs.Piping.{StateMeaning}
 use Rattle.pull_turns.specs.Rest.{BytesFrom, IsHeldBy, IsReady, ReadsFrom}
 use Rattle.pull_turns.specs.Moves.{IsPiece, ReadsPiece, ReadsPlace}
-use Rattle.pull_turns.specs.Turned.{Leads, Turned, Moved, HasCause, Gave, GivesKind, GoesOn, TurnIsCaused}
+use Rattle.pull_turns.specs.Turned.{Leads, IsLoadOrDone, Turned, Moved, HasCause, Gave, GivesKind, GoesOn, TurnIsCaused}
 use Rattle.pull_turns.specs.declared.rest.Rest.TheVariants.{Read}
 use Rattle.pull_turns.specs.declared.turn.Turn.{Turn}
 use Rattle.pull_turns.specs.declared.turn.Turn.TheVariants as turn
 use Rattle.pull_turns.proofs.Kept.{all_spared}
 use Rattle.pull_turns.proofs.Leads.{HasRun, by_left}
-use Rattle.pull_turns.proofs.Unwritten.{writes_same}
+use Rattle.pull_turns.proofs.Unwritten.{stays_well}
 use Rattle.pull_turns.proofs.Turns.{moved_place, by_three, chunk_goes_on, done_is_no_fault, cause_none}
 
 -- a list of so many numbers
@@ -144,17 +144,17 @@ bytes_kind (load.Rows ls) [] e h = absurd (omega (arith, h))
 
 module _ {F : Type 0} (P : StateMeaning F) where
   -- all but the outcome
-  read_turned : (a b : Around) (s n p from to : ℕ) (t : Turn) → ReadsPlace a b p
+  read_turned : (a b : Around) (s n p from to : ℕ) (t : Turn) → ReadsPlace a b p → (IsLoadOrDone t → (b.told p).read_faults ≡ (a.told p).read_faults)
       → ((((b.told p).at ≤ (a.told p).at + n) × ((b.told p).read_faults ≡ (a.told p).read_faults)) ⊎ (((b.told p).at ≡ (a.told p).at) × ((b.told p).read_faults ≡ (a.told p).read_faults + 1)))
       → (GoesOn t → IsReady {F = F} b s (Read p to)) → ((k : LoadKind) → k ≡ Bytes → GivesKind P k (Read p to) t) → (GoesOn t → TurnIsCaused P a.told b.told (Read p from) (Read p to))
       → HasCause {F = F} a.told b.told (Read p from) t → Gave P b.told (Read p from) (Read p to) t
       → Turned P a b s n (Read p from) (Read p to) t
-  read_turned a b s n p from to t h read ready kinds caused cause gave = record {
+  read_turned a b s n p from to t h well read ready kinds caused cause gave = record {
     moved = read_moved a b p from h;
     once = record { place = p; others = λ q m. (ap (λ (d : DeviceTold). d.at) (h.keeps.told q m), ap (λ (d : DeviceTold). d.read_faults) (h.keeps.told q m)); read = read };
     writes = λ i q. elim (eqb_tells q p) [
-      | inl m ↦ subst (λ r. ((b.told r).written ≡ (a.told r).written) × ((b.told r).write_faults ≡ (a.told r).write_faults)) (sym m.1) (h.written, h.write_faults)
-      | inr m ↦ writes_same (a.told q) (b.told q) (h.keeps.told q m.1)
+      | inl m ↦ subst (λ r. StaysWell (a.told r) (b.told r)) (sym m.1) (h.written, h.write_faults, well i, h.open_faults)
+      | inr m ↦ stays_well (a.told q) (b.told q) (h.keeps.told q m.1)
     ];
     live = λ q i. i;
     fewer = omega arith;
@@ -173,7 +173,7 @@ module _ {F : Type 0} (P : StateMeaning F) where
       let bytes = h.piece.0 in
       let piece : IsPiece (b.told p).content from bytes = subst (λ o. IsPiece o from bytes) (sym h.place.content) h.piece.8 in
       let some : 0 < length (elements l) = omega (arith, ap length h.piece.1, length-map bytes Byte, h.piece.2) in
-      read_turned a b s n p from to (turn.Chunk l) h.place
+      read_turned a b s n p from to (turn.Chunk l) h.place (λ i. h.piece.7)
       (inl (omega (arith, r.0, h.piece.6, h.piece.4, h.piece.3), h.piece.7))
       (λ g. (h.piece.6, h.piece.7 ∙ r.1, h.piece.5, piece_fits (b.told p).content from to bytes h.piece.2 h.piece.4 piece, read_held a b s p h.place.keeps open' h.piece.9 r.4, ap (λ (x : Place). x.mode) h.place.place ∙ r.5))
       (λ k e. (sym (bytes_kind l bytes h.piece.1 h.piece.2) ∙ sym e, e))
@@ -187,7 +187,7 @@ module _ {F : Type 0} (P : StateMeaning F) where
       )
   read_step a b s n p from to turn.Quiet open' r h = absurd h.piece
   read_step a b s n p from to turn.Done open' r h =
-      read_turned a b s n p from to turn.Done h.place
+      read_turned a b s n p from to turn.Done h.place (λ i. h.piece.3)
       (inl (omega (arith, r.0, h.piece.2), h.piece.3))
       (λ g. absurd g) (λ k e. tt) (λ g. absurd g)
       (cause_none a.told b.told (Read p from) turn.Done done_is_no_fault)
@@ -197,7 +197,7 @@ module _ {F : Type 0} (P : StateMeaning F) where
       inl (done_reads (w p) from (ap (λ (d : DeviceTold). d.at) is ∙ h.piece.2) h.piece.1 (ap (λ (d : DeviceTold). d.ended) is ∙ h.piece.5) (ap (λ (d : DeviceTold). d.read_faults) is ∙ (h.piece.3 ∙ r.1))
       (subst (λ c. IfSome c (λ d. length d ≤ from)) (sym same) h.piece.4) (subst (λ c. IfSome c (λ d. from ≤ length d)) (sym same) r.3)))
   read_step a b s n p from to (turn.Fault code.Endless) open' r h =
-      read_turned a b s n p from to (turn.Fault code.Endless) h.place
+      read_turned a b s n p from to (turn.Fault code.Endless) h.place (λ i. absurd i)
       (inl (omega (arith, r.0, h.piece.2), h.piece.3))
       (λ g. absurd g) (λ k e. tt) (λ g. absurd g)
       (record { open_fault = λ e. absurd (endless_is_no_open e); read_fault = λ e. absurd (endless_is_no_read e); write_fault = λ e. absurd (endless_is_no_write e) })
@@ -206,7 +206,7 @@ module _ {F : Type 0} (P : StateMeaning F) where
       let is = o.over p refl in
       inl (endless_reads (w p) from (ap (λ (d : DeviceTold). d.at) is ∙ h.piece.2) (omega (arith, r.2, h.piece.1)) (ap (λ (d : DeviceTold). d.read_faults) is ∙ (h.piece.3 ∙ r.1)) long))
   read_step a b s n p from to (turn.Fault code.Read) open' r h =
-      read_turned a b s n p from to (turn.Fault code.Read) h.place
+      read_turned a b s n p from to (turn.Fault code.Read) h.place (λ i. absurd i)
       (inr (h.piece.1 ∙ sym r.0, h.piece.2))
       (λ g. absurd g) (λ k e. tt) (λ g. absurd g)
       (record { open_fault = λ e. absurd (read_is_no_open e); read_fault = λ e. (p, refl, omega (arith, h.piece.2)); write_fault = λ e. absurd (read_is_no_write e) })

@@ -7,7 +7,7 @@ use Rattle.chunk_core.specs.declared.load.Load.{Load}
 use Rattle.chunk_core.specs.Elements.{Element, LoadKind, elements}
 use Rattle.chunk_core.specs.Feed.{IsSound}
 use Rattle.pull_nodes.specs.declared.node.Node.{Node}
-use Rattle.pull_turns.specs.Around.{Around}
+use Rattle.pull_turns.specs.Around.{Around, StaysWell}
 use Rattle.pull_turns.specs.Groups.{Grouped, GroupedOf, HasNoGroups, IsFirstGroup}
 use Rattle.pull_turns.specs.Moves.{LeavesAtEnd, MergeTurn, ReadsPiece, ReadsPlace, TakenOf, WritesTurn, ZipTurn, begins, side_left, turn_of_first}
 use Rattle.pull_turns.specs.Passing.{Passes, PipeGaveMore, after_pipe}
@@ -35,8 +35,10 @@ use Rattle.pull_turns.proofs.Pieces.{read_moved, read_step}
 use Rattle.pull_turns.proofs.Scoped.{merge_left_scoped, merge_right_scoped, within_scoped, zip_left_scoped, zip_right_scoped}
 use Rattle.pull_turns.proofs.Sized.{into_sized, merge_left_sized, merge_right_sized, read_sized, take_sized, then_sized, zip_left_sized, zip_right_sized}
 use Rattle.pull_turns.proofs.Steps.{can_within, nil_step, take_over, take_step, then_step, within_step}
+use Rattle.pull_turns.proofs.Telling.{finishing_tells, groups_tells, merge_left_tells, merge_right_tells, take_over_tells, take_tells, then_tells, through_tells, within_tells, zip_left_tells, zip_right_tells}
+use Rattle.pull_turns.proofs.TellingActs.{into_tells, read_tells}
 use Rattle.pull_turns.proofs.Turns.{moved_part, moved_same}
-use Rattle.pull_turns.proofs.Unwritten.{writes_same}
+use Rattle.pull_turns.proofs.Unwritten.{stays_well}
 use Rattle.pull_turns.proofs.Work.{finishing_work, groups_work, into_work, merge_left_work, merge_right_work, read_work, take_work, then_work, through_work, waited_work, within_work, zip_left_work, zip_right_work}
 use Rattle.pull_turns.proofs.Zipping.{zip_left_step, zip_right_step}
 
@@ -120,6 +122,7 @@ module _ {F : Type 0} (P : StateMeaning F) (due : F → ℕ) where
     whole = λ e. tt;
     grouped = λ e. record { most = λ k i. (i, tt); group = tt; waits = tt };
     scoped = tt;
+    failures = λ w o. tt;
   }
 
   pub faulty_stepped : (a : Around) (s n : ℕ) (above : Bool) (c : Code) → CanStep P a s (Faulty c) → Stepped P due a a s n above (Faulty c) (Faulty c) (turn.Fault c)
@@ -130,6 +133,7 @@ module _ {F : Type 0} (P : StateMeaning F) (due : F → ℕ) where
     whole = λ e. tt;
     grouped = λ e. record { most = λ k i. (i, tt); group = tt; waits = tt };
     scoped = tt;
+    failures = λ w o. tt;
   }
 
   pub read_stepped : (a b : Around) (s n : ℕ) (above : Bool) (p from to : ℕ) (t : Turn) → CanStep P a s (Read p from) → ReadsPiece a b n p from to t → Stepped P due a b s n above (Read p from) (Read p to) t
@@ -140,6 +144,7 @@ module _ {F : Type 0} (P : StateMeaning F) (due : F → ℕ) where
     whole = λ e. tt;
     grouped = λ e. record { most = λ k i. absurd i; group = tt; waits = tt };
     scoped = tt;
+    failures = read_tells F a b s n p from to t can.ready piece;
   }
 
   pub within_stepped : {O : Type 0} (seen : O → Around) (a : Around) (y z : O) (s n c : ℕ) (above : Bool) (p q : Box (Unit {0}) Global) (x new : Rest F) (t : Turn)
@@ -151,6 +156,7 @@ module _ {F : Type 0} (P : StateMeaning F) (due : F → ℕ) where
     whole = λ e. part.whole e;
     grouped = λ e. within_grouped c p q x new t (part.grouped e);
     scoped = within_scoped P seen a y z s n c q x new (can_within P a s c p x can) t ends part.turned part.scoped;
+    failures = within_tells seen y z c p q x new t ends part.failures;
   }
 
   pub then_stepped : (a b : Around) (s n : ℕ) (above : Bool) (v : When) (p q : Box (Unit {0}) Global) (m : Box Node Global) (x new : Rest F) (t : Turn)
@@ -162,6 +168,7 @@ module _ {F : Type 0} (P : StateMeaning F) (due : F → ℕ) where
     whole = λ e. then_whole (begins v t) m.value v q new m (part.whole e);
     grouped = λ e. then_grouped v p q m x new t (part.grouped e);
     scoped = (q, new, t, part.scoped, (refl, refl));
+    failures = then_tells P a b s n p q m x new v t can part.turned part.failures;
   }
 
   waited_whole : (a : Around) (s n : ℕ) (above : Bool) (k : ℕ) (p q : Box (Unit {0}) Global) (x : Rest F) (l m : Load) (g : Option Load)
@@ -174,6 +181,7 @@ module _ {F : Type 0} (P : StateMeaning F) (due : F → ℕ) where
     whole = plain;
     grouped = λ e. waited_grouped k (Some l) g p q x x l m first;
     scoped = λ e. absurd (some_is_none l e);
+    failures = λ w o e i. i;
   }
 
   pub waited_stepped : (a : Around) (s n : ℕ) (above : Bool) (k : ℕ) (p q : Box (Unit {0}) Global) (x : Rest F) (l : Load) (g : Option Load) (t : Turn)
@@ -194,6 +202,7 @@ module _ {F : Type 0} (P : StateMeaning F) (due : F → ℕ) where
     whole = plain;
     grouped = λ e. groups_grouped k g p q x new t u first;
     scoped = λ e. (q, new, t, part.scoped, (g, first, refl));
+    failures = groups_tells P a b s n k p q x new g t u first part.failures;
   }
 
   pub take_over_stepped : (a : Around) (s n : ℕ) (above : Bool) (k : ℕ) (p : Box (Unit {0}) Global) (x : Rest F) → CanStep P a s (Take' k p x) → k ≡ 0
@@ -205,6 +214,7 @@ module _ {F : Type 0} (P : StateMeaning F) (due : F → ℕ) where
     whole = λ e. can.ready.1;
     grouped = λ e. record { most = λ j i. absurd i; group = tt; waits = tt };
     scoped = λ some. absurd (omega (arith, some, none));
+    failures = take_over_tells P a a s n k p x none;
   }
 
   pub take_stepped : (a b : Around) (s n : ℕ) (above : Bool) (k m : ℕ) (p q : Box (Unit {0}) Global) (x new : Rest F) (t u : Turn)
@@ -216,6 +226,7 @@ module _ {F : Type 0} (P : StateMeaning F) (due : F → ℕ) where
     whole = λ e. part.whole refl;
     grouped = λ e. record { most = λ j i. absurd i; group = tt; waits = tt };
     scoped = λ i. (q, new, t, part.scoped, (m, taken, refl));
+    failures = take_tells P a b s n k p q x new some m t u taken part.turned part.failures;
   }
 
   pub into_stepped : {O : Type 0} (seen : O → Around) (a : Around) (y z : O) (s n : ℕ) (above : Bool) (p : ℕ) (v g : Option (List ℕ)) (q r : Box (Unit {0}) Global) (x new : Rest F) (t u : Turn)
@@ -229,6 +240,7 @@ module _ {F : Type 0} (P : StateMeaning F) (due : F → ℕ) where
         whole = λ e. part.whole refl;
         grouped = λ e. into_grouped p v g q r x new t u turns;
         scoped = into_scoped P seen a y z s n p v g q r x new can can.ready.4 (part.whole refl) t u wrote part.scoped;
+        failures = into_tells P seen a y z s n p v g q r x new can t u wrote part.turned part.failures;
       }
 
   pub zip_left_stepped : (a b : Around) (s n : ℕ) (above : Bool) (z w : Sides) (p q u v : Box (Unit {0}) Global) (x new y : Rest F) (t o : Turn)
@@ -240,6 +252,7 @@ module _ {F : Type 0} (P : StateMeaning F) (due : F → ℕ) where
     whole = λ e. (part.whole refl, can.ready.4);
     grouped = λ e. zip_grouped z w p q u v x y new y o;
     scoped = zip_left_scoped P a b s z w u v x new y t o none is part.scoped;
+    failures = zip_left_tells P a b s n z p q u v x y can new w t o is part.turned part.failures;
   }
 
   pub zip_right_stepped : (a b : Around) (s n : ℕ) (above : Bool) (z w : Sides) (p q u v : Box (Unit {0}) Global) (x y new : Rest F) (t o : Turn)
@@ -252,6 +265,7 @@ module _ {F : Type 0} (P : StateMeaning F) (due : F → ℕ) where
     whole = λ e. (can.ready.3, part.whole refl);
     grouped = λ e. zip_grouped z w p q u v x y x new o;
     scoped = zip_right_scoped P a b s z w u v x y new t o some is part.scoped;
+    failures = zip_right_tells P a b s n z p q u v x y can new w t o is part.turned part.failures;
   }
 
   pub merge_left_stepped : (a b : Around) (s n : ℕ) (above : Bool) (m k : MergeTurns) (p q u v : Box (Unit {0}) Global) (x new y : Rest F) (t o : Turn)
@@ -264,6 +278,7 @@ module _ {F : Type 0} (P : StateMeaning F) (due : F → ℕ) where
     whole = λ e. (side_whole t new (part.whole e), (plain e).1);
     grouped = λ e. merge_left_grouped m k p q u v x new y t o is (part.grouped e);
     scoped = merge_left_scoped P a b s m k u v x new y (side_left t new) t o is refl part.scoped;
+    failures = merge_left_tells P a b s n m p q u v x y can new k t o is part.turned part.failures;
   }
 
   pub merge_right_stepped : (a b : Around) (s n : ℕ) (above : Bool) (m k : MergeTurns) (p q u v : Box (Unit {0}) Global) (x y new : Rest F) (t o : Turn)
@@ -276,6 +291,7 @@ module _ {F : Type 0} (P : StateMeaning F) (due : F → ℕ) where
     whole = λ e. ((plain e).0, side_whole t new (part.whole e));
     grouped = λ e. merge_right_grouped m k p q u v x y new t o is (part.grouped e);
     scoped = merge_right_scoped P a b s m k u v x y new (side_left t new) t o is refl part.scoped;
+    failures = merge_right_tells P a b s n m p q u v x y can new k t o is part.turned part.failures;
   }
 
   module _ (dues : (q : F) (k : LoadKind) (ys : List Element) (c : Option Code) → P.comes q k ys c → (length ys ≡ due q) × (due q < 2 ^ 64)) where
@@ -287,6 +303,7 @@ module _ {F : Type 0} (P : StateMeaning F) (due : F → ℕ) where
       whole = λ e. finishing_whole z r;
       grouped = λ e. finishing_grouped z q r u;
       scoped = tt;
+      failures = finishing_tells P a a s n q r u z;
     }
 
     pub through_stepped : ((q : F) → IsSound (P.stands q)) → (a b : Around) (s n : ℕ) (above : Bool) (p p' : Box (Unit {0}) Global) (x new : Rest F) (q r : F) (t u : Turn) (z : After)
@@ -298,11 +315,12 @@ module _ {F : Type 0} (P : StateMeaning F) (due : F → ℕ) where
       whole = λ e. through_whole z p' new r (part.whole refl);
       grouped = λ e. through_grouped z p p' x new q r u;
       scoped = (p', new, t, part.scoped, (r, z, passes, refl));
+      failures = through_tells P a b s n p p' x new q r t u z passes part.turned part.failures;
     }
 
 -- no memory was found before anything was done
 pub same_broken : {F : Type 0} (a : Around) (x : Rest F) → Broken a a x
-same_broken a x = record { unwritten = λ p. (refl, refl); spent = record { events = omega arith; scopes = omega arith; rows = omega arith }; stopped = moved_same a x }
+same_broken a x = record { unwritten = λ p. (refl, refl, refl, refl); spent = record { events = omega arith; scopes = omega arith; rows = omega arith }; stopped = moved_same a x }
 
 module _ {F : Type 0} (a b : Around) where
   -- no memory was found in a part
@@ -313,11 +331,11 @@ module _ {F : Type 0} (a b : Around) where
     stopped = moved_part a b x y live own h.stopped;
   }
 
-  pub read_broken : (p from : ℕ) → ReadsPlace a b p → Broken {F = F} a b (Read p from)
-  read_broken p from h = record {
+  pub read_broken : (p from : ℕ) → ReadsPlace a b p → (b.told p).read_faults ≡ (a.told p).read_faults → Broken {F = F} a b (Read p from)
+  read_broken p from h well = record {
     unwritten = λ q. elim (eqb_tells q p) [
-      | inl m ↦ subst (λ r. ((b.told r).written ≡ (a.told r).written) × ((b.told r).write_faults ≡ (a.told r).write_faults)) (sym m.1) (h.written, h.write_faults)
-      | inr m ↦ writes_same (a.told q) (b.told q) (h.keeps.told q m.1)
+      | inl m ↦ subst (λ r. StaysWell (a.told r) (b.told r)) (sym m.1) (h.written, h.write_faults, well, h.open_faults)
+      | inr m ↦ stays_well (a.told q) (b.told q) (h.keeps.told q m.1)
     ];
     spent = record { events = omega (arith, h.affords.events); scopes = omega (arith, h.affords.scopes); rows = omega (arith, h.affords.rows) };
     stopped = read_moved a b p from h;

@@ -26,7 +26,7 @@ use Rattle.pull_turns.specs.declared.turn.Turn.{Turn}
 use Rattle.pull_turns.specs.declared.turn.Turn.TheVariants as turn
 use Rattle.pull_turns.proofs.Leads.{by_left, by_first, by_second, by_taken, by_taken_none, taken_stops, stopped, can_stop}
 use Rattle.pull_turns.proofs.Kept.{goes_on, goes_gist, keeps_on, fresh_kept, own_spared, scope_inside, spares_around}
-use Rattle.pull_turns.proofs.Unwritten.{idle_fresh, writes_no_more, writes_same, writes_then, written_same}
+use Rattle.pull_turns.proofs.Unwritten.{idle_fresh, writes_no_more, stays_well, well_then, written_same}
 use Rattle.pull_turns.proofs.Turns.{moved_part, moved_none, once_on, cause_on, chunk_goes_on, quiet_goes_on, done_is_no_fault, by_three, cause_none, cause_part, caused_part, caused_whole, one_of_three, turned_same}
 
 cut_is_not_done : Cut ≡ Done → ⊥
@@ -177,7 +177,7 @@ module _ {F : Type 0} (P : StateMeaning F) where
             goes = λ k. goes_on (a.told k) ((seen y).told k) ((seen z).told k) (first.goes k) (second.goes k);
           };
           once = once_on a.told (seen y).told (seen z).told n h.once l.told;
-          writes = λ i k. writes_then (a.told k) ((seen y).told k) ((seen z).told k) (h.writes i k) (writes_same ((seen y).told k) ((seen z).told k) (l.told k));
+          writes = λ i k. well_then (a.told k) ((seen y).told k) ((seen z).told k) (h.writes i k) (stays_well ((seen y).told k) ((seen z).told k) (l.told k));
           live = h.live;
           fewer = omega (arith, h.fewer);
           spends = record { events = omega (arith, h.spends.events, l.affords.events); scopes = omega (arith, h.spends.scopes, l.affords.scopes); rows = omega (arith, h.spends.rows, l.affords.rows) };
@@ -236,7 +236,7 @@ module _ {F : Type 0} (P : StateMeaning F) where
     -- where no more is wanted, what is below is left
     left_below : (w : ℕ → DeviceTold) (l : Load) → Turned P a b s n x new (turn.Chunk l) → m ≡ k - length (elements l) → TellsAtEnd b.told w (Take' k p x) (Take' m q new) → k ≤ length (elements l) → IsRunOfRest P w new [] Cut
     left_below w l h is o all =
-        can_stop P w new (writes_no_more b w s new (h.ready tt) (λ r i. writes_same (b.told r) (w r) (o.over r (some, h.live r i) (λ j. absurd (omega (arith, j.0, is, all))))))
+        can_stop P w new (writes_no_more b w s new (h.ready tt) (λ r i. stays_well (b.told r) (w r) (o.over r (some, h.live r i) (λ j. absurd (omega (arith, j.0, is, all))))))
 
     pub take_step : (t u : Turn) → TakenOf k m t u → Turned P a b s n x new t → Turned P a b s n (Take' k p x) (Take' m q new) u
     take_step (turn.Chunk l) (turn.Chunk j) e h =

@@ -106,7 +106,7 @@ pub turned_by : {F : Type 0} (P : StateMeaning F) (a : Around) (s n : ℕ) (old 
 turned_by P a s n old new t live fewer rows rooms scopes ready pipes kinds caused cause gave = record {
   moved = moved_same a old;
   once = once_same a.told a.told n (λ q. refl) (λ q. refl);
-  writes = λ i p. (refl, refl);
+  writes = λ i p. (refl, refl, refl, refl);
   live = live;
   fewer = fewer;
   spends = record { events = omega (arith, rows, rooms); scopes = omega (arith, rooms); rows = omega (arith, rows) };

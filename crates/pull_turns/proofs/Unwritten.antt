@@ -5,7 +5,7 @@ use Rattle.pull_nodes.specs.Runs.{IsIdle, IsUnwritten}
 use Rattle.std.specs.Prelude.{List, Option, IfSome, []}
 use Rattle.pull_nodes.specs.declared.node.Node.{Node}
 use Rattle.pull_nodes.specs.declared.node.Node.TheVariants as node
-use Rattle.pull_turns.specs.Around.{Around, gist}
+use Rattle.pull_turns.specs.Around.{Around, StaysWell, gist}
 use Rattle.pull_turns.specs.Rest.{IsFresh, IsIn, IsLive, IsReady, NoPlace, WritesNoMore}
 use Rattle.pull_turns.specs.declared.rest.Rest.{Rest}
 use Rattle.pull_turns.specs.declared.rest.Rest.TheVariants.{Nil, Start, Read, Within', Then', Through', Finishing, Faulty, Groups', Take', Into', Zip', Merge'}
@@ -14,12 +14,12 @@ use Rattle.pull_turns.specs.declared.rest.Rest.TheVariants.{Nil, Start, Read, Wi
 pub written_same : (d e : DeviceTold) → gist e ≡ gist d → e.written ≡ d.written
 written_same d e h = ap (λ (x : DeviceTold). x.written) h
 
--- and how many writes failed
-pub writes_same : (d e : DeviceTold) → gist e ≡ gist d → (e.written ≡ d.written) × (e.write_faults ≡ d.write_faults)
-writes_same d e h = (written_same d e h, ap (λ (x : DeviceTold). x.write_faults) h)
+-- and how many acts on it failed
+pub stays_well : (d e : DeviceTold) → gist e ≡ gist d → StaysWell d e
+stays_well d e h = (written_same d e h, ap (λ (x : DeviceTold). x.write_faults) h, ap (λ (x : DeviceTold). x.read_faults) h, ap (λ (x : DeviceTold). x.open_faults) h)
 
-pub writes_then : (d e f : DeviceTold) → (e.written ≡ d.written) × (e.write_faults ≡ d.write_faults) → (f.written ≡ e.written) × (f.write_faults ≡ e.write_faults) → (f.written ≡ d.written) × (f.write_faults ≡ d.write_faults)
-writes_then d e f h k = (k.0 ∙ h.0, k.1 ∙ h.1)
+pub well_then : (d e f : DeviceTold) → StaysWell d e → StaysWell e f → StaysWell d f
+well_then d e f h k = (k.0 ∙ h.0, k.1 ∙ h.1, k.2 ∙ h.2, k.3 ∙ h.3)
 
 module _ (a : Around) (w : ℕ → DeviceTold) where
   -- a node that wasn't entered
@@ -38,7 +38,7 @@ module _ (a : Around) (w : ℕ → DeviceTold) where
   idle_fresh P s (node.Zip' _ n _ m) h f = (idle_fresh P s n h.1.0 (λ p i. f p (inl i)), idle_fresh P s m h.1.1 (λ p i. f p (inr i)))
   idle_fresh P s (node.Merge' _ n _ m) h f = (idle_fresh P s n h.1.0 (λ p i. f p (inl i)), idle_fresh P s m h.1.1 (λ p i. f p (inr i)))
 
-  pub writes_no_more : {F : Type 0} (s : ℕ) (r : Rest F) → IsReady a s r → ((p : ℕ) → IsLive p r → ((w p).written ≡ (a.told p).written) × ((w p).write_faults ≡ (a.told p).write_faults)) → WritesNoMore w r
+  pub writes_no_more : {F : Type 0} (s : ℕ) (r : Rest F) → IsReady a s r → ((p : ℕ) → IsLive p r → StaysWell (a.told p) (w p)) → WritesNoMore w r
   writes_no_more s Nil h f = tt
   writes_no_more s (Start n) h f = idle_fresh NoPlace s n h (λ p i. (f p i).0)
   writes_no_more s (Read p from) h f = tt

@@ -25,7 +25,7 @@ use Rattle.pull_turns.proofs.Leads.{by_left, can_stop}
 use Rattle.pull_turns.proofs.Lists.{no_length}
 use Rattle.pull_turns.proofs.Steps.{opened_in}
 use Rattle.pull_turns.proofs.Turns.{by_three, caused_part, cause_none, cause_part, chunk_goes_on, moved_part, one_of_three, quiet_goes_on}
-use Rattle.pull_turns.proofs.Unwritten.{writes_no_more, writes_same}
+use Rattle.pull_turns.proofs.Unwritten.{writes_no_more, stays_well}
 use Rattle.pull_turns.proofs.Zips.{by_zipped_left, by_zipped_right, by_zipped_same, zipped_left_ends, zipped_right_ends, zipped_stops}
 
 -- after a turn that goes on the side gives lines on
@@ -85,7 +85,7 @@ module _ {F : Type 0} (P : StateMeaning F) (a b : Around) (s n : ℕ) (z : Sides
     -- the other side may be left as it stands
     left_stops : (t : Turn) → Turned P a b s n x new t → (d : ℕ → DeviceTold) → Over b.told d (Zip' z p x q y) → IsRunOfRest P d y [] Cut
     left_stops t h d o =
-        can_stop P d y (writes_no_more b d s y (other_ready P a b s n x new y t (can_zip_left) h r.ready.0 r.ready.2) (λ k i. writes_same (b.told k) (d k) (o.over k (inr i))))
+        can_stop P d y (writes_no_more b d s y (other_ready P a b s n x new y t (can_zip_left) h r.ready.0 r.ready.2) (λ k i. stays_well (b.told k) (d k) (o.over k (inr i))))
 
     pub zip_left_step : (w : Sides) (t o : Turn) → z.left ≡ [] → ZipTurn z Left w t o → Turned P a b s n x new t → Turned P a b s n (Zip' z p x q y) (Zip' w u new v y) o
     zip_left_step w (turn.Chunk l) o asked (m, pairs, rows, rest, is) h = subst (λ i. Turned P a b s n (Zip' z p x q y) (Zip' w u new v y) i) (sym is) (by_count (length (elements m)) refl)
@@ -147,7 +147,7 @@ module _ {F : Type 0} (P : StateMeaning F) (a b : Around) (s n : ℕ) (z : Sides
     -- the other side may be left as it stands
     right_stops : (t : Turn) → Turned P a b s n y new t → (d : ℕ → DeviceTold) → Over b.told d (Zip' z p x q y) → IsRunOfRest P d x [] Cut
     right_stops t h d o =
-        can_stop P d x (writes_no_more b d s x (other_ready P a b s n y new x t (can_zip_right) h (apart_across a x y r.ready.0) r.ready.1) (λ k i. writes_same (b.told k) (d k) (o.over k (inl i))))
+        can_stop P d x (writes_no_more b d s x (other_ready P a b s n y new x t (can_zip_right) h (apart_across a x y r.ready.0) r.ready.1) (λ k i. stays_well (b.told k) (d k) (o.over k (inl i))))
 
     pub zip_right_step : (w : Sides) (t o : Turn) → (0 < length z.left) × (z.right ≡ []) → ZipTurn z Right w t o → Turned P a b s n y new t → Turned P a b s n (Zip' z p x q y) (Zip' w u x v new) o
     zip_right_step w (turn.Chunk l) o asked (m, pairs, rows, rest, is) h = subst (λ i. Turned P a b s n (Zip' z p x q y) (Zip' w u x v new) i) (sym is) (by_count (length (elements m)) refl)

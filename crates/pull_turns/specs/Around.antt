@@ -137,9 +137,13 @@ pub record Writes (a : Around) (p : ℕ) (bytes : List ℕ) (faults : ℕ) (b : 
   pub scopes : SameScopes a b
   pub affords : Affords a b
 
--- nothing was written to any device, and no write failed
-abbrev pub WritesNothing : (ℕ → DeviceTold) → (ℕ → DeviceTold) → Type 0
-WritesNothing before now = (p : ℕ) → ((now p).written ≡ (before p).written) × ((now p).write_faults ≡ (before p).write_faults)
+-- a device that told d tells the same of what was written to it, and no further act on it failed
+abbrev pub StaysWell : DeviceTold → DeviceTold → Type 0
+StaysWell d e = (e.written ≡ d.written) × (e.write_faults ≡ d.write_faults) × (e.read_faults ≡ d.read_faults) × (e.open_faults ≡ d.open_faults)
+
+-- nothing was written to any device, and no act on one failed
+abbrev pub AllStayWell : (ℕ → DeviceTold) → (ℕ → DeviceTold) → Type 0
+AllStayWell before now = (p : ℕ) → StaysWell (before p) (now p)
 
 -- the scope c, within which no open scope lay, was opened in s: it lies within itself and where s does
 pub record Enters (a : Around) (s c : ℕ) (b : Around) : Type 0 where

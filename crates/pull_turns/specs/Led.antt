@@ -6,9 +6,10 @@ use Rattle.chunk_core.specs.declared.load.Load.{Load}
 use Rattle.chunk_core.specs.Elements.{Element, LoadKind, elements, kind_of}
 use Rattle.chunk_core.specs.Outcomes.{End, Done, Fault, Cut, exit_of}
 use Rattle.device_port.specs.Device.{DeviceTold}
-use Rattle.pull_turns.specs.Around.{Around, Goes, IsClosedWith, WritesNothing, gist}
+use Rattle.pull_turns.specs.Around.{Around, Goes, IsClosedWith, AllStayWell, gist}
 use Rattle.pull_turns.specs.Groups.{Grouped, IsGrouped}
 use Rattle.pull_turns.specs.Piping.{StateMeaning, HasKind}
+use Rattle.pull_turns.specs.Failures.{IsToldRunOfRest, TellsOn, TurnTells}
 use Rattle.pull_turns.specs.Rest.{IsRunOfRest, IsLive, CanStep, left}
 use Rattle.pull_turns.specs.Turned.{Leads, TellsAtEnd, Over, ReadsOnce, HasCause, Gave, GivesKind, GoesOn, IsCausedBy, IsLoadOrDone, Spends}
 use Rattle.pull_turns.specs.Moves.{how_of}
@@ -31,7 +32,7 @@ pub record TouchesOnly {F : Type 0} (before now : ℕ → DeviceTold) (old : Res
 
 -- whoever ran what was left may leave it now: it gave nothing, and was cut
 abbrev pub CanBeCut : {F : Type 0} → StateMeaning F → (ℕ → DeviceTold) → Rest F → Type 0
-CanBeCut P now old = (w : ℕ → DeviceTold) → Over now w old → IsRunOfRest P w old [] Cut
+CanBeCut P now old = (w : ℕ → DeviceTold) → Over now w old → IsToldRunOfRest P w old [] Cut
 
 -- the end of a run that ended so
 abbrev pub end_of : How → End
@@ -57,7 +58,7 @@ module _ {F : Type 0} (P : StateMeaning F) where
   pub record Turns (before now : Around) (n : ℕ) (old new : Rest F) (t : Turn) : Type 0 where
     pub tells : TouchesOnly before.told now.told old
     pub once : ReadsOnce before.told now.told n
-    pub writes : IsLoadOrDone t → WritesNothing before.told now.told
+    pub writes : IsLoadOrDone t → AllStayWell before.told now.told
     pub live : (p : ℕ) → IsLive p new → IsLive p old
     pub fewer : left new ≤ left old
     pub spends : Spends before now old new
@@ -65,6 +66,7 @@ module _ {F : Type 0} (P : StateMeaning F) where
     pub shut : (GoesOn t → ⊥) → IsShut now
     pub closed : ClosesAtEnd now 0 t
     pub scoped : Scoped P before now 0 old new t
+    pub failures : TurnTells now.told old new t
     pub kinds : (k : LoadKind) → HasKind P k old → GivesKind P k new t
     pub caused : IsCausedBy P before.told now.told old new t
     pub grouped : Grouped old new t
@@ -78,6 +80,7 @@ module _ {F : Type 0} (P : StateMeaning F) where
     pub kinds : (k : LoadKind) → HasKind P k start → HasKind P k rest
     pub grouped : (k : ℕ) → IsGrouped k start → IsGrouped k rest
     pub lead : (w : ℕ → DeviceTold) → TellsAtEnd now w start rest → Leads xs (IsRunOfRest P w rest) (IsRunOfRest P w start)
+    pub failures : TellsOn now start rest
 
   module _ {O : Type 0} (seen : O → Around) (n : ℕ) where
     -- so many turns were made, with reads of at most n bytes; none was the end, and they gave these loads
@@ -98,7 +101,7 @@ module _ {F : Type 0} (P : StateMeaning F) where
         × ((kind : LoadKind) → HasKind P kind old → kind_of l ≡ kind) × ComesWithin k a old b new (turn.Chunk l)
         × ((j : ℕ) → IsGrouped j old → length (elements l) ≤ j)
     Uncons k a b old new h (unconsed.End e) =
-        (h ≡ Some e) × IsShut (seen b) × IsClosedWith (seen b) 0 (exit_of e) × TouchesOnly (seen a).told (seen b).told old × ((w : ℕ → DeviceTold) → Over (seen b).told w old → IsRunOfRest P w old [] (end_of e))
+        (h ≡ Some e) × IsShut (seen b) × IsClosedWith (seen b) 0 (exit_of e) × TouchesOnly (seen a).told (seen b).told old × ((w : ℕ → DeviceTold) → Over (seen b).told w old → IsToldRunOfRest P w old [] (end_of e))
         × ((t : Turn) × (how_of t ≡ Some e) × ComesWithin k a old b new t)
     Uncons k a b old new h unconsed.Again =
         GoesOnFor k a old b new [] × (h ≡ None) × CanStep P (seen b) 0 new × Led (seen a).told (seen b).told old new []

@@ -1,4 +1,5 @@
 pub mod Around
+pub mod Failures
 pub mod Groups
 pub mod Led
 pub mod Moves

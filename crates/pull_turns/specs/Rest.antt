@@ -12,7 +12,7 @@ use Rattle.pull_nodes.specs.declared.node.Node.{Node}
 use Rattle.pull_nodes.specs.declared.node.Node.TheVariants as node
 use Rattle.pull_nodes.specs.Runs.{OrLeft, Exactly, Follows, Merged, Taken, Zipped, IsFault, IsIdle, IsRun, IsUnwritten, StopsReading, end_by_fault}
 use Rattle.pull_nodes.specs.Shape.{SomePlace, acquired_place, folded, node_count, places_of, scope_count}
-use Rattle.pull_turns.specs.Around.{Around, IsNested}
+use Rattle.pull_turns.specs.Around.{Around, IsNested, IsUntried}
 use Rattle.pull_turns.specs.Groups.{HasElements, HasNoGroups, waiting}
 use Rattle.pull_turns.specs.Piping.{StateMeaning, HasKind, PipesFit, PipedOn, Behind}
 use Rattle.pull_turns.specs.Shape.{rest_folded}
@@ -143,7 +143,7 @@ HaveNoPlaceInCommon n m = (p : ℕ) → IsIn p n → IsIn p m → ⊥
 -- what a node's own place and its parts ask, where this is asked of its parts, by the places that will be held
 abbrev pub IsFreshAt : Around → ℕ → Node → ((ℕ → Type 0) → Type 0) → (ℕ → Type 0) → Type 0
 IsFreshAt a s (node.Read p) Q P = IsToRead (a.told p) × (P p ⊎ IsHeldBy a s p)
-IsFreshAt a s (node.Weak' p _ n) Q P = a.waits p × (IsAsked p n → ⊥) × Q (λ q. (q ≡ p) ⊎ P q)
+IsFreshAt a s (node.Weak' p _ n) Q P = a.waits p × (IsAsked p n → ⊥) × Q (λ q. (q ≡ p) ⊎ P q) × IsUntried (a.told p)
 IsFreshAt a s (node.Append' _ n _ m) Q P = HaveNoPlaceInCommon n m × Q P
 IsFreshAt a s (node.OnFault' _ n _ m) Q P = HaveNoPlaceInCommon n m × Q P
 IsFreshAt a s (node.Into' p _ n) Q P = IsToWrite (a.told p) × (P p ⊎ IsHeldBy a s p) × (IsIn p n → ⊥) × Q P

@@ -2,7 +2,8 @@
 use Rattle.std.specs.Prelude.{◌≡◌, ℕ, Bool, true, false}
 use Rattle.pull_nodes.specs.declared.node.Node.{Node}
 use Rattle.pull_nodes.specs.declared.node.Node.TheVariants as node
-use Rattle.pull_turns.specs.Around.{Around, WritesNothing}
+use Rattle.pull_turns.specs.Around.{Around, AllStayWell}
+use Rattle.pull_turns.specs.Failures.{TurnTells}
 use Rattle.pull_turns.specs.Groups.{Grouped, HasNoGroups}
 use Rattle.pull_turns.specs.Piping.{StateMeaning}
 use Rattle.pull_turns.specs.Scoped.{Scoped}
@@ -21,10 +22,11 @@ pub record Stepped {F : Type 0} (P : StateMeaning F) (due : F → ℕ) (before n
   pub whole : above ≡ true → HasNoGroups new
   pub grouped : above ≡ false → Grouped old new t
   pub scoped : Scoped P before now s old new t
+  pub failures : TurnTells now.told old new t
 
 -- all that is told of a turn that found no memory
 pub record Broken {F : Type 0} (before now : Around) (old : Rest F) : Type 0 where
-  pub unwritten : WritesNothing before.told now.told
+  pub unwritten : AllStayWell before.told now.told
   pub spent : SpendsWithin before now old
   pub stopped : Moved before now old
 

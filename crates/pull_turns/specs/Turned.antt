@@ -7,7 +7,7 @@ use Rattle.chunk_core.specs.Elements.{Element, LoadKind, elements, kind_of}
 use Rattle.chunk_core.specs.declared.load.Load.{Load}
 use Rattle.chunk_core.specs.Outcomes.{End, Done, Fault, Outcomes}
 use Rattle.device_port.specs.Device.{DeviceTold}
-use Rattle.pull_turns.specs.Around.{Around, Goes, Keeps, LiesAsBefore, WritesNothing, gist}
+use Rattle.pull_turns.specs.Around.{Around, Goes, Keeps, LiesAsBefore, AllStayWell, gist}
 use Rattle.pull_turns.specs.Groups.{GaveGroup}
 use Rattle.pull_turns.specs.Piping.{StateMeaning, HasKind, PipesFit}
 use Rattle.pull_turns.specs.Rest.{IsRunOfRest, IsLive, IsReady, IsScopeOf, left, rows_left, scopes_left}
@@ -145,11 +145,11 @@ module _ {F : Type 0} (P : StateMeaning F) where
   IsCausedBy before now old new turn.Done = Unit {0}
   IsCausedBy before now old new (turn.Fault c) = Unit {0}
 
-  -- a turn was made in the scope s, with reads of at most n bytes; one that gave a load, or is the end and no fault, wrote nothing
+  -- a turn was made in the scope s, with reads of at most n bytes; one that gave a load, or is the end and no fault, wrote nothing, and nothing failed in it
   pub record Turned (before now : Around) (s n : ℕ) (old new : Rest F) (t : Turn) : Type 0 where
     pub moved : Moved before now old
     pub once : ReadsOnce before.told now.told n
-    pub writes : IsLoadOrDone t → WritesNothing before.told now.told
+    pub writes : IsLoadOrDone t → AllStayWell before.told now.told
     pub live : (p : ℕ) → IsLive p new → IsLive p old
     pub fewer : left new ≤ left old
     pub spends : Spends before now old new

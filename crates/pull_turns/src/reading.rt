@@ -66,6 +66,7 @@ pub(crate) fn read_piece<G: Outside>(
     requires chunk { 0 < chunk }
     ensures piece { IfOk result (λ t. ReadsPiece (G.seen outside.old) (G.seen outside.new) chunk place given.old given.new t) }
     ensures place { OnErr result (ReadsPlace (G.seen outside.old) (G.seen outside.new) place) }
+    ensures well { OnErr result (((G.seen outside.new).told place).read_faults ≡ ((G.seen outside.old).told place).read_faults) }
     ensures fits { G.fits outside.new desk.new }
     ensures since { G.since outside.old desk.old outside.new desk.new }
 {

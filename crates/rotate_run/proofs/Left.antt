@@ -14,7 +14,7 @@ use Rattle.device_port.specs.Device.{DeviceTold, Place, faults_of, to_read}
 use Rattle.device_port.specs.Depot.{DepotTold, Files, IsUnknown, MayReturn, device_numbers, fresh}
 use Rattle.res_ledger.proofs.Mapped.{among_map}
 use Rattle.res_ledger.proofs.Permuted.{among_range, range_among, range_distinct}
-use Rattle.run_rules.specs.Devices.{OpensWhatIsThere, came_back}
+use Rattle.run_rules.specs.Devices.{KeepsToWhatIsThere, came_back}
 use Rattle.run_rules.specs.Facts.{at, first_numbers}
 use Rattle.run_rules.specs.Homes.{IsUntouched, is_tried}
 use Rattle.scope_tree.specs.declared.branch.Spent.{Spent}
@@ -149,7 +149,7 @@ module _ (places : List Place) (old : DepotTold) (how : How) (ds : List DeviceTo
     may_return = may_go now (ap (λ (x : DepotTold). x.retired) made.is) now_more (λ r l. made.unknown r (omega (arith, l, size)))
 
     -- they came back
-    pub comes_back : (new : DepotTold) (back : List DeviceTold) → Exchanges now new [] back → IsPermutation ds back → AllByRecursion OpensWhatIsThere back → MadeComeBack old new places w
+    pub comes_back : (new : DepotTold) (back : List DeviceTold) → Exchanges now new [] back → IsPermutation ds back → AllByRecursion KeepsToWhatIsThere back → MadeComeBack old new places w
     comes_back new back e each there =
         let rows : List ℕ = first_numbers (length ds) in
         let both : Exchanges old new (made_places ++ []) ([] ++ back) = exchanges_then old now new made_places [] [] back made_exchange e in

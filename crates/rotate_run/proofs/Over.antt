@@ -19,7 +19,7 @@ use Rattle.res_ledger.specs.declared.event.What.{What}
 use Rattle.res_ledger.specs.Own.{closes, opens}
 use Rattle.row_seat.specs.declared.view.View.{View}
 use Rattle.row_seat.specs.Views.{IsLedgerOf}
-use Rattle.run_rules.specs.Devices.{OpensWhatIsThere}
+use Rattle.run_rules.specs.Devices.{KeepsToWhatIsThere}
 use Rattle.run_rules.specs.Ends.{act_count}
 use Rattle.run_rules.specs.Facts.{at, is_memory}
 use Rattle.run_rules.specs.Homes.{is_tried}
@@ -190,7 +190,7 @@ module _ {V : Type 0} (told : V → DeviceTold) (old : DepotTold) (path prefix :
     may_go_back = may_permuted now row_ds (devices_of told shelf unopened) permuted (may_return places old h row_ds q.stands.left path prefix ps now q.more q.count q.few q.made)
 
     -- and when they are back, it is over
-    pub is_over : ((d : V) → OpensWhatIsThere (told d)) → (new : DepotTold) → Returns now new (devices_of told shelf unopened) → o.ends ≡ (record { who = Inner 0; how = h }) ∷ [] → o.memory ≡ is_memory h → IsOver places n old new (home_of places old row_ds) h o
+    pub is_over : ((d : V) → KeepsToWhatIsThere (told d)) → (new : DepotTold) → Returns now new (devices_of told shelf unopened) → o.ends ≡ (record { who = Inner 0; how = h }) ∷ [] → o.memory ≡ is_memory h → IsOver places n old new (home_of places old row_ds) h o
     is_over there new back ends memory =
         let each : IsPermutation row_ds back.back = IsPermutation-trans row_ds (devices_of told shelf unopened) back.back permuted back.each in
         let come = comes_back places old h row_ds q.stands.left path prefix ps now q.more q.count q.few q.made new back.back back.exchanges each (back_there told there shelf unopened back.back back.each) in

@@ -109,7 +109,7 @@ module _ (places : List Place) (n : ℕ) (old new : DepotTold) (w : ℕ → Devi
       numbers = tt;
       few = tt;
       in_turn = λ e. absurd (false≢true e);
-      outputs = subst (λ es. AreOutputs work no_values w [] 0 work.streams es) (sym q.ends) (record { pieces = []; end = end_of h; run = (refl, q.rotated); printed = refl; reported = reported_end h q.unhalted }, refl);
+      outputs = subst (λ es. AreOutputs work no_values w [] 0 work.streams es) (sym q.ends) (record { pieces = []; end = end_of h; run = inl (refl, q.rotated); printed = refl; reported = reported_end h q.unhalted }, refl);
       rest = refl;
     }
 

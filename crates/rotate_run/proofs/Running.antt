@@ -3,7 +3,7 @@ use Rattle.std.proofs.Common.{◌≡◌, ℕ, suc, ◌+◌, ◌≤◌, List, [],
 use Rattle.device_port.specs.declared.device.Mode.TheVariants as mode
 use Rattle.device_port.specs.Device.{DeviceTold, Place, to_read}
 use Rattle.device_port.specs.Depot.{DepotTold, IsUnknown, Makes, fresh}
-use Rattle.run_rules.specs.Devices.{OpensWhatIsThere}
+use Rattle.run_rules.specs.Devices.{KeepsToWhatIsThere}
 use Rattle.stream_parts.specs.Retire.{MayReturnAll, Returns, devices_of}
 use Rattle.cat_run.specs.Cat.{run_record_of}
 use Rattle.rotate_rules.specs.Pieces.{IsApart, rotate_places}
@@ -37,7 +37,7 @@ module _ {V : Type 0} (told : V → DeviceTold) (old now : DepotTold) (path pref
   may_retire = may_go_back told old path prefix n (rotate_places path prefix) (rotation_places path prefix apart) now q.how r.shelf (waiting_of r.unopened) r.outcome left_so
 
   -- and then its work is done
-  pub rotates_ran : ((d : V) → OpensWhatIsThere (told d)) → (new : DepotTold) → Returns now new (devices_of told r.shelf (waiting_of r.unopened)) → RotatesFiles path prefix n (run_record_of old new [] None [] r.outcome)
+  pub rotates_ran : ((d : V) → KeepsToWhatIsThere (told d)) → (new : DepotTold) → Returns now new (devices_of told r.shelf (waiting_of r.unopened)) → RotatesFiles path prefix n (run_record_of old new [] None [] r.outcome)
   rotates_ran there new back =
       let w : ℕ → DeviceTold = home_of (rotate_places path prefix) old (devices_by_row told left_so.spents (waiting_of r.unopened)) in
       let over : IsOver (rotate_places path prefix) n old new w q.how r.outcome =

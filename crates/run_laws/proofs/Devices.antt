@@ -1,5 +1,5 @@
 -- The devices of a run that is written out, by tests that are computed.
-use Rattle.std.proofs.Common.{◌≡◌, ◌≤◌, ℕ, Bool, true, nat_eq, nat_le, nat_lt, List, [], ◌∷◌, ◌++◌, map, length, filter, count_by, flat_map, Option, Some, None, refl, sym, subst}
+use Rattle.std.proofs.Common.{◌≡◌, ◌≤◌, ℕ, Bool, true, false, nat_eq, nat_le, nat_lt, List, [], ◌∷◌, ◌++◌, map, length, filter, count_by, flat_map, Option, Some, None, refl, sym, subst, arith}
 use Rattle.std.proofs.lemmas.Bool.{leb-true, ltb-true}
 use Rattle.std.proofs.lemmas.List.Sorted.{IsPermutation-refl}
 use Rattle.std.specs.List.{list_all as all, AllByRecursion}
@@ -14,7 +14,8 @@ use Rattle.device_port.specs.Device.{Place, DeviceTold}
 use Rattle.run_rules.specs.Devices.{AreAsMany, DevicesAccounted, IsRowBelow, IsShut, IsWrittenBy, StandAsOften, is_closed_with, named, numbered, place_of_row}
 use Rattle.run_rules.specs.Facts.{acquired_row, ended_row, failed_row, is_place}
 use Rattle.run_laws.specs.LedgerTests.{is_shut}
-use Rattle.run_laws.specs.Written.{Listing, files_of}
+use Rattle.run_laws.specs.Written.{Listing, files_of, read_device}
+use Rattle.run_laws.proofs.Deciding.{each_so}
 use Rattle.run_laws.proofs.Performing.{by_exit}
 use Rattle.run_laws.proofs.RowsTested.{shut_so}
 
@@ -22,6 +23,14 @@ use Rattle.run_laws.proofs.RowsTested.{shut_so}
 each_by : {A : Type 0} (P : A → Type 0) (test : A → Bool) → ((x : A) → test x ≡ true → P x) → (xs : List A) → all test xs ≡ true → AllByRecursion P xs
 each_by P test h [] e = tt
 each_by P test h (x ∷ xs) e = let b = both (test x) (all test xs) e in (h x b.0, each_by P test h xs b.1)
+
+-- a device that was read to the end of its content is shut
+pub read_shut : (n : ℕ) (path bytes : List ℕ) (x : Exit) (ended : Bool) → IsShut (record (read_device n path bytes x) { ended = ended })
+read_shut n path bytes x ended = record { shut = refl; closes = refl; once = omega arith; there = λ m missing. absurd (let no : Some true ≡ Some false = missing in cc); within = omega arith }
+
+-- devices that are shut pass the test
+pub shut_passes : (ds : List DeviceTold) → AllByRecursion IsShut ds → all is_shut ds ≡ true
+shut_passes ds each = (each_so is_shut IsShut shut_so ds).1 each
 
 abbrev stand_as_often : List Place → List Place → Bool
 stand_as_often xs ys = all (λ p. nat_eq (count_by (is_place p) xs) (count_by (is_place p) ys)) (xs ++ ys)

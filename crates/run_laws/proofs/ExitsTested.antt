@@ -27,12 +27,13 @@ use Rattle.run_rules.specs.Exits.{ClosesWith, HasExit, HasOneExit, HaveExits, Is
 use Rattle.run_rules.specs.Facts.{is_halted, is_memory}
 use Rattle.run_rules.specs.Homes.{HaveHomes}
 use Rattle.run_rules.specs.Memory.{IsWanting}
-use Rattle.run_rules.specs.Outputs.{AreOutputs, HaveOutputs, IsReported, elements_in_pieces}
+use Rattle.run_rules.specs.Outputs.{AreOutputs, HaveOutputs, IsReported, RunsOrLeft, elements_in_pieces}
 use Rattle.run_rules.specs.Run.{Ran}
 use Rattle.run_rules.specs.Wholeness.{IsWholeRun, NothingFailed}
 use Rattle.run_rules.specs.Work.{Opener, RunRecord, Stream, Values, Work, inner_ends, names_from, names_of}
 use Rattle.run_laws.specs.EndTests.{closes_with, has_one_exit, is_exit_hidden, is_silenced, tell_exit, tells_exit}
 use Rattle.run_laws.specs.Laws.{work_of}
+use Rattle.run_laws.proofs.WorksLeft.{MayBeLeft}
 use Rattle.run_laws.proofs.Deciding.{Decides-to, always, and_so, each_so, flag, halted_so, memory_so, not_so, or_so, same_stream_so, some_so}
 use Rattle.run_laws.proofs.EndsTested.{silenced_so}
 
@@ -42,7 +43,7 @@ exit_hidden_so work c e = Decides-to (is_exit_hidden work c e) (λ t. record { b
     (and_so (not (same_stream e.who Outer)) (is_halted e.how && (is_silenced work c || c.memory)) (not_so (same_stream e.who Outer) (same_stream_so e.who Outer))
     (and_so (is_halted e.how) (is_silenced work c || c.memory) (halted_so e.how) (or_so (is_silenced work c) c.memory (silenced_so work c) (flag c.memory)))))
 
-exit_same_so : (x y : Exit) → Decides (same_exit x y) (x ≡ y)
+pub exit_same_so : (x y : Exit) → Decides (same_exit x y) (x ≡ y)
 exit_same_so x y = (λ h. exit_is x y h, λ e. subst (λ z. same_exit x z ≡ true) e (exit_same x))
 
 closes_so : (k : StreamNo) (h : How) (s : ℕ) (y : Exit) → Decides (closes_with k (exit_of h) s y) (ClosesWith (record { who = k; how = h }) s y)
@@ -117,6 +118,13 @@ reported_end how.Memory = (Cut, inr refl)
 pub any_run : (o : Option Opener) (ss : List Stream) (v : Values) (w : ℕ → DeviceTold) (who : StreamNo) (h : How) → EndsSo (work_of o ss) v w who h
 any_run o ss v w who h = λ k q. let r = reported_end h in ([], r.0, tt, r.1)
 
+-- stream k has this run, and ended so
+pub ends_at : (work : Work) (v : Values) (w : ℕ → DeviceTold) (k : ℕ) (ys : List Element) (e : End) (h : How) → work.runs k v w ys e → IsReported e h → EndsSo work v w (Inner k) h
+ends_at work v w k ys e h run told j q = subst (λ i. (zs : List Element) × (end : End) × work.runs i v w zs end × IsReported end h) (number k j q) (ys, e, run, told)
+  where
+    number : (i j : ℕ) → Inner i ≡ Inner j → i ≡ j
+    number i j q = cc
+
 -- the outer stream is none of those that a work runs
 pub outer_ends : (work : Work) (v : Values) (w : ℕ → DeviceTold) (h : How) → EndsSo work v w Outer h
 outer_ends work v w h k q = let x : ⊥ = cc in absurd x
@@ -125,29 +133,33 @@ module _ (work : Work) (c : RunRecord) (v : Values) (w : ℕ → DeviceTold) whe
   pub exits_pass : HaveExits work c v w → all (has_one_exit work c) c.ends ≡ true
   exits_pass h = each_passes (has_one_exit work c) c.ends (λ e m. exit_passes work c v w e (among_each (HasOneExit work c v w) e c.ends h m))
 
-  abbrev Ended : EndOf → Type 0
+  abbrev pub Ended : EndOf → Type 0
   Ended e = EndsSo work v w e.who e.how
 
   inner_is : (j k : ℕ) → Inner j ≡ Inner k → j ≡ k
   inner_is j k e = cc
 
+  ran_or_left : MayBeLeft work → (k : ℕ) (ys : List Element) (e : End) → RunsOrLeft (work.runs k v w) ys e → work.runs k v w ys e
+  ran_or_left leaves k ys e (inl r) = r
+  ran_or_left leaves k ys e (inr (cut, (more, g, r))) = subst (λ x. work.runs k v w ys x) (sym cut) (leaves v w k ys more g r)
+
   -- the runs of the outputs have the ends that are reported
-  inner_ended : (k : ℕ) (ss : List Stream) (es : List EndOf) → map (λ (e : EndOf). e.who) es ≡ names_from k ss → AreOutputs work v w c.frames k ss es → AllByRecursion Ended es
-  inner_ended k [] [] n o = tt
-  inner_ended k [] (e ∷ es) n o = let x : ⊥ = cc in absurd x
-  inner_ended k (s ∷ ss) [] n o = tt
-  inner_ended k (s ∷ ss) (e ∷ es) n o =
+  inner_ended : MayBeLeft work → (k : ℕ) (ss : List Stream) (es : List EndOf) → map (λ (e : EndOf). e.who) es ≡ names_from k ss → AreOutputs work v w c.frames k ss es → AllByRecursion Ended es
+  inner_ended leaves k [] [] n o = tt
+  inner_ended leaves k [] (e ∷ es) n o = let x : ⊥ = cc in absurd x
+  inner_ended leaves k (s ∷ ss) [] n o = tt
+  inner_ended leaves k (s ∷ ss) (e ∷ es) n o =
       let who : e.who ≡ Inner k = cc in
       let rest : map (λ (x : EndOf). x.who) es ≡ names_from (suc k) ss = cc in
       let next : suc k ≡ k + 1 = omega arith in (
-        λ j q. subst (λ i. (ys : List Element) × (end : End) × work.runs i v w ys end × IsReported end e.how) (inner_is k j (sym who ∙ q)) (elements_in_pieces o.0.pieces, o.0.end, o.0.run, o.0.reported),
-        inner_ended (k + 1) ss es (subst (λ i. map (λ (x : EndOf). x.who) es ≡ names_from i ss) next rest) o.1,
+        λ j q. subst (λ i. (ys : List Element) × (end : End) × work.runs i v w ys end × IsReported end e.how) (inner_is k j (sym who ∙ q)) (elements_in_pieces o.0.pieces, o.0.end, ran_or_left leaves k (elements_in_pieces o.0.pieces) o.0.end o.0.run, o.0.reported),
+        inner_ended leaves (k + 1) ss es (subst (λ i. map (λ (x : EndOf). x.who) es ≡ names_from i ss) next rest) o.1,
       )
 
-  all_ended : map (λ (e : EndOf). e.who) c.ends ≡ names_of work → AreOutputs work v w c.frames 0 work.streams (inner_ends work c.ends) → AllByRecursion Ended c.ends
-  all_ended = (elim work.opener as (λ p. map (λ (e : EndOf). e.who) c.ends ≡ (elim p [ Some o ↦ Outer ∷ names_from 0 work.streams | None ↦ names_from 0 work.streams ]) → AreOutputs work v w c.frames 0 work.streams (elim p [ Some o ↦ drop 1 c.ends | None ↦ c.ends ]) → AllByRecursion Ended c.ends) [
+  all_ended : MayBeLeft work → map (λ (e : EndOf). e.who) c.ends ≡ names_of work → AreOutputs work v w c.frames 0 work.streams (inner_ends work c.ends) → AllByRecursion Ended c.ends
+  all_ended leaves = (elim work.opener as (λ p. map (λ (e : EndOf). e.who) c.ends ≡ (elim p [ Some o ↦ Outer ∷ names_from 0 work.streams | None ↦ names_from 0 work.streams ]) → AreOutputs work v w c.frames 0 work.streams (elim p [ Some o ↦ drop 1 c.ends | None ↦ c.ends ]) → AllByRecursion Ended c.ends) [
     | Some o ↦ behind c.ends
-    | None ↦ inner_ended 0 work.streams c.ends
+    | None ↦ inner_ended leaves 0 work.streams c.ends
   ])
     where
       behind : (es : List EndOf) → map (λ (e : EndOf). e.who) es ≡ Outer ∷ names_from 0 work.streams → AreOutputs work v w c.frames 0 work.streams (drop 1 es) → AllByRecursion Ended es
@@ -155,7 +167,7 @@ module _ (work : Work) (c : RunRecord) (v : Values) (w : ℕ → DeviceTold) whe
       behind (e ∷ es) n o =
           let who : e.who ≡ Outer = cc in
           let rest : map (λ (x : EndOf). x.who) es ≡ names_from 0 work.streams = cc in
-          (subst (λ s. EndsSo work v w s e.how) (sym who) (outer_ends work v w e.how), inner_ended 0 work.streams es rest o)
+          (subst (λ s. EndsSo work v w s e.how) (sym who) (outer_ends work v w e.how), inner_ended leaves 0 work.streams es rest o)
 
   -- where memory was wanting, an end says so
   abbrev remembers : Bool
@@ -165,14 +177,18 @@ module _ (work : Work) (c : RunRecord) (v : Values) (w : ℕ → DeviceTold) whe
   remembered t m = let f = any_found (λ (e : EndOf). is_memory e.how) c.ends (⊎_elim (λ n. absurd (no c.memory n m)) (λ y. y) (either (not c.memory) (any (λ (e : EndOf). is_memory e.how) c.ends) t)) in (f.0, f.1, inl ((memory_so f.0.how).0 f.2))
 
   -- the streams ran, where what they noted of exits tells of the ends that are reported, and an end says where memory was wanting
-  pub ran_by : HaveHomes work c v w → HaveOutputs work c v w → HaveEnds work c w → (all (λ e. tell_exit c e.who (exit_of e.how)) c.ends && remembers) ≡ true → (c.memory ≡ false → NothingFailed work c v w → IsWholeRun work c v w) → Ran work c
-  ran_by rows outputs ends told completeness = record {
+  pub ran_so : AllByRecursion Ended c.ends → HaveHomes work c v w → HaveOutputs work c v w → HaveEnds work c w → (all (λ e. tell_exit c e.who (exit_of e.how)) c.ends && remembers) ≡ true → (c.memory ≡ false → NothingFailed work c v w → IsWholeRun work c v w) → Ran work c
+  ran_so ended rows outputs ends told completeness = record {
     values = v;
     home = w;
     rows = rows;
     outputs = outputs;
     ends = ends;
-    exits = each_among (HasOneExit work c v w) c.ends (λ e m. told_as_reported work c v w e (among_each Ended e c.ends (all_ended ends.named outputs.outputs) m) (all_at (λ (x : EndOf). tell_exit c x.who (exit_of x.how)) e c.ends m (both (all (λ x. tell_exit c x.who (exit_of x.how)) c.ends) remembers told).0));
+    exits = each_among (HasOneExit work c v w) c.ends (λ e m. told_as_reported work c v w e (among_each Ended e c.ends ended m) (all_at (λ (x : EndOf). tell_exit c x.who (exit_of x.how)) e c.ends m (both (all (λ x. tell_exit c x.who (exit_of x.how)) c.ends) remembers told).0));
     wanting = remembered (both (all (λ x. tell_exit c x.who (exit_of x.how)) c.ends) remembers told).1;
     completeness = completeness;
   }
+
+  -- the same of streams that may be left
+  pub ran_by : MayBeLeft work → HaveHomes work c v w → HaveOutputs work c v w → HaveEnds work c w → (all (λ e. tell_exit c e.who (exit_of e.how)) c.ends && remembers) ≡ true → (c.memory ≡ false → NothingFailed work c v w → IsWholeRun work c v w) → Ran work c
+  ran_by leaves rows outputs ends told completeness = ran_so (all_ended leaves ends.named outputs.outputs) rows outputs ends told completeness

@@ -1,10 +1,10 @@
 -- A run of one file did its work.
-use Rattle.std.proofs.Common.{◌≡◌, ◌≢◌, ◌<◌, ℕ, zero, suc, Bool, true, false, ◌&&◌, ◌||◌, not, length, map, List, [], ◌∷◌, Some, None, Option, IfSome, inl, inr, refl, sym, ap, ◌∙◌, subst, arith}
+use Rattle.std.proofs.Common.{◌≡◌, ◌≢◌, ◌<◌, ◌≤◌, ℕ, zero, suc, Bool, true, false, ◌&&◌, ◌||◌, not, length, map, List, [], ◌∷◌, Some, None, Option, IfSome, inl, inr, refl, sym, ap, ◌∙◌, subst, arith}
 use Rattle.std.proofs.lemmas.Bool.{false≢true}
 use Rattle.std.proofs.lemmas.List.Sorted.{IsPermutation-refl}
 use Rattle.std.specs.List.{AllByRecursion}
 use Rattle.chunk_core.specs.Elements.{Element, rendering_of}
-use Rattle.chunk_core.specs.Outcomes.{Done, Fault, Outcomes, exit_of}
+use Rattle.chunk_core.specs.Outcomes.{Done, End, Fault, Outcomes, exit_of}
 use Rattle.chunk_core.specs.Tables.{no_values}
 use Rattle.chunk_core.specs.Texts.{Frame, payloads_of}
 use Rattle.chunk_core.specs.declared.code.Code.{Code}
@@ -21,7 +21,7 @@ use Rattle.device_port.specs.Device.{DeviceTold, faults_of, to_read}
 use Rattle.run_rules.specs.Devices.{AreAsMany, DevicesAccounted, is_closed_with}
 use Rattle.run_rules.specs.Ends.{IsShown, act_count}
 use Rattle.run_rules.specs.Facts.{ended_row, is_halted, is_memory}
-use Rattle.run_rules.specs.Outputs.{IsOutput, elements_in_pieces, payloads_by}
+use Rattle.run_rules.specs.Outputs.{IsOutput, IsReported, elements_in_pieces, payloads_by}
 use Rattle.run_rules.specs.Rules.{KeepsRules}
 use Rattle.run_rules.specs.Run.{Performs}
 use Rattle.run_rules.specs.Wholeness.{IsWholeRun, NothingFailed}
@@ -55,7 +55,7 @@ module _ (runs ideal : DeviceTold → Outcomes) where
   file_rules Errored = rules_by work (stamped 0 (file_events Errored)) refl refl refl refl refl (omega arith, (omega arith, tt)) refl refl
   file_rules Canceled = rules_by work (stamped 0 (file_events Canceled)) refl refl refl refl refl (omega arith, (omega arith, tt)) refl refl
 
-  module _ (bytes : List ℕ) (at : ℕ) (ended : Bool) (h : How) (frames : List Frame) where
+  module _ (bytes : List ℕ) (at : ℕ) (ended : Bool) (h : How) (frames : List Frame) (within : at ≤ length bytes) where
     abbrev c : RunRecord
     c = file_run bytes at ended h frames
 
@@ -75,7 +75,7 @@ module _ (runs ideal : DeviceTold → Outcomes) where
       few = (omega arith, tt);
       retired = refl;
       once = IsPermutation-refl _;
-      shut = (record { shut = refl; closes = refl; once = omega arith; there = λ m a. let x : ⊥ = cc in absurd x }, tt);
+      shut = (record { shut = refl; closes = refl; once = omega arith; there = λ m a. let x : ⊥ = cc in absurd x; within = within }, tt);
       rows = (tt, (tt, (omega arith, (tt, (tt, (tt, tt))))));
       acquired = (refl, (refl, tt));
       failed = tt;
@@ -85,8 +85,8 @@ module _ (runs ideal : DeviceTold → Outcomes) where
     }
 
     module _ (pieces : List (List Element)) (numbers : AllByRecursion (λ (f : Frame). (f.stream < 1) × (0 < length f.payload)) frames) (printed : payloads_by 0 frames ≡ map rendering_of pieces) (text : payloads_of 0 frames ≡ rendering_of (elements_in_pieces pieces)) where
-      performs_by : (output : IsOutput work no_values home frames 0 h) → is_halted h ≡ false → is_memory h ≡ false → IsShown (file_device bytes at ended h ∷ []) (to_read path_a ∷ []) h → (NothingFailed work c no_values home → IsWholeRun work c no_values home) → Performs work c
-      performs_by output going known shown whole = record {
+      performs_by : IsOutput work no_values home frames 0 h → ((ys : List Element) × (end : End) × work.runs 0 no_values home ys end × IsReported end h) → is_halted h ≡ false → is_memory h ≡ false → IsShown (file_device bytes at ended h ∷ []) (to_read path_a ∷ []) h → (NothingFailed work c no_values home → IsWholeRun work c no_values home) → Performs work c
+      performs_by output ran going known shown whole = record {
         devices = file_devices;
         ledger = file_rules (exit_of h);
         ran = inr (record {
@@ -102,7 +102,7 @@ module _ (runs ideal : DeviceTold → Outcomes) where
             begins = (begin_in_room_so work.opener work c).0 refl;
             memory = (memory_known_so c).0 (ap (λ b. not (b || false) || false) known);
           };
-          exits = (told_as_reported work c no_values home (record { who = Outer; how = how.Done }) (outer_ends work no_values home how.Done) refl, (record { how = h; same = inl refl; told = (tt, (refl, (tt, (refl, tt)))); ran = λ k q. (elements_in_pieces output.pieces, output.end, output.run, output.reported) }, tt));
+          exits = (told_as_reported work c no_values home (record { who = Outer; how = how.Done }) (outer_ends work no_values home how.Done) refl, (record { how = h; same = inl refl; told = (tt, (refl, (tt, (refl, tt)))); ran = λ k q. ran }, tt));
           wanting = λ m. absurd (false≢true m);
           completeness = λ m n. whole n;
         });
@@ -111,7 +111,8 @@ module _ (runs ideal : DeviceTold → Outcomes) where
       -- the stream is done
       pub file_done : h ≡ how.Done → runs (file_device bytes at ended h) (elements_in_pieces pieces) Done → ideal (file_device bytes at ended h) (elements_in_pieces pieces) Done → Performs work c
       file_done e run whole = performs_by
-          (record { pieces = pieces; end = Done; run = run; printed = printed; reported = e })
+          (record { pieces = pieces; end = Done; run = inl run; printed = printed; reported = e })
+          (elements_in_pieces pieces, Done, run, e)
           (ap is_halted e) (ap is_memory e)
           (subst (λ (g : How). IsShown (file_device bytes at ended h ∷ []) (to_read path_a ∷ []) g) (sym e) tt)
           (λ n. record { done = (refl, (e, tt)); clean = refl; listed = tt; output = ((elements_in_pieces pieces, whole, text), tt) })
@@ -123,7 +124,8 @@ module _ (runs ideal : DeviceTold → Outcomes) where
       -- the stream found a fault in what it was given
       pub file_fault : (f : Code) → h ≡ how.Fault f → act_count f ≡ None → runs (file_device bytes at ended h) (elements_in_pieces pieces) (Fault f) → ideal (file_device bytes at ended h) (elements_in_pieces pieces) (Fault f) → Performs work c
       file_fault f e plain run whole = performs_by
-          (record { pieces = pieces; end = Fault f; run = run; printed = printed; reported = e })
+          (record { pieces = pieces; end = Fault f; run = inl run; printed = printed; reported = e })
+          (elements_in_pieces pieces, Fault f, run, e)
           (ap is_halted e) (ap is_memory e)
           (subst (λ (g : How). IsShown (file_device bytes at ended h ∷ []) (to_read path_a ∷ []) g) (sym e) (no_act f plain (file_device bytes at ended h ∷ [])))
           (λ n. absurd (not_done f (n.ideal.0 home (elements_in_pieces pieces) (Fault f) (λ r. (faultless r, refl)) whole)))

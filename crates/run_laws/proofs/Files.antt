@@ -175,7 +175,7 @@ cut_line_end_right =
     let xs = bytes_of (codes "a\r\nb") in
     let ys = lines_of (path_a ∷ codes "b" ∷ []) in
     record {
-      performs = file_done (runs_of (pipe.Lines ∷ [])) (ideal_of (pipe.Lines ∷ [])) (codes "a\r\nb") 4 true how.Done cut_line_end.frames (lines_of (path_a ∷ []) ∷ lines_of (codes "b" ∷ []) ∷ []) ((omega arith, omega arith), ((omega arith, omega arith), tt)) refl refl refl
+      performs = file_done (runs_of (pipe.Lines ∷ [])) (ideal_of (pipe.Lines ∷ [])) (codes "a\r\nb") 4 true how.Done cut_line_end.frames (omega arith) (lines_of (path_a ∷ []) ∷ lines_of (codes "b" ∷ []) ∷ []) ((omega arith, omega arith), ((omega arith, omega arith), tt)) refl refl refl
           (inl (inl (refl, refl, inl (pipe_done pipe.Lines (Leaves (Reads d)) xs ys (inl (refl, (refl, omega arith, refl, refl))) cut_part cut_all))))
           (pipe_done pipe.Lines (ReadsWhole d) xs ys (inl (omega arith, refl, refl)) cut_part cut_all);
       printed = printed_cut_line_end;
@@ -186,7 +186,7 @@ whole_character_right =
     let d : DeviceTold = file_device euro 3 true how.Done in
     let xs = bytes_of euro in
     record {
-      performs = file_done (runs_of (pipe.Utf8 ∷ [])) (ideal_of (pipe.Utf8 ∷ [])) euro 3 true how.Done whole_character.frames (xs ∷ []) ((omega arith, omega arith), tt) refl refl refl
+      performs = file_done (runs_of (pipe.Utf8 ∷ [])) (ideal_of (pipe.Utf8 ∷ [])) euro 3 true how.Done whole_character.frames (omega arith) (xs ∷ []) ((omega arith, omega arith), tt) refl refl refl
           (inl (inl (refl, refl, inl (pipe_done pipe.Utf8 (Leaves (Reads d)) xs xs (inl (refl, (refl, omega arith, refl, refl))) euro_part euro_all))))
           (pipe_done pipe.Utf8 (ReadsWhole d) xs xs (inl (omega arith, refl, refl)) euro_part euro_all);
       printed = printed_whole_character;
@@ -197,7 +197,7 @@ truncated_character_right =
     let bytes : List ℕ = 97 ∷ 226 ∷ 130 ∷ [] in
     let d : DeviceTold = file_device bytes 3 true (how.Fault code.Truncated) in
     record {
-      performs = file_fault (runs_of (pipe.Utf8 ∷ [])) (ideal_of (pipe.Utf8 ∷ [])) bytes 3 true (how.Fault code.Truncated) truncated_character.frames ((bytes_of path_a) ∷ []) ((omega arith, omega arith), tt) refl refl code.Truncated refl refl
+      performs = file_fault (runs_of (pipe.Utf8 ∷ [])) (ideal_of (pipe.Utf8 ∷ [])) bytes 3 true (how.Fault code.Truncated) truncated_character.frames (omega arith) ((bytes_of path_a) ∷ []) ((omega arith, omega arith), tt) refl refl code.Truncated refl refl
           (inl (inl (refl, refl, inl (piped_at_end (part_of no_values pipe.Utf8) (all_of no_values pipe.Utf8) (Leaves (Reads d)) (bytes_of bytes) (bytes_of path_a) code.Truncated (inl (refl, (refl, omega arith, refl, refl))) truncated_part truncated_all))))
           (piped_at_end (part_of no_values pipe.Utf8) (all_of no_values pipe.Utf8) (ReadsWhole d) (bytes_of bytes) (bytes_of path_a) code.Truncated (inl (omega arith, refl, refl)) truncated_part truncated_all);
       printed = printed_truncated_character;
@@ -208,7 +208,7 @@ malformed_character_right =
     let bytes : List ℕ = 97 ∷ 255 ∷ [] in
     let d : DeviceTold = file_device bytes 2 false (how.Fault code.Malformed) in
     record {
-      performs = file_fault (runs_of (pipe.Utf8 ∷ [])) (ideal_of (pipe.Utf8 ∷ [])) bytes 2 false (how.Fault code.Malformed) malformed_character.frames ((bytes_of path_a) ∷ []) ((omega arith, omega arith), tt) refl refl code.Malformed refl refl
+      performs = file_fault (runs_of (pipe.Utf8 ∷ [])) (ideal_of (pipe.Utf8 ∷ [])) bytes 2 false (how.Fault code.Malformed) malformed_character.frames (omega arith) ((bytes_of path_a) ∷ []) ((omega arith, omega arith), tt) refl refl code.Malformed refl refl
           (inl (inl (refl, refl, inl (piped_before (part_of no_values pipe.Utf8) (all_of no_values pipe.Utf8) (Leaves (Reads d)) (bytes_of bytes) (bytes_of path_a) Cut code.Malformed (inl (refl, tt)) malformed_part))))
           (piped_before (part_of no_values pipe.Utf8) (all_of no_values pipe.Utf8) (ReadsWhole d) (bytes_of bytes) (bytes_of path_a) Done code.Malformed (inl (omega arith, refl, refl)) malformed_part);
       printed = printed_malformed_character;
@@ -221,7 +221,7 @@ lossy_hexadecimal_right =
     let ys = lines_of (codes "61efbfbdefbfbd62" ∷ []) in
     let d : DeviceTold = file_device bytes 5 true how.Done in
     record {
-      performs = file_done (runs_of (pipe.Lossy ∷ pipe.Hex ∷ [])) (ideal_of (pipe.Lossy ∷ pipe.Hex ∷ [])) bytes 5 true how.Done lossy_hexadecimal.frames (ys ∷ []) ((omega arith, omega arith), tt) refl refl refl
+      performs = file_done (runs_of (pipe.Lossy ∷ pipe.Hex ∷ [])) (ideal_of (pipe.Lossy ∷ pipe.Hex ∷ [])) bytes 5 true how.Done lossy_hexadecimal.frames (omega arith) (ys ∷ []) ((omega arith, omega arith), tt) refl refl refl
           (inl (inl (
             refl,
             refl,
@@ -246,7 +246,7 @@ filtered_log_right =
     let H = ThroughPipe G pipe.Lines in
     let I = ThroughPipe H (pipe.Filter (codes "ERROR")) in
     record {
-      performs = file_done (runs_of ps) (ideal_of ps) log_text 39 true how.Done filtered_log.frames (log_numbered ∷ []) ((omega arith, omega arith), tt) refl refl refl
+      performs = file_done (runs_of ps) (ideal_of ps) log_text 39 true how.Done filtered_log.frames (omega arith) (log_numbered ∷ []) ((omega arith, omega arith), tt) refl refl refl
           (inl (inl (
             refl,
             refl,
@@ -263,7 +263,7 @@ taker_stops_right =
     let ys = lines_of (path_a ∷ codes "b" ∷ []) in
     let d : DeviceTold = file_device bytes 4 false how.Done in
     record {
-      performs = file_done (λ d. InFile d (Taken 2 (Leaves (ThroughPipe (Leaves (Reads d)) pipe.Lines)))) (λ d. Taken 2 (ThroughPipe (ReadsWhole d) pipe.Lines)) bytes 4 false how.Done taker_stops.frames (ys ∷ []) ((omega arith, omega arith), tt) refl refl refl
+      performs = file_done (λ d. InFile d (Taken 2 (Leaves (ThroughPipe (Leaves (Reads d)) pipe.Lines)))) (λ d. Taken 2 (ThroughPipe (ReadsWhole d) pipe.Lines)) bytes 4 false how.Done taker_stops.frames (omega arith) (ys ∷ []) ((omega arith, omega arith), tt) refl refl refl
           (inl (inl (refl, refl, inl (ys, Cut, inl (piped_left (part_of no_values pipe.Lines) (all_of no_values pipe.Lines) (Leaves (Reads d)) (bytes_of bytes) ys (inl (refl, tt)) taken_part_fault taken_part), inl (omega arith, refl, refl)))))
           (ys, Done, pipe_done pipe.Lines (ReadsWhole d) (bytes_of bytes) ys (inl (omega arith, refl, refl)) taken_part_fault taken_all, inl (omega arith, refl, refl));
       printed = printed_taker_stops;
@@ -275,7 +275,7 @@ second_field_right =
     let ys = lines_of (codes "c" ∷ []) in
     let d : DeviceTold = file_device bytes 8 true how.Done in
     record {
-      performs = file_done (λ d. InFile d (Gathered (Leaves (Reads d)) (without_fault ys))) (λ d. Gathered (ReadsWhole d) (without_fault ys)) bytes 8 true how.Done second_field.frames (ys ∷ []) ((omega arith, omega arith), tt) refl refl refl
+      performs = file_done (λ d. InFile d (Gathered (Leaves (Reads d)) (without_fault ys))) (λ d. Gathered (ReadsWhole d) (without_fault ys)) bytes 8 true how.Done second_field.frames (omega arith) (ys ∷ []) ((omega arith, omega arith), tt) refl refl refl
           (inl (inl (refl, refl, inl (bytes_of bytes, Done, inl (refl, (refl, omega arith, refl, refl)), (refl, refl)))))
           (bytes_of bytes, Done, inl (omega arith, refl, refl), (refl, refl));
       printed = printed_second_field;
@@ -287,7 +287,7 @@ uneven_records_right =
     let ys = Row (path_a ∷ codes "b" ∷ []) ∷ [] in
     let d : DeviceTold = file_device bytes 6 true (how.Fault code.Uneven) in
     record {
-      performs = file_fault (λ d. InFile d (Gathered (Leaves (Reads d)) (failed ys code.Uneven))) (λ d. Gathered (ReadsWhole d) (failed ys code.Uneven)) bytes 6 true (how.Fault code.Uneven) uneven_records.frames (ys ∷ []) ((omega arith, omega arith), tt) (ap (λ t. t ∷ []) uneven_printed) uneven_printed code.Uneven refl refl
+      performs = file_fault (λ d. InFile d (Gathered (Leaves (Reads d)) (failed ys code.Uneven))) (λ d. Gathered (ReadsWhole d) (failed ys code.Uneven)) bytes 6 true (how.Fault code.Uneven) uneven_records.frames (omega arith) (ys ∷ []) ((omega arith, omega arith), tt) (ap (λ t. t ∷ []) uneven_printed) uneven_printed code.Uneven refl refl
           (inl (inl (refl, refl, inl (bytes_of bytes, Done, inl (refl, (refl, omega arith, refl, refl)), (refl, refl)))))
           (bytes_of bytes, Done, inl (omega arith, refl, refl), (refl, refl));
       printed = printed_uneven_records;

@@ -21,6 +21,7 @@ use Rattle.run_laws.specs.Tables.{a_csv, keys_bytes, looked_up_in, lookup_device
 use Rattle.run_laws.specs.Written.{IsRightRun, homes_of, read_device}
 use Rattle.run_laws.proofs.Devices.{accounted}
 use Rattle.run_laws.proofs.EndsTested.{unbounded}
+use Rattle.run_laws.proofs.WorksLeft.{lookup_left, lookups_left}
 use Rattle.run_laws.proofs.ExitsTested.{ran_by}
 use Rattle.run_laws.proofs.GivingTested.{outer_by, rules_by}
 use Rattle.run_laws.proofs.Performing.{by_content, read_only, values_of}
@@ -50,9 +51,9 @@ grouped_right = record {
     devices = accounted lookup_devices (to_read t_csv ∷ to_read a_csv ∷ []) grouped.events lookup_files lookup_files refl refl refl refl refl refl refl refl refl (λ path. inr refl)
         (read_only grouped.depot_new.files (read_device 0 t_csv table_bytes Succeeded) refl, (read_only grouped.depot_new.files (read_device 1 a_csv keys_bytes Succeeded) refl, tt));
     ledger = rules_by group_work grouped.events refl refl refl refl refl (omega arith, (omega arith, tt)) refl refl;
-    ran = inr (ran_by group_work grouped (values_of lookup_devices) (homes_of lookup_devices)
+    ran = inr (ran_by group_work grouped (values_of lookup_devices) (homes_of lookup_devices) lookup_left
         (record { at_home = (refl, refl, inl (here _), (refl, refl, inl (there _ (here _)), tt)); apart = test_distinct (0 ∷ 1 ∷ []) refl; tied = (tt, (refl, (tt, (tt, (tt, (refl, (tt, ((refl, refl), (tt, ((refl, refl), tt)))))))))); values = λ t key l. by_content (homes_of lookup_devices t).content key; alone = (left_alone_so group_work grouped (homes_of lookup_devices)).0 refl; housed = housed_by group_work grouped (homes_of lookup_devices) ((0, omega arith, refl), ((1, omega arith, refl), tt)) })
-        (record { numbers = ((omega arith, omega arith), tt); few = tt; in_turn = λ t. (never_fall_so (begun_frames grouped)).0 refl; outputs = (record { pieces = (looked_up_in 0 (values_of lookup_devices)).list ∷ []; end = Done; run = inl (inl (refl, refl, inl (keys, Done, inl (refl, (refl, omega arith, refl, refl)), (refl, refl)))); printed = ap (λ t. t ∷ []) row_texts; reported = refl }, refl); rest = refl })
+        (record { numbers = ((omega arith, omega arith), tt); few = tt; in_turn = λ t. (never_fall_so (begun_frames grouped)).0 refl; outputs = (record { pieces = (looked_up_in 0 (values_of lookup_devices)).list ∷ []; end = Done; run = inl (inl (inl (refl, refl, inl (keys, Done, inl (refl, (refl, omega arith, refl, refl)), (refl, refl))))); printed = ap (λ t. t ∷ []) row_texts; reported = refl }, refl); rest = refl })
         (ends_by group_work grouped (homes_of lookup_devices) refl refl
         (outer_by ((record { acquired = (Outer, 1, (_, there _ (here _), refl, refl)); back = here _; ended = refl; unfailed = refl; whole = (refl, refl) }, tt), refl, tt)
         ((record { acquired = (Outer, 1, (_, there _ (here _), refl, refl)); back = here _; ended = refl; unfailed = refl; whole = (refl, refl) }, tt), tt) refl tt tt unbounded)
@@ -71,7 +72,7 @@ pair_right =
         devices = accounted pair_devices (to_read t_csv ∷ to_read u_csv ∷ to_read a_csv ∷ to_read b_csv ∷ []) pair.events pair_files pair_files refl refl refl refl refl refl refl refl refl (λ path. inr refl)
             (read_only pair.depot_new.files (read_device 0 t_csv table_bytes Succeeded) refl, (read_only pair.depot_new.files (read_device 1 u_csv (codes "k,w\n") Succeeded) refl, (read_only pair.depot_new.files (read_device 2 a_csv keys_bytes Succeeded) refl, (read_only pair.depot_new.files (read_device 3 b_csv keys_bytes Succeeded) refl, tt))));
         ledger = rules_by pair_work pair.events refl refl refl refl refl (omega arith, (omega arith, (omega arith, tt))) refl refl;
-        ran = inr (ran_by pair_work pair v (homes_of pair_devices)
+        ran = inr (ran_by pair_work pair v (homes_of pair_devices) (lookups_left (part 1 2 ∷ []))
             (record {
               at_home = (refl, refl, inl (here _), (refl, refl, inl (there _ (here _)), (refl, refl, inl (there _ (there _ (here _))), (refl, refl, inl (there _ (there _ (there _ (here _)))), tt))));
               apart = test_distinct (0 ∷ 1 ∷ 2 ∷ 3 ∷ []) refl;
@@ -85,8 +86,8 @@ pair_right =
               few = tt;
               in_turn = λ t. (never_fall_so (begun_frames pair)).0 refl;
               outputs = (
-                record { pieces = (looked_up_in 0 v).list ∷ []; end = Done; run = inl (inl (refl, refl, inl (keys, Done, inl (refl, (refl, omega arith, refl, refl)), (refl, refl)))); printed = ap (λ t. t ∷ []) row_texts; reported = refl },
-                (record { pieces = (looked_up_in 1 v).list ∷ []; end = Done; run = inl (inl (refl, refl, inl (keys, Done, inl (refl, (refl, omega arith, refl, refl)), (refl, refl)))); printed = ap (λ t. t ∷ []) second_texts; reported = refl }, refl),
+                record { pieces = (looked_up_in 0 v).list ∷ []; end = Done; run = inl (inl (inl (refl, refl, inl (keys, Done, inl (refl, (refl, omega arith, refl, refl)), (refl, refl))))); printed = ap (λ t. t ∷ []) row_texts; reported = refl },
+                (record { pieces = (looked_up_in 1 v).list ∷ []; end = Done; run = inl (inl (inl (refl, refl, inl (keys, Done, inl (refl, (refl, omega arith, refl, refl)), (refl, refl))))); printed = ap (λ t. t ∷ []) second_texts; reported = refl }, refl),
               );
               rest = refl;
             })

@@ -1,6 +1,8 @@
 pub mod Deciding
 pub mod EndsTested
+pub mod TurnsTested
 pub mod RoomTested
+pub mod WorksLeft
 pub mod ExitsTested
 pub mod Tested
 pub mod GivingTested
@@ -25,6 +27,7 @@ pub mod Unacceptable
 pub mod UnfitGroups
 pub mod ListFaults
 pub mod UnfitLists
+pub mod Untold
 pub mod Left
 pub mod Given
 pub mod Plain

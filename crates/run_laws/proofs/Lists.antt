@@ -26,6 +26,7 @@ use Rattle.run_laws.specs.Tables.{path_b}
 use Rattle.run_laws.specs.Written.{IsRightRun, homes_of, idle_device, read_device}
 use Rattle.run_laws.proofs.Devices.{accounted}
 use Rattle.run_laws.proofs.EndsTested.{unbounded}
+use Rattle.run_laws.proofs.WorksLeft.{listing_left}
 use Rattle.run_laws.proofs.ExitsTested.{ran_by}
 use Rattle.run_laws.proofs.GivingTested.{outer_by, rules_by}
 use Rattle.run_laws.proofs.ListRuns.{bad_lines, bad_spelled, ideal_list, left_list, none_ended, two_ended, two_lines, two_spelled, whole_list}
@@ -62,7 +63,7 @@ two_listed_right = record {
     devices = accounted list_devices (to_read path_l ∷ to_read path_a ∷ to_read path_b ∷ []) two_listed.events (list_files list_bytes) (list_files list_bytes) refl refl refl refl refl refl refl refl refl (λ path. inr refl)
         (read_only two_listed.depot_new.files list_device refl, (read_only two_listed.depot_new.files (read_device 1 path_a (codes "x\n") Succeeded) refl, (read_only two_listed.depot_new.files (read_device 2 path_b (codes "y\n") Succeeded) refl, tt)));
     ledger = rules_by (list_work (path_a ∷ path_b ∷ [])) two_listed.events refl refl refl refl refl (omega arith, (omega arith, (omega arith, tt))) refl refl;
-    ran = inr (ran_by (list_work (path_a ∷ path_b ∷ [])) two_listed no_values homes
+    ran = inr (ran_by (list_work (path_a ∷ path_b ∷ [])) two_listed no_values homes (listing_left [] (lister 4096 64 (path_a ∷ path_b ∷ [])))
         (record {
           at_home = (refl, refl, inl (here _), (refl, refl, inl (there _ (here _)), (refl, refl, inl (there _ (there _ (here _))), tt)));
           apart = test_distinct (0 ∷ 1 ∷ 2 ∷ []) refl;
@@ -76,8 +77,8 @@ two_listed_right = record {
           few = tt;
           in_turn = λ t. (never_fall_so (begun_frames two_listed)).0 refl;
           outputs = (
-            record { pieces = bytes_of (codes "x\n") ∷ []; end = Done; run = inl (inl (refl, refl, inl (refl, (refl, omega arith, refl, refl)))); printed = refl; reported = refl },
-            (record { pieces = bytes_of (codes "y\n") ∷ []; end = Done; run = inl (inl (refl, refl, inl (refl, (refl, omega arith, refl, refl)))); printed = refl; reported = refl }, refl),
+            record { pieces = bytes_of (codes "x\n") ∷ []; end = Done; run = inl (inl (inl (refl, refl, inl (refl, (refl, omega arith, refl, refl))))); printed = refl; reported = refl },
+            (record { pieces = bytes_of (codes "y\n") ∷ []; end = Done; run = inl (inl (inl (refl, refl, inl (refl, (refl, omega arith, refl, refl))))); printed = refl; reported = refl }, refl),
           );
           rest = refl;
         })
@@ -119,7 +120,7 @@ module _ (most : ℕ) (c : Code) (fails : listing_of most is_no_path bad_lines C
   bad_performs caused = record {
     devices = accounted (bad_device ∷ []) (to_read path_l ∷ to_read path_a ∷ []) (bad_run c).events (list_files bad_bytes) (list_files bad_bytes) refl refl refl refl refl refl refl refl refl (λ path. inr refl) (read_only (bad_run c).depot_new.files bad_device refl, tt);
     ledger = rules_by bad_work (bad_run c).events refl refl refl refl refl (omega arith, (omega arith, tt)) refl refl;
-    ran = inr (ran_by bad_work (bad_run c) no_values bad_homes
+    ran = inr (ran_by bad_work (bad_run c) no_values bad_homes (listing_left [] (lister 4096 most (path_a ∷ [])))
         (record {
           at_home = (refl, refl, inl (here _), (refl, refl, inr (record { opens = refl; at = refl; written = refl; faults = refl }), tt));
           apart = test_distinct (0 ∷ []) refl;
@@ -128,10 +129,10 @@ module _ (most : ℕ) (c : Code) (fails : listing_of most is_no_path bad_lines C
           alone = (left_alone_so bad_work (bad_run c) bad_homes).0 refl;
           housed = housed_by bad_work (bad_run c) bad_homes ((0, omega arith, refl), tt);
         })
-        (record { numbers = tt; few = tt; in_turn = λ t. (never_fall_so (begun_frames (bad_run c))).0 refl; outputs = (record { pieces = []; end = Cut; run = inr (refl, inl (refl, tt)); printed = refl; reported = inl refl }, refl); rest = refl })
+        (record { numbers = tt; few = tt; in_turn = λ t. (never_fall_so (begun_frames (bad_run c))).0 refl; outputs = (record { pieces = []; end = Cut; run = inl (inr (refl, inl (refl, tt))); printed = refl; reported = inl refl }, refl); rest = refl })
         (ends_by bad_work (bad_run c) bad_homes refl caused
         (outer_by
-        (inr (tt, (lister 4096 most (path_a ∷ []), refl, here _, (bad_lines, Cut, left_list bad_bytes bad_lines bad_spelled bad_device refl refl (refl, tt), fails))))
+        (inr (tt, (lister 4096 most (path_a ∷ []), refl, here _, (bad_lines, Cut, left_list bad_bytes bad_lines bad_spelled bad_device refl refl (refl, tt), fails), inr (refl, inr refl))))
         (tt, tt) refl (λ t. tt)
         (record { leased = ((Outer, 1, (_, there _ (there _ (here _)), refl, refl)), tt); in_time = record { needed = omega (arith, none_ended); ended = λ t. absurd (false≢true t) } })
         unbounded)

@@ -11,13 +11,15 @@ use Rattle.chunk_core.specs.Outcomes.{Cut, Done, Fault}
 use Rattle.chunk_core.specs.Texts.{frames_text}
 use Rattle.chunk_core.specs.declared.code.Code.TheVariants as code
 use Rattle.chunk_core.specs.declared.code.Exit.TheVariants.{Succeeded, Errored}
+use Rattle.chunk_core.specs.declared.code.How.TheVariants as how
 use Rattle.chunk_core.proofs.Distinct.{test_distinct}
 use Rattle.res_ledger.specs.declared.event.StreamNo.TheVariants.{Outer}
 use Rattle.device_port.specs.Device.{DeviceTold, Place, to_read, to_write}
 use Rattle.pull_nodes.specs.Lines.{without_pairs, ended_lines, open_line}
 use Rattle.chunk_core.specs.Tables.{no_values}
 use Rattle.pull_nodes.specs.Pipes.{part_of, all_of}
-use Rattle.pull_nodes.specs.Runs.{OpensThen, Reads}
+use Rattle.pull_nodes.specs.Failures.{FileTells, TellsInTurn}
+use Rattle.pull_nodes.specs.Runs.{IsFault, OpensThen, Reads}
 use Rattle.pull_nodes.specs.declared.pipe.Pipe.TheVariants as pipe
 use Rattle.run_rules.specs.Devices.{IsWrittenBy}
 use Rattle.run_rules.specs.Texts.{tail_text}
@@ -25,13 +27,14 @@ use Rattle.run_rules.specs.Work.{begun_frames}
 use Rattle.run_laws.specs.Files.{path_a}
 use Rattle.run_laws.specs.Others.{Handles, u_csv, table_files, two_listing, x_device, hello, no_streams, silent_work, stopped_work, handled_work, copy_work, two_tables, nothing_described, silent, stopped, handled, copied, uncopied, two_tables_text, nothing_described_text, silent_text, stopped_text, handled_text, copied_text, uncopied_text}
 use Rattle.run_laws.specs.Tables.{path_b, t_csv, table_bytes}
-use Rattle.run_laws.specs.Streams.{Leaves, ThroughPipe}
+use Rattle.run_laws.specs.Streams.{Leaves, ThroughPipe, opener}
 use Rattle.run_laws.specs.Written.{IsRightRun, homes_of, idle_device, read_device, used_device}
 use Rattle.run_laws.proofs.Devices.{accounted}
 use Rattle.run_laws.proofs.Performing.{by_content, piped_fault, read_only, values_of}
 use Rattle.run_laws.proofs.EndsTested.{unbounded, unfinished}
 use Rattle.run_laws.proofs.RoomTested.{ends_by}
-use Rattle.run_laws.proofs.ExitsTested.{ran_by}
+use Rattle.run_laws.proofs.WorksLeft.{copy_left, silent_left, two_left}
+use Rattle.run_laws.proofs.ExitsTested.{ends_at, outer_ends, ran_by, ran_so}
 use Rattle.run_laws.proofs.RowsTested.{housed_by, left_alone_so, never_fall_so}
 use Rattle.run_laws.proofs.GivingTested.{outer_by, rules_by}
 
@@ -60,6 +63,13 @@ handled_run : Handles (OpensThen handled_device (Leaves (ThroughPipe (Leaves (Re
 handled_run =
     let lines = piped_fault (part_of no_values pipe.Lines) (all_of no_values pipe.Lines) (Leaves (Reads handled_device)) (bytes_of (codes "ab\ncd")) (Line (codes "ab") ∷ []) code.Read (inl (refl, refl)) handled_part in
     inl (inr (Line (codes "ab") ∷ [], Line (codes "lost") ∷ [], Fault code.Read, inl (inl (inl (refl, refl, inl lines))), tt, inl (refl, refl), refl))
+
+-- its read failed, which the text that came for it took
+handled_tells : TellsInTurn IsFault (FileTells handled_device) (λ g. Unit {0}) (Unit {0}) Done
+handled_tells = inr (Fault code.Read, tt, inl (refl, inr (refl, refl, tt)), tt)
+
+handled_so : handled_work.runs 0 (values_of (handled_device ∷ [])) (homes_of (handled_device ∷ [])) (Line (codes "ab") ∷ Line (codes "lost") ∷ []) Done
+handled_so = (handled_run, handled_tells)
 
 printed_two_tables : frames_text two_tables.frames ++ tail_text two_tables.ends two_tables.events ≡ two_tables_text
 unfolding digits
@@ -94,7 +104,7 @@ two_tables_right = record {
   performs = record {
     devices = accounted (read_device 0 t_csv table_bytes Succeeded ∷ read_device 1 u_csv (codes "k,w\n") Succeeded ∷ []) (to_read t_csv ∷ to_read u_csv ∷ []) two_tables.events table_files table_files refl refl refl refl refl refl refl refl refl (λ path. inr refl) (read_only two_tables.depot_new.files (read_device 0 t_csv table_bytes Succeeded) refl, (read_only two_tables.depot_new.files (read_device 1 u_csv (codes "k,w\n") Succeeded) refl, tt));
     ledger = rules_by (no_streams (t_csv ∷ u_csv ∷ [])) two_tables.events refl refl refl refl refl (omega arith, tt) refl refl;
-    ran = inr (ran_by (no_streams (t_csv ∷ u_csv ∷ [])) two_tables (values_of (read_device 0 t_csv table_bytes Succeeded ∷ read_device 1 u_csv (codes "k,w\n") Succeeded ∷ [])) (homes_of (read_device 0 t_csv table_bytes Succeeded ∷ read_device 1 u_csv (codes "k,w\n") Succeeded ∷ []))
+    ran = inr (ran_by (no_streams (t_csv ∷ u_csv ∷ [])) two_tables (values_of (read_device 0 t_csv table_bytes Succeeded ∷ read_device 1 u_csv (codes "k,w\n") Succeeded ∷ [])) (homes_of (read_device 0 t_csv table_bytes Succeeded ∷ read_device 1 u_csv (codes "k,w\n") Succeeded ∷ [])) (λ v w k ys more e r. absurd r)
         (record { at_home = (refl, refl, inl (here _), (refl, refl, inl (there _ (here _)), tt)); apart = test_distinct (0 ∷ 1 ∷ []) refl; tied = (refl, (refl, (tt, ((refl, refl), ((refl, refl), tt))))); values = λ t key l. by_content (homes_of (read_device 0 t_csv table_bytes Succeeded ∷ read_device 1 u_csv (codes "k,w\n") Succeeded ∷ []) t).content key; alone = (left_alone_so (no_streams (t_csv ∷ u_csv ∷ [])) two_tables (homes_of (read_device 0 t_csv table_bytes Succeeded ∷ read_device 1 u_csv (codes "k,w\n") Succeeded ∷ []))).0 refl; housed = housed_by (no_streams (t_csv ∷ u_csv ∷ [])) two_tables (homes_of (read_device 0 t_csv table_bytes Succeeded ∷ read_device 1 u_csv (codes "k,w\n") Succeeded ∷ [])) ((0, omega arith, refl), ((1, omega arith, refl), tt)) })
         (record { numbers = tt; few = tt; in_turn = λ t. (never_fall_so (begun_frames two_tables)).0 refl; outputs = refl; rest = refl })
         (ends_by (no_streams (t_csv ∷ u_csv ∷ [])) two_tables (homes_of (read_device 0 t_csv table_bytes Succeeded ∷ read_device 1 u_csv (codes "k,w\n") Succeeded ∷ [])) refl refl (outer_by ((record { acquired = (Outer, 0, (_, here _, refl, refl)); back = here _; ended = refl; unfailed = refl; whole = (refl, refl) }, (record { acquired = (Outer, 0, (_, there _ (here _), refl, refl)); back = there _ (here _); ended = refl; unfailed = refl; whole = (refl, refl) }, tt)), refl, tt) tt refl tt tt unbounded) refl refl refl)
@@ -109,7 +119,7 @@ nothing_described_right = record {
   performs = record {
     devices = accounted ([]) ([]) nothing_described.events [] [] refl refl refl refl refl refl refl refl refl (λ path. inr refl) tt;
     ledger = rules_by (no_streams []) nothing_described.events refl refl refl refl refl (omega arith, tt) refl refl;
-    ran = inr (ran_by (no_streams []) nothing_described (values_of ([])) (homes_of ([]))
+    ran = inr (ran_by (no_streams []) nothing_described (values_of ([])) (homes_of ([])) (λ v w k ys more e r. absurd r)
         (record { at_home = tt; apart = test_distinct ([]) refl; tied = (tt, tt); values = λ t key l. by_content (homes_of ([]) t).content key; alone = (left_alone_so (no_streams []) nothing_described (homes_of ([]))).0 refl; housed = housed_by (no_streams []) nothing_described (homes_of ([])) tt })
         (record { numbers = tt; few = tt; in_turn = λ t. (never_fall_so (begun_frames nothing_described)).0 refl; outputs = refl; rest = refl })
         (ends_by (no_streams []) nothing_described (homes_of ([])) refl refl (outer_by (tt, refl, tt) tt refl tt tt unbounded) refl refl refl)
@@ -124,9 +134,9 @@ silent_right = record {
   performs = record {
     devices = accounted ([]) (to_read t_csv ∷ to_read path_a ∷ to_read path_b ∷ []) silent.events two_listing two_listing refl refl refl refl refl refl refl refl refl (λ path. inr refl) tt;
     ledger = rules_by silent_work silent.events refl refl refl refl refl (omega arith, (omega arith, (omega arith, tt))) refl refl;
-    ran = inr (ran_by silent_work silent (values_of (idle_device 0 (to_read t_csv) table_bytes ∷ idle_device 0 (to_read path_a) (codes "x\n") ∷ idle_device 0 (to_read path_b) (codes "y\n") ∷ [])) (homes_of (idle_device 0 (to_read t_csv) table_bytes ∷ idle_device 0 (to_read path_a) (codes "x\n") ∷ idle_device 0 (to_read path_b) (codes "y\n") ∷ []))
+    ran = inr (ran_by silent_work silent (values_of (idle_device 0 (to_read t_csv) table_bytes ∷ idle_device 0 (to_read path_a) (codes "x\n") ∷ idle_device 0 (to_read path_b) (codes "y\n") ∷ [])) (homes_of (idle_device 0 (to_read t_csv) table_bytes ∷ idle_device 0 (to_read path_a) (codes "x\n") ∷ idle_device 0 (to_read path_b) (codes "y\n") ∷ [])) silent_left
         (record { at_home = (refl, refl, inr (record { opens = refl; at = refl; written = refl; faults = refl }), (refl, refl, inr (record { opens = refl; at = refl; written = refl; faults = refl }), (refl, refl, inr (record { opens = refl; at = refl; written = refl; faults = refl }), tt))); apart = test_distinct ([]) refl; tied = (tt, tt); values = λ t key l. by_content (homes_of (idle_device 0 (to_read t_csv) table_bytes ∷ idle_device 0 (to_read path_a) (codes "x\n") ∷ idle_device 0 (to_read path_b) (codes "y\n") ∷ []) t).content key; alone = (left_alone_so silent_work silent (homes_of (idle_device 0 (to_read t_csv) table_bytes ∷ idle_device 0 (to_read path_a) (codes "x\n") ∷ idle_device 0 (to_read path_b) (codes "y\n") ∷ []))).0 refl; housed = housed_by silent_work silent (homes_of (idle_device 0 (to_read t_csv) table_bytes ∷ idle_device 0 (to_read path_a) (codes "x\n") ∷ idle_device 0 (to_read path_b) (codes "y\n") ∷ [])) tt })
-        (record { numbers = tt; few = omega arith; in_turn = λ t. (never_fall_so (begun_frames silent)).0 refl; outputs = (record { pieces = []; end = Cut; run = inr (refl, inl (refl, tt)); printed = refl; reported = inl refl }, (record { pieces = []; end = Cut; run = inr (refl, inl (refl, tt)); printed = refl; reported = inl refl }, refl)); rest = refl })
+        (record { numbers = tt; few = omega arith; in_turn = λ t. (never_fall_so (begun_frames silent)).0 refl; outputs = (record { pieces = []; end = Cut; run = inl (inr (refl, inl (refl, tt))); printed = refl; reported = inl refl }, (record { pieces = []; end = Cut; run = inl (inr (refl, inl (refl, tt))); printed = refl; reported = inl refl }, refl)); rest = refl })
         (ends_by silent_work silent (homes_of (idle_device 0 (to_read t_csv) table_bytes ∷ idle_device 0 (to_read path_a) (codes "x\n") ∷ idle_device 0 (to_read path_b) (codes "y\n") ∷ [])) refl refl (outer_by (inl (refl, tt), tt) tt refl tt tt (λ e. ((refl, tt), unfinished))) refl refl refl)
         refl
         (λ m n. absurd (let l = n.most in omega (arith, l))));
@@ -139,9 +149,9 @@ stopped_right = record {
   performs = record {
     devices = accounted (x_device ∷ []) (to_read path_a ∷ to_read path_b ∷ []) stopped.events two_listing two_listing refl refl refl refl refl refl refl refl refl (λ path. inr refl) (read_only stopped.depot_new.files (x_device) refl, tt);
     ledger = rules_by stopped_work stopped.events refl refl refl refl refl (omega arith, (omega arith, (omega arith, tt))) refl refl;
-    ran = inr (ran_by stopped_work stopped (values_of (x_device ∷ idle_device 0 (to_read path_b) (codes "y\n") ∷ [])) (homes_of (x_device ∷ idle_device 0 (to_read path_b) (codes "y\n") ∷ []))
+    ran = inr (ran_by stopped_work stopped (values_of (x_device ∷ idle_device 0 (to_read path_b) (codes "y\n") ∷ [])) (homes_of (x_device ∷ idle_device 0 (to_read path_b) (codes "y\n") ∷ [])) (two_left (opener [] 1 None) (Some 0))
         (record { at_home = (refl, refl, inl (here _), (refl, refl, inr (record { opens = refl; at = refl; written = refl; faults = refl }), tt)); apart = test_distinct (0 ∷ []) refl; tied = (tt, (tt, (refl, (tt, ((refl, refl), (tt, (tt, (tt, tt)))))))); values = λ t key l. by_content (homes_of (x_device ∷ idle_device 0 (to_read path_b) (codes "y\n") ∷ []) t).content key; alone = (left_alone_so stopped_work stopped (homes_of (x_device ∷ idle_device 0 (to_read path_b) (codes "y\n") ∷ []))).0 refl; housed = housed_by stopped_work stopped (homes_of (x_device ∷ idle_device 0 (to_read path_b) (codes "y\n") ∷ [])) ((0, omega arith, refl), tt) })
-        (record { numbers = ((omega arith, omega arith), tt); few = tt; in_turn = λ t. (never_fall_so (begun_frames stopped)).0 refl; outputs = (record { pieces = (bytes_of (codes "x\n")) ∷ []; end = Done; run = inl (inl (refl, refl, inl (refl, (refl, omega arith, refl, refl)))); printed = refl; reported = refl }, (record { pieces = []; end = Cut; run = inr (refl, inl (refl, tt)); printed = refl; reported = inl refl }, refl)); rest = refl })
+        (record { numbers = ((omega arith, omega arith), tt); few = tt; in_turn = λ t. (never_fall_so (begun_frames stopped)).0 refl; outputs = (record { pieces = (bytes_of (codes "x\n")) ∷ []; end = Done; run = inl (inl (inl (refl, refl, inl (refl, (refl, omega arith, refl, refl))))); printed = refl; reported = refl }, (record { pieces = []; end = Cut; run = inl (inr (refl, inl (refl, tt))); printed = refl; reported = inl refl }, refl)); rest = refl })
         (ends_by stopped_work stopped (homes_of (x_device ∷ idle_device 0 (to_read path_b) (codes "y\n") ∷ [])) refl refl (outer_by (tt, refl, tt) (tt, (tt, tt)) refl tt tt unbounded) refl refl refl)
         refl
         (λ m n. absurd (false≢true n.until)));
@@ -154,9 +164,10 @@ handled_right = record {
   performs = record {
     devices = accounted (record (used_device 0 (to_read path_a) (codes "ab\ncd") Errored) { at = 5; read_faults = 1 } ∷ []) (to_read path_a ∷ []) handled.events ((path_a, codes "ab\ncd") ∷ []) ((path_a, codes "ab\ncd") ∷ []) refl refl refl refl refl refl refl refl refl (λ path. inr refl) (read_only handled.depot_new.files (record (used_device 0 (to_read path_a) (codes "ab\ncd") Errored) { at = 5; read_faults = 1 }) refl, tt);
     ledger = rules_by handled_work handled.events refl refl refl refl refl (omega arith, (omega arith, tt)) refl refl;
-    ran = inr (ran_by handled_work handled (values_of (record (used_device 0 (to_read path_a) (codes "ab\ncd") Errored) { at = 5; read_faults = 1 } ∷ [])) (homes_of (record (used_device 0 (to_read path_a) (codes "ab\ncd") Errored) { at = 5; read_faults = 1 } ∷ []))
+    ran = inr (ran_so handled_work handled (values_of (record (used_device 0 (to_read path_a) (codes "ab\ncd") Errored) { at = 5; read_faults = 1 } ∷ [])) (homes_of (record (used_device 0 (to_read path_a) (codes "ab\ncd") Errored) { at = 5; read_faults = 1 } ∷ []))
+        (outer_ends handled_work (values_of (handled_device ∷ [])) (homes_of (handled_device ∷ [])) how.Done, (ends_at handled_work (values_of (handled_device ∷ [])) (homes_of (handled_device ∷ [])) 0 (Line (codes "ab") ∷ Line (codes "lost") ∷ []) Done how.Done handled_so refl, tt))
         (record { at_home = (refl, refl, inl (here _), tt); apart = test_distinct (0 ∷ []) refl; tied = (tt, (tt, (tt, (refl, (tt, ((refl, refl), (tt, (tt, tt)))))))); values = λ t key l. by_content (homes_of (record (used_device 0 (to_read path_a) (codes "ab\ncd") Errored) { at = 5; read_faults = 1 } ∷ []) t).content key; alone = (left_alone_so handled_work handled (homes_of (record (used_device 0 (to_read path_a) (codes "ab\ncd") Errored) { at = 5; read_faults = 1 } ∷ []))).0 refl; housed = housed_by handled_work handled (homes_of (record (used_device 0 (to_read path_a) (codes "ab\ncd") Errored) { at = 5; read_faults = 1 } ∷ [])) ((0, omega arith, refl), tt) })
-        (record { numbers = ((omega arith, omega arith), ((omega arith, omega arith), tt)); few = tt; in_turn = λ t. (never_fall_so (begun_frames handled)).0 refl; outputs = (record { pieces = (Line (codes "ab") ∷ []) ∷ (Line (codes "lost") ∷ []) ∷ []; end = Done; run = handled_run; printed = refl; reported = refl }, refl); rest = refl })
+        (record { numbers = ((omega arith, omega arith), ((omega arith, omega arith), tt)); few = tt; in_turn = λ t. (never_fall_so (begun_frames handled)).0 refl; outputs = (record { pieces = (Line (codes "ab") ∷ []) ∷ (Line (codes "lost") ∷ []) ∷ []; end = Done; run = inl handled_so; printed = refl; reported = refl }, refl); rest = refl })
         (ends_by handled_work handled (homes_of (record (used_device 0 (to_read path_a) (codes "ab\ncd") Errored) { at = 5; read_faults = 1 } ∷ [])) refl refl (outer_by (tt, refl, tt) (tt, tt) refl tt tt unbounded) refl refl refl)
         refl
         (λ m n. absurd (let z = n.devices.0 in omega (arith, z))));
@@ -169,9 +180,9 @@ copied_right = record {
   performs = record {
     devices = accounted (record (used_device 0 (to_write path_b) [] Succeeded) { written = Some hello } ∷ read_device 1 path_a hello Succeeded ∷ []) (to_write path_b ∷ to_read path_a ∷ []) copied.events ((path_a, hello) ∷ []) ((path_a, hello) ∷ (path_b, hello) ∷ []) refl refl refl refl refl refl refl refl refl (λ path. b_written (record (used_device 0 (to_write path_b) [] Succeeded) { written = Some hello }) (read_device 1 path_a hello Succeeded ∷ []) refl refl path hello) (λ m o. refl, (read_only copied.depot_new.files (read_device 1 path_a hello Succeeded) refl, tt));
     ledger = rules_by copy_work copied.events refl refl refl refl refl (omega arith, (omega arith, tt)) refl refl;
-    ran = inr (ran_by copy_work copied (values_of (record (used_device 0 (to_write path_b) [] Succeeded) { written = Some hello } ∷ read_device 1 path_a hello Succeeded ∷ [])) (homes_of (record (used_device 0 (to_write path_b) [] Succeeded) { written = Some hello } ∷ read_device 1 path_a hello Succeeded ∷ []))
+    ran = inr (ran_by copy_work copied (values_of (record (used_device 0 (to_write path_b) [] Succeeded) { written = Some hello } ∷ read_device 1 path_a hello Succeeded ∷ [])) (homes_of (record (used_device 0 (to_write path_b) [] Succeeded) { written = Some hello } ∷ read_device 1 path_a hello Succeeded ∷ [])) copy_left
         (record { at_home = (refl, refl, inl (here _), (refl, refl, inl (there _ (here _)), tt)); apart = test_distinct (0 ∷ 1 ∷ []) refl; tied = (tt, (tt, (refl, (refl, (tt, ((refl, refl), ((refl, refl), (tt, tt)))))))); values = λ t key l. by_content (homes_of (record (used_device 0 (to_write path_b) [] Succeeded) { written = Some hello } ∷ read_device 1 path_a hello Succeeded ∷ []) t).content key; alone = (left_alone_so copy_work copied (homes_of (record (used_device 0 (to_write path_b) [] Succeeded) { written = Some hello } ∷ read_device 1 path_a hello Succeeded ∷ []))).0 refl; housed = housed_by copy_work copied (homes_of (record (used_device 0 (to_write path_b) [] Succeeded) { written = Some hello } ∷ read_device 1 path_a hello Succeeded ∷ [])) ((0, omega arith, refl), ((1, omega arith, refl), tt)) })
-        (record { numbers = tt; few = tt; in_turn = λ t. (never_fall_so (begun_frames copied)).0 refl; outputs = (record { pieces = []; end = Done; run = inl (inl (refl, refl, inl (bytes_of hello, Done, inl (inl (refl, refl, inl (refl, (refl, omega arith, refl, refl)))), refl, inl (refl, refl, refl)))); printed = refl; reported = refl }, refl); rest = refl })
+        (record { numbers = tt; few = tt; in_turn = λ t. (never_fall_so (begun_frames copied)).0 refl; outputs = (record { pieces = []; end = Done; run = inl (inl (inl (refl, refl, inl (bytes_of hello, Done, inl (inl (refl, refl, inl (refl, (refl, omega arith, refl, refl)))), refl, inl (refl, refl, refl))))); printed = refl; reported = refl }, refl); rest = refl })
         (ends_by copy_work copied (homes_of (record (used_device 0 (to_write path_b) [] Succeeded) { written = Some hello } ∷ read_device 1 path_a hello Succeeded ∷ [])) refl refl (outer_by (tt, refl, tt) (tt, tt) refl tt tt unbounded) refl refl refl)
         refl
         (λ m n. record { done = (refl, (refl, tt)); clean = refl; listed = tt; output = (([], (bytes_of hello, inl (omega arith, refl, refl), refl, refl), refl), tt) }));
@@ -184,9 +195,9 @@ uncopied_right = record {
   performs = record {
     devices = accounted (record (used_device 0 (to_write path_b) [] Errored) { write_faults = 1 } ∷ record (used_device 1 (to_read path_a) hello Errored) { at = 6 } ∷ []) (to_write path_b ∷ to_read path_a ∷ []) uncopied.events ((path_a, hello) ∷ []) ((path_a, hello) ∷ (path_b, []) ∷ []) refl refl refl refl refl refl refl refl refl (λ path. b_written (record (used_device 0 (to_write path_b) [] Errored) { write_faults = 1 }) (record (used_device 1 (to_read path_a) hello Errored) { at = 6 } ∷ []) refl refl path []) (λ m o. refl, (read_only uncopied.depot_new.files (record (used_device 1 (to_read path_a) hello Errored) { at = 6 }) refl, tt));
     ledger = rules_by copy_work uncopied.events refl refl refl refl refl (omega arith, (omega arith, tt)) refl refl;
-    ran = inr (ran_by copy_work uncopied (values_of (record (used_device 0 (to_write path_b) [] Errored) { write_faults = 1 } ∷ record (used_device 1 (to_read path_a) hello Errored) { at = 6 } ∷ [])) (homes_of (record (used_device 0 (to_write path_b) [] Errored) { write_faults = 1 } ∷ record (used_device 1 (to_read path_a) hello Errored) { at = 6 } ∷ []))
+    ran = inr (ran_by copy_work uncopied (values_of (record (used_device 0 (to_write path_b) [] Errored) { write_faults = 1 } ∷ record (used_device 1 (to_read path_a) hello Errored) { at = 6 } ∷ [])) (homes_of (record (used_device 0 (to_write path_b) [] Errored) { write_faults = 1 } ∷ record (used_device 1 (to_read path_a) hello Errored) { at = 6 } ∷ [])) copy_left
         (record { at_home = (refl, refl, inl (here _), (refl, refl, inl (there _ (here _)), tt)); apart = test_distinct (0 ∷ 1 ∷ []) refl; tied = (tt, (tt, (refl, (refl, (tt, ((refl, refl), ((refl, refl), (tt, tt)))))))); values = λ t key l. by_content (homes_of (record (used_device 0 (to_write path_b) [] Errored) { write_faults = 1 } ∷ record (used_device 1 (to_read path_a) hello Errored) { at = 6 } ∷ []) t).content key; alone = (left_alone_so copy_work uncopied (homes_of (record (used_device 0 (to_write path_b) [] Errored) { write_faults = 1 } ∷ record (used_device 1 (to_read path_a) hello Errored) { at = 6 } ∷ []))).0 refl; housed = housed_by copy_work uncopied (homes_of (record (used_device 0 (to_write path_b) [] Errored) { write_faults = 1 } ∷ record (used_device 1 (to_read path_a) hello Errored) { at = 6 } ∷ [])) ((0, omega arith, refl), ((1, omega arith, refl), tt)) })
-        (record { numbers = tt; few = tt; in_turn = λ t. (never_fall_so (begun_frames uncopied)).0 refl; outputs = (record { pieces = []; end = Fault code.Write; run = inl (inl (refl, refl, inl (bytes_of hello, Cut, inl (inl (refl, refl, inl (refl, tt))), refl, inr (refl, (hello, refl), refl)))); printed = refl; reported = refl }, refl); rest = refl })
+        (record { numbers = tt; few = tt; in_turn = λ t. (never_fall_so (begun_frames uncopied)).0 refl; outputs = (record { pieces = []; end = Fault code.Write; run = inl (inl (inl (refl, refl, inl (bytes_of hello, Cut, inl (inl (refl, refl, inl (refl, tt))), refl, inr (refl, (hello, refl), refl))))); printed = refl; reported = refl }, refl); rest = refl })
         (ends_by copy_work uncopied (homes_of (record (used_device 0 (to_write path_b) [] Errored) { write_faults = 1 } ∷ record (used_device 1 (to_read path_a) hello Errored) { at = 6 } ∷ [])) refl refl (outer_by (tt, refl, tt) (tt, tt) refl tt tt unbounded) refl refl refl)
         refl
         (λ m n. absurd (let z = n.devices.0 in omega (arith, z))));

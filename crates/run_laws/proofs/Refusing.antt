@@ -29,21 +29,21 @@ use Rattle.pull_nodes.proofs.Fronts.{front_cons}
 use Rattle.pull_nodes.proofs.Lines.{lines_lawful}
 use Rattle.run_rules.specs.Homes.{IsUntouched}
 use Rattle.run_rules.specs.Opening.{AreTablesFailed, IsOuterEnd}
-use Rattle.run_rules.specs.Outputs.{IsReported, elements_in_pieces}
+use Rattle.run_rules.specs.Outputs.{IsReported, RunsOrLeft, elements_in_pieces}
 use Rattle.run_rules.specs.Run.{Performs}
 use Rattle.run_rules.specs.Work.{Opener, RunRecord}
 use Rattle.run_laws.specs.FiveFiles.{five_work}
 use Rattle.run_laws.specs.OneStream.{one_stream_work}
 use Rattle.run_laws.specs.Others.{copy_work, no_streams, silent_work, stopped_work, u_csv}
 use Rattle.run_laws.specs.Refused.{another_number, another_value, begins_behind_a_failed_write, begins_behind_a_fault, begins_in_silence, begins_unwanted, cancel_told_otherwise, canceled_by_another, crossed_pairs, cut_behind_the_last, done_without_close, fault_of_no_device, first_table_first, halted_by_a_later_one, in_turn_work, invented_scope, lease_by_a_stream, leased_table_ended, left_before_closing, next_table_tried, nobody_given, one_frame_too_many, one_frame_work, other_bytes_stored, root_never_closed, root_told_otherwise, second_device, side_left_open, stolen_row, stopped_by_nothing, stopped_one_begins, tables_never_acquired, third_pair, third_too_early, two_open, with_text, without_lease}
-use Rattle.run_laws.specs.Sides.{LinesIn, paired, pairs_work, three_lines, two_lines}
+use Rattle.run_laws.specs.Sides.{LinesIn, PairsIn, paired, pairs_work, three_lines, two_lines}
 use Rattle.run_laws.specs.Streams.{Gathered, InFile, Leaves, ThroughPipe, no_listing, opener, value_in}
 use Rattle.run_laws.specs.Tables.{looked_up, lookup_work, t_csv, table_bytes, unread_table_device}
 use Rattle.run_laws.specs.Written.{read_device}
 use Rattle.run_laws.proofs.Judging.{by_causes, by_exits, by_leaving, by_ours, by_pace, by_shut, by_stops, no_nil, ran}
 use Rattle.run_laws.proofs.Sides.{pairs, pairs_text, three, three_all, three_fault, two, two_all, two_fault}
 use Rattle.run_laws.proofs.Tables.{row_texts}
-use Rattle.run_laws.proofs.Within.{IsWithin, file_within, front_trans, left_within, piped_within, reads_within, rendered_front, rendered_pieces}
+use Rattle.run_laws.proofs.Within.{IsWithin, file_within, front_trans, left_within, or_left_within, piped_within, reads_within, rendered_front, rendered_pieces}
 
 -- How far the outer stream is ahead, and how many are open.
 
@@ -111,6 +111,11 @@ done (Fault c) r = let h = ap how_number r in absurd (omega (arith, h))
 done Cut (inl r) = let h = ap how_number r in absurd (omega (arith, h))
 done Cut (inr r) = let h = ap how_number r in absurd (omega (arith, h))
 
+-- what is done was not left
+ended_run : (A : Outcomes) (ys : List Element) (e : End) → e ≡ Done → RunsOrLeft A ys e → A ys e
+ended_run A ys e q (inl r) = r
+ended_run A ys e q (inr r) = let n = ap end_number (sym q ∙ r.0) in absurd (omega (arith, n))
+
 -- what was gathered to the end is given
 given_at_end : (given : Given) (xs : List Element) (g : End) (ys : List Element) (e : End) → e ≡ Done → GivesAtEnd (λ zs. without_fault []) (λ zs. given) xs g ys e → ys ≡ given.list
 given_at_end given xs Done ys e q h = h.0
@@ -137,7 +142,7 @@ another_value_refused h =
     let o = r.outputs.outputs.0 in
     let content : (r.home 0).content ≡ Some table_bytes = r.rows.at_home.1 in
     let at_key : (key : List ℕ) → r.values 0 key ≡ value_in table_bytes key = λ key. subst (λ c. IfSome c (λ bytes. r.values 0 key ≡ value_in bytes key)) content (r.rows.values 0 key (omega arith)) in
-    let rows : elements_in_pieces o.pieces ≡ (looked_up r.values).list = gathered_done (r.home 1) (looked_up r.values) (elements_in_pieces o.pieces) o.end (done o.end o.reported) o.run in
+    let rows : elements_in_pieces o.pieces ≡ (looked_up r.values).list = gathered_done (r.home 1) (looked_up r.values) (elements_in_pieces o.pieces) o.end (done o.end o.reported) (ended_run (InFile (r.home 1) (Gathered (Leaves (Reads (r.home 1))) (looked_up r.values))) (elements_in_pieces o.pieces) o.end (done o.end o.reported) o.run) in
     let same : (looked_up r.values).list ≡ rows_by (Some (codes "v")) None = ap (λ x. rows_by x (r.values 0 (codes "z"))) (at_key (codes "k")) ∙ ap (λ x. rows_by (Some (codes "v")) x) (at_key (codes "z")) in
     let text : codes "k,w\nz,\n" ≡ codes "k,v\nz,\n" = ap (λ ps. flat_map (λ p. p) ps) o.printed ∙ (sym (rendered_pieces o.pieces) ∙ (ap rendering_of (rows ∙ same) ∙ sym row_texts)) in
     let n = ap third_of text in omega (arith, n)
@@ -257,7 +262,9 @@ pairs_printed text h =
     let o = r.outputs.outputs.0 in
     let left : (r.home 0).content ≡ Some three_lines = r.rows.at_home.1 in
     let right : (r.home 1).content ≡ Some two_lines = r.rows.at_home.3.1 in
-    let front = zipped_left (LinesIn (r.home 0)) (LinesIn (r.home 1)) three two (elements_in_pieces o.pieces) o.end (lines_within (r.home 0) three_lines three left three_fault three_all) (lines_within (r.home 1) two_lines two right two_fault two_all) o.run in
+    let within : (zs : List Element) (h : End) → PairsIn (r.home 0) (r.home 1) zs h → IsFront zs pairs =
+    λ zs h z. zipped_left (LinesIn (r.home 0)) (LinesIn (r.home 1)) three two zs h (lines_within (r.home 0) three_lines three left three_fault three_all) (lines_within (r.home 1) two_lines two right two_fault two_all) z in
+    let front = ⊎_elim (λ z. within (elements_in_pieces o.pieces) o.end z) (λ z. front_trans (elements_in_pieces o.pieces) (elements_in_pieces o.pieces ++ z.1.0) pairs (z.1.0, refl) (within (elements_in_pieces o.pieces ++ z.1.0) z.1.1 z.1.2)) o.run in
     subst (λ t. IsFront t (codes "a,1\nb,2\n")) (rendered_pieces o.pieces ∙ sym (ap (λ ps. flat_map (λ p. p) ps) o.printed)) (subst (λ t. IsFront (rendering_of (elements_in_pieces o.pieces)) t) (sym pairs_text) (rendered_front (elements_in_pieces o.pieces) pairs front))
 
 pub third_pair_refused : ¬ (Performs pairs_work third_pair)
@@ -279,7 +286,7 @@ another_number_refused h =
     let r = ran five_work another_number (no_nil _ _) h in
     let o = r.outputs.outputs.1.0 in
     let nothing : (r.home 1).content ≡ Some [] = r.rows.at_home.3.1 in
-    let front = rendered_front (elements_in_pieces o.pieces) [] (file_within (r.home 1) (Reads (r.home 1)) [] (reads_within (r.home 1) [] nothing) (elements_in_pieces o.pieces) o.end o.run).0 in
+    let front = rendered_front (elements_in_pieces o.pieces) [] (or_left_within (InFile (r.home 1) (Reads (r.home 1))) [] (file_within (r.home 1) (Reads (r.home 1)) [] (reads_within (r.home 1) [] nothing)) (elements_in_pieces o.pieces) o.end o.run).0 in
     let f : IsFront (codes "a") [] = subst (λ t. IsFront t []) (rendered_pieces o.pieces ∙ sym (ap (λ ps. flat_map (λ p. p) ps) o.printed)) front in
     no_nil 97 f.0 (sym f.1)
 

@@ -1,4 +1,4 @@
--- The tests of what stood open when a stream began, and of want of memory, are exact; and ends that pass the tests.
+-- The tests of what stood open when a stream had its turn, and of want of memory, are exact; and ends that pass the tests.
 use Rattle.std.proofs.Common.{◌≡◌, ◌≢◌, ◌⊎◌, ℕ, ◌≤◌, Bool, true, ◌&&◌, ◌||◌, not, nat_eq, List, [], ◌∷◌, ◌++◌, map, length, filter, Option, Some, None, inl, inr, refl, sym, ap, ◌∙◌, subst, ⊎_elim, arith}
 use Rattle.std.specs.Bool.{Decides}
 use Rattle.std.specs.List.{list_any as any, list_all as all}
@@ -7,6 +7,7 @@ use Rattle.chunk_core.specs.Elements.Element.{Byte}
 use Rattle.chunk_core.specs.Lists.{IsAmong}
 use Rattle.chunk_core.specs.Texts.{Frame}
 use Rattle.chunk_core.specs.declared.code.How.TheVariants as how
+use Rattle.chunk_core.specs.Outcomes.{Cut}
 use Rattle.chunk_core.proofs.Bools.{and_true, any_at, any_found, both, either, or_left, or_right}
 use Rattle.chunk_core.proofs.Distinct.{distinct_filter}
 use Rattle.chunk_core.proofs.Filters.{among_filter, filter_among}
@@ -16,18 +17,19 @@ use Rattle.res_ledger.specs.Streams.{same_stream}
 use Rattle.res_ledger.proofs.Permuted.{among_range, distinct_within, range_among, range_distinct}
 use Rattle.device_port.specs.Device.{DeviceTold}
 use Rattle.run_rules.specs.declared.end.EndOf.{EndOf}
-use Rattle.run_rules.specs.Ends.{BeginInRoom, EndIsCaused, EndStops, HadRoom, HasStoppedAll, HaveEnds, IsSilenced, PrintsBehind, WasOpen, last_stream}
-use Rattle.run_rules.specs.Facts.{IsFailure, first_numbers, has_left, holds_number, is_fault, is_halted, is_memory}
+use Rattle.run_rules.specs.Ends.{BeginInRoom, EndIsCaused, EndStops, HadRoom, HasStoppedAll, HaveEnds, IsLastTurn, IsSilenced, OutlastsBegin, PrintsBehind, WasOpen, last_stream}
+use Rattle.run_rules.specs.Facts.{Acts, IsFailure, acts, first_numbers, has_left, holds_number, is_fault, is_halted, is_memory}
 use Rattle.run_rules.specs.Memory.{IsWanting}
 use Rattle.run_rules.specs.Opening.{HasOuterEnd}
 use Rattle.run_rules.specs.Outputs.{payloads_by}
 use Rattle.run_rules.specs.Work.{Opener, RunRecord, Stream, Values, Work, begun_frames, names_of, until_by}
-use Rattle.run_laws.specs.EndTests.{begin_in_room, end_stops, had_room, has_stopped_all, is_caused, is_memory_known, is_memory_told, is_silenced, is_stopped, prints_behind, was_open}
+use Rattle.run_laws.specs.EndTests.{begin_in_room, each_turn, end_stops, had_room, has_stopped_all, is_caused, is_last_turn, is_memory_known, is_memory_told, is_silenced, is_stopped, outlasts_begin, passes_last, prints_behind, take_turns, was_in, was_open}
 use Rattle.run_laws.specs.Laws.{work_of}
-use Rattle.run_laws.proofs.Deciding.{Decides-to, all_so, always, and_so, any_so, each_so, fault_so, halted_so, if_so, inner_so, left_so, less, memory_so, not_so, number_so, or_so, same_number, same_stream_so}
+use Rattle.run_laws.proofs.Deciding.{Decides-to, acts_so, all_so, always, and_so, any_so, each_so, fault_so, halted_so, if_so, inner_so, left_so, less, memory_so, not_so, number_so, or_so, same_number, same_stream_so}
 use Rattle.run_laws.proofs.EndsTested.{caused_so, end_stops_so, memory_known_so, silenced_so, stopped_so}
+use Rattle.run_laws.proofs.TurnsTested.{each_turn_so, last_turn_so, unless_so, was_in_so}
 
--- Which streams were open when another one began.
+-- Which streams were open when another one had its turn.
 
 behind_found : (k i : ℕ) (F : List Frame) → prints_behind k i F ≡ true → PrintsBehind F k i
 behind_found k i [] h = let n : ⊥ = cc in absurd n
@@ -57,15 +59,21 @@ stopped_all_so work c i =
     (or_so (is_memory e.how) (halts e) (memory_so e.how) (and_so (is_halted e.how) (not (end_stops work c (Inner i))) (halted_so e.how) (not_so (end_stops work c (Inner i)) (end_stops_so work c (Inner i)))))))
     c.ends)
 
+outlasts_so : (work : Work) (c : RunRecord) (k i : ℕ) → Decides (outlasts_begin work c k i) (OutlastsBegin work c k i)
+outlasts_so work c k i =
+    let until : Bool = holds_number (until_by work (Inner k)) i && has_left i c.events in
+    and_so (acts (Inner k) c.events) (prints_behind k i (begun_frames c) || until) (acts_so (Inner k) c.events)
+    (or_so (prints_behind k i (begun_frames c)) until (behind_so k i (begun_frames c))
+    (and_so (holds_number (until_by work (Inner k)) i) (has_left i c.events) (number_so (until_by work (Inner k)) i) (left_so i c.events)))
+
 pub was_open_so : (work : Work) (c : RunRecord) (k i : ℕ) → Decides (was_open work c k i) (WasOpen work c k i)
 was_open_so work c k i =
     let last : Bool = is_silenced work c && holds_number (last_stream c) i in
-    let until : Bool = holds_number (until_by work (Inner k)) i && has_left i c.events in
-    or_so (prints_behind k i (begun_frames c)) (has_stopped_all work c i || (last || until)) (behind_so k i (begun_frames c))
-    (or_so (has_stopped_all work c i) (last || until) (stopped_all_so work c i)
-    (or_so last until
+    or_so (was_in c.events k i) (has_stopped_all work c i || (last || outlasts_begin work c k i)) (was_in_so c.events k i)
+    (or_so (has_stopped_all work c i) (last || outlasts_begin work c k i) (stopped_all_so work c i)
+    (or_so last (outlasts_begin work c k i)
     (and_so (is_silenced work c) (holds_number (last_stream c) i) (silenced_so work c) (number_so (last_stream c) i))
-    (and_so (holds_number (until_by work (Inner k)) i) (has_left i c.events) (number_so (until_by work (Inner k)) i) (left_so i c.events))))
+    (outlasts_so work c k i)))
 
 -- those that were open, from below
 abbrev others_of : Work → RunRecord → ℕ → List ℕ
@@ -80,11 +88,22 @@ had_room_so width work c k = Decides-to (had_room width work c k)
     let less = h.1 in omega (arith, few, less))
     (less (length (others_of work c k)) width)
 
+-- behind each stream that wasn't begun
+abbrev pub PassesLast : Work → RunRecord → EndOf → Type 0
+PassesLast work c e = (k : ℕ) → e.who ≡ Inner k → ¬ (Acts (Inner k) c.events) → EndStops work c (Inner k) ⊎ IsLastTurn k c.events
+
+pub passes_last_so : (work : Work) (c : RunRecord) (e : EndOf) → Decides (passes_last work c e) (PassesLast work c e)
+passes_last_so work c e =
+    inner_so e.who (λ k. acts (Inner k) c.events || (end_stops work c (Inner k) || is_last_turn k c.events)) (λ k. ¬ (Acts (Inner k) c.events) → EndStops work c (Inner k) ⊎ IsLastTurn k c.events)
+    (λ k. unless_so (acts (Inner k) c.events) (end_stops work c (Inner k) || is_last_turn k c.events) (acts_so (Inner k) c.events)
+    (or_so (end_stops work c (Inner k)) (is_last_turn k c.events) (end_stops_so work c (Inner k)) (last_turn_so k c.events)))
+
 pub begin_in_room_so : (o : Option Opener) (work : Work) (c : RunRecord) → Decides (begin_in_room o work c) (BeginInRoom o work c)
 begin_in_room_so None work c = always
-begin_in_room_so (Some o) work c = Decides-to (begin_in_room (Some o) work c) (λ f k a. f a.0 a.1 k a.2) (λ f e m k by. f k (e, m, by))
-    (all_so (λ e. elim e.by [ Inner k ↦ had_room o.max_open work c k | Outer ↦ true ]) (λ e. (k : ℕ) → e.by ≡ Inner k → HadRoom o.max_open work c k)
-    (λ e. inner_so e.by (λ k. had_room o.max_open work c k) (λ k. HadRoom o.max_open work c k) (λ k. had_room_so o.max_open work c k)) c.events)
+begin_in_room_so (Some o) work c = Decides-to (take_turns o.max_open work c) (λ t. record { room = t.0; passed = λ e k m. t.1 e m k }) (λ t. (t.room, λ e m k. t.passed e k m))
+    (and_so (each_turn (had_room o.max_open work c) c.events) (all (passes_last work c) c.ends)
+    (each_turn_so (had_room o.max_open work c) (HadRoom o.max_open work c) (had_room_so o.max_open work c) c.events)
+    (all_so (passes_last work c) (PassesLast work c) (passes_last_so work c) c.ends))
 
 -- Want of memory.
 
@@ -138,7 +157,7 @@ memory_told_so o ss c v w = (
         (λ p.
         let n = numbered i.0.who p.1.0 in
         let payloads : List (List ℕ) = payloads_by n.0 c.frames ++ (0 ∷ []) ∷ [] in
-        inr (record { halted = p.0; printing = p.1.1; stream = n.0; who = n.1; payload = 0 ∷ []; some = omega arith; pieces = map (λ b. map Byte b) payloads; run = tt; goes_on = sym (pieces_render payloads) }))
+        inr (record { halted = p.0; printing = p.1.1; stream = n.0; who = n.1; payload = 0 ∷ []; some = omega arith; pieces = map (λ b. map Byte b) payloads; run = ([], Cut, tt); goes_on = sym (pieces_render payloads) }))
         i.2,
   ),
   λ h. memory_passes (work_of o ss) c v w h,

@@ -13,12 +13,12 @@ use Rattle.chunk_core.proofs.Members.{among_cons, among_mid, among_nil}
 use Rattle.res_ledger.specs.declared.event.StreamNo.TheVariants.{Inner}
 use Rattle.device_port.specs.declared.device.Mode.TheVariants as mode
 use Rattle.device_port.specs.Device.{DeviceTold, Place, faults_of}
-use Rattle.run_rules.specs.Devices.{IsShut, OpensWhatIsThere, came_back}
+use Rattle.run_rules.specs.Devices.{IsShut, OpensWhatIsThere, ReadsWhatIsThere, came_back}
 use Rattle.run_rules.specs.Facts.{Acts, acts, at, is_mode}
 use Rattle.run_rules.specs.Homes.{AreLeftAlone, IsBack, IsUntouched}
 use Rattle.run_rules.specs.Outputs.{NeverFall}
 use Rattle.run_rules.specs.Work.{row_places, RunRecord, Stream, Work, first_row_of}
-use Rattle.run_laws.specs.LedgerTests.{are_left_alone, is_absent, is_empty, is_left_alone, is_shut, is_untouched, never_fall}
+use Rattle.run_laws.specs.LedgerTests.{are_left_alone, is_absent, is_empty, is_left_alone, is_read_within, is_shut, is_untouched, never_fall}
 use Rattle.run_laws.proofs.Deciding.{Decides-to, acts_so, and_so, at_below, at_most, below_so, first_so, if_so, if_some_so, same_mode, same_number}
 
 empty_so : (w : List ℕ) → Decides (is_empty w) (w ≡ [])
@@ -39,13 +39,18 @@ there_so : (d : DeviceTold) → Decides (not (is_mode d.place.mode mode.Read && 
 there_so d = Decides-to (not (is_mode d.place.mode mode.Read && is_absent d.present) || nat_eq d.opens 0) (λ f m a. f (m, a)) (λ f b. f b.0 b.1)
     (if_so (is_mode d.place.mode mode.Read && is_absent d.present) (nat_eq d.opens 0) (and_so (is_mode d.place.mode mode.Read) (is_absent d.present) (same_mode d.place.mode mode.Read) (absent_so d.present)) (same_number d.opens 0))
 
+-- no more was read than there is
+within_so : (d : DeviceTold) → Decides (is_read_within d) (ReadsWhatIsThere d)
+within_so d = if_some_so d.content (λ bytes. nat_le d.at (length bytes)) (λ bytes. d.at ≤ length bytes) (λ bytes. at_most d.at (length bytes))
+
 pub shut_so : (d : DeviceTold) → Decides (is_shut d) (IsShut d)
 shut_so d =
     let there : Bool = not (is_mode d.place.mode mode.Read && is_absent d.present) || nat_eq d.opens 0 in
-    Decides-to (is_shut d) (λ t. record { shut = t.0; closes = t.1.0; once = t.1.1.0; there = t.1.1.1 }) (λ r. (r.shut, (r.closes, (r.once, r.there))))
-    (and_so (not d.is_open) (nat_eq d.closes d.opens && (nat_le d.opens 1 && there)) (unset_so d.is_open)
-    (and_so (nat_eq d.closes d.opens) (nat_le d.opens 1 && there) (same_number d.closes d.opens)
-    (and_so (nat_le d.opens 1) there (at_most d.opens 1) (there_so d))))
+    Decides-to (is_shut d) (λ t. record { shut = t.0; closes = t.1.0; once = t.1.1.0; there = t.1.1.1.0; within = t.1.1.1.1 }) (λ r. (r.shut, (r.closes, (r.once, (r.there, r.within)))))
+    (and_so (not d.is_open) (nat_eq d.closes d.opens && (nat_le d.opens 1 && (there && is_read_within d))) (unset_so d.is_open)
+    (and_so (nat_eq d.closes d.opens) (nat_le d.opens 1 && (there && is_read_within d)) (same_number d.closes d.opens)
+    (and_so (nat_le d.opens 1) (there && is_read_within d) (at_most d.opens 1)
+    (and_so there (is_read_within d) (there_so d) (within_so d)))))
 
 pub untouched_so : (d : DeviceTold) → Decides (is_untouched d) (IsUntouched d)
 untouched_so d =

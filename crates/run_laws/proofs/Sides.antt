@@ -25,10 +25,11 @@ use Rattle.run_rules.specs.Work.{RunRecord}
 use Rattle.run_laws.specs.Sides.{LinesIn, MergeIn, PairsIn, WholeLines, WholeMerge, WholePairs, merge_work, merged, merged_back, merged_back_text, merged_text, paired, paired_text, pairs_work, path_p, path_q, sides_run, sides_work, three_lines, two_lines}
 use Rattle.run_laws.specs.Streams.{Leaves}
 use Rattle.run_laws.specs.Written.{IsRightRun, homes_of, read_device}
-use Rattle.run_laws.proofs.Devices.{accounted}
+use Rattle.run_laws.proofs.Devices.{accounted, read_shut, shut_passes}
 use Rattle.run_laws.proofs.Performing.{piped_done, piped_left, read_only}
 use Rattle.run_laws.proofs.EndsTested.{unbounded}
 use Rattle.run_laws.proofs.RoomTested.{ends_by}
+use Rattle.run_laws.proofs.WorksLeft.{MayBeLeft, merge_left, pairs_left}
 use Rattle.run_laws.proofs.ExitsTested.{ran_by}
 use Rattle.run_laws.proofs.RowsTested.{housed_by, left_alone_so}
 use Rattle.run_laws.proofs.GivingTested.{outer_by, rules_by}
@@ -44,14 +45,15 @@ module _ (runs ideal : DeviceTold → DeviceTold → Outcomes) (p_bytes q_bytes 
   abbrev c : RunRecord
   c = sides_run p_bytes ended q_bytes frames
 
-  sides_done : (pieces : List (List Element)) → AllByRecursion (λ (f : Frame). (f.stream < 1) × (0 < length f.payload)) frames → payloads_by 0 frames ≡ map rendering_of pieces → payloads_of 0 frames ≡ rendering_of (elements_in_pieces pieces) → runs p_device q_device (elements_in_pieces pieces) Done → ideal p_device q_device (elements_in_pieces pieces) Done
+  sides_done : (pieces : List (List Element)) → AllByRecursion (λ (f : Frame). (f.stream < 1) × (0 < length f.payload)) frames → payloads_by 0 frames ≡ map rendering_of pieces → payloads_of 0 frames ≡ rendering_of (elements_in_pieces pieces) → MayBeLeft (sides_work runs ideal) → runs p_device q_device (elements_in_pieces pieces) Done → ideal p_device q_device (elements_in_pieces pieces) Done
       → Performs (sides_work runs ideal) c
-  sides_done pieces numbers printed text run whole = record {
-    devices = accounted (p_device ∷ q_device ∷ []) (to_read path_p ∷ to_read path_q ∷ []) c.events ((path_p, p_bytes) ∷ (path_q, q_bytes) ∷ []) ((path_p, p_bytes) ∷ (path_q, q_bytes) ∷ []) refl refl refl refl refl refl refl refl refl (λ path. inr refl) (read_only c.depot_new.files p_device refl, (read_only c.depot_new.files q_device refl, tt));
+  sides_done pieces numbers printed text leaves run whole = record {
+    devices = accounted (p_device ∷ q_device ∷ []) (to_read path_p ∷ to_read path_q ∷ []) c.events ((path_p, p_bytes) ∷ (path_q, q_bytes) ∷ []) ((path_p, p_bytes) ∷ (path_q, q_bytes) ∷ []) refl
+        (shut_passes (p_device ∷ q_device ∷ []) (read_shut 0 path_p p_bytes Succeeded ended, (read_shut 1 path_q q_bytes Succeeded true, tt))) refl refl refl refl refl refl refl (λ path. inr refl) (read_only c.depot_new.files p_device refl, (read_only c.depot_new.files q_device refl, tt));
     ledger = rules_by (sides_work runs ideal) c.events refl refl refl refl refl (omega arith, (omega arith, tt)) refl refl;
-    ran = inr (ran_by (sides_work runs ideal) c no_values (homes_of (p_device ∷ q_device ∷ []))
+    ran = inr (ran_by (sides_work runs ideal) c no_values (homes_of (p_device ∷ q_device ∷ [])) leaves
         (record { at_home = (refl, refl, inl (here _), (refl, refl, inl (there _ (here _)), tt)); apart = test_distinct (0 ∷ 1 ∷ []) refl; tied = (tt, (tt, (refl, (refl, (tt, ((refl, refl), ((refl, refl), (tt, tt)))))))); values = λ t key l. absurd (omega (arith, l)); alone = (left_alone_so (sides_work runs ideal) c (homes_of (p_device ∷ q_device ∷ []))).0 refl; housed = housed_by (sides_work runs ideal) c (homes_of (p_device ∷ q_device ∷ [])) ((0, omega arith, refl), ((1, omega arith, refl), tt)) })
-        (record { numbers = numbers; few = tt; in_turn = λ t. absurd (false≢true t); outputs = (record { pieces = pieces; end = Done; run = run; printed = printed; reported = refl }, refl); rest = refl })
+        (record { numbers = numbers; few = tt; in_turn = λ t. absurd (false≢true t); outputs = (record { pieces = pieces; end = Done; run = inl run; printed = printed; reported = refl }, refl); rest = refl })
         (ends_by (sides_work runs ideal) c (homes_of (p_device ∷ q_device ∷ [])) refl refl (outer_by (tt, refl, tt) (tt, tt) refl tt tt unbounded) refl refl refl)
         refl
         (λ m n. record { done = (refl, (refl, tt)); clean = refl; listed = tt; output = ((elements_in_pieces pieces, whole, text), tt) }));
@@ -137,7 +139,7 @@ three_left = inl (inl (refl, refl, inl (piped_left (part_of no_values pipe.Lines
 
 pub paired_right : IsRightRun pairs_work paired paired_text
 paired_right = record {
-  performs = sides_done PairsIn WholePairs three_lines two_lines false paired.frames (pairs ∷ []) ((omega arith, omega arith), tt) (ap (λ t. t ∷ []) pairs_text) pairs_text
+  performs = sides_done PairsIn WholePairs three_lines two_lines false paired.frames (pairs ∷ []) ((omega arith, omega arith), tt) (ap (λ t. t ∷ []) pairs_text) pairs_text pairs_left
       (inl (three, two, Cut, Done, three_left, lines_done two_device two_lines two two_fault two_all refl refl (refl, (refl, omega arith, refl, refl)), refl, inr (omega arith, refl)))
       (three, two, Done, Done, whole_lines three_device three_lines three three_fault three_all (inl (omega arith, refl, refl)), whole_lines two_device two_lines two two_fault two_all (inl (omega arith, refl, refl)), refl, inr (omega arith, refl));
   printed = printed_paired;
@@ -179,7 +181,7 @@ y_whole = whole_lines y_side (codes "y\n") (y_line ∷ []) y_fault y_all (inl (o
 
 pub merged_right : IsRightRun merge_work merged merged_text
 merged_right = record {
-  performs = sides_done MergeIn WholeMerge (codes "x\n") (codes "y\n") true merged.frames ((x_line ∷ []) ∷ (y_line ∷ []) ∷ []) ((omega arith, omega arith), ((omega arith, omega arith), tt)) refl refl
+  performs = sides_done MergeIn WholeMerge (codes "x\n") (codes "y\n") true merged.frames ((x_line ∷ []) ∷ (y_line ∷ []) ∷ []) ((omega arith, omega arith), ((omega arith, omega arith), tt)) refl refl merge_left
       (inl (x_line ∷ [], y_line ∷ [], Done, Done, inl x_lines, inl y_lines, inl ([], refl, inr ([], refl, (refl, refl))), (refl, refl)))
       (x_line ∷ [], y_line ∷ [], Done, Done, inl x_whole, inl y_whole, inl ([], refl, inr ([], refl, (refl, refl))), (refl, refl));
   printed = printed_merged;
@@ -187,7 +189,7 @@ merged_right = record {
 
 pub merged_back_right : IsRightRun merge_work merged_back merged_back_text
 merged_back_right = record {
-  performs = sides_done MergeIn WholeMerge (codes "x\n") (codes "y\n") true merged_back.frames ((y_line ∷ []) ∷ (x_line ∷ []) ∷ []) ((omega arith, omega arith), ((omega arith, omega arith), tt)) refl refl
+  performs = sides_done MergeIn WholeMerge (codes "x\n") (codes "y\n") true merged_back.frames ((y_line ∷ []) ∷ (x_line ∷ []) ∷ []) ((omega arith, omega arith), ((omega arith, omega arith), tt)) refl refl merge_left
       (inl (x_line ∷ [], y_line ∷ [], Done, Done, inl x_lines, inl y_lines, inr ([], refl, inl ([], refl, (refl, refl))), (refl, refl)))
       (x_line ∷ [], y_line ∷ [], Done, Done, inl x_whole, inl y_whole, inr ([], refl, inl ([], refl, (refl, refl))), (refl, refl));
   printed = printed_merged_back;

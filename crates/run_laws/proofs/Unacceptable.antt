@@ -5,7 +5,7 @@ use Rattle.std.proofs.lemmas.Bool.{false≢true, lt-ltb}
 use Rattle.chunk_core.specs.Lists.{IsAmong}
 use Rattle.chunk_core.specs.Lists.IsAmong.{here, there}
 use Rattle.chunk_core.specs.Texts.{frame_text}
-use Rattle.chunk_core.specs.Outcomes.{End, Cut, Done, exit_of}
+use Rattle.chunk_core.specs.Outcomes.{End, Done, exit_of}
 use Rattle.chunk_core.specs.declared.code.Code.TheVariants as code
 use Rattle.chunk_core.specs.declared.code.Exit.TheVariants.{Canceled, Succeeded}
 use Rattle.chunk_core.specs.declared.code.How.{How}
@@ -23,15 +23,16 @@ use Rattle.run_rules.specs.declared.end.EndOf.{EndOf}
 use Rattle.device_port.specs.Depot.{DepotTold}
 use Rattle.pull_nodes.specs.Plain.{IsFront}
 use Rattle.pull_nodes.specs.Runs.{OpensThen, Reads, StopsReading}
-use Rattle.run_rules.specs.Outputs.{IsReported, elements_in_pieces, payloads_by}
+use Rattle.run_rules.specs.Outputs.{IsReported, StartsRunOf, elements_in_pieces, payloads_by}
 use Rattle.run_rules.specs.Run.{IsUnmade, Performs, Ran}
-use Rattle.run_laws.specs.Files.{lines_work, path_a}
+use Rattle.run_laws.specs.Files.{lines_work, path_a, taker_stops_work}
+use Rattle.run_laws.specs.FiveFiles.{five_work}
 use Rattle.run_laws.specs.OneStream.{one_stream_work}
 use Rattle.run_laws.specs.Others.{hello, no_streams, silent_work, stopped_work, u_csv}
 use Rattle.run_laws.specs.Refused.{in_turn_work}
 use Rattle.run_laws.specs.Streams.{InFile, Leaves, file_stream, opener, two_files}
 use Rattle.run_laws.specs.Tables.{a_csv, lookup_work, path_b, t_csv}
-use Rattle.run_laws.specs.Unacceptable.{AreUnacceptable, all_fail, backwards, begins_before_its_turn, begins_behind_its_until, begins_behind_the_last_frame, both_devices, ends_swapped, failed_though_written, fault_hidden_by_until, frames_before_their_turn, frames_out_of_turn, given_without_waiting, half_table, halted_beforehand, halted_by_a_later_end, halted_by_later_memory, halted_though_whole, leased_before_table, leased_for_nobody, line_cut_in_two, looked_up_unopened, lost_file, memory_for_a_missing_table, memory_for_an_until, memory_for_the_last_frame, missing_opened, one_device_for_both, one_of_three_work, opened_twice, passed_over, passed_over_for_nothing, printed_by_nobody, ran_behind_missing_table, ran_over_half_a_table, read_file_changed, read_for_nobody, same_file_work, second_table_alone, side_by_side_work, silent_copy_work, succeeded_though_left, tabled_work, tables_backwards, three_work, told_two_exits, tried_unbegun, tried_unmade, until_later_work, until_second_work, wanting_at_no_end}
+use Rattle.run_laws.specs.Unacceptable.{AreUnacceptable, all_fail, backwards, begins_before_its_turn, begins_behind_its_until, begins_behind_one_unmade, begins_behind_the_last_frame, begins_beside_its_until, both_devices, done_behind_a_fault, ends_swapped, failed_though_written, fault_hidden_by_until, frames_before_their_turn, frames_out_of_turn, given_without_waiting, gives_on_behind_a_fault, gives_on_behind_one_passed_over, half_table, halted_beforehand, halted_by_a_later_end, halted_by_later_memory, halted_though_whole, leased_before_table, leased_for_nobody, line_cut_in_two, looked_up_unopened, lost_file, memory_for_a_missing_table, memory_for_an_until, memory_for_the_last_frame, missing_opened, one_device_for_both, one_of_three_work, opened_twice, passed_over, passed_over_for_nothing, printed_by_nobody, ran_behind_missing_table, ran_over_half_a_table, read_beyond_the_end, read_file_changed, read_for_nobody, same_file_work, second_table_alone, side_by_side_work, silent_copy_work, succeeded_though_left, tabled_work, tables_backwards, three_work, told_two_exits, tried_unbegun, tried_unmade, until_later_work, until_second_work, wanting_at_no_end}
 use Rattle.run_laws.proofs.Deciding.{acts_so}
 use Rattle.run_laws.proofs.Files.{cut_all, cut_part}
 use Rattle.run_laws.proofs.Housed.{below_two, first_byte, moved, only_one, path_byte}
@@ -39,7 +40,8 @@ use Rattle.run_laws.proofs.Judging.{by_causes, by_exits, by_memory, by_ours, by_
 use Rattle.run_laws.specs.Written.{missing_device, read_device, used_device}
 use Rattle.run_laws.proofs.Performing.{read_write}
 use Rattle.run_laws.proofs.Refusing.{done, lines_within, size_of}
-use Rattle.run_laws.proofs.Within.{cut_done, fault_done, front_trans}
+use Rattle.run_laws.specs.Sides.{LinesIn}
+use Rattle.run_laws.proofs.Within.{cut_done, fault_done, front_trans, or_left_within}
 
 lost_file_refused : ¬ (Performs silent_copy_work lost_file)
 lost_file_refused h = ⊎_elim (λ w. among_nil w.1) (λ (e : Some [] ≡ Some hello). let l = ap size_of e in omega (arith, l)) (h.devices.files path_b)
@@ -65,7 +67,7 @@ line_cut_in_two_refused h =
     let r = ran lines_work line_cut_in_two (no_nil _ _) h in
     let o = r.outputs.outputs.0 in
     let content : (r.home 0).content ≡ Some (codes "a\r\nb") = r.rows.at_home.1 in
-    cut_pieces o.pieces (lines_within (r.home 0) (codes "a\r\nb") (Line path_a ∷ Line path_b ∷ []) content cut_part cut_all (elements_in_pieces o.pieces) o.end o.run).0 o.printed
+    cut_pieces o.pieces (or_left_within (LinesIn (r.home 0)) (Line path_a ∷ Line path_b ∷ []) (lines_within (r.home 0) (codes "a\r\nb") (Line path_a ∷ Line path_b ∷ []) content cut_part cut_all) (elements_in_pieces o.pieces) o.end o.run).0 o.printed
 
 read_for_nobody_refused : ¬ (Performs silent_work read_for_nobody)
 read_for_nobody_refused h = let r = ran silent_work read_for_nobody (no_nil _ _) h in (r.ends.outer.nobody refl).1 (inl refl)
@@ -220,10 +222,14 @@ never_opens d ys e u (inl (o, f, r)) = let z = u.opens in omega (arith, z, o)
 never_opens d ys e u (inr (o, f, n, q, r)) = let z : faults_of d ≡ 0 = u.faults in omega (arith, z, f)
 
 -- a file that was never tried gives nothing
-untouched_gives : (d : DeviceTold) (ys : List Element) → IsUntouched d → InFile d (Reads d) ys Cut → ys ≡ []
-untouched_gives d ys u (inl r) = absurd (never_opens d ys Cut u r)
-untouched_gives d ys u (inr (c, inl n)) = n.0
-untouched_gives d ys u (inr (c, inr (more, g, r))) = absurd (never_opens d (ys ++ more) g u r)
+untouched_gives : (d : DeviceTold) (ys : List Element) (e : End) → IsUntouched d → InFile d (Reads d) ys e → ys ≡ []
+untouched_gives d ys e u (inl r) = absurd (never_opens d ys e u r)
+untouched_gives d ys e u (inr (c, inl n)) = n.0
+untouched_gives d ys e u (inr (c, inr (more, g, r))) = absurd (never_opens d (ys ++ more) g u r)
+
+no_front : (xs ys : List Element) → xs ++ ys ≡ [] → xs ≡ []
+no_front [] ys h = refl
+no_front (x ∷ xs) ys h = cc
 
 -- no end says that memory was wanting, and the second stream alone was halted
 abbrev Fits : EndOf → Type 0
@@ -238,9 +244,9 @@ for_an_until_so r =
     (λ m. fits.0 m)
     (λ l.
     let one : l.stream ≡ 1 = inner_is l.stream 1 (sym l.who ∙ fits.1 l.halted) in
-    let run : InFile (r.home 1) (Reads (r.home 1)) (elements_in_pieces l.pieces) Cut = subst (λ k. InFile (r.home k) (Reads (r.home k)) (elements_in_pieces l.pieces) Cut) one l.run in
+    let run : StartsRunOf (InFile (r.home 1) (Reads (r.home 1))) (elements_in_pieces l.pieces) = subst (λ k. StartsRunOf (InFile (r.home k) (Reads (r.home k))) (elements_in_pieces l.pieces)) one l.run in
     let payload : l.payload ∷ [] ≡ map rendering_of l.pieces = subst (λ k. payloads_by k memory_for_an_until.frames ++ l.payload ∷ [] ≡ map rendering_of l.pieces) one l.goes_on in
-    no_more l.pieces l.payload (untouched_gives (r.home 1) (elements_in_pieces l.pieces) alone run) payload l.some)
+    no_more l.pieces l.payload (no_front (elements_in_pieces l.pieces) run.0 (untouched_gives (r.home 1) (elements_in_pieces l.pieces ++ run.0) run.1 alone run.2)) payload l.some)
     w.2
 
 for_an_until_refused : ¬ (Performs stopped_work memory_for_an_until)
@@ -259,6 +265,7 @@ unacceptable = record {
   by_a_later_end = by_causes until_later_work halted_by_a_later_end (no_nil _ _) refl;
   twice = by_shut (one_stream_work (Some 0)) opened_twice refl;
   cut_line = line_cut_in_two_refused;
+  beyond = by_shut taker_stops_work read_beyond_the_end refl;
   for_nobody = read_for_nobody_refused;
   tables_back = by_giving (no_streams (t_csv ∷ u_csv ∷ [])) tables_backwards refl;
   unmade = tried_unmade_refused;
@@ -286,6 +293,11 @@ unacceptable = record {
   before_their_turn = by_room (three_work 2) frames_before_their_turn (no_nil _ _) refl;
   behind_its_until = by_room until_second_work begins_behind_its_until (no_nil _ _) refl;
   behind_the_last = by_room one_of_three_work begins_behind_the_last_frame (no_nil _ _) refl;
+  beside_its_until = by_room until_second_work begins_beside_its_until (no_nil _ _) refl;
+  behind_a_fault = by_room five_work gives_on_behind_a_fault (no_nil _ _) refl;
+  done_behind = by_room in_turn_work done_behind_a_fault (no_nil _ _) refl;
+  behind_one_passed = by_room (three_work 4) gives_on_behind_one_passed_over (no_nil _ _) refl;
+  behind_one_unmade = by_room (three_work 4) begins_behind_one_unmade (no_nil _ _) refl;
   for_an_until = for_an_until_refused;
   for_the_last = by_memory one_of_three_work memory_for_the_last_frame (no_nil _ _) refl;
 }

@@ -15,14 +15,14 @@ use Rattle.res_ledger.specs.declared.event.StreamNo.TheVariants.{Outer}
 use Rattle.run_rules.specs.declared.end.EndOf.{EndOf}
 use Rattle.run_rules.specs.Homes.{IsUntouched}
 use Rattle.run_rules.specs.Listing.{IsListing, ListedLines, line_bytes, listing_of}
-use Rattle.run_rules.specs.Opening.{IsOuterEnd}
+use Rattle.run_rules.specs.Opening.{IsListFault, IsOuterEnd}
 use Rattle.run_rules.specs.Run.{Performs}
 use Rattle.run_rules.specs.Work.{RunRecord, names_from}
 use Rattle.run_laws.specs.Files.{path_a}
 use Rattle.run_laws.specs.Lists.{ListRuns, bad_bytes, bad_line, ended_lines_in, is_no_path, list_bytes, list_work, lister, listing_opener, one_line_work, one_too_many, path_l, two_listed}
 use Rattle.run_laws.specs.Streams.{file_stream}
 use Rattle.run_laws.specs.Tables.{path_b, t_csv}
-use Rattle.run_laws.specs.UnfitLists.{AreUnfitLists, empty_line_given, fault_not_told, line_before, line_by_line_work, line_left, opened_too_early, read_too_far, table_and_list_work, three_line_bytes, unread_list}
+use Rattle.run_laws.specs.UnfitLists.{AreUnfitLists, cut_off_list, empty_line_given, fault_not_told, line_before, line_by_line_work, line_left, line_told, opened_too_early, read_too_far, table_and_list_work, three_line_bytes, unread_list}
 use Rattle.run_laws.specs.Written.{used_device}
 use Rattle.run_laws.proofs.Housed.{first_byte, only_one, path_byte}
 use Rattle.run_laws.proofs.Judging.{no_nil, ran}
@@ -173,7 +173,30 @@ more_so lines h =
 -- without a table the outer stream fails by its list
 failed_by_the_list : (piece most : ℕ) (lines : List (List ℕ)) (c : RunRecord) (w : ℕ → DeviceTold) (f : Code) → IsOuterEnd (listing_opener [] (lister piece most lines)) ListRuns (length (map file_stream lines)) c w (how.Fault f) → IsListing (lister piece most lines) (ListRuns (w 0)) (Fault f)
 failed_by_the_list piece most lines c w f (inl t) = absurd t.0
-failed_by_the_list piece most lines c w f (inr (t, (l, is, back, listing))) = subst (λ x. IsListing x (ListRuns (w 0)) (Fault f)) (sym (some_is (lister piece most lines) l is)) listing
+failed_by_the_list piece most lines c w f (inr (t, (l, is, back, listing, told))) = subst (λ x. IsListing x (ListRuns (w 0)) (Fault f)) (sym (some_is (lister piece most lines) l is)) listing
+
+-- and its fault is that of its device, or nothing of it failed
+told_by_the_list : (piece most : ℕ) (lines : List (List ℕ)) (c : RunRecord) (w : ℕ → DeviceTold) (f : Code) → IsOuterEnd (listing_opener [] (lister piece most lines)) ListRuns (length (map file_stream lines)) c w (how.Fault f) → IsListFault (w 0) f
+told_by_the_list piece most lines c w f (inl t) = absurd t.0
+told_by_the_list piece most lines c w f (inr (t, (l, is, back, listing, told))) = told
+
+not_open : code.BadPath ≡ code.Open → ⊥
+not_open e = cc
+
+not_read : code.BadPath ≡ code.Read → ⊥
+not_read e = cc
+
+-- a bad line is told only where no read of the list failed
+bad_unfailed : (d : DeviceTold) → IsListFault d code.BadPath → d.read_faults ≡ 0
+bad_unfailed d told = ⊎_elim (λ o. absurd (not_open o.1)) (λ o. ⊎_elim (λ e. absurd (not_read e)) (λ z. z) o.1) told
+
+line_told_so : (lines : List (List ℕ)) → Performs (list_work lines) line_told → ⊥
+line_told_so lines h =
+    let r = ran (list_work lines) line_told (no_nil _ _) h in
+    let is : r.home 0 ≡ cut_off_list = came_back (r.home 0) cut_off_list r.rows.tied.1.0 r.rows.at_home.2 in
+    let faults = ap (λ (x : DeviceTold). x.read_faults) is in
+    let none = bad_unfailed (r.home 0) (told_by_the_list 4096 64 lines line_told r.home code.BadPath r.ends.outer.end) in
+    omega (arith, faults, none)
 
 -- a reading of these bytes fails by the file alone
 file_fault : (d : DeviceTold) → d.content ≡ Some bad_bytes → (ys : List Element) (g : End) (c : Code) → ListRuns d ys g → g ≡ Fault c → is_of_a_file c ≡ true
@@ -216,6 +239,7 @@ unfit_lists = record {
   empty = empty_line_so;
   too_far = too_far_so;
   not_told = not_told_so;
+  instead = line_told_so;
   too_early = too_early_so;
   more = more_so;
   bad_first = bad_first_so;

@@ -11,7 +11,7 @@ use Rattle.pull_nodes.specs.Plain.{IsFront}
 use Rattle.pull_nodes.specs.Runs.{FirstBytes, GivesAtEnd, GivesBy, OpensThen, Piped, Reads, StopsReading}
 use Rattle.pull_nodes.proofs.Fronts.{front_map, front_same}
 use Rattle.pull_nodes.proofs.Steady.{SteadyBy}
-use Rattle.run_rules.specs.Outputs.{elements_in_pieces}
+use Rattle.run_rules.specs.Outputs.{RunsOrLeft, elements_in_pieces}
 use Rattle.run_laws.specs.Streams.{InFile, Leaves}
 
 -- what R gives is a front of ws, and all of it where R is done
@@ -38,6 +38,11 @@ pub left_within : (R : Outcomes) (ws : List Element) → IsWithin R ws → IsWit
 left_within R ws h ys e (inl r) = h ys e r
 left_within R ws h ys e (inr (c, inl n)) = (subst (λ l. IsFront l ws) (sym n.0) (front_nil ws), λ d. absurd (cut_done (sym c ∙ d)))
 left_within R ws h ys e (inr (c, inr m)) = (front_trans ys (ys ++ m.0) ws (m.0, refl) (h (ys ++ m.0) m.1 m.2).0, λ d. absurd (cut_done (sym c ∙ d)))
+
+-- nor did one that was left more than its run
+pub or_left_within : (R : Outcomes) (ws : List Element) → IsWithin R ws → IsWithin (RunsOrLeft R) ws
+or_left_within R ws h ys e (inl r) = h ys e r
+or_left_within R ws h ys e (inr (c, (more, g, r))) = (front_trans ys (ys ++ more) ws (more, refl) (h (ys ++ more) g r).0, λ d. absurd (cut_done (sym c ∙ d)))
 
 opens_within : (d : DeviceTold) (A : Outcomes) (ws : List Element) → IsWithin A ws → IsWithin (OpensThen d A (Unit {0})) ws
 opens_within d A ws h ys e (inl o) = h ys e o.2

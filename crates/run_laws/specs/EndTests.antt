@@ -1,5 +1,5 @@
 -- Tests of why streams ended as they did, and that nothing begins after a stop. They compute on a run that is written out.
-use Rattle.std.specs.Prelude.{ℕ, zero, suc, Bool, true, false, ◌&&◌, ◌||◌, not, nat_eq, nat_le, nat_lt, Option, Some, None, is_some, List, [], ◌∷◌, filter, length}
+use Rattle.std.specs.Prelude.{ℕ, zero, suc, ◌+◌, Bool, true, false, ◌&&◌, ◌||◌, not, nat_eq, nat_le, nat_lt, Option, Some, None, is_some, if◌then◌else◌, List, [], ◌∷◌, filter, length}
 use Rattle.std.specs.List.{list_any as any, list_all as all}
 use Rattle.chunk_core.specs.Lists.{has}
 use Rattle.chunk_core.specs.Outcomes.{exit_of}
@@ -13,14 +13,16 @@ use Rattle.res_ledger.specs.declared.event.StreamNo.TheVariants.{Outer, Inner}
 use Rattle.res_ledger.specs.declared.event.What.{What}
 use Rattle.res_ledger.specs.declared.event.What.TheVariants.{Cancel, Close}
 use Rattle.res_ledger.specs.declared.event.Event.{Event}
+use Rattle.res_ledger.specs.Judge.{is_leased}
 use Rattle.res_ledger.specs.Order.{same_exit}
 use Rattle.res_ledger.specs.Own.{closes, own}
 use Rattle.res_ledger.specs.Streams.{by_stream, same_stream}
+use Rattle.res_ledger.specs.Whole.{is_cancel}
 use Rattle.device_port.specs.Device.{DeviceTold, Place}
 use Rattle.run_rules.specs.declared.end.EndOf.{EndOf}
 use Rattle.run_rules.specs.Devices.{came_back}
 use Rattle.run_rules.specs.Ends.{act_count, last_stream}
-use Rattle.run_rules.specs.Facts.{acts, first_numbers, has_left, is_fault, is_halted, is_memory, holds_number, is_over, is_place}
+use Rattle.run_rules.specs.Facts.{acts, first_numbers, has_left, is_fault, is_halted, is_memory, holds_number, is_over, is_place, leased_stream, root_exit}
 use Rattle.run_rules.specs.Work.{Opener, RunRecord, Work, begun_frames, most_of, places_by, runs_in_turn, until_by}
 
 -- Why a stream may be halted.
@@ -108,7 +110,43 @@ abbrev pub is_stopped : Work → RunRecord → Bool
 is_stopped work c =
     (not (runs_in_turn work) || (stops_by_failure c && (stops_when_silenced work c && all (stops_by_end work c) (first_numbers (length work.streams))))) && (all (stops_by_halt work c) c.ends && (not (holds_number (most_of work) 0) || all (λ e. same_stream e.by Outer) c.events))
 
--- Which streams were open when another one began.
+-- Whose turn it was, and which streams were open then.
+
+-- the root is closed, and not as one that is stopped
+abbrev pub is_unstopped_close : What → Bool
+is_unstopped_close w = elim (root_exit w) [ Some x ↦ not (same_exit x Canceled) | None ↦ false ]
+
+-- the outer stream leased for k, and not for the one behind it
+abbrev pub is_last_leased : List Event → ℕ → Bool
+is_last_leased L k = is_leased L k && not (is_leased L (k + 1))
+
+-- the event shows that stream k had its turn
+abbrev pub is_turn : List Event → ℕ → Event → Bool
+is_turn L k e = same_stream e.by (Inner k) || (holds_number (leased_stream e.what) (k + 1) || (same_stream e.by Outer && (is_unstopped_close e.what && is_last_leased L k)))
+
+-- the number before passes, if there is one
+abbrev pub passes_before : (ℕ → Bool) → ℕ → Bool
+passes_before p zero = true
+passes_before p (suc k) = p k
+
+-- the outer stream closed its root, and not as one that is stopped
+abbrev pub is_unstopped : List Event → Bool
+is_unstopped L = any (λ e. same_stream e.by Outer && is_unstopped_close e.what) L
+
+-- each stream that had its turn passes
+abbrev pub each_turn : (ℕ → Bool) → List Event → Bool
+each_turn p L =
+    all (λ e. elim e.by [ Inner k ↦ p k | Outer ↦ true ]) L
+    && (all (λ e. elim (leased_stream e.what) [ Some j ↦ passes_before p j | None ↦ true ]) L && (not (is_unstopped L) || all (λ e. elim (leased_stream e.what) [ Some k ↦ not (is_last_leased L k) || p k | None ↦ true ]) L))
+
+-- the events up to the first Cancel of the lease of stream i
+abbrev pub until_left : ℕ → List Event → List Event
+until_left i [] = []
+until_left i (e ∷ L) = e ∷ (if is_cancel i e.what then [] else until_left i L)
+
+-- stream i hadn't left when k had its turn
+abbrev pub was_in : List Event → ℕ → ℕ → Bool
+was_in L k i = any (is_turn L k) (until_left i L)
 
 -- a frame of stream i stands behind one of stream k
 abbrev pub prints_behind : ℕ → ℕ → List Frame → Bool
@@ -119,18 +157,34 @@ prints_behind k i (g ∷ F) = (nat_eq g.stream k && any (λ f. nat_eq f.stream i
 abbrev pub has_stopped_all : Work → RunRecord → ℕ → Bool
 has_stopped_all work c i = any (λ e. same_stream e.who (Inner i) && (is_fault e.how || (is_memory e.how || (is_halted e.how && not (end_stops work c (Inner i)))))) c.ends
 
--- as the record shows it, stream i was open when k began
+-- stream k began, and stream i printed behind it or its end stops k
+abbrev pub outlasts_begin : Work → RunRecord → ℕ → ℕ → Bool
+outlasts_begin work c k i = acts (Inner k) c.events && (prints_behind k i (begun_frames c) || (holds_number (until_by work (Inner k)) i && has_left i c.events))
+
+-- as the record shows it, stream i was open when k had its turn
 abbrev pub was_open : Work → RunRecord → ℕ → ℕ → Bool
-was_open work c k i = prints_behind k i (begun_frames c) || (has_stopped_all work c i || ((is_silenced work c && holds_number (last_stream c) i) || (holds_number (until_by work (Inner k)) i && has_left i c.events)))
+was_open work c k i = was_in c.events k i || (has_stopped_all work c i || ((is_silenced work c && holds_number (last_stream c) i) || outlasts_begin work c k i))
 
 -- fewer than `width` of the streams before k were
 abbrev pub had_room : ℕ → Work → RunRecord → ℕ → Bool
 had_room width work c k = nat_lt (length (filter (was_open work c k) (first_numbers k))) width
 
--- each stream began in room that was there
+-- no stream above j had its turn
+abbrev pub is_last_turn : ℕ → List Event → Bool
+is_last_turn j L = each_turn (λ k. nat_le k j) L
+
+-- the stream began, or the end of another stopped that, or none had its turn behind it
+abbrev pub passes_last : Work → RunRecord → EndOf → Bool
+passes_last work c e = elim e.who [ Inner k ↦ acts (Inner k) c.events || (end_stops work c (Inner k) || is_last_turn k c.events) | Outer ↦ true ]
+
+-- each stream had its turn in room that was there, and none behind one that wasn't begun
+abbrev pub take_turns : ℕ → Work → RunRecord → Bool
+take_turns width work c = each_turn (had_room width work c) c.events && all (passes_last work c) c.ends
+
+-- where there is an outer stream
 abbrev pub begin_in_room : Option Opener → Work → RunRecord → Bool
 begin_in_room None work c = true
-begin_in_room (Some o) work c = all (λ e. elim e.by [ Inner k ↦ had_room o.max_open work c k | Outer ↦ true ]) c.events
+begin_in_room (Some o) work c = take_turns o.max_open work c
 
 -- Exits.
 

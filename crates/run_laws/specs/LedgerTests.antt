@@ -106,9 +106,13 @@ abbrev pub is_absent : Option Bool → Bool
 is_absent None = false
 is_absent (Some b) = not b
 
--- the device isn't open: it was closed as often as it was opened, which was once at most, and where its path was there
+-- no more was read of the device than there is
+abbrev pub is_read_within : DeviceTold → Bool
+is_read_within d = elim d.content [ Some bytes ↦ nat_le d.at (length bytes) | None ↦ true ]
+
+-- the device isn't open: it was closed as often as it was opened, which was once at most, and where its path was there, and no more of it was read than there is
 abbrev pub is_shut : DeviceTold → Bool
-is_shut d = not d.is_open && (nat_eq d.closes d.opens && (nat_le d.opens 1 && (not (is_mode d.place.mode mode.Read && is_absent d.present) || nat_eq d.opens 0)))
+is_shut d = not d.is_open && (nat_eq d.closes d.opens && (nat_le d.opens 1 && ((not (is_mode d.place.mode mode.Read && is_absent d.present) || nat_eq d.opens 0) && is_read_within d)))
 
 -- nothing was done on the device
 abbrev pub is_untouched : DeviceTold → Bool

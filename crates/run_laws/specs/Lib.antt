@@ -12,6 +12,7 @@ pub mod Lists
 pub mod UnfitGroups
 pub mod Unacceptable
 pub mod UnfitLists
+pub mod Untold
 pub mod EndTests
 pub mod LedgerTests
 pub mod GivingTests

@@ -11,6 +11,7 @@ use Rattle.res_ledger.specs.declared.event.StreamNo.TheVariants.{Outer, Inner}
 use Rattle.res_ledger.specs.declared.event.What.{What}
 use Rattle.res_ledger.specs.declared.event.What.TheVariants.{Open, Acquire, Lease, Cancel, Close, Final}
 use Rattle.device_port.specs.Device.{DeviceTold, to_read, to_write}
+use Rattle.pull_nodes.specs.Failures.{FileTells, TellsInTurn}
 use Rattle.pull_nodes.specs.Runs.{Exactly, Follows, IsFault, IsUnwritten, OpensThen, OrLeft, Reads, ReadsWhole, Written, WrittenWhole}
 use Rattle.pull_nodes.specs.declared.pipe.Pipe.TheVariants as pipe
 use Rattle.run_rules.specs.Work.{RunRecord, Work}
@@ -81,7 +82,7 @@ abbrev pub Handles : Outcomes → Outcomes
 Handles A = Leaves (Follows IsFault (Leaves (Leaves A)) (Leaves (Exactly (Line (codes "lost") ∷ []) Done)) (Unit {0}))
 
 abbrev pub handled_work : Work
-handled_work = record (file_work (λ d. Handles (OpensThen d (Leaves (ThroughPipe (Leaves (Reads d)) pipe.Lines)) (Unit {0})))
+handled_work = record (file_work (λ d ys e. Handles (OpensThen d (Leaves (ThroughPipe (Leaves (Reads d)) pipe.Lines)) (Unit {0})) ys e × TellsInTurn IsFault (FileTells d) (λ g. Unit {0}) (Unit {0}) e)
     (λ d. Follows IsFault (ThroughPipe (ReadsWhole d) pipe.Lines) (Exactly (Line (codes "lost") ∷ []) Done) (Unit {0})))
     { streams = record { places = to_read path_a ∷ []; scopes = 1; until = None } ∷ [] }
 

@@ -12,7 +12,7 @@ use Rattle.device_port.specs.Device.{DeviceTold, to_read}
 use Rattle.pull_nodes.specs.Runs.{Reads, ReadsWhole}
 use Rattle.run_rules.specs.Run.{Performs}
 use Rattle.run_rules.specs.Work.{RunRecord, Work}
-use Rattle.run_laws.specs.Files.{file_run, lines_work, path_a}
+use Rattle.run_laws.specs.Files.{file_run, lines_work, path_a, taker_stops, taker_stops_work}
 use Rattle.run_laws.specs.FiveFiles.{five_files, five_devices, five_work, visit}
 use Rattle.run_laws.specs.OneStream.{one_stream_work, x_listing}
 use Rattle.run_laws.specs.Others.{copy_work, hello, no_streams, silent_work, stopped, stopped_work, table_files, two_listing, two_tables, u_csv, x_device}
@@ -82,6 +82,10 @@ opened_twice = run_of x_listing x_listing (record (used_device 0 (to_read path_a
 -- a frame ends within a line
 abbrev pub line_cut_in_two : RunRecord
 line_cut_in_two = file_run (codes "a\r\nb") 4 true how.Done (frame 0 (codes "a") ∷ frame 0 (codes "\nb\n") ∷ [])
+
+-- the file has four bytes, and five were read of it before the reading was left
+abbrev pub read_beyond_the_end : RunRecord
+read_beyond_the_end = file_run (codes "a\nb\n") 5 false how.Done taker_stops.frames
 
 -- nothing may be printed, and the table is read and all streams are given
 abbrev pub read_for_nobody : RunRecord
@@ -276,6 +280,31 @@ abbrev pub begins_behind_the_last_frame : RunRecord
 begins_behind_the_last_frame = run_of three_listing three_listing (used_device 0 (to_read path_a) (codes "x\n") Canceled ∷ read_device 1 path_b (codes "y\n") Succeeded ∷ used_device 2 (to_read path_c) (codes "z\n") Canceled ∷ []) (ends_of how.Done (how.Halted ∷ how.Done ∷ how.Halted ∷ []))
     ((Outer, Lease 0 0) ∷ (Outer, Lease 1 0) ∷ (Outer, Lease 2 0) ∷ (Outer, Close 0 Succeeded) ∷ (visit 1 ++ (halts 0 ++ halts 2))) (frame 1 (codes "y\n") ∷ [])
 
+-- two streams may be open at once, the third is to end with the second, and it begins in the room that this one leaves while the first is open, as the ledger alone shows
+abbrev pub begins_beside_its_until : RunRecord
+begins_beside_its_until = three_run
+    ((Outer, Lease 0 0) ∷ (Outer, Lease 1 0) ∷ (Outer, Lease 2 0) ∷ (Outer, Close 0 Succeeded) ∷ (Inner 0, Acquire 0 0) ∷ (visit 1 ++ (visit 2 ++ ((Inner 0, Close 0 Succeeded) ∷ (Inner 0, Final 0 Succeeded true) ∷ (Inner 0, Cancel 0 Succeeded) ∷ []))))
+
+-- one stream may be open at a time, the first one fails, and the outer stream gives on behind it, stream after stream, in the room that it left, though none of them is begun
+abbrev pub gives_on_behind_a_fault : RunRecord
+gives_on_behind_a_fault = run_of [] [] (missing_device 0 path_a ∷ []) (ends_of how.Done (how.Fault code.Open ∷ how.Halted ∷ how.Halted ∷ how.Halted ∷ how.Halted ∷ []))
+    ((Outer, Lease 0 0) ∷ (Outer, Lease 1 0) ∷ (fails 0 ++ ((Outer, Lease 2 0) ∷ (Outer, Cancel 1 Canceled) ∷ (Outer, Lease 3 0) ∷ (Outer, Cancel 2 Canceled) ∷ (Outer, Lease 4 0) ∷ (Outer, Cancel 3 Canceled) ∷ (Outer, Close 0 Succeeded) ∷ (Outer, Cancel 4 Canceled) ∷ []))) []
+
+-- one stream may be open at a time, the first one fails, and the outer stream is done behind it, where the second was the last to be given
+abbrev pub done_behind_a_fault : RunRecord
+done_behind_a_fault = run_of [] [] (missing_device 0 path_a ∷ []) (ends_of how.Done (how.Fault code.Open ∷ how.Halted ∷ []))
+    ((Outer, Lease 0 0) ∷ (Outer, Lease 1 0) ∷ (fails 0 ++ ((Outer, Close 0 Succeeded) ∷ (Outer, Cancel 1 Canceled) ∷ []))) []
+
+-- four streams may be open at once, the first one fails, the second is passed over for that, and the outer stream goes on behind the third
+abbrev pub gives_on_behind_one_passed_over : RunRecord
+gives_on_behind_one_passed_over = run_of [] [] (missing_device 0 path_a ∷ []) (ends_of how.Done (how.Fault code.Open ∷ how.Halted ∷ how.Halted ∷ []))
+    ((Outer, Lease 0 0) ∷ (Outer, Lease 1 0) ∷ (fails 0 ++ ((Outer, Lease 2 0) ∷ (Outer, Cancel 1 Canceled) ∷ (Outer, Close 0 Succeeded) ∷ (Outer, Cancel 2 Canceled) ∷ []))) []
+
+-- four streams may be open at once, there is no memory to begin the second, and the third begins all the same
+abbrev pub begins_behind_one_unmade : RunRecord
+begins_behind_one_unmade = record (run_of three_listing three_listing (x_device ∷ read_device 1 path_c (codes "z\n") Succeeded ∷ []) (ends_of how.Done (how.Done ∷ how.Memory ∷ how.Done ∷ []))
+    ((Outer, Lease 0 0) ∷ (Outer, Lease 1 0) ∷ (visit 0 ++ ((Outer, Lease 2 0) ∷ (Outer, Cancel 1 Canceled) ∷ (Outer, Close 0 Succeeded) ∷ visit 2))) (frame 0 (codes "x\n") ∷ frame 2 (codes "z\n") ∷ [])) { memory = true }
+
 -- one stream may be open at a time, the end of the first stops the second, and memory is said to have been wanting
 abbrev pub memory_for_an_until : RunRecord
 memory_for_an_until = record stopped { memory = true }
@@ -297,6 +326,7 @@ pub record AreUnacceptable : Type 0 where
   pub by_a_later_end : ¬ (Performs until_later_work halted_by_a_later_end)
   pub twice : ¬ (Performs (one_stream_work (Some 0)) opened_twice)
   pub cut_line : ¬ (Performs lines_work line_cut_in_two)
+  pub beyond : ¬ (Performs taker_stops_work read_beyond_the_end)
   pub for_nobody : ¬ (Performs silent_work read_for_nobody)
   pub tables_back : ¬ (Performs (no_streams (t_csv ∷ u_csv ∷ [])) tables_backwards)
   pub unmade : ¬ (Performs (one_stream_work None) tried_unmade)
@@ -324,5 +354,10 @@ pub record AreUnacceptable : Type 0 where
   pub before_their_turn : ¬ (Performs (three_work 2) frames_before_their_turn)
   pub behind_its_until : ¬ (Performs until_second_work begins_behind_its_until)
   pub behind_the_last : ¬ (Performs one_of_three_work begins_behind_the_last_frame)
+  pub beside_its_until : ¬ (Performs until_second_work begins_beside_its_until)
+  pub behind_a_fault : ¬ (Performs five_work gives_on_behind_a_fault)
+  pub done_behind : ¬ (Performs in_turn_work done_behind_a_fault)
+  pub behind_one_passed : ¬ (Performs (three_work 4) gives_on_behind_one_passed_over)
+  pub behind_one_unmade : ¬ (Performs (three_work 4) begins_behind_one_unmade)
   pub for_an_until : ¬ (Performs stopped_work memory_for_an_until)
   pub for_the_last : ¬ (Performs one_of_three_work memory_for_the_last_frame)

@@ -1,5 +1,6 @@
 -- Runs over the lines of a list that no user would accept, whichever lines are said to have been given streams.
 use Rattle.std.specs.Prelude.{ℕ, true, List, [], ◌∷◌, ◌++◌, codes}
+use Rattle.chunk_core.specs.declared.code.Code.TheVariants as code
 use Rattle.chunk_core.specs.declared.code.Exit.TheVariants.{Succeeded, Canceled}
 use Rattle.chunk_core.specs.declared.code.How.TheVariants as how
 use Rattle.res_ledger.specs.declared.event.StreamNo.TheVariants.{Outer, Inner}
@@ -8,7 +9,7 @@ use Rattle.device_port.specs.Device.{DeviceTold, to_read}
 use Rattle.run_rules.specs.Run.{Performs}
 use Rattle.run_rules.specs.Work.{RunRecord, Work}
 use Rattle.run_laws.specs.Files.{path_a}
-use Rattle.run_laws.specs.Lists.{bad_bytes, bad_line, list_bytes, list_events, list_files, list_work, listed_visit, lister, listing_work, one_line_work, one_too_many, path_l, two_listed}
+use Rattle.run_laws.specs.Lists.{bad_bytes, bad_device, bad_events, bad_line, list_bytes, list_events, list_files, list_work, listed_visit, lister, listing_work, one_line_work, one_too_many, path_l, two_listed}
 use Rattle.run_laws.specs.Tables.{t_csv, table_bytes}
 use Rattle.run_laws.specs.Unacceptable.{half_table}
 use Rattle.run_laws.specs.Written.{ends_of, frame, read_device, run_of, used_device}
@@ -49,6 +50,13 @@ unread_list = record (used_device 0 (to_read path_l) list_bytes Canceled) { read
 abbrev pub fault_not_told : RunRecord
 fault_not_told = record (run_of (list_files list_bytes) (list_files list_bytes) (unread_list ∷ []) (ends_of how.Memory []) ((Outer, Open 1 0) ∷ (Outer, Acquire 0 1) ∷ (Outer, Close 0 Canceled) ∷ (Outer, Final 0 Canceled true) ∷ []) []) { memory = true }
 
+-- a read of the list failed, and what is told is its bad line
+abbrev pub cut_off_list : DeviceTold
+cut_off_list = record bad_device { read_faults = 1 }
+
+abbrev pub line_told : RunRecord
+line_told = run_of (list_files bad_bytes) (list_files bad_bytes) (cut_off_list ∷ []) (ends_of (how.Fault code.BadPath) (how.Halted ∷ [])) bad_events []
+
 -- a table before the list
 abbrev pub table_and_list_work : List (List ℕ) → Work
 table_and_list_work lines = listing_work (t_csv ∷ []) (lister 4096 64 lines)
@@ -65,6 +73,7 @@ pub record AreUnfitLists : Type 0 where
   pub empty : (lines : List (List ℕ)) → ¬ (Performs (list_work lines) empty_line_given)
   pub too_far : (lines : List (List ℕ)) → ¬ (Performs (line_by_line_work lines) read_too_far)
   pub not_told : (lines : List (List ℕ)) → ¬ (Performs (list_work lines) fault_not_told)
+  pub instead : (lines : List (List ℕ)) → ¬ (Performs (list_work lines) line_told)
   pub too_early : (lines : List (List ℕ)) → ¬ (Performs (table_and_list_work lines) opened_too_early)
   -- more lines than may be given streams
   pub more : (lines : List (List ℕ)) → ¬ (Performs (one_line_work lines) two_listed)

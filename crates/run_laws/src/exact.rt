@@ -10,12 +10,12 @@ ghost use Rattle.device_port.specs.Device.{DeviceTold, Place};
 ghost use Rattle.res_ledger.specs.Ledger.{IsLegal};
 ghost use Rattle.res_ledger.specs.declared.event.Event.{Event};
 ghost use Rattle.res_ledger.specs.declared.event.StreamNo.{StreamNo};
-ghost use Rattle.run_laws.specs.EndTests.{begin_in_room, end_stops, fault_stops, has_begun, has_cause_to_halt, has_one_exit, has_stopped_all, is_caused, is_exit_hidden, is_last, is_memory_known, is_memory_told, is_shown, is_silenced, is_stopped, may_stop, prints_behind, silence_stops, stops_by_end, stops_by_failure, stops_when_silenced, was_open};
+ghost use Rattle.run_laws.specs.EndTests.{begin_in_room, end_stops, fault_stops, has_begun, has_cause_to_halt, has_one_exit, has_stopped_all, is_caused, is_exit_hidden, is_last, is_last_turn, is_memory_known, is_memory_told, is_shown, is_silenced, is_stopped, is_turn, may_stop, prints_behind, silence_stops, stops_by_end, stops_by_failure, stops_when_silenced, was_in, was_open};
 ghost use Rattle.run_laws.specs.GivingTests.{gives_all, gives_in_order, is_given_by, lends_tables, takes_turns};
 ghost use Rattle.run_laws.specs.Laws.{StopsByEnd, StopsByFailure, StopsWhenSilenced, TakesTurns, work_of};
 ghost use Rattle.run_laws.specs.LedgerTests.{are_left_alone, begin_in_order, is_ahead, is_leaving_closed, is_ours, is_paced, is_shut, is_untouched, is_within, leases_in_order, never_fall, outer_waits};
 ghost use Rattle.run_rules.specs.Devices.{IsShut};
-ghost use Rattle.run_rules.specs.Ends.{BeginInRoom, EndIsCaused, EndStops, FaultStops, HasBegun, HasCauseToHalt, HasStoppedAll, IsLast, IsShown, IsSilenced, IsStopped, MayStop, PrintsBehind, SilenceStops, WasOpen};
+ghost use Rattle.run_rules.specs.Ends.{BeginInRoom, EndIsCaused, EndStops, FaultStops, HasBegun, HasCauseToHalt, HasStoppedAll, IsLast, IsLastTurn, IsShown, IsSilenced, IsStopped, IsTurn, MayStop, PrintsBehind, SilenceStops, WasIn, WasOpen};
 ghost use Rattle.run_rules.specs.Exits.{HasOneExit, IsExitHidden};
 ghost use Rattle.run_rules.specs.Homes.{AreLeftAlone, IsUntouched};
 ghost use Rattle.run_rules.specs.Memory.{IsWanting};
@@ -56,8 +56,11 @@ pub fn tests_of_stops()
     ensures of_stopped { (o : Option Opener) (ss : List Stream) (c : RunRecord) → Decides (is_stopped (work_of o ss) c) (IsStopped (work_of o ss) c) }
 {}
 
-/// Which streams were open when another one began.
+/// Whose turn it was, and which streams were open then.
 pub fn tests_of_room()
+    ensures of_turn { (L : List Event) (k : ℕ) (e : Event) → Decides (is_turn L k e) (IsTurn L k e) }
+    ensures of_last_turn { (j : ℕ) (L : List Event) → Decides (is_last_turn j L) (IsLastTurn j L) }
+    ensures of_in { (L : List Event) (k i : ℕ) → Decides (was_in L k i) (WasIn L k i) }
     ensures of_behind { (k i : ℕ) (F : List Frame) → Decides (prints_behind k i F) (PrintsBehind F k i) }
     ensures of_stopped_all { (o : Option Opener) (ss : List Stream) (c : RunRecord) (i : ℕ) → Decides (has_stopped_all (work_of o ss) c i) (HasStoppedAll (work_of o ss) c i) }
     ensures of_open { (o : Option Opener) (ss : List Stream) (c : RunRecord) (k i : ℕ) → Decides (was_open (work_of o ss) c k i) (WasOpen (work_of o ss) c k i) }

@@ -7,6 +7,7 @@ ghost use Rattle.run_laws.specs.Sides.{pairs_work};
 ghost use Rattle.run_laws.specs.Tables.{lookup_work, t_csv};
 ghost use Rattle.run_laws.specs.Unacceptable.{AreUnacceptable};
 ghost use Rattle.run_laws.specs.UnfitGroups.{AreUnfitGroups};
+ghost use Rattle.run_laws.specs.Untold.{AreUntold};
 ghost use Rattle.run_laws.specs.UnfitLists.{AreUnfitLists};
 ghost use Rattle.run_rules.specs.Run.{Performs};
 ghost use Rattle.std.specs.Prelude.{[], ◌∷◌, None, Some};
@@ -89,6 +90,11 @@ pub fn wrong_stream()
 /// Runs of which each is all right but for one thing, and that no user would accept.
 pub fn unacceptable()
     ensures { AreUnacceptable }
+{}
+
+/// Runs in which an act on a device failed, and that end as if it hadn't.
+pub fn untold_failures()
+    ensures { AreUntold }
 {}
 
 /// Runs of groups of which each is all right but for one thing.

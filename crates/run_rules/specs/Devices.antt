@@ -1,5 +1,5 @@
 -- The devices that a run made.
-use Rattle.std.specs.Prelude.{◌≡◌, ℕ, ◌+◌, ◌<◌, ◌≤◌, Bool, false, nat_eq, nat_lt, List, [], ◌∷◌, ◌++◌, map, length, drop, filter, count_by, flat_map, Option, Some, None}
+use Rattle.std.specs.Prelude.{◌≡◌, ℕ, ◌+◌, ◌<◌, ◌≤◌, Bool, false, nat_eq, nat_lt, List, [], ◌∷◌, ◌++◌, map, length, drop, filter, count_by, flat_map, Option, Some, None, IfSome}
 use Rattle.std.specs.List.Sorted.{IsPermutation}
 use Rattle.chunk_core.specs.Lists.{IsAmong}
 use Rattle.std.specs.List.{AllByRecursion}
@@ -62,12 +62,21 @@ IsWrittenBy ds path = (d : DeviceTold) × IsAmong d ds × (d.place.mode ≡ mode
 abbrev pub OpensWhatIsThere : DeviceTold → Type 0
 OpensWhatIsThere d = d.place.mode ≡ mode.Read → d.present ≡ Some false → d.opens ≡ 0
 
--- a device that came back isn't open: it was closed as often as it was opened, which was once at most, and where its path was there
+-- no more was read than there is
+abbrev pub ReadsWhatIsThere : DeviceTold → Type 0
+ReadsWhatIsThere d = IfSome d.content (λ bytes. d.at ≤ length bytes)
+
+-- what a device does with what isn't there
+abbrev pub KeepsToWhatIsThere : DeviceTold → Type 0
+KeepsToWhatIsThere d = OpensWhatIsThere d × ReadsWhatIsThere d
+
+-- a device that came back isn't open: it was closed as often as it was opened, which was once at most, and where its path was there, and no more of it was read than there is
 pub record IsShut (d : DeviceTold) : Type 0 where
   pub shut : d.is_open ≡ false
   pub closes : d.closes ≡ d.opens
   pub once : d.opens ≤ 1
   pub there : OpensWhatIsThere d
+  pub within : ReadsWhatIsThere d
 
 -- Each device made in the run came back once and is shut; no more were made than there are rows. By path and mode, the devices that were
 -- opened are as many as the rows acquired, those whose close failed as the rows whose Final isn't ok, and those closed with an exit as

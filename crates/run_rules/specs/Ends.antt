@@ -1,20 +1,23 @@
 -- Why the streams ended as they did, and that nothing begins after a stop.
-use Rattle.std.specs.Prelude.{◌≡◌, ◌≢◌, ◌⊎◌, ℕ, ◌<◌, ◌≤◌, true, List, ◌∷◌, ◌++◌, map, length, Option, Some, None, IfSome, option_map}
+use Rattle.std.specs.Prelude.{◌≡◌, ◌≢◌, ◌⊎◌, ℕ, ◌+◌, ◌<◌, ◌≤◌, true, false, List, ◌∷◌, ◌++◌, map, length, Option, Some, None, IfSome, option_map}
 use Rattle.std.specs.List.{last_or, AllByRecursion}
 use Rattle.chunk_core.specs.Lists.{IsAmong}
 use Rattle.chunk_core.specs.declared.code.Code.{Code}
 use Rattle.chunk_core.specs.declared.code.Code.TheVariants as code
+use Rattle.chunk_core.specs.declared.code.Exit.{Exit}
+use Rattle.chunk_core.specs.declared.code.Exit.TheVariants.{Canceled}
 use Rattle.chunk_core.specs.declared.code.How.{How}
 use Rattle.chunk_core.specs.declared.code.How.TheVariants as how
 use Rattle.chunk_core.specs.Texts.{Frame}
 use Rattle.res_ledger.specs.declared.event.StreamNo.{StreamNo}
 use Rattle.res_ledger.specs.declared.event.StreamNo.TheVariants.{Outer, Inner}
 use Rattle.res_ledger.specs.declared.event.Event.{Event}
-use Rattle.res_ledger.specs.Ledger.{NotesClose}
+use Rattle.res_ledger.specs.Ledger.{IsLeased, NotesClose}
+use Rattle.res_ledger.specs.Whole.{is_cancel}
 use Rattle.device_port.specs.Device.{Place, DeviceTold}
 use Rattle.run_rules.specs.declared.end.EndOf.{EndOf}
 use Rattle.run_rules.specs.Devices.{came_back}
-use Rattle.run_rules.specs.Facts.{Acts, HasLeft, IsFailure, IsOver}
+use Rattle.run_rules.specs.Facts.{Acts, HasLeft, IsFailure, IsOver, has_event, leased_stream, root_exit}
 use Rattle.run_rules.specs.Opening.{HasOuterEnd}
 use Rattle.run_rules.specs.Work.{Work, Opener, RunRecord, begun_frames, most_of, names_of, places_by, runs_in_turn, until_by}
 
@@ -91,7 +94,24 @@ pub record IsStopped (work : Work) (c : RunRecord) : Type 0 where
   pub halted : (e : EndOf) (k : ℕ) → IsAmong e c.ends → e.who ≡ Inner k → e.how ≡ how.Halted → (runs_in_turn work ≡ true) ⊎ ¬ (Acts (Inner k) c.events) → EndStops work c (Inner k) ⊎ IsLast k c.events
   pub nobody : most_of work ≡ Some 0 → (e : Event) → IsAmong e c.events → e.by ≡ Outer
 
--- Which streams were open when another one began.
+-- Whose turn it was, and which streams were open then.
+
+-- The event shows that stream k had its turn: k noted it; or with it the outer stream went on behind k: it leased for the next one, or it closed its root, not as
+-- one that is stopped, k being the last that it had leased for.
+abbrev pub IsTurn : List Event → ℕ → Event → Type 0
+IsTurn L k e = (e.by ≡ Inner k) ⊎ (leased_stream e.what ≡ Some (k + 1)) ⊎ ((e.by ≡ Outer) × ((x : Exit) × (root_exit e.what ≡ Some x) × (x ≢ Canceled)) × IsLeased L k × ¬ (IsLeased L (k + 1)))
+
+-- an event shows so
+abbrev pub HadTurn : List Event → ℕ → Type 0
+HadTurn L k = (e : Event) × IsAmong e L × IsTurn L k e
+
+-- no stream above j had its turn
+abbrev pub IsLastTurn : ℕ → List Event → Type 0
+IsLastTurn j L = (k : ℕ) → HadTurn L k → k ≤ j
+
+-- stream i hadn't left when k had its turn: before an event that shows this its lease has no Cancel
+abbrev pub WasIn : List Event → ℕ → ℕ → Type 0
+WasIn L k i = (P Q : List Event) × (e : Event) × (L ≡ P ++ e ∷ Q) × IsTurn L k e × (has_event (is_cancel i) P ≡ false)
 
 -- a frame of stream i stands behind one of stream k
 abbrev pub PrintsBehind : List Frame → ℕ → ℕ → Type 0
@@ -101,19 +121,29 @@ PrintsBehind F k i = (A B : List Frame) × (f g : Frame) × (F ≡ A ++ g ∷ B)
 abbrev pub HasStoppedAll : Work → RunRecord → ℕ → Type 0
 HasStoppedAll work c i = (e : EndOf) × IsAmong e c.ends × (e.who ≡ Inner i) × (IsFailure e.how ⊎ (e.how ≡ how.Memory) ⊎ ((e.how ≡ how.Halted) × ¬ (EndStops work c (Inner i))))
 
--- As the record shows it, stream i was open when k began: it printed behind k, its end stopped those that hadn't begun, it printed last where no more is printed,
--- or its end stops k.
-abbrev pub WasOpen : Work → RunRecord → ℕ → ℕ → Type 0
-WasOpen work c k i = PrintsBehind (begun_frames c) k i ⊎ HasStoppedAll work c i ⊎ (IsSilenced work c × (last_stream c ≡ Some i)) ⊎ ((until_by work (Inner k) ≡ Some i) × HasLeft i c.events)
+-- stream k began, and stream i printed behind it or its end stops k
+abbrev pub OutlastsBegin : Work → RunRecord → ℕ → ℕ → Type 0
+OutlastsBegin work c k i = Acts (Inner k) c.events × (PrintsBehind (begun_frames c) k i ⊎ ((until_by work (Inner k) ≡ Some i) × HasLeft i c.events))
 
--- fewer than `width` of the streams before k were open when it began
+-- As the record shows it, stream i was open when k had its turn: it hadn't left, its end stopped those that hadn't begun, or it printed last where no more is printed;
+-- or k began then, and it printed behind k or its end stops k.
+abbrev pub WasOpen : Work → RunRecord → ℕ → ℕ → Type 0
+WasOpen work c k i = WasIn c.events k i ⊎ HasStoppedAll work c i ⊎ (IsSilenced work c × (last_stream c ≡ Some i)) ⊎ OutlastsBegin work c k i
+
+-- fewer than `width` of the streams before k were open when it had its turn
 abbrev pub HadRoom : ℕ → Work → RunRecord → ℕ → Type 0
 HadRoom width work c k = (others : List ℕ) × (length others < width) × ((i : ℕ) → i < k → WasOpen work c k i → IsAmong i others)
 
--- each stream began in room that was there, which none had left whose end stops it
+-- Each stream had its turn in room that was there, which none had left whose end stops it or all that hadn't begun: the outer stream went on behind it then, and it began. None had its turn
+-- behind one that wasn't begun, unless the end of another stopped that.
+pub record TakeTurns (width : ℕ) (work : Work) (c : RunRecord) : Type 0 where
+  pub room : (k : ℕ) → HadTurn c.events k → HadRoom width work c k
+  pub passed : (e : EndOf) (k : ℕ) → IsAmong e c.ends → e.who ≡ Inner k → ¬ (Acts (Inner k) c.events) → EndStops work c (Inner k) ⊎ IsLastTurn k c.events
+
+-- where there is an outer stream, its streams took turns
 abbrev pub BeginInRoom : Option Opener → Work → RunRecord → Type 0
 BeginInRoom None work c = Unit {0}
-BeginInRoom (Some o) work c = (k : ℕ) → Acts (Inner k) c.events → HadRoom o.max_open work c k
+BeginInRoom (Some o) work c = TakeTurns o.max_open work c
 
 -- memory was wanting where an end says so
 pub record HaveEnds (work : Work) (c : RunRecord) (w : ℕ → DeviceTold) : Type 0 where

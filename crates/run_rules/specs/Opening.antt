@@ -91,13 +91,17 @@ pub record IsListed (l : Lister) (n : ℕ) (L : List Event) (d : DeviceTold) : T
   pub leased : AllByRecursion (λ k. IsLeased L k) (range_with_len (n - length l.lines) (length l.lines))
   pub in_time : IsReadInTime l d
 
+-- a fault of the list is that of its device, which could not be opened, or of which a read failed; and where nothing of it failed it may be that of a line
+abbrev pub IsListFault : DeviceTold → Code → Type 0
+IsListFault d f = ((d.open_faults ≡ 1) × (f ≡ code.Open)) ⊎ ((d.open_faults ≡ 0) × ((f ≡ code.Read) ⊎ (d.read_faults ≡ 0)))
+
 module _ (o : Opener) (A : DeviceTold → Outcomes) (n : ℕ) (c : RunRecord) (w : ℕ → DeviceTold) where
   -- how the list came out, where there is one, of which A says what it may give: it was read to its end, it failed so, or it was left
   abbrev pub ListIsDone : Type 0
   ListIsDone = IfSome o.list (λ l. IsListRead c (list_row o) (w (list_row o)) × IsListing l (A (w (list_row o))) Done)
 
   abbrev pub ListFails : Code → Type 0
-  ListFails f = (l : Lister) × (o.list ≡ Some l) × IsBack c (w (list_row o)) × IsListing l (A (w (list_row o))) (Fault f)
+  ListFails f = (l : Lister) × (o.list ≡ Some l) × IsBack c (w (list_row o)) × IsListing l (A (w (list_row o))) (Fault f) × IsListFault (w (list_row o)) f
 
   abbrev pub ListIsLeft : Type 0
   ListIsLeft = IfSome o.list (λ l. IsListLeft l (A (w (list_row o))) (w (list_row o)))

@@ -4,7 +4,7 @@ use Rattle.std.specs.List.{AllByRecursion}
 use Rattle.chunk_core.specs.Lists.{IsAmong}
 use Rattle.chunk_core.specs.Texts.{Frame, frame_text}
 use Rattle.chunk_core.specs.Elements.{Element, rendering_of}
-use Rattle.chunk_core.specs.Outcomes.{End, Done, Fault, Cut}
+use Rattle.chunk_core.specs.Outcomes.{End, Done, Fault, Cut, Outcomes}
 use Rattle.chunk_core.specs.declared.code.How.{How}
 use Rattle.chunk_core.specs.declared.code.How.TheVariants as how
 use Rattle.device_port.specs.Device.{DeviceTold}
@@ -17,6 +17,14 @@ IsReported Done h = h ≡ how.Done
 IsReported (Fault c) h = h ≡ how.Fault c
 IsReported Cut h = (h ≡ how.Halted) ⊎ (h ≡ how.Memory)
 
+-- these elements come first in a run of A
+abbrev pub StartsRunOf : Outcomes → List Element → Type 0
+StartsRunOf A ys = (more : List Element) × (e : End) × A (ys ++ more) e
+
+-- A gives these elements and ends so; of one that was left these are a front, wherever it went on to
+abbrev pub RunsOrLeft : Outcomes → Outcomes
+RunsOrLeft A ys e = A ys e ⊎ ((e ≡ Cut) × StartsRunOf A ys)
+
 -- the elements of pieces, one piece after another
 abbrev pub elements_in_pieces : List (List Element) → List Element
 elements_in_pieces pieces = flat_map (λ xs. xs) pieces
@@ -26,11 +34,11 @@ abbrev pub payloads_by : ℕ → List Frame → List (List ℕ)
 payloads_by k F = map (λ f. f.payload) (filter (λ f. nat_eq f.stream k) F)
 
 module _ (work : Work) (v : Values) (w : ℕ → DeviceTold) (F : List Frame) where
-  -- each frame of stream k renders a piece of a run with the end that is reported
+  -- each frame of stream k renders a piece of a run with the end that is reported, or of one that was left
   pub record IsOutput (k : ℕ) (h : How) : Type 0 where
     pub pieces : List (List Element)
     pub end : End
-    pub run : work.runs k v w (elements_in_pieces pieces) end
+    pub run : RunsOrLeft (work.runs k v w) (elements_in_pieces pieces) end
     pub printed : payloads_by k F ≡ map rendering_of pieces
     pub reported : IsReported end h
 
@@ -48,7 +56,7 @@ module _ (work : Work) (v : Values) (w : ℕ → DeviceTold) (F : List Frame) wh
     pub front : 0 < length more
     pub text : rest ++ more ≡ frame_text f.stream f.payload
     pub pieces : List (List Element)
-    pub run : work.runs f.stream v w (elements_in_pieces pieces) Cut
+    pub run : StartsRunOf (work.runs f.stream v w) (elements_in_pieces pieces)
     pub goes_on : payloads_by f.stream F ++ f.payload ∷ [] ≡ map rendering_of pieces
 
   -- what was written behind the whole frames: a front of the frame whose write failed, else nothing

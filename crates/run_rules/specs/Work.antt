@@ -46,7 +46,8 @@ pub record Opener : Type 0 where
   pub most : Option ℕ
 
 -- The streams that run side by side, and the outer stream that gives them, where there is one. What stream k may give and how it
--- may end is a relation over the values of the tables and the devices of the rows, and what the list may give is one over its device.
+-- may end is a relation over the values of the tables and the devices of the rows, by which the end tells of what failed on these, too;
+-- and what the list may give is one over its device.
 pub record Work : Type 1 where
   pub opener : Option Opener
   pub streams : List Stream

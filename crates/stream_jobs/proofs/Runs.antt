@@ -13,7 +13,8 @@ use Rattle.interrupt_ctx.specs.declared.why.Why.{Why}
 use Rattle.pull_turns.specs.Around.{Affords, Around}
 use Rattle.pull_turns.specs.Led.{CanBeCut, Led, TouchesOnly, Turns}
 use Rattle.pull_turns.specs.Piping.{StateMeaning}
-use Rattle.pull_turns.specs.Rest.{CanStep, IsRunOfRest}
+use Rattle.pull_turns.specs.Failures.{IsToldRunOfRest}
+use Rattle.pull_turns.specs.Rest.{CanStep}
 use Rattle.pull_turns.specs.Turned.{Over, Spends, SpendsWithin}
 use Rattle.pull_turns.specs.declared.rest.Rest.{Rest}
 use Rattle.pull_turns.specs.declared.rest.Rest.TheVariants.{Nil}
@@ -36,7 +37,7 @@ over_later now last r t = record { over = λ p l. t.others p (λ m. m); goes = t
 
 -- what came is a run that was cut, where what was left may be left, whatever the devices come to tell by their closes
 cut_later : {F : Type 0} (P : StateMeaning F) (first before now last : ℕ → DeviceTold) (start rest : Rest F) (loads : List Load) → Led P first before start rest (elements_of loads) → TouchesOnly before now rest → CanBeCut P now rest → TouchesOnly {F = F} now last Nil
-    → IsRunOfRest P last start (elements_of loads) Cut
+    → IsToldRunOfRest P last start (elements_of loads) Cut
 cut_later P first before now last start rest loads h t cut closes = led_ends P first before now start rest (elements_of loads) Cut h t cut last (over_later now last start closes)
 
 -- as much was used at most as what was left could need
@@ -134,7 +135,7 @@ module _ {V F : Type 0} (told : V → DeviceTold) (P : Values → StateMeaning F
     halted_ends : Halts told a b → HasRun told P w b how.Halted loads
     halted_ends h = record {
       run = cut_later (P w.start.tables) first (told_at told a.site) (told_at told a.site) (told_at told b.site) w.start.rest a.rest loads g.led (tells_same (told_at told a.site) a.rest)
-          (cut_unwritten (P w.start.tables) (around told a.site) (around told a.site) 0 a.rest (subst (λ v. CanStep (P v) (around told a.site) 0 a.rest) g.tables g.can.step) (λ q. (refl, refl))) h.tells;
+          (cut_unwritten (P w.start.tables) (around told a.site) (around told a.site) 0 a.rest (subst (λ v. CanStep (P v) (around told a.site) 0 a.rest) g.tables g.can.step) (λ q. (refl, refl, refl, refl))) h.tells;
       filled = g.filled;
       since = since_on;
       goes = λ p. goes_on (first p) (told_at told a.site p) (told_at told b.site p) (g.led.tells.goes p) (h.tells.goes p);

@@ -124,7 +124,7 @@ module _ {V F : Type 0} (told : V → DeviceTold) (P : Values → StateMeaning F
   run_none : HasRun told P w last_unmade how.Memory []
   run_none = subst (λ (s : Stepping V F). HasRun told P (record w { start = s }) last_unmade how.Memory []) (sym u.start) (record {
     run = cut_unwritten (P w.start.tables) (around told first) (around told last_site) 0 (rest.Start n) (begun_can told n a devices u.supplied u.room P w.start.tables w.start.chunk u.chunk).step
-        (λ p. (ap (λ d. d.written) (sym (same_told p)), ap (λ d. d.write_faults) (sym (same_told p)))) (told_at told last_site) (over_now (told_at told last_site) (rest.Start n));
+        (λ p. (ap (λ d. d.written) (sym (same_told p)), ap (λ d. d.write_faults) (sym (same_told p)), ap (λ d. d.read_faults) (sym (same_told p)), ap (λ d. d.open_faults) (sym (same_told p)))) (told_at told last_site) (over_now (told_at told last_site) (rest.Start n));
     filled = tt;
     since = since_first;
     goes = λ p. subst (Goes (told_at told first p)) (same_told p) (goes_same (told_at told first p));

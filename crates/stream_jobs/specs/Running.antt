@@ -10,7 +10,8 @@ use Rattle.interrupt_ctx.specs.Ends.{SeatSeen}
 use Rattle.pull_turns.specs.Around.{Goes}
 use Rattle.pull_turns.specs.Led.{Led, end_of}
 use Rattle.pull_turns.specs.Piping.{StateMeaning}
-use Rattle.pull_turns.specs.Rest.{IsRunOfRest, rows_left, scopes_left}
+use Rattle.pull_turns.specs.Failures.{IsToldRunOfRest}
+use Rattle.pull_turns.specs.Rest.{rows_left, scopes_left}
 use Rattle.pull_turns.specs.Turned.{Spends, SpendsWithin}
 use Rattle.row_seat.specs.declared.view.View.{View}
 use Rattle.scope_tree.specs.declared.branch.Spent.{Spent}
@@ -50,9 +51,9 @@ module _ {V F : Type 0} (told : V → DeviceTold) where
       pub spends : Spends (around told w.start.site) (around told s.site) w.start.rest s.rest
       pub can : CanGo P told s
 
-    -- its stepper gave these loads and has ended so: they are those of a run, by what its devices tell at the end
+    -- its stepper gave these loads and has ended so: they are those of a run, by what its devices tell at the end, and the end tells of each failure of these
     pub record HasRun (w : Origin V F) (s : Stepping V F) (h : How) (loads : List Load) : Type 0 where
-      pub run : IsRunOfRest (P w.start.tables) (told_at told s.site) w.start.rest (elements_of loads) (end_of h)
+      pub run : IsToldRunOfRest (P w.start.tables) (told_at told s.site) w.start.rest (elements_of loads) (end_of h)
       pub filled : AreFilled loads
       pub since : Since told (FinishesDevice told) w.start.site s.site
       pub goes : (p : ℕ) → Goes (told_at told w.start.site p) (told_at told s.site p)

@@ -34,7 +34,7 @@ accounted = record {
   few = (omega arith, tt);
   retired = refl;
   once = IsPermutation-refl ((0, device_a.place) ∷ []);
-  shut = (record { shut = refl; closes = refl; once = omega arith; there = λ m a. absurd (let no : Some true ≡ Some false = a in cc) }, tt);
+  shut = (record { shut = refl; closes = refl; once = omega arith; there = λ m a. absurd (let no : Some true ≡ Some false = a in cc); within = omega arith }, tt);
   rows = (omega arith, (tt, (tt, tt)));
   acquired = (refl, (refl, tt));
   failed = tt;
@@ -66,7 +66,7 @@ accounted_unopened = record {
   few = (omega arith, tt);
   retired = refl;
   once = IsPermutation-refl ((0, device_a.place) ∷ []);
-  shut = (record { shut = refl; closes = refl; once = omega arith; there = λ m a. refl }, tt);
+  shut = (record { shut = refl; closes = refl; once = omega arith; there = λ m a. refl; within = omega arith }, tt);
   rows = (tt, tt);
   acquired = tt;
   failed = tt;

@@ -33,8 +33,8 @@ module _ (d : DeviceTold) (given : List Element) (bytes : List ℕ) (told : d.co
 
   -- the whole of a told content was given, where the outer stream is done
   pub whole_content : ReaderRuns d given Done → Whole
-  whole_content (inl r) = opens r
-  whole_content (inr l) = absurd (let no : Done ≡ Cut = l.0 in cc)
+  whole_content (inl r, t) = opens r
+  whole_content (inr l, t) = absurd (let no : Done ≡ Cut = l.0 in cc)
 
 rendered_both : (xs ys : List Element) → rendering_of (xs ++ ys) ≡ rendering_of xs ++ rendering_of ys
 rendered_both [] ys = refl
@@ -55,8 +55,8 @@ read_opens d given (inl r) = read_reads d given r.2
 read_opens d given (inr f) = absurd (let no : Done ≡ Fault code.Open = f.3 in cc)
 
 pub read_well : (d : DeviceTold) (given : List Element) → ReaderRuns d given Done → d.read_faults ≡ 0
-read_well d given (inl r) = read_opens d given r
-read_well d given (inr l) = absurd (let no : Done ≡ Cut = l.0 in cc)
+read_well d given (inl r, t) = read_opens d given r
+read_well d given (inr l, t) = absurd (let no : Done ≡ Cut = l.0 in cc)
 
 -- only a run that is done is reported so
 pub reported_done : (e : End) → IsReported e how.Done → e ≡ Done

@@ -51,7 +51,7 @@ module _ (ends : List EndOf) (frames : List Frame) (cut : Option Frame) (rest : 
 
   reader_a : IsReader path_a (run_left ends frames cut rest) device_a given Done how.Done
   reader_a = record {
-    run = inl (inl (refl, refl, inl (refl, (refl, omega arith, refl, refl))));
+    run = (inl (inl (refl, refl, inl (refl, (refl, omega arith, refl, refl)))), inl (refl, inl (refl, tt)));
     reported = refl;
     fault = tt;
     root = (Succeeded, (_, there _ (here _), refl, refl));
@@ -152,7 +152,7 @@ not_opened_right = record {
     given = [];
     end = Fault code.Open;
     reader = record {
-      run = inl (inr (refl, refl, refl, refl, tt));
+      run = (inl (inr (refl, refl, refl, refl, tt)), inr (refl, refl, refl));
       reported = refl;
       fault = (device_closed, here [], here [], omega arith);
       root = (Errored, (_, here _, refl, refl));

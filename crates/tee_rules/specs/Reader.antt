@@ -6,6 +6,7 @@ use Rattle.chunk_core.specs.Outcomes.{End, Outcomes}
 use Rattle.chunk_core.specs.declared.code.How.{How}
 use Rattle.device_port.specs.Device.{Place, DeviceTold, to_read}
 use Rattle.device_port.specs.Depot.{content_at}
+use Rattle.pull_nodes.specs.Failures.{FileTells}
 use Rattle.pull_nodes.specs.Runs.{OrLeft, OpensThen, Reads}
 use Rattle.res_ledger.specs.declared.event.StreamNo.TheVariants.{Outer}
 use Rattle.res_ledger.specs.declared.event.Event.{Event}
@@ -25,9 +26,9 @@ use Rattle.run_rules.specs.Work.{RunRecord}
 abbrev pub tee_places : List ℕ → List Place
 tee_places path = to_read path ∷ []
 
--- the device is opened and read, and may be left at any time
+-- the device is opened and read, and may be left at any time; the end tells of each failure of it
 abbrev pub ReaderRuns : DeviceTold → Outcomes
-ReaderRuns d = OrLeft (Unit {0}) (OpensThen d (OrLeft (Unit {0}) (Reads d)) (Unit {0}))
+ReaderRuns d ys e = OrLeft (Unit {0}) (OpensThen d (OrLeft (Unit {0}) (Reads d)) (Unit {0})) ys e × FileTells d e
 
 -- the rules of the ledger: only the outer stream notes something, it leases nothing and opens no scope
 pub record KeepsReaderRules (L : List Event) : Type 0 where

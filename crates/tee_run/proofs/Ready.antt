@@ -6,11 +6,11 @@ use Rattle.device_port.specs.Device.{DeviceTold}
 use Rattle.device_port.specs.Depot.{DepotTold, Makes}
 use Rattle.device_port.specs.Sink.{SinkTold}
 use Rattle.pipeline_desc.specs.declared.step.Step.{Step}
-use Rattle.pull_nodes.specs.Runs.{IsRun}
+use Rattle.pull_nodes.specs.Failures.{IsToldRun}
 use Rattle.pull_nodes.specs.Shape.{scope_count}
 use Rattle.pull_nodes.specs.declared.node.Node.{Node}
 use Rattle.res_ledger.specs.declared.event.StreamNo.TheVariants.{Outer}
-use Rattle.run_rules.specs.Devices.{OpensWhatIsThere}
+use Rattle.run_rules.specs.Devices.{KeepsToWhatIsThere}
 use Rattle.stream_parts.specs.Retire.{MayReturnAll, Returns, devices_of}
 use Rattle.cat_run.specs.Cat.{cat_work}
 use Rattle.cat_run.proofs.Unmade.{performs_nothing, unmade_outcome, wrote_none}
@@ -33,10 +33,10 @@ module _ {V : Type 0} (told : V → DeviceTold) (path : List ℕ) (branches : Li
   may_go = may_return told path old mid d makes Outer n all.home left all.comes
 
   -- the file was read for the branches
-  pub tee_ran : ((v : V) → OpensWhatIsThere (told v)) → (new : DepotTold) → Returns mid new (devices_of told r.shelf r.unopened) → RunsTee path branches old new so sn r.outcome
+  pub tee_ran : ((v : V) → KeepsToWhatIsThere (told v)) → (new : DepotTold) → Returns mid new (devices_of told r.shelf r.unopened) → RunsTee path branches old new so sn r.outcome
   tee_ran each_there new back =
       teed_file path branches old new so sn r.outcome all.home all.how all.given all.end
-      (subst (λ m. IsRun no_values all.home m all.given all.end) is.1 all.run) all.reported
+      (subst (λ m. IsToldRun no_values all.home m all.given all.end) is.1 all.run) all.reported
       (comes_back told path old mid d makes Outer n all.home left all.comes each_there new back)
       (subst (λ m. IsAccountOf Outer 1 (scope_count m) all.home all.how r.outcome.ledger) is.1 all.comes.account) all.prints
 

@@ -64,7 +64,7 @@ opens_front d bytes is ys e (inl r) = left_front (Reads d) (map Byte bytes) (λ 
 opens_front d bytes is ys e (inr r) = (map Byte bytes, ap (λ l. l ++ map Byte bytes) (sym r.2))
 
 reader_front : (d : DeviceTold) (bytes : List ℕ) → d.content ≡ Some bytes → (ys : List Element) (e : End) → ReaderRuns d ys e → IsFront ys (map Byte bytes)
-reader_front d bytes is ys e r = left_front (OpensThen d (OrLeft (Unit {0}) (Reads d)) (Unit {0})) (map Byte bytes) (opens_front d bytes is) ys e r
+reader_front d bytes is ys e r = left_front (OpensThen d (OrLeft (Unit {0}) (Reads d)) (Unit {0})) (map Byte bytes) (opens_front d bytes is) ys e r.0
 
 -- a device without a fault whose content is short enough isn't read with one
 short_done : (d : DeviceTold) (bytes : List ℕ) → d.content ≡ Some bytes → length bytes < 2 ^ 40 → (ys : List Element) (c : Code) → ReadsWholeBy d.content d ys (Fault c) → ⊥

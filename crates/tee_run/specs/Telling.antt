@@ -14,7 +14,7 @@ use Rattle.device_port.specs.Sink.{SinkTold, with_bytes}
 use Rattle.chain_pipes.specs.Over.{chain_all, chain_part}
 use Rattle.pipeline_desc.specs.declared.step.Step.{Step}
 use Rattle.pull_nodes.specs.Plain.{IsFront}
-use Rattle.pull_nodes.specs.Runs.{IsRun}
+use Rattle.pull_nodes.specs.Failures.{IsToldRun}
 use Rattle.pull_nodes.specs.declared.node.Node.{Node}
 use Rattle.res_ledger.specs.declared.event.StreamNo.TheVariants.{Inner, Outer}
 use Rattle.run_rules.specs.Facts.{IsOver, is_memory}
@@ -73,7 +73,7 @@ module _ {V : Type 0} (told : V → DeviceTold) where
     pub how : How
     pub given : List Element
     pub end : End
-    pub run : IsRun no_values home n given end
+    pub run : IsToldRun no_values home n given end
     pub reported : IsReported end how
     pub comes : ComesHome told Outer n devices home (record { how = how; ledger = r.outcome.ledger; shelf = r.shelf; unopened = r.unopened })
     pub prints : PrintsBranches branches given end how old new r.outcome

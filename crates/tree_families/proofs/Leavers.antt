@@ -1,17 +1,15 @@
 -- In which order streams leave.
-use Rattle.std.proofs.Common.{◌≡◌, ℕ, ◌<◌, Bool, true, false, List, [], ◌∷◌, ◌++◌, length, length-append, refl, sym, ap, ◌∙◌, subst, ⊎_elim, append_assoc, arith}
+use Rattle.std.proofs.Common.{◌≡◌, ℕ, ◌<◌, Bool, true, false, List, [], ◌∷◌, ◌++◌, refl, sym, ap, ◌∙◌, subst, ⊎_elim, arith}
 use Rattle.chunk_core.specs.declared.code.Exit.{Exit}
 use Rattle.chunk_core.specs.declared.code.Exit.TheVariants.{Succeeded}
 use Rattle.chunk_core.specs.Lists.{IsAmong}
-use Rattle.chunk_core.proofs.Cuts.{among_parts}
 use Rattle.chunk_core.proofs.Filters.{among_append}
-use Rattle.chunk_core.proofs.Members.{among_cons, among_last, among_left, among_mid, among_nil}
+use Rattle.chunk_core.proofs.Members.{among_cons, among_last, among_left, among_nil}
 use Rattle.res_ledger.specs.declared.event.Event.{Event}
 use Rattle.res_ledger.specs.declared.event.StreamNo.{StreamNo}
-use Rattle.res_ledger.specs.declared.event.StreamNo.TheVariants.{Inner, Outer}
 use Rattle.res_ledger.specs.declared.event.What.{What}
 use Rattle.res_ledger.specs.declared.event.What.TheVariants.{Acquire, Cancel, Close, Lease, Open}
-use Rattle.res_ledger.specs.Ledger.{IsClosed, IsStamped, Notes, NotesClose}
+use Rattle.res_ledger.specs.Ledger.{IsClosed, Notes, NotesClose}
 use Rattle.res_ledger.specs.Order.{finals}
 use Rattle.res_ledger.specs.Own.{own}
 use Rattle.scope_tree.specs.Calls.{Seen}

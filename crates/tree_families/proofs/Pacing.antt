@@ -137,19 +137,28 @@ module _ {P : Type 0} {ends : P → Exit → Bool → P → Type 0} (b : Seen P)
       (λ h. narrow_at n R S e is h.0 h.2 h.3)
       (last_passing (is_active R e) n)
 
-  -- of the streams below k those without a Cancel were out when its seat was split off
+  -- of the streams below that of m those without a Cancel were out when its seat was split off
+  was_out : (R S : List Event) (e : Event) (m : Split) → L ≡ R ++ e ∷ S → IsAmong m ms → m.floor ≤ length R → (i : ℕ) → i < m.stream → not (any (λ x. is_cancel i x.what) R) ≡ true → IsAmong i m.out
+  was_out R S e m is a low i less h =
+      let p = paced m a in
+      ⊎_elim
+      (λ q. ⊎_elim
+      (λ o. subst (λ z. IsAmong z m.out) q.2 o)
+      (λ o. absurd (uncancelled R q.0.stream (Inner q.0.stream) (subst (λ z. not (any (λ x. is_cancel z x.what) R) ≡ true) (sym q.2) h) (o.0, noted_before R S e (Inner q.0.stream) (Cancel q.0.stream o.0) m.floor is low o.1)))
+      (p.over q.0 q.1 (subst (λ x. x < m.stream) (sym q.2) less)))
+      (λ q. absurd (uncancelled R i Outer h (q.0, noted_before R S e Outer (Cancel i q.0) m.floor is low q.1)))
+      (p.dealt i less)
+
+  -- so a stream that hadn't left before an event of k was out when the seat of k was split off
+  pub family_room : (R S : List Event) (e : Event) (k i : ℕ) → L ≡ R ++ e ∷ S → e.by ≡ Inner k → i < k → not (any (λ x. is_cancel i x.what) R) ≡ true → (m : Split) × IsAmong m ms × (m.stream ≡ k) × IsAmong i m.out
+  family_room R S e k i is by l h =
+      let t = mark_at e k (subst (λ l. IsAmong e l) (sym is) (among_mid R S e)) by in
+      let low : t.0.floor ≤ length R = subst (λ x. t.0.floor ≤ x) (ledger.stamped R S e is) t.3 in
+      (t.0, t.1, t.2, was_out R S e t.0 is t.1 low i (subst (λ x. i < x) (sym t.2) l) h)
+
   pub family_begins : BeginInOrder width L
   family_begins R S e k is by =
       let t = mark_at e k (subst (λ l. IsAmong e l) (sym is) (among_mid R S e)) by in
       let low : t.0.floor ≤ length R = subst (λ x. t.0.floor ≤ x) (ledger.stamped R S e is) t.3 in
-      let p = paced t.0 t.1 in
-      let c = covered_count (λ i. not (any (λ x. is_cancel i x.what) R)) k t.0.out (λ i l h.
-      let less : i < t.0.stream = subst (λ x. i < x) (sym t.2) l in
-      ⊎_elim
-      (λ q. ⊎_elim
-      (λ o. subst (λ z. IsAmong z t.0.out) q.2 o)
-      (λ o. absurd (uncancelled R q.0.stream (Inner q.0.stream) (subst (λ z. not (any (λ x. is_cancel z x.what) R) ≡ true) (sym q.2) h) (o.0, noted_before R S e (Inner q.0.stream) (Cancel q.0.stream o.0) t.0.floor is low o.1)))
-      (p.over q.0 q.1 (subst (λ x. x < t.0.stream) (sym q.2) less)))
-      (λ q. absurd (uncancelled R i Outer h (q.0, noted_before R S e Outer (Cancel i q.0) t.0.floor is low q.1)))
-      (p.dealt i less)) in
-      let m = p.narrow in omega (arith, c, m)
+      let c = covered_count (λ i. not (any (λ x. is_cancel i x.what) R)) k t.0.out (λ i l h. was_out R S e t.0 is t.1 low i (subst (λ x. i < x) (sym t.2) l) h) in
+      let m = (paced t.0 t.1).narrow in omega (arith, c, m)

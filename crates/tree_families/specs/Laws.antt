@@ -1,5 +1,5 @@
 -- What holds of a main tree with the seats that it split off, and of its ledger once all came back.
-use Rattle.std.specs.Prelude.{◌≡◌, ◌≢◌, ◌⊎◌, ℕ, ◌<◌, Bool, List, [], ◌∷◌, ◌++◌}
+use Rattle.std.specs.Prelude.{◌≡◌, ◌≢◌, ◌⊎◌, ℕ, ◌<◌, Bool, false, List, [], ◌∷◌, ◌++◌}
 use Rattle.chunk_core.specs.declared.code.Exit.{Exit}
 use Rattle.chunk_core.specs.Lists.{IsAmong}
 use Rattle.res_ledger.specs.declared.event.Event.{Event}
@@ -17,6 +17,8 @@ use Rattle.tree_laws.specs.Lent.{Lent}
 use Rattle.tree_laws.specs.Visits.{HasNothingOpen, Visits}
 use Rattle.tree_laws.specs.Whole.{IsWholeLedger}
 use Rattle.tree_families.specs.Families.{CameBack, IsFamily, Split, split_of}
+use Rattle.res_ledger.specs.Whole.{is_cancel}
+use Rattle.run_rules.specs.Facts.{has_event}
 use Rattle.run_rules.specs.Pace.{BeginInOrder, LeasesAhead, WithinWidth}
 use Rattle.tree_families.specs.Pace.{IsInPace}
 use Rattle.tree_families.specs.Leaving.{LeavesLast}
@@ -41,11 +43,13 @@ module _ {P : Type 0} (ends : P → Exit → Bool → P → Type 0) where
     pub main : (b : Seen P) (ms : List Split) (L : List Event) (j n : ℕ) (f : IsFamily ends b ms) (t : CameBack ends b j n) → IsLedgerOf b.seat L → f.first.shelf ≡ [] → t.visit.first.shelf ≡ [] → (r : ℕ) → IsAmong r (firsts (said b.shelf)) → ¬ (IsAmong r (firsts (said t.last.shelf)))
     pub back : (b : Seen P) (L : List Event) (i j m n : ℕ) (s : CameBack ends b i m) (t : CameBack ends b j n) → i ≢ j → IsLedgerOf b.seat L → s.visit.first.shelf ≡ [] → t.visit.first.shelf ≡ [] → (r : ℕ) → IsAmong r (firsts (said s.last.shelf)) → ¬ (IsAmong r (firsts (said t.last.shelf)))
 
-  -- where each seat was split off in pace, the leases of a finished ledger are ahead, it is within the width, and its streams begin in their order
+  -- where each seat was split off in pace, the leases of a finished ledger are ahead, it is within the width, and its streams begin in their order; and a stream that hadn't left before an event of a later one was out when the seat of that was split off
   pub record FamilyIsPaced : Type 0 where
     pub ahead : (b : Seen P) (ms : List Split) (L : List Event) (width : ℕ) → IsFamily ends b ms → b.seat.by ≡ Outer → b.seat.out ≡ [] → IsLedgerOf b.seat L → ((m : Split) → IsAmong m ms → IsInPace width b.seat.events Outer ms m) → LeasesAhead L
     pub within : (b : Seen P) (ms : List Split) (L : List Event) (width n : ℕ) → IsFamily ends b ms → b.seat.by ≡ Outer → b.seat.out ≡ [] → IsLedgerOf b.seat L → ((m : Split) → IsAmong m ms → IsInPace width b.seat.events Outer ms m) → WithinWidth width n L
     pub begins : (b : Seen P) (ms : List Split) (L : List Event) (width : ℕ) → IsFamily ends b ms → b.seat.by ≡ Outer → b.seat.out ≡ [] → IsLedgerOf b.seat L → ((m : Split) → IsAmong m ms → IsInPace width b.seat.events Outer ms m) → BeginInOrder width L
+    pub room : (b : Seen P) (ms : List Split) (L : List Event) (width : ℕ) → IsFamily ends b ms → b.seat.by ≡ Outer → b.seat.out ≡ [] → IsLedgerOf b.seat L → ((m : Split) → IsAmong m ms → IsInPace width b.seat.events Outer ms m)
+        → (R S : List Event) (e : Event) (k i : ℕ) → L ≡ R ++ e ∷ S → e.by ≡ Inner k → i < k → has_event (is_cancel i) R ≡ false → (m : Split) × IsAmong m ms × (m.stream ≡ k) × IsAmong i m.out
 
   -- the main seat may finish once nothing is open, all seats are back, and of each lease that it made it cancelled it or split the seat of its stream off
   abbrev pub FamilyMayFinish : Type 0

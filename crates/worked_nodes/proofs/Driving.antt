@@ -6,7 +6,7 @@ use Rattle.chunk_core.specs.Elements.{Element}
 use Rattle.chunk_core.specs.Tables.{Values}
 use Rattle.device_port.specs.Device.{DeviceTold}
 use Rattle.device_port.specs.declared.device.Mode.TheVariants as mode
-use Rattle.pull_nodes.specs.Runs.{IsRun}
+use Rattle.pull_nodes.specs.Failures.{IsToldRun}
 use Rattle.pull_nodes.specs.declared.node.Node.{Node}
 use Rattle.pull_turns.specs.Around.{Affords}
 use Rattle.pull_turns.specs.Led.{TouchesOnly, Uncons, end_by}
@@ -82,7 +82,7 @@ module _ {V F : Type 0} (P : Values → StateMeaning F) (told : V → DeviceTold
       let spare : left.seat.spare ≡ z.site.tree.seat.spare = ap (λ t. t.seat.spare) end.tree in
       record {
         w = told_at told z.site;
-        run = subst (λ e. IsRun (P t).values (told_at told z.site) n xs e) ended (gathers (told_at told z.site) (record { over = λ p i. tells.others p (λ l. l); goes = tells.goes }));
+        run = subst (λ e. IsToldRun (P t).values (told_at told z.site) n xs e) ended (gathers (told_at told z.site) (record { over = λ p i. tells.others p (λ l. l); goes = tells.goes }));
         same = since.same;
         parted = subst (λ f. Parted told (told_at told z.site) left.shelf (span_of n (length devices)).to f ds) since.from
             (subst (λ t. Parted told (told_at told z.site) left.shelf t z.site.from ds) to end.parted);

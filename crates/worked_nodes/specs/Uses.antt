@@ -5,14 +5,14 @@ use Rattle.chunk_core.specs.declared.code.How.{How}
 use Rattle.chunk_core.specs.Elements.{Element}
 use Rattle.chunk_core.specs.Outcomes.{exit_of}
 use Rattle.device_port.specs.Device.{DeviceTold}
-use Rattle.pull_nodes.specs.Runs.{IsRun}
+use Rattle.pull_nodes.specs.Failures.{IsToldRun}
 use Rattle.pull_nodes.specs.Shape.{places_of, scope_count}
 use Rattle.chunk_core.specs.Tables.{Values}
 use Rattle.pull_nodes.specs.declared.node.Node.{Node}
 use Rattle.pull_turns.specs.Around.{IsClosedWith}
 use Rattle.pull_turns.specs.Led.{IsShut, end_by, end_of}
 use Rattle.pull_turns.specs.Piping.{StateMeaning}
-use Rattle.pull_turns.specs.Rest.{IsRunOfRest}
+use Rattle.pull_turns.specs.Failures.{IsToldRunOfRest}
 use Rattle.pull_turns.specs.Turned.{Over}
 use Rattle.res_ledger.specs.declared.event.What.TheVariants.{Close}
 use Rattle.res_ledger.specs.Ledger.{Notes}
@@ -30,7 +30,7 @@ HasExit a x = (y : Exit) → Notes a.seat.events a.seat.by (Close 0 y) → y ≡
 module _ {V F : Type 0} (P : Values → StateMeaning F) (told : V → DeviceTold) where
   -- what was given since a, and how it ended, if it has, is a run of what was left
   abbrev pub Gathers : Stepping V F → Stepping V F → List Element → Type 0
-  Gathers a b xs = (w : ℕ → DeviceTold) → Over (told_at told b.site) w a.rest → IsRunOfRest (P a.tables) w a.rest xs (end_by b.how)
+  Gathers a b xs = (w : ℕ → DeviceTold) → Over (told_at told b.site) w a.rest → IsToldRunOfRest (P a.tables) w a.rest xs (end_by b.how)
 
 module _ {V : Type 0} (told : V → DeviceTold) where
   abbrev pub IsLeftBy : {F : Type 0} → Option How → Stepping V F → Type 0
@@ -44,7 +44,7 @@ module _ {V : Type 0} (told : V → DeviceTold) where
   -- the node was run over these devices and tables with these values, gave xs and ended with h, which the Close of the root tells, and used no more room of the tree than the node counts
   pub record RanNode (t : Values) (n : Node) (devices : List V) (a b : Seen V) (xs : List Element) (h : How) (unopened : List V) : Type 0 where
     pub w : ℕ → DeviceTold
-    pub run : IsRun t w n xs (end_of h)
+    pub run : IsToldRun t w n xs (end_of h)
     pub same : (p : ℕ) → SameDevice (told_at told (site_of n a devices) p) (w p)
     pub parted : Parted told w b.shelf (span_of n (length devices)).to (span_of n (length devices)).from unopened
     pub root : IsClosedScope b 0

@@ -86,6 +86,8 @@ impl<V: Device> Device for MeetingDevice<V> {
 
     ghost no_exit = { λ d. V.no_exit d.device };
 
+    ghost within = { λ d. V.within d.device };
+
     ghost no_open = { λ d. V.no_open d.device };
 
     fn number(&self) -> u64 {

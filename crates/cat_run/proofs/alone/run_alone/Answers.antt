@@ -1,7 +1,7 @@
 -- What is told of the stream.
 use Rattle.std.proofs.Common.{subst, sym}
 use Rattle.chunk_core.specs.Tables.{no_values}
-use Rattle.pull_nodes.specs.Runs.{IsRun}
+use Rattle.pull_nodes.specs.Failures.{IsToldRun}
 use Rattle.lone_stream.proofs.Begun.{same_how}
 use Rattle.cat_run.specs.Alone.{IsRunIn}
 use Rattle.cat_run.specs.Printing.{is_unwritten, is_wanting}
@@ -19,6 +19,6 @@ returns g c =
       comes = r.comes;
       printed = r.prints.printed;
       small = r.prints.small;
-      run = subst (λ k. IsRunIn (IsRun no_values r.home c.args.node) r.prints.printed.pieces r.prints.printed.next (is_unwritten s) (is_wanting s) k) (same_how r.prints.how h (sym r.prints.ended_is)) r.prints.run;
+      run = subst (λ k. IsRunIn (IsToldRun no_values r.home c.args.node) r.prints.printed.pieces r.prints.printed.next (is_unwritten s) (is_wanting s) k) (same_how r.prints.how h (sym r.prints.ended_is)) r.prints.run;
       ends = c.ends_of.ensures;
     })

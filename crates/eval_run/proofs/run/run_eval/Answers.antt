@@ -25,7 +25,7 @@ returns-in-Ok-make g c =
     let e = subst (λ xs. Evaluated g.D.Dev.Device.told (result_of xs) c.args.group c.in-Ok.ready.node (c.in-Ok-make.device ∷ []) (g.K.Sink.told c.args.out.now) (g.K.Sink.told c.run_ready-evaluation.new.out) c.run_ready-evaluation.result.ran c.run_ready-evaluation.result.stop) c.in-Ok.ensures.work c.run_ready-evaluation.ensures.evaluated in
     let f = c.finish.ensures in
     eval_ran g.D.Dev.Device.told c.args.path.now c.args.steps.now c.args.group _ (g.D.Depot.told c.make.new.self) _ _ c.in-Ok.ready.node c.in-Ok-make.device c.in-Ok.ensures.ready.node c.in-Ok-make.ensures.made c.run_ready-evaluation.result.ran c.run_ready-evaluation.result.stop e
-    g.met.D.Dev.Device.no_open _ f.returns c.finish.result f.ends f.ledger f.broken f.memory
+    (λ d. (g.met.D.Dev.Device.no_open d, g.met.D.Dev.Device.within d)) _ f.returns c.finish.result f.ends f.ledger f.broken f.memory
 
 pub returns-in-Err : goal.returns-in-Err
 returns-in-Err g c =

@@ -2,6 +2,7 @@ use Rattle.join_tale.proofs.Ending.{ends, ends_late}
 use Rattle.join_tale.proofs.Growing.{marked_caused, marked_known}
 use Rattle.join_tale.proofs.Receiving.{drops, fails, lacks, meets, writes}
 use Rattle.join_tale.proofs.Steps.{begins, learns, outer_ends, skips, starts, starts_met, wants}
+use Rattle.join_tale.proofs.Turns.{houses, pulls}
 use Rattle.join_tale.specs.Steps.{learned}
 use Rattle.join_tale.proofs.laws.steps_keep_tale.Goals as goal
 
@@ -10,6 +11,8 @@ returns-clause-steps c bounds = record {
   starts = starts bounds;
   starts_met = starts_met bounds;
   learns = λ t vs cs i new. learns bounds t i vs cs new;
+  houses = houses bounds;
+  pulls = pulls bounds;
   begins = begins bounds;
   skips = skips bounds;
   wants = λ t vs cs mark i. wants bounds t i vs cs mark;

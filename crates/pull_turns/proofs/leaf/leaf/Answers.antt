@@ -1,4 +1,4 @@
-use Rattle.pull_turns.proofs.Stepping.{by_err, faulty_stepped, finishing_stepped, nil_stepped, on_err, on_ok, read_broken, read_stepped, same_broken}
+use Rattle.pull_turns.proofs.Stepping.{both_err, by_err, faulty_stepped, finishing_stepped, nil_stepped, on_err, on_ok, read_broken, read_stepped, same_broken}
 use Rattle.pull_turns.proofs.leaf.leaf.Goals as goal
 
 pub returns-in-Nil-clause-stepped : goal.returns-in-Nil-clause-stepped
@@ -16,7 +16,9 @@ returns-in-Read-clause-stepped g c =
     rw c.in-Read.is (on_ok c.read_piece.result c.read_piece.ensures.piece (λ t h. read_stepped _ _ _ _ _ _ _ _ _ _ t ready h))
 
 pub returns-in-Read-clause-broken : goal.returns-in-Read-clause-broken
-returns-in-Read-clause-broken g c = rw c.in-Read.is (by_err c.read_piece.result c.read_piece.ensures.place (λ h. read_broken _ _ _ _ h))
+returns-in-Read-clause-broken g c =
+    let place = both_err _ _ c.read_piece.result c.read_piece.ensures.place c.read_piece.ensures.well in
+    rw c.in-Read.is (by_err c.read_piece.result place (λ h. read_broken _ _ _ _ h.0 h.1))
 
 pub returns-in_err-turn-in-Finishing-clause-broken : goal.returns-in_err-turn-in-Finishing-clause-broken
 returns-in_err-turn-in-Finishing-clause-broken g c = on_err c.from_residual.result (same_broken _ _)

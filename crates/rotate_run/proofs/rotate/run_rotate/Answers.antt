@@ -24,7 +24,7 @@ returns-in-Ok-make-clause-rotates g c =
     let m = first_made (g.D.Depot.told c.args.depot.now) (g.D.Depot.told c.make.new.self) c.args.path.now c.args.prefix.now (g.D.Dev.Device.told c.in-Ok-make.device) c.in-Ok-make.ensures.made in
     rw c.retire.ensures.outcome
     (rotates_ran g.D.Dev.Device.told (g.D.Depot.told c.args.depot.now) (g.D.Depot.told c.run_rotation-ran.new.depot) c.args.path.now c.args.prefix.now c.args.bytes c.requires.apart c.requires.some c.run_rotation-ran.result
-    (c.run_rotation-ran.ensures (g.D.Depot.told c.args.depot.now) c.args.path.now m.1 m.0) g.met.D.Dev.Device.no_open _ c.retire.ensures.returns)
+    (c.run_rotation-ran.ensures (g.D.Depot.told c.args.depot.now) c.args.path.now m.1 m.0) (λ d. (g.met.D.Dev.Device.no_open d, g.met.D.Dev.Device.within d)) _ c.retire.ensures.returns)
 
 pub returns-in-Err-clause-rotates : goal.returns-in-Err-clause-rotates
 returns-in-Err-clause-rotates g c =

@@ -23,7 +23,7 @@ give_back-requires g c =
 pub returns-in-Ok-make : goal.returns-in-Ok-make
 returns-in-Ok-make g c =
     rw c.give_back.ensures.outcome
-    (tee_ran g.D.Dev.Device.told c.args.path.now c.args.branches.now _ (g.D.Depot.told c.make.new.self) _ _ c.in-Ok.ready.node c.in-Ok-make.device c.in-Ok.ensures.node c.in-Ok-make.ensures.made c.run_ready-teeing.result c.run_ready-teeing.ensures g.met.D.Dev.Device.no_open _ c.give_back.ensures.returns)
+    (tee_ran g.D.Dev.Device.told c.args.path.now c.args.branches.now _ (g.D.Depot.told c.make.new.self) _ _ c.in-Ok.ready.node c.in-Ok-make.device c.in-Ok.ensures.node c.in-Ok-make.ensures.made c.run_ready-teeing.result c.run_ready-teeing.ensures (λ d. (g.met.D.Dev.Device.no_open d, g.met.D.Dev.Device.within d)) _ c.give_back.ensures.returns)
 
 pub returns-in-Err : goal.returns-in-Err
 returns-in-Err g c =

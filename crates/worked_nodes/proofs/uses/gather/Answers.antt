@@ -4,7 +4,8 @@ use Rattle.chunk_core.specs.Elements.{elements}
 use Rattle.chunk_core.specs.Outcomes.{Cut}
 use Rattle.pull_turns.specs.Led.{CanBeCut, Led, end_by, end_of}
 use Rattle.pull_turns.specs.Piping.{standing}
-use Rattle.pull_turns.specs.Rest.{CanStep, IsRunOfRest}
+use Rattle.pull_turns.specs.Failures.{IsToldRunOfRest}
+use Rattle.pull_turns.specs.Rest.{CanStep}
 use Rattle.pull_turns.proofs.Led.{cut_unwritten, led_ends, led_short, led_start, led_then, spends_none, spends_then, tells_same}
 use Rattle.pull_stepper.specs.Held.{FinishesDevice}
 use Rattle.pull_stepper.specs.Laws.{since_same, since_then}
@@ -33,7 +34,7 @@ returns-in_err-load-clause-gathers g c =
     let M = standing g.F.Feed.stands g.F.Feed.comes in let values = g.F.PipeState.values in let told = g.V.Device.told in let view = g.S.RowSeat.view in
     let a = stepping view values c.args.stepper.now in let P = M a.tables in let b = stepping view values c.loop-ask.stepper in let z = stepping view values c.uncons.new.self in
     let xs = flat_map elements c.loop-ask.out.items in let k = c.in_err-load.ensures.wants in
-    λ w o. subst (λ h. IsRunOfRest P w a.rest xs (end_by h)) (sym k.how)
+    λ w o. subst (λ h. IsToldRunOfRest P w a.rest xs (end_by h)) (sym k.how)
     (led_ends P (told_at told a.site) (told_at told b.site) (told_at told z.site) a.rest b.rest xs Cut c.loop-ask.invariant.led k.tells (subst (λ t. CanBeCut (M t) (told_at told z.site) b.rest) c.loop-ask.invariant.tables k.cut) w o)
 
 pub returns-in_err-load-clause-since : goal.returns-in_err-load-clause-since
@@ -44,8 +45,8 @@ returns-in_err-push-in-Chunk-clause-gathers g c =
     let M = standing g.F.Feed.stands g.F.Feed.comes in let values = g.F.PipeState.values in let told = g.V.Device.told in let view = g.S.RowSeat.view in
     let a = stepping view values c.args.stepper.now in let P = M a.tables in let b = stepping view values c.loop-ask.stepper in let z = stepping view values c.uncons.new.self in
     let xs = flat_map elements c.loop-ask.out.items in let k = uncons_at M told a b z _ _ c.loop-ask.invariant.tables (rw c.in-Chunk.is at c.in_ok-load.ensures.first) in
-    λ w o. subst (λ ls. IsRunOfRest P w a.rest (flat_map elements ls) (end_by z.how)) (sym c.in_err-push-in-Chunk.ensures.items)
-    (subst (λ h. IsRunOfRest P w a.rest xs (end_by h)) (sym k.1)
+    λ w o. subst (λ ls. IsToldRunOfRest P w a.rest (flat_map elements ls) (end_by z.how)) (sym c.in_err-push-in-Chunk.ensures.items)
+    (subst (λ h. IsToldRunOfRest P w a.rest xs (end_by h)) (sym k.1)
     (led_ends P (told_at told a.site) (told_at told b.site) (told_at told z.site) a.rest b.rest xs Cut c.loop-ask.invariant.led k.3.tells (led_short P (around told b.site) (around told z.site) 0 b.rest z.rest (elements c.in-Chunk.load) k.2 k.3) w o))
 
 pub returns-in_err-push-in-Chunk-clause-since : goal.returns-in_err-push-in-Chunk-clause-since
@@ -56,7 +57,7 @@ returns-in-End-clause-gathers g c =
     let M = standing g.F.Feed.stands g.F.Feed.comes in let values = g.F.PipeState.values in let told = g.V.Device.told in let view = g.S.RowSeat.view in
     let a = stepping view values c.args.stepper.now in let P = M a.tables in let b = stepping view values c.loop-ask.stepper in let z = stepping view values c.uncons.new.self in
     let xs = flat_map elements c.loop-ask.out.items in let k = uncons_at M told a b z _ _ c.loop-ask.invariant.tables (rw c.in-End.is at c.in_ok-load.ensures.first) in
-    λ w o. subst (λ h. IsRunOfRest P w a.rest xs (end_by h)) (sym k.0)
+    λ w o. subst (λ h. IsToldRunOfRest P w a.rest xs (end_by h)) (sym k.0)
     (led_ends P (told_at told a.site) (told_at told b.site) (told_at told z.site) a.rest b.rest xs (end_of c.in-End.field-0) c.loop-ask.invariant.led k.3 k.4 w o)
 
 pub returns-in-End-clause-since : goal.returns-in-End-clause-since
@@ -102,5 +103,5 @@ returns-clause-gathers g c =
     let M = standing g.F.Feed.stands g.F.Feed.comes in let values = g.F.PipeState.values in let told = g.V.Device.told in let view = g.S.RowSeat.view in
     let a = stepping view values c.args.stepper.now in let P = M a.tables in let b = stepping view values c.loop-ask.stepper in
     let xs = flat_map elements c.loop-ask.out.items in let i = c.loop-ask.invariant in
-    λ w o. subst (λ h. IsRunOfRest P w a.rest xs (end_by h)) (sym i.can.how)
-    (led_ends P (told_at told a.site) (told_at told b.site) (told_at told b.site) a.rest b.rest xs Cut i.led (tells_same (told_at told b.site) b.rest) (cut_unwritten P (around told b.site) (around told b.site) 0 b.rest (subst (λ t. CanStep (M t) (around told b.site) 0 b.rest) i.tables i.can.step) (λ p. (refl, refl))) w o)
+    λ w o. subst (λ h. IsToldRunOfRest P w a.rest xs (end_by h)) (sym i.can.how)
+    (led_ends P (told_at told a.site) (told_at told b.site) (told_at told b.site) a.rest b.rest xs Cut i.led (tells_same (told_at told b.site) b.rest) (cut_unwritten P (around told b.site) (around told b.site) 0 b.rest (subst (λ t. CanStep (M t) (around told b.site) 0 b.rest) i.tables i.can.step) (λ p. (refl, refl, refl, refl))) w o)

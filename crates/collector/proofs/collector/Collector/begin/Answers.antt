@@ -36,6 +36,7 @@ use Rattle.collector.proofs.Begun.{begin_step}
 use Rattle.collector.proofs.Steps.{below, counted, few_out, its_lease, split_at, still_step}
 use Rattle.collector.proofs.Streams.{is_fresh}
 use Rattle.collector.proofs.Telling.{outer_done}
+use Rattle.collector.proofs.Turned.{house_step}
 use Rattle.collector.proofs.Tree.{ready_so, split_free, split_room, split_rows}
 use Rattle.collector.proofs.collector.Collector.begin.Goals as goal
 
@@ -169,7 +170,9 @@ returns-in-Err g c = record {
 
 pub returns-in-Ok : goal.returns-in-Ok
 returns-in-Ok g c = record {
-  collecting = λ path before now sink made d0 s0 k.
+  collecting = λ path before now sink made d0 s0 was.
+      let housed = house_step was c.requires.few in
+      let k = housed.0 in
       let view = g.S.RowSeat.view in
       let told = g.V.Device.told in
       let values = g.F.PipeState.values in
@@ -195,7 +198,7 @@ returns-in-Ok g c = record {
       let few = k.tree.few in
       let same = job.same in
       let pushed = c.push_back_reserved.ensures.items ∙ (ap (λ (o : Job _ _ _ _ _ _). c.job_of-job.new.self.jobs.items ++ o ∷ []) c.begin-open.ensures ∙ ap (λ (x : Collector _ _ _ _ _). x.jobs.items ++ j ∷ []) same) in
-      let begun = begin_step m k tree jobs c.split_off.new.desk c.job_of-job.new.desk c.requires.may c.requires.few now c.args.made.parts made (values c.args.made.tables) c.requires.tables (view c.in-Ok.seat) c.chunk.result c.chunk.ensures.value j guest.floor job.makes
+      let begun = begin_step m k tree jobs c.split_off.new.desk c.job_of-job.new.desk c.requires.may c.requires.few housed.1 now c.args.made.parts made (values c.args.made.tables) c.requires.tables (view c.in-Ok.seat) c.chunk.result c.chunk.ensures.value j guest.floor job.makes
       c.events.result c.events.ensures main split e.owed e.gives e.scopes e.room out e.fits e.others job.others pushed (c.push_back_reserved.ensures.capacity ∙ ap (λ (x : Collector _ _ _ _ _). deque_capacity x.jobs) same) 1 (omega (arith, few)) (λ y i. c.requires.ahead y) in
       subst (λ (x : Collector _ _ _ _ _). IsCollecting M p d0 s0 (between 1 now sink c.job_of-job.new.desk (record x { jobs = jobs; next = x.next + 1 }))) (sym same)
       (subst (λ xs. IsCollecting M p d0 s0 (record (between 1 now sink c.job_of-job.new.desk (record (with_seats_out (record a { tree = tree })) { jobs = jobs; next = a.next + 1 })) { jobs = xs })) (sym pushed) begun);

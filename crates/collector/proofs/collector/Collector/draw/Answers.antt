@@ -18,6 +18,7 @@ use Rattle.collector.proofs.Pulling.{leased_step, over_step}
 use Rattle.collector.proofs.Standing.{none_some}
 use Rattle.collector.proofs.Telling.{learns_none, tells_done}
 use Rattle.collector.proofs.Tree.{root_open}
+use Rattle.collector.proofs.Turned.{turn_step}
 use Rattle.collector.proofs.collector.Collector.draw.Goals as goal
 
 pub pull-requires-clause-limit : goal.pull-requires-clause-limit
@@ -52,8 +53,9 @@ skip-requires-clause-collecting g c =
     let sink = r.0 in
     let d0 = r.1.0 in
     let s0 = r.1.1 in
-    let k = r.1.2 in
     let a = c.args.self.now in
+    let turn = turn_step r.1.2 c.requires.waits c.requires.few c.requires.first c.requires.unknown in
+    let k = turn.0 in
     let own = c.as_slice.ensures ∙ k.its_parts in
     let u = c.in-Over.ensures in
     let pl = pulled_by k c.requires.outer c.requires.few own u.pulls in
@@ -62,12 +64,14 @@ skip-requires-clause-collecting g c =
     let mk = e.marks in
     let new = g.D.Depot.told c.pull.new.depot in
     let z = c.stop.new.self in
-    let over = over_step k c.requires.outer pl.keeps pl.rows o z.tree z.stops z.report c.stop.new.desk mk.0 mk.1 e.closes e.fits (λ s ne f. e.others s ne (u.others s ne f)) e.report mk.3 e.seated (tells_stop c.args.plan.now c.in-Over.how c.in-Some.why (sym c.in-Some.ensures) k.tale mk.0 mk.1 mk.2) in
+    let over = over_step k turn.1 c.requires.outer pl.keeps pl.rows o z.tree z.stops z.report c.stop.new.desk mk.0 mk.1 e.closes e.fits (λ s ne f. e.others s ne (u.others s ne f)) e.report mk.3 e.seated (tells_stop c.args.plan.now c.in-Over.how c.in-Some.why (sym c.in-Some.ensures) k.tale mk.0 mk.1 mk.2) in
     let stopped = subst (λ (x : Collector _ _ _ _ _). IsCollecting M c.args.plan.now d0 s0 (between 1 new sink c.stop.new.desk x)) (sym e.same) (more_may over 1 c.requires.waits (λ n. none_some c.in-Over.how (sym n))) in
     (c.args.plan.now, new, sink, (d0, s0, stopped))
 
 pub returns-in-Leased-clause-collecting : goal.returns-in-Leased-clause-collecting
-returns-in-Leased-clause-collecting g c sink d0 s0 k =
+returns-in-Leased-clause-collecting g c sink d0 s0 was =
+    let turn = turn_step was c.requires.waits c.requires.few c.requires.first c.requires.unknown in
+    let k = turn.0 in
     let M = members g.S.RowSeat.view g.V.Device.told g.S.RowSeat.fits g.F.PipeState.values (standing g.F.Feed.stands g.F.Feed.comes) in
     let a = c.args.self.now in
     let own = c.as_slice.ensures ∙ k.its_parts in
@@ -77,10 +81,12 @@ returns-in-Leased-clause-collecting g c sink d0 s0 k =
     let q = c.let_wait.new.self.waiting in
     subst (λ (x : Collector _ _ _ _ _). IsCollecting M c.args.plan.now d0 s0 (between (1 + length a.waiting.items) (g.D.Depot.told c.pull.new.depot) sink c.pull.new.desk x)) (sym waits.same)
     (subst (λ ws. IsCollecting M c.args.plan.now d0 s0 (record (between (1 + length a.waiting.items) (g.D.Depot.told c.pull.new.depot) sink c.pull.new.desk (record a { tree = c.pull.new.tree; outer_stream = c.pull.new.self; waiting = q })) { waiting = ws })) (sym waits.items)
-    (leased_step k c.requires.outer pl.keeps pl.rows (came k c.requires.outer c.requires.few own e.pulls) c.pull.new.tree q c.pull.new.desk refl e.fits e.others waits.room))
+    (leased_step k turn.1 c.requires.outer pl.keeps pl.rows (came k c.requires.outer c.requires.few own e.pulls) c.pull.new.tree q c.pull.new.desk refl e.fits e.others waits.room))
 
 pub returns-in-Listed-clause-collecting : goal.returns-in-Listed-clause-collecting
-returns-in-Listed-clause-collecting g c sink d0 s0 k =
+returns-in-Listed-clause-collecting g c sink d0 s0 was =
+    let turn = turn_step was c.requires.waits c.requires.few c.requires.first c.requires.unknown in
+    let k = turn.0 in
     let M = members g.S.RowSeat.view g.V.Device.told g.S.RowSeat.fits g.F.PipeState.values (standing g.F.Feed.stands g.F.Feed.comes) in
     let a = c.args.self.now in
     let own = c.as_slice.ensures ∙ k.its_parts in
@@ -90,10 +96,12 @@ returns-in-Listed-clause-collecting g c sink d0 s0 k =
     let q = c.let_wait-in-Listed.new.self.waiting in
     subst (λ (x : Collector _ _ _ _ _). IsCollecting M c.args.plan.now d0 s0 (between (1 + length a.waiting.items) (g.D.Depot.told c.pull.new.depot) sink c.pull.new.desk x)) (sym waits.same)
     (subst (λ ws. IsCollecting M c.args.plan.now d0 s0 (record (between (1 + length a.waiting.items) (g.D.Depot.told c.pull.new.depot) sink c.pull.new.desk (record a { tree = c.pull.new.tree; outer_stream = c.pull.new.self; waiting = q })) { waiting = ws })) (sym waits.items)
-    (leased_step k c.requires.outer pl.keeps pl.rows (came k c.requires.outer c.requires.few own e.pulls) c.pull.new.tree q c.pull.new.desk refl e.fits e.others waits.room))
+    (leased_step k turn.1 c.requires.outer pl.keeps pl.rows (came k c.requires.outer c.requires.few own e.pulls) c.pull.new.tree q c.pull.new.desk refl e.fits e.others waits.room))
 
 pub returns-in-Some-clause-collecting : goal.returns-in-Some-clause-collecting
-returns-in-Some-clause-collecting g c sink d0 s0 k =
+returns-in-Some-clause-collecting g c sink d0 s0 was =
+    let turn = turn_step was c.requires.waits c.requires.few c.requires.first c.requires.unknown in
+    let k = turn.0 in
     let M = members g.S.RowSeat.view g.V.Device.told g.S.RowSeat.fits g.F.PipeState.values (standing g.F.Feed.stands g.F.Feed.comes) in
     let a = c.args.self.now in
     let own = c.as_slice.ensures ∙ k.its_parts in
@@ -104,13 +112,15 @@ returns-in-Some-clause-collecting g c sink d0 s0 k =
     let mk = e.marks in
     let new = g.D.Depot.told c.pull.new.depot in
     let z = c.stop.new.self in
-    let over = over_step k c.requires.outer pl.keeps pl.rows o z.tree z.stops z.report c.stop.new.desk mk.0 mk.1 e.closes e.fits (λ s ne f. e.others s ne (u.others s ne f)) e.report mk.3 e.seated (tells_stop c.args.plan.now c.in-Over.how c.in-Some.why (sym c.in-Some.ensures) k.tale mk.0 mk.1 mk.2) in
+    let over = over_step k turn.1 c.requires.outer pl.keeps pl.rows o z.tree z.stops z.report c.stop.new.desk mk.0 mk.1 e.closes e.fits (λ s ne f. e.others s ne (u.others s ne f)) e.report mk.3 e.seated (tells_stop c.args.plan.now c.in-Over.how c.in-Some.why (sym c.in-Some.ensures) k.tale mk.0 mk.1 mk.2) in
     let stopped = subst (λ (x : Collector _ _ _ _ _). IsCollecting M c.args.plan.now d0 s0 (between 1 new sink c.stop.new.desk x)) (sym e.same) (more_may over 1 c.requires.waits (λ n. none_some c.in-Over.how (sym n))) in
     let skipped = c.skip.ensures.collecting c.args.plan.now new sink d0 s0 stopped in
     more_may skipped (1 + length a.waiting.items) (omega arith) (λ n. none_some c.in-Over.how (sym n ∙ (c.skip.ensures.outer ∙ ap (λ (x : Collector _ _ _ _ _). x.outer) e.same)))
 
 pub returns-in-None-clause-collecting : goal.returns-in-None-clause-collecting
-returns-in-None-clause-collecting g c sink d0 s0 k =
+returns-in-None-clause-collecting g c sink d0 s0 was =
+    let turn = turn_step was c.requires.waits c.requires.few c.requires.first c.requires.unknown in
+    let k = turn.0 in
     let M = members g.S.RowSeat.view g.V.Device.told g.S.RowSeat.fits g.F.PipeState.values (standing g.F.Feed.stands g.F.Feed.comes) in
     let a = c.args.self.now in
     let p = c.args.plan.now in
@@ -123,5 +133,5 @@ returns-in-None-clause-collecting g c sink d0 s0 k =
     let done = surely_done h o.unhalted (sym c.in-None.ensures) in
     let tells = subst (λ i. TellsOuter (plan_bounds p) (learned (outer_ended k.tale i) [] []) i []) (sym done) (tells_done p (learned (outer_ended k.tale how.Done) [] [])) in
     let z = c.close.new.self in
-    let over = over_step k c.requires.outer pl.keeps pl.rows o z.tree a.stops z.report c.close.new.desk [] [] e.closes e.fits (λ s ne f. e.others s ne (u.others s ne f)) e.report (learns_none a.stops) k.telling.seated tells in
+    let over = over_step k turn.1 c.requires.outer pl.keeps pl.rows o z.tree a.stops z.report c.close.new.desk [] [] e.closes e.fits (λ s ne f. e.others s ne (u.others s ne f)) e.report (learns_none a.stops) k.telling.seated tells in
     subst (λ (x : Collector _ _ _ _ _). IsCollecting M p d0 s0 (between (1 + length a.waiting.items) (g.D.Depot.told c.pull.new.depot) sink c.close.new.desk x)) (sym e.same) (more_may over (1 + length a.waiting.items) (omega arith) (λ n. none_some h (sym n)))

@@ -1,5 +1,8 @@
 -- The outer stream is pulled for the first time, unless no frame is wanted.
-use Rattle.std.proofs.Common.{◌≡◌, ◌≢◌, ◌+◌, [], None, Some, ap, arith, length, subst, sym, ◌∙◌}
+use Rattle.std.proofs.Common.{◌≡◌, ◌≢◌, ◌+◌, [], None, Some, ap, arith, length, subst, sym, ◌∙◌, ⊎_elim}
+use Rattle.chunk_core.proofs.Members.{among_nil}
+use Rattle.interrupt_ctx.specs.Ends.{SeatSeen}
+use Rattle.join_report.specs.Stopping.{IsUnknown}
 use Rattle.device_port.specs.Sink.{SinkTold}
 use Rattle.pull_turns.specs.Piping.{standing}
 use Rattle.collector.specs.Collecting.{IsCollecting, between}
@@ -23,6 +26,12 @@ draw-requires-clause-few g c = let js = ap (λ xs. length xs) c.requires.fresh.r
 
 pub draw-requires-clause-outer : goal.draw-requires-clause-outer
 draw-requires-clause-outer g c = c.requires.fresh.outer
+
+pub draw-requires-clause-first : goal.draw-requires-clause-first
+draw-requires-clause-first g c none = c.requires.fresh.next
+
+pub draw-requires-clause-unknown : goal.draw-requires-clause-unknown
+draw-requires-clause-unknown g c = subst (λ (s : SeatSeen). IsUnknown s.view 0) (sym c.requires.fresh.room.seat) (λ w known. ⊎_elim (λ m. among_nil m) (λ m. among_nil m) known)
 
 pub draw-requires-clause-collecting : goal.draw-requires-clause-collecting
 draw-requires-clause-collecting g c =

@@ -5,6 +5,7 @@ use Rattle.pull_turns.specs.Piping.{standing}
 use Rattle.collector.specs.Collecting.{IsCollecting, between}
 use Rattle.collector.specs.Members.{members}
 use Rattle.collector.specs.declared.collector.Collector.{Collector}
+use Rattle.collector.proofs.Looking.{unknown_still}
 use Rattle.collector.proofs.OuterSteps.{ended_already, found_still, halted, looked, more_may, open_so, whole_found}
 use Rattle.collector.proofs.Tree.{root_open}
 use Rattle.collector.proofs.collector.Collector.pull.Goals as goal
@@ -79,6 +80,15 @@ returns-else-is_set-clause-collecting g c sink d0 s0 k =
     let n = c.draw.ensures.collecting sink d0 s0 l in
     let few = k.tree.few in
     more_may n 2 (omega (arith, few)) (λ o. n.tree.some o (omega arith))
+
+pub draw-requires-clause-first : goal.draw-requires-clause-first
+draw-requires-clause-first g c none =
+    let open' = open_so c.args.self.now.outer (sym c.is_some.ensures ∙ c.if-is_some.false) in
+    let some = c.requires.collecting.1.2.tree.some open' (omega arith) in
+    absurd (omega (arith, none, some))
+
+pub draw-requires-clause-unknown : goal.draw-requires-clause-unknown
+draw-requires-clause-unknown g c = let looks = c.if-is_set.ensures.looks in unknown_still c.args.self.now.stops c.is_set.new.self 0 looks.0 looks.1
 
 pub draw-requires-clause-few : goal.draw-requires-clause-few
 draw-requires-clause-few g c = let few = c.requires.few in let waits = c.requires.collecting.1.2.tree.few in omega (arith, few, waits)

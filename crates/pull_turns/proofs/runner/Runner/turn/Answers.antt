@@ -9,7 +9,7 @@ pub returns-clause-since : goal.returns-clause-since
 returns-clause-since g c = g.O.Outside.then _ _ _ _ _ _ c.in_ok-turn.ensures.since c.leave_at_end.ensures.since
 
 pub returns-clause-turned : goal.returns-clause-turned
-returns-clause-turned g c = turns_end _ g.O.Outside.seen _ _ _ _ _ _ c.requires.can (g.O.Outside.held _ _ c.leave_at_end.ensures.fits) (g.O.Outside.nested _ _ c.leave_at_end.ensures.fits) c.in_ok-turn.turn c.leave_at_end.ensures.ends (c.in_ok-turn.ensures.stepped.grouped refl) c.in_ok-turn.ensures.stepped.scoped c.in_ok-turn.ensures.stepped.turned
+returns-clause-turned g c = turns_end _ g.O.Outside.seen _ _ _ _ _ _ c.requires.can (g.O.Outside.held _ _ c.leave_at_end.ensures.fits) (g.O.Outside.nested _ _ c.leave_at_end.ensures.fits) c.in_ok-turn.turn c.leave_at_end.ensures.ends (c.in_ok-turn.ensures.stepped.grouped refl) c.in_ok-turn.ensures.stepped.scoped c.in_ok-turn.ensures.stepped.failures c.in_ok-turn.ensures.stepped.turned
 
 on_err : {T E P : Type 0} (r : Result T E) → P → OnErr r P
 on_err (Ok x) p = tt
